@@ -1,0 +1,6 @@
+pub mod Told
+pub mod Faults
+pub mod Stream
+pub mod CallCounts
+pub mod SourceState
+pub mod SinkState

@@ -1,0 +1,22 @@
+-- What contracts see of a sink in memory.
+use Rattle.std.specs.Prelude.{◌≡◌, ◌⊎◌, ℕ, List, min}
+use Rattle.edr_device.specs.CallCounts.{CallCounts, counts_of, IsToFail}
+use Rattle.edr_device.specs.declared.mem_sink.MemSink.{MemSink}
+
+-- the bytes that were put, for how many more there is room, how many a call takes at most, and the calls
+pub record SinkState : Type 0 where
+  pub content : List ℕ
+  pub room : ℕ
+  pub piece : ℕ
+  pub calls : CallCounts
+
+abbrev pub sink_state : MemSink → SinkState
+sink_state s = record { content = s.bytes.items; room = s.room; piece = s.piece; calls = counts_of s.calls }
+
+-- how many bytes a call that succeeds takes, where it is offered so many
+abbrev pub taken_of : SinkState → ℕ → ℕ
+taken_of s offered = min s.piece (min offered s.room)
+
+-- the next call fails: it is numbered, or there is no room
+abbrev pub PutFails : SinkState → Type 0
+PutFails s = (s.room ≡ 0) ⊎ IsToFail s.calls

@@ -1,0 +1,11 @@
+//! The outside of the recorder: what it reads from, and what it writes to.
+#![tactic(auto)]
+
+mod calls;
+mod mem_sink;
+mod mem_source;
+mod stream;
+
+pub use crate::mem_sink::MemSink;
+pub use crate::mem_source::MemSource;
+pub use crate::stream::{Failed, Sink, Source};
