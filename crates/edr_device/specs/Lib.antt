@@ -4,3 +4,4 @@ pub mod Stream
 pub mod CallCounts
 pub mod SourceState
 pub mod SinkState
+pub mod Transfer

@@ -5,7 +5,9 @@ mod calls;
 mod mem_sink;
 mod mem_source;
 mod stream;
+mod transfer;
 
 pub use crate::mem_sink::MemSink;
 pub use crate::mem_source::MemSource;
 pub use crate::stream::{Failed, Sink, Source};
+pub use crate::transfer::{TakeFault, put_all, take_all};
