@@ -5,6 +5,8 @@ mod calls;
 mod mem_sink;
 mod mem_source;
 mod stream;
+#[cfg(test)]
+mod tests;
 mod transfer;
 
 pub use crate::mem_sink::MemSink;
