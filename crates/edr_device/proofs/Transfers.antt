@@ -1,11 +1,10 @@
 -- The turns of a whole transfer.
-use Rattle.std.specs.Prelude.{◌≡◌, ◌+◌, ◌≤◌, ◌<◌, ℕ, List, [], ◌∷◌, ◌++◌, length, take, drop, Option, refl}
+use Rattle.std.specs.Prelude.{◌≡◌, ◌+◌, ◌≤◌, ℕ, List, [], ◌∷◌, ◌++◌, length, take, drop, Option, refl}
 use Rattle.std.proofs.Common.{◌∙◌, sym, ap, arith, rules, append_assoc, length-append}
 use Rattle.std.proofs.Math.Seq.{take-add, drop-append-add, drop-append_seam}
-use Rattle.std.proofs.lemmas.Grind.{common_steps}
 use Rattle.edr_device.specs.Stream.{Appends}
 use Rattle.edr_device.specs.Told.{Told}
-use Rattle.edr_device.specs.Transfer.{AppendsPart, Carries, GivesAll, GivesAtMost, GivesTooMany}
+use Rattle.edr_device.specs.Transfer.{Carries, GivesAll, GivesAtMost, GivesTooMany}
 use Rattle.edr_device.proofs.Telling.{told_again, told_so, told_self}
 
 -- these bytes were taken from the front

@@ -1,5 +1,5 @@
 -- What contracts see of a source in memory.
-use Rattle.std.specs.Prelude.{◌≡◌, ℕ, List, min, length, drop}
+use Rattle.std.specs.Prelude.{ℕ, List, min, length, drop}
 use Rattle.edr_device.specs.CallCounts.{CallCounts, counts_of}
 use Rattle.edr_device.specs.declared.mem_source.MemSource.{MemSource}
 

@@ -58,7 +58,7 @@ impl<W: Write> Sink for Adapter<W> {
     }
 }
 
-// So many bytes, all but like their neighbours.
+// So many bytes, each unlike its neighbours.
 fn some_bytes(alloc: Global, count: u32) -> Result<Vec<u8>, AllocError> {
     let mut bytes = Vec::new(alloc);
     for i in 0..count {

@@ -1,4 +1,4 @@
-use Rattle.std.proofs.Common.{◌≡◌, ℕ, arith, length-drop}
+use Rattle.std.proofs.Common.{ℕ, arith, length-drop}
 use Rattle.std.proofs.lemmas.List.{take_rest}
 use Rattle.edr_device.proofs.Transfers.{appends_more}
 use Rattle.edr_device.proofs.transfer.put_all.Goals as goal
