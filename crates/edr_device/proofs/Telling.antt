@@ -2,18 +2,6 @@
 use Rattle.std.specs.Prelude.{ℕ, List, Option, Some, None}
 use Rattle.edr_device.specs.Told.{Told}
 
--- no call changes nothing
-pub told_self : (P : List ℕ → List ℕ → Type 0) → ((a : List ℕ) → P a a) → (x : Option (List ℕ)) → Told P x x
-told_self P same None = tt
-told_self P same (Some a) = same a
-
--- what one call does, said in another way
-pub told_so : (P Q : List ℕ → List ℕ → Type 0) → ((a b : List ℕ) → P a b → Q a b) → (x y : Option (List ℕ)) → Told P x y → Told Q x y
-told_so P Q so None None t = tt
-told_so P Q so (Some a) (Some b) t = so a b t
-told_so P Q so None (Some b) t = absurd t
-told_so P Q so (Some a) None t = absurd t
-
 -- two calls
 pub told_again : (P Q R : List ℕ → List ℕ → Type 0) → ((a b c : List ℕ) → P a b → Q b c → R a c) → (x y z : Option (List ℕ)) → Told P x y → Told Q y z → Told R x z
 told_again P Q R again None None None t u = tt
