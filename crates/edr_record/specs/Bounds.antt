@@ -1,0 +1,70 @@
+-- Which values the fields of a record may have.
+use Rattle.std.specs.Prelude.{◌≡◌, ℕ, ◌+◌, ◌-◌, ◌/◌, ◌≤◌, min, max, ℤ, pos, unsigned_abs, Option, Some, IfSome, List, length, drop, replicate, slice_get, All}
+use Rattle.edr_record.specs.declared.Place.{Place}
+use Rattle.edr_record.specs.declared.Place.TheVariants.{First, Second}
+use Rattle.edr_record.specs.declared.Extreme.{Extreme}
+use Rattle.edr_record.specs.Parts.{PrePart, CrashPart}
+
+-- a second event begins at most five seconds after the first (563.5, multi-event crash)
+abbrev pub IsPlace : Place → Type 0
+IsPlace First = Unit {0}
+IsPlace (Second after) = (1 ≤ after) × (after ≤ 5_000)
+
+-- a slot or a time is absent, or at most this number
+abbrev pub IsUpTo : ℕ → Option ℕ → Type 0
+IsUpTo highest slot = IfSome slot (λ v. v ≤ highest)
+
+-- the bounds of a pre part: km/h, per cent, ticks of 1 ms (563.8 Table III)
+pub record IsPre (p : PrePart) : Type 0 where
+  pub cycle_from : 1 ≤ p.key.cycle
+  pub cycle_to : p.key.cycle ≤ 4_294_967_295
+  pub zero_from : 1 ≤ p.key.zero
+  pub zero_to : p.key.zero ≤ 86_400_000
+  pub place : IsPlace p.place
+  pub speeds : length p.speed ≡ 11
+  pub speed : All (IsUpTo 300) p.speed
+  pub throttles : length p.throttle ≡ 11
+  pub throttle : All (IsUpTo 100) p.throttle
+  pub brakes : length p.brake ≡ 11
+
+-- how long after time zero extremes and missing samples are looked for, from the time of the end (563.7 Table I, maximum delta-V)
+abbrev pub window_from_end : ℕ → ℕ
+window_from_end end = min 300 (end + 30)
+
+-- how many points a crash part has: one at time zero and at each tenth tick after it (563.7 Table I, delta-V)
+abbrev pub point_count : ℕ → ℕ
+point_count end = min 250 (end + 30) / 10 + 1
+
+-- how many points a crash part has room for
+abbrev pub most_points : ℕ
+most_points = 26
+
+-- a change of speed in whole km/h that samples in range can give
+abbrev pub IsChange : ℤ → Type 0
+IsChange z = unsigned_abs z ≤ 3_000
+
+-- the points of an axis: 0 at time zero, changes, and 0 past the number of points
+pub record ArePoints (count : ℕ) (points : List ℤ) : Type 0 where
+  pub room : length points ≡ most_points
+  pub first : slice_get points 0 ≡ Some (pos 0)
+  pub changes : All IsChange points
+  pub past : drop count points ≡ replicate (most_points - count) (pos 0)
+
+-- the greatest change of an axis, and its time
+pub record IsExtreme (window : ℕ) (x : Extreme) : Type 0 where
+  pub change : IsChange x.kmh
+  pub time : x.at ≤ window
+
+-- the bounds of a crash part: each follows from its end
+pub record IsCrash (c : CrashPart) : Type 0 where
+  pub end_from : 20 ≤ c.end
+  pub end_to : c.end ≤ 500
+  pub along : ArePoints (point_count c.end) c.along
+  pub across : ArePoints (point_count c.end) c.across
+  pub max_along : IsExtreme (window_from_end c.end) c.max_along
+  pub max_across : IsExtreme (window_from_end c.end) c.max_across
+  pub result_at : c.result_at ≤ window_from_end c.end
+  pub missing_along : c.missing_along ≤ window_from_end c.end
+  pub missing_across : c.missing_across ≤ window_from_end c.end
+  pub restraints : length c.fired ≡ 8
+  pub fired : All (IsUpTo (max c.end (window_from_end c.end))) c.fired

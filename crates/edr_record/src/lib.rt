@@ -1,0 +1,150 @@
+//! The record of an event: what stood before time zero, what came after it, and whether it is locked.
+#![tactic(auto)]
+
+ghost use Rattle.std.specs.Prelude.{◌≡◌, is_some};
+ghost use Rattle.std.specs.List.{list_all};
+
+use std::marker::Model;
+
+/// Names an event: the ignition cycle, and its time zero there in milliseconds.
+#[derive(Clone, Copy, Debug, PartialEq, Eq)]
+pub struct Key {
+    pub cycle: u32,
+    pub zero: u32,
+}
+
+/// The place of an event in a crash of one or two. `after` is the time from the first event's time zero, in milliseconds.
+#[derive(Clone, Copy, Debug, PartialEq, Eq)]
+pub enum Place {
+    First,
+    Second { after: u32 },
+}
+
+/// What stood before time zero. Lists have a slot at each half second from 5 s before time zero on; a slot without a
+/// sample is `None`. Speed is in km/h, throttle in per cent; belt and lamp are those of 1 s before time zero.
+#[derive(Clone, Copy, Debug, PartialEq, Eq)]
+pub struct Pre {
+    pub key: Key,
+    pub place: Place,
+    pub speed: [Option<u16>; 11],
+    pub throttle: [Option<u8>; 11],
+    pub brake: [Option<bool>; 11],
+    pub belt: Option<bool>,
+    pub lamp: Option<bool>,
+}
+
+impl Model for Pre {
+    ghost use Rattle.edr_record.specs.Parts.{PrePart};
+
+    ghost Value = { PrePart };
+
+    ghost use Rattle.edr_record.specs.Bounds.{IsPre};
+    ghost use Rattle.edr_record.specs.Fields.{pre_part_of, pre_fields_of};
+
+    ghost view = { pre_part_of };
+
+    ghost inverse = { pre_fields_of };
+
+    ghost invariant = { λ p. IsPre (pre_part_of p) };
+}
+
+/// The greatest change of speed of an axis in km/h, and its time from time zero on in milliseconds.
+#[derive(Clone, Copy, Debug, PartialEq, Eq)]
+pub struct Extreme {
+    pub kmh: i16,
+    pub at: u16,
+}
+
+/// What came after time zero. Times are milliseconds from there. `along` and `across` have the change of speed in km/h at
+/// each 10 ms, and 0 past the last of them; `missing_along` and `missing_across` count the ticks without a sample.
+#[derive(Clone, Copy, Debug, PartialEq, Eq)]
+pub struct Crash {
+    pub end: u16,
+    pub along: [i16; 26],
+    pub across: [i16; 26],
+    pub max_along: Extreme,
+    pub max_across: Extreme,
+    pub result_at: u16,
+    pub missing_along: u16,
+    pub missing_across: u16,
+    pub fired: [Option<u16>; 8],
+}
+
+impl Model for Crash {
+    ghost use Rattle.edr_record.specs.Parts.{CrashPart};
+
+    ghost Value = { CrashPart };
+
+    ghost use Rattle.edr_record.specs.Bounds.{IsCrash};
+    ghost use Rattle.edr_record.specs.Fields.{crash_part_of, crash_fields_of};
+
+    ghost view = { crash_part_of };
+
+    ghost inverse = { crash_fields_of };
+
+    ghost invariant = { λ c. IsCrash (crash_part_of c) };
+}
+
+/// What is stored of an event. A locked record is never overwritten; one without a crash part was not ended.
+#[derive(Clone, Copy, Debug, PartialEq, Eq)]
+pub struct Record {
+    pub pre: Pre,
+    pub locked: bool,
+    pub crash: Option<Crash>,
+}
+
+// Each slot has a value.
+fn are_present<T>(slots: &[Option<T>]) -> bool
+    ensures { result ≡ list_all is_some slots.now }
+{
+    slots.iter().all(|s| s.is_some())
+}
+
+impl Pre {
+    ghost use Rattle.edr_record.specs.Complete.{has_all_slots};
+
+    /// None of the 35 slots is absent.
+    fn has_all_slots(&self) -> bool
+        ensures { result ≡ has_all_slots self.now }
+    {
+        are_present(&self.speed)
+            && are_present(&self.throttle)
+            && are_present(&self.brake)
+            && self.belt.is_some()
+            && self.lamp.is_some()
+    }
+}
+
+impl Crash {
+    ghost use Rattle.edr_record.specs.Complete.{misses_no_tick};
+
+    /// No tick is without its sample, on either axis.
+    fn misses_no_tick(&self) -> bool
+        ensures { result ≡ misses_no_tick self.now }
+    {
+        self.missing_along == 0 && self.missing_across == 0
+    }
+}
+
+impl Record {
+    ghost use Rattle.edr_record.specs.Complete.{is_complete};
+
+    /// Every required element is there.
+    #[tactic(auto, unfolding(crate::specs::Complete::is_complete))]
+    pub fn complete(&self) -> bool
+        ensures { result ≡ is_complete self.now }
+    {
+        match &self.crash {
+            Some(crash) => self.pre.has_all_slots() && crash.misses_no_tick(),
+            None => false,
+        }
+    }
+}
+
+/// What the recorder asks of its banks: to keep an event, to lock its record, and to end it.
+#[derive(Clone, Copy, Debug, PartialEq, Eq)]
+pub enum Command {
+    Take { pre: Pre },
+    Lock { pre: Pre },
+    Done { crash: Crash },
+}
