@@ -1,0 +1,100 @@
+-- The definitions once more as facts: laws say that the tests, searches and slots mean these.
+use Rattle.std.specs.Prelude.{◌≡◌, ◌≢◌, ℕ, ◌+◌, ◌-◌, ◌<◌, ◌≤◌, max, ◌⊎◌, Option, Some, None, ℤ, MatchOption, List, [], ◌∷◌, Contains}
+use Rattle.edr_items.specs.declared.Item.{Item}
+use Rattle.edr_items.specs.SensorLists.{SensorLists}
+use Rattle.edr_definitions.specs.Ticks.{IsFirst, HoldsNowhere}
+use Rattle.edr_definitions.specs.Signals.{Signals, signals_of}
+use Rattle.edr_definitions.specs.Windows.{delta_v, size_of_change, squares}
+use Rattle.edr_definitions.specs.Selection.{Bounds, is_triggered, is_time_zero, is_end, close_of, Candidate, bounds_after, Event}
+use Rattle.edr_definitions.specs.Parts.{slot}
+use Rattle.edr_definitions.specs.Commands.{lock_of}
+
+-- some change up to t that begins at most k ticks before it, and not before `from`, has at least that size
+pub record Reaches (axis : ℕ → Option ℤ) (k from t size : ℕ) : Type 0 where
+  pub start : ℕ
+  pub in_window : max from (t - k) ≤ start
+  pub before : start < t
+  pub large : size ≤ size_of_change axis start t
+
+-- a restraint fires at t, or a change within 150 ms meets the trigger threshold
+abbrev pub IsTriggered : Signals → ℕ → ℕ → Type 0
+IsTriggered m since t =
+    (m.fired t ≢ 0) ⊎ (Reaches m.along 150 since t 80_000 ⊎ Reaches m.across 150 since t 80_000)
+
+-- past the bound, a change of over 0.8 km/h along within 20 ms or across within 5 ms, or the trigger
+abbrev pub IsTimeZero : Signals → Bounds → ℕ → Type 0
+IsTimeZero m from t =
+    (from.after < t) × (Reaches m.along 20 from.after t 8_001 ⊎ (Reaches m.across 5 from.after t 8_001 ⊎ IsTriggered m from.since t))
+
+-- the reset 500 ms after time zero, or, at least 20 ms after it, quiet changes of the last 20 ms
+abbrev pub IsEnd : Signals → ℕ → ℕ → Type 0
+IsEnd m z t =
+    (t ≡ z + 500) ⊎ ((z + 20 ≤ t) × (squares (delta_v m.along (t - 20) t) (delta_v m.across (t - 20) t) ≤ 64_000_000))
+
+-- c is the candidate that the search finds from there on
+pub record IsCandidate (m : Signals) (from : Bounds) (c : Candidate) : Type 0 where
+  pub zero_is : IsFirst (is_time_zero m from) 0 c.zero_tick
+  pub end_is : IsFirst (is_end m c.zero_tick) c.zero_tick c.end_tick
+  pub confirmed_is :
+      MatchOption c.confirmed
+      (HoldsNowhere (is_triggered m from.since) c.zero_tick (c.end_tick + 1))
+      (λ t. IsFirst (is_triggered m from.since) c.zero_tick t × (t ≤ c.end_tick))
+
+-- each candidate is found from where the one before it leaves the search, and past the last one there is none up to `upto`
+abbrev pub IsChain : Signals → ℕ → Bounds → List Candidate → Type 0
+IsChain m upto from [] = HoldsNowhere (is_time_zero m from) 0 (upto + 1)
+IsChain m upto from (c ∷ cs) = IsCandidate m from c × (c.zero_tick ≤ upto) × IsChain m upto (bounds_after from c) cs
+
+-- how the ticks of an event lie: past the tick `after`, its time zero, confirmation, end and close in this order, and its lock between
+pub record IsEventAfter (m : Signals) (after : ℕ) (e : Event) : Type 0 where
+  pub zero_is_past : after < e.zero_tick
+  pub confirmed_from_zero : e.zero_tick ≤ e.confirmed_tick
+  pub confirmed_by_end : e.confirmed_tick ≤ e.end_tick
+  pub ends_late : e.zero_tick + 20 ≤ e.end_tick
+  pub ends_by_reset : e.end_tick ≤ e.zero_tick + 500
+  pub closes_late : e.zero_tick + 50 ≤ close_of e.zero_tick e.end_tick
+  pub closes_past_end : e.end_tick ≤ close_of e.zero_tick e.end_tick
+  pub lock_in_event : (l : ℕ) → lock_of m e.zero_tick e.end_tick ≡ Some l → (e.confirmed_tick ≤ l) × (l ≤ close_of e.zero_tick e.end_tick)
+
+-- each event lies so, and its time zero is past the close of the one before it
+abbrev pub AreEventsAfter : Signals → ℕ → List Event → Type 0
+AreEventsAfter m after [] = Unit {0}
+AreEventsAfter m after (e ∷ es) = IsEventAfter m after e × AreEventsAfter m (close_of e.zero_tick e.end_tick) es
+
+-- t is the earliest of the ticks `a..b` at which f is greatest
+pub record IsFirstGreatest (f : ℕ → ℕ) (a b t : ℕ) : Type 0 where
+  pub from : a ≤ t
+  pub below : t < b
+  pub greatest : (u : ℕ) → a ≤ u → u < b → f u ≤ f t
+  pub first : (u : ℕ) → a ≤ u → u < t → f u < f t
+
+-- the item's moment lies in the 100 ms up to t
+abbrev pub IsRecent : ℕ → Item → Type 0
+IsRecent t x = (t ≤ x.moment + 100) × (x.moment ≤ t)
+
+-- v is the value of a sample of the list in the 100 ms up to t, and no sample there is later
+pub record IsLatestSample (xs : List Item) (t : ℕ) (v : ℤ) : Type 0 where
+  pub item : Item
+  pub in_list : Contains xs item
+  pub recent : IsRecent t item
+  pub value_is : item.value ≡ Some v
+  pub latest : (other : Item) (w : ℤ) → Contains xs other → IsRecent t other → other.value ≡ Some w → other.moment ≤ item.moment
+
+-- no item of the list in the 100 ms up to t has a value
+pub record HasNoSample (xs : List Item) (t : ℕ) : Type 0 where
+  pub none : (x : Item) → Contains xs x → IsRecent t x → x.value ≡ None
+
+-- up to the tick t the signals are the same
+pub record AgreeUpTo (t : ℕ) (m n : Signals) : Type 0 where
+  pub along : (u : ℕ) → u ≤ t → m.along u ≡ n.along u
+  pub across : (u : ℕ) → u ≤ t → m.across u ≡ n.across u
+  pub fired : (u : ℕ) → u ≤ t → m.fired u ≡ n.fired u
+
+-- up to the tick t the lists give the same signals, and each slow sensor the same slots
+pub record GiveTheSameUpTo (t : ℕ) (f g : SensorLists) : Type 0 where
+  pub signals : AgreeUpTo t (signals_of f) (signals_of g)
+  pub speed : (u : ℕ) → u ≤ t → slot f.speed u ≡ slot g.speed u
+  pub throttle : (u : ℕ) → u ≤ t → slot f.throttle u ≡ slot g.throttle u
+  pub brake : (u : ℕ) → u ≤ t → slot f.brake u ≡ slot g.brake u
+  pub belt : (u : ℕ) → u ≤ t → slot f.belt u ≡ slot g.belt u
+  pub lamp : (u : ℕ) → u ≤ t → slot f.lamp u ≡ slot g.lamp u

@@ -1,0 +1,104 @@
+//! Laws of the definitions, each the contract of a function that does nothing.
+
+ghost use Rattle.std.specs.Prelude.{◌≡◌, ℕ, ◌+◌, ◌<◌, ◌≤◌, ◌↔◌, Bool, List, Option, Some, None, ℤ, IsTrue, nat_eq, nat_le, [], ◌∷◌, ◌++◌, ◌*◌, ◌/◌, length, map, filter};
+ghost use Rattle.edr_items.specs.declared.Sensor.{Sensor};
+ghost use Rattle.edr_items.specs.declared.Item.{Item};
+ghost use Rattle.edr_items.specs.Item.{IsFeed, IsRising};
+ghost use Rattle.edr_items.specs.SensorLists.{SensorLists, items_of, with_items, AreFeeds};
+ghost use Rattle.edr_record.specs.declared.Place.{Place};
+ghost use Rattle.edr_record.specs.Bounds.{IsPlace, IsPre, IsCrash};
+ghost use Rattle.edr_definitions.specs.Ticks.{first_tick, IsFirst, HoldsNowhere};
+ghost use Rattle.edr_definitions.specs.Signals.{Signals, sample_at, signals_of};
+ghost use Rattle.edr_definitions.specs.Windows.{delta_v, sum_between, swing};
+ghost use Rattle.edr_definitions.specs.Selection.{Bounds, Candidate, is_triggered, is_time_zero, is_end, chain, at_start, events};
+ghost use Rattle.edr_definitions.specs.Parts.{first_greatest, slot, pre_part, crash_part};
+ghost use Rattle.edr_definitions.specs.Commands.{place_of, places, last_placed, all_issues, issues, commands, InOrder};
+ghost use Rattle.edr_definitions.specs.Facts.{Reaches, IsTriggered, IsTimeZero, IsEnd, IsCandidate, IsChain, AreEventsAfter, IsFirstGreatest, IsLatestSample, HasNoSample, AgreeUpTo};
+
+/// What is found is the least tick that passes the test, and nothing is found where none passes.
+pub fn first_tick_is_least()
+    ensures found { (p : ℕ → Bool) (a b t : ℕ) → (first_tick p a b ≡ Some t) ↔ (IsFirst p a t × (t < b)) }
+    ensures nothing { (p : ℕ → Bool) (a b : ℕ) → (first_tick p a b ≡ None) ↔ HoldsNowhere p a b }
+{}
+
+/// The tick of an extreme is the earliest at which the function is greatest.
+pub fn first_greatest_is_earliest()
+    ensures { (f : ℕ → ℕ) (a b : ℕ) → a < b → IsFirstGreatest f a b (first_greatest f a b) }
+{}
+
+/// The change of speed is the sum of the list's samples in the interval.
+pub fn change_is_sum_of_samples()
+    ensures { (xs : List Item) (s t : ℕ) → IsRising xs → delta_v (sample_at xs) s t ≡ sum_between xs s t }
+{}
+
+/// A swing has a size exactly where some change in its window has it.
+pub fn swing_is_reached()
+    ensures { (axis : ℕ → Option ℤ) (k from t size : ℕ) → 0 < size → (size ≤ swing axis k from t) ↔ Reaches axis k from t size }
+{}
+
+/// The three tests of the search mean their facts.
+pub fn tests_mean_facts()
+    ensures trigger { (m : Signals) (since t : ℕ) → IsTrue (is_triggered m since t) ↔ IsTriggered m since t }
+    ensures time_zero { (m : Signals) (from : Bounds) (t : ℕ) → IsTrue (is_time_zero m from t) ↔ IsTimeZero m from t }
+    ensures end { (m : Signals) (z t : ℕ) → IsTrue (is_end m z t) ↔ IsEnd m z t }
+{}
+
+/// The chain is the one list whose candidates follow one another until no time zero is left.
+pub fn chain_is_the_chain()
+    ensures is { (m : Signals) (upto : ℕ) → IsChain m upto at_start (chain m upto) }
+    ensures one { (m : Signals) (upto : ℕ) (cs : List Candidate) → IsChain m upto at_start cs → cs ≡ chain m upto }
+{}
+
+/// A candidate that has ended stays one, whatever samples come later.
+pub fn ended_candidates_stay()
+    ensures { (m n : Signals) (from : Bounds) (c : Candidate) → AgreeUpTo c.end_tick m n → IsCandidate m from c → IsCandidate n from c }
+{}
+
+/// Time zero, confirmation, end and close of an event stand in this order, its lock between, and the next time zero is past the close.
+pub fn events_follow_one_another()
+    ensures { (m : Signals) (upto : ℕ) → AreEventsAfter m 0 (events m upto) }
+{}
+
+/// A slot has the value of the latest sample of its 100 ms, and is absent where they have none, as before the cycle.
+pub fn a_slot_is_the_latest_sample()
+    ensures present { (xs : List Item) (t : ℕ) (v : ℤ) → IsRising xs → (slot xs t ≡ Some v) ↔ IsLatestSample xs t v }
+    ensures absent { (xs : List Item) (t : ℕ) → (slot xs t ≡ None) ↔ HasNoSample xs t }
+    ensures before { (s : Sensor) (xs : List Item) → IsFeed s xs → slot xs 0 ≡ None }
+{}
+
+/// The parts of an event of feeds have their fields in their bounds.
+pub fn parts_are_in_bounds()
+    ensures pre { (f : SensorLists) (n z : ℕ) (place : Place) → AreFeeds f → 1 ≤ n → n ≤ 4_294_967_295 → 1 ≤ z → z ≤ 86_400_000 → IsPlace place → IsPre (pre_part f n place z) }
+    ensures crash { (f : SensorLists) (z e : ℕ) → AreFeeds f → z + 20 ≤ e → e ≤ z + 500 → IsCrash (crash_part (signals_of f) z e) }
+{}
+
+/// One more event's place stands last, and follows from the place and the time zero of the last event before it.
+pub fn places_grow_at_their_end()
+    ensures places { (zs : List ℕ) (z : ℕ) → places (zs ++ z ∷ []) ≡ places zs ++ place_of (last_placed zs) z ∷ [] }
+    ensures last { (zs : List ℕ) (z : ℕ) → last_placed (zs ++ z ∷ []) ≡ Some (place_of (last_placed zs) z, z) }
+{}
+
+/// Commands stand by tick, and at one tick as Take, Lock, Done.
+pub fn commands_stand_by_tick()
+    ensures { (f : SensorLists) (n t : ℕ) → InOrder 0 (issues f n t) }
+{}
+
+/// Events are at least 51 ms apart, and each issues at most three commands.
+pub fn commands_are_few()
+    ensures { (f : SensorLists) (n t : ℕ) → length (commands f n t) ≤ 3 * (t / 51 + 1) }
+{}
+
+/// The commands up to a tick are those that the events of a longer stretch issue by then.
+pub fn commands_lie_in_longer_ones()
+    ensures { (f : SensorLists) (n t w : ℕ) → t ≤ w → map (λ i. i.command) (filter (λ i. nat_le i.tick t) (all_issues f n w)) ≡ commands f n t }
+{}
+
+/// The next tick adds its own commands at the end.
+pub fn a_tick_adds_its_commands()
+    ensures { (f : SensorLists) (n t : ℕ) → commands f n (t + 1) ≡ commands f n t ++ map (λ i. i.command) (filter (λ i. nat_eq i.tick (t + 1)) (all_issues f n (t + 1))) }
+{}
+
+/// An item of a later moment doesn't change the commands up to a tick.
+pub fn later_items_change_nothing()
+    ensures { (s : Sensor) (f : SensorLists) (x : Item) (n t : ℕ) → t < x.moment → commands f n t ≡ commands (with_items s (items_of s f ++ x ∷ []) f) n t }
+{}
