@@ -1,4 +1,9 @@
-pub mod Vectors
+mod Pulses
+mod VectorsWindows
+mod VectorsSelection
+mod VectorsChain
+mod VectorsParts
+mod VectorsCommands
 pub mod TickLaws
 pub mod WindowLaws
 pub mod SelectionLaws
