@@ -148,3 +148,52 @@ pub enum Command {
     Lock { pre: Pre },
     Done { crash: Crash },
 }
+
+#[cfg(test)]
+mod tests {
+    use super::*;
+
+    // A record with every element.
+    fn whole() -> Record {
+        Record {
+            pre: Pre {
+                key: Key {
+                    cycle: 1,
+                    zero: 6003,
+                },
+                place: Place::First,
+                speed: [Some(50); 11],
+                throttle: [Some(20); 11],
+                brake: [Some(false); 11],
+                belt: Some(true),
+                lamp: Some(false),
+            },
+            locked: false,
+            crash: Some(Crash {
+                end: 20,
+                along: [0; 26],
+                across: [0; 26],
+                max_along: Extreme { kmh: 0, at: 0 },
+                max_across: Extreme { kmh: 0, at: 0 },
+                result_at: 0,
+                missing_along: 0,
+                missing_across: 0,
+                fired: [None; 8],
+            }),
+        }
+    }
+
+    #[test]
+    fn a_record_is_complete_with_every_element(rt: HostRuntime) {
+        assert!(rt; whole().complete());
+        let mut unended = whole();
+        unended.crash = None;
+        assert!(rt; !unended.complete());
+        let mut without_lamp = whole();
+        without_lamp.pre.lamp = None;
+        assert!(rt; !without_lamp.complete());
+        let mut without_oldest_speed = whole();
+        without_oldest_speed.pre.speed[0] = None;
+        assert!(rt; !without_oldest_speed.complete());
+    }
+}
