@@ -24,3 +24,8 @@ pub mod WithinLaws
 pub mod PlaceLaws
 pub mod OrderLaws
 pub mod BoundLaws
+pub mod SearchLaws
+pub mod StandingLaws
+pub mod TickChangeLaws
+pub mod TestLaws
+pub mod UniqueLaws

@@ -5,3 +5,5 @@ pub mod Selection
 pub mod Parts
 pub mod Commands
 pub mod Facts
+pub mod Search
+pub mod Change

@@ -1,7 +1,8 @@
 -- Changes of speed over intervals of ticks, in steps of 0.0001 km/h.
-use Rattle.std.specs.Prelude.{ℕ, ◌+◌, ◌-◌, ◌*◌, max, ℤ, pos, Bool, Option, unwrap_or, unsigned_abs, nat_lt, nat_le, ◌&&◌, List, map, filter}
+use Rattle.std.specs.Prelude.{ℕ, ◌+◌, ◌-◌, ◌*◌, max, ℤ, pos, Bool, Option, Some, unwrap_or, unsigned_abs, nat_lt, nat_le, ◌&&◌, List, map, filter}
 use Rattle.edr_items.specs.declared.Item.{Item}
 use Rattle.edr_definitions.specs.Ticks.{ticks, greatest, int_sum}
+use Rattle.edr_definitions.specs.Signals.{Signals}
 
 -- the change of speed in the one tick t, and 0 without a sample
 abbrev pub change_at : (ℕ → Option ℤ) → ℕ → ℤ
@@ -43,3 +44,7 @@ squares x y = unsigned_abs x * unsigned_abs x + unsigned_abs y * unsigned_abs y
 -- a resultant of at most 0.8 km/h (563.5, end of event time)
 abbrev pub is_quiet : ℤ → ℤ → Bool
 is_quiet x y = nat_le (squares x y) 64_000_000
+
+-- the same signals, with a sample of 0 at each tick without one
+abbrev pub filled : Signals → Signals
+filled m = record { along = λ t. Some (change_at m.along t); across = λ t. Some (change_at m.across t); fired = m.fired }

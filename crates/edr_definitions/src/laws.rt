@@ -9,11 +9,13 @@ ghost use Rattle.edr_record.specs.declared.Place.{Place};
 ghost use Rattle.edr_record.specs.Bounds.{IsPlace, IsPre, IsCrash};
 ghost use Rattle.edr_definitions.specs.Ticks.{first_tick, IsFirst, HoldsNowhere};
 ghost use Rattle.edr_definitions.specs.Signals.{Signals, sample_at, signals_of};
-ghost use Rattle.edr_definitions.specs.Windows.{delta_v, sum_between, swing};
+ghost use Rattle.edr_definitions.specs.Windows.{delta_v, sum_between, swing, filled};
 ghost use Rattle.edr_definitions.specs.Selection.{Bounds, Candidate, is_triggered, is_time_zero, is_end, chain, at_start, events};
 ghost use Rattle.edr_definitions.specs.Parts.{first_greatest, slot, pre_part, crash_part};
-ghost use Rattle.edr_definitions.specs.Commands.{place_of, places, last_placed, all_issues, issues, commands, InOrder};
+ghost use Rattle.edr_definitions.specs.Commands.{place_of, places, last_placed, all_issues, issues, commands, InOrder, is_locking};
 ghost use Rattle.edr_definitions.specs.Facts.{Reaches, IsTriggered, IsTimeZero, IsEnd, IsCandidate, IsChain, AreEventsAfter, IsFirstGreatest, IsLatestSample, HasNoSample, AgreeUpTo};
+ghost use Rattle.edr_definitions.specs.Search.{Search, Searching, Open, next_search, StandsFor};
+ghost use Rattle.edr_definitions.specs.Change.{tick_change, stepped_change};
 
 /// What is found is the least tick that passes the test, and nothing is found where none passes.
 pub fn first_tick_is_least()
@@ -101,4 +103,26 @@ pub fn a_tick_adds_its_commands()
 /// An item of a later moment doesn't change the commands up to a tick.
 pub fn later_items_change_nothing()
     ensures { (s : Sensor) (f : SensorLists) (x : Item) (n t : ℕ) → t < x.moment → commands f n t ≡ commands (with_items s (items_of s f ++ x ∷ []) f) n t }
+{}
+
+/// At the start of a cycle the search stands for any signals.
+pub fn a_search_begins_with_the_cycle()
+    ensures { (m : Signals) → StandsFor m 0 (record { bounds = at_start; phase = Searching }) }
+{}
+
+/// What stands at the next tick follows from the four tests there and the phase before it.
+pub fn a_change_follows_from_the_phase()
+    ensures stands { (m : Signals) (t : ℕ) (s : Search) → StandsFor m t s → StandsFor m (t + 1) (next_search m (t + 1) s) }
+    ensures change { (m : Signals) (t : ℕ) (s : Search) (ends : Bool) → StandsFor m t s → ((z : ℕ) (c l : Option ℕ) → s.phase ≡ Open z c l None → ends ≡ is_end m z (t + 1)) → tick_change m (t + 1) ≡ stepped_change (t + 1) (is_time_zero m s.bounds (t + 1)) (is_triggered m s.bounds.since (t + 1)) (is_locking m (t + 1)) ends s.phase }
+{}
+
+/// A tick without a sample counts as a sample of 0.
+pub fn a_missing_sample_counts_as_zero()
+    ensures stands { (m n : Signals) (t : ℕ) (s : Search) → AgreeUpTo t (filled m) (filled n) → StandsFor m t s → StandsFor n t s }
+    ensures change { (m n : Signals) (t : ℕ) (s : Search) → AgreeUpTo (t + 1) (filled m) (filled n) → StandsFor m t s → tick_change m (t + 1) ≡ tick_change n (t + 1) }
+{}
+
+/// The search that stands for signals up to a tick is one.
+pub fn one_search_stands()
+    ensures { (m : Signals) (t : ℕ) (s r : Search) → StandsFor m t s → StandsFor m t r → s ≡ r }
 {}
