@@ -1,10 +1,11 @@
 -- What is decided at a tick does not depend on later samples.
-use Rattle.std.proofs.Common.{arith, refl, ap, sym, ◌≡◌, ◌∙◌, ℕ, zero, suc, ◌+◌, ◌-◌, ◌<◌, ◌≤◌, max, Bool, cond, ℤ, pos, unwrap_or, unsigned_abs, Some, None, Option, MatchOption, map, find}
+use Rattle.std.proofs.Common.{arith, refl, ap, sym, ◌≡◌, ◌∙◌, ℕ, zero, suc, ◌+◌, ◌-◌, ◌<◌, ◌≤◌, max, Bool, cond, ℤ, pos, unwrap_or, unsigned_abs, Some, None, Option, MatchOption, map, find, not, nat_eq, ◌%◌}
 use Rattle.std.specs.List.{range_with_len}
 use Rattle.edr_definitions.specs.Ticks.{ticks, first_tick, IsFirst, HoldsNowhere, greatest, greatest_of, int_sum}
 use Rattle.edr_definitions.specs.Signals.{Signals}
-use Rattle.edr_definitions.specs.Windows.{change_at, delta_v, size_of_change, largest_change, swing}
+use Rattle.edr_definitions.specs.Windows.{change_at, delta_v, size_of_change, largest_change, swing, filled}
 use Rattle.edr_definitions.specs.Selection.{Bounds, is_triggered, is_time_zero, is_end, Candidate}
+use Rattle.edr_definitions.specs.Commands.{is_locking}
 use Rattle.edr_definitions.specs.Facts.{IsCandidate, AgreeUpTo}
 
 -- ---- lists over ticks
@@ -75,20 +76,69 @@ is_end-agree m n z t same =
     let along : delta_v m.along (t - 20) t ≡ delta_v n.along (t - 20) t = delta_v-agree m.along n.along (t - 20) t same.along in
     let across : delta_v m.across (t - 20) t ≡ delta_v n.across (t - 20) t = delta_v-agree m.across n.across (t - 20) t same.across in rw (along, across) refl
 
--- ---- candidates
-confirmed_agree : (m n : Signals) (since z e : ℕ) (r : Option ℕ) → AgreeUpTo e m n → MatchOption r (HoldsNowhere (is_triggered m since) z (e + 1)) (λ t. IsFirst (is_triggered m since) z t × (t ≤ e)) → MatchOption r (HoldsNowhere (is_triggered n since) z (e + 1)) (λ t. IsFirst (is_triggered n since) z t × (t ≤ e))
-confirmed_agree m n since z e None same nowhere =
-    HoldsNowhere-agree (is_triggered m since) (is_triggered n since) z (e + 1) (λ u lo hi. is_triggered-agree m n since u (AgreeUpTo-before e u m n (omega arith) same)) nowhere
-confirmed_agree m n since z e (Some t) same found =
-    (IsFirst-agree (is_triggered m since) (is_triggered n since) z t (λ u lo hi. is_triggered-agree m n since u (AgreeUpTo-before e u m n (omega (arith, found.1)) same)) found.0, found.1)
+-- up to the tick t the four tests have the same answers
+pub record SameTests (t : ℕ) (m n : Signals) : Type 0 where
+  pub zero : (b : Bounds) (u : ℕ) → u ≤ t → is_time_zero m b u ≡ is_time_zero n b u
+  pub trigger : (since u : ℕ) → u ≤ t → is_triggered m since u ≡ is_triggered n since u
+  pub lock : (u : ℕ) → u ≤ t → is_locking m u ≡ is_locking n u
+  pub end : (z u : ℕ) → u ≤ t → is_end m z u ≡ is_end n z u
 
--- a candidate that has ended stays one, whatever comes later
-pub IsCandidate-agree : (m n : Signals) (from : Bounds) (c : Candidate) → AgreeUpTo c.end_tick m n → IsCandidate m from c → IsCandidate n from c
-IsCandidate-agree m n from c same is = record {
-  zero_is = IsFirst-agree (is_time_zero m from) (is_time_zero n from) 0 c.zero_tick (λ u lo hi. is_time_zero-agree m n from u (AgreeUpTo-before c.end_tick u m n (omega (arith, is.end_is.from)) same)) is.zero_is;
-  end_is = IsFirst-agree (is_end m c.zero_tick) (is_end n c.zero_tick) c.zero_tick c.end_tick (λ u lo hi. is_end-agree m n c.zero_tick u (AgreeUpTo-before c.end_tick u m n (omega arith) same)) is.end_is;
-  confirmed_is = confirmed_agree m n from.since c.zero_tick c.end_tick c.confirmed same is.confirmed_is;
+pub SameTests-before : (t u : ℕ) (m n : Signals) → u ≤ t → SameTests t m n → SameTests u m n
+SameTests-before t u m n near same = record {
+  zero = λ b v h. same.zero b v (omega arith);
+  trigger = λ since v h. same.trigger since v (omega arith);
+  lock = λ v h. same.lock v (omega arith);
+  end = λ z v h. same.end z v (omega arith);
 }
+
+pub SameTests-then : (t : ℕ) (m n o : Signals) → SameTests t m n → SameTests t n o → SameTests t m o
+SameTests-then t m n o p q = record {
+  zero = λ b u h. p.zero b u h ∙ q.zero b u h;
+  trigger = λ since u h. p.trigger since u h ∙ q.trigger since u h;
+  lock = λ u h. p.lock u h ∙ q.lock u h;
+  end = λ z u h. p.end z u h ∙ q.end z u h;
+}
+
+pub SameTests-back : (t : ℕ) (m n : Signals) → SameTests t m n → SameTests t n m
+SameTests-back t m n p = record {
+  zero = λ b u h. sym (p.zero b u h);
+  trigger = λ since u h. sym (p.trigger since u h);
+  lock = λ u h. sym (p.lock u h);
+  end = λ z u h. sym (p.end z u h);
+}
+
+-- signals that agree have the same tests
+pub SameTests-agree : (t : ℕ) (m n : Signals) → AgreeUpTo t m n → SameTests t m n
+SameTests-agree t m n same = record {
+  zero = λ b u h. is_time_zero-agree m n b u (AgreeUpTo-before t u m n h same);
+  trigger = λ since u h. is_triggered-agree m n since u (AgreeUpTo-before t u m n h same);
+  lock = λ u h. ap (λ k. not (nat_eq (k % 64) 0)) (same.fired u h);
+  end = λ z u h. is_end-agree m n z u (AgreeUpTo-before t u m n h same);
+}
+
+-- a sample of 0 is as good as none
+pub SameTests-filled : (t : ℕ) (m : Signals) → SameTests t (filled m) m
+unfolding is_time_zero is_triggered is_end swing largest_change greatest delta_v
+SameTests-filled t m = record { zero = λ b u h. refl; trigger = λ since u h. refl; lock = λ u h. refl; end = λ z u h. refl }
+
+-- ---- candidates
+confirmed_match : (t : ℕ) (m n : Signals) → SameTests t m n → (since z e : ℕ) (r : Option ℕ) → e ≤ t → MatchOption r (HoldsNowhere (is_triggered m since) z (e + 1)) (λ x. IsFirst (is_triggered m since) z x × (x ≤ e)) → MatchOption r (HoldsNowhere (is_triggered n since) z (e + 1)) (λ x. IsFirst (is_triggered n since) z x × (x ≤ e))
+confirmed_match t m n same since z e None near nowhere = HoldsNowhere-agree (is_triggered m since) (is_triggered n since) z (e + 1) (λ u lo hi. same.trigger since u (omega arith)) nowhere
+confirmed_match t m n same since z e (Some x) near found = (IsFirst-agree (is_triggered m since) (is_triggered n since) z x (λ u lo hi. same.trigger since u (omega (arith, found.1))) found.0, found.1)
+
+-- a candidate that has ended stays one for signals with the same tests so far
+pub IsCandidate-tests : (t : ℕ) (m n : Signals) → SameTests t m n → (from : Bounds) (c : Candidate) → c.end_tick ≤ t → IsCandidate m from c → IsCandidate n from c
+IsCandidate-tests t m n same from c near is =
+    let order = is.end_is.from in
+    record {
+      zero_is = IsFirst-agree (is_time_zero m from) (is_time_zero n from) 0 c.zero_tick (λ u lo hi. same.zero from u (omega arith)) is.zero_is;
+      end_is = IsFirst-agree (is_end m c.zero_tick) (is_end n c.zero_tick) c.zero_tick c.end_tick (λ u lo hi. same.end c.zero_tick u (omega arith)) is.end_is;
+      confirmed_is = confirmed_match t m n same from.since c.zero_tick c.end_tick c.confirmed near is.confirmed_is;
+    }
+
+-- so it stays one whatever comes later
+pub IsCandidate-agree : (m n : Signals) (from : Bounds) (c : Candidate) → AgreeUpTo c.end_tick m n → IsCandidate m from c → IsCandidate n from c
+IsCandidate-agree m n from c same is = IsCandidate-tests c.end_tick m n (SameTests-agree c.end_tick m n same) from c (omega arith) is
 
 -- agreement goes both ways
 pub AgreeUpTo-sym : (t : ℕ) (m n : Signals) → AgreeUpTo t m n → AgreeUpTo t n m

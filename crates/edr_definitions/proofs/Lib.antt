@@ -4,6 +4,7 @@ mod VectorsSelection
 mod VectorsChain
 mod VectorsParts
 mod VectorsCommands
+mod VectorsChange
 pub mod TickLaws
 pub mod WindowLaws
 pub mod SelectionLaws

@@ -14,7 +14,7 @@ ghost use Rattle.edr_definitions.specs.Selection.{Bounds, Candidate, is_triggere
 ghost use Rattle.edr_definitions.specs.Parts.{first_greatest, slot, pre_part, crash_part};
 ghost use Rattle.edr_definitions.specs.Commands.{place_of, places, last_placed, all_issues, issues, commands, InOrder, is_locking};
 ghost use Rattle.edr_definitions.specs.Facts.{Reaches, IsTriggered, IsTimeZero, IsEnd, IsCandidate, IsChain, AreEventsAfter, IsFirstGreatest, IsLatestSample, HasNoSample, AgreeUpTo};
-ghost use Rattle.edr_definitions.specs.Search.{Search, Searching, Open, next_search, StandsFor};
+ghost use Rattle.edr_definitions.specs.Search.{Search, Searching, Open, next_search, StandsFor, open_candidates};
 ghost use Rattle.edr_definitions.specs.Change.{tick_change, stepped_change};
 
 /// What is found is the least tick that passes the test, and nothing is found where none passes.
@@ -108,6 +108,11 @@ pub fn later_items_change_nothing()
 /// At the start of a cycle the search stands for any signals.
 pub fn a_search_begins_with_the_cycle()
     ensures { (m : Signals) → StandsFor m 0 (record { bounds = at_start; phase = Searching }) }
+{}
+
+/// The chain up to a tick is what the search has closed, and then its open candidate.
+pub fn a_search_tells_the_chain()
+    ensures { (m : Signals) (t : ℕ) (s : Search) (h : StandsFor m t s) → h.closed ++ open_candidates m s.bounds s.phase ≡ chain m t }
 {}
 
 /// What stands at the next tick follows from the four tests there and the phase before it.

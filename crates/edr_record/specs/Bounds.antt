@@ -14,7 +14,7 @@ IsPlace (Second after) = (1 ≤ after) × (after ≤ 5_000)
 abbrev pub IsUpTo : ℕ → Option ℕ → Type 0
 IsUpTo highest slot = IfSome slot (λ v. v ≤ highest)
 
--- the bounds of a pre part: km/h, per cent, ticks of 1 ms (563.8 Table III)
+-- the bounds of a pre part: km/h, per cent, ticks of 1 ms
 pub record IsPre (p : PrePart) : Type 0 where
   pub cycle_from : 1 ≤ p.key.cycle
   pub cycle_to : p.key.cycle ≤ 4_294_967_295
