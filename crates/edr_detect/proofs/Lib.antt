@@ -1,0 +1,4 @@
+pub mod Places
+pub mod ChangeLemmas
+pub mod SearchLemmas
+pub mod SelectLemmas
