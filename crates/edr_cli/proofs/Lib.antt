@@ -1,0 +1,5 @@
+pub mod ByteLemmas
+pub mod RowLemmas
+pub mod TraceLemmas
+pub mod WordLemmas
+pub mod RunLemmas

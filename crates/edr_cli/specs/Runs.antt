@@ -1,0 +1,65 @@
+-- What a run writes, and why.
+use Rattle.std.specs.Prelude.{◌≡◌, ◌≤◌, ℕ, min, [], ◌∷◌, List, length, map, codes, Option, IfSome}
+use Rattle.edr_items.specs.Item.{mark_of}
+use Rattle.edr_items.specs.SensorLists.{SensorLists}
+use Rattle.edr_definitions.specs.Signals.{signals_of}
+use Rattle.edr_definitions.specs.Selection.{events}
+use Rattle.edr_detect.specs.Selected.{answer_of}
+use Rattle.edr_device.specs.Faults.{Rose}
+use Rattle.edr_device.specs.Told.{Told}
+use Rattle.edr_device.specs.Stream.{Appends}
+use Rattle.edr_device.specs.Transfer.{AppendsPart}
+use Rattle.edr_cli.specs.declared.runs.TheConstants.{LONGEST_TRACE}
+use Rattle.edr_cli.specs.declared.faults.Fault.{Fault}
+use Rattle.edr_cli.specs.declared.faults.Fault.TheVariants as fault
+use Rattle.edr_cli.specs.declared.status.Status.{Status}
+use Rattle.edr_cli.specs.declared.status.Status.TheVariants as status
+use Rattle.edr_cli.specs.Events.{events_text}
+use Rattle.edr_cli.specs.Faults.{fault_line}
+use Rattle.edr_cli.specs.Trace.{Spells}
+
+-- the one list of words that is served
+abbrev pub AreReplay : List (List ℕ) → Type 0
+AreReplay words = words ≡ codes "replay" ∷ []
+
+-- the bytes are the trace of these lists, and no more than a trace may have
+abbrev pub IsTraceOf : List ℕ → SensorLists → Type 0
+IsTraceOf bytes lists = Spells bytes lists × (length bytes ≤ LONGEST_TRACE)
+
+-- the bytes are no trace, or too many
+abbrev pub IsNoTrace : List ℕ → Type 0
+IsNoTrace bytes = (lists : SensorLists) → ¬ IsTraceOf bytes lists
+
+-- up to which tick the three sensors of such a trace have spoken
+abbrev pub horizon_of_trace : SensorLists → ℕ
+horizon_of_trace lists = min (min (mark_of lists.along) (mark_of lists.across)) (mark_of lists.restraint)
+
+-- the text of a cycle: the lines of its events that are confirmed by then
+unfoldable pub cycle_text : SensorLists → List ℕ
+cycle_text lists =
+    let upto = horizon_of_trace lists in
+    events_text (map (answer_of upto) (events (signals_of lists) upto))
+
+-- the source is at its end, if it tells
+abbrev pub IsAtEnd : Option (List ℕ) → Type 0
+IsAtEnd left = IfSome left (λ bytes. bytes ≡ [])
+
+-- the bytes that the source tells are the trace of a cycle that has this text
+abbrev pub HasText : Option (List ℕ) → List ℕ → Type 0
+HasText left text = IfSome left (λ bytes. (lists : SensorLists) × IsTraceOf bytes lists × (text ≡ cycle_text lists))
+
+-- why a run ends with that fault: by its words, by what was left of its source, and by the source's count before and after
+abbrev pub IsCause : List (List ℕ) → Option (List ℕ) → ℕ → ℕ → Fault → Type 0
+IsCause words left before now fault.Usage = ¬ AreReplay words
+IsCause words left before now fault.Trace = AreReplay words × IfSome left IsNoTrace
+IsCause words left before now fault.Read = AreReplay words × Rose before now
+IsCause words left before now fault.OutOfMemory = AreReplay words
+
+-- a run that ends with this status has this text to write: the cycle's, or the line of a fault that has its cause
+abbrev pub IsText : List (List ℕ) → Option (List ℕ) → ℕ → ℕ → Status → List ℕ → Type 0
+IsText words left before now status.Ok text = AreReplay words × HasText left text
+IsText words left before now status.Usage text = IsCause words left before now fault.Usage × (text ≡ fault_line fault.Usage)
+IsText words left before now status.Trace text = IsCause words left before now fault.Trace × (text ≡ fault_line fault.Trace)
+IsText words left before now status.ReadFault text = IsCause words left before now fault.Read × (text ≡ fault_line fault.Read)
+IsText words left before now status.OutOfMemory text = IsCause words left before now fault.OutOfMemory × (text ≡ fault_line fault.OutOfMemory)
+IsText words left before now status.WriteFault text = ⊥
