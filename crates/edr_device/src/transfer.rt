@@ -1,9 +1,9 @@
 //! Whole transfers: all bytes of a source, and all bytes into a sink.
-ghost use Rattle.std.specs.Prelude.{◌≡◌, ◌≢◌, ◌+◌, ◌≤◌, ◌<◌, ◌^◌, [], length, vec_len, IfOk, IsOk, OnErr, OnOk};
+ghost use Rattle.std.specs.Prelude.{◌≡◌, ◌≢◌, ◌+◌, ◌≤◌, ◌<◌, ◌^◌, ℕ, List, [], Some, length, vec_len, IfOk, IsOk, OnErr, OnOk};
 ghost use Rattle.edr_device.specs.Faults.{HasCause, Rose};
 ghost use Rattle.edr_device.specs.Stream.{Appends};
 ghost use Rattle.edr_device.specs.Told.{Told};
-ghost use Rattle.edr_device.specs.Transfer.{AppendsPart, Carries, GivesAll, GivesAtMost, GivesTooMany};
+ghost use Rattle.edr_device.specs.Transfer.{AppendsPart, Carries, GivesAll, GivesAtMost, GivesTooMany, IsAnswerWithin};
 
 use crate::stream::{Failed, Sink, Source};
 use std::alloc::{AllocError, Global};
@@ -81,6 +81,7 @@ pub fn take_all<S: Source>(
     ensures within { IfOk result (λ v. vec_len v ≤ limit) }
     ensures too_long { result ≡ Err TakeFault.TooLong → Told (GivesTooMany limit) (S.left source.old) (S.left source.new) }
     ensures failed { result ≡ Err TakeFault.Failed → Rose (S.faults source.old) (S.faults source.new) }
+    ensures complete { (bytes : List ℕ) → S.left source.old ≡ Some bytes → ¬ Rose (S.faults source.old) (S.faults source.new) → IsAnswerWithin limit bytes result }
     ensures err { OnErr result (Told (GivesAtMost (limit + 1)) (S.left source.old) (S.left source.new)) }
     ensures later { S.faults source.old ≤ S.faults source.new }
 {
