@@ -10,6 +10,7 @@ pub record CallCounts : Type 0 where
   pub made : ℕ
   pub faults : ℕ
 
+-- the counts in the fields
 abbrev pub counts_of : Calls → CallCounts
 counts_of c = record { fails = c.fails.items; made = c.made; faults = c.faults }
 

@@ -10,6 +10,7 @@ pub record SinkState : Type 0 where
   pub piece : ℕ
   pub calls : CallCounts
 
+-- the state in the fields
 abbrev pub sink_state : MemSink → SinkState
 sink_state s = record { content = s.bytes.items; room = s.room; piece = s.piece; calls = counts_of s.calls }
 

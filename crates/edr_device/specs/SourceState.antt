@@ -9,6 +9,7 @@ pub record SourceState : Type 0 where
   pub piece : ℕ
   pub calls : CallCounts
 
+-- the state in the fields
 abbrev pub source_state : MemSource → SourceState
 source_state s = record { left = drop s.at s.bytes.items; piece = s.piece; calls = counts_of s.calls }
 
