@@ -1,11 +1,16 @@
 -- The parts of an event of feeds have their fields in their bounds.
-use Rattle.std.proofs.Common.{arith, refl, ap, sym, subst, ◌≡◌, ℕ, zero, suc, ◌+◌, ◌-◌, ◌*◌, ◌/◌, ◌≤◌, inl, inr, max, Bool, true, false, cond, nat_eq, nat_le, ◌&&◌, Some, None, Option, ℤ, pos, negsuc, ◌+ℤ◌, List, [], ◌∷◌, ◌++◌, ◌∙◌, map, filter, length, drop, replicate, unsigned_abs}
-use Rattle.std.specs.Prelude.{int_le, All, option_map, slice_get, slice_index_or, unwrap_or}
+use Rattle.std.proofs.Common.{arith, refl, ap, sym, subst, ◌≡◌, ℕ, zero, suc, ◌+◌, ◌-◌, ◌*◌, ◌/◌, ◌≤◌, inl, inr, max, Bool, true, false, cond, nat_eq, nat_le, ◌&&◌, Some, None, Option, ℤ, pos, negsuc, ◌+ℤ◌, List, [], ◌∷◌, ◌++◌, ◌∙◌, map, filter, length, drop, replicate, unsigned_abs, ◌<◌}
+use Rattle.std.specs.Prelude.{int_le, All, option_map, slice_get, slice_index_or, unwrap_or, is_none, neg_ℤ, find, option_and_then, IfSome, zip, flat_map}
 use Rattle.std.specs.List.{range_with_len}
 use Rattle.std.specs.Option.{option_or, option_map_or}
-use Rattle.std.proofs.lemmas.List.{length-map}
-use Rattle.std.proofs.lemmas.List.Elements.{All-map}
+use Rattle.std.specs.Int.{bit_at}
+use Rattle.std.proofs.lemmas.List.{length-map, length-append, length-replicate}
+use Rattle.std.proofs.lemmas.List.Elements.{All-map, All-append, All-replicate, All-cons, All-filter}
 use Rattle.std.proofs.lemmas.Int.{ints}
+use Rattle.std.proofs.lemmas.Bool.{cases_lt}
+use Rattle.std.proofs.lemmas.List.FromFn.{length-range_with_len, length-map-range_with_len}
+use Rattle.std.proofs.lemmas.List.Sums.{count_by-le-length}
+use Rattle.std.proofs.Math.Seq.{drop-append_seam}
 use Rattle.edr_items.specs.declared.Sensor.{Sensor}
 use Rattle.edr_items.specs.declared.Sensor.TheVariants.{Along, Across, Speed, Throttle}
 use Rattle.edr_items.specs.declared.Item.{Item}
@@ -15,19 +20,17 @@ use Rattle.edr_items.specs.Item.{refusal_of, has_value_in_range, IsFeedAfter, Is
 use Rattle.edr_items.specs.SensorLists.{SensorLists, AreFeeds}
 use Rattle.edr_record.specs.declared.Place.{Place}
 use Rattle.edr_record.specs.Bounds.{IsPlace, IsUpTo, IsPre, IsChange, ArePoints, IsExtreme, IsCrash, point_count}
-use Rattle.std.specs.Prelude.{is_none, neg_ℤ, find, option_and_then}
-use Rattle.std.specs.Int.{bit_at}
-use Rattle.std.proofs.lemmas.Bool.{cases_lt}
-use Rattle.std.proofs.lemmas.List.{length-append, length-replicate}
-use Rattle.std.proofs.lemmas.List.Elements.{All-append, All-replicate, All-cons}
-use Rattle.std.proofs.lemmas.List.FromFn.{length-range_with_len, length-map-range_with_len}
-use Rattle.std.proofs.lemmas.List.Sums.{count_by-le-length}
-use Rattle.std.proofs.Math.Seq.{drop-append_seam}
+use Rattle.edr_record.specs.declared.Place.TheVariants.{First, Second}
+use Rattle.edr_record.specs.declared.Command.TheVariants.{Take, Lock, Done}
+use Rattle.edr_record.specs.Parts.{PrePart}
 use Rattle.edr_definitions.specs.Ticks.{ticks, first_tick}
 use Rattle.edr_definitions.specs.Signals.{Signals, sample_at, signals_of}
 use Rattle.edr_definitions.specs.Windows.{delta_v, change_at, size_of_change, squares}
-use Rattle.edr_definitions.specs.Selection.{window_of, close_of}
+use Rattle.edr_definitions.specs.Selection.{window_of, close_of, Event, events}
 use Rattle.edr_definitions.specs.Parts.{latest_value, slot, slots_before, numbers, switch, pre_part, kmh_of, points, all_points, extreme, first_greatest, missing, first_firing, firings, result_at, crash_part}
+use Rattle.edr_definitions.specs.Commands.{Issue, place_after, place_of, places_from, locks_at, lock_of, issues_of, all_issues, issues, commands}
+use Rattle.edr_definitions.specs.Facts.{IsEventAfter, AreEventsAfter, IsInBounds}
+use Rattle.edr_definitions.proofs.EventLaws.{events-follow}
 use Rattle.edr_definitions.proofs.TickLaws.{first_tick-some}
 use Rattle.edr_definitions.proofs.WindowLaws.{delta_v-cons, delta_v-none}
 use Rattle.edr_definitions.proofs.PartLaws.{first_greatest-below}
@@ -260,3 +263,55 @@ across-small xs feed = record { small = λ t v h. size_in_range v (sample_in_ran
 -- the crash part of an event of feeds
 pub crash_part-in_feeds : (f : SensorLists) (z e : ℕ) → AreFeeds f → z + 20 ≤ e → e ≤ z + 500 → IsCrash (crash_part (signals_of f) z e)
 crash_part-in_feeds f z e feeds late reset = crash_part-is (signals_of f) z e (along-small f.along feeds.along) (across-small f.across feeds.across) late reset
+
+-- ---- of commands
+-- the event before one that is past the tick `after`, if there is one, has its time zero by then
+abbrev IsBy : ℕ → Option (Place × ℕ) → Type 0
+IsBy after s = IfSome s (λ x. x.1 ≤ after)
+
+place_in : (place : Place) (before z : ℕ) → before < z → IsPlace (place_after place before z)
+place_in First before z past = by_distance (nat_le (z - before) 5_000) refl where
+  by_distance : (b : Bool) → nat_le (z - before) 5_000 ≡ b → IsPlace (cond b (Second (z - before)) First)
+  by_distance true near = (omega (arith, past), grind (arith, near))
+  by_distance false far = tt
+place_in (Second d) before z past = tt
+
+place_of-is : (s : Option (Place × ℕ)) (after z : ℕ) → IsBy after s → after < z → IsPlace (place_of s z)
+place_of-is None after z by past = tt
+place_of-is (Some s) after z by past = place_in s.0 s.1 z (omega (arith, by, past))
+
+module _ (f : SensorLists) (n t : ℕ) (feeds : AreFeeds f) (low : 1 ≤ n) (high : n ≤ 4_294_967_295) (short : t ≤ 86_400_000) where
+  locks_in : (pre : PrePart) (r : Option ℕ) → IsPre pre → All (λ (i : Issue). IsInBounds i.command) (locks_at pre r)
+  locks_in pre None is = λ k d within. absurd (omega (arith, within))
+  locks_in pre (Some l) is = All-cons (λ (i : Issue). IsInBounds i.command) (record { tick = l; command = Lock pre }) [] is (λ k d within. absurd (omega (arith, within)))
+
+  event_in : (after : ℕ) (e : Event) (place : Place) → IsEventAfter (signals_of f) t after e → IsPlace place → All (λ (i : Issue). IsInBounds i.command) (issues_of f n (e, place))
+  unfolding issues_of
+  event_in after e place is placed =
+      let past = is.zero_is_past in let from = is.confirmed_from_zero in let by = is.confirmed_in_time in
+      let P = λ (i : Issue). IsInBounds i.command in
+      let z = e.zero_tick in
+      let pre : IsPre (pre_part f n place z) = pre_part-is f n z place feeds low high (omega (arith, past)) (omega (arith, from, by, short)) placed in
+      let crash : IsCrash (crash_part (signals_of f) z e.end_tick) = crash_part-in_feeds f z e.end_tick feeds is.ends_late is.ends_by_reset in
+      let locks = locks_at (pre_part f n place z) (lock_of (signals_of f) z e.end_tick) in
+      let done : Issue = record { tick = close_of z e.end_tick; command = Done (crash_part (signals_of f) z e.end_tick) } in
+      All-cons P (record { tick = e.confirmed_tick; command = Take (pre_part f n place z) }) (locks ++ done ∷ []) pre
+      (All-append P locks (done ∷ []) (locks_in (pre_part f n place z) (lock_of (signals_of f) z e.end_tick) pre)
+      (All-cons P done [] crash (λ k d within. absurd (omega (arith, within)))))
+
+  events_in : (after : ℕ) (es : List Event) (s : Option (Place × ℕ)) → AreEventsAfter (signals_of f) t after es → IsBy after s → All (λ (i : Issue). IsInBounds i.command) (flat_map (issues_of f n) (zip es (places_from s (map (λ e. e.zero_tick) es))))
+  events_in after [] s h by = λ k d within. absurd (omega (arith, within))
+  events_in after (e ∷ es) s h by =
+      let here = place_of-is s after e.zero_tick by h.0.zero_is_past in
+      let late = h.0.closes_late in
+      All-append (λ (i : Issue). IsInBounds i.command) (issues_of f n (e, place_of s e.zero_tick)) (flat_map (issues_of f n) (zip es (places_from (Some (place_of s e.zero_tick, e.zero_tick)) (map (λ e. e.zero_tick) es))))
+      (event_in after e (place_of s e.zero_tick) h.0 here)
+      (events_in (close_of e.zero_tick e.end_tick) es (Some (place_of s e.zero_tick, e.zero_tick)) h.1 (omega (arith, late)))
+
+  -- each command of a cycle of feeds carries parts in their bounds
+  pub commands-in_bounds : All IsInBounds (commands f n t)
+  unfolding commands
+  commands-in_bounds =
+      All-map IsInBounds (λ (i : Issue). i.command) (issues f n t)
+      (All-filter (λ (i : Issue). nat_le i.tick t) (λ (i : Issue). IsInBounds i.command) (all_issues f n t)
+      (events_in 0 (events (signals_of f) t) None (events-follow (signals_of f) t) tt))

@@ -1,41 +1,32 @@
 -- How many events and commands a cycle has.
-use Rattle.std.proofs.Common.{arith, ℕ, ◌+◌, ◌-◌, ◌*◌, ◌/◌, ◌<◌, ◌≤◌, Bool, true, false, nat_le, cond, Some, None, Option, List, [], ◌∷◌, ◌++◌, map, filter, length, length-append}
-use Rattle.std.specs.Prelude.{filter_map, flat_map}
-use Rattle.std.specs.List.{cons_option}
+use Rattle.std.proofs.Common.{arith, ℕ, ◌+◌, ◌-◌, ◌*◌, ◌/◌, ◌≤◌, nat_le, Some, None, Option, List, [], ◌∷◌, ◌++◌, map, filter, length, length-append}
+use Rattle.std.specs.Prelude.{flat_map}
 use Rattle.std.proofs.lemmas.List.{length-map}
 use Rattle.std.proofs.lemmas.List.Sums.{length-filter, count_by-le-length}
 use Rattle.std.proofs.lemmas.Slice.Zip.{length-zip}
 use Rattle.edr_items.specs.SensorLists.{SensorLists}
-use Rattle.edr_definitions.specs.Ticks.{first_tick}
-use Rattle.edr_definitions.specs.Signals.{Signals, signals_of}
-use Rattle.edr_definitions.specs.Selection.{Bounds, Candidate, Event, bounds_after, close_of, event_of, events, chain, at_start}
 use Rattle.edr_record.specs.declared.Place.{Place}
 use Rattle.edr_record.specs.declared.Command.TheVariants.{Take, Done}
 use Rattle.edr_record.specs.Parts.{PrePart}
+use Rattle.edr_definitions.specs.Ticks.{first_tick}
+use Rattle.edr_definitions.specs.Signals.{Signals, signals_of}
+use Rattle.edr_definitions.specs.Selection.{Event, close_of, events}
 use Rattle.edr_definitions.specs.Parts.{pre_part, crash_part}
-use Rattle.edr_definitions.specs.Facts.{IsChain}
+use Rattle.edr_definitions.specs.Facts.{AreEventsAfter}
 use Rattle.edr_definitions.specs.Commands.{Issue, locks_at, issues_of, is_locking, placed_events, places, commands}
-use Rattle.edr_definitions.proofs.SelectionLaws.{chain-is_chain}
-use Rattle.edr_definitions.proofs.EventLaws.{zero-past, end-after_zero}
+use Rattle.edr_definitions.proofs.EventLaws.{events-follow}
 
 -- ---- events are at least 51 ms apart
-fit_event : (upto a z e : ℕ) (event : Event) (es : List Event) → a < z → z ≤ upto → z + 20 ≤ e → 51 * length es ≤ upto - close_of z e + 50 → (b : Bool) → 51 * length (cons_option (cond b (Some event) None) es) ≤ upto - a + 50
-fit_event upto a z e event es past near long h true = omega arith
-fit_event upto a z e event es past near long h false = omega arith
-
-fit_step : (upto a since z e : ℕ) (r : Option ℕ) (es : List Event) → a < z → z ≤ upto → z + 20 ≤ e → 51 * length es ≤ upto - (bounds_after (record { after = a; since = since }) (record { zero_tick = z; end_tick = e; confirmed = r })).after + 50 → 51 * length (cons_option (event_of upto (record { zero_tick = z; end_tick = e; confirmed = r })) es) ≤ upto - a + 50
-fit_step upto a since z e None es past near long h = omega arith
-fit_step upto a since z e (Some t) es past near long h =
-    fit_event upto a z e (record { zero_tick = z; confirmed_tick = t; end_tick = e }) es past near long h (nat_le t upto)
-
--- 51 times the number of events fits in what is left of the cycle
-events_fit : (m : Signals) (upto : ℕ) (from : Bounds) (cs : List Candidate) → IsChain m upto from cs → 51 * length (filter_map (event_of upto) cs) ≤ upto - from.after + 50
-events_fit m upto from [] h = omega arith
-events_fit m upto from (c ∷ cs) h =
-    fit_step upto from.after from.since c.zero_tick c.end_tick c.confirmed (filter_map (event_of upto) cs) (zero-past m from c h.0) h.1 (end-after_zero m from c h.0) (events_fit m upto (bounds_after from c) cs h.2)
+-- 51 times their number fits in what is left of the cycle
+events_fit : (m : Signals) (upto a : ℕ) (es : List Event) → AreEventsAfter m upto a es → 51 * length es ≤ upto - a + 50
+events_fit m upto a [] h = omega arith
+events_fit m upto a (e ∷ es) h =
+    let rest = events_fit m upto (close_of e.zero_tick e.end_tick) es h.1 in
+    let past = h.0.zero_is_past in let from = h.0.confirmed_from_zero in let by = h.0.confirmed_in_time in let close = h.0.closes_late in
+    omega (arith, rest, past, from, by, close)
 
 pub length-events : (m : Signals) (upto : ℕ) → length (events m upto) ≤ upto / 51 + 1
-length-events m upto = let h = events_fit m upto at_start (chain m upto) (chain-is_chain m upto) in omega (arith, h)
+length-events m upto = let h = events_fit m upto 0 (events m upto) (events-follow m upto) in omega (arith, h)
 
 -- ---- an event issues at most three commands
 length-locks_at : (pre : PrePart) (r : Option ℕ) (first last : Issue) → length (first ∷ locks_at pre r ++ last ∷ []) ≤ 3

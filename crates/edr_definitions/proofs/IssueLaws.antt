@@ -5,13 +5,13 @@ use Rattle.std.specs.List.{cons_option}
 use Rattle.std.proofs.lemmas.Bool.{cases_lt}
 use Rattle.std.proofs.lemmas.List.Elements.{filter-append}
 use Rattle.edr_items.specs.SensorLists.{SensorLists}
-use Rattle.edr_definitions.specs.Ticks.{first_tick, IsFirst}
-use Rattle.edr_definitions.specs.Signals.{Signals, signals_of}
-use Rattle.edr_definitions.specs.Selection.{Candidate, Event, event_of, close_of, events}
 use Rattle.edr_record.specs.declared.Place.{Place}
 use Rattle.edr_record.specs.declared.Command.{Command}
 use Rattle.edr_record.specs.declared.Command.TheVariants.{Take, Lock, Done}
 use Rattle.edr_record.specs.Parts.{PrePart, CrashPart}
+use Rattle.edr_definitions.specs.Ticks.{first_tick, IsFirst}
+use Rattle.edr_definitions.specs.Signals.{Signals, signals_of}
+use Rattle.edr_definitions.specs.Selection.{Candidate, Event, event_of, close_of, events}
 use Rattle.edr_definitions.specs.Parts.{pre_part, crash_part}
 use Rattle.edr_definitions.specs.Commands.{Issue, locks_at, issues_of, is_locking, places, commands}
 use Rattle.edr_definitions.specs.Facts.{AgreeUpTo, GiveTheSameUpTo}

@@ -1,24 +1,19 @@
 -- Commands stand by tick, and at one tick as Take, Lock, Done.
-use Rattle.std.proofs.Common.{arith, refl, ap, sym, subst, ◌≡◌, ◌≢◌, ◌∙◌, ℕ, ◌+◌, ◌*◌, ◌<◌, ◌≤◌, ◌⊎◌, inl, inr, Bool, true, false, cond, nat_le, nat_eq, Some, None, Option, List, [], ◌∷◌, ◌++◌, map, filter}
-use Rattle.std.specs.Prelude.{filter_map, flat_map, zip}
-use Rattle.std.specs.List.{cons_option}
+use Rattle.std.proofs.Common.{arith, refl, ap, sym, ◌≡◌, ◌∙◌, ℕ, ◌+◌, ◌*◌, ◌<◌, ◌≤◌, ◌⊎◌, inl, inr, Bool, true, false, cond, nat_le, nat_eq, Some, None, Option, List, [], ◌∷◌, ◌++◌, map, filter}
+use Rattle.std.specs.Prelude.{flat_map, zip}
 use Rattle.std.proofs.lemmas.Bool.{cases_lt}
 use Rattle.std.proofs.lemmas.List.{map-append}
 use Rattle.edr_items.specs.SensorLists.{SensorLists}
-use Rattle.edr_definitions.specs.Ticks.{first_tick, IsFirst}
-use Rattle.edr_definitions.specs.Signals.{signals_of}
-use Rattle.edr_definitions.specs.Selection.{Bounds, is_triggered, Candidate, Event, bounds_after, event_of, close_of, chain, at_start}
 use Rattle.edr_record.specs.declared.Place.{Place}
 use Rattle.edr_record.specs.declared.Command.{Command}
 use Rattle.edr_record.specs.declared.Command.TheVariants.{Take, Lock, Done}
+use Rattle.edr_record.specs.Parts.{PrePart}
+use Rattle.edr_definitions.specs.Signals.{signals_of}
+use Rattle.edr_definitions.specs.Selection.{Event, events, close_of}
 use Rattle.edr_definitions.specs.Parts.{pre_part, crash_part}
-use Rattle.edr_definitions.specs.Commands.{Issue, locks_at, issues_of, is_locking, places, zeros_by, all_issues, issues, commands, rank_of, order_of, InOrder}
-use Rattle.edr_definitions.specs.Facts.{IsChain}
-use Rattle.edr_definitions.proofs.TickLaws.{first_tick-some}
-use Rattle.edr_definitions.proofs.SelectionLaws.{chain-is_chain}
-use Rattle.edr_definitions.proofs.EventLaws.{zero-past, after_end, confirmed_first}
-use Rattle.edr_definitions.proofs.LockLaws.{lock-after}
-use Rattle.edr_definitions.proofs.IssueLaws.{confirmed_by}
+use Rattle.edr_definitions.specs.Commands.{Issue, locks_at, lock_of, issues_of, places, zeros_by, all_issues, issues, commands, rank_of, order_of, InOrder}
+use Rattle.edr_definitions.specs.Facts.{IsEventAfter, AreEventsAfter}
+use Rattle.edr_definitions.proofs.EventLaws.{events-follow}
 use Rattle.edr_definitions.proofs.WithinLaws.{commands-within}
 
 rank_small : (c : Command) → rank_of c ≤ 2
@@ -40,52 +35,40 @@ filter_in_order p a (x ∷ xs) h = by_test (filter_in_order p (order_of x + 1) x
 
 -- ---- the issues of a cycle are in order
 module _ (f : SensorLists) (n : ℕ) where
-  event_in_order : (a since z u e : ℕ) (p : Place) (rest : List Issue) → a ≤ 3 * z → IsFirst (is_triggered (signals_of f) since) z u → u ≤ e → InOrder (3 * (close_of z e + 1)) rest → InOrder a (issues_of f n (record { zero_tick = z; confirmed_tick = u; end_tick = e }, p) ++ rest)
+  event_in_order : (w after a : ℕ) (e : Event) (p : Place) (rest : List Issue) → a ≤ 3 * (after + 1) → IsEventAfter (signals_of f) w after e → InOrder (3 * (close_of e.zero_tick e.end_tick + 1)) rest → InOrder a (issues_of f n (e, p) ++ rest)
   unfolding issues_of
-  event_in_order a since z u e p rest from first order h = by_lock (first_tick (is_locking (signals_of f)) z (close_of z e + 1)) refl where
-    after_zero : z ≤ u
-    after_zero = first.from
+  event_in_order w after a e p rest near is h = by_lock (lock_of (signals_of f) e.zero_tick e.end_tick) refl where
+    pre : PrePart
+    pre = pre_part f n p e.zero_tick
 
-    done_then : InOrder (3 * close_of z e + 2 + 1) rest
-    done_then = InOrder-before (3 * close_of z e + 2 + 1) (3 * (close_of z e + 1)) rest (omega arith) h
+    close : ℕ
+    close = close_of e.zero_tick e.end_tick
 
-    by_lock : (r : Option ℕ) → first_tick (is_locking (signals_of f)) z (close_of z e + 1) ≡ r → InOrder a ((record { tick = u; command = Take (pre_part f n p z) } ∷ (locks_at (pre_part f n p z) r ++ record { tick = close_of z e; command = Done (crash_part (signals_of f) z e) } ∷ [])) ++ rest)
-    by_lock None is = (omega arith, (omega arith, done_then))
-    by_lock (Some l) is =
-        let found = first_tick-some (is_locking (signals_of f)) z (close_of z e + 1) l is in
-        let late = lock-after (signals_of f) since z u l first found.0.from found.0.holds in
-        let near = found.1 in
-        (omega arith, (omega (arith, late), (omega (arith, near), done_then)))
+    begins : a ≤ 3 * e.confirmed_tick
+    begins = let past = is.zero_is_past in let from = is.confirmed_from_zero in omega (arith, near, past, from)
 
-  chain_in_order : (w : ℕ) (from : Bounds) (cs : List Candidate) → IsChain (signals_of f) w from cs → (a : ℕ) → a ≤ 3 * (from.after + 1) → (ps : List Place) → InOrder a (flat_map (issues_of f n) (zip (filter_map (event_of w) cs) ps))
-  chain_in_order w from [] h a early ps = tt
-  chain_in_order w from (c ∷ cs) h a early ps = by_event (λ qs. chain_in_order w (bounds_after from c) cs h.2 (3 * ((bounds_after from c).after + 1)) (omega arith) qs) (confirmed_by w c.zero_tick c.end_tick c.confirmed) where
-    past : from.after < c.zero_tick
-    past = zero-past (signals_of f) from c h.0
+    ends : e.confirmed_tick ≤ close_of e.zero_tick e.end_tick
+    ends = let by = is.confirmed_by_end in let past = is.closes_past_end in omega (arith, by, past)
 
-    closes : (z e : ℕ) (r : Option ℕ) (u : ℕ) → r ≡ Some u → (bounds_after from (record { zero_tick = z; end_tick = e; confirmed = r })).after ≡ close_of z e
-    closes z e None u is = cc
-    closes z e (Some x) u is = refl
+    done_then : InOrder (3 * close_of e.zero_tick e.end_tick + 2 + 1) rest
+    done_then = InOrder-before (3 * close_of e.zero_tick e.end_tick + 2 + 1) (3 * (close_of e.zero_tick e.end_tick + 1)) rest (omega arith) h
 
-    with_event : ((qs : List Place) → InOrder (3 * ((bounds_after from c).after + 1)) (flat_map (issues_of f n) (zip (filter_map (event_of w) cs) qs))) → (u : ℕ) → c.confirmed ≡ Some u → (qs : List Place) → InOrder a (flat_map (issues_of f n) (zip (record { zero_tick = c.zero_tick; confirmed_tick = u; end_tick = c.end_tick } ∷ filter_map (event_of w) cs) qs))
-    with_event later u is [] = tt
-    with_event later u is (q ∷ qs) =
-        let first = confirmed_first (signals_of f) from.since c.zero_tick c.end_tick u c.confirmed h.0.confirmed_is is in
-        let close : (bounds_after from c).after ≡ close_of c.zero_tick c.end_tick = closes c.zero_tick c.end_tick c.confirmed u is in
-        let rest : InOrder (3 * (close_of c.zero_tick c.end_tick + 1)) (flat_map (issues_of f n) (zip (filter_map (event_of w) cs) qs)) = subst (λ (k : ℕ). InOrder (3 * (k + 1)) (flat_map (issues_of f n) (zip (filter_map (event_of w) cs) qs))) close (later qs) in
-        let began = past in
-        event_in_order a from.since c.zero_tick u c.end_tick q (flat_map (issues_of f n) (zip (filter_map (event_of w) cs) qs)) (omega arith) first.0 first.1 rest
+    by_lock : (r : Option ℕ) → lock_of (signals_of f) e.zero_tick e.end_tick ≡ r → InOrder a ((record { tick = e.confirmed_tick; command = Take (pre_part f n p e.zero_tick) } ∷ (locks_at (pre_part f n p e.zero_tick) r ++ record { tick = close_of e.zero_tick e.end_tick; command = Done (crash_part (signals_of f) e.zero_tick e.end_tick) } ∷ [])) ++ rest)
+    by_lock None is_none = let b = begins in let c = ends in (omega (arith, b), (omega (arith, c), done_then))
+    by_lock (Some l) is_some =
+        let b = begins in let lock = is.lock_in_event l is_some in let late = lock.0 in let early = lock.1 in
+        (omega (arith, b), (omega (arith, late), (omega (arith, early), done_then)))
 
-    by_event : ((qs : List Place) → InOrder (3 * ((bounds_after from c).after + 1)) (flat_map (issues_of f n) (zip (filter_map (event_of w) cs) qs))) → ((u : ℕ) × (c.confirmed ≡ Some u) × (u ≤ w) × (event_of w c ≡ Some (record { zero_tick = c.zero_tick; confirmed_tick = u; end_tick = c.end_tick }))) ⊎ (((u : ℕ) → u ≤ w → c.confirmed ≢ Some u) × (event_of w c ≡ None)) → InOrder a (flat_map (issues_of f n) (zip (cons_option (event_of w c) (filter_map (event_of w) cs)) ps))
-    by_event later (inl x) = subst (λ (o : Option Event). InOrder a (flat_map (issues_of f n) (zip (cons_option o (filter_map (event_of w) cs)) ps))) (sym x.3) (with_event later x.0 x.1 ps)
-    by_event later (inr x) =
-        let ended = after_end from c in let order = h.0.end_is.from in let began = past in
-        subst (λ (o : Option Event). InOrder a (flat_map (issues_of f n) (zip (cons_option o (filter_map (event_of w) cs)) ps))) (sym x.1)
-        (InOrder-before a (3 * ((bounds_after from c).after + 1)) (flat_map (issues_of f n) (zip (filter_map (event_of w) cs) ps)) (omega arith) (later ps))
+  events_in_order : (w after a : ℕ) (es : List Event) (ps : List Place) → a ≤ 3 * (after + 1) → AreEventsAfter (signals_of f) w after es → InOrder a (flat_map (issues_of f n) (zip es ps))
+  events_in_order w after a [] ps near h = tt
+  events_in_order w after a (e ∷ es) [] near h = tt
+  events_in_order w after a (e ∷ es) (p ∷ ps) near h =
+      let close = close_of e.zero_tick e.end_tick in
+      event_in_order w after a e p (flat_map (issues_of f n) (zip es ps)) near h.0 (events_in_order w close (3 * (close + 1)) es ps (omega arith) h.1)
 
   -- the issues of all events that are confirmed by w
   pub all_issues-in_order : (w : ℕ) → InOrder 0 (all_issues f n w)
-  all_issues-in_order w = chain_in_order w at_start (chain (signals_of f) w) (chain-is_chain (signals_of f) w) 0 (omega arith) (places (zeros_by (signals_of f) w))
+  all_issues-in_order w = events_in_order w 0 0 (events (signals_of f) w) (places (zeros_by (signals_of f) w)) (omega arith) (events-follow (signals_of f) w)
 
   -- those that are issued up to t
   pub issues-in_order : (t : ℕ) → InOrder 0 (issues f n t)

@@ -1,8 +1,8 @@
 -- The change of speed over ticks is the sum of the samples of a list.
 use Rattle.std.proofs.Common.{arith, refl, ap, sym, subst, ◌≡◌, ◌≢◌, ◌∙◌, ℕ, zero, suc, ◌+◌, ◌-◌, ◌<◌, ◌≤◌, ◌⊎◌, inl, inr, Bool, true, false, cond, ◌&&◌, nat_lt, nat_le, nat_eq, ℤ, pos, ◌+ℤ◌, unwrap_or, None, Option, List, [], ◌∷◌, map, filter}
+use Rattle.std.specs.List.{range_with_len}
 use Rattle.std.proofs.lemmas.Int.{ints}
 use Rattle.std.proofs.lemmas.Bool.{cases_lt}
-use Rattle.std.specs.List.{range_with_len}
 use Rattle.edr_items.specs.declared.Item.{Item}
 use Rattle.edr_items.specs.Item.{IsRising}
 use Rattle.edr_definitions.specs.Ticks.{ticks, int_sum}

@@ -14,8 +14,7 @@ use Rattle.edr_definitions.specs.Change.{Change, is_at, begins_at, is_confirmed_
 use Rattle.edr_definitions.proofs.TickLaws.{not_both, first_tick-some, first_tick-none, first_tick-is}
 use Rattle.edr_definitions.proofs.SelectionLaws.{end_of-is, end_of-is_first, candidate_at-is}
 use Rattle.edr_definitions.proofs.ChainLaws.{IsChain-is, IsChain-append}
-use Rattle.edr_definitions.proofs.EventLaws.{after_end}
-use Rattle.edr_definitions.proofs.EventLaws.{end-after_zero}
+use Rattle.edr_definitions.proofs.EventLaws.{after_end, end-after_zero}
 use Rattle.edr_definitions.proofs.LockLaws.{lock-confirms}
 use Rattle.edr_definitions.proofs.SearchLaws.{complete, AllClosed-later, HoldsNowhere-more, IsFirst-next, first_tick-more}
 use Rattle.edr_definitions.proofs.StandingLaws.{all_begin, late_bound}

@@ -1,9 +1,9 @@
 -- Laws of the first tick and of the greatest value.
 use Rattle.std.proofs.Common.{arith, refl, ap, subst, ◌≡◌, ℕ, zero, suc, ◌+◌, ◌-◌, ◌<◌, ◌≤◌, ◌⊎◌, inl, inr, max, Bool, true, false, cond, Some, None, Option, List, [], ◌∷◌, ◌++◌, ◌∙◌, map, find}
+use Rattle.std.specs.List.{range_with_len}
 use Rattle.std.proofs.Math.Nat.{eq-or-lt_of_le}
 use Rattle.std.proofs.lemmas.Bool.{cases_lt}
 use Rattle.std.proofs.lemmas.List.FromFn.{map-range_with_len_more}
-use Rattle.std.specs.List.{range_with_len}
 use Rattle.edr_definitions.specs.Ticks.{ticks, first_tick, IsFirst, HoldsNowhere, greatest, greatest_of}
 
 -- a test has one answer

@@ -5,12 +5,12 @@ use Rattle.std.specs.List.{cons_option}
 use Rattle.std.proofs.lemmas.Bool.{cases_lt}
 use Rattle.std.proofs.lemmas.List.Elements.{filter-append}
 use Rattle.edr_items.specs.SensorLists.{SensorLists}
-use Rattle.edr_definitions.specs.Ticks.{first_tick, IsFirst}
-use Rattle.edr_definitions.specs.Signals.{Signals, signals_of}
-use Rattle.edr_definitions.specs.Selection.{Bounds, is_triggered, Candidate, Event, bounds_after, event_of, close_of, chain, at_start}
 use Rattle.edr_record.specs.declared.Place.{Place}
 use Rattle.edr_record.specs.declared.Command.TheVariants.{Take, Lock, Done}
 use Rattle.edr_record.specs.Parts.{PrePart}
+use Rattle.edr_definitions.specs.Ticks.{first_tick, IsFirst}
+use Rattle.edr_definitions.specs.Signals.{Signals, signals_of}
+use Rattle.edr_definitions.specs.Selection.{Bounds, is_triggered, Candidate, Event, bounds_after, event_of, close_of, chain, at_start}
 use Rattle.edr_definitions.specs.Parts.{pre_part, crash_part}
 use Rattle.edr_definitions.specs.Commands.{Issue, locks_at, issues_of, is_locking, place_of, places_from, all_issues, commands}
 use Rattle.edr_definitions.specs.Facts.{IsCandidate, IsChain}

@@ -2,6 +2,9 @@
 use Rattle.std.specs.Prelude.{◌≡◌, ◌≢◌, ℕ, ◌+◌, ◌-◌, ◌<◌, ◌≤◌, max, ◌⊎◌, Option, Some, None, ℤ, MatchOption, List, [], ◌∷◌, Contains}
 use Rattle.edr_items.specs.declared.Item.{Item}
 use Rattle.edr_items.specs.SensorLists.{SensorLists}
+use Rattle.edr_record.specs.declared.Command.{Command}
+use Rattle.edr_record.specs.declared.Command.TheVariants.{Take, Lock, Done}
+use Rattle.edr_record.specs.Bounds.{IsPre, IsCrash}
 use Rattle.edr_definitions.specs.Ticks.{IsFirst, HoldsNowhere}
 use Rattle.edr_definitions.specs.Signals.{Signals, signals_of}
 use Rattle.edr_definitions.specs.Windows.{delta_v, size_of_change, squares}
@@ -50,10 +53,11 @@ abbrev pub Leads : Signals → Bounds → List Candidate → Bounds → Type 0
 Leads m from [] b = from ≡ b
 Leads m from (c ∷ cs) b = IsCandidate m from c × Leads m (bounds_after from c) cs b
 
--- how the ticks of an event lie: past the tick `after`, its time zero, confirmation, end and close in this order, and its lock between
-pub record IsEventAfter (m : Signals) (after : ℕ) (e : Event) : Type 0 where
+-- how the ticks of an event lie that is confirmed by `upto`: past the tick `after` its time zero, confirmation, end and close in this order, and its lock between
+pub record IsEventAfter (m : Signals) (upto after : ℕ) (e : Event) : Type 0 where
   pub zero_is_past : after < e.zero_tick
   pub confirmed_from_zero : e.zero_tick ≤ e.confirmed_tick
+  pub confirmed_in_time : e.confirmed_tick ≤ upto
   pub confirmed_by_end : e.confirmed_tick ≤ e.end_tick
   pub ends_late : e.zero_tick + 20 ≤ e.end_tick
   pub ends_by_reset : e.end_tick ≤ e.zero_tick + 500
@@ -62,9 +66,15 @@ pub record IsEventAfter (m : Signals) (after : ℕ) (e : Event) : Type 0 where
   pub lock_in_event : (l : ℕ) → lock_of m e.zero_tick e.end_tick ≡ Some l → (e.confirmed_tick ≤ l) × (l ≤ close_of e.zero_tick e.end_tick)
 
 -- each event lies so, and its time zero is past the close of the one before it
-abbrev pub AreEventsAfter : Signals → ℕ → List Event → Type 0
-AreEventsAfter m after [] = Unit {0}
-AreEventsAfter m after (e ∷ es) = IsEventAfter m after e × AreEventsAfter m (close_of e.zero_tick e.end_tick) es
+abbrev pub AreEventsAfter : Signals → ℕ → ℕ → List Event → Type 0
+AreEventsAfter m upto after [] = Unit {0}
+AreEventsAfter m upto after (e ∷ es) = IsEventAfter m upto after e × AreEventsAfter m upto (close_of e.zero_tick e.end_tick) es
+
+-- the part that a command carries is in its bounds
+abbrev pub IsInBounds : Command → Type 0
+IsInBounds (Take pre) = IsPre pre
+IsInBounds (Lock pre) = IsPre pre
+IsInBounds (Done crash) = IsCrash crash
 
 -- t is the earliest of the ticks `a..b` at which f is greatest
 pub record IsFirstGreatest (f : ℕ → ℕ) (a b t : ℕ) : Type 0 where

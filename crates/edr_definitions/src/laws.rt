@@ -1,6 +1,6 @@
 //! Laws of the definitions, each the contract of a function that does nothing.
 
-ghost use Rattle.std.specs.Prelude.{◌≡◌, ℕ, ◌+◌, ◌<◌, ◌≤◌, ◌↔◌, Bool, List, Option, Some, None, ℤ, IsTrue, nat_eq, nat_le, [], ◌∷◌, ◌++◌, ◌*◌, ◌/◌, length, map, filter};
+ghost use Rattle.std.specs.Prelude.{◌≡◌, ℕ, ◌+◌, ◌<◌, ◌≤◌, ◌↔◌, Bool, List, Option, Some, None, ℤ, IsTrue, nat_eq, nat_le, [], ◌∷◌, ◌++◌, ◌*◌, ◌/◌, length, map, filter, All};
 ghost use Rattle.edr_items.specs.declared.Sensor.{Sensor};
 ghost use Rattle.edr_items.specs.declared.Item.{Item};
 ghost use Rattle.edr_items.specs.Item.{IsFeed, IsRising};
@@ -13,7 +13,7 @@ ghost use Rattle.edr_definitions.specs.Windows.{delta_v, sum_between, swing, fil
 ghost use Rattle.edr_definitions.specs.Selection.{Bounds, Candidate, is_triggered, is_time_zero, is_end, chain, at_start, events};
 ghost use Rattle.edr_definitions.specs.Parts.{first_greatest, slot, pre_part, crash_part};
 ghost use Rattle.edr_definitions.specs.Commands.{place_of, places, last_placed, all_issues, issues, commands, InOrder, is_locking};
-ghost use Rattle.edr_definitions.specs.Facts.{Reaches, IsTriggered, IsTimeZero, IsEnd, IsCandidate, IsChain, AreEventsAfter, IsFirstGreatest, IsLatestSample, HasNoSample, AgreeUpTo};
+ghost use Rattle.edr_definitions.specs.Facts.{Reaches, IsTriggered, IsTimeZero, IsEnd, IsCandidate, IsChain, AreEventsAfter, IsFirstGreatest, IsLatestSample, HasNoSample, IsInBounds, AgreeUpTo};
 ghost use Rattle.edr_definitions.specs.Search.{Search, Searching, Open, next_search, StandsFor, open_candidates};
 ghost use Rattle.edr_definitions.specs.Change.{tick_change, stepped_change};
 
@@ -58,7 +58,7 @@ pub fn ended_candidates_stay()
 
 /// Time zero, confirmation, end and close of an event stand in this order, its lock between, and the next time zero is past the close.
 pub fn events_follow_one_another()
-    ensures { (m : Signals) (upto : ℕ) → AreEventsAfter m 0 (events m upto) }
+    ensures { (m : Signals) (upto : ℕ) → AreEventsAfter m upto 0 (events m upto) }
 {}
 
 /// A slot has the value of the latest sample of its 100 ms, and is absent where they have none, as before the cycle.
@@ -72,6 +72,11 @@ pub fn a_slot_is_the_latest_sample()
 pub fn parts_are_in_bounds()
     ensures pre { (f : SensorLists) (n z : ℕ) (place : Place) → AreFeeds f → 1 ≤ n → n ≤ 4_294_967_295 → 1 ≤ z → z ≤ 86_400_000 → IsPlace place → IsPre (pre_part f n place z) }
     ensures crash { (f : SensorLists) (z e : ℕ) → AreFeeds f → z + 20 ≤ e → e ≤ z + 500 → IsCrash (crash_part (signals_of f) z e) }
+{}
+
+/// Each command of a cycle of feeds carries a part in its bounds.
+pub fn commands_are_in_bounds()
+    ensures { (f : SensorLists) (n t : ℕ) → AreFeeds f → 1 ≤ n → n ≤ 4_294_967_295 → t ≤ 86_400_000 → All IsInBounds (commands f n t) }
 {}
 
 /// One more event's place stands last, and follows from the place and the time zero of the last event before it.

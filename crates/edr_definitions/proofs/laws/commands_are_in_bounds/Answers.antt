@@ -1,0 +1,5 @@
+use Rattle.edr_definitions.proofs.BoundLaws.{commands-in_bounds}
+use Rattle.edr_definitions.proofs.laws.commands_are_in_bounds.Goals as goal
+
+pub returns : goal.returns
+returns c = commands-in_bounds
