@@ -13,6 +13,7 @@ use Rattle.edr_definitions.specs.Selection.{Event, events, close_of}
 use Rattle.edr_definitions.specs.Parts.{pre_part, crash_part}
 use Rattle.edr_definitions.specs.Commands.{Issue, locks_at, lock_of, issues_of, places, zeros_by, all_issues, issues, commands, rank_of, order_of, InOrder}
 use Rattle.edr_definitions.specs.Facts.{IsEventAfter, AreEventsAfter}
+use Rattle.edr_definitions.proofs.FactLaws.{nat_le_not}
 use Rattle.edr_definitions.proofs.EventLaws.{events-follow}
 use Rattle.edr_definitions.proofs.WithinLaws.{commands-within}
 
@@ -80,10 +81,8 @@ none_by : (t a : ℕ) (xs : List Issue) → 3 * (t + 1) ≤ a → InOrder a xs �
 none_by t a [] late h = refl
 none_by t a (x ∷ xs) late h =
     let first = h.0 in let small = rank_small x.command in
-    let b : nat_le x.tick t ≡ false = is_late x.tick (omega arith) in
-    rw b (none_by t (order_of x + 1) xs (omega arith) h.1) where
-      is_late : (k : ℕ) → t < k → nat_le k t ≡ false
-      is_late k h = grind arith
+    let b : nat_le x.tick t ≡ false = nat_le_not x.tick t (omega arith) in
+    rw b (none_by t (order_of x + 1) xs (omega arith) h.1)
 
 -- and what is issued up to the next tick is issued there
 only_then : (t a : ℕ) (xs : List Issue) → 3 * (t + 1) ≤ a → InOrder a xs → filter (λ i. nat_le i.tick (t + 1)) xs ≡ filter (λ i. nat_eq i.tick (t + 1)) xs

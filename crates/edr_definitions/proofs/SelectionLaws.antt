@@ -1,5 +1,5 @@
 -- Laws of the selection.
-use Rattle.std.proofs.Common.{arith, refl, ◌≡◌, ℕ, zero, suc, ◌+◌, ◌<◌, ◌≤◌, ◌⊎◌, inl, inr, true, false, Some, None, Option, MatchOption, [], ◌∷◌, unwrap_or}
+use Rattle.std.proofs.Common.{arith, refl, ◌≡◌, ℕ, zero, suc, ◌+◌, ◌<◌, ◌≤◌, Bool, ◌⊎◌, inl, inr, true, false, Some, None, Option, MatchOption, [], ◌∷◌, unwrap_or}
 use Rattle.std.proofs.lemmas.Bool.{cases_lt}
 use Rattle.edr_definitions.specs.Ticks.{first_tick, IsFirst, HoldsNowhere}
 use Rattle.edr_definitions.specs.Signals.{Signals}
@@ -53,9 +53,10 @@ pub end_of-is_first : (m : Signals) (z : ℕ) → IsFirst (is_end m z) z (end_of
 unfolding end_of
 end_of-is_first m z = end_of_step m z (first_tick (is_end m z) z (z + 501)) refl
 
-confirmed_step : (m : Signals) (since z e : ℕ) (r : Option ℕ) → first_tick (is_triggered m since) z (e + 1) ≡ r → MatchOption r (HoldsNowhere (is_triggered m since) z (e + 1)) (λ t. IsFirst (is_triggered m since) z t × (t ≤ e))
-confirmed_step m since z e None h = first_tick-none (is_triggered m since) z (e + 1) h
-confirmed_step m since z e (Some t) h = let f = first_tick-some (is_triggered m since) z (e + 1) t h in (f.0, omega (arith, f.1))
+-- what is found up to a tick, as a fact
+pub first_tick-match : (p : ℕ → Bool) (z e : ℕ) (r : Option ℕ) → first_tick p z (e + 1) ≡ r → MatchOption r (HoldsNowhere p z (e + 1)) (λ t. IsFirst p z t × (t ≤ e))
+first_tick-match p z e None h = first_tick-none p z (e + 1) h
+first_tick-match p z e (Some t) h = let f = first_tick-some p z (e + 1) t h in (f.0, omega (arith, f.1))
 
 -- a candidate of the least time zero is the one that the search finds
 pub candidate_at-is : (m : Signals) (from : Bounds) (z : ℕ) → IsFirst (is_time_zero m from) 0 z → IsCandidate m from (candidate_at m from.since z)
@@ -63,7 +64,7 @@ unfolding candidate_at
 candidate_at-is m from z first = record {
   zero_is = first;
   end_is = end_of-is_first m z;
-  confirmed_is = confirmed_step m from.since z (end_of m z) (first_tick (is_triggered m from.since) z (end_of m z + 1)) refl;
+  confirmed_is = first_tick-match (is_triggered m from.since) z (end_of m z) (first_tick (is_triggered m from.since) z (end_of m z + 1)) refl;
 }
 
 -- ---- the chain

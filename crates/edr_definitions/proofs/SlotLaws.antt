@@ -57,6 +57,9 @@ latest_value-none p (x ∷ xs) h y inside passes = by_test (latest_value-none p 
   by_test rest false e h (inl same) = absurd (not_both (p x) e (subst (λ (z : Item). p z ≡ true) (sym same) passes))
   by_test rest false e h (inr later) = rest h y later passes
 
+no_value : (o : Option ℤ) (w : ℤ) → o ≡ None → o ≡ Some w → ⊥
+no_value o w f g = cc
+
 -- v is the value of an item that passes the test, and no later item with a value does
 record IsLatest (p : Item → Bool) (xs : List Item) (v : ℤ) : Type 0 where
   item : Item
@@ -91,9 +94,7 @@ latest_value-some p (x ∷ xs) v rising h = by_test (latest_value-some p xs v (I
       | inl same ↦ let f : x.moment ≡ other.moment = ap (λ (z : Item). z.moment) same in omega (arith, f)
       | inr later ↦ let no = latest_value-none p xs none other later others in absurd (no_value other.value w no value)
     ];
-  } where
-    no_value : (o : Option ℤ) (w : ℤ) → o ≡ None → o ≡ Some w → ⊥
-    no_value o w f g = cc
+  }
 
   by_rest : (o : Option ℤ) → p x ≡ true → latest_value (filter p xs) ≡ o → (latest_value (filter p xs) ≡ Some v → IsLatest p xs v) → option_or o x.value ≡ Some v → IsLatest p (x ∷ xs) v
   by_rest None e none rest h = of_first e none h
@@ -135,9 +136,6 @@ latest_unique xs t v w rising p q =
     one_value p.item.value q.item.value v w (ap (λ (x : Item). x.value) one) p.value_is q.value_is where
       one_value : (o r : Option ℤ) (v w : ℤ) → o ≡ r → o ≡ Some v → r ≡ Some w → v ≡ w
       one_value o r v w e f g = cc
-
-no_value : (o : Option ℤ) (w : ℤ) → o ≡ None → o ≡ Some w → ⊥
-no_value o w f g = cc
 
 pub latest-is_slot : (xs : List Item) (t : ℕ) (v : ℤ) → IsRising xs → IsLatestSample xs t v → slot xs t ≡ Some v
 latest-is_slot xs t v rising is = by_slot (slot xs t) refl where

@@ -16,8 +16,8 @@ use Rattle.edr_definitions.proofs.SelectionLaws.{end_of-is, end_of-is_first, can
 use Rattle.edr_definitions.proofs.ChainLaws.{IsChain-is, IsChain-append}
 use Rattle.edr_definitions.proofs.EventLaws.{after_end, end-after_zero}
 use Rattle.edr_definitions.proofs.LockLaws.{lock-confirms}
-use Rattle.edr_definitions.proofs.SearchLaws.{complete, AllClosed-later, HoldsNowhere-more, IsFirst-next, first_tick-more}
-use Rattle.edr_definitions.proofs.StandingLaws.{all_begin, late_bound}
+use Rattle.edr_definitions.proofs.SearchLaws.{nothing_yet, complete, AllClosed-later, HoldsNowhere-more, IsFirst-next, first_tick-more}
+use Rattle.edr_definitions.proofs.StandingLaws.{all_begin}
 
 -- ---- closed candidates do not count any more
 -- each tick of a closed candidate is at most t
@@ -116,7 +116,7 @@ search_is_chain m t b nowhere true here =
     let zero_known : cand.zero_tick ≡ t + 1 = unfold candidate_at in refl in
     let long = end-after_zero m b cand is in
     let ended = after_end b cand in
-    (is, omega (arith, zero_known), late_bound m (t + 1) (bounds_after b cand) (omega (arith, zero_known, long, ended)))
+    (is, omega (arith, zero_known), nothing_yet m (t + 1) (bounds_after b cand) (omega (arith, zero_known, long, ended)))
 search_is_chain m t b nowhere false here = HoldsNowhere-more (is_time_zero m b) 0 t nowhere here
 
 pub now_is_chain : (m : Signals) (t : ℕ) (b : Bounds) (ph : Phase) → PhaseIs m t b ph → IsChain m (t + 1) b (now_open m (t + 1) b ph)
@@ -128,9 +128,9 @@ now_is_chain m t b (Open z c l None) h =
     let end_known : cand.end_tick ≡ end_of m z = unfold candidate_at in refl in
     let later = end_later m t z h.2 in
     let ended = after_end b cand in
-    (is, omega (arith, zero_known, h.1), late_bound m (t + 1) (bounds_after b cand) (omega (arith, ended, end_known, later)))
+    (is, omega (arith, zero_known, h.1), nothing_yet m (t + 1) (bounds_after b cand) (omega (arith, ended, end_known, later)))
 now_is_chain m t b (Open z c l (Some e)) h =
-    (complete m b z e c h.0 h.1 h.3, omega (arith, h.1.from, h.2), late_bound m (t + 1) (bounds_after b (record { zero_tick = z; end_tick = e; confirmed = c })) (past_close_more b t z e c h.4 h.5))
+    (complete m b z e c h.0 h.1 h.3, omega (arith, h.1.from, h.2), nothing_yet m (t + 1) (bounds_after b (record { zero_tick = z; end_tick = e; confirmed = c })) (past_close_more b t z e c h.4 h.5))
 
 pub chain-next : (m : Signals) (t : ℕ) (s : Search) (h : StandsFor m t s) → h.closed ++ now_open m (t + 1) s.bounds s.phase ≡ chain m (t + 1)
 chain-next m t s h =

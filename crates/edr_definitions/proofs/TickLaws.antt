@@ -57,6 +57,10 @@ find_nowhere : (p : ℕ → Bool) (n a : ℕ) → find p (range_with_len a n) �
 find_nowhere p zero a h u lo hi = absurd (omega arith)
 find_nowhere p (suc n) a h u lo hi = find_nowhere_step p n a (find_nowhere p n (a + 1)) (p a) refl h u lo hi
 
+-- where the test holds nowhere there is no least tick
+pub HoldsNowhere-no_first : (p : ℕ → Bool) (a b u : ℕ) → HoldsNowhere p a b → IsFirst p a u → u < b → ⊥
+HoldsNowhere-no_first p a b u nowhere first below = not_both (p u) (nowhere.none u first.from below) first.holds
+
 -- ---- the laws that callers use
 pub first_tick-some : (p : ℕ → Bool) (a b t : ℕ) → first_tick p a b ≡ Some t → IsFirst p a t × (t < b)
 unfolding first_tick

@@ -1,26 +1,22 @@
 -- The search that stands for signals up to a tick is one.
-use Rattle.std.proofs.Common.{arith, refl, ap, sym, subst, ◌≡◌, ◌∙◌, ℕ, ◌+◌, ◌<◌, ◌≤◌, Bool, Some, None, Option, IsSome, MatchOption, List, [], ◌∷◌}
+use Rattle.std.proofs.Common.{arith, refl, ap, sym, subst, ◌≡◌, ◌∙◌, ℕ, ◌+◌, ◌<◌, ◌≤◌, Some, None, Option, IsSome, MatchOption, List, [], ◌∷◌}
 use Rattle.edr_definitions.specs.Ticks.{first_tick, IsFirst, HoldsNowhere}
 use Rattle.edr_definitions.specs.Signals.{Signals}
 use Rattle.edr_definitions.specs.Selection.{Bounds, is_triggered, is_time_zero, is_end, close_of, Candidate, bounds_after, at_start}
 use Rattle.edr_definitions.specs.Commands.{is_locking}
 use Rattle.edr_definitions.specs.Facts.{Leads, IsCandidate}
 use Rattle.edr_definitions.specs.Search.{Phase, Searching, Open, Search, AllClosed, PhaseIs, StandsFor}
-use Rattle.edr_definitions.proofs.TickLaws.{not_both, IsFirst-unique, first_tick-some}
+use Rattle.edr_definitions.proofs.TickLaws.{HoldsNowhere-no_first, IsFirst-unique, first_tick-some}
 use Rattle.edr_definitions.proofs.ChainLaws.{IsCandidate-unique}
 use Rattle.edr_definitions.proofs.EventLaws.{after_end}
-
--- a tick that passes is not among those where nothing does
-not_nowhere : (p : ℕ → Bool) (a b u : ℕ) → HoldsNowhere p a b → IsFirst p a u → u < b → ⊥
-not_nowhere p a b u nowhere first below = not_both (p u) (nowhere.none u first.from below) first.holds
 
 module _ (m : Signals) (t : ℕ) (b : Bounds) where
   phase_unique : (p q : Phase) → PhaseIs m t b p → PhaseIs m t b q → p ≡ q
   phase_unique Searching Searching h k = refl
-  phase_unique Searching (Open z c l None) h k = absurd (not_nowhere (is_time_zero m b) 0 (t + 1) z h k.0 (omega (arith, k.1)))
-  phase_unique Searching (Open z c l (Some e)) h k = let order = k.1.from in let ended = k.2 in absurd (not_nowhere (is_time_zero m b) 0 (t + 1) z h k.0 (omega arith))
-  phase_unique (Open z c l None) Searching h k = absurd (not_nowhere (is_time_zero m b) 0 (t + 1) z k h.0 (omega (arith, h.1)))
-  phase_unique (Open z c l (Some e)) Searching h k = let order = h.1.from in let ended = h.2 in absurd (not_nowhere (is_time_zero m b) 0 (t + 1) z k h.0 (omega arith))
+  phase_unique Searching (Open z c l None) h k = absurd (HoldsNowhere-no_first (is_time_zero m b) 0 (t + 1) z h k.0 (omega (arith, k.1)))
+  phase_unique Searching (Open z c l (Some e)) h k = let order = k.1.from in let ended = k.2 in absurd (HoldsNowhere-no_first (is_time_zero m b) 0 (t + 1) z h k.0 (omega arith))
+  phase_unique (Open z c l None) Searching h k = absurd (HoldsNowhere-no_first (is_time_zero m b) 0 (t + 1) z k h.0 (omega (arith, h.1)))
+  phase_unique (Open z c l (Some e)) Searching h k = let order = h.1.from in let ended = h.2 in absurd (HoldsNowhere-no_first (is_time_zero m b) 0 (t + 1) z k h.0 (omega arith))
   phase_unique (Open z c l None) (Open y d r None) h k =
       let one : z ≡ y = IsFirst-unique (is_time_zero m b) 0 z y h.0 k.0 in
       let same_c : c ≡ d = h.3 ∙ ap (λ x. first_tick (is_triggered m b.since) x (t + 1)) one ∙ sym k.3 in
@@ -30,12 +26,12 @@ module _ (m : Signals) (t : ℕ) (b : Bounds) where
       let one : y ≡ z = IsFirst-unique (is_time_zero m b) 0 y z k.0 h.0 in
       let end : IsFirst (is_end m z) z e = subst (λ x. IsFirst (is_end m x) x e) one k.1 in
       let ended = k.2 in
-      absurd (not_nowhere (is_end m z) z (t + 1) e h.2 end (omega arith))
+      absurd (HoldsNowhere-no_first (is_end m z) z (t + 1) e h.2 end (omega arith))
   phase_unique (Open z c l (Some e)) (Open y d r None) h k =
       let one : z ≡ y = IsFirst-unique (is_time_zero m b) 0 z y h.0 k.0 in
       let end : IsFirst (is_end m y) y e = subst (λ x. IsFirst (is_end m x) x e) one h.1 in
       let ended = h.2 in
-      absurd (not_nowhere (is_end m y) y (t + 1) e k.2 end (omega arith))
+      absurd (HoldsNowhere-no_first (is_end m y) y (t + 1) e k.2 end (omega arith))
   phase_unique (Open z c l (Some e)) (Open y d r (Some g)) h k =
       let one : z ≡ y = IsFirst-unique (is_time_zero m b) 0 z y h.0 k.0 in
       let end : IsFirst (is_end m y) y e = subst (λ x. IsFirst (is_end m x) x e) one h.1 in
@@ -52,7 +48,7 @@ module _ (m : Signals) (t : ℕ) (b : Bounds) where
   match_is : (since z e : ℕ) (r : Option ℕ) (o : Option ℕ) → MatchOption r (HoldsNowhere (is_triggered m since) z (e + 1)) (λ x. IsFirst (is_triggered m since) z x × (x ≤ e)) → o ≡ first_tick (is_triggered m since) z (e + 1) → IsSome o → IsSome r
   match_is since z e None None h is some = some
   match_is since z e None (Some u) h is some =
-      let found = first_tick-found z e since u (sym is) in absurd (not_nowhere (is_triggered m since) z (e + 1) u h found.0 found.1) where
+      let found = first_tick-found z e since u (sym is) in absurd (HoldsNowhere-no_first (is_triggered m since) z (e + 1) u h found.0 found.1) where
         first_tick-found : (z e since u : ℕ) → first_tick (is_triggered m since) z (e + 1) ≡ Some u → IsFirst (is_triggered m since) z u × (u < e + 1)
         first_tick-found z e since u k = first_tick-some (is_triggered m since) z (e + 1) u k
   match_is since z e (Some u) o h is some = refl
@@ -60,12 +56,12 @@ module _ (m : Signals) (t : ℕ) (b : Bounds) where
   not_open : (c : Candidate) → IsCandidate m b c → (bounds_after b c).after ≤ t → (p : Phase) → PhaseIs m t b p → ⊥
   not_open c is closed Searching h =
       let ended = after_end b c in let order = is.end_is.from in
-      not_nowhere (is_time_zero m b) 0 (t + 1) c.zero_tick h is.zero_is (omega arith)
+      HoldsNowhere-no_first (is_time_zero m b) 0 (t + 1) c.zero_tick h is.zero_is (omega arith)
   not_open c is closed (Open z d l None) h =
       let one : c.zero_tick ≡ z = IsFirst-unique (is_time_zero m b) 0 c.zero_tick z is.zero_is h.0 in
       let end : IsFirst (is_end m z) z c.end_tick = subst (λ x. IsFirst (is_end m x) x c.end_tick) one is.end_is in
       let ended = after_end b c in
-      not_nowhere (is_end m z) z (t + 1) c.end_tick h.2 end (omega arith)
+      HoldsNowhere-no_first (is_end m z) z (t + 1) c.end_tick h.2 end (omega arith)
   not_open c is closed (Open z d l (Some e)) h =
       let one : c.zero_tick ≡ z = IsFirst-unique (is_time_zero m b) 0 c.zero_tick z is.zero_is h.0 in
       let end : IsFirst (is_end m z) z c.end_tick = subst (λ x. IsFirst (is_end m x) x c.end_tick) one is.end_is in

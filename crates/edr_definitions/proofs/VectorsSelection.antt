@@ -11,10 +11,6 @@ along_80000 : is_triggered (only_along (pulse 1 2 (pos 40000))) 0 2 ≡ true
 unfolding is_triggered swing largest_change greatest delta_v
 along_80000 = refl
 
-along_79998 : is_triggered (only_along (pulse 1 2 (pos 39999))) 0 2 ≡ false
-unfolding is_triggered swing largest_change greatest delta_v
-along_79998 = refl
-
 along_79999 : is_triggered (only_along (both (pulse 1 1 (pos 40000)) (pulse 2 2 (pos 39999)))) 0 2 ≡ false
 unfolding is_triggered swing largest_change greatest delta_v
 along_79999 = refl

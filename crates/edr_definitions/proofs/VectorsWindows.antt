@@ -2,7 +2,7 @@
 use Rattle.std.proofs.Common.{refl, ◌≡◌, pos, negsuc, true, false, [], ◌∷◌}
 use Rattle.edr_definitions.specs.Ticks.{greatest}
 use Rattle.edr_definitions.specs.Signals.{sample_at}
-use Rattle.edr_definitions.specs.Windows.{delta_v, sum_between, largest_change, swing, is_over, is_trigger, is_quiet}
+use Rattle.edr_definitions.specs.Windows.{delta_v, sum_between, largest_change, swing, is_over, meets_trigger, is_quiet}
 use Rattle.edr_definitions.proofs.Pulses.{pulse, both, sample, silence}
 
 -- delta-V counts the ticks after its beginning and up to its end: 4, 5 and 6 of 1 to 9
@@ -79,10 +79,10 @@ over_8001 : is_over 8_001 ≡ true
 over_8001 = refl
 
 -- 8 km/h itself is the trigger
-trigger_79999 : is_trigger 79_999 ≡ false
+trigger_79999 : meets_trigger 79_999 ≡ false
 trigger_79999 = refl
 
-trigger_80000 : is_trigger 80_000 ≡ true
+trigger_80000 : meets_trigger 80_000 ≡ true
 trigger_80000 = refl
 
 -- a resultant of 0.8 km/h itself is quiet: squares of 64,000,000, and 64,000,001

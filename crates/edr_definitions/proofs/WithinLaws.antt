@@ -16,6 +16,7 @@ use Rattle.edr_definitions.specs.Commands.{Issue, locks_at, issues_of, is_lockin
 use Rattle.edr_definitions.specs.Facts.{IsCandidate, IsChain}
 use Rattle.edr_definitions.proofs.TickLaws.{first_tick-some}
 use Rattle.edr_definitions.proofs.LockLaws.{lock-after}
+use Rattle.edr_definitions.proofs.FactLaws.{nat_le_is, nat_le_not}
 use Rattle.edr_definitions.proofs.SelectionLaws.{chain-is_chain}
 use Rattle.edr_definitions.proofs.ChainLaws.{IsChain-is}
 use Rattle.edr_definitions.proofs.EventLaws.{zero-past, after_end, confirmed_first}
@@ -85,17 +86,11 @@ module _ (f : SensorLists) (n t : ℕ) where
   cut-late w from [] h past = refl
   cut-late w from (c ∷ cs) h past =
       let begun = zero-past (signals_of f) from c h.0 in
-      let b : nat_le c.zero_tick t ≡ false = not_yet c.zero_tick (omega (arith, begun)) in rw b refl where
-        not_yet : (z : ℕ) → t < z → nat_le z t ≡ false
-        not_yet z late = grind arith
+      let b : nat_le c.zero_tick t ≡ false = nat_le_not c.zero_tick t (omega (arith, begun)) in rw b refl
 
   cut_step : (w : ℕ) (from : Bounds) (c : Candidate) (cs : List Candidate) → IsCandidate (signals_of f) from c → IsChain (signals_of f) t (bounds_after from c) (cut cs) → (c.zero_tick ≤ t) ⊎ (t < c.zero_tick) → IsChain (signals_of f) t from (cond (nat_le c.zero_tick t) (c ∷ cut cs) [])
-  cut_step w from c cs is rest (inl begun) = let b : nat_le c.zero_tick t ≡ true = is_true c.zero_tick begun in subst (λ (v : Bool). IsChain (signals_of f) t from (cond v (c ∷ cut cs) [])) (sym b) (is, begun, rest) where
-    is_true : (z : ℕ) → z ≤ t → nat_le z t ≡ true
-    is_true z near = grind arith
-  cut_step w from c cs is rest (inr late) = let b : nat_le c.zero_tick t ≡ false = is_false c.zero_tick late in subst (λ (v : Bool). IsChain (signals_of f) t from (cond v (c ∷ cut cs) [])) (sym b) (record { none = λ u lo hi. is.zero_is.none_before u lo (omega arith) }) where
-    is_false : (z : ℕ) → t < z → nat_le z t ≡ false
-    is_false z far = grind arith
+  cut_step w from c cs is rest (inl begun) = let b : nat_le c.zero_tick t ≡ true = nat_le_is c.zero_tick t begun in subst (λ (v : Bool). IsChain (signals_of f) t from (cond v (c ∷ cut cs) [])) (sym b) (is, begun, rest)
+  cut_step w from c cs is rest (inr late) = let b : nat_le c.zero_tick t ≡ false = nat_le_not c.zero_tick t late in subst (λ (v : Bool). IsChain (signals_of f) t from (cond v (c ∷ cut cs) [])) (sym b) (record { none = λ u lo hi. is.zero_is.none_before u lo (omega arith) })
 
   swap : (z : ℕ) → (z ≤ t) ⊎ (t < z)
   swap z = elim (cases_lt t z) [ inl late ↦ inr late | inr begun ↦ inl begun ]
@@ -175,19 +170,15 @@ module _ (f : SensorLists) (n t : ℕ) where
 
   within_step : (w : ℕ) → t ≤ w → (from : Bounds) (c : Candidate) (cs : List Candidate) → IsCandidate (signals_of f) from c → IsChain (signals_of f) w (bounds_after from c) cs → ((s : Option (Place × ℕ)) → long_side w cs s ≡ long_side t (cut cs) s) → (s : Option (Place × ℕ)) → (t < c.zero_tick) ⊎ (c.zero_tick ≤ t) → long_side w (c ∷ cs) s ≡ long_side t (cond (nat_le c.zero_tick t) (c ∷ cut cs) []) s
   within_step w within from c cs is h rest s (inr begun) =
-      let b : nat_le c.zero_tick t ≡ true = is_true c.zero_tick begun in
+      let b : nat_le c.zero_tick t ≡ true = nat_le_is c.zero_tick t begun in
       subst (λ (v : Bool). long_side w (c ∷ cs) s ≡ long_side t (cond v (c ∷ cut cs) []) s) (sym b)
-      (begun_step w within from c cs is h rest s (confirmed_by w c.zero_tick c.end_tick c.confirmed)) where
-        is_true : (z : ℕ) → z ≤ t → nat_le z t ≡ true
-        is_true z near = grind arith
+      (begun_step w within from c cs is h rest s (confirmed_by w c.zero_tick c.end_tick c.confirmed))
   within_step w within from c cs is h rest s (inl late) =
-      let b : nat_le c.zero_tick t ≡ false = is_false c.zero_tick late in
+      let b : nat_le c.zero_tick t ≡ false = nat_le_not c.zero_tick t late in
       let order = is.end_is.from in
       let ended = after_end from c in
       subst (λ (v : Bool). long_side w (c ∷ cs) s ≡ long_side t (cond v (c ∷ cut cs) []) s) (sym b)
-      (late_cons w from c (filter_map (event_of w) cs) (places_from s (zeros (filter_map (event_of w) (c ∷ cs)))) is late (late_chain w (bounds_after from c) cs h (omega (arith, order, ended)))) where
-        is_false : (z : ℕ) → t < z → nat_le z t ≡ false
-        is_false z far = grind arith
+      (late_cons w from c (filter_map (event_of w) cs) (places_from s (zeros (filter_map (event_of w) (c ∷ cs)))) is late (late_chain w (bounds_after from c) cs h (omega (arith, order, ended))))
 
   within_chain : (w : ℕ) → t ≤ w → (from : Bounds) (cs : List Candidate) → IsChain (signals_of f) w from cs → (s : Option (Place × ℕ)) → long_side w cs s ≡ long_side t (cut cs) s
   within_chain w within from [] h s = refl

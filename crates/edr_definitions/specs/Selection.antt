@@ -3,7 +3,7 @@ use Rattle.std.specs.Prelude.{ℕ, zero, suc, ◌+◌, ◌-◌, min, max, Bool, 
 use Rattle.std.specs.Option.{option_map_or}
 use Rattle.edr_definitions.specs.Ticks.{first_tick}
 use Rattle.edr_definitions.specs.Signals.{Signals}
-use Rattle.edr_definitions.specs.Windows.{delta_v, swing, is_over, is_trigger, is_quiet}
+use Rattle.edr_definitions.specs.Windows.{delta_v, swing, is_over, meets_trigger, is_quiet}
 
 -- where the search stands: a time zero comes after the tick `after`, and the trigger's changes don't begin before the tick `since`
 pub record Bounds : Type 0 where
@@ -13,7 +13,7 @@ pub record Bounds : Type 0 where
 -- a restraint fires at t, or a change within 150 ms on either axis meets the trigger threshold (563.5, event)
 unfoldable pub is_triggered : Signals → ℕ → ℕ → Bool
 is_triggered m since t =
-    not (nat_eq (m.fired t) 0) || is_trigger (swing m.along 150 since t) || is_trigger (swing m.across 150 since t)
+    not (nat_eq (m.fired t) 0) || meets_trigger (swing m.along 150 since t) || meets_trigger (swing m.across 150 since t)
 
 -- past the bound, a change of over 0.8 km/h along within 20 ms or across within 5 ms, or the trigger (563.5, time zero)
 unfoldable pub is_time_zero : Signals → Bounds → ℕ → Bool

@@ -34,8 +34,8 @@ abbrev pub is_over : ℕ → Bool
 is_over size = nat_lt 8_000 size
 
 -- a change of at least 8 km/h (563.5, trigger threshold)
-abbrev pub is_trigger : ℕ → Bool
-is_trigger size = nat_le 80_000 size
+abbrev pub meets_trigger : ℕ → Bool
+meets_trigger size = nat_le 80_000 size
 
 -- the square of the resultant of two changes
 abbrev pub squares : ℤ → ℤ → ℕ
