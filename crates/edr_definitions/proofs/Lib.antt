@@ -18,6 +18,7 @@ pub mod LockLaws
 pub mod EventLaws
 pub mod CommandLaws
 pub mod GrowLaws
+pub mod RoundLaws
 pub mod PartLaws
 pub mod IssueLaws
 pub mod LaterLaws

@@ -1,6 +1,6 @@
 //! Laws of the definitions, each the contract of a function that does nothing.
 
-ghost use Rattle.std.specs.Prelude.{◌≡◌, ℕ, ◌+◌, ◌<◌, ◌≤◌, ◌↔◌, Bool, List, Option, Some, None, ℤ, IsTrue, nat_eq, nat_le, [], ◌∷◌, ◌++◌, ◌*◌, ◌/◌, length, map, filter, All};
+ghost use Rattle.std.specs.Prelude.{◌≡◌, ℕ, ◌+◌, ◌<◌, ◌≤◌, ◌↔◌, Bool, List, Option, Some, None, ℤ, IsTrue, nat_eq, nat_le, [], ◌∷◌, ◌++◌, ◌*◌, ◌/◌, length, map, filter, All, pos, neg_ℤ};
 ghost use Rattle.edr_items.specs.declared.Sensor.{Sensor};
 ghost use Rattle.edr_items.specs.declared.Item.{Item};
 ghost use Rattle.edr_items.specs.Item.{IsFeed, IsRising};
@@ -11,7 +11,7 @@ ghost use Rattle.edr_definitions.specs.Ticks.{first_tick, IsFirst, HoldsNowhere}
 ghost use Rattle.edr_definitions.specs.Signals.{Signals, sample_at, signals_of};
 ghost use Rattle.edr_definitions.specs.Windows.{delta_v, sum_between, swing, filled};
 ghost use Rattle.edr_definitions.specs.Selection.{Bounds, Candidate, is_triggered, is_time_zero, is_end, chain, at_start, events};
-ghost use Rattle.edr_definitions.specs.Parts.{first_greatest, slot, pre_part, crash_part};
+ghost use Rattle.edr_definitions.specs.Parts.{first_greatest, kmh_of, slot, pre_part, crash_part};
 ghost use Rattle.edr_definitions.specs.Commands.{place_of, places, last_placed, all_issues, issues, commands, InOrder, is_locking};
 ghost use Rattle.edr_definitions.specs.Facts.{Reaches, IsTriggered, IsTimeZero, IsEnd, IsCandidate, IsChain, AreEventsAfter, IsFirstGreatest, IsLatestSample, HasNoSample, IsInBounds, AgreeUpTo};
 ghost use Rattle.edr_definitions.specs.Search.{Search, Searching, Open, next_search, StandsFor, open_candidates};
@@ -66,6 +66,12 @@ pub fn a_slot_is_the_latest_sample()
     ensures present { (xs : List Item) (t : ℕ) (v : ℤ) → IsRising xs → (slot xs t ≡ Some v) ↔ IsLatestSample xs t v }
     ensures absent { (xs : List Item) (t : ℕ) → (slot xs t ≡ None) ↔ HasNoSample xs t }
     ensures before { (s : Sensor) (xs : List Item) → IsFeed s xs → slot xs 0 ≡ None }
+{}
+
+/// n steps are k km/h exactly where they lie from half a km/h below to less than half a km/h above, and likewise below zero.
+pub fn whole_kmh_are_half_away_from_zero()
+    ensures nearest { (n k : ℕ) → (kmh_of (pos n) ≡ pos k) ↔ ((10_000 * k ≤ n + 5_000) × (n < 10_000 * k + 5_000)) }
+    ensures mirrored { (z : ℤ) → kmh_of (neg_ℤ z) ≡ neg_ℤ (kmh_of z) }
 {}
 
 /// The parts of an event of feeds have their fields in their bounds.
