@@ -1,17 +1,12 @@
 -- Lists that are told apart by one byte.
-use Rattle.std.proofs.Common.{arith, ◌≡◌, ◌≢◌, ◌∙◌, ap, refl, ℕ, zero, suc, ◌<◌, Bool, true, false, ◌&&◌, List, [], ◌∷◌, ◌++◌, length, get_or, take}
+use Rattle.std.proofs.Common.{◌≡◌, ◌≢◌, ◌∙◌, ap, refl, ℕ, Bool, true, false, ◌&&◌, List, [], ◌∷◌, ◌++◌}
 use Rattle.std.specs.List.{list_all}
 use Rattle.edr_cli.specs.Steps.{Lacks}
 
+-- one list behind another
 pub Lacks-append : (byte : ℕ) (xs ys : List ℕ) → Lacks byte xs → Lacks byte ys → Lacks byte (xs ++ ys)
 Lacks-append byte [] ys p q = q
 Lacks-append byte (x ∷ xs) ys p q = (p.0, Lacks-append byte xs ys p.1 q)
-
--- the first bytes, if each of them is another one
-pub Lacks-take : (byte : ℕ) (xs : List ℕ) (n : ℕ) → ((k : ℕ) → k < n → k < length xs → get_or xs k 0 ≢ byte) → Lacks byte (take n xs)
-Lacks-take byte xs zero h = tt
-Lacks-take byte [] (suc n) h = tt
-Lacks-take byte (x ∷ xs) (suc n) h = (h 0 (omega arith) (omega arith), Lacks-take byte xs n (λ k p q. h (suc k) (omega arith) (omega arith)))
 
 -- bytes that pass a test that the byte doesn't pass
 pub Lacks-all : (test : ℕ → Bool) (byte : ℕ) (xs : List ℕ) → test byte ≡ false → list_all test xs ≡ true → Lacks byte xs

@@ -1,5 +1,6 @@
 pub mod ByteLemmas
 pub mod RowLemmas
+pub mod ItemLemmas
 pub mod TraceLemmas
 pub mod WordLemmas
 pub mod RunLemmas

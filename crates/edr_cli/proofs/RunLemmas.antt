@@ -10,7 +10,6 @@ use Rattle.edr_cli.specs.declared.runs.TheConstants.{LONGEST_TRACE}
 use Rattle.edr_cli.specs.declared.reader.ReadRefused.{ReadRefused}
 use Rattle.edr_cli.specs.declared.reader.ReadRefused.TheVariants as refused
 use Rattle.edr_cli.specs.Trace.{Spells}
-use Rattle.edr_cli.specs.declared.status.Status.{Status}
 use Rattle.edr_cli.specs.declared.status.Status.TheVariants as status
 use Rattle.edr_cli.specs.declared.faults.Fault.{Fault}
 use Rattle.edr_cli.specs.declared.faults.Fault.TheVariants as fault

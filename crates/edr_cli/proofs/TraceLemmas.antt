@@ -12,12 +12,14 @@ use Rattle.edr_cli.specs.Rows.{row_line}
 use Rattle.edr_cli.specs.Trace.{first_line, last_line, IsNext, with_row, Give, Spells}
 use Rattle.edr_cli.specs.Steps.{Lacks, SplitsAt, AddsLine, SpellsRows}
 use Rattle.edr_cli.proofs.ByteLemmas.{split_once, Lacks-split}
-use Rattle.edr_cli.proofs.RowLemmas.{row_text, row_line-text, Lacks-row_text, row_text-one, row_line-one, none-text}
+use Rattle.edr_cli.proofs.RowLemmas.{row_text, row_line-text, Lacks-row_text, row_text-one, row_line-one}
+use Rattle.edr_cli.proofs.ItemLemmas.{none-text}
 
 -- the lines of rows, from the first line feed on
 lines-cons : (row : Row) (rows : List Row) → flat_map row_line (row ∷ rows) ≡ row_text row ++ 10 ∷ flat_map row_line rows
 lines-cons row rows = rw (row_line-text row) (append_assoc (row_text row) (10 ∷ []) (flat_map row_line rows))
 
+-- a list that has a byte
 some-bytes : (xs ys : List ℕ) (b : ℕ) → [] ≡ xs ++ b ∷ ys → ⊥
 some-bytes [] ys b e = cc
 some-bytes (x ∷ xs) ys b e = cc
@@ -40,6 +42,7 @@ Give-one f g h (row ∷ rows) p q = Give-one (with_row row f) g h rows p.1 q.1
 between-one : (xs ys : List ℕ) → first_line ++ xs ++ last_line ≡ first_line ++ ys ++ last_line → xs ≡ ys
 between-one xs ys e = append_cancel_left first_line xs ys (append_cancel_right (first_line ++ xs) (first_line ++ ys) last_line e)
 
+-- what a text spells is one
 pub Spells-one : (bytes : List ℕ) (f g : SensorLists) → Spells bytes f → Spells bytes g → f ≡ g
 Spells-one bytes f g p q =
     let rows = lines-one p.rows q.rows (between-one _ _ (sym p.text ∙ q.text)) in
@@ -49,6 +52,7 @@ Spells-one bytes f g p q =
 pub Spells-between : (bytes lines : List ℕ) (f : SensorLists) → bytes ≡ first_line ++ lines ++ last_line → SpellsRows no_items lines f → Spells bytes f
 Spells-between bytes lines f e p = record { rows = p.rows; text = e ∙ ap (λ (ls : List ℕ). first_line ++ ls ++ last_line) p.text; given = p.given }
 
+-- and the other way
 pub between-Spells : (bytes lines : List ℕ) (f : SensorLists) → bytes ≡ first_line ++ lines ++ last_line → Spells bytes f → SpellsRows no_items lines f
 between-Spells bytes lines f e p = record { rows = p.rows; text = between-one lines (flat_map row_line p.rows) (sym e ∙ p.text); given = p.given }
 

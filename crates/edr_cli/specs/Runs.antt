@@ -6,9 +6,6 @@ use Rattle.edr_definitions.specs.Signals.{signals_of}
 use Rattle.edr_definitions.specs.Selection.{events}
 use Rattle.edr_detect.specs.Selected.{answer_of}
 use Rattle.edr_device.specs.Faults.{Rose}
-use Rattle.edr_device.specs.Told.{Told}
-use Rattle.edr_device.specs.Stream.{Appends}
-use Rattle.edr_device.specs.Transfer.{AppendsPart}
 use Rattle.edr_cli.specs.declared.runs.TheConstants.{LONGEST_TRACE}
 use Rattle.edr_cli.specs.declared.faults.Fault.{Fault}
 use Rattle.edr_cli.specs.declared.faults.Fault.TheVariants as fault

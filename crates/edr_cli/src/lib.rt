@@ -16,4 +16,6 @@ pub use status::Status;
 pub use words::Words;
 
 #[cfg(test)]
+mod command_tests;
+#[cfg(test)]
 mod tests;

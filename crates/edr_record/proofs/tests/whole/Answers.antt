@@ -1,4 +1,4 @@
-use Rattle.std.proofs.Common.{arith, refl, ℤ, pos, None}
+use Rattle.std.proofs.Common.{arith, refl, pos, None}
 use Rattle.std.specs.Prelude.{replicate}
 use Rattle.std.proofs.lemmas.List.Elements.{All-replicate}
 use Rattle.edr_record.specs.Bounds.{IsUpTo, IsChange, ArePoints, IsExtreme}
