@@ -15,7 +15,10 @@ pub struct Counted<T> {
 }
 
 impl<T> Counted<T> {
-    pub fn new(stream: T) -> Counted<T> {
+    /// No fault is counted yet.
+    pub fn new(stream: T) -> Counted<T>
+        ensures { result.faults ≡ 0 }
+    {
         Counted { stream, faults: 0 }
     }
 

@@ -174,3 +174,82 @@ fn a_sink_that_fails_at_any_call_holds_a_prefix(rt: HostRuntime) -> Result<(), F
     }
     Ok(())
 }
+
+// The samples of one sensor over a stretch of ticks.
+#[derive(Clone, Copy)]
+struct Stretch {
+    first: u32,
+    last: u32,
+    value: i32,
+}
+
+fn value_at(stretches: &[Stretch], t: u32) -> i32 {
+    for s in stretches {
+        if s.first <= t && t <= s.last {
+            return s.value;
+        }
+    }
+    0
+}
+
+// Both axes at each tick up to the last, 0 outside the stretches, and a silent restraint row each second and at
+// the end.
+fn cycle(alloc: Global, last: u32, along: &[Stretch]) -> Result<String, AllocError> {
+    let mut trace = String::from_str(alloc, "on,0,\n")?;
+    for t in 1..=last {
+        let value = value_at(along, t);
+        write!(trace, "along,{t},{value}\nacross,{t},0\n")?;
+        if t % 1000 == 0 || t == last {
+            write!(trace, "restraint,{t},\n")?;
+        }
+    }
+    trace.push_str("cut,0,\n")?;
+    Ok(trace)
+}
+
+#[test]
+fn the_worked_crashes_give_their_lines(rt: HostRuntime) -> Result<(), Fail> {
+    let blow = [Stretch {
+        first: 6001,
+        last: 6100,
+        value: -4000,
+    }];
+    let tie = cycle(rt.alloc(), 7000, &blow)?;
+    let text = b"time zero: 6003 ms\nconfirmation: 6020 ms\nend: 6118 ms\nclose: 6148 ms\n";
+    check_run(
+        &rt,
+        &["replay"],
+        whole(tie.as_bytes()),
+        expect(Status::Ok, text),
+    )?;
+
+    let cut_short = cycle(rt.alloc(), 6100, &blow)?;
+    let text = b"time zero: 6003 ms\nconfirmation: 6020 ms\nend: none\nclose: none\n";
+    check_run(
+        &rt,
+        &["replay"],
+        whole(cut_short.as_bytes()),
+        expect(Status::Ok, text),
+    )?;
+
+    let pulses = [
+        Stretch {
+            first: 6001,
+            last: 6010,
+            value: 5000,
+        },
+        Stretch {
+            first: 6071,
+            last: 6080,
+            value: 5000,
+        },
+    ];
+    let reaches_back = cycle(rt.alloc(), 7000, &pulses)?;
+    let text = b"time zero: 6072 ms\nconfirmation: 6076 ms\nend: 6099 ms\nclose: 6129 ms\n";
+    check_run(
+        &rt,
+        &["replay"],
+        whole(reaches_back.as_bytes()),
+        expect(Status::Ok, text),
+    )
+}
