@@ -48,6 +48,7 @@ pub fn command<S: Source, K: Sink>(
 
     // Other words are a fault of usage, and nothing is read.
     ensures usage { ¬ AreReplay words.now → (result ≡ Status.Usage) ⊎ (result ≡ Status.WriteFault) }
+    ensures unread { ¬ AreReplay words.now → source.new ≡ source.old }
 
     // Where neither the source nor the sink counts a fault, a trace is replayed and other bytes are refused, unless
     // memory runs out.
@@ -67,6 +68,7 @@ fn run<S: Source>(alloc: Global, words: &Words, source: &mut S) -> Result<Vec<u8
     ensures end { OnOk result (IsAtEnd (S.left source.new)) }
     ensures text { IfOk result (λ text. AreReplay words.now × HasText (S.left source.old) text.items) }
     ensures cause { IfErr result (IsCause words.now (S.left source.old) (S.faults source.old) (S.faults source.new)) }
+    ensures unread { ¬ AreReplay words.now → source.new ≡ source.old }
 {
     if !words.are_replay() {
         return Err(Fault::Usage);
