@@ -29,5 +29,6 @@ pub mod BoundLaws
 pub mod SearchLaws
 pub mod StandingLaws
 pub mod TickChangeLaws
+pub mod ToldLaws
 pub mod TestLaws
 pub mod UniqueLaws

@@ -15,7 +15,7 @@ ghost use Rattle.edr_definitions.specs.Parts.{first_greatest, kmh_of, slot, pre_
 ghost use Rattle.edr_definitions.specs.Commands.{place_of, places, last_placed, all_issues, issues, commands, InOrder, is_locking};
 ghost use Rattle.edr_definitions.specs.Facts.{Reaches, IsTriggered, IsTimeZero, IsEnd, IsCandidate, IsChain, AreEventsAfter, IsFirstGreatest, IsLatestSample, HasNoSample, IsInBounds, AgreeUpTo};
 ghost use Rattle.edr_definitions.specs.Search.{Search, Searching, Open, next_search, StandsFor, open_candidates};
-ghost use Rattle.edr_definitions.specs.Change.{tick_change, stepped_change};
+ghost use Rattle.edr_definitions.specs.Change.{change_of_list, tick_change, stepped_change};
 
 /// What is found is the least tick that passes the test, and nothing is found where none passes.
 pub fn first_tick_is_least()
@@ -130,6 +130,11 @@ pub fn a_search_tells_the_chain()
 pub fn a_change_follows_from_the_phase()
     ensures stands { (m : Signals) (t : ℕ) (s : Search) → StandsFor m t s → StandsFor m (t + 1) (next_search m (t + 1) s) }
     ensures change { (m : Signals) (t : ℕ) (s : Search) (ends : Bool) → StandsFor m t s → ((z : ℕ) (c l : Option ℕ) → s.phase ≡ Open z c l None → ends ≡ is_end m z (t + 1)) → tick_change m (t + 1) ≡ stepped_change (t + 1) (is_time_zero m s.bounds (t + 1)) (is_triggered m s.bounds.since (t + 1)) (is_locking m (t + 1)) ends s.phase }
+{}
+
+/// What stands at a tick is known there: of the chain up to any later tick the same stands at it.
+pub fn each_tick_is_told_as_it_comes()
+    ensures { (m : Signals) (t w : ℕ) → t ≤ w → tick_change m t ≡ change_of_list m t (chain m w) }
 {}
 
 /// A tick without a sample counts as a sample of 0.
