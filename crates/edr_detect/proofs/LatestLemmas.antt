@@ -48,7 +48,7 @@ module _ (values : List ℤ) (sum : ℤ) (h : IsSumOfSmall values sum) where
       }
     where
       cases_eq : (j i : ℕ) → (j ≡ i) ⊎ (j ≡ i → ⊥)
-      cases_eq j i = elim (cases_lt j i) [ | inl less ↦ inr (λ e. omega arith) | inr more ↦ elim (cases_lt i j) [ | inl over ↦ inr (λ e. omega arith) | inr same ↦ inl (omega arith) ] ]
+      cases_eq j i = elim (cases_lt j i) [ inl less ↦ inr (λ e. omega arith) | inr more ↦ elim (cases_lt i j) [ inl over ↦ inr (λ e. omega arith) | inr same ↦ inl (omega arith) ] ]
 
       at : (j : ℕ) → j < 20 → (j ≡ i) ⊎ (j ≡ i → ⊥) → unsigned_abs (get_or (set values i v) j (pos 0)) ≤ 100_000
       at j ltj (inl e) = let s = get_or-set_same values i v (pos 0) (let long = h.long in omega arith) in let t = ap unsigned_abs (ap (λ k. get_or (set values i v) k (pos 0)) e ∙ s) in omega (arith, t, small)

@@ -151,8 +151,8 @@ module _ (rows : List Row) (r : Row) (d e : DetectState) (u : ℕ) (a : Tests) (
       let past : b.after ≤ t = h.search_is.past in
       let old : WindowsStandFor n b t d.windows = windows-agree (signals_of_rows rows) n b t d.windows agree h.windows_are in
       let here : WindowsStandFor n b u pushed = push n b t now past h.since_past (rows-begin all)
-        (ap (λ (o : Option Row). unwrap_or (option_map (λ (x : Row). x.along) o) (pos 0)) row)
-        (ap (λ (o : Option Row). unwrap_or (option_map (λ (x : Row). x.across) o) (pos 0)) row) old in
+      (ap (λ (o : Option Row). unwrap_or (option_map (λ (x : Row). x.along) o) (pos 0)) row)
+      (ap (λ (o : Option Row). unwrap_or (option_map (λ (x : Row). x.across) o) (pos 0)) row) old in
       let are : TestsAre n b d.stage u a = tests n b here (omega arith) (ap (λ (o : Option Row). option_map_or (λ (x : Row). x.fired.0) o 0) row) in
       let before : StandsFor n t s = StandsFor-agree t (signals_of_rows rows) n s agree h.search_is in
       let after : StandsFor n u (next_search n u s) = subst (λ (k : ℕ). StandsFor n k (next_search n k s)) (sym now) (StandsFor-next n t s before) in
@@ -160,22 +160,21 @@ module _ (rows : List Row) (r : Row) (d e : DetectState) (u : ℕ) (a : Tests) (
       let closed : ans.closed ≡ (stepped_change u a.zero a.trigger a.locks a.ends p).closed = ap (λ (c : Change). c.closed) told in
       let dropped : ans.dropped ≡ (stepped_change u a.zero a.trigger a.locks a.ends p).dropped = ap (λ (c : Change). c.dropped) told in
       let left : bounds_past u ans b ≡ (stepped u a b p).bounds =
-        ap (λ (v : Bool). bounds_at u v ans.dropped b) closed
-        ∙ ap (λ (v : Bool). bounds_at u (stepped_change u a.zero a.trigger a.locks a.ends p).closed v b) dropped
-        ∙ sym (leaving n t u b p a before.phase_is) in
+      ap (λ (v : Bool). bounds_at u v ans.dropped b) closed
+      ∙ ap (λ (v : Bool). bounds_at u (stepped_change u a.zero a.trigger a.locks a.ends p).closed v b) dropped
+      ∙ sym (leaving n t u b p a before.phase_is) in
       let reached : ◌≡◌ {A = Search} (record { bounds = bounds_past u ans b; phase = phase_of e.stage }) (next_search n u s) =
-        search_is (stepped u a b p) (bounds_past u ans b) (phase_of e.stage) left (next b) ∙ one in
+      search_is (stepped u a b p) (bounds_past u ans b) (phase_of e.stage) left (next b) ∙ one in
       let stands : StandsFor n u (record { bounds = bounds_past u ans b; phase = phase_of e.stage }) = subst (λ (x : Search). StandsFor n u x) (sym reached) after in
       let answer : tick_change n u ≡ stepped_change u (is_time_zero n b u) (is_triggered n b.since u) (is_locking n u) a.ends p =
-        subst (λ (k : ℕ). ((z : ℕ) (c l : Option ℕ) → p ≡ Open z c l None → a.ends ≡ is_end n z k) → tick_change n k ≡ stepped_change k (is_time_zero n b k) (is_triggered n b.since k) (is_locking n k) a.ends p) (sym now)
-        (tick_change-is n t s a.ends before) (λ z c l is. are.ends z c l (stage_is d.stage z c l is)) in
+      subst (λ (k : ℕ). ((z : ℕ) (c l : Option ℕ) → p ≡ Open z c l None → a.ends ≡ is_end n z k) → tick_change n k ≡ stepped_change k (is_time_zero n b k) (is_triggered n b.since k) (is_locking n k) a.ends p) (sym now)
+      (tick_change-is n t s a.ends before) (λ z c l is. are.ends z c l (stage_is d.stage z c l is)) in
       let same : stepped_change u a.zero a.trigger a.locks a.ends p ≡ stepped_change u (is_time_zero n b u) (is_triggered n b.since u) (is_locking n u) a.ends p =
-        ap (λ (v : Bool). stepped_change u v a.trigger a.locks a.ends p) are.zero
-        ∙ ap (λ (v : Bool). stepped_change u (is_time_zero n b u) v a.locks a.ends p) are.trigger
-        ∙ ap (λ (v : Bool). stepped_change u (is_time_zero n b u) (is_triggered n b.since u) v a.ends p) are.locks in
+      ap (λ (v : Bool). stepped_change u v a.trigger a.locks a.ends p) are.zero
+      ∙ ap (λ (v : Bool). stepped_change u (is_time_zero n b u) v a.locks a.ends p) are.trigger
+      ∙ ap (λ (v : Bool). stepped_change u (is_time_zero n b u) (is_triggered n b.since u) v a.ends p) are.locks in
       let windows : WindowsStandFor n (bounds_past u ans b) u e.windows = restart n b u here in
-      let since : (bounds_past u ans b).since ≤ u = since_past u ans.closed ans.dropped b (let k = h.since_past in omega arith) in
-      (
+      let since : (bounds_past u ans b).since ≤ u = since_past u ans.closed ans.dropped b (let k = h.since_past in omega arith) in (
         record {
           tick_is = tick_is ∙ len;
           bounds = bounds_past u ans b;

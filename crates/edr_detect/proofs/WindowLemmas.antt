@@ -30,6 +30,6 @@ swing-begun k axis t s h = subst (λ xs. SwingStandsFor k s xs) (sym (changes-no
 pub swing-more : (k : ℕ) (axis : ℕ → Option ℤ) (from before t : ℕ) (v : ℤ) (s r : SwingState) → t ≡ before + 1 → from ≤ before → change_at axis t ≡ v → ((values : List ℤ) → SwingStandsFor k s values → SwingStandsFor k r (values ++ v ∷ [])) → SwingStandsFor k s (changes axis from before) → SwingStandsFor k r (changes axis from t)
 swing-more k axis from before t v s r next past now push h =
     let e : changes axis from (before + 1) ≡ changes axis from before ++ v ∷ [] =
-      changes-push axis from before past ∙ ap (λ (x : ℤ). changes axis from before ++ x ∷ []) (ap (change_at axis) (sym next) ∙ now) in
+    changes-push axis from before past ∙ ap (λ (x : ℤ). changes axis from before ++ x ∷ []) (ap (change_at axis) (sym next) ∙ now) in
     let there : SwingStandsFor k r (changes axis from (before + 1)) = subst (λ xs. SwingStandsFor k r xs) (sym e) (push (changes axis from before) h) in
     subst (λ (u : ℕ). SwingStandsFor k r (changes axis from u)) (sym next) there

@@ -18,10 +18,10 @@ returns c =
     let across_fits : FitsSigned w32 c.args.across = search rules in
     let push = simp (to_z-of_z w32 c.args.along along_fits, to_z-of_z w32 c.args.across across_fits) at c.push.ensures.stands in
     let both : (rows : List Row) → DetectStandsFor c.args.self.now rows → DetectStandsFor after (rows ++ r ∷ []) × (told_of c.change_at-change.result ≡ tick_change (signals_of_rows (rows ++ r ∷ [])) (length rows + 1)) =
-      λ rows h. tick-stands rows r (record { tick = c.self.inside.tick; stage = c.self.inside.stage; windows = c.self.inside.windows }) after
-      (c.self.inside.tick + 1) c.tests-tests.result c.change_at-change.result c.push.new.self
-      (subst (λ (d : DetectState). DetectStandsFor d rows) (sym c.self.view_is) h) refl refl
-      push c.tests-tests.ensures c.next-self-inside.ensures c.change_at-change.ensures c.restart.ensures.stands in
+    λ rows h. tick-stands rows r (record { tick = c.self.inside.tick; stage = c.self.inside.stage; windows = c.self.inside.windows }) after
+    (c.self.inside.tick + 1) c.tests-tests.result c.change_at-change.result c.push.new.self
+    (subst (λ (d : DetectState). DetectStandsFor d rows) (sym c.self.view_is) h) refl refl
+    push c.tests-tests.ensures c.next-self-inside.ensures c.change_at-change.ensures c.restart.ensures.stands in
     record {
       stands = λ rows h. (both rows h).0;
       answer = λ rows h. (both rows h).1;

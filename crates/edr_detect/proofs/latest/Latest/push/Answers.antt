@@ -41,7 +41,7 @@ invariant_of-self c =
     let fits_less : FitsSigned w32 (sum -ℤ old) = small-fits (sum -ℤ old) (omega (arith, ints, whole, one)) (omega (arith, ints, whole, one)) in
     let fits_more : FitsSigned w32 (sum -ℤ old +ℤ c.args.change) = small-fits (sum -ℤ old +ℤ c.args.change) (omega (arith, ints, whole, one, small)) (omega (arith, ints, whole, one, small)) in
     rw (to_z-of_z w32 sum fits_sum, to_z-of_z w32 old fits_old, to_z-of_z w32 (sum -ℤ old) fits_less, to_z-of_z w32 c.args.change fits_change, to_z-of_z w32 (sum -ℤ old +ℤ c.args.change) fits_more) (record {
-      sum_is = latest-put c.args.self.now.values sum c.args.self.now.sum_is (c.args.t % 20) c.args.change (sum -ℤ old +ℤ c.args.change) (omega arith) small refl
+      sum_is = latest-put c.args.self.now.values sum c.args.self.now.sum_is (c.args.t % 20) c.args.change (sum -ℤ old +ℤ c.args.change) (omega arith) small refl;
     })
 
 pub returns : goal.returns
