@@ -1,14 +1,14 @@
 -- What stands at a tick of the chain up to there is what stands at it of the whole chain.
-use Rattle.std.proofs.Common.{arith, refl, ap, sym, subst, ◌≡◌, ◌∙◌, ℕ, ◌+◌, ◌<◌, ◌≤◌, inl, inr, Bool, true, false, ◌&&◌, ◌||◌, nat_eq, Some, None, Option, MatchOption, List, [], ◌∷◌}
+use Rattle.std.proofs.Common.{arith, refl, ap, sym, subst, ◌≡◌, ◌∙◌, ℕ, ◌+◌, ◌<◌, ◌≤◌, inl, inr, Bool, false, ◌||◌, nat_eq, Some, None, Option, List, [], ◌∷◌}
 use Rattle.std.specs.Prelude.{is_some, is_none}
 use Rattle.std.specs.List.{list_any}
 use Rattle.std.proofs.lemmas.Bool.{cases_lt}
-use Rattle.edr_definitions.specs.Ticks.{first_tick, IsFirst, HoldsNowhere}
+use Rattle.edr_definitions.specs.Ticks.{first_tick}
 use Rattle.edr_definitions.specs.Signals.{Signals}
 use Rattle.edr_definitions.specs.Selection.{Bounds, is_time_zero, Candidate, bounds_after, close_of, chain, at_start}
 use Rattle.edr_definitions.specs.Commands.{is_locking}
 use Rattle.edr_definitions.specs.Facts.{IsCandidate, IsChain}
-use Rattle.edr_definitions.specs.Change.{Change, is_at, begins_at, is_confirmed_at, is_locked_at, ends_at, drops_at, closes_at, change_of_list, tick_change}
+use Rattle.edr_definitions.specs.Change.{is_at, begins_at, is_confirmed_at, is_locked_at, ends_at, drops_at, closes_at, change_of_list, tick_change}
 use Rattle.edr_definitions.proofs.TickLaws.{HoldsNowhere-no_first, first_tick-some}
 use Rattle.edr_definitions.proofs.SelectionLaws.{chain-is_chain}
 use Rattle.edr_definitions.proofs.ChainLaws.{IsCandidate-unique}
@@ -35,8 +35,8 @@ module _ (m : Signals) (t : ℕ) (from : Bounds) (c : Candidate) (is : IsCandida
   late_locked : is_locked_at m t c ≡ false
   late_locked = and_false (is_some c.confirmed) (is_at (first_tick (is_locking m) c.zero_tick (close_of c.zero_tick c.end_tick + 1)) t)
       (is_at-later (first_tick (is_locking m) c.zero_tick (close_of c.zero_tick c.end_tick + 1)) t (λ u e.
-        let found = first_tick-some (is_locking m) c.zero_tick (close_of c.zero_tick c.end_tick + 1) u e in
-        let order = found.0.from in omega arith))
+      let found = first_tick-some (is_locking m) c.zero_tick (close_of c.zero_tick c.end_tick + 1) u e in
+      let order = found.0.from in omega arith))
 
   late_end : nat_eq c.end_tick t ≡ false
   late_end = let order = is.end_is.from in later c.end_tick t (omega arith)

@@ -1,4 +1,4 @@
-use Rattle.std.proofs.Common.{arith, refl, ap, sym, subst, ◌∙◌, ◌≡◌, ◌+◌, ◌%◌, ℕ, ℤ, pos, get_or, set, w32, ◌+ℤ◌, ◌-ℤ◌}
+use Rattle.std.proofs.Common.{arith, refl, ap, sym, subst, ◌∙◌, ◌≡◌, ◌+◌, ◌%◌, ℕ, pos, get_or, set, w32, ◌+ℤ◌, ◌-ℤ◌}
 use Rattle.std.proofs.lemmas.Int.{to_z-of_z}
 use Rattle.edr_definitions.specs.Windows.{change_at}
 use Rattle.edr_detect.specs.Latest.{LatestStandsFor}
