@@ -5,6 +5,7 @@ mod VectorsChain
 mod VectorsParts
 mod VectorsCommands
 mod VectorsChange
+mod VectorsSchedule
 pub mod TickLaws
 pub mod WindowLaws
 pub mod SelectionLaws
@@ -31,3 +32,5 @@ pub mod StandingLaws
 pub mod TickChangeLaws
 pub mod TestLaws
 pub mod UniqueLaws
+pub mod MarkLaws
+pub mod ScheduleLaws

@@ -7,3 +7,4 @@ pub mod Commands
 pub mod Facts
 pub mod Search
 pub mod Change
+pub mod Schedule
