@@ -58,28 +58,38 @@ fn rows_of(alloc: Global, order: &[u8]) -> Result<Vec<Next>, Fail> {
     Ok(rows)
 }
 
-// The sensor gives all its items.
-fn put_all(order: &mut Vec<u8>, sensor: u8) -> Result<(), OutOfMemory> {
-    for _ in 0..3 {
-        order.push(sensor)?;
-    }
-    Ok(())
-}
-
-// All sensors but one give their items in turns.
-fn put_turns(order: &mut Vec<u8>, without: u8) -> Result<(), OutOfMemory> {
-    for _ in 0..3 {
+// One sensor gives all its items before the others, which take turns, and another one all after them; 0 is none.
+fn order_of(alloc: Global, first: u8, last: u8) -> Result<Vec<u8>, OutOfMemory> {
+    let mut order = Vec::new(alloc);
+    for turn in 0..9 {
         for sensor in 1..9 {
-            if sensor != without {
+            let turns = if sensor == first {
+                0..3
+            } else if sensor == last {
+                6..9
+            } else {
+                3..6
+            };
+            if turns.contains(&turn) {
                 order.push(sensor)?;
             }
         }
     }
-    Ok(())
+    Ok(order)
 }
 
 #[test]
 fn any_interleaving_gives_the_same_rows(rt: HostRuntime) -> Result<(), Fail> {
+    let mut orders = Vec::new(rt.alloc());
+    for sensor in 1..9 {
+        orders.push(order_of(rt.alloc(), sensor, 0)?)?;
+        orders.push(order_of(rt.alloc(), 0, sensor)?)?;
+    }
+    orders.push(order_of(rt.alloc(), 0, 0)?)?;
+    let shuffled = [
+        5, 8, 2, 2, 7, 1, 3, 8, 6, 4, 4, 5, 1, 7, 3, 6, 2, 4, 8, 1, 6, 3, 7, 5,
+    ];
+    orders.push(Vec::from_array(rt.alloc(), shuffled)?)?;
     let expected = [
         row(1, Some(-4000), None, 0),
         row(2, None, None, 0),
@@ -88,27 +98,10 @@ fn any_interleaving_gives_the_same_rows(rt: HostRuntime) -> Result<(), Fail> {
         row(5, None, None, 0),
         row(6, None, Some(-1), 0),
     ];
-    for sensor in 1..9u8 {
-        let mut first = Vec::new(rt.alloc());
-        put_all(&mut first, sensor)?;
-        put_turns(&mut first, sensor)?;
-        let rows = rows_of(rt.alloc(), &first)?;
-        assert_eq!(rt; rows.as_slice(), expected.as_slice(), "{sensor} first");
-        let mut last = Vec::new(rt.alloc());
-        put_turns(&mut last, sensor)?;
-        put_all(&mut last, sensor)?;
-        let rows = rows_of(rt.alloc(), &last)?;
-        assert_eq!(rt; rows.as_slice(), expected.as_slice(), "{sensor} last");
+    for order in &orders {
+        let rows = rows_of(rt.alloc(), order)?;
+        assert_eq!(rt; rows.as_slice(), expected.as_slice(), "{order:?}");
     }
-    let mut turns = Vec::new(rt.alloc());
-    put_turns(&mut turns, 0)?;
-    let rows = rows_of(rt.alloc(), &turns)?;
-    assert_eq!(rt; rows.as_slice(), expected.as_slice(), "in turns");
-    let shuffled = [
-        5, 8, 2, 2, 7, 1, 3, 8, 6, 4, 4, 5, 1, 7, 3, 6, 2, 4, 8, 1, 6, 3, 7, 5,
-    ];
-    let rows = rows_of(rt.alloc(), &shuffled)?;
-    assert_eq!(rt; rows.as_slice(), expected.as_slice(), "shuffled");
     Ok(())
 }
 
