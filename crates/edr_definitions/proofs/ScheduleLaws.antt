@@ -1,5 +1,5 @@
--- A run is never stuck and never ahead, and the order of arrival is free.
-use Rattle.std.proofs.Common.{arith, refl, sym, ap, subst, ◌≡◌, ◌∙◌, ℕ, ◌+◌, ◌-◌, ◌<◌, ◌≤◌, ◌⊎◌, inl, inr, None, List, [], ◌∷◌, ◌++◌, append-nil, append_assoc}
+-- A run is never stuck and never ahead, the order of arrival is free, and what stands at a closed tick stays.
+use Rattle.std.proofs.Common.{ℤ, pos, Option, unwrap_or, unsigned_abs, arith, refl, sym, ap, subst, ◌≡◌, ◌∙◌, ℕ, ◌+◌, ◌-◌, ◌<◌, ◌≤◌, ◌⊎◌, inl, inr, None, List, [], ◌∷◌, ◌++◌, append-nil, append_assoc}
 use Rattle.std.proofs.lemmas.Bool.{cases_lt}
 use Rattle.edr_items.specs.declared.TheConstants.{LONGEST_GAP}
 use Rattle.edr_items.specs.declared.Sensor.{Sensor}
@@ -7,6 +7,10 @@ use Rattle.edr_items.specs.declared.Sensor.TheVariants.{Along, Across, Speed, Th
 use Rattle.edr_items.specs.declared.Item.{Item}
 use Rattle.edr_items.specs.Item.{refusal_of, mark_of, IsFeed}
 use Rattle.edr_items.specs.SensorLists.{SensorLists, items_of, AreFeeds, horizon_of, IsLevel}
+use Rattle.edr_items.proofs.FeedLemmas.{refusal_of-rises}
+use Rattle.edr_definitions.specs.Signals.{sample_at, signals_of}
+use Rattle.edr_definitions.specs.Facts.{AgreeUpTo}
+use Rattle.edr_definitions.proofs.LaterLaws.{sample_at-push}
 use Rattle.edr_definitions.specs.Schedule.{Progress, Step, Give, Close, with_item, MayGive, after_step, after_steps, given_by, items_given, BeginsWith, IsNext, IsUnderWay, GoesOn, IsOver}
 use Rattle.edr_definitions.proofs.MarkLaws.{with_items-each, mark-push, each_or_some, lists-same, AreFeeds-each, mark-more, feed-next, horizon-least, horizon-above, horizon-more, horizon-with_item}
 
@@ -127,3 +131,28 @@ module _ (f : SensorLists) (p : Progress) (feeds : AreFeeds f) (level : IsLevel 
       | inl lt ↦ inl lt
       | inr past ↦ let low = horizon-least p.given s in let h = on.within in inr (omega (arith, past, low, h))
     ]
+
+-- ---- what stands at a tick
+-- up to its mark a feed that goes on has the samples that it has
+sample_at-more : (s : Sensor) (xs ys : List Item) (u : ℕ) → IsFeed s (xs ++ ys) → u ≤ mark_of xs → sample_at xs u ≡ sample_at (xs ++ ys) u
+sample_at-more s xs [] u feed upto = ap (λ zs. sample_at zs u) (sym (append-nil xs))
+sample_at-more s xs (y ∷ ys) u feed upto =
+    let accepted = feed-next s 0 xs y ys feed in
+    let rises = refusal_of-rises s (mark_of xs) y accepted.0 in
+    let last = mark-push 0 xs y in
+    let longer : IsFeed s ((xs ++ y ∷ []) ++ ys) = subst (λ (zs : List Item). IsFeed s zs) (sym (append_assoc xs (y ∷ []) ys)) feed in
+    sample_at-push xs y u (omega (arith, rises, upto)) ∙ sample_at-more s (xs ++ y ∷ []) ys u longer (omega (arith, last, rises, upto)) ∙ ap (λ zs. sample_at zs u) (append_assoc xs (y ∷ []) ys)
+
+-- up to the horizon of what was given the signals are those of the feeds
+pub signals-under_way : (f : SensorLists) (p : Progress) (t : ℕ) → AreFeeds f → IsUnderWay f p → t ≤ horizon_of p.given → AgreeUpTo t (signals_of p.given) (signals_of f)
+signals-under_way f p t feeds on upto = record {
+  along = λ u h. same Along u h;
+  across = λ u h. same Across u h;
+  fired = λ u h. ap (λ (r : Option ℤ). unsigned_abs (unwrap_or r (pos 0))) (same Restraint u h);
+} where
+  same : (s : Sensor) (u : ℕ) → u ≤ t → sample_at (items_of s p.given) u ≡ sample_at (items_of s f) u
+  same s u h =
+      let low = horizon-least p.given s in
+      let begun = on.begun s in
+      sample_at-more s (items_of s p.given) begun.0 u (subst (λ (zs : List Item). IsFeed s zs) begun.1 (AreFeeds-each f feeds s)) (omega (arith, low, h, upto))
+      ∙ ap (λ zs. sample_at zs u) (sym begun.1)

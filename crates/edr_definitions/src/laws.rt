@@ -158,3 +158,8 @@ pub fn arrival_order_is_free()
     ensures lists { (p : Progress) (steps : List Step) (s : Sensor) → items_of s (after_steps p steps).given ≡ items_of s p.given ++ items_given s steps }
     ensures same { (p : Progress) (steps others : List Step) → ((s : Sensor) → items_given s steps ≡ items_given s others) → (after_steps p steps).given ≡ (after_steps p others).given }
 {}
+
+/// What stands at a tick that may be closed is what the whole feeds have there, however far they have been given.
+pub fn a_closed_tick_stands()
+    ensures { (f : SensorLists) (p : Progress) (t : ℕ) → AreFeeds f → IsUnderWay f p → t ≤ horizon_of p.given → AgreeUpTo t (signals_of p.given) (signals_of f) }
+{}

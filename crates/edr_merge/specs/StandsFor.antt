@@ -9,7 +9,7 @@ use Rattle.edr_merge.specs.Marks.{mark_in}
 use Rattle.edr_merge.specs.Samples.{waiting}
 use Rattle.edr_merge.specs.State.{MergeState}
 
--- the merge has the marks and the waiting samples of what was given, which are feeds that no closed tick is past and that are not far ahead of it
+-- the merge has come that far: it has the closed tick, the marks and the waiting samples. What was given are feeds that reach the closed tick and are at most a gap ahead of it
 pub record MergeStandsFor (m : MergeState) (p : Progress) : Type 0 where
   pub feeds : AreFeeds p.given
   pub within : p.closed ≤ horizon_of p.given

@@ -3,12 +3,12 @@ ghost use Rattle.std.specs.Prelude.{◌≡◌, [], IfOk};
 ghost use Rattle.edr_merge.specs.Samples.{kept, first_value, past_first};
 
 use circular_buffer::HeapCircularBuffer;
-use edr_items::Item;
+use edr_items::{Item, LONGEST_GAP};
 use std::alloc::{AllocError as OutOfMemory, Global};
 use std::marker::Model;
 
-// No item is more than 1000 ticks past the closed one, and no two have one moment: so there are at most 1000.
-pub const ROOM: usize = 1000;
+// No item is further past the closed tick than this, and no two have one moment: so no more wait.
+pub const ROOM: usize = LONGEST_GAP as usize;
 
 // The samples past the closed tick, the oldest first.
 #[derive(Drop)]
