@@ -8,21 +8,21 @@ use Rattle.edr_items.specs.declared.Sensor.{Sensor}
 use Rattle.edr_items.specs.declared.Sensor.TheVariants.{Along, Across, Speed, Throttle, Brake, Belt, Lamp, Restraint}
 use Rattle.edr_items.specs.declared.Item.{Item}
 use Rattle.edr_items.specs.declared.Restraints.{Restraints}
-use Rattle.edr_merge.specs.declared.Next.TheVariants.{Waiting, Row}
 use Rattle.edr_items.specs.Item.{refusal_of, mark_of, IsFeed}
-use Rattle.edr_items.specs.SensorLists.{no_items, AreFeeds, SensorLists, items_of, horizon_of, sensors}
+use Rattle.edr_items.specs.SensorLists.{no_items, SensorLists, items_of, sensors}
 use Rattle.edr_items.proofs.FeedLemmas.{refusal_of-rises, IsFeedAfter-push}
+use Rattle.edr_definitions.specs.Signals.{sample_at}
 use Rattle.edr_definitions.specs.Schedule.{Progress, Give, Close, IsAllowed, with_item, after_step}
 use Rattle.edr_definitions.proofs.MarkLaws.{with_items-each, AreFeeds-each, each-AreFeeds, mark-push, horizon-least, horizon-above, horizon-with_item}
+use Rattle.edr_merge.specs.declared.Next.TheVariants.{Waiting, Row}
 use Rattle.edr_merge.specs.declared.marks.Marks.{Marks}
 use Rattle.edr_merge.specs.declared.rings.Rings.{Rings}
-use Rattle.edr_merge.specs.Rings.{no_samples, with_kept}
-use Rattle.edr_definitions.specs.Signals.{sample_at}
 use Rattle.edr_merge.specs.Marks.{no_marks, mark_in, with_mark, is_marked_at, first_at}
 use Rattle.edr_merge.specs.Samples.{waiting, kept, first_value, past_first}
+use Rattle.edr_merge.specs.Rings.{no_samples, with_kept}
 use Rattle.edr_merge.specs.State.{MergeState}
 use Rattle.edr_merge.specs.Answers.{waited_for, row_at, next_of}
-use Rattle.edr_merge.specs.StandsFor.{MergeStandsFor}
+use Rattle.edr_merge.specs.StandsFor.{AreWaiting, MergeStandsFor}
 use Rattle.edr_merge.proofs.WaitingLemmas.{kept-waiting, tick-taken}
 
 -- the marks with the item's moment are those of the lists with the item
@@ -37,47 +37,39 @@ marks-with_item Lamp Lamp m x f h = sym (mark-push 0 f.lamp x)
 marks-with_item Restraint Restraint m x f h = sym (mark-push 0 f.restraint x)
 marks-with_item s r m x f h = h
 
--- what is kept of a sensor is what waits of its longer list
-kept-lane : (p : Progress) (s : Sensor) (x : Item) (ys : List Item) → AreFeeds p.given → p.closed ≤ horizon_of p.given → IsAllowed (Give s x) p → ys ≡ waiting p.closed (items_of s p.given) → kept x ys ≡ waiting p.closed (items_of s p.given ++ x ∷ [])
-kept-lane p s x ys feeds within allowed is =
-    let low = horizon-least p.given s in
-    let near = allowed.1 in
-    let rises = refusal_of-rises s (mark_of (items_of s p.given)) x allowed.0 in
-    let feed = IsFeedAfter-push s 0 (items_of s p.given) x (AreFeeds-each p.given feeds s) allowed.0 (omega (arith, low, within, near)) in
-    ap (kept x) is ∙ kept-waiting s p.closed (items_of s p.given) x feed (omega (arith, low, within, rises)) near
-
--- the rings wait for the same samples as the lists
-pub record AreWaiting (t : ℕ) (r : Rings) (f : SensorLists) : Type 0 where
-  pub along_is : r.along ≡ waiting t f.along
-  pub across_is : r.across ≡ waiting t f.across
-  pub restraint_is : r.restraint ≡ waiting t f.restraint
-
-rings-with_item : (m : MergeState) (p : Progress) (s : Sensor) (x : Item) → MergeStandsFor m p → IsAllowed (Give s x) p → AreWaiting p.closed (with_kept s x m.rings) (with_item s x p.given)
-rings-with_item m p Along x h allowed = record { along_is = kept-lane p Along x m.rings.along h.feeds h.within allowed h.along_is; across_is = h.across_is; restraint_is = h.restraint_is }
-rings-with_item m p Across x h allowed = record { along_is = h.along_is; across_is = kept-lane p Across x m.rings.across h.feeds h.within allowed h.across_is; restraint_is = h.restraint_is }
-rings-with_item m p Restraint x h allowed = record { along_is = h.along_is; across_is = h.across_is; restraint_is = kept-lane p Restraint x m.rings.restraint h.feeds h.within allowed h.restraint_is }
-rings-with_item m p s x h allowed = record { along_is = h.along_is; across_is = h.across_is; restraint_is = h.restraint_is }
-
--- a merge that takes an allowed item stands for the longer lists
-pub stands-given : (m : MergeState) (p : Progress) (s : Sensor) (x : Item) → MergeStandsFor m p → IsAllowed (Give s x) p → MergeStandsFor (record { closed = m.closed; marks = with_mark s x.moment m.marks; rings = with_kept s x m.rings }) (after_step p (Give s x))
-stands-given m p s x h allowed =
+-- the list with the item is a feed, since the item makes no gap
+feed-with_item : (m : MergeState) (p : Progress) (s : Sensor) (x : Item) → MergeStandsFor m p → IsAllowed (Give s x) p → IsFeed s (items_of s p.given ++ x ∷ [])
+feed-with_item m p s x h allowed =
     let low = horizon-least p.given s in
     let near = allowed.1 in
     let within = h.within in
-    let up = horizon-with_item s x p.given allowed.0 in
-    let last = mark-push 0 (items_of s p.given) x in
-    let feed = IsFeedAfter-push s 0 (items_of s p.given) x (AreFeeds-each p.given h.feeds s) allowed.0 (omega (arith, low, within, near)) in
-    let rings = rings-with_item m p s x h allowed in
-    record {
-      feeds = each-AreFeeds (with_item s x p.given) (with_items-each IsFeed s (items_of s p.given ++ x ∷ []) p.given feed (AreFeeds-each p.given h.feeds));
-      within = omega (arith, up, within);
-      near = with_items-each (λ r (xs : List Item). mark_of xs ≤ p.closed + LONGEST_GAP) s (items_of s p.given ++ x ∷ []) p.given (omega (arith, last, near)) h.near;
-      closed_is = h.closed_is;
-      marks_are = λ r. marks-with_item s r m.marks x p.given (h.marks_are r);
-      along_is = rings.along_is;
-      across_is = rings.across_is;
-      restraint_is = rings.restraint_is;
-    }
+    IsFeedAfter-push s 0 (items_of s p.given) x (AreFeeds-each p.given h.feeds s) allowed.0 (omega (arith, low, within, near))
+
+-- what is kept of a sensor is what waits of its list with the item
+kept-is : (m : MergeState) (p : Progress) (s : Sensor) (x : Item) (ys : List Item) → MergeStandsFor m p → IsAllowed (Give s x) p → ys ≡ waiting p.closed (items_of s p.given) → kept x ys ≡ waiting p.closed (items_of s p.given ++ x ∷ [])
+kept-is m p s x ys h allowed is =
+    let low = horizon-least p.given s in
+    let within = h.within in
+    let rises = refusal_of-rises s (mark_of (items_of s p.given)) x allowed.0 in
+    ap (kept x) is ∙ kept-waiting s p.closed (items_of s p.given) x (feed-with_item m p s x h allowed) (omega (arith, low, within, rises)) allowed.1
+
+waits-with_item : (m : MergeState) (p : Progress) (s : Sensor) (x : Item) → MergeStandsFor m p → IsAllowed (Give s x) p → AreWaiting p.closed (with_kept s x m.rings) (with_item s x p.given)
+waits-with_item m p Along x h allowed = record { along_is = kept-is m p Along x m.rings.along h allowed h.waits.along_is; across_is = h.waits.across_is; restraint_is = h.waits.restraint_is }
+waits-with_item m p Across x h allowed = record { along_is = h.waits.along_is; across_is = kept-is m p Across x m.rings.across h allowed h.waits.across_is; restraint_is = h.waits.restraint_is }
+waits-with_item m p Restraint x h allowed = record { along_is = h.waits.along_is; across_is = h.waits.across_is; restraint_is = kept-is m p Restraint x m.rings.restraint h allowed h.waits.restraint_is }
+waits-with_item m p s x h allowed = record { along_is = h.waits.along_is; across_is = h.waits.across_is; restraint_is = h.waits.restraint_is }
+
+-- a merge that takes an allowed item stands for the longer lists
+pub stands-given : (m : MergeState) (p : Progress) (s : Sensor) (x : Item) → MergeStandsFor m p → IsAllowed (Give s x) p → MergeStandsFor (record { closed = m.closed; marks = with_mark s x.moment m.marks; rings = with_kept s x m.rings }) (after_step p (Give s x))
+stands-given m p s x h allowed = record {
+  feeds = each-AreFeeds (with_item s x p.given) (with_items-each IsFeed s (items_of s p.given ++ x ∷ []) p.given (feed-with_item m p s x h allowed) (AreFeeds-each p.given h.feeds));
+  within = let up = horizon-with_item s x p.given allowed.0 in let within = h.within in omega (arith, up, within);
+  near = with_items-each (λ r (xs : List Item). mark_of xs ≤ p.closed + LONGEST_GAP) s (items_of s p.given ++ x ∷ []) p.given
+      (let last = mark-push 0 (items_of s p.given) x in let near = allowed.1 in omega (arith, last, near)) h.near;
+  closed_is = h.closed_is;
+  marks_are = λ r. marks-with_item s r m.marks x p.given (h.marks_are r);
+  waits = waits-with_item m p s x h allowed;
+}
 
 -- ---- a row
 -- the rings without the samples of the tick
@@ -93,9 +85,11 @@ stands-closed m p h allowed =
       near = λ r. let near = h.near r in omega (arith, near);
       closed_is = ap (λ n. n + 1) h.closed_is;
       marks_are = h.marks_are;
-      along_is = past Along m.rings.along h.along_is;
-      across_is = past Across m.rings.across h.across_is;
-      restraint_is = past Restraint m.rings.restraint h.restraint_is;
+      waits = record {
+        along_is = past Along m.rings.along h.waits.along_is;
+        across_is = past Across m.rings.across h.waits.across_is;
+        restraint_is = past Restraint m.rings.restraint h.waits.restraint_is;
+      };
     }
   where
     past : (s : Sensor) (xs : List Item) → xs ≡ waiting p.closed (items_of s p.given) → past_first (m.closed + 1) xs ≡ waiting (p.closed + 1) (items_of s p.given)
@@ -117,6 +111,7 @@ cond-none : (b : Bool) (s : Sensor) (o : Option Sensor) → cond b (Some s) o �
 cond-none true s o h = absurd (cc)
 cond-none false s o h = (refl, h)
 
+-- a test that finds none of the sensors fails at each
 none-found : (p : Sensor → Bool) → find p sensors ≡ None → (s : Sensor) → p s ≡ false
 none-found p h s =
     let a = cond-none (p Along) _ _ h in
@@ -155,9 +150,7 @@ stands-new m r is_m is_r = rw (is_m, is_r) (record {
   near = λ s. elim s as (λ r. mark_of (items_of r no_items) ≤ 0 + LONGEST_GAP) [ Along ↦ omega arith | Across ↦ omega arith | Speed ↦ omega arith | Throttle ↦ omega arith | Brake ↦ omega arith | Belt ↦ omega arith | Lamp ↦ omega arith | Restraint ↦ omega arith ];
   closed_is = refl;
   marks_are = λ s. elim s as (λ r. mark_in r no_marks ≡ mark_of (items_of r no_items)) [ Along ↦ refl | Across ↦ refl | Speed ↦ refl | Throttle ↦ refl | Brake ↦ refl | Belt ↦ refl | Lamp ↦ refl | Restraint ↦ refl ];
-  along_is = refl;
-  across_is = refl;
-  restraint_is = refl;
+  waits = record { along_is = refl; across_is = refl; restraint_is = refl };
 })
 
 -- a merge that accepted an item
@@ -174,6 +167,7 @@ answer-waiting v m p s view h found =
     let on : MergeStandsFor m p = subst (λ (w : MergeState). MergeStandsFor w p) (sym view) h in
     ap (λ o. option_map_or Waiting o (row_at p (p.closed + 1))) (sym found ∙ first_at-is m p on)
 
+-- then no tick may be closed
 pub waiting-not_allowed : (v m : MergeState) (p : Progress) (s : Sensor) → m ≡ v → MergeStandsFor v p → first_at m.marks m.closed ≡ Some s → IsAllowed Close p → ⊥
 unfolding first_at
 waiting-not_allowed v m p s view h found allowed =
@@ -187,6 +181,7 @@ module _ (v m : MergeState) (p : Progress) (view : m ≡ v) (h : MergeStandsFor 
   on : MergeStandsFor m p
   on = subst (λ (w : MergeState). MergeStandsFor w p) (sym view) h
 
+  -- where no sensor is waited for, the next tick may be closed
   pub row-allowed : IsAllowed Close p
   row-allowed =
       let e = on.closed_is in
@@ -198,10 +193,11 @@ module _ (v m : MergeState) (p : Progress) (view : m ≡ v) (h : MergeStandsFor 
   pub stands-next : (r : Rings) → r ≡ past_tick (m.closed + 1) m.rings → MergeStandsFor (record { closed = m.closed + 1; marks = m.marks; rings = r }) (after_step p Close)
   stands-next r is_r = rw is_r (stands-closed m p on row-allowed)
 
+  -- and its row is that of the lists
   pub answer-row : (along across : Option ℤ) (fired : Option ℤ) (bits : Restraints) → along ≡ first_value (m.closed + 1) m.rings.along → across ≡ first_value (m.closed + 1) m.rings.across → fired ≡ first_value (m.closed + 1) m.rings.restraint → bits ≡ record { 0 = unsigned_abs (unwrap_or fired (pos 0)) } → Row (m.closed + 1) along across bits ≡ next_of p
   answer-row along across fired bits is_along is_across is_fired is_bits =
-      let a = is_along ∙ sample-taken m p on Along m.rings.along on.along_is in
-      let b = is_across ∙ sample-taken m p on Across m.rings.across on.across_is in
-      let c = is_fired ∙ sample-taken m p on Restraint m.rings.restraint on.restraint_is in
+      let a = is_along ∙ sample-taken m p on Along m.rings.along on.waits.along_is in
+      let b = is_across ∙ sample-taken m p on Across m.rings.across on.waits.across_is in
+      let c = is_fired ∙ sample-taken m p on Restraint m.rings.restraint on.waits.restraint_is in
       (λ i. Row (on.closed_is i + 1) (a i) (b i) ((is_bits ∙ ap (λ (o : Option ℤ). record { 0 = unsigned_abs (unwrap_or o (pos 0)) }) c) i))
       ∙ ap (λ o. option_map_or Waiting o (row_at p (p.closed + 1))) (sym none ∙ first_at-is m p on)
