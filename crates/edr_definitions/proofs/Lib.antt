@@ -31,3 +31,5 @@ pub mod StandingLaws
 pub mod TickChangeLaws
 pub mod TestLaws
 pub mod UniqueLaws
+pub mod CrashLaws
+pub mod RingLaws

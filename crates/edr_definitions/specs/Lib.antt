@@ -7,3 +7,5 @@ pub mod Commands
 pub mod Facts
 pub mod Search
 pub mod Change
+pub mod OpenCrash
+pub mod Rings
