@@ -5,6 +5,7 @@ mod VectorsChain
 mod VectorsParts
 mod VectorsCommands
 mod VectorsChange
+mod VectorsSchedule
 pub mod TickLaws
 pub mod WindowLaws
 pub mod SelectionLaws
@@ -33,3 +34,5 @@ pub mod TestLaws
 pub mod UniqueLaws
 pub mod CrashLaws
 pub mod RingLaws
+pub mod MarkLaws
+pub mod ScheduleLaws

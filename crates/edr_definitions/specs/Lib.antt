@@ -9,3 +9,4 @@ pub mod Search
 pub mod Change
 pub mod OpenCrash
 pub mod Rings
+pub mod Schedule

@@ -1,10 +1,10 @@
 //! Laws of the definitions, each the contract of a function that does nothing.
 
-ghost use Rattle.std.specs.Prelude.{◌≡◌, ℕ, ◌+◌, ◌<◌, ◌≤◌, ◌↔◌, Bool, List, Option, Some, None, ℤ, IsTrue, nat_eq, nat_le, [], ◌∷◌, ◌++◌, ◌*◌, ◌/◌, length, map, filter, All, pos, neg_ℤ};
+ghost use Rattle.std.specs.Prelude.{◌≡◌, ℕ, ◌+◌, ◌<◌, ◌≤◌, ◌↔◌, Bool, List, Option, Some, None, ℤ, IsTrue, ◌⊎◌, nat_eq, nat_le, [], ◌∷◌, ◌++◌, ◌*◌, ◌/◌, length, map, filter, All, pos, neg_ℤ};
 ghost use Rattle.edr_items.specs.declared.Sensor.{Sensor};
 ghost use Rattle.edr_items.specs.declared.Item.{Item};
-ghost use Rattle.edr_items.specs.Item.{IsFeed, IsRising};
-ghost use Rattle.edr_items.specs.SensorLists.{SensorLists, items_of, with_items, AreFeeds};
+ghost use Rattle.edr_items.specs.Item.{IsFeed, IsRising, mark_of};
+ghost use Rattle.edr_items.specs.SensorLists.{SensorLists, items_of, with_items, AreFeeds, horizon_of, IsLevel};
 ghost use Rattle.edr_record.specs.declared.Place.{Place};
 ghost use Rattle.edr_record.specs.Bounds.{IsPlace, IsPre, IsCrash};
 ghost use Rattle.edr_definitions.specs.Ticks.{first_tick, IsFirst, HoldsNowhere};
@@ -16,6 +16,7 @@ ghost use Rattle.edr_definitions.specs.Commands.{place_of, places, last_placed, 
 ghost use Rattle.edr_definitions.specs.Facts.{Reaches, IsTriggered, IsTimeZero, IsEnd, IsCandidate, IsChain, AreEventsAfter, IsFirstGreatest, IsLatestSample, HasNoSample, IsInBounds, AgreeUpTo};
 ghost use Rattle.edr_definitions.specs.Search.{Search, Searching, Open, next_search, StandsFor, open_candidates};
 ghost use Rattle.edr_definitions.specs.Change.{tick_change, stepped_change};
+ghost use Rattle.edr_definitions.specs.Schedule.{Progress, Step, Give, IsAllowed, after_steps, items_given, IsNext, IsUnderWay, GoesOn, IsOver};
 
 /// What is found is the least tick that passes the test, and nothing is found where none passes.
 pub fn first_tick_is_least()
@@ -141,4 +142,19 @@ pub fn a_missing_sample_counts_as_zero()
 /// The search that stands for signals up to a tick is one.
 pub fn one_search_stands()
     ensures { (m : Signals) (t : ℕ) (s r : Search) → StandsFor m t s → StandsFor m t r → s ≡ r }
+{}
+
+/// From level feeds some item or tick is always allowed next, until all items are given and the closed tick is the
+/// horizon. The next item of a sensor that is waited for is never too far ahead of the closed tick, nor is any
+/// once the horizon is closed: so a run that gives each item only then meets no refusal.
+pub fn a_run_is_never_stuck_and_never_ahead()
+    ensures stuck { (f : SensorLists) (p : Progress) → AreFeeds f → IsLevel f → IsUnderWay f p → GoesOn f p ⊎ IsOver f p }
+    ensures ahead { (f : SensorLists) (p : Progress) (s : Sensor) (x : Item) → AreFeeds f → IsLevel f → IsUnderWay f p → IsNext f p s x → (mark_of (items_of s p.given) ≡ p.closed) ⊎ (p.closed ≡ horizon_of f) → IsAllowed (Give s x) p }
+{}
+
+/// What was given depends on no order but each sensor's own: steps that give each sensor the same items, in
+/// whatever order they come and wherever ticks are closed between them, lead to the same lists.
+pub fn arrival_order_is_free()
+    ensures lists { (p : Progress) (steps : List Step) (s : Sensor) → items_of s (after_steps p steps).given ≡ items_of s p.given ++ items_given s steps }
+    ensures same { (p : Progress) (steps others : List Step) → ((s : Sensor) → items_given s steps ≡ items_given s others) → (after_steps p steps).given ≡ (after_steps p others).given }
 {}
