@@ -152,7 +152,7 @@ issues-same f g n t e d p same one =
     (issue_is e.confirmed_tick d.confirmed_tick (Take pre) (Take pre') one.confirmed_is (ap Take pre_is)) locks dones
 
 -- ---- all commands
-zeros-same : {t : ℕ} {es fs : List Event} → SameEvents t es fs → map (λ e. e.zero_tick) es ≡ map (λ e. e.zero_tick) fs
+pub zeros-same : {t : ℕ} {es fs : List Event} → SameEvents t es fs → map (λ e. e.zero_tick) es ≡ map (λ e. e.zero_tick) fs
 zeros-same no_event = refl
 zeros-same (an_event one rest) = let a = one.zero_is in let b = zeros-same rest in cc
 

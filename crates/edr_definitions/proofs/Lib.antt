@@ -36,3 +36,7 @@ pub mod CrashLaws
 pub mod RingLaws
 pub mod MarkLaws
 pub mod ScheduleLaws
+pub mod NewLaws
+pub mod CoreLaws
+pub mod KeepLaws
+pub mod WholeLaws

@@ -10,3 +10,4 @@ pub mod Change
 pub mod OpenCrash
 pub mod Rings
 pub mod Schedule
+pub mod Core

@@ -1,0 +1,8 @@
+use Rattle.edr_definitions.proofs.WholeLaws.{whole-accept, commands-accept}
+use Rattle.edr_definitions.proofs.streaming.an_accepted_item_changes_no_command.Goals as goal
+
+pub returns-clause-stands : goal.returns-clause-stands
+returns-clause-stands c = whole-accept
+
+pub returns-clause-same : goal.returns-clause-same
+returns-clause-same c = commands-accept
