@@ -40,3 +40,4 @@ pub mod NewLaws
 pub mod CoreLaws
 pub mod KeepLaws
 pub mod WholeLaws
+pub mod FreezeLaws

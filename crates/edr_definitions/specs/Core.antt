@@ -10,6 +10,7 @@ use Rattle.edr_definitions.specs.Parts.{pre_part}
 use Rattle.edr_definitions.specs.Commands.{place_of, last_placed, zeros_by}
 use Rattle.edr_definitions.specs.Search.{Phase, Searching, Open, Search, StandsFor}
 use Rattle.edr_definitions.specs.Change.{Change, tick_change}
+use Rattle.edr_definitions.specs.Rings.{samples, newest}
 use Rattle.edr_definitions.specs.OpenCrash.{OpenCrash, crash_at, begin_crash, next_crash}
 
 -- ---- what a tick does
@@ -61,6 +62,16 @@ issues_at change begun crash k =
     record { take = when change.confirmed pre; lock = when change.locked pre; done = when change.closed crash }
 
 -- ---- what it stands for
+-- the lists, where a ring keeps the newest n samples of each sensor that gives slots
+abbrev pub ring_lists : ℕ → SensorLists → SensorLists
+ring_lists n f = record f {
+  speed = newest n (samples f.speed);
+  throttle = newest n (samples f.throttle);
+  brake = newest n (samples f.brake);
+  belt = newest n (samples f.belt);
+  lamp = newest n (samples f.lamp);
+}
+
 -- the pre part of the time zero z of cycle n, with any place
 abbrev pub IsPreOf : SensorLists → ℕ → ℕ → PrePart → Type 0
 IsPreOf f n z pre = pre ≡ pre_part f n pre.place z

@@ -5,19 +5,22 @@
 
 ghost use Rattle.std.specs.Prelude.{◌≡◌, ℕ, ◌+◌, ◌<◌, ◌≤◌, true, Option, None, [], ◌++◌};
 ghost use Rattle.std.specs.Option.{ForSome};
+ghost use Rattle.edr_items.specs.declared.TheConstants.{LONGEST_GAP};
 ghost use Rattle.edr_items.specs.declared.Sensor.{Sensor};
 ghost use Rattle.edr_items.specs.declared.Item.{Item};
 ghost use Rattle.edr_items.specs.Item.{refusal_of, mark_of};
-ghost use Rattle.edr_items.specs.SensorLists.{SensorLists, items_of, horizon_of};
+ghost use Rattle.edr_items.specs.SensorLists.{SensorLists, items_of, horizon_of, AreFeeds};
+ghost use Rattle.edr_record.specs.declared.Place.{Place};
 ghost use Rattle.edr_record.specs.Parts.{PrePart};
 ghost use Rattle.edr_definitions.specs.Signals.{signals_of};
 ghost use Rattle.edr_definitions.specs.Selection.{at_start, close_of};
+ghost use Rattle.edr_definitions.specs.Parts.{pre_part};
 ghost use Rattle.edr_definitions.specs.Commands.{commands};
 ghost use Rattle.edr_definitions.specs.Search.{Search, Searching, Open, next_search};
 ghost use Rattle.edr_definitions.specs.Change.{Change};
 ghost use Rattle.edr_definitions.specs.OpenCrash.{OpenCrash, finish_crash};
 ghost use Rattle.edr_definitions.specs.Schedule.{with_item};
-ghost use Rattle.edr_definitions.specs.Core.{CoreState, pre_after, core_after, part_after, issues_at, commands_of, IsTold, CoreStandsFor, WholeCoreStandsFor};
+ghost use Rattle.edr_definitions.specs.Core.{CoreState, pre_after, core_after, part_after, issues_at, commands_of, ring_lists, IsTold, CoreStandsFor, WholeCoreStandsFor};
 
 /// Before its first tick a core with no event stands for any lists, and no command is issued.
 pub fn a_core_begins_with_the_cycle()
@@ -77,4 +80,12 @@ pub fn an_event_is_past_the_last_one()
         → IsTold f n (t + 1) change begun
         → change.confirmed ≡ true
         → ForSome k.linked (λ last. last.1 < (pre_after change begun k).key.zero) }
+{}
+
+/// Rings of the newest 6,200 samples give the pre part of all items, where no mark is further past its time zero than a gap may be.
+pub fn rings_give_the_pre_part()
+    ensures { (f : SensorLists) (n z : ℕ) (place : Place)
+        → AreFeeds f
+        → ((s : Sensor) → mark_of (items_of s f) ≤ z + LONGEST_GAP)
+        → pre_part (ring_lists 6_200 f) n place z ≡ pre_part f n place z }
 {}
