@@ -39,5 +39,6 @@ pub mod ScheduleLaws
 pub mod NewLaws
 pub mod CoreLaws
 pub mod KeepLaws
+pub mod OpenLaws
 pub mod WholeLaws
 pub mod FreezeLaws

@@ -1,5 +1,5 @@
 -- One tick of a core with its open crash part.
-use Rattle.std.proofs.Common.{arith, refl, ap, sym, subst, ◌≡◌, ◌∙◌, ℕ, ◌+◌, ◌≤◌, Bool, true, false, cond, nat_eq, Some, None, Option, ◌++◌}
+use Rattle.std.proofs.Common.{arith, refl, ap, sym, subst, ◌≡◌, ◌∙◌, ℕ, ◌+◌, ◌≤◌, Bool, true, false, cond, ◌&&◌, not, nat_eq, Some, None, Option, ◌++◌}
 use Rattle.std.specs.Option.{option_or}
 use Rattle.edr_items.specs.declared.Sensor.{Sensor}
 use Rattle.edr_items.specs.declared.Item.{Item}
@@ -15,10 +15,11 @@ use Rattle.edr_definitions.specs.Search.{Phase, Searching, Open, Search, tick_if
 use Rattle.edr_definitions.specs.Change.{Change, stepped_change}
 use Rattle.edr_definitions.specs.OpenCrash.{OpenCrash, crash_at, begin_crash, next_crash, finish_crash}
 use Rattle.edr_definitions.specs.Schedule.{with_item}
-use Rattle.edr_definitions.specs.Core.{CoreState, pre_after, core_after, part_after, issues_at, commands_of, IsTold, PartIs, WholeCoreStandsFor}
+use Rattle.edr_definitions.specs.Core.{CoreState, pre_after, core_after, is_open, part_after, issues_at, commands_of, IsTold, OpenIs, PartIs, WholeCoreStandsFor}
 use Rattle.edr_definitions.proofs.TickLaws.{not_both}
 use Rattle.edr_definitions.proofs.LaterLaws.{GiveTheSameUpTo-push, commands-push}
-use Rattle.edr_definitions.proofs.TickChangeLaws.{tick_change-is}
+use Rattle.edr_definitions.proofs.TestLaws.{end_test}
+use Rattle.edr_definitions.proofs.OpenLaws.{change-now, zero-is}
 use Rattle.edr_definitions.proofs.CoreLaws.{core-stands, core-issues, core-closes}
 use Rattle.edr_definitions.proofs.KeepLaws.{core-start, core-accept, core-open, accepted-later}
 use Rattle.edr_definitions.proofs.CrashLaws.{crash_at-zero, crash_at-next, crash_at-agree, crash_at-finish}
@@ -58,29 +59,13 @@ module _ (m : Signals) (t : ℕ) (b : Bounds) (change : Change) (p : OpenCrash) 
   searching_part true is = ap (λ (v : Bool). cond v (begin_crash (t + 1) (m.fired (t + 1))) (next_crash p (m.along (t + 1)) (m.across (t + 1)) (m.fired (t + 1)))) is ∙ crash_at-zero m (t + 1)
   searching_part false is = tt
 
-  -- the flags that the phase before decides
-  zero_flag : Bool → Phase → Bool
-  zero_flag v Searching = v
-  zero_flag v (Open z c l e) = false
-
-  step_part : (ph : Phase) → PhaseIs m t b ph → PartIs m t p ph → change.zero ≡ zero_flag (is_time_zero m b (t + 1)) ph → PartIs m (t + 1) next (next_from m (t + 1) b ph).phase
-  unfolding zero_flag
+  step_part : (ph : Phase) → PhaseIs m t b ph → PartIs m t p ph → change.zero ≡ (not (is_open ph) && is_time_zero m b (t + 1)) → PartIs m (t + 1) next (next_from m (t + 1) b ph).phase
   step_part Searching h o is = searching_part (is_time_zero m b (t + 1)) is
   step_part (Open z c l None) h o is =
       next_open_part z (option_or c (tick_if (is_triggered m b.since (t + 1)) (t + 1))) (option_or l (tick_if (is_locking m (t + 1)) (t + 1))) (is_end m z (t + 1)) (grown z h.1 is o)
   step_part (Open z c l (Some e)) h o is =
       let order = h.1.from in let ended = h.2 in
       past_end_part z e c (option_or l (tick_if (is_locking m (t + 1)) (t + 1))) (grown z (omega arith) is o)
-
-abbrev end_test : Signals → ℕ → Phase → Bool
-end_test m t Searching = false
-end_test m t (Open z c l e) = is_end m z t
-
-zero_of_stepped : (t : ℕ) (m : Signals) (b : Bounds) (change : Change) (p : OpenCrash) (v w x y : Bool) (ph : Phase) → (stepped_change t v w x y ph).zero ≡ zero_flag m t b change p v ph
-unfolding zero_flag
-zero_of_stepped t m b change p v w x y Searching = refl
-zero_of_stepped t m b change p v w x y (Open z c l None) = refl
-zero_of_stepped t m b change p v w x y (Open z c l (Some e)) = refl
 
 module _ (f : SensorLists) (n t : ℕ) (s : Search) (k : CoreState) (p : OpenCrash) (begun : PrePart) (change : Change) (h : WholeCoreStandsFor f n t s k p) (told : IsTold f n (t + 1) change begun) where
   -- the open crash part at the next tick
@@ -91,41 +76,35 @@ module _ (f : SensorLists) (n t : ℕ) (s : Search) (k : CoreState) (p : OpenCra
   abbrev pub crash_now : CrashPart
   crash_now = finish_crash part_now (core_after (t + 1) change begun k).ended
 
-  stepped : change ≡ stepped_change (t + 1) (is_time_zero (signals_of f) s.bounds (t + 1)) (is_triggered (signals_of f) s.bounds.since (t + 1)) (is_locking (signals_of f) (t + 1)) (end_test (signals_of f) (t + 1) s.phase) s.phase
-  stepped = told.change_is ∙ tick_change-is (signals_of f) t s (end_test (signals_of f) (t + 1) s.phase) h.core_is.search_is (λ z c l e. ap (λ (x : Phase). end_test (signals_of f) (t + 1) x) e)
-
-  zero_is : change.zero ≡ zero_flag (signals_of f) t s.bounds change p (is_time_zero (signals_of f) s.bounds (t + 1)) s.phase
-  unfolding zero_flag
-  zero_is = ap (λ (x : Change). x.zero) stepped ∙ by_phase s.phase where
-    by_phase : (ph : Phase) → (stepped_change (t + 1) (is_time_zero (signals_of f) s.bounds (t + 1)) (is_triggered (signals_of f) s.bounds.since (t + 1)) (is_locking (signals_of f) (t + 1)) (end_test (signals_of f) (t + 1) s.phase) ph).zero ≡ zero_flag (signals_of f) t s.bounds change p (is_time_zero (signals_of f) s.bounds (t + 1)) ph
-    by_phase Searching = refl
-    by_phase (Open z c l None) = refl
-    by_phase (Open z c l (Some e)) = refl
+  zero_is : change.zero ≡ (not (is_open s.phase) && is_time_zero (signals_of f) s.bounds (t + 1))
+  zero_is = ap (λ (x : Change). x.zero) told.change_is ∙ zero-is (signals_of f) t s h.core_is.search_is
 
   part_stands : PartIs (signals_of f) (t + 1) part_now (next_search (signals_of f) (t + 1) s).phase
   part_stands = step_part (signals_of f) t s.bounds change p s.phase h.core_is.search_is.phase_is h.part_is zero_is
 
-  zero_kept : (v w : Bool) → change.zero ≡ false → (pre_after change begun k).key.zero ≡ k.frozen.key.zero
-  zero_kept v w no_zero = by_tests change.zero change.confirmed no_zero where
-    by_tests : (v w : Bool) → v ≡ false → (cond {A = PrePart} w (record (cond v begun k.frozen) { place = place_of k.linked (cond v begun k.frozen).key.zero }) (cond v begun k.frozen)).key.zero ≡ k.frozen.key.zero
-    by_tests true w e = cc
-    by_tests false true e = refl
-    by_tests false false e = refl
+  -- with no time zero at the next tick the candidate keeps its own
+  zero_kept : change.zero ≡ false → (pre_after change begun k).key.zero ≡ k.frozen.key.zero
+  zero_kept no_zero = placed_zero change.confirmed (cond change.zero begun k.frozen) ∙ ap (λ (v : Bool). (cond {A = PrePart} v begun k.frozen).key.zero) no_zero where
+    placed_zero : (w : Bool) (x : PrePart) → (cond {A = PrePart} w (record x { place = place_of k.linked x.key.zero }) x).key.zero ≡ x.key.zero
+    placed_zero true x = refl
+    placed_zero false x = refl
 
   closes_is : change.closed ≡ true → crash_now ≡ crash_part (signals_of f) (pre_after change begun k).key.zero (core_after (t + 1) change begun k).ended
-  unfolding zero_flag
   closes_is shut = by_phase s.phase refl where
     by_phase : (ph : Phase) → s.phase ≡ ph → crash_now ≡ crash_part (signals_of f) (pre_after change begun k).key.zero (core_after (t + 1) change begun k).ended
     by_phase Searching ph =
-        let never : change.closed ≡ false = ap (λ (x : Change). x.closed) stepped ∙ ap (λ (x : Phase). (stepped_change (t + 1) (is_time_zero (signals_of f) s.bounds (t + 1)) (is_triggered (signals_of f) s.bounds.since (t + 1)) (is_locking (signals_of f) (t + 1)) (end_test (signals_of f) (t + 1) s.phase) x).closed) ph in
+        let m = signals_of f in
+        let never : change.closed ≡ false =
+        ap (λ (x : Change). x.closed) (told.change_is ∙ change-now m t s h.core_is.search_is)
+        ∙ ap (λ (x : Phase). (stepped_change (t + 1) (is_time_zero m s.bounds (t + 1)) (is_triggered m s.bounds.since (t + 1)) (is_locking m (t + 1)) (end_test m (t + 1) s.phase) x).closed) ph in
         absurd (not_both change.closed never shut)
     by_phase (Open z c l e) ph =
         let m = signals_of f in
         let opened = core-open f n t s k z c l e h.core_is ph in
         let part : p ≡ crash_at m z t = subst (λ (x : Phase). PartIs m t p x) ph h.part_is in
-        let no_zero : change.zero ≡ false = zero_is ∙ ap (λ (x : Phase). zero_flag m t s.bounds change p (is_time_zero m s.bounds (t + 1)) x) ph in
+        let no_zero : change.zero ≡ false = zero_is ∙ ap (λ (x : Phase). not (is_open x) && is_time_zero m s.bounds (t + 1)) ph in
         let now : part_now ≡ crash_at m z (t + 1) = grown m t s.bounds change p z opened.1 no_zero part in
-        let zero : (pre_after change begun k).key.zero ≡ z = zero_kept true true no_zero ∙ opened.0 in
+        let zero : (pre_after change begun k).key.zero ≡ z = zero_kept no_zero ∙ opened.0 in
         let closing = core-closes f n t s k begun change h.core_is told shut in
         let shape : part_now ≡ crash_at m (pre_after change begun k).key.zero (close_of (pre_after change begun k).key.zero (core_after (t + 1) change begun k).ended) =
         now ∙ ap (λ (y : ℕ). crash_at m y (t + 1)) (sym zero) ∙ ap (λ (y : ℕ). crash_at m (pre_after change begun k).key.zero y) (sym closing.2) in
@@ -160,3 +139,23 @@ whole-accept f n t s k p r x accepted h =
 -- an accepted item changes no command up to the closed tick
 pub commands-accept : (f : SensorLists) (n t : ℕ) (r : Sensor) (x : Item) → t ≤ horizon_of f → refusal_of r (mark_of (items_of r f)) x ≡ None → commands (with_item r x f) n t ≡ commands f n t
 commands-accept f n t r x within accepted = sym (commands-push r f x n t (accepted-later f t r x within accepted))
+
+-- ---- with no candidate open
+-- only the last event counts of what is kept
+pub whole-searching : (f : SensorLists) (n t : ℕ) (s : Search) (k j : CoreState) (p q : OpenCrash) → WholeCoreStandsFor f n t s k p → is_open s.phase ≡ false → j.linked ≡ k.linked → WholeCoreStandsFor f n t s j q
+whole-searching f n t s k j p q h none same = record {
+  core_is = record {
+    within = h.core_is.within;
+    search_is = h.core_is.search_is;
+    linked_is = same ∙ h.core_is.linked_is;
+    open_is = nothing_kept s.phase none;
+  };
+  part_is = no_part s.phase none;
+} where
+  nothing_kept : (ph : Phase) → is_open ph ≡ false → OpenIs f n j ph
+  nothing_kept Searching e = tt
+  nothing_kept (Open z c l x) e = absurd (not_both true e refl)
+
+  no_part : (ph : Phase) → is_open ph ≡ false → PartIs (signals_of f) t q ph
+  no_part Searching e = tt
+  no_part (Open z c l x) e = absurd (not_both true e refl)

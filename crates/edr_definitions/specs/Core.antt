@@ -1,5 +1,5 @@
 -- What a core keeps from tick to tick and what it issues, and that it stands for the lists of a cycle.
-use Rattle.std.specs.Prelude.{◌≡◌, ℕ, ◌≤◌, Bool, true, if◌then◌else◌, Option, Some, None, MatchOption, option_map, option_to_list, List, ◌++◌}
+use Rattle.std.specs.Prelude.{◌≡◌, ℕ, ◌≤◌, Bool, true, false, if◌then◌else◌, Option, Some, None, MatchOption, option_map, option_to_list, List, ◌++◌}
 use Rattle.edr_items.specs.SensorLists.{SensorLists, horizon_of}
 use Rattle.edr_record.specs.declared.Place.{Place}
 use Rattle.edr_record.specs.declared.Command.{Command}
@@ -39,6 +39,15 @@ core_after t change begun k =
 -- the open crash part past the tick t: a time zero begins it
 abbrev pub part_after : Signals → ℕ → Change → OpenCrash → OpenCrash
 part_after m t change p = if change.zero then begin_crash t (m.fired t) else next_crash p (m.along t) (m.across t) (m.fired t)
+
+-- a candidate is open
+abbrev pub is_open : Phase → Bool
+is_open Searching = false
+is_open (Open z c l e) = true
+
+-- nothing stands at a tick
+abbrev pub no_change : Change
+no_change = record { zero = false; confirmed = false; locked = false; ended = false; dropped = false; closed = false }
 
 -- ---- what a tick issues
 -- the parts that a tick issues: at a confirmation, at a first locking firing and at a close

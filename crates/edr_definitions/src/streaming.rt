@@ -3,7 +3,7 @@
 //! In them `f` are the lists that were given of cycle `n`, `t` is the closed tick, `s` the search there, `k` what the core
 //! keeps and `p` its open crash part. `begun` is the pre part that the next tick freezes if it is a time zero.
 
-ghost use Rattle.std.specs.Prelude.{◌≡◌, ℕ, ◌+◌, ◌<◌, ◌≤◌, true, Option, None, [], ◌++◌};
+ghost use Rattle.std.specs.Prelude.{◌≡◌, ℕ, ◌+◌, ◌<◌, ◌≤◌, true, false, ◌&&◌, ◌||◌, not, Option, None, [], ◌++◌};
 ghost use Rattle.std.specs.Option.{ForSome};
 ghost use Rattle.edr_items.specs.declared.TheConstants.{LONGEST_GAP};
 ghost use Rattle.edr_items.specs.declared.Sensor.{Sensor};
@@ -12,15 +12,15 @@ ghost use Rattle.edr_items.specs.Item.{refusal_of, mark_of};
 ghost use Rattle.edr_items.specs.SensorLists.{SensorLists, items_of, horizon_of, AreFeeds};
 ghost use Rattle.edr_record.specs.declared.Place.{Place};
 ghost use Rattle.edr_record.specs.Parts.{PrePart};
-ghost use Rattle.edr_definitions.specs.Signals.{signals_of};
+ghost use Rattle.edr_definitions.specs.Signals.{Signals, signals_of};
 ghost use Rattle.edr_definitions.specs.Selection.{at_start, close_of};
 ghost use Rattle.edr_definitions.specs.Parts.{pre_part};
 ghost use Rattle.edr_definitions.specs.Commands.{commands};
-ghost use Rattle.edr_definitions.specs.Search.{Search, Searching, Open, next_search};
-ghost use Rattle.edr_definitions.specs.Change.{Change};
+ghost use Rattle.edr_definitions.specs.Search.{Search, Searching, Open, next_search, StandsFor};
+ghost use Rattle.edr_definitions.specs.Change.{Change, tick_change};
 ghost use Rattle.edr_definitions.specs.OpenCrash.{OpenCrash, finish_crash};
 ghost use Rattle.edr_definitions.specs.Schedule.{with_item};
-ghost use Rattle.edr_definitions.specs.Core.{CoreState, pre_after, core_after, part_after, issues_at, commands_of, ring_lists, IsTold, CoreStandsFor, WholeCoreStandsFor};
+ghost use Rattle.edr_definitions.specs.Core.{CoreState, pre_after, core_after, part_after, is_open, no_change, issues_at, commands_of, ring_lists, IsTold, CoreStandsFor, WholeCoreStandsFor};
 
 /// Before its first tick a core with no event stands for any lists, and no command is issued.
 pub fn a_core_begins_with_the_cycle()
@@ -55,6 +55,33 @@ pub fn a_core_issues_the_commands()
         → IsTold f n (t + 1) change begun
         → let crash = finish_crash (part_after (signals_of f) (t + 1) change p) (core_after (t + 1) change begun k).ended in
         commands f n (t + 1) ≡ commands f n t ++ commands_of (issues_at change begun crash k) }
+{}
+
+/// A candidate is open past a tick where it begins there or was open, and isn't dropped or closed there. No tick is a time zero
+/// while one is open, and nothing stands at a tick that is none while no candidate is open.
+pub fn a_candidate_opens_and_closes()
+    ensures open { (m : Signals) (t : ℕ) (s : Search)
+        → StandsFor m t s
+        → let change = tick_change m (t + 1) in
+        is_open (next_search m (t + 1) s).phase ≡ ((change.zero || is_open s.phase) && not (change.dropped || change.closed)) }
+    ensures one { (m : Signals) (t : ℕ) (s : Search)
+        → StandsFor m t s
+        → is_open s.phase ≡ true
+        → (tick_change m (t + 1)).zero ≡ false }
+    ensures none { (m : Signals) (t : ℕ) (s : Search)
+        → StandsFor m t s
+        → is_open s.phase ≡ false
+        → (tick_change m (t + 1)).zero ≡ false
+        → tick_change m (t + 1) ≡ no_change }
+{}
+
+/// With no candidate open only the last event counts of what the core keeps.
+pub fn a_core_between_candidates_keeps_the_last_event()
+    ensures { (f : SensorLists) (n t : ℕ) (s : Search) (k j : CoreState) (p q : OpenCrash)
+        → WholeCoreStandsFor f n t s k p
+        → is_open s.phase ≡ false
+        → j.linked ≡ k.linked
+        → WholeCoreStandsFor f n t s j q }
 {}
 
 /// A candidate is open for less than 500 ms. Where an event closes, its end is 20 to 500 ms past time zero, and the tick is the
