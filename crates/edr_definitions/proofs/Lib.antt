@@ -5,6 +5,7 @@ mod VectorsChain
 mod VectorsParts
 mod VectorsCommands
 mod VectorsChange
+mod VectorsCore
 mod VectorsSchedule
 pub mod TickLaws
 pub mod WindowLaws

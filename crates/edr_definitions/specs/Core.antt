@@ -14,7 +14,7 @@ use Rattle.edr_definitions.specs.Rings.{samples, newest}
 use Rattle.edr_definitions.specs.OpenCrash.{OpenCrash, crash_at, begin_crash, next_crash}
 
 -- ---- what a tick does
--- the open candidate's pre part and end, and place and time zero of the last confirmed event; with no candidate open only the last counts
+-- the pre part and the end of the open candidate, which count only while one is open, and place and time zero of the last confirmed event
 pub record CoreState : Type 0 where
   pub frozen : PrePart
   pub ended : ℕ
