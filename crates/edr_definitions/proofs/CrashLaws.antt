@@ -1,13 +1,13 @@
 -- The crash part that is fed tick by tick is the one of the definition.
 use Rattle.std.proofs.Common.{arith, refl, ap, sym, ◌≡◌, ◌≢◌, ◌∙◌, ℕ, zero, suc, ◌+◌, ◌-◌, ◌*◌, ◌/◌, ◌%◌, ◌<◌, ◌≤◌, ◌⊎◌, inl, inr, ℤ, pos, ◌+ℤ◌, Bool, true, false, cond, ◌&&◌, nat_eq, nat_lt, nat_le, Some, None, Option, List, [], ◌∷◌, ◌++◌, map, append_assoc, length, subst}
-use Rattle.std.specs.Prelude.{count_by, is_none, option_map, zip, replicate, slice_set}
+use Rattle.std.specs.Prelude.{count_by, is_none, option_map, replicate, slice_set, slice_index_or}
 use Rattle.std.specs.Option.{option_or}
 use Rattle.std.specs.Int.{bit_at}
 use Rattle.std.specs.List.{range_with_len}
 use Rattle.std.proofs.lemmas.Int.{ints}
 use Rattle.std.proofs.lemmas.Bool.{cases_lt}
 use Rattle.std.proofs.lemmas.List.Sums.{sum_by-cons}
-use Rattle.std.proofs.lemmas.List.FromFn.{map-range_with_len_more, length-map-range_with_len}
+use Rattle.std.proofs.lemmas.List.FromFn.{map-range_with_len_more, length-map-range_with_len, get_or-map-range_with_len}
 use Rattle.std.proofs.Math.Seq.{set-append_seam}
 use Rattle.edr_record.specs.Bounds.{most_points, point_count}
 use Rattle.edr_definitions.specs.Ticks.{ticks, first_tick, int_sum}
@@ -18,6 +18,8 @@ use Rattle.edr_definitions.specs.Search.{tick_if}
 use Rattle.edr_definitions.specs.Facts.{IsFirstGreatest}
 use Rattle.edr_definitions.specs.Parts.{kmh_of, first_greatest, points, all_points, extreme, missing, first_firing, firings, result_at, crash_part}
 use Rattle.edr_definitions.specs.OpenCrash.{Peak, ResultPeak, OpenAxis, OpenCrash, edge, points_by, points_to, peak_of, squares_since, result_of, axis_at, crash_at, bit_fires, begin_axis, begin_crash, next_points, higher, higher_result, next_firings, next_axis, next_crash, finish_crash}
+use Rattle.edr_definitions.proofs.FactLaws.{nat_le_is}
+use Rattle.edr_definitions.proofs.AgreeLaws.{map_agree}
 use Rattle.edr_definitions.proofs.TickLaws.{ticks-none, ticks-push}
 use Rattle.edr_definitions.proofs.WindowLaws.{delta_v-none}
 use Rattle.edr_definitions.proofs.PartLaws.{first_greatest-is}
@@ -134,26 +136,30 @@ unfolding missing
 missing-none axis a = ap (λ xs. count_by (λ t. is_none (axis t)) xs) (ticks-none a a (omega arith))
 
 -- ---- points
+both_true : (a b : Bool) → a ≡ true → b ≡ true → (a && b) ≡ false → ⊥
+both_true a b p q h = cc
+
+nat_eq_is : (x y : ℕ) → x ≡ y → nat_eq x y ≡ true
+nat_eq_is x y h = grind arith
+
+-- at each tenth tick up to 250 there is one point more, and at no other
+pub points_by-more : (d : ℕ) → (nat_eq ((d + 1) % 10) 0 && nat_le (d + 1) 250) ≡ true → (points_by (d + 1) ≡ points_by d + 1) × (points_by d ≡ (d + 1) / 10) × (d + 1 ≤ 250)
+points_by-more d h =
+    let whole : (d + 1) % 10 ≡ 0 = grind arith in
+    let near : d + 1 ≤ 250 = grind arith in
+    (omega arith, omega arith, near)
+
+pub points_by-same : (d : ℕ) → (nat_eq ((d + 1) % 10) 0 && nat_le (d + 1) 250) ≡ false → points_by (d + 1) ≡ points_by d
+points_by-same d h = elim (cases_lt 250 (d + 1)) [
+  | inl far ↦ omega arith
+  | inr near ↦
+      let part : (d + 1) % 10 ≢ 0 = λ e. both_true (nat_eq ((d + 1) % 10) 0) (nat_le (d + 1) 250) (nat_eq_is ((d + 1) % 10) 0 e) (nat_le_is (d + 1) 250 near) h in
+      omega arith
+]
+
 pub points_to-next : (axis : ℕ → Option ℤ) (z d : ℕ) → points_to axis z (d + 1) ≡ next_points (points_to axis z d) (delta_v axis z (z + (d + 1))) (d + 1)
 unfolding points_to
 points_to-next axis z d = by_test (nat_eq ((d + 1) % 10) 0 && nat_le (d + 1) 250) refl where
-  tenth : (d : ℕ) → (nat_eq ((d + 1) % 10) 0 && nat_le (d + 1) 250) ≡ true → ((d + 1) % 10 ≡ 0) × (d + 1 ≤ 250)
-  tenth d h = (grind arith, grind arith)
-
-  other : (d : ℕ) → (nat_eq ((d + 1) % 10) 0 && nat_le (d + 1) 250) ≡ false → ((d + 1) % 10 ≢ 0) ⊎ (250 < d + 1)
-  other d h = elim (cases_lt 250 (d + 1)) [
-    | inl far ↦ inr far
-    | inr near ↦ inl (λ e. absurd (both_true (nat_eq ((d + 1) % 10) 0) (nat_le (d + 1) 250) (is_equal ((d + 1) % 10) 0 e) (is_near (d + 1) 250 near) h))
-  ] where
-    is_equal : (x y : ℕ) → x ≡ y → nat_eq x y ≡ true
-    is_equal x y h = grind arith
-
-    is_near : (x y : ℕ) → x ≤ y → nat_le x y ≡ true
-    is_near x y h = grind arith
-
-    both_true : (a b : Bool) → a ≡ true → b ≡ true → (a && b) ≡ false → ⊥
-    both_true a b p q h = cc
-
   -- a list of points with room behind it
   padded : ℕ → List ℤ
   padded n = map (λ k. kmh_of (delta_v axis z (z + 10 * k))) (range_with_len 0 n) ++ replicate (most_points - n) (pos 0)
@@ -175,21 +181,14 @@ points_to-next axis z d = by_test (nat_eq ((d + 1) % 10) 0 && nat_le (d + 1) 250
 
   by_test : (v : Bool) → (nat_eq ((d + 1) % 10) 0 && nat_le (d + 1) 250) ≡ v → map (λ k. kmh_of (delta_v axis z (z + 10 * k))) (range_with_len 0 (points_by (d + 1))) ++ replicate (most_points - points_by (d + 1)) (pos 0) ≡ cond v (slice_set (map (λ k. kmh_of (delta_v axis z (z + 10 * k))) (range_with_len 0 (points_by d)) ++ replicate (most_points - points_by d) (pos 0)) ((d + 1) / 10) (kmh_of (delta_v axis z (z + (d + 1))))) (map (λ k. kmh_of (delta_v axis z (z + 10 * k))) (range_with_len 0 (points_by d)) ++ replicate (most_points - points_by d) (pos 0))
   by_test true h =
-      let t = tenth d h in
-      let whole = t.0 in let near = t.1 in
+      let t = points_by-more d h in
+      let more = t.0 in let here = t.1 in let near = t.2 in
       let n = points_by d in
-      let more : points_by (d + 1) ≡ n + 1 = omega arith in
       let last : z + 10 * n ≡ z + (d + 1) = omega arith in
-      let here : n ≡ (d + 1) / 10 = omega arith in
       ap padded more
       ∙ one_more n (kmh_of (delta_v axis z (z + (d + 1)))) (omega arith) (ap (λ k. kmh_of (delta_v axis z k)) last)
       ∙ ap (λ k. slice_set (padded n) k (kmh_of (delta_v axis z (z + (d + 1))))) here
-  by_test false h =
-      let same : points_by (d + 1) ≡ points_by d = elim (other d h) [
-        | inl part ↦ omega arith
-        | inr far ↦ omega arith
-      ] in
-      ap padded same
+  by_test false h = ap padded (points_by-same d h)
 
 -- ---- first firings
 mapped_or : (z x : ℕ) (r : Option ℕ) (v : Bool) → option_map (λ t. t - z) (option_or r (tick_if v x)) ≡ option_or (option_map (λ t. t - z) r) (tick_if v (x - z))
@@ -205,14 +204,13 @@ first_firing-push m z t bit h =
     ap (λ (o : Option ℕ). option_map (λ u. u - z) o) (sym (first_tick-more p z t (omega arith) r refl (p (t + 1)) refl))
     ∙ mapped_or z (t + 1) r (p (t + 1))
 
-zip_each : (f g : ℕ → Option ℕ) (h : Option ℕ → ℕ → Option ℕ) → ((k : ℕ) → g k ≡ h (f k) k) → (ks : List ℕ) → map g ks ≡ map (λ p. h p.0 p.1) (zip (map f ks) ks)
-zip_each f g h each [] = refl
-zip_each f g h each (k ∷ ks) =
-    ap (λ (o : Option ℕ). o ∷ map g ks) (each k) ∙ ap (λ os. h (f k) k ∷ os) (zip_each f g h each ks)
-
 firings-push : (m : Signals) (z t : ℕ) → z ≤ t → firings m z (t + 1 + 1) ≡ next_firings (firings m z (t + 1)) (m.fired (t + 1)) (t + 1 - z)
 unfolding firings
-firings-push m z t h = zip_each (first_firing m z (t + 1)) (first_firing m z (t + 1 + 1)) (λ o bit. option_or o (tick_if (bit_fires (m.fired (t + 1)) bit) (t + 1 - z))) (λ bit. first_firing-push m z t bit h) (range_with_len 0 8)
+firings-push m z t h =
+    let before = first_firing m z (t + 1) in
+    let fires = λ (bit : ℕ). tick_if (bit_fires (m.fired (t + 1)) bit) (t + 1 - z) in
+    map_agree (first_firing m z (t + 1 + 1)) (λ bit. option_or (slice_index_or (map before (range_with_len 0 8)) bit None) (fires bit)) 8 0
+    (λ bit lo hi. first_firing-push m z t bit h ∙ ap (λ (o : Option ℕ). option_or o (fires bit)) (sym (get_or-map-range_with_len before 0 8 bit bit None (omega arith) (omega arith))))
 
 -- ---- up to 300 ms past time zero
 windowed : {X : Type 0} (g : ℕ → X) (x : X) (z t : ℕ) → z ≤ t → g (t + 1 + 1) ≡ x → (v : Bool) → nat_le (t + 1 - z) 300 ≡ v → g (edge z (t + 1)) ≡ cond v x (g (edge z t))

@@ -1,5 +1,5 @@
 -- The crash part while it grows, one tick at a time.
-use Rattle.std.specs.Prelude.{ℕ, ◌+◌, ◌-◌, ◌*◌, ◌/◌, ◌%◌, min, ℤ, pos, ◌+ℤ◌, unsigned_abs, Bool, ◌&&◌, nat_eq, nat_lt, nat_le, if◌then◌else◌, Option, unwrap_or, is_none, List, ◌++◌, map, zip, replicate, slice_set}
+use Rattle.std.specs.Prelude.{ℕ, ◌+◌, ◌-◌, ◌*◌, ◌/◌, ◌%◌, min, ℤ, pos, ◌+ℤ◌, unsigned_abs, Bool, ◌&&◌, nat_eq, nat_lt, nat_le, if◌then◌else◌, Option, None, unwrap_or, is_none, List, ◌++◌, map, replicate, slice_set, slice_index_or}
 use Rattle.std.specs.Option.{option_or}
 use Rattle.std.specs.Int.{bit_at}
 use Rattle.std.specs.List.{range_with_len}
@@ -120,7 +120,7 @@ higher_result p size d = if nat_lt p.size size then record { size = size; at = d
 
 -- the first firings with one tick more
 abbrev pub next_firings : List (Option ℕ) → ℕ → ℕ → List (Option ℕ)
-next_firings firsts fired d = map (λ p. option_or p.0 (tick_if (bit_fires fired p.1) d)) (zip firsts (range_with_len 0 8))
+next_firings firsts fired d = map (λ bit. option_or (slice_index_or firsts bit None) (tick_if (bit_fires fired bit) d)) (range_with_len 0 8)
 
 -- one axis with one tick more, with its sample, d ticks past time zero
 abbrev pub next_axis : OpenAxis → Option ℤ → ℕ → OpenAxis

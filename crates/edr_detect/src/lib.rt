@@ -2,10 +2,16 @@
 //! acceleration and deployment samples.
 #![tactic(auto)]
 
+mod detector;
+mod latest;
 mod search;
+mod stage;
 mod window;
+mod windows;
 
+pub use detector::Detect;
 pub use search::select;
+pub use stage::Change;
 
 /// How an event went on: its end and its close, as ticks of the cycle.
 #[derive(Clone, Copy, Debug, PartialEq, Eq)]
