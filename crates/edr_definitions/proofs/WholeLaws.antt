@@ -10,14 +10,14 @@ use Rattle.edr_definitions.specs.Signals.{Signals, signals_of}
 use Rattle.edr_definitions.specs.Selection.{Bounds, is_triggered, is_time_zero, is_end, close_of, at_start}
 use Rattle.edr_definitions.specs.Parts.{crash_part}
 use Rattle.edr_definitions.specs.Facts.{AgreeUpTo}
-use Rattle.edr_definitions.specs.Commands.{is_locking, place_of, commands}
+use Rattle.edr_definitions.specs.Commands.{issues, is_locking, place_of, commands}
 use Rattle.edr_definitions.specs.Search.{Phase, Searching, Open, Search, tick_if, past_end, next_open, next_from, next_search, PhaseIs}
 use Rattle.edr_definitions.specs.Change.{Change, stepped_change}
 use Rattle.edr_definitions.specs.OpenCrash.{OpenCrash, crash_at, begin_crash, next_crash, finish_crash}
 use Rattle.edr_definitions.specs.Schedule.{with_item}
 use Rattle.edr_definitions.specs.Core.{CoreState, pre_after, core_after, is_open, part_after, issues_at, commands_of, IsTold, OpenIs, PartIs, WholeCoreStandsFor}
 use Rattle.edr_definitions.proofs.TickLaws.{not_both}
-use Rattle.edr_definitions.proofs.LaterLaws.{GiveTheSameUpTo-push, commands-push}
+use Rattle.edr_definitions.proofs.LaterLaws.{GiveTheSameUpTo-push, issues-push, commands-push}
 use Rattle.edr_definitions.proofs.TestLaws.{end_test}
 use Rattle.edr_definitions.proofs.OpenLaws.{change-now, zero-is}
 use Rattle.edr_definitions.proofs.CoreLaws.{core-stands, core-issues, core-closes}
@@ -139,6 +139,9 @@ whole-accept f n t s k p r x accepted h =
 -- an accepted item changes no command up to the closed tick
 pub commands-accept : (f : SensorLists) (n t : ℕ) (r : Sensor) (x : Item) → t ≤ horizon_of f → refusal_of r (mark_of (items_of r f)) x ≡ None → commands (with_item r x f) n t ≡ commands f n t
 commands-accept f n t r x within accepted = sym (commands-push r f x n t (accepted-later f t r x within accepted))
+
+pub issues-accept : (f : SensorLists) (n t : ℕ) (r : Sensor) (x : Item) → t ≤ horizon_of f → refusal_of r (mark_of (items_of r f)) x ≡ None → issues (with_item r x f) n t ≡ issues f n t
+issues-accept f n t r x within accepted = sym (issues-push r f x n t (accepted-later f t r x within accepted))
 
 -- ---- with no candidate open
 -- only the last event counts of what is kept

@@ -6,13 +6,14 @@ ghost use Rattle.edr_items.specs.declared.Item.{Item};
 ghost use Rattle.edr_items.specs.Item.{IsFeed, IsRising, mark_of};
 ghost use Rattle.edr_items.specs.SensorLists.{SensorLists, items_of, with_items, AreFeeds, horizon_of, IsLevel};
 ghost use Rattle.edr_record.specs.declared.Place.{Place};
+ghost use Rattle.edr_record.specs.declared.Command.{Command};
 ghost use Rattle.edr_record.specs.Bounds.{IsPlace, IsPre, IsCrash};
 ghost use Rattle.edr_definitions.specs.Ticks.{first_tick, IsFirst, HoldsNowhere};
 ghost use Rattle.edr_definitions.specs.Signals.{Signals, sample_at, signals_of};
 ghost use Rattle.edr_definitions.specs.Windows.{delta_v, sum_between, swing, filled};
 ghost use Rattle.edr_definitions.specs.Selection.{Bounds, Candidate, is_triggered, is_time_zero, is_end, chain, at_start, events};
 ghost use Rattle.edr_definitions.specs.Parts.{first_greatest, kmh_of, slot, pre_part, crash_part};
-ghost use Rattle.edr_definitions.specs.Commands.{place_of, places, last_placed, all_issues, issues, commands, InOrder, is_locking};
+ghost use Rattle.edr_definitions.specs.Commands.{place_of, places, last_placed, issue_at, all_issues, issues, commands, InOrder, is_locking};
 ghost use Rattle.edr_definitions.specs.Facts.{Reaches, IsTriggered, IsTimeZero, IsEnd, IsCandidate, IsChain, AreEventsAfter, IsFirstGreatest, IsLatestSample, HasNoSample, IsInBounds, AgreeUpTo};
 ghost use Rattle.edr_definitions.specs.Search.{Search, Searching, Open, next_search, StandsFor, open_candidates};
 ghost use Rattle.edr_definitions.specs.Change.{tick_change, stepped_change};
@@ -107,9 +108,10 @@ pub fn commands_lie_in_longer_ones()
     ensures { (f : SensorLists) (n t w : ℕ) → t ≤ w → map (λ i. i.command) (filter (λ i. nat_le i.tick t) (all_issues f n w)) ≡ commands f n t }
 {}
 
-/// The next tick adds its own commands at the end.
+/// The next tick adds its own commands at the end, and they are issued at it.
 pub fn a_tick_adds_its_commands()
-    ensures { (f : SensorLists) (n t : ℕ) → commands f n (t + 1) ≡ commands f n t ++ map (λ i. i.command) (filter (λ i. nat_eq i.tick (t + 1)) (all_issues f n (t + 1))) }
+    ensures commands { (f : SensorLists) (n t : ℕ) → commands f n (t + 1) ≡ commands f n t ++ map (λ i. i.command) (filter (λ i. nat_eq i.tick (t + 1)) (all_issues f n (t + 1))) }
+    ensures ticks { (f : SensorLists) (n t : ℕ) (added : List Command) → commands f n (t + 1) ≡ commands f n t ++ added → issues f n (t + 1) ≡ issues f n t ++ map (issue_at (t + 1)) added }
 {}
 
 /// An item of a later moment doesn't change the commands up to a tick.

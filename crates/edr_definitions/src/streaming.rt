@@ -15,7 +15,7 @@ ghost use Rattle.edr_record.specs.Parts.{PrePart};
 ghost use Rattle.edr_definitions.specs.Signals.{Signals, signals_of};
 ghost use Rattle.edr_definitions.specs.Selection.{at_start, close_of};
 ghost use Rattle.edr_definitions.specs.Parts.{pre_part};
-ghost use Rattle.edr_definitions.specs.Commands.{commands};
+ghost use Rattle.edr_definitions.specs.Commands.{issues, commands};
 ghost use Rattle.edr_definitions.specs.Search.{Search, Searching, Open, next_search, StandsFor};
 ghost use Rattle.edr_definitions.specs.Change.{Change, tick_change};
 ghost use Rattle.edr_definitions.specs.OpenCrash.{OpenCrash, finish_crash};
@@ -30,7 +30,7 @@ pub fn a_core_begins_with_the_cycle()
     ensures none_yet { (f : SensorLists) (n : ℕ) → commands f n 0 ≡ [] }
 {}
 
-/// With one more item that is accepted the core stands for the longer lists, and the commands so far stay the same.
+/// With one more item that is accepted the core stands for the longer lists, and the commands so far and their ticks stay the same.
 pub fn an_accepted_item_changes_no_command()
     ensures stands { (f : SensorLists) (n t : ℕ) (s : Search) (k : CoreState) (p : OpenCrash) (r : Sensor) (x : Item)
         → refusal_of r (mark_of (items_of r f)) x ≡ None
@@ -40,6 +40,10 @@ pub fn an_accepted_item_changes_no_command()
         → t ≤ horizon_of f
         → refusal_of r (mark_of (items_of r f)) x ≡ None
         → commands (with_item r x f) n t ≡ commands f n t }
+    ensures ticks { (f : SensorLists) (n t : ℕ) (r : Sensor) (x : Item)
+        → t ≤ horizon_of f
+        → refusal_of r (mark_of (items_of r f)) x ≡ None
+        → issues (with_item r x f) n t ≡ issues f n t }
 {}
 
 /// Past the next tick the core stands for the same lists, and at it the core issues exactly the commands of that tick.
