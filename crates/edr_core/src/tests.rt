@@ -76,10 +76,12 @@ fn issues_of(alloc: Global, trace: &Trace, arrival: Arrival) -> Result<Issues, F
         if first > trace.end {
             break;
         }
-        let last = first.saturating_add(arrival.ticks - 1).min(trace.end);
+        let past = first
+            .saturating_add(arrival.ticks)
+            .min(trace.end.saturating_add(1));
         for number in arrival.sensors {
             let sensor = Sensor::from_number(number).ok_or("a sensor")?;
-            for moment in first..last.saturating_add(1) {
+            for moment in first..past {
                 if let Some(item) = trace.item(sensor, moment) {
                     core.accept(sensor, item)?;
                 }
