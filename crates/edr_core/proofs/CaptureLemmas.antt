@@ -1,18 +1,17 @@
 -- What the captures keep of a cycle, and the pre part that they give.
-use Rattle.std.proofs.Common.{arith, refl, sym, ap, subst, ◌≡◌, ◌∙◌, ℕ, ◌+◌, ◌-◌, ◌<◌, ◌≤◌, None, List, [], ◌∷◌, ◌++◌}
+use Rattle.std.proofs.Common.{arith, refl, sym, ap, subst, ◌≡◌, ◌∙◌, ℕ, ◌+◌, ◌≤◌, None, List}
 use Rattle.std.specs.Prelude.{is_some}
 use Rattle.edr_items.specs.declared.Sensor.{Sensor}
 use Rattle.edr_items.specs.declared.Sensor.TheVariants.{Along, Across, Speed, Throttle, Brake, Belt, Lamp, Restraint}
 use Rattle.edr_items.specs.declared.Item.{Item}
-use Rattle.edr_items.specs.Item.{refusal_of, mark_from, mark_of, IsFeed}
+use Rattle.edr_items.specs.Item.{refusal_of, mark_of, IsFeed}
 use Rattle.edr_items.specs.SensorLists.{SensorLists, items_of}
 use Rattle.edr_items.proofs.FeedLemmas.{refusal_of-rises}
 use Rattle.edr_record.specs.declared.Place.{Place}
 use Rattle.edr_record.specs.declared.Place.TheVariants.{First}
 use Rattle.edr_record.specs.Bounds.{IsPre}
 use Rattle.edr_definitions.specs.Parts.{pre_part}
-use Rattle.edr_definitions.specs.Rings.{samples, newest}
-use Rattle.edr_definitions.specs.Schedule.{with_item}
+use Rattle.edr_definitions.specs.Rings.{samples}
 use Rattle.edr_definitions.specs.Core.{ring_lists}
 use Rattle.edr_definitions.proofs.RingLaws.{IsFeedAfter-rises_from, mark-filter, mark_of-newest}
 use Rattle.edr_definitions.proofs.FreezeLaws.{pre_part-frozen}

@@ -1,12 +1,9 @@
 -- One more item, and the start.
-use Rattle.std.proofs.Common.{arith, refl, ap, sym, subst, ◌≡◌, ◌∙◌, ℕ, ◌+◌, ◌<◌, ◌≤◌, Bool, true, false, None, Option, [], ◌∷◌, ◌++◌}
-use Rattle.std.specs.Prelude.{is_some}
+use Rattle.std.proofs.Common.{refl, sym, subst, ◌≡◌, ℕ, ◌≤◌, None, Option, []}
 use Rattle.edr_items.specs.declared.Sensor.{Sensor}
 use Rattle.edr_items.specs.declared.Sensor.TheVariants.{Along, Across, Speed, Throttle, Brake, Belt, Lamp, Restraint}
 use Rattle.edr_items.specs.declared.Item.{Item}
-use Rattle.edr_items.specs.Item.{refusal_of, mark_of, IsFeed}
-use Rattle.edr_items.specs.SensorLists.{SensorLists, items_of, no_items}
-use Rattle.edr_record.specs.Parts.{PrePart}
+use Rattle.edr_items.specs.SensorLists.{SensorLists, no_items}
 use Rattle.edr_definitions.specs.Signals.{signals_of}
 use Rattle.edr_definitions.specs.Selection.{at_start}
 use Rattle.edr_definitions.specs.Search.{Searching}
@@ -24,12 +21,10 @@ use Rattle.edr_capture.proofs.CaptureLemmas.{stands-push}
 use Rattle.edr_merge.specs.State.{MergeState}
 use Rattle.edr_merge.specs.StandsFor.{MergeStandsFor}
 use Rattle.edr_detect.specs.Detected.{DetectState, DetectStandsFor}
-use Rattle.edr_core.specs.declared.candidate.Candidate.{Candidate}
 use Rattle.edr_core.specs.declared.captures.Captures.{Captures}
 use Rattle.edr_core.specs.Captures.{no_captures, with_kept, IsLater, CapturesStandFor}
-use Rattle.edr_core.specs.Rows.{rows_of}
 use Rattle.edr_core.specs.Contents.{CoreContents}
-use Rattle.edr_core.specs.StandsFor.{HoldsCandidate, CoreIsFor}
+use Rattle.edr_core.specs.StandsFor.{CoreIsFor}
 use Rattle.edr_core.proofs.CaptureLemmas.{later-accepted}
 use Rattle.edr_core.proofs.RowLemmas.{rows_of-agree}
 

@@ -7,7 +7,6 @@ use Rattle.std.proofs.lemmas.List.FromFn.{length-map-range_with_len}
 use Rattle.edr_items.specs.declared.Sensor.TheVariants.{Along, Across, Restraint}
 use Rattle.edr_items.specs.declared.Item.{Item}
 use Rattle.edr_items.specs.SensorLists.{SensorLists, AreFeeds}
-use Rattle.edr_definitions.specs.Ticks.{ticks}
 use Rattle.edr_definitions.specs.Rings.{RisesFrom}
 use Rattle.edr_definitions.specs.Signals.{Signals, sample_at, signals_of}
 use Rattle.edr_definitions.specs.Windows.{filled}

@@ -1,5 +1,5 @@
 -- Slots of a sensor, one after the other.
-use Rattle.std.proofs.Common.{arith, sym, ap, subst, ◌≡◌, ◌∙◌, ℕ, ◌+◌, ◌<◌, ℤ, Option, None, List, length, get_or, map, unsigned_abs}
+use Rattle.std.proofs.Common.{arith, sym, subst, ◌≡◌, ◌∙◌, ℕ, ◌<◌, ℤ, Option, None, List, length, get_or, map, unsigned_abs}
 use Rattle.std.specs.Prelude.{All, option_map}
 use Rattle.std.proofs.lemmas.List.{same_lists, length-map, get_or-map, get_or_default}
 use Rattle.std.proofs.lemmas.List.Elements.{All-get_or}

@@ -1,11 +1,10 @@
 -- A step that closes a tick.
-use Rattle.std.proofs.Common.{arith, refl, ap, sym, subst, ◌≡◌, ◌∙◌, ℕ, ◌+◌, ◌-◌, ◌<◌, ◌≤◌, ℤ, pos, unwrap_or, unsigned_abs, Bool, true, false, Some, None, Option, List, [], ◌∷◌, ◌++◌, length, map}
+use Rattle.std.proofs.Common.{arith, refl, ap, sym, subst, ◌≡◌, ◌∙◌, ℕ, ◌+◌, ◌<◌, ◌≤◌, ℤ, pos, unwrap_or, unsigned_abs, Some, None, Option, List, [], ◌∷◌, ◌++◌, length, map}
 use Rattle.std.specs.Prelude.{IfSome}
-use Rattle.std.specs.Option.{ForSome, option_map_or}
+use Rattle.std.specs.Option.{option_map_or}
 use Rattle.edr_items.specs.declared.Sensor.{Sensor}
 use Rattle.edr_items.specs.declared.Sensor.TheVariants.{Along}
 use Rattle.edr_items.specs.declared.Restraints.{Restraints}
-use Rattle.edr_items.specs.Item.{mark_of}
 use Rattle.edr_items.specs.SensorLists.{SensorLists, horizon_of}
 use Rattle.edr_items.proofs.FeedLemmas.{IsFeedAfter-within}
 use Rattle.edr_record.specs.declared.Place.{Place}
@@ -17,11 +16,10 @@ use Rattle.edr_definitions.specs.Commands.{issue_at, issues, commands}
 use Rattle.edr_definitions.specs.Change.{Change, tick_change}
 use Rattle.edr_definitions.specs.Schedule.{Progress, Close, after_step}
 use Rattle.edr_definitions.specs.Core.{IsPreOf, commands_of}
-use Rattle.edr_definitions.proofs.BoundLaws.{HasSmallSamples, small_by, along-small, across-small}
+use Rattle.edr_definitions.proofs.BoundLaws.{small_by, along-small, across-small}
 use Rattle.edr_definitions.proofs.MarkLaws.{horizon-least}
 use Rattle.edr_definitions.proofs.OrderLaws.{issues-added}
 use Rattle.edr_crashpart.specs.Bounds.{IsInRange}
-use Rattle.edr_merge.specs.declared.Next.{Next}
 use Rattle.edr_merge.specs.declared.Next.TheVariants.{Waiting, Row}
 use Rattle.edr_merge.specs.Answers.{waited_for, row_at, next_of}
 use Rattle.edr_merge.specs.State.{MergeState}

@@ -1,10 +1,10 @@
 -- What the next tick does with the open candidate is what the definitions say of the core.
-use Rattle.std.proofs.Common.{arith, refl, ap, sym, subst, ◌≡◌, ◌∙◌, ℕ, ◌+◌, ◌≤◌, Bool, true, false, cond, ◌&&◌, ◌||◌, not, Some, None, Option, ◌-◌, ◌<◌, List, [], ◌∷◌, ◌++◌, length}
+use Rattle.std.proofs.Common.{arith, refl, ap, sym, subst, ◌≡◌, ◌∙◌, ℕ, ◌+◌, Bool, true, false, cond, ◌&&◌, ◌||◌, not, Some, None, Option, ◌-◌, ◌<◌, List, [], ◌∷◌, ◌++◌, length}
 use Rattle.std.specs.Prelude.{is_some}
 use Rattle.std.specs.Option.{ForSome}
-use Rattle.edr_items.specs.SensorLists.{SensorLists, horizon_of}
+use Rattle.edr_items.specs.SensorLists.{SensorLists}
 use Rattle.edr_record.specs.declared.Place.{Place}
-use Rattle.edr_record.specs.Parts.{PrePart, CrashPart}
+use Rattle.edr_record.specs.Parts.{PrePart}
 use Rattle.edr_definitions.specs.Signals.{Signals, signals_of}
 use Rattle.edr_definitions.specs.Parts.{pre_part}
 use Rattle.edr_definitions.specs.Commands.{place_of, commands}

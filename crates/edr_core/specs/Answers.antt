@@ -1,5 +1,5 @@
 -- What a step of a core answers.
-use Rattle.std.specs.Prelude.{◌≡◌, ℕ, ◌+◌, Option, Some, None, ◌++◌, List, map}
+use Rattle.std.specs.Prelude.{◌≡◌, ℕ, ◌+◌, Option, Some, None, ◌++◌, map}
 use Rattle.edr_items.specs.declared.Sensor.{Sensor}
 use Rattle.edr_definitions.specs.Commands.{issue_at, issues, commands}
 use Rattle.edr_definitions.specs.Schedule.{Progress, Close, after_step}

@@ -1,11 +1,11 @@
 -- What a tick does with the open candidate, and what it issues.
-use Rattle.std.specs.Prelude.{◌≡◌, ℕ, ◌+◌, ◌<◌, ◌≤◌, true, ◌||◌, if◌then◌else◌, Option, Some, None, option_map, MatchOption}
+use Rattle.std.specs.Prelude.{◌≡◌, ℕ, ◌+◌, ◌<◌, ◌≤◌, true, ◌||◌, if◌then◌else◌, Option, Some, None, option_map}
 use Rattle.edr_record.specs.declared.Place.{Place}
 use Rattle.edr_record.specs.Parts.{PrePart}
 use Rattle.edr_definitions.specs.Selection.{close_of}
 use Rattle.edr_definitions.specs.Commands.{place_of}
 use Rattle.edr_definitions.specs.Change.{Change}
-use Rattle.edr_definitions.specs.OpenCrash.{OpenCrash, begin_crash, next_crash, finish_crash}
+use Rattle.edr_definitions.specs.OpenCrash.{begin_crash, next_crash, finish_crash}
 use Rattle.edr_definitions.specs.Core.{TickIssues, when}
 use Rattle.edr_crashpart.specs.Bounds.{IsInRange}
 use Rattle.edr_link.specs.Link.{IsPast}

@@ -1,5 +1,4 @@
 -- The fields of a `Core`.
-use Rattle.std.specs.Prelude.{◌≤◌}
 use Rattle.edr_definitions.specs.Schedule.{Progress}
 use Rattle.edr_core.specs.declared.Core.TheInside.{Inside}
 use Rattle.edr_core.specs.Contents.{CoreContents}

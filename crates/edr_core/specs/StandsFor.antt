@@ -1,5 +1,5 @@
 -- What a `Core` stands for: its cycle, what was given of it, and up to where it has closed.
-use Rattle.std.specs.Prelude.{◌≡◌, ℕ, ◌≤◌, MatchOption, Option, Some, None, is_some}
+use Rattle.std.specs.Prelude.{◌≡◌, ℕ, ◌≤◌, Option, Some, None, is_some}
 use Rattle.edr_definitions.specs.Signals.{signals_of}
 use Rattle.edr_definitions.specs.Search.{Search}
 use Rattle.edr_definitions.specs.Schedule.{Progress}

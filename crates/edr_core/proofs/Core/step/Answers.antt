@@ -1,4 +1,4 @@
-use Rattle.std.proofs.Common.{rules, refl, sym, subst, ◌≡◌, ◌∙◌, ◌≤◌, ℤ, unsigned_abs, FitsSigned, to_z, of_z, w32}
+use Rattle.std.proofs.Common.{rules, sym, subst, ◌∙◌, ◌≤◌, ℤ, unsigned_abs, FitsSigned, to_z, of_z, w32}
 use Rattle.std.proofs.lemmas.Int.{to_z-of_z}
 use Rattle.edr_definitions.specs.Schedule.{Close, after_step}
 use Rattle.edr_detect.specs.Stages.{told_of}

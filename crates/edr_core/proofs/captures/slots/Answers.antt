@@ -1,4 +1,4 @@
-use Rattle.std.proofs.Common.{arith, subst, sym, ◌+◌, ◌*◌, ◌-◌, ◌≡◌, ◌<◌, ℕ, get_or, None}
+use Rattle.std.proofs.Common.{arith, ◌+◌, ◌*◌, ◌-◌, None}
 use Rattle.std.proofs.lemmas.List.FromFn.{fill_by_all}
 use Rattle.edr_definitions.specs.Parts.{slot, slots_before}
 use Rattle.edr_core.proofs.captures.slots.Goals as goal

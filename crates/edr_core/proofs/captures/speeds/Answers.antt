@@ -1,4 +1,4 @@
-use Rattle.std.proofs.Common.{arith, None, refl, unsigned_abs}
+use Rattle.std.proofs.Common.{arith, None, unsigned_abs}
 use Rattle.std.specs.Prelude.{option_map}
 use Rattle.edr_core.proofs.SlotLemmas.{filled-map, number-at}
 use Rattle.edr_core.proofs.captures.speeds.Goals as goal
