@@ -1,5 +1,5 @@
 -- One more tick in the list of the last 20.
-use Rattle.std.proofs.Common.{arith, refl, ap, sym, subst, ◌≡◌, ◌∙◌, ℕ, zero, suc, ◌+◌, ◌-◌, ◌*◌, ◌%◌, ◌<◌, ◌≤◌, ◌⊎◌, inl, inr, ℤ, pos, negsuc, neg_ℤ, ◌≤ℤ◌, ◌+ℤ◌, ◌-ℤ◌, unsigned_abs, Option, List, [], ◌∷◌, length, get_or, set, map, length-set, FitsSigned, w32}
+use Rattle.std.proofs.Common.{arith, ap, sym, ◌≡◌, ◌∙◌, ℕ, zero, suc, ◌+◌, ◌-◌, ◌*◌, ◌%◌, ◌<◌, ◌≤◌, ◌⊎◌, inl, inr, ℤ, pos, negsuc, neg_ℤ, ◌≤ℤ◌, ◌+ℤ◌, ◌-ℤ◌, unsigned_abs, Option, List, [], ◌∷◌, length, get_or, set, map, length-set, FitsSigned, w32}
 use Rattle.std.proofs.lemmas.Int.{ints}
 use Rattle.std.proofs.lemmas.Bool.{cases_lt}
 use Rattle.std.proofs.lemmas.List.{get_or-set_same, get_or-set_other}
@@ -13,7 +13,7 @@ use Rattle.edr_detect.specs.Sums.{IsSumOfSmall}
 use Rattle.edr_detect.specs.Latest.{LatestStandsFor}
 
 -- a number of at most this size fits an i32
-pub small-fits : (z : ℤ) → neg_ℤ (pos 2_200_000) ≤ℤ z → z ≤ℤ pos 2_200_000 → FitsSigned w32 z
+small-fits : (z : ℤ) → neg_ℤ (pos 2_200_000) ≤ℤ z → z ≤ℤ pos 2_200_000 → FitsSigned w32 z
 small-fits (pos a) low high = record { sfits = omega (arith, ints) }
 small-fits (negsuc a) low high = record { sfits = omega (arith, ints) }
 
@@ -53,6 +53,27 @@ module _ (values : List ℤ) (sum : ℤ) (h : IsSumOfSmall values sum) where
       at : (j : ℕ) → j < 20 → (j ≡ i) ⊎ (j ≡ i → ⊥) → unsigned_abs (get_or (set values i v) j (pos 0)) ≤ 100_000
       at j ltj (inl e) = let s = get_or-set_same values i v (pos 0) (let long = h.long in omega arith) in let t = ap unsigned_abs (ap (λ k. get_or (set values i v) k (pos 0)) e ∙ s) in omega (arith, t, small)
       at j ltj (inr ne) = let s = ap unsigned_abs (get_or-set_other values i j v (pos 0) ne) in let b = h.small j ltj in omega (arith, s, b)
+
+-- the sum with one change less, and then with another one more, fits an i32
+pub record PushFits (sum old change : ℤ) : Type 0 where
+  pub sum_fits : FitsSigned w32 sum
+  pub old_fits : FitsSigned w32 old
+  pub change_fits : FitsSigned w32 change
+  pub less_fits : FitsSigned w32 (sum -ℤ old)
+  pub more_fits : FitsSigned w32 (sum -ℤ old +ℤ change)
+
+pub push-fits : (values : List ℤ) (sum change : ℤ) (i : ℕ) → IsSumOfSmall values sum → i < 20 → unsigned_abs change ≤ 100_000 → PushFits sum (get_or values i (pos 0)) change
+push-fits values sum change i h lt small =
+    let old = get_or values i (pos 0) in
+    let whole : unsigned_abs sum ≤ 2_000_000 = latest-small values sum h in
+    let one : unsigned_abs old ≤ 100_000 = h.small i lt in
+    record {
+      sum_fits = small-fits sum (omega (arith, ints, whole)) (omega (arith, ints, whole));
+      old_fits = small-fits old (omega (arith, ints, one)) (omega (arith, ints, one));
+      change_fits = small-fits change (omega (arith, ints, small)) (omega (arith, ints, small));
+      less_fits = small-fits (sum -ℤ old) (omega (arith, ints, whole, one)) (omega (arith, ints, whole, one));
+      more_fits = small-fits (sum -ℤ old +ℤ change) (omega (arith, ints, whole, one, small)) (omega (arith, ints, whole, one, small));
+    }
 
 -- one more tick at the upper end
 pub delta_v-push : (axis : ℕ → Option ℤ) (s t : ℕ) → s ≤ t → delta_v axis s (t + 1) ≡ delta_v axis s t +ℤ change_at axis (t + 1)

@@ -1,5 +1,5 @@
 -- One more row, and one more tick of the search.
-use Rattle.std.proofs.Common.{arith, refl, ap, sym, subst, ◌≡◌, ◌≢◌, ◌∙◌, ℕ, zero, suc, ◌+◌, ◌<◌, ◌≤◌, ◌⊎◌, inl, inr, Bool, true, false, not, nat_eq, ℤ, pos, unwrap_or, Some, None, Option, List, [], ◌∷◌, ◌++◌, length, slice_get, add-one, length-append}
+use Rattle.std.proofs.Common.{arith, refl, ap, sym, subst, ◌≡◌, ◌∙◌, ℕ, zero, suc, ◌+◌, ◌<◌, ◌≤◌, Bool, true, false, nat_eq, ℤ, pos, unwrap_or, Some, None, Option, List, [], ◌∷◌, ◌++◌, length, slice_get, add-one, length-append}
 use Rattle.std.specs.Prelude.{option_map, IsSome, is_some, is_none, ◌&&◌, if◌then◌else◌}
 use Rattle.std.proofs.lemmas.Bool.Decides.{nat_tests}
 use Rattle.std.specs.Option.{option_map_or, option_or}
@@ -8,7 +8,7 @@ use Rattle.edr_definitions.specs.Windows.{change_at}
 use Rattle.edr_definitions.specs.Selection.{Bounds, at_start, is_triggered, is_time_zero, is_end, close_of}
 use Rattle.edr_definitions.specs.Commands.{is_locking}
 use Rattle.edr_definitions.specs.Facts.{AgreeUpTo}
-use Rattle.edr_definitions.specs.Search.{Phase, Searching, Open, Search, PhaseIs, StandsFor, next_search, next_from, past_end, next_open, tick_if}
+use Rattle.edr_definitions.specs.Search.{Phase, Searching, Open, Search, PhaseIs, StandsFor, next_search, next_from, next_open, tick_if}
 use Rattle.edr_definitions.specs.Change.{Change, stepped_change, tick_change}
 use Rattle.edr_definitions.proofs.AgreeLaws.{delta_v-agree, map-ticks-agree}
 use Rattle.edr_definitions.proofs.SearchLaws.{StandsFor-next, StandsFor-start}

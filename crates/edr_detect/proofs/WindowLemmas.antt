@@ -1,6 +1,6 @@
 -- Swings over the changes of an axis.
-use Rattle.std.proofs.Common.{arith, refl, ap, sym, subst, ◌≡◌, ◌∙◌, ℕ, ◌+◌, ◌-◌, ◌<◌, ◌≤◌, max, ℤ, unsigned_abs, Option, List, [], ◌∷◌, ◌++◌, length}
-use Rattle.edr_definitions.specs.Windows.{change_at, largest_change, swing}
+use Rattle.std.proofs.Common.{arith, ap, sym, subst, ◌≡◌, ◌∙◌, ℕ, ◌+◌, ◌-◌, ◌<◌, ◌≤◌, max, ℤ, unsigned_abs, Option, List, [], ◌∷◌, ◌++◌, length}
+use Rattle.edr_definitions.specs.Windows.{change_at, swing}
 use Rattle.edr_definitions.proofs.WindowLaws.{largest_change-none}
 use Rattle.edr_window.specs.Changes.{changes}
 use Rattle.edr_window.specs.Sums.{IsLeastSum, IsGreatestSum}

@@ -1,5 +1,5 @@
 -- What the windows of the streaming search hold.
-use Rattle.std.specs.Prelude.{◌≡◌, ℕ, ◌≤◌, pos, Bool, if◌then◌else◌, Option, None}
+use Rattle.std.specs.Prelude.{◌≡◌, ℕ, ◌≤◌, pos, if◌then◌else◌, Option, None}
 use Rattle.edr_definitions.specs.Signals.{Signals}
 use Rattle.edr_definitions.specs.Windows.{change_at}
 use Rattle.edr_definitions.specs.Selection.{Bounds, is_triggered, is_time_zero, is_end}

@@ -5,8 +5,8 @@ use crate::windows::Windows;
 use edr_items::Restraints;
 use std::marker::Model;
 
-/// The selection of events of one cycle, tick by tick. Whatever the number of ticks, it keeps a few numbers
-/// and the sums of the last 150 of them.
+/// The selection of events of one cycle, tick by tick. Whatever the number of ticks, it keeps four swings, the
+/// changes of the last 20 ticks and a few numbers.
 ///
 /// ```
 /// let mut detect = Detect::new();

@@ -1,5 +1,5 @@
-//! The selection of events: which stretches of a cycle the recorder reports, found from whole lists of
-//! acceleration and deployment samples.
+//! The selection of events: which stretches of a cycle the recorder reports. `Detect` finds them tick by tick,
+//! and `select` from whole lists of acceleration and deployment samples.
 #![tactic(auto)]
 
 mod detector;

@@ -37,7 +37,7 @@ pub enum Stage {
     },
 }
 
-// The answers of the four tests at a tick: `zero` where no candidate is open, and `ends` where one is.
+// The answers of the four tests at a tick. `zero` counts where no candidate is open, and `ends` where one is.
 #[derive(Clone, Copy)]
 pub struct Tests {
     pub zero: bool,

@@ -1,5 +1,5 @@
 -- What a swing keeps are the sums of what was pushed.
-use Rattle.std.proofs.Common.{arith, ap, sym, ◌≡◌, ◌∙◌, ℕ, zero, suc, ◌+◌, ◌-◌, ◌<◌, ◌≤◌, ◌⊎◌, inl, inr, ℤ, pos, ◌+ℤ◌, List, [], ◌∷◌, ◌++◌, length, get_or, add-one, length-append}
+use Rattle.std.proofs.Common.{arith, refl, ap, sym, ◌≡◌, ◌∙◌, ℕ, zero, suc, ◌+◌, ◌-◌, ◌<◌, ◌≤◌, ◌⊎◌, inl, inr, ℤ, pos, ◌+ℤ◌, List, [], ◌∷◌, ◌++◌, length, get_or, add-one, length-append}
 use Rattle.std.proofs.lemmas.Int.{ints}
 use Rattle.std.proofs.lemmas.Bool.{cases_lt}
 use Rattle.edr_window.specs.Sums.{last_sum, IsWithin, IsLeastSum, IsGreatestSum}
@@ -26,6 +26,21 @@ swing-push k s r values v h more long each = record {
   length_is = long;
   sums_are = λ i lt. each i lt ∙ ap (λ (z : ℤ). z +ℤ v) (shorter k s values i h lt) ∙ sym (last_sum-push values v i);
 }
+
+-- where each sum is 0, so it is with a further 0
+module _ (k : ℕ) (s : SwingState) (values : List ℤ) (h : SwingStandsFor k s values) (x : AreExtremes s.sums (pos 0) (pos 0)) where
+  each_none : (i : ℕ) → i < k → get_or s.sums i (pos 0) ≡ pos 0
+  each_none i lt = let long = h.length_is in let b = x.between i (omega arith) in omega (arith, ints, b.0, b.1)
+
+  front_none : (i : ℕ) → i < k → get_or (pos 0 ∷ s.sums) i (pos 0) ≡ pos 0
+  front_none zero lt = refl
+  front_none (suc i) lt = each_none i (omega arith)
+
+  pub swing-still : (r : SwingState) (v : ℤ) → v ≡ pos 0 → r.pushes ≡ s.pushes + 1 → r.sums ≡ s.sums → SwingStandsFor k r (values ++ v ∷ [])
+  swing-still r v none more same = swing-push k s r values v h more (ap (λ (xs : List ℤ). length xs) same ∙ h.length_is) (λ i lt.
+      let here = ap (λ (xs : List ℤ). get_or xs i (pos 0)) same ∙ each_none i lt in
+      let front = front_none i lt in
+      omega (arith, ints, here, front, none))
 
 -- a kept sum is one of 1 to k values
 pub kept-sum : (k : ℕ) (s : SwingState) (values : List ℤ) (i : ℕ) → SwingStandsFor k s values → i < k → 1 ≤ length values → (n : ℕ) × IsWithin k values n × (get_or s.sums i (pos 0) ≡ last_sum values n)

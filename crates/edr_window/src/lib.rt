@@ -85,10 +85,14 @@ impl<const K: usize> Swing<K> {
         ensures stands { (values : List ℤ) → SwingStandsFor K self.old values → SwingStandsFor K self.new (values ++ v ∷ []) }
         ensures pushes { self.new.pushes ≡ self.old.pushes + 1 }
     {
+        self.pushes += 1;
+        // Where every sum is 0, a further 0 changes none.
+        if v == 0 && self.least == 0 && self.greatest == 0 {
+            return;
+        }
         let extremes = put_in_front(&mut self.sums, v as i32);
         self.least = extremes.least;
         self.greatest = extremes.greatest;
-        self.pushes += 1;
     }
 
     /// The least of the sums, or None where nothing was pushed since the restart.

@@ -1,7 +1,6 @@
-use Rattle.std.proofs.Common.{arith, ap, sym, ◌≡◌, ◌∙◌, ◌<◌, ◌≤◌, ℕ, ℤ, unsigned_abs, FitsSigned, w64, rules, to_z, of_z}
-use Rattle.std.proofs.lemmas.Int.{ints, to_z-of_z}
+use Rattle.std.proofs.Common.{arith, ap, sym, unsigned_abs, FitsSigned, w64, rules}
+use Rattle.std.proofs.lemmas.Int.{to_z-of_z}
 use Rattle.edr_window.specs.Changes.{changes}
-use Rattle.edr_window.specs.Sums.{IsLeastSum, IsGreatestSum}
 use Rattle.edr_detect.proofs.WindowLemmas.{swing-none, swing-greatest, swing-least}
 use Rattle.edr_detect.proofs.windows.largest.Goals as goal
 

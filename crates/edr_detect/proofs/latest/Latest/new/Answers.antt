@@ -1,4 +1,4 @@
-use Rattle.std.proofs.Common.{arith, ap, sym, ◌∙◌, ◌≡◌, ◌-◌, ◌%◌, ℕ, pos, refl}
+use Rattle.std.proofs.Common.{arith, ap, sym, ◌∙◌, ◌≡◌, ◌-◌, ◌%◌, pos}
 use Rattle.std.proofs.lemmas.List.{get_or-replicate}
 use Rattle.edr_definitions.specs.Windows.{change_at}
 use Rattle.edr_definitions.proofs.WindowLaws.{delta_v-none}

@@ -1,6 +1,5 @@
-use Rattle.std.proofs.Common.{arith, ap, ◌≡◌, ◌∙◌, sym, to_z, of_z, w32, w64}
+use Rattle.std.proofs.Common.{arith}
 use Rattle.std.proofs.lemmas.Int.{ints}
-use Rattle.edr_definitions.specs.Windows.{change_at}
 use Rattle.edr_detect.proofs.WindowLemmas.{swing-more}
 use Rattle.edr_detect.proofs.windows.Windows.push.Goals as goal
 

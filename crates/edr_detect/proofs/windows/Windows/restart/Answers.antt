@@ -1,4 +1,3 @@
-use Rattle.std.proofs.Common.{arith, ◌≡◌, ◌∙◌, sym}
 use Rattle.edr_detect.proofs.WindowLemmas.{swing-begun}
 use Rattle.edr_detect.proofs.windows.Windows.restart.Goals as goal
 
