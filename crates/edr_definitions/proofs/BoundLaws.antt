@@ -116,7 +116,7 @@ pre_part-is f n z place feeds low high from to is = record {
 pub record HasSmallSamples (axis : ℕ → Option ℤ) : Type 0 where
   pub small : (t : ℕ) (v : ℤ) → axis t ≡ Some v → unsigned_abs v ≤ 100_000
 
-size_of_sum : (x y z : ℤ) → z ≡ x +ℤ y → unsigned_abs z ≤ unsigned_abs x + unsigned_abs y
+pub size_of_sum : (x y z : ℤ) → z ≡ x +ℤ y → unsigned_abs z ≤ unsigned_abs x + unsigned_abs y
 size_of_sum (pos a) (pos b) (pos c) e = omega (arith, ints, e)
 size_of_sum (pos a) (pos b) (negsuc c) e = omega (arith, ints, e)
 size_of_sum (pos a) (negsuc b) (pos c) e = omega (arith, ints, e)
@@ -126,7 +126,7 @@ size_of_sum (negsuc a) (pos b) (negsuc c) e = omega (arith, ints, e)
 size_of_sum (negsuc a) (negsuc b) (pos c) e = omega (arith, ints, e)
 size_of_sum (negsuc a) (negsuc b) (negsuc c) e = omega (arith, ints, e)
 
-small_by : (o : Option ℤ) → ((v : ℤ) → o ≡ Some v → unsigned_abs v ≤ 100_000) → unsigned_abs (unwrap_or o (pos 0)) ≤ 100_000
+pub small_by : (o : Option ℤ) → ((v : ℤ) → o ≡ Some v → unsigned_abs v ≤ 100_000) → unsigned_abs (unwrap_or o (pos 0)) ≤ 100_000
 small_by None h = omega arith
 small_by (Some v) h = h v refl
 
@@ -146,7 +146,7 @@ size_of_negative : (k : ℕ) → unsigned_abs (neg_ℤ (pos k)) ≡ k
 size_of_negative zero = refl
 size_of_negative (suc k) = refl
 
-is_change : (z : ℤ) → unsigned_abs z ≤ 30_000_000 → IsChange (kmh_of z)
+pub is_change : (z : ℤ) → unsigned_abs z ≤ 30_000_000 → IsChange (kmh_of z)
 is_change (pos n) h = omega (arith, h)
 is_change (negsuc n) h = let e = size_of_negative ((suc n + 5_000) / 10_000) in omega (arith, h, e)
 

@@ -13,7 +13,7 @@ use Rattle.edr_definitions.specs.Ticks.{first_tick, IsFirst}
 use Rattle.edr_definitions.specs.Signals.{Signals, signals_of}
 use Rattle.edr_definitions.specs.Selection.{Candidate, Event, event_of, close_of, events}
 use Rattle.edr_definitions.specs.Parts.{pre_part, crash_part}
-use Rattle.edr_definitions.specs.Commands.{Issue, locks_at, issues_of, is_locking, places, commands}
+use Rattle.edr_definitions.specs.Commands.{issues, Issue, locks_at, issues_of, is_locking, places, commands}
 use Rattle.edr_definitions.specs.Facts.{AgreeUpTo, GiveTheSameUpTo}
 use Rattle.edr_definitions.proofs.TickLaws.{first_tick-some, first_tick-is}
 use Rattle.edr_definitions.proofs.AgreeLaws.{IsFirst-agree, AgreeUpTo-sym}
@@ -127,9 +127,9 @@ three P a a' ls ls' ds ds' first locks dones =
     let tail : filter P (ls ++ ds) ≡ filter P (ls' ++ ds') = filter-append P ls ds ∙ ap (λ xs. xs ++ filter P ds) locks ∙ ap (λ ys. filter P ls' ++ ys) dones ∙ sym (filter-append P ls' ds') in
     ap (λ x. cond (P x) (x ∷ filter P (ls ++ ds)) (filter P (ls ++ ds))) first ∙ ap (λ xs. cond (P a') (a' ∷ xs) xs) tail
 
-issues-same : (f g : SensorLists) (n t : ℕ) (e d : Event) (p : Place) → GiveTheSameUpTo t f g → SameEvent t e d → filter (λ i. nat_le i.tick t) (issues_of f n (e, p)) ≡ filter (λ i. nat_le i.tick t) (issues_of g n (d, p))
+event_issues-same : (f g : SensorLists) (n t : ℕ) (e d : Event) (p : Place) → GiveTheSameUpTo t f g → SameEvent t e d → filter (λ i. nat_le i.tick t) (issues_of f n (e, p)) ≡ filter (λ i. nat_le i.tick t) (issues_of g n (d, p))
 unfolding issues_of
-issues-same f g n t e d p same one =
+event_issues-same f g n t e d p same one =
     let m = signals_of f in
     let m' = signals_of g in
     let P = λ (i : Issue). nat_le i.tick t in
@@ -152,7 +152,7 @@ issues-same f g n t e d p same one =
     (issue_is e.confirmed_tick d.confirmed_tick (Take pre) (Take pre') one.confirmed_is (ap Take pre_is)) locks dones
 
 -- ---- all commands
-zeros-same : {t : ℕ} {es fs : List Event} → SameEvents t es fs → map (λ e. e.zero_tick) es ≡ map (λ e. e.zero_tick) fs
+pub zeros-same : {t : ℕ} {es fs : List Event} → SameEvents t es fs → map (λ e. e.zero_tick) es ≡ map (λ e. e.zero_tick) fs
 zeros-same no_event = refl
 zeros-same (an_event one rest) = let a = one.zero_is in let b = zeros-same rest in cc
 
@@ -161,17 +161,20 @@ all_issues-same f g n ps same no_event = refl
 all_issues-same f g n [] same (an_event one rest) = refl
 all_issues-same f g n {t = t} (p ∷ ps) same (an_event {e = e} {f = d} {es = es} {fs = ds} one rest) =
     filter-append (λ i. nat_le i.tick t) (issues_of f n (e, p)) (flat_map (issues_of f n) (zip es ps))
-    ∙ ap (λ xs. xs ++ filter (λ i. nat_le i.tick t) (flat_map (issues_of f n) (zip es ps))) (issues-same f g n t e d p same one)
+    ∙ ap (λ xs. xs ++ filter (λ i. nat_le i.tick t) (flat_map (issues_of f n) (zip es ps))) (event_issues-same f g n t e d p same one)
     ∙ ap (λ ys. filter (λ i. nat_le i.tick t) (issues_of g n (d, p)) ++ ys) (all_issues-same f g n ps same rest)
     ∙ sym (filter-append (λ i. nat_le i.tick t) (issues_of g n (d, p)) (flat_map (issues_of g n) (zip ds ps)))
 
--- lists that give the same up to t have the same commands up to t
-pub commands-same : (f g : SensorLists) (n t : ℕ) → GiveTheSameUpTo t f g → commands f n t ≡ commands g n t
-unfolding commands
-commands-same f g n t same =
+-- lists that give the same up to t have the same commands up to t, at the same ticks
+pub issues-same : (f g : SensorLists) (n t : ℕ) → GiveTheSameUpTo t f g → issues f n t ≡ issues g n t
+issues-same f g n t same =
     let es = events (signals_of f) t in
     let ds = events (signals_of g) t in
     let one : SameEvents t es ds = events-same (signals_of f) (signals_of g) t same.signals in
     let zeros : map (λ e. e.zero_tick) es ≡ map (λ e. e.zero_tick) ds = zeros-same one in
-    ap (map (λ i. i.command)) (all_issues-same f g n (places (map (λ e. e.zero_tick) es)) same one
-    ∙ ap (λ zs. filter (λ i. nat_le i.tick t) (flat_map (issues_of g n) (zip ds (places zs)))) zeros)
+    all_issues-same f g n (places (map (λ e. e.zero_tick) es)) same one
+    ∙ ap (λ zs. filter (λ i. nat_le i.tick t) (flat_map (issues_of g n) (zip ds (places zs)))) zeros
+
+pub commands-same : (f g : SensorLists) (n t : ℕ) → GiveTheSameUpTo t f g → commands f n t ≡ commands g n t
+unfolding commands
+commands-same f g n t same = ap (map (λ i. i.command)) (issues-same f g n t same)

@@ -5,6 +5,8 @@ mod VectorsChain
 mod VectorsParts
 mod VectorsCommands
 mod VectorsChange
+mod VectorsCore
+mod VectorsSchedule
 pub mod TickLaws
 pub mod WindowLaws
 pub mod SelectionLaws
@@ -29,5 +31,16 @@ pub mod BoundLaws
 pub mod SearchLaws
 pub mod StandingLaws
 pub mod TickChangeLaws
+pub mod ToldLaws
 pub mod TestLaws
 pub mod UniqueLaws
+pub mod CrashLaws
+pub mod RingLaws
+pub mod MarkLaws
+pub mod ScheduleLaws
+pub mod NewLaws
+pub mod CoreLaws
+pub mod KeepLaws
+pub mod OpenLaws
+pub mod WholeLaws
+pub mod FreezeLaws

@@ -2,7 +2,7 @@
 use Rattle.std.proofs.Common.{arith, refl, ap, sym, ◌≡◌, ◌∙◌, ℕ, ◌+◌, ◌*◌, ◌<◌, ◌≤◌, ◌⊎◌, inl, inr, Bool, true, false, cond, nat_le, nat_eq, Some, None, Option, List, [], ◌∷◌, ◌++◌, map, filter}
 use Rattle.std.specs.Prelude.{flat_map, zip}
 use Rattle.std.proofs.lemmas.Bool.{cases_lt}
-use Rattle.std.proofs.lemmas.List.{map-append}
+use Rattle.std.proofs.lemmas.List.{map-append, append_cancel_left}
 use Rattle.edr_items.specs.SensorLists.{SensorLists}
 use Rattle.edr_record.specs.declared.Place.{Place}
 use Rattle.edr_record.specs.declared.Command.{Command}
@@ -11,11 +11,11 @@ use Rattle.edr_record.specs.Parts.{PrePart}
 use Rattle.edr_definitions.specs.Signals.{signals_of}
 use Rattle.edr_definitions.specs.Selection.{Event, events, close_of}
 use Rattle.edr_definitions.specs.Parts.{pre_part, crash_part}
-use Rattle.edr_definitions.specs.Commands.{Issue, locks_at, lock_of, issues_of, places, zeros_by, all_issues, issues, commands, rank_of, order_of, InOrder}
+use Rattle.edr_definitions.specs.Commands.{Issue, issue_at, locks_at, lock_of, issues_of, places, zeros_by, all_issues, issues, commands, rank_of, order_of, InOrder}
 use Rattle.edr_definitions.specs.Facts.{IsEventAfter, AreEventsAfter}
 use Rattle.edr_definitions.proofs.FactLaws.{nat_le_not}
 use Rattle.edr_definitions.proofs.EventLaws.{events-follow}
-use Rattle.edr_definitions.proofs.WithinLaws.{commands-within}
+use Rattle.edr_definitions.proofs.WithinLaws.{issues-within}
 
 rank_small : (c : Command) → rank_of c ≤ 2
 rank_small (Take p) = omega arith
@@ -111,12 +111,35 @@ issues-split t a (x ∷ xs) h = by_time (issues-split t (order_of x + 1) xs h.1)
       let b = early x.tick near in let b0 = b.0 in let b1 = b.1 in let b2 = b.2 in
       rw (b0, b1, b2) (ap (λ ys. x ∷ ys) rest)
 
--- the commands up to the next tick are those up to this one and then those of the next tick
-pub commands-more : (f : SensorLists) (n t : ℕ) → commands f n (t + 1) ≡ commands f n t ++ map (λ i. i.command) (filter (λ i. nat_eq i.tick (t + 1)) (all_issues f n (t + 1)))
-commands-more f n t =
+-- what is issued up to the next tick is that up to this one and then that of the next tick
+pub issues-more : (f : SensorLists) (n t : ℕ) → issues f n (t + 1) ≡ issues f n t ++ filter (λ i. nat_eq i.tick (t + 1)) (all_issues f n (t + 1))
+issues-more f n t =
     let all = all_issues f n (t + 1) in
-    let split = issues-split t 0 all (all_issues-in_order f n (t + 1)) in
-    let now : commands f n (t + 1) ≡ map (λ i. i.command) (filter (λ i. nat_le i.tick (t + 1)) all) = unfold commands in refl in
-    now ∙ ap (map (λ i. i.command)) split
-    ∙ map-append (λ (i : Issue). i.command) (filter (λ i. nat_le i.tick t) all) (filter (λ i. nat_eq i.tick (t + 1)) all)
-    ∙ ap (λ cs. cs ++ map (λ i. i.command) (filter (λ i. nat_eq i.tick (t + 1)) all)) (commands-within f n t (t + 1) (omega arith))
+    issues-split t 0 all (all_issues-in_order f n (t + 1))
+    ∙ ap (λ is. is ++ filter (λ i. nat_eq i.tick (t + 1)) all) (issues-within f n t (t + 1) (omega arith))
+
+pub commands-more : (f : SensorLists) (n t : ℕ) → commands f n (t + 1) ≡ commands f n t ++ map (λ i. i.command) (filter (λ i. nat_eq i.tick (t + 1)) (all_issues f n (t + 1)))
+unfolding commands
+commands-more f n t =
+    ap (map (λ i. i.command)) (issues-more f n t)
+    ∙ map-append (λ (i : Issue). i.command) (issues f n t) (filter (λ i. nat_eq i.tick (t + 1)) (all_issues f n (t + 1)))
+
+-- issues of one tick are their commands at that tick
+issues-at : (t : ℕ) (is : List Issue) → filter (λ i. nat_eq i.tick t) is ≡ map (issue_at t) (map (λ i. i.command) (filter (λ i. nat_eq i.tick t) is))
+issues-at t [] = refl
+issues-at t (i ∷ is) = by_tick (issues-at t is) (nat_eq i.tick t) refl where
+  same_tick : (k : ℕ) → nat_eq k t ≡ true → k ≡ t
+  same_tick k e = grind arith
+
+  by_tick : filter (λ i. nat_eq i.tick t) is ≡ map (issue_at t) (map (λ i. i.command) (filter (λ i. nat_eq i.tick t) is)) → (v : Bool) → nat_eq i.tick t ≡ v → cond v (i ∷ filter (λ i. nat_eq i.tick t) is) (filter (λ i. nat_eq i.tick t) is) ≡ map (issue_at t) (map (λ i. i.command) (cond v (i ∷ filter (λ i. nat_eq i.tick t) is) (filter (λ i. nat_eq i.tick t) is)))
+  by_tick rest false e = rest
+  by_tick rest true e =
+      ap (λ ys. i ∷ ys) rest
+      ∙ ap (λ k. issue_at k i.command ∷ map (issue_at t) (map (λ i. i.command) (filter (λ i. nat_eq i.tick t) is))) (same_tick i.tick e)
+
+-- the commands that a tick adds are issued at it
+pub issues-added : (f : SensorLists) (n t : ℕ) (added : List Command) → commands f n (t + 1) ≡ commands f n t ++ added → issues f n (t + 1) ≡ issues f n t ++ map (issue_at (t + 1)) added
+issues-added f n t added h =
+    let now = filter (λ i. nat_eq i.tick (t + 1)) (all_issues f n (t + 1)) in
+    let same : map (λ i. i.command) now ≡ added = append_cancel_left (commands f n t) (map (λ i. i.command) now) added (sym (commands-more f n t) ∙ h) in
+    issues-more f n t ∙ ap (λ is. issues f n t ++ is) (issues-at (t + 1) (all_issues f n (t + 1)) ∙ ap (map (issue_at (t + 1))) same)

@@ -57,11 +57,12 @@ pub StandsFor-agree : (t : ℕ) (m n : Signals) (s : Search) → AgreeUpTo t m n
 StandsFor-agree t m n s same h = StandsFor-tests t m n (SameTests-agree t m n same) s h
 
 -- ---- what stands at the next tick
-abbrev end_test : Signals → ℕ → Phase → Bool
+-- whether the open candidate ends at a tick
+abbrev pub end_test : Signals → ℕ → Phase → Bool
 end_test m t Searching = false
 end_test m t (Open z c l e) = is_end m z t
 
-end_test-is : (m : Signals) (t : ℕ) (ph : Phase) (z : ℕ) (c l : Option ℕ) → ph ≡ Open z c l None → end_test m t ph ≡ is_end m z t
+pub end_test-is : (m : Signals) (t : ℕ) (ph : Phase) (z : ℕ) (c l : Option ℕ) → ph ≡ Open z c l None → end_test m t ph ≡ is_end m z t
 end_test-is m t ph z c l h = ap (λ (x : Phase). end_test m t x) h
 
 end_test-same : (t : ℕ) (m n : Signals) (ph : Phase) → SameTests t m n → end_test m t ph ≡ end_test n t ph

@@ -60,7 +60,7 @@ is_at-past (Some u) t past = let k = past u refl in grind arith
 pub nat_eq-past : (u t : ℕ) → u ≤ t → nat_eq u (t + 1) ≡ false
 nat_eq-past u t past = grind arith
 
-and_false : (a b : Bool) → b ≡ false → (a && b) ≡ false
+pub and_false : (a b : Bool) → b ≡ false → (a && b) ≡ false
 and_false true b h = h
 and_false false b h = refl
 
@@ -144,7 +144,7 @@ any_now m t s h p never =
     ap (λ (cs : List Candidate). list_any p cs) (sym (chain-next m t s h))
     ∙ any_closed m t p never at_start s.bounds h.closed (now_open m (t + 1) s.bounds s.phase) h.leads h.all_closed
 
-change_is : (a b l c d e a' b' l' c' d' e' : Bool) → a ≡ a' → b ≡ b' → l ≡ l' → c ≡ c' → d ≡ d' → e ≡ e' → ◌≡◌ {A = Change} (record { zero = a; confirmed = b; locked = l; ended = c; dropped = d; closed = e }) (record { zero = a'; confirmed = b'; locked = l'; ended = c'; dropped = d'; closed = e' })
+pub change_is : (a b l c d e a' b' l' c' d' e' : Bool) → a ≡ a' → b ≡ b' → l ≡ l' → c ≡ c' → d ≡ d' → e ≡ e' → ◌≡◌ {A = Change} (record { zero = a; confirmed = b; locked = l; ended = c; dropped = d; closed = e }) (record { zero = a'; confirmed = b'; locked = l'; ended = c'; dropped = d'; closed = e' })
 change_is a b l c d e a' b' l' c' d' e' p q k r s t = cc
 
 -- the change at the next tick is that of what is open then

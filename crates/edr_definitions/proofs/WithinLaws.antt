@@ -12,7 +12,7 @@ use Rattle.edr_definitions.specs.Ticks.{first_tick, IsFirst}
 use Rattle.edr_definitions.specs.Signals.{Signals, signals_of}
 use Rattle.edr_definitions.specs.Selection.{Bounds, is_triggered, Candidate, Event, bounds_after, event_of, close_of, chain, at_start}
 use Rattle.edr_definitions.specs.Parts.{pre_part, crash_part}
-use Rattle.edr_definitions.specs.Commands.{Issue, locks_at, issues_of, is_locking, place_of, places_from, all_issues, commands}
+use Rattle.edr_definitions.specs.Commands.{issues, Issue, locks_at, issues_of, is_locking, place_of, places_from, all_issues, commands}
 use Rattle.edr_definitions.specs.Facts.{IsCandidate, IsChain}
 use Rattle.edr_definitions.proofs.TickLaws.{first_tick-some}
 use Rattle.edr_definitions.proofs.LockLaws.{lock-after}
@@ -185,9 +185,12 @@ module _ (f : SensorLists) (n t : ℕ) where
   within_chain w within from (c ∷ cs) h s =
       within_step w within from c cs h.0 h.2 (within_chain w within (bounds_after from c) cs h.2) s (cases_lt t c.zero_tick)
 
-  pub commands-within : (w : ℕ) → t ≤ w → map (λ i. i.command) (filter (λ i. nat_le i.tick t) (all_issues f n w)) ≡ commands f n t
-  unfolding commands
-  commands-within w within =
+  pub issues-within : (w : ℕ) → t ≤ w → filter (λ i. nat_le i.tick t) (all_issues f n w) ≡ issues f n t
+  issues-within w within =
       let m = signals_of f in
       let shorter : cut (chain m w) ≡ chain m t = IsChain-is m t (cut (chain m w)) (cut-chain w within at_start (chain m w) (chain-is_chain m w)) in
-      ap (map (λ i. i.command)) (within_chain w within at_start (chain m w) (chain-is_chain m w) None ∙ ap (λ (cs : List Candidate). long_side t cs None) shorter)
+      within_chain w within at_start (chain m w) (chain-is_chain m w) None ∙ ap (λ (cs : List Candidate). long_side t cs None) shorter
+
+  pub commands-within : (w : ℕ) → t ≤ w → map (λ i. i.command) (filter (λ i. nat_le i.tick t) (all_issues f n w)) ≡ commands f n t
+  unfolding commands
+  commands-within w within = ap (map (λ i. i.command)) (issues-within w within)

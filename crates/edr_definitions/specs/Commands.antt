@@ -52,6 +52,10 @@ pub record Issue : Type 0 where
   pub tick : ℕ
   pub command : Command
 
+-- the command, issued at the tick t
+abbrev pub issue_at : ℕ → Command → Issue
+issue_at t c = record { tick = t; command = c }
+
 -- the Lock of a pre part at a tick, if there is one
 abbrev pub locks_at : PrePart → Option ℕ → List Issue
 locks_at pre None = []

@@ -7,3 +7,7 @@ pub mod Commands
 pub mod Facts
 pub mod Search
 pub mod Change
+pub mod OpenCrash
+pub mod Rings
+pub mod Schedule
+pub mod Core

@@ -1,21 +1,23 @@
 //! Laws of the definitions, each the contract of a function that does nothing.
 
-ghost use Rattle.std.specs.Prelude.{◌≡◌, ℕ, ◌+◌, ◌<◌, ◌≤◌, ◌↔◌, Bool, List, Option, Some, None, ℤ, IsTrue, nat_eq, nat_le, [], ◌∷◌, ◌++◌, ◌*◌, ◌/◌, length, map, filter, All, pos, neg_ℤ};
+ghost use Rattle.std.specs.Prelude.{◌≡◌, ℕ, ◌+◌, ◌<◌, ◌≤◌, ◌↔◌, Bool, List, Option, Some, None, ℤ, IsTrue, ◌⊎◌, nat_eq, nat_le, [], ◌∷◌, ◌++◌, ◌*◌, ◌/◌, length, map, filter, All, pos, neg_ℤ};
 ghost use Rattle.edr_items.specs.declared.Sensor.{Sensor};
 ghost use Rattle.edr_items.specs.declared.Item.{Item};
-ghost use Rattle.edr_items.specs.Item.{IsFeed, IsRising};
-ghost use Rattle.edr_items.specs.SensorLists.{SensorLists, items_of, with_items, AreFeeds};
+ghost use Rattle.edr_items.specs.Item.{IsFeed, IsRising, mark_of};
+ghost use Rattle.edr_items.specs.SensorLists.{SensorLists, items_of, with_items, AreFeeds, horizon_of, IsLevel};
 ghost use Rattle.edr_record.specs.declared.Place.{Place};
+ghost use Rattle.edr_record.specs.declared.Command.{Command};
 ghost use Rattle.edr_record.specs.Bounds.{IsPlace, IsPre, IsCrash};
 ghost use Rattle.edr_definitions.specs.Ticks.{first_tick, IsFirst, HoldsNowhere};
 ghost use Rattle.edr_definitions.specs.Signals.{Signals, sample_at, signals_of};
 ghost use Rattle.edr_definitions.specs.Windows.{delta_v, sum_between, swing, filled};
 ghost use Rattle.edr_definitions.specs.Selection.{Bounds, Candidate, is_triggered, is_time_zero, is_end, chain, at_start, events};
 ghost use Rattle.edr_definitions.specs.Parts.{first_greatest, kmh_of, slot, pre_part, crash_part};
-ghost use Rattle.edr_definitions.specs.Commands.{place_of, places, last_placed, all_issues, issues, commands, InOrder, is_locking};
+ghost use Rattle.edr_definitions.specs.Commands.{place_of, places, last_placed, issue_at, all_issues, issues, commands, InOrder, is_locking};
 ghost use Rattle.edr_definitions.specs.Facts.{Reaches, IsTriggered, IsTimeZero, IsEnd, IsCandidate, IsChain, AreEventsAfter, IsFirstGreatest, IsLatestSample, HasNoSample, IsInBounds, AgreeUpTo};
 ghost use Rattle.edr_definitions.specs.Search.{Search, Searching, Open, next_search, StandsFor, open_candidates};
-ghost use Rattle.edr_definitions.specs.Change.{tick_change, stepped_change};
+ghost use Rattle.edr_definitions.specs.Change.{change_of_list, tick_change, stepped_change};
+ghost use Rattle.edr_definitions.specs.Schedule.{Progress, Step, Give, IsAllowed, after_steps, items_given, IsNext, IsUnderWay, GoesOn, IsOver};
 
 /// What is found is the least tick that passes the test, and nothing is found where none passes.
 pub fn first_tick_is_least()
@@ -106,9 +108,10 @@ pub fn commands_lie_in_longer_ones()
     ensures { (f : SensorLists) (n t w : ℕ) → t ≤ w → map (λ i. i.command) (filter (λ i. nat_le i.tick t) (all_issues f n w)) ≡ commands f n t }
 {}
 
-/// The next tick adds its own commands at the end.
+/// The next tick adds its own commands at the end, and they are issued at it.
 pub fn a_tick_adds_its_commands()
-    ensures { (f : SensorLists) (n t : ℕ) → commands f n (t + 1) ≡ commands f n t ++ map (λ i. i.command) (filter (λ i. nat_eq i.tick (t + 1)) (all_issues f n (t + 1))) }
+    ensures commands { (f : SensorLists) (n t : ℕ) → commands f n (t + 1) ≡ commands f n t ++ map (λ i. i.command) (filter (λ i. nat_eq i.tick (t + 1)) (all_issues f n (t + 1))) }
+    ensures ticks { (f : SensorLists) (n t : ℕ) (added : List Command) → commands f n (t + 1) ≡ commands f n t ++ added → issues f n (t + 1) ≡ issues f n t ++ map (issue_at (t + 1)) added }
 {}
 
 /// An item of a later moment doesn't change the commands up to a tick.
@@ -132,6 +135,11 @@ pub fn a_change_follows_from_the_phase()
     ensures change { (m : Signals) (t : ℕ) (s : Search) (ends : Bool) → StandsFor m t s → ((z : ℕ) (c l : Option ℕ) → s.phase ≡ Open z c l None → ends ≡ is_end m z (t + 1)) → tick_change m (t + 1) ≡ stepped_change (t + 1) (is_time_zero m s.bounds (t + 1)) (is_triggered m s.bounds.since (t + 1)) (is_locking m (t + 1)) ends s.phase }
 {}
 
+/// What stands at a tick is known there: of the chain up to any later tick the same stands at it.
+pub fn each_tick_is_told_as_it_comes()
+    ensures { (m : Signals) (t w : ℕ) → t ≤ w → tick_change m t ≡ change_of_list m t (chain m w) }
+{}
+
 /// A tick without a sample counts as a sample of 0.
 pub fn a_missing_sample_counts_as_zero()
     ensures stands { (m n : Signals) (t : ℕ) (s : Search) → AgreeUpTo t (filled m) (filled n) → StandsFor m t s → StandsFor n t s }
@@ -141,4 +149,24 @@ pub fn a_missing_sample_counts_as_zero()
 /// The search that stands for signals up to a tick is one.
 pub fn one_search_stands()
     ensures { (m : Signals) (t : ℕ) (s r : Search) → StandsFor m t s → StandsFor m t r → s ≡ r }
+{}
+
+/// From level feeds some item or tick is always allowed next, until all items are given and the closed tick is the
+/// horizon. The next item of a sensor that is waited for is never too far ahead of the closed tick, nor is any
+/// once the horizon is closed: so a run that gives each item only then meets no refusal.
+pub fn a_run_is_never_stuck_and_never_ahead()
+    ensures stuck { (f : SensorLists) (p : Progress) → AreFeeds f → IsLevel f → IsUnderWay f p → GoesOn f p ⊎ IsOver f p }
+    ensures ahead { (f : SensorLists) (p : Progress) (s : Sensor) (x : Item) → AreFeeds f → IsLevel f → IsUnderWay f p → IsNext f p s x → (mark_of (items_of s p.given) ≡ p.closed) ⊎ (p.closed ≡ horizon_of f) → IsAllowed (Give s x) p }
+{}
+
+/// What was given depends on no order but each sensor's own: steps that give each sensor the same items, in
+/// whatever order they come and wherever ticks are closed between them, lead to the same lists.
+pub fn arrival_order_is_free()
+    ensures lists { (p : Progress) (steps : List Step) (s : Sensor) → items_of s (after_steps p steps).given ≡ items_of s p.given ++ items_given s steps }
+    ensures same { (p : Progress) (steps others : List Step) → ((s : Sensor) → items_given s steps ≡ items_given s others) → (after_steps p steps).given ≡ (after_steps p others).given }
+{}
+
+/// What stands at a tick that may be closed is what the whole feeds have there, however far they have been given.
+pub fn a_closed_tick_stands()
+    ensures { (f : SensorLists) (p : Progress) (t : ℕ) → AreFeeds f → IsUnderWay f p → t ≤ horizon_of p.given → AgreeUpTo t (signals_of p.given) (signals_of f) }
 {}

@@ -1,3 +1,9 @@
 pub mod Selected
 pub mod Places
 pub mod Found
+pub mod Stages
+pub mod Sums
+pub mod Latest
+pub mod Standing
+pub mod Rows
+pub mod Detected

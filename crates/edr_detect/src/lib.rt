@@ -1,11 +1,17 @@
-//! The selection of events: which stretches of a cycle the recorder reports, found from whole lists of
-//! acceleration and deployment samples.
+//! The selection of events: which stretches of a cycle the recorder reports. `Detect` finds them tick by tick,
+//! and `select` from whole lists of acceleration and deployment samples.
 #![tactic(auto)]
 
+mod detector;
+mod latest;
 mod search;
+mod stage;
 mod window;
+mod windows;
 
+pub use detector::Detect;
 pub use search::select;
+pub use stage::Change;
 
 /// How an event went on: its end and its close, as ticks of the cycle.
 #[derive(Clone, Copy, Debug, PartialEq, Eq)]

@@ -1,6 +1,8 @@
+ghost use Rattle.std.specs.Prelude.{◌≤◌, unsigned_abs};
+
 use super::*;
-use edr_items::{AddRefused, Feeds, Item, Sensor};
-use std::alloc::Global;
+use edr_items::{AddRefused, Feeds, Item, Restraints, Sensor};
+use std::alloc::{AllocError as OutOfMemory, Global};
 use std::test::Fail;
 
 // A sample of this value at each of the ticks.
@@ -39,6 +41,76 @@ fn cycle(
         feeds.add(Sensor::Across, Item { moment, value })?;
     }
     Ok(feeds)
+}
+
+// What the detector tells of a cycle: its events, and of the candidates that it drops time zero and end.
+#[derive(Drop)]
+struct Told {
+    events: Vec<Selected>,
+    dropped: Vec<(u32, u32)>,
+}
+
+fn change_in_range(stretches: &[Stretch], t: u32) -> i32
+    ensures { unsigned_abs result ≤ 100_000 }
+{
+    let value = value_at(stretches, t);
+    if value.unsigned_abs() > 100_000 {
+        0
+    } else {
+        value
+    }
+}
+
+fn tell(
+    alloc: Global,
+    last: u32,
+    along: &[Stretch],
+    across: &[Stretch],
+) -> Result<Told, OutOfMemory>
+    requires { last ≤ 86_400_000 }
+{
+    let mut told = Told {
+        events: Vec::new(alloc),
+        dropped: Vec::new(alloc),
+    };
+    let mut detect = Detect::new();
+    let mut begun = event(0, 0, 0, 0);
+    for before in 0..last {
+        let t = before + 1;
+        let change = detect.tick(
+            change_in_range(along, t),
+            change_in_range(across, t),
+            Restraints(0),
+        );
+        begun = follow(begun, change, t);
+        if change.dropped {
+            told.dropped.push((begun.zero, t))?;
+        }
+        if change.closed {
+            told.events.push(begun)?;
+        }
+    }
+    Ok(told)
+}
+
+// The open candidate with what stands at the tick t.
+fn follow(begun: Selected, change: Change, t: u32) -> Selected {
+    let mut next = begun;
+    if change.zero {
+        next.zero = t;
+    }
+    if change.confirmed {
+        next.confirmed = t;
+    }
+    let mut rest = begun.rest.unwrap_or(Rest { end: t, close: t });
+    if change.ended {
+        rest.end = t;
+    }
+    if change.closed {
+        rest.close = t;
+    }
+    next.rest = Some(rest);
+    next
 }
 
 fn event(zero: u32, confirmed: u32, end: u32, close: u32) -> Selected {
@@ -134,4 +206,86 @@ fn a_deployment_confirms_and_a_late_one_belongs(rt: HostRuntime) -> Result<(), F
     let both = [event(500, 500, 520, 550), event(551, 551, 571, 601)];
     assert_eq!(rt; found.as_slice(), both.as_slice());
     Ok(())
+}
+
+// The worked traces: ties, a reach back past a dropped candidate, an impulse that turns, a lateral trigger.
+#[test]
+fn the_detector_tells_what_select_finds(rt: HostRuntime) -> Result<(), Fail> {
+    let blow = [steady(6001, 6100, -4000)];
+    let apart = [steady(6001, 6010, 5000), steady(6071, 6080, 5000)];
+    let turned = [steady(6001, 6010, 3000), steady(6011, 6030, -4000)];
+    let push = [steady(6001, 6400, 540)];
+    let none: &[Stretch] = &[];
+    for (along, across, found) in [
+        (blow.as_slice(), none, event(6003, 6020, 6118, 6148)),
+        (apart.as_slice(), none, event(6072, 6076, 6099, 6129)),
+        (turned.as_slice(), none, event(6003, 6030, 6048, 6078)),
+        (none, push.as_slice(), event(6149, 6149, 6406, 6436)),
+    ] {
+        let told = tell(rt.alloc(), 7000, along, across)?;
+        assert_eq!(rt; told.events.as_slice(), [found].as_slice());
+        let feeds = cycle(rt.alloc(), 7000, along, across)?;
+        let selected = select(rt.alloc(), &feeds, 7000)?;
+        assert_eq!(rt; told.events.as_slice(), selected.as_slice());
+    }
+    let told = tell(rt.alloc(), 7000, &apart, none)?;
+    assert_eq!(rt; told.dropped.as_slice(), [(6002, 6029)].as_slice());
+    Ok(())
+}
+
+// Three candidates end by the reset and one quietly, and none is an event.
+#[test]
+fn the_detector_drops_candidates_of_a_steady_pull(rt: HostRuntime) -> Result<(), Fail> {
+    let told = tell(rt.alloc(), 3000, &[steady(1, 2000, 400)], &[])?;
+    assert!(rt; told.events.is_empty() && told.dropped.is_empty());
+    let told = tell(rt.alloc(), 3000, &[steady(1, 2000, 401)], &[])?;
+    let ends = [(20, 520), (540, 1040), (1060, 1560), (1580, 2001)];
+    assert!(rt; told.events.is_empty());
+    assert_eq!(rt; told.dropped.as_slice(), ends.as_slice());
+    Ok(())
+}
+
+// A pretensioner opens at 100 and an air bag locks at 105; of a second air bag nothing is told. The close is at 150.
+#[test]
+fn the_detector_tells_the_first_locking_deployment(rt: HostRuntime) {
+    let mut detect = Detect::new();
+    let quiet = Change {
+        zero: false,
+        confirmed: false,
+        locked: false,
+        ended: false,
+        dropped: false,
+        closed: false,
+    };
+    for before in 0..200u32 {
+        let t = before + 1;
+        let fired = match t {
+            100 => 64,
+            105 => 65,
+            106 => 2,
+            _ => 0,
+        };
+        let change = detect.tick(0, 0, Restraints(fired));
+        let expected = match t {
+            100 => Change {
+                zero: true,
+                confirmed: true,
+                ..quiet
+            },
+            105 => Change {
+                locked: true,
+                ..quiet
+            },
+            120 => Change {
+                ended: true,
+                ..quiet
+            },
+            150 => Change {
+                closed: true,
+                ..quiet
+            },
+            _ => quiet,
+        };
+        assert_eq!(rt; change, expected, "at {t}");
+    }
 }

@@ -1,0 +1,35 @@
+-- What a step of a core answers.
+use Rattle.std.specs.Prelude.{◌≡◌, ℕ, ◌+◌, Option, Some, None, ◌++◌, map}
+use Rattle.edr_items.specs.declared.Sensor.{Sensor}
+use Rattle.edr_definitions.specs.Commands.{issue_at, issues, commands}
+use Rattle.edr_definitions.specs.Schedule.{Progress, Close, after_step}
+use Rattle.edr_definitions.specs.Core.{commands_of}
+use Rattle.edr_core.specs.declared.Step.{Step}
+use Rattle.edr_core.specs.declared.Step.TheVariants.{Waiting, Closed}
+
+-- the answer is a closed tick
+abbrev pub IsClosed : Step → Type 0
+IsClosed (Waiting s) = ⊥
+IsClosed (Closed t take lock crash) = Unit {0}
+
+-- the sensor that an answer waits for
+abbrev pub awaited : Step → Option Sensor
+awaited (Waiting s) = Some s
+awaited (Closed t take lock crash) = None
+
+-- where an answer leads
+abbrev pub after_answer : Progress → Step → Progress
+after_answer p (Waiting s) = p
+after_answer p (Closed t take lock crash) = after_step p Close
+
+-- a closed tick is the next one, and carries exactly its commands of cycle n
+abbrev pub HasTheCommands : ℕ → Progress → Step → Type 0
+HasTheCommands n p (Waiting s) = Unit {0}
+HasTheCommands n p (Closed t take lock crash) =
+    (t ≡ p.closed + 1) × (commands p.given n t ≡ commands p.given n p.closed ++ commands_of (record { take = take; lock = lock; done = crash }))
+
+-- the same with their ticks
+abbrev pub HasTheIssues : ℕ → Progress → Step → Type 0
+HasTheIssues n p (Waiting s) = Unit {0}
+HasTheIssues n p (Closed t take lock crash) =
+    issues p.given n t ≡ issues p.given n p.closed ++ map (issue_at t) (commands_of (record { take = take; lock = lock; done = crash }))

@@ -1,0 +1,51 @@
+-- What the five captures stand for, and when a pre part can be frozen.
+use Rattle.std.specs.Prelude.{ℕ, ◌+◌, ◌<◌, ◌≤◌, []}
+use Rattle.edr_items.specs.declared.TheConstants.{LATEST_MOMENT, LONGEST_GAP}
+use Rattle.edr_items.specs.declared.Sensor.{Sensor}
+use Rattle.edr_items.specs.declared.Sensor.TheVariants.{Along, Across, Speed, Throttle, Brake, Belt, Lamp, Restraint}
+use Rattle.edr_items.specs.declared.Item.{Item}
+use Rattle.edr_items.specs.Item.{mark_of}
+use Rattle.edr_items.specs.SensorLists.{SensorLists, items_of, AreFeeds}
+use Rattle.edr_capture.specs.Capture.{StandsFor, kept_after}
+use Rattle.edr_core.specs.declared.captures.Captures.{Captures}
+
+-- nothing is kept
+abbrev pub no_captures : Captures
+no_captures = record { speed = []; throttle = []; brake = []; belt = []; lamp = [] }
+
+-- what is kept, as lists of a cycle
+abbrev pub kept_lists : Captures → SensorLists
+kept_lists c = record { along = []; across = []; speed = c.speed; throttle = c.throttle; brake = c.brake; belt = c.belt; lamp = c.lamp; restraint = [] }
+
+-- one more item of that sensor: of the other three nothing is kept
+abbrev pub with_kept : Sensor → Item → Captures → Captures
+with_kept Along x c = c
+with_kept Across x c = c
+with_kept Speed x c = record c { speed = kept_after c.speed x }
+with_kept Throttle x c = record c { throttle = kept_after c.throttle x }
+with_kept Brake x c = record c { brake = kept_after c.brake x }
+with_kept Belt x c = record c { belt = kept_after c.belt x }
+with_kept Lamp x c = record c { lamp = kept_after c.lamp x }
+with_kept Restraint x c = c
+
+-- the item is later than all that is kept of its sensor
+abbrev pub IsLater : Sensor → Item → Captures → Type 0
+IsLater s x c = mark_of (items_of s (kept_lists c)) < x.moment
+
+-- the captures were given these lists
+pub record CapturesStandFor (c : Captures) (f : SensorLists) : Type 0 where
+  pub speed : StandsFor c.speed f.speed
+  pub throttle : StandsFor c.throttle f.throttle
+  pub brake : StandsFor c.brake f.brake
+  pub belt : StandsFor c.belt f.belt
+  pub lamp : StandsFor c.lamp f.lamp
+
+-- the captures keep enough of these feeds for the pre part of the time zero z of cycle n: no sensor is further past it than a gap may be
+pub record KeepPrePart (c : Captures) (n z : ℕ) (f : SensorLists) : Type 0 where
+  pub feeds : AreFeeds f
+  pub kept : CapturesStandFor c f
+  pub near : (s : Sensor) → mark_of (items_of s f) ≤ z + LONGEST_GAP
+  pub cycle_from : 1 ≤ n
+  pub cycle_to : n ≤ 4_294_967_295
+  pub zero_from : 1 ≤ z
+  pub zero_to : z ≤ LATEST_MOMENT

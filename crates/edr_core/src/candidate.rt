@@ -1,0 +1,135 @@
+//! The open candidate: what is kept of it from tick to tick, and what a tick issues of it.
+
+ghost use Rattle.std.specs.Prelude.{◌≡◌, true, IfSome};
+ghost use Rattle.edr_items.specs.SensorLists.{SensorLists};
+ghost use Rattle.edr_record.specs.declared.Place.TheVariants.{First};
+ghost use Rattle.edr_definitions.specs.Parts.{pre_part};
+ghost use Rattle.edr_detect.specs.Stages.{told_of};
+ghost use Rattle.edr_core.specs.Captures.{kept_lists, KeepPrePart};
+ghost use Rattle.edr_core.specs.Candidate.{IsRowInRange, IsShort, CanBeTold, begun, grown, grown_or_begun, told, linked, issued, candidate_after, link_after, issued_after};
+
+use crate::captures::Captures;
+use edr_crashpart::CrashPart;
+use edr_detect::Change;
+use edr_items::Restraints;
+use edr_link::Link;
+use edr_record::{Crash, Key, Pre};
+
+// What was given of a tick: the sample of each axis, if there is one, and the restraints that fire.
+#[derive(Clone, Copy)]
+pub struct Row {
+    pub along: Option<i32>,
+    pub across: Option<i32>,
+    pub fired: Restraints,
+}
+
+// A candidate from its time zero up to its close, or up to its end if it is dropped there.
+#[derive(Drop)]
+pub struct Candidate {
+    // Frozen at time zero. The place is that of the event once it is confirmed.
+    pub pre: Pre,
+    pub crash: CrashPart,
+    // The end once it has come, and time zero before that.
+    pub end: u32,
+}
+
+// What a tick issues.
+pub struct Issued {
+    pub take: Option<Pre>,
+    pub lock: Option<Pre>,
+    pub done: Option<Crash>,
+}
+
+impl Candidate {
+    // A candidate at its time zero.
+    pub fn begin(pre: Pre, row: Row) -> Candidate
+        ensures { result ≡ begun pre row }
+    {
+        let zero = pre.key.zero;
+        Candidate {
+            pre,
+            crash: CrashPart::begin(zero, row.fired),
+            end: zero,
+        }
+    }
+
+    // One tick more.
+    pub fn grow(&mut self, row: Row)
+        requires short { IsShort self.old }
+        requires in_range { IsRowInRange row }
+        ensures { self.new ≡ grown row self.old }
+    {
+        self.crash.tick(row.along, row.across, row.fired);
+    }
+
+    // What is issued at a tick, once what stands there is told.
+    pub fn tell(&mut self, tick: u32, change: Change, link: &mut Link) -> Issued
+        requires { CanBeTold tick (told_of change) link.old self.old }
+        ensures candidate { self.new ≡ told tick (told_of change) link.old self.old }
+        ensures link { link.new ≡ linked (told_of change) link.old self.new }
+        ensures issued { result ≡ issued (told_of change) self.new }
+    {
+        if change.confirmed {
+            self.pre.place = link.next(self.pre.key.zero);
+        }
+        if change.ended {
+            self.end = tick;
+        }
+        Issued {
+            take: change.confirmed.then_some(self.pre),
+            lock: change.locked.then_some(self.pre),
+            done: if change.closed {
+                Some(self.crash.finish(self.end))
+            } else {
+                None
+            },
+        }
+    }
+}
+
+// Begins a candidate where the tick is a time zero, and else gives the open one its row. `key` is that of an event with
+// this time zero.
+pub fn follow(
+    candidate: &mut Option<Candidate>,
+    captures: &Captures,
+    key: Key,
+    change: Change,
+    row: Row,
+)
+    requires freeze { change.zero ≡ true → (f : SensorLists) × KeepPrePart captures.now key.cycle key.zero f }
+    requires short { IfSome candidate.old IsShort }
+    requires in_range { IsRowInRange row }
+    ensures { candidate.new ≡ grown_or_begun (told_of change) (pre_part (kept_lists captures.now) key.cycle First key.zero) row candidate.old }
+{
+    if change.zero {
+        *candidate = Some(Candidate::begin(captures.freeze(key), row));
+    } else if let Some(open) = candidate {
+        open.grow(row);
+    }
+}
+
+// What a tick issues, once it is told to the open candidate. One that is dropped or closed there is open no longer.
+pub fn issue(
+    candidate: &mut Option<Candidate>,
+    link: &mut Link,
+    tick: u32,
+    change: Change,
+) -> Issued
+    requires { IfSome candidate.old (CanBeTold tick (told_of change) link.old) }
+    ensures candidate { candidate.new ≡ candidate_after tick (told_of change) link.old candidate.old }
+    ensures link { link.new ≡ link_after tick (told_of change) link.old candidate.old }
+    ensures issued { result ≡ issued_after tick (told_of change) link.old candidate.old }
+{
+    let Some(open) = candidate else {
+        return Issued {
+            take: None,
+            lock: None,
+            done: None,
+        };
+    };
+    let issued = open.tell(tick, change, link);
+    if change.dropped || change.closed {
+        *candidate = None;
+    }
+    issued
+}

@@ -1,0 +1,160 @@
+//! The core of the recorder: it takes items of the eight sensors in any order of sensors, closes one tick after the other,
+//! and issues the commands of each tick.
+#![tactic(auto)]
+
+mod candidate;
+mod captures;
+
+ghost use Rattle.std.specs.Prelude.{◌≡◌, ◌↔◌, ℕ, ◌≤◌, IfOk, IfErr, IsOk, OnOk, OnErr};
+ghost use Rattle.edr_items.specs.SensorLists.{no_items};
+ghost use Rattle.edr_definitions.specs.Schedule.{Progress, Give, Close, IsAllowed, after_step};
+
+use candidate::{Candidate, Issued, Row, follow, issue};
+use captures::Captures;
+use edr_detect::Detect;
+use edr_items::{Item, Sensor};
+use edr_link::Link;
+use edr_merge::{Merge, MergeRefused, Next};
+use edr_record::{Crash, Key, Pre};
+use std::alloc::{AllocError as OutOfMemory, Global};
+use std::marker::Model;
+
+/// What a core answers to the wish for the next tick.
+#[derive(Clone, Copy, Debug, PartialEq, Eq)]
+pub enum Step {
+    /// The next tick can't be closed: this sensor may still give an item of it.
+    Waiting {
+        sensor: Sensor,
+    },
+    /// The next tick is closed. `take` is the pre part of an event that is confirmed there, `lock` that of one whose
+    /// first locking deployment it is, and `done` the crash part of one whose close it is.
+    Closed {
+        tick: u32,
+        take: Option<Pre>,
+        lock: Option<Pre>,
+        done: Option<Crash>,
+    },
+}
+
+/// The core of the recorder in one ignition cycle. It keeps what later ticks can still need: some seconds of each slow
+/// sensor, the sums of the search, and one open candidate.
+///
+/// All memory is taken when it is opened. A call takes none and has a bounded number of steps.
+#[derive(Drop)]
+pub struct Core {
+    cycle: u32,
+    closed: u32,
+    merge: Merge,
+    detect: Detect,
+    captures: Captures,
+    link: Link,
+    candidate: Option<Candidate>,
+}
+
+impl Model for Core {
+    ghost use Rattle.edr_core.specs.Contents.{CoreContents};
+
+    ghost Value = { CoreContents };
+
+    ghost use Rattle.edr_core.specs.Fields.{contents_of, HasHistory};
+
+    ghost view = { contents_of };
+
+    ghost invariant = { HasHistory };
+}
+
+impl Core {
+    ghost use Rattle.edr_merge.specs.Answers.{give_refusal_of, waited_for};
+    ghost use Rattle.edr_core.specs.StandsFor.{CoreIsFor};
+    ghost use Rattle.edr_core.specs.Answers.{IsClosed, awaited, after_answer, HasTheCommands, HasTheIssues};
+
+    /// A core for the ignition cycle of that number, to which no sensor has given an item, and of which no tick is closed.
+    pub fn open(alloc: Global, cycle: u32) -> Result<Core, OutOfMemory>
+        requires { 1 ≤ cycle }
+        ensures { IfOk result (λ c. CoreIsFor c cycle (record { given = no_items; closed = 0 })) }
+    {
+        Ok(Core {
+            cycle,
+            closed: 0,
+            merge: Merge::new(alloc)?,
+            detect: Detect::new(),
+            captures: Captures::new(alloc)?,
+            link: Link::new(),
+            candidate: None,
+        })
+    }
+
+    /// The tick up to which all are closed.
+    pub fn closed(&self) -> u32
+        ensures { (n : ℕ) (p : Progress) → CoreIsFor self.now n p → result ≡ p.closed }
+    {
+        self.closed
+    }
+
+    /// Takes one more item of that sensor.
+    ///
+    /// ```
+    /// let mut core = Core::open(alloc, 1)?;
+    /// core.accept(Sensor::Along, Item { moment: 1, value: Some(-4000) })?;
+    /// ```
+    pub fn accept(&mut self, sensor: Sensor, item: Item) -> Result<(), MergeRefused>
+        ensures ok { OnOk result ((n : ℕ) (p : Progress) → CoreIsFor self.old n p → CoreIsFor self.new n (after_step p (Give sensor item))) }
+        ensures err { OnErr result (self.new ≡ self.old) }
+
+        // An item is taken exactly where the schedule allows it.
+        ensures allowed { (n : ℕ) (p : Progress) → CoreIsFor self.old n p → IsOk result ↔ IsAllowed (Give sensor item) p }
+        ensures why { (n : ℕ) (p : Progress) → CoreIsFor self.old n p → IfErr result (λ e. give_refusal_of sensor item p ≡ Some e) }
+    {
+        self.merge.accept(sensor, item)?;
+        self.captures.push(sensor, item);
+        Ok(())
+    }
+
+    /// Closes the next tick and gives what it issues, if no sensor can give an item of it any more.
+    pub fn step(&mut self) -> Step
+        // A tick that is closed is the next one, and the commands up to it are those before it and then the ones that it carries.
+        ensures commands { (n : ℕ) (p : Progress) → CoreIsFor self.old n p → HasTheCommands n p result }
+        ensures ticks { (n : ℕ) (p : Progress) → CoreIsFor self.old n p → HasTheIssues n p result }
+        ensures stands { (n : ℕ) (p : Progress) → CoreIsFor self.old n p → CoreIsFor self.new n (after_answer p result) }
+
+        // A tick is closed exactly where the schedule allows it; else the sensor is the lowest-numbered that it waits for.
+        ensures allowed { (n : ℕ) (p : Progress) → CoreIsFor self.old n p → IsClosed result ↔ IsAllowed Close p }
+        ensures waits { (n : ℕ) (p : Progress) → CoreIsFor self.old n p → awaited result ≡ waited_for p }
+    {
+        let (tick, row) = match self.merge.next() {
+            Next::Waiting { sensor } => return Step::Waiting { sensor },
+            Next::Row {
+                tick,
+                along,
+                across,
+                fired,
+            } => (
+                tick,
+                Row {
+                    along,
+                    across,
+                    fired,
+                },
+            ),
+        };
+        let key = Key {
+            cycle: self.cycle,
+            zero: tick,
+        };
+        let change = self
+            .detect
+            .tick(row.along.unwrap_or(0), row.across.unwrap_or(0), row.fired);
+        follow(&mut self.candidate, &self.captures, key, change, row);
+        let Issued { take, lock, done } = issue(&mut self.candidate, &mut self.link, tick, change);
+        self.closed = tick;
+        Step::Closed {
+            tick,
+            take,
+            lock,
+            done,
+        }
+    }
+}
+
+#[cfg(test)]
+mod tests;

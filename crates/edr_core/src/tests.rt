@@ -1,0 +1,354 @@
+mod traces;
+
+use super::*;
+use edr_record::{Extreme, Place};
+use std::process::Abort;
+use std::test::Fail;
+use traces::{Pulse, Trace};
+
+// What a core issued, each with its tick.
+#[derive(Drop)]
+struct Issues {
+    takes: Vec<(u32, Pre)>,
+    locks: Vec<(u32, Pre)>,
+    dones: Vec<(u32, Crash)>,
+}
+
+// Closes ticks until the core waits for a sensor.
+fn close_all(core: &mut Core, issues: &mut Issues) -> Result<(), OutOfMemory> {
+    for _ in 0..2_000 {
+        match core.step() {
+            Step::Waiting { .. } => break,
+            Step::Closed {
+                tick,
+                take,
+                lock,
+                done,
+            } => {
+                if let Some(pre) = take {
+                    issues.takes.push((tick, pre))?;
+                }
+                if let Some(pre) = lock {
+                    issues.locks.push((tick, pre))?;
+                }
+                if let Some(crash) = done {
+                    issues.dones.push((tick, crash))?;
+                }
+            }
+        }
+    }
+    Ok(())
+}
+
+// In what order items arrive: so many ticks at a time, of one sensor after the other.
+#[derive(Clone, Copy)]
+struct Arrival {
+    ticks: u32,
+    sensors: [u8; 8],
+}
+
+// By moment, one sensor a second ahead of the next, and the same the other way round.
+const ARRIVALS: [Arrival; 3] = [
+    Arrival {
+        ticks: 1,
+        sensors: [1, 2, 3, 4, 5, 6, 7, 8],
+    },
+    Arrival {
+        ticks: 1000,
+        sensors: [1, 2, 3, 4, 5, 6, 7, 8],
+    },
+    Arrival {
+        ticks: 1000,
+        sensors: [8, 7, 6, 5, 4, 3, 2, 1],
+    },
+];
+
+// What a core issues of the trace.
+fn issues_of(alloc: Global, trace: &Trace, arrival: Arrival) -> Result<Issues, Fail> {
+    let mut core = Core::open(alloc, 1)?;
+    let mut issues = Issues {
+        takes: Vec::new(alloc),
+        locks: Vec::new(alloc),
+        dones: Vec::new(alloc),
+    };
+    for round in 0..trace.end {
+        let first = round.saturating_mul(arrival.ticks).saturating_add(1);
+        if first > trace.end {
+            break;
+        }
+        let past = first
+            .saturating_add(arrival.ticks)
+            .min(trace.end.saturating_add(1));
+        for number in arrival.sensors {
+            let sensor = Sensor::from_number(number).ok_or("a sensor")?;
+            for moment in first..past {
+                if let Some(item) = trace.item(sensor, moment) {
+                    core.accept(sensor, item)?;
+                }
+            }
+        }
+        close_all(&mut core, &mut issues)?;
+    }
+    if core.closed() != trace.end {
+        return Err("all ticks closed".into());
+    }
+    Ok(issues)
+}
+
+// The points of a crash part, with 0 past them.
+fn points(given: &[i16]) -> [i16; 26] {
+    let mut points = [0; 26];
+    for (point, value) in points.iter_mut().zip(given) {
+        *point = *value;
+    }
+    points
+}
+
+// The single event of a trace, as every arrival tells it.
+fn check_event(
+    rt: &impl Abort,
+    alloc: Global,
+    trace: &Trace,
+    zero: u32,
+    take: u32,
+    lock: Option<u32>,
+    done: u32,
+) -> Result<(Pre, Crash), Fail> {
+    let mut told = None;
+    for arrival in ARRIVALS {
+        let issues = issues_of(alloc, trace, arrival)?;
+        assert_eq!(rt; issues.takes.len(), 1);
+        assert_eq!(rt; issues.dones.len(), 1);
+        let (take_tick, pre) = *issues.takes.first().ok_or("a take")?;
+        let (done_tick, crash) = *issues.dones.first().ok_or("a done")?;
+        assert_eq!(rt; take_tick, take);
+        assert_eq!(rt; done_tick, done);
+        assert_eq!(rt; issues.locks.first().copied(), lock.map(|tick| (tick, pre)));
+        assert_eq!(rt; pre.key, Key { cycle: 1, zero });
+        if let Some(before) = told {
+            assert_eq!(rt; before, (pre, crash));
+        }
+        told = Some((pre, crash));
+    }
+    Ok(told.ok_or("an arrival")?)
+}
+
+// A drive at 50 km/h.
+fn check_drive(rt: &impl Abort, pre: &Pre) {
+    assert_eq!(rt; pre.speed, [Some(50); 11]);
+    assert_eq!(rt; pre.throttle, [Some(20); 11]);
+    assert_eq!(rt; pre.brake, [Some(false); 11]);
+    assert_eq!(rt; pre.belt, Some(true));
+    assert_eq!(rt; pre.lamp, Some(false));
+    assert_eq!(rt; pre.place, Place::First);
+}
+
+// What a crash in one direction leaves of the other.
+fn check_nothing(rt: &impl Abort, points: [i16; 26], most: Extreme) {
+    assert_eq!(rt; points, [0; 26]);
+    assert_eq!(rt; most, Extreme { kmh: 0, at: 0 });
+}
+
+const TIE: [i16; 15] = [
+    0, -4, -8, -12, -16, -20, -24, -28, -32, -36, -39, -39, -39, -39, -39,
+];
+
+#[test]
+fn crash_with_tie(rt: HostRuntime) -> Result<(), Fail> {
+    let (pre, crash) = check_event(&rt, rt.alloc(), &Trace::crash(7000), 6003, 6020, None, 6148)?;
+    check_drive(&rt, &pre);
+    assert_eq!(rt; crash.end, 115);
+    assert_eq!(rt; crash.along, points(&TIE));
+    assert_eq!(rt; crash.max_along, Extreme { kmh: -39, at: 97 });
+    check_nothing(&rt, crash.across, crash.max_across);
+    assert_eq!(rt; crash.result_at, 97);
+    assert_eq!(rt; (crash.missing_along, crash.missing_across), (0, 0));
+    assert_eq!(rt; crash.fired, [None; 8]);
+    Ok(())
+}
+
+#[test]
+fn any_interleaving_freezes_the_same_speeds(rt: HostRuntime) -> Result<(), Fail> {
+    let mut trace = Trace::crash(7000);
+    trace.speeds_up = true;
+    let (pre, _) = check_event(&rt, rt.alloc(), &trace, 6003, 6020, None, 6148)?;
+    let speeds = [10, 15, 20, 25, 30, 35, 40, 45, 50, 55, 60];
+    assert_eq!(rt; pre.speed, speeds.map(Some));
+    Ok(())
+}
+
+// A deployment with no change of speed: the restraint of that bit alone.
+fn check_deployment(rt: &impl Abort, alloc: Global, bits: i32, place: usize) -> Result<(), Fail> {
+    let trace = Trace::firing(8000, bits, [7000, 0, 0]);
+    let (pre, crash) = check_event(rt, alloc, &trace, 7000, 7000, Some(7000), 7050)?;
+    check_drive(rt, &pre);
+    assert_eq!(rt; crash.end, 20);
+    check_nothing(rt, crash.along, crash.max_along);
+    check_nothing(rt, crash.across, crash.max_across);
+    assert_eq!(rt; crash.result_at, 0);
+    assert_eq!(rt; (crash.missing_along, crash.missing_across), (0, 0));
+    for (i, fired) in crash.fired.iter().enumerate() {
+        assert_eq!(rt; *fired, (i == place).then_some(0));
+    }
+    Ok(())
+}
+
+#[test]
+fn deployment_alone(rt: HostRuntime) -> Result<(), Fail> {
+    check_deployment(&rt, rt.alloc(), 1, 0)
+}
+
+#[test]
+fn side_air_bag_locks(rt: HostRuntime) -> Result<(), Fail> {
+    check_deployment(&rt, rt.alloc(), 4, 2)
+}
+
+#[test]
+fn lateral_trigger(rt: HostRuntime) -> Result<(), Fail> {
+    let mut trace = Trace::still(7000);
+    trace.across = Pulse {
+        first: 6001,
+        last: 6400,
+        value: 540,
+    };
+    let (pre, crash) = check_event(&rt, rt.alloc(), &trace, 6149, 6149, None, 6436)?;
+    check_drive(&rt, &pre);
+    assert_eq!(rt; crash.end, 257);
+    let lateral = [
+        0, 1, 1, 2, 2, 3, 3, 4, 4, 5, 5, 6, 6, 7, 8, 8, 9, 9, 10, 10, 11, 11, 12, 12, 13, 14,
+    ];
+    assert_eq!(rt; crash.across, lateral);
+    assert_eq!(rt; crash.max_across, Extreme { kmh: 14, at: 251 });
+    check_nothing(&rt, crash.along, crash.max_along);
+    assert_eq!(rt; crash.result_at, 251);
+    Ok(())
+}
+
+#[test]
+fn trigger_reaches_back(rt: HostRuntime) -> Result<(), Fail> {
+    let mut trace = Trace::still(7000);
+    trace.along = [
+        Pulse {
+            first: 6001,
+            last: 6010,
+            value: 5000,
+        },
+        Pulse {
+            first: 6071,
+            last: 6080,
+            value: 5000,
+        },
+    ];
+    let (pre, crash) = check_event(&rt, rt.alloc(), &trace, 6072, 6076, None, 6129)?;
+    check_drive(&rt, &pre);
+    assert_eq!(rt; crash.end, 27);
+    assert_eq!(rt; crash.along, points(&[0, 4, 4, 4, 4, 4]));
+    assert_eq!(rt; crash.max_along, Extreme { kmh: 4, at: 8 });
+    check_nothing(&rt, crash.across, crash.max_across);
+    Ok(())
+}
+
+#[test]
+fn turned_impulse(rt: HostRuntime) -> Result<(), Fail> {
+    let mut trace = Trace::still(7000);
+    trace.along = [
+        Pulse {
+            first: 6001,
+            last: 6010,
+            value: 3000,
+        },
+        Pulse {
+            first: 6011,
+            last: 6030,
+            value: -4000,
+        },
+    ];
+    let (pre, crash) = check_event(&rt, rt.alloc(), &trace, 6003, 6030, None, 6078)?;
+    check_drive(&rt, &pre);
+    assert_eq!(rt; crash.end, 45);
+    assert_eq!(rt; crash.along, points(&[0, 1, -3, -6, -6, -6, -6, -6]));
+    assert_eq!(rt; crash.max_along, Extreme { kmh: -6, at: 27 });
+    Ok(())
+}
+
+#[test]
+fn before_power_on(rt: HostRuntime) -> Result<(), Fail> {
+    let trace = Trace::firing(4000, 1, [3000, 0, 0]);
+    let (pre, _) = check_event(&rt, rt.alloc(), &trace, 3000, 3000, Some(3000), 3050)?;
+    for k in 0..11 {
+        assert_eq!(rt; pre.speed[k], (k > 4).then_some(50));
+        assert_eq!(rt; pre.throttle[k], (k > 4).then_some(20));
+        assert_eq!(rt; pre.brake[k], (k > 4).then_some(false));
+    }
+    assert_eq!(rt; pre.belt, Some(true));
+    assert_eq!(rt; pre.lamp, Some(false));
+    Ok(())
+}
+
+#[test]
+fn pairs(rt: HostRuntime) -> Result<(), Fail> {
+    for (moments, places) in [
+        (
+            [6000, 9000, 12000],
+            [
+                Some(Place::First),
+                Some(Place::Second { after: 3000 }),
+                Some(Place::First),
+            ],
+        ),
+        (
+            [6000, 11000, 0],
+            [
+                Some(Place::First),
+                Some(Place::Second { after: 5000 }),
+                None,
+            ],
+        ),
+        (
+            [6000, 11001, 0],
+            [Some(Place::First), Some(Place::First), None],
+        ),
+    ] {
+        let trace = Trace::firing(13000, 64, moments);
+        for arrival in ARRIVALS {
+            let issues = issues_of(rt.alloc(), &trace, arrival)?;
+            for (k, place) in places.iter().enumerate() {
+                let told = issues.takes.get(k).map(|take| take.1.place);
+                assert_eq!(rt; told, *place);
+            }
+            assert_eq!(rt; issues.locks.len(), 0);
+            assert_eq!(rt; issues.dones.len(), issues.takes.len());
+        }
+    }
+    Ok(())
+}
+
+#[test]
+fn cut_short(rt: HostRuntime) -> Result<(), Fail> {
+    for arrival in ARRIVALS {
+        let issues = issues_of(rt.alloc(), &Trace::crash(6100), arrival)?;
+        assert_eq!(rt; issues.takes.len(), 1);
+        let (tick, pre) = *issues.takes.first().ok_or("a take")?;
+        assert_eq!(rt; tick, 6020);
+        check_drive(&rt, &pre);
+        assert_eq!(rt; issues.locks.len(), 0);
+        assert_eq!(rt; issues.dones.len(), 0);
+    }
+    Ok(())
+}
+
+#[test]
+fn gap_in_samples(rt: HostRuntime) -> Result<(), Fail> {
+    let mut trace = Trace::crash(7000);
+    trace.gap = 6033;
+    let (pre, crash) = check_event(&rt, rt.alloc(), &trace, 6003, 6020, None, 6148)?;
+    check_drive(&rt, &pre);
+    assert_eq!(rt; crash.end, 115);
+    let along = [
+        0, -4, -8, -12, -16, -20, -24, -28, -32, -36, -38, -38, -38, -38, -38,
+    ];
+    assert_eq!(rt; crash.along, points(&along));
+    assert_eq!(rt; crash.max_along, Extreme { kmh: -38, at: 97 });
+    assert_eq!(rt; (crash.missing_along, crash.missing_across), (1, 0));
+    Ok(())
+}

@@ -1,0 +1,4 @@
+pub mod PartLemmas
+pub mod FiringLemmas
+pub mod BoundLemmas
+pub mod HistoryLemmas

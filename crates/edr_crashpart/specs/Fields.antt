@@ -1,0 +1,25 @@
+-- What the fields of an open crash part mean in the definitions.
+use Rattle.edr_definitions.specs.OpenCrash as meant
+use Rattle.edr_crashpart.specs.declared.axis.Axis.{Axis}
+use Rattle.edr_crashpart.specs.declared.axis.Peak.{Peak}
+use Rattle.edr_crashpart.specs.declared.ResultPeak.{ResultPeak}
+use Rattle.edr_crashpart.specs.declared.CrashPart.TheInside.{Inside}
+
+abbrev pub peak_of : Peak → meant.Peak
+peak_of p = record { value = p.value; at = p.at }
+
+abbrev pub axis_of : Axis → meant.OpenAxis
+axis_of a = record { sum = a.sum; points = a.points; peak = peak_of a.peak; missing = a.missing }
+
+abbrev pub result_of : ResultPeak → meant.ResultPeak
+result_of r = record { size = r.size; at = r.at }
+
+abbrev pub part_of : Inside → meant.OpenCrash
+part_of p = record {
+  zero = p.zero;
+  elapsed = p.elapsed;
+  along = axis_of p.along;
+  across = axis_of p.across;
+  result = result_of p.result;
+  fired = p.fired;
+}

@@ -1,0 +1,8 @@
+use Rattle.edr_definitions.proofs.ScheduleLaws.{never_stuck, never_ahead}
+use Rattle.edr_definitions.proofs.laws.a_run_is_never_stuck_and_never_ahead.Goals as goal
+
+pub returns-clause-stuck : goal.returns-clause-stuck
+returns-clause-stuck c = λ f p feeds level on. never_stuck f p feeds level on
+
+pub returns-clause-ahead : goal.returns-clause-ahead
+returns-clause-ahead c = λ f p s x feeds level on next why. never_ahead f p feeds level on s x next why

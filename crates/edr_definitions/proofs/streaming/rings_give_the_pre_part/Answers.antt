@@ -1,0 +1,5 @@
+use Rattle.edr_definitions.proofs.FreezeLaws.{pre_part-frozen}
+use Rattle.edr_definitions.proofs.streaming.rings_give_the_pre_part.Goals as goal
+
+pub returns : goal.returns
+returns c = pre_part-frozen

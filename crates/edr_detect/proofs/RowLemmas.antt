@@ -1,0 +1,196 @@
+-- One more row, and one more tick of the search.
+use Rattle.std.proofs.Common.{arith, refl, ap, sym, subst, ◌≡◌, ◌∙◌, ℕ, zero, suc, ◌+◌, ◌<◌, ◌≤◌, Bool, true, false, nat_eq, ℤ, pos, unwrap_or, Some, None, Option, List, [], ◌∷◌, ◌++◌, length, slice_get, add-one, length-append}
+use Rattle.std.specs.Prelude.{option_map, IsSome, is_some, is_none, ◌&&◌, if◌then◌else◌}
+use Rattle.std.proofs.lemmas.Bool.Decides.{nat_tests}
+use Rattle.std.specs.Option.{option_map_or, option_or}
+use Rattle.edr_definitions.specs.Signals.{Signals}
+use Rattle.edr_definitions.specs.Windows.{change_at}
+use Rattle.edr_definitions.specs.Selection.{Bounds, at_start, is_triggered, is_time_zero, is_end, close_of}
+use Rattle.edr_definitions.specs.Commands.{is_locking}
+use Rattle.edr_definitions.specs.Facts.{AgreeUpTo}
+use Rattle.edr_definitions.specs.Search.{Phase, Searching, Open, Search, PhaseIs, StandsFor, next_search, next_from, next_open, tick_if}
+use Rattle.edr_definitions.specs.Change.{Change, stepped_change, tick_change}
+use Rattle.edr_definitions.proofs.AgreeLaws.{delta_v-agree, map-ticks-agree}
+use Rattle.edr_definitions.proofs.SearchLaws.{StandsFor-next, StandsFor-start}
+use Rattle.edr_definitions.proofs.TestLaws.{StandsFor-agree}
+use Rattle.edr_definitions.proofs.TickChangeLaws.{tick_change-is}
+use Rattle.edr_window.specs.Changes.{changes}
+use Rattle.edr_window.specs.Swing.{SwingStandsFor}
+use Rattle.edr_detect.specs.declared.stage.Change.{Change as Answer}
+use Rattle.edr_detect.specs.declared.stage.Stage.{Stage}
+use Rattle.edr_detect.specs.declared.stage.Stage.TheVariants as stage
+use Rattle.edr_detect.specs.declared.stage.Tests.{Tests}
+use Rattle.edr_detect.specs.declared.windows.Windows.{Windows}
+use Rattle.edr_detect.specs.Latest.{LatestStandsFor}
+use Rattle.edr_detect.specs.Stages.{told_of, phase_of, stepped}
+use Rattle.edr_detect.specs.Standing.{WindowsStandFor, BeginsAtRest, TestsAre, bounds_past}
+use Rattle.edr_detect.specs.Rows.{Row, row_at, signals_of_rows}
+use Rattle.edr_detect.specs.Detected.{DetectState, DetectStandsFor}
+
+-- ---- rows
+slice_get-before : (rows : List Row) (r : Row) (k : ℕ) → k < length rows → slice_get rows k ≡ slice_get (rows ++ r ∷ []) k
+slice_get-before [] r k h = absurd (omega arith)
+slice_get-before (x ∷ xs) r zero h = refl
+slice_get-before (x ∷ xs) r (suc k) h = slice_get-before xs r k (omega arith)
+
+slice_get-last : (rows : List Row) (r : Row) → slice_get (rows ++ r ∷ []) (length rows) ≡ Some r
+slice_get-last [] r = refl
+slice_get-last (x ∷ xs) r = slice_get-last xs r
+
+row_at-before : (rows : List Row) (r : Row) (u : ℕ) → u ≤ length rows → row_at rows u ≡ row_at (rows ++ r ∷ []) u
+row_at-before rows r zero h = refl
+row_at-before rows r (suc k) h = slice_get-before rows r k (omega arith)
+
+row_at-last : (rows : List Row) (r : Row) → row_at (rows ++ r ∷ []) (length rows + 1) ≡ Some r
+row_at-last rows r = rw add-one (slice_get-last rows r)
+
+rows-agree : (rows : List Row) (r : Row) → AgreeUpTo (length rows) (signals_of_rows rows) (signals_of_rows (rows ++ r ∷ []))
+rows-agree rows r = record {
+  along = λ u h. ap (λ (o : Option Row). option_map (λ (x : Row). x.along) o) (row_at-before rows r u h);
+  across = λ u h. ap (λ (o : Option Row). option_map (λ (x : Row). x.across) o) (row_at-before rows r u h);
+  fired = λ u h. ap (λ (o : Option Row). option_map_or (λ (x : Row). x.fired.0) o 0) (row_at-before rows r u h);
+}
+
+-- no row is that of tick 0
+pub rows-begin : (rows : List Row) → BeginsAtRest (signals_of_rows rows)
+rows-begin rows = record { along = refl; across = refl }
+
+-- ---- signals that agree up to a tick
+changes-agree : (f g : ℕ → Option ℤ) (from t : ℕ) → ((u : ℕ) → u ≤ t → f u ≡ g u) → changes f from t ≡ changes g from t
+unfolding changes
+changes-agree f g from t same =
+    map-ticks-agree (change_at f) (change_at g) (from + 1) (t + 1) (λ u lo hi. ap (λ (o : Option ℤ). unwrap_or o (pos 0)) (same u (omega arith)))
+
+latest-agree : (f g : ℕ → Option ℤ) (t : ℕ) (values : List ℤ) (sum : ℤ) → ((u : ℕ) → u ≤ t → f u ≡ g u) → LatestStandsFor f t values sum → LatestStandsFor g t values sum
+latest-agree f g t values sum same h = record {
+  at = λ u le near. h.at u le near ∙ ap (λ (o : Option ℤ). unwrap_or o (pos 0)) (same u le);
+  unfilled = h.unfilled;
+  sum_is = h.sum_is ∙ delta_v-agree f g _ t same;
+}
+
+windows-agree : (m n : Signals) (b : Bounds) (t : ℕ) (w : Windows) → AgreeUpTo t m n → WindowsStandFor m b t w → WindowsStandFor n b t w
+windows-agree m n b t w same h = record {
+  zero_along = subst (λ xs. SwingStandsFor 20 w.zero_along xs) (changes-agree m.along n.along b.after t same.along) h.zero_along;
+  zero_across = subst (λ xs. SwingStandsFor 5 w.zero_across xs) (changes-agree m.across n.across b.after t same.across) h.zero_across;
+  trigger_along = subst (λ xs. SwingStandsFor 150 w.trigger_along xs) (changes-agree m.along n.along b.since t same.along) h.trigger_along;
+  trigger_across = subst (λ xs. SwingStandsFor 150 w.trigger_across xs) (changes-agree m.across n.across b.since t same.across) h.trigger_across;
+  latest_along = latest-agree m.along n.along t _ _ same.along h.latest_along;
+  latest_across = latest-agree m.across n.across t _ _ same.across h.latest_across;
+}
+
+-- ---- one tick of the search
+stepped-is : (m : Signals) (b : Bounds) (s : Stage) (t : ℕ) (a : Tests) → TestsAre m b s t a → stepped t a b (phase_of s) ≡ next_from m t b (phase_of s)
+stepped-is m b stage.Searching t a is = rw (is.zero, is.trigger, is.locks) refl
+stepped-is m b (stage.Open z c l None) t a is = let e = is.ends z c l refl in rw (is.trigger, is.locks, e) refl
+stepped-is m b (stage.Open z c l (Some e)) t a is = rw is.locks refl
+
+-- the bounds past the tick t, by whether it is an event's close and a dropped candidate's end
+abbrev bounds_at : ℕ → Bool → Bool → Bounds → Bounds
+bounds_at t closed dropped b =
+    if closed then record { after = t; since = t }
+    else if dropped then record { after = t; since = b.since }
+    else b
+
+nat_eq-sym : (x y : ℕ) → nat_eq x y ≡ nat_eq y x
+nat_eq-sym x y = grind (arith, nat_tests)
+
+still : (v : Bool) (b : Bounds) (x y : Search) → x.bounds ≡ b → y.bounds ≡ b → (if v then x else y).bounds ≡ b
+still true b x y e f = e
+still false b x y e f = f
+
+closing : (v w : Bool) (t : ℕ) (b : Bounds) (p : Phase) → v ≡ w → (if v then record { bounds = record { after = t; since = t }; phase = Searching } else let s : Search = record { bounds = b; phase = p } in s).bounds ≡ bounds_at t w false b
+closing true true t b p e = refl
+closing false false t b p e = refl
+closing true false t b p e = cc
+closing false true t b p e = cc
+
+ending : (t : ℕ) (b : Bounds) (z : ℕ) (now l : Option ℕ) (ends : Bool) → (next_open t b z now l ends).bounds ≡ bounds_at t (is_some now && (ends && nat_eq (close_of z t) t)) (is_none now && ends) b
+ending t b z None l true = refl
+ending t b z None l false = refl
+ending t b z (Some x) l true = closing (nat_eq t (close_of z t)) (nat_eq (close_of z t) t) t b (Open z (Some x) l (Some t)) (nat_eq-sym t (close_of z t))
+ending t b z (Some x) l false = refl
+
+leaving : (m : Signals) (before t : ℕ) (b : Bounds) (p : Phase) (a : Tests) → PhaseIs m before b p → (stepped t a b p).bounds ≡ bounds_at t (stepped_change t a.zero a.trigger a.locks a.ends p).closed (stepped_change t a.zero a.trigger a.locks a.ends p).dropped b
+leaving m before t b Searching a h = still a.zero b _ _ refl refl
+leaving m before t b (Open z c l None) a h = ending t b z (option_or c (tick_if a.trigger t)) (option_or l (tick_if a.locks t)) a.ends
+leaving m before t b (Open z (Some c) l (Some e)) a h = closing (nat_eq t (close_of z e)) (nat_eq (close_of z e) t) t b (Open z (Some c) (option_or l (tick_if a.locks t)) (Some e)) (nat_eq-sym t (close_of z e))
+leaving m before t b (Open z None l (Some e)) a h = let none : Option ℕ = None in let some : IsSome none = h.4 in cc
+
+search_is : (x : Search) (b : Bounds) (p : Phase) → b ≡ x.bounds → p ≡ x.phase → ◌≡◌ {A = Search} (record { bounds = b; phase = p }) x
+search_is x b p e f = ap (λ (y : Bounds). let s : Search = record { bounds = y; phase = p } in s) e ∙ ap (λ (q : Phase). let s : Search = record { bounds = x.bounds; phase = q } in s) f
+
+stage_is : (s : Stage) (z : ℕ) (c l : Option ℕ) → phase_of s ≡ Open z c l None → s ≡ stage.Open z c l None
+stage_is stage.Searching z c l h = cc
+stage_is (stage.Open y d k x) z c l h = cc
+
+since_past : (t : ℕ) (closed dropped : Bool) (b : Bounds) → b.since ≤ t → (bounds_at t closed dropped b).since ≤ t
+since_past t true dropped b h = omega arith
+since_past t false true b h = h
+since_past t false false b h = h
+
+-- ---- one tick of the detector
+module _ (rows : List Row) (r : Row) (d e : DetectState) (u : ℕ) (a : Tests) (ans : Answer) (pushed : Windows)
+    (h : DetectStandsFor d rows) (u_is : u ≡ d.tick + 1) (tick_is : e.tick ≡ u)
+    (push : (m : Signals) (b : Bounds) (before : ℕ) → u ≡ before + 1 → b.after ≤ before → b.since ≤ before → BeginsAtRest m → change_at m.along u ≡ r.along → change_at m.across u ≡ r.across → WindowsStandFor m b before d.windows → WindowsStandFor m b u pushed)
+    (tests : (m : Signals) (b : Bounds) → WindowsStandFor m b u pushed → b.after < u → m.fired u ≡ r.fired.0 → TestsAre m b d.stage u a)
+    (next : (b : Bounds) → phase_of e.stage ≡ (stepped u a b (phase_of d.stage)).phase)
+    (told : told_of ans ≡ stepped_change u a.zero a.trigger a.locks a.ends (phase_of d.stage))
+    (restart : (m : Signals) (b : Bounds) (k : ℕ) → WindowsStandFor m b k pushed → WindowsStandFor m (bounds_past k ans b) k e.windows) where
+  pub tick-stands : DetectStandsFor e (rows ++ r ∷ []) × (told_of ans ≡ tick_change (signals_of_rows (rows ++ r ∷ [])) (length rows + 1))
+  tick-stands =
+      let t = length rows in
+      let all = rows ++ r ∷ [] in
+      let n = signals_of_rows all in
+      let b = h.bounds in
+      let p = phase_of d.stage in
+      let s : Search = record { bounds = b; phase = p } in
+      let agree = rows-agree rows r in
+      let now : u ≡ t + 1 = let k = h.tick_is in omega arith in
+      let len : u ≡ length all = let k = length-append rows (r ∷ []) in omega (arith, k, now) in
+      let row : row_at all u ≡ Some r = ap (row_at all) now ∙ row_at-last rows r in
+      let past : b.after ≤ t = h.search_is.past in
+      let old : WindowsStandFor n b t d.windows = windows-agree (signals_of_rows rows) n b t d.windows agree h.windows_are in
+      let here : WindowsStandFor n b u pushed = push n b t now past h.since_past (rows-begin all)
+      (ap (λ (o : Option Row). unwrap_or (option_map (λ (x : Row). x.along) o) (pos 0)) row)
+      (ap (λ (o : Option Row). unwrap_or (option_map (λ (x : Row). x.across) o) (pos 0)) row) old in
+      let are : TestsAre n b d.stage u a = tests n b here (omega arith) (ap (λ (o : Option Row). option_map_or (λ (x : Row). x.fired.0) o 0) row) in
+      let before : StandsFor n t s = StandsFor-agree t (signals_of_rows rows) n s agree h.search_is in
+      let after : StandsFor n u (next_search n u s) = subst (λ (k : ℕ). StandsFor n k (next_search n k s)) (sym now) (StandsFor-next n t s before) in
+      let one : stepped u a b p ≡ next_search n u s = stepped-is n b d.stage u a are in
+      let closed : ans.closed ≡ (stepped_change u a.zero a.trigger a.locks a.ends p).closed = ap (λ (c : Change). c.closed) told in
+      let dropped : ans.dropped ≡ (stepped_change u a.zero a.trigger a.locks a.ends p).dropped = ap (λ (c : Change). c.dropped) told in
+      let left : bounds_past u ans b ≡ (stepped u a b p).bounds =
+      ap (λ (v : Bool). bounds_at u v ans.dropped b) closed
+      ∙ ap (λ (v : Bool). bounds_at u (stepped_change u a.zero a.trigger a.locks a.ends p).closed v b) dropped
+      ∙ sym (leaving n t u b p a before.phase_is) in
+      let reached : ◌≡◌ {A = Search} (record { bounds = bounds_past u ans b; phase = phase_of e.stage }) (next_search n u s) =
+      search_is (stepped u a b p) (bounds_past u ans b) (phase_of e.stage) left (next b) ∙ one in
+      let stands : StandsFor n u (record { bounds = bounds_past u ans b; phase = phase_of e.stage }) = subst (λ (x : Search). StandsFor n u x) (sym reached) after in
+      let answer : tick_change n u ≡ stepped_change u (is_time_zero n b u) (is_triggered n b.since u) (is_locking n u) a.ends p =
+      subst (λ (k : ℕ). ((z : ℕ) (c l : Option ℕ) → p ≡ Open z c l None → a.ends ≡ is_end n z k) → tick_change n k ≡ stepped_change k (is_time_zero n b k) (is_triggered n b.since k) (is_locking n k) a.ends p) (sym now)
+      (tick_change-is n t s a.ends before) (λ z c l is. are.ends z c l (stage_is d.stage z c l is)) in
+      let same : stepped_change u a.zero a.trigger a.locks a.ends p ≡ stepped_change u (is_time_zero n b u) (is_triggered n b.since u) (is_locking n u) a.ends p =
+      ap (λ (v : Bool). stepped_change u v a.trigger a.locks a.ends p) are.zero
+      ∙ ap (λ (v : Bool). stepped_change u (is_time_zero n b u) v a.locks a.ends p) are.trigger
+      ∙ ap (λ (v : Bool). stepped_change u (is_time_zero n b u) (is_triggered n b.since u) v a.ends p) are.locks in
+      let windows : WindowsStandFor n (bounds_past u ans b) u e.windows = restart n b u here in
+      let since : (bounds_past u ans b).since ≤ u = since_past u ans.closed ans.dropped b (let k = h.since_past in omega arith) in (
+        record {
+          tick_is = tick_is ∙ len;
+          bounds = bounds_past u ans b;
+          since_past = subst (λ (k : ℕ). (bounds_past u ans b).since ≤ k) len since;
+          search_is = subst (λ (k : ℕ). StandsFor n k (record { bounds = bounds_past u ans b; phase = phase_of e.stage })) len stands;
+          windows_are = subst (λ (k : ℕ). WindowsStandFor n (bounds_past u ans b) k e.windows) len windows;
+        },
+        told ∙ same ∙ sym answer ∙ ap (tick_change n) now,
+      )
+
+-- before the first tick
+pub start-stands : (d : DetectState) → d.tick ≡ 0 → phase_of d.stage ≡ Searching → ((m : Signals) → BeginsAtRest m → WindowsStandFor m at_start 0 d.windows) → DetectStandsFor d []
+start-stands d none searching windows = record {
+  tick_is = none;
+  bounds = at_start;
+  since_past = omega arith;
+  search_is = subst (λ (p : Phase). StandsFor (signals_of_rows []) 0 (record { bounds = at_start; phase = p })) (sym searching) (StandsFor-start (signals_of_rows []));
+  windows_are = windows (signals_of_rows []) (rows-begin []);
+}

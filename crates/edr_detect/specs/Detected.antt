@@ -1,0 +1,23 @@
+-- What a detector is, and of which rows.
+use Rattle.std.specs.Prelude.{◌≡◌, ℕ, ◌≤◌, List, length}
+use Rattle.edr_definitions.specs.Selection.{Bounds}
+use Rattle.edr_definitions.specs.Search.{StandsFor}
+use Rattle.edr_detect.specs.declared.stage.Stage.{Stage}
+use Rattle.edr_detect.specs.declared.windows.Windows.{Windows}
+use Rattle.edr_detect.specs.Stages.{phase_of}
+use Rattle.edr_detect.specs.Standing.{WindowsStandFor}
+use Rattle.edr_detect.specs.Rows.{Row, signals_of_rows}
+
+-- the number of its ticks, how far an open candidate has come, and what it keeps of the rows
+pub record DetectState : Type 0 where
+  pub tick : ℕ
+  pub stage : Stage
+  pub windows : Windows
+
+-- the detector was given these rows, and no others: the search of the definitions stands at the last of them as the stage says, with bounds past which the windows hold the changes
+pub record DetectStandsFor (d : DetectState) (rows : List Row) : Type 0 where
+  pub tick_is : d.tick ≡ length rows
+  pub bounds : Bounds
+  pub since_past : bounds.since ≤ length rows
+  pub search_is : StandsFor (signals_of_rows rows) (length rows) (record { bounds = bounds; phase = phase_of d.stage })
+  pub windows_are : WindowsStandFor (signals_of_rows rows) bounds (length rows) d.windows

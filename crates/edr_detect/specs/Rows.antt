@@ -1,0 +1,24 @@
+-- What a detector was given: a row for each tick.
+use Rattle.std.specs.Prelude.{ℕ, zero, suc, ℤ, Option, None, option_map, List, slice_get}
+use Rattle.std.specs.Option.{option_map_or}
+use Rattle.edr_items.specs.declared.Restraints.{Restraints}
+use Rattle.edr_definitions.specs.Signals.{Signals}
+
+-- the changes of speed in one tick, and the restraints that fire there
+pub record Row : Type 0 where
+  pub along : ℤ
+  pub across : ℤ
+  pub fired : Restraints
+
+-- the row of a tick: the first row is that of tick 1
+abbrev pub row_at : List Row → ℕ → Option Row
+row_at rows zero = None
+row_at rows (suc k) = slice_get rows k
+
+-- the signals that the rows give
+abbrev pub signals_of_rows : List Row → Signals
+signals_of_rows rows = record {
+  along = λ t. option_map (λ r. r.along) (row_at rows t);
+  across = λ t. option_map (λ r. r.across) (row_at rows t);
+  fired = λ t. option_map_or (λ r. r.fired.0) (row_at rows t) 0;
+}

@@ -1,0 +1,27 @@
+-- The stages of the streaming search, as the definitions see them.
+use Rattle.std.specs.Prelude.{ℕ, if◌then◌else◌, Some, None}
+use Rattle.std.specs.Option.{option_or}
+use Rattle.edr_definitions.specs.Selection.{Bounds}
+use Rattle.edr_definitions.specs.Search.{Phase, Searching, Open, Search, tick_if, next_open, past_end}
+use Rattle.edr_definitions.specs.Change.{Change}
+use Rattle.edr_detect.specs.declared.stage.Change.{Change as Answer}
+use Rattle.edr_detect.specs.declared.stage.Stage.{Stage}
+use Rattle.edr_detect.specs.declared.stage.Stage.TheVariants as stage
+use Rattle.edr_detect.specs.declared.stage.Tests.{Tests}
+
+-- what the answer says stands at its tick
+abbrev pub told_of : Answer → Change
+told_of a = record { zero = a.zero; confirmed = a.confirmed; locked = a.locked; ended = a.ended; dropped = a.dropped; closed = a.closed }
+
+-- the phase that a stage is
+abbrev pub phase_of : Stage → Phase
+phase_of stage.Searching = Searching
+phase_of (stage.Open z c l e) = Open z c l e
+
+-- the search past the tick t, by the answers of the four tests there
+abbrev pub stepped : ℕ → Tests → Bounds → Phase → Search
+stepped t a b Searching =
+    if a.zero then record { bounds = b; phase = Open t (tick_if a.trigger t) (tick_if a.locks t) None }
+    else record { bounds = b; phase = Searching }
+stepped t a b (Open z c l None) = next_open t b z (option_or c (tick_if a.trigger t)) (option_or l (tick_if a.locks t)) a.ends
+stepped t a b (Open z c l (Some e)) = past_end t b z c (option_or l (tick_if a.locks t)) e

@@ -1,0 +1,49 @@
+-- What the windows of the streaming search hold.
+use Rattle.std.specs.Prelude.{◌≡◌, ℕ, ◌≤◌, pos, if◌then◌else◌, Option, None}
+use Rattle.edr_definitions.specs.Signals.{Signals}
+use Rattle.edr_definitions.specs.Windows.{change_at}
+use Rattle.edr_definitions.specs.Selection.{Bounds, is_triggered, is_time_zero, is_end}
+use Rattle.edr_definitions.specs.Commands.{is_locking}
+use Rattle.edr_window.specs.Changes.{changes}
+use Rattle.edr_window.specs.Swing.{SwingStandsFor}
+use Rattle.edr_detect.specs.declared.stage.Change.{Change as Answer}
+use Rattle.edr_detect.specs.declared.stage.Stage.{Stage}
+use Rattle.edr_detect.specs.declared.stage.Stage.TheVariants as stage
+use Rattle.edr_detect.specs.declared.stage.Tests.{Tests}
+use Rattle.edr_detect.specs.declared.windows.Windows.{Windows}
+use Rattle.edr_detect.specs.Latest.{LatestStandsFor}
+
+-- at the tick t, in a search with these bounds, the swings hold the changes past the bounds, and the sums those of the last 20 ticks
+pub record WindowsStandFor (m : Signals) (b : Bounds) (t : ℕ) (w : Windows) : Type 0 where
+  pub zero_along : SwingStandsFor 20 w.zero_along (changes m.along b.after t)
+  pub zero_across : SwingStandsFor 5 w.zero_across (changes m.across b.after t)
+  pub trigger_along : SwingStandsFor 150 w.trigger_along (changes m.along b.since t)
+  pub trigger_across : SwingStandsFor 150 w.trigger_across (changes m.across b.since t)
+  pub latest_along : LatestStandsFor m.along t w.latest_along.values w.latest_along.sum
+  pub latest_across : LatestStandsFor m.across t w.latest_across.values w.latest_across.sum
+
+-- since its restart no swing was given more than n values
+pub record PushedAtMost (n : ℕ) (w : Windows) : Type 0 where
+  pub zero_along : w.zero_along.pushes ≤ n
+  pub zero_across : w.zero_across.pushes ≤ n
+  pub trigger_along : w.trigger_along.pushes ≤ n
+  pub trigger_across : w.trigger_across.pushes ≤ n
+
+-- at tick 0, before the first one, the speed does not change
+pub record BeginsAtRest (m : Signals) : Type 0 where
+  pub along : change_at m.along 0 ≡ pos 0
+  pub across : change_at m.across 0 ≡ pos 0
+
+-- the answers are those of the definitions' tests at the tick t
+pub record TestsAre (m : Signals) (b : Bounds) (s : Stage) (t : ℕ) (a : Tests) : Type 0 where
+  pub zero : a.zero ≡ is_time_zero m b t
+  pub trigger : a.trigger ≡ is_triggered m b.since t
+  pub locks : a.locks ≡ is_locking m t
+  pub ends : (z : ℕ) (c l : Option ℕ) → s ≡ stage.Open z c l None → a.ends ≡ is_end m z t
+
+-- the bounds past the tick t at which this stands: both at the close of an event, and the first alone at the end of a dropped candidate
+abbrev pub bounds_past : ℕ → Answer → Bounds → Bounds
+bounds_past t a b =
+    if a.closed then record { after = t; since = t }
+    else if a.dropped then record { after = t; since = b.since }
+    else b

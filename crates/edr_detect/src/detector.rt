@@ -1,0 +1,70 @@
+//! The search for events tick by tick, which looks forward only.
+
+use crate::stage::{Change, Stage};
+use crate::windows::Windows;
+use edr_items::Restraints;
+use std::marker::Model;
+
+/// The selection of events of one cycle, tick by tick. Whatever the number of ticks, it keeps four swings, the
+/// changes of the last 20 ticks and a few numbers.
+///
+/// ```
+/// let mut detect = Detect::new();
+/// let change = detect.tick(-4_000, 0, Restraints(0));
+/// ```
+#[derive(Drop)]
+pub struct Detect {
+    tick: u32,
+    stage: Stage,
+    windows: Windows,
+}
+
+impl Model for Detect {
+    ghost use Rattle.edr_detect.specs.Standing.{PushedAtMost};
+    ghost use Rattle.edr_detect.specs.Detected.{DetectState};
+
+    ghost Value = { DetectState };
+
+    ghost view = { λ d. record { tick = d.tick; stage = d.stage; windows = d.windows } };
+
+    ghost invariant = { λ d. PushedAtMost d.tick d.windows };
+}
+
+impl Detect {
+    ghost use Rattle.std.specs.Prelude.{◌≡◌, ◌+◌, ◌<◌, ◌≤◌, [], ◌∷◌, ◌++◌, List, length, unsigned_abs};
+    ghost use Rattle.edr_definitions.specs.Change.{tick_change};
+    ghost use Rattle.edr_detect.specs.Rows.{Row, signals_of_rows};
+    ghost use Rattle.edr_detect.specs.Stages.{told_of};
+    ghost use Rattle.edr_detect.specs.Detected.{DetectStandsFor};
+
+    /// A detector at the start of a cycle, before its first tick.
+    pub fn new() -> Detect
+        ensures stands { DetectStandsFor result [] }
+        ensures tick { result.tick ≡ 0 }
+    {
+        Detect {
+            tick: 0,
+            stage: Stage::Searching,
+            windows: Windows::new(),
+        }
+    }
+
+    /// What stands at the next tick: `along` and `across` are its changes of speed in steps of 0.0001 km/h, 0 for
+    /// a missing sample, and `fired` the restraints that fire there.
+    pub fn tick(&mut self, along: i32, across: i32, fired: Restraints) -> Change
+        requires along_small { unsigned_abs along ≤ 100_000 }
+        requires across_small { unsigned_abs across ≤ 100_000 }
+        requires room { self.old.tick < 86_400_000 }
+        ensures stands { (rows : List Row) → DetectStandsFor self.old rows → DetectStandsFor self.new (rows ++ record { along = along; across = across; fired = fired } ∷ []) }
+        ensures answer { (rows : List Row) → DetectStandsFor self.old rows → told_of result ≡ tick_change (signals_of_rows (rows ++ record { along = along; across = across; fired = fired } ∷ [])) (length rows + 1) }
+        ensures tick { self.new.tick ≡ self.old.tick + 1 }
+    {
+        self.tick += 1;
+        self.windows.push(self.tick, along, across);
+        let tests = self.windows.tests(self.stage, self.tick, fired);
+        let change = self.stage.change_at(self.tick, tests);
+        self.stage = self.stage.next(self.tick, tests);
+        self.windows.restart(change);
+        change
+    }
+}

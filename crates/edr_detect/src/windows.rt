@@ -1,0 +1,142 @@
+//! What the streaming search keeps of the samples.
+
+ghost use Rattle.std.specs.Prelude.{◌≡◌, ℕ, ◌+◌, ◌<◌, ◌≤◌, ℤ, pos, Option, unsigned_abs};
+ghost use Rattle.edr_definitions.specs.Windows.{swing, change_at};
+ghost use Rattle.edr_window.specs.Changes.{changes};
+ghost use Rattle.edr_window.specs.Swing.{SwingStandsFor};
+
+use crate::latest::Latest;
+use crate::stage::{Change, Stage, Tests};
+use edr_items::Restraints;
+use edr_units::{over, quiet, trigger};
+use edr_window::Swing;
+
+// The changes since a candidate last left the search, for a time zero; those since the last event, for the
+// trigger; and those of the last 20 ticks, for an end.
+#[derive(Drop)]
+pub struct Windows {
+    pub zero_along: Swing<20>,
+    pub zero_across: Swing<5>,
+    pub trigger_along: Swing<150>,
+    pub trigger_across: Swing<150>,
+    pub latest_along: Latest,
+    pub latest_across: Latest,
+}
+
+// The sum of the greatest size, either way.
+fn largest<const K: usize>(sums: &Swing<K>) -> i64
+    ensures { (axis : ℕ → Option ℤ) (from t : ℕ) → SwingStandsFor K sums.now (changes axis from t) → unsigned_abs result ≡ swing axis K from t }
+{
+    let Some(least) = sums.least() else {
+        return 0;
+    };
+    let Some(greatest) = sums.greatest() else {
+        return 0;
+    };
+    if least.unsigned_abs() < greatest.unsigned_abs() {
+        greatest
+    } else {
+        least
+    }
+}
+
+impl Windows {
+    ghost use Rattle.edr_definitions.specs.Signals.{Signals};
+    ghost use Rattle.edr_definitions.specs.Selection.{Bounds, is_triggered, is_time_zero, is_end, at_start};
+    ghost use Rattle.edr_detect.specs.Standing.{WindowsStandFor, PushedAtMost, BeginsAtRest, TestsAre, bounds_past};
+
+    pub fn new() -> Windows
+        ensures stands { (m : Signals) → BeginsAtRest m → WindowsStandFor m at_start 0 result }
+        ensures pushed { PushedAtMost 0 result }
+    {
+        Windows {
+            zero_along: Swing::new(),
+            zero_across: Swing::new(),
+            trigger_along: Swing::new(),
+            trigger_across: Swing::new(),
+            latest_along: Latest::new(),
+            latest_across: Latest::new(),
+        }
+    }
+
+    // The changes of the tick t.
+    pub fn push(&mut self, t: u32, along: i32, across: i32)
+        requires along_small { unsigned_abs along ≤ 100_000 }
+        requires across_small { unsigned_abs across ≤ 100_000 }
+        requires room { PushedAtMost 86_399_999 self.old }
+        ensures stands { (m : Signals) (b : Bounds) (before : ℕ) → t ≡ before + 1 → b.after ≤ before → b.since ≤ before → BeginsAtRest m → change_at m.along t ≡ along → change_at m.across t ≡ across → WindowsStandFor m b before self.old → WindowsStandFor m b t self.new }
+        ensures pushed { (n : ℕ) → PushedAtMost n self.old → PushedAtMost (n + 1) self.new }
+    {
+        self.zero_along.push(i64::from(along));
+        self.zero_across.push(i64::from(across));
+        self.trigger_along.push(i64::from(along));
+        self.trigger_across.push(i64::from(across));
+        self.latest_along.push(t, along);
+        self.latest_across.push(t, across);
+    }
+
+    // A restraint fires, or a change meets the trigger threshold.
+    #[tactic(auto, unfolding(edr_definitions::specs::Selection::is_triggered))]
+    fn triggers(&self, fired: Restraints) -> bool
+        ensures { (m : Signals) (b : Bounds) (t : ℕ) → WindowsStandFor m b t self.now → m.fired t ≡ fired.0 → result ≡ is_triggered m b.since t }
+    {
+        fired.0 != 0
+            || trigger(largest(&self.trigger_along))
+            || trigger(largest(&self.trigger_across))
+    }
+
+    // A change is over 0.8 km/h, or there is a trigger.
+    #[tactic(auto, unfolding(edr_definitions::specs::Selection::is_time_zero))]
+    fn begins(&self, triggered: bool) -> bool
+        ensures { (m : Signals) (b : Bounds) (t : ℕ) → WindowsStandFor m b t self.now → b.after < t → triggered ≡ is_triggered m b.since t → result ≡ is_time_zero m b t }
+    {
+        over(largest(&self.zero_along)) || over(largest(&self.zero_across)) || triggered
+    }
+
+    // The candidate with time zero `zero` ends at the tick t.
+    #[tactic(auto, unfolding(edr_definitions::specs::Selection::is_end))]
+    fn ends(&self, zero: u32, t: u32) -> bool
+        ensures { (m : Signals) (b : Bounds) → WindowsStandFor m b t self.now → result ≡ is_end m zero t }
+    {
+        let passed = t.saturating_sub(zero);
+        passed == 500
+            || (passed >= 20
+                && quiet(
+                    i64::from(self.latest_along.sum),
+                    i64::from(self.latest_across.sum),
+                ))
+    }
+
+    // The answers of the four tests at the tick t.
+    pub fn tests(&self, stage: Stage, t: u32, fired: Restraints) -> Tests
+        ensures { (m : Signals) (b : Bounds) → WindowsStandFor m b t self.now → b.after < t → m.fired t ≡ fired.0 → TestsAre m b stage t result }
+    {
+        let triggered = self.triggers(fired);
+        let ends = match stage {
+            Stage::Open { zero, .. } => self.ends(zero, t),
+            Stage::Searching => false,
+        };
+        Tests {
+            zero: self.begins(triggered),
+            trigger: triggered,
+            locks: fired.locks(),
+            ends,
+        }
+    }
+
+    // A candidate leaves the search: a time zero comes after it, and after an event the trigger begins anew too.
+    pub fn restart(&mut self, change: Change)
+        ensures stands { (m : Signals) (b : Bounds) (t : ℕ) → WindowsStandFor m b t self.old → WindowsStandFor m (bounds_past t change b) t self.new }
+        ensures pushed { (n : ℕ) → PushedAtMost n self.old → PushedAtMost n self.new }
+    {
+        if change.closed {
+            self.zero_along.restart();
+            self.zero_across.restart();
+            self.trigger_along.restart();
+            self.trigger_across.restart();
+        } else if change.dropped {
+            self.zero_along.restart();
+            self.zero_across.restart();
+        }
+    }
+}

@@ -1,0 +1,3 @@
+pub mod WaitingLemmas
+pub mod StandsLemmas
+pub mod SoundLemmas

@@ -1,0 +1,58 @@
+-- The fields of a merge stay sound.
+use Rattle.std.proofs.Common.{arith, ◌≡◌, ℕ, ◌+◌, ◌≤◌, None, All}
+use Rattle.edr_items.specs.declared.TheConstants.{LATEST_MOMENT}
+use Rattle.edr_items.specs.declared.Sensor.{Sensor}
+use Rattle.edr_items.specs.declared.Sensor.TheVariants.{Along, Across, Speed, Throttle, Brake, Belt, Lamp, Restraint}
+use Rattle.edr_items.specs.declared.Item.{Item}
+use Rattle.edr_items.specs.Item.{refusal_of}
+use Rattle.edr_items.proofs.FeedLemmas.{refusal_of-rises}
+use Rattle.edr_merge.specs.declared.Merge.TheInside.{Inside}
+use Rattle.edr_merge.specs.declared.marks.Marks.{Marks}
+use Rattle.edr_merge.specs.declared.rings.Rings.{Rings}
+use Rattle.edr_merge.specs.Marks.{mark_in, with_mark}
+use Rattle.edr_merge.specs.Rings.{with_kept}
+use Rattle.edr_merge.specs.Samples.{IsFiring}
+use Rattle.edr_merge.specs.Fields.{IsSound}
+use Rattle.edr_merge.proofs.WaitingLemmas.{refusal_of-in_range, firings-kept, firings-past_first}
+use Rattle.edr_merge.proofs.StandsLemmas.{past_tick}
+
+-- what holds of a sensor's new mark and of each old one holds of each mark after that
+with_mark-each : (P : ℕ → Type 0) (s : Sensor) (t : ℕ) (m : Marks) → P t → ((r : Sensor) → P (mark_in r m)) → (r : Sensor) → P (mark_in r (with_mark s t m))
+with_mark-each P Along t m here rest Along = here
+with_mark-each P Across t m here rest Across = here
+with_mark-each P Speed t m here rest Speed = here
+with_mark-each P Throttle t m here rest Throttle = here
+with_mark-each P Brake t m here rest Brake = here
+with_mark-each P Belt t m here rest Belt = here
+with_mark-each P Lamp t m here rest Lamp = here
+with_mark-each P Restraint t m here rest Restraint = here
+with_mark-each P s t m here rest r = rest r
+
+-- an accepted item is within a cycle
+refusal_of-within : (s : Sensor) (last : ℕ) (x : Item) → refusal_of s last x ≡ None → x.moment ≤ LATEST_MOMENT
+unfolding refusal_of
+refusal_of-within s last x h = grind arith
+
+firings-with_kept : (s : Sensor) (last : ℕ) (x : Item) (r : Rings) → refusal_of s last x ≡ None → All IsFiring r.restraint → All IsFiring (with_kept s x r).restraint
+firings-with_kept Restraint last x r accepted all = firings-kept x r.restraint (refusal_of-in_range Restraint last x accepted) all
+firings-with_kept s last x r accepted all = all
+
+-- after an accepted item
+pub sound-given : (a : Inside) (s : Sensor) (x : Item) (last : ℕ) (m : Marks) (r : Rings) → IsSound a → last ≡ mark_in s a.marks → refusal_of s last x ≡ None → m ≡ with_mark s x.moment a.marks → r ≡ with_kept s x a.rings → IsSound (record { closed = a.closed; marks = m; rings = r })
+sound-given a s x last m r sound at accepted is_m is_r =
+    let rises = refusal_of-rises s last x accepted in
+    let within = refusal_of-within s last x accepted in
+    let low = sound.closed_low s in
+    rw (is_m, is_r) (record {
+      closed_low = with_mark-each (λ n. a.closed ≤ n) s x.moment a.marks (omega (arith, rises, low, at)) sound.closed_low;
+      marks_low = with_mark-each (λ n. n ≤ LATEST_MOMENT) s x.moment a.marks within sound.marks_low;
+      firings = firings-with_kept s last x a.rings accepted sound.firings;
+    })
+
+-- after a row
+pub sound-closed : (a : Inside) (r : Rings) → IsSound a → ((s : Sensor) → a.closed + 1 ≤ mark_in s a.marks) → r ≡ past_tick (a.closed + 1) a.rings → IsSound (record { closed = a.closed + 1; marks = a.marks; rings = r })
+sound-closed a r sound later is_r = record {
+  closed_low = later;
+  marks_low = sound.marks_low;
+  firings = rw is_r (firings-past_first (a.closed + 1) a.rings.restraint sound.firings);
+}

@@ -1,0 +1,7 @@
+pub mod Marks
+pub mod Samples
+pub mod Rings
+pub mod State
+pub mod Fields
+pub mod Answers
+pub mod StandsFor

@@ -1,0 +1,22 @@
+-- The samples that wait of the three sensors that a row is made of.
+use Rattle.std.specs.Prelude.{[]}
+use Rattle.edr_items.specs.declared.Sensor.{Sensor}
+use Rattle.edr_items.specs.declared.Sensor.TheVariants.{Along, Across, Speed, Throttle, Brake, Belt, Lamp, Restraint}
+use Rattle.edr_items.specs.declared.Item.{Item}
+use Rattle.edr_merge.specs.declared.rings.Rings.{Rings}
+use Rattle.edr_merge.specs.Samples.{kept}
+
+-- none wait
+abbrev pub no_samples : Rings
+no_samples = record { along = []; across = []; restraint = [] }
+
+-- one more item of that sensor: of the slow ones nothing is kept
+abbrev pub with_kept : Sensor → Item → Rings → Rings
+with_kept Along x r = record r { along = kept x r.along }
+with_kept Across x r = record r { across = kept x r.across }
+with_kept Speed x r = r
+with_kept Throttle x r = r
+with_kept Brake x r = r
+with_kept Belt x r = r
+with_kept Lamp x r = r
+with_kept Restraint x r = record r { restraint = kept x r.restraint }

@@ -1,0 +1,142 @@
+//! The merge of the eight sensors: items that come in any order of sensors go in, and the rows of one tick after the
+//! other come out.
+#![tactic(auto)]
+
+mod marks;
+mod rings;
+mod samples;
+
+ghost use Rattle.std.specs.Prelude.{◌≡◌, ◌↔◌, ◌≤◌, pos, ◌≤ℤ◌, IfOk, IfErr, IsOk, OnOk, OnErr, IfSome, unsigned_abs, unwrap_or};
+ghost use Rattle.edr_items.specs.SensorLists.{no_items};
+ghost use Rattle.edr_definitions.specs.Schedule.{Progress, Give, Close, IsAllowed, after_step};
+
+use edr_items::{Item, ItemRefused, LONGEST_GAP, Restraints, Sensor, check};
+use marks::Marks;
+use rings::Rings;
+use std::alloc::{AllocError as OutOfMemory, Global};
+use std::marker::Model;
+
+/// Why a merge refuses an item.
+#[derive(Clone, Copy, Debug, PartialEq, Eq)]
+pub enum MergeRefused {
+    /// The sensor may not give it after its last one.
+    Item(ItemRefused),
+    /// Its moment is more than [`LONGEST_GAP`] past the closed tick.
+    Ahead { closed: u32 },
+}
+
+/// What a merge answers to the wish for the next tick.
+#[derive(Clone, Copy, Debug, PartialEq, Eq)]
+pub enum Next {
+    /// The next tick can't be closed: this sensor may still give an item of it.
+    Waiting {
+        sensor: Sensor,
+    },
+    /// The next tick is closed. A sensor that gave no sample of it has None, and no restraint fires.
+    Row {
+        tick: u32,
+        along: Option<i32>,
+        across: Option<i32>,
+        fired: Restraints,
+    },
+}
+
+/// The items of a cycle's sensors on their way to rows. Each sensor gives its own items in their order; how those of
+/// the eight come between one another is free.
+///
+/// All memory is taken when it is made. A call takes none and has a bounded number of steps.
+#[derive(Drop)]
+pub struct Merge {
+    closed: u32,
+    marks: Marks,
+    rings: Rings,
+}
+
+impl Model for Merge {
+    ghost use Rattle.edr_merge.specs.State.{MergeState};
+
+    ghost Value = { MergeState };
+
+    ghost use Rattle.edr_merge.specs.Fields.{state_of, IsSound};
+
+    ghost view = { state_of };
+
+    ghost invariant = { IsSound };
+}
+
+// The restraints of a sample.
+fn restraints(sample: Option<i32>) -> Restraints
+    requires { IfSome sample (λ v. (pos 1 ≤ℤ v) × (v ≤ℤ pos 255)) }
+    ensures { result ≡ record { 0 = unsigned_abs (unwrap_or sample (pos 0)) } }
+{
+    match sample {
+        Some(bits) => Restraints(bits as u8),
+        None => Restraints(0),
+    }
+}
+
+impl Merge {
+    ghost use Rattle.edr_merge.specs.Answers.{give_refusal_of, next_of, IsRow, after_next};
+    ghost use Rattle.edr_merge.specs.StandsFor.{MergeStandsFor};
+
+    /// A merge to which no sensor has given an item, and of which no tick is closed.
+    pub fn new(alloc: Global) -> Result<Merge, OutOfMemory>
+        ensures { IfOk result (λ m. MergeStandsFor m (record { given = no_items; closed = 0 })) }
+    {
+        Ok(Merge {
+            closed: 0,
+            marks: Marks::new(),
+            rings: Rings::new(alloc)?,
+        })
+    }
+
+    /// Takes one more item of that sensor.
+    ///
+    /// ```
+    /// let mut merge = Merge::new(alloc)?;
+    /// merge.accept(Sensor::Along, Item { moment: 1, value: Some(-4000) })?;
+    /// ```
+    pub fn accept(&mut self, sensor: Sensor, item: Item) -> Result<(), MergeRefused>
+        ensures ok { OnOk result ((p : Progress) → MergeStandsFor self.old p → MergeStandsFor self.new (after_step p (Give sensor item))) }
+        ensures err { OnErr result (self.new ≡ self.old) }
+
+        // An item is taken exactly where the schedule allows it.
+        ensures allowed { (p : Progress) → MergeStandsFor self.old p → IsOk result ↔ IsAllowed (Give sensor item) p }
+        ensures why { (p : Progress) → MergeStandsFor self.old p → IfErr result (λ e. give_refusal_of sensor item p ≡ Some e) }
+    {
+        if let Err(refused) = check(sensor, self.marks.of(sensor), &item) {
+            return Err(MergeRefused::Item(refused));
+        }
+        if item.moment > self.closed + LONGEST_GAP {
+            return Err(MergeRefused::Ahead {
+                closed: self.closed,
+            });
+        }
+        self.marks.set(sensor, item.moment);
+        self.rings.keep(sensor, item);
+        Ok(())
+    }
+
+    /// Closes the next tick and gives its row, if no sensor can give an item of it any more.
+    pub fn next(&mut self) -> Next
+        ensures answer { (p : Progress) → MergeStandsFor self.old p → result ≡ next_of p }
+        ensures stands { (p : Progress) → MergeStandsFor self.old p → MergeStandsFor self.new (after_next p result) }
+
+        // A tick is closed exactly where the schedule allows it.
+        ensures allowed { (p : Progress) → MergeStandsFor self.old p → IsRow result ↔ IsAllowed Close p }
+    {
+        if let Some(sensor) = self.marks.first_at(self.closed) {
+            return Next::Waiting { sensor };
+        }
+        self.closed += 1;
+        Next::Row {
+            tick: self.closed,
+            along: self.rings.along.take(self.closed),
+            across: self.rings.across.take(self.closed),
+            fired: restraints(self.rings.restraint.take(self.closed)),
+        }
+    }
+}
+
+#[cfg(test)]
+mod tests;

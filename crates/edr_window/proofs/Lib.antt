@@ -1,0 +1,4 @@
+pub mod SumLaws
+pub mod SwingLemmas
+pub mod FrontLemmas
+pub mod ChangeLaws
