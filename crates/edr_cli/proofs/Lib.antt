@@ -4,3 +4,5 @@ pub mod ItemLemmas
 pub mod TraceLemmas
 pub mod WordLemmas
 pub mod RunLemmas
+pub mod ToldLemmas
+pub mod ReplayLemmas

@@ -3,13 +3,15 @@ use Rattle.std.proofs.Common.{◌≡◌, ◌≢◌, ◌∙◌, sym, ap, ap₂, s
 use Rattle.edr_cli.specs.declared.reader.ReadRefused.{ReadRefused}
 use Rattle.edr_cli.specs.declared.reader.ReadRefused.TheVariants.{NotATrace, OutOfMemory}
 use Rattle.std.proofs.lemmas.List.{append_cancel_left, append_cancel_right}
-use Rattle.edr_items.specs.SensorLists.{SensorLists, no_items, items_of}
+use Rattle.edr_items.specs.SensorLists.{SensorLists, no_items, items_of, lagging_of}
+use Rattle.edr_items.specs.declared.Sensor.{Sensor}
+use Rattle.edr_items.proofs.LevelLemmas.{lagging-from_IsLevel}
 use Rattle.edr_items.specs.Item.{add_refusal_of}
 use Rattle.edr_items.specs.declared.AddRefused.{AddRefused}
 use Rattle.edr_items.specs.declared.AddRefused.TheVariants as add
 use Rattle.edr_cli.specs.declared.rows.Row.{Row}
 use Rattle.edr_cli.specs.Rows.{row_line}
-use Rattle.edr_cli.specs.Trace.{first_line, last_line, IsNext, with_row, Give, Spells}
+use Rattle.edr_cli.specs.Trace.{first_line, last_line, IsNext, with_row, Give, GivesLists, Spells}
 use Rattle.edr_cli.specs.Steps.{Lacks, SplitsAt, AddsLine, SpellsRows}
 use Rattle.edr_cli.proofs.ByteLemmas.{split_once, Lacks-split}
 use Rattle.edr_cli.proofs.RowLemmas.{row_text, row_line-text, Lacks-row_text, row_text-one, row_line-one}
@@ -43,18 +45,18 @@ between-one : (xs ys : List ℕ) → first_line ++ xs ++ last_line ≡ first_lin
 between-one xs ys e = append_cancel_left first_line xs ys (append_cancel_right (first_line ++ xs) (first_line ++ ys) last_line e)
 
 -- what a text spells is one
-pub Spells-one : (bytes : List ℕ) (f g : SensorLists) → Spells bytes f → Spells bytes g → f ≡ g
-Spells-one bytes f g p q =
+pub Gives-one : (bytes : List ℕ) (f g : SensorLists) → GivesLists bytes f → GivesLists bytes g → f ≡ g
+Gives-one bytes f g p q =
     let rows = lines-one p.rows q.rows (between-one _ _ (sym p.text ∙ q.text)) in
     Give-one no_items f g q.rows (subst (λ (rows : List Row). Give no_items rows f) rows p.given) q.given
 
 -- a text that is the trace of some rows, by the lines between its first and its last
-pub Spells-between : (bytes lines : List ℕ) (f : SensorLists) → bytes ≡ first_line ++ lines ++ last_line → SpellsRows no_items lines f → Spells bytes f
-Spells-between bytes lines f e p = record { rows = p.rows; text = e ∙ ap (λ (ls : List ℕ). first_line ++ ls ++ last_line) p.text; given = p.given }
+pub Gives-between : (bytes lines : List ℕ) (f : SensorLists) → bytes ≡ first_line ++ lines ++ last_line → SpellsRows no_items lines f → GivesLists bytes f
+Gives-between bytes lines f e p = record { rows = p.rows; text = e ∙ ap (λ (ls : List ℕ). first_line ++ ls ++ last_line) p.text; given = p.given }
 
 -- and the other way
-pub between-Spells : (bytes lines : List ℕ) (f : SensorLists) → bytes ≡ first_line ++ lines ++ last_line → Spells bytes f → SpellsRows no_items lines f
-between-Spells bytes lines f e p = record { rows = p.rows; text = between-one lines (flat_map row_line p.rows) (sym e ∙ p.text); given = p.given }
+pub between-Gives : (bytes lines : List ℕ) (f : SensorLists) → bytes ≡ first_line ++ lines ++ last_line → GivesLists bytes f → SpellsRows no_items lines f
+between-Gives bytes lines f e p = record { rows = p.rows; text = between-one lines (flat_map row_line p.rows) (sym e ∙ p.text); given = p.given }
 
 -- no text
 pub SpellsRows-none : (f : SensorLists) (bytes : List ℕ) → eqb (length bytes) 0 ≡ true → SpellsRows f bytes f
@@ -108,7 +110,7 @@ pub refused-row : (f : SensorLists) (q : Row) (bytes : List ℕ) (e : AddRefused
 refused-row f q bytes e spelled (inr why) known r next same = known why.1
 refused-row f q bytes e spelled (inl why) known r next same =
     let one : r ≡ q = row_line-one r q (same ∙ sym spelled) in
-    let accepted : add_refusal_of q.sensor (items_of q.sensor f) q.item ≡ None = subst (λ (row : Row). add_refusal_of row.sensor (items_of row.sensor f) row.item ≡ None) one next.1 in
+    let accepted : add_refusal_of q.sensor (items_of q.sensor f) q.item ≡ None = subst (λ (row : Row). add_refusal_of row.sensor (items_of row.sensor f) row.item ≡ None) one next in
     cc
 
 -- the first line and the last, taken off one after the other
@@ -116,8 +118,20 @@ pub lines-both : (bytes rest : List ℕ) (r : Option (Bor (List ℕ))) → bytes
 lines-both bytes rest None e h = λ lines k. h lines (append_cancel_left first_line rest (lines ++ last_line) (sym e ∙ k ∙ append_assoc first_line lines last_line))
 lines-both bytes rest (Some x) e h = e ∙ ap (λ (bs : List ℕ). first_line ++ bs) h ∙ sym (append_assoc first_line x.now last_line)
 
--- what is spelled is read, if reading the lines between tells what they spell
-pub read-complete : (bytes lines : List ℕ) (r : Result SensorLists ReadRefused) → bytes ≡ first_line ++ lines ++ last_line → IfOk r (λ f. SpellsRows no_items lines f) → (IsErrOf r NotATrace → (f : SensorLists) → SpellsRows no_items lines f → ⊥) → (f : SensorLists) → Spells bytes f → MatchResult r (λ g. g ≡ f) (λ e. e ≡ OutOfMemory)
-read-complete bytes lines (Ok g) e spelled refused f p = Spells-one bytes g f (Spells-between bytes lines g e spelled) p
-read-complete bytes lines (Err NotATrace) e spelled refused f p = absurd (refused refl f (between-Spells bytes lines f e p))
-read-complete bytes lines (Err OutOfMemory) e spelled refused f p = refl
+-- a text spells at most one cycle
+pub Spells-one : (bytes : List ℕ) (f g : SensorLists) → Spells bytes f → Spells bytes g → f ≡ g
+Spells-one bytes f g p q = Gives-one bytes f g p.gives q.gives
+
+-- what is spelled is read as that and nothing else, where no refusal but want of memory is left
+pub spelled-complete : (bytes : List ℕ) (r : Result SensorLists ReadRefused) → IfOk r (λ f. Spells bytes f) → (IsErrOf r NotATrace → (f : SensorLists) → Spells bytes f → ⊥) → (f : SensorLists) → Spells bytes f → MatchResult r (λ g. g ≡ f) (λ e. e ≡ OutOfMemory)
+spelled-complete bytes (Ok g) spelled refused f p = Spells-one bytes g f spelled p
+spelled-complete bytes (Err NotATrace) spelled refused f p = absurd (refused refl f p)
+spelled-complete bytes (Err OutOfMemory) spelled refused f p = refl
+
+-- lists of which a sensor lags are not spelled
+pub lagging-not_spelled : (bytes : List ℕ) (f : SensorLists) (s : Sensor) → GivesLists bytes f → lagging_of f ≡ Some s → (g : SensorLists) → Spells bytes g → ⊥
+lagging-not_spelled bytes f s given lags g p =
+    let same = Gives-one bytes f g given p.gives in
+    let none : lagging_of g ≡ None = lagging-from_IsLevel g p.level in
+    let some : lagging_of g ≡ Some s = sym (ap lagging_of same) ∙ lags in
+    cc

@@ -5,3 +5,5 @@ pub mod Steps
 pub mod Events
 pub mod Faults
 pub mod Runs
+pub mod Told
+pub mod Replay

@@ -16,13 +16,6 @@ word_of Belt = codes "belt"
 word_of Lamp = codes "lamp"
 word_of Restraint = codes "restraint"
 
--- the sensors that a trace may have rows of
-abbrev pub HasRows : Sensor → Type 0
-HasRows Along = Unit {0}
-HasRows Across = Unit {0}
-HasRows Restraint = Unit {0}
-HasRows _ = ⊥
-
 -- the value, or nothing where the sensor was silent
 abbrev pub value_text : Option ℤ → List ℕ
 value_text None = []

@@ -1,9 +1,9 @@
 -- What a run writes, and why.
-use Rattle.std.specs.Prelude.{◌≡◌, ◌≤◌, ℕ, min, [], ◌∷◌, List, length, map, codes, Option, IfSome}
-use Rattle.edr_items.specs.Item.{mark_of}
-use Rattle.edr_items.specs.SensorLists.{SensorLists}
+use Rattle.std.specs.Prelude.{◌≡◌, ◌≤◌, ℕ, [], ◌∷◌, List, length, map, codes, Option, IfSome}
+use Rattle.edr_items.specs.SensorLists.{SensorLists, horizon_of}
 use Rattle.edr_definitions.specs.Signals.{signals_of}
 use Rattle.edr_definitions.specs.Selection.{events}
+use Rattle.edr_detect.specs.declared.Selected.{Selected}
 use Rattle.edr_detect.specs.Selected.{answer_of}
 use Rattle.edr_device.specs.Faults.{Rose}
 use Rattle.edr_cli.specs.declared.runs.TheConstants.{LONGEST_TRACE}
@@ -27,15 +27,13 @@ IsTraceOf bytes lists = Spells bytes lists × (length bytes ≤ LONGEST_TRACE)
 abbrev pub IsNoTrace : List ℕ → Type 0
 IsNoTrace bytes = (lists : SensorLists) → ¬ IsTraceOf bytes lists
 
--- up to which tick the three sensors of such a trace have spoken
-abbrev pub horizon_of_trace : SensorLists → ℕ
-horizon_of_trace lists = min (min (mark_of lists.along) (mark_of lists.across)) (mark_of lists.restraint)
+-- the events of a cycle that are confirmed by its horizon, as far as they are known there
+abbrev pub cycle_events : SensorLists → List Selected
+cycle_events lists = map (answer_of (horizon_of lists)) (events (signals_of lists) (horizon_of lists))
 
--- the text of a cycle: the lines of its events that are confirmed by then
+-- the text of a cycle: the lines of its events
 unfoldable pub cycle_text : SensorLists → List ℕ
-cycle_text lists =
-    let upto = horizon_of_trace lists in
-    events_text (map (answer_of upto) (events (signals_of lists) upto))
+cycle_text lists = events_text (cycle_events lists)
 
 -- the source is at its end, if it tells
 abbrev pub IsAtEnd : Option (List ℕ) → Type 0

@@ -1,9 +1,9 @@
 -- What the trace of one cycle is, and which lists of items it gives.
 use Rattle.std.specs.Prelude.{◌≡◌, ℕ, None, List, [], ◌∷◌, ◌++◌, flat_map, codes}
 use Rattle.edr_items.specs.Item.{add_refusal_of}
-use Rattle.edr_items.specs.SensorLists.{SensorLists, no_items, items_of, with_items}
+use Rattle.edr_items.specs.SensorLists.{SensorLists, no_items, items_of, with_items, IsLevel}
 use Rattle.edr_cli.specs.declared.rows.Row.{Row}
-use Rattle.edr_cli.specs.Rows.{HasRows, row_line}
+use Rattle.edr_cli.specs.Rows.{row_line}
 
 -- the line where the cycle starts
 abbrev pub first_line : List ℕ
@@ -17,9 +17,9 @@ last_line = codes "cut,0,\n"
 abbrev pub trace_text : List Row → List ℕ
 trace_text rows = first_line ++ flat_map row_line rows ++ last_line
 
--- the row may stand where the rows before it gave these lists: its sensor has rows, and its list takes the item
+-- the row may stand where the rows before it gave these lists: its sensor's list takes the item
 abbrev pub IsNext : SensorLists → Row → Type 0
-IsNext lists row = HasRows row.sensor × (add_refusal_of row.sensor (items_of row.sensor lists) row.item ≡ None)
+IsNext lists row = add_refusal_of row.sensor (items_of row.sensor lists) row.item ≡ None
 
 -- the lists with the item of the row at the end of its sensor's
 abbrev pub with_row : Row → SensorLists → SensorLists
@@ -31,7 +31,12 @@ Give old [] new = old ≡ new
 Give old (row ∷ rows) new = IsNext old row × Give (with_row row old) rows new
 
 -- the bytes are the trace of some rows, which give these lists
-pub record Spells (bytes : List ℕ) (lists : SensorLists) : Type 0 where
+pub record GivesLists (bytes : List ℕ) (lists : SensorLists) : Type 0 where
   pub rows : List Row
   pub text : bytes ≡ trace_text rows
   pub given : Give no_items rows lists
+
+-- the same, where no sensor lags
+pub record Spells (bytes : List ℕ) (lists : SensorLists) : Type 0 where
+  pub gives : GivesLists bytes lists
+  pub level : IsLevel lists

@@ -8,7 +8,8 @@ use std::process::Abort;
 use std::test::Fail;
 
 // A deployment at the first tick, and silent sensors up to tick 60.
-const TRACE: &[u8] = b"on,0,\nrestraint,1,1\nalong,60,\nacross,60,\nrestraint,60,\ncut,0,\n";
+const TRACE: &[u8] =
+    b"on,0,\nrestraint,1,1\nalong,60,\nacross,60,\nspeed,60,\nthrottle,60,\nbrake,60,\nbelt,60,\nlamp,60,\nrestraint,60,\ncut,0,\n";
 
 const TEXT: &[u8] = b"time zero: 1 ms\nconfirmation: 1 ms\nend: 21 ms\nclose: 51 ms\n";
 
@@ -88,8 +89,10 @@ fn each_status_has_its_bytes(rt: HostRuntime) -> Result<(), Fail> {
     check_run(&rt, &["replay", "text"], whole(TRACE), usage)?;
     check_run(&rt, &["Replay"], whole(TRACE), usage)?;
     let speed = whole(b"on,0,\nspeed,100,50\ncut,0,\n");
+    check_run(&rt, &["replay"], speed, expect(Status::Ok, b""))?;
     let unread = expect(Status::Trace, b"fault: trace unread\n");
-    check_run(&rt, &["replay"], speed, unread)?;
+    let skew = whole(b"on,0,\nspeed,1000,\nspeed,1001,\ncut,0,\n");
+    check_run(&rt, &["replay"], skew, unread)?;
     let codes = [
         (Status::Ok, 0),
         (Status::Usage, 2),
@@ -124,10 +127,10 @@ fn pieces_make_no_difference(rt: HostRuntime) -> Result<(), Fail> {
     Ok(())
 }
 
-// With pieces of 7 bytes the trace takes nine calls and one more for its end.
+// With pieces of 7 bytes the trace takes 17 calls and one more for its end.
 #[test]
 fn a_source_that_fails_at_any_call_is_told(rt: HostRuntime) -> Result<(), Fail> {
-    for fails in 1..11u32 {
+    for fails in 1..19u32 {
         let bytes = TRACE;
         let input = Input {
             bytes,
@@ -141,7 +144,7 @@ fn a_source_that_fails_at_any_call_is_told(rt: HostRuntime) -> Result<(), Fail> 
     let late = Input {
         bytes,
         piece: 7,
-        fails: 11,
+        fails: 19,
     };
     check_run(&rt, &["replay"], late, expect(Status::Ok, TEXT))?;
     Ok(())
@@ -192,15 +195,16 @@ fn value_at(stretches: &[Stretch], t: u32) -> i32 {
     0
 }
 
-// Both axes at each tick up to the last, 0 outside the stretches, and a silent restraint row each second and at
-// the end.
+// Both axes at each tick up to the last, 0 outside the stretches, and silent rows of the six other sensors each second
+// and at the end.
 fn cycle(alloc: Global, last: u32, along: &[Stretch]) -> Result<String, AllocError> {
     let mut trace = String::from_str(alloc, "on,0,\n")?;
     for t in 1..=last {
         let value = value_at(along, t);
         write!(trace, "along,{t},{value}\nacross,{t},0\n")?;
         if t % 1000 == 0 || t == last {
-            write!(trace, "restraint,{t},\n")?;
+            write!(trace, "speed,{t},\nthrottle,{t},\nbrake,{t},\n")?;
+            write!(trace, "belt,{t},\nlamp,{t},\nrestraint,{t},\n")?;
         }
     }
     trace.push_str("cut,0,\n")?;
@@ -252,4 +256,74 @@ fn the_worked_crashes_give_their_lines(rt: HostRuntime) -> Result<(), Fail> {
         whole(reaches_back.as_bytes()),
         expect(Status::Ok, text),
     )
+}
+
+// Three rows of each sensor: a blow at 11 and 12, and an air bag at 12.
+const ROWS: [[&str; 3]; 8] = [
+    ["along,11,-40000\n", "along,12,-50000\n", "along,70,\n"],
+    ["across,11,100\n", "across,30,-100\n", "across,70,0\n"],
+    ["speed,10,50\n", "speed,60,0\n", "speed,75,0\n"],
+    ["throttle,10,30\n", "throttle,60,0\n", "throttle,80,\n"],
+    ["brake,10,1\n", "brake,60,1\n", "brake,1000,\n"],
+    ["belt,10,1\n", "belt,60,1\n", "belt,70,\n"],
+    ["lamp,10,0\n", "lamp,60,0\n", "lamp,70,\n"],
+    ["restraint,12,4\n", "restraint,60,\n", "restraint,70,\n"],
+];
+
+// The next row of that sensor, if one is left.
+fn put_next(trace: &mut String, given: &mut [usize; 8], sensor: usize) -> Result<(), AllocError> {
+    let Some(rows) = ROWS.get(sensor) else {
+        return Ok(());
+    };
+    let Some(count) = given.get_mut(sensor) else {
+        return Ok(());
+    };
+    if let Some(row) = rows.get(*count) {
+        *count += 1;
+        trace.push_str(row)?;
+    }
+    Ok(())
+}
+
+// The trace that takes a row of these sensors in turn, and then what is left of each.
+fn interleaved(alloc: Global, order: &[usize; 24]) -> Result<String, AllocError> {
+    let mut trace = String::from_str(alloc, "on,0,\n")?;
+    let mut given = [0usize; 8];
+    for sensor in order {
+        put_next(&mut trace, &mut given, *sensor)?;
+    }
+    for pick in 0..24usize {
+        put_next(&mut trace, &mut given, pick / 3)?;
+    }
+    trace.push_str("cut,0,\n")?;
+    Ok(trace)
+}
+
+// All sensors but this one, three times.
+fn all_but(sensor: usize) -> [usize; 24] {
+    let mut order = [0; 24];
+    for pick in 0..24usize {
+        let other = pick % 8;
+        order[pick] = if other == sensor { 8 } else { other };
+    }
+    order
+}
+
+#[test]
+fn the_order_of_arrival_makes_no_difference(rt: HostRuntime) -> Result<(), Fail> {
+    let text = b"time zero: 11 ms\nconfirmation: 12 ms\nend: 32 ms\nclose: 62 ms\n";
+    let wanted = expect(Status::Ok, text);
+    for sensor in 0..8usize {
+        let first = interleaved(rt.alloc(), &[sensor; 24])?;
+        check_run(&rt, &["replay"], whole(first.as_bytes()), wanted)?;
+        let last = interleaved(rt.alloc(), &all_but(sensor))?;
+        check_run(&rt, &["replay"], whole(last.as_bytes()), wanted)?;
+    }
+    let round_robin = interleaved(rt.alloc(), &all_but(8))?;
+    check_run(&rt, &["replay"], whole(round_robin.as_bytes()), wanted)?;
+    let shuffle = [
+        7, 2, 0, 5, 0, 3, 6, 1, 4, 4, 7, 0, 2, 5, 1, 6, 3, 2, 7, 1, 4, 6, 5, 3,
+    ];
+    let shuffled = interleaved(rt.alloc(), &shuffle)?;
+    check_run(&rt, &["replay"], whole(shuffled.as_bytes()), wanted)
 }

@@ -4,7 +4,9 @@
 
 mod events;
 mod faults;
+mod left;
 mod reader;
+mod replay;
 mod rows;
 mod runs;
 mod status;

@@ -4,7 +4,7 @@ ghost use Rattle.std.specs.Prelude.{◌≡◌, ◌≢◌, ℕ, List, ◌++◌, c
 ghost use Rattle.edr_items.specs.SensorLists.{SensorLists, no_items};
 ghost use Rattle.edr_cli.specs.declared.rows.Row.{Row};
 ghost use Rattle.edr_cli.specs.Rows.{row_line};
-ghost use Rattle.edr_cli.specs.Trace.{first_line, last_line, IsNext, Spells};
+ghost use Rattle.edr_cli.specs.Trace.{first_line, last_line, IsNext, GivesLists, Spells};
 ghost use Rattle.edr_cli.specs.Steps.{AddsLine, SpellsRows};
 
 use crate::rows::{row_of, split_at_byte};
@@ -20,12 +20,24 @@ pub enum ReadRefused {
 }
 
 /// The items that the trace of one cycle gives.
-pub fn read(alloc: Global, bytes: &[u8]) -> Result<Feeds, ReadRefused>
+pub(crate) fn read(alloc: Global, bytes: &[u8]) -> Result<Feeds, ReadRefused>
     ensures spelled { IfOk result (λ feeds. Spells bytes.now feeds) }
 
     // What is spelled is read, unless memory runs out, so the refusal says that nothing is.
     ensures complete { (feeds : SensorLists) → Spells bytes.now feeds → MatchResult result (λ f. f ≡ feeds) (λ e. e ≡ ReadRefused.OutOfMemory) }
     ensures refused { IsErrOf result ReadRefused.NotATrace → (feeds : SensorLists) → Spells bytes.now feeds → ⊥ }
+{
+    let feeds = read_lists(alloc, bytes)?;
+    match feeds.lagging() {
+        None => Ok(feeds),
+        Some(_) => Err(ReadRefused::NotATrace),
+    }
+}
+
+// The same, whether or not a sensor lags.
+fn read_lists(alloc: Global, bytes: &[u8]) -> Result<Feeds, ReadRefused>
+    ensures given { IfOk result (λ feeds. GivesLists bytes.now feeds) }
+    ensures refused { IsErrOf result ReadRefused.NotATrace → (feeds : SensorLists) → GivesLists bytes.now feeds → ⊥ }
 {
     match lines_between(bytes) {
         Some(lines) => read_rows(alloc, lines),

@@ -4,7 +4,7 @@ ghost use Rattle.std.specs.Prelude.{◌≡◌, ◌≢◌, ◌++◌, codes, Match
 ghost use Rattle.edr_items.specs.declared.Sensor.{Sensor};
 ghost use Rattle.edr_text.specs.Numbers.{numeral};
 ghost use Rattle.edr_cli.specs.declared.rows.Row.{Row};
-ghost use Rattle.edr_cli.specs.Rows.{word_of, value_text, HasRows, row_line};
+ghost use Rattle.edr_cli.specs.Rows.{word_of, value_text, row_line};
 ghost use Rattle.edr_cli.specs.Steps.{Lacks, SplitsAt, IsTaken};
 
 use edr_items::{Item, Sensor};
@@ -21,8 +21,8 @@ pub(crate) struct Row {
 /// The row that has this line, without its line feed. A row that no list of its sensor would take may be left out.
 pub(crate) fn row_of(line: &[u8]) -> Option<Row>
     ensures { MatchOption result
-        ((row : Row) → HasRows row.sensor → IsTaken row → row_line row ≢ line.now ++ codes "\n")
-        (λ row. HasRows row.sensor × (row_line row ≡ line.now ++ codes "\n")) }
+        ((row : Row) → IsTaken row → row_line row ≢ line.now ++ codes "\n")
+        (λ row. row_line row ≡ line.now ++ codes "\n") }
 {
     let (word, fields) = split_at_byte(line, b',')?;
     let (moment, value) = split_at_byte(fields, b',')?;
@@ -39,15 +39,20 @@ pub(crate) fn split_at_byte(bytes: &[u8], byte: u8) -> Option<(&[u8], &[u8])>
     Some((&bytes[..at], &bytes[at + 1..]))
 }
 
-// The sensor that has rows with this word.
+// The sensor of this word.
 fn sensor_of(word: &[u8]) -> Option<Sensor>
     ensures { MatchOption result
-        ((sensor : Sensor) → HasRows sensor → word_of sensor ≢ word.now)
-        (λ sensor. HasRows sensor × (word_of sensor ≡ word.now)) }
+        ((sensor : Sensor) → word_of sensor ≢ word.now)
+        (λ sensor. word_of sensor ≡ word.now) }
 {
     match word {
         b"along" => Some(Sensor::Along),
         b"across" => Some(Sensor::Across),
+        b"speed" => Some(Sensor::Speed),
+        b"throttle" => Some(Sensor::Throttle),
+        b"brake" => Some(Sensor::Brake),
+        b"belt" => Some(Sensor::Belt),
+        b"lamp" => Some(Sensor::Lamp),
         b"restraint" => Some(Sensor::Restraint),
         _ => None,
     }

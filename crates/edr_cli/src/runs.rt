@@ -5,16 +5,15 @@ ghost use Rattle.edr_device.specs.Faults.{Rose};
 ghost use Rattle.edr_device.specs.Stream.{Appends};
 ghost use Rattle.edr_device.specs.Told.{Told};
 ghost use Rattle.edr_device.specs.Transfer.{AppendsPart};
-ghost use Rattle.edr_cli.specs.Runs.{AreReplay, IsTraceOf, IsNoTrace, horizon_of_trace, IsAtEnd, HasText, IsCause, IsText};
+ghost use Rattle.edr_cli.specs.Runs.{AreReplay, IsTraceOf, IsNoTrace, IsAtEnd, HasText, IsCause, IsText};
 
 use crate::events::text_of;
 use crate::faults::Fault;
 use crate::reader::{ReadRefused, read};
+use crate::replay::replay;
 use crate::status::Status;
 use crate::words::Words;
-use edr_detect::select;
 use edr_device::{Failed, Sink, Source, TakeFault, put_all, take_all};
-use edr_items::{Feeds, Sensor, mark};
 use std::alloc::Global;
 
 /// The most bytes that a trace may have.
@@ -75,19 +74,8 @@ fn run<S: Source>(alloc: Global, words: &Words, source: &mut S) -> Result<Vec<u8
     }
     let bytes = take_all(alloc, source, LONGEST_TRACE)?;
     let feeds = read(alloc, &bytes)?;
-    let found = select(alloc, &feeds, horizon(&feeds))?;
-    Ok(text_of(alloc, &found)?)
-}
-
-// Up to which tick the three sensors have spoken of which such a trace has rows.
-fn horizon(feeds: &Feeds) -> u32
-    ensures value { result ≡ horizon_of_trace feeds.now }
-    ensures within { result ≤ 86_400_000 }
-{
-    let along = mark(feeds.of(Sensor::Along));
-    let across = mark(feeds.of(Sensor::Across));
-    let restraint = mark(feeds.of(Sensor::Restraint));
-    along.min(across).min(restraint)
+    let events = replay(alloc, &feeds)?;
+    Ok(text_of(alloc, &events)?)
 }
 
 // Writes the text of a run that would end with that status.

@@ -3,6 +3,7 @@ use crate::faults::Fault;
 use crate::reader::{ReadRefused, read};
 use edr_detect::{Rest, Selected};
 use edr_items::{Item, Sensor};
+use std::test::Fail;
 
 fn item(moment: u32, value: Option<i32>) -> Item {
     Item { moment, value }
@@ -15,18 +16,37 @@ fn is_no_trace(rt: &HostRuntime, bytes: &[u8]) -> bool {
     }
 }
 
+// Rows of seven of the eight sensors that give a last moment.
+const SILENT: &str = "across,60,\nspeed,60,\nthrottle,60,\nbrake,60,\nbelt,60,\nlamp,60,\n";
+
 #[test]
 fn rows_are_read_in_their_order(rt: HostRuntime) {
     let trace =
-        b"on,0,\nalong,1,7000\nacross,1,-4000\nrestraint,1000,\nalong,1001,\nrestraint,2000,255\ncut,0,\n";
+        b"on,0,\nalong,1,7000\nspeed,100,300\nthrottle,100,100\nbrake,100,1\nacross,1,-4000\nbelt,1000,0\nlamp,900,\nrestraint,500,255\nalong,1001,\nrestraint,900,\ncut,0,\n";
     let feeds = read(rt.alloc(), trace).expect(&rt, "a trace");
     let along = [item(1, Some(7000)), item(1001, None)];
-    let across = [item(1, Some(-4000))];
-    let restraint = [item(1000, None), item(2000, Some(255))];
+    let restraint = [item(500, Some(255)), item(900, None)];
     assert!(rt; feeds.of(Sensor::Along) == along.as_slice());
-    assert!(rt; feeds.of(Sensor::Across) == across.as_slice());
+    assert!(rt; feeds.of(Sensor::Across) == [item(1, Some(-4000))].as_slice());
+    assert!(rt; feeds.of(Sensor::Speed) == [item(100, Some(300))].as_slice());
+    assert!(rt; feeds.of(Sensor::Throttle) == [item(100, Some(100))].as_slice());
+    assert!(rt; feeds.of(Sensor::Brake) == [item(100, Some(1))].as_slice());
+    assert!(rt; feeds.of(Sensor::Belt) == [item(1000, Some(0))].as_slice());
+    assert!(rt; feeds.of(Sensor::Lamp) == [item(900, None)].as_slice());
     assert!(rt; feeds.of(Sensor::Restraint) == restraint.as_slice());
-    assert!(rt; feeds.of(Sensor::Speed).is_empty());
+}
+
+#[test]
+fn a_sensor_that_lags_makes_no_trace(rt: HostRuntime) -> Result<(), Fail> {
+    let mut level = String::from_str(rt.alloc(), "on,0,\n")?;
+    level.push_str(SILENT)?;
+    level.push_str("restraint,60,\nalong,1000,\nalong,1060,\ncut,0,\n")?;
+    assert!(rt; !is_no_trace(&rt, level.as_bytes()));
+    let mut lags = String::from_str(rt.alloc(), "on,0,\n")?;
+    lags.push_str(SILENT)?;
+    lags.push_str("restraint,60,\nalong,1000,\nalong,1061,\ncut,0,\n")?;
+    assert!(rt; is_no_trace(&rt, lags.as_bytes()));
+    Ok(())
 }
 
 #[test]
@@ -60,7 +80,7 @@ fn other_texts_are_no_traces(rt: HostRuntime) {
 fn other_rows_are_not_read(rt: HostRuntime) {
     let texts: [&[u8]; 16] = [
         b"on,0,\n\ncut,0,\n",
-        b"on,0,\nspeed,100,50\ncut,0,\n",
+        b"on,0,\nspeeds,100,50\ncut,0,\n",
         b"on,0,\nAlong,1,5\ncut,0,\n",
         b"on,0,\n along,1,5\ncut,0,\n",
         b"on,0,\n\"along\",1,5\ncut,0,\n",
@@ -83,7 +103,11 @@ fn other_rows_are_not_read(rt: HostRuntime) {
 
 #[test]
 fn items_that_no_feed_takes_are_not_read(rt: HostRuntime) {
-    let texts: [&[u8]; 6] = [
+    let texts: [&[u8]; 10] = [
+        b"on,0,\nspeed,100,301\ncut,0,\n",
+        b"on,0,\nthrottle,100,101\ncut,0,\n",
+        b"on,0,\nbelt,100,2\ncut,0,\n",
+        b"on,0,\nlamp,100,-1\ncut,0,\n",
         b"on,0,\nalong,0,5\ncut,0,\n",
         b"on,0,\nalong,2,5\nalong,2,5\ncut,0,\n",
         b"on,0,\nalong,2,5\nacross,1,5\nalong,1,5\ncut,0,\n",

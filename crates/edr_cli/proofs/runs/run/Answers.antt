@@ -1,10 +1,7 @@
-use Rattle.std.proofs.Common.{arith, ap, ◌∙◌, ◌≡◌, ℕ, map, Err}
+use Rattle.std.proofs.Common.{arith, ap, ◌∙◌, ◌≡◌, Err}
 use Rattle.std.proofs.lemmas.Result.{err_from_is_err_and}
-use Rattle.edr_definitions.specs.Signals.{signals_of}
-use Rattle.edr_definitions.specs.Selection.{events}
-use Rattle.edr_detect.specs.Selected.{answer_of}
 use Rattle.edr_cli.specs.Events.{events_text}
-use Rattle.edr_cli.specs.Runs.{AreReplay, horizon_of_trace, cycle_text}
+use Rattle.edr_cli.specs.Runs.{AreReplay, cycle_text}
 use Rattle.edr_cli.proofs.RunLemmas.{taken-ends, taken-text, take-cause, read-cause}
 use Rattle.edr_cli.proofs.runs.run.Goals as goal
 
@@ -28,11 +25,8 @@ pub returns-clause-text : goal.returns-clause-text
 unfolding cycle_text
 returns-clause-text g c =
     let replay : AreReplay c.args.words.now = c.are_replay.ensures.0 (grind arith) in
-    let upto = horizon_of_trace c.in_ok-feeds.feeds in
-    let found : c.in_ok-found.found.items ≡ map (answer_of upto) (events (signals_of c.in_ok-feeds.feeds) upto) =
-    c.in_ok-found.ensures ∙ ap (λ (t : ℕ). map (answer_of t) (events (signals_of c.in_ok-feeds.feeds) t)) c.horizon.ensures.value in
     let text : c.in_ok-text_of.field-0.items ≡ cycle_text c.in_ok-feeds.feeds =
-    c.in_ok-text_of.ensures ∙ ap events_text (c.deref-2.ensures.value ∙ found) in (
+    c.in_ok-text_of.ensures ∙ ap events_text (c.deref-2.ensures.value ∙ c.in_ok-events.ensures) in (
       replay,
       taken-text c.in_ok-bytes.bytes.items c.in_ok-text_of.field-0.items c.in_ok-feeds.feeds (g.S.Source.left c.args.source.now) _ c.in_ok-bytes.ensures.all
           (rw c.deref.ensures.value at c.in_ok-feeds.ensures.spelled) (omega (arith, c.in_ok-bytes.ensures.within)) text,
