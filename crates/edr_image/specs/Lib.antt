@@ -1,0 +1,9 @@
+pub mod Banks
+pub mod Steps
+pub mod Calls
+pub mod PartBytes
+pub mod Image
+pub mod Kept
+pub mod Order
+pub mod Answered
+pub mod Logged
