@@ -7,3 +7,4 @@ pub mod Kept
 pub mod Order
 pub mod Answered
 pub mod Logged
+pub mod Reports

@@ -82,5 +82,7 @@ pub enum OpenFault {
 
 pub mod laws;
 mod log;
+#[cfg(test)]
+mod tests;
 
 pub use log::{CycleReport, Log};
