@@ -6,7 +6,7 @@ use Rattle.edr_image.specs.Banks.{Store}
 use Rattle.edr_image.specs.Steps.{Step}
 use Rattle.edr_image.specs.Calls.{all_calls, stops, IsStop}
 use Rattle.edr_image.proofs.StopLaws.{contains_here, contains_later, contains_none, contains_map, contains_mapped, contains_cases, contains_append, contains_left, contains_right, stops-is, stops-has, stop-within}
-use Rattle.edr_run.specs.declared.CycleInput.{CycleInput}
+use Rattle.edr_spell.specs.declared.CycleInput.{CycleInput}
 use Rattle.edr_image.specs.Reports.{Report}
 use Rattle.edr_run.specs.Cycle.{End, IsCycle, start_stopped, start_counted, whole, cut, start_end, whole_end, cut_end, start_ends, run_ends, ends, steps_in, Outcome, IsRun, one_more, outcomes, last_count}
 

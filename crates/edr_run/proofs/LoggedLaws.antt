@@ -17,7 +17,7 @@ use Rattle.edr_image.specs.Calls.{IsStop, acknowledged}
 use Rattle.edr_image.specs.Answered.{IsAnswered, IsLockedIn, IsLockedWith}
 use Rattle.edr_image.proofs.StopLaws.{stop-prefix, stops-has, acknowledged-done}
 use Rattle.edr_image.proofs.LockLaws.{AreOwn-any, lock-stays, done-follows}
-use Rattle.edr_run.specs.declared.CycleInput.{CycleInput}
+use Rattle.edr_spell.specs.declared.CycleInput.{CycleInput}
 use Rattle.edr_image.specs.Reports.{Report, StartStopped, Ran}
 use Rattle.edr_run.specs.Cycle.{End, IsCycle, start_stopped, start_counted, whole, cut, kind_of, ack_of, issues_in, replies_in, steps_in, acks_in, acks_before, Outcome, IsRun}
 use Rattle.edr_run.specs.Own.{IsPreOf, ArePartsOf}

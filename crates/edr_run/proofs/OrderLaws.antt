@@ -26,7 +26,7 @@ use Rattle.edr_image.proofs.StepLaws.{locked-stays}
 use Rattle.edr_image.proofs.KeptLaws.{kept-stays}
 use Rattle.edr_image.specs.declared.BankView.TheVariants.{Event}
 use Rattle.edr_record.specs.declared.Record.{Record}
-use Rattle.edr_run.specs.declared.CycleInput.{CycleInput}
+use Rattle.edr_spell.specs.declared.CycleInput.{CycleInput}
 use Rattle.edr_run.specs.Cycle.{End, IsCycle, start_stopped, start_counted, whole, cut, steps_in, issues_in, Outcome, IsRun}
 
 -- ---- events follow one another

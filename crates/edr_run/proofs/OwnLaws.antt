@@ -25,7 +25,7 @@ use Rattle.edr_image.specs.Kept.{AreKept}
 use Rattle.edr_image.specs.Order.{AreOwn}
 use Rattle.edr_image.proofs.StopLaws.{stop-prefix, contains_here, contains_later}
 use Rattle.edr_image.proofs.OwnLaws.{own-steps}
-use Rattle.edr_run.specs.declared.CycleInput.{CycleInput}
+use Rattle.edr_spell.specs.declared.CycleInput.{CycleInput}
 use Rattle.edr_image.specs.Reports.{Report, Ran}
 use Rattle.edr_run.specs.Cycle.{End, IsCycle, start_stopped, start_counted, whole, cut, steps_in, issues_in, acks_in, acks_before, Outcome, IsRun}
 use Rattle.edr_run.specs.Own.{IsPreOf, ArePartsOf, IsRecordOf, RanAs, IsInWindow}

@@ -21,7 +21,7 @@ use Rattle.edr_image.specs.declared.Kind.TheVariants as kind
 use Rattle.edr_image.specs.Banks.{Store, events, damaged, lowest_void, least_unlocked}
 use Rattle.edr_image.specs.Steps.{reply_to}
 use Rattle.edr_image.specs.Calls.{stops, acknowledged}
-use Rattle.edr_run.specs.declared.CycleInput.{CycleInput}
+use Rattle.edr_spell.specs.declared.CycleInput.{CycleInput}
 use Rattle.edr_image.specs.Reports.{Report, StartStopped, Ran}
 use Rattle.edr_run.specs.Cycle.{ends, run_ends, steps_in, acks_in, acks_before, outcomes}
 

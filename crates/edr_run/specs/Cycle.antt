@@ -11,7 +11,7 @@ use Rattle.edr_image.specs.Reports.{Report, StartStopped, Ran}
 use Rattle.edr_image.specs.Banks.{Store}
 use Rattle.edr_image.specs.Steps.{Step, Reply, replies, at_rest, after}
 use Rattle.edr_image.specs.Calls.{all_calls, stops, IsStop, acknowledged}
-use Rattle.edr_run.specs.declared.CycleInput.{CycleInput}
+use Rattle.edr_spell.specs.declared.CycleInput.{CycleInput}
 
 abbrev pub kind_of : Command → Kind
 kind_of (command.Take pre) = Take

@@ -12,7 +12,7 @@ use Rattle.edr_image.specs.declared.Ack.{Ack}
 use Rattle.edr_image.specs.declared.BankView.{BankView}
 use Rattle.edr_image.specs.declared.BankView.TheVariants as bank
 use Rattle.edr_image.specs.Order.{IsOwn}
-use Rattle.edr_run.specs.declared.CycleInput.{CycleInput}
+use Rattle.edr_spell.specs.declared.CycleInput.{CycleInput}
 use Rattle.edr_image.specs.Reports.{Report, Ran}
 
 -- the events of a cycle with these lists, each with its place

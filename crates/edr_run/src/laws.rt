@@ -15,7 +15,7 @@ ghost use Rattle.edr_image.specs.declared.BankView.TheVariants.{Event};
 ghost use Rattle.edr_image.specs.Banks.{Store};
 ghost use Rattle.edr_image.specs.Kept.{AreKept};
 ghost use Rattle.edr_image.specs.Order.{AreInOrder};
-ghost use Rattle.edr_run.specs.declared.CycleInput.{CycleInput};
+ghost use Rattle.edr_spell.specs.declared.CycleInput.{CycleInput};
 ghost use Rattle.edr_image.specs.Reports.{Ran};
 ghost use Rattle.edr_run.specs.Own.{IsInWindow};
 ghost use Rattle.edr_run.specs.Cycle.{End, IsCycle, ends, Outcome, IsRun, outcomes};

@@ -1,16 +1,5 @@
-//! The types in which runs of the recorder are spoken of, and the definitions of a cycle and of a run.
-//! The definitions stand in `specs/`.
+//! What one ignition cycle does with the banks and the count, what it reports, and runs of several cycles: definitions, in
+//! `specs/`, and their laws.
 #![tactic(auto)]
-
-use edr_items::Feeds;
-
-/// One cycle of a trace: the changing call in which its start is stopped, or 0; what its sensors
-/// give; and the changing call of its commands in which the power stops, or 0.
-#[derive(Drop)]
-pub struct CycleInput {
-    pub start_stop: u32,
-    pub feeds: Feeds,
-    pub stop: u32,
-}
 
 pub mod laws;
