@@ -20,14 +20,14 @@ use std::alloc::{AllocError as OutOfMemory, Global};
 /// The events of a cycle up to its horizon.
 ///
 /// A sensor's next item is given when the core waits for that sensor, so none is refused. Where nothing is left of it, the
-/// horizon is closed.
+/// horizon is closed. All memory is taken before the first tick is closed.
 pub(crate) fn replay(alloc: Global, feeds: &Feeds) -> Result<Vec<Selected>, OutOfMemory>
     requires level { IsLevel feeds.now }
     ensures { IfOk result (λ told. told.items ≡ cycle_events feeds.now) }
 {
     let mut core = Core::open(alloc, 1)?;
     let mut left = Left::all_of(feeds);
-    let mut told = Vec::new(alloc);
+    let mut told = Vec::with_capacity(alloc, most_events(feeds.horizon()))?;
     loop {
         match core.step() {
             Step::Closed {
@@ -46,6 +46,12 @@ pub(crate) fn replay(alloc: Global, feeds: &Feeds) -> Result<Vec<Selected>, OutO
             }
         }
     }
+}
+
+// More events than a cycle of this horizon has: each closes 50 ticks or more after its time zero, and the next time zero
+// comes after that.
+fn most_events(horizon: u32) -> usize {
+    horizon as usize / 51 + 1
 }
 
 // Adds what the commands of a tick tell. A Lock tells nothing.

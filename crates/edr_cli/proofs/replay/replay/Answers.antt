@@ -7,14 +7,14 @@ use Rattle.edr_cli.proofs.replay.replay.Goals as goal
 
 -- at first nothing was given
 pub loop-tick-init : goal.loop-tick-init
-loop-tick-init c = replay-begins c.args.feeds.now c.in_ok-core.core c.all_of-left.result c.new-told.result.items c.in_ok-core.ensures c.all_of-left.ensures.all c.new-told.ensures.items
+loop-tick-init c = replay-begins c.args.feeds.now c.in_ok-core.core c.all_of-left.result c.in_ok-told.told.items c.in_ok-core.ensures c.all_of-left.ensures.all c.in_ok-told.ensures.items
 
 pub tell-requires : goal.tell-requires
 tell-requires c = told-in_cycle c.args.feeds.now c.all_of-left.ensures.feeds c.requires.level c.loop-tick.core c.loop-tick.left c.loop-tick.told.items c.loop-tick.invariant
 
 -- a closed tick
-pub loop-tick-smaller-in-Continue-branch-2 : goal.loop-tick-smaller-in-Continue-branch-2
-loop-tick-smaller-in-Continue-branch-2 c =
+pub loop-tick-smaller-in-Continue-branch-3 : goal.loop-tick-smaller-in-Continue-branch-3
+loop-tick-smaller-in-Continue-branch-3 c =
     let r = c.loop-tick.invariant in
     let may = (c.in-Closed.ensures.allowed 1 r.progress r.core_is).0 tt in
     let below = closes-below c.args.feeds.now c.all_of-left.ensures.feeds c.requires.level c.loop-tick.core c.loop-tick.left c.loop-tick.told.items r may in
@@ -22,8 +22,8 @@ loop-tick-smaller-in-Continue-branch-2 c =
     let after = (c.in-Closed.ensures.stands 1 r.progress r.core_is).closed_is in
     omega (arith, below, before, after)
 
-pub loop-tick-preserved-in-Continue-branch-2 : goal.loop-tick-preserved-in-Continue-branch-2
-loop-tick-preserved-in-Continue-branch-2 c =
+pub loop-tick-preserved-in-Continue-branch-3 : goal.loop-tick-preserved-in-Continue-branch-3
+loop-tick-preserved-in-Continue-branch-3 c =
     let r = c.loop-tick.invariant in
     replay-closes c.args.feeds.now c.loop-tick.core c.step.new.self c.loop-tick.left c.loop-tick.told.items c.tell.new.told.items c.in-Closed.tick
     (commands_of (record { take = c.in-Closed.take; lock = c.in-Closed.lock; done = c.in-Closed.done })) r
