@@ -26,8 +26,8 @@ spaced-next f xs i x start before parted out in_range later here stood space put
     let ws = map f (take i xs) in
     let some : 0 < length ws = omega (arith, length-map (take i xs) f, length-take i xs) in
     let more : map f (take (i + 1) xs) ≡ ws ++ f x ∷ [] =
-        map_more f xs i x in_range ∙ ap (λ z. ws ++ f z ∷ []) (sym here) in
+    map_more f xs i x in_range ∙ ap (λ z. ws ++ f z ∷ []) (sym here) in
     put
-        ∙ ap (λ (bs : List ℕ). bs ++ f x) (space ∙ ap (λ (bs : List ℕ). bs ++ 32 ∷ []) stood)
-        ∙ simp append_assoc (ap (λ (bs : List ℕ). start ++ bs) (sym (simp append_assoc at (spaced-more ws (f x) some))))
-        ∙ ap (λ (vs : List (List ℕ)). start ++ spaced vs) (sym more)
+    ∙ ap (λ (bs : List ℕ). bs ++ f x) (space ∙ ap (λ (bs : List ℕ). bs ++ 32 ∷ []) stood)
+    ∙ simp append_assoc (ap (λ (bs : List ℕ). start ++ bs) (sym (simp append_assoc at (spaced-more ws (f x) some))))
+    ∙ ap (λ (vs : List (List ℕ)). start ++ spaced vs) (sym more)

@@ -1,5 +1,5 @@
 -- The lines of a report.
-use Rattle.std.specs.Prelude.{ℕ, Bool, Option, Some, None, List, [], ◌∷◌, ◌++◌, map, flat_map, filter_map, zip, codes, decimal}
+use Rattle.std.specs.Prelude.{ℕ, Bool, Option, Some, None, List, [], ◌∷◌, ◌++◌, map, flat_map, filter_map, replicate, codes, decimal}
 use Rattle.std.specs.List.{enumerate_from}
 use Rattle.edr_record.specs.declared.Record.{Record}
 use Rattle.edr_record.specs.Parts.{PrePart, CrashPart}
@@ -28,7 +28,7 @@ cycle_lines i (Ran n stop log) =
 -- ---- an event, in a block of its own
 
 -- what stood before time zero
-abbrev pub pre_lines : ℕ → PrePart → Bool → List Line
+unfoldable pub pre_lines : ℕ → PrePart → Bool → List Line
 pre_lines block p locked =
     line block (codes "ignition cycle, crash") (shown_count p.key.cycle)
     ∷ line block (codes "time zero") (milliseconds p.key.zero)
@@ -42,34 +42,6 @@ pre_lines block p locked =
     ∷ line block (codes "frontal air bag warning lamp") (switch_or_none p.lamp)
     ∷ []
 
--- what came after time zero
-abbrev pub motion_lines : ℕ → CrashPart → List Line
-motion_lines block c =
-    line block (codes "end of event") (milliseconds c.end)
-    ∷ line block (codes "delta-V longitudinal, km/h") (points_words c.end c.along)
-    ∷ line block (codes "delta-V lateral, km/h") (points_words c.end c.across)
-    ∷ line block (codes "maximum delta-V longitudinal") (extreme_words c.max_along)
-    ∷ line block (codes "maximum delta-V lateral") (extreme_words c.max_across)
-    ∷ line block (codes "time of maximum resultant") (milliseconds c.result_at)
-    ∷ line block (codes "ticks without sample") (missing_words c.missing_along c.missing_across)
-    ∷ []
-
--- the restraints, in the order of their bits
-abbrev pub restraint_names : List (List ℕ)
-restraint_names =
-    codes "driver frontal deployment"
-    ∷ codes "passenger frontal deployment"
-    ∷ codes "driver side deployment"
-    ∷ codes "passenger side deployment"
-    ∷ codes "driver curtain deployment"
-    ∷ codes "passenger curtain deployment"
-    ∷ codes "driver pretensioner deployment"
-    ∷ codes "passenger pretensioner deployment"
-    ∷ []
-
-abbrev pub firing_line : ℕ → List ℕ × Option ℕ → Line
-firing_line block f = line block f.0 (firing_words f.1)
-
 -- the names of the lines of a crash part
 abbrev pub crash_names : List (List ℕ)
 crash_names =
@@ -80,15 +52,41 @@ crash_names =
     ∷ codes "maximum delta-V lateral"
     ∷ codes "time of maximum resultant"
     ∷ codes "ticks without sample"
-    ∷ restraint_names
+    ∷ codes "driver frontal deployment"
+    ∷ codes "passenger frontal deployment"
+    ∷ codes "driver side deployment"
+    ∷ codes "passenger side deployment"
+    ∷ codes "driver curtain deployment"
+    ∷ codes "passenger curtain deployment"
+    ∷ codes "driver pretensioner deployment"
+    ∷ codes "passenger pretensioner deployment"
+    ∷ []
 
--- the lines of a crash part; where there is none, each has `none`
-abbrev pub crash_lines : ℕ → Option CrashPart → List Line
-crash_lines block None = map (λ n. line block n none_word) crash_names
-crash_lines block (Some c) = motion_lines block c ++ map (firing_line block) (zip restraint_names c.fired)
+-- their values, which are all `none` where there is no crash part
+abbrev pub crash_words : Option CrashPart → List (List ℕ)
+crash_words None = replicate 15 none_word
+crash_words (Some c) =
+    milliseconds c.end
+    ∷ points_words c.end c.along
+    ∷ points_words c.end c.across
+    ∷ extreme_words c.max_along
+    ∷ extreme_words c.max_across
+    ∷ milliseconds c.result_at
+    ∷ missing_words c.missing_along c.missing_across
+    ∷ map firing_words c.fired
+
+-- lines with these names and values
+abbrev pub named_lines : ℕ → List (List ℕ) → List (List ℕ) → List Line
+named_lines block names [] = []
+named_lines block [] (v ∷ values) = []
+named_lines block (n ∷ names) (v ∷ values) = line block n v ∷ named_lines block names values
+
+-- what came after time zero
+unfoldable pub crash_lines : ℕ → Option CrashPart → List Line
+crash_lines block crash = named_lines block crash_names (crash_words crash)
 
 -- the lines of the event in place `block` of the retrieved ones
-abbrev pub event_lines : ℕ → ℕ → Record → List Line
+unfoldable pub event_lines : ℕ → ℕ → Record → List Line
 event_lines block bank r =
     line block (codes "event") (decimal block)
     ∷ line block (codes "bank") (decimal bank)

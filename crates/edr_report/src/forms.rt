@@ -13,7 +13,9 @@ pub trait Lines {
     ghost use Rattle.edr_report.specs.Lines.{Line};
 
     ghost ready: { Self → Type 0 };
+
     ghost bytes: { Self → List ℕ };
+
     ghost form: { Line → List ℕ };
 
     /// Appends a line.
