@@ -1,0 +1,10 @@
+pub mod CsvLemmas
+pub mod ItemLemmas
+pub mod FeedsLemmas
+pub mod StandLemmas
+pub mod LawLemmas
+pub mod OpenLemmas
+pub mod CycleLemmas
+pub mod LineLemmas
+pub mod WrittenLemmas
+pub mod Vectors
