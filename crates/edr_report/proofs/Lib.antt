@@ -1,0 +1,3 @@
+pub mod SpacedLemmas
+pub mod PrintedLemmas
+pub mod FoundLemmas

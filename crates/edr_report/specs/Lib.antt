@@ -1,0 +1,5 @@
+pub mod Lines
+pub mod Words
+pub mod Values
+pub mod Report
+pub mod Forms

@@ -1,0 +1,42 @@
+-- A line of a report, and the bytes of both forms of a report.
+use Rattle.std.specs.Prelude.{ℕ, List, [], ◌∷◌, ◌++◌, flat_map, codes, decimal}
+use Rattle.csv.specs.Writing.{row_text, default_writer}
+use Rattle.edr_text.specs.Lines.{line_of}
+
+-- a line: the number of its block, its name and its value
+pub record Line : Type 0 where
+  pub block : ℕ
+  pub name : List ℕ
+  pub value : List ℕ
+
+abbrev pub line : ℕ → List ℕ → List ℕ → Line
+line block name value = record { block = block; name = name; value = value }
+
+-- `name: value` and a line feed
+abbrev pub text_line : Line → List ℕ
+text_line l = line_of l.name l.value
+
+-- the record `block,name,value`
+abbrev pub table_row : Line → List ℕ
+table_row l = row_text default_writer (decimal l.block ∷ l.name ∷ l.value ∷ [])
+
+-- the names of the three columns
+abbrev pub table_head : List ℕ
+table_head = row_text default_writer (codes "block" ∷ codes "name" ∷ codes "value" ∷ [])
+
+-- the text form of lines
+abbrev pub text_of : List Line → List ℕ
+text_of lines = flat_map text_line lines
+
+-- the table form of lines
+abbrev pub table_of : List Line → List ℕ
+table_of lines = table_head ++ flat_map table_row lines
+
+-- the two forms of a report
+pub data Form : Type 0 where
+  Text : Form
+  Table : Form
+
+abbrev pub bytes_in : Form → List Line → List ℕ
+bytes_in Text lines = text_of lines
+bytes_in Table lines = table_of lines

@@ -1,0 +1,104 @@
+-- How the values of a report are spelled.
+use Rattle.std.specs.Prelude.{ℕ, ◌+◌, ◌/◌, ◌%◌, min, ℤ, Bool, if◌then◌else◌, Option, Some, None, List, ◌++◌, map, take, codes, decimal}
+use Rattle.std.specs.List.{join_with_byte}
+use Rattle.std.specs.Option.{option_map_or}
+use Rattle.std.specs.Fmt.{signed_decimal}
+use Rattle.edr_record.specs.declared.Place.{Place}
+use Rattle.edr_record.specs.declared.Place.TheVariants.{First, Second}
+use Rattle.edr_record.specs.declared.Extreme.{Extreme}
+use Rattle.edr_record.specs.Bounds.{point_count}
+use Rattle.edr_image.specs.declared.Kind.{Kind}
+use Rattle.edr_image.specs.declared.Kind.TheVariants as kind
+use Rattle.edr_image.specs.declared.Applied.{Applied}
+use Rattle.edr_image.specs.declared.Applied.TheVariants.{Kept, Locked, Done, NotKept}
+
+-- ---- of cycles and banks
+
+abbrev pub cycle_words : ℕ → List ℕ
+cycle_words i = codes "cycle " ++ decimal i
+
+abbrev pub kind_word : Kind → List ℕ
+kind_word kind.Take = codes "take"
+kind_word kind.Lock = codes "lock"
+kind_word kind.Done = codes "done"
+
+-- an acknowledged command of the cycle in place i of the run
+abbrev pub ack_words : ℕ → Kind → ℕ → List ℕ
+ack_words i k tick = cycle_words i ++ codes " " ++ kind_word k ++ codes " at " ++ decimal tick
+
+abbrev pub bank_words : ℕ → List ℕ
+bank_words b = codes "bank " ++ decimal b
+
+abbrev pub applied_words : Applied → List ℕ
+applied_words (Kept b) = bank_words b
+applied_words (Locked b) = bank_words b
+applied_words (Done b) = bank_words b
+applied_words NotKept = codes "not kept"
+
+-- how a cycle ended
+abbrev pub stop_words : Option ℕ → List ℕ
+stop_words None = codes "power off"
+stop_words (Some k) = codes "stopped in call " ++ decimal k
+
+-- ---- of one number
+
+abbrev pub none_word : List ℕ
+none_word = codes "none"
+
+abbrev pub yes_no : Bool → List ℕ
+yes_no b = if b then codes "yes" else codes "no"
+
+abbrev pub on_off : Bool → List ℕ
+on_off b = if b then codes "on" else codes "off"
+
+abbrev pub number_or_none : Option ℕ → List ℕ
+number_or_none v = option_map_or decimal v none_word
+
+abbrev pub switch_or_none : Option Bool → List ℕ
+switch_or_none v = option_map_or on_off v none_word
+
+abbrev pub milliseconds : ℕ → List ℕ
+milliseconds t = decimal t ++ codes " ms"
+
+-- when a restraint fired first
+abbrev pub firing_words : Option ℕ → List ℕ
+firing_words t = option_map_or milliseconds t none_word
+
+-- counts of ignition cycles are shown up to 60000 (563.8, reporting range of ignition cycles)
+abbrev pub shown_count : ℕ → List ℕ
+shown_count n = decimal (min n 60_000)
+
+-- ---- of an event
+
+-- how many events the crash has so far
+abbrev pub events_in_crash : Place → List ℕ
+events_in_crash First = codes "1"
+events_in_crash (Second after) = codes "2"
+
+-- tenths of a second, from tenths
+abbrev pub seconds : ℕ → List ℕ
+seconds tenths = decimal (tenths / 10) ++ codes "." ++ decimal (tenths % 10) ++ codes " s"
+
+-- the time from the first event to the second, rounded half up
+abbrev pub time_between : Place → List ℕ
+time_between First = none_word
+time_between (Second after) = seconds ((after + 50) / 100)
+
+-- words parted by one space
+abbrev pub spaced : List (List ℕ) → List ℕ
+spaced ws = join_with_byte 32 ws
+
+-- the points that the end allows
+abbrev pub points_words : ℕ → List ℤ → List ℕ
+points_words end points = spaced (map signed_decimal (take (point_count end) points))
+
+abbrev pub extreme_words : Extreme → List ℕ
+extreme_words x = signed_decimal x.kmh ++ codes " km/h at " ++ milliseconds x.at
+
+abbrev pub missing_words : ℕ → ℕ → List ℕ
+missing_words along across = decimal along ++ codes " longitudinal, " ++ decimal across ++ codes " lateral"
+
+-- what a damaged bank shows: where, which byte stands there, and whether it is locked
+abbrev pub damage_words : ℕ → ℕ → Bool → List ℕ
+damage_words offset found locked =
+    codes "damaged at " ++ decimal offset ++ codes " found " ++ decimal found ++ codes " locked " ++ yes_no locked

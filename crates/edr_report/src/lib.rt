@@ -1,0 +1,48 @@
+//! The report of a run: every element of each record, as text and as a table.
+//!
+//! A report is a list of lines, each with the number of its block, a name and a value. Block 0 has what is told of the
+//! run, of damaged banks and of the count of ignition cycles; the blocks from 1 on have an event each. The lines and the
+//! bytes of both forms are defined in `specs/`.
+#![tactic(auto)]
+
+mod forms;
+mod printer;
+mod values;
+
+ghost use Rattle.std.specs.Prelude.{◌≡◌, IfOk, map};
+ghost use Rattle.edr_image.specs.Reports.{report_of};
+ghost use Rattle.edr_report.specs.Lines.{text_of, table_of};
+ghost use Rattle.edr_report.specs.Report.{report_lines};
+
+use edr_image::{CycleReport, Found};
+use forms::{Table, Text};
+use printer::print;
+use std::alloc::{AllocError as OutOfMemory, Global};
+
+/// The report of the cycles of a run, of what was found in the banks in this order, and of the count of ignition
+/// cycles, as text: `name: value` and a line feed for each line.
+pub fn text(
+    alloc: Global,
+    run: &[CycleReport],
+    found: &[Found],
+    count: u32,
+) -> Result<Vec<u8>, OutOfMemory>
+    ensures { IfOk result (λ out. out.items ≡ text_of (report_lines (map report_of run.now) found.now count)) }
+{
+    let printed = print(alloc, Text::new(alloc), run, found, count)?;
+    Ok(printed.into_bytes())
+}
+
+/// The same report as comma-separated values: the record `block,name,value`, and then a record for each line. A field
+/// is quoted only where it needs it, and each record ends with a line feed.
+pub fn table(
+    alloc: Global,
+    run: &[CycleReport],
+    found: &[Found],
+    count: u32,
+) -> Result<Vec<u8>, OutOfMemory>
+    ensures { IfOk result (λ out. out.items ≡ table_of (report_lines (map report_of run.now) found.now count)) }
+{
+    let printed = print(alloc, Table::new(alloc)?, run, found, count)?;
+    printed.into_bytes()
+}

@@ -1,0 +1,344 @@
+//! The walk over a run and what its banks hold, which gives the lines of the report to a form.
+
+ghost use Rattle.std.specs.Prelude.{◌≡◌, [], ◌∷◌, ◌++◌, ◌≤◌, IfOk, OnOk, length, map, flat_map, string_bytes};
+ghost use Rattle.edr_image.specs.Reports.{report_of};
+ghost use Rattle.edr_report.specs.Lines.{line};
+ghost use Rattle.edr_report.specs.Words.{cycle_words, ack_words, bank_words, kind_word};
+ghost use Rattle.edr_report.specs.Values.{value_words};
+ghost use Rattle.edr_report.specs.Report.{ack_line, cycle_lines, run_lines, pre_lines, crash_names, crash_words, named_lines, crash_lines, event_lines, events_lines, found_records, damaged_lines, report_lines};
+
+use crate::forms::Lines;
+use crate::values::Value;
+use edr_image::{Ack, BankView, CycleReport, Found, Kind};
+use edr_record::{Crash, Pre, Record};
+use std::alloc::{AllocError as OutOfMemory, Global};
+
+/// The names of the lines of a crash part.
+const CRASH_NAMES: [&str; 15] = [
+    "end of event",
+    "delta-V longitudinal, km/h",
+    "delta-V lateral, km/h",
+    "maximum delta-V longitudinal",
+    "maximum delta-V lateral",
+    "time of maximum resultant",
+    "ticks without sample",
+    "driver frontal deployment",
+    "passenger frontal deployment",
+    "driver side deployment",
+    "passenger side deployment",
+    "driver curtain deployment",
+    "passenger curtain deployment",
+    "driver pretensioner deployment",
+    "passenger pretensioner deployment",
+];
+
+// The values of these lines.
+fn crash_values(crash: &Option<Crash>) -> [Value; 15]
+    ensures { map value_words result ≡ crash_words crash.now }
+{
+    match crash {
+        Some(crash) => [
+            Value::Milliseconds(u32::from(crash.end)),
+            Value::Points {
+                end: crash.end,
+                points: crash.along,
+            },
+            Value::Points {
+                end: crash.end,
+                points: crash.across,
+            },
+            Value::Extreme(crash.max_along),
+            Value::Extreme(crash.max_across),
+            Value::Milliseconds(u32::from(crash.result_at)),
+            Value::Missing {
+                along: crash.missing_along,
+                across: crash.missing_across,
+            },
+            Value::Firing(crash.fired[0]),
+            Value::Firing(crash.fired[1]),
+            Value::Firing(crash.fired[2]),
+            Value::Firing(crash.fired[3]),
+            Value::Firing(crash.fired[4]),
+            Value::Firing(crash.fired[5]),
+            Value::Firing(crash.fired[6]),
+            Value::Firing(crash.fired[7]),
+        ],
+        None => [Value::Absent; 15],
+    }
+}
+
+fn kind_word(kind: Kind) -> &'static str
+    ensures { result.now ≡ kind_word kind }
+{
+    match kind {
+        Kind::Take => "take",
+        Kind::Lock => "lock",
+        Kind::Done => "done",
+    }
+}
+
+/// Gives lines to a form. `name` and `value` are room for the parts of one line.
+#[derive(Drop)]
+pub struct Printer<L: Lines> {
+    lines: L,
+    name: String,
+    value: String,
+}
+
+impl<L: Lines> Printer<L> {
+    // Gives a line whose name stands in `name`.
+    fn put(&mut self, block: u64, name: &str, value: Value) -> Result<(), OutOfMemory>
+        requires { L.ready self.old.lines }
+        ensures ready { OnOk result (L.ready self.new.lines) }
+        ensures bytes { OnOk result (L.bytes self.new.lines ≡ L.bytes self.old.lines ++ L.form (line block name.now (value_words value))) }
+    {
+        self.value.clear();
+        value.put(&mut self.value)?;
+        self.lines
+            .line(block, name.as_bytes(), self.value.as_bytes())
+    }
+
+    // Gives lines of a block.
+    fn put_all(&mut self, block: u64, entries: &[(&'static str, Value)]) -> Result<(), OutOfMemory>
+        requires { L.ready self.old.lines }
+        ensures ready { OnOk result (L.ready self.new.lines) }
+        ensures bytes { OnOk result (L.bytes self.new.lines ≡ L.bytes self.old.lines ++ flat_map L.form (map (λ e. line block e.0.now (value_words e.1)) entries.now)) }
+    {
+        for (name, value) in entries {
+            self.put(block, name, *value)?;
+        }
+        Ok(())
+    }
+
+    // Gives the lines of a pre part.
+    fn put_pre(&mut self, block: u64, pre: &Pre, locked: bool) -> Result<(), OutOfMemory>
+        requires { L.ready self.old.lines }
+        ensures ready { OnOk result (L.ready self.new.lines) }
+        ensures bytes { OnOk result (L.bytes self.new.lines ≡ L.bytes self.old.lines ++ flat_map L.form (pre_lines block pre.now locked)) }
+    {
+        let entries = [
+            ("ignition cycle, crash", Value::Count(pre.key.cycle)),
+            ("time zero", Value::Milliseconds(pre.key.zero)),
+            (
+                "multi-event, number of events",
+                Value::EventsInCrash(pre.place),
+            ),
+            ("time from event 1 to 2", Value::TimeBetween(pre.place)),
+            ("deployment event", Value::YesNo(locked)),
+            ("speed, km/h", Value::Speeds(pre.speed)),
+            ("throttle, %", Value::Throttles(pre.throttle)),
+            ("service brake", Value::Switches(pre.brake)),
+            ("driver belt", Value::Switch(pre.belt)),
+            ("frontal air bag warning lamp", Value::Switch(pre.lamp)),
+        ];
+        self.put_all(block, &entries)
+    }
+
+    // Gives lines with these names and values.
+    fn put_values(
+        &mut self,
+        block: u64,
+        names: &[&'static str],
+        values: &[Value],
+    ) -> Result<(), OutOfMemory>
+        requires ready { L.ready self.old.lines }
+        requires named { length values.now ≤ length names.now }
+        ensures ready { OnOk result (L.ready self.new.lines) }
+        ensures bytes { OnOk result (L.bytes self.new.lines ≡ L.bytes self.old.lines ++ flat_map L.form (named_lines block (map (λ n. n.now) names.now) (map value_words values.now))) }
+    {
+        for (i, value) in values.iter().enumerate() {
+            self.put(block, names[i], *value)?;
+        }
+        Ok(())
+    }
+
+    // Gives the lines of a crash part, or of none.
+    #[tactic(auto, unfolding(crate::specs::Report::crash_lines))]
+    fn put_crash(&mut self, block: u64, crash: &Option<Crash>) -> Result<(), OutOfMemory>
+        requires { L.ready self.old.lines }
+        ensures ready { OnOk result (L.ready self.new.lines) }
+        ensures bytes { OnOk result (L.bytes self.new.lines ≡ L.bytes self.old.lines ++ flat_map L.form (crash_lines block crash.now)) }
+    {
+        self.put_values(block, &CRASH_NAMES, &crash_values(crash))
+    }
+
+    // Gives the lines of an event.
+    fn put_event(&mut self, block: u64, bank: u8, record: &Record) -> Result<(), OutOfMemory>
+        requires { L.ready self.old.lines }
+        ensures ready { OnOk result (L.ready self.new.lines) }
+        ensures bytes { OnOk result (L.bytes self.new.lines ≡ L.bytes self.old.lines ++ flat_map L.form (event_lines block bank record.now)) }
+    {
+        self.put(block, "event", Value::Number(block))?;
+        self.put(block, "bank", Value::Number(u64::from(bank)))?;
+        self.put_pre(block, &record.pre, record.locked)?;
+        self.put_crash(block, &record.crash)?;
+        self.put(
+            block,
+            "complete file recorded",
+            Value::YesNo(record.complete()),
+        )
+    }
+
+    // Gives a line of block 0, whose name was put together.
+    fn put_named(&mut self, value: Value) -> Result<(), OutOfMemory>
+        requires { L.ready self.old.lines }
+        ensures ready { OnOk result (L.ready self.new.lines) }
+        ensures bytes { OnOk result (L.bytes self.new.lines ≡ L.bytes self.old.lines ++ L.form (line 0 (string_bytes self.old.name) (value_words value))) }
+    {
+        self.value.clear();
+        value.put(&mut self.value)?;
+        self.lines
+            .line(0, self.name.as_bytes(), self.value.as_bytes())
+    }
+
+    // Gives the line of an acknowledged command of the cycle in this place of the run.
+    fn put_ack(&mut self, place: u64, ack: &Ack) -> Result<(), OutOfMemory>
+        requires { L.ready self.old.lines }
+        ensures ready { OnOk result (L.ready self.new.lines) }
+        ensures bytes { OnOk result (L.bytes self.new.lines ≡ L.bytes self.old.lines ++ L.form (ack_line place ack.now)) }
+    {
+        let kind = kind_word(ack.kind);
+        let tick = ack.tick;
+        self.name.clear();
+        write!(self.name, "cycle {place} {kind} at {tick}")?;
+        self.put_named(Value::Applied(ack.applied))
+    }
+
+    // Gives the lines of acknowledged commands.
+    fn put_acks(&mut self, place: u64, acks: &[Ack]) -> Result<(), OutOfMemory>
+        requires { L.ready self.old.lines }
+        ensures ready { OnOk result (L.ready self.new.lines) }
+        ensures bytes { OnOk result (L.bytes self.new.lines ≡ L.bytes self.old.lines ++ flat_map L.form (map (ack_line place) acks.now)) }
+    {
+        for ack in acks {
+            self.put_ack(place, ack)?;
+        }
+        Ok(())
+    }
+
+    // Gives the lines of the cycle in this place of the run.
+    fn put_cycle(&mut self, place: u64, report: &CycleReport) -> Result<(), OutOfMemory>
+        requires { L.ready self.old.lines }
+        ensures ready { OnOk result (L.ready self.new.lines) }
+        ensures bytes { OnOk result (L.bytes self.new.lines ≡ L.bytes self.old.lines ++ flat_map L.form (cycle_lines place (report_of report.now))) }
+    {
+        self.name.clear();
+        write!(self.name, "cycle {place}")?;
+        match report {
+            CycleReport::StartStopped { call } => self.put_named(Value::StartStopped(*call)),
+            CycleReport::Ran {
+                number,
+                stopped,
+                log,
+            } => {
+                self.put_named(Value::Ran {
+                    number: *number,
+                    stopped: *stopped,
+                })?;
+                self.put_acks(place, log.acks())
+            }
+        }
+    }
+
+    // Gives the lines of the cycles of a run.
+    fn put_run(&mut self, run: &[CycleReport]) -> Result<(), OutOfMemory>
+        requires { L.ready self.old.lines }
+        ensures ready { OnOk result (L.ready self.new.lines) }
+        ensures bytes { OnOk result (L.bytes self.new.lines ≡ L.bytes self.old.lines ++ flat_map L.form (run_lines 1 (map report_of run.now))) }
+    {
+        for (i, report) in run.iter().enumerate() {
+            self.put_cycle(i as u64 + 1, report)?;
+        }
+        Ok(())
+    }
+
+    // Gives the lines of the events that were found.
+    fn put_events(&mut self, found: &[Found]) -> Result<(), OutOfMemory>
+        requires { L.ready self.old.lines }
+        ensures ready { OnOk result (L.ready self.new.lines) }
+        ensures bytes { OnOk result (L.bytes self.new.lines ≡ L.bytes self.old.lines ++ flat_map L.form (events_lines 1 (found_records found.now))) }
+    {
+        let mut block = 0;
+        for bank in found {
+            if let BankView::Event(record) = &bank.view {
+                block += 1;
+                self.put_event(block, bank.bank, record)?;
+            }
+        }
+        Ok(())
+    }
+
+    // Gives the line of a bank, if it is damaged.
+    fn put_if_damaged(&mut self, bank: &Found) -> Result<(), OutOfMemory>
+        requires { L.ready self.old.lines }
+        ensures ready { OnOk result (L.ready self.new.lines) }
+        ensures bytes { OnOk result (L.bytes self.new.lines ≡ L.bytes self.old.lines ++ flat_map L.form (damaged_lines bank.now.bank bank.now.view)) }
+    {
+        match bank.view {
+            BankView::Damaged {
+                offset,
+                found,
+                locked,
+            } => {
+                let number = bank.bank;
+                self.name.clear();
+                write!(self.name, "bank {number}")?;
+                self.put_named(Value::Damage {
+                    offset,
+                    found,
+                    locked,
+                })
+            }
+            _ => Ok(()),
+        }
+    }
+
+    // Gives the lines of the damaged banks that were found.
+    fn put_damaged(&mut self, found: &[Found]) -> Result<(), OutOfMemory>
+        requires { L.ready self.old.lines }
+        ensures ready { OnOk result (L.ready self.new.lines) }
+        ensures bytes { OnOk result (L.bytes self.new.lines ≡ L.bytes self.old.lines ++ flat_map L.form (flat_map (λ f. damaged_lines f.bank f.view) found.now)) }
+    {
+        for bank in found {
+            self.put_if_damaged(bank)?;
+        }
+        Ok(())
+    }
+
+    // Gives all lines of a report.
+    fn put_report(
+        &mut self,
+        run: &[CycleReport],
+        found: &[Found],
+        count: u32,
+    ) -> Result<(), OutOfMemory>
+        requires { L.ready self.old.lines }
+        ensures ready { OnOk result (L.ready self.new.lines) }
+        ensures bytes { OnOk result (L.bytes self.new.lines ≡ L.bytes self.old.lines ++ flat_map L.form (report_lines (map report_of run.now) found.now count)) }
+    {
+        self.put_run(run)?;
+        self.put_events(found)?;
+        self.put_damaged(found)?;
+        self.put(0, "ignition cycle, download", Value::Count(count))
+    }
+}
+
+/// The form with all lines of a report of the cycles of a run, of what was found in the banks and of the count.
+pub fn print<L: Lines + Drop>(
+    alloc: Global,
+    form: L,
+    run: &[CycleReport],
+    found: &[Found],
+    count: u32,
+) -> Result<L, OutOfMemory>
+    requires { L.ready form }
+    ensures { IfOk result (λ printed. L.bytes printed ≡ L.bytes form ++ flat_map L.form (report_lines (map report_of run.now) found.now count)) }
+{
+    let mut printer = Printer {
+        lines: form,
+        name: String::new(alloc),
+        value: String::new(alloc),
+    };
+    printer.put_report(run, found, count)?;
+    Ok(printer.lines)
+}

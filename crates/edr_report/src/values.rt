@@ -1,0 +1,246 @@
+//! The values of a report, and how they are spelled.
+
+ghost use Rattle.std.specs.Prelude.{◌≡◌, ◌++◌, OnOk, string_bytes, map};
+ghost use Rattle.edr_report.specs.Words.{spaced, on_off, yes_no, switch_or_none, firing_words, applied_words, stop_words, events_in_crash, time_between, points_words, extreme_words, missing_words, damage_words};
+ghost use Rattle.edr_report.specs.Values.{value_words};
+
+use edr_image::Applied;
+use edr_record::{Extreme, Place};
+use std::alloc::AllocError as OutOfMemory;
+
+/// Counts of ignition cycles are shown up to this number.
+pub const LARGEST_SHOWN_COUNT: u32 = 60_000;
+
+/// What stands in a line of a report behind its name.
+#[derive(Clone, Copy)]
+pub enum Value {
+    StartStopped(u32),
+    Ran {
+        number: u32,
+        stopped: Option<u32>,
+    },
+    Applied(Applied),
+    Damage {
+        offset: u16,
+        found: u8,
+        locked: bool,
+    },
+    Number(u64),
+    Count(u32),
+    Milliseconds(u32),
+    EventsInCrash(Place),
+    TimeBetween(Place),
+    YesNo(bool),
+    Speeds([Option<u16>; 11]),
+    Throttles([Option<u8>; 11]),
+    Switches([Option<bool>; 11]),
+    Switch(Option<bool>),
+    Points {
+        end: u16,
+        points: [i16; 26],
+    },
+    Extreme(Extreme),
+    Missing {
+        along: u16,
+        across: u16,
+    },
+    Firing(Option<u16>),
+    Absent,
+}
+
+/// What stands in one slot of a list.
+trait Slot {
+    ghost use Rattle.std.specs.Prelude.{ℕ, List};
+
+    ghost words: { Self → List ℕ };
+
+    /// Appends it.
+    fn put(&self, out: &mut String) -> Result<(), OutOfMemory>
+        ensures { OnOk result (string_bytes out.new ≡ string_bytes out.old ++ words self.now) };
+}
+
+impl Slot for i16 {
+    ghost use Rattle.std.specs.Fmt.{signed_decimal};
+
+    ghost words = { signed_decimal };
+
+    fn put(&self, out: &mut String) -> Result<(), OutOfMemory> {
+        write!(out, "{self}")
+    }
+}
+
+impl Slot for Option<u16> {
+    ghost use Rattle.edr_report.specs.Words.{number_or_none};
+
+    ghost words = { number_or_none };
+
+    fn put(&self, out: &mut String) -> Result<(), OutOfMemory> {
+        match self {
+            Some(number) => write!(out, "{number}"),
+            None => out.push_str("none"),
+        }
+    }
+}
+
+impl Slot for Option<u8> {
+    ghost use Rattle.edr_report.specs.Words.{number_or_none};
+
+    ghost words = { number_or_none };
+
+    fn put(&self, out: &mut String) -> Result<(), OutOfMemory> {
+        match self {
+            Some(number) => write!(out, "{number}"),
+            None => out.push_str("none"),
+        }
+    }
+}
+
+impl Slot for Option<bool> {
+    ghost use Rattle.edr_report.specs.Words.{switch_or_none};
+
+    ghost words = { switch_or_none };
+
+    fn put(&self, out: &mut String) -> Result<(), OutOfMemory> {
+        out.push_str(switch_word(*self))
+    }
+}
+
+fn switch_word(switch: Option<bool>) -> &'static str
+    ensures { result.now ≡ switch_or_none switch }
+{
+    match switch {
+        Some(true) => "on",
+        Some(false) => "off",
+        None => "none",
+    }
+}
+
+fn yes_no(b: bool) -> &'static str
+    ensures { result.now ≡ yes_no b }
+{
+    if b { "yes" } else { "no" }
+}
+
+// Appends slots, parted by one space.
+fn put_spaced<S: Slot>(out: &mut String, slots: &[S]) -> Result<(), OutOfMemory>
+    ensures { OnOk result (string_bytes out.new ≡ string_bytes out.old ++ spaced (map S.words slots.now)) }
+{
+    for (i, slot) in slots.iter().enumerate() {
+        if i > 0 {
+            out.push_str(" ")?;
+        }
+        slot.put(out)?;
+    }
+    Ok(())
+}
+
+fn put_firing(out: &mut String, fired: Option<u16>) -> Result<(), OutOfMemory>
+    ensures { OnOk result (string_bytes out.new ≡ string_bytes out.old ++ firing_words fired) }
+{
+    match fired {
+        Some(time) => write!(out, "{time} ms"),
+        None => out.push_str("none"),
+    }
+}
+
+fn put_applied(out: &mut String, applied: Applied) -> Result<(), OutOfMemory>
+    ensures { OnOk result (string_bytes out.new ≡ string_bytes out.old ++ applied_words applied) }
+{
+    match applied {
+        Applied::Kept { bank } => write!(out, "bank {bank}"),
+        Applied::Locked { bank } => write!(out, "bank {bank}"),
+        Applied::Done { bank } => write!(out, "bank {bank}"),
+        Applied::NotKept => out.push_str("not kept"),
+    }
+}
+
+fn put_stop(out: &mut String, stopped: Option<u32>) -> Result<(), OutOfMemory>
+    ensures { OnOk result (string_bytes out.new ≡ string_bytes out.old ++ stop_words stopped) }
+{
+    match stopped {
+        Some(call) => write!(out, "stopped in call {call}"),
+        None => out.push_str("power off"),
+    }
+}
+
+fn put_time_between(out: &mut String, place: Place) -> Result<(), OutOfMemory>
+    ensures { OnOk result (string_bytes out.new ≡ string_bytes out.old ++ time_between place) }
+{
+    match place {
+        Place::First => out.push_str("none"),
+        Place::Second { after } => {
+            let tenths = (u64::from(after) + 50) / 100;
+            let whole = tenths / 10;
+            let tenth = tenths % 10;
+            write!(out, "{whole}.{tenth} s")
+        }
+    }
+}
+
+// Appends the points of an axis that the end allows.
+fn put_points(out: &mut String, end: u16, points: [i16; 26]) -> Result<(), OutOfMemory>
+    ensures { OnOk result (string_bytes out.new ≡ string_bytes out.old ++ points_words end points) }
+{
+    let count = 250.min(usize::from(end) + 30) / 10 + 1;
+    put_spaced(out, &points[..count])
+}
+
+fn put_extreme(out: &mut String, extreme: Extreme) -> Result<(), OutOfMemory>
+    ensures { OnOk result (string_bytes out.new ≡ string_bytes out.old ++ extreme_words extreme) }
+{
+    let Extreme { kmh, at } = extreme;
+    write!(out, "{kmh} km/h at {at} ms")
+}
+
+impl Value {
+    /// Appends the value.
+    pub fn put(self, out: &mut String) -> Result<(), OutOfMemory>
+        ensures { OnOk result (string_bytes out.new ≡ string_bytes out.old ++ value_words self) }
+    {
+        match self {
+            Value::StartStopped(call) => write!(out, "start stopped in call {call}"),
+            Value::Ran { number, stopped } => {
+                write!(out, "number {number}, ")?;
+                put_stop(out, stopped)
+            }
+            Value::Applied(applied) => put_applied(out, applied),
+            Value::Damage {
+                offset,
+                found,
+                locked,
+            } => {
+                write!(out, "damaged at {offset} found {found} locked ")?;
+                out.push_str(yes_no(locked))
+            }
+            Value::Number(n) => write!(out, "{n}"),
+            Value::Count(n) => {
+                let shown = n.min(LARGEST_SHOWN_COUNT);
+                write!(out, "{shown}")
+            }
+            Value::Milliseconds(t) => write!(out, "{t} ms"),
+            Value::EventsInCrash(place) => out.push_str(events_in_crash(place)),
+            Value::TimeBetween(place) => put_time_between(out, place),
+            Value::YesNo(b) => out.push_str(yes_no(b)),
+            Value::Speeds(slots) => put_spaced(out, &slots),
+            Value::Throttles(slots) => put_spaced(out, &slots),
+            Value::Switches(slots) => put_spaced(out, &slots),
+            Value::Switch(switch) => out.push_str(switch_word(switch)),
+            Value::Points { end, points } => put_points(out, end, points),
+            Value::Extreme(extreme) => put_extreme(out, extreme),
+            Value::Missing { along, across } => {
+                write!(out, "{along} longitudinal, {across} lateral")
+            }
+            Value::Firing(fired) => put_firing(out, fired),
+            Value::Absent => out.push_str("none"),
+        }
+    }
+}
+
+fn events_in_crash(place: Place) -> &'static str
+    ensures { result.now ≡ events_in_crash place }
+{
+    match place {
+        Place::First => "1",
+        Place::Second { .. } => "2",
+    }
+}
