@@ -4,3 +4,4 @@ pub mod Ranges
 pub mod Settling
 pub mod Draws
 pub mod Moments
+pub mod Fuses

@@ -11,3 +11,5 @@ pub mod Past
 pub mod Numbers
 pub mod Draw
 pub mod Memory
+pub mod Order
+pub mod Fuse

@@ -3,6 +3,8 @@
 
 mod calls;
 mod device;
+mod fused;
+mod fused_calls;
 mod mem_nvm;
 mod mem_nvm_calls;
 mod mem_sink;
@@ -16,6 +18,7 @@ mod tests;
 mod transfer;
 
 pub use crate::device::Nvm;
+pub use crate::fused::Fused;
 pub use crate::mem_nvm::MemNvm;
 pub use crate::mem_sink::MemSink;
 pub use crate::mem_source::MemSource;
