@@ -22,7 +22,6 @@ pub use crate::fused::Fused;
 pub use crate::mem_nvm::MemNvm;
 pub use crate::mem_sink::MemSink;
 pub use crate::mem_source::MemSource;
-pub use crate::moment::{Call, Moment};
 pub use crate::pieces::{write_gated, write_settled};
 pub use crate::stream::{Failed, Sink, Source};
 pub use crate::transfer::{TakeFault, put_all, take_all};
