@@ -4,10 +4,10 @@
 //! Posts and reads wait for nobody; [`Watch::wait_gate`] alone waits.
 #![tactic(auto)]
 
-ghost use Rattle.std.specs.Prelude.{◌≡◌, ◌≤◌, true, false, IfOk, OnErr};
+ghost use Rattle.std.specs.Prelude.{◌≡◌, ◌≤◌, List, true, IfOk, OnErr};
 ghost use Rattle.edr_board.specs.Status.{unposted, greater, IsUpTo};
-ghost use Rattle.edr_board.specs.Rule.{Moment, IsBoard};
-ghost use Rattle.edr_board.specs.Steps.{Steps, KeepsTheRule};
+ghost use Rattle.edr_board.specs.Rule.{Moment, IsBoard, opening};
+ghost use Rattle.edr_board.specs.Steps.{Leads, KeepsTheRule};
 ghost use Rattle.edr_board.specs.Seats.{board_id, board_of_recorder, board_of_committer, board_of_watch, AreOfBoard, gate_posted, closed_posted, stopped_posted, last_posts, seen};
 
 mod rule;
@@ -192,9 +192,11 @@ impl Watch {
     }
 }
 
-/// Whichever seat steps, the rule of the board goes on to hold, and no word falls.
-pub fn no_step_lowers_a_word()
-    ensures { (a b : Moment) → IsBoard a → Steps a b → KeepsTheRule a b }
+/// The rule of a board holds as it is opened. Whichever seats step then, in whatever order, it goes on to hold, and no word
+/// falls.
+pub fn no_word_falls()
+    ensures opened { IsBoard opening }
+    ensures steps { (a b : Moment) (between : List Moment) → IsBoard a → Leads a between b → KeepsTheRule a b }
 {}
 
 #[cfg(test)]
