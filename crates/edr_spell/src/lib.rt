@@ -11,7 +11,8 @@ pub mod laws;
 use edr_items::{Feeds, Item, Sensor};
 
 /// One ignition cycle, as a trace gives it. A changing call is a call that changes the memory of the records; the power may
-/// stop in one.
+/// stop in one. What is said of the fields holds of each cycle that a trace spells
+/// ([`laws::spelled_cycles_are_level`]).
 #[derive(Drop)]
 pub struct CycleInput {
     /// The changing call of the cycle's start in which the power stops, from 1 to 6; 0 where the start is done. A cycle
