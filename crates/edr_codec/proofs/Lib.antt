@@ -3,3 +3,7 @@ pub mod RowLemmas
 pub mod PreLemmas
 pub mod PutLemmas
 pub mod CrashLemmas
+pub mod NumberLemmas
+pub mod PieceLemmas
+pub mod PreLaws
+pub mod CrashLaws

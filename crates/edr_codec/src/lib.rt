@@ -3,6 +3,7 @@
 #![tactic(auto)]
 
 mod crash;
+pub mod laws;
 mod pieces;
 mod pre;
 mod rows;
