@@ -7,3 +7,7 @@ pub mod NumberLemmas
 pub mod PieceLemmas
 pub mod PreLaws
 pub mod CrashLaws
+pub mod DamageLemmas
+pub mod MeaningLemmas
+pub mod GrammarLaws
+pub mod MovedLaws

@@ -40,7 +40,7 @@ lies-end (r ∷ rs) n can = elim (or_cases (nat_le (n * 1) r.1 && nat_lt r.0 ((n
 ]
 
 -- the number with one byte more
-shift : (n b p : ℕ) → (n * 256 + b) * p ≡ n * (p * 256) + b * p
+pub shift : (n b p : ℕ) → (n * 256 + b) * p ≡ n * (p * 256) + b * p
 shift n b p = add-mul (n * 256) b p ∙ ap (λ (x : ℕ). x + b * p) (mul_assoc n 256 p ∙ ap (λ (x : ℕ). n * x) (mul_comm 256 p))
 
 -- a number of the bytes from a place on, begun with n
