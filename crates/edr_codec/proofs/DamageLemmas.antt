@@ -7,7 +7,8 @@ use Rattle.std.proofs.lemmas.Bool.{false≢true, or_cases, and_parts, leb-true, 
 use Rattle.std.specs.Option.{option_or}
 use Rattle.edr_image.specs.PartBytes.{Field, can_be_in, damage_of_field, damage_of_fields}
 use Rattle.edr_codec.proofs.FieldLemmas.{fields_size}
-use Rattle.edr_codec.proofs.RowLemmas.{Lies, can_be_in-lies, shift}
+use Rattle.edr_codec.proofs.RowLemmas.{Lies, can_be_in-lies, shift, cond-none, option_or-none}
+use Rattle.edr_codec.proofs.NumberLemmas.{span-some}
 
 -- two lists of bytes are the same up to a place and at it
 abbrev pub SameUpTo : ℕ → List ℕ → List ℕ → Type 0
@@ -19,10 +20,6 @@ SameBelow n b c = (i : ℕ) → i < n → slice_index b i ≡ slice_index c i
 cond-some : (b : Bool) (rest : Option ℕ) (at k : ℕ) → (if b then rest else Some at) ≡ Some k → ((b ≡ true) × (rest ≡ Some k)) ⊎ ((b ≡ false) × (at ≡ k))
 cond-some true rest at k h = inl (refl, h)
 cond-some false rest at k h = inr (refl, grind arith)
-
-cond-none : (b : Bool) (rest : Option ℕ) (at : ℕ) → (if b then rest else Some at) ≡ None → (b ≡ true) × (rest ≡ None)
-cond-none true rest at h = (refl, h)
-cond-none false rest at h = absurd (grind arith)
 
 pub option_or-some : (a b : Option ℕ) (k : ℕ) → option_or a b ≡ Some k → (a ≡ Some k) ⊎ ((a ≡ None) × (b ≡ Some k))
 option_or-some None b k h = inr (refl, h)
@@ -76,10 +73,6 @@ fields-same b c at (f ∷ fs) k damaged same = elim (option_or-some (damage_of_f
       rw (field-none_same f.ranges b c at 0 f.size later.0 (λ i below. same i (omega arith))) (fields-same b c (at + f.size) fs k later.1 same))
 ]
 
-option_or-none : (a b : Option ℕ) → option_or a b ≡ None → (a ≡ None) × (b ≡ None)
-option_or-none None b h = (refl, h)
-option_or-none (Some x) b h = absurd (grind arith)
-
 pub fields-none_same : (b c : List ℕ) (at : ℕ) (fs : List Field) → damage_of_fields b at fs ≡ None → SameBelow (at + fields_size fs) b c → damage_of_fields c at fs ≡ None
 fields-none_same b c at [] whole same = refl
 fields-none_same b c at (f ∷ fs) whole same =
@@ -104,9 +97,6 @@ pub record Begun (ranges : List (ℕ × ℕ)) (n left : ℕ) : Type 0 where
   pub lies : Lies ranges number
   pub low : n * 256 ^ left ≤ number
   pub high : number < (n + 1) * 256 ^ left
-
-span-some : (k : ℕ) → 0 < 256 ^ k
-span-some k = let h = one-le-pow k 256 (omega arith) in omega arith
 
 begun : (ranges : List (ℕ × ℕ)) (n left : ℕ) → AreFilled ranges → can_be_in ranges n left ≡ true → Begun ranges n left
 begun [] n left filled can = absurd (false≢true can)

@@ -14,7 +14,8 @@ byte_at-pow : (k x : ℕ) → byte_at k x ≡ x / 256 ^ k % 256
 byte_at-pow zero x = ap (λ (y : ℕ). y % 256) (sym (div-one x))
 byte_at-pow (suc k) x = refl
 
-span-some : (k : ℕ) → 0 < 256 ^ k
+-- a power of 256 is above 0
+pub span-some : (k : ℕ) → 0 < 256 ^ k
 span-some k = let h = one-le-pow k 256 (omega arith) in omega arith
 
 -- the byte above k others
