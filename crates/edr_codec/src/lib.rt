@@ -17,3 +17,6 @@ pub struct Damaged {
     pub offset: u16,
     pub found: u8,
 }
+
+#[cfg(test)]
+mod tests;
