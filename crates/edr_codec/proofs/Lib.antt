@@ -1,0 +1,13 @@
+pub mod FieldLemmas
+pub mod RowLemmas
+pub mod PreLemmas
+pub mod PutLemmas
+pub mod CrashLemmas
+pub mod NumberLemmas
+pub mod PieceLemmas
+pub mod PreLaws
+pub mod CrashLaws
+pub mod DamageLemmas
+pub mod MeaningLemmas
+pub mod GrammarLaws
+pub mod MovedLaws
