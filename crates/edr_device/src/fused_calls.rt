@@ -321,8 +321,8 @@ impl<'a, N: Nvm> Nvm for Fused<'a, N> {
         }
         if self.is_due() {
             self.middle = Snapshot::of(&*self.nvm);
-            let cycled = self.nvm.power_cycle();
-            self.broken = self.broken | cycled.is_err();
+            let cut = self.nvm.power_cycle();
+            self.broken = self.broken | cut.is_err();
             self.ticks += 1;
             self.cut = self.ticks;
             self.spent = true;
