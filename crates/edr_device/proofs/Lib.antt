@@ -1,2 +1,4 @@
 pub mod Telling
 pub mod Transfers
+pub mod Ranges
+pub mod Settling

@@ -5,3 +5,5 @@ pub mod CallCounts
 pub mod SourceState
 pub mod SinkState
 pub mod Transfer
+pub mod Device
+pub mod Pieces
