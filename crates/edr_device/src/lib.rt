@@ -3,8 +3,16 @@
 
 mod calls;
 mod device;
+mod fused;
+mod fused_calls;
+mod mem_nvm;
+mod mem_nvm_calls;
 mod mem_sink;
 mod mem_source;
+mod moment;
+mod moment_calls;
+#[cfg(test)]
+mod nvm_tests;
 mod pieces;
 mod stream;
 #[cfg(test)]
@@ -12,6 +20,8 @@ mod tests;
 mod transfer;
 
 pub use crate::device::Nvm;
+pub use crate::fused::Fused;
+pub use crate::mem_nvm::MemNvm;
 pub use crate::mem_sink::MemSink;
 pub use crate::mem_source::MemSource;
 pub use crate::pieces::{write_gated, write_settled};

@@ -1,0 +1,381 @@
+//! The calls of a fuse.
+ghost use Rattle.std.specs.Prelude.{◌≡◌, ◌≢◌, ◌⊎◌, ◌+◌, ◌-◌, ◌≤◌, ◌<◌, ℕ, List, true, false, is_ok, length, IsTrue, IsErr, OnOk, OnErr};
+ghost use Rattle.edr_device.specs.Device.{Cycled, Elapses, MayLeave, Shows, Stays, Synced, Ticks, Wrote, outside};
+ghost use Rattle.edr_device.specs.Faults.{HasCause, Rose, last_number};
+ghost use Rattle.edr_device.specs.FuseState.{FuseGoesOn, IsDue, IsPassing, IsRefusing, IsStopping, PassesChange, StopsInSync, StopsInWrite, after_change, after_pass, after_refusal, after_refused_change, after_stop, fuse_state, fused_content, fused_extent, fused_settled, fused_since, lifted, new_fuse};
+
+use crate::device::Nvm;
+use crate::fused::Fused;
+use crate::stream::Failed;
+use std::snapshot::Snapshot;
+
+// How many of the planned calls are still to come after these.
+fn waiting(armed: u32, passed: u64) -> u32
+    ensures { result ≡ armed - passed }
+{
+    if passed < u64::from(armed) {
+        armed - passed as u32
+    } else {
+        0
+    }
+}
+
+impl<'a, N: Nvm> Fused<'a, N> {
+    /// A fuse round a device, which has no stop planned.
+    pub fn new(nvm: &'a mut N) -> Fused<'a, N>
+        ensures device { result.nvm.ghost_name ≡ nvm.entry.ghost_name }
+        ensures now { result.nvm.now ≡ nvm.old }
+        ensures state { fuse_state result ≡ new_fuse }
+    {
+        let start = Snapshot::of(&*nvm);
+        let middle = Snapshot::of(&*nvm);
+        Fused {
+            nvm,
+            start,
+            middle,
+            ticks: 0,
+            last_good: 0,
+            faults: 0,
+            calm: 0,
+            armed: 0,
+            armed_at: 0,
+            spent: false,
+            cut: 0,
+            broken: false,
+        }
+    }
+
+    /// Plans the stop: the write or sync of this number from now on. 0 plans none.
+    pub fn arm(&mut self, changing_calls: u32)
+        ensures device { self.new.nvm.ghost_name ≡ self.old.nvm.ghost_name }
+        ensures now { self.new.nvm.now ≡ self.old.nvm.now }
+        ensures state { fuse_state self.new ≡ record (fuse_state self.old)
+            { armed = changing_calls; armed_at = self.old.ticks } }
+        ensures stays { Stays (fused_content self.old) (fused_settled self.old) (fused_since self.old)
+            (fused_content self.new) (fused_settled self.new) (fused_since self.new) }
+    {
+        self.armed = changing_calls;
+        self.armed_at = self.ticks;
+    }
+
+    /// Ends a stop, and begins its clock anew. A plan that still waits stays.
+    pub fn lift(&mut self)
+        ensures device { self.new.nvm.ghost_name ≡ self.old.nvm.ghost_name }
+        ensures now { self.new.nvm.now ≡ self.old.nvm.now }
+        ensures state { fuse_state self.new ≡ lifted (fuse_state self.old) }
+    {
+        self.armed = waiting(self.armed, self.ticks - self.armed_at);
+        self.armed_at = 0;
+        self.ticks = 0;
+        self.last_good = 0;
+        self.calm = self.faults;
+        self.spent = false;
+        self.cut = 0;
+        self.start = Snapshot::of(&*self.nvm);
+    }
+
+    /// Whether it has stopped since it was made or last lifted.
+    pub fn spent(&self) -> bool
+        ensures { result ≡ self.now.spent }
+    {
+        self.spent
+    }
+
+    /// Whether a call of the device has failed since the fuse was made.
+    pub fn broken(&self) -> bool
+        ensures { result ≡ self.now.broken }
+    {
+        self.broken
+    }
+
+    /// Gives the device back. A caller calls it on each path: of a fuse that is merely let go, contracts don't say what
+    /// became of the device.
+    pub fn end(self)
+        ensures { self.exit.0.now ≡ self.entry.nvm.now }
+    {
+        let Fused {
+            nvm: _nvm,
+            start: _start,
+            middle: _middle,
+            ..
+        } = self;
+    }
+
+    // Whether the next write or sync is the stop.
+    fn is_due(&self) -> bool
+        requires { self.now.ticks < last_number }
+        ensures due { result ≡ true → IsDue (fuse_state self.now) }
+        ensures not_due { result ≡ false → ¬ IsDue (fuse_state self.now) }
+    {
+        self.armed != 0 && self.ticks + 1 - self.armed_at == u64::from(self.armed)
+    }
+
+    // Counts a write or sync that it refuses.
+    fn refuse(&mut self) -> Failed
+        requires { self.old.spent ≡ false → self.old.ticks ≡ last_number }
+        ensures device { self.new.nvm.ghost_name ≡ self.old.nvm.ghost_name }
+        ensures now { self.new.nvm.now ≡ self.old.nvm.now }
+        ensures state { fuse_state self.new ≡ after_refused_change (fuse_state self.old) }
+        ensures moments { (self.new.start.value ≡ self.old.start.value) × (self.new.middle.value ≡ self.old.middle.value) }
+    {
+        self.ticks = self.ticks.saturating_add(1);
+        self.faults = self.faults.saturating_add(1);
+        Failed
+    }
+}
+
+impl<'a, N: Nvm> Nvm for Fused<'a, N> {
+    ghost use Rattle.std.specs.Prelude.{◌≡◌, ◌≤◌, ◌<◌, refl};
+    ghost use Rattle.std.proofs.Common.{◌∙◌};
+    ghost use Rattle.std.proofs.Math.Nat.{le_refl, le_trans};
+    ghost use Rattle.edr_device.specs.Device.{MayLeave};
+    ghost use Rattle.edr_device.specs.Fuse.{breaks_again, breaks_self, cut_between, fused_counts, fused_only, fused_sooner, not_both};
+    ghost use Rattle.edr_device.specs.FuseState.{FuseGoesOn, fused_content, fused_extent, fused_settled, fused_since};
+
+    ghost extent = { λ f. fused_extent f };
+
+    ghost content = { λ f. fused_content f };
+
+    ghost settled = { λ f. fused_settled f };
+
+    ghost since = { λ f. fused_since f };
+
+    ghost clock = { λ f. f.ticks };
+
+    ghost last_good = { λ f. f.last_good };
+
+    ghost faults = { λ f. f.faults };
+
+    ghost goes_on = { λ a b. FuseGoesOn a b };
+
+    ghost counts_now = { λ f t image le now. fused_counts f.spent f.cut (N.clock f.start.value) (N.clock f.nvm.now) (N.clock f.middle.value) (N.since f.nvm.now) (N.since f.middle.value) (MayLeave (N.content f.nvm.now) (N.settled f.nvm.now)) t image
+        (λ u within. N.counts_now f.nvm.now u image within now) now };
+
+    ghost only_now = { λ f image left. fused_only f.spent f.cut (N.clock f.start.value) (N.clock f.nvm.now) (N.clock f.middle.value) (N.since f.nvm.now) (N.since f.middle.value) (MayLeave (N.content f.nvm.now) (N.settled f.nvm.now)) f.ticks image
+        f.after_cut f.later (λ l. N.only_now f.nvm.now image l) left };
+
+    ghost sooner = { λ f t u image le within left. fused_sooner f.spent f.cut (N.clock f.start.value) (N.clock f.nvm.now) (N.clock f.middle.value) (N.since f.nvm.now) (N.since f.middle.value) (MayLeave (N.content f.nvm.now) (N.settled f.nvm.now)) t u image
+        (λ a b le within l. N.sooner f.nvm.now a b image le within l) (λ a b le within l. N.sooner f.middle.value a b image le within l) le left };
+
+    ghost told_size = { λ f bytes told. N.told_size f.nvm.now bytes told };
+
+    ghost extent_fits = { λ f. N.extent_fits f.nvm.now };
+
+    ghost clock_fits = { λ f. f.counted };
+
+    ghost good_fits = { λ f. f.good };
+
+    ghost faults_fit = { λ f. f.faults_within };
+
+    ghost goes_on_self = { λ f. record {
+      same_device = refl;
+      inside = N.goes_on_self f.nvm.now;
+      armed = refl;
+      armed_at = refl;
+      calm = refl;
+      later = le_refl f.ticks;
+      still_spent = λ e. (e, refl);
+      cut_later = λ e e'. not_both e e';
+      still_broken = λ e. e;
+      breaks = breaks_self f.broken (N.faults f.nvm.now);
+    } };
+
+    ghost goes_on_again = { λ a b c p q. record {
+      same_device = q.same_device ∙ p.same_device;
+      inside = N.goes_on_again a.nvm.now b.nvm.now c.nvm.now p.inside q.inside;
+      armed = q.armed ∙ p.armed;
+      armed_at = q.armed_at ∙ p.armed_at;
+      calm = q.calm ∙ p.calm;
+      later = le_trans p.later q.later;
+      still_spent = λ e. let s = p.still_spent e in let r = q.still_spent s.0 in (r.0, r.1 ∙ s.1);
+      cut_later = λ e e'. cut_between b.spent c.spent a.ticks b.ticks b.cut c.cut p.later (p.cut_later e) q.still_spent q.cut_later e';
+      still_broken = λ e. q.still_broken (p.still_broken e);
+      breaks = breaks_again a.broken b.broken c.broken (N.faults a.nvm.now) (N.faults b.nvm.now) (N.faults c.nvm.now) p.breaks q.breaks;
+    } };
+
+    fn size(&self) -> u32 {
+        self.nvm.size()
+    }
+
+    /// It fails exactly where the fuse is spent or the device fails.
+    fn read(&mut self, at: u32, into: &mut [u8]) -> Result<(), Failed>
+        requires range { at + length into.old ≤ fused_extent self.old }
+        ensures size { fused_extent self.new ≡ fused_extent self.old }
+        ensures bytes { OnOk result (Shows at into.new (fused_content self.old)) }
+        ensures into_stays { OnErr result (into.new ≡ into.old) }
+        ensures stays { Stays (fused_content self.old) (fused_settled self.old) (fused_since self.old)
+            (fused_content self.new) (fused_settled self.new) (fused_since self.new) }
+        ensures clock { self.new.ticks ≡ self.old.ticks }
+        ensures good { self.new.last_good ≡ self.old.last_good }
+        ensures cause { HasCause self.old.faults self.new.faults result }
+        ensures device { FuseGoesOn self.old self.new }
+
+        ensures refuses { self.old.spent ≡ true → IsErr result
+            × (fuse_state self.new ≡ after_refusal (fuse_state self.old))
+            × (self.new.nvm.now ≡ self.old.nvm.now) }
+        ensures passes { self.old.spent ≡ false
+            → (fuse_state self.new ≡ after_pass (is_ok result) (fuse_state self.old))
+            × HasCause (N.faults self.old.nvm.now) (N.faults self.new.nvm.now) result }
+    {
+        if self.spent {
+            self.faults = self.faults.saturating_add(1);
+            return Err(Failed);
+        }
+        match self.nvm.read(at, into) {
+            Ok(()) => Ok(()),
+            Err(failed) => {
+                self.broken = true;
+                self.faults = self.faults.saturating_add(1);
+                Err(failed)
+            }
+        }
+    }
+
+    /// It fails exactly where it is the stop, where the fuse is spent or its clock stands at the last number, or where
+    /// the device fails.
+    fn write(&mut self, at: u32, bytes: &[u8]) -> Result<(), Failed>
+        requires range { at + length bytes.now ≤ fused_extent self.old }
+        requires piece { (1 ≤ length bytes.now) × (length bytes.now ≤ 512) }
+        ensures size { fused_extent self.new ≡ fused_extent self.old }
+        ensures told { Wrote at bytes.now result
+            (fused_content self.old) (fused_settled self.old)
+            (fused_content self.new) (fused_settled self.new) }
+        ensures time { Ticks self.old.ticks self.new.ticks self.old.last_good self.new.last_good result }
+        ensures crash { Elapses self.old.ticks (fused_since self.old) (fused_since self.new)
+            (MayLeave (fused_content self.old) (outside at (length bytes.now) (fused_settled self.old))) }
+        ensures full { self.old.ticks ≡ last_number → IsErr result
+            × Stays (fused_content self.old) (fused_settled self.old) (fused_since self.old)
+            (fused_content self.new) (fused_settled self.new) (fused_since self.new) }
+        ensures cause { HasCause self.old.faults self.new.faults result }
+        ensures device { FuseGoesOn self.old self.new }
+
+        ensures refuses { IsRefusing (fuse_state self.old) → IsErr result
+            × (fuse_state self.new ≡ after_refused_change (fuse_state self.old))
+            × (self.new.nvm.now ≡ self.old.nvm.now) }
+        ensures passes { IsPassing (fuse_state self.old)
+            → (fuse_state self.new ≡ after_change (is_ok result) (fuse_state self.old))
+            × PassesChange N.Nvm self.old.nvm.now self.new.nvm.now result }
+        ensures stops { IsStopping (fuse_state self.old)
+            → (fuse_state self.new ≡ after_stop self.new.broken (fuse_state self.old))
+            × StopsInWrite N.Nvm at bytes.now self.old.nvm.now self.new.middle.value self.new.nvm.now
+            self.old.broken self.new.broken result }
+    {
+        if self.spent || self.ticks == u64::MAX {
+            return Err(self.refuse());
+        }
+        if self.is_due() {
+            let written = self.nvm.write(at, bytes);
+            self.middle = Snapshot::of(&*self.nvm);
+            let cycled = self.nvm.power_cycle();
+            self.broken = self.broken | written.is_err() | cycled.is_err();
+            self.ticks += 1;
+            self.cut = self.ticks;
+            self.spent = true;
+            self.faults = self.faults.saturating_add(1);
+            return Err(Failed);
+        }
+        match self.nvm.write(at, bytes) {
+            Ok(()) => {
+                self.ticks += 1;
+                self.last_good = self.ticks;
+                Ok(())
+            }
+            Err(failed) => {
+                self.ticks += 1;
+                self.broken = true;
+                self.faults = self.faults.saturating_add(1);
+                Err(failed)
+            }
+        }
+    }
+
+    /// It fails exactly where it is the stop, where the fuse is spent or its clock stands at the last number, or where
+    /// the device fails.
+    fn sync(&mut self) -> Result<(), Failed>
+        ensures size { fused_extent self.new ≡ fused_extent self.old }
+        ensures told { Synced result
+            (fused_content self.old) (fused_settled self.old)
+            (fused_content self.new) (fused_settled self.new) }
+        ensures time { Ticks self.old.ticks self.new.ticks self.old.last_good self.new.last_good result }
+        ensures crash { Elapses self.old.ticks (fused_since self.old) (fused_since self.new)
+            (MayLeave (fused_content self.old) (fused_settled self.old)) }
+        ensures full { self.old.ticks ≡ last_number → IsErr result
+            × Stays (fused_content self.old) (fused_settled self.old) (fused_since self.old)
+            (fused_content self.new) (fused_settled self.new) (fused_since self.new) }
+        ensures cause { HasCause self.old.faults self.new.faults result }
+        ensures device { FuseGoesOn self.old self.new }
+
+        ensures refuses { IsRefusing (fuse_state self.old) → IsErr result
+            × (fuse_state self.new ≡ after_refused_change (fuse_state self.old))
+            × (self.new.nvm.now ≡ self.old.nvm.now) }
+        ensures passes { IsPassing (fuse_state self.old)
+            → (fuse_state self.new ≡ after_change (is_ok result) (fuse_state self.old))
+            × PassesChange N.Nvm self.old.nvm.now self.new.nvm.now result }
+        ensures stops { IsStopping (fuse_state self.old)
+            → (fuse_state self.new ≡ after_stop self.new.broken (fuse_state self.old))
+            × StopsInSync N.Nvm self.old.nvm.now self.new.nvm.now
+            self.old.broken self.new.broken result }
+    {
+        if self.spent || self.ticks == u64::MAX {
+            return Err(self.refuse());
+        }
+        if self.is_due() {
+            self.middle = Snapshot::of(&*self.nvm);
+            let cycled = self.nvm.power_cycle();
+            self.broken = self.broken | cycled.is_err();
+            self.ticks += 1;
+            self.cut = self.ticks;
+            self.spent = true;
+            self.faults = self.faults.saturating_add(1);
+            return Err(Failed);
+        }
+        match self.nvm.sync() {
+            Ok(()) => {
+                self.ticks += 1;
+                self.last_good = self.ticks;
+                Ok(())
+            }
+            Err(failed) => {
+                self.ticks += 1;
+                self.broken = true;
+                self.faults = self.faults.saturating_add(1);
+                Err(failed)
+            }
+        }
+    }
+
+    /// It fails exactly where the fuse is spent or the device fails.
+    fn power_cycle(&mut self) -> Result<(), Failed>
+        ensures size { fused_extent self.new ≡ fused_extent self.old }
+        ensures told { Cycled result (fused_content self.old) (fused_settled self.old) (fused_since self.old)
+            (fused_content self.new) (fused_settled self.new) (fused_since self.new) }
+        ensures no_more { (t : ℕ) (image : List ℕ) → t ≤ self.old.ticks
+            → fused_since self.new t image → fused_since self.old t image }
+        ensures past_stays { (t : ℕ) (image : List ℕ) → t < self.old.last_good
+            → fused_since self.old t image → fused_since self.new t image }
+        ensures clock { self.new.ticks ≡ self.old.ticks }
+        ensures good { self.new.last_good ≡ self.old.last_good }
+        ensures cause { HasCause self.old.faults self.new.faults result }
+        ensures device { FuseGoesOn self.old self.new }
+
+        ensures refuses { self.old.spent ≡ true → IsErr result
+            × (fuse_state self.new ≡ after_refusal (fuse_state self.old))
+            × (self.new.nvm.now ≡ self.old.nvm.now) }
+        ensures passes { self.old.spent ≡ false
+            → (fuse_state self.new ≡ after_pass (is_ok result) (fuse_state self.old))
+            × HasCause (N.faults self.old.nvm.now) (N.faults self.new.nvm.now) result }
+    {
+        if self.spent {
+            self.faults = self.faults.saturating_add(1);
+            return Err(Failed);
+        }
+        match self.nvm.power_cycle() {
+            Ok(()) => Ok(()),
+            Err(failed) => {
+                self.broken = true;
+                self.faults = self.faults.saturating_add(1);
+                Err(failed)
+            }
+        }
+    }
+}
