@@ -1,6 +1,6 @@
 //! Why a program ends without what was asked of it, and the line that tells it.
 
-ghost use Rattle.std.specs.Prelude.{◌≡◌, ◌+◌, ◌≤◌, ◌++◌, [], length};
+ghost use Rattle.std.specs.Prelude.{◌≡◌, ◌+◌, ◌≤◌, ◌++◌, length};
 ghost use Rattle.arrayvec.specs.ArrayString.{array_string_len};
 ghost use Rattle.edr_spell.specs.declared.Word.TheVariants.{Of};
 ghost use Rattle.edr_spell.specs.Rows.{spelling_of};

@@ -1,6 +1,6 @@
 //! The two forms of a report: lines of text, and the records of a table.
 
-ghost use Rattle.std.specs.Prelude.{◌≡◌, [], ◌∷◌, ◌++◌, IfOk, OnOk};
+ghost use Rattle.std.specs.Prelude.{◌≡◌, [], ◌++◌, IfOk, OnOk};
 ghost use Rattle.edr_report.specs.Lines.{line, text_line, table_row, table_head};
 
 use csv::{Writer, WriterBuilder};

@@ -1,5 +1,4 @@
-ghost use Rattle.std.specs.Prelude.{◌≤◌, ℕ, IfSome, All};
-ghost use Rattle.edr_record.specs.Bounds.{IsPlace, IsUpTo};
+ghost use Rattle.std.specs.Prelude.{◌≤◌};
 
 use crate::values::Value;
 use crate::{Fault, format_line, table, text, texts};
