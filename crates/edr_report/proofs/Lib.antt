@@ -1,3 +1,4 @@
 pub mod SpacedLemmas
 pub mod PrintedLemmas
 pub mod FoundLemmas
+mod Vectors

@@ -1,6 +1,6 @@
 //! The two forms of a report: lines of text, and the records of a table.
 
-ghost use Rattle.std.specs.Prelude.{◌≡◌, [], ◌∷◌, ◌++◌, IfOk, OnOk};
+ghost use Rattle.std.specs.Prelude.{◌≡◌, [], ◌++◌, IfOk, OnOk};
 ghost use Rattle.edr_report.specs.Lines.{line, text_line, table_row, table_head};
 
 use csv::{Writer, WriterBuilder};
@@ -12,6 +12,7 @@ pub trait Lines {
     ghost use Rattle.std.specs.Prelude.{ℕ, List};
     ghost use Rattle.edr_report.specs.Lines.{Line};
 
+    // It can take a line; the bytes so far; what a line adds to them.
     ghost ready: { Self → Type 0 };
 
     ghost bytes: { Self → List ℕ };

@@ -5,8 +5,10 @@
 //! bytes of both forms are defined in `specs/`.
 #![tactic(auto)]
 
+mod faults;
 mod forms;
 mod printer;
+mod short_lines;
 mod values;
 
 ghost use Rattle.std.specs.Prelude.{◌≡◌, IfOk, map};
@@ -15,8 +17,10 @@ ghost use Rattle.edr_report.specs.Lines.{text_of, table_of};
 ghost use Rattle.edr_report.specs.Report.{report_lines};
 
 use edr_image::{CycleReport, Found};
+pub use faults::Fault;
 use forms::{Table, Text};
 use printer::print;
+pub use short_lines::{ShortLine, format_line};
 use std::alloc::{AllocError as OutOfMemory, Global};
 
 /// The report of the cycles of a run, of what was found in the banks in this order, and of the count of ignition
@@ -46,3 +50,8 @@ pub fn table(
     let printed = print(alloc, Table::new(alloc)?, run, found, count)?;
     printed.into_bytes()
 }
+
+#[cfg(test)]
+mod tests;
+#[cfg(test)]
+mod texts;

@@ -1,11 +1,11 @@
 //! The walk over a run and what its banks hold, which gives the lines of the report to a form.
 
-ghost use Rattle.std.specs.Prelude.{◌≡◌, [], ◌∷◌, ◌++◌, ◌≤◌, IfOk, OnOk, length, map, flat_map, string_bytes};
+ghost use Rattle.std.specs.Prelude.{◌≡◌, ◌++◌, ◌≤◌, IfOk, OnOk, length, map, flat_map, string_bytes};
 ghost use Rattle.edr_image.specs.Reports.{report_of};
 ghost use Rattle.edr_report.specs.Lines.{line};
-ghost use Rattle.edr_report.specs.Words.{cycle_words, ack_words, bank_words, kind_word};
+ghost use Rattle.edr_report.specs.Words.{kind_word};
 ghost use Rattle.edr_report.specs.Values.{value_words};
-ghost use Rattle.edr_report.specs.Report.{ack_line, cycle_lines, run_lines, pre_lines, crash_names, crash_words, named_lines, crash_lines, event_lines, events_lines, found_records, damaged_lines, report_lines};
+ghost use Rattle.edr_report.specs.Report.{ack_line, cycle_lines, run_lines, pre_lines, crash_words, named_lines, crash_lines, event_lines, events_lines, found_records, damaged_lines, report_lines};
 
 use crate::forms::Lines;
 use crate::values::Value;
@@ -86,7 +86,7 @@ pub struct Printer<L: Lines> {
 }
 
 impl<L: Lines> Printer<L> {
-    // Gives a line whose name stands in `name`.
+    // Gives a line.
     fn put(&mut self, block: u64, name: &str, value: Value) -> Result<(), OutOfMemory>
         requires { L.ready self.old.lines }
         ensures ready { OnOk result (L.ready self.new.lines) }
@@ -179,7 +179,7 @@ impl<L: Lines> Printer<L> {
         )
     }
 
-    // Gives a line of block 0, whose name was put together.
+    // Gives a line of block 0 whose name stands in `self.name`.
     fn put_named(&mut self, value: Value) -> Result<(), OutOfMemory>
         requires { L.ready self.old.lines }
         ensures ready { OnOk result (L.ready self.new.lines) }

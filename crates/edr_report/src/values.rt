@@ -1,7 +1,7 @@
 //! The values of a report, and how they are spelled.
 
 ghost use Rattle.std.specs.Prelude.{◌≡◌, ◌++◌, OnOk, string_bytes, map};
-ghost use Rattle.edr_report.specs.Words.{spaced, on_off, yes_no, switch_or_none, firing_words, applied_words, stop_words, events_in_crash, time_between, points_words, extreme_words, missing_words, damage_words};
+ghost use Rattle.edr_report.specs.Words.{spaced, yes_no, switch_or_none, firing_words, applied_words, stop_words, events_in_crash, time_between, points_words, extreme_words};
 ghost use Rattle.edr_report.specs.Values.{value_words};
 
 use edr_image::Applied;
@@ -14,7 +14,9 @@ pub const LARGEST_SHOWN_COUNT: u32 = 60_000;
 /// What stands in a line of a report behind its name.
 #[derive(Clone, Copy)]
 pub enum Value {
+    /// A start was stopped in this changing call.
     StartStopped(u32),
+    /// A cycle had this number, and was stopped in this changing call or not at all.
     Ran {
         number: u32,
         stopped: Option<u32>,
@@ -26,24 +28,30 @@ pub enum Value {
         locked: bool,
     },
     Number(u64),
+    /// A count of ignition cycles, which is shown up to a bound.
     Count(u32),
     Milliseconds(u32),
+    /// How many events the crash has up to the one in this place.
     EventsInCrash(Place),
+    /// The time from the first event to the one in this place.
     TimeBetween(Place),
     YesNo(bool),
     Speeds([Option<u16>; 11]),
     Throttles([Option<u8>; 11]),
     Switches([Option<bool>; 11]),
     Switch(Option<bool>),
+    /// The points of an axis that this end allows.
     Points {
         end: u16,
         points: [i16; 26],
     },
     Extreme(Extreme),
+    /// How many ticks have no sample.
     Missing {
         along: u16,
         across: u16,
     },
+    /// When a restraint fired first.
     Firing(Option<u16>),
     Absent,
 }
@@ -76,7 +84,7 @@ impl Slot for Option<u16> {
 
     fn put(&self, out: &mut String) -> Result<(), OutOfMemory> {
         match self {
-            Some(number) => write!(out, "{number}"),
+            Some(kmh) => write!(out, "{kmh}"),
             None => out.push_str("none"),
         }
     }
@@ -89,7 +97,7 @@ impl Slot for Option<u8> {
 
     fn put(&self, out: &mut String) -> Result<(), OutOfMemory> {
         match self {
-            Some(number) => write!(out, "{number}"),
+            Some(per_cent) => write!(out, "{per_cent}"),
             None => out.push_str("none"),
         }
     }

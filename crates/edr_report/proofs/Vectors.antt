@@ -1,0 +1,124 @@
+-- Reports and lines that are computed.
+use Rattle.std.proofs.Common.{◌≡◌, refl, pos, negsuc, false, true, Some, None, [], ◌∷◌, replicate}
+use Rattle.std.specs.Prelude.{codes}
+use Rattle.std.specs.Fmt.{digits}
+use Rattle.csv.specs.Writing.{fields_text, is_blank, escaped}
+use Rattle.edr_items.specs.declared.Sensor.TheVariants.{Across}
+use Rattle.edr_record.specs.declared.Place.TheVariants as place
+use Rattle.edr_record.specs.declared.Record.{Record}
+use Rattle.edr_record.specs.Complete.{is_complete}
+use Rattle.edr_image.specs.declared.Choice.TheVariants.{Keep, Overwrite}
+use Rattle.edr_image.specs.declared.BankView.TheVariants.{Void, Event, Damaged}
+use Rattle.edr_image.specs.declared.Applied.TheVariants as applied
+use Rattle.edr_image.specs.declared.Kind.TheVariants as kind
+use Rattle.edr_image.specs.declared.HeaderRefused.TheVariants as header
+use Rattle.edr_image.specs.Banks.{Store, events, damaged}
+use Rattle.edr_image.specs.Reports.{Report, Ran, StartStopped}
+use Rattle.edr_spell.specs.declared.TraceFault.TheVariants as trace
+use Rattle.edr_report.specs.declared.faults.Fault.TheVariants as fault
+use Rattle.edr_report.specs.Lines.{Text, Table}
+use Rattle.edr_report.specs.Words.{time_between}
+use Rattle.edr_report.specs.Report.{pre_lines, crash_lines, event_lines, report_lines, report_bytes}
+use Rattle.edr_report.specs.Faults.{fault_line}
+use Rattle.edr_report.specs.Format.{format_line}
+
+abbrev fresh : Store
+fresh = record { header = record { banks = 2; choice = Keep }; banks = Void ∷ Void ∷ [] }
+
+-- a cycle without items, and no cycle, as text and as a table
+empty-cycle : report_bytes Text (Ran 1 None [] ∷ []) fresh 1 ≡ codes "cycle 1: number 1, power off\nignition cycle, download: 1\n"
+unfolding report_lines events damaged digits
+empty-cycle = refl
+
+empty-run : report_bytes Text [] fresh 0 ≡ codes "ignition cycle, download: 0\n"
+unfolding report_lines events damaged digits
+empty-run = refl
+
+empty-table : report_bytes Table [] fresh 0 ≡ codes "block,name,value\n0,\"ignition cycle, download\",0\n"
+unfolding report_lines events damaged digits fields_text is_blank escaped
+empty-table = refl
+
+-- a start that was stopped
+stopped-start : report_bytes Text (StartStopped 5 ∷ []) fresh 1 ≡ codes "cycle 1: start stopped in call 5\nignition cycle, download: 1\n"
+unfolding report_lines events damaged digits
+stopped-start = refl
+
+-- a realistic crash
+abbrev crash : Record
+crash = record {
+  pre = record {
+    key = record { cycle = 1; zero = 6003 };
+    place = place.First;
+    speed = replicate 11 (Some 50);
+    throttle = replicate 11 (Some 20);
+    brake = replicate 11 (Some false);
+    belt = Some true;
+    lamp = Some false;
+  };
+  locked = false;
+  crash = Some (record {
+    end = 115;
+    along =
+        pos 0 ∷ negsuc 3 ∷ negsuc 7 ∷ negsuc 11 ∷ negsuc 15 ∷ negsuc 19 ∷ negsuc 23 ∷ negsuc 27 ∷ negsuc 31 ∷ negsuc 35
+        ∷ negsuc 38 ∷ negsuc 38 ∷ negsuc 38 ∷ negsuc 38 ∷ negsuc 38
+        ∷ replicate 11 (pos 0);
+    across = replicate 26 (pos 0);
+    max_along = record { kmh = negsuc 38; at = 97 };
+    max_across = record { kmh = pos 0; at = 0 };
+    result_at = 97;
+    missing_along = 0;
+    missing_across = 0;
+    fired = replicate 8 None;
+  });
+}
+
+abbrev crash_report : Report
+crash_report =
+    Ran 1 None (record { tick = 6020; kind = kind.Take; applied = applied.Kept 1 } ∷ record { tick = 6148; kind = kind.Done; applied = applied.Done 1 } ∷ [])
+
+abbrev crash_store : Store
+crash_store = record fresh { banks = Event crash ∷ Void ∷ [] }
+
+crash-text : report_bytes Text (crash_report ∷ []) crash_store 1 ≡
+    codes "cycle 1: number 1, power off\ncycle 1 take at 6020: bank 1\ncycle 1 done at 6148: bank 1\nevent: 1\nbank: 1\nignition cycle, crash: 1\ntime zero: 6003 ms\nmulti-event, number of events: 1\ntime from event 1 to 2: none\ndeployment event: no\nspeed, km/h: 50 50 50 50 50 50 50 50 50 50 50\nthrottle, %: 20 20 20 20 20 20 20 20 20 20 20\nservice brake: off off off off off off off off off off off\ndriver belt: on\nfrontal air bag warning lamp: off\nend of event: 115 ms\ndelta-V longitudinal, km/h: 0 -4 -8 -12 -16 -20 -24 -28 -32 -36 -39 -39 -39 -39 -39\ndelta-V lateral, km/h: 0 0 0 0 0 0 0 0 0 0 0 0 0 0 0\nmaximum delta-V longitudinal: -39 km/h at 97 ms\nmaximum delta-V lateral: 0 km/h at 0 ms\ntime of maximum resultant: 97 ms\nticks without sample: 0 longitudinal, 0 lateral\ndriver frontal deployment: none\npassenger frontal deployment: none\ndriver side deployment: none\npassenger side deployment: none\ndriver curtain deployment: none\npassenger curtain deployment: none\ndriver pretensioner deployment: none\npassenger pretensioner deployment: none\ncomplete file recorded: yes\nignition cycle, download: 1\n"
+unfolding report_lines event_lines pre_lines crash_lines events damaged digits is_complete
+crash-text = refl
+
+-- a damaged bank, and a count that is shown as at most 60000
+damaged-line : report_bytes Text [] (record fresh { banks = Void ∷ Damaged 28 9 true ∷ [] }) 60_001 ≡ codes "bank 2: damaged at 28 found 9 locked yes\nignition cycle, download: 60000\n"
+unfolding report_lines events damaged digits
+damaged-line = refl
+
+-- tenths of a second are rounded half up
+rounded-down : time_between (place.Second 2_949) ≡ codes "2.9 s"
+unfolding digits
+rounded-down = refl
+
+rounded-up : time_between (place.Second 2_950) ≡ codes "3.0 s"
+unfolding digits
+rounded-up = refl
+
+-- fault lines, and the line of a format
+range-fault : fault_line (fault.Trace (record { row = 2; fault = trace.Range (negsuc 99999) (pos 100000) })) ≡ codes "fault: trace row 2: range -100000 to 100000\n"
+unfolding digits
+range-fault = refl
+
+skew-fault : fault_line (fault.Trace (record { row = 4; fault = trace.Skew Across })) ≡ codes "fault: trace row 4: skew of across\n"
+unfolding digits
+skew-fault = refl
+
+image-fault : fault_line (fault.Header (header.NotFormatted 0 0)) ≡ codes "fault: image not formatted at 0 found 0\n"
+unfolding digits
+image-fault = refl
+
+short-fault : fault_line (fault.Short 95 96) ≡ codes "fault: image short 95 of 96\n"
+unfolding digits
+short-fault = refl
+
+keep-line : format_line (record { banks = 2; choice = Keep }) ≡ codes "formatted: 2 banks, keep\n"
+unfolding digits
+keep-line = refl
+
+overwrite-line : format_line (record { banks = 16; choice = Overwrite }) ≡ codes "formatted: 16 banks, overwrite\n"
+unfolding digits
+overwrite-line = refl

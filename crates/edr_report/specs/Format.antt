@@ -1,0 +1,15 @@
+-- The line that tells of a new image.
+use Rattle.std.specs.Prelude.{ℕ, List, ◌++◌, codes, decimal}
+use Rattle.edr_text.specs.Lines.{line_of}
+use Rattle.edr_image.specs.declared.Choice.{Choice}
+use Rattle.edr_image.specs.declared.Choice.TheVariants.{Keep, Overwrite}
+use Rattle.edr_image.specs.declared.Header.{Header}
+
+-- what is done with a new event where no bank is void
+abbrev pub choice_word : Choice → List ℕ
+choice_word Keep = codes "keep"
+choice_word Overwrite = codes "overwrite"
+
+-- how many banks there are, and the choice
+abbrev pub format_line : Header → List ℕ
+format_line h = line_of (codes "formatted") (decimal h.banks ++ codes " banks, " ++ choice_word h.choice)

@@ -1,0 +1,80 @@
+//! Lines that take no memory.
+
+ghost use Rattle.std.specs.Prelude.{◌≡◌, ◌+◌, ◌≤◌, ◌++◌, decimal, length};
+ghost use Rattle.std.specs.Fmt.{signed_decimal};
+ghost use Rattle.arrayvec.specs.ArrayString.{array_string_len};
+ghost use Rattle.edr_report.specs.Format.{format_line};
+
+use arrayvec::ArrayString;
+use edr_image::{Choice, Header};
+use itoa::Buffer;
+use std::marker::Model;
+
+/// Room for the bytes of a line.
+pub(crate) type Room = ArrayString<80>;
+
+/// A line of at most 80 bytes, in a place of its own. Contracts see it as the list of its bytes.
+#[derive(Drop)]
+pub struct ShortLine {
+    text: Room,
+}
+
+impl Model for ShortLine {
+    ghost use Rattle.std.specs.Prelude.{ℕ, List};
+
+    ghost Value = { List ℕ };
+
+    ghost view = { λ l. l.text.bytes };
+}
+
+impl ShortLine {
+    pub(crate) fn new(text: Room) -> ShortLine
+        ensures { result ≡ text.bytes }
+    {
+        ShortLine { text }
+    }
+
+    /// The bytes of the line, with its line feed.
+    pub fn as_bytes(&self) -> &[u8]
+        ensures { result.now ≡ self.now }
+    {
+        self.text.as_str().as_bytes()
+    }
+}
+
+/// Appends words and a number.
+pub(crate) fn push_number(line: &mut Room, words: &str, n: u32)
+    requires { array_string_len line.old + length words.now + 10 ≤ 80 }
+    ensures bytes { line.new.bytes ≡ line.old.bytes ++ (words.now ++ decimal n) }
+    ensures len { array_string_len line.new ≤ array_string_len line.old + length words.now + 10 }
+{
+    let mut buffer = Buffer::new();
+    line.push_str(words);
+    line.push_str(buffer.format(n));
+}
+
+/// Appends words and a number that may be below zero.
+pub(crate) fn push_signed(line: &mut Room, words: &str, z: i32)
+    requires { array_string_len line.old + length words.now + 11 ≤ 80 }
+    ensures bytes { line.new.bytes ≡ line.old.bytes ++ (words.now ++ signed_decimal z) }
+    ensures len { array_string_len line.new ≤ array_string_len line.old + length words.now + 11 }
+{
+    let mut buffer = Buffer::new();
+    line.push_str(words);
+    line.push_str(buffer.format(z));
+}
+
+/// The line that tells of an image that was formatted with this header. It takes no memory.
+pub fn format_line(header: Header) -> ShortLine
+    ensures { result ≡ format_line header }
+{
+    let mut line = Room::new();
+    push_number(&mut line, "formatted: ", u32::from(header.banks));
+    line.push_str(" banks, ");
+    line.push_str(match header.choice {
+        Choice::Keep => "keep",
+        Choice::Overwrite => "overwrite",
+    });
+    line.push_str("\n");
+    ShortLine::new(line)
+}

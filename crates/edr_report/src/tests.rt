@@ -1,0 +1,324 @@
+ghost use Rattle.std.specs.Prelude.{◌≤◌};
+
+use crate::values::Value;
+use crate::{Fault, format_line, table, text, texts};
+use edr_image::{
+    Ack, Applied, BankView, Choice, CycleReport, Found, Header, HeaderRefused, Kind, Log,
+};
+use edr_items::Sensor;
+use edr_record::{Crash, Extreme, Key, Place, Pre, Record};
+use edr_spell::{TraceFault, TraceRefused};
+use std::alloc::{AllocError, Global};
+use std::process::Abort;
+use std::test::Fail;
+
+// What stood before an event where every sensor gave samples at all times.
+fn before(cycle: u32, zero: u32) -> Pre
+    requires cycle { 1 ≤ cycle }
+    requires from { 1 ≤ zero }
+    requires to { zero ≤ 86400000 }
+{
+    Pre {
+        key: Key { cycle, zero },
+        place: Place::First,
+        speed: [Some(50); 11],
+        throttle: [Some(20); 11],
+        brake: [Some(false); 11],
+        belt: Some(true),
+        lamp: Some(false),
+    }
+}
+
+// What stood before an event three seconds after power on.
+fn early() -> Pre {
+    let slot = Some(50);
+    let throttle = Some(20);
+    let off = Some(false);
+    Pre {
+        key: Key {
+            cycle: 1,
+            zero: 3000,
+        },
+        place: Place::First,
+        speed: [
+            None, None, None, None, None, slot, slot, slot, slot, slot, slot,
+        ],
+        throttle: [
+            None, None, None, None, None, throttle, throttle, throttle, throttle, throttle,
+            throttle,
+        ],
+        brake: [None, None, None, None, None, off, off, off, off, off, off],
+        belt: Some(true),
+        lamp: Some(false),
+    }
+}
+
+// A car that loses 0.4 km/h in each of 100 ms.
+fn crash() -> Crash {
+    Crash {
+        end: 115,
+        along: [
+            0, -4, -8, -12, -16, -20, -24, -28, -32, -36, -39, -39, -39, -39, -39, 0, 0, 0, 0, 0,
+            0, 0, 0, 0, 0, 0,
+        ],
+        across: [0; 26],
+        max_along: Extreme { kmh: -39, at: 97 },
+        max_across: Extreme { kmh: 0, at: 0 },
+        result_at: 97,
+        missing_along: 0,
+        missing_across: 0,
+        fired: [None; 8],
+    }
+}
+
+// An event that ends as soon as it may, with a driver's frontal air bag that fires at time zero.
+fn short_crash() -> Crash {
+    Crash {
+        end: 20,
+        along: [0; 26],
+        across: [0; 26],
+        max_along: Extreme { kmh: 0, at: 0 },
+        max_across: Extreme { kmh: 0, at: 0 },
+        result_at: 0,
+        missing_along: 0,
+        missing_across: 0,
+        fired: [Some(0), None, None, None, None, None, None, None],
+    }
+}
+
+fn event(bank: u8, pre: Pre, locked: bool, crash: Option<Crash>) -> Found {
+    let view = BankView::Event(Record { pre, locked, crash });
+    Found { bank, view }
+}
+
+fn take(tick: u32, applied: Applied) -> Ack {
+    let kind = Kind::Take;
+    Ack {
+        tick,
+        kind,
+        applied,
+    }
+}
+
+fn lock(tick: u32, applied: Applied) -> Ack {
+    let kind = Kind::Lock;
+    Ack {
+        tick,
+        kind,
+        applied,
+    }
+}
+
+fn done(tick: u32, applied: Applied) -> Ack {
+    let kind = Kind::Done;
+    Ack {
+        tick,
+        kind,
+        applied,
+    }
+}
+
+// The report of a cycle that ran to its end.
+fn ran(alloc: Global, number: u32, acks: &[Ack]) -> Result<CycleReport, AllocError> {
+    let mut log = Log::with_room(alloc, 8)?;
+    for ack in acks {
+        if log.spare() > 0 {
+            log.push(*ack);
+        }
+    }
+    Ok(CycleReport::Ran {
+        number,
+        stopped: None,
+        log,
+    })
+}
+
+#[test]
+fn a_crash_is_printed_with_every_element(rt: HostRuntime) -> Result<(), Fail> {
+    let taken = take(6020, Applied::Kept { bank: 1 });
+    let ended = done(6148, Applied::Done { bank: 1 });
+    let run = [ran(rt.alloc(), 1, &[taken, ended])?];
+    let found = [event(1, before(1, 6003), false, Some(crash()))];
+    assert!(rt; text(rt.alloc(), &run, &found, 1)?.as_slice() == texts::CRASH);
+    assert!(rt; table(rt.alloc(), &run, &found, 1)?.as_slice() == texts::CRASH_TABLE);
+    Ok(())
+}
+
+#[test]
+fn a_run_without_events_tells_the_count(rt: HostRuntime) -> Result<(), Fail> {
+    let run = [ran(rt.alloc(), 1, &[])?];
+    assert!(rt; text(rt.alloc(), &run, &[], 1)?.as_slice() == texts::EMPTY_CYCLE);
+    assert!(rt; table(rt.alloc(), &run, &[], 1)?.as_slice() == texts::EMPTY_CYCLE_TABLE);
+    assert!(rt; text(rt.alloc(), &[], &[], 0)?.as_slice() == texts::EMPTY_TRACE);
+    assert!(rt; table(rt.alloc(), &[], &[], 0)?.as_slice() == texts::EMPTY_TRACE_TABLE);
+    Ok(())
+}
+
+#[test]
+fn damaged_banks_are_told(rt: HostRuntime) -> Result<(), Fail> {
+    let refused = Applied::NotKept;
+    let acks = [
+        take(7000, refused),
+        lock(7000, refused),
+        done(7050, refused),
+    ];
+    let run = [ran(rt.alloc(), 1, &acks)?];
+    let view = BankView::Damaged {
+        offset: 20,
+        found: 165,
+        locked: true,
+    };
+    let found = [Found { bank: 1, view }, Found { bank: 2, view }];
+    assert!(rt; text(rt.alloc(), &run, &found, 1)?.as_slice() == texts::DAMAGED);
+    assert!(rt; table(rt.alloc(), &run, &found, 1)?.as_slice() == texts::DAMAGED_TABLE);
+    Ok(())
+}
+
+#[test]
+fn an_absent_slot_or_part_is_none(rt: HostRuntime) -> Result<(), Fail> {
+    let acks = [
+        take(3000, Applied::Kept { bank: 1 }),
+        lock(3000, Applied::Locked { bank: 1 }),
+        done(3050, Applied::Done { bank: 1 }),
+    ];
+    let run = [ran(rt.alloc(), 1, &acks)?];
+    let found = [event(1, early(), true, Some(short_crash()))];
+    assert!(rt; text(rt.alloc(), &run, &found, 1)?.as_slice() == texts::EARLY);
+    let taken = take(6020, Applied::Kept { bank: 1 });
+    let run = [ran(rt.alloc(), 1, &[taken])?];
+    let found = [event(1, before(1, 6003), false, None)];
+    assert!(rt; text(rt.alloc(), &run, &found, 1)?.as_slice() == texts::CUT_SHORT);
+    Ok(())
+}
+
+#[test]
+fn a_number_is_whole_and_a_count_is_at_most_60000(rt: HostRuntime) -> Result<(), Fail> {
+    let taken = take(6020, Applied::Kept { bank: 1 });
+    let ended = done(6148, Applied::Done { bank: 1 });
+    let run = [ran(rt.alloc(), 60_002, &[taken, ended])?];
+    let found = [event(1, before(60_002, 6003), false, Some(crash()))];
+    assert!(rt; text(rt.alloc(), &run, &found, 60_002)?.as_slice() == texts::PAST_60000);
+    Ok(())
+}
+
+#[test]
+fn a_stop_is_told_with_its_call(rt: HostRuntime) -> Result<(), Fail> {
+    let run = [
+        CycleReport::StartStopped { call: 5 },
+        ran(rt.alloc(), 2, &[])?,
+    ];
+    assert!(rt; text(rt.alloc(), &run, &[], 2)?.as_slice() == texts::STOPPED);
+    let log = Log::with_room(rt.alloc(), 0)?;
+    let run = [CycleReport::Ran {
+        number: 3,
+        stopped: Some(11),
+        log,
+    }];
+    let lines = b"cycle 1: number 3, stopped in call 11\nignition cycle, download: 3\n";
+    assert!(rt; text(rt.alloc(), &run, &[], 3)?.as_slice() == lines.as_slice());
+    Ok(())
+}
+
+#[test]
+fn the_time_between_events_is_rounded_to_tenths(rt: HostRuntime) -> Result<(), Fail> {
+    let places = [
+        (Place::First, "none"),
+        (Place::Second { after: 1 }, "0.0 s"),
+        (Place::Second { after: 50 }, "0.1 s"),
+        (Place::Second { after: 2949 }, "2.9 s"),
+        (Place::Second { after: 2950 }, "3.0 s"),
+        (Place::Second { after: 3000 }, "3.0 s"),
+        (Place::Second { after: 5000 }, "5.0 s"),
+    ];
+    for (place, words) in places {
+        let mut out = String::new(rt.alloc());
+        Value::TimeBetween(place).put(&mut out)?;
+        assert_eq!(rt; out.as_str(), words);
+    }
+    Ok(())
+}
+
+#[test]
+fn a_format_tells_its_banks_and_its_choice(rt: HostRuntime) {
+    let (banks, choice) = (2, Choice::Keep);
+    let line = format_line(Header { banks, choice });
+    assert!(rt; line.as_bytes() == b"formatted: 2 banks, keep\n".as_slice());
+    let (banks, choice) = (16, Choice::Overwrite);
+    let line = format_line(Header { banks, choice });
+    assert!(rt; line.as_bytes() == b"formatted: 16 banks, overwrite\n".as_slice());
+}
+
+#[test]
+fn each_fault_has_its_line(rt: HostRuntime) {
+    let not_formatted = HeaderRefused::NotFormatted {
+        offset: 0,
+        found: 0,
+    };
+    let faults = [
+        (Fault::Usage, "fault: usage\n"),
+        (Fault::Read, "fault: read fault\n"),
+        (Fault::Store, "fault: store fault\n"),
+        (
+            Fault::Short {
+                size: 95,
+                needed: 96,
+            },
+            "fault: image short 95 of 96\n",
+        ),
+        (
+            Fault::Header(not_formatted),
+            "fault: image not formatted at 0 found 0\n",
+        ),
+        (
+            Fault::Header(HeaderRefused::Version { found: 2 }),
+            "fault: image version 2\n",
+        ),
+        (
+            Fault::Header(HeaderRefused::Banks { found: 17 }),
+            "fault: image banks 17\n",
+        ),
+        (
+            Fault::Header(HeaderRefused::Choice { found: 2 }),
+            "fault: image choice 2\n",
+        ),
+        (Fault::Formatted, "fault: image formatted\n"),
+        (Fault::Spent, "fault: spent\n"),
+        (Fault::OutOfMemory, "fault: out of memory\n"),
+        (Fault::TooLong, "fault: too long\n"),
+    ];
+    for (fault, line) in faults {
+        assert!(rt; fault.line().as_bytes() == line.as_bytes());
+    }
+}
+
+#[test]
+fn each_fault_of_a_trace_has_its_words(rt: HostRuntime) {
+    let low = -100_000;
+    let high = 100_000;
+    let sensor = Sensor::Across;
+    let faults = [
+        (1, TraceFault::Fields { found: 2 }, "1: fields 2\n"),
+        (1, TraceFault::Word, "1: word\n"),
+        (1, TraceFault::Number { field: 2 }, "1: number in field 2\n"),
+        (1, TraceFault::Place, "1: place\n"),
+        (3, TraceFault::Order { last: 5 }, "3: order after 5\n"),
+        (
+            2,
+            TraceFault::Moment { limit: 86_400_000 },
+            "2: moment past 86400000\n",
+        ),
+        (
+            2,
+            TraceFault::Range { low, high },
+            "2: range -100000 to 100000\n",
+        ),
+        (2, TraceFault::Gap { last: 0 }, "2: gap after 0\n"),
+        (4, TraceFault::Skew { sensor }, "4: skew of across\n"),
+        (3, TraceFault::Unended, "3: unended\n"),
+    ];
+    for (row, fault, words) in faults {
+        let line = Fault::Trace(TraceRefused { row, fault }).line();
+        assert!(rt; line.as_bytes().starts_with(b"fault: trace row "));
+        assert!(rt; line.as_bytes().ends_with(words.as_bytes()));
+    }
+}
