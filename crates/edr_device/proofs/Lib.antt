@@ -1,2 +1,7 @@
 pub mod Telling
 pub mod Transfers
+pub mod Ranges
+pub mod Settling
+pub mod Draws
+pub mod Moments
+pub mod Fuses

@@ -5,3 +5,11 @@ pub mod CallCounts
 pub mod SourceState
 pub mod SinkState
 pub mod Transfer
+pub mod Device
+pub mod Pieces
+pub mod Past
+pub mod Numbers
+pub mod Draw
+pub mod Memory
+pub mod Order
+pub mod Fuse

@@ -16,7 +16,7 @@ pub(crate) struct Calls {
 }
 
 // Whether a number is among these.
-fn is_numbered(numbers: &[u32], n: u64) -> bool
+pub(crate) fn is_numbered(numbers: &[u32], n: u64) -> bool
     ensures { IsTrue result ↔ Contains numbers.now n }
 {
     match u32::try_from(n) {

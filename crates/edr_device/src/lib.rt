@@ -2,14 +2,27 @@
 #![tactic(auto)]
 
 mod calls;
+mod device;
+mod fused;
+mod fused_calls;
+mod mem_nvm;
+mod mem_nvm_calls;
 mod mem_sink;
 mod mem_source;
+mod moment;
+mod moment_calls;
+mod pieces;
 mod stream;
 #[cfg(test)]
 mod tests;
 mod transfer;
 
+pub use crate::device::Nvm;
+pub use crate::fused::Fused;
+pub use crate::mem_nvm::MemNvm;
 pub use crate::mem_sink::MemSink;
 pub use crate::mem_source::MemSource;
+pub use crate::moment::{Call, Moment};
+pub use crate::pieces::{write_gated, write_settled};
 pub use crate::stream::{Failed, Sink, Source};
 pub use crate::transfer::{TakeFault, put_all, take_all};

@@ -1,0 +1,26 @@
+-- A write and the sync behind it, on a device on which nothing is pending.
+use Rattle.std.specs.Prelude.{◌≡◌, ◌≢◌, ◌⊎◌, ◌+◌, ◌≤◌, ◌<◌, ℕ, false, List, ◌++◌, length, take, drop, slice_index, Result, OnOk, OnErr}
+use Rattle.edr_device.specs.Device.{is_in}
+use Rattle.edr_device.specs.Faults.{last_number}
+
+-- the bytes with a piece in their place
+abbrev pub put_at : ℕ → List ℕ → List ℕ → List ℕ
+put_at at piece bytes = take at bytes ++ piece ++ drop (at + length piece) bytes
+
+-- the image has the bytes, but perhaps not in the n offsets from `at` on
+pub record SameBut (at n : ℕ) (bytes image : List ℕ) : Type 0 where
+  pub size : length image ≡ length bytes
+  pub same : (i : ℕ) → i < length bytes → is_in at n i ≡ false → slice_index image i ≡ slice_index bytes i
+
+-- A run of n writes and syncs that ends where one fails. `now` is the clock after it, and `good'` the last good moment.
+-- Unless the clock stands at its last value, nothing follows the one that failed.
+pub record Takes {T E : Type 0} (n before now good good' : ℕ) (result : Result T E) : Type 0 where
+  pub later : before ≤ now
+  pub ok : OnOk result ((now ≡ before + n) × (good' ≡ now))
+  pub few : OnErr result (now ≤ before + n)
+  pub last : OnErr result (now ≢ last_number → ((now ≡ before + 1) × (good' ≡ good)) ⊎ (now ≡ good' + 1))
+
+-- After a stop in call r of a write and a sync of a piece, and a write and a sync of a gate: the bytes but for the piece's place, or
+-- from the third call on the bytes with the piece but for the gate's place.
+abbrev pub IsGatedStop : ℕ → ℕ → List ℕ → ℕ → List ℕ → List ℕ → Type 0
+IsGatedStop r at piece gate_at bytes image = SameBut at (length piece) bytes image ⊎ ((3 ≤ r) × SameBut gate_at 1 (put_at at piece bytes) image)
