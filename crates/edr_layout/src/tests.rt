@@ -1,0 +1,115 @@
+ghost use Rattle.std.specs.Prelude.{◌<◌, ◌≤◌};
+
+use super::*;
+
+// The first bytes of an image with four banks that keeps what it has, with no start counted.
+fn first_bytes() -> [u8; 96] {
+    let mut bytes = [0; 96];
+    bytes[..8].copy_from_slice(&MAGIC);
+    bytes[9] = 1;
+    bytes[10] = 4;
+    bytes
+}
+
+// The answer where the byte at a place is changed.
+fn header_with(place: usize, byte: u8) -> Result<Header, HeaderRefused>
+    requires { place < 96 }
+{
+    let mut bytes = first_bytes();
+    bytes[place] = byte;
+    read_header(&bytes)
+}
+
+// The same with a gate and a count in the slot that begins at a place.
+fn with_slot(mut bytes: [u8; 96], at: usize, gate: u8, count: u32) -> [u8; 96]
+    requires { at ≤ 64 }
+{
+    bytes[at] = gate;
+    BigEndian::write_u32(&mut bytes[at + 4..], count);
+    bytes
+}
+
+fn not_formatted(offset: u32, found: u8) -> Result<Header, HeaderRefused> {
+    Err(HeaderRefused::NotFormatted { offset, found })
+}
+
+#[test]
+fn a_header_is_read_or_refused_by_its_first_fault(rt: HostRuntime) {
+    let read = Header {
+        banks: 4,
+        choice: Choice::Keep,
+    };
+    assert_eq!(rt; read_header(&first_bytes()), Ok(read));
+    let overwrites = Header {
+        banks: 4,
+        choice: Choice::Overwrite,
+    };
+    assert_eq!(rt; header_with(11, 1), Ok(overwrites));
+    assert_eq!(rt; header_with(10, 2).map(|h| h.banks), Ok(2));
+    assert_eq!(rt; header_with(10, 16).map(|h| h.banks), Ok(16));
+    // What stands past the choice is not read.
+    assert_eq!(rt; header_with(12, 255), Ok(read));
+    assert_eq!(rt; header_with(0, 0), not_formatted(0, 0));
+    assert_eq!(rt; header_with(7, b'e'), not_formatted(7, b'e'));
+    assert_eq!(rt; header_with(9, 2), Err(HeaderRefused::Version { found: 2 }));
+    assert_eq!(rt;
+        header_with(8, 1),
+        Err(HeaderRefused::Version { found: 257 })
+    );
+    assert_eq!(rt; header_with(10, 1), Err(HeaderRefused::Banks { found: 1 }));
+    assert_eq!(rt;
+        header_with(10, 17),
+        Err(HeaderRefused::Banks { found: 17 })
+    );
+    assert_eq!(rt; header_with(11, 2), Err(HeaderRefused::Choice { found: 2 }));
+}
+
+#[test]
+fn the_first_of_several_faults_is_told(rt: HostRuntime) {
+    let mut bytes = [0xff; 96];
+    assert_eq!(rt; read_header(&bytes), not_formatted(0, 0xff));
+    bytes[..8].copy_from_slice(&MAGIC);
+    assert_eq!(rt;
+        read_header(&bytes),
+        Err(HeaderRefused::Version { found: 0xffff })
+    );
+    bytes[8..10].copy_from_slice(&[0, 1]);
+    assert_eq!(rt;
+        read_header(&bytes),
+        Err(HeaderRefused::Banks { found: 0xff })
+    );
+    bytes[10] = 2;
+    assert_eq!(rt;
+        read_header(&bytes),
+        Err(HeaderRefused::Choice { found: 0xff })
+    );
+}
+
+#[test]
+fn the_count_is_that_of_the_open_slots_and_a_start_writes_the_older_one(rt: HostRuntime) {
+    let open = OPEN_GATE;
+    let table = [
+        // the gates and counts of both slots, the count of the image, the slot to be written
+        ([0, 0], [9, 9], 0, 0),
+        ([open, 0], [1, 9], 1, 1),
+        ([0, open], [9, 2], 2, 0),
+        ([open, open], [3, 2], 3, 1),
+        ([open, open], [3, 4], 4, 0),
+        ([open, open], [5, 5], 5, 1),
+        ([0xa4, 0xff], [7, 8], 0, 0),
+        ([open, open], [0x0102_0304, 0xffff_ffff], 0xffff_ffff, 0),
+    ];
+    for (gates, counts, count, older) in table {
+        let first = with_slot(first_bytes(), FIRST_SLOT, gates[0], counts[0]);
+        let bytes = with_slot(first, SECOND_SLOT, gates[1], counts[1]);
+        assert_eq!(rt; read_count(&bytes), count, "at {counts:?}");
+        assert_eq!(rt; older_slot(&bytes), older, "at {counts:?}");
+    }
+}
+
+#[test]
+fn banks_stand_behind_the_first_bytes(rt: HostRuntime) {
+    assert_eq!(rt; place_of(1), 96);
+    assert_eq!(rt; place_of(2), 608);
+    assert_eq!(rt; place_of(16), 7776);
+}
