@@ -1,0 +1,3 @@
+pub mod Lesser
+pub mod Opened
+pub mod Fields
