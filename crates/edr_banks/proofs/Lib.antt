@@ -1,2 +1,5 @@
 pub mod KeyOrder
 pub mod LeastKey
+pub mod NewImage
+pub mod Laying
+pub mod Marking

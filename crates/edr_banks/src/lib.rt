@@ -7,12 +7,33 @@ ghost use Rattle.std.specs.Prelude.{◌≡◌};
 use std::marker::Model;
 
 mod choosing;
+mod formatting;
 mod retrieving;
 
 pub use edr_image::{
     Ack, Applied, BankView, Choice, CycleReport, Found, Header, HeaderRefused, Kind, Log, OpenFault,
 };
 pub use edr_record::Command;
+
+/// Why a command was not taken.
+#[derive(Clone, Copy, Debug, PartialEq, Eq)]
+pub enum ApplyFault {
+    /// The device has failed.
+    StoreFault,
+    /// It has failed in an earlier command.
+    Ended,
+}
+
+/// Why an image is not formatted.
+#[derive(Clone, Copy, Debug, PartialEq, Eq)]
+pub enum FormatFault {
+    /// The device has fewer bytes than an image of so many banks.
+    Short { size: u32, needed: u32 },
+    /// The device has an image already.
+    Formatted,
+    /// The device has failed.
+    StoreFault,
+}
 
 /// The banks of an image, as they were opened and as commands have changed them since.
 #[derive(Drop)]
