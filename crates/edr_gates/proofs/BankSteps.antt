@@ -123,6 +123,11 @@ fill_made at bytes piece pre fits is =
 
 -- ---- done: the crash part is written behind its closed gate
 
+-- the bytes of a crash part
+pub record IsEnding (piece : List ℕ) (crash : CrashPart) : Type 0 where
+  pub long : length piece ≡ 320
+  pub part : IsCrashFrom piece 0 crash
+
 done_opens : (at : ℕ) (bytes : List ℕ) (r : Record) → r.crash ≡ None → ShowsEvent bytes at r → is_open bytes (at + 2) ≡ false
 done_opens at bytes r none e = go r.crash none e.ends
   where
@@ -154,17 +159,18 @@ done_gate at bytes image piece r crash fits long s ends e =
       ends = ends (match_chain piece 0 mid (at + 176) image (at + 176) 320 there (beside (at + 2) 1 mid image (at + 176) 320 s (omega arith) (inr (omega arith))));
     }
 
-pub done_either : (at : ℕ) (bytes image piece : List ℕ) (r : Record) (crash : CrashPart) → at + 512 ≤ length bytes → length piece ≡ 320 → IsCrashFrom piece 0 crash → SameBut (at + 2) 1 (put_at (at + 176) piece bytes) image
+pub done_either : (at : ℕ) (bytes image piece : List ℕ) (r : Record) (crash : CrashPart) → at + 512 ≤ length bytes → IsEnding piece crash → SameBut (at + 2) 1 (put_at (at + 176) piece bytes) image
     → r.crash ≡ None → ShowsEvent bytes at r → Shows image at (Event r) ⊎ Shows image at (Event (record r { crash = Some crash }))
-done_either at bytes image piece r crash fits long whole s none e = by_gate (is_open image (at + 2)) refl where
+done_either at bytes image piece r crash fits is s none e = by_gate (is_open image (at + 2)) refl where
   by_gate : (o : Bool) → is_open image (at + 2) ≡ o → Shows image at (Event r) ⊎ Shows image at (Event (record r { crash = Some crash }))
-  by_gate true gate = inr (done_gate at bytes image piece r (Some crash) fits long s (λ h. (gate, crash_moves piece 0 image (at + 176) crash h whole)) e)
-  by_gate false gate = inl (subst (λ (c : Option CrashPart). ShowsEvent image at (record r { crash = c })) (sym none) (done_gate at bytes image piece r None fits long s (λ h. gate) e))
+  by_gate true gate = inr (done_gate at bytes image piece r (Some crash) fits is.long s (λ h. (gate, crash_moves piece 0 image (at + 176) crash h is.part)) e)
+  by_gate false gate = inl (subst (λ (c : Option CrashPart). ShowsEvent image at (record r { crash = c })) (sym none) (done_gate at bytes image piece r None fits is.long s (λ h. gate) e))
 
-pub done_made : (at : ℕ) (bytes piece : List ℕ) (r : Record) (crash : CrashPart) → at + 512 ≤ length bytes → length piece ≡ 320 → IsCrashFrom piece 0 crash → ShowsEvent bytes at r
+pub done_made : (at : ℕ) (bytes piece : List ℕ) (r : Record) (crash : CrashPart) → at + 512 ≤ length bytes → IsEnding piece crash → ShowsEvent bytes at r
     → Shows (put_at (at + 2) (165 ∷ []) (put_at (at + 176) piece bytes)) at (Event (record r { crash = Some crash }))
-done_made at bytes piece r crash fits long whole e =
+done_made at bytes piece r crash fits is e =
+    let long = is.long in
     let mid = put_at (at + 176) piece bytes in
     let image = put_at (at + 2) (165 ∷ []) mid in
     let size : length mid ≡ length bytes = put_size (at + 176) piece bytes (omega arith) in
-    done_gate at bytes image piece r (Some crash) fits long (put_same (at + 2) (165 ∷ []) mid (omega arith)) (λ h. (put_gate (at + 2) mid (omega arith), crash_moves piece 0 image (at + 176) crash h whole)) e
+    done_gate at bytes image piece r (Some crash) fits long (put_same (at + 2) (165 ∷ []) mid (omega arith)) (λ h. (put_gate (at + 2) mid (omega arith), crash_moves piece 0 image (at + 176) crash h is.part)) e

@@ -52,7 +52,7 @@ match_number xs a ys b (suc n) h =
 pub match_at : (xs : List ℕ) (a : ℕ) (ys : List ℕ) (b m k n : ℕ) → Match xs a ys b m → k + n ≤ m → number_at xs (a + k) n ≡ number_at ys (b + k) n
 match_at xs a ys b m k n h fits = match_number xs (a + k) ys (b + k) n (match_part xs a ys b m k n h fits)
 
-map_same : {X : Type 0} (f g : ℕ → X) (s n : ℕ) → ((k : ℕ) → s ≤ k → k < s + n → f k ≡ g k) → map f (range_with_len s n) ≡ map g (range_with_len s n)
+pub map_same : {X : Type 0} (f g : ℕ → X) (s n : ℕ) → ((k : ℕ) → s ≤ k → k < s + n → f k ≡ g k) → map f (range_with_len s n) ≡ map g (range_with_len s n)
 map_same f g s zero h = refl
 map_same f g s (suc n) h =
     let here = h s (omega arith) (omega arith) in
@@ -121,7 +121,7 @@ points_size count low high =
 few_points : (end : ℕ) → (1 ≤ point_count end) × (point_count end ≤ most_points)
 few_points end = (omega arith, omega arith)
 
-crash_size : (end : ℕ) → size_of (crash_fields end) ≡ 320
+pub crash_size : (end : ℕ) → size_of (crash_fields end) ≡ 320
 crash_size end =
     let few = few_points end in
     let axis = points_size (point_count end) few.0 few.1 in
@@ -137,7 +137,7 @@ pre_none xs a ys b h e =
     rw (sym (h.same 8 (omega arith))) (fields_none fs xs a ys b h e)
 
 -- a pre part by its fields
-unfoldable pre_from : ℕ → ℕ → ℕ → ℕ → List ℕ → List ℕ → List ℕ → ℕ → ℕ → PrePart
+unfoldable pub pre_from : ℕ → ℕ → ℕ → ℕ → List ℕ → List ℕ → List ℕ → ℕ → ℕ → PrePart
 pre_from cycle began place after speed throttle brake belt lamp = record {
   key = record { cycle = cycle; zero = began };
   place = if nat_eq place 1 then First else Second after;
@@ -148,7 +148,7 @@ pre_from cycle began place after speed throttle brake belt lamp = record {
   lamp = switch_from lamp;
 }
 
-pre_at-is : (xs : List ℕ) (a : ℕ) → pre_at xs a ≡ pre_from (number_at xs a 4) (number_at xs (a + 4) 4) (slice_index xs (a + 8)) (number_at xs (a + 10) 2) (numbers_at xs (a + 12) 2 11) (numbers_at xs (a + 34) 1 11) (numbers_at xs (a + 45) 1 11) (slice_index xs (a + 56)) (slice_index xs (a + 57))
+pub pre_at-is : (xs : List ℕ) (a : ℕ) → pre_at xs a ≡ pre_from (number_at xs a 4) (number_at xs (a + 4) 4) (slice_index xs (a + 8)) (number_at xs (a + 10) 2) (numbers_at xs (a + 12) 2 11) (numbers_at xs (a + 34) 1 11) (numbers_at xs (a + 45) 1 11) (slice_index xs (a + 56)) (slice_index xs (a + 57))
 unfolding pre_at pre_from
 pre_at-is xs a = refl
 
@@ -174,7 +174,7 @@ crash_none xs a ys b h e =
     rw (sym end) (fields_none fs xs a ys b long e)
 
 -- a crash part by its fields
-unfoldable crash_from : ℕ → List ℕ → List ℕ → ℕ → ℕ → ℕ → ℕ → ℕ → ℕ → ℕ → List ℕ → CrashPart
+unfoldable pub crash_from : ℕ → List ℕ → List ℕ → ℕ → ℕ → ℕ → ℕ → ℕ → ℕ → ℕ → List ℕ → CrashPart
 crash_from end along across kmh_along at_along kmh_across at_across result missing_along missing_across fired = record {
   end = end;
   along = map signed along;
@@ -187,7 +187,7 @@ crash_from end along across kmh_along at_along kmh_across at_across result missi
   fired = map (unless 0xffff) fired;
 }
 
-crash_at-is : (xs : List ℕ) (a : ℕ) → crash_at xs a ≡ crash_from (number_at xs a 2) (numbers_at xs (a + 2) 2 26) (numbers_at xs (a + 54) 2 26) (number_at xs (a + 106) 2) (number_at xs (a + 106 + 2) 2) (number_at xs (a + 110) 2) (number_at xs (a + 110 + 2) 2) (number_at xs (a + 114) 2) (number_at xs (a + 116) 2) (number_at xs (a + 118) 2) (numbers_at xs (a + 120) 2 8)
+pub crash_at-is : (xs : List ℕ) (a : ℕ) → crash_at xs a ≡ crash_from (number_at xs a 2) (numbers_at xs (a + 2) 2 26) (numbers_at xs (a + 54) 2 26) (number_at xs (a + 106) 2) (number_at xs (a + 106 + 2) 2) (number_at xs (a + 110) 2) (number_at xs (a + 110 + 2) 2) (number_at xs (a + 114) 2) (number_at xs (a + 116) 2) (number_at xs (a + 118) 2) (numbers_at xs (a + 120) 2 8)
 unfolding crash_at crash_from
 crash_at-is xs a = refl
 

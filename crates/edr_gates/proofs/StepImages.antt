@@ -14,8 +14,8 @@ use Rattle.edr_image.specs.Banks.{bank_at, with_bank}
 use Rattle.edr_image.specs.Image.{View, place_of, view_of}
 use Rattle.edr_image.specs.Steps.{Step, Erase, Fill, Lock, Done, after, new_record, with_crash, with_lock}
 use Rattle.edr_gates.specs.Taken.{HasDone, Holds, MayTake, bank_of}
-use Rattle.edr_gates.proofs.BankBytes.{IsCrashFrom, Shows}
-use Rattle.edr_gates.proofs.BankSteps.{IsFilling, done_either, done_front, done_made, erase_either, erase_made, fill_either, fill_front, fill_made, lock_either, lock_made}
+use Rattle.edr_gates.proofs.BankBytes.{Shows}
+use Rattle.edr_gates.proofs.BankSteps.{IsEnding, IsFilling, done_either, done_front, done_made, erase_either, erase_made, fill_either, fill_front, fill_made, lock_either, lock_made}
 use Rattle.edr_gates.proofs.Views.{IsWhole, view_but, view_shows}
 
 -- the step is not done, or done
@@ -120,9 +120,10 @@ lock_whole m bytes v e may =
 
 -- ---- fill
 
-pub fill_before : (m : ℕ) (pre : PrePart) (bytes image : List ℕ) (v : View) → view_of bytes ≡ Some v → MayTake v.store.banks (Fill m pre) → SameBut (place_of m + 1) 175 bytes image → HasDone (Fill m pre ∷ []) [] bytes v image
-fill_before m pre bytes image v e may s =
+pub fill_before : (m : ℕ) (pre : PrePart) (piece bytes image : List ℕ) (v : View) → view_of bytes ≡ Some v → MayTake v.store.banks (Fill m pre) → IsFilling piece pre → SameBut (place_of m + 1) (length piece) bytes image → HasDone (Fill m pre ∷ []) [] bytes v image
+fill_before m pre piece bytes image v e may is same =
     let at = place_of m in
+    let s = subst (λ (n : ℕ). SameBut (at + 1) n bytes image) is.long same in
     let old = view_shows bytes v m Void e may void_is_whole in
     let wide = same_wider (at + 1) 175 at 512 bytes image (omega arith) (omega arith) s in
     not_done (Fill m pre) bytes image v Void e may wide (fill_front at bytes image old.0 s old.1)
@@ -152,18 +153,20 @@ fill_whole m pre piece bytes v e may is =
 
 -- ---- done
 
-pub done_before : (m : ℕ) (crash : CrashPart) (bytes image : List ℕ) (v : View) → view_of bytes ≡ Some v → MayTake v.store.banks (Done m crash) → SameBut (place_of m + 176) 320 bytes image → HasDone (Done m crash ∷ []) [] bytes v image
-done_before m crash bytes image v e may s =
+pub done_before : (m : ℕ) (crash : CrashPart) (piece bytes image : List ℕ) (v : View) → view_of bytes ≡ Some v → MayTake v.store.banks (Done m crash) → IsEnding piece crash → SameBut (place_of m + 176) (length piece) bytes image → HasDone (Done m crash ∷ []) [] bytes v image
+done_before m crash piece bytes image v e may is same =
     let at = place_of m in
+    let s = subst (λ (n : ℕ). SameBut (at + 176) n bytes image) is.long same in
     let r = may.0 in
     let old = view_shows bytes v m (Event r) e may.1 (event_is_whole r) in
     let wide = same_wider (at + 176) 320 at 512 bytes image (omega arith) (omega arith) s in
     not_done (Done m crash) bytes image v (Event r) e may.1 wide (done_front at bytes image r old.0 s may.2 old.1)
 
-pub done_image : (m : ℕ) (crash : CrashPart) (piece bytes image : List ℕ) (v : View) → view_of bytes ≡ Some v → MayTake v.store.banks (Done m crash) → length piece ≡ 320 → IsCrashFrom piece 0 crash
+pub done_image : (m : ℕ) (crash : CrashPart) (piece bytes image : List ℕ) (v : View) → view_of bytes ≡ Some v → MayTake v.store.banks (Done m crash) → IsEnding piece crash
     → SameBut (place_of m + 2) 1 (put_at (place_of m + 176) piece bytes) image → Either (Done m crash) bytes v image
-done_image m crash piece bytes image v e may long whole s =
+done_image m crash piece bytes image v e may is s =
     let at = place_of m in
+    let long = is.long in
     let r = may.0 in
     let old = view_shows bytes v m (Event r) e may.1 (event_is_whole r) in
     let fits = old.0 in
@@ -171,16 +174,17 @@ done_image m crash piece bytes image v e may long whole s =
     ⊎_elim
     (λ (same : Shows image at (Event r)). inl (not_done (Done m crash) bytes image v (Event r) e may.1 wide same))
     (λ (done : Shows image at (Event (record r { crash = Some crash }))). inr (is_done (Done m crash) bytes image v (Event r) (Event (record r { crash = Some crash })) e may.1 wide done (done_makes v.store.banks m r crash may.1)))
-    (done_either at bytes image piece r crash fits long whole s may.2 old.1)
+    (done_either at bytes image piece r crash fits is s may.2 old.1)
 
-pub done_whole : (m : ℕ) (crash : CrashPart) (piece bytes : List ℕ) (v : View) → view_of bytes ≡ Some v → MayTake v.store.banks (Done m crash) → length piece ≡ 320 → IsCrashFrom piece 0 crash
+pub done_whole : (m : ℕ) (crash : CrashPart) (piece bytes : List ℕ) (v : View) → view_of bytes ≡ Some v → MayTake v.store.banks (Done m crash) → IsEnding piece crash
     → HasDone (Done m crash ∷ []) (Done m crash ∷ []) bytes v (put_at (place_of m + 2) (165 ∷ []) (put_at (place_of m + 176) piece bytes))
-done_whole m crash piece bytes v e may long whole =
+done_whole m crash piece bytes v e may is =
     let at = place_of m in
+    let long = is.long in
     let r = may.0 in
     let old = view_shows bytes v m (Event r) e may.1 (event_is_whole r) in
     let fits = old.0 in
     let mid = put_at (at + 176) piece bytes in
     let size : length mid ≡ length bytes = put_size (at + 176) piece bytes (omega arith) in
     let wide = gated_in at (at + 176) (at + 2) piece bytes _ fits (omega arith) (omega arith) (omega arith) (omega arith) (put_same (at + 2) (165 ∷ []) mid (omega arith)) in
-    is_done (Done m crash) bytes _ v (Event r) (Event (record r { crash = Some crash })) e may.1 wide (done_made at bytes piece r crash fits long whole old.1) (done_makes v.store.banks m r crash may.1)
+    is_done (Done m crash) bytes _ v (Event r) (Event (record r { crash = Some crash })) e may.1 wide (done_made at bytes piece r crash fits is old.1) (done_makes v.store.banks m r crash may.1)

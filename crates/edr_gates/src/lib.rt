@@ -7,6 +7,8 @@
 //! bytes holds where the device tells them, nothing is pending, and the steps may be taken on the banks.
 #![tactic(auto)]
 
+mod lists;
 mod steps;
 
-pub use crate::steps::{erase, lock};
+pub use crate::lists::{replace, replace_locked};
+pub use crate::steps::{fill, finish, lock};
