@@ -35,7 +35,7 @@ written_laid : (h : Header) (at : ℕ) (piece bytes now after : List ℕ) (settl
     → IsLaid h at bytes now settled → Writes at piece settled now after settled' → IsLaid h (at + length piece) bytes after settled'
 written_laid h at piece bytes now after settled settled' low fits wide is laid w =
     let room : at + length piece ≤ length now = omega (arith, laid.size) in
-    let beside : (i : ℕ) → i < length now → (i < at) ⊎ (at + length piece ≤ i) → slice_index after i ≡ slice_index now i = λ i below out. outside_part now piece after at i w.bytes room below (not_in at (length piece) i out) in
+    let beside : (i : ℕ) → i < length now → (i < at) ⊎ (at + length piece ≤ i) → slice_index after i ≡ slice_index now i = λ i below out. outside_part now piece after at i w.bytes room (not_in at (length piece) i out) in
     let still : (i : ℕ) → (i < at) ⊎ (at + length piece ≤ i) → settled i ≡ true → settled' i ≡ true = λ i out was. w.unsettled i ∙ both (settled i) (is_in at (length piece) i) was (not_in at (length piece) i out) in
     let here : (i : ℕ) → at ≤ i → i < at + length piece → slice_index after i ≡ slice_index (new_image h) i = λ i from to.
     let place : at + (i - at) ≡ i = omega arith in

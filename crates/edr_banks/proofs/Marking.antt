@@ -4,13 +4,14 @@ use Rattle.std.specs.Prelude.{find, is_some}
 use Rattle.std.specs.List.{range_with_len}
 use Rattle.std.proofs.lemmas.Grind.{common_steps, same_number_lists}
 use Rattle.std.proofs.lemmas.Bool.Decides.{nat_tests}
-use Rattle.edr_device.specs.Device.{is_in}
+use Rattle.edr_device.specs.Device.{IsQuiet, MayLeave, is_in}
 use Rattle.edr_device.specs.Pieces.{SameBut, put_at}
-use Rattle.edr_device.proofs.Settling.{put_same}
+use Rattle.edr_device.proofs.Settling.{put_same, quiet_leaves}
 use Rattle.edr_image.specs.declared.Header.{Header}
 use Rattle.edr_image.specs.Image.{image_size, magic, new_image}
-use Rattle.edr_banks.specs.Formatting.{IsFilled, IsPartlyFormatted, IsUnmarked, IsUnmarking, LacksMagic, SamePast, first_magic, formatted}
+use Rattle.edr_banks.specs.Formatting.{IsFilled, IsNew, IsPartlyFormatted, IsUnmarked, IsUnmarking, LacksMagic, SamePast, first_magic, formatted}
 use Rattle.edr_banks.proofs.NewImage.{new_image_is}
+use Rattle.edr_banks.proofs.NewView.{formatted_new}
 use Rattle.edr_banks.proofs.Laying.{formatted_past, formatted_size, formatted_there}
 
 -- ---- the magic
@@ -77,8 +78,8 @@ new_image_first h = ap (λ (xs : List ℕ). slice_index xs 0) (new_image_is h)
 formatted_first : (h : Header) (bytes : List ℕ) → image_size h.banks ≤ length bytes → slice_index (formatted h bytes) 0 ≡ first_magic
 formatted_first h bytes wide = formatted_there h bytes 0 wide (omega arith) ∙ new_image_first h
 
-pub filled_part : (h : Header) (bytes now image : List ℕ) → image_size h.banks ≤ length bytes → IsFilled h bytes now → SameBut 0 1 now image → IsPartlyFormatted h bytes image
-filled_part h bytes now image wide filled but =
+pub filled_part : (h : Header) (bytes now image : List ℕ) → 2 ≤ h.banks → h.banks ≤ 16 → image_size h.banks ≤ length bytes → IsFilled h bytes now → SameBut 0 1 now image → IsPartlyFormatted h bytes image
+filled_part h bytes now image low high wide filled but =
     let long = formatted_size h bytes wide in
     let chain : SameBut 0 1 (formatted h bytes) image = record {
       size = but.size ∙ filled.same.size;
@@ -88,7 +89,7 @@ filled_part h bytes now image wide filled but =
       size = chain.size ∙ long;
       past = λ i from below. chain.same i (omega (arith, long)) (not_first i (omega arith)) ∙ formatted_past h bytes i wide from;
       says = ⊎_elim
-          (λ (same : slice_index image 0 ≡ first_magic). inr (inr (first_too (formatted h bytes) image chain (same ∙ sym (formatted_first h bytes wide)))))
+          (λ (same : slice_index image 0 ≡ first_magic). inr (inr (formatted_new h bytes image low high wide (first_too (formatted h bytes) image chain (same ∙ sym (formatted_first h bytes wide))))))
           (λ (apart : slice_index image 0 ≢ first_magic). inr (inl (lacks image apart)))
           (is_first_or_not (slice_index image 0));
     }
@@ -104,6 +105,10 @@ filled_put h bytes now wide filled =
       same = λ i below out. put.same i (omega (arith, filled.same.size)) out ∙ filled.same.same i below out;
     })
     (sym (formatted_first h bytes wide))
+
+-- where nothing was done
+pub left_part : (h : Header) (bytes : List ℕ) (content : Option (List ℕ)) (settled : ℕ → Bool) (image : List ℕ) → IsQuiet content settled bytes → MayLeave content settled image → IsPartlyFormatted h bytes image
+left_part h bytes content settled image quiet left = unmarking_part h bytes image (inl (quiet_leaves bytes content settled image quiet left))
 
 -- ---- over bytes of which only the first was another one
 
@@ -126,9 +131,9 @@ part_before h bytes now image but bare part = record {
   past = λ i from below. part.past i from (omega (arith, but.size)) ∙ but.same i below (not_first i (omega arith));
   says = ⊎_elim
       (λ (same : image ≡ now). inr (inl (lacks image (λ e. bare (sym (ap (λ (xs : List ℕ). slice_index xs 0) same) ∙ e)))))
-      (λ (other : LacksMagic image ⊎ (image ≡ formatted h now)). ⊎_elim
+      (λ (other : LacksMagic image ⊎ IsNew h now image). ⊎_elim
       (λ (none : LacksMagic image). inr (inl none))
-      (λ (new : image ≡ formatted h now). inr (inr (new ∙ formatted_same h bytes now but)))
+      (λ (new : IsNew h now image). inr (inr (record { same = new.same ∙ formatted_same h bytes now but; view = new.view })))
       other)
       part.says;
 }

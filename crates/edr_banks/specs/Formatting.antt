@@ -1,10 +1,10 @@
 -- What formatting leaves of an image, and what a crash inside it may leave.
 use Rattle.std.specs.Prelude.{◌≡◌, ◌≢◌, ◌⊎◌, ◌≤◌, ◌<◌, ℕ, Bool, true, List, ◌++◌, length, drop, replicate, slice_index, Option, Some, None, IsSome}
-use Rattle.edr_device.specs.Device.{IsQuiet}
+use Rattle.edr_device.specs.Device.{IsQuiet, Stays}
 use Rattle.edr_device.specs.Pieces.{SameBut}
 use Rattle.edr_image.specs.declared.Header.{Header}
 use Rattle.edr_image.specs.declared.BankView.TheVariants.{Void}
-use Rattle.edr_image.specs.Image.{View, image_size, new_image, not_magic}
+use Rattle.edr_image.specs.Image.{View, image_size, new_image, not_magic, view_of}
 
 -- the image of a header with void banks, and past it what stood there
 abbrev pub formatted : Header → List ℕ → List ℕ
@@ -22,11 +22,22 @@ LacksMagic image = IsSome (not_magic image)
 abbrev pub SamePast : Header → List ℕ → List ℕ → Type 0
 SamePast h bytes image = (i : ℕ) → image_size h.banks ≤ i → i < length bytes → slice_index image i ≡ slice_index bytes i
 
+-- the image is formatted: it says void banks and count 0
+pub record IsNew (h : Header) (bytes image : List ℕ) : Type 0 where
+  pub same : image ≡ formatted h bytes
+  pub view : view_of image ≡ Some (new_view h)
+
 -- the bytes are as they were, or the magic doesn't stand, or the image is formatted; and what stands past it is as it was
 pub record IsPartlyFormatted (h : Header) (bytes image : List ℕ) : Type 0 where
   pub size : length image ≡ length bytes
   pub past : SamePast h bytes image
-  pub says : (image ≡ bytes) ⊎ (LacksMagic image ⊎ (image ≡ formatted h bytes))
+  pub says : (image ≡ bytes) ⊎ (LacksMagic image ⊎ IsNew h bytes image)
+
+-- nothing is changed, and no changing call was made
+pub record IsLeft (content : Option (List ℕ)) (settled : ℕ → Bool) (past : ℕ → List ℕ → Type 0) (content' : Option (List ℕ)) (settled' : ℕ → Bool) (since : ℕ → List ℕ → Type 0) (before now good good' : ℕ) : Type 0 where
+  pub stays : Stays content settled past content' settled' since
+  pub clock : now ≡ before
+  pub last_good : good' ≡ good
 
 -- ---- on the way
 

@@ -3,6 +3,7 @@
 #![tactic(auto)]
 
 ghost use Rattle.std.specs.Prelude.{◌≡◌};
+ghost use Rattle.edr_image.specs.Image.{image_size};
 
 use std::marker::Model;
 
@@ -58,6 +59,13 @@ impl Model for Banks {
     ghost view = { opened_of };
 
     ghost invariant = { λ b. IsOpened (opened_of b) };
+}
+
+// How many bytes an image with so many banks has.
+fn image_size(banks: u8) -> u32
+    ensures { result ≡ image_size banks }
+{
+    96 + 512 * u32::from(banks)
 }
 
 impl Banks {

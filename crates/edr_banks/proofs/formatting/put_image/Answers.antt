@@ -31,4 +31,4 @@ returns-clause-any_moment g c = λ bytes bare.
     let now = c.in_ok-fill_image.ensures.filled bytes bare in
     elapses_again (D.clock start) (D.clock mid) (D.since start) (D.since mid) (D.since end) (IsUnmarked h bytes) (SameBut 0 1 now.0) (IsPartlyFormatted h bytes)
     (c.fill_image.ensures.any_moment bytes bare) (c.write_settled.ensures.any_moment now.0 now.1) c.fill_image.ensures.later
-    (λ image is. unmarked_part h bytes image is) (λ image but. filled_part h bytes now.0 image wide now.2 but)
+    (λ image is. unmarked_part h bytes image is) (λ image but. filled_part h bytes now.0 image c.requires.from c.requires.to wide now.2 but)
