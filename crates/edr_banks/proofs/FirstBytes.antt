@@ -23,8 +23,8 @@ find_same f g s (suc n) h =
     ap (λ (b : Bool). cond b (Some s) (find f (range_with_len (s + 1) n))) here ∙ ap (λ (o : Option ℕ). cond (g s) (Some s) o) rest
 
 -- whether the magic stands is seen from eight bytes
-pub magic_same : (piece bytes : List ℕ) → 8 ≤ length piece → ShowsFirst piece bytes → not_magic piece ≡ not_magic bytes
-magic_same piece bytes long shows =
+pub magic_same : (piece bytes : List ℕ) → ((k : ℕ) → k < 8 → slice_index piece k ≡ slice_index bytes k) → not_magic piece ≡ not_magic bytes
+magic_same piece bytes shows =
     find_same (λ k. not (nat_eq (slice_index piece k) (slice_index magic k))) (λ k. not (nat_eq (slice_index bytes k) (slice_index magic k))) 0 8
     (λ k low high. ap (λ (n : ℕ). not (nat_eq n (slice_index magic k))) (shows k (omega arith)))
 
@@ -44,7 +44,7 @@ where_ok (Ok x) b is e p = p
 where_ok (Err x) b is e p = absurd cc
 
 -- the magic doesn't stand where it wasn't read
-pub not_read : (piece bytes : List ℕ) (o : Option ℕ) (b : Bool) {A : Type 0} → 8 ≤ length piece → ShowsFirst piece bytes → o ≡ not_magic piece → is_some o ≡ not b → b ≡ false → not_magic bytes ≡ None → A
+pub not_read : (piece bytes : List ℕ) (o : Option ℕ) (b : Bool) → 8 ≤ length piece → ShowsFirst piece bytes → o ≡ not_magic piece → is_some o ≡ not b → b ≡ false → not_magic bytes ≡ None → ⊥
 not_read piece bytes o b long shows is some e stands =
-    let none : o ≡ None = is ∙ magic_same piece bytes long shows ∙ stands in
-    let f : false ≡ true = sym (ap (λ (x : Option ℕ). is_some x) none) ∙ some ∙ ap not e in absurd (false≢true f)
+    let none : o ≡ None = is ∙ magic_same piece bytes (λ k below. shows k (omega arith)) ∙ stands in
+    let f : false ≡ true = sym (ap (λ (x : Option ℕ). is_some x) none) ∙ some ∙ ap not e in false≢true f

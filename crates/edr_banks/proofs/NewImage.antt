@@ -16,7 +16,10 @@ new_image_is h = refl
 pub first_bytes_are : (h : Header) → take 96 (new_image h) ≡ front h ++ replicate 84 0
 first_bytes_are h =
     let enough : 84 ≤ image_size h.banks - 12 = omega arith in
-    ap (λ xs. take 96 xs) (new_image_is h) ∙ ap (λ xs. front h ++ xs) (take-replicate 84 (image_size h.banks - 12) 0 enough)
+    first_of (new_image h) (replicate (image_size h.banks - 12) 0) (new_image_is h) (take-replicate 84 (image_size h.banks - 12) 0 enough)
+  where
+    first_of : (xs rest : List ℕ) → xs ≡ front h ++ rest → take 84 rest ≡ replicate 84 0 → take 96 xs ≡ front h ++ replicate 84 0
+    first_of xs rest is zeros = rw is (ap (λ ys. front h ++ ys) zeros)
 
 pub new_image_size : (h : Header) → length (new_image h) ≡ image_size h.banks
 new_image_size h = ap length (new_image_is h) ∙ grind (arith, common_steps)

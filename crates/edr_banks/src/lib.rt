@@ -9,6 +9,8 @@ use std::marker::Model;
 
 mod choosing;
 mod formatting;
+mod opening;
+mod reading;
 mod retrieving;
 
 pub use edr_image::{

@@ -109,7 +109,7 @@ size_of-replicate : (n : ℕ) (f : Field) → size_of (replicate n f) ≡ n * f.
 size_of-replicate zero f = omega arith
 size_of-replicate (suc n) f = let rest = size_of-replicate n f in grind arith
 
-pre_size : (place : ℕ) → size_of (pre_fields place) ≡ 160
+pub pre_size : (place : ℕ) → size_of (pre_fields place) ≡ 160
 pre_size place = refl
 
 points_size : (count : ℕ) → 1 ≤ count → count ≤ most_points → size_of (point_fields count) ≡ 52

@@ -32,7 +32,7 @@ returns-in-Ok-clause-magic_stays g c = λ bytes told stands.
     let D = g.N.Nvm in
     let piece = c.read.new.into in
     let shows = shown_first piece bytes (D.content c.args.nvm.now) told (where_ok c.read.result c.is_err.result c.is_err.ensures.value c.if-is_err.false c.read.ensures.bytes) in
-    not_read piece bytes c.not_magic.result c.is_none.result (omega arith) shows c.not_magic.ensures c.is_none.ensures c.if-is_none.false stands
+    absurd (not_read piece bytes c.not_magic.result c.is_none.result (omega arith) shows c.not_magic.ensures c.is_none.ensures c.if-is_none.false stands)
 
 pub returns-in-Ok-clause-any_moment : goal.returns-in-Ok-clause-any_moment
 returns-in-Ok-clause-any_moment g c = λ bytes quiet.
@@ -61,7 +61,7 @@ returns-in-Err-clause-magic_stays g c = λ bytes told stands.
     let D = g.N.Nvm in
     let piece = c.read.new.into in
     let shows = shown_first piece bytes (D.content c.args.nvm.now) told (where_ok c.read.result c.is_err.result c.is_err.ensures.value c.if-is_err.false c.read.ensures.bytes) in
-    not_read piece bytes c.not_magic.result c.is_none.result (omega arith) shows c.not_magic.ensures c.is_none.ensures c.if-is_none.false stands
+    absurd (not_read piece bytes c.not_magic.result c.is_none.result (omega arith) shows c.not_magic.ensures c.is_none.ensures c.if-is_none.false stands)
 
 pub returns-in-Err-clause-any_moment : goal.returns-in-Err-clause-any_moment
 returns-in-Err-clause-any_moment g c = λ bytes quiet.
