@@ -1,0 +1,9 @@
+pub mod KeyOrder
+pub mod LeastKey
+pub mod PartPlaces
+pub mod NewImage
+pub mod Laying
+pub mod NewView
+pub mod FirstBytes
+pub mod HeaderBytes
+pub mod Marking
