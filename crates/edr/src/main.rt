@@ -1,10 +1,12 @@
-//! The recorder's program. Its words stand on the command line, the trace comes from standard input, and the
-//! text goes to standard output. It ends with the status of the run.
+//! The program of recorder and retrieval tool. Its words stand on the command line, the trace comes from standard input,
+//! the text goes to standard output, and the records are kept in the file `edr.nvm`. It ends with the status of the run.
 #![tactic(auto)]
 
+mod memory;
 mod standard;
 
 use edr_cli::{Status, Words, command};
+use memory::FileNvm;
 use standard::Counted;
 use std::alloc::AllocError as OutOfMemory;
 use std::process::ExitCode;
@@ -32,7 +34,8 @@ fn main(rt: HostRuntime) -> ExitCode {
         Ok(words) => {
             let mut input = Counted::new(rt.stdin());
             let mut output = Counted::new(rt.stdout());
-            command(rt.alloc(), &words, &mut input, &mut output)
+            let mut memory = FileNvm::open(&rt);
+            command(rt.alloc(), &words, &mut input, &mut output, &mut memory)
         }
         Err(OutOfMemory) => Status::OutOfMemory,
     };

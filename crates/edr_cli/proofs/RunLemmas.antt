@@ -6,7 +6,7 @@ use Rattle.edr_device.specs.Told.{Told}
 use Rattle.edr_device.specs.Transfer.{GivesAll, GivesTooMany}
 use Rattle.edr_device.specs.declared.transfer.TakeFault.{TakeFault}
 use Rattle.edr_device.specs.declared.transfer.TakeFault.TheVariants as take_fault
-use Rattle.edr_cli.specs.declared.runs.TheConstants.{LONGEST_TRACE}
+use Rattle.edr_cli.specs.declared.traces.TheConstants.{LONGEST_TRACE}
 use Rattle.edr_cli.specs.declared.reader.ReadRefused.{ReadRefused}
 use Rattle.edr_cli.specs.declared.reader.ReadRefused.TheVariants as refused
 use Rattle.edr_cli.specs.Trace.{Spells}
@@ -14,7 +14,7 @@ use Rattle.edr_cli.specs.declared.status.Status.TheVariants as status
 use Rattle.edr_cli.specs.declared.faults.Fault.{Fault}
 use Rattle.edr_cli.specs.declared.faults.Fault.TheVariants as fault
 use Rattle.edr_cli.specs.Faults.{fault_line, status_of, fault_of_take, fault_of_read}
-use Rattle.edr_cli.specs.Runs.{AreReplay, IsTraceOf, IsNoTrace, IsAtEnd, HasText, IsCause, IsText, cycle_text}
+use Rattle.edr_cli.specs.Runs.{IsTraceOf, IsNoTrace, IsAtEnd, HasText, IsCause, IsText, cycle_text}
 
 -- a source that was taken whole is at its end
 pub taken-ends : (bytes : List ℕ) (left left' : Option (List ℕ)) → Told (GivesAll bytes) left left' → IsAtEnd left'
@@ -32,59 +32,48 @@ taken-text bytes text lists None (Some b) told spelled within is = elim told [ ]
 taken-text bytes text lists (Some a) None told spelled within is = elim told [ ]
 
 -- why a source was not taken whole is the cause of the fault
-pub take-cause : (words : List (List ℕ)) (left left' : Option (List ℕ)) (before now : ℕ) (e : TakeFault) → AreReplay words → (e ≡ take_fault.Failed → Rose before now) → (e ≡ take_fault.TooLong → Told (GivesTooMany LONGEST_TRACE) left left') → IsCause words left before now (fault_of_take e)
-take-cause words left left' before now take_fault.Failed replay failed long = (replay, failed refl)
-take-cause words left left' before now take_fault.TooLong replay failed long = (replay, too_many left left' (long refl))
+pub take-cause : (left left' : Option (List ℕ)) (before now : ℕ) (e : TakeFault) → (e ≡ take_fault.Failed → Rose before now) → (e ≡ take_fault.TooLong → Told (GivesTooMany LONGEST_TRACE) left left') → IsCause left before now (fault_of_take e)
+take-cause left left' before now take_fault.Failed failed long = failed refl
+take-cause left left' before now take_fault.TooLong failed long = too_many left left' (long refl)
   where
     too_many : (left left' : Option (List ℕ)) → Told (GivesTooMany LONGEST_TRACE) left left' → IfSome left IsNoTrace
     too_many None None told = tt
     too_many (Some a) (Some b) told = λ lists trace. omega (arith, told.0, trace.1)
     too_many None (Some b) told = elim told [ ]
     too_many (Some a) None told = elim told [ ]
-take-cause words left left' before now take_fault.OutOfMemory replay failed long = replay
+take-cause left left' before now take_fault.OutOfMemory failed long = tt
 
 -- why the bytes were not read is the cause of the fault
-pub read-cause : (words : List (List ℕ)) (bytes : List ℕ) (left left' : Option (List ℕ)) (before now : ℕ) (e : ReadRefused) → AreReplay words → Told (GivesAll bytes) left left' → (e ≡ refused.NotATrace → (lists : SensorLists) → Spells bytes lists → ⊥) → IsCause words left before now (fault_of_read e)
-read-cause words bytes left left' before now refused.NotATrace replay told none = (replay, no_trace left left' told)
+pub read-cause : (bytes : List ℕ) (left left' : Option (List ℕ)) (before now : ℕ) (e : ReadRefused) → Told (GivesAll bytes) left left' → (e ≡ refused.NotATrace → (lists : SensorLists) → Spells bytes lists → ⊥) → IsCause left before now (fault_of_read e)
+read-cause bytes left left' before now refused.NotATrace told none = no_trace left left' told
   where
     no_trace : (left left' : Option (List ℕ)) → Told (GivesAll bytes) left left' → IfSome left IsNoTrace
     no_trace None None told = tt
     no_trace (Some a) (Some b) told = λ lists trace. none refl lists (subst (λ (x : List ℕ). Spells x lists) told.0 trace.0)
     no_trace None (Some b) told = elim told [ ]
     no_trace (Some a) None told = elim told [ ]
-read-cause words bytes left left' before now refused.OutOfMemory replay told none = replay
+read-cause bytes left left' before now refused.OutOfMemory told none = tt
 
 -- a fault that has its cause has its line to write
-pub fault-text : (words : List (List ℕ)) (left : Option (List ℕ)) (before now : ℕ) (f : Fault) → IsCause words left before now f → IsText words left before now (status_of f) (fault_line f)
-fault-text words left before now fault.Usage cause = (cause, refl)
-fault-text words left before now fault.Trace cause = (cause, refl)
-fault-text words left before now fault.Read cause = (cause, refl)
-fault-text words left before now fault.OutOfMemory cause = (cause, refl)
-
--- other words than the one list can only be a fault of usage
-pub fault-usage : (words : List (List ℕ)) (left : Option (List ℕ)) (before now : ℕ) (f : Fault) → IsCause words left before now f → ¬ AreReplay words → status_of f ≡ status.Usage
-fault-usage words left before now fault.Usage cause other = refl
-fault-usage words left before now fault.Trace cause other = absurd (other cause.0)
-fault-usage words left before now fault.Read cause other = absurd (other cause.0)
-fault-usage words left before now fault.OutOfMemory cause other = absurd (other cause)
+pub fault-text : (left : Option (List ℕ)) (before now : ℕ) (f : Fault) → IsCause left before now f → IsText left before now (status_of f) (fault_line f)
+fault-text left before now fault.Trace cause = (cause, refl)
+fault-text left before now fault.Read cause = (cause, refl)
+fault-text left before now fault.OutOfMemory cause = refl
 
 -- where the source counts no fault, a trace meets none but want of memory
-pub fault-trace : (words : List (List ℕ)) (left : Option (List ℕ)) (before now : ℕ) (f : Fault) → IsCause words left before now f → AreReplay words → ¬ Rose before now → IfSome left (λ bytes. (lists : SensorLists) → IsTraceOf bytes lists → status_of f ≡ status.OutOfMemory)
-fault-trace words None before now f cause replay quiet = tt
-fault-trace words (Some bytes) before now fault.Usage cause replay quiet = absurd (cause replay)
-fault-trace words (Some bytes) before now fault.Trace cause replay quiet = λ lists trace. absurd (cause.1 lists trace)
-fault-trace words (Some bytes) before now fault.Read cause replay quiet = absurd (quiet cause.1)
-fault-trace words (Some bytes) before now fault.OutOfMemory cause replay quiet = λ lists trace. refl
+pub fault-trace : (left : Option (List ℕ)) (before now : ℕ) (f : Fault) → IsCause left before now f → ¬ Rose before now → IfSome left (λ bytes. (lists : SensorLists) → IsTraceOf bytes lists → status_of f ≡ status.OutOfMemory)
+fault-trace None before now f cause quiet = tt
+fault-trace (Some bytes) before now fault.Trace cause quiet = λ lists trace. absurd (cause lists trace)
+fault-trace (Some bytes) before now fault.Read cause quiet = absurd (quiet cause)
+fault-trace (Some bytes) before now fault.OutOfMemory cause quiet = λ lists trace. refl
 
 -- and what is no trace meets no other than that of the trace
-pub fault-no_trace : (words : List (List ℕ)) (left : Option (List ℕ)) (before now : ℕ) (f : Fault) → IsCause words left before now f → AreReplay words → ¬ Rose before now → (status_of f ≡ status.Trace) ⊎ (status_of f ≡ status.OutOfMemory)
-fault-no_trace words left before now fault.Usage cause replay quiet = absurd (cause replay)
-fault-no_trace words left before now fault.Trace cause replay quiet = inl refl
-fault-no_trace words left before now fault.Read cause replay quiet = absurd (quiet cause.1)
-fault-no_trace words left before now fault.OutOfMemory cause replay quiet = inr refl
+pub fault-no_trace : (left : Option (List ℕ)) (before now : ℕ) (f : Fault) → IsCause left before now f → ¬ Rose before now → (status_of f ≡ status.Trace) ⊎ (status_of f ≡ status.OutOfMemory)
+fault-no_trace left before now fault.Trace cause quiet = inl refl
+fault-no_trace left before now fault.Read cause quiet = absurd (quiet cause)
+fault-no_trace left before now fault.OutOfMemory cause quiet = inr refl
 
 pub status_of-not_write : (f : Fault) → status_of f ≢ status.WriteFault
-status_of-not_write fault.Usage = λ e. cc
 status_of-not_write fault.Trace = λ e. cc
 status_of-not_write fault.Read = λ e. cc
 status_of-not_write fault.OutOfMemory = λ e. cc

@@ -7,18 +7,16 @@ use Rattle.edr_cli.specs.declared.reader.ReadRefused.TheVariants as refused
 use Rattle.edr_cli.specs.declared.status.Status.{Status}
 use Rattle.edr_cli.specs.declared.status.Status.TheVariants as status
 use Rattle.edr_cli.specs.declared.faults.Fault.{Fault}
-use Rattle.edr_cli.specs.declared.faults.Fault.TheVariants.{Usage, Trace, Read, OutOfMemory}
+use Rattle.edr_cli.specs.declared.faults.Fault.TheVariants.{Trace, Read, OutOfMemory}
 
 -- the line that tells of a fault
 abbrev pub fault_line : Fault → List ℕ
-fault_line Usage = codes "fault: usage\n"
 fault_line Trace = codes "fault: trace unread\n"
 fault_line Read = codes "fault: read fault\n"
 fault_line OutOfMemory = codes "fault: out of memory\n"
 
 -- the status of a run that ends with that fault
 abbrev pub status_of : Fault → Status
-status_of Usage = status.Usage
 status_of Trace = status.Trace
 status_of Read = status.ReadFault
 status_of OutOfMemory = status.OutOfMemory

@@ -5,5 +5,7 @@ pub mod Steps
 pub mod Events
 pub mod Faults
 pub mod Runs
+pub mod Words
+pub mod Formats
 pub mod Told
 pub mod Replay

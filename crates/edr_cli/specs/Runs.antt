@@ -1,12 +1,12 @@
--- What a run writes, and why.
-use Rattle.std.specs.Prelude.{◌≡◌, ◌≤◌, ℕ, [], ◌∷◌, List, length, map, codes, Option, IfSome}
+-- What the run of a trace writes, and why.
+use Rattle.std.specs.Prelude.{◌≡◌, ◌≤◌, ℕ, [], List, length, map, Option, IfSome}
 use Rattle.edr_items.specs.SensorLists.{SensorLists, horizon_of}
 use Rattle.edr_definitions.specs.Signals.{signals_of}
 use Rattle.edr_definitions.specs.Selection.{events}
 use Rattle.edr_detect.specs.declared.Selected.{Selected}
 use Rattle.edr_detect.specs.Selected.{answer_of}
 use Rattle.edr_device.specs.Faults.{Rose}
-use Rattle.edr_cli.specs.declared.runs.TheConstants.{LONGEST_TRACE}
+use Rattle.edr_cli.specs.declared.traces.TheConstants.{LONGEST_TRACE}
 use Rattle.edr_cli.specs.declared.faults.Fault.{Fault}
 use Rattle.edr_cli.specs.declared.faults.Fault.TheVariants as fault
 use Rattle.edr_cli.specs.declared.status.Status.{Status}
@@ -14,10 +14,6 @@ use Rattle.edr_cli.specs.declared.status.Status.TheVariants as status
 use Rattle.edr_cli.specs.Events.{events_text}
 use Rattle.edr_cli.specs.Faults.{fault_line}
 use Rattle.edr_cli.specs.Trace.{Spells}
-
--- the one list of words that is served
-abbrev pub AreReplay : List (List ℕ) → Type 0
-AreReplay words = words ≡ codes "replay" ∷ []
 
 -- the bytes are the trace of these lists, and no more than a trace may have
 abbrev pub IsTraceOf : List ℕ → SensorLists → Type 0
@@ -43,18 +39,19 @@ IsAtEnd left = IfSome left (λ bytes. bytes ≡ [])
 abbrev pub HasText : Option (List ℕ) → List ℕ → Type 0
 HasText left text = IfSome left (λ bytes. (lists : SensorLists) × IsTraceOf bytes lists × (text ≡ cycle_text lists))
 
--- why a run ends with that fault: by its words, by what was left of its source, and by the source's count before and after
-abbrev pub IsCause : List (List ℕ) → Option (List ℕ) → ℕ → ℕ → Fault → Type 0
-IsCause words left before now fault.Usage = ¬ AreReplay words
-IsCause words left before now fault.Trace = AreReplay words × IfSome left IsNoTrace
-IsCause words left before now fault.Read = AreReplay words × Rose before now
-IsCause words left before now fault.OutOfMemory = AreReplay words
+-- why the run of a trace ends with that fault: by what was left of its source, and by the source's count before and after
+abbrev pub IsCause : Option (List ℕ) → ℕ → ℕ → Fault → Type 0
+IsCause left before now fault.Trace = IfSome left IsNoTrace
+IsCause left before now fault.Read = Rose before now
+IsCause left before now fault.OutOfMemory = Unit {0}
 
 -- a run that ends with this status has this text to write: the cycle's, or the line of a fault that has its cause
-abbrev pub IsText : List (List ℕ) → Option (List ℕ) → ℕ → ℕ → Status → List ℕ → Type 0
-IsText words left before now status.Ok text = AreReplay words × HasText left text
-IsText words left before now status.Usage text = IsCause words left before now fault.Usage × (text ≡ fault_line fault.Usage)
-IsText words left before now status.Trace text = IsCause words left before now fault.Trace × (text ≡ fault_line fault.Trace)
-IsText words left before now status.ReadFault text = IsCause words left before now fault.Read × (text ≡ fault_line fault.Read)
-IsText words left before now status.OutOfMemory text = IsCause words left before now fault.OutOfMemory × (text ≡ fault_line fault.OutOfMemory)
-IsText words left before now status.WriteFault text = ⊥
+abbrev pub IsText : Option (List ℕ) → ℕ → ℕ → Status → List ℕ → Type 0
+IsText left before now status.Ok text = HasText left text
+IsText left before now status.Trace text = IsCause left before now fault.Trace × (text ≡ fault_line fault.Trace)
+IsText left before now status.ReadFault text = IsCause left before now fault.Read × (text ≡ fault_line fault.Read)
+IsText left before now status.OutOfMemory text = text ≡ fault_line fault.OutOfMemory
+IsText left before now status.Usage text = ⊥
+IsText left before now status.WriteFault text = ⊥
+IsText left before now status.StoreFault text = ⊥
+IsText left before now status.Image text = ⊥

@@ -1,7 +1,7 @@
 -- The numbers that stand for the ways a run ends.
 use Rattle.std.specs.Prelude.{ℕ}
 use Rattle.edr_cli.specs.declared.status.Status.{Status}
-use Rattle.edr_cli.specs.declared.status.Status.TheVariants.{Ok, Usage, Trace, ReadFault, WriteFault, OutOfMemory}
+use Rattle.edr_cli.specs.declared.status.Status.TheVariants.{Ok, Usage, Trace, ReadFault, WriteFault, StoreFault, Image, OutOfMemory}
 
 -- the exit status
 abbrev pub number_of : Status → ℕ
@@ -10,4 +10,6 @@ number_of Usage = 2
 number_of Trace = 3
 number_of ReadFault = 4
 number_of WriteFault = 5
+number_of StoreFault = 6
+number_of Image = 7
 number_of OutOfMemory = 9

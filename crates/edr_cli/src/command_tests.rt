@@ -1,8 +1,8 @@
-//! Whole runs over sources and sinks in memory.
+//! Whole runs over sources, sinks and devices in memory.
 ghost use Rattle.std.specs.Prelude.{◌≤◌};
 
 use crate::{Status, Words, command};
-use edr_device::{MemSink, MemSource};
+use edr_device::{MemNvm, MemSink, MemSource};
 use std::alloc::{AllocError, Global};
 use std::process::Abort;
 use std::test::Fail;
@@ -38,6 +38,12 @@ struct Wanted<'a> {
     bytes: &'a [u8],
 }
 
+// A memory with this image, in which a changing call of that number fails.
+fn memory_of(alloc: Global, image: &[u8], fails: u32) -> Result<MemNvm, AllocError> {
+    let fails = [fails].to_vec(alloc)?;
+    MemNvm::new(alloc, image.to_vec(alloc)?, 100, fails, Vec::new(alloc), 0)
+}
+
 fn check_run<R: Abort + AllocGlobal>(
     rt: &R,
     texts: &[&str],
@@ -52,7 +58,8 @@ fn check_run<R: Abort + AllocGlobal>(
     let mut source = MemSource::new(input.bytes.to_vec(rt.alloc())?, input.piece, fails);
     let fails = [wanted.fails].to_vec(rt.alloc())?;
     let mut sink = MemSink::new(rt.alloc(), 1000, wanted.piece, fails)?;
-    let status = command(rt.alloc(), &words, &mut source, &mut sink);
+    let mut memory = memory_of(rt.alloc(), &[], 0)?;
+    let status = command(rt.alloc(), &words, &mut source, &mut sink, &mut memory);
     assert_eq!(rt; status, wanted.status);
     assert!(rt; sink.bytes() == wanted.bytes, "at {status:?}");
     Ok(())
@@ -86,7 +93,13 @@ fn each_status_has_its_bytes(rt: HostRuntime) -> Result<(), Fail> {
     check_run(&rt, &["replay"], empty, expect(Status::Ok, b""))?;
     let usage = expect(Status::Usage, b"fault: usage\n");
     check_run(&rt, &[], whole(TRACE), usage)?;
-    check_run(&rt, &["replay", "text"], whole(TRACE), usage)?;
+    check_run(
+        &rt,
+        &["replay", "text"],
+        whole(TRACE),
+        expect(Status::Ok, TEXT),
+    )?;
+    check_run(&rt, &["replay", "xml"], whole(TRACE), usage)?;
     check_run(&rt, &["Replay"], whole(TRACE), usage)?;
     let speed = whole(b"on,0,\nspeed,100,50\ncut,0,\n");
     check_run(&rt, &["replay"], speed, expect(Status::Ok, b""))?;
@@ -99,6 +112,8 @@ fn each_status_has_its_bytes(rt: HostRuntime) -> Result<(), Fail> {
         (Status::Trace, 3),
         (Status::ReadFault, 4),
         (Status::WriteFault, 5),
+        (Status::StoreFault, 6),
+        (Status::Image, 7),
         (Status::OutOfMemory, 9),
     ];
     for (status, code) in codes {
@@ -173,7 +188,7 @@ fn a_sink_that_fails_at_any_call_holds_a_prefix(rt: HostRuntime) -> Result<(), F
             status,
             bytes,
         };
-        check_run(&rt, &["report"], whole(TRACE), output)?;
+        check_run(&rt, &["drive"], whole(TRACE), output)?;
     }
     Ok(())
 }
@@ -326,4 +341,67 @@ fn the_order_of_arrival_makes_no_difference(rt: HostRuntime) -> Result<(), Fail>
     ];
     let shuffled = interleaved(rt.alloc(), &shuffle)?;
     check_run(&rt, &["replay"], whole(shuffled.as_bytes()), wanted)
+}
+
+// ---- format
+
+// The status of `format 2 keep`, and what the sink holds then.
+fn check_format<R: Abort + AllocGlobal>(
+    rt: &R,
+    memory: &mut MemNvm,
+    wanted: Wanted<'_>,
+) -> Result<(), Fail>
+    requires { 1 ≤ wanted.piece }
+{
+    let words = words_of(rt.alloc(), &["format", "2", "keep"])?;
+    let mut source = MemSource::new(Vec::new(rt.alloc()), 1, [1].to_vec(rt.alloc())?);
+    let fails = [wanted.fails].to_vec(rt.alloc())?;
+    let mut sink = MemSink::new(rt.alloc(), 1000, wanted.piece, fails)?;
+    let status = command(rt.alloc(), &words, &mut source, &mut sink, memory);
+    assert_eq!(rt; status, wanted.status);
+    assert!(rt; sink.bytes() == wanted.bytes, "at {status:?}");
+    Ok(())
+}
+
+const FORMATTED: &[u8] = b"formatted: 2 banks, keep\n";
+
+#[test]
+fn a_memory_of_zeros_is_formatted_once(rt: HostRuntime) -> Result<(), Fail> {
+    let mut memory = memory_of(rt.alloc(), &[0; 1130], 0)?;
+    check_format(&rt, &mut memory, expect(Status::Ok, FORMATTED))?;
+    assert_eq!(rt;
+        &memory.image()[..12],
+        b"EDRIMAGE\x00\x01\x02\x00".as_slice()
+    );
+    assert!(rt; memory.image()[12..].iter().all(|byte| *byte == 0));
+    let before = memory.image().to_vec(rt.alloc())?;
+    let twice = expect(Status::Image, b"fault: image formatted\n");
+    check_format(&rt, &mut memory, twice)?;
+    assert!(rt; memory.image() == before.as_slice());
+    let mut short = memory_of(rt.alloc(), &[0; 95], 0)?;
+    let told = expect(Status::Image, b"fault: image short 95 of 1120\n");
+    check_format(&rt, &mut short, told)
+}
+
+// The barrier is changing call 1; then come three writes and a sync, and byte 0 with its sync.
+#[test]
+fn a_memory_that_fails_at_any_call_is_told(rt: HostRuntime) -> Result<(), Fail> {
+    for fails in 1..8u32 {
+        let mut memory = memory_of(rt.alloc(), &[0; 1120], fails)?;
+        let told = expect(Status::StoreFault, b"fault: store fault\n");
+        check_format(&rt, &mut memory, told)?;
+        assert!(rt; memory.image()[0] == 0 || fails == 7);
+    }
+    let mut memory = memory_of(rt.alloc(), &[0; 1120], 8)?;
+    check_format(&rt, &mut memory, expect(Status::Ok, FORMATTED))?;
+    let mut memory = memory_of(rt.alloc(), &[0; 1120], 0)?;
+    let cut = Wanted {
+        piece: 10,
+        fails: 2,
+        status: Status::WriteFault,
+        bytes: &FORMATTED[..10],
+    };
+    check_format(&rt, &mut memory, cut)?;
+    assert_eq!(rt; memory.image()[0], b'E');
+    Ok(())
 }

@@ -1,4 +1,4 @@
-//! Why a run has no text.
+//! Why the run of a trace has no text.
 ghost use Rattle.std.specs.Prelude.{◌≡◌};
 ghost use Rattle.edr_cli.specs.Faults.{fault_line, status_of};
 
@@ -7,11 +7,9 @@ use crate::status::Status;
 use edr_device::TakeFault;
 use std::alloc::AllocError;
 
-/// Why a run ends without its text.
+/// Why the run of a trace ends without its text.
 #[derive(Clone, Copy, Debug, PartialEq, Eq)]
 pub enum Fault {
-    /// The words are none of this program.
-    Usage,
     /// The bytes are no trace, or are more than a trace may have.
     Trace,
     /// The source failed.
@@ -25,7 +23,6 @@ impl Fault {
         ensures { result.now ≡ fault_line self.now }
     {
         match self {
-            Fault::Usage => b"fault: usage\n",
             Fault::Trace => b"fault: trace unread\n",
             Fault::Read => b"fault: read fault\n",
             Fault::OutOfMemory => b"fault: out of memory\n",
@@ -37,7 +34,6 @@ impl Fault {
         ensures { result ≡ status_of self.now }
     {
         match self {
-            Fault::Usage => Status::Usage,
             Fault::Trace => Status::Trace,
             Fault::Read => Status::ReadFault,
             Fault::OutOfMemory => Status::OutOfMemory,

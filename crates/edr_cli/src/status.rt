@@ -15,12 +15,16 @@ pub enum Status {
     ReadFault,
     /// The sink failed.
     WriteFault,
+    /// The memory of the records failed.
+    StoreFault,
+    /// The memory is too short for the image, or has one already.
+    Image,
     /// There was not enough memory.
     OutOfMemory,
 }
 
 impl Status {
-    /// The exit status: 0, 2, 3, 4, 5 or 9.
+    /// The exit status: 0, 2, 3, 4, 5, 6, 7 or 9.
     pub fn code(&self) -> u8
         ensures { result ≡ number_of self.now }
     {
@@ -30,6 +34,8 @@ impl Status {
             Status::Trace => 3,
             Status::ReadFault => 4,
             Status::WriteFault => 5,
+            Status::StoreFault => 6,
+            Status::Image => 7,
             Status::OutOfMemory => 9,
         }
     }

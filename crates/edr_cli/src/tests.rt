@@ -143,7 +143,6 @@ fn an_event_has_four_lines(rt: HostRuntime) {
 
 #[test]
 fn each_fault_has_its_line(rt: HostRuntime) {
-    assert!(rt; Fault::Usage.line() == b"fault: usage\n".as_slice());
     assert!(rt; Fault::Trace.line() == b"fault: trace unread\n".as_slice());
     assert!(rt; Fault::Read.line() == b"fault: read fault\n".as_slice());
     assert!(rt; Fault::OutOfMemory.line() == b"fault: out of memory\n".as_slice());

@@ -1,5 +1,5 @@
 -- Which words name which job.
-use Rattle.std.specs.Prelude.{ℕ, nat_le, ◌&&◌, if◌then◌else◌, Option, Some, None, List, [], ◌∷◌, bytes_eq, codes}
+use Rattle.std.specs.Prelude.{ℕ, ◌≤◌, nat_le, ◌&&◌, if◌then◌else◌, Option, Some, None, List, [], ◌∷◌, bytes_eq, codes}
 use Rattle.edr_text.specs.Numbers.{natural_in}
 use Rattle.edr_image.specs.declared.Choice.{Choice}
 use Rattle.edr_image.specs.declared.Choice.TheVariants.{Keep, Overwrite}
@@ -66,3 +66,9 @@ job_of (word ∷ []) = plain_job word
 job_of (word ∷ form ∷ []) = formed_job word form
 job_of (word ∷ banks ∷ choice ∷ []) = format_job word banks choice
 job_of (first ∷ second ∷ third ∷ fourth ∷ more) = None
+
+-- an image that is asked for has 2 to 16 banks
+abbrev pub IsWithin : Job → Type 0
+IsWithin (Format banks choice) = (2 ≤ banks) × (banks ≤ 16)
+IsWithin (Replay form) = Unit {0}
+IsWithin (Report form) = Unit {0}

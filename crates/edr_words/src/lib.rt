@@ -5,8 +5,8 @@
 mod tests;
 mod words;
 
-ghost use Rattle.std.specs.Prelude.{◌≡◌};
-ghost use Rattle.edr_words.specs.Jobs.{form_in, choice_in, banks_in, plain_job, formed_job, format_job};
+ghost use Rattle.std.specs.Prelude.{◌≡◌, ◌≤◌, IfSome};
+ghost use Rattle.edr_words.specs.Jobs.{form_in, choice_in, banks_in, plain_job, formed_job, format_job, IsWithin};
 
 pub use edr_image::Choice;
 use edr_text::read_u32;
@@ -59,7 +59,8 @@ fn choice_in(word: &str) -> Option<Choice>
 // The number of banks that a word spells, if an image may have so many.
 #[tactic(auto, unfolding(crate::specs::Jobs::banks_in))]
 fn banks_in(word: &str) -> Option<u8>
-    ensures { result ≡ banks_in word.now }
+    ensures value { result ≡ banks_in word.now }
+    ensures within { IfSome result (λ n. (2 ≤ n) × (n ≤ 16)) }
 {
     match read_u32(word.as_bytes()) {
         Ok(banks) if 2 <= banks && banks <= 16 => Some(banks as u8),
@@ -70,7 +71,8 @@ fn banks_in(word: &str) -> Option<u8>
 // The job of one word.
 #[tactic(auto, unfolding(crate::specs::Jobs::plain_job))]
 fn plain_job(word: &str) -> Option<Job>
-    ensures { result ≡ plain_job word.now }
+    ensures value { result ≡ plain_job word.now }
+    ensures within { IfSome result IsWithin }
 {
     match word {
         "replay" => Some(Job::Replay { form: Form::Text }),
@@ -82,7 +84,8 @@ fn plain_job(word: &str) -> Option<Job>
 // The job of a word with a form.
 #[tactic(auto, unfolding(crate::specs::Jobs::formed_job))]
 fn formed_job(word: &str, form: &str) -> Option<Job>
-    ensures { result ≡ formed_job word.now form.now }
+    ensures value { result ≡ formed_job word.now form.now }
+    ensures within { IfSome result IsWithin }
 {
     let form = form_in(form)?;
     match word {
@@ -95,7 +98,8 @@ fn formed_job(word: &str, form: &str) -> Option<Job>
 // The job of three words.
 #[tactic(auto, unfolding(crate::specs::Jobs::format_job))]
 fn format_job(word: &str, banks: &str, choice: &str) -> Option<Job>
-    ensures { result ≡ format_job word.now banks.now choice.now }
+    ensures value { result ≡ format_job word.now banks.now choice.now }
+    ensures within { IfSome result IsWithin }
 {
     if word != "format" {
         return None;

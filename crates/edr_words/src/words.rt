@@ -1,6 +1,6 @@
 //! The words of a command line.
-ghost use Rattle.std.specs.Prelude.{◌≡◌, ℕ, List, [], ◌∷◌, ◌++◌, OnOk, OnErr};
-ghost use Rattle.edr_words.specs.Jobs.{job_of};
+ghost use Rattle.std.specs.Prelude.{◌≡◌, ℕ, List, [], ◌∷◌, ◌++◌, OnOk, OnErr, IfSome};
+ghost use Rattle.edr_words.specs.Jobs.{job_of, IsWithin};
 
 use crate::{Job, format_job, formed_job, plain_job};
 use std::alloc::{AllocError as OutOfMemory, Global};
@@ -49,7 +49,8 @@ impl Words {
     /// assert_eq!(words.job(), Some(Job::Replay { form: Form::Table }));
     /// ```
     pub fn job(&self) -> Option<Job>
-        ensures { result ≡ job_of self.now }
+        ensures value { result ≡ job_of self.now }
+        ensures within { IfSome result IsWithin }
     {
         match self.words.as_slice() {
             [word] => plain_job(word.as_str()),

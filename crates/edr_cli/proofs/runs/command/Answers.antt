@@ -1,20 +1,39 @@
-use Rattle.std.proofs.Common.{◌≡◌, ◌∙◌, ◌⊎◌, inl, inr}
+use Rattle.std.proofs.Common.{◌≡◌, ◌∙◌, ⊎_elim, inl, inr, sym, subst, ap, ℕ, List, Option, Some}
+use Rattle.edr_image.specs.declared.Header.{Header}
+use Rattle.edr_device.specs.Told.{Told}
+use Rattle.edr_device.specs.Stream.{Appends}
+use Rattle.edr_device.specs.Transfer.{AppendsPart}
+use Rattle.edr_banks.specs.Formatting.{IsPartlyFormatted}
+use Rattle.edr_words.specs.declared.Job.{Job}
 use Rattle.edr_cli.specs.declared.status.Status.{Status}
 use Rattle.edr_cli.specs.declared.status.Status.TheVariants as status
-use Rattle.edr_cli.proofs.RunLemmas.{fault-trace, text-no_trace, IfSome-lists}
-use Rattle.edr_cli.specs.Faults.{status_of}
+use Rattle.edr_cli.specs.Words.{AreFormat}
+use Rattle.edr_cli.proofs.FormatLemmas.{same_header}
 use Rattle.edr_cli.proofs.runs.command.Goals as goal
 
-pub returns-in-Ok-clause-no_trace : goal.returns-in-Ok-clause-no_trace
-returns-in-Ok-clause-no_trace g c = λ replay quiet_source quiet_sink. text-no_trace _ (g.S.Source.left c.args.source.now) _ c.in-Ok.ensures.text.1
+pub returns-in-Some-Format-clause-usage : goal.returns-in-Some-Format-clause-usage
+returns-in-Some-Format-clause-usage g c = λ other.
+    let is : AreFormat (record { banks = c.in-Some-Format.banks; choice = c.in-Some-Format.choice }) c.args.words.now = sym c.in-Some-Format.ensures.value ∙ ap (λ (j : Job). Some j) c.in-Some-Format.field-0-is in
+    absurd (other.1 _ is)
 
--- a status that is not the one of a failed write
-written : {s t : Status} → (s ≡ t) ⊎ (s ≡ status.WriteFault) → (s ≡ status.WriteFault → ⊥) → s ≡ t
-written (inl same) no_fault = same
-written (inr failed) no_fault = absurd (no_fault failed)
+pub returns-in-Some-Format-clause-untouched : goal.returns-in-Some-Format-clause-untouched
+returns-in-Some-Format-clause-untouched g c = λ other.
+    let is : AreFormat (record { banks = c.in-Some-Format.banks; choice = c.in-Some-Format.choice }) c.args.words.now = sym c.in-Some-Format.ensures.value ∙ ap (λ (j : Job). Some j) c.in-Some-Format.field-0-is in
+    absurd (other.1 _ is)
 
-pub returns-in-Err-clause-trace : goal.returns-in-Err-clause-trace
-returns-in-Err-clause-trace g c = λ replay quiet_source quiet_sink.
-    let answers : c.write-in-Err.result ≡ c.status.result = written c.write-in-Err.ensures.answers (λ e. quiet_sink (c.write-in-Err.ensures.part e).1) in
-    let only = fault-trace c.args.words.now (g.S.Source.left c.args.source.now) _ _ c.in-Err.fault c.in-Err.ensures.cause replay quiet_source in
-    IfSome-lists (status_of c.in-Err.fault ≡ status.OutOfMemory) _ (g.S.Source.left c.args.source.now) (λ e. inr (answers ∙ c.status.ensures ∙ e)) only
+pub returns-in-Some-Format-clause-format_crash : goal.returns-in-Some-Format-clause-format_crash
+returns-in-Some-Format-clause-format_crash g c = λ h bytes image asked quiet left.
+    let is : AreFormat (record { banks = c.in-Some-Format.banks; choice = c.in-Some-Format.choice }) c.args.words.now = sym c.in-Some-Format.ensures.value ∙ ap (λ (j : Job). Some j) c.in-Some-Format.field-0-is in
+    subst (λ (k : Header). IsPartlyFormatted k bytes image) (same_header c.args.words.now _ h is asked) (c.format_image.ensures.crash bytes image quiet left)
+
+pub returns-in_default-clause-usage : goal.returns-in_default-clause-usage
+returns-in_default-clause-usage g c = λ other.
+    let K = g.K.Sink in
+    let line = c.as_bytes.ensures ∙ c.line.ensures in
+    ⊎_elim
+    (λ (same : c.write.result ≡ status.Usage). inl (same, subst (λ (text : List ℕ). Told (Appends text) (K.content c.args.sink.now) (K.content c.write.new.sink)) line (c.write.ensures.whole (λ e. different (sym same ∙ e))).1))
+    (λ (failed : c.write.result ≡ status.WriteFault). inr (failed, subst (λ (text : List ℕ). Told (AppendsPart text) (K.content c.args.sink.now) (K.content c.write.new.sink)) line (c.write.ensures.part failed).0))
+    c.write.ensures.answers
+  where
+    different : ◌≡◌ {A = Status} status.Usage status.WriteFault → ⊥
+    different e = cc

@@ -1,0 +1,191 @@
+//! The file `edr.nvm` as the memory of the records: the edge that is trusted and not proved, since no contract can say what
+//! a file keeps.
+ghost use Rattle.std.specs.Prelude.{◌≡◌, ◌+◌, ◌≤◌, ◌<◌, ◌^◌, length, IsErr, OnErr};
+ghost use Rattle.edr_device.specs.Device.{Ticks};
+ghost use Rattle.edr_device.specs.Faults.{HasCause, last_number, next_number};
+
+use edr_device::{Failed, Nvm};
+use std::fs::{Files, OpenFile, OpenOptions};
+use std::io::{Read, Result as IoResult, Seek, SeekFrom, Write};
+
+/// The name of the file.
+const NAME: &str = "edr.nvm";
+
+/// As many bytes as a file has that is made.
+const NEW_SIZE: usize = 16_480;
+
+/// The longest piece that is read at once.
+const LONGEST_READ: usize = 512;
+
+/// A memory in a file, which counts what fails. It tells no bytes. Where the file can't be opened or made it has the size 0,
+/// and each of its calls fails.
+#[derive(Drop)]
+pub struct FileNvm<F> {
+    file: Option<F>,
+    size: u32,
+    clock: u64,
+    last_good: u64,
+    faults: u64,
+    ghost fits: { size < 2 ^ 32 },
+    ghost clock_within: { clock ≤ last_number },
+    ghost good: { last_good ≤ clock },
+    ghost faults_within: { faults ≤ last_number },
+}
+
+// Opens the file, and makes it with zeros where it is missing.
+fn open_or_make<R: Files>(files: &R) -> IoResult<R::File> {
+    let mut how = OpenOptions::new();
+    how.read(true).write(true);
+    if let Ok(file) = how.open(files, NAME) {
+        return Ok(file);
+    }
+    let mut file = how.create_new(true).open(files, NAME)?;
+    file.write_all(&[0; NEW_SIZE])?;
+    file.sync_all()?;
+    Ok(file)
+}
+
+// How long the file is, at most as long as an offset can be.
+fn size_of<F: OpenFile>(file: &F) -> IoResult<u32> {
+    let len = file.metadata()?.len();
+    Ok(len.min(u64::from(u32::MAX)) as u32)
+}
+
+fn read_at<F: Read + Seek>(file: &mut F, at: u32, into: &mut [u8]) -> IoResult<()> {
+    file.seek(SeekFrom::Start(u64::from(at)))?;
+    file.read_exact(into)
+}
+
+fn write_at<F: Write + Seek>(file: &mut F, at: u32, bytes: &[u8]) -> IoResult<()> {
+    file.seek(SeekFrom::Start(u64::from(at)))?;
+    file.write_all(bytes)
+}
+
+impl<F> FileNvm<F> {
+    /// The file of the folder in which the program runs.
+    pub fn open<R: Files<File = F>>(files: &R) -> FileNvm<F>
+    where
+        F: OpenFile + Drop,
+    {
+        let file = open_or_make(files).ok();
+        let size = file.as_ref().and_then(|file| size_of(file).ok());
+        FileNvm {
+            file,
+            size: size.unwrap_or(0),
+            clock: 0,
+            last_good: 0,
+            faults: 0,
+        }
+    }
+
+    fn fail(&mut self) -> Result<(), Failed>
+        ensures fails { IsErr result }
+        ensures counts { self.new.faults ≡ next_number self.old.faults }
+        ensures same { (self.new.size ≡ self.old.size) × (self.new.clock ≡ self.old.clock) × (self.new.last_good ≡ self.old.last_good) }
+    {
+        self.faults = self.faults.saturating_add(1);
+        Err(Failed)
+    }
+
+    // Counts a write or sync with this outcome, which wasn't made where the clock stands at its last number.
+    fn count(&mut self, done: bool) -> Result<(), Failed>
+        ensures size { self.new.size ≡ self.old.size }
+        ensures time { Ticks self.old.clock self.new.clock self.old.last_good self.new.last_good result }
+        ensures full { self.old.clock ≡ last_number → IsErr result }
+        ensures cause { HasCause self.old.faults self.new.faults result }
+    {
+        if self.clock == u64::MAX {
+            return self.fail();
+        }
+        self.clock += 1;
+        if !done {
+            return self.fail();
+        }
+        self.last_good = self.clock;
+        Ok(())
+    }
+}
+
+impl<F: Read + Write + Seek + OpenFile> Nvm for FileNvm<F> {
+    ghost use Rattle.std.specs.Prelude.{None, ⊤, true};
+    ghost use Rattle.std.proofs.lemmas.Option.{none-some};
+
+    ghost extent = { λ a. a.size };
+
+    ghost content = { λ a. None };
+
+    ghost settled = { λ a i. true };
+
+    ghost since = { λ a t image. ⊤ };
+
+    ghost clock = { λ a. a.clock };
+
+    ghost last_good = { λ a. a.last_good };
+
+    ghost faults = { λ a. a.faults };
+
+    ghost goes_on = { λ a b. ⊤ };
+
+    ghost counts_now = { λ a t image le now. tt };
+
+    ghost only_now = { λ a image left. tt };
+
+    ghost sooner = { λ a t u image le within left. tt };
+
+    ghost told_size = { λ a bytes told. absurd (none-some bytes told) };
+
+    ghost extent_fits = { λ a. a.fits };
+
+    ghost clock_fits = { λ a. a.clock_within };
+
+    ghost good_fits = { λ a. a.good };
+
+    ghost faults_fit = { λ a. a.faults_within };
+
+    ghost goes_on_self = { λ a. tt };
+
+    ghost goes_on_again = { λ a b c p q. tt };
+
+    fn size(&self) -> u32 {
+        self.size
+    }
+
+    /// Reads into a place of its own first, so that a read that fails leaves `into`.
+    fn read(&mut self, at: u32, into: &mut [u8]) -> Result<(), Failed> {
+        let mut bytes = [0; LONGEST_READ];
+        let n = into.len();
+        if n > LONGEST_READ {
+            return self.fail();
+        }
+        let read = match &mut self.file {
+            Some(file) => read_at(file, at, &mut bytes[..n]).is_ok(),
+            None => false,
+        };
+        if !read {
+            return self.fail();
+        }
+        into.copy_from_slice(&bytes[..n]);
+        Ok(())
+    }
+
+    fn write(&mut self, at: u32, bytes: &[u8]) -> Result<(), Failed> {
+        let written = match &mut self.file {
+            Some(file) if self.clock < u64::MAX => write_at(file, at, bytes).is_ok(),
+            _ => false,
+        };
+        self.count(written)
+    }
+
+    fn sync(&mut self) -> Result<(), Failed> {
+        let synced = match &self.file {
+            Some(file) if self.clock < u64::MAX => file.sync_all().is_ok(),
+            _ => false,
+        };
+        self.count(synced)
+    }
+
+    /// A file has no power to lose.
+    fn power_cycle(&mut self) -> Result<(), Failed> {
+        Ok(())
+    }
+}

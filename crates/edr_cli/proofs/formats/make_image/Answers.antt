@@ -1,0 +1,28 @@
+use Rattle.std.proofs.Common.{◌∙◌, sym}
+use Rattle.edr_cli.proofs.FormatLemmas.{sync_settles, sync_leaves, still_there}
+use Rattle.edr_cli.proofs.formats.make_image.Goals as goal
+
+pub returns-then-is_err-clause-crash : goal.returns-then-is_err-clause-crash
+returns-then-is_err-clause-crash g c = λ bytes image quiet left.
+    let D = g.N.Nvm in
+    still_there c.args.header bytes image (sync_leaves c.sync.result (D.content c.args.nvm.now) (D.content c.sync.new.self) (D.settled c.args.nvm.now) (D.settled c.sync.new.self) bytes image c.sync.ensures.told (sym c.is_err.ensures.value ∙ c.if-is_err.true) quiet left)
+
+pub returns-in-Ok-clause-made : goal.returns-in-Ok-clause-made
+returns-in-Ok-clause-made g c =
+    let D = g.N.Nvm in (
+      c.format_line-line.ensures,
+      λ bytes told.
+          c.in-Ok.ensures.done bytes (sync_settles c.sync.result (D.content c.args.nvm.now) (D.content c.sync.new.self) (D.settled c.args.nvm.now) (D.settled c.sync.new.self) bytes c.sync.ensures.told (sym c.is_err.ensures.value ∙ c.if-is_err.false) told),
+    )
+
+pub returns-in-Ok-clause-crash : goal.returns-in-Ok-clause-crash
+returns-in-Ok-clause-crash g c = λ bytes image quiet left.
+    let D = g.N.Nvm in
+    let there = sync_settles c.sync.result (D.content c.args.nvm.now) (D.content c.sync.new.self) (D.settled c.args.nvm.now) (D.settled c.sync.new.self) bytes c.sync.ensures.told (sym c.is_err.ensures.value ∙ c.if-is_err.false) quiet.0 in
+    c.format.ensures.each bytes image there (g.met.N.Nvm.counts_now c.format.new.nvm (D.clock c.sync.new.self) image c.format.ensures.later left)
+
+pub returns-in-Err-StoreFault-clause-crash : goal.returns-in-Err-StoreFault-clause-crash
+returns-in-Err-StoreFault-clause-crash g c = λ bytes image quiet left.
+    let D = g.N.Nvm in
+    let there = sync_settles c.sync.result (D.content c.args.nvm.now) (D.content c.sync.new.self) (D.settled c.args.nvm.now) (D.settled c.sync.new.self) bytes c.sync.ensures.told (sym c.is_err.ensures.value ∙ c.if-is_err.false) quiet.0 in
+    c.format.ensures.each bytes image there (g.met.N.Nvm.counts_now c.format.new.nvm (D.clock c.sync.new.self) image c.format.ensures.later left)
