@@ -20,7 +20,17 @@ pub record FuseState : Type 0 where
   pub broken : Bool
 
 abbrev pub fuse_state : {D : Type 0} {g : Ghosts D} → Fused D g → FuseState
-fuse_state f = record { ticks = f.ticks; last_good = f.last_good; faults = f.faults; calm = f.calm; armed = f.armed; armed_at = f.armed_at; spent = f.spent; cut = f.cut; broken = f.broken }
+fuse_state f = record {
+  ticks = f.ticks;
+  last_good = f.last_good;
+  faults = f.faults;
+  calm = f.calm;
+  armed = f.armed;
+  armed_at = f.armed_at;
+  spent = f.spent;
+  cut = f.cut;
+  broken = f.broken;
+}
 
 -- ---- what it tells of the device
 
@@ -68,11 +78,31 @@ IsPassing s = (s.spent ≡ false) × (s.ticks ≢ last_number) × ¬ IsDue s
 -- ---- after a call
 
 abbrev pub new_fuse : FuseState
-new_fuse = record { ticks = 0; last_good = 0; faults = 0; calm = 0; armed = 0; armed_at = 0; spent = false; cut = 0; broken = false }
+new_fuse = record {
+  ticks = 0;
+  last_good = 0;
+  faults = 0;
+  calm = 0;
+  armed = 0;
+  armed_at = 0;
+  spent = false;
+  cut = 0;
+  broken = false;
+}
 
 -- the clock begins anew, and a plan that still waits stays
 abbrev pub lifted : FuseState → FuseState
-lifted s = record { ticks = 0; last_good = 0; faults = s.faults; calm = s.faults; armed = s.armed_at + s.armed - s.ticks; armed_at = 0; spent = false; cut = 0; broken = s.broken }
+lifted s = record {
+  ticks = 0;
+  last_good = 0;
+  faults = s.faults;
+  calm = s.faults;
+  armed = s.armed_at + s.armed - s.ticks;
+  armed_at = 0;
+  spent = false;
+  cut = 0;
+  broken = s.broken;
+}
 
 -- a read or a power cycle that was passed on, and one that was refused
 abbrev pub after_pass : Bool → FuseState → FuseState
@@ -83,7 +113,10 @@ after_refusal s = record s { faults = next_number s.faults }
 
 -- the same of a write or sync, which the clock counts
 abbrev pub after_change : Bool → FuseState → FuseState
-after_change succeeded s = if succeeded then record s { ticks = s.ticks + 1; last_good = s.ticks + 1 } else record s { ticks = s.ticks + 1; faults = next_number s.faults; broken = true }
+after_change succeeded s =
+    if succeeded
+    then record s { ticks = s.ticks + 1; last_good = s.ticks + 1 }
+    else record s { ticks = s.ticks + 1; faults = next_number s.faults; broken = true }
 
 abbrev pub after_refused_change : FuseState → FuseState
 after_refused_change s = record s { ticks = next_number s.ticks; faults = next_number s.faults }

@@ -14,3 +14,4 @@ pub mod Memory
 pub mod Order
 pub mod Fuse
 pub mod FuseState
+pub mod FuseLaws

@@ -26,7 +26,19 @@ pub record MemoryState : Type 0 where
   pub faults : ℕ
 
 abbrev pub memory_state : MemNvm → MemoryState
-memory_state m = record { image = m.state.image.items; settled = m.state.settled.items; stored = m.stored.items; calls = m.calls; fails = m.fails.items; read_fails = m.read_fails.items; pick = m.pick; clock = m.clock; last_good = m.last_good; reads = m.reads; faults = m.faults }
+memory_state m = record {
+  image = m.state.image.items;
+  settled = m.state.settled.items;
+  stored = m.stored.items;
+  calls = m.calls;
+  fails = m.fails.items;
+  read_fails = m.read_fails.items;
+  pick = m.pick;
+  clock = m.clock;
+  last_good = m.last_good;
+  reads = m.reads;
+  faults = m.faults;
+}
 
 abbrev pub memory_image : MemNvm → List ℕ
 memory_image m = m.state.image.items
@@ -34,7 +46,19 @@ memory_image m = m.state.image.items
 -- ---- what a call changes
 
 abbrev pub new_memory : List ℕ → ℕ → List ℕ → List ℕ → ℕ → MemoryState
-new_memory image calls fails read_fails pick = record { image = image; settled = replicate (length image) true; stored = image; calls = calls; fails = fails; read_fails = read_fails; pick = pick; clock = 0; last_good = 0; reads = 0; faults = 0 }
+new_memory image calls fails read_fails pick = record {
+  image = image;
+  settled = replicate (length image) true;
+  stored = image;
+  calls = calls;
+  fails = fails;
+  read_fails = read_fails;
+  pick = pick;
+  clock = 0;
+  last_good = 0;
+  reads = 0;
+  faults = 0;
+}
 
 -- the next write or sync fails: none is left, or it is numbered
 abbrev pub ChangeFails : MemoryState → Type 0
@@ -51,13 +75,21 @@ abbrev pub after_failed_change : MemoryState → MemoryState
 after_failed_change s = record s { clock = next_number s.clock; faults = next_number s.faults }
 
 abbrev pub after_write : Bool → ℕ → List ℕ → MemoryState → MemoryState
-after_write succeeded at piece s = if succeeded then record s { clock = s.clock + 1; last_good = s.clock + 1; image = put_at at piece s.image; settled = put_at at (replicate (length piece) false) s.settled } else after_failed_change s
+after_write succeeded at piece s =
+    if succeeded
+    then record s { clock = s.clock + 1; last_good = s.clock + 1; image = put_at at piece s.image; settled = put_at at (replicate (length piece) false) s.settled }
+    else after_failed_change s
 
 abbrev pub after_sync : Bool → MemoryState → MemoryState
-after_sync succeeded s = if succeeded then record s { clock = s.clock + 1; last_good = s.clock + 1; settled = replicate (length s.image) true; stored = s.image } else after_failed_change s
+after_sync succeeded s =
+    if succeeded
+    then record s { clock = s.clock + 1; last_good = s.clock + 1; settled = replicate (length s.image) true; stored = s.image }
+    else after_failed_change s
 
 abbrev pub after_power_cycle : MemoryState → MemoryState
-after_power_cycle s = let image = image_after s.pick s.settled s.stored s.image in record s { image = image; settled = replicate (length s.image) true; stored = image }
+after_power_cycle s =
+    let image = image_after s.pick s.settled s.stored s.image in
+    record s { image = image; settled = replicate (length s.image) true; stored = image }
 
 -- what was chosen when it was made stays
 pub record SameChoices (old new : MemNvm) : Type 0 where
@@ -67,10 +99,20 @@ pub record SameChoices (old new : MemNvm) : Type 0 where
   pub pick : new.pick ≡ old.pick
 
 pub same_choices_self : (m : MemNvm) → SameChoices m m
-same_choices_self m = record { calls = refl; fails = refl; read_fails = refl; pick = refl }
+same_choices_self m = record {
+  calls = refl;
+  fails = refl;
+  read_fails = refl;
+  pick = refl;
+}
 
 pub same_choices_again : (a b c : MemNvm) → SameChoices a b → SameChoices b c → SameChoices a c
-same_choices_again a b c p q = record { calls = q.calls ∙ p.calls; fails = q.fails ∙ p.fails; read_fails = q.read_fails ∙ p.read_fails; pick = q.pick ∙ p.pick }
+same_choices_again a b c p q = record {
+  calls = q.calls ∙ p.calls;
+  fails = q.fails ∙ p.fails;
+  read_fails = q.read_fails ∙ p.read_fails;
+  pick = q.pick ∙ p.pick;
+}
 
 -- ---- what it tells as a device
 

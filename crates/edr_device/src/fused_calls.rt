@@ -92,14 +92,7 @@ impl<'a, N: Nvm> Fused<'a, N> {
     /// became of the device.
     pub fn end(self)
         ensures { self.exit.0.now ≡ self.entry.nvm.now }
-    {
-        let Fused {
-            nvm: _nvm,
-            start: _start,
-            middle: _middle,
-            ..
-        } = self;
-    }
+    {}
 
     // Whether the next write or sync is the stop.
     fn is_due(&self) -> bool
@@ -125,11 +118,7 @@ impl<'a, N: Nvm> Fused<'a, N> {
 }
 
 impl<'a, N: Nvm> Nvm for Fused<'a, N> {
-    ghost use Rattle.std.specs.Prelude.{◌≡◌, ◌≤◌, ◌<◌, refl};
-    ghost use Rattle.std.proofs.Common.{◌∙◌};
-    ghost use Rattle.std.proofs.Math.Nat.{le_refl, le_trans};
-    ghost use Rattle.edr_device.specs.Device.{MayLeave};
-    ghost use Rattle.edr_device.specs.Fuse.{breaks_again, breaks_self, cut_between, fused_counts, fused_only, fused_sooner, not_both};
+    ghost use Rattle.edr_device.specs.FuseLaws.{fuse_counts_now, fuse_goes_on_again, fuse_goes_on_self, fuse_only_now, fuse_sooner};
     ghost use Rattle.edr_device.specs.FuseState.{FuseGoesOn, fused_content, fused_extent, fused_settled, fused_since};
 
     ghost extent = { λ f. fused_extent f };
@@ -148,14 +137,11 @@ impl<'a, N: Nvm> Nvm for Fused<'a, N> {
 
     ghost goes_on = { λ a b. FuseGoesOn a b };
 
-    ghost counts_now = { λ f t image le now. fused_counts f.spent f.cut (N.clock f.start.value) (N.clock f.nvm.now) (N.clock f.middle.value) (N.since f.nvm.now) (N.since f.middle.value) (MayLeave (N.content f.nvm.now) (N.settled f.nvm.now)) t image
-        (λ u within. N.counts_now f.nvm.now u image within now) now };
+    ghost counts_now = { λ f t image le left. fuse_counts_now f t image (λ u within now. N.counts_now f.nvm.now u image within now) left };
 
-    ghost only_now = { λ f image left. fused_only f.spent f.cut (N.clock f.start.value) (N.clock f.nvm.now) (N.clock f.middle.value) (N.since f.nvm.now) (N.since f.middle.value) (MayLeave (N.content f.nvm.now) (N.settled f.nvm.now)) f.ticks image
-        f.after_cut f.later (λ l. N.only_now f.nvm.now image l) left };
+    ghost only_now = { λ f image left. fuse_only_now f image (λ l. N.only_now f.nvm.now image l) left };
 
-    ghost sooner = { λ f t u image le within left. fused_sooner f.spent f.cut (N.clock f.start.value) (N.clock f.nvm.now) (N.clock f.middle.value) (N.since f.nvm.now) (N.since f.middle.value) (MayLeave (N.content f.nvm.now) (N.settled f.nvm.now)) t u image
-        (λ a b le within l. N.sooner f.nvm.now a b image le within l) (λ a b le within l. N.sooner f.middle.value a b image le within l) le left };
+    ghost sooner = { λ f t u image le within left. fuse_sooner f t u image (λ d a b le within l. N.sooner d a b image le within l) le left };
 
     ghost told_size = { λ f bytes told. N.told_size f.nvm.now bytes told };
 
@@ -167,31 +153,9 @@ impl<'a, N: Nvm> Nvm for Fused<'a, N> {
 
     ghost faults_fit = { λ f. f.faults_within };
 
-    ghost goes_on_self = { λ f. record {
-      same_device = refl;
-      inside = N.goes_on_self f.nvm.now;
-      armed = refl;
-      armed_at = refl;
-      calm = refl;
-      later = le_refl f.ticks;
-      still_spent = λ e. (e, refl);
-      cut_later = λ e e'. not_both e e';
-      still_broken = λ e. e;
-      breaks = breaks_self f.broken (N.faults f.nvm.now);
-    } };
+    ghost goes_on_self = { λ f. fuse_goes_on_self f (N.goes_on_self f.nvm.now) };
 
-    ghost goes_on_again = { λ a b c p q. record {
-      same_device = q.same_device ∙ p.same_device;
-      inside = N.goes_on_again a.nvm.now b.nvm.now c.nvm.now p.inside q.inside;
-      armed = q.armed ∙ p.armed;
-      armed_at = q.armed_at ∙ p.armed_at;
-      calm = q.calm ∙ p.calm;
-      later = le_trans p.later q.later;
-      still_spent = λ e. let s = p.still_spent e in let r = q.still_spent s.0 in (r.0, r.1 ∙ s.1);
-      cut_later = λ e e'. cut_between b.spent c.spent a.ticks b.ticks b.cut c.cut p.later (p.cut_later e) q.still_spent q.cut_later e';
-      still_broken = λ e. q.still_broken (p.still_broken e);
-      breaks = breaks_again a.broken b.broken c.broken (N.faults a.nvm.now) (N.faults b.nvm.now) (N.faults c.nvm.now) p.breaks q.breaks;
-    } };
+    ghost goes_on_again = { λ a b c p q. fuse_goes_on_again a b c (λ r s. N.goes_on_again a.nvm.now b.nvm.now c.nvm.now r s) p q };
 
     fn size(&self) -> u32 {
         self.nvm.size()
@@ -321,8 +285,8 @@ impl<'a, N: Nvm> Nvm for Fused<'a, N> {
         }
         if self.is_due() {
             self.middle = Snapshot::of(&*self.nvm);
-            let cycled = self.nvm.power_cycle();
-            self.broken = self.broken | cycled.is_err();
+            let cut = self.nvm.power_cycle();
+            self.broken = self.broken | cut.is_err();
             self.ticks += 1;
             self.cut = self.ticks;
             self.spent = true;

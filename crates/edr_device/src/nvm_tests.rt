@@ -1,14 +1,14 @@
 //! The memory in memory and the fuse, by numbers; and what a caller knows of any device.
-ghost use Rattle.std.specs.Prelude.{◌≡◌, ◌+◌, ◌≤◌, ℕ, List, length, OnOk, IsOk, IfOk};
-ghost use Rattle.edr_device.specs.Device.{Elapses, IsQuiet};
-ghost use Rattle.edr_device.specs.Faults.{HasCause};
+ghost use Rattle.std.specs.Prelude.{◌≡◌, ◌+◌, ◌≤◌, ◌<◌, ◌^◌, ℕ, List, length, OnOk, IfOk, IsErr};
+ghost use Rattle.edr_device.specs.Device.{Elapses, IsQuiet, Ticks};
+ghost use Rattle.edr_device.specs.Faults.{HasCause, last_number, next_number};
 ghost use Rattle.edr_device.specs.Memory.{memory_image};
 ghost use Rattle.edr_device.specs.Pieces.{SameBut, put_at};
 
 use crate::device::Nvm;
 use crate::fused::Fused;
 use crate::mem_nvm::MemNvm;
-use crate::pieces::write_gated;
+use crate::pieces::{write_gated, write_settled};
 use crate::stream::Failed;
 use std::alloc::{AllocError, Global};
 use std::process::Abort;
@@ -96,6 +96,105 @@ fn make<N: Nvm>(nvm: &mut N, step: Step) -> Result<(), Failed> {
         }
         Step::Sync => nvm.sync(),
         Step::Cut => nvm.power_cycle(),
+    }
+}
+
+// An adapter that tells nothing of its bytes, and whose power can't be cut.
+#[derive(Drop)]
+struct Adapter {
+    size: u32,
+    clock: u64,
+    last_good: u64,
+    faults: u64,
+    ghost fits: { size < 2 ^ 32 },
+    ghost clock_within: { clock ≤ last_number },
+    ghost good: { last_good ≤ clock },
+    ghost faults_within: { faults ≤ last_number },
+}
+
+impl Adapter {
+    fn fail(&mut self) -> Result<(), Failed>
+        ensures fails { IsErr result }
+        ensures counts { self.new.faults ≡ next_number self.old.faults }
+        ensures same { (self.new.size ≡ self.old.size) × (self.new.clock ≡ self.old.clock) × (self.new.last_good ≡ self.old.last_good) }
+    {
+        self.faults = self.faults.saturating_add(1);
+        Err(Failed)
+    }
+
+    fn change(&mut self) -> Result<(), Failed>
+        ensures size { self.new.size ≡ self.old.size }
+        ensures time { Ticks self.old.clock self.new.clock self.old.last_good self.new.last_good result }
+        ensures full { self.old.clock ≡ last_number → IsErr result }
+        ensures cause { HasCause self.old.faults self.new.faults result }
+    {
+        if self.clock == u64::MAX {
+            return self.fail();
+        }
+        self.clock += 1;
+        self.last_good = self.clock;
+        Ok(())
+    }
+}
+
+impl Nvm for Adapter {
+    ghost use Rattle.std.specs.Prelude.{None, ⊤, true};
+    ghost use Rattle.std.proofs.lemmas.Option.{none-some};
+
+    ghost extent = { λ a. a.size };
+
+    ghost content = { λ a. None };
+
+    ghost settled = { λ a i. true };
+
+    ghost since = { λ a t image. ⊤ };
+
+    ghost clock = { λ a. a.clock };
+
+    ghost last_good = { λ a. a.last_good };
+
+    ghost faults = { λ a. a.faults };
+
+    ghost goes_on = { λ a b. ⊤ };
+
+    ghost counts_now = { λ a t image le now. tt };
+
+    ghost only_now = { λ a image left. tt };
+
+    ghost sooner = { λ a t u image le within left. tt };
+
+    ghost told_size = { λ a bytes told. absurd (none-some bytes told) };
+
+    ghost extent_fits = { λ a. a.fits };
+
+    ghost clock_fits = { λ a. a.clock_within };
+
+    ghost good_fits = { λ a. a.good };
+
+    ghost faults_fit = { λ a. a.faults_within };
+
+    ghost goes_on_self = { λ a. tt };
+
+    ghost goes_on_again = { λ a b c p q. tt };
+
+    fn size(&self) -> u32 {
+        self.size
+    }
+
+    fn read(&mut self, _at: u32, _into: &mut [u8]) -> Result<(), Failed> {
+        self.fail()
+    }
+
+    fn write(&mut self, _at: u32, _bytes: &[u8]) -> Result<(), Failed> {
+        self.change()
+    }
+
+    fn sync(&mut self) -> Result<(), Failed> {
+        self.change()
+    }
+
+    fn power_cycle(&mut self) -> Result<(), Failed> {
+        self.fail()
     }
 }
 
@@ -304,6 +403,24 @@ fn fuse_is_broken_where_the_device_failed(rt: HostRuntime) -> Result<(), Fail> {
         fused.end();
     }
     Ok(())
+}
+
+#[test]
+fn fuse_is_broken_where_the_power_was_not_cut(rt: HostRuntime) {
+    for stop in [1, 2] {
+        let mut adapter = Adapter {
+            size: 8,
+            clock: 0,
+            last_good: 0,
+            faults: 0,
+        };
+        let mut fused = Fused::new(&mut adapter);
+        fused.arm(stop);
+        assert_eq!(rt; write_settled(&mut fused, 2, &[1]), Err(Failed));
+        assert!(rt; fused.spent() && fused.broken());
+        fused.end();
+        assert_eq!(rt; (adapter.clock, adapter.faults), (1, 1));
+    }
 }
 
 #[test]

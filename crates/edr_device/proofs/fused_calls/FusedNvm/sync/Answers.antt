@@ -6,7 +6,7 @@ returns-then-is_due-clause-stops g c = λ stopping. (
   search rules,
   record {
     fails = search rules;
-    cycled = c.power_cycle-cycled.result;
+    cycled = c.power_cycle-cut.result;
     power = search rules;
     marks = search rules;
   },
