@@ -81,7 +81,7 @@ fn put_extreme(extreme: Extreme, out: &mut [u8], at: usize)
     extreme.at.put_at(out, at + 2);
 }
 
-/// Writes a crash part as its bytes.
+/// Writes the 320 bytes that spell a crash part, whatever stood there before.
 #[tactic(auto, unfolding(edr_image::specs::PartBytes::crash_bytes))]
 pub fn put_crash(crash: &Crash, out: &mut [u8; 320])
     ensures { out.new ≡ crash_bytes crash.now }
@@ -126,7 +126,8 @@ fn check_crash(bytes: &[u8; 320]) -> Result<(), Damaged>
     check_rows(bytes, &crash_rows(u16::read_at(bytes, 0)))
 }
 
-/// The crash part that bytes spell, or the first byte with which they begin none.
+/// The crash part that the bytes spell. Else the answer is the first byte with which they begin none: an end of `00 13`,
+/// say, which is 19 ms, is damaged at its second byte.
 pub fn read_crash(bytes: &[u8; 320]) -> Result<Crash, Damaged>
     ensures read { IfOk result (λ c. c ≡ crash_at bytes.now 0) }
     ensures whole { OnOk result (crash_damage bytes.now 0 ≡ None) }

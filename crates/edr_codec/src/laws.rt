@@ -47,16 +47,20 @@ pub fn crash_damage_is_first()
 /// that is found there.
 pub fn pre_is_told_by_its_bytes()
     ensures value { (bytes : List ℕ) (at : ℕ) → pre_at bytes at ≡ pre_at (slice_range bytes at (at + 160)) 0 }
-    ensures damage { (bytes : List ℕ) (at : ℕ) → pre_damage bytes at ≡ option_map (λ k. at + k) (pre_damage (slice_range bytes at (at + 160)) 0) }
+    ensures damage { (bytes : List ℕ) (at : ℕ)
+        → pre_damage bytes at ≡ option_map (λ k. at + k) (pre_damage (slice_range bytes at (at + 160)) 0) }
     ensures within { (bytes : List ℕ) (k : ℕ) → pre_damage bytes 0 ≡ Some k → k < 160 }
-    ensures found { (bytes : List ℕ) (at k : ℕ) → k < 160 → slice_index bytes (at + k) ≡ slice_index (slice_range bytes at (at + 160)) k }
+    ensures found { (bytes : List ℕ) (at k : ℕ) → k < 160
+        → slice_index bytes (at + k) ≡ slice_index (slice_range bytes at (at + 160)) k }
 {}
 
 /// Where a crash part stands in further bytes, its own 320 bytes tell what it says, whether it is damaged, and the byte
 /// that is found there.
 pub fn crash_is_told_by_its_bytes()
     ensures value { (bytes : List ℕ) (at : ℕ) → crash_at bytes at ≡ crash_at (slice_range bytes at (at + 320)) 0 }
-    ensures damage { (bytes : List ℕ) (at : ℕ) → crash_damage bytes at ≡ option_map (λ k. at + k) (crash_damage (slice_range bytes at (at + 320)) 0) }
+    ensures damage { (bytes : List ℕ) (at : ℕ)
+        → crash_damage bytes at ≡ option_map (λ k. at + k) (crash_damage (slice_range bytes at (at + 320)) 0) }
     ensures within { (bytes : List ℕ) (k : ℕ) → crash_damage bytes 0 ≡ Some k → k < 320 }
-    ensures found { (bytes : List ℕ) (at k : ℕ) → k < 320 → slice_index bytes (at + k) ≡ slice_index (slice_range bytes at (at + 320)) k }
+    ensures found { (bytes : List ℕ) (at k : ℕ) → k < 320
+        → slice_index bytes (at + k) ≡ slice_index (slice_range bytes at (at + 320)) k }
 {}

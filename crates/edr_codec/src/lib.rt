@@ -11,10 +11,12 @@ mod rows;
 pub use crash::{put_crash, read_crash};
 pub use pre::{put_pre, read_pre};
 
-/// Bytes that are no part: the first place at which they can't go on as one, and the byte that stands there.
+/// Why bytes are no part: the bytes before `offset` begin a part, and those up to and with it begin none.
 #[derive(Clone, Copy, Debug, PartialEq, Eq)]
 pub struct Damaged {
+    /// The place in the part, from 0.
     pub offset: u16,
+    /// The byte that stands there.
     pub found: u8,
 }
 

@@ -27,13 +27,14 @@ pub(crate) trait Piece: Copy + Default {
         requires { at + size ≤ length bytes.now }
         ensures { result ≡ value_of (number_at bytes.now at size) };
 
-    /// Writes the value over the bytes that begin at a place.
+    /// Writes the value over the bytes that begin at a place. Of those behind it nothing is said: a part is written from
+    /// its first byte to its last.
     fn put_at(self, out: &mut [u8], at: usize)
         requires { at + size ≤ length out.old }
         ensures { take (at + size) out.new ≡ take at out.old ++ bytes_of self };
 }
 
-// Writes bytes over those from a place on.
+/// Writes bytes over those from a place on.
 pub(crate) fn put_bytes(out: &mut [u8], at: usize, bytes: &[u8])
     requires { at + length bytes.now ≤ length out.old }
     ensures { take (at + length bytes.now) out.new ≡ take at out.old ++ bytes.now }

@@ -58,7 +58,7 @@ fn put_place(place: Place, out: &mut [u8], at: usize)
     put_bytes(out, at, &bytes);
 }
 
-/// Writes a pre part as its bytes.
+/// Writes the 160 bytes that spell a pre part, whatever stood there before.
 #[tactic(auto, unfolding(edr_image::specs::PartBytes::pre_bytes))]
 pub fn put_pre(pre: &Pre, out: &mut [u8; 160])
     ensures { out.new ≡ pre_bytes pre.now }
@@ -103,7 +103,8 @@ fn check_pre(bytes: &[u8; 160]) -> Result<(), Damaged>
     check_rows(bytes, &pre_rows(bytes[8]))
 }
 
-/// The pre part that bytes spell, or the first byte with which they begin none.
+/// The pre part that the bytes spell. Else the answer is the first byte with which they begin none: a speed of `01 2d`, say,
+/// which is 301 km/h, is damaged at its second byte.
 pub fn read_pre(bytes: &[u8; 160]) -> Result<Pre, Damaged>
     ensures read { IfOk result (λ p. p ≡ pre_at bytes.now 0) }
     ensures whole { OnOk result (pre_damage bytes.now 0 ≡ None) }
