@@ -65,7 +65,7 @@ impl Lines for Text {
     }
 }
 
-/// Records of a table, under a record that names the columns.
+/// Records of a table, under a record that names the columns. A writer over a vector fails only for want of memory.
 #[derive(Drop)]
 pub struct Table {
     writer: Writer<Vec<u8>>,
@@ -81,23 +81,16 @@ impl Table {
     {
         let mut writer = WriterBuilder::new().from_writer(Vec::new(alloc));
         let head: [&[u8]; 3] = [b"block", b"name", b"value"];
-        match writer.write_fields(&head) {
-            Ok(()) => Ok(Table {
-                writer,
-                block: String::new(alloc),
-            }),
-            Err(_) => Err(OutOfMemory),
-        }
+        writer.write_fields(&head).map_err(|_| OutOfMemory)?;
+        let block = String::new(alloc);
+        Ok(Table { writer, block })
     }
 
     /// All bytes of the records.
     pub fn into_bytes(self) -> Result<Vec<u8>, OutOfMemory>
         ensures { IfOk result (λ bytes. bytes.items ≡ table_bytes self) }
     {
-        match self.writer.into_inner() {
-            Ok(bytes) => Ok(bytes),
-            Err(_) => Err(OutOfMemory),
-        }
+        self.writer.into_inner().map_err(|_| OutOfMemory)
     }
 }
 
@@ -113,12 +106,8 @@ impl Lines for Table {
     fn line(&mut self, block: u64, name: &[u8], value: &[u8]) -> Result<(), OutOfMemory> {
         self.block.clear();
         write!(self.block, "{block}")?;
-        match self
-            .writer
+        self.writer
             .write_fields(&[self.block.as_bytes(), name, value])
-        {
-            Ok(()) => Ok(()),
-            Err(_) => Err(OutOfMemory),
-        }
+            .map_err(|_| OutOfMemory)
     }
 }

@@ -163,19 +163,19 @@ impl<L: Lines> Printer<L> {
     }
 
     // Gives the lines of an event.
-    fn put_event(&mut self, block: u64, bank: u8, record: &Record) -> Result<(), OutOfMemory>
+    fn put_event(&mut self, block: u64, bank: u8, event: &Record) -> Result<(), OutOfMemory>
         requires { L.ready self.old.lines }
         ensures ready { OnOk result (L.ready self.new.lines) }
-        ensures bytes { OnOk result (L.bytes self.new.lines ≡ L.bytes self.old.lines ++ flat_map L.form (event_lines block bank record.now)) }
+        ensures bytes { OnOk result (L.bytes self.new.lines ≡ L.bytes self.old.lines ++ flat_map L.form (event_lines block bank event.now)) }
     {
         self.put(block, "event", Value::Number(block))?;
         self.put(block, "bank", Value::Number(u64::from(bank)))?;
-        self.put_pre(block, &record.pre, record.locked)?;
-        self.put_crash(block, &record.crash)?;
+        self.put_pre(block, &event.pre, event.locked)?;
+        self.put_crash(block, &event.crash)?;
         self.put(
             block,
             "complete file recorded",
-            Value::YesNo(record.complete()),
+            Value::YesNo(event.complete()),
         )
     }
 
