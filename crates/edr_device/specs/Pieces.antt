@@ -13,11 +13,12 @@ pub record SameBut (at n : ℕ) (bytes image : List ℕ) : Type 0 where
   pub same : (i : ℕ) → i < length bytes → is_in at n i ≡ false → slice_index image i ≡ slice_index bytes i
 
 -- A run of n writes and syncs that ends where one fails. `now` is the clock after it, and `good'` the last good moment.
--- Unless the clock stands at its last value, nothing follows the one that failed.
+-- Unless the clock stands at its last value, there is one that failed, and nothing follows it.
 pub record Takes {T E : Type 0} (n before now good good' : ℕ) (result : Result T E) : Type 0 where
   pub later : before ≤ now
   pub ok : OnOk result ((now ≡ before + n) × (good' ≡ now))
   pub few : OnErr result (now ≤ before + n)
+  pub made : OnErr result (now ≢ last_number → before < now)
   pub last : OnErr result (now ≢ last_number → ((now ≡ before + 1) × (good' ≡ good)) ⊎ (now ≡ good' + 1))
 
 -- After a stop in call r of a write and a sync of a piece, and a write and a sync of a gate: the bytes but for the piece's place, or
