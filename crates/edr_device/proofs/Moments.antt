@@ -1,16 +1,17 @@
 -- What a crash since an earlier moment may have left, after one moment more.
-use Rattle.std.proofs.Common.{◌≡◌, ◌⊎◌, ◌≤◌, ◌<◌, ◌+◌, ◌∙◌, ℕ, zero, suc, Bool, true, false, List, [], ◌∷◌, ◌++◌, length, drop, slice_get, slice_index, get_or, ap, inl, inr, ⊎_elim, sym, subst, zero-le, Some, None, arith}
+use Rattle.std.proofs.Common.{◌≡◌, ◌⊎◌, ◌≤◌, ◌<◌, ◌+◌, ◌∙◌, ℕ, zero, suc, Bool, true, false, List, [], ◌∷◌, ◌++◌, length, drop, slice_get, slice_index, slice_index_or, replicate, get_or, ap, inl, inr, ⊎_elim, sym, subst, zero-le, Some, None, arith}
 use Rattle.std.proofs.Math.Nat.{not-suc-le-zero, le_of_suc-le-suc, suc_inj}
 use Rattle.std.proofs.lemmas.Option.{slice_get_cases}
-use Rattle.edr_device.specs.Device.{Agrees, Comes, Elapses, Settles, Stays, Writes, is_in, outside}
+use Rattle.edr_device.specs.Device.{Agrees, Comes, Elapses, IsSettled, Settles, Stays, Writes, is_in, outside}
 use Rattle.edr_device.specs.Past.{HadLeft, Left, LeftSince, settled_at}
 use Rattle.edr_device.specs.declared.moment.Moment.{Moment}
 use Rattle.edr_device.specs.declared.moment.Call.{Call}
 use Rattle.edr_device.specs.declared.mem_nvm.MemNvm.{MemNvm}
-use Rattle.edr_device.specs.Memory.{CameBack, HasKept, Remembers}
+use Rattle.edr_device.specs.Memory.{HasKept, Remembers}
+use Rattle.edr_device.specs.Pieces.{put_at}
 use Rattle.edr_device.specs.Draw.{image_after}
 use Rattle.edr_device.proofs.Draws.{came_agrees}
-use Rattle.edr_device.proofs.Ranges.{both_parts, outside_part, written_size}
+use Rattle.edr_device.proofs.Ranges.{all_set, both_parts, outside_part, unset_range, written_size}
 
 abbrev AtCall : Call → List ℕ → Type 0
 AtCall c image = Left c.before.value image ⊎ Left c.after.value image
@@ -146,12 +147,27 @@ cycle_stays past now (suc k) t image h covered below (inl here) = ⊎_elim
     (λ (n : (length past ≤ k) × (slice_get past k ≡ None)). absurd (omega arith))
     (slice_get_cases past k).1
 
--- what a memory's power cycle does
-pub comes_back : (m : MemNvm) (stored : List ℕ) (new : Moment) → stored ≡ m.stored.items → CameBack m.pick stored m.state new → Comes (settled_at m.state) (settled_at new) m.state.image.items new.image.items
-comes_back m stored new same b = (
+-- ---- the calls of the bytes, as those of a device
+
+pub moment_writes : (old new : Moment) (at : ℕ) (piece : List ℕ) → at + length piece ≤ length old.image.items → new.image.items ≡ put_at at piece old.image.items → new.settled.items ≡ put_at at (replicate (length piece) false) old.settled.items
+    → Writes at piece (settled_at old) old.image.items new.image.items (settled_at new)
+moment_writes old new at piece fits image flags = record {
+  bytes = image;
+  unsettled = λ i. ap (λ (xs : List Bool). slice_index_or xs i true) flags ∙ unset_range old.settled.items at (length piece) i (subst (λ (n : ℕ). at + length piece ≤ n) (sym old.sizes.0) fits);
+}
+
+all_settled : (m : Moment) (n : ℕ) → m.settled.items ≡ replicate n true → IsSettled (settled_at m)
+all_settled m n flags i = ap (λ (xs : List Bool). slice_index_or xs i true) flags ∙ all_set n i
+
+pub moment_settles : (old new : Moment) (n : ℕ) → new.image.items ≡ old.image.items → new.settled.items ≡ replicate n true → Settles (settled_at new) old.image.items new.image.items
+moment_settles old new n image flags = (image, all_settled new n flags)
+
+pub moment_comes_back : (m : MemNvm) (stored : List ℕ) (new : Moment) (n : ℕ) → stored ≡ m.stored.items → new.image.items ≡ image_after m.pick m.state.settled.items stored m.state.image.items → new.settled.items ≡ replicate n true
+    → Comes (settled_at m.state) (settled_at new) m.state.image.items new.image.items
+moment_comes_back m stored new n same image flags = (
   came_agrees m.pick m.state.settled.items m.stored.items m.state.image.items new.image.items m.state.sizes.0 m.stored_size m.stored_is
-      (subst (λ (xs : List ℕ). new.image.items ≡ image_after m.pick m.state.settled.items xs m.state.image.items) same b.0),
-  b.1,
+      (subst (λ (xs : List ℕ). new.image.items ≡ image_after m.pick m.state.settled.items xs m.state.image.items) same image),
+  all_settled new n flags,
 )
 
 -- ---- a write
@@ -163,7 +179,7 @@ written_during at piece settled settled' old new image fits w a = record {
   size = a.size ∙ written_size old piece new at w.bytes fits;
   same = λ i below s.
       let out : is_in at (length piece) i ≡ false = (both_parts (settled i) (is_in at (length piece) i) s).1 in
-      a.same i (subst (λ (m : ℕ). i < m) (sym (written_size old piece new at w.bytes fits)) below) (w.unsettled i ∙ s) ∙ outside_part old piece new at i w.bytes fits below out;
+      a.same i (subst (λ (m : ℕ). i < m) (sym (written_size old piece new at w.bytes fits)) below) (w.unsettled i ∙ s) ∙ outside_part old piece new at i w.bytes fits out;
 }
 
 -- the bytes that were stored stay the settled ones
@@ -172,7 +188,7 @@ pub stored_after : (at : ℕ) (piece : List ℕ) (settled settled' : ℕ → Boo
 stored_after at piece settled settled' old new stored fits w had i below s =
     let below_old : i < length old = subst (λ (m : ℕ). i < m) (written_size old piece new at w.bytes fits) below in
     let both = both_parts (settled i) (is_in at (length piece) i) (sym (w.unsettled i) ∙ s) in
-    had i below_old both.0 ∙ sym (outside_part old piece new at i w.bytes fits below_old both.1)
+    had i below_old both.0 ∙ sym (outside_part old piece new at i w.bytes fits both.1)
 
 -- ---- a sync
 

@@ -34,7 +34,7 @@ near_write at piece bytes r old new settled settled' fits q w =
     go (Ok x) None w = w
     go (Ok x) (Some now) w = (
       written_size bytes piece now at w.bytes fits,
-      λ i below out. (outside_part bytes piece now at i w.bytes fits below out, w.unsettled i ∙ both (settled i) (is_in at (length piece) i) (q.1 i) out),
+      λ i below out. (outside_part bytes piece now at i w.bytes fits out, w.unsettled i ∙ both (settled i) (is_in at (length piece) i) (q.1 i) out),
     )
     go (Err x) None w = w
     go (Err x) (Some now) w = (w.size, λ i below out. w.same i below (q.1 i) out)
@@ -126,7 +126,7 @@ rose_of before now e le full = let some_left : before ≢ last_number = λ x. fa
 pub put_same : (k : ℕ) (piece bytes : List ℕ) → k + length piece ≤ length bytes → SameBut k (length piece) bytes (put_at k piece bytes)
 put_same k piece bytes fits = record {
   size = written_size bytes piece (put_at k piece bytes) k refl fits;
-  same = λ i below out. outside_part bytes piece (put_at k piece bytes) k i refl fits below out;
+  same = λ i below out. outside_part bytes piece (put_at k piece bytes) k i refl fits out;
 }
 
 pub put_size : (k : ℕ) (piece bytes : List ℕ) → k + length piece ≤ length bytes → length (put_at k piece bytes) ≡ length bytes

@@ -1,10 +1,9 @@
--- What a fuse adds to a device.
-use Rattle.std.specs.Prelude.{◌≡◌, ◌⊎◌, ◌≤◌, ◌<◌, ◌+◌, min, ℕ, Bool, true, false, List, Option}
+-- What a crash since a moment of a fuse may have left, and what stays from one call to the next.
+use Rattle.std.specs.Prelude.{◌≡◌, ◌⊎◌, ◌≤◌, ◌<◌, ◌+◌, min, ℕ, Bool, true, false, List}
 use mathlib.Core.Logic.{inl, inr}
 use Rattle.std.proofs.Common.{refl, sym, subst, ◌∙◌}
 use Rattle.std.proofs.Math.Nat.{min-eq_right, min-le_right, le_refl, le_trans}
 use Rattle.std.proofs.lemmas.Bool.{false≢true}
-use Rattle.edr_device.specs.Device.{MayLeave}
 use Rattle.edr_device.specs.Faults.{Rose, last_number}
 use Rattle.edr_device.specs.Order.{least_more, less_not_more, below_again, least_one_more}
 
@@ -13,14 +12,6 @@ use Rattle.edr_device.specs.Order.{least_more, less_not_more, below_again, least
 abbrev pub FusedSince : Bool → (cut start now middle : ℕ) → (since since_middle : ℕ → List ℕ → Type 0) → (leaves : List ℕ → Type 0) → ℕ → List ℕ → Type 0
 FusedSince false cut start now middle since since_middle leaves t image = since (min (start + t) now) image
 FusedSince true cut start now middle since since_middle leaves t image = ((t < cut) × since_middle (min (start + t) middle) image) ⊎ leaves image
-
--- the same, out of the device's words
-abbrev pub fused_since : {D : Type 0} → (D → ℕ) → (D → ℕ → List ℕ → Type 0) → (D → Option (List ℕ)) → (D → ℕ → Bool) → Bool → ℕ → (start middle now : D) → ℕ → List ℕ → Type 0
-fused_since clock since content settled spent cut start middle now = FusedSince spent cut (clock start) (clock now) (clock middle) (since now) (since middle) (MayLeave (content now) (settled now))
-
--- the next write or sync is the stop
-abbrev pub IsDue : (armed armed_at ticks : ℕ) → Type 0
-IsDue armed armed_at ticks = (0 < armed) × (ticks + 1 ≡ armed_at + armed)
 
 pub fused_counts : (spent : Bool) (cut start now middle : ℕ) (since since_middle : ℕ → List ℕ → Type 0) (leaves : List ℕ → Type 0) (t : ℕ) (image : List ℕ)
     → ((u : ℕ) → u ≤ now → since u image) → leaves image → FusedSince spent cut start now middle since since_middle leaves t image
@@ -59,10 +50,3 @@ breaks_self b count = record { later = le_refl count; cause = λ e f. not_both e
 pub breaks_again : (a b c : Bool) (x y z : ℕ) → Breaks a b x y → Breaks b c y z → Breaks a c x z
 breaks_again a true c x y z p q = record { later = le_trans p.later q.later; cause = λ e f. le_trans (p.cause e refl) q.later }
 breaks_again a false c x y z p q = record { later = le_trans p.later q.later; cause = λ e f. le_trans (least_one_more x y last_number p.later) (q.cause refl f) }
-
--- What no call of a fuse changes: the reference, the plan and the count at its beginning. The clock goes on, a stop stays and comes
--- after the moment at which there was none, and what is broken stays so.
-abbrev pub FusedGoesOn : {B D : Type 0} → (D → D → Type 0) → (D → ℕ) → (name name' : B) → (now now' : D) → (armed armed' armed_at armed_at' calm calm' ticks ticks' : ℕ) → (spent spent' : Bool) → (cut cut' : ℕ) → (broken broken' : Bool) → Type 0
-FusedGoesOn goes_on faults name name' now now' armed armed' armed_at armed_at' calm calm' ticks ticks' spent spent' cut cut' broken broken' =
-    (name' ≡ name) × goes_on now now' × (armed' ≡ armed) × (armed_at' ≡ armed_at) × (calm' ≡ calm) × (ticks ≤ ticks')
-    × (spent ≡ true → (spent' ≡ true) × (cut' ≡ cut)) × (spent ≡ false → spent' ≡ true → ticks < cut') × (broken ≡ true → broken' ≡ true) × Breaks broken broken' (faults now) (faults now')

@@ -13,3 +13,4 @@ pub mod Draw
 pub mod Memory
 pub mod Order
 pub mod Fuse
+pub mod FuseState

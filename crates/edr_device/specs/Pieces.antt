@@ -4,7 +4,7 @@ use Rattle.edr_device.specs.Device.{is_in}
 use Rattle.edr_device.specs.Faults.{last_number}
 
 -- the bytes with a piece in their place
-abbrev pub put_at : ℕ → List ℕ → List ℕ → List ℕ
+abbrev pub put_at : {A : Type 0} → ℕ → List A → List A → List A
 put_at at piece bytes = take at bytes ++ piece ++ drop (at + length piece) bytes
 
 -- the image has the bytes, but perhaps not in the n offsets from `at` on

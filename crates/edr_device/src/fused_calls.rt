@@ -1,8 +1,8 @@
 //! The calls of a fuse.
-ghost use Rattle.std.specs.Prelude.{◌≡◌, ◌≢◌, ◌⊎◌, ◌+◌, ◌-◌, ◌≤◌, ◌<◌, ℕ, List, min, true, false, length, IsTrue, OnOk, OnErr, IsErr};
+ghost use Rattle.std.specs.Prelude.{◌≡◌, ◌≢◌, ◌⊎◌, ◌+◌, ◌-◌, ◌≤◌, ◌<◌, ℕ, List, true, false, is_ok, length, IsTrue, IsErr, OnOk, OnErr};
 ghost use Rattle.edr_device.specs.Device.{Cycled, Elapses, MayLeave, Shows, Stays, Synced, Ticks, Wrote, outside};
 ghost use Rattle.edr_device.specs.Faults.{HasCause, Rose, last_number};
-ghost use Rattle.edr_device.specs.Fuse.{FusedGoesOn, IsDue, fused_since};
+ghost use Rattle.edr_device.specs.FuseState.{FuseGoesOn, IsDue, IsPassing, IsRefusing, IsStopping, PassesChange, StopsInSync, StopsInWrite, after_change, after_pass, after_refusal, after_refused_change, after_stop, fuse_state, fused_content, fused_extent, fused_settled, fused_since, lifted, new_fuse};
 
 use crate::device::Nvm;
 use crate::fused::Fused;
@@ -25,8 +25,7 @@ impl<'a, N: Nvm> Fused<'a, N> {
     pub fn new(nvm: &'a mut N) -> Fused<'a, N>
         ensures device { result.nvm.ghost_name ≡ nvm.entry.ghost_name }
         ensures now { result.nvm.now ≡ nvm.old }
-        ensures begins { (result.ticks ≡ 0) × (result.last_good ≡ 0) × (result.faults ≡ 0) × (result.calm ≡ 0) }
-        ensures unarmed { (result.armed ≡ 0) × (result.spent ≡ false) × (result.broken ≡ false) }
+        ensures state { fuse_state result ≡ new_fuse }
     {
         let start = Snapshot::of(&*nvm);
         let middle = Snapshot::of(&*nvm);
@@ -50,10 +49,10 @@ impl<'a, N: Nvm> Fused<'a, N> {
     pub fn arm(&mut self, changing_calls: u32)
         ensures device { self.new.nvm.ghost_name ≡ self.old.nvm.ghost_name }
         ensures now { self.new.nvm.now ≡ self.old.nvm.now }
-        ensures plan { (self.new.armed ≡ changing_calls) × (self.new.armed_at ≡ self.old.ticks) }
-        ensures clock { (self.new.ticks ≡ self.old.ticks) × (self.new.last_good ≡ self.old.last_good) }
-        ensures counts { (self.new.faults ≡ self.old.faults) × (self.new.calm ≡ self.old.calm) }
-        ensures state { (self.new.spent ≡ self.old.spent) × (self.new.cut ≡ self.old.cut) × (self.new.broken ≡ self.old.broken) }
+        ensures state { fuse_state self.new ≡ record (fuse_state self.old)
+            { armed = changing_calls; armed_at = self.old.ticks } }
+        ensures stays { Stays (fused_content self.old) (fused_settled self.old) (fused_since self.old)
+            (fused_content self.new) (fused_settled self.new) (fused_since self.new) }
     {
         self.armed = changing_calls;
         self.armed_at = self.ticks;
@@ -63,10 +62,7 @@ impl<'a, N: Nvm> Fused<'a, N> {
     pub fn lift(&mut self)
         ensures device { self.new.nvm.ghost_name ≡ self.old.nvm.ghost_name }
         ensures now { self.new.nvm.now ≡ self.old.nvm.now }
-        ensures plan { (self.new.armed ≡ self.old.armed_at + self.old.armed - self.old.ticks) × (self.new.armed_at ≡ 0) }
-        ensures clock { (self.new.ticks ≡ 0) × (self.new.last_good ≡ 0) }
-        ensures counts { (self.new.faults ≡ self.old.faults) × (self.new.calm ≡ self.old.faults) }
-        ensures state { (self.new.spent ≡ false) × (self.new.broken ≡ self.old.broken) }
+        ensures state { fuse_state self.new ≡ lifted (fuse_state self.old) }
     {
         self.armed = waiting(self.armed, self.ticks - self.armed_at);
         self.armed_at = 0;
@@ -78,7 +74,22 @@ impl<'a, N: Nvm> Fused<'a, N> {
         self.start = Snapshot::of(&*self.nvm);
     }
 
-    /// Gives the device back.
+    /// Whether it has stopped since it was made or last lifted.
+    pub fn spent(&self) -> bool
+        ensures { result ≡ self.now.spent }
+    {
+        self.spent
+    }
+
+    /// Whether a call of the device has failed since the fuse was made.
+    pub fn broken(&self) -> bool
+        ensures { result ≡ self.now.broken }
+    {
+        self.broken
+    }
+
+    /// Gives the device back. A caller calls it on each path: of a fuse that is merely let go, contracts don't say what
+    /// became of the device.
     pub fn end(self)
         ensures { self.exit.0.now ≡ self.entry.nvm.now }
     {
@@ -93,8 +104,8 @@ impl<'a, N: Nvm> Fused<'a, N> {
     // Whether the next write or sync is the stop.
     fn is_due(&self) -> bool
         requires { self.now.ticks < last_number }
-        ensures due { result ≡ true → (0 < self.now.armed) × (self.now.ticks + 1 ≡ self.now.armed_at + self.now.armed) }
-        ensures not_due { result ≡ false → 0 < self.now.armed → self.now.ticks + 1 ≢ self.now.armed_at + self.now.armed }
+        ensures due { result ≡ true → IsDue (fuse_state self.now) }
+        ensures not_due { result ≡ false → ¬ IsDue (fuse_state self.now) }
     {
         self.armed != 0 && self.ticks + 1 - self.armed_at == u64::from(self.armed)
     }
@@ -104,29 +115,12 @@ impl<'a, N: Nvm> Fused<'a, N> {
         requires { self.old.spent ≡ false → self.old.ticks ≡ last_number }
         ensures device { self.new.nvm.ghost_name ≡ self.old.nvm.ghost_name }
         ensures now { self.new.nvm.now ≡ self.old.nvm.now }
-        ensures plan { (self.new.armed ≡ self.old.armed) × (self.new.armed_at ≡ self.old.armed_at) × (self.new.calm ≡ self.old.calm) }
-        ensures clock { (self.new.ticks ≡ min (self.old.ticks + 1) last_number) × (self.new.last_good ≡ self.old.last_good) }
-        ensures rose { Rose self.old.faults self.new.faults × (self.old.faults ≤ self.new.faults) }
-        ensures state { (self.new.spent ≡ self.old.spent) × (self.new.cut ≡ self.old.cut) × (self.new.broken ≡ self.old.broken) }
+        ensures state { fuse_state self.new ≡ after_refused_change (fuse_state self.old) }
         ensures moments { (self.new.start.value ≡ self.old.start.value) × (self.new.middle.value ≡ self.old.middle.value) }
     {
         self.ticks = self.ticks.saturating_add(1);
         self.faults = self.faults.saturating_add(1);
         Failed
-    }
-
-    /// Whether it has stopped since it was last lifted.
-    pub fn spent(&self) -> bool
-        ensures { result ≡ self.now.spent }
-    {
-        self.spent
-    }
-
-    /// Whether a call of the device has failed since the fuse was made.
-    pub fn broken(&self) -> bool
-        ensures { result ≡ self.now.broken }
-    {
-        self.broken
     }
 }
 
@@ -135,15 +129,16 @@ impl<'a, N: Nvm> Nvm for Fused<'a, N> {
     ghost use Rattle.std.proofs.Common.{◌∙◌};
     ghost use Rattle.std.proofs.Math.Nat.{le_refl, le_trans};
     ghost use Rattle.edr_device.specs.Device.{MayLeave};
-    ghost use Rattle.edr_device.specs.Fuse.{FusedGoesOn, breaks_again, breaks_self, cut_between, fused_counts, fused_only, fused_since, fused_sooner, not_both};
+    ghost use Rattle.edr_device.specs.Fuse.{breaks_again, breaks_self, cut_between, fused_counts, fused_only, fused_sooner, not_both};
+    ghost use Rattle.edr_device.specs.FuseState.{FuseGoesOn, fused_content, fused_extent, fused_settled, fused_since};
 
-    ghost extent = { λ f. N.extent f.nvm.now };
+    ghost extent = { λ f. fused_extent f };
 
-    ghost content = { λ f. N.content f.nvm.now };
+    ghost content = { λ f. fused_content f };
 
-    ghost settled = { λ f. N.settled f.nvm.now };
+    ghost settled = { λ f. fused_settled f };
 
-    ghost since = { λ f. fused_since N.clock N.since N.content N.settled f.spent f.cut f.start.value f.middle.value f.nvm.now };
+    ghost since = { λ f. fused_since f };
 
     ghost clock = { λ f. f.ticks };
 
@@ -151,7 +146,7 @@ impl<'a, N: Nvm> Nvm for Fused<'a, N> {
 
     ghost faults = { λ f. f.faults };
 
-    ghost goes_on = { λ a b. FusedGoesOn N.goes_on N.faults a.nvm.ghost_name b.nvm.ghost_name a.nvm.now b.nvm.now a.armed b.armed a.armed_at b.armed_at a.calm b.calm a.ticks b.ticks a.spent b.spent a.cut b.cut a.broken b.broken };
+    ghost goes_on = { λ a b. FuseGoesOn a b };
 
     ghost counts_now = { λ f t image le now. fused_counts f.spent f.cut (N.clock f.start.value) (N.clock f.nvm.now) (N.clock f.middle.value) (N.since f.nvm.now) (N.since f.middle.value) (MayLeave (N.content f.nvm.now) (N.settled f.nvm.now)) t image
         (λ u within. N.counts_now f.nvm.now u image within now) now };
@@ -172,39 +167,55 @@ impl<'a, N: Nvm> Nvm for Fused<'a, N> {
 
     ghost faults_fit = { λ f. f.faults_within };
 
-    ghost goes_on_self = { λ f. (refl, N.goes_on_self f.nvm.now, refl, refl, refl, le_refl f.ticks, (λ e. (e, refl)), (λ e g. not_both e g), (λ e. e), breaks_self f.broken (N.faults f.nvm.now)) };
+    ghost goes_on_self = { λ f. record {
+      same_device = refl;
+      inside = N.goes_on_self f.nvm.now;
+      armed = refl;
+      armed_at = refl;
+      calm = refl;
+      later = le_refl f.ticks;
+      still_spent = λ e. (e, refl);
+      cut_later = λ e e'. not_both e e';
+      still_broken = λ e. e;
+      breaks = breaks_self f.broken (N.faults f.nvm.now);
+    } };
 
-    ghost goes_on_again = { λ a b c p q. (
-      q.0 ∙ p.0,
-      N.goes_on_again a.nvm.now b.nvm.now c.nvm.now p.1 q.1,
-      q.2 ∙ p.2,
-      q.3 ∙ p.3,
-      q.4 ∙ p.4,
-      le_trans p.5 q.5,
-      (λ e. let s = p.6 e in let r = q.6 s.0 in (r.0, r.1 ∙ s.1)),
-      (λ e g. cut_between b.spent c.spent a.ticks b.ticks b.cut c.cut p.5 (p.7 e) q.6 q.7 g),
-      (λ e. q.8 (p.8 e)),
-      breaks_again a.broken b.broken c.broken (N.faults a.nvm.now) (N.faults b.nvm.now) (N.faults c.nvm.now) p.9 q.9,
-    ) };
+    ghost goes_on_again = { λ a b c p q. record {
+      same_device = q.same_device ∙ p.same_device;
+      inside = N.goes_on_again a.nvm.now b.nvm.now c.nvm.now p.inside q.inside;
+      armed = q.armed ∙ p.armed;
+      armed_at = q.armed_at ∙ p.armed_at;
+      calm = q.calm ∙ p.calm;
+      later = le_trans p.later q.later;
+      still_spent = λ e. let s = p.still_spent e in let r = q.still_spent s.0 in (r.0, r.1 ∙ s.1);
+      cut_later = λ e e'. cut_between b.spent c.spent a.ticks b.ticks b.cut c.cut p.later (p.cut_later e) q.still_spent q.cut_later e';
+      still_broken = λ e. q.still_broken (p.still_broken e);
+      breaks = breaks_again a.broken b.broken c.broken (N.faults a.nvm.now) (N.faults b.nvm.now) (N.faults c.nvm.now) p.breaks q.breaks;
+    } };
 
     fn size(&self) -> u32 {
         self.nvm.size()
     }
 
+    /// It fails exactly where the fuse is spent or the device fails.
     fn read(&mut self, at: u32, into: &mut [u8]) -> Result<(), Failed>
-        requires range { at + length into.old ≤ N.extent self.old.nvm.now }
-        ensures size { N.extent self.new.nvm.now ≡ N.extent self.old.nvm.now }
-        ensures bytes { OnOk result (Shows at into.new (N.content self.old.nvm.now)) }
+        requires range { at + length into.old ≤ fused_extent self.old }
+        ensures size { fused_extent self.new ≡ fused_extent self.old }
+        ensures bytes { OnOk result (Shows at into.new (fused_content self.old)) }
         ensures into_stays { OnErr result (into.new ≡ into.old) }
-        ensures stays { Stays (N.content self.old.nvm.now) (N.settled self.old.nvm.now) (fused_since N.clock N.since N.content N.settled self.old.spent self.old.cut self.old.start.value self.old.middle.value self.old.nvm.now) (N.content self.new.nvm.now) (N.settled self.new.nvm.now) (fused_since N.clock N.since N.content N.settled self.new.spent self.new.cut self.new.start.value self.new.middle.value self.new.nvm.now) }
+        ensures stays { Stays (fused_content self.old) (fused_settled self.old) (fused_since self.old)
+            (fused_content self.new) (fused_settled self.new) (fused_since self.new) }
         ensures clock { self.new.ticks ≡ self.old.ticks }
         ensures good { self.new.last_good ≡ self.old.last_good }
         ensures cause { HasCause self.old.faults self.new.faults result }
-        ensures device { FusedGoesOn N.goes_on N.faults self.old.nvm.ghost_name self.new.nvm.ghost_name self.old.nvm.now self.new.nvm.now self.old.armed self.new.armed self.old.armed_at self.new.armed_at self.old.calm self.new.calm self.old.ticks self.new.ticks self.old.spent self.new.spent self.old.cut self.new.cut self.old.broken self.new.broken }
-        ensures takes { OnOk result ((self.old.spent ≡ false) × (self.new.broken ≡ self.old.broken)) }
-        ensures fails { OnErr result ((self.old.spent ≡ true) ⊎ ((self.new.broken ≡ true) × Rose (N.faults self.old.nvm.now) (N.faults self.new.nvm.now))) }
-        ensures not_spent { self.new.spent ≡ self.old.spent }
-        ensures refuses { self.old.spent ≡ true → self.new.nvm.now ≡ self.old.nvm.now }
+        ensures device { FuseGoesOn self.old self.new }
+
+        ensures refuses { self.old.spent ≡ true → IsErr result
+            × (fuse_state self.new ≡ after_refusal (fuse_state self.old))
+            × (self.new.nvm.now ≡ self.old.nvm.now) }
+        ensures passes { self.old.spent ≡ false
+            → (fuse_state self.new ≡ after_pass (is_ok result) (fuse_state self.old))
+            × HasCause (N.faults self.old.nvm.now) (N.faults self.new.nvm.now) result }
     {
         if self.spent {
             self.faults = self.faults.saturating_add(1);
@@ -220,22 +231,34 @@ impl<'a, N: Nvm> Nvm for Fused<'a, N> {
         }
     }
 
+    /// It fails exactly where it is the stop, where the fuse is spent or its clock stands at the last number, or where
+    /// the device fails.
     fn write(&mut self, at: u32, bytes: &[u8]) -> Result<(), Failed>
-        requires range { at + length bytes.now ≤ N.extent self.old.nvm.now }
+        requires range { at + length bytes.now ≤ fused_extent self.old }
         requires piece { (1 ≤ length bytes.now) × (length bytes.now ≤ 512) }
-        ensures size { N.extent self.new.nvm.now ≡ N.extent self.old.nvm.now }
-        ensures told { Wrote at bytes.now result (N.content self.old.nvm.now) (N.settled self.old.nvm.now) (N.content self.new.nvm.now) (N.settled self.new.nvm.now) }
+        ensures size { fused_extent self.new ≡ fused_extent self.old }
+        ensures told { Wrote at bytes.now result
+            (fused_content self.old) (fused_settled self.old)
+            (fused_content self.new) (fused_settled self.new) }
         ensures time { Ticks self.old.ticks self.new.ticks self.old.last_good self.new.last_good result }
-        ensures crash { Elapses self.old.ticks (fused_since N.clock N.since N.content N.settled self.old.spent self.old.cut self.old.start.value self.old.middle.value self.old.nvm.now) (fused_since N.clock N.since N.content N.settled self.new.spent self.new.cut self.new.start.value self.new.middle.value self.new.nvm.now) (MayLeave (N.content self.old.nvm.now) (outside at (length bytes.now) (N.settled self.old.nvm.now))) }
-        ensures full { self.old.ticks ≡ last_number → IsErr result × Stays (N.content self.old.nvm.now) (N.settled self.old.nvm.now) (fused_since N.clock N.since N.content N.settled self.old.spent self.old.cut self.old.start.value self.old.middle.value self.old.nvm.now) (N.content self.new.nvm.now) (N.settled self.new.nvm.now) (fused_since N.clock N.since N.content N.settled self.new.spent self.new.cut self.new.start.value self.new.middle.value self.new.nvm.now) }
+        ensures crash { Elapses self.old.ticks (fused_since self.old) (fused_since self.new)
+            (MayLeave (fused_content self.old) (outside at (length bytes.now) (fused_settled self.old))) }
+        ensures full { self.old.ticks ≡ last_number → IsErr result
+            × Stays (fused_content self.old) (fused_settled self.old) (fused_since self.old)
+            (fused_content self.new) (fused_settled self.new) (fused_since self.new) }
         ensures cause { HasCause self.old.faults self.new.faults result }
-        ensures device { FusedGoesOn N.goes_on N.faults self.old.nvm.ghost_name self.new.nvm.ghost_name self.old.nvm.now self.new.nvm.now self.old.armed self.new.armed self.old.armed_at self.new.armed_at self.old.calm self.new.calm self.old.ticks self.new.ticks self.old.spent self.new.spent self.old.cut self.new.cut self.old.broken self.new.broken }
-        // It fails exactly where it is the stop, where the fuse is spent, where the clock stands at its last value, or where the device fails.
-        ensures takes { OnOk result ((self.old.spent ≡ false) × (self.old.ticks ≢ last_number) × (IsDue self.old.armed self.old.armed_at self.old.ticks → ⊥) × (self.new.broken ≡ self.old.broken)) }
-        ensures fails { OnErr result ((self.old.spent ≡ true) ⊎ ((self.old.ticks ≡ last_number) ⊎ (IsDue self.old.armed self.old.armed_at self.old.ticks ⊎ ((self.new.broken ≡ true) × Rose (N.faults self.old.nvm.now) (N.faults self.new.nvm.now))))) }
-        ensures stops { self.old.spent ≡ false → self.old.ticks ≢ last_number → IsDue self.old.armed self.old.armed_at self.old.ticks → (self.new.spent ≡ true) × (self.new.cut ≡ self.new.ticks) }
-        ensures not_spent { self.old.spent ≡ false → (IsDue self.old.armed self.old.armed_at self.old.ticks → ⊥) → self.new.spent ≡ false }
-        ensures refuses { (self.old.spent ≡ true) ⊎ (self.old.ticks ≡ last_number) → self.new.nvm.now ≡ self.old.nvm.now }
+        ensures device { FuseGoesOn self.old self.new }
+
+        ensures refuses { IsRefusing (fuse_state self.old) → IsErr result
+            × (fuse_state self.new ≡ after_refused_change (fuse_state self.old))
+            × (self.new.nvm.now ≡ self.old.nvm.now) }
+        ensures passes { IsPassing (fuse_state self.old)
+            → (fuse_state self.new ≡ after_change (is_ok result) (fuse_state self.old))
+            × PassesChange N.Nvm self.old.nvm.now self.new.nvm.now result }
+        ensures stops { IsStopping (fuse_state self.old)
+            → (fuse_state self.new ≡ after_stop self.new.broken (fuse_state self.old))
+            × StopsInWrite N.Nvm at bytes.now self.old.nvm.now self.new.middle.value self.new.nvm.now
+            self.old.broken self.new.broken result }
     {
         if self.spent || self.ticks == u64::MAX {
             return Err(self.refuse());
@@ -266,20 +289,32 @@ impl<'a, N: Nvm> Nvm for Fused<'a, N> {
         }
     }
 
+    /// It fails exactly where it is the stop, where the fuse is spent or its clock stands at the last number, or where
+    /// the device fails.
     fn sync(&mut self) -> Result<(), Failed>
-        ensures size { N.extent self.new.nvm.now ≡ N.extent self.old.nvm.now }
-        ensures told { Synced result (N.content self.old.nvm.now) (N.settled self.old.nvm.now) (N.content self.new.nvm.now) (N.settled self.new.nvm.now) }
+        ensures size { fused_extent self.new ≡ fused_extent self.old }
+        ensures told { Synced result
+            (fused_content self.old) (fused_settled self.old)
+            (fused_content self.new) (fused_settled self.new) }
         ensures time { Ticks self.old.ticks self.new.ticks self.old.last_good self.new.last_good result }
-        ensures crash { Elapses self.old.ticks (fused_since N.clock N.since N.content N.settled self.old.spent self.old.cut self.old.start.value self.old.middle.value self.old.nvm.now) (fused_since N.clock N.since N.content N.settled self.new.spent self.new.cut self.new.start.value self.new.middle.value self.new.nvm.now) (MayLeave (N.content self.old.nvm.now) (N.settled self.old.nvm.now)) }
-        ensures full { self.old.ticks ≡ last_number → IsErr result × Stays (N.content self.old.nvm.now) (N.settled self.old.nvm.now) (fused_since N.clock N.since N.content N.settled self.old.spent self.old.cut self.old.start.value self.old.middle.value self.old.nvm.now) (N.content self.new.nvm.now) (N.settled self.new.nvm.now) (fused_since N.clock N.since N.content N.settled self.new.spent self.new.cut self.new.start.value self.new.middle.value self.new.nvm.now) }
+        ensures crash { Elapses self.old.ticks (fused_since self.old) (fused_since self.new)
+            (MayLeave (fused_content self.old) (fused_settled self.old)) }
+        ensures full { self.old.ticks ≡ last_number → IsErr result
+            × Stays (fused_content self.old) (fused_settled self.old) (fused_since self.old)
+            (fused_content self.new) (fused_settled self.new) (fused_since self.new) }
         ensures cause { HasCause self.old.faults self.new.faults result }
-        ensures device { FusedGoesOn N.goes_on N.faults self.old.nvm.ghost_name self.new.nvm.ghost_name self.old.nvm.now self.new.nvm.now self.old.armed self.new.armed self.old.armed_at self.new.armed_at self.old.calm self.new.calm self.old.ticks self.new.ticks self.old.spent self.new.spent self.old.cut self.new.cut self.old.broken self.new.broken }
-        // It fails exactly where it is the stop, where the fuse is spent, where the clock stands at its last value, or where the device fails.
-        ensures takes { OnOk result ((self.old.spent ≡ false) × (self.old.ticks ≢ last_number) × (IsDue self.old.armed self.old.armed_at self.old.ticks → ⊥) × (self.new.broken ≡ self.old.broken)) }
-        ensures fails { OnErr result ((self.old.spent ≡ true) ⊎ ((self.old.ticks ≡ last_number) ⊎ (IsDue self.old.armed self.old.armed_at self.old.ticks ⊎ ((self.new.broken ≡ true) × Rose (N.faults self.old.nvm.now) (N.faults self.new.nvm.now))))) }
-        ensures stops { self.old.spent ≡ false → self.old.ticks ≢ last_number → IsDue self.old.armed self.old.armed_at self.old.ticks → (self.new.spent ≡ true) × (self.new.cut ≡ self.new.ticks) }
-        ensures not_spent { self.old.spent ≡ false → (IsDue self.old.armed self.old.armed_at self.old.ticks → ⊥) → self.new.spent ≡ false }
-        ensures refuses { (self.old.spent ≡ true) ⊎ (self.old.ticks ≡ last_number) → self.new.nvm.now ≡ self.old.nvm.now }
+        ensures device { FuseGoesOn self.old self.new }
+
+        ensures refuses { IsRefusing (fuse_state self.old) → IsErr result
+            × (fuse_state self.new ≡ after_refused_change (fuse_state self.old))
+            × (self.new.nvm.now ≡ self.old.nvm.now) }
+        ensures passes { IsPassing (fuse_state self.old)
+            → (fuse_state self.new ≡ after_change (is_ok result) (fuse_state self.old))
+            × PassesChange N.Nvm self.old.nvm.now self.new.nvm.now result }
+        ensures stops { IsStopping (fuse_state self.old)
+            → (fuse_state self.new ≡ after_stop self.new.broken (fuse_state self.old))
+            × StopsInSync N.Nvm self.old.nvm.now self.new.nvm.now
+            self.old.broken self.new.broken result }
     {
         if self.spent || self.ticks == u64::MAX {
             return Err(self.refuse());
@@ -309,19 +344,26 @@ impl<'a, N: Nvm> Nvm for Fused<'a, N> {
         }
     }
 
+    /// It fails exactly where the fuse is spent or the device fails.
     fn power_cycle(&mut self) -> Result<(), Failed>
-        ensures size { N.extent self.new.nvm.now ≡ N.extent self.old.nvm.now }
-        ensures told { Cycled result (N.content self.old.nvm.now) (N.settled self.old.nvm.now) (fused_since N.clock N.since N.content N.settled self.old.spent self.old.cut self.old.start.value self.old.middle.value self.old.nvm.now) (N.content self.new.nvm.now) (N.settled self.new.nvm.now) (fused_since N.clock N.since N.content N.settled self.new.spent self.new.cut self.new.start.value self.new.middle.value self.new.nvm.now) }
-        ensures no_more { (t : ℕ) (image : List ℕ) → t ≤ self.old.ticks → (fused_since N.clock N.since N.content N.settled self.new.spent self.new.cut self.new.start.value self.new.middle.value self.new.nvm.now) t image → (fused_since N.clock N.since N.content N.settled self.old.spent self.old.cut self.old.start.value self.old.middle.value self.old.nvm.now) t image }
-        ensures past_stays { (t : ℕ) (image : List ℕ) → t < self.old.last_good → (fused_since N.clock N.since N.content N.settled self.old.spent self.old.cut self.old.start.value self.old.middle.value self.old.nvm.now) t image → (fused_since N.clock N.since N.content N.settled self.new.spent self.new.cut self.new.start.value self.new.middle.value self.new.nvm.now) t image }
+        ensures size { fused_extent self.new ≡ fused_extent self.old }
+        ensures told { Cycled result (fused_content self.old) (fused_settled self.old) (fused_since self.old)
+            (fused_content self.new) (fused_settled self.new) (fused_since self.new) }
+        ensures no_more { (t : ℕ) (image : List ℕ) → t ≤ self.old.ticks
+            → fused_since self.new t image → fused_since self.old t image }
+        ensures past_stays { (t : ℕ) (image : List ℕ) → t < self.old.last_good
+            → fused_since self.old t image → fused_since self.new t image }
         ensures clock { self.new.ticks ≡ self.old.ticks }
         ensures good { self.new.last_good ≡ self.old.last_good }
         ensures cause { HasCause self.old.faults self.new.faults result }
-        ensures device { FusedGoesOn N.goes_on N.faults self.old.nvm.ghost_name self.new.nvm.ghost_name self.old.nvm.now self.new.nvm.now self.old.armed self.new.armed self.old.armed_at self.new.armed_at self.old.calm self.new.calm self.old.ticks self.new.ticks self.old.spent self.new.spent self.old.cut self.new.cut self.old.broken self.new.broken }
-        ensures takes { OnOk result ((self.old.spent ≡ false) × (self.new.broken ≡ self.old.broken)) }
-        ensures fails { OnErr result ((self.old.spent ≡ true) ⊎ ((self.new.broken ≡ true) × Rose (N.faults self.old.nvm.now) (N.faults self.new.nvm.now))) }
-        ensures not_spent { self.new.spent ≡ self.old.spent }
-        ensures refuses { self.old.spent ≡ true → self.new.nvm.now ≡ self.old.nvm.now }
+        ensures device { FuseGoesOn self.old self.new }
+
+        ensures refuses { self.old.spent ≡ true → IsErr result
+            × (fuse_state self.new ≡ after_refusal (fuse_state self.old))
+            × (self.new.nvm.now ≡ self.old.nvm.now) }
+        ensures passes { self.old.spent ≡ false
+            → (fuse_state self.new ≡ after_pass (is_ok result) (fuse_state self.old))
+            × HasCause (N.faults self.old.nvm.now) (N.faults self.new.nvm.now) result }
     {
         if self.spent {
             self.faults = self.faults.saturating_add(1);

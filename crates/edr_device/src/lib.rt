@@ -11,6 +11,8 @@ mod mem_sink;
 mod mem_source;
 mod moment;
 mod moment_calls;
+#[cfg(test)]
+mod nvm_tests;
 mod pieces;
 mod stream;
 #[cfg(test)]
@@ -22,7 +24,6 @@ pub use crate::fused::Fused;
 pub use crate::mem_nvm::MemNvm;
 pub use crate::mem_sink::MemSink;
 pub use crate::mem_source::MemSource;
-pub use crate::moment::{Call, Moment};
 pub use crate::pieces::{write_gated, write_settled};
 pub use crate::stream::{Failed, Sink, Source};
 pub use crate::transfer::{TakeFault, put_all, take_all};

@@ -1,22 +1,21 @@
 //! The calls of a memory in memory.
-ghost use Rattle.std.specs.Prelude.{◌≡◌, ◌≢◌, ◌⊎◌, ◌+◌, ◌≤◌, ◌<◌, ◌^◌, ◌++◌, ◌↔◌, [], ◌∷◌, ℕ, List, min, true, false, length, IsOk, IsErr, OnOk, OnErr, IfOk, IsTrue};
-ghost use Rattle.std.specs.List.{Contains};
+ghost use Rattle.std.specs.Prelude.{◌≡◌, ◌+◌, ◌≤◌, ◌<◌, ◌^◌, ℕ, List, false, is_ok, length, IsOk, IsErr, OnOk, OnErr, IfOk, IsTrue};
 ghost use Rattle.edr_device.specs.Device.{Cycled, Elapses, MayLeave, Shows, Stays, Synced, Ticks, Wrote, outside};
-ghost use Rattle.edr_device.specs.Faults.{HasCause, Rose, last_number};
-ghost use Rattle.edr_device.specs.Memory.{CallFails, ReadFails, Remembers, SameChoices, calls_left, memory_content, memory_image, memory_settled, memory_since, memory_stored};
-ghost use Rattle.edr_device.specs.Draw.{image_after};
+ghost use Rattle.edr_device.specs.Faults.{HasCause, last_number};
+ghost use Rattle.edr_device.specs.Memory.{ChangeFails, ReadFails, Remembers, SameChoices, after_failed_change, after_power_cycle, after_read, after_sync, after_write, memory_content, memory_image, memory_settled, memory_since, memory_state, new_memory};
 
 use crate::calls::is_numbered;
 use crate::device::Nvm;
 use crate::mem_nvm::MemNvm;
 use crate::moment::{Call, Moment};
 use crate::stream::Failed;
-use std::alloc::{AllocError, Global};
+use std::alloc::{AllocError as OutOfMemory, Global};
 use std::snapshot::Snapshot;
 
 impl MemNvm {
     /// A memory with these bytes, all settled. It takes `calls` writes and syncs, and each one past them fails. So do
-    /// the writes and syncs that are numbered in `fails`, and the reads that are numbered in `read_fails`, from 1.
+    /// the writes and syncs that are numbered in `fails`, and the reads that are numbered in `read_fails`, from 1. By
+    /// `pick` a power cycle gives each byte that is not settled its last settled value (0), leaves it (1), or draws it.
     pub fn new(
         alloc: Global,
         image: Vec<u8>,
@@ -24,12 +23,9 @@ impl MemNvm {
         fails: Vec<u32>,
         read_fails: Vec<u32>,
         pick: u64,
-    ) -> Result<MemNvm, AllocError>
+    ) -> Result<MemNvm, OutOfMemory>
         requires { length image.items < 2 ^ 32 }
-        ensures image { IfOk result (λ m. memory_image m ≡ image.items) }
-        ensures settled { IfOk result (λ m. (i : ℕ) → memory_settled m i ≡ true) }
-        ensures begins { IfOk result (λ m. (m.clock ≡ 0) × (m.last_good ≡ 0) × (m.reads ≡ 0) × (m.faults ≡ 0)) }
-        ensures chosen { IfOk result (λ m. (m.calls ≡ calls) × (m.fails.items ≡ fails.items) × (m.read_fails.items ≡ read_fails.items) × (m.pick ≡ pick)) }
+        ensures { IfOk result (λ m. memory_state m ≡ new_memory image.items calls fails.items read_fails.items pick) }
     {
         let settled = vec![in alloc; true; image.len()]?;
         let stored = image.to_vec(alloc)?;
@@ -59,20 +55,17 @@ impl MemNvm {
 
     // Whether the next write or sync succeeds.
     fn takes_call(&self) -> bool
-        ensures takes { IsTrue result → (self.now.clock < self.now.calls) × (Contains self.now.fails.items (self.now.clock + 1) → ⊥) }
-        ensures refuses { result ≡ false → CallFails self.now }
+        ensures takes { IsTrue result → (self.now.clock < self.now.calls) × ¬ ChangeFails (memory_state self.now) }
+        ensures refuses { result ≡ false → ChangeFails (memory_state self.now) }
     {
         self.clock < u64::from(self.calls) && !is_numbered(&self.fails, self.clock + 1)
     }
 
     // Counts a write or sync that fails, and the fault.
     fn refuse(&mut self) -> Failed
-        requires { CallFails self.old }
-        ensures same { (self.new.state ≡ self.old.state) × (self.new.last_good ≡ self.old.last_good) × (self.new.reads ≡ self.old.reads) }
-        ensures chosen { SameChoices self.old self.new }
-        ensures clock { self.new.clock ≡ min (self.old.clock + 1) last_number }
-        ensures stored { self.new.stored ≡ self.old.stored }
-        ensures rose { Rose self.old.faults self.new.faults × (self.old.faults ≤ self.new.faults) }
+        requires { ChangeFails (memory_state self.old) }
+        ensures state { self.new.state ≡ self.old.state }
+        ensures after { memory_state self.new ≡ after_failed_change (memory_state self.old) }
         ensures past { Remembers self.old self.new }
         ensures full { self.old.clock ≡ last_number → self.new.past.items ≡ self.old.past.items }
     {
@@ -90,18 +83,18 @@ impl MemNvm {
 }
 
 impl Nvm for MemNvm {
-    ghost use Rattle.std.specs.Prelude.{Some, length, refl};
+    ghost use Rattle.std.specs.Prelude.{length};
     ghost use Rattle.std.proofs.Common.{inl};
-    ghost use Rattle.edr_device.specs.Past.{LeftSince, left_sooner, only_this, settled_at};
-    ghost use Rattle.edr_device.specs.Memory.{SameChoices, past_within, same_choices_again, told_length};
+    ghost use Rattle.edr_device.specs.Past.{left_sooner, only_this};
+    ghost use Rattle.edr_device.specs.Memory.{SameChoices, memory_content, memory_image, memory_settled, memory_since, past_within, same_choices_again, same_choices_self, told_length};
 
-    ghost extent = { λ m. length m.state.image.items };
+    ghost extent = { λ m. length (memory_image m) };
 
-    ghost content = { λ m. Some m.state.image.items };
+    ghost content = { λ m. memory_content m };
 
-    ghost settled = { λ m. settled_at m.state };
+    ghost settled = { λ m. memory_settled m };
 
-    ghost since = { λ m. LeftSince m.past.items m.state };
+    ghost since = { λ m. memory_since m };
 
     ghost clock = { λ m. m.clock };
 
@@ -127,7 +120,7 @@ impl Nvm for MemNvm {
 
     ghost faults_fit = { λ m. m.faults_within };
 
-    ghost goes_on_self = { λ m. (refl, refl, refl, refl) };
+    ghost goes_on_self = { λ m. same_choices_self m };
 
     ghost goes_on_again = { λ a b c p q. same_choices_again a b c p q };
 
@@ -141,14 +134,16 @@ impl Nvm for MemNvm {
         ensures size { length (memory_image self.new) ≡ length (memory_image self.old) }
         ensures bytes { OnOk result (Shows at into.new (memory_content self.old)) }
         ensures into_stays { OnErr result (into.new ≡ into.old) }
-        ensures stays { Stays (memory_content self.old) (memory_settled self.old) (memory_since self.old) (memory_content self.new) (memory_settled self.new) (memory_since self.new) }
+        ensures stays { Stays (memory_content self.old) (memory_settled self.old) (memory_since self.old)
+            (memory_content self.new) (memory_settled self.new) (memory_since self.new) }
         ensures clock { self.new.clock ≡ self.old.clock }
         ensures good { self.new.last_good ≡ self.old.last_good }
         ensures cause { HasCause self.old.faults self.new.faults result }
         ensures device { SameChoices self.old self.new }
-        ensures takes { OnOk result (ReadFails self.old → ⊥) }
-        ensures fails { OnErr result (ReadFails self.old) }
-        ensures state { (self.new.state ≡ self.old.state) × (memory_stored self.new ≡ memory_stored self.old) }
+
+        ensures succeeds { OnOk result (¬ ReadFails (memory_state self.old)) }
+        ensures fails { OnErr result (ReadFails (memory_state self.old)) }
+        ensures after { memory_state self.new ≡ after_read (is_ok result) (memory_state self.old) }
     {
         self.reads = self.reads.saturating_add(1);
         if is_numbered(&self.read_fails, self.reads) {
@@ -165,15 +160,20 @@ impl Nvm for MemNvm {
         requires range { at + length bytes.now ≤ length (memory_image self.old) }
         requires piece { (1 ≤ length bytes.now) × (length bytes.now ≤ 512) }
         ensures size { length (memory_image self.new) ≡ length (memory_image self.old) }
-        ensures told { Wrote at bytes.now result (memory_content self.old) (memory_settled self.old) (memory_content self.new) (memory_settled self.new) }
+        ensures told { Wrote at bytes.now result (memory_content self.old) (memory_settled self.old)
+            (memory_content self.new) (memory_settled self.new) }
         ensures time { Ticks self.old.clock self.new.clock self.old.last_good self.new.last_good result }
-        ensures crash { Elapses self.old.clock (memory_since self.old) (memory_since self.new) (MayLeave (memory_content self.old) (outside at (length bytes.now) (memory_settled self.old))) }
-        ensures full { self.old.clock ≡ last_number → IsErr result × Stays (memory_content self.old) (memory_settled self.old) (memory_since self.old) (memory_content self.new) (memory_settled self.new) (memory_since self.new) }
+        ensures crash { Elapses self.old.clock (memory_since self.old) (memory_since self.new)
+            (MayLeave (memory_content self.old) (outside at (length bytes.now) (memory_settled self.old))) }
+        ensures full { self.old.clock ≡ last_number → IsErr result
+            × Stays (memory_content self.old) (memory_settled self.old) (memory_since self.old)
+            (memory_content self.new) (memory_settled self.new) (memory_since self.new) }
         ensures cause { HasCause self.old.faults self.new.faults result }
         ensures device { SameChoices self.old self.new }
-        ensures takes { OnOk result ((self.old.clock < self.old.calls) × (Contains self.old.fails.items (self.old.clock + 1) → ⊥)) }
-        ensures fails { OnErr result (CallFails self.old × (self.new.state ≡ self.old.state)) }
-        ensures stored { memory_stored self.new ≡ memory_stored self.old }
+
+        ensures succeeds { OnOk result (¬ ChangeFails (memory_state self.old)) }
+        ensures fails { OnErr result (ChangeFails (memory_state self.old)) }
+        ensures after { memory_state self.new ≡ after_write (is_ok result) at bytes.now (memory_state self.old) }
     {
         if !self.takes_call() {
             return Err(self.refuse());
@@ -190,15 +190,20 @@ impl Nvm for MemNvm {
     /// It fails exactly where the call is numbered or none is left, and then settles nothing.
     fn sync(&mut self) -> Result<(), Failed>
         ensures size { length (memory_image self.new) ≡ length (memory_image self.old) }
-        ensures told { Synced result (memory_content self.old) (memory_settled self.old) (memory_content self.new) (memory_settled self.new) }
+        ensures told { Synced result (memory_content self.old) (memory_settled self.old)
+            (memory_content self.new) (memory_settled self.new) }
         ensures time { Ticks self.old.clock self.new.clock self.old.last_good self.new.last_good result }
-        ensures crash { Elapses self.old.clock (memory_since self.old) (memory_since self.new) (MayLeave (memory_content self.old) (memory_settled self.old)) }
-        ensures full { self.old.clock ≡ last_number → IsErr result × Stays (memory_content self.old) (memory_settled self.old) (memory_since self.old) (memory_content self.new) (memory_settled self.new) (memory_since self.new) }
+        ensures crash { Elapses self.old.clock (memory_since self.old) (memory_since self.new)
+            (MayLeave (memory_content self.old) (memory_settled self.old)) }
+        ensures full { self.old.clock ≡ last_number → IsErr result
+            × Stays (memory_content self.old) (memory_settled self.old) (memory_since self.old)
+            (memory_content self.new) (memory_settled self.new) (memory_since self.new) }
         ensures cause { HasCause self.old.faults self.new.faults result }
         ensures device { SameChoices self.old self.new }
-        ensures takes { OnOk result ((self.old.clock < self.old.calls) × (Contains self.old.fails.items (self.old.clock + 1) → ⊥)) }
-        ensures fails { OnErr result (CallFails self.old × (self.new.state ≡ self.old.state)) }
-        ensures stored { OnOk result (memory_stored self.new ≡ memory_image self.new) }
+
+        ensures succeeds { OnOk result (¬ ChangeFails (memory_state self.old)) }
+        ensures fails { OnErr result (ChangeFails (memory_state self.old)) }
+        ensures after { memory_state self.new ≡ after_sync (is_ok result) (memory_state self.old) }
     {
         if !self.takes_call() {
             return Err(self.refuse());
@@ -216,16 +221,19 @@ impl Nvm for MemNvm {
     /// It never fails. It leaves the image that was picked.
     fn power_cycle(&mut self) -> Result<(), Failed>
         ensures size { length (memory_image self.new) ≡ length (memory_image self.old) }
-        ensures told { Cycled result (memory_content self.old) (memory_settled self.old) (memory_since self.old) (memory_content self.new) (memory_settled self.new) (memory_since self.new) }
-        ensures no_more { (t : ℕ) (image : List ℕ) → t ≤ self.old.clock → memory_since self.new t image → memory_since self.old t image }
-        ensures past_stays { (t : ℕ) (image : List ℕ) → t < self.old.last_good → memory_since self.old t image → memory_since self.new t image }
+        ensures told { Cycled result (memory_content self.old) (memory_settled self.old) (memory_since self.old)
+            (memory_content self.new) (memory_settled self.new) (memory_since self.new) }
+        ensures no_more { (t : ℕ) (image : List ℕ) → t ≤ self.old.clock
+            → memory_since self.new t image → memory_since self.old t image }
+        ensures past_stays { (t : ℕ) (image : List ℕ) → t < self.old.last_good
+            → memory_since self.old t image → memory_since self.new t image }
         ensures clock { self.new.clock ≡ self.old.clock }
         ensures good { self.new.last_good ≡ self.old.last_good }
         ensures cause { HasCause self.old.faults self.new.faults result }
         ensures device { SameChoices self.old self.new }
-        ensures never_fails { IsOk result }
-        ensures picked { memory_image self.new ≡ image_after self.old.pick self.old.state.settled.items (memory_stored self.old) (memory_image self.old) }
-        ensures stored { memory_stored self.new ≡ memory_image self.new }
+
+        ensures succeeds { IsOk result }
+        ensures after { memory_state self.new ≡ after_power_cycle (memory_state self.old) }
     {
         self.state.come_back(&self.stored, self.pick);
         self.stored.copy_from_slice(&self.state.image);

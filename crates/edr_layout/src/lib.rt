@@ -2,7 +2,7 @@
 //! big-endian.
 #![tactic(auto)]
 
-ghost use Rattle.std.specs.Prelude.{◌≡◌, ◌≤◌, Some, None, IfOk, IfErr, ℕ, slice_index};
+ghost use Rattle.std.specs.Prelude.{◌≡◌, ◌≤◌, Some, None, IfOk, IfErr};
 ghost use Rattle.edr_image.specs.Image.{magic, not_magic, header_refusal, header_of, is_open, slot_count, count_of, older_slot, place_of};
 
 use byteorder::{BigEndian, ByteOrder};

@@ -1,0 +1,11 @@
+pub mod KeyOrder
+pub mod LeastKey
+pub mod PartPlaces
+pub mod NewImage
+pub mod Laying
+pub mod NewView
+pub mod FirstBytes
+pub mod HeaderBytes
+pub mod Marking
+pub mod TaskLemmas
+pub mod PassedLemmas

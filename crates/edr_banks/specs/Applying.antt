@@ -1,0 +1,46 @@
+-- What a command leaves of opened banks and of time.
+use Rattle.std.specs.Prelude.{◌≡◌, ◌≢◌, ◌⊎◌, ◌+◌, ◌≤◌, ◌<◌, ℕ, true, List, fold, Option, Some, slice_get, Result, OnOk, OnErr}
+use Rattle.edr_device.specs.Faults.{last_number}
+use Rattle.edr_record.specs.Parts.{CrashPart}
+use Rattle.edr_record.specs.declared.Record.{Record}
+use Rattle.edr_record.specs.declared.Command.{Command}
+use Rattle.edr_record.specs.declared.Command.TheVariants as command
+use Rattle.edr_image.specs.declared.BankView.{BankView}
+use Rattle.edr_image.specs.declared.BankView.TheVariants.{Event}
+use Rattle.edr_image.specs.Steps.{Step, Reply, after, held_after, reply_to}
+use Rattle.edr_banks.specs.Opened.{Opened, state_of}
+
+-- the steps of a command, and its answer
+abbrev pub reply_of : Opened → Command → Reply
+reply_of o c = reply_to (state_of o) c
+
+abbrev pub steps_for : Opened → Command → List Step
+steps_for o c = (reply_of o c).steps
+
+-- the banks after steps, with the bank that is then held
+abbrev pub opened_after : Opened → List Step → Opened
+opened_after o steps = record o { store = after o.store steps; held = fold held_after o.held steps }
+
+-- no command is taken any more
+abbrev pub ended_after : Opened → Opened
+ended_after o = record o { ended = true }
+
+-- n writes and syncs, which may be none, end where one fails: `now` is the clock after them, and `good'` the last good moment
+pub record Spends {T E : Type 0} (n before now good good' : ℕ) (result : Result T E) : Type 0 where
+  pub later : before ≤ now
+  pub ok : OnOk result (now ≡ before + n)
+  pub last_good : OnOk result (1 ≤ n → good' ≡ now)
+  pub few : OnErr result (now ≤ before + n)
+  pub made : OnErr result (now ≢ last_number → before < now)
+  pub last : OnErr result (now ≢ last_number → ((now ≡ before + 1) × (good' ≡ good)) ⊎ (now ≡ good' + 1))
+
+-- the event at place i of the image is this one, or a Done of the bank that is held has given it its crash part
+abbrev pub IsSameOrDone : Command → Option ℕ → ℕ → Record → List BankView → Type 0
+IsSameOrDone c held i r banks =
+    (slice_get banks i ≡ Some (Event r))
+    ⊎ ((held ≡ Some (i + 1)) × (crash : CrashPart) × (c ≡ command.Done crash) × (slice_get banks i ≡ Some (Event (record r { crash = Some crash }))))
+
+-- a crash part of the image at place i stood in that bank before, or a Done of the bank that is held gives it
+abbrev pub IsOldOrDone : Command → Option ℕ → List BankView → ℕ → CrashPart → Type 0
+IsOldOrDone c held old i crash =
+    ((r : Record) × (slice_get old i ≡ Some (Event r)) × (r.crash ≡ Some crash)) ⊎ ((held ≡ Some (i + 1)) × (c ≡ command.Done crash))

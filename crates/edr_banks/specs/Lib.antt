@@ -1,0 +1,7 @@
+pub mod Lesser
+pub mod Opened
+pub mod Fields
+pub mod Applying
+pub mod Opening
+pub mod Formatting
+pub mod Tasks

@@ -1,0 +1,83 @@
+//! The banks of a recorder: they are formatted, opened, retrieved, and changed by commands so that a stop in any write
+//! leaves each bank as it was or as it becomes.
+#![tactic(auto)]
+
+ghost use Rattle.std.specs.Prelude.{◌≡◌};
+ghost use Rattle.edr_image.specs.Image.{image_size};
+
+use std::marker::Model;
+
+mod applying;
+mod choosing;
+mod formatting;
+mod opening;
+mod reading;
+mod retrieving;
+mod taking;
+mod tasks;
+
+pub use edr_image::{
+    Ack, Applied, BankView, Choice, CycleReport, Found, Header, HeaderRefused, Kind, Log, OpenFault,
+};
+pub use edr_record::Command;
+
+/// Why a command was not taken.
+#[derive(Clone, Copy, Debug, PartialEq, Eq)]
+pub enum ApplyFault {
+    /// The device has failed.
+    StoreFault,
+    /// It has failed in an earlier command.
+    Ended,
+}
+
+/// Why an image is not formatted.
+#[derive(Clone, Copy, Debug, PartialEq, Eq)]
+pub enum FormatFault {
+    /// The device has fewer bytes than an image of so many banks.
+    Short { size: u32, needed: u32 },
+    /// The device has an image already.
+    Formatted,
+    /// The device has failed.
+    StoreFault,
+}
+
+/// The banks of an image, as they were opened and as commands have changed them since.
+#[derive(Drop)]
+pub struct Banks {
+    header: Header,
+    banks: Vec<BankView>,
+    // The count of cycles that the image had.
+    count: u32,
+    // The bank of the event that is taken and not done.
+    held: Option<u8>,
+    // A command has met a fault of the device.
+    ended: bool,
+}
+
+impl Model for Banks {
+    ghost use Rattle.edr_banks.specs.Opened.{Opened, IsOpened};
+
+    ghost Value = { Opened };
+
+    ghost use Rattle.edr_banks.specs.Fields.{opened_of};
+
+    ghost view = { opened_of };
+
+    ghost invariant = { λ b. IsOpened (opened_of b) };
+}
+
+// How many bytes an image with so many banks has.
+fn image_size(banks: u8) -> u32
+    ensures { result ≡ image_size banks }
+{
+    96 + 512 * u32::from(banks)
+}
+
+impl Banks {
+    /// The count of cycles that the image had when it was opened.
+    pub fn count(&self) -> u32
+        ensures { result ≡ self.now.count }
+    {
+        self.count
+    }
+}

@@ -1,0 +1,128 @@
+//! Opening an image.
+ghost use Rattle.std.specs.Prelude.{◌≡◌, ◌⊎◌, ◌≤◌, ◌<◌, ◌+◌, ℕ, false, None, List, Some, Err, length, slice_range, IfOk, IfErr};
+ghost use Rattle.edr_device.specs.Device.{Stays};
+ghost use Rattle.edr_device.specs.Faults.{HasCause, Rose};
+ghost use Rattle.edr_image.specs.declared.OpenFault.TheVariants.{OutOfMemory, Short, StoreFault};
+ghost use Rattle.edr_image.specs.Image.{bank_view, header_of, image_refusal, image_size, place_of, view_of};
+ghost use Rattle.edr_banks.specs.Opening.{IsRefusal, banks_of, refusal_by, view_when_opened};
+
+use crate::reading::bank_view;
+use crate::{BankView, Banks, Header, OpenFault, image_size};
+use edr_device::{Failed, Nvm};
+use edr_layout::{place_of, read_count, read_header};
+use std::alloc::Global;
+
+// How many bytes stand before the banks.
+const FIRST: u32 = 96;
+
+// What a bank of the device holds.
+fn read_bank<N: Nvm>(nvm: &mut N, bank: u8) -> Result<BankView, Failed>
+    requires from { 1 ≤ bank }
+    requires to { bank ≤ 16 }
+    requires room { place_of bank + 512 ≤ N.extent nvm.old }
+    ensures view { IfOk result (λ v. (bytes : List ℕ) → N.content nvm.old ≡ Some bytes
+        → v ≡ bank_view (slice_range bytes (place_of bank) (place_of bank + 512))) }
+    ensures size { N.extent nvm.new ≡ N.extent nvm.old }
+    ensures cause { HasCause (N.faults nvm.old) (N.faults nvm.new) result }
+    ensures device { N.goes_on nvm.old nvm.new }
+    ensures stays { Stays (N.content nvm.old) (N.settled nvm.old) (N.since nvm.old)
+        (N.content nvm.new) (N.settled nvm.new) (N.since nvm.new) }
+    ensures clock { N.clock nvm.new ≡ N.clock nvm.old }
+    ensures good { N.last_good nvm.new ≡ N.last_good nvm.old }
+{
+    let mut bytes = [0; 512];
+    nvm.read(place_of(bank), &mut bytes)?;
+    Ok(bank_view(&bytes))
+}
+
+// What the first banks of the device hold.
+fn read_banks<N: Nvm>(alloc: Global, nvm: &mut N, count: u8) -> Result<Vec<BankView>, OpenFault>
+    requires few { count ≤ 16 }
+    requires room { image_size count ≤ N.extent nvm.old }
+    ensures views { IfOk result (λ v. (bytes : List ℕ) → N.content nvm.old ≡ Some bytes → v.items ≡ banks_of count bytes) }
+    ensures all { IfOk result (λ v. length v.items ≡ count) }
+    ensures fault { IfErr result (λ e. (e ≡ OutOfMemory) ⊎ ((e ≡ StoreFault) × Rose (N.faults nvm.old) (N.faults nvm.new))) }
+    ensures later { N.faults nvm.old ≤ N.faults nvm.new }
+    ensures size { N.extent nvm.new ≡ N.extent nvm.old }
+    ensures device { N.goes_on nvm.old nvm.new }
+    ensures stays { Stays (N.content nvm.old) (N.settled nvm.old) (N.since nvm.old)
+        (N.content nvm.new) (N.settled nvm.new) (N.since nvm.new) }
+    ensures clock { N.clock nvm.new ≡ N.clock nvm.old }
+    ensures good { N.last_good nvm.new ≡ N.last_good nvm.old }
+{
+    let Ok(mut banks) = Vec::with_capacity(alloc, count as usize) else {
+        return Err(OpenFault::OutOfMemory);
+    };
+    for k in 0..count {
+        let Ok(view) = read_bank(nvm, k + 1) else {
+            return Err(OpenFault::StoreFault);
+        };
+        banks.push_reserved(view);
+    }
+    Ok(banks)
+}
+
+// The header that the first bytes of an image of this size say, or why the image is refused.
+#[tactic(auto, unfolding(crate::specs::Opening::refusal_by))]
+fn header_by(first: &[u8; 96], size: u32) -> Result<Header, OpenFault>
+    ensures header { IfOk result (λ h. h ≡ header_of first.now) }
+    ensures accepted { IfOk result (λ h. refusal_by first.now size ≡ None) }
+    ensures within { IfOk result (λ h. (2 ≤ h.banks) × (h.banks ≤ 16)) }
+    ensures fits { IfOk result (λ h. image_size h.banks ≤ size) }
+    ensures refused { IfErr result (λ e. refusal_by first.now size ≡ Some e) }
+    ensures kind { IfErr result IsRefusal }
+    ensures sizes { IfErr result (λ e. (found needed : ℕ) → e ≡ Short found needed → (found ≡ size) × (found < needed)) }
+{
+    let header = match read_header(first) {
+        Ok(header) => header,
+        Err(refused) => return Err(OpenFault::Header(refused)),
+    };
+    let needed = image_size(header.banks);
+    if size < needed {
+        return Err(OpenFault::Short { size, needed });
+    }
+    Ok(header)
+}
+
+impl Banks {
+    /// Reads the banks of an image. It makes no changing call.
+    pub fn open<N: Nvm>(alloc: Global, nvm: &mut N) -> Result<Banks, OpenFault>
+        ensures view { IfOk result (λ b. (bytes : List ℕ) → N.content nvm.old ≡ Some bytes → view_of bytes ≡ Some (view_when_opened b)) }
+        ensures held { IfOk result (λ b. (b.held ≡ None) × (b.ended ≡ false)) }
+        // The device has the bytes of so many banks, also where it tells none.
+        ensures fits { IfOk result (λ b. image_size b.store.header.banks ≤ N.extent nvm.old) }
+        // The cause of each refusal; and an image without one is not refused, by `view`.
+        ensures refused { IfErr result (λ e. IsRefusal e → (bytes : List ℕ) → N.content nvm.old ≡ Some bytes → image_refusal bytes ≡ Some e) }
+        ensures short { N.extent nvm.old < 96 → result ≡ Err (Short (N.extent nvm.old) 96) }
+        ensures sizes { IfErr result (λ e. (size needed : ℕ) → e ≡ Short size needed → (size ≡ N.extent nvm.old) × (size < needed)) }
+        ensures fault { IfErr result (λ e. e ≡ StoreFault → Rose (N.faults nvm.old) (N.faults nvm.new)) }
+        ensures later { N.faults nvm.old ≤ N.faults nvm.new }
+        ensures size { N.extent nvm.new ≡ N.extent nvm.old }
+        ensures stays { Stays (N.content nvm.old) (N.settled nvm.old) (N.since nvm.old)
+            (N.content nvm.new) (N.settled nvm.new) (N.since nvm.new) }
+        ensures clock { N.clock nvm.new ≡ N.clock nvm.old }
+        ensures good { N.last_good nvm.new ≡ N.last_good nvm.old }
+        ensures device { N.goes_on nvm.old nvm.new }
+    {
+        let size = nvm.size();
+        if size < FIRST {
+            return Err(OpenFault::Short {
+                size,
+                needed: FIRST,
+            });
+        }
+        let mut first = [0; 96];
+        if nvm.read(0, &mut first).is_err() {
+            return Err(OpenFault::StoreFault);
+        }
+        let header = header_by(&first, size)?;
+        let banks = read_banks(alloc, nvm, header.banks)?;
+        Ok(Banks {
+            header,
+            banks,
+            count: read_count(&first),
+            held: None,
+            ended: false,
+        })
+    }
+}

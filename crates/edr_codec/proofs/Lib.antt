@@ -1,0 +1,5 @@
+pub mod FieldLemmas
+pub mod RowLemmas
+pub mod PreLemmas
+pub mod PutLemmas
+pub mod CrashLemmas

@@ -1,0 +1,138 @@
+//! The crash part: 320 bytes.
+
+ghost use Rattle.std.specs.Prelude.{◌≡◌, ◌+◌, ◌*◌, ◌≤◌, ◌++◌, None, Some, IfOk, IfErr, OnOk, All, length, take, max, slice_index, sum_by};
+ghost use Rattle.std.specs.List.{flat_map};
+ghost use Rattle.edr_record.specs.Bounds.{window_from_end, point_count};
+ghost use Rattle.edr_image.specs.PartBytes.{crash_fields, crash_damage, crash_at, crash_bytes, extreme_at, extreme_bytes};
+ghost use Rattle.edr_codec.specs.Rows.{fields_of, row_size};
+
+use crate::Damaged;
+use crate::pieces::{Piece, put_all, put_bytes, read_all};
+use crate::rows::{Row, check_rows};
+use edr_record::{Crash, Extreme};
+
+// How many points an axis has room for.
+const POINTS: usize = 26;
+
+// How many points an axis has, from the time of the end.
+fn point_count(end: u16) -> usize
+    ensures count { result ≡ point_count end }
+    ensures some { 1 ≤ result }
+    ensures most { result ≤ 26 }
+{
+    usize::from(end.min(220) + 30) / 10 + 1
+}
+
+// How long after time zero extremes and missing samples are looked for, from the time of the end.
+fn window_from_end(end: u16) -> u32
+    ensures { result ≡ window_from_end end }
+{
+    u32::from(end.min(270)) + 30
+}
+
+// The fields of a crash part with this end.
+fn crash_rows(end: u16) -> [Row; 13]
+    ensures fields { flat_map fields_of result ≡ crash_fields end }
+    ensures sizes { All (λ r. r.size ≤ 4) result }
+    ensures room { sum_by row_size result ≡ 320 }
+{
+    let count = point_count(end);
+    let window = window_from_end(end);
+    let last = u32::from(end).max(window);
+    let changes = Row::either(count - 1, 2, (0, 3000), (62_536, 65_535));
+    let change = Row::either(1, 2, (0, 3000), (62_536, 65_535));
+    let past = Row::of(POINTS - count, 2, (0, 0));
+    let first = Row::of(1, 2, (0, 0));
+    let time = Row::of(1, 2, (0, window));
+    [
+        Row::of(1, 2, (20, 500)),
+        first,
+        changes,
+        past,
+        first,
+        changes,
+        past,
+        change,
+        time,
+        change,
+        Row::of(4, 2, (0, window)),
+        Row::either(8, 2, (0, last), (0xffff, 0xffff)),
+        Row::of(184, 1, (0, 0)),
+    ]
+}
+
+// The extreme whose bytes begin at a place.
+fn extreme_from(bytes: &[u8; 320], at: usize) -> Extreme
+    requires { at + 4 ≤ 320 }
+    ensures { result ≡ extreme_at bytes.now at }
+{
+    Extreme {
+        kmh: i16::read_at(bytes, at),
+        at: u16::read_at(bytes, at + 2),
+    }
+}
+
+// Writes an extreme over the bytes that begin at a place.
+fn put_extreme(extreme: Extreme, out: &mut [u8], at: usize)
+    requires { at + 4 ≤ length out.old }
+    ensures { take (at + 4) out.new ≡ take at out.old ++ extreme_bytes extreme }
+{
+    extreme.kmh.put_at(out, at);
+    extreme.at.put_at(out, at + 2);
+}
+
+/// Writes a crash part as its bytes.
+#[tactic(auto, unfolding(edr_image::specs::PartBytes::crash_bytes))]
+pub fn put_crash(crash: &Crash, out: &mut [u8; 320])
+    ensures { out.new ≡ crash_bytes crash.now }
+{
+    crash.end.put_at(out, 0);
+    put_all(&crash.along, out, 2);
+    put_all(&crash.across, out, 54);
+    put_extreme(crash.max_along, out, 106);
+    put_extreme(crash.max_across, out, 110);
+    crash.result_at.put_at(out, 114);
+    crash.missing_along.put_at(out, 116);
+    crash.missing_across.put_at(out, 118);
+    put_all(&crash.fired, out, 120);
+    put_bytes(out, 136, &[0; 184]);
+}
+
+// The crash part that whole bytes say.
+fn crash_from(bytes: &[u8; 320]) -> Crash
+    requires { crash_damage bytes.now 0 ≡ None }
+    ensures { result ≡ crash_at bytes.now 0 }
+{
+    Crash {
+        end: u16::read_at(bytes, 0),
+        along: read_all(bytes, 2),
+        across: read_all(bytes, 54),
+        max_along: extreme_from(bytes, 106),
+        max_across: extreme_from(bytes, 110),
+        result_at: u16::read_at(bytes, 114),
+        missing_along: u16::read_at(bytes, 116),
+        missing_across: u16::read_at(bytes, 118),
+        fired: read_all(bytes, 120),
+    }
+}
+
+// Whether bytes are those of a crash part, and else where they begin none.
+#[tactic(auto, unfolding(edr_image::specs::PartBytes::crash_damage))]
+fn check_crash(bytes: &[u8; 320]) -> Result<(), Damaged>
+    ensures whole { OnOk result (crash_damage bytes.now 0 ≡ None) }
+    ensures damaged { IfErr result (λ d. crash_damage bytes.now 0 ≡ Some d.offset) }
+    ensures found { IfErr result (λ d. d.found ≡ slice_index bytes.now d.offset) }
+{
+    check_rows(bytes, &crash_rows(u16::read_at(bytes, 0)))
+}
+
+/// The crash part that bytes spell, or the first byte with which they begin none.
+pub fn read_crash(bytes: &[u8; 320]) -> Result<Crash, Damaged>
+    ensures read { IfOk result (λ c. c ≡ crash_at bytes.now 0) }
+    ensures whole { OnOk result (crash_damage bytes.now 0 ≡ None) }
+    ensures damaged { IfErr result (λ d. crash_damage bytes.now 0 ≡ Some d.offset) }
+    ensures found { IfErr result (λ d. d.found ≡ slice_index bytes.now d.offset) }
+{
+    check_crash(bytes)?;
+    Ok(crash_from(bytes))
+}

@@ -1,0 +1,13 @@
+use Rattle.std.proofs.Common.{rules}
+use Rattle.edr_device.proofs.fused_calls.FusedNvm.sync.Goals as goal
+
+pub returns-then-is_due-clause-stops : goal.returns-then-is_due-clause-stops
+returns-then-is_due-clause-stops g c = λ stopping. (
+  search rules,
+  record {
+    fails = search rules;
+    cycled = c.power_cycle-cycled.result;
+    power = search rules;
+    marks = search rules;
+  },
+)

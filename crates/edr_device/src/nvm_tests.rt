@@ -1,0 +1,332 @@
+//! The memory in memory and the fuse, by numbers; and what a caller knows of any device.
+ghost use Rattle.std.specs.Prelude.{◌≡◌, ◌+◌, ◌≤◌, ℕ, List, length, OnOk, IsOk, IfOk};
+ghost use Rattle.edr_device.specs.Device.{Elapses, IsQuiet};
+ghost use Rattle.edr_device.specs.Faults.{HasCause};
+ghost use Rattle.edr_device.specs.Memory.{memory_image};
+ghost use Rattle.edr_device.specs.Pieces.{SameBut, put_at};
+
+use crate::device::Nvm;
+use crate::fused::Fused;
+use crate::mem_nvm::MemNvm;
+use crate::pieces::write_gated;
+use crate::stream::Failed;
+use std::alloc::{AllocError, Global};
+use std::process::Abort;
+use std::test::Fail;
+
+// Writes a piece, settles it, and reads it back.
+fn write_and_read_back<N: Nvm>(
+    nvm: &mut N,
+    at: u32,
+    piece: &[u8],
+    into: &mut [u8],
+) -> Result<(), Failed>
+    requires range { at + length piece.now ≤ N.extent nvm.old }
+    requires few { (1 ≤ length piece.now) × (length piece.now ≤ 512) }
+    requires same { length into.old ≡ length piece.now }
+    ensures size { N.extent nvm.new ≡ N.extent nvm.old }
+    ensures cause { HasCause (N.faults nvm.old) (N.faults nvm.new) result }
+    ensures device { N.goes_on nvm.old nvm.new }
+    ensures back { OnOk result (
+        (bytes : List ℕ) → IsQuiet (N.content nvm.old) (N.settled nvm.old) bytes → into.new ≡ piece.now) }
+    ensures settled { OnOk result (
+        (bytes : List ℕ) → IsQuiet (N.content nvm.old) (N.settled nvm.old) bytes
+        → IsQuiet (N.content nvm.new) (N.settled nvm.new) (put_at at piece.now bytes)) }
+    // A crash at any moment leaves what was there, but for the piece's place.
+    ensures any_moment { (bytes : List ℕ) → IsQuiet (N.content nvm.old) (N.settled nvm.old) bytes
+        → Elapses (N.clock nvm.old) (N.since nvm.old) (N.since nvm.new) (SameBut at (length piece.now) bytes) }
+    // So does one after the write, and one after the sync leaves the piece too.
+    ensures after_write { OnOk result (
+        (bytes image : List ℕ) → IsQuiet (N.content nvm.old) (N.settled nvm.old) bytes
+        → N.since nvm.new (N.clock nvm.old + 1) image → SameBut at (length piece.now) bytes image) }
+    ensures after_sync { OnOk result (
+        (bytes image : List ℕ) → IsQuiet (N.content nvm.old) (N.settled nvm.old) bytes
+        → N.since nvm.new (N.clock nvm.old + 2) image → image ≡ put_at at piece.now bytes) }
+{
+    nvm.write(at, piece)?;
+    nvm.sync()?;
+    nvm.read(at, into)?;
+    Ok(())
+}
+
+// A byte, if there is one and it can be read.
+fn byte_at<N: Nvm>(nvm: &mut N, at: u32) -> Option<u8> {
+    let mut byte = [0];
+    if at < nvm.size() && nvm.read(at, &mut byte).is_ok() {
+        return Some(byte[0]);
+    }
+    None
+}
+
+// The bytes 10 to 17, with these calls that fail.
+fn eight_bytes(
+    alloc: Global,
+    fails: &[u32],
+    read_fails: &[u32],
+    pick: u64,
+) -> Result<MemNvm, AllocError>
+    ensures { IfOk result (λ m. length (memory_image m) ≡ 8) }
+{
+    let image = [10u8, 11, 12, 13, 14, 15, 16, 17].to_vec(alloc)?;
+    MemNvm::new(
+        alloc,
+        image,
+        20,
+        fails.to_vec(alloc)?,
+        read_fails.to_vec(alloc)?,
+        pick,
+    )
+}
+
+#[derive(Clone, Copy)]
+enum Step {
+    Write(u32, [u8; 2]),
+    Sync,
+    Cut,
+}
+
+// One call, whether it fails or not; a write past the end is none.
+fn make<N: Nvm>(nvm: &mut N, step: Step) -> Result<(), Failed> {
+    match step {
+        Step::Write(at, bytes) => {
+            if u64::from(at) + 2 > u64::from(nvm.size()) {
+                return Ok(());
+            }
+            nvm.write(at, &bytes)
+        }
+        Step::Sync => nvm.sync(),
+        Step::Cut => nvm.power_cycle(),
+    }
+}
+
+// These steps and then a power cut leave this image by the picks 0, 1 and 7.
+fn check_images(
+    rt: &impl Abort,
+    alloc: Global,
+    steps: &[Step],
+    fails: &[u32],
+    images: [[u8; 8]; 3],
+) -> Result<(), Fail> {
+    for (i, pick) in [0u64, 1, 7].into_iter().enumerate() {
+        let mut memory = eight_bytes(alloc, fails, &[], pick)?;
+        for &step in steps {
+            let _ = make(&mut memory, step);
+        }
+        assert_eq!(rt; memory.power_cycle(), Ok(()));
+        assert_eq!(rt; memory.image(), images[i].as_slice(), "pick {pick}");
+    }
+    Ok(())
+}
+
+const BEGIN: [u8; 8] = [10, 11, 12, 13, 14, 15, 16, 17];
+
+const FIRST: Step = Step::Write(2, [101, 102]);
+
+const SECOND: Step = Step::Write(3, [111, 112]);
+
+// Draws from state 7 give 94, 63, 49 and 145, in the order of the offsets.
+#[test]
+fn pick_gives_each_byte_that_is_not_settled(rt: HostRuntime) -> Result<(), Fail> {
+    let alloc = rt.alloc();
+    check_images(&rt, alloc, &[], &[], [BEGIN; 3])?;
+    let one = [
+        BEGIN,
+        [10, 11, 101, 102, 14, 15, 16, 17],
+        [10, 11, 94, 63, 14, 15, 16, 17],
+    ];
+    check_images(&rt, alloc, &[FIRST], &[], one)?;
+    let two = [
+        BEGIN,
+        [10, 11, 101, 111, 112, 15, 16, 17],
+        [10, 11, 94, 63, 49, 15, 16, 17],
+    ];
+    check_images(&rt, alloc, &[FIRST, SECOND], &[], two)?;
+    let last_and_first = [Step::Write(6, [101, 102]), Step::Write(0, [111, 112])];
+    let apart = [
+        BEGIN,
+        [111, 112, 12, 13, 14, 15, 101, 102],
+        [94, 63, 12, 13, 14, 15, 49, 145],
+    ];
+    check_images(&rt, alloc, &last_and_first, &[], apart)
+}
+
+#[test]
+fn sync_and_power_cut_settle_all(rt: HostRuntime) -> Result<(), Fail> {
+    let alloc = rt.alloc();
+    let written = [10, 11, 101, 102, 14, 15, 16, 17];
+    check_images(&rt, alloc, &[FIRST, Step::Sync], &[], [written; 3])?;
+    let over = [
+        written,
+        [10, 11, 101, 111, 112, 15, 16, 17],
+        [10, 11, 101, 94, 63, 15, 16, 17],
+    ];
+    check_images(&rt, alloc, &[FIRST, Step::Sync, SECOND], &[], over)?;
+    let cut = [BEGIN, written, [10, 11, 94, 63, 14, 15, 16, 17]];
+    check_images(&rt, alloc, &[FIRST, Step::Cut], &[], cut)?;
+    let over_the_cut = [
+        BEGIN,
+        [10, 11, 101, 111, 112, 15, 16, 17],
+        [10, 11, 94, 94, 63, 15, 16, 17],
+    ];
+    check_images(&rt, alloc, &[FIRST, Step::Cut, SECOND], &[], over_the_cut)
+}
+
+#[test]
+fn failed_call_changes_nothing(rt: HostRuntime) -> Result<(), Fail> {
+    let alloc = rt.alloc();
+    let one = [
+        BEGIN,
+        [10, 11, 101, 102, 14, 15, 16, 17],
+        [10, 11, 94, 63, 14, 15, 16, 17],
+    ];
+    check_images(&rt, alloc, &[FIRST, Step::Sync], &[2], one)?;
+    check_images(&rt, alloc, &[FIRST, SECOND], &[2], one)?;
+    check_images(&rt, alloc, &[FIRST, Step::Sync], &[1], [BEGIN; 3])
+}
+
+#[test]
+fn calls_fail_by_their_numbers_and_past_the_last(rt: HostRuntime) -> Result<(), Fail> {
+    let alloc = rt.alloc();
+    let mut memory = eight_bytes(alloc, &[2], &[1, 3], 0)?;
+    let mut byte = [99u8];
+    for (call, want) in [(1, false), (2, true), (3, false), (4, true)] {
+        let read = memory.read(7, &mut byte);
+        assert_eq!(rt; read.is_ok(), want, "read {call}");
+        assert_eq!(rt; byte[0], if call == 1 { 99 } else { 17 });
+    }
+    for call in 1..25u32 {
+        let made = make(&mut memory, if call % 2 == 0 { Step::Sync } else { FIRST });
+        assert_eq!(rt; made.is_ok(), call != 2 && call <= 20, "call {call}");
+    }
+    assert_eq!(rt; memory.size(), 8);
+    let image = [1u8].to_vec(alloc)?;
+    let no_calls = Vec::new(alloc);
+    let mut many = MemNvm::new(alloc, image, u32::MAX, no_calls, Vec::new(alloc), 0)?;
+    assert_eq!(rt;
+        many.sync(),
+        Ok(()),
+        "what it keeps of past calls takes no memory"
+    );
+    Ok(())
+}
+
+// A piece of three bytes and its gate over a stop in this call. Answers whether all was written.
+fn gate_until(memory: &mut MemNvm, stop: u32) -> bool
+    requires { length (memory_image memory.old) ≡ 8 }
+{
+    let mut fused = Fused::new(memory);
+    fused.arm(stop);
+    let written = write_gated(&mut fused, 2, &[101, 102, 103], 0, 0xA5);
+    let whole = written.is_ok() && !fused.spent() && !fused.broken();
+    let stopped = written.is_err() && fused.spent() && !fused.broken();
+    fused.end();
+    whole || !stopped
+}
+
+#[test]
+fn stop_at_each_call_of_a_gated_piece(rt: HostRuntime) -> Result<(), Fail> {
+    let piece = [10, 11, 101, 102, 103, 15, 16, 17];
+    let all = [0xA5, 11, 101, 102, 103, 15, 16, 17];
+    let in_piece = [BEGIN, piece, [10, 11, 94, 63, 49, 15, 16, 17]];
+    let in_gate = [piece, all, [94, 11, 101, 102, 103, 15, 16, 17]];
+    // An armed write is passed on, and an armed sync isn't.
+    for (stop, passed, images) in [
+        (0, 4, [all; 3]),
+        (1, 1, in_piece),
+        (2, 1, in_piece),
+        (3, 3, in_gate),
+        (4, 3, in_gate),
+        (5, 4, [all; 3]),
+    ] {
+        for (i, pick) in [0u64, 1, 7].into_iter().enumerate() {
+            let mut memory = eight_bytes(rt.alloc(), &[], &[], pick)?;
+            let whole = gate_until(&mut memory, stop);
+            assert_eq!(rt; whole, stop == 0 || stop == 5, "stop {stop}");
+            assert_eq!(rt; memory.clock, passed, "stop {stop}");
+            assert_eq!(rt; memory.faults, 0, "stop {stop}");
+            assert_eq!(rt;
+                memory.image(),
+                images[i].as_slice(),
+                "stop {stop}, pick {pick}"
+            );
+        }
+    }
+    Ok(())
+}
+
+#[test]
+fn spent_fuse_refuses_until_it_is_lifted(rt: HostRuntime) -> Result<(), Fail> {
+    let mut memory = eight_bytes(rt.alloc(), &[], &[], 1)?;
+    let mut fused = Fused::new(&mut memory);
+    fused.arm(2);
+    assert_eq!(rt; make(&mut fused, FIRST), Ok(()));
+    assert_eq!(rt; make(&mut fused, SECOND), Err(Failed));
+    assert!(rt; fused.spent());
+    for step in [FIRST, Step::Sync, Step::Cut] {
+        assert_eq!(rt; make(&mut fused, step), Err(Failed));
+    }
+    assert_eq!(rt; byte_at(&mut fused, 4), None);
+    fused.lift();
+    assert!(rt; !fused.spent() && !fused.broken());
+    assert_eq!(rt; byte_at(&mut fused, 4), Some(112));
+    // A plan that waits stays when the fuse is lifted.
+    fused.arm(3);
+    assert_eq!(rt; fused.sync(), Ok(()));
+    fused.lift();
+    assert_eq!(rt; fused.sync(), Ok(()));
+    assert_eq!(rt; fused.sync(), Err(Failed));
+    fused.end();
+    assert_eq!(rt; memory.clock, 4);
+    assert_eq!(rt; memory.faults, 0);
+    Ok(())
+}
+
+// The stop is in the second call; a call of the device fails at these numbers.
+#[test]
+fn fuse_is_broken_where_the_device_failed(rt: HostRuntime) -> Result<(), Fail> {
+    for (fails, steps, broken) in [
+        ([1], [FIRST, FIRST], true),
+        ([2], [FIRST, FIRST], true),
+        ([2], [FIRST, Step::Sync], false),
+        ([3], [FIRST, FIRST], false),
+    ] {
+        let mut memory = eight_bytes(rt.alloc(), &fails, &[1], 0)?;
+        let mut fused = Fused::new(&mut memory);
+        fused.arm(2);
+        for step in steps {
+            let _ = make(&mut fused, step);
+        }
+        assert!(rt; fused.spent());
+        assert_eq!(rt; fused.broken(), broken);
+        fused.lift();
+        assert_eq!(rt; byte_at(&mut fused, 0), None);
+        assert!(rt; fused.broken());
+        fused.end();
+    }
+    Ok(())
+}
+
+#[test]
+fn piece_is_read_back_over_memory_and_fuse(rt: HostRuntime) -> Result<(), Fail> {
+    let mut into = [0u8; 2];
+    let mut memory = eight_bytes(rt.alloc(), &[], &[], 7)?;
+    assert_eq!(rt;
+        write_and_read_back(&mut memory, 5, &[21, 22], &mut into),
+        Ok(())
+    );
+    assert_eq!(rt; into, [21, 22]);
+    let mut fused = Fused::new(&mut memory);
+    assert_eq!(rt;
+        write_and_read_back(&mut fused, 6, &[31, 32], &mut into),
+        Ok(())
+    );
+    assert_eq!(rt; into, [31, 32]);
+    fused.arm(2);
+    assert_eq!(rt;
+        write_and_read_back(&mut fused, 0, &[41, 42], &mut into),
+        Err(Failed)
+    );
+    fused.end();
+    assert_eq!(rt; memory.image(), [94, 63, 12, 13, 14, 21, 31, 32].as_slice());
+    Ok(())
+}

@@ -1,0 +1,11 @@
+pub mod Matching
+pub mod Spelling
+pub mod PreBack
+pub mod CrashBack
+pub mod BankBytes
+pub mod BankSteps
+pub mod Views
+pub mod StepImages
+pub mod StepLists
+pub mod Writes
+pub mod PartsBack
