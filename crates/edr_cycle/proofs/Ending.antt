@@ -20,6 +20,7 @@ use Rattle.edr_banks.specs.Opened.{Opened, state_of}
 use Rattle.edr_run.specs.Cycle.{End, cut, whole, acks_before, acks_in, cut_end, issues_in, replies_in, steps_in, whole_end}
 use Rattle.edr_cycle.specs.Commits.{Commits, IsAfterFirst, IsLeftBy, IsReadyFor, Says, acks_from, first_steps, replies_from, steps_from}
 use Rattle.edr_cycle.specs.Ends.{HasFirst, IsFound, MeetsCycle, steps_at, steps_before}
+use Rattle.edr_cycle.proofs.Keeping.{first_steps-keep}
 use Rattle.edr_cycle.proofs.Lists.{left_first, left_later, length-acks_from, length-replies_from}
 
 -- ---- which command a call is one of
@@ -155,6 +156,7 @@ module _ {D : Type 0} (content : D → Option (List ℕ)) (settled : D → ℕ �
         acknowledged = λ bytes image found may. rw log (all_first image (left bytes image found may));
         any_moment = moments (Ok x) h;
         each = each_image (Ok x) h;
+        keeps = λ bytes image found had. first_steps-keep f n b.store image some (each_image (Ok x) h bytes image found had);
       }
     where
       ended : l'.acks ≡ acks_in f n b.store → ◌≡◌ {A = End} (record { report = Ran n None l'.acks; store = after b.store (steps_in f n b.store); count = n }) (whole_end f b.store (n - 1 + 1))
@@ -212,6 +214,7 @@ module _ {D : Type 0} (content : D → Option (List ℕ)) (settled : D → ℕ �
             rw long (first_of s.j reply here p.0 q.0 q.1 q.2 image p.2);
         any_moment = moments (Err e) h;
         each = each_image (Err e) h;
+        keeps = λ bytes image found had. first_steps-keep f n b.store image some (each_image (Err e) h bytes image found had);
       }
     where
       is_stop : (k : ℕ) (steps done : List Step) → IsLeftBy k steps done → 1 ≤ k → IsStop steps k done

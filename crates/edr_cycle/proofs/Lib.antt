@@ -10,3 +10,4 @@ pub mod RunSteps
 pub mod Ending
 pub mod FirstBytes
 pub mod StartLemmas
+pub mod Keeping

@@ -1,17 +1,23 @@
 -- What a cycle that was started leaves of the device, of time and in its log.
-use Rattle.std.specs.Prelude.{◌≡◌, ◌≢◌, ◌⊎◌, ◌+◌, ◌-◌, ◌≤◌, ◌<◌, ℕ, Bool, true, false, Option, Some, None, List, [], ◌++◌, flat_map, take, length, slice_get}
+use Rattle.std.specs.Prelude.{◌≡◌, ◌≢◌, ◌⊎◌, ◌+◌, ◌-◌, ◌≤◌, ◌<◌, ℕ, Bool, true, false, Option, Some, None, List, [], ◌++◌, flat_map, map, take, length, slice_get, Contains}
 use Rattle.std.specs.Option.{option_map_or}
 use Rattle.edr_items.specs.SensorLists.{SensorLists}
 use Rattle.edr_device.specs.Device.{Elapses, IsQuiet, MayLeave}
 use Rattle.edr_device.specs.Faults.{last_number}
+use Rattle.edr_record.specs.Parts.{CrashPart}
+use Rattle.edr_record.specs.declared.Record.{Record}
+use Rattle.edr_record.specs.declared.Command.TheVariants as command
 use Rattle.edr_image.specs.declared.Ack.{Ack}
+use Rattle.edr_image.specs.declared.BankView.TheVariants.{Event}
 use Rattle.edr_image.specs.Banks.{Store}
 use Rattle.edr_image.specs.Calls.{all_calls}
 use Rattle.edr_image.specs.Image.{View, view_of}
+use Rattle.edr_image.specs.Kept.{AreKept}
 use Rattle.edr_image.specs.Reports.{Report, Ran}
 use Rattle.edr_image.specs.Steps.{Step, Reply}
 use Rattle.edr_spell.specs.declared.CycleInput.{CycleInput}
-use Rattle.edr_run.specs.Cycle.{IsCycle, acks_before, acks_in, replies_in, steps_in}
+use Rattle.edr_run.specs.Cycle.{IsCycle, acks_before, acks_in, issues_in, replies_in, steps_in}
+use Rattle.edr_run.specs.Own.{IsRecordOf}
 use Rattle.edr_cycle.specs.Commits.{IsAfterFirst, Says}
 
 -- the cycle over these feeds with a stop in call j of its start and one in call k of its commands; 0 is none
@@ -45,6 +51,19 @@ pub record HasFirst (rs : List Reply) (j : ℕ) (v : View) (image : List ℕ) : 
   pub within : q ≤ length (steps_at rs j)
   pub says : Says v (steps_before rs j ++ take q (steps_at rs j)) image
 
+-- ---- what stands in the banks
+
+-- the image has the locked events of the banks v; each of its events stood there or is of the cycle n; each crash part stood in that
+-- record or is one that a Done of the cycle gives; and what was kept is kept
+pub record KeepsEvents (f : SensorLists) (n : ℕ) (v : Store) (image : List ℕ) : Type 0 where
+  pub view : View
+  pub view_is : view_of image ≡ Some view
+  pub locked : (i : ℕ) (r : Record) → slice_get v.banks i ≡ Some (Event r) → r.locked ≡ true → slice_get view.store.banks i ≡ Some (Event r)
+  pub own : (i : ℕ) (r : Record) → slice_get view.store.banks i ≡ Some (Event r) → (slice_get v.banks i ≡ Some (Event r)) ⊎ IsRecordOf f n r
+  pub crash_parts : (i : ℕ) (r : Record) (crash : CrashPart) → slice_get view.store.banks i ≡ Some (Event r) → r.crash ≡ Some crash
+      → (slice_get v.banks i ≡ Some (Event r)) ⊎ Contains (map (λ x. x.command) (issues_in f n)) (command.Done crash)
+  pub kept : AreKept v.banks (n - 1) → AreKept view.store.banks view.count
+
 -- ---- the whole of it
 
 -- The cycle with the number n over the feeds f and the banks v, which ended without a fault, or where a command failed. The words of the
@@ -71,3 +90,4 @@ pub record MeetsCycle {D : Type 0} (content : D → Option (List ℕ)) (settled 
   -- a crash meanwhile leaves the first steps
   pub any_moment : (bytes : List ℕ) → IsFound (record { store = v; count = n }) (content d) (settled d) bytes → Elapses (clock d) (since d) (since d') (IsAfterFirst (steps_in f n v) (record { store = v; count = n }))
   pub each : (bytes image : List ℕ) → IsFound (record { store = v; count = n }) (content d) (settled d) bytes → since d' (clock d) image → IsAfterFirst (steps_in f n v) (record { store = v; count = n }) image
+  pub keeps : (bytes image : List ℕ) → IsFound (record { store = v; count = n }) (content d) (settled d) bytes → since d' (clock d) image → KeepsEvents f n v image
