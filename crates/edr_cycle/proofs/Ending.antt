@@ -11,6 +11,7 @@ use Rattle.edr_items.specs.SensorLists.{SensorLists}
 use Rattle.edr_device.specs.Device.{Elapses, IsQuiet, MayLeave}
 use Rattle.edr_device.proofs.Settling.{quiet_leaves}
 use Rattle.edr_image.specs.Calls.{IsStop, acknowledged, all_calls, calls_of}
+use Rattle.edr_image.specs.Banks.{Store}
 use Rattle.edr_image.specs.Image.{View, view_of}
 use Rattle.edr_image.specs.Logged.{Logged}
 use Rattle.edr_image.specs.Reports.{Ran}
@@ -52,12 +53,12 @@ acknowledged-is (r ∷ rs) k (suc j) reply at past within =
     by_test false e h rest = ap suc rest
 
 -- the steps before a command, its own, and those after it
-split_at : (rs : List Reply) (j : ℕ) (reply : Reply) → slice_get rs j ≡ Some reply → (rest : List Step) × (flat_map (λ r. r.steps) rs ≡ steps_before rs j ++ (reply.steps ++ rest))
+pub split_at : (rs : List Reply) (j : ℕ) (reply : Reply) → slice_get rs j ≡ Some reply → (rest : List Step) × (flat_map (λ r. r.steps) rs ≡ steps_before rs j ++ (reply.steps ++ rest))
 split_at [] j reply at = absurd cc
 split_at (r ∷ rs) zero reply at = let same : r ≡ reply = cc in (flat_map (λ x. x.steps) rs, ap (λ (x : Reply). x.steps ++ flat_map (λ y. y.steps) rs) same)
 split_at (r ∷ rs) (suc j) reply at = let rest = split_at rs j reply at in (rest.0, ap (λ xs. r.steps ++ xs) rest.1 ∙ sym (append_assoc r.steps (steps_before rs j) (reply.steps ++ rest.0)))
 
-at_is : (rs : List Reply) (j : ℕ) (reply : Reply) → slice_get rs j ≡ Some reply → steps_at rs j ≡ reply.steps
+pub at_is : (rs : List Reply) (j : ℕ) (reply : Reply) → slice_get rs j ≡ Some reply → steps_at rs j ≡ reply.steps
 at_is rs j reply at = rw at refl
 
 before_all : (rs : List Reply) → steps_before rs (length rs) ≡ flat_map (λ r. r.steps) rs
@@ -75,6 +76,10 @@ false_not e = absurd (false≢true e)
 
 true_not : {A : Type 0} → true ≡ false → A
 true_not e = absurd (false≢true (sym e))
+
+pub length-acks_in : (f : SensorLists) (n : ℕ) (v : Store) → length (acks_in f n v) ≡ length (replies_in f n v)
+unfolding acks_in
+length-acks_in f n v = length-acks_from (at_rest v) (issues_in f n) ∙ sym (length-replies_from (at_rest v) (issues_in f n))
 
 -- ---- the end of a cycle
 
@@ -109,7 +114,7 @@ module _ {D : Type 0} (content : D → Option (List ℕ)) (settled : D → ℕ �
   steps_of_replies = refl
 
   length-acks : length (acks_in f n b.store) ≡ length (replies_in f n b.store)
-  length-acks = ap length (sym acks_are) ∙ length-acks_from (state_of b) (issues_in f n) ∙ sym (length-replies_from (state_of b) (issues_in f n)) ∙ ap length replies_are
+  length-acks = length-acks_in f n b.store
 
   number_is : n - 1 + 1 ≡ n
   number_is = omega (arith, some)
@@ -126,10 +131,10 @@ module _ {D : Type 0} (content : D → Option (List ℕ)) (settled : D → ℕ �
 
   all_first : (image : List ℕ) → Says seen (steps_in f n b.store) image → HasFirst (replies_in f n b.store) (length (acks_in f n b.store)) seen image
   all_first image says = record {
-    q = 0;
-    within = omega arith;
-    says = says ∙ ap (λ steps. Some (record seen { store = after b.store steps })) (steps_of_replies ∙ sym (before_all (replies_in f n b.store)) ∙ ap (steps_before (replies_in f n b.store)) (sym length-acks)
-        ∙ sym (append-nil (steps_before (replies_in f n b.store) (length (acks_in f n b.store)))));
+    done = steps_in f n b.store;
+    says = says;
+    first = record { q = 0; within = omega arith; steps = (steps_of_replies ∙ sym (before_all (replies_in f n b.store)) ∙ ap (steps_before (replies_in f n b.store)) (sym length-acks)
+        ∙ sym (append-nil (steps_before (replies_in f n b.store) (length (acks_in f n b.store))))) };
   }
 
   ended_whole : {T E : Type 0} (x : T) → Commits {E = E} content settled since clock good (issues_in f n) (Ok x) b b' l l' d d' → MeetsCycle content settled since clock good f n b.store false l'.acks d d'
@@ -227,9 +232,9 @@ module _ {D : Type 0} (content : D → Option (List ℕ)) (settled : D → ℕ �
       first_of : (j : ℕ) (reply : Reply) → slice_get (replies_in f n b.store) j ≡ Some reply → (part : List Step) (q : ℕ) → q ≤ length reply.steps → part ≡ take q reply.steps → (image : List ℕ) → Says seen (steps_before (replies_in f n b.store) j ++ part) image → HasFirst (replies_in f n b.store) j seen image
       first_of j reply here part q within is image says =
           let own = at_is (replies_in f n b.store) j reply here in record {
-            q = q;
-            within = rw own within;
-            says = says ∙ ap (λ steps. Some (record seen { store = after b.store (steps_before (replies_in f n b.store) j ++ steps) })) (is ∙ ap (take q) (sym own));
+            done = steps_before (replies_in f n b.store) j ++ part;
+            first = record { q = q; within = rw own within; steps = ap (λ steps. steps_before (replies_in f n b.store) j ++ steps) (is ∙ ap (take q) (sym own)) };
+            says = says;
           }
 
   -- with either answer

@@ -11,3 +11,4 @@ pub mod Ending
 pub mod FirstBytes
 pub mod StartLemmas
 pub mod Keeping
+pub mod Acknowledging

@@ -45,11 +45,17 @@ steps_before rs j = flat_map (λ r. r.steps) (take j rs)
 abbrev pub steps_at : List Reply → ℕ → List Step
 steps_at rs j = option_map_or (λ r. r.steps) (slice_get rs j) []
 
--- the first j commands have all their steps, the next one its first q steps, and no other has any
-pub record HasFirst (rs : List Reply) (j : ℕ) (v : View) (image : List ℕ) : Type 0 where
+-- the first j commands have all their steps, the next one has its first q steps, and no other has any
+pub record FirstSteps (rs : List Reply) (j : ℕ) (done : List Step) : Type 0 where
   pub q : ℕ
   pub within : q ≤ length (steps_at rs j)
-  pub says : Says v (steps_before rs j ++ take q (steps_at rs j)) image
+  pub steps : done ≡ steps_before rs j ++ take q (steps_at rs j)
+
+-- the image has these steps
+pub record HasFirst (rs : List Reply) (j : ℕ) (v : View) (image : List ℕ) : Type 0 where
+  pub done : List Step
+  pub first : FirstSteps rs j done
+  pub says : Says v done image
 
 -- ---- what stands in the banks
 

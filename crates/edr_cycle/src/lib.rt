@@ -4,6 +4,7 @@
 mod alone;
 mod committing;
 mod counter;
+pub mod laws;
 mod left;
 mod running;
 mod started;
