@@ -7,3 +7,5 @@ pub mod NewView
 pub mod FirstBytes
 pub mod HeaderBytes
 pub mod Marking
+pub mod TaskLemmas
+pub mod PassedLemmas

@@ -1,5 +1,5 @@
 -- What a command leaves of opened banks and of time.
-use Rattle.std.specs.Prelude.{◌≡◌, ◌≢◌, ◌⊎◌, ◌+◌, ◌≤◌, ℕ, true, List, fold, Option, Some, slice_get, Result, OnOk, OnErr}
+use Rattle.std.specs.Prelude.{◌≡◌, ◌≢◌, ◌⊎◌, ◌+◌, ◌≤◌, ◌<◌, ℕ, true, List, fold, Option, Some, slice_get, Result, OnOk, OnErr}
 use Rattle.edr_device.specs.Faults.{last_number}
 use Rattle.edr_record.specs.Parts.{CrashPart}
 use Rattle.edr_record.specs.declared.Record.{Record}
@@ -31,6 +31,7 @@ pub record Spends {T E : Type 0} (n before now good good' : ℕ) (result : Resul
   pub ok : OnOk result (now ≡ before + n)
   pub last_good : OnOk result (1 ≤ n → good' ≡ now)
   pub few : OnErr result (now ≤ before + n)
+  pub made : OnErr result (now ≢ last_number → before < now)
   pub last : OnErr result (now ≢ last_number → ((now ≡ before + 1) × (good' ≡ good)) ⊎ (now ≡ good' + 1))
 
 -- the event at place i of the image is this one, or a Done of the bank that is held has given it its crash part

@@ -4,3 +4,4 @@ pub mod Fields
 pub mod Applying
 pub mod Opening
 pub mod Formatting
+pub mod Tasks

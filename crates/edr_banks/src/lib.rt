@@ -7,11 +7,14 @@ ghost use Rattle.edr_image.specs.Image.{image_size};
 
 use std::marker::Model;
 
+mod applying;
 mod choosing;
 mod formatting;
 mod opening;
 mod reading;
 mod retrieving;
+mod taking;
+mod tasks;
 
 pub use edr_image::{
     Ack, Applied, BankView, Choice, CycleReport, Found, Header, HeaderRefused, Kind, Log, OpenFault,

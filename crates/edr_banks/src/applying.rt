@@ -1,0 +1,66 @@
+//! Commands on the banks.
+ghost use Rattle.std.specs.Prelude.{◌≡◌, ◌+◌, ◌-◌, ◌≤◌, ◌⊎◌, [], ℕ, true, false, List, Some, length, slice_get, IfOk, IfErr, OnOk, OnErr, Ok, Err};
+ghost use Rattle.edr_device.specs.Device.{IsQuiet, StillTells};
+ghost use Rattle.edr_device.specs.Faults.{Rose};
+ghost use Rattle.edr_record.specs.Parts.{CrashPart};
+ghost use Rattle.edr_record.specs.declared.Record.{Record};
+ghost use Rattle.edr_image.specs.declared.BankView.TheVariants.{Event};
+ghost use Rattle.edr_image.specs.declared.Applied.TheVariants.{NotKept};
+ghost use Rattle.edr_image.specs.Calls.{all_calls};
+ghost use Rattle.edr_image.specs.Image.{View, image_size, view_of};
+ghost use Rattle.edr_gates.specs.Taken.{AreStopped, AreTaken, EachIsPassed, IsReady, MayTakeAll, PassMeanwhile};
+ghost use Rattle.edr_banks.specs.Applying.{IsOldOrDone, IsSameOrDone, Spends, ended_after, opened_after, reply_of, steps_for};
+ghost use Rattle.edr_banks.specs.declared.ApplyFault.TheVariants.{StoreFault, Ended};
+
+use crate::taking::take_on;
+use crate::{Applied, ApplyFault, Banks, Command};
+use edr_device::Nvm;
+
+impl Banks {
+    pub fn apply<N: Nvm>(&mut self, nvm: &mut N, command: &Command) -> Result<Applied, ApplyFault>
+        requires { image_size self.old.store.header.banks ≤ N.extent nvm.old }
+        ensures size { N.extent nvm.new ≡ N.extent nvm.old }
+        ensures device { N.goes_on nvm.old nvm.new }
+        ensures tells { StillTells (N.content nvm.old) (N.content nvm.new) }
+        ensures answer { IfOk result (λ a. (self.old.ended ≡ false) × (a ≡ (reply_of self.old command.now).answer)) }
+        ensures next { OnOk result (self.new ≡ opened_after self.old (steps_for self.old command.now)) }
+        // Nothing is done where the table has no step, and after a fault of the device.
+        ensures not_kept { self.old.ended ≡ false → steps_for self.old command.now ≡ []
+            → (result ≡ Ok NotKept) × (self.new ≡ self.old) × (nvm.new ≡ nvm.old) }
+        ensures kept { IfOk result (λ a. a ≡ NotKept → steps_for self.old command.now ≡ []) }
+        ensures ended { self.old.ended ≡ true → (result ≡ Err Ended) × (self.new ≡ self.old) × (nvm.new ≡ nvm.old) }
+        ensures fault { IfErr result (λ e. self.old.ended ≡ false → (e ≡ StoreFault) × Rose (N.faults nvm.old) (N.faults nvm.new)) }
+        ensures spoiled { OnErr result (self.new ≡ ended_after self.old) }
+        ensures later { N.faults nvm.old ≤ N.faults nvm.new }
+        ensures time { self.old.ended ≡ false → Spends (all_calls (steps_for self.old command.now))
+            (N.clock nvm.old) (N.clock nvm.new) (N.last_good nvm.old) (N.last_good nvm.new) result }
+        // The steps may be taken on these banks.
+        ensures may { MayTakeAll self.old.store.banks (steps_for self.old command.now) }
+        ensures taken { OnOk result (AreTaken (steps_for self.old command.now)
+            (N.content nvm.old) (N.settled nvm.old) (N.content nvm.new) (N.settled nvm.new)) }
+        ensures stopped { OnErr result (self.old.ended ≡ false → AreStopped (steps_for self.old command.now) (N.clock nvm.new - N.clock nvm.old)
+            (N.content nvm.old) (N.settled nvm.old) (N.content nvm.new) (N.settled nvm.new)) }
+        ensures any_moment { PassMeanwhile (steps_for self.old command.now) (N.content nvm.old) (N.settled nvm.old)
+            (N.clock nvm.old) (N.since nvm.old) (N.since nvm.new) }
+        ensures each { EachIsPassed (steps_for self.old command.now) (N.content nvm.old) (N.settled nvm.old)
+            (N.clock nvm.old) (N.since nvm.new) }
+        // A locked event stays in each image, but for the crash part that its own Done gives it.
+        ensures locked { (bytes image : List ℕ) (v w : View) (i : ℕ) (r : Record) → IsReady (steps_for self.old command.now) (N.content nvm.old) (N.settled nvm.old) bytes v
+            → v.store ≡ self.old.store → N.since nvm.new (N.clock nvm.old) image → view_of image ≡ Some w
+            → slice_get v.store.banks i ≡ Some (Event r) → r.locked ≡ true → IsSameOrDone command.now self.old.held i r w.store.banks }
+        ensures crash_parts { (bytes image : List ℕ) (v w : View) (i : ℕ) (r : Record) (crash : CrashPart) → IsReady (steps_for self.old command.now) (N.content nvm.old) (N.settled nvm.old) bytes v
+            → v.store ≡ self.old.store → N.since nvm.new (N.clock nvm.old) image → view_of image ≡ Some w
+            → slice_get w.store.banks i ≡ Some (Event r) → r.crash ≡ Some crash → IsOldOrDone command.now self.old.held v.store.banks i crash }
+    {
+        if self.ended {
+            return Err(ApplyFault::Ended);
+        }
+        let task = self.task(command);
+        if take_on(nvm, &task, self.header.banks).is_err() {
+            self.ended = true;
+            return Err(ApplyFault::StoreFault);
+        }
+        self.note(&task);
+        Ok(task.answer())
+    }
+}

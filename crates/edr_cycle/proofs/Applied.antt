@@ -1,0 +1,74 @@
+-- What an applied command says, in the words of commits.
+use Rattle.std.proofs.Common.{◌≡◌, ◌⊎◌, ◌≤◌, ◌-◌, ℕ, Bool, Option, List, [], ◌∷◌, refl, sym, ap, subst, inl, inr, arith, Ok, Err}
+use Rattle.std.specs.Prelude.{Contains}
+use Rattle.std.proofs.lemmas.List.Sums.{sum_by-cons}
+use Rattle.edr_device.specs.Device.{Elapses, IsQuiet, MayLeave}
+use Rattle.edr_device.proofs.Settling.{elapses_more}
+use Rattle.edr_image.specs.Banks.{Store}
+use Rattle.edr_image.specs.Calls.{all_calls, calls_of, stops}
+use Rattle.edr_image.specs.Image.{View}
+use Rattle.edr_image.specs.Steps.{Step, Erase, Fill, Lock, Done}
+use Rattle.edr_image.proofs.StopLaws.{contains_cases, contains_none, stops-is}
+use Rattle.edr_gates.specs.Taken.{AreStopped, AreTaken, MayTakeAll, PassMeanwhile}
+use Rattle.edr_gates.specs.Taken as taken
+use Rattle.edr_banks.specs.Applying.{Spends}
+use Rattle.edr_cycle.specs.Commits.{IsAfterFirst, IsLeftBy, IsReadyFor, Makes, Says}
+
+some_calls : (s : Step) (steps : List Step) → 1 ≤ all_calls (s ∷ steps)
+some_calls s steps = let cons = sum_by-cons calls_of s steps in let one = few s in omega (arith, cons, one)
+  where
+    few : (s : Step) → 1 ≤ calls_of s
+    few (Erase m) = omega arith
+    few (Fill m pre) = omega arith
+    few (Lock m) = omega arith
+    few (Done m crash) = omega arith
+
+no_steps : (steps : List Step) → all_calls steps ≡ 0 → steps ≡ []
+no_steps [] e = refl
+no_steps (s ∷ steps) e = absurd (let some = some_calls s steps in omega (arith, some, e))
+
+-- a stop before the first call
+none_left : (steps done : List Step) → Contains (stops 0 steps) done → done ≡ []
+unfolding stops
+none_left [] done h = contains_none done _ h
+none_left (Erase m ∷ steps) done h = elim (contains_cases [] [] done h) [ inl e ↦ sym e | inr none ↦ contains_none done _ none ]
+none_left (Fill m pre ∷ steps) done h = elim (contains_cases [] [] done h) [ inl e ↦ sym e | inr none ↦ contains_none done _ none ]
+none_left (Lock m ∷ steps) done h = elim (contains_cases [] [] done h) [ inl e ↦ sym e | inr none ↦ contains_none done _ none ]
+none_left (Done m crash ∷ steps) done h = elim (contains_cases [] [] done h) [ inl e ↦ sym e | inr none ↦ contains_none done _ none ]
+
+left_by : (k : ℕ) (steps done : List Step) → Contains (stops k steps) done → IsLeftBy k steps done
+left_by k steps done h = by_call (split k) where
+  split : (k : ℕ) → (k ≡ 0) ⊎ (1 ≤ k)
+  split k = grind arith
+
+  by_call : (k ≡ 0) ⊎ (1 ≤ k) → IsLeftBy k steps done
+  by_call (inl none) = inl (none, none_left steps done (subst (λ n. Contains (stops n steps) done) none h))
+  by_call (inr some) = inr (stops-is steps k done some h)
+
+module _ {D : Type 0} (content : D → Option (List ℕ)) (settled : D → ℕ → Bool) (since : D → ℕ → List ℕ → Type 0) (clock good : D → ℕ) (steps : List Step) (store : Store) (may : MayTakeAll store.banks steps) (d d' : D) where
+  ready : (bytes : List ℕ) (v : View) → IsReadyFor store (content d) (settled d) bytes v → taken.IsReady steps (content d) (settled d) bytes v
+  ready bytes v h = record { quiet = h.quiet; view = h.view_is; may = subst (λ (s : Store). MayTakeAll s.banks steps) (sym h.store_is) may }
+
+  pub makes_ok : {T E T' E' : Type 0} (x : T) (y : T') → Spends {E = E} (all_calls steps) (clock d) (clock d') (good d) (good d') (Ok x) → (steps ≡ [] → d' ≡ d) → Makes {E = E'} (all_calls steps) (clock d) (clock d') (good d) (good d') (Ok y)
+  makes_ok x y h none = record {
+    later = h.later;
+    ok = h.ok;
+    good_is = (h.last_good, λ zero_calls. ap good (none (no_steps steps zero_calls)));
+    few = tt;
+    made = tt;
+    last = tt;
+  }
+
+  pub makes_err : {T E T' E' : Type 0} (e : E) (e' : E') → Spends {T = T} (all_calls steps) (clock d) (clock d') (good d) (good d') (Err e) → Makes {T = T'} (all_calls steps) (clock d) (clock d') (good d) (good d') (Err e')
+  makes_err e e' h = record { later = h.later; ok = tt; good_is = tt; few = h.few; made = h.made; last = h.last }
+
+  pub taken_says : AreTaken steps (content d) (settled d) (content d') (settled d') → (bytes : List ℕ) (v : View) → IsReadyFor store (content d) (settled d) bytes v → (now : List ℕ) × IsQuiet (content d') (settled d') now × Says v steps now
+  taken_says h bytes v r = let x = h bytes v (ready bytes v r) in (x.0, x.1, x.2.view)
+
+  pub stopped_cuts : AreStopped steps (clock d' - clock d) (content d) (settled d) (content d') (settled d') → (bytes image : List ℕ) (v : View) → IsReadyFor store (content d) (settled d) bytes v → MayLeave (content d') (settled d') image → (part : List Step) × IsLeftBy (clock d' - clock d) steps part × Says v part image
+  stopped_cuts h bytes image v r left =
+      let x = h bytes image v (ready bytes v r) left in
+      (x.done, left_by (clock d' - clock d) steps x.done x.left, x.has.view)
+
+  pub pass_says : PassMeanwhile steps (content d) (settled d) (clock d) (since d) (since d') → (bytes : List ℕ) (v : View) → IsReadyFor store (content d) (settled d) bytes v → Elapses (clock d) (since d) (since d') (IsAfterFirst steps v)
+  pass_says h bytes v r = elapses_more (clock d) (since d) (since d') (taken.IsPassed steps bytes v) (IsAfterFirst steps v) (h bytes v (ready bytes v r)) (λ image p. record { p = p.p; within = p.within; says = p.has.view })

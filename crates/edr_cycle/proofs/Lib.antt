@@ -1,0 +1,14 @@
+pub mod Answered
+pub mod Bytes
+pub mod Slots
+pub mod Front
+pub mod Lists
+pub mod Committed
+pub mod Applied
+pub mod Issues
+pub mod RunSteps
+pub mod Ending
+pub mod FirstBytes
+pub mod StartLemmas
+pub mod Keeping
+pub mod Acknowledging

@@ -1,0 +1,218 @@
+-- While a cycle runs, what the core was given and what is left are its lists, and what the closed ticks issued is committed.
+use Rattle.std.proofs.Common.{arith, refl, ap, sym, subst, ◌≡◌, ◌∙◌, ℕ, ◌+◌, ◌-◌, ◌*◌, ◌/◌, ◌<◌, ◌≤◌, inl, Bool, Some, Option, List, [], ◌∷◌, ◌++◌, map, length, append_assoc, append-nil, Result, Ok, Err, OnOk}
+use Rattle.std.specs.Prelude.{IsErr}
+use Rattle.std.proofs.lemmas.Bool.{eqb-true}
+use Rattle.std.proofs.lemmas.List.{length-append, length-map}
+use Rattle.edr_items.specs.declared.Sensor.{Sensor}
+use Rattle.edr_items.specs.declared.Sensor.TheVariants.{Along, Across, Speed, Throttle, Brake, Belt, Lamp, Restraint}
+use Rattle.edr_items.specs.declared.Item.{Item}
+use Rattle.edr_items.specs.Item.{mark_of, IsFeed}
+use Rattle.edr_items.specs.SensorLists.{SensorLists, no_items, items_of, with_items, horizon_of, AreFeeds, IsLevel, sensors}
+use Rattle.edr_items.proofs.FeedLemmas.{refusal_of-rises}
+use Rattle.edr_definitions.specs.Commands.{Issue, commands, issue_at, issues}
+use Rattle.edr_definitions.specs.Schedule.{Progress, Give, Close, IsAllowed, after_step, with_item, IsUnderWay}
+use Rattle.edr_definitions.proofs.KeepLaws.{commands-start}
+use Rattle.edr_definitions.proofs.LaterLaws.{issues-push}
+use Rattle.edr_definitions.proofs.MarkLaws.{AreFeeds-each, mark-more, horizon-least, horizon-more, horizon-with_item}
+use Rattle.edr_definitions.proofs.ScheduleLaws.{never_ahead}
+use Rattle.edr_core.specs.Contents.{CoreContents}
+use Rattle.edr_core.specs.StandsFor.{CoreIsFor}
+use Rattle.edr_merge.specs.Answers.{is_waited_for, waited_for}
+use Rattle.edr_merge.proofs.StandsLemmas.{find-holds}
+use Rattle.edr_record.specs.declared.Command.{Command}
+use Rattle.edr_image.specs.Logged.{Logged}
+use Rattle.edr_banks.specs.Opened.{Opened}
+use Rattle.edr_run.specs.Cycle.{issues_in}
+use Rattle.edr_cycle.specs.Commits.{Commits}
+use Rattle.edr_cycle.proofs.Committed.{commits_failed, commits_none, commits_same, commits_then}
+use Rattle.edr_cycle.proofs.Issues.{issues-few, issues-more, issues-under_way}
+
+-- how many items are left
+abbrev pub left_count : SensorLists → ℕ
+left_count left =
+    length left.along + length left.across + length left.speed + length left.throttle
+    + (length left.brake + length left.belt + length left.lamp + length left.restraint)
+
+-- of each sensor the core of cycle n was given what stands before what is left
+pub record IsGiven (lists : SensorLists) (n : ℕ) (core : CoreContents) (left : SensorLists) : Type 0 where
+  pub progress : Progress
+  pub core_is : CoreIsFor core n progress
+  pub within : progress.closed ≤ horizon_of progress.given
+  pub rest : (s : Sensor) → items_of s lists ≡ items_of s progress.given ++ items_of s left
+
+-- what it issued is committed
+pub record Runs {D : Type 0} (content : D → Option (List ℕ)) (settled : D → ℕ → Bool) (since : D → ℕ → List ℕ → Type 0) (clock good : D → ℕ) (lists : SensorLists) (n : ℕ) (core : CoreContents) (left : SensorLists) (b b' : Opened) (l l' : Logged) (d d' : D) : Type 0 where
+  pub given : IsGiven lists n core left
+  pub commits : Commits {T = Unit {0}} {E = Unit {0}} content settled since clock good (issues given.progress.given n given.progress.closed) (Ok tt) b b' l l' d d'
+
+-- ---- what is left
+rest_gives : (s r : Sensor) (x : Item) (ys : List Item) (lists given left : SensorLists) → ((q : Sensor) → items_of q lists ≡ items_of q given ++ items_of q left) → items_of s left ≡ x ∷ ys → items_of r lists ≡ items_of r (with_item s x given) ++ items_of r (with_items s ys left)
+rest_gives Along Along x ys lists given left h is = h Along ∙ ap (λ xs. given.along ++ xs) is ∙ sym (append_assoc given.along (x ∷ []) ys)
+rest_gives Across Across x ys lists given left h is = h Across ∙ ap (λ xs. given.across ++ xs) is ∙ sym (append_assoc given.across (x ∷ []) ys)
+rest_gives Speed Speed x ys lists given left h is = h Speed ∙ ap (λ xs. given.speed ++ xs) is ∙ sym (append_assoc given.speed (x ∷ []) ys)
+rest_gives Throttle Throttle x ys lists given left h is = h Throttle ∙ ap (λ xs. given.throttle ++ xs) is ∙ sym (append_assoc given.throttle (x ∷ []) ys)
+rest_gives Brake Brake x ys lists given left h is = h Brake ∙ ap (λ xs. given.brake ++ xs) is ∙ sym (append_assoc given.brake (x ∷ []) ys)
+rest_gives Belt Belt x ys lists given left h is = h Belt ∙ ap (λ xs. given.belt ++ xs) is ∙ sym (append_assoc given.belt (x ∷ []) ys)
+rest_gives Lamp Lamp x ys lists given left h is = h Lamp ∙ ap (λ xs. given.lamp ++ xs) is ∙ sym (append_assoc given.lamp (x ∷ []) ys)
+rest_gives Restraint Restraint x ys lists given left h is = h Restraint ∙ ap (λ xs. given.restraint ++ xs) is ∙ sym (append_assoc given.restraint (x ∷ []) ys)
+rest_gives s r x ys lists given left h is = h r
+
+-- one item fewer is left
+pub left_count-less : (s : Sensor) (x : Item) (ys : List Item) (left : SensorLists) → items_of s left ≡ x ∷ ys → left_count (with_items s ys left) + 1 ≡ left_count left
+left_count-less Along x ys left is = let n = ap length is in omega (arith, n)
+left_count-less Across x ys left is = let n = ap length is in omega (arith, n)
+left_count-less Speed x ys left is = let n = ap length is in omega (arith, n)
+left_count-less Throttle x ys left is = let n = ap length is in omega (arith, n)
+left_count-less Brake x ys left is = let n = ap length is in omega (arith, n)
+left_count-less Belt x ys left is = let n = ap length is in omega (arith, n)
+left_count-less Lamp x ys left is = let n = ap length is in omega (arith, n)
+left_count-less Restraint x ys left is = let n = ap length is in omega (arith, n)
+
+nothing_given : (s : Sensor) (xs : List Item) → xs ≡ items_of s no_items ++ xs
+nothing_given s xs = elim s as (λ r. xs ≡ items_of r no_items ++ xs) [ Along ↦ refl | Across ↦ refl | Speed ↦ refl | Throttle ↦ refl | Brake ↦ refl | Belt ↦ refl | Lamp ↦ refl | Restraint ↦ refl ]
+
+-- nothing is issued at first
+nothing_issued : (n : ℕ) → issues no_items n 0 ≡ []
+unfolding commands
+nothing_issued n = none (issues no_items n 0) (by_commands n)
+  where
+    none : (xs : List Issue) → map (λ i. i.command) xs ≡ [] → xs ≡ []
+    none [] h = refl
+    none (x ∷ xs) h = absurd (cc)
+
+    by_commands : (n : ℕ) → map (λ i. i.command) (issues no_items n 0) ≡ []
+    by_commands n = commands-start no_items n
+
+-- what holds with an Ok holds of this one
+pub on_ok : {T E P : Type 0} (r : Result T E) (x : T) → r ≡ Ok x → OnOk r P → P
+on_ok {P = P} r x is h = subst (λ y. OnOk y P) is h
+
+-- ---- the steps of a run
+module _ {D : Type 0} (content : D → Option (List ℕ)) (settled : D → ℕ → Bool) (since : D → ℕ → List ℕ → Type 0) (clock good : D → ℕ) (lists : SensorLists) (n : ℕ) (b : Opened) (l : Logged) (d : D) where
+  abbrev Now : CoreContents → SensorLists → Opened → Logged → D → Type 0
+  Now core left b' l' d' = Runs content settled since clock good lists n core left b b' l l' d d'
+
+  -- a run begins with all items left
+  pub run-begins : (core : CoreContents) (left : SensorLists) → CoreIsFor core n (record { given = no_items; closed = 0 }) → left ≡ lists → Now core left b l d
+  run-begins core left is all = record {
+    given = record {
+      progress = record { given = no_items; closed = 0 };
+      core_is = is;
+      within = omega arith;
+      rest = λ s. ap (items_of s) (sym all) ∙ nothing_given s (items_of s left);
+    };
+    commits = rw (nothing_issued n) (commits_none content settled since clock good tt b l d);
+  }
+
+  -- a tick that is closed, with what it issues
+  pub run-closes : {T E : Type 0} (core core' : CoreContents) (left : SensorLists) (b' b'' : Opened) (l' l'' : Logged) (d' d'' : D) (t : ℕ) (cs : List Command) (r : Result T E) (x : T) → (run : Now core left b' l' d')
+      → CoreIsFor core' n (after_step run.given.progress Close) → IsAllowed Close run.given.progress
+      → t ≡ run.given.progress.closed + 1 → issues run.given.progress.given n t ≡ issues run.given.progress.given n run.given.progress.closed ++ map (issue_at t) cs
+      → r ≡ Ok x → Commits content settled since clock good (map (issue_at t) cs) r b' b'' l' l'' d' d''
+      → Now core' left b'' l'' d''
+  run-closes {T} {E} core core' left b' b'' l' l'' d' d'' t cs r x run is may next adds was does =
+      let p = run.given.progress in
+      let ended : Result (Unit {0}) (Unit {0}) = Ok tt in
+      let done : Commits content settled since clock good (map (issue_at t) cs) ended b' b'' l' l'' d' d'' = commits_same content settled since clock good (map (issue_at t) cs) r x tt b' b'' l' l'' d' d'' was does in
+      record {
+        given = record { progress = after_step p Close; core_is = is; within = omega (arith, may); rest = run.given.rest };
+        commits = commits_then content settled since clock good (issues p.given n p.closed) (map (issue_at t) cs) (issues p.given n (p.closed + 1)) ended ended tt b b' b'' l l' l'' d d' d'' (ap (issues p.given n) (sym next) ∙ adds) refl run.commits done;
+      }
+
+  -- an item that is given is no longer left
+  pub run-gives : (core core' : CoreContents) (left left' : SensorLists) (b' : Opened) (l' : Logged) (d' : D) (s : Sensor) (x : Item) → (run : Now core left b' l' d')
+      → CoreIsFor core' n (after_step run.given.progress (Give s x)) → IsAllowed (Give s x) run.given.progress
+      → items_of s left ≡ x ∷ items_of s left' → left' ≡ with_items s (items_of s left') left
+      → Now core' left' b' l' d'
+  run-gives core core' left left' b' l' d' s x run is may next others =
+      let p = run.given.progress in
+      let later : p.closed < x.moment = let a = run.given.within in let b = horizon-least p.given s in let c = refusal_of-rises s (mark_of (items_of s p.given)) x may.0 in omega (arith, a, b, c) in
+      record {
+        given = record {
+          progress = after_step p (Give s x);
+          core_is = is;
+          within = let a = run.given.within in let b = horizon-with_item s x p.given may.0 in omega (arith, a, b);
+          rest = λ q. rest_gives s q x (items_of s left') lists p.given left run.given.rest next ∙ ap (λ (l : SensorLists). items_of q (with_item s x p.given) ++ items_of q l) (sym others);
+        };
+        commits = rw (sym (issues-push s p.given x n p.closed later)) run.commits;
+      }
+
+  module _ (feeds : AreFeeds lists) (level : IsLevel lists) where
+    under_way : (core : CoreContents) (left : SensorLists) → (g : IsGiven lists n core left) → IsUnderWay lists g.progress
+    under_way core left g = record { begun = λ s. (items_of s left, g.rest s); within = g.within }
+
+    -- no more was given than there is
+    horizon-low : (p : Progress) → IsUnderWay lists p → horizon_of p.given ≤ horizon_of lists
+    horizon-low p on = horizon-more p.given lists (λ s.
+        let whole : IsFeed s (items_of s p.given ++ (on.begun s).0) = subst (λ (xs : List Item). IsFeed s xs) (on.begun s).1 (AreFeeds-each lists feeds s) in
+        let more = mark-more s 0 (items_of s p.given) (on.begun s).0 whole in
+        let e : mark_of (items_of s lists) ≡ mark_of (items_of s p.given ++ (on.begun s).0) = ap mark_of (on.begun s).1 in
+        omega (arith, more, e))
+
+    waited_at : (p : Progress) (s : Sensor) → Some s ≡ waited_for p → mark_of (items_of s p.given) ≡ p.closed
+    unfolding waited_for
+    waited_at p s waits = eqb-true (mark_of (items_of s p.given)) p.closed (find-holds (is_waited_for p) sensors s (sym waits))
+
+    -- the next item of the sensor that is waited for may be given
+    pub give-allowed : (core : CoreContents) (left : SensorLists) → (g : IsGiven lists n core left) → (s : Sensor) (x : Item) (ys : List Item) → Some s ≡ waited_for g.progress → items_of s left ≡ x ∷ ys → IsAllowed (Give s x) g.progress
+    give-allowed core left g s x ys waits next =
+        let given = items_of s g.progress.given in
+        never_ahead lists g.progress feeds level (under_way core left g) s x (ys, g.rest s ∙ ap (λ xs. given ++ xs) next ∙ sym (append_assoc given (x ∷ []) ys)) (inl (waited_at g.progress s waits))
+
+    -- a closed tick is within the horizon
+    pub closes-below : (core : CoreContents) (left : SensorLists) → (g : IsGiven lists n core left) → IsAllowed Close g.progress → core.closed + 1 ≤ horizon_of lists
+    closes-below core left g may =
+        let a = g.core_is.closed_is in
+        let b = horizon-low g.progress (under_way core left g) in
+        omega (arith, a, b, may)
+
+    -- there is room for what the next tick issues
+    pub room-left : (core : CoreContents) (left : SensorLists) (b' : Opened) (l' : Logged) (d' : D) (t : ℕ) (cs : List Command) → (run : Now core left b' l' d') → IsAllowed Close run.given.progress
+        → t ≡ run.given.progress.closed + 1 → issues run.given.progress.given n t ≡ issues run.given.progress.given n run.given.progress.closed ++ map (issue_at t) cs
+        → 3 * (horizon_of lists / 51 + 1) ≤ l.spare → length cs ≤ l'.spare
+    room-left core left b' l' d' t cs run may next adds room =
+        let p = run.given.progress in
+        let few = issues-few p.given n t in
+        let all : length (issues p.given n t) ≡ length (issues p.given n p.closed) + length cs = ap length adds ∙ length-append (issues p.given n p.closed) (map (issue_at t) cs) ∙ ap (λ k. length (issues p.given n p.closed) + k) (length-map cs (issue_at t)) in
+        let spare : l'.spare ≡ l.spare - length (issues p.given n p.closed) = ap (λ (m : Logged). m.spare) run.commits.log_is in
+        let high = horizon-low p (under_way core left run.given) in
+        let below : t / 51 ≤ horizon_of lists / 51 = omega (arith, may, next, high) in
+        omega (arith, few, all, spare, room, below)
+
+    -- what is issued up to a tick, and then the rest of the cycle
+    issues-whole : (core : CoreContents) (left : SensorLists) (t : ℕ) → (g : IsGiven lists n core left) → t ≤ horizon_of g.progress.given → (more : List Issue) × (issues_in lists n ≡ issues g.progress.given n t ++ more)
+    issues-whole core left t g upto =
+        let p = g.progress in
+        let on = under_way core left g in
+        let high = horizon-low p on in
+        let more = issues-more lists n t (horizon_of lists - t) in
+        let whole : t + (horizon_of lists - t) ≡ horizon_of lists = omega (arith, upto, high) in
+        (more.0, ap (issues lists n) (sym whole) ∙ more.1 ∙ ap (λ xs. xs ++ more.0) (sym (issues-under_way lists p n t feeds on upto)))
+
+    -- where a command of a tick fails, it is one of the cycle's
+    pub run-fails : {T E T' E' : Type 0} (core : CoreContents) (left : SensorLists) (b' b'' : Opened) (l' l'' : Logged) (d' d'' : D) (t : ℕ) (cs : List Command) (r : Result T E) (r' : Result T' E') (e : E) → (run : Now core left b' l' d') → IsAllowed Close run.given.progress
+        → t ≡ run.given.progress.closed + 1 → issues run.given.progress.given n t ≡ issues run.given.progress.given n run.given.progress.closed ++ map (issue_at t) cs
+        → r ≡ Err e → IsErr r' → Commits content settled since clock good (map (issue_at t) cs) r b' b'' l' l'' d' d''
+        → Commits content settled since clock good (issues_in lists n) r' b b'' l l'' d d''
+    run-fails core left b' b'' l' l'' d' d'' t cs r r' e run may next adds was is does =
+        let p = run.given.progress in
+        let ended : Result (Unit {0}) (Unit {0}) = Ok tt in
+        let so_far = commits_then content settled since clock good (issues p.given n p.closed) (map (issue_at t) cs) (issues p.given n t) ended r tt b b' b'' l l' l'' d d' d'' adds refl run.commits does in
+        let whole = issues-whole core left t run.given (omega (arith, may, next)) in
+        commits_failed content settled since clock good (issues p.given n t) whole.0 (issues_in lists n) r r' e b b'' l l'' d d'' whole.1 was is so_far
+
+    -- where nothing is left of the sensor that is waited for, all is committed
+    pub run-over : {T E : Type 0} (y : T) (core : CoreContents) (left : SensorLists) (b' : Opened) (l' : Logged) (d' : D) (s : Sensor) → (run : Now core left b' l' d') → Some s ≡ waited_for run.given.progress → items_of s left ≡ [] → Commits {E = E} content settled since clock good (issues_in lists n) (Ok y) b b' l l' d d'
+    run-over y core left b' l' d' s run waits over =
+        let p = run.given.progress in
+        let on = under_way core left run.given in
+        let whole : items_of s lists ≡ items_of s p.given = run.given.rest s ∙ ap (λ xs. items_of s p.given ++ xs) over ∙ append-nil (items_of s p.given) in
+        let at : mark_of (items_of s lists) ≡ p.closed = ap mark_of whole ∙ waited_at p s waits in
+        let a = horizon-least lists s in
+        let high = horizon-low p on in
+        let c = run.given.within in
+        let end : p.closed ≡ horizon_of lists = omega (arith, at, a, high, c) in
+        let all : issues_in lists n ≡ issues p.given n p.closed = ap (issues lists n) (sym end) ∙ sym (issues-under_way lists p n p.closed feeds on c) in
+        let ended : Result (Unit {0}) (Unit {0}) = Ok tt in
+        let done = commits_same content settled since clock good (issues p.given n p.closed) ended tt y b b' l l' d d' refl run.commits in
+        rw all done

@@ -1,0 +1,131 @@
+use Rattle.std.proofs.Common.{arith, ap, refl, ◌∙◌}
+use Rattle.edr_items.specs.SensorLists.{items_of}
+use Rattle.edr_definitions.specs.Core.{commands_of}
+use Rattle.edr_device.proofs.Settling.{tells_again}
+use Rattle.edr_cycle.proofs.Answered.{tells_self}
+use Rattle.edr_cycle.proofs.RunSteps.{closes-below, give-allowed, left_count, left_count-less, on_ok, room-left, run-begins, run-closes, run-fails, run-gives, run-over}
+use Rattle.edr_cycle.proofs.running.run.Goals as goal
+
+-- at first nothing was given
+pub loop-tick-init : goal.loop-tick-init
+loop-tick-init g c =
+    let N = g.N.Nvm in
+    record {
+      runs = run-begins N.content N.settled N.since N.clock N.last_good c.args.feeds.now c.args.core.cycle c.args.banks.now c.args.log.now c.args.nvm.now c.args.core c.all_of-left.result c.requires.begun c.all_of-left.ensures.all;
+      size = refl;
+      later = omega arith;
+      device = g.met.N.Nvm.goes_on_self c.args.nvm.now;
+      tells = tells_self (N.content c.args.nvm.now);
+    }
+
+-- a closed tick
+pub commit_tick-requires-clause-room : goal.commit_tick-requires-clause-room
+commit_tick-requires-clause-room g c =
+    let N = g.N.Nvm in
+    let n = c.args.core.cycle in
+    let run = c.loop-tick.invariant.runs in
+    let p = run.given.progress in
+    let step = c.in-Closed.ensures in
+    room-left N.content N.settled N.since N.clock N.last_good c.args.feeds.now n c.args.banks.now c.args.log.now c.args.nvm.now c.all_of-left.ensures.feeds c.requires.level
+    c.loop-tick.core c.loop-tick.left c.loop-tick.banks c.loop-tick.log c.loop-tick.nvm c.in-Closed.tick (commands_of (record { take = c.in-Closed.take; lock = c.in-Closed.lock; done = c.in-Closed.done })) run
+    ((step.allowed n p run.given.core_is).0 tt) (step.commands n p run.given.core_is).0 (step.ticks n p run.given.core_is) c.requires.room
+
+pub loop-tick-smaller-in-Continue-1 : goal.loop-tick-smaller-in-Continue-1
+loop-tick-smaller-in-Continue-1 g c =
+    let N = g.N.Nvm in
+    let n = c.args.core.cycle in
+    let run = c.loop-tick.invariant.runs in
+    let p = run.given.progress in
+    let step = c.in-Closed.ensures in
+    let may = (step.allowed n p run.given.core_is).0 tt in
+    let below = closes-below N.content N.settled N.since N.clock N.last_good c.args.feeds.now n c.args.banks.now c.args.log.now c.args.nvm.now c.all_of-left.ensures.feeds c.requires.level c.loop-tick.core c.loop-tick.left run.given may in
+    let before = run.given.core_is.closed_is in
+    let after = (step.stands n p run.given.core_is).closed_is in
+    omega (arith, below, before, after)
+
+pub loop-tick-preserved-in-Continue-1 : goal.loop-tick-preserved-in-Continue-1
+loop-tick-preserved-in-Continue-1 g c =
+    let N = g.N.Nvm in
+    let n = c.args.core.cycle in
+    let kept = c.loop-tick.invariant in
+    let run = kept.runs in
+    let p = run.given.progress in
+    let step = c.in-Closed.ensures in
+    let cause = c.commit_tick.ensures.cause.later in
+    let later = kept.later in
+    record {
+      runs = run-closes N.content N.settled N.since N.clock N.last_good c.args.feeds.now n c.args.banks.now c.args.log.now c.args.nvm.now
+          c.loop-tick.core c.step.new.self c.loop-tick.left c.loop-tick.banks c.commit_tick.new.banks c.loop-tick.log c.commit_tick.new.log c.loop-tick.nvm c.commit_tick.new.nvm c.in-Closed.tick
+          (commands_of (record { take = c.in-Closed.take; lock = c.in-Closed.lock; done = c.in-Closed.done })) c.commit_tick.result _ run
+          (step.stands n p run.given.core_is) ((step.allowed n p run.given.core_is).0 tt) (step.commands n p run.given.core_is).0 (step.ticks n p run.given.core_is) c.in_ok-commit_tick-in-Closed.was c.commit_tick.ensures.commits;
+      size = c.commit_tick.ensures.size ∙ kept.size;
+      later = omega (arith, cause, later);
+      device = g.met.N.Nvm.goes_on_again c.args.nvm.now c.loop-tick.nvm c.commit_tick.new.nvm kept.device c.commit_tick.ensures.device;
+      tells = tells_again _ _ _ kept.tells c.commit_tick.ensures.tells;
+    }
+
+pub returns-in_err-commit_tick-in-Closed-clause-device : goal.returns-in_err-commit_tick-in-Closed-clause-device
+returns-in_err-commit_tick-in-Closed-clause-device g c = g.met.N.Nvm.goes_on_again c.args.nvm.now c.loop-tick.nvm c.commit_tick.new.nvm c.loop-tick.invariant.device c.commit_tick.ensures.device
+
+pub returns-in_err-commit_tick-in-Closed-clause-tells : goal.returns-in_err-commit_tick-in-Closed-clause-tells
+returns-in_err-commit_tick-in-Closed-clause-tells g c = tells_again _ _ _ c.loop-tick.invariant.tells c.commit_tick.ensures.tells
+
+pub returns-in_err-commit_tick-in-Closed-clause-commits : goal.returns-in_err-commit_tick-in-Closed-clause-commits
+returns-in_err-commit_tick-in-Closed-clause-commits g c =
+    let N = g.N.Nvm in
+    let n = c.args.core.cycle in
+    let run = c.loop-tick.invariant.runs in
+    let p = run.given.progress in
+    let step = c.in-Closed.ensures in
+    run-fails N.content N.settled N.since N.clock N.last_good c.args.feeds.now n c.args.banks.now c.args.log.now c.args.nvm.now c.all_of-left.ensures.feeds c.requires.level
+    c.loop-tick.core c.loop-tick.left c.loop-tick.banks c.commit_tick.new.banks c.loop-tick.log c.commit_tick.new.log c.loop-tick.nvm c.commit_tick.new.nvm c.in-Closed.tick
+    (commands_of (record { take = c.in-Closed.take; lock = c.in-Closed.lock; done = c.in-Closed.done })) c.commit_tick.result c.from_residual.result _ run
+    ((step.allowed n p run.given.core_is).0 tt) (step.commands n p run.given.core_is).0 (step.ticks n p run.given.core_is) c.in_err-commit_tick-in-Closed.was c.from_residual.ensures.0 c.commit_tick.ensures.commits
+
+-- nothing is left of the sensor that is waited for
+pub returns-in_default-clause-commits : goal.returns-in_default-clause-commits
+returns-in_default-clause-commits g c =
+    let N = g.N.Nvm in
+    let n = c.args.core.cycle in
+    let run = c.loop-tick.invariant.runs in
+    run-over N.content N.settled N.since N.clock N.last_good c.args.feeds.now n c.args.banks.now c.args.log.now c.args.nvm.now c.all_of-left.ensures.feeds c.requires.level tt
+    c.loop-tick.core c.loop-tick.left c.loop-tick.banks c.loop-tick.log c.loop-tick.nvm c.in-Waiting.sensor run (c.in-Waiting.ensures.waits n run.given.progress run.given.core_is) c.in_default.ensures.item
+
+-- an item is given
+pub unwrap-requires : goal.unwrap-requires
+unwrap-requires g c =
+    let N = g.N.Nvm in
+    let n = c.args.core.cycle in
+    let run = c.loop-tick.invariant.runs in
+    let may = give-allowed N.content N.settled N.since N.clock N.last_good c.args.feeds.now n c.args.banks.now c.args.log.now c.args.nvm.now c.all_of-left.ensures.feeds c.requires.level
+    c.loop-tick.core c.loop-tick.left run.given c.in-Waiting.sensor c.in-Some.item _ (c.in-Waiting.ensures.waits n run.given.progress run.given.core_is) c.in-Some.ensures.item in
+    (c.accept.ensures.allowed n run.given.progress (c.in-Waiting.ensures.stands n run.given.progress run.given.core_is)).1 may
+
+pub loop-tick-smaller : goal.loop-tick-smaller
+loop-tick-smaller g c =
+    let n = c.args.core.cycle in
+    let run = c.loop-tick.invariant.runs in
+    let before = run.given.core_is.closed_is in
+    let after = (on_ok c.accept.result c.unwrap.result c.unwrap.ensures c.accept.ensures.ok n run.given.progress (c.in-Waiting.ensures.stands n run.given.progress run.given.core_is)).closed_is in
+    let others = ap left_count c.in-Some.ensures.others in
+    let less = left_count-less c.in-Waiting.sensor c.in-Some.item (items_of c.in-Waiting.sensor c.next.new.self) c.loop-tick.left c.in-Some.ensures.item in
+    omega (arith, before, after, others, less)
+
+pub loop-tick-preserved : goal.loop-tick-preserved
+loop-tick-preserved g c =
+    let N = g.N.Nvm in
+    let n = c.args.core.cycle in
+    let kept = c.loop-tick.invariant in
+    let run = kept.runs in
+    let p = run.given.progress in
+    let may = give-allowed N.content N.settled N.since N.clock N.last_good c.args.feeds.now n c.args.banks.now c.args.log.now c.args.nvm.now c.all_of-left.ensures.feeds c.requires.level
+    c.loop-tick.core c.loop-tick.left run.given c.in-Waiting.sensor c.in-Some.item _ (c.in-Waiting.ensures.waits n p run.given.core_is) c.in-Some.ensures.item in
+    let stands = on_ok c.accept.result c.unwrap.result c.unwrap.ensures c.accept.ensures.ok n p (c.in-Waiting.ensures.stands n p run.given.core_is) in
+    record {
+      runs = run-gives N.content N.settled N.since N.clock N.last_good c.args.feeds.now n c.args.banks.now c.args.log.now c.args.nvm.now
+          c.loop-tick.core c.accept.new.self c.loop-tick.left c.next.new.self c.loop-tick.banks c.loop-tick.log c.loop-tick.nvm c.in-Waiting.sensor c.in-Some.item run stands may c.in-Some.ensures.item c.in-Some.ensures.others;
+      size = kept.size;
+      later = kept.later;
+      device = kept.device;
+      tells = kept.tells;
+    }

@@ -1,0 +1,55 @@
+use Rattle.std.proofs.Common.{arith, ap, sym, ◌∙◌}
+use Rattle.edr_image.specs.Image.{View, view_of}
+use Rattle.edr_cycle.proofs.FirstBytes.{found_stays}
+use Rattle.edr_cycle.proofs.StartLemmas.{made_found, number_next, six_err, six_ok, some_view, starts_counted, starts_early}
+use Rattle.edr_cycle.proofs.starting.start.Goals as goal
+
+pub returns-in_err-started-clause-cycle : goal.returns-in_err-started-clause-cycle
+returns-in_err-started-clause-cycle g c =
+    let N = g.N.Nvm in
+    starts_early N.content N.settled N.since N.clock N.last_good g.met.N.Nvm.only_now c.args.nvm.now c.prepare.new.nvm c.from_residual.result c.from_residual.ensures.0 c.prepare.ensures.stays c.prepare.ensures.clock
+
+pub returns-in-Ok-clause-cycle : goal.returns-in-Ok-clause-cycle
+returns-in-Ok-clause-cycle g c =
+    let N = g.N.Nvm in
+    let s = c.in_ok-started.started in
+    let p = c.in_ok-started.ensures in
+    let d = c.prepare.new.nvm in
+    let e = c.count_cycle.new.nvm in
+    starts_counted N.content N.settled N.since N.clock N.last_good g.met.N.Nvm.only_now c.args.nvm.now e _ c.number.result d c.prepare.ensures.stays c.prepare.ensures.clock
+    (λ bytes v told says. c.number.ensures ∙ number_next s.banks.store s.number v (view_of bytes) p.number.0 says (p.found bytes told))
+    (six_ok (N.clock d) (N.clock e) (N.last_good e) c.in-Ok.field-0 s c.in-Ok.ensures.time) tt c.count_cycle.ensures.any_moment
+
+pub returns-in-Err-clause-cycle : goal.returns-in-Err-clause-cycle
+returns-in-Err-clause-cycle g c =
+    let N = g.N.Nvm in
+    let s = c.in_ok-started.started in
+    let p = c.in_ok-started.ensures in
+    let d = c.prepare.new.nvm in
+    let e = c.count_cycle.new.nvm in
+    starts_counted N.content N.settled N.since N.clock N.last_good g.met.N.Nvm.only_now c.args.nvm.now e _ c.number.result d c.prepare.ensures.stays c.prepare.ensures.clock
+    (λ bytes v told says. c.number.ensures ∙ number_next s.banks.store s.number v (view_of bytes) p.number.0 says (p.found bytes told))
+    (six_err (N.clock d) (N.clock e) (N.last_good e) c.in-Err.field-0 _ c.in-Err.ensures.time) c.in-Err.ensures.stopped c.count_cycle.ensures.any_moment
+
+pub returns-in-Err-clause-spent : goal.returns-in-Err-clause-spent
+returns-in-Err-clause-spent g c = λ opened bytes told.
+    let p = c.in_ok-started.ensures in
+    let low = p.number.0 in
+    let high = p.number.1 in
+    (_, p.found bytes told, ((λ e. absurd cc), (λ e. absurd (omega (arith, low, high, e)))))
+
+pub returns-in-Ok-clause-made : goal.returns-in-Ok-clause-made
+returns-in-Ok-clause-made g c = λ bytes v found.
+    let N = g.N.Nvm in
+    let s = c.in_ok-started.started in
+    let p = c.in_ok-started.ensures in
+    let d = c.args.nvm.now in
+    let m = c.prepare.new.nvm in
+    let still = found_stays v (N.content d) (N.content m) (N.settled d) (N.settled m) (N.since d) (N.since m) bytes c.prepare.ensures.stays found in
+    let next = number_next s.banks.store s.number v (view_of bytes) p.number.0 found.view_is (p.found bytes found.quiet.0) in
+    let called = c.number.ensures in
+    let made = c.in-Ok.ensures.made bytes v still (omega (arith, called, next)) in
+    let store = ap (λ (w : View). w.store) (some_view (sym found.view_is ∙ p.found bytes found.quiet.0)) in
+    let e = c.count_cycle.new.nvm in
+    let both = made_found s.banks.store s.number c.number.result v bytes made.0 (N.content e) (N.settled e) called next store made.1 made.2 in
+    (made.0, both.0, both.1)

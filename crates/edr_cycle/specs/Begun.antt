@@ -1,0 +1,31 @@
+-- What contracts see of a cycle that was started.
+use Rattle.std.specs.Prelude.{◌≡◌, ◌+◌, ◌*◌, ◌/◌, ◌≤◌, ℕ, false, None, []}
+use Rattle.edr_items.specs.SensorLists.{no_items}
+use Rattle.edr_core.specs.Contents.{CoreContents}
+use Rattle.edr_core.specs.StandsFor.{CoreIsFor}
+use Rattle.edr_image.specs.Logged.{Logged}
+use Rattle.edr_banks.specs.Opened.{Opened}
+
+-- its number, up to how many ticks there is room in its log, the banks that were found, its core and its log
+pub record Begun : Type 0 where
+  pub number : ℕ
+  pub ticks : ℕ
+  pub banks : Opened
+  pub core : CoreContents
+  pub log : Logged
+
+-- the core stands for the cycle of that number, to which nothing was given yet
+abbrev pub IsFresh : CoreContents → ℕ → Type 0
+IsFresh core number = CoreIsFor core number (record { given = no_items; closed = 0 })
+
+-- how many acknowledgements a cycle of this many ticks can have
+abbrev pub room_for : ℕ → ℕ
+room_for ticks = 3 * (ticks / 51 + 1)
+
+-- no bank is held and no fault was met, nothing was given to the core, and the log is empty, with room for all acknowledgements
+pub record IsBegun (s : Begun) : Type 0 where
+  pub none_held : s.banks.held ≡ None
+  pub not_ended : s.banks.ended ≡ false
+  pub fresh : IsFresh s.core s.number
+  pub empty : s.log.acks ≡ []
+  pub room : room_for s.ticks ≤ s.log.spare

@@ -1,0 +1,100 @@
+-- What issued commands do to opened banks, to a log and to the device, one after the other.
+use Rattle.std.specs.Prelude.{◌≡◌, ◌≢◌, ◌⊎◌, ◌+◌, ◌-◌, ◌≤◌, ◌<◌, ℕ, Bool, Option, Some, List, [], ◌++◌, map, flat_map, take, zip, length, slice_get, Result, OnOk, OnErr}
+use Rattle.edr_definitions.specs.Commands.{Issue}
+use Rattle.edr_device.specs.Device.{Elapses, IsQuiet, IsSettled, MayLeave}
+use Rattle.edr_device.specs.Faults.{last_number}
+use Rattle.edr_image.specs.declared.Ack.{Ack}
+use Rattle.edr_image.specs.Banks.{Store}
+use Rattle.edr_image.specs.Calls.{all_calls, IsStop}
+use Rattle.edr_image.specs.Image.{View, view_of}
+use Rattle.edr_image.specs.Logged.{Logged}
+use Rattle.edr_image.specs.Steps.{Step, State, Reply, after, replies}
+use Rattle.edr_banks.specs.Opened.{Opened, state_of}
+use Rattle.edr_banks.specs.Applying.{opened_after}
+use Rattle.edr_run.specs.Cycle.{ack_of}
+
+-- ---- what is issued, and the replies
+
+-- the replies to issued commands, from a state on
+abbrev pub replies_from : State → List Issue → List Reply
+replies_from s xs = replies s (map (λ i. i.command) xs)
+
+-- their steps
+abbrev pub steps_from : State → List Issue → List Step
+steps_from s xs = flat_map (λ r. r.steps) (replies_from s xs)
+
+-- the commands with their answers
+abbrev pub acks_from : State → List Issue → List Ack
+acks_from s xs = map (λ p. ack_of p.0 p.1) (zip xs (replies_from s xs))
+
+-- the steps of the first j of them
+abbrev pub first_steps : State → List Issue → ℕ → List Step
+first_steps s xs j = flat_map (λ r. r.steps) (take j (replies_from s xs))
+
+-- ---- banks, log and device
+
+-- where the device tells its bytes, all are settled, and they say these banks
+abbrev pub IsTold : Store → Option (List ℕ) → (ℕ → Bool) → Type 0
+IsTold store content settled = (bytes : List ℕ) → content ≡ Some bytes → IsSettled settled × (v : View) × (view_of bytes ≡ Some v) × (v.store ≡ store)
+
+-- the device tells bytes that say these banks, and nothing is pending
+pub record IsReadyFor (store : Store) (content : Option (List ℕ)) (settled : ℕ → Bool) (bytes : List ℕ) (v : View) : Type 0 where
+  pub quiet : IsQuiet content settled bytes
+  pub view_is : view_of bytes ≡ Some v
+  pub store_is : v.store ≡ store
+
+-- the image says what the bytes said, after these steps
+abbrev pub Says : View → List Step → List ℕ → Type 0
+Says v steps image = view_of image ≡ Some (record v { store = after v.store steps })
+
+-- after the first p of these steps
+pub record IsAfterFirst (steps : List Step) (v : View) (image : List ℕ) : Type 0 where
+  pub p : ℕ
+  pub within : p ≤ length steps
+  pub says : Says v (take p steps) image
+
+-- a stop in call k of these steps may leave these done; before the first call none is
+abbrev pub IsLeftBy : ℕ → List Step → List Step → Type 0
+IsLeftBy k steps done = ((k ≡ 0) × (done ≡ [])) ⊎ IsStop steps k done
+
+-- command j was the one that failed, after k calls in all
+pub record FailsAt (s : State) (xs : List Issue) (k j : ℕ) : Type 0 where
+  pub reply : Reply
+  pub at : slice_get (replies_from s xs) j ≡ Some reply
+  pub past : all_calls (first_steps s xs j) ≤ k
+  pub within : k ≤ all_calls (first_steps s xs j) + all_calls reply.steps
+
+-- the steps before command j are done, and some of its own
+pub record IsCut (s : State) (xs : List Issue) (k j : ℕ) (own : List Step) (v : View) (image : List ℕ) : Type 0 where
+  pub part : List Step
+  pub left : IsLeftBy (k - all_calls (first_steps s xs j)) own part
+  pub says : Says v (first_steps s xs j ++ part) image
+
+-- The issued commands up to one that failed are in the log, and a crash leaves their steps done. Unless the clock stands at its last
+-- value, the call that failed is one of the failed command's.
+pub record StopsAt (s : State) (xs : List Issue) (before now : ℕ) (content content' : Option (List ℕ)) (settled settled' : ℕ → Bool) (l l' : Logged) : Type 0 where
+  pub j : ℕ
+  pub fails : FailsAt s xs (now - before) j
+  pub made : now ≢ last_number → all_calls (first_steps s xs j) < now - before
+  pub log_is : l'.acks ≡ l.acks ++ take j (acks_from s xs)
+  pub cut : (bytes image : List ℕ) (v : View) → IsReadyFor s.store content settled bytes v → MayLeave content' settled' image → IsCut s xs (now - before) j fails.reply.steps v image
+
+-- n writes and syncs that end where one fails. `now` is the clock after them, and `good'` the last good moment. Unless the clock stands
+-- at its last value, some call was made, and nothing follows the one that failed.
+pub record Makes {T E : Type 0} (n before now good good' : ℕ) (result : Result T E) : Type 0 where
+  pub later : before ≤ now
+  pub ok : OnOk result (now ≡ before + n)
+  pub good_is : OnOk result ((0 < n → good' ≡ now) × (n ≡ 0 → good' ≡ good))
+  pub few : OnErr result (now ≤ before + n)
+  pub made : OnErr result (now ≢ last_number → before < now)
+  pub last : OnErr result (now ≢ last_number → ((now ≡ before + 1) × (good' ≡ good)) ⊎ (now ≡ good' + 1))
+
+-- The issued commands are applied to the banks and logged, one after the other, up to one that fails. The words of the device come
+-- first, as functions of it.
+pub record Commits {D T E : Type 0} (content : D → Option (List ℕ)) (settled : D → ℕ → Bool) (since : D → ℕ → List ℕ → Type 0) (clock good : D → ℕ) (xs : List Issue) (result : Result T E) (b b' : Opened) (l l' : Logged) (d d' : D) : Type 0 where
+  pub banks_are : OnOk result (b' ≡ opened_after b (steps_from (state_of b) xs))
+  pub log_is : OnOk result (l' ≡ record { acks = l.acks ++ acks_from (state_of b) xs; spare = l.spare - length xs })
+  pub time : Makes (all_calls (steps_from (state_of b) xs)) (clock d) (clock d') (good d) (good d') result
+  pub taken : OnOk result ((bytes : List ℕ) (v : View) → IsReadyFor b.store (content d) (settled d) bytes v → (now : List ℕ) × IsQuiet (content d') (settled d') now × Says v (steps_from (state_of b) xs) now)
+  pub stopped : OnErr result (StopsAt (state_of b) xs (clock d) (clock d') (content d) (content d') (settled d) (settled d') l l')
+  pub any_moment : (bytes : List ℕ) (v : View) → IsReadyFor b.store (content d) (settled d) bytes v → Elapses (clock d) (since d) (since d') (IsAfterFirst (steps_from (state_of b) xs) v)

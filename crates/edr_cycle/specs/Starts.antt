@@ -1,0 +1,60 @@
+-- What a start says of its causes and of time.
+use Rattle.std.specs.Prelude.{◌≡◌, ◌≢◌, ◌⊎◌, ◌+◌, ◌-◌, ◌≤◌, ℕ, Bool, Option, List, Result, OnOk, OnErr}
+use Rattle.edr_items.specs.SensorLists.{SensorLists}
+use Rattle.edr_device.specs.Device.{Elapses, IsQuiet, MayLeave}
+use Rattle.edr_device.specs.Faults.{last_number}
+use Rattle.edr_image.specs.Image.{View}
+use Rattle.edr_image.specs.Kept.{IsKept}
+use Rattle.edr_image.specs.Reports.{StartStopped}
+use Rattle.edr_cycle.specs.Counter.{IsCounted}
+use Rattle.edr_cycle.specs.Ends.{ComesTo, IsFound, cycle_with}
+use Rattle.edr_image.specs.declared.OpenFault.TheVariants as open_fault
+use Rattle.edr_cycle.specs.declared.started.StartFault.{StartFault}
+use Rattle.edr_cycle.specs.declared.started.StartFault.TheVariants.{Open, Spent, StoreFault, OutOfMemory}
+
+-- the device failed, in the opening or later
+abbrev pub IsStoreFault : StartFault → Type 0
+IsStoreFault (Open (open_fault.Short size needed)) = ⊥
+IsStoreFault (Open (open_fault.Header h)) = ⊥
+IsStoreFault (Open open_fault.StoreFault) = Unit {0}
+IsStoreFault (Open open_fault.OutOfMemory) = ⊥
+IsStoreFault Spent = ⊥
+IsStoreFault StoreFault = Unit {0}
+IsStoreFault OutOfMemory = ⊥
+
+-- the banks were opened
+abbrev pub IsOpened : StartFault → Type 0
+IsOpened (Open o) = ⊥
+IsOpened Spent = Unit {0}
+IsOpened StoreFault = Unit {0}
+IsOpened OutOfMemory = Unit {0}
+
+-- no changing call was made
+abbrev pub IsEarly : StartFault → Type 0
+IsEarly (Open o) = Unit {0}
+IsEarly Spent = Unit {0}
+IsEarly StoreFault = ⊥
+IsEarly OutOfMemory = Unit {0}
+
+-- Six writes and syncs, or fewer where one fails. `now` is the clock after them, and `good'` the last good moment. Unless the clock stands
+-- at its last value, nothing follows the one that failed.
+pub record MakesSix {T E : Type 0} (before now good' : ℕ) (result : Result T E) : Type 0 where
+  pub later : before ≤ now
+  pub ok : OnOk result ((now ≡ before + 6) × (good' ≡ now))
+  pub few : OnErr result (now ≤ before + 6)
+  pub last : OnErr result (now ≢ before → now ≢ last_number → (now ≡ before + 1) ⊎ (now ≡ good' + 1))
+
+-- A start, whose changing calls may have been stopped: what it leaves of time and of the device. The words of the device come first, as
+-- functions of it.
+pub record MeetsStart {D T E : Type 0} (content : D → Option (List ℕ)) (settled : D → ℕ → Bool) (since : D → ℕ → List ℕ → Type 0) (clock good : D → ℕ) (result : Result T E) (d d' : D) : Type 0 where
+  pub time : MakesSix (clock d) (clock d') (good d') result
+  -- after a fault in call r a crash leaves what a stop in that call may leave
+  pub stopped : OnErr result ((bytes image : List ℕ) (v : View) → IsFound v (content d) (settled d) bytes → MayLeave (content d') (settled d') image → IsCounted (clock d' - clock d) (v.count + 1) bytes v image)
+  -- an end of a cycle with that stop in its start
+  pub cut : OnErr result ((bytes image : List ℕ) (v : View) (f : SensorLists) → IsFound v (content d) (settled d) bytes → MayLeave (content d') (settled d') image → 1 ≤ clock d' - clock d
+      → ComesTo (cycle_with (clock d' - clock d) f 0) v.store v.count (StartStopped (clock d' - clock d)) image)
+  -- a crash meanwhile leaves the banks, and the count or one more
+  pub any_moment : (bytes : List ℕ) (v : View) → IsFound v (content d) (settled d) bytes → Elapses (clock d) (since d) (since d') (IsCounted 6 (v.count + 1) bytes v)
+  pub each : (bytes image : List ℕ) (v : View) → IsFound v (content d) (settled d) bytes → since d' (clock d) image → IsCounted 6 (v.count + 1) bytes v image
+  -- and what was kept stays so
+  pub kept : (bytes image : List ℕ) → IsQuiet (content d) (settled d) bytes → IsKept bytes → since d' (clock d) image → IsKept image

@@ -1,0 +1,61 @@
+//! A cycle that runs by itself: its items go through the core, and each tick's commands to the banks.
+
+ghost use Rattle.std.specs.Prelude.{◌≡◌, ◌+◌, ◌*◌, ◌/◌, ◌≤◌, false};
+ghost use Rattle.edr_items.specs.SensorLists.{IsLevel, horizon_of, no_items};
+ghost use Rattle.edr_core.specs.StandsFor.{CoreIsFor};
+ghost use Rattle.edr_device.specs.Device.{StillTells};
+ghost use Rattle.edr_device.specs.Faults.{HasCause};
+ghost use Rattle.edr_image.specs.Image.{image_size};
+ghost use Rattle.edr_run.specs.Cycle.{issues_in};
+ghost use Rattle.edr_cycle.specs.Commits.{Commits};
+
+use crate::committing::commit_tick;
+use crate::left::Left;
+use edr_banks::{Banks, Log};
+use edr_core::{Core, Step};
+use edr_device::{Failed, Nvm};
+use edr_items::Feeds;
+
+/// Gives the items of the feeds to the core of a cycle, and commits what it issues, up to the horizon or to a command that
+/// fails.
+///
+/// A sensor's next item is given when the core waits for that sensor, so none is refused. Where nothing is left of it, the
+/// horizon is closed.
+pub(crate) fn run<N: Nvm>(
+    core: Core,
+    feeds: &Feeds,
+    banks: &mut Banks,
+    nvm: &mut N,
+    log: &mut Log,
+) -> Result<(), Failed>
+    requires begun { CoreIsFor core core.cycle (record { given = no_items; closed = 0 }) }
+    requires level { IsLevel feeds.now }
+    requires live { banks.old.ended ≡ false }
+    requires size { image_size banks.old.store.header.banks ≤ N.extent nvm.old }
+    requires room { 3 * (horizon_of feeds.now / 51 + 1) ≤ log.old.spare }
+    ensures size { N.extent nvm.new ≡ N.extent nvm.old }
+    ensures cause { HasCause (N.faults nvm.old) (N.faults nvm.new) result }
+    ensures device { N.goes_on nvm.old nvm.new }
+    ensures tells { StillTells (N.content nvm.old) (N.content nvm.new) }
+    ensures commits { Commits N.content N.settled N.since N.clock N.last_good
+        (issues_in feeds.now core.cycle) result banks.old banks.new log.old log.new nvm.old nvm.new }
+{
+    let mut core = core;
+    let mut left = Left::all_of(feeds);
+    loop {
+        match core.step() {
+            Step::Closed {
+                tick,
+                take,
+                lock,
+                done,
+            } => commit_tick(banks, nvm, log, tick, take, lock, done)?,
+            Step::Waiting { sensor } => {
+                let Some(item) = left.next(sensor) else {
+                    return Ok(());
+                };
+                core.accept(sensor, item).unwrap();
+            }
+        }
+    }
+}

@@ -1,0 +1,105 @@
+//! The start of a cycle, which counts it.
+
+ghost use Rattle.std.specs.Prelude.{◌≡◌, ◌↔◌, ◌+◌, ◌-◌, ◌≤◌, ◌<◌, ℕ, List, Some, Err, IfOk, IfErr};
+ghost use Rattle.edr_device.specs.Device.{Stays, StillTells};
+ghost use Rattle.edr_device.specs.Faults.{Rose};
+ghost use Rattle.edr_image.specs.declared.OpenFault.{OpenFault};
+ghost use Rattle.edr_image.specs.declared.OpenFault.TheVariants.{Short};
+ghost use Rattle.edr_image.specs.Image.{View, image_refusal, image_size, view_of};
+ghost use Rattle.edr_banks.specs.Opening.{IsRefusal};
+ghost use Rattle.edr_run.specs.Cycle.{last_count};
+ghost use Rattle.edr_cycle.specs.Begun.{room_for};
+ghost use Rattle.edr_cycle.specs.Counter.{SaysWith};
+ghost use Rattle.edr_cycle.specs.Ends.{IsFound};
+ghost use Rattle.edr_cycle.specs.Starts.{IsEarly, IsOpened, IsStoreFault, MeetsStart};
+ghost use Rattle.edr_cycle.specs.declared.started.StartFault.TheVariants.{Open, Spent};
+
+use crate::counter::count_cycle;
+use crate::started::{StartFault, Started};
+use edr_banks::{Banks, Log};
+use edr_core::Core;
+use edr_device::Nvm;
+use std::alloc::Global;
+
+// How many acknowledgements a cycle of this many ticks can have: events are at least 51 ticks apart, and each issues at
+// most three commands.
+fn room_for(ticks: u32) -> u32
+    ensures { result ≡ room_for ticks }
+{
+    3 * (ticks / 51 + 1)
+}
+
+// All of a start but its changing calls: the banks are opened, and all memory is taken.
+fn prepare<N: Nvm>(alloc: Global, nvm: &mut N, ticks: u32) -> Result<Started, StartFault>
+    ensures ticks { IfOk result (λ s. s.ticks ≡ ticks) }
+    ensures found { IfOk result (λ s. (bytes : List ℕ) → N.content nvm.old ≡ Some bytes
+        → view_of bytes ≡ Some (record { store = s.banks.store; count = s.number - 1 })) }
+    ensures number { IfOk result (λ s. (1 ≤ s.number) × (s.number ≤ last_count)) }
+    ensures fits { IfOk result (λ s. image_size s.banks.store.header.banks ≤ N.extent nvm.old) }
+    ensures refused { IfErr result (λ e. (o : OpenFault) → e ≡ Open o → IsRefusal o → (bytes : List ℕ) → N.content nvm.old ≡ Some bytes → image_refusal bytes ≡ Some o) }
+    ensures short { N.extent nvm.old < 96 → result ≡ Err (Open (Short (N.extent nvm.old) 96)) }
+    ensures sizes { IfErr result (λ e. (size needed : ℕ) → e ≡ Open (Short size needed) → (size ≡ N.extent nvm.old) × (size < needed)) }
+    ensures spent { IfErr result (λ e. IsOpened e → (bytes : List ℕ) → N.content nvm.old ≡ Some bytes → (v : View) × (view_of bytes ≡ Some v) × ((e ≡ Spent) ↔ (v.count ≡ last_count))) }
+    ensures early { IfErr result IsEarly }
+    ensures fault { IfErr result (λ e. IsStoreFault e → Rose (N.faults nvm.old) (N.faults nvm.new)) }
+    ensures later { N.faults nvm.old ≤ N.faults nvm.new }
+    ensures size { N.extent nvm.new ≡ N.extent nvm.old }
+    ensures stays { Stays (N.content nvm.old) (N.settled nvm.old) (N.since nvm.old) (N.content nvm.new) (N.settled nvm.new) (N.since nvm.new) }
+    ensures clock { N.clock nvm.new ≡ N.clock nvm.old }
+    ensures good { N.last_good nvm.new ≡ N.last_good nvm.old }
+    ensures device { N.goes_on nvm.old nvm.new }
+{
+    let banks = match Banks::open(alloc, nvm) {
+        Ok(banks) => banks,
+        Err(fault) => return Err(StartFault::Open(fault)),
+    };
+    let Some(number) = banks.count().checked_add(1) else {
+        return Err(StartFault::Spent);
+    };
+    let Ok(core) = Core::open(alloc, number) else {
+        return Err(StartFault::OutOfMemory);
+    };
+    let Ok(log) = Log::with_room(alloc, room_for(ticks)) else {
+        return Err(StartFault::OutOfMemory);
+    };
+    Ok(Started {
+        number,
+        ticks,
+        banks,
+        core,
+        log,
+    })
+}
+
+/// Starts the next cycle on a memory, for feeds of at most `ticks` ticks: opens its banks, takes all memory that the cycle
+/// will need, and then counts it by six changing calls on the older slot of the count.
+pub fn start<N: Nvm>(alloc: Global, nvm: &mut N, ticks: u32) -> Result<Started, StartFault>
+    ensures ticks { IfOk result (λ s. s.ticks ≡ ticks) }
+    // The banks are those that were found, and the number is one more than the count.
+    ensures found { IfOk result (λ s. (bytes : List ℕ) → N.content nvm.old ≡ Some bytes
+        → view_of bytes ≡ Some (record { store = s.banks.store; count = s.number - 1 })) }
+    ensures number { IfOk result (λ s. (1 ≤ s.number) × (s.number ≤ last_count)) }
+    ensures fits { IfOk result (λ s. image_size s.banks.store.header.banks ≤ N.extent nvm.old) }
+    // Where nothing was pending nothing is, and the image says the same with that number as its count.
+    ensures made { IfOk result (λ s. (bytes : List ℕ) (v : View) → IsFound v (N.content nvm.old) (N.settled nvm.old) bytes
+        → (now : List ℕ) × IsFound (record { store = s.banks.store; count = s.number }) (N.content nvm.new) (N.settled nvm.new) now × SaysWith (v.count + 1) bytes v now) }
+    // The cause of each answer: what refuses the image, a count at its greatest number, a fault of the device.
+    ensures refused { IfErr result (λ e. (o : OpenFault) → e ≡ Open o → IsRefusal o → (bytes : List ℕ) → N.content nvm.old ≡ Some bytes → image_refusal bytes ≡ Some o) }
+    ensures short { N.extent nvm.old < 96 → result ≡ Err (Open (Short (N.extent nvm.old) 96)) }
+    ensures sizes { IfErr result (λ e. (size needed : ℕ) → e ≡ Open (Short size needed) → (size ≡ N.extent nvm.old) × (size < needed)) }
+    ensures spent { IfErr result (λ e. IsOpened e → (bytes : List ℕ) → N.content nvm.old ≡ Some bytes → (v : View) × (view_of bytes ≡ Some v) × ((e ≡ Spent) ↔ (v.count ≡ last_count))) }
+    ensures fault { IfErr result (λ e. IsStoreFault e → Rose (N.faults nvm.old) (N.faults nvm.new)) }
+    ensures later { N.faults nvm.old ≤ N.faults nvm.new }
+    // Any answer but a fault after the opening comes before the first changing call.
+    ensures early { IfErr result (λ e. IsEarly e → (N.clock nvm.new ≡ N.clock nvm.old) × (N.last_good nvm.new ≡ N.last_good nvm.old) × Stays (N.content nvm.old) (N.settled nvm.old) (N.since nvm.old) (N.content nvm.new) (N.settled nvm.new) (N.since nvm.new)) }
+    ensures cycle { MeetsStart N.content N.settled N.since N.clock N.last_good result nvm.old nvm.new }
+    ensures size { N.extent nvm.new ≡ N.extent nvm.old }
+    ensures tells { StillTells (N.content nvm.old) (N.content nvm.new) }
+    ensures device { N.goes_on nvm.old nvm.new }
+{
+    let started = prepare(alloc, nvm, ticks)?;
+    match count_cycle(nvm, started.number()) {
+        Ok(()) => Ok(started),
+        Err(_) => Err(StartFault::StoreFault),
+    }
+}
