@@ -13,6 +13,7 @@ use Rattle.edr_image.specs.PartBytes.{Field, damage_of_fields, crash_fields, cra
 use Rattle.edr_codec.specs.declared.rows.Row.{Row}
 use Rattle.edr_codec.specs.Rows.{fields_of}
 use Rattle.edr_codec.proofs.RowLemmas.{Lies, RowsLie, rows-lie}
+use Rattle.edr_codec.proofs.PieceLemmas.{only_zero}
 use Rattle.edr_codec.proofs.PreLemmas.{one_range, two_ranges, in_range, slots-up_to}
 
 -- a number of points is from 1 to 26
@@ -147,11 +148,6 @@ pub signed-change : (n : ℕ) → Lies change_ranges n → IsChange (signed n)
 signed-change n (inl up) = rw (lt-ltb n 32_768 (omega arith)) up.1
 signed-change n (inr (inl down)) = rw (le-ltb n 32_768 (omega arith)) (omega (arith, ints))
 signed-change n (inr (inr none)) = absurd none
-
--- a number that can only be 0
-pub only_zero : (n : ℕ) → Lies ((0, 0) ∷ []) n → n ≡ 0
-only_zero n (inl within) = omega arith
-only_zero n (inr none) = absurd none
 
 -- a point of an axis
 point-is : (bytes : List ℕ) (at count k : ℕ) → PointsLie bytes at count → k < 26 → IsChange (signed (number_at bytes (at + 2 * k) 2))

@@ -3,3 +3,11 @@ pub mod RowLemmas
 pub mod PreLemmas
 pub mod PutLemmas
 pub mod CrashLemmas
+pub mod NumberLemmas
+pub mod PieceLemmas
+pub mod PreLaws
+pub mod CrashLaws
+pub mod DamageLemmas
+pub mod MeaningLemmas
+pub mod GrammarLaws
+pub mod MovedLaws

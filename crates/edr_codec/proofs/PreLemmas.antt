@@ -24,19 +24,24 @@ two_ranges count size values others = record { count = count; size = size; value
 abbrev pub after_range : Bool → ℕ × ℕ
 after_range is_first = if is_first then (0, 0) else (1, 5_000)
 
--- the rows of a pre part, by whether its event is the first of a crash
-abbrev pub pre_table : Bool → List Row
-pre_table is_first =
-    one_range 1 4 (1, 4_294_967_295)
-    ∷ one_range 1 4 (1, 86_400_000)
-    ∷ one_range 1 1 (1, 2)
-    ∷ one_range 1 1 (0, 0)
+-- the rows behind the place byte, by whether the event is the first of a crash
+abbrev pub pre_rest : Bool → List Row
+pre_rest is_first =
+    one_range 1 1 (0, 0)
     ∷ one_range 1 2 (after_range is_first)
     ∷ two_ranges 11 2 (0, 300) (0xffff, 0xffff)
     ∷ two_ranges 11 1 (0, 100) (0xff, 0xff)
     ∷ two_ranges 13 1 (0, 1) (0xff, 0xff)
     ∷ one_range 102 1 (0, 0)
     ∷ []
+
+-- the rows of a pre part
+abbrev pub pre_table : Bool → List Row
+pre_table is_first =
+    one_range 1 4 (1, 4_294_967_295)
+    ∷ one_range 1 4 (1, 86_400_000)
+    ∷ one_range 1 1 (1, 2)
+    ∷ pre_rest is_first
 
 pub pre_table-fields : (place : ℕ) → flat_map fields_of (pre_table (nat_eq place 1)) ≡ pre_fields place
 pre_table-fields place = elim (cases_Bool (nat_eq place 1)) [ inl e ↦ rw e refl | inr e ↦ rw e refl ]

@@ -40,7 +40,7 @@ lies-end (r ∷ rs) n can = elim (or_cases (nat_le (n * 1) r.1 && nat_lt r.0 ((n
 ]
 
 -- the number with one byte more
-shift : (n b p : ℕ) → (n * 256 + b) * p ≡ n * (p * 256) + b * p
+pub shift : (n b p : ℕ) → (n * 256 + b) * p ≡ n * (p * 256) + b * p
 shift n b p = add-mul (n * 256) b p ∙ ap (λ (x : ℕ). x + b * p) (mul_assoc n 256 p ∙ ap (λ (x : ℕ). n * x) (mul_comm 256 p))
 
 -- a number of the bytes from a place on, begun with n
@@ -51,7 +51,8 @@ more bytes at n left =
     let moved = shift n b p in
     rw (add-one at, pow-suc 256 left, moved) (omega arith)
 
-cond-none : (b : Bool) (rest : Option ℕ) (at : ℕ) → (if b then rest else Some at) ≡ None → (b ≡ true) × (rest ≡ None)
+-- a test that lets the rest decide
+pub cond-none : (b : Bool) (rest : Option ℕ) (at : ℕ) → (if b then rest else Some at) ≡ None → (b ≡ true) × (rest ≡ None)
 cond-none true rest at h = (refl, h)
 cond-none false rest at h = absurd (grind arith)
 
@@ -91,7 +92,7 @@ RowsLie bytes at (r ∷ rs) = ((k : ℕ) → k < r.count → Lies (ranges_of r) 
 abbrev pub are_sized : List Row → Bool
 are_sized rows = list_all (λ r. nat_lt 0 r.size) rows
 
-option_or-none : (a b : Option ℕ) → option_or a b ≡ None → (a ≡ None) × (b ≡ None)
+pub option_or-none : (a b : Option ℕ) → option_or a b ≡ None → (a ≡ None) × (b ≡ None)
 option_or-none None b h = (refl, h)
 option_or-none (Some x) b h = absurd (grind arith)
 

@@ -3,6 +3,7 @@
 #![tactic(auto)]
 
 mod crash;
+pub mod laws;
 mod pieces;
 mod pre;
 mod rows;
@@ -16,3 +17,6 @@ pub struct Damaged {
     pub offset: u16,
     pub found: u8,
 }
+
+#[cfg(test)]
+mod tests;

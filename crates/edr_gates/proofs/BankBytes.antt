@@ -1,13 +1,13 @@
 -- What a bank shows, by its gates and parts.
 use Rattle.std.proofs.Common.{◌≡◌, ◌<◌, ◌+◌, ◌∙◌, ℕ, Bool, true, false, cond, Option, Some, None, List, slice_index, refl, sym, subst, arith}
-use Rattle.std.specs.Option.{option_map_or}
+use Rattle.std.specs.Option.{option_map_or, option_or}
 use Rattle.edr_record.specs.Parts.{PrePart, CrashPart}
 use Rattle.edr_record.specs.declared.Record.{Record}
 use Rattle.edr_image.specs.declared.BankView.{BankView}
 use Rattle.edr_image.specs.declared.BankView.TheVariants.{Void, Event, Damaged}
 use Rattle.edr_image.specs.Image.{bank_damage, bank_view, is_open, record_of}
 use Rattle.edr_image.specs.PartBytes.{crash_at, crash_damage, pre_at, pre_damage}
-use Rattle.edr_gates.proofs.Matching.{Match, both_none, crash_none, crash_same, match_part, pre_none, pre_same}
+use Rattle.edr_gates.proofs.Matching.{Match, crash_none, crash_same, match_part, pre_none, pre_same}
 
 -- the bytes from a place on are those of the part
 pub record IsPreFrom (bytes : List ℕ) (at : ℕ) (pre : PrePart) : Type 0 where
@@ -45,6 +45,11 @@ event_case : (o : Bool) (damage : Option ℕ) (f : ℕ → ℕ) (lock : Bool) (x
 event_case true None f lock x r e = (refl, refl, cc)
 event_case true (Some k) f lock x r e = absurd cc
 event_case false damage f lock x r e = absurd cc
+
+-- a first answer or else another, where there is none
+pub both_none : {X : Type 0} (o p : Option X) → option_or o p ≡ None → (o ≡ None) × (p ≡ None)
+both_none None p e = (refl, e)
+both_none (Some x) p e = absurd cc
 
 crash_case : (bank : List ℕ) (done : Bool) → is_open bank 2 ≡ done → cond done (crash_damage bank 176) None ≡ None → ShowsCrash bank 0 (cond done (Some (crash_at bank 176)) None)
 crash_case bank true gate whole = (gate, record { whole = whole; same = refl })

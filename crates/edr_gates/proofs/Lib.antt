@@ -1,7 +1,4 @@
 pub mod Matching
-pub mod Spelling
-pub mod PreBack
-pub mod CrashBack
 pub mod BankBytes
 pub mod BankSteps
 pub mod Views

@@ -18,7 +18,7 @@ use Rattle.edr_image.specs.PartBytes.{number_at}
 use Rattle.edr_image.specs.Image.{View, bank_view, count_of, header_of, header_refusal, image_refusal, image_size, magic, not_magic, place_of, slot_count, store_of, view_of}
 use Rattle.edr_gates.specs.Taken.{Holds}
 use Rattle.edr_gates.proofs.Matching.{Match, match_at, match_back}
-use Rattle.edr_gates.proofs.BankBytes.{Shows, bank_shows, shows_bank, shows_moves}
+use Rattle.edr_gates.proofs.BankBytes.{both_none, Shows, bank_shows, shows_bank, shows_moves}
 use Rattle.edr_gates.proofs.BankSteps.{beside}
 
 -- ---- an image with a view
@@ -86,15 +86,10 @@ magic_same xs ys h =
     find_same (λ k. not (nat_eq (slice_index xs k) (slice_index magic k))) (λ k. not (nat_eq (slice_index ys k) (slice_index magic k))) 0 8
     (λ k low high. rw (byte_at xs ys 96 k h (omega arith)) refl)
 
--- a test and then others find nothing
-others_none : {X : Type 0} (o p : Option X) → option_or o p ≡ None → (o ≡ None) × (p ≡ None)
-others_none None p e = (refl, e)
-others_none (Some x) p e = absurd cc
-
 header_stays : (xs ys : List ℕ) → Match xs 0 ys 0 96 → header_refusal xs ≡ None → header_refusal ys ≡ None
 unfolding header_refusal
 header_stays xs ys h e =
-    let two = others_none _ _ e in
+    let two = both_none _ _ e in
     let magic_none : not_magic ys ≡ None = sym (magic_same xs ys h) ∙ refusal_none (not_magic xs) _ two.0 in
     let version = match_at xs 0 ys 0 96 8 2 h (omega arith) in
     let banks = byte_at xs ys 96 10 h (omega arith) in

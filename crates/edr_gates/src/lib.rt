@@ -9,6 +9,8 @@
 
 mod lists;
 mod steps;
+#[cfg(test)]
+mod tests;
 
 pub use crate::lists::{replace, replace_locked};
 pub use crate::steps::{fill, finish, lock};

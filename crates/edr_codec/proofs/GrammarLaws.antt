@@ -1,0 +1,208 @@
+-- The damage of the parts means that the bytes before it begin a part, and those up to and with it don't.
+use Rattle.std.proofs.Common.{◌≡◌, ◌↔◌, inl, refl, sym, ap, ap₂, ◌∙◌, ℕ, zero, suc, ◌+◌, ◌*◌, ◌^◌, ◌<◌, ◌≤◌, max, Bool, true, false, Some, List, [], ◌∷◌, ◌++◌, length, replicate, slice_index, nat_eq, arith}
+use Rattle.std.specs.List.{flat_map}
+use Rattle.edr_record.specs.Bounds.{IsPre, IsCrash, window_from_end, point_count}
+use Rattle.edr_image.specs.PartBytes.{Field, field, damage_of_fields, pre_damage, pre_at, pre_bytes, BeginsPre, crash_fields, crash_damage, crash_at, crash_bytes, BeginsCrash, number_at, IsDamagedAt}
+use Rattle.edr_codec.specs.declared.rows.Row.{Row}
+use Rattle.edr_codec.specs.Rows.{ranges_of, fields_of, row_size}
+use Rattle.edr_codec.proofs.FieldLemmas.{fields_size, fields_size-replicate}
+use Rattle.edr_codec.proofs.RowLemmas.{Lies, can_be_in-lies}
+use Rattle.edr_codec.proofs.PieceLemmas.{AreSmall, small-bytes}
+use Rattle.edr_codec.proofs.DamageLemmas.{AreFilled, IsFilled, FieldsFilled}
+use Rattle.edr_codec.proofs.MeaningLemmas.{IsTable, IsGrammar, table_damage, table-within, table-same, table-complete, damage-means, means-damage}
+use Rattle.edr_codec.proofs.PreLemmas.{pre_rest, pre_table-fields, after_range, pre_at-is}
+use Rattle.edr_codec.proofs.CrashLemmas.{axis_rows, last_rows, crash_table-fields, crash_at-is, points-some, points-few}
+use Rattle.edr_codec.proofs.PreLaws.{pre-read_back, pre-written}
+use Rattle.edr_codec.proofs.CrashLaws.{crash-read_back, crash-written}
+
+-- ---- tables whose fields have values
+
+-- a field with some number of its size
+filled : (size : ℕ) (ranges : List (ℕ × ℕ)) (n : ℕ) → AreFilled ranges → n < 256 ^ size → Lies ranges n → IsFilled (field size ranges)
+filled size ranges n are fits lies = record {
+  ranges = are;
+  some = can_be_in-lies ranges 0 size n (omega arith) (let e : (0 + 1) * 256 ^ size ≡ 256 ^ size = omega arith in omega arith) lies;
+}
+
+abbrev RowsFilled : List Row → Type 0
+RowsFilled [] = Unit {0}
+RowsFilled (r ∷ rs) = IsFilled (field r.size (ranges_of r)) × RowsFilled rs
+
+filled-append : (xs ys : List Field) → FieldsFilled xs → FieldsFilled ys → FieldsFilled (xs ++ ys)
+filled-append [] ys a b = b
+filled-append (x ∷ xs) ys a b = (a.0, filled-append xs ys a.1 b)
+
+filled-replicate : (n : ℕ) (f : Field) → IsFilled f → FieldsFilled (replicate n f)
+filled-replicate zero f is = tt
+filled-replicate (suc n) f is = (is, filled-replicate n f is)
+
+rows-filled : (rows : List Row) → RowsFilled rows → FieldsFilled (flat_map fields_of rows)
+rows-filled [] are = tt
+rows-filled (r ∷ rs) are = filled-append (fields_of r) (flat_map fields_of rs) (filled-replicate r.count (field r.size (ranges_of r)) are.0) (rows-filled rs are.1)
+
+-- how many bytes rows have
+abbrev rows_size : List Row → ℕ
+rows_size [] = 0
+rows_size (r ∷ rs) = row_size r + rows_size rs
+
+fields_size-append : (xs ys : List Field) → fields_size (xs ++ ys) ≡ fields_size xs + fields_size ys
+fields_size-append [] ys = omega arith
+fields_size-append (x ∷ xs) ys = let ih = fields_size-append xs ys in omega arith
+
+fields_size-rows : (rows : List Row) → fields_size (flat_map fields_of rows) ≡ rows_size rows
+fields_size-rows [] = refl
+fields_size-rows (r ∷ rs) =
+    fields_size-append (fields_of r) (flat_map fields_of rs)
+    ∙ ap₂ (λ (m n : ℕ). m + n) (fields_size-replicate r.count (field r.size (ranges_of r))) (fields_size-rows rs)
+
+-- ---- the pre part
+
+abbrev pre_head : List Field
+pre_head = field 4 ((1, 4_294_967_295) ∷ []) ∷ field 4 ((1, 86_400_000) ∷ []) ∷ field 1 ((1, 2) ∷ []) ∷ []
+
+abbrev pre_tail : List ℕ → List Field
+pre_tail b = flat_map fields_of (pre_rest (nat_eq (slice_index b 8) 1))
+
+one_filled : (size low high : ℕ) → low ≤ high → low < 256 ^ size → IsFilled (field size ((low, high) ∷ []))
+one_filled size low high up fits = filled size ((low, high) ∷ []) low (up, tt) fits (inl (omega arith, up))
+
+two_filled : (size low high low2 high2 : ℕ) → low ≤ high → low2 ≤ high2 → low < 256 ^ size → IsFilled (field size ((low, high) ∷ (low2, high2) ∷ []))
+two_filled size low high low2 high2 up up2 fits = filled size ((low, high) ∷ (low2, high2) ∷ []) low (up, (up2, tt)) fits (inl (omega arith, up))
+
+after-filled : (is_first : Bool) → IsFilled (field 2 (after_range is_first ∷ []))
+after-filled true = one_filled 2 0 0 (omega arith) (omega arith)
+after-filled false = one_filled 2 1 5_000 (omega arith) (omega arith)
+
+pre-is_table : IsTable 160 pre_head pre_tail
+pre-is_table = record {
+  head_filled = (one_filled 4 1 4_294_967_295 (omega arith) (omega arith), (one_filled 4 1 86_400_000 (omega arith) (omega arith), (one_filled 1 1 2 (omega arith) (omega arith), tt)));
+  tail_filled = λ b. rows-filled (pre_rest (nat_eq (slice_index b 8) 1)) (
+    one_filled 1 0 0 (omega arith) (omega arith),
+    (
+      after-filled (nat_eq (slice_index b 8) 1),
+      (
+        two_filled 2 0 300 0xffff 0xffff (omega arith) (omega arith) (omega arith),
+        (
+          two_filled 1 0 100 0xff 0xff (omega arith) (omega arith) (omega arith),
+          (
+            two_filled 1 0 1 0xff 0xff (omega arith) (omega arith) (omega arith),
+            (one_filled 1 0 0 (omega arith) (omega arith), tt),
+          ),
+        ),
+      ),
+    ),
+  );
+  told = λ b c same. ap (λ (n : ℕ). flat_map fields_of (pre_rest (nat_eq n 1))) (same 8 (omega arith));
+  sizes = λ b. refl;
+}
+
+pre_damage-table : (b : List ℕ) → pre_damage b 0 ≡ table_damage pre_head pre_tail b
+unfolding pre_damage
+pre_damage-table b = ap (λ (fs : List Field). damage_of_fields b 0 fs) (sym (pre_table-fields (slice_index b 8)))
+
+pre-is_grammar : IsGrammar 160 IsPre pre_bytes (λ b. pre_at b 0) (table_damage pre_head pre_tail)
+pre-is_grammar = record {
+  same = λ b c k damaged same. table-same 160 pre_head pre_tail b c k pre-is_table damaged same;
+  complete = λ b k long small damaged. table-complete 160 pre_head pre_tail 160 b k pre-is_table long small damaged (omega arith);
+  read_back = λ p is. sym (pre_damage-table (pre_bytes p)) ∙ (pre-read_back p is).1;
+  written = λ b long small whole.
+      (let whole' = pre_damage-table b ∙ whole in
+      (pre_at-is b whole', sym (pre-written b long (small-bytes b small) whole')));
+}
+
+pub pre_damage-means : (b : List ℕ) (k : ℕ) → length b ≡ 160 → AreSmall b → (pre_damage b 0 ≡ Some k) ↔ IsDamagedAt (BeginsPre b) k
+pre_damage-means b k long small = (
+  (λ damaged. damage-means 160 IsPre pre_bytes (λ x. pre_at x 0) (table_damage pre_head pre_tail) b k pre-is_grammar long small (sym (pre_damage-table b) ∙ damaged)),
+  (λ means. pre_damage-table b ∙ means-damage 160 IsPre pre_bytes (λ x. pre_at x 0) (table_damage pre_head pre_tail) b k pre-is_grammar long small means),
+)
+
+-- ---- the crash part
+
+abbrev crash_head : List Field
+crash_head = field 2 ((20, 500) ∷ []) ∷ []
+
+abbrev crash_rest : ℕ → List Row
+crash_rest end = axis_rows (point_count end) (axis_rows (point_count end) (last_rows (window_from_end end) (max end (window_from_end end))))
+
+abbrev crash_tail : List ℕ → List Field
+crash_tail b = flat_map fields_of (crash_rest (number_at b 0 2))
+
+change-filled : IsFilled (field 2 ((0, 3_000) ∷ (62_536, 65_535) ∷ []))
+change-filled = two_filled 2 0 3_000 62_536 65_535 (omega arith) (omega arith) (omega arith)
+
+time-filled : (last : ℕ) → IsFilled (field 2 ((0, last) ∷ []))
+time-filled last = one_filled 2 0 last (omega arith) (omega arith)
+
+axis-filled : (count : ℕ) (rest : List Row) → RowsFilled rest → RowsFilled (axis_rows count rest)
+axis-filled count rest are = (time-filled 0, (change-filled, (time-filled 0, are)))
+
+last-filled : (window last : ℕ) → RowsFilled (last_rows window last)
+last-filled window last = (
+  change-filled,
+  (
+    time-filled window,
+    (
+      change-filled,
+      (
+        time-filled window,
+        (
+          two_filled 2 0 last 0xffff 0xffff (omega arith) (omega arith) (omega arith),
+          (one_filled 1 0 0 (omega arith) (omega arith), tt),
+        ),
+      ),
+    ),
+  ),
+)
+
+crash_tail-size : (end : ℕ) → fields_size (flat_map fields_of (crash_rest end)) ≡ 318
+crash_tail-size end =
+    let some = points-some end in
+    let few = points-few end in
+    fields_size-rows (crash_rest end) ∙ sizes (point_count end) (window_from_end end) (max end (window_from_end end)) some few where
+      sizes : (count window last : ℕ) → 1 ≤ count → count ≤ 26 → rows_size (axis_rows count (axis_rows count (last_rows window last))) ≡ 318
+      sizes count window last some few = omega arith
+
+pub crash_fields-size : (end : ℕ) → fields_size (crash_fields end) ≡ 320
+crash_fields-size end = sym (ap fields_size (crash_table-fields end)) ∙ ap (λ (n : ℕ). 2 + n) (crash_tail-size end)
+
+crash-is_table : IsTable 320 crash_head crash_tail
+crash-is_table = record {
+  head_filled = (one_filled 2 20 500 (omega arith) (omega arith), tt);
+  tail_filled = λ b.
+      (let end = number_at b 0 2 in
+      let count = point_count end in
+      let window = window_from_end end in
+      let last = last_rows window (max end window) in
+      rows-filled (crash_rest end) (axis-filled count (axis_rows count last) (axis-filled count last (last-filled window (max end window)))));
+  told = λ b c same.
+      ap (λ (n : ℕ). flat_map fields_of (crash_rest n)) (let e : number_at b 0 2 ≡ number_at c 0 2 = ap₂ (λ (x y : ℕ). x * 256 + (y * 1 + 0)) (same 0 (omega arith)) (same 1 (omega arith)) in e);
+  sizes = λ b. ap (λ (n : ℕ). 2 + n) (crash_tail-size (number_at b 0 2));
+}
+
+crash_damage-table : (b : List ℕ) → crash_damage b 0 ≡ table_damage crash_head crash_tail b
+unfolding crash_damage
+crash_damage-table b = ap (λ (fs : List Field). damage_of_fields b 0 fs) (sym (crash_table-fields (number_at b 0 2)))
+
+crash-is_grammar : IsGrammar 320 IsCrash crash_bytes (λ b. crash_at b 0) (table_damage crash_head crash_tail)
+crash-is_grammar = record {
+  same = λ b c k damaged same. table-same 320 crash_head crash_tail b c k crash-is_table damaged same;
+  complete = λ b k long small damaged. table-complete 320 crash_head crash_tail 320 b k crash-is_table long small damaged (omega arith);
+  read_back = λ p is. sym (crash_damage-table (crash_bytes p)) ∙ (crash-read_back p is).1;
+  written = λ b long small whole.
+      (let whole' = crash_damage-table b ∙ whole in
+      (crash_at-is b whole', sym (crash-written b long (small-bytes b small) whole')));
+}
+
+pub crash_damage-means : (b : List ℕ) (k : ℕ) → length b ≡ 320 → AreSmall b → (crash_damage b 0 ≡ Some k) ↔ IsDamagedAt (BeginsCrash b) k
+crash_damage-means b k long small = (
+  (λ damaged. damage-means 320 IsCrash crash_bytes (λ x. crash_at x 0) (table_damage crash_head crash_tail) b k crash-is_grammar long small (sym (crash_damage-table b) ∙ damaged)),
+  (λ means. crash_damage-table b ∙ means-damage 320 IsCrash crash_bytes (λ x. crash_at x 0) (table_damage crash_head crash_tail) b k crash-is_grammar long small means),
+)
+
+-- ---- where damage may lie
+
+pub pre_damage-within : (b : List ℕ) (k : ℕ) → pre_damage b 0 ≡ Some k → k < 160
+pre_damage-within b k damaged = table-within 160 pre_head pre_tail b k pre-is_table (sym (pre_damage-table b) ∙ damaged)
+
+pub crash_damage-within : (b : List ℕ) (k : ℕ) → crash_damage b 0 ≡ Some k → k < 320
+crash_damage-within b k damaged = table-within 320 crash_head crash_tail b k crash-is_table (sym (crash_damage-table b) ∙ damaged)

@@ -1,0 +1,5 @@
+use Rattle.edr_codec.proofs.GrammarLaws.{pre_damage-means}
+use Rattle.edr_codec.proofs.laws.pre_damage_is_first.Goals as goal
+
+pub returns : goal.returns
+returns c = pre_damage-means

@@ -1,0 +1,16 @@
+use Rattle.std.proofs.Common.{◌+◌, slice_range}
+use Rattle.edr_codec.proofs.GrammarLaws.{pre_damage-within}
+use Rattle.edr_codec.proofs.MovedLaws.{range-stands, pre_at-moved, pre_damage-moved}
+use Rattle.edr_codec.proofs.laws.pre_is_told_by_its_bytes.Goals as goal
+
+pub returns-clause-value : goal.returns-clause-value
+returns-clause-value c = λ bytes at. pre_at-moved at bytes (slice_range bytes at (at + 160)) (range-stands bytes at 160)
+
+pub returns-clause-damage : goal.returns-clause-damage
+returns-clause-damage c = λ bytes at. pre_damage-moved at bytes (slice_range bytes at (at + 160)) (range-stands bytes at 160)
+
+pub returns-clause-within : goal.returns-clause-within
+returns-clause-within c = pre_damage-within
+
+pub returns-clause-found : goal.returns-clause-found
+returns-clause-found c = λ bytes at k below. range-stands bytes at 160 k below
