@@ -9,3 +9,4 @@ pub mod HeaderBytes
 pub mod Marking
 pub mod TaskLemmas
 pub mod PassedLemmas
+pub mod KeptNew

@@ -1,9 +1,10 @@
 //! Formatting: byte 0 is put last, so no crash leaves the magic over anything but the image as it was or the new one.
-ghost use Rattle.std.specs.Prelude.{◌≡◌, ◌≢◌, ◌+◌, ◌-◌, ◌*◌, ◌≤◌, ◌<◌, ℕ, List, Some, None, Err, length, take, slice_index, OnOk, IfErr};
+ghost use Rattle.std.specs.Prelude.{◌≡◌, ◌≢◌, ◌⊎◌, ◌+◌, ◌-◌, ◌*◌, ◌≤◌, ◌<◌, ℕ, List, Some, None, Err, length, take, slice_index, OnOk, IfErr};
 ghost use Rattle.edr_device.specs.Device.{Elapses, IsQuiet, StillTells};
 ghost use Rattle.edr_device.specs.Faults.{HasCause, Rose};
 ghost use Rattle.edr_device.specs.Pieces.{SameBut};
 ghost use Rattle.edr_image.specs.Image.{choice_byte, image_size, new_image, not_magic};
+ghost use Rattle.edr_image.specs.Kept.{IsKept};
 ghost use Rattle.edr_banks.specs.Formatting.{IsBare, IsFilled, IsLeft, IsNew, IsPartlyFormatted, LacksMagic, IsUnmarked, IsUnmarking, Laid, formatted};
 ghost use Rattle.edr_banks.specs.declared.FormatFault.TheVariants.{Short, Formatted, StoreFault};
 
@@ -180,6 +181,9 @@ impl Banks {
         ensures each { (bytes image : List ℕ) → IsQuiet (N.content nvm.old) (N.settled nvm.old) bytes
             → N.since nvm.new (N.clock nvm.old) image
             → IsPartlyFormatted (record { banks = banks; choice = choice }) bytes image }
+        // Where the image was one that this program formatted, so is each of these, or it has no magic.
+        ensures kept { (bytes image : List ℕ) → IsQuiet (N.content nvm.old) (N.settled nvm.old) bytes → IsKept bytes
+            → N.since nvm.new (N.clock nvm.old) image → IsKept image ⊎ LacksMagic image }
     {
         let size = nvm.size();
         let needed = image_size(banks);

@@ -15,6 +15,8 @@ mod reading;
 mod retrieving;
 mod taking;
 mod tasks;
+#[cfg(test)]
+mod tests;
 
 pub use edr_image::{
     Ack, Applied, BankView, Choice, CycleReport, Found, Header, HeaderRefused, Kind, Log, OpenFault,

@@ -36,7 +36,7 @@ fn pre_of(bank: &[u8; 512]) -> Result<Pre, Damaged>
     match read_pre(&part) {
         Ok(pre) => Ok(pre),
         Err(Damaged { offset, found }) => Err(Damaged {
-            offset: offset + PRE as u16,
+            offset: PRE as u16 + offset,
             found,
         }),
     }
@@ -54,7 +54,7 @@ fn crash_of(bank: &[u8; 512]) -> Result<Crash, Damaged>
     match read_crash(&part) {
         Ok(crash) => Ok(crash),
         Err(Damaged { offset, found }) => Err(Damaged {
-            offset: offset + CRASH as u16,
+            offset: CRASH as u16 + offset,
             found,
         }),
     }

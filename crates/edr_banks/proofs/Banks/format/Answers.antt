@@ -5,6 +5,7 @@ use Rattle.edr_image.specs.declared.Header.{Header}
 use Rattle.edr_image.specs.Image.{image_size}
 use Rattle.edr_banks.specs.Formatting.{IsPartlyFormatted, formatted}
 use Rattle.edr_banks.proofs.FirstBytes.{elapses_after, not_read, shown_first, where_ok}
+use Rattle.edr_banks.proofs.KeptNew.{kept_part}
 use Rattle.edr_banks.proofs.Marking.{left_part}
 use Rattle.edr_banks.proofs.NewView.{formatted_new}
 use Rattle.edr_banks.proofs.Banks.format.Goals as goal
@@ -95,3 +96,23 @@ returns-in-Ok-clause-done g c = λ bytes quiet.
     let still = stays_quiet bytes (D.content start) (D.content mid) (D.settled start) (D.settled mid) (D.since start) (D.since mid) quiet c.read.ensures.stays in
     let wide : image_size c.args.banks ≤ length bytes = omega (arith, g.met.N.Nvm.told_size start bytes quiet.0, c.size-size.ensures, c.image_size-needed.ensures, c.if-size-needed.false) in
     (formatted h bytes, c.in-Ok.ensures.done bytes still (sym (shows 0 (omega arith))), formatted_new h bytes (formatted h bytes) c.requires.from c.requires.to wide refl)
+
+pub returns-then-size-needed-clause-kept : goal.returns-then-size-needed-clause-kept
+returns-then-size-needed-clause-kept g c = λ bytes image quiet kept left.
+    kept_part (record { banks = c.args.banks; choice = c.args.choice }) bytes image (returns-then-size-needed-clause-each g c bytes image quiet left) kept
+
+pub returns-then-is_err-clause-kept : goal.returns-then-is_err-clause-kept
+returns-then-is_err-clause-kept g c = λ bytes image quiet kept left.
+    kept_part (record { banks = c.args.banks; choice = c.args.choice }) bytes image (returns-then-is_err-clause-each g c bytes image quiet left) kept
+
+pub returns-then-is_none-clause-kept : goal.returns-then-is_none-clause-kept
+returns-then-is_none-clause-kept g c = λ bytes image quiet kept left.
+    kept_part (record { banks = c.args.banks; choice = c.args.choice }) bytes image (returns-then-is_none-clause-each g c bytes image quiet left) kept
+
+pub returns-in-Ok-clause-kept : goal.returns-in-Ok-clause-kept
+returns-in-Ok-clause-kept g c = λ bytes image quiet kept left.
+    kept_part (record { banks = c.args.banks; choice = c.args.choice }) bytes image (returns-in-Ok-clause-each g c bytes image quiet left) kept
+
+pub returns-in-Err-clause-kept : goal.returns-in-Err-clause-kept
+returns-in-Err-clause-kept g c = λ bytes image quiet kept left.
+    kept_part (record { banks = c.args.banks; choice = c.args.choice }) bytes image (returns-in-Err-clause-each g c bytes image quiet left) kept

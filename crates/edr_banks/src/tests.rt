@@ -1,0 +1,323 @@
+//! The banks over a memory in memory: worked cases, stops in each call, and calls that make no read.
+ghost use Rattle.std.specs.Prelude.{◌≡◌, ◌≤◌, ◌<◌, ◌^◌, IfOk, length};
+ghost use Rattle.edr_device.specs.Memory.{memory_image};
+ghost use Rattle.edr_image.specs.Image.{image_size};
+
+use super::*;
+use edr_codec::read_crash;
+use edr_device::{Fused, MemNvm, Nvm};
+use edr_layout::OPEN_GATE;
+use edr_record::{Crash, Key, Place, Pre, Record};
+use std::alloc::{AllocError, Global};
+use std::process::Abort;
+use std::test::Fail;
+
+// The pre part of an event of cycle 1, 2 or 3.
+fn pre(cycle: u32) -> Pre
+    requires from { 1 ≤ cycle }
+    requires to { cycle ≤ 3 }
+{
+    Pre {
+        key: Key { cycle, zero: 7_000 },
+        place: Place::First,
+        speed: [Some(50); 11],
+        throttle: [Some(20); 11],
+        brake: [Some(false); 11],
+        belt: Some(true),
+        lamp: Some(false),
+    }
+}
+
+// A crash part that ends at 20 ms, without any change of speed.
+fn crash() -> Result<Crash, Fail> {
+    let mut bytes = [0; 320];
+    bytes[1] = 20;
+    bytes[120..136].copy_from_slice(&[0xff; 16]);
+    Ok(read_crash(&bytes)?)
+}
+
+// A memory of zeros that takes 60 writes and syncs.
+fn zeros(
+    alloc: Global,
+    size: usize,
+    fails: &[u32],
+    read_fails: &[u32],
+    pick: u64,
+) -> Result<MemNvm, AllocError>
+    requires { size < 2 ^ 32 }
+    ensures { IfOk result (λ m. length (memory_image m) ≡ size) }
+{
+    let image = vec![in alloc; 0u8; size]?;
+    let fails = fails.to_vec(alloc)?;
+    let read_fails = read_fails.to_vec(alloc)?;
+    MemNvm::new(alloc, image, 60, fails, read_fails, pick)
+}
+
+// A formatted image with two void banks, whose further calls with these numbers fail.
+fn formatted(alloc: Global, choice: Choice, fails: &[u32], pick: u64) -> Result<MemNvm, Fail>
+    ensures { IfOk result (λ m. length (memory_image m) ≡ 1120) }
+{
+    let mut memory = zeros(alloc, 1_120, fails, &[], pick)?;
+    Banks::format(&mut memory, 2, choice)?;
+    Ok(memory)
+}
+
+#[test]
+fn format_short(rt: HostRuntime) -> Result<(), Fail> {
+    let mut memory = zeros(rt.alloc(), 95, &[], &[], 0)?;
+    let short = FormatFault::Short {
+        size: 95,
+        needed: 1_120,
+    };
+    assert_eq!(rt; Banks::format(&mut memory, 2, Choice::Keep), Err(short));
+    assert_eq!(rt; memory.image(), [0; 95].as_slice());
+    Ok(())
+}
+
+#[test]
+fn format_zero_bytes(rt: HostRuntime) -> Result<(), Fail> {
+    let mut memory = zeros(rt.alloc(), 16_480, &[], &[], 0)?;
+    assert_eq!(rt; Banks::format(&mut memory, 2, Choice::Keep), Ok(()));
+    let bytes = memory.image();
+    assert_eq!(rt; bytes.len(), 16_480);
+    assert_eq!(rt; &bytes[..12], b"EDRIMAGE\0\x01\x02\0".as_slice());
+    assert!(rt; bytes[12..].iter().all(|byte| *byte == 0));
+    Ok(())
+}
+
+#[test]
+fn refused_images(rt: HostRuntime) -> Result<(), Fail> {
+    let mut memory = formatted(rt.alloc(), Choice::Overwrite, &[], 0)?;
+    let before = memory.image().to_vec(rt.alloc())?;
+    assert_eq!(rt;
+        Banks::format(&mut memory, 2, Choice::Keep),
+        Err(FormatFault::Formatted)
+    );
+    assert_eq!(rt; memory.image(), before.as_slice());
+    let mut short = zeros(rt.alloc(), 95, &[], &[], 0)?;
+    let needed = OpenFault::Short {
+        size: 95,
+        needed: 96,
+    };
+    assert_eq!(rt; Banks::open(rt.alloc(), &mut short).err(), Some(needed));
+    let mut blank = zeros(rt.alloc(), 16_480, &[], &[], 0)?;
+    let refused = HeaderRefused::NotFormatted {
+        offset: 0,
+        found: 0,
+    };
+    assert_eq!(rt;
+        Banks::open(rt.alloc(), &mut blank).err(),
+        Some(OpenFault::Header(refused))
+    );
+    Ok(())
+}
+
+// The calls of a formatting are 6, so the seventh is the first of a command.
+#[test]
+fn done_without_bank(rt: HostRuntime) -> Result<(), Fail> {
+    let mut memory = formatted(rt.alloc(), Choice::Keep, &[7], 0)?;
+    let mut banks = Banks::open(rt.alloc(), &mut memory)?;
+    let done = Command::Done { crash: crash()? };
+    assert_eq!(rt; banks.apply(&mut memory, &done), Ok(Applied::NotKept));
+    assert_eq!(rt; banks.count(), 0);
+    Ok(())
+}
+
+#[test]
+fn store_fault_then_ended(rt: HostRuntime) -> Result<(), Fail> {
+    let mut memory = formatted(rt.alloc(), Choice::Keep, &[7], 0)?;
+    let mut banks = Banks::open(rt.alloc(), &mut memory)?;
+    let take = Command::Take { pre: pre(1) };
+    assert_eq!(rt;
+        banks.apply(&mut memory, &take),
+        Err(ApplyFault::StoreFault)
+    );
+    assert_eq!(rt; banks.apply(&mut memory, &take), Err(ApplyFault::Ended));
+    Ok(())
+}
+
+// An event is taken, locked or not, and done.
+fn keep_event<N: Nvm>(
+    banks: &mut Banks,
+    nvm: &mut N,
+    cycle: u32,
+    locks: bool,
+    crash: Crash,
+) -> Result<(), ApplyFault>
+    requires from { 1 ≤ cycle }
+    requires to { cycle ≤ 3 }
+    requires room { image_size banks.old.store.header.banks ≤ N.extent nvm.old }
+    ensures header { banks.new.store.header ≡ banks.old.store.header }
+    ensures size { N.extent nvm.new ≡ N.extent nvm.old }
+{
+    banks.apply(nvm, &Command::Take { pre: pre(cycle) })?;
+    if locks {
+        banks.apply(nvm, &Command::Lock { pre: pre(cycle) })?;
+    }
+    banks.apply(nvm, &Command::Done { crash })?;
+    Ok(())
+}
+
+// A bank that holds the event of a cycle.
+fn event(bank: u8, cycle: u32, locked: bool, crash: Option<Crash>) -> Found
+    requires from { 1 ≤ cycle }
+    requires to { cycle ≤ 3 }
+{
+    let view = BankView::Event(Record {
+        pre: pre(cycle),
+        locked,
+        crash,
+    });
+    Found { bank, view }
+}
+
+#[test]
+fn locked_bank_stays(rt: HostRuntime) -> Result<(), Fail> {
+    let mut memory = formatted(rt.alloc(), Choice::Overwrite, &[], 0)?;
+    let mut banks = Banks::open(rt.alloc(), &mut memory)?;
+    keep_event(&mut banks, &mut memory, 1, true, crash()?)?;
+    keep_event(&mut banks, &mut memory, 2, false, crash()?)?;
+    let third = Command::Take { pre: pre(3) };
+    assert_eq!(rt;
+        banks.apply(&mut memory, &third),
+        Ok(Applied::Kept { bank: 2 })
+    );
+    let want = [event(1, 1, true, Some(crash()?)), event(2, 3, false, None)];
+    assert_eq!(rt; banks.retrieve(rt.alloc())?.as_slice(), want.as_slice());
+    let again = Banks::open(rt.alloc(), &mut memory)?;
+    assert_eq!(rt; again.retrieve(rt.alloc())?.as_slice(), want.as_slice());
+    Ok(())
+}
+
+#[test]
+fn older_event_gives_way_and_the_newer_stands_last(rt: HostRuntime) -> Result<(), Fail> {
+    let mut memory = formatted(rt.alloc(), Choice::Overwrite, &[], 0)?;
+    let mut banks = Banks::open(rt.alloc(), &mut memory)?;
+    keep_event(&mut banks, &mut memory, 1, false, crash()?)?;
+    keep_event(&mut banks, &mut memory, 2, false, crash()?)?;
+    keep_event(&mut banks, &mut memory, 3, false, crash()?)?;
+    let want = [
+        event(2, 2, false, Some(crash()?)),
+        event(1, 3, false, Some(crash()?)),
+    ];
+    assert_eq!(rt; banks.retrieve(rt.alloc())?.as_slice(), want.as_slice());
+    Ok(())
+}
+
+#[test]
+fn late_lock_under_keep(rt: HostRuntime) -> Result<(), Fail> {
+    let mut memory = formatted(rt.alloc(), Choice::Keep, &[], 0)?;
+    let mut banks = Banks::open(rt.alloc(), &mut memory)?;
+    keep_event(&mut banks, &mut memory, 1, false, crash()?)?;
+    keep_event(&mut banks, &mut memory, 2, false, crash()?)?;
+    let take = Command::Take { pre: pre(3) };
+    assert_eq!(rt; banks.apply(&mut memory, &take), Ok(Applied::NotKept));
+    let lock = Command::Lock { pre: pre(3) };
+    assert_eq!(rt;
+        banks.apply(&mut memory, &lock),
+        Ok(Applied::Locked { bank: 1 })
+    );
+    let done = Command::Done { crash: crash()? };
+    assert_eq!(rt;
+        banks.apply(&mut memory, &done),
+        Ok(Applied::Done { bank: 1 })
+    );
+    Ok(())
+}
+
+// The formatting reads once, and the opening three times.
+#[test]
+fn commands_make_no_read(rt: HostRuntime) -> Result<(), Fail> {
+    let mut memory = zeros(rt.alloc(), 1_120, &[], &[5, 6, 7, 8, 9, 10], 0)?;
+    Banks::format(&mut memory, 2, Choice::Overwrite)?;
+    let mut banks = Banks::open(rt.alloc(), &mut memory)?;
+    keep_event(&mut banks, &mut memory, 1, true, crash()?)?;
+    keep_event(&mut banks, &mut memory, 2, false, crash()?)?;
+    keep_event(&mut banks, &mut memory, 3, true, crash()?)?;
+    let unread = Banks::open(rt.alloc(), &mut memory).err();
+    assert_eq!(rt; unread, Some(OpenFault::StoreFault));
+    Ok(())
+}
+
+#[test]
+fn damaged_bank_is_told_with_its_lock_and_never_taken(rt: HostRuntime) -> Result<(), Fail> {
+    let mut image = formatted(rt.alloc(), Choice::Overwrite, &[], 0)?
+        .image()
+        .to_vec(rt.alloc())?;
+    // The second bank is open and locked, and its cycle is 0. Slot 1 of the count says 3.
+    for place in [608, 609, 64] {
+        image[place] = OPEN_GATE;
+    }
+    image[71] = 3;
+    let fails = Vec::new(rt.alloc());
+    let read_fails = Vec::new(rt.alloc());
+    let mut memory = MemNvm::new(rt.alloc(), image, 60, fails, read_fails, 0)?;
+    let mut banks = Banks::open(rt.alloc(), &mut memory)?;
+    assert_eq!(rt; banks.count(), 3);
+    keep_event(&mut banks, &mut memory, 1, false, crash()?)?;
+    keep_event(&mut banks, &mut memory, 2, false, crash()?)?;
+    let damaged = Found {
+        bank: 2,
+        view: BankView::Damaged {
+            offset: 19,
+            found: 0,
+            locked: true,
+        },
+    };
+    let want = [event(1, 2, false, Some(crash()?)), damaged];
+    assert_eq!(rt; banks.retrieve(rt.alloc())?.as_slice(), want.as_slice());
+    Ok(())
+}
+
+// What a stop in a changing call of a Take, a Lock and a Done leaves in bank 1 of two unlocked banks.
+fn stopped(alloc: Global, call: u32, pick: u64) -> Result<Vec<Found>, Fail> {
+    let mut memory = formatted(alloc, Choice::Overwrite, &[], pick)?;
+    let mut banks = Banks::open(alloc, &mut memory)?;
+    keep_event(&mut banks, &mut memory, 1, false, crash()?)?;
+    keep_event(&mut banks, &mut memory, 2, false, crash()?)?;
+    let third = crash()?;
+    let mut fuse = Fused::new(&mut memory);
+    fuse.arm(call);
+    let _stopped = keep_event(&mut banks, &mut fuse, 3, true, third);
+    fuse.end();
+    Ok(Banks::open(alloc, &mut memory)?.retrieve(alloc)?)
+}
+
+// Picks 0, 1 and 7 leave this in bank 1 after a stop in a call, and bank 2 as it was.
+fn assert_left<R: Abort + AllocGlobal>(
+    rt: &R,
+    call: u32,
+    left: [Option<Found>; 3],
+) -> Result<(), Fail> {
+    let second = event(2, 2, false, Some(crash()?));
+    for (i, pick) in [0, 1, 7].into_iter().enumerate() {
+        let found = stopped(rt.alloc(), call, pick)?;
+        let first = found.iter().copied().find(|f| f.bank == 1);
+        assert_eq!(rt; first, left[i], "call {call}, pick {pick}");
+        assert!(rt; found.contains(&second), "call {call}, pick {pick}");
+    }
+    Ok(())
+}
+
+#[test]
+fn stop_in_each_call_leaves_first_steps(rt: HostRuntime) -> Result<(), Fail> {
+    let done = Some(crash()?);
+    let old = Some(event(1, 1, false, done));
+    let taken = Some(event(1, 3, false, None));
+    let locked = Some(event(1, 3, true, None));
+    let whole = Some(event(1, 3, true, done));
+    // The two calls from a gate call on, or before one, and what the picks leave from one step to the next.
+    for (call, left) in [
+        (1, [old, None, None]),
+        (3, [None; 3]),
+        (5, [None, taken, None]),
+        (7, [taken, locked, taken]),
+        (9, [locked; 3]),
+        (11, [locked, whole, locked]),
+        (13, [whole; 3]),
+    ] {
+        assert_left(&rt, call, left)?;
+        assert_left(&rt, call + 1, left)?;
+    }
+    Ok(())
+}
