@@ -133,8 +133,12 @@ module _ {D : Type 0} (content : D → Option (List ℕ)) (settled : D → ℕ �
   all_first image says = record {
     done = steps_in f n b.store;
     says = says;
-    first = record { q = 0; within = omega arith; steps = (steps_of_replies ∙ sym (before_all (replies_in f n b.store)) ∙ ap (steps_before (replies_in f n b.store)) (sym length-acks)
-        ∙ sym (append-nil (steps_before (replies_in f n b.store) (length (acks_in f n b.store))))) };
+    first = record {
+      q = 0;
+      within = omega arith;
+      steps = (steps_of_replies ∙ sym (before_all (replies_in f n b.store)) ∙ ap (steps_before (replies_in f n b.store)) (sym length-acks)
+          ∙ sym (append-nil (steps_before (replies_in f n b.store) (length (acks_in f n b.store)))));
+    };
   }
 
   ended_whole : {T E : Type 0} (x : T) → Commits {E = E} content settled since clock good (issues_in f n) (Ok x) b b' l l' d d' → MeetsCycle content settled since clock good f n b.store false l'.acks d d'

@@ -14,3 +14,6 @@ pub use crate::alone::run_alone;
 pub use crate::left::Left;
 pub use crate::started::{CycleEnd, Parts, StartFault, Started};
 pub use crate::starting::start;
+
+#[cfg(test)]
+mod tests;
