@@ -283,38 +283,53 @@ fn stopped(alloc: Global, call: u32, pick: u64) -> Result<Vec<Found>, Fail> {
     Ok(Banks::open(alloc, &mut memory)?.retrieve(alloc)?)
 }
 
+// Of the event in a bank: its cycle, whether it is locked, and whether it is done.
+type State = Option<(u32, bool, bool)>;
+
+fn state_in(found: &[Found], bank: u8) -> State {
+    for entry in found {
+        if let BankView::Event(record) = &entry.view {
+            if entry.bank == bank {
+                return Some((record.pre.key.cycle, record.locked, record.crash.is_some()));
+            }
+        }
+    }
+    None
+}
+
 // Picks 0, 1 and 7 leave this in bank 1 after a stop in a call, and bank 2 as it was.
-fn assert_left<R: Abort + AllocGlobal>(
-    rt: &R,
-    call: u32,
-    left: [Option<Found>; 3],
-) -> Result<(), Fail> {
-    let second = event(2, 2, false, Some(crash()?));
-    for (i, pick) in [0, 1, 7].into_iter().enumerate() {
+fn assert_left<R: Abort + AllocGlobal>(rt: &R, call: u32, left: [State; 3]) -> Result<(), Fail> {
+    for (i, pick) in [0u64, 1, 7].into_iter().enumerate() {
         let found = stopped(rt.alloc(), call, pick)?;
-        let first = found.iter().copied().find(|f| f.bank == 1);
-        assert_eq!(rt; first, left[i], "call {call}, pick {pick}");
-        assert!(rt; found.contains(&second), "call {call}, pick {pick}");
+        assert_eq!(rt; state_in(&found, 1), left[i], "call {call}, pick {pick}");
+        assert_eq!(rt;
+            state_in(&found, 2),
+            Some((2, false, true)),
+            "call {call}, pick {pick}"
+        );
     }
     Ok(())
 }
 
+const OLD: State = Some((1, false, true));
+
+const TAKEN: State = Some((3, false, false));
+
+const LOCKED: State = Some((3, true, false));
+
+const WHOLE: State = Some((3, true, true));
+
 #[test]
 fn stop_in_each_call_leaves_first_steps(rt: HostRuntime) -> Result<(), Fail> {
-    let done = Some(crash()?);
-    let old = Some(event(1, 1, false, done));
-    let taken = Some(event(1, 3, false, None));
-    let locked = Some(event(1, 3, true, None));
-    let whole = Some(event(1, 3, true, done));
-    // The two calls from a gate call on, or before one, and what the picks leave from one step to the next.
+    // A first call, for it and the next one, and what the picks leave.
     for (call, left) in [
-        (1, [old, None, None]),
+        (1, [OLD, None, None]),
         (3, [None; 3]),
-        (5, [None, taken, None]),
-        (7, [taken, locked, taken]),
-        (9, [locked; 3]),
-        (11, [locked, whole, locked]),
-        (13, [whole; 3]),
+        (5, [None, TAKEN, None]),
+        (7, [TAKEN, LOCKED, TAKEN]),
+        (9, [LOCKED; 3]),
+        (11, [LOCKED, WHOLE, LOCKED]),
+        (13, [WHOLE; 3]),
     ] {
         assert_left(&rt, call, left)?;
         assert_left(&rt, call + 1, left)?;
