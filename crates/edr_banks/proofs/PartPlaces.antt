@@ -1,5 +1,5 @@
 -- A part that was read out of a copy of its bytes is that of the bank.
-use Rattle.std.proofs.Common.{◌≡◌, ◌<◌, ◌+◌, ◌∙◌, ℕ, List, slice_index, slice_range, Option, option_map, sym, ap}
+use Rattle.std.proofs.Common.{◌≡◌, ◌<◌, ◌+◌, ◌∙◌, ℕ, List, take, drop, slice_index, slice_range, Option, Some, None, option_map, sym, ap, arith}
 use Rattle.edr_record.specs.Parts.{PrePart, CrashPart}
 use Rattle.edr_image.specs.PartBytes.{crash_at, crash_damage, pre_at, pre_damage}
 use Rattle.edr_codec.proofs.MovedLaws.{crash_at-moved, crash_damage-moved, pre_at-moved, pre_damage-moved, range-stands}
