@@ -1,8 +1,8 @@
-pub mod ByteLemmas
-pub mod RowLemmas
-pub mod ItemLemmas
+pub mod Barrier
+pub mod EndingLemmas
+pub mod ImageLemmas
 pub mod TraceLemmas
-pub mod RunLemmas
-pub mod ToldLemmas
+pub mod RunLaws
 pub mod ReplayLemmas
-pub mod FormatLemmas
+pub mod Completeness
+pub mod Dispatch

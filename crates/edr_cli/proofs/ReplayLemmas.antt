@@ -1,216 +1,177 @@
--- While a cycle is replayed, what the core was given and what is left are its lists, and the events told are those of the closed ticks.
-use Rattle.std.proofs.Common.{arith, rules, refl, ap, sym, subst, ◌≡◌, ◌∙◌, ℕ, ◌+◌, ◌<◌, ◌≤◌, ◌⊎◌, inl, inr, false, nat_le, Some, None, Option, List, [], ◌∷◌, ◌++◌, map, length, append_assoc, append-nil}
-use Rattle.std.specs.Prelude.{All, OnOk, Result, Ok}
-use Rattle.std.proofs.lemmas.Bool.{eqb-true}
-use Rattle.std.proofs.lemmas.Bool.Decides.{nat_tests}
-use Rattle.std.proofs.lemmas.List.Elements.{All-cons}
-use Rattle.edr_items.specs.declared.TheConstants.{LATEST_MOMENT}
-use Rattle.edr_items.specs.declared.Sensor.{Sensor}
-use Rattle.edr_items.specs.declared.Sensor.TheVariants.{Along, Across, Speed, Throttle, Brake, Belt, Lamp, Restraint}
-use Rattle.edr_items.specs.declared.Item.{Item}
-use Rattle.edr_items.specs.Item.{mark_of, IsFeed}
-use Rattle.edr_items.specs.SensorLists.{SensorLists, no_items, items_of, with_items, horizon_of, AreFeeds, IsLevel, sensors}
-use Rattle.edr_items.proofs.FeedLemmas.{refusal_of-rises, IsFeedAfter-within}
-use Rattle.edr_definitions.specs.Signals.{Signals, signals_of}
-use Rattle.edr_definitions.specs.Selection.{Event, events, close_of}
-use Rattle.edr_definitions.specs.Commands.{Issue, issue_at, issues, commands}
-use Rattle.edr_definitions.specs.Facts.{AgreeUpTo, AreEventsAfter}
-use Rattle.edr_definitions.specs.Schedule.{Progress, Give, Close, IsAllowed, after_step, with_item, IsUnderWay}
-use Rattle.edr_record.specs.declared.Command.{Command}
-use Rattle.edr_definitions.proofs.KeepLaws.{commands-start}
-use Rattle.edr_definitions.proofs.EventLaws.{events-follow}
-use Rattle.edr_definitions.proofs.IssueLaws.{SameEvent, SameEvents, no_event, an_event, events-same}
-use Rattle.edr_definitions.proofs.LaterLaws.{GiveTheSameUpTo-push}
-use Rattle.edr_definitions.proofs.MarkLaws.{AreFeeds-each, mark-more, horizon-least, horizon-more, horizon-with_item}
-use Rattle.edr_definitions.proofs.ScheduleLaws.{never_ahead, signals-under_way}
-use Rattle.edr_core.specs.Contents.{CoreContents}
-use Rattle.edr_merge.specs.Answers.{is_waited_for, waited_for}
-use Rattle.edr_merge.proofs.StandsLemmas.{find-holds}
-use Rattle.edr_core.specs.StandsFor.{CoreIsFor}
-use Rattle.edr_detect.specs.declared.Selected.{Selected}
-use Rattle.edr_detect.specs.Selected.{answer_of, rest_at}
-use Rattle.edr_cli.specs.Runs.{cycle_events}
-use Rattle.edr_cli.specs.Told.{told_by, IsInCycle}
-use Rattle.edr_cli.specs.Replay.{IsReplaying, left_count}
-use Rattle.edr_cli.proofs.ToldLemmas.{told_by-append, commands-told}
+-- What the parts of a replay say of the whole.
+use Rattle.std.proofs.Common.{◌≡◌, ◌≢◌, ◌⊎◌, ◌∙◌, refl, sym, subst, ap, arith, ℕ, ◌+◌, ◌≤◌, ◌<◌, Bool, List, length, map, Option, Some, None, IfSome}
+use Rattle.edr_device.specs.Device.{IsQuiet, StillTells}
+use Rattle.edr_device.specs.Faults.{Rose}
+use Rattle.edr_image.specs.declared.OpenFault.{OpenFault}
+use Rattle.edr_image.specs.declared.OpenFault.TheVariants as open_fault
+use Rattle.edr_image.specs.declared.log.CycleReport.{CycleReport}
+use Rattle.edr_image.specs.Banks.{Store}
+use Rattle.edr_image.specs.Image.{View, image_refusal, view_of}
+use Rattle.edr_image.specs.Reports.{report_of}
+use Rattle.edr_spell.specs.declared.CycleInput.{CycleInput}
+use Rattle.edr_spell.specs.Spell.{Spell}
+use Rattle.edr_run.specs.Cycle.{Outcome, IsRun}
+use Rattle.edr_cycle.specs.declared.started.StartFault.{StartFault}
+use Rattle.edr_cycle.specs.declared.started.StartFault.TheVariants as start
+use Rattle.edr_report.specs.declared.faults.Fault.{Fault}
+use Rattle.edr_report.specs.declared.faults.Fault.TheVariants as fault
+use Rattle.edr_words.specs.declared.Form.{Form}
+use Rattle.edr_replay.specs.Replayed.{Holds, HasRun, EndsSpent, IsFault, IsRefusal, IsTrulyRefused}
+use Rattle.edr_cli.specs.Outside.{Input, Memory}
+use Rattle.edr_cli.specs.Reports.{IsImageCause, IsRefused, Says, report_in}
+use Rattle.edr_cli.specs.Runs.{GaveTrace, IsReplayCause, IsSpent, IsTraceCause, RunIs, TheRun}
+use Rattle.edr_cli.specs.Steps.{HeldNone, IsRunCause, Reports, fault_of_start}
+use Rattle.edr_cli.proofs.ImageLemmas.{same_view, says_refused, told_is}
+use Rattle.edr_cli.proofs.RunLaws.{the_run}
 
--- ---- what is told up to a tick
-late_rest : (t e c : ℕ) → t < c → rest_at t e c ≡ None
-late_rest t e c late = let b : nat_le c t ≡ false = grind (arith, nat_tests) in rw b refl
+-- ---- the run of cycles, and the banks behind it
 
-same_answer : (t : ℕ) (e d : Event) → SameEvent t e d → answer_of t e ≡ answer_of t d
-same_answer t e d one = by_end one.end_is where
-  is : (z z' c c' : ℕ) (r r' : Option _) → z ≡ z' → c ≡ c' → r ≡ r' → ◌≡◌ {A = Selected} (record { zero = z; confirmed = c; rest = r }) (record { zero = z'; confirmed = c'; rest = r' })
-  is z z' c c' r r' h k l = cc
+-- the run's fault is that of a call
+pub start_cause : (cs : List CycleInput) (old new : Memory) (e : StartFault) → (IsFault e → Rose old.faults new.faults) → IsTrulyRefused old.content old.settled e
+    → EndsSpent cs old.content old.settled new.content new.settled e → IsRunCause cs old new (fault_of_start e)
+unfolding IsTrulyRefused EndsSpent
+start_cause cs old new (start.Open (open_fault.Short size needed)) rose refused spent = refused (λ e. cc, λ e. cc)
+start_cause cs old new (start.Open (open_fault.Header h)) rose refused spent = refused (λ e. cc, λ e. cc)
+start_cause cs old new (start.Open open_fault.StoreFault) rose refused spent = rose refl
+start_cause cs old new (start.Open open_fault.OutOfMemory) rose refused spent = tt
+start_cause cs old new start.Spent rose refused spent = spent refl
+start_cause cs old new start.StoreFault rose refused spent = rose tt
+start_cause cs old new start.OutOfMemory rose refused spent = tt
 
-  by_end : ((e.end_tick ≡ d.end_tick) × (e.zero_tick ≤ e.end_tick)) ⊎ ((t < e.end_tick) × (t < d.end_tick)) → answer_of t e ≡ answer_of t d
-  by_end (inl x) =
-      is e.zero_tick d.zero_tick e.confirmed_tick d.confirmed_tick _ _ one.zero_is one.confirmed_is
-      (ap (λ n. rest_at t n (close_of e.zero_tick n)) x.0 ∙ ap (λ n. rest_at t d.end_tick (close_of n d.end_tick)) one.zero_is)
-  by_end (inr x) =
-      is e.zero_tick d.zero_tick e.confirmed_tick d.confirmed_tick _ _ one.zero_is one.confirmed_is
-      (late_rest t e.end_tick (close_of e.zero_tick e.end_tick) (let past = x.0 in omega (arith, past))
-      ∙ sym (late_rest t d.end_tick (close_of d.zero_tick d.end_tick) (let past = x.1 in omega (arith, past))))
+same_report : (form : Form) (reports : List CycleReport) (o : Outcome) (v : Store) (n : ℕ) → map report_of reports ≡ o.reports → v ≡ o.store → n ≡ o.count → report_in form (map report_of reports) v n ≡ report_in form o.reports o.store o.count
+same_report form reports o v n a b c = cc
 
-same_answers : {t : ℕ} {es ds : List Event} → SameEvents t es ds → map (answer_of t) es ≡ map (answer_of t) ds
-same_answers no_event = refl
-same_answers {t = t} (an_event {e = e} {f = d} {es = es} {fs = ds} one rest) = ap (λ (x : Selected). x ∷ map (answer_of t) es) (same_answer t e d one) ∙ ap (λ (xs : List Selected). answer_of t d ∷ xs) (same_answers rest)
+-- the banks that are opened behind the run are those that it came to
+pub run_reports : (form : Form) (cs : List CycleInput) (old mid new : Memory) (reports : List CycleReport) (v' : Store) (n' : ℕ) (text : List ℕ)
+    → HasRun cs old.content old.settled mid.content mid.settled reports → ((image : List ℕ) → mid.content ≡ Some image → Says image v' n')
+    → new.content ≡ mid.content → ((i : ℕ) → new.settled i ≡ mid.settled i) → text ≡ report_in form (map report_of reports) v' n' → Reports form cs old new text
+unfolding HasRun
+run_reports form cs old mid new reports v' n' text run says same settled is = λ v n holds.
+    let r = run v n holds in
+    let o : Outcome = r.0 in
+    let h : Holds mid.content mid.settled o.store o.count = r.3 in
+    let there : Holds new.content new.settled o.store o.count = record {
+      bytes = h.bytes;
+      quiet = (same ∙ h.quiet.0, λ i. settled i ∙ h.quiet.1 i);
+      says = h.says;
+    } in
+    let view = same_view _ _ (sym (says h.bytes h.quiet.0) ∙ h.says) in
+    (o, r.1, there, is ∙ same_report form reports o v' n' (sym r.2) (ap (λ (x : View). x.store) view) (ap (λ (x : View). x.count) view))
 
--- signals that agree up to a tick have the same events to tell there
-answers-same : (m n : Signals) (t : ℕ) → AgreeUpTo t m n → map (answer_of t) (events m t) ≡ map (answer_of t) (events n t)
-answers-same m n t same = same_answers (events-same m n t same)
+-- a device that held banks and a count before the run has an image behind it that isn't refused
+not_refused : (old mid : Memory) (cs : List CycleInput) (reports : List CycleReport) (e : OpenFault)
+    → HasRun cs old.content old.settled mid.content mid.settled reports → IfSome mid.content (λ image. image_refusal image ≡ Some e) → HeldNone old
+unfolding HasRun
+not_refused old mid cs reports e run refused = λ v n holds.
+    let r = run v n holds in
+    let h : Holds mid.content mid.settled r.0.store r.0.count = r.3 in
+    says_refused h.bytes r.0.store r.0.count e h.says (told_is (λ image. image_refusal image ≡ Some e) mid.content h.bytes h.quiet.0 refused)
 
-answers_in_cycle : (m : Signals) (t after : ℕ) (es : List Event) → t ≤ LATEST_MOMENT → AreEventsAfter m t after es → All IsInCycle (map (answer_of t) es)
-answers_in_cycle m t after [] low h = search rules
-answers_in_cycle m t after (e ∷ es) low h =
-    let a = h.0.confirmed_from_zero in let b = h.0.confirmed_in_time in
-    All-cons IsInCycle (answer_of t e) (map (answer_of t) es) (omega (arith, a, b, low)) (answers_in_cycle m t (close_of e.zero_tick e.end_tick) es low h.1)
+-- why the banks were not opened behind the run
+pub behind_cause : (cs : List CycleInput) (old mid new : Memory) (reports : List CycleReport) (f : Fault)
+    → HasRun cs old.content old.settled mid.content mid.settled reports → old.faults ≤ mid.faults → IsImageCause mid new f → IsRunCause cs old new f
+behind_cause cs old mid new reports fault.Store run later cause = grind (arith, later, cause)
+behind_cause cs old mid new reports (fault.Short size needed) run later cause = not_refused old mid cs reports (open_fault.Short size needed) run cause.0
+behind_cause cs old mid new reports (fault.Header h) run later cause = not_refused old mid cs reports (open_fault.Header h) run cause.0
+behind_cause cs old mid new reports fault.OutOfMemory run later cause = tt
+behind_cause cs old mid new reports fault.Usage run later cause = cause
+behind_cause cs old mid new reports (fault.Trace t) run later cause = cause
+behind_cause cs old mid new reports fault.Read run later cause = cause
+behind_cause cs old mid new reports fault.Formatted run later cause = absurd cause
+behind_cause cs old mid new reports fault.Spent run later cause = absurd cause
+behind_cause cs old mid new reports fault.TooLong run later cause = cause
 
--- ---- what is left
-rest_gives : (s r : Sensor) (x : Item) (ys : List Item) (lists given left : SensorLists) → ((q : Sensor) → items_of q lists ≡ items_of q given ++ items_of q left) → items_of s left ≡ x ∷ ys → items_of r lists ≡ items_of r (with_item s x given) ++ items_of r (with_items s ys left)
-rest_gives Along Along x ys lists given left h is = h Along ∙ ap (λ xs. given.along ++ xs) is ∙ sym (append_assoc given.along (x ∷ []) ys)
-rest_gives Across Across x ys lists given left h is = h Across ∙ ap (λ xs. given.across ++ xs) is ∙ sym (append_assoc given.across (x ∷ []) ys)
-rest_gives Speed Speed x ys lists given left h is = h Speed ∙ ap (λ xs. given.speed ++ xs) is ∙ sym (append_assoc given.speed (x ∷ []) ys)
-rest_gives Throttle Throttle x ys lists given left h is = h Throttle ∙ ap (λ xs. given.throttle ++ xs) is ∙ sym (append_assoc given.throttle (x ∷ []) ys)
-rest_gives Brake Brake x ys lists given left h is = h Brake ∙ ap (λ xs. given.brake ++ xs) is ∙ sym (append_assoc given.brake (x ∷ []) ys)
-rest_gives Belt Belt x ys lists given left h is = h Belt ∙ ap (λ xs. given.belt ++ xs) is ∙ sym (append_assoc given.belt (x ∷ []) ys)
-rest_gives Lamp Lamp x ys lists given left h is = h Lamp ∙ ap (λ xs. given.lamp ++ xs) is ∙ sym (append_assoc given.lamp (x ∷ []) ys)
-rest_gives Restraint Restraint x ys lists given left h is = h Restraint ∙ ap (λ xs. given.restraint ++ xs) is ∙ sym (append_assoc given.restraint (x ∷ []) ys)
-rest_gives s r x ys lists given left h is = h r
+pub memory_cause : (cs : List CycleInput) (old new : Memory) (f : Fault) → f ≡ fault.OutOfMemory → IsRunCause cs old new f
+memory_cause cs old new f is = subst (λ (x : Fault). IsRunCause cs old new x) (sym is) tt
 
--- one item fewer is left
-pub left_count-less : (s : Sensor) (x : Item) (ys : List Item) (left : SensorLists) → items_of s left ≡ x ∷ ys → left_count (with_items s ys left) + 1 ≡ left_count left
-left_count-less Along x ys left is = let n = ap length is in omega (arith, n)
-left_count-less Across x ys left is = let n = ap length is in omega (arith, n)
-left_count-less Speed x ys left is = let n = ap length is in omega (arith, n)
-left_count-less Throttle x ys left is = let n = ap length is in omega (arith, n)
-left_count-less Brake x ys left is = let n = ap length is in omega (arith, n)
-left_count-less Belt x ys left is = let n = ap length is in omega (arith, n)
-left_count-less Lamp x ys left is = let n = ap length is in omega (arith, n)
-left_count-less Restraint x ys left is = let n = ap length is in omega (arith, n)
+-- ---- the whole
 
--- nothing is told at first
-told_none : (n : ℕ) → told_by [] (issues no_items n 0) ≡ []
-unfolding commands
-told_none n = ap (told_by []) (none (issues no_items n 0) (by_commands n)) where
-  none : (xs : List Issue) → map (λ i. i.command) xs ≡ [] → xs ≡ []
-  none [] h = refl
-  none (x ∷ xs) h = absurd (cc)
+-- what the barrier and the look at the image say of the device
+abbrev pub Settled : Memory → Memory → Store → ℕ → Type 0
+Settled old mid v n = (image : List ℕ) → old.content ≡ Some image → Says image v n × IsQuiet mid.content mid.settled image
 
-  by_commands : (n : ℕ) → map (λ i. i.command) (issues no_items n 0) ≡ []
-  by_commands n = commands-start no_items n
+-- the report of the run of what the source gave
+pub replayed : (form : Form) (i : Input) (old mid new : Memory) (cs : List CycleInput) (v : Store) (n : ℕ) (text : List ℕ)
+    → IfSome i.left (λ bytes. Spell bytes cs) → Settled old mid v n → Reports form cs mid new text → RunIs form i old new text
+replayed form i old mid new cs v n text spelled settled reports = go i.left old.content spelled (λ image told. settled image told)
+  where
+    go : (left content : Option (List ℕ)) → IfSome left (λ bytes. Spell bytes cs) → ((image : List ℕ) → content ≡ Some image → Says image v n × IsQuiet mid.content mid.settled image)
+        → IfSome left (λ bytes. IfSome content (λ image. TheRun form bytes image new text))
+    go None content spelled settled = tt
+    go (Some bytes) None spelled settled = tt
+    go (Some bytes) (Some image) spelled settled =
+        let s = settled image refl in
+        let held : Holds mid.content mid.settled v n = record { bytes = image; quiet = s.1; says = s.0 } in
+        let r = reports v n held in
+        the_run form bytes image new text cs v n r.0 spelled s.0 r.1 r.2 r.3
 
-nothing_given : (s : Sensor) (xs : List Item) → xs ≡ items_of s no_items ++ xs
-nothing_given s xs = elim s as (λ r. xs ≡ items_of r no_items ++ xs) [ Along ↦ refl | Across ↦ refl | Speed ↦ refl | Throttle ↦ refl | Brake ↦ refl | Belt ↦ refl | Lamp ↦ refl | Restraint ↦ refl ]
+gave : (i : Input) (cs : List CycleInput) → IfSome i.left (λ bytes. Spell bytes cs) → GaveTrace i
+gave i cs spelled = go i.left spelled where
+  go : (left : Option (List ℕ)) → IfSome left (λ bytes. Spell bytes cs) → IfSome left (λ bytes. (cycles : List CycleInput) × Spell bytes cycles)
+  go None spelled = tt
+  go (Some bytes) spelled = (cs, spelled)
 
--- what holds with an Ok holds of this one
-pub on_ok : {T E P : Type 0} (r : Result T E) (x : T) → r ≡ Ok x → OnOk r P → P
-on_ok {P = P} r x is h = subst (λ y. OnOk y P) is h
+-- the source gave no trace
+pub trace_replay : (i i' : Input) (old : Memory) (f : Fault) → IsTraceCause i i' f → IsReplayCause i i' old old f
+trace_replay i i' old (fault.Trace t) cause = (cause, refl)
+trace_replay i i' old fault.Read cause = (cause, refl)
+trace_replay i i' old fault.TooLong cause = (cause, refl)
+trace_replay i i' old fault.OutOfMemory cause = tt
+trace_replay i i' old fault.Usage cause = cause
+trace_replay i i' old fault.Store cause = absurd cause
+trace_replay i i' old (fault.Short size needed) cause = absurd cause
+trace_replay i i' old (fault.Header h) cause = absurd cause
+trace_replay i i' old fault.Formatted cause = cause
+trace_replay i i' old fault.Spent cause = absurd cause
 
--- ---- the steps of a replay
--- a replay begins with all items left
-pub replay-begins : (lists : SensorLists) (core : CoreContents) (left : SensorLists) (told : List Selected) → CoreIsFor core 1 (record { given = no_items; closed = 0 }) → left ≡ lists → told ≡ [] → IsReplaying lists core left told
-replay-begins lists core left told is all none = record {
-  progress = record { given = no_items; closed = 0 };
-  core_is = is;
-  within = omega arith;
-  rest = λ s. ap (items_of s) (sym all) ∙ nothing_given s (items_of s left);
-  told_is = none ∙ sym (told_none 1);
-}
+-- the image was refused, or the device failed in the barrier
+pub image_replay : (i i' : Input) (old new : Memory) (cs : List CycleInput) (f : Fault) → IfSome i.left (λ bytes. Spell bytes cs) → IsImageCause old new f → IsReplayCause i i' old new f
+image_replay i i' old new cs fault.Store spelled cause = cause
+image_replay i i' old new cs (fault.Short size needed) spelled cause = (gave i cs spelled, cause)
+image_replay i i' old new cs (fault.Header h) spelled cause = (gave i cs spelled, cause)
+image_replay i i' old new cs fault.OutOfMemory spelled cause = tt
+image_replay i i' old new cs fault.Usage spelled cause = cause
+image_replay i i' old new cs (fault.Trace t) spelled cause = absurd cause
+image_replay i i' old new cs fault.Read spelled cause = absurd cause
+image_replay i i' old new cs fault.Formatted spelled cause = cause
+image_replay i i' old new cs fault.Spent spelled cause = absurd cause
+image_replay i i' old new cs fault.TooLong spelled cause = absurd cause
 
--- a tick that is closed tells what its commands tell
-pub replay-closes : (lists : SensorLists) (core core' : CoreContents) (left : SensorLists) (told told' : List Selected) (t : ℕ) (cs : List Command) → (r : IsReplaying lists core left told)
-    → CoreIsFor core' 1 (after_step r.progress Close) → IsAllowed Close r.progress
-    → (t ≡ r.progress.closed + 1) × (issues r.progress.given 1 t ≡ issues r.progress.given 1 r.progress.closed ++ map (issue_at t) cs)
-    → told' ≡ told_by told (map (issue_at t) cs)
-    → IsReplaying lists core' left told'
-replay-closes lists core core' left told told' t cs r is may adds tells = record {
-  progress = after_step r.progress Close;
-  core_is = is;
-  within = omega (arith, may);
-  rest = r.rest;
-  told_is =
-      let p = r.progress in
-      tells ∙ ap (λ (es : List Selected). told_by es (map (issue_at t) cs)) r.told_is
-      ∙ sym (told_by-append [] (issues p.given 1 p.closed) (map (issue_at t) cs))
-      ∙ ap (told_by []) (sym adds.1) ∙ ap (λ n. told_by [] (issues p.given 1 n)) adds.0;
-}
+-- behind a look that passed no image is refused, so the device tells none
+none_refused : (old mid new : Memory) (v : Store) (n : ℕ) (e : OpenFault) → Settled old mid v n → StillTells old.content new.content → HeldNone mid → IsRefused e old new
+none_refused old mid new v n e settled tells none = go old.content new.content tells (λ image told. settled image told)
+  where
+    go : (content content' : Option (List ℕ)) → StillTells content content' → ((image : List ℕ) → content ≡ Some image → Says image v n × IsQuiet mid.content mid.settled image)
+        → IfSome content (λ image. image_refusal image ≡ Some e) × (content' ≡ content)
+    go None None tells settled = (tt, refl)
+    go None (Some b) tells settled = absurd tells
+    go (Some image) content' tells settled =
+        let s = settled image refl in
+        let held : Holds mid.content mid.settled v n = record { bytes = image; quiet = s.1; says = s.0 } in
+        absurd (none v n held)
 
--- an item that is given is no longer left
-pub replay-gives : (lists : SensorLists) (core core' : CoreContents) (left left' : SensorLists) (told : List Selected) (s : Sensor) (x : Item) → (r : IsReplaying lists core left told)
-    → CoreIsFor core' 1 (after_step r.progress (Give s x)) → IsAllowed (Give s x) r.progress
-    → items_of s left ≡ x ∷ items_of s left' → left' ≡ with_items s (items_of s left') left
-    → IsReplaying lists core' left' told
-replay-gives lists core core' left left' told s x r is may next others = record {
-  progress = after_step r.progress (Give s x);
-  core_is = is;
-  within = let a = r.within in let b = horizon-with_item s x r.progress.given may.0 in omega (arith, a, b);
-  rest = λ q. rest_gives s q x (items_of s left') lists r.progress.given left r.rest next ∙ ap (λ (l : SensorLists). items_of q (with_item s x r.progress.given) ++ items_of q l) (sym others);
-  told_is =
-      let p = r.progress in
-      let f = with_item s x p.given in
-      let later : p.closed < x.moment = let a = r.within in let b = horizon-least p.given s in let c = refusal_of-rises s (mark_of (items_of s p.given)) x may.0 in omega (arith, a, b, c) in
-      r.told_is ∙ commands-told p.given 1 p.closed
-      ∙ answers-same (signals_of p.given) (signals_of f) p.closed (GiveTheSameUpTo-push s p.given x p.closed later).signals
-      ∙ sym (commands-told f 1 p.closed);
-}
-
-module _ (lists : SensorLists) (feeds : AreFeeds lists) (level : IsLevel lists) where
-  under_way : (core : CoreContents) (left : SensorLists) (told : List Selected) → (r : IsReplaying lists core left told) → IsUnderWay lists r.progress
-  under_way core left told r = record { begun = λ s. (items_of s left, r.rest s); within = r.within }
-
-  -- no more was given than there is
-  horizon-low : (p : Progress) → IsUnderWay lists p → horizon_of p.given ≤ horizon_of lists
-  horizon-low p on = horizon-more p.given lists (λ s.
-      let whole : IsFeed s (items_of s p.given ++ (on.begun s).0) = subst (λ (xs : List Item). IsFeed s xs) (on.begun s).1 (AreFeeds-each lists feeds s) in
-      let more = mark-more s 0 (items_of s p.given) (on.begun s).0 whole in
-      let e : mark_of (items_of s lists) ≡ mark_of (items_of s p.given ++ (on.begun s).0) = ap mark_of (on.begun s).1 in
-      omega (arith, more, e))
-
-  -- what is told is what the whole lists tell up to the closed tick
-  told-whole : (core : CoreContents) (left : SensorLists) (told : List Selected) → (r : IsReplaying lists core left told) → told ≡ map (answer_of r.progress.closed) (events (signals_of lists) r.progress.closed)
-  told-whole core left told r =
-      let p = r.progress in
-      r.told_is ∙ commands-told p.given 1 p.closed ∙ answers-same (signals_of p.given) (signals_of lists) p.closed (signals-under_way lists p p.closed feeds (under_way core left told r) r.within)
-
-  -- what is told are events of the cycle
-  pub told-in_cycle : (core : CoreContents) (left : SensorLists) (told : List Selected) → IsReplaying lists core left told → All IsInCycle told
-  told-in_cycle core left told r =
-      let p = r.progress in
-      let low : p.closed ≤ LATEST_MOMENT =
-      let a = r.within in
-      let b = horizon-low p (under_way core left told r) in
-      let c = horizon-least lists Along in
-      let d = IsFeedAfter-within Along 0 lists.along (omega arith) feeds.along in
-      omega (arith, a, b, c, d)
-      in
-      subst (λ (es : List Selected). All IsInCycle es) (sym (told-whole core left told r)) (answers_in_cycle (signals_of lists) p.closed 0 (events (signals_of lists) p.closed) low (events-follow (signals_of lists) p.closed))
-
-  waited_at : (p : Progress) (s : Sensor) → Some s ≡ waited_for p → mark_of (items_of s p.given) ≡ p.closed
-  unfolding waited_for
-  waited_at p s waits = eqb-true (mark_of (items_of s p.given)) p.closed (find-holds (is_waited_for p) sensors s (sym waits))
-
-  -- the next item of the sensor that is waited for may be given
-  pub give-allowed : (core : CoreContents) (left : SensorLists) (told : List Selected) → (r : IsReplaying lists core left told) → (s : Sensor) (x : Item) (ys : List Item) → Some s ≡ waited_for r.progress → items_of s left ≡ x ∷ ys → IsAllowed (Give s x) r.progress
-  give-allowed core left told r s x ys waits next =
-      let given = items_of s r.progress.given in
-      never_ahead lists r.progress feeds level (under_way core left told r) s x (ys, r.rest s ∙ ap (λ xs. given ++ xs) next ∙ sym (append_assoc given (x ∷ []) ys)) (inl (waited_at r.progress s waits))
-
-  -- where nothing is left of the sensor that is waited for, all is told
-  pub replay-over : (core : CoreContents) (left : SensorLists) (told : List Selected) → (r : IsReplaying lists core left told) → (s : Sensor) → Some s ≡ waited_for r.progress → items_of s left ≡ [] → told ≡ cycle_events lists
-  replay-over core left told r s waits over =
-      let p = r.progress in
-      let whole : items_of s lists ≡ items_of s p.given = r.rest s ∙ ap (λ xs. items_of s p.given ++ xs) over ∙ append-nil (items_of s p.given) in
-      let at : mark_of (items_of s lists) ≡ p.closed = ap mark_of whole ∙ waited_at p s waits in
-      let a = horizon-least lists s in
-      let b = horizon-low p (under_way core left told r) in
-      let c = r.within in
-      let end : p.closed ≡ horizon_of lists = omega (arith, at, a, b, c) in
-      told-whole core left told r ∙ ap (λ t. map (answer_of t) (events (signals_of lists) t)) end
-
-  -- a closed tick is within the horizon
-  pub closes-below : (core : CoreContents) (left : SensorLists) (told : List Selected) → (r : IsReplaying lists core left told) → IsAllowed Close r.progress → core.closed + 1 ≤ horizon_of lists
-  closes-below core left told r may =
-      let a = r.core_is.closed_is in
-      let b = horizon-low r.progress (under_way core left told r) in
-      omega (arith, a, b, may)
+-- the cycles were not run to the end, or not reported
+pub run_replay : (i i' : Input) (old mid new : Memory) (cs : List CycleInput) (v : Store) (n : ℕ) (f : Fault) → IfSome i.left (λ bytes. Spell bytes cs) → Settled old mid v n
+    → StillTells old.content new.content → old.faults ≤ mid.faults → IsRunCause cs mid new f → IsReplayCause i i' old new f
+run_replay i i' old mid new cs v n fault.Store spelled settled tells later cause = grind (arith, later, cause)
+run_replay i i' old mid new cs v n (fault.Short size needed) spelled settled tells later cause =
+    (gave i cs spelled, none_refused old mid new v n (open_fault.Short size needed) settled tells cause)
+run_replay i i' old mid new cs v n (fault.Header h) spelled settled tells later cause =
+    (gave i cs spelled, none_refused old mid new v n (open_fault.Header h) settled tells cause)
+run_replay i i' old mid new cs v n fault.Spent spelled settled tells later cause = go i.left old.content spelled (λ image told. settled image told)
+  where
+    go : (left content : Option (List ℕ)) → IfSome left (λ bytes. Spell bytes cs) → ((image : List ℕ) → content ≡ Some image → Says image v n × IsQuiet mid.content mid.settled image)
+        → IfSome left (λ bytes. IfSome content (λ image. IsSpent bytes image new))
+    go None content spelled settled = tt
+    go (Some bytes) None spelled settled = tt
+    go (Some bytes) (Some image) spelled settled =
+        let s = settled image refl in
+        let held : Holds mid.content mid.settled v n = record { bytes = image; quiet = s.1; says = s.0 } in
+        let r = cause v n held in
+        record { cycles = cs; store = v; count = n; outcome = r.0; spelled = spelled; says = s.0; ran = r.1; held = r.2 }
+run_replay i i' old mid new cs v n fault.OutOfMemory spelled settled tells later cause = tt
+run_replay i i' old mid new cs v n fault.Usage spelled settled tells later cause = cause
+run_replay i i' old mid new cs v n (fault.Trace t) spelled settled tells later cause = absurd cause
+run_replay i i' old mid new cs v n fault.Read spelled settled tells later cause = absurd cause
+run_replay i i' old mid new cs v n fault.Formatted spelled settled tells later cause = cause
+run_replay i i' old mid new cs v n fault.TooLong spelled settled tells later cause = absurd cause

@@ -1,11 +1,7 @@
 pub mod Status
-pub mod Rows
-pub mod Trace
-pub mod Steps
-pub mod Events
-pub mod Faults
-pub mod Runs
 pub mod Words
-pub mod Formats
-pub mod Told
-pub mod Replay
+pub mod Outside
+pub mod Reports
+pub mod Runs
+pub mod Endings
+pub mod Steps

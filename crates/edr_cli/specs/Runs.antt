@@ -1,57 +1,142 @@
--- What the run of a trace writes, and why.
-use Rattle.std.specs.Prelude.{◌≡◌, ◌≤◌, ℕ, [], List, length, map, Option, IfSome}
-use Rattle.edr_items.specs.SensorLists.{SensorLists, horizon_of}
-use Rattle.edr_definitions.specs.Signals.{signals_of}
-use Rattle.edr_definitions.specs.Selection.{events}
-use Rattle.edr_detect.specs.declared.Selected.{Selected}
-use Rattle.edr_detect.specs.Selected.{answer_of}
+-- What the run of a trace comes to, and why there is none.
+use Rattle.std.specs.Prelude.{◌≡◌, ◌≤◌, ◌<◌, ℕ, true, Bool, List, length, slice_get, Option, Some, IfSome, ⊤}
 use Rattle.edr_device.specs.Faults.{Rose}
-use Rattle.edr_cli.specs.declared.traces.TheConstants.{LONGEST_TRACE}
-use Rattle.edr_cli.specs.declared.faults.Fault.{Fault}
-use Rattle.edr_cli.specs.declared.faults.Fault.TheVariants as fault
-use Rattle.edr_cli.specs.declared.status.Status.{Status}
-use Rattle.edr_cli.specs.declared.status.Status.TheVariants as status
-use Rattle.edr_cli.specs.Events.{events_text}
-use Rattle.edr_cli.specs.Faults.{fault_line}
-use Rattle.edr_cli.specs.Trace.{Spells}
+use Rattle.edr_record.specs.Parts.{PrePart, CrashPart}
+use Rattle.edr_record.specs.declared.Record.{Record}
+use Rattle.edr_record.specs.declared.Command.TheVariants as command
+use Rattle.edr_image.specs.declared.Ack.{Ack}
+use Rattle.edr_image.specs.declared.Kind.TheVariants as kind
+use Rattle.edr_image.specs.declared.Applied.TheVariants as applied
+use Rattle.edr_image.specs.declared.BankView.TheVariants.{Event}
+use Rattle.edr_image.specs.Answered.{IsLockedIn, IsLockedWith}
+use Rattle.edr_image.specs.Banks.{Store}
+use Rattle.edr_image.specs.Kept.{AreKept}
+use Rattle.edr_image.specs.Reports.{Ran}
+use Rattle.edr_spell.specs.declared.CycleInput.{CycleInput}
+use Rattle.edr_spell.specs.Spell.{Spell}
+use Rattle.edr_spell.specs.Fault.{Fault as IsFaultOf}
+use Rattle.edr_trace.specs.declared.TheConstants.{LARGEST_TRACE}
+use Rattle.edr_run.specs.Cycle.{Outcome, IsRun}
+use Rattle.edr_run.specs.Logged.{IsLogged, NoTakeBetween}
+use Rattle.edr_run.specs.Own.{IsInWindow}
+use Rattle.edr_report.specs.declared.faults.Fault.{Fault}
+use Rattle.edr_report.specs.declared.faults.Fault.TheVariants as fault
+use Rattle.edr_words.specs.declared.Form.{Form}
+use Rattle.edr_replay.specs.Replayed.{Holds, RanToTheLast}
+use Rattle.edr_cli.specs.Outside.{Input, Memory}
+use Rattle.edr_cli.specs.Reports.{Says, report_in, IsImageCause}
 
--- the bytes are the trace of these lists, and no more than a trace may have
-abbrev pub IsTraceOf : List ℕ → SensorLists → Type 0
-IsTraceOf bytes lists = Spells bytes lists × (length bytes ≤ LONGEST_TRACE)
+-- ---- what holds of a run
 
--- the bytes are no trace, or too many
-abbrev pub IsNoTrace : List ℕ → Type 0
-IsNoTrace bytes = (lists : SensorLists) → ¬ IsTraceOf bytes lists
+-- over banks that were kept: they are kept, each event above the count at first is one of the cycle that had its number, with
+-- that event's own parts, and each other one stood in its bank at first
+abbrev pub HasOwnWindow : List CycleInput → Store → ℕ → Outcome → Type 0
+HasOwnWindow cycles v n o = AreKept v.banks n
+    → AreKept o.store.banks o.count
+    × ((i : ℕ) (e : Record) → slice_get o.store.banks i ≡ Some (Event e) → IsInWindow cycles v.banks n o.reports i e)
 
--- the events of a cycle that are confirmed by its horizon, as far as they are known there
-abbrev pub cycle_events : SensorLists → List Selected
-cycle_events lists = map (answer_of (horizon_of lists)) (events (signals_of lists) (horizon_of lists))
+-- an event that was locked at first stands in its bank as it was
+abbrev pub LeavesLocked : Store → Outcome → Type 0
+LeavesLocked v o = (i : ℕ) (e : Record) → slice_get v.banks i ≡ Some (Event e) → e.locked ≡ true → slice_get o.store.banks i ≡ Some (Event e)
 
--- the text of a cycle: the lines of its events
-unfoldable pub cycle_text : SensorLists → List ℕ
-cycle_text lists = events_text (cycle_events lists)
+-- the acknowledgement in place j of the log of the cycle in place k tells that an event was locked in the bank m
+pub record IsLockAck (cycles : List CycleInput) (o : Outcome) (k j m : ℕ) : Type 0 where
+  pub cycle : CycleInput
+  pub number : ℕ
+  pub stop : Option ℕ
+  pub log : List Ack
+  pub ack : Ack
+  pub ran : slice_get cycles k ≡ Some cycle
+  pub told : slice_get o.reports k ≡ Some (Ran number stop log)
+  pub stands : slice_get log j ≡ Some ack
+  pub is_lock : ack.kind ≡ kind.Lock
+  pub is_locked : ack.applied ≡ applied.Locked m
 
--- the source is at its end, if it tells
-abbrev pub IsAtEnd : Option (List ℕ) → Type 0
-IsAtEnd left = IfSome left (λ bytes. bytes ≡ [])
+-- its event is locked in that bank
+abbrev pub KeepsLocked : List CycleInput → Outcome → Type 0
+KeepsLocked cycles o = (k j m : ℕ) (a : IsLockAck cycles o k j m)
+    → (pre : PrePart) × IsLogged a.cycle.feeds a.number j (command.Lock pre) × IsLockedIn o.store.banks m pre
 
--- the bytes that the source tells are the trace of a cycle that has this text
-abbrev pub HasText : Option (List ℕ) → List ℕ → Type 0
-HasText left text = IfSome left (λ bytes. (lists : SensorLists) × IsTraceOf bytes lists × (text ≡ cycle_text lists))
+-- and where a Done follows in that log before another Take, it has the crash part of that Done
+abbrev pub KeepsDone : List CycleInput → Outcome → Type 0
+KeepsDone cycles o = (k j l m : ℕ) (a : IsLockAck cycles o k j m) (done : Ack) → slice_get a.log l ≡ Some done → done.kind ≡ kind.Done → j < l → NoTakeBetween a.log j l
+    → (pre : PrePart) × (crash : CrashPart)
+    × IsLogged a.cycle.feeds a.number j (command.Lock pre) × IsLogged a.cycle.feeds a.number l (command.Done crash)
+    × IsLockedWith o.store.banks m pre crash
 
--- why the run of a trace ends with that fault: by what was left of its source, and by the source's count before and after
-abbrev pub IsCause : Option (List ℕ) → ℕ → ℕ → Fault → Type 0
-IsCause left before now fault.Trace = IfSome left IsNoTrace
-IsCause left before now fault.Read = Rose before now
-IsCause left before now fault.OutOfMemory = Unit {0}
+-- ---- a run
 
--- a run that ends with this status has this text to write: the cycle's, or the line of a fault that has its cause
-abbrev pub IsText : Option (List ℕ) → ℕ → ℕ → Status → List ℕ → Type 0
-IsText left before now status.Ok text = HasText left text
-IsText left before now status.Trace text = IsCause left before now fault.Trace × (text ≡ fault_line fault.Trace)
-IsText left before now status.ReadFault text = IsCause left before now fault.Read × (text ≡ fault_line fault.Read)
-IsText left before now status.OutOfMemory text = text ≡ fault_line fault.OutOfMemory
-IsText left before now status.Usage text = ⊥
-IsText left before now status.WriteFault text = ⊥
-IsText left before now status.StoreFault text = ⊥
-IsText left before now status.Image text = ⊥
+-- the run of the trace of these bytes over this image, with its report
+pub record TheRun (form : Form) (bytes image : List ℕ) (new : Memory) (text : List ℕ) : Type 0 where
+  pub cycles : List CycleInput
+  pub store : Store
+  pub count : ℕ
+  pub outcome : Outcome
+  -- Run: from what the image says, the cycles that the bytes spell come to what the device holds, with nothing pending
+  pub spelled : Spell bytes cycles
+  pub says : Says image store count
+  pub run : IsRun cycles store count outcome
+  pub held : Holds new.content new.settled outcome.store outcome.count
+  -- Output: the text is the report of it
+  pub output : text ≡ report_in form outcome.reports outcome.store outcome.count
+  -- Own window
+  pub own_window : HasOwnWindow cycles store count outcome
+  -- Locked: what was locked at first, and what was acknowledged as locked
+  pub leaves_locked : LeavesLocked store outcome
+  pub keeps_locked : KeepsLocked cycles outcome
+  pub keeps_done : KeepsDone cycles outcome
+
+-- what is said of the bytes of a source and a device, where both tell them
+abbrev pub IfTold : Input → Memory → (List ℕ → List ℕ → Type 0) → Type 0
+IfTold i m says = IfSome i.left (λ bytes. IfSome m.content (λ image. says bytes image))
+
+-- the text is the report of a run
+abbrev pub RunIs : Form → Input → Memory → Memory → List ℕ → Type 0
+RunIs form i old new text = IfTold i old (λ bytes image. TheRun form bytes image new text)
+
+-- no stop is planned in the cycle
+abbrev pub IsPowered : CycleInput → Type 0
+IsPowered c = (c.start_stop ≡ 0) × (c.stop ≡ 0)
+
+-- ---- why there is no run
+
+-- the source gave a trace
+abbrev pub GaveTrace : Input → Type 0
+GaveTrace i = IfSome i.left (λ bytes. (cycles : List CycleInput) × Spell bytes cycles)
+
+-- the cycles before one that found no number left ran, and the device holds what they came to
+pub record IsSpent (bytes image : List ℕ) (new : Memory) : Type 0 where
+  pub cycles : List CycleInput
+  pub store : Store
+  pub count : ℕ
+  pub outcome : Outcome
+  pub spelled : Spell bytes cycles
+  pub says : Says image store count
+  pub ran : RanToTheLast cycles store count outcome
+  pub held : Holds new.content new.settled outcome.store outcome.count
+
+-- why a source gave no trace
+abbrev pub IsTraceCause : Input → Input → Fault → Type 0
+IsTraceCause i i' (fault.Trace t) = IfSome i.left (λ bytes. (length bytes ≤ LARGEST_TRACE) × IsFaultOf bytes t)
+IsTraceCause i i' fault.Read = Rose i.faults i'.faults
+IsTraceCause i i' fault.TooLong = IfSome i.left (λ bytes. LARGEST_TRACE < length bytes)
+IsTraceCause i i' fault.OutOfMemory = ⊤
+IsTraceCause i i' fault.Usage = ⊥
+IsTraceCause i i' fault.Store = ⊥
+IsTraceCause i i' (fault.Short size needed) = ⊥
+IsTraceCause i i' (fault.Header h) = ⊥
+IsTraceCause i i' fault.Formatted = ⊥
+IsTraceCause i i' fault.Spent = ⊥
+
+-- why there is no report of a run, by the first thing that went wrong
+abbrev pub IsReplayCause : Input → Input → Memory → Memory → Fault → Type 0
+IsReplayCause i i' old new (fault.Trace t) = IsTraceCause i i' (fault.Trace t) × (new ≡ old)
+IsReplayCause i i' old new fault.Read = IsTraceCause i i' fault.Read × (new ≡ old)
+IsReplayCause i i' old new fault.TooLong = IsTraceCause i i' fault.TooLong × (new ≡ old)
+IsReplayCause i i' old new fault.Store = Rose old.faults new.faults
+IsReplayCause i i' old new (fault.Short size needed) = GaveTrace i × IsImageCause old new (fault.Short size needed)
+IsReplayCause i i' old new (fault.Header h) = GaveTrace i × IsImageCause old new (fault.Header h)
+IsReplayCause i i' old new fault.Spent = IfTold i old (λ bytes image. IsSpent bytes image new)
+IsReplayCause i i' old new fault.OutOfMemory = ⊤
+IsReplayCause i i' old new fault.Usage = ⊥
+IsReplayCause i i' old new fault.Formatted = ⊥

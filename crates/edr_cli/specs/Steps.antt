@@ -1,34 +1,44 @@
--- What the steps of reading a trace say of each other. The definitions of a trace need none of this.
-use Rattle.std.specs.Prelude.{◌≡◌, ◌≢◌, ℕ, None, List, ◌∷◌, ◌++◌, flat_map, codes}
-use Rattle.std.specs.List.{AllByRecursion}
-use Rattle.edr_items.specs.declared.Item.{Item}
-use Rattle.edr_items.specs.Item.{add_refusal_of}
-use Rattle.edr_items.specs.SensorLists.{SensorLists}
-use Rattle.edr_cli.specs.declared.rows.Row.{Row}
-use Rattle.edr_cli.specs.Rows.{row_line}
-use Rattle.edr_cli.specs.Trace.{IsNext, with_row, Give}
+-- What the steps of a run say of each other. The clauses of the top call need none of this.
+use Rattle.std.specs.Prelude.{◌≡◌, ℕ, Bool, List, Option, ⊤}
+use Rattle.edr_device.specs.Faults.{Rose}
+use Rattle.edr_image.specs.Banks.{Store}
+use Rattle.edr_spell.specs.declared.CycleInput.{CycleInput}
+use Rattle.edr_run.specs.Cycle.{Outcome, IsRun}
+use Rattle.edr_cycle.specs.declared.started.StartFault.{StartFault}
+use Rattle.edr_cycle.specs.declared.started.StartFault.TheVariants as start
+use Rattle.edr_report.specs.declared.faults.Fault.{Fault}
+use Rattle.edr_report.specs.declared.faults.Fault.TheVariants as fault
+use Rattle.edr_words.specs.declared.Form.{Form}
+use Rattle.edr_replay.specs.Replayed.{Holds, RanToTheLast}
+use Rattle.edr_cli.specs.Outside.{Memory}
+use Rattle.edr_cli.specs.Reports.{fault_of, report_in}
 
--- no byte of the list is this one
-abbrev pub Lacks : ℕ → List ℕ → Type 0
-Lacks byte bytes = AllByRecursion (λ b. b ≢ byte) bytes
+-- the fault of a call whose run ended early
+abbrev pub fault_of_start : StartFault → Fault
+fault_of_start (start.Open e) = fault_of e
+fault_of_start start.Spent = fault.Spent
+fault_of_start start.StoreFault = fault.Store
+fault_of_start start.OutOfMemory = fault.OutOfMemory
 
--- these are the bytes before the first one that is this one, and those after it
-abbrev pub SplitsAt : ℕ → List ℕ → List ℕ → List ℕ → Type 0
-SplitsAt byte bytes before after = Lacks byte before × (bytes ≡ before ++ byte ∷ after)
+-- the text is the report of a run of these cycles over what the device held
+abbrev pub Reports : Form → List CycleInput → Memory → Memory → List ℕ → Type 0
+Reports form cycles old new text = (v : Store) (n : ℕ) → Holds old.content old.settled v n
+    → (o : Outcome) × IsRun cycles v n o × Holds new.content new.settled o.store o.count × (text ≡ report_in form o.reports o.store o.count)
 
--- some list of its sensor takes the item of the row
-abbrev pub IsTaken : Row → Type 0
-IsTaken row = (items : List Item) × (add_refusal_of row.sensor items row.item ≡ None)
+-- the device held no banks and count
+abbrev pub HeldNone : Memory → Type 0
+HeldNone old = (v : Store) (n : ℕ) → ¬ Holds old.content old.settled v n
 
--- the bytes are the lines of some rows, which make the old lists the new ones
-pub record SpellsRows (old : SensorLists) (bytes : List ℕ) (new : SensorLists) : Type 0 where
-  pub rows : List Row
-  pub text : bytes ≡ flat_map row_line rows
-  pub given : Give old rows new
-
--- the line, without its line feed, is that of a row that may stand after the old lists and makes them the new ones
-pub record AddsLine (old : SensorLists) (line : List ℕ) (new : SensorLists) : Type 0 where
-  pub row : Row
-  pub text : row_line row ≡ line ++ codes "\n"
-  pub next : IsNext old row
-  pub added : new ≡ with_row row old
+-- why there is no report of a run of these cycles
+abbrev pub IsRunCause : List CycleInput → Memory → Memory → Fault → Type 0
+IsRunCause cycles old new fault.Store = Rose old.faults new.faults
+IsRunCause cycles old new (fault.Short size needed) = HeldNone old
+IsRunCause cycles old new (fault.Header h) = HeldNone old
+IsRunCause cycles old new fault.Spent = (v : Store) (n : ℕ) → Holds old.content old.settled v n
+    → (o : Outcome) × RanToTheLast cycles v n o × Holds new.content new.settled o.store o.count
+IsRunCause cycles old new fault.OutOfMemory = ⊤
+IsRunCause cycles old new fault.Usage = ⊥
+IsRunCause cycles old new (fault.Trace t) = ⊥
+IsRunCause cycles old new fault.Read = ⊥
+IsRunCause cycles old new fault.Formatted = ⊥
+IsRunCause cycles old new fault.TooLong = ⊥

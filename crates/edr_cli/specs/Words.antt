@@ -1,18 +1,22 @@
 -- Which words are served.
-use Rattle.std.specs.Prelude.{◌≡◌, ℕ, Some, List}
+use Rattle.std.specs.Prelude.{◌≡◌, ℕ, Some, None, List}
 use Rattle.edr_image.specs.declared.Header.{Header}
-use Rattle.edr_words.specs.declared.Form.TheVariants.{Text}
-use Rattle.edr_words.specs.declared.Job.TheVariants.{Format, Replay}
+use Rattle.edr_words.specs.declared.Form.{Form}
+use Rattle.edr_words.specs.declared.Job.TheVariants.{Format, Replay, Report}
 use Rattle.edr_words.specs.Jobs.{job_of}
-
--- they ask for the run of a trace
-abbrev pub AreReplay : List (List ℕ) → Type 0
-AreReplay words = job_of words ≡ Some (Replay Text)
 
 -- they ask for a new image with this header
 abbrev pub AreFormat : Header → List (List ℕ) → Type 0
 AreFormat h words = job_of words ≡ Some (Format h.banks h.choice)
 
--- they ask for neither
+-- they ask for the run of a trace, and its report in this form
+abbrev pub AreReplay : Form → List (List ℕ) → Type 0
+AreReplay form words = job_of words ≡ Some (Replay form)
+
+-- they ask for the report of what the image holds, in this form
+abbrev pub AreReport : Form → List (List ℕ) → Type 0
+AreReport form words = job_of words ≡ Some (Report form)
+
+-- they ask for nothing that is served
 abbrev pub AreOther : List (List ℕ) → Type 0
-AreOther words = ¬ AreReplay words × ((h : Header) → ¬ AreFormat h words)
+AreOther words = job_of words ≡ None

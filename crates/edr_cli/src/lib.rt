@@ -2,24 +2,18 @@
 //! the records to the bytes that are printed, the memory afterwards, and the status that the program ends with.
 #![tactic(auto)]
 
-mod events;
-mod faults;
+mod endings;
 mod formats;
-mod left;
-mod reader;
-mod replay;
-mod rows;
+mod images;
+pub mod laws;
+mod replays;
 mod runs;
 mod status;
 mod traces;
 
 pub use edr_words::Words;
-pub use reader::one_meaning;
 pub use runs::command;
 pub use status::Status;
-pub use traces::LONGEST_TRACE;
 
 #[cfg(test)]
 mod command_tests;
-#[cfg(test)]
-mod tests;

@@ -1,33 +1,44 @@
 //! The top call.
-ghost use Rattle.std.specs.Prelude.{◌≡◌, ◌≢◌, ◌≤◌, ◌⊎◌, ℕ, List, IfSome};
-ghost use Rattle.edr_items.specs.SensorLists.{SensorLists};
+ghost use Rattle.std.specs.Prelude.{◌≡◌, ◌≢◌, ◌≤◌, ◌⊎◌, ◌+◌, ℕ, List, Some, None, IfSome, length};
 ghost use Rattle.edr_device.specs.Device.{IsQuiet, MayLeave};
 ghost use Rattle.edr_device.specs.Faults.{Rose};
 ghost use Rattle.edr_device.specs.Stream.{Appends};
 ghost use Rattle.edr_device.specs.Told.{Told};
 ghost use Rattle.edr_device.specs.Transfer.{AppendsPart};
 ghost use Rattle.edr_image.specs.declared.Header.{Header};
-ghost use Rattle.edr_image.specs.Image.{image_size};
+ghost use Rattle.edr_image.specs.Banks.{Store};
+ghost use Rattle.edr_image.specs.Image.{image_refusal, image_size};
 ghost use Rattle.edr_banks.specs.Formatting.{IsPartlyFormatted, LacksMagic};
+ghost use Rattle.edr_spell.specs.Spell.{Spell};
+ghost use Rattle.edr_spell.specs.declared.CycleInput.{CycleInput};
+ghost use Rattle.edr_trace.specs.declared.TheConstants.{LARGEST_TRACE};
+ghost use Rattle.edr_run.specs.Cycle.{last_count};
 ghost use Rattle.edr_report.specs.Faults.{fault_line};
 ghost use Rattle.edr_report.specs.declared.faults.Fault.TheVariants as fault;
-ghost use Rattle.edr_cli.specs.Runs.{IsTraceOf, IsNoTrace, IsAtEnd, IsText};
-ghost use Rattle.edr_cli.specs.Formats.{IsFormatText};
-ghost use Rattle.edr_cli.specs.Words.{AreReplay, AreFormat, AreOther};
+ghost use Rattle.edr_words.specs.declared.Form.{Form};
+ghost use Rattle.edr_cli.specs.Endings.{Tells, TellsFault, TellsPart};
+ghost use Rattle.edr_cli.specs.Outside.{IsAtEnd, input, memory};
+ghost use Rattle.edr_cli.specs.Reports.{FormatIs, IsFormatCause, IsImageCause, ReportIs, Says};
+ghost use Rattle.edr_cli.specs.Runs.{IsReplayCause, RunIs};
+ghost use Rattle.edr_cli.specs.Words.{AreFormat, AreOther, AreReplay, AreReport};
 
-use crate::formats::format_image;
+use crate::endings::{tell, write};
+use crate::formats::make_image;
+use crate::images::report;
+use crate::replays::replay_source;
 use crate::status::Status;
-use crate::traces::replay_trace;
 use edr_banks::Header;
-use edr_device::{Failed, Nvm, Sink, Source, put_all};
+use edr_device::{Nvm, Sink, Source};
 use edr_report::Fault;
-use edr_words::{Form, Job, Words};
+use edr_words::{Job, Words};
 use std::alloc::Global;
 
-/// Serves the words `replay` and `format B C`.
+/// Serves the words `format B C`, `replay [text|csv]` and `report [text|csv]`.
 ///
-/// `replay` reads the trace of one cycle from the source, and writes the events that it selects to the sink. `format`
-/// makes a new image on the device, and writes the line that tells of it. A fault writes its one line and nothing else.
+/// `replay` reads a trace from the source, runs its ignition cycles over the device, each up to its planned power cut, and
+/// writes what was acknowledged and every record that the device holds then. `report` writes the records that the device
+/// holds. `format` makes a new image on the device, and writes the line that tells of it. A fault writes its one line and
+/// nothing else.
 pub fn command<S: Source, K: Sink, N: Nvm>(
     alloc: Global,
     words: &Words,
@@ -39,62 +50,72 @@ pub fn command<S: Source, K: Sink, N: Nvm>(
     ensures write_fault { result ≡ Status.WriteFault → Rose (K.faults sink.old) (K.faults sink.new) }
 
     // Other words are a fault of usage, for which nothing is read and the device stays.
-    ensures usage { AreOther words.now → ((result ≡ Status.Usage) × Told (Appends (fault_line fault.Usage)) (K.content sink.old) (K.content sink.new))
-        ⊎ ((result ≡ Status.WriteFault) × Told (AppendsPart (fault_line fault.Usage)) (K.content sink.old) (K.content sink.new)) }
+    ensures usage { AreOther words.now → result ≢ Status.WriteFault → (result ≡ Status.Usage) × Told (Appends (fault_line fault.Usage)) (K.content sink.old) (K.content sink.new) }
+    ensures usage_part { AreOther words.now → result ≡ Status.WriteFault → Told (AppendsPart (fault_line fault.Usage)) (K.content sink.old) (K.content sink.new) }
     ensures untouched { AreOther words.now → (source.new ≡ source.old) × (nvm.new ≡ nvm.old) }
 
-    // `replay`. With Ok the source is at its end. Unless a write fails, the sink gains exactly the text that the status
-    // stands for: with Ok the lines of the events that the bytes spell, and with a fault its one line. The cause of the
-    // fault holds. Where a write fails, the sink gains a part of the text of another status.
-    ensures end { AreReplay words.now → result ≡ Status.Ok → IsAtEnd (S.left source.new) }
-    ensures text { AreReplay words.now → result ≢ Status.WriteFault → (text : List ℕ)
-        × IsText (S.left source.old) (S.faults source.old) (S.faults source.new) result text
-        × Told (Appends text) (K.content sink.old) (K.content sink.new) }
-    ensures part { AreReplay words.now → result ≡ Status.WriteFault → (status : Status) × (text : List ℕ)
-        × IsText (S.left source.old) (S.faults source.old) (S.faults source.new) status text
-        × Told (AppendsPart text) (K.content sink.old) (K.content sink.new) }
-    ensures no_device { AreReplay words.now → nvm.new ≡ nvm.old }
+    // `replay`. With Ok the source is at its end, and the sink gained exactly the report of a run of the cycles that the
+    // source spelled, from what the device told at first to what it holds, with nothing pending. What holds of each run
+    // stands with it: each record is from its own window and cycle, and no locked event is lost.
+    ensures input { (form : Form) → AreReplay form words.now → result ≡ Status.Ok → IsAtEnd (S.left source.new) }
+    ensures run { (form : Form) → AreReplay form words.now → result ≡ Status.Ok
+        → Tells (RunIs form (input (S.left source.old) (S.faults source.old)) (memory (N.extent nvm.old) (N.content nvm.old) (N.settled nvm.old) (N.faults nvm.old)) (memory (N.extent nvm.new) (N.content nvm.new) (N.settled nvm.new) (N.faults nvm.new))) (K.content sink.old) (K.content sink.new) }
+    // With another status the sink gained exactly the line of a fault that has its cause; and where a write failed, a part
+    // of the report or of such a line.
+    ensures other { (form : Form) → AreReplay form words.now → result ≢ Status.Ok → result ≢ Status.WriteFault
+        → TellsFault (IsReplayCause (input (S.left source.old) (S.faults source.old)) (input (S.left source.new) (S.faults source.new)) (memory (N.extent nvm.old) (N.content nvm.old) (N.settled nvm.old) (N.faults nvm.old)) (memory (N.extent nvm.new) (N.content nvm.new) (N.settled nvm.new) (N.faults nvm.new))) result (K.content sink.old) (K.content sink.new) }
+    ensures part { (form : Form) → AreReplay form words.now → result ≡ Status.WriteFault
+        → TellsPart (RunIs form (input (S.left source.old) (S.faults source.old)) (memory (N.extent nvm.old) (N.content nvm.old) (N.settled nvm.old) (N.faults nvm.old)) (memory (N.extent nvm.new) (N.content nvm.new) (N.settled nvm.new) (N.faults nvm.new))) (IsReplayCause (input (S.left source.old) (S.faults source.old)) (input (S.left source.new) (S.faults source.new)) (memory (N.extent nvm.old) (N.content nvm.old) (N.settled nvm.old) (N.faults nvm.old)) (memory (N.extent nvm.new) (N.content nvm.new) (N.settled nvm.new) (N.faults nvm.new))) (K.content sink.old) (K.content sink.new) }
+    // Where nothing counts a fault, a trace is run over an image that isn't refused and has numbers left.
+    ensures complete { (form : Form) (bytes image : List ℕ) (cycles : List CycleInput) (v : Store) (n : ℕ) → AreReplay form words.now
+        → S.left source.old ≡ Some bytes → length bytes ≤ LARGEST_TRACE → Spell bytes cycles
+        → N.content nvm.old ≡ Some image → Says image v n → n + length cycles ≤ last_count
+        → ¬ Rose (S.faults source.old) (S.faults source.new) → ¬ Rose (N.faults nvm.old) (N.faults nvm.new) → ¬ Rose (K.faults sink.old) (K.faults sink.new)
+        → (result ≡ Status.Ok) ⊎ (result ≡ Status.OutOfMemory) }
 
-    // Where neither the source nor the sink counts a fault, a trace is replayed and other bytes are refused, unless
-    // memory runs out.
-    ensures trace { AreReplay words.now → ¬ Rose (S.faults source.old) (S.faults source.new) → ¬ Rose (K.faults sink.old) (K.faults sink.new)
-        → IfSome (S.left source.old) (λ bytes. (lists : SensorLists) → IsTraceOf bytes lists → (result ≡ Status.Ok) ⊎ (result ≡ Status.OutOfMemory)) }
-    ensures no_trace { AreReplay words.now → ¬ Rose (S.faults source.old) (S.faults source.new) → ¬ Rose (K.faults sink.old) (K.faults sink.new)
-        → IfSome (S.left source.old) (λ bytes. IsNoTrace bytes → (result ≡ Status.Trace) ⊎ (result ≡ Status.OutOfMemory)) }
+    // `report`. The same of what the device holds: nothing is read, and its bytes stay.
+    ensures report { (form : Form) → AreReport form words.now → result ≡ Status.Ok
+        → Tells (ReportIs form (memory (N.extent nvm.old) (N.content nvm.old) (N.settled nvm.old) (N.faults nvm.old)) (memory (N.extent nvm.new) (N.content nvm.new) (N.settled nvm.new) (N.faults nvm.new))) (K.content sink.old) (K.content sink.new) }
+    ensures report_other { (form : Form) → AreReport form words.now → result ≢ Status.Ok → result ≢ Status.WriteFault
+        → TellsFault (IsImageCause (memory (N.extent nvm.old) (N.content nvm.old) (N.settled nvm.old) (N.faults nvm.old)) (memory (N.extent nvm.new) (N.content nvm.new) (N.settled nvm.new) (N.faults nvm.new))) result (K.content sink.old) (K.content sink.new) }
+    ensures report_part { (form : Form) → AreReport form words.now → result ≡ Status.WriteFault
+        → TellsPart (ReportIs form (memory (N.extent nvm.old) (N.content nvm.old) (N.settled nvm.old) (N.faults nvm.old)) (memory (N.extent nvm.new) (N.content nvm.new) (N.settled nvm.new) (N.faults nvm.new))) (IsImageCause (memory (N.extent nvm.old) (N.content nvm.old) (N.settled nvm.old) (N.faults nvm.old)) (memory (N.extent nvm.new) (N.content nvm.new) (N.settled nvm.new) (N.faults nvm.new))) (K.content sink.old) (K.content sink.new) }
+    ensures report_reads { (form : Form) → AreReport form words.now → source.new ≡ source.old }
+    // Where nothing was pending, a crash at the end leaves the bytes as they were, whatever the status.
+    ensures report_stays { (form : Form) (bytes image : List ℕ) → AreReport form words.now → IsQuiet (N.content nvm.old) (N.settled nvm.old) bytes
+        → MayLeave (N.content nvm.new) (N.settled nvm.new) image → image ≡ bytes }
+    ensures report_complete { (form : Form) (image : List ℕ) → AreReport form words.now → N.content nvm.old ≡ Some image → image_refusal image ≡ None
+        → ¬ Rose (N.faults nvm.old) (N.faults nvm.new) → ¬ Rose (K.faults sink.old) (K.faults sink.new)
+        → (result ≡ Status.Ok) ⊎ (result ≡ Status.OutOfMemory) }
 
     // `format`. The same of its line: with Ok the device holds the new image, and a refusal leaves its bytes.
-    ensures format_text { (h : Header) → AreFormat h words.now → result ≢ Status.WriteFault → (text : List ℕ)
-        × IsFormatText h (N.extent nvm.old) (N.content nvm.old) (N.content nvm.new) (N.settled nvm.new) (N.faults nvm.old) (N.faults nvm.new) result text
-        × Told (Appends text) (K.content sink.old) (K.content sink.new) }
-    ensures format_part { (h : Header) → AreFormat h words.now → result ≡ Status.WriteFault → (status : Status) × (text : List ℕ)
-        × IsFormatText h (N.extent nvm.old) (N.content nvm.old) (N.content nvm.new) (N.settled nvm.new) (N.faults nvm.old) (N.faults nvm.new) status text
-        × Told (AppendsPart text) (K.content sink.old) (K.content sink.new) }
-    ensures no_source { (h : Header) → AreFormat h words.now → source.new ≡ source.old }
-
+    ensures format { (h : Header) → AreFormat h words.now → result ≡ Status.Ok
+        → Tells (FormatIs h (memory (N.extent nvm.old) (N.content nvm.old) (N.settled nvm.old) (N.faults nvm.old)) (memory (N.extent nvm.new) (N.content nvm.new) (N.settled nvm.new) (N.faults nvm.new))) (K.content sink.old) (K.content sink.new) }
+    ensures format_other { (h : Header) → AreFormat h words.now → result ≢ Status.Ok → result ≢ Status.WriteFault
+        → TellsFault (IsFormatCause h (memory (N.extent nvm.old) (N.content nvm.old) (N.settled nvm.old) (N.faults nvm.old)) (memory (N.extent nvm.new) (N.content nvm.new) (N.settled nvm.new) (N.faults nvm.new))) result (K.content sink.old) (K.content sink.new) }
+    ensures format_part { (h : Header) → AreFormat h words.now → result ≡ Status.WriteFault
+        → TellsPart (FormatIs h (memory (N.extent nvm.old) (N.content nvm.old) (N.settled nvm.old) (N.faults nvm.old)) (memory (N.extent nvm.new) (N.content nvm.new) (N.settled nvm.new) (N.faults nvm.new))) (IsFormatCause h (memory (N.extent nvm.old) (N.content nvm.old) (N.settled nvm.old) (N.faults nvm.old)) (memory (N.extent nvm.new) (N.content nvm.new) (N.settled nvm.new) (N.faults nvm.new))) (K.content sink.old) (K.content sink.new) }
+    ensures format_reads { (h : Header) → AreFormat h words.now → source.new ≡ source.old }
     // Where nothing was pending, a crash at the end leaves the image as it was, or without the magic, or the new one.
     ensures format_crash { (h : Header) (bytes image : List ℕ) → AreFormat h words.now → IsQuiet (N.content nvm.old) (N.settled nvm.old) bytes
         → MayLeave (N.content nvm.new) (N.settled nvm.new) image → IsPartlyFormatted h bytes image }
-
     // Where neither the device nor the sink counts a fault, a device with room and without an image is formatted.
-    ensures format_done { (h : Header) → AreFormat h words.now → ¬ Rose (N.faults nvm.old) (N.faults nvm.new) → ¬ Rose (K.faults sink.old) (K.faults sink.new)
+    ensures format_complete { (h : Header) → AreFormat h words.now → ¬ Rose (N.faults nvm.old) (N.faults nvm.new) → ¬ Rose (K.faults sink.old) (K.faults sink.new)
         → image_size h.banks ≤ N.extent nvm.old → IfSome (N.content nvm.old) (λ bytes. LacksMagic bytes → result ≡ Status.Ok) }
 {
     match words.job() {
-        Some(Job::Format { banks, choice }) => format_image(sink, nvm, Header { banks, choice }),
-        Some(Job::Replay { form: Form::Text }) => replay_trace(alloc, source, sink),
-        _ => write(sink, Fault::Usage.line().as_bytes(), Status::Usage),
-    }
-}
-
-// Writes the text of a run that would end with that status.
-pub(crate) fn write<K: Sink>(sink: &mut K, text: &[u8], status: Status) -> Status
-    requires { status ≢ Status.WriteFault }
-    ensures whole { result ≢ Status.WriteFault → (result ≡ status) × Told (Appends text.now) (K.content sink.old) (K.content sink.new) }
-    ensures part { result ≡ Status.WriteFault → Told (AppendsPart text.now) (K.content sink.old) (K.content sink.new) × Rose (K.faults sink.old) (K.faults sink.new) }
-    ensures answers { (result ≡ status) ⊎ (result ≡ Status.WriteFault) }
-{
-    match put_all(sink, text) {
-        Ok(()) => status,
-        Err(Failed) => Status::WriteFault,
+        Some(Job::Replay { form }) => match replay_source(alloc, source, nvm, form) {
+            Ok(text) => write(sink, &text, Status::Ok),
+            Err(fault) => tell(sink, fault),
+        },
+        Some(Job::Report { form }) => match report(alloc, nvm, form) {
+            Ok(text) => write(sink, &text, Status::Ok),
+            Err(fault) => tell(sink, fault),
+        },
+        Some(Job::Format { banks, choice }) => match make_image(nvm, Header { banks, choice }) {
+            Ok(line) => write(sink, line.as_bytes(), Status::Ok),
+            Err(fault) => tell(sink, fault),
+        },
+        None => tell(sink, Fault::Usage),
     }
 }

@@ -1,30 +1,36 @@
-//! How a run ended.
+//! The ways in which a call ends.
 ghost use Rattle.std.specs.Prelude.{◌≡◌};
-ghost use Rattle.edr_cli.specs.Status.{number_of};
+ghost use Rattle.edr_cli.specs.Status.{number_of, status_of};
 
-/// How a run ended, which is the program's exit status.
+use edr_report::Fault;
+
+/// How a call ends. All but `Ok` and `WriteFault` write the one line of their fault.
 #[derive(Clone, Copy, Debug, PartialEq, Eq)]
 pub enum Status {
-    /// The trace was read to its end and the text was written whole.
+    /// The source was read to its end, where the words ask for that, and the text was written whole.
     Ok,
-    /// The words are none of this program.
+    /// Other words than those that are served.
     Usage,
-    /// The bytes are no trace, or are more than a trace may have.
+    /// The bytes of the source spell no trace.
     Trace,
     /// The source failed.
     ReadFault,
-    /// The sink failed.
+    /// The sink failed. It has a part of the text.
     WriteFault,
-    /// The memory of the records failed.
+    /// The device failed.
     StoreFault,
-    /// The memory is too short for the image, or has one already.
+    /// The image is refused; or it is formatted already, where it was to be formatted.
     Image,
-    /// There was not enough memory.
+    /// A cycle found no number left.
+    Spent,
+    /// There was no memory. Nothing was written but its line.
     OutOfMemory,
+    /// The source gave more bytes than a trace may have.
+    TooLong,
 }
 
 impl Status {
-    /// The exit status: 0, 2, 3, 4, 5, 6, 7 or 9.
+    /// The exit status: 0 for `Ok`, and from 2 to 10 for the others in order.
     pub fn code(&self) -> u8
         ensures { result ≡ number_of self.now }
     {
@@ -36,7 +42,25 @@ impl Status {
             Status::WriteFault => 5,
             Status::StoreFault => 6,
             Status::Image => 7,
+            Status::Spent => 8,
             Status::OutOfMemory => 9,
+            Status::TooLong => 10,
+        }
+    }
+
+    /// The status of a call that ends with this fault.
+    pub(crate) fn of(fault: &Fault) -> Status
+        ensures { result ≡ status_of fault.now }
+    {
+        match fault {
+            Fault::Usage => Status::Usage,
+            Fault::Trace(_) => Status::Trace,
+            Fault::Read => Status::ReadFault,
+            Fault::Store => Status::StoreFault,
+            Fault::Short { .. } | Fault::Header(_) | Fault::Formatted => Status::Image,
+            Fault::Spent => Status::Spent,
+            Fault::OutOfMemory => Status::OutOfMemory,
+            Fault::TooLong => Status::TooLong,
         }
     }
 }

@@ -1,60 +1,31 @@
-//! Runs a trace: from the bytes of a source to the lines of the events.
-ghost use Rattle.std.specs.Prelude.{◌≡◌, ◌≢◌, ◌⊎◌, ℕ, List, IfSome, IfOk, IfErr, OnOk};
-ghost use Rattle.edr_items.specs.SensorLists.{SensorLists};
-ghost use Rattle.edr_device.specs.Faults.{Rose};
-ghost use Rattle.edr_device.specs.Stream.{Appends};
-ghost use Rattle.edr_device.specs.Told.{Told};
-ghost use Rattle.edr_device.specs.Transfer.{AppendsPart};
-ghost use Rattle.edr_cli.specs.Runs.{IsTraceOf, IsNoTrace, IsAtEnd, HasText, IsCause, IsText};
+//! Reads the trace that a source gives.
+ghost use Rattle.std.specs.Prelude.{All, IfOk, IfErr, IfSome, OnOk};
+ghost use Rattle.edr_spell.specs.Spell.{Spell, IsCycle};
+ghost use Rattle.edr_cli.specs.Outside.{IsAtEnd, input};
+ghost use Rattle.edr_cli.specs.Runs.{IsTraceCause};
 
-use crate::events::text_of;
-use crate::faults::Fault;
-use crate::reader::{ReadRefused, read};
-use crate::replay::replay;
-use crate::runs::write;
-use crate::status::Status;
-use edr_device::{Sink, Source, TakeFault, take_all};
+use edr_device::{Source, TakeFault, take_all};
+use edr_report::Fault;
+use edr_trace::{CycleInput, LARGEST_TRACE, ReadRefused, read};
 use std::alloc::Global;
 
-/// The most bytes that a trace may have.
-pub const LONGEST_TRACE: usize = 67_108_864;
-
-/// Reads the trace of one cycle from the source, and writes the events that it selects to the sink.
-///
-/// The text is whole before the sink is used, and the source is read to its end, or to one byte past the most that a
-/// trace may have.
-pub(crate) fn replay_trace<S: Source, K: Sink>(
-    alloc: Global,
-    source: &mut S,
-    sink: &mut K,
-) -> Status
-    ensures end { result ≡ Status.Ok → IsAtEnd (S.left source.new) }
-    ensures text { result ≢ Status.WriteFault → (text : List ℕ)
-        × IsText (S.left source.old) (S.faults source.old) (S.faults source.new) result text
-        × Told (Appends text) (K.content sink.old) (K.content sink.new) }
-    ensures part { result ≡ Status.WriteFault → (status : Status) × (text : List ℕ)
-        × IsText (S.left source.old) (S.faults source.old) (S.faults source.new) status text
-        × Told (AppendsPart text) (K.content sink.old) (K.content sink.new) }
-    ensures write_fault { result ≡ Status.WriteFault → Rose (K.faults sink.old) (K.faults sink.new) }
-    ensures trace { ¬ Rose (S.faults source.old) (S.faults source.new) → ¬ Rose (K.faults sink.old) (K.faults sink.new)
-        → IfSome (S.left source.old) (λ bytes. (lists : SensorLists) → IsTraceOf bytes lists → (result ≡ Status.Ok) ⊎ (result ≡ Status.OutOfMemory)) }
-    ensures no_trace { ¬ Rose (S.faults source.old) (S.faults source.new) → ¬ Rose (K.faults sink.old) (K.faults sink.new)
-        → IfSome (S.left source.old) (λ bytes. IsNoTrace bytes → (result ≡ Status.Trace) ⊎ (result ≡ Status.OutOfMemory)) }
-{
-    match run(alloc, source) {
-        Ok(text) => write(sink, &text, Status::Ok),
-        Err(fault) => write(sink, fault.line(), fault.status()),
-    }
-}
-
-// The text of a run, or why it has none.
-fn run<S: Source>(alloc: Global, source: &mut S) -> Result<Vec<u8>, Fault>
+/// The cycles of the trace that the source gives, which is read to its end, or to one byte past the most that a trace
+/// may have.
+pub(crate) fn trace_of<S: Source>(alloc: Global, source: &mut S) -> Result<Vec<CycleInput>, Fault>
     ensures end { OnOk result (IsAtEnd (S.left source.new)) }
-    ensures text { IfOk result (λ text. HasText (S.left source.old) text.items) }
-    ensures cause { IfErr result (IsCause (S.left source.old) (S.faults source.old) (S.faults source.new)) }
+    ensures spelled { IfOk result (λ cycles. IfSome (S.left source.old) (λ bytes. Spell bytes cycles.items)) }
+    ensures cycles { IfOk result (λ cycles. All IsCycle cycles.items) }
+    ensures cause { IfErr result (IsTraceCause (input (S.left source.old) (S.faults source.old)) (input (S.left source.new) (S.faults source.new))) }
 {
-    let bytes = take_all(alloc, source, LONGEST_TRACE)?;
-    let feeds = read(alloc, &bytes)?;
-    let events = replay(alloc, &feeds)?;
-    Ok(text_of(alloc, &events)?)
+    let bytes = match take_all(alloc, source, LARGEST_TRACE as usize) {
+        Ok(bytes) => bytes,
+        Err(TakeFault::Failed) => return Err(Fault::Read),
+        Err(TakeFault::TooLong) => return Err(Fault::TooLong),
+        Err(TakeFault::OutOfMemory) => return Err(Fault::OutOfMemory),
+    };
+    match read(alloc, &bytes) {
+        Ok(cycles) => Ok(cycles),
+        Err(ReadRefused::Trace(refused)) => Err(Fault::Trace(refused)),
+        Err(ReadRefused::OutOfMemory) => Err(Fault::OutOfMemory),
+    }
 }

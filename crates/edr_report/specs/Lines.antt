@@ -31,12 +31,3 @@ text_of lines = flat_map text_line lines
 -- the table form of lines
 abbrev pub table_of : List Line → List ℕ
 table_of lines = table_head ++ flat_map table_row lines
-
--- the two forms of a report
-pub data Form : Type 0 where
-  Text : Form
-  Table : Form
-
-abbrev pub bytes_in : Form → List Line → List ℕ
-bytes_in Text lines = text_of lines
-bytes_in Table lines = table_of lines

@@ -11,7 +11,7 @@ use Rattle.edr_image.specs.declared.Found.{Found}
 use Rattle.edr_image.specs.Banks.{Store, retrieved}
 use Rattle.edr_image.specs.Reports.{Report, StartStopped, Ran}
 use Rattle.edr_report.specs.Words.{cycle_words, ack_words, bank_words, applied_words, stop_words, none_word, yes_no, number_or_none, switch_or_none, milliseconds, firing_words, shown_count, events_in_crash, time_between, spaced, points_words, extreme_words, missing_words, damage_words}
-use Rattle.edr_report.specs.Lines.{Line, line, Form, bytes_in}
+use Rattle.edr_report.specs.Lines.{Line, line, text_of, table_of}
 
 -- ---- cycles, in block 0
 
@@ -131,6 +131,9 @@ report_lines reports found count =
     ++ line 0 (codes "ignition cycle, download") (shown_count count)
     ∷ []
 
--- the bytes of the report of a run
-abbrev pub report_bytes : Form → List Report → Store → ℕ → List ℕ
-report_bytes form reports v count = bytes_in form (report_lines reports (retrieved v.banks) count)
+-- the bytes of the report of a run, as text and as a table
+abbrev pub report_text : List Report → Store → ℕ → List ℕ
+report_text reports v count = text_of (report_lines reports (retrieved v.banks) count)
+
+abbrev pub report_table : List Report → Store → ℕ → List ℕ
+report_table reports v count = table_of (report_lines reports (retrieved v.banks) count)

@@ -1,5 +1,8 @@
-use Rattle.std.proofs.Common.{◌∙◌, sym}
-use Rattle.edr_cli.proofs.FormatLemmas.{sync_settles, sync_leaves, still_there}
+use Rattle.std.proofs.Common.{◌∙◌, sym, List, ℕ}
+use Rattle.edr_device.specs.Device.{IsQuiet}
+use Rattle.edr_banks.specs.Formatting.{IsNew}
+use Rattle.edr_cli.proofs.Barrier.{sync_settles, sync_leaves}
+use Rattle.edr_cli.proofs.ImageLemmas.{if_each, still_there}
 use Rattle.edr_cli.proofs.formats.make_image.Goals as goal
 
 pub returns-then-is_err-clause-crash : goal.returns-then-is_err-clause-crash
@@ -9,11 +12,9 @@ returns-then-is_err-clause-crash g c = λ bytes image quiet left.
 
 pub returns-in-Ok-clause-made : goal.returns-in-Ok-clause-made
 returns-in-Ok-clause-made g c =
-    let D = g.N.Nvm in (
-      c.format_line-line.ensures,
-      λ bytes told.
-          c.in-Ok.ensures.done bytes (sync_settles c.sync.result (D.content c.args.nvm.now) (D.content c.sync.new.self) (D.settled c.args.nvm.now) (D.settled c.sync.new.self) bytes c.sync.ensures.told (sym c.is_err.ensures.value ∙ c.if-is_err.false) told),
-    )
+    let D = g.N.Nvm in
+    if_each (λ (bytes : List ℕ). (image : List ℕ) × IsQuiet (D.content c.format.new.nvm) (D.settled c.format.new.nvm) image × IsNew c.args.header bytes image) (D.content c.args.nvm.now)
+    (λ bytes told. c.in-Ok.ensures.done bytes (sync_settles c.sync.result (D.content c.args.nvm.now) (D.content c.sync.new.self) (D.settled c.args.nvm.now) (D.settled c.sync.new.self) bytes c.sync.ensures.told (sym c.is_err.ensures.value ∙ c.if-is_err.false) told))
 
 pub returns-in-Ok-clause-crash : goal.returns-in-Ok-clause-crash
 returns-in-Ok-clause-crash g c = λ bytes image quiet left.

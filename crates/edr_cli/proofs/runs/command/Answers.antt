@@ -1,39 +1,46 @@
-use Rattle.std.proofs.Common.{◌≡◌, ◌∙◌, ⊎_elim, inl, inr, sym, subst, ap, ℕ, List, Option, Some}
+use Rattle.std.proofs.Common.{◌≡◌, ◌∙◌, inl, inr, sym, subst, ap, ℕ, List, Some}
 use Rattle.edr_image.specs.declared.Header.{Header}
-use Rattle.edr_device.specs.Told.{Told}
-use Rattle.edr_device.specs.Stream.{Appends}
-use Rattle.edr_device.specs.Transfer.{AppendsPart}
 use Rattle.edr_banks.specs.Formatting.{IsPartlyFormatted}
+use Rattle.edr_report.specs.declared.faults.Fault.{Fault}
 use Rattle.edr_words.specs.declared.Job.{Job}
 use Rattle.edr_cli.specs.declared.status.Status.{Status}
-use Rattle.edr_cli.specs.declared.status.Status.TheVariants as status
+use Rattle.edr_cli.specs.Outside.{input, memory}
+use Rattle.edr_cli.specs.Reports.{FormatIs, IsFormatCause}
+use Rattle.edr_cli.specs.Status.{status_of}
 use Rattle.edr_cli.specs.Words.{AreFormat}
-use Rattle.edr_cli.proofs.FormatLemmas.{same_header}
+use Rattle.edr_cli.proofs.Completeness.{only_memory}
+use Rattle.edr_cli.proofs.Dispatch.{same_header}
+use Rattle.edr_cli.proofs.EndingLemmas.{answered, tells_part}
 use Rattle.edr_cli.proofs.runs.command.Goals as goal
 
-pub returns-in-Some-Format-clause-usage : goal.returns-in-Some-Format-clause-usage
-returns-in-Some-Format-clause-usage g c = λ other.
-    let is : AreFormat (record { banks = c.in-Some-Format.banks; choice = c.in-Some-Format.choice }) c.args.words.now = sym c.in-Some-Format.ensures.value ∙ ap (λ (j : Job). Some j) c.in-Some-Format.field-0-is in
-    absurd (other.1 _ is)
+pub returns-in-Err-clause-complete : goal.returns-in-Err-clause-complete
+returns-in-Err-clause-complete g c = λ form bytes image cs v n asked left within spelled told says room calm quiet_sink quiet.
+    let S = g.S.Source in
+    let D = g.N.Nvm in
+    let i = input (S.left c.args.source.now) (S.faults c.args.source.now) in
+    let i' = input (S.left c.replay_source.new.source) (S.faults c.replay_source.new.source) in
+    let old = memory (D.extent c.args.nvm.now) (D.content c.args.nvm.now) (D.settled c.args.nvm.now) (D.faults c.args.nvm.now) in
+    let new = memory (D.extent c.replay_source.new.nvm) (D.content c.replay_source.new.nvm) (D.settled c.replay_source.new.nvm) (D.faults c.replay_source.new.nvm) in
+    let memory_only = only_memory i i' old new c.in-Err.fault bytes image cs v n left within spelled told says room calm quiet_sink c.in-Err.ensures.cause in
+    inr (answered _ _ c.tell.result (status_of c.in-Err.fault) c.tell.ensures.answers c.tell.ensures.part quiet ∙ ap status_of memory_only)
 
-pub returns-in-Some-Format-clause-untouched : goal.returns-in-Some-Format-clause-untouched
-returns-in-Some-Format-clause-untouched g c = λ other.
-    let is : AreFormat (record { banks = c.in-Some-Format.banks; choice = c.in-Some-Format.choice }) c.args.words.now = sym c.in-Some-Format.ensures.value ∙ ap (λ (j : Job). Some j) c.in-Some-Format.field-0-is in
-    absurd (other.1 _ is)
-
-pub returns-in-Some-Format-clause-format_crash : goal.returns-in-Some-Format-clause-format_crash
-returns-in-Some-Format-clause-format_crash g c = λ h bytes image asked quiet left.
-    let is : AreFormat (record { banks = c.in-Some-Format.banks; choice = c.in-Some-Format.choice }) c.args.words.now = sym c.in-Some-Format.ensures.value ∙ ap (λ (j : Job). Some j) c.in-Some-Format.field-0-is in
-    subst (λ (k : Header). IsPartlyFormatted k bytes image) (same_header c.args.words.now _ h is asked) (c.format_image.ensures.crash bytes image quiet left)
-
-pub returns-in_default-clause-usage : goal.returns-in_default-clause-usage
-returns-in_default-clause-usage g c = λ other.
+pub returns-in-Ok-make_image-clause-format_part : goal.returns-in-Ok-make_image-clause-format_part
+returns-in-Ok-make_image-clause-format_part g c = λ h asked failed.
     let K = g.K.Sink in
-    let line = c.as_bytes.ensures ∙ c.line.ensures in
-    ⊎_elim
-    (λ (same : c.write.result ≡ status.Usage). inl (same, subst (λ (text : List ℕ). Told (Appends text) (K.content c.args.sink.now) (K.content c.write.new.sink)) line (c.write.ensures.whole (λ e. different (sym same ∙ e))).1))
-    (λ (failed : c.write.result ≡ status.WriteFault). inr (failed, subst (λ (text : List ℕ). Told (AppendsPart text) (K.content c.args.sink.now) (K.content c.write.new.sink)) line (c.write.ensures.part failed).0))
-    c.write.ensures.answers
-  where
-    different : ◌≡◌ {A = Status} status.Usage status.WriteFault → ⊥
-    different e = cc
+    let D = g.N.Nvm in
+    let old = memory (D.extent c.args.nvm.now) (D.content c.args.nvm.now) (D.settled c.args.nvm.now) (D.faults c.args.nvm.now) in
+    let new = memory (D.extent c.make_image.new.nvm) (D.content c.make_image.new.nvm) (D.settled c.make_image.new.nvm) (D.faults c.make_image.new.nvm) in
+    let is : AreFormat (record { banks = c.in-Some-Format.banks; choice = c.in-Some-Format.choice }) c.args.words.now = sym c.in-Some-Format.ensures.value ∙ ap (λ (j : Job). Some j) c.in-Some-Format.field-0-is in
+    let same = same_header c.args.words.now _ h is asked in
+    tells_part (λ text. FormatIs h old new text) (λ f. IsFormatCause h old new f) _ c.in-Ok-make_image.line c.as_bytes.result.now c.write-in-Ok-make_image.result (K.content c.args.sink.now) (K.content c.write-in-Ok-make_image.new.sink)
+    (subst (λ (k : Header). FormatIs k old new c.in-Ok-make_image.line) same (c.in-Ok-make_image.ensures.made, c.in-Ok-make_image.ensures.line)) c.as_bytes.ensures c.write-in-Ok-make_image.ensures.part failed
+
+pub returns-in-Ok-make_image-clause-format_crash : goal.returns-in-Ok-make_image-clause-format_crash
+returns-in-Ok-make_image-clause-format_crash g c = λ h bytes image asked quiet left.
+    let is : AreFormat (record { banks = c.in-Some-Format.banks; choice = c.in-Some-Format.choice }) c.args.words.now = sym c.in-Some-Format.ensures.value ∙ ap (λ (j : Job). Some j) c.in-Some-Format.field-0-is in
+    subst (λ (k : Header). IsPartlyFormatted k bytes image) (same_header c.args.words.now _ h is asked) (c.make_image.ensures.crash bytes image quiet left)
+
+pub returns-in-Err-make_image-clause-format_crash : goal.returns-in-Err-make_image-clause-format_crash
+returns-in-Err-make_image-clause-format_crash g c = λ h bytes image asked quiet left.
+    let is : AreFormat (record { banks = c.in-Some-Format.banks; choice = c.in-Some-Format.choice }) c.args.words.now = sym c.in-Some-Format.ensures.value ∙ ap (λ (j : Job). Some j) c.in-Some-Format.field-0-is in
+    subst (λ (k : Header). IsPartlyFormatted k bytes image) (same_header c.args.words.now _ h is asked) (c.make_image.ensures.crash bytes image quiet left)

@@ -1,0 +1,39 @@
+use Rattle.std.proofs.Common.{◌≡◌, sym, subst, ap, ◌∙◌, ℕ, List}
+use Rattle.edr_spell.specs.declared.CycleInput.{CycleInput}
+use Rattle.edr_cli.specs.Outside.{input, memory}
+use Rattle.edr_cli.specs.Runs.{IsReplayCause, RunIs}
+use Rattle.edr_cli.specs.Steps.{IsRunCause, Reports}
+use Rattle.edr_cli.proofs.ImageLemmas.{ok_map, err_map}
+use Rattle.edr_cli.proofs.ReplayLemmas.{replayed, run_replay}
+use Rattle.edr_cli.proofs.Barrier.{tells_again}
+use Rattle.edr_cli.proofs.replays.replay_source.Goals as goal
+
+pub returns-clause-text : goal.returns-clause-text
+returns-clause-text g c =
+    let S = g.S.Source in
+    let D = g.N.Nvm in
+    let i = input (S.left c.args.source.now) (S.faults c.args.source.now) in
+    let old = memory (D.extent c.args.nvm.now) (D.content c.args.nvm.now) (D.settled c.args.nvm.now) (D.faults c.args.nvm.now) in
+    let mid = memory (D.extent c.open_settled.new.nvm) (D.content c.open_settled.new.nvm) (D.settled c.open_settled.new.nvm) (D.faults c.open_settled.new.nvm) in
+    let new = memory (D.extent c.run.new.nvm) (D.content c.run.new.nvm) (D.settled c.run.new.nvm) (D.faults c.run.new.nvm) in
+    let cs = c.in_ok-cycles.cycles.items in
+    let b = c.in_ok-open_settled.field-0 in
+    ok_map c.run.result (λ out. Reports c.args.form c.deref.result.now mid new out.items) (λ out. RunIs c.args.form i old new out.items)
+    (λ out reports. replayed c.args.form i old mid new cs b.store b.count out.items c.in_ok-cycles.ensures.spelled c.in_ok-open_settled.ensures.says
+    (subst (λ (xs : List CycleInput). Reports c.args.form xs mid new out.items) c.deref.ensures.value reports)) c.run.ensures.text
+
+pub returns-clause-cause : goal.returns-clause-cause
+returns-clause-cause g c =
+    let S = g.S.Source in
+    let D = g.N.Nvm in
+    let i = input (S.left c.args.source.now) (S.faults c.args.source.now) in
+    let i' = input (S.left c.trace_of.new.source) (S.faults c.trace_of.new.source) in
+    let old = memory (D.extent c.args.nvm.now) (D.content c.args.nvm.now) (D.settled c.args.nvm.now) (D.faults c.args.nvm.now) in
+    let mid = memory (D.extent c.open_settled.new.nvm) (D.content c.open_settled.new.nvm) (D.settled c.open_settled.new.nvm) (D.faults c.open_settled.new.nvm) in
+    let new = memory (D.extent c.run.new.nvm) (D.content c.run.new.nvm) (D.settled c.run.new.nvm) (D.faults c.run.new.nvm) in
+    let cs = c.in_ok-cycles.cycles.items in
+    let b = c.in_ok-open_settled.field-0 in
+    err_map c.run.result (λ f. IsRunCause c.deref.result.now mid new f) (λ f. IsReplayCause i i' old new f)
+    (λ f cause. run_replay i i' old mid new cs b.store b.count f c.in_ok-cycles.ensures.spelled c.in_ok-open_settled.ensures.says
+    (tells_again old.content mid.content new.content c.open_settled.ensures.told c.run.ensures.told) c.open_settled.ensures.later
+    (subst (λ (xs : List CycleInput). IsRunCause xs mid new f) c.deref.ensures.value cause)) c.run.ensures.cause

@@ -1,0 +1,22 @@
+-- How a call ends: what it has written, by its status.
+use Rattle.std.specs.Prelude.{◌≡◌, ◌⊎◌, ℕ, List, Option}
+use Rattle.edr_device.specs.Stream.{Appends}
+use Rattle.edr_device.specs.Told.{Told}
+use Rattle.edr_device.specs.Transfer.{AppendsPart}
+use Rattle.edr_report.specs.declared.faults.Fault.{Fault}
+use Rattle.edr_report.specs.Faults.{fault_line}
+use Rattle.edr_cli.specs.declared.status.Status.{Status}
+use Rattle.edr_cli.specs.Status.{status_of}
+
+-- the sink gained the text that is asked for
+abbrev pub Tells : (List ℕ → Type 0) → Option (List ℕ) → Option (List ℕ) → Type 0
+Tells IsText old new = (text : List ℕ) × IsText text × Told (Appends text) old new
+
+-- the sink gained the line of a fault with this status, and nothing else; the fault has its cause
+abbrev pub TellsFault : (Fault → Type 0) → Status → Option (List ℕ) → Option (List ℕ) → Type 0
+TellsFault IsCause status old new = (f : Fault) × IsCause f × (status_of f ≡ status) × Told (Appends (fault_line f)) old new
+
+-- a write failed: the sink gained a part of the text, or of the line of a fault that has its cause
+abbrev pub TellsPart : (List ℕ → Type 0) → (Fault → Type 0) → Option (List ℕ) → Option (List ℕ) → Type 0
+TellsPart IsText IsCause old new =
+    ((text : List ℕ) × IsText text × Told (AppendsPart text) old new) ⊎ ((f : Fault) × IsCause f × Told (AppendsPart (fault_line f)) old new)

@@ -1,0 +1,92 @@
+-- What an image says, the report of it, and why there is none.
+use Rattle.std.specs.Prelude.{◌≡◌, ◌<◌, ◌≤◌, ℕ, [], List, Option, Some, None, IfSome, ⊤}
+use Rattle.edr_device.specs.Faults.{Rose}
+use Rattle.edr_image.specs.declared.Header.{Header}
+use Rattle.edr_image.specs.declared.OpenFault.{OpenFault}
+use Rattle.edr_image.specs.declared.OpenFault.TheVariants as open_fault
+use Rattle.edr_image.specs.Banks.{Store}
+use Rattle.edr_image.specs.Image.{image_refusal, image_size, not_magic, view_of}
+use Rattle.edr_image.specs.Reports.{Report}
+use Rattle.edr_banks.specs.Formatting.{IsNew}
+use Rattle.edr_report.specs.declared.faults.Fault.{Fault}
+use Rattle.edr_report.specs.declared.faults.Fault.TheVariants as fault
+use Rattle.edr_report.specs.Format.{format_line}
+use Rattle.edr_report.specs.Report.{report_text, report_table}
+use Rattle.edr_words.specs.declared.Form.{Form}
+use Rattle.edr_words.specs.declared.Form.TheVariants.{Text, Table}
+use Rattle.edr_device.specs.Device.{IsQuiet}
+use Rattle.edr_cli.specs.Outside.{Memory}
+
+-- the image says these banks and this count
+abbrev pub Says : List ℕ → Store → ℕ → Type 0
+Says image v n = view_of image ≡ Some (record { store = v; count = n })
+
+-- the bytes of the report of these cycles, banks and count
+abbrev pub report_in : Form → List Report → Store → ℕ → List ℕ
+report_in Text reports v n = report_text reports v n
+report_in Table reports v n = report_table reports v n
+
+-- ---- report
+
+-- the bytes that the device told say banks and a count, of which this is the report, and they stay
+pub record IsReported (form : Form) (image : List ℕ) (new : Memory) (text : List ℕ) : Type 0 where
+  pub store : Store
+  pub count : ℕ
+  pub says : Says image store count
+  pub stays : IsQuiet new.content new.settled image
+  pub text_is : text ≡ report_in form [] store count
+
+-- the same where the device tells its bytes
+abbrev pub ReportIs : Form → Memory → Memory → List ℕ → Type 0
+ReportIs form old new text = IfSome old.content (λ image. IsReported form image new text)
+
+-- the image is refused for this reason, and the bytes stay
+abbrev pub IsRefused : OpenFault → Memory → Memory → Type 0
+IsRefused e old new = IfSome old.content (λ image. image_refusal image ≡ Some e) × (new.content ≡ old.content)
+
+-- the fault of a call that could not open the banks
+abbrev pub fault_of : OpenFault → Fault
+fault_of (open_fault.Short size needed) = fault.Short size needed
+fault_of (open_fault.Header h) = fault.Header h
+fault_of open_fault.StoreFault = fault.Store
+fault_of open_fault.OutOfMemory = fault.OutOfMemory
+
+-- why there is no report of an image
+abbrev pub IsImageCause : Memory → Memory → Fault → Type 0
+IsImageCause old new fault.Store = Rose old.faults new.faults
+IsImageCause old new (fault.Short size needed) = IsRefused (open_fault.Short size needed) old new
+IsImageCause old new (fault.Header h) = IsRefused (open_fault.Header h) old new
+IsImageCause old new fault.OutOfMemory = ⊤
+IsImageCause old new fault.Usage = ⊥
+IsImageCause old new (fault.Trace t) = ⊥
+IsImageCause old new fault.Read = ⊥
+IsImageCause old new fault.Formatted = ⊥
+IsImageCause old new fault.Spent = ⊥
+IsImageCause old new fault.TooLong = ⊥
+
+-- ---- format
+
+-- where the device told bytes, it tells those of the new image, and nothing is pending
+abbrev pub IsMade : Header → Memory → Memory → Type 0
+IsMade h old new = IfSome old.content (λ bytes. (image : List ℕ) × IsQuiet new.content new.settled image × IsNew h bytes image)
+
+-- and the text is the line that tells of it
+abbrev pub FormatIs : Header → Memory → Memory → List ℕ → Type 0
+FormatIs h old new text = IsMade h old new × (text ≡ format_line h)
+
+-- the magic stands
+abbrev pub HasMagic : List ℕ → Type 0
+HasMagic bytes = not_magic bytes ≡ None
+
+-- why there is no new image; a refusal leaves the bytes as they were
+abbrev pub IsFormatCause : Header → Memory → Memory → Fault → Type 0
+IsFormatCause h old new fault.Store = Rose old.faults new.faults
+IsFormatCause h old new (fault.Short size needed) = (size ≡ old.size) × (needed ≡ image_size h.banks) × (size < needed) × (new.content ≡ old.content)
+IsFormatCause h old new fault.Formatted = (image_size h.banks ≤ old.size) × IfSome old.content HasMagic × (new.content ≡ old.content)
+IsFormatCause h old new fault.Usage = ⊥
+IsFormatCause h old new (fault.Trace t) = ⊥
+IsFormatCause h old new fault.Read = ⊥
+IsFormatCause h old new (fault.Header r) = ⊥
+IsFormatCause h old new fault.Spent = ⊥
+IsFormatCause h old new fault.OutOfMemory = ⊥
+IsFormatCause h old new fault.TooLong = ⊥

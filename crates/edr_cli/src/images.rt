@@ -1,0 +1,92 @@
+//! Reads what the memory of the records holds, and reports it.
+ghost use Rattle.std.specs.Prelude.{◌≡◌, ◌≤◌, ℕ, List, Some, IfOk, IfErr, map};
+ghost use Rattle.edr_device.specs.Device.{IsQuiet, MayLeave, StillTells};
+ghost use Rattle.edr_image.specs.Reports.{report_of};
+ghost use Rattle.edr_cli.specs.Outside.{memory};
+ghost use Rattle.edr_cli.specs.Reports.{IsImageCause, ReportIs, Says, fault_of, report_in};
+ghost use Rattle.edr_report.specs.declared.faults.Fault.TheVariants as fault;
+
+use edr_banks::{Banks, OpenFault};
+use edr_device::Nvm;
+use edr_image::CycleReport;
+use edr_report::{Fault, table, text};
+use edr_words::Form;
+use std::alloc::Global;
+
+/// The fault of a call that could not open the banks.
+pub(crate) fn open_fault(e: OpenFault) -> Fault
+    ensures { result ≡ fault_of e }
+{
+    match e {
+        OpenFault::Short { size, needed } => Fault::Short { size, needed },
+        OpenFault::Header(refused) => Fault::Header(refused),
+        OpenFault::StoreFault => Fault::Store,
+        OpenFault::OutOfMemory => Fault::OutOfMemory,
+    }
+}
+
+/// Opens the banks behind a barrier, so that nothing is pending.
+pub(crate) fn open_settled<N: Nvm>(alloc: Global, nvm: &mut N) -> Result<Banks, Fault>
+    ensures says { IfOk result (λ b. (image : List ℕ) → N.content nvm.old ≡ Some image
+        → Says image b.store b.count × IsQuiet (N.content nvm.new) (N.settled nvm.new) image) }
+    ensures cause { IfErr result (IsImageCause (memory (N.extent nvm.old) (N.content nvm.old) (N.settled nvm.old) (N.faults nvm.old))
+        (memory (N.extent nvm.new) (N.content nvm.new) (N.settled nvm.new) (N.faults nvm.new))) }
+    ensures stays { (bytes image : List ℕ) → IsQuiet (N.content nvm.old) (N.settled nvm.old) bytes → MayLeave (N.content nvm.new) (N.settled nvm.new) image → image ≡ bytes }
+    ensures told { StillTells (N.content nvm.old) (N.content nvm.new) }
+    ensures later { N.faults nvm.old ≤ N.faults nvm.new }
+{
+    if nvm.sync().is_err() {
+        return Err(Fault::Store);
+    }
+    open(alloc, nvm)
+}
+
+/// Opens the banks.
+pub(crate) fn open<N: Nvm>(alloc: Global, nvm: &mut N) -> Result<Banks, Fault>
+    ensures says { IfOk result (λ b. (image : List ℕ) → N.content nvm.old ≡ Some image → Says image b.store b.count) }
+    ensures cause { IfErr result (IsImageCause (memory (N.extent nvm.old) (N.content nvm.old) (N.settled nvm.old) (N.faults nvm.old))
+        (memory (N.extent nvm.new) (N.content nvm.new) (N.settled nvm.new) (N.faults nvm.new))) }
+    ensures content { N.content nvm.new ≡ N.content nvm.old }
+    ensures settled { (i : ℕ) → N.settled nvm.new i ≡ N.settled nvm.old i }
+    ensures later { N.faults nvm.old ≤ N.faults nvm.new }
+{
+    match Banks::open(alloc, nvm) {
+        Ok(banks) => Ok(banks),
+        Err(e) => Err(open_fault(e)),
+    }
+}
+
+/// The report of these cycles and of what the banks hold.
+pub(crate) fn report_of_banks(
+    alloc: Global,
+    form: Form,
+    run: &[CycleReport],
+    banks: &Banks,
+) -> Result<Vec<u8>, Fault>
+    ensures text { IfOk result (λ out. out.items ≡ report_in form (map report_of run.now) banks.now.store banks.now.count) }
+    ensures memory { IfErr result (λ e. e ≡ fault.OutOfMemory) }
+{
+    let Ok(found) = banks.retrieve(alloc) else {
+        return Err(Fault::OutOfMemory);
+    };
+    let written = match form {
+        Form::Text => text(alloc, run, &found, banks.count()),
+        Form::Table => table(alloc, run, &found, banks.count()),
+    };
+    match written {
+        Ok(out) => Ok(out),
+        Err(_) => Err(Fault::OutOfMemory),
+    }
+}
+
+/// The report of what the device holds.
+pub(crate) fn report<N: Nvm>(alloc: Global, nvm: &mut N, form: Form) -> Result<Vec<u8>, Fault>
+    ensures text { IfOk result (λ out. ReportIs form (memory (N.extent nvm.old) (N.content nvm.old) (N.settled nvm.old) (N.faults nvm.old))
+        (memory (N.extent nvm.new) (N.content nvm.new) (N.settled nvm.new) (N.faults nvm.new)) out.items) }
+    ensures cause { IfErr result (IsImageCause (memory (N.extent nvm.old) (N.content nvm.old) (N.settled nvm.old) (N.faults nvm.old))
+        (memory (N.extent nvm.new) (N.content nvm.new) (N.settled nvm.new) (N.faults nvm.new))) }
+    ensures stays { (bytes image : List ℕ) → IsQuiet (N.content nvm.old) (N.settled nvm.old) bytes → MayLeave (N.content nvm.new) (N.settled nvm.new) image → image ≡ bytes }
+{
+    let banks = open_settled(alloc, nvm)?;
+    report_of_banks(alloc, form, &[], &banks)
+}

@@ -1,0 +1,73 @@
+//! Runs a trace over the memory of the records, and reports.
+ghost use Rattle.std.specs.Prelude.{◌≡◌, All, IfOk, IfErr, OnOk};
+ghost use Rattle.edr_device.specs.Device.{StillTells};
+ghost use Rattle.edr_spell.specs.Spell.{IsCycle};
+ghost use Rattle.edr_cli.specs.Outside.{IsAtEnd, input, memory};
+ghost use Rattle.edr_cli.specs.Runs.{IsReplayCause, RunIs};
+ghost use Rattle.edr_cli.specs.Steps.{IsRunCause, Reports, fault_of_start};
+
+use crate::images::{open, open_fault, open_settled, report_of_banks};
+use crate::traces::trace_of;
+use edr_device::{Nvm, Source};
+use edr_replay::{StartFault, replay};
+use edr_report::Fault;
+use edr_trace::CycleInput;
+use edr_words::Form;
+use std::alloc::Global;
+
+// The fault of a call whose run ended early.
+fn start_fault(e: StartFault) -> Fault
+    ensures { result ≡ fault_of_start e }
+{
+    match e {
+        StartFault::Open(e) => open_fault(e),
+        StartFault::Spent => Fault::Spent,
+        StartFault::StoreFault => Fault::Store,
+        StartFault::OutOfMemory => Fault::OutOfMemory,
+    }
+}
+
+/// Runs the trace that the source gives over the device, and gives the report of the run and of what the device holds
+/// behind it.
+///
+/// The trace is whole before the device is used, and the image is looked at before the first cycle.
+pub(crate) fn replay_source<S: Source, N: Nvm>(
+    alloc: Global,
+    source: &mut S,
+    nvm: &mut N,
+    form: Form,
+) -> Result<Vec<u8>, Fault>
+    ensures end { OnOk result (IsAtEnd (S.left source.new)) }
+    ensures text { IfOk result (λ out. RunIs form (input (S.left source.old) (S.faults source.old))
+        (memory (N.extent nvm.old) (N.content nvm.old) (N.settled nvm.old) (N.faults nvm.old))
+        (memory (N.extent nvm.new) (N.content nvm.new) (N.settled nvm.new) (N.faults nvm.new)) out.items) }
+    ensures cause { IfErr result (IsReplayCause (input (S.left source.old) (S.faults source.old)) (input (S.left source.new) (S.faults source.new))
+        (memory (N.extent nvm.old) (N.content nvm.old) (N.settled nvm.old) (N.faults nvm.old))
+        (memory (N.extent nvm.new) (N.content nvm.new) (N.settled nvm.new) (N.faults nvm.new))) }
+{
+    let cycles = trace_of(alloc, source)?;
+    open_settled(alloc, nvm)?;
+    run(alloc, nvm, &cycles, form)
+}
+
+// Runs the cycles, opens the banks again and reports.
+fn run<N: Nvm>(
+    alloc: Global,
+    nvm: &mut N,
+    cycles: &[CycleInput],
+    form: Form,
+) -> Result<Vec<u8>, Fault>
+    requires { All IsCycle cycles.now }
+    ensures text { IfOk result (λ out. Reports form cycles.now (memory (N.extent nvm.old) (N.content nvm.old) (N.settled nvm.old) (N.faults nvm.old))
+        (memory (N.extent nvm.new) (N.content nvm.new) (N.settled nvm.new) (N.faults nvm.new)) out.items) }
+    ensures cause { IfErr result (IsRunCause cycles.now (memory (N.extent nvm.old) (N.content nvm.old) (N.settled nvm.old) (N.faults nvm.old))
+        (memory (N.extent nvm.new) (N.content nvm.new) (N.settled nvm.new) (N.faults nvm.new))) }
+    ensures told { StillTells (N.content nvm.old) (N.content nvm.new) }
+{
+    let reports = match replay(alloc, nvm, cycles) {
+        Ok(reports) => reports,
+        Err(e) => return Err(start_fault(e)),
+    };
+    let banks = open(alloc, nvm)?;
+    report_of_banks(alloc, form, &reports, &banks)
+}
