@@ -39,7 +39,7 @@ fn prepare<N: Nvm>(alloc: Global, nvm: &mut N, ticks: u32) -> Result<Started, St
     ensures refused { IfErr result (λ e. (o : OpenFault) → e ≡ Open o → IsRefusal o → (bytes : List ℕ) → N.content nvm.old ≡ Some bytes → image_refusal bytes ≡ Some o) }
     ensures short { N.extent nvm.old < 96 → result ≡ Err (Open (Short (N.extent nvm.old) 96)) }
     ensures sizes { IfErr result (λ e. (size needed : ℕ) → e ≡ Open (Short size needed) → (size ≡ N.extent nvm.old) × (size < needed)) }
-    ensures spent { IfErr result (λ e. IsOpened e → (bytes : List ℕ) → N.content nvm.old ≡ Some bytes → (v : View) × (view_of bytes ≡ Some v) × ((e ≡ Spent) ↔ (v.count ≡ last_count))) }
+    ensures spent { IfErr result (λ e. IsOpened e → (bytes : List ℕ) → N.content nvm.old ≡ Some bytes → (v : View) × (view_of bytes ≡ Some v) × (v.count ≤ last_count) × ((e ≡ Spent) ↔ (v.count ≡ last_count))) }
     ensures early { IfErr result IsEarly }
     ensures fault { IfErr result (λ e. IsStoreFault e → Rose (N.faults nvm.old) (N.faults nvm.new)) }
     ensures later { N.faults nvm.old ≤ N.faults nvm.new }
@@ -87,7 +87,7 @@ pub fn start<N: Nvm>(alloc: Global, nvm: &mut N, ticks: u32) -> Result<Started, 
     ensures refused { IfErr result (λ e. (o : OpenFault) → e ≡ Open o → IsRefusal o → (bytes : List ℕ) → N.content nvm.old ≡ Some bytes → image_refusal bytes ≡ Some o) }
     ensures short { N.extent nvm.old < 96 → result ≡ Err (Open (Short (N.extent nvm.old) 96)) }
     ensures sizes { IfErr result (λ e. (size needed : ℕ) → e ≡ Open (Short size needed) → (size ≡ N.extent nvm.old) × (size < needed)) }
-    ensures spent { IfErr result (λ e. IsOpened e → (bytes : List ℕ) → N.content nvm.old ≡ Some bytes → (v : View) × (view_of bytes ≡ Some v) × ((e ≡ Spent) ↔ (v.count ≡ last_count))) }
+    ensures spent { IfErr result (λ e. IsOpened e → (bytes : List ℕ) → N.content nvm.old ≡ Some bytes → (v : View) × (view_of bytes ≡ Some v) × (v.count ≤ last_count) × ((e ≡ Spent) ↔ (v.count ≡ last_count))) }
     ensures fault { IfErr result (λ e. IsStoreFault e → Rose (N.faults nvm.old) (N.faults nvm.new)) }
     ensures later { N.faults nvm.old ≤ N.faults nvm.new }
     // Any answer but a fault after the opening comes before the first changing call.

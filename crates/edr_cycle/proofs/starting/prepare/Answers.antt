@@ -4,14 +4,14 @@ use Rattle.edr_cycle.proofs.starting.prepare.Goals as goal
 pub returns-in_default-clause-spent : goal.returns-in_default-clause-spent
 returns-in_default-clause-spent g c = λ opened bytes told.
     let full = rw c.in_default.is at c.checked_add.ensures in
-    (_, c.in-Ok.ensures.view bytes told, ((λ e. omega (arith, full)), (λ e. refl)))
+    (_, c.in-Ok.ensures.view bytes told, omega (arith, full), ((λ e. omega (arith, full)), (λ e. refl)))
 
 pub returns-in_default-open-clause-spent : goal.returns-in_default-open-clause-spent
 returns-in_default-open-clause-spent g c = λ opened bytes told.
     let room = rw c.in-Some.is at c.checked_add.ensures in
-    (_, c.in-Ok.ensures.view bytes told, ((λ e. absurd cc), (λ e. absurd (omega (arith, room, e)))))
+    (_, c.in-Ok.ensures.view bytes told, omega (arith, room), ((λ e. absurd cc), (λ e. absurd (omega (arith, room, e)))))
 
 pub returns-in_default-with_room-clause-spent : goal.returns-in_default-with_room-clause-spent
 returns-in_default-with_room-clause-spent g c = λ opened bytes told.
     let room = rw c.in-Some.is at c.checked_add.ensures in
-    (_, c.in-Ok.ensures.view bytes told, ((λ e. absurd cc), (λ e. absurd (omega (arith, room, e)))))
+    (_, c.in-Ok.ensures.view bytes told, omega (arith, room), ((λ e. absurd cc), (λ e. absurd (omega (arith, room, e)))))

@@ -36,7 +36,7 @@ returns-in-Err-clause-spent g c = λ opened bytes told.
     let p = c.in_ok-started.ensures in
     let low = p.number.0 in
     let high = p.number.1 in
-    (_, p.found bytes told, ((λ e. absurd cc), (λ e. absurd (omega (arith, low, high, e)))))
+    (_, p.found bytes told, omega (arith, high), ((λ e. absurd cc), (λ e. absurd (omega (arith, low, high, e)))))
 
 pub returns-in-Ok-clause-made : goal.returns-in-Ok-clause-made
 returns-in-Ok-clause-made g c = λ bytes v found.

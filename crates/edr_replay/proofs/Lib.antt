@@ -1,0 +1,7 @@
+pub mod RunLemmas
+pub mod FewCalls
+pub mod StopLemmas
+pub mod StartPhase
+pub mod RunPhase
+pub mod CycleLemmas
+pub mod Running

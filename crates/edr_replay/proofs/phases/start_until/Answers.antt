@@ -1,0 +1,59 @@
+use Rattle.std.proofs.Common.{rules, arith, ◌≡◌, ◌⊎◌, ◌+◌, ◌∙◌, ℕ, Err, subst}
+use Rattle.edr_cycle.specs.declared.started.StartFault.TheVariants as fault
+use Rattle.edr_replay.specs.declared.phases.Begun.TheVariants.{Started, Stopped}
+use Rattle.edr_replay.specs.Phases.{BeginsAs}
+use Rattle.edr_replay.specs.Replayed.{IsTrulyRefused, IsTrulySpent}
+use Rattle.edr_replay.proofs.StartPhase.{at_err, begins_started, begins_stopped, none_planned, on_err_at, truly_refused, truly_spent}
+use Rattle.edr_replay.proofs.StopLemmas.{fuse_begins, fuse_planned, lent, not_reached, some_call, stop_is}
+use Rattle.edr_replay.proofs.phases.start_until.Goals as goal
+
+pub returns-in-Ok-clause-begun : goal.returns-in-Ok-clause-begun
+returns-in-Ok-clause-begun g c =
+    let D = g.N.Nvm in
+    let armed = c.arm.new.self in
+    let fuse = c.start-begun.new.nvm in
+    let s = c.in-Ok.started in
+    let start = c.in-Ok.ensures in
+    let planned = fuse_planned c.args.stop c.new-fuse.result armed fuse c.new-fuse.ensures.state c.arm.ensures.state start.device in
+    let begins = fuse_begins c.args.stop c.new-fuse.result armed c.new-fuse.ensures.state c.arm.ensures.state in
+    let none = none_planned c.args.stop armed.ticks fuse.ticks fuse.last_good c.requires begins (not_reached c.args.stop _ _ _ planned (λ some. start.cycle.time.ok.1)) start.cycle.time.ok in
+    lent (λ a b. BeginsAs (Started s) c.args.stop c.args.ticks (D.extent a) (D.content a) (D.settled a) (D.content b) (D.settled b)) c.args.nvm.now armed.nvm.now fuse.nvm.now _ (search rules) (search rules)
+    (none, start.ticks, start.fits, begins_started s.banks.store s.number (D.content armed.nvm.now) (D.settled armed.nvm.now) (D.content fuse.nvm.now) (D.settled fuse.nvm.now) start.number.0 start.number.1 start.found start.made)
+
+pub returns-in-Err-StoreFault-clause-begun : goal.returns-in-Err-StoreFault-clause-begun
+returns-in-Err-StoreFault-clause-begun g c =
+    let D = g.N.Nvm in
+    let armed = c.arm.new.self in
+    let fuse = c.start-begun.new.nvm in
+    let start = c.start-begun.ensures in
+    let r = c.start-begun.result in
+    let told = c.in-Err-StoreFault.is in
+    let which = c.in-Err-StoreFault.field-0-is in
+    let is : r ≡ Err fault.StoreFault = search rules in
+    let cut = c.is_cut-cut.ensures.planned c.if-cut.true in
+    let planned = fuse_planned c.args.stop c.new-fuse.result armed fuse c.new-fuse.ensures.state c.arm.ensures.state start.device in
+    let begins = fuse_begins c.args.stop c.new-fuse.result armed c.new-fuse.ensures.state c.arm.ensures.state in
+    let some = some_call c.args.stop _ _ _ planned cut.0 in
+    let few = on_err_at r _ is start.cycle.time.few in
+    let last = on_err_at r _ is start.cycle.time.last (omega (arith, begins, some)) (omega (arith, begins, few)) in
+    let at = stop_is c.args.stop _ _ _ planned cut.0 (subst (λ (k : ℕ). (fuse.ticks ≡ k + 1) ⊎ (fuse.ticks ≡ fuse.last_good + 1)) begins last) in
+    lent (λ a b. BeginsAs Stopped c.args.stop c.args.ticks (D.extent a) (D.content a) (D.settled a) (D.content b) (D.settled b)) c.args.nvm.now armed.nvm.now fuse.nvm.now _ (search rules) (search rules) (
+      omega (arith, at, some),
+      begins_stopped c.args.stop armed.ticks fuse.ticks (D.content armed.nvm.now) (D.settled armed.nvm.now) (D.content fuse.nvm.now) (D.settled fuse.nvm.now) begins at start.tells
+          (fuse.quiet cut.0 cut.1) (at_err r fault.StoreFault _ is start.spent tt) (on_err_at r _ is start.cycle.stopped),
+    )
+
+pub returns-in-Err-clause-spent : goal.returns-in-Err-clause-spent
+returns-in-Err-clause-spent g c =
+    let D = g.N.Nvm in
+    let armed = c.arm.new.self in
+    let fuse = c.start-begun.new.nvm in
+    lent (λ a b. IsTrulySpent (D.content a) (D.settled a) (D.content b) (D.settled b) c.in-Err.fault) c.args.nvm.now armed.nvm.now fuse.nvm.now _ (search rules) (search rules)
+    (truly_spent c.in-Err.fault (D.content armed.nvm.now) (D.settled armed.nvm.now) (D.content fuse.nvm.now) (D.settled fuse.nvm.now) _ _ c.in-Err.ensures.spent (λ early. (c.in-Err.ensures.early early).2))
+
+pub returns-in-Err-clause-refused : goal.returns-in-Err-clause-refused
+returns-in-Err-clause-refused g c =
+    let D = g.N.Nvm in
+    let armed = c.arm.new.self in
+    subst (λ d. IsTrulyRefused (D.content d) (D.settled d) c.in-Err.fault) (c.arm.ensures.now ∙ c.new-fuse.ensures.now)
+    (truly_refused c.in-Err.fault (D.content armed.nvm.now) (D.settled armed.nvm.now) c.in-Err.ensures.refused)

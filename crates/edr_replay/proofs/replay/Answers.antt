@@ -1,0 +1,42 @@
+use Rattle.std.proofs.Common.{rules, arith}
+use Rattle.edr_replay.proofs.CycleLemmas.{memory_spent, memory_refused}
+use Rattle.edr_replay.proofs.Running.{running_first, running_more, ends_spent, ends_refused}
+use Rattle.edr_replay.proofs.replay.Goals as goal
+
+pub returns-in_default-clause-spent : goal.returns-in_default-clause-spent
+returns-in_default-clause-spent g c = let D = g.N.Nvm in memory_spent c.args.cycles.now (D.content c.args.nvm.now) (D.settled c.args.nvm.now) (D.content c.args.nvm.now) (D.settled c.args.nvm.now)
+
+pub returns-in_default-clause-refused : goal.returns-in_default-clause-refused
+returns-in_default-clause-refused g c = let D = g.N.Nvm in memory_refused (D.content c.args.nvm.now) (D.settled c.args.nvm.now)
+
+pub loop-cycle-init : goal.loop-cycle-init
+loop-cycle-init g c =
+    let D = g.N.Nvm in
+    running_first D.extent D.content D.settled D.faults D.goes_on c.args.cycles.now _ c.in-Ok.reports.items c.args.nvm.now (g.met.N.Nvm.goes_on_self c.args.nvm.now) c.in-Ok.ensures.items c.in-Ok.ensures.capacity
+
+pub returns-in_err-report-clause-spent : goal.returns-in_err-report-clause-spent
+returns-in_err-report-clause-spent g c =
+    let D = g.N.Nvm in
+    let old = c.args.nvm.now in
+    let mid = c.loop-cycle.nvm in
+    let new = c.run_cycle.new.nvm in
+    let s = ends_spent c.args.cycles.now c.loop-cycle.cycle-index (D.content old) (D.settled old) (D.content mid) (D.settled mid) (D.content new) (D.settled new) c.loop-cycle.reports.items c.in_err-report.field-0.0 c.loop-cycle.invariant.run c.loop-cycle-test.true c.in_err-report.ensures.spent in
+    search rules
+
+pub returns-in_err-report-clause-refused : goal.returns-in_err-report-clause-refused
+returns-in_err-report-clause-refused g c =
+    let D = g.N.Nvm in
+    let old = c.args.nvm.now in
+    let mid = c.loop-cycle.nvm in
+    let s = ends_refused _ (D.content old) (D.settled old) (D.content mid) (D.settled mid) c.loop-cycle.reports.items c.in_err-report.field-0.0 c.loop-cycle.invariant.run c.in_err-report.ensures.refused in
+    search rules
+
+pub loop-cycle-preserved : goal.loop-cycle-preserved
+loop-cycle-preserved g c =
+    let D = g.N.Nvm in
+    let old = c.args.nvm.now in
+    let mid = c.loop-cycle.nvm in
+    let new = c.run_cycle.new.nvm in
+    running_more D.extent D.content D.settled D.faults D.goes_on c.args.cycles.now c.cycle-item.result c.loop-cycle.cycle-index _ _ c.loop-cycle.reports.items c.push_reserved.new.self.items c.in_ok-report.report old mid new
+    c.loop-cycle.invariant c.loop-cycle-test.true c.cycle-item.is c.run_cycle.ensures.size (g.met.N.Nvm.goes_on_again old mid new c.loop-cycle.invariant.device c.run_cycle.ensures.device) c.run_cycle.ensures.tells c.run_cycle.ensures.later
+    c.in_ok-report.ensures.ran c.push_reserved.ensures.items (let same = c.push_reserved.ensures.capacity in let room = c.loop-cycle.invariant.room in omega (arith, same, room))

@@ -1,0 +1,8 @@
+use Rattle.std.proofs.Common.{vec_capacity}
+use Rattle.edr_replay.proofs.Running.{Running}
+use Rattle.edr_replay.proofs.replay.Given as goal
+
+abbrev pub invariant-loop-cycle : goal.invariant-loop-cycle
+invariant-loop-cycle g l =
+    let D = g.N.Nvm in
+    Running D.extent D.content D.settled D.faults D.goes_on l.cycles l.cycle-index (vec_capacity l.reports) l.reports.items l.fn.nvm l.nvm

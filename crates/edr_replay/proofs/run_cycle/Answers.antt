@@ -1,0 +1,37 @@
+use Rattle.std.proofs.Common.{subst}
+use Rattle.edr_replay.specs.declared.phases.Begun.{Begun}
+use Rattle.edr_replay.specs.Phases.{BeginsAs}
+use Rattle.edr_replay.proofs.CycleLemmas.{stopped_ends, begun_ran, not_spent, not_refused, rose_later}
+use Rattle.edr_replay.proofs.run_cycle.Goals as goal
+
+pub returns-in-Stopped-clause-ran : goal.returns-in-Stopped-clause-ran
+returns-in-Stopped-clause-ran g c = λ v n holds.
+    let D = g.N.Nvm in
+    let old = c.args.nvm.now in
+    let new = c.start_until.new.nvm in
+    let begun = subst (λ (b : Begun). BeginsAs b c.args.cycle.now.start_stop c.horizon.result (D.extent old) (D.content old) (D.settled old) (D.content new) (D.settled new)) c.in-Stopped.is c.in_ok-start_until.ensures.begun in
+    stopped_ends c.args.cycle.now v n (D.content new) (D.settled new) begun.0 c.requires.start_stop (begun.1 v n holds).0 (begun.1 v n holds).1
+
+pub returns-in-Started-clause-ran : goal.returns-in-Started-clause-ran
+returns-in-Started-clause-ran g c =
+    let D = g.N.Nvm in
+    let old = c.args.nvm.now in
+    let mid = c.start_until.new.nvm in
+    let new = c.run_until.new.nvm in
+    let begun = subst (λ (b : Begun). BeginsAs b c.args.cycle.now.start_stop c.horizon.result (D.extent old) (D.content old) (D.settled old) (D.content mid) (D.settled mid)) c.in-Started.is c.in_ok-start_until.ensures.begun in
+    begun_ran c.args.cycle.now c.in-Started.started.number c.in-Started.started.banks.store (D.content old) (D.settled old) (D.content mid) (D.settled mid) (D.content new) (D.settled new) c.run_until.result begun.0 begun.3 c.run_until.ensures.ran
+
+pub returns-in-Started-clause-spent : goal.returns-in-Started-clause-spent
+returns-in-Started-clause-spent g c =
+    let D = g.N.Nvm in
+    not_spent c.run_until.result (D.faults c.start_until.new.nvm) (D.faults c.run_until.new.nvm) (D.content c.args.nvm.now) (D.settled c.args.nvm.now) (D.content c.run_until.new.nvm) (D.settled c.run_until.new.nvm) c.run_until.ensures.fault
+
+pub returns-in-Started-clause-refused : goal.returns-in-Started-clause-refused
+returns-in-Started-clause-refused g c =
+    let D = g.N.Nvm in
+    not_refused c.run_until.result (D.faults c.start_until.new.nvm) (D.faults c.run_until.new.nvm) (D.content c.args.nvm.now) (D.settled c.args.nvm.now) c.run_until.ensures.fault
+
+pub returns-in-Started-clause-fault : goal.returns-in-Started-clause-fault
+returns-in-Started-clause-fault g c =
+    let D = g.N.Nvm in
+    rose_later c.run_until.result (D.faults c.args.nvm.now) (D.faults c.start_until.new.nvm) (D.faults c.run_until.new.nvm) c.start_until.ensures.later c.run_until.ensures.fault

@@ -1,0 +1,30 @@
+-- How the start and the commands of a cycle go, each up to its planned stop.
+use Rattle.std.specs.Prelude.{◌≡◌, ◌⊎◌, ◌+◌, ◌≤◌, ◌<◌, ℕ, Bool, List, Option}
+use Rattle.edr_items.specs.SensorLists.{SensorLists}
+use Rattle.edr_image.specs.Banks.{Store}
+use Rattle.edr_image.specs.Image.{image_size}
+use Rattle.edr_image.specs.declared.log.CycleReport.{CycleReport}
+use Rattle.edr_image.specs.Reports.{Report, report_of}
+use Rattle.edr_run.specs.Cycle.{End, IsCycle, last_count}
+use Rattle.edr_cycle.specs.Ends.{cycle_with}
+use Rattle.edr_replay.specs.declared.phases.Begun.{Begun}
+use Rattle.edr_replay.specs.declared.phases.Begun.TheVariants.{Started, Stopped}
+use Rattle.edr_replay.specs.Replayed.{Holds}
+
+-- a start with this planned stop, 0 for none, was done, with the banks as before and one more on the count; or it was stopped,
+-- and the count is as before, or from call 5 on perhaps one more
+abbrev pub BeginsAs : Begun → ℕ → ℕ → ℕ → Option (List ℕ) → (ℕ → Bool) → Option (List ℕ) → (ℕ → Bool) → Type 0
+BeginsAs (Started s) stop ticks size content settled content' settled' =
+    (stop ≡ 0) × (s.ticks ≡ ticks) × (image_size s.banks.store.header.banks ≤ size) × ((v : Store) (n : ℕ) → Holds content settled v n → (n < last_count) × (s.banks.store ≡ v) × (s.number ≡ n + 1) × Holds content' settled' v (n + 1))
+BeginsAs Stopped stop ticks size content settled content' settled' =
+    (1 ≤ stop) × ((v : Store) (n : ℕ) → Holds content settled v n → (n < last_count) × (Holds content' settled' v n ⊎ ((5 ≤ stop) × Holds content' settled' v (n + 1))))
+
+-- the commands of a cycle with this planned stop, over the banks v with the count n, came to an end of it
+abbrev pub RunsAs : Report → SensorLists → ℕ → Store → ℕ → Option (List ℕ) → (ℕ → Bool) → Type 0
+RunsAs report f stop v n content' settled' =
+    (e : End) × IsCycle (cycle_with 0 f stop) v n e × (e.report ≡ report) × Holds content' settled' e.store e.count
+
+-- what is said of the report of a cycle that was started with this number on these banks
+abbrev pub RunsFrom : SensorLists → ℕ → ℕ → Store → Option (List ℕ) → (ℕ → Bool) → Option (List ℕ) → (ℕ → Bool) → CycleReport → Type 0
+RunsFrom f stop number store content settled content' settled' report =
+    (n : ℕ) → number ≡ n + 1 → Holds content settled store number → RunsAs (report_of report) f stop store n content' settled'

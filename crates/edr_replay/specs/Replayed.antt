@@ -1,0 +1,59 @@
+-- What a run of cycles leaves on the memory of the records, and why one ends early.
+use Rattle.std.specs.Prelude.{◌≡◌, ◌≢◌, ◌<◌, ℕ, Bool, List, Option, Some, length, map, take}
+use Rattle.edr_device.specs.Device.{IsQuiet}
+use Rattle.edr_image.specs.declared.log.CycleReport.{CycleReport}
+use Rattle.edr_image.specs.Reports.{report_of}
+use Rattle.edr_image.specs.declared.OpenFault.TheVariants as open_fault
+use Rattle.edr_image.specs.Banks.{Store}
+use Rattle.edr_image.specs.Image.{view_of}
+use Rattle.edr_spell.specs.declared.CycleInput.{CycleInput}
+use Rattle.edr_run.specs.Cycle.{Outcome, IsRun, last_count}
+use Rattle.edr_cycle.specs.declared.started.StartFault.{StartFault}
+use Rattle.edr_cycle.specs.declared.started.StartFault.TheVariants as fault
+
+-- the device tells bytes that say these banks and this count, and nothing is pending
+pub record Holds (content : Option (List ℕ)) (settled : ℕ → Bool) (store : Store) (count : ℕ) : Type 0 where
+  pub bytes : List ℕ
+  pub quiet : IsQuiet content settled bytes
+  pub says : view_of bytes ≡ Some (record { store = store; count = count })
+
+-- the device failed
+abbrev pub IsFault : StartFault → Type 0
+IsFault (fault.Open f) = f ≡ open_fault.StoreFault
+IsFault fault.Spent = ⊥
+IsFault fault.StoreFault = Unit {0}
+IsFault fault.OutOfMemory = ⊥
+
+-- the image is refused by what it says
+abbrev pub IsRefusal : StartFault → Type 0
+IsRefusal (fault.Open f) = (f ≢ open_fault.StoreFault) × (f ≢ open_fault.OutOfMemory)
+IsRefusal fault.Spent = ⊥
+IsRefusal fault.StoreFault = ⊥
+IsRefusal fault.OutOfMemory = ⊥
+
+-- a fault that says that no number is left says it truly, and the device holds what it held
+unfoldable pub IsTrulySpent : Option (List ℕ) → (ℕ → Bool) → Option (List ℕ) → (ℕ → Bool) → StartFault → Type 0
+IsTrulySpent content settled content' settled' e = e ≡ fault.Spent → (v : Store) (n : ℕ) → Holds content settled v n → (n ≡ last_count) × Holds content' settled' v n
+
+-- a device that holds banks and a count is not refused
+unfoldable pub IsTrulyRefused : Option (List ℕ) → (ℕ → Bool) → StartFault → Type 0
+IsTrulyRefused content settled e = IsRefusal e → (v : Store) (n : ℕ) → ¬ Holds content settled v n
+
+-- the cycles before one that finds no count left ran to this outcome
+pub record RanToTheLast (cs : List CycleInput) (v : Store) (n : ℕ) (o : Outcome) : Type 0 where
+  pub p : ℕ
+  pub within : p < length cs
+  pub run : IsRun (take p cs) v n o
+  pub full : o.count ≡ last_count
+
+-- the cycles ran as these reports tell, and the device holds what they came to
+unfoldable pub HasRun : List CycleInput → Option (List ℕ) → (ℕ → Bool) → Option (List ℕ) → (ℕ → Bool) → List CycleReport → Type 0
+HasRun cs content settled content' settled' reports =
+    (v : Store) (n : ℕ) → Holds content settled v n
+    → (o : Outcome) × IsRun cs v n o × (o.reports ≡ map report_of reports) × Holds content' settled' o.store o.count
+
+-- a fault that says that no number is left says it truly of the count after some first cycles, which the device holds
+unfoldable pub EndsSpent : List CycleInput → Option (List ℕ) → (ℕ → Bool) → Option (List ℕ) → (ℕ → Bool) → StartFault → Type 0
+EndsSpent cs content settled content' settled' e =
+    e ≡ fault.Spent → (v : Store) (n : ℕ) → Holds content settled v n
+    → (o : Outcome) × RanToTheLast cs v n o × Holds content' settled' o.store o.count

@@ -1,0 +1,76 @@
+//! Runs the ignition cycles of a trace one after the other over the memory of the records, each with its planned power
+//! cut.
+#![tactic(auto)]
+
+mod phases;
+#[cfg(test)]
+mod tests;
+
+ghost use Rattle.std.specs.Prelude.{◌≡◌, ◌<◌, ◌≤◌, ℕ, List, IfOk, IfErr, All, length, map, take};
+ghost use Rattle.edr_device.specs.Device.{StillTells};
+ghost use Rattle.edr_device.specs.Faults.{Rose};
+ghost use Rattle.edr_image.specs.Banks.{Store};
+ghost use Rattle.edr_image.specs.Reports.{report_of};
+ghost use Rattle.edr_run.specs.Cycle.{End, IsCycle, Outcome, IsRun, last_count};
+ghost use Rattle.edr_spell.specs.Spell.{IsCycle as IsSpelled};
+ghost use Rattle.edr_replay.specs.Replayed.{EndsSpent, HasRun, Holds, IsFault, IsTrulyRefused, IsTrulySpent};
+
+pub use edr_cycle::StartFault;
+use edr_device::Nvm;
+use edr_image::CycleReport;
+use edr_spell::CycleInput;
+use phases::{Begun, run_until, start_until};
+use std::alloc::Global;
+
+/// Runs one cycle: its start and its commands, each up to its planned stop, and then the power goes off.
+///
+/// What a planned stop leaves is no fault; the report tells of it.
+fn run_cycle<N: Nvm>(
+    alloc: Global,
+    nvm: &mut N,
+    cycle: &CycleInput,
+) -> Result<CycleReport, StartFault>
+    requires { IsSpelled cycle.now }
+    ensures size { N.extent nvm.new ≡ N.extent nvm.old }
+    ensures device { N.goes_on nvm.old nvm.new }
+    ensures tells { StillTells (N.content nvm.old) (N.content nvm.new) }
+    ensures later { N.faults nvm.old ≤ N.faults nvm.new }
+    ensures ran { IfOk result (λ report. (v : Store) (n : ℕ) → Holds (N.content nvm.old) (N.settled nvm.old) v n
+        → (n < last_count) × (e : End) × IsCycle cycle.now v n e × (e.report ≡ report_of report) × Holds (N.content nvm.new) (N.settled nvm.new) e.store e.count) }
+    ensures spent { IfErr result (IsTrulySpent (N.content nvm.old) (N.settled nvm.old) (N.content nvm.new) (N.settled nvm.new)) }
+    ensures refused { IfErr result (IsTrulyRefused (N.content nvm.old) (N.settled nvm.old)) }
+    ensures fault { IfErr result (λ e. IsFault e → Rose (N.faults nvm.old) (N.faults nvm.new)) }
+{
+    match start_until(alloc, nvm, cycle.start_stop, cycle.feeds.horizon())? {
+        Begun::Stopped => Ok(CycleReport::StartStopped {
+            call: cycle.start_stop,
+        }),
+        Begun::Started(started) => run_until(started, &cycle.feeds, nvm, cycle.stop),
+    }
+}
+
+/// Runs the cycles in order, and tells of each. Nothing is to be pending on the device.
+pub fn replay<N: Nvm>(
+    alloc: Global,
+    nvm: &mut N,
+    cycles: &[CycleInput],
+) -> Result<Vec<CycleReport>, StartFault>
+    requires { All IsSpelled cycles.now }
+    ensures size { N.extent nvm.new ≡ N.extent nvm.old }
+    ensures device { N.goes_on nvm.old nvm.new }
+    ensures tells { StillTells (N.content nvm.old) (N.content nvm.new) }
+    ensures later { N.faults nvm.old ≤ N.faults nvm.new }
+    ensures ran { IfOk result (λ reports. HasRun cycles.now (N.content nvm.old) (N.settled nvm.old) (N.content nvm.new) (N.settled nvm.new) reports.items) }
+    ensures spent { IfErr result (EndsSpent cycles.now (N.content nvm.old) (N.settled nvm.old) (N.content nvm.new) (N.settled nvm.new)) }
+    ensures refused { IfErr result (IsTrulyRefused (N.content nvm.old) (N.settled nvm.old)) }
+    ensures fault { IfErr result (λ e. IsFault e → Rose (N.faults nvm.old) (N.faults nvm.new)) }
+{
+    let Ok(mut reports) = Vec::with_capacity(alloc, cycles.len()) else {
+        return Err(StartFault::OutOfMemory);
+    };
+    for cycle in cycles {
+        let report = run_cycle(alloc, nvm, cycle)?;
+        reports.push_reserved(report);
+    }
+    Ok(reports)
+}

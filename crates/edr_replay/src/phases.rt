@@ -1,0 +1,107 @@
+//! The two phases of a cycle, its start and its commands, each over a fuse that stops it as planned.
+
+ghost use Rattle.std.specs.Prelude.{◌≡◌, ◌≤◌, IfOk, IfErr, true, false};
+ghost use Rattle.edr_device.specs.Device.{StillTells};
+ghost use Rattle.edr_device.specs.Faults.{Rose};
+ghost use Rattle.edr_image.specs.Image.{image_size};
+ghost use Rattle.edr_image.specs.Reports.{Ran, report_of};
+ghost use Rattle.edr_items.specs.SensorLists.{AreFeeds, IsLevel, horizon_of};
+ghost use Rattle.edr_replay.specs.Replayed.{IsFault, IsTrulyRefused, IsTrulySpent};
+ghost use Rattle.edr_replay.specs.Phases.{BeginsAs, RunsFrom};
+
+use edr_cycle::{CycleEnd, StartFault, Started, run_alone, start};
+use edr_device::{Fused, Nvm};
+use edr_image::CycleReport;
+use edr_items::Feeds;
+use std::alloc::Global;
+
+/// What comes of a start.
+#[derive(Drop)]
+pub(crate) enum Begun {
+    Started(Started),
+    /// It was stopped as planned.
+    Stopped,
+}
+
+/// Whether the fuse cut the power as planned, and no call of the device failed.
+fn is_cut<N: Nvm>(fuse: &Fused<'_, N>) -> bool
+    ensures planned { result ≡ true → (fuse.now.spent ≡ true) × (fuse.now.broken ≡ false) }
+    ensures unplanned { result ≡ false → fuse.now.spent ≡ true → fuse.now.broken ≡ true }
+{
+    fuse.spent() && !fuse.broken()
+}
+
+/// Starts a cycle for so many ticks, up to the planned changing call; 0 plans none.
+pub(crate) fn start_until<N: Nvm>(
+    alloc: Global,
+    nvm: &mut N,
+    stop: u32,
+    ticks: u32,
+) -> Result<Begun, StartFault>
+    requires { stop ≤ 6 }
+    ensures size { N.extent nvm.new ≡ N.extent nvm.old }
+    ensures device { N.goes_on nvm.old nvm.new }
+    ensures tells { StillTells (N.content nvm.old) (N.content nvm.new) }
+    ensures later { N.faults nvm.old ≤ N.faults nvm.new }
+    ensures begun { IfOk result (λ b. BeginsAs b stop ticks (N.extent nvm.old) (N.content nvm.old) (N.settled nvm.old) (N.content nvm.new) (N.settled nvm.new)) }
+    ensures spent { IfErr result (IsTrulySpent (N.content nvm.old) (N.settled nvm.old) (N.content nvm.new) (N.settled nvm.new)) }
+    ensures refused { IfErr result (IsTrulyRefused (N.content nvm.old) (N.settled nvm.old)) }
+    ensures fault { IfErr result (λ e. IsFault e → Rose (N.faults nvm.old) (N.faults nvm.new)) }
+{
+    let mut fuse = Fused::new(nvm);
+    fuse.arm(stop);
+    let begun = start(alloc, &mut fuse, ticks);
+    let cut = is_cut(&fuse);
+    fuse.end();
+    match begun {
+        Ok(started) => Ok(Begun::Started(started)),
+        Err(StartFault::StoreFault) if cut => Ok(Begun::Stopped),
+        Err(fault) => Err(fault),
+    }
+}
+
+/// What is told of a cycle that ran.
+fn ran(end: CycleEnd, stopped: Option<u32>) -> CycleReport
+    ensures { report_of result ≡ Ran end.number stopped end.log.acks }
+{
+    CycleReport::Ran {
+        number: end.number,
+        stopped,
+        log: end.log,
+    }
+}
+
+/// Runs the commands of a cycle up to the planned changing call of them, and takes the power away; 0 plans none.
+pub(crate) fn run_until<N: Nvm>(
+    started: Started,
+    feeds: &Feeds,
+    nvm: &mut N,
+    stop: u32,
+) -> Result<CycleReport, StartFault>
+    requires feeds { AreFeeds feeds.now }
+    requires level { IsLevel feeds.now }
+    requires ticks { horizon_of feeds.now ≤ started.ticks }
+    requires size { image_size started.banks.store.header.banks ≤ N.extent nvm.old }
+    ensures size { N.extent nvm.new ≡ N.extent nvm.old }
+    ensures device { N.goes_on nvm.old nvm.new }
+    ensures tells { StillTells (N.content nvm.old) (N.content nvm.new) }
+    ensures later { N.faults nvm.old ≤ N.faults nvm.new }
+    ensures ran { IfOk result (RunsFrom feeds.now stop started.number started.banks.store (N.content nvm.old) (N.settled nvm.old) (N.content nvm.new) (N.settled nvm.new)) }
+    ensures fault { IfErr result (λ e. (e ≡ StartFault.StoreFault) × Rose (N.faults nvm.old) (N.faults nvm.new)) }
+{
+    let mut fuse = Fused::new(&mut *nvm);
+    fuse.arm(stop);
+    let end = run_alone(started, feeds, &mut fuse);
+    let cut = is_cut(&fuse);
+    fuse.end();
+    if !end.failed {
+        return match nvm.power_cycle() {
+            Ok(()) => Ok(ran(end, None)),
+            Err(_) => Err(StartFault::StoreFault),
+        };
+    }
+    if !cut {
+        return Err(StartFault::StoreFault);
+    }
+    Ok(ran(end, Some(stop)))
+}

@@ -1,0 +1,167 @@
+//! Runs of cycles over a memory in memory.
+ghost use Rattle.std.specs.Prelude.{◌≤◌, IfOk};
+ghost use Rattle.edr_items.specs.SensorLists.{IsLevel};
+ghost use Rattle.edr_spell.specs.Spell.{IsCycle};
+
+use crate::replay;
+use edr_banks::{Ack, Applied, BankView, Banks, Choice, Kind};
+use edr_device::MemNvm;
+use edr_image::CycleReport;
+use edr_items::{Feeds, Item, Sensor, level_is_none_lagging};
+use edr_record::Record;
+use edr_spell::CycleInput;
+use std::alloc::Global;
+use std::process::Abort;
+use std::test::Fail;
+
+// A formatted memory with two banks, and a pick for its power cuts.
+fn formatted(alloc: Global, pick: u64) -> Result<MemNvm, Fail> {
+    let image = [0u8; 1_120].to_vec(alloc)?;
+    let mut memory = MemNvm::new(alloc, image, 100, Vec::new(alloc), Vec::new(alloc), pick)?;
+    Banks::format(&mut memory, 2, Choice::Keep)?;
+    Ok(memory)
+}
+
+fn give(feeds: &mut Feeds, sensor: Sensor, moment: u32, value: Option<i32>) -> Result<(), Fail> {
+    Ok(feeds.add(sensor, Item { moment, value })?)
+}
+
+// A car that drives for 200 ms, and whose airbag fires at 100 ms.
+fn fired_feeds(alloc: Global) -> Result<Feeds, Fail> {
+    let mut feeds = Feeds::new(alloc);
+    for tick in 1..=200u32 {
+        give(&mut feeds, Sensor::Along, tick, Some(0))?;
+        give(&mut feeds, Sensor::Across, tick, Some(0))?;
+    }
+    for tick in [100u32, 200] {
+        give(&mut feeds, Sensor::Speed, tick, Some(50))?;
+        give(&mut feeds, Sensor::Throttle, tick, Some(20))?;
+        give(&mut feeds, Sensor::Brake, tick, Some(0))?;
+        give(&mut feeds, Sensor::Belt, tick, Some(1))?;
+        give(&mut feeds, Sensor::Lamp, tick, Some(0))?;
+    }
+    give(&mut feeds, Sensor::Restraint, 100, Some(1))?;
+    give(&mut feeds, Sensor::Restraint, 200, None)?;
+    Ok(feeds)
+}
+
+fn assert_level(rt: &impl Abort, feeds: &Feeds)
+    ensures { IsLevel feeds.now }
+{
+    level_is_none_lagging();
+    assert!(rt; feeds.lagging().is_none());
+}
+
+// A cycle whose start is stopped in this call.
+fn stopped(rt: &impl Abort, alloc: Global, call: u32) -> CycleInput
+    requires { call ≤ 6 }
+    ensures { IsCycle result }
+{
+    let feeds = Feeds::new(alloc);
+    assert_level(rt, &feeds);
+    CycleInput {
+        start_stop: call,
+        feeds,
+        stop: 0,
+    }
+}
+
+// A cycle with an event that is taken, locked and done, stopped in this call.
+fn fired(rt: &impl Abort, alloc: Global, stop: u32) -> Result<CycleInput, Fail>
+    ensures { IfOk result IsCycle }
+{
+    let feeds = fired_feeds(alloc)?;
+    assert_level(rt, &feeds);
+    Ok(CycleInput {
+        start_stop: 0,
+        feeds,
+        stop,
+    })
+}
+
+// A cycle ran with this number, and acknowledged this.
+fn assert_ran(
+    rt: &impl Abort,
+    report: &CycleReport,
+    number: u32,
+    stopped: Option<u32>,
+    acks: &[Ack],
+) {
+    match report {
+        CycleReport::Ran {
+            number: ran,
+            stopped: at,
+            log,
+        } => {
+            assert_eq!(rt; *ran, number);
+            assert_eq!(rt; *at, stopped);
+            assert_eq!(rt; log.acks(), acks);
+        }
+        CycleReport::StartStopped { .. } => assert!(rt; false),
+    }
+}
+
+// The event in bank 1, which alone has one.
+fn only_event(rt: &impl Abort, banks: &Banks, alloc: Global) -> Result<Record, Fail> {
+    let found = banks.retrieve(alloc)?;
+    assert_eq!(rt; found.len(), 1);
+    assert_eq!(rt; found[0].bank, 1);
+    match found[0].view {
+        BankView::Event(record) => Ok(record),
+        _ => Err("an event".into()),
+    }
+}
+
+#[test]
+fn no_cycles(rt: HostRuntime) -> Result<(), Fail> {
+    let alloc = rt.alloc();
+    let mut memory = formatted(alloc, 0)?;
+    let before = memory.image().to_vec(alloc)?;
+    assert_eq!(rt; replay(alloc, &mut memory, &[])?.len(), 0);
+    assert_eq!(rt; memory.image(), before.as_slice());
+    Ok(())
+}
+
+// From call 5 on a start that is stopped may be counted.
+#[test]
+fn start_stopped_in_call_5(rt: HostRuntime) -> Result<(), Fail> {
+    let alloc = rt.alloc();
+    for pick in [0u64, 1] {
+        let mut memory = formatted(alloc, pick)?;
+        let cycles = [stopped(&rt, alloc, 5)];
+        let reports = replay(alloc, &mut memory, &cycles)?;
+        assert_eq!(rt; reports.len(), 1);
+        match reports[0] {
+            CycleReport::StartStopped { call } => assert_eq!(rt; call, 5),
+            CycleReport::Ran { .. } => assert!(rt; false),
+        }
+        let banks = Banks::open(alloc, &mut memory)?;
+        assert_eq!(rt; banks.count(), pick as u32);
+        assert_eq!(rt; banks.retrieve(alloc)?.len(), 0);
+    }
+    Ok(())
+}
+
+// The event is taken in four calls, and the fifth opens the gate of its lock.
+#[test]
+fn stopped_in_a_lock(rt: HostRuntime) -> Result<(), Fail> {
+    let alloc = rt.alloc();
+    let take = Ack {
+        tick: 100,
+        kind: Kind::Take,
+        applied: Applied::Kept { bank: 1 },
+    };
+    for pick in [0u64, 1] {
+        let mut memory = formatted(alloc, pick)?;
+        let cycles = [fired(&rt, alloc, 5)?];
+        let reports = replay(alloc, &mut memory, &cycles)?;
+        assert_eq!(rt; reports.len(), 1);
+        assert_ran(&rt, &reports[0], 1, Some(5), &[take]);
+        let banks = Banks::open(alloc, &mut memory)?;
+        assert_eq!(rt; banks.count(), 1);
+        let record = only_event(&rt, &banks, alloc)?;
+        assert_eq!(rt; record.locked, pick == 1);
+        assert_eq!(rt; record.crash, None);
+    }
+    Ok(())
+}
