@@ -1,0 +1,263 @@
+//! Events of restraints, of one cycle or several, and the banks that they are given.
+
+use super::drives::{Drive, TENSED, fired, struck, trace_of};
+use super::expected::{COUNTED_ONE, STRUCK_EVENT, TENSED_EVENT, TENSED_TWICE, changed, joined};
+use super::{KEEP, OVERWRITE, check_run, memory_of, new_image, replayed};
+use edr_device::MemNvm;
+use std::alloc::{AllocError, Global};
+use std::process::Abort;
+use std::test::Fail;
+
+// An air bag fires at 7 s.
+const DEPLOYED: Drive<'static> = Drive {
+    ticks: 8000,
+    along: &[],
+    across: &[],
+    fired: &[(7000, 1)],
+    speeds_up: false,
+    stop: 0,
+};
+
+// What the record of an air bag at its time zero says.
+const FIRED_BAG: [(&str, &str); 3] = [
+    ("deployment event", "yes"),
+    ("driver frontal deployment", "0 ms"),
+    ("driver pretensioner deployment", "none"),
+];
+
+// The record of the air bag with its place in a report and its bank, of the cycle with the same number.
+fn bag_event(alloc: Global, place: &str) -> Result<String, AllocError> {
+    let bag = changed(alloc, TENSED_EVENT, &FIRED_BAG)?;
+    let changes = [
+        ("event", place),
+        ("bank", place),
+        ("ignition cycle, crash", place),
+    ];
+    changed(alloc, &bag, &changes)
+}
+
+// The record of a pretensioner in a CYCLE, with its place in a report and its bank.
+fn tensed_event(alloc: Global, place: &str, bank: &str, cycle: &str) -> Result<String, AllocError> {
+    let changes = [
+        ("event", place),
+        ("bank", bank),
+        ("ignition cycle, crash", cycle),
+    ];
+    changed(alloc, TENSED_EVENT, &changes)
+}
+
+fn check_drives<R: Abort + AllocGlobal>(
+    rt: &R,
+    drives: &[Drive<'_>],
+    memory: &mut MemNvm,
+    report: &[&str],
+) -> Result<(), Fail> {
+    let trace = trace_of(rt.alloc(), drives)?;
+    let report = joined(rt.alloc(), report)?;
+    check_run(rt, replayed(&trace, &report), memory)
+}
+
+#[test]
+fn an_air_bag_alone_locks_its_event(rt: HostRuntime) -> Result<(), Fail> {
+    const CYCLE: &str = "cycle 1: number 1, power off
+cycle 1 take at 7000: bank 1
+cycle 1 lock at 7000: bank 1
+cycle 1 done at 7050: bank 1
+";
+    let event = bag_event(rt.alloc(), "1")?;
+    let mut memory = memory_of(rt.alloc(), &new_image(2, KEEP), &[], 0)?;
+    check_drives(&rt, &[DEPLOYED], &mut memory, &[CYCLE, &event, COUNTED_ONE])
+}
+
+#[test]
+fn slots_before_power_on_are_absent(rt: HostRuntime) -> Result<(), Fail> {
+    const CYCLE: &str = "cycle 1: number 1, power off
+cycle 1 take at 3000: bank 1
+cycle 1 lock at 3000: bank 1
+cycle 1 done at 3050: bank 1
+";
+    let changes = [
+        ("time zero", "3000 ms"),
+        ("speed, km/h", "none none none none none 50 50 50 50 50 50"),
+        ("throttle, %", "none none none none none 20 20 20 20 20 20"),
+        (
+            "service brake",
+            "none none none none none off off off off off off",
+        ),
+        ("complete file recorded", "no"),
+    ];
+    let event = changed(rt.alloc(), &bag_event(rt.alloc(), "1")?, &changes)?;
+    let mut memory = memory_of(rt.alloc(), &new_image(2, KEEP), &[], 0)?;
+    let drive = fired(4000, &[(3000, 1)]);
+    check_drives(&rt, &[drive], &mut memory, &[CYCLE, &event, COUNTED_ONE])
+}
+
+const LOCKED_TWICE: &str = "cycle 1: number 1, power off
+cycle 1 take at 7000: bank 1
+cycle 1 lock at 7000: bank 1
+cycle 1 done at 7050: bank 1
+cycle 2: number 2, power off
+cycle 2 take at 7000: bank 2
+cycle 2 lock at 7000: bank 2
+cycle 2 done at 7050: bank 2
+";
+
+// Under either choice.
+#[test]
+fn locked_events_leave_no_bank_for_a_third(rt: HostRuntime) -> Result<(), Fail> {
+    let first = bag_event(rt.alloc(), "1")?;
+    let second = bag_event(rt.alloc(), "2")?;
+    for choice in [KEEP, OVERWRITE] {
+        let mut memory = memory_of(rt.alloc(), &new_image(2, choice), &[], 0)?;
+        let third = "cycle 3: number 3, power off
+cycle 3 take at 7000: not kept
+cycle 3 lock at 7000: not kept
+cycle 3 done at 7050: not kept
+";
+        let report = [
+            LOCKED_TWICE,
+            third,
+            &first,
+            &second,
+            "ignition cycle, download: 3\n",
+        ];
+        check_drives(&rt, &[DEPLOYED; 3], &mut memory, &report)?;
+    }
+    Ok(())
+}
+
+const TENSED_AGAIN: &str = "cycle 3: number 3, power off
+cycle 3 take at 7000: bank 1
+cycle 3 done at 7050: bank 1
+";
+
+#[test]
+fn the_oldest_pretensioner_event_is_overwritten(rt: HostRuntime) -> Result<(), Fail> {
+    let alloc = rt.alloc();
+    let mut memory = memory_of(alloc, &new_image(2, OVERWRITE), &[], 0)?;
+    let second = tensed_event(alloc, "1", "2", "2")?;
+    let third = tensed_event(alloc, "2", "1", "3")?;
+    let report = [
+        TENSED_TWICE,
+        TENSED_AGAIN,
+        &second,
+        &third,
+        "ignition cycle, download: 3\n",
+    ];
+    check_drives(&rt, &[TENSED; 3], &mut memory, &report)?;
+
+    let mut memory = memory_of(alloc, &new_image(2, OVERWRITE), &[], 0)?;
+    const FOURTH_CYCLE: &str = "cycle 4: number 4, power off
+cycle 4 take at 7000: bank 2
+cycle 4 done at 7050: bank 2
+";
+    let third = tensed_event(alloc, "1", "1", "3")?;
+    let fourth = tensed_event(alloc, "2", "2", "4")?;
+    let report = [
+        TENSED_TWICE,
+        TENSED_AGAIN,
+        FOURTH_CYCLE,
+        &third,
+        &fourth,
+        "ignition cycle, download: 4\n",
+    ];
+    check_drives(&rt, &[TENSED; 4], &mut memory, &report)
+}
+
+#[test]
+fn a_late_lock_takes_the_bank_that_keep_refused(rt: HostRuntime) -> Result<(), Fail> {
+    let alloc = rt.alloc();
+    let drive = Drive {
+        fired: &[(6030, 1)],
+        ..struck(7000)
+    };
+    const THIRD_CYCLE: &str = "cycle 3: number 3, power off
+cycle 3 take at 6020: not kept
+cycle 3 lock at 6030: bank 1
+cycle 3 done at 6148: bank 1
+";
+    let second = tensed_event(alloc, "1", "2", "2")?;
+    let changes = [
+        ("event", "2"),
+        ("ignition cycle, crash", "3"),
+        ("deployment event", "yes"),
+        ("driver frontal deployment", "27 ms"),
+    ];
+    let third = changed(alloc, STRUCK_EVENT, &changes)?;
+    let mut memory = memory_of(alloc, &new_image(2, KEEP), &[], 0)?;
+    let report = [
+        TENSED_TWICE,
+        THIRD_CYCLE,
+        &second,
+        &third,
+        "ignition cycle, download: 3\n",
+    ];
+    check_drives(&rt, &[TENSED, TENSED, drive], &mut memory, &report)
+}
+
+// The record of a pretensioner in the first CYCLE, in the bank with the number of its place.
+fn event_at(
+    alloc: Global,
+    place: &str,
+    zero: &str,
+    events: &str,
+    time: &str,
+) -> Result<String, AllocError> {
+    let changes = [
+        ("event", place),
+        ("bank", place),
+        ("time zero", zero),
+        ("multi-event, number of events", events),
+        ("time from event 1 to 2", time),
+    ];
+    changed(alloc, TENSED_EVENT, &changes)
+}
+
+#[test]
+fn the_third_event_is_the_first_of_a_new_pair(rt: HostRuntime) -> Result<(), Fail> {
+    let alloc = rt.alloc();
+    let drive = fired(13_000, &[(6000, 64), (9000, 64), (12_000, 64)]);
+    const CYCLE: &str = "cycle 1: number 1, power off
+cycle 1 take at 6000: bank 1
+cycle 1 done at 6050: bank 1
+cycle 1 take at 9000: bank 2
+cycle 1 done at 9050: bank 2
+cycle 1 take at 12000: bank 3
+cycle 1 done at 12050: bank 3
+";
+    let first = event_at(alloc, "1", "6000 ms", "1", "none")?;
+    let second = event_at(alloc, "2", "9000 ms", "2", "3.0 s")?;
+    let third = event_at(alloc, "3", "12000 ms", "1", "none")?;
+    let mut memory = memory_of(alloc, &new_image(3, KEEP), &[], 0)?;
+    let report = [CYCLE, &first, &second, &third, COUNTED_ONE];
+    check_drives(&rt, &[drive], &mut memory, &report)
+}
+
+#[test]
+fn events_up_to_five_seconds_apart_are_a_pair(rt: HostRuntime) -> Result<(), Fail> {
+    let alloc = rt.alloc();
+    let first = event_at(alloc, "1", "6000 ms", "1", "none")?;
+    const NEAR_CYCLE: &str = "cycle 1: number 1, power off
+cycle 1 take at 6000: bank 1
+cycle 1 done at 6050: bank 1
+cycle 1 take at 11000: bank 2
+cycle 1 done at 11050: bank 2
+";
+    let near = event_at(alloc, "2", "11000 ms", "2", "5.0 s")?;
+    let mut memory = memory_of(alloc, &new_image(3, KEEP), &[], 0)?;
+    let drive = fired(13_000, &[(6000, 64), (11_000, 64)]);
+    let report = [NEAR_CYCLE, &first, &near, COUNTED_ONE];
+    check_drives(&rt, &[drive], &mut memory, &report)?;
+
+    const FAR_CYCLE: &str = "cycle 1: number 1, power off
+cycle 1 take at 6000: bank 1
+cycle 1 done at 6050: bank 1
+cycle 1 take at 11001: bank 2
+cycle 1 done at 11051: bank 2
+";
+    let far = event_at(alloc, "2", "11001 ms", "1", "none")?;
+    let mut memory = memory_of(alloc, &new_image(3, KEEP), &[], 0)?;
+    let drive = fired(13_000, &[(6000, 64), (11_001, 64)]);
+    let report = [FAR_CYCLE, &first, &far, COUNTED_ONE];
+    check_drives(&rt, &[drive], &mut memory, &report)
+}

@@ -1,0 +1,132 @@
+//! What reports are to say, in text.
+
+use std::alloc::{AllocError, Global};
+
+/// The record of a car that is struck from the front at 6.001 s for 100 ms.
+pub(crate) const STRUCK_EVENT: &str = "event: 1
+bank: 1
+ignition cycle, crash: 1
+time zero: 6003 ms
+multi-event, number of events: 1
+time from event 1 to 2: none
+deployment event: no
+speed, km/h: 50 50 50 50 50 50 50 50 50 50 50
+throttle, %: 20 20 20 20 20 20 20 20 20 20 20
+service brake: off off off off off off off off off off off
+driver belt: on
+frontal air bag warning lamp: off
+end of event: 115 ms
+delta-V longitudinal, km/h: 0 -4 -8 -12 -16 -20 -24 -28 -32 -36 -39 -39 -39 -39 -39
+delta-V lateral, km/h: 0 0 0 0 0 0 0 0 0 0 0 0 0 0 0
+maximum delta-V longitudinal: -39 km/h at 97 ms
+maximum delta-V lateral: 0 km/h at 0 ms
+time of maximum resultant: 97 ms
+ticks without sample: 0 longitudinal, 0 lateral
+driver frontal deployment: none
+passenger frontal deployment: none
+driver side deployment: none
+passenger side deployment: none
+driver curtain deployment: none
+passenger curtain deployment: none
+driver pretensioner deployment: none
+passenger pretensioner deployment: none
+complete file recorded: yes
+";
+
+/// The record of a car whose pretensioner fires at 7 s, and that nothing strikes.
+pub(crate) const TENSED_EVENT: &str = "event: 1
+bank: 1
+ignition cycle, crash: 1
+time zero: 7000 ms
+multi-event, number of events: 1
+time from event 1 to 2: none
+deployment event: no
+speed, km/h: 50 50 50 50 50 50 50 50 50 50 50
+throttle, %: 20 20 20 20 20 20 20 20 20 20 20
+service brake: off off off off off off off off off off off
+driver belt: on
+frontal air bag warning lamp: off
+end of event: 20 ms
+delta-V longitudinal, km/h: 0 0 0 0 0 0
+delta-V lateral, km/h: 0 0 0 0 0 0
+maximum delta-V longitudinal: 0 km/h at 0 ms
+maximum delta-V lateral: 0 km/h at 0 ms
+time of maximum resultant: 0 ms
+ticks without sample: 0 longitudinal, 0 lateral
+driver frontal deployment: none
+passenger frontal deployment: none
+driver side deployment: none
+passenger side deployment: none
+driver curtain deployment: none
+passenger curtain deployment: none
+driver pretensioner deployment: 0 ms
+passenger pretensioner deployment: none
+complete file recorded: yes
+";
+
+/// What a record says whose event was not done.
+pub(crate) const NOT_DONE: [(&str, &str); 16] = [
+    ("end of event", "none"),
+    ("delta-V longitudinal, km/h", "none"),
+    ("delta-V lateral, km/h", "none"),
+    ("maximum delta-V longitudinal", "none"),
+    ("maximum delta-V lateral", "none"),
+    ("time of maximum resultant", "none"),
+    ("ticks without sample", "none"),
+    ("driver frontal deployment", "none"),
+    ("passenger frontal deployment", "none"),
+    ("driver side deployment", "none"),
+    ("passenger side deployment", "none"),
+    ("driver curtain deployment", "none"),
+    ("passenger curtain deployment", "none"),
+    ("driver pretensioner deployment", "none"),
+    ("passenger pretensioner deployment", "none"),
+    ("complete file recorded", "no"),
+];
+
+/// The lines of the first cycle in which the car is struck.
+pub(crate) const STRUCK_CYCLE: &str = "cycle 1: number 1, power off
+cycle 1 take at 6020: bank 1
+cycle 1 done at 6148: bank 1
+";
+
+/// The last line after one cycle.
+pub(crate) const COUNTED_ONE: &str = "ignition cycle, download: 1\n";
+
+/// The lines of the first two cycles in which a pretensioner fires.
+pub(crate) const TENSED_TWICE: &str = "cycle 1: number 1, power off
+cycle 1 take at 7000: bank 1
+cycle 1 done at 7050: bank 1
+cycle 2: number 2, power off
+cycle 2 take at 7000: bank 2
+cycle 2 done at 7050: bank 2
+";
+
+/// The lines of a text, of which those with these names have other values.
+pub(crate) fn changed(
+    alloc: Global,
+    text: &str,
+    changes: &[(&str, &str)],
+) -> Result<String, AllocError> {
+    let mut out = String::new(alloc);
+    for line in text.lines() {
+        let Some((name, value)) = line.split_once(": ") else {
+            continue;
+        };
+        let value = match changes.iter().find(|c| c.0 == name) {
+            Some((_, other)) => other,
+            None => value,
+        };
+        write!(out, "{name}: {value}\n")?;
+    }
+    Ok(out)
+}
+
+/// These texts, one behind the other.
+pub(crate) fn joined(alloc: Global, texts: &[&str]) -> Result<String, AllocError> {
+    let mut out = String::new(alloc);
+    for text in texts {
+        out.push_str(text)?;
+    }
+    Ok(out)
+}

@@ -1,0 +1,249 @@
+//! Images that are refused, damaged records, and counts near their limits.
+
+use super::drives::{fired, struck, trace_of};
+use super::expected::{COUNTED_ONE, STRUCK_CYCLE, STRUCK_EVENT, changed, joined};
+use super::{KEEP, SIZE, check_run, image_of, kept_memory, memory_of, new_image, replayed, run_of};
+use crate::Status;
+use std::process::Abort;
+use std::test::Fail;
+
+// A replay and a report over this memory are refused with this line, and the memory stays.
+fn check_refused<R: Abort + AllocGlobal>(
+    rt: &R,
+    image: &[u8; SIZE],
+    line: &str,
+) -> Result<(), Fail> {
+    let mut memory = memory_of(rt.alloc(), image, &[], 0)?;
+    check_run(rt, run_of(&["report"], Status::Image, line), &mut memory)?;
+    check_run(
+        rt,
+        run_of(&["report", "csv"], Status::Image, line),
+        &mut memory,
+    )?;
+    let mut run = replayed("on,0,\ncut,0,\n", line);
+    run.status = Status::Image;
+    check_run(rt, run, &mut memory)?;
+    assert_eq!(rt; memory.image(), image.as_slice());
+    Ok(())
+}
+
+#[test]
+fn each_refusal_of_an_image_has_its_line(rt: HostRuntime) -> Result<(), Fail> {
+    let zeros = "fault: image not formatted at 0 found 0\n";
+    check_refused(&rt, &[0; SIZE], zeros)?;
+    let refused = [
+        (3, 0x69, "fault: image not formatted at 3 found 105\n"),
+        (7, 0x46, "fault: image not formatted at 7 found 70\n"),
+        (8, 1, "fault: image version 257\n"),
+        (9, 2, "fault: image version 2\n"),
+        (10, 1, "fault: image banks 1\n"),
+        (10, 17, "fault: image banks 17\n"),
+        (11, 2, "fault: image choice 2\n"),
+    ];
+    for (offset, byte, line) in refused {
+        let mut image = new_image(2, KEEP);
+        if let Some(place) = image.get_mut(offset) {
+            *place = byte;
+        }
+        check_refused(&rt, &image, line)?;
+    }
+    check_refused(
+        &rt,
+        &new_image(4, KEEP),
+        "fault: image short 1632 of 2144\n",
+    )
+}
+
+#[test]
+fn a_short_memory_is_refused_with_both_sizes(rt: HostRuntime) -> Result<(), Fail> {
+    let alloc = rt.alloc();
+    let image = new_image(2, KEEP);
+    let mut run = replayed("on,0,\ncut,0,\n", "fault: image short 95 of 96\n");
+    run.status = Status::Image;
+    check_run(&rt, run, &mut memory_of(alloc, &image[..95], &[], 0)?)?;
+    run.output = "fault: image short 1119 of 1120\n";
+    check_run(&rt, run, &mut memory_of(alloc, &image[..1_119], &[], 0)?)?;
+    run.output = "fault: image not formatted at 0 found 0\n";
+    check_run(&rt, run, &mut memory_of(alloc, &[0; 96], &[], 0)?)
+}
+
+// The trace is read before the image is looked at.
+#[test]
+fn a_refused_trace_is_told_before_a_refused_image(rt: HostRuntime) -> Result<(), Fail> {
+    let mut run = replayed("on,0\n", "fault: trace row 1: fields 2\n");
+    run.status = Status::Trace;
+    check_run(&rt, run, &mut memory_of(rt.alloc(), &[0; SIZE], &[], 0)?)
+}
+
+// The image of a car that was struck: a record in bank 1.
+fn struck_image<R: Abort + AllocGlobal>(rt: &R) -> Result<[u8; SIZE], Fail> {
+    let alloc = rt.alloc();
+    let trace = trace_of(alloc, &[struck(7000)])?;
+    let report = joined(alloc, &[STRUCK_CYCLE, STRUCK_EVENT, COUNTED_ONE])?;
+    let mut memory = kept_memory(alloc)?;
+    check_run(rt, replayed(&trace, &report), &mut memory)?;
+    Ok(image_of(&memory))
+}
+
+// A byte of the record that its field cannot have, at an offset of the bank, and the line that tells of it.
+const DAMAGES: [(usize, u8, &str); 5] = [
+    (19, 0, "damaged at 19 found 0 locked"),
+    (25, 1, "damaged at 25 found 1 locked"),
+    (176, 2, "damaged at 176 found 2 locked"),
+    (209, 1, "damaged at 209 found 1 locked"),
+    (495, 7, "damaged at 495 found 7 locked"),
+];
+
+#[test]
+fn a_damaged_record_is_told_with_its_place_and_lock(rt: HostRuntime) -> Result<(), Fail> {
+    let alloc = rt.alloc();
+    let image = struck_image(&rt)?;
+    for (offset, byte, told) in DAMAGES {
+        let mut damaged = image;
+        if let Some(place) = damaged[96..608].get_mut(offset) {
+            *place = byte;
+        }
+        let report = format!(in alloc; "bank 1: {told} no\n{COUNTED_ONE}")?;
+        let mut memory = memory_of(alloc, &damaged, &[], 0)?;
+        check_run(&rt, run_of(&["report"], Status::Ok, &report), &mut memory)?;
+        damaged[97] = 0xa5;
+        let report = format!(in alloc; "bank 1: {told} yes\n{COUNTED_ONE}")?;
+        let mut memory = memory_of(alloc, &damaged, &[], 0)?;
+        check_run(&rt, run_of(&["report"], Status::Ok, &report), &mut memory)?;
+    }
+    Ok(())
+}
+
+// The record of the struck car, damaged in bank 1 and whole in bank 2.
+fn half_damaged_image<R: Abort + AllocGlobal>(rt: &R) -> Result<[u8; SIZE], Fail> {
+    let mut image = struck_image(rt)?;
+    for offset in 96..608usize {
+        image[512 + offset] = image[offset];
+    }
+    image[115] = 0;
+    Ok(image)
+}
+
+#[test]
+fn a_damaged_bank_stands_behind_the_events(rt: HostRuntime) -> Result<(), Fail> {
+    const DAMAGE: &str = "bank 1: damaged at 19 found 0 locked no\n";
+    let alloc = rt.alloc();
+    let event = changed(alloc, STRUCK_EVENT, &[("bank", "2")])?;
+    let report = joined(alloc, &[&event, DAMAGE, COUNTED_ONE])?;
+    let mut memory = memory_of(alloc, &half_damaged_image(&rt)?, &[], 0)?;
+    check_run(&rt, run_of(&["report"], Status::Ok, &report), &mut memory)
+}
+
+#[test]
+fn a_damaged_bank_is_told_in_a_table(rt: HostRuntime) -> Result<(), Fail> {
+    let mut image = half_damaged_image(&rt)?;
+    image[608] = 0xa4;
+    let table = "block,name,value
+0,bank 1,damaged at 19 found 0 locked no
+0,\"ignition cycle, download\",1
+";
+    let mut memory = memory_of(rt.alloc(), &image, &[], 0)?;
+    check_run(
+        &rt,
+        run_of(&["report", "csv"], Status::Ok, table),
+        &mut memory,
+    )?;
+    assert_eq!(rt; memory.image(), image.as_slice());
+    Ok(())
+}
+
+// Each gate is open, so no bank is free for an event.
+#[test]
+fn damaged_banks_that_are_locked_take_no_event(rt: HostRuntime) -> Result<(), Fail> {
+    let mut image = new_image(2, KEEP);
+    image[96..].copy_from_slice(&[0xa5; 1_536]);
+    let trace = trace_of(rt.alloc(), &[fired(200, &[(100, 1)])])?;
+    let report = "cycle 1: number 1, power off
+cycle 1 take at 100: not kept
+cycle 1 lock at 100: not kept
+cycle 1 done at 150: not kept
+bank 1: damaged at 20 found 165 locked yes
+bank 2: damaged at 20 found 165 locked yes
+ignition cycle, download: 1
+";
+    let mut memory = memory_of(rt.alloc(), &image, &[], 0)?;
+    check_run(&rt, replayed(&trace, report), &mut memory)?;
+    assert_eq!(rt; &memory.image()[96..], &image[96..]);
+    Ok(())
+}
+
+// A new image with this count in its first slot.
+fn counted_image(count: u32) -> [u8; SIZE] {
+    let mut image = new_image(2, KEEP);
+    image[32] = 0xa5;
+    image[36..40].copy_from_slice(&count.to_be_bytes());
+    image
+}
+
+#[test]
+fn a_count_past_60000_is_told_as_60000(rt: HostRuntime) -> Result<(), Fail> {
+    let alloc = rt.alloc();
+    let trace = trace_of(alloc, &[struck(7000)])?;
+    let cycle = changed(
+        alloc,
+        STRUCK_CYCLE,
+        &[("cycle 1", "number 60002, power off")],
+    )?;
+    let event = changed(alloc, STRUCK_EVENT, &[("ignition cycle, crash", "60000")])?;
+    const LAST: &str = "ignition cycle, download: 60000\n";
+    let report = joined(alloc, &[&cycle, &event, LAST])?;
+    let mut memory = memory_of(alloc, &counted_image(60_001), &[], 0)?;
+    check_run(&rt, replayed(&trace, &report), &mut memory)
+}
+
+#[test]
+fn the_last_number_is_given_once(rt: HostRuntime) -> Result<(), Fail> {
+    let alloc = rt.alloc();
+    let trace = trace_of(alloc, &[struck(7000)])?;
+    let image = counted_image(4_294_967_295);
+    let mut memory = memory_of(alloc, &image, &[], 0)?;
+    let mut spent = replayed(&trace, "fault: spent\n");
+    spent.status = Status::Spent;
+    check_run(&rt, spent, &mut memory)?;
+    assert_eq!(rt; memory.image(), image.as_slice());
+    let mut memory = memory_of(alloc, &counted_image(4_294_967_294), &[], 0)?;
+    const LAST: &str = "cycle 1: number 4294967295, power off\nignition cycle, download: 60000\n";
+    check_run(&rt, replayed("on,0,\ncut,0,\n", LAST), &mut memory)?;
+    check_run(&rt, spent, &mut memory)
+}
+
+// The count is the greatest of the open slots.
+#[test]
+fn the_greater_count_of_two_slots_goes_on(rt: HostRuntime) -> Result<(), Fail> {
+    let slots = [
+        (
+            0xa5,
+            0xa5,
+            "cycle 1: number 10, power off\nignition cycle, download: 10\n",
+        ),
+        (
+            0xa5,
+            0xa4,
+            "cycle 1: number 8, power off\nignition cycle, download: 8\n",
+        ),
+        (
+            0x00,
+            0xa5,
+            "cycle 1: number 10, power off\nignition cycle, download: 10\n",
+        ),
+        (
+            0x5a,
+            0xa4,
+            "cycle 1: number 1, power off\nignition cycle, download: 1\n",
+        ),
+    ];
+    for (first, second, report) in slots {
+        let mut image = counted_image(7);
+        image[32] = first;
+        image[64] = second;
+        image[71] = 9;
+        let mut memory = memory_of(rt.alloc(), &image, &[], 0)?;
+        check_run(&rt, replayed("on,0,\ncut,0,\n", report), &mut memory)?;
+    }
+    Ok(())
+}
