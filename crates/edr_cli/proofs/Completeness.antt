@@ -1,10 +1,9 @@
 -- Where nothing counts a fault, a trace wants nothing but memory.
-use Rattle.std.proofs.Common.{◌≡◌, ◌∙◌, refl, sym, subst, ap, arith, ℕ, ◌+◌, ◌≤◌, ◌<◌, List, length, take, Option, Some, IfSome}
+use Rattle.std.proofs.Common.{◌≡◌, ◌∙◌, refl, sym, subst, ap, arith, ℕ, ◌+◌, ◌≤◌, ◌<◌, List, length, take, Some, IfSome}
 use Rattle.std.proofs.lemmas.List.{length-take}
-use Rattle.std.proofs.lemmas.Bool.Decides.{nat_tests}
 use Rattle.edr_device.specs.Faults.{Rose}
 use Rattle.edr_image.specs.Banks.{Store}
-use Rattle.edr_image.specs.Image.{View, view_of}
+use Rattle.edr_image.specs.Image.{View}
 use Rattle.edr_image.specs.declared.OpenFault.TheVariants as open_fault
 use Rattle.edr_image.specs.Image.{image_refusal}
 use Rattle.edr_spell.specs.declared.CycleInput.{CycleInput}
@@ -12,7 +11,7 @@ use Rattle.edr_spell.specs.Spell.{Spell}
 use Rattle.edr_spell.specs.Fault.{Fault as IsFaultOf}
 use Rattle.edr_spell.proofs.LawLemmas.{spell-not_fault, spell-one}
 use Rattle.edr_trace.specs.declared.TheConstants.{LARGEST_TRACE}
-use Rattle.edr_run.specs.Cycle.{Outcome, IsRun, last_count}
+use Rattle.edr_run.specs.Cycle.{Outcome, last_count}
 use Rattle.edr_report.specs.declared.faults.Fault.{Fault}
 use Rattle.edr_report.specs.declared.faults.Fault.TheVariants as fault
 use Rattle.edr_replay.specs.Replayed.{RanToTheLast}

@@ -1,9 +1,9 @@
 -- Words ask for one thing.
-use Rattle.std.proofs.Common.{◌≡◌, ◌∙◌, sym, ℕ, List, Option, Some, None}
+use Rattle.std.proofs.Common.{◌≡◌, ◌∙◌, sym, ℕ, List, Option, Some}
 use Rattle.edr_image.specs.declared.Header.{Header}
 use Rattle.edr_words.specs.declared.Form.{Form}
 use Rattle.edr_words.specs.declared.Job.{Job}
-use Rattle.edr_words.specs.declared.Job.TheVariants.{Format, Replay, Report}
+use Rattle.edr_words.specs.declared.Job.TheVariants.{Format}
 use Rattle.edr_cli.specs.Words.{AreFormat, AreReplay, AreReport}
 
 pub same_header : (words : List (List ℕ)) (h k : Header) → AreFormat h words → AreFormat k words → h ≡ k

@@ -1,7 +1,6 @@
 -- What is said of an image that is opened.
-use Rattle.std.proofs.Common.{◌≡◌, ◌≢◌, ◌∙◌, refl, sym, subst, ap, arith, ℕ, ◌≤◌, inl, Bool, List, [], length, slice_index, Option, Some, None, IfSome, Result, Ok, Err, IfOk, IfErr}
-use Rattle.std.specs.Prelude.{is_none}
-use Rattle.edr_device.specs.Device.{IsQuiet, StillTells}
+use Rattle.std.proofs.Common.{◌≡◌, ◌≢◌, ◌∙◌, refl, sym, subst, ap, arith, ℕ, ◌≤◌, inl, List, [], length, slice_index, Option, Some, None, IfSome, Result, Ok, Err, IfOk, IfErr}
+use Rattle.edr_device.specs.Device.{IsQuiet}
 use Rattle.edr_device.specs.Faults.{Rose}
 use Rattle.edr_image.specs.declared.Header.{Header}
 use Rattle.edr_image.specs.declared.OpenFault.{OpenFault}
@@ -13,9 +12,8 @@ use Rattle.edr_banks.specs.Opening.{IsRefusal}
 use Rattle.edr_report.specs.declared.faults.Fault.{Fault}
 use Rattle.edr_report.specs.declared.faults.Fault.TheVariants as fault
 use Rattle.edr_words.specs.declared.Form.{Form}
-use Rattle.edr_replay.specs.Replayed.{Holds}
 use Rattle.edr_cli.specs.Outside.{Memory}
-use Rattle.edr_cli.specs.Reports.{IsImageCause, IsRefused, IsReported, ReportIs, Says, fault_of, report_in}
+use Rattle.edr_cli.specs.Reports.{IsImageCause, IsReported, ReportIs, Says, fault_of, report_in}
 
 -- an image that says banks and a count is not refused
 pub says_refused : (image : List ℕ) (v : Store) (n : ℕ) (e : OpenFault) → Says image v n → image_refusal image ≢ Some e

@@ -1,22 +1,22 @@
 -- What the parts of a replay say of the whole.
-use Rattle.std.proofs.Common.{◌≡◌, ◌≢◌, ◌⊎◌, ◌∙◌, refl, sym, subst, ap, arith, ℕ, ◌+◌, ◌≤◌, ◌<◌, Bool, List, length, map, Option, Some, None, IfSome}
+use Rattle.std.proofs.Common.{◌≡◌, ◌∙◌, refl, sym, subst, ap, arith, ℕ, ◌≤◌, List, map, Option, Some, None, IfSome}
 use Rattle.edr_device.specs.Device.{IsQuiet, StillTells}
 use Rattle.edr_device.specs.Faults.{Rose}
 use Rattle.edr_image.specs.declared.OpenFault.{OpenFault}
 use Rattle.edr_image.specs.declared.OpenFault.TheVariants as open_fault
 use Rattle.edr_image.specs.declared.log.CycleReport.{CycleReport}
 use Rattle.edr_image.specs.Banks.{Store}
-use Rattle.edr_image.specs.Image.{View, image_refusal, view_of}
+use Rattle.edr_image.specs.Image.{View, image_refusal}
 use Rattle.edr_image.specs.Reports.{report_of}
 use Rattle.edr_spell.specs.declared.CycleInput.{CycleInput}
 use Rattle.edr_spell.specs.Spell.{Spell}
-use Rattle.edr_run.specs.Cycle.{Outcome, IsRun}
+use Rattle.edr_run.specs.Cycle.{Outcome}
 use Rattle.edr_cycle.specs.declared.started.StartFault.{StartFault}
 use Rattle.edr_cycle.specs.declared.started.StartFault.TheVariants as start
 use Rattle.edr_report.specs.declared.faults.Fault.{Fault}
 use Rattle.edr_report.specs.declared.faults.Fault.TheVariants as fault
 use Rattle.edr_words.specs.declared.Form.{Form}
-use Rattle.edr_replay.specs.Replayed.{Holds, HasRun, EndsSpent, IsFault, IsRefusal, IsTrulyRefused}
+use Rattle.edr_replay.specs.Replayed.{Holds, HasRun, EndsSpent, IsFault, IsTrulyRefused}
 use Rattle.edr_cli.specs.Outside.{Input, Memory}
 use Rattle.edr_cli.specs.Reports.{IsImageCause, IsRefused, Says, report_in}
 use Rattle.edr_cli.specs.Runs.{GaveTrace, IsReplayCause, IsSpent, IsTraceCause, RunIs, TheRun}

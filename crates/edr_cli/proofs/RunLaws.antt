@@ -1,14 +1,10 @@
 -- Laws of a run that the clauses of a call rest on.
-use Rattle.std.proofs.Common.{◌≡◌, ◌⊎◌, ◌∙◌, refl, sym, subst, ap, arith, ⊎_elim, ℕ, ◌+◌, ◌≤◌, ◌<◌, List, [], ◌∷◌, length, Option, Some, None, IfSome, All, slice_index_or, add-one}
-use Rattle.edr_record.specs.declared.Record.{Record}
-use Rattle.edr_image.specs.declared.Ack.{Ack}
+use Rattle.std.proofs.Common.{◌≡◌, ◌∙◌, sym, subst, ap, arith, ℕ, ◌+◌, ◌≤◌, List, [], ◌∷◌, length, Option, Some, None, IfSome, All, slice_index_or, add-one}
 use Rattle.edr_image.specs.Banks.{Store}
-use Rattle.edr_image.specs.Calls.{all_calls, IsStop}
-use Rattle.edr_image.specs.Reports.{Report}
 use Rattle.edr_spell.specs.declared.CycleInput.{CycleInput}
 use Rattle.edr_spell.specs.Spell.{Spell}
 use Rattle.edr_spell.proofs.LawLemmas.{spell-one}
-use Rattle.edr_run.specs.Cycle.{End, IsCycle, start_stopped, start_counted, whole, cut, start_end, whole_end, cut_end, steps_in, Outcome, IsRun, last_count}
+use Rattle.edr_run.specs.Cycle.{End, IsCycle, start_stopped, start_counted, whole, cut, whole_end, Outcome, IsRun}
 use Rattle.edr_run.proofs.LoggedLaws.{run-locks, run-done_later}
 use Rattle.edr_run.proofs.OrderLaws.{run-kept, run-locked}
 use Rattle.edr_run.proofs.OwnLaws.{run-own}
@@ -16,7 +12,7 @@ use Rattle.edr_words.specs.declared.Form.{Form}
 use Rattle.edr_replay.specs.Replayed.{Holds}
 use Rattle.edr_cli.specs.Outside.{Input, Memory}
 use Rattle.edr_cli.specs.Reports.{Says, report_in}
-use Rattle.edr_cli.specs.Runs.{TheRun, IsLockAck, IsPowered, RunIs}
+use Rattle.edr_cli.specs.Runs.{TheRun, IsPowered, RunIs}
 
 -- the run with all that holds of it
 pub the_run : (form : Form) (bytes image : List ℕ) (new : Memory) (text : List ℕ) (cs : List CycleInput) (v : Store) (n : ℕ) (o : Outcome)

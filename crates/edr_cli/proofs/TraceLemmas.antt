@@ -1,16 +1,9 @@
 -- What the transfer and the reader say of a source.
-use Rattle.std.proofs.Common.{◌≡◌, refl, sym, subst, arith, ℕ, ◌≤◌, ◌<◌, List, length, Option, Some, None, IfSome}
-use Rattle.edr_device.specs.Faults.{Rose}
+use Rattle.std.proofs.Common.{sym, subst, ℕ, ◌<◌, List, length, Option, Some, None, IfSome}
 use Rattle.edr_device.specs.Told.{Told}
 use Rattle.edr_device.specs.Transfer.{GivesAll, GivesTooMany}
-use Rattle.edr_spell.specs.declared.CycleInput.{CycleInput}
-use Rattle.edr_spell.specs.declared.TraceRefused.{TraceRefused}
-use Rattle.edr_spell.specs.Spell.{Spell}
-use Rattle.edr_spell.specs.Fault.{Fault as IsFaultOf}
 use Rattle.edr_trace.specs.declared.TheConstants.{LARGEST_TRACE}
-use Rattle.edr_report.specs.declared.faults.Fault.TheVariants as fault
-use Rattle.edr_cli.specs.Outside.{IsAtEnd, Input}
-use Rattle.edr_cli.specs.Runs.{IsTraceCause}
+use Rattle.edr_cli.specs.Outside.{IsAtEnd}
 
 -- a source that was taken whole is at its end
 pub taken_ends : (bytes : List ℕ) (left left' : Option (List ℕ)) → Told (GivesAll bytes) left left' → IsAtEnd left'

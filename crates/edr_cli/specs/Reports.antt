@@ -1,5 +1,5 @@
 -- What an image says, the report of it, and why there is none.
-use Rattle.std.specs.Prelude.{◌≡◌, ◌<◌, ◌≤◌, ℕ, [], List, Option, Some, None, IfSome, ⊤}
+use Rattle.std.specs.Prelude.{◌≡◌, ◌<◌, ◌≤◌, ℕ, [], List, Some, None, IfSome, ⊤}
 use Rattle.edr_device.specs.Faults.{Rose}
 use Rattle.edr_image.specs.declared.Header.{Header}
 use Rattle.edr_image.specs.declared.OpenFault.{OpenFault}

@@ -1,5 +1,5 @@
 -- What the steps of a run say of each other. The clauses of the top call need none of this.
-use Rattle.std.specs.Prelude.{◌≡◌, ℕ, Bool, List, Option, ⊤}
+use Rattle.std.specs.Prelude.{◌≡◌, ℕ, List, ⊤}
 use Rattle.edr_device.specs.Faults.{Rose}
 use Rattle.edr_image.specs.Banks.{Store}
 use Rattle.edr_spell.specs.declared.CycleInput.{CycleInput}

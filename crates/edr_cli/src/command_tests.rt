@@ -81,6 +81,15 @@ fn new_image(banks: u8, choice: u8) -> [u8; SIZE] {
     image
 }
 
+// Puts bytes into an image.
+fn put(image: &mut [u8; SIZE], at: usize, bytes: &[u8]) {
+    for (offset, byte) in bytes.iter().enumerate() {
+        if let Some(place) = image.get_mut(at.saturating_add(offset)) {
+            *place = *byte;
+        }
+    }
+}
+
 // The bytes that such a memory holds.
 fn image_of(memory: &MemNvm) -> [u8; SIZE] {
     let mut image = [0; SIZE];

@@ -2,7 +2,7 @@
 
 use super::drives::{Drive, blow, gap, quiet, struck, trace_of};
 use super::expected::{COUNTED_ONE, STRUCK_CYCLE, STRUCK_EVENT, changed, joined};
-use super::{KEEP, Run, SIZE, check_run, kept_memory, memory_of, new_image, replayed, run_of};
+use super::{KEEP, Run, SIZE, check_run, kept_memory, memory_of, new_image, put, replayed, run_of};
 use crate::Status;
 use std::process::Abort;
 use std::test::Fail;
@@ -104,22 +104,21 @@ fn struck_image() -> [u8; SIZE] {
     image[39] = 1;
     image[96] = 0xa5;
     image[98] = 0xa5;
-    image[112..124].copy_from_slice(b"\x00\x00\x00\x01\x00\x00\x17\x73\x01\x00\x00\x00".as_slice());
-    image[124..146].copy_from_slice(
-        b"\x00\x32\x00\x32\x00\x32\x00\x32\x00\x32\x00\x32\x00\x32\x00\x32\x00\x32\x00\x32\x00\x32".as_slice(),
-    );
-    image[146..157].copy_from_slice(&[0x14; 11]);
+    put(&mut image, 112, b"\x00\x00\x00\x01\x00\x00\x17\x73\x01");
+    for slot in 0..11usize {
+        put(&mut image, 124 + 2 * slot, b"\x00\x32");
+    }
+    put(&mut image, 146, &[0x14; 11]);
     image[168] = 1;
-    image[272..290].copy_from_slice(
-        b"\x00\x73\x00\x00\xff\xfc\xff\xf8\xff\xf4\xff\xf0\xff\xec\xff\xe8\xff\xe4".as_slice(),
-    );
-    image[290..304].copy_from_slice(
-        b"\xff\xe0\xff\xdc\xff\xd9\xff\xd9\xff\xd9\xff\xd9\xff\xd9".as_slice(),
-    );
-    image[378..392].copy_from_slice(
-        b"\xff\xd9\x00\x61\x00\x00\x00\x00\x00\x61\x00\x00\x00\x00".as_slice(),
-    );
-    image[392..408].copy_from_slice(&[0xff; 16]);
+    let points = b"\xff\xfc\xff\xf8\xff\xf4\xff\xf0\xff\xec\xff\xe8\xff\xe4\xff\xe0\xff\xdc";
+    put(&mut image, 272, b"\x00\x73");
+    put(&mut image, 276, points);
+    for point in 10..15usize {
+        put(&mut image, 274 + 2 * point, b"\xff\xd9");
+    }
+    put(&mut image, 378, b"\xff\xd9\x00\x61");
+    put(&mut image, 386, b"\x00\x61");
+    put(&mut image, 392, &[0xff; 16]);
     image
 }
 

@@ -117,7 +117,9 @@ pub(crate) fn changed(
             Some((_, other)) => other,
             None => value,
         };
-        write!(out, "{name}: {value}\n")?;
+        for piece in [name, ": ", value, "\n"] {
+            out.push_str(piece)?;
+        }
     }
     Ok(out)
 }

@@ -1,4 +1,5 @@
 //! Images that are refused, damaged records, and counts near their limits.
+ghost use Rattle.std.specs.Prelude.{◌≤◌};
 
 use super::drives::{fired, struck, trace_of};
 use super::expected::{COUNTED_ONE, STRUCK_CYCLE, STRUCK_EVENT, changed, joined};
@@ -54,17 +55,31 @@ fn each_refusal_of_an_image_has_its_line(rt: HostRuntime) -> Result<(), Fail> {
     )
 }
 
+// A replay over so many first bytes of a new image is refused with this line.
+fn check_short<R: Abort + AllocGlobal>(rt: &R, size: usize, line: &str) -> Result<(), Fail>
+    requires { size ≤ 1_632 }
+{
+    let mut run = replayed("on,0,\ncut,0,\n", line);
+    run.status = Status::Image;
+    let image = new_image(2, KEEP);
+    let mut memory = memory_of(rt.alloc(), &image[..size], &[], 0)?;
+    check_run(rt, run, &mut memory)
+}
+
 #[test]
 fn a_short_memory_is_refused_with_both_sizes(rt: HostRuntime) -> Result<(), Fail> {
-    let alloc = rt.alloc();
-    let image = new_image(2, KEEP);
-    let mut run = replayed("on,0,\ncut,0,\n", "fault: image short 95 of 96\n");
+    check_short(&rt, 95, "fault: image short 95 of 96\n")?;
+    check_short(&rt, 1_119, "fault: image short 1119 of 1120\n")
+}
+
+#[test]
+fn a_memory_of_zeros_is_refused_at_its_first_byte(rt: HostRuntime) -> Result<(), Fail> {
+    let mut run = replayed(
+        "on,0,\ncut,0,\n",
+        "fault: image not formatted at 0 found 0\n",
+    );
     run.status = Status::Image;
-    check_run(&rt, run, &mut memory_of(alloc, &image[..95], &[], 0)?)?;
-    run.output = "fault: image short 1119 of 1120\n";
-    check_run(&rt, run, &mut memory_of(alloc, &image[..1_119], &[], 0)?)?;
-    run.output = "fault: image not formatted at 0 found 0\n";
-    check_run(&rt, run, &mut memory_of(alloc, &[0; 96], &[], 0)?)
+    check_run(&rt, run, &mut memory_of(rt.alloc(), &[0; 96], &[], 0)?)
 }
 
 // The trace is read before the image is looked at.
@@ -94,22 +109,36 @@ const DAMAGES: [(usize, u8, &str); 5] = [
     (495, 7, "damaged at 495 found 7 locked"),
 ];
 
+// The image with this byte in that place.
+fn with_byte(image: [u8; SIZE], at: usize, byte: u8) -> [u8; SIZE] {
+    let mut image = image;
+    if let Some(place) = image.get_mut(at) {
+        *place = byte;
+    }
+    image
+}
+
+// An image is reported so.
+fn check_report<R: Abort + AllocGlobal>(
+    rt: &R,
+    image: &[u8; SIZE],
+    report: &str,
+) -> Result<(), Fail> {
+    let mut memory = memory_of(rt.alloc(), image, &[], 0)?;
+    check_run(rt, run_of(&["report"], Status::Ok, report), &mut memory)
+}
+
 #[test]
 fn a_damaged_record_is_told_with_its_place_and_lock(rt: HostRuntime) -> Result<(), Fail> {
     let alloc = rt.alloc();
     let image = struck_image(&rt)?;
     for (offset, byte, told) in DAMAGES {
-        let mut damaged = image;
-        if let Some(place) = damaged[96..608].get_mut(offset) {
-            *place = byte;
-        }
+        let damaged = with_byte(image, 96 + offset, byte);
         let report = format!(in alloc; "bank 1: {told} no\n{COUNTED_ONE}")?;
-        let mut memory = memory_of(alloc, &damaged, &[], 0)?;
-        check_run(&rt, run_of(&["report"], Status::Ok, &report), &mut memory)?;
-        damaged[97] = 0xa5;
+        check_report(&rt, &damaged, &report)?;
+        let locked = with_byte(damaged, 97, 0xa5);
         let report = format!(in alloc; "bank 1: {told} yes\n{COUNTED_ONE}")?;
-        let mut memory = memory_of(alloc, &damaged, &[], 0)?;
-        check_run(&rt, run_of(&["report"], Status::Ok, &report), &mut memory)?;
+        check_report(&rt, &locked, &report)?;
     }
     Ok(())
 }
@@ -152,11 +181,16 @@ fn a_damaged_bank_is_told_in_a_table(rt: HostRuntime) -> Result<(), Fail> {
     Ok(())
 }
 
+// A new image, with a byte that opens a gate in each place of its banks.
+fn open_image() -> [u8; SIZE] {
+    let mut image = new_image(2, KEEP);
+    image[96..].copy_from_slice(&[0xa5; 1_536]);
+    image
+}
+
 // Each gate is open, so no bank is free for an event.
 #[test]
 fn damaged_banks_that_are_locked_take_no_event(rt: HostRuntime) -> Result<(), Fail> {
-    let mut image = new_image(2, KEEP);
-    image[96..].copy_from_slice(&[0xa5; 1_536]);
     let trace = trace_of(rt.alloc(), &[fired(200, &[(100, 1)])])?;
     let report = "cycle 1: number 1, power off
 cycle 1 take at 100: not kept
@@ -166,9 +200,10 @@ bank 1: damaged at 20 found 165 locked yes
 bank 2: damaged at 20 found 165 locked yes
 ignition cycle, download: 1
 ";
+    let image = open_image();
     let mut memory = memory_of(rt.alloc(), &image, &[], 0)?;
     check_run(&rt, replayed(&trace, report), &mut memory)?;
-    assert_eq!(rt; &memory.image()[96..], &image[96..]);
+    assert_eq!(rt; image_of(&memory).get(96..), image.get(96..));
     Ok(())
 }
 

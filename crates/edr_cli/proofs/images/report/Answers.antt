@@ -1,4 +1,4 @@
-use Rattle.std.proofs.Common.{◌≡◌, ℕ, List, []}
+use Rattle.std.proofs.Common.{◌≡◌, []}
 use Rattle.edr_cli.specs.Outside.{memory}
 use Rattle.edr_cli.specs.Reports.{ReportIs, report_in}
 use Rattle.edr_cli.proofs.ImageLemmas.{ok_map, reported}

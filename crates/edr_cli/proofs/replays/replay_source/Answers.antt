@@ -1,4 +1,4 @@
-use Rattle.std.proofs.Common.{◌≡◌, sym, subst, ap, ◌∙◌, ℕ, List}
+use Rattle.std.proofs.Common.{subst, List}
 use Rattle.edr_spell.specs.declared.CycleInput.{CycleInput}
 use Rattle.edr_cli.specs.Outside.{input, memory}
 use Rattle.edr_cli.specs.Runs.{IsReplayCause, RunIs}

@@ -1,4 +1,4 @@
-use Rattle.std.proofs.Common.{◌≡◌, sym, subst, ap, ◌∙◌, ℕ, List, map}
+use Rattle.std.proofs.Common.{◌≡◌, sym, subst, ap, ◌∙◌, List, map}
 use Rattle.std.proofs.lemmas.Result.{err_from_is_err_and}
 use Rattle.edr_image.specs.Reports.{report_of}
 use Rattle.edr_report.specs.declared.faults.Fault.{Fault}

@@ -1,9 +1,7 @@
-use Rattle.std.proofs.Common.{◌≡◌, ◌∙◌, inl, inr, sym, subst, ap, ℕ, List, Some}
+use Rattle.std.proofs.Common.{◌∙◌, inr, sym, subst, ap, Some}
 use Rattle.edr_image.specs.declared.Header.{Header}
 use Rattle.edr_banks.specs.Formatting.{IsPartlyFormatted}
-use Rattle.edr_report.specs.declared.faults.Fault.{Fault}
 use Rattle.edr_words.specs.declared.Job.{Job}
-use Rattle.edr_cli.specs.declared.status.Status.{Status}
 use Rattle.edr_cli.specs.Outside.{input, memory}
 use Rattle.edr_cli.specs.Reports.{FormatIs, IsFormatCause}
 use Rattle.edr_cli.specs.Status.{status_of}
