@@ -13,11 +13,14 @@ pub record Memory : Type 0 where
   pub settled : ℕ → Bool
   pub faults : ℕ
 
-abbrev pub input : Option (List ℕ) → ℕ → Input
-input left faults = record { left = left; faults = faults }
+-- what a source tells by these words
+abbrev pub input : {S : Type 0} → (S → Option (List ℕ)) → (S → ℕ) → S → Input
+input left faults source = record { left = left source; faults = faults source }
 
-abbrev pub memory : ℕ → Option (List ℕ) → (ℕ → Bool) → ℕ → Memory
-memory size content settled faults = record { size = size; content = content; settled = settled; faults = faults }
+-- what a device tells by these words
+abbrev pub memory : {D : Type 0} → (D → ℕ) → (D → Option (List ℕ)) → (D → ℕ → Bool) → (D → ℕ) → D → Memory
+memory size content settled faults device =
+    record { size = size device; content = content device; settled = settled device; faults = faults device }
 
 -- the source is at its end, if it tells
 abbrev pub IsAtEnd : Option (List ℕ) → Type 0

@@ -17,10 +17,10 @@ pub(crate) fn make_image<N: Nvm>(nvm: &mut N, header: Header) -> Result<ShortLin
     requires from { 2 ≤ header.banks }
     requires to { header.banks ≤ 16 }
     ensures line { IfOk result (λ line. line ≡ format_line header) }
-    ensures made { IfOk result (λ line. IsMade header (memory (N.extent nvm.old) (N.content nvm.old) (N.settled nvm.old) (N.faults nvm.old))
-        (memory (N.extent nvm.new) (N.content nvm.new) (N.settled nvm.new) (N.faults nvm.new))) }
-    ensures cause { IfErr result (IsFormatCause header (memory (N.extent nvm.old) (N.content nvm.old) (N.settled nvm.old) (N.faults nvm.old))
-        (memory (N.extent nvm.new) (N.content nvm.new) (N.settled nvm.new) (N.faults nvm.new))) }
+    ensures made { IfOk result (λ line. IsMade header (memory N.extent N.content N.settled N.faults nvm.old)
+        (memory N.extent N.content N.settled N.faults nvm.new)) }
+    ensures cause { IfErr result (IsFormatCause header (memory N.extent N.content N.settled N.faults nvm.old)
+        (memory N.extent N.content N.settled N.faults nvm.new)) }
     ensures crash { (bytes image : List ℕ) → IsQuiet (N.content nvm.old) (N.settled nvm.old) bytes
         → MayLeave (N.content nvm.new) (N.settled nvm.new) image → IsPartlyFormatted header bytes image }
     ensures complete { ¬ Rose (N.faults nvm.old) (N.faults nvm.new) → image_size header.banks ≤ N.extent nvm.old

@@ -29,8 +29,8 @@ pub(crate) fn open_fault(e: OpenFault) -> Fault
 pub(crate) fn open_settled<N: Nvm>(alloc: Global, nvm: &mut N) -> Result<Banks, Fault>
     ensures says { IfOk result (λ b. (image : List ℕ) → N.content nvm.old ≡ Some image
         → Says image b.store b.count × IsQuiet (N.content nvm.new) (N.settled nvm.new) image) }
-    ensures cause { IfErr result (IsImageCause (memory (N.extent nvm.old) (N.content nvm.old) (N.settled nvm.old) (N.faults nvm.old))
-        (memory (N.extent nvm.new) (N.content nvm.new) (N.settled nvm.new) (N.faults nvm.new))) }
+    ensures cause { IfErr result (IsImageCause (memory N.extent N.content N.settled N.faults nvm.old)
+        (memory N.extent N.content N.settled N.faults nvm.new)) }
     ensures stays { (bytes image : List ℕ) → IsQuiet (N.content nvm.old) (N.settled nvm.old) bytes → MayLeave (N.content nvm.new) (N.settled nvm.new) image → image ≡ bytes }
     ensures told { StillTells (N.content nvm.old) (N.content nvm.new) }
     ensures later { N.faults nvm.old ≤ N.faults nvm.new }
@@ -44,8 +44,8 @@ pub(crate) fn open_settled<N: Nvm>(alloc: Global, nvm: &mut N) -> Result<Banks, 
 /// Opens the banks.
 pub(crate) fn open<N: Nvm>(alloc: Global, nvm: &mut N) -> Result<Banks, Fault>
     ensures says { IfOk result (λ b. (image : List ℕ) → N.content nvm.old ≡ Some image → Says image b.store b.count) }
-    ensures cause { IfErr result (IsImageCause (memory (N.extent nvm.old) (N.content nvm.old) (N.settled nvm.old) (N.faults nvm.old))
-        (memory (N.extent nvm.new) (N.content nvm.new) (N.settled nvm.new) (N.faults nvm.new))) }
+    ensures cause { IfErr result (IsImageCause (memory N.extent N.content N.settled N.faults nvm.old)
+        (memory N.extent N.content N.settled N.faults nvm.new)) }
     ensures content { N.content nvm.new ≡ N.content nvm.old }
     ensures settled { (i : ℕ) → N.settled nvm.new i ≡ N.settled nvm.old i }
     ensures later { N.faults nvm.old ≤ N.faults nvm.new }
@@ -81,10 +81,10 @@ pub(crate) fn report_of_banks(
 
 /// The report of what the device holds.
 pub(crate) fn report<N: Nvm>(alloc: Global, nvm: &mut N, form: Form) -> Result<Vec<u8>, Fault>
-    ensures text { IfOk result (λ out. ReportIs form (memory (N.extent nvm.old) (N.content nvm.old) (N.settled nvm.old) (N.faults nvm.old))
-        (memory (N.extent nvm.new) (N.content nvm.new) (N.settled nvm.new) (N.faults nvm.new)) out.items) }
-    ensures cause { IfErr result (IsImageCause (memory (N.extent nvm.old) (N.content nvm.old) (N.settled nvm.old) (N.faults nvm.old))
-        (memory (N.extent nvm.new) (N.content nvm.new) (N.settled nvm.new) (N.faults nvm.new))) }
+    ensures text { IfOk result (λ out. ReportIs form (memory N.extent N.content N.settled N.faults nvm.old)
+        (memory N.extent N.content N.settled N.faults nvm.new) out.items) }
+    ensures cause { IfErr result (IsImageCause (memory N.extent N.content N.settled N.faults nvm.old)
+        (memory N.extent N.content N.settled N.faults nvm.new)) }
     ensures stays { (bytes image : List ℕ) → IsQuiet (N.content nvm.old) (N.settled nvm.old) bytes → MayLeave (N.content nvm.new) (N.settled nvm.new) image → image ≡ bytes }
 {
     let banks = open_settled(alloc, nvm)?;

@@ -38,12 +38,12 @@ pub(crate) fn replay_source<S: Source, N: Nvm>(
     form: Form,
 ) -> Result<Vec<u8>, Fault>
     ensures end { OnOk result (IsAtEnd (S.left source.new)) }
-    ensures text { IfOk result (λ out. RunIs form (input (S.left source.old) (S.faults source.old))
-        (memory (N.extent nvm.old) (N.content nvm.old) (N.settled nvm.old) (N.faults nvm.old))
-        (memory (N.extent nvm.new) (N.content nvm.new) (N.settled nvm.new) (N.faults nvm.new)) out.items) }
-    ensures cause { IfErr result (IsReplayCause (input (S.left source.old) (S.faults source.old)) (input (S.left source.new) (S.faults source.new))
-        (memory (N.extent nvm.old) (N.content nvm.old) (N.settled nvm.old) (N.faults nvm.old))
-        (memory (N.extent nvm.new) (N.content nvm.new) (N.settled nvm.new) (N.faults nvm.new))) }
+    ensures text { IfOk result (λ out. RunIs form (input S.left S.faults source.old)
+        (memory N.extent N.content N.settled N.faults nvm.old)
+        (memory N.extent N.content N.settled N.faults nvm.new) out.items) }
+    ensures cause { IfErr result (IsReplayCause (input S.left S.faults source.old) (input S.left S.faults source.new)
+        (memory N.extent N.content N.settled N.faults nvm.old)
+        (memory N.extent N.content N.settled N.faults nvm.new)) }
 {
     let cycles = trace_of(alloc, source)?;
     open_settled(alloc, nvm)?;
@@ -58,10 +58,10 @@ fn run<N: Nvm>(
     form: Form,
 ) -> Result<Vec<u8>, Fault>
     requires { All IsCycle cycles.now }
-    ensures text { IfOk result (λ out. Reports form cycles.now (memory (N.extent nvm.old) (N.content nvm.old) (N.settled nvm.old) (N.faults nvm.old))
-        (memory (N.extent nvm.new) (N.content nvm.new) (N.settled nvm.new) (N.faults nvm.new)) out.items) }
-    ensures cause { IfErr result (IsRunCause cycles.now (memory (N.extent nvm.old) (N.content nvm.old) (N.settled nvm.old) (N.faults nvm.old))
-        (memory (N.extent nvm.new) (N.content nvm.new) (N.settled nvm.new) (N.faults nvm.new))) }
+    ensures text { IfOk result (λ out. Reports form cycles.now (memory N.extent N.content N.settled N.faults nvm.old)
+        (memory N.extent N.content N.settled N.faults nvm.new) out.items) }
+    ensures cause { IfErr result (IsRunCause cycles.now (memory N.extent N.content N.settled N.faults nvm.old)
+        (memory N.extent N.content N.settled N.faults nvm.new)) }
     ensures told { StillTells (N.content nvm.old) (N.content nvm.new) }
 {
     let reports = match replay(alloc, nvm, cycles) {

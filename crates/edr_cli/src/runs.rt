@@ -50,8 +50,10 @@ pub fn command<S: Source, K: Sink, N: Nvm>(
     ensures write_fault { result ≡ Status.WriteFault → Rose (K.faults sink.old) (K.faults sink.new) }
 
     // Other words are a fault of usage, for which nothing is read and the device stays.
-    ensures usage { AreOther words.now → result ≢ Status.WriteFault → (result ≡ Status.Usage) × Told (Appends (fault_line fault.Usage)) (K.content sink.old) (K.content sink.new) }
-    ensures usage_part { AreOther words.now → result ≡ Status.WriteFault → Told (AppendsPart (fault_line fault.Usage)) (K.content sink.old) (K.content sink.new) }
+    ensures usage { AreOther words.now → result ≢ Status.WriteFault
+        → (result ≡ Status.Usage) × Told (Appends (fault_line fault.Usage)) (K.content sink.old) (K.content sink.new) }
+    ensures usage_part { AreOther words.now → result ≡ Status.WriteFault
+        → Told (AppendsPart (fault_line fault.Usage)) (K.content sink.old) (K.content sink.new) }
     ensures untouched { AreOther words.now → (source.new ≡ source.old) × (nvm.new ≡ nvm.old) }
 
     // `replay`. With Ok the source is at its end, and the sink gained exactly the report of a run of the cycles that the
@@ -59,13 +61,22 @@ pub fn command<S: Source, K: Sink, N: Nvm>(
     // stands with it: each record is from its own window and cycle, and no locked event is lost.
     ensures input { (form : Form) → AreReplay form words.now → result ≡ Status.Ok → IsAtEnd (S.left source.new) }
     ensures run { (form : Form) → AreReplay form words.now → result ≡ Status.Ok
-        → Tells (RunIs form (input (S.left source.old) (S.faults source.old)) (memory (N.extent nvm.old) (N.content nvm.old) (N.settled nvm.old) (N.faults nvm.old)) (memory (N.extent nvm.new) (N.content nvm.new) (N.settled nvm.new) (N.faults nvm.new))) (K.content sink.old) (K.content sink.new) }
+        → Tells
+        (RunIs form (input S.left S.faults source.old) (memory N.extent N.content N.settled N.faults nvm.old) (memory N.extent N.content N.settled N.faults nvm.new))
+        (K.content sink.old) (K.content sink.new) }
     // With another status the sink gained exactly the line of a fault that has its cause; and where a write failed, a part
     // of the report or of such a line.
     ensures other { (form : Form) → AreReplay form words.now → result ≢ Status.Ok → result ≢ Status.WriteFault
-        → TellsFault (IsReplayCause (input (S.left source.old) (S.faults source.old)) (input (S.left source.new) (S.faults source.new)) (memory (N.extent nvm.old) (N.content nvm.old) (N.settled nvm.old) (N.faults nvm.old)) (memory (N.extent nvm.new) (N.content nvm.new) (N.settled nvm.new) (N.faults nvm.new))) result (K.content sink.old) (K.content sink.new) }
+        → TellsFault
+        (IsReplayCause (input S.left S.faults source.old) (input S.left S.faults source.new)
+        (memory N.extent N.content N.settled N.faults nvm.old) (memory N.extent N.content N.settled N.faults nvm.new))
+        result (K.content sink.old) (K.content sink.new) }
     ensures part { (form : Form) → AreReplay form words.now → result ≡ Status.WriteFault
-        → TellsPart (RunIs form (input (S.left source.old) (S.faults source.old)) (memory (N.extent nvm.old) (N.content nvm.old) (N.settled nvm.old) (N.faults nvm.old)) (memory (N.extent nvm.new) (N.content nvm.new) (N.settled nvm.new) (N.faults nvm.new))) (IsReplayCause (input (S.left source.old) (S.faults source.old)) (input (S.left source.new) (S.faults source.new)) (memory (N.extent nvm.old) (N.content nvm.old) (N.settled nvm.old) (N.faults nvm.old)) (memory (N.extent nvm.new) (N.content nvm.new) (N.settled nvm.new) (N.faults nvm.new))) (K.content sink.old) (K.content sink.new) }
+        → TellsPart
+        (RunIs form (input S.left S.faults source.old) (memory N.extent N.content N.settled N.faults nvm.old) (memory N.extent N.content N.settled N.faults nvm.new))
+        (IsReplayCause (input S.left S.faults source.old) (input S.left S.faults source.new)
+        (memory N.extent N.content N.settled N.faults nvm.old) (memory N.extent N.content N.settled N.faults nvm.new))
+        (K.content sink.old) (K.content sink.new) }
     // Where nothing counts a fault, a trace is run over an image that isn't refused and has numbers left.
     ensures complete { (form : Form) (bytes image : List ℕ) (cycles : List CycleInput) (v : Store) (n : ℕ) → AreReplay form words.now
         → S.left source.old ≡ Some bytes → length bytes ≤ LARGEST_TRACE → Spell bytes cycles
@@ -75,11 +86,18 @@ pub fn command<S: Source, K: Sink, N: Nvm>(
 
     // `report`. The same of what the device holds: nothing is read, and its bytes stay.
     ensures report { (form : Form) → AreReport form words.now → result ≡ Status.Ok
-        → Tells (ReportIs form (memory (N.extent nvm.old) (N.content nvm.old) (N.settled nvm.old) (N.faults nvm.old)) (memory (N.extent nvm.new) (N.content nvm.new) (N.settled nvm.new) (N.faults nvm.new))) (K.content sink.old) (K.content sink.new) }
+        → Tells
+        (ReportIs form (memory N.extent N.content N.settled N.faults nvm.old) (memory N.extent N.content N.settled N.faults nvm.new))
+        (K.content sink.old) (K.content sink.new) }
     ensures report_other { (form : Form) → AreReport form words.now → result ≢ Status.Ok → result ≢ Status.WriteFault
-        → TellsFault (IsImageCause (memory (N.extent nvm.old) (N.content nvm.old) (N.settled nvm.old) (N.faults nvm.old)) (memory (N.extent nvm.new) (N.content nvm.new) (N.settled nvm.new) (N.faults nvm.new))) result (K.content sink.old) (K.content sink.new) }
+        → TellsFault
+        (IsImageCause (memory N.extent N.content N.settled N.faults nvm.old) (memory N.extent N.content N.settled N.faults nvm.new))
+        result (K.content sink.old) (K.content sink.new) }
     ensures report_part { (form : Form) → AreReport form words.now → result ≡ Status.WriteFault
-        → TellsPart (ReportIs form (memory (N.extent nvm.old) (N.content nvm.old) (N.settled nvm.old) (N.faults nvm.old)) (memory (N.extent nvm.new) (N.content nvm.new) (N.settled nvm.new) (N.faults nvm.new))) (IsImageCause (memory (N.extent nvm.old) (N.content nvm.old) (N.settled nvm.old) (N.faults nvm.old)) (memory (N.extent nvm.new) (N.content nvm.new) (N.settled nvm.new) (N.faults nvm.new))) (K.content sink.old) (K.content sink.new) }
+        → TellsPart
+        (ReportIs form (memory N.extent N.content N.settled N.faults nvm.old) (memory N.extent N.content N.settled N.faults nvm.new))
+        (IsImageCause (memory N.extent N.content N.settled N.faults nvm.old) (memory N.extent N.content N.settled N.faults nvm.new))
+        (K.content sink.old) (K.content sink.new) }
     ensures report_reads { (form : Form) → AreReport form words.now → source.new ≡ source.old }
     // Where nothing was pending, a crash at the end leaves the bytes as they were, whatever the status.
     ensures report_stays { (form : Form) (bytes image : List ℕ) → AreReport form words.now → IsQuiet (N.content nvm.old) (N.settled nvm.old) bytes
@@ -90,11 +108,18 @@ pub fn command<S: Source, K: Sink, N: Nvm>(
 
     // `format`. The same of its line: with Ok the device holds the new image, and a refusal leaves its bytes.
     ensures format { (h : Header) → AreFormat h words.now → result ≡ Status.Ok
-        → Tells (FormatIs h (memory (N.extent nvm.old) (N.content nvm.old) (N.settled nvm.old) (N.faults nvm.old)) (memory (N.extent nvm.new) (N.content nvm.new) (N.settled nvm.new) (N.faults nvm.new))) (K.content sink.old) (K.content sink.new) }
+        → Tells
+        (FormatIs h (memory N.extent N.content N.settled N.faults nvm.old) (memory N.extent N.content N.settled N.faults nvm.new))
+        (K.content sink.old) (K.content sink.new) }
     ensures format_other { (h : Header) → AreFormat h words.now → result ≢ Status.Ok → result ≢ Status.WriteFault
-        → TellsFault (IsFormatCause h (memory (N.extent nvm.old) (N.content nvm.old) (N.settled nvm.old) (N.faults nvm.old)) (memory (N.extent nvm.new) (N.content nvm.new) (N.settled nvm.new) (N.faults nvm.new))) result (K.content sink.old) (K.content sink.new) }
+        → TellsFault
+        (IsFormatCause h (memory N.extent N.content N.settled N.faults nvm.old) (memory N.extent N.content N.settled N.faults nvm.new))
+        result (K.content sink.old) (K.content sink.new) }
     ensures format_part { (h : Header) → AreFormat h words.now → result ≡ Status.WriteFault
-        → TellsPart (FormatIs h (memory (N.extent nvm.old) (N.content nvm.old) (N.settled nvm.old) (N.faults nvm.old)) (memory (N.extent nvm.new) (N.content nvm.new) (N.settled nvm.new) (N.faults nvm.new))) (IsFormatCause h (memory (N.extent nvm.old) (N.content nvm.old) (N.settled nvm.old) (N.faults nvm.old)) (memory (N.extent nvm.new) (N.content nvm.new) (N.settled nvm.new) (N.faults nvm.new))) (K.content sink.old) (K.content sink.new) }
+        → TellsPart
+        (FormatIs h (memory N.extent N.content N.settled N.faults nvm.old) (memory N.extent N.content N.settled N.faults nvm.new))
+        (IsFormatCause h (memory N.extent N.content N.settled N.faults nvm.old) (memory N.extent N.content N.settled N.faults nvm.new))
+        (K.content sink.old) (K.content sink.new) }
     ensures format_reads { (h : Header) → AreFormat h words.now → source.new ≡ source.old }
     // Where nothing was pending, a crash at the end leaves the image as it was, or without the magic, or the new one.
     ensures format_crash { (h : Header) (bytes image : List ℕ) → AreFormat h words.now → IsQuiet (N.content nvm.old) (N.settled nvm.old) bytes

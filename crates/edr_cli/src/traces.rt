@@ -15,7 +15,7 @@ pub(crate) fn trace_of<S: Source>(alloc: Global, source: &mut S) -> Result<Vec<C
     ensures end { OnOk result (IsAtEnd (S.left source.new)) }
     ensures spelled { IfOk result (λ cycles. IfSome (S.left source.old) (λ bytes. Spell bytes cycles.items)) }
     ensures cycles { IfOk result (λ cycles. All IsCycle cycles.items) }
-    ensures cause { IfErr result (IsTraceCause (input (S.left source.old) (S.faults source.old)) (input (S.left source.new) (S.faults source.new))) }
+    ensures cause { IfErr result (IsTraceCause (input S.left S.faults source.old) (input S.left S.faults source.new)) }
 {
     let bytes = match take_all(alloc, source, LARGEST_TRACE as usize) {
         Ok(bytes) => bytes,

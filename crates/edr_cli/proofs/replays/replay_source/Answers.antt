@@ -12,10 +12,10 @@ pub returns-clause-text : goal.returns-clause-text
 returns-clause-text g c =
     let S = g.S.Source in
     let D = g.N.Nvm in
-    let i = input (S.left c.args.source.now) (S.faults c.args.source.now) in
-    let old = memory (D.extent c.args.nvm.now) (D.content c.args.nvm.now) (D.settled c.args.nvm.now) (D.faults c.args.nvm.now) in
-    let mid = memory (D.extent c.open_settled.new.nvm) (D.content c.open_settled.new.nvm) (D.settled c.open_settled.new.nvm) (D.faults c.open_settled.new.nvm) in
-    let new = memory (D.extent c.run.new.nvm) (D.content c.run.new.nvm) (D.settled c.run.new.nvm) (D.faults c.run.new.nvm) in
+    let i = input S.left S.faults c.args.source.now in
+    let old = memory D.extent D.content D.settled D.faults c.args.nvm.now in
+    let mid = memory D.extent D.content D.settled D.faults c.open_settled.new.nvm in
+    let new = memory D.extent D.content D.settled D.faults c.run.new.nvm in
     let cs = c.in_ok-cycles.cycles.items in
     let b = c.in_ok-open_settled.field-0 in
     ok_map c.run.result (λ out. Reports c.args.form c.deref.result.now mid new out.items) (λ out. RunIs c.args.form i old new out.items)
@@ -26,11 +26,11 @@ pub returns-clause-cause : goal.returns-clause-cause
 returns-clause-cause g c =
     let S = g.S.Source in
     let D = g.N.Nvm in
-    let i = input (S.left c.args.source.now) (S.faults c.args.source.now) in
-    let i' = input (S.left c.trace_of.new.source) (S.faults c.trace_of.new.source) in
-    let old = memory (D.extent c.args.nvm.now) (D.content c.args.nvm.now) (D.settled c.args.nvm.now) (D.faults c.args.nvm.now) in
-    let mid = memory (D.extent c.open_settled.new.nvm) (D.content c.open_settled.new.nvm) (D.settled c.open_settled.new.nvm) (D.faults c.open_settled.new.nvm) in
-    let new = memory (D.extent c.run.new.nvm) (D.content c.run.new.nvm) (D.settled c.run.new.nvm) (D.faults c.run.new.nvm) in
+    let i = input S.left S.faults c.args.source.now in
+    let i' = input S.left S.faults c.trace_of.new.source in
+    let old = memory D.extent D.content D.settled D.faults c.args.nvm.now in
+    let mid = memory D.extent D.content D.settled D.faults c.open_settled.new.nvm in
+    let new = memory D.extent D.content D.settled D.faults c.run.new.nvm in
     let cs = c.in_ok-cycles.cycles.items in
     let b = c.in_ok-open_settled.field-0 in
     err_map c.run.result (λ f. IsRunCause c.deref.result.now mid new f) (λ f. IsReplayCause i i' old new f)

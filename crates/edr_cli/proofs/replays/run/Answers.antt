@@ -12,26 +12,26 @@ use Rattle.edr_cli.proofs.replays.run.Goals as goal
 pub returns-in-Err-clause-cause : goal.returns-in-Err-clause-cause
 returns-in-Err-clause-cause g c =
     let D = g.N.Nvm in
-    let old = memory (D.extent c.args.nvm.now) (D.content c.args.nvm.now) (D.settled c.args.nvm.now) (D.faults c.args.nvm.now) in
-    let new = memory (D.extent c.replay.new.nvm) (D.content c.replay.new.nvm) (D.settled c.replay.new.nvm) (D.faults c.replay.new.nvm) in
+    let old = memory D.extent D.content D.settled D.faults c.args.nvm.now in
+    let new = memory D.extent D.content D.settled D.faults c.replay.new.nvm in
     subst (λ (f : Fault). IsRunCause c.args.cycles.now old new f) (sym c.start_fault.ensures)
     (start_cause c.args.cycles.now old new c.in-Err.e c.in-Err.ensures.fault c.in-Err.ensures.refused c.in-Err.ensures.spent)
 
 pub returns-in_err-banks-clause-cause : goal.returns-in_err-banks-clause-cause
 returns-in_err-banks-clause-cause g c =
     let D = g.N.Nvm in
-    let old = memory (D.extent c.args.nvm.now) (D.content c.args.nvm.now) (D.settled c.args.nvm.now) (D.faults c.args.nvm.now) in
-    let mid = memory (D.extent c.replay.new.nvm) (D.content c.replay.new.nvm) (D.settled c.replay.new.nvm) (D.faults c.replay.new.nvm) in
-    let new = memory (D.extent c.open.new.nvm) (D.content c.open.new.nvm) (D.settled c.open.new.nvm) (D.faults c.open.new.nvm) in
+    let old = memory D.extent D.content D.settled D.faults c.args.nvm.now in
+    let mid = memory D.extent D.content D.settled D.faults c.replay.new.nvm in
+    let new = memory D.extent D.content D.settled D.faults c.open.new.nvm in
     let p = err_from_is_err_and c.from_residual.result c.from_residual.ensures.1 in
     rw (p.1, p.2) (behind_cause c.args.cycles.now old mid new c.in-Ok.reports.items c.in_err-banks.field-0.0 c.in-Ok.ensures.ran c.in-Ok.ensures.later c.in_err-banks.ensures.cause)
 
 pub returns-clause-text : goal.returns-clause-text
 returns-clause-text g c =
     let D = g.N.Nvm in
-    let old = memory (D.extent c.args.nvm.now) (D.content c.args.nvm.now) (D.settled c.args.nvm.now) (D.faults c.args.nvm.now) in
-    let mid = memory (D.extent c.replay.new.nvm) (D.content c.replay.new.nvm) (D.settled c.replay.new.nvm) (D.faults c.replay.new.nvm) in
-    let new = memory (D.extent c.open.new.nvm) (D.content c.open.new.nvm) (D.settled c.open.new.nvm) (D.faults c.open.new.nvm) in
+    let old = memory D.extent D.content D.settled D.faults c.args.nvm.now in
+    let mid = memory D.extent D.content D.settled D.faults c.replay.new.nvm in
+    let new = memory D.extent D.content D.settled D.faults c.open.new.nvm in
     let b = c.in_ok-banks.banks in
     ok_map c.report_of_banks.result (λ out. out.items ≡ report_in c.args.form (map report_of c.deref.result.now) b.store b.count) (λ out. Reports c.args.form c.args.cycles.now old new out.items)
     (λ out is. run_reports c.args.form c.args.cycles.now old mid new c.in-Ok.reports.items b.store b.count out.items c.in-Ok.ensures.ran c.in_ok-banks.ensures.says c.open.ensures.content c.open.ensures.settled

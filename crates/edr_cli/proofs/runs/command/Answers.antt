@@ -15,10 +15,10 @@ pub returns-in-Err-clause-complete : goal.returns-in-Err-clause-complete
 returns-in-Err-clause-complete g c = λ form bytes image cs v n asked left within spelled told says room calm quiet_sink quiet.
     let S = g.S.Source in
     let D = g.N.Nvm in
-    let i = input (S.left c.args.source.now) (S.faults c.args.source.now) in
-    let i' = input (S.left c.replay_source.new.source) (S.faults c.replay_source.new.source) in
-    let old = memory (D.extent c.args.nvm.now) (D.content c.args.nvm.now) (D.settled c.args.nvm.now) (D.faults c.args.nvm.now) in
-    let new = memory (D.extent c.replay_source.new.nvm) (D.content c.replay_source.new.nvm) (D.settled c.replay_source.new.nvm) (D.faults c.replay_source.new.nvm) in
+    let i = input S.left S.faults c.args.source.now in
+    let i' = input S.left S.faults c.replay_source.new.source in
+    let old = memory D.extent D.content D.settled D.faults c.args.nvm.now in
+    let new = memory D.extent D.content D.settled D.faults c.replay_source.new.nvm in
     let memory_only = only_memory i i' old new c.in-Err.fault bytes image cs v n left within spelled told says room calm quiet_sink c.in-Err.ensures.cause in
     inr (answered _ _ c.tell.result (status_of c.in-Err.fault) c.tell.ensures.answers c.tell.ensures.part quiet ∙ ap status_of memory_only)
 
@@ -26,8 +26,8 @@ pub returns-in-Ok-make_image-clause-format_part : goal.returns-in-Ok-make_image-
 returns-in-Ok-make_image-clause-format_part g c = λ h asked failed.
     let K = g.K.Sink in
     let D = g.N.Nvm in
-    let old = memory (D.extent c.args.nvm.now) (D.content c.args.nvm.now) (D.settled c.args.nvm.now) (D.faults c.args.nvm.now) in
-    let new = memory (D.extent c.make_image.new.nvm) (D.content c.make_image.new.nvm) (D.settled c.make_image.new.nvm) (D.faults c.make_image.new.nvm) in
+    let old = memory D.extent D.content D.settled D.faults c.args.nvm.now in
+    let new = memory D.extent D.content D.settled D.faults c.make_image.new.nvm in
     let is : AreFormat (record { banks = c.in-Some-Format.banks; choice = c.in-Some-Format.choice }) c.args.words.now = sym c.in-Some-Format.ensures.value ∙ ap (λ (j : Job). Some j) c.in-Some-Format.field-0-is in
     let same = same_header c.args.words.now _ h is asked in
     tells_part (λ text. FormatIs h old new text) (λ f. IsFormatCause h old new f) _ c.in-Ok-make_image.line c.as_bytes.result.now c.write-in-Ok-make_image.result (K.content c.args.sink.now) (K.content c.write-in-Ok-make_image.new.sink)
