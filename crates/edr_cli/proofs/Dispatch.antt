@@ -1,10 +1,9 @@
 -- Words ask for one thing.
 use Rattle.std.proofs.Common.{◌≡◌, ◌∙◌, sym, ℕ, List, Option, Some}
 use Rattle.edr_image.specs.declared.Header.{Header}
-use Rattle.edr_words.specs.declared.Form.{Form}
 use Rattle.edr_words.specs.declared.Job.{Job}
 use Rattle.edr_words.specs.declared.Job.TheVariants.{Format}
-use Rattle.edr_cli.specs.Words.{AreFormat, AreReplay, AreReport}
+use Rattle.edr_cli.specs.Words.{AreFormat}
 
 pub same_header : (words : List (List ℕ)) (h k : Header) → AreFormat h words → AreFormat k words → h ≡ k
 same_header words h k a b = go h k (sym a ∙ b) where
@@ -13,9 +12,3 @@ same_header words h k a b = go h k (sym a ∙ b) where
       let parts : (h.banks ≡ k.banks) × (h.choice ≡ k.choice) = (cc, cc) in
       let whole : ◌≡◌ {A = Header} (record { banks = h.banks; choice = h.choice }) (record { banks = k.banks; choice = k.choice }) = cc in
       whole
-
-pub same_replay : (words : List (List ℕ)) (a b : Form) → AreReplay a words → AreReplay b words → a ≡ b
-same_replay words a b x y = cc
-
-pub same_report : (words : List (List ℕ)) (a b : Form) → AreReport a words → AreReport b words → a ≡ b
-same_report words a b x y = cc

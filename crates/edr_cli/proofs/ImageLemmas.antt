@@ -1,19 +1,14 @@
 -- What is said of an image that is opened.
-use Rattle.std.proofs.Common.{◌≡◌, ◌≢◌, ◌∙◌, refl, sym, subst, ap, arith, ℕ, ◌≤◌, inl, List, [], length, slice_index, Option, Some, None, IfSome, Result, Ok, Err, IfOk, IfErr}
+use Rattle.std.proofs.Common.{◌≡◌, ◌≢◌, refl, subst, ap, ℕ, inl, List, [], length, slice_index, Option, Some, None, IfSome, Result, Ok, Err, IfOk, IfErr}
 use Rattle.edr_device.specs.Device.{IsQuiet}
-use Rattle.edr_device.specs.Faults.{Rose}
 use Rattle.edr_image.specs.declared.Header.{Header}
 use Rattle.edr_image.specs.declared.OpenFault.{OpenFault}
-use Rattle.edr_image.specs.declared.OpenFault.TheVariants as open_fault
 use Rattle.edr_image.specs.Banks.{Store}
 use Rattle.edr_image.specs.Image.{View, image_refusal, view_of}
 use Rattle.edr_banks.specs.Formatting.{IsPartlyFormatted}
-use Rattle.edr_banks.specs.Opening.{IsRefusal}
-use Rattle.edr_report.specs.declared.faults.Fault.{Fault}
-use Rattle.edr_report.specs.declared.faults.Fault.TheVariants as fault
 use Rattle.edr_words.specs.declared.Form.{Form}
 use Rattle.edr_cli.specs.Outside.{Memory}
-use Rattle.edr_cli.specs.Reports.{IsImageCause, IsReported, ReportIs, Says, fault_of, report_in}
+use Rattle.edr_cli.specs.Reports.{IsReported, ReportIs, Says, report_in}
 
 -- an image that says banks and a count is not refused
 pub says_refused : (image : List ℕ) (v : Store) (n : ℕ) (e : OpenFault) → Says image v n → image_refusal image ≢ Some e
@@ -40,49 +35,11 @@ if_each P (Some bytes) each = each bytes refl
 pub told_is : (P : List ℕ → Type 0) (content : Option (List ℕ)) (bytes : List ℕ) → content ≡ Some bytes → IfSome content P → P bytes
 told_is P content bytes same p = subst (λ (c : Option (List ℕ)). IfSome c P) same p
 
--- why an opening failed is the cause of its fault
-pub open_cause : (old new : Memory) (e : OpenFault) → (IsRefusal e → (bytes : List ℕ) → old.content ≡ Some bytes → image_refusal bytes ≡ Some e)
-    → (e ≡ open_fault.StoreFault → Rose old.faults new.faults) → new.content ≡ old.content → IsImageCause old new (fault_of e)
-open_cause old new (open_fault.Short size needed) refused fault same = (if_each (λ bytes. image_refusal bytes ≡ Some (open_fault.Short size needed)) old.content (refused tt), same)
-open_cause old new (open_fault.Header h) refused fault same = (if_each (λ bytes. image_refusal bytes ≡ Some (open_fault.Header h)) old.content (refused tt), same)
-open_cause old new open_fault.StoreFault refused fault same = fault refl
-open_cause old new open_fault.OutOfMemory refused fault same = tt
-
--- the cause stays one where the device was the same before
-pub cause_before : (old mid new : Memory) (f : Fault) → mid.content ≡ old.content → old.faults ≤ mid.faults → IsImageCause mid new f → IsImageCause old new f
-cause_before old mid new fault.Store same later cause = grind (arith, later, cause)
-cause_before old mid new (fault.Short size needed) same later cause = (subst (λ (c : Option (List ℕ)). IfSome c (λ image. image_refusal image ≡ Some (open_fault.Short size needed))) same cause.0, cause.1 ∙ same)
-cause_before old mid new (fault.Header h) same later cause = (subst (λ (c : Option (List ℕ)). IfSome c (λ image. image_refusal image ≡ Some (open_fault.Header h))) same cause.0, cause.1 ∙ same)
-cause_before old mid new fault.OutOfMemory same later cause = tt
-cause_before old mid new fault.Usage same later cause = cause
-cause_before old mid new (fault.Trace t) same later cause = cause
-cause_before old mid new fault.Read same later cause = cause
-cause_before old mid new fault.Formatted same later cause = cause
-cause_before old mid new fault.Spent same later cause = cause
-cause_before old mid new fault.TooLong same later cause = cause
-
 -- the report of banks that an image says
 pub reported : (form : Form) (old new : Memory) (v : Store) (n : ℕ) (text : List ℕ)
     → ((image : List ℕ) → old.content ≡ Some image → Says image v n × IsQuiet new.content new.settled image) → text ≡ report_in form [] v n → ReportIs form old new text
 reported form old new v n text says is = if_each (λ image. IsReported form image new text) old.content
     (λ image told. record { store = v; count = n; says = (says image told).0; stays = (says image told).1; text_is = is })
-
--- an image that isn't refused wants nothing but memory
-pub image_only_memory : (old new : Memory) (f : Fault) (image : List ℕ) → old.content ≡ Some image → image_refusal image ≡ None → ¬ Rose old.faults new.faults → IsImageCause old new f → f ≡ fault.OutOfMemory
-image_only_memory old new fault.Store image told accepted quiet cause = absurd (quiet cause)
-image_only_memory old new (fault.Short size needed) image told accepted quiet cause = absurd (refuse (sym accepted ∙ told_is (λ image. image_refusal image ≡ Some (open_fault.Short size needed)) old.content image told cause.0)) where
-  refuse : ◌≡◌ {A = Option OpenFault} None (Some (open_fault.Short size needed)) → ⊥
-  refuse e = cc
-image_only_memory old new (fault.Header h) image told accepted quiet cause = absurd (refuse (sym accepted ∙ told_is (λ image. image_refusal image ≡ Some (open_fault.Header h)) old.content image told cause.0)) where
-  refuse : ◌≡◌ {A = Option OpenFault} None (Some (open_fault.Header h)) → ⊥
-  refuse e = cc
-image_only_memory old new fault.OutOfMemory image told accepted quiet cause = refl
-image_only_memory old new fault.Usage image told accepted quiet cause = absurd cause
-image_only_memory old new (fault.Trace t) image told accepted quiet cause = absurd cause
-image_only_memory old new fault.Read image told accepted quiet cause = absurd cause
-image_only_memory old new fault.Formatted image told accepted quiet cause = absurd cause
-image_only_memory old new fault.Spent image told accepted quiet cause = absurd cause
-image_only_memory old new fault.TooLong image told accepted quiet cause = absurd cause
 
 -- the bytes as they were are no more than partly formatted
 pub still_there : (h : Header) (bytes image : List ℕ) → image ≡ bytes → IsPartlyFormatted h bytes image

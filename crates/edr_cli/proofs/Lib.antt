@@ -1,7 +1,6 @@
 pub mod Barrier
 pub mod EndingLemmas
 pub mod ImageLemmas
-pub mod TraceLemmas
 pub mod RunLaws
 pub mod ReplayLemmas
 pub mod Completeness

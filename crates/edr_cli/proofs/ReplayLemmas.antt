@@ -1,5 +1,5 @@
 -- What the parts of a replay say of the whole.
-use Rattle.std.proofs.Common.{◌≡◌, ◌∙◌, refl, sym, subst, ap, arith, ℕ, ◌≤◌, List, map, Option, Some, None, IfSome}
+use Rattle.std.proofs.Common.{◌≡◌, ◌∙◌, refl, sym, ap, arith, ℕ, ◌≤◌, List, map, Option, Some, None, IfSome}
 use Rattle.edr_device.specs.Device.{IsQuiet, StillTells}
 use Rattle.edr_device.specs.Faults.{Rose}
 use Rattle.edr_image.specs.declared.OpenFault.{OpenFault}
@@ -19,7 +19,7 @@ use Rattle.edr_words.specs.declared.Form.{Form}
 use Rattle.edr_replay.specs.Replayed.{Holds, HasRun, EndsSpent, IsFault, IsTrulyRefused}
 use Rattle.edr_cli.specs.Outside.{Input, Memory}
 use Rattle.edr_cli.specs.Reports.{IsImageCause, IsRefused, Says, report_in}
-use Rattle.edr_cli.specs.Runs.{GaveTrace, IsReplayCause, IsSpent, IsTraceCause, RunIs, TheRun}
+use Rattle.edr_cli.specs.Runs.{GaveTrace, IsReplayCause, IsSpent, RunIs, TheRun}
 use Rattle.edr_cli.specs.Steps.{HeldNone, IsRunCause, Reports, fault_of_start}
 use Rattle.edr_cli.proofs.ImageLemmas.{same_view, says_refused, told_is}
 use Rattle.edr_cli.proofs.RunLaws.{the_run}
@@ -81,9 +81,6 @@ behind_cause cs old mid new reports fault.Formatted run later cause = absurd cau
 behind_cause cs old mid new reports fault.Spent run later cause = absurd cause
 behind_cause cs old mid new reports fault.TooLong run later cause = cause
 
-pub memory_cause : (cs : List CycleInput) (old new : Memory) (f : Fault) → f ≡ fault.OutOfMemory → IsRunCause cs old new f
-memory_cause cs old new f is = subst (λ (x : Fault). IsRunCause cs old new x) (sym is) tt
-
 -- ---- the whole
 
 -- what the barrier and the look at the image say of the device
@@ -110,32 +107,6 @@ gave i cs spelled = go i.left spelled where
   go : (left : Option (List ℕ)) → IfSome left (λ bytes. Spell bytes cs) → IfSome left (λ bytes. (cycles : List CycleInput) × Spell bytes cycles)
   go None spelled = tt
   go (Some bytes) spelled = (cs, spelled)
-
--- the source gave no trace
-pub trace_replay : (i i' : Input) (old : Memory) (f : Fault) → IsTraceCause i i' f → IsReplayCause i i' old old f
-trace_replay i i' old (fault.Trace t) cause = (cause, refl)
-trace_replay i i' old fault.Read cause = (cause, refl)
-trace_replay i i' old fault.TooLong cause = (cause, refl)
-trace_replay i i' old fault.OutOfMemory cause = tt
-trace_replay i i' old fault.Usage cause = cause
-trace_replay i i' old fault.Store cause = absurd cause
-trace_replay i i' old (fault.Short size needed) cause = absurd cause
-trace_replay i i' old (fault.Header h) cause = absurd cause
-trace_replay i i' old fault.Formatted cause = cause
-trace_replay i i' old fault.Spent cause = absurd cause
-
--- the image was refused, or the device failed in the barrier
-pub image_replay : (i i' : Input) (old new : Memory) (cs : List CycleInput) (f : Fault) → IfSome i.left (λ bytes. Spell bytes cs) → IsImageCause old new f → IsReplayCause i i' old new f
-image_replay i i' old new cs fault.Store spelled cause = cause
-image_replay i i' old new cs (fault.Short size needed) spelled cause = (gave i cs spelled, cause)
-image_replay i i' old new cs (fault.Header h) spelled cause = (gave i cs spelled, cause)
-image_replay i i' old new cs fault.OutOfMemory spelled cause = tt
-image_replay i i' old new cs fault.Usage spelled cause = cause
-image_replay i i' old new cs (fault.Trace t) spelled cause = absurd cause
-image_replay i i' old new cs fault.Read spelled cause = absurd cause
-image_replay i i' old new cs fault.Formatted spelled cause = cause
-image_replay i i' old new cs fault.Spent spelled cause = absurd cause
-image_replay i i' old new cs fault.TooLong spelled cause = absurd cause
 
 -- behind a look that passed no image is refused, so the device tells none
 none_refused : (old mid new : Memory) (v : Store) (n : ℕ) (e : OpenFault) → Settled old mid v n → StillTells old.content new.content → HeldNone mid → IsRefused e old new

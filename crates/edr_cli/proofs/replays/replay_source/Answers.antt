@@ -5,7 +5,7 @@ use Rattle.edr_cli.specs.Runs.{IsReplayCause, RunIs}
 use Rattle.edr_cli.specs.Steps.{IsRunCause, Reports}
 use Rattle.edr_cli.proofs.ImageLemmas.{ok_map, err_map}
 use Rattle.edr_cli.proofs.ReplayLemmas.{replayed, run_replay}
-use Rattle.edr_cli.proofs.Barrier.{tells_again}
+use Rattle.edr_device.proofs.Settling.{tells_again}
 use Rattle.edr_cli.proofs.replays.replay_source.Goals as goal
 
 pub returns-clause-text : goal.returns-clause-text
