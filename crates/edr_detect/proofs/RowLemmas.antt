@@ -185,6 +185,21 @@ module _ (rows : List Row) (r : Row) (d e : DetectState) (u : ℕ) (a : Tests) (
         told ∙ same ∙ sym answer ∙ ap (tick_change n) now,
       )
 
+-- nothing stands
+abbrev pub nothing : Answer
+nothing = record { zero = false; confirmed = false; locked = false; ended = false; dropped = false; closed = false }
+
+-- one tick past which the search goes on as before
+pub tick-still : (rows : List Row) (r : Row) (d : DetectState) (u : ℕ) (a : Tests) (pushed : Windows) →
+    DetectStandsFor d rows → u ≡ d.tick + 1 →
+    ((m : Signals) (b : Bounds) (before : ℕ) → u ≡ before + 1 → b.after ≤ before → b.since ≤ before → BeginsAtRest m → change_at m.along u ≡ r.along → change_at m.across u ≡ r.across → WindowsStandFor m b before d.windows → WindowsStandFor m b u pushed) →
+    ((m : Signals) (b : Bounds) → WindowsStandFor m b u pushed → b.after < u → m.fired u ≡ r.fired.0 → TestsAre m b d.stage u a) →
+    phase_of d.stage ≡ Searching → a.zero ≡ false →
+    DetectStandsFor (record { tick = u; stage = d.stage; windows = pushed }) (rows ++ r ∷ []) × (told_of nothing ≡ tick_change (signals_of_rows (rows ++ r ∷ [])) (length rows + 1))
+tick-still rows r d u a pushed h u_is push tests searching none =
+    tick-stands rows r d (record { tick = u; stage = d.stage; windows = pushed }) u a nothing pushed h u_is refl push tests
+    (λ b. rw (searching, none) refl) (rw (searching, none) refl) (λ m b k w. w)
+
 -- before the first tick
 pub start-stands : (d : DetectState) → d.tick ≡ 0 → phase_of d.stage ≡ Searching → ((m : Signals) → BeginsAtRest m → WindowsStandFor m at_start 0 d.windows) → DetectStandsFor d []
 start-stands d none searching windows = record {

@@ -1,6 +1,6 @@
 //! The search for events tick by tick, which looks forward only.
 
-use crate::stage::{Change, Stage};
+use crate::stage::{Change, NOTHING, Stage};
 use crate::windows::Windows;
 use edr_items::Restraints;
 use std::marker::Model;
@@ -62,6 +62,10 @@ impl Detect {
         self.tick += 1;
         self.windows.push(self.tick, along, across);
         let tests = self.windows.tests(self.stage, self.tick, fired);
+        // Most ticks are such that the search goes on as it was.
+        if self.stage.is_searching() && !tests.zero {
+            return NOTHING;
+        }
         let change = self.stage.change_at(self.tick, tests);
         self.stage = self.stage.next(self.tick, tests);
         self.windows.restart(change);

@@ -1,10 +1,10 @@
 //! The stages of the streaming search, and what stands at a tick.
 
-ghost use Rattle.std.specs.Prelude.{◌≡◌};
+ghost use Rattle.std.specs.Prelude.{◌≡◌, IsTrue};
 ghost use Rattle.std.specs.Option.{option_or};
 ghost use Rattle.edr_definitions.specs.Selection.{Bounds, close_of};
 ghost use Rattle.edr_definitions.specs.Change.{stepped_change};
-ghost use Rattle.edr_definitions.specs.Search.{past_end, tick_if};
+ghost use Rattle.edr_definitions.specs.Search.{Searching, past_end, tick_if};
 ghost use Rattle.edr_detect.specs.Stages.{phase_of, told_of, stepped};
 
 /// What stands at a tick. Several things may stand at one.
@@ -23,6 +23,16 @@ pub struct Change {
     /// The close of an event.
     pub closed: bool,
 }
+
+// Nothing stands.
+pub const NOTHING: Change = Change {
+    zero: false,
+    confirmed: false,
+    locked: false,
+    ended: false,
+    dropped: false,
+    closed: false,
+};
 
 // Whether a candidate is open, and how far it has come: the ticks of its time zero, confirmation, first
 // locking deployment and end.
@@ -80,6 +90,13 @@ fn past(t: u32, zero: u32, confirmed: Option<u32>, locked: Option<u32>, end: u32
 }
 
 impl Stage {
+    // No candidate is open.
+    pub fn is_searching(self) -> bool
+        ensures { IsTrue result → phase_of self ≡ Searching }
+    {
+        matches!(self, Stage::Searching)
+    }
+
     // The stage past the tick t.
     pub fn next(self, t: u32, tests: Tests) -> Stage
         ensures { (b : Bounds) → phase_of result ≡ (stepped t tests b (phase_of self)).phase }
