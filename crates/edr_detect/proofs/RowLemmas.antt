@@ -1,5 +1,5 @@
 -- One more row, and one more tick of the search.
-use Rattle.std.proofs.Common.{arith, refl, ap, sym, subst, ◌≡◌, ◌∙◌, ℕ, zero, suc, ◌+◌, ◌<◌, ◌≤◌, Bool, true, false, nat_eq, ℤ, pos, unwrap_or, Some, None, Option, List, [], ◌∷◌, ◌++◌, length, slice_get, add-one, length-append}
+use Rattle.std.proofs.Common.{arith, refl, ap, sym, subst, ◌≡◌, ◌∙◌, ℕ, zero, suc, ◌+◌, ◌<◌, ◌≤◌, Bool, true, false, nat_eq, nat_lt, ℤ, pos, unwrap_or, Some, None, Option, List, [], ◌∷◌, ◌++◌, length, slice_get, add-one, length-append}
 use Rattle.std.specs.Prelude.{option_map, IsSome, is_some, is_none, ◌&&◌, if◌then◌else◌}
 use Rattle.std.proofs.lemmas.Bool.Decides.{nat_tests}
 use Rattle.std.specs.Option.{option_map_or, option_or}
@@ -26,6 +26,7 @@ use Rattle.edr_detect.specs.Stages.{told_of, phase_of, stepped}
 use Rattle.edr_detect.specs.Standing.{WindowsStandFor, BeginsAtRest, TestsAre, bounds_past}
 use Rattle.edr_detect.specs.Rows.{Row, row_at, signals_of_rows}
 use Rattle.edr_detect.specs.Detected.{DetectState, DetectStandsFor}
+use Rattle.edr_detect.proofs.WindowLemmas.{AreStill, AreStill-next}
 
 -- ---- rows
 slice_get-before : (rows : List Row) (r : Row) (k : ℕ) → k < length rows → slice_get rows k ≡ slice_get (rows ++ r ∷ []) k
@@ -128,11 +129,29 @@ since_past t true dropped b h = omega arith
 since_past t false true b h = h
 since_past t false false b h = h
 
+-- ---- a tick at which nothing moves
+-- no test is met
+abbrev no_tests : Tests
+no_tests = record { zero = false; trigger = false; locks = false; ends = false }
+
+and_false : (v : Bool) → (v && false) ≡ false
+and_false true = refl
+and_false false = refl
+
+tests-still : (m : Signals) (b : Bounds) (s : Stage) (t : ℕ) → phase_of s ≡ Searching → m.fired t ≡ 0 → AreStill m b t → TestsAre m b s t no_tests
+unfolding is_triggered is_time_zero
+tests-still m b s t searching fired h = record {
+  zero = rw (fired, h.zero_along, h.zero_across, h.trigger_along, h.trigger_across) (sym (and_false (nat_lt b.after t)));
+  trigger = rw (fired, h.trigger_along, h.trigger_across) refl;
+  locks = rw fired refl;
+  ends = λ z c l is. let e = ap phase_of is in cc;
+}
+
 -- ---- one tick of the detector
 module _ (rows : List Row) (r : Row) (d e : DetectState) (u : ℕ) (a : Tests) (ans : Answer) (pushed : Windows)
     (h : DetectStandsFor d rows) (u_is : u ≡ d.tick + 1) (tick_is : e.tick ≡ u)
     (push : (m : Signals) (b : Bounds) (before : ℕ) → u ≡ before + 1 → b.after ≤ before → b.since ≤ before → BeginsAtRest m → change_at m.along u ≡ r.along → change_at m.across u ≡ r.across → WindowsStandFor m b before d.windows → WindowsStandFor m b u pushed)
-    (tests : (m : Signals) (b : Bounds) → WindowsStandFor m b u pushed → b.after < u → m.fired u ≡ r.fired.0 → TestsAre m b d.stage u a)
+    (tests : (m : Signals) (b : Bounds) (before : ℕ) → u ≡ before + 1 → b.after ≤ before → b.since ≤ before → change_at m.along u ≡ r.along → change_at m.across u ≡ r.across → m.fired u ≡ r.fired.0 → WindowsStandFor m b before d.windows → WindowsStandFor m b u pushed → TestsAre m b d.stage u a)
     (next : (b : Bounds) → phase_of e.stage ≡ (stepped u a b (phase_of d.stage)).phase)
     (told : told_of ans ≡ stepped_change u a.zero a.trigger a.locks a.ends (phase_of d.stage))
     (restart : (m : Signals) (b : Bounds) (k : ℕ) → WindowsStandFor m b k pushed → WindowsStandFor m (bounds_past k ans b) k e.windows) where
@@ -150,10 +169,11 @@ module _ (rows : List Row) (r : Row) (d e : DetectState) (u : ℕ) (a : Tests) (
       let row : row_at all u ≡ Some r = ap (row_at all) now ∙ row_at-last rows r in
       let past : b.after ≤ t = h.search_is.past in
       let old : WindowsStandFor n b t d.windows = windows-agree (signals_of_rows rows) n b t d.windows agree h.windows_are in
-      let here : WindowsStandFor n b u pushed = push n b t now past h.since_past (rows-begin all)
-      (ap (λ (o : Option Row). unwrap_or (option_map (λ (x : Row). x.along) o) (pos 0)) row)
-      (ap (λ (o : Option Row). unwrap_or (option_map (λ (x : Row). x.across) o) (pos 0)) row) old in
-      let are : TestsAre n b d.stage u a = tests n b here (omega arith) (ap (λ (o : Option Row). option_map_or (λ (x : Row). x.fired.0) o 0) row) in
+      let along = ap (λ (o : Option Row). unwrap_or (option_map (λ (x : Row). x.along) o) (pos 0)) row in
+      let across = ap (λ (o : Option Row). unwrap_or (option_map (λ (x : Row). x.across) o) (pos 0)) row in
+      let fired = ap (λ (o : Option Row). option_map_or (λ (x : Row). x.fired.0) o 0) row in
+      let here : WindowsStandFor n b u pushed = push n b t now past h.since_past (rows-begin all) along across old in
+      let are : TestsAre n b d.stage u a = tests n b t now past h.since_past along across fired old here in
       let before : StandsFor n t s = StandsFor-agree t (signals_of_rows rows) n s agree h.search_is in
       let after : StandsFor n u (next_search n u s) = subst (λ (k : ℕ). StandsFor n k (next_search n k s)) (sym now) (StandsFor-next n t s before) in
       let one : stepped u a b p ≡ next_search n u s = stepped-is n b d.stage u a are in
@@ -189,16 +209,22 @@ module _ (rows : List Row) (r : Row) (d e : DetectState) (u : ℕ) (a : Tests) (
 abbrev pub nothing : Answer
 nothing = record { zero = false; confirmed = false; locked = false; ended = false; dropped = false; closed = false }
 
--- one tick past which the search goes on as before
-pub tick-still : (rows : List Row) (r : Row) (d : DetectState) (u : ℕ) (a : Tests) (pushed : Windows) →
-    DetectStandsFor d rows → u ≡ d.tick + 1 →
-    ((m : Signals) (b : Bounds) (before : ℕ) → u ≡ before + 1 → b.after ≤ before → b.since ≤ before → BeginsAtRest m → change_at m.along u ≡ r.along → change_at m.across u ≡ r.across → WindowsStandFor m b before d.windows → WindowsStandFor m b u pushed) →
-    ((m : Signals) (b : Bounds) → WindowsStandFor m b u pushed → b.after < u → m.fired u ≡ r.fired.0 → TestsAre m b d.stage u a) →
-    phase_of d.stage ≡ Searching → a.zero ≡ false →
-    DetectStandsFor (record { tick = u; stage = d.stage; windows = pushed }) (rows ++ r ∷ []) × (told_of nothing ≡ tick_change (signals_of_rows (rows ++ r ∷ [])) (length rows + 1))
-tick-still rows r d u a pushed h u_is push tests searching none =
-    tick-stands rows r d (record { tick = u; stage = d.stage; windows = pushed }) u a nothing pushed h u_is refl push tests
-    (λ b. rw (searching, none) refl) (rw (searching, none) refl) (λ m b k w. w)
+module _ (rows : List Row) (r : Row) (d : DetectState) (u : ℕ) (pushed : Windows)
+    (h : DetectStandsFor d rows) (u_is : u ≡ d.tick + 1) (searching : phase_of d.stage ≡ Searching)
+    (push : (m : Signals) (b : Bounds) (before : ℕ) → u ≡ before + 1 → b.after ≤ before → b.since ≤ before → BeginsAtRest m → change_at m.along u ≡ r.along → change_at m.across u ≡ r.across → WindowsStandFor m b before d.windows → WindowsStandFor m b u pushed) where
+  -- a tick past which the search goes on as before
+  pub tick-still : (a : Tests) → a.zero ≡ false →
+      ((m : Signals) (b : Bounds) (before : ℕ) → u ≡ before + 1 → b.after ≤ before → b.since ≤ before → change_at m.along u ≡ r.along → change_at m.across u ≡ r.across → m.fired u ≡ r.fired.0 → WindowsStandFor m b before d.windows → WindowsStandFor m b u pushed → TestsAre m b d.stage u a) →
+      DetectStandsFor (record { tick = u; stage = d.stage; windows = pushed }) (rows ++ r ∷ []) × (told_of nothing ≡ tick_change (signals_of_rows (rows ++ r ∷ [])) (length rows + 1))
+  tick-still a none tests =
+      tick-stands rows r d (record { tick = u; stage = d.stage; windows = pushed }) u a nothing pushed h u_is refl push tests
+      (λ b. rw (searching, none) refl) (rw (searching, none) refl) (λ m b k w. w)
+
+  -- a tick at which nothing moves and nothing fires
+  pub tick-quiet : r.along ≡ pos 0 → r.across ≡ pos 0 → r.fired.0 ≡ 0 → ((m : Signals) (b : Bounds) (t : ℕ) → WindowsStandFor m b t d.windows → AreStill m b t) →
+      DetectStandsFor (record { tick = u; stage = d.stage; windows = pushed }) (rows ++ r ∷ []) × (told_of nothing ≡ tick_change (signals_of_rows (rows ++ r ∷ [])) (length rows + 1))
+  tick-quiet along across fired still = tick-still no_tests refl
+      (λ m b before next after since here side fires old w. tests-still m b d.stage u searching (fires ∙ fired) (AreStill-next m b before u next after since (here ∙ along) (side ∙ across) (still m b before old)))
 
 -- before the first tick
 pub start-stands : (d : DetectState) → d.tick ≡ 0 → phase_of d.stage ≡ Searching → ((m : Signals) → BeginsAtRest m → WindowsStandFor m at_start 0 d.windows) → DetectStandsFor d []

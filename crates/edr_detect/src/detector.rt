@@ -59,10 +59,34 @@ impl Detect {
         ensures answer { (rows : List Row) → DetectStandsFor self.old rows → told_of result ≡ tick_change (signals_of_rows (rows ++ record { along = along; across = across; fired = fired } ∷ [])) (length rows + 1) }
         ensures tick { self.new.tick ≡ self.old.tick + 1 }
     {
+        // At most ticks of a drive nothing moves, nothing fires and no candidate is open.
+        if along == 0
+            && across == 0
+            && fired.0 == 0
+            && self.stage.is_searching()
+            && self.windows.are_at_rest()
+        {
+            self.tick += 1;
+            self.windows.push(self.tick, along, across);
+            return NOTHING;
+        }
+        self.full_tick(along, across, fired)
+    }
+
+    // The same, whatever moves. It stands apart, so that a quiet tick doesn't save the registers that it takes.
+    #[inline(never)]
+    fn full_tick(&mut self, along: i32, across: i32, fired: Restraints) -> Change
+        requires along_small { unsigned_abs along ≤ 100_000 }
+        requires across_small { unsigned_abs across ≤ 100_000 }
+        requires room { self.old.tick < 86_400_000 }
+        ensures stands { (rows : List Row) → DetectStandsFor self.old rows → DetectStandsFor self.new (rows ++ record { along = along; across = across; fired = fired } ∷ []) }
+        ensures answer { (rows : List Row) → DetectStandsFor self.old rows → told_of result ≡ tick_change (signals_of_rows (rows ++ record { along = along; across = across; fired = fired } ∷ [])) (length rows + 1) }
+        ensures tick { self.new.tick ≡ self.old.tick + 1 }
+    {
         self.tick += 1;
         self.windows.push(self.tick, along, across);
         let tests = self.windows.tests(self.stage, self.tick, fired);
-        // Most ticks are such that the search goes on as it was.
+        // The search goes on as it was.
         if self.stage.is_searching() && !tests.zero {
             return NOTHING;
         }

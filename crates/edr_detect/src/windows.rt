@@ -1,6 +1,6 @@
 //! What the streaming search keeps of the samples.
 
-ghost use Rattle.std.specs.Prelude.{◌≡◌, ℕ, ◌+◌, ◌<◌, ◌≤◌, ℤ, pos, Option, unsigned_abs};
+ghost use Rattle.std.specs.Prelude.{◌≡◌, ℕ, ◌+◌, ◌<◌, ◌≤◌, ℤ, pos, Option, IsTrue, unsigned_abs};
 ghost use Rattle.edr_definitions.specs.Windows.{swing, change_at};
 ghost use Rattle.edr_window.specs.Changes.{changes};
 ghost use Rattle.edr_window.specs.Swing.{SwingStandsFor};
@@ -40,6 +40,13 @@ fn largest<const K: usize>(sums: &Swing<K>) -> i64
     }
 }
 
+// No sum differs from 0.
+fn is_at_rest<const K: usize>(sums: &Swing<K>) -> bool
+    ensures { IsTrue result → (axis : ℕ → Option ℤ) (from t : ℕ) → SwingStandsFor K sums.now (changes axis from t) → swing axis K from t ≡ 0 }
+{
+    sums.least() == Some(0) && sums.greatest() == Some(0)
+}
+
 impl Windows {
     ghost use Rattle.edr_definitions.specs.Signals.{Signals};
     ghost use Rattle.edr_definitions.specs.Selection.{Bounds, is_triggered, is_time_zero, is_end, at_start};
@@ -60,6 +67,7 @@ impl Windows {
     }
 
     // The changes of the tick t.
+    #[inline(always)]
     pub fn push(&mut self, t: u32, along: i32, across: i32)
         requires along_small { unsigned_abs along ≤ 100_000 }
         requires across_small { unsigned_abs across ≤ 100_000 }
@@ -73,6 +81,19 @@ impl Windows {
         self.trigger_across.push(i64::from(across));
         self.latest_along.push(t, along);
         self.latest_across.push(t, across);
+    }
+
+    // No sum of any swing differs from 0.
+    pub fn are_at_rest(&self) -> bool
+        ensures zero_along { IsTrue result → (m : Signals) (b : Bounds) (t : ℕ) → WindowsStandFor m b t self.now → swing m.along 20 b.after t ≡ 0 }
+        ensures zero_across { IsTrue result → (m : Signals) (b : Bounds) (t : ℕ) → WindowsStandFor m b t self.now → swing m.across 5 b.after t ≡ 0 }
+        ensures trigger_along { IsTrue result → (m : Signals) (b : Bounds) (t : ℕ) → WindowsStandFor m b t self.now → swing m.along 150 b.since t ≡ 0 }
+        ensures trigger_across { IsTrue result → (m : Signals) (b : Bounds) (t : ℕ) → WindowsStandFor m b t self.now → swing m.across 150 b.since t ≡ 0 }
+    {
+        is_at_rest(&self.zero_along)
+            && is_at_rest(&self.zero_across)
+            && is_at_rest(&self.trigger_along)
+            && is_at_rest(&self.trigger_across)
     }
 
     // A restraint fires, or a change meets the trigger threshold.
