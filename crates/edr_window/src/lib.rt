@@ -79,6 +79,7 @@ impl<const K: usize> Swing<K> {
     }
 
     /// One more value.
+    #[inline(always)]
     pub fn push(&mut self, v: i64)
         requires small { unsigned_abs v ≤ 100_000 }
         requires room { self.old.pushes < 86_400_000 }
