@@ -1,5 +1,5 @@
 -- A step that closes a tick.
-use Rattle.std.proofs.Common.{arith, refl, ap, sym, subst, ◌≡◌, ◌∙◌, ℕ, ◌+◌, ◌<◌, ◌≤◌, ℤ, pos, unwrap_or, unsigned_abs, Some, None, Option, List, [], ◌∷◌, ◌++◌, length, map}
+use Rattle.std.proofs.Common.{arith, refl, ap, sym, subst, ◌≡◌, ◌∙◌, ℕ, ◌+◌, ◌<◌, ◌≤◌, ℤ, pos, unwrap_or, unsigned_abs, Bool, true, false, Some, None, Option, List, [], ◌∷◌, ◌++◌, length, map}
 use Rattle.std.specs.Prelude.{IfSome}
 use Rattle.std.specs.Option.{option_map_or}
 use Rattle.edr_items.specs.declared.Sensor.{Sensor}
@@ -32,6 +32,7 @@ use Rattle.edr_core.specs.declared.candidate.Issued.{Issued}
 use Rattle.edr_core.specs.declared.candidate.Row.{Row as Given}
 use Rattle.edr_core.specs.Captures.{kept_lists, KeepPrePart}
 use Rattle.edr_core.specs.Candidate.{IsRowInRange, IsShort, CanBeTold, grown_or_begun, no_issues, candidate_after, link_after, issued_after, issues_in}
+use Rattle.edr_core.specs.Answers.{put}
 use Rattle.edr_core.specs.Rows.{row_of, rows_of}
 use Rattle.edr_core.specs.Contents.{CoreContents}
 use Rattle.edr_core.specs.Fields.{contents_of}
@@ -68,6 +69,16 @@ small_is o o' e small = subst (λ (x : Option ℤ). unsigned_abs (unwrap_or x (p
 if_some : {X : Type 0} (P : X → Type 0) (o : Option X) → ((x : X) → o ≡ Some x → P x) → IfSome o P
 if_some P None h = tt
 if_some P (Some x) h = h x refl
+
+-- where nothing counts of what was put aside, it is nothing
+pub put-all : (some : Bool) (i : Issued) → (some ≡ false → i ≡ no_issues) → put some i ≡ i
+put-all true i h = refl
+put-all false i h = sym (h refl)
+
+-- where no candidate is open past a tick, it issued nothing
+pub quiet : (t : ℕ) (change : Change) (link : Option (Place × ℕ)) (g : Option Candidate) → g ≡ None → (g ≡ candidate_after t change link g) × (link ≡ link_after t change link g) × (no_issues ≡ issued_after t change link g)
+quiet t change link None none = (refl, refl, refl)
+quiet t change link (Some o) none = cc
 
 module _ (a : Inside) (n : ℕ) (p : Progress) (h : CoreIsFor (contents_of a) n p) (t : ℕ) (first second : Option ℤ) (fired : Restraints) (given : Row t first second fired ≡ next_of p) (within : p.closed < horizon_of p.given) where
   abbrev r : Given

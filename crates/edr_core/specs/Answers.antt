@@ -1,11 +1,16 @@
 -- What a step of a core answers.
-use Rattle.std.specs.Prelude.{◌≡◌, ℕ, ◌+◌, Option, Some, None, ◌++◌, map}
+use Rattle.std.specs.Prelude.{◌≡◌, ℕ, ◌+◌, Bool, true, false, Option, Some, None, List, ◌++◌, map}
 use Rattle.edr_items.specs.declared.Sensor.{Sensor}
+use Rattle.edr_record.specs.declared.Command.{Command}
 use Rattle.edr_definitions.specs.Commands.{issue_at, issues, commands}
 use Rattle.edr_definitions.specs.Schedule.{Progress, Close, after_step}
 use Rattle.edr_definitions.specs.Core.{commands_of}
 use Rattle.edr_core.specs.declared.Step.{Step}
 use Rattle.edr_core.specs.declared.Step.TheVariants.{Waiting, Closed}
+use Rattle.edr_core.specs.declared.Closing.{Closing}
+use Rattle.edr_core.specs.declared.Closing.TheVariants as closing
+use Rattle.edr_core.specs.declared.candidate.Issued.{Issued}
+use Rattle.edr_core.specs.Candidate.{no_issues}
 
 -- the answer is a closed tick
 abbrev pub IsClosed : Step → Type 0
@@ -33,3 +38,22 @@ abbrev pub HasTheIssues : ℕ → Progress → Step → Type 0
 HasTheIssues n p (Waiting s) = Unit {0}
 HasTheIssues n p (Closed t take lock crash) =
     issues p.given n t ≡ issues p.given n p.closed ++ map (issue_at t) (commands_of (record { take = take; lock = lock; done = crash }))
+
+-- what a closed tick issues of what was put aside
+abbrev pub put : Bool → Issued → Issued
+put false i = no_issues
+put true i = i
+
+-- the commands of a closed tick, by what was put aside
+abbrev pub commands_put : Bool → Issued → List Command
+commands_put some i = commands_of (record { take = (put some i).take; lock = (put some i).lock; done = (put some i).done })
+
+-- an answer with what was put aside, as a step
+abbrev pub step_of : Closing → Issued → Step
+step_of (closing.Waiting s) i = Waiting s
+step_of (closing.Closed t some) i = Closed t (put some i).take (put some i).lock (put some i).done
+
+-- nothing is put aside
+abbrev pub IsQuiet : Closing → Type 0
+IsQuiet (closing.Waiting s) = Unit {0}
+IsQuiet (closing.Closed t some) = some ≡ false

@@ -1,6 +1,6 @@
 //! The open candidate: what is kept of it from tick to tick, and what a tick issues of it.
 
-ghost use Rattle.std.specs.Prelude.{◌≡◌, true, IfSome};
+ghost use Rattle.std.specs.Prelude.{◌≡◌, true, Some, IfSome};
 ghost use Rattle.edr_items.specs.SensorLists.{SensorLists};
 ghost use Rattle.edr_record.specs.declared.Place.TheVariants.{First};
 ghost use Rattle.edr_definitions.specs.Parts.{pre_part};
@@ -33,11 +33,30 @@ pub struct Candidate {
     pub end: u32,
 }
 
-// What a tick issues.
+/// What a tick issues.
+#[derive(Clone, Copy, Debug, PartialEq, Eq)]
 pub struct Issued {
+    /// The pre part of an event that is confirmed there.
     pub take: Option<Pre>,
+    /// That of an event whose first locking deployment it is.
     pub lock: Option<Pre>,
+    /// The crash part of an event whose close it is.
     pub done: Option<Crash>,
+}
+
+impl Issued {
+    ghost use Rattle.edr_core.specs.Candidate.{no_issues};
+
+    /// Nothing.
+    pub fn none() -> Issued
+        ensures { result ≡ no_issues }
+    {
+        Issued {
+            take: None,
+            lock: None,
+            done: None,
+        }
+    }
 }
 
 impl Candidate {
@@ -87,6 +106,16 @@ impl Candidate {
     }
 }
 
+// Opens a candidate at its time zero. Few ticks are one, and the places that this takes are large: it stands apart, so that
+// the other ticks don't clear them.
+#[inline(never)]
+fn open(candidate: &mut Option<Candidate>, captures: &Captures, key: Key, row: Row)
+    requires { (f : SensorLists) × KeepPrePart captures.now key.cycle key.zero f }
+    ensures { candidate.new ≡ Some (begun (pre_part (kept_lists captures.now) key.cycle First key.zero) row) }
+{
+    *candidate = Some(Candidate::begin(captures.freeze(key), row));
+}
+
 // Begins a candidate where the tick is a time zero, and else gives the open one its row. `key` is that of an event with
 // this time zero.
 pub fn follow(
@@ -102,34 +131,33 @@ pub fn follow(
     ensures { candidate.new ≡ grown_or_begun (told_of change) (pre_part (kept_lists captures.now) key.cycle First key.zero) row candidate.old }
 {
     if change.zero {
-        *candidate = Some(Candidate::begin(captures.freeze(key), row));
+        open(candidate, captures, key, row);
     } else if let Some(open) = candidate {
         open.grow(row);
     }
 }
 
-// What a tick issues, once it is told to the open candidate. One that is dropped or closed there is open no longer.
+// Puts what a tick issues into `issued`, once it is told to the open candidate. One that is dropped or closed there is open
+// no longer. It stands apart for the same reason.
+#[inline(never)]
 pub fn issue(
     candidate: &mut Option<Candidate>,
     link: &mut Link,
     tick: u32,
     change: Change,
-) -> Issued
+    issued: &mut Issued,
+)
     requires { IfSome candidate.old (CanBeTold tick (told_of change) link.old) }
     ensures candidate { candidate.new ≡ candidate_after tick (told_of change) link.old candidate.old }
     ensures link { link.new ≡ link_after tick (told_of change) link.old candidate.old }
-    ensures issued { result ≡ issued_after tick (told_of change) link.old candidate.old }
+    ensures issued { issued.new ≡ issued_after tick (told_of change) link.old candidate.old }
 {
     let Some(open) = candidate else {
-        return Issued {
-            take: None,
-            lock: None,
-            done: None,
-        };
+        *issued = Issued::none();
+        return;
     };
-    let issued = open.tell(tick, change, link);
+    *issued = open.tell(tick, change, link);
     if change.dropped || change.closed {
         *candidate = None;
     }
-    issued
 }

@@ -9,7 +9,8 @@ ghost use Rattle.std.specs.Prelude.{◌≡◌, ◌↔◌, ℕ, ◌≤◌, IfOk, 
 ghost use Rattle.edr_items.specs.SensorLists.{no_items};
 ghost use Rattle.edr_definitions.specs.Schedule.{Progress, Give, Close, IsAllowed, after_step};
 
-use candidate::{Candidate, Issued, Row, follow, issue};
+pub use candidate::Issued;
+use candidate::{Candidate, Row, follow, issue};
 use captures::Captures;
 use edr_detect::Detect;
 use edr_items::{Item, Sensor};
@@ -34,6 +35,16 @@ pub enum Step {
         lock: Option<Pre>,
         done: Option<Crash>,
     },
+}
+
+/// What a core answers where it puts aside what a tick issues.
+#[derive(Clone, Copy, Debug, PartialEq, Eq)]
+pub enum Closing {
+    /// The next tick can't be closed: this sensor may still give an item of it.
+    Waiting { sensor: Sensor },
+    /// The next tick is closed. It issues what was put aside, or nothing where `issues` is false, as it is while no candidate
+    /// is open.
+    Closed { tick: u32, issues: bool },
 }
 
 /// The core of the recorder in one ignition cycle. It keeps what later ticks can still need: some seconds of each slow
@@ -66,7 +77,7 @@ impl Model for Core {
 impl Core {
     ghost use Rattle.edr_merge.specs.Answers.{give_refusal_of, waited_for};
     ghost use Rattle.edr_core.specs.StandsFor.{CoreIsFor};
-    ghost use Rattle.edr_core.specs.Answers.{IsClosed, awaited, after_answer, HasTheCommands, HasTheIssues};
+    ghost use Rattle.edr_core.specs.Answers.{IsClosed, IsQuiet, awaited, after_answer, step_of, HasTheCommands, HasTheIssues};
 
     /// A core for the ignition cycle of that number, to which no sensor has given an item, and of which no tick is closed.
     pub fn open(alloc: Global, cycle: u32) -> Result<Core, OutOfMemory>
@@ -121,8 +132,31 @@ impl Core {
         ensures allowed { (n : ℕ) (p : Progress) → CoreIsFor self.old n p → IsClosed result ↔ IsAllowed Close p }
         ensures waits { (n : ℕ) (p : Progress) → CoreIsFor self.old n p → awaited result ≡ waited_for p }
     {
+        let mut issued = Issued::none();
+        match self.close(&mut issued) {
+            Closing::Waiting { sensor } => Step::Waiting { sensor },
+            Closing::Closed { tick, .. } => Step::Closed {
+                tick,
+                take: issued.take,
+                lock: issued.lock,
+                done: issued.done,
+            },
+        }
+    }
+
+    /// The same step, for a caller that steps often: what the tick issues is put into `issued`, which is left as it is where
+    /// no candidate is open. Records are large, and most ticks move none then.
+    pub fn close(&mut self, issued: &mut Issued) -> Closing
+        // The answer and what was put aside are a step, of which all stands that stands of one.
+        ensures commands { (n : ℕ) (p : Progress) → CoreIsFor self.old n p → HasTheCommands n p (step_of result issued.new) }
+        ensures ticks { (n : ℕ) (p : Progress) → CoreIsFor self.old n p → HasTheIssues n p (step_of result issued.new) }
+        ensures stands { (n : ℕ) (p : Progress) → CoreIsFor self.old n p → CoreIsFor self.new n (after_answer p (step_of result issued.new)) }
+        ensures allowed { (n : ℕ) (p : Progress) → CoreIsFor self.old n p → IsClosed (step_of result issued.new) ↔ IsAllowed Close p }
+        ensures waits { (n : ℕ) (p : Progress) → CoreIsFor self.old n p → awaited (step_of result issued.new) ≡ waited_for p }
+        ensures quiet { IsQuiet result → issued.new ≡ issued.old }
+    {
         let (tick, row) = match self.merge.next() {
-            Next::Waiting { sensor } => return Step::Waiting { sensor },
+            Next::Waiting { sensor } => return Closing::Waiting { sensor },
             Next::Row {
                 tick,
                 along,
@@ -145,14 +179,15 @@ impl Core {
             .detect
             .tick(row.along.unwrap_or(0), row.across.unwrap_or(0), row.fired);
         follow(&mut self.candidate, &self.captures, key, change, row);
-        let Issued { take, lock, done } = issue(&mut self.candidate, &mut self.link, tick, change);
         self.closed = tick;
-        Step::Closed {
-            tick,
-            take,
-            lock,
-            done,
+        if self.candidate.is_none() {
+            return Closing::Closed {
+                tick,
+                issues: false,
+            };
         }
+        issue(&mut self.candidate, &mut self.link, tick, change, issued);
+        Closing::Closed { tick, issues: true }
     }
 }
 

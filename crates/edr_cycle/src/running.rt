@@ -1,7 +1,9 @@
 //! A cycle that runs by itself: its items go through the core, and each tick's commands to the banks.
 
-ghost use Rattle.std.specs.Prelude.{◌≡◌, ◌+◌, ◌*◌, ◌/◌, ◌≤◌, false};
+ghost use Rattle.std.specs.Prelude.{◌≡◌, ◌+◌, ◌*◌, ◌/◌, ◌≤◌, false, length, map};
 ghost use Rattle.edr_items.specs.SensorLists.{IsLevel, horizon_of, no_items};
+ghost use Rattle.edr_definitions.specs.Commands.{issue_at};
+ghost use Rattle.edr_core.specs.Answers.{commands_put};
 ghost use Rattle.edr_core.specs.StandsFor.{CoreIsFor};
 ghost use Rattle.edr_device.specs.Device.{StillTells};
 ghost use Rattle.edr_device.specs.Faults.{HasCause};
@@ -12,9 +14,35 @@ ghost use Rattle.edr_cycle.specs.Commits.{Commits};
 use crate::committing::commit_tick;
 use crate::left::Left;
 use edr_banks::{Banks, Log};
-use edr_core::{Core, Step};
+use edr_core::{Closing, Core, Issued};
 use edr_device::{Failed, Nvm};
 use edr_items::Feeds;
+
+// Commits what a closed tick issues, if it issues anything.
+fn commit_closed<N: Nvm>(
+    banks: &mut Banks,
+    nvm: &mut N,
+    log: &mut Log,
+    tick: u32,
+    issues: bool,
+    issued: &Issued,
+) -> Result<(), Failed>
+    requires live { banks.old.ended ≡ false }
+    requires size { image_size banks.old.store.header.banks ≤ N.extent nvm.old }
+    requires room { length (commands_put issues issued.now) ≤ log.old.spare }
+    ensures size { N.extent nvm.new ≡ N.extent nvm.old }
+    ensures cause { HasCause (N.faults nvm.old) (N.faults nvm.new) result }
+    ensures device { N.goes_on nvm.old nvm.new }
+    ensures tells { StillTells (N.content nvm.old) (N.content nvm.new) }
+    ensures commits { Commits N.content N.settled N.since N.clock N.last_good
+        (map (issue_at tick) (commands_put issues issued.now)) result banks.old banks.new log.old log.new nvm.old nvm.new }
+{
+    if issues {
+        commit_tick(banks, nvm, log, tick, issued.take, issued.lock, issued.done)
+    } else {
+        Ok(())
+    }
+}
 
 /// Gives the items of the feeds to the core of a cycle, and commits what it issues, up to the horizon or to a command that
 /// fails.
@@ -42,15 +70,13 @@ pub(crate) fn run<N: Nvm>(
 {
     let mut core = core;
     let mut left = Left::all_of(feeds);
+    let mut issued = Issued::none();
     loop {
-        match core.step() {
-            Step::Closed {
-                tick,
-                take,
-                lock,
-                done,
-            } => commit_tick(banks, nvm, log, tick, take, lock, done)?,
-            Step::Waiting { sensor } => {
+        match core.close(&mut issued) {
+            Closing::Closed { tick, issues } => {
+                commit_closed(banks, nvm, log, tick, issues, &issued)?
+            }
+            Closing::Waiting { sensor } => {
                 let Some(item) = left.next(sensor) else {
                     return Ok(());
                 };

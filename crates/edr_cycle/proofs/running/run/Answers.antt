@@ -1,6 +1,6 @@
 use Rattle.std.proofs.Common.{arith, ap, refl, ◌∙◌}
 use Rattle.edr_items.specs.SensorLists.{items_of}
-use Rattle.edr_definitions.specs.Core.{commands_of}
+use Rattle.edr_core.specs.Answers.{commands_put}
 use Rattle.edr_device.proofs.Settling.{tells_again}
 use Rattle.edr_cycle.proofs.Answered.{tells_self}
 use Rattle.edr_cycle.proofs.RunSteps.{closes-below, give-allowed, left_count, left_count-less, on_ok, room-left, run-begins, run-closes, run-fails, run-gives, run-over}
@@ -19,15 +19,15 @@ loop-tick-init g c =
     }
 
 -- a closed tick
-pub commit_tick-requires-clause-room : goal.commit_tick-requires-clause-room
-commit_tick-requires-clause-room g c =
+pub commit_closed-requires-clause-room : goal.commit_closed-requires-clause-room
+commit_closed-requires-clause-room g c =
     let N = g.N.Nvm in
     let n = c.args.core.cycle in
     let run = c.loop-tick.invariant.runs in
     let p = run.given.progress in
     let step = c.in-Closed.ensures in
     room-left N.content N.settled N.since N.clock N.last_good c.args.feeds.now n c.args.banks.now c.args.log.now c.args.nvm.now c.all_of-left.ensures.feeds c.requires.level
-    c.loop-tick.core c.loop-tick.left c.loop-tick.banks c.loop-tick.log c.loop-tick.nvm c.in-Closed.tick (commands_of (record { take = c.in-Closed.take; lock = c.in-Closed.lock; done = c.in-Closed.done })) run
+    c.loop-tick.core c.loop-tick.left c.loop-tick.banks c.loop-tick.log c.loop-tick.nvm c.in-Closed.tick (commands_put c.in-Closed.issues c.close.new.issued) run
     ((step.allowed n p run.given.core_is).0 tt) (step.commands n p run.given.core_is).0 (step.ticks n p run.given.core_is) c.requires.room
 
 pub loop-tick-smaller-in-Continue-1 : goal.loop-tick-smaller-in-Continue-1
@@ -51,36 +51,36 @@ loop-tick-preserved-in-Continue-1 g c =
     let run = kept.runs in
     let p = run.given.progress in
     let step = c.in-Closed.ensures in
-    let cause = c.commit_tick.ensures.cause.later in
+    let cause = c.commit_closed.ensures.cause.later in
     let later = kept.later in
     record {
       runs = run-closes N.content N.settled N.since N.clock N.last_good c.args.feeds.now n c.args.banks.now c.args.log.now c.args.nvm.now
-          c.loop-tick.core c.step.new.self c.loop-tick.left c.loop-tick.banks c.commit_tick.new.banks c.loop-tick.log c.commit_tick.new.log c.loop-tick.nvm c.commit_tick.new.nvm c.in-Closed.tick
-          (commands_of (record { take = c.in-Closed.take; lock = c.in-Closed.lock; done = c.in-Closed.done })) c.commit_tick.result _ run
-          (step.stands n p run.given.core_is) ((step.allowed n p run.given.core_is).0 tt) (step.commands n p run.given.core_is).0 (step.ticks n p run.given.core_is) c.in_ok-commit_tick-in-Closed.was c.commit_tick.ensures.commits;
-      size = c.commit_tick.ensures.size ∙ kept.size;
+          c.loop-tick.core c.close.new.self c.loop-tick.left c.loop-tick.banks c.commit_closed.new.banks c.loop-tick.log c.commit_closed.new.log c.loop-tick.nvm c.commit_closed.new.nvm c.in-Closed.tick
+          (commands_put c.in-Closed.issues c.close.new.issued) c.commit_closed.result _ run
+          (step.stands n p run.given.core_is) ((step.allowed n p run.given.core_is).0 tt) (step.commands n p run.given.core_is).0 (step.ticks n p run.given.core_is) c.in_ok-commit_closed-in-Closed.was c.commit_closed.ensures.commits;
+      size = c.commit_closed.ensures.size ∙ kept.size;
       later = omega (arith, cause, later);
-      device = g.met.N.Nvm.goes_on_again c.args.nvm.now c.loop-tick.nvm c.commit_tick.new.nvm kept.device c.commit_tick.ensures.device;
-      tells = tells_again _ _ _ kept.tells c.commit_tick.ensures.tells;
+      device = g.met.N.Nvm.goes_on_again c.args.nvm.now c.loop-tick.nvm c.commit_closed.new.nvm kept.device c.commit_closed.ensures.device;
+      tells = tells_again _ _ _ kept.tells c.commit_closed.ensures.tells;
     }
 
-pub returns-in_err-commit_tick-in-Closed-clause-device : goal.returns-in_err-commit_tick-in-Closed-clause-device
-returns-in_err-commit_tick-in-Closed-clause-device g c = g.met.N.Nvm.goes_on_again c.args.nvm.now c.loop-tick.nvm c.commit_tick.new.nvm c.loop-tick.invariant.device c.commit_tick.ensures.device
+pub returns-in_err-commit_closed-in-Closed-clause-device : goal.returns-in_err-commit_closed-in-Closed-clause-device
+returns-in_err-commit_closed-in-Closed-clause-device g c = g.met.N.Nvm.goes_on_again c.args.nvm.now c.loop-tick.nvm c.commit_closed.new.nvm c.loop-tick.invariant.device c.commit_closed.ensures.device
 
-pub returns-in_err-commit_tick-in-Closed-clause-tells : goal.returns-in_err-commit_tick-in-Closed-clause-tells
-returns-in_err-commit_tick-in-Closed-clause-tells g c = tells_again _ _ _ c.loop-tick.invariant.tells c.commit_tick.ensures.tells
+pub returns-in_err-commit_closed-in-Closed-clause-tells : goal.returns-in_err-commit_closed-in-Closed-clause-tells
+returns-in_err-commit_closed-in-Closed-clause-tells g c = tells_again _ _ _ c.loop-tick.invariant.tells c.commit_closed.ensures.tells
 
-pub returns-in_err-commit_tick-in-Closed-clause-commits : goal.returns-in_err-commit_tick-in-Closed-clause-commits
-returns-in_err-commit_tick-in-Closed-clause-commits g c =
+pub returns-in_err-commit_closed-in-Closed-clause-commits : goal.returns-in_err-commit_closed-in-Closed-clause-commits
+returns-in_err-commit_closed-in-Closed-clause-commits g c =
     let N = g.N.Nvm in
     let n = c.args.core.cycle in
     let run = c.loop-tick.invariant.runs in
     let p = run.given.progress in
     let step = c.in-Closed.ensures in
     run-fails N.content N.settled N.since N.clock N.last_good c.args.feeds.now n c.args.banks.now c.args.log.now c.args.nvm.now c.all_of-left.ensures.feeds c.requires.level
-    c.loop-tick.core c.loop-tick.left c.loop-tick.banks c.commit_tick.new.banks c.loop-tick.log c.commit_tick.new.log c.loop-tick.nvm c.commit_tick.new.nvm c.in-Closed.tick
-    (commands_of (record { take = c.in-Closed.take; lock = c.in-Closed.lock; done = c.in-Closed.done })) c.commit_tick.result c.from_residual.result _ run
-    ((step.allowed n p run.given.core_is).0 tt) (step.commands n p run.given.core_is).0 (step.ticks n p run.given.core_is) c.in_err-commit_tick-in-Closed.was c.from_residual.ensures.0 c.commit_tick.ensures.commits
+    c.loop-tick.core c.loop-tick.left c.loop-tick.banks c.commit_closed.new.banks c.loop-tick.log c.commit_closed.new.log c.loop-tick.nvm c.commit_closed.new.nvm c.in-Closed.tick
+    (commands_put c.in-Closed.issues c.close.new.issued) c.commit_closed.result c.from_residual.result _ run
+    ((step.allowed n p run.given.core_is).0 tt) (step.commands n p run.given.core_is).0 (step.ticks n p run.given.core_is) c.in_err-commit_closed-in-Closed.was c.from_residual.ensures.0 c.commit_closed.ensures.commits
 
 -- nothing is left of the sensor that is waited for
 pub returns-in_default-clause-commits : goal.returns-in_default-clause-commits
