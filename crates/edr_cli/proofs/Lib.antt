@@ -5,3 +5,4 @@ pub mod RunLaws
 pub mod ReplayLemmas
 pub mod Completeness
 pub mod Dispatch
+pub mod TakingLemmas

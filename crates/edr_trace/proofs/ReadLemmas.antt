@@ -1,5 +1,6 @@
 -- What is known of the bytes when some of their records were read.
 use Rattle.std.proofs.Common.{arith, ◌≡◌, ◌∙◌, sym, ap, subst, refl, ℕ, ◌+◌, ◌^◌, ◌<◌, ◌≤◌, Option, Some, None, Result, Ok, Err, IfOk, IfErr, MatchResult, inl, inr, ◌⊎◌, List, [], ◌∷◌, ◌++◌, length, length-append, append_assoc}
+use Rattle.std.specs.Prelude.{IfSome}
 use Rattle.std.proofs.lemmas.List.{append-nil, length-map}
 use Rattle.csv.specs.Machine.{next_record}
 use Rattle.csv.specs.Reading.{AreRecords, Reached, default_config, strip_bom}
@@ -134,6 +135,9 @@ so-far-count bytes s rest cycles feeds n h =
 pub tells : (bytes : List ℕ) (n : ℕ) (fault : Option TraceFault) (e : ReadRefused) → TellsAt n fault e → ((t : TraceRefused) → t.row ≡ n → fault ≡ Some t.fault → Fault bytes t) → Tells bytes e
 tells bytes n fault (refused.Trace t) h k = k t h.1 h.0
 tells bytes n fault refused.OutOfMemory h k = h
+
+pub in_some : {A : Type 0} (P : A → Type 0) (o : Option A) (x : A) → o ≡ Some x → P x → IfSome o P
+in_some P o x is h = subst (λ (q : Option _). IfSome q P) (sym is) h
 
 pub if_ok-maps : {A E : Type 0} (P Q : A → Type 0) (r : Result A E) → IfOk r P → ((x : A) → P x → Q x) → IfOk r Q
 if_ok-maps P Q (Ok x) h k = k x h

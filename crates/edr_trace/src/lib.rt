@@ -2,16 +2,19 @@
 #![tactic(auto)]
 
 mod parse;
+mod pieces;
 mod steps;
 
-ghost use Rattle.std.specs.Prelude.{◌≡◌, ◌≤◌, List, length, IfOk, IfErr, MatchResult, ◌⊎◌, All};
+ghost use Rattle.std.specs.Prelude.{◌≡◌, ◌≤◌, ℕ, List, Some, length, IfOk, IfErr, IfSome, MatchResult, ◌⊎◌, All};
 ghost use Rattle.edr_spell.specs.Spell.{Spell, IsCycle};
 ghost use Rattle.edr_spell.specs.Fault.{Fault};
 ghost use Rattle.edr_trace.specs.Told.{Tells};
 
 use csv::{ByteRecord, ReaderBuilder};
 pub use edr_spell::{CycleInput, Row, TraceFault, TraceRefused, Word};
+pub use pieces::Pieces;
 use std::alloc::Global;
+use std::io::Read;
 use steps::{Trace, at_row};
 
 /// The most bytes that a trace may have.
@@ -49,23 +52,35 @@ pub fn read(alloc: Global, bytes: &[u8]) -> Result<Vec<CycleInput>, ReadRefused>
     read_records(alloc, bytes)
 }
 
-// Takes the records one after the other.
-fn read_records(alloc: Global, bytes: &[u8]) -> Result<Vec<CycleInput>, ReadRefused>
-    requires { length bytes.now ≤ LARGEST_TRACE }
-    ensures spelled { IfOk result (λ v. Spell bytes.now v.items) }
-    ensures refused { IfErr result (λ e. Tells bytes.now e) }
+/// The same of bytes in pieces, each of which is freed once it is read.
+pub fn read_pieces(alloc: Global, pieces: Pieces) -> Result<Vec<CycleInput>, ReadRefused>
+    requires { length pieces ≤ LARGEST_TRACE }
+    ensures spelled { IfOk result (λ v. Spell pieces v.items) }
+    ensures refused { IfErr result (λ e. Tells pieces e) }
+    ensures cycles { IfOk result (λ v. All IsCycle v.items) }
+    ensures only_spelled { (cycles : List CycleInput) → Spell pieces cycles → MatchResult result (λ v. v.items ≡ cycles) (λ e. e ≡ ReadRefused.OutOfMemory) }
+    ensures only_refused { (t : TraceRefused) → Fault pieces t → MatchResult result (λ v. ⊥) (λ e. (e ≡ ReadRefused.Trace t) ⊎ (e ≡ ReadRefused.OutOfMemory)) }
+{
+    read_records(alloc, pieces)
+}
+
+// Takes the records of a source one after the other.
+fn read_records<R: Read + Drop>(alloc: Global, source: R) -> Result<Vec<CycleInput>, ReadRefused>
+    requires { (bytes : List ℕ) × (R.remaining source ≡ Some bytes) × (length bytes ≤ LARGEST_TRACE) }
+    ensures spelled { IfOk result (λ v. IfSome (R.remaining source) (λ bytes. Spell bytes v.items)) }
+    ensures refused { IfErr result (λ e. IfSome (R.remaining source) (λ bytes. Tells bytes e)) }
 {
     let mut reader = ReaderBuilder::new()
         .has_headers(false)
         .flexible(true)
-        .from_reader(alloc, bytes);
+        .from_reader(alloc, source);
     let mut fields = ByteRecord::new(alloc);
     let mut trace = Trace::new(alloc);
     for n in 0..u32::MAX {
         match reader.read_byte_record(&mut fields) {
             Ok(true) => {}
             Ok(false) => return trace.end(n + 1),
-            // A slice has no faults of its own, so what is left is want of memory.
+            // A source that tells its bytes has no faults of its own, so what is left is want of memory.
             Err(_) => return Err(ReadRefused::OutOfMemory),
         }
         if let Err(refused) = trace.take_record(alloc, &fields) {

@@ -256,3 +256,18 @@ fn cycles_are_told_as_they_are_written(rt: HostRuntime) -> Result<(), Fail> {
     assert!(rt; whole.feeds.of(Sensor::Along).is_empty());
     Ok(())
 }
+
+// A piece is full inside the word of a row.
+#[test]
+fn a_row_may_lie_in_two_pieces(rt: HostRuntime) -> Result<(), Fail> {
+    let blank = vec![in rt.alloc(); b'\n'; 65_527]?;
+    let mut pieces = Pieces::new(rt.alloc());
+    pieces.push(&blank)?;
+    pieces.push(b"on,0,\nalo")?;
+    pieces.push(b"ng,1,-5\ncut,0,\n")?;
+    let cycles = read_pieces(rt.alloc(), pieces).expect(&rt, "a trace");
+    assert_eq!(rt; cycles.len(), 1);
+    let along = [item(1, Some(-5))];
+    assert!(rt; cycles[0].feeds.of(Sensor::Along) == along.as_slice());
+    Ok(())
+}
