@@ -82,11 +82,18 @@ impl Pieces {
 }
 
 impl Read for Pieces {
-    ghost use Rattle.std.specs.Prelude.{Some};
+    ghost use Rattle.std.specs.Prelude.{Some, IsOk};
+    ghost use Rattle.std.specs.Io.{ReadsAtMost};
+    ghost use Rattle.std.specs.Io.KnownBytes.{ReadConsumes};
 
     ghost remaining = { λ p. Some p };
 
-    fn read(&mut self, buf: &mut [u8]) -> io::Result<usize> {
+    fn read(&mut self, buf: &mut [u8]) -> io::Result<usize>
+        ensures bound { ReadsAtMost result buf.new }
+        ensures bytes { ReadConsumes (Some self.old) (Some self.new) result buf.new }
+        // It never fails.
+        ensures ok { IsOk result }
+    {
         while self.at == self.front.len() {
             self.front = match self.middle.pop_front() {
                 Some(piece) => piece,
