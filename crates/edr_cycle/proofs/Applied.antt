@@ -1,5 +1,5 @@
 -- What an applied command says, in the words of commits.
-use Rattle.std.proofs.Common.{◌≡◌, ◌⊎◌, ◌≤◌, ◌-◌, ℕ, Bool, Option, List, [], ◌∷◌, refl, sym, ap, subst, inl, inr, arith, Ok, Err}
+use Rattle.std.proofs.Common.{◌≡◌, ◌⊎◌, ◌≤◌, ◌-◌, ℕ, Bool, Option, List, [], ◌∷◌, take, refl, sym, ap, subst, inl, inr, arith, Ok, Err}
 use Rattle.std.specs.Prelude.{Contains}
 use Rattle.std.proofs.lemmas.List.Sums.{sum_by-cons}
 use Rattle.edr_device.specs.Device.{Elapses, IsQuiet, MayLeave}
@@ -13,6 +13,8 @@ use Rattle.edr_gates.specs.Taken.{AreStopped, AreTaken, MayTakeAll, PassMeanwhil
 use Rattle.edr_gates.specs.Taken as taken
 use Rattle.edr_banks.specs.Applying.{Spends}
 use Rattle.edr_cycle.specs.Commits.{IsAfterFirst, IsLeftBy, IsReadyFor, Makes, Says}
+use Rattle.edr_cycle.specs.Past.{KeepsPast}
+use Rattle.edr_cycle.proofs.PastLemmas.{done_past}
 
 some_calls : (s : Step) (steps : List Step) → 1 ≤ all_calls (s ∷ steps)
 some_calls s steps = let cons = sum_by-cons calls_of s steps in let one = few s in omega (arith, cons, one)
@@ -49,6 +51,9 @@ module _ {D : Type 0} (content : D → Option (List ℕ)) (settled : D → ℕ �
   ready : (bytes : List ℕ) (v : View) → IsReadyFor store (content d) (settled d) bytes v → taken.IsReady steps (content d) (settled d) bytes v
   ready bytes v h = record { quiet = h.quiet; view = h.view_is; may = subst (λ (s : Store). MayTakeAll s.banks steps) (sym h.store_is) may }
 
+  keeps : (bytes : List ℕ) (v : View) → IsReadyFor store (content d) (settled d) bytes v → (image : List ℕ) (done : List Step) → taken.HasDone steps done bytes v image → KeepsPast store.header bytes image
+  keeps bytes v r image done has = subst (λ (s : Store). KeepsPast s.header bytes image) r.store_is (done_past steps done bytes image v r.view_is (subst (λ (s : Store). MayTakeAll s.banks steps) (sym r.store_is) may) has)
+
   pub makes_ok : {T E T' E' : Type 0} (x : T) (y : T') → Spends {E = E} (all_calls steps) (clock d) (clock d') (good d) (good d') (Ok x) → (steps ≡ [] → d' ≡ d) → Makes {E = E'} (all_calls steps) (clock d) (clock d') (good d) (good d') (Ok y)
   makes_ok x y h none = record {
     later = h.later;
@@ -62,8 +67,8 @@ module _ {D : Type 0} (content : D → Option (List ℕ)) (settled : D → ℕ �
   pub makes_err : {T E T' E' : Type 0} (e : E) (e' : E') → Spends {T = T} (all_calls steps) (clock d) (clock d') (good d) (good d') (Err e) → Makes {T = T'} (all_calls steps) (clock d) (clock d') (good d) (good d') (Err e')
   makes_err e e' h = record { later = h.later; ok = tt; good_is = tt; few = h.few; made = h.made; last = h.last }
 
-  pub taken_says : AreTaken steps (content d) (settled d) (content d') (settled d') → (bytes : List ℕ) (v : View) → IsReadyFor store (content d) (settled d) bytes v → (now : List ℕ) × IsQuiet (content d') (settled d') now × Says v steps now
-  taken_says h bytes v r = let x = h bytes v (ready bytes v r) in (x.0, x.1, x.2.view)
+  pub taken_says : AreTaken steps (content d) (settled d) (content d') (settled d') → (bytes : List ℕ) (v : View) → IsReadyFor store (content d) (settled d) bytes v → (now : List ℕ) × IsQuiet (content d') (settled d') now × Says v steps now × KeepsPast store.header bytes now
+  taken_says h bytes v r = let x = h bytes v (ready bytes v r) in (x.0, x.1, x.2.view, keeps bytes v r x.0 steps x.2)
 
   pub stopped_cuts : AreStopped steps (clock d' - clock d) (content d) (settled d) (content d') (settled d') → (bytes image : List ℕ) (v : View) → IsReadyFor store (content d) (settled d) bytes v → MayLeave (content d') (settled d') image → (part : List Step) × IsLeftBy (clock d' - clock d) steps part × Says v part image
   stopped_cuts h bytes image v r left =
@@ -72,3 +77,6 @@ module _ {D : Type 0} (content : D → Option (List ℕ)) (settled : D → ℕ �
 
   pub pass_says : PassMeanwhile steps (content d) (settled d) (clock d) (since d) (since d') → (bytes : List ℕ) (v : View) → IsReadyFor store (content d) (settled d) bytes v → Elapses (clock d) (since d) (since d') (IsAfterFirst steps v)
   pass_says h bytes v r = elapses_more (clock d) (since d) (since d') (taken.IsPassed steps bytes v) (IsAfterFirst steps v) (h bytes v (ready bytes v r)) (λ image p. record { p = p.p; within = p.within; says = p.has.view })
+
+  pub pass_keeps : PassMeanwhile steps (content d) (settled d) (clock d) (since d) (since d') → (bytes : List ℕ) (v : View) → IsReadyFor store (content d) (settled d) bytes v → Elapses (clock d) (since d) (since d') (KeepsPast store.header bytes)
+  pass_keeps h bytes v r = elapses_more (clock d) (since d) (since d') (taken.IsPassed steps bytes v) (KeepsPast store.header bytes) (h bytes v (ready bytes v r)) (λ image p. keeps bytes v r image (take p.p steps) p.has)

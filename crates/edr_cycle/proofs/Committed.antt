@@ -19,7 +19,9 @@ use Rattle.edr_run.specs.Cycle.{ack_of}
 use Rattle.edr_banks.specs.Opened.{Opened, state_of}
 use Rattle.edr_banks.specs.Applying.{opened_after}
 use Rattle.edr_cycle.specs.Commits.{Commits, IsAfterFirst, IsLeftBy, IsReadyFor, StopsAt, Makes, Says, acks_from, first_steps, replies_from, steps_from}
+use Rattle.edr_cycle.specs.Past.{KeepsPast}
 use Rattle.edr_cycle.proofs.Answered.{map_err, map_ok}
+use Rattle.edr_cycle.proofs.PastLemmas.{past_again, past_self}
 use Rattle.edr_cycle.proofs.Lists.{acks_from-append, after-append, calls-append, first_steps-first, first_steps-later, get_first, get_later, length-acks_from, length-replies_from, replies_from-append, steps_from-append}
 
 -- ---- calls
@@ -175,9 +177,10 @@ module _ {D : Type 0} (content : D → Option (List ℕ)) (settled : D → ℕ �
     banks_are = refl;
     log_is = same_log;
     time = none_made (clock d) (good d) x;
-    taken = λ bytes v ready. (bytes, ready.quiet, ready.view_is);
+    taken = λ bytes v ready. (bytes, ready.quiet, ready.view_is, past_self b.store.header bytes);
     stopped = tt;
     any_moment = λ bytes v ready. record { nothing_else = λ t image within left. inl left; past_stays = λ t image within left. left };
+    past = λ bytes v ready. record { nothing_else = λ t image within left. inl left; past_stays = λ t image within left. left };
   }
     where
       same_log : l ≡ record { acks = l.acks ++ []; spare = l.spare - 0 }
@@ -193,6 +196,7 @@ module _ {D : Type 0} (content : D → Option (List ℕ)) (settled : D → ℕ �
         taken = k.taken;
         stopped = tt;
         any_moment = k.any_moment;
+        past = k.past;
       }
 
   -- a command failed, and others would have followed
@@ -208,6 +212,7 @@ module _ {D : Type 0} (content : D → Option (List ℕ)) (settled : D → ℕ �
         stopped = stops_first s xs ys (clock d) (clock d') (content d) (content d') (settled d) (settled d') l l' h.stopped;
         any_moment = λ bytes v ready. elapses_more (clock d) (since d) (since d') (IsAfterFirst a v) (IsAfterFirst (steps_from s (xs ++ ys)) v) (h.any_moment bytes v ready)
             (λ image p. rw (steps_from-append s xs ys) (passed_first a more v image p));
+        past = h.past;
       }
 
   -- after all of them others follow
@@ -230,7 +235,7 @@ module _ {D : Type 0} (content : D → Option (List ℕ)) (settled : D → ℕ �
             taken = map_ok r k.taken (λ taken bytes v ready.
                 let first = h.taken bytes v ready in
                 let next = taken first.0 (view_after v a) (ready_after b a first.0 d' v ready.store_is first.1 first.2) in
-                (next.0, next.1, rw (steps_from-append s xs ys) (says-append a more v next.0 next.2)));
+                (next.0, next.1, rw (steps_from-append s xs ys) (says-append a more v next.0 next.2), past_again b.store.header bytes first.0 next.0 first.3 next.3));
             stopped = map_err r k.stopped (λ stopped. stops_later s xs ys (clock d) (clock d') (clock d'') (content d) (content d') (content d'') (settled d) (settled d') (settled d'') l (record { acks = l.acks ++ acks_from s xs; spare = l.spare - length xs }) l'' risen later refl
                 (λ bytes v ready. let first = h.taken bytes v ready in (first.0, ready_after b a first.0 d' v ready.store_is first.1 first.2)) stopped);
             any_moment = λ bytes v ready.
@@ -239,6 +244,12 @@ module _ {D : Type 0} (content : D → Option (List ℕ)) (settled : D → ℕ �
                 (h.any_moment bytes v ready) (k.any_moment first.0 (view_after v a) (ready_after b a first.0 d' v ready.store_is first.1 first.2)) h.time.later
                 (λ image p. rw (steps_from-append s xs ys) (passed_first a more v image p))
                 (λ image p. rw (steps_from-append s xs ys) (passed_later a more v image p));
+            past = λ bytes v ready.
+                let first = h.taken bytes v ready in
+                elapses_again (clock d) (clock d') (since d) (since d') (since d'') (KeepsPast b.store.header bytes) (KeepsPast b.store.header first.0) (KeepsPast b.store.header bytes)
+                (h.past bytes v ready) (k.past first.0 (view_after v a) (ready_after b a first.0 d' v ready.store_is first.1 first.2)) h.time.later
+                (λ image p. p)
+                (λ image p. past_again b.store.header bytes first.0 image first.3 p);
           }
         where
           opened-append : (b : Opened) (a more : List Step) → opened_after (opened_after b a) more ≡ opened_after b (a ++ more)
@@ -256,10 +267,11 @@ module _ {D : Type 0} (content : D → Option (List ℕ)) (settled : D → ℕ �
   pub one_applied : {T E : Type 0} (x : T) (i : Issue) (b b' : Opened) (l l' : Logged) (d d' : D) → let r = reply_to (state_of b) i.command in
       l' ≡ record { acks = l.acks ++ ack_of i r ∷ []; spare = l.spare - 1 } → state_of b' ≡ state_after (state_of b) r.steps → b'.count ≡ b.count → b'.ended ≡ b.ended
       → Makes {T = T} {E = E} (all_calls r.steps) (clock d) (clock d') (good d) (good d') (Ok x)
-      → ((bytes : List ℕ) (v : View) → IsReadyFor b.store (content d) (settled d) bytes v → (now : List ℕ) × IsQuiet (content d') (settled d') now × Says v r.steps now)
+      → ((bytes : List ℕ) (v : View) → IsReadyFor b.store (content d) (settled d) bytes v → (now : List ℕ) × IsQuiet (content d') (settled d') now × Says v r.steps now × KeepsPast b.store.header bytes now)
       → ((bytes : List ℕ) (v : View) → IsReadyFor b.store (content d) (settled d) bytes v → Elapses (clock d) (since d) (since d') (IsAfterFirst r.steps v))
+      → ((bytes : List ℕ) (v : View) → IsReadyFor b.store (content d) (settled d) bytes v → Elapses (clock d) (since d) (since d') (KeepsPast b.store.header bytes))
       → These {E = E} (i ∷ []) (Ok x) b b' l l' d d'
-  one_applied x i b b' l l' d d' log state count ended time taken passed =
+  one_applied x i b b' l l' d d' log state count ended time taken passed past =
       let r = reply_to (state_of b) i.command in
       let one : r.steps ++ [] ≡ r.steps = append-nil r.steps in record {
         banks_are = rw one (parts b' (opened_after b r.steps) state count ended);
@@ -268,6 +280,7 @@ module _ {D : Type 0} (content : D → Option (List ℕ)) (settled : D → ℕ �
         taken = rw one taken;
         stopped = tt;
         any_moment = rw one passed;
+        past = past;
       }
     where
       parts : (o p : Opened) → state_of o ≡ state_of p → o.count ≡ p.count → o.ended ≡ p.ended → o ≡ p
@@ -281,8 +294,9 @@ module _ {D : Type 0} (content : D → Option (List ℕ)) (settled : D → ℕ �
       Makes {T = T} {E = E} (all_calls r.steps) (clock d) (clock d') (good d) (good d') (Err e)
       → ((bytes image : List ℕ) (v : View) → IsReadyFor b.store (content d) (settled d) bytes v → MayLeave (content d') (settled d') image → (part : List Step) × IsLeftBy (clock d' - clock d) r.steps part × Says v part image)
       → ((bytes : List ℕ) (v : View) → IsReadyFor b.store (content d) (settled d) bytes v → Elapses (clock d) (since d) (since d') (IsAfterFirst r.steps v))
+      → ((bytes : List ℕ) (v : View) → IsReadyFor b.store (content d) (settled d) bytes v → Elapses (clock d) (since d) (since d') (KeepsPast b.store.header bytes))
       → These {T = T} (i ∷ []) (Err e) b b' l l d d'
-  one_failed e i b b' l d d' time cut passed =
+  one_failed e i b b' l d d' time cut passed past =
       let r = reply_to (state_of b) i.command in
       let one : r.steps ++ [] ≡ r.steps = append-nil r.steps in
       let few = time.few in
@@ -300,6 +314,7 @@ module _ {D : Type 0} (content : D → Option (List ℕ)) (settled : D → ℕ �
           cut = λ bytes image v ready left. let c = cut bytes image v ready left in record { part = c.0; left = subst (λ n. IsLeftBy n r.steps c.0) (sym none) c.1; says = c.2 };
         };
         any_moment = rw one passed;
+        past = past;
       }
 
   -- the same, with what a call answered

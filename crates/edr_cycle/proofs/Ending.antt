@@ -21,7 +21,9 @@ use Rattle.edr_banks.specs.Opened.{Opened, state_of}
 use Rattle.edr_run.specs.Cycle.{End, cut, whole, acks_before, acks_in, cut_end, issues_in, replies_in, steps_in, whole_end}
 use Rattle.edr_cycle.specs.Commits.{Commits, IsAfterFirst, IsLeftBy, IsReadyFor, Says, acks_from, first_steps, replies_from, steps_from}
 use Rattle.edr_cycle.specs.Ends.{HasFirst, IsFound, MeetsCycle, steps_at, steps_before}
+use Rattle.edr_cycle.specs.Past.{KeepsPast}
 use Rattle.edr_cycle.proofs.Keeping.{first_steps-keep}
+use Rattle.edr_cycle.proofs.PastLemmas.{past_same}
 use Rattle.edr_cycle.proofs.Lists.{left_first, left_later, length-acks_from, length-replies_from}
 
 -- ---- which command a call is one of
@@ -129,6 +131,12 @@ module _ {D : Type 0} (content : D → Option (List ℕ)) (settled : D → ℕ �
       (λ (p : IsAfterFirst (steps_in f n b.store) seen image). p)
       ((moments r h bytes found).nothing_else (clock d) image (omega arith) had)
 
+  past_of : {T E : Type 0} (r : Result T E) → Commits content settled since clock good (issues_in f n) r b b' l l' d d' → (bytes image : List ℕ) → at bytes → since d' (clock d) image → KeepsPast b.store.header bytes image
+  past_of r h bytes image found had = ⊎_elim
+      (λ (earlier : since d (clock d) image). past_same b.store.header bytes image (quiet_leaves bytes (content d) (settled d) image found.quiet (only_now d image earlier)))
+      (λ (p : KeepsPast b.store.header bytes image). p)
+      ((h.past bytes seen (ready bytes found)).nothing_else (clock d) image (omega arith) had)
+
   all_first : (image : List ℕ) → Says seen (steps_in f n b.store) image → HasFirst (replies_in f n b.store) (length (acks_in f n b.store)) seen image
   all_first image says = record {
     done = steps_in f n b.store;
@@ -144,7 +152,7 @@ module _ {D : Type 0} (content : D → Option (List ℕ)) (settled : D → ℕ �
   ended_whole : {T E : Type 0} (x : T) → Commits {E = E} content settled since clock good (issues_in f n) (Ok x) b b' l l' d d' → MeetsCycle content settled since clock good f n b.store false l'.acks d d'
   ended_whole x h =
       let log : l'.acks ≡ acks_in f n b.store = ap (λ (m : Logged). m.acks) h.log_is ∙ ap (λ as'. as' ++ acks_from (state_of b) (issues_in f n)) empty ∙ acks_are in
-      let end : (bytes : List ℕ) → at bytes → (now : List ℕ) × IsQuiet (content d') (settled d') now × Says seen (steps_in f n b.store) now = λ bytes found. rw (sym steps_are) (h.taken bytes seen (ready bytes found)) in
+      let end : (bytes : List ℕ) → at bytes → (now : List ℕ) × IsQuiet (content d') (settled d') now × Says seen (steps_in f n b.store) now = λ bytes found. rw (sym steps_are) (let t = h.taken bytes seen (ready bytes found) in (t.0, t.1, t.2)) in
       let left : (bytes image : List ℕ) → at bytes → MayLeave (content d') (settled d') image → Says seen (steps_in f n b.store) image = λ bytes image found may. let e = end bytes found in ap view_of (quiet_leaves e.0 (content d') (settled d') image e.1 may) ∙ e.2 in
       record {
         calls_of_all = λ _. h.time.ok ∙ ap (λ steps. clock d + all_calls steps) steps_are;
@@ -166,6 +174,7 @@ module _ {D : Type 0} (content : D → Option (List ℕ)) (settled : D → ℕ �
         any_moment = moments (Ok x) h;
         each = each_image (Ok x) h;
         keeps = λ bytes image found had. first_steps-keep f n b.store image some (each_image (Ok x) h bytes image found had);
+        past = past_of (Ok x) h;
       }
     where
       ended : l'.acks ≡ acks_in f n b.store → ◌≡◌ {A = End} (record { report = Ran n None l'.acks; store = after b.store (steps_in f n b.store); count = n }) (whole_end f b.store (n - 1 + 1))
@@ -224,6 +233,7 @@ module _ {D : Type 0} (content : D → Option (List ℕ)) (settled : D → ℕ �
         any_moment = moments (Err e) h;
         each = each_image (Err e) h;
         keeps = λ bytes image found had. first_steps-keep f n b.store image some (each_image (Err e) h bytes image found had);
+        past = past_of (Err e) h;
       }
     where
       is_stop : (k : ℕ) (steps done : List Step) → IsLeftBy k steps done → 1 ≤ k → IsStop steps k done

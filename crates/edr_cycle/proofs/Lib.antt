@@ -1,5 +1,6 @@
 pub mod Answered
 pub mod Bytes
+pub mod PastLemmas
 pub mod Slots
 pub mod Front
 pub mod Lists

@@ -12,6 +12,7 @@ use Rattle.edr_image.specs.Steps.{Step, State, Reply, after, replies}
 use Rattle.edr_banks.specs.Opened.{Opened, state_of}
 use Rattle.edr_banks.specs.Applying.{opened_after}
 use Rattle.edr_run.specs.Cycle.{ack_of}
+use Rattle.edr_cycle.specs.Past.{KeepsPast}
 
 -- ---- what is issued, and the replies
 
@@ -95,6 +96,8 @@ pub record Commits {D T E : Type 0} (content : D → Option (List ℕ)) (settled
   pub banks_are : OnOk result (b' ≡ opened_after b (steps_from (state_of b) xs))
   pub log_is : OnOk result (l' ≡ record { acks = l.acks ++ acks_from (state_of b) xs; spare = l.spare - length xs })
   pub time : Makes (all_calls (steps_from (state_of b) xs)) (clock d) (clock d') (good d) (good d') result
-  pub taken : OnOk result ((bytes : List ℕ) (v : View) → IsReadyFor b.store (content d) (settled d) bytes v → (now : List ℕ) × IsQuiet (content d') (settled d') now × Says v (steps_from (state_of b) xs) now)
+  pub taken : OnOk result ((bytes : List ℕ) (v : View) → IsReadyFor b.store (content d) (settled d) bytes v → (now : List ℕ) × IsQuiet (content d') (settled d') now × Says v (steps_from (state_of b) xs) now × KeepsPast b.store.header bytes now)
   pub stopped : OnErr result (StopsAt (state_of b) xs (clock d) (clock d') (content d) (content d') (settled d) (settled d') l l')
   pub any_moment : (bytes : List ℕ) (v : View) → IsReadyFor b.store (content d) (settled d) bytes v → Elapses (clock d) (since d) (since d') (IsAfterFirst (steps_from (state_of b) xs) v)
+  -- and it leaves what stands past the image
+  pub past : (bytes : List ℕ) (v : View) → IsReadyFor b.store (content d) (settled d) bytes v → Elapses (clock d) (since d) (since d') (KeepsPast b.store.header bytes)

@@ -19,6 +19,7 @@ use Rattle.edr_spell.specs.declared.CycleInput.{CycleInput}
 use Rattle.edr_run.specs.Cycle.{IsCycle, acks_before, acks_in, issues_in, replies_in, steps_in}
 use Rattle.edr_run.specs.Own.{IsRecordOf}
 use Rattle.edr_cycle.specs.Commits.{IsAfterFirst, Says}
+use Rattle.edr_cycle.specs.Past.{KeepsPast}
 
 -- the cycle over these feeds with a stop in call j of its start and one in call k of its commands; 0 is none
 abbrev pub cycle_with : ℕ → SensorLists → ℕ → CycleInput
@@ -97,3 +98,5 @@ pub record MeetsCycle {D : Type 0} (content : D → Option (List ℕ)) (settled 
   pub any_moment : (bytes : List ℕ) → IsFound (record { store = v; count = n }) (content d) (settled d) bytes → Elapses (clock d) (since d) (since d') (IsAfterFirst (steps_in f n v) (record { store = v; count = n }))
   pub each : (bytes image : List ℕ) → IsFound (record { store = v; count = n }) (content d) (settled d) bytes → since d' (clock d) image → IsAfterFirst (steps_in f n v) (record { store = v; count = n }) image
   pub keeps : (bytes image : List ℕ) → IsFound (record { store = v; count = n }) (content d) (settled d) bytes → since d' (clock d) image → KeepsEvents f n v image
+  -- and what stands past the image stays
+  pub past : (bytes image : List ℕ) → IsFound (record { store = v; count = n }) (content d) (settled d) bytes → since d' (clock d) image → KeepsPast v.header bytes image

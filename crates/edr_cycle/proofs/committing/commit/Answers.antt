@@ -2,7 +2,7 @@ use Rattle.std.proofs.Common.{◌≡◌, ◌∷◌, ◌++◌, ◌-◌, [], ap}
 use Rattle.edr_image.specs.Steps.{reply_to}
 use Rattle.edr_banks.specs.Opened.{Opened, state_of}
 use Rattle.edr_definitions.specs.Commands.{issue_at}
-use Rattle.edr_cycle.proofs.Applied.{makes_err, makes_ok, pass_says, stopped_cuts, taken_says}
+use Rattle.edr_cycle.proofs.Applied.{makes_err, makes_ok, pass_keeps, pass_says, stopped_cuts, taken_says}
 use Rattle.edr_cycle.proofs.Committed.{one_applied, one_failed}
 use Rattle.edr_cycle.proofs.committing.commit.Goals as goal
 
@@ -24,6 +24,7 @@ returns-in-Ok-clause-commits g c =
     (makes_ok N.content N.settled N.since N.clock N.last_good r.steps b.store a.may d d' c.in-Ok.applied tt (a.time c.requires.live) (λ none. (a.not_kept c.requires.live none).2))
     (taken_says N.content N.settled N.since N.clock N.last_good r.steps b.store a.may d d' a.taken)
     (pass_says N.content N.settled N.since N.clock N.last_good r.steps b.store a.may d d' a.any_moment)
+    (pass_keeps N.content N.settled N.since N.clock N.last_good r.steps b.store a.may d d' a.any_moment)
 
 pub returns-in-Err-clause-commits : goal.returns-in-Err-clause-commits
 returns-in-Err-clause-commits g c =
@@ -38,3 +39,4 @@ returns-in-Err-clause-commits g c =
     (makes_err N.content N.settled N.since N.clock N.last_good r.steps b.store a.may d d' c.in-Err.field-0 _ (a.time c.requires.live))
     (stopped_cuts N.content N.settled N.since N.clock N.last_good r.steps b.store a.may d d' (a.stopped c.requires.live))
     (pass_says N.content N.settled N.since N.clock N.last_good r.steps b.store a.may d d' a.any_moment)
+    (pass_keeps N.content N.settled N.since N.clock N.last_good r.steps b.store a.may d d' a.any_moment)
