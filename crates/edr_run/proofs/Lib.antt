@@ -1,5 +1,6 @@
 pub mod Vectors
 pub mod CycleLaws
+pub mod ApartLaws
 pub mod OrderLaws
 pub mod OwnLaws
 pub mod LoggedLaws

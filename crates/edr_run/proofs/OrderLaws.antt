@@ -1,102 +1,55 @@
 -- A cycle issues its commands in order, so it leaves banks that are kept.
 use Rattle.std.proofs.Common.{◌≡◌, refl, sym, subst, arith, ℕ, ◌+◌, ◌<◌, ◌≤◌, Bool, true, false, cond, nat_le, Option, Some, None, List, [], ◌∷◌, ◌++◌, length, map, take, filter}
-use Rattle.std.specs.Prelude.{filter_map, flat_map, zip, slice_get}
-use Rattle.std.specs.List.{cons_option}
+use Rattle.std.specs.Prelude.{flat_map, slice_get}
 use Rattle.std.proofs.Math.Seq.{take-length}
 use Rattle.edr_items.specs.SensorLists.{SensorLists, horizon_of}
 use Rattle.edr_record.specs.Parts.{PrePart, CrashPart}
 use Rattle.edr_record.specs.declared.Place.{Place}
-use Rattle.edr_record.specs.declared.Command.{Command}
 use Rattle.edr_record.specs.declared.Command.TheVariants as command
 use Rattle.edr_definitions.specs.Ticks.{first_tick}
-use Rattle.edr_definitions.specs.Signals.{Signals, signals_of}
-use Rattle.edr_definitions.specs.Selection.{Bounds, Candidate, bounds_after, close_of, event_of, events, chain, at_start}
+use Rattle.edr_definitions.specs.Signals.{signals_of}
+use Rattle.edr_definitions.specs.Selection.{close_of}
 use Rattle.edr_definitions.specs.Selection as selection
 use Rattle.edr_definitions.specs.Parts.{pre_part, crash_part}
-use Rattle.edr_definitions.specs.Facts.{IsChain}
-use Rattle.edr_definitions.specs.Commands.{Issue, issues, issues_of, locks_at, is_locking, placed_events, places, commands}
-use Rattle.edr_definitions.proofs.SelectionLaws.{bounds_after-later, chain-is_chain}
-use Rattle.edr_definitions.proofs.EventLaws.{zero-past, end-after_zero}
+use Rattle.edr_definitions.specs.Commands.{Issue, issues, issues_of, locks_at, is_locking, placed_events, commands}
 use Rattle.edr_image.specs.Banks.{Store}
 use Rattle.edr_image.specs.Steps.{after}
 use Rattle.edr_image.specs.Kept.{AreKept}
-use Rattle.edr_image.specs.Order.{AreInOrder}
+use Rattle.edr_image.specs.Order.{OpenEvent, AreInOrder}
 use Rattle.edr_image.proofs.StopLaws.{stop-prefix}
 use Rattle.edr_image.proofs.StepLaws.{locked-stays}
 use Rattle.edr_image.proofs.KeptLaws.{kept-stays}
 use Rattle.edr_image.specs.declared.BankView.TheVariants.{Event}
 use Rattle.edr_record.specs.declared.Record.{Record}
 use Rattle.edr_spell.specs.declared.CycleInput.{CycleInput}
+use Rattle.edr_run.proofs.ApartLaws.{PlacedApart, placed-apart, issued}
 use Rattle.edr_run.specs.Cycle.{End, IsCycle, start_stopped, start_counted, whole, cut, steps_in, issues_in, Outcome, IsRun}
-
--- ---- events follow one another
-
--- time zeros rise from z on, and each event is confirmed by the tick t
-Follow : ℕ → ℕ → List (selection.Event × Place) → Type 0
-Follow t z [] = Unit {0}
-Follow t z (e ∷ es) = (z < e.0.zero_tick) × (e.0.confirmed_tick ≤ t) × Follow t e.0.zero_tick es
-
-FollowEvents : ℕ → ℕ → List selection.Event → Type 0
-FollowEvents t z [] = Unit {0}
-FollowEvents t z (e ∷ es) = (z < e.zero_tick) × (e.confirmed_tick ≤ t) × FollowEvents t e.zero_tick es
-
-from_lower : (t z y : ℕ) (es : List selection.Event) → y ≤ z → FollowEvents t z es → FollowEvents t y es
-unfolding FollowEvents
-from_lower t z y [] low h = tt
-from_lower t z y (e ∷ es) low h = let past = h.0 in (omega (arith, past, low), h.1, h.2)
-
-follow_event : (upto a z u e : ℕ) (es : List selection.Event) → a < z → FollowEvents upto z es → (b : Bool) → nat_le u upto ≡ b → FollowEvents upto a (cons_option (cond b (Some (record { zero_tick = z; confirmed_tick = u; end_tick = e })) None) es)
-unfolding FollowEvents
-follow_event upto a z u e es past h true by = (past, grind (arith, by), h)
-follow_event upto a z u e es past h false late = from_lower upto z a es (omega (arith, past)) h
-
-follow_step : (upto a z e : ℕ) (r : Option ℕ) (es : List selection.Event) → a < z → FollowEvents upto z es → FollowEvents upto a (cons_option (event_of upto (record { zero_tick = z; end_tick = e; confirmed = r })) es)
-follow_step upto a z e None es past h = from_lower upto z a es (omega (arith, past)) h
-follow_step upto a z e (Some u) es past h = follow_event upto a z u e es past h (nat_le u upto) refl
-
-events_follow : (m : Signals) (upto : ℕ) (from : Bounds) (cs : List Candidate) → IsChain m upto from cs → FollowEvents upto from.after (filter_map (event_of upto) cs)
-unfolding FollowEvents
-events_follow m upto from [] h = tt
-events_follow m upto from (c ∷ cs) h =
-    let long = end-after_zero m from c h.0 in
-    let later = bounds_after-later from c (omega (arith, long)) in
-    follow_step upto from.after c.zero_tick c.end_tick c.confirmed (filter_map (event_of upto) cs) (zero-past m from c h.0)
-    (from_lower upto (bounds_after from c).after c.zero_tick (filter_map (event_of upto) cs) later (events_follow m upto (bounds_after from c) cs h.2))
-
-follow_placed : (t z : ℕ) (es : List selection.Event) (ps : List Place) → FollowEvents t z es → Follow t z (zip es ps)
-unfolding Follow FollowEvents
-follow_placed t z [] ps h = tt
-follow_placed t z (e ∷ es) [] h = tt
-follow_placed t z (e ∷ es) (p ∷ ps) h = (h.0, h.1, follow_placed t e.zero_tick es ps h.2)
 
 -- ---- commands in order
 
--- the commands of these that are issued by the tick t
-abbrev issued : ℕ → List Issue → List Command
-issued t is = map (λ i. i.command) (filter (λ i. nat_le i.tick t) is)
+done_in_order : (f : SensorLists) (n z t k : ℕ) (e : OpenEvent) (crash : CrashPart) (es : List (selection.Event × Place)) → PlacedApart t k es → AreInOrder n z None (issued t (flat_map (issues_of f n) es)) → (test : Bool) → nat_le k t ≡ test → AreInOrder n z (Some e) (map (λ i. i.command) (cond test (record { tick = k; command = command.Done crash } ∷ filter (λ i. nat_le i.tick t) (flat_map (issues_of f n) es)) (filter (λ i. nat_le i.tick t) (flat_map (issues_of f n) es))))
+unfolding PlacedApart
+done_in_order f n z t k e crash es h more true by = more
+done_in_order f n z t k e crash [] h more false late = tt
+done_in_order f n z t k e crash (x ∷ es) h more false late = absurd (let a = h.0 in let b = h.1 in let c = h.2 in grind (arith, a, b, c, late))
 
-done_in_order : (n z t k : ℕ) (b : Bool) (crash : CrashPart) (rest : List Issue) → ((b : Bool) → AreInOrder n z b (issued t rest)) → (test : Bool) → nat_le k t ≡ test → AreInOrder n z b (map (λ i. i.command) (cond test (record { tick = k; command = command.Done crash } ∷ filter (λ i. nat_le i.tick t) rest) (filter (λ i. nat_le i.tick t) rest)))
-done_in_order n z t k b crash rest more true by = more false
-done_in_order n z t k b crash rest more false late = more b
+lock_in_order : (n z t k : ℕ) (pre : PrePart) (rest : List Issue) → ((locked : Bool) → AreInOrder n z (Some (record { pre = pre; locked = locked })) (issued t rest)) → (test : Bool) → nat_le k t ≡ test → AreInOrder n z (Some (record { pre = pre; locked = false })) (map (λ i. i.command) (cond test (record { tick = k; command = command.Lock pre } ∷ filter (λ i. nat_le i.tick t) rest) (filter (λ i. nat_le i.tick t) rest)))
+lock_in_order n z t k pre rest more true by = (refl, refl, more true)
+lock_in_order n z t k pre rest more false late = more false
 
-lock_in_order : (n t k : ℕ) (pre : PrePart) (rest : List Issue) → pre.key.cycle ≡ n → AreInOrder n pre.key.zero true (issued t rest) → (test : Bool) → nat_le k t ≡ test → AreInOrder n pre.key.zero true (map (λ i. i.command) (cond test (record { tick = k; command = command.Lock pre } ∷ filter (λ i. nat_le i.tick t) rest) (filter (λ i. nat_le i.tick t) rest)))
-lock_in_order n t k pre rest cycle more true by = (refl, cycle, refl, more)
-lock_in_order n t k pre rest cycle more false late = more
+take_in_order : (n z t k : ℕ) (pre : PrePart) (rest : List Issue) → pre.key.cycle ≡ n → z < pre.key.zero → k ≤ t → AreInOrder n pre.key.zero (Some (record { pre = pre; locked = false })) (issued t rest) → (test : Bool) → nat_le k t ≡ test → AreInOrder n z None (map (λ i. i.command) (cond test (record { tick = k; command = command.Take pre } ∷ filter (λ i. nat_le i.tick t) rest) (filter (λ i. nat_le i.tick t) rest)))
+take_in_order n z t k pre rest cycle past by more true test = (cycle, past, more)
+take_in_order n z t k pre rest cycle past by more false test = absurd (grind (arith, by, test))
 
-take_in_order : (n z t k : ℕ) (b : Bool) (pre : PrePart) (rest : List Issue) → pre.key.cycle ≡ n → z < pre.key.zero → k ≤ t → AreInOrder n pre.key.zero true (issued t rest) → (test : Bool) → nat_le k t ≡ test → AreInOrder n z b (map (λ i. i.command) (cond test (record { tick = k; command = command.Take pre } ∷ filter (λ i. nat_le i.tick t) rest) (filter (λ i. nat_le i.tick t) rest)))
-take_in_order n z t k b pre rest cycle past by more true test = (cycle, past, more)
-take_in_order n z t k b pre rest cycle past by more false test = absurd (grind (arith, by, test))
-
-after_take : (n t close : ℕ) (pre : PrePart) (lock : Option ℕ) (crash : CrashPart) (rest : List Issue) → pre.key.cycle ≡ n → ((b : Bool) → AreInOrder n pre.key.zero b (issued t rest)) → AreInOrder n pre.key.zero true (issued t (locks_at pre lock ++ (record { tick = close; command = command.Done crash } ∷ []) ++ rest))
-after_take n t close pre None crash rest cycle more = done_in_order n pre.key.zero t close true crash rest more (nat_le close t) refl
-after_take n t close pre (Some u) crash rest cycle more =
-    lock_in_order n t u pre (record { tick = close; command = command.Done crash } ∷ rest) cycle (done_in_order n pre.key.zero t close true crash rest more (nat_le close t) refl) (nat_le u t) refl
-
-one_in_order : (n z t k close : ℕ) (b : Bool) (pre : PrePart) (lock : Option ℕ) (crash : CrashPart) (rest : List Issue) → pre.key.cycle ≡ n → z < pre.key.zero → k ≤ t → ((b : Bool) → AreInOrder n pre.key.zero b (issued t rest)) → AreInOrder n z b (issued t ((record { tick = k; command = command.Take pre } ∷ locks_at pre lock ++ record { tick = close; command = command.Done crash } ∷ []) ++ rest))
-one_in_order n z t k close b pre None crash rest cycle past by more =
-    take_in_order n z t k b pre (record { tick = close; command = command.Done crash } ∷ rest) cycle past by (after_take n t close pre None crash rest cycle more) (nat_le k t) refl
-one_in_order n z t k close b pre (Some u) crash rest cycle past by more =
-    take_in_order n z t k b pre (record { tick = u; command = command.Lock pre } ∷ record { tick = close; command = command.Done crash } ∷ rest) cycle past by (after_take n t close pre (Some u) crash rest cycle more) (nat_le k t) refl
+one_in_order : (f : SensorLists) (n z t k close : ℕ) (pre : PrePart) (lock : Option ℕ) (crash : CrashPart) (es : List (selection.Event × Place)) → pre.key.cycle ≡ n → z < pre.key.zero → k ≤ t → PlacedApart t close es → AreInOrder n pre.key.zero None (issued t (flat_map (issues_of f n) es)) → AreInOrder n z None (issued t ((record { tick = k; command = command.Take pre } ∷ locks_at pre lock ++ record { tick = close; command = command.Done crash } ∷ []) ++ flat_map (issues_of f n) es))
+one_in_order f n z t k close pre None crash es cycle past by h more =
+    let last = done_in_order f n pre.key.zero t close (record { pre = pre; locked = false }) crash es h more (nat_le close t) refl in
+    take_in_order n z t k pre (record { tick = close; command = command.Done crash } ∷ flat_map (issues_of f n) es) cycle past by last (nat_le k t) refl
+one_in_order f n z t k close pre (Some u) crash es cycle past by h more =
+    let last : (locked : Bool) → AreInOrder n pre.key.zero (Some (record { pre = pre; locked = locked })) (issued t (record { tick = close; command = command.Done crash } ∷ flat_map (issues_of f n) es)) =
+    λ locked. done_in_order f n pre.key.zero t close (record { pre = pre; locked = locked }) crash es h more (nat_le close t) refl in
+    let after_lock = lock_in_order n pre.key.zero t u pre (record { tick = close; command = command.Done crash } ∷ flat_map (issues_of f n) es) last (nat_le u t) refl in
+    take_in_order n z t k pre (record { tick = u; command = command.Lock pre } ∷ record { tick = close; command = command.Done crash } ∷ flat_map (issues_of f n) es) cycle past by after_lock (nat_le k t) refl
 
 pub key_cycle : (f : SensorLists) (n z : ℕ) (p : Place) → (pre_part f n p z).key.cycle ≡ n
 unfolding pre_part
@@ -106,27 +59,27 @@ key_zero : (f : SensorLists) (n z : ℕ) (p : Place) → (pre_part f n p z).key.
 unfolding pre_part
 key_zero f n z p = refl
 
-events_in_order : (f : SensorLists) (n t z : ℕ) (b : Bool) (es : List (selection.Event × Place)) → Follow t z es → AreInOrder n z b (issued t (flat_map (issues_of f n) es))
-unfolding Follow issues_of
-events_in_order f n t z b [] h = tt
-events_in_order f n t z b (e ∷ es) h =
+close-from_zero : (z e : ℕ) → z ≤ close_of z e
+close-from_zero z e = grind arith
+
+events_in_order : (f : SensorLists) (n t z a : ℕ) (es : List (selection.Event × Place)) → z ≤ a → PlacedApart t a es → AreInOrder n z None (issued t (flat_map (issues_of f n) es))
+unfolding PlacedApart issues_of
+events_in_order f n t z a [] low h = tt
+events_in_order f n t z a (e ∷ es) low h =
     let y = e.0.zero_tick in
+    let close = close_of y e.0.end_tick in
     let pre = pre_part f n e.1 y in
     let same = key_zero f n y e.1 in
     let past = h.0 in
-    let rest = flat_map (issues_of f n) es in
-    let more : (b : Bool) → AreInOrder n pre.key.zero b (issued t rest) = λ b. subst (λ k. AreInOrder n k b (issued t rest)) (sym same) (events_in_order f n t y b es h.2) in
-    one_in_order n z t e.0.confirmed_tick (close_of y e.0.end_tick) b pre (first_tick (is_locking (signals_of f)) y (close_of y e.0.end_tick + 1)) (crash_part (signals_of f) y e.0.end_tick) rest (key_cycle f n y e.1) (omega (arith, same, past)) h.1 more
+    let rest : AreInOrder n pre.key.zero None (issued t (flat_map (issues_of f n) es)) =
+    subst (λ k. AreInOrder n k None (issued t (flat_map (issues_of f n) es))) (sym same) (events_in_order f n t y close es (close-from_zero y e.0.end_tick) h.3) in
+    one_in_order f n z t e.0.confirmed_tick close pre (first_tick (is_locking (signals_of f)) y (close + 1)) (crash_part (signals_of f) y e.0.end_tick) es (key_cycle f n y e.1) (omega (arith, same, past, low)) h.2 h.3 rest
 
 -- a cycle issues its commands in order
-pub issues-in_order : (f : SensorLists) (n t : ℕ) → AreInOrder n 0 false (map (λ i. i.command) (issues f n t))
-issues-in_order f n t =
-    let m = signals_of f in
-    let es = events m t in
-    events_in_order f n t 0 false (placed_events m t)
-    (follow_placed t 0 es (places (map (λ e. e.zero_tick) es)) (events_follow m t at_start (chain m t) (chain-is_chain m t)))
+pub issues-in_order : (f : SensorLists) (n t : ℕ) → AreInOrder n 0 None (map (λ i. i.command) (issues f n t))
+issues-in_order f n t = let m = signals_of f in events_in_order f n t 0 0 (placed_events m t) (omega arith) (placed-apart m t)
 
-pub commands-in_order : (f : SensorLists) (n t : ℕ) → AreInOrder n 0 false (commands f n t)
+pub commands-in_order : (f : SensorLists) (n t : ℕ) → AreInOrder n 0 None (commands f n t)
 unfolding commands
 commands-in_order f n t = issues-in_order f n t
 

@@ -1,6 +1,6 @@
 //! Laws of cycles and runs, each the contract of a function that does nothing.
 
-ghost use Rattle.std.specs.Prelude.{◌≡◌, ◌↔◌, ◌<◌, ℕ, true, false, Option, Some, List, slice_get, Contains};
+ghost use Rattle.std.specs.Prelude.{◌≡◌, ◌↔◌, ◌<◌, ℕ, true, Option, Some, None, List, slice_get, Contains};
 ghost use Rattle.edr_record.specs.Parts.{PrePart, CrashPart};
 ghost use Rattle.edr_record.specs.declared.Command.TheVariants as command;
 ghost use Rattle.edr_image.specs.declared.Ack.{Ack};
@@ -32,7 +32,7 @@ pub fn outcomes_are_the_runs()
 
 /// A cycle issues its commands in order.
 pub fn commands_are_in_order()
-    ensures { (f : SensorLists) (n t : ℕ) → AreInOrder n 0 false (commands f n t) }
+    ensures { (f : SensorLists) (n t : ℕ) → AreInOrder n 0 None (commands f n t) }
 {}
 
 /// A run leaves banks kept that were so.
