@@ -5,3 +5,4 @@ pub mod StartPhase
 pub mod RunPhase
 pub mod CycleLemmas
 pub mod Running
+pub mod Leaving

@@ -39,7 +39,7 @@ runs_stopped f stop calls number store acks content settled content' settled' is
 -- ---- not stopped
 
 -- a stop that is none or past the last call doesn't show
-whole_with : (f : SensorLists) (stop : ℕ) (v : Store) (n : ℕ) (e : End) → (stop ≡ 0) ⊎ (all_calls (steps_in f (n + 1) v) < stop) → IsCycle (cycle_with 0 f 0) v n e → IsCycle (cycle_with 0 f stop) v n e
+pub whole_with : (f : SensorLists) (stop : ℕ) (v : Store) (n : ℕ) (e : End) → (stop ≡ 0) ⊎ (all_calls (steps_in f (n + 1) v) < stop) → IsCycle (cycle_with 0 f 0) v n e → IsCycle (cycle_with 0 f stop) v n e
 whole_with f stop v n e past (start_stopped some few is) = absurd (omega (arith, some))
 whole_with f stop v n e past (start_counted some few is) = absurd (omega (arith, some))
 whole_with f stop v n e past (whole none all is) = whole refl past is

@@ -65,7 +65,7 @@ abbrev pub SaysCount : Option (List ℕ) → StartFault → Type 0
 SaysCount content e = (bytes : List ℕ) → content ≡ Some bytes → (v : View) × (view_of bytes ≡ Some v) × (v.count ≤ last_count) × ((e ≡ fault.Spent) ↔ (v.count ≡ last_count))
 
 -- a start that was stopped found a number left
-count_left : (v : Store) (n : ℕ) (content : Option (List ℕ)) (settled : ℕ → Bool) → SaysCount content fault.StoreFault → Holds content settled v n → n < last_count
+pub count_left : (v : Store) (n : ℕ) (content : Option (List ℕ)) (settled : ℕ → Bool) → SaysCount content fault.StoreFault → Holds content settled v n → n < last_count
 count_left v n content settled counted h =
     let w = counted h.bytes h.quiet.0 in
     let count : n ≡ w.0.count = ap (λ (x : View). x.count) (some_view (sym h.says ∙ w.1)) in

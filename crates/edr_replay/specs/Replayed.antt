@@ -1,13 +1,14 @@
 -- What a run of cycles leaves on the memory of the records, and why one ends early.
 use Rattle.std.specs.Prelude.{◌≡◌, ◌≢◌, ◌<◌, ℕ, Bool, List, Option, Some, length, map, take}
-use Rattle.edr_device.specs.Device.{IsQuiet}
+use Rattle.edr_device.specs.Device.{IsQuiet, MayLeave}
 use Rattle.edr_image.specs.declared.log.CycleReport.{CycleReport}
 use Rattle.edr_image.specs.Reports.{report_of}
 use Rattle.edr_image.specs.declared.OpenFault.TheVariants as open_fault
 use Rattle.edr_image.specs.Banks.{Store}
-use Rattle.edr_image.specs.Image.{view_of}
+use Rattle.edr_image.specs.Image.{View, view_of}
 use Rattle.edr_spell.specs.declared.CycleInput.{CycleInput}
 use Rattle.edr_run.specs.Cycle.{Outcome, IsRun, last_count}
+use Rattle.edr_replay.specs.Reached.{IsPartOf, IsReached, RanFirst}
 use Rattle.edr_cycle.specs.declared.started.StartFault.{StartFault}
 use Rattle.edr_cycle.specs.declared.started.StartFault.TheVariants as fault
 
@@ -57,3 +58,32 @@ unfoldable pub EndsSpent : List CycleInput → Option (List ℕ) → (ℕ → Bo
 EndsSpent cs content settled content' settled' e =
     e ≡ fault.Spent → (v : Store) (n : ℕ) → Holds content settled v n
     → (o : Outcome) × RanToTheLast cs v n o × Holds content' settled' o.store o.count
+
+-- each image that a crash may leave says banks and a count that are left of a cycle over what was held
+unfoldable pub LeavesPart : CycleInput → Option (List ℕ) → (ℕ → Bool) → Option (List ℕ) → (ℕ → Bool) → Type 0
+LeavesPart c content settled content' settled' =
+    (v : Store) (n : ℕ) → Holds content settled v n → (image : List ℕ) → MayLeave content' settled' image
+    → (w : View) × (view_of image ≡ Some w) × IsPartOf c v n w.store w.count
+
+-- each image that a crash may leave says banks and a count that a run of these cycles reaches
+unfoldable pub LeavesReached : List CycleInput → Option (List ℕ) → (ℕ → Bool) → Option (List ℕ) → (ℕ → Bool) → Type 0
+LeavesReached cs content settled content' settled' =
+    (v : Store) (n : ℕ) → Holds content settled v n → (image : List ℕ) → MayLeave content' settled' image
+    → (w : View) × (view_of image ≡ Some w) × IsReached cs v n w.store w.count
+
+-- there was no memory
+abbrev pub IsMemory : StartFault → Type 0
+IsMemory (fault.Open f) = f ≡ open_fault.OutOfMemory
+IsMemory fault.Spent = ⊥
+IsMemory fault.StoreFault = ⊥
+IsMemory fault.OutOfMemory = Unit {0}
+
+-- want of memory before a cycle leaves what was held
+unfoldable pub IsLeftAlone : Option (List ℕ) → (ℕ → Bool) → Option (List ℕ) → (ℕ → Bool) → StartFault → Type 0
+IsLeftAlone content settled content' settled' e = IsMemory e → (v : Store) (n : ℕ) → Holds content settled v n → Holds content' settled' v n
+
+-- want of memory leaves what some first cycles came to
+unfoldable pub EndsShort : List CycleInput → Option (List ℕ) → (ℕ → Bool) → Option (List ℕ) → (ℕ → Bool) → StartFault → Type 0
+EndsShort cs content settled content' settled' e =
+    IsMemory e → (v : Store) (n : ℕ) → Holds content settled v n
+    → (p : ℕ) × (o : Outcome) × RanFirst cs v n p o × Holds content' settled' o.store o.count

@@ -6,8 +6,8 @@ ghost use Rattle.edr_device.specs.Faults.{Rose};
 ghost use Rattle.edr_image.specs.Image.{image_size};
 ghost use Rattle.edr_image.specs.Reports.{Ran, report_of};
 ghost use Rattle.edr_items.specs.SensorLists.{AreFeeds, IsLevel, horizon_of};
-ghost use Rattle.edr_replay.specs.Replayed.{IsFault, IsTrulyRefused, IsTrulySpent};
-ghost use Rattle.edr_replay.specs.Phases.{BeginsAs, RunsFrom};
+ghost use Rattle.edr_replay.specs.Replayed.{IsFault, IsLeftAlone, IsTrulyRefused, IsTrulySpent};
+ghost use Rattle.edr_replay.specs.Phases.{BeginsAs, LeavesOfRun, LeavesOfStart, RunsFrom};
 
 use edr_cycle::{CycleEnd, StartFault, Started, run_alone, start};
 use edr_device::{Fused, Nvm};
@@ -47,6 +47,8 @@ pub(crate) fn start_until<N: Nvm>(
     ensures spent { IfErr result (IsTrulySpent (N.content nvm.old) (N.settled nvm.old) (N.content nvm.new) (N.settled nvm.new)) }
     ensures refused { IfErr result (IsTrulyRefused (N.content nvm.old) (N.settled nvm.old)) }
     ensures fault { IfErr result (λ e. IsFault e → Rose (N.faults nvm.old) (N.faults nvm.new)) }
+    ensures left { IfErr result (λ _. LeavesOfStart (N.content nvm.old) (N.settled nvm.old) (N.content nvm.new) (N.settled nvm.new)) }
+    ensures memory { IfErr result (IsLeftAlone (N.content nvm.old) (N.settled nvm.old) (N.content nvm.new) (N.settled nvm.new)) }
 {
     let mut fuse = Fused::new(nvm);
     fuse.arm(stop);
@@ -88,6 +90,7 @@ pub(crate) fn run_until<N: Nvm>(
     ensures later { N.faults nvm.old ≤ N.faults nvm.new }
     ensures ran { IfOk result (RunsFrom feeds.now stop started.number started.banks.store (N.content nvm.old) (N.settled nvm.old) (N.content nvm.new) (N.settled nvm.new)) }
     ensures fault { IfErr result (λ e. (e ≡ StartFault.StoreFault) × Rose (N.faults nvm.old) (N.faults nvm.new)) }
+    ensures left { IfErr result (λ _. LeavesOfRun feeds.now stop started.number started.banks.store (N.content nvm.old) (N.settled nvm.old) (N.content nvm.new) (N.settled nvm.new)) }
 {
     let mut fuse = Fused::new(&mut *nvm);
     fuse.arm(stop);

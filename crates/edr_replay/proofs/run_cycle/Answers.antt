@@ -1,7 +1,8 @@
-use Rattle.std.proofs.Common.{subst}
+use Rattle.std.proofs.Common.{rules, subst}
 use Rattle.edr_replay.specs.declared.phases.Begun.{Begun}
 use Rattle.edr_replay.specs.Phases.{BeginsAs}
 use Rattle.edr_replay.proofs.CycleLemmas.{stopped_ends, begun_ran, not_spent, not_refused, rose_later}
+use Rattle.edr_replay.proofs.Leaving.{part_of_start, part_of_run, not_memory}
 use Rattle.edr_replay.proofs.run_cycle.Goals as goal
 
 pub returns-in-Stopped-clause-ran : goal.returns-in-Stopped-clause-ran
@@ -35,3 +36,23 @@ pub returns-in-Started-clause-fault : goal.returns-in-Started-clause-fault
 returns-in-Started-clause-fault g c =
     let D = g.N.Nvm in
     rose_later c.run_until.result (D.faults c.args.nvm.now) (D.faults c.start_until.new.nvm) (D.faults c.run_until.new.nvm) c.start_until.ensures.later c.run_until.ensures.fault
+
+pub returns-in_err-start_until-clause-left : goal.returns-in_err-start_until-clause-left
+returns-in_err-start_until-clause-left g c =
+    let D = g.N.Nvm in
+    let s = part_of_start c.args.cycle.now (D.content c.args.nvm.now) (D.settled c.args.nvm.now) (D.content c.start_until.new.nvm) (D.settled c.start_until.new.nvm) c.in_err-start_until.ensures.left in
+    search rules
+
+pub returns-in-Started-clause-left : goal.returns-in-Started-clause-left
+returns-in-Started-clause-left g c =
+    let D = g.N.Nvm in
+    let old = c.args.nvm.now in
+    let mid = c.start_until.new.nvm in
+    let new = c.run_until.new.nvm in
+    let begun = subst (λ (b : Begun). BeginsAs b c.args.cycle.now.start_stop c.horizon.result (D.extent old) (D.content old) (D.settled old) (D.content mid) (D.settled mid)) c.in-Started.is c.in_ok-start_until.ensures.begun in
+    part_of_run c.args.cycle.now c.in-Started.started.number c.in-Started.started.banks.store (D.content old) (D.settled old) (D.content mid) (D.settled mid) (D.content new) (D.settled new) c.run_until.result begun.0 begun.3 c.run_until.ensures.left
+
+pub returns-in-Started-clause-memory : goal.returns-in-Started-clause-memory
+returns-in-Started-clause-memory g c =
+    let D = g.N.Nvm in
+    not_memory c.run_until.result (D.faults c.start_until.new.nvm) (D.faults c.run_until.new.nvm) (D.content c.args.nvm.now) (D.settled c.args.nvm.now) (D.content c.run_until.new.nvm) (D.settled c.run_until.new.nvm) c.run_until.ensures.fault

@@ -1,12 +1,13 @@
 use Rattle.std.proofs.Common.{rules, arith, ◌≡◌, ◌⊎◌, ◌+◌, ◌-◌, ◌∙◌, ℕ, Some, None, ap, refl, subst}
 use Rattle.std.proofs.lemmas.Bool.{not-false, not-true}
-use Rattle.edr_device.specs.Device.{Comes}
+use Rattle.edr_device.specs.Device.{Comes, Stays}
 use Rattle.edr_device.specs.Faults.{Rose}
 use Rattle.edr_device.specs.Told.{Told}
 use Rattle.edr_image.specs.Reports.{Ran, report_of}
 use Rattle.edr_image.specs.Calls.{all_calls}
 use Rattle.edr_run.specs.Cycle.{steps_in}
-use Rattle.edr_replay.specs.Phases.{RunsFrom}
+use Rattle.edr_replay.specs.Phases.{LeavesOfRun, RunsFrom}
+use Rattle.edr_replay.proofs.Leaving.{leaves_cut, leaves_whole}
 use Rattle.edr_replay.proofs.FewCalls.{calls_few}
 use Rattle.edr_replay.proofs.RunPhase.{past_last, runs_stopped, runs_whole, told_as}
 use Rattle.edr_replay.proofs.StopLemmas.{fuse_begins, fuse_planned, inside, lent, rose_inside, stop_is}
@@ -85,3 +86,38 @@ returns-clause-ran g c =
     (λ n next h. told_as (Ran number (Some c.args.stop) acks) (report_of c.ran-2.result) f c.args.stop store n (D.content fuse.nvm.now) (D.settled fuse.nvm.now) told
     (runs_stopped f c.args.stop (fuse.ticks - armed.ticks) number store acks (D.content armed.nvm.now) (D.settled armed.nvm.now) (D.content fuse.nvm.now) (D.settled fuse.nvm.now) calls run.tells (fuse.quiet cut.0 cut.1)
     (run.cycle.cut failed (omega (arith, upto, few, begins))) n next h))
+
+pub returns-in-Err-clause-left : goal.returns-in-Err-clause-left
+returns-in-Err-clause-left g c =
+    let D = g.N.Nvm in
+    let f = c.args.feeds.now in
+    let number = c.args.started.number in
+    let store = c.args.started.banks.store in
+    let armed = c.arm.new.self in
+    let fuse = c.run_alone-end.new.nvm in
+    let new = c.power_cycle.new.self in
+    let run = c.run_alone-end.ensures in
+    let acks = c.run_alone-end.result.log.acks in
+    let whole = not-true _ c.if-not-end.true in
+    let planned = fuse_planned c.args.stop c.new-fuse.result armed fuse c.new-fuse.ensures.state c.arm.ensures.state run.device in
+    let begins = fuse_begins c.args.stop c.new-fuse.result armed c.new-fuse.ensures.state c.arm.ensures.state in
+    let past = past_last c.args.stop (all_calls (steps_in f number store)) armed.ticks _ _ _ planned begins (run.cycle.calls_of_all whole) (run.cycle.good_at_end whole) in
+    let off = inside (λ d. Stays (D.content d) (D.settled d) (D.since d) (D.content new) (D.settled new) (D.since new)) fuse.nvm.now _ (search rules) c.in-Err.ensures.told in
+    inside (λ d. LeavesOfRun f c.args.stop number store (D.content d) (D.settled d) (D.content new) (D.settled new)) c.args.nvm.now armed.nvm.now (c.arm.ensures.now ∙ c.new-fuse.ensures.now)
+    (leaves_whole f c.args.stop number store acks (D.content armed.nvm.now) (D.settled armed.nvm.now) (D.content fuse.nvm.now) (D.settled fuse.nvm.now) (D.content new) (D.settled new) _ _ past off (run.cycle.whole whole))
+
+pub returns-then-not-cut-clause-left : goal.returns-then-not-cut-clause-left
+returns-then-not-cut-clause-left g c =
+    let D = g.N.Nvm in
+    let f = c.args.feeds.now in
+    let number = c.args.started.number in
+    let store = c.args.started.banks.store in
+    let armed = c.arm.new.self in
+    let fuse = c.run_alone-end.new.nvm in
+    let run = c.run_alone-end.ensures in
+    let failed = not-false _ c.if-not-end.false in
+    let begins = fuse_begins c.args.stop c.new-fuse.result armed c.new-fuse.ensures.state c.arm.ensures.state in
+    let upto = run.cycle.calls_up_to failed in
+    let few = calls_few f number store c.requires.feeds in
+    lent (λ a b. LeavesOfRun f c.args.stop number store (D.content a) (D.settled a) (D.content b) (D.settled b)) c.args.nvm.now armed.nvm.now fuse.nvm.now _ (search rules) (search rules)
+    (leaves_cut f c.args.stop (fuse.ticks - armed.ticks) number store c.run_alone-end.result.log.acks (D.content armed.nvm.now) (D.settled armed.nvm.now) (D.content fuse.nvm.now) (D.settled fuse.nvm.now) (run.cycle.cut failed (omega (arith, upto, few, begins))))

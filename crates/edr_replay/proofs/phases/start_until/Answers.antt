@@ -1,8 +1,9 @@
 use Rattle.std.proofs.Common.{rules, arith, ◌≡◌, ◌⊎◌, ◌+◌, ◌∙◌, ℕ, Err, subst}
 use Rattle.edr_cycle.specs.declared.started.StartFault.TheVariants as fault
 use Rattle.edr_replay.specs.declared.phases.Begun.TheVariants.{Started, Stopped}
-use Rattle.edr_replay.specs.Phases.{BeginsAs}
-use Rattle.edr_replay.specs.Replayed.{IsTrulyRefused, IsTrulySpent}
+use Rattle.edr_replay.specs.Phases.{BeginsAs, LeavesOfStart}
+use Rattle.edr_replay.specs.Replayed.{IsLeftAlone, IsTrulyRefused, IsTrulySpent}
+use Rattle.edr_replay.proofs.Leaving.{leaves_start, left_alone}
 use Rattle.edr_replay.proofs.StartPhase.{at_err, begins_started, begins_stopped, none_planned, on_err_at, truly_refused, truly_spent}
 use Rattle.edr_replay.proofs.StopLemmas.{fuse_begins, fuse_planned, lent, not_reached, some_call, stop_is}
 use Rattle.edr_replay.proofs.phases.start_until.Goals as goal
@@ -57,3 +58,20 @@ returns-in-Err-clause-refused g c =
     let armed = c.arm.new.self in
     subst (λ d. IsTrulyRefused (D.content d) (D.settled d) c.in-Err.fault) (c.arm.ensures.now ∙ c.new-fuse.ensures.now)
     (truly_refused c.in-Err.fault (D.content armed.nvm.now) (D.settled armed.nvm.now) c.in-Err.ensures.refused)
+
+pub returns-in-Err-clause-left : goal.returns-in-Err-clause-left
+returns-in-Err-clause-left g c =
+    let D = g.N.Nvm in
+    let armed = c.arm.new.self in
+    let fuse = c.start-begun.new.nvm in
+    lent (λ a b. LeavesOfStart (D.content a) (D.settled a) (D.content b) (D.settled b)) c.args.nvm.now armed.nvm.now fuse.nvm.now _ (search rules) (search rules)
+    (leaves_start c.in-Err.fault armed.ticks fuse.ticks (D.content armed.nvm.now) (D.settled armed.nvm.now) (D.content fuse.nvm.now) (D.settled fuse.nvm.now) c.in-Err.ensures.spent (λ early. (c.in-Err.ensures.early early).0)
+    c.in-Err.ensures.cycle.time.few c.in-Err.ensures.cycle.stopped)
+
+pub returns-in-Err-clause-memory : goal.returns-in-Err-clause-memory
+returns-in-Err-clause-memory g c =
+    let D = g.N.Nvm in
+    let armed = c.arm.new.self in
+    let fuse = c.start-begun.new.nvm in
+    lent (λ a b. IsLeftAlone (D.content a) (D.settled a) (D.content b) (D.settled b) c.in-Err.fault) c.args.nvm.now armed.nvm.now fuse.nvm.now _ (search rules) (search rules)
+    (left_alone c.in-Err.fault (D.content armed.nvm.now) (D.settled armed.nvm.now) (D.content fuse.nvm.now) (D.settled fuse.nvm.now) _ _ (λ early. (c.in-Err.ensures.early early).2))
