@@ -45,7 +45,7 @@ only_memory i i' old new (fault.Trace t) bytes image cs v n left within spelled 
 only_memory i i' old new fault.Read bytes image cs v n left within spelled told says room calm quiet cause = absurd (calm cause.0)
 only_memory i i' old new fault.TooLong bytes image cs v n left within spelled told says room calm quiet cause =
     absurd (let more = told_is (λ b. LARGEST_TRACE < length b) i.left bytes left cause.0 in omega (arith, more, within))
-only_memory i i' old new fault.Store bytes image cs v n left within spelled told says room calm quiet cause = absurd (quiet cause)
+only_memory i i' old new fault.Store bytes image cs v n left within spelled told says room calm quiet cause = absurd (quiet cause.1)
 only_memory i i' old new (fault.Short size needed) bytes image cs v n left within spelled told says room calm quiet cause =
     absurd (says_refused image v n (open_fault.Short size needed) says (told_is (λ b. image_refusal b ≡ Some (open_fault.Short size needed)) old.content image told cause.1.0))
 only_memory i i' old new (fault.Header h) bytes image cs v n left within spelled told says room calm quiet cause =

@@ -1,6 +1,6 @@
 -- What is said of an image that is opened.
 use Rattle.std.proofs.Common.{◌≡◌, ◌≢◌, refl, subst, ap, ℕ, inl, List, [], length, slice_index, Option, Some, None, IfSome, Result, Ok, Err, IfOk, IfErr}
-use Rattle.edr_device.specs.Device.{IsQuiet}
+use Rattle.edr_device.specs.Device.{IsQuiet, StillTells}
 use Rattle.edr_image.specs.declared.Header.{Header}
 use Rattle.edr_image.specs.declared.OpenFault.{OpenFault}
 use Rattle.edr_image.specs.Banks.{Store}
@@ -48,3 +48,9 @@ still_there h bytes image same = record {
   past = λ i from below. ap (λ (x : List ℕ). slice_index x i) same;
   says = inl same;
 }
+
+-- bytes that are told again are the same content
+pub same_told : (old new : Option (List ℕ)) → StillTells old new → ((image : List ℕ) → old ≡ Some image → new ≡ Some image) → new ≡ old
+same_told None None tells same = refl
+same_told None (Some b) tells same = absurd tells
+same_told (Some a) new tells same = same a refl

@@ -1,25 +1,28 @@
 -- What the parts of a replay say of the whole.
-use Rattle.std.proofs.Common.{◌≡◌, ◌∙◌, refl, sym, ap, arith, ℕ, ◌≤◌, List, map, Option, Some, None, IfSome}
-use Rattle.edr_device.specs.Device.{IsQuiet, StillTells}
+use Rattle.std.proofs.Common.{◌≡◌, ◌∙◌, refl, sym, subst, ap, inl, inr, arith, ℕ, ◌≤◌, List, [], length, take, map, Option, Some, None, IfSome}
+use Rattle.std.proofs.lemmas.List.{take_all}
+use Rattle.edr_device.specs.Device.{IsQuiet, MayLeave, StillTells}
 use Rattle.edr_device.specs.Faults.{Rose}
+use Rattle.edr_device.proofs.Settling.{quiet_leaves}
 use Rattle.edr_image.specs.declared.OpenFault.{OpenFault}
 use Rattle.edr_image.specs.declared.OpenFault.TheVariants as open_fault
 use Rattle.edr_image.specs.declared.log.CycleReport.{CycleReport}
 use Rattle.edr_image.specs.Banks.{Store}
-use Rattle.edr_image.specs.Image.{View, image_refusal}
+use Rattle.edr_image.specs.Image.{View, image_refusal, view_of}
 use Rattle.edr_image.specs.Reports.{report_of}
 use Rattle.edr_spell.specs.declared.CycleInput.{CycleInput}
 use Rattle.edr_spell.specs.Spell.{Spell}
-use Rattle.edr_run.specs.Cycle.{Outcome}
+use Rattle.edr_run.specs.Cycle.{Outcome, IsRun}
 use Rattle.edr_cycle.specs.declared.started.StartFault.{StartFault}
 use Rattle.edr_cycle.specs.declared.started.StartFault.TheVariants as start
 use Rattle.edr_report.specs.declared.faults.Fault.{Fault}
 use Rattle.edr_report.specs.declared.faults.Fault.TheVariants as fault
 use Rattle.edr_words.specs.declared.Form.{Form}
-use Rattle.edr_replay.specs.Replayed.{Holds, HasRun, EndsSpent, IsFault, IsTrulyRefused}
+use Rattle.edr_replay.specs.Reached.{IsReached, RanFirst, between}
+use Rattle.edr_replay.specs.Replayed.{Holds, HasRun, EndsShort, EndsSpent, IsFault, IsTrulyRefused, LeavesReached}
 use Rattle.edr_cli.specs.Outside.{Input, Memory}
 use Rattle.edr_cli.specs.Reports.{IsImageCause, IsRefused, Says, report_in}
-use Rattle.edr_cli.specs.Runs.{GaveTrace, IsReplayCause, IsSpent, RunIs, TheRun}
+use Rattle.edr_cli.specs.Runs.{GaveTrace, IsReplayCause, IsSpent, LeavesRun, RanSome, Reaches, RunIs, TheRun}
 use Rattle.edr_cli.specs.Steps.{HeldNone, IsRunCause, Reports, fault_of_start}
 use Rattle.edr_cli.proofs.ImageLemmas.{same_view, says_refused, told_is}
 use Rattle.edr_cli.proofs.RunLaws.{the_run}
@@ -28,15 +31,16 @@ use Rattle.edr_cli.proofs.RunLaws.{the_run}
 
 -- the run's fault is that of a call
 pub start_cause : (cs : List CycleInput) (old new : Memory) (e : StartFault) → (IsFault e → Rose old.faults new.faults) → IsTrulyRefused old.content old.settled e
-    → EndsSpent cs old.content old.settled new.content new.settled e → IsRunCause cs old new (fault_of_start e)
-unfolding IsTrulyRefused EndsSpent
-start_cause cs old new (start.Open (open_fault.Short size needed)) rose refused spent = refused (λ e. cc, λ e. cc)
-start_cause cs old new (start.Open (open_fault.Header h)) rose refused spent = refused (λ e. cc, λ e. cc)
-start_cause cs old new (start.Open open_fault.StoreFault) rose refused spent = rose refl
-start_cause cs old new (start.Open open_fault.OutOfMemory) rose refused spent = tt
-start_cause cs old new start.Spent rose refused spent = spent refl
-start_cause cs old new start.StoreFault rose refused spent = rose tt
-start_cause cs old new start.OutOfMemory rose refused spent = tt
+    → EndsSpent cs old.content old.settled new.content new.settled e → LeavesReached cs old.content old.settled new.content new.settled → EndsShort cs old.content old.settled new.content new.settled e
+    → IsRunCause cs old new (fault_of_start e)
+unfolding IsTrulyRefused EndsSpent EndsShort
+start_cause cs old new (start.Open (open_fault.Short size needed)) rose refused spent left short = refused (λ e. cc, λ e. cc)
+start_cause cs old new (start.Open (open_fault.Header h)) rose refused spent left short = refused (λ e. cc, λ e. cc)
+start_cause cs old new (start.Open open_fault.StoreFault) rose refused spent left short = (rose refl, left)
+start_cause cs old new (start.Open open_fault.OutOfMemory) rose refused spent left short = short refl
+start_cause cs old new start.Spent rose refused spent left short = spent refl
+start_cause cs old new start.StoreFault rose refused spent left short = (rose tt, left)
+start_cause cs old new start.OutOfMemory rose refused spent left short = short tt
 
 same_report : (form : Form) (reports : List CycleReport) (o : Outcome) (v : Store) (n : ℕ) → map report_of reports ≡ o.reports → v ≡ o.store → n ≡ o.count → report_in form (map report_of reports) v n ≡ report_in form o.reports o.store o.count
 same_report form reports o v n a b c = cc
@@ -67,19 +71,48 @@ not_refused old mid cs reports e run refused = λ v n holds.
     let h : Holds mid.content mid.settled r.0.store r.0.count = r.3 in
     says_refused h.bytes r.0.store r.0.count e h.says (told_is (λ image. image_refusal image ≡ Some e) mid.content h.bytes h.quiet.0 refused)
 
+-- all cycles ran, and nothing was changed behind them
+all_ran : (cs : List CycleInput) (old mid new : Memory) (reports : List CycleReport) → HasRun cs old.content old.settled mid.content mid.settled reports → new.content ≡ mid.content → ((i : ℕ) → new.settled i ≡ mid.settled i)
+    → (v : Store) (n : ℕ) → Holds old.content old.settled v n → (o : Outcome) × RanFirst cs v n (length cs) o × Holds new.content new.settled o.store o.count
+unfolding HasRun
+all_ran cs old mid new reports run same settled = λ v n h.
+    let r = run v n h in
+    let all : take (length cs) cs ≡ cs = take_all (length cs) cs (omega arith) in
+    let held : Holds mid.content mid.settled r.0.store r.0.count = r.3 in (
+      r.0,
+      record { within = omega arith; run = subst (λ (xs : List CycleInput). IsRun xs v n r.0) (sym all) r.1 },
+      record { bytes = held.bytes; quiet = (same ∙ held.quiet.0, λ i. settled i ∙ held.quiet.1 i); says = held.says },
+    )
+
+leaves_all : (cs : List CycleInput) (old mid new : Memory) (reports : List CycleReport) → HasRun cs old.content old.settled mid.content mid.settled reports → new.content ≡ mid.content → ((i : ℕ) → new.settled i ≡ mid.settled i)
+    → LeavesReached cs old.content old.settled new.content new.settled
+unfolding LeavesReached
+leaves_all cs old mid new reports run same settled = λ v n h image may.
+    let r = all_ran cs old mid new reports run same settled v n h in
+    let held : Holds new.content new.settled r.0.store r.0.count = r.2 in
+    let is = quiet_leaves held.bytes new.content new.settled image held.quiet may in
+    (record { store = r.0.store; count = r.0.count }, ap view_of is ∙ held.says, between (length cs) r.0 r.1 refl refl)
+
+pub short_all : (cs : List CycleInput) (old mid new : Memory) (reports : List CycleReport) → HasRun cs old.content old.settled mid.content mid.settled reports → new.content ≡ mid.content → ((i : ℕ) → new.settled i ≡ mid.settled i)
+    → IsRunCause cs old new fault.OutOfMemory
+short_all cs old mid new reports run same settled = λ v n h. let r = all_ran cs old mid new reports run same settled v n h in (length cs, r.0, r.1, r.2)
+
 -- why the banks were not opened behind the run
 pub behind_cause : (cs : List CycleInput) (old mid new : Memory) (reports : List CycleReport) (f : Fault)
-    → HasRun cs old.content old.settled mid.content mid.settled reports → old.faults ≤ mid.faults → IsImageCause mid new f → IsRunCause cs old new f
-behind_cause cs old mid new reports fault.Store run later cause = grind (arith, later, cause)
-behind_cause cs old mid new reports (fault.Short size needed) run later cause = not_refused old mid cs reports (open_fault.Short size needed) run cause.0
-behind_cause cs old mid new reports (fault.Header h) run later cause = not_refused old mid cs reports (open_fault.Header h) run cause.0
-behind_cause cs old mid new reports fault.OutOfMemory run later cause = tt
-behind_cause cs old mid new reports fault.Usage run later cause = cause
-behind_cause cs old mid new reports (fault.Trace t) run later cause = cause
-behind_cause cs old mid new reports fault.Read run later cause = cause
-behind_cause cs old mid new reports fault.Formatted run later cause = absurd cause
-behind_cause cs old mid new reports fault.Spent run later cause = absurd cause
-behind_cause cs old mid new reports fault.TooLong run later cause = cause
+    → HasRun cs old.content old.settled mid.content mid.settled reports → new.content ≡ mid.content → ((i : ℕ) → new.settled i ≡ mid.settled i) → old.faults ≤ mid.faults → IsImageCause mid new f → IsRunCause cs old new f
+behind_cause cs old mid new reports fault.Store run same settled later cause = (rose_later old.faults mid.faults new.faults later cause, leaves_all cs old mid new reports run same settled)
+  where
+    rose_later : (a b c : ℕ) → a ≤ b → Rose b c → Rose a c
+    rose_later a b c le rose = grind (arith, le, rose)
+behind_cause cs old mid new reports (fault.Short size needed) run same settled later cause = not_refused old mid cs reports (open_fault.Short size needed) run cause.0
+behind_cause cs old mid new reports (fault.Header h) run same settled later cause = not_refused old mid cs reports (open_fault.Header h) run cause.0
+behind_cause cs old mid new reports fault.OutOfMemory run same settled later cause = short_all cs old mid new reports run same settled
+behind_cause cs old mid new reports fault.Usage run same settled later cause = cause
+behind_cause cs old mid new reports (fault.Trace t) run same settled later cause = cause
+behind_cause cs old mid new reports fault.Read run same settled later cause = cause
+behind_cause cs old mid new reports fault.Formatted run same settled later cause = absurd cause
+behind_cause cs old mid new reports fault.Spent run same settled later cause = absurd cause
+behind_cause cs old mid new reports fault.TooLong run same settled later cause = cause
 
 -- ---- the whole
 
@@ -108,6 +141,20 @@ gave i cs spelled = go i.left spelled where
   go None spelled = tt
   go (Some bytes) spelled = (cs, spelled)
 
+-- the image was not opened
+pub look_cause : (i i' : Input) (old new : Memory) (cs : List CycleInput) (f : Fault) → IfSome i.left (λ bytes. Spell bytes cs) → ((bytes image : List ℕ) → IsQuiet old.content old.settled bytes → MayLeave new.content new.settled image → image ≡ bytes) → LeavesRun i old new
+    → IsImageCause old new f → IsReplayCause i i' old new f
+look_cause i i' old new cs fault.Store spelled stays left cause = (gave i cs spelled, cause, left)
+look_cause i i' old new cs (fault.Short size needed) spelled stays left cause = (gave i cs spelled, cause)
+look_cause i i' old new cs (fault.Header h) spelled stays left cause = (gave i cs spelled, cause)
+look_cause i i' old new cs fault.OutOfMemory spelled stays left cause = inl cause
+look_cause i i' old new cs fault.Usage spelled stays left cause = cause
+look_cause i i' old new cs (fault.Trace t) spelled stays left cause = absurd cause
+look_cause i i' old new cs fault.Read spelled stays left cause = absurd cause
+look_cause i i' old new cs fault.Formatted spelled stays left cause = cause
+look_cause i i' old new cs fault.Spent spelled stays left cause = absurd cause
+look_cause i i' old new cs fault.TooLong spelled stays left cause = absurd cause
+
 -- behind a look that passed no image is refused, so the device tells none
 none_refused : (old mid new : Memory) (v : Store) (n : ℕ) (e : OpenFault) → Settled old mid v n → StillTells old.content new.content → HeldNone mid → IsRefused e old new
 none_refused old mid new v n e settled tells none = go old.content new.content tells (λ image told. settled image told)
@@ -121,10 +168,42 @@ none_refused old mid new v n e settled tells none = go old.content new.content t
         let held : Holds mid.content mid.settled v n = record { bytes = image; quiet = s.1; says = s.0 } in
         absurd (none v n held)
 
+some_view : (o : Option View) (v : View) → o ≡ None → o ≡ Some v → ⊥
+some_view o v a b = cc
+
+if_spelled : (left : Option (List ℕ)) (cs : List CycleInput) (P : List ℕ → Type 0) → ((trace : List ℕ) → Spell trace cs → P trace) → IfSome left (λ bytes. Spell bytes cs) → IfSome left P
+if_spelled None cs P make spelled = tt
+if_spelled (Some trace) cs P make spelled = make trace spelled
+
+-- what a fault in the run leaves of the device
+leaves_run : (i : Input) (old mid new : Memory) (cs : List CycleInput) (v : Store) (n : ℕ) → IfSome i.left (λ bytes. Spell bytes cs) → Settled old mid v n → LeavesReached cs mid.content mid.settled new.content new.settled → LeavesRun i old new
+unfolding LeavesReached
+leaves_run i old mid new cs v n spelled settled left = λ bytes image quiet may.
+    let s = settled bytes quiet.0 in
+    let held : Holds mid.content mid.settled v n = record { bytes = bytes; quiet = s.1; says = s.0 } in
+    let r = left v n held image may in (
+      (λ none. absurd (some_view (view_of bytes) (record { store = v; count = n }) none s.0)),
+      (λ w says. let same : ◌≡◌ {A = View} (record { store = v; count = n }) w = same_view _ _ (sym s.0 ∙ says) in
+          subst (λ (x : View). IfSome i.left (λ trace. Reaches trace x image)) same
+          (if_spelled i.left cs (λ trace. Reaches trace (record { store = v; count = n }) image) (λ trace is. record { cycles = cs; spelled = is; view = r.0; view_is = r.1; reached = r.2 }) spelled)),
+    )
+
+-- before the run nothing was changed
+pub leaves_none : (i : Input) (old new : Memory) (cs : List CycleInput) → IfSome i.left (λ bytes. Spell bytes cs) → ((bytes image : List ℕ) → IsQuiet old.content old.settled bytes → MayLeave new.content new.settled image → image ≡ bytes) → LeavesRun i old new
+leaves_none i old new cs spelled stays = λ bytes image quiet may.
+    let same = stays bytes image quiet may in (
+      (λ none. same),
+      (λ w says. if_spelled i.left cs (λ trace. Reaches trace w image)
+          (λ trace is. record { cycles = cs; spelled = is; view = w; view_is = ap view_of same ∙ says; reached = between 0 (record { reports = []; store = w.store; count = w.count }) (record { within = omega arith; run = refl }) refl refl }) spelled),
+    )
+
 -- the cycles were not run to the end, or not reported
 pub run_replay : (i i' : Input) (old mid new : Memory) (cs : List CycleInput) (v : Store) (n : ℕ) (f : Fault) → IfSome i.left (λ bytes. Spell bytes cs) → Settled old mid v n
     → StillTells old.content new.content → old.faults ≤ mid.faults → IsRunCause cs mid new f → IsReplayCause i i' old new f
-run_replay i i' old mid new cs v n fault.Store spelled settled tells later cause = grind (arith, later, cause)
+run_replay i i' old mid new cs v n fault.Store spelled settled tells later cause = (gave i cs spelled, rose_later old.faults mid.faults new.faults later cause.0, leaves_run i old mid new cs v n spelled settled cause.1)
+  where
+    rose_later : (a b c : ℕ) → a ≤ b → Rose b c → Rose a c
+    rose_later a b c le rose = grind (arith, le, rose)
 run_replay i i' old mid new cs v n (fault.Short size needed) spelled settled tells later cause =
     (gave i cs spelled, none_refused old mid new v n (open_fault.Short size needed) settled tells cause)
 run_replay i i' old mid new cs v n (fault.Header h) spelled settled tells later cause =
@@ -140,7 +219,17 @@ run_replay i i' old mid new cs v n fault.Spent spelled settled tells later cause
         let held : Holds mid.content mid.settled v n = record { bytes = image; quiet = s.1; says = s.0 } in
         let r = cause v n held in
         record { cycles = cs; store = v; count = n; outcome = r.0; spelled = spelled; says = s.0; ran = r.1; held = r.2 }
-run_replay i i' old mid new cs v n fault.OutOfMemory spelled settled tells later cause = tt
+run_replay i i' old mid new cs v n fault.OutOfMemory spelled settled tells later cause = inr (go i.left old.content spelled (λ image told. settled image told))
+  where
+    go : (left content : Option (List ℕ)) → IfSome left (λ bytes. Spell bytes cs) → ((image : List ℕ) → content ≡ Some image → Says image v n × IsQuiet mid.content mid.settled image)
+        → IfSome left (λ bytes. IfSome content (λ image. RanSome bytes image new))
+    go None content spelled settled = tt
+    go (Some bytes) None spelled settled = tt
+    go (Some bytes) (Some image) spelled settled =
+        let s = settled image refl in
+        let held : Holds mid.content mid.settled v n = record { bytes = image; quiet = s.1; says = s.0 } in
+        let r = cause v n held in
+        record { cycles = cs; store = v; count = n; p = r.0; outcome = r.1; spelled = spelled; says = s.0; ran = r.2; held = r.3 }
 run_replay i i' old mid new cs v n fault.Usage spelled settled tells later cause = cause
 run_replay i i' old mid new cs v n (fault.Trace t) spelled settled tells later cause = absurd cause
 run_replay i i' old mid new cs v n fault.Read spelled settled tells later cause = absurd cause

@@ -56,7 +56,7 @@ abbrev pub IsImageCause : Memory → Memory → Fault → Type 0
 IsImageCause old new fault.Store = Rose old.faults new.faults
 IsImageCause old new (fault.Short size needed) = IsRefused (open_fault.Short size needed) old new
 IsImageCause old new (fault.Header h) = IsRefused (open_fault.Header h) old new
-IsImageCause old new fault.OutOfMemory = ⊤
+IsImageCause old new fault.OutOfMemory = new.content ≡ old.content
 IsImageCause old new fault.Usage = ⊥
 IsImageCause old new (fault.Trace t) = ⊥
 IsImageCause old new fault.Read = ⊥

@@ -1,5 +1,6 @@
 -- What the run of a trace comes to, and why there is none.
-use Rattle.std.specs.Prelude.{◌≡◌, ◌≤◌, ◌<◌, ℕ, true, List, length, slice_get, Option, Some, IfSome, ⊤}
+use Rattle.std.specs.Prelude.{◌≡◌, ◌⊎◌, ◌≤◌, ◌<◌, ℕ, true, None, List, length, slice_get, Option, Some, IfSome, ⊤}
+use Rattle.edr_device.specs.Device.{IsQuiet, MayLeave}
 use Rattle.edr_device.specs.Faults.{Rose}
 use Rattle.edr_record.specs.Parts.{PrePart, CrashPart}
 use Rattle.edr_record.specs.declared.Record.{Record}
@@ -10,6 +11,7 @@ use Rattle.edr_image.specs.declared.Applied.TheVariants as applied
 use Rattle.edr_image.specs.declared.BankView.TheVariants.{Event}
 use Rattle.edr_image.specs.Answered.{IsLockedIn, IsLockedWith}
 use Rattle.edr_image.specs.Banks.{Store}
+use Rattle.edr_image.specs.Image.{View, view_of}
 use Rattle.edr_image.specs.Kept.{AreKept}
 use Rattle.edr_image.specs.Reports.{Ran}
 use Rattle.edr_spell.specs.declared.CycleInput.{CycleInput}
@@ -22,6 +24,7 @@ use Rattle.edr_run.specs.Own.{IsInWindow}
 use Rattle.edr_report.specs.declared.faults.Fault.{Fault}
 use Rattle.edr_report.specs.declared.faults.Fault.TheVariants as fault
 use Rattle.edr_words.specs.declared.Form.{Form}
+use Rattle.edr_replay.specs.Reached.{IsReached, RanFirst}
 use Rattle.edr_replay.specs.Replayed.{Holds, RanToTheLast}
 use Rattle.edr_cli.specs.Outside.{Input, Memory}
 use Rattle.edr_cli.specs.Reports.{Says, report_in, IsImageCause}
@@ -115,6 +118,32 @@ pub record IsSpent (bytes image : List ℕ) (new : Memory) : Type 0 where
   pub ran : RanToTheLast cycles store count outcome
   pub held : Holds new.content new.settled outcome.store outcome.count
 
+-- the trace of these bytes brings a view to one that the image says: after some first cycles, or by a stop in the next one
+pub record Reaches (bytes : List ℕ) (v : View) (image : List ℕ) : Type 0 where
+  pub cycles : List CycleInput
+  pub spelled : Spell bytes cycles
+  pub view : View
+  pub view_is : view_of image ≡ Some view
+  pub reached : IsReached cycles v.store v.count view.store view.count
+
+-- where nothing was pending, each image that a crash may leave is the bytes, if they have no view, or else one that the trace reaches
+abbrev pub LeavesRun : Input → Memory → Memory → Type 0
+LeavesRun i old new = (bytes image : List ℕ) → IsQuiet old.content old.settled bytes → MayLeave new.content new.settled image
+    → (view_of bytes ≡ None → image ≡ bytes)
+    × ((v : View) → view_of bytes ≡ Some v → IfSome i.left (λ trace. Reaches trace v image))
+
+-- some first cycles of the trace ran, and the device holds what they came to
+pub record RanSome (bytes image : List ℕ) (new : Memory) : Type 0 where
+  pub cycles : List CycleInput
+  pub store : Store
+  pub count : ℕ
+  pub p : ℕ
+  pub outcome : Outcome
+  pub spelled : Spell bytes cycles
+  pub says : Says image store count
+  pub ran : RanFirst cycles store count p outcome
+  pub held : Holds new.content new.settled outcome.store outcome.count
+
 -- why a source gave no trace
 abbrev pub IsTraceCause : Input → Input → Fault → Type 0
 IsTraceCause i i' (fault.Trace t) = IfSome i.left (λ bytes. (length bytes ≤ LARGEST_TRACE) × IsFaultOf bytes t)
@@ -133,10 +162,10 @@ abbrev pub IsReplayCause : Input → Input → Memory → Memory → Fault → T
 IsReplayCause i i' old new (fault.Trace t) = IsTraceCause i i' (fault.Trace t) × (new ≡ old)
 IsReplayCause i i' old new fault.Read = IsTraceCause i i' fault.Read × (new ≡ old)
 IsReplayCause i i' old new fault.TooLong = IsTraceCause i i' fault.TooLong × (new ≡ old)
-IsReplayCause i i' old new fault.Store = Rose old.faults new.faults
+IsReplayCause i i' old new fault.Store = GaveTrace i × Rose old.faults new.faults × LeavesRun i old new
 IsReplayCause i i' old new (fault.Short size needed) = GaveTrace i × IsImageCause old new (fault.Short size needed)
 IsReplayCause i i' old new (fault.Header h) = GaveTrace i × IsImageCause old new (fault.Header h)
 IsReplayCause i i' old new fault.Spent = IfTold i old (λ bytes image. IsSpent bytes image new)
-IsReplayCause i i' old new fault.OutOfMemory = ⊤
+IsReplayCause i i' old new fault.OutOfMemory = (new.content ≡ old.content) ⊎ IfTold i old (λ bytes image. RanSome bytes image new)
 IsReplayCause i i' old new fault.Usage = ⊥
 IsReplayCause i i' old new fault.Formatted = ⊥

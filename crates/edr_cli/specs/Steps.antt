@@ -1,5 +1,5 @@
 -- What the steps of a run say of each other. The clauses of the top call need none of this.
-use Rattle.std.specs.Prelude.{◌≡◌, ℕ, List, ⊤}
+use Rattle.std.specs.Prelude.{◌≡◌, ℕ, List}
 use Rattle.edr_device.specs.Faults.{Rose}
 use Rattle.edr_image.specs.Banks.{Store}
 use Rattle.edr_spell.specs.declared.CycleInput.{CycleInput}
@@ -9,7 +9,8 @@ use Rattle.edr_cycle.specs.declared.started.StartFault.TheVariants as start
 use Rattle.edr_report.specs.declared.faults.Fault.{Fault}
 use Rattle.edr_report.specs.declared.faults.Fault.TheVariants as fault
 use Rattle.edr_words.specs.declared.Form.{Form}
-use Rattle.edr_replay.specs.Replayed.{Holds, RanToTheLast}
+use Rattle.edr_replay.specs.Reached.{RanFirst}
+use Rattle.edr_replay.specs.Replayed.{Holds, LeavesReached, RanToTheLast}
 use Rattle.edr_cli.specs.Outside.{Memory}
 use Rattle.edr_cli.specs.Reports.{fault_of, report_in}
 
@@ -31,12 +32,13 @@ HeldNone old = (v : Store) (n : ℕ) → ¬ Holds old.content old.settled v n
 
 -- why there is no report of a run of these cycles
 abbrev pub IsRunCause : List CycleInput → Memory → Memory → Fault → Type 0
-IsRunCause cycles old new fault.Store = Rose old.faults new.faults
+IsRunCause cycles old new fault.Store = Rose old.faults new.faults × LeavesReached cycles old.content old.settled new.content new.settled
 IsRunCause cycles old new (fault.Short size needed) = HeldNone old
 IsRunCause cycles old new (fault.Header h) = HeldNone old
 IsRunCause cycles old new fault.Spent = (v : Store) (n : ℕ) → Holds old.content old.settled v n
     → (o : Outcome) × RanToTheLast cycles v n o × Holds new.content new.settled o.store o.count
-IsRunCause cycles old new fault.OutOfMemory = ⊤
+IsRunCause cycles old new fault.OutOfMemory = (v : Store) (n : ℕ) → Holds old.content old.settled v n
+    → (p : ℕ) × (o : Outcome) × RanFirst cycles v n p o × Holds new.content new.settled o.store o.count
 IsRunCause cycles old new fault.Usage = ⊥
 IsRunCause cycles old new (fault.Trace t) = ⊥
 IsRunCause cycles old new fault.Read = ⊥

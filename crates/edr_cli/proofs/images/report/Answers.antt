@@ -1,7 +1,9 @@
-use Rattle.std.proofs.Common.{◌≡◌, []}
+use Rattle.std.proofs.Common.{◌≡◌, [], sym, subst}
+use Rattle.edr_report.specs.declared.faults.Fault.{Fault}
+use Rattle.edr_report.specs.declared.faults.Fault.TheVariants as fault
 use Rattle.edr_cli.specs.Outside.{memory}
-use Rattle.edr_cli.specs.Reports.{ReportIs, report_in}
-use Rattle.edr_cli.proofs.ImageLemmas.{ok_map, reported}
+use Rattle.edr_cli.specs.Reports.{IsImageCause, ReportIs, report_in}
+use Rattle.edr_cli.proofs.ImageLemmas.{err_map, ok_map, reported, same_told}
 use Rattle.edr_cli.proofs.images.report.Goals as goal
 
 pub returns-clause-text : goal.returns-clause-text
@@ -12,3 +14,12 @@ returns-clause-text g c =
     let b = c.in_ok-banks.banks in
     ok_map c.report_of_banks.result (λ out. out.items ≡ report_in c.args.form [] b.store b.count) (λ out. ReportIs c.args.form old new out.items)
     (λ out is. reported c.args.form old new b.store b.count out.items c.in_ok-banks.ensures.says is) c.report_of_banks.ensures.text
+
+pub returns-clause-cause : goal.returns-clause-cause
+returns-clause-cause g c =
+    let D = g.N.Nvm in
+    let old = memory D.extent D.content D.settled D.faults c.args.nvm.now in
+    let new = memory D.extent D.content D.settled D.faults c.open_settled.new.nvm in
+    err_map c.report_of_banks.result (λ e. e ≡ fault.OutOfMemory) (λ f. IsImageCause old new f)
+    (λ f is. subst (λ (x : Fault). IsImageCause old new x) (sym is) (same_told old.content new.content c.open_settled.ensures.told (λ image told. (c.in_ok-banks.ensures.says image told).1.0)))
+    c.report_of_banks.ensures.memory

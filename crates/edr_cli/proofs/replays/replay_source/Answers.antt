@@ -1,10 +1,11 @@
 use Rattle.std.proofs.Common.{subst, List}
+use Rattle.std.proofs.lemmas.Result.{err_from_is_err_and}
 use Rattle.edr_spell.specs.declared.CycleInput.{CycleInput}
 use Rattle.edr_cli.specs.Outside.{input, memory}
 use Rattle.edr_cli.specs.Runs.{IsReplayCause, RunIs}
 use Rattle.edr_cli.specs.Steps.{IsRunCause, Reports}
 use Rattle.edr_cli.proofs.ImageLemmas.{ok_map, err_map}
-use Rattle.edr_cli.proofs.ReplayLemmas.{replayed, run_replay}
+use Rattle.edr_cli.proofs.ReplayLemmas.{leaves_none, look_cause, replayed, run_replay}
 use Rattle.edr_device.proofs.Settling.{tells_again}
 use Rattle.edr_cli.proofs.replays.replay_source.Goals as goal
 
@@ -37,3 +38,16 @@ returns-clause-cause g c =
     (λ f cause. run_replay i i' old mid new cs b.store b.count f c.in_ok-cycles.ensures.spelled c.in_ok-open_settled.ensures.says
     (tells_again old.content mid.content new.content c.open_settled.ensures.told c.run.ensures.told) c.open_settled.ensures.later
     (subst (λ (xs : List CycleInput). IsRunCause xs mid new f) c.deref.ensures.value cause)) c.run.ensures.cause
+
+pub returns-in_err-open_settled-clause-cause : goal.returns-in_err-open_settled-clause-cause
+returns-in_err-open_settled-clause-cause g c =
+    let S = g.S.Source in
+    let D = g.N.Nvm in
+    let i = input S.left S.faults c.args.source.now in
+    let i' = input S.left S.faults c.trace_of.new.source in
+    let old = memory D.extent D.content D.settled D.faults c.args.nvm.now in
+    let new = memory D.extent D.content D.settled D.faults c.open_settled.new.nvm in
+    let cs = c.in_ok-cycles.cycles.items in
+    let p = err_from_is_err_and c.from_residual-in_err-open_settled.result c.from_residual-in_err-open_settled.ensures.1 in
+    rw (p.1, p.2) (look_cause i i' old new cs c.in_err-open_settled.field-0.0 c.in_ok-cycles.ensures.spelled c.open_settled.ensures.stays
+    (leaves_none i old new cs c.in_ok-cycles.ensures.spelled c.open_settled.ensures.stays) c.in_err-open_settled.ensures.cause)
