@@ -3,6 +3,7 @@ pub mod FewCalls
 pub mod StopLemmas
 pub mod StartPhase
 pub mod RunPhase
+pub mod PastLemmas
 pub mod CycleLemmas
 pub mod Running
 pub mod Leaving

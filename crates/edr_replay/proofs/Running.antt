@@ -9,8 +9,10 @@ use Rattle.edr_image.specs.Reports.{report_of}
 use Rattle.edr_spell.specs.declared.CycleInput.{CycleInput}
 use Rattle.edr_cycle.specs.declared.started.StartFault.{StartFault}
 use Rattle.edr_cycle.proofs.Answered.{tells_self}
+use Rattle.edr_replay.specs.Past.{LeavesPast}
 use Rattle.edr_replay.specs.Replayed.{HasRun, IsTrulySpent, IsTrulyRefused, EndsSpent}
 use Rattle.edr_replay.proofs.CycleLemmas.{EndsFrom}
+use Rattle.edr_replay.proofs.PastLemmas.{past_none, past_then, run_header}
 use Rattle.edr_replay.proofs.RunLemmas.{extended, run_more}
 
 -- the first k cycles have run, and so the device stands. Its words come first, as functions of it.
@@ -22,6 +24,7 @@ pub record Running {D : Type 0} (extent : D → ℕ) (content : D → Option (Li
   pub count : length reports ≡ k
   pub room : length cs ≤ capacity
   pub run : HasRun (take k cs) (content old) (settled old) (content new) (settled new) reports
+  pub past : LeavesPast (content old) (settled old) (content new) (settled new)
 
 -- no cycle has run, and nothing is told
 pub has_run_none : (content : Option (List ℕ)) (settled : ℕ → Bool) → HasRun [] content settled content settled []
@@ -52,15 +55,23 @@ running_first extent content settled faults goes_on cs capacity reports d self n
   count = ap length none;
   room = room;
   run = subst (λ (rs : List CycleReport). HasRun [] (content d) (settled d) (content d) (settled d) rs) (sym none) (has_run_none (content d) (settled d));
+  past = past_none (content d) (settled d);
 }
+
+-- what stands past the image, behind cycles that have run
+pub past_ran : (cs : List CycleInput) (content content' content'' : Option (List ℕ)) (settled settled' settled'' : ℕ → Bool) (reports : List CycleReport) → LeavesPast content settled content' settled' → HasRun cs content settled content' settled' reports
+    → LeavesPast content' settled' content'' settled'' → LeavesPast content settled content'' settled''
+unfolding HasRun
+past_ran cs content content' content'' settled settled' settled'' reports first has second = past_then content content' content'' settled settled' settled'' first
+    (λ v n holds. let h = has v n holds in (h.0.store, h.0.count, h.3, run_header cs v n h.0 h.1)) second
 
 -- one more cycle has run
 pub running_more : {D : Type 0} (extent : D → ℕ) (content : D → Option (List ℕ)) (settled : D → ℕ → Bool) (faults : D → ℕ) (goes_on : D → D → Type 0) (cs : List CycleInput) (c : CycleInput) (k capacity capacity' : ℕ) (reports reports' : List CycleReport) (report : CycleReport) (old mid new : D)
     → Running extent content settled faults goes_on cs k capacity reports old mid → k < length cs → c ≡ get_or cs k c
     → extent new ≡ extent mid → goes_on old new → StillTells (content mid) (content new) → faults mid ≤ faults new
-    → EndsFrom c (content mid) (settled mid) (content new) (settled new) report → reports' ≡ reports ++ report ∷ [] → length cs ≤ capacity'
+    → LeavesPast (content mid) (settled mid) (content new) (settled new) → EndsFrom c (content mid) (settled mid) (content new) (settled new) report → reports' ≡ reports ++ report ∷ [] → length cs ≤ capacity'
     → Running extent content settled faults goes_on cs (k + 1) capacity' reports' old new
-running_more extent content settled faults goes_on cs c k capacity capacity' reports reports' report old mid new r below is size device tells later ends put room =
+running_more extent content settled faults goes_on cs c k capacity capacity' reports reports' report old mid new r below is size device tells later past ends put room =
     let first : take (k + 1) cs ≡ take k cs ++ c ∷ [] = rw (add-one k) (take-suc cs k c below ∙ ap (λ (x : CycleInput). take k cs ++ x ∷ []) (sym is)) in
     let has = has_run_more (take k cs) c (content old) (settled old) (content mid) (settled mid) (content new) (settled new) reports report r.run ends in
     let before = r.later in
@@ -73,6 +84,7 @@ running_more extent content settled faults goes_on cs c k capacity capacity' rep
       count = ap length put ∙ grind (arith, length-append, count);
       room = room;
       run = subst (λ (x : List CycleInput). HasRun x (content old) (settled old) (content new) (settled new) reports') (sym first) (subst (λ (x : List CycleReport). HasRun (take k cs ++ c ∷ []) (content old) (settled old) (content new) (settled new) x) (sym put) has);
+      past = past_ran (take k cs) (content old) (content mid) (content new) (settled old) (settled mid) (settled new) reports r.past r.run past;
     }
 
 -- the next cycle finds no number left

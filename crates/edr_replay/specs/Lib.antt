@@ -1,3 +1,4 @@
 pub mod Reached
 pub mod Replayed
 pub mod Phases
+pub mod Past

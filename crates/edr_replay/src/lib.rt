@@ -13,6 +13,7 @@ ghost use Rattle.edr_image.specs.Banks.{Store};
 ghost use Rattle.edr_image.specs.Reports.{report_of};
 ghost use Rattle.edr_run.specs.Cycle.{End, IsCycle, Outcome, IsRun, last_count};
 ghost use Rattle.edr_spell.specs.Spell.{IsCycle as IsSpelled};
+ghost use Rattle.edr_replay.specs.Past.{LeavesPast};
 ghost use Rattle.edr_replay.specs.Replayed.{EndsShort, EndsSpent, HasRun, Holds, IsFault, IsLeftAlone, IsTrulyRefused, IsTrulySpent, LeavesPart, LeavesReached};
 
 pub use edr_cycle::StartFault;
@@ -42,6 +43,7 @@ fn run_cycle<N: Nvm>(
     ensures fault { IfErr result (λ e. IsFault e → Rose (N.faults nvm.old) (N.faults nvm.new)) }
     ensures left { IfErr result (λ _. LeavesPart cycle.now (N.content nvm.old) (N.settled nvm.old) (N.content nvm.new) (N.settled nvm.new)) }
     ensures memory { IfErr result (IsLeftAlone (N.content nvm.old) (N.settled nvm.old) (N.content nvm.new) (N.settled nvm.new)) }
+    ensures past { LeavesPast (N.content nvm.old) (N.settled nvm.old) (N.content nvm.new) (N.settled nvm.new) }
 {
     match start_until(alloc, nvm, cycle.start_stop, cycle.feeds.horizon())? {
         Begun::Stopped => Ok(CycleReport::StartStopped {
@@ -68,6 +70,7 @@ pub fn replay<N: Nvm>(
     ensures fault { IfErr result (λ e. IsFault e → Rose (N.faults nvm.old) (N.faults nvm.new)) }
     ensures left { IfErr result (λ _. LeavesReached cycles.now (N.content nvm.old) (N.settled nvm.old) (N.content nvm.new) (N.settled nvm.new)) }
     ensures memory { IfErr result (EndsShort cycles.now (N.content nvm.old) (N.settled nvm.old) (N.content nvm.new) (N.settled nvm.new)) }
+    ensures past { LeavesPast (N.content nvm.old) (N.settled nvm.old) (N.content nvm.new) (N.settled nvm.new) }
 {
     let Ok(mut reports) = Vec::with_capacity(alloc, cycles.len()) else {
         return Err(StartFault::OutOfMemory);

@@ -7,6 +7,7 @@ ghost use Rattle.edr_image.specs.Image.{image_size};
 ghost use Rattle.edr_image.specs.Reports.{Ran, report_of};
 ghost use Rattle.edr_items.specs.SensorLists.{AreFeeds, IsLevel, horizon_of};
 ghost use Rattle.edr_replay.specs.Replayed.{IsFault, IsLeftAlone, IsTrulyRefused, IsTrulySpent};
+ghost use Rattle.edr_replay.specs.Past.{LeavesPast, LeavesPastOf};
 ghost use Rattle.edr_replay.specs.Phases.{BeginsAs, LeavesOfRun, LeavesOfStart, RunsFrom};
 
 use edr_cycle::{CycleEnd, StartFault, Started, run_alone, start};
@@ -49,6 +50,7 @@ pub(crate) fn start_until<N: Nvm>(
     ensures fault { IfErr result (λ e. IsFault e → Rose (N.faults nvm.old) (N.faults nvm.new)) }
     ensures left { IfErr result (λ _. LeavesOfStart (N.content nvm.old) (N.settled nvm.old) (N.content nvm.new) (N.settled nvm.new)) }
     ensures memory { IfErr result (IsLeftAlone (N.content nvm.old) (N.settled nvm.old) (N.content nvm.new) (N.settled nvm.new)) }
+    ensures past { LeavesPast (N.content nvm.old) (N.settled nvm.old) (N.content nvm.new) (N.settled nvm.new) }
 {
     let mut fuse = Fused::new(nvm);
     fuse.arm(stop);
@@ -91,6 +93,7 @@ pub(crate) fn run_until<N: Nvm>(
     ensures ran { IfOk result (RunsFrom feeds.now stop started.number started.banks.store (N.content nvm.old) (N.settled nvm.old) (N.content nvm.new) (N.settled nvm.new)) }
     ensures fault { IfErr result (λ e. (e ≡ StartFault.StoreFault) × Rose (N.faults nvm.old) (N.faults nvm.new)) }
     ensures left { IfErr result (λ _. LeavesOfRun feeds.now stop started.number started.banks.store (N.content nvm.old) (N.settled nvm.old) (N.content nvm.new) (N.settled nvm.new)) }
+    ensures past { LeavesPastOf (record { store = started.banks.store; count = started.number }) (N.content nvm.old) (N.settled nvm.old) (N.content nvm.new) (N.settled nvm.new) }
 {
     let mut fuse = Fused::new(&mut *nvm);
     fuse.arm(stop);

@@ -1,7 +1,8 @@
 use Rattle.std.proofs.Common.{rules, arith}
 use Rattle.edr_cycle.specs.declared.started.StartFault.TheVariants as fault
 use Rattle.edr_replay.proofs.CycleLemmas.{memory_spent, memory_refused}
-use Rattle.edr_replay.proofs.Running.{running_first, running_more, ends_spent, ends_refused}
+use Rattle.edr_replay.proofs.PastLemmas.{past_none}
+use Rattle.edr_replay.proofs.Running.{running_first, running_more, ends_spent, ends_refused, past_ran}
 use Rattle.edr_replay.proofs.Leaving.{reached_none, reached_more, short_none, short_more}
 use Rattle.edr_replay.proofs.replay.Goals as goal
 
@@ -40,7 +41,7 @@ loop-cycle-preserved g c =
     let mid = c.loop-cycle.nvm in
     let new = c.run_cycle.new.nvm in
     running_more D.extent D.content D.settled D.faults D.goes_on c.args.cycles.now c.cycle-item.result c.loop-cycle.cycle-index _ _ c.loop-cycle.reports.items c.push_reserved.new.self.items c.in_ok-report.report old mid new
-    c.loop-cycle.invariant c.loop-cycle-test.true c.cycle-item.is c.run_cycle.ensures.size (g.met.N.Nvm.goes_on_again old mid new c.loop-cycle.invariant.device c.run_cycle.ensures.device) c.run_cycle.ensures.tells c.run_cycle.ensures.later
+    c.loop-cycle.invariant c.loop-cycle-test.true c.cycle-item.is c.run_cycle.ensures.size (g.met.N.Nvm.goes_on_again old mid new c.loop-cycle.invariant.device c.run_cycle.ensures.device) c.run_cycle.ensures.tells c.run_cycle.ensures.later c.run_cycle.ensures.past
     c.in_ok-report.ensures.ran c.push_reserved.ensures.items (let same = c.push_reserved.ensures.capacity in let room = c.loop-cycle.invariant.room in omega (arith, same, room))
 
 pub returns-in_default-clause-left : goal.returns-in_default-clause-left
@@ -66,3 +67,14 @@ returns-in_err-report-clause-memory g c =
     let new = c.run_cycle.new.nvm in
     let s = short_more c.args.cycles.now c.loop-cycle.cycle-index (D.content old) (D.settled old) (D.content mid) (D.settled mid) (D.content new) (D.settled new) c.loop-cycle.reports.items c.in_err-report.field-0.0 c.loop-cycle.invariant.run c.loop-cycle-test.true c.in_err-report.ensures.memory in
     search rules
+
+pub returns-in_default-clause-past : goal.returns-in_default-clause-past
+returns-in_default-clause-past g c = let D = g.N.Nvm in past_none (D.content c.args.nvm.now) (D.settled c.args.nvm.now)
+
+pub returns-in_err-report-clause-past : goal.returns-in_err-report-clause-past
+returns-in_err-report-clause-past g c =
+    let D = g.N.Nvm in
+    let old = c.args.nvm.now in
+    let mid = c.loop-cycle.nvm in
+    let new = c.run_cycle.new.nvm in
+    past_ran _ (D.content old) (D.content mid) (D.content new) (D.settled old) (D.settled mid) (D.settled new) c.loop-cycle.reports.items c.loop-cycle.invariant.past c.loop-cycle.invariant.run c.run_cycle.ensures.past

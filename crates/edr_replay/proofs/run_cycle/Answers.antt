@@ -3,6 +3,7 @@ use Rattle.edr_replay.specs.declared.phases.Begun.{Begun}
 use Rattle.edr_replay.specs.Phases.{BeginsAs}
 use Rattle.edr_replay.proofs.CycleLemmas.{stopped_ends, begun_ran, not_spent, not_refused, rose_later}
 use Rattle.edr_replay.proofs.Leaving.{part_of_start, part_of_run, not_memory}
+use Rattle.edr_replay.proofs.PastLemmas.{begun_past}
 use Rattle.edr_replay.proofs.run_cycle.Goals as goal
 
 pub returns-in-Stopped-clause-ran : goal.returns-in-Stopped-clause-ran
@@ -56,3 +57,12 @@ pub returns-in-Started-clause-memory : goal.returns-in-Started-clause-memory
 returns-in-Started-clause-memory g c =
     let D = g.N.Nvm in
     not_memory c.run_until.result (D.faults c.start_until.new.nvm) (D.faults c.run_until.new.nvm) (D.content c.args.nvm.now) (D.settled c.args.nvm.now) (D.content c.run_until.new.nvm) (D.settled c.run_until.new.nvm) c.run_until.ensures.fault
+
+pub returns-in-Started-clause-past : goal.returns-in-Started-clause-past
+returns-in-Started-clause-past g c =
+    let D = g.N.Nvm in
+    let old = c.args.nvm.now in
+    let mid = c.start_until.new.nvm in
+    let new = c.run_until.new.nvm in
+    let begun = subst (λ (b : Begun). BeginsAs b c.args.cycle.now.start_stop c.horizon.result (D.extent old) (D.content old) (D.settled old) (D.content mid) (D.settled mid)) c.in-Started.is c.in_ok-start_until.ensures.begun in
+    begun_past c.in-Started.started.number c.in-Started.started.banks.store (D.content old) (D.content mid) (D.content new) (D.settled old) (D.settled mid) (D.settled new) c.start_until.ensures.past begun.3 c.run_until.ensures.past

@@ -2,13 +2,17 @@ use Rattle.std.proofs.Common.{rules, arith, ◌≡◌, ◌⊎◌, ◌+◌, ◌-�
 use Rattle.std.proofs.lemmas.Bool.{not-false, not-true}
 use Rattle.edr_device.specs.Device.{Comes, Stays}
 use Rattle.edr_device.specs.Faults.{Rose}
+use Rattle.edr_device.specs.FuseLaws.{fuse_counts_now}
 use Rattle.edr_device.specs.Told.{Told}
 use Rattle.edr_image.specs.Reports.{Ran, report_of}
+use Rattle.edr_image.specs.Image.{View}
 use Rattle.edr_image.specs.Calls.{all_calls}
 use Rattle.edr_run.specs.Cycle.{steps_in}
+use Rattle.edr_replay.specs.Past.{LeavesPastOf}
 use Rattle.edr_replay.specs.Phases.{LeavesOfRun, RunsFrom}
 use Rattle.edr_replay.proofs.Leaving.{leaves_cut, leaves_whole}
 use Rattle.edr_replay.proofs.FewCalls.{calls_few}
+use Rattle.edr_replay.proofs.PastLemmas.{comes_leaves, past_fewer, stays_leaves}
 use Rattle.edr_replay.proofs.RunPhase.{past_last, runs_stopped, runs_whole, told_as}
 use Rattle.edr_replay.proofs.StopLemmas.{fuse_begins, fuse_planned, inside, lent, rose_inside, stop_is}
 use Rattle.edr_replay.proofs.phases.run_until.Goals as goal
@@ -121,3 +125,51 @@ returns-then-not-cut-clause-left g c =
     let few = calls_few f number store c.requires.feeds in
     lent (λ a b. LeavesOfRun f c.args.stop number store (D.content a) (D.settled a) (D.content b) (D.settled b)) c.args.nvm.now armed.nvm.now fuse.nvm.now _ (search rules) (search rules)
     (leaves_cut f c.args.stop (fuse.ticks - armed.ticks) number store c.run_alone-end.result.log.acks (D.content armed.nvm.now) (D.settled armed.nvm.now) (D.content fuse.nvm.now) (D.settled fuse.nvm.now) (run.cycle.cut failed (omega (arith, upto, few, begins))))
+
+pub returns-in-Ok-clause-past : goal.returns-in-Ok-clause-past
+returns-in-Ok-clause-past g c =
+    let D = g.N.Nvm in
+    let v : View = record { store = c.args.started.banks.store; count = c.args.started.number } in
+    let armed = c.arm.new.self in
+    let fuse = c.run_alone-end.new.nvm in
+    let ran : LeavesPastOf v (D.content armed.nvm.now) (D.settled armed.nvm.now) (D.content fuse.nvm.now) (D.settled fuse.nvm.now) =
+    λ bytes image found may. c.run_alone-end.ensures.cycle.past bytes image found (fuse_counts_now fuse armed.ticks image (λ u within left. g.met.N.Nvm.counts_now fuse.nvm.now u image within left) may) in
+    let new = c.power_cycle.new.self in
+    let off = inside (λ d. Told (Comes (D.settled d) (D.settled new)) (D.content d) (D.content new)) fuse.nvm.now _ (search rules) c.in-Ok.ensures.told in
+    inside (λ d. LeavesPastOf v (D.content d) (D.settled d) (D.content new) (D.settled new)) c.args.nvm.now armed.nvm.now (c.arm.ensures.now ∙ c.new-fuse.ensures.now)
+    (past_fewer v (D.content armed.nvm.now) (D.content fuse.nvm.now) (D.content new) (D.settled armed.nvm.now) (D.settled fuse.nvm.now) (D.settled new)
+    (λ image. comes_leaves (D.content fuse.nvm.now) (D.content new) (D.settled fuse.nvm.now) (D.settled new) image off) ran)
+
+pub returns-in-Err-clause-past : goal.returns-in-Err-clause-past
+returns-in-Err-clause-past g c =
+    let D = g.N.Nvm in
+    let v : View = record { store = c.args.started.banks.store; count = c.args.started.number } in
+    let armed = c.arm.new.self in
+    let fuse = c.run_alone-end.new.nvm in
+    let ran : LeavesPastOf v (D.content armed.nvm.now) (D.settled armed.nvm.now) (D.content fuse.nvm.now) (D.settled fuse.nvm.now) =
+    λ bytes image found may. c.run_alone-end.ensures.cycle.past bytes image found (fuse_counts_now fuse armed.ticks image (λ u within left. g.met.N.Nvm.counts_now fuse.nvm.now u image within left) may) in
+    let new = c.power_cycle.new.self in
+    let off = inside (λ d. Stays (D.content d) (D.settled d) (D.since d) (D.content new) (D.settled new) (D.since new)) fuse.nvm.now _ (search rules) c.in-Err.ensures.told in
+    inside (λ d. LeavesPastOf v (D.content d) (D.settled d) (D.content new) (D.settled new)) c.args.nvm.now armed.nvm.now (c.arm.ensures.now ∙ c.new-fuse.ensures.now)
+    (past_fewer v (D.content armed.nvm.now) (D.content fuse.nvm.now) (D.content new) (D.settled armed.nvm.now) (D.settled fuse.nvm.now) (D.settled new)
+    (λ image. stays_leaves (D.content fuse.nvm.now) (D.content new) (D.settled fuse.nvm.now) (D.settled new) _ _ image off) ran)
+
+pub returns-then-not-cut-clause-past : goal.returns-then-not-cut-clause-past
+returns-then-not-cut-clause-past g c =
+    let D = g.N.Nvm in
+    let v : View = record { store = c.args.started.banks.store; count = c.args.started.number } in
+    let armed = c.arm.new.self in
+    let fuse = c.run_alone-end.new.nvm in
+    let ran : LeavesPastOf v (D.content armed.nvm.now) (D.settled armed.nvm.now) (D.content fuse.nvm.now) (D.settled fuse.nvm.now) =
+    λ bytes image found may. c.run_alone-end.ensures.cycle.past bytes image found (fuse_counts_now fuse armed.ticks image (λ u within left. g.met.N.Nvm.counts_now fuse.nvm.now u image within left) may) in
+    lent (λ a b. LeavesPastOf v (D.content a) (D.settled a) (D.content b) (D.settled b)) c.args.nvm.now armed.nvm.now fuse.nvm.now _ (search rules) (search rules) ran
+
+pub returns-clause-past : goal.returns-clause-past
+returns-clause-past g c =
+    let D = g.N.Nvm in
+    let v : View = record { store = c.args.started.banks.store; count = c.args.started.number } in
+    let armed = c.arm.new.self in
+    let fuse = c.run_alone-end.new.nvm in
+    let ran : LeavesPastOf v (D.content armed.nvm.now) (D.settled armed.nvm.now) (D.content fuse.nvm.now) (D.settled fuse.nvm.now) =
+    λ bytes image found may. c.run_alone-end.ensures.cycle.past bytes image found (fuse_counts_now fuse armed.ticks image (λ u within left. g.met.N.Nvm.counts_now fuse.nvm.now u image within left) may) in
+    lent (λ a b. LeavesPastOf v (D.content a) (D.settled a) (D.content b) (D.settled b)) c.args.nvm.now armed.nvm.now fuse.nvm.now _ (search rules) (search rules) ran

@@ -1,9 +1,13 @@
 use Rattle.std.proofs.Common.{rules, arith, ◌≡◌, ◌⊎◌, ◌+◌, ◌∙◌, ℕ, Err, subst}
 use Rattle.edr_cycle.specs.declared.started.StartFault.TheVariants as fault
 use Rattle.edr_replay.specs.declared.phases.Begun.TheVariants.{Started, Stopped}
+use Rattle.edr_device.specs.FuseLaws.{fuse_counts_now}
+use Rattle.edr_device.specs.FuseState.{fused_content, fused_settled}
+use Rattle.edr_replay.specs.Past.{LeavesPast}
 use Rattle.edr_replay.specs.Phases.{BeginsAs, LeavesOfStart}
 use Rattle.edr_replay.specs.Replayed.{IsLeftAlone, IsTrulyRefused, IsTrulySpent}
 use Rattle.edr_replay.proofs.Leaving.{leaves_start, left_alone}
+use Rattle.edr_replay.proofs.PastLemmas.{start_past}
 use Rattle.edr_replay.proofs.StartPhase.{at_err, begins_started, begins_stopped, none_planned, on_err_at, truly_refused, truly_spent}
 use Rattle.edr_replay.proofs.StopLemmas.{fuse_begins, fuse_planned, lent, not_reached, some_call, stop_is}
 use Rattle.edr_replay.proofs.phases.start_until.Goals as goal
@@ -75,3 +79,33 @@ returns-in-Err-clause-memory g c =
     let fuse = c.start-begun.new.nvm in
     lent (λ a b. IsLeftAlone (D.content a) (D.settled a) (D.content b) (D.settled b) c.in-Err.fault) c.args.nvm.now armed.nvm.now fuse.nvm.now _ (search rules) (search rules)
     (left_alone c.in-Err.fault (D.content armed.nvm.now) (D.settled armed.nvm.now) (D.content fuse.nvm.now) (D.settled fuse.nvm.now) _ _ (λ early. (c.in-Err.ensures.early early).2))
+
+pub returns-in-Ok-clause-past : goal.returns-in-Ok-clause-past
+returns-in-Ok-clause-past g c =
+    let D = g.N.Nvm in
+    let armed = c.arm.new.self in
+    let fuse = c.start-begun.new.nvm in
+    let start = c.start-begun.ensures.cycle in
+    lent (λ a b. LeavesPast (D.content a) (D.settled a) (D.content b) (D.settled b)) c.args.nvm.now armed.nvm.now fuse.nvm.now _ (search rules) (search rules)
+    (start_past (D.content armed.nvm.now) (D.settled armed.nvm.now) (D.content fuse.nvm.now) (D.settled fuse.nvm.now)
+    (λ bytes image v found may. start.each bytes image v found (fuse_counts_now fuse armed.ticks image (λ u within left. g.met.N.Nvm.counts_now fuse.nvm.now u image within left) may)))
+
+pub returns-in-Err-StoreFault-clause-past : goal.returns-in-Err-StoreFault-clause-past
+returns-in-Err-StoreFault-clause-past g c =
+    let D = g.N.Nvm in
+    let armed = c.arm.new.self in
+    let fuse = c.start-begun.new.nvm in
+    let start = c.start-begun.ensures.cycle in
+    lent (λ a b. LeavesPast (D.content a) (D.settled a) (D.content b) (D.settled b)) c.args.nvm.now armed.nvm.now fuse.nvm.now _ (search rules) (search rules)
+    (start_past (D.content armed.nvm.now) (D.settled armed.nvm.now) (D.content fuse.nvm.now) (D.settled fuse.nvm.now)
+    (λ bytes image v found may. start.each bytes image v found (fuse_counts_now fuse armed.ticks image (λ u within left. g.met.N.Nvm.counts_now fuse.nvm.now u image within left) may)))
+
+pub returns-in-Err-clause-past : goal.returns-in-Err-clause-past
+returns-in-Err-clause-past g c =
+    let D = g.N.Nvm in
+    let armed = c.arm.new.self in
+    let fuse = c.start-begun.new.nvm in
+    let start = c.start-begun.ensures.cycle in
+    lent (λ a b. LeavesPast (D.content a) (D.settled a) (D.content b) (D.settled b)) c.args.nvm.now armed.nvm.now fuse.nvm.now _ (search rules) (search rules)
+    (start_past (D.content armed.nvm.now) (D.settled armed.nvm.now) (D.content fuse.nvm.now) (D.settled fuse.nvm.now)
+    (λ bytes image v found may. start.each bytes image v found (fuse_counts_now fuse armed.ticks image (λ u within left. g.met.N.Nvm.counts_now fuse.nvm.now u image within left) may)))
