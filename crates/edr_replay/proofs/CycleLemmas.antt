@@ -7,9 +7,10 @@ use Rattle.edr_spell.specs.declared.CycleInput.{CycleInput}
 use Rattle.edr_device.specs.Faults.{Rose}
 use Rattle.edr_cycle.specs.declared.started.StartFault.{StartFault}
 use Rattle.edr_cycle.specs.declared.started.StartFault.TheVariants as fault
+use Rattle.edr_image.specs.declared.OpenFault.TheVariants as open_fault
 use Rattle.edr_run.specs.Cycle.{End, IsCycle, start_stopped, start_counted, start_end, last_count}
 use Rattle.edr_cycle.specs.Ends.{cycle_with}
-use Rattle.edr_replay.specs.Replayed.{Holds, IsFault, IsRefusal, IsTrulySpent, IsTrulyRefused, EndsSpent}
+use Rattle.edr_replay.specs.Replayed.{Holds, IsFault, IsRefusal, IsTrulySpent, IsTrulyRefused, IsTrulyShort, EndsSpent}
 use Rattle.edr_replay.specs.Phases.{RunsAs, RunsFrom}
 
 -- an end of the cycle that tells this report, and that the device holds
@@ -63,6 +64,14 @@ unfolding IsTrulyRefused
 not_refused (Ok x) a b content settled h = h
 not_refused (Err e) a b content settled h = λ refused. absurd (subst IsRefusal h.0 refused)
 
+-- not that the image is short
+pub not_short : (r : Result CycleReport StartFault) (a b extent : ℕ) → IfErr r (λ e. (e ≡ fault.StoreFault) × Rose a b) → IfErr r (IsTrulyShort extent)
+unfolding IsTrulyShort
+not_short (Ok x) a b extent h = h
+not_short (Err e) a b extent h = λ size needed told. absurd (different size needed (sym h.0 ∙ told)) where
+  different : (size needed : ℕ) → fault.StoreFault ≡ fault.Open (open_fault.Short size needed) → ⊥
+  different size needed e = cc
+
 -- faults that rose in the commands rose in the whole cycle
 pub rose_later : (r : Result CycleReport StartFault) (a b c : ℕ) → a ≤ b → IfErr r (λ e. (e ≡ fault.StoreFault) × Rose b c) → IfErr r (λ e. IsFault e → Rose a c)
 rose_later (Ok x) a b c le h = h
@@ -83,3 +92,10 @@ memory_spent cs content settled content' settled' = λ spent. absurd (different 
 pub memory_refused : (content : Option (List ℕ)) (settled : ℕ → Bool) → IsTrulyRefused content settled fault.OutOfMemory
 unfolding IsTrulyRefused
 memory_refused content settled = λ refused. absurd refused
+
+-- not that the image is short
+pub memory_short : (extent : ℕ) → IsTrulyShort extent fault.OutOfMemory
+unfolding IsTrulyShort
+memory_short extent = λ size needed told. absurd (different size needed told) where
+  different : (size needed : ℕ) → fault.OutOfMemory ≡ fault.Open (open_fault.Short size needed) → ⊥
+  different size needed e = cc

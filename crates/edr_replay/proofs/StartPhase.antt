@@ -13,7 +13,7 @@ use Rattle.edr_cycle.specs.declared.started.StartFault.TheVariants as fault
 use Rattle.edr_cycle.specs.Counter.{IsCounted, SaysWith}
 use Rattle.edr_cycle.specs.Ends.{IsFound}
 use Rattle.edr_cycle.specs.Starts.{IsEarly, IsOpened}
-use Rattle.edr_replay.specs.Replayed.{Holds, IsTrulyRefused, IsTrulySpent}
+use Rattle.edr_replay.specs.Replayed.{Holds, IsTrulyRefused, IsTrulyShort, IsTrulySpent}
 use Rattle.edr_replay.proofs.StopLemmas.{leaves_itself, told_some}
 
 -- a view that is there is one
@@ -129,3 +129,12 @@ truly_refused (fault.Open o) content settled refused = λ is v n h. no_view h.by
 truly_refused fault.Spent content settled refused = λ is. absurd is
 truly_refused fault.StoreFault content settled refused = λ is. absurd is
 truly_refused fault.OutOfMemory content settled refused = λ is. absurd is
+
+-- a short image is told by the device's size
+pub truly_short : {T : Type 0} (r : Result T StartFault) (e : StartFault) (extent : ℕ) → r ≡ Err e → ((size needed : ℕ) → e ≡ fault.Open (open_fault.Short size needed) → (size ≡ extent) × (size < needed))
+    → (extent < 96 → r ≡ Err (fault.Open (open_fault.Short extent 96))) → IsTrulyShort extent e
+unfolding IsTrulyShort
+truly_short r e extent is sizes short = λ size needed told. ((sizes size needed told).0, (sizes size needed told).1, λ low. header size needed (is ∙ ap (λ (x : StartFault). Err x) told) (short low))
+  where
+    header : (size needed : ℕ) → r ≡ Err (fault.Open (open_fault.Short size needed)) → r ≡ Err (fault.Open (open_fault.Short extent 96)) → needed ≡ 96
+    header size needed a b = cc

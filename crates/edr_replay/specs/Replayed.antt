@@ -40,6 +40,13 @@ IsTrulySpent content settled content' settled' e = e ≡ fault.Spent → (v : St
 unfoldable pub IsTrulyRefused : Option (List ℕ) → (ℕ → Bool) → StartFault → Type 0
 IsTrulyRefused content settled e = IsRefusal e → (v : Store) (n : ℕ) → ¬ Holds content settled v n
 
+-- a size that is told as too short is the device's, and less than what is needed: 96 bytes for the header, or more for its banks
+abbrev pub IsShortOf : ℕ → ℕ → ℕ → Type 0
+IsShortOf extent size needed = (size ≡ extent) × (size < needed) × (extent < 96 → needed ≡ 96)
+
+unfoldable pub IsTrulyShort : ℕ → StartFault → Type 0
+IsTrulyShort extent e = (size needed : ℕ) → e ≡ fault.Open (open_fault.Short size needed) → IsShortOf extent size needed
+
 -- the cycles before one that finds no count left ran to this outcome
 pub record RanToTheLast (cs : List CycleInput) (v : Store) (n : ℕ) (o : Outcome) : Type 0 where
   pub p : ℕ

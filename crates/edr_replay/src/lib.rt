@@ -14,7 +14,7 @@ ghost use Rattle.edr_image.specs.Reports.{report_of};
 ghost use Rattle.edr_run.specs.Cycle.{End, IsCycle, Outcome, IsRun, last_count};
 ghost use Rattle.edr_spell.specs.Spell.{IsCycle as IsSpelled};
 ghost use Rattle.edr_replay.specs.Past.{LeavesPast};
-ghost use Rattle.edr_replay.specs.Replayed.{EndsShort, EndsSpent, HasRun, Holds, IsFault, IsLeftAlone, IsTrulyRefused, IsTrulySpent, LeavesPart, LeavesReached};
+ghost use Rattle.edr_replay.specs.Replayed.{EndsShort, EndsSpent, HasRun, Holds, IsFault, IsLeftAlone, IsTrulyRefused, IsTrulyShort, IsTrulySpent, LeavesPart, LeavesReached};
 
 pub use edr_cycle::StartFault;
 use edr_device::Nvm;
@@ -40,6 +40,7 @@ fn run_cycle<N: Nvm>(
         → (n < last_count) × (e : End) × IsCycle cycle.now v n e × (e.report ≡ report_of report) × Holds (N.content nvm.new) (N.settled nvm.new) e.store e.count) }
     ensures spent { IfErr result (IsTrulySpent (N.content nvm.old) (N.settled nvm.old) (N.content nvm.new) (N.settled nvm.new)) }
     ensures refused { IfErr result (IsTrulyRefused (N.content nvm.old) (N.settled nvm.old)) }
+    ensures short { IfErr result (IsTrulyShort (N.extent nvm.old)) }
     ensures fault { IfErr result (λ e. IsFault e → Rose (N.faults nvm.old) (N.faults nvm.new)) }
     ensures left { IfErr result (λ _. LeavesPart cycle.now (N.content nvm.old) (N.settled nvm.old) (N.content nvm.new) (N.settled nvm.new)) }
     ensures memory { IfErr result (IsLeftAlone (N.content nvm.old) (N.settled nvm.old) (N.content nvm.new) (N.settled nvm.new)) }
@@ -67,6 +68,7 @@ pub fn replay<N: Nvm>(
     ensures ran { IfOk result (λ reports. HasRun cycles.now (N.content nvm.old) (N.settled nvm.old) (N.content nvm.new) (N.settled nvm.new) reports.items) }
     ensures spent { IfErr result (EndsSpent cycles.now (N.content nvm.old) (N.settled nvm.old) (N.content nvm.new) (N.settled nvm.new)) }
     ensures refused { IfErr result (IsTrulyRefused (N.content nvm.old) (N.settled nvm.old)) }
+    ensures short { IfErr result (IsTrulyShort (N.extent nvm.old)) }
     ensures fault { IfErr result (λ e. IsFault e → Rose (N.faults nvm.old) (N.faults nvm.new)) }
     ensures left { IfErr result (λ _. LeavesReached cycles.now (N.content nvm.old) (N.settled nvm.old) (N.content nvm.new) (N.settled nvm.new)) }
     ensures memory { IfErr result (EndsShort cycles.now (N.content nvm.old) (N.settled nvm.old) (N.content nvm.new) (N.settled nvm.new)) }

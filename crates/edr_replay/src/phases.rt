@@ -6,7 +6,7 @@ ghost use Rattle.edr_device.specs.Faults.{Rose};
 ghost use Rattle.edr_image.specs.Image.{image_size};
 ghost use Rattle.edr_image.specs.Reports.{Ran, report_of};
 ghost use Rattle.edr_items.specs.SensorLists.{AreFeeds, IsLevel, horizon_of};
-ghost use Rattle.edr_replay.specs.Replayed.{IsFault, IsLeftAlone, IsTrulyRefused, IsTrulySpent};
+ghost use Rattle.edr_replay.specs.Replayed.{IsFault, IsLeftAlone, IsTrulyRefused, IsTrulyShort, IsTrulySpent};
 ghost use Rattle.edr_replay.specs.Past.{LeavesPast, LeavesPastOf};
 ghost use Rattle.edr_replay.specs.Phases.{BeginsAs, LeavesOfRun, LeavesOfStart, RunsFrom};
 
@@ -47,6 +47,7 @@ pub(crate) fn start_until<N: Nvm>(
     ensures begun { IfOk result (λ b. BeginsAs b stop ticks (N.extent nvm.old) (N.content nvm.old) (N.settled nvm.old) (N.content nvm.new) (N.settled nvm.new)) }
     ensures spent { IfErr result (IsTrulySpent (N.content nvm.old) (N.settled nvm.old) (N.content nvm.new) (N.settled nvm.new)) }
     ensures refused { IfErr result (IsTrulyRefused (N.content nvm.old) (N.settled nvm.old)) }
+    ensures short { IfErr result (IsTrulyShort (N.extent nvm.old)) }
     ensures fault { IfErr result (λ e. IsFault e → Rose (N.faults nvm.old) (N.faults nvm.new)) }
     ensures left { IfErr result (λ _. LeavesOfStart (N.content nvm.old) (N.settled nvm.old) (N.content nvm.new) (N.settled nvm.new)) }
     ensures memory { IfErr result (IsLeftAlone (N.content nvm.old) (N.settled nvm.old) (N.content nvm.new) (N.settled nvm.new)) }

@@ -1,6 +1,6 @@
 use Rattle.std.proofs.Common.{rules, arith}
 use Rattle.edr_cycle.specs.declared.started.StartFault.TheVariants as fault
-use Rattle.edr_replay.proofs.CycleLemmas.{memory_spent, memory_refused}
+use Rattle.edr_replay.proofs.CycleLemmas.{memory_short, memory_spent, memory_refused}
 use Rattle.edr_replay.proofs.PastLemmas.{past_none}
 use Rattle.edr_replay.proofs.Running.{running_first, running_more, ends_spent, ends_refused, past_ran}
 use Rattle.edr_replay.proofs.Leaving.{reached_none, reached_more, short_none, short_more}
@@ -78,3 +78,6 @@ returns-in_err-report-clause-past g c =
     let mid = c.loop-cycle.nvm in
     let new = c.run_cycle.new.nvm in
     past_ran _ (D.content old) (D.content mid) (D.content new) (D.settled old) (D.settled mid) (D.settled new) c.loop-cycle.reports.items c.loop-cycle.invariant.past c.loop-cycle.invariant.run c.run_cycle.ensures.past
+
+pub returns-in_default-clause-short : goal.returns-in_default-clause-short
+returns-in_default-clause-short g c = let D = g.N.Nvm in memory_short (D.extent c.args.nvm.now)

@@ -1,7 +1,7 @@
 use Rattle.std.proofs.Common.{rules, subst}
 use Rattle.edr_replay.specs.declared.phases.Begun.{Begun}
 use Rattle.edr_replay.specs.Phases.{BeginsAs}
-use Rattle.edr_replay.proofs.CycleLemmas.{stopped_ends, begun_ran, not_spent, not_refused, rose_later}
+use Rattle.edr_replay.proofs.CycleLemmas.{stopped_ends, begun_ran, not_short, not_spent, not_refused, rose_later}
 use Rattle.edr_replay.proofs.Leaving.{part_of_start, part_of_run, not_memory}
 use Rattle.edr_replay.proofs.PastLemmas.{begun_past}
 use Rattle.edr_replay.proofs.run_cycle.Goals as goal
@@ -66,3 +66,8 @@ returns-in-Started-clause-past g c =
     let new = c.run_until.new.nvm in
     let begun = subst (λ (b : Begun). BeginsAs b c.args.cycle.now.start_stop c.horizon.result (D.extent old) (D.content old) (D.settled old) (D.content mid) (D.settled mid)) c.in-Started.is c.in_ok-start_until.ensures.begun in
     begun_past c.in-Started.started.number c.in-Started.started.banks.store (D.content old) (D.content mid) (D.content new) (D.settled old) (D.settled mid) (D.settled new) c.start_until.ensures.past begun.3 c.run_until.ensures.past
+
+pub returns-in-Started-clause-short : goal.returns-in-Started-clause-short
+returns-in-Started-clause-short g c =
+    let D = g.N.Nvm in
+    not_short c.run_until.result (D.faults c.start_until.new.nvm) (D.faults c.run_until.new.nvm) (D.extent c.args.nvm.now) c.run_until.ensures.fault

@@ -5,10 +5,10 @@ use Rattle.edr_device.specs.FuseLaws.{fuse_counts_now}
 use Rattle.edr_device.specs.FuseState.{fused_content, fused_settled}
 use Rattle.edr_replay.specs.Past.{LeavesPast}
 use Rattle.edr_replay.specs.Phases.{BeginsAs, LeavesOfStart}
-use Rattle.edr_replay.specs.Replayed.{IsLeftAlone, IsTrulyRefused, IsTrulySpent}
+use Rattle.edr_replay.specs.Replayed.{IsLeftAlone, IsTrulyRefused, IsTrulyShort, IsTrulySpent}
 use Rattle.edr_replay.proofs.Leaving.{leaves_start, left_alone}
 use Rattle.edr_replay.proofs.PastLemmas.{start_past}
-use Rattle.edr_replay.proofs.StartPhase.{at_err, begins_started, begins_stopped, none_planned, on_err_at, truly_refused, truly_spent}
+use Rattle.edr_replay.proofs.StartPhase.{at_err, begins_started, begins_stopped, none_planned, on_err_at, truly_refused, truly_short, truly_spent}
 use Rattle.edr_replay.proofs.StopLemmas.{fuse_begins, fuse_planned, lent, not_reached, some_call, stop_is}
 use Rattle.edr_replay.proofs.phases.start_until.Goals as goal
 
@@ -109,3 +109,10 @@ returns-in-Err-clause-past g c =
     lent (λ a b. LeavesPast (D.content a) (D.settled a) (D.content b) (D.settled b)) c.args.nvm.now armed.nvm.now fuse.nvm.now _ (search rules) (search rules)
     (start_past (D.content armed.nvm.now) (D.settled armed.nvm.now) (D.content fuse.nvm.now) (D.settled fuse.nvm.now)
     (λ bytes image v found may. start.each bytes image v found (fuse_counts_now fuse armed.ticks image (λ u within left. g.met.N.Nvm.counts_now fuse.nvm.now u image within left) may)))
+
+pub returns-in-Err-clause-short : goal.returns-in-Err-clause-short
+returns-in-Err-clause-short g c =
+    let D = g.N.Nvm in
+    let armed = c.arm.new.self in
+    subst (λ d. IsTrulyShort (D.extent d) c.in-Err.fault) (c.arm.ensures.now ∙ c.new-fuse.ensures.now)
+    (truly_short c.start-begun.result c.in-Err.fault (D.extent armed.nvm.now) c.in-Err.is c.in-Err.ensures.sizes c.start-begun.ensures.short)
