@@ -20,6 +20,7 @@ use Rattle.edr_cli.specs.Reports.{Says}
 use Rattle.edr_cli.specs.Runs.{IsReplayCause, IsSpent}
 use Rattle.edr_cli.proofs.ImageLemmas.{same_view, says_refused, told_is}
 use Rattle.edr_cli.proofs.RunLaws.{run_count}
+use Rattle.edr_cli.proofs.TakingLemmas.{too_many}
 
 length-take-few : (p : ℕ) (cs : List CycleInput) → length (take p cs) ≤ p
 length-take-few p cs = let same = length-take p cs in grind (arith, same)
@@ -33,7 +34,7 @@ not_spent cs v n o room ran =
 
 spent_none : (bytes image : List ℕ) (new : Memory) (cs : List CycleInput) (v : Store) (n : ℕ) → Spell bytes cs → Says image v n → n + length cs ≤ last_count → IsSpent bytes image new → ⊥
 spent_none bytes image new cs v n spelled says room s =
-    let same : s.cycles ≡ cs = spell-one bytes s.cycles cs s.spelled spelled in
+    let same : s.cycles ≡ cs = spell-one bytes s.cycles cs s.spelled.1 spelled in
     let view : s.count ≡ n = ap (λ (x : View). x.count) (same_view _ _ (sym s.says ∙ says)) in
     let room' : s.count + length s.cycles ≤ last_count = subst (λ (m : ℕ). m + length s.cycles ≤ last_count) (sym view) (subst (λ (xs : List CycleInput). n + length xs ≤ last_count) (sym same) room) in
     not_spent s.cycles s.store s.count s.outcome room' s.ran
@@ -41,17 +42,17 @@ spent_none bytes image new cs v n spelled says room s =
 pub only_memory : (i i' : Input) (old new : Memory) (f : Fault) (bytes image : List ℕ) (cs : List CycleInput) (v : Store) (n : ℕ) → i.left ≡ Some bytes → length bytes ≤ LARGEST_TRACE → Spell bytes cs
     → old.content ≡ Some image → Says image v n → n + length cs ≤ last_count → ¬ Rose i.faults i'.faults → ¬ Rose old.faults new.faults → IsReplayCause i i' old new f → f ≡ fault.OutOfMemory
 only_memory i i' old new (fault.Trace t) bytes image cs v n left within spelled told says room calm quiet cause =
-    absurd (spell-not_fault bytes cs t spelled (told_is (λ b. (length b ≤ LARGEST_TRACE) × IsFaultOf b t) i.left bytes left cause.0).1)
+    absurd (spell-not_fault bytes cs t spelled (told_is (λ b. (length b ≤ LARGEST_TRACE) × IsFaultOf b t) i.left bytes left cause.0.0).1)
 only_memory i i' old new fault.Read bytes image cs v n left within spelled told says room calm quiet cause = absurd (calm cause.0)
 only_memory i i' old new fault.TooLong bytes image cs v n left within spelled told says room calm quiet cause =
-    absurd (let more = told_is (λ b. LARGEST_TRACE < length b) i.left bytes left cause.0 in omega (arith, more, within))
+    absurd (let more = too_many LARGEST_TRACE bytes i.left i'.left left cause.0 in omega (arith, more, within))
 only_memory i i' old new fault.Store bytes image cs v n left within spelled told says room calm quiet cause = absurd (quiet cause.1)
 only_memory i i' old new (fault.Short size needed) bytes image cs v n left within spelled told says room calm quiet cause =
-    absurd (says_refused image v n (open_fault.Short size needed) says (told_is (λ b. image_refusal b ≡ Some (open_fault.Short size needed)) old.content image told cause.1.0))
+    absurd (says_refused image v n (open_fault.Short size needed) says (told_is (λ b. image_refusal b ≡ Some (open_fault.Short size needed)) old.content image told cause.1.0.0))
 only_memory i i' old new (fault.Header h) bytes image cs v n left within spelled told says room calm quiet cause =
     absurd (says_refused image v n (open_fault.Header h) says (told_is (λ b. image_refusal b ≡ Some (open_fault.Header h)) old.content image told cause.1.0))
 only_memory i i' old new fault.Spent bytes image cs v n left within spelled told says room calm quiet cause =
-    absurd (spent_none bytes image new cs v n spelled says room (told_is (λ m. IsSpent bytes m new) old.content image told (told_is (λ b. IfSome old.content (λ m. IsSpent b m new)) i.left bytes left cause)))
+    absurd (spent_none bytes image new cs v n spelled says room (told_is (λ m. IsSpent bytes m new) old.content image told (told_is (λ b. IfSome old.content (λ m. IsSpent b m new)) i.left bytes left cause.0)))
 only_memory i i' old new fault.OutOfMemory bytes image cs v n left within spelled told says room calm quiet cause = refl
 only_memory i i' old new fault.Usage bytes image cs v n left within spelled told says room calm quiet cause = absurd cause
 only_memory i i' old new fault.Formatted bytes image cs v n left within spelled told says room calm quiet cause = absurd cause

@@ -2,6 +2,7 @@ pub mod Barrier
 pub mod EndingLemmas
 pub mod ImageLemmas
 pub mod RunLaws
+pub mod PastLemmas
 pub mod ReplayLemmas
 pub mod Completeness
 pub mod Dispatch

@@ -11,7 +11,6 @@ use Rattle.edr_image.specs.Banks.{Store}
 use Rattle.edr_image.specs.Image.{View, image_refusal, view_of}
 use Rattle.edr_image.specs.Reports.{report_of}
 use Rattle.edr_spell.specs.declared.CycleInput.{CycleInput}
-use Rattle.edr_spell.specs.Spell.{Spell}
 use Rattle.edr_run.specs.Cycle.{Outcome, IsRun}
 use Rattle.edr_cycle.specs.declared.started.StartFault.{StartFault}
 use Rattle.edr_cycle.specs.declared.started.StartFault.TheVariants as start
@@ -19,10 +18,10 @@ use Rattle.edr_report.specs.declared.faults.Fault.{Fault}
 use Rattle.edr_report.specs.declared.faults.Fault.TheVariants as fault
 use Rattle.edr_words.specs.declared.Form.{Form}
 use Rattle.edr_replay.specs.Reached.{IsReached, RanFirst, between}
-use Rattle.edr_replay.specs.Replayed.{Holds, HasRun, EndsShort, EndsSpent, IsFault, IsTrulyRefused, LeavesReached}
-use Rattle.edr_cli.specs.Outside.{Input, Memory}
+use Rattle.edr_replay.specs.Replayed.{Holds, HasRun, EndsShort, EndsSpent, IsFault, IsShortOf, IsTrulyRefused, IsTrulyShort, LeavesReached}
+use Rattle.edr_cli.specs.Outside.{Input, IsAtEnd, Memory}
 use Rattle.edr_cli.specs.Reports.{IsImageCause, IsRefused, Says, report_in}
-use Rattle.edr_cli.specs.Runs.{GaveTrace, IsReplayCause, IsSpent, LeavesRun, RanSome, Reaches, RunIs, TheRun}
+use Rattle.edr_cli.specs.Runs.{GaveTrace, IsReplayCause, IsSpent, IsTraceOf, LeavesRun, RanSome, Reaches, RunIs, TheRun}
 use Rattle.edr_cli.specs.Steps.{HeldNone, IsRunCause, Reports, fault_of_start}
 use Rattle.edr_cli.proofs.ImageLemmas.{same_view, says_refused, told_is}
 use Rattle.edr_cli.proofs.RunLaws.{the_run}
@@ -31,16 +30,16 @@ use Rattle.edr_cli.proofs.RunLaws.{the_run}
 
 -- the run's fault is that of a call
 pub start_cause : (cs : List CycleInput) (old new : Memory) (e : StartFault) → (IsFault e → Rose old.faults new.faults) → IsTrulyRefused old.content old.settled e
-    → EndsSpent cs old.content old.settled new.content new.settled e → LeavesReached cs old.content old.settled new.content new.settled → EndsShort cs old.content old.settled new.content new.settled e
+    → IsTrulyShort old.size e → EndsSpent cs old.content old.settled new.content new.settled e → LeavesReached cs old.content old.settled new.content new.settled → EndsShort cs old.content old.settled new.content new.settled e
     → IsRunCause cs old new (fault_of_start e)
-unfolding IsTrulyRefused EndsSpent EndsShort
-start_cause cs old new (start.Open (open_fault.Short size needed)) rose refused spent left short = refused (λ e. cc, λ e. cc)
-start_cause cs old new (start.Open (open_fault.Header h)) rose refused spent left short = refused (λ e. cc, λ e. cc)
-start_cause cs old new (start.Open open_fault.StoreFault) rose refused spent left short = (rose refl, left)
-start_cause cs old new (start.Open open_fault.OutOfMemory) rose refused spent left short = short refl
-start_cause cs old new start.Spent rose refused spent left short = spent refl
-start_cause cs old new start.StoreFault rose refused spent left short = (rose tt, left)
-start_cause cs old new start.OutOfMemory rose refused spent left short = short tt
+unfolding IsTrulyRefused IsTrulyShort EndsSpent EndsShort
+start_cause cs old new (start.Open (open_fault.Short size needed)) rose refused sizes spent left short = (refused (λ e. cc, λ e. cc), sizes size needed refl)
+start_cause cs old new (start.Open (open_fault.Header h)) rose refused sizes spent left short = refused (λ e. cc, λ e. cc)
+start_cause cs old new (start.Open open_fault.StoreFault) rose refused sizes spent left short = (rose refl, left)
+start_cause cs old new (start.Open open_fault.OutOfMemory) rose refused sizes spent left short = short refl
+start_cause cs old new start.Spent rose refused sizes spent left short = spent refl
+start_cause cs old new start.StoreFault rose refused sizes spent left short = (rose tt, left)
+start_cause cs old new start.OutOfMemory rose refused sizes spent left short = short tt
 
 same_report : (form : Form) (reports : List CycleReport) (o : Outcome) (v : Store) (n : ℕ) → map report_of reports ≡ o.reports → v ≡ o.store → n ≡ o.count → report_in form (map report_of reports) v n ≡ report_in form o.reports o.store o.count
 same_report form reports o v n a b c = cc
@@ -97,22 +96,25 @@ pub short_all : (cs : List CycleInput) (old mid new : Memory) (reports : List Cy
     → IsRunCause cs old new fault.OutOfMemory
 short_all cs old mid new reports run same settled = λ v n h. let r = all_ran cs old mid new reports run same settled v n h in (length cs, r.0, r.1, r.2)
 
+same_size : (a b size needed : ℕ) → b ≡ a → IsShortOf b size needed → IsShortOf a size needed
+same_size a b size needed same short = subst (λ (n : ℕ). IsShortOf n size needed) same short
+
 -- why the banks were not opened behind the run
 pub behind_cause : (cs : List CycleInput) (old mid new : Memory) (reports : List CycleReport) (f : Fault)
-    → HasRun cs old.content old.settled mid.content mid.settled reports → new.content ≡ mid.content → ((i : ℕ) → new.settled i ≡ mid.settled i) → old.faults ≤ mid.faults → IsImageCause mid new f → IsRunCause cs old new f
-behind_cause cs old mid new reports fault.Store run same settled later cause = (rose_later old.faults mid.faults new.faults later cause, leaves_all cs old mid new reports run same settled)
+    → HasRun cs old.content old.settled mid.content mid.settled reports → new.content ≡ mid.content → ((i : ℕ) → new.settled i ≡ mid.settled i) → mid.size ≡ old.size → old.faults ≤ mid.faults → IsImageCause mid new f → IsRunCause cs old new f
+behind_cause cs old mid new reports fault.Store run same settled long later cause = (rose_later old.faults mid.faults new.faults later cause, leaves_all cs old mid new reports run same settled)
   where
     rose_later : (a b c : ℕ) → a ≤ b → Rose b c → Rose a c
     rose_later a b c le rose = grind (arith, le, rose)
-behind_cause cs old mid new reports (fault.Short size needed) run same settled later cause = not_refused old mid cs reports (open_fault.Short size needed) run cause.0
-behind_cause cs old mid new reports (fault.Header h) run same settled later cause = not_refused old mid cs reports (open_fault.Header h) run cause.0
-behind_cause cs old mid new reports fault.OutOfMemory run same settled later cause = short_all cs old mid new reports run same settled
-behind_cause cs old mid new reports fault.Usage run same settled later cause = cause
-behind_cause cs old mid new reports (fault.Trace t) run same settled later cause = cause
-behind_cause cs old mid new reports fault.Read run same settled later cause = cause
-behind_cause cs old mid new reports fault.Formatted run same settled later cause = absurd cause
-behind_cause cs old mid new reports fault.Spent run same settled later cause = absurd cause
-behind_cause cs old mid new reports fault.TooLong run same settled later cause = cause
+behind_cause cs old mid new reports (fault.Short size needed) run same settled long later cause = (not_refused old mid cs reports (open_fault.Short size needed) run cause.0.0, same_size old.size mid.size size needed long cause.1)
+behind_cause cs old mid new reports (fault.Header h) run same settled long later cause = not_refused old mid cs reports (open_fault.Header h) run cause.0
+behind_cause cs old mid new reports fault.OutOfMemory run same settled long later cause = short_all cs old mid new reports run same settled
+behind_cause cs old mid new reports fault.Usage run same settled long later cause = cause
+behind_cause cs old mid new reports (fault.Trace t) run same settled long later cause = cause
+behind_cause cs old mid new reports fault.Read run same settled long later cause = cause
+behind_cause cs old mid new reports fault.Formatted run same settled long later cause = absurd cause
+behind_cause cs old mid new reports fault.Spent run same settled long later cause = absurd cause
+behind_cause cs old mid new reports fault.TooLong run same settled long later cause = cause
 
 -- ---- the whole
 
@@ -122,10 +124,10 @@ Settled old mid v n = (image : List ℕ) → old.content ≡ Some image → Says
 
 -- the report of the run of what the source gave
 pub replayed : (form : Form) (i : Input) (old mid new : Memory) (cs : List CycleInput) (v : Store) (n : ℕ) (text : List ℕ)
-    → IfSome i.left (λ bytes. Spell bytes cs) → Settled old mid v n → Reports form cs mid new text → RunIs form i old new text
+    → IfSome i.left (IsTraceOf cs) → Settled old mid v n → Reports form cs mid new text → RunIs form i old new text
 replayed form i old mid new cs v n text spelled settled reports = go i.left old.content spelled (λ image told. settled image told)
   where
-    go : (left content : Option (List ℕ)) → IfSome left (λ bytes. Spell bytes cs) → ((image : List ℕ) → content ≡ Some image → Says image v n × IsQuiet mid.content mid.settled image)
+    go : (left content : Option (List ℕ)) → IfSome left (IsTraceOf cs) → ((image : List ℕ) → content ≡ Some image → Says image v n × IsQuiet mid.content mid.settled image)
         → IfSome left (λ bytes. IfSome content (λ image. TheRun form bytes image new text))
     go None content spelled settled = tt
     go (Some bytes) None spelled settled = tt
@@ -135,25 +137,25 @@ replayed form i old mid new cs v n text spelled settled reports = go i.left old.
         let r = reports v n held in
         the_run form bytes image new text cs v n r.0 spelled s.0 r.1 r.2 r.3
 
-gave : (i : Input) (cs : List CycleInput) → IfSome i.left (λ bytes. Spell bytes cs) → GaveTrace i
-gave i cs spelled = go i.left spelled where
-  go : (left : Option (List ℕ)) → IfSome left (λ bytes. Spell bytes cs) → IfSome left (λ bytes. (cycles : List CycleInput) × Spell bytes cycles)
+gave : (i i' : Input) (cs : List CycleInput) → IfSome i.left (IsTraceOf cs) → IsAtEnd i'.left → GaveTrace i i'
+gave i i' cs spelled end = (go i.left spelled, end) where
+  go : (left : Option (List ℕ)) → IfSome left (IsTraceOf cs) → IfSome left (λ bytes. (cycles : List CycleInput) × IsTraceOf cycles bytes)
   go None spelled = tt
   go (Some bytes) spelled = (cs, spelled)
 
 -- the image was not opened
-pub look_cause : (i i' : Input) (old new : Memory) (cs : List CycleInput) (f : Fault) → IfSome i.left (λ bytes. Spell bytes cs) → ((bytes image : List ℕ) → IsQuiet old.content old.settled bytes → MayLeave new.content new.settled image → image ≡ bytes) → LeavesRun i old new
+pub look_cause : (i i' : Input) (old new : Memory) (cs : List CycleInput) (f : Fault) → IfSome i.left (IsTraceOf cs) → IsAtEnd i'.left → ((bytes image : List ℕ) → IsQuiet old.content old.settled bytes → MayLeave new.content new.settled image → image ≡ bytes) → LeavesRun i old new
     → IsImageCause old new f → IsReplayCause i i' old new f
-look_cause i i' old new cs fault.Store spelled stays left cause = (gave i cs spelled, cause, left)
-look_cause i i' old new cs (fault.Short size needed) spelled stays left cause = (gave i cs spelled, cause)
-look_cause i i' old new cs (fault.Header h) spelled stays left cause = (gave i cs spelled, cause)
-look_cause i i' old new cs fault.OutOfMemory spelled stays left cause = inl cause
-look_cause i i' old new cs fault.Usage spelled stays left cause = cause
-look_cause i i' old new cs (fault.Trace t) spelled stays left cause = absurd cause
-look_cause i i' old new cs fault.Read spelled stays left cause = absurd cause
-look_cause i i' old new cs fault.Formatted spelled stays left cause = cause
-look_cause i i' old new cs fault.Spent spelled stays left cause = absurd cause
-look_cause i i' old new cs fault.TooLong spelled stays left cause = absurd cause
+look_cause i i' old new cs fault.Store spelled end stays left cause = (gave i i' cs spelled end, cause, left)
+look_cause i i' old new cs (fault.Short size needed) spelled end stays left cause = (gave i i' cs spelled end, cause)
+look_cause i i' old new cs (fault.Header h) spelled end stays left cause = (gave i i' cs spelled end, cause)
+look_cause i i' old new cs fault.OutOfMemory spelled end stays left cause = inl cause
+look_cause i i' old new cs fault.Usage spelled end stays left cause = cause
+look_cause i i' old new cs (fault.Trace t) spelled end stays left cause = absurd cause
+look_cause i i' old new cs fault.Read spelled end stays left cause = absurd cause
+look_cause i i' old new cs fault.Formatted spelled end stays left cause = cause
+look_cause i i' old new cs fault.Spent spelled end stays left cause = absurd cause
+look_cause i i' old new cs fault.TooLong spelled end stays left cause = absurd cause
 
 -- behind a look that passed no image is refused, so the device tells none
 none_refused : (old mid new : Memory) (v : Store) (n : ℕ) (e : OpenFault) → Settled old mid v n → StillTells old.content new.content → HeldNone mid → IsRefused e old new
@@ -171,12 +173,12 @@ none_refused old mid new v n e settled tells none = go old.content new.content t
 some_view : (o : Option View) (v : View) → o ≡ None → o ≡ Some v → ⊥
 some_view o v a b = cc
 
-if_spelled : (left : Option (List ℕ)) (cs : List CycleInput) (P : List ℕ → Type 0) → ((trace : List ℕ) → Spell trace cs → P trace) → IfSome left (λ bytes. Spell bytes cs) → IfSome left P
+if_spelled : (left : Option (List ℕ)) (cs : List CycleInput) (P : List ℕ → Type 0) → ((trace : List ℕ) → IsTraceOf cs trace → P trace) → IfSome left (IsTraceOf cs) → IfSome left P
 if_spelled None cs P make spelled = tt
 if_spelled (Some trace) cs P make spelled = make trace spelled
 
 -- what a fault in the run leaves of the device
-leaves_run : (i : Input) (old mid new : Memory) (cs : List CycleInput) (v : Store) (n : ℕ) → IfSome i.left (λ bytes. Spell bytes cs) → Settled old mid v n → LeavesReached cs mid.content mid.settled new.content new.settled → LeavesRun i old new
+leaves_run : (i : Input) (old mid new : Memory) (cs : List CycleInput) (v : Store) (n : ℕ) → IfSome i.left (IsTraceOf cs) → Settled old mid v n → LeavesReached cs mid.content mid.settled new.content new.settled → LeavesRun i old new
 unfolding LeavesReached
 leaves_run i old mid new cs v n spelled settled left = λ bytes image quiet may.
     let s = settled bytes quiet.0 in
@@ -185,32 +187,32 @@ leaves_run i old mid new cs v n spelled settled left = λ bytes image quiet may.
       (λ none. absurd (some_view (view_of bytes) (record { store = v; count = n }) none s.0)),
       (λ w says. let same : ◌≡◌ {A = View} (record { store = v; count = n }) w = same_view _ _ (sym s.0 ∙ says) in
           subst (λ (x : View). IfSome i.left (λ trace. Reaches trace x image)) same
-          (if_spelled i.left cs (λ trace. Reaches trace (record { store = v; count = n }) image) (λ trace is. record { cycles = cs; spelled = is; view = r.0; view_is = r.1; reached = r.2 }) spelled)),
+          (if_spelled i.left cs (λ trace. Reaches trace (record { store = v; count = n }) image) (λ trace is. record { cycles = cs; spelled = is.1; view = r.0; view_is = r.1; reached = r.2 }) spelled)),
     )
 
 -- before the run nothing was changed
-pub leaves_none : (i : Input) (old new : Memory) (cs : List CycleInput) → IfSome i.left (λ bytes. Spell bytes cs) → ((bytes image : List ℕ) → IsQuiet old.content old.settled bytes → MayLeave new.content new.settled image → image ≡ bytes) → LeavesRun i old new
+pub leaves_none : (i : Input) (old new : Memory) (cs : List CycleInput) → IfSome i.left (IsTraceOf cs) → ((bytes image : List ℕ) → IsQuiet old.content old.settled bytes → MayLeave new.content new.settled image → image ≡ bytes) → LeavesRun i old new
 leaves_none i old new cs spelled stays = λ bytes image quiet may.
     let same = stays bytes image quiet may in (
       (λ none. same),
       (λ w says. if_spelled i.left cs (λ trace. Reaches trace w image)
-          (λ trace is. record { cycles = cs; spelled = is; view = w; view_is = ap view_of same ∙ says; reached = between 0 (record { reports = []; store = w.store; count = w.count }) (record { within = omega arith; run = refl }) refl refl }) spelled),
+          (λ trace is. record { cycles = cs; spelled = is.1; view = w; view_is = ap view_of same ∙ says; reached = between 0 (record { reports = []; store = w.store; count = w.count }) (record { within = omega arith; run = refl }) refl refl }) spelled),
     )
 
 -- the cycles were not run to the end, or not reported
-pub run_replay : (i i' : Input) (old mid new : Memory) (cs : List CycleInput) (v : Store) (n : ℕ) (f : Fault) → IfSome i.left (λ bytes. Spell bytes cs) → Settled old mid v n
-    → StillTells old.content new.content → old.faults ≤ mid.faults → IsRunCause cs mid new f → IsReplayCause i i' old new f
-run_replay i i' old mid new cs v n fault.Store spelled settled tells later cause = (gave i cs spelled, rose_later old.faults mid.faults new.faults later cause.0, leaves_run i old mid new cs v n spelled settled cause.1)
+pub run_replay : (i i' : Input) (old mid new : Memory) (cs : List CycleInput) (v : Store) (n : ℕ) (f : Fault) → IfSome i.left (IsTraceOf cs) → IsAtEnd i'.left → Settled old mid v n
+    → StillTells old.content new.content → mid.size ≡ old.size → old.faults ≤ mid.faults → IsRunCause cs mid new f → IsReplayCause i i' old new f
+run_replay i i' old mid new cs v n fault.Store spelled end settled tells size later cause = (gave i i' cs spelled end, rose_later old.faults mid.faults new.faults later cause.0, leaves_run i old mid new cs v n spelled settled cause.1)
   where
     rose_later : (a b c : ℕ) → a ≤ b → Rose b c → Rose a c
     rose_later a b c le rose = grind (arith, le, rose)
-run_replay i i' old mid new cs v n (fault.Short size needed) spelled settled tells later cause =
-    (gave i cs spelled, none_refused old mid new v n (open_fault.Short size needed) settled tells cause)
-run_replay i i' old mid new cs v n (fault.Header h) spelled settled tells later cause =
-    (gave i cs spelled, none_refused old mid new v n (open_fault.Header h) settled tells cause)
-run_replay i i' old mid new cs v n fault.Spent spelled settled tells later cause = go i.left old.content spelled (λ image told. settled image told)
+run_replay i i' old mid new cs v n (fault.Short size needed) spelled end settled tells same later cause =
+    (gave i i' cs spelled end, (none_refused old mid new v n (open_fault.Short size needed) settled tells cause.0, same_size old.size mid.size size needed same cause.1))
+run_replay i i' old mid new cs v n (fault.Header h) spelled end settled tells size later cause =
+    (gave i i' cs spelled end, none_refused old mid new v n (open_fault.Header h) settled tells cause)
+run_replay i i' old mid new cs v n fault.Spent spelled end settled tells size later cause = (go i.left old.content spelled (λ image told. settled image told), end)
   where
-    go : (left content : Option (List ℕ)) → IfSome left (λ bytes. Spell bytes cs) → ((image : List ℕ) → content ≡ Some image → Says image v n × IsQuiet mid.content mid.settled image)
+    go : (left content : Option (List ℕ)) → IfSome left (IsTraceOf cs) → ((image : List ℕ) → content ≡ Some image → Says image v n × IsQuiet mid.content mid.settled image)
         → IfSome left (λ bytes. IfSome content (λ image. IsSpent bytes image new))
     go None content spelled settled = tt
     go (Some bytes) None spelled settled = tt
@@ -219,9 +221,9 @@ run_replay i i' old mid new cs v n fault.Spent spelled settled tells later cause
         let held : Holds mid.content mid.settled v n = record { bytes = image; quiet = s.1; says = s.0 } in
         let r = cause v n held in
         record { cycles = cs; store = v; count = n; outcome = r.0; spelled = spelled; says = s.0; ran = r.1; held = r.2 }
-run_replay i i' old mid new cs v n fault.OutOfMemory spelled settled tells later cause = inr (go i.left old.content spelled (λ image told. settled image told))
+run_replay i i' old mid new cs v n fault.OutOfMemory spelled end settled tells size later cause = inr (go i.left old.content spelled (λ image told. settled image told))
   where
-    go : (left content : Option (List ℕ)) → IfSome left (λ bytes. Spell bytes cs) → ((image : List ℕ) → content ≡ Some image → Says image v n × IsQuiet mid.content mid.settled image)
+    go : (left content : Option (List ℕ)) → IfSome left (IsTraceOf cs) → ((image : List ℕ) → content ≡ Some image → Says image v n × IsQuiet mid.content mid.settled image)
         → IfSome left (λ bytes. IfSome content (λ image. RanSome bytes image new))
     go None content spelled settled = tt
     go (Some bytes) None spelled settled = tt
@@ -230,8 +232,8 @@ run_replay i i' old mid new cs v n fault.OutOfMemory spelled settled tells later
         let held : Holds mid.content mid.settled v n = record { bytes = image; quiet = s.1; says = s.0 } in
         let r = cause v n held in
         record { cycles = cs; store = v; count = n; p = r.0; outcome = r.1; spelled = spelled; says = s.0; ran = r.2; held = r.3 }
-run_replay i i' old mid new cs v n fault.Usage spelled settled tells later cause = cause
-run_replay i i' old mid new cs v n (fault.Trace t) spelled settled tells later cause = absurd cause
-run_replay i i' old mid new cs v n fault.Read spelled settled tells later cause = absurd cause
-run_replay i i' old mid new cs v n fault.Formatted spelled settled tells later cause = cause
-run_replay i i' old mid new cs v n fault.TooLong spelled settled tells later cause = absurd cause
+run_replay i i' old mid new cs v n fault.Usage spelled end settled tells size later cause = cause
+run_replay i i' old mid new cs v n (fault.Trace t) spelled end settled tells size later cause = absurd cause
+run_replay i i' old mid new cs v n fault.Read spelled end settled tells size later cause = absurd cause
+run_replay i i' old mid new cs v n fault.Formatted spelled end settled tells size later cause = cause
+run_replay i i' old mid new cs v n fault.TooLong spelled end settled tells size later cause = absurd cause

@@ -2,7 +2,6 @@
 use Rattle.std.proofs.Common.{◌≡◌, ◌∙◌, sym, subst, ap, arith, ℕ, ◌+◌, ◌≤◌, List, [], ◌∷◌, length, Option, Some, None, IfSome, All, slice_index_or, add-one}
 use Rattle.edr_image.specs.Banks.{Store}
 use Rattle.edr_spell.specs.declared.CycleInput.{CycleInput}
-use Rattle.edr_spell.specs.Spell.{Spell}
 use Rattle.edr_spell.proofs.LawLemmas.{spell-one}
 use Rattle.edr_run.specs.Cycle.{End, IsCycle, start_stopped, start_counted, whole, cut, whole_end, Outcome, IsRun}
 use Rattle.edr_run.proofs.LoggedLaws.{run-locks, run-done_later}
@@ -12,11 +11,11 @@ use Rattle.edr_words.specs.declared.Form.{Form}
 use Rattle.edr_replay.specs.Replayed.{Holds}
 use Rattle.edr_cli.specs.Outside.{Input, Memory}
 use Rattle.edr_cli.specs.Reports.{Says, report_in}
-use Rattle.edr_cli.specs.Runs.{TheRun, IsPowered, RunIs}
+use Rattle.edr_cli.specs.Runs.{TheRun, IsPowered, IsTraceOf, RunIs}
 
 -- the run with all that holds of it
 pub the_run : (form : Form) (bytes image : List ℕ) (new : Memory) (text : List ℕ) (cs : List CycleInput) (v : Store) (n : ℕ) (o : Outcome)
-    → Spell bytes cs → Says image v n → IsRun cs v n o → Holds new.content new.settled o.store o.count → text ≡ report_in form o.reports o.store o.count
+    → IsTraceOf cs bytes → Says image v n → IsRun cs v n o → Holds new.content new.settled o.store o.count → text ≡ report_in form o.reports o.store o.count
     → TheRun form bytes image new text
 the_run form bytes image new text cs v n o spelled says run held output = record {
   cycles = cs;
@@ -77,7 +76,7 @@ powered_run (c ∷ cs) v n a b powered run_a run_b =
     (run_a.5 ∙ ap (λ (x : End). x.report ∷ run_a.3) end_a ∙ ap (λ (x : Outcome). e.report ∷ x.reports) same ∙ sym (run_b.5 ∙ ap (λ (x : End). x.report ∷ run_b.3) end_b))
 
 -- traces that spell the same cycles have the same reports
-pub same_reports : (form : Form) (cs : List CycleInput) (i j : Input) (old new : Memory) (a b text : List ℕ) → Spell a cs → Spell b cs → i.left ≡ Some a → j.left ≡ Some b → RunIs form i old new text → RunIs form j old new text
+pub same_reports : (form : Form) (cs : List CycleInput) (i j : Input) (old new : Memory) (a b text : List ℕ) → IsTraceOf cs a → IsTraceOf cs b → i.left ≡ Some a → j.left ≡ Some b → RunIs form i old new text → RunIs form j old new text
 same_reports form cs i j old new a b text spelled_a spelled_b left_a left_b run =
     subst (λ (left : Option (List ℕ)). IfSome left (λ bytes. IfSome old.content (λ image. TheRun form bytes image new text))) (sym left_b)
     (go old.content (subst (λ (left : Option (List ℕ)). IfSome left (λ bytes. IfSome old.content (λ image. TheRun form bytes image new text))) left_a run))
@@ -85,5 +84,5 @@ same_reports form cs i j old new a b text spelled_a spelled_b left_a left_b run 
     go : (content : Option (List ℕ)) → IfSome content (λ image. TheRun form a image new text) → IfSome content (λ image. TheRun form b image new text)
     go None run = tt
     go (Some image) r =
-        let same : r.cycles ≡ cs = spell-one a r.cycles cs r.spelled spelled_a in
-        the_run form b image new text r.cycles r.store r.count r.outcome (subst (λ (xs : List CycleInput). Spell b xs) (sym same) spelled_b) r.says r.run r.held r.output
+        let same : r.cycles ≡ cs = spell-one a r.cycles cs r.spelled.1 spelled_a.1 in
+        the_run form b image new text r.cycles r.store r.count r.outcome (subst (λ (xs : List CycleInput). IsTraceOf xs b) (sym same) spelled_b) r.says r.run r.held r.output

@@ -1,7 +1,7 @@
 -- What is taken of a source in pieces.
-use Rattle.std.proofs.Common.{arith, ◌≡◌, ◌∙◌, sym, ap, subst, ℕ, ◌+◌, ◌≤◌, ◌<◌, Option, Some, None, List, [], ◌++◌, length, drop}
+use Rattle.std.proofs.Common.{arith, ◌≡◌, ◌∙◌, refl, sym, ap, subst, ℕ, ◌+◌, ◌≤◌, ◌<◌, Option, Some, None, List, [], ◌++◌, length, drop}
 use Rattle.std.proofs.lemmas.List.{append-nil, length-append, nil_from_length}
-use Rattle.std.proofs.Math.Seq.{drop-append_seam}
+use Rattle.std.proofs.Math.Seq.{drop-append_seam, drop-length}
 use Rattle.edr_device.specs.Told.{Told}
 use Rattle.edr_device.specs.Transfer.{Carries, GivesAll, GivesAtMost, GivesTooMany}
 use Rattle.edr_device.proofs.Telling.{told_again}
@@ -29,6 +29,15 @@ gives_all n v w x y z zero long = told_again (Gives v) (Carries n v w) (GivesAll
 -- so many bytes were taken, and no more
 pub gives_most : (most : ℕ) (v : List ℕ) (x y : Option (List ℕ)) → length v ≤ most → Told (Gives v) x y → Told (GivesAtMost most) x y
 gives_most most v x y few = told_so (Gives v) (GivesAtMost most) (λ a b p. (length v, few, sym (drop-append_seam v b) ∙ ap (λ t. drop (length v) t) (sym p))) x y
+
+-- all bytes are few
+pub all_most : (most : ℕ) (v : List ℕ) (x y : Option (List ℕ)) → length v ≤ most → Told (GivesAll v) x y → Told (GivesAtMost most) x y
+all_most most v x y few = told_so (GivesAll v) (GivesAtMost most) (λ a b p. (length v, few, p.1 ∙ sym (drop-length v) ∙ ap (λ t. drop (length v) t) (sym p.0))) x y
+
+-- nothing was taken
+pub none_taken : (most : ℕ) (x : Option (List ℕ)) → Told (GivesAtMost most) x x
+none_taken most None = tt
+none_taken most (Some a) = (0, omega arith, refl)
 
 pub gives_too_many : (limit : ℕ) (v : List ℕ) (x y : Option (List ℕ)) → length v ≡ limit + 1 → Told (Gives v) x y → Told (GivesTooMany limit) x y
 gives_too_many limit v x y long = told_so (Gives v) (GivesTooMany limit)

@@ -7,7 +7,7 @@ use Rattle.edr_image.specs.declared.OpenFault.TheVariants as open_fault
 use Rattle.edr_image.specs.Banks.{Store}
 use Rattle.edr_image.specs.Image.{image_refusal, image_size, not_magic, view_of}
 use Rattle.edr_image.specs.Reports.{Report}
-use Rattle.edr_banks.specs.Formatting.{IsNew}
+use Rattle.edr_banks.specs.Formatting.{IsNew, LacksMagic}
 use Rattle.edr_report.specs.declared.faults.Fault.{Fault}
 use Rattle.edr_report.specs.declared.faults.Fault.TheVariants as fault
 use Rattle.edr_report.specs.Format.{format_line}
@@ -15,6 +15,7 @@ use Rattle.edr_report.specs.Report.{report_text, report_table}
 use Rattle.edr_words.specs.declared.Form.{Form}
 use Rattle.edr_words.specs.declared.Form.TheVariants.{Text, Table}
 use Rattle.edr_device.specs.Device.{IsQuiet}
+use Rattle.edr_replay.specs.Replayed.{IsShortOf}
 use Rattle.edr_cli.specs.Outside.{Memory}
 
 -- the image says these banks and this count
@@ -51,10 +52,10 @@ fault_of (open_fault.Header h) = fault.Header h
 fault_of open_fault.StoreFault = fault.Store
 fault_of open_fault.OutOfMemory = fault.OutOfMemory
 
--- why there is no report of an image
+-- why there is no report of an image; the size of a short one is the device's, also where it tells no bytes
 abbrev pub IsImageCause : Memory → Memory → Fault → Type 0
 IsImageCause old new fault.Store = Rose old.faults new.faults
-IsImageCause old new (fault.Short size needed) = IsRefused (open_fault.Short size needed) old new
+IsImageCause old new (fault.Short size needed) = IsRefused (open_fault.Short size needed) old new × IsShortOf old.size size needed
 IsImageCause old new (fault.Header h) = IsRefused (open_fault.Header h) old new
 IsImageCause old new fault.OutOfMemory = new.content ≡ old.content
 IsImageCause old new fault.Usage = ⊥
@@ -66,9 +67,9 @@ IsImageCause old new fault.TooLong = ⊥
 
 -- ---- format
 
--- where the device told bytes, it tells those of the new image, and nothing is pending
+-- where the device told bytes, there was no image among them; it tells those of the new one, and nothing is pending
 abbrev pub IsMade : Header → Memory → Memory → Type 0
-IsMade h old new = IfSome old.content (λ bytes. (image : List ℕ) × IsQuiet new.content new.settled image × IsNew h bytes image)
+IsMade h old new = IfSome old.content (λ bytes. LacksMagic bytes × (image : List ℕ) × IsQuiet new.content new.settled image × IsNew h bytes image)
 
 -- and the text is the line that tells of it
 abbrev pub FormatIs : Header → Memory → Memory → List ℕ → Type 0

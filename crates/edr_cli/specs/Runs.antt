@@ -2,6 +2,8 @@
 use Rattle.std.specs.Prelude.{◌≡◌, ◌⊎◌, ◌≤◌, ◌<◌, ℕ, true, None, List, length, slice_get, Option, Some, IfSome, ⊤}
 use Rattle.edr_device.specs.Device.{IsQuiet, MayLeave}
 use Rattle.edr_device.specs.Faults.{Rose}
+use Rattle.edr_device.specs.Told.{Told}
+use Rattle.edr_device.specs.Transfer.{GivesTooMany}
 use Rattle.edr_record.specs.Parts.{PrePart, CrashPart}
 use Rattle.edr_record.specs.declared.Record.{Record}
 use Rattle.edr_record.specs.declared.Command.TheVariants as command
@@ -26,7 +28,7 @@ use Rattle.edr_report.specs.declared.faults.Fault.TheVariants as fault
 use Rattle.edr_words.specs.declared.Form.{Form}
 use Rattle.edr_replay.specs.Reached.{IsReached, RanFirst}
 use Rattle.edr_replay.specs.Replayed.{Holds, RanToTheLast}
-use Rattle.edr_cli.specs.Outside.{Input, Memory}
+use Rattle.edr_cli.specs.Outside.{Input, IsAtEnd, Memory}
 use Rattle.edr_cli.specs.Reports.{Says, report_in, IsImageCause}
 
 -- ---- what holds of a run
@@ -69,6 +71,10 @@ KeepsDone cycles o = (k j l m : ℕ) (a : IsLockAck cycles o k j m) (done : Ack)
 
 -- ---- a run
 
+-- a trace may have so many bytes, and they spell these cycles
+abbrev pub IsTraceOf : List CycleInput → List ℕ → Type 0
+IsTraceOf cycles bytes = (length bytes ≤ LARGEST_TRACE) × Spell bytes cycles
+
 -- the run of the trace of these bytes over this image, with its report
 pub record TheRun (form : Form) (bytes image : List ℕ) (new : Memory) (text : List ℕ) : Type 0 where
   pub cycles : List CycleInput
@@ -76,7 +82,7 @@ pub record TheRun (form : Form) (bytes image : List ℕ) (new : Memory) (text : 
   pub count : ℕ
   pub outcome : Outcome
   -- Run: from what the image says, the cycles that the bytes spell come to what the device holds, with nothing pending
-  pub spelled : Spell bytes cycles
+  pub spelled : IsTraceOf cycles bytes
   pub says : Says image store count
   pub run : IsRun cycles store count outcome
   pub held : Holds new.content new.settled outcome.store outcome.count
@@ -103,9 +109,9 @@ IsPowered c = (c.start_stop ≡ 0) × (c.stop ≡ 0)
 
 -- ---- why there is no run
 
--- the source gave a trace
-abbrev pub GaveTrace : Input → Type 0
-GaveTrace i = IfSome i.left (λ bytes. (cycles : List CycleInput) × Spell bytes cycles)
+-- the source gave a trace, and is at its end
+abbrev pub GaveTrace : Input → Input → Type 0
+GaveTrace i i' = IfSome i.left (λ bytes. (cycles : List CycleInput) × IsTraceOf cycles bytes) × IsAtEnd i'.left
 
 -- the cycles before one that found no number left ran, and the device holds what they came to
 pub record IsSpent (bytes image : List ℕ) (new : Memory) : Type 0 where
@@ -113,7 +119,7 @@ pub record IsSpent (bytes image : List ℕ) (new : Memory) : Type 0 where
   pub store : Store
   pub count : ℕ
   pub outcome : Outcome
-  pub spelled : Spell bytes cycles
+  pub spelled : IsTraceOf cycles bytes
   pub says : Says image store count
   pub ran : RanToTheLast cycles store count outcome
   pub held : Holds new.content new.settled outcome.store outcome.count
@@ -139,16 +145,16 @@ pub record RanSome (bytes image : List ℕ) (new : Memory) : Type 0 where
   pub count : ℕ
   pub p : ℕ
   pub outcome : Outcome
-  pub spelled : Spell bytes cycles
+  pub spelled : IsTraceOf cycles bytes
   pub says : Says image store count
   pub ran : RanFirst cycles store count p outcome
   pub held : Holds new.content new.settled outcome.store outcome.count
 
--- why a source gave no trace
+-- why a source gave no trace; one that gave too much was read for one byte past the most that a trace may have
 abbrev pub IsTraceCause : Input → Input → Fault → Type 0
-IsTraceCause i i' (fault.Trace t) = IfSome i.left (λ bytes. (length bytes ≤ LARGEST_TRACE) × IsFaultOf bytes t)
+IsTraceCause i i' (fault.Trace t) = IfSome i.left (λ bytes. (length bytes ≤ LARGEST_TRACE) × IsFaultOf bytes t) × IsAtEnd i'.left
 IsTraceCause i i' fault.Read = Rose i.faults i'.faults
-IsTraceCause i i' fault.TooLong = IfSome i.left (λ bytes. LARGEST_TRACE < length bytes)
+IsTraceCause i i' fault.TooLong = Told (GivesTooMany LARGEST_TRACE) i.left i'.left
 IsTraceCause i i' fault.OutOfMemory = ⊤
 IsTraceCause i i' fault.Usage = ⊥
 IsTraceCause i i' fault.Store = ⊥
@@ -162,10 +168,10 @@ abbrev pub IsReplayCause : Input → Input → Memory → Memory → Fault → T
 IsReplayCause i i' old new (fault.Trace t) = IsTraceCause i i' (fault.Trace t) × (new ≡ old)
 IsReplayCause i i' old new fault.Read = IsTraceCause i i' fault.Read × (new ≡ old)
 IsReplayCause i i' old new fault.TooLong = IsTraceCause i i' fault.TooLong × (new ≡ old)
-IsReplayCause i i' old new fault.Store = GaveTrace i × Rose old.faults new.faults × LeavesRun i old new
-IsReplayCause i i' old new (fault.Short size needed) = GaveTrace i × IsImageCause old new (fault.Short size needed)
-IsReplayCause i i' old new (fault.Header h) = GaveTrace i × IsImageCause old new (fault.Header h)
-IsReplayCause i i' old new fault.Spent = IfTold i old (λ bytes image. IsSpent bytes image new)
+IsReplayCause i i' old new fault.Store = GaveTrace i i' × Rose old.faults new.faults × LeavesRun i old new
+IsReplayCause i i' old new (fault.Short size needed) = GaveTrace i i' × IsImageCause old new (fault.Short size needed)
+IsReplayCause i i' old new (fault.Header h) = GaveTrace i i' × IsImageCause old new (fault.Header h)
+IsReplayCause i i' old new fault.Spent = IfTold i old (λ bytes image. IsSpent bytes image new) × IsAtEnd i'.left
 IsReplayCause i i' old new fault.OutOfMemory = (new.content ≡ old.content) ⊎ IfTold i old (λ bytes image. RanSome bytes image new)
 IsReplayCause i i' old new fault.Usage = ⊥
 IsReplayCause i i' old new fault.Formatted = ⊥

@@ -10,7 +10,7 @@ use Rattle.edr_report.specs.declared.faults.Fault.{Fault}
 use Rattle.edr_report.specs.declared.faults.Fault.TheVariants as fault
 use Rattle.edr_words.specs.declared.Form.{Form}
 use Rattle.edr_replay.specs.Reached.{RanFirst}
-use Rattle.edr_replay.specs.Replayed.{Holds, LeavesReached, RanToTheLast}
+use Rattle.edr_replay.specs.Replayed.{Holds, IsShortOf, LeavesReached, RanToTheLast}
 use Rattle.edr_cli.specs.Outside.{Memory}
 use Rattle.edr_cli.specs.Reports.{fault_of, report_in}
 
@@ -33,7 +33,7 @@ HeldNone old = (v : Store) (n : ℕ) → ¬ Holds old.content old.settled v n
 -- why there is no report of a run of these cycles
 abbrev pub IsRunCause : List CycleInput → Memory → Memory → Fault → Type 0
 IsRunCause cycles old new fault.Store = Rose old.faults new.faults × LeavesReached cycles old.content old.settled new.content new.settled
-IsRunCause cycles old new (fault.Short size needed) = HeldNone old
+IsRunCause cycles old new (fault.Short size needed) = HeldNone old × IsShortOf old.size size needed
 IsRunCause cycles old new (fault.Header h) = HeldNone old
 IsRunCause cycles old new fault.Spent = (v : Store) (n : ℕ) → Holds old.content old.settled v n
     → (o : Outcome) × RanToTheLast cycles v n o × Holds new.content new.settled o.store o.count

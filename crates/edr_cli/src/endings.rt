@@ -1,5 +1,5 @@
 //! Writes what a call has to tell.
-ghost use Rattle.std.specs.Prelude.{◌≡◌, ◌≢◌, ◌⊎◌, List};
+ghost use Rattle.std.specs.Prelude.{◌≡◌, ◌≢◌, ◌⊎◌, ◌≤◌, List};
 ghost use Rattle.edr_device.specs.Faults.{Rose};
 ghost use Rattle.edr_device.specs.Stream.{Appends};
 ghost use Rattle.edr_device.specs.Told.{Told};
@@ -17,6 +17,7 @@ pub(crate) fn write<K: Sink>(sink: &mut K, text: &[u8], status: Status) -> Statu
     ensures whole { result ≢ Status.WriteFault → (result ≡ status) × Told (Appends text.now) (K.content sink.old) (K.content sink.new) }
     ensures part { result ≡ Status.WriteFault → Told (AppendsPart text.now) (K.content sink.old) (K.content sink.new) × Rose (K.faults sink.old) (K.faults sink.new) }
     ensures answers { (result ≡ status) ⊎ (result ≡ Status.WriteFault) }
+    ensures later { K.faults sink.old ≤ K.faults sink.new }
 {
     match put_all(sink, text) {
         Ok(()) => status,
@@ -29,6 +30,7 @@ pub(crate) fn tell<K: Sink>(sink: &mut K, fault: Fault) -> Status
     ensures whole { result ≢ Status.WriteFault → (result ≡ status_of fault) × Told (Appends (fault_line fault)) (K.content sink.old) (K.content sink.new) }
     ensures part { result ≡ Status.WriteFault → Told (AppendsPart (fault_line fault)) (K.content sink.old) (K.content sink.new) × Rose (K.faults sink.old) (K.faults sink.new) }
     ensures answers { (result ≡ status_of fault) ⊎ (result ≡ Status.WriteFault) }
+    ensures later { K.faults sink.old ≤ K.faults sink.new }
 {
     write(sink, fault.line().as_bytes(), Status::of(&fault))
 }

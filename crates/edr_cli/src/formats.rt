@@ -1,12 +1,12 @@
 //! Formats the memory of the records.
 ghost use Rattle.std.specs.Prelude.{◌≡◌, ◌≤◌, ℕ, List, IfSome, IfOk, IfErr, IsOk};
-ghost use Rattle.edr_device.specs.Device.{IsQuiet, MayLeave};
+ghost use Rattle.edr_device.specs.Device.{IsQuiet, MayLeave, StillTells};
 ghost use Rattle.edr_device.specs.Faults.{Rose};
 ghost use Rattle.edr_image.specs.Image.{image_size};
 ghost use Rattle.edr_banks.specs.Formatting.{IsPartlyFormatted, LacksMagic};
 ghost use Rattle.edr_report.specs.Format.{format_line};
 ghost use Rattle.edr_cli.specs.Outside.{memory};
-ghost use Rattle.edr_cli.specs.Reports.{IsMade, IsFormatCause};
+ghost use Rattle.edr_cli.specs.Reports.{HasMagic, IsMade, IsFormatCause};
 
 use edr_banks::{Banks, FormatFault, Header};
 use edr_device::Nvm;
@@ -16,6 +16,10 @@ use edr_report::{Fault, ShortLine, format_line};
 pub(crate) fn make_image<N: Nvm>(nvm: &mut N, header: Header) -> Result<ShortLine, Fault>
     requires from { 2 ≤ header.banks }
     requires to { header.banks ≤ 16 }
+    ensures size { N.extent nvm.new ≡ N.extent nvm.old }
+    ensures device { N.goes_on nvm.old nvm.new }
+    ensures tells { StillTells (N.content nvm.old) (N.content nvm.new) }
+    ensures later { N.faults nvm.old ≤ N.faults nvm.new }
     ensures line { IfOk result (λ line. line ≡ format_line header) }
     ensures made { IfOk result (λ line. IsMade header (memory N.extent N.content N.settled N.faults nvm.old)
         (memory N.extent N.content N.settled N.faults nvm.new)) }
@@ -23,6 +27,9 @@ pub(crate) fn make_image<N: Nvm>(nvm: &mut N, header: Header) -> Result<ShortLin
         (memory N.extent N.content N.settled N.faults nvm.new)) }
     ensures crash { (bytes image : List ℕ) → IsQuiet (N.content nvm.old) (N.settled nvm.old) bytes
         → MayLeave (N.content nvm.new) (N.settled nvm.new) image → IsPartlyFormatted header bytes image }
+    // An image that is there stays.
+    ensures stays { (bytes image : List ℕ) → IsQuiet (N.content nvm.old) (N.settled nvm.old) bytes → HasMagic bytes
+        → MayLeave (N.content nvm.new) (N.settled nvm.new) image → image ≡ bytes }
     ensures complete { ¬ Rose (N.faults nvm.old) (N.faults nvm.new) → image_size header.banks ≤ N.extent nvm.old
         → IfSome (N.content nvm.old) (λ bytes. LacksMagic bytes → IsOk result) }
 {

@@ -32,7 +32,9 @@ pub(crate) fn open_settled<N: Nvm>(alloc: Global, nvm: &mut N) -> Result<Banks, 
     ensures cause { IfErr result (IsImageCause (memory N.extent N.content N.settled N.faults nvm.old)
         (memory N.extent N.content N.settled N.faults nvm.new)) }
     ensures stays { (bytes image : List ℕ) → IsQuiet (N.content nvm.old) (N.settled nvm.old) bytes → MayLeave (N.content nvm.new) (N.settled nvm.new) image → image ≡ bytes }
-    ensures told { StillTells (N.content nvm.old) (N.content nvm.new) }
+    ensures size { N.extent nvm.new ≡ N.extent nvm.old }
+    ensures device { N.goes_on nvm.old nvm.new }
+    ensures tells { StillTells (N.content nvm.old) (N.content nvm.new) }
     ensures later { N.faults nvm.old ≤ N.faults nvm.new }
 {
     if nvm.sync().is_err() {
@@ -48,6 +50,8 @@ pub(crate) fn open<N: Nvm>(alloc: Global, nvm: &mut N) -> Result<Banks, Fault>
         (memory N.extent N.content N.settled N.faults nvm.new)) }
     ensures content { N.content nvm.new ≡ N.content nvm.old }
     ensures settled { (i : ℕ) → N.settled nvm.new i ≡ N.settled nvm.old i }
+    ensures size { N.extent nvm.new ≡ N.extent nvm.old }
+    ensures device { N.goes_on nvm.old nvm.new }
     ensures later { N.faults nvm.old ≤ N.faults nvm.new }
 {
     match Banks::open(alloc, nvm) {
@@ -81,6 +85,10 @@ pub(crate) fn report_of_banks(
 
 /// The report of what the device holds.
 pub(crate) fn report<N: Nvm>(alloc: Global, nvm: &mut N, form: Form) -> Result<Vec<u8>, Fault>
+    ensures size { N.extent nvm.new ≡ N.extent nvm.old }
+    ensures device { N.goes_on nvm.old nvm.new }
+    ensures tells { StillTells (N.content nvm.old) (N.content nvm.new) }
+    ensures later { N.faults nvm.old ≤ N.faults nvm.new }
     ensures text { IfOk result (λ out. ReportIs form (memory N.extent N.content N.settled N.faults nvm.old)
         (memory N.extent N.content N.settled N.faults nvm.new) out.items) }
     ensures cause { IfErr result (IsImageCause (memory N.extent N.content N.settled N.faults nvm.old)

@@ -2,15 +2,14 @@
 ghost use Rattle.std.specs.Prelude.{◌≡◌, ◌↔◌, ℕ, All, List};
 ghost use Rattle.edr_image.specs.Banks.{Store};
 ghost use Rattle.edr_run.specs.Cycle.{Outcome, IsRun};
-ghost use Rattle.edr_spell.specs.Spell.{Spell};
 ghost use Rattle.edr_spell.specs.declared.CycleInput.{CycleInput};
 ghost use Rattle.edr_words.specs.declared.Form.{Form};
 ghost use Rattle.edr_cli.specs.Outside.{Input, Memory};
-ghost use Rattle.edr_cli.specs.Runs.{IsPowered, RunIs};
+ghost use Rattle.edr_cli.specs.Runs.{IsPowered, IsTraceOf, RunIs};
 
 /// Traces that spell the same cycles have the same reports over the same image.
 pub fn reports_are_of_the_cycles()
-    ensures { (form : Form) (cycles : List CycleInput) (i j : Input) (old new : Memory) (a b text : List ℕ) → Spell a cycles → Spell b cycles
+    ensures { (form : Form) (cycles : List CycleInput) (i j : Input) (old new : Memory) (a b text : List ℕ) → IsTraceOf cycles a → IsTraceOf cycles b
         → i.left ≡ Some a → j.left ≡ Some b → RunIs form i old new text → RunIs form j old new text }
 {}
 

@@ -1,7 +1,11 @@
 //! Runs a trace over the memory of the records, and reports.
-ghost use Rattle.std.specs.Prelude.{◌≡◌, All, IfOk, IfErr, OnOk};
+ghost use Rattle.std.specs.Prelude.{◌≡◌, ◌+◌, ◌≤◌, All, IfOk, IfErr, OnOk};
 ghost use Rattle.edr_device.specs.Device.{StillTells};
+ghost use Rattle.edr_device.specs.Told.{Told};
+ghost use Rattle.edr_device.specs.Transfer.{GivesAtMost};
 ghost use Rattle.edr_spell.specs.Spell.{IsCycle};
+ghost use Rattle.edr_trace.specs.declared.TheConstants.{LARGEST_TRACE};
+ghost use Rattle.edr_replay.specs.Past.{LeavesPast};
 ghost use Rattle.edr_cli.specs.Outside.{IsAtEnd, input, memory};
 ghost use Rattle.edr_cli.specs.Runs.{IsReplayCause, RunIs};
 ghost use Rattle.edr_cli.specs.Steps.{IsRunCause, Reports, fault_of_start};
@@ -37,6 +41,13 @@ pub(crate) fn replay_source<S: Source, N: Nvm>(
     nvm: &mut N,
     form: Form,
 ) -> Result<Vec<u8>, Fault>
+    ensures takes { Told (GivesAtMost (LARGEST_TRACE + 1)) (S.left source.old) (S.left source.new) }
+    ensures source_later { S.faults source.old ≤ S.faults source.new }
+    ensures size { N.extent nvm.new ≡ N.extent nvm.old }
+    ensures device { N.goes_on nvm.old nvm.new }
+    ensures tells { StillTells (N.content nvm.old) (N.content nvm.new) }
+    ensures later { N.faults nvm.old ≤ N.faults nvm.new }
+    ensures past { LeavesPast (N.content nvm.old) (N.settled nvm.old) (N.content nvm.new) (N.settled nvm.new) }
     ensures end { OnOk result (IsAtEnd (S.left source.new)) }
     ensures text { IfOk result (λ out. RunIs form (input S.left S.faults source.old)
         (memory N.extent N.content N.settled N.faults nvm.old)
@@ -62,7 +73,11 @@ fn run<N: Nvm>(
         (memory N.extent N.content N.settled N.faults nvm.new) out.items) }
     ensures cause { IfErr result (IsRunCause cycles.now (memory N.extent N.content N.settled N.faults nvm.old)
         (memory N.extent N.content N.settled N.faults nvm.new)) }
-    ensures told { StillTells (N.content nvm.old) (N.content nvm.new) }
+    ensures size { N.extent nvm.new ≡ N.extent nvm.old }
+    ensures device { N.goes_on nvm.old nvm.new }
+    ensures tells { StillTells (N.content nvm.old) (N.content nvm.new) }
+    ensures later { N.faults nvm.old ≤ N.faults nvm.new }
+    ensures past { LeavesPast (N.content nvm.old) (N.settled nvm.old) (N.content nvm.new) (N.settled nvm.new) }
 {
     let reports = match replay(alloc, nvm, cycles) {
         Ok(reports) => reports,

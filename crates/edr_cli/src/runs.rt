@@ -1,10 +1,10 @@
 //! The top call.
 ghost use Rattle.std.specs.Prelude.{◌≡◌, ◌≢◌, ◌≤◌, ◌⊎◌, ◌+◌, ℕ, List, Some, None, IfSome, length};
-ghost use Rattle.edr_device.specs.Device.{IsQuiet, MayLeave};
+ghost use Rattle.edr_device.specs.Device.{IsQuiet, MayLeave, StillTells};
 ghost use Rattle.edr_device.specs.Faults.{Rose};
 ghost use Rattle.edr_device.specs.Stream.{Appends};
 ghost use Rattle.edr_device.specs.Told.{Told};
-ghost use Rattle.edr_device.specs.Transfer.{AppendsPart};
+ghost use Rattle.edr_device.specs.Transfer.{AppendsPart, GivesAtMost};
 ghost use Rattle.edr_image.specs.declared.Header.{Header};
 ghost use Rattle.edr_image.specs.Banks.{Store};
 ghost use Rattle.edr_image.specs.Image.{image_refusal, image_size};
@@ -13,12 +13,13 @@ ghost use Rattle.edr_spell.specs.Spell.{Spell};
 ghost use Rattle.edr_spell.specs.declared.CycleInput.{CycleInput};
 ghost use Rattle.edr_trace.specs.declared.TheConstants.{LARGEST_TRACE};
 ghost use Rattle.edr_run.specs.Cycle.{last_count};
+ghost use Rattle.edr_replay.specs.Past.{LeavesPast};
 ghost use Rattle.edr_report.specs.Faults.{fault_line};
 ghost use Rattle.edr_report.specs.declared.faults.Fault.TheVariants as fault;
 ghost use Rattle.edr_words.specs.declared.Form.{Form};
 ghost use Rattle.edr_cli.specs.Endings.{Tells, TellsFault, TellsPart};
 ghost use Rattle.edr_cli.specs.Outside.{IsAtEnd, input, memory};
-ghost use Rattle.edr_cli.specs.Reports.{FormatIs, IsFormatCause, IsImageCause, ReportIs, Says};
+ghost use Rattle.edr_cli.specs.Reports.{FormatIs, HasMagic, IsFormatCause, IsImageCause, ReportIs, Says};
 ghost use Rattle.edr_cli.specs.Runs.{IsReplayCause, RunIs};
 ghost use Rattle.edr_cli.specs.Words.{AreFormat, AreOther, AreReplay, AreReport};
 
@@ -46,6 +47,15 @@ pub fn command<S: Source, K: Sink, N: Nvm>(
     sink: &mut K,
     nvm: &mut N,
 ) -> Status
+    // What is lent is handed back as it was lent: the same device of the same size, which tells its bytes if it did, and no count
+    // of faults that falls. Of the source no more is taken than tells that it gives too much.
+    ensures takes { Told (GivesAtMost (LARGEST_TRACE + 1)) (S.left source.old) (S.left source.new) }
+    ensures device { N.goes_on nvm.old nvm.new }
+    ensures size { N.extent nvm.new ≡ N.extent nvm.old }
+    ensures tells { StillTells (N.content nvm.old) (N.content nvm.new) }
+    ensures later { (S.faults source.old ≤ S.faults source.new) × (K.faults sink.old ≤ K.faults sink.new)
+        × (N.faults nvm.old ≤ N.faults nvm.new) }
+
     // Where a write fails, the sink counted it.
     ensures write_fault { result ≡ Status.WriteFault → Rose (K.faults sink.old) (K.faults sink.new) }
 
@@ -77,6 +87,9 @@ pub fn command<S: Source, K: Sink, N: Nvm>(
         (IsReplayCause (input S.left S.faults source.old) (input S.left S.faults source.new)
         (memory N.extent N.content N.settled N.faults nvm.old) (memory N.extent N.content N.settled N.faults nvm.new))
         (K.content sink.old) (K.content sink.new) }
+    // Whatever the status, what stands past the image stays.
+    ensures past { (form : Form) → AreReplay form words.now
+        → LeavesPast (N.content nvm.old) (N.settled nvm.old) (N.content nvm.new) (N.settled nvm.new) }
     // Where nothing counts a fault, a trace is run over an image that isn't refused and has numbers left.
     ensures complete { (form : Form) (bytes image : List ℕ) (cycles : List CycleInput) (v : Store) (n : ℕ) → AreReplay form words.now
         → S.left source.old ≡ Some bytes → length bytes ≤ LARGEST_TRACE → Spell bytes cycles
@@ -106,7 +119,7 @@ pub fn command<S: Source, K: Sink, N: Nvm>(
         → ¬ Rose (N.faults nvm.old) (N.faults nvm.new) → ¬ Rose (K.faults sink.old) (K.faults sink.new)
         → (result ≡ Status.Ok) ⊎ (result ≡ Status.OutOfMemory) }
 
-    // `format`. The same of its line: with Ok the device holds the new image, and a refusal leaves its bytes.
+    // `format`. The same of its line: with Ok the device had no image and holds the new one, and a refusal leaves its bytes.
     ensures format { (h : Header) → AreFormat h words.now → result ≡ Status.Ok
         → Tells
         (FormatIs h (memory N.extent N.content N.settled N.faults nvm.old) (memory N.extent N.content N.settled N.faults nvm.new))
@@ -124,6 +137,9 @@ pub fn command<S: Source, K: Sink, N: Nvm>(
     // Where nothing was pending, a crash at the end leaves the image as it was, or without the magic, or the new one.
     ensures format_crash { (h : Header) (bytes image : List ℕ) → AreFormat h words.now → IsQuiet (N.content nvm.old) (N.settled nvm.old) bytes
         → MayLeave (N.content nvm.new) (N.settled nvm.new) image → IsPartlyFormatted h bytes image }
+    // An image that is there stays, whatever the status.
+    ensures format_stays { (h : Header) (bytes image : List ℕ) → AreFormat h words.now → IsQuiet (N.content nvm.old) (N.settled nvm.old) bytes
+        → HasMagic bytes → MayLeave (N.content nvm.new) (N.settled nvm.new) image → image ≡ bytes }
     // Where neither the device nor the sink counts a fault, a device with room and without an image is formatted.
     ensures format_complete { (h : Header) → AreFormat h words.now → ¬ Rose (N.faults nvm.old) (N.faults nvm.new) → ¬ Rose (K.faults sink.old) (K.faults sink.new)
         → image_size h.banks ≤ N.extent nvm.old → IfSome (N.content nvm.old) (λ bytes. LacksMagic bytes → result ≡ Status.Ok) }

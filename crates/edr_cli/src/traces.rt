@@ -3,9 +3,10 @@ ghost use Rattle.std.specs.Prelude.{◌≡◌, ◌≢◌, ◌+◌, ◌≤◌, �
 ghost use Rattle.edr_device.specs.Faults.{Rose};
 ghost use Rattle.edr_device.specs.Told.{Told};
 ghost use Rattle.edr_device.specs.Transfer.{Carries, GivesAll, GivesAtMost, GivesTooMany, IsAnswerWithin};
-ghost use Rattle.edr_spell.specs.Spell.{Spell, IsCycle};
+ghost use Rattle.edr_trace.specs.declared.TheConstants.{LARGEST_TRACE};
+ghost use Rattle.edr_spell.specs.Spell.{IsCycle};
 ghost use Rattle.edr_cli.specs.Outside.{IsAtEnd, input};
-ghost use Rattle.edr_cli.specs.Runs.{IsTraceCause};
+ghost use Rattle.edr_cli.specs.Runs.{IsTraceCause, IsTraceOf};
 
 use edr_device::{Source, TakeFault};
 use edr_report::Fault;
@@ -52,7 +53,7 @@ fn take_pieces<S: Source>(alloc: Global, source: &mut S, limit: usize) -> Result
     ensures too_long { result ≡ Err TakeFault.TooLong → Told (GivesTooMany limit) (S.left source.old) (S.left source.new) }
     ensures failed { result ≡ Err TakeFault.Failed → Rose (S.faults source.old) (S.faults source.new) }
     ensures complete { (bytes : List ℕ) → S.left source.old ≡ Some bytes → ¬ Rose (S.faults source.old) (S.faults source.new) → IsAnswerWithin limit bytes result }
-    ensures err { OnErr result (Told (GivesAtMost (limit + 1)) (S.left source.old) (S.left source.new)) }
+    ensures most { Told (GivesAtMost (limit + 1)) (S.left source.old) (S.left source.new) }
     ensures later { S.faults source.old ≤ S.faults source.new }
 {
     let mut pieces = Pieces::new(alloc);
@@ -73,9 +74,11 @@ fn take_pieces<S: Source>(alloc: Global, source: &mut S, limit: usize) -> Result
 /// may have.
 pub(crate) fn trace_of<S: Source>(alloc: Global, source: &mut S) -> Result<Vec<CycleInput>, Fault>
     ensures end { OnOk result (IsAtEnd (S.left source.new)) }
-    ensures spelled { IfOk result (λ cycles. IfSome (S.left source.old) (λ bytes. Spell bytes cycles.items)) }
+    ensures spelled { IfOk result (λ cycles. IfSome (S.left source.old) (IsTraceOf cycles.items)) }
     ensures cycles { IfOk result (λ cycles. All IsCycle cycles.items) }
     ensures cause { IfErr result (IsTraceCause (input S.left S.faults source.old) (input S.left S.faults source.new)) }
+    ensures takes { Told (GivesAtMost (LARGEST_TRACE + 1)) (S.left source.old) (S.left source.new) }
+    ensures later { S.faults source.old ≤ S.faults source.new }
 {
     let pieces = match take_pieces(alloc, source, LARGEST_TRACE as usize) {
         Ok(pieces) => pieces,
