@@ -1,15 +1,16 @@
 -- Lists of steps, one after the other: what is so of both is so of the whole.
 use Rattle.std.proofs.Common.{◌≡◌, ◌≤◌, ◌<◌, ◌+◌, ◌-◌, ◌++◌, ◌∙◌, ℕ, zero, suc, Bool, true, false, cond, Option, Some, List, [], ◌∷◌, length, take, map, slice_index, refl, sym, ap, subst, ⊎_elim, arith, length-append}
-use Rattle.std.specs.Prelude.{Contains, fold, nat_le, nat_lt}
+use Rattle.std.specs.Prelude.{Contains, flat_map, fold, nat_le, nat_lt}
 use Rattle.std.proofs.lemmas.Bool.Decides.{nat_tests}
 use Rattle.std.proofs.lemmas.List.{take-append-le}
+use Rattle.std.proofs.lemmas.Grind.{flat_map-append}
 use Rattle.std.proofs.lemmas.List.Sums.{fold-append, sum_by-cons}
 use Rattle.edr_device.specs.Device.{IsQuiet, MayLeave}
 use Rattle.edr_device.proofs.Settling.{elapses_again, elapses_more, quiet_leaves}
 use Rattle.edr_image.specs.declared.BankView.{BankView}
 use Rattle.edr_image.specs.Banks.{Store}
 use Rattle.edr_image.specs.Calls.{all_calls, calls_of, done_of_step, gate_call_of, stops}
-use Rattle.edr_image.specs.Image.{View, view_of}
+use Rattle.edr_image.specs.Image.{View, Write, image_after, view_of, writes_of, written}
 use Rattle.edr_image.specs.Steps.{Step, Erase, Fill, Lock, Done, after, banks_after}
 use Rattle.edr_image.proofs.StopLaws.{contains_cases, contains_here, contains_later, contains_map, contains_mapped, contains_none}
 use Rattle.edr_gates.specs.Taken.{AreStopped, AreTaken, EachIsPassed, HasDone, IsAside, IsPassed, IsReady, MayTakeAll, PassMeanwhile}
@@ -26,6 +27,9 @@ may_parts (s ∷ a) b banks h = let rest = may_parts a b (banks_after banks s) h
 
 after-append : (v : Store) (a b : List Step) → after v (a ++ b) ≡ after (after v a) b
 after-append v a b = ap (λ (banks : List BankView). record v { banks = banks }) (fold-append banks_after v.banks a b)
+
+image_after-append : (bytes : List ℕ) (a b : List Step) → image_after bytes (a ++ b) ≡ image_after (image_after bytes a) b
+image_after-append bytes a b = ap (λ (writes : List Write). fold written bytes writes) (flat_map-append writes_of a b) ∙ fold-append written bytes (flat_map writes_of a) (flat_map writes_of b)
 
 -- the view after steps
 abbrev view_after : View → List Step → View
@@ -167,7 +171,7 @@ pub taken_again : (a b : List Step) (content between content' : Option (List ℕ
 taken_again a b content between content' settled settled_between settled' first second = λ bytes v ready.
     let mid = first bytes v (ready_first a b content settled bytes v ready) in
     let end = second mid.0 (view_after v a) (ready_rest a b content between settled settled_between bytes mid.0 v ready mid.1 mid.2) in
-    (end.0, end.1, done_rest a b b bytes mid.0 v end.0 mid.2 end.2)
+    (end.0, end.1, done_rest a b b bytes mid.0 v end.0 mid.2 end.2, end.3 ∙ ap (λ (image : List ℕ). image_after image b) mid.3 ∙ sym (image_after-append bytes a b))
 
 pub stopped_first : (a b : List Step) (r : ℕ) (content content' : Option (List ℕ)) (settled settled' : ℕ → Bool) → AreStopped a r content settled content' settled' → AreStopped (a ++ b) r content settled content' settled'
 stopped_first a b r content content' settled settled' stopped = λ bytes image v ready left.

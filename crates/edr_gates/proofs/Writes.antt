@@ -1,11 +1,13 @@
 -- From what a write leaves to what a step leaves.
-use Rattle.std.proofs.Common.{◌≡◌, ◌⊎◌, ◌≤◌, ◌<◌, ◌+◌, ◌-◌, ℕ, Bool, Option, Some, List, [], ◌∷◌, length, slice_index, Result, Ok, Err, OnOk, OnErr, ◌∙◌, ap, inl, inr, ⊎_elim, arith}
+use Rattle.std.proofs.Common.{◌≡◌, ◌⊎◌, ◌≤◌, ◌<◌, ◌+◌, ◌-◌, ℕ, Bool, Option, Some, List, [], ◌∷◌, ◌++◌, length, replicate, slice_index, refl, Result, Ok, Err, OnOk, OnErr, ◌∙◌, ap, inl, inr, ⊎_elim, arith}
 use Rattle.edr_device.specs.Device.{Elapses, IsQuiet, MayLeave}
 use Rattle.edr_device.specs.Pieces.{IsGatedStop, SameBut, put_at}
 use Rattle.edr_device.proofs.Settling.{elapses_more, map_ok, same_all}
 use Rattle.edr_image.specs.Calls.{calls_of, gate_call_of}
-use Rattle.edr_image.specs.Image.{View, view_of}
-use Rattle.edr_image.specs.Steps.{Step}
+use Rattle.edr_image.specs.Image.{View, image_after, place_of, view_of, writes_of}
+use Rattle.edr_image.specs.PartBytes.{crash_bytes, pre_bytes}
+use Rattle.edr_image.specs.Steps.{Step, Erase, Fill, Lock, Done}
+use Rattle.edr_record.specs.Parts.{CrashPart, PrePart}
 use Rattle.edr_gates.specs.Taken.{AreStopped, AreTaken, HasDone, IsPassed, IsStopped, MayTake, PassMeanwhile}
 use Rattle.edr_gates.proofs.StepLists.{stop_leaves_first, stop_leaves_none}
 use Rattle.edr_gates.proofs.StepImages.{Either}
@@ -29,9 +31,10 @@ passed_is s bytes v image (inr done) = record { p = 1; within = one_step s; has 
 
 pub step_taken : {T E : Type 0} (r : Result T E) (s : Step) (content content' : Option (List ℕ)) (settled settled' : ℕ → Bool) (next : List ℕ → List ℕ)
     → ((bytes : List ℕ) (v : View) → view_of bytes ≡ Some v → MayTake v.store.banks s → HasDone (s ∷ []) (s ∷ []) bytes v (next bytes))
+    → ((bytes : List ℕ) → next bytes ≡ image_after bytes (s ∷ []))
     → OnOk r ((bytes : List ℕ) → IsQuiet content settled bytes → IsQuiet content' settled' (next bytes))
     → OnOk r (AreTaken (s ∷ []) content settled content' settled')
-step_taken r s content content' settled settled' next makes done = map_ok r done (λ f bytes v ready. (next bytes, f bytes ready.quiet, makes bytes v ready.view ready.may.0))
+step_taken r s content content' settled settled' next makes writes done = map_ok r done (λ f bytes v ready. (next bytes, f bytes ready.quiet, makes bytes v ready.view ready.may.0, writes bytes))
 
 pub step_stopped : {T E : Type 0} (res : Result T E) (s : Step) (old new : ℕ) (content content' : Option (List ℕ)) (settled settled' : ℕ → Bool) (leaves : List ℕ → List ℕ → Type 0)
     → ((bytes image : List ℕ) (v : View) → view_of bytes ≡ Some v → MayTake v.store.banks s → leaves bytes image → StopOf s (new - old) bytes v image)
@@ -48,6 +51,24 @@ pub step_passes : (s : Step) (content : Option (List ℕ)) (settled : ℕ → Bo
     → PassMeanwhile (s ∷ []) content settled c0 s0 s1
 step_passes s content settled c0 s0 s1 during makes moments = λ bytes v ready.
     elapses_more c0 s0 s1 (during bytes) (IsPassed (s ∷ []) bytes v) (moments bytes ready.quiet) (λ image d. passed_is s bytes v image (makes bytes image v ready.view ready.may.0 d))
+
+-- ---- what a step writes
+
+pub erase_writes : (m : ℕ) (bytes : List ℕ) → put_at (place_of m) (0 ∷ []) bytes ≡ image_after bytes (Erase m ∷ [])
+unfolding writes_of
+erase_writes m bytes = refl
+
+pub lock_writes : (m : ℕ) (bytes : List ℕ) → put_at (place_of m + 1) (165 ∷ []) bytes ≡ image_after bytes (Lock m ∷ [])
+unfolding writes_of
+lock_writes m bytes = refl
+
+pub fill_writes : (m : ℕ) (pre : PrePart) (piece bytes : List ℕ) → piece ≡ replicate 15 0 ++ pre_bytes pre → put_at (place_of m) (165 ∷ []) (put_at (place_of m + 1) piece bytes) ≡ image_after bytes (Fill m pre ∷ [])
+unfolding writes_of
+fill_writes m pre piece bytes same = ap (λ (xs : List ℕ). put_at (place_of m) (165 ∷ []) (put_at (place_of m + 1) xs bytes)) same
+
+pub done_writes : (m : ℕ) (crash : CrashPart) (piece bytes : List ℕ) → piece ≡ crash_bytes crash → put_at (place_of m + 2) (165 ∷ []) (put_at (place_of m + 176) piece bytes) ≡ image_after bytes (Done m crash ∷ [])
+unfolding writes_of
+done_writes m crash piece bytes same = ap (λ (xs : List ℕ). put_at (place_of m + 2) (165 ∷ []) (put_at (place_of m + 176) xs bytes)) same
 
 -- ---- a gate alone
 

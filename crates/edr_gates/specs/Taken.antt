@@ -6,7 +6,7 @@ use Rattle.edr_image.specs.declared.BankView.{BankView}
 use Rattle.edr_image.specs.declared.BankView.TheVariants.{Void, Event}
 use Rattle.edr_image.specs.Steps.{Step, Erase, Fill, Lock, Done, after, banks_after}
 use Rattle.edr_image.specs.Calls.{stops}
-use Rattle.edr_image.specs.Image.{View, place_of, view_of}
+use Rattle.edr_image.specs.Image.{View, image_after, place_of, view_of}
 
 -- ---- which steps may be taken
 
@@ -66,11 +66,11 @@ pub record IsPassed (steps : List Step) (bytes : List ℕ) (v : View) (image : L
 
 -- ---- what is so of a device, where the steps may be taken on it
 
--- the steps are all done, and nothing is pending
+-- the steps are all done, with their writes and no others, and nothing is pending
 abbrev pub AreTaken : List Step → Option (List ℕ) → (ℕ → Bool) → Option (List ℕ) → (ℕ → Bool) → Type 0
 AreTaken steps content settled content' settled' =
     (bytes : List ℕ) (v : View) → IsReady steps content settled bytes v
-    → (now : List ℕ) × IsQuiet content' settled' now × HasDone steps steps bytes v now
+    → (now : List ℕ) × IsQuiet content' settled' now × HasDone steps steps bytes v now × (now ≡ image_after bytes steps)
 
 -- each image that a crash may leave is one of a stop in call r; a stop in call 0 is one before the first call
 abbrev pub AreStopped : List Step → ℕ → Option (List ℕ) → (ℕ → Bool) → Option (List ℕ) → (ℕ → Bool) → Type 0

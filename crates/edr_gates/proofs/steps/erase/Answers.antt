@@ -4,7 +4,7 @@ use Rattle.edr_image.specs.Image.{place_of}
 use Rattle.edr_image.specs.Steps.{Erase}
 use Rattle.edr_gates.proofs.StepLists.{each_passed}
 use Rattle.edr_gates.proofs.StepImages.{erase_image, erase_whole}
-use Rattle.edr_gates.proofs.Writes.{OnceLeaves, once_stop, step_passes, step_stopped, step_taken}
+use Rattle.edr_gates.proofs.Writes.{OnceLeaves, erase_writes, once_stop, step_passes, step_stopped, step_taken}
 use Rattle.edr_gates.proofs.steps.erase.Goals as goal
 
 pub returns-clause-taken : goal.returns-clause-taken
@@ -13,7 +13,7 @@ returns-clause-taken g c =
     let m = c.args.bank in
     let done = rw c.place_of.ensures at c.write_settled.ensures.done in
     step_taken c.write_settled.result (Erase m) (D.content c.args.nvm.now) (D.content c.write_settled.new.nvm) (D.settled c.args.nvm.now) (D.settled c.write_settled.new.nvm) (put_at (place_of m) (0 ∷ []))
-    (erase_whole m) done
+    (erase_whole m) (erase_writes m) done
 
 pub returns-clause-stopped : goal.returns-clause-stopped
 returns-clause-stopped g c =

@@ -5,7 +5,7 @@ use Rattle.edr_image.specs.Steps.{Fill}
 use Rattle.edr_gates.proofs.PartsBack.{filling_back}
 use Rattle.edr_gates.proofs.StepLists.{each_passed}
 use Rattle.edr_gates.proofs.StepImages.{fill_before, fill_image, fill_whole}
-use Rattle.edr_gates.proofs.Writes.{gated_either, gated_stop, step_passes, step_stopped, step_taken}
+use Rattle.edr_gates.proofs.Writes.{fill_writes, gated_either, gated_stop, step_passes, step_stopped, step_taken}
 use Rattle.edr_gates.proofs.steps.fill.Goals as goal
 
 pub returns-clause-taken : goal.returns-clause-taken
@@ -17,7 +17,7 @@ returns-clause-taken g c =
     let is = filling_back piece part c.filling-piece.ensures.bytes c.filling-piece.ensures.within in
     let done = rw c.place_of-at.ensures at c.write_gated.ensures.done in
     step_taken c.write_gated.result (Fill m part) (D.content c.args.nvm.now) (D.content c.write_gated.new.nvm) (D.settled c.args.nvm.now) (D.settled c.write_gated.new.nvm)
-    (λ (bytes : List ℕ). put_at (place_of m) (165 ∷ []) (put_at (place_of m + 1) piece bytes)) (λ bytes v view may. fill_whole m part piece bytes v view may is) done
+    (λ (bytes : List ℕ). put_at (place_of m) (165 ∷ []) (put_at (place_of m + 1) piece bytes)) (λ bytes v view may. fill_whole m part piece bytes v view may is) (λ bytes. fill_writes m part piece bytes c.filling-piece.ensures.bytes) done
 
 pub returns-clause-stopped : goal.returns-clause-stopped
 returns-clause-stopped g c =

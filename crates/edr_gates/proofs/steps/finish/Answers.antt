@@ -5,7 +5,7 @@ use Rattle.edr_image.specs.Steps.{Done}
 use Rattle.edr_gates.proofs.PartsBack.{ending_back}
 use Rattle.edr_gates.proofs.StepLists.{each_passed}
 use Rattle.edr_gates.proofs.StepImages.{done_before, done_image, done_whole}
-use Rattle.edr_gates.proofs.Writes.{gated_either, gated_stop, step_passes, step_stopped, step_taken}
+use Rattle.edr_gates.proofs.Writes.{done_writes, gated_either, gated_stop, step_passes, step_stopped, step_taken}
 use Rattle.edr_gates.proofs.steps.finish.Goals as goal
 
 pub returns-clause-taken : goal.returns-clause-taken
@@ -17,7 +17,7 @@ returns-clause-taken g c =
     let is = ending_back piece part c.ending-piece.ensures.bytes c.ending-piece.ensures.within in
     let done = rw c.place_of-at.ensures at c.write_gated.ensures.done in
     step_taken c.write_gated.result (Done m part) (D.content c.args.nvm.now) (D.content c.write_gated.new.nvm) (D.settled c.args.nvm.now) (D.settled c.write_gated.new.nvm)
-    (λ (bytes : List ℕ). put_at (place_of m + 2) (165 ∷ []) (put_at (place_of m + 176) piece bytes)) (λ bytes v view may. done_whole m part piece bytes v view may is) done
+    (λ (bytes : List ℕ). put_at (place_of m + 2) (165 ∷ []) (put_at (place_of m + 176) piece bytes)) (λ bytes v view may. done_whole m part piece bytes v view may is) (λ bytes. done_writes m part piece bytes c.ending-piece.ensures.bytes) done
 
 pub returns-clause-stopped : goal.returns-clause-stopped
 returns-clause-stopped g c =
