@@ -20,9 +20,10 @@ impl Banks {
     /// Takes the steps of a command on these banks and on the device, and tells what came of it.
     ///
     /// The clauses about bytes are for a device that tells them, on which nothing is pending and whose image says these
-    /// banks. At `Ok` all steps are done there, and no crash takes them back. A crash at any moment of the call leaves the
-    /// first of the steps done, for some number of them. After a `StoreFault`, in which r writes and syncs were made, a
-    /// crash leaves what a stop in call r may leave; and each later command is answered `Ended`.
+    /// banks. At `Ok` all steps are done there, with their writes and no others, and no crash takes them back. A crash at any
+    /// moment of the call leaves the first of the steps done, for some number of them, and each byte that no step writes.
+    /// After a `StoreFault`, in which r writes and syncs were made, a crash leaves what a stop in call r may leave; and each
+    /// later command is answered `Ended`.
     pub fn apply<N: Nvm>(&mut self, nvm: &mut N, command: &Command) -> Result<Applied, ApplyFault>
         requires { image_size self.old.store.header.banks ≤ N.extent nvm.old }
         ensures size { N.extent nvm.new ≡ N.extent nvm.old }

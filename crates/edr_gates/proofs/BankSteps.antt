@@ -1,5 +1,5 @@
 -- What a bank shows after the writes of a step, and after only some of them.
-use Rattle.std.proofs.Common.{◌≡◌, ◌⊎◌, ◌≤◌, ◌<◌, ◌+◌, ◌++◌, ◌∙◌, ℕ, Bool, true, false, Option, Some, None, List, [], ◌∷◌, length, replicate, slice_index, refl, sym, subst, inl, inr, arith}
+use Rattle.std.proofs.Common.{◌≡◌, ◌⊎◌, ◌≤◌, ◌<◌, ◌+◌, ◌++◌, ◌∙◌, ℕ, Bool, true, false, Option, Some, None, List, [], ◌∷◌, length, replicate, slice_index, refl, sym, ap, subst, inl, inr, arith}
 use Rattle.std.proofs.lemmas.Grind.{common_steps}
 use Rattle.std.proofs.lemmas.Bool.Decides.{nat_tests}
 use Rattle.edr_device.specs.Device.{is_in}
@@ -9,6 +9,7 @@ use Rattle.edr_record.specs.Parts.{PrePart, CrashPart}
 use Rattle.edr_record.specs.declared.Record.{Record}
 use Rattle.edr_image.specs.declared.BankView.TheVariants.{Void, Event}
 use Rattle.edr_image.specs.Image.{is_open}
+use Rattle.edr_image.specs.PartBytes.{crash_bytes, pre_bytes}
 use Rattle.edr_image.specs.Steps.{new_record}
 use Rattle.edr_gates.proofs.Matching.{Match, match_chain, match_part}
 use Rattle.edr_gates.proofs.BankBytes.{IsCrashFrom, IsPreFrom, Shows, ShowsCrash, ShowsEvent, crash_moves, event_stays, gate_first, gate_same, pre_moves}
@@ -77,13 +78,15 @@ fill_front at bytes image fits s void = gate_beside (at + 1) 175 bytes image at 
 
 -- 15 zeros and a pre part
 pub record IsFilling (piece : List ℕ) (pre : PrePart) : Type 0 where
+  pub written : piece ≡ replicate 15 0 ++ pre_bytes pre
   pub long : length piece ≡ 175
   pub lock : is_open piece 0 ≡ false
   pub done : is_open piece 1 ≡ false
   pub part : IsPreFrom piece 15 pre
 
-pub filling_is : (part : List ℕ) (pre : PrePart) → length part ≡ 160 → IsPreFrom part 0 pre → IsFilling (replicate 15 0 ++ part) pre
-filling_is part pre long whole = record {
+pub filling_is : (part : List ℕ) (pre : PrePart) → part ≡ pre_bytes pre → length part ≡ 160 → IsPreFrom part 0 pre → IsFilling (replicate 15 0 ++ part) pre
+filling_is part pre same long whole = record {
+  written = ap (λ (xs : List ℕ). replicate 15 0 ++ xs) same;
   long = grind (arith, common_steps);
   lock = refl;
   done = refl;
@@ -125,6 +128,7 @@ fill_made at bytes piece pre fits is =
 
 -- the bytes of a crash part
 pub record IsEnding (piece : List ℕ) (crash : CrashPart) : Type 0 where
+  pub written : piece ≡ crash_bytes crash
   pub long : length piece ≡ 320
   pub part : IsCrashFrom piece 0 crash
 

@@ -13,13 +13,17 @@ use Rattle.edr_image.specs.Calls.{all_calls, calls_of, done_of_step, gate_call_o
 use Rattle.edr_image.specs.Image.{View, Write, image_after, view_of, writes_of, written}
 use Rattle.edr_image.specs.Steps.{Step, Erase, Fill, Lock, Done, after, banks_after}
 use Rattle.edr_image.proofs.StopLaws.{contains_cases, contains_here, contains_later, contains_map, contains_mapped, contains_none}
-use Rattle.edr_gates.specs.Taken.{AreStopped, AreTaken, EachIsPassed, HasDone, IsAside, IsPassed, IsReady, MayTakeAll, PassMeanwhile}
+use Rattle.edr_gates.specs.Taken.{AreStopped, AreTaken, EachIsPassed, HasDone, IsAside, IsPassed, IsReady, IsUnwritten, MayTakeAll, PassMeanwhile}
 
 -- ---- the words of one list
 
 aside_parts : (a b : List Step) (i : ℕ) → IsAside (a ++ b) i → IsAside a i × IsAside b i
 aside_parts [] b i h = (tt, h)
 aside_parts (s ∷ a) b i h = let rest = aside_parts a b i h.1 in ((h.0, rest.0), rest.1)
+
+unwritten_parts : (a b : List Step) (i : ℕ) → IsUnwritten (a ++ b) i → IsUnwritten a i × IsUnwritten b i
+unwritten_parts [] b i h = (tt, h)
+unwritten_parts (s ∷ a) b i h = let rest = unwritten_parts a b i h.1 in ((h.0, rest.0), rest.1)
 
 may_parts : (a b : List Step) (banks : List BankView) → MayTakeAll banks (a ++ b) → MayTakeAll banks a × MayTakeAll (fold banks_after banks a) b
 may_parts [] b banks h = (tt, h)
@@ -43,13 +47,20 @@ ready_rest : (a b : List Step) (content content' : Option (List ℕ)) (settled s
 ready_rest a b content content' settled settled' bytes now v h quiet done = record { quiet = quiet; view = done.view; may = (may_parts a b v.store.banks h.may).1 }
 
 done_first : (a b done : List Step) (bytes : List ℕ) (v : View) (image : List ℕ) → HasDone a done bytes v image → HasDone (a ++ b) done bytes v image
-done_first a b done bytes v image h = record { size = h.size; same = λ i below aside. h.same i below (aside_parts a b i aside).0; view = h.view }
+done_first a b done bytes v image h = record {
+  size = h.size;
+  same = λ i below aside. h.same i below (aside_parts a b i aside).0;
+  unwritten = λ i below out. h.unwritten i below (unwritten_parts a b i out).0;
+  view = h.view;
+}
 
 done_rest : (a b done : List Step) (bytes now : List ℕ) (v : View) (image : List ℕ) → HasDone a a bytes v now → HasDone b done now (view_after v a) image → HasDone (a ++ b) (a ++ done) bytes v image
 done_rest a b done bytes now v image h g = record {
   size = g.size ∙ h.size;
   same = λ i below aside.
       let parts = aside_parts a b i aside in g.same i (subst (λ (n : ℕ). i < n) (sym h.size) below) parts.1 ∙ h.same i below parts.0;
+  unwritten = λ i below out.
+      let parts = unwritten_parts a b i out in g.unwritten i (subst (λ (n : ℕ). i < n) (sym h.size) below) parts.1 ∙ h.unwritten i below parts.0;
   view = g.view ∙ ap (λ (store : Store). Some (record v { store = store })) (sym (after-append v.store a done));
 }
 
@@ -161,7 +172,12 @@ passed_none : (steps : List Step) (bytes : List ℕ) (v : View) (image : List �
 passed_none steps bytes v image e same = record {
   p = 0;
   within = omega arith;
-  has = record { size = ap length same; same = λ i below aside. ap (λ (xs : List ℕ). slice_index xs i) same; view = ap view_of same ∙ e };
+  has = record {
+    size = ap length same;
+    same = λ i below aside. ap (λ (xs : List ℕ). slice_index xs i) same;
+    unwritten = λ i below out. ap (λ (xs : List ℕ). slice_index xs i) same;
+    view = ap view_of same ∙ e;
+  };
 }
 
 -- ---- clauses

@@ -77,7 +77,14 @@ abbrev pub OnceLeaves : ℕ → ℕ → ℕ → ℕ → List ℕ → List ℕ �
 OnceLeaves old new k n bytes image = SameBut k n bytes image × (new ≡ old → image ≡ bytes)
 
 not_yet : (s : Step) (bytes image : List ℕ) (v : View) → view_of bytes ≡ Some v → image ≡ bytes → HasDone (s ∷ []) [] bytes v image
-not_yet s bytes image v e same = let all = same_all 0 0 bytes image same in record { size = all.size; same = λ i below aside. ap (λ (xs : List ℕ). slice_index xs i) same; view = ap view_of same ∙ e }
+not_yet s bytes image v e same =
+    let all = same_all 0 0 bytes image same in
+    record {
+      size = all.size;
+      same = λ i below aside. ap (λ (xs : List ℕ). slice_index xs i) same;
+      unwritten = λ i below out. ap (λ (xs : List ℕ). slice_index xs i) same;
+      view = ap view_of same ∙ e;
+    }
 
 pub once_stop : (s : Step) (old new k n : ℕ) (bytes image : List ℕ) (v : View) → gate_call_of s ≡ 1 → old ≤ new → view_of bytes ≡ Some v → (SameBut k n bytes image → Either s bytes v image) → OnceLeaves old new k n bytes image → StopOf s (new - old) bytes v image
 once_stop s old new k n bytes image v gate later e either leaves = go (split later)

@@ -1,12 +1,12 @@
 -- Steps that are taken on a device on which nothing is pending: what is there after them, and after a stop.
-use Rattle.std.specs.Prelude.{◌≡◌, ℕ, ◌-◌, ◌≤◌, ◌<◌, Bool, false, Option, Some, None, List, [], ◌∷◌, length, take, slice_get, slice_index, Contains}
+use Rattle.std.specs.Prelude.{◌≡◌, ℕ, ◌-◌, ◌≤◌, ◌<◌, Bool, false, Option, Some, None, List, [], ◌∷◌, length, take, slice_get, slice_index, All, Contains}
 use Rattle.edr_record.specs.declared.Record.{Record}
 use Rattle.edr_device.specs.Device.{Elapses, IsQuiet, MayLeave, is_in}
 use Rattle.edr_image.specs.declared.BankView.{BankView}
 use Rattle.edr_image.specs.declared.BankView.TheVariants.{Void, Event}
 use Rattle.edr_image.specs.Steps.{Step, Erase, Fill, Lock, Done, after, banks_after}
 use Rattle.edr_image.specs.Calls.{stops}
-use Rattle.edr_image.specs.Image.{View, image_after, place_of, view_of}
+use Rattle.edr_image.specs.Image.{View, image_after, place_of, view_of, writes_of}
 
 -- ---- which steps may be taken
 
@@ -46,10 +46,17 @@ abbrev pub IsAside : List Step → ℕ → Type 0
 IsAside [] i = Unit {0}
 IsAside (s ∷ steps) i = (is_in (place_of (bank_of s)) 512 i ≡ false) × IsAside steps i
 
--- of the steps just these are done, and the bytes aside from the banks of all of them are as they were
+-- the offset lies in no write of the steps
+abbrev pub IsUnwritten : List Step → ℕ → Type 0
+IsUnwritten [] i = Unit {0}
+IsUnwritten (s ∷ steps) i = All (λ w. is_in w.at (length w.bytes) i ≡ false) (writes_of s) × IsUnwritten steps i
+
+-- of the steps just these are done, and the bytes aside from the banks of all of them are as they were; so are those in
+-- these banks that no step writes
 pub record HasDone (steps done : List Step) (bytes : List ℕ) (v : View) (image : List ℕ) : Type 0 where
   pub size : length image ≡ length bytes
   pub same : (i : ℕ) → i < length bytes → IsAside steps i → slice_index image i ≡ slice_index bytes i
+  pub unwritten : (i : ℕ) → i < length bytes → IsUnwritten steps i → slice_index image i ≡ slice_index bytes i
   pub view : view_of image ≡ Some (record v { store = after v.store done })
 
 -- the image is one of a stop in call r of the steps

@@ -4,7 +4,8 @@
 //! sync before the next one. So a bank never shows a part of which only some bytes were written.
 //!
 //! Each function is for one list of steps of the table of steps, and its clauses are the same for each: what they say of
-//! bytes holds where the device tells them, nothing is pending, and the steps may be taken on the banks.
+//! bytes holds where the device tells them, nothing is pending, and the steps may be taken on the banks. At `Ok` the bytes
+//! are those before with the writes of the steps; a crash at any moment leaves all bytes that no step writes.
 #![tactic(auto)]
 
 mod lists;
