@@ -1,3 +1,4 @@
+pub mod Slots
 pub mod Seat
 pub mod Inlet
 pub mod Offer
