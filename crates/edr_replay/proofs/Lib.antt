@@ -7,3 +7,4 @@ pub mod PastLemmas
 pub mod CycleLemmas
 pub mod Running
 pub mod Leaving
+pub mod ReachedLaws

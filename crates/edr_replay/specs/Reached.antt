@@ -1,5 +1,5 @@
 -- What a run comes to that ends early: between two cycles, or by a stop inside one that needn't be planned.
-use Rattle.std.specs.Prelude.{◌≡◌, ℕ, ◌+◌, ◌<◌, ◌≤◌, ◌⊎◌, Some, List, length, slice_get, take}
+use Rattle.std.specs.Prelude.{◌≡◌, ℕ, ◌+◌, ◌<◌, ◌≤◌, Some, List, length, slice_get, take}
 use Rattle.edr_image.specs.Banks.{Store}
 use Rattle.edr_image.specs.Steps.{Step}
 use Rattle.edr_image.specs.Calls.{IsStop}

@@ -2,6 +2,7 @@
 //! cut.
 #![tactic(auto)]
 
+pub mod laws;
 mod phases;
 #[cfg(test)]
 mod tests;

@@ -1,0 +1,19 @@
+//! Laws of what a run reaches that ends early, each the contract of a function that does nothing.
+
+ghost use Rattle.std.specs.Prelude.{◌≡◌, ℕ, true, Some, List, slice_get};
+ghost use Rattle.edr_record.specs.declared.Record.{Record};
+ghost use Rattle.edr_image.specs.declared.BankView.TheVariants.{Event};
+ghost use Rattle.edr_image.specs.Banks.{Store};
+ghost use Rattle.edr_image.specs.Kept.{AreKept};
+ghost use Rattle.edr_spell.specs.declared.CycleInput.{CycleInput};
+ghost use Rattle.edr_replay.specs.Reached.{IsReached};
+
+/// Banks that were kept at first are kept wherever the run ends.
+pub fn reached_keeps()
+    ensures { (cs : List CycleInput) (v : Store) (n : ℕ) (w : Store) (m : ℕ) → AreKept v.banks n → IsReached cs v n w m → AreKept w.banks m }
+{}
+
+/// An event that is locked at first stands in its bank as it was, wherever the run ends.
+pub fn reached_leaves_the_locked()
+    ensures { (cs : List CycleInput) (v : Store) (n : ℕ) (w : Store) (m i : ℕ) (r : Record) → IsReached cs v n w m → slice_get v.banks i ≡ Some (Event r) → r.locked ≡ true → slice_get w.banks i ≡ Some (Event r) }
+{}
