@@ -4,15 +4,10 @@ ghost use Rattle.std.specs.Prelude.{◌≡◌, ◌+◌, ◌≤◌, ◌<◌, ◌^
 ghost use Rattle.edr_device.specs.Device.{Ticks};
 ghost use Rattle.edr_device.specs.Faults.{HasCause, last_number, next_number};
 
+use crate::file::ImageFile;
 use edr_device::{Failed, Nvm};
-use std::fs::{Files, OpenFile, OpenOptions};
-use std::io::{Read, Result as IoResult, Seek, SeekFrom, Write};
-
-/// The name of the file.
-const NAME: &str = "edr.nvm";
-
-/// As many bytes as a file has that is made.
-const NEW_SIZE: usize = 16_480;
+use std::fs::{File, Files};
+use std::rt::Clock;
 
 /// The longest piece that is read at once.
 const LONGEST_READ: usize = 512;
@@ -20,8 +15,8 @@ const LONGEST_READ: usize = 512;
 /// A memory in a file, which counts what fails. It tells no bytes. Where the file can't be opened or made it has the size 0,
 /// and each of its calls fails.
 #[derive(Drop)]
-pub struct FileNvm<F> {
-    file: Option<F>,
+pub struct FileNvm<R> {
+    file: Option<ImageFile<R>>,
     size: u32,
     clock: u64,
     last_good: u64,
@@ -32,46 +27,17 @@ pub struct FileNvm<F> {
     ghost faults_within: { faults ≤ last_number },
 }
 
-// Opens the file, and makes it with zeros where it is missing.
-fn open_or_make<R: Files>(files: &R) -> IoResult<R::File> {
-    let mut how = OpenOptions::new();
-    how.read(true).write(true);
-    if let Ok(file) = how.open(files, NAME) {
-        return Ok(file);
-    }
-    let mut file = how.create_new(true).open(files, NAME)?;
-    file.write_all(&[0; NEW_SIZE])?;
-    file.sync_all()?;
-    Ok(file)
-}
-
-// How long the file is, at most as long as an offset can be.
-fn size_of<F: OpenFile>(file: &F) -> IoResult<u32> {
-    let len = file.metadata()?.len();
-    Ok(len.min(u64::from(u32::MAX)) as u32)
-}
-
-fn read_at<F: Read + Seek>(file: &mut F, at: u32, into: &mut [u8]) -> IoResult<()> {
-    file.seek(SeekFrom::Start(u64::from(at)))?;
-    file.read_exact(into)
-}
-
-fn write_at<F: Write + Seek>(file: &mut F, at: u32, bytes: &[u8]) -> IoResult<()> {
-    file.seek(SeekFrom::Start(u64::from(at)))?;
-    file.write_all(bytes)
-}
-
-impl<F> FileNvm<F> {
+impl<R> FileNvm<R> {
     /// The file of the folder in which the program runs.
-    pub fn open<R: Files<File = F>>(files: &R) -> FileNvm<F>
+    pub fn open(rt: R) -> FileNvm<R>
     where
-        F: OpenFile + Drop,
+        R: Files<File = File> + Clock + Drop,
     {
-        let file = open_or_make(files).ok();
-        let size = file.as_ref().and_then(|file| size_of(file).ok());
+        let file = ImageFile::open(rt).ok();
+        let size = file.as_ref().map_or(0, |file| file.size());
         FileNvm {
             file,
-            size: size.unwrap_or(0),
+            size,
             clock: 0,
             last_good: 0,
             faults: 0,
@@ -106,7 +72,7 @@ impl<F> FileNvm<F> {
     }
 }
 
-impl<F: Read + Write + Seek + OpenFile> Nvm for FileNvm<F> {
+impl<R: Files<File = File> + Clock> Nvm for FileNvm<R> {
     ghost use Rattle.std.specs.Prelude.{None, ⊤, true};
     ghost use Rattle.std.proofs.lemmas.Option.{none-some};
 
@@ -158,7 +124,7 @@ impl<F: Read + Write + Seek + OpenFile> Nvm for FileNvm<F> {
             return self.fail();
         }
         let read = match &mut self.file {
-            Some(file) => read_at(file, at, &mut bytes[..n]).is_ok(),
+            Some(file) => file.read_at(at, &mut bytes[..n]).is_ok(),
             None => false,
         };
         if !read {
@@ -170,15 +136,15 @@ impl<F: Read + Write + Seek + OpenFile> Nvm for FileNvm<F> {
 
     fn write(&mut self, at: u32, bytes: &[u8]) -> Result<(), Failed> {
         let written = match &mut self.file {
-            Some(file) if self.clock < u64::MAX => write_at(file, at, bytes).is_ok(),
+            Some(file) if self.clock < u64::MAX => file.write_at(at, bytes).is_ok(),
             _ => false,
         };
         self.count(written)
     }
 
     fn sync(&mut self) -> Result<(), Failed> {
-        let synced = match &self.file {
-            Some(file) if self.clock < u64::MAX => file.sync_all().is_ok(),
+        let synced = match &mut self.file {
+            Some(file) if self.clock < u64::MAX => file.sync().is_ok(),
             _ => false,
         };
         self.count(synced)
