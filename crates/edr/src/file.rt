@@ -1,8 +1,9 @@
-//! The file `edr.nvm` among other programs: one at a time holds it.
+//! The file `edr.nvm` among other files and programs: its number is none of a standard stream's, and one program at a time holds it.
 ghost use Rattle.std.specs.Prelude.{◌≡◌};
 
 use std::fs::{File, Files, OpenOptions, TryLockError};
 use std::io::{Error as IoError, ErrorKind, Result as IoResult};
+use std::os::fd::AsRawFd;
 use std::os::unix::fs::FileExt;
 use std::rt::Clock;
 use std::thread;
@@ -13,6 +14,9 @@ const NAME: &str = "edr.nvm";
 
 /// As many bytes as a file has that is made.
 const NEW_SIZE: usize = 16_480;
+
+/// The highest number of a standard stream.
+const LAST_STREAM: i32 = 2;
 
 /// How often a file is asked for that another program holds, and the pause in between, in milliseconds: ten seconds in all.
 const TRIES: u32 = 200;
@@ -33,12 +37,21 @@ fn open_or_make<R: Files<File = File>>(rt: &R) -> IoResult<File> {
     let mut how = OpenOptions::new();
     how.read(true).write(true);
     if let Ok(file) = how.open(rt, NAME) {
-        return Ok(file);
+        return beside_streams(file);
     }
-    let file = how.create_new(true).open(rt, NAME)?;
+    let file = beside_streams(how.create_new(true).open(rt, NAME)?)?;
     file.write_all_at(&[0; NEW_SIZE], 0)?;
     file.sync_all()?;
     Ok(file)
+}
+
+// A program that is started with a standard stream closed gets the number of that stream for the next file that it opens, and prints
+// into it. A second handle never has such a number.
+fn beside_streams(file: File) -> IoResult<File> {
+    if file.as_raw_fd() > LAST_STREAM {
+        return Ok(file);
+    }
+    file.try_clone()
 }
 
 // How long the file is, at most as long as an offset can be.
