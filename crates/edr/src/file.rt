@@ -1,4 +1,5 @@
-//! The file `edr.nvm` among other files and programs: its number is none of a standard stream's, and one program at a time holds it.
+//! The file `edr.nvm` among other files and programs: its number is none of a standard stream's, it is whole from the first, and one
+//! program at a time holds it.
 ghost use Rattle.std.specs.Prelude.{◌≡◌};
 
 use std::fs::{File, Files, OpenOptions, TryLockError};
@@ -11,6 +12,9 @@ use std::time::Duration;
 
 /// The name of the file.
 const NAME: &str = "edr.nvm";
+
+/// The folder in which it has that name.
+const FOLDER: &str = ".";
 
 /// As many bytes as a file has that is made.
 const NEW_SIZE: usize = 16_480;
@@ -32,17 +36,13 @@ pub struct ImageFile<R> {
     is_held: bool,
 }
 
-// Opens the file, and makes it with zeros where it is missing.
-fn open_or_make<R: Files<File = File>>(rt: &R) -> IoResult<File> {
+fn open_or_create<R: Files<File = File>>(rt: &R) -> IoResult<File> {
     let mut how = OpenOptions::new();
     how.read(true).write(true);
-    if let Ok(file) = how.open(rt, NAME) {
-        return beside_streams(file);
+    match how.open(rt, NAME) {
+        Err(e) if e.kind() == ErrorKind::NotFound => how.create(true).open(rt, NAME),
+        opened => opened,
     }
-    let file = beside_streams(how.create_new(true).open(rt, NAME)?)?;
-    file.write_all_at(&[0; NEW_SIZE], 0)?;
-    file.sync_all()?;
-    Ok(file)
 }
 
 // A program that is started with a standard stream closed gets the number of that stream for the next file that it opens, and prints
@@ -72,14 +72,42 @@ fn hold<R: Clock>(rt: &R, file: &File) -> IoResult<()> {
     Err(IoError::from(ErrorKind::WouldBlock))
 }
 
+// Some file systems have no sync of a folder.
+fn sync_if_any(file: &File) -> IoResult<()> {
+    match file.sync_all() {
+        Err(e) if e.kind() == ErrorKind::InvalidInput => Ok(()),
+        synced => synced,
+    }
+}
+
+// Gives an empty file its zeros, and returns how long it is then. Its name is settled first, where the folder may be read, and its
+// size comes at once: a program that is killed in here leaves the file empty, for the next to fill, or as it is to be. The zeros are
+// written too, so that a full disk is told now and not in a crash.
+fn fill<R: Files<File = File> + Clock>(rt: &R, file: &File) -> IoResult<u32> {
+    hold(rt, file)?;
+    if size_of(file)? == 0 {
+        if let Ok(folder) = File::open(rt, FOLDER) {
+            sync_if_any(&folder)?;
+        }
+        file.set_len(NEW_SIZE as u64)?;
+        file.write_all_at(&[0; NEW_SIZE], 0)?;
+        file.sync_all()?;
+    }
+    file.unlock()?;
+    size_of(file)
+}
+
 impl<R: Files<File = File> + Clock> ImageFile<R> {
-    /// The file of the folder in which the program runs, which is made where it is missing.
+    /// The file of the folder in which the program runs, which is made where it is missing or empty.
     pub fn open(rt: R) -> IoResult<ImageFile<R>>
     where
         R: Drop,
     {
-        let file = open_or_make(&rt)?;
-        let size = size_of(&file)?;
+        let file = beside_streams(open_or_create(&rt)?)?;
+        let size = match size_of(&file)? {
+            0 => fill(&rt, &file)?,
+            size => size,
+        };
         Ok(ImageFile {
             rt,
             file,
