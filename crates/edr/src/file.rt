@@ -27,22 +27,37 @@ const TRIES: u32 = 200;
 
 const PAUSE: u64 = 50;
 
+/// What the system lets this program do with the file.
+#[derive(Clone, Copy)]
+enum Access {
+    ReadWrite,
+    ReadOnly,
+}
+
 /// An open image. The first call that reads, writes or syncs takes it for this program, which then holds it to its end.
 #[derive(Drop)]
 pub struct ImageFile<R> {
     rt: R,
     file: File,
+    access: Access,
     size: u32,
     is_held: bool,
 }
 
-fn open_or_create<R: Files<File = File>>(rt: &R) -> IoResult<File> {
+// An image that may only be read is opened for that, so that its records can be reported. Each write fails then.
+fn open_or_create<R: Files<File = File>>(rt: &R) -> IoResult<(File, Access)> {
     let mut how = OpenOptions::new();
     how.read(true).write(true);
-    match how.open(rt, NAME) {
+    let opened = match how.open(rt, NAME) {
         Err(e) if e.kind() == ErrorKind::NotFound => how.create(true).open(rt, NAME),
+        Err(e) if is_refusal(e.kind()) => return Ok((File::open(rt, NAME)?, Access::ReadOnly)),
         opened => opened,
-    }
+    };
+    Ok((opened?, Access::ReadWrite))
+}
+
+fn is_refusal(kind: ErrorKind) -> bool {
+    kind == ErrorKind::PermissionDenied || kind == ErrorKind::ReadOnlyFilesystem
 }
 
 // A program that is started with a standard stream closed gets the number of that stream for the next file that it opens, and prints
@@ -60,10 +75,18 @@ fn size_of(file: &File) -> IoResult<u32> {
     Ok(len.min(u64::from(u32::MAX)) as u32)
 }
 
+// Programs that can only read the file hold it together.
+fn try_hold(file: &File, access: Access) -> Result<(), TryLockError> {
+    match access {
+        Access::ReadWrite => file.try_lock(),
+        Access::ReadOnly => file.try_lock_shared(),
+    }
+}
+
 // Waits a while where another program holds the file. The system lets go of it when that program ends, however it ends.
-fn hold<R: Clock>(rt: &R, file: &File) -> IoResult<()> {
+fn hold<R: Clock>(rt: &R, file: &File, access: Access) -> IoResult<()> {
     for _ in 0..TRIES {
-        match file.try_lock() {
+        match try_hold(file, access) {
             Ok(()) => return Ok(()),
             Err(TryLockError::WouldBlock) => thread::sleep(rt, Duration::from_millis(PAUSE)),
             Err(TryLockError::Error(e)) => return Err(e),
@@ -72,7 +95,7 @@ fn hold<R: Clock>(rt: &R, file: &File) -> IoResult<()> {
     Err(IoError::from(ErrorKind::WouldBlock))
 }
 
-// Some file systems have no sync of a folder.
+// Some file systems have no sync of a folder, and some that can't be written have none at all.
 fn sync_if_any(file: &File) -> IoResult<()> {
     match file.sync_all() {
         Err(e) if e.kind() == ErrorKind::InvalidInput => Ok(()),
@@ -84,7 +107,7 @@ fn sync_if_any(file: &File) -> IoResult<()> {
 // size comes at once: a program that is killed in here leaves the file empty, for the next to fill, or as it is to be. The zeros are
 // written too, so that a full disk is told now and not in a crash.
 fn fill<R: Files<File = File> + Clock>(rt: &R, file: &File) -> IoResult<u32> {
-    hold(rt, file)?;
+    hold(rt, file, Access::ReadWrite)?;
     if size_of(file)? == 0 {
         if let Ok(folder) = File::open(rt, FOLDER) {
             sync_if_any(&folder)?;
@@ -103,7 +126,8 @@ impl<R: Files<File = File> + Clock> ImageFile<R> {
     where
         R: Drop,
     {
-        let file = beside_streams(open_or_create(&rt)?)?;
+        let (opened, access) = open_or_create(&rt)?;
+        let file = beside_streams(opened)?;
         let size = match size_of(&file)? {
             0 => fill(&rt, &file)?,
             size => size,
@@ -111,6 +135,7 @@ impl<R: Files<File = File> + Clock> ImageFile<R> {
         Ok(ImageFile {
             rt,
             file,
+            access,
             size,
             is_held: false,
         })
@@ -126,7 +151,7 @@ impl<R: Files<File = File> + Clock> ImageFile<R> {
     // The file, which this program holds from here to its end.
     fn held(&mut self) -> IoResult<&File> {
         if !self.is_held {
-            hold(&self.rt, &self.file)?;
+            hold(&self.rt, &self.file, self.access)?;
             self.is_held = true;
         }
         Ok(&self.file)
@@ -144,6 +169,9 @@ impl<R: Files<File = File> + Clock> ImageFile<R> {
 
     /// Returns once the file has what was written.
     pub fn sync(&mut self) -> IoResult<()> {
-        self.held()?.sync_all()
+        match self.access {
+            Access::ReadWrite => self.held()?.sync_all(),
+            Access::ReadOnly => sync_if_any(self.held()?),
+        }
     }
 }
