@@ -2,13 +2,13 @@
 //! program at a time holds it.
 ghost use Rattle.std.specs.Prelude.{◌≡◌};
 
-use std::fs::{File, Files, OpenOptions, TryLockError};
+use std::fs::{File, Files, Metadata, OpenOptions, TryLockError};
 use std::io::{Error as IoError, ErrorKind, Result as IoResult};
 use std::os::fd::AsRawFd;
-use std::os::unix::fs::FileExt;
+use std::os::unix::fs::{FileExt, MetadataExt};
 use std::rt::Clock;
-use std::thread;
 use std::time::Duration;
+use std::{fs, thread};
 
 /// The name of the file.
 const NAME: &str = "edr.nvm";
@@ -50,7 +50,7 @@ fn open_or_create<R: Files<File = File>>(rt: &R) -> IoResult<(File, Access)> {
     how.read(true).write(true);
     let opened = match how.open(rt, NAME) {
         Err(e) if e.kind() == ErrorKind::NotFound => how.create(true).open(rt, NAME),
-        Err(e) if is_refusal(e.kind()) => return Ok((File::open(rt, NAME)?, Access::ReadOnly)),
+        Err(e) if is_refusal(e.kind()) => return open_to_read(rt),
         opened => opened,
     };
     Ok((opened?, Access::ReadWrite))
@@ -58,6 +58,12 @@ fn open_or_create<R: Files<File = File>>(rt: &R) -> IoResult<(File, Access)> {
 
 fn is_refusal(kind: ErrorKind) -> bool {
     kind == ErrorKind::PermissionDenied || kind == ErrorKind::ReadOnlyFilesystem
+}
+
+// To open a pipe so would be to wait for its writer.
+fn open_to_read<R: Files<File = File>>(rt: &R) -> IoResult<(File, Access)> {
+    let _size = size_of(&fs::metadata(rt, NAME)?)?;
+    Ok((File::open(rt, NAME)?, Access::ReadOnly))
 }
 
 // A program that is started with a standard stream closed gets the number of that stream for the next file that it opens, and prints
@@ -69,10 +75,16 @@ fn beside_streams(file: File) -> IoResult<File> {
     file.try_clone()
 }
 
-// How long the file is, at most as long as an offset can be.
-fn size_of(file: &File) -> IoResult<u32> {
-    let len = file.metadata()?.len();
-    Ok(len.min(u64::from(u32::MAX)) as u32)
+// How long a file is, at most as long as an offset can be. A folder, a pipe or a device is no image.
+fn size_of(about: &Metadata) -> IoResult<u32> {
+    if !about.is_file() {
+        return Err(IoError::from(ErrorKind::InvalidInput));
+    }
+    Ok(about.len().min(u64::from(u32::MAX)) as u32)
+}
+
+fn is_same_file(one: &Metadata, other: &Metadata) -> bool {
+    one.dev() == other.dev() && one.ino() == other.ino()
 }
 
 // Programs that can only read the file hold it together.
@@ -108,7 +120,7 @@ fn sync_if_any(file: &File) -> IoResult<()> {
 // written too, so that a full disk is told now and not in a crash.
 fn fill<R: Files<File = File> + Clock>(rt: &R, file: &File) -> IoResult<u32> {
     hold(rt, file, Access::ReadWrite)?;
-    if size_of(file)? == 0 {
+    if size_of(&file.metadata()?)? == 0 {
         if let Ok(folder) = File::open(rt, FOLDER) {
             sync_if_any(&folder)?;
         }
@@ -117,7 +129,7 @@ fn fill<R: Files<File = File> + Clock>(rt: &R, file: &File) -> IoResult<u32> {
         file.sync_all()?;
     }
     file.unlock()?;
-    size_of(file)
+    size_of(&file.metadata()?)
 }
 
 impl<R: Files<File = File> + Clock> ImageFile<R> {
@@ -128,7 +140,7 @@ impl<R: Files<File = File> + Clock> ImageFile<R> {
     {
         let (opened, access) = open_or_create(&rt)?;
         let file = beside_streams(opened)?;
-        let size = match size_of(&file)? {
+        let size = match size_of(&file.metadata()?)? {
             0 => fill(&rt, &file)?,
             size => size,
         };
@@ -148,10 +160,21 @@ impl<R: Files<File = File> + Clock> ImageFile<R> {
         self.size
     }
 
+    // While this program waited for its trace or for another program, the name may have come to stand for another file, or the file
+    // may have been written anew. What was opened is the image no longer then.
+    fn is_as_opened(&self) -> IoResult<bool> {
+        let about = self.file.metadata()?;
+        let named = fs::metadata(&self.rt, NAME)?;
+        Ok(is_same_file(&about, &named) && size_of(&about)? == self.size)
+    }
+
     // The file, which this program holds from here to its end.
     fn held(&mut self) -> IoResult<&File> {
         if !self.is_held {
             hold(&self.rt, &self.file, self.access)?;
+            if !self.is_as_opened()? {
+                return Err(IoError::from(ErrorKind::NotFound));
+            }
             self.is_held = true;
         }
         Ok(&self.file)
