@@ -38,7 +38,8 @@ plain-text : (l : Line) → IsPlain l → row_text default_writer (fields_in l) 
 unfolding fields_text is_blank
 plain-text l h = rw (plain-needs l.first h.0, plain-needs l.second h.1, plain-needs l.third h.2) (regroup l.first l.second l.third)
 
-line-read : (l : Line) (rest : List ℕ) → IsPlain l → next_record default_config st.StartRecord [] [] (line_text l ++ rest) ≡ Some (fields_in l, st.StartRecord, rest)
+-- a line without special bytes is the next record
+pub line-read : (l : Line) (rest : List ℕ) → IsPlain l → next_record default_config st.StartRecord [] [] (line_text l ++ rest) ≡ Some (fields_in l, st.StartRecord, rest)
 line-read l rest h = ap (λ (x : List ℕ). next_record default_config st.StartRecord [] [] (x ++ rest)) (sym (plain-text l h)) ∙ read-write-many l.first l.second (l.third ∷ []) rest
 
 lines-read : (ls : List Line) → AllByRecursion IsPlain ls → AreRecords default_config st.StartRecord (flat_map line_text ls) (map fields_in ls)

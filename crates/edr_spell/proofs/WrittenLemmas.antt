@@ -56,7 +56,8 @@ sensor-plain s.Belt = refl
 sensor-plain s.Lamp = refl
 sensor-plain s.Restraint = refl
 
-line_for-plain : (r : Row) → IsPlain (line_for r)
+-- the line of a row has no special byte
+pub line_for-plain : (r : Row) → IsPlain (line_for r)
 line_for-plain (row.On k) = (refl, numeral-plain k, refl)
 line_for-plain (row.Sample x i) = (sensor-plain x, numeral-plain i.moment, value-plain i.value)
 line_for-plain (row.Cut k) = (refl, numeral-plain k, refl)

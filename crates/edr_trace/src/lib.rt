@@ -3,16 +3,20 @@
 
 mod parse;
 mod pieces;
+mod plain;
 mod steps;
 
-ghost use Rattle.std.specs.Prelude.{◌≡◌, ◌≤◌, ℕ, List, Some, length, IfOk, IfErr, IfSome, MatchResult, ◌⊎◌, All};
+ghost use Rattle.std.specs.Prelude.{◌≡◌, ◌≤◌, ◌<◌, ◌+◌, ◌^◌, ◌++◌, ℕ, List, Some, length, IfOk, IfErr, MatchResult, ◌⊎◌, All};
 ghost use Rattle.edr_spell.specs.Spell.{Spell, IsCycle};
 ghost use Rattle.edr_spell.specs.Fault.{Fault};
+ghost use Rattle.csv.specs.declared.parser.State.TheVariants.{StartRecord};
 ghost use Rattle.edr_trace.specs.Told.{Tells};
+ghost use Rattle.edr_trace.specs.SoFar.{SoFar, unread};
 
 use csv::{ByteRecord, ReaderBuilder};
 pub use edr_spell::{CycleInput, Row, TraceFault, TraceRefused, Word};
 pub use pieces::Pieces;
+use plain::plain_row;
 use std::alloc::Global;
 use std::io::Read;
 use steps::{Trace, at_row};
@@ -49,7 +53,7 @@ pub fn read(alloc: Global, bytes: &[u8]) -> Result<Vec<CycleInput>, ReadRefused>
     ensures only_spelled { (cycles : List CycleInput) → Spell bytes.now cycles → MatchResult result (λ v. v.items ≡ cycles) (λ e. e ≡ ReadRefused.OutOfMemory) }
     ensures only_refused { (t : TraceRefused) → Fault bytes.now t → MatchResult result (λ v. ⊥) (λ e. (e ≡ ReadRefused.Trace t) ⊎ (e ≡ ReadRefused.OutOfMemory)) }
 {
-    read_records(alloc, bytes)
+    read_bytes(alloc, bytes)
 }
 
 /// The same of bytes in pieces, each of which is freed once it is read.
@@ -61,22 +65,83 @@ pub fn read_pieces(alloc: Global, pieces: Pieces) -> Result<Vec<CycleInput>, Rea
     ensures only_spelled { (cycles : List CycleInput) → Spell pieces cycles → MatchResult result (λ v. v.items ≡ cycles) (λ e. e ≡ ReadRefused.OutOfMemory) }
     ensures only_refused { (t : TraceRefused) → Fault pieces t → MatchResult result (λ v. ⊥) (λ e. (e ≡ ReadRefused.Trace t) ⊎ (e ≡ ReadRefused.OutOfMemory)) }
 {
-    read_records(alloc, pieces)
+    read_each(alloc, pieces)
 }
 
-// Takes the records of a source one after the other.
-fn read_records<R: Read + Drop>(alloc: Global, source: R) -> Result<Vec<CycleInput>, ReadRefused>
-    requires { (bytes : List ℕ) × (R.remaining source ≡ Some bytes) × (length bytes ≤ LARGEST_TRACE) }
-    ensures spelled { IfOk result (λ v. IfSome (R.remaining source) (λ bytes. Spell bytes v.items)) }
-    ensures refused { IfErr result (λ e. IfSome (R.remaining source) (λ bytes. Tells bytes e)) }
+// The bytes of a slice: the plain rows at first, and then what is left by csv.
+fn read_bytes(alloc: Global, bytes: &[u8]) -> Result<Vec<CycleInput>, ReadRefused>
+    requires { length bytes.now ≤ LARGEST_TRACE }
+    ensures spelled { IfOk result (λ v. Spell bytes.now v.items) }
+    ensures refused { IfErr result (λ e. Tells bytes.now e) }
 {
+    let mut trace = Trace::new(alloc);
+    let mut rows = 0;
+    let rest = take_plain(alloc, &mut trace, &mut rows, bytes)?;
+    read_rest(alloc, trace, rows, rest)
+}
+
+// The same of bytes in pieces.
+fn read_each(alloc: Global, pieces: Pieces) -> Result<Vec<CycleInput>, ReadRefused>
+    requires { length pieces ≤ LARGEST_TRACE }
+    ensures spelled { IfOk result (λ v. Spell pieces v.items) }
+    ensures refused { IfErr result (λ e. Tells pieces e) }
+{
+    let mut pieces = pieces;
+    let mut trace = Trace::new(alloc);
+    let mut rows = 0;
+    while let Some((piece, at)) = pieces.take_piece() {
+        let rest = take_plain(alloc, &mut trace, &mut rows, &piece[at..])?;
+        if !rest.is_empty() {
+            return read_rest(alloc, trace, rows, rest.chain(pieces));
+        }
+    }
+    read_rest(alloc, trace, rows, pieces)
+}
+
+// Takes the rows that stand plainly in front of the bytes, and answers the bytes that are left. `rows` counts.
+fn take_plain<'a>(
+    alloc: Global,
+    trace: &mut Trace,
+    rows: &mut u32,
+    bytes: &'a [u8],
+) -> Result<&'a [u8], ReadRefused>
+    requires { rows.old + length bytes.now < 2 ^ 32 }
+    ensures count { IfOk result (λ rest. rows.new + length rest.now ≤ rows.old + length bytes.now) }
+    ensures taken { IfOk result (λ rest. (whole more : List ℕ) → SoFar whole StartRecord (unread rows.old (bytes.now ++ more)) trace.old.cycles.items trace.old.inside rows.old
+        → SoFar whole StartRecord (unread rows.new (rest.now ++ more)) trace.new.cycles.items trace.new.inside rows.new) }
+    ensures refused { IfErr result (λ e. (whole more : List ℕ) → SoFar whole StartRecord (unread rows.old (bytes.now ++ more)) trace.old.cycles.items trace.old.inside rows.old → Tells whole e) }
+{
+    let mut rest = bytes;
+    while let Some((row, behind)) = plain_row(rest) {
+        if let Err(refused) = trace.take_row(alloc, row) {
+            return Err(at_row(*rows + 1, refused));
+        }
+        *rows += 1;
+        rest = behind;
+    }
+    Ok(rest)
+}
+
+// Takes the records of a source one after the other, where so many rows were taken before.
+fn read_rest<R: Read + Drop>(
+    alloc: Global,
+    trace: Trace,
+    rows: u32,
+    source: R,
+) -> Result<Vec<CycleInput>, ReadRefused>
+    requires { (bytes : List ℕ) × (R.remaining source ≡ Some bytes) × (rows + length bytes ≤ LARGEST_TRACE) }
+    ensures spelled { IfOk result (λ v. (whole bytes : List ℕ) → R.remaining source ≡ Some bytes → SoFar whole StartRecord (unread rows bytes) trace.cycles.items trace.inside rows → Spell whole v.items) }
+    ensures refused { IfErr result (λ e. (whole bytes : List ℕ) → R.remaining source ≡ Some bytes → SoFar whole StartRecord (unread rows bytes) trace.cycles.items trace.inside rows → Tells whole e) }
+{
+    let mut trace = trace;
+    // A byte order mark is one at the front of a trace alone. A blank line is no record.
+    let front: &[u8] = if rows == 0 { b"" } else { b"\n" };
     let mut reader = ReaderBuilder::new()
         .has_headers(false)
         .flexible(true)
-        .from_reader(alloc, source);
+        .from_reader(alloc, front.chain(source));
     let mut fields = ByteRecord::new(alloc);
-    let mut trace = Trace::new(alloc);
-    for n in 0..u32::MAX {
+    for n in rows..u32::MAX {
         match reader.read_byte_record(&mut fields) {
             Ok(true) => {}
             Ok(false) => return trace.end(n + 1),
@@ -91,5 +156,7 @@ fn read_records<R: Read + Drop>(alloc: Global, source: R) -> Result<Vec<CycleInp
     unreachable!()
 }
 
+#[cfg(test)]
+mod drawn_tests;
 #[cfg(test)]
 mod tests;
