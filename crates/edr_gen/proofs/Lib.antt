@@ -1,0 +1,9 @@
+pub mod DrawLemmas
+pub mod Putting
+pub mod TextLemmas
+pub mod TraceLemmas
+pub mod RangeLemmas
+pub mod FedLemmas
+pub mod SpelledLemmas
+pub mod SampleLemmas
+pub mod Vectors

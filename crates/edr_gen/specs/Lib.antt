@@ -1,0 +1,4 @@
+pub mod Draws
+pub mod Cycles
+pub mod Texts
+pub mod Traces

@@ -1,0 +1,117 @@
+//! The cycles of a generated trace, without its bytes.
+ghost use Rattle.std.specs.Prelude.{◌≡◌, ◌+◌, ◌%◌, ◌<◌, ◌==◌, ◌^◌, ◌++◌, ◌∷◌, [], IfOk, List, None, Some, OnOk, pos};
+ghost use Rattle.edr_spell.specs.Samples.{Sample, feeds_given};
+ghost use Rattle.edr_gen.specs.Cycles.{crash_samples, restraint_samples, sample, samples_at, slow_samples};
+ghost use Rattle.edr_gen.specs.Draws.{plan_from, state_past};
+ghost use Rattle.edr_gen.specs.Traces.{cycle_of, samples_of};
+
+use crate::draws::Draws;
+use crate::plan::{Plan, TICKS, across_of, along_of};
+use edr_items::{Feeds, Item, Sensor};
+use edr_spell::CycleInput;
+use std::alloc::{AllocError as OutOfMemory, Global};
+use std::marker::Model;
+
+// Gives a sample to the feeds. They refuse none of a generated cycle but for want of memory.
+fn give(
+    feeds: &mut Feeds,
+    sensor: Sensor,
+    moment: u32,
+    value: Option<i32>,
+) -> Result<(), OutOfMemory>
+    ensures { OnOk result ((xs : List Sample) → feeds.old ≡ feeds_given xs → feeds.new ≡ feeds_given (xs ++ sample sensor moment value ∷ [])) }
+{
+    match feeds.add(sensor, Item { moment, value }) {
+        Ok(()) => Ok(()),
+        Err(_) => Err(OutOfMemory),
+    }
+}
+
+// Gives what the five slow sensors say at a tick.
+fn give_slow(feeds: &mut Feeds, tick: u32) -> Result<(), OutOfMemory>
+    ensures { OnOk result ((xs : List Sample) → feeds.old ≡ feeds_given xs → feeds.new ≡ feeds_given (xs ++ slow_samples (tick % 100 == 0) tick)) }
+{
+    if tick % 100 == 0 {
+        give(feeds, Sensor::Speed, tick, Some(60))?;
+        give(feeds, Sensor::Throttle, tick, Some(20))?;
+        give(feeds, Sensor::Brake, tick, Some(0))?;
+        give(feeds, Sensor::Belt, tick, Some(1))?;
+        give(feeds, Sensor::Lamp, tick, Some(0))?;
+    }
+    Ok(())
+}
+
+// Gives what the restraints say at a tick.
+fn give_restraint(feeds: &mut Feeds, tick: u32, fires: bool) -> Result<(), OutOfMemory>
+    ensures { OnOk result ((xs : List Sample) → feeds.old ≡ feeds_given xs → feeds.new ≡ feeds_given (xs ++ restraint_samples fires (tick % 1000 == 0) tick)) }
+{
+    if fires {
+        return give(feeds, Sensor::Restraint, tick, Some(1));
+    }
+    if tick % 1_000 == 0 {
+        return give(feeds, Sensor::Restraint, tick, None);
+    }
+    Ok(())
+}
+
+// Gives what all sensors say at a tick.
+#[tactic(auto, unfolding(crate::specs::Cycles::samples_at))]
+fn give_tick(feeds: &mut Feeds, plan: &Plan, tick: u32) -> Result<(), OutOfMemory>
+    ensures { OnOk result ((xs : List Sample) → feeds.old ≡ feeds_given xs → feeds.new ≡ feeds_given (xs ++ samples_at plan.now.impulses tick)) }
+{
+    let acting = plan.acting_at(tick);
+    give(feeds, Sensor::Along, tick, Some(along_of(acting)))?;
+    give(feeds, Sensor::Across, tick, Some(across_of(acting)))?;
+    give_slow(feeds, tick)?;
+    give_restraint(feeds, tick, plan.has_firing(tick))
+}
+
+// What the sensors give in a planned cycle.
+fn feeds_of(alloc: Global, plan: &Plan) -> Result<Feeds, OutOfMemory>
+    ensures { IfOk result (λ feeds. feeds ≡ feeds_given (samples_of plan.now)) }
+{
+    let mut feeds = Feeds::new(alloc);
+    for passed in 0..TICKS {
+        give_tick(&mut feeds, plan, passed + 1)?;
+    }
+    Ok(feeds)
+}
+
+/// The cycles that a number gives, one after the other. Contracts see the state of its draws.
+#[derive(Drop)]
+pub struct Generator {
+    draws: Draws,
+}
+
+impl Model for Generator {
+    ghost use Rattle.std.specs.Prelude.{ℕ};
+
+    ghost Value = { ℕ };
+
+    ghost view = { λ g. g.draws.state };
+}
+
+impl Generator {
+    /// Before the first cycle of the number.
+    pub fn new(number: u64) -> Generator
+        ensures { result ≡ number }
+    {
+        Generator {
+            draws: Draws { state: number },
+        }
+    }
+
+    /// The next cycle.
+    pub fn next_cycle(&mut self, alloc: Global) -> Result<CycleInput, OutOfMemory>
+        ensures cycle { IfOk result (λ cycle. cycle ≡ cycle_of (plan_from self.old)) }
+        ensures state { self.new ≡ state_past self.old }
+    {
+        let plan = self.draws.next_plan();
+        let feeds = feeds_of(alloc, &plan)?;
+        Ok(CycleInput {
+            start_stop: 0,
+            feeds,
+            stop: plan.stop,
+        })
+    }
+}
