@@ -22,7 +22,8 @@ use Rattle.edr_cycle.specs.Commits.{Commits, IsAfterFirst, IsLeftBy, IsReadyFor,
 use Rattle.edr_cycle.specs.Past.{KeepsPast}
 use Rattle.edr_cycle.proofs.Answered.{map_err, map_ok}
 use Rattle.edr_cycle.proofs.PastLemmas.{past_again, past_self}
-use Rattle.edr_cycle.proofs.Lists.{acks_from-append, after-append, calls-append, first_steps-first, first_steps-later, get_first, get_later, length-acks_from, length-replies_from, replies_from-append, steps_from-append}
+use Rattle.edr_cycle.proofs.Lists.{acks_from-append, calls-append, first_steps-first, first_steps-later, length-acks_from, length-replies_from, replies_from-append, steps_from-append}
+use Rattle.edr_run.proofs.Replies.{after-append, get_first, get_later}
 
 -- ---- calls
 

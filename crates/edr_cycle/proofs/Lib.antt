@@ -6,7 +6,6 @@ pub mod Front
 pub mod Lists
 pub mod Committed
 pub mod Applied
-pub mod Issues
 pub mod RunSteps
 pub mod Ending
 pub mod FirstBytes

@@ -12,24 +12,10 @@ use Rattle.edr_image.specs.Banks.{Store}
 use Rattle.edr_image.specs.Calls.{IsStop, all_calls, calls_of, gate_call_of}
 use Rattle.edr_image.specs.Steps.{Step, Erase, Fill, Lock, Done, State, Reply, after, banks_after, held_after, replies, reply_to, state_after}
 use Rattle.edr_run.specs.Cycle.{ack_of}
+use Rattle.edr_run.proofs.Replies.{replies-append, stop_first, stop_later}
 use Rattle.edr_cycle.specs.Commits.{IsLeftBy, acks_from, first_steps, replies_from, steps_from}
 
 -- ---- lists
-
-pub get_first : {X : Type 0} (xs ys : List X) (j : ℕ) (x : X) → slice_get xs j ≡ Some x → slice_get (xs ++ ys) j ≡ Some x
-get_first [] ys j x h = absurd cc
-get_first (y ∷ xs) ys zero x h = h
-get_first (y ∷ xs) ys (suc j) x h = get_first xs ys j x h
-
-pub get_later : {X : Type 0} (xs ys : List X) (j : ℕ) (x : X) → slice_get ys j ≡ Some x → slice_get (xs ++ ys) (length xs + j) ≡ Some x
-get_later [] ys j x h = rw (zero_first j) h
-  where
-    zero_first : (j : ℕ) → 0 + j ≡ j
-    zero_first j = omega arith
-get_later (y ∷ xs) ys j x h = rw (one_more (length xs) j) (get_later xs ys j x h)
-  where
-    one_more : (n j : ℕ) → suc n + j ≡ suc (n + j)
-    one_more n j = omega arith
 
 zip-append : {X Y : Type 0} (xs xs' : List X) (ys ys' : List Y) → length xs ≡ length ys → zip (xs ++ xs') (ys ++ ys') ≡ zip xs ys ++ zip xs' ys'
 zip-append [] xs' [] ys' e = refl
@@ -42,20 +28,7 @@ length-zip-same [] ys e = refl
 length-zip-same (x ∷ xs) (y ∷ ys) e = let rest = length-zip-same xs ys (omega arith) in omega arith
 length-zip-same (x ∷ xs) [] e = absurd (omega arith)
 
--- ---- states and replies
-
-pub after-append : (v : Store) (a b : List Step) → after (after v a) b ≡ after v (a ++ b)
-after-append v a b = ap (λ banks. record v { banks = banks }) (sym (fold-append banks_after v.banks a b))
-
-pub state_after-append : (s : State) (a b : List Step) → state_after (state_after s a) b ≡ state_after s (a ++ b)
-state_after-append s a b = rw (after-append s.store a b, ← fold-append held_after s.held a b) refl
-
-replies-append : (s : State) (cs ds : List Command) → replies s (cs ++ ds) ≡ replies s cs ++ replies (state_after s (flat_map (λ r. r.steps) (replies s cs))) ds
-replies-append s [] ds = refl
-replies-append s (c ∷ cs) ds =
-    let r = reply_to s c in
-    let rest = replies-append (state_after s r.steps) cs ds in
-    ap (λ rs. r ∷ rs) (rest ∙ ap (λ t. replies (state_after s r.steps) cs ++ replies t ds) (state_after-append s r.steps (flat_map (λ r. r.steps) (replies (state_after s r.steps) cs))))
+-- ---- replies
 
 length-replies : (s : State) (cs : List Command) → length (replies s cs) ≡ length cs
 length-replies s [] = refl
@@ -105,50 +78,6 @@ pub all_steps : (s : State) (xs : List Issue) → first_steps s xs (length xs) �
 all_steps s xs = ap (flat_map (λ r. r.steps)) (ap (λ n. take n (replies_from s xs)) (sym (length-replies_from s xs)) ∙ take-length (replies_from s xs))
 
 -- ---- stops
-
-take_more : {X : Type 0} (xs ys : List X) (p : ℕ) → p ≤ length xs → take p (xs ++ ys) ≡ take p xs
-take_more xs ys p within = take-append-le p xs ys within
-
--- a stop in the first of two lists
-stop_first : (a b done : List Step) (k : ℕ) → IsStop a k done → IsStop (a ++ b) k done
-stop_first a b done k stop =
-    let within = slice_get_within a stop.p stop.step stop.falls.step in
-    let same = take_more a b stop.p (omega arith) in
-    let more = take_more a b (stop.p + 1) (omega arith) in
-    record {
-      p = stop.p;
-      r = stop.r;
-      step = stop.step;
-      falls = record {
-        step = get_first a b stop.p stop.step stop.falls.step;
-        before = stop.falls.before ∙ ap (λ steps. all_calls steps + stop.r) (sym same);
-        from = stop.falls.from;
-        to = stop.falls.to;
-      };
-      left = elim stop.left [ inl e ↦ inl (e ∙ sym same) | inr h ↦ inr (h.0, h.1 ∙ sym more) ];
-    }
-
--- a stop in the second
-stop_later : (a b done : List Step) (k : ℕ) → IsStop b k done → IsStop (a ++ b) (all_calls a + k) (a ++ done)
-stop_later a b done k stop =
-    let same = take-append-add a b stop.p in
-    let more : take (length a + stop.p + 1) (a ++ b) ≡ a ++ take (stop.p + 1) b = ap (λ n. take n (a ++ b)) (place (length a) stop.p) ∙ take-append-add a b (stop.p + 1) in
-    let calls : all_calls (take (length a + stop.p) (a ++ b)) ≡ all_calls a + all_calls (take stop.p b) = ap all_calls same ∙ sum_by-append calls_of a (take stop.p b) in
-    record {
-      p = length a + stop.p;
-      r = stop.r;
-      step = stop.step;
-      falls = record {
-        step = get_later a b stop.p stop.step stop.falls.step;
-        before = let e = stop.falls.before in omega (arith, e, calls);
-        from = stop.falls.from;
-        to = stop.falls.to;
-      };
-      left = elim stop.left [ inl e ↦ inl (ap (λ xs. a ++ xs) e ∙ sym same) | inr h ↦ inr (h.0, ap (λ xs. a ++ xs) h.1 ∙ sym more) ];
-    }
-  where
-    place : (n p : ℕ) → n + p + 1 ≡ n + (p + 1)
-    place n p = omega arith
 
 gate_within : (s : Step) → (gate_call_of s ≤ calls_of s) × (1 ≤ calls_of s)
 gate_within (Erase m) = (omega arith, omega arith)

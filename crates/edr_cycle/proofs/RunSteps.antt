@@ -25,7 +25,7 @@ use Rattle.edr_banks.specs.Opened.{Opened}
 use Rattle.edr_run.specs.Cycle.{issues_in}
 use Rattle.edr_cycle.specs.Commits.{Commits}
 use Rattle.edr_cycle.proofs.Committed.{commits_failed, commits_none, commits_same, commits_then}
-use Rattle.edr_cycle.proofs.Issues.{issues-few, issues-more, issues-under_way}
+use Rattle.edr_run.proofs.Issues.{issues-few, issues-more, issues-under_way}
 
 -- how many items are left
 abbrev pub left_count : SensorLists → ℕ

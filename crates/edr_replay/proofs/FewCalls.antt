@@ -18,7 +18,7 @@ use Rattle.edr_image.specs.Banks.{Store, bank_at, is_unlocked, lowest_void, leas
 use Rattle.edr_image.specs.Calls.{all_calls, calls_of}
 use Rattle.edr_image.specs.Steps.{Reply, State, at_rest, done_reply, lock_reply, not_kept, replies, reply_to, state_after, take_reply}
 use Rattle.edr_run.specs.Cycle.{issues_in, steps_in}
-use Rattle.edr_cycle.proofs.Issues.{issues-few}
+use Rattle.edr_run.proofs.Issues.{issues-few}
 
 -- ---- one command makes at most eight
 

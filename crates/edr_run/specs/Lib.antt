@@ -1,3 +1,4 @@
 pub mod Cycle
 pub mod Own
 pub mod Logged
+pub mod Schedule

@@ -1,0 +1,65 @@
+-- The schedule of a cycle: items are given, ticks closed, and issued commands applied to the banks, in any order that is allowed.
+use Rattle.std.specs.Prelude.{◌≡◌, ◌⊎◌, ◌+◌, ◌<◌, ℕ, Some, List, [], ◌∷◌, take, length, slice_get}
+use Rattle.edr_items.specs.declared.Sensor.{Sensor}
+use Rattle.edr_items.specs.declared.Item.{Item}
+use Rattle.edr_items.specs.SensorLists.{SensorLists, items_of, horizon_of, no_items}
+use Rattle.edr_record.specs.declared.Command.{Command}
+use Rattle.edr_definitions.specs.Commands.{commands}
+use Rattle.edr_definitions.specs.Schedule.{Progress, Give, Close, BeginsWith, IsAllowed, after_step}
+use Rattle.edr_image.specs.Banks.{Store}
+use Rattle.edr_image.specs.Calls.{IsStop}
+use Rattle.edr_image.specs.Steps.{State, Step, at_rest, after, reply_to, state_after, steps_of}
+
+-- what was given and closed, how many commands were issued and how many applied, and the banks
+pub record Moment : Type 0 where
+  pub progress : Progress
+  pub issued : ℕ
+  pub applied : ℕ
+  pub banks : State
+
+-- nothing was given, closed, issued or applied
+abbrev pub begun : Store → Moment
+begun v = record { progress = record { given = no_items; closed = 0 }; issued = 0; applied = 0; banks = at_rest v }
+
+-- the commands that cycle n has issued
+abbrev pub issued_at : ℕ → Moment → List Command
+issued_at n a = commands a.progress.given n a.progress.closed
+
+-- c is the command that is applied next
+abbrev pub IsNextApplied : ℕ → Moment → Command → Type 0
+IsNextApplied n a c = (a.applied < a.issued) × (slice_get (issued_at n a) a.applied ≡ Some c)
+
+-- one step of cycle n
+pub data IsStep (n : ℕ) (a b : Moment) : Type 0 where
+  -- a sensor gives an item
+  gives : (s : Sensor) (x : Item) → IsAllowed (Give s x) a.progress
+      → b ≡ record { progress = after_step a.progress (Give s x); issued = a.issued; applied = a.applied; banks = a.banks } → IsStep n a b
+  -- a tick is closed, and its commands are issued
+  closes : IsAllowed Close a.progress
+      → b ≡ record { progress = after_step a.progress Close; issued = length (commands a.progress.given n (a.progress.closed + 1)); applied = a.applied; banks = a.banks } → IsStep n a b
+  -- the next issued command is applied
+  applies : (c : Command) → IsNextApplied n a c
+      → b ≡ record { progress = a.progress; issued = a.issued; applied = a.applied + 1; banks = state_after a.banks (reply_to a.banks c).steps } → IsStep n a b
+
+-- steps lead from a, over these moments, to b
+abbrev pub Leads : ℕ → Moment → List Moment → Moment → Type 0
+Leads n a [] b = a ≡ b
+Leads n a (m ∷ ms) b = IsStep n a m × Leads n m ms b
+
+-- after a cut the banks are as they were, or a stop in a call of the next command left some of its steps
+abbrev pub IsCut : ℕ → Moment → Store → Type 0
+IsCut n a w =
+    (w ≡ a.banks.store)
+    ⊎ ((c : Command) × (k : ℕ) × (done : List Step) × IsNextApplied n a c × IsStop (reply_to a.banks c).steps k done × (w ≡ after a.banks.store done))
+
+-- what was given is a beginning of the lists f
+abbrev pub Begins : SensorLists → Moment → Type 0
+Begins f a = (s : Sensor) → BeginsWith (items_of s f) (items_of s a.progress.given)
+
+-- the commands of cycle n over the lists f
+abbrev pub all_commands : SensorLists → ℕ → List Command
+all_commands f n = commands f n (horizon_of f)
+
+-- the steps of the first j commands
+abbrev pub steps_of_first : SensorLists → ℕ → Store → ℕ → List Step
+steps_of_first f n v j = steps_of v (take j (all_commands f n))
