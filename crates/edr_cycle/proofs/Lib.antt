@@ -12,3 +12,4 @@ pub mod FirstBytes
 pub mod StartLemmas
 pub mod Keeping
 pub mod Acknowledging
+pub mod Skips
