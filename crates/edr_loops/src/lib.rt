@@ -1,0 +1,25 @@
+//! The loops of the threads of a recorder, and what crosses between them.
+#![tactic(auto)]
+
+mod desk;
+mod held;
+mod inlets;
+mod lanes;
+mod marks;
+mod orders;
+mod place;
+mod stand;
+mod threads;
+
+pub use crate::desk::Desk;
+pub use crate::held::Held;
+pub use crate::inlets::Inlets;
+pub use crate::lanes::{Lanes, make_lanes, settle};
+pub use crate::marks::Marks;
+pub use crate::orders::{Inbox, Order, Orders, Outbox, make_orders};
+pub use crate::place::{Gate, Offered, Place};
+pub use crate::stand::{Places, Stand};
+pub use crate::threads::{Recording, Serving, start_recorder, start_worker};
+
+#[cfg(test)]
+mod tests;

@@ -1,0 +1,112 @@
+//! A sensor's place at a worker.
+
+ghost use Rattle.std.specs.Prelude.{◌≡◌, ◌⊎◌, take};
+ghost use Rattle.edr_items.specs.SensorLists.{items_of};
+ghost use Rattle.edr_seats.specs.Seat.{SameSeat, items_sent};
+ghost use Rattle.edr_loops.specs.Places.{Goes, IsBegun};
+
+use edr_items::{Feeds, Item, Sensor};
+use edr_seats::{OfferRefused, SLOTS, Seat};
+
+/// What a worker calls before an item's first offer.
+pub trait Gate {
+    /// Lets pass the item that is the nth of the sensor with that number; both count from 1.
+    fn pass(&self, sensor: u8, nth: u32);
+}
+
+/// What came of offers.
+#[derive(Clone, Copy, Debug, PartialEq, Eq)]
+pub enum Offered {
+    /// An item was sent, and there may be more.
+    Sent,
+    /// The ring was full.
+    Full,
+    /// Nothing is left to offer.
+    Over,
+}
+
+impl Offered {
+    // What came of these and of others.
+    pub(crate) fn and(self, other: Offered) -> Offered
+        ensures over { result ≡ Offered.Over → (self ≡ Offered.Over) × (other ≡ Offered.Over) }
+        ensures full { result ≡ Offered.Full → (self ≡ Offered.Full) ⊎ (other ≡ Offered.Full) }
+    {
+        match (self, other) {
+            (Offered::Sent, _) | (_, Offered::Sent) => Offered::Sent,
+            (Offered::Full, _) | (_, Offered::Full) => Offered::Full,
+            (Offered::Over, Offered::Over) => Offered::Over,
+        }
+    }
+}
+
+/// A sensor's seat, with how many items of its feed it has sent.
+#[derive(Drop)]
+pub struct Place {
+    pub seat: Seat,
+    pub next: usize,
+    // The next item has passed the gate, as item of this number.
+    pub passed: bool,
+    pub nth: u32,
+}
+
+impl Place {
+    // Offers the next item, which passes the gate before its first offer.
+    fn offer_next<G: Gate>(&mut self, sensor: Sensor, items: &[Item], gate: &G) -> Offered
+        requires { items_sent self.old.seat ≡ take self.old.next items.now }
+        ensures seat { SameSeat self.old.seat self.new.seat }
+        ensures sent { items_sent self.new.seat ≡ take self.new.next items.now }
+    {
+        if self.next >= items.len() {
+            return Offered::Over;
+        }
+        if !self.passed {
+            self.nth = self.nth.saturating_add(1);
+            gate.pass(sensor.number(), self.nth);
+            self.passed = true;
+        }
+        match self.seat.offer(items[self.next]) {
+            Ok(()) => {
+                self.next += 1;
+                self.passed = false;
+                Offered::Sent
+            }
+            Err(OfferRefused::Full { .. }) => Offered::Full,
+            // Feeds are feeds, so no item of them is refused.
+            Err(OfferRefused::Item(_)) => Offered::Over,
+        }
+    }
+
+    /// Offers items up to one for which there is no room, and at most as many as a ring has room for.
+    pub fn serve<G: Gate>(&mut self, sensor: Sensor, items: &[Item], gate: &G) -> Offered
+        requires { items_sent self.old.seat ≡ take self.old.next items.now }
+        ensures seat { SameSeat self.old.seat self.new.seat }
+        ensures sent { items_sent self.new.seat ≡ take self.new.next items.now }
+    {
+        let from = self.next;
+        for _ in 0..SLOTS {
+            match self.offer_next(sensor, items, gate) {
+                Offered::Sent => {}
+                Offered::Full if from == self.next => return Offered::Full,
+                Offered::Full => return Offered::Sent,
+                Offered::Over => return Offered::Over,
+            }
+        }
+        Offered::Sent
+    }
+}
+
+// The same of a sensor that may be at another worker.
+pub fn serve_some<G: Gate>(
+    place: &mut Option<Place>,
+    sensor: Sensor,
+    feeds: &Feeds,
+    gate: &G,
+) -> Offered
+    requires { IsBegun (items_of sensor feeds.now) place.old }
+    ensures { Goes (items_of sensor feeds.now) place.old place.new }
+{
+    match place {
+        Some(place) => place.serve(sensor, feeds.of(sensor), gate),
+        None => Offered::Over,
+    }
+}
