@@ -9,6 +9,10 @@ use Rattle.edr_spell.specs.declared.Row.TheVariants as row
 use Rattle.edr_spell.specs.Rows.{AreRows, highest_u32}
 use Rattle.edr_spell.specs.Samples.{Sample, row_for, feeds_given}
 
+-- the most bytes that a trace may have
+abbrev pub largest_trace : ℕ
+largest_trace = 67108864
+
 -- a cycle whose start is stopped: it has no further rows
 abbrev pub stopped_cycle : ℕ → CycleInput
 stopped_cycle k = record { start_stop = k; feeds = no_items; stop = 0 }
