@@ -7,10 +7,9 @@ use Rattle.edr_image.specs.Image.{View}
 use Rattle.edr_image.specs.declared.OpenFault.TheVariants as open_fault
 use Rattle.edr_image.specs.Image.{image_refusal}
 use Rattle.edr_spell.specs.declared.CycleInput.{CycleInput}
-use Rattle.edr_spell.specs.Spell.{Spell}
+use Rattle.edr_spell.specs.Spell.{Spell, largest_trace}
 use Rattle.edr_spell.specs.Fault.{Fault as IsFaultOf}
 use Rattle.edr_spell.proofs.LawLemmas.{spell-not_fault, spell-one}
-use Rattle.edr_trace.specs.declared.TheConstants.{LARGEST_TRACE}
 use Rattle.edr_run.specs.Cycle.{Outcome, last_count}
 use Rattle.edr_report.specs.declared.faults.Fault.{Fault}
 use Rattle.edr_report.specs.declared.faults.Fault.TheVariants as fault
@@ -39,13 +38,13 @@ spent_none bytes image new cs v n spelled says room s =
     let room' : s.count + length s.cycles ≤ last_count = subst (λ (m : ℕ). m + length s.cycles ≤ last_count) (sym view) (subst (λ (xs : List CycleInput). n + length xs ≤ last_count) (sym same) room) in
     not_spent s.cycles s.store s.count s.outcome room' s.ran
 
-pub only_memory : (i i' : Input) (old new : Memory) (f : Fault) (bytes image : List ℕ) (cs : List CycleInput) (v : Store) (n : ℕ) → i.left ≡ Some bytes → length bytes ≤ LARGEST_TRACE → Spell bytes cs
+pub only_memory : (i i' : Input) (old new : Memory) (f : Fault) (bytes image : List ℕ) (cs : List CycleInput) (v : Store) (n : ℕ) → i.left ≡ Some bytes → length bytes ≤ largest_trace → Spell bytes cs
     → old.content ≡ Some image → Says image v n → n + length cs ≤ last_count → ¬ Rose i.faults i'.faults → ¬ Rose old.faults new.faults → IsReplayCause i i' old new f → f ≡ fault.OutOfMemory
 only_memory i i' old new (fault.Trace t) bytes image cs v n left within spelled told says room calm quiet cause =
-    absurd (spell-not_fault bytes cs t spelled (told_is (λ b. (length b ≤ LARGEST_TRACE) × IsFaultOf b t) i.left bytes left cause.0.0).1)
+    absurd (spell-not_fault bytes cs t spelled (told_is (λ b. (length b ≤ largest_trace) × IsFaultOf b t) i.left bytes left cause.0.0).1)
 only_memory i i' old new fault.Read bytes image cs v n left within spelled told says room calm quiet cause = absurd (calm cause.0)
 only_memory i i' old new fault.TooLong bytes image cs v n left within spelled told says room calm quiet cause =
-    absurd (let more = too_many LARGEST_TRACE bytes i.left i'.left left cause.0 in omega (arith, more, within))
+    absurd (let more = too_many largest_trace bytes i.left i'.left left cause.0 in omega (arith, more, within))
 only_memory i i' old new fault.Store bytes image cs v n left within spelled told says room calm quiet cause = absurd (quiet cause.1)
 only_memory i i' old new (fault.Short size needed) bytes image cs v n left within spelled told says room calm quiet cause =
     absurd (says_refused image v n (open_fault.Short size needed) says (told_is (λ b. image_refusal b ≡ Some (open_fault.Short size needed)) old.content image told cause.1.0.0))

@@ -17,9 +17,8 @@ use Rattle.edr_image.specs.Image.{View, view_of}
 use Rattle.edr_image.specs.Kept.{AreKept}
 use Rattle.edr_image.specs.Reports.{Ran}
 use Rattle.edr_spell.specs.declared.CycleInput.{CycleInput}
-use Rattle.edr_spell.specs.Spell.{Spell}
+use Rattle.edr_spell.specs.Spell.{Spell, largest_trace}
 use Rattle.edr_spell.specs.Fault.{Fault as IsFaultOf}
-use Rattle.edr_trace.specs.declared.TheConstants.{LARGEST_TRACE}
 use Rattle.edr_run.specs.Cycle.{Outcome, IsRun}
 use Rattle.edr_run.specs.Logged.{IsLogged, NoTakeBetween}
 use Rattle.edr_run.specs.Own.{IsInWindow}
@@ -73,7 +72,7 @@ KeepsDone cycles o = (k j l m : ℕ) (a : IsLockAck cycles o k j m) (done : Ack)
 
 -- a trace may have so many bytes, and they spell these cycles
 abbrev pub IsTraceOf : List CycleInput → List ℕ → Type 0
-IsTraceOf cycles bytes = (length bytes ≤ LARGEST_TRACE) × Spell bytes cycles
+IsTraceOf cycles bytes = (length bytes ≤ largest_trace) × Spell bytes cycles
 
 -- the run of the trace of these bytes over this image, with its report
 pub record TheRun (form : Form) (bytes image : List ℕ) (new : Memory) (text : List ℕ) : Type 0 where
@@ -152,9 +151,9 @@ pub record RanSome (bytes image : List ℕ) (new : Memory) : Type 0 where
 
 -- why a source gave no trace; one that gave too much was read for one byte past the most that a trace may have
 abbrev pub IsTraceCause : Input → Input → Fault → Type 0
-IsTraceCause i i' (fault.Trace t) = IfSome i.left (λ bytes. (length bytes ≤ LARGEST_TRACE) × IsFaultOf bytes t) × IsAtEnd i'.left
+IsTraceCause i i' (fault.Trace t) = IfSome i.left (λ bytes. (length bytes ≤ largest_trace) × IsFaultOf bytes t) × IsAtEnd i'.left
 IsTraceCause i i' fault.Read = Rose i.faults i'.faults
-IsTraceCause i i' fault.TooLong = Told (GivesTooMany LARGEST_TRACE) i.left i'.left
+IsTraceCause i i' fault.TooLong = Told (GivesTooMany largest_trace) i.left i'.left
 IsTraceCause i i' fault.OutOfMemory = ⊤
 IsTraceCause i i' fault.Usage = ⊥
 IsTraceCause i i' fault.Store = ⊥

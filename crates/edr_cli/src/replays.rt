@@ -3,8 +3,7 @@ ghost use Rattle.std.specs.Prelude.{◌≡◌, ◌+◌, ◌≤◌, All, IfOk, If
 ghost use Rattle.edr_device.specs.Device.{StillTells};
 ghost use Rattle.edr_device.specs.Told.{Told};
 ghost use Rattle.edr_device.specs.Transfer.{GivesAtMost};
-ghost use Rattle.edr_spell.specs.Spell.{IsCycle};
-ghost use Rattle.edr_trace.specs.declared.TheConstants.{LARGEST_TRACE};
+ghost use Rattle.edr_spell.specs.Spell.{IsCycle, largest_trace};
 ghost use Rattle.edr_replay.specs.Past.{LeavesPast};
 ghost use Rattle.edr_cli.specs.Outside.{IsAtEnd, input, memory};
 ghost use Rattle.edr_cli.specs.Runs.{IsReplayCause, RunIs};
@@ -41,7 +40,7 @@ pub(crate) fn replay_source<S: Source, N: Nvm>(
     nvm: &mut N,
     form: Form,
 ) -> Result<Vec<u8>, Fault>
-    ensures takes { Told (GivesAtMost (LARGEST_TRACE + 1)) (S.left source.old) (S.left source.new) }
+    ensures takes { Told (GivesAtMost (largest_trace + 1)) (S.left source.old) (S.left source.new) }
     ensures source_later { S.faults source.old ≤ S.faults source.new }
     ensures size { N.extent nvm.new ≡ N.extent nvm.old }
     ensures device { N.goes_on nvm.old nvm.new }

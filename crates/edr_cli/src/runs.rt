@@ -9,9 +9,8 @@ ghost use Rattle.edr_image.specs.declared.Header.{Header};
 ghost use Rattle.edr_image.specs.Banks.{Store};
 ghost use Rattle.edr_image.specs.Image.{image_refusal, image_size};
 ghost use Rattle.edr_banks.specs.Formatting.{IsPartlyFormatted, LacksMagic};
-ghost use Rattle.edr_spell.specs.Spell.{Spell};
+ghost use Rattle.edr_spell.specs.Spell.{Spell, largest_trace};
 ghost use Rattle.edr_spell.specs.declared.CycleInput.{CycleInput};
-ghost use Rattle.edr_trace.specs.declared.TheConstants.{LARGEST_TRACE};
 ghost use Rattle.edr_run.specs.Cycle.{last_count};
 ghost use Rattle.edr_replay.specs.Past.{LeavesPast};
 ghost use Rattle.edr_report.specs.Faults.{fault_line};
@@ -49,7 +48,7 @@ pub fn command<S: Source, K: Sink, N: Nvm>(
 ) -> Status
     // What is lent is handed back as it was lent: the same device of the same size, which tells its bytes if it did, and no count
     // of faults that falls. Of the source no more is taken than tells that it gives too much.
-    ensures takes { Told (GivesAtMost (LARGEST_TRACE + 1)) (S.left source.old) (S.left source.new) }
+    ensures takes { Told (GivesAtMost (largest_trace + 1)) (S.left source.old) (S.left source.new) }
     ensures device { N.goes_on nvm.old nvm.new }
     ensures size { N.extent nvm.new ≡ N.extent nvm.old }
     ensures tells { StillTells (N.content nvm.old) (N.content nvm.new) }
@@ -92,7 +91,7 @@ pub fn command<S: Source, K: Sink, N: Nvm>(
         → LeavesPast (N.content nvm.old) (N.settled nvm.old) (N.content nvm.new) (N.settled nvm.new) }
     // Where nothing counts a fault, a trace is run over an image that isn't refused and has numbers left.
     ensures complete { (form : Form) (bytes image : List ℕ) (cycles : List CycleInput) (v : Store) (n : ℕ) → AreReplay form words.now
-        → S.left source.old ≡ Some bytes → length bytes ≤ LARGEST_TRACE → Spell bytes cycles
+        → S.left source.old ≡ Some bytes → length bytes ≤ largest_trace → Spell bytes cycles
         → N.content nvm.old ≡ Some image → Says image v n → n + length cycles ≤ last_count
         → ¬ Rose (S.faults source.old) (S.faults source.new) → ¬ Rose (N.faults nvm.old) (N.faults nvm.new) → ¬ Rose (K.faults sink.old) (K.faults sink.new)
         → (result ≡ Status.Ok) ⊎ (result ≡ Status.OutOfMemory) }

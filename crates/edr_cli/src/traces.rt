@@ -3,8 +3,7 @@ ghost use Rattle.std.specs.Prelude.{◌≡◌, ◌≢◌, ◌+◌, ◌≤◌, �
 ghost use Rattle.edr_device.specs.Faults.{Rose};
 ghost use Rattle.edr_device.specs.Told.{Told};
 ghost use Rattle.edr_device.specs.Transfer.{Carries, GivesAll, GivesAtMost, GivesTooMany, IsAnswerWithin};
-ghost use Rattle.edr_trace.specs.declared.TheConstants.{LARGEST_TRACE};
-ghost use Rattle.edr_spell.specs.Spell.{IsCycle};
+ghost use Rattle.edr_spell.specs.Spell.{IsCycle, largest_trace};
 ghost use Rattle.edr_cli.specs.Outside.{IsAtEnd, input};
 ghost use Rattle.edr_cli.specs.Runs.{IsTraceCause, IsTraceOf};
 
@@ -77,7 +76,7 @@ pub(crate) fn trace_of<S: Source>(alloc: Global, source: &mut S) -> Result<Vec<C
     ensures spelled { IfOk result (λ cycles. IfSome (S.left source.old) (IsTraceOf cycles.items)) }
     ensures cycles { IfOk result (λ cycles. All IsCycle cycles.items) }
     ensures cause { IfErr result (IsTraceCause (input S.left S.faults source.old) (input S.left S.faults source.new)) }
-    ensures takes { Told (GivesAtMost (LARGEST_TRACE + 1)) (S.left source.old) (S.left source.new) }
+    ensures takes { Told (GivesAtMost (largest_trace + 1)) (S.left source.old) (S.left source.new) }
     ensures later { S.faults source.old ≤ S.faults source.new }
 {
     let pieces = match take_pieces(alloc, source, LARGEST_TRACE as usize) {

@@ -1,13 +1,14 @@
 //! Reads a trace: the ignition cycles that its bytes spell, or the first row that has a fault.
 #![tactic(auto)]
 
+pub mod laws;
 mod parse;
 mod pieces;
 mod plain;
 mod steps;
 
 ghost use Rattle.std.specs.Prelude.{◌≡◌, ◌≤◌, ◌<◌, ◌+◌, ◌^◌, ◌++◌, ℕ, List, Some, length, IfOk, IfErr, MatchResult, ◌⊎◌, All};
-ghost use Rattle.edr_spell.specs.Spell.{Spell, IsCycle};
+ghost use Rattle.edr_spell.specs.Spell.{Spell, IsCycle, largest_trace};
 ghost use Rattle.edr_spell.specs.Fault.{Fault};
 ghost use Rattle.csv.specs.declared.parser.State.TheVariants.{StartRecord};
 ghost use Rattle.edr_trace.specs.Told.{Tells};
@@ -44,7 +45,7 @@ pub enum ReadRefused {
 /// assert_eq!(cycles[0].feeds.of(Sensor::Along).len(), 1);
 /// ```
 pub fn read(alloc: Global, bytes: &[u8]) -> Result<Vec<CycleInput>, ReadRefused>
-    requires { length bytes.now ≤ LARGEST_TRACE }
+    requires { length bytes.now ≤ largest_trace }
     ensures spelled { IfOk result (λ v. Spell bytes.now v.items) }
     ensures refused { IfErr result (λ e. Tells bytes.now e) }
     ensures cycles { IfOk result (λ v. All IsCycle v.items) }
@@ -58,7 +59,7 @@ pub fn read(alloc: Global, bytes: &[u8]) -> Result<Vec<CycleInput>, ReadRefused>
 
 /// The same of bytes in pieces, each of which is freed once it is read.
 pub fn read_pieces(alloc: Global, pieces: Pieces) -> Result<Vec<CycleInput>, ReadRefused>
-    requires { length pieces ≤ LARGEST_TRACE }
+    requires { length pieces ≤ largest_trace }
     ensures spelled { IfOk result (λ v. Spell pieces v.items) }
     ensures refused { IfErr result (λ e. Tells pieces e) }
     ensures cycles { IfOk result (λ v. All IsCycle v.items) }
@@ -70,7 +71,7 @@ pub fn read_pieces(alloc: Global, pieces: Pieces) -> Result<Vec<CycleInput>, Rea
 
 // The bytes of a slice: the plain rows at first, and then what is left by csv.
 fn read_bytes(alloc: Global, bytes: &[u8]) -> Result<Vec<CycleInput>, ReadRefused>
-    requires { length bytes.now ≤ LARGEST_TRACE }
+    requires { length bytes.now ≤ largest_trace }
     ensures spelled { IfOk result (λ v. Spell bytes.now v.items) }
     ensures refused { IfErr result (λ e. Tells bytes.now e) }
 {
@@ -82,7 +83,7 @@ fn read_bytes(alloc: Global, bytes: &[u8]) -> Result<Vec<CycleInput>, ReadRefuse
 
 // The same of bytes in pieces.
 fn read_each(alloc: Global, pieces: Pieces) -> Result<Vec<CycleInput>, ReadRefused>
-    requires { length pieces ≤ LARGEST_TRACE }
+    requires { length pieces ≤ largest_trace }
     ensures spelled { IfOk result (λ v. Spell pieces v.items) }
     ensures refused { IfErr result (λ e. Tells pieces e) }
 {
@@ -129,7 +130,7 @@ fn read_rest<R: Read + Drop>(
     rows: u32,
     source: R,
 ) -> Result<Vec<CycleInput>, ReadRefused>
-    requires { (bytes : List ℕ) × (R.remaining source ≡ Some bytes) × (rows + length bytes ≤ LARGEST_TRACE) }
+    requires { (bytes : List ℕ) × (R.remaining source ≡ Some bytes) × (rows + length bytes ≤ largest_trace) }
     ensures spelled { IfOk result (λ v. (whole bytes : List ℕ) → R.remaining source ≡ Some bytes → SoFar whole StartRecord (unread rows bytes) trace.cycles.items trace.inside rows → Spell whole v.items) }
     ensures refused { IfErr result (λ e. (whole bytes : List ℕ) → R.remaining source ≡ Some bytes → SoFar whole StartRecord (unread rows bytes) trace.cycles.items trace.inside rows → Tells whole e) }
 {

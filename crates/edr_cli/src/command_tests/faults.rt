@@ -193,20 +193,38 @@ impl Source for Zeros {
     }
 }
 
-// One byte more than a trace may have.
-#[test]
-fn a_source_that_gives_too_much_is_told(rt: HostRuntime) -> Result<(), Fail> {
+// A replay of so many zero bytes over a new image, and what is told of them.
+fn check_zeros<R: Abort + AllocGlobal>(
+    rt: &R,
+    left: usize,
+    status: Status,
+    line: &str,
+) -> Result<(), Fail> {
     let alloc = rt.alloc();
-    let mut source = Zeros {
-        left: 67_108_865,
-        faults: 0,
-    };
+    let mut source = Zeros { left, faults: 0 };
     let words = words_of(alloc, &["replay"])?;
     let mut sink = MemSink::new(alloc, 100, 100, Vec::new(alloc))?;
     let mut memory = kept_memory(alloc)?;
-    let status = command(alloc, &words, &mut source, &mut sink, &mut memory);
-    assert_eq!(rt; status, Status::TooLong);
-    assert_eq!(rt; sink.bytes(), b"fault: too long\n".as_slice());
+    let told = command(alloc, &words, &mut source, &mut sink, &mut memory);
+    assert_eq!(rt; told, status);
+    assert_eq!(rt; sink.bytes(), line.as_bytes());
     assert_eq!(rt; memory.image(), new_image(2, KEEP).as_slice());
     Ok(())
+}
+
+// As many bytes as a trace may have are read to the fault of their one row.
+#[test]
+fn a_source_that_gives_the_most_is_read(rt: HostRuntime) -> Result<(), Fail> {
+    check_zeros(
+        &rt,
+        67_108_864,
+        Status::Trace,
+        "fault: trace row 1: fields 1\n",
+    )
+}
+
+// One byte more than a trace may have.
+#[test]
+fn a_source_that_gives_too_much_is_told(rt: HostRuntime) -> Result<(), Fail> {
+    check_zeros(&rt, 67_108_865, Status::TooLong, "fault: too long\n")
 }
