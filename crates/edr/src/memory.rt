@@ -1,6 +1,6 @@
 //! The file `edr.nvm` as the memory of the records: the edge that is trusted and not proved, since no contract can say what
 //! a file keeps.
-ghost use Rattle.std.specs.Prelude.{◌≡◌, ◌+◌, ◌≤◌, ◌<◌, ◌^◌, length, IsErr, OnErr};
+ghost use Rattle.std.specs.Prelude.{◌≡◌, ◌+◌, ◌≤◌, ◌<◌, ◌^◌, length, IsErr, IsFalse, OnErr};
 ghost use Rattle.edr_device.specs.Device.{Ticks};
 ghost use Rattle.edr_device.specs.Faults.{HasCause, last_number, next_number};
 
@@ -58,6 +58,7 @@ impl<R> FileNvm<R> {
         ensures size { self.new.size ≡ self.old.size }
         ensures time { Ticks self.old.clock self.new.clock self.old.last_good self.new.last_good result }
         ensures full { self.old.clock ≡ last_number → IsErr result }
+        ensures undone { IsFalse done → IsErr result }
         ensures cause { HasCause self.old.faults self.new.faults result }
     {
         if self.clock == u64::MAX {
