@@ -5,6 +5,7 @@ mod crashes;
 mod cuts;
 mod drives;
 mod events;
+mod every_call;
 mod expected;
 mod faults;
 mod formats;

@@ -4,6 +4,7 @@ use super::drives::{Drive, blow, gap, quiet, struck, trace_of};
 use super::expected::{COUNTED_ONE, STRUCK_CYCLE, STRUCK_EVENT, changed, joined};
 use super::{KEEP, Run, SIZE, check_run, kept_memory, memory_of, new_image, put, replayed, run_of};
 use crate::Status;
+use std::alloc::AllocError;
 use std::process::Abort;
 use std::test::Fail;
 
@@ -144,6 +145,36 @@ fn a_drive_without_rows_is_counted(rt: HostRuntime) -> Result<(), Fail> {
         "cycle 1: number 2, power off\ncycle 2: number 3, power off\nignition cycle, download: 3\n";
     let trace = "on,0,\ncut,0,\non,0,\ncut,7,\n";
     check_run(&rt, replayed(trace, three), &mut memory)
+}
+
+const SENSORS: [&str; 8] = [
+    "along",
+    "across",
+    "speed",
+    "throttle",
+    "brake",
+    "belt",
+    "lamp",
+    "restraint",
+];
+
+// A row of each sensor that is silent.
+fn push_silence(trace: &mut String, moment: u32) -> Result<(), AllocError> {
+    for sensor in SENSORS {
+        write!(trace, "{sensor},{moment},\n")?;
+    }
+    Ok(())
+}
+
+#[test]
+fn an_hour_of_silence_is_counted(rt: HostRuntime) -> Result<(), Fail> {
+    let mut trace = String::from_str(rt.alloc(), "on,0,\n")?;
+    for second in 1..=3600u32 {
+        push_silence(&mut trace, 1000 * second)?;
+    }
+    trace.push_str("cut,0,\n")?;
+    let one = "cycle 1: number 1, power off\nignition cycle, download: 1\n";
+    check_run(&rt, replayed(&trace, one), &mut kept_memory(rt.alloc())?)
 }
 
 #[test]

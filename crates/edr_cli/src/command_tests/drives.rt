@@ -90,6 +90,16 @@ pub(crate) const TENSED: Drive<'static> = Drive {
     stop: 0,
 };
 
+/// A drive in which an air bag fires at 7 s.
+pub(crate) const DEPLOYED: Drive<'static> = Drive {
+    ticks: 8000,
+    along: &[],
+    across: &[],
+    fired: &[(7000, 1)],
+    speeds_up: false,
+    stop: 0,
+};
+
 fn push_axis(
     trace: &mut String,
     axis: &str,

@@ -1,40 +1,15 @@
 //! Events of restraints, of one cycle or several, and the banks that they are given.
 
-use super::drives::{Drive, TENSED, fired, struck, trace_of};
-use super::expected::{COUNTED_ONE, STRUCK_EVENT, TENSED_EVENT, TENSED_TWICE, changed, joined};
+use super::drives::{DEPLOYED, Drive, TENSED, fired, struck, trace_of};
+use super::expected::{
+    COUNTED_ONE, DEPLOYED_CYCLE, STRUCK_EVENT, TENSED_EVENT, TENSED_TWICE, bag_event, changed,
+    joined,
+};
 use super::{KEEP, OVERWRITE, check_run, memory_of, new_image, replayed};
 use edr_device::MemNvm;
 use std::alloc::{AllocError, Global};
 use std::process::Abort;
 use std::test::Fail;
-
-// An air bag fires at 7 s.
-const DEPLOYED: Drive<'static> = Drive {
-    ticks: 8000,
-    along: &[],
-    across: &[],
-    fired: &[(7000, 1)],
-    speeds_up: false,
-    stop: 0,
-};
-
-// What the record of an air bag at its time zero says.
-const FIRED_BAG: [(&str, &str); 3] = [
-    ("deployment event", "yes"),
-    ("driver frontal deployment", "0 ms"),
-    ("driver pretensioner deployment", "none"),
-];
-
-// The record of the air bag with its place in a report and its bank, of the cycle with the same number.
-fn bag_event(alloc: Global, place: &str) -> Result<String, AllocError> {
-    let bag = changed(alloc, TENSED_EVENT, &FIRED_BAG)?;
-    let changes = [
-        ("event", place),
-        ("bank", place),
-        ("ignition cycle, crash", place),
-    ];
-    changed(alloc, &bag, &changes)
-}
 
 // The record of a pretensioner in a CYCLE, with its place in a report and its bank.
 fn tensed_event(alloc: Global, place: &str, bank: &str, cycle: &str) -> Result<String, AllocError> {
@@ -59,14 +34,10 @@ fn check_drives<R: Abort + AllocGlobal>(
 
 #[test]
 fn an_air_bag_alone_locks_its_event(rt: HostRuntime) -> Result<(), Fail> {
-    const CYCLE: &str = "cycle 1: number 1, power off
-cycle 1 take at 7000: bank 1
-cycle 1 lock at 7000: bank 1
-cycle 1 done at 7050: bank 1
-";
     let event = bag_event(rt.alloc(), "1")?;
     let mut memory = memory_of(rt.alloc(), &new_image(2, KEEP), &[], 0)?;
-    check_drives(&rt, &[DEPLOYED], &mut memory, &[CYCLE, &event, COUNTED_ONE])
+    let report = [DEPLOYED_CYCLE, &event, COUNTED_ONE];
+    check_drives(&rt, &[DEPLOYED], &mut memory, &report)
 }
 
 #[test]

@@ -90,6 +90,13 @@ cycle 1 take at 6020: bank 1
 cycle 1 done at 6148: bank 1
 ";
 
+/// The lines of the first cycle in which an air bag fires at 7 s.
+pub(crate) const DEPLOYED_CYCLE: &str = "cycle 1: number 1, power off
+cycle 1 take at 7000: bank 1
+cycle 1 lock at 7000: bank 1
+cycle 1 done at 7050: bank 1
+";
+
 /// The last line after one cycle.
 pub(crate) const COUNTED_ONE: &str = "ignition cycle, download: 1\n";
 
@@ -131,4 +138,22 @@ pub(crate) fn joined(alloc: Global, texts: &[&str]) -> Result<String, AllocError
         out.push_str(text)?;
     }
     Ok(out)
+}
+
+// What the record of an air bag at its time zero says.
+const FIRED_BAG: [(&str, &str); 3] = [
+    ("deployment event", "yes"),
+    ("driver frontal deployment", "0 ms"),
+    ("driver pretensioner deployment", "none"),
+];
+
+/// The record of the air bag with its place in a report and its bank, of the cycle with the same number.
+pub(crate) fn bag_event(alloc: Global, place: &str) -> Result<String, AllocError> {
+    let bag = changed(alloc, TENSED_EVENT, &FIRED_BAG)?;
+    let changes = [
+        ("event", place),
+        ("bank", place),
+        ("ignition cycle, crash", place),
+    ];
+    changed(alloc, &bag, &changes)
 }

@@ -1,7 +1,7 @@
 //! Images that are refused, damaged records, and counts near their limits.
 ghost use Rattle.std.specs.Prelude.{◌≤◌};
 
-use super::drives::{fired, struck, trace_of};
+use super::drives::{DEPLOYED, struck, trace_of};
 use super::expected::{COUNTED_ONE, STRUCK_CYCLE, STRUCK_EVENT, changed, joined};
 use super::{KEEP, SIZE, check_run, image_of, kept_memory, memory_of, new_image, replayed, run_of};
 use crate::Status;
@@ -191,11 +191,11 @@ fn open_image() -> [u8; SIZE] {
 // Each gate is open, so no bank is free for an event.
 #[test]
 fn damaged_banks_that_are_locked_take_no_event(rt: HostRuntime) -> Result<(), Fail> {
-    let trace = trace_of(rt.alloc(), &[fired(200, &[(100, 1)])])?;
+    let trace = trace_of(rt.alloc(), &[DEPLOYED])?;
     let report = "cycle 1: number 1, power off
-cycle 1 take at 100: not kept
-cycle 1 lock at 100: not kept
-cycle 1 done at 150: not kept
+cycle 1 take at 7000: not kept
+cycle 1 lock at 7000: not kept
+cycle 1 done at 7050: not kept
 bank 1: damaged at 20 found 165 locked yes
 bank 2: damaged at 20 found 165 locked yes
 ignition cycle, download: 1

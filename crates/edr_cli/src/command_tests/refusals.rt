@@ -107,14 +107,19 @@ const CUT_OFF: [(usize, usize, &str); 8] = [
 
 #[test]
 fn a_trace_that_is_cut_off_anywhere_is_told(rt: HostRuntime) -> Result<(), Fail> {
-    let trace = "on,0,\nalong,1,5\ncut,0,";
+    let trace = "on,0,\nalong,1,5\ncut,0,\n";
     for (first, last, line) in CUT_OFF {
         for end in first..=last {
             check_refused(&rt, trace.as_bytes().get(..end).unwrap_or(b""), line)?;
         }
     }
-    let report = "cycle 1: number 1, power off\nignition cycle, download: 1\n";
-    check_run(&rt, replayed(trace, report), &mut kept_memory(rt.alloc())?)
+    let none = "ignition cycle, download: 0\n";
+    let one = "cycle 1: number 1, power off\nignition cycle, download: 1\n";
+    for (end, report) in [(0usize, none), (22, one), (23, one)] {
+        let trace = trace.get(..end).unwrap_or("");
+        check_run(&rt, replayed(trace, report), &mut kept_memory(rt.alloc())?)?;
+    }
+    Ok(())
 }
 
 #[test]
