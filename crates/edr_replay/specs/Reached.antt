@@ -1,10 +1,14 @@
 -- What a run comes to that ends early: between two cycles, or by a stop inside one that needn't be planned.
-use Rattle.std.specs.Prelude.{◌≡◌, ℕ, ◌+◌, ◌<◌, ◌≤◌, Some, List, length, slice_get, take}
+use Rattle.std.specs.Prelude.{◌≡◌, ℕ, ◌+◌, ◌<◌, ◌≤◌, ◌⊎◌, Some, List, length, slice_get, take}
+use Rattle.edr_record.specs.declared.Record.{Record}
+use Rattle.edr_image.specs.declared.BankView.{BankView}
+use Rattle.edr_image.specs.declared.BankView.TheVariants as bank
 use Rattle.edr_image.specs.Banks.{Store}
 use Rattle.edr_image.specs.Steps.{Step}
 use Rattle.edr_image.specs.Calls.{IsStop}
 use Rattle.edr_spell.specs.declared.CycleInput.{CycleInput}
 use Rattle.edr_run.specs.Cycle.{End, Outcome, IsCycle, IsRun, cut_end, last_count, start_end, steps_in}
+use Rattle.edr_run.specs.Own.{IsRecordOf}
 
 -- a stop in a call of the start of the cycle, or in a call of its commands, came to this end
 pub data IsStopIn (c : CycleInput) (v : Store) (n : ℕ) (e : End) : Type 0 where
@@ -27,3 +31,9 @@ pub record RanFirst (cs : List CycleInput) (v : Store) (n p : ℕ) (o : Outcome)
 pub data IsReached (cs : List CycleInput) (v : Store) (n : ℕ) (w : Store) (m : ℕ) : Type 0 where
   between : (p : ℕ) (o : Outcome) → RanFirst cs v n p o → w ≡ o.store → m ≡ o.count → IsReached cs v n w m
   inside : (p : ℕ) (o : Outcome) (c : CycleInput) (e : End) → RanFirst cs v n p o → slice_get cs p ≡ Some c → o.count < last_count → IsStopIn c o.store o.count e → w ≡ e.store → m ≡ e.count → IsReached cs v n w m
+
+-- an event up to the count n stood in its bank at first; one above it is an event of one of the cycles
+abbrev pub IsOfCycles : List CycleInput → List BankView → ℕ → ℕ → Record → Type 0
+IsOfCycles cs first n i r =
+    ((r.pre.key.cycle ≤ n) × (slice_get first i ≡ Some (bank.Event r)))
+    ⊎ ((n < r.pre.key.cycle) × (k : ℕ) × (c : CycleInput) × (slice_get cs k ≡ Some c) × IsRecordOf c.feeds r.pre.key.cycle r)

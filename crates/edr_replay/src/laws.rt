@@ -6,7 +6,7 @@ ghost use Rattle.edr_image.specs.declared.BankView.TheVariants.{Event};
 ghost use Rattle.edr_image.specs.Banks.{Store};
 ghost use Rattle.edr_image.specs.Kept.{AreKept};
 ghost use Rattle.edr_spell.specs.declared.CycleInput.{CycleInput};
-ghost use Rattle.edr_replay.specs.Reached.{IsReached};
+ghost use Rattle.edr_replay.specs.Reached.{IsOfCycles, IsReached};
 
 /// Banks that were kept at first are kept wherever the run ends.
 pub fn reached_keeps()
@@ -16,4 +16,9 @@ pub fn reached_keeps()
 /// An event that is locked at first stands in its bank as it was, wherever the run ends.
 pub fn reached_leaves_the_locked()
     ensures { (cs : List CycleInput) (v : Store) (n : ℕ) (w : Store) (m i : ℕ) (r : Record) → IsReached cs v n w m → slice_get v.banks i ≡ Some (Event r) → r.locked ≡ true → slice_get w.banks i ≡ Some (Event r) }
+{}
+
+/// Over banks that are kept, each event stood there at first, or is one of the cycles, wherever the run ends.
+pub fn reached_stays_in_window()
+    ensures { (cs : List CycleInput) (v : Store) (n : ℕ) (w : Store) (m i : ℕ) (r : Record) → AreKept v.banks n → IsReached cs v n w m → slice_get w.banks i ≡ Some (Event r) → IsOfCycles cs v.banks n i r }
 {}

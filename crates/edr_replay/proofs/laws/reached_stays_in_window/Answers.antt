@@ -1,0 +1,5 @@
+use Rattle.edr_replay.proofs.ReachedLaws.{reached-own}
+use Rattle.edr_replay.proofs.laws.reached_stays_in_window.Goals as goal
+
+pub returns : goal.returns
+returns c = reached-own
