@@ -20,6 +20,3 @@ pub use crate::orders::{Inbox, Order, Orders, Outbox, make_orders};
 pub use crate::place::{Gate, Offered, Place};
 pub use crate::stand::{Places, Stand};
 pub use crate::threads::{Recording, Serving, start_recorder, start_worker};
-
-#[cfg(test)]
-mod tests;
