@@ -5,6 +5,8 @@
 pub mod laws;
 mod phases;
 #[cfg(test)]
+mod powered_tests;
+#[cfg(test)]
 mod tests;
 
 ghost use Rattle.std.specs.Prelude.{◌≡◌, ◌<◌, ◌≤◌, ℕ, List, IfOk, IfErr, All, length, map, take};

@@ -15,7 +15,7 @@ use std::process::Abort;
 use std::test::Fail;
 
 // A formatted memory with two banks, and a pick for its power cuts.
-fn formatted(alloc: Global, pick: u64) -> Result<MemNvm, Fail> {
+pub(crate) fn formatted(alloc: Global, pick: u64) -> Result<MemNvm, Fail> {
     let image = [0u8; 1_120].to_vec(alloc)?;
     let mut memory = MemNvm::new(alloc, image, 100, Vec::new(alloc), Vec::new(alloc), pick)?;
     Banks::format(&mut memory, 2, Choice::Keep)?;
@@ -53,7 +53,7 @@ fn assert_level(rt: &impl Abort, feeds: &Feeds)
 }
 
 // A cycle whose start is stopped in this call.
-fn stopped(rt: &impl Abort, alloc: Global, call: u32) -> CycleInput
+pub(crate) fn stopped(rt: &impl Abort, alloc: Global, call: u32) -> CycleInput
     requires { call ≤ 6 }
     ensures { IsCycle result }
 {
@@ -67,7 +67,7 @@ fn stopped(rt: &impl Abort, alloc: Global, call: u32) -> CycleInput
 }
 
 // A cycle with an event that is taken, locked and done, stopped in this call.
-fn fired(rt: &impl Abort, alloc: Global, stop: u32) -> Result<CycleInput, Fail>
+pub(crate) fn fired(rt: &impl Abort, alloc: Global, stop: u32) -> Result<CycleInput, Fail>
     ensures { IfOk result IsCycle }
 {
     let feeds = fired_feeds(alloc)?;
