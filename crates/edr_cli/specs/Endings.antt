@@ -4,6 +4,7 @@ use Rattle.edr_device.specs.Stream.{Appends}
 use Rattle.edr_device.specs.Told.{Told}
 use Rattle.edr_device.specs.Transfer.{AppendsPart}
 use Rattle.edr_report.specs.declared.faults.Fault.{Fault}
+use Rattle.edr_report.specs.declared.faults.Fault.TheVariants as fault
 use Rattle.edr_report.specs.Faults.{fault_line}
 use Rattle.edr_cli.specs.declared.status.Status.{Status}
 use Rattle.edr_cli.specs.Status.{status_of}
@@ -16,7 +17,14 @@ Tells IsText old new = (text : List ℕ) × IsText text × Told (Appends text) o
 abbrev pub TellsFault : (Fault → Type 0) → Status → Option (List ℕ) → Option (List ℕ) → Type 0
 TellsFault IsCause status old new = (f : Fault) × IsCause f × (status_of f ≡ status) × Told (Appends (fault_line f)) old new
 
+-- a write failed: the sink gained a part of the line of a fault that has its cause
+abbrev pub TellsFaultPart : (Fault → Type 0) → Option (List ℕ) → Option (List ℕ) → Type 0
+TellsFaultPart IsCause old new = (f : Fault) × IsCause f × Told (AppendsPart (fault_line f)) old new
+
 -- a write failed: the sink gained a part of the text, or of the line of a fault that has its cause
 abbrev pub TellsPart : (List ℕ → Type 0) → (Fault → Type 0) → Option (List ℕ) → Option (List ℕ) → Type 0
-TellsPart IsText IsCause old new =
-    ((text : List ℕ) × IsText text × Told (AppendsPart text) old new) ⊎ ((f : Fault) × IsCause f × Told (AppendsPart (fault_line f)) old new)
+TellsPart IsText IsCause old new = ((text : List ℕ) × IsText text × Told (AppendsPart text) old new) ⊎ TellsFaultPart IsCause old new
+
+-- why words are not served: they ask for nothing that is, or memory ran out while they were read
+abbrev pub IsUsageCause : Fault → Type 0
+IsUsageCause f = (f ≡ fault.Usage) ⊎ (f ≡ fault.OutOfMemory)

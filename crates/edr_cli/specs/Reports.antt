@@ -1,5 +1,5 @@
 -- What an image says, the report of it, and why there is none.
-use Rattle.std.specs.Prelude.{◌≡◌, ◌<◌, ◌≤◌, ℕ, [], List, Some, None, IfSome, ⊤}
+use Rattle.std.specs.Prelude.{◌≡◌, ◌<◌, ◌≤◌, ℕ, [], List, Some, None, IfSome}
 use Rattle.edr_device.specs.Faults.{Rose}
 use Rattle.edr_image.specs.declared.Header.{Header}
 use Rattle.edr_image.specs.declared.OpenFault.{OpenFault}
@@ -89,5 +89,5 @@ IsFormatCause h old new (fault.Trace t) = ⊥
 IsFormatCause h old new fault.Read = ⊥
 IsFormatCause h old new (fault.Header r) = ⊥
 IsFormatCause h old new fault.Spent = ⊥
-IsFormatCause h old new fault.OutOfMemory = ⊥
+IsFormatCause h old new fault.OutOfMemory = new.content ≡ old.content
 IsFormatCause h old new fault.TooLong = ⊥

@@ -1,8 +1,9 @@
 -- Which words are served.
-use Rattle.std.specs.Prelude.{◌≡◌, ℕ, Some, None, List}
+use Rattle.std.specs.Prelude.{◌≡◌, ℕ, Option, Some, None, List, ⊤}
 use Rattle.edr_image.specs.declared.Header.{Header}
 use Rattle.edr_words.specs.declared.Form.{Form}
-use Rattle.edr_words.specs.declared.Job.TheVariants.{Format, Replay, Report}
+use Rattle.edr_words.specs.declared.Job.{Job}
+use Rattle.edr_words.specs.declared.Job.TheVariants.{Format, Replay, Report, Drive, Generate, Large}
 use Rattle.edr_words.specs.Jobs.{job_of}
 
 -- they ask for a new image with this header
@@ -17,6 +18,16 @@ AreReplay form words = job_of words ≡ Some (Replay form)
 abbrev pub AreReport : Form → List (List ℕ) → Type 0
 AreReport form words = job_of words ≡ Some (Report form)
 
+-- the job, if there is one, is none that is served
+abbrev pub IsOther : Option Job → Type 0
+IsOther None = ⊤
+IsOther (Some (Drive workers form)) = ⊤
+IsOther (Some (Generate number cycles)) = ⊤
+IsOther (Some (Large number cycles)) = ⊤
+IsOther (Some (Format banks choice)) = ⊥
+IsOther (Some (Replay form)) = ⊥
+IsOther (Some (Report form)) = ⊥
+
 -- they ask for nothing that is served
 abbrev pub AreOther : List (List ℕ) → Type 0
-AreOther words = job_of words ≡ None
+AreOther words = IsOther (job_of words)

@@ -2,9 +2,8 @@
 ghost use Rattle.std.specs.Prelude.{◌≡◌, ◌≢◌, ◌≤◌, ◌⊎◌, ◌+◌, ℕ, List, Some, None, IfSome, length};
 ghost use Rattle.edr_device.specs.Device.{IsQuiet, MayLeave, StillTells};
 ghost use Rattle.edr_device.specs.Faults.{Rose};
-ghost use Rattle.edr_device.specs.Stream.{Appends};
 ghost use Rattle.edr_device.specs.Told.{Told};
-ghost use Rattle.edr_device.specs.Transfer.{AppendsPart, GivesAtMost};
+ghost use Rattle.edr_device.specs.Transfer.{GivesAtMost};
 ghost use Rattle.edr_image.specs.declared.Header.{Header};
 ghost use Rattle.edr_image.specs.Banks.{Store};
 ghost use Rattle.edr_image.specs.Image.{image_refusal, image_size};
@@ -13,10 +12,8 @@ ghost use Rattle.edr_spell.specs.Spell.{Spell, largest_trace};
 ghost use Rattle.edr_spell.specs.declared.CycleInput.{CycleInput};
 ghost use Rattle.edr_run.specs.Cycle.{last_count};
 ghost use Rattle.edr_replay.specs.Past.{LeavesPast};
-ghost use Rattle.edr_report.specs.Faults.{fault_line};
-ghost use Rattle.edr_report.specs.declared.faults.Fault.TheVariants as fault;
 ghost use Rattle.edr_words.specs.declared.Form.{Form};
-ghost use Rattle.edr_cli.specs.Endings.{Tells, TellsFault, TellsPart};
+ghost use Rattle.edr_cli.specs.Endings.{IsUsageCause, Tells, TellsFault, TellsFaultPart, TellsPart};
 ghost use Rattle.edr_cli.specs.Outside.{IsAtEnd, input, memory};
 ghost use Rattle.edr_cli.specs.Reports.{FormatIs, HasMagic, IsFormatCause, IsImageCause, ReportIs, Says};
 ghost use Rattle.edr_cli.specs.Runs.{IsReplayCause, RunIs};
@@ -31,7 +28,7 @@ use edr_banks::Header;
 use edr_device::{Nvm, Sink, Source};
 use edr_report::Fault;
 use edr_words::{Job, Words};
-use std::alloc::Global;
+use std::alloc::{AllocError as OutOfMemory, Global};
 
 /// Serves the words `format B C`, `replay [text|csv]` and `report [text|csv]`.
 ///
@@ -58,11 +55,11 @@ pub fn command<S: Source, K: Sink, N: Nvm>(
     // Where a write fails, the sink counted it.
     ensures write_fault { result ≡ Status.WriteFault → Rose (K.faults sink.old) (K.faults sink.new) }
 
-    // Other words are a fault of usage, for which nothing is read and the device stays.
+    // Other words are a fault of usage, unless memory runs out. Nothing is read, and the device stays.
     ensures usage { AreOther words.now → result ≢ Status.WriteFault
-        → (result ≡ Status.Usage) × Told (Appends (fault_line fault.Usage)) (K.content sink.old) (K.content sink.new) }
+        → TellsFault IsUsageCause result (K.content sink.old) (K.content sink.new) }
     ensures usage_part { AreOther words.now → result ≡ Status.WriteFault
-        → Told (AppendsPart (fault_line fault.Usage)) (K.content sink.old) (K.content sink.new) }
+        → TellsFaultPart IsUsageCause (K.content sink.old) (K.content sink.new) }
     ensures untouched { AreOther words.now → (source.new ≡ source.old) × (nvm.new ≡ nvm.old) }
 
     // `replay`. With Ok the source is at its end, and the sink gained exactly the report of a run of the cycles that the
@@ -141,9 +138,14 @@ pub fn command<S: Source, K: Sink, N: Nvm>(
         → HasMagic bytes → MayLeave (N.content nvm.new) (N.settled nvm.new) image → image ≡ bytes }
     // Where neither the device nor the sink counts a fault, a device with room and without an image is formatted.
     ensures format_complete { (h : Header) → AreFormat h words.now → ¬ Rose (N.faults nvm.old) (N.faults nvm.new) → ¬ Rose (K.faults sink.old) (K.faults sink.new)
-        → image_size h.banks ≤ N.extent nvm.old → IfSome (N.content nvm.old) (λ bytes. LacksMagic bytes → result ≡ Status.Ok) }
+        → image_size h.banks ≤ N.extent nvm.old
+        → IfSome (N.content nvm.old) (λ bytes. LacksMagic bytes → (result ≡ Status.Ok) ⊎ (result ≡ Status.OutOfMemory)) }
 {
-    match words.job() {
+    let job = match words.job(alloc) {
+        Ok(job) => job,
+        Err(OutOfMemory) => return tell(sink, Fault::OutOfMemory),
+    };
+    match job {
         Some(Job::Replay { form }) => match replay_source(alloc, source, nvm, form) {
             Ok(text) => write(sink, &text, Status::Ok),
             Err(fault) => tell(sink, fault),
@@ -156,6 +158,8 @@ pub fn command<S: Source, K: Sink, N: Nvm>(
             Ok(line) => write(sink, line.as_bytes(), Status::Ok),
             Err(fault) => tell(sink, fault),
         },
-        None => tell(sink, Fault::Usage),
+        Some(Job::Drive { .. } | Job::Generate { .. } | Job::Large { .. }) | None => {
+            tell(sink, Fault::Usage)
+        }
     }
 }

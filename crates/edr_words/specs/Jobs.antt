@@ -1,74 +1,115 @@
 -- Which words name which job.
-use Rattle.std.specs.Prelude.{ℕ, ◌≤◌, nat_le, ◌&&◌, if◌then◌else◌, Option, Some, None, List, [], ◌∷◌, bytes_eq, codes}
-use Rattle.edr_text.specs.Numbers.{natural_in}
+use Rattle.std.specs.Prelude.{ℕ, ◌≤◌, nat_le, ◌&&◌, if◌then◌else◌, Option, Some, None, option_map, option_and_then, List, [], ◌∷◌, bytes_eq, codes}
+use Rattle.std.specs.List.{list_all}
+use Rattle.edr_text.specs.Numbers.{fitting, natural_in}
 use Rattle.edr_image.specs.declared.Choice.{Choice}
 use Rattle.edr_image.specs.declared.Choice.TheVariants.{Keep, Overwrite}
 use Rattle.edr_words.specs.declared.Form.{Form}
 use Rattle.edr_words.specs.declared.Form.TheVariants.{Text, Table}
 use Rattle.edr_words.specs.declared.Job.{Job}
-use Rattle.edr_words.specs.declared.Job.TheVariants.{Format, Replay, Report}
+use Rattle.edr_words.specs.declared.Job.TheVariants.{Format, Replay, Report, Drive, Generate, Large}
+use Rattle.edr_words.specs.Arguments.{Word, at_most_one, is_plain, one_or_two, two}
 
--- the form that a word names
-unfoldable pub form_in : List ℕ → Option Form
+-- ---- what a word stands for
+
+-- a form
+unfoldable pub form_in : Word → Option Form
 form_in word =
     if bytes_eq word (codes "text") then Some Text
     else if bytes_eq word (codes "csv") then Some Table
     else None
 
--- the choice that a word names
-unfoldable pub choice_in : List ℕ → Option Choice
+-- a choice
+unfoldable pub choice_in : Word → Option Choice
 choice_in word =
     if bytes_eq word (codes "keep") then Some Keep
     else if bytes_eq word (codes "overwrite") then Some Overwrite
     else None
 
--- an image may have 2 to 16 banks
-abbrev pub as_banks : Option ℕ → Option ℕ
-as_banks None = None
-as_banks (Some n) = if nat_le 2 n && nat_le n 16 then Some n else None
+-- a number from `least` to `most`
+abbrev pub bounded : ℕ → ℕ → Option ℕ → Option ℕ
+bounded least most None = None
+bounded least most (Some n) = if nat_le least n && nat_le n most then Some n else None
 
--- the number of banks that a word spells, if an image may have so many
-unfoldable pub banks_in : List ℕ → Option ℕ
-banks_in word = as_banks (natural_in word)
+unfoldable pub within : ℕ → ℕ → Word → Option ℕ
+within least most word = bounded least most (natural_in word)
 
--- one word
-unfoldable pub plain_job : List ℕ → Option Job
-plain_job word =
-    if bytes_eq word (codes "replay") then Some (Replay Text)
-    else if bytes_eq word (codes "report") then Some (Report Text)
-    else None
+-- the number of a trace, which is below 2 ^ 64
+unfoldable pub number_in : Word → Option ℕ
+number_in word = option_and_then fitting (natural_in word)
 
--- a word with a form
-abbrev pub job_in_form : List ℕ → Option Form → Option Job
-job_in_form word None = None
-job_in_form word (Some form) =
-    if bytes_eq word (codes "replay") then Some (Replay form)
-    else if bytes_eq word (codes "report") then Some (Report form)
-    else None
+-- ---- the arguments of the words
 
-unfoldable pub formed_job : List ℕ → List ℕ → Option Job
-formed_job word form = job_in_form word (form_in form)
-
--- three words
+-- B C: an image has 2 to 16 banks
 abbrev pub format_with : Option ℕ → Option Choice → Option Job
 format_with None choice = None
 format_with (Some banks) None = None
 format_with (Some banks) (Some choice) = Some (Format banks choice)
 
-unfoldable pub format_job : List ℕ → List ℕ → List ℕ → Option Job
-format_job word banks choice =
-    if bytes_eq word (codes "format") then format_with (banks_in banks) (choice_in choice) else None
+abbrev pub format_job : Option (Word × Word) → Option Job
+format_job None = None
+format_job (Some p) = format_with (within 2 16 p.0) (choice_in p.1)
 
--- the job that a list of words names, if it names one
-abbrev pub job_of : List (List ℕ) → Option Job
+-- [F]: without it the form is the text
+abbrev pub form_of : Option (Option Word) → Option Form
+form_of None = None
+form_of (Some None) = Some Text
+form_of (Some (Some word)) = form_in word
+
+abbrev pub replay_job : Option (Option Word) → Option Job
+replay_job form = option_map (λ f. Replay f) (form_of form)
+
+abbrev pub report_job : Option (Option Word) → Option Job
+report_job form = option_map (λ f. Report f) (form_of form)
+
+-- W [F]: there are 1 to 8 workers
+abbrev pub drive_with : Option ℕ → Option Form → Option Job
+drive_with None form = None
+drive_with (Some workers) None = None
+drive_with (Some workers) (Some form) = Some (Drive workers form)
+
+abbrev pub drive_job : Option (Word × Option Word) → Option Job
+drive_job None = None
+drive_job (Some p) = drive_with (within 1 8 p.0) (form_of (Some p.1))
+
+-- N M: a number, and 1 to 60 cycles
+abbrev pub both : Option ℕ → Option ℕ → Option (ℕ × ℕ)
+both None cycles = None
+both (Some number) None = None
+both (Some number) (Some cycles) = Some (number, cycles)
+
+abbrev pub trace_of : Option (Word × Word) → Option (ℕ × ℕ)
+trace_of None = None
+trace_of (Some p) = both (number_in p.0) (within 1 60 p.1)
+
+abbrev pub generate_job : Option (Word × Word) → Option Job
+generate_job arguments = option_map (λ t. Generate t.0 t.1) (trace_of arguments)
+
+abbrev pub large_job : Option (Word × Word) → Option Job
+large_job arguments = option_map (λ t. Large t.0 t.1) (trace_of arguments)
+
+-- ---- the table of words
+
+abbrev pub job_after : Word → List Word → Option Job
+job_after word arguments =
+    if bytes_eq word (codes "format") then format_job (two arguments)
+    else if bytes_eq word (codes "replay") then replay_job (at_most_one arguments)
+    else if bytes_eq word (codes "report") then report_job (at_most_one arguments)
+    else if bytes_eq word (codes "drive") then drive_job (one_or_two arguments)
+    else if bytes_eq word (codes "generate") then generate_job (two arguments)
+    else if bytes_eq word (codes "large") then large_job (two arguments)
+    else None
+
+-- the job that a list of words names, if it names one; a word that begins with `-` is in no line of the table
+abbrev pub job_of : List Word → Option Job
 job_of [] = None
-job_of (word ∷ []) = plain_job word
-job_of (word ∷ form ∷ []) = formed_job word form
-job_of (word ∷ banks ∷ choice ∷ []) = format_job word banks choice
-job_of (first ∷ second ∷ third ∷ fourth ∷ more) = None
+job_of (word ∷ arguments) = if list_all is_plain arguments then job_after word arguments else None
 
--- an image that is asked for has 2 to 16 banks
+-- the numbers of a job lie in their bounds
 abbrev pub IsWithin : Job → Type 0
 IsWithin (Format banks choice) = (2 ≤ banks) × (banks ≤ 16)
 IsWithin (Replay form) = Unit {0}
 IsWithin (Report form) = Unit {0}
+IsWithin (Drive workers form) = (1 ≤ workers) × (workers ≤ 8)
+IsWithin (Generate number cycles) = (1 ≤ cycles) × (cycles ≤ 60)
+IsWithin (Large number cycles) = (1 ≤ cycles) × (cycles ≤ 60)

@@ -1,5 +1,6 @@
 use super::*;
 use std::alloc::{AllocError, Global};
+use std::process::Abort;
 use std::test::Fail;
 
 // The job of words that are parted by spaces.
@@ -8,11 +9,27 @@ fn job_of(alloc: Global, line: &str) -> Result<Option<Job>, AllocError> {
     for word in line.split(' ') {
         words.push(word)?;
     }
-    Ok(words.job())
+    words.job(alloc)
+}
+
+// Each line names its job.
+fn check_jobs<R: Abort + AllocGlobal>(rt: &R, table: &[(&str, Job)]) -> Result<(), Fail> {
+    for (line, job) in table {
+        assert_eq!(rt; job_of(rt.alloc(), line)?, Some(*job), "{line}");
+    }
+    Ok(())
+}
+
+// No line names a job.
+fn check_others<R: Abort + AllocGlobal>(rt: &R, lines: &[&str]) -> Result<(), Fail> {
+    for line in lines {
+        assert_eq!(rt; job_of(rt.alloc(), line)?, None, "{line}");
+    }
+    Ok(())
 }
 
 #[test]
-fn each_job_has_its_words(rt: HostRuntime) -> Result<(), Fail> {
+fn each_job_of_an_image_has_its_words(rt: HostRuntime) -> Result<(), Fail> {
     let text = Form::Text;
     let csv = Form::Table;
     let keep = Job::Format {
@@ -33,23 +50,38 @@ fn each_job_has_its_words(rt: HostRuntime) -> Result<(), Fail> {
         ("report text", Job::Report { form: text }),
         ("report csv", Job::Report { form: csv }),
     ];
-    for (line, job) in table {
-        assert_eq!(rt; job_of(rt.alloc(), line)?, Some(job), "{line}");
-    }
-    Ok(())
+    check_jobs(&rt, &table)
+}
+
+#[test]
+fn each_job_of_threads_and_generated_traces_has_its_words(rt: HostRuntime) -> Result<(), Fail> {
+    let drive = |workers: u8, form: Form| Job::Drive { workers, form };
+    let generate = |number: u64, cycles: u32| Job::Generate { number, cycles };
+    let large = |number: u64, cycles: u32| Job::Large { number, cycles };
+    let table = [
+        ("drive 1", drive(1, Form::Text)),
+        ("drive 8 text", drive(8, Form::Text)),
+        ("drive 3 csv", drive(3, Form::Table)),
+        ("generate 0 1", generate(0, 1)),
+        ("generate 7 60", generate(7, 60)),
+        ("generate 18446744073709551615 9", generate(u64::MAX, 9)),
+        ("large 7 40", large(7, 40)),
+    ];
+    check_jobs(&rt, &table)
 }
 
 #[test]
 fn other_words_name_no_job(rt: HostRuntime) -> Result<(), Fail> {
-    assert_eq!(rt; Words::new(rt.alloc()).job(), None);
+    let none = Words::new(rt.alloc()).job(rt.alloc())?;
+    assert_eq!(rt; none, None);
     let lines = [
         "",
-        "drive",
         "Replay",
+        "replays",
         "replay xml",
         "replay csv csv",
-        "report --csv",
-        "--help",
+        "replay ",
+        "report csv csv",
         "format",
         "format 2",
         "format 1 keep",
@@ -60,8 +92,51 @@ fn other_words_name_no_job(rt: HostRuntime) -> Result<(), Fail> {
         "format 4294967298 keep",
         "format 2 keep now",
     ];
-    for line in lines {
-        assert_eq!(rt; job_of(rt.alloc(), line)?, None, "{line}");
-    }
-    Ok(())
+    check_others(&rt, &lines)
+}
+
+#[test]
+fn other_numbers_of_workers_and_cycles_name_no_job(rt: HostRuntime) -> Result<(), Fail> {
+    let lines = [
+        "drive",
+        "drive 0",
+        "drive 9",
+        "drive 01",
+        "drive csv",
+        "drive 1 xml",
+        "drive 1 csv csv",
+        "generate",
+        "generate 1",
+        "generate 1 0",
+        "generate 1 61",
+        "generate 1 +1",
+        "generate 01 1",
+        "generate 18446744073709551616 1",
+        "generate 1 1 1",
+        "large 7",
+        "large 7 61",
+    ];
+    check_others(&rt, &lines)
+}
+
+#[test]
+fn a_word_that_begins_with_a_hyphen_is_refused(rt: HostRuntime) -> Result<(), Fail> {
+    let lines = [
+        "-",
+        "--",
+        "--help",
+        "-h",
+        "help",
+        "report --csv",
+        "report -- csv",
+        "replay --",
+        "replay -h",
+        "format -2 keep",
+        "format 2 --keep",
+        "generate -1 1",
+        "generate -- 1 1",
+        "large 1 -1",
+        "drive -1",
+    ];
+    check_others(&rt, &lines)
 }

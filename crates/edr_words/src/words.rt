@@ -1,8 +1,10 @@
 //! The words of a command line.
-ghost use Rattle.std.specs.Prelude.{◌≡◌, ℕ, List, [], ◌∷◌, ◌++◌, OnOk, OnErr, IfSome};
+ghost use Rattle.std.specs.Prelude.{◌≡◌, [], ◌∷◌, ◌++◌, OnOk, OnErr, IfOk, IfSome};
 ghost use Rattle.edr_words.specs.Jobs.{job_of, IsWithin};
 
-use crate::{Job, format_job, formed_job, plain_job};
+use crate::Job;
+use crate::arguments::are_plain;
+use crate::jobs::job_after;
 use std::alloc::{AllocError as OutOfMemory, Global};
 use std::marker::Model;
 
@@ -40,23 +42,24 @@ impl Words {
         Ok(())
     }
 
-    /// The job that they name. None is a fault of usage: other words, a number that isn't in its one spelling or not
-    /// from 2 to 16, and words that begin with `-`.
+    /// The job that they name. None is a fault of usage: other words, a number that isn't in its one spelling or out of its
+    /// range, and arguments that begin with `-`.
     ///
     /// ```
     /// words.push("replay")?;
     /// words.push("csv")?;
-    /// assert_eq!(words.job(), Some(Job::Replay { form: Form::Table }));
+    /// assert_eq!(words.job(alloc)?, Some(Job::Replay { form: Form::Table }));
     /// ```
-    pub fn job(&self) -> Option<Job>
-        ensures value { result ≡ job_of self.now }
-        ensures within { IfSome result IsWithin }
+    pub fn job(&self, alloc: Global) -> Result<Option<Job>, OutOfMemory>
+        ensures value { IfOk result (λ j. j ≡ job_of self.now) }
+        ensures within { IfOk result (λ j. IfSome j IsWithin) }
     {
-        match self.words.as_slice() {
-            [word] => plain_job(word.as_str()),
-            [word, form] => formed_job(word.as_str(), form.as_str()),
-            [word, banks, choice] => format_job(word.as_str(), banks.as_str(), choice.as_str()),
-            _ => None,
+        let Some((word, arguments)) = self.words.split_first() else {
+            return Ok(None);
+        };
+        if !are_plain(arguments) {
+            return Ok(None);
         }
+        job_after(alloc, word.as_str(), arguments)
     }
 }

@@ -140,11 +140,13 @@ fn quotes_blank_lines_and_a_mark_make_no_difference(rt: HostRuntime) -> Result<(
 
 #[test]
 fn other_words_are_a_fault_of_usage(rt: HostRuntime) -> Result<(), Fail> {
-    let words: [&[&str]; 15] = [
+    let words: [&[&str]; 17] = [
         &[],
         &["report", "--csv"],
         &["format", "17", "keep"],
         &["drive", "0"],
+        &["drive", "1"],
+        &["drive", "8", "csv"],
         &["generate", "1", "61"],
         &["Replay"],
         &["replay", "xml"],

@@ -1,26 +1,112 @@
-use Rattle.std.proofs.Common.{◌∙◌, inr, sym, subst, ap, Some}
+use Rattle.std.proofs.Common.{rules, ◌+◌, ◌∙◌, inl, inr, refl, subst, ap}
+use Rattle.edr_device.proofs.Settling.{quiet_leaves}
 use Rattle.edr_image.specs.declared.Header.{Header}
 use Rattle.edr_banks.specs.Formatting.{IsPartlyFormatted}
-use Rattle.edr_words.specs.declared.Job.{Job}
+use Rattle.edr_report.specs.declared.faults.Fault.TheVariants as fault
+use Rattle.edr_spell.specs.Spell.{largest_trace}
+use Rattle.edr_cli.specs.declared.status.Status.TheVariants as status
+use Rattle.edr_cli.specs.Endings.{IsUsageCause}
 use Rattle.edr_cli.specs.Outside.{input, memory}
-use Rattle.edr_cli.specs.Reports.{FormatIs, IsFormatCause}
+use Rattle.edr_cli.specs.Reports.{FormatIs, IsFormatCause, IsImageCause}
+use Rattle.edr_cli.specs.Runs.{IsReplayCause}
 use Rattle.edr_cli.specs.Status.{status_of}
 use Rattle.edr_cli.specs.Words.{AreFormat}
 use Rattle.edr_cli.proofs.Completeness.{only_memory}
 use Rattle.edr_cli.proofs.Dispatch.{same_header}
-use Rattle.edr_cli.proofs.EndingLemmas.{answered, tells_part}
+use Rattle.edr_cli.proofs.EndingLemmas.{answered, tells_fault, tells_fault_part, tells_part, tells_whole}
+use Rattle.edr_cli.proofs.ImageLemmas.{still_there}
+use Rattle.edr_cli.proofs.TakingLemmas.{none_taken}
 use Rattle.edr_cli.proofs.runs.command.Goals as goal
+
+-- ---- memory ran out before the words were read
+
+pub returns-in-Err-clause-usage : goal.returns-in-Err-clause-usage
+returns-in-Err-clause-usage g c = λ other. tells_fault IsUsageCause fault.OutOfMemory c.tell.result _ _ (inr refl) c.tell.ensures.whole
+
+pub returns-in-Err-clause-usage_part : goal.returns-in-Err-clause-usage_part
+returns-in-Err-clause-usage_part g c = λ other. tells_fault_part IsUsageCause _ fault.OutOfMemory c.tell.result _ _ (inr refl) c.tell.ensures.part
+
+pub returns-in-Err-clause-other : goal.returns-in-Err-clause-other
+returns-in-Err-clause-other g c = λ form asked ended.
+    let S = g.S.Source in
+    let D = g.N.Nvm in
+    let i = input S.left S.faults c.args.source.now in
+    let m = memory D.extent D.content D.settled D.faults c.args.nvm.now in
+    tells_fault (IsReplayCause i i m m) fault.OutOfMemory c.tell.result _ _ (inl refl) c.tell.ensures.whole
+
+pub returns-in-Err-clause-part : goal.returns-in-Err-clause-part
+returns-in-Err-clause-part g c = λ form asked failed.
+    let S = g.S.Source in
+    let D = g.N.Nvm in
+    let i = input S.left S.faults c.args.source.now in
+    let m = memory D.extent D.content D.settled D.faults c.args.nvm.now in
+    inr (tells_fault_part (IsReplayCause i i m m) _ fault.OutOfMemory c.tell.result _ _ (inl refl) c.tell.ensures.part failed)
 
 pub returns-in-Err-clause-complete : goal.returns-in-Err-clause-complete
 returns-in-Err-clause-complete g c = λ form bytes image cs v n asked left within spelled told says room calm quiet_sink quiet.
+    inr (answered _ _ c.tell.result status.OutOfMemory c.tell.ensures.answers c.tell.ensures.part quiet)
+
+pub returns-in-Err-clause-report_other : goal.returns-in-Err-clause-report_other
+returns-in-Err-clause-report_other g c = λ form asked ended.
+    let D = g.N.Nvm in
+    let m = memory D.extent D.content D.settled D.faults c.args.nvm.now in
+    tells_fault (IsImageCause m m) fault.OutOfMemory c.tell.result _ _ refl c.tell.ensures.whole
+
+pub returns-in-Err-clause-report_part : goal.returns-in-Err-clause-report_part
+returns-in-Err-clause-report_part g c = λ form asked failed.
+    let D = g.N.Nvm in
+    let m = memory D.extent D.content D.settled D.faults c.args.nvm.now in
+    inr (tells_fault_part (IsImageCause m m) _ fault.OutOfMemory c.tell.result _ _ refl c.tell.ensures.part failed)
+
+pub returns-in-Err-clause-report_stays : goal.returns-in-Err-clause-report_stays
+returns-in-Err-clause-report_stays g c = λ form bytes image asked quiet left. quiet_leaves bytes _ _ image quiet left
+
+pub returns-in-Err-clause-format_other : goal.returns-in-Err-clause-format_other
+returns-in-Err-clause-format_other g c = λ h asked ended.
+    let D = g.N.Nvm in
+    let m = memory D.extent D.content D.settled D.faults c.args.nvm.now in
+    tells_fault (IsFormatCause h m m) fault.OutOfMemory c.tell.result _ _ refl c.tell.ensures.whole
+
+pub returns-in-Err-clause-format_part : goal.returns-in-Err-clause-format_part
+returns-in-Err-clause-format_part g c = λ h asked failed.
+    let D = g.N.Nvm in
+    let m = memory D.extent D.content D.settled D.faults c.args.nvm.now in
+    inr (tells_fault_part (IsFormatCause h m m) _ fault.OutOfMemory c.tell.result _ _ refl c.tell.ensures.part failed)
+
+pub returns-in-Err-clause-format_crash : goal.returns-in-Err-clause-format_crash
+returns-in-Err-clause-format_crash g c = λ h bytes image asked quiet left. still_there h bytes image (quiet_leaves bytes _ _ image quiet left)
+
+pub returns-in-Err-clause-format_stays : goal.returns-in-Err-clause-format_stays
+returns-in-Err-clause-format_stays g c = λ h bytes image asked quiet has left. quiet_leaves bytes _ _ image quiet left
+
+-- ---- replay
+
+pub returns-in-Err-replay_source-clause-complete : goal.returns-in-Err-replay_source-clause-complete
+returns-in-Err-replay_source-clause-complete g c = λ form bytes image cs v n asked left within spelled told says room calm quiet_sink quiet.
     let S = g.S.Source in
     let D = g.N.Nvm in
     let i = input S.left S.faults c.args.source.now in
     let i' = input S.left S.faults c.replay_source.new.source in
     let old = memory D.extent D.content D.settled D.faults c.args.nvm.now in
     let new = memory D.extent D.content D.settled D.faults c.replay_source.new.nvm in
-    let memory_only = only_memory i i' old new c.in-Err.fault bytes image cs v n left within spelled told says room calm quiet_sink c.in-Err.ensures.cause in
-    inr (answered _ _ c.tell.result (status_of c.in-Err.fault) c.tell.ensures.answers c.tell.ensures.part quiet ∙ ap status_of memory_only)
+    let memory_only = only_memory i i' old new c.in-Err-replay_source.fault bytes image cs v n left within spelled told says room calm quiet_sink c.in-Err-replay_source.ensures.cause in
+    inr (answered _ _ c.tell-in-Err-replay_source.result (status_of c.in-Err-replay_source.fault) c.tell-in-Err-replay_source.ensures.answers c.tell-in-Err-replay_source.ensures.part quiet ∙ ap status_of memory_only)
+
+-- ---- format
+
+pub returns-in-Ok-make_image-clause-takes : goal.returns-in-Ok-make_image-clause-takes
+returns-in-Ok-make_image-clause-takes g c = let S = g.S.Source in none_taken (largest_trace + 1) (S.left c.args.source.now)
+
+pub returns-in-Ok-make_image-clause-format : goal.returns-in-Ok-make_image-clause-format
+returns-in-Ok-make_image-clause-format g c = λ h asked ok.
+    let K = g.K.Sink in
+    let D = g.N.Nvm in
+    let old = memory D.extent D.content D.settled D.faults c.args.nvm.now in
+    let new = memory D.extent D.content D.settled D.faults c.make_image.new.nvm in
+    let is : AreFormat (record { banks = c.in-Some-Format.banks; choice = c.in-Some-Format.choice }) c.args.words.now = search rules in
+    let same = same_header c.args.words.now _ h is asked in
+    tells_whole (λ text. FormatIs h old new text) _ c.in-Ok-make_image.line c.as_bytes.result.now c.write-in-Ok-make_image.result (K.content c.args.sink.now) (K.content c.write-in-Ok-make_image.new.sink)
+    (subst (λ (k : Header). FormatIs k old new c.in-Ok-make_image.line) same (c.in-Ok-make_image.ensures.made, c.in-Ok-make_image.ensures.line)) c.as_bytes.ensures c.write-in-Ok-make_image.ensures.whole ok
 
 pub returns-in-Ok-make_image-clause-format_part : goal.returns-in-Ok-make_image-clause-format_part
 returns-in-Ok-make_image-clause-format_part g c = λ h asked failed.
@@ -28,17 +114,25 @@ returns-in-Ok-make_image-clause-format_part g c = λ h asked failed.
     let D = g.N.Nvm in
     let old = memory D.extent D.content D.settled D.faults c.args.nvm.now in
     let new = memory D.extent D.content D.settled D.faults c.make_image.new.nvm in
-    let is : AreFormat (record { banks = c.in-Some-Format.banks; choice = c.in-Some-Format.choice }) c.args.words.now = sym c.in-Some-Format.ensures.value ∙ ap (λ (j : Job). Some j) c.in-Some-Format.field-0-is in
+    let is : AreFormat (record { banks = c.in-Some-Format.banks; choice = c.in-Some-Format.choice }) c.args.words.now = search rules in
     let same = same_header c.args.words.now _ h is asked in
     tells_part (λ text. FormatIs h old new text) (λ f. IsFormatCause h old new f) _ c.in-Ok-make_image.line c.as_bytes.result.now c.write-in-Ok-make_image.result (K.content c.args.sink.now) (K.content c.write-in-Ok-make_image.new.sink)
     (subst (λ (k : Header). FormatIs k old new c.in-Ok-make_image.line) same (c.in-Ok-make_image.ensures.made, c.in-Ok-make_image.ensures.line)) c.as_bytes.ensures c.write-in-Ok-make_image.ensures.part failed
 
 pub returns-in-Ok-make_image-clause-format_crash : goal.returns-in-Ok-make_image-clause-format_crash
 returns-in-Ok-make_image-clause-format_crash g c = λ h bytes image asked quiet left.
-    let is : AreFormat (record { banks = c.in-Some-Format.banks; choice = c.in-Some-Format.choice }) c.args.words.now = sym c.in-Some-Format.ensures.value ∙ ap (λ (j : Job). Some j) c.in-Some-Format.field-0-is in
+    let is : AreFormat (record { banks = c.in-Some-Format.banks; choice = c.in-Some-Format.choice }) c.args.words.now = search rules in
     subst (λ (k : Header). IsPartlyFormatted k bytes image) (same_header c.args.words.now _ h is asked) (c.make_image.ensures.crash bytes image quiet left)
 
 pub returns-in-Err-make_image-clause-format_crash : goal.returns-in-Err-make_image-clause-format_crash
 returns-in-Err-make_image-clause-format_crash g c = λ h bytes image asked quiet left.
-    let is : AreFormat (record { banks = c.in-Some-Format.banks; choice = c.in-Some-Format.choice }) c.args.words.now = sym c.in-Some-Format.ensures.value ∙ ap (λ (j : Job). Some j) c.in-Some-Format.field-0-is in
+    let is : AreFormat (record { banks = c.in-Some-Format.banks; choice = c.in-Some-Format.choice }) c.args.words.now = search rules in
     subst (λ (k : Header). IsPartlyFormatted k bytes image) (same_header c.args.words.now _ h is asked) (c.make_image.ensures.crash bytes image quiet left)
+
+-- ---- other words
+
+pub returns-in-Some-Drive-clause-usage : goal.returns-in-Some-Drive-clause-usage
+returns-in-Some-Drive-clause-usage g c = λ other. tells_fault IsUsageCause fault.Usage c.tell-in-Some-Drive.result _ _ (inl refl) c.tell-in-Some-Drive.ensures.whole
+
+pub returns-in-Some-Drive-clause-usage_part : goal.returns-in-Some-Drive-clause-usage_part
+returns-in-Some-Drive-clause-usage_part g c = λ other. tells_fault_part IsUsageCause _ fault.Usage c.tell-in-Some-Drive.result _ _ (inl refl) c.tell-in-Some-Drive.ensures.part

@@ -1,0 +1,64 @@
+-- The arguments behind a word of a command line, and the commands that take them.
+use Rattle.std.specs.Prelude.{ℕ, Bool, true, not, ◌==◌, Option, Some, None, List, [], ◌∷◌, codes}
+use Rattle.clap.specs.Walk.{Rule}
+use Rattle.clap.specs.Simple.{App, new_app, new_rule, on_top, with_rule}
+
+abbrev pub Word : Type 0
+Word = List ℕ
+
+-- the word doesn't begin with `-`
+abbrev pub is_plain : Word → Bool
+is_plain [] = true
+is_plain (x ∷ xs) = not (x == 45)
+
+-- ---- how many arguments there are
+
+-- two
+abbrev pub two : List Word → Option (Word × Word)
+two [] = None
+two (a ∷ []) = None
+two (a ∷ b ∷ []) = Some (a, b)
+two (a ∷ b ∷ c ∷ more) = None
+
+-- none or one
+abbrev pub at_most_one : List Word → Option (Option Word)
+at_most_one [] = Some None
+at_most_one (a ∷ []) = Some (Some a)
+at_most_one (a ∷ b ∷ more) = None
+
+-- one or two
+abbrev pub one_or_two : List Word → Option (Word × Option Word)
+one_or_two [] = None
+one_or_two (a ∷ []) = Some (a, None)
+one_or_two (a ∷ b ∷ []) = Some (a, Some b)
+one_or_two (a ∷ b ∷ c ∷ more) = None
+
+-- the first, with the second if there is one
+abbrev pub with_second : Option Word → Option Word → Option (Word × Option Word)
+with_second None second = None
+with_second (Some first) second = Some (first, second)
+
+-- ---- the commands
+
+abbrev pub first : Rule
+first = new_rule (codes "first")
+
+abbrev pub second : Rule
+second = new_rule (codes "second")
+
+-- it must be given
+abbrev pub wanted : Rule → Rule
+wanted r = record r { required = true }
+
+-- a command without `--help`, all of whose words are arguments
+abbrev pub bare : Word → App
+bare name = on_top (λ s. record s { no_binary_name = true; disable_help_flag = true }) (new_app name)
+
+abbrev pub needs_two : Word → App
+needs_two name = with_rule (with_rule (bare name) (wanted first)) (wanted second)
+
+abbrev pub may_have_one : Word → App
+may_have_one name = with_rule (bare name) first
+
+abbrev pub may_have_two : Word → App
+may_have_two name = with_rule (with_rule (bare name) (wanted first)) second
