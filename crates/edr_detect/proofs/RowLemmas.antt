@@ -25,7 +25,7 @@ use Rattle.edr_detect.specs.Latest.{LatestStandsFor}
 use Rattle.edr_detect.specs.Stages.{told_of, phase_of, stepped}
 use Rattle.edr_detect.specs.Standing.{WindowsStandFor, BeginsAtRest, TestsAre, bounds_past}
 use Rattle.edr_detect.specs.Rows.{Row, row_at, signals_of_rows}
-use Rattle.edr_detect.specs.Detected.{DetectState, DetectStandsFor}
+use Rattle.edr_detect.specs.Detected.{DetectState, KeepsPast, DetectStandsFor}
 use Rattle.edr_detect.proofs.WindowLemmas.{AreStill, AreStill-next}
 
 -- ---- rows
@@ -156,6 +156,7 @@ module _ (rows : List Row) (r : Row) (d e : DetectState) (u : ℕ) (a : Tests) (
     (told : told_of ans ≡ stepped_change u a.zero a.trigger a.locks a.ends (phase_of d.stage))
     (restart : (m : Signals) (b : Bounds) (k : ℕ) → WindowsStandFor m b k pushed → WindowsStandFor m (bounds_past k ans b) k e.windows) where
   pub tick-stands : DetectStandsFor e (rows ++ r ∷ []) × (told_of ans ≡ tick_change (signals_of_rows (rows ++ r ∷ [])) (length rows + 1))
+  unfolding KeepsPast
   tick-stands =
       let t = length rows in
       let all = rows ++ r ∷ [] in
@@ -168,7 +169,7 @@ module _ (rows : List Row) (r : Row) (d e : DetectState) (u : ℕ) (a : Tests) (
       let len : u ≡ length all = let k = length-append rows (r ∷ []) in omega (arith, k, now) in
       let row : row_at all u ≡ Some r = ap (row_at all) now ∙ row_at-last rows r in
       let past : b.after ≤ t = h.search_is.past in
-      let old : WindowsStandFor n b t d.windows = windows-agree (signals_of_rows rows) n b t d.windows agree h.windows_are in
+      let old : WindowsStandFor n b t d.windows = windows-agree (signals_of_rows rows) n b t d.windows agree h.kept_are in
       let along = ap (λ (o : Option Row). unwrap_or (option_map (λ (x : Row). x.along) o) (pos 0)) row in
       let across = ap (λ (o : Option Row). unwrap_or (option_map (λ (x : Row). x.across) o) (pos 0)) row in
       let fired = ap (λ (o : Option Row). option_map_or (λ (x : Row). x.fired.0) o 0) row in
@@ -200,7 +201,7 @@ module _ (rows : List Row) (r : Row) (d e : DetectState) (u : ℕ) (a : Tests) (
           bounds = bounds_past u ans b;
           since_past = subst (λ (k : ℕ). (bounds_past u ans b).since ≤ k) len since;
           search_is = subst (λ (k : ℕ). StandsFor n k (record { bounds = bounds_past u ans b; phase = phase_of e.stage })) len stands;
-          windows_are = subst (λ (k : ℕ). WindowsStandFor n (bounds_past u ans b) k e.windows) len windows;
+          kept_are = subst (λ (k : ℕ). WindowsStandFor n (bounds_past u ans b) k e.windows) len windows;
         },
         told ∙ same ∙ sym answer ∙ ap (tick_change n) now,
       )
@@ -228,10 +229,11 @@ module _ (rows : List Row) (r : Row) (d : DetectState) (u : ℕ) (pushed : Windo
 
 -- before the first tick
 pub start-stands : (d : DetectState) → d.tick ≡ 0 → phase_of d.stage ≡ Searching → ((m : Signals) → BeginsAtRest m → WindowsStandFor m at_start 0 d.windows) → DetectStandsFor d []
+unfolding KeepsPast
 start-stands d none searching windows = record {
   tick_is = none;
   bounds = at_start;
   since_past = omega arith;
   search_is = subst (λ (p : Phase). StandsFor (signals_of_rows []) 0 (record { bounds = at_start; phase = p })) (sym searching) (StandsFor-start (signals_of_rows []));
-  windows_are = windows (signals_of_rows []) (rows-begin []);
+  kept_are = windows (signals_of_rows []) (rows-begin []);
 }

@@ -1,5 +1,6 @@
 -- What a detector is, and of which rows.
 use Rattle.std.specs.Prelude.{◌≡◌, ℕ, ◌≤◌, List, length}
+use Rattle.edr_definitions.specs.Signals.{Signals}
 use Rattle.edr_definitions.specs.Selection.{Bounds}
 use Rattle.edr_definitions.specs.Search.{StandsFor}
 use Rattle.edr_detect.specs.declared.stage.Stage.{Stage}
@@ -14,10 +15,14 @@ pub record DetectState : Type 0 where
   pub stage : Stage
   pub windows : Windows
 
--- the detector was given these rows, and no others: the search of the definitions stands at the last of them as the stage says, with bounds past which the windows hold the changes
+-- what the detector keeps of these signals up to t: the windows hold the changes past the bounds
+unfoldable pub KeepsPast : Signals → Bounds → ℕ → DetectState → Type 0
+KeepsPast m b t d = WindowsStandFor m b t d.windows
+
+-- the detector was given these rows, and no others: the search of the definitions stands at the last of them as the stage says, with bounds past which it keeps what the search needs
 pub record DetectStandsFor (d : DetectState) (rows : List Row) : Type 0 where
   pub tick_is : d.tick ≡ length rows
   pub bounds : Bounds
   pub since_past : bounds.since ≤ length rows
   pub search_is : StandsFor (signals_of_rows rows) (length rows) (record { bounds = bounds; phase = phase_of d.stage })
-  pub windows_are : WindowsStandFor (signals_of_rows rows) bounds (length rows) d.windows
+  pub kept_are : KeepsPast (signals_of_rows rows) bounds (length rows) d
