@@ -1,65 +1,54 @@
 //! Swings: the extremes of the sums of the last values, kept value by value.
 #![tactic(auto)]
 
+mod candidates;
 pub mod laws;
 
-ghost use Rattle.std.specs.Prelude.{◌≡◌, ℕ, ◌+◌, ◌*◌, ◌<◌, ◌≤◌, [], ◌∷◌, ◌++◌, List, ℤ, pos, ◌+ℤ◌, ◌≤ℤ◌, unsigned_abs, length, slice_index_or, MatchOption};
+ghost use Rattle.std.specs.Prelude.{◌≡◌, ℕ, ◌+◌, ◌<◌, ◌≤◌, [], ◌∷◌, ◌++◌, List, ℤ, neg_ℤ, unsigned_abs, IsTrue, MatchOption};
+ghost use Rattle.edr_window.specs.Candidates.{most};
 ghost use Rattle.edr_window.specs.Sums.{IsLeastSum, IsGreatestSum};
-ghost use Rattle.edr_window.specs.Swing.{SwingStandsFor, AreExtremes, AreSmall};
+ghost use Rattle.edr_window.specs.Swing.{SwingStandsFor};
 
+use crate::candidates::{Candidates, Earlier};
 use std::marker::Model;
 
-// The least and the greatest of some sums.
-#[derive(Clone, Copy)]
-struct Extremes {
-    least: i32,
-    greatest: i32,
-}
-
-// Puts v in front of the values whose first 1, 2, 3 .. have these sums.
-fn put_in_front(sums: &mut [i32], v: i32) -> Extremes
-    requires some { 0 < length sums.old }
-    requires few { length sums.old ≤ 150 }
-    requires small { AreSmall sums.old }
-    requires small_value { unsigned_abs v ≤ 100_000 }
-    ensures sums { (i : ℕ) → i < length sums.old → slice_index_or sums.new i (pos 0) ≡ slice_index_or (pos 0 ∷ sums.old) i (pos 0) +ℤ v }
-    ensures still_small { AreSmall sums.new }
-    ensures extremes { AreExtremes sums.new result.least result.greatest }
+// The greatest and the least earlier sum are this sum, so that both extremes are 0.
+#[inline(always)]
+fn are_at_rest(high: Earlier, low: Earlier, sum: i64) -> bool
+    requires { unsigned_abs sum ≤ most }
+    ensures high { IsTrue result → high.sum ≡ sum }
+    ensures low { IsTrue result → low.sum ≡ neg_ℤ sum }
 {
-    let mut shorter = 0;
-    let mut least = v;
-    let mut greatest = v;
-    for sum in sums.iter_mut() {
-        let longer = shorter + v;
-        shorter = *sum;
-        *sum = longer;
-        least = least.min(longer);
-        greatest = greatest.max(longer);
-    }
-    Extremes { least, greatest }
+    high.sum == sum && low.sum == -sum
 }
 
 /// The extremes of the sums of the last 1 to `K` values of those that were pushed since the restart.
 ///
-/// A push takes at most `K` steps, and the rest a few.
+/// A sum of the last values is the sum of all, less an earlier sum of all. So the least is that with the greatest earlier sum of
+/// the last `K`, and the greatest that with the least. A push takes a few steps on average, and the rest a few always.
 #[derive(Drop)]
 pub struct Swing<const K: usize> {
-    // The sum of the last value, of the last two, and so on; where there are fewer, the sum of all.
-    sums: [i32; K],
-    least: i32,
-    greatest: i32,
+    sum: i64,
+    // The places of earlier sums that can still be the greatest among the last K, with the sums.
+    high: Candidates<K>,
+    // The places of those that can still be the least, with 0 less the sums.
+    low: Candidates<K>,
     pushes: u32,
+    // The places that were given. Pushes at rest give none: they move all places on.
+    places: u32,
+    // The extremes are 0.
+    rests: bool,
 }
 
 impl<const K: usize> Model for Swing<K> {
-    ghost use Rattle.std.specs.Prelude.{◌≤◌};
-    ghost use Rattle.edr_window.specs.Swing.{SwingState, AreExtremes, AreSmall};
+    ghost use Rattle.edr_window.specs.Swing.{SwingState, Holds};
+    ghost use Rattle.std.specs.Prelude.{◌-◌};
 
     ghost Value = { SwingState };
 
-    ghost view = { λ s. record { pushes = s.pushes; sums = s.sums } };
+    ghost view = { λ s. record { pushes = s.pushes; rest = s.pushes - s.places; sum = s.sum; high = s.high; low = s.low } };
 
-    ghost invariant = { λ s. (1 ≤ K) × (K ≤ 150) × AreSmall s.sums × AreExtremes s.sums s.least s.greatest };
+    ghost invariant = { λ s. Holds K s.pushes s.places s.sum s.high s.low s.rests };
 }
 
 impl<const K: usize> Swing<K> {
@@ -71,10 +60,12 @@ impl<const K: usize> Swing<K> {
         ensures pushes { result.pushes ≡ 0 }
     {
         Swing {
-            sums: [0; K],
-            least: 0,
-            greatest: 0,
+            sum: 0,
+            high: Candidates::new(),
+            low: Candidates::new(),
             pushes: 0,
+            places: 0,
+            rests: false,
         }
     }
 
@@ -86,14 +77,28 @@ impl<const K: usize> Swing<K> {
         ensures stands { (values : List ℤ) → SwingStandsFor K self.old values → SwingStandsFor K self.new (values ++ v ∷ []) }
         ensures pushes { self.new.pushes ≡ self.old.pushes + 1 }
     {
-        self.pushes += 1;
-        // Where every sum is 0, a further 0 changes none.
-        if v == 0 && self.least == 0 && self.greatest == 0 {
+        // Where all the sums are 0, a further 0 changes none.
+        if v == 0 && self.rests {
+            self.pushes += 1;
             return;
         }
-        let extremes = put_in_front(&mut self.sums, v as i32);
-        self.least = extremes.least;
-        self.greatest = extremes.greatest;
+        self.put(v);
+    }
+
+    // One more value, whatever it moves. It stands apart, so that a push at rest stays small.
+    #[inline(never)]
+    fn put(&mut self, v: i64)
+        requires small { unsigned_abs v ≤ 100_000 }
+        requires room { self.old.pushes < 86_400_000 }
+        ensures stands { (values : List ℤ) → SwingStandsFor K self.old values → SwingStandsFor K self.new (values ++ v ∷ []) }
+        ensures pushes { self.new.pushes ≡ self.old.pushes + 1 }
+    {
+        self.pushes += 1;
+        self.high.give(self.places, self.sum);
+        self.low.give(self.places, -self.sum);
+        self.places += 1;
+        self.sum += v;
+        self.rests = are_at_rest(self.high.first(), self.low.first(), self.sum);
     }
 
     /// The least of the sums, or None where nothing was pushed since the restart.
@@ -102,7 +107,7 @@ impl<const K: usize> Swing<K> {
     {
         match self.pushes {
             0 => None,
-            _ => Some(i64::from(self.least)),
+            _ => Some(self.sum - self.high.first().sum),
         }
     }
 
@@ -112,7 +117,7 @@ impl<const K: usize> Swing<K> {
     {
         match self.pushes {
             0 => None,
-            _ => Some(i64::from(self.greatest)),
+            _ => Some(self.sum + self.low.first().sum),
         }
     }
 
@@ -121,10 +126,12 @@ impl<const K: usize> Swing<K> {
         ensures stands { SwingStandsFor K self.new [] }
         ensures pushes { self.new.pushes ≡ 0 }
     {
-        self.sums.fill(0);
-        self.least = 0;
-        self.greatest = 0;
+        self.sum = 0;
+        self.high.clear();
+        self.low.clear();
         self.pushes = 0;
+        self.places = 0;
+        self.rests = false;
     }
 }
 

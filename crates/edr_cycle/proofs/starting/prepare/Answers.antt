@@ -1,5 +1,12 @@
-use Rattle.std.proofs.Common.{arith, refl}
+use Rattle.std.proofs.Common.{arith, refl, ap, ◌≡◌, ◌∙◌, ◌-◌, ℕ, Some}
+use Rattle.edr_image.specs.Image.{View}
 use Rattle.edr_cycle.proofs.starting.prepare.Goals as goal
+
+pub returns-clause-found : goal.returns-clause-found
+returns-clause-found g c = λ bytes told.
+    let room = rw c.in-Some.is at c.checked_add.ensures in
+    let back : c.in-Ok.banks.count ≡ c.in-Some.number - 1 = omega (arith, room) in
+    c.in-Ok.ensures.view bytes told ∙ ap (λ (n : ℕ). let v : View = record { store = c.in-Ok.banks.store; count = n } in Some v) back
 
 pub returns-in_default-clause-spent : goal.returns-in_default-clause-spent
 returns-in_default-clause-spent g c = λ opened bytes told.
