@@ -1,8 +1,8 @@
 -- One more tick in the list of the last 20.
-use Rattle.std.proofs.Common.{arith, ap, sym, ◌≡◌, ◌∙◌, ℕ, zero, suc, ◌+◌, ◌-◌, ◌*◌, ◌%◌, ◌<◌, ◌≤◌, ◌⊎◌, inl, inr, ℤ, pos, negsuc, neg_ℤ, ◌≤ℤ◌, ◌+ℤ◌, ◌-ℤ◌, unsigned_abs, Option, List, [], ◌∷◌, length, get_or, set, map, length-set, FitsSigned, w32}
+use Rattle.std.proofs.Common.{arith, ap, sym, ◌≡◌, ◌∙◌, ℕ, zero, suc, ◌+◌, ◌-◌, ◌*◌, ◌%◌, ◌<◌, ◌≤◌, ◌⊎◌, inl, inr, ℤ, pos, negsuc, neg_ℤ, ◌≤ℤ◌, ◌+ℤ◌, ◌-ℤ◌, unsigned_abs, Option, subst, List, [], ◌∷◌, length, get_or, set, map, length-set, FitsSigned, w32}
 use Rattle.std.proofs.lemmas.Int.{ints}
 use Rattle.std.proofs.lemmas.Bool.{cases_lt}
-use Rattle.std.proofs.lemmas.List.{get_or-set_same, get_or-set_other}
+use Rattle.std.proofs.lemmas.List.{get_or-set_same, get_or-set_other, set-get_or}
 use Rattle.std.proofs.Math.Nat.{eq-or-lt_of_le}
 use Rattle.edr_definitions.specs.Ticks.{int_sum, ticks}
 use Rattle.edr_definitions.specs.Windows.{change_at, delta_v}
@@ -10,7 +10,7 @@ use Rattle.edr_definitions.proofs.TickLaws.{ticks-push}
 use Rattle.edr_definitions.proofs.WindowLaws.{delta_v-cons}
 use Rattle.edr_window.proofs.SumLaws.{int_sum-push}
 use Rattle.edr_detect.specs.Sums.{IsSumOfSmall}
-use Rattle.edr_detect.specs.Latest.{LatestStandsFor}
+use Rattle.edr_detect.specs.Latest.{AreZeros, LatestStandsFor}
 
 -- a number of at most this size fits an i32
 small-fits : (z : ℤ) → neg_ℤ (pos 2_200_000) ≤ℤ z → z ≤ℤ pos 2_200_000 → FitsSigned w32 z
@@ -120,3 +120,15 @@ module _ (axis : ℕ → Option ℤ) (b : ℕ) (values : List ℤ) (sum v : ℤ)
         ∙ sym now ∙ ap (change_at axis) (sym e)
     at u le near (inr before) =
         get_or-set_other values ((b + 1) % 20) (u % 20) v (pos 0) (λ e. omega arith) ∙ h.at u (omega arith) (omega arith)
+
+-- where none of the changes differs from 0, a further 0 moves nothing
+pub latest-still : (axis : ℕ → Option ℤ) (b t : ℕ) (values : List ℤ) (sum : ℤ) → length values ≡ 20 → t ≡ b + 1 → change_at axis 0 ≡ pos 0 → change_at axis t ≡ pos 0 → AreZeros values → LatestStandsFor axis b values sum → LatestStandsFor axis t values sum
+latest-still axis b t values sum long next start now zeros h =
+    let place = (b + 1) % 20 in
+    let old : get_or values place (pos 0) ≡ pos 0 = zeros place (omega arith) in
+    let step = latest-step axis b values sum (pos 0) long h start (ap (change_at axis) (sym next) ∙ now) in
+    let same : set values place (pos 0) ≡ values = ap (set values place) (sym old) ∙ set-get_or values place (pos 0) in
+    let total : sum -ℤ get_or values place (pos 0) +ℤ pos 0 ≡ sum = omega (arith, ints, old) in
+    let here = subst (λ (xs : List ℤ). LatestStandsFor axis (b + 1) xs (sum -ℤ get_or values place (pos 0) +ℤ pos 0)) same step in
+    let there = subst (λ (z : ℤ). LatestStandsFor axis (b + 1) values z) total here in
+    subst (λ (u : ℕ). LatestStandsFor axis u values sum) (sym next) there

@@ -1,6 +1,6 @@
 -- One more row, and one more tick of the search.
 use Rattle.std.proofs.Common.{arith, refl, ap, sym, subst, ◌≡◌, ◌∙◌, ℕ, zero, suc, ◌+◌, ◌<◌, ◌≤◌, Bool, true, false, nat_eq, nat_lt, ℤ, pos, unwrap_or, Some, None, Option, List, [], ◌∷◌, ◌++◌, length, slice_get, add-one, length-append}
-use Rattle.std.specs.Prelude.{option_map, IsSome, is_some, is_none, ◌&&◌, if◌then◌else◌}
+use Rattle.std.specs.Prelude.{option_map, IsTrue, IsSome, is_some, is_none, ◌&&◌, if◌then◌else◌}
 use Rattle.std.proofs.lemmas.Bool.Decides.{nat_tests}
 use Rattle.std.specs.Option.{option_map_or, option_or}
 use Rattle.edr_definitions.specs.Signals.{Signals}
@@ -23,10 +23,10 @@ use Rattle.edr_detect.specs.declared.stage.Tests.{Tests}
 use Rattle.edr_detect.specs.declared.windows.Windows.{Windows}
 use Rattle.edr_detect.specs.Latest.{LatestStandsFor}
 use Rattle.edr_detect.specs.Stages.{told_of, phase_of, stepped}
-use Rattle.edr_detect.specs.Standing.{WindowsStandFor, BeginsAtRest, TestsAre, bounds_past}
+use Rattle.edr_detect.specs.Standing.{WindowsStandFor, HoldNothing, AreStill, BeginsAtRest, TestsAre, bounds_past}
 use Rattle.edr_detect.specs.Rows.{Row, row_at, signals_of_rows}
-use Rattle.edr_detect.specs.Detected.{DetectState, KeepsPast, DetectStandsFor}
-use Rattle.edr_detect.proofs.WindowLemmas.{AreStill, AreStill-next}
+use Rattle.edr_detect.specs.Detected.{DetectState, IsAtRest, KeepsPast, DetectStandsFor}
+use Rattle.edr_detect.proofs.WindowLemmas.{AreStill-next, AreStill-agree}
 
 -- ---- rows
 slice_get-before : (rows : List Row) (r : Row) (k : ℕ) → k < length rows → slice_get rows k ≡ slice_get (rows ++ r ∷ []) k
@@ -78,6 +78,13 @@ windows-agree m n b t w same h = record {
   latest_along = latest-agree m.along n.along t _ _ same.along h.latest_along;
   latest_across = latest-agree m.across n.across t _ _ same.across h.latest_across;
 }
+
+keeps-agree : (m n : Signals) (b : Bounds) (t : ℕ) (d : DetectState) → AgreeUpTo t m n → KeepsPast m b t d → KeepsPast n b t d
+unfolding KeepsPast
+keeps-agree m n b t d same h = (
+  windows-agree m n b t d.windows same h.0,
+  λ told. let rest = h.1 told in record { searching = rest.searching; still = AreStill-agree m n b t same rest.still; nothing = rest.nothing },
+)
 
 -- ---- one tick of the search
 stepped-is : (m : Signals) (b : Bounds) (s : Stage) (t : ℕ) (a : Tests) → TestsAre m b s t a → stepped t a b (phase_of s) ≡ next_from m t b (phase_of s)
@@ -151,10 +158,11 @@ tests-still m b s t searching fired h = record {
 module _ (rows : List Row) (r : Row) (d e : DetectState) (u : ℕ) (a : Tests) (ans : Answer) (pushed : Windows)
     (h : DetectStandsFor d rows) (u_is : u ≡ d.tick + 1) (tick_is : e.tick ≡ u)
     (push : (m : Signals) (b : Bounds) (before : ℕ) → u ≡ before + 1 → b.after ≤ before → b.since ≤ before → BeginsAtRest m → change_at m.along u ≡ r.along → change_at m.across u ≡ r.across → WindowsStandFor m b before d.windows → WindowsStandFor m b u pushed)
-    (tests : (m : Signals) (b : Bounds) (before : ℕ) → u ≡ before + 1 → b.after ≤ before → b.since ≤ before → change_at m.along u ≡ r.along → change_at m.across u ≡ r.across → m.fired u ≡ r.fired.0 → WindowsStandFor m b before d.windows → WindowsStandFor m b u pushed → TestsAre m b d.stage u a)
+    (tests : (m : Signals) (b : Bounds) (before : ℕ) → u ≡ before + 1 → b.after ≤ before → b.since ≤ before → change_at m.along u ≡ r.along → change_at m.across u ≡ r.across → m.fired u ≡ r.fired.0 → KeepsPast m b before d → WindowsStandFor m b u pushed → TestsAre m b d.stage u a)
     (next : (b : Bounds) → phase_of e.stage ≡ (stepped u a b (phase_of d.stage)).phase)
     (told : told_of ans ≡ stepped_change u a.zero a.trigger a.locks a.ends (phase_of d.stage))
-    (restart : (m : Signals) (b : Bounds) (k : ℕ) → WindowsStandFor m b k pushed → WindowsStandFor m (bounds_past k ans b) k e.windows) where
+    (restart : (m : Signals) (b : Bounds) (k : ℕ) → WindowsStandFor m b k pushed → WindowsStandFor m (bounds_past k ans b) k e.windows)
+    (rests : (m : Signals) (b : Bounds) (before : ℕ) → u ≡ before + 1 → b.after ≤ before → b.since ≤ before → change_at m.along u ≡ r.along → change_at m.across u ≡ r.across → KeepsPast m b before d → WindowsStandFor m b u pushed → IsTrue e.rests → IsAtRest m (bounds_past u ans b) u e) where
   pub tick-stands : DetectStandsFor e (rows ++ r ∷ []) × (told_of ans ≡ tick_change (signals_of_rows (rows ++ r ∷ [])) (length rows + 1))
   unfolding KeepsPast
   tick-stands =
@@ -169,11 +177,11 @@ module _ (rows : List Row) (r : Row) (d e : DetectState) (u : ℕ) (a : Tests) (
       let len : u ≡ length all = let k = length-append rows (r ∷ []) in omega (arith, k, now) in
       let row : row_at all u ≡ Some r = ap (row_at all) now ∙ row_at-last rows r in
       let past : b.after ≤ t = h.search_is.past in
-      let old : WindowsStandFor n b t d.windows = windows-agree (signals_of_rows rows) n b t d.windows agree h.kept_are in
+      let old : KeepsPast n b t d = keeps-agree (signals_of_rows rows) n b t d agree h.kept_are in
       let along = ap (λ (o : Option Row). unwrap_or (option_map (λ (x : Row). x.along) o) (pos 0)) row in
       let across = ap (λ (o : Option Row). unwrap_or (option_map (λ (x : Row). x.across) o) (pos 0)) row in
       let fired = ap (λ (o : Option Row). option_map_or (λ (x : Row). x.fired.0) o 0) row in
-      let here : WindowsStandFor n b u pushed = push n b t now past h.since_past (rows-begin all) along across old in
+      let here : WindowsStandFor n b u pushed = push n b t now past h.since_past (rows-begin all) along across old.0 in
       let are : TestsAre n b d.stage u a = tests n b t now past h.since_past along across fired old here in
       let before : StandsFor n t s = StandsFor-agree t (signals_of_rows rows) n s agree h.search_is in
       let after : StandsFor n u (next_search n u s) = subst (λ (k : ℕ). StandsFor n k (next_search n k s)) (sym now) (StandsFor-next n t s before) in
@@ -201,7 +209,7 @@ module _ (rows : List Row) (r : Row) (d e : DetectState) (u : ℕ) (a : Tests) (
           bounds = bounds_past u ans b;
           since_past = subst (λ (k : ℕ). (bounds_past u ans b).since ≤ k) len since;
           search_is = subst (λ (k : ℕ). StandsFor n k (record { bounds = bounds_past u ans b; phase = phase_of e.stage })) len stands;
-          kept_are = subst (λ (k : ℕ). WindowsStandFor n (bounds_past u ans b) k e.windows) len windows;
+          kept_are = subst (λ (k : ℕ). KeepsPast n (bounds_past u ans b) k e) len (windows, rests n b t now past h.since_past along across old here);
         },
         told ∙ same ∙ sym answer ∙ ap (tick_change n) now,
       )
@@ -210,30 +218,56 @@ module _ (rows : List Row) (r : Row) (d e : DetectState) (u : ℕ) (a : Tests) (
 abbrev pub nothing : Answer
 nothing = record { zero = false; confirmed = false; locked = false; ended = false; dropped = false; closed = false }
 
-module _ (rows : List Row) (r : Row) (d : DetectState) (u : ℕ) (pushed : Windows)
+-- a tick past which the search goes on as before
+module _ (rows : List Row) (r : Row) (d : DetectState) (u : ℕ) (pushed : Windows) (rests : Bool)
     (h : DetectStandsFor d rows) (u_is : u ≡ d.tick + 1) (searching : phase_of d.stage ≡ Searching)
-    (push : (m : Signals) (b : Bounds) (before : ℕ) → u ≡ before + 1 → b.after ≤ before → b.since ≤ before → BeginsAtRest m → change_at m.along u ≡ r.along → change_at m.across u ≡ r.across → WindowsStandFor m b before d.windows → WindowsStandFor m b u pushed) where
-  -- a tick past which the search goes on as before
-  pub tick-still : (a : Tests) → a.zero ≡ false →
-      ((m : Signals) (b : Bounds) (before : ℕ) → u ≡ before + 1 → b.after ≤ before → b.since ≤ before → change_at m.along u ≡ r.along → change_at m.across u ≡ r.across → m.fired u ≡ r.fired.0 → WindowsStandFor m b before d.windows → WindowsStandFor m b u pushed → TestsAre m b d.stage u a) →
-      DetectStandsFor (record { tick = u; stage = d.stage; windows = pushed }) (rows ++ r ∷ []) × (told_of nothing ≡ tick_change (signals_of_rows (rows ++ r ∷ [])) (length rows + 1))
-  tick-still a none tests =
-      tick-stands rows r d (record { tick = u; stage = d.stage; windows = pushed }) u a nothing pushed h u_is refl push tests
-      (λ b. rw (searching, none) refl) (rw (searching, none) refl) (λ m b k w. w)
+    (push : (m : Signals) (b : Bounds) (before : ℕ) → u ≡ before + 1 → b.after ≤ before → b.since ≤ before → BeginsAtRest m → change_at m.along u ≡ r.along → change_at m.across u ≡ r.across → WindowsStandFor m b before d.windows → WindowsStandFor m b u pushed)
+    (nothing_moves : IsTrue rests → HoldNothing pushed) where
+  abbrev After : Type 0
+  After = DetectStandsFor (record { tick = u; stage = d.stage; windows = pushed; rests = rests }) (rows ++ r ∷ []) × (told_of nothing ≡ tick_change (signals_of_rows (rows ++ r ∷ [])) (length rows + 1))
 
-  -- a tick at which nothing moves and nothing fires
-  pub tick-quiet : r.along ≡ pos 0 → r.across ≡ pos 0 → r.fired.0 ≡ 0 → ((m : Signals) (b : Bounds) (t : ℕ) → WindowsStandFor m b t d.windows → AreStill m b t) →
-      DetectStandsFor (record { tick = u; stage = d.stage; windows = pushed }) (rows ++ r ∷ []) × (told_of nothing ≡ tick_change (signals_of_rows (rows ++ r ∷ [])) (length rows + 1))
-  tick-quiet along across fired still = tick-still no_tests refl
-      (λ m b before next after since here side fires old w. tests-still m b d.stage u searching (fires ∙ fired) (AreStill-next m b before u next after since (here ∙ along) (side ∙ across) (still m b before old)))
+  goes-on : (a : Tests) → a.zero ≡ false →
+      ((m : Signals) (b : Bounds) (before : ℕ) → u ≡ before + 1 → b.after ≤ before → b.since ≤ before → change_at m.along u ≡ r.along → change_at m.across u ≡ r.across → m.fired u ≡ r.fired.0 → KeepsPast m b before d → WindowsStandFor m b u pushed → TestsAre m b d.stage u a) →
+      ((m : Signals) (b : Bounds) (before : ℕ) → u ≡ before + 1 → b.after ≤ before → b.since ≤ before → change_at m.along u ≡ r.along → change_at m.across u ≡ r.across → KeepsPast m b before d → WindowsStandFor m b u pushed → IsTrue rests → AreStill m b u) → After
+  goes-on a none tests still =
+      tick-stands rows r d (record { tick = u; stage = d.stage; windows = pushed; rests = rests }) u a nothing pushed h u_is refl push tests
+      (λ b. rw (searching, none) refl) (rw (searching, none) refl) (λ m b k w. w)
+      (λ m b before next after since here side old now told. record { searching = searching; still = still m b before next after since here side old now told; nothing = nothing_moves told })
+
+  -- whatever moves
+  pub tick-still : (a : Tests) → a.zero ≡ false →
+      ((m : Signals) (b : Bounds) (before : ℕ) → u ≡ before + 1 → b.after ≤ before → m.fired u ≡ r.fired.0 → WindowsStandFor m b u pushed → TestsAre m b d.stage u a) →
+      (IsTrue rests → (m : Signals) (b : Bounds) (t : ℕ) → WindowsStandFor m b t pushed → AreStill m b t) → After
+  tick-still a none tests still =
+      goes-on a none (λ m b before next after since here side fires old now. tests m b before next after fires now)
+      (λ m b before next after since here side old now told. still told m b u now)
+
+  -- where nothing moves and nothing fires
+  pub tick-quiet : r.along ≡ pos 0 → r.across ≡ pos 0 → r.fired.0 ≡ 0 → IsTrue d.rests → After
+  unfolding KeepsPast
+  tick-quiet along across fired told =
+      let next_still = λ (m : Signals) (b : Bounds) (before : ℕ) (next : u ≡ before + 1) (after : b.after ≤ before) (since : b.since ≤ before) (here : change_at m.along u ≡ r.along) (side : change_at m.across u ≡ r.across) (old : KeepsPast m b before d).
+      AreStill-next m b before u next after since (here ∙ along) (side ∙ across) (old.1 told).still in
+      goes-on no_tests refl
+      (λ m b before next after since here side fires old now. tests-still m b d.stage u searching (fires ∙ fired) (next_still m b before next after since here side old))
+      (λ m b before next after since here side old now _. next_still m b before next after since here side old)
+
+-- a detector that doesn't rest says so
+pub never-rests : IsTrue false → ⊥
+never-rests told = cc
+
+-- what a detector that rests keeps
+pub at-rest : (d : DetectState) (rows : List Row) → DetectStandsFor d rows → IsTrue d.rests → (phase_of d.stage ≡ Searching) × HoldNothing d.windows
+unfolding KeepsPast
+at-rest d rows h told = let rest = h.kept_are.1 told in (rest.searching, rest.nothing)
 
 -- before the first tick
-pub start-stands : (d : DetectState) → d.tick ≡ 0 → phase_of d.stage ≡ Searching → ((m : Signals) → BeginsAtRest m → WindowsStandFor m at_start 0 d.windows) → DetectStandsFor d []
+pub start-stands : (d : DetectState) → d.tick ≡ 0 → phase_of d.stage ≡ Searching → d.rests ≡ false → ((m : Signals) → BeginsAtRest m → WindowsStandFor m at_start 0 d.windows) → DetectStandsFor d []
 unfolding KeepsPast
-start-stands d none searching windows = record {
+start-stands d none searching moves windows = record {
   tick_is = none;
   bounds = at_start;
   since_past = omega arith;
   search_is = subst (λ (p : Phase). StandsFor (signals_of_rows []) 0 (record { bounds = at_start; phase = p })) (sym searching) (StandsFor-start (signals_of_rows []));
-  kept_are = windows (signals_of_rows []) (rows-begin []);
+  kept_are = (windows (signals_of_rows []) (rows-begin []), λ told. absurd (let e : true ≡ false = sym told ∙ moves in cc));
 }

@@ -9,10 +9,13 @@ use Rattle.std.proofs.lemmas.Option.{MatchOption-at_some}
 use Rattle.edr_definitions.specs.Signals.{Signals}
 use Rattle.edr_definitions.specs.Selection.{Bounds}
 use Rattle.edr_definitions.specs.Windows.{change_at, delta_v, size_of_change, largest_change, swing}
+use Rattle.edr_definitions.specs.Facts.{AgreeUpTo}
+use Rattle.edr_definitions.proofs.AgreeLaws.{swing-agree}
 use Rattle.edr_definitions.proofs.WindowLaws.{delta_v-none, largest_change-cons, largest_change-none}
 use Rattle.edr_window.specs.Changes.{changes}
 use Rattle.edr_window.specs.Sums.{IsLeastSum, IsGreatestSum}
 use Rattle.edr_window.specs.Swing.{SwingState, SwingStandsFor}
+use Rattle.edr_detect.specs.Standing.{AreStill}
 use Rattle.edr_detect.proofs.LatestLemmas.{delta_v-push}
 use Rattle.edr_window.proofs.ChangeLaws.{length-changes, changes-push, changes-none, extremes-swing}
 
@@ -97,13 +100,7 @@ swing-rest axis k from t low high l h least greatest =
     (MatchOption-at_some (changes axis from t ≡ []) (IsLeastSum k (changes axis from t)) (pos 0) (is_zero low l) least)
     (MatchOption-at_some (changes axis from t ≡ []) (IsGreatestSum k (changes axis from t)) (pos 0) (is_zero high h) greatest)
 
--- at the tick t no change that counts for a time zero or the trigger differs from 0
-pub record AreStill (m : Signals) (b : Bounds) (t : ℕ) : Type 0 where
-  pub zero_along : swing m.along 20 b.after t ≡ 0
-  pub zero_across : swing m.across 5 b.after t ≡ 0
-  pub trigger_along : swing m.along 150 b.since t ≡ 0
-  pub trigger_across : swing m.across 150 b.since t ≡ 0
-
+-- at a further change of 0 they stay still
 pub AreStill-next : (m : Signals) (b : Bounds) (t u : ℕ) → u ≡ t + 1 → b.after ≤ t → b.since ≤ t → change_at m.along u ≡ pos 0 → change_at m.across u ≡ pos 0 → AreStill m b t → AreStill m b u
 AreStill-next m b t u next after since along across h =
     let here : change_at m.along (t + 1) ≡ pos 0 = ap (change_at m.along) (sym next) ∙ along in
@@ -114,3 +111,11 @@ AreStill-next m b t u next after since along across h =
       trigger_along = swing-still m.along 150 b.since t since here h.trigger_along;
       trigger_across = swing-still m.across 150 b.since t since side h.trigger_across;
     })
+
+pub AreStill-agree : (m n : Signals) (b : Bounds) (t : ℕ) → AgreeUpTo t m n → AreStill m b t → AreStill n b t
+AreStill-agree m n b t same h = record {
+  zero_along = sym (swing-agree m.along n.along 20 b.after t same.along) ∙ h.zero_along;
+  zero_across = sym (swing-agree m.across n.across 5 b.after t same.across) ∙ h.zero_across;
+  trigger_along = sym (swing-agree m.along n.along 150 b.since t same.along) ∙ h.trigger_along;
+  trigger_across = sym (swing-agree m.across n.across 150 b.since t same.across) ∙ h.trigger_across;
+}

@@ -1,23 +1,30 @@
 -- What a detector is, and of which rows.
-use Rattle.std.specs.Prelude.{◌≡◌, ℕ, ◌≤◌, List, length}
+use Rattle.std.specs.Prelude.{◌≡◌, ℕ, ◌≤◌, Bool, IsTrue, List, length}
 use Rattle.edr_definitions.specs.Signals.{Signals}
 use Rattle.edr_definitions.specs.Selection.{Bounds}
-use Rattle.edr_definitions.specs.Search.{StandsFor}
+use Rattle.edr_definitions.specs.Search.{Searching, StandsFor}
 use Rattle.edr_detect.specs.declared.stage.Stage.{Stage}
 use Rattle.edr_detect.specs.declared.windows.Windows.{Windows}
 use Rattle.edr_detect.specs.Stages.{phase_of}
-use Rattle.edr_detect.specs.Standing.{WindowsStandFor}
+use Rattle.edr_detect.specs.Standing.{WindowsStandFor, HoldNothing, AreStill}
 use Rattle.edr_detect.specs.Rows.{Row, signals_of_rows}
 
--- the number of its ticks, how far an open candidate has come, and what it keeps of the rows
+-- the number of its ticks, how far an open candidate has come, what it keeps of the rows, and whether it rests
 pub record DetectState : Type 0 where
   pub tick : ℕ
   pub stage : Stage
   pub windows : Windows
+  pub rests : Bool
 
--- what the detector keeps of these signals up to t: the windows hold the changes past the bounds
+-- at the tick t no candidate is open, and no change that still counts differs from 0
+pub record IsAtRest (m : Signals) (b : Bounds) (t : ℕ) (d : DetectState) : Type 0 where
+  pub searching : phase_of d.stage ≡ Searching
+  pub still : AreStill m b t
+  pub nothing : HoldNothing d.windows
+
+-- what the detector keeps of these signals up to t: the windows hold the changes past the bounds, and where it says that it rests it does
 unfoldable pub KeepsPast : Signals → Bounds → ℕ → DetectState → Type 0
-KeepsPast m b t d = WindowsStandFor m b t d.windows
+KeepsPast m b t d = WindowsStandFor m b t d.windows × (IsTrue d.rests → IsAtRest m b t d)
 
 -- the detector was given these rows, and no others: the search of the definitions stands at the last of them as the stage says, with bounds past which it keeps what the search needs
 pub record DetectStandsFor (d : DetectState) (rows : List Row) : Type 0 where

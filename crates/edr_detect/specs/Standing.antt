@@ -1,7 +1,7 @@
 -- What the windows of the streaming search hold.
 use Rattle.std.specs.Prelude.{◌≡◌, ℕ, ◌≤◌, pos, if◌then◌else◌, Option, None}
 use Rattle.edr_definitions.specs.Signals.{Signals}
-use Rattle.edr_definitions.specs.Windows.{change_at}
+use Rattle.edr_definitions.specs.Windows.{change_at, swing}
 use Rattle.edr_definitions.specs.Selection.{Bounds, is_triggered, is_time_zero, is_end}
 use Rattle.edr_definitions.specs.Commands.{is_locking}
 use Rattle.edr_window.specs.Changes.{changes}
@@ -11,7 +11,7 @@ use Rattle.edr_detect.specs.declared.stage.Stage.{Stage}
 use Rattle.edr_detect.specs.declared.stage.Stage.TheVariants as stage
 use Rattle.edr_detect.specs.declared.stage.Tests.{Tests}
 use Rattle.edr_detect.specs.declared.windows.Windows.{Windows}
-use Rattle.edr_detect.specs.Latest.{LatestStandsFor}
+use Rattle.edr_detect.specs.Latest.{AreZeros, LatestStandsFor}
 
 -- at the tick t, in a search with these bounds, the swings hold the changes past the bounds, and the sums those of the last 20 ticks
 pub record WindowsStandFor (m : Signals) (b : Bounds) (t : ℕ) (w : Windows) : Type 0 where
@@ -21,6 +21,18 @@ pub record WindowsStandFor (m : Signals) (b : Bounds) (t : ℕ) (w : Windows) : 
   pub trigger_across : SwingStandsFor 150 w.trigger_across (changes m.across b.since t)
   pub latest_along : LatestStandsFor m.along t w.latest_along.values w.latest_along.sum
   pub latest_across : LatestStandsFor m.across t w.latest_across.values w.latest_across.sum
+
+-- no change of the last 20 ticks of either axis differs from 0
+pub record HoldNothing (w : Windows) : Type 0 where
+  pub along : AreZeros w.latest_along.values
+  pub across : AreZeros w.latest_across.values
+
+-- at the tick t no change that counts for a time zero or the trigger differs from 0
+pub record AreStill (m : Signals) (b : Bounds) (t : ℕ) : Type 0 where
+  pub zero_along : swing m.along 20 b.after t ≡ 0
+  pub zero_across : swing m.across 5 b.after t ≡ 0
+  pub trigger_along : swing m.along 150 b.since t ≡ 0
+  pub trigger_across : swing m.across 150 b.since t ≡ 0
 
 -- since its restart no swing was given more than n values
 pub record PushedAtMost (n : ℕ) (w : Windows) : Type 0 where

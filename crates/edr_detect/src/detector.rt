@@ -17,6 +17,8 @@ pub struct Detect {
     tick: u32,
     stage: Stage,
     windows: Windows,
+    // No candidate is open, and no change that still counts differs from 0.
+    rests: bool,
 }
 
 impl Model for Detect {
@@ -25,7 +27,7 @@ impl Model for Detect {
 
     ghost Value = { DetectState };
 
-    ghost view = { λ d. record { tick = d.tick; stage = d.stage; windows = d.windows } };
+    ghost view = { λ d. record { tick = d.tick; stage = d.stage; windows = d.windows; rests = d.rests } };
 
     ghost invariant = { λ d. PushedAtMost d.tick d.windows };
 }
@@ -46,6 +48,7 @@ impl Detect {
             tick: 0,
             stage: Stage::Searching,
             windows: Windows::new(),
+            rests: false,
         }
     }
 
@@ -60,14 +63,9 @@ impl Detect {
         ensures tick { self.new.tick ≡ self.old.tick + 1 }
     {
         // At most ticks of a drive nothing moves, nothing fires and no candidate is open.
-        if along == 0
-            && across == 0
-            && fired.0 == 0
-            && self.stage.is_searching()
-            && self.windows.are_at_rest()
-        {
+        if along == 0 && across == 0 && fired.0 == 0 && self.rests {
             self.tick += 1;
-            self.windows.push(self.tick, along, across);
+            self.windows.rest();
             return NOTHING;
         }
         self.full_tick(along, across, fired)
@@ -88,11 +86,13 @@ impl Detect {
         let tests = self.windows.tests(self.stage, self.tick, fired);
         // The search goes on as it was.
         if self.stage.is_searching() && !tests.zero {
+            self.rests = self.windows.are_at_rest();
             return NOTHING;
         }
         let change = self.stage.change_at(self.tick, tests);
         self.stage = self.stage.next(self.tick, tests);
         self.windows.restart(change);
+        self.rests = false;
         change
     }
 }

@@ -1,6 +1,6 @@
 //! The change of speed of the last 20 ticks.
 
-ghost use Rattle.std.specs.Prelude.{◌≡◌, ℕ, ◌+◌, ◌≤◌, pos, ℤ, Option, unsigned_abs};
+ghost use Rattle.std.specs.Prelude.{◌≡◌, ℕ, ◌+◌, ◌≤◌, pos, ℤ, Option, IsTrue, unsigned_abs};
 ghost use Rattle.edr_detect.specs.Sums.{IsSumOfSmall};
 
 // The changes of the last 20 ticks, that of the tick u in the place u % 20, and their sum.
@@ -13,7 +13,7 @@ pub struct Latest {
 
 impl Latest {
     ghost use Rattle.edr_definitions.specs.Windows.{change_at};
-    ghost use Rattle.edr_detect.specs.Latest.{LatestStandsFor};
+    ghost use Rattle.edr_detect.specs.Latest.{AreZeros, LatestStandsFor};
 
     pub fn new() -> Latest
         ensures { (axis : ℕ → Option ℤ) → change_at axis 0 ≡ pos 0 → LatestStandsFor axis 0 result.values result.sum }
@@ -32,5 +32,12 @@ impl Latest {
         let place = (t % 20) as usize;
         self.sum = self.sum - self.values[place] + change;
         self.values[place] = change;
+    }
+
+    // None of the changes differs from 0.
+    pub fn is_zero(&self) -> bool
+        ensures { IsTrue result → AreZeros self.now.values }
+    {
+        self.values == [0; 20]
     }
 }

@@ -50,7 +50,7 @@ fn is_at_rest<const K: usize>(sums: &Swing<K>) -> bool
 impl Windows {
     ghost use Rattle.edr_definitions.specs.Signals.{Signals};
     ghost use Rattle.edr_definitions.specs.Selection.{Bounds, is_triggered, is_time_zero, is_end, at_start};
-    ghost use Rattle.edr_detect.specs.Standing.{WindowsStandFor, PushedAtMost, BeginsAtRest, TestsAre, bounds_past};
+    ghost use Rattle.edr_detect.specs.Standing.{WindowsStandFor, HoldNothing, PushedAtMost, BeginsAtRest, TestsAre, bounds_past};
 
     pub fn new() -> Windows
         ensures stands { (m : Signals) → BeginsAtRest m → WindowsStandFor m at_start 0 result }
@@ -83,17 +83,34 @@ impl Windows {
         self.latest_across.push(t, across);
     }
 
-    // No sum of any swing differs from 0.
+    // A further tick at which nothing changes. Only the swings count it, where the last 20 ticks changed nothing either.
+    #[inline(always)]
+    pub fn rest(&mut self)
+        requires room { PushedAtMost 86_399_999 self.old }
+        ensures stands { (m : Signals) (b : Bounds) (before t : ℕ) → t ≡ before + 1 → b.after ≤ before → b.since ≤ before → BeginsAtRest m → change_at m.along t ≡ pos 0 → change_at m.across t ≡ pos 0 → HoldNothing self.old → WindowsStandFor m b before self.old → WindowsStandFor m b t self.new }
+        ensures nothing { HoldNothing self.old → HoldNothing self.new }
+        ensures pushed { (n : ℕ) → PushedAtMost n self.old → PushedAtMost (n + 1) self.new }
+    {
+        self.zero_along.push(0);
+        self.zero_across.push(0);
+        self.trigger_along.push(0);
+        self.trigger_across.push(0);
+    }
+
+    // No sum of any swing differs from 0, and no change of the last 20 ticks.
     pub fn are_at_rest(&self) -> bool
         ensures zero_along { IsTrue result → (m : Signals) (b : Bounds) (t : ℕ) → WindowsStandFor m b t self.now → swing m.along 20 b.after t ≡ 0 }
         ensures zero_across { IsTrue result → (m : Signals) (b : Bounds) (t : ℕ) → WindowsStandFor m b t self.now → swing m.across 5 b.after t ≡ 0 }
         ensures trigger_along { IsTrue result → (m : Signals) (b : Bounds) (t : ℕ) → WindowsStandFor m b t self.now → swing m.along 150 b.since t ≡ 0 }
         ensures trigger_across { IsTrue result → (m : Signals) (b : Bounds) (t : ℕ) → WindowsStandFor m b t self.now → swing m.across 150 b.since t ≡ 0 }
+        ensures nothing { IsTrue result → HoldNothing self.now }
     {
         is_at_rest(&self.zero_along)
             && is_at_rest(&self.zero_across)
             && is_at_rest(&self.trigger_along)
             && is_at_rest(&self.trigger_across)
+            && self.latest_along.is_zero()
+            && self.latest_across.is_zero()
     }
 
     // A restraint fires, or a change meets the trigger threshold.
