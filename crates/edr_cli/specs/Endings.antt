@@ -28,3 +28,7 @@ TellsPart IsText IsCause old new = ((text : List ℕ) × IsText text × Told (Ap
 -- why words are not served: they ask for nothing that is, or memory ran out while they were read
 abbrev pub IsUsageCause : Fault → Type 0
 IsUsageCause f = (f ≡ fault.Usage) ⊎ (f ≡ fault.OutOfMemory)
+
+-- why there is no text that is made from a number: memory ran out
+abbrev pub IsNumberCause : Fault → Type 0
+IsNumberCause f = f ≡ fault.OutOfMemory

@@ -18,15 +18,19 @@ AreReplay form words = job_of words ≡ Some (Replay form)
 abbrev pub AreReport : Form → List (List ℕ) → Type 0
 AreReport form words = job_of words ≡ Some (Report form)
 
+-- they ask for the trace of this number, with so many cycles
+abbrev pub AreGenerate : ℕ → ℕ → List (List ℕ) → Type 0
+AreGenerate number cycles words = job_of words ≡ Some (Generate number cycles)
+
 -- the job, if there is one, is none that is served
 abbrev pub IsOther : Option Job → Type 0
 IsOther None = ⊤
 IsOther (Some (Drive workers form)) = ⊤
-IsOther (Some (Generate number cycles)) = ⊤
 IsOther (Some (Large number cycles)) = ⊤
 IsOther (Some (Format banks choice)) = ⊥
 IsOther (Some (Replay form)) = ⊥
 IsOther (Some (Report form)) = ⊥
+IsOther (Some (Generate number cycles)) = ⊥
 
 -- they ask for nothing that is served
 abbrev pub AreOther : List (List ℕ) → Type 0

@@ -4,6 +4,7 @@
 
 mod endings;
 mod formats;
+mod generates;
 mod images;
 pub mod laws;
 mod replays;

@@ -12,15 +12,17 @@ ghost use Rattle.edr_spell.specs.Spell.{Spell, largest_trace};
 ghost use Rattle.edr_spell.specs.declared.CycleInput.{CycleInput};
 ghost use Rattle.edr_run.specs.Cycle.{last_count};
 ghost use Rattle.edr_replay.specs.Past.{LeavesPast};
+ghost use Rattle.edr_gen.specs.Traces.{generated_trace};
 ghost use Rattle.edr_words.specs.declared.Form.{Form};
-ghost use Rattle.edr_cli.specs.Endings.{IsUsageCause, Tells, TellsFault, TellsFaultPart, TellsPart};
+ghost use Rattle.edr_cli.specs.Endings.{IsNumberCause, IsUsageCause, Tells, TellsFault, TellsFaultPart, TellsPart};
 ghost use Rattle.edr_cli.specs.Outside.{IsAtEnd, input, memory};
 ghost use Rattle.edr_cli.specs.Reports.{FormatIs, HasMagic, IsFormatCause, IsImageCause, ReportIs, Says};
 ghost use Rattle.edr_cli.specs.Runs.{IsReplayCause, RunIs};
-ghost use Rattle.edr_cli.specs.Words.{AreFormat, AreOther, AreReplay, AreReport};
+ghost use Rattle.edr_cli.specs.Words.{AreFormat, AreGenerate, AreOther, AreReplay, AreReport};
 
 use crate::endings::{tell, write};
 use crate::formats::make_image;
+use crate::generates::write_trace;
 use crate::images::report;
 use crate::replays::replay_source;
 use crate::status::Status;
@@ -30,12 +32,12 @@ use edr_report::Fault;
 use edr_words::{Job, Words};
 use std::alloc::{AllocError as OutOfMemory, Global};
 
-/// Serves the words `format B C`, `replay [text|csv]` and `report [text|csv]`.
+/// Serves the words `format B C`, `replay [text|csv]`, `report [text|csv]` and `generate N M`.
 ///
 /// `replay` reads a trace from the source, runs its ignition cycles over the device, each up to its planned power cut, and
 /// writes what was acknowledged and every record that the device holds then. `report` writes the records that the device
-/// holds. `format` makes a new image on the device, and writes the line that tells of it. A fault writes its one line and
-/// nothing else.
+/// holds. `format` makes a new image on the device, and writes the line that tells of it. `generate` writes a trace that is
+/// made from a number. A fault writes its one line and nothing else.
 pub fn command<S: Source, K: Sink, N: Nvm>(
     alloc: Global,
     words: &Words,
@@ -140,6 +142,18 @@ pub fn command<S: Source, K: Sink, N: Nvm>(
     ensures format_complete { (h : Header) → AreFormat h words.now → ¬ Rose (N.faults nvm.old) (N.faults nvm.new) → ¬ Rose (K.faults sink.old) (K.faults sink.new)
         → image_size h.banks ≤ N.extent nvm.old
         → IfSome (N.content nvm.old) (λ bytes. LacksMagic bytes → (result ≡ Status.Ok) ⊎ (result ≡ Status.OutOfMemory)) }
+
+    // `generate`. With Ok the sink gained exactly the trace of the number. Nothing is read, and the device stays.
+    ensures generate { (number cycles : ℕ) → AreGenerate number cycles words.now → result ≡ Status.Ok
+        → Tells (λ text. text ≡ generated_trace number cycles) (K.content sink.old) (K.content sink.new) }
+    ensures generate_other { (number cycles : ℕ) → AreGenerate number cycles words.now → result ≢ Status.Ok → result ≢ Status.WriteFault
+        → TellsFault IsNumberCause result (K.content sink.old) (K.content sink.new) }
+    ensures generate_part { (number cycles : ℕ) → AreGenerate number cycles words.now → result ≡ Status.WriteFault
+        → TellsPart (λ text. text ≡ generated_trace number cycles) IsNumberCause (K.content sink.old) (K.content sink.new) }
+    ensures generate_stays { (number cycles : ℕ) → AreGenerate number cycles words.now
+        → (source.new ≡ source.old) × (nvm.new ≡ nvm.old) }
+    ensures generate_complete { (number cycles : ℕ) → AreGenerate number cycles words.now → ¬ Rose (K.faults sink.old) (K.faults sink.new)
+        → (result ≡ Status.Ok) ⊎ (result ≡ Status.OutOfMemory) }
 {
     let job = match words.job(alloc) {
         Ok(job) => job,
@@ -158,8 +172,7 @@ pub fn command<S: Source, K: Sink, N: Nvm>(
             Ok(line) => write(sink, line.as_bytes(), Status::Ok),
             Err(fault) => tell(sink, fault),
         },
-        Some(Job::Drive { .. } | Job::Generate { .. } | Job::Large { .. }) | None => {
-            tell(sink, Fault::Usage)
-        }
+        Some(Job::Generate { number, cycles }) => write_trace(sink, number, cycles),
+        Some(Job::Drive { .. } | Job::Large { .. }) | None => tell(sink, Fault::Usage),
     }
 }

@@ -5,7 +5,7 @@ use Rattle.edr_banks.specs.Formatting.{IsPartlyFormatted}
 use Rattle.edr_report.specs.declared.faults.Fault.TheVariants as fault
 use Rattle.edr_spell.specs.Spell.{largest_trace}
 use Rattle.edr_cli.specs.declared.status.Status.TheVariants as status
-use Rattle.edr_cli.specs.Endings.{IsUsageCause}
+use Rattle.edr_cli.specs.Endings.{IsNumberCause, IsUsageCause}
 use Rattle.edr_cli.specs.Outside.{input, memory}
 use Rattle.edr_cli.specs.Reports.{FormatIs, IsFormatCause, IsImageCause}
 use Rattle.edr_cli.specs.Runs.{IsReplayCause}
@@ -78,6 +78,17 @@ returns-in-Err-clause-format_crash g c = λ h bytes image asked quiet left. stil
 
 pub returns-in-Err-clause-format_stays : goal.returns-in-Err-clause-format_stays
 returns-in-Err-clause-format_stays g c = λ h bytes image asked quiet has left. quiet_leaves bytes _ _ image quiet left
+
+pub returns-in-Err-clause-generate_other : goal.returns-in-Err-clause-generate_other
+returns-in-Err-clause-generate_other g c = λ number cycles asked ended. tells_fault IsNumberCause fault.OutOfMemory c.tell.result _ _ refl c.tell.ensures.whole
+
+pub returns-in-Err-clause-generate_part : goal.returns-in-Err-clause-generate_part
+returns-in-Err-clause-generate_part g c = λ number cycles asked failed.
+    inr (tells_fault_part IsNumberCause _ fault.OutOfMemory c.tell.result _ _ refl c.tell.ensures.part failed)
+
+pub returns-in-Err-clause-generate_complete : goal.returns-in-Err-clause-generate_complete
+returns-in-Err-clause-generate_complete g c = λ number cycles asked quiet.
+    inr (answered _ _ c.tell.result status.OutOfMemory c.tell.ensures.answers c.tell.ensures.part quiet)
 
 -- ---- replay
 
