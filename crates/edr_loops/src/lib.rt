@@ -9,6 +9,8 @@ mod marks;
 mod orders;
 mod place;
 mod stand;
+#[cfg(test)]
+mod tests;
 mod threads;
 
 pub use crate::desk::Desk;
