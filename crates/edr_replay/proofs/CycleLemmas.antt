@@ -81,12 +81,17 @@ rose_later (Err e) a b c le h = λ f. rose_again a b c le h.1 where
 
 -- ---- want of memory tells nothing
 
+different : fault.OutOfMemory ≡ fault.Spent → ⊥
+different e = cc
+
 -- not that no number is left
 pub memory_spent : (cs : List CycleInput) (content : Option (List ℕ)) (settled : ℕ → Bool) (content' : Option (List ℕ)) (settled' : ℕ → Bool) → EndsSpent cs content settled content' settled' fault.OutOfMemory
 unfolding EndsSpent
-memory_spent cs content settled content' settled' = λ spent. absurd (different spent) where
-  different : fault.OutOfMemory ≡ fault.Spent → ⊥
-  different e = cc
+memory_spent cs content settled content' settled' = λ spent. absurd (different spent)
+
+pub memory_unspent : (content : Option (List ℕ)) (settled : ℕ → Bool) (content' : Option (List ℕ)) (settled' : ℕ → Bool) → IsTrulySpent content settled content' settled' fault.OutOfMemory
+unfolding IsTrulySpent
+memory_unspent content settled content' settled' = λ spent. absurd (different spent)
 
 -- not that the image is refused
 pub memory_refused : (content : Option (List ℕ)) (settled : ℕ → Bool) → IsTrulyRefused content settled fault.OutOfMemory

@@ -138,7 +138,7 @@ not_memory (Err e) a b content settled content' settled' h = λ memory. absurd (
 -- ---- all cycles
 
 -- none has run
-none_first : (cs : List CycleInput) (v : Store) (n : ℕ) → RanFirst cs v n 0 (record { reports = []; store = v; count = n })
+pub none_first : (cs : List CycleInput) (v : Store) (n : ℕ) → RanFirst cs v n 0 (record { reports = []; store = v; count = n })
 none_first cs v n = record { within = omega arith; run = refl }
 
 pub reached_none : (cs : List CycleInput) (content : Option (List ℕ)) (settled : ℕ → Bool) → LeavesReached cs content settled content settled

@@ -7,4 +7,6 @@ pub mod PastLemmas
 pub mod CycleLemmas
 pub mod Running
 pub mod Leaving
+pub mod EndPhase
+pub mod DrivenLemmas
 pub mod ReachedLaws

@@ -1,8 +1,8 @@
 -- What stands past the image, from one phase to the next.
-use Rattle.std.proofs.Common.{◌≡◌, ◌∙◌, ◌≤◌, ◌<◌, ◌+◌, refl, sym, ap, subst, ⊎_elim, arith, ℕ, Bool, List, [], ◌∷◌, length, slice_index, Option, Some, None}
+use Rattle.std.proofs.Common.{◌≡◌, ◌∙◌, ◌≤◌, ◌<◌, ◌+◌, sym, ap, subst, ⊎_elim, arith, ℕ, Bool, List, [], ◌∷◌, Option, Some, None}
 use Rattle.std.specs.Prelude.{false}
 use Rattle.std.proofs.lemmas.Bool.Decides.{nat_tests}
-use Rattle.edr_device.specs.Device.{Agrees, Comes, MayLeave, StillTells, Stays, is_in}
+use Rattle.edr_device.specs.Device.{Comes, MayLeave, Stays, is_in}
 use Rattle.edr_device.specs.Pieces.{SameBut}
 use Rattle.edr_device.specs.Told.{Told}
 use Rattle.edr_device.proofs.Settling.{quiet_leaves}

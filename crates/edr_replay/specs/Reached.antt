@@ -37,3 +37,9 @@ abbrev pub IsOfCycles : List CycleInput → List BankView → ℕ → ℕ → Re
 IsOfCycles cs first n i r =
     ((r.pre.key.cycle ≤ n) × (slice_get first i ≡ Some (bank.Event r)))
     ⊎ ((n < r.pre.key.cycle) × (k : ℕ) × (c : CycleInput) × (slice_get cs k ≡ Some c) × IsRecordOf c.feeds r.pre.key.cycle r)
+
+-- banks and a count to which some first cycles came; or these, and a start of the next one that was stopped in call 6 and did move
+-- the count
+pub data IsCutShort (cs : List CycleInput) (v : Store) (n : ℕ) (w : Store) (m : ℕ) : Type 0 where
+  between : (p : ℕ) (o : Outcome) → RanFirst cs v n p o → w ≡ o.store → m ≡ o.count → IsCutShort cs v n w m
+  counted : (p : ℕ) (o : Outcome) (e : End) → RanFirst cs v n p o → p < length cs → o.count < last_count → e ≡ start_end 6 o.store (o.count + 1) → w ≡ e.store → m ≡ e.count → IsCutShort cs v n w m

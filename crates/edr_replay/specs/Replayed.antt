@@ -1,6 +1,7 @@
 -- What a run of cycles leaves on the memory of the records, and why one ends early.
-use Rattle.std.specs.Prelude.{◌≡◌, ◌≢◌, ◌<◌, ℕ, Bool, List, Option, Some, length, map, take}
+use Rattle.std.specs.Prelude.{◌≡◌, ◌≢◌, ◌⊎◌, ◌+◌, ◌<◌, ℕ, Bool, List, Option, Some, length, map, take}
 use Rattle.edr_device.specs.Device.{IsQuiet, MayLeave}
+use Rattle.edr_device.specs.Faults.{Rose}
 use Rattle.edr_image.specs.declared.log.CycleReport.{CycleReport}
 use Rattle.edr_image.specs.Reports.{report_of}
 use Rattle.edr_image.specs.declared.OpenFault.TheVariants as open_fault
@@ -8,7 +9,7 @@ use Rattle.edr_image.specs.Banks.{Store}
 use Rattle.edr_image.specs.Image.{View, view_of}
 use Rattle.edr_spell.specs.declared.CycleInput.{CycleInput}
 use Rattle.edr_run.specs.Cycle.{Outcome, IsRun, last_count}
-use Rattle.edr_replay.specs.Reached.{IsPartOf, IsReached, RanFirst}
+use Rattle.edr_replay.specs.Reached.{IsCutShort, IsPartOf, IsReached, RanFirst}
 use Rattle.edr_cycle.specs.declared.started.StartFault.{StartFault}
 use Rattle.edr_cycle.specs.declared.started.StartFault.TheVariants as fault
 
@@ -94,3 +95,20 @@ unfoldable pub EndsShort : List CycleInput → Option (List ℕ) → (ℕ → Bo
 EndsShort cs content settled content' settled' e =
     IsMemory e → (v : Store) (n : ℕ) → Holds content settled v n
     → (p : ℕ) × (o : Outcome) × RanFirst cs v n p o × Holds content' settled' o.store o.count
+
+-- ---- a run by threads, which takes memory behind a start too
+
+-- want of memory leaves what was held, or that with one more on the count
+unfoldable pub IsLeftOrCounted : Option (List ℕ) → (ℕ → Bool) → Option (List ℕ) → (ℕ → Bool) → StartFault → Type 0
+IsLeftOrCounted content settled content' settled' e =
+    IsMemory e → (v : Store) (n : ℕ) → Holds content settled v n → Holds content' settled' v n ⊎ ((n < last_count) × Holds content' settled' v (n + 1))
+
+-- want of memory leaves what some first cycles came to, or these and the start of the next one
+unfoldable pub EndsCutShort : List CycleInput → Option (List ℕ) → (ℕ → Bool) → Option (List ℕ) → (ℕ → Bool) → StartFault → Type 0
+EndsCutShort cs content settled content' settled' e =
+    IsMemory e → (v : Store) (n : ℕ) → Holds content settled v n
+    → (w : Store) × (m : ℕ) × IsCutShort cs v n w m × Holds content' settled' w m
+
+-- commands by threads end early for want of memory, or by a fault that the device counted
+abbrev pub IsDrivenFault : ℕ → ℕ → StartFault → Type 0
+IsDrivenFault before now e = (e ≡ fault.OutOfMemory) ⊎ ((e ≡ fault.StoreFault) × Rose before now)

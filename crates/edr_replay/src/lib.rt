@@ -2,6 +2,7 @@
 //! cut.
 #![tactic(auto)]
 
+mod driven;
 pub mod laws;
 mod phases;
 #[cfg(test)]
@@ -19,8 +20,10 @@ ghost use Rattle.edr_spell.specs.Spell.{IsCycle as IsSpelled};
 ghost use Rattle.edr_replay.specs.Past.{LeavesPast};
 ghost use Rattle.edr_replay.specs.Replayed.{EndsShort, EndsSpent, HasRun, Holds, IsFault, IsLeftAlone, IsTrulyRefused, IsTrulyShort, IsTrulySpent, LeavesPart, LeavesReached};
 
+pub use driven::replay_driven;
 pub use edr_cycle::StartFault;
 use edr_device::Nvm;
+pub use edr_drive::Gate;
 use edr_image::CycleReport;
 use edr_spell::CycleInput;
 use phases::{Begun, run_until, start_until};

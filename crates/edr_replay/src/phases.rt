@@ -1,7 +1,7 @@
 //! The two phases of a cycle, its start and its commands, each over a fuse that stops it as planned.
 
-ghost use Rattle.std.specs.Prelude.{◌≡◌, ◌≤◌, IfOk, IfErr, true, false};
-ghost use Rattle.edr_device.specs.Device.{StillTells};
+ghost use Rattle.std.specs.Prelude.{◌≡◌, ◌≤◌, IfOk, IfErr, OnErr, Some, None, true, false};
+ghost use Rattle.edr_device.specs.Device.{Cycled, StillTells};
 ghost use Rattle.edr_device.specs.Faults.{Rose};
 ghost use Rattle.edr_image.specs.Image.{image_size};
 ghost use Rattle.edr_image.specs.Reports.{Ran, report_of};
@@ -25,7 +25,7 @@ pub(crate) enum Begun {
 }
 
 /// Whether the fuse cut the power as planned, and no call of the device failed.
-fn is_cut<N: Nvm>(fuse: &Fused<'_, N>) -> bool
+pub(crate) fn is_cut<N: Nvm>(fuse: &Fused<'_, N>) -> bool
     ensures planned { result ≡ true → (fuse.now.spent ≡ true) × (fuse.now.broken ≡ false) }
     ensures unplanned { result ≡ false → fuse.now.spent ≡ true → fuse.now.broken ≡ true }
 {
@@ -76,6 +76,36 @@ fn ran(end: CycleEnd, stopped: Option<u32>) -> CycleReport
     }
 }
 
+/// Ends the commands of a cycle: where they were all done, the power is taken away; where the fuse cut it as planned, that is told.
+pub(crate) fn end_run<N: Nvm>(
+    end: CycleEnd,
+    cut: bool,
+    stop: u32,
+    nvm: &mut N,
+) -> Result<CycleReport, StartFault>
+    ensures size { N.extent nvm.new ≡ N.extent nvm.old }
+    ensures device { N.goes_on nvm.old nvm.new }
+    ensures tells { StillTells (N.content nvm.old) (N.content nvm.new) }
+    ensures later { N.faults nvm.old ≤ N.faults nvm.new }
+    ensures off { end.failed ≡ false → Cycled result (N.content nvm.old) (N.settled nvm.old) (N.since nvm.old) (N.content nvm.new) (N.settled nvm.new) (N.since nvm.new) }
+    ensures fault { IfErr result (λ e. (e ≡ StartFault.StoreFault) × (end.failed ≡ false → Rose (N.faults nvm.old) (N.faults nvm.new))) }
+    ensures stays { end.failed ≡ true → nvm.new ≡ nvm.old }
+    ensures whole { IfOk result (λ report. end.failed ≡ false → report_of report ≡ Ran end.number None end.log.acks) }
+    ensures stopped { IfOk result (λ report. end.failed ≡ true → (cut ≡ true) × (report_of report ≡ Ran end.number (Some stop) end.log.acks)) }
+    ensures unplanned { OnErr result (end.failed ≡ true → cut ≡ false) }
+{
+    if !end.failed {
+        return match nvm.power_cycle() {
+            Ok(()) => Ok(ran(end, None)),
+            Err(_) => Err(StartFault::StoreFault),
+        };
+    }
+    if !cut {
+        return Err(StartFault::StoreFault);
+    }
+    Ok(ran(end, Some(stop)))
+}
+
 /// Runs the commands of a cycle up to the planned changing call of them, and takes the power away; 0 plans none.
 pub(crate) fn run_until<N: Nvm>(
     started: Started,
@@ -101,14 +131,5 @@ pub(crate) fn run_until<N: Nvm>(
     let end = run_alone(started, feeds, &mut fuse);
     let cut = is_cut(&fuse);
     fuse.end();
-    if !end.failed {
-        return match nvm.power_cycle() {
-            Ok(()) => Ok(ran(end, None)),
-            Err(_) => Err(StartFault::StoreFault),
-        };
-    }
-    if !cut {
-        return Err(StartFault::StoreFault);
-    }
-    Ok(ran(end, Some(stop)))
+    end_run(end, cut, stop, nvm)
 }
