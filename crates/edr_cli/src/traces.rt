@@ -1,15 +1,16 @@
 //! Reads the trace that a source gives.
-ghost use Rattle.std.specs.Prelude.{◌≡◌, ◌≢◌, ◌+◌, ◌≤◌, ◌<◌, ◌^◌, ℕ, List, Some, Err, length, All, IfOk, IfErr, IfSome, OnErr, OnOk};
+ghost use Rattle.std.specs.Prelude.{◌≡◌, ◌≢◌, ◌+◌, ◌-◌, ◌≤◌, ◌<◌, ◌^◌, ℕ, List, Err, ◌++◌, length, take, vec_len, All, IfOk, IfErr, IfSome, OnErr, OnOk};
 ghost use Rattle.edr_device.specs.Faults.{Rose};
 ghost use Rattle.edr_device.specs.Told.{Told};
-ghost use Rattle.edr_device.specs.Transfer.{Carries, GivesAll, GivesAtMost, GivesTooMany, IsAnswerWithin};
+ghost use Rattle.edr_device.specs.Transfer.{Carries, GivesAll, GivesAtMost, GivesTooMany};
 ghost use Rattle.edr_spell.specs.Spell.{IsCycle, largest_trace};
+ghost use Rattle.edr_trace.specs.Given.{Given};
 ghost use Rattle.edr_cli.specs.Outside.{IsAtEnd, input};
 ghost use Rattle.edr_cli.specs.Runs.{IsTraceCause, IsTraceOf};
 
 use edr_device::{Source, TakeFault};
 use edr_report::Fault;
-use edr_trace::{CycleInput, LARGEST_TRACE, Pieces, ReadRefused, read_pieces};
+use edr_trace::{CycleInput, LARGEST_TRACE, LONGEST_ROW, ReadRefused, Reading};
 use std::alloc::Global;
 
 // The most bytes that are asked for at once.
@@ -24,47 +25,78 @@ fn piece_len(wanted: usize) -> usize
     wanted.min(LONGEST_PIECE)
 }
 
-// Carries some bytes of the source to the end of `taken`, and answers how many.
-fn take_more<S: Source>(
+// Takes at most so many bytes of the source, puts them behind the first `kept` of the buffer, and answers how many.
+fn take_behind<S: Source>(
     source: &mut S,
     buffer: &mut [u8],
-    taken: &mut Pieces,
+    kept: usize,
+    most: usize,
 ) -> Result<usize, TakeFault>
-    requires { 1 ≤ length buffer.old }
-    ensures within { IfOk result (λ n. n ≤ length buffer.old) }
-    ensures len { IfOk result (λ n. length taken.new ≡ length taken.old + n) }
-    ensures carries { IfOk result (λ n. Told (Carries n taken.old taken.new) (S.left source.old) (S.left source.new)) }
-    ensures err { OnErr result (Told (GivesAtMost (length buffer.old)) (S.left source.old) (S.left source.new)) }
+    requires some { 1 ≤ most }
+    requires room { kept + most ≤ length buffer.old }
+    ensures within { IfOk result (λ n. n ≤ most) }
+    ensures carries { IfOk result (λ n. Told (Carries n (take kept buffer.old) (take (kept + n) buffer.new))
+        (S.left source.old) (S.left source.new)) }
+    ensures err { OnErr result (Told (GivesAtMost most) (S.left source.old) (S.left source.new)) }
     ensures later { S.faults source.old ≤ S.faults source.new }
     ensures failed { result ≡ Err TakeFault.Failed → Rose (S.faults source.old) (S.faults source.new) }
     ensures not_too_long { result ≢ Err TakeFault.TooLong }
 {
-    let n = source.take(buffer)?;
-    taken.push(&buffer[..n])?;
+    let n = source.take(&mut buffer[kept..kept + most])?;
     Ok(n)
 }
 
-// Takes all bytes up to the end of the source, as `take_all` does, but in pieces.
-fn take_pieces<S: Source>(alloc: Global, source: &mut S, limit: usize) -> Result<Pieces, TakeFault>
-    requires { limit < 2 ^ 32 }
-    ensures all { IfOk result (λ p. Told (GivesAll p) (S.left source.old) (S.left source.new)) }
-    ensures within { IfOk result (λ p. length p ≤ limit) }
-    ensures too_long { result ≡ Err TakeFault.TooLong → Told (GivesTooMany limit) (S.left source.old) (S.left source.new) }
+// Gives the first `end` bytes of the buffer to the reading, moves what it leaves to the front, and answers how many bytes that is.
+fn keep_left(reading: &mut Reading, buffer: &mut [u8], end: usize) -> usize
+    requires within { end ≤ length buffer.old }
+    requires fits { (before : List ℕ) × Given before reading.old × (length before + end < 2 ^ 32) }
+    ensures few { result ≤ LONGEST_ROW }
+    ensures left { result ≤ end }
+    ensures given { (before : List ℕ) → Given before reading.old
+        → Given (before ++ take (end - result) buffer.old) reading.new }
+    ensures moved { take (end - result) buffer.old ++ take result buffer.new ≡ take end buffer.old }
+{
+    let taken = reading.take_rows(&buffer[..end]);
+    buffer.copy_within(taken..end, 0);
+    end - taken
+}
+
+// A trace that was taken to its end: what was read of it, and the bytes that are left.
+#[derive(Drop)]
+struct Taken {
+    reading: Reading,
+    left: Vec<u8>,
+}
+
+// Takes all bytes up to the end of the source, as `take_all` does, but reads their rows as they come.
+fn take_trace<S: Source>(alloc: Global, source: &mut S, limit: usize) -> Result<Taken, TakeFault>
+    requires { limit < 2 ^ 31 }
+    ensures all { IfOk result (λ t. (before : List ℕ) × Given before t.reading
+        × (length before + vec_len t.left ≤ limit)
+        × Told (GivesAll (before ++ t.left.items)) (S.left source.old) (S.left source.new)) }
+    ensures too_long { result ≡ Err TakeFault.TooLong
+        → Told (GivesTooMany limit) (S.left source.old) (S.left source.new) }
     ensures failed { result ≡ Err TakeFault.Failed → Rose (S.faults source.old) (S.faults source.new) }
-    ensures complete { (bytes : List ℕ) → S.left source.old ≡ Some bytes → ¬ Rose (S.faults source.old) (S.faults source.new) → IsAnswerWithin limit bytes result }
     ensures most { Told (GivesAtMost (limit + 1)) (S.left source.old) (S.left source.new) }
     ensures later { S.faults source.old ≤ S.faults source.new }
 {
-    let mut pieces = Pieces::new(alloc);
-    let mut buffer = vec![in alloc; 0; piece_len(limit + 1)]?;
+    let mut reading = Reading::new(alloc);
+    let longest = piece_len(limit + 1);
+    let mut buffer = vec![in alloc; 0; LONGEST_ROW + longest]?;
     let mut taken = 0;
+    let mut kept = 0;
     while taken <= limit {
-        let room = buffer.len().min(limit + 1 - taken);
-        let n = take_more(source, &mut buffer[..room], &mut pieces)?;
+        let most = longest.min(limit + 1 - taken);
+        let n = take_behind(source, &mut buffer, kept, most)?;
         if n == 0 {
-            return Ok(pieces);
+            buffer.truncate(kept);
+            return Ok(Taken {
+                reading,
+                left: buffer,
+            });
         }
         taken += n;
+        kept = keep_left(&mut reading, &mut buffer, kept + n);
     }
     Err(TakeFault::TooLong)
 }
@@ -79,13 +111,13 @@ pub(crate) fn trace_of<S: Source>(alloc: Global, source: &mut S) -> Result<Vec<C
     ensures takes { Told (GivesAtMost (largest_trace + 1)) (S.left source.old) (S.left source.new) }
     ensures later { S.faults source.old ≤ S.faults source.new }
 {
-    let pieces = match take_pieces(alloc, source, LARGEST_TRACE as usize) {
-        Ok(pieces) => pieces,
+    let Taken { reading, left } = match take_trace(alloc, source, LARGEST_TRACE as usize) {
+        Ok(taken) => taken,
         Err(TakeFault::Failed) => return Err(Fault::Read),
         Err(TakeFault::TooLong) => return Err(Fault::TooLong),
         Err(TakeFault::OutOfMemory) => return Err(Fault::OutOfMemory),
     };
-    match read_pieces(alloc, pieces) {
+    match reading.finish(&left) {
         Ok(cycles) => Ok(cycles),
         Err(ReadRefused::Trace(refused)) => Err(Fault::Trace(refused)),
         Err(ReadRefused::OutOfMemory) => Err(Fault::OutOfMemory),

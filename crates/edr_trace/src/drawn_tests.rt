@@ -1,6 +1,6 @@
-//! Drawn traces with damage here and there, each read in both ways: plain rows from the bytes, and every row by `csv`.
+//! Drawn traces with damage here and there, each read in both ways: plain rows from the bytes as they come, and every row by `csv`.
 
-ghost use Rattle.std.specs.Prelude.{◌≤◌, ◌<◌};
+ghost use Rattle.std.specs.Prelude.{◌≤◌, ◌<◌, length};
 
 use super::*;
 use edr_items::Sensor;
@@ -36,8 +36,9 @@ impl Draws {
     }
 
     // How a row ends: mostly with a line feed alone.
-    fn row_end(&mut self) -> &'static str {
+    fn row_end(&mut self, plain: bool) -> &'static str {
         match self.below(40) {
+            _ if plain => "\n",
             0 => "\r\n",
             1 => "\r",
             2 => "\n\n",
@@ -46,21 +47,21 @@ impl Draws {
     }
 }
 
-// A cycle or two, with a row of quotes now and then.
-fn drawn_trace(rt: &HostRuntime, draws: &mut Draws) -> Result<String, Fail> {
+// A cycle or two of plain rows, or with a row of quotes now and then.
+fn drawn_trace(rt: &HostRuntime, draws: &mut Draws, plain: bool) -> Result<String, Fail> {
     let mut text = String::new(rt.alloc());
     for _ in 0..draws.below(2) + 1 {
         write!(text, "on,0,\n")?;
         for tick in 1..draws.below(30) + 2 {
             let value = i64::from(draws.below(200_001)) - 100_000;
-            write!(text, "along,{tick},{value}{}", draws.row_end())?;
+            write!(text, "along,{tick},{value}{}", draws.row_end(plain))?;
             match draws.below(12) {
-                0 => write!(text, "\"across\",{tick},\"{value}\"\n")?,
+                0 if !plain => write!(text, "\"across\",{tick},\"{value}\"\n")?,
                 1 => write!(text, "across,{tick},\nlamp,{tick},1\n")?,
-                _ => write!(text, "across,{tick},{value}{}", draws.row_end())?,
+                _ => write!(text, "across,{tick},{value}{}", draws.row_end(plain))?,
             }
         }
-        write!(text, "cut,{},{}", draws.below(3), draws.row_end())?;
+        write!(text, "cut,{},{}", draws.below(3), draws.row_end(plain))?;
     }
     Ok(text)
 }
@@ -113,17 +114,45 @@ fn are_the_same(some: &[CycleInput], others: &[CycleInput]) -> bool {
     some.len() == others.len()
 }
 
+// What is read of bytes of which so many come first, and then so many at a time.
+pub(super) fn read_in_parts(
+    rt: &HostRuntime,
+    bytes: &[u8],
+    first: usize,
+    part: usize,
+) -> Result<Vec<CycleInput>, ReadRefused>
+    requires few { length bytes.now ≤ 1_000_000 }
+    requires some { 0 < part }
+{
+    let mut reading = Reading::new(rt.alloc());
+    let mut end = first.min(bytes.len());
+    let mut taken = reading.take_rows(&bytes[..end]);
+    while end < bytes.len() {
+        end += part.min(bytes.len() - end);
+        taken += reading.take_rows(&bytes[taken..end]);
+    }
+    reading.finish(&bytes[taken..])
+}
+
+// Both answers are the same, which is whether there is no fault.
+pub(super) fn same_answer(
+    one: Result<Vec<CycleInput>, ReadRefused>,
+    other: &Result<Vec<CycleInput>, ReadRefused>,
+) -> Option<bool> {
+    match (one, other) {
+        (Ok(cycles), Ok(others)) => are_the_same(&cycles, others).then_some(true),
+        (Err(refused), Err(other)) => (refused == *other).then_some(false),
+        _ => None,
+    }
+}
+
 // Both ways have the same answer, which is whether there is no fault.
-fn both_ways(rt: &HostRuntime, bytes: &[u8]) -> Option<bool> {
-    if bytes.len() > 100_000 {
+fn both_ways(rt: &HostRuntime, bytes: &[u8], first: usize, part: usize) -> Option<bool> {
+    if bytes.len() > 100_000 || part == 0 {
         return None;
     }
     let by_csv = read_rest(rt.alloc(), Trace::new(rt.alloc()), 0, bytes);
-    match (read(rt.alloc(), bytes), by_csv) {
-        (Ok(cycles), Ok(others)) => are_the_same(&cycles, &others).then_some(true),
-        (Err(refused), Err(other)) => (refused == other).then_some(false),
-        _ => None,
-    }
+    same_answer(read_in_parts(rt, bytes, first, part), &by_csv)
 }
 
 #[test]
@@ -131,20 +160,38 @@ fn plain_rows_are_read_as_csv_reads_them(rt: HostRuntime) -> Result<(), Fail> {
     let mut draws = Draws { state: 1 };
     let (mut right, mut faulty) = (0u32, 0u32);
     for _ in 0..2_000u32 {
-        let text = drawn_trace(&rt, &mut draws)?;
+        let text = drawn_trace(&rt, &mut draws, false)?;
         let mut bytes = damaged(&rt, text.as_bytes(), &mut draws)?;
         if draws.below(2) == 0 {
             bytes = damaged(&rt, &bytes, &mut draws)?;
         }
-        match both_ways(&rt, &bytes) {
+        let first = draws.place(bytes.len());
+        let part = draws.below(100) as usize + 1;
+        match both_ways(&rt, &bytes, first, part) {
             Some(true) => right = right.saturating_add(1),
             Some(false) => faulty = faulty.saturating_add(1),
-            None => assert!(rt; false, "read in two ways: {bytes:?}"),
+            None => assert!(rt; false, "{first}, then {part} at a time: {bytes:?}"),
         }
     }
     assert!(rt;
         right > 100 && faulty > 100,
         "{right} right, {faulty} faulty"
     );
+    Ok(())
+}
+
+// Of drawn plain rows the end comes later, from each of the last places on.
+#[test]
+fn rows_may_be_cut_anywhere(rt: HostRuntime) -> Result<(), Fail> {
+    let mut draws = Draws { state: 2 };
+    for _ in 0..100u32 {
+        let text = drawn_trace(&rt, &mut draws, true)?;
+        let bytes = text.as_bytes();
+        for behind in 0..41usize {
+            let first = bytes.len() - behind.min(bytes.len());
+            let same = both_ways(&rt, bytes, first, 41);
+            assert_eq!(rt; same, Some(true), "{behind} bytes come later: {text}");
+        }
+    }
     Ok(())
 }

@@ -5,6 +5,7 @@ pub mod laws;
 mod parse;
 mod pieces;
 mod plain;
+mod reading;
 mod steps;
 
 ghost use Rattle.std.specs.Prelude.{◌≡◌, ◌≤◌, ◌<◌, ◌+◌, ◌^◌, ◌++◌, ℕ, List, Some, length, IfOk, IfErr, MatchResult, ◌⊎◌, All};
@@ -16,9 +17,9 @@ ghost use Rattle.edr_trace.specs.SoFar.{SoFar, unread};
 
 use csv::{ByteRecord, ReaderBuilder};
 pub use edr_spell::{CycleInput, Row, TraceFault, TraceRefused, Word};
-pub use pieces::Pieces;
 use plain::plain_row;
-use std::alloc::Global;
+pub use reading::{LONGEST_ROW, Reading};
+use std::alloc::{AllocError, Global};
 use std::io::Read;
 use steps::{Trace, at_row};
 
@@ -30,8 +31,18 @@ pub const LARGEST_TRACE: u32 = 67_108_864;
 pub enum ReadRefused {
     /// A row has a fault.
     Trace(TraceRefused),
-    /// There is no room for a sample or a cycle.
+    /// There is no room for a sample, a cycle or the bytes of rows.
     OutOfMemory,
+}
+
+impl From<AllocError> for ReadRefused {
+    ghost use Rattle.edr_trace.specs.declared.ReadRefused.TheVariants as refused;
+
+    ghost from_gives = { λ _ e. e ≡ refused.OutOfMemory };
+
+    fn from(_: AllocError) -> ReadRefused {
+        ReadRefused::OutOfMemory
+    }
 }
 
 /// The cycles that the bytes spell, or the first row that has a fault.
@@ -54,49 +65,9 @@ pub fn read(alloc: Global, bytes: &[u8]) -> Result<Vec<CycleInput>, ReadRefused>
     ensures only_spelled { (cycles : List CycleInput) → Spell bytes.now cycles → MatchResult result (λ v. v.items ≡ cycles) (λ e. e ≡ ReadRefused.OutOfMemory) }
     ensures only_refused { (t : TraceRefused) → Fault bytes.now t → MatchResult result (λ v. ⊥) (λ e. (e ≡ ReadRefused.Trace t) ⊎ (e ≡ ReadRefused.OutOfMemory)) }
 {
-    read_bytes(alloc, bytes)
-}
-
-/// The same of bytes in pieces, each of which is freed once it is read.
-pub fn read_pieces(alloc: Global, pieces: Pieces) -> Result<Vec<CycleInput>, ReadRefused>
-    requires { length pieces ≤ largest_trace }
-    ensures spelled { IfOk result (λ v. Spell pieces v.items) }
-    ensures refused { IfErr result (λ e. Tells pieces e) }
-    ensures cycles { IfOk result (λ v. All IsCycle v.items) }
-    ensures only_spelled { (cycles : List CycleInput) → Spell pieces cycles → MatchResult result (λ v. v.items ≡ cycles) (λ e. e ≡ ReadRefused.OutOfMemory) }
-    ensures only_refused { (t : TraceRefused) → Fault pieces t → MatchResult result (λ v. ⊥) (λ e. (e ≡ ReadRefused.Trace t) ⊎ (e ≡ ReadRefused.OutOfMemory)) }
-{
-    read_each(alloc, pieces)
-}
-
-// The bytes of a slice: the plain rows at first, and then what is left by csv.
-fn read_bytes(alloc: Global, bytes: &[u8]) -> Result<Vec<CycleInput>, ReadRefused>
-    requires { length bytes.now ≤ largest_trace }
-    ensures spelled { IfOk result (λ v. Spell bytes.now v.items) }
-    ensures refused { IfErr result (λ e. Tells bytes.now e) }
-{
-    let mut trace = Trace::new(alloc);
-    let mut rows = 0;
-    let rest = take_plain(alloc, &mut trace, &mut rows, bytes)?;
-    read_rest(alloc, trace, rows, rest)
-}
-
-// The same of bytes in pieces.
-fn read_each(alloc: Global, pieces: Pieces) -> Result<Vec<CycleInput>, ReadRefused>
-    requires { length pieces ≤ largest_trace }
-    ensures spelled { IfOk result (λ v. Spell pieces v.items) }
-    ensures refused { IfErr result (λ e. Tells pieces e) }
-{
-    let mut pieces = pieces;
-    let mut trace = Trace::new(alloc);
-    let mut rows = 0;
-    while let Some((piece, at)) = pieces.take_piece() {
-        let rest = take_plain(alloc, &mut trace, &mut rows, &piece[at..])?;
-        if !rest.is_empty() {
-            return read_rest(alloc, trace, rows, rest.chain(pieces));
-        }
-    }
-    read_rest(alloc, trace, rows, pieces)
+    let mut reading = Reading::new(alloc);
+    let taken = reading.take_rows(bytes);
+    reading.finish(&bytes[taken..])
 }
 
 // Takes the rows that stand plainly in front of the bytes, and answers the bytes that are left. `rows` counts.
@@ -108,8 +79,9 @@ fn take_plain<'a>(
 ) -> Result<&'a [u8], ReadRefused>
     requires { rows.old + length bytes.now < 2 ^ 32 }
     ensures count { IfOk result (λ rest. rows.new + length rest.now ≤ rows.old + length bytes.now) }
-    ensures taken { IfOk result (λ rest. (whole more : List ℕ) → SoFar whole StartRecord (unread rows.old (bytes.now ++ more)) trace.old.cycles.items trace.old.inside rows.old
-        → SoFar whole StartRecord (unread rows.new (rest.now ++ more)) trace.new.cycles.items trace.new.inside rows.new) }
+    ensures taken { IfOk result (λ rest. (front : List ℕ) × (bytes.now ≡ front ++ rest.now)
+        × ((whole more : List ℕ) → SoFar whole StartRecord (unread rows.old (front ++ more)) trace.old.cycles.items trace.old.inside rows.old
+        → SoFar whole StartRecord (unread rows.new more) trace.new.cycles.items trace.new.inside rows.new)) }
     ensures refused { IfErr result (λ e. (whole more : List ℕ) → SoFar whole StartRecord (unread rows.old (bytes.now ++ more)) trace.old.cycles.items trace.old.inside rows.old → Tells whole e) }
 {
     let mut rest = bytes;

@@ -1,0 +1,31 @@
+use Rattle.std.proofs.Common.{arith, ◌≤◌, sym, subst, ℕ, List, ◌++◌, length, length-append, Option, Some, None}
+use Rattle.std.specs.Option.{IfSome}
+use Rattle.std.proofs.lemmas.List.Elements.{All-from_recursion}
+use Rattle.edr_device.specs.Told.{Told}
+use Rattle.edr_device.specs.Transfer.{GivesAll}
+use Rattle.edr_spell.specs.declared.CycleInput.{CycleInput}
+use Rattle.edr_spell.specs.Spell.{Spell, IsCycle, largest_trace}
+use Rattle.edr_spell.proofs.CycleLemmas.{spelled-cycles}
+use Rattle.edr_cli.specs.Runs.{IsTraceOf}
+use Rattle.edr_cli.proofs.traces.trace_of.Goals as goal
+
+-- the bytes that were taken are those that the source told
+trace-is : (bytes : List ℕ) (cycles : List CycleInput) (x y : Option (List ℕ)) → length bytes ≤ largest_trace → Spell bytes cycles → Told (GivesAll bytes) x y → IfSome x (IsTraceOf cycles)
+trace-is bytes cycles None y few spelled t = tt
+trace-is bytes cycles (Some a) (Some b) few spelled t = subst (λ (v : List ℕ). IsTraceOf cycles v) (sym t.0) (few, spelled)
+trace-is bytes cycles (Some a) None few spelled t = absurd t
+
+pub returns-in-Ok-finish-clause-spelled : goal.returns-in-Ok-finish-clause-spelled
+returns-in-Ok-finish-clause-spelled g c =
+    let left = g.S.Source.left in
+    let all = c.in-Ok.ensures.all in
+    let cycles = c.in-Ok-finish.cycles.items in
+    let rest = c.in-Ok.taken.left in
+    let spelled = subst (λ (x : List ℕ). Spell (all.0 ++ x) cycles) c.deref.ensures.value (c.in-Ok-finish.ensures.spelled all.0 all.1) in
+    trace-is (all.0 ++ rest.items) cycles (left c.args.source.now) (left c.take_trace.new.source) (omega (arith, length-append all.0 rest.items, all.2, rest.ok.0)) spelled all.3
+
+pub returns-in-Ok-finish-clause-cycles : goal.returns-in-Ok-finish-clause-cycles
+returns-in-Ok-finish-clause-cycles g c =
+    let all = c.in-Ok.ensures.all in
+    let cycles = c.in-Ok-finish.cycles.items in
+    All-from_recursion IsCycle cycles (spelled-cycles (all.0 ++ c.deref.result.now) cycles (c.in-Ok-finish.ensures.spelled all.0 all.1))

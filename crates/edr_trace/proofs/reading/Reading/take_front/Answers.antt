@@ -1,0 +1,59 @@
+use Rattle.std.proofs.Common.{arith, rules, sym, subst, ℕ, List, [], ◌++◌}
+use Rattle.edr_trace.specs.declared.reading.Way.TheVariants as way
+use Rattle.edr_trace.specs.Told.{Tells}
+use Rattle.edr_trace.specs.Given.{Given, AreReadBut, AreReadBy}
+use Rattle.edr_trace.proofs.ReadingLemmas.{by-way, all-taken, front-taken, told-still, rows-taken, bytes-kept, rest-kept, told-behind}
+use Rattle.edr_trace.proofs.reading.Reading.take_front.Goals as goal
+
+pub returns-in-Csv-clause-given : goal.returns-in-Csv-clause-given
+returns-in-Csv-clause-given c = λ before h.
+    let self = c.args.self.now in
+    let bytes = c.args.bytes.now in
+    let pieces = c.in-Csv.pieces in
+    let kept = bytes-kept before pieces bytes self.trace self.rows (by-way self.way (way.Csv pieces) before self.trace self.rows c.in-Csv.is h.are_read) in
+    record { are_read = all-taken before bytes (way.Csv c.push.new.self) self.trace self.rows (rw c.in_ok-push-in-Csv.ensures.ok kept) }
+
+pub returns-in-Refused-clause-given : goal.returns-in-Refused-clause-given
+returns-in-Refused-clause-given c = λ before h.
+    let self = c.args.self.now in
+    let bytes = c.args.bytes.now in
+    let e = c.in-Refused.field-0 in
+    let told = told-still before bytes e (by-way self.way (way.Refused e) before self.trace self.rows c.in-Refused.is h.are_read) in
+    record { are_read = all-taken before bytes self.way self.trace self.rows (by-way (way.Refused e) self.way (before ++ bytes) self.trace self.rows (sym c.in-Refused.is) told) }
+
+pub take_plain-requires : goal.take_plain-requires
+take_plain-requires c =
+    let self = c.args.self.now in
+    let before = c.requires.0 in
+    let read : AreReadBut [] before self.trace self.rows = by-way self.way way.Plain before self.trace self.rows c.in-Plain.is c.requires.1.are_read in
+    omega (arith, read.0, c.requires.2)
+
+pub returns-in_err-left-clause-refused : goal.returns-in_err-left-clause-refused
+returns-in_err-left-clause-refused c =
+    let self = c.args.self.now in
+    let bytes = c.args.bytes.now in
+    let e = c.in_err-left.field-0.0 in
+    let told : (before more : List ℕ) → Given before self → Tells ((before ++ bytes) ++ more) e =
+    λ before more h. told-behind before bytes self.trace self.rows e (by-way self.way way.Plain before self.trace self.rows c.in-Plain.is h.are_read) c.in_err-left.ensures.refused more in
+    search rules
+
+pub returns-then-left-le-LONGEST_ROW-clause-given : goal.returns-then-left-le-LONGEST_ROW-clause-given
+returns-then-left-le-LONGEST_ROW-clause-given c = λ before h.
+    let self = c.args.self.now in
+    let bytes = c.args.bytes.now in
+    let left = c.in_ok-left.left.now in
+    let taken = c.in_ok-left.ensures.taken in
+    let new = c.take_plain.new in
+    let read = rows-taken before bytes taken.0 left self.trace new.trace self.rows new.rows (by-way self.way way.Plain before self.trace self.rows c.in-Plain.is h.are_read) taken.1 c.in_ok-left.ensures.count taken.2 in
+    let plain = by-way way.Plain self.way (before ++ taken.0) new.trace new.rows (sym c.in-Plain.is) read in
+    record { are_read = subst (λ (x : List ℕ). AreReadBy self.way (before ++ x) new.trace new.rows) (sym (front-taken bytes taken.0 left taken.1)) plain }
+
+pub returns-clause-given : goal.returns-clause-given
+returns-clause-given c = λ before h.
+    let self = c.args.self.now in
+    let bytes = c.args.bytes.now in
+    let left = c.in_ok-left.left.now in
+    let taken = c.in_ok-left.ensures.taken in
+    let new = c.take_plain.new in
+    let kept = rest-kept before bytes taken.0 left self.trace new.trace self.rows new.rows (by-way self.way way.Plain before self.trace self.rows c.in-Plain.is h.are_read) taken.1 c.in_ok-left.ensures.count taken.2 in
+    record { are_read = all-taken before bytes (way.Csv c.push-2.new.self) new.trace new.rows (rw (c.in_ok-push.ensures.ok, c.new-pieces.ensures) kept) }

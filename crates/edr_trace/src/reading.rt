@@ -1,0 +1,128 @@
+//! A trace that is read as its bytes come.
+
+ghost use Rattle.std.specs.Prelude.{◌≤◌, ◌<◌, ◌+◌, ◌^◌, ◌++◌, ℕ, List, [], length, take, IfOk, IfErr};
+ghost use Rattle.edr_spell.specs.Spell.{Spell, largest_trace};
+ghost use Rattle.edr_trace.specs.Told.{Tells};
+ghost use Rattle.edr_trace.specs.Given.{Given};
+
+use crate::pieces::Pieces;
+use crate::steps::Trace;
+use crate::{ReadRefused, read_rest, take_plain};
+use edr_spell::CycleInput;
+use std::alloc::Global;
+use std::io::Read;
+
+/// The most bytes that `take_rows` leaves. A plain row has fewer.
+pub const LONGEST_ROW: usize = 64;
+
+// How the bytes are read that come next.
+#[derive(Drop)]
+enum Way {
+    // Their rows are looked for as they come.
+    Plain,
+    // They are put behind these, which begin with what isn't a plain row, and csv reads them all at the end.
+    Csv(Pieces),
+    // Not at all.
+    Refused(ReadRefused),
+}
+
+/// What was read so far of a trace whose bytes come one part after the other. Plain rows are taken as they come, and their bytes
+/// aren't kept; from the first other row on all bytes are kept up to the end. Behind a row with a fault no byte is kept.
+///
+/// ```
+/// let mut reading = Reading::new(alloc);
+/// let taken = reading.take_rows(b"on,0,\ncut");
+/// assert_eq!(taken, 6);
+/// assert_eq!(reading.take_rows(b"cut,0,\n"), 7);
+/// let cycles = reading.finish(b"")?;
+/// ```
+#[derive(Drop)]
+pub struct Reading {
+    alloc: Global,
+    trace: Trace,
+    // How many rows were taken.
+    rows: u32,
+    way: Way,
+}
+
+impl Reading {
+    /// Nothing was read yet.
+    pub fn new(alloc: Global) -> Reading
+        ensures { Given [] result }
+    {
+        Reading {
+            alloc,
+            trace: Trace::new(alloc),
+            rows: 0,
+            way: Way::Plain,
+        }
+    }
+
+    /// Takes the rows in front of these bytes, and answers how many bytes it took. What it leaves, at most 64 bytes, is to be given
+    /// again in front of the bytes that follow. A fault is told by `finish` alone, and all bytes behind it are taken.
+    pub fn take_rows(&mut self, bytes: &[u8]) -> usize
+        requires { (before : List ℕ) × Given before self.old × (length before + length bytes.now < 2 ^ 32) }
+        ensures within { result ≤ length bytes.now }
+        ensures left { length bytes.now ≤ result + LONGEST_ROW }
+        ensures given { (before : List ℕ) → Given before self.old
+            → Given (before ++ take result bytes.now) self.new }
+    {
+        match self.take_front(bytes) {
+            Ok(taken) => taken,
+            Err(refused) => {
+                self.way = Way::Refused(refused);
+                bytes.len()
+            }
+        }
+    }
+
+    // The same, but a fault is told at once.
+    fn take_front(&mut self, bytes: &[u8]) -> Result<usize, ReadRefused>
+        requires { (before : List ℕ) × Given before self.old × (length before + length bytes.now < 2 ^ 32) }
+        ensures within { IfOk result (λ n. n ≤ length bytes.now) }
+        ensures left { IfOk result (λ n. length bytes.now ≤ n + LONGEST_ROW) }
+        ensures given { IfOk result (λ n. (before : List ℕ) → Given before self.old
+            → Given (before ++ take n bytes.now) self.new) }
+        ensures refused { IfErr result (λ e. (before more : List ℕ) → Given before self.old
+            → Tells ((before ++ bytes.now) ++ more) e) }
+    {
+        match &mut self.way {
+            Way::Plain => {}
+            Way::Csv(pieces) => {
+                pieces.push(bytes)?;
+                return Ok(bytes.len());
+            }
+            Way::Refused(_) => return Ok(bytes.len()),
+        }
+        let left = take_plain(self.alloc, &mut self.trace, &mut self.rows, bytes)?;
+        if left.len() <= LONGEST_ROW {
+            return Ok(bytes.len() - left.len());
+        }
+        let mut pieces = Pieces::new(self.alloc);
+        pieces.push(left)?;
+        self.way = Way::Csv(pieces);
+        Ok(bytes.len())
+    }
+
+    /// The cycles that all bytes spell, those that were taken and then these, or the first row that has a fault. Rows that aren't
+    /// plain, and those behind them, are read now.
+    pub fn finish(self, left: &[u8]) -> Result<Vec<CycleInput>, ReadRefused>
+        requires { (before : List ℕ) × Given before self × (length before + length left.now ≤ largest_trace) }
+        ensures spelled { IfOk result (λ v. (before : List ℕ) → Given before self
+            → Spell (before ++ left.now) v.items) }
+        ensures refused { IfErr result (λ e. (before : List ℕ) → Given before self
+            → Tells (before ++ left.now) e) }
+    {
+        let Reading {
+            alloc,
+            trace,
+            rows,
+            way,
+        } = self;
+        match way {
+            Way::Plain => read_rest(alloc, trace, rows, left),
+            Way::Csv(pieces) => read_rest(alloc, trace, rows, pieces.chain(left)),
+            Way::Refused(refused) => Err(refused),
+        }
+    }
+}
