@@ -1,0 +1,69 @@
+-- A generated cycle has a row for each item of its feeds, and two more.
+use Rattle.std.proofs.Common.{arith, ◌≡◌, ◌∙◌, ap, refl, ℕ, zero, suc, ◌+◌, ◌*◌, ◌≤◌, ◌%◌, ◌==◌, ℤ, Bool, true, false, List, [], ◌∷◌, ◌++◌, map, length, length-append}
+use Rattle.std.proofs.lemmas.List.{length-map}
+use Rattle.edr_items.specs.declared.Sensor.{Sensor}
+use Rattle.edr_items.specs.declared.Sensor.TheVariants.{Along, Across, Speed, Throttle, Brake, Belt, Lamp, Restraint}
+use Rattle.edr_items.specs.declared.Item.{Item}
+use Rattle.edr_spell.specs.declared.Row.TheVariants as row
+use Rattle.edr_spell.specs.Samples.{Sample, feeds_given, row_for}
+use Rattle.edr_gen.specs.declared.plan.TheConstants.{TICKS}
+use Rattle.edr_gen.specs.Cycles.{acting_at, along_of, across_of, crash_samples, has_firing, restraint_samples, samples_after, samples_at, slow_samples}
+use Rattle.edr_gen.specs.Draws.{Planned}
+use Rattle.edr_gen.specs.Traces.{rows_of, samples_of}
+use Rattle.edr_large.specs.Rows.{items_in, most_items}
+
+-- one more sample is one more item
+one_more : (s : Sensor) (i : Item) (xs : List Sample) → items_in (feeds_given (record { sensor = s; item = i } ∷ xs)) ≡ suc (items_in (feeds_given xs))
+unfolding feeds_given
+one_more Along i xs = omega arith
+one_more Across i xs = omega arith
+one_more Speed i xs = omega arith
+one_more Throttle i xs = omega arith
+one_more Brake i xs = omega arith
+one_more Belt i xs = omega arith
+one_more Lamp i xs = omega arith
+one_more Restraint i xs = omega arith
+
+-- the samples are the items
+given_all : (xs : List Sample) → items_in (feeds_given xs) ≡ length xs
+unfolding feeds_given
+given_all [] = refl
+given_all (x ∷ xs) = one_more x.sensor x.item xs ∙ ap suc (given_all xs)
+
+-- ---- no tick has more than eight
+
+few_by : (a c : ℤ) (t : ℕ) (b f q : Bool) → length (crash_samples a c t ++ slow_samples b t ++ restraint_samples f q t) ≤ 8
+few_by a c t true true q = omega arith
+few_by a c t true false true = omega arith
+few_by a c t true false false = omega arith
+few_by a c t false true q = omega arith
+few_by a c t false false true = omega arith
+few_by a c t false false false = omega arith
+
+few_at : (p : Planned) (t : ℕ) → length (samples_at p.impulses t) ≤ 8
+unfolding samples_at
+few_at p t = few_by (along_of (acting_at p.impulses t)) (across_of (acting_at p.impulses t)) t (t % 100 == 0) (has_firing p.impulses t) (t % 1000 == 0)
+
+few_after : (p : Planned) (n t : ℕ) → length (samples_after p.impulses t n) ≤ 8 * n
+unfolding samples_after
+few_after p zero t = omega arith
+few_after p (suc n) t =
+    let here = few_at p (t + 1) in
+    let later = few_after p n (t + 1) in
+    let both = length-append (samples_at p.impulses (t + 1)) (samples_after p.impulses (t + 1) n) in
+    omega (arith, here, later, both)
+
+-- ---- the rows of a cycle
+
+pub items_few : (p : Planned) → items_in (feeds_given (samples_of p)) ≤ most_items
+items_few p =
+    let all = given_all (samples_of p) in
+    let few = few_after p TICKS 0 in
+    omega (arith, all, few)
+
+pub rows_many : (p : Planned) → length (rows_of p) ≡ items_in (feeds_given (samples_of p)) + 2
+rows_many p =
+    let all = given_all (samples_of p) in
+    let mapped = length-map (samples_of p) row_for in
+    let last = length-append (map row_for (samples_of p)) (row.Cut p.stop ∷ []) in
+    omega (arith, all, mapped, last)

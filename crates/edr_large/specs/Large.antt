@@ -1,0 +1,61 @@
+-- The run of a generated trace, each cycle to its end.
+use Rattle.std.specs.Prelude.{◌≡◌, ◌<◌, ℕ, Some, List, [], ◌++◌, length, map, flat_map, replicate}
+use Rattle.edr_items.specs.SensorLists.{SensorLists}
+use Rattle.edr_image.specs.declared.Ack.{Ack}
+use Rattle.edr_image.specs.declared.BankView.TheVariants.{Void}
+use Rattle.edr_image.specs.declared.Choice.TheVariants.{Overwrite}
+use Rattle.edr_image.specs.Banks.{Store, retrieved}
+use Rattle.edr_image.specs.Image.{view_of}
+use Rattle.edr_image.specs.Reports.{Report, Ran, StartStopped}
+use Rattle.edr_spell.specs.declared.CycleInput.{CycleInput}
+use Rattle.edr_spell.specs.Spell.{Spell}
+use Rattle.edr_run.specs.Cycle.{End, IsCycle, IsRun, Outcome, last_count}
+use Rattle.edr_gen.specs.Traces.{generated_cycles, generated_rows, generated_trace}
+use Rattle.edr_large.specs.declared.counts.Counts.{Counts}
+use Rattle.edr_large.specs.Counts.{counts_of}
+
+-- 16 void banks, of which a new event may overwrite an older one
+abbrev pub new_store : Store
+new_store = record { header = record { banks = 16; choice = Overwrite }; banks = replicate 16 Void }
+
+-- the cycle with its commands not stopped
+abbrev pub unstopped : CycleInput → CycleInput
+unstopped c = record c { stop = 0 }
+
+-- the commands that a cycle acknowledged
+abbrev pub acks_in : Report → List Ack
+acks_in (StartStopped j) = []
+acks_in (Ran n stop log) = log
+
+-- and those of all cycles
+abbrev pub all_acks : List Report → List Ack
+all_acks reports = flat_map acks_in reports
+
+-- The counts are those of a run over the cycles that the bytes of the trace spell, none of them stopped, from 16 void banks and the count 0.
+pub record IsCounted (number cycles : ℕ) (counts : Counts) : Type 0 where
+  pub spelled : List CycleInput
+  pub outcome : Outcome
+  pub spells : Spell (generated_trace number cycles) spelled
+  pub run : IsRun (map unstopped spelled) new_store 0 outcome
+  pub counts_are : counts ≡ counts_of (length spelled) (length (generated_rows number cycles)) (all_acks outcome.reports) (retrieved outcome.store.banks)
+
+-- ---- on the way
+
+-- these cycles ran: these commands were acknowledged, and the image says what they came to
+pub record HasRun (cs : List CycleInput) (acks : List Ack) (image : List ℕ) : Type 0 where
+  pub outcome : Outcome
+  pub run : IsRun (map unstopped cs) new_store 0 outcome
+  pub acks_are : acks ≡ all_acks outcome.reports
+  pub says : view_of image ≡ Some (record { store = outcome.store; count = outcome.count })
+
+-- all cycles of the number ran, and these are their rows
+abbrev pub HasCounted : ℕ → ℕ → ℕ → List Ack → List ℕ → Type 0
+HasCounted number cycles rows acks image = (rows ≡ length (generated_rows number cycles)) × HasRun (generated_cycles number cycles) acks image
+
+-- a cycle with these feeds ran from the banks v and the count n on
+pub record HasRunOn (f : SensorLists) (v : Store) (n : ℕ) (before acks : List Ack) (image : List ℕ) : Type 0 where
+  pub end : End
+  pub below : n < last_count
+  pub cycle : IsCycle (record { start_stop = 0; feeds = f; stop = 0 }) v n end
+  pub acks_are : acks ≡ before ++ acks_in end.report
+  pub says : view_of image ≡ Some (record { store = end.store; count = end.count })
