@@ -22,15 +22,19 @@ AreReport form words = job_of words ≡ Some (Report form)
 abbrev pub AreGenerate : ℕ → ℕ → List (List ℕ) → Type 0
 AreGenerate number cycles words = job_of words ≡ Some (Generate number cycles)
 
+-- they ask for the run of that trace over a new memory, and its counts
+abbrev pub AreLarge : ℕ → ℕ → List (List ℕ) → Type 0
+AreLarge number cycles words = job_of words ≡ Some (Large number cycles)
+
 -- the job, if there is one, is none that is served
 abbrev pub IsOther : Option Job → Type 0
 IsOther None = ⊤
 IsOther (Some (Drive workers form)) = ⊤
-IsOther (Some (Large number cycles)) = ⊤
 IsOther (Some (Format banks choice)) = ⊥
 IsOther (Some (Replay form)) = ⊥
 IsOther (Some (Report form)) = ⊥
 IsOther (Some (Generate number cycles)) = ⊥
+IsOther (Some (Large number cycles)) = ⊥
 
 -- they ask for nothing that is served
 abbrev pub AreOther : List (List ℕ) → Type 0

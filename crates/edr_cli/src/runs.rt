@@ -13,12 +13,13 @@ ghost use Rattle.edr_spell.specs.declared.CycleInput.{CycleInput};
 ghost use Rattle.edr_run.specs.Cycle.{last_count};
 ghost use Rattle.edr_replay.specs.Past.{LeavesPast};
 ghost use Rattle.edr_gen.specs.Traces.{generated_trace};
+ghost use Rattle.edr_large.specs.Large.{IsTold};
 ghost use Rattle.edr_words.specs.declared.Form.{Form};
 ghost use Rattle.edr_cli.specs.Endings.{IsNumberCause, IsUsageCause, Tells, TellsFault, TellsFaultPart, TellsPart};
 ghost use Rattle.edr_cli.specs.Outside.{IsAtEnd, input, memory};
 ghost use Rattle.edr_cli.specs.Reports.{FormatIs, HasMagic, IsFormatCause, IsImageCause, ReportIs, Says};
 ghost use Rattle.edr_cli.specs.Runs.{IsReplayCause, RunIs};
-ghost use Rattle.edr_cli.specs.Words.{AreFormat, AreGenerate, AreOther, AreReplay, AreReport};
+ghost use Rattle.edr_cli.specs.Words.{AreFormat, AreGenerate, AreLarge, AreOther, AreReplay, AreReport};
 
 use crate::endings::{tell, write};
 use crate::formats::make_image;
@@ -28,16 +29,18 @@ use crate::replays::replay_source;
 use crate::status::Status;
 use edr_banks::Header;
 use edr_device::{Nvm, Sink, Source};
+use edr_large::large_lines;
 use edr_report::Fault;
 use edr_words::{Job, Words};
 use std::alloc::{AllocError as OutOfMemory, Global};
 
-/// Serves the words `format B C`, `replay [text|csv]`, `report [text|csv]` and `generate N M`.
+/// Serves the words `format B C`, `replay [text|csv]`, `report [text|csv]`, `generate N M` and `large N M`.
 ///
 /// `replay` reads a trace from the source, runs its ignition cycles over the device, each up to its planned power cut, and
 /// writes what was acknowledged and every record that the device holds then. `report` writes the records that the device
 /// holds. `format` makes a new image on the device, and writes the line that tells of it. `generate` writes a trace that is
-/// made from a number. A fault writes its one line and nothing else.
+/// made from a number, and `large` counts what its cycles come to over a memory of their own. A fault writes its one line
+/// and nothing else.
 pub fn command<S: Source, K: Sink, N: Nvm>(
     alloc: Global,
     words: &Words,
@@ -154,6 +157,18 @@ pub fn command<S: Source, K: Sink, N: Nvm>(
         → (source.new ≡ source.old) × (nvm.new ≡ nvm.old) }
     ensures generate_complete { (number cycles : ℕ) → AreGenerate number cycles words.now → ¬ Rose (K.faults sink.old) (K.faults sink.new)
         → (result ≡ Status.Ok) ⊎ (result ≡ Status.OutOfMemory) }
+
+    // `large`. The same of the counts of a run over the cycles that this trace spells.
+    ensures large { (number cycles : ℕ) → AreLarge number cycles words.now → result ≡ Status.Ok
+        → Tells (IsTold number cycles) (K.content sink.old) (K.content sink.new) }
+    ensures large_other { (number cycles : ℕ) → AreLarge number cycles words.now → result ≢ Status.Ok → result ≢ Status.WriteFault
+        → TellsFault IsNumberCause result (K.content sink.old) (K.content sink.new) }
+    ensures large_part { (number cycles : ℕ) → AreLarge number cycles words.now → result ≡ Status.WriteFault
+        → TellsPart (IsTold number cycles) IsNumberCause (K.content sink.old) (K.content sink.new) }
+    ensures large_stays { (number cycles : ℕ) → AreLarge number cycles words.now
+        → (source.new ≡ source.old) × (nvm.new ≡ nvm.old) }
+    ensures large_complete { (number cycles : ℕ) → AreLarge number cycles words.now → ¬ Rose (K.faults sink.old) (K.faults sink.new)
+        → (result ≡ Status.Ok) ⊎ (result ≡ Status.OutOfMemory) }
 {
     let job = match words.job(alloc) {
         Ok(job) => job,
@@ -173,6 +188,10 @@ pub fn command<S: Source, K: Sink, N: Nvm>(
             Err(fault) => tell(sink, fault),
         },
         Some(Job::Generate { number, cycles }) => write_trace(sink, number, cycles),
-        Some(Job::Drive { .. } | Job::Large { .. }) | None => tell(sink, Fault::Usage),
+        Some(Job::Large { number, cycles }) => match large_lines(alloc, number, cycles) {
+            Ok(lines) => write(sink, &lines, Status::Ok),
+            Err(OutOfMemory) => tell(sink, Fault::OutOfMemory),
+        },
+        Some(Job::Drive { .. }) | None => tell(sink, Fault::Usage),
     }
 }

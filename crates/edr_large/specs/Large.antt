@@ -12,7 +12,7 @@ use Rattle.edr_spell.specs.Spell.{Spell}
 use Rattle.edr_run.specs.Cycle.{End, IsCycle, IsRun, Outcome, last_count}
 use Rattle.edr_gen.specs.Traces.{generated_cycles, generated_rows, generated_trace}
 use Rattle.edr_large.specs.declared.counts.Counts.{Counts}
-use Rattle.edr_large.specs.Counts.{counts_of}
+use Rattle.edr_large.specs.Counts.{counts_of, counts_text}
 
 -- 16 void banks, of which a new event may overwrite an older one
 abbrev pub new_store : Store
@@ -38,6 +38,10 @@ pub record IsCounted (number cycles : ℕ) (counts : Counts) : Type 0 where
   pub spells : Spell (generated_trace number cycles) spelled
   pub run : IsRun (map unstopped spelled) new_store 0 outcome
   pub counts_are : counts ≡ counts_of (length spelled) (length (generated_rows number cycles)) (all_acks outcome.reports) (retrieved outcome.store.banks)
+
+-- the text is the lines of these counts
+abbrev pub IsTold : ℕ → ℕ → List ℕ → Type 0
+IsTold number cycles text = (counts : Counts) × IsCounted number cycles counts × (text ≡ counts_text counts)
 
 -- ---- on the way
 

@@ -10,7 +10,7 @@ mod runs;
 mod tests;
 
 ghost use Rattle.std.specs.Prelude.{IfOk};
-ghost use Rattle.edr_large.specs.Large.{IsCounted};
+ghost use Rattle.edr_large.specs.Large.{IsCounted, IsTold};
 
 pub use counts::Counts;
 use counts::counts_of;
@@ -25,4 +25,12 @@ pub fn count(alloc: Global, number: u64, cycles: u32) -> Result<Counts, OutOfMem
     let run = run_cycles(alloc, number, cycles)?;
     let found = found_in(alloc, run.image)?;
     Ok(counts_of(cycles, run.rows, &run.acks, &found))
+}
+
+/// Runs them so, and tells of the counts in eight lines.
+pub fn large_lines(alloc: Global, number: u64, cycles: u32) -> Result<Vec<u8>, OutOfMemory>
+    ensures { IfOk result (λ lines. IsTold number cycles lines.items) }
+{
+    let counts = count(alloc, number, cycles)?;
+    text(alloc, &counts)
 }

@@ -90,6 +90,17 @@ pub returns-in-Err-clause-generate_complete : goal.returns-in-Err-clause-generat
 returns-in-Err-clause-generate_complete g c = λ number cycles asked quiet.
     inr (answered _ _ c.tell.result status.OutOfMemory c.tell.ensures.answers c.tell.ensures.part quiet)
 
+pub returns-in-Err-clause-large_other : goal.returns-in-Err-clause-large_other
+returns-in-Err-clause-large_other g c = λ number cycles asked ended. tells_fault IsNumberCause fault.OutOfMemory c.tell.result _ _ refl c.tell.ensures.whole
+
+pub returns-in-Err-clause-large_part : goal.returns-in-Err-clause-large_part
+returns-in-Err-clause-large_part g c = λ number cycles asked failed.
+    inr (tells_fault_part IsNumberCause _ fault.OutOfMemory c.tell.result _ _ refl c.tell.ensures.part failed)
+
+pub returns-in-Err-clause-large_complete : goal.returns-in-Err-clause-large_complete
+returns-in-Err-clause-large_complete g c = λ number cycles asked quiet.
+    inr (answered _ _ c.tell.result status.OutOfMemory c.tell.ensures.answers c.tell.ensures.part quiet)
+
 -- ---- replay
 
 pub returns-in-Err-replay_source-clause-complete : goal.returns-in-Err-replay_source-clause-complete
