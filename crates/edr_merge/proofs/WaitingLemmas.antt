@@ -114,7 +114,7 @@ length-waiting s t last (x ∷ xs) feed =
     by_item (Some v) e (inl later) rises rest = let l = ap length (waiting-later t x xs v e later) in omega (arith, l)
     by_item (Some v) e (inr over) rises rest = let l = ap length (waiting-over t x xs over) in omega (arith, l)
 
-keep_last-all : (n : ℕ) (xs : List Item) → length xs ≤ n → keep_last n xs ≡ xs
+pub keep_last-all : (n : ℕ) (xs : List Item) → length xs ≤ n → keep_last n xs ≡ xs
 keep_last-all n xs fits = let e : length xs - n ≡ 0 = omega arith in ap (λ k. drop k xs) e
 
 -- one more item of the feed that isn't too far ahead is kept behind those that wait, and drives none out

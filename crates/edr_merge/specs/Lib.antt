@@ -1,5 +1,6 @@
 pub mod Marks
 pub mod Samples
+pub mod Oldest
 pub mod Rings
 pub mod State
 pub mod Fields

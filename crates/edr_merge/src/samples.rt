@@ -10,23 +10,25 @@ use std::marker::Model;
 // No item is further past the closed tick than this, and no two have one moment: so no more wait.
 pub const ROOM: usize = LONGEST_GAP as usize;
 
-// The samples past the closed tick, the oldest first.
+// The samples past the closed tick, the oldest first. The oldest stands beside the ring of the others, so that nothing goes
+// through the ring while one waits at a time.
 #[derive(Drop)]
 pub struct Samples {
-    ring: HeapCircularBuffer<Item>,
+    oldest: Option<Item>,
+    others: HeapCircularBuffer<Item>,
 }
 
 impl Model for Samples {
-    ghost use Rattle.std.specs.Prelude.{◌≡◌, List};
+    ghost use Rattle.std.specs.Prelude.{List};
     ghost use Rattle.edr_items.specs.declared.Item.{Item};
 
     ghost Value = { List Item };
 
-    ghost use Rattle.edr_merge.specs.declared.samples.TheConstants.{ROOM};
+    ghost use Rattle.edr_merge.specs.Oldest.{samples_of, IsInOrder};
 
-    ghost view = { λ s. s.ring.items };
+    ghost view = { samples_of };
 
-    ghost invariant = { λ s. s.ring.capacity ≡ ROOM };
+    ghost invariant = { IsInOrder };
 }
 
 impl Samples {
@@ -34,16 +36,27 @@ impl Samples {
     pub fn new(alloc: Global) -> Result<Samples, OutOfMemory>
         ensures { IfOk result (λ s. s ≡ []) }
     {
-        let ring = HeapCircularBuffer::with_capacity(alloc, ROOM)?;
-        Ok(Samples { ring })
+        let others = HeapCircularBuffer::with_capacity(alloc, ROOM - 1)?;
+        Ok(Samples {
+            oldest: None,
+            others,
+        })
     }
 
     // Keeps the item until its tick, if it is a sample.
     pub fn keep(&mut self, item: Item)
         ensures { self.new ≡ kept item self.old }
     {
-        if item.value.is_some() {
-            self.ring.push_back(item);
+        if item.value.is_none() {
+            return;
+        }
+        if self.oldest.is_none() {
+            self.oldest = Some(item);
+            return;
+        }
+        // What the ring has no room for is then the oldest.
+        if let Some(first) = self.others.push_back(item) {
+            self.oldest = Some(first);
         }
     }
 
@@ -52,11 +65,10 @@ impl Samples {
         ensures value { result ≡ first_value tick self.old }
         ensures rest { self.new ≡ past_first tick self.old }
     {
-        match self.ring.front() {
+        match self.oldest {
             Some(item) if item.moment == tick => {
-                let value = item.value;
-                self.ring.pop_front();
-                value
+                self.oldest = self.others.pop_front();
+                item.value
             }
             _ => None,
         }
