@@ -1,3 +1,4 @@
+pub mod LagLemmas
 pub mod WaitingLemmas
 pub mod StandsLemmas
 pub mod SoundLemmas

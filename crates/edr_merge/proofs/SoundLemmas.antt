@@ -15,6 +15,8 @@ use Rattle.edr_merge.specs.Samples.{IsFiring}
 use Rattle.edr_merge.specs.Fields.{IsSound}
 use Rattle.edr_merge.proofs.WaitingLemmas.{refusal_of-in_range, firings-kept, firings-past_first}
 use Rattle.edr_merge.proofs.StandsLemmas.{past_tick}
+use Rattle.edr_merge.proofs.LagLemmas.{below-risen}
+use Rattle.edr_merge.specs.Lag.{IsBelowSlow}
 
 -- what holds of a sensor's new mark and of each old one holds of each mark after that
 with_mark-each : (P : ℕ → Type 0) (s : Sensor) (t : ℕ) (m : Marks) → P t → ((r : Sensor) → P (mark_in r m)) → (r : Sensor) → P (mark_in r (with_mark s t m))
@@ -38,7 +40,7 @@ firings-with_kept Restraint last x r accepted all = firings-kept x r.restraint (
 firings-with_kept s last x r accepted all = all
 
 -- after an accepted item
-pub sound-given : (a : Inside) (s : Sensor) (x : Item) (last : ℕ) (m : Marks) (r : Rings) → IsSound a → last ≡ mark_in s a.marks → refusal_of s last x ≡ None → m ≡ with_mark s x.moment a.marks → r ≡ with_kept s x a.rings → IsSound (record { closed = a.closed; marks = m; rings = r })
+pub sound-given : (a : Inside) (s : Sensor) (x : Item) (last : ℕ) (m : Marks) (r : Rings) → IsSound a → last ≡ mark_in s a.marks → refusal_of s last x ≡ None → m ≡ with_mark s x.moment a.marks → r ≡ with_kept s x a.rings → IsSound (record { closed = a.closed; marks = m; slow = a.slow; rings = r })
 sound-given a s x last m r sound at accepted is_m is_r =
     let rises = refusal_of-rises s last x accepted in
     let within = refusal_of-within s last x accepted in
@@ -46,13 +48,15 @@ sound-given a s x last m r sound at accepted is_m is_r =
     rw (is_m, is_r) (record {
       closed_low = with_mark-each (λ n. a.closed ≤ n) s x.moment a.marks (omega (arith, rises, low, at)) sound.closed_low;
       marks_low = with_mark-each (λ n. n ≤ LATEST_MOMENT) s x.moment a.marks within sound.marks_low;
+      slow_low = below-risen a.slow x.moment s a.marks (omega (arith, rises, at)) sound.slow_low;
       firings = firings-with_kept s last x a.rings accepted sound.firings;
     })
 
 -- after a row
-pub sound-closed : (a : Inside) (r : Rings) → IsSound a → ((s : Sensor) → a.closed + 1 ≤ mark_in s a.marks) → r ≡ past_tick (a.closed + 1) a.rings → IsSound (record { closed = a.closed + 1; marks = a.marks; rings = r })
-sound-closed a r sound later is_r = record {
+pub sound-closed : (a : Inside) (slow : ℕ) (r : Rings) → IsSound a → IsBelowSlow slow a.marks → ((s : Sensor) → a.closed + 1 ≤ mark_in s a.marks) → r ≡ past_tick (a.closed + 1) a.rings → IsSound (record { closed = a.closed + 1; marks = a.marks; slow = slow; rings = r })
+sound-closed a slow r sound below later is_r = record {
   closed_low = later;
   marks_low = sound.marks_low;
+  slow_low = below;
   firings = rw is_r (firings-past_first (a.closed + 1) a.rings.restraint sound.firings);
 }

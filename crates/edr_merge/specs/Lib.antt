@@ -1,4 +1,5 @@
 pub mod Marks
+pub mod Lag
 pub mod Samples
 pub mod Oldest
 pub mod Rings

@@ -9,6 +9,8 @@ mod samples;
 ghost use Rattle.std.specs.Prelude.{◌≡◌, ◌↔◌, ◌≤◌, pos, ◌≤ℤ◌, IfOk, IfErr, IsOk, OnOk, OnErr, IfSome, unsigned_abs, unwrap_or};
 ghost use Rattle.edr_items.specs.SensorLists.{no_items};
 ghost use Rattle.edr_definitions.specs.Schedule.{Progress, Give, Close, IsAllowed, after_step};
+ghost use Rattle.edr_merge.specs.Marks.{first_at};
+ghost use Rattle.edr_merge.specs.Lag.{IsBelowSlow};
 
 use edr_items::{Item, ItemRefused, LONGEST_GAP, Restraints, Sensor, check};
 use marks::Marks;
@@ -49,6 +51,8 @@ pub enum Next {
 pub struct Merge {
     closed: u32,
     marks: Marks,
+    // No sensor beside the two axes has a mark before this tick.
+    slow: u32,
     rings: Rings,
 }
 
@@ -75,6 +79,27 @@ fn restraints(sample: Option<i32>) -> Restraints
     }
 }
 
+#[tactic(auto, using(crate::proofs::LagLemmas::lag_along, crate::proofs::LagLemmas::lag_across, crate::proofs::LagLemmas::lag_none))]
+// The lowest-numbered sensor whose mark is that tick. The axes may give an item each tick. The marks of the others are compared
+// only where the tick has come up to the least that they had.
+fn lagging(marks: &Marks, slow: &mut u32, tick: u32) -> Option<Sensor>
+    requires { IsBelowSlow slow.old marks.now }
+    ensures found { result ≡ first_at marks.now tick }
+    ensures below { IsBelowSlow slow.new marks.now }
+{
+    if marks.of(Sensor::Along) == tick {
+        return Some(Sensor::Along);
+    }
+    if marks.of(Sensor::Across) == tick {
+        return Some(Sensor::Across);
+    }
+    if tick < *slow {
+        return None;
+    }
+    *slow = marks.least_slow();
+    marks.first_at(tick)
+}
+
 impl Merge {
     ghost use Rattle.edr_merge.specs.Answers.{give_refusal_of, next_of, IsRow, after_next};
     ghost use Rattle.edr_merge.specs.StandsFor.{MergeStandsFor};
@@ -86,6 +111,7 @@ impl Merge {
         Ok(Merge {
             closed: 0,
             marks: Marks::new(),
+            slow: 0,
             rings: Rings::new(alloc)?,
         })
     }
@@ -125,7 +151,7 @@ impl Merge {
         // A tick is closed exactly where the schedule allows it.
         ensures allowed { (p : Progress) → MergeStandsFor self.old p → IsRow result ↔ IsAllowed Close p }
     {
-        if let Some(sensor) = self.marks.first_at(self.closed) {
+        if let Some(sensor) = lagging(&self.marks, &mut self.slow, self.closed) {
             return Next::Waiting { sensor };
         }
         self.closed += 1;

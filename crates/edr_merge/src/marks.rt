@@ -1,6 +1,7 @@
 //! The last moments of the eight sensors.
 ghost use Rattle.std.specs.Prelude.{◌≡◌};
 ghost use Rattle.edr_merge.specs.Marks.{no_marks, mark_in, with_mark, first_at};
+ghost use Rattle.edr_merge.specs.Lag.{IsBelowSlow};
 
 use edr_items::Sensor;
 
@@ -76,6 +77,15 @@ impl Marks {
             Sensor::Lamp => self.lamp = moment,
             Sensor::Restraint => self.restraint = moment,
         }
+    }
+
+    // The least mark of the sensors beside the two axes.
+    pub fn least_slow(&self) -> u32
+        ensures { IsBelowSlow result self.now }
+    {
+        let pedals = self.throttle.min(self.brake);
+        let lights = self.belt.min(self.lamp);
+        self.speed.min(pedals).min(lights).min(self.restraint)
     }
 
     #[tactic(auto, unfolding(crate::specs::Marks::first_at))]

@@ -8,7 +8,7 @@ use Rattle.edr_merge.proofs.Merge.next.Goals as goal
 
 pub returns-in-Some-clause-answer : goal.returns-in-Some-clause-answer
 returns-in-Some-clause-answer c = λ p stands.
-    answer-waiting c.args.self.now (state_of c.self.inside) p c.in-Some.sensor c.self.view_is stands (sym c.first_at.ensures ∙ c.in-Some.is)
+    answer-waiting c.args.self.now (state_of c.self.inside) p c.in-Some.sensor c.self.view_is stands (sym c.lagging.ensures.found ∙ c.in-Some.is)
 
 pub overflow_add-self : goal.overflow_add-self
 overflow_add-self c =
@@ -19,28 +19,28 @@ overflow_add-self c =
 pub restraints-requires : goal.restraints-requires
 restraints-requires c = first_value-bits (c.self.inside.closed + 1) c.self.inside.rings.restraint c.take-3.result c.self.invariant.firings c.take-3.ensures.value
 
-pub invariant_of-self : goal.invariant_of-self
-invariant_of-self c =
+pub invariant_of-self-2 : goal.invariant_of-self-2
+invariant_of-self-2 c =
     let inside = c.self.inside in
-    sound-closed inside (record { along = c.take.new.self; across = c.take-2.new.self; restraint = c.take-3.new.self }) c.self.invariant
-    (marks-past inside.marks inside.closed (sym c.first_at.ensures ∙ c.in_default.is) c.self.invariant.closed_low)
+    sound-closed inside c.lagging.new.slow (record { along = c.take.new.self; across = c.take-2.new.self; restraint = c.take-3.new.self }) c.self.invariant c.lagging.ensures.below
+    (marks-past inside.marks inside.closed (sym c.lagging.ensures.found ∙ c.in_default.is) c.self.invariant.closed_low)
     (λ i. record { along = c.take.ensures.rest i; across = c.take-2.ensures.rest i; restraint = c.take-3.ensures.rest i })
 
 pub returns-clause-answer : goal.returns-clause-answer
 returns-clause-answer c = λ p stands.
-    answer-row c.args.self.now (state_of c.self.inside) p c.self.view_is stands (sym c.first_at.ensures ∙ c.in_default.is)
+    answer-row c.args.self.now (state_of c.self.inside) p c.self.view_is stands (sym c.lagging.ensures.found ∙ c.in_default.is)
     c.take.result c.take-2.result c.take-3.result c.restraints.result c.take.ensures.value c.take-2.ensures.value c.take-3.ensures.value c.restraints.ensures
 
 pub returns-clause-stands : goal.returns-clause-stands
 returns-clause-stands c = λ p stands.
-    stands-next c.args.self.now (state_of c.self.inside) p c.self.view_is stands (sym c.first_at.ensures ∙ c.in_default.is)
+    stands-next c.args.self.now (state_of c.self.inside) p c.self.view_is stands (sym c.lagging.ensures.found ∙ c.in_default.is)
     (record { along = c.take.new.self; across = c.take-2.new.self; restraint = c.take-3.new.self })
     (λ i. record { along = c.take.ensures.rest i; across = c.take-2.ensures.rest i; restraint = c.take-3.ensures.rest i })
 
 pub returns-in-Some-clause-allowed : goal.returns-in-Some-clause-allowed
 returns-in-Some-clause-allowed c = λ p stands.
-    ((λ h. absurd h), waiting-not_allowed c.args.self.now (state_of c.self.inside) p c.in-Some.sensor c.self.view_is stands (sym c.first_at.ensures ∙ c.in-Some.is))
+    ((λ h. absurd h), waiting-not_allowed c.args.self.now (state_of c.self.inside) p c.in-Some.sensor c.self.view_is stands (sym c.lagging.ensures.found ∙ c.in-Some.is))
 
 pub returns-clause-allowed : goal.returns-clause-allowed
 returns-clause-allowed c = λ p stands.
-    ((λ _. row-allowed c.args.self.now (state_of c.self.inside) p c.self.view_is stands (sym c.first_at.ensures ∙ c.in_default.is)), (λ _. tt))
+    ((λ _. row-allowed c.args.self.now (state_of c.self.inside) p c.self.view_is stands (sym c.lagging.ensures.found ∙ c.in_default.is)), (λ _. tt))
