@@ -7,9 +7,10 @@ mod rings;
 mod samples;
 
 ghost use Rattle.std.specs.Prelude.{◌≡◌, ◌↔◌, ◌≤◌, pos, ◌≤ℤ◌, IfOk, IfErr, IsOk, OnOk, OnErr, IfSome, unsigned_abs, unwrap_or};
+ghost use Rattle.edr_items.specs.Item.{refusal_of};
 ghost use Rattle.edr_items.specs.SensorLists.{no_items};
 ghost use Rattle.edr_definitions.specs.Schedule.{Progress, Give, Close, IsAllowed, after_step};
-ghost use Rattle.edr_merge.specs.Marks.{first_at};
+ghost use Rattle.edr_merge.specs.Marks.{first_at, mark_in};
 ghost use Rattle.edr_merge.specs.Lag.{IsBelowSlow};
 
 use edr_items::{Item, ItemRefused, LONGEST_GAP, Restraints, Sensor, check};
@@ -100,6 +101,19 @@ fn lagging(marks: &Marks, slow: &mut u32, tick: u32) -> Option<Sensor>
     marks.first_at(tick)
 }
 
+// Whether the sensor may give the item behind those that it gave. Each axis, which may give one each tick, has a call of its own:
+// there the range is known.
+fn check_next(marks: &Marks, sensor: Sensor, item: &Item) -> Result<(), ItemRefused>
+    ensures accepted { IsOk result ↔ (refusal_of sensor (mark_in sensor marks.now) item.now ≡ None) }
+    ensures refused { IfErr result (λ e. refusal_of sensor (mark_in sensor marks.now) item.now ≡ Some e) }
+{
+    match sensor {
+        Sensor::Along => check(Sensor::Along, marks.of(Sensor::Along), item),
+        Sensor::Across => check(Sensor::Across, marks.of(Sensor::Across), item),
+        _ => check(sensor, marks.of(sensor), item),
+    }
+}
+
 impl Merge {
     ghost use Rattle.edr_merge.specs.Answers.{give_refusal_of, next_of, IsRow, after_next};
     ghost use Rattle.edr_merge.specs.StandsFor.{MergeStandsFor};
@@ -130,7 +144,7 @@ impl Merge {
         ensures allowed { (p : Progress) → MergeStandsFor self.old p → IsOk result ↔ IsAllowed (Give sensor item) p }
         ensures why { (p : Progress) → MergeStandsFor self.old p → IfErr result (λ e. give_refusal_of sensor item p ≡ Some e) }
     {
-        if let Err(refused) = check(sensor, self.marks.of(sensor), &item) {
+        if let Err(refused) = check_next(&self.marks, sensor, &item) {
             return Err(MergeRefused::Item(refused));
         }
         if item.moment > self.closed + LONGEST_GAP {
