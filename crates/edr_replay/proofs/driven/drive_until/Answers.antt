@@ -7,6 +7,7 @@ use Rattle.std.specs.Prelude.{IfErr, IfOk}
 use Rattle.edr_replay.proofs.DrivenLemmas.{driven_fault, leaves_counted}
 use Rattle.edr_replay.proofs.StopLemmas.{lent}
 use Rattle.edr_replay.proofs.EndPhase.{EndsRun, RanFused, ended, fused_fault, fused_left, fused_past, fused_ran, ran_fused}
+use Rattle.edr_replay.proofs.PastLemmas.{past_none}
 use Rattle.edr_replay.proofs.driven.drive_until.Given.{Over}
 use Rattle.edr_replay.proofs.driven.drive_until.Goals as goal
 
@@ -54,3 +55,10 @@ returns-in-Err-clause-left g c =
     let D = g.N.Nvm in
     lent (λ a b. LeavesOfRun (arc_value c.args.feeds.now) c.args.stop c.args.started.number c.args.started.banks.store (D.content a) (D.settled a) (D.content b) (D.settled b)) c.args.nvm.now c.arm.new.self.nvm.now c.arm.new.self.nvm.now _ (search rules) (search rules)
     (leaves_counted (arc_value c.args.feeds.now) c.args.stop c.args.started.number c.args.started.banks.store (D.content c.arm.new.self.nvm.now) (D.settled c.arm.new.self.nvm.now))
+
+pub returns-in-Err-clause-past : goal.returns-in-Err-clause-past
+returns-in-Err-clause-past g c =
+    let D = g.N.Nvm in
+    let none = past_none (D.content c.arm.new.self.nvm.now) (D.settled c.arm.new.self.nvm.now) in
+    lent (λ a b. LeavesPastOf (record { store = c.args.started.banks.store; count = c.args.started.number }) (D.content a) (D.settled a) (D.content b) (D.settled b)) c.args.nvm.now c.arm.new.self.nvm.now c.arm.new.self.nvm.now _ (search rules) (search rules)
+    (none.keeps (record { store = c.args.started.banks.store; count = c.args.started.number }))
