@@ -5,5 +5,6 @@ pub mod RunLaws
 pub mod PastLemmas
 pub mod ReplayLemmas
 pub mod Completeness
+pub mod DriveLemmas
 pub mod Dispatch
 pub mod TakingLemmas

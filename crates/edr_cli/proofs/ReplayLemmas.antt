@@ -22,7 +22,7 @@ use Rattle.edr_replay.specs.Replayed.{Holds, HasRun, EndsShort, EndsSpent, IsFau
 use Rattle.edr_cli.specs.Outside.{Input, IsAtEnd, Memory}
 use Rattle.edr_cli.specs.Reports.{IsImageCause, IsRefused, Says, report_in}
 use Rattle.edr_cli.specs.Runs.{GaveTrace, IsReplayCause, IsSpent, IsTraceOf, LeavesRun, RanSome, Reaches, RunIs, TheRun}
-use Rattle.edr_cli.specs.Steps.{HeldNone, IsRunCause, Reports, fault_of_start}
+use Rattle.edr_cli.specs.Steps.{HeldNone, IsRunCause, Reports, ReportsHeld, fault_of_start}
 use Rattle.edr_cli.proofs.ImageLemmas.{same_view, says_refused, told_is}
 use Rattle.edr_cli.proofs.RunLaws.{the_run}
 
@@ -45,11 +45,11 @@ same_report : (form : Form) (reports : List CycleReport) (o : Outcome) (v : Stor
 same_report form reports o v n a b c = cc
 
 -- the banks that are opened behind the run are those that it came to
-pub run_reports : (form : Form) (cs : List CycleInput) (old mid new : Memory) (reports : List CycleReport) (v' : Store) (n' : ℕ) (text : List ℕ)
-    → HasRun cs old.content old.settled mid.content mid.settled reports → ((image : List ℕ) → mid.content ≡ Some image → Says image v' n')
-    → new.content ≡ mid.content → ((i : ℕ) → new.settled i ≡ mid.settled i) → text ≡ report_in form (map report_of reports) v' n' → Reports form cs old new text
+pub run_reports : (form : Form) (cs : List CycleInput) (old mid new : Memory) (reports : List CycleReport) (text : List ℕ)
+    → HasRun cs old.content old.settled mid.content mid.settled reports → new.content ≡ mid.content → ((i : ℕ) → new.settled i ≡ mid.settled i)
+    → ReportsHeld form (map report_of reports) mid text → Reports form cs old new text
 unfolding HasRun
-run_reports form cs old mid new reports v' n' text run says same settled is = λ v n holds.
+run_reports form cs old mid new reports text run same settled told = λ v n holds.
     let r = run v n holds in
     let o : Outcome = r.0 in
     let h : Holds mid.content mid.settled o.store o.count = r.3 in
@@ -58,8 +58,8 @@ run_reports form cs old mid new reports v' n' text run says same settled is = λ
       quiet = (same ∙ h.quiet.0, λ i. settled i ∙ h.quiet.1 i);
       says = h.says;
     } in
-    let view = same_view _ _ (sym (says h.bytes h.quiet.0) ∙ h.says) in
-    (o, r.1, there, is ∙ same_report form reports o v' n' (sym r.2) (ap (λ (x : View). x.store) view) (ap (λ (x : View). x.count) view))
+    let view = same_view _ _ (sym (told.2 h.bytes h.quiet.0) ∙ h.says) in
+    (o, r.1, there, told.3 ∙ same_report form reports o told.0 told.1 (sym r.2) (ap (λ (x : View). x.store) view) (ap (λ (x : View). x.count) view))
 
 -- a device that held banks and a count before the run has an image behind it that isn't refused
 not_refused : (old mid : Memory) (cs : List CycleInput) (reports : List CycleReport) (e : OpenFault)

@@ -3,5 +3,6 @@ pub mod Words
 pub mod Outside
 pub mod Reports
 pub mod Runs
+pub mod Drives
 pub mod Endings
 pub mod Steps

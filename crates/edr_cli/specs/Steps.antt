@@ -1,7 +1,8 @@
 -- What the steps of a run say of each other. The clauses of the top call need none of this.
-use Rattle.std.specs.Prelude.{◌≡◌, ℕ, List}
+use Rattle.std.specs.Prelude.{◌≡◌, ◌⊎◌, ℕ, List, Some}
 use Rattle.edr_device.specs.Faults.{Rose}
 use Rattle.edr_image.specs.Banks.{Store}
+use Rattle.edr_image.specs.Reports.{Report}
 use Rattle.edr_spell.specs.declared.CycleInput.{CycleInput}
 use Rattle.edr_run.specs.Cycle.{Outcome, IsRun}
 use Rattle.edr_cycle.specs.declared.started.StartFault.{StartFault}
@@ -9,10 +10,10 @@ use Rattle.edr_cycle.specs.declared.started.StartFault.TheVariants as start
 use Rattle.edr_report.specs.declared.faults.Fault.{Fault}
 use Rattle.edr_report.specs.declared.faults.Fault.TheVariants as fault
 use Rattle.edr_words.specs.declared.Form.{Form}
-use Rattle.edr_replay.specs.Reached.{RanFirst}
+use Rattle.edr_replay.specs.Reached.{IsCutShort, RanFirst}
 use Rattle.edr_replay.specs.Replayed.{Holds, IsShortOf, LeavesReached, RanToTheLast}
 use Rattle.edr_cli.specs.Outside.{Memory}
-use Rattle.edr_cli.specs.Reports.{fault_of, report_in}
+use Rattle.edr_cli.specs.Reports.{Says, fault_of, report_in}
 
 -- the fault of a call whose run ended early
 abbrev pub fault_of_start : StartFault → Fault
@@ -44,3 +45,17 @@ IsRunCause cycles old new (fault.Trace t) = ⊥
 IsRunCause cycles old new fault.Read = ⊥
 IsRunCause cycles old new fault.Formatted = ⊥
 IsRunCause cycles old new fault.TooLong = ⊥
+
+-- the text is the report of these cycles, and of the banks and the count that the device held
+abbrev pub ReportsHeld : Form → List Report → Memory → List ℕ → Type 0
+ReportsHeld form reports old text =
+    (v : Store) × (n : ℕ) × ((image : List ℕ) → old.content ≡ Some image → Says image v n) × (text ≡ report_in form reports v n)
+
+-- the device holds what some first cycles came to, or these and the start of the next one
+abbrev pub HoldsCutShort : List CycleInput → Memory → Memory → Type 0
+HoldsCutShort cycles old new = (v : Store) (n : ℕ) → Holds old.content old.settled v n
+    → (w : Store) × (m : ℕ) × IsCutShort cycles v n w m × Holds new.content new.settled w m
+
+-- why there is no report of a run of these cycles by threads
+abbrev pub IsDrivenCause : List CycleInput → Memory → Memory → Fault → Type 0
+IsDrivenCause cycles old new f = IsRunCause cycles old new f ⊎ ((f ≡ fault.OutOfMemory) × HoldsCutShort cycles old new)

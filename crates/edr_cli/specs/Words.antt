@@ -39,3 +39,13 @@ IsOther (Some (Large number cycles)) = ⊥
 -- they ask for nothing that is served
 abbrev pub AreOther : List (List ℕ) → Type 0
 AreOther words = IsOther (job_of words)
+
+-- ---- the words of a run by threads
+
+-- they ask for the run of a trace by so many workers, and its report in this form
+abbrev pub AreDrive : Form → ℕ → List (List ℕ) → Type 0
+AreDrive form workers words = job_of words ≡ Some (Drive workers form)
+
+-- they ask for no such run
+abbrev pub AreNoDrive : List (List ℕ) → Type 0
+AreNoDrive words = (form : Form) (workers : ℕ) → ¬ AreDrive form workers words

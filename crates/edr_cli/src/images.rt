@@ -4,6 +4,7 @@ ghost use Rattle.edr_device.specs.Device.{IsQuiet, MayLeave, StillTells};
 ghost use Rattle.edr_image.specs.Reports.{report_of};
 ghost use Rattle.edr_cli.specs.Outside.{memory};
 ghost use Rattle.edr_cli.specs.Reports.{IsImageCause, ReportIs, Says, fault_of, report_in};
+ghost use Rattle.edr_cli.specs.Steps.{ReportsHeld};
 ghost use Rattle.edr_report.specs.declared.faults.Fault.TheVariants as fault;
 
 use edr_banks::{Banks, OpenFault};
@@ -81,6 +82,26 @@ pub(crate) fn report_of_banks(
         Ok(out) => Ok(out),
         Err(_) => Err(Fault::OutOfMemory),
     }
+}
+
+/// Opens the banks, and reports these cycles and what the banks hold.
+pub(crate) fn report_held<N: Nvm>(
+    alloc: Global,
+    nvm: &mut N,
+    form: Form,
+    run: &[CycleReport],
+) -> Result<Vec<u8>, Fault>
+    ensures text { IfOk result (λ out. ReportsHeld form (map report_of run.now) (memory N.extent N.content N.settled N.faults nvm.old) out.items) }
+    ensures cause { IfErr result (IsImageCause (memory N.extent N.content N.settled N.faults nvm.old)
+        (memory N.extent N.content N.settled N.faults nvm.new)) }
+    ensures content { N.content nvm.new ≡ N.content nvm.old }
+    ensures settled { (i : ℕ) → N.settled nvm.new i ≡ N.settled nvm.old i }
+    ensures size { N.extent nvm.new ≡ N.extent nvm.old }
+    ensures device { N.goes_on nvm.old nvm.new }
+    ensures later { N.faults nvm.old ≤ N.faults nvm.new }
+{
+    let banks = open(alloc, nvm)?;
+    report_of_banks(alloc, form, run, &banks)
 }
 
 /// The report of what the device holds.

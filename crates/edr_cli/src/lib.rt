@@ -2,6 +2,7 @@
 //! the records to the bytes that are printed, the memory afterwards, and the status that the program ends with.
 #![tactic(auto)]
 
+mod drives;
 mod endings;
 mod formats;
 mod generates;
@@ -12,6 +13,7 @@ mod runs;
 mod status;
 mod traces;
 
+pub use drives::drive;
 pub use edr_words::Words;
 pub use runs::command;
 pub use status::Status;

@@ -9,7 +9,7 @@ ghost use Rattle.edr_cli.specs.Outside.{IsAtEnd, input, memory};
 ghost use Rattle.edr_cli.specs.Runs.{IsReplayCause, RunIs};
 ghost use Rattle.edr_cli.specs.Steps.{IsRunCause, Reports, fault_of_start};
 
-use crate::images::{open, open_fault, open_settled, report_of_banks};
+use crate::images::{open_fault, open_settled, report_held};
 use crate::traces::trace_of;
 use edr_device::{Nvm, Source};
 use edr_replay::{StartFault, replay};
@@ -18,8 +18,8 @@ use edr_trace::CycleInput;
 use edr_words::Form;
 use std::alloc::Global;
 
-// The fault of a call whose run ended early.
-fn start_fault(e: StartFault) -> Fault
+/// The fault of a call whose run ended early.
+pub(crate) fn start_fault(e: StartFault) -> Fault
     ensures { result ≡ fault_of_start e }
 {
     match e {
@@ -78,10 +78,8 @@ fn run<N: Nvm>(
     ensures later { N.faults nvm.old ≤ N.faults nvm.new }
     ensures past { LeavesPast (N.content nvm.old) (N.settled nvm.old) (N.content nvm.new) (N.settled nvm.new) }
 {
-    let reports = match replay(alloc, nvm, cycles) {
-        Ok(reports) => reports,
-        Err(e) => return Err(start_fault(e)),
-    };
-    let banks = open(alloc, nvm)?;
-    report_of_banks(alloc, form, &reports, &banks)
+    match replay(alloc, nvm, cycles) {
+        Ok(reports) => report_held(alloc, nvm, form, &reports),
+        Err(e) => Err(start_fault(e)),
+    }
 }

@@ -1,0 +1,188 @@
+//! The top call of a run by threads. Its promises are those of a run on one thread, and hold if it returns.
+ghost use Rattle.std.specs.Prelude.{◌≡◌, ◌≢◌, ◌≤◌, ◌⊎◌, ◌+◌, ℕ, List, Some, All, IfOk, IfErr, OnOk, length};
+ghost use Rattle.edr_device.specs.Device.{StillTells};
+ghost use Rattle.edr_device.specs.Faults.{Rose};
+ghost use Rattle.edr_device.specs.Told.{Told};
+ghost use Rattle.edr_device.specs.Transfer.{GivesAtMost};
+ghost use Rattle.edr_image.specs.Banks.{Store};
+ghost use Rattle.edr_spell.specs.Spell.{IsCycle, Spell, largest_trace};
+ghost use Rattle.edr_spell.specs.declared.CycleInput.{CycleInput};
+ghost use Rattle.edr_run.specs.Cycle.{last_count};
+ghost use Rattle.edr_replay.specs.Past.{LeavesPast};
+ghost use Rattle.edr_words.specs.declared.Form.{Form};
+ghost use Rattle.edr_cli.specs.Drives.{IsDriveCause};
+ghost use Rattle.edr_cli.specs.Endings.{IsUsageCause, Tells, TellsFault, TellsFaultPart, TellsPart};
+ghost use Rattle.edr_cli.specs.Outside.{IsAtEnd, input, memory};
+ghost use Rattle.edr_cli.specs.Reports.{Says};
+ghost use Rattle.edr_cli.specs.Runs.{RunIs};
+ghost use Rattle.edr_cli.specs.Steps.{IsDrivenCause, Reports};
+ghost use Rattle.edr_cli.specs.Words.{AreDrive, AreNoDrive};
+
+use crate::endings::{tell, write};
+use crate::images::{open_settled, report_held};
+use crate::replays::start_fault;
+use crate::status::Status;
+use crate::traces::trace_of;
+use edr_device::{Nvm, Sink, Source};
+use edr_drive::Gate;
+use edr_replay::replay_driven;
+use edr_report::Fault;
+use edr_trace::CycleInput;
+use edr_words::{Form, Job, Words};
+use std::alloc::{AllocError as OutOfMemory, Global};
+use std::sync::{Arc, Wait};
+use std::thread::Threads;
+
+// Runs the cycles by so many workers, opens the banks again and reports.
+fn run_driven<
+    R: Threads + Wait + Copy + Send + Sync + 'static,
+    G: Gate + Drop + Send + Sync + 'static,
+    N: Nvm,
+>(
+    rt: &R,
+    alloc: Global,
+    nvm: &mut N,
+    cycles: Vec<CycleInput>,
+    workers: u8,
+    form: Form,
+    gate: &Arc<G>,
+) -> Result<Vec<u8>, Fault>
+    requires workers { (1 ≤ workers) × (workers ≤ 8) }
+    requires cycles { All IsCycle cycles.items }
+    ensures text { IfOk result (λ out. Reports form cycles.items (memory N.extent N.content N.settled N.faults nvm.old)
+        (memory N.extent N.content N.settled N.faults nvm.new) out.items) }
+    ensures cause { IfErr result (IsDrivenCause cycles.items (memory N.extent N.content N.settled N.faults nvm.old)
+        (memory N.extent N.content N.settled N.faults nvm.new)) }
+    ensures size { N.extent nvm.new ≡ N.extent nvm.old }
+    ensures device { N.goes_on nvm.old nvm.new }
+    ensures tells { StillTells (N.content nvm.old) (N.content nvm.new) }
+    ensures later { N.faults nvm.old ≤ N.faults nvm.new }
+    ensures past { LeavesPast (N.content nvm.old) (N.settled nvm.old) (N.content nvm.new) (N.settled nvm.new) }
+{
+    match replay_driven(rt, alloc, nvm, cycles, workers, gate) {
+        Ok(reports) => report_held(alloc, nvm, form, &reports),
+        Err(e) => Err(start_fault(e)),
+    }
+}
+
+// Runs the trace that the source gives over the device by so many workers, and gives the report of the run and of what the device
+// holds behind it. The trace is whole before the device is used, and the image is looked at before the first cycle.
+fn drive_source<
+    R: Threads + Wait + Copy + Send + Sync + 'static,
+    G: Gate + Drop + Send + Sync + 'static,
+    S: Source,
+    N: Nvm,
+>(
+    rt: &R,
+    alloc: Global,
+    source: &mut S,
+    nvm: &mut N,
+    workers: u8,
+    form: Form,
+    gate: &Arc<G>,
+) -> Result<Vec<u8>, Fault>
+    requires workers { (1 ≤ workers) × (workers ≤ 8) }
+    ensures takes { Told (GivesAtMost (largest_trace + 1)) (S.left source.old) (S.left source.new) }
+    ensures source_later { S.faults source.old ≤ S.faults source.new }
+    ensures size { N.extent nvm.new ≡ N.extent nvm.old }
+    ensures device { N.goes_on nvm.old nvm.new }
+    ensures tells { StillTells (N.content nvm.old) (N.content nvm.new) }
+    ensures later { N.faults nvm.old ≤ N.faults nvm.new }
+    ensures past { LeavesPast (N.content nvm.old) (N.settled nvm.old) (N.content nvm.new) (N.settled nvm.new) }
+    ensures end { OnOk result (IsAtEnd (S.left source.new)) }
+    ensures text { IfOk result (λ out. RunIs form (input S.left S.faults source.old)
+        (memory N.extent N.content N.settled N.faults nvm.old)
+        (memory N.extent N.content N.settled N.faults nvm.new) out.items) }
+    ensures cause { IfErr result (IsDriveCause (input S.left S.faults source.old) (input S.left S.faults source.new)
+        (memory N.extent N.content N.settled N.faults nvm.old)
+        (memory N.extent N.content N.settled N.faults nvm.new)) }
+{
+    let cycles = trace_of(alloc, source)?;
+    open_settled(alloc, nvm)?;
+    run_driven(rt, alloc, nvm, cycles, workers, form, gate)
+}
+
+/// Serves the words `drive W [text|csv]`: `replay` with W workers, 1 to 8, for the eight sensors, and a recorder beside them. The
+/// caller's thread writes the records, so the device crosses no thread.
+///
+/// What it writes, what the device then holds and what each status says are those of `replay`, whatever the schedule of the
+/// threads. Memory for the threads of a cycle is taken behind its start, so want of memory may leave that cycle counted. Each
+/// worker calls the gate once for each item, before the item's first offer. It waits for its threads: its promises hold if it
+/// returns.
+pub fn drive<
+    R: Threads + Wait + Copy + Send + Sync + 'static,
+    S: Source,
+    K: Sink,
+    N: Nvm,
+    G: Gate + Drop + Send + Sync + 'static,
+>(
+    rt: &R,
+    alloc: Global,
+    words: &Words,
+    source: &mut S,
+    sink: &mut K,
+    nvm: &mut N,
+    gate: &Arc<G>,
+) -> Status
+    // What is lent is handed back as it was lent: the same device of the same size, which tells its bytes if it did, and no count
+    // of faults that falls. Of the source no more is taken than tells that it gives too much.
+    ensures takes { Told (GivesAtMost (largest_trace + 1)) (S.left source.old) (S.left source.new) }
+    ensures device { N.goes_on nvm.old nvm.new }
+    ensures size { N.extent nvm.new ≡ N.extent nvm.old }
+    ensures tells { StillTells (N.content nvm.old) (N.content nvm.new) }
+    ensures later { (S.faults source.old ≤ S.faults source.new) × (K.faults sink.old ≤ K.faults sink.new)
+        × (N.faults nvm.old ≤ N.faults nvm.new) }
+
+    // Where a write fails, the sink counted it.
+    ensures write_fault { result ≡ Status.WriteFault → Rose (K.faults sink.old) (K.faults sink.new) }
+
+    // Other words are a fault of usage, unless memory runs out. Nothing is read, and the device stays.
+    ensures usage { AreNoDrive words.now → result ≢ Status.WriteFault
+        → TellsFault IsUsageCause result (K.content sink.old) (K.content sink.new) }
+    ensures usage_part { AreNoDrive words.now → result ≡ Status.WriteFault
+        → TellsFaultPart IsUsageCause (K.content sink.old) (K.content sink.new) }
+    ensures untouched { AreNoDrive words.now → (source.new ≡ source.old) × (nvm.new ≡ nvm.old) }
+
+    // With Ok the source is at its end, and the sink gained exactly the report of a run of the cycles that the source spelled, from
+    // what the device told at first to what it holds, with nothing pending. What holds of each run stands with it: each record is
+    // from its own window and cycle, and no locked event is lost.
+    ensures input { (form : Form) (workers : ℕ) → AreDrive form workers words.now → result ≡ Status.Ok → IsAtEnd (S.left source.new) }
+    ensures run { (form : Form) (workers : ℕ) → AreDrive form workers words.now → result ≡ Status.Ok
+        → Tells
+        (RunIs form (input S.left S.faults source.old) (memory N.extent N.content N.settled N.faults nvm.old) (memory N.extent N.content N.settled N.faults nvm.new))
+        (K.content sink.old) (K.content sink.new) }
+    // With another status the sink gained exactly the line of a fault that has its cause; and where a write failed, a part
+    // of the report or of such a line.
+    ensures other { (form : Form) (workers : ℕ) → AreDrive form workers words.now → result ≢ Status.Ok → result ≢ Status.WriteFault
+        → TellsFault
+        (IsDriveCause (input S.left S.faults source.old) (input S.left S.faults source.new)
+        (memory N.extent N.content N.settled N.faults nvm.old) (memory N.extent N.content N.settled N.faults nvm.new))
+        result (K.content sink.old) (K.content sink.new) }
+    ensures part { (form : Form) (workers : ℕ) → AreDrive form workers words.now → result ≡ Status.WriteFault
+        → TellsPart
+        (RunIs form (input S.left S.faults source.old) (memory N.extent N.content N.settled N.faults nvm.old) (memory N.extent N.content N.settled N.faults nvm.new))
+        (IsDriveCause (input S.left S.faults source.old) (input S.left S.faults source.new)
+        (memory N.extent N.content N.settled N.faults nvm.old) (memory N.extent N.content N.settled N.faults nvm.new))
+        (K.content sink.old) (K.content sink.new) }
+    // Whatever the status, what stands past the image stays.
+    ensures past { (form : Form) (workers : ℕ) → AreDrive form workers words.now
+        → LeavesPast (N.content nvm.old) (N.settled nvm.old) (N.content nvm.new) (N.settled nvm.new) }
+    // Where nothing counts a fault, a trace is run over an image that isn't refused and has numbers left.
+    ensures complete { (form : Form) (workers : ℕ) (bytes image : List ℕ) (cycles : List CycleInput) (v : Store) (n : ℕ) → AreDrive form workers words.now
+        → S.left source.old ≡ Some bytes → length bytes ≤ largest_trace → Spell bytes cycles
+        → N.content nvm.old ≡ Some image → Says image v n → n + length cycles ≤ last_count
+        → ¬ Rose (S.faults source.old) (S.faults source.new) → ¬ Rose (N.faults nvm.old) (N.faults nvm.new) → ¬ Rose (K.faults sink.old) (K.faults sink.new)
+        → (result ≡ Status.Ok) ⊎ (result ≡ Status.OutOfMemory) }
+{
+    let job = match words.job(alloc) {
+        Ok(job) => job,
+        Err(OutOfMemory) => return tell(sink, Fault::OutOfMemory),
+    };
+    let Some(Job::Drive { workers, form }) = job else {
+        return tell(sink, Fault::Usage);
+    };
+    match drive_source(rt, alloc, source, nvm, workers, form, gate) {
+        Ok(text) => write(sink, &text, Status::Ok),
+        Err(fault) => tell(sink, fault),
+    }
+}
