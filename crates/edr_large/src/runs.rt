@@ -1,4 +1,4 @@
-//! The run over a memory in memory.
+//! The run over a memory in memory. Its calls don't fail; a fault of it would be told as want of memory.
 ghost use Rattle.std.specs.Prelude.{◌≡◌, ◌<◌, ◌^◌, ℕ, [], Some, length, IfOk};
 ghost use Rattle.edr_device.specs.Memory.{memory_image, memory_state, new_memory};
 ghost use Rattle.edr_image.specs.Banks.{Store, retrieved};
