@@ -108,6 +108,7 @@ impl Core {
     /// let mut core = Core::open(alloc, 1)?;
     /// core.accept(Sensor::Along, Item { moment: 1, value: Some(-4000) })?;
     /// ```
+    #[inline(always)]
     pub fn accept(&mut self, sensor: Sensor, item: Item) -> Result<(), MergeRefused>
         ensures ok { OnOk result ((n : ℕ) (p : Progress) → CoreIsFor self.old n p → CoreIsFor self.new n (after_step p (Give sensor item))) }
         ensures err { OnErr result (self.new ≡ self.old) }
@@ -146,6 +147,7 @@ impl Core {
 
     /// The same step, for a caller that steps often: what the tick issues is put into `issued`, which is left as it is where
     /// no candidate is open. Records are large, and most ticks move none then.
+    #[inline(always)]
     pub fn close(&mut self, issued: &mut Issued) -> Closing
         // The answer and what was put aside are a step, of which all stands that stands of one.
         ensures commands { (n : ℕ) (p : Progress) → CoreIsFor self.old n p → HasTheCommands n p (step_of result issued.new) }
