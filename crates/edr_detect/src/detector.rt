@@ -54,6 +54,7 @@ impl Detect {
 
     /// What stands at the next tick: `along` and `across` are its changes of speed in steps of 0.0001 km/h, 0 for
     /// a missing sample, and `fired` the restraints that fire there.
+    #[inline(always)]
     pub fn tick(&mut self, along: i32, across: i32, fired: Restraints) -> Change
         requires along_small { unsigned_abs along ≤ 100_000 }
         requires across_small { unsigned_abs across ≤ 100_000 }

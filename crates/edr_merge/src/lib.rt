@@ -136,6 +136,7 @@ impl Merge {
     /// let mut merge = Merge::new(alloc)?;
     /// merge.accept(Sensor::Along, Item { moment: 1, value: Some(-4000) })?;
     /// ```
+    #[inline(always)]
     pub fn accept(&mut self, sensor: Sensor, item: Item) -> Result<(), MergeRefused>
         ensures ok { OnOk result ((p : Progress) → MergeStandsFor self.old p → MergeStandsFor self.new (after_step p (Give sensor item))) }
         ensures err { OnErr result (self.new ≡ self.old) }
@@ -158,6 +159,7 @@ impl Merge {
     }
 
     /// Closes the next tick and gives its row, if no sensor can give an item of it any more.
+    #[inline(always)]
     pub fn next(&mut self) -> Next
         ensures answer { (p : Progress) → MergeStandsFor self.old p → result ≡ next_of p }
         ensures stands { (p : Progress) → MergeStandsFor self.old p → MergeStandsFor self.new (after_next p result) }

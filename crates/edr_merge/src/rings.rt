@@ -27,6 +27,7 @@ impl Rings {
     }
 
     // Keeps a sample until its tick, if rows are made of this sensor's.
+    #[inline(always)]
     pub fn keep(&mut self, sensor: Sensor, item: Item)
         ensures { self.new ≡ with_kept sensor item self.old }
     {
