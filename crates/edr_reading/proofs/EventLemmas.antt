@@ -1,0 +1,74 @@
+-- The rows of an event, part by part.
+use Rattle.std.proofs.Common.{arith, ◌≡◌, ◌∙◌, sym, ap, refl, ℕ, suc, Bool, true, List, [], ◌∷◌, ◌++◌, length, map, take, drop, get_or, Option, None, Some, codes, decimal, append_assoc}
+use Rattle.std.proofs.lemmas.List.{map-append, take-append-drop, take-map, drop-map}
+use Rattle.std.proofs.Math.Seq.{take-append_seam, drop-append_seam}
+use Rattle.edr_record.specs.declared.Record.{Record}
+use Rattle.std.specs.Option.{IfSome}
+use Rattle.edr_record.specs.Bounds.{IsCrash}
+use Rattle.edr_record.specs.Parts.{PrePart, CrashPart}
+use Rattle.edr_record.specs.Complete.{is_complete, has_all_slots, misses_no_tick}
+use Rattle.edr_report.specs.Lines.{line}
+use Rattle.edr_report.specs.Report.{event_lines, pre_lines, crash_lines, crash_names, crash_words}
+use Rattle.edr_report.specs.Words.{yes_no}
+use Rattle.edr_reading.specs.declared.rows.Row.{Row}
+use Rattle.edr_reading.specs.Rows.{fields, line_fields, named_fields}
+use Rattle.edr_reading.proofs.PartLemmas.{crash-fields, crash-long}
+use Rattle.edr_reading.specs.Parts.{SlotsAre, IsRecord}
+
+abbrev pub head_fields : ℕ → ℕ → List (List (List ℕ))
+head_fields b bank = map line_fields (line b (codes "event") (decimal b) ∷ line b (codes "bank") (decimal bank) ∷ [])
+
+abbrev pub last_fields : ℕ → Bool → List (List (List ℕ))
+last_fields b complete = map line_fields (line b (codes "complete file recorded") (yes_no complete) ∷ [])
+
+pub event-fields : (b bank : ℕ) (r : Record) → map line_fields (event_lines b bank r) ≡ head_fields b bank ++ (map line_fields (pre_lines b r.pre r.locked) ++ (map line_fields (crash_lines b r.crash) ++ last_fields b (is_complete r)))
+unfolding event_lines
+event-fields b bank r =
+    let front = line b (codes "event") (decimal b) ∷ line b (codes "bank") (decimal bank) ∷ pre_lines b r.pre r.locked in
+    let last = line b (codes "complete file recorded") (yes_no (is_complete r)) ∷ [] in
+    map-append line_fields (front ++ crash_lines b r.crash) last ∙ ap (λ (x : List (List (List ℕ))). x ++ map line_fields last) (map-append line_fields front (crash_lines b r.crash))
+    ∙ append_assoc (map line_fields front) (map line_fields (crash_lines b r.crash)) (map line_fields last)
+
+named-long : (b : ℕ) (names values : List (List ℕ)) → length values ≡ length names → length (named_fields b names values) ≡ length names
+named-long b [] values e = refl
+named-long b (n ∷ names) [] e = absurd (omega (arith, e))
+named-long b (n ∷ names) (v ∷ values) e = ap suc (named-long b names values (omega (arith, e)))
+
+pre-long : (b : ℕ) (p : PrePart) (l : Bool) → length (map line_fields (pre_lines b p l)) ≡ 10
+unfolding pre_lines
+pre-long b p l = refl
+
+crash-rows-long : (b : ℕ) (c : Option CrashPart) → IfSome c IsCrash → length (map line_fields (crash_lines b c)) ≡ 15
+crash-rows-long b c h = ap length (crash-fields b c) ∙ named-long b crash_names (crash_words c) (crash-long c h)
+
+-- where rows are two lists of them, their front and what follows are these
+pub rows-parted : {X Y : Type 0} (f : X → Y) (rows front rest : List X) (n : ℕ) (a b : List Y) → front ≡ take n rows → rest ≡ drop n rows → map f rows ≡ a ++ b → length a ≡ n → (map f front ≡ a) × (map f rest ≡ b)
+rows-parted f rows front rest n a b e g is long = (
+  ap (map f) e ∙ sym (take-map f n rows) ∙ ap (take n) is ∙ ap (λ (k : ℕ). take k (a ++ b)) (sym long) ∙ take-append_seam a b,
+  ap (map f) g ∙ sym (drop-map f n rows) ∙ ap (drop n) is ∙ ap (λ (k : ℕ). drop k (a ++ b)) (sym long) ∙ drop-append_seam a b,
+)
+
+pub rows-joined : {X Y : Type 0} (f : X → Y) (rows front rest : List X) (n : ℕ) (a b : List Y) → front ≡ take n rows → rest ≡ drop n rows → map f front ≡ a → map f rest ≡ b → map f rows ≡ a ++ b
+rows-joined f rows front rest n a b e g is this =
+    ap (map f) (sym (take-append-drop n rows) ∙ ap (λ (x : List _). x ++ drop n rows) (sym e) ∙ ap (λ (x : List _). front ++ x) (sym g)) ∙ map-append f front rest ∙ ap (λ (x : List _). x ++ map f rest) is ∙ ap (λ (x : List _). a ++ x) this
+
+module _ (rows head rest pre rest2 crash last : List Row) (head-is : head ≡ take 2 rows) (rest-is : rest ≡ drop 2 rows) (pre-is : pre ≡ take 10 rest) (rest2-is : rest2 ≡ drop 10 rest) (crash-is : crash ≡ take 15 rest2) (last-is : last ≡ drop 15 rest2) where
+  pub event-parts : (b bank : ℕ) (r : Record) → IsRecord r → map fields rows ≡ map line_fields (event_lines b bank r)
+      → (map fields head ≡ head_fields b bank) × (map fields pre ≡ map line_fields (pre_lines b r.pre r.locked)) × (map fields crash ≡ map line_fields (crash_lines b r.crash)) × (map fields last ≡ last_fields b (is_complete r))
+  event-parts b bank r h is =
+      let one = rows-parted fields rows head rest 2 _ _ head-is rest-is (is ∙ event-fields b bank r) refl in
+      let two = rows-parted fields rest pre rest2 10 _ _ pre-is rest2-is one.1 (pre-long b r.pre r.locked) in
+      let three = rows-parted fields rest2 crash last 15 _ _ crash-is last-is two.1 (crash-rows-long b r.crash h.crash) in
+      (one.0, two.0, three.0, three.1)
+
+  pub event-whole : (b bank : ℕ) (r : Record) → map fields head ≡ head_fields b bank → map fields pre ≡ map line_fields (pre_lines b r.pre r.locked) → map fields crash ≡ map line_fields (crash_lines b r.crash) → map fields last ≡ last_fields b (is_complete r)
+      → map fields rows ≡ map line_fields (event_lines b bank r)
+  event-whole b bank r e f g h =
+      rows-joined fields rows head rest 2 _ _ head-is rest-is e (rows-joined fields rest pre rest2 10 _ _ pre-is rest2-is f (rows-joined fields rest2 crash last 15 _ _ crash-is last-is g h)) ∙ sym (event-fields b bank r)
+
+pub complete-same : (q : PrePart) (l : Bool) (c : Option CrashPart) (r : Record) → SlotsAre q r.pre → c ≡ r.crash → is_complete (record { pre = q; locked = l; crash = c }) ≡ is_complete r
+unfolding is_complete
+complete-same q l c r s e = rw (s.speed, s.throttle, s.brake, s.belt, s.lamp, e) refl
+
+pub some-is : {X : Type 0} (x y : X) → Some x ≡ Some y → x ≡ y
+some-is x y e = cc

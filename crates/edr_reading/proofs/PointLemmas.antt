@@ -1,0 +1,85 @@
+-- The points of an axis, of which those past the end are 0.
+use Rattle.std.proofs.Common.{arith, ◌≡◌, ◌∙◌, sym, ap, subst, refl, ℕ, zero, suc, ◌+◌, ◌-◌, ◌<◌, ◌≤◌, ◌/◌, min, true, ℤ, pos, List, [], ◌∷◌, ◌++◌, length, map, take, drop, get_or, replicate, None, length-append, length-take-le, length-drop, Some, Option, slice_get, FitsSigned, w16}
+use Rattle.std.specs.List.{All}
+use Rattle.std.proofs.lemmas.Int.{ints}
+use Rattle.std.specs.Fmt.{signed_decimal}
+use Rattle.std.proofs.Math.Seq.{take-append_seam, drop-append_seam}
+use Rattle.std.proofs.lemmas.List.{drop-replicate, take-append-drop, length-replicate}
+use Rattle.std.proofs.lemmas.List.Elements.{All-append, All-drop, All-take}
+use Rattle.edr_record.specs.Bounds.{ArePoints, IsChange, point_count, most_points}
+use Rattle.edr_reading.specs.Slots.{with_zeros}
+use Rattle.edr_report.specs.Words.{spaced, points_words}
+
+pub count-fits : (end : ℕ) → (1 ≤ point_count end) × (point_count end ≤ 26)
+count-fits end = (omega arith, omega arith)
+
+zeros-change : All IsChange (replicate 26 (pos 0))
+zeros-change = λ k d h. rw (zero-at k 26 d h) (omega arith)
+  where
+    zero-at : (k n : ℕ) (d : ℤ) → k < length (replicate n (pos 0)) → get_or (replicate n (pos 0)) k d ≡ pos 0
+    zero-at k zero d h = absurd (omega arith)
+    zero-at zero (suc n) d h = refl
+    zero-at (suc k) (suc n) d h = zero-at k n d (omega arith)
+
+pub points-read : (bytes : List ℕ) (end : ℕ) (front : List ℤ) → length front ≡ point_count end → bytes ≡ spaced (map signed_decimal front) → All IsChange front → slice_get (with_zeros (point_count end) front) 0 ≡ Some (pos 0)
+    → (bytes ≡ points_words end (with_zeros (point_count end) front)) × ArePoints (point_count end) (with_zeros (point_count end) front)
+points-read bytes end front long is changes first =
+    let n = point_count end in
+    let zs = drop n (replicate 26 (pos 0)) in
+    let fits = count-fits end in
+    let front-of : take n (front ++ zs) ≡ front = ap (λ (k : ℕ). take k (front ++ zs)) (sym long) ∙ take-append_seam front zs in
+    let behind-of : drop n (front ++ zs) ≡ zs = ap (λ (k : ℕ). drop k (front ++ zs)) (sym long) ∙ drop-append_seam front zs in (
+      is ∙ ap (λ (a : List ℤ). spaced (map signed_decimal a)) (sym front-of),
+      record {
+        room = length-append front zs ∙ (let d = length-drop n (replicate 26 (pos 0)) in let r = length-replicate 26 (pos 0) in omega (arith, d, r, long, fits.1));
+        first = first;
+        changes = All-append IsChange front zs changes (All-drop IsChange n (replicate 26 (pos 0)) zeros-change);
+        past = behind-of ∙ drop-replicate n 26 (pos 0);
+      },
+    )
+
+pub points-whole : (end : ℕ) (ps front : List ℤ) → ArePoints (point_count end) ps → front ≡ take (point_count end) ps → with_zeros (point_count end) front ≡ ps
+points-whole end ps front are is =
+    let n = point_count end in
+    ap (λ (a : List ℤ). a ++ drop n (replicate 26 (pos 0))) is ∙ ap (λ (a : List ℤ). take n ps ++ a) (drop-replicate n 26 (pos 0) ∙ sym are.past) ∙ take-append-drop n ps
+
+pub points-front : (end : ℕ) (ps : List ℤ) → ArePoints (point_count end) ps → (length (take (point_count end) ps) ≡ point_count end) × All IsChange (take (point_count end) ps)
+points-front end ps are =
+    let fits = count-fits end in
+    (length-take-le (point_count end) ps (omega (arith, are.room, fits.1)), All-take IsChange (point_count end) ps are.changes)
+
+pub first-is : (ps : List ℤ) → length ps ≡ 26 → get_or ps 0 (pos 0) ≡ pos 0 → slice_get ps 0 ≡ Some (pos 0)
+first-is [] long e = absurd (omega arith)
+first-is (p ∷ ps) long e = ap Some e
+
+room-is : (end : ℕ) (front : List ℤ) → length front ≡ point_count end → length (with_zeros (point_count end) front) ≡ 26
+room-is end front long =
+    let n = point_count end in
+    let fits = count-fits end in
+    length-append front (drop n (replicate 26 (pos 0))) ∙ (let d = length-drop n (replicate 26 (pos 0)) in let r = length-replicate 26 (pos 0) in omega (arith, d, r, long, fits.1))
+
+pub points-are : (bytes : List ℕ) (end : ℕ) (ps front : List ℤ) → ps ≡ with_zeros (point_count end) front → length front ≡ point_count end → bytes ≡ spaced (map signed_decimal front) → All IsChange front → (IsChange (get_or ps 0 (pos 0)) → get_or ps 0 (pos 0) ≡ pos 0)
+    → (bytes ≡ points_words end ps) × ArePoints (point_count end) ps
+points-are bytes end ps front e long is changes at_zero =
+    let all : All IsChange ps = subst (All IsChange) (sym e) (All-append IsChange front (drop (point_count end) (replicate 26 (pos 0))) changes (All-drop IsChange (point_count end) (replicate 26 (pos 0)) zeros-change)) in
+    let room : length ps ≡ 26 = ap length e ∙ room-is end front long in
+    let first = first-is ps room (at_zero (all 0 (pos 0) (omega (arith, room)))) in
+    subst (λ (qs : List ℤ). (bytes ≡ points_words end qs) × ArePoints (point_count end) qs) (sym e) (points-read bytes end front long is changes (subst (λ (qs : List ℤ). slice_get qs 0 ≡ Some (pos 0)) e first))
+
+-- where points are shown, they are read
+pub points-given : (bytes : List ℕ) (end : ℕ) (r : Option (List ℤ)) (ps : List ℤ) → ((front : List ℤ) → length front ≡ point_count end → All IsChange front → bytes ≡ spaced (map signed_decimal front) → r ≡ Some (with_zeros (point_count end) front))
+    → ArePoints (point_count end) ps → bytes ≡ points_words end ps → r ≡ Some ps
+points-given bytes end r ps whole are is =
+    let f = points-front end ps are in
+    whole (take (point_count end) ps) f.0 f.1 is ∙ ap Some (points-whole end ps (take (point_count end) ps) are refl)
+
+pub first-of : (ps : List ℤ) → slice_get ps 0 ≡ Some (pos 0) → get_or ps 0 (pos 0) ≡ pos 0
+first-of [] e = refl
+first-of (p ∷ ps) e = ap (λ o. of o) e
+  where
+    of : Option ℤ → ℤ
+    of None = pos 0
+    of (Some z) = z
+
+pub change-fits : (z : ℤ) → IsChange z → FitsSigned w16 z
+change-fits z h = grind (arith, ints)

@@ -1,0 +1,107 @@
+-- Lists of slots, slot by slot.
+use Rattle.std.proofs.Common.{arith, ◌≡◌, ◌∙◌, sym, ap, subst, refl, ℕ, zero, suc, ◌+◌, ◌<◌, ◌≤◌, List, [], ◌∷◌, ◌++◌, length, map, take, drop, get_or, set, flat_map, append_assoc, ◌^◌, Option, Some, None, codes, nat_eq, true}
+use Rattle.std.specs.List.{All}
+use Rattle.std.proofs.lemmas.Bool.{eqb-true}
+use Rattle.std.proofs.lemmas.List.{append-nil, drop_more, take_more, take_more_set, map_more, map-append}
+use Rattle.std.proofs.lemmas.List.Elements.{All-append}
+use Rattle.std.proofs.Math.Seq.{take-length, drop-length}
+use Rattle.edr_record.specs.Bounds.{IsUpTo}
+use Rattle.edr_report.specs.Words.{spaced, number_or_none}
+use Rattle.std.proofs.lemmas.List.{append_cancel_left}
+use Rattle.edr_reading.proofs.FrontLemmas.{not-number}
+use Rattle.edr_reading.specs.Front.{EndsNumber}
+use Rattle.edr_reading.specs.Slots.{each_spaced, spaced_behind, space_at}
+
+-- the first word has no space before it
+pub spaced-first : (w : List ℕ) (ws : List (List ℕ)) → spaced (w ∷ ws) ≡ w ++ each_spaced ws
+spaced-first w [] = sym (append-nil w)
+spaced-first w (v ∷ ws) = ap (λ (x : List ℕ). w ++ (32 ∷ x)) (spaced-first v ws)
+
+pub behind-one : (n : ℕ) (w : List ℕ) (ws : List (List ℕ)) → spaced_behind n (w ∷ ws) ≡ space_at n ++ (w ++ spaced_behind (n + 1) ws)
+behind-one zero w ws = spaced-first w ws
+behind-one (suc n) w ws =
+    let e : suc (suc n) ≡ suc n + 1 = omega arith in
+    ap (λ (k : ℕ). 32 ∷ (w ++ spaced_behind k ws)) e
+
+pub behind-ends : (n : ℕ) (ws : List (List ℕ)) → EndsNumber (spaced_behind (suc n) ws)
+behind-ends n [] = tt
+behind-ends n (w ∷ ws) = refl
+
+-- `none` in front is no number
+pub none-slot : (bytes rest more : List ℕ) (highest : ℕ) (x : Option ℕ) → highest < 2 ^ 64 → IsUpTo highest x → bytes ≡ codes "none" ++ rest → bytes ≡ number_or_none x ++ more → (None ≡ x) × (rest ≡ more)
+none-slot bytes rest more highest None small h e f = (refl, append_cancel_left (codes "none") rest more (sym e ∙ f))
+none-slot bytes rest more highest (Some k) small h e f = absurd (not-number k 110 (codes "one" ++ rest) more (omega (arith, h)) refl (sym e ∙ f))
+
+module _ {X : Type 0} (words : X → List ℕ) where
+  -- one slot more was taken
+  pub taken-more : (bytes rest more front : List ℕ) (slots : List X) (i : ℕ) (x : X) → i < length slots → ((ws : List (List ℕ)) → rest ≡ spaced_behind i ws → bytes ≡ spaced (map words (take i slots) ++ ws))
+      → front ≡ space_at i → rest ≡ front ++ (words x ++ more) → (ws : List (List ℕ)) → more ≡ spaced_behind (i + 1) ws → bytes ≡ spaced (map words (take (i + 1) (set slots i x)) ++ ws)
+  taken-more bytes rest more front slots i x h before f r ws m =
+      let e : rest ≡ spaced_behind i (words x ∷ ws) = r ∙ ap (λ (a : List ℕ). a ++ (words x ++ more)) f ∙ ap (λ (a : List ℕ). space_at i ++ (words x ++ a)) m ∙ sym (behind-one i (words x) ws) in
+      let t : map words (take (i + 1) (set slots i x)) ≡ map words (take i slots) ++ words x ∷ [] = ap (map words) (take_more_set slots i x h) ∙ map-append words (take i slots) (x ∷ []) in
+      before (words x ∷ ws) e ∙ ap spaced (sym (ap (λ (a : List (List ℕ)). a ++ ws) t ∙ append_assoc (map words (take i slots)) (words x ∷ []) ws))
+
+  -- what is left begins with the next slot
+  pub left-one : (xs : List X) (rest front : List ℕ) (i : ℕ) (d : X) → i < length xs → rest ≡ spaced_behind i (map words (drop i xs)) → front ≡ space_at i
+      → rest ≡ front ++ (words (get_or xs i d) ++ spaced_behind (i + 1) (map words (drop (i + 1) xs)))
+  left-one xs rest front i d h e f =
+      e ∙ ap (λ (ys : List X). spaced_behind i (map words ys)) (drop_more xs i d h) ∙ behind-one i (words (get_or xs i d)) (map words (drop (i + 1) xs))
+      ∙ ap (λ (a : List ℕ). a ++ (words (get_or xs i d) ++ spaced_behind (i + 1) (map words (drop (i + 1) xs)))) (sym f)
+
+pub are-more : {X : Type 0} (ok : X → Type 0) (slots : List X) (i : ℕ) (x : X) → i < length slots → All ok (take i slots) → ok x → All ok (take (i + 1) (set slots i x))
+are-more ok slots i x h before this = subst (All ok) (sym (take_more_set slots i x h)) (All-append ok (take i slots) (x ∷ []) before (λ k d m. by k d m))
+  where
+    by : (k : ℕ) (d : _) → k < 1 → ok (get_or (x ∷ []) k d)
+    by zero d m = this
+    by (suc k) d m = absurd (omega arith)
+
+pub ends-more : (n : ℕ) (ws : List (List ℕ)) → EndsNumber (spaced_behind (n + 1) ws)
+ends-more n ws = let e : suc n ≡ n + 1 = omega arith in subst (λ (k : ℕ). EndsNumber (spaced_behind k ws)) e (behind-ends n ws)
+
+pub same-more : {X : Type 0} (slots xs : List X) (i : ℕ) (x d : X) → i < length slots → i < length xs → take i slots ≡ take i xs → x ≡ get_or xs i d → take (i + 1) (set slots i x) ≡ take (i + 1) xs
+same-more slots xs i x d h k e f = take_more_set slots i x h ∙ ap (λ (a : List _). a ++ x ∷ []) e ∙ ap (λ (y : _). take i xs ++ y ∷ []) f ∙ sym (take_more xs i d k)
+
+-- an element of a list that has one
+pub some-in : {X : Type 0} (xs : List X) (i : ℕ) → i < length xs → X
+some-in [] i h = absurd (omega arith)
+some-in (x ∷ xs) i h = x
+
+-- where all slots were taken and nothing is left, the bytes are these slots
+pub read-all : {X : Type 0} (words : X → List ℕ) (ok : X → Type 0) (bytes rest : List ℕ) (slots : List X) (i : ℕ) → i ≡ length slots → rest ≡ [] → ((ws : List (List ℕ)) → rest ≡ spaced_behind i ws → bytes ≡ spaced (map words (take i slots) ++ ws))
+    → All ok (take i slots) → (bytes ≡ spaced (map words slots)) × All ok slots
+read-all words ok bytes rest slots i all none read are =
+    let t : take i slots ≡ slots = ap (λ (k : ℕ). take k slots) all ∙ take-length slots in
+    (read [] (none ∙ nothing i) ∙ ap spaced (append-nil (map words (take i slots))) ∙ ap (λ (a : List _). spaced (map words a)) t, subst (All ok) t are)
+  where
+    nothing : (k : ℕ) → [] ≡ spaced_behind k []
+    nothing zero = refl
+    nothing (suc k) = refl
+
+pub whole-all : {X : Type 0} (words : X → List ℕ) (rest : List ℕ) (slots xs : List X) (i : ℕ) → i ≡ length slots → length xs ≡ length slots → take i slots ≡ take i xs → rest ≡ spaced_behind i (map words (drop i xs)) → (slots ≡ xs) × (rest ≡ [])
+whole-all words rest slots xs i all long same left =
+    let t : take i slots ≡ slots = ap (λ (k : ℕ). take k slots) all ∙ take-length slots in
+    let u : take i xs ≡ xs = ap (λ (k : ℕ). take k xs) (all ∙ sym long) ∙ take-length xs in
+    let v : drop i xs ≡ [] = ap (λ (k : ℕ). drop k xs) (all ∙ sym long) ∙ drop-length xs in
+    (sym t ∙ same ∙ u, left ∙ ap (λ (ys : List _). spaced_behind i (map words ys)) v ∙ nothing i)
+  where
+    nothing : (k : ℕ) → spaced_behind k [] ≡ []
+    nothing zero = refl
+    nothing (suc k) = refl
+
+pub none-left : (xs : List ℕ) → nat_eq (length xs) 0 ≡ true → xs ≡ []
+none-left [] e = refl
+none-left (x ∷ xs) e = let z = eqb-true (length (x ∷ xs)) 0 e in absurd (omega arith)
+
+-- what two lists are made of is the same in each place
+pub at-same : {X Y : Type 0} (f : X → List ℕ) (g : Y → List ℕ) (xs : List X) (ys : List Y) (i : ℕ) (d : X) (e : Y) → map f xs ≡ map g ys → i < length ys → f (get_or xs i d) ≡ g (get_or ys i e)
+at-same f g [] [] i d e is h = absurd (omega arith)
+at-same f g [] (y ∷ ys) i d e is h = cc
+at-same f g (x ∷ xs) [] i d e is h = absurd (omega arith)
+at-same f g (x ∷ xs) (y ∷ ys) zero d e is h = ap (λ l. get_or l 0 []) is
+at-same f g (x ∷ xs) (y ∷ ys) (suc i) d e is h = at-same f g xs ys i d e (ap (λ l. drop 1 l) is) (omega arith)
+
+pub same-words-more : {X Y : Type 0} (f : X → List ℕ) (g : Y → List ℕ) (xs : List X) (ys : List Y) (i : ℕ) (d : X) (y : Y) → i < length xs → i < length ys → map f (take i xs) ≡ map g (take i ys) → f (get_or xs i d) ≡ g y
+    → map f (take (i + 1) xs) ≡ map g (take (i + 1) (set ys i y))
+same-words-more f g xs ys i d y h k same this =
+    map_more f xs i d h ∙ ap (λ (a : List _). a ++ f (get_or xs i d) ∷ []) same ∙ ap (λ (b : List ℕ). map g (take i ys) ++ b ∷ []) this
+    ∙ sym (ap (map g) (take_more_set ys i y k) ∙ map-append g (take i ys) (y ∷ []))

@@ -1,0 +1,45 @@
+-- Which values show the parts of a record.
+use Rattle.std.specs.Prelude.{◌≡◌, ℕ, Bool, Option, Some, None, List, map, IfSome}
+use Rattle.edr_record.specs.Parts.{PrePart, CrashPart}
+use Rattle.edr_record.specs.Bounds.{IsPre, IsCrash}
+use Rattle.edr_record.specs.declared.Record.{Record}
+use Rattle.edr_report.specs.Words.{none_word, yes_no, number_or_none, switch_or_none, milliseconds, firing_words, shown_count, events_in_crash, time_between, spaced, points_words, extreme_words, missing_words}
+use Rattle.edr_reading.specs.declared.pre.PreValues.{PreValues}
+use Rattle.edr_reading.specs.declared.crash.CrashValues.{CrashValues}
+
+-- the values of the lines of what stood before time zero
+pub record ShowsPre (v : PreValues) (p : PrePart) (is_locked : Bool) : Type 0 where
+  pub cycle : v.cycle.now ≡ shown_count p.key.cycle
+  pub zero : v.zero.now ≡ milliseconds p.key.zero
+  pub events : v.events.now ≡ events_in_crash p.place
+  pub between : v.between.now ≡ time_between p.place
+  pub locked : v.locked.now ≡ yes_no is_locked
+  pub speed : v.speed.now ≡ spaced (map number_or_none p.speed)
+  pub throttle : v.throttle.now ≡ spaced (map number_or_none p.throttle)
+  pub brake : v.brake.now ≡ spaced (map switch_or_none p.brake)
+  pub belt : v.belt.now ≡ switch_or_none p.belt
+  pub lamp : v.lamp.now ≡ switch_or_none p.lamp
+
+-- the values of the lines of what came after time zero
+pub record ShowsCrash (v : CrashValues) (c : CrashPart) : Type 0 where
+  pub end : v.end.now ≡ milliseconds c.end
+  pub along : v.along.now ≡ points_words c.end c.along
+  pub across : v.across.now ≡ points_words c.end c.across
+  pub max_along : v.max_along.now ≡ extreme_words c.max_along
+  pub max_across : v.max_across.now ≡ extreme_words c.max_across
+  pub result_at : v.result_at.now ≡ milliseconds c.result_at
+  pub missing : v.missing.now ≡ missing_words c.missing_along c.missing_across
+  pub fired : map (λ f. f.now) v.fired ≡ map firing_words c.fired
+
+-- the parts that are told of a record determine whether it is complete
+pub record SlotsAre (p q : PrePart) : Type 0 where
+  pub speed : p.speed ≡ q.speed
+  pub throttle : p.throttle ≡ q.throttle
+  pub brake : p.brake ≡ q.brake
+  pub belt : p.belt ≡ q.belt
+  pub lamp : p.lamp ≡ q.lamp
+
+-- the bounds of a record
+pub record IsRecord (r : Record) : Type 0 where
+  pub pre : IsPre r.pre
+  pub crash : IfSome r.crash IsCrash

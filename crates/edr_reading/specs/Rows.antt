@@ -1,0 +1,58 @@
+-- The rows of a report's table, by their fields.
+use Rattle.std.specs.Prelude.{ℕ, Bool, List, [], ◌∷◌, ◌++◌, map, codes, decimal}
+use Rattle.edr_record.specs.Parts.{PrePart}
+use Rattle.edr_report.specs.Lines.{Line}
+use Rattle.edr_report.specs.Words.{yes_no, number_or_none, switch_or_none, milliseconds, shown_count, events_in_crash, time_between, spaced}
+use Rattle.edr_reading.specs.declared.crash.CrashValues.{CrashValues}
+use Rattle.edr_reading.specs.declared.pre.PreValues.{PreValues}
+use Rattle.edr_reading.specs.declared.rows.Row.{Row}
+
+-- the fields of a row
+abbrev pub fields : Row → List (List ℕ)
+fields r = r.block.now ∷ r.name.now ∷ r.value.now ∷ []
+
+-- the fields of the row of a line
+abbrev pub line_fields : Line → List (List ℕ)
+line_fields l = decimal l.block ∷ l.name ∷ l.value ∷ []
+
+-- the fields of rows of a block with these names and values
+abbrev pub named_fields : ℕ → List (List ℕ) → List (List ℕ) → List (List (List ℕ))
+named_fields block [] values = []
+named_fields block (n ∷ names) [] = []
+named_fields block (n ∷ names) (v ∷ values) = (decimal block ∷ n ∷ v ∷ []) ∷ named_fields block names values
+
+-- the names of the lines of what stood before time zero, and their values
+abbrev pub pre_names : List (List ℕ)
+pre_names =
+    codes "ignition cycle, crash"
+    ∷ codes "time zero"
+    ∷ codes "multi-event, number of events"
+    ∷ codes "time from event 1 to 2"
+    ∷ codes "deployment event"
+    ∷ codes "speed, km/h"
+    ∷ codes "throttle, %"
+    ∷ codes "service brake"
+    ∷ codes "driver belt"
+    ∷ codes "frontal air bag warning lamp"
+    ∷ []
+
+abbrev pub pre_words : PrePart → Bool → List (List ℕ)
+pre_words p locked =
+    shown_count p.key.cycle
+    ∷ milliseconds p.key.zero
+    ∷ events_in_crash p.place
+    ∷ time_between p.place
+    ∷ yes_no locked
+    ∷ spaced (map number_or_none p.speed)
+    ∷ spaced (map number_or_none p.throttle)
+    ∷ spaced (map switch_or_none p.brake)
+    ∷ switch_or_none p.belt
+    ∷ switch_or_none p.lamp
+    ∷ []
+
+-- values as they stand in their rows
+abbrev pub pre_list : PreValues → List (List ℕ)
+pre_list v = v.cycle.now ∷ v.zero.now ∷ v.events.now ∷ v.between.now ∷ v.locked.now ∷ v.speed.now ∷ v.throttle.now ∷ v.brake.now ∷ v.belt.now ∷ v.lamp.now ∷ []
+
+abbrev pub crash_list : CrashValues → List (List ℕ)
+crash_list v = v.end.now ∷ v.along.now ∷ v.across.now ∷ v.max_along.now ∷ v.max_across.now ∷ v.result_at.now ∷ v.missing.now ∷ map (λ f. f.now) v.fired

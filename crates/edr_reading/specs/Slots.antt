@@ -1,0 +1,22 @@
+-- Words parted by one space, of which some were taken.
+use Rattle.std.specs.Prelude.{ℕ, zero, suc, ℤ, pos, List, [], ◌∷◌, ◌++◌, flat_map, drop, replicate}
+use Rattle.edr_record.specs.Bounds.{most_points}
+use Rattle.edr_report.specs.Words.{spaced}
+
+-- words, each with a space before it
+abbrev pub each_spaced : List (List ℕ) → List ℕ
+each_spaced ws = flat_map (λ w. 32 ∷ w) ws
+
+-- what these words are behind so many others
+abbrev pub spaced_behind : ℕ → List (List ℕ) → List ℕ
+spaced_behind zero ws = spaced ws
+spaced_behind (suc n) ws = each_spaced ws
+
+-- what stands before the word in this place
+abbrev pub space_at : ℕ → List ℕ
+space_at zero = []
+space_at (suc n) = 32 ∷ []
+
+-- so many points, and zeros in the place of those past them
+abbrev pub with_zeros : ℕ → List ℤ → List ℤ
+with_zeros count front = front ++ drop count (replicate most_points (pos 0))

@@ -1,0 +1,32 @@
+-- Which values a report may show, where the parts of a record don't say it.
+use Rattle.std.specs.Prelude.{ℕ, ◌≡◌, ◌≤◌, ◌⊎◌, Option, IfSome}
+use Rattle.edr_image.specs.declared.Kind.{Kind}
+use Rattle.edr_image.specs.declared.Kind.TheVariants as kind
+use Rattle.edr_image.specs.declared.Applied.{Applied}
+use Rattle.edr_image.specs.declared.Applied.TheVariants.{Kept, Locked, Done, NotKept}
+
+-- the number of a bank
+abbrev pub IsBank : ℕ → Type 0
+IsBank b = (1 ≤ b) × (b ≤ 16)
+
+-- the changing call in which a cycle was stopped, if it was
+abbrev pub IsStop : Option ℕ → Type 0
+IsStop s = IfSome s (λ call. (1 ≤ call) × (call ≤ 4_294_967_295))
+
+-- when a command was acknowledged
+abbrev pub IsTick : ℕ → Type 0
+IsTick t = (1 ≤ t) × (t ≤ 86_400_000)
+
+-- a place in the two parts of a record, and a byte
+abbrev pub IsDamage : ℕ → ℕ → Type 0
+IsDamage offset found = (offset ≤ 1_023) × (found ≤ 255)
+
+-- what was done in this bank by a command of this kind
+abbrev pub done_in : Kind → ℕ → Applied
+done_in kind.Take b = Kept b
+done_in kind.Lock b = Locked b
+done_in kind.Done b = Done b
+
+-- what came of a command of this kind
+abbrev pub IsApplied : Kind → Applied → Type 0
+IsApplied k a = (a ≡ NotKept) ⊎ ((b : ℕ) × IsBank b × (a ≡ done_in k b))

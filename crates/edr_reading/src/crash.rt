@@ -1,0 +1,117 @@
+//! What came after time zero, read back from the values of its lines.
+
+ghost use Rattle.std.specs.Prelude.{◌≡◌, ◌≤◌, true, ℕ, ℤ, List, Option, All, length, map, max, Some, IfSome, pos, ◌≢◌};
+ghost use Rattle.std.specs.Bool.{MatchBool};
+ghost use Rattle.edr_record.specs.Bounds.{ArePoints, IsChange, IsCrash, IsUpTo, point_count, window_from_end};
+ghost use Rattle.edr_record.specs.Parts.{CrashPart};
+ghost use Rattle.edr_report.specs.Words.{points_words, firing_words, spaced};
+ghost use Rattle.edr_reading.specs.Parts.{ShowsCrash};
+ghost use Rattle.edr_reading.specs.Slots.{with_zeros};
+ghost use Rattle.std.specs.Fmt.{signed_decimal};
+
+use crate::slots::read_slots;
+use crate::values::{extreme, firing, missing, time};
+use edr_record::Crash;
+
+/// The values of the lines of what came after time zero, in their order.
+#[derive(Clone, Copy)]
+pub(crate) struct CrashValues<'a> {
+    pub end: &'a [u8],
+    pub along: &'a [u8],
+    pub across: &'a [u8],
+    pub max_along: &'a [u8],
+    pub max_across: &'a [u8],
+    pub result_at: &'a [u8],
+    pub missing: &'a [u8],
+    pub fired: [&'a [u8]; 8],
+}
+
+// How long after time zero extremes and missing samples are looked for.
+fn window(end: u16) -> u16
+    requires { end ≤ 500 }
+    ensures { result ≡ window_from_end end }
+{
+    300.min(end + 30)
+}
+
+// How many points the end allows.
+fn count_from(end: u16) -> usize
+    requires { end ≤ 500 }
+    ensures { result ≡ point_count end }
+{
+    (usize::from(end) + 30).min(250) / 10 + 1
+}
+
+// So many points, with zeros behind them.
+fn some_points(bytes: &[u8], count: usize) -> Option<[i16; 26]>
+    requires { count ≤ 26 }
+    ensures read { IfSome result (λ ps. (front : List ℤ) × (ps ≡ with_zeros count front) × (length front ≡ count)
+        × (bytes.now ≡ spaced (map signed_decimal front)) × All IsChange front) }
+    ensures whole { (front : List ℤ) → length front ≡ count → All IsChange front → bytes.now ≡ spaced (map signed_decimal front)
+        → result ≡ Some (with_zeros count front) }
+{
+    let mut points = [0; 26];
+    if read_slots(bytes, &mut points[..count]) {
+        Some(points)
+    } else {
+        None
+    }
+}
+
+fn is_zero(change: i16) -> bool
+    ensures { MatchBool result (change ≡ pos 0) (change ≢ pos 0) }
+{
+    change == 0
+}
+
+// The points of an axis that the end allows.
+fn points(bytes: &[u8], end: u16) -> Option<[i16; 26]>
+    requires { end ≤ 500 }
+    ensures read { IfSome result (λ ps. (bytes.now ≡ points_words end ps) × ArePoints (point_count end) ps) }
+    ensures whole { (ps : List ℤ) → ArePoints (point_count end) ps → bytes.now ≡ points_words end ps → result ≡ Some ps }
+{
+    match some_points(bytes, count_from(end)) {
+        Some(points) if is_zero(points[0]) => Some(points),
+        _ => None,
+    }
+}
+
+// When the restraints fired, up to `latest`.
+fn firings(values: &[&[u8]; 8], latest: u16) -> Option<[Option<u16>; 8]>
+    ensures read { IfSome result (λ fired. (map (λ v. v.now) values.now ≡ map firing_words fired) × All (IsUpTo latest) fired) }
+    ensures whole { (fired : List (Option ℕ)) → length fired ≡ 8 → All (IsUpTo latest) fired → map (λ v. v.now) values.now ≡ map firing_words fired
+        → result ≡ Some fired }
+{
+    let mut fired = [None; 8];
+    for i in 0..8 {
+        fired[i] = firing(values[i], latest)?;
+    }
+    Some(fired)
+}
+
+/// What came after time zero, if these values show it.
+pub(crate) fn read_crash(values: &CrashValues<'_>) -> Option<Crash>
+    ensures read { IfSome result (λ c. ShowsCrash values.now c) }
+    ensures whole { (c : CrashPart) → IsCrash c → ShowsCrash values.now c → result ≡ Some c }
+{
+    let end = time(values.end, 20, 500)? as u16;
+    let window = window(end);
+    let along = points(values.along, end)?;
+    let across = points(values.across, end)?;
+    let max_along = extreme(values.max_along, window)?;
+    let max_across = extreme(values.max_across, window)?;
+    let result_at = time(values.result_at, 0, u32::from(window))? as u16;
+    let (missing_along, missing_across) = missing(values.missing, window)?;
+    let fired = firings(&values.fired, end.max(window))?;
+    Some(Crash {
+        end,
+        along,
+        across,
+        max_along,
+        max_across,
+        result_at,
+        missing_along: missing_along as u16,
+        missing_across: missing_across as u16,
+        fired,
+    })
+}

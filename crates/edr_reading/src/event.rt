@@ -1,0 +1,87 @@
+//! An event, read back from its rows.
+
+ghost use Rattle.std.specs.Prelude.{◌≡◌, ◌≢◌, ◌∷◌, [], ℕ, length, map, codes, Some, IfSome, MatchOption, decimal};
+ghost use Rattle.std.specs.Bool.{MatchBool};
+ghost use Rattle.edr_record.specs.declared.Record.{Record};
+ghost use Rattle.edr_report.specs.Lines.{line};
+ghost use Rattle.edr_report.specs.Report.{event_lines};
+ghost use Rattle.edr_report.specs.Words.{yes_no};
+ghost use Rattle.edr_reading.specs.Rows.{fields, line_fields};
+ghost use Rattle.edr_reading.specs.Values.{IsBank};
+ghost use Rattle.edr_reading.specs.Parts.{IsRecord};
+
+use crate::front::{is_word, last_within};
+use crate::parts::{crash_rows, pre_rows};
+use crate::rows::{Row, put_values};
+use crate::values::bank_behind;
+use edr_record::Record;
+
+// How many rows an event has.
+pub(crate) const EVENT_ROWS: usize = 28;
+
+// The bank of the event of this block, if these two rows begin it.
+fn head_rows(rows: &[Row<'_>], block: u32) -> Option<u8>
+    requires { length rows.now ≡ 2 }
+    ensures read { IfSome result (λ b. IsBank b × (map fields rows.now ≡ map line_fields (line block (codes "event") (decimal block) ∷ line block (codes "bank") (decimal b) ∷ []))) }
+    ensures whole { (b : ℕ) → IsBank b → map fields rows.now ≡ map line_fields (line block (codes "event") (decimal block) ∷ line block (codes "bank") (decimal b) ∷ [])
+        → result ≡ Some b }
+{
+    let mut values: [&[u8]; 2] = [b""; 2];
+    if put_values(rows, block, &["event", "bank"], &mut values) {
+        bank_in(block, values[0], values[1])
+    } else {
+        None
+    }
+}
+
+// The bank that the second value has, where the first is the number of the block.
+fn bank_in(block: u32, event: &[u8], bank: &[u8]) -> Option<u8>
+    ensures read { IfSome result (λ b. IsBank b × (event.now ≡ decimal block) × (bank.now ≡ decimal b)) }
+    ensures whole { (b : ℕ) → IsBank b → event.now ≡ decimal block → bank.now ≡ decimal b → result ≡ Some b }
+{
+    match last_within(event, b"", block, block) {
+        Some(_) => bank_behind(bank, b""),
+        None => None,
+    }
+}
+
+// This one row says whether the file is complete.
+fn ends_with(rows: &[Row<'_>], block: u32, complete: bool) -> bool
+    requires { length rows.now ≡ 1 }
+    ensures { MatchBool result (map fields rows.now ≡ map line_fields (line block (codes "complete file recorded") (yes_no complete) ∷ []))
+        (map fields rows.now ≢ map line_fields (line block (codes "complete file recorded") (yes_no complete) ∷ [])) }
+{
+    let mut values: [&[u8]; 1] = [b""; 1];
+    if put_values(rows, block, &["complete file recorded"], &mut values) {
+        is_word(values[0], word_of(complete))
+    } else {
+        false
+    }
+}
+
+fn word_of(decision: bool) -> &'static [u8]
+    ensures { result.now ≡ yes_no decision }
+{
+    if decision { b"yes" } else { b"no" }
+}
+
+/// The event of this block and its bank, if these 28 rows show it.
+pub(crate) fn read_event(rows: &[Row<'_>], block: u32) -> Option<(u8, Record)>
+    requires { length rows.now ≡ 28 }
+    ensures read { IfSome result (λ p. IsBank p.0 × (map fields rows.now ≡ map line_fields (event_lines block p.0 p.1))) }
+    ensures whole { (b : ℕ) (r : Record) → IsBank b → IsRecord r → map fields rows.now ≡ map line_fields (event_lines block b r)
+        → MatchOption result ⊥ (λ p. p.0 ≡ b) }
+{
+    let (head, rest) = rows.split_at(2);
+    let (pre, rest) = rest.split_at(10);
+    let (crash, last) = rest.split_at(15);
+    let bank = head_rows(head, block)?;
+    let (pre, locked) = pre_rows(pre, block)?;
+    let crash = crash_rows(crash, block)?;
+    let record = Record { pre, locked, crash };
+    if ends_with(last, block, record.complete()) {
+        Some((bank, record))
+    } else {
+        None
+    }
+}

@@ -1,0 +1,162 @@
+//! What stands in front of bytes.
+
+ghost use Rattle.std.specs.Prelude.{◌≡◌, ◌≤◌, ◌<◌, ◌^◌, ◌++◌, true, ℕ, List, [], length, take, drop, decimal, Some, IfSome, MatchOption, ◌≢◌};
+ghost use Rattle.std.specs.Bool.{MatchBool};
+ghost use Rattle.std.specs.List.{list_all};
+ghost use Rattle.edr_text.specs.Numbers.{is_digit};
+ghost use Rattle.edr_reading.specs.Front.{EndsNumber};
+
+use edr_text::read_u32;
+
+/// The bytes are this word.
+pub(crate) fn is_word(bytes: &[u8], word: &[u8]) -> bool
+    ensures { MatchBool result (bytes.now ≡ word.now) (bytes.now ≢ word.now) }
+{
+    bytes == word
+}
+
+/// What stands behind these bytes, if they are in front.
+pub(crate) fn behind<'a>(bytes: &'a [u8], front: &[u8]) -> Option<&'a [u8]>
+    ensures read { IfSome result (λ rest. bytes.now ≡ front.now ++ rest.now) }
+    ensures whole { (more : List ℕ) → bytes.now ≡ front.now ++ more → MatchOption result ⊥ (λ rest. rest.now ≡ more) }
+{
+    match bytes.strip_prefix(front) {
+        Some(rest) => Some(rest),
+        None => None,
+    }
+}
+
+// How many digits stand in front.
+fn digits_in_front(bytes: &[u8]) -> usize
+    ensures within { result ≤ length bytes.now }
+    ensures digits { list_all is_digit (take result bytes.now) ≡ true }
+    ensures ends { EndsNumber (drop result bytes.now) }
+{
+    for i in 0..bytes.len() {
+        if bytes[i] < b'0' || bytes[i] > b'9' {
+            return i;
+        }
+    }
+    bytes.len()
+}
+
+/// The number in front of the bytes, and what stands behind it.
+pub(crate) fn number_in_front(bytes: &[u8]) -> Option<(u32, &[u8])>
+    ensures read { IfSome result (λ p. bytes.now ≡ decimal p.0 ++ p.1.now) }
+    ensures whole { (n : ℕ) (more : List ℕ) → n < 2 ^ 32 → EndsNumber more → bytes.now ≡ decimal n ++ more
+        → MatchOption result ⊥ (λ p. (p.0 ≡ n) × (p.1.now ≡ more)) }
+{
+    let (digits, rest) = bytes.split_at(digits_in_front(bytes));
+    match read_u32(digits) {
+        Ok(n) => Some((n, rest)),
+        Err(_) => None,
+    }
+}
+
+/// The number behind these bytes, and what stands behind it.
+pub(crate) fn number_behind<'a>(bytes: &'a [u8], front: &[u8]) -> Option<(u32, &'a [u8])>
+    ensures read { IfSome result (λ p. bytes.now ≡ front.now ++ (decimal p.0 ++ p.1.now)) }
+    ensures whole { (n : ℕ) (more : List ℕ) → n < 2 ^ 32 → EndsNumber more → bytes.now ≡ front.now ++ (decimal n ++ more)
+        → MatchOption result ⊥ (λ p. (p.0 ≡ n) × (p.1.now ≡ more)) }
+{
+    match behind(bytes, front) {
+        Some(rest) => number_in_front(rest),
+        None => None,
+    }
+}
+
+/// The number between these bytes.
+pub(crate) fn one_number(bytes: &[u8], front: &[u8], back: &[u8]) -> Option<u32>
+    requires { EndsNumber back.now }
+    ensures read { IfSome result (λ n. bytes.now ≡ front.now ++ (decimal n ++ back.now)) }
+    ensures whole { (n : ℕ) → n < 2 ^ 32 → bytes.now ≡ front.now ++ (decimal n ++ back.now) → result ≡ Some n }
+{
+    match number_behind(bytes, front) {
+        Some((n, rest)) if rest == back => Some(n),
+        _ => None,
+    }
+}
+
+/// The number behind these bytes, with nothing behind it.
+pub(crate) fn last_number(bytes: &[u8], front: &[u8]) -> Option<u32>
+    ensures read { IfSome result (λ n. bytes.now ≡ front.now ++ decimal n) }
+    ensures whole { (n : ℕ) → n < 2 ^ 32 → bytes.now ≡ front.now ++ decimal n → result ≡ Some n }
+{
+    match one_number(bytes, front, b"") {
+        Some(n) => Some(n),
+        None => None,
+    }
+}
+
+/// The numbers between these bytes.
+pub(crate) fn two_numbers(
+    bytes: &[u8],
+    front: &[u8],
+    middle: &[u8],
+    back: &[u8],
+) -> Option<(u32, u32)>
+    requires middle { (more : List ℕ) → EndsNumber (middle.now ++ more) }
+    requires back { EndsNumber back.now }
+    ensures read { IfSome result (λ p. bytes.now ≡ front.now ++ (decimal p.0 ++ (middle.now ++ (decimal p.1 ++ back.now)))) }
+    ensures whole { (m n : ℕ) → m < 2 ^ 32 → n < 2 ^ 32
+        → bytes.now ≡ front.now ++ (decimal m ++ (middle.now ++ (decimal n ++ back.now))) → result ≡ Some (m, n) }
+{
+    match number_behind(bytes, front) {
+        Some((m, rest)) => match one_number(rest, middle, back) {
+            Some(n) => Some((m, n)),
+            None => None,
+        },
+        None => None,
+    }
+}
+
+/// The same, where it is `low` to `high`.
+pub(crate) fn last_within(bytes: &[u8], front: &[u8], low: u32, high: u32) -> Option<u32>
+    ensures read { IfSome result (λ n. (bytes.now ≡ front.now ++ decimal n) × (low ≤ n) × (n ≤ high)) }
+    ensures whole { (n : ℕ) → low ≤ n → n ≤ high → bytes.now ≡ front.now ++ decimal n → result ≡ Some n }
+{
+    match last_number(bytes, front) {
+        Some(n) if low <= n && n <= high => Some(n),
+        _ => None,
+    }
+}
+
+/// The number behind these bytes, where it is `low` to `high`, and what stands behind it.
+pub(crate) fn within_behind<'a>(
+    bytes: &'a [u8],
+    front: &[u8],
+    low: u32,
+    high: u32,
+) -> Option<(u32, &'a [u8])>
+    ensures read { IfSome result (λ p. (bytes.now ≡ front.now ++ (decimal p.0 ++ p.1.now)) × (low ≤ p.0) × (p.0 ≤ high)) }
+    ensures whole { (n : ℕ) (more : List ℕ) → low ≤ n → n ≤ high → EndsNumber more → bytes.now ≡ front.now ++ (decimal n ++ more)
+        → MatchOption result ⊥ (λ p. (p.0 ≡ n) × (p.1.now ≡ more)) }
+{
+    match number_behind(bytes, front) {
+        Some((n, rest)) if low <= n && n <= high => Some((n, rest)),
+        _ => None,
+    }
+}
+
+/// The numbers between these bytes, where they are at most `high`.
+pub(crate) fn two_within(
+    bytes: &[u8],
+    front: &[u8],
+    middle: &[u8],
+    back: &[u8],
+    high: u32,
+) -> Option<(u32, u32)>
+    requires middle { (more : List ℕ) → EndsNumber (middle.now ++ more) }
+    requires back { EndsNumber back.now }
+    ensures read { IfSome result (λ p. (bytes.now ≡ front.now ++ (decimal p.0 ++ (middle.now ++ (decimal p.1 ++ back.now)))) × (p.0 ≤ high) × (p.1 ≤ high)) }
+    ensures whole { (m n : ℕ) → m ≤ high → n ≤ high
+        → bytes.now ≡ front.now ++ (decimal m ++ (middle.now ++ (decimal n ++ back.now))) → result ≡ Some (m, n) }
+{
+    match within_behind(bytes, front, 0, high) {
+        Some((m, rest)) => match one_number(rest, middle, back) {
+            Some(n) if n <= high => Some((m, n)),
+            _ => None,
+        },
+        None => None,
+    }
+}

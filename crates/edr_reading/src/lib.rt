@@ -1,0 +1,11 @@
+//! Reads a report back: what the rows of its table tell.
+#![tactic(auto)]
+
+mod crash;
+mod event;
+mod front;
+mod parts;
+mod pre;
+mod rows;
+mod slots;
+mod values;

@@ -1,0 +1,52 @@
+//! Rows of a table, and the values of rows with known names.
+
+ghost use Rattle.std.specs.Prelude.{◌≡◌, ◌∷◌, [], true, ℕ, List, length, map, decimal, IfSome, MatchOption};
+ghost use Rattle.edr_reading.specs.Rows.{fields, named_fields};
+
+use crate::front::{is_word, last_within};
+
+/// A row: the number of its block, a name and a value.
+#[derive(Clone, Copy)]
+pub(crate) struct Row<'a> {
+    pub block: &'a [u8],
+    pub name: &'a [u8],
+    pub value: &'a [u8],
+}
+
+/// The value of a row that is to have this block and this name.
+pub(crate) fn value_in<'a>(row: &Row<'a>, block: u32, name: &str) -> Option<&'a [u8]>
+    ensures read { IfSome result (λ v. fields row.now ≡ decimal block ∷ name.now ∷ v.now ∷ []) }
+    ensures whole { (v : List ℕ) → fields row.now ≡ decimal block ∷ name.now ∷ v ∷ [] → MatchOption result ⊥ (λ w. w.now ≡ v) }
+{
+    if last_within(row.block, b"", block, block).is_none() {
+        return None;
+    }
+    if is_word(row.name, name.as_bytes()) {
+        Some(row.value)
+    } else {
+        None
+    }
+}
+
+/// Puts the values of rows that are to have this block and these names, and tells whether they have.
+pub(crate) fn put_values<'a>(
+    rows: &[Row<'a>],
+    block: u32,
+    names: &[&'static str],
+    values: &mut [&'a [u8]],
+) -> bool
+    requires names { length names.now ≡ length rows.now }
+    requires values { length values.old ≡ length rows.now }
+    ensures long { length values.new ≡ length values.old }
+    ensures read { result ≡ true → map fields rows.now ≡ named_fields block (map (λ n. n.now) names.now) (map (λ v. v.now) values.new) }
+    ensures whole { (ws : List (List ℕ)) → length ws ≡ length rows.now → map fields rows.now ≡ named_fields block (map (λ n. n.now) names.now) ws
+        → (result ≡ true) × (map (λ v. v.now) values.new ≡ ws) }
+{
+    for i in 0..rows.len() {
+        match value_in(&rows[i], block, names[i]) {
+            Some(value) => values[i] = value,
+            None => return false,
+        }
+    }
+    true
+}

@@ -1,0 +1,137 @@
+//! Lists of slots, read back.
+
+ghost use Rattle.std.specs.Prelude.{◌≡◌, ◌++◌, true, ℕ, List, length, map, All, IfSome, MatchOption};
+ghost use Rattle.edr_report.specs.Words.{spaced};
+ghost use Rattle.edr_reading.specs.Front.{EndsNumber};
+ghost use Rattle.edr_reading.specs.Slots.{space_at};
+
+use crate::front::{behind, within_behind};
+use crate::values::change_in_front;
+
+/// What stands in one slot of a list.
+pub(crate) trait Slot {
+    ghost use Rattle.std.specs.Prelude.{ℕ, List};
+
+    // How it is spelled, and which values it may have.
+    ghost words: { Self → List ℕ };
+
+    ghost is_slot: { Self → Type 0 };
+
+    /// The slot in front of the bytes, and what stands behind it.
+    fn in_front(bytes: &[u8]) -> Option<(Self, &[u8])>
+        ensures read { IfSome result (λ p. (bytes.now ≡ words p.0 ++ p.1.now) × is_slot p.0) }
+        ensures whole { (x : Self) (more : List ℕ) → is_slot x → EndsNumber more → bytes.now ≡ words x ++ more
+            → MatchOption result ⊥ (λ p. (p.0 ≡ x) × (p.1.now ≡ more)) };
+}
+
+impl Slot for i16 {
+    ghost use Rattle.std.specs.Fmt.{signed_decimal};
+    ghost use Rattle.edr_record.specs.Bounds.{IsChange};
+
+    ghost words = { signed_decimal };
+
+    ghost is_slot = { IsChange };
+
+    fn in_front(bytes: &[u8]) -> Option<(i16, &[u8])> {
+        change_in_front(bytes)
+    }
+}
+
+impl Slot for Option<u16> {
+    ghost use Rattle.edr_report.specs.Words.{number_or_none};
+    ghost use Rattle.edr_record.specs.Bounds.{IsUpTo};
+
+    ghost words = { number_or_none };
+
+    ghost is_slot = { IsUpTo 300 };
+
+    fn in_front(bytes: &[u8]) -> Option<(Option<u16>, &[u8])> {
+        match behind(bytes, b"none") {
+            Some(rest) => Some((None, rest)),
+            None => match within_behind(bytes, b"", 0, 300) {
+                Some((kmh, rest)) => Some((Some(kmh as u16), rest)),
+                None => None,
+            },
+        }
+    }
+}
+
+impl Slot for Option<u8> {
+    ghost use Rattle.edr_report.specs.Words.{number_or_none};
+    ghost use Rattle.edr_record.specs.Bounds.{IsUpTo};
+
+    ghost words = { number_or_none };
+
+    ghost is_slot = { IsUpTo 100 };
+
+    fn in_front(bytes: &[u8]) -> Option<(Option<u8>, &[u8])> {
+        match behind(bytes, b"none") {
+            Some(rest) => Some((None, rest)),
+            None => match within_behind(bytes, b"", 0, 100) {
+                Some((per_cent, rest)) => Some((Some(per_cent as u8), rest)),
+                None => None,
+            },
+        }
+    }
+}
+
+impl Slot for Option<bool> {
+    ghost use Rattle.std.specs.Prelude.{⊤};
+    ghost use Rattle.edr_report.specs.Words.{switch_or_none};
+
+    ghost words = { switch_or_none };
+
+    ghost is_slot = { λ _. ⊤ };
+
+    fn in_front(bytes: &[u8]) -> Option<(Option<bool>, &[u8])> {
+        if let Some(rest) = behind(bytes, b"on") {
+            return Some((Some(true), rest));
+        }
+        if let Some(rest) = behind(bytes, b"off") {
+            return Some((Some(false), rest));
+        }
+        match behind(bytes, b"none") {
+            Some(rest) => Some((None, rest)),
+            None => None,
+        }
+    }
+}
+
+// What stands before the slot in this place.
+fn space_at(place: usize) -> &'static [u8]
+    ensures { result.now ≡ space_at place }
+{
+    if place == 0 { b"" } else { b" " }
+}
+
+// The slot behind these bytes, and what stands behind it.
+fn slot_behind<'a, S: Slot>(bytes: &'a [u8], front: &[u8]) -> Option<(S, &'a [u8])>
+    ensures read { IfSome result (λ p. (bytes.now ≡ front.now ++ (S.words p.0 ++ p.1.now)) × S.is_slot p.0) }
+    ensures whole { (x : S) (more : List ℕ) → S.is_slot x → EndsNumber more → bytes.now ≡ front.now ++ (S.words x ++ more)
+        → MatchOption result ⊥ (λ p. (p.0 ≡ x) × (p.1.now ≡ more)) }
+{
+    match behind(bytes, front) {
+        Some(rest) => S::in_front(rest),
+        None => None,
+    }
+}
+
+/// Reads slots that are parted by one space, as many as there are; tells whether the bytes are such slots.
+pub(crate) fn read_slots<S: Slot + Copy>(bytes: &[u8], slots: &mut [S]) -> bool
+    ensures long { length slots.new ≡ length slots.old }
+    ensures read { result ≡ true → (bytes.now ≡ spaced (map S.words slots.new)) × All S.is_slot slots.new }
+    ensures whole { (xs : List S) → length xs ≡ length slots.old → All S.is_slot xs → bytes.now ≡ spaced (map S.words xs)
+        → (result ≡ true) × (slots.new ≡ xs) }
+{
+    let mut rest = bytes;
+    for i in 0..slots.len() {
+        match slot_behind(rest, space_at(i)) {
+            Some(next) => {
+                slots[i] = next.0;
+                rest = next.1;
+            }
+            None => return false,
+        }
+    }
+    rest.is_empty()
+}

@@ -1,0 +1,360 @@
+//! The values of a report, read back.
+
+ghost use Rattle.std.specs.Prelude.{◌≡◌, ◌≤◌, ◌<◌, ◌^◌, ◌++◌, ◌∷◌, ◌+◌, negsuc, pos, true, Bool, IsSome, ⊤, ℕ, ℤ, List, min, decimal, codes, Some, None, Option, IfSome, MatchOption, ◌/◌, ◌≢◌};
+ghost use Rattle.std.specs.Fmt.{signed_decimal};
+ghost use Rattle.edr_record.specs.Bounds.{IsChange, IsExtreme, IsPlace, IsUpTo};
+ghost use Rattle.edr_report.specs.Words.{bank_words, applied_words, stop_words, yes_no, switch_or_none, milliseconds, firing_words, shown_count, events_in_crash, time_between, extreme_words, missing_words, damage_words, ack_words, kind_word, seconds};
+ghost use Rattle.edr_reading.specs.Front.{EndsNumber};
+ghost use Rattle.edr_reading.specs.Values.{IsBank, IsStop, IsApplied, IsDamage, IsTick, done_in};
+
+use crate::front::{
+    behind, is_word, last_within, number_behind, one_number, two_numbers, two_within, within_behind,
+};
+use edr_image::{Applied, BankView, Kind};
+use edr_record::{Extreme, Place};
+
+// Counts of ignition cycles are shown up to this number.
+const LARGEST_SHOWN_COUNT: u32 = 60_000;
+
+// The last millisecond of an ignition cycle.
+const LATEST_TICK: u32 = 86_400_000;
+
+// The greatest change of speed that a record has, in km/h.
+const GREATEST_CHANGE: u32 = 3_000;
+
+/// The number of a bank behind these bytes.
+pub(crate) fn bank_behind(bytes: &[u8], front: &[u8]) -> Option<u8>
+    ensures read { IfSome result (λ b. (bytes.now ≡ front.now ++ decimal b) × IsBank b) }
+    ensures whole { (b : ℕ) → IsBank b → bytes.now ≡ front.now ++ decimal b → result ≡ Some b }
+{
+    match last_within(bytes, front, 1, 16) {
+        Some(bank) => Some(bank as u8),
+        None => None,
+    }
+}
+
+/// A count of ignition cycles, as it is shown, which is at least `low`.
+pub(crate) fn count(bytes: &[u8], low: u32) -> Option<u32>
+    requires { low ≤ 60_000 }
+    ensures read { IfSome result (λ n. (bytes.now ≡ shown_count n) × (low ≤ n) × (n ≤ 60_000)) }
+    ensures whole { (n : ℕ) → low ≤ n → bytes.now ≡ shown_count n → result ≡ Some (min n 60_000) }
+{
+    last_within(bytes, b"", low, LARGEST_SHOWN_COUNT)
+}
+
+/// A time of `low` to `high` milliseconds.
+pub(crate) fn time(bytes: &[u8], low: u32, high: u32) -> Option<u32>
+    ensures read { IfSome result (λ t. (bytes.now ≡ milliseconds t) × (low ≤ t) × (t ≤ high)) }
+    ensures whole { (t : ℕ) → low ≤ t → t ≤ high → bytes.now ≡ milliseconds t → result ≡ Some t }
+{
+    match one_number(bytes, b"", b" ms") {
+        Some(t) if low <= t && t <= high => Some(t),
+        _ => None,
+    }
+}
+
+/// `yes` or `no`.
+pub(crate) fn decision(bytes: &[u8]) -> Option<bool>
+    ensures read { IfSome result (λ b. bytes.now ≡ yes_no b) }
+    ensures whole { (b : Bool) → bytes.now ≡ yes_no b → result ≡ Some b }
+{
+    if is_word(bytes, b"yes") {
+        Some(true)
+    } else if is_word(bytes, b"no") {
+        Some(false)
+    } else {
+        None
+    }
+}
+
+/// What a switch was, if that was recorded.
+pub(crate) fn switch(bytes: &[u8]) -> Option<Option<bool>>
+    ensures read { IfSome result (λ s. bytes.now ≡ switch_or_none s) }
+    ensures whole { (s : Option Bool) → bytes.now ≡ switch_or_none s → result ≡ Some s }
+{
+    if is_word(bytes, b"on") {
+        Some(Some(true))
+    } else if is_word(bytes, b"off") {
+        Some(Some(false))
+    } else if is_word(bytes, b"none") {
+        Some(None)
+    } else {
+        None
+    }
+}
+
+/// When a restraint fired first, up to `latest`, if it did.
+pub(crate) fn firing(bytes: &[u8], latest: u16) -> Option<Option<u16>>
+    ensures read { IfSome result (λ t. (bytes.now ≡ firing_words t) × IsUpTo latest t) }
+    ensures whole { (t : Option ℕ) → IsUpTo latest t → bytes.now ≡ firing_words t → result ≡ Some t }
+{
+    if is_word(bytes, b"none") {
+        return Some(None);
+    }
+    match time(bytes, 0, u32::from(latest)) {
+        Some(t) => Some(Some(t as u16)),
+        None => None,
+    }
+}
+
+// The number in front of the bytes with `-` before it, and what stands behind it.
+fn negative_in_front(bytes: &[u8]) -> Option<(i16, &[u8])>
+    ensures read { IfSome result (λ p. (45 ∷ bytes.now ≡ signed_decimal p.0 ++ p.1.now) × IsChange p.0) }
+    ensures whole { (k : ℕ) (more : List ℕ) → k + 1 ≤ 3_000 → EndsNumber more → bytes.now ≡ decimal (k + 1) ++ more
+        → MatchOption result ⊥ (λ p. (p.0 ≡ negsuc k) × (p.1.now ≡ more)) }
+{
+    match within_behind(bytes, b"", 1, GREATEST_CHANGE) {
+        Some((n, rest)) => Some((0 - n as i16, rest)),
+        None => None,
+    }
+}
+
+// The number in front of the bytes, and what stands behind it.
+fn positive_in_front(bytes: &[u8]) -> Option<(i16, &[u8])>
+    ensures read { IfSome result (λ p. (bytes.now ≡ signed_decimal p.0 ++ p.1.now) × IsChange p.0) }
+    ensures whole { (n : ℕ) (more : List ℕ) → n ≤ 3_000 → EndsNumber more → bytes.now ≡ decimal n ++ more
+        → MatchOption result ⊥ (λ p. (p.0 ≡ pos n) × (p.1.now ≡ more)) }
+{
+    match within_behind(bytes, b"", 0, GREATEST_CHANGE) {
+        Some((n, rest)) => Some((n as i16, rest)),
+        None => None,
+    }
+}
+
+/// The change of speed in front of the bytes, and what stands behind it.
+pub(crate) fn change_in_front(bytes: &[u8]) -> Option<(i16, &[u8])>
+    ensures read { IfSome result (λ p. (bytes.now ≡ signed_decimal p.0 ++ p.1.now) × IsChange p.0) }
+    ensures whole { (z : ℤ) (more : List ℕ) → IsChange z → EndsNumber more → bytes.now ≡ signed_decimal z ++ more
+        → MatchOption result ⊥ (λ p. (p.0 ≡ z) × (p.1.now ≡ more)) }
+{
+    match behind(bytes, b"-") {
+        Some(digits) => negative_in_front(digits),
+        None => positive_in_front(bytes),
+    }
+}
+
+/// The greatest change of an axis and its time, up to `window`.
+pub(crate) fn extreme(bytes: &[u8], window: u16) -> Option<Extreme>
+    ensures read { IfSome result (λ x. (bytes.now ≡ extreme_words x) × IsExtreme window x) }
+    ensures whole { (x : Extreme) → IsExtreme window x → bytes.now ≡ extreme_words x → result ≡ Some x }
+{
+    match change_in_front(bytes) {
+        Some((kmh, rest)) => match one_number(rest, b" km/h at ", b" ms") {
+            Some(at) if at <= u32::from(window) => Some(Extreme { kmh, at: at as u16 }),
+            _ => None,
+        },
+        None => None,
+    }
+}
+
+/// How many ticks have no sample, up to `window`.
+pub(crate) fn missing(bytes: &[u8], window: u16) -> Option<(u32, u32)>
+    ensures read { IfSome result (λ p. (bytes.now ≡ missing_words p.0 p.1) × (p.0 ≤ window) × (p.1 ≤ window)) }
+    ensures whole { (m n : ℕ) → m ≤ window → n ≤ window → bytes.now ≡ missing_words m n → result ≡ Some (m, n) }
+{
+    two_within(
+        bytes,
+        b"",
+        b" longitudinal, ",
+        b" lateral",
+        u32::from(window),
+    )
+}
+
+// Tenths of a second, up to 5 s.
+fn tenths(bytes: &[u8]) -> Option<u32>
+    ensures read { IfSome result (λ t. (bytes.now ≡ seconds t) × (t ≤ 50)) }
+    ensures whole { (t : ℕ) → t ≤ 50 → bytes.now ≡ seconds t → result ≡ Some t }
+{
+    match two_numbers(bytes, b"", b".", b" s") {
+        Some((whole, tenth)) if whole <= 5 && tenth <= 9 && 10 * whole + tenth <= 50 => {
+            Some(10 * whole + tenth)
+        }
+        _ => None,
+    }
+}
+
+// A time that is shown as these tenths of a second.
+fn time_shown(tenths: u32) -> u32
+    requires { tenths ≤ 50 }
+    ensures shown { (result + 50) / 100 ≡ tenths }
+    ensures bounds { (1 ≤ result) × (result ≤ 5_000) }
+{
+    if tenths == 0 { 1 } else { 100 * tenths }
+}
+
+/// The place of an event in its crash, by how many events the crash has and the time between them.
+pub(crate) fn place(events: &[u8], between: &[u8]) -> Option<Place>
+    ensures read { IfSome result (λ p. (events.now ≡ events_in_crash p) × (between.now ≡ time_between p) × IsPlace p) }
+    ensures whole { (p : Place) → IsPlace p → events.now ≡ events_in_crash p → between.now ≡ time_between p → IsSome result }
+{
+    if is_word(events, b"1") {
+        return first_place(between);
+    }
+    if is_word(events, b"2") {
+        return second_place(between);
+    }
+    None
+}
+
+fn first_place(between: &[u8]) -> Option<Place>
+    ensures { MatchOption result (between.now ≢ codes "none") (λ p. (p ≡ Place.First) × (between.now ≡ codes "none")) }
+{
+    if is_word(between, b"none") {
+        Some(Place::First)
+    } else {
+        None
+    }
+}
+
+fn second_place(between: &[u8]) -> Option<Place>
+    ensures read { IfSome result (λ p. (events_in_crash p ≡ codes "2") × (between.now ≡ time_between p) × IsPlace p) }
+    ensures whole { (after : ℕ) → IsPlace (Place.Second after) → between.now ≡ time_between (Place.Second after) → IsSome result }
+{
+    match tenths(between) {
+        Some(tenths) => Some(Place::Second {
+            after: time_shown(tenths),
+        }),
+        None => None,
+    }
+}
+
+// Whether a damaged bank is locked, behind what else it shows.
+fn locked(bytes: &[u8]) -> Option<bool>
+    ensures read { IfSome result (λ l. bytes.now ≡ codes " locked " ++ yes_no l) }
+    ensures whole { (l : Bool) → bytes.now ≡ codes " locked " ++ yes_no l → result ≡ Some l }
+{
+    match behind(bytes, b" locked ") {
+        Some(word) => decision(word),
+        None => None,
+    }
+}
+
+// The byte that a damaged bank shows, and whether it is locked.
+fn found(bytes: &[u8]) -> Option<(u8, bool)>
+    ensures read { IfSome result (λ p. bytes.now ≡ codes " found " ++ decimal p.0 ++ codes " locked " ++ yes_no p.1) }
+    ensures whole { (x : ℕ) (l : Bool) → x ≤ 255 → bytes.now ≡ codes " found " ++ decimal x ++ codes " locked " ++ yes_no l → result ≡ Some (x, l) }
+{
+    match within_behind(bytes, b" found ", 0, 255) {
+        Some((found, rest)) => match locked(rest) {
+            Some(locked) => Some((found as u8, locked)),
+            None => None,
+        },
+        None => None,
+    }
+}
+
+/// What a damaged bank shows: where, which byte stands there, and whether it is locked.
+pub(crate) fn damage(bytes: &[u8]) -> Option<BankView>
+    ensures read { IfSome result (λ v. (o : ℕ) × (x : ℕ) × (l : Bool) × (v ≡ BankView.Damaged o x l) × (bytes.now ≡ damage_words o x l) × IsDamage o x) }
+    ensures whole { (o x : ℕ) (l : Bool) → IsDamage o x → bytes.now ≡ damage_words o x l → result ≡ Some (BankView.Damaged o x l) }
+{
+    match within_behind(bytes, b"damaged at ", 0, 1_023) {
+        Some((offset, rest)) => match found(rest) {
+            Some((found, locked)) => Some(BankView::Damaged {
+                offset: offset as u16,
+                found,
+                locked,
+            }),
+            None => None,
+        },
+        None => None,
+    }
+}
+
+/// In which call a start was stopped.
+pub(crate) fn start_call(bytes: &[u8]) -> Option<u32>
+    ensures read { IfSome result (λ j. (bytes.now ≡ codes "start stopped in call " ++ decimal j) × (1 ≤ j) × (j ≤ 6)) }
+    ensures whole { (j : ℕ) → 1 ≤ j → j ≤ 6 → bytes.now ≡ codes "start stopped in call " ++ decimal j → result ≡ Some j }
+{
+    last_within(bytes, b"start stopped in call ", 1, 6)
+}
+
+// How a cycle ended.
+fn stop(bytes: &[u8]) -> Option<Option<u32>>
+    ensures read { IfSome result (λ s. (bytes.now ≡ codes ", " ++ stop_words s) × IsStop s) }
+    ensures whole { (s : Option ℕ) → IsStop s → bytes.now ≡ codes ", " ++ stop_words s → result ≡ Some s }
+{
+    if is_word(bytes, b", power off") {
+        return Some(None);
+    }
+    match last_within(bytes, b", stopped in call ", 1, u32::MAX) {
+        Some(call) => Some(Some(call)),
+        None => None,
+    }
+}
+
+/// The number of a cycle that ran, and how it ended.
+pub(crate) fn ran(bytes: &[u8]) -> Option<(u32, Option<u32>)>
+    ensures read { IfSome result (λ p. (bytes.now ≡ codes "number " ++ decimal p.0 ++ codes ", " ++ stop_words p.1) × (1 ≤ p.0) × IsStop p.1) }
+    ensures whole { (n : ℕ) (s : Option ℕ) → 1 ≤ n → n < 2 ^ 32 → IsStop s → bytes.now ≡ codes "number " ++ decimal n ++ codes ", " ++ stop_words s → result ≡ Some (n, s) }
+{
+    match within_behind(bytes, b"number ", 1, u32::MAX) {
+        Some((number, rest)) => match stop(rest) {
+            Some(stop) => Some((number, stop)),
+            None => None,
+        },
+        None => None,
+    }
+}
+
+// What was done in this bank.
+fn done_in(kind: Kind, bank: u8) -> Applied
+    ensures { result ≡ done_in kind bank }
+{
+    match kind {
+        Kind::Take => Applied::Kept { bank },
+        Kind::Lock => Applied::Locked { bank },
+        Kind::Done => Applied::Done { bank },
+    }
+}
+
+/// What came of a command of this kind.
+pub(crate) fn applied(bytes: &[u8], kind: Kind) -> Option<Applied>
+    ensures read { IfSome result (λ a. (bytes.now ≡ applied_words a) × IsApplied kind a) }
+    ensures whole { (a : Applied) → IsApplied kind a → bytes.now ≡ applied_words a → result ≡ Some a }
+{
+    if is_word(bytes, b"not kept") {
+        return Some(Applied::NotKept);
+    }
+    match bank_behind(bytes, b"bank ") {
+        Some(bank) => Some(done_in(kind, bank)),
+        None => None,
+    }
+}
+
+// When a command of this kind was acknowledged.
+fn tick_behind(bytes: &[u8], front: &[u8]) -> Option<u32>
+    ensures read { IfSome result (λ t. (bytes.now ≡ front.now ++ decimal t) × IsTick t) }
+    ensures whole { (t : ℕ) → IsTick t → bytes.now ≡ front.now ++ decimal t → result ≡ Some t }
+{
+    last_within(bytes, front, 1, LATEST_TICK)
+}
+
+// Which command was acknowledged, and when.
+fn command(bytes: &[u8]) -> Option<(Kind, u32)>
+    ensures read { IfSome result (λ p. (bytes.now ≡ codes " " ++ kind_word p.0 ++ codes " at " ++ decimal p.1) × IsTick p.1) }
+    ensures whole { (k : Kind) (t : ℕ) → IsTick t → bytes.now ≡ codes " " ++ kind_word k ++ codes " at " ++ decimal t → result ≡ Some (k, t) }
+{
+    if let Some(tick) = tick_behind(bytes, b" take at ") {
+        return Some((Kind::Take, tick));
+    }
+    if let Some(tick) = tick_behind(bytes, b" lock at ") {
+        return Some((Kind::Lock, tick));
+    }
+    match tick_behind(bytes, b" done at ") {
+        Some(tick) => Some((Kind::Done, tick)),
+        None => None,
+    }
+}
+
+/// Which command of the cycle in this place was acknowledged, and when.
+pub(crate) fn ack(bytes: &[u8], place: u32) -> Option<(Kind, u32)>
+    ensures read { IfSome result (λ p. (bytes.now ≡ ack_words place p.0 p.1) × IsTick p.1) }
+    ensures whole { (k : Kind) (t : ℕ) → IsTick t → bytes.now ≡ ack_words place k t → result ≡ Some (k, t) }
+{
+    match number_behind(bytes, b"cycle ") {
+        Some((i, rest)) if i == place => command(rest),
+        _ => None,
+    }
+}
