@@ -34,11 +34,11 @@ named-long b [] values e = refl
 named-long b (n ∷ names) [] e = absurd (omega (arith, e))
 named-long b (n ∷ names) (v ∷ values) e = ap suc (named-long b names values (omega (arith, e)))
 
-pre-long : (b : ℕ) (p : PrePart) (l : Bool) → length (map line_fields (pre_lines b p l)) ≡ 10
+pub pre-long : (b : ℕ) (p : PrePart) (l : Bool) → length (map line_fields (pre_lines b p l)) ≡ 10
 unfolding pre_lines
 pre-long b p l = refl
 
-crash-rows-long : (b : ℕ) (c : Option CrashPart) → IfSome c IsCrash → length (map line_fields (crash_lines b c)) ≡ 15
+pub crash-rows-long : (b : ℕ) (c : Option CrashPart) → IfSome c IsCrash → length (map line_fields (crash_lines b c)) ≡ 15
 crash-rows-long b c h = ap length (crash-fields b c) ∙ named-long b crash_names (crash_words c) (crash-long c h)
 
 -- where rows are two lists of them, their front and what follows are these

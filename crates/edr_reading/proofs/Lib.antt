@@ -5,3 +5,6 @@ pub mod PointLemmas
 pub mod RowLemmas
 pub mod PartLemmas
 pub mod EventLemmas
+pub mod ToldLemmas
+pub mod WalkLemmas
+pub mod FieldLemmas

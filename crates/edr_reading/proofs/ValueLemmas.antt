@@ -3,9 +3,9 @@ use Rattle.std.proofs.Common.{arith, ◌≡◌, ◌∙◌, sym, ap, refl, ℕ, z
 use Rattle.std.specs.Fmt.{signed_decimal}
 use Rattle.edr_record.specs.Bounds.{IsUpTo, IsChange}
 use Rattle.edr_image.specs.declared.BankView.{BankView}
-use Rattle.edr_image.specs.declared.BankView.TheVariants.{Damaged}
+use Rattle.edr_image.specs.declared.BankView.TheVariants.{Void, Event, Damaged}
 use Rattle.edr_report.specs.Words.{firing_words, stop_words, missing_words, damage_words, yes_no}
-use Rattle.edr_reading.specs.Values.{IsStop}
+use Rattle.edr_reading.specs.Values.{IsStop, IsDamage, IsDamagedView, view_words}
 use Rattle.edr_reading.proofs.FrontLemmas.{not-number}
 
 -- `none` is no time
@@ -46,3 +46,8 @@ found_words x l = codes " found " ++ decimal x ++ codes " locked " ++ yes_no l
 
 pub damage-is : (o x : ℕ) (l : Bool) → damage_words o x l ≡ codes "damaged at " ++ (decimal o ++ found_words x l)
 damage-is o x l = simp append_assoc
+
+pub is-damaged : (v : BankView) → IsDamagedView v → (o : ℕ) × (x : ℕ) × (l : Bool) × (v ≡ Damaged o x l) × IsDamage o x
+is-damaged Void h = absurd h
+is-damaged (Event r) h = absurd h
+is-damaged (Damaged o x l) h = (o, x, l, refl, h)

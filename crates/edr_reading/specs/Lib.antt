@@ -3,3 +3,6 @@ pub mod Values
 pub mod Slots
 pub mod Parts
 pub mod Rows
+pub mod Told
+pub mod Run
+pub mod Found

@@ -1,5 +1,8 @@
 -- Which values a report may show, where the parts of a record don't say it.
-use Rattle.std.specs.Prelude.{ℕ, ◌≡◌, ◌≤◌, ◌⊎◌, Option, IfSome}
+use Rattle.std.specs.Prelude.{ℕ, ◌≡◌, ◌≤◌, ◌⊎◌, Option, IfSome, List, []}
+use Rattle.edr_image.specs.declared.BankView.{BankView}
+use Rattle.edr_image.specs.declared.BankView.TheVariants.{Void, Event, Damaged}
+use Rattle.edr_report.specs.Words.{damage_words}
 use Rattle.edr_image.specs.declared.Kind.{Kind}
 use Rattle.edr_image.specs.declared.Kind.TheVariants as kind
 use Rattle.edr_image.specs.declared.Applied.{Applied}
@@ -30,3 +33,15 @@ done_in kind.Done b = Done b
 -- what came of a command of this kind
 abbrev pub IsApplied : Kind → Applied → Type 0
 IsApplied k a = (a ≡ NotKept) ⊎ ((b : ℕ) × IsBank b × (a ≡ done_in k b))
+
+-- what a damaged bank shows is in its bounds
+abbrev pub IsDamagedView : BankView → Type 0
+IsDamagedView Void = ⊥
+IsDamagedView (Event r) = ⊥
+IsDamagedView (Damaged o x l) = IsDamage o x
+
+-- what the row of a damaged bank shows
+abbrev pub view_words : BankView → List ℕ
+view_words Void = []
+view_words (Event r) = []
+view_words (Damaged o x l) = damage_words o x l

@@ -5,7 +5,7 @@ ghost use Rattle.std.specs.Fmt.{signed_decimal};
 ghost use Rattle.edr_record.specs.Bounds.{IsChange, IsExtreme, IsPlace, IsUpTo};
 ghost use Rattle.edr_report.specs.Words.{bank_words, applied_words, stop_words, yes_no, switch_or_none, milliseconds, firing_words, shown_count, events_in_crash, time_between, extreme_words, missing_words, damage_words, ack_words, kind_word, seconds};
 ghost use Rattle.edr_reading.specs.Front.{EndsNumber};
-ghost use Rattle.edr_reading.specs.Values.{IsBank, IsStop, IsApplied, IsDamage, IsTick, done_in};
+ghost use Rattle.edr_reading.specs.Values.{IsBank, IsStop, IsApplied, IsDamagedView, IsTick, done_in, view_words};
 
 use crate::front::{
     behind, is_word, last_within, number_behind, one_number, two_numbers, two_within, within_behind,
@@ -246,8 +246,8 @@ fn found(bytes: &[u8]) -> Option<(u8, bool)>
 
 /// What a damaged bank shows: where, which byte stands there, and whether it is locked.
 pub(crate) fn damage(bytes: &[u8]) -> Option<BankView>
-    ensures read { IfSome result (λ v. (o : ℕ) × (x : ℕ) × (l : Bool) × (v ≡ BankView.Damaged o x l) × (bytes.now ≡ damage_words o x l) × IsDamage o x) }
-    ensures whole { (o x : ℕ) (l : Bool) → IsDamage o x → bytes.now ≡ damage_words o x l → result ≡ Some (BankView.Damaged o x l) }
+    ensures read { IfSome result (λ v. (bytes.now ≡ view_words v) × IsDamagedView v) }
+    ensures whole { (v : BankView) → IsDamagedView v → bytes.now ≡ view_words v → result ≡ Some v }
 {
     match within_behind(bytes, b"damaged at ", 0, 1_023) {
         Some((offset, rest)) => match found(rest) {

@@ -1,0 +1,31 @@
+-- The rows of what was found in the banks.
+use Rattle.std.specs.Prelude.{◌≡◌, ℕ, ⊤, List, [], ◌∷◌, map, decimal, slice_index_or}
+use Rattle.edr_record.specs.declared.Record.{Record}
+use Rattle.edr_image.specs.declared.Found.{Found}
+use Rattle.edr_report.specs.Lines.{Line, line}
+use Rattle.edr_report.specs.Report.{events_lines}
+use Rattle.edr_report.specs.Words.{bank_words}
+use Rattle.edr_reading.specs.Parts.{IsRecord}
+use Rattle.edr_reading.specs.Rows.{line_fields}
+use Rattle.edr_reading.specs.Values.{IsBank, IsDamagedView, view_words}
+
+-- the bounds of an event and its bank
+abbrev pub IsEvent : ℕ × Record → Type 0
+IsEvent e = IsBank e.0 × IsRecord e.1
+
+-- the rows of events, the first of which has this number
+abbrev pub events_fields : ℕ → List (ℕ × Record) → List (List (List ℕ))
+events_fields block events = map line_fields (events_lines block events)
+
+-- the first of the rows, if there is one, is of block 0
+abbrev pub BeginsTold : List (List (List ℕ)) → Type 0
+BeginsTold [] = ⊤
+BeginsTold (r ∷ rows) = slice_index_or r 0 [] ≡ decimal 0
+
+-- the bounds of a damaged bank
+abbrev pub IsDamaged : Found → Type 0
+IsDamaged f = IsBank f.bank × IsDamagedView f.view
+
+-- the row of a damaged bank
+abbrev pub damaged_fields : Found → List (List ℕ)
+damaged_fields f = line_fields (line 0 (bank_words f.bank) (view_words f.view))

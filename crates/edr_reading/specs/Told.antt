@@ -1,0 +1,21 @@
+-- The rows of block 0.
+use Rattle.std.specs.Prelude.{ℕ, ◌≤◌, Option, ◌++◌, codes, decimal}
+use Rattle.edr_image.specs.declared.Ack.{Ack}
+use Rattle.edr_report.specs.Lines.{Line, line}
+use Rattle.edr_report.specs.Words.{cycle_words, stop_words}
+use Rattle.edr_reading.specs.declared.told.CycleRow.{CycleRow}
+use Rattle.edr_reading.specs.declared.told.CycleRow.TheVariants.{StartStopped, Ran}
+use Rattle.edr_reading.specs.Values.{IsStop, IsTick, IsApplied}
+
+-- the bounds of an acknowledged command
+abbrev pub IsAck : Ack → Type 0
+IsAck a = IsTick a.tick × IsApplied a.kind a.applied
+
+-- the first line of the cycle in place i of the run, which is its only one if its start was stopped
+abbrev pub cycle_line : ℕ → CycleRow → Line
+cycle_line i (StartStopped j) = line 0 (cycle_words i) (codes "start stopped in call " ++ decimal j)
+cycle_line i (Ran n stop) = line 0 (cycle_words i) (codes "number " ++ decimal n ++ codes ", " ++ stop_words stop)
+
+abbrev pub IsCycleRow : CycleRow → Type 0
+IsCycleRow (StartStopped j) = (1 ≤ j) × (j ≤ 6)
+IsCycleRow (Ran n stop) = (1 ≤ n) × (n ≤ 4_294_967_295) × IsStop stop

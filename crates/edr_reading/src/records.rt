@@ -1,0 +1,71 @@
+//! The records of a table, as rows of three fields.
+
+ghost use Rattle.std.specs.Prelude.{◌≡◌, ◌≢◌, ◌<◌, ◌≤◌, [], Some, IfOk, MatchOption, length, map, take, get_or};
+ghost use Rattle.csv.specs.Records.{fields_of, field_at};
+ghost use Rattle.edr_reading.specs.Rows.{fields};
+ghost use Rattle.edr_reading.specs.Run.{RecordsOf};
+
+use crate::rows::Row;
+use csv::{ByteRecord, ReaderBuilder};
+use std::alloc::{AllocError as OutOfMemory, Global};
+
+/// The records of the bytes, each with any number of fields.
+pub(crate) fn records(alloc: Global, bytes: &[u8]) -> Result<Vec<ByteRecord>, csv::Error>
+    ensures { IfOk result (λ v. RecordsOf bytes.now (map fields_of v.items)) }
+{
+    let reader = ReaderBuilder::new()
+        .has_headers(false)
+        .flexible(true)
+        .from_reader(alloc, bytes);
+    let mut records = Vec::new(alloc);
+    for record in reader.into_byte_records() {
+        if records.push(record?).is_err() {
+            return Err(csv::Error::out_of_memory());
+        }
+    }
+    Ok(records)
+}
+
+// The field in a place that the record has.
+fn field(fields: &ByteRecord, place: usize) -> &[u8]
+    requires { place < length (fields_of fields.now) }
+    ensures { Some result.now ≡ field_at (fields_of fields.now) place }
+{
+    match fields.get(place) {
+        Some(field) => field,
+        None => unreachable!(),
+    }
+}
+
+// The row of a record, if it has three fields.
+fn row_of(found: &ByteRecord) -> Option<Row<'_>>
+    ensures { MatchOption result (length (fields_of found.now) ≢ 3) (λ r. fields r ≡ fields_of found.now) }
+{
+    if found.len() != 3 {
+        return None;
+    }
+    Some(Row {
+        block: field(found, 0),
+        name: field(found, 1),
+        value: field(found, 2),
+    })
+}
+
+/// The rows of the records, up to the first that has other than three fields.
+pub(crate) fn rows_of<'a>(
+    alloc: Global,
+    records: &'a [ByteRecord],
+) -> Result<Vec<Row<'a>>, OutOfMemory>
+    ensures within { IfOk result (λ rows. length rows.items ≤ length records.now) }
+    ensures rows { IfOk result (λ rows. map fields rows.items ≡ take (length rows.items) (map fields_of records.now)) }
+    ensures stops { IfOk result (λ rows. length rows.items < length records.now → length (get_or (map fields_of records.now) (length rows.items) []) ≢ 3) }
+{
+    let mut rows = Vec::new(alloc);
+    for record in records {
+        match row_of(record) {
+            Some(row) => rows.push(row)?,
+            None => break,
+        }
+    }
+    Ok(rows)
+}
