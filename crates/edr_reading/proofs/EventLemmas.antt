@@ -1,12 +1,12 @@
 -- The rows of an event, part by part.
-use Rattle.std.proofs.Common.{arith, ◌≡◌, ◌∙◌, sym, ap, refl, ℕ, suc, Bool, true, List, [], ◌∷◌, ◌++◌, length, map, take, drop, get_or, Option, None, Some, codes, decimal, append_assoc}
+use Rattle.std.proofs.Common.{arith, ◌≡◌, ◌∙◌, sym, ap, refl, ℕ, suc, Bool, List, [], ◌∷◌, ◌++◌, length, map, take, drop, Option, Some, codes, decimal, append_assoc}
 use Rattle.std.proofs.lemmas.List.{map-append, take-append-drop, take-map, drop-map}
 use Rattle.std.proofs.Math.Seq.{take-append_seam, drop-append_seam}
 use Rattle.edr_record.specs.declared.Record.{Record}
 use Rattle.std.specs.Option.{IfSome}
 use Rattle.edr_record.specs.Bounds.{IsCrash}
 use Rattle.edr_record.specs.Parts.{PrePart, CrashPart}
-use Rattle.edr_record.specs.Complete.{is_complete, has_all_slots, misses_no_tick}
+use Rattle.edr_record.specs.Complete.{is_complete}
 use Rattle.edr_report.specs.Lines.{line}
 use Rattle.edr_report.specs.Report.{event_lines, pre_lines, crash_lines, crash_names, crash_words}
 use Rattle.edr_report.specs.Words.{yes_no}

@@ -8,3 +8,4 @@ pub mod EventLemmas
 pub mod ToldLemmas
 pub mod WalkLemmas
 pub mod FieldLemmas
+pub mod FoundLemmas

@@ -1,7 +1,7 @@
 -- The rows of the parts of a record, and the values that show these parts.
 use Rattle.std.proofs.Common.{arith, ◌≡◌, ◌∙◌, sym, ap, refl, ℕ, zero, suc, ◌+◌, ◌<◌, Bool, List, [], ◌∷◌, ◌++◌, length, map, drop, get_or, replicate, Option, None, Some, Bor, codes, decimal}
 use Rattle.std.proofs.lemmas.List.{length-map}
-use Rattle.std.specs.Option.{IfSome, MatchOption}
+use Rattle.std.specs.Option.{IfSome}
 use Rattle.edr_record.specs.Parts.{PrePart, CrashPart}
 use Rattle.edr_record.specs.Bounds.{IsCrash}
 use Rattle.edr_reading.proofs.FrontLemmas.{not-number}

@@ -1,12 +1,12 @@
 -- The points of an axis, of which those past the end are 0.
-use Rattle.std.proofs.Common.{arith, ◌≡◌, ◌∙◌, sym, ap, subst, refl, ℕ, zero, suc, ◌+◌, ◌-◌, ◌<◌, ◌≤◌, ◌/◌, min, true, ℤ, pos, List, [], ◌∷◌, ◌++◌, length, map, take, drop, get_or, replicate, None, length-append, length-take-le, length-drop, Some, Option, slice_get, FitsSigned, w16}
+use Rattle.std.proofs.Common.{arith, ◌≡◌, ◌∙◌, sym, ap, subst, refl, ℕ, zero, suc, ◌<◌, ◌≤◌, ℤ, pos, List, [], ◌∷◌, ◌++◌, length, map, take, drop, get_or, replicate, None, length-append, length-take-le, length-drop, Some, Option, slice_get, FitsSigned, w16}
 use Rattle.std.specs.List.{All}
 use Rattle.std.proofs.lemmas.Int.{ints}
 use Rattle.std.specs.Fmt.{signed_decimal}
 use Rattle.std.proofs.Math.Seq.{take-append_seam, drop-append_seam}
 use Rattle.std.proofs.lemmas.List.{drop-replicate, take-append-drop, length-replicate}
 use Rattle.std.proofs.lemmas.List.Elements.{All-append, All-drop, All-take}
-use Rattle.edr_record.specs.Bounds.{ArePoints, IsChange, point_count, most_points}
+use Rattle.edr_record.specs.Bounds.{ArePoints, IsChange, point_count}
 use Rattle.edr_reading.specs.Slots.{with_zeros}
 use Rattle.edr_report.specs.Words.{spaced, points_words}
 

@@ -1,5 +1,5 @@
 -- The rows of block 0.
-use Rattle.std.proofs.Common.{arith, ◌≡◌, ◌∙◌, sym, ap, refl, ℕ, ◌≤◌, List, ◌++◌, get_or, Option, Some, None, codes, decimal}
+use Rattle.std.proofs.Common.{arith, ◌≡◌, ◌∙◌, sym, ap, ℕ, ◌≤◌, List, ◌++◌, get_or, Some, codes, decimal}
 use Rattle.edr_reading.specs.declared.told.CycleRow.{CycleRow}
 use Rattle.edr_reading.specs.declared.told.CycleRow.TheVariants.{StartStopped, Ran}
 use Rattle.edr_reading.specs.Told.{cycle_line, IsCycleRow}

@@ -2,7 +2,7 @@
 use Rattle.std.specs.Prelude.{◌≡◌, ℕ, ⊤, List, [], ◌∷◌, map, decimal, slice_index_or}
 use Rattle.edr_record.specs.declared.Record.{Record}
 use Rattle.edr_image.specs.declared.Found.{Found}
-use Rattle.edr_report.specs.Lines.{Line, line}
+use Rattle.edr_report.specs.Lines.{line}
 use Rattle.edr_report.specs.Report.{events_lines}
 use Rattle.edr_report.specs.Words.{bank_words}
 use Rattle.edr_reading.specs.Parts.{IsRecord}

@@ -1,9 +1,9 @@
 -- Which values show the parts of a record.
-use Rattle.std.specs.Prelude.{◌≡◌, ℕ, Bool, Option, Some, None, List, map, IfSome}
+use Rattle.std.specs.Prelude.{◌≡◌, Bool, map, IfSome}
 use Rattle.edr_record.specs.Parts.{PrePart, CrashPart}
 use Rattle.edr_record.specs.Bounds.{IsPre, IsCrash}
 use Rattle.edr_record.specs.declared.Record.{Record}
-use Rattle.edr_report.specs.Words.{none_word, yes_no, number_or_none, switch_or_none, milliseconds, firing_words, shown_count, events_in_crash, time_between, spaced, points_words, extreme_words, missing_words}
+use Rattle.edr_report.specs.Words.{yes_no, number_or_none, switch_or_none, milliseconds, firing_words, shown_count, events_in_crash, time_between, spaced, points_words, extreme_words, missing_words}
 use Rattle.edr_reading.specs.declared.pre.PreValues.{PreValues}
 use Rattle.edr_reading.specs.declared.crash.CrashValues.{CrashValues}
 

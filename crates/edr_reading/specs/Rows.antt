@@ -1,5 +1,5 @@
 -- The rows of a report's table, by their fields.
-use Rattle.std.specs.Prelude.{ℕ, Bool, List, [], ◌∷◌, ◌++◌, map, codes, decimal}
+use Rattle.std.specs.Prelude.{ℕ, Bool, List, [], ◌∷◌, map, codes, decimal}
 use Rattle.edr_record.specs.Parts.{PrePart}
 use Rattle.edr_report.specs.Lines.{Line}
 use Rattle.edr_report.specs.Words.{yes_no, number_or_none, switch_or_none, milliseconds, shown_count, events_in_crash, time_between, spaced}

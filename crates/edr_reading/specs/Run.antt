@@ -1,5 +1,5 @@
 -- The rows of the cycles of a run, and those that follow them.
-use Rattle.std.specs.Prelude.{◌≡◌, ◌≢◌, ℕ, ◌≤◌, ⊤, List, [], ◌∷◌, All, decimal}
+use Rattle.std.specs.Prelude.{◌≢◌, ℕ, ◌≤◌, ⊤, List, [], ◌∷◌, All}
 use Rattle.csv.specs.Reading.{AreRecords, default_config, strip_bom}
 use Rattle.csv.specs.declared.parser.State.TheVariants as st
 use Rattle.edr_image.specs.declared.Ack.{Ack}
@@ -7,7 +7,7 @@ use Rattle.edr_image.specs.Reports.{Report, StartStopped, Ran}
 use Rattle.edr_report.specs.Report.{ack_line}
 use Rattle.edr_reading.specs.declared.told.CycleRow.{CycleRow}
 use Rattle.edr_reading.specs.Rows.{line_fields}
-use Rattle.edr_reading.specs.Told.{IsAck, IsCycleRow, cycle_line}
+use Rattle.edr_reading.specs.Told.{IsAck, cycle_line}
 use Rattle.edr_reading.specs.Values.{IsStop}
 
 -- these are all the records that csv gives of the bytes

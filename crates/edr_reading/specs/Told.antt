@@ -1,5 +1,5 @@
 -- The rows of block 0.
-use Rattle.std.specs.Prelude.{ℕ, ◌≤◌, Option, ◌++◌, codes, decimal}
+use Rattle.std.specs.Prelude.{ℕ, ◌≤◌, ◌++◌, codes, decimal}
 use Rattle.edr_image.specs.declared.Ack.{Ack}
 use Rattle.edr_report.specs.Lines.{Line, line}
 use Rattle.edr_report.specs.Words.{cycle_words, stop_words}

@@ -3,6 +3,7 @@
 
 mod crash;
 mod event;
+mod found;
 mod front;
 mod parts;
 mod pre;

@@ -1,4 +1,4 @@
-use Rattle.std.proofs.Common.{arith, rules, ◌≡◌, ◌∙◌, sym, ap, ◌<◌, Bor, List, ℕ, Option, Some, None, [], length, get_or, length-set}
+use Rattle.std.proofs.Common.{arith, ◌∙◌, ◌<◌, Bor, List, ℕ, None, [], length, get_or, length-set}
 use Rattle.std.proofs.lemmas.List.Elements.{All-get_or}
 use Rattle.edr_record.specs.Bounds.{IsUpTo}
 use Rattle.edr_report.specs.Words.{firing_words}

@@ -1,6 +1,5 @@
-use Rattle.std.proofs.Common.{arith, rules, ◌≡◌, ◌∙◌, sym, ap, Some, w16}
+use Rattle.std.proofs.Common.{◌∙◌, sym, Some, w16}
 use Rattle.std.proofs.lemmas.Int.{to_z-of_z}
-use Rattle.edr_record.specs.Bounds.{ArePoints, point_count}
 use Rattle.edr_reading.proofs.PointLemmas.{points-are, points-given, change-fits}
 use Rattle.edr_reading.proofs.crash.points.Goals as goal
 

@@ -1,4 +1,4 @@
-use Rattle.std.proofs.Common.{◌≡◌, refl, sym, [], ◌∷◌}
+use Rattle.std.proofs.Common.{sym, [], ◌∷◌}
 use Rattle.edr_report.specs.Words.{yes_no}
 use Rattle.edr_reading.proofs.event.ends_with.Goals as goal
 

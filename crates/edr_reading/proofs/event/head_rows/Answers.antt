@@ -1,4 +1,4 @@
-use Rattle.std.proofs.Common.{◌≡◌, refl, sym, [], ◌∷◌, decimal}
+use Rattle.std.proofs.Common.{sym, [], ◌∷◌, decimal}
 use Rattle.edr_reading.proofs.event.head_rows.Goals as goal
 
 pub returns-else-put_values-clause-whole : goal.returns-else-put_values-clause-whole

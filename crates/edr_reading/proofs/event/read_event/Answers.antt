@@ -1,4 +1,4 @@
-use Rattle.std.proofs.Common.{arith, rules, ◌≡◌, ◌≢◌, ◌∙◌, ap, sym, refl}
+use Rattle.std.proofs.Common.{◌∙◌, ap, sym}
 use Rattle.edr_reading.proofs.EventLemmas.{event-parts, event-whole, complete-same, some-is, last_fields}
 use Rattle.edr_reading.proofs.event.read_event.Goals as goal
 

@@ -1,4 +1,4 @@
-use Rattle.std.proofs.Common.{◌≡◌, ◌∙◌, sym, ap, List, ℕ, ◌++◌, decimal}
+use Rattle.std.proofs.Common.{◌∙◌, sym, ap, List, ℕ, ◌++◌, decimal}
 use Rattle.std.proofs.lemmas.List.{append-nil}
 use Rattle.edr_reading.proofs.front.last_number.Goals as goal
 

@@ -1,5 +1,4 @@
-use Rattle.std.proofs.Common.{arith, rules, ◌≡◌, ◌∙◌, sym, ap, ℕ, ◌<◌, ◌^◌, Ok}
-use Rattle.edr_text.specs.Numbers.{natural_in, below}
+use Rattle.std.proofs.Common.{arith, ◌∙◌, sym}
 use Rattle.edr_reading.proofs.FrontLemmas.{number-front, number-read}
 use Rattle.edr_reading.proofs.front.number_in_front.Goals as goal
 

@@ -1,4 +1,4 @@
-use Rattle.std.proofs.Common.{arith, ◌≡◌, ◌∙◌, sym, ap, refl, ◌<◌, ◌++◌, ◌∷◌, [], Bor, List, ℕ, length, replicate, map, get_or}
+use Rattle.std.proofs.Common.{arith, ◌≡◌, ◌∙◌, sym, ap, ◌<◌, ◌++◌, ◌∷◌, [], Bor, List, ℕ, length, replicate, map, get_or}
 use Rattle.std.proofs.lemmas.List.{map_more}
 use Rattle.edr_report.specs.Words.{none_word}
 use Rattle.edr_reading.proofs.RowLemmas.{at-all}

@@ -1,4 +1,4 @@
-use Rattle.std.proofs.Common.{ap, Some, map}
+use Rattle.std.proofs.Common.{ap, Some}
 use Rattle.edr_reading.proofs.PartLemmas.{absent-crash}
 use Rattle.edr_reading.proofs.parts.crash_or_none.Goals as goal
 

@@ -1,4 +1,4 @@
-use Rattle.std.proofs.Common.{arith, rules, ◌≡◌, ◌∙◌, sym, ap, refl, Bor, List, ℕ, map}
+use Rattle.std.proofs.Common.{◌≡◌, ◌∙◌, sym, ap, refl, map}
 use Rattle.edr_reading.specs.Rows.{named_fields, fields, line_fields}
 use Rattle.edr_report.specs.Report.{crash_lines, crash_names, crash_words}
 use Rattle.edr_reading.proofs.PartLemmas.{if-some, crash-fields, crash-long}

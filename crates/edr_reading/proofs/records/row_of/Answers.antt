@@ -1,4 +1,4 @@
-use Rattle.std.proofs.Common.{arith, ◌≡◌, ◌∙◌, length}
+use Rattle.std.proofs.Common.{arith}
 use Rattle.csv.specs.Records.{fields_of}
 use Rattle.edr_reading.proofs.FieldLemmas.{three-fields}
 use Rattle.edr_reading.proofs.records.row_of.Goals as goal

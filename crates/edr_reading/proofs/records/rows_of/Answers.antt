@@ -1,4 +1,4 @@
-use Rattle.std.proofs.Common.{◌≡◌, ◌∙◌, sym, ap, List, ℕ, map, take}
+use Rattle.std.proofs.Common.{◌∙◌, sym, ap, ℕ, map, take}
 use Rattle.std.proofs.lemmas.List.{take-map}
 use Rattle.csv.specs.Records.{fields_of}
 use Rattle.edr_reading.proofs.records.rows_of.Goals as goal

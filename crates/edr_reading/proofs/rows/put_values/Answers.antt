@@ -1,6 +1,5 @@
-use Rattle.std.proofs.Common.{arith, rules, ◌≡◌, ◌∙◌, sym, ap, refl, ◌<◌, Bor, List, ℕ, [], map, take, length, get_or, length-set}
+use Rattle.std.proofs.Common.{arith, ◌≡◌, ◌∙◌, sym, ap, refl, ◌<◌, Bor, List, ℕ, [], map, take, length, get_or, length-set}
 use Rattle.std.proofs.lemmas.List.{length-map, length-take}
-use Rattle.std.proofs.Math.Seq.{take-length}
 use Rattle.edr_reading.specs.Rows.{fields, named_fields}
 use Rattle.edr_reading.proofs.RowLemmas.{named-more, named-at, values-more, at-all}
 use Rattle.edr_reading.proofs.rows.put_values.Goals as goal

@@ -1,4 +1,4 @@
-use Rattle.std.proofs.Common.{arith, ◌≡◌, ◌∙◌, sym, ap, List, ℕ, ◌+◌, map, drop, length, length-append}
+use Rattle.std.proofs.Common.{arith, ◌∙◌, ap, ℕ, ◌+◌, length-append}
 use Rattle.edr_reading.specs.Rows.{fields}
 use Rattle.edr_reading.specs.Run.{ack_fields}
 use Rattle.edr_reading.specs.Told.{IsAck}

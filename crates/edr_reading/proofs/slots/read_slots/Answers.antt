@@ -1,4 +1,4 @@
-use Rattle.std.proofs.Common.{arith, rules, ◌≡◌, ◌∙◌, sym, ap, refl, subst, ◌++◌, ◌<◌, ◌+◌, nat_eq, ℕ, List, [], length, map, take, drop, get_or}
+use Rattle.std.proofs.Common.{arith, ◌≡◌, ◌∙◌, sym, ap, refl, ◌<◌, ◌+◌, nat_eq, ℕ, List, length, map, drop, get_or}
 use Rattle.std.proofs.lemmas.List.Elements.{All-get_or}
 use Rattle.edr_reading.specs.Slots.{spaced_behind}
 use Rattle.edr_reading.proofs.SlotLemmas.{taken-more, left-one, are-more, ends-more, same-more, some-in, read-all, whole-all, none-left}

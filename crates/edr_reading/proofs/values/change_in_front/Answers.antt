@@ -1,4 +1,3 @@
-use Rattle.std.proofs.Common.{◌≡◌, rules}
 use Rattle.edr_reading.proofs.ValueLemmas.{minus-change, plus-change}
 use Rattle.edr_reading.proofs.values.change_in_front.Goals as goal
 

@@ -1,4 +1,4 @@
-use Rattle.std.proofs.Common.{arith, refl, ap, sym, ◌∙◌, ◌≡◌, None, Some}
+use Rattle.std.proofs.Common.{arith, refl, ap, sym, ◌∙◌, Some}
 use Rattle.edr_reading.specs.Values.{view_words}
 use Rattle.edr_reading.proofs.ValueLemmas.{damage-same, damage-is, found_words, is-damaged}
 use Rattle.edr_reading.proofs.values.damage.Goals as goal

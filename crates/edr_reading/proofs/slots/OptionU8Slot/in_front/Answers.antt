@@ -1,4 +1,4 @@
-use Rattle.std.proofs.Common.{arith, ◌≡◌}
+use Rattle.std.proofs.Common.{arith}
 use Rattle.edr_reading.proofs.SlotLemmas.{none-slot}
 use Rattle.edr_reading.proofs.slots.OptionU8Slot.in_front.Goals as goal
 
