@@ -83,7 +83,7 @@ drop-none [] zero e = refl
 drop-none [] (suc n) e = refl
 drop-none (x ∷ xs) n e = cc
 
-drop-both : {X : Type 0} (n m : ℕ) (xs : List X) → drop (n + m) xs ≡ drop m (drop n xs)
+pub drop-both : {X : Type 0} (n m : ℕ) (xs : List X) → drop (n + m) xs ≡ drop m (drop n xs)
 drop-both n m [] = drop-none [] (n + m) refl ∙ sym (ap (drop m) (drop-none [] n refl) ∙ drop-none [] m refl)
 drop-both zero m (x ∷ xs) = let e : 0 + m ≡ m = omega arith in ap (λ (k : ℕ). drop k (x ∷ xs)) e
 drop-both (suc n) m (x ∷ xs) = let e : suc n + m ≡ suc (n + m) = omega arith in ap (λ (k : ℕ). drop k (x ∷ xs)) e ∙ drop-both n m xs
@@ -99,15 +99,16 @@ banks-more old items new f e left es is same parts told =
     told ∙ ap (λ (x : List Found). map (λ g. g.bank) x ++ map (λ g. g.0) left) is ∙ ap (λ (x : List ℕ). x ++ map (λ g. g.0) left) (map-append (λ (g : Found). g.bank) old (f ∷ []))
     ∙ append_assoc (map (λ g. g.bank) old) (f.bank ∷ []) (map (λ g. g.0) left) ∙ ap (λ (b : ℕ). map (λ g. g.bank) old ++ b ∷ map (λ g. g.0) left) same ∙ ap (λ (x : List (ℕ × Record)). map (λ g. g.bank) old ++ map (λ g. g.0) x) (sym parts)
 
-pub read-events : (k : ℕ) (rows rest : List Row) (old items new : List Found) (e : ℕ × Record) → rest ≡ drop 28 rows → items ≡ old ++ found_event e ∷ [] → IsBank e.0 → map fields rows ≡ map line_fields (event_lines k e.0 e.1) ++ map fields (drop 28 rows)
-    → (es : List (ℕ × Record)) × (new ≡ items ++ map found_event es) × All (λ e. IsBank e.0) es × (map fields rest ≡ events_fields (k + 1) es ++ map fields (drop (28 * length es) rest))
-    → (es : List (ℕ × Record)) × (new ≡ old ++ map found_event es) × All (λ e. IsBank e.0) es × (map fields rows ≡ events_fields k es ++ map fields (drop (28 * length es) rows))
-read-events k rows rest old items new e r i b is x = (
+pub read-events : (k : ℕ) (rows rest : List Row) (old items new : List Found) (e : ℕ × Record) → rest ≡ drop 28 rows → length rest + 28 ≡ length rows → items ≡ old ++ found_event e ∷ [] → IsBank e.0 → map fields rows ≡ map line_fields (event_lines k e.0 e.1) ++ map fields (drop 28 rows)
+    → (es : List (ℕ × Record)) × (new ≡ items ++ map found_event es) × All (λ e. IsBank e.0) es × (map fields rest ≡ events_fields (k + 1) es ++ map fields (drop (28 * length es) rest)) × (28 * length es ≤ length rest)
+    → (es : List (ℕ × Record)) × (new ≡ old ++ map found_event es) × All (λ e. IsBank e.0) es × (map fields rows ≡ events_fields k es ++ map fields (drop (28 * length es) rows)) × (28 * length es ≤ length rows)
+read-events k rows rest old items new e r long i b is x = (
   e ∷ x.0,
   x.1 ∙ ap (λ (y : List Found). y ++ map found_event x.0) i ∙ append_assoc old (found_event e ∷ []) (map found_event x.0),
   All-cons (λ e. IsBank e.0) e x.0 b x.2,
   is ∙ ap (λ (y : List Row). map line_fields (event_lines k e.0 e.1) ++ map fields y) (sym r) ∙ ap (λ (y : List (List (List ℕ))). map line_fields (event_lines k e.0 e.1) ++ y) x.3
       ∙ sym (first-behind k e x.0 (map fields (drop (28 * length x.0) rest))) ∙ ap (λ (y : List (List (List ℕ))). events_fields k (e ∷ x.0) ++ y) (sym (rest-more rows rest e x.0 r)),
+  omega (arith, long, x.4),
 )
 
 pub if-err : {A E : Type 0} (r : Result A E) (P Q : E → Type 0) → ((e : E) → P e → Q e) → IfErr r P → IfErr r Q

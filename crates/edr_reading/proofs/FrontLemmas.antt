@@ -13,7 +13,7 @@ and-parts : (a b : Bool) → (a && b) ≡ true → (a ≡ true) × (b ≡ true)
 and-parts true b h = (refl, h)
 and-parts false b h = cc
 
-first-digit : (d : ℕ) (ds : List ℕ) → list_all is_digit (d ∷ ds) ≡ true → (is_digit d ≡ true) × (list_all is_digit ds ≡ true)
+pub first-digit : (d : ℕ) (ds : List ℕ) → list_all is_digit (d ∷ ds) ≡ true → (is_digit d ≡ true) × (list_all is_digit ds ≡ true)
 first-digit d ds h = and-parts (is_digit d) (list_all is_digit ds) h
 
 pub ends-at : (bs : List ℕ) (n : ℕ) → n < length bs → is_digit (get_or bs n 0) ≡ false → EndsNumber (drop n bs)
@@ -38,7 +38,7 @@ digits-of : (bs : List ℕ) → is_numeral bs ≡ true → list_all is_digit bs 
 digits-of [] h = cc
 digits-of (b ∷ bs) h = (and-parts (list_all is_digit (b ∷ bs)) _ h).0
 
-numeral-digits : (n : ℕ) → list_all is_digit (numeral n) ≡ true
+pub numeral-digits : (n : ℕ) → list_all is_digit (numeral n) ≡ true
 numeral-digits n = digits-of (numeral n) (is_numeral-numeral n).0
 
 -- a number in front is found with what stands behind it

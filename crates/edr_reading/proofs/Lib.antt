@@ -9,3 +9,6 @@ pub mod ToldLemmas
 pub mod WalkLemmas
 pub mod FieldLemmas
 pub mod FoundLemmas
+pub mod RunLemmas
+pub mod LastLemmas
+pub mod ReadingLemmas

@@ -6,3 +6,4 @@ pub mod Rows
 pub mod Told
 pub mod Run
 pub mod Found
+pub mod Reading

@@ -1,23 +1,18 @@
 -- The rows of the cycles of a run, and those that follow them.
-use Rattle.std.specs.Prelude.{◌≢◌, ℕ, ◌≤◌, ⊤, List, [], ◌∷◌, All}
+use Rattle.std.specs.Prelude.{◌≡◌, ◌≢◌, ℕ, ⊤, List, [], ◌∷◌, All, map, decimal, slice_index_or}
 use Rattle.csv.specs.Reading.{AreRecords, default_config, strip_bom}
 use Rattle.csv.specs.declared.parser.State.TheVariants as st
 use Rattle.edr_image.specs.declared.Ack.{Ack}
 use Rattle.edr_image.specs.Reports.{Report, StartStopped, Ran}
-use Rattle.edr_report.specs.Report.{ack_line}
+use Rattle.edr_report.specs.Report.{ack_line, run_lines}
 use Rattle.edr_reading.specs.declared.told.CycleRow.{CycleRow}
+use Rattle.edr_reading.specs.declared.told.CycleRow.TheVariants as row
 use Rattle.edr_reading.specs.Rows.{line_fields}
-use Rattle.edr_reading.specs.Told.{IsAck, cycle_line}
-use Rattle.edr_reading.specs.Values.{IsStop}
+use Rattle.edr_reading.specs.Told.{IsAck, IsCycleRow, cycle_line}
 
 -- these are all the records that csv gives of the bytes
 abbrev pub RecordsOf : List ℕ → List (List (List ℕ)) → Type 0
 RecordsOf bytes records = AreRecords default_config st.StartRecord (strip_bom bytes) records
-
--- the bounds of what is told of a cycle
-abbrev pub IsReport : Report → Type 0
-IsReport (StartStopped j) = (1 ≤ j) × (j ≤ 6)
-IsReport (Ran n stop log) = (1 ≤ n) × (n ≤ 4_294_967_295) × IsStop stop × All IsAck log
 
 -- the first of the rows, if there is one, is that of no such value
 abbrev pub Others : {A : Type 0} → (A → Type 0) → (A → List (List ℕ)) → List (List (List ℕ)) → Type 0
@@ -31,3 +26,25 @@ ack_fields i a = line_fields (ack_line i a)
 -- the first row of the cycle in place i
 abbrev pub cycle_fields : ℕ → CycleRow → List (List ℕ)
 cycle_fields i c = line_fields (cycle_line i c)
+
+-- what the first row of a cycle tells, and its acknowledged commands
+abbrev pub row_of : Report → CycleRow
+row_of (StartStopped j) = row.StartStopped j
+row_of (Ran n stop log) = row.Ran n stop
+
+abbrev pub acks_of : Report → List Ack
+acks_of (StartStopped j) = []
+acks_of (Ran n stop log) = log
+
+-- the bounds of what is told of a cycle
+abbrev pub IsReport : Report → Type 0
+IsReport r = IsCycleRow (row_of r) × All IsAck (acks_of r)
+
+-- the rows of cycles, the first of which is in this place
+abbrev pub run_fields : ℕ → List Report → List (List (List ℕ))
+run_fields place reports = map line_fields (run_lines place reports)
+
+-- the first of the rows, if there is one, isn't of block 0 or has a name that begins with another byte than `c`
+abbrev pub BehindRun : List (List (List ℕ)) → Type 0
+BehindRun [] = ⊤
+BehindRun (r ∷ rows) = slice_index_or r 0 [] ≡ decimal 0 → slice_index_or (slice_index_or r 1 []) 0 0 ≢ 99

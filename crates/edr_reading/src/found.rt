@@ -1,31 +1,25 @@
 //! What was found in the banks, read back from its rows.
 
-ghost use Rattle.std.specs.Prelude.{◌≡◌, ◌≤◌, ◌<◌, ◌^◌, ◌+◌, ◌*◌, ◌++◌, ℕ, [], List, All, IfOk, OnOk, IfErr, IfSome, MatchOption, length, map, drop, take};
+ghost use Rattle.std.specs.Prelude.{◌≡◌, ◌≤◌, ◌+◌, ◌*◌, ◌∷◌, ◌++◌, ℕ, [], List, All, eqb, false, IfOk, OnOk, IfErr, IfSome, IsSome, MatchOption, length, map, drop};
 ghost use Rattle.std.specs.Bool.{MatchBool};
+ghost use Rattle.std.specs.List.{AllByRecursion};
 ghost use Rattle.edr_image.specs.Banks.{found_event};
 ghost use Rattle.edr_report.specs.Report.{event_lines};
 ghost use Rattle.edr_reading.specs.Values.{IsBank};
-ghost use Rattle.edr_reading.specs.Found.{IsEvent, events_fields, BeginsTold};
+ghost use Rattle.edr_reading.specs.Found.{IsEvent, IsDamaged, events_fields, damaged_fields, count_fields, last_rows, BeginsTold};
 ghost use Rattle.edr_reading.specs.Rows.{fields, line_fields};
-ghost use Rattle.edr_reading.specs.Run.{Others};
+ghost use Rattle.edr_reading.specs.Reading.{AreDistinct};
 
 use crate::event::{EVENT_ROWS, read_event};
+use crate::reading::ReportRefused;
 use crate::rows::Row;
-use crate::told::is_told;
+use crate::told::{is_told, read_count, read_damaged};
 use edr_image::{BankView, Found};
 use edr_record::Record;
-use std::alloc::AllocError as OutOfMemory;
+use std::alloc::Global;
 
 // The most banks that an image has.
 const MOST_BANKS: u32 = 16;
-
-/// Why rows are not read.
-#[derive(Clone, Copy, Debug, PartialEq, Eq)]
-pub(crate) enum Misread {
-    /// So many rows are left from where they are none.
-    Left { rows: usize },
-    OutOfMemory,
-}
 
 // The rows begin with one that isn't of block 0.
 fn begins_event(rows: &[Row<'_>]) -> bool
@@ -57,21 +51,21 @@ pub(crate) fn take_events(
     rows: &[Row<'_>],
     block: u32,
     found: &mut Vec<Found>,
-) -> Result<(), Misread>
+) -> Result<(), ReportRefused>
     requires { 1 ≤ block }
     ensures read { OnOk result ((es : List (ℕ × Record)) × (found.new.items ≡ found.old.items ++ map found_event es) × All (λ e. IsBank e.0) es
-        × (map fields rows.now ≡ events_fields block es ++ map fields (drop (28 * length es) rows.now))) }
+        × (map fields rows.now ≡ events_fields block es ++ map fields (drop (28 * length es) rows.now)) × (28 * length es ≤ length rows.now)) }
     ensures whole { OnOk result ((es : List (ℕ × Record)) (more : List (List (List ℕ))) → All IsEvent es → length es + block ≤ 17 → BeginsTold more
         → map fields rows.now ≡ events_fields block es ++ more
         → (map (λ f. f.bank) found.new.items ≡ map (λ f. f.bank) found.old.items ++ map (λ e. e.0) es) × (map fields (drop (28 * length es) rows.now) ≡ more)) }
     ensures refused { IfErr result (λ e. (es : List (ℕ × Record)) (more : List (List (List ℕ))) → All IsEvent es → length es + block ≤ 17 → BeginsTold more
-        → map fields rows.now ≡ events_fields block es ++ more → e ≡ Misread.OutOfMemory) }
+        → map fields rows.now ≡ events_fields block es ++ more → e ≡ ReportRefused.OutOfMemory) }
 {
     if !begins_event(rows) {
         return Ok(());
     }
     if block > MOST_BANKS {
-        return Err(Misread::Left { rows: rows.len() });
+        return Err(ReportRefused::NoReport);
     }
     match first_event(rows, block) {
         Some((bank, record)) => {
@@ -79,9 +73,101 @@ pub(crate) fn take_events(
             let view = BankView::Event(Record { pre, locked, crash });
             match found.push(Found { bank, view }) {
                 Ok(()) => take_events(rows.split_at(EVENT_ROWS).1, block + 1, found),
-                Err(_) => Err(Misread::OutOfMemory),
+                Err(_) => Err(ReportRefused::OutOfMemory),
             }
         }
-        None => Err(Misread::Left { rows: rows.len() }),
+        None => Err(ReportRefused::NoReport),
+    }
+}
+
+// The damaged bank of which the first row tells, and the rows behind it, if it does.
+fn first_damaged<'r, 'a>(rows: &'r [Row<'a>]) -> Option<(Found, &'r [Row<'a>])>
+    ensures read { IfSome result (λ p. IsDamaged p.0 × (map fields rows.now ≡ damaged_fields p.0 ∷ map fields p.1.now)) }
+    ensures whole { (f : Found) (more : List (List (List ℕ))) → IsDamaged f → map fields rows.now ≡ damaged_fields f ∷ more
+        → MatchOption result ⊥ (λ p. (p.0 ≡ f) × (map fields p.1.now ≡ more)) }
+{
+    let (row, rest) = rows.split_first()?;
+    let damaged = read_damaged(row)?;
+    Some((damaged, rest))
+}
+
+// The count of ignition cycles that this one row shows.
+fn last_count(rows: &[Row<'_>]) -> Option<u32>
+    ensures read { IfSome result (λ n. map fields rows.now ≡ count_fields n ∷ []) }
+    ensures whole { (n : ℕ) → map fields rows.now ≡ count_fields n ∷ [] → IsSome result }
+{
+    let (row, rest) = rows.split_first()?;
+    if rest.is_empty() {
+        read_count(row)
+    } else {
+        None
+    }
+}
+
+// Adds the damaged banks of which the rows tell, `most` at most, and answers the count that the last row shows.
+fn take_damaged(rows: &[Row<'_>], most: u32, found: &mut Vec<Found>) -> Result<u32, ReportRefused>
+    ensures read { OnOk result ((n : ℕ) × (result ≡ Ok n) × (ds : List Found) × (found.new.items ≡ found.old.items ++ ds) × All IsDamaged ds × (map fields rows.now ≡ last_rows ds n)) }
+    ensures whole { OnOk result ((ds : List Found) (n : ℕ) → All IsDamaged ds → length ds ≤ most → map fields rows.now ≡ last_rows ds n → found.new.items ≡ found.old.items ++ ds) }
+    ensures refused { IfErr result (λ e. (ds : List Found) (n : ℕ) → All IsDamaged ds → length ds ≤ most → map fields rows.now ≡ last_rows ds n → e ≡ ReportRefused.OutOfMemory) }
+{
+    match first_damaged(rows) {
+        Some((damaged, rest)) => {
+            if most == 0 {
+                return Err(ReportRefused::NoReport);
+            }
+            match found.push(damaged) {
+                Ok(()) => take_damaged(rest, most - 1, found),
+                Err(_) => Err(ReportRefused::OutOfMemory),
+            }
+        }
+        None => match last_count(rows) {
+            Some(count) => Ok(count),
+            None => Err(ReportRefused::NoReport),
+        },
+    }
+}
+
+// This bank was found.
+fn is_among(found: &[Found], bank: u8) -> bool
+    ensures { MatchBool result (AllByRecursion (λ b. eqb bank b ≡ false) (map (λ f. f.bank) found.now) → ⊥)
+        (AllByRecursion (λ b. eqb bank b ≡ false) (map (λ f. f.bank) found.now)) }
+{
+    match found.split_first() {
+        Some((first, rest)) => first.bank == bank || is_among(rest, bank),
+        None => false,
+    }
+}
+
+// No bank was found twice.
+fn are_distinct(found: &[Found]) -> bool
+    ensures { MatchBool result (AreDistinct found.now) (AreDistinct found.now → ⊥) }
+{
+    match found.split_first() {
+        Some((first, rest)) => {
+            if is_among(rest, first.bank) {
+                return false;
+            }
+            are_distinct(rest)
+        }
+        None => true,
+    }
+}
+
+/// What was found in the banks, each in another one, and the count of ignition cycles, by the rows behind a run.
+pub(crate) fn found_of(alloc: Global, rows: &[Row<'_>]) -> Result<(Vec<Found>, u32), ReportRefused>
+    ensures read { IfOk result (λ p. (es : List (ℕ × Record)) × (ds : List Found) × (p.0.items ≡ map found_event es ++ ds) × All (λ e. IsBank e.0) es × All IsDamaged ds
+        × (map fields rows.now ≡ events_fields 1 es ++ last_rows ds p.1)) }
+    ensures distinct { IfOk result (λ p. AreDistinct p.0.items) }
+    ensures refused { IfErr result (λ e. (es : List (ℕ × Record)) (ds : List Found) (n : ℕ) → All IsEvent es → All IsDamaged ds → AreDistinct (map found_event es ++ ds)
+        → map fields rows.now ≡ events_fields 1 es ++ last_rows ds n → e ≡ ReportRefused.OutOfMemory) }
+{
+    let mut found = Vec::new(alloc);
+    take_events(rows, 1, &mut found)?;
+    let rest = rows.split_at(EVENT_ROWS * found.len()).1;
+    let count = take_damaged(rest, MOST_BANKS, &mut found)?;
+    if are_distinct(&found) {
+        Ok((found, count))
+    } else {
+        Err(ReportRefused::NoReport)
     }
 }

@@ -7,9 +7,12 @@ mod found;
 mod front;
 mod parts;
 mod pre;
+mod reading;
 mod records;
 mod rows;
 mod run;
 mod slots;
 mod told;
 mod values;
+
+pub use reading::{Reading, ReportRefused, read};

@@ -1,13 +1,14 @@
 //! The cycles of a run, read back from the first rows of block 0.
 
-ghost use Rattle.std.specs.Prelude.{◌≡◌, ◌≤◌, ◌<◌, ◌^◌, ◌++◌, ℕ, List, All, IfOk, length, map, drop, take};
+ghost use Rattle.std.specs.Prelude.{◌≡◌, ◌≤◌, ◌<◌, ◌^◌, ◌+◌, ◌∷◌, ◌++◌, ℕ, List, All, IfOk, IfSome, MatchOption, length, map, drop, take};
+ghost use Rattle.edr_image.specs.Reports.{Report, report_of};
 ghost use Rattle.edr_reading.specs.Rows.{fields};
-ghost use Rattle.edr_reading.specs.Run.{Others, ack_fields};
-ghost use Rattle.edr_reading.specs.Told.{IsAck};
+ghost use Rattle.edr_reading.specs.Run.{Others, ack_fields, cycle_fields, run_fields, row_of, acks_of, IsReport, BehindRun};
+ghost use Rattle.edr_reading.specs.Told.{IsAck, IsCycleRow};
 
 use crate::rows::Row;
-use crate::told::read_ack;
-use edr_image::{Ack, Log};
+use crate::told::{CycleRow, read_ack, read_cycle};
+use edr_image::{Ack, CycleReport, Log};
 use std::alloc::{AllocError as OutOfMemory, Global};
 
 /// The acknowledged commands of the cycle in this place of which the first rows tell.
@@ -38,4 +39,69 @@ fn log_of(alloc: Global, acks: &[Ack]) -> Result<Log, OutOfMemory>
         log.push(*ack);
     }
     Ok(log)
+}
+
+// What the first row tells of the cycle in this place, and the rows behind it, if it does.
+fn first_cycle<'r, 'a>(rows: &'r [Row<'a>], place: u32) -> Option<(CycleRow, &'r [Row<'a>])>
+    ensures read { IfSome result (λ p. IsCycleRow p.0 × (length p.1.now + 1 ≡ length rows.now) × (map fields rows.now ≡ cycle_fields place p.0 ∷ map fields p.1.now)) }
+    ensures behind { IfSome result (λ p. p.1.now ≡ drop 1 rows.now) }
+    ensures whole { (c : CycleRow) (more : List (List (List ℕ))) → IsCycleRow c → map fields rows.now ≡ cycle_fields place c ∷ more
+        → MatchOption result ⊥ (λ p. (p.0 ≡ c) × (map fields p.1.now ≡ more)) }
+{
+    let (row, rest) = rows.split_first()?;
+    let cycle = read_cycle(row, place)?;
+    Some((cycle, rest))
+}
+
+// The cycle of which this first row tells and the rows behind it, and how many of these do.
+fn cycle_of(
+    alloc: Global,
+    first: CycleRow,
+    rows: &[Row<'_>],
+    place: u32,
+) -> Result<(CycleReport, usize), OutOfMemory>
+    requires { length rows.now < 2 ^ 32 }
+    ensures within { IfOk result (λ p. p.1 ≤ length rows.now) }
+    ensures first { IfOk result (λ p. row_of (report_of p.0) ≡ first) }
+    ensures bounds { IfOk result (λ p. All IsAck (acks_of (report_of p.0))) }
+    ensures read { IfOk result (λ p. map fields rows.now ≡ map (ack_fields place) (acks_of (report_of p.0)) ++ map fields (drop p.1 rows.now)) }
+    ensures whole { IfOk result (λ p. (r : Report) (more : List (List (List ℕ))) → row_of r ≡ first → All IsAck (acks_of r) → Others IsAck (ack_fields place) more
+        → map fields rows.now ≡ map (ack_fields place) (acks_of r) ++ more → map fields (drop p.1 rows.now) ≡ more) }
+{
+    match first {
+        CycleRow::StartStopped { call } => Ok((CycleReport::StartStopped { call }, 0)),
+        CycleRow::Ran { number, stopped } => {
+            let acks = take_acks(alloc, rows, place)?;
+            let log = log_of(alloc, &acks)?;
+            let cycle = CycleReport::Ran {
+                number,
+                stopped,
+                log,
+            };
+            Ok((cycle, acks.len()))
+        }
+    }
+}
+
+/// The cycles of which the first rows tell, and the rows that are left.
+pub(crate) fn take_run<'r, 'a>(
+    alloc: Global,
+    rows: &'r [Row<'a>],
+) -> Result<(Vec<CycleReport>, &'r [Row<'a>]), OutOfMemory>
+    requires { length rows.now + 1 < 2 ^ 32 }
+    ensures bounds { IfOk result (λ p. All IsReport (map report_of p.0.items)) }
+    ensures read { IfOk result (λ p. map fields rows.now ≡ run_fields 1 (map report_of p.0.items) ++ map fields p.1.now) }
+    ensures whole { IfOk result (λ p. (reports : List Report) (more : List (List (List ℕ))) → All IsReport reports → BehindRun more
+        → map fields rows.now ≡ run_fields 1 reports ++ more → map fields p.1.now ≡ more) }
+{
+    let mut run = Vec::new(alloc);
+    let mut at = 0;
+    let mut place = 1;
+    while let Some((first, behind)) = first_cycle(rows.split_at(at).1, place) {
+        let (cycle, taken) = cycle_of(alloc, first, behind, place)?;
+        run.push(cycle)?;
+        at += 1 + taken;
+        place += 1;
+    }
+    Ok((run, rows.split_at(at).1))
 }

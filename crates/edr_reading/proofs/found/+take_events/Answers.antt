@@ -20,7 +20,7 @@ returns-in-None-clause-refused n c es more are few told is =
 pub returns-in-Ok-clause-read : goal.returns-in-Ok-clause-read
 returns-in-Ok-clause-read n c =
     let read = c.in-Some.ensures.read in
-    on_ok_weaker c.take_events.result (read-events c.args.block c.args.rows.now c.split_at.result.1.now c.args.found.now.items _ c.take_events.new.found.items (c.in-Some.bank, c.in-Some.record) c.split_at.ensures.back c.in-Ok.ensures.items read.0 read.2) c.take_events.ensures.read
+    on_ok_weaker c.take_events.result (read-events c.args.block c.args.rows.now c.split_at.result.1.now c.args.found.now.items _ c.take_events.new.found.items (c.in-Some.bank, c.in-Some.record) c.split_at.ensures.back c.split_at.ensures.back_len c.in-Ok.ensures.items read.0 read.2) c.take_events.ensures.read
 
 pub returns-in-Ok-clause-whole : goal.returns-in-Ok-clause-whole
 returns-in-Ok-clause-whole n c =

@@ -1,0 +1,101 @@
+//! A report's table, read back.
+
+ghost use Rattle.std.specs.Prelude.{◌≡◌, ◌≢◌, ◌+◌, ◌∷◌, ℕ, List, All, IfOk, IfErr, IfSome, MatchOption, length, map};
+ghost use Rattle.std.specs.Bool.{MatchBool};
+ghost use Rattle.edr_image.specs.Reports.{Report, report_of};
+ghost use Rattle.edr_reading.specs.Rows.{fields};
+ghost use Rattle.edr_reading.specs.Run.{RecordsOf, IsReport};
+ghost use Rattle.edr_reading.specs.Reading.{AreDistinct, IsReading, head_row, report_rows};
+
+use crate::found::found_of;
+use crate::front::is_word;
+use crate::records::{records, rows_of};
+use crate::rows::Row;
+use crate::run::take_run;
+use edr_image::{CycleReport, Found};
+use std::alloc::Global;
+
+// A report has no more rows.
+const MOST_ROWS: usize = 4_294_967_294;
+
+/// What a report tells.
+#[derive(Drop)]
+pub struct Reading {
+    /// The cycles of the run, the first one first.
+    pub run: Vec<CycleReport>,
+    /// The events and then the damaged banks, each by the number of its bank.
+    pub found: Vec<Found>,
+    /// The count of ignition cycles, up to 60000.
+    pub count: u32,
+}
+
+/// Why a text is not read.
+#[derive(Clone, Copy, Debug, PartialEq, Eq)]
+pub enum ReportRefused {
+    /// It is no report.
+    NoReport,
+    OutOfMemory,
+}
+
+// The row names the columns.
+fn is_head(row: &Row<'_>) -> bool
+    ensures { MatchBool result (fields row.now ≡ head_row) (fields row.now ≢ head_row) }
+{
+    is_word(row.block, b"block") && is_word(row.name, b"name") && is_word(row.value, b"value")
+}
+
+// The rows behind the one that names the columns, if that is the first.
+fn behind_head<'r, 'a>(rows: &'r [Row<'a>]) -> Option<&'r [Row<'a>]>
+    ensures read { IfSome result (λ rest. (length rest.now + 1 ≡ length rows.now) × (map fields rows.now ≡ head_row ∷ map fields rest.now)) }
+    ensures whole { (more : List (List (List ℕ))) → map fields rows.now ≡ head_row ∷ more → MatchOption result ⊥ (λ rest. map fields rest.now ≡ more) }
+{
+    let (row, rest) = rows.split_first()?;
+    if is_head(row) { Some(rest) } else { None }
+}
+
+// What the rows of a report tell.
+fn reading_of(alloc: Global, rows: &[Row<'_>]) -> Result<Reading, ReportRefused>
+    ensures read { IfOk result (λ r. map fields rows.now ≡ report_rows (map report_of r.run.items) r.found.items r.count) }
+    ensures bounds { IfOk result (λ r. All IsReport (map report_of r.run.items)) }
+    ensures distinct { IfOk result (λ r. AreDistinct r.found.items) }
+    ensures refused { IfErr result (λ e. (reports : List Report) (found : List Found) (n : ℕ) → IsReading reports found n
+        → map fields rows.now ≡ report_rows reports found n → e ≡ ReportRefused.OutOfMemory) }
+{
+    if rows.len() > MOST_ROWS {
+        return Err(ReportRefused::NoReport);
+    }
+    let Some(rest) = behind_head(rows) else {
+        return Err(ReportRefused::NoReport);
+    };
+    let Ok((run, rest)) = take_run(alloc, rest) else {
+        return Err(ReportRefused::OutOfMemory);
+    };
+    let (found, count) = found_of(alloc, rest)?;
+    Ok(Reading { run, found, count })
+}
+
+/// Reads the table of a report back. What is read has exactly the rows that the text has: the cycles, each event with all
+/// its elements, the damaged banks and the count. A text is refused as no report only where it has the rows of none: a
+/// bank told twice, a row left out or one too many, a value that can't be. What a report shows and doesn't tell exactly is
+/// read as its plainest value: 60000 for a greater count, and the time between two events in tenths of a second.
+///
+/// # Errors
+/// `NoReport` where the text is none, `OutOfMemory` where memory runs out before that is known.
+pub fn read(alloc: Global, bytes: &[u8]) -> Result<Reading, ReportRefused>
+    ensures read { IfOk result (λ r. RecordsOf bytes.now (report_rows (map report_of r.run.items) r.found.items r.count)) }
+    ensures bounds { IfOk result (λ r. All IsReport (map report_of r.run.items)) }
+    ensures distinct { IfOk result (λ r. AreDistinct r.found.items) }
+    ensures refused { IfErr result (λ e. (reports : List Report) (found : List Found) (n : ℕ) → IsReading reports found n
+        → RecordsOf bytes.now (report_rows reports found n) → e ≡ ReportRefused.OutOfMemory) }
+{
+    let Ok(records) = records(alloc, bytes) else {
+        return Err(ReportRefused::OutOfMemory);
+    };
+    let Ok(rows) = rows_of(alloc, &records) else {
+        return Err(ReportRefused::OutOfMemory);
+    };
+    if rows.len() < records.len() {
+        return Err(ReportRefused::NoReport);
+    }
+    reading_of(alloc, &rows)
+}
