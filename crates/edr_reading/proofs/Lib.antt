@@ -12,3 +12,4 @@ pub mod FoundLemmas
 pub mod RunLemmas
 pub mod LastLemmas
 pub mod ReadingLemmas
+pub mod TableLemmas

@@ -5,6 +5,7 @@ mod crash;
 mod event;
 mod found;
 mod front;
+pub mod laws;
 mod parts;
 mod pre;
 mod reading;
