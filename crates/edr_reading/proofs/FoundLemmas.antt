@@ -7,7 +7,6 @@ use Rattle.std.proofs.lemmas.List.Elements.{All-cons}
 use Rattle.std.specs.Result.{IfErr}
 use Rattle.edr_image.specs.declared.Found.{Found}
 use Rattle.edr_image.specs.Banks.{found_event}
-use Rattle.edr_reading.specs.Values.{IsBank}
 use Rattle.edr_record.specs.declared.Record.{Record}
 use Rattle.edr_text.specs.Numbers.{natural_in}
 use Rattle.edr_text.proofs.SpellingLemmas.{decimal-numeral, natural_in-numeral}
@@ -17,7 +16,7 @@ use Rattle.edr_record.specs.Complete.{is_complete}
 use Rattle.edr_reading.specs.Parts.{IsRecord}
 use Rattle.edr_reading.specs.declared.rows.Row.{Row}
 use Rattle.edr_reading.specs.Rows.{fields, line_fields}
-use Rattle.edr_reading.specs.Found.{events_fields, BeginsTold}
+use Rattle.edr_reading.specs.Found.{IsEvent, events_fields, BeginsTold}
 use Rattle.edr_reading.proofs.EventLemmas.{event-fields, pre-long, crash-rows-long, head_fields, last_fields}
 
 -- a number has one spelling
@@ -99,13 +98,13 @@ banks-more old items new f e left es is same parts told =
     told ∙ ap (λ (x : List Found). map (λ g. g.bank) x ++ map (λ g. g.0) left) is ∙ ap (λ (x : List ℕ). x ++ map (λ g. g.0) left) (map-append (λ (g : Found). g.bank) old (f ∷ []))
     ∙ append_assoc (map (λ g. g.bank) old) (f.bank ∷ []) (map (λ g. g.0) left) ∙ ap (λ (b : ℕ). map (λ g. g.bank) old ++ b ∷ map (λ g. g.0) left) same ∙ ap (λ (x : List (ℕ × Record)). map (λ g. g.bank) old ++ map (λ g. g.0) x) (sym parts)
 
-pub read-events : (k : ℕ) (rows rest : List Row) (old items new : List Found) (e : ℕ × Record) → rest ≡ drop 28 rows → length rest + 28 ≡ length rows → items ≡ old ++ found_event e ∷ [] → IsBank e.0 → map fields rows ≡ map line_fields (event_lines k e.0 e.1) ++ map fields (drop 28 rows)
-    → (es : List (ℕ × Record)) × (new ≡ items ++ map found_event es) × All (λ e. IsBank e.0) es × (map fields rest ≡ events_fields (k + 1) es ++ map fields (drop (28 * length es) rest)) × (28 * length es ≤ length rest)
-    → (es : List (ℕ × Record)) × (new ≡ old ++ map found_event es) × All (λ e. IsBank e.0) es × (map fields rows ≡ events_fields k es ++ map fields (drop (28 * length es) rows)) × (28 * length es ≤ length rows)
+pub read-events : (k : ℕ) (rows rest : List Row) (old items new : List Found) (e : ℕ × Record) → rest ≡ drop 28 rows → length rest + 28 ≡ length rows → items ≡ old ++ found_event e ∷ [] → IsEvent e → map fields rows ≡ map line_fields (event_lines k e.0 e.1) ++ map fields (drop 28 rows)
+    → (es : List (ℕ × Record)) × (new ≡ items ++ map found_event es) × All IsEvent es × (map fields rest ≡ events_fields (k + 1) es ++ map fields (drop (28 * length es) rest)) × (28 * length es ≤ length rest)
+    → (es : List (ℕ × Record)) × (new ≡ old ++ map found_event es) × All IsEvent es × (map fields rows ≡ events_fields k es ++ map fields (drop (28 * length es) rows)) × (28 * length es ≤ length rows)
 read-events k rows rest old items new e r long i b is x = (
   e ∷ x.0,
   x.1 ∙ ap (λ (y : List Found). y ++ map found_event x.0) i ∙ append_assoc old (found_event e ∷ []) (map found_event x.0),
-  All-cons (λ e. IsBank e.0) e x.0 b x.2,
+  All-cons IsEvent e x.0 b x.2,
   is ∙ ap (λ (y : List Row). map line_fields (event_lines k e.0 e.1) ++ map fields y) (sym r) ∙ ap (λ (y : List (List (List ℕ))). map line_fields (event_lines k e.0 e.1) ++ y) x.3
       ∙ sym (first-behind k e x.0 (map fields (drop (28 * length x.0) rest))) ∙ ap (λ (y : List (List (List ℕ))). events_fields k (e ∷ x.0) ++ y) (sym (rest-more rows rest e x.0 r)),
   omega (arith, long, x.4),

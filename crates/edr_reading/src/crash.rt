@@ -92,6 +92,7 @@ fn firings(values: &[&[u8]; 8], latest: u16) -> Option<[Option<u16>; 8]>
 /// What came after time zero, if these values show it.
 pub(crate) fn read_crash(values: &CrashValues<'_>) -> Option<Crash>
     ensures read { IfSome result (λ c. ShowsCrash values.now c) }
+    ensures bounds { IfSome result IsCrash }
     ensures whole { (c : CrashPart) → IsCrash c → ShowsCrash values.now c → result ≡ Some c }
 {
     let end = time(values.end, 20, 500)? as u16;

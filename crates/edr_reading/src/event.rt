@@ -68,7 +68,7 @@ fn word_of(decision: bool) -> &'static [u8]
 /// The event of this block and its bank, if these 28 rows show it.
 pub(crate) fn read_event(rows: &[Row<'_>], block: u32) -> Option<(u8, Record)>
     requires { length rows.now ≡ 28 }
-    ensures read { IfSome result (λ p. IsBank p.0 × (map fields rows.now ≡ map line_fields (event_lines block p.0 p.1))) }
+    ensures read { IfSome result (λ p. IsBank p.0 × IsRecord p.1 × (map fields rows.now ≡ map line_fields (event_lines block p.0 p.1))) }
     ensures whole { (b : ℕ) (r : Record) → IsBank b → IsRecord r → map fields rows.now ≡ map line_fields (event_lines block b r)
         → MatchOption result ⊥ (λ p. p.0 ≡ b) }
 {

@@ -5,7 +5,6 @@ ghost use Rattle.std.specs.Bool.{MatchBool};
 ghost use Rattle.std.specs.List.{AllByRecursion};
 ghost use Rattle.edr_image.specs.Banks.{found_event};
 ghost use Rattle.edr_report.specs.Report.{event_lines};
-ghost use Rattle.edr_reading.specs.Values.{IsBank};
 ghost use Rattle.edr_reading.specs.Found.{IsEvent, IsDamaged, events_fields, damaged_fields, count_fields, last_rows, BeginsTold};
 ghost use Rattle.edr_reading.specs.Rows.{fields, line_fields};
 ghost use Rattle.edr_reading.specs.Reading.{AreDistinct};
@@ -33,7 +32,7 @@ fn begins_event(rows: &[Row<'_>]) -> bool
 
 // The event of this block that the rows begin with, and its bank.
 fn first_event(rows: &[Row<'_>], block: u32) -> Option<(u8, Record)>
-    ensures read { IfSome result (λ e. IsBank e.0 × (28 ≤ length rows.now)
+    ensures read { IfSome result (λ e. IsEvent e × (28 ≤ length rows.now)
         × (map fields rows.now ≡ map line_fields (event_lines block e.0 e.1) ++ map fields (drop 28 rows.now))) }
     ensures whole { (e : ℕ × Record) (more : List (List (List ℕ))) → IsEvent e → map fields rows.now ≡ map line_fields (event_lines block e.0 e.1) ++ more
         → MatchOption result ⊥ (λ f. (f.0 ≡ e.0) × (map fields (drop 28 rows.now) ≡ more)) }
@@ -53,7 +52,7 @@ pub(crate) fn take_events(
     found: &mut Vec<Found>,
 ) -> Result<(), ReportRefused>
     requires { 1 ≤ block }
-    ensures read { OnOk result ((es : List (ℕ × Record)) × (found.new.items ≡ found.old.items ++ map found_event es) × All (λ e. IsBank e.0) es
+    ensures read { OnOk result ((es : List (ℕ × Record)) × (found.new.items ≡ found.old.items ++ map found_event es) × All IsEvent es
         × (map fields rows.now ≡ events_fields block es ++ map fields (drop (28 * length es) rows.now)) × (28 * length es ≤ length rows.now)) }
     ensures whole { OnOk result ((es : List (ℕ × Record)) (more : List (List (List ℕ))) → All IsEvent es → length es + block ≤ 17 → BeginsTold more
         → map fields rows.now ≡ events_fields block es ++ more
@@ -155,7 +154,7 @@ fn are_distinct(found: &[Found]) -> bool
 
 /// What was found in the banks, each in another one, and the count of ignition cycles, by the rows behind a run.
 pub(crate) fn found_of(alloc: Global, rows: &[Row<'_>]) -> Result<(Vec<Found>, u32), ReportRefused>
-    ensures read { IfOk result (λ p. (es : List (ℕ × Record)) × (ds : List Found) × (p.0.items ≡ map found_event es ++ ds) × All (λ e. IsBank e.0) es × All IsDamaged ds
+    ensures read { IfOk result (λ p. (es : List (ℕ × Record)) × (ds : List Found) × (p.0.items ≡ map found_event es ++ ds) × All IsEvent es × All IsDamaged ds
         × (map fields rows.now ≡ events_fields 1 es ++ last_rows ds p.1)) }
     ensures distinct { IfOk result (λ p. AreDistinct p.0.items) }
     ensures refused { IfErr result (λ e. (es : List (ℕ × Record)) (ds : List Found) (n : ℕ) → All IsEvent es → All IsDamaged ds → AreDistinct (map found_event es ++ ds)

@@ -70,6 +70,7 @@ fn pre_values<'a>(values: &[&'a [u8]; 10]) -> PreValues<'a>
 pub(crate) fn pre_rows(rows: &[Row<'_>], block: u32) -> Option<(Pre, bool)>
     requires { length rows.now ≡ 10 }
     ensures read { IfSome result (λ q. map fields rows.now ≡ map line_fields (pre_lines block q.0 q.1)) }
+    ensures bounds { IfSome result (λ q. IsPre q.0) }
     ensures whole { (p : PrePart) (locked : Bool) → IsPre p → map fields rows.now ≡ map line_fields (pre_lines block p locked)
         → MatchOption result ⊥ (λ q. SlotsAre q.0 p × (q.1 ≡ locked)) }
 {
@@ -115,6 +116,7 @@ fn are_absent(values: &[&[u8]; 15]) -> bool
 // What came after time zero, if these values show it or none.
 fn crash_or_none(values: &[&[u8]; 15]) -> Option<Option<Crash>>
     ensures read { IfSome result (λ c. map (λ v. v.now) values.now ≡ crash_words c) }
+    ensures bounds { IfSome result (λ c. IfSome c IsCrash) }
     ensures whole { (c : Option CrashPart) → IfSome c IsCrash → map (λ v. v.now) values.now ≡ crash_words c → result ≡ Some c }
 {
     if are_absent(values) {
@@ -130,6 +132,7 @@ fn crash_or_none(values: &[&[u8]; 15]) -> Option<Option<Crash>>
 pub(crate) fn crash_rows(rows: &[Row<'_>], block: u32) -> Option<Option<Crash>>
     requires { length rows.now ≡ 15 }
     ensures read { IfSome result (λ c. map fields rows.now ≡ map line_fields (crash_lines block c)) }
+    ensures bounds { IfSome result (λ c. IfSome c IsCrash) }
     ensures whole { (c : Option CrashPart) → IfSome c IsCrash → map fields rows.now ≡ map line_fields (crash_lines block c)
         → result ≡ Some c }
 {

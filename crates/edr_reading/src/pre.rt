@@ -64,6 +64,7 @@ fn switches(bytes: &[u8]) -> Option<[Option<bool>; 11]>
 /// What stood before time zero, and whether the record is locked, if these values show them.
 pub(crate) fn read_pre(values: &PreValues<'_>) -> Option<(Pre, bool)>
     ensures read { IfSome result (λ q. ShowsPre values.now q.0 q.1) }
+    ensures bounds { IfSome result (λ q. IsPre q.0) }
     ensures whole { (p : PrePart) (locked : Bool) → IsPre p → ShowsPre values.now p locked
         → MatchOption result ⊥ (λ q. SlotsAre q.0 p × (q.1 ≡ locked)) }
 {

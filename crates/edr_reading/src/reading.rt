@@ -1,11 +1,11 @@
 //! A report's table, read back.
 
-ghost use Rattle.std.specs.Prelude.{◌≡◌, ◌≢◌, ◌+◌, ◌∷◌, ℕ, List, All, IfOk, IfErr, IfSome, MatchOption, length, map};
+ghost use Rattle.std.specs.Prelude.{◌≡◌, ◌≢◌, ◌+◌, ◌∷◌, ℕ, List, IfOk, IfErr, IfSome, MatchOption, length, map};
 ghost use Rattle.std.specs.Bool.{MatchBool};
 ghost use Rattle.edr_image.specs.Reports.{Report, report_of};
 ghost use Rattle.edr_reading.specs.Rows.{fields};
-ghost use Rattle.edr_reading.specs.Run.{RecordsOf, IsReport};
-ghost use Rattle.edr_reading.specs.Reading.{AreDistinct, IsReading, head_row, report_rows};
+ghost use Rattle.edr_reading.specs.Run.{RecordsOf};
+ghost use Rattle.edr_reading.specs.Reading.{IsReading, head_row, report_rows};
 
 use crate::found::found_of;
 use crate::front::is_word;
@@ -56,8 +56,7 @@ fn behind_head<'r, 'a>(rows: &'r [Row<'a>]) -> Option<&'r [Row<'a>]>
 // What the rows of a report tell.
 fn reading_of(alloc: Global, rows: &[Row<'_>]) -> Result<Reading, ReportRefused>
     ensures read { IfOk result (λ r. map fields rows.now ≡ report_rows (map report_of r.run.items) r.found.items r.count) }
-    ensures bounds { IfOk result (λ r. All IsReport (map report_of r.run.items)) }
-    ensures distinct { IfOk result (λ r. AreDistinct r.found.items) }
+    ensures told { IfOk result (λ r. IsReading (map report_of r.run.items) r.found.items r.count) }
     ensures refused { IfErr result (λ e. (reports : List Report) (found : List Found) (n : ℕ) → IsReading reports found n
         → map fields rows.now ≡ report_rows reports found n → e ≡ ReportRefused.OutOfMemory) }
 {
@@ -83,8 +82,7 @@ fn reading_of(alloc: Global, rows: &[Row<'_>]) -> Result<Reading, ReportRefused>
 /// `NoReport` where the text is none, `OutOfMemory` where memory runs out before that is known.
 pub fn read(alloc: Global, bytes: &[u8]) -> Result<Reading, ReportRefused>
     ensures read { IfOk result (λ r. RecordsOf bytes.now (report_rows (map report_of r.run.items) r.found.items r.count)) }
-    ensures bounds { IfOk result (λ r. All IsReport (map report_of r.run.items)) }
-    ensures distinct { IfOk result (λ r. AreDistinct r.found.items) }
+    ensures told { IfOk result (λ r. IsReading (map report_of r.run.items) r.found.items r.count) }
     ensures refused { IfErr result (λ e. (reports : List Report) (found : List Found) (n : ℕ) → IsReading reports found n
         → RecordsOf bytes.now (report_rows reports found n) → e ≡ ReportRefused.OutOfMemory) }
 {

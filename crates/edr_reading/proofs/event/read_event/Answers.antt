@@ -22,7 +22,7 @@ returns-in_err-crash-clause-whole c b r hb h is =
 pub returns-then-ends_with-clause-read : goal.returns-then-ends_with-clause-read
 returns-then-ends_with-clause-read c =
     let bank = c.in_ok-bank.ensures.read in
-    (bank.0, event-whole c.args.rows.now c.split_at.result.0.now c.split_at.result.1.now c.split_at-2.result.0.now c.split_at-2.result.1.now c.split_at-3.result.0.now c.split_at-3.result.1.now c.split_at.ensures.front c.split_at.ensures.back c.split_at-2.ensures.front c.split_at-2.ensures.back c.split_at-3.ensures.front c.split_at-3.ensures.back c.args.block c.in_ok-bank.bank (record { pre = c.in_ok-pre.pre; locked = c.in_ok-pre.locked; crash = c.in_ok-crash.crash }) bank.1 c.in_ok-pre.ensures.read c.in_ok-crash.ensures.read (c.if-ends_with.ensures ∙ ap (last_fields c.args.block) c.complete.ensures))
+    (bank.0, record { pre = c.in_ok-pre.ensures.bounds; crash = c.in_ok-crash.ensures.bounds }, event-whole c.args.rows.now c.split_at.result.0.now c.split_at.result.1.now c.split_at-2.result.0.now c.split_at-2.result.1.now c.split_at-3.result.0.now c.split_at-3.result.1.now c.split_at.ensures.front c.split_at.ensures.back c.split_at-2.ensures.front c.split_at-2.ensures.back c.split_at-3.ensures.front c.split_at-3.ensures.back c.args.block c.in_ok-bank.bank (record { pre = c.in_ok-pre.pre; locked = c.in_ok-pre.locked; crash = c.in_ok-crash.crash }) bank.1 c.in_ok-pre.ensures.read c.in_ok-crash.ensures.read (c.if-ends_with.ensures ∙ ap (last_fields c.args.block) c.complete.ensures))
 
 pub returns-then-ends_with-clause-whole : goal.returns-then-ends_with-clause-whole
 returns-then-ends_with-clause-whole c b r hb h is =

@@ -1,8 +1,10 @@
-use Rattle.std.proofs.Common.{◌∙◌, sym, ap, subst, ℕ, List, ◌∷◌, ◌++◌, map}
+use Rattle.std.proofs.Common.{arith, length, ◌∙◌, sym, ap, subst, ℕ, List, ◌∷◌, ◌++◌, map}
 use Rattle.std.proofs.lemmas.Result.{err_from_is_err_and}
 use Rattle.edr_image.specs.declared.Found.{Found}
 use Rattle.edr_image.specs.Reports.{report_of}
 use Rattle.edr_reading.specs.Found.{events_fields, last_rows}
+use Rattle.std.proofs.lemmas.List.{length-map}
+use Rattle.edr_reading.specs.Rows.{fields}
 use Rattle.edr_reading.specs.Run.{run_fields}
 use Rattle.edr_reading.specs.Reading.{AreDistinct, head_row, report_rows}
 use Rattle.edr_reading.proofs.ReadingLemmas.{report-parts, behind-run}
@@ -24,3 +26,17 @@ returns-clause-read c =
     let rs = map report_of c.in-Ok.run'.items in
     c.in-Some.ensures.read.1 ∙ ap (λ (x : List (List (List ℕ))). head_row ∷ x) (c.in-Ok.ensures.read ∙ ap (λ (x : List (List (List ℕ))). run_fields 1 rs ++ x) f.5)
     ∙ sym (ap (λ (x : List Found). report_rows rs x c.in_ok-found.count) f.2 ∙ report-parts rs f.0 f.1 c.in_ok-found.count f.4)
+
+pub returns-clause-told : goal.returns-clause-told
+returns-clause-told c =
+    let f = c.in_ok-found.ensures.read in
+    let rs = map report_of c.in-Ok.run'.items in
+    let rows = c.in-Some.ensures.read.1 ∙ ap (λ (x : List (List (List ℕ))). head_row ∷ x) (c.in-Ok.ensures.read ∙ ap (λ (x : List (List (List ℕ))). run_fields 1 rs ++ x) f.5)
+        ∙ sym (ap (λ (x : List Found). report_rows rs x c.in_ok-found.count) f.2 ∙ report-parts rs f.0 f.1 c.in_ok-found.count f.4) in
+    let long = length-map c.args.rows.now fields in
+    record {
+      run = c.in-Ok.ensures.bounds;
+      found = (f.0, f.1, f.2, f.3, f.4);
+      distinct = c.in_ok-found.ensures.distinct;
+      short = omega (arith, long, ap length rows, c.if-rows-gt-MOST_ROWS.false);
+    }
