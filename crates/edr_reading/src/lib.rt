@@ -17,3 +17,6 @@ mod told;
 mod values;
 
 pub use reading::{Reading, ReportRefused, read};
+
+#[cfg(test)]
+mod tests;

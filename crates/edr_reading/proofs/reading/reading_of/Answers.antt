@@ -32,7 +32,7 @@ returns-clause-told c =
     let f = c.in_ok-found.ensures.read in
     let rs = map report_of c.in-Ok.run'.items in
     let rows = c.in-Some.ensures.read.1 ∙ ap (λ (x : List (List (List ℕ))). head_row ∷ x) (c.in-Ok.ensures.read ∙ ap (λ (x : List (List (List ℕ))). run_fields 1 rs ++ x) f.5)
-        ∙ sym (ap (λ (x : List Found). report_rows rs x c.in_ok-found.count) f.2 ∙ report-parts rs f.0 f.1 c.in_ok-found.count f.4) in
+    ∙ sym (ap (λ (x : List Found). report_rows rs x c.in_ok-found.count) f.2 ∙ report-parts rs f.0 f.1 c.in_ok-found.count f.4) in
     let long = length-map c.args.rows.now fields in
     record {
       run = c.in-Ok.ensures.bounds;
