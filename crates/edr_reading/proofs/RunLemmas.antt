@@ -1,5 +1,5 @@
 -- The rows of the cycles of a run.
-use Rattle.std.proofs.Common.{arith, ◌≡◌, ◌≢◌, ◌∙◌, sym, ap, subst, refl, ℕ, ◌+◌, ◌<◌, ◌^◌, List, [], ◌∷◌, ◌++◌, map, length, take, drop, true, decimal, codes, append_assoc}
+use Rattle.std.proofs.Common.{arith, ◌≡◌, ◌∙◌, sym, ap, subst, refl, ℕ, ◌+◌, ◌<◌, ◌^◌, List, [], ◌∷◌, ◌++◌, map, length, take, drop, true, decimal, codes, append_assoc}
 use Rattle.std.specs.List.{All, list_all, slice_index_or}
 use Rattle.std.proofs.lemmas.List.{map-append, take-append-drop}
 use Rattle.std.proofs.lemmas.List.Elements.{All-head, All-tail}
@@ -15,7 +15,7 @@ use Rattle.edr_reading.specs.declared.told.CycleRow.{CycleRow}
 use Rattle.edr_reading.specs.declared.told.CycleRow.TheVariants as row
 use Rattle.edr_reading.specs.declared.rows.Row.{Row}
 use Rattle.edr_reading.specs.Rows.{fields, line_fields}
-use Rattle.edr_reading.specs.Told.{IsAck, IsCycleRow, cycle_line}
+use Rattle.edr_reading.specs.Told.{IsAck, IsCycleRow}
 use Rattle.edr_reading.specs.Run.{Others, ack_fields, cycle_fields, run_fields, row_of, acks_of, IsReport, BehindRun}
 use Rattle.edr_reading.proofs.FrontLemmas.{first-digit, numeral-digits}
 use Rattle.edr_reading.proofs.FoundLemmas.{drop-both}

@@ -1,8 +1,8 @@
 -- The table of lines is read as their rows.
-use Rattle.std.proofs.Common.{◌≡◌, ◌∙◌, sym, ap, subst, refl, ℕ, List, [], ◌∷◌, ◌++◌, map, flat_map, drop, codes, decimal}
+use Rattle.std.proofs.Common.{◌≡◌, sym, subst, refl, ℕ, List, [], ◌∷◌, ◌++◌, map, flat_map, drop, codes, decimal}
 use Rattle.csv.specs.Machine.{Read, next_record}
 use Rattle.csv.specs.Reading.{AreRecords, Reached, default_config, strip_bom}
-use Rattle.csv.specs.Writing.{row_text, default_writer, fields_text, is_blank}
+use Rattle.csv.specs.Writing.{fields_text, is_blank}
 use Rattle.csv.specs.declared.parser.State.TheVariants as st
 use Rattle.csv.proofs.RoundTrip.{read-write-many}
 use Rattle.edr_report.specs.Lines.{Line, table_row, table_head, table_of}

@@ -1,4 +1,4 @@
-use Rattle.std.proofs.Common.{arith, ◌≡◌, ◌∙◌, sym, ap, ℕ, ◌++◌, map, drop, length}
+use Rattle.std.proofs.Common.{arith, ◌≡◌, ◌∙◌, ap, ℕ, ◌++◌, map, drop, length}
 use Rattle.edr_reading.specs.Rows.{fields}
 use Rattle.edr_reading.specs.Run.{ack_fields}
 use Rattle.edr_reading.proofs.RunLemmas.{acks-read}

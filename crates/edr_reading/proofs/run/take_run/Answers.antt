@@ -1,4 +1,4 @@
-use Rattle.std.proofs.Common.{arith, ◌∙◌, sym, ap, subst, ◌+◌, ◌++◌, [], ◌∷◌, List, map, drop, length, length-append}
+use Rattle.std.proofs.Common.{arith, ◌∙◌, sym, ap, subst, ◌+◌, ◌++◌, [], ◌∷◌, List, map, drop, length-append}
 use Rattle.std.proofs.lemmas.List.{map-append}
 use Rattle.edr_image.specs.Reports.{report_of}
 use Rattle.edr_reading.specs.declared.rows.Row.{Row}
