@@ -9,6 +9,7 @@ mod every_call;
 mod expected;
 mod faults;
 mod formats;
+mod generated;
 mod images;
 mod orders;
 mod refusals;

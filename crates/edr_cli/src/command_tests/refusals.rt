@@ -140,7 +140,7 @@ fn quotes_blank_lines_and_a_mark_make_no_difference(rt: HostRuntime) -> Result<(
 
 #[test]
 fn other_words_are_a_fault_of_usage(rt: HostRuntime) -> Result<(), Fail> {
-    let words: [&[&str]; 17] = [
+    let words: [&[&str]; 19] = [
         &[],
         &["report", "--csv"],
         &["format", "17", "keep"],
@@ -148,6 +148,8 @@ fn other_words_are_a_fault_of_usage(rt: HostRuntime) -> Result<(), Fail> {
         &["drive", "1"],
         &["drive", "8", "csv"],
         &["generate", "1", "61"],
+        &["generate", "+1", "1"],
+        &["large", "7", "0"],
         &["Replay"],
         &["replay", "xml"],
         &["replay", "text", "csv"],
