@@ -3,6 +3,7 @@ ghost use Rattle.std.specs.Prelude.{◌<◌, ◌^◌, length};
 
 mod crashes;
 mod cuts;
+mod driven;
 mod drives;
 mod events;
 mod every_call;

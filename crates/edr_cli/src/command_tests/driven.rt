@@ -1,0 +1,241 @@
+//! Runs by threads beside the same runs on one thread; and two sensors that are served at once, since no clause refuses a drive
+//! that runs all of it on the caller's thread.
+
+use super::drives::{Drive, quiet, struck, trace_of};
+use super::{KEEP, SIZE, memory_of, new_image, words_of};
+use crate::{Status, Words, command, drive};
+use edr_device::{MemSink, MemSource};
+use edr_drive::Gate;
+use std::alloc::{AllocError, Global};
+use std::process::Abort;
+use std::sync::atomic::{AtomicU64, Ordering};
+use std::sync::{Arc, Wait};
+use std::test::Fail;
+use std::thread;
+use std::thread::Threads;
+
+// A gate that lets every item pass.
+#[derive(Drop)]
+struct Open {}
+
+impl Gate for Open {
+    fn pass(&self, _sensor: u8, _nth: u32) {}
+}
+
+// A run: its trace, the bytes of its memory, which calls of its source and which changing calls of its memory fail, and the
+// status that it is to end with.
+#[derive(Clone, Copy)]
+struct Case<'a> {
+    trace: &'a [u8],
+    image: &'a [u8; SIZE],
+    source_fails: &'a [u32],
+    memory_fails: &'a [u32],
+    status: Status,
+}
+
+// What a run comes to: its status, its text, and the bytes of its memory.
+#[derive(Drop)]
+struct Outcome {
+    status: Status,
+    text: Vec<u8>,
+    image: Vec<u8>,
+}
+
+// The words of a run in this form: by so many workers, or on one thread.
+fn words_in(alloc: Global, workers: Option<&str>, form: &str) -> Result<Words, AllocError> {
+    let mut words = Words::new(alloc);
+    match workers {
+        Some(workers) => {
+            words.push("drive")?;
+            words.push(workers)?;
+        }
+        None => words.push("replay")?,
+    }
+    words.push(form)?;
+    Ok(words)
+}
+
+// The case in this form: by so many workers, or on one thread.
+fn run_case<R: Threads + Wait + Copy + Send + Sync + 'static>(
+    rt: &R,
+    alloc: Global,
+    case: Case<'_>,
+    workers: Option<&str>,
+    form: &str,
+) -> Result<Outcome, Fail> {
+    let words = words_in(alloc, workers, form)?;
+    let fails = case.source_fails.to_vec(alloc)?;
+    let mut source = MemSource::new(case.trace.to_vec(alloc)?, 1_000, fails);
+    let mut sink = MemSink::new(alloc, 20_000, 20_000, Vec::new(alloc))?;
+    let image = case.image;
+    let mut memory = memory_of(alloc, image, case.memory_fails, 0)?;
+    let status = if workers.is_some() {
+        let gate = Arc::new(alloc, Open {})?;
+        drive(
+            rt,
+            alloc,
+            &words,
+            &mut source,
+            &mut sink,
+            &mut memory,
+            &gate,
+        )
+    } else {
+        command(alloc, &words, &mut source, &mut sink, &mut memory)
+    };
+    Ok(Outcome {
+        status,
+        text: sink.bytes().to_vec(alloc)?,
+        image: memory.image().to_vec(alloc)?,
+    })
+}
+
+// The case in this form comes by 1 worker and by 8 to what it comes to on one thread.
+fn check_driven<R: Threads + Wait + Abort + Copy + Send + Sync + 'static>(
+    rt: &R,
+    alloc: Global,
+    case: Case<'_>,
+    form: &str,
+) -> Result<(), Fail> {
+    let alone = run_case(rt, alloc, case, None, form)?;
+    assert_eq!(rt; alone.status, case.status);
+    for workers in ["1", "8"] {
+        let driven = run_case(rt, alloc, case, Some(workers), form)?;
+        assert_eq!(rt; driven.status, alone.status);
+        assert_eq!(rt; driven.text.as_slice(), alone.text.as_slice());
+        assert_eq!(rt; driven.image.as_slice(), alone.image.as_slice());
+    }
+    Ok(())
+}
+
+// A run of this trace over a new image, without faults.
+fn sound<'a>(trace: &'a [u8], image: &'a [u8; SIZE]) -> Case<'a> {
+    Case {
+        trace,
+        image,
+        source_fails: &[],
+        memory_fails: &[],
+        status: Status::Ok,
+    }
+}
+
+#[test]
+fn a_crash_by_threads_is_told_as_on_one_thread(rt: HostRuntime) -> Result<(), Fail> {
+    let alloc = rt.alloc();
+    let image = new_image(2, KEEP);
+    let trace = trace_of(alloc, &[struck(7000)])?;
+    for form in ["text", "csv"] {
+        check_driven(&rt, alloc, sound(trace.as_bytes(), &image), form)?;
+    }
+    Ok(())
+}
+
+// The first start is stopped, and the second cycle in a call of its take; the third is whole.
+#[test]
+fn stops_by_threads_are_told_as_on_one_thread(rt: HostRuntime) -> Result<(), Fail> {
+    let alloc = rt.alloc();
+    let image = new_image(2, KEEP);
+    let stopped = Drive {
+        stop: 3,
+        ..struck(7000)
+    };
+    let drives = trace_of(alloc, &[stopped, quiet(500)])?;
+    let trace = format!(in alloc; "on,2,\n{drives}")?;
+    check_driven(&rt, alloc, sound(trace.as_bytes(), &image), "text")
+}
+
+// A trace, an image, a source and a memory that are at fault.
+#[test]
+fn faults_by_threads_are_told_as_on_one_thread(rt: HostRuntime) -> Result<(), Fail> {
+    let alloc = rt.alloc();
+    let trace = trace_of(alloc, &[quiet(300), quiet(300)])?;
+    let image = new_image(2, KEEP);
+    let zeros = [0; SIZE];
+    let case = sound(trace.as_bytes(), &image);
+    let faulty = [
+        Case {
+            trace: b"on,0,\nhorn,1,2\n",
+            status: Status::Trace,
+            ..case
+        },
+        Case {
+            image: &zeros,
+            status: Status::Image,
+            ..case
+        },
+        Case {
+            source_fails: &[2],
+            status: Status::ReadFault,
+            ..case
+        },
+        Case {
+            memory_fails: &[10],
+            status: Status::StoreFault,
+            ..case
+        },
+    ];
+    for case in faulty {
+        check_driven(&rt, alloc, case, "text")?;
+    }
+    Ok(())
+}
+
+// A gate at which the first item of Along and that of Across wait for each other. It counts which of them were met.
+#[derive(Drop)]
+struct Meeting {
+    along: AtomicU64,
+    across: AtomicU64,
+    met: AtomicU64,
+}
+
+impl Meeting {
+    // Shows that one has come, and waits for the other, not for ever.
+    fn meet(&self, here: &AtomicU64, there: &AtomicU64) {
+        here.store(1, Ordering::SeqCst);
+        for _turn in 0..10_000_000u32 {
+            if there.load(Ordering::SeqCst) == 1 {
+                self.met.fetch_add(1, Ordering::SeqCst);
+                break;
+            }
+            thread::yield_now();
+        }
+    }
+}
+
+impl Gate for Meeting {
+    fn pass(&self, sensor: u8, nth: u32) {
+        match (sensor, nth) {
+            (1, 1) => self.meet(&self.along, &self.across),
+            (2, 1) => self.meet(&self.across, &self.along),
+            _ => {}
+        }
+    }
+}
+
+#[test]
+fn second_sensor_passes(rt: HostRuntime) -> Result<(), Fail> {
+    let alloc = rt.alloc();
+    let gate = Meeting {
+        along: AtomicU64::new(0),
+        across: AtomicU64::new(0),
+        met: AtomicU64::new(0),
+    };
+    let gate = Arc::new(alloc, gate)?;
+    let words = words_of(alloc, &["drive", "8"])?;
+    let trace = trace_of(alloc, &[struck(7000)])?;
+    let mut source = MemSource::new(trace.as_bytes().to_vec(alloc)?, 10_000, Vec::new(alloc));
+    let mut sink = MemSink::new(alloc, 20_000, 20_000, Vec::new(alloc))?;
+    let mut memory = memory_of(alloc, &new_image(2, KEEP), &[], 0)?;
+    let status = drive(
+        &rt,
+        alloc,
+        &words,
+        &mut source,
+        &mut sink,
+        &mut memory,
+        &gate,
+    );
+    assert_eq!(rt; status, Status::Ok);
+    assert_eq!(rt; gate.met.load(Ordering::SeqCst), 2);
+    Ok(())
+}
