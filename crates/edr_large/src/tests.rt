@@ -1,4 +1,5 @@
 use crate::{Counts, count, text};
+use edr_gen::generate_into;
 use std::test::Fail;
 
 // What a second program counts of the number 7 with 40 cycles.
@@ -32,8 +33,24 @@ fn a_cycle_has_the_counts_of_a_second_program(rt: HostRuntime) -> Result<(), Fai
 }
 
 #[test]
-fn a_large_run_has_the_counts_of_a_second_program(rt: HostRuntime) -> Result<(), Fail> {
-    assert_eq!(rt; count(rt.alloc(), 7, 40)?, LARGE);
+fn a_large_run_has_the_counts_of_a_second_program_at_each_run(rt: HostRuntime) -> Result<(), Fail> {
+    for _run in 0..2 {
+        assert_eq!(rt; count(rt.alloc(), 7, 40)?, LARGE);
+    }
+    Ok(())
+}
+
+// Each row of a trace is a line.
+#[test]
+fn rows_are_the_lines_of_the_trace(rt: HostRuntime) -> Result<(), Fail> {
+    let trace = generate_into(rt.alloc(), 7, 40)?;
+    let mut lines = 0u64;
+    for byte in trace.iter() {
+        if *byte == b'\n' {
+            lines = lines.saturating_add(1);
+        }
+    }
+    assert_eq!(rt; lines, LARGE.rows);
     Ok(())
 }
 
