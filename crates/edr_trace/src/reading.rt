@@ -63,7 +63,7 @@ impl Reading {
     pub fn take_rows(&mut self, bytes: &[u8]) -> usize
         requires { (before : List ℕ) × Given before self.old × (length before + length bytes.now < 2 ^ 32) }
         ensures within { result ≤ length bytes.now }
-        ensures left { length bytes.now ≤ result + LONGEST_ROW }
+        ensures left { length bytes.now ≤ result + 64 }
         ensures given { (before : List ℕ) → Given before self.old
             → Given (before ++ take result bytes.now) self.new }
     {
