@@ -53,21 +53,21 @@ fn a_generated_trace_replays(rt: HostRuntime) -> Result<(), Fail> {
     Ok(())
 }
 
-// What a second program counts of one cycle of the number 1 over 16 banks.
-const ONE_CYCLE: &str = "cycles: 1
-rows: 36921
-takes: 3
-locks: 1
-dones: 3
+// What a second program counts of forty cycles of the number 7 over 16 banks.
+const FORTY_CYCLES: &str = "cycles: 40
+rows: 1476812
+takes: 73
+locks: 12
+dones: 73
 not kept: 0
-retrieved: 3
-complete: 3
+retrieved: 16
+complete: 16
 ";
 
 #[test]
 fn a_large_run_is_counted_beside_the_memory(rt: HostRuntime) -> Result<(), Fail> {
     let mut memory = kept_memory(rt.alloc())?;
-    let large = run_of(&["large", "1", "1"], Status::Ok, ONE_CYCLE);
+    let large = run_of(&["large", "7", "40"], Status::Ok, FORTY_CYCLES);
     for _run in 0..2 {
         check_run(&rt, large, &mut memory)?;
     }
