@@ -1,6 +1,5 @@
 -- What a command leaves of opened banks and of time.
-use Rattle.std.specs.Prelude.{◌≡◌, ◌≢◌, ◌⊎◌, ◌+◌, ◌≤◌, ◌<◌, ℕ, true, List, fold, Option, Some, slice_get, Result, OnOk, OnErr}
-use Rattle.edr_device.specs.Faults.{last_number}
+use Rattle.std.specs.Prelude.{◌≡◌, ◌⊎◌, ◌+◌, ℕ, true, List, fold, Option, Some, slice_get}
 use Rattle.edr_record.specs.Parts.{CrashPart}
 use Rattle.edr_record.specs.declared.Record.{Record}
 use Rattle.edr_record.specs.declared.Command.{Command}
@@ -24,15 +23,6 @@ opened_after o steps = record o { store = after o.store steps; held = fold held_
 -- no command is taken any more
 abbrev pub ended_after : Opened → Opened
 ended_after o = record o { ended = true }
-
--- n writes and syncs, which may be none, end where one fails: `now` is the clock after them, and `good'` the last good moment
-pub record Spends {T E : Type 0} (n before now good good' : ℕ) (result : Result T E) : Type 0 where
-  pub later : before ≤ now
-  pub ok : OnOk result (now ≡ before + n)
-  pub last_good : OnOk result (1 ≤ n → good' ≡ now)
-  pub few : OnErr result (now ≤ before + n)
-  pub made : OnErr result (now ≢ last_number → before < now)
-  pub last : OnErr result (now ≢ last_number → ((now ≡ before + 1) × (good' ≡ good)) ⊎ (now ≡ good' + 1))
 
 -- the event at place i of the image is this one, or a Done of the bank that is held has given it its crash part
 abbrev pub IsSameOrDone : Command → Option ℕ → ℕ → Record → List BankView → Type 0

@@ -1,7 +1,8 @@
 //! Commands on the banks.
 ghost use Rattle.std.specs.Prelude.{◌≡◌, ◌+◌, ◌-◌, ◌≤◌, ◌⊎◌, [], ℕ, true, false, List, Some, length, slice_get, IfOk, IfErr, OnOk, OnErr, Ok, Err};
-ghost use Rattle.edr_device.specs.Device.{IsQuiet, StillTells};
 ghost use Rattle.edr_device.specs.Faults.{Rose};
+ghost use Rattle.edr_device.specs.Lent.{GoesOn};
+ghost use Rattle.edr_device.specs.Pieces.{Makes};
 ghost use Rattle.edr_record.specs.Parts.{CrashPart};
 ghost use Rattle.edr_record.specs.declared.Record.{Record};
 ghost use Rattle.edr_image.specs.declared.BankView.TheVariants.{Event};
@@ -9,7 +10,7 @@ ghost use Rattle.edr_image.specs.declared.Applied.TheVariants.{NotKept};
 ghost use Rattle.edr_image.specs.Calls.{all_calls};
 ghost use Rattle.edr_image.specs.Image.{View, image_size, view_of};
 ghost use Rattle.edr_gates.specs.Taken.{AreStopped, AreTaken, EachIsPassed, IsReady, MayTakeAll, PassMeanwhile};
-ghost use Rattle.edr_banks.specs.Applying.{IsOldOrDone, IsSameOrDone, Spends, ended_after, opened_after, reply_of, steps_for};
+ghost use Rattle.edr_banks.specs.Applying.{IsOldOrDone, IsSameOrDone, ended_after, opened_after, reply_of, steps_for};
 ghost use Rattle.edr_banks.specs.declared.ApplyFault.TheVariants.{StoreFault, Ended};
 
 use crate::taking::take_on;
@@ -26,9 +27,7 @@ impl Banks {
     /// later command is answered `Ended`.
     pub fn apply<N: Nvm>(&mut self, nvm: &mut N, command: &Command) -> Result<Applied, ApplyFault>
         requires { image_size self.old.store.header.banks ≤ N.extent nvm.old }
-        ensures size { N.extent nvm.new ≡ N.extent nvm.old }
-        ensures device { N.goes_on nvm.old nvm.new }
-        ensures tells { StillTells (N.content nvm.old) (N.content nvm.new) }
+        ensures lent { GoesOn N.Nvm nvm.old nvm.new }
         ensures answer { IfOk result (λ a. (self.old.ended ≡ false) × (a ≡ (reply_of self.old command.now).answer)) }
         ensures next { OnOk result (self.new ≡ opened_after self.old (steps_for self.old command.now)) }
         // Nothing is done where the table has no step, and after a fault of the device.
@@ -39,7 +38,7 @@ impl Banks {
         ensures fault { IfErr result (λ e. self.old.ended ≡ false → (e ≡ StoreFault) × Rose (N.faults nvm.old) (N.faults nvm.new)) }
         ensures spoiled { OnErr result (self.new ≡ ended_after self.old) }
         ensures later { N.faults nvm.old ≤ N.faults nvm.new }
-        ensures time { self.old.ended ≡ false → Spends (all_calls (steps_for self.old command.now))
+        ensures time { self.old.ended ≡ false → Makes (all_calls (steps_for self.old command.now))
             (N.clock nvm.old) (N.clock nvm.new) (N.last_good nvm.old) (N.last_good nvm.new) result }
         // The steps may be taken on these banks.
         ensures may { MayTakeAll self.old.store.banks (steps_for self.old command.now) }

@@ -1,7 +1,8 @@
 //! Formatting: byte 0 is put last, so no crash leaves the magic over anything but the image as it was or the new one.
 ghost use Rattle.std.specs.Prelude.{◌≡◌, ◌≢◌, ◌⊎◌, ◌+◌, ◌-◌, ◌*◌, ◌≤◌, ◌<◌, ℕ, List, Some, None, Err, length, take, slice_index, OnOk, IfErr};
-ghost use Rattle.edr_device.specs.Device.{Elapses, IsQuiet, StillTells};
-ghost use Rattle.edr_device.specs.Faults.{HasCause, Rose};
+ghost use Rattle.edr_device.specs.Device.{Elapses, IsQuiet};
+ghost use Rattle.edr_device.specs.Faults.{Rose};
+ghost use Rattle.edr_device.specs.Lent.{GoesOn, Lent};
 ghost use Rattle.edr_device.specs.Pieces.{SameBut};
 ghost use Rattle.edr_image.specs.Image.{choice_byte, image_size, new_image, not_magic};
 ghost use Rattle.edr_image.specs.Kept.{IsKept};
@@ -37,10 +38,7 @@ fn first_bytes(header: Header) -> [u8; 96]
 // Puts another byte over the first of the magic.
 fn unmark<N: Nvm>(nvm: &mut N, first: u8) -> Result<(), Failed>
     requires { 1 ≤ N.extent nvm.old }
-    ensures size { N.extent nvm.new ≡ N.extent nvm.old }
-    ensures cause { HasCause (N.faults nvm.old) (N.faults nvm.new) result }
-    ensures device { N.goes_on nvm.old nvm.new }
-    ensures tells { StillTells (N.content nvm.old) (N.content nvm.new) }
+    ensures lent { Lent N.Nvm nvm.old nvm.new result }
     ensures later { N.clock nvm.old ≤ N.clock nvm.new }
     ensures bare { OnOk result (
         (bytes : List ℕ) → IsQuiet (N.content nvm.old) (N.settled nvm.old) bytes → slice_index bytes 0 ≡ first
@@ -58,10 +56,7 @@ fn unmark<N: Nvm>(nvm: &mut N, first: u8) -> Result<(), Failed>
 fn lay_image<N: Nvm>(nvm: &mut N, header: Header) -> Result<(), Failed>
     requires few { header.banks ≤ 16 }
     requires room { image_size header.banks ≤ N.extent nvm.old }
-    ensures size { N.extent nvm.new ≡ N.extent nvm.old }
-    ensures cause { HasCause (N.faults nvm.old) (N.faults nvm.new) result }
-    ensures device { N.goes_on nvm.old nvm.new }
-    ensures tells { StillTells (N.content nvm.old) (N.content nvm.new) }
+    ensures lent { Lent N.Nvm nvm.old nvm.new result }
     ensures later { N.clock nvm.old ≤ N.clock nvm.new }
     ensures laid { OnOk result (
         (bytes : List ℕ) → IsBare (N.content nvm.old) (N.settled nvm.old) bytes
@@ -81,10 +76,7 @@ fn lay_image<N: Nvm>(nvm: &mut N, header: Header) -> Result<(), Failed>
 fn fill_image<N: Nvm>(nvm: &mut N, header: Header) -> Result<(), Failed>
     requires few { header.banks ≤ 16 }
     requires room { image_size header.banks ≤ N.extent nvm.old }
-    ensures size { N.extent nvm.new ≡ N.extent nvm.old }
-    ensures cause { HasCause (N.faults nvm.old) (N.faults nvm.new) result }
-    ensures device { N.goes_on nvm.old nvm.new }
-    ensures tells { StillTells (N.content nvm.old) (N.content nvm.new) }
+    ensures lent { Lent N.Nvm nvm.old nvm.new result }
     ensures later { N.clock nvm.old ≤ N.clock nvm.new }
     ensures filled { OnOk result (
         (bytes : List ℕ) → IsBare (N.content nvm.old) (N.settled nvm.old) bytes
@@ -101,10 +93,7 @@ fn put_image<N: Nvm>(nvm: &mut N, header: Header) -> Result<(), Failed>
     requires from { 2 ≤ header.banks }
     requires to { header.banks ≤ 16 }
     requires room { image_size header.banks ≤ N.extent nvm.old }
-    ensures size { N.extent nvm.new ≡ N.extent nvm.old }
-    ensures cause { HasCause (N.faults nvm.old) (N.faults nvm.new) result }
-    ensures device { N.goes_on nvm.old nvm.new }
-    ensures tells { StillTells (N.content nvm.old) (N.content nvm.new) }
+    ensures lent { Lent N.Nvm nvm.old nvm.new result }
     ensures later { N.clock nvm.old ≤ N.clock nvm.new }
     ensures done { OnOk result (
         (bytes : List ℕ) → IsBare (N.content nvm.old) (N.settled nvm.old) bytes
@@ -121,10 +110,7 @@ fn write_image<N: Nvm>(nvm: &mut N, first: u8, header: Header) -> Result<(), Fai
     requires from { 2 ≤ header.banks }
     requires to { header.banks ≤ 16 }
     requires room { image_size header.banks ≤ N.extent nvm.old }
-    ensures size { N.extent nvm.new ≡ N.extent nvm.old }
-    ensures cause { HasCause (N.faults nvm.old) (N.faults nvm.new) result }
-    ensures device { N.goes_on nvm.old nvm.new }
-    ensures tells { StillTells (N.content nvm.old) (N.content nvm.new) }
+    ensures lent { Lent N.Nvm nvm.old nvm.new result }
     ensures later { N.clock nvm.old ≤ N.clock nvm.new }
     ensures done { OnOk result (
         (bytes : List ℕ) → IsQuiet (N.content nvm.old) (N.settled nvm.old) bytes → slice_index bytes 0 ≡ first
@@ -151,9 +137,7 @@ impl Banks {
     pub fn format<N: Nvm>(nvm: &mut N, banks: u8, choice: Choice) -> Result<(), FormatFault>
         requires from { 2 ≤ banks }
         requires to { banks ≤ 16 }
-        ensures size { N.extent nvm.new ≡ N.extent nvm.old }
-        ensures device { N.goes_on nvm.old nvm.new }
-        ensures tells { StillTells (N.content nvm.old) (N.content nvm.new) }
+        ensures lent { GoesOn N.Nvm nvm.old nvm.new }
         ensures later { N.clock nvm.old ≤ N.clock nvm.new }
         // Each refusal with its cause.
         ensures short { N.extent nvm.old < image_size banks → result ≡ Err (Short (N.extent nvm.old) (image_size banks)) }

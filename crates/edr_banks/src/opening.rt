@@ -1,7 +1,7 @@
 //! Opening an image.
 ghost use Rattle.std.specs.Prelude.{◌≡◌, ◌⊎◌, ◌≤◌, ◌<◌, ◌+◌, ℕ, false, None, List, Some, Err, length, slice_range, IfOk, IfErr};
-ghost use Rattle.edr_device.specs.Device.{Stays};
 ghost use Rattle.edr_device.specs.Faults.{HasCause, Rose};
+ghost use Rattle.edr_device.specs.Lent.{OnlyRead};
 ghost use Rattle.edr_image.specs.declared.OpenFault.TheVariants.{OutOfMemory, Short, StoreFault};
 ghost use Rattle.edr_image.specs.Image.{bank_view, header_of, image_refusal, image_size, place_of, view_of};
 ghost use Rattle.edr_banks.specs.Opening.{IsRefusal, banks_of, refusal_by, view_when_opened};
@@ -22,13 +22,8 @@ fn read_bank<N: Nvm>(nvm: &mut N, bank: u8) -> Result<BankView, Failed>
     requires room { place_of bank + 512 ≤ N.extent nvm.old }
     ensures view { IfOk result (λ v. (bytes : List ℕ) → N.content nvm.old ≡ Some bytes
         → v ≡ bank_view (slice_range bytes (place_of bank) (place_of bank + 512))) }
-    ensures size { N.extent nvm.new ≡ N.extent nvm.old }
+    ensures read { OnlyRead N.Nvm nvm.old nvm.new }
     ensures cause { HasCause (N.faults nvm.old) (N.faults nvm.new) result }
-    ensures device { N.goes_on nvm.old nvm.new }
-    ensures stays { Stays (N.content nvm.old) (N.settled nvm.old) (N.since nvm.old)
-        (N.content nvm.new) (N.settled nvm.new) (N.since nvm.new) }
-    ensures clock { N.clock nvm.new ≡ N.clock nvm.old }
-    ensures good { N.last_good nvm.new ≡ N.last_good nvm.old }
 {
     let mut bytes = [0; 512];
     nvm.read(place_of(bank), &mut bytes)?;
@@ -43,12 +38,7 @@ fn read_banks<N: Nvm>(alloc: Global, nvm: &mut N, count: u8) -> Result<Vec<BankV
     ensures all { IfOk result (λ v. length v.items ≡ count) }
     ensures fault { IfErr result (λ e. (e ≡ OutOfMemory) ⊎ ((e ≡ StoreFault) × Rose (N.faults nvm.old) (N.faults nvm.new))) }
     ensures later { N.faults nvm.old ≤ N.faults nvm.new }
-    ensures size { N.extent nvm.new ≡ N.extent nvm.old }
-    ensures device { N.goes_on nvm.old nvm.new }
-    ensures stays { Stays (N.content nvm.old) (N.settled nvm.old) (N.since nvm.old)
-        (N.content nvm.new) (N.settled nvm.new) (N.since nvm.new) }
-    ensures clock { N.clock nvm.new ≡ N.clock nvm.old }
-    ensures good { N.last_good nvm.new ≡ N.last_good nvm.old }
+    ensures read { OnlyRead N.Nvm nvm.old nvm.new }
 {
     let Ok(mut banks) = Vec::with_capacity(alloc, count as usize) else {
         return Err(OpenFault::OutOfMemory);
@@ -97,12 +87,7 @@ impl Banks {
         ensures sizes { IfErr result (λ e. (size needed : ℕ) → e ≡ Short size needed → (size ≡ N.extent nvm.old) × (size < needed)) }
         ensures fault { IfErr result (λ e. e ≡ StoreFault → Rose (N.faults nvm.old) (N.faults nvm.new)) }
         ensures later { N.faults nvm.old ≤ N.faults nvm.new }
-        ensures size { N.extent nvm.new ≡ N.extent nvm.old }
-        ensures stays { Stays (N.content nvm.old) (N.settled nvm.old) (N.since nvm.old)
-            (N.content nvm.new) (N.settled nvm.new) (N.since nvm.new) }
-        ensures clock { N.clock nvm.new ≡ N.clock nvm.old }
-        ensures good { N.last_good nvm.new ≡ N.last_good nvm.old }
-        ensures device { N.goes_on nvm.old nvm.new }
+        ensures read { OnlyRead N.Nvm nvm.old nvm.new }
     {
         let size = nvm.size();
         if size < FIRST {

@@ -1,11 +1,7 @@
 //! A task on the device.
-ghost use Rattle.std.specs.Prelude.{◌≡◌, ◌+◌, ◌-◌, ◌≤◌, [], IsOk, OnOk, OnErr};
-ghost use Rattle.edr_device.specs.Device.{StillTells};
-ghost use Rattle.edr_device.specs.Faults.{HasCause};
-ghost use Rattle.edr_image.specs.Calls.{all_calls};
+ghost use Rattle.std.specs.Prelude.{◌≡◌, ◌≤◌, [], IsOk};
 ghost use Rattle.edr_image.specs.Image.{image_size};
-ghost use Rattle.edr_gates.specs.Taken.{AreStopped, AreTaken, EachIsPassed, PassMeanwhile};
-ghost use Rattle.edr_banks.specs.Applying.{Spends};
+ghost use Rattle.edr_gates.specs.Taken.{TakesSteps};
 ghost use Rattle.edr_banks.specs.Tasks.{IsWithin, steps_of};
 
 use crate::tasks::Task;
@@ -17,21 +13,8 @@ pub(crate) fn take_on<N: Nvm>(nvm: &mut N, task: &Task, banks: u8) -> Result<(),
     requires few { banks ≤ 16 }
     requires room { image_size banks ≤ N.extent nvm.old }
     requires within { IsWithin banks task.now }
-    ensures size { N.extent nvm.new ≡ N.extent nvm.old }
-    ensures cause { HasCause (N.faults nvm.old) (N.faults nvm.new) result }
-    ensures device { N.goes_on nvm.old nvm.new }
-    ensures tells { StillTells (N.content nvm.old) (N.content nvm.new) }
     ensures nothing { steps_of task.now ≡ [] → IsOk result × (nvm.new ≡ nvm.old) }
-    ensures time { Spends (all_calls (steps_of task.now))
-        (N.clock nvm.old) (N.clock nvm.new) (N.last_good nvm.old) (N.last_good nvm.new) result }
-    ensures taken { OnOk result (AreTaken (steps_of task.now)
-        (N.content nvm.old) (N.settled nvm.old) (N.content nvm.new) (N.settled nvm.new)) }
-    ensures stopped { OnErr result (AreStopped (steps_of task.now) (N.clock nvm.new - N.clock nvm.old)
-        (N.content nvm.old) (N.settled nvm.old) (N.content nvm.new) (N.settled nvm.new)) }
-    ensures any_moment { PassMeanwhile (steps_of task.now) (N.content nvm.old) (N.settled nvm.old)
-        (N.clock nvm.old) (N.since nvm.old) (N.since nvm.new) }
-    ensures each { EachIsPassed (steps_of task.now) (N.content nvm.old) (N.settled nvm.old)
-        (N.clock nvm.old) (N.since nvm.new) }
+    ensures steps { TakesSteps N.Nvm (steps_of task.now) nvm.old nvm.new result }
 {
     match task {
         Task::Nothing => Ok(()),

@@ -1,7 +1,7 @@
 //! The top call of a run by threads. Its promises are those of a run on one thread, and hold if it returns.
 ghost use Rattle.std.specs.Prelude.{◌≡◌, ◌≢◌, ◌≤◌, ◌⊎◌, ◌+◌, ℕ, List, Some, All, IfOk, IfErr, OnOk, length};
-ghost use Rattle.edr_device.specs.Device.{StillTells};
 ghost use Rattle.edr_device.specs.Faults.{Rose};
+ghost use Rattle.edr_device.specs.Lent.{GoesOn};
 ghost use Rattle.edr_device.specs.Told.{Told};
 ghost use Rattle.edr_device.specs.Transfer.{GivesAtMost};
 ghost use Rattle.edr_image.specs.Banks.{Store};
@@ -53,9 +53,7 @@ fn run_driven<
         (memory N.extent N.content N.settled N.faults nvm.new) out.items) }
     ensures cause { IfErr result (IsDrivenCause cycles.items (memory N.extent N.content N.settled N.faults nvm.old)
         (memory N.extent N.content N.settled N.faults nvm.new)) }
-    ensures size { N.extent nvm.new ≡ N.extent nvm.old }
-    ensures device { N.goes_on nvm.old nvm.new }
-    ensures tells { StillTells (N.content nvm.old) (N.content nvm.new) }
+    ensures lent { GoesOn N.Nvm nvm.old nvm.new }
     ensures later { N.faults nvm.old ≤ N.faults nvm.new }
     ensures past { LeavesPast (N.content nvm.old) (N.settled nvm.old) (N.content nvm.new) (N.settled nvm.new) }
 {
@@ -84,9 +82,7 @@ fn drive_source<
     requires workers { (1 ≤ workers) × (workers ≤ 8) }
     ensures takes { Told (GivesAtMost (largest_trace + 1)) (S.left source.old) (S.left source.new) }
     ensures source_later { S.faults source.old ≤ S.faults source.new }
-    ensures size { N.extent nvm.new ≡ N.extent nvm.old }
-    ensures device { N.goes_on nvm.old nvm.new }
-    ensures tells { StillTells (N.content nvm.old) (N.content nvm.new) }
+    ensures lent { GoesOn N.Nvm nvm.old nvm.new }
     ensures later { N.faults nvm.old ≤ N.faults nvm.new }
     ensures past { LeavesPast (N.content nvm.old) (N.settled nvm.old) (N.content nvm.new) (N.settled nvm.new) }
     ensures end { OnOk result (IsAtEnd (S.left source.new)) }
@@ -127,9 +123,7 @@ pub fn drive<
     // What is lent is handed back as it was lent: the same device of the same size, which tells its bytes if it did, and no count
     // of faults that falls. Of the source no more is taken than tells that it gives too much.
     ensures takes { Told (GivesAtMost (largest_trace + 1)) (S.left source.old) (S.left source.new) }
-    ensures device { N.goes_on nvm.old nvm.new }
-    ensures size { N.extent nvm.new ≡ N.extent nvm.old }
-    ensures tells { StillTells (N.content nvm.old) (N.content nvm.new) }
+    ensures lent { GoesOn N.Nvm nvm.old nvm.new }
     ensures later { (S.faults source.old ≤ S.faults source.new) × (K.faults sink.old ≤ K.faults sink.new)
         × (N.faults nvm.old ≤ N.faults nvm.new) }
 

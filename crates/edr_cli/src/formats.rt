@@ -1,7 +1,8 @@
 //! Formats the memory of the records.
 ghost use Rattle.std.specs.Prelude.{◌≡◌, ◌≤◌, ℕ, List, IfSome, IfOk, IfErr, IsOk};
-ghost use Rattle.edr_device.specs.Device.{IsQuiet, MayLeave, StillTells};
+ghost use Rattle.edr_device.specs.Device.{IsQuiet, MayLeave};
 ghost use Rattle.edr_device.specs.Faults.{Rose};
+ghost use Rattle.edr_device.specs.Lent.{GoesOn};
 ghost use Rattle.edr_image.specs.Image.{image_size};
 ghost use Rattle.edr_banks.specs.Formatting.{IsPartlyFormatted, LacksMagic};
 ghost use Rattle.edr_report.specs.Format.{format_line};
@@ -16,9 +17,7 @@ use edr_report::{Fault, ShortLine, format_line};
 pub(crate) fn make_image<N: Nvm>(nvm: &mut N, header: Header) -> Result<ShortLine, Fault>
     requires from { 2 ≤ header.banks }
     requires to { header.banks ≤ 16 }
-    ensures size { N.extent nvm.new ≡ N.extent nvm.old }
-    ensures device { N.goes_on nvm.old nvm.new }
-    ensures tells { StillTells (N.content nvm.old) (N.content nvm.new) }
+    ensures lent { GoesOn N.Nvm nvm.old nvm.new }
     ensures later { N.faults nvm.old ≤ N.faults nvm.new }
     ensures line { IfOk result (λ line. line ≡ format_line header) }
     ensures made { IfOk result (λ line. IsMade header (memory N.extent N.content N.settled N.faults nvm.old)

@@ -1,6 +1,6 @@
 //! Runs a trace over the memory of the records, and reports.
 ghost use Rattle.std.specs.Prelude.{◌≡◌, ◌+◌, ◌≤◌, All, IfOk, IfErr, OnOk};
-ghost use Rattle.edr_device.specs.Device.{StillTells};
+ghost use Rattle.edr_device.specs.Lent.{GoesOn};
 ghost use Rattle.edr_device.specs.Told.{Told};
 ghost use Rattle.edr_device.specs.Transfer.{GivesAtMost};
 ghost use Rattle.edr_spell.specs.Spell.{IsCycle, largest_trace};
@@ -42,9 +42,7 @@ pub(crate) fn replay_source<S: Source, N: Nvm>(
 ) -> Result<Vec<u8>, Fault>
     ensures takes { Told (GivesAtMost (largest_trace + 1)) (S.left source.old) (S.left source.new) }
     ensures source_later { S.faults source.old ≤ S.faults source.new }
-    ensures size { N.extent nvm.new ≡ N.extent nvm.old }
-    ensures device { N.goes_on nvm.old nvm.new }
-    ensures tells { StillTells (N.content nvm.old) (N.content nvm.new) }
+    ensures lent { GoesOn N.Nvm nvm.old nvm.new }
     ensures later { N.faults nvm.old ≤ N.faults nvm.new }
     ensures past { LeavesPast (N.content nvm.old) (N.settled nvm.old) (N.content nvm.new) (N.settled nvm.new) }
     ensures end { OnOk result (IsAtEnd (S.left source.new)) }
@@ -72,9 +70,7 @@ fn run<N: Nvm>(
         (memory N.extent N.content N.settled N.faults nvm.new) out.items) }
     ensures cause { IfErr result (IsRunCause cycles.now (memory N.extent N.content N.settled N.faults nvm.old)
         (memory N.extent N.content N.settled N.faults nvm.new)) }
-    ensures size { N.extent nvm.new ≡ N.extent nvm.old }
-    ensures device { N.goes_on nvm.old nvm.new }
-    ensures tells { StillTells (N.content nvm.old) (N.content nvm.new) }
+    ensures lent { GoesOn N.Nvm nvm.old nvm.new }
     ensures later { N.faults nvm.old ≤ N.faults nvm.new }
     ensures past { LeavesPast (N.content nvm.old) (N.settled nvm.old) (N.content nvm.new) (N.settled nvm.new) }
 {

@@ -1,7 +1,8 @@
 //! The top call.
 ghost use Rattle.std.specs.Prelude.{◌≡◌, ◌≢◌, ◌≤◌, ◌⊎◌, ◌+◌, ℕ, List, Some, None, IfSome, length};
-ghost use Rattle.edr_device.specs.Device.{IsQuiet, MayLeave, StillTells};
+ghost use Rattle.edr_device.specs.Device.{IsQuiet, MayLeave};
 ghost use Rattle.edr_device.specs.Faults.{Rose};
+ghost use Rattle.edr_device.specs.Lent.{GoesOn};
 ghost use Rattle.edr_device.specs.Told.{Told};
 ghost use Rattle.edr_device.specs.Transfer.{GivesAtMost};
 ghost use Rattle.edr_image.specs.declared.Header.{Header};
@@ -51,9 +52,7 @@ pub fn command<S: Source, K: Sink, N: Nvm>(
     // What is lent is handed back as it was lent: the same device of the same size, which tells its bytes if it did, and no count
     // of faults that falls. Of the source no more is taken than tells that it gives too much.
     ensures takes { Told (GivesAtMost (largest_trace + 1)) (S.left source.old) (S.left source.new) }
-    ensures device { N.goes_on nvm.old nvm.new }
-    ensures size { N.extent nvm.new ≡ N.extent nvm.old }
-    ensures tells { StillTells (N.content nvm.old) (N.content nvm.new) }
+    ensures lent { GoesOn N.Nvm nvm.old nvm.new }
     ensures later { (S.faults source.old ≤ S.faults source.new) × (K.faults sink.old ≤ K.faults sink.new)
         × (N.faults nvm.old ≤ N.faults nvm.new) }
 

@@ -9,6 +9,8 @@ use Rattle.std.proofs.lemmas.List.Sums.{fold-append, sum_by-append}
 use Rattle.std.proofs.Math.Seq.{take-append-add}
 use Rattle.edr_definitions.specs.Commands.{Issue}
 use Rattle.edr_device.specs.Device.{Elapses, IsQuiet, MayLeave}
+use Rattle.edr_device.specs.Pieces.{Makes}
+use Rattle.edr_device.proofs.Lending.{makes_again, makes_first, none_made}
 use Rattle.edr_device.proofs.Settling.{elapses_again, elapses_more}
 use Rattle.edr_image.specs.declared.Ack.{Ack}
 use Rattle.edr_image.specs.Calls.{all_calls, calls_of}
@@ -18,63 +20,12 @@ use Rattle.edr_image.specs.Steps.{Step, State, after, held_after, reply_to, stat
 use Rattle.edr_run.specs.Cycle.{ack_of}
 use Rattle.edr_banks.specs.Opened.{Opened, state_of}
 use Rattle.edr_banks.specs.Applying.{opened_after}
-use Rattle.edr_cycle.specs.Commits.{Commits, IsAfterFirst, IsLeftBy, IsReadyFor, StopsAt, Makes, Says, acks_from, first_steps, replies_from, steps_from}
+use Rattle.edr_cycle.specs.Commits.{Commits, IsAfterFirst, IsLeftBy, IsReadyFor, StopsAt, Says, acks_from, first_steps, replies_from, steps_from}
 use Rattle.edr_cycle.specs.Past.{KeepsPast}
 use Rattle.edr_cycle.proofs.Answered.{map_err, map_ok}
 use Rattle.edr_cycle.proofs.PastLemmas.{past_again, past_self}
 use Rattle.edr_cycle.proofs.Lists.{acks_from-append, calls-append, first_steps-first, first_steps-later, length-acks_from, length-replies_from, replies_from-append, steps_from-append}
 use Rattle.edr_run.proofs.Replies.{after-append, get_first, get_later}
-
--- ---- calls
-
-none_made : {T E : Type 0} (before good : ℕ) (x : T) → Makes {T = T} {E = E} 0 before before good good (Ok x)
-none_made before good x = record { later = omega arith; ok = omega arith; good_is = (λ some. absurd (omega arith), λ none. refl); few = tt; made = tt; last = tt }
-
--- a run of calls that failed, and would have been longer
-makes_first : {T E T' E' : Type 0} (n m before now good good' : ℕ) (e : E) (e' : E') → Makes {T = T} n before now good good' (Err e) → Makes {T = T'} (n + m) before now good good' (Err e')
-makes_first n m before now good good' e e' h = record { later = h.later; ok = tt; good_is = tt; few = let few = h.few in omega (arith, few); made = h.made; last = h.last }
-
--- one run after another
-makes_again : {T E T' E' : Type 0} (n m before mid now good good' good'' : ℕ) (x : T) (r : Result T' E') → Makes {E = E} n before mid good good' (Ok x) → Makes m mid now good' good'' r → Makes (n + m) before now good good'' r
-makes_again n m before mid now good good' good'' x (Ok y) h k =
-    let a = h.ok in
-    let b = k.ok in record {
-      later = omega (arith, a, b);
-      ok = omega (arith, a, b);
-      good_is = (
-        λ some. ⊎_elim
-            (λ (more : 0 < m). k.good_is.0 more)
-            (λ (none : m ≡ 0). k.good_is.1 none ∙ h.good_is.0 (omega (arith, some, none)) ∙ omega (arith, b, none))
-            (split m),
-        λ none. k.good_is.1 (omega (arith, none)) ∙ h.good_is.1 (omega (arith, none)),
-      );
-      few = tt;
-      made = tt;
-      last = tt;
-    }
-  where
-    split : (m : ℕ) → (0 < m) ⊎ (m ≡ 0)
-    split m = grind arith
-makes_again n m before mid now good good' good'' x (Err e) h k =
-    let a = h.ok in
-    let few = k.few in
-    let later = k.later in record {
-      later = omega (arith, a, later);
-      ok = tt;
-      good_is = tt;
-      few = omega (arith, a, few);
-      made = λ room. let made = k.made room in omega (arith, a, made);
-      last = λ room. ⊎_elim
-          (λ (one : (now ≡ mid + 1) × (good'' ≡ good')). ⊎_elim
-          (λ (some : 0 < n). let g = h.good_is.0 some in let one_is = one.0 in let same = one.1 in inr (omega (arith, g, one_is, same)))
-          (λ (none : n ≡ 0). let one_is = one.0 in inl (omega (arith, a, none, one_is), one.1 ∙ h.good_is.1 none))
-          (split n))
-          (λ (last : now ≡ good'' + 1). inr last)
-          (k.last room);
-    }
-  where
-    split : (m : ℕ) → (0 < m) ⊎ (m ≡ 0)
-    split m = grind arith
 
 -- ---- what is passed and what is cut
 

@@ -1,8 +1,8 @@
 //! A cycle that runs on one thread.
 
 ghost use Rattle.std.specs.Prelude.{◌≡◌, ◌≤◌, true};
+ghost use Rattle.edr_device.specs.Lent.{GoesOn};
 ghost use Rattle.edr_items.specs.SensorLists.{IsLevel, horizon_of};
-ghost use Rattle.edr_device.specs.Device.{StillTells};
 ghost use Rattle.edr_device.specs.Faults.{Rose};
 ghost use Rattle.edr_image.specs.Image.{image_size};
 ghost use Rattle.edr_cycle.specs.Ends.{MeetsCycle};
@@ -26,9 +26,7 @@ pub fn run_alone<N: Nvm>(started: Started, feeds: &Feeds, nvm: &mut N) -> CycleE
     requires ticks { horizon_of feeds.now ≤ started.ticks }
     requires size { image_size started.banks.store.header.banks ≤ N.extent nvm.old }
     ensures number { result.number ≡ started.number }
-    ensures size { N.extent nvm.new ≡ N.extent nvm.old }
-    ensures device { N.goes_on nvm.old nvm.new }
-    ensures tells { StillTells (N.content nvm.old) (N.content nvm.new) }
+    ensures lent { GoesOn N.Nvm nvm.old nvm.new }
     ensures later { N.faults nvm.old ≤ N.faults nvm.new }
     ensures cause { result.failed ≡ true → Rose (N.faults nvm.old) (N.faults nvm.new) }
     ensures cycle { MeetsCycle N.content N.settled N.since N.clock N.last_good

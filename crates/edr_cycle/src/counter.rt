@@ -2,10 +2,10 @@
 
 ghost use Rattle.std.specs.Prelude.{◌≡◌, ◌+◌, ◌-◌, ◌≤◌, ◌<◌, ◌^◌, if◌then◌else◌, ℕ, List, length, OnOk, OnErr};
 ghost use Rattle.byteorder.specs.Endian.{big_number};
+ghost use Rattle.edr_device.specs.Lent.{Lent};
 ghost use Rattle.edr_image.specs.Image.{View};
-ghost use Rattle.edr_device.specs.Device.{Elapses, IsQuiet, MayLeave, StillTells};
-ghost use Rattle.edr_device.specs.Faults.{HasCause};
-ghost use Rattle.edr_device.specs.Pieces.{Takes};
+ghost use Rattle.edr_device.specs.Device.{Elapses, IsQuiet, MayLeave};
+ghost use Rattle.edr_device.specs.Pieces.{Makes};
 ghost use Rattle.edr_cycle.specs.Counter.{IsCounted, IsNext, SaysWith, place_of_slot};
 ghost use Rattle.edr_cycle.specs.Ends.{IsFound};
 ghost use Rattle.edr_cycle.specs.Starts.{MakesSix};
@@ -48,11 +48,8 @@ pub(crate) fn count_up<N: Nvm>(
     next: u32,
 ) -> Result<(), Failed>
     requires { slot + 32 ≤ N.extent nvm.old }
-    ensures size { N.extent nvm.new ≡ N.extent nvm.old }
-    ensures cause { HasCause (N.faults nvm.old) (N.faults nvm.new) result }
-    ensures device { N.goes_on nvm.old nvm.new }
-    ensures time { Takes 6 (N.clock nvm.old) (N.clock nvm.new) (N.last_good nvm.old) (N.last_good nvm.new) result }
-    ensures tells { StillTells (N.content nvm.old) (N.content nvm.new) }
+    ensures lent { Lent N.Nvm nvm.old nvm.new result }
+    ensures time { Makes 6 (N.clock nvm.old) (N.clock nvm.new) (N.last_good nvm.old) (N.last_good nvm.new) result }
     ensures made { OnOk result ((bytes : List ℕ) (v : View) → IsQuiet (N.content nvm.old) (N.settled nvm.old) bytes
         → IsNext slot is_open next bytes v
         → (now : List ℕ) × IsQuiet (N.content nvm.new) (N.settled nvm.new) now × SaysWith next bytes v now) }
@@ -70,10 +67,7 @@ pub(crate) fn count_up<N: Nvm>(
 // Counts a cycle in the older slot, as the first bytes of the image tell it.
 pub(crate) fn count_cycle<N: Nvm>(nvm: &mut N, number: u32) -> Result<(), Failed>
     requires { 96 ≤ N.extent nvm.old }
-    ensures size { N.extent nvm.new ≡ N.extent nvm.old }
-    ensures cause { HasCause (N.faults nvm.old) (N.faults nvm.new) result }
-    ensures device { N.goes_on nvm.old nvm.new }
-    ensures tells { StillTells (N.content nvm.old) (N.content nvm.new) }
+    ensures lent { Lent N.Nvm nvm.old nvm.new result }
     ensures time { MakesSix (N.clock nvm.old) (N.clock nvm.new) (N.last_good nvm.new) result }
     ensures made { OnOk result ((bytes : List ℕ) (v : View) → IsFound v (N.content nvm.old) (N.settled nvm.old) bytes → v.count < number
         → (now : List ℕ) × IsQuiet (N.content nvm.new) (N.settled nvm.new) now × SaysWith number bytes v now) }

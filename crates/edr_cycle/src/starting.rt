@@ -1,8 +1,9 @@
 //! The start of a cycle, which counts it.
 
 ghost use Rattle.std.specs.Prelude.{◌≡◌, ◌↔◌, ◌+◌, ◌-◌, ◌≤◌, ◌<◌, ℕ, List, Some, Err, IfOk, IfErr};
-ghost use Rattle.edr_device.specs.Device.{Stays, StillTells};
+ghost use Rattle.edr_device.specs.Device.{Stays};
 ghost use Rattle.edr_device.specs.Faults.{Rose};
+ghost use Rattle.edr_device.specs.Lent.{GoesOn, OnlyRead};
 ghost use Rattle.edr_image.specs.declared.OpenFault.{OpenFault};
 ghost use Rattle.edr_image.specs.declared.OpenFault.TheVariants.{Short};
 ghost use Rattle.edr_image.specs.Image.{View, image_refusal, image_size, view_of};
@@ -43,11 +44,7 @@ fn prepare<N: Nvm>(alloc: Global, nvm: &mut N, ticks: u32) -> Result<Started, St
     ensures early { IfErr result IsEarly }
     ensures fault { IfErr result (λ e. IsStoreFault e → Rose (N.faults nvm.old) (N.faults nvm.new)) }
     ensures later { N.faults nvm.old ≤ N.faults nvm.new }
-    ensures size { N.extent nvm.new ≡ N.extent nvm.old }
-    ensures stays { Stays (N.content nvm.old) (N.settled nvm.old) (N.since nvm.old) (N.content nvm.new) (N.settled nvm.new) (N.since nvm.new) }
-    ensures clock { N.clock nvm.new ≡ N.clock nvm.old }
-    ensures good { N.last_good nvm.new ≡ N.last_good nvm.old }
-    ensures device { N.goes_on nvm.old nvm.new }
+    ensures read { OnlyRead N.Nvm nvm.old nvm.new }
 {
     let banks = match Banks::open(alloc, nvm) {
         Ok(banks) => banks,
@@ -93,9 +90,7 @@ pub fn start<N: Nvm>(alloc: Global, nvm: &mut N, ticks: u32) -> Result<Started, 
     // Any answer but a fault after the opening comes before the first changing call.
     ensures early { IfErr result (λ e. IsEarly e → (N.clock nvm.new ≡ N.clock nvm.old) × (N.last_good nvm.new ≡ N.last_good nvm.old) × Stays (N.content nvm.old) (N.settled nvm.old) (N.since nvm.old) (N.content nvm.new) (N.settled nvm.new) (N.since nvm.new)) }
     ensures cycle { MeetsStart N.content N.settled N.since N.clock N.last_good result nvm.old nvm.new }
-    ensures size { N.extent nvm.new ≡ N.extent nvm.old }
-    ensures tells { StillTells (N.content nvm.old) (N.content nvm.new) }
-    ensures device { N.goes_on nvm.old nvm.new }
+    ensures lent { GoesOn N.Nvm nvm.old nvm.new }
 {
     let started = prepare(alloc, nvm, ticks)?;
     match count_cycle(nvm, started.number()) {

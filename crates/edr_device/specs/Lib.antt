@@ -6,6 +6,7 @@ pub mod SourceState
 pub mod SinkState
 pub mod Transfer
 pub mod Device
+pub mod Lent
 pub mod Pieces
 pub mod Past
 pub mod Numbers

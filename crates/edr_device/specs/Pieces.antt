@@ -12,11 +12,12 @@ pub record SameBut (at n : ℕ) (bytes image : List ℕ) : Type 0 where
   pub size : length image ≡ length bytes
   pub same : (i : ℕ) → i < length bytes → is_in at n i ≡ false → slice_index image i ≡ slice_index bytes i
 
--- A run of n writes and syncs that ends where one fails. `now` is the clock after it, and `good'` the last good moment.
--- Unless the clock stands at its last value, there is one that failed, and nothing follows it.
-pub record Takes {T E : Type 0} (n before now good good' : ℕ) (result : Result T E) : Type 0 where
+-- n writes and syncs, which may be none, that end where one fails. `now` is the clock after them, and `good'` the last good moment.
+-- Unless the clock stands at its last value, some call was made, and nothing follows the one that failed.
+pub record Makes {T E : Type 0} (n before now good good' : ℕ) (result : Result T E) : Type 0 where
   pub later : before ≤ now
-  pub ok : OnOk result ((now ≡ before + n) × (good' ≡ now))
+  pub ok : OnOk result (now ≡ before + n)
+  pub good_is : OnOk result ((0 < n → good' ≡ now) × (n ≡ 0 → good' ≡ good))
   pub few : OnErr result (now ≤ before + n)
   pub made : OnErr result (now ≢ last_number → before < now)
   pub last : OnErr result (now ≢ last_number → ((now ≡ before + 1) × (good' ≡ good)) ⊎ (now ≡ good' + 1))

@@ -1,8 +1,8 @@
 //! Pieces that are settled as soon as they are written.
 ghost use Rattle.std.specs.Prelude.{◌≡◌, ◌+◌, ◌-◌, ◌≤◌, [], ◌∷◌, ℕ, List, length, OnOk, OnErr};
-ghost use Rattle.edr_device.specs.Device.{Elapses, IsQuiet, MayLeave, StillTells};
-ghost use Rattle.edr_device.specs.Faults.{HasCause};
-ghost use Rattle.edr_device.specs.Pieces.{IsGatedStop, SameBut, Takes, put_at};
+ghost use Rattle.edr_device.specs.Device.{Elapses, IsQuiet, MayLeave};
+ghost use Rattle.edr_device.specs.Lent.{Lent};
+ghost use Rattle.edr_device.specs.Pieces.{IsGatedStop, SameBut, Makes, put_at};
 
 use crate::device::Nvm;
 use crate::stream::Failed;
@@ -12,11 +12,8 @@ use crate::stream::Failed;
 pub fn write_settled<N: Nvm>(nvm: &mut N, at: u32, piece: &[u8]) -> Result<(), Failed>
     requires range { at + length piece.now ≤ N.extent nvm.old }
     requires few { (1 ≤ length piece.now) × (length piece.now ≤ 512) }
-    ensures size { N.extent nvm.new ≡ N.extent nvm.old }
-    ensures cause { HasCause (N.faults nvm.old) (N.faults nvm.new) result }
-    ensures device { N.goes_on nvm.old nvm.new }
-    ensures time { Takes 2 (N.clock nvm.old) (N.clock nvm.new) (N.last_good nvm.old) (N.last_good nvm.new) result }
-    ensures tells { StillTells (N.content nvm.old) (N.content nvm.new) }
+    ensures lent { Lent N.Nvm nvm.old nvm.new result }
+    ensures time { Makes 2 (N.clock nvm.old) (N.clock nvm.new) (N.last_good nvm.old) (N.last_good nvm.new) result }
     ensures done { OnOk result (
         (bytes : List ℕ) → IsQuiet (N.content nvm.old) (N.settled nvm.old) bytes
         → IsQuiet (N.content nvm.new) (N.settled nvm.new) (put_at at piece.now bytes)) }
@@ -48,11 +45,8 @@ pub fn write_gated<N: Nvm>(
     requires range { at + length piece.now ≤ N.extent nvm.old }
     requires few { (1 ≤ length piece.now) × (length piece.now ≤ 512) }
     requires gate { gate_at + 1 ≤ N.extent nvm.old }
-    ensures size { N.extent nvm.new ≡ N.extent nvm.old }
-    ensures cause { HasCause (N.faults nvm.old) (N.faults nvm.new) result }
-    ensures device { N.goes_on nvm.old nvm.new }
-    ensures time { Takes 4 (N.clock nvm.old) (N.clock nvm.new) (N.last_good nvm.old) (N.last_good nvm.new) result }
-    ensures tells { StillTells (N.content nvm.old) (N.content nvm.new) }
+    ensures lent { Lent N.Nvm nvm.old nvm.new result }
+    ensures time { Makes 4 (N.clock nvm.old) (N.clock nvm.new) (N.last_good nvm.old) (N.last_good nvm.new) result }
     ensures done { OnOk result (
         (bytes : List ℕ) → IsQuiet (N.content nvm.old) (N.settled nvm.old) bytes
         → IsQuiet (N.content nvm.new) (N.settled nvm.new)

@@ -4,5 +4,6 @@ pub mod BankSteps
 pub mod Views
 pub mod StepImages
 pub mod StepLists
+pub mod TakenSteps
 pub mod Writes
 pub mod PartsBack

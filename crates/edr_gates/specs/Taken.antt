@@ -1,11 +1,14 @@
 -- Steps that are taken on a device on which nothing is pending: what is there after them, and after a stop.
-use Rattle.std.specs.Prelude.{◌≡◌, ℕ, ◌-◌, ◌≤◌, ◌<◌, Bool, false, Option, Some, None, List, [], ◌∷◌, length, take, slice_get, slice_index, All, Contains}
+use Rattle.std.specs.Prelude.{◌≡◌, ℕ, ◌-◌, ◌≤◌, ◌<◌, Bool, false, Option, Some, None, List, [], ◌∷◌, length, take, slice_get, slice_index, All, Contains, Result, OnOk, OnErr}
 use Rattle.edr_record.specs.declared.Record.{Record}
 use Rattle.edr_device.specs.Device.{Elapses, IsQuiet, MayLeave, is_in}
+use Rattle.edr_device.specs.Lent.{Lent}
+use Rattle.edr_device.specs.Pieces.{Makes}
+use Rattle.edr_device.specs.declared.device.Nvm.{Ghosts}
 use Rattle.edr_image.specs.declared.BankView.{BankView}
 use Rattle.edr_image.specs.declared.BankView.TheVariants.{Void, Event}
 use Rattle.edr_image.specs.Steps.{Step, Erase, Fill, Lock, Done, after, banks_after}
-use Rattle.edr_image.specs.Calls.{stops}
+use Rattle.edr_image.specs.Calls.{all_calls, stops}
 use Rattle.edr_image.specs.Image.{View, image_after, place_of, view_of, writes_of}
 
 -- ---- which steps may be taken
@@ -96,3 +99,16 @@ abbrev pub EachIsPassed : List Step → Option (List ℕ) → (ℕ → Bool) →
 EachIsPassed steps content settled before since =
     (bytes image : List ℕ) (v : View) → IsReady steps content settled bytes v
     → since before image → IsPassed steps bytes v image
+
+-- ---- a call that takes steps
+
+-- Whatever comes of it: the device goes on, and time passes. At Ok the steps are taken; after a fault a crash leaves what a
+-- stop in the last call leaves, and a crash meanwhile some first steps.
+pub record TakesSteps {T E D : Type 0} (g : Ghosts D) (steps : List Step) (old new : D) (result : Result T E) : Type 0 where
+  pub lent : Lent g old new result
+  pub time : Makes (all_calls steps) (g.clock old) (g.clock new) (g.last_good old) (g.last_good new) result
+  pub taken : OnOk result (AreTaken steps (g.content old) (g.settled old) (g.content new) (g.settled new))
+  pub stopped : OnErr result
+      (AreStopped steps (g.clock new - g.clock old) (g.content old) (g.settled old) (g.content new) (g.settled new))
+  pub any_moment : PassMeanwhile steps (g.content old) (g.settled old) (g.clock old) (g.since old) (g.since new)
+  pub each : EachIsPassed steps (g.content old) (g.settled old) (g.clock old) (g.since new)

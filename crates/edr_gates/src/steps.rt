@@ -1,12 +1,8 @@
 //! One step on a device. The gate of a bank is one byte, so a crash leaves it open or closed.
-ghost use Rattle.std.specs.Prelude.{◌≡◌, ◌+◌, ◌-◌, ◌≤◌, [], ◌∷◌, OnOk, OnErr, ◌++◌, replicate};
-ghost use Rattle.edr_device.specs.Device.{StillTells};
-ghost use Rattle.edr_device.specs.Faults.{HasCause};
-ghost use Rattle.edr_device.specs.Pieces.{Takes};
-ghost use Rattle.edr_image.specs.Calls.{all_calls};
+ghost use Rattle.std.specs.Prelude.{◌≡◌, ◌+◌, ◌≤◌, [], ◌∷◌, ◌++◌, replicate};
 ghost use Rattle.edr_image.specs.Image.{place_of};
 ghost use Rattle.edr_image.specs.Steps.{Done, Erase, Fill, Lock};
-ghost use Rattle.edr_gates.specs.Taken.{AreStopped, AreTaken, EachIsPassed, PassMeanwhile};
+ghost use Rattle.edr_gates.specs.Taken.{TakesSteps};
 ghost use Rattle.edr_image.specs.PartBytes.{crash_bytes, pre_bytes};
 ghost use Rattle.edr_record.specs.Bounds.{IsCrash, IsPre};
 
@@ -20,20 +16,7 @@ pub fn erase<N: Nvm>(nvm: &mut N, bank: u8) -> Result<(), Failed>
     requires from { 1 ≤ bank }
     requires to { bank ≤ 16 }
     requires fits { place_of bank + 512 ≤ N.extent nvm.old }
-    ensures size { N.extent nvm.new ≡ N.extent nvm.old }
-    ensures cause { HasCause (N.faults nvm.old) (N.faults nvm.new) result }
-    ensures device { N.goes_on nvm.old nvm.new }
-    ensures tells { StillTells (N.content nvm.old) (N.content nvm.new) }
-    ensures time { Takes (all_calls (Erase bank ∷ []))
-        (N.clock nvm.old) (N.clock nvm.new) (N.last_good nvm.old) (N.last_good nvm.new) result }
-    ensures taken { OnOk result (AreTaken (Erase bank ∷ [])
-        (N.content nvm.old) (N.settled nvm.old) (N.content nvm.new) (N.settled nvm.new)) }
-    ensures stopped { OnErr result (AreStopped (Erase bank ∷ []) (N.clock nvm.new - N.clock nvm.old)
-        (N.content nvm.old) (N.settled nvm.old) (N.content nvm.new) (N.settled nvm.new)) }
-    ensures any_moment { PassMeanwhile (Erase bank ∷ []) (N.content nvm.old) (N.settled nvm.old)
-        (N.clock nvm.old) (N.since nvm.old) (N.since nvm.new) }
-    ensures each { EachIsPassed (Erase bank ∷ []) (N.content nvm.old) (N.settled nvm.old)
-        (N.clock nvm.old) (N.since nvm.new) }
+    ensures { TakesSteps N.Nvm (Erase bank ∷ []) nvm.old nvm.new result }
 {
     write_settled(nvm, place_of(bank), &[0])
 }
@@ -43,20 +26,7 @@ pub fn lock<N: Nvm>(nvm: &mut N, bank: u8) -> Result<(), Failed>
     requires from { 1 ≤ bank }
     requires to { bank ≤ 16 }
     requires fits { place_of bank + 512 ≤ N.extent nvm.old }
-    ensures size { N.extent nvm.new ≡ N.extent nvm.old }
-    ensures cause { HasCause (N.faults nvm.old) (N.faults nvm.new) result }
-    ensures device { N.goes_on nvm.old nvm.new }
-    ensures tells { StillTells (N.content nvm.old) (N.content nvm.new) }
-    ensures time { Takes (all_calls (Lock bank ∷ []))
-        (N.clock nvm.old) (N.clock nvm.new) (N.last_good nvm.old) (N.last_good nvm.new) result }
-    ensures taken { OnOk result (AreTaken (Lock bank ∷ [])
-        (N.content nvm.old) (N.settled nvm.old) (N.content nvm.new) (N.settled nvm.new)) }
-    ensures stopped { OnErr result (AreStopped (Lock bank ∷ []) (N.clock nvm.new - N.clock nvm.old)
-        (N.content nvm.old) (N.settled nvm.old) (N.content nvm.new) (N.settled nvm.new)) }
-    ensures any_moment { PassMeanwhile (Lock bank ∷ []) (N.content nvm.old) (N.settled nvm.old)
-        (N.clock nvm.old) (N.since nvm.old) (N.since nvm.new) }
-    ensures each { EachIsPassed (Lock bank ∷ []) (N.content nvm.old) (N.settled nvm.old)
-        (N.clock nvm.old) (N.since nvm.new) }
+    ensures { TakesSteps N.Nvm (Lock bank ∷ []) nvm.old nvm.new result }
 {
     write_settled(nvm, place_of(bank) + 1, &[OPEN_GATE])
 }
@@ -80,20 +50,7 @@ pub fn fill<N: Nvm>(nvm: &mut N, bank: u8, pre: &Pre) -> Result<(), Failed>
     requires from { 1 ≤ bank }
     requires to { bank ≤ 16 }
     requires fits { place_of bank + 512 ≤ N.extent nvm.old }
-    ensures size { N.extent nvm.new ≡ N.extent nvm.old }
-    ensures cause { HasCause (N.faults nvm.old) (N.faults nvm.new) result }
-    ensures device { N.goes_on nvm.old nvm.new }
-    ensures tells { StillTells (N.content nvm.old) (N.content nvm.new) }
-    ensures time { Takes (all_calls (Fill bank pre.now ∷ []))
-        (N.clock nvm.old) (N.clock nvm.new) (N.last_good nvm.old) (N.last_good nvm.new) result }
-    ensures taken { OnOk result (AreTaken (Fill bank pre.now ∷ [])
-        (N.content nvm.old) (N.settled nvm.old) (N.content nvm.new) (N.settled nvm.new)) }
-    ensures stopped { OnErr result (AreStopped (Fill bank pre.now ∷ []) (N.clock nvm.new - N.clock nvm.old)
-        (N.content nvm.old) (N.settled nvm.old) (N.content nvm.new) (N.settled nvm.new)) }
-    ensures any_moment { PassMeanwhile (Fill bank pre.now ∷ []) (N.content nvm.old) (N.settled nvm.old)
-        (N.clock nvm.old) (N.since nvm.old) (N.since nvm.new) }
-    ensures each { EachIsPassed (Fill bank pre.now ∷ []) (N.content nvm.old) (N.settled nvm.old)
-        (N.clock nvm.old) (N.since nvm.new) }
+    ensures { TakesSteps N.Nvm (Fill bank pre.now ∷ []) nvm.old nvm.new result }
 {
     let piece = filling(pre);
     let at = place_of(bank);
@@ -116,20 +73,7 @@ pub fn finish<N: Nvm>(nvm: &mut N, bank: u8, crash: &Crash) -> Result<(), Failed
     requires from { 1 ≤ bank }
     requires to { bank ≤ 16 }
     requires fits { place_of bank + 512 ≤ N.extent nvm.old }
-    ensures size { N.extent nvm.new ≡ N.extent nvm.old }
-    ensures cause { HasCause (N.faults nvm.old) (N.faults nvm.new) result }
-    ensures device { N.goes_on nvm.old nvm.new }
-    ensures tells { StillTells (N.content nvm.old) (N.content nvm.new) }
-    ensures time { Takes (all_calls (Done bank crash.now ∷ []))
-        (N.clock nvm.old) (N.clock nvm.new) (N.last_good nvm.old) (N.last_good nvm.new) result }
-    ensures taken { OnOk result (AreTaken (Done bank crash.now ∷ [])
-        (N.content nvm.old) (N.settled nvm.old) (N.content nvm.new) (N.settled nvm.new)) }
-    ensures stopped { OnErr result (AreStopped (Done bank crash.now ∷ []) (N.clock nvm.new - N.clock nvm.old)
-        (N.content nvm.old) (N.settled nvm.old) (N.content nvm.new) (N.settled nvm.new)) }
-    ensures any_moment { PassMeanwhile (Done bank crash.now ∷ []) (N.content nvm.old) (N.settled nvm.old)
-        (N.clock nvm.old) (N.since nvm.old) (N.since nvm.new) }
-    ensures each { EachIsPassed (Done bank crash.now ∷ []) (N.content nvm.old) (N.settled nvm.old)
-        (N.clock nvm.old) (N.since nvm.new) }
+    ensures { TakesSteps N.Nvm (Done bank crash.now ∷ []) nvm.old nvm.new result }
 {
     let piece = ending(crash);
     let at = place_of(bank);

@@ -3,8 +3,8 @@
 
 ghost use Rattle.std.specs.Prelude.{◌≡◌, ◌<◌, ◌≤◌, ℕ, All, IfOk, IfErr};
 ghost use Rattle.std.specs.Arc.{arc_value};
-ghost use Rattle.edr_device.specs.Device.{StillTells};
 ghost use Rattle.edr_device.specs.Faults.{Rose};
+ghost use Rattle.edr_device.specs.Lent.{GoesOn};
 ghost use Rattle.edr_image.specs.Banks.{Store};
 ghost use Rattle.edr_image.specs.Image.{image_size};
 ghost use Rattle.edr_image.specs.Reports.{report_of};
@@ -47,9 +47,7 @@ fn drive_until<
     requires level { IsLevel (arc_value feeds.now) }
     requires ticks { horizon_of (arc_value feeds.now) ≤ started.ticks }
     requires size { image_size started.banks.store.header.banks ≤ N.extent nvm.old }
-    ensures size { N.extent nvm.new ≡ N.extent nvm.old }
-    ensures device { N.goes_on nvm.old nvm.new }
-    ensures tells { StillTells (N.content nvm.old) (N.content nvm.new) }
+    ensures lent { GoesOn N.Nvm nvm.old nvm.new }
     ensures later { N.faults nvm.old ≤ N.faults nvm.new }
     ensures ran { IfOk result (RunsFrom (arc_value feeds.now) stop started.number started.banks.store (N.content nvm.old) (N.settled nvm.old) (N.content nvm.new) (N.settled nvm.new)) }
     ensures fault { IfErr result (IsDrivenFault (N.faults nvm.old) (N.faults nvm.new)) }
@@ -83,9 +81,7 @@ fn drive_one<
 ) -> Result<CycleReport, StartFault>
     requires workers { (1 ≤ workers) × (workers ≤ 8) }
     requires cycle { IsSpelled cycle }
-    ensures size { N.extent nvm.new ≡ N.extent nvm.old }
-    ensures device { N.goes_on nvm.old nvm.new }
-    ensures tells { StillTells (N.content nvm.old) (N.content nvm.new) }
+    ensures lent { GoesOn N.Nvm nvm.old nvm.new }
     ensures later { N.faults nvm.old ≤ N.faults nvm.new }
     ensures ran { IfOk result (λ report. (v : Store) (n : ℕ) → Holds (N.content nvm.old) (N.settled nvm.old) v n
         → (n < last_count) × (e : End) × IsCycle cycle v n e × (e.report ≡ report_of report) × Holds (N.content nvm.new) (N.settled nvm.new) e.store e.count) }
@@ -132,9 +128,7 @@ pub fn replay_driven<
 ) -> Result<Vec<CycleReport>, StartFault>
     requires workers { (1 ≤ workers) × (workers ≤ 8) }
     requires cycles { All IsSpelled cycles.items }
-    ensures size { N.extent nvm.new ≡ N.extent nvm.old }
-    ensures device { N.goes_on nvm.old nvm.new }
-    ensures tells { StillTells (N.content nvm.old) (N.content nvm.new) }
+    ensures lent { GoesOn N.Nvm nvm.old nvm.new }
     ensures later { N.faults nvm.old ≤ N.faults nvm.new }
     ensures ran { IfOk result (λ reports. HasRun cycles.items (N.content nvm.old) (N.settled nvm.old) (N.content nvm.new) (N.settled nvm.new) reports.items) }
     ensures spent { IfErr result (EndsSpent cycles.items (N.content nvm.old) (N.settled nvm.old) (N.content nvm.new) (N.settled nvm.new)) }

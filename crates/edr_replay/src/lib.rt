@@ -11,8 +11,8 @@ mod powered_tests;
 mod tests;
 
 ghost use Rattle.std.specs.Prelude.{◌≡◌, ◌<◌, ◌≤◌, ℕ, List, IfOk, IfErr, All, length, map, take};
-ghost use Rattle.edr_device.specs.Device.{StillTells};
 ghost use Rattle.edr_device.specs.Faults.{Rose};
+ghost use Rattle.edr_device.specs.Lent.{GoesOn};
 ghost use Rattle.edr_image.specs.Banks.{Store};
 ghost use Rattle.edr_image.specs.Reports.{report_of};
 ghost use Rattle.edr_run.specs.Cycle.{End, IsCycle, Outcome, IsRun, last_count};
@@ -38,9 +38,7 @@ fn run_cycle<N: Nvm>(
     cycle: &CycleInput,
 ) -> Result<CycleReport, StartFault>
     requires { IsSpelled cycle.now }
-    ensures size { N.extent nvm.new ≡ N.extent nvm.old }
-    ensures device { N.goes_on nvm.old nvm.new }
-    ensures tells { StillTells (N.content nvm.old) (N.content nvm.new) }
+    ensures lent { GoesOn N.Nvm nvm.old nvm.new }
     ensures later { N.faults nvm.old ≤ N.faults nvm.new }
     ensures ran { IfOk result (λ report. (v : Store) (n : ℕ) → Holds (N.content nvm.old) (N.settled nvm.old) v n
         → (n < last_count) × (e : End) × IsCycle cycle.now v n e × (e.report ≡ report_of report) × Holds (N.content nvm.new) (N.settled nvm.new) e.store e.count) }
@@ -67,9 +65,7 @@ pub fn replay<N: Nvm>(
     cycles: &[CycleInput],
 ) -> Result<Vec<CycleReport>, StartFault>
     requires { All IsSpelled cycles.now }
-    ensures size { N.extent nvm.new ≡ N.extent nvm.old }
-    ensures device { N.goes_on nvm.old nvm.new }
-    ensures tells { StillTells (N.content nvm.old) (N.content nvm.new) }
+    ensures lent { GoesOn N.Nvm nvm.old nvm.new }
     ensures later { N.faults nvm.old ≤ N.faults nvm.new }
     ensures ran { IfOk result (λ reports. HasRun cycles.now (N.content nvm.old) (N.settled nvm.old) (N.content nvm.new) (N.settled nvm.new) reports.items) }
     ensures spent { IfErr result (EndsSpent cycles.now (N.content nvm.old) (N.settled nvm.old) (N.content nvm.new) (N.settled nvm.new)) }

@@ -1,8 +1,9 @@
 //! The two phases of a cycle, its start and its commands, each over a fuse that stops it as planned.
 
 ghost use Rattle.std.specs.Prelude.{◌≡◌, ◌≤◌, IfOk, IfErr, OnErr, Some, None, true, false};
-ghost use Rattle.edr_device.specs.Device.{Cycled, StillTells};
+ghost use Rattle.edr_device.specs.Device.{Cycled};
 ghost use Rattle.edr_device.specs.Faults.{Rose};
+ghost use Rattle.edr_device.specs.Lent.{GoesOn};
 ghost use Rattle.edr_image.specs.Image.{image_size};
 ghost use Rattle.edr_image.specs.Reports.{Ran, report_of};
 ghost use Rattle.edr_items.specs.SensorLists.{AreFeeds, IsLevel, horizon_of};
@@ -40,9 +41,7 @@ pub(crate) fn start_until<N: Nvm>(
     ticks: u32,
 ) -> Result<Begun, StartFault>
     requires { stop ≤ 6 }
-    ensures size { N.extent nvm.new ≡ N.extent nvm.old }
-    ensures device { N.goes_on nvm.old nvm.new }
-    ensures tells { StillTells (N.content nvm.old) (N.content nvm.new) }
+    ensures lent { GoesOn N.Nvm nvm.old nvm.new }
     ensures later { N.faults nvm.old ≤ N.faults nvm.new }
     ensures begun { IfOk result (λ b. BeginsAs b stop ticks (N.extent nvm.old) (N.content nvm.old) (N.settled nvm.old) (N.content nvm.new) (N.settled nvm.new)) }
     ensures spent { IfErr result (IsTrulySpent (N.content nvm.old) (N.settled nvm.old) (N.content nvm.new) (N.settled nvm.new)) }
@@ -83,9 +82,7 @@ pub(crate) fn end_run<N: Nvm>(
     stop: u32,
     nvm: &mut N,
 ) -> Result<CycleReport, StartFault>
-    ensures size { N.extent nvm.new ≡ N.extent nvm.old }
-    ensures device { N.goes_on nvm.old nvm.new }
-    ensures tells { StillTells (N.content nvm.old) (N.content nvm.new) }
+    ensures lent { GoesOn N.Nvm nvm.old nvm.new }
     ensures later { N.faults nvm.old ≤ N.faults nvm.new }
     ensures off { end.failed ≡ false → Cycled result (N.content nvm.old) (N.settled nvm.old) (N.since nvm.old) (N.content nvm.new) (N.settled nvm.new) (N.since nvm.new) }
     ensures fault { IfErr result (λ e. (e ≡ StartFault.StoreFault) × (end.failed ≡ false → Rose (N.faults nvm.old) (N.faults nvm.new))) }
@@ -117,9 +114,7 @@ pub(crate) fn run_until<N: Nvm>(
     requires level { IsLevel feeds.now }
     requires ticks { horizon_of feeds.now ≤ started.ticks }
     requires size { image_size started.banks.store.header.banks ≤ N.extent nvm.old }
-    ensures size { N.extent nvm.new ≡ N.extent nvm.old }
-    ensures device { N.goes_on nvm.old nvm.new }
-    ensures tells { StillTells (N.content nvm.old) (N.content nvm.new) }
+    ensures lent { GoesOn N.Nvm nvm.old nvm.new }
     ensures later { N.faults nvm.old ≤ N.faults nvm.new }
     ensures ran { IfOk result (RunsFrom feeds.now stop started.number started.banks.store (N.content nvm.old) (N.settled nvm.old) (N.content nvm.new) (N.settled nvm.new)) }
     ensures fault { IfErr result (λ e. (e ≡ StartFault.StoreFault) × Rose (N.faults nvm.old) (N.faults nvm.new)) }

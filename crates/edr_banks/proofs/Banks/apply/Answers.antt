@@ -34,7 +34,7 @@ returns-then-is_err-clause-locked g c = λ bytes image v w i r ready same left s
     let D = g.N.Nvm in
     let start = c.args.nvm.now in
     let o = c.args.self.now in
-    let each = subst (λ (x : Reply). EachIsPassed x.steps (D.content start) (D.settled start) (D.clock start) (D.since c.take_on.new.nvm)) c.task-task.ensures.reply c.take_on.ensures.each in
+    let each = subst (λ (x : Reply). EachIsPassed x.steps (D.content start) (D.settled start) (D.clock start) (D.since c.take_on.new.nvm)) c.task-task.ensures.reply c.take_on.ensures.steps.each in
     locked_passed o c.args.command.now bytes image v w i r (subst (λ (o : Opened). IsOpened o) c.self.view_is c.self.invariant) same (each bytes image v ready left) seen stands locked
 
 pub returns-then-is_err-clause-crash_parts : goal.returns-then-is_err-clause-crash_parts
@@ -42,7 +42,7 @@ returns-then-is_err-clause-crash_parts g c = λ bytes image v w i r crash ready 
     let D = g.N.Nvm in
     let start = c.args.nvm.now in
     let o = c.args.self.now in
-    let each = subst (λ (x : Reply). EachIsPassed x.steps (D.content start) (D.settled start) (D.clock start) (D.since c.take_on.new.nvm)) c.task-task.ensures.reply c.take_on.ensures.each in
+    let each = subst (λ (x : Reply). EachIsPassed x.steps (D.content start) (D.settled start) (D.clock start) (D.since c.take_on.new.nvm)) c.task-task.ensures.reply c.take_on.ensures.steps.each in
     crash_passed o c.args.command.now bytes image v w i r crash (subst (λ (o : Opened). IsOpened o) c.self.view_is c.self.invariant) same (each bytes image v ready left) seen stands has
 
 pub returns-clause-locked : goal.returns-clause-locked
@@ -50,7 +50,7 @@ returns-clause-locked g c = λ bytes image v w i r ready same left seen stands l
     let D = g.N.Nvm in
     let start = c.args.nvm.now in
     let o = c.args.self.now in
-    let each = subst (λ (x : Reply). EachIsPassed x.steps (D.content start) (D.settled start) (D.clock start) (D.since c.take_on.new.nvm)) c.task-task.ensures.reply c.take_on.ensures.each in
+    let each = subst (λ (x : Reply). EachIsPassed x.steps (D.content start) (D.settled start) (D.clock start) (D.since c.take_on.new.nvm)) c.task-task.ensures.reply c.take_on.ensures.steps.each in
     locked_passed o c.args.command.now bytes image v w i r (subst (λ (o : Opened). IsOpened o) c.self.view_is c.self.invariant) same (each bytes image v ready left) seen stands locked
 
 pub returns-clause-crash_parts : goal.returns-clause-crash_parts
@@ -58,5 +58,5 @@ returns-clause-crash_parts g c = λ bytes image v w i r crash ready same left se
     let D = g.N.Nvm in
     let start = c.args.nvm.now in
     let o = c.args.self.now in
-    let each = subst (λ (x : Reply). EachIsPassed x.steps (D.content start) (D.settled start) (D.clock start) (D.since c.take_on.new.nvm)) c.task-task.ensures.reply c.take_on.ensures.each in
+    let each = subst (λ (x : Reply). EachIsPassed x.steps (D.content start) (D.settled start) (D.clock start) (D.since c.take_on.new.nvm)) c.task-task.ensures.reply c.take_on.ensures.steps.each in
     crash_passed o c.args.command.now bytes image v w i r crash (subst (λ (o : Opened). IsOpened o) c.self.view_is c.self.invariant) same (each bytes image v ready left) seen stands has

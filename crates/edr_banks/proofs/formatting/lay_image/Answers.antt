@@ -2,7 +2,7 @@
 use Rattle.std.proofs.Common.{◌≡◌, ◌≤◌, ◌+◌, ◌*◌, arith, rules, subst, take, drop, replicate, length, ℕ}
 use Rattle.edr_device.specs.Device.{MayLeave, outside}
 use Rattle.edr_image.specs.Image.{image_size}
-use Rattle.edr_device.proofs.Settling.{elapses_again, elapses_more, told_tells, tells_again, wrote_tells}
+use Rattle.edr_device.proofs.Settling.{elapses_again, elapses_more, on_err, told_tells, tells_again, wrote_tells}
 use Rattle.edr_banks.specs.Formatting.{IsUnmarked, Laid}
 use Rattle.edr_banks.proofs.Laying.{bare_during, laid_during, laid_first, laid_more}
 use Rattle.edr_banks.proofs.NewImage.{bank_piece, head_piece, head_size}
@@ -46,6 +46,23 @@ returns-in_err-write-2-clause-any_moment g c = λ bytes bare.
     elapses_again (D.clock start) (D.clock mid) (D.since start) (D.since mid) (D.since c.write-in-loop-bank.new.self) (IsUnmarked h bytes) (MayLeave (D.content mid) (outside n 512 (D.settled mid))) (IsUnmarked h bytes)
     (c.loop-bank.invariant.moments bytes bare) crash c.loop-bank.invariant.later (λ image s. s)
     (λ image s. laid_during h n 512 bytes (D.content mid) (D.settled mid) image (omega arith) (omega arith) room (c.loop-bank.invariant.laid bytes bare) s)
+
+pub returns-in_err-write-2-clause-lent : goal.returns-in_err-write-2-clause-lent
+returns-in_err-write-2-clause-lent g c =
+    let D = g.N.Nvm in
+    let start = c.args.nvm.now in
+    let mid = c.loop-bank.nvm in
+    let end = c.write-in-loop-bank.new.self in
+    record {
+      size = search rules;
+      device = g.met.N.Nvm.goes_on_again start mid end c.loop-bank.invariant.device c.write-in-loop-bank.ensures.device;
+      tells = tells_again (D.content start) (D.content mid) (D.content end) c.loop-bank.invariant.tells
+          (wrote_tells c.place_of.result (replicate 512 0) c.write-in-loop-bank.result _ _ _ _ c.write-in-loop-bank.ensures.told);
+      cause = record {
+        later = omega (arith, c.loop-bank.invariant.faults, c.write-in-loop-bank.ensures.cause.later);
+        failed = on_err c.from_residual-in_err-write-2.result (omega (arith, c.loop-bank.invariant.faults, c.in_err-write-2.ensures.cause.failed));
+      };
+    }
 
 pub loop-bank-preserved : goal.loop-bank-preserved
 loop-bank-preserved g c =

@@ -17,9 +17,9 @@ loop-k-preserved g c =
       all = grind (arith, common_steps);
       room = c.push_reserved.ensures.capacity ∙ c.loop-k.invariant.room;
       faults = omega (arith, c.loop-k.invariant.faults, c.read_bank.ensures.cause.later);
-      size = c.read_bank.ensures.size ∙ c.loop-k.invariant.size;
-      device = g.met.N.Nvm.goes_on_again start mid end c.loop-k.invariant.device c.read_bank.ensures.device;
-      stays = stays_again (D.content start) (D.content mid) (D.content end) (D.settled start) (D.settled mid) (D.settled end) (D.since start) (D.since mid) (D.since end) c.loop-k.invariant.stays c.read_bank.ensures.stays;
-      clock = c.read_bank.ensures.clock ∙ c.loop-k.invariant.clock;
-      good = c.read_bank.ensures.good ∙ c.loop-k.invariant.good;
+      size = c.read_bank.ensures.read.size ∙ c.loop-k.invariant.size;
+      device = g.met.N.Nvm.goes_on_again start mid end c.loop-k.invariant.device c.read_bank.ensures.read.device;
+      stays = stays_again (D.content start) (D.content mid) (D.content end) (D.settled start) (D.settled mid) (D.settled end) (D.since start) (D.since mid) (D.since end) c.loop-k.invariant.stays c.read_bank.ensures.read.stays;
+      clock = c.read_bank.ensures.read.clock ∙ c.loop-k.invariant.clock;
+      good = c.read_bank.ensures.read.good ∙ c.loop-k.invariant.good;
     }

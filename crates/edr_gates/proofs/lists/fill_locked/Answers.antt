@@ -1,69 +1,12 @@
 use Rattle.std.proofs.Common.{◌∷◌, []}
-use Rattle.edr_device.proofs.Settling.{on_err}
 use Rattle.edr_image.specs.Steps.{Fill, Lock}
-use Rattle.edr_gates.proofs.StepLists.{each_passed, pass_again, pass_first, stopped_first, stopped_later, taken_again}
+use Rattle.edr_gates.proofs.TakenSteps.{first_failed, then_came}
 use Rattle.edr_gates.proofs.lists.fill_locked.Goals as goal
 
-pub returns-in_err-fill-clause-stopped : goal.returns-in_err-fill-clause-stopped
-returns-in_err-fill-clause-stopped g c =
-    let D = g.N.Nvm in
-    let nvm = c.args.nvm.now in
-    let end = c.fill.new.nvm in
-    on_err _ (stopped_first (Fill c.args.bank c.args.pre.now ∷ []) (Lock c.args.bank ∷ []) _ (D.content nvm) (D.content end) (D.settled nvm) (D.settled end) c.in_err-fill.ensures.stopped)
+pub returns-in_err-fill : goal.returns-in_err-fill
+returns-in_err-fill g c = first_failed (Fill c.args.bank c.args.pre.now ∷ []) (Lock c.args.bank ∷ []) _ _ _ c.from_residual.result c.from_residual.ensures.0
+    (g.met.N.Nvm.only_now c.args.nvm.now) c.in_err-fill.ensures
 
-pub returns-in_err-fill-clause-any_moment : goal.returns-in_err-fill-clause-any_moment
-returns-in_err-fill-clause-any_moment g c =
-    let D = g.N.Nvm in
-    let nvm = c.args.nvm.now in
-    pass_first (Fill c.args.bank c.args.pre.now ∷ []) (Lock c.args.bank ∷ []) (D.content nvm) (D.settled nvm) (D.clock nvm) (D.since nvm) (D.since c.fill.new.nvm) c.fill.ensures.any_moment
-
-pub returns-in_err-fill-clause-each : goal.returns-in_err-fill-clause-each
-returns-in_err-fill-clause-each g c =
-    let D = g.N.Nvm in
-    let nvm = c.args.nvm.now in
-    each_passed (Fill c.args.bank c.args.pre.now ∷ Lock c.args.bank ∷ []) (D.content nvm) (D.settled nvm) (D.clock nvm) (D.since nvm) (D.since c.fill.new.nvm) (g.met.N.Nvm.only_now nvm) (returns-in_err-fill-clause-any_moment g c)
-
-pub returns-in_err-lock-clause-stopped : goal.returns-in_err-lock-clause-stopped
-returns-in_err-lock-clause-stopped g c =
-    let D = g.N.Nvm in
-    let nvm = c.args.nvm.now in
-    let mid = c.fill.new.nvm in
-    let end = c.lock.new.nvm in
-    on_err _ (stopped_later (Fill c.args.bank c.args.pre.now ∷ []) (Lock c.args.bank ∷ []) (D.clock nvm) (D.clock mid) (D.clock end) (D.content nvm) (D.content mid) (D.content end) (D.settled nvm) (D.settled mid) (D.settled end)
-    c.in_ok-fill.ensures.time.ok.0 c.lock.ensures.time.later c.in_ok-fill.ensures.taken c.in_err-lock.ensures.stopped)
-
-pub returns-in_err-lock-clause-any_moment : goal.returns-in_err-lock-clause-any_moment
-returns-in_err-lock-clause-any_moment g c =
-    let D = g.N.Nvm in
-    let nvm = c.args.nvm.now in
-    let mid = c.fill.new.nvm in
-    pass_again (Fill c.args.bank c.args.pre.now ∷ []) (Lock c.args.bank ∷ []) (D.content nvm) (D.content mid) (D.settled nvm) (D.settled mid) (D.clock nvm) (D.clock mid) (D.since nvm) (D.since mid) (D.since c.lock.new.nvm)
-    c.fill.ensures.time.later c.in_ok-fill.ensures.taken c.fill.ensures.any_moment c.lock.ensures.any_moment
-
-pub returns-in_err-lock-clause-each : goal.returns-in_err-lock-clause-each
-returns-in_err-lock-clause-each g c =
-    let D = g.N.Nvm in
-    let nvm = c.args.nvm.now in
-    each_passed (Fill c.args.bank c.args.pre.now ∷ Lock c.args.bank ∷ []) (D.content nvm) (D.settled nvm) (D.clock nvm) (D.since nvm) (D.since c.lock.new.nvm) (g.met.N.Nvm.only_now nvm) (returns-in_err-lock-clause-any_moment g c)
-
-pub returns-clause-any_moment : goal.returns-clause-any_moment
-returns-clause-any_moment g c =
-    let D = g.N.Nvm in
-    let nvm = c.args.nvm.now in
-    let mid = c.fill.new.nvm in
-    pass_again (Fill c.args.bank c.args.pre.now ∷ []) (Lock c.args.bank ∷ []) (D.content nvm) (D.content mid) (D.settled nvm) (D.settled mid) (D.clock nvm) (D.clock mid) (D.since nvm) (D.since mid) (D.since c.lock.new.nvm)
-    c.fill.ensures.time.later c.in_ok-fill.ensures.taken c.fill.ensures.any_moment c.lock.ensures.any_moment
-
-pub returns-clause-each : goal.returns-clause-each
-returns-clause-each g c =
-    let D = g.N.Nvm in
-    let nvm = c.args.nvm.now in
-    each_passed (Fill c.args.bank c.args.pre.now ∷ Lock c.args.bank ∷ []) (D.content nvm) (D.settled nvm) (D.clock nvm) (D.since nvm) (D.since c.lock.new.nvm) (g.met.N.Nvm.only_now nvm) (returns-clause-any_moment g c)
-
-pub returns-clause-taken : goal.returns-clause-taken
-returns-clause-taken g c =
-    let D = g.N.Nvm in
-    let nvm = c.args.nvm.now in
-    let mid = c.fill.new.nvm in
-    let end = c.lock.new.nvm in
-    taken_again (Fill c.args.bank c.args.pre.now ∷ []) (Lock c.args.bank ∷ []) (D.content nvm) (D.content mid) (D.content end) (D.settled nvm) (D.settled mid) (D.settled end) c.in_ok-fill.ensures.taken c.in_ok-lock.ensures.taken
+pub returns : goal.returns
+returns g c = then_came (Fill c.args.bank c.args.pre.now ∷ []) (Lock c.args.bank ∷ []) _ _ _ _ _
+    (g.met.N.Nvm.only_now c.args.nvm.now) (g.met.N.Nvm.goes_on_again _ _ _) c.in_ok-fill.ensures c.lock.ensures

@@ -1,69 +1,12 @@
 use Rattle.std.proofs.Common.{◌∷◌, []}
-use Rattle.edr_device.proofs.Settling.{on_err}
 use Rattle.edr_image.specs.Steps.{Erase, Fill, Lock}
-use Rattle.edr_gates.proofs.StepLists.{each_passed, pass_again, pass_first, stopped_first, stopped_later, taken_again}
+use Rattle.edr_gates.proofs.TakenSteps.{first_failed, then_came}
 use Rattle.edr_gates.proofs.lists.replace_locked.Goals as goal
 
-pub returns-in_err-erase-clause-stopped : goal.returns-in_err-erase-clause-stopped
-returns-in_err-erase-clause-stopped g c =
-    let D = g.N.Nvm in
-    let nvm = c.args.nvm.now in
-    let end = c.erase.new.nvm in
-    on_err _ (stopped_first (Erase c.args.bank ∷ []) (Fill c.args.bank c.args.pre.now ∷ Lock c.args.bank ∷ []) _ (D.content nvm) (D.content end) (D.settled nvm) (D.settled end) c.in_err-erase.ensures.stopped)
+pub returns-in_err-erase : goal.returns-in_err-erase
+returns-in_err-erase g c = first_failed (Erase c.args.bank ∷ []) (Fill c.args.bank c.args.pre.now ∷ Lock c.args.bank ∷ []) _ _ _ c.from_residual.result c.from_residual.ensures.0
+    (g.met.N.Nvm.only_now c.args.nvm.now) c.in_err-erase.ensures
 
-pub returns-in_err-erase-clause-any_moment : goal.returns-in_err-erase-clause-any_moment
-returns-in_err-erase-clause-any_moment g c =
-    let D = g.N.Nvm in
-    let nvm = c.args.nvm.now in
-    pass_first (Erase c.args.bank ∷ []) (Fill c.args.bank c.args.pre.now ∷ Lock c.args.bank ∷ []) (D.content nvm) (D.settled nvm) (D.clock nvm) (D.since nvm) (D.since c.erase.new.nvm) c.erase.ensures.any_moment
-
-pub returns-in_err-erase-clause-each : goal.returns-in_err-erase-clause-each
-returns-in_err-erase-clause-each g c =
-    let D = g.N.Nvm in
-    let nvm = c.args.nvm.now in
-    each_passed (Erase c.args.bank ∷ Fill c.args.bank c.args.pre.now ∷ Lock c.args.bank ∷ []) (D.content nvm) (D.settled nvm) (D.clock nvm) (D.since nvm) (D.since c.erase.new.nvm) (g.met.N.Nvm.only_now nvm) (returns-in_err-erase-clause-any_moment g c)
-
-pub returns-in_err-fill_locked-clause-stopped : goal.returns-in_err-fill_locked-clause-stopped
-returns-in_err-fill_locked-clause-stopped g c =
-    let D = g.N.Nvm in
-    let nvm = c.args.nvm.now in
-    let mid = c.erase.new.nvm in
-    let end = c.fill_locked.new.nvm in
-    on_err _ (stopped_later (Erase c.args.bank ∷ []) (Fill c.args.bank c.args.pre.now ∷ Lock c.args.bank ∷ []) (D.clock nvm) (D.clock mid) (D.clock end) (D.content nvm) (D.content mid) (D.content end) (D.settled nvm) (D.settled mid) (D.settled end)
-    c.in_ok-erase.ensures.time.ok.0 c.fill_locked.ensures.time.later c.in_ok-erase.ensures.taken c.in_err-fill_locked.ensures.stopped)
-
-pub returns-in_err-fill_locked-clause-any_moment : goal.returns-in_err-fill_locked-clause-any_moment
-returns-in_err-fill_locked-clause-any_moment g c =
-    let D = g.N.Nvm in
-    let nvm = c.args.nvm.now in
-    let mid = c.erase.new.nvm in
-    pass_again (Erase c.args.bank ∷ []) (Fill c.args.bank c.args.pre.now ∷ Lock c.args.bank ∷ []) (D.content nvm) (D.content mid) (D.settled nvm) (D.settled mid) (D.clock nvm) (D.clock mid) (D.since nvm) (D.since mid) (D.since c.fill_locked.new.nvm)
-    c.erase.ensures.time.later c.in_ok-erase.ensures.taken c.erase.ensures.any_moment c.fill_locked.ensures.any_moment
-
-pub returns-in_err-fill_locked-clause-each : goal.returns-in_err-fill_locked-clause-each
-returns-in_err-fill_locked-clause-each g c =
-    let D = g.N.Nvm in
-    let nvm = c.args.nvm.now in
-    each_passed (Erase c.args.bank ∷ Fill c.args.bank c.args.pre.now ∷ Lock c.args.bank ∷ []) (D.content nvm) (D.settled nvm) (D.clock nvm) (D.since nvm) (D.since c.fill_locked.new.nvm) (g.met.N.Nvm.only_now nvm) (returns-in_err-fill_locked-clause-any_moment g c)
-
-pub returns-clause-any_moment : goal.returns-clause-any_moment
-returns-clause-any_moment g c =
-    let D = g.N.Nvm in
-    let nvm = c.args.nvm.now in
-    let mid = c.erase.new.nvm in
-    pass_again (Erase c.args.bank ∷ []) (Fill c.args.bank c.args.pre.now ∷ Lock c.args.bank ∷ []) (D.content nvm) (D.content mid) (D.settled nvm) (D.settled mid) (D.clock nvm) (D.clock mid) (D.since nvm) (D.since mid) (D.since c.fill_locked.new.nvm)
-    c.erase.ensures.time.later c.in_ok-erase.ensures.taken c.erase.ensures.any_moment c.fill_locked.ensures.any_moment
-
-pub returns-clause-each : goal.returns-clause-each
-returns-clause-each g c =
-    let D = g.N.Nvm in
-    let nvm = c.args.nvm.now in
-    each_passed (Erase c.args.bank ∷ Fill c.args.bank c.args.pre.now ∷ Lock c.args.bank ∷ []) (D.content nvm) (D.settled nvm) (D.clock nvm) (D.since nvm) (D.since c.fill_locked.new.nvm) (g.met.N.Nvm.only_now nvm) (returns-clause-any_moment g c)
-
-pub returns-clause-taken : goal.returns-clause-taken
-returns-clause-taken g c =
-    let D = g.N.Nvm in
-    let nvm = c.args.nvm.now in
-    let mid = c.erase.new.nvm in
-    let end = c.fill_locked.new.nvm in
-    taken_again (Erase c.args.bank ∷ []) (Fill c.args.bank c.args.pre.now ∷ Lock c.args.bank ∷ []) (D.content nvm) (D.content mid) (D.content end) (D.settled nvm) (D.settled mid) (D.settled end) c.in_ok-erase.ensures.taken c.in_ok-fill_locked.ensures.taken
+pub returns : goal.returns
+returns g c = then_came (Erase c.args.bank ∷ []) (Fill c.args.bank c.args.pre.now ∷ Lock c.args.bank ∷ []) _ _ _ _ _
+    (g.met.N.Nvm.only_now c.args.nvm.now) (g.met.N.Nvm.goes_on_again _ _ _) c.in_ok-erase.ensures c.fill_locked.ensures
