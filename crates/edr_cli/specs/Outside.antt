@@ -1,5 +1,7 @@
 -- What the source and the device tell at one moment.
 use Rattle.std.specs.Prelude.{◌≡◌, ℕ, Bool, List, [], Option, IfSome}
+use Rattle.edr_device.specs.declared.device.Nvm as device
+use Rattle.edr_device.specs.declared.stream.Source as stream
 
 -- a source: the bytes that are left, if it tells them, and its count of faults
 pub record Input : Type 0 where
@@ -13,14 +15,13 @@ pub record Memory : Type 0 where
   pub settled : ℕ → Bool
   pub faults : ℕ
 
--- what a source tells by these words
-abbrev pub input : {S : Type 0} → (S → Option (List ℕ)) → (S → ℕ) → S → Input
-input left faults source = record { left = left source; faults = faults source }
+-- what a source tells
+abbrev pub input : {S : Type 0} → stream.Ghosts S → S → Input
+input g source = record { left = g.left source; faults = g.faults source }
 
--- what a device tells by these words
-abbrev pub memory : {D : Type 0} → (D → ℕ) → (D → Option (List ℕ)) → (D → ℕ → Bool) → (D → ℕ) → D → Memory
-memory size content settled faults device =
-    record { size = size device; content = content device; settled = settled device; faults = faults device }
+-- what a device tells
+abbrev pub memory : {D : Type 0} → device.Ghosts D → D → Memory
+memory g nvm = record { size = g.extent nvm; content = g.content nvm; settled = g.settled nvm; faults = g.faults nvm }
 
 -- the source is at its end, if it tells
 abbrev pub IsAtEnd : Option (List ℕ) → Type 0

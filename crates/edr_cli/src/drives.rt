@@ -49,10 +49,10 @@ fn run_driven<
 ) -> Result<Vec<u8>, Fault>
     requires workers { (1 ≤ workers) × (workers ≤ 8) }
     requires cycles { All IsCycle cycles.items }
-    ensures text { IfOk result (λ out. Reports form cycles.items (memory N.extent N.content N.settled N.faults nvm.old)
-        (memory N.extent N.content N.settled N.faults nvm.new) out.items) }
-    ensures cause { IfErr result (IsDrivenCause cycles.items (memory N.extent N.content N.settled N.faults nvm.old)
-        (memory N.extent N.content N.settled N.faults nvm.new)) }
+    ensures text { IfOk result (λ out. Reports form cycles.items (memory N.Nvm nvm.old)
+        (memory N.Nvm nvm.new) out.items) }
+    ensures cause { IfErr result (IsDrivenCause cycles.items (memory N.Nvm nvm.old)
+        (memory N.Nvm nvm.new)) }
     ensures lent { GoesOn N.Nvm nvm.old nvm.new }
     ensures later { N.faults nvm.old ≤ N.faults nvm.new }
     ensures past { LeavesPast (N.content nvm.old) (N.settled nvm.old) (N.content nvm.new) (N.settled nvm.new) }
@@ -86,12 +86,12 @@ fn drive_source<
     ensures later { N.faults nvm.old ≤ N.faults nvm.new }
     ensures past { LeavesPast (N.content nvm.old) (N.settled nvm.old) (N.content nvm.new) (N.settled nvm.new) }
     ensures end { OnOk result (IsAtEnd (S.left source.new)) }
-    ensures text { IfOk result (λ out. RunIs form (input S.left S.faults source.old)
-        (memory N.extent N.content N.settled N.faults nvm.old)
-        (memory N.extent N.content N.settled N.faults nvm.new) out.items) }
-    ensures cause { IfErr result (IsDriveCause (input S.left S.faults source.old) (input S.left S.faults source.new)
-        (memory N.extent N.content N.settled N.faults nvm.old)
-        (memory N.extent N.content N.settled N.faults nvm.new)) }
+    ensures text { IfOk result (λ out. RunIs form (input S.Source source.old)
+        (memory N.Nvm nvm.old)
+        (memory N.Nvm nvm.new) out.items) }
+    ensures cause { IfErr result (IsDriveCause (input S.Source source.old) (input S.Source source.new)
+        (memory N.Nvm nvm.old)
+        (memory N.Nvm nvm.new)) }
 {
     let cycles = trace_of(alloc, source)?;
     open_settled(alloc, nvm)?;
@@ -143,20 +143,20 @@ pub fn drive<
     ensures input { (form : Form) (workers : ℕ) → AreDrive form workers words.now → result ≡ Status.Ok → IsAtEnd (S.left source.new) }
     ensures run { (form : Form) (workers : ℕ) → AreDrive form workers words.now → result ≡ Status.Ok
         → Tells
-        (RunIs form (input S.left S.faults source.old) (memory N.extent N.content N.settled N.faults nvm.old) (memory N.extent N.content N.settled N.faults nvm.new))
+        (RunIs form (input S.Source source.old) (memory N.Nvm nvm.old) (memory N.Nvm nvm.new))
         (K.content sink.old) (K.content sink.new) }
     // With another status the sink gained exactly the line of a fault that has its cause; and where a write failed, a part
     // of the report or of such a line.
     ensures other { (form : Form) (workers : ℕ) → AreDrive form workers words.now → result ≢ Status.Ok → result ≢ Status.WriteFault
         → TellsFault
-        (IsDriveCause (input S.left S.faults source.old) (input S.left S.faults source.new)
-        (memory N.extent N.content N.settled N.faults nvm.old) (memory N.extent N.content N.settled N.faults nvm.new))
+        (IsDriveCause (input S.Source source.old) (input S.Source source.new)
+        (memory N.Nvm nvm.old) (memory N.Nvm nvm.new))
         result (K.content sink.old) (K.content sink.new) }
     ensures part { (form : Form) (workers : ℕ) → AreDrive form workers words.now → result ≡ Status.WriteFault
         → TellsPart
-        (RunIs form (input S.left S.faults source.old) (memory N.extent N.content N.settled N.faults nvm.old) (memory N.extent N.content N.settled N.faults nvm.new))
-        (IsDriveCause (input S.left S.faults source.old) (input S.left S.faults source.new)
-        (memory N.extent N.content N.settled N.faults nvm.old) (memory N.extent N.content N.settled N.faults nvm.new))
+        (RunIs form (input S.Source source.old) (memory N.Nvm nvm.old) (memory N.Nvm nvm.new))
+        (IsDriveCause (input S.Source source.old) (input S.Source source.new)
+        (memory N.Nvm nvm.old) (memory N.Nvm nvm.new))
         (K.content sink.old) (K.content sink.new) }
     // Whatever the status, what stands past the image stays.
     ensures past { (form : Form) (workers : ℕ) → AreDrive form workers words.now

@@ -20,10 +20,10 @@ pub(crate) fn make_image<N: Nvm>(nvm: &mut N, header: Header) -> Result<ShortLin
     ensures lent { GoesOn N.Nvm nvm.old nvm.new }
     ensures later { N.faults nvm.old ≤ N.faults nvm.new }
     ensures line { IfOk result (λ line. line ≡ format_line header) }
-    ensures made { IfOk result (λ line. IsMade header (memory N.extent N.content N.settled N.faults nvm.old)
-        (memory N.extent N.content N.settled N.faults nvm.new)) }
-    ensures cause { IfErr result (IsFormatCause header (memory N.extent N.content N.settled N.faults nvm.old)
-        (memory N.extent N.content N.settled N.faults nvm.new)) }
+    ensures made { IfOk result (λ line. IsMade header (memory N.Nvm nvm.old)
+        (memory N.Nvm nvm.new)) }
+    ensures cause { IfErr result (IsFormatCause header (memory N.Nvm nvm.old)
+        (memory N.Nvm nvm.new)) }
     ensures crash { (bytes image : List ℕ) → IsQuiet (N.content nvm.old) (N.settled nvm.old) bytes
         → MayLeave (N.content nvm.new) (N.settled nvm.new) image → IsPartlyFormatted header bytes image }
     // An image that is there stays.

@@ -31,8 +31,8 @@ pub(crate) fn open_fault(e: OpenFault) -> Fault
 pub(crate) fn open_settled<N: Nvm>(alloc: Global, nvm: &mut N) -> Result<Banks, Fault>
     ensures says { IfOk result (λ b. (image : List ℕ) → N.content nvm.old ≡ Some image
         → Says image b.store b.count × IsQuiet (N.content nvm.new) (N.settled nvm.new) image) }
-    ensures cause { IfErr result (IsImageCause (memory N.extent N.content N.settled N.faults nvm.old)
-        (memory N.extent N.content N.settled N.faults nvm.new)) }
+    ensures cause { IfErr result (IsImageCause (memory N.Nvm nvm.old)
+        (memory N.Nvm nvm.new)) }
     ensures stays { (bytes image : List ℕ) → IsQuiet (N.content nvm.old) (N.settled nvm.old) bytes → MayLeave (N.content nvm.new) (N.settled nvm.new) image → image ≡ bytes }
     ensures lent { GoesOn N.Nvm nvm.old nvm.new }
     ensures later { N.faults nvm.old ≤ N.faults nvm.new }
@@ -46,8 +46,8 @@ pub(crate) fn open_settled<N: Nvm>(alloc: Global, nvm: &mut N) -> Result<Banks, 
 /// Opens the banks.
 pub(crate) fn open<N: Nvm>(alloc: Global, nvm: &mut N) -> Result<Banks, Fault>
     ensures says { IfOk result (λ b. (image : List ℕ) → N.content nvm.old ≡ Some image → Says image b.store b.count) }
-    ensures cause { IfErr result (IsImageCause (memory N.extent N.content N.settled N.faults nvm.old)
-        (memory N.extent N.content N.settled N.faults nvm.new)) }
+    ensures cause { IfErr result (IsImageCause (memory N.Nvm nvm.old)
+        (memory N.Nvm nvm.new)) }
     ensures content { N.content nvm.new ≡ N.content nvm.old }
     ensures settled { (i : ℕ) → N.settled nvm.new i ≡ N.settled nvm.old i }
     ensures size { N.extent nvm.new ≡ N.extent nvm.old }
@@ -90,9 +90,9 @@ pub(crate) fn report_held<N: Nvm>(
     form: Form,
     run: &[CycleReport],
 ) -> Result<Vec<u8>, Fault>
-    ensures text { IfOk result (λ out. ReportsHeld form (map report_of run.now) (memory N.extent N.content N.settled N.faults nvm.old) out.items) }
-    ensures cause { IfErr result (IsImageCause (memory N.extent N.content N.settled N.faults nvm.old)
-        (memory N.extent N.content N.settled N.faults nvm.new)) }
+    ensures text { IfOk result (λ out. ReportsHeld form (map report_of run.now) (memory N.Nvm nvm.old) out.items) }
+    ensures cause { IfErr result (IsImageCause (memory N.Nvm nvm.old)
+        (memory N.Nvm nvm.new)) }
     ensures content { N.content nvm.new ≡ N.content nvm.old }
     ensures settled { (i : ℕ) → N.settled nvm.new i ≡ N.settled nvm.old i }
     ensures size { N.extent nvm.new ≡ N.extent nvm.old }
@@ -107,10 +107,10 @@ pub(crate) fn report_held<N: Nvm>(
 pub(crate) fn report<N: Nvm>(alloc: Global, nvm: &mut N, form: Form) -> Result<Vec<u8>, Fault>
     ensures lent { GoesOn N.Nvm nvm.old nvm.new }
     ensures later { N.faults nvm.old ≤ N.faults nvm.new }
-    ensures text { IfOk result (λ out. ReportIs form (memory N.extent N.content N.settled N.faults nvm.old)
-        (memory N.extent N.content N.settled N.faults nvm.new) out.items) }
-    ensures cause { IfErr result (IsImageCause (memory N.extent N.content N.settled N.faults nvm.old)
-        (memory N.extent N.content N.settled N.faults nvm.new)) }
+    ensures text { IfOk result (λ out. ReportIs form (memory N.Nvm nvm.old)
+        (memory N.Nvm nvm.new) out.items) }
+    ensures cause { IfErr result (IsImageCause (memory N.Nvm nvm.old)
+        (memory N.Nvm nvm.new)) }
     ensures stays { (bytes image : List ℕ) → IsQuiet (N.content nvm.old) (N.settled nvm.old) bytes → MayLeave (N.content nvm.new) (N.settled nvm.new) image → image ≡ bytes }
 {
     let banks = open_settled(alloc, nvm)?;

@@ -46,12 +46,12 @@ pub(crate) fn replay_source<S: Source, N: Nvm>(
     ensures later { N.faults nvm.old ≤ N.faults nvm.new }
     ensures past { LeavesPast (N.content nvm.old) (N.settled nvm.old) (N.content nvm.new) (N.settled nvm.new) }
     ensures end { OnOk result (IsAtEnd (S.left source.new)) }
-    ensures text { IfOk result (λ out. RunIs form (input S.left S.faults source.old)
-        (memory N.extent N.content N.settled N.faults nvm.old)
-        (memory N.extent N.content N.settled N.faults nvm.new) out.items) }
-    ensures cause { IfErr result (IsReplayCause (input S.left S.faults source.old) (input S.left S.faults source.new)
-        (memory N.extent N.content N.settled N.faults nvm.old)
-        (memory N.extent N.content N.settled N.faults nvm.new)) }
+    ensures text { IfOk result (λ out. RunIs form (input S.Source source.old)
+        (memory N.Nvm nvm.old)
+        (memory N.Nvm nvm.new) out.items) }
+    ensures cause { IfErr result (IsReplayCause (input S.Source source.old) (input S.Source source.new)
+        (memory N.Nvm nvm.old)
+        (memory N.Nvm nvm.new)) }
 {
     let cycles = trace_of(alloc, source)?;
     open_settled(alloc, nvm)?;
@@ -66,10 +66,10 @@ fn run<N: Nvm>(
     form: Form,
 ) -> Result<Vec<u8>, Fault>
     requires { All IsCycle cycles.now }
-    ensures text { IfOk result (λ out. Reports form cycles.now (memory N.extent N.content N.settled N.faults nvm.old)
-        (memory N.extent N.content N.settled N.faults nvm.new) out.items) }
-    ensures cause { IfErr result (IsRunCause cycles.now (memory N.extent N.content N.settled N.faults nvm.old)
-        (memory N.extent N.content N.settled N.faults nvm.new)) }
+    ensures text { IfOk result (λ out. Reports form cycles.now (memory N.Nvm nvm.old)
+        (memory N.Nvm nvm.new) out.items) }
+    ensures cause { IfErr result (IsRunCause cycles.now (memory N.Nvm nvm.old)
+        (memory N.Nvm nvm.new)) }
     ensures lent { GoesOn N.Nvm nvm.old nvm.new }
     ensures later { N.faults nvm.old ≤ N.faults nvm.new }
     ensures past { LeavesPast (N.content nvm.old) (N.settled nvm.old) (N.content nvm.new) (N.settled nvm.new) }

@@ -72,20 +72,20 @@ pub fn command<S: Source, K: Sink, N: Nvm>(
     ensures input { (form : Form) → AreReplay form words.now → result ≡ Status.Ok → IsAtEnd (S.left source.new) }
     ensures run { (form : Form) → AreReplay form words.now → result ≡ Status.Ok
         → Tells
-        (RunIs form (input S.left S.faults source.old) (memory N.extent N.content N.settled N.faults nvm.old) (memory N.extent N.content N.settled N.faults nvm.new))
+        (RunIs form (input S.Source source.old) (memory N.Nvm nvm.old) (memory N.Nvm nvm.new))
         (K.content sink.old) (K.content sink.new) }
     // With another status the sink gained exactly the line of a fault that has its cause; and where a write failed, a part
     // of the report or of such a line.
     ensures other { (form : Form) → AreReplay form words.now → result ≢ Status.Ok → result ≢ Status.WriteFault
         → TellsFault
-        (IsReplayCause (input S.left S.faults source.old) (input S.left S.faults source.new)
-        (memory N.extent N.content N.settled N.faults nvm.old) (memory N.extent N.content N.settled N.faults nvm.new))
+        (IsReplayCause (input S.Source source.old) (input S.Source source.new)
+        (memory N.Nvm nvm.old) (memory N.Nvm nvm.new))
         result (K.content sink.old) (K.content sink.new) }
     ensures part { (form : Form) → AreReplay form words.now → result ≡ Status.WriteFault
         → TellsPart
-        (RunIs form (input S.left S.faults source.old) (memory N.extent N.content N.settled N.faults nvm.old) (memory N.extent N.content N.settled N.faults nvm.new))
-        (IsReplayCause (input S.left S.faults source.old) (input S.left S.faults source.new)
-        (memory N.extent N.content N.settled N.faults nvm.old) (memory N.extent N.content N.settled N.faults nvm.new))
+        (RunIs form (input S.Source source.old) (memory N.Nvm nvm.old) (memory N.Nvm nvm.new))
+        (IsReplayCause (input S.Source source.old) (input S.Source source.new)
+        (memory N.Nvm nvm.old) (memory N.Nvm nvm.new))
         (K.content sink.old) (K.content sink.new) }
     // Whatever the status, what stands past the image stays.
     ensures past { (form : Form) → AreReplay form words.now
@@ -100,16 +100,16 @@ pub fn command<S: Source, K: Sink, N: Nvm>(
     // `report`. The same of what the device holds: nothing is read, and its bytes stay.
     ensures report { (form : Form) → AreReport form words.now → result ≡ Status.Ok
         → Tells
-        (ReportIs form (memory N.extent N.content N.settled N.faults nvm.old) (memory N.extent N.content N.settled N.faults nvm.new))
+        (ReportIs form (memory N.Nvm nvm.old) (memory N.Nvm nvm.new))
         (K.content sink.old) (K.content sink.new) }
     ensures report_other { (form : Form) → AreReport form words.now → result ≢ Status.Ok → result ≢ Status.WriteFault
         → TellsFault
-        (IsImageCause (memory N.extent N.content N.settled N.faults nvm.old) (memory N.extent N.content N.settled N.faults nvm.new))
+        (IsImageCause (memory N.Nvm nvm.old) (memory N.Nvm nvm.new))
         result (K.content sink.old) (K.content sink.new) }
     ensures report_part { (form : Form) → AreReport form words.now → result ≡ Status.WriteFault
         → TellsPart
-        (ReportIs form (memory N.extent N.content N.settled N.faults nvm.old) (memory N.extent N.content N.settled N.faults nvm.new))
-        (IsImageCause (memory N.extent N.content N.settled N.faults nvm.old) (memory N.extent N.content N.settled N.faults nvm.new))
+        (ReportIs form (memory N.Nvm nvm.old) (memory N.Nvm nvm.new))
+        (IsImageCause (memory N.Nvm nvm.old) (memory N.Nvm nvm.new))
         (K.content sink.old) (K.content sink.new) }
     ensures report_reads { (form : Form) → AreReport form words.now → source.new ≡ source.old }
     // Where nothing was pending, a crash at the end leaves the bytes as they were, whatever the status.
@@ -122,16 +122,16 @@ pub fn command<S: Source, K: Sink, N: Nvm>(
     // `format`. The same of its line: with Ok the device had no image and holds the new one, and a refusal leaves its bytes.
     ensures format { (h : Header) → AreFormat h words.now → result ≡ Status.Ok
         → Tells
-        (FormatIs h (memory N.extent N.content N.settled N.faults nvm.old) (memory N.extent N.content N.settled N.faults nvm.new))
+        (FormatIs h (memory N.Nvm nvm.old) (memory N.Nvm nvm.new))
         (K.content sink.old) (K.content sink.new) }
     ensures format_other { (h : Header) → AreFormat h words.now → result ≢ Status.Ok → result ≢ Status.WriteFault
         → TellsFault
-        (IsFormatCause h (memory N.extent N.content N.settled N.faults nvm.old) (memory N.extent N.content N.settled N.faults nvm.new))
+        (IsFormatCause h (memory N.Nvm nvm.old) (memory N.Nvm nvm.new))
         result (K.content sink.old) (K.content sink.new) }
     ensures format_part { (h : Header) → AreFormat h words.now → result ≡ Status.WriteFault
         → TellsPart
-        (FormatIs h (memory N.extent N.content N.settled N.faults nvm.old) (memory N.extent N.content N.settled N.faults nvm.new))
-        (IsFormatCause h (memory N.extent N.content N.settled N.faults nvm.old) (memory N.extent N.content N.settled N.faults nvm.new))
+        (FormatIs h (memory N.Nvm nvm.old) (memory N.Nvm nvm.new))
+        (IsFormatCause h (memory N.Nvm nvm.old) (memory N.Nvm nvm.new))
         (K.content sink.old) (K.content sink.new) }
     ensures format_reads { (h : Header) → AreFormat h words.now → source.new ≡ source.old }
     // Where nothing was pending, a crash at the end leaves the image as it was, or without the magic, or the new one.

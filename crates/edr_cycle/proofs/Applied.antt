@@ -1,33 +1,18 @@
 -- What an applied command says, in the words of commits.
-use Rattle.std.proofs.Common.{◌≡◌, ◌⊎◌, ◌≤◌, ◌-◌, ℕ, Bool, Option, List, [], ◌∷◌, take, refl, sym, ap, subst, inl, inr, arith, Ok, Err}
+use Rattle.std.proofs.Common.{◌≡◌, ◌⊎◌, ◌≤◌, ◌-◌, ℕ, Bool, Option, List, [], ◌∷◌, take, sym, subst, inl, inr, arith}
 use Rattle.std.specs.Prelude.{Contains}
-use Rattle.std.proofs.lemmas.List.Sums.{sum_by-cons}
 use Rattle.edr_device.specs.Device.{Elapses, IsQuiet, MayLeave}
 use Rattle.edr_device.proofs.Settling.{elapses_more}
 use Rattle.edr_image.specs.Banks.{Store}
-use Rattle.edr_image.specs.Calls.{all_calls, calls_of, stops}
+use Rattle.edr_image.specs.Calls.{stops}
 use Rattle.edr_image.specs.Image.{View}
 use Rattle.edr_image.specs.Steps.{Step, Erase, Fill, Lock, Done}
 use Rattle.edr_image.proofs.StopLaws.{contains_cases, contains_none, stops-is}
 use Rattle.edr_gates.specs.Taken.{AreStopped, AreTaken, MayTakeAll, PassMeanwhile}
 use Rattle.edr_gates.specs.Taken as taken
-use Rattle.edr_banks.specs.Applying.{Spends}
-use Rattle.edr_cycle.specs.Commits.{IsAfterFirst, IsLeftBy, IsReadyFor, Makes, Says}
+use Rattle.edr_cycle.specs.Commits.{IsAfterFirst, IsLeftBy, IsReadyFor, Says}
 use Rattle.edr_cycle.specs.Past.{KeepsPast}
 use Rattle.edr_cycle.proofs.PastLemmas.{done_past}
-
-some_calls : (s : Step) (steps : List Step) → 1 ≤ all_calls (s ∷ steps)
-some_calls s steps = let cons = sum_by-cons calls_of s steps in let one = few s in omega (arith, cons, one)
-  where
-    few : (s : Step) → 1 ≤ calls_of s
-    few (Erase m) = omega arith
-    few (Fill m pre) = omega arith
-    few (Lock m) = omega arith
-    few (Done m crash) = omega arith
-
-no_steps : (steps : List Step) → all_calls steps ≡ 0 → steps ≡ []
-no_steps [] e = refl
-no_steps (s ∷ steps) e = absurd (let some = some_calls s steps in omega (arith, some, e))
 
 -- a stop before the first call
 none_left : (steps done : List Step) → Contains (stops 0 steps) done → done ≡ []
@@ -53,19 +38,6 @@ module _ {D : Type 0} (content : D → Option (List ℕ)) (settled : D → ℕ �
 
   keeps : (bytes : List ℕ) (v : View) → IsReadyFor store (content d) (settled d) bytes v → (image : List ℕ) (done : List Step) → taken.HasDone steps done bytes v image → KeepsPast store.header bytes image
   keeps bytes v r image done has = subst (λ (s : Store). KeepsPast s.header bytes image) r.store_is (done_past steps done bytes image v r.view_is (subst (λ (s : Store). MayTakeAll s.banks steps) (sym r.store_is) may) has)
-
-  pub makes_ok : {T E T' E' : Type 0} (x : T) (y : T') → Spends {E = E} (all_calls steps) (clock d) (clock d') (good d) (good d') (Ok x) → (steps ≡ [] → d' ≡ d) → Makes {E = E'} (all_calls steps) (clock d) (clock d') (good d) (good d') (Ok y)
-  makes_ok x y h none = record {
-    later = h.later;
-    ok = h.ok;
-    good_is = (h.last_good, λ zero_calls. ap good (none (no_steps steps zero_calls)));
-    few = tt;
-    made = tt;
-    last = tt;
-  }
-
-  pub makes_err : {T E T' E' : Type 0} (e : E) (e' : E') → Spends {T = T} (all_calls steps) (clock d) (clock d') (good d) (good d') (Err e) → Makes {T = T'} (all_calls steps) (clock d) (clock d') (good d) (good d') (Err e')
-  makes_err e e' h = record { later = h.later; ok = tt; good_is = tt; few = h.few; made = h.made; last = h.last }
 
   pub taken_says : AreTaken steps (content d) (settled d) (content d') (settled d') → (bytes : List ℕ) (v : View) → IsReadyFor store (content d) (settled d) bytes v → (now : List ℕ) × IsQuiet (content d') (settled d') now × Says v steps now × KeepsPast store.header bytes now
   taken_says h bytes v r = let x = h bytes v (ready bytes v r) in (x.0, x.1, x.2.view, keeps bytes v r x.0 steps x.2)

@@ -3,6 +3,7 @@ use Rattle.std.specs.Prelude.{◌≡◌, ◌≢◌, ◌⊎◌, ◌+◌, ◌-◌,
 use Rattle.edr_definitions.specs.Commands.{Issue}
 use Rattle.edr_device.specs.Device.{Elapses, IsQuiet, IsSettled, MayLeave}
 use Rattle.edr_device.specs.Faults.{last_number}
+use Rattle.edr_device.specs.Pieces.{Makes}
 use Rattle.edr_image.specs.declared.Ack.{Ack}
 use Rattle.edr_image.specs.Banks.{Store}
 use Rattle.edr_image.specs.Calls.{all_calls, IsStop}
@@ -79,16 +80,6 @@ pub record StopsAt (s : State) (xs : List Issue) (before now : ℕ) (content con
   pub made : now ≢ last_number → all_calls (first_steps s xs j) < now - before
   pub log_is : l'.acks ≡ l.acks ++ take j (acks_from s xs)
   pub cut : (bytes image : List ℕ) (v : View) → IsReadyFor s.store content settled bytes v → MayLeave content' settled' image → IsCut s xs (now - before) j fails.reply.steps v image
-
--- n writes and syncs that end where one fails. `now` is the clock after them, and `good'` the last good moment. Unless the clock stands
--- at its last value, some call was made, and nothing follows the one that failed.
-pub record Makes {T E : Type 0} (n before now good good' : ℕ) (result : Result T E) : Type 0 where
-  pub later : before ≤ now
-  pub ok : OnOk result (now ≡ before + n)
-  pub good_is : OnOk result ((0 < n → good' ≡ now) × (n ≡ 0 → good' ≡ good))
-  pub few : OnErr result (now ≤ before + n)
-  pub made : OnErr result (now ≢ last_number → before < now)
-  pub last : OnErr result (now ≢ last_number → ((now ≡ before + 1) × (good' ≡ good)) ⊎ (now ≡ good' + 1))
 
 -- The issued commands are applied to the banks and logged, one after the other, up to one that fails. The words of the device come
 -- first, as functions of it.

@@ -21,16 +21,16 @@ pub returns-in-Err-clause-other : goal.returns-in-Err-clause-other
 returns-in-Err-clause-other g c = λ form workers asked ended.
     let S = g.S.Source in
     let D = g.N.Nvm in
-    let i = input S.left S.faults c.args.source.now in
-    let m = memory D.extent D.content D.settled D.faults c.args.nvm.now in
+    let i = input S c.args.source.now in
+    let m = memory D c.args.nvm.now in
     tells_fault (IsDriveCause i i m m) fault.OutOfMemory c.tell.result _ _ (inl (inl refl)) c.tell.ensures.whole
 
 pub returns-in-Err-clause-part : goal.returns-in-Err-clause-part
 returns-in-Err-clause-part g c = λ form workers asked failed.
     let S = g.S.Source in
     let D = g.N.Nvm in
-    let i = input S.left S.faults c.args.source.now in
-    let m = memory D.extent D.content D.settled D.faults c.args.nvm.now in
+    let i = input S c.args.source.now in
+    let m = memory D c.args.nvm.now in
     inr (tells_fault_part (IsDriveCause i i m m) _ fault.OutOfMemory c.tell.result _ _ (inl (inl refl)) c.tell.ensures.part failed)
 
 pub returns-in-Err-clause-complete : goal.returns-in-Err-clause-complete
@@ -43,10 +43,10 @@ pub returns-in-Err-drive_source-clause-complete : goal.returns-in-Err-drive_sour
 returns-in-Err-drive_source-clause-complete g c = λ form workers bytes image cs v n asked left within spelled told says room calm quiet_sink quiet.
     let S = g.S.Source in
     let D = g.N.Nvm in
-    let i = input S.left S.faults c.args.source.now in
-    let i' = input S.left S.faults c.drive_source.new.source in
-    let old = memory D.extent D.content D.settled D.faults c.args.nvm.now in
-    let new = memory D.extent D.content D.settled D.faults c.drive_source.new.nvm in
+    let i = input S c.args.source.now in
+    let i' = input S c.drive_source.new.source in
+    let old = memory D c.args.nvm.now in
+    let new = memory D c.drive_source.new.nvm in
     let memory_only = driven_only_memory i i' old new c.in-Err-drive_source.fault bytes image cs v n left within spelled told says room calm quiet_sink c.in-Err-drive_source.ensures.cause in
     inr (answered _ _ c.tell-in-Err-drive_source.result (status_of c.in-Err-drive_source.fault) c.tell-in-Err-drive_source.ensures.answers c.tell-in-Err-drive_source.ensures.part quiet ∙ ap status_of memory_only)
 

@@ -16,10 +16,10 @@ pub returns-clause-text : goal.returns-clause-text
 returns-clause-text g c =
     let S = g.S.Source in
     let D = g.N.Nvm in
-    let i = input S.left S.faults c.args.source.now in
-    let old = memory D.extent D.content D.settled D.faults c.args.nvm.now in
-    let mid = memory D.extent D.content D.settled D.faults c.open_settled.new.nvm in
-    let new = memory D.extent D.content D.settled D.faults c.run_driven.new.nvm in
+    let i = input S c.args.source.now in
+    let old = memory D c.args.nvm.now in
+    let mid = memory D c.open_settled.new.nvm in
+    let new = memory D c.run_driven.new.nvm in
     let cs = c.in_ok-cycles.cycles.items in
     let b = c.in_ok-open_settled.field-0 in
     ok_map c.run_driven.result (λ out. Reports c.args.form cs mid new out.items) (λ out. RunIs c.args.form i old new out.items)
@@ -29,11 +29,11 @@ pub returns-clause-cause : goal.returns-clause-cause
 returns-clause-cause g c =
     let S = g.S.Source in
     let D = g.N.Nvm in
-    let i = input S.left S.faults c.args.source.now in
-    let i' = input S.left S.faults c.trace_of.new.source in
-    let old = memory D.extent D.content D.settled D.faults c.args.nvm.now in
-    let mid = memory D.extent D.content D.settled D.faults c.open_settled.new.nvm in
-    let new = memory D.extent D.content D.settled D.faults c.run_driven.new.nvm in
+    let i = input S c.args.source.now in
+    let i' = input S c.trace_of.new.source in
+    let old = memory D c.args.nvm.now in
+    let mid = memory D c.open_settled.new.nvm in
+    let new = memory D c.run_driven.new.nvm in
     let cs = c.in_ok-cycles.cycles.items in
     let b = c.in_ok-open_settled.field-0 in
     err_map c.run_driven.result (λ f. IsDrivenCause cs mid new f) (λ f. IsDriveCause i i' old new f)
@@ -44,10 +44,10 @@ pub returns-in_err-open_settled-clause-cause : goal.returns-in_err-open_settled-
 returns-in_err-open_settled-clause-cause g c =
     let S = g.S.Source in
     let D = g.N.Nvm in
-    let i = input S.left S.faults c.args.source.now in
-    let i' = input S.left S.faults c.trace_of.new.source in
-    let old = memory D.extent D.content D.settled D.faults c.args.nvm.now in
-    let new = memory D.extent D.content D.settled D.faults c.open_settled.new.nvm in
+    let i = input S c.args.source.now in
+    let i' = input S c.trace_of.new.source in
+    let old = memory D c.args.nvm.now in
+    let new = memory D c.open_settled.new.nvm in
     let cs = c.in_ok-cycles.cycles.items in
     let p = err_from_is_err_and c.from_residual-in_err-open_settled.result c.from_residual-in_err-open_settled.ensures.1 in
     rw (p.1, p.2) (inl (look_cause i i' old new cs c.in_err-open_settled.field-0.0 c.in_ok-cycles.ensures.spelled c.in_ok-cycles.ensures.end c.open_settled.ensures.stays

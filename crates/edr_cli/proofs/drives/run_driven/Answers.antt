@@ -14,17 +14,17 @@ use Rattle.edr_cli.proofs.drives.run_driven.Goals as goal
 pub returns-in-Err-clause-cause : goal.returns-in-Err-clause-cause
 returns-in-Err-clause-cause g c =
     let D = g.N.Nvm in
-    let old = memory D.extent D.content D.settled D.faults c.args.nvm.now in
-    let new = memory D.extent D.content D.settled D.faults c.replay_driven.new.nvm in
+    let old = memory D c.args.nvm.now in
+    let new = memory D c.replay_driven.new.nvm in
     subst (λ (f : Fault). IsDrivenCause c.args.cycles.items old new f) (sym c.start_fault.ensures)
     (driven_cause c.args.cycles.items old new c.in-Err.e c.in-Err.ensures.fault c.in-Err.ensures.refused c.in-Err.ensures.short c.in-Err.ensures.spent c.in-Err.ensures.left c.in-Err.ensures.memory)
 
 pub returns-in-Ok-clause-text : goal.returns-in-Ok-clause-text
 returns-in-Ok-clause-text g c =
     let D = g.N.Nvm in
-    let old = memory D.extent D.content D.settled D.faults c.args.nvm.now in
-    let mid = memory D.extent D.content D.settled D.faults c.replay_driven.new.nvm in
-    let new = memory D.extent D.content D.settled D.faults c.report_held.new.nvm in
+    let old = memory D c.args.nvm.now in
+    let mid = memory D c.replay_driven.new.nvm in
+    let new = memory D c.report_held.new.nvm in
     let rs = c.in-Ok.reports.items in
     ok_map c.report_held.result (λ out. ReportsHeld c.args.form (map report_of c.deref.result.now) mid out.items) (λ out. Reports c.args.form c.args.cycles.items old new out.items)
     (λ out is. run_reports c.args.form c.args.cycles.items old mid new rs out.items c.in-Ok.ensures.ran c.report_held.ensures.content c.report_held.ensures.settled
@@ -33,9 +33,9 @@ returns-in-Ok-clause-text g c =
 pub returns-in-Ok-clause-cause : goal.returns-in-Ok-clause-cause
 returns-in-Ok-clause-cause g c =
     let D = g.N.Nvm in
-    let old = memory D.extent D.content D.settled D.faults c.args.nvm.now in
-    let mid = memory D.extent D.content D.settled D.faults c.replay_driven.new.nvm in
-    let new = memory D.extent D.content D.settled D.faults c.report_held.new.nvm in
+    let old = memory D c.args.nvm.now in
+    let mid = memory D c.replay_driven.new.nvm in
+    let new = memory D c.report_held.new.nvm in
     err_map c.report_held.result (λ f. IsImageCause mid new f) (λ f. IsDrivenCause c.args.cycles.items old new f)
     (λ f cause. inl (behind_cause c.args.cycles.items old mid new c.in-Ok.reports.items f c.in-Ok.ensures.ran c.report_held.ensures.content c.report_held.ensures.settled c.in-Ok.ensures.size c.in-Ok.ensures.later cause))
     c.report_held.ensures.cause

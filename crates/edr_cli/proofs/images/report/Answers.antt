@@ -9,8 +9,8 @@ use Rattle.edr_cli.proofs.images.report.Goals as goal
 pub returns-clause-text : goal.returns-clause-text
 returns-clause-text g c =
     let D = g.N.Nvm in
-    let old = memory D.extent D.content D.settled D.faults c.args.nvm.now in
-    let new = memory D.extent D.content D.settled D.faults c.open_settled.new.nvm in
+    let old = memory D c.args.nvm.now in
+    let new = memory D c.open_settled.new.nvm in
     let b = c.in_ok-banks.banks in
     ok_map c.report_of_banks.result (λ out. out.items ≡ report_in c.args.form [] b.store b.count) (λ out. ReportIs c.args.form old new out.items)
     (λ out is. reported c.args.form old new b.store b.count out.items c.in_ok-banks.ensures.says is) c.report_of_banks.ensures.text
@@ -18,8 +18,8 @@ returns-clause-text g c =
 pub returns-clause-cause : goal.returns-clause-cause
 returns-clause-cause g c =
     let D = g.N.Nvm in
-    let old = memory D.extent D.content D.settled D.faults c.args.nvm.now in
-    let new = memory D.extent D.content D.settled D.faults c.open_settled.new.nvm in
+    let old = memory D c.args.nvm.now in
+    let new = memory D c.open_settled.new.nvm in
     err_map c.report_of_banks.result (λ e. e ≡ fault.OutOfMemory) (λ f. IsImageCause old new f)
     (λ f is. subst (λ (x : Fault). IsImageCause old new x) (sym is) (same_told old.content new.content c.open_settled.ensures.tells (λ image told. (c.in_ok-banks.ensures.says image told).1.0)))
     c.report_of_banks.ensures.memory

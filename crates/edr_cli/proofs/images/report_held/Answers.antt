@@ -11,7 +11,7 @@ use Rattle.edr_cli.proofs.images.report_held.Goals as goal
 pub returns-clause-text : goal.returns-clause-text
 returns-clause-text g c =
     let D = g.N.Nvm in
-    let old = memory D.extent D.content D.settled D.faults c.args.nvm.now in
+    let old = memory D c.args.nvm.now in
     let b = c.in_ok-banks.banks in
     ok_map c.report_of_banks.result (λ out. out.items ≡ report_in c.args.form (map report_of c.args.run.now) b.store b.count) (λ out. ReportsHeld c.args.form (map report_of c.args.run.now) old out.items)
     (λ out is. (b.store, b.count, c.in_ok-banks.ensures.says, is)) c.report_of_banks.ensures.text
@@ -19,7 +19,7 @@ returns-clause-text g c =
 pub returns-clause-cause : goal.returns-clause-cause
 returns-clause-cause g c =
     let D = g.N.Nvm in
-    let old = memory D.extent D.content D.settled D.faults c.args.nvm.now in
-    let new = memory D.extent D.content D.settled D.faults c.open.new.nvm in
+    let old = memory D c.args.nvm.now in
+    let new = memory D c.open.new.nvm in
     err_map c.report_of_banks.result (λ e. e ≡ fault.OutOfMemory) (λ f. IsImageCause old new f)
     (λ f is. subst (λ (x : Fault). IsImageCause old new x) (sym is) c.open.ensures.content) c.report_of_banks.ensures.memory

@@ -13,17 +13,17 @@ use Rattle.edr_cli.proofs.replays.run.Goals as goal
 pub returns-in-Err-clause-cause : goal.returns-in-Err-clause-cause
 returns-in-Err-clause-cause g c =
     let D = g.N.Nvm in
-    let old = memory D.extent D.content D.settled D.faults c.args.nvm.now in
-    let new = memory D.extent D.content D.settled D.faults c.replay.new.nvm in
+    let old = memory D c.args.nvm.now in
+    let new = memory D c.replay.new.nvm in
     subst (λ (f : Fault). IsRunCause c.args.cycles.now old new f) (sym c.start_fault.ensures)
     (start_cause c.args.cycles.now old new c.in-Err.e c.in-Err.ensures.fault c.in-Err.ensures.refused c.in-Err.ensures.short c.in-Err.ensures.spent c.in-Err.ensures.left c.in-Err.ensures.memory)
 
 pub returns-in-Ok-clause-text : goal.returns-in-Ok-clause-text
 returns-in-Ok-clause-text g c =
     let D = g.N.Nvm in
-    let old = memory D.extent D.content D.settled D.faults c.args.nvm.now in
-    let mid = memory D.extent D.content D.settled D.faults c.replay.new.nvm in
-    let new = memory D.extent D.content D.settled D.faults c.report_held.new.nvm in
+    let old = memory D c.args.nvm.now in
+    let mid = memory D c.replay.new.nvm in
+    let new = memory D c.report_held.new.nvm in
     let rs = c.in-Ok.reports.items in
     ok_map c.report_held.result (λ out. ReportsHeld c.args.form (map report_of c.deref.result.now) mid out.items) (λ out. Reports c.args.form c.args.cycles.now old new out.items)
     (λ out is. run_reports c.args.form c.args.cycles.now old mid new rs out.items c.in-Ok.ensures.ran c.report_held.ensures.content c.report_held.ensures.settled
@@ -32,9 +32,9 @@ returns-in-Ok-clause-text g c =
 pub returns-in-Ok-clause-cause : goal.returns-in-Ok-clause-cause
 returns-in-Ok-clause-cause g c =
     let D = g.N.Nvm in
-    let old = memory D.extent D.content D.settled D.faults c.args.nvm.now in
-    let mid = memory D.extent D.content D.settled D.faults c.replay.new.nvm in
-    let new = memory D.extent D.content D.settled D.faults c.report_held.new.nvm in
+    let old = memory D c.args.nvm.now in
+    let mid = memory D c.replay.new.nvm in
+    let new = memory D c.report_held.new.nvm in
     err_map c.report_held.result (λ f. IsImageCause mid new f) (λ f. IsRunCause c.args.cycles.now old new f)
     (λ f cause. behind_cause c.args.cycles.now old mid new c.in-Ok.reports.items f c.in-Ok.ensures.ran c.report_held.ensures.content c.report_held.ensures.settled c.in-Ok.ensures.size c.in-Ok.ensures.later cause)
     c.report_held.ensures.cause

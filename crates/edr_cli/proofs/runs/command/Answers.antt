@@ -30,16 +30,16 @@ pub returns-in-Err-clause-other : goal.returns-in-Err-clause-other
 returns-in-Err-clause-other g c = λ form asked ended.
     let S = g.S.Source in
     let D = g.N.Nvm in
-    let i = input S.left S.faults c.args.source.now in
-    let m = memory D.extent D.content D.settled D.faults c.args.nvm.now in
+    let i = input S c.args.source.now in
+    let m = memory D c.args.nvm.now in
     tells_fault (IsReplayCause i i m m) fault.OutOfMemory c.tell.result _ _ (inl refl) c.tell.ensures.whole
 
 pub returns-in-Err-clause-part : goal.returns-in-Err-clause-part
 returns-in-Err-clause-part g c = λ form asked failed.
     let S = g.S.Source in
     let D = g.N.Nvm in
-    let i = input S.left S.faults c.args.source.now in
-    let m = memory D.extent D.content D.settled D.faults c.args.nvm.now in
+    let i = input S c.args.source.now in
+    let m = memory D c.args.nvm.now in
     inr (tells_fault_part (IsReplayCause i i m m) _ fault.OutOfMemory c.tell.result _ _ (inl refl) c.tell.ensures.part failed)
 
 pub returns-in-Err-clause-complete : goal.returns-in-Err-clause-complete
@@ -49,13 +49,13 @@ returns-in-Err-clause-complete g c = λ form bytes image cs v n asked left withi
 pub returns-in-Err-clause-report_other : goal.returns-in-Err-clause-report_other
 returns-in-Err-clause-report_other g c = λ form asked ended.
     let D = g.N.Nvm in
-    let m = memory D.extent D.content D.settled D.faults c.args.nvm.now in
+    let m = memory D c.args.nvm.now in
     tells_fault (IsImageCause m m) fault.OutOfMemory c.tell.result _ _ refl c.tell.ensures.whole
 
 pub returns-in-Err-clause-report_part : goal.returns-in-Err-clause-report_part
 returns-in-Err-clause-report_part g c = λ form asked failed.
     let D = g.N.Nvm in
-    let m = memory D.extent D.content D.settled D.faults c.args.nvm.now in
+    let m = memory D c.args.nvm.now in
     inr (tells_fault_part (IsImageCause m m) _ fault.OutOfMemory c.tell.result _ _ refl c.tell.ensures.part failed)
 
 pub returns-in-Err-clause-report_stays : goal.returns-in-Err-clause-report_stays
@@ -64,13 +64,13 @@ returns-in-Err-clause-report_stays g c = λ form bytes image asked quiet left. q
 pub returns-in-Err-clause-format_other : goal.returns-in-Err-clause-format_other
 returns-in-Err-clause-format_other g c = λ h asked ended.
     let D = g.N.Nvm in
-    let m = memory D.extent D.content D.settled D.faults c.args.nvm.now in
+    let m = memory D c.args.nvm.now in
     tells_fault (IsFormatCause h m m) fault.OutOfMemory c.tell.result _ _ refl c.tell.ensures.whole
 
 pub returns-in-Err-clause-format_part : goal.returns-in-Err-clause-format_part
 returns-in-Err-clause-format_part g c = λ h asked failed.
     let D = g.N.Nvm in
-    let m = memory D.extent D.content D.settled D.faults c.args.nvm.now in
+    let m = memory D c.args.nvm.now in
     inr (tells_fault_part (IsFormatCause h m m) _ fault.OutOfMemory c.tell.result _ _ refl c.tell.ensures.part failed)
 
 pub returns-in-Err-clause-format_crash : goal.returns-in-Err-clause-format_crash
@@ -107,10 +107,10 @@ pub returns-in-Err-replay_source-clause-complete : goal.returns-in-Err-replay_so
 returns-in-Err-replay_source-clause-complete g c = λ form bytes image cs v n asked left within spelled told says room calm quiet_sink quiet.
     let S = g.S.Source in
     let D = g.N.Nvm in
-    let i = input S.left S.faults c.args.source.now in
-    let i' = input S.left S.faults c.replay_source.new.source in
-    let old = memory D.extent D.content D.settled D.faults c.args.nvm.now in
-    let new = memory D.extent D.content D.settled D.faults c.replay_source.new.nvm in
+    let i = input S c.args.source.now in
+    let i' = input S c.replay_source.new.source in
+    let old = memory D c.args.nvm.now in
+    let new = memory D c.replay_source.new.nvm in
     let memory_only = only_memory i i' old new c.in-Err-replay_source.fault bytes image cs v n left within spelled told says room calm quiet_sink c.in-Err-replay_source.ensures.cause in
     inr (answered _ _ c.tell-in-Err-replay_source.result (status_of c.in-Err-replay_source.fault) c.tell-in-Err-replay_source.ensures.answers c.tell-in-Err-replay_source.ensures.part quiet ∙ ap status_of memory_only)
 
@@ -123,8 +123,8 @@ pub returns-in-Ok-make_image-clause-format : goal.returns-in-Ok-make_image-claus
 returns-in-Ok-make_image-clause-format g c = λ h asked ok.
     let K = g.K.Sink in
     let D = g.N.Nvm in
-    let old = memory D.extent D.content D.settled D.faults c.args.nvm.now in
-    let new = memory D.extent D.content D.settled D.faults c.make_image.new.nvm in
+    let old = memory D c.args.nvm.now in
+    let new = memory D c.make_image.new.nvm in
     let is : AreFormat (record { banks = c.in-Some-Format.banks; choice = c.in-Some-Format.choice }) c.args.words.now = search rules in
     let same = same_header c.args.words.now _ h is asked in
     tells_whole (λ text. FormatIs h old new text) _ c.in-Ok-make_image.line c.as_bytes.result.now c.write-in-Ok-make_image.result (K.content c.args.sink.now) (K.content c.write-in-Ok-make_image.new.sink)
@@ -134,8 +134,8 @@ pub returns-in-Ok-make_image-clause-format_part : goal.returns-in-Ok-make_image-
 returns-in-Ok-make_image-clause-format_part g c = λ h asked failed.
     let K = g.K.Sink in
     let D = g.N.Nvm in
-    let old = memory D.extent D.content D.settled D.faults c.args.nvm.now in
-    let new = memory D.extent D.content D.settled D.faults c.make_image.new.nvm in
+    let old = memory D c.args.nvm.now in
+    let new = memory D c.make_image.new.nvm in
     let is : AreFormat (record { banks = c.in-Some-Format.banks; choice = c.in-Some-Format.choice }) c.args.words.now = search rules in
     let same = same_header c.args.words.now _ h is asked in
     tells_part (λ text. FormatIs h old new text) (λ f. IsFormatCause h old new f) _ c.in-Ok-make_image.line c.as_bytes.result.now c.write-in-Ok-make_image.result (K.content c.args.sink.now) (K.content c.write-in-Ok-make_image.new.sink)

@@ -1,8 +1,10 @@
 use Rattle.std.proofs.Common.{◌≡◌, ◌∷◌, ◌++◌, ◌-◌, [], ap}
+use Rattle.edr_device.proofs.Lending.{makes_err, makes_ok}
+use Rattle.edr_image.specs.Calls.{all_calls}
 use Rattle.edr_image.specs.Steps.{reply_to}
 use Rattle.edr_banks.specs.Opened.{Opened, state_of}
 use Rattle.edr_definitions.specs.Commands.{issue_at}
-use Rattle.edr_cycle.proofs.Applied.{makes_err, makes_ok, pass_keeps, pass_says, stopped_cuts, taken_says}
+use Rattle.edr_cycle.proofs.Applied.{pass_keeps, pass_says, stopped_cuts, taken_says}
 use Rattle.edr_cycle.proofs.Committed.{one_applied, one_failed}
 use Rattle.edr_cycle.proofs.committing.commit.Goals as goal
 
@@ -21,7 +23,7 @@ returns-in-Ok-clause-commits g c =
     let f : c.in-Ok.applied ≡ r.answer = a.answer.1 in
     one_applied N.content N.settled N.since N.clock N.last_good tt i b c.apply.new.self l c.push.new.self d d'
     (rw (e, f) at ack) (ap state_of a.next) (ap (λ (o : Opened). o.count) a.next) (ap (λ (o : Opened). o.ended) a.next)
-    (makes_ok N.content N.settled N.since N.clock N.last_good r.steps b.store a.may d d' c.in-Ok.applied tt (a.time c.requires.live) (λ none. (a.not_kept c.requires.live none).2))
+    (makes_ok (all_calls r.steps) _ _ _ _ c.in-Ok.applied tt (a.time c.requires.live))
     (taken_says N.content N.settled N.since N.clock N.last_good r.steps b.store a.may d d' a.taken)
     (pass_says N.content N.settled N.since N.clock N.last_good r.steps b.store a.may d d' a.any_moment)
     (pass_keeps N.content N.settled N.since N.clock N.last_good r.steps b.store a.may d d' a.any_moment)
@@ -36,7 +38,7 @@ returns-in-Err-clause-commits g c =
     let d = c.args.nvm.now in
     let d' = c.apply.new.nvm in
     one_failed N.content N.settled N.since N.clock N.last_good _ i b c.apply.new.self c.args.log.now d d'
-    (makes_err N.content N.settled N.since N.clock N.last_good r.steps b.store a.may d d' c.in-Err.field-0 _ (a.time c.requires.live))
+    (makes_err (all_calls r.steps) _ _ _ _ c.in-Err.field-0 _ (a.time c.requires.live))
     (stopped_cuts N.content N.settled N.since N.clock N.last_good r.steps b.store a.may d d' (a.stopped c.requires.live))
     (pass_says N.content N.settled N.since N.clock N.last_good r.steps b.store a.may d d' a.any_moment)
     (pass_keeps N.content N.settled N.since N.clock N.last_good r.steps b.store a.may d d' a.any_moment)

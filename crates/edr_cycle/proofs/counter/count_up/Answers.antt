@@ -39,7 +39,7 @@ returns-clause-stopped g c =
     let nvm = c.args.nvm.now in
     let mid = c.write_settled.new.nvm in
     let end = c.write_gated.new.nvm in
-    let two = c.in_ok-write_settled.ensures.time.ok.0 in
+    let two = c.in_ok-write_settled.ensures.time.ok in
     let later = c.write_gated.ensures.time.later in
     map_err c.write_gated.result c.write_gated.ensures.stopped (λ stopped bytes image v quiet h left.
     let fits = fits_next c.args.slot c.args.is_open c.args.next bytes v h in

@@ -7,7 +7,7 @@ use Rattle.edr_cycle.proofs.starting.start.Goals as goal
 pub returns-in_err-started-clause-cycle : goal.returns-in_err-started-clause-cycle
 returns-in_err-started-clause-cycle g c =
     let N = g.N.Nvm in
-    starts_early N.content N.settled N.since N.clock N.last_good g.met.N.Nvm.only_now c.args.nvm.now c.prepare.new.nvm c.from_residual.result c.from_residual.ensures.0 c.prepare.ensures.stays c.prepare.ensures.clock
+    starts_early N.content N.settled N.since N.clock N.last_good g.met.N.Nvm.only_now c.args.nvm.now c.prepare.new.nvm c.from_residual.result c.from_residual.ensures.0 c.prepare.ensures.read.stays c.prepare.ensures.read.clock
 
 pub returns-in-Ok-clause-cycle : goal.returns-in-Ok-clause-cycle
 returns-in-Ok-clause-cycle g c =
@@ -16,7 +16,7 @@ returns-in-Ok-clause-cycle g c =
     let p = c.in_ok-started.ensures in
     let d = c.prepare.new.nvm in
     let e = c.count_cycle.new.nvm in
-    starts_counted N.content N.settled N.since N.clock N.last_good g.met.N.Nvm.only_now c.args.nvm.now e _ c.number.result d c.prepare.ensures.stays c.prepare.ensures.clock
+    starts_counted N.content N.settled N.since N.clock N.last_good g.met.N.Nvm.only_now c.args.nvm.now e _ c.number.result d c.prepare.ensures.read.stays c.prepare.ensures.read.clock
     (λ bytes v told says. c.number.ensures ∙ number_next s.banks.store s.number v (view_of bytes) p.number.0 says (p.found bytes told))
     (six_ok (N.clock d) (N.clock e) (N.last_good e) c.in-Ok.field-0 s c.in-Ok.ensures.time) tt c.count_cycle.ensures.any_moment
 
@@ -27,7 +27,7 @@ returns-in-Err-clause-cycle g c =
     let p = c.in_ok-started.ensures in
     let d = c.prepare.new.nvm in
     let e = c.count_cycle.new.nvm in
-    starts_counted N.content N.settled N.since N.clock N.last_good g.met.N.Nvm.only_now c.args.nvm.now e _ c.number.result d c.prepare.ensures.stays c.prepare.ensures.clock
+    starts_counted N.content N.settled N.since N.clock N.last_good g.met.N.Nvm.only_now c.args.nvm.now e _ c.number.result d c.prepare.ensures.read.stays c.prepare.ensures.read.clock
     (λ bytes v told says. c.number.ensures ∙ number_next s.banks.store s.number v (view_of bytes) p.number.0 says (p.found bytes told))
     (six_err (N.clock d) (N.clock e) (N.last_good e) c.in-Err.field-0 _ c.in-Err.ensures.time) c.in-Err.ensures.stopped c.count_cycle.ensures.any_moment
 
@@ -45,7 +45,7 @@ returns-in-Ok-clause-made g c = λ bytes v found.
     let p = c.in_ok-started.ensures in
     let d = c.args.nvm.now in
     let m = c.prepare.new.nvm in
-    let still = found_stays v (N.content d) (N.content m) (N.settled d) (N.settled m) (N.since d) (N.since m) bytes c.prepare.ensures.stays found in
+    let still = found_stays v (N.content d) (N.content m) (N.settled d) (N.settled m) (N.since d) (N.since m) bytes c.prepare.ensures.read.stays found in
     let next = number_next s.banks.store s.number v (view_of bytes) p.number.0 found.view_is (p.found bytes found.quiet.0) in
     let called = c.number.ensures in
     let made = c.in-Ok.ensures.made bytes v still (omega (arith, called, next)) in
