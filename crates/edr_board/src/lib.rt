@@ -1,7 +1,8 @@
 //! The board: three words that the threads of a recorder share. The recorder posts the gate and the last closed tick,
 //! the committer posts that it has stopped, and any number of watches read. No word ever falls.
 //!
-//! Posts and reads wait for nobody; [`Watch::wait_gate`] alone waits.
+//! Posts and reads wait for nobody; [`Watch::wait_gate`] and [`Watch::sleep_at`] alone wait. Both sleep in the system until
+//! they are woken.
 #![tactic(auto)]
 
 ghost use Rattle.std.specs.Prelude.{◌≡◌, ◌≤◌, List, true, IfOk, OnErr};
@@ -25,7 +26,6 @@ use crate::view::View;
 use atomic_table::Table;
 use std::alloc::{AllocError as OutOfMemory, Global};
 use std::sync::{Arc, Wait};
-use std::thread;
 
 // The places of the words.
 const GATE: usize = 0;
@@ -92,7 +92,7 @@ impl Board {
 }
 
 impl RecorderSeat {
-    /// Posts the gate.
+    /// Posts the gate, and wakes who waits for it.
     pub fn post_gate(&mut self, gate: u32)
         requires { gate_posted self.old ≤ gate }
         ensures board { board_of_recorder self.new ≡ board_of_recorder self.old }
@@ -102,6 +102,7 @@ impl RecorderSeat {
         self.table
             .shared
             .store::<PostGate>(&mut self.seat, GATE, gate.into());
+        self.table.shared.wake_all(GATE);
         self.gate = gate;
     }
 
@@ -116,6 +117,11 @@ impl RecorderSeat {
             .shared
             .store::<PostClosed>(&mut self.seat, CLOSED, tick.into());
         self.closed = tick;
+    }
+
+    /// Wakes who sleeps at a closed tick. A post alone wakes nobody, so that a tick with no news costs no call of the system.
+    pub fn wake(&self) {
+        self.table.shared.wake_all(CLOSED);
     }
 }
 
@@ -186,9 +192,16 @@ impl Watch {
             if gate != 0 {
                 return gate as u32;
             }
-            thread::yield_now();
+            self.table.shared.park(rt, GATE, 0);
         }
         unreachable!()
+    }
+
+    /// Sleeps until the recorder wakes, if `closed` is the closed tick that was posted last. It may also return for no reason.
+    ///
+    /// A post between the read of `closed` and this call is not missed: the words differ then, and nobody sleeps.
+    pub fn sleep_at<R: Wait>(&self, rt: &R, closed: u32) {
+        self.table.shared.park(rt, CLOSED, closed);
     }
 }
 

@@ -175,12 +175,13 @@ fn check_threads<R: Threads + Wait + Abort + Copy + Send + 'static>(
         mut committer,
     } = begin(alloc, core)?;
     let ends = ends_of(feeds);
+    let mut desk = Some(desk);
     let back = with_workers(
         rt,
         0,
         workers,
         places,
-        desk,
+        &mut desk,
         feeds,
         &gate,
         ends,
@@ -192,9 +193,10 @@ fn check_threads<R: Threads + Wait + Abort + Copy + Send + 'static>(
         &mut log,
     );
     assert_eq!(rt; gate.passed.load(Ordering::SeqCst), items_in(7000));
-    assert_eq!(rt; back.desk.last, ends);
-    assert_eq!(rt; back.desk.core.closed(), 7000);
-    assert_eq!(rt; back.desk.posted, 7000);
+    let desk = desk.ok_or("the desk came back")?;
+    assert_eq!(rt; desk.last, ends);
+    assert_eq!(rt; desk.core.closed(), 7000);
+    assert_eq!(rt; desk.posted, 7000);
     assert!(rt; inbox.take().is_none());
     assert!(rt; back.committed.is_ok());
     assert_eq!(rt; log.acks().len(), 3);

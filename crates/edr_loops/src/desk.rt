@@ -1,7 +1,9 @@
 //! The recorder's desk: what the recorder's thread owns, and its loop.
 
-ghost use Rattle.std.specs.Prelude.{◌≡◌, ◌≤◌, ℕ, [], true};
+ghost use Rattle.std.specs.Prelude.{◌≡◌, ◌≤◌, ℕ, [], true, map};
+ghost use Rattle.edr_definitions.specs.Commands.{issue_at};
 ghost use Rattle.edr_definitions.specs.Schedule.{Progress, Give, IsAllowed, after_step};
+ghost use Rattle.edr_core.specs.Answers.{commands_put};
 ghost use Rattle.edr_core.specs.StandsFor.{CoreIsFor};
 ghost use Rattle.edr_board.specs.Seats.{closed_posted, gate_posted};
 ghost use Rattle.edr_loops.specs.Held.{issues_held};
@@ -32,6 +34,15 @@ pub struct Desk {
     pub posted: u32,
 }
 
+// Holds what a tick issues. Few ticks issue something, and the places that this takes are large: it stands apart, so that the other
+// ticks don't clear them.
+#[inline(never)]
+fn hold(held: &mut Held, tick: u32, issued: &Issued)
+    ensures { issues_held held.new ≡ map (issue_at tick) (commands_put true issued.now) }
+{
+    *held = Held::of_tick(tick, true, issued);
+}
+
 // Gives an item to the core. One that the schedule allows is taken; no other is given to it in a run.
 fn give(core: &mut Core, sensor: Sensor, item: Item)
     ensures { (n : ℕ) (p : Progress) → CoreIsFor core.old n p → IsAllowed (Give sensor item) p → CoreIsFor core.new n (after_step p (Give sensor item)) }
@@ -40,7 +51,9 @@ fn give(core: &mut Core, sensor: Sensor, item: Item)
 }
 
 impl Desk {
-    // Takes the next item of that sensor, if it is no further ahead of the closed tick than a gap may be.
+    // Takes the next item of that sensor, if it is no further ahead of the closed tick than a gap may be. In each call of `take_some`
+    // the sensor is known, and with it all that is chosen by it.
+    #[inline(always)]
     fn take_next(&mut self, sensor: Sensor) -> bool
         ensures follows { Follows self.old self.new }
         ensures seat { (self.new.seat ≡ self.old.seat) × (self.new.posted ≡ self.old.posted) }
@@ -56,6 +69,7 @@ impl Desk {
     }
 
     // Takes what there is of that sensor and may be taken, at most as many items as a ring has room for.
+    #[inline(always)]
     fn take_some(&mut self, sensor: Sensor) -> bool
         ensures follows { Follows self.old self.new }
         ensures seat { (self.new.seat ≡ self.old.seat) × (self.new.posted ≡ self.old.posted) }
@@ -71,29 +85,30 @@ impl Desk {
         moved
     }
 
-    // Closes the next tick, if no sensor can give an item of it any more, and holds what it issues.
-    fn close_next(&mut self) -> bool
+    // Closes the next tick, if no sensor can give an item of it any more, and holds what it issues. `issued` is a place to put that
+    // aside: it is large, and most ticks issue nothing.
+    fn close_next(&mut self, issued: &mut Issued) -> bool
         requires { issues_held self.old.held ≡ [] }
         ensures follows { Follows self.old self.new }
         ensures seat { (self.new.seat ≡ self.old.seat) × (self.new.posted ≡ self.old.posted) }
     {
-        let mut issued = Issued::none();
-        match self.core.close(&mut issued) {
+        match self.core.close(issued) {
             Closing::Waiting { .. } => false,
-            Closing::Closed { tick, issues } => {
-                self.held = Held::of_tick(tick, issues, &issued);
+            Closing::Closed { issues: false, .. } => true,
+            Closing::Closed { tick, issues: true } => {
+                hold(&mut self.held, tick, issued);
                 true
             }
         }
     }
 
     // The same below the horizon alone, and where nothing is held.
-    fn close_below(&mut self, horizon: u32) -> bool
+    fn close_below(&mut self, horizon: u32, issued: &mut Issued) -> bool
         ensures follows { Follows self.old self.new }
         ensures seat { (self.new.seat ≡ self.old.seat) × (self.new.posted ≡ self.old.posted) }
     {
         if self.held.is_none() && self.core.closed() < horizon {
-            self.close_next()
+            self.close_next(issued)
         } else {
             false
         }
@@ -104,9 +119,10 @@ impl Desk {
         ensures follows { Follows self.old self.new }
         ensures seat { (self.new.seat ≡ self.old.seat) × (self.new.posted ≡ self.old.posted) }
     {
+        let mut issued = Issued::none();
         let mut moved = false;
         for _ in 0..SLOTS {
-            if !self.close_below(horizon) {
+            if !self.close_below(horizon, &mut issued) {
                 break;
             }
             moved = true;
@@ -135,6 +151,13 @@ impl Desk {
         if self.posted < closed {
             self.seat.post_closed(closed);
             self.posted = closed;
+        }
+    }
+
+    // Wakes the committer where there is news for it: orders were sent, or the horizon is posted.
+    fn wake(&self, sent: bool, horizon: u32) {
+        if sent || self.posted >= horizon {
+            self.seat.wake();
         }
     }
 
@@ -171,10 +194,12 @@ impl Desk {
         ensures follows { Follows self.old self.new }
         ensures posted { IsPosted self.new }
     {
+        let sends = !self.held.is_none();
         if !self.send_held() {
             return false;
         }
         self.post_closed();
+        self.wake(sends, horizon);
         let fast = self.take_fast();
         let slow = self.take_slow();
         let closed = self.close_some(horizon);

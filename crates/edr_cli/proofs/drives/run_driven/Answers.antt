@@ -37,7 +37,7 @@ returns-in-Ok-clause-cause g c =
     let mid = memory D c.replay_driven.new.nvm in
     let new = memory D c.report_held.new.nvm in
     err_map c.report_held.result (λ f. IsImageCause mid new f) (λ f. IsDrivenCause c.args.cycles.items old new f)
-    (λ f cause. inl (behind_cause c.args.cycles.items old mid new c.in-Ok.reports.items f c.in-Ok.ensures.ran c.report_held.ensures.content c.report_held.ensures.settled c.in-Ok.ensures.size c.in-Ok.ensures.later cause))
+    (λ f cause. inl (behind_cause c.args.cycles.items old mid new c.in-Ok.reports.items f c.in-Ok.ensures.ran c.report_held.ensures.content c.report_held.ensures.settled c.in-Ok.ensures.lent.size c.in-Ok.ensures.later cause))
     c.report_held.ensures.cause
 
 pub returns-in-Ok-clause-past : goal.returns-in-Ok-clause-past

@@ -21,5 +21,5 @@ returns-clause-cause g c =
     let old = memory D c.args.nvm.now in
     let new = memory D c.open_settled.new.nvm in
     err_map c.report_of_banks.result (λ e. e ≡ fault.OutOfMemory) (λ f. IsImageCause old new f)
-    (λ f is. subst (λ (x : Fault). IsImageCause old new x) (sym is) (same_told old.content new.content c.open_settled.ensures.tells (λ image told. (c.in_ok-banks.ensures.says image told).1.0)))
+    (λ f is. subst (λ (x : Fault). IsImageCause old new x) (sym is) (same_told old.content new.content c.open_settled.ensures.lent.tells (λ image told. (c.in_ok-banks.ensures.says image told).1.0)))
     c.report_of_banks.ensures.memory

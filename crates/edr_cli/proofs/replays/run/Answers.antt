@@ -36,7 +36,7 @@ returns-in-Ok-clause-cause g c =
     let mid = memory D c.replay.new.nvm in
     let new = memory D c.report_held.new.nvm in
     err_map c.report_held.result (λ f. IsImageCause mid new f) (λ f. IsRunCause c.args.cycles.now old new f)
-    (λ f cause. behind_cause c.args.cycles.now old mid new c.in-Ok.reports.items f c.in-Ok.ensures.ran c.report_held.ensures.content c.report_held.ensures.settled c.in-Ok.ensures.size c.in-Ok.ensures.later cause)
+    (λ f cause. behind_cause c.args.cycles.now old mid new c.in-Ok.reports.items f c.in-Ok.ensures.ran c.report_held.ensures.content c.report_held.ensures.settled c.in-Ok.ensures.lent.size c.in-Ok.ensures.later cause)
     c.report_held.ensures.cause
 
 pub returns-in-Ok-clause-past : goal.returns-in-Ok-clause-past

@@ -11,7 +11,7 @@ returns-in-Ok-clause-size c =
     let m1 = c.format.new.nvm in
     let long : length c.in_ok-vec.field-0.items ≡ IMAGE = search rules in
     ok_map c.image_of.result (λ image. image.items ≡ memory_image m1) (λ image. length image.items ≡ IMAGE)
-    (λ image left. ap (λ (xs : List ℕ). length xs) left ∙ c.in-Ok.ensures.size ∙ ap (λ (s : MemoryState). length s.image) c.in_ok-memory.ensures ∙ long) c.image_of.ensures
+    (λ image left. ap (λ (xs : List ℕ). length xs) left ∙ c.in-Ok.ensures.lent.size ∙ ap (λ (s : MemoryState). length s.image) c.in_ok-memory.ensures ∙ long) c.image_of.ensures
 
 pub returns-in-Ok-clause-says : goal.returns-in-Ok-clause-says
 returns-in-Ok-clause-says c =

@@ -13,7 +13,7 @@ pub returns-clause-size : goal.returns-clause-size
 returns-clause-size c =
     let m3 = c.power_cycle-off.new.self in
     ok_map c.image_of.result (λ now. now.items ≡ memory_image m3) (λ now. length now.items ≡ length c.args.image.items)
-    (λ now left. ap (λ (xs : List ℕ). length xs) left ∙ c.power_cycle-off.ensures.size ∙ c.run_alone-end.ensures.size ∙ c.in-Ok.ensures.size ∙ ap (λ (s : MemoryState). length s.image) c.in_ok-memory.ensures) c.image_of.ensures
+    (λ now left. ap (λ (xs : List ℕ). length xs) left ∙ c.power_cycle-off.ensures.size ∙ c.run_alone-end.ensures.lent.size ∙ c.in-Ok.ensures.lent.size ∙ ap (λ (s : MemoryState). length s.image) c.in_ok-memory.ensures) c.image_of.ensures
 
 pub returns-clause-ran : goal.returns-clause-ran
 returns-clause-ran c =
