@@ -16,7 +16,7 @@ ran : (g : Over) (c : goal.After-end_run g) → RanFused (arc_value c.args.feeds
 ran g c =
     let run = c.in-Ok.ensures in
     ran_fused (arc_value c.args.feeds.now) c.args.stop c.args.started.number c.args.started.banks.store c.in-Ok.end.failed c.is_cut-cut.result c.in-Ok.end.log.acks c.new-fuse.result c.arm.new.self c.drive_cycle-end.new.nvm
-    c.requires.feeds c.new-fuse.ensures.state c.arm.ensures.state run.device run.tells run.cycle run.cause c.is_cut-cut.ensures.planned c.is_cut-cut.ensures.unplanned
+    c.requires.feeds c.new-fuse.ensures.state c.arm.ensures.state run.lent.device run.lent.tells run.cycle run.cause c.is_cut-cut.ensures.planned c.is_cut-cut.ensures.unplanned
 
 -- what ended them
 ends : (g : Over) (c : goal.After-end_run g) → EndsRun g.N.Nvm c.args.stop c.args.started.number c.in-Ok.end.failed c.is_cut-cut.result c.in-Ok.end.log.acks c.end_run.result c.drive_cycle-end.new.nvm.nvm.now c.end_run.new.nvm

@@ -18,7 +18,7 @@ returns-in-Ok-clause-begun g c =
     let fuse = c.start-begun.new.nvm in
     let s = c.in-Ok.started in
     let start = c.in-Ok.ensures in
-    let planned = fuse_planned c.args.stop c.new-fuse.result armed fuse c.new-fuse.ensures.state c.arm.ensures.state start.device in
+    let planned = fuse_planned c.args.stop c.new-fuse.result armed fuse c.new-fuse.ensures.state c.arm.ensures.state start.lent.device in
     let begins = fuse_begins c.args.stop c.new-fuse.result armed c.new-fuse.ensures.state c.arm.ensures.state in
     let none = none_planned c.args.stop armed.ticks fuse.ticks fuse.last_good c.requires begins (not_reached c.args.stop _ _ _ planned (λ some. start.cycle.time.ok.1)) start.cycle.time.ok in
     lent (λ a b. BeginsAs (Started s) c.args.stop c.args.ticks (D.extent a) (D.content a) (D.settled a) (D.content b) (D.settled b)) c.args.nvm.now armed.nvm.now fuse.nvm.now _ (search rules) (search rules)
@@ -35,7 +35,7 @@ returns-in-Err-StoreFault-clause-begun g c =
     let which = c.in-Err-StoreFault.field-0-is in
     let is : r ≡ Err fault.StoreFault = search rules in
     let cut = c.is_cut-cut.ensures.planned c.if-cut.true in
-    let planned = fuse_planned c.args.stop c.new-fuse.result armed fuse c.new-fuse.ensures.state c.arm.ensures.state start.device in
+    let planned = fuse_planned c.args.stop c.new-fuse.result armed fuse c.new-fuse.ensures.state c.arm.ensures.state start.lent.device in
     let begins = fuse_begins c.args.stop c.new-fuse.result armed c.new-fuse.ensures.state c.arm.ensures.state in
     let some = some_call c.args.stop _ _ _ planned cut.0 in
     let few = on_err_at r _ is start.cycle.time.few in
@@ -43,7 +43,7 @@ returns-in-Err-StoreFault-clause-begun g c =
     let at = stop_is c.args.stop _ _ _ planned cut.0 (subst (λ (k : ℕ). (fuse.ticks ≡ k + 1) ⊎ (fuse.ticks ≡ fuse.last_good + 1)) begins last) in
     lent (λ a b. BeginsAs Stopped c.args.stop c.args.ticks (D.extent a) (D.content a) (D.settled a) (D.content b) (D.settled b)) c.args.nvm.now armed.nvm.now fuse.nvm.now _ (search rules) (search rules) (
       omega (arith, at, some),
-      begins_stopped c.args.stop armed.ticks fuse.ticks (D.content armed.nvm.now) (D.settled armed.nvm.now) (D.content fuse.nvm.now) (D.settled fuse.nvm.now) begins at start.tells
+      begins_stopped c.args.stop armed.ticks fuse.ticks (D.content armed.nvm.now) (D.settled armed.nvm.now) (D.content fuse.nvm.now) (D.settled fuse.nvm.now) begins at start.lent.tells
           (fuse.quiet cut.0 cut.1) (at_err r fault.StoreFault _ is start.spent tt) (on_err_at r _ is start.cycle.stopped),
     )
 
