@@ -33,10 +33,10 @@ returns-clause-ran c =
     let log = c.run_alone-end.result.log.acks in
     let failed = c.run_alone-end.result.failed in
     let begun = begins_started store number (memory_content m0) (memory_settled m0) (memory_content m1) (memory_settled m1) s.number.0 s.number.1 s.found s.made in
-    let whole = not_failed f bytes number store failed log m0 m1 m2 c.requires.feeds is s.device run.device s.cycle.time.ok.0 run.cycle run.cause in
+    let whole = not_failed f bytes number store failed log m0 m1 m2 c.requires.feeds is s.lent.device run.lent.device s.cycle.time.ok.0 run.cycle run.cause in
     let off = of_ok c.power_cycle-off.result (Told (Comes (memory_settled m2) (memory_settled m3)) (memory_content m2) (memory_content m3))
     (Stays (memory_content m2) (memory_settled m2) (memory_since m2) (memory_content m3) (memory_settled m3) (memory_since m3)) c.power_cycle-off.ensures.succeeds c.power_cycle-off.ensures.told in
     let noted : after ≡ before ++ log = search rules in
     ok_map c.image_of.result (λ now. now.items ≡ memory_image m3)
     (λ now. (v : Store) (n : ℕ) → view_of bytes ≡ Some (record { store = v; count = n }) → HasRunOn f v n before after now.items)
-    (λ now left. cycle_ran f bytes now.items before after log number store failed m0 m1 m2 m3 is begun whole run.tells run.cycle off noted left) c.image_of.ensures
+    (λ now left. cycle_ran f bytes now.items before after log number store failed m0 m1 m2 m3 is begun whole run.lent.tells run.cycle off noted left) c.image_of.ensures
