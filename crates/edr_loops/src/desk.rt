@@ -44,6 +44,7 @@ fn hold(held: &mut Held, tick: u32, issued: &Issued)
 }
 
 // Gives an item to the core. One that the schedule allows is taken; no other is given to it in a run.
+#[inline(always)]
 fn give(core: &mut Core, sensor: Sensor, item: Item)
     ensures { (n : ℕ) (p : Progress) → CoreIsFor core.old n p → IsAllowed (Give sensor item) p → CoreIsFor core.new n (after_step p (Give sensor item)) }
 {
