@@ -18,7 +18,7 @@ returns-clause-stands c = λ m b before next after_past since_past rest along ac
     let across_fits : FitsSigned w32 c.args.across = search rules in
     record {
       swings = λ _. c.push_swings.ensures.stands m b before c.args.t next after_past since_past (along ∙ sym (to_z-of_z w32 c.args.along along_fits)) (across ∙ sym (to_z-of_z w32 c.args.across across_fits))
-      (record { zero_along = w.zero_along; zero_across = w.zero_across; trigger_along = w.trigger_along; trigger_across = w.trigger_across });
+          (record { zero_along = w.zero_along; zero_across = w.zero_across; trigger_along = w.trigger_along; trigger_across = w.trigger_across });
       latest_along = rw c.push_swings.ensures.latest_along (c.push.ensures m.along before next rest.along (omega (arith, ints, along)) h.latest_along);
       latest_across = rw c.push_swings.ensures.latest_across (c.push-2.ensures m.across before next rest.across (omega (arith, ints, across)) h.latest_across);
     }
