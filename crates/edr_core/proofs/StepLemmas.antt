@@ -75,11 +75,6 @@ pub put-all : (some : Bool) (i : Issued) → (some ≡ false → i ≡ no_issues
 put-all true i h = refl
 put-all false i h = sym (h refl)
 
--- where no candidate is open past a tick, it issued nothing
-pub quiet : (t : ℕ) (change : Change) (link : Option (Place × ℕ)) (g : Option Candidate) → g ≡ None → (g ≡ candidate_after t change link g) × (link ≡ link_after t change link g) × (no_issues ≡ issued_after t change link g)
-quiet t change link None none = (refl, refl, refl)
-quiet t change link (Some o) none = cc
-
 module _ (a : Inside) (n : ℕ) (p : Progress) (h : CoreIsFor (contents_of a) n p) (t : ℕ) (first second : Option ℤ) (fired : Restraints) (given : Row t first second fired ≡ next_of p) (within : p.closed < horizon_of p.given) where
   abbrev r : Given
   r = record { along = first; across = second; fired = fired }

@@ -1,12 +1,13 @@
 //! The open candidate: what is kept of it from tick to tick, and what a tick issues of it.
 
-ghost use Rattle.std.specs.Prelude.{◌≡◌, true, Some, IfSome};
+ghost use Rattle.std.specs.Prelude.{◌≡◌, ℕ, Option, true, IsTrue, Some, IfSome};
 ghost use Rattle.edr_items.specs.SensorLists.{SensorLists};
+ghost use Rattle.edr_record.specs.declared.Place.{Place};
 ghost use Rattle.edr_record.specs.declared.Place.TheVariants.{First};
 ghost use Rattle.edr_definitions.specs.Parts.{pre_part};
 ghost use Rattle.edr_detect.specs.Stages.{told_of};
 ghost use Rattle.edr_core.specs.Captures.{kept_lists, KeepPrePart};
-ghost use Rattle.edr_core.specs.Candidate.{IsRowInRange, IsShort, CanBeTold, begun, grown, grown_or_begun, told, linked, issued, candidate_after, link_after, issued_after};
+ghost use Rattle.edr_core.specs.Candidate.{IsRowInRange, IsShort, CanBeTold, begun, grown, grown_or_begun, told, linked, issued, no_issues, candidate_after, link_after, issued_after};
 
 use crate::captures::Captures;
 use edr_crashpart::CrashPart;
@@ -135,6 +136,18 @@ pub fn follow(
     } else if let Some(open) = candidate {
         open.grow(row);
     }
+}
+
+// The tick issues nothing, and leaves what is open as it is.
+#[inline(always)]
+pub fn passes_by(candidate: &Option<Candidate>, change: Change) -> bool
+    ensures { IsTrue result → (t : ℕ) (link : Option (Place × ℕ)) → (candidate.now ≡ candidate_after t (told_of change) link candidate.now)
+        × (link ≡ link_after t (told_of change) link candidate.now) × (no_issues ≡ issued_after t (told_of change) link candidate.now) }
+{
+    if change.confirmed || change.locked || change.ended || change.dropped || change.closed {
+        return candidate.is_none();
+    }
+    true
 }
 
 // Puts what a tick issues into `issued`, once it is told to the open candidate. One that is dropped or closed there is open

@@ -10,7 +10,7 @@ ghost use Rattle.edr_items.specs.SensorLists.{no_items};
 ghost use Rattle.edr_definitions.specs.Schedule.{Progress, Give, Close, IsAllowed, after_step};
 
 pub use candidate::Issued;
-use candidate::{Candidate, Row, follow, issue};
+use candidate::{Candidate, Row, follow, issue, passes_by};
 use captures::Captures;
 use edr_detect::Detect;
 use edr_items::{Item, Sensor};
@@ -182,7 +182,7 @@ impl Core {
             .tick(row.along.unwrap_or(0), row.across.unwrap_or(0), row.fired);
         follow(&mut self.candidate, &self.captures, key, change, row);
         self.closed = tick;
-        if self.candidate.is_none() {
+        if passes_by(&self.candidate, change) {
             return Closing::Closed {
                 tick,
                 issues: false,

@@ -1,5 +1,5 @@
 -- First firings that are noted bit by bit.
-use Rattle.std.proofs.Common.{arith, sym, subst, ◌≡◌, ◌≢◌, ◌∙◌, ℕ, ◌+◌, ◌<◌, ◌≤◌, ◌⊎◌, inl, inr, Bool, nat_eq, None, Option, List, length, length-set}
+use Rattle.std.proofs.Common.{arith, sym, subst, ◌≡◌, ◌≢◌, ◌∙◌, ℕ, zero, suc, ◌+◌, ◌<◌, ◌≤◌, ◌⊎◌, inl, inr, Bool, false, nat_eq, refl, ap, Some, None, Option, List, length, length-set}
 use Rattle.std.specs.Prelude.{◌↔◌, IsTrue, slice_index_or, slice_set}
 use Rattle.std.specs.Option.{option_or}
 use Rattle.std.proofs.lemmas.Bool.{cases_lt}
@@ -41,3 +41,26 @@ AreNoted-all firsts noted fired at is =
 -- a test of a bit
 pub fires-is : (v : Bool) (n : ℕ) → IsTrue v ↔ (n ≡ 1) → v ≡ nat_eq n 1
 fires-is v n h = grind arith
+
+-- where no bit fires
+none-fires : (k : ℕ) → k < 8 → bit_fires 0 k ≡ false
+none-fires zero lt = refl
+none-fires (suc zero) lt = refl
+none-fires (suc (suc zero)) lt = refl
+none-fires (suc (suc (suc zero))) lt = refl
+none-fires (suc (suc (suc (suc zero)))) lt = refl
+none-fires (suc (suc (suc (suc (suc zero))))) lt = refl
+none-fires (suc (suc (suc (suc (suc (suc zero)))))) lt = refl
+none-fires (suc (suc (suc (suc (suc (suc (suc zero))))))) lt = refl
+none-fires (suc (suc (suc (suc (suc (suc (suc (suc k)))))))) lt = absurd (omega arith)
+
+or-none : (o : Option ℕ) → o ≡ option_or o None
+or-none None = refl
+or-none (Some n) = refl
+
+pub none-noted : (firsts : List (Option ℕ)) (fired at : ℕ) → length firsts ≡ 8 → fired ≡ 0 → firsts ≡ next_firings firsts fired at
+none-noted firsts fired at long none = AreNoted-all firsts firsts fired at (record {
+  long = long;
+  done = λ k lt. or-none (slice_index_or firsts k None) ∙ ap (λ (v : Bool). option_or (slice_index_or firsts k None) (tick_if v at)) (sym (ap (λ (n : ℕ). bit_fires n k) none ∙ none-fires k lt));
+  rest = λ k from. refl;
+})

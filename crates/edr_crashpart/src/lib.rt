@@ -73,8 +73,8 @@ fn first_firing(first: Option<u16>, fires: bool, at: u16) -> Option<u16>
     first.or(fires.then_some(at))
 }
 
-// The first firings with one tick more, `at` ticks after time zero.
-fn with_firings(firsts: [Option<u16>; 8], fired: Restraints, at: u16) -> [Option<u16>; 8]
+// The first firings with one tick more, `at` ticks after time zero, bit by bit.
+fn noted_firings(firsts: [Option<u16>; 8], fired: Restraints, at: u16) -> [Option<u16>; 8]
     ensures { result ≡ next_firings firsts fired.0 at }
 {
     let mut noted = firsts;
@@ -83,6 +83,17 @@ fn with_firings(firsts: [Option<u16>; 8], fired: Restraints, at: u16) -> [Option
         noted[place] = first_firing(noted[place], fired.has(bit), at);
     }
     noted
+}
+
+// The same. At most ticks none fires.
+#[inline(always)]
+fn with_firings(firsts: [Option<u16>; 8], fired: Restraints, at: u16) -> [Option<u16>; 8]
+    ensures { result ≡ next_firings firsts fired.0 at }
+{
+    if fired.0 == 0 {
+        return firsts;
+    }
+    noted_firings(firsts, fired, at)
 }
 
 /// The crash part of an event whose end may still be to come. It is given each tick from time zero on, in order, and

@@ -22,8 +22,8 @@ use Rattle.edr_detect.specs.declared.stage.Stage.TheVariants as stage
 use Rattle.edr_detect.specs.declared.stage.Tests.{Tests}
 use Rattle.edr_detect.specs.declared.windows.Windows.{Windows}
 use Rattle.edr_detect.specs.Latest.{LatestStandsFor}
-use Rattle.edr_detect.specs.Stages.{told_of, phase_of, stepped}
-use Rattle.edr_detect.specs.Standing.{WindowsStandFor, HoldNothing, AreStill, BeginsAtRest, TestsAre, bounds_past}
+use Rattle.edr_detect.specs.Stages.{told_of, phase_of, is_event, stepped}
+use Rattle.edr_detect.specs.Standing.{SwingsStandFor, WindowsStandFor, HoldNothing, AreStill, BeginsAtRest, TestsAre, bounds_past}
 use Rattle.edr_detect.specs.Rows.{Row, row_at, signals_of_rows}
 use Rattle.edr_detect.specs.Detected.{DetectState, IsAtRest, KeepsPast, DetectStandsFor}
 use Rattle.edr_detect.proofs.WindowLemmas.{AreStill-next, AreStill-agree}
@@ -69,12 +69,17 @@ latest-agree f g t values sum same h = record {
   sum_is = h.sum_is ∙ delta_v-agree f g _ t same;
 }
 
-windows-agree : (m n : Signals) (b : Bounds) (t : ℕ) (w : Windows) → AgreeUpTo t m n → WindowsStandFor m b t w → WindowsStandFor n b t w
-windows-agree m n b t w same h = record {
+swings-agree : (m n : Signals) (b : Bounds) (t : ℕ) (w : Windows) → AgreeUpTo t m n → SwingsStandFor m b t w → SwingsStandFor n b t w
+swings-agree m n b t w same h = record {
   zero_along = subst (λ xs. SwingStandsFor 20 w.zero_along xs) (changes-agree m.along n.along b.after t same.along) h.zero_along;
   zero_across = subst (λ xs. SwingStandsFor 5 w.zero_across xs) (changes-agree m.across n.across b.after t same.across) h.zero_across;
   trigger_along = subst (λ xs. SwingStandsFor 150 w.trigger_along xs) (changes-agree m.along n.along b.since t same.along) h.trigger_along;
   trigger_across = subst (λ xs. SwingStandsFor 150 w.trigger_across xs) (changes-agree m.across n.across b.since t same.across) h.trigger_across;
+}
+
+windows-agree : (m n : Signals) (b : Bounds) (p : Phase) (t : ℕ) (w : Windows) → AgreeUpTo t m n → WindowsStandFor m b p t w → WindowsStandFor n b p t w
+windows-agree m n b p t w same h = record {
+  swings = λ e. swings-agree m n b t w same (h.swings e);
   latest_along = latest-agree m.along n.along t _ _ same.along h.latest_along;
   latest_across = latest-agree m.across n.across t _ _ same.across h.latest_across;
 }
@@ -82,15 +87,24 @@ windows-agree m n b t w same h = record {
 keeps-agree : (m n : Signals) (b : Bounds) (t : ℕ) (d : DetectState) → AgreeUpTo t m n → KeepsPast m b t d → KeepsPast n b t d
 unfolding KeepsPast
 keeps-agree m n b t d same h = (
-  windows-agree m n b t d.windows same h.0,
+  windows-agree m n b (phase_of d.stage) t d.windows same h.0,
   λ told. let rest = h.1 told in record { searching = rest.searching; still = AreStill-agree m n b t same rest.still; nothing = rest.nothing },
 )
 
 -- ---- one tick of the search
 stepped-is : (m : Signals) (b : Bounds) (s : Stage) (t : ℕ) (a : Tests) → TestsAre m b s t a → stepped t a b (phase_of s) ≡ next_from m t b (phase_of s)
-stepped-is m b stage.Searching t a is = rw (is.zero, is.trigger, is.locks) refl
-stepped-is m b (stage.Open z c l None) t a is = let e = is.ends z c l refl in rw (is.trigger, is.locks, e) refl
+stepped-is m b stage.Searching t a is = rw (is.zero refl, is.trigger refl, is.locks) refl
+stepped-is m b (stage.Open z None l None) t a is = let e = is.ends z None l refl in rw (is.trigger refl, is.locks, e) refl
+stepped-is m b (stage.Open z (Some c) l None) t a is = let e = is.ends z (Some c) l refl in rw (is.locks, e) refl
 stepped-is m b (stage.Open z c l (Some e)) t a is = rw is.locks refl
+
+-- the change too
+change-same : (m : Signals) (b : Bounds) (s : Stage) (t : ℕ) (a : Tests) → TestsAre m b s t a →
+    stepped_change t a.zero a.trigger a.locks a.ends (phase_of s) ≡ stepped_change t (is_time_zero m b t) (is_triggered m b.since t) (is_locking m t) a.ends (phase_of s)
+change-same m b stage.Searching t a is = rw (is.zero refl, is.trigger refl, is.locks) refl
+change-same m b (stage.Open z None l None) t a is = rw (is.trigger refl, is.locks) refl
+change-same m b (stage.Open z (Some c) l None) t a is = rw is.locks refl
+change-same m b (stage.Open z c l (Some e)) t a is = rw is.locks refl
 
 -- the bounds past the tick t, by whether it is an event's close and a dropped candidate's end
 abbrev bounds_at : ℕ → Bool → Bool → Bounds → Bounds
@@ -124,6 +138,22 @@ leaving m before t b (Open z c l None) a h = ending t b z (option_or c (tick_if 
 leaving m before t b (Open z (Some c) l (Some e)) a h = closing (nat_eq t (close_of z e)) (nat_eq (close_of z e) t) t b (Open z (Some c) (option_or l (tick_if a.locks t)) (Some e)) (nat_eq-sym t (close_of z e))
 leaving m before t b (Open z None l (Some e)) a h = let none : Option ℕ = None in let some : IsSome none = h.4 in cc
 
+-- an event stays open where it is not closed
+stays-open : (v w : Bool) (x : Search) (b : Bounds) (z c : ℕ) (l e : Option ℕ) → v ≡ w → w ≡ false → is_event (if v then x else record { bounds = b; phase = Open z (Some c) l e }).phase ≡ false → ⊥
+stays-open true w x b z c l e same closed none = cc
+stays-open false w x b z c l e same closed none = cc
+
+stays-ending : (t : ℕ) (b : Bounds) (z c : ℕ) (l : Option ℕ) (ends : Bool) → (ends && nat_eq (close_of z t) t) ≡ false → is_event (next_open t b z (Some c) l ends).phase ≡ false → ⊥
+stays-ending t b z c l true closed none = stays-open (nat_eq t (close_of z t)) (nat_eq (close_of z t) t) _ b z c l (Some t) (nat_eq-sym t (close_of z t)) closed none
+stays-ending t b z c l false closed none = cc
+
+stays : (t : ℕ) (b : Bounds) (p : Phase) (a : Tests) → (stepped_change t a.zero a.trigger a.locks a.ends p).closed ≡ false → is_event (stepped t a b p).phase ≡ false → is_event p ≡ false
+stays t b Searching a closed none = refl
+stays t b (Open z None l e) a closed none = refl
+stays t b (Open z (Some c) l None) a closed none = absurd (stays-ending t b z c (option_or l (tick_if a.locks t)) a.ends closed none)
+stays t b (Open z (Some c) l (Some e)) a closed none =
+    absurd (stays-open (nat_eq t (close_of z e)) (nat_eq (close_of z e) t) _ b z c (option_or l (tick_if a.locks t)) (Some e) (nat_eq-sym t (close_of z e)) closed none)
+
 search_is : (x : Search) (b : Bounds) (p : Phase) → b ≡ x.bounds → p ≡ x.phase → ◌≡◌ {A = Search} (record { bounds = b; phase = p }) x
 search_is x b p e f = ap (λ (y : Bounds). let s : Search = record { bounds = y; phase = p } in s) e ∙ ap (λ (q : Phase). let s : Search = record { bounds = x.bounds; phase = q } in s) f
 
@@ -148,8 +178,8 @@ and_false false = refl
 tests-still : (m : Signals) (b : Bounds) (s : Stage) (t : ℕ) → phase_of s ≡ Searching → m.fired t ≡ 0 → AreStill m b t → TestsAre m b s t no_tests
 unfolding is_triggered is_time_zero
 tests-still m b s t searching fired h = record {
-  zero = rw (fired, h.zero_along, h.zero_across, h.trigger_along, h.trigger_across) (sym (and_false (nat_lt b.after t)));
-  trigger = rw (fired, h.trigger_along, h.trigger_across) refl;
+  zero = λ _. rw (fired, h.zero_along, h.zero_across, h.trigger_along, h.trigger_across) (sym (and_false (nat_lt b.after t)));
+  trigger = λ _. rw (fired, h.trigger_along, h.trigger_across) refl;
   locks = rw fired refl;
   ends = λ z c l is. let e = ap phase_of is in cc;
 }
@@ -157,12 +187,12 @@ tests-still m b s t searching fired h = record {
 -- ---- one tick of the detector
 module _ (rows : List Row) (r : Row) (d e : DetectState) (u : ℕ) (a : Tests) (ans : Answer) (pushed : Windows)
     (h : DetectStandsFor d rows) (u_is : u ≡ d.tick + 1) (tick_is : e.tick ≡ u)
-    (push : (m : Signals) (b : Bounds) (before : ℕ) → u ≡ before + 1 → b.after ≤ before → b.since ≤ before → BeginsAtRest m → change_at m.along u ≡ r.along → change_at m.across u ≡ r.across → WindowsStandFor m b before d.windows → WindowsStandFor m b u pushed)
-    (tests : (m : Signals) (b : Bounds) (before : ℕ) → u ≡ before + 1 → b.after ≤ before → b.since ≤ before → change_at m.along u ≡ r.along → change_at m.across u ≡ r.across → m.fired u ≡ r.fired.0 → KeepsPast m b before d → WindowsStandFor m b u pushed → TestsAre m b d.stage u a)
+    (push : (m : Signals) (b : Bounds) (before : ℕ) → u ≡ before + 1 → b.after ≤ before → b.since ≤ before → BeginsAtRest m → change_at m.along u ≡ r.along → change_at m.across u ≡ r.across → WindowsStandFor m b (phase_of d.stage) before d.windows → WindowsStandFor m b (phase_of d.stage) u pushed)
+    (tests : (m : Signals) (b : Bounds) (before : ℕ) → u ≡ before + 1 → b.after ≤ before → b.since ≤ before → change_at m.along u ≡ r.along → change_at m.across u ≡ r.across → m.fired u ≡ r.fired.0 → KeepsPast m b before d → WindowsStandFor m b (phase_of d.stage) u pushed → TestsAre m b d.stage u a)
     (next : (b : Bounds) → phase_of e.stage ≡ (stepped u a b (phase_of d.stage)).phase)
     (told : told_of ans ≡ stepped_change u a.zero a.trigger a.locks a.ends (phase_of d.stage))
-    (restart : (m : Signals) (b : Bounds) (k : ℕ) → WindowsStandFor m b k pushed → WindowsStandFor m (bounds_past k ans b) k e.windows)
-    (rests : (m : Signals) (b : Bounds) (before : ℕ) → u ≡ before + 1 → b.after ≤ before → b.since ≤ before → change_at m.along u ≡ r.along → change_at m.across u ≡ r.across → KeepsPast m b before d → WindowsStandFor m b u pushed → IsTrue e.rests → IsAtRest m (bounds_past u ans b) u e) where
+    (restart : (m : Signals) (b : Bounds) (k : ℕ) → (ans.closed ≡ false → is_event (phase_of e.stage) ≡ false → is_event (phase_of d.stage) ≡ false) → WindowsStandFor m b (phase_of d.stage) k pushed → WindowsStandFor m (bounds_past k ans b) (phase_of e.stage) k e.windows)
+    (rests : (m : Signals) (b : Bounds) (before : ℕ) → u ≡ before + 1 → b.after ≤ before → b.since ≤ before → change_at m.along u ≡ r.along → change_at m.across u ≡ r.across → KeepsPast m b before d → WindowsStandFor m b (phase_of d.stage) u pushed → IsTrue e.rests → IsAtRest m (bounds_past u ans b) u e) where
   pub tick-stands : DetectStandsFor e (rows ++ r ∷ []) × (told_of ans ≡ tick_change (signals_of_rows (rows ++ r ∷ [])) (length rows + 1))
   unfolding KeepsPast
   tick-stands =
@@ -181,7 +211,7 @@ module _ (rows : List Row) (r : Row) (d e : DetectState) (u : ℕ) (a : Tests) (
       let along = ap (λ (o : Option Row). unwrap_or (option_map (λ (x : Row). x.along) o) (pos 0)) row in
       let across = ap (λ (o : Option Row). unwrap_or (option_map (λ (x : Row). x.across) o) (pos 0)) row in
       let fired = ap (λ (o : Option Row). option_map_or (λ (x : Row). x.fired.0) o 0) row in
-      let here : WindowsStandFor n b u pushed = push n b t now past h.since_past (rows-begin all) along across old.0 in
+      let here : WindowsStandFor n b p u pushed = push n b t now past h.since_past (rows-begin all) along across old.0 in
       let are : TestsAre n b d.stage u a = tests n b t now past h.since_past along across fired old here in
       let before : StandsFor n t s = StandsFor-agree t (signals_of_rows rows) n s agree h.search_is in
       let after : StandsFor n u (next_search n u s) = subst (λ (k : ℕ). StandsFor n k (next_search n k s)) (sym now) (StandsFor-next n t s before) in
@@ -198,11 +228,10 @@ module _ (rows : List Row) (r : Row) (d e : DetectState) (u : ℕ) (a : Tests) (
       let answer : tick_change n u ≡ stepped_change u (is_time_zero n b u) (is_triggered n b.since u) (is_locking n u) a.ends p =
       subst (λ (k : ℕ). ((z : ℕ) (c l : Option ℕ) → p ≡ Open z c l None → a.ends ≡ is_end n z k) → tick_change n k ≡ stepped_change k (is_time_zero n b k) (is_triggered n b.since k) (is_locking n k) a.ends p) (sym now)
       (tick_change-is n t s a.ends before) (λ z c l is. are.ends z c l (stage_is d.stage z c l is)) in
-      let same : stepped_change u a.zero a.trigger a.locks a.ends p ≡ stepped_change u (is_time_zero n b u) (is_triggered n b.since u) (is_locking n u) a.ends p =
-      ap (λ (v : Bool). stepped_change u v a.trigger a.locks a.ends p) are.zero
-      ∙ ap (λ (v : Bool). stepped_change u (is_time_zero n b u) v a.locks a.ends p) are.trigger
-      ∙ ap (λ (v : Bool). stepped_change u (is_time_zero n b u) (is_triggered n b.since u) v a.ends p) are.locks in
-      let windows : WindowsStandFor n (bounds_past u ans b) u e.windows = restart n b u here in
+      let same = change-same n b d.stage u a are in
+      let stay : ans.closed ≡ false → is_event (phase_of e.stage) ≡ false → is_event p ≡ false =
+      λ going none. stays u b p a (sym closed ∙ going) (ap is_event (sym (next b)) ∙ none) in
+      let windows : WindowsStandFor n (bounds_past u ans b) (phase_of e.stage) u e.windows = restart n b u stay here in
       let since : (bounds_past u ans b).since ≤ u = since_past u ans.closed ans.dropped b (let k = h.since_past in omega arith) in (
         record {
           tick_is = tick_is ∙ len;
@@ -221,26 +250,26 @@ nothing = record { zero = false; confirmed = false; locked = false; ended = fals
 -- a tick past which the search goes on as before
 module _ (rows : List Row) (r : Row) (d : DetectState) (u : ℕ) (pushed : Windows) (rests : Bool)
     (h : DetectStandsFor d rows) (u_is : u ≡ d.tick + 1) (searching : phase_of d.stage ≡ Searching)
-    (push : (m : Signals) (b : Bounds) (before : ℕ) → u ≡ before + 1 → b.after ≤ before → b.since ≤ before → BeginsAtRest m → change_at m.along u ≡ r.along → change_at m.across u ≡ r.across → WindowsStandFor m b before d.windows → WindowsStandFor m b u pushed)
+    (push : (m : Signals) (b : Bounds) (before : ℕ) → u ≡ before + 1 → b.after ≤ before → b.since ≤ before → BeginsAtRest m → change_at m.along u ≡ r.along → change_at m.across u ≡ r.across → WindowsStandFor m b (phase_of d.stage) before d.windows → WindowsStandFor m b (phase_of d.stage) u pushed)
     (nothing_moves : IsTrue rests → HoldNothing pushed) where
   abbrev After : Type 0
   After = DetectStandsFor (record { tick = u; stage = d.stage; windows = pushed; rests = rests }) (rows ++ r ∷ []) × (told_of nothing ≡ tick_change (signals_of_rows (rows ++ r ∷ [])) (length rows + 1))
 
   goes-on : (a : Tests) → a.zero ≡ false →
-      ((m : Signals) (b : Bounds) (before : ℕ) → u ≡ before + 1 → b.after ≤ before → b.since ≤ before → change_at m.along u ≡ r.along → change_at m.across u ≡ r.across → m.fired u ≡ r.fired.0 → KeepsPast m b before d → WindowsStandFor m b u pushed → TestsAre m b d.stage u a) →
-      ((m : Signals) (b : Bounds) (before : ℕ) → u ≡ before + 1 → b.after ≤ before → b.since ≤ before → change_at m.along u ≡ r.along → change_at m.across u ≡ r.across → KeepsPast m b before d → WindowsStandFor m b u pushed → IsTrue rests → AreStill m b u) → After
+      ((m : Signals) (b : Bounds) (before : ℕ) → u ≡ before + 1 → b.after ≤ before → b.since ≤ before → change_at m.along u ≡ r.along → change_at m.across u ≡ r.across → m.fired u ≡ r.fired.0 → KeepsPast m b before d → WindowsStandFor m b (phase_of d.stage) u pushed → TestsAre m b d.stage u a) →
+      ((m : Signals) (b : Bounds) (before : ℕ) → u ≡ before + 1 → b.after ≤ before → b.since ≤ before → change_at m.along u ≡ r.along → change_at m.across u ≡ r.across → KeepsPast m b before d → WindowsStandFor m b (phase_of d.stage) u pushed → IsTrue rests → AreStill m b u) → After
   goes-on a none tests still =
       tick-stands rows r d (record { tick = u; stage = d.stage; windows = pushed; rests = rests }) u a nothing pushed h u_is refl push tests
-      (λ b. rw (searching, none) refl) (rw (searching, none) refl) (λ m b k w. w)
+      (λ b. rw (searching, none) refl) (rw (searching, none) refl) (λ m b k stay w. w)
       (λ m b before next after since here side old now told. record { searching = searching; still = still m b before next after since here side old now told; nothing = nothing_moves told })
 
   -- whatever moves
   pub tick-still : (a : Tests) → a.zero ≡ false →
-      ((m : Signals) (b : Bounds) (before : ℕ) → u ≡ before + 1 → b.after ≤ before → m.fired u ≡ r.fired.0 → WindowsStandFor m b u pushed → TestsAre m b d.stage u a) →
-      (IsTrue rests → (m : Signals) (b : Bounds) (t : ℕ) → WindowsStandFor m b t pushed → AreStill m b t) → After
+      ((m : Signals) (b : Bounds) (before : ℕ) → u ≡ before + 1 → b.after ≤ before → m.fired u ≡ r.fired.0 → WindowsStandFor m b (phase_of d.stage) u pushed → TestsAre m b d.stage u a) →
+      (IsTrue rests → (m : Signals) (b : Bounds) (t : ℕ) → SwingsStandFor m b t pushed → AreStill m b t) → After
   tick-still a none tests still =
       goes-on a none (λ m b before next after since here side fires old now. tests m b before next after fires now)
-      (λ m b before next after since here side old now told. still told m b u now)
+      (λ m b before next after since here side old now told. still told m b u (now.swings (ap is_event searching)))
 
   -- where nothing moves and nothing fires
   pub tick-quiet : r.along ≡ pos 0 → r.across ≡ pos 0 → r.fired.0 ≡ 0 → IsTrue d.rests → After
@@ -262,12 +291,12 @@ unfolding KeepsPast
 at-rest d rows h told = let rest = h.kept_are.1 told in (rest.searching, rest.nothing)
 
 -- before the first tick
-pub start-stands : (d : DetectState) → d.tick ≡ 0 → phase_of d.stage ≡ Searching → d.rests ≡ false → ((m : Signals) → BeginsAtRest m → WindowsStandFor m at_start 0 d.windows) → DetectStandsFor d []
+pub start-stands : (d : DetectState) → d.tick ≡ 0 → phase_of d.stage ≡ Searching → d.rests ≡ false → ((m : Signals) → BeginsAtRest m → WindowsStandFor m at_start Searching 0 d.windows) → DetectStandsFor d []
 unfolding KeepsPast
 start-stands d none searching moves windows = record {
   tick_is = none;
   bounds = at_start;
   since_past = omega arith;
   search_is = subst (λ (p : Phase). StandsFor (signals_of_rows []) 0 (record { bounds = at_start; phase = p })) (sym searching) (StandsFor-start (signals_of_rows []));
-  kept_are = (windows (signals_of_rows []) (rows-begin []), λ told. absurd (let e : true ≡ false = sym told ∙ moves in cc));
+  kept_are = (subst (λ (p : Phase). WindowsStandFor (signals_of_rows []) at_start p 0 d.windows) (sym searching) (windows (signals_of_rows []) (rows-begin [])), λ told. absurd (let e : true ≡ false = sym told ∙ moves in cc));
 }

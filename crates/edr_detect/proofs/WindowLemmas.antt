@@ -2,6 +2,8 @@
 use Rattle.std.proofs.Common.{arith, ap, sym, subst, ◌≡◌, ◌∙◌, ℕ, zero, suc, ◌+◌, ◌-◌, ◌<◌, ◌≤◌, ◌⊎◌, inl, inr, max, true, ℤ, pos, unsigned_abs, Option, Some, None, List, [], ◌∷◌, ◌++◌, length}
 use Rattle.std.proofs.lemmas.Int.{ints}
 use Rattle.std.proofs.lemmas.Bool.{cases_lt}
+use Rattle.std.proofs.lemmas.Bool.Decides.{nat_tests}
+use Rattle.std.specs.Prelude.{Bool, IsTrue, not, nat_eq, ◌%◌, ◌↔◌, ◌≢◌}
 use Rattle.std.specs.Option.{option_eq, MatchOption}
 use Rattle.std.specs.Ordering.{int_eq}
 use Rattle.std.proofs.lemmas.Bool.Decides.{Decides-int_eq}
@@ -15,6 +17,8 @@ use Rattle.edr_definitions.proofs.WindowLaws.{delta_v-none, largest_change-cons,
 use Rattle.edr_window.specs.Changes.{changes}
 use Rattle.edr_window.specs.Sums.{IsLeastSum, IsGreatestSum}
 use Rattle.edr_window.specs.Swing.{SwingState, SwingStandsFor}
+use Rattle.edr_detect.specs.declared.stage.Stage.{Stage}
+use Rattle.edr_detect.specs.declared.stage.Stage.TheVariants as stage
 use Rattle.edr_detect.specs.Standing.{AreStill}
 use Rattle.edr_detect.proofs.LatestLemmas.{delta_v-push}
 use Rattle.edr_window.proofs.ChangeLaws.{length-changes, changes-push, changes-none, extremes-swing}
@@ -119,3 +123,13 @@ AreStill-agree m n b t same h = record {
   trigger_along = sym (swing-agree m.along n.along 150 b.since t same.along) ∙ h.trigger_along;
   trigger_across = sym (swing-agree m.across n.across 150 b.since t same.across) ∙ h.trigger_across;
 }
+
+-- ---- stages
+-- an open candidate has one time zero
+pub open-zero : (s : Stage) (y z : ℕ) (c k l j d e : Option ℕ) → s ≡ stage.Open y c l d → s ≡ stage.Open z k j e → y ≡ z
+open-zero s y z c k l j d e first second = cc
+
+-- ---- restraints
+-- some restraint locks
+pub locks-is : (v : Bool) (fired fires : ℕ) → fires ≡ fired → (IsTrue v ↔ (fired % 64 ≢ 0)) → v ≡ not (nat_eq (fires % 64) 0)
+locks-is v fired fires same h = grind (arith, nat_tests)

@@ -22,9 +22,9 @@ pub record IsAtRest (m : Signals) (b : Bounds) (t : ℕ) (d : DetectState) : Typ
   pub still : AreStill m b t
   pub nothing : HoldNothing d.windows
 
--- what the detector keeps of these signals up to t: the windows hold the changes past the bounds, and where it says that it rests it does
+-- what the detector keeps of these signals up to t: the windows hold what the tests of its phase ask, and where it says that it rests it does
 unfoldable pub KeepsPast : Signals → Bounds → ℕ → DetectState → Type 0
-KeepsPast m b t d = WindowsStandFor m b t d.windows × (IsTrue d.rests → IsAtRest m b t d)
+KeepsPast m b t d = WindowsStandFor m b (phase_of d.stage) t d.windows × (IsTrue d.rests → IsAtRest m b t d)
 
 -- the detector was given these rows, and no others: the search of the definitions stands at the last of them as the stage says, with bounds past which it keeps what the search needs
 pub record DetectStandsFor (d : DetectState) (rows : List Row) : Type 0 where

@@ -1,5 +1,5 @@
 -- The stages of the streaming search, as the definitions see them.
-use Rattle.std.specs.Prelude.{ℕ, if◌then◌else◌, Some, None}
+use Rattle.std.specs.Prelude.{ℕ, Bool, true, false, if◌then◌else◌, Some, None}
 use Rattle.std.specs.Option.{option_or}
 use Rattle.edr_definitions.specs.Selection.{Bounds}
 use Rattle.edr_definitions.specs.Search.{Phase, Searching, Open, Search, tick_if, next_open, past_end}
@@ -17,6 +17,12 @@ told_of a = record { zero = a.zero; confirmed = a.confirmed; locked = a.locked; 
 abbrev pub phase_of : Stage → Phase
 phase_of stage.Searching = Searching
 phase_of (stage.Open z c l e) = Open z c l e
+
+-- an event is open: a candidate that is confirmed, up to its close
+abbrev pub is_event : Phase → Bool
+is_event Searching = false
+is_event (Open z None l e) = false
+is_event (Open z (Some c) l e) = true
 
 -- the search past the tick t, by the answers of the four tests there
 abbrev pub stepped : ℕ → Tests → Bounds → Phase → Search

@@ -1,8 +1,9 @@
 -- What the windows of the streaming search hold.
-use Rattle.std.specs.Prelude.{◌≡◌, ℕ, ◌≤◌, pos, if◌then◌else◌, Option, None}
+use Rattle.std.specs.Prelude.{◌≡◌, ℕ, ◌≤◌, pos, false, if◌then◌else◌, Option, None}
 use Rattle.edr_definitions.specs.Signals.{Signals}
 use Rattle.edr_definitions.specs.Windows.{change_at, swing}
 use Rattle.edr_definitions.specs.Selection.{Bounds, is_triggered, is_time_zero, is_end}
+use Rattle.edr_definitions.specs.Search.{Phase}
 use Rattle.edr_definitions.specs.Commands.{is_locking}
 use Rattle.edr_window.specs.Changes.{changes}
 use Rattle.edr_window.specs.Swing.{SwingStandsFor}
@@ -12,13 +13,18 @@ use Rattle.edr_detect.specs.declared.stage.Stage.TheVariants as stage
 use Rattle.edr_detect.specs.declared.stage.Tests.{Tests}
 use Rattle.edr_detect.specs.declared.windows.Windows.{Windows}
 use Rattle.edr_detect.specs.Latest.{AreZeros, LatestStandsFor}
+use Rattle.edr_detect.specs.Stages.{phase_of, is_event}
 
--- at the tick t, in a search with these bounds, the swings hold the changes past the bounds, and the sums those of the last 20 ticks
-pub record WindowsStandFor (m : Signals) (b : Bounds) (t : ℕ) (w : Windows) : Type 0 where
+-- at the tick t, in a search with these bounds, the swings hold the changes past the bounds
+pub record SwingsStandFor (m : Signals) (b : Bounds) (t : ℕ) (w : Windows) : Type 0 where
   pub zero_along : SwingStandsFor 20 w.zero_along (changes m.along b.after t)
   pub zero_across : SwingStandsFor 5 w.zero_across (changes m.across b.after t)
   pub trigger_along : SwingStandsFor 150 w.trigger_along (changes m.along b.since t)
   pub trigger_across : SwingStandsFor 150 w.trigger_across (changes m.across b.since t)
+
+-- what the tests of a phase ask: the sums are those of the last 20 ticks, and where no event is open the swings hold their changes
+pub record WindowsStandFor (m : Signals) (b : Bounds) (p : Phase) (t : ℕ) (w : Windows) : Type 0 where
+  pub swings : is_event p ≡ false → SwingsStandFor m b t w
   pub latest_along : LatestStandsFor m.along t w.latest_along.values w.latest_along.sum
   pub latest_across : LatestStandsFor m.across t w.latest_across.values w.latest_across.sum
 
@@ -46,10 +52,10 @@ pub record BeginsAtRest (m : Signals) : Type 0 where
   pub along : change_at m.along 0 ≡ pos 0
   pub across : change_at m.across 0 ≡ pos 0
 
--- the answers are those of the definitions' tests at the tick t
+-- the answers are those of the definitions' tests at the tick t; the first two don't count while an event is open
 pub record TestsAre (m : Signals) (b : Bounds) (s : Stage) (t : ℕ) (a : Tests) : Type 0 where
-  pub zero : a.zero ≡ is_time_zero m b t
-  pub trigger : a.trigger ≡ is_triggered m b.since t
+  pub zero : is_event (phase_of s) ≡ false → a.zero ≡ is_time_zero m b t
+  pub trigger : is_event (phase_of s) ≡ false → a.trigger ≡ is_triggered m b.since t
   pub locks : a.locks ≡ is_locking m t
   pub ends : (z : ℕ) (c l : Option ℕ) → s ≡ stage.Open z c l None → a.ends ≡ is_end m z t
 

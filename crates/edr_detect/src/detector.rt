@@ -83,7 +83,7 @@ impl Detect {
         ensures tick { self.new.tick ≡ self.old.tick + 1 }
     {
         self.tick += 1;
-        self.windows.push(self.tick, along, across);
+        self.windows.push(self.stage, self.tick, along, across);
         let tests = self.windows.tests(self.stage, self.tick, fired);
         // The search goes on as it was.
         if self.stage.is_searching() && !tests.zero {

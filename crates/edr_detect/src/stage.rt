@@ -5,7 +5,7 @@ ghost use Rattle.std.specs.Option.{option_or};
 ghost use Rattle.edr_definitions.specs.Selection.{Bounds, close_of};
 ghost use Rattle.edr_definitions.specs.Change.{stepped_change};
 ghost use Rattle.edr_definitions.specs.Search.{Searching, past_end, tick_if};
-ghost use Rattle.edr_detect.specs.Stages.{phase_of, told_of, stepped};
+ghost use Rattle.edr_detect.specs.Stages.{phase_of, is_event, told_of, stepped};
 
 /// What stands at a tick. Several things may stand at one.
 #[derive(Clone, Copy, Debug, PartialEq, Eq)]
@@ -95,6 +95,19 @@ impl Stage {
         ensures { IsTrue result → phase_of self ≡ Searching }
     {
         matches!(self, Stage::Searching)
+    }
+
+    // A candidate is open that is confirmed.
+    pub fn is_event(self) -> bool
+        ensures { result ≡ is_event (phase_of self) }
+    {
+        matches!(
+            self,
+            Stage::Open {
+                confirmed: Some(_),
+                ..
+            }
+        )
     }
 
     // The stage past the tick t.

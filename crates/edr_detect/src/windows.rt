@@ -1,6 +1,6 @@
 //! What the streaming search keeps of the samples.
 
-ghost use Rattle.std.specs.Prelude.{◌≡◌, ℕ, ◌+◌, ◌<◌, ◌≤◌, ℤ, pos, Option, IsTrue, unsigned_abs};
+ghost use Rattle.std.specs.Prelude.{◌≡◌, ℕ, ◌+◌, ◌<◌, ◌≤◌, ℤ, pos, Option, None, IsTrue, false, unsigned_abs};
 ghost use Rattle.edr_definitions.specs.Windows.{swing, change_at};
 ghost use Rattle.edr_window.specs.Changes.{changes};
 ghost use Rattle.edr_window.specs.Swing.{SwingStandsFor};
@@ -50,10 +50,12 @@ fn is_at_rest<const K: usize>(sums: &Swing<K>) -> bool
 impl Windows {
     ghost use Rattle.edr_definitions.specs.Signals.{Signals};
     ghost use Rattle.edr_definitions.specs.Selection.{Bounds, is_triggered, is_time_zero, is_end, at_start};
-    ghost use Rattle.edr_detect.specs.Standing.{WindowsStandFor, HoldNothing, PushedAtMost, BeginsAtRest, TestsAre, bounds_past};
+    ghost use Rattle.edr_definitions.specs.Search.{Phase, Searching};
+    ghost use Rattle.edr_detect.specs.Stages.{phase_of, is_event};
+    ghost use Rattle.edr_detect.specs.Standing.{SwingsStandFor, WindowsStandFor, HoldNothing, PushedAtMost, BeginsAtRest, TestsAre, bounds_past};
 
     pub fn new() -> Windows
-        ensures stands { (m : Signals) → BeginsAtRest m → WindowsStandFor m at_start 0 result }
+        ensures stands { (m : Signals) → BeginsAtRest m → WindowsStandFor m at_start Searching 0 result }
         ensures pushed { PushedAtMost 0 result }
     {
         Windows {
@@ -66,28 +68,44 @@ impl Windows {
         }
     }
 
-    // The changes of the tick t.
-    #[inline(always)]
-    pub fn push(&mut self, t: u32, along: i32, across: i32)
+    // The changes of the tick t, for the swings.
+    fn push_swings(&mut self, along: i32, across: i32)
         requires along_small { unsigned_abs along ≤ 100_000 }
         requires across_small { unsigned_abs across ≤ 100_000 }
         requires room { PushedAtMost 86_399_999 self.old }
-        ensures stands { (m : Signals) (b : Bounds) (before : ℕ) → t ≡ before + 1 → b.after ≤ before → b.since ≤ before → BeginsAtRest m → change_at m.along t ≡ along → change_at m.across t ≡ across → WindowsStandFor m b before self.old → WindowsStandFor m b t self.new }
+        ensures stands { (m : Signals) (b : Bounds) (before t : ℕ) → t ≡ before + 1 → b.after ≤ before → b.since ≤ before → change_at m.along t ≡ along → change_at m.across t ≡ across → SwingsStandFor m b before self.old → SwingsStandFor m b t self.new }
         ensures pushed { (n : ℕ) → PushedAtMost n self.old → PushedAtMost (n + 1) self.new }
+        ensures latest_along { self.new.latest_along ≡ self.old.latest_along }
+        ensures latest_across { self.new.latest_across ≡ self.old.latest_across }
     {
         self.zero_along.push(i64::from(along));
         self.zero_across.push(i64::from(across));
         self.trigger_along.push(i64::from(along));
         self.trigger_across.push(i64::from(across));
+    }
+
+    // The changes of the tick t. While an event is open no test asks the swings, and its close begins them anew.
+    #[inline(always)]
+    pub fn push(&mut self, stage: Stage, t: u32, along: i32, across: i32)
+        requires along_small { unsigned_abs along ≤ 100_000 }
+        requires across_small { unsigned_abs across ≤ 100_000 }
+        requires room { PushedAtMost 86_399_999 self.old }
+        ensures stands { (m : Signals) (b : Bounds) (before : ℕ) → t ≡ before + 1 → b.after ≤ before → b.since ≤ before → BeginsAtRest m → change_at m.along t ≡ along → change_at m.across t ≡ across → WindowsStandFor m b (phase_of stage) before self.old → WindowsStandFor m b (phase_of stage) t self.new }
+        ensures pushed { (n : ℕ) → PushedAtMost n self.old → PushedAtMost (n + 1) self.new }
+    {
         self.latest_along.push(t, along);
         self.latest_across.push(t, across);
+        if stage.is_event() {
+            return;
+        }
+        self.push_swings(along, across);
     }
 
     // A further tick at which nothing changes. Only the swings count it, where the last 20 ticks changed nothing either.
     #[inline(always)]
     pub fn rest(&mut self)
         requires room { PushedAtMost 86_399_999 self.old }
-        ensures stands { (m : Signals) (b : Bounds) (before t : ℕ) → t ≡ before + 1 → b.after ≤ before → b.since ≤ before → BeginsAtRest m → change_at m.along t ≡ pos 0 → change_at m.across t ≡ pos 0 → HoldNothing self.old → WindowsStandFor m b before self.old → WindowsStandFor m b t self.new }
+        ensures stands { (m : Signals) (b : Bounds) (p : Phase) (before t : ℕ) → t ≡ before + 1 → b.after ≤ before → b.since ≤ before → BeginsAtRest m → change_at m.along t ≡ pos 0 → change_at m.across t ≡ pos 0 → HoldNothing self.old → WindowsStandFor m b p before self.old → WindowsStandFor m b p t self.new }
         ensures nothing { HoldNothing self.old → HoldNothing self.new }
         ensures pushed { (n : ℕ) → PushedAtMost n self.old → PushedAtMost (n + 1) self.new }
     {
@@ -99,10 +117,10 @@ impl Windows {
 
     // No sum of any swing differs from 0, and no change of the last 20 ticks.
     pub fn are_at_rest(&self) -> bool
-        ensures zero_along { IsTrue result → (m : Signals) (b : Bounds) (t : ℕ) → WindowsStandFor m b t self.now → swing m.along 20 b.after t ≡ 0 }
-        ensures zero_across { IsTrue result → (m : Signals) (b : Bounds) (t : ℕ) → WindowsStandFor m b t self.now → swing m.across 5 b.after t ≡ 0 }
-        ensures trigger_along { IsTrue result → (m : Signals) (b : Bounds) (t : ℕ) → WindowsStandFor m b t self.now → swing m.along 150 b.since t ≡ 0 }
-        ensures trigger_across { IsTrue result → (m : Signals) (b : Bounds) (t : ℕ) → WindowsStandFor m b t self.now → swing m.across 150 b.since t ≡ 0 }
+        ensures zero_along { IsTrue result → (m : Signals) (b : Bounds) (t : ℕ) → SwingsStandFor m b t self.now → swing m.along 20 b.after t ≡ 0 }
+        ensures zero_across { IsTrue result → (m : Signals) (b : Bounds) (t : ℕ) → SwingsStandFor m b t self.now → swing m.across 5 b.after t ≡ 0 }
+        ensures trigger_along { IsTrue result → (m : Signals) (b : Bounds) (t : ℕ) → SwingsStandFor m b t self.now → swing m.along 150 b.since t ≡ 0 }
+        ensures trigger_across { IsTrue result → (m : Signals) (b : Bounds) (t : ℕ) → SwingsStandFor m b t self.now → swing m.across 150 b.since t ≡ 0 }
         ensures nothing { IsTrue result → HoldNothing self.now }
     {
         is_at_rest(&self.zero_along)
@@ -116,7 +134,7 @@ impl Windows {
     // A restraint fires, or a change meets the trigger threshold.
     #[tactic(auto, unfolding(edr_definitions::specs::Selection::is_triggered))]
     fn triggers(&self, fired: Restraints) -> bool
-        ensures { (m : Signals) (b : Bounds) (t : ℕ) → WindowsStandFor m b t self.now → m.fired t ≡ fired.0 → result ≡ is_triggered m b.since t }
+        ensures { (m : Signals) (b : Bounds) (t : ℕ) → SwingsStandFor m b t self.now → m.fired t ≡ fired.0 → result ≡ is_triggered m b.since t }
     {
         fired.0 != 0
             || trigger(largest(&self.trigger_along))
@@ -126,7 +144,7 @@ impl Windows {
     // A change is over 0.8 km/h, or there is a trigger.
     #[tactic(auto, unfolding(edr_definitions::specs::Selection::is_time_zero))]
     fn begins(&self, triggered: bool) -> bool
-        ensures { (m : Signals) (b : Bounds) (t : ℕ) → WindowsStandFor m b t self.now → b.after < t → triggered ≡ is_triggered m b.since t → result ≡ is_time_zero m b t }
+        ensures { (m : Signals) (b : Bounds) (t : ℕ) → SwingsStandFor m b t self.now → b.after < t → triggered ≡ is_triggered m b.since t → result ≡ is_time_zero m b t }
     {
         over(largest(&self.zero_along)) || over(largest(&self.zero_across)) || triggered
     }
@@ -134,7 +152,7 @@ impl Windows {
     // The candidate with time zero `zero` ends at the tick t.
     #[tactic(auto, unfolding(edr_definitions::specs::Selection::is_end))]
     fn ends(&self, zero: u32, t: u32) -> bool
-        ensures { (m : Signals) (b : Bounds) → WindowsStandFor m b t self.now → result ≡ is_end m zero t }
+        ensures { (m : Signals) (b : Bounds) (p : Phase) → WindowsStandFor m b p t self.now → result ≡ is_end m zero t }
     {
         let passed = t.saturating_sub(zero);
         passed == 500
@@ -145,26 +163,42 @@ impl Windows {
                 ))
     }
 
-    // The answers of the four tests at the tick t.
-    pub fn tests(&self, stage: Stage, t: u32, fired: Restraints) -> Tests
-        ensures { (m : Signals) (b : Bounds) → WindowsStandFor m b t self.now → b.after < t → m.fired t ≡ fired.0 → TestsAre m b stage t result }
+    // The open candidate ends at the tick t, if it hasn't before.
+    fn end_stands(&self, stage: Stage, t: u32) -> bool
+        ensures { (m : Signals) (b : Bounds) (p : Phase) → WindowsStandFor m b p t self.now → (z : ℕ) (c l : Option ℕ) → stage ≡ Stage.Open z c l None → result ≡ is_end m z t }
     {
-        let triggered = self.triggers(fired);
-        let ends = match stage {
+        match stage {
             Stage::Open { zero, .. } => self.ends(zero, t),
             Stage::Searching => false,
-        };
+        }
+    }
+
+    // The answers of the four tests at the tick t. While an event is open the first two don't count.
+    pub fn tests(&self, stage: Stage, t: u32, fired: Restraints) -> Tests
+        ensures { (m : Signals) (b : Bounds) → WindowsStandFor m b (phase_of stage) t self.now → b.after < t → m.fired t ≡ fired.0 → TestsAre m b stage t result }
+    {
+        let ends = self.end_stands(stage, t);
+        let locks = fired.locks();
+        if stage.is_event() {
+            return Tests {
+                zero: false,
+                trigger: false,
+                locks,
+                ends,
+            };
+        }
+        let triggered = self.triggers(fired);
         Tests {
             zero: self.begins(triggered),
             trigger: triggered,
-            locks: fired.locks(),
+            locks,
             ends,
         }
     }
 
     // A candidate leaves the search: a time zero comes after it, and after an event the trigger begins anew too.
     pub fn restart(&mut self, change: Change)
-        ensures stands { (m : Signals) (b : Bounds) (t : ℕ) → WindowsStandFor m b t self.old → WindowsStandFor m (bounds_past t change b) t self.new }
+        ensures stands { (m : Signals) (b : Bounds) (p q : Phase) (t : ℕ) → (change.closed ≡ false → is_event q ≡ false → is_event p ≡ false) → WindowsStandFor m b p t self.old → WindowsStandFor m (bounds_past t change b) q t self.new }
         ensures pushed { (n : ℕ) → PushedAtMost n self.old → PushedAtMost n self.new }
     {
         if change.closed {

@@ -1,8 +1,8 @@
-use Rattle.std.proofs.Common.{subst, ℕ, ◌≡◌, arith}
-use Rattle.edr_crashpart.proofs.FiringLemmas.{AreNoted, AreNoted-all}
+use Rattle.std.proofs.Common.{rules, ◌≡◌, length}
+use Rattle.edr_crashpart.proofs.FiringLemmas.{none-noted}
 use Rattle.edr_crashpart.proofs.with_firings.Goals as goal
 
-pub returns : goal.returns
-returns c =
-    let end : c.loop-bit.bit ≡ 8 = omega arith in
-    AreNoted-all c.args.firsts c.loop-bit.noted c.args.fired.0 c.args.at (subst (λ (k : ℕ). AreNoted c.args.firsts c.args.fired.0 c.args.at k c.loop-bit.noted) end c.loop-bit.invariant)
+pub returns-then-fired-eq0 : goal.returns-then-fired-eq0
+returns-then-fired-eq0 c =
+    let long : length c.args.firsts ≡ 8 = search rules in
+    none-noted c.args.firsts c.args.fired.0 c.args.at long c.if-fired-eq0.true

@@ -1,4 +1,4 @@
-use Rattle.std.proofs.Common.{rules, None, ◌≡◌, sym, subst, ◌∙◌, ◌≤◌, ℤ, unsigned_abs, FitsSigned, to_z, of_z, w32}
+use Rattle.std.proofs.Common.{rules, sym, subst, ◌∙◌, ◌≤◌, ℤ, unsigned_abs, FitsSigned, to_z, of_z, w32}
 use Rattle.std.proofs.lemmas.Int.{to_z-of_z}
 use Rattle.edr_definitions.specs.Schedule.{Close, after_step}
 use Rattle.edr_detect.specs.Stages.{told_of}
@@ -6,7 +6,7 @@ use Rattle.edr_core.specs.Candidate.{no_issues}
 use Rattle.edr_core.specs.Contents.{CoreContents}
 use Rattle.edr_core.specs.Fields.{contents_of}
 use Rattle.edr_core.specs.StandsFor.{CoreIsFor}
-use Rattle.edr_core.proofs.StepLemmas.{waits-for-none, room, small-along, small-across, row-in_range, all-short, keeps, can-tell, quiet, step-stands, step-commands, step-ticks}
+use Rattle.edr_core.proofs.StepLemmas.{waits-for-none, room, small-along, small-across, row-in_range, all-short, keeps, can-tell, step-stands, step-commands, step-ticks}
 use Rattle.edr_core.proofs.Core.close.Goals as goal
 
 pub tick-change-requires-clause-along_small : goal.tick-change-requires-clause-along_small
@@ -107,11 +107,10 @@ returns-clause-waits c = λ n p before.
     let h : CoreIsFor (contents_of c.self.inside) n p = subst (λ (v : CoreContents). CoreIsFor v n p) (sym c.self.view_is) before in
     sym (waits-for-none c.self.inside n p h c.in-Row.tick c.in-Row.along c.in-Row.across c.in-Row.fired (c.in-Row.ensures.answer p h.merge_is) ((c.in-Row.ensures.allowed p h.merge_is).0 tt))
 
--- no candidate is open past the tick
-pub invariant_of-self-then-is_none : goal.invariant_of-self-then-is_none
-invariant_of-self-then-is_none c =
+-- the tick passes by what is open, and issues nothing
+pub invariant_of-self-then-passes_by : goal.invariant_of-self-then-passes_by
+invariant_of-self-then-passes_by c =
     let h = c.self.invariant in
-    let none : c.follow.new.candidate ≡ None = search rules in
     let along_fits : FitsSigned w32 c.unwrap_or.result = search rules in
     let across_fits : FitsSigned w32 c.unwrap_or-2.result = search rules in
     record {
@@ -120,48 +119,45 @@ invariant_of-self-then-is_none c =
           (told_of c.tick-change.result) c.tick-change.new.self (to_z w32 (of_z w32 c.unwrap_or.result)) (to_z w32 (of_z w32 c.unwrap_or-2.result))
           (to_z-of_z w32 c.unwrap_or.result along_fits ∙ c.unwrap_or.ensures) (to_z-of_z w32 c.unwrap_or-2.result across_fits ∙ c.unwrap_or-2.ensures) c.tick-change.ensures.stands c.tick-change.ensures.answer
           c.next.new.self c.follow.new.candidate c.follow.new.candidate c.self.inside.link no_issues c.follow.ensures
-          (quiet c.in-Row.tick (told_of c.tick-change.result) c.self.inside.link c.follow.new.candidate none)
+          (c.passes_by.ensures c.if-passes_by.true c.in-Row.tick c.self.inside.link)
           (c.in-Row.ensures.stands h.past h.stands.merge_is);
     }
 
-pub returns-then-is_none-clause-stands : goal.returns-then-is_none-clause-stands
-returns-then-is_none-clause-stands c = λ n p before.
+pub returns-then-passes_by-clause-stands : goal.returns-then-passes_by-clause-stands
+returns-then-passes_by-clause-stands c = λ n p before.
     let h : CoreIsFor (contents_of c.self.inside) n p = subst (λ (v : CoreContents). CoreIsFor v n p) (sym c.self.view_is) before in
-    let none : c.follow.new.candidate ≡ None = search rules in
     let along_fits : FitsSigned w32 c.unwrap_or.result = search rules in
     let across_fits : FitsSigned w32 c.unwrap_or-2.result = search rules in
     step-stands c.self.inside n p h c.in-Row.tick c.in-Row.along c.in-Row.across c.in-Row.fired (c.in-Row.ensures.answer p h.merge_is) ((c.in-Row.ensures.allowed p h.merge_is).0 tt)
     (told_of c.tick-change.result) c.tick-change.new.self (to_z w32 (of_z w32 c.unwrap_or.result)) (to_z w32 (of_z w32 c.unwrap_or-2.result))
     (to_z-of_z w32 c.unwrap_or.result along_fits ∙ c.unwrap_or.ensures) (to_z-of_z w32 c.unwrap_or-2.result across_fits ∙ c.unwrap_or-2.ensures) c.tick-change.ensures.stands c.tick-change.ensures.answer
     c.next.new.self c.follow.new.candidate c.follow.new.candidate c.self.inside.link no_issues c.follow.ensures
-    (quiet c.in-Row.tick (told_of c.tick-change.result) c.self.inside.link c.follow.new.candidate none)
+    (c.passes_by.ensures c.if-passes_by.true c.in-Row.tick c.self.inside.link)
     (c.in-Row.ensures.stands p h.merge_is)
 
-pub returns-then-is_none-clause-commands : goal.returns-then-is_none-clause-commands
-returns-then-is_none-clause-commands c = λ n p before.
+pub returns-then-passes_by-clause-commands : goal.returns-then-passes_by-clause-commands
+returns-then-passes_by-clause-commands c = λ n p before.
     let h : CoreIsFor (contents_of c.self.inside) n p = subst (λ (v : CoreContents). CoreIsFor v n p) (sym c.self.view_is) before in
-    let none : c.follow.new.candidate ≡ None = search rules in
     let along_fits : FitsSigned w32 c.unwrap_or.result = search rules in
     let across_fits : FitsSigned w32 c.unwrap_or-2.result = search rules in
     step-commands c.self.inside n p h c.in-Row.tick c.in-Row.along c.in-Row.across c.in-Row.fired (c.in-Row.ensures.answer p h.merge_is) ((c.in-Row.ensures.allowed p h.merge_is).0 tt)
     (told_of c.tick-change.result) c.tick-change.new.self (to_z w32 (of_z w32 c.unwrap_or.result)) (to_z w32 (of_z w32 c.unwrap_or-2.result))
     (to_z-of_z w32 c.unwrap_or.result along_fits ∙ c.unwrap_or.ensures) (to_z-of_z w32 c.unwrap_or-2.result across_fits ∙ c.unwrap_or-2.ensures) c.tick-change.ensures.stands c.tick-change.ensures.answer
     c.next.new.self c.follow.new.candidate c.follow.new.candidate c.self.inside.link no_issues c.follow.ensures
-    (quiet c.in-Row.tick (told_of c.tick-change.result) c.self.inside.link c.follow.new.candidate none)
+    (c.passes_by.ensures c.if-passes_by.true c.in-Row.tick c.self.inside.link)
 
-pub returns-then-is_none-clause-ticks : goal.returns-then-is_none-clause-ticks
-returns-then-is_none-clause-ticks c = λ n p before.
+pub returns-then-passes_by-clause-ticks : goal.returns-then-passes_by-clause-ticks
+returns-then-passes_by-clause-ticks c = λ n p before.
     let h : CoreIsFor (contents_of c.self.inside) n p = subst (λ (v : CoreContents). CoreIsFor v n p) (sym c.self.view_is) before in
-    let none : c.follow.new.candidate ≡ None = search rules in
     let along_fits : FitsSigned w32 c.unwrap_or.result = search rules in
     let across_fits : FitsSigned w32 c.unwrap_or-2.result = search rules in
     step-ticks c.self.inside n p h c.in-Row.tick c.in-Row.along c.in-Row.across c.in-Row.fired (c.in-Row.ensures.answer p h.merge_is) ((c.in-Row.ensures.allowed p h.merge_is).0 tt)
     (told_of c.tick-change.result) c.tick-change.new.self (to_z w32 (of_z w32 c.unwrap_or.result)) (to_z w32 (of_z w32 c.unwrap_or-2.result))
     (to_z-of_z w32 c.unwrap_or.result along_fits ∙ c.unwrap_or.ensures) (to_z-of_z w32 c.unwrap_or-2.result across_fits ∙ c.unwrap_or-2.ensures) c.tick-change.ensures.stands c.tick-change.ensures.answer
     c.next.new.self c.follow.new.candidate c.follow.new.candidate c.self.inside.link no_issues c.follow.ensures
-    (quiet c.in-Row.tick (told_of c.tick-change.result) c.self.inside.link c.follow.new.candidate none)
+    (c.passes_by.ensures c.if-passes_by.true c.in-Row.tick c.self.inside.link)
 
-pub returns-then-is_none-clause-waits : goal.returns-then-is_none-clause-waits
-returns-then-is_none-clause-waits c = λ n p before.
+pub returns-then-passes_by-clause-waits : goal.returns-then-passes_by-clause-waits
+returns-then-passes_by-clause-waits c = λ n p before.
     let h : CoreIsFor (contents_of c.self.inside) n p = subst (λ (v : CoreContents). CoreIsFor v n p) (sym c.self.view_is) before in
     sym (waits-for-none c.self.inside n p h c.in-Row.tick c.in-Row.along c.in-Row.across c.in-Row.fired (c.in-Row.ensures.answer p h.merge_is) ((c.in-Row.ensures.allowed p h.merge_is).0 tt))

@@ -4,7 +4,7 @@ use Rattle.std.proofs.lemmas.Bool.{not-true}
 use Rattle.edr_definitions.specs.Change.{tick_change}
 use Rattle.edr_detect.specs.Detected.{DetectState, DetectStandsFor}
 use Rattle.edr_detect.specs.Rows.{Row, signals_of_rows}
-use Rattle.edr_detect.specs.Stages.{told_of}
+use Rattle.edr_detect.specs.Stages.{told_of, phase_of}
 use Rattle.edr_detect.proofs.RowLemmas.{nothing, tick-stands, tick-still, never-rests}
 use Rattle.edr_detect.proofs.detector.Detect.full_tick.Goals as goal
 
@@ -42,7 +42,8 @@ returns c =
     λ rows h. tick-stands rows r (record { tick = c.self.inside.tick; stage = c.self.inside.stage; windows = c.self.inside.windows; rests = c.self.inside.rests }) after
     (c.self.inside.tick + 1) c.tests-tests.result c.change_at-change.result c.push.new.self
     (subst (λ (d : DetectState). DetectStandsFor d rows) (sym c.self.view_is) h) refl refl
-    push (λ m b before next after since here side fires old w. c.tests-tests.ensures m b w (omega arith) fires) c.next-self-inside.ensures c.change_at-change.ensures c.restart.ensures.stands (λ m b before next past since here side old w told. absurd (never-rests told)) in
+    push (λ m b before next after since here side fires old w. c.tests-tests.ensures m b w (omega arith) fires) c.next-self-inside.ensures c.change_at-change.ensures
+    (λ m b k stay w. c.restart.ensures.stands m b (phase_of c.self.inside.stage) (phase_of c.next-self-inside.result) k stay w) (λ m b before next past since here side old w told. absurd (never-rests told)) in
     record {
       stands = λ rows h. (both rows h).0;
       answer = λ rows h. (both rows h).1;

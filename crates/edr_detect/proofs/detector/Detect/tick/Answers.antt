@@ -3,7 +3,7 @@ use Rattle.std.proofs.lemmas.Int.{to_z-of_z}
 use Rattle.edr_definitions.specs.Change.{tick_change}
 use Rattle.edr_detect.specs.Detected.{DetectState, DetectStandsFor}
 use Rattle.edr_detect.specs.Rows.{Row, signals_of_rows}
-use Rattle.edr_detect.specs.Stages.{told_of}
+use Rattle.edr_detect.specs.Stages.{told_of, phase_of}
 use Rattle.edr_detect.proofs.RowLemmas.{nothing, at-rest, tick-quiet}
 use Rattle.edr_detect.proofs.detector.Detect.tick.Goals as goal
 
@@ -24,7 +24,7 @@ returns-then-self c =
     let h : DetectStandsFor before rows = subst (λ (d : DetectState). DetectStandsFor d rows) (sym c.self.view_is) stands in
     let rest = at-rest before rows h c.if-self.true in
     tick-quiet rows r before (c.self.inside.tick + 1) c.rest.new.self c.self.inside.rests h refl rest.0
-    (λ m b t next past since start here side old. c.rest.ensures.stands m b t (c.self.inside.tick + 1) next past since start (here ∙ along) (side ∙ across) rest.1 old)
+    (λ m b t next past since start here side old. c.rest.ensures.stands m b (phase_of c.self.inside.stage) t (c.self.inside.tick + 1) next past since start (here ∙ along) (side ∙ across) rest.1 old)
     (λ _. c.rest.ensures.nothing rest.1)
     along across c.if-fired-eq0.true c.if-self.true in
     record {
