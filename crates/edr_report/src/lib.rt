@@ -20,7 +20,7 @@ use edr_image::{CycleReport, Found};
 pub use faults::Fault;
 use forms::{Table, Text};
 use printer::print;
-pub use short_lines::{ShortLine, format_line};
+pub use short_lines::{Room, ShortLine, format_line, push_number};
 use std::alloc::{AllocError as OutOfMemory, Global};
 
 /// The report of the cycles of a run, of what was found in the banks in this order, and of the count of ignition
