@@ -13,3 +13,4 @@ pub mod RunLemmas
 pub mod LastLemmas
 pub mod ReadingLemmas
 pub mod TableLemmas
+pub mod FaultLemmas

@@ -7,3 +7,5 @@ pub mod Told
 pub mod Run
 pub mod Found
 pub mod Reading
+pub mod Faults
+pub mod Refusals

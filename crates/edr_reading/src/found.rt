@@ -10,12 +10,19 @@ ghost use Rattle.edr_reading.specs.Rows.{fields, line_fields};
 ghost use Rattle.edr_reading.specs.Reading.{AreDistinct};
 
 use crate::event::{EVENT_ROWS, read_event};
-use crate::reading::ReportRefused;
 use crate::rows::Row;
 use crate::told::{is_told, read_count, read_damaged};
 use edr_image::{BankView, Found};
 use edr_record::Record;
 use std::alloc::Global;
+
+/// Why rows are not read.
+#[derive(Clone, Copy, Debug, PartialEq, Eq)]
+pub(crate) enum Refused {
+    /// They are those of no report.
+    NoReport,
+    OutOfMemory,
+}
 
 // The most banks that an image has.
 const MOST_BANKS: u32 = 16;
@@ -50,7 +57,7 @@ pub(crate) fn take_events(
     rows: &[Row<'_>],
     block: u32,
     found: &mut Vec<Found>,
-) -> Result<(), ReportRefused>
+) -> Result<(), Refused>
     requires { 1 ≤ block }
     ensures read { OnOk result ((es : List (ℕ × Record)) × (found.new.items ≡ found.old.items ++ map found_event es) × All IsEvent es
         × (map fields rows.now ≡ events_fields block es ++ map fields (drop (28 * length es) rows.now)) × (28 * length es ≤ length rows.now)) }
@@ -58,13 +65,13 @@ pub(crate) fn take_events(
         → map fields rows.now ≡ events_fields block es ++ more
         → (map (λ f. f.bank) found.new.items ≡ map (λ f. f.bank) found.old.items ++ map (λ e. e.0) es) × (map fields (drop (28 * length es) rows.now) ≡ more)) }
     ensures refused { IfErr result (λ e. (es : List (ℕ × Record)) (more : List (List (List ℕ))) → All IsEvent es → length es + block ≤ 17 → BeginsTold more
-        → map fields rows.now ≡ events_fields block es ++ more → e ≡ ReportRefused.OutOfMemory) }
+        → map fields rows.now ≡ events_fields block es ++ more → e ≡ Refused.OutOfMemory) }
 {
     if !begins_event(rows) {
         return Ok(());
     }
     if block > MOST_BANKS {
-        return Err(ReportRefused::NoReport);
+        return Err(Refused::NoReport);
     }
     match first_event(rows, block) {
         Some((bank, record)) => {
@@ -72,10 +79,10 @@ pub(crate) fn take_events(
             let view = BankView::Event(Record { pre, locked, crash });
             match found.push(Found { bank, view }) {
                 Ok(()) => take_events(rows.split_at(EVENT_ROWS).1, block + 1, found),
-                Err(_) => Err(ReportRefused::OutOfMemory),
+                Err(_) => Err(Refused::OutOfMemory),
             }
         }
-        None => Err(ReportRefused::NoReport),
+        None => Err(Refused::NoReport),
     }
 }
 
@@ -104,24 +111,24 @@ fn last_count(rows: &[Row<'_>]) -> Option<u32>
 }
 
 // Adds the damaged banks of which the rows tell, `most` at most, and answers the count that the last row shows.
-fn take_damaged(rows: &[Row<'_>], most: u32, found: &mut Vec<Found>) -> Result<u32, ReportRefused>
+fn take_damaged(rows: &[Row<'_>], most: u32, found: &mut Vec<Found>) -> Result<u32, Refused>
     ensures read { OnOk result ((n : ℕ) × (result ≡ Ok n) × (ds : List Found) × (found.new.items ≡ found.old.items ++ ds) × All IsDamaged ds × (map fields rows.now ≡ last_rows ds n)) }
     ensures whole { OnOk result ((ds : List Found) (n : ℕ) → All IsDamaged ds → length ds ≤ most → map fields rows.now ≡ last_rows ds n → found.new.items ≡ found.old.items ++ ds) }
-    ensures refused { IfErr result (λ e. (ds : List Found) (n : ℕ) → All IsDamaged ds → length ds ≤ most → map fields rows.now ≡ last_rows ds n → e ≡ ReportRefused.OutOfMemory) }
+    ensures refused { IfErr result (λ e. (ds : List Found) (n : ℕ) → All IsDamaged ds → length ds ≤ most → map fields rows.now ≡ last_rows ds n → e ≡ Refused.OutOfMemory) }
 {
     match first_damaged(rows) {
         Some((damaged, rest)) => {
             if most == 0 {
-                return Err(ReportRefused::NoReport);
+                return Err(Refused::NoReport);
             }
             match found.push(damaged) {
                 Ok(()) => take_damaged(rest, most - 1, found),
-                Err(_) => Err(ReportRefused::OutOfMemory),
+                Err(_) => Err(Refused::OutOfMemory),
             }
         }
         None => match last_count(rows) {
             Some(count) => Ok(count),
-            None => Err(ReportRefused::NoReport),
+            None => Err(Refused::NoReport),
         },
     }
 }
@@ -153,12 +160,12 @@ fn are_distinct(found: &[Found]) -> bool
 }
 
 /// What was found in the banks, each in another one, and the count of ignition cycles, by the rows behind a run.
-pub(crate) fn found_of(alloc: Global, rows: &[Row<'_>]) -> Result<(Vec<Found>, u32), ReportRefused>
+pub(crate) fn found_of(alloc: Global, rows: &[Row<'_>]) -> Result<(Vec<Found>, u32), Refused>
     ensures read { IfOk result (λ p. (es : List (ℕ × Record)) × (ds : List Found) × (p.0.items ≡ map found_event es ++ ds) × All IsEvent es × All IsDamaged ds
         × (map fields rows.now ≡ events_fields 1 es ++ last_rows ds p.1)) }
     ensures distinct { IfOk result (λ p. AreDistinct p.0.items) }
     ensures refused { IfErr result (λ e. (es : List (ℕ × Record)) (ds : List Found) (n : ℕ) → All IsEvent es → All IsDamaged ds → AreDistinct (map found_event es ++ ds)
-        → map fields rows.now ≡ events_fields 1 es ++ last_rows ds n → e ≡ ReportRefused.OutOfMemory) }
+        → map fields rows.now ≡ events_fields 1 es ++ last_rows ds n → e ≡ Refused.OutOfMemory) }
 {
     let mut found = Vec::new(alloc);
     take_events(rows, 1, &mut found)?;
@@ -167,6 +174,6 @@ pub(crate) fn found_of(alloc: Global, rows: &[Row<'_>]) -> Result<(Vec<Found>, u
     if are_distinct(&found) {
         Ok((found, count))
     } else {
-        Err(ReportRefused::NoReport)
+        Err(Refused::NoReport)
     }
 }

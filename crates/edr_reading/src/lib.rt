@@ -3,6 +3,7 @@
 
 mod crash;
 mod event;
+mod faults;
 mod found;
 mod front;
 pub mod laws;
@@ -16,6 +17,7 @@ mod slots;
 mod told;
 mod values;
 
+pub use faults::RowFault;
 pub use reading::{Reading, ReportRefused, read};
 
 #[cfg(test)]

@@ -6,8 +6,10 @@ ghost use Rattle.edr_image.specs.Reports.{Report, report_of};
 ghost use Rattle.edr_reading.specs.Rows.{fields};
 ghost use Rattle.edr_reading.specs.Run.{RecordsOf};
 ghost use Rattle.edr_reading.specs.Reading.{IsReading, head_row, report_rows};
+ghost use Rattle.edr_reading.specs.Refusals.{IsRefusal};
 
-use crate::found::found_of;
+use crate::faults::{RowFault, head_fault};
+use crate::found::{Refused, found_of};
 use crate::front::is_word;
 use crate::records::{records, rows_of};
 use crate::rows::Row;
@@ -32,7 +34,9 @@ pub struct Reading {
 /// Why a text is not read.
 #[derive(Clone, Copy, Debug, PartialEq, Eq)]
 pub enum ReportRefused {
-    /// It is no report.
+    /// It can be no report from this row on, counted from 1. Only the row that names the columns is told so.
+    Fault { row: u32, fault: RowFault },
+    /// Its first row names the columns, and it is no report.
     NoReport,
     OutOfMemory,
 }
@@ -54,20 +58,20 @@ fn behind_head<'r, 'a>(rows: &'r [Row<'a>]) -> Option<&'r [Row<'a>]>
 }
 
 // What the rows of a report tell.
-fn reading_of(alloc: Global, rows: &[Row<'_>]) -> Result<Reading, ReportRefused>
+fn reading_of(alloc: Global, rows: &[Row<'_>]) -> Result<Reading, Refused>
     ensures read { IfOk result (λ r. map fields rows.now ≡ report_rows (map report_of r.run.items) r.found.items r.count) }
     ensures told { IfOk result (λ r. IsReading (map report_of r.run.items) r.found.items r.count) }
     ensures refused { IfErr result (λ e. (reports : List Report) (found : List Found) (n : ℕ) → IsReading reports found n
-        → map fields rows.now ≡ report_rows reports found n → e ≡ ReportRefused.OutOfMemory) }
+        → map fields rows.now ≡ report_rows reports found n → e ≡ Refused.OutOfMemory) }
 {
     if rows.len() > MOST_ROWS {
-        return Err(ReportRefused::NoReport);
+        return Err(Refused::NoReport);
     }
     let Some(rest) = behind_head(rows) else {
-        return Err(ReportRefused::NoReport);
+        return Err(Refused::NoReport);
     };
     let Ok((run, rest)) = take_run(alloc, rest) else {
-        return Err(ReportRefused::OutOfMemory);
+        return Err(Refused::OutOfMemory);
     };
     let (found, count) = found_of(alloc, rest)?;
     Ok(Reading { run, found, count })
@@ -79,21 +83,30 @@ fn reading_of(alloc: Global, rows: &[Row<'_>]) -> Result<Reading, ReportRefused>
 /// read as its plainest value: 60000 for a greater count, and the time between two events in tenths of a second.
 ///
 /// # Errors
-/// `NoReport` where the text is none, `OutOfMemory` where memory runs out before that is known.
+/// `Fault` where the first row isn't the one that names the columns, `NoReport` where another row is at fault,
+/// `OutOfMemory` where memory runs out before that is known.
 pub fn read(alloc: Global, bytes: &[u8]) -> Result<Reading, ReportRefused>
     ensures read { IfOk result (λ r. RecordsOf bytes.now (report_rows (map report_of r.run.items) r.found.items r.count)) }
     ensures told { IfOk result (λ r. IsReading (map report_of r.run.items) r.found.items r.count) }
     ensures refused { IfErr result (λ e. (reports : List Report) (found : List Found) (n : ℕ) → IsReading reports found n
         → RecordsOf bytes.now (report_rows reports found n) → e ≡ ReportRefused.OutOfMemory) }
+    ensures fault { IfErr result (IsRefusal bytes.now) }
 {
     let Ok(records) = records(alloc, bytes) else {
         return Err(ReportRefused::OutOfMemory);
     };
+    if let Some(fault) = head_fault(&records) {
+        return Err(ReportRefused::Fault { row: 1, fault });
+    }
     let Ok(rows) = rows_of(alloc, &records) else {
         return Err(ReportRefused::OutOfMemory);
     };
     if rows.len() < records.len() {
         return Err(ReportRefused::NoReport);
     }
-    reading_of(alloc, &rows)
+    match reading_of(alloc, &rows) {
+        Ok(reading) => Ok(reading),
+        Err(Refused::NoReport) => Err(ReportRefused::NoReport),
+        Err(Refused::OutOfMemory) => Err(ReportRefused::OutOfMemory),
+    }
 }

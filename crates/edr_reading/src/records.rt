@@ -37,8 +37,8 @@ fn field(fields: &ByteRecord, place: usize) -> &[u8]
     }
 }
 
-// The row of a record, if it has three fields.
-fn row_of(found: &ByteRecord) -> Option<Row<'_>>
+/// The row of a record, if it has three fields.
+pub(crate) fn row_of(found: &ByteRecord) -> Option<Row<'_>>
     ensures { MatchOption result (length (fields_of found.now) ≢ 3) (λ r. fields r ≡ fields_of found.now) }
 {
     if found.len() != 3 {

@@ -1,4 +1,4 @@
-use crate::{ReportRefused, read};
+use crate::{ReportRefused, RowFault, read};
 use edr_report::table;
 use std::process::Abort;
 use std::test::Fail;
@@ -38,11 +38,15 @@ const POWER_CUT: &[u8] = b"block,name,value\n\
     1,complete file recorded,no\n\
     0,\"ignition cycle, download\",1\n";
 
-fn is_refused(rt: &HostRuntime, bytes: &[u8]) -> bool {
+fn check_refused<R: Abort + AllocGlobal>(rt: &R, bytes: &[u8], wanted: ReportRefused) {
     match read(rt.alloc(), bytes) {
-        Ok(_) => false,
-        Err(refused) => refused == ReportRefused::NoReport,
+        Ok(_) => assert!(rt; false),
+        Err(refused) => assert_eq!(rt; refused, wanted),
     }
+}
+
+fn check_first_row<R: Abort + AllocGlobal>(rt: &R, bytes: &[u8], fault: RowFault) {
+    check_refused(rt, bytes, ReportRefused::Fault { row: 1, fault });
 }
 
 #[test]
@@ -61,19 +65,29 @@ fn a_report_is_read_as_it_was_printed(rt: HostRuntime) -> Result<(), Fail> {
 }
 
 #[test]
+fn a_first_row_that_names_no_columns_is_told(rt: HostRuntime) {
+    check_first_row(&rt, b"", RowFault::Unended);
+    check_first_row(&rt, b"\n\n", RowFault::Unended);
+    check_first_row(&rt, b"event: 1\n", RowFault::Fields(1));
+    check_first_row(&rt, b"block;name;value\n", RowFault::Fields(1));
+    check_first_row(&rt, b"block,name,value,\n", RowFault::Fields(4));
+    check_first_row(&rt, b"0,cycle 1,x\n", RowFault::Field(1));
+    check_first_row(&rt, b"block,names,values\n", RowFault::Field(2));
+    check_first_row(&rt, b"block,name,values\n", RowFault::Field(3));
+}
+
+#[test]
 fn a_damaged_report_is_refused(rt: HostRuntime) {
-    let texts: [&[u8]; 6] = [
-        b"",
+    let texts: [&[u8]; 5] = [
         b"block,name,value\n",
-        b"block,name,values\n0,\"ignition cycle, download\",1\n",
         b"block,name,value\n0,\"ignition cycle, download\",01\n",
         b"block,name,value\n0,\"ignition cycle, download\",1\n0\n",
         b"block,name,value\n0,bank 17,damaged at 25 found 1 locked no\n0,\"ignition cycle, download\",1\n",
+        POWER_CUT.split_at(40).0,
     ];
     for text in texts {
-        assert!(rt; is_refused(&rt, text));
+        check_refused(&rt, text, ReportRefused::NoReport);
     }
-    assert!(rt; is_refused(&rt, POWER_CUT.split_at(40).0));
 }
 
 #[test]
@@ -83,5 +97,5 @@ fn a_bank_is_told_once(rt: HostRuntime) {
     let twice = b"block,name,value\n0,bank 1,damaged at 25 found 1 locked no\n\
         0,bank 1,damaged at 25 found 1 locked no\n0,\"ignition cycle, download\",1\n";
     assert!(rt; read(rt.alloc(), once).is_ok());
-    assert!(rt; is_refused(&rt, twice));
+    check_refused(&rt, twice, ReportRefused::NoReport);
 }

@@ -18,9 +18,11 @@ ghost use Rattle.edr_report.specs.Report.{report_lines};
 
 use edr_image::{CycleReport, Found};
 pub use faults::Fault;
+pub use forms::Lines;
 use forms::{Table, Text};
 use printer::print;
-pub use short_lines::{ShortLine, format_line};
+pub use printer::{print_event, print_run};
+pub use short_lines::{Room, ShortLine, format_line, push_number};
 use std::alloc::{AllocError as OutOfMemory, Global};
 
 /// The report of the cycles of a run, of what was found in the banks in this order, and of the count of ignition

@@ -342,3 +342,41 @@ pub fn print<L: Lines + Drop>(
     printer.put_report(run, found, count)?;
     Ok(printer.lines)
 }
+
+/// The form with all lines of the cycles of a run.
+pub fn print_run<L: Lines + Drop>(
+    alloc: Global,
+    form: L,
+    run: &[CycleReport],
+) -> Result<L, OutOfMemory>
+    requires { L.ready form }
+    ensures { IfOk result (λ printed. L.bytes printed ≡ L.bytes form ++ flat_map L.form (run_lines 1 (map report_of run.now))) }
+{
+    let mut printer = Printer {
+        lines: form,
+        name: String::new(alloc),
+        value: String::new(alloc),
+    };
+    printer.put_run(run)?;
+    Ok(printer.lines)
+}
+
+/// The form with all lines of the event of this bank, which is in place `block` of the retrieved ones.
+pub fn print_event<L: Lines + Drop>(
+    alloc: Global,
+    form: L,
+    block: u64,
+    bank: u8,
+    event: &Record,
+) -> Result<L, OutOfMemory>
+    requires { L.ready form }
+    ensures { IfOk result (λ printed. L.bytes printed ≡ L.bytes form ++ flat_map L.form (event_lines block bank event.now)) }
+{
+    let mut printer = Printer {
+        lines: form,
+        name: String::new(alloc),
+        value: String::new(alloc),
+    };
+    printer.put_event(block, bank, event)?;
+    Ok(printer.lines)
+}

@@ -11,7 +11,7 @@ use itoa::Buffer;
 use std::marker::Model;
 
 /// Room for the bytes of a line.
-pub(crate) type Room = ArrayString<80>;
+pub type Room = ArrayString<80>;
 
 /// A line of at most 80 bytes, in a place of its own. Contracts see it as the list of its bytes.
 #[derive(Drop)]
@@ -28,7 +28,8 @@ impl Model for ShortLine {
 }
 
 impl ShortLine {
-    pub(crate) fn new(text: Room) -> ShortLine
+    /// The line that was put there.
+    pub fn new(text: Room) -> ShortLine
         ensures { result ≡ text.bytes }
     {
         ShortLine { text }
@@ -43,7 +44,7 @@ impl ShortLine {
 }
 
 /// Appends words and a number.
-pub(crate) fn push_number(line: &mut Room, words: &str, n: u32)
+pub fn push_number(line: &mut Room, words: &str, n: u32)
     requires { array_string_len line.old + length words.now + 10 ≤ 80 }
     ensures bytes { line.new.bytes ≡ line.old.bytes ++ (words.now ++ decimal n) }
     ensures len { array_string_len line.new ≤ array_string_len line.old + length words.now + 10 }

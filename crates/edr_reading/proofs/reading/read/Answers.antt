@@ -7,25 +7,32 @@ use Rattle.edr_spell.proofs.CsvLemmas.{same_records}
 use Rattle.edr_reading.specs.Reading.{report_rows}
 use Rattle.edr_reading.specs.Rows.{fields}
 use Rattle.edr_reading.specs.Run.{RecordsOf}
-use Rattle.edr_reading.proofs.FoundLemmas.{if-err}
+use Rattle.edr_reading.proofs.FaultLemmas.{fault-is-none}
 use Rattle.edr_reading.proofs.ReadingLemmas.{no-other, all-rows}
 use Rattle.edr_reading.proofs.reading.read.Goals as goal
 
 pub returns-then-len-clause-refused : goal.returns-then-len-clause-refused
 returns-then-len-clause-refused c reports banks n h is =
-    let records = map fields_of c.deref.result.now in
-    let read = subst (λ (x : List _). RecordsOf c.args.bytes.now (map fields_of x)) (sym c.deref.ensures.value) c.in-Ok.ensures in
+    let records = map fields_of c.deref-2.result.now in
+    let read = subst (λ (x : List _). RecordsOf c.args.bytes.now (map fields_of x)) (sym c.deref-2.ensures.value) c.in-Ok.ensures in
     let same = same_records default_config st.StartRecord (strip_bom c.args.bytes.now) records (report_rows reports banks n) read is in
-    let less : length c.in-Ok-rows_of.rows.items < length c.deref.result.now = omega (arith, c.if-len.true, c.len.ensures, c.len-2.ensures, ap length c.deref.ensures.value) in
-    let long = length-map c.deref.result.now fields_of in
+    let less : length c.in-Ok-rows_of.rows.items < length c.deref-2.result.now = omega (arith, c.if-len.true, c.len.ensures, c.len-2.ensures, ap length c.deref-2.ensures.value) in
+    let long = length-map c.deref-2.result.now fields_of in
     absurd (no-other records reports banks n (length c.in-Ok-rows_of.rows.items) same (omega (arith, less, long)) (c.in-Ok-rows_of.ensures.stops less))
 
-pub returns-clause-refused : goal.returns-clause-refused
-returns-clause-refused c =
-    if-err c.reading_of.result _ _ (λ e f. λ reports banks n h is.
+pub returns-in-Err-NoReport-clause-refused : goal.returns-in-Err-NoReport-clause-refused
+returns-in-Err-NoReport-clause-refused c reports banks n h is =
+    let records = map fields_of c.deref-2.result.now in
+    let read = subst (λ (x : List _). RecordsOf c.args.bytes.now (map fields_of x)) (sym c.deref-2.ensures.value) c.in-Ok.ensures in
+    let same = same_records default_config st.StartRecord (strip_bom c.args.bytes.now) records (report_rows reports banks n) read is in
+    let long = length-map c.deref-2.result.now fields_of in
+    let all : length c.in-Ok-rows_of.rows.items ≡ length records = omega (arith, c.if-len.false, c.len.ensures, c.len-2.ensures, ap length c.deref-2.ensures.value, c.in-Ok-rows_of.ensures.within, long) in
+    let out = c.in-Err-NoReport.ensures.refused reports banks n h (ap (map fields) c.deref-3.ensures.value ∙ all-rows c.in-Ok-rows_of.rows.items records (length c.in-Ok-rows_of.rows.items) c.in-Ok-rows_of.ensures.rows all ∙ same) in
+    cc
+
+pub returns-in-Some-clause-refused : goal.returns-in-Some-clause-refused
+returns-in-Some-clause-refused c reports banks n h is =
     let records = map fields_of c.deref.result.now in
     let read = subst (λ (x : List _). RecordsOf c.args.bytes.now (map fields_of x)) (sym c.deref.ensures.value) c.in-Ok.ensures in
     let same = same_records default_config st.StartRecord (strip_bom c.args.bytes.now) records (report_rows reports banks n) read is in
-    let long = length-map c.deref.result.now fields_of in
-    let all : length c.in-Ok-rows_of.rows.items ≡ length records = omega (arith, c.if-len.false, c.len.ensures, c.len-2.ensures, ap length c.deref.ensures.value, c.in-Ok-rows_of.ensures.within, long) in
-    f reports banks n h (ap (map fields) c.deref-2.ensures.value ∙ all-rows c.in-Ok-rows_of.rows.items records (length c.in-Ok-rows_of.rows.items) c.in-Ok-rows_of.ensures.rows all ∙ same)) c.reading_of.ensures.refused
+    absurd (fault-is-none records 1 c.in-Some.fault c.in-Some.ensures (reports, banks, n, h, same))

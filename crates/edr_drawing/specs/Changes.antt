@@ -1,0 +1,62 @@
+-- The scale of a chart after time zero: changes of speed up, time across.
+use Rattle.std.specs.Prelude.{ℕ, ◌+◌, ◌*◌, ◌/◌, max, ℤ, Bool, true, ◌&&◌, if◌then◌else◌, nat_le, nat_eq, Option, Some, None, List, [], ◌∷◌}
+use Rattle.std.specs.List.{list_all}
+use Rattle.edr_record.specs.Parts.{CrashPart}
+use Rattle.edr_record.specs.Bounds.{window_from_end}
+use Rattle.edr_drawing.specs.declared.changes.Scale.{Scale}
+use Rattle.edr_drawing.specs.Scales.{rise_of, fall_of, below_top, least_step, scale_top}
+
+-- how far points reach above 0, and how far below
+abbrev pub highest : List ℤ → ℕ
+highest [] = 0
+highest (v ∷ vs) = max (rise_of v) (highest vs)
+
+abbrev pub lowest : List ℤ → ℕ
+lowest [] = 0
+lowest (v ∷ vs) = max (fall_of v) (lowest vs)
+
+-- how far the points and the greatest changes of both axes reach above 0, and how far below
+abbrev pub reach_up : CrashPart → ℕ
+reach_up c = max (max (max (highest c.along) (highest c.across)) (rise_of c.max_along.kmh)) (rise_of c.max_across.kmh)
+
+abbrev pub reach_down : CrashPart → ℕ
+reach_down c = max (max (max (lowest c.along) (lowest c.across)) (fall_of c.max_along.kmh)) (fall_of c.max_across.kmh)
+
+-- the last time across: 300 ms where the end and all firings are at most that, else 500
+abbrev pub is_early : Option ℕ → Bool
+is_early (Some t) = nat_le t 300
+is_early None = true
+
+abbrev pub span_of : CrashPart → ℕ
+span_of c = if nat_le c.end 300 && list_all is_early c.fired then 300 else 500
+
+-- the step between the lines
+abbrev pub step_of : ℕ → ℕ → ℕ
+step_of up down = least_step (5 ∷ 10 ∷ 20 ∷ 50 ∷ 100 ∷ 200 ∷ 500 ∷ []) 1_000 8 up down
+
+-- one step both ways where nothing changes
+abbrev pub part_of : Bool → ℕ → ℕ → ℕ
+part_of flat step value = if flat then step else scale_top step value
+
+abbrev pub scale_with : ℕ → ℕ → ℕ → Scale
+scale_with up down span = record {
+  top = part_of (nat_eq up 0 && nat_eq down 0) (step_of up down) up;
+  bottom = part_of (nat_eq up 0 && nat_eq down 0) (step_of up down) down;
+  step = step_of up down;
+  span = span;
+}
+
+abbrev pub scale_of : CrashPart → Scale
+scale_of c = scale_with (reach_up c) (reach_down c) (span_of c)
+
+-- up: a change of speed between the top of its scale and as much below 0 as the bottom says
+abbrev pub change_y : Scale → ℤ → ℕ
+change_y s v = 80 + below_top s.top v * 370 / (s.top + s.bottom)
+
+-- across: a time in milliseconds
+abbrev pub time_x : Scale → ℕ → ℕ
+time_x s t = 330 + t * (1_500 / s.span)
+
+-- how long after time zero extremes are looked for
+abbrev pub window_of : ℕ → ℕ
+window_of end = window_from_end end

@@ -1,0 +1,16 @@
+pub mod Texts
+pub mod Tags
+pub mod Long
+pub mod Pieces
+pub mod Elements
+pub mod Scales
+pub mod Lanes
+pub mod Before
+pub mod Changes
+pub mod After
+pub mod Rows
+pub mod Reasons
+pub mod Tables
+pub mod Sheets
+pub mod Cover
+pub mod Page

@@ -1,0 +1,39 @@
+-- Where values stand in a chart: whole units, from values by whole numbers alone.
+use Rattle.std.specs.Prelude.{ℕ, zero, suc, ◌+◌, ◌-◌, ◌*◌, ◌/◌, ℤ, pos, negsuc, List, [], ◌∷◌, ◌++◌, if◌then◌else◌, nat_le}
+
+-- across: slot k of eleven, the newest at time zero
+abbrev pub slot_x : ℕ → ℕ
+slot_x k = 400 + 136 * k
+
+-- how many steps reach up to a value
+abbrev pub intervals : ℕ → ℕ → ℕ
+intervals step value = (value + (step - 1)) / step
+
+-- the least of these steps with which both parts of a scale have at most `most` intervals, or else the last one
+abbrev pub least_step : List ℕ → ℕ → ℕ → ℕ → ℕ → ℕ
+least_step [] last most up down = last
+least_step (s ∷ steps) last most up down =
+    if nat_le (intervals s up + intervals s down) most then s else least_step steps last most up down
+
+-- the least multiple of a step that reaches up to a value
+abbrev pub scale_top : ℕ → ℕ → ℕ
+scale_top step value = step * intervals step value
+
+-- how far a change of speed is above 0, and how far below
+abbrev pub rise_of : ℤ → ℕ
+rise_of (pos n) = n
+rise_of (negsuc n) = 0
+
+abbrev pub fall_of : ℤ → ℕ
+fall_of (pos n) = 0
+fall_of (negsuc n) = n + 1
+
+-- how far a change of speed stands below the top of its scale
+abbrev pub below_top : ℕ → ℤ → ℕ
+below_top top (pos n) = top - n
+below_top top (negsuc n) = top + (n + 1)
+
+-- what the numbers below n give, one after the other
+abbrev pub counted : (ℕ → List ℕ) → ℕ → List ℕ
+counted f zero = []
+counted f (suc n) = counted f n ++ f n

@@ -1,0 +1,138 @@
+//! The scale of a chart after time zero: changes of speed up, time across.
+
+ghost use Rattle.std.specs.Prelude.{◌≡◌, ◌≤◌, ◌<◌, ◌+◌, ◌-◌, ◌*◌, max};
+ghost use Rattle.std.specs.List.{list_all};
+ghost use Rattle.edr_drawing.specs.Changes.{highest, lowest, reach_up, reach_down, is_early, span_of, scale_of, change_y, time_x, window_of};
+
+use crate::scales::{LEFT, below_top, fall_of, least_step, rise_of, scale_top};
+use edr_record::Crash;
+
+/// A scale: the greatest change of speed above 0 and below it, the step between lines, and the last time across, in
+/// milliseconds.
+#[derive(Clone, Copy)]
+pub struct Scale {
+    pub top: u32,
+    pub bottom: u32,
+    pub step: u32,
+    pub span: u32,
+}
+
+// How far these points reach above 0.
+fn highest(points: &[i16; 26]) -> u32
+    ensures reach { result ≡ highest points.now }
+    ensures range { result ≤ 32_768 }
+{
+    let mut most = 0;
+    for point in points {
+        most = rise_of(*point).max(most);
+    }
+    most
+}
+
+// How far these points reach below 0.
+fn lowest(points: &[i16; 26]) -> u32
+    ensures reach { result ≡ lowest points.now }
+    ensures range { result ≤ 32_768 }
+{
+    let mut most = 0;
+    for point in points {
+        most = fall_of(*point).max(most);
+    }
+    most
+}
+
+fn reach_up(crash: &Crash) -> u32
+    ensures reach { result ≡ reach_up crash.now }
+    ensures range { result ≤ 32_768 }
+{
+    highest(&crash.along)
+        .max(highest(&crash.across))
+        .max(rise_of(crash.max_along.kmh))
+        .max(rise_of(crash.max_across.kmh))
+}
+
+fn reach_down(crash: &Crash) -> u32
+    ensures reach { result ≡ reach_down crash.now }
+    ensures range { result ≤ 32_768 }
+{
+    lowest(&crash.along)
+        .max(lowest(&crash.across))
+        .max(fall_of(crash.max_along.kmh))
+        .max(fall_of(crash.max_across.kmh))
+}
+
+fn is_early(fired: Option<u16>) -> bool
+    ensures { result ≡ is_early fired }
+{
+    match fired {
+        Some(time) => time <= 300,
+        None => true,
+    }
+}
+
+fn are_early(fired: &[Option<u16>; 8]) -> bool
+    ensures { result ≡ list_all is_early fired.now }
+{
+    fired.iter().all(|fired| is_early(*fired))
+}
+
+// The last time across: 300 ms where nothing is later, else 500.
+fn span_of(crash: &Crash) -> u32
+    ensures span { result ≡ span_of crash.now }
+    ensures range { (300 ≤ result) × (result ≤ 500) }
+{
+    if crash.end <= 300 && are_early(&crash.fired) {
+        300
+    } else {
+        500
+    }
+}
+
+impl Scale {
+    /// The scale of a crash part.
+    pub fn of(crash: &Crash) -> Scale
+        ensures scale { result ≡ scale_of crash.now }
+        ensures step { (1 ≤ result.step) × (result.step ≤ 1_000) }
+        ensures range { (result.top ≤ 40_000) × (result.bottom ≤ 40_000) }
+        ensures some { 1 ≤ result.top + result.bottom }
+        ensures span { (300 ≤ result.span) × (result.span ≤ 500) }
+    {
+        let up = reach_up(crash);
+        let down = reach_down(crash);
+        let step = least_step(&[5, 10, 20, 50, 100, 200, 500], 1_000, 8, up, down);
+        let flat = up == 0 && down == 0;
+        Scale {
+            top: if flat { step } else { scale_top(step, up) },
+            bottom: if flat { step } else { scale_top(step, down) },
+            step,
+            span: span_of(crash),
+        }
+    }
+
+    /// Where a change of speed stands up.
+    pub fn y(&self, change: i16) -> u32
+        requires range { (self.now.top ≤ 40_000) × (self.now.bottom ≤ 40_000) }
+        requires some { 1 ≤ self.now.top + self.now.bottom }
+        ensures place { result ≡ change_y self.now change }
+        ensures range { (80 ≤ result) × (result ≤ 40_000_000) }
+    {
+        80 + below_top(self.top, change) * 370 / (self.top + self.bottom)
+    }
+
+    /// Where a time stands across.
+    pub fn x(&self, time: u16) -> u32
+        requires { 300 ≤ self.now.span }
+        ensures place { result ≡ time_x self.now time }
+        ensures range { (330 ≤ result) × (result ≤ 1_000_000) }
+    {
+        LEFT + u32::from(time) * (1_500 / self.span)
+    }
+}
+
+/// How long after time zero extremes are looked for.
+pub fn window_of(end: u16) -> u16
+    ensures window { result ≡ window_of end }
+    ensures range { result ≤ 300 }
+{
+    if end < 270 { end + 30 } else { 300 }
+}

@@ -1,0 +1,288 @@
+//! The elements of a chart. A unit of a chart is a tenth of a millimetre on a sheet of A4.
+
+ghost use Rattle.std.specs.Prelude.{◌≡◌, ◌++◌, OnOk};
+ghost use Rattle.edr_drawing.specs.Elements.{words_bytes, element_bytes, drawn};
+
+use crate::pieces::{Piece, put};
+use crate::texts::{Class, Label, Mark};
+use std::alloc::AllocError as OutOfMemory;
+
+/// The words of a text.
+#[derive(Clone, Copy)]
+pub enum Words {
+    Label(Label),
+    Number(u32),
+    /// A number below 0, by its size.
+    Below(u32),
+    Change(i16),
+    /// A time before time zero, in tenths of a second.
+    Before(u32),
+    /// Time zero, in seconds.
+    Zero,
+    Milliseconds(u16),
+    /// A greatest change with its time before it.
+    Extreme { at: u16, kmh: i16 },
+}
+
+/// An element of a chart.
+#[derive(Clone, Copy)]
+pub enum Element {
+    Text {
+        x: u32,
+        y: u32,
+        class: Class,
+        words: Words,
+    },
+    Line {
+        x: u32,
+        y: u32,
+        to_x: u32,
+        to_y: u32,
+        class: Class,
+    },
+    Rect {
+        x: u32,
+        y: u32,
+        width: u32,
+        height: u32,
+        class: Class,
+    },
+    Dot {
+        x: u32,
+        y: u32,
+    },
+    Square {
+        x: u32,
+        y: u32,
+    },
+    Diamond {
+        x: u32,
+        y: u32,
+        class: Class,
+    },
+    Flag {
+        x: u32,
+        y: u32,
+    },
+}
+
+// Appends the words of a text.
+fn put_words(out: &mut Vec<u8>, words: Words) -> Result<(), OutOfMemory>
+    ensures { OnOk result (out.new.items ≡ out.old.items ++ words_bytes words) }
+{
+    match words {
+        Words::Label(label) => put(out, &[Piece::Label(label)]),
+        Words::Number(n) => put(out, &[Piece::Number(n)]),
+        Words::Below(n) => put(out, &[Piece::Mark(Mark::Minus), Piece::Number(n)]),
+        Words::Change(z) => put(out, &[Piece::Change(z)]),
+        Words::Before(tenths) => put(
+            out,
+            &[
+                Piece::Mark(Mark::Minus),
+                Piece::Number(tenths / 10),
+                Piece::Mark(Mark::Tenth),
+                Piece::Number(tenths % 10),
+            ],
+        ),
+        Words::Zero => put(out, &[Piece::Mark(Mark::ZeroSeconds)]),
+        Words::Milliseconds(t) => put(
+            out,
+            &[Piece::Number(u32::from(t)), Piece::Mark(Mark::Milliseconds)],
+        ),
+        Words::Extreme { at, kmh } => put(
+            out,
+            &[
+                Piece::Number(u32::from(at)),
+                Piece::Mark(Mark::MillisecondsComma),
+                Piece::Change(kmh),
+                Piece::Mark(Mark::Kmh),
+            ],
+        ),
+    }
+}
+
+// Appends a text.
+fn put_text(
+    out: &mut Vec<u8>,
+    x: u32,
+    y: u32,
+    class: Class,
+    words: Words,
+) -> Result<(), OutOfMemory>
+    ensures { OnOk result (out.new.items ≡ out.old.items ++ element_bytes (Element.Text x y class words)) }
+{
+    put(
+        out,
+        &[
+            Piece::Mark(Mark::TextX),
+            Piece::Number(x),
+            Piece::Mark(Mark::Y),
+            Piece::Number(y),
+            Piece::Mark(Mark::Class),
+            Piece::Class(class),
+            Piece::Mark(Mark::Inside),
+        ],
+    )?;
+    put_words(out, words)?;
+    put(out, &[Piece::Mark(Mark::TextEnd)])
+}
+
+// Appends a line.
+fn put_line(
+    out: &mut Vec<u8>,
+    from: (u32, u32),
+    to: (u32, u32),
+    class: Class,
+) -> Result<(), OutOfMemory>
+    ensures { OnOk result (out.new.items ≡ out.old.items ++ element_bytes (Element.Line from.0 from.1 to.0 to.1 class)) }
+{
+    put(
+        out,
+        &[
+            Piece::Mark(Mark::PathClass),
+            Piece::Class(class),
+            Piece::Mark(Mark::Points),
+            Piece::Mark(Mark::MoveTo),
+            Piece::Number(from.0),
+            Piece::Mark(Mark::Space),
+            Piece::Number(from.1),
+            Piece::Mark(Mark::LineTo),
+            Piece::Number(to.0),
+            Piece::Mark(Mark::Space),
+            Piece::Number(to.1),
+            Piece::Mark(Mark::Closed),
+        ],
+    )
+}
+
+// Appends a rectangle.
+fn put_rect(
+    out: &mut Vec<u8>,
+    at: (u32, u32),
+    width: u32,
+    height: u32,
+    class: Class,
+) -> Result<(), OutOfMemory>
+    ensures { OnOk result (out.new.items ≡ out.old.items ++ element_bytes (Element.Rect at.0 at.1 width height class)) }
+{
+    put(
+        out,
+        &[
+            Piece::Mark(Mark::RectX),
+            Piece::Number(at.0),
+            Piece::Mark(Mark::Y),
+            Piece::Number(at.1),
+            Piece::Mark(Mark::Width),
+            Piece::Number(width),
+            Piece::Mark(Mark::Height),
+            Piece::Number(height),
+            Piece::Mark(Mark::Class),
+            Piece::Class(class),
+            Piece::Mark(Mark::Closed),
+        ],
+    )
+}
+
+// Appends a filled dot.
+fn put_dot(out: &mut Vec<u8>, x: u32, y: u32) -> Result<(), OutOfMemory>
+    ensures { OnOk result (out.new.items ≡ out.old.items ++ element_bytes (Element.Dot x y)) }
+{
+    put(
+        out,
+        &[
+            Piece::Mark(Mark::DotX),
+            Piece::Number(x),
+            Piece::Mark(Mark::DotY),
+            Piece::Number(y),
+            Piece::Mark(Mark::DotEnd),
+        ],
+    )
+}
+
+// Appends an open square.
+fn put_square(out: &mut Vec<u8>, x: u32, y: u32) -> Result<(), OutOfMemory>
+    ensures { OnOk result (out.new.items ≡ out.old.items ++ element_bytes (Element.Square x y)) }
+{
+    put(
+        out,
+        &[
+            Piece::Mark(Mark::RectX),
+            Piece::Number(x.saturating_sub(8)),
+            Piece::Mark(Mark::Y),
+            Piece::Number(y.saturating_sub(8)),
+            Piece::Mark(Mark::SquareEnd),
+        ],
+    )
+}
+
+// Appends a diamond.
+fn put_diamond(out: &mut Vec<u8>, x: u32, y: u32, class: Class) -> Result<(), OutOfMemory>
+    ensures { OnOk result (out.new.items ≡ out.old.items ++ element_bytes (Element.Diamond x y class)) }
+{
+    put(
+        out,
+        &[
+            Piece::Mark(Mark::PathClass),
+            Piece::Class(class),
+            Piece::Mark(Mark::Points),
+            Piece::Mark(Mark::MoveTo),
+            Piece::Number(x),
+            Piece::Mark(Mark::Space),
+            Piece::Number(y.saturating_sub(15)),
+            Piece::Mark(Mark::DiamondEnd),
+        ],
+    )
+}
+
+// Appends a flag.
+fn put_flag(out: &mut Vec<u8>, x: u32, y: u32) -> Result<(), OutOfMemory>
+    ensures { OnOk result (out.new.items ≡ out.old.items ++ element_bytes (Element.Flag x y)) }
+{
+    put(
+        out,
+        &[
+            Piece::Mark(Mark::FlagAt),
+            Piece::Number(x),
+            Piece::Mark(Mark::Space),
+            Piece::Number(y),
+            Piece::Mark(Mark::FlagEnd),
+        ],
+    )
+}
+
+// Appends an element.
+fn put_element(out: &mut Vec<u8>, element: Element) -> Result<(), OutOfMemory>
+    ensures { OnOk result (out.new.items ≡ out.old.items ++ element_bytes element) }
+{
+    match element {
+        Element::Text { x, y, class, words } => put_text(out, x, y, class, words),
+        Element::Line {
+            x,
+            y,
+            to_x,
+            to_y,
+            class,
+        } => put_line(out, (x, y), (to_x, to_y), class),
+        Element::Rect {
+            x,
+            y,
+            width,
+            height,
+            class,
+        } => put_rect(out, (x, y), width, height, class),
+        Element::Dot { x, y } => put_dot(out, x, y),
+        Element::Square { x, y } => put_square(out, x, y),
+        Element::Diamond { x, y, class } => put_diamond(out, x, y, class),
+        Element::Flag { x, y } => put_flag(out, x, y),
+    }
+}
+
+/// Appends elements.
+pub fn draw(out: &mut Vec<u8>, elements: &[Element]) -> Result<(), OutOfMemory>
+    ensures { OnOk result (out.new.items ≡ out.old.items ++ drawn elements.now) }
+{
+    for element in elements {
+        put_element(out, *element)?;
+    }
+    Ok(())
+}

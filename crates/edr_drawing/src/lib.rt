@@ -1,0 +1,60 @@
+//! The page of a report: a first sheet, and a sheet for each event with its charts, as one file of HTML.
+#![tactic(auto)]
+
+mod after;
+mod before;
+mod changes;
+mod cover;
+mod elements;
+mod lanes;
+mod long;
+mod pieces;
+mod reasons;
+mod rows;
+mod scales;
+mod sheets;
+mod tables;
+mod tags;
+mod texts;
+
+ghost use Rattle.std.specs.Prelude.{◌≡◌, ◌++◌, IfOk, OnOk, map};
+ghost use Rattle.edr_image.specs.Reports.{report_of};
+ghost use Rattle.edr_drawing.specs.Long.{head_text, style_text, body_text};
+ghost use Rattle.edr_drawing.specs.Page.{page_bytes};
+
+use cover::put_cover;
+use edr_image::{CycleReport, Found};
+use pieces::{Piece, put};
+use sheets::put_sheets;
+use std::alloc::{AllocError as OutOfMemory, Global};
+use tags::Tag;
+
+// Appends what stands before the first sheet.
+fn put_front(out: &mut Vec<u8>) -> Result<(), OutOfMemory>
+    ensures { OnOk result (out.new.items ≡ out.old.items ++ head_text ++ style_text ++ body_text) }
+{
+    out.extend_from_slice(long::head().as_bytes())?;
+    out.extend_from_slice(long::style().as_bytes())?;
+    out.extend_from_slice(long::body().as_bytes())
+}
+
+/// The page of what a report tells: the cycles of a run, what was found in the banks in this order, and the count of
+/// ignition cycles. `size` and `digest` are the report's length in bytes and its SHA-256, which the page names.
+#[tactic(auto, unfolding(crate::specs::Page::page_bytes))]
+pub fn page(
+    alloc: Global,
+    run: &[CycleReport],
+    found: &[Found],
+    count: u32,
+    size: u32,
+    digest: &[u8; 32],
+) -> Result<Vec<u8>, OutOfMemory>
+    ensures { IfOk result (λ out. out.items ≡ page_bytes (map report_of run.now) found.now count size digest.now) }
+{
+    let mut out = Vec::new(alloc);
+    put_front(&mut out)?;
+    put_cover(&mut out, alloc, run, found, count, size, digest)?;
+    put_sheets(&mut out, alloc, found, digest)?;
+    put(&mut out, &[Piece::Tag(Tag::PageEnd)])?;
+    Ok(out)
+}

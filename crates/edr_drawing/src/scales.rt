@@ -1,0 +1,89 @@
+//! Where values stand in a chart.
+
+ghost use Rattle.std.specs.Prelude.{◌≡◌, ◌≤◌, ◌<◌, ◌+◌, ◌*◌, All, max, unsigned_abs};
+ghost use Rattle.edr_drawing.specs.Scales.{slot_x, intervals, least_step, scale_top, rise_of, fall_of, below_top};
+
+/// The left end of a plot, and its width.
+pub const LEFT: u32 = 330;
+
+pub const RIGHT: u32 = 1_830;
+
+/// Where a slot of eleven stands across.
+pub fn slot_x(k: u32) -> u32
+    requires { k < 11 }
+    ensures { result ≡ slot_x k }
+{
+    400 + 136 * k
+}
+
+/// How many steps reach up to a value.
+pub fn intervals(step: u32, value: u32) -> u32
+    requires { (1 ≤ step) × (step ≤ 1_000) × (value ≤ 100_000) }
+    ensures count { result ≡ intervals step value }
+    ensures range { result ≤ value }
+{
+    value.div_ceil(step)
+}
+
+/// The least of these steps with which both parts of a scale have at most `most` intervals, or else `last`.
+pub fn least_step(steps: &[u32], last: u32, most: u32, up: u32, down: u32) -> u32
+    requires steps { All (λ s. (1 ≤ s) × (s ≤ 1_000)) steps.now }
+    requires last { (1 ≤ last) × (last ≤ 1_000) }
+    requires range { (up ≤ 100_000) × (down ≤ 100_000) }
+    ensures step { result ≡ least_step steps.now last most up down }
+    ensures range { (1 ≤ result) × (result ≤ 1_000) }
+{
+    for step in steps {
+        if intervals(*step, up) + intervals(*step, down) <= most {
+            return *step;
+        }
+    }
+    last
+}
+
+/// The least multiple of a step that reaches up to a value.
+pub fn scale_top(step: u32, value: u32) -> u32
+    requires { (1 ≤ step) × (step ≤ 1_000) × (value ≤ 100_000) }
+    ensures top { result ≡ scale_top step value }
+    ensures range { (value ≤ result) × (result ≤ value + step) }
+{
+    step * intervals(step, value)
+}
+
+/// How far a change of speed is above 0.
+pub fn rise_of(change: i16) -> u32
+    ensures rise { result ≡ rise_of change }
+    ensures range { result ≤ 32_768 }
+{
+    if change < 0 {
+        0
+    } else {
+        u32::from(change.unsigned_abs())
+    }
+}
+
+/// How far a change of speed is below 0.
+pub fn fall_of(change: i16) -> u32
+    ensures fall { result ≡ fall_of change }
+    ensures range { result ≤ 32_768 }
+{
+    if change < 0 {
+        u32::from(change.unsigned_abs())
+    } else {
+        0
+    }
+}
+
+/// How far a change of speed stands below the top of its scale.
+pub fn below_top(top: u32, change: i16) -> u32
+    requires { top ≤ 100_000 }
+    ensures place { result ≡ below_top top change }
+    ensures range { result ≤ top + 32_768 }
+{
+    let size = u32::from(change.unsigned_abs());
+    if change < 0 {
+        top + size
+    } else {
+        top.saturating_sub(size)
+    }
+}

@@ -1,0 +1,76 @@
+-- What the program prints, and why it prints no page.
+use Rattle.std.specs.Prelude.{◌≡◌, ◌⊎◌, ◌≤◌, ⊤, ℕ, Bool, true, false, List, [], Option, IfSome, length}
+use Rattle.sha2.specs.Sha256.{sha256}
+use Rattle.edr_device.specs.Faults.{Rose}
+use Rattle.edr_device.specs.Told.{Told}
+use Rattle.edr_device.specs.Transfer.{GivesTooMany}
+use Rattle.edr_drawing.specs.Page.{page_bytes}
+use Rattle.edr_image.specs.declared.Found.{Found}
+use Rattle.edr_image.specs.Reports.{Report}
+use Rattle.edr_reading.specs.Faults.{IsFault}
+use Rattle.edr_reading.specs.declared.faults.RowFault.{RowFault}
+use Rattle.edr_reading.specs.Reading.{IsReading, report_rows}
+use Rattle.edr_reading.specs.Run.{RecordsOf}
+use Rattle.edr_picture.specs.declared.faults.Fault.{Fault}
+use Rattle.edr_picture.specs.declared.faults.Fault.TheVariants as fault
+use Rattle.edr_picture.specs.Faults.{fault_line}
+
+-- the most bytes that a report may have
+abbrev pub largest_report : ℕ
+largest_report = 67_108_864
+
+-- the bytes are a report, which tells this
+pub record Tells (bytes : List ℕ) (run : List Report) (found : List Found) (count : ℕ) : Type 0 where
+  pub within : length bytes ≤ largest_report
+  pub reading : IsReading run found count
+  pub rows : RecordsOf bytes (report_rows run found count)
+
+-- the text is the page of what the bytes tell, of their number and of their digest
+abbrev pub IsPage : List ℕ → List ℕ → Type 0
+IsPage bytes text = (run : List Report) × (found : List Found) × (count : ℕ) × Tells bytes run found count × (text ≡ page_bytes run found count (length bytes) (sha256 bytes))
+
+-- the bytes tell nothing
+abbrev pub IsNoReport : List ℕ → Type 0
+IsNoReport bytes = (run : List Report) (found : List Found) (count : ℕ) → Tells bytes run found count → ⊥
+
+-- the records of the bytes can be no report from this row on
+abbrev pub HasFault : List ℕ → ℕ → RowFault → Type 0
+HasFault bytes row f = (records : List (List (List ℕ))) × RecordsOf bytes records × IsFault records row f
+
+-- why bytes have no page
+abbrev pub IsWhy : List ℕ → Fault → Type 0
+IsWhy bytes fault.Usage = ⊥
+IsWhy bytes (fault.Report row f) = HasFault bytes row f
+IsWhy bytes fault.NoReport = IsNoReport bytes
+IsWhy bytes fault.Read = ⊥
+IsWhy bytes fault.OutOfMemory = ⊤
+IsWhy bytes fault.TooLong = ⊥
+
+-- what a source tells at one moment: the bytes that are left, if it tells them, and its count of faults
+pub record Input : Type 0 where
+  pub left : Option (List ℕ)
+  pub faults : ℕ
+
+abbrev pub input : {S : Type 0} → (S → Option (List ℕ)) → (S → ℕ) → S → Input
+input left faults source = record { left = left source; faults = faults source }
+
+-- the source is at its end, if it tells
+abbrev pub IsAtEnd : Input → Type 0
+IsAtEnd i = IfSome i.left (λ bytes. bytes ≡ [])
+
+-- the source gave the report of which this is the page, and is at its end
+abbrev pub PageIs : Input → Input → List ℕ → Type 0
+PageIs i i' text = IfSome i.left (λ bytes. IsPage bytes text) × IsAtEnd i'
+
+-- why there is no page
+abbrev pub IsCause : Bool → Input → Input → Fault → Type 0
+IsCause has_words i i' fault.Usage = (has_words ≡ true) × (i' ≡ i)
+IsCause has_words i i' (fault.Report row f) = (has_words ≡ false) × IfSome i.left (λ bytes. (length bytes ≤ largest_report) × HasFault bytes row f) × IsAtEnd i'
+IsCause has_words i i' fault.NoReport = (has_words ≡ false) × IfSome i.left (λ bytes. (length bytes ≤ largest_report) × IsNoReport bytes) × IsAtEnd i'
+IsCause has_words i i' fault.Read = (has_words ≡ false) × Rose i.faults i'.faults
+IsCause has_words i i' fault.OutOfMemory = has_words ≡ false
+IsCause has_words i i' fault.TooLong = (has_words ≡ false) × Told (GivesTooMany largest_report) i.left i'.left
+
+-- a page, or the line of a fault that has its cause
+abbrev pub IsText : Bool → Input → Input → List ℕ → Type 0
+IsText has_words i i' text = PageIs i i' text ⊎ ((f : Fault) × IsCause has_words i i' f × (text ≡ fault_line f))

@@ -1,0 +1,120 @@
+//! The top call: from the bytes of a report to those of its page.
+ghost use Rattle.std.specs.Prelude.{◌≡◌, ◌≢◌, ◌⊎◌, ◌≤◌, ◌+◌, ℕ, List, Some, false, true, IfOk, IfErr, IfSome, OnOk, OnErr, length};
+ghost use Rattle.edr_image.specs.declared.Found.{Found};
+ghost use Rattle.edr_image.specs.Reports.{Report};
+ghost use Rattle.edr_device.specs.Faults.{Rose};
+ghost use Rattle.edr_device.specs.Stream.{Appends};
+ghost use Rattle.edr_device.specs.Told.{Told};
+ghost use Rattle.edr_device.specs.Transfer.{AppendsPart, GivesAll, GivesAtMost, GivesTooMany};
+ghost use Rattle.edr_picture.specs.Faults.{fault_line};
+ghost use Rattle.edr_picture.specs.Pages.{IsCause, IsPage, IsText, IsWhy, PageIs, Tells, input, largest_report};
+
+use crate::faults::Fault;
+use crate::status::Status;
+use edr_device::{Failed, Sink, Source, TakeFault, put_all, take_all};
+use edr_drawing::page;
+use edr_reading::{ReportRefused, read};
+use sha2::{Digest, Sha256};
+use std::alloc::{AllocError as OutOfMemory, Global};
+
+// The most bytes that a report may have.
+const LARGEST_REPORT: usize = 67_108_864;
+
+// The page of the bytes of a report, or why there is none.
+fn page_of(alloc: Global, bytes: &[u8]) -> Result<Vec<u8>, Fault>
+    requires { length bytes.now ≤ largest_report }
+    ensures page { IfOk result (λ v. IsPage bytes.now v.items) }
+    ensures refused { IfErr result (λ f. IsWhy bytes.now f) }
+    ensures complete { (run : List Report) (found : List Found) (count : ℕ) → Tells bytes.now run found count → IfErr result (λ f. f ≡ Fault.OutOfMemory) }
+{
+    let reading = match read(alloc, bytes) {
+        Ok(reading) => reading,
+        Err(ReportRefused::Fault { row, fault }) => return Err(Fault::Report { row, fault }),
+        Err(ReportRefused::NoReport) => return Err(Fault::NoReport),
+        Err(ReportRefused::OutOfMemory) => return Err(Fault::OutOfMemory),
+    };
+    let digest = Sha256::digest(bytes);
+    let size = bytes.len() as u32;
+    match page(
+        alloc,
+        &reading.run,
+        &reading.found,
+        reading.count,
+        size,
+        &digest,
+    ) {
+        Ok(page) => Ok(page),
+        Err(OutOfMemory) => Err(Fault::OutOfMemory),
+    }
+}
+
+// The page of the report that the source gives up to its end, or why there is none.
+fn page_from<S: Source>(alloc: Global, source: &mut S) -> Result<Vec<u8>, Fault>
+    ensures page { IfOk result (λ v. PageIs (input S.left S.faults source.old) (input S.left S.faults source.new) v.items) }
+    ensures cause { IfErr result (IsCause false (input S.left S.faults source.old) (input S.left S.faults source.new)) }
+    ensures complete { (bytes : List ℕ) (run : List Report) (found : List Found) (count : ℕ) → S.left source.old ≡ Some bytes → Tells bytes run found count
+        → ¬ Rose (S.faults source.old) (S.faults source.new) → IfErr result (λ f. f ≡ Fault.OutOfMemory) }
+    ensures takes { Told (GivesAtMost (largest_report + 1)) (S.left source.old) (S.left source.new) }
+    ensures later { S.faults source.old ≤ S.faults source.new }
+{
+    match take_all(alloc, source, LARGEST_REPORT) {
+        Ok(bytes) => page_of(alloc, &bytes),
+        Err(TakeFault::Failed) => Err(Fault::Read),
+        Err(TakeFault::TooLong) => Err(Fault::TooLong),
+        Err(TakeFault::OutOfMemory) => Err(Fault::OutOfMemory),
+    }
+}
+
+// Writes the text with which a call ends so.
+fn write<K: Sink>(sink: &mut K, text: &[u8], status: Status) -> Status
+    ensures whole { result ≢ Status.WriteFault → (result ≡ status) × Told (Appends text.now) (K.content sink.old) (K.content sink.new) }
+    ensures part { status ≢ Status.WriteFault → result ≡ Status.WriteFault → Told (AppendsPart text.now) (K.content sink.old) (K.content sink.new) × Rose (K.faults sink.old) (K.faults sink.new) }
+    ensures answers { (result ≡ status) ⊎ (result ≡ Status.WriteFault) }
+    ensures later { K.faults sink.old ≤ K.faults sink.new }
+{
+    match put_all(sink, text) {
+        Ok(()) => status,
+        Err(Failed) => Status::WriteFault,
+    }
+}
+
+/// Draws the report that the source gives: reads it to its end and writes its page, whose last line on each sheet names the
+/// bytes by their digest. A fault writes its one line and nothing else. Words are a fault of usage.
+pub fn draw<S: Source, K: Sink>(
+    alloc: Global,
+    has_words: bool,
+    source: &mut S,
+    sink: &mut K,
+) -> Status
+    // With Done the source is at its end, and the sink gained exactly the page of its bytes.
+    ensures done { result ≡ Status.Done → (has_words ≡ false) × (text : List ℕ)
+        × PageIs (input S.left S.faults source.old) (input S.left S.faults source.new) text
+        × Told (Appends text) (K.content sink.old) (K.content sink.new) }
+    // With a fault it gained exactly its line, and the fault has its cause.
+    ensures fault { (f : Fault) → result ≡ Status.Faulty f
+        → IsCause has_words (input S.left S.faults source.old) (input S.left S.faults source.new) f
+        × Told (Appends (fault_line f)) (K.content sink.old) (K.content sink.new) }
+    // Where a write failed it gained a part of one of these texts.
+    ensures part { result ≡ Status.WriteFault → Rose (K.faults sink.old) (K.faults sink.new) × (text : List ℕ)
+        × IsText has_words (input S.left S.faults source.old) (input S.left S.faults source.new) text
+        × Told (AppendsPart text) (K.content sink.old) (K.content sink.new) }
+    // Where neither source nor sink counts a fault, a report is drawn, unless memory runs out.
+    ensures complete { (bytes : List ℕ) (run : List Report) (found : List Found) (count : ℕ) → has_words ≡ false
+        → S.left source.old ≡ Some bytes → Tells bytes run found count
+        → ¬ Rose (S.faults source.old) (S.faults source.new) → ¬ Rose (K.faults sink.old) (K.faults sink.new)
+        → (result ≡ Status.Done) ⊎ (result ≡ Status.Faulty Fault.OutOfMemory) }
+    ensures takes { Told (GivesAtMost (largest_report + 1)) (S.left source.old) (S.left source.new) }
+    ensures later { (S.faults source.old ≤ S.faults source.new) × (K.faults sink.old ≤ K.faults sink.new) }
+{
+    if has_words {
+        return write(
+            sink,
+            Fault::Usage.line().as_bytes(),
+            Status::Faulty(Fault::Usage),
+        );
+    }
+    match page_from(alloc, source) {
+        Ok(page) => write(sink, &page, Status::Done),
+        Err(fault) => write(sink, fault.line().as_bytes(), Status::Faulty(fault)),
+    }
+}

@@ -1,0 +1,69 @@
+//! Why the program ends without a page, and the line that tells it.
+ghost use Rattle.std.specs.Prelude.{◌≡◌, ◌≤◌, ◌+◌, ◌++◌};
+ghost use Rattle.arrayvec.specs.ArrayString.{array_string_len};
+ghost use Rattle.edr_picture.specs.Faults.{fault_line, fault_words, row_words};
+
+use edr_reading::RowFault;
+use edr_report::{Room, ShortLine, push_number};
+
+/// Why there is no page.
+#[derive(Clone, Copy, Debug, PartialEq, Eq)]
+pub enum Fault {
+    /// There are words on the command line.
+    Usage,
+    /// The bytes can be no report from this row on.
+    Report { row: u32, fault: RowFault },
+    /// They are no report.
+    NoReport,
+    /// The source failed.
+    Read,
+    OutOfMemory,
+    /// The source gave more bytes than a report may have.
+    TooLong,
+}
+
+// Appends what is wrong with a row.
+fn push_row_fault(line: &mut Room, fault: RowFault)
+    requires { array_string_len line.old ≤ 40 }
+    ensures bytes { line.new.bytes ≡ line.old.bytes ++ row_words fault }
+    ensures len { array_string_len line.new ≤ array_string_len line.old + 18 }
+{
+    match fault {
+        RowFault::Fields(found) => push_number(line, "fields ", found),
+        RowFault::Field(field) => push_number(line, "field ", u32::from(field)),
+        RowFault::Unended => line.push_str("unended"),
+    }
+}
+
+// Appends what went wrong.
+fn push_fault(line: &mut Room, fault: Fault)
+    requires { array_string_len line.old ≤ 7 }
+    ensures bytes { line.new.bytes ≡ line.old.bytes ++ fault_words fault }
+    ensures len { array_string_len line.new ≤ 70 }
+{
+    match fault {
+        Fault::Usage => line.push_str("usage"),
+        Fault::Report { row, fault } => {
+            push_number(line, "report row ", row);
+            line.push_str(": ");
+            push_row_fault(line, fault);
+        }
+        Fault::NoReport => line.push_str("no report"),
+        Fault::Read => line.push_str("read fault"),
+        Fault::OutOfMemory => line.push_str("out of memory"),
+        Fault::TooLong => line.push_str("too long"),
+    }
+}
+
+impl Fault {
+    /// The line that tells of the fault. It takes no memory.
+    pub fn line(self) -> ShortLine
+        ensures { result ≡ fault_line self }
+    {
+        let mut line = Room::new();
+        line.push_str("fault: ");
+        push_fault(&mut line, self);
+        line.push_str("\n");
+        ShortLine::new(line)
+    }
+}

@@ -1,0 +1,140 @@
+//! Whole runs over sources and sinks in memory.
+
+use crate::draws::draw;
+use crate::faults::Fault;
+use crate::status::Status;
+use edr_device::{MemSink, MemSource};
+use edr_reading::RowFault;
+use std::process::Abort;
+use std::test::Fail;
+
+// A report without an event.
+const EMPTY: &[u8] = b"block,name,value\n0,\"ignition cycle, download\",3\n";
+
+// What a run is given, how source and sink fail, and what is to come of it.
+#[derive(Clone, Copy)]
+struct Run<'a> {
+    has_words: bool,
+    report: &'a [u8],
+    source_fails: &'a [u32],
+    sink_fails: &'a [u32],
+    status: Status,
+    code: u8,
+}
+
+// A run in which nothing fails.
+const fn sound<'a>(report: &'a [u8], status: Status, code: u8) -> Run<'a> {
+    Run {
+        has_words: false,
+        report,
+        source_fails: &[],
+        sink_fails: &[],
+        status,
+        code,
+    }
+}
+
+// Runs it over a source that gives 20 bytes at once, and answers what the sink has then.
+fn output_of<R: Abort + AllocGlobal>(rt: &R, run: Run<'_>) -> Result<Vec<u8>, Fail> {
+    let alloc = rt.alloc();
+    let fails = run.source_fails.to_vec(alloc)?;
+    let mut source = MemSource::new(run.report.to_vec(alloc)?, 20, fails);
+    let mut sink = MemSink::new(alloc, 100_000, 64, run.sink_fails.to_vec(alloc)?)?;
+    let status = draw(alloc, run.has_words, &mut source, &mut sink);
+    assert_eq!(rt; status, run.status);
+    assert_eq!(rt; status.code(), run.code);
+    Ok(sink.bytes().to_vec(alloc)?)
+}
+
+fn check<R: Abort + AllocGlobal>(rt: &R, run: Run<'_>, output: &[u8]) -> Result<(), Fail> {
+    assert!(rt; output_of(rt, run)?.as_slice() == output);
+    Ok(())
+}
+
+#[test]
+fn a_report_is_drawn_whole_or_in_part(rt: HostRuntime) -> Result<(), Fail> {
+    let page = output_of(&rt, sound(EMPTY, Status::Done, 0))?;
+    let cut = Run {
+        sink_fails: &[3],
+        ..sound(EMPTY, Status::WriteFault, 5)
+    };
+    match page.get(..128) {
+        Some(part) => check(&rt, cut, part),
+        None => {
+            assert!(rt; false);
+            Ok(())
+        }
+    }
+}
+
+#[test]
+fn what_is_no_report_is_told(rt: HostRuntime) -> Result<(), Fail> {
+    let texts: [&[u8]; 2] = [
+        b"block,name,value\n",
+        b"block,name,value\n0,\"ignition cycle, download\",03\n",
+    ];
+    for text in texts {
+        let run = sound(text, Status::Faulty(Fault::NoReport), 3);
+        check(&rt, run, b"fault: no report\n")?;
+    }
+    Ok(())
+}
+
+// A report that is at fault in its first row.
+fn check_first_row<R: Abort + AllocGlobal>(
+    rt: &R,
+    report: &[u8],
+    fault: RowFault,
+    line: &[u8],
+) -> Result<(), Fail> {
+    let told = Fault::Report { row: 1, fault };
+    check(rt, sound(report, Status::Faulty(told), 3), line)
+}
+
+#[test]
+fn a_first_row_at_fault_is_told(rt: HostRuntime) -> Result<(), Fail> {
+    let unended = b"fault: report row 1: unended\n";
+    check_first_row(&rt, b"", RowFault::Unended, unended)?;
+    let text = b"ignition cycle, download: 3\n";
+    check_first_row(
+        &rt,
+        text,
+        RowFault::Fields(2),
+        b"fault: report row 1: fields 2\n",
+    )?;
+    let headless = b"0,\"ignition cycle, download\",3\n";
+    check_first_row(
+        &rt,
+        headless,
+        RowFault::Field(1),
+        b"fault: report row 1: field 1\n",
+    )
+}
+
+#[test]
+fn words_are_told_and_nothing_is_read(rt: HostRuntime) -> Result<(), Fail> {
+    let run = Run {
+        has_words: true,
+        source_fails: &[1],
+        ..sound(EMPTY, Status::Faulty(Fault::Usage), 2)
+    };
+    check(&rt, run, b"fault: usage\n")
+}
+
+#[test]
+fn a_source_that_fails_is_told(rt: HostRuntime) -> Result<(), Fail> {
+    let run = Run {
+        source_fails: &[2],
+        ..sound(EMPTY, Status::Faulty(Fault::Read), 4)
+    };
+    check(&rt, run, b"fault: read fault\n")
+}
+
+#[test]
+fn a_line_that_is_cut_short_is_a_write_fault(rt: HostRuntime) -> Result<(), Fail> {
+    let run = Run {
+        sink_fails: &[1],
+        ..sound(b"", Status::WriteFault, 5)
+    };
+    check(&rt, run, b"")
+}

@@ -1,0 +1,79 @@
+-- The first row of a text that is no report.
+use Rattle.std.proofs.Common.{arith, ◌≡◌, ◌≢◌, ◌∙◌, sym, ap, subst, refl, ℕ, ◌<◌, ◌-◌, min, map, List, [], ◌∷◌, ◌++◌, length, length-append, take, drop, get_or, codes}
+use Rattle.std.proofs.lemmas.List.{append-nil, take-append-drop}
+use Rattle.edr_report.specs.Report.{report_lines}
+use Rattle.edr_reading.proofs.LastLemmas.{distinct-none}
+use Rattle.edr_reading.proofs.ReadingLemmas.{all-three}
+use Rattle.edr_reading.specs.Rows.{line_fields}
+use Rattle.edr_reading.specs.Faults.{AreReport, Opens, GoesOn, IsFault, IsWrong}
+use Rattle.edr_reading.specs.declared.faults.RowFault.{RowFault}
+use Rattle.edr_reading.specs.declared.faults.RowFault.TheVariants.{Fields, Field, Unended}
+use Rattle.edr_reading.specs.Reading.{IsReading, head_row, report_rows}
+
+reading-none : IsReading [] [] 0
+unfolding report_lines
+reading-none = record {
+  run = λ k d h. absurd (omega (arith, h));
+  found = ([], [], refl, (λ k d h. absurd (omega (arith, h))), (λ k d h. absurd (omega (arith, h))));
+  distinct = distinct-none [] refl;
+  short = omega arith;
+}
+
+-- a report begins with no row
+pub opens-none : Opens []
+opens-none = (report_rows [] [] 0, ([], [], 0, reading-none, refl))
+
+-- the first row of a report begins with the first fields of the row that names the columns
+pub goes-on-head : (front back : List (List ℕ)) → front ++ back ≡ head_row → GoesOn [] front
+goes-on-head front back e = (back, map line_fields (report_lines [] [] 0), ([], [], 0, reading-none, ap (λ (r : List (List ℕ)). r ∷ map line_fields (report_lines [] [] 0)) e))
+
+-- and with no others
+pub head-goes-on : (front : List (List ℕ)) → GoesOn [] front → (back : List (List ℕ)) × (front ++ back ≡ head_row)
+head-goes-on front g = (g.0, ap (λ (rows : List (List (List ℕ))). get_or rows 0 []) g.2.4)
+
+-- a text without a row is no report
+pub none-is-none : ¬ AreReport []
+none-is-none a = let e = ap length a.4 in omega (arith, e)
+
+pub not-first : (a : List ℕ) → a ≢ codes "block" → ¬ GoesOn [] (a ∷ [])
+not-first a n g = n (ap (λ (r : List (List ℕ)). get_or r 0 []) (head-goes-on (a ∷ []) g).1)
+
+pub not-second : (a b : List ℕ) → b ≢ codes "name" → ¬ GoesOn [] (a ∷ b ∷ [])
+not-second a b n g = n (ap (λ (r : List (List ℕ)). get_or r 1 []) (head-goes-on (a ∷ b ∷ []) g).1)
+
+pub not-third : (a b c : List ℕ) → c ≢ codes "value" → ¬ GoesOn [] (a ∷ b ∷ c ∷ [])
+not-third a b c n g = n (ap (λ (r : List (List ℕ)). get_or r 2 []) (head-goes-on (a ∷ b ∷ c ∷ []) g).1)
+
+pub fault-none : {X : Type 0} (f : X → List (List ℕ)) (xs : List X) → length xs ≡ 0 → IsFault (map f xs) 1 Unended
+fault-none f [] e = (omega arith, omega arith, opens-none, none-is-none)
+fault-none f (x ∷ xs) e = absurd (omega (arith, e))
+
+pub fault-fields : {X : Type 0} (f : X → List (List ℕ)) (xs : List X) (x : X) (rest : List X) (n : ℕ) → xs ≡ x ∷ rest → n ≡ min (length (f x)) 4_294_967_295 → length (f x) ≢ 3 → IsFault (map f xs) 1 (Fields n)
+fault-fields f xs x rest n e m other = subst (λ (ys : List _). IsFault (map f ys) 1 (Fields n)) (sym e) (omega arith, omega arith, opens-none, (m, other))
+
+row-at : (xs : List (List (List ℕ))) (r : List (List ℕ)) (rs : List (List (List ℕ))) → get_or (xs ++ r ∷ rs) (length xs) [] ≡ r
+row-at [] r rs = refl
+row-at (x ∷ xs) r rs = row-at xs r rs
+
+-- a row of a report has three fields
+row-three : (xs : List (List (List ℕ))) (r : List (List ℕ)) (rs : List (List (List ℕ))) → AreReport (xs ++ r ∷ rs) → length r ≡ 3
+row-three xs r rs a =
+    let long = length-append xs (r ∷ rs) in
+    let at : length xs < length (report_rows a.0 a.1 a.2) = omega (arith, long, ap length a.4) in
+    ap length (sym (row-at xs r rs) ∙ ap (λ (rows : List (List (List ℕ))). get_or rows (length xs) []) a.4) ∙ all-three a.0 a.1 a.2 (length xs) at
+
+-- a report that goes on with a row goes on with its first fields
+pub goes-on-front : (xs : List (List (List ℕ))) (r : List (List ℕ)) (rs : List (List (List ℕ))) (f : ℕ) → AreReport (xs ++ r ∷ rs) → GoesOn xs (take f r)
+goes-on-front xs r rs f a = (drop f r, rs, subst (λ (q : List (List ℕ)). AreReport (xs ++ q ∷ rs)) (sym (take-append-drop f r)) a)
+
+wrong-none : (xs ys : List (List (List ℕ))) (f : RowFault) → IsWrong xs ys f → AreReport (xs ++ ys) → ⊥
+wrong-none xs [] Unended w a = w (subst AreReport (append-nil xs) a)
+wrong-none xs [] (Fields n) w a = w
+wrong-none xs [] (Field f) w a = w
+wrong-none xs (r ∷ rs) Unended w a = w
+wrong-none xs (r ∷ rs) (Fields n) w a = w.1 (row-three xs r rs a)
+wrong-none xs (r ∷ rs) (Field f) w a = w.4 (goes-on-front xs r rs f a)
+
+-- records with a fault are those of no report
+pub fault-is-none : (records : List (List (List ℕ))) (row : ℕ) (f : RowFault) → IsFault records row f → ¬ AreReport records
+fault-is-none records row f h a = wrong-none (take (row - 1) records) (drop (row - 1) records) f h.3 (subst AreReport (sym (take-append-drop (row - 1) records)) a)
