@@ -1,1 +1,3 @@
 pub mod CountedLemmas
+pub mod PlaceLemmas
+pub mod PartLemmas

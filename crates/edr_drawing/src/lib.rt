@@ -7,6 +7,7 @@ mod changes;
 mod cover;
 mod elements;
 mod lanes;
+pub mod laws;
 mod long;
 mod pieces;
 mod reasons;
