@@ -59,3 +59,6 @@ pub fn page(
     put(&mut out, &[Piece::Tag(Tag::PageEnd)])?;
     Ok(out)
 }
+
+#[cfg(test)]
+mod tests;
