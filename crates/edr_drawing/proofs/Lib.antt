@@ -1,1 +1,5 @@
 pub mod CountedLemmas
+pub mod PlaceLemmas
+pub mod PartLemmas
+pub mod PresentLemmas
+pub mod PlotLemmas

@@ -14,3 +14,4 @@ pub mod Tables
 pub mod Sheets
 pub mod Cover
 pub mod Page
+pub mod Laws

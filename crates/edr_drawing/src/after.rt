@@ -123,7 +123,7 @@ fn draw_legend(out: &mut Vec<u8>) -> Result<(), OutOfMemory>
     )
 }
 
-/// A text with words of its own.
+/// A text of these words.
 pub fn text(x: u32, y: u32, class: Class, label: Label) -> Element
     ensures { result ≡ Element.Text x y class (Words.Label label) }
 {
@@ -279,7 +279,7 @@ fn put_point(out: &mut Vec<u8>, scale: &Scale, i: u16, change: i16) -> Result<()
     )
 }
 
-// Draws a dot or a square there.
+// Draws a dot at that point.
 #[tactic(auto, unfolding(crate::specs::After::dot))]
 fn draw_dot(out: &mut Vec<u8>, scale: &Scale, i: u16, change: i16) -> Result<(), OutOfMemory>
     requires range { (scale.now.top ≤ 40_000) × (scale.now.bottom ≤ 40_000) }
@@ -293,6 +293,7 @@ fn draw_dot(out: &mut Vec<u8>, scale: &Scale, i: u16, change: i16) -> Result<(),
     draw(out, &[Element::Dot { x, y }])
 }
 
+// Draws a square at that point.
 #[tactic(auto, unfolding(crate::specs::After::square))]
 fn draw_square(out: &mut Vec<u8>, scale: &Scale, i: u16, change: i16) -> Result<(), OutOfMemory>
     requires range { (scale.now.top ≤ 40_000) × (scale.now.bottom ≤ 40_000) }

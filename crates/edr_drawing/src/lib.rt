@@ -7,6 +7,7 @@ mod changes;
 mod cover;
 mod elements;
 mod lanes;
+pub mod laws;
 mod long;
 mod pieces;
 mod reasons;
@@ -58,3 +59,6 @@ pub fn page(
     put(&mut out, &[Piece::Tag(Tag::PageEnd)])?;
     Ok(out)
 }
+
+#[cfg(test)]
+mod tests;

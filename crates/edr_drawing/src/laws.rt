@@ -1,0 +1,43 @@
+//! Laws of a page, each the contract of a function that does nothing.
+
+ghost use Rattle.std.specs.Prelude.{◌≡◌, ◌≤◌, ◌+◌, ℕ, ℤ, false, true, Option, List, All, Contains, int_le};
+ghost use Rattle.edr_record.specs.Parts.{CrashPart};
+ghost use Rattle.edr_image.specs.declared.Found.{Found};
+ghost use Rattle.edr_image.specs.Reports.{Report};
+ghost use Rattle.edr_report.specs.Lines.{Line};
+ghost use Rattle.edr_report.specs.Report.{events_lines, found_records, run_lines};
+ghost use Rattle.edr_drawing.specs.declared.changes.Scale.{Scale};
+ghost use Rattle.edr_drawing.specs.declared.lanes.Lane.{Lane};
+ghost use Rattle.edr_drawing.specs.Lanes.{lane_y, cells, points};
+ghost use Rattle.edr_drawing.specs.Changes.{change_y, scale_of, span_of, time_x};
+ghost use Rattle.edr_drawing.specs.Tables.{row};
+ghost use Rattle.edr_drawing.specs.Page.{page_bytes};
+ghost use Rattle.edr_drawing.specs.Laws.{IsPart, HasMarks, HasPoints, StandsIn};
+
+/// Each line of an event, and each line of a cycle, has its row on the page, word for word.
+pub fn each_line()
+    ensures events { (reports : List Report) (found : List Found) (count size : ℕ) (digest : List ℕ) (l : Line) → Contains (events_lines 1 (found_records found)) l
+        → IsPart (row l.name l.value) (page_bytes reports found count size digest) }
+    ensures cycles { (reports : List Report) (found : List Found) (count size : ℕ) (digest : List ℕ) (l : Line) → Contains (run_lines 1 reports) l
+        → IsPart (row l.name l.value) (page_bytes reports found count size digest) }
+{}
+
+/// The marks of a lane are those of the slots that are there, in order, and no other; and so are the points of its path.
+pub fn no_absent()
+    ensures marks { (l : Lane) (vs : List (Option ℕ)) → HasMarks l vs (cells l 0 vs) }
+    ensures path { (l : Lane) (vs : List (Option ℕ)) → HasPoints l vs (points l 0 false vs) }
+{}
+
+/// A greater value never stands lower.
+pub fn one_place()
+    ensures slots { (l : Lane) (v w : ℕ) → 1 ≤ l.top → v ≤ w → lane_y l w ≤ lane_y l v }
+    ensures changes { (s : Scale) (v w : ℤ) → 1 ≤ s.top + s.bottom → int_le v w ≡ true → change_y s w ≤ change_y s v }
+{}
+
+/// Each change of speed of a crash part stands in the plot, and so does each time up to the last one across.
+pub fn all_in_the_plot()
+    ensures along { (c : CrashPart) → All (StandsIn (scale_of c)) c.along }
+    ensures across { (c : CrashPart) → All (StandsIn (scale_of c)) c.across }
+    ensures greatest { (c : CrashPart) → StandsIn (scale_of c) c.max_along.kmh × StandsIn (scale_of c) c.max_across.kmh }
+    ensures times { (c : CrashPart) (t : ℕ) → t ≤ span_of c → (330 ≤ time_x (scale_of c) t) × (time_x (scale_of c) t ≤ 1_830) }
+{}
