@@ -22,7 +22,7 @@ returns g c =
     let stopped = rw c.place_of-at.ensures at e.stopped in
     let moments = rw c.place_of-at.ensures at e.any_moment in
     let passed = step_passes (Fill m part) (D.content nvm) (D.settled nvm) (D.clock nvm) (D.since nvm) (D.since end) (IsGatedStop 3 (place_of m + 1) piece (place_of m))
-        (λ bytes image v view may. gated_either (Fill m part) 3 (place_of m + 1) (place_of m) piece bytes image v (fill_before m part piece bytes image v view may is) (fill_image m part piece bytes image v view may is)) moments in
+    (λ bytes image v view may. gated_either (Fill m part) 3 (place_of m + 1) (place_of m) piece bytes image v (fill_before m part piece bytes image v view may is) (fill_image m part piece bytes image v view may is)) moments in
     record {
       lent = e.lent;
       time = e.time;
