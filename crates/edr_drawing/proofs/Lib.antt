@@ -3,3 +3,7 @@ pub mod PlaceLemmas
 pub mod PartLemmas
 pub mod PresentLemmas
 pub mod PlotLemmas
+pub mod PlainLemmas
+pub mod PlainCharts
+pub mod PlainLines
+pub mod PlainSheets

@@ -1,6 +1,6 @@
 //! Laws of a page, each the contract of a function that does nothing.
 
-ghost use Rattle.std.specs.Prelude.{◌≡◌, ◌≤◌, ◌+◌, ℕ, ℤ, false, true, Option, List, All, Contains, int_le};
+ghost use Rattle.std.specs.Prelude.{◌≡◌, ◌≤◌, ◌<◌, ◌+◌, ℕ, ℤ, false, true, Option, List, All, Contains, int_le};
 ghost use Rattle.edr_record.specs.Parts.{CrashPart};
 ghost use Rattle.edr_image.specs.declared.Found.{Found};
 ghost use Rattle.edr_image.specs.Reports.{Report};
@@ -40,4 +40,10 @@ pub fn all_in_the_plot()
     ensures across { (c : CrashPart) → All (StandsIn (scale_of c)) c.across }
     ensures greatest { (c : CrashPart) → StandsIn (scale_of c) c.max_along.kmh × StandsIn (scale_of c) c.max_across.kmh }
     ensures times { (c : CrashPart) (t : ℕ) → t ≤ span_of c → (330 ≤ time_x (scale_of c) t) × (time_x (scale_of c) t ≤ 1_830) }
+{}
+
+/// Every byte of a page is below 128, whatever the numbers of its report are.
+pub fn plain()
+    ensures { (reports : List Report) (found : List Found) (count size : ℕ) (digest : List ℕ) → All (λ b. b < 256) digest
+        → All (λ b. b < 128) (page_bytes reports found count size digest) }
 {}

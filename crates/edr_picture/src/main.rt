@@ -4,6 +4,8 @@
 
 mod draws;
 mod faults;
+#[cfg(test)]
+mod reports;
 mod status;
 #[cfg(test)]
 mod tests;

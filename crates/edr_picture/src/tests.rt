@@ -2,9 +2,12 @@
 
 use crate::draws::draw;
 use crate::faults::Fault;
+use crate::reports;
+use crate::reports::Known;
 use crate::status::Status;
 use edr_device::{MemSink, MemSource};
 use edr_reading::RowFault;
+use sha2::{Digest, Sha256};
 use std::process::Abort;
 use std::test::Fail;
 
@@ -137,4 +140,68 @@ fn a_line_that_is_cut_short_is_a_write_fault(rt: HostRuntime) -> Result<(), Fail
         ..sound(b"", Status::WriteFault, 5)
     };
     check(&rt, run, b"")
+}
+
+// The report's page is the known one.
+fn check_page<R: Abort + AllocGlobal>(rt: &R, report: &[u8], known: &Known) -> Result<(), Fail> {
+    let page = output_of(rt, sound(report, Status::Done, 0))?;
+    let digest = Sha256::digest(page.as_slice());
+    assert_eq!(rt; page.len(), known.len);
+    assert!(rt; digest == known.digest);
+    Ok(())
+}
+
+#[test]
+fn an_event_without_its_end_is_drawn(rt: HostRuntime) -> Result<(), Fail> {
+    check_page(&rt, reports::POWER_CUT, &reports::POWER_CUT_PAGE)
+}
+
+#[test]
+fn absent_slots_are_drawn(rt: HostRuntime) -> Result<(), Fail> {
+    check_page(&rt, reports::EARLY, &reports::EARLY_PAGE)
+}
+
+#[test]
+fn a_damaged_bank_is_told_beside_an_event(rt: HostRuntime) -> Result<(), Fail> {
+    check_page(&rt, reports::DAMAGED, &reports::DAMAGED_PAGE)
+}
+
+#[test]
+fn the_widest_values_are_drawn(rt: HostRuntime) -> Result<(), Fail> {
+    check_page(&rt, reports::WIDEST, &reports::WIDEST_PAGE)
+}
+
+#[test]
+fn a_change_of_speed_that_stays_is_drawn(rt: HostRuntime) -> Result<(), Fail> {
+    check_page(&rt, reports::TIE, &reports::TIE_PAGE)
+}
+
+#[test]
+fn a_deployment_without_a_change_of_speed_is_drawn(rt: HostRuntime) -> Result<(), Fail> {
+    check_page(&rt, reports::DEPLOYMENT, &reports::DEPLOYMENT_PAGE)
+}
+
+#[test]
+fn a_millisecond_without_a_sample_is_told(rt: HostRuntime) -> Result<(), Fail> {
+    check_page(&rt, reports::SILENT, &reports::SILENT_PAGE)
+}
+
+#[test]
+fn a_frontal_crash_is_drawn(rt: HostRuntime) -> Result<(), Fail> {
+    check_page(&rt, reports::FRONTAL, &reports::FRONTAL_PAGE)
+}
+
+#[test]
+fn a_crash_from_the_side_is_drawn(rt: HostRuntime) -> Result<(), Fail> {
+    check_page(&rt, reports::SIDE, &reports::SIDE_PAGE)
+}
+
+#[test]
+fn a_long_slide_is_drawn(rt: HostRuntime) -> Result<(), Fail> {
+    check_page(&rt, reports::SLIDE, &reports::SLIDE_PAGE)
+}
+
+#[test]
+fn two_events_are_drawn(rt: HostRuntime) -> Result<(), Fail> {
+    check_page(&rt, reports::TWO_EVENTS, &reports::TWO_EVENTS_PAGE)
 }

@@ -1,0 +1,221 @@
+-- The lines of a report have plain names and plain values.
+use Rattle.std.proofs.Common.{arith, ◌≡◌, refl, ℕ, ◌+◌, ◌/◌, ◌%◌, min, Bool, true, false, Option, Some, None, List, [], ◌∷◌, ◌++◌, map, take, flat_map, codes, decimal}
+use Rattle.std.specs.List.{list_all, enumerate_from}
+use Rattle.std.specs.Fmt.{signed_decimal}
+use Rattle.std.proofs.lemmas.Bool.{and_parts}
+use Rattle.edr_record.specs.declared.Place.{Place}
+use Rattle.edr_record.specs.declared.Place.TheVariants.{First, Second}
+use Rattle.edr_record.specs.declared.Extreme.{Extreme}
+use Rattle.edr_record.specs.declared.Record.{Record}
+use Rattle.edr_record.specs.Parts.{PrePart, CrashPart}
+use Rattle.edr_record.specs.Bounds.{point_count}
+use Rattle.edr_record.specs.Complete.{is_complete}
+use Rattle.edr_image.specs.declared.Ack.{Ack}
+use Rattle.edr_image.specs.declared.Kind.{Kind}
+use Rattle.edr_image.specs.declared.Kind.TheVariants as kind
+use Rattle.edr_image.specs.declared.Applied.{Applied}
+use Rattle.edr_image.specs.declared.Applied.TheVariants.{Kept, Locked, Done, NotKept}
+use Rattle.edr_image.specs.Reports.{Report, StartStopped, Ran}
+use Rattle.edr_report.specs.Words.{cycle_words, kind_word, ack_words, bank_words, applied_words, stop_words, none_word, yes_no, on_off, number_or_none, switch_or_none, milliseconds, firing_words, events_in_crash, seconds, time_between, spaced, extreme_words, missing_words}
+use Rattle.edr_report.specs.Lines.{Line, line}
+use Rattle.edr_report.specs.Report.{ack_line, cycle_lines, pre_lines, crash_names, crash_words, named_lines, crash_lines, event_lines, run_lines}
+use Rattle.edr_drawing.specs.Tables.{row, line_row, begins_table}
+use Rattle.edr_drawing.proofs.PlainLemmas.{Plain, all_low, plain_nil, plain_cons, plain_append, plain_if, plain_fixed, plain_decimal, plain_signed, plain_pieces}
+
+-- a fixed text before another one, and behind one
+text_then : (t rest : List ℕ) → all_low t ≡ true → Plain rest → Plain (t ++ rest)
+text_then t rest low h = plain_append t rest (plain_fixed t low) h
+
+then_text : (front t : List ℕ) → Plain front → all_low t ≡ true → Plain (front ++ t)
+then_text front t h low = plain_append front t h (plain_fixed t low)
+
+-- ---- values
+
+plain_cycle : (i : ℕ) → Plain (cycle_words i)
+plain_cycle i = text_then (codes "cycle ") (decimal i) refl (plain_decimal i)
+
+low_kind : (k : Kind) → all_low (kind_word k) ≡ true
+low_kind kind.Take = refl
+low_kind k = refl
+
+plain_ack : (i : ℕ) (k : Kind) (tick : ℕ) → Plain (ack_words i k tick)
+plain_ack i k tick =
+    let cycle = then_text (cycle_words i) (codes " ") (plain_cycle i) refl in
+    let word = then_text (cycle_words i ++ codes " ") (kind_word k) cycle (low_kind k) in
+    let at = then_text (cycle_words i ++ codes " " ++ kind_word k) (codes " at ") word refl in
+    plain_append (cycle_words i ++ codes " " ++ kind_word k ++ codes " at ") (decimal tick) at (plain_decimal tick)
+
+pub plain_bank : (b : ℕ) → Plain (bank_words b)
+plain_bank b = text_then (codes "bank ") (decimal b) refl (plain_decimal b)
+
+plain_applied : (a : Applied) → Plain (applied_words a)
+plain_applied (Kept b) = plain_bank b
+plain_applied (Locked b) = plain_bank b
+plain_applied (Done b) = plain_bank b
+plain_applied NotKept = plain_fixed (codes "not kept") refl
+
+plain_stop : (stop : Option ℕ) → Plain (stop_words stop)
+plain_stop None = plain_fixed (codes "power off") refl
+plain_stop (Some k) = text_then (codes "stopped in call ") (decimal k) refl (plain_decimal k)
+
+plain_yes_no : (b : Bool) → Plain (yes_no b)
+plain_yes_no true = plain_fixed (codes "yes") refl
+plain_yes_no false = plain_fixed (codes "no") refl
+
+plain_on_off : (b : Bool) → Plain (on_off b)
+plain_on_off true = plain_fixed (codes "on") refl
+plain_on_off false = plain_fixed (codes "off") refl
+
+plain_number : (v : Option ℕ) → Plain (number_or_none v)
+plain_number None = plain_fixed none_word refl
+plain_number (Some n) = plain_decimal n
+
+plain_switch : (v : Option Bool) → Plain (switch_or_none v)
+plain_switch None = plain_fixed none_word refl
+plain_switch (Some b) = plain_on_off b
+
+plain_milliseconds : (t : ℕ) → Plain (milliseconds t)
+plain_milliseconds t = then_text (decimal t) (codes " ms") (plain_decimal t) refl
+
+plain_firing : (t : Option ℕ) → Plain (firing_words t)
+plain_firing None = plain_fixed none_word refl
+plain_firing (Some t) = plain_milliseconds t
+
+plain_events : (p : Place) → Plain (events_in_crash p)
+plain_events First = plain_fixed (codes "1") refl
+plain_events (Second after) = plain_fixed (codes "2") refl
+
+plain_seconds : (tenths : ℕ) → Plain (seconds tenths)
+plain_seconds tenths =
+    let whole = then_text (decimal (tenths / 10)) (codes ".") (plain_decimal (tenths / 10)) refl in
+    let tenth = plain_append (decimal (tenths / 10) ++ codes ".") (decimal (tenths % 10)) whole (plain_decimal (tenths % 10)) in
+    then_text (decimal (tenths / 10) ++ codes "." ++ decimal (tenths % 10)) (codes " s") tenth refl
+
+plain_between : (p : Place) → Plain (time_between p)
+plain_between First = plain_fixed none_word refl
+plain_between (Second after) = plain_seconds ((after + 50) / 100)
+
+spaced_more : (w : List ℕ) (ws : List (List ℕ)) → Plain w → Plain (spaced ws) → Plain (spaced (w ∷ ws))
+spaced_more w [] h k = h
+spaced_more w (y ∷ ys) h k = plain_append w (32 ∷ spaced (y ∷ ys)) h (plain_cons 32 (spaced (y ∷ ys)) (omega arith) k)
+
+plain_spaced : {X : Type 0} (f : X → List ℕ) → ((x : X) → Plain (f x)) → (xs : List X) → Plain (spaced (map f xs))
+plain_spaced f h [] = plain_nil
+plain_spaced f h (x ∷ xs) = spaced_more (f x) (map f xs) (h x) (plain_spaced f h xs)
+
+plain_extreme : (x : Extreme) → Plain (extreme_words x)
+plain_extreme x =
+    let change = then_text (signed_decimal x.kmh) (codes " km/h at ") (plain_signed x.kmh) refl in
+    plain_append (signed_decimal x.kmh ++ codes " km/h at ") (milliseconds x.at) change (plain_milliseconds x.at)
+
+plain_missing : (along across : ℕ) → Plain (missing_words along across)
+plain_missing along across =
+    let first = then_text (decimal along) (codes " longitudinal, ") (plain_decimal along) refl in
+    let second = plain_append (decimal along ++ codes " longitudinal, ") (decimal across) first (plain_decimal across) in
+    then_text (decimal along ++ codes " longitudinal, " ++ decimal across) (codes " lateral") second refl
+
+-- ---- lines
+
+-- the names and the values are plain
+abbrev pub PlainLines : List Line → Type 0
+PlainLines [] = Unit {0}
+PlainLines (l ∷ ls) = Plain l.name × Plain l.value × PlainLines ls
+
+lines_append : (xs ys : List Line) → PlainLines xs → PlainLines ys → PlainLines (xs ++ ys)
+lines_append [] ys h k = k
+lines_append (x ∷ xs) ys h k = (h.0, h.1, lines_append xs ys h.2 k)
+
+lines_flat_map : {X : Type 0} (f : X → List Line) → ((x : X) → PlainLines (f x)) → (xs : List X) → PlainLines (flat_map f xs)
+lines_flat_map f h [] = tt
+lines_flat_map f h (x ∷ xs) = lines_append (f x) (flat_map f xs) (h x) (lines_flat_map f h xs)
+
+-- each of these texts is plain
+abbrev AllPlain : List (List ℕ) → Type 0
+AllPlain [] = Unit {0}
+AllPlain (x ∷ xs) = Plain x × AllPlain xs
+
+all_fixed : (xs : List (List ℕ)) → list_all all_low xs ≡ true → AllPlain xs
+all_fixed [] e = tt
+all_fixed (x ∷ xs) e = (plain_fixed x (and_parts _ _ e).0, all_fixed xs (and_parts _ _ e).1)
+
+all_map : {X : Type 0} (f : X → List ℕ) → ((x : X) → Plain (f x)) → (xs : List X) → AllPlain (map f xs)
+all_map f h [] = tt
+all_map f h (x ∷ xs) = (h x, all_map f h xs)
+
+lines_named : (block : ℕ) (names values : List (List ℕ)) → AllPlain names → AllPlain values → PlainLines (named_lines block names values)
+lines_named block names [] h k = tt
+lines_named block [] (v ∷ values) h k = tt
+lines_named block (n ∷ names) (v ∷ values) h k = (h.0, k.0, lines_named block names values h.1 k.1)
+
+lines_acks : (i : ℕ) (log : List Ack) → PlainLines (map (ack_line i) log)
+lines_acks i [] = tt
+lines_acks i (a ∷ log) = (plain_ack i a.kind a.tick, plain_applied a.applied, lines_acks i log)
+
+lines_cycle : (i : ℕ) (r : Report) → PlainLines (cycle_lines i r)
+lines_cycle i (StartStopped j) = (plain_cycle i, text_then (codes "start stopped in call ") (decimal j) refl (plain_decimal j), tt)
+lines_cycle i (Ran n stop log) =
+    let number = text_then (codes "number ") (decimal n) refl (plain_decimal n) in
+    let told = then_text (codes "number " ++ decimal n) (codes ", ") number refl in
+    (plain_cycle i, plain_append (codes "number " ++ decimal n ++ codes ", ") (stop_words stop) told (plain_stop stop), lines_acks i log)
+
+lines_run : (i : ℕ) (reports : List Report) → PlainLines (run_lines i reports)
+lines_run i reports = lines_flat_map (λ r. cycle_lines r.0 r.1) (λ r. lines_cycle r.0 r.1) (enumerate_from i reports)
+
+lines_pre : (block : ℕ) (p : PrePart) (locked : Bool) → PlainLines (pre_lines block p locked)
+unfolding pre_lines
+lines_pre block p locked =
+    (plain_fixed (codes "ignition cycle, crash") refl, plain_decimal (min p.key.cycle 60_000),
+    (plain_fixed (codes "time zero") refl, plain_milliseconds p.key.zero,
+    (plain_fixed (codes "multi-event, number of events") refl, plain_events p.place,
+    (plain_fixed (codes "time from event 1 to 2") refl, plain_between p.place,
+    (plain_fixed (codes "deployment event") refl, plain_yes_no locked,
+    (plain_fixed (codes "speed, km/h") refl, plain_spaced number_or_none plain_number p.speed,
+    (plain_fixed (codes "throttle, %") refl, plain_spaced number_or_none plain_number p.throttle,
+    (plain_fixed (codes "service brake") refl, plain_spaced switch_or_none plain_switch p.brake,
+    (plain_fixed (codes "driver belt") refl, plain_switch p.belt,
+    (plain_fixed (codes "frontal air bag warning lamp") refl, plain_switch p.lamp, tt))))))))))
+
+all_crash : (crash : Option CrashPart) → AllPlain (crash_words crash)
+all_crash None = all_fixed (crash_words None) refl
+all_crash (Some c) =
+    (plain_milliseconds c.end,
+    (plain_spaced signed_decimal plain_signed (take (point_count c.end) c.along),
+    (plain_spaced signed_decimal plain_signed (take (point_count c.end) c.across),
+    (plain_extreme c.max_along,
+    (plain_extreme c.max_across,
+    (plain_milliseconds c.result_at,
+    (plain_missing c.missing_along c.missing_across, all_map firing_words plain_firing c.fired)))))))
+
+lines_crash : (block : ℕ) (crash : Option CrashPart) → PlainLines (crash_lines block crash)
+unfolding crash_lines
+lines_crash block crash = lines_named block crash_names (crash_words crash) (all_fixed crash_names refl) (all_crash crash)
+
+lines_event : (n bank : ℕ) (r : Record) → PlainLines (event_lines n bank r)
+unfolding event_lines
+lines_event n bank r =
+    let last = line n (codes "complete file recorded") (yes_no (is_complete r)) ∷ [] in
+    let ends : PlainLines last = (plain_fixed (codes "complete file recorded") refl, plain_yes_no (is_complete r), tt) in
+    (plain_fixed (codes "event") refl, plain_decimal n,
+    (plain_fixed (codes "bank") refl, plain_decimal bank,
+    lines_append (pre_lines n r.pre r.locked ++ crash_lines n r.crash) last
+    (lines_append (pre_lines n r.pre r.locked) (crash_lines n r.crash) (lines_pre n r.pre r.locked) (lines_crash n r.crash)) ends))
+
+-- ---- their rows
+
+name_and_value : (name value : List ℕ) → Plain name → Plain value → Plain (row name value)
+name_and_value name value h k = search plain_pieces depth 20
+
+plain_row : (l : Line) → Plain l.name → Plain l.value → Plain (line_row l)
+plain_row l h k =
+    let begins = plain_if (begins_table l.name) _ _ (search plain_pieces) plain_nil in
+    plain_append _ (row l.name l.value) begins (name_and_value l.name l.value h k)
+
+plain_rows : (ls : List Line) → PlainLines ls → Plain (flat_map line_row ls)
+plain_rows [] h = plain_nil
+plain_rows (l ∷ ls) h = plain_append (line_row l) (flat_map line_row ls) (plain_row l h.0 h.1) (plain_rows ls h.2)
+
+pub plain_event_lines : (n bank : ℕ) (r : Record) → Plain (flat_map line_row (event_lines n bank r))
+plain_event_lines n bank r = plain_rows (event_lines n bank r) (lines_event n bank r)
+
+pub plain_run_lines : (reports : List Report) → Plain (flat_map line_row (run_lines 1 reports))
+plain_run_lines reports = plain_rows (run_lines 1 reports) (lines_run 1 reports)

@@ -1,0 +1,5 @@
+use Rattle.edr_drawing.proofs.PlainSheets.{plain_page}
+use Rattle.edr_drawing.proofs.laws.plain.Goals as goal
+
+pub returns : goal.returns
+returns c = λ reports found count size digest small. (plain_page reports found count size digest small).bytes
