@@ -72,15 +72,9 @@ fn a_report_is_drawn_whole_or_in_part(rt: HostRuntime) -> Result<(), Fail> {
 
 #[test]
 fn what_is_no_report_is_told(rt: HostRuntime) -> Result<(), Fail> {
-    let texts: [&[u8]; 2] = [
-        b"block,name,value\n",
-        b"block,name,value\n0,\"ignition cycle, download\",03\n",
-    ];
-    for text in texts {
-        let run = sound(text, Status::Faulty(Fault::NoReport), 3);
-        check(&rt, run, b"fault: no report\n")?;
-    }
-    Ok(())
+    let text = b"block,name,value\n0,\"ignition cycle, download\",03\n";
+    let run = sound(text, Status::Faulty(Fault::NoReport), 3);
+    check(&rt, run, b"fault: no report\n")
 }
 
 // A report that is at fault in its first row.
@@ -112,6 +106,17 @@ fn a_first_row_at_fault_is_told(rt: HostRuntime) -> Result<(), Fail> {
         RowFault::Field(1),
         b"fault: report row 1: field 1\n",
     )
+}
+
+#[test]
+fn a_cut_report_is_told(rt: HostRuntime) -> Result<(), Fail> {
+    let fault = RowFault::Unended;
+    let run = sound(
+        b"block,name,value\n",
+        Status::Faulty(Fault::Report { row: 2, fault }),
+        3,
+    );
+    check(&rt, run, b"fault: report row 2: unended\n")
 }
 
 #[test]

@@ -1,6 +1,6 @@
 -- The first row of a text that is no report.
-use Rattle.std.proofs.Common.{arith, ◌≡◌, ◌≢◌, ◌∙◌, sym, ap, subst, refl, ℕ, ◌<◌, ◌-◌, min, map, List, [], ◌∷◌, ◌++◌, length, length-append, take, drop, get_or, codes}
-use Rattle.std.proofs.lemmas.List.{append-nil, take-append-drop}
+use Rattle.std.proofs.Common.{arith, ◌≡◌, ◌≢◌, ◌∙◌, sym, ap, subst, refl, ℕ, zero, suc, ◌<◌, ◌≤◌, ◌+◌, ◌-◌, min, map, List, [], ◌∷◌, ◌++◌, length, length-append, take, drop, get_or, codes}
+use Rattle.std.proofs.lemmas.List.{append-nil, length-map, length-take, take-append-drop}
 use Rattle.edr_report.specs.Report.{report_lines}
 use Rattle.edr_reading.proofs.LastLemmas.{distinct-none}
 use Rattle.edr_reading.proofs.ReadingLemmas.{all-three}
@@ -77,3 +77,38 @@ wrong-none xs (r ∷ rs) (Field f) w a = w.4 (goes-on-front xs r rs f a)
 -- records with a fault are those of no report
 pub fault-is-none : (records : List (List (List ℕ))) (row : ℕ) (f : RowFault) → IsFault records row f → ¬ AreReport records
 fault-is-none records row f h a = wrong-none (take (row - 1) records) (drop (row - 1) records) f h.3 (subst AreReport (sym (take-append-drop (row - 1) records)) a)
+
+-- the fault of the first of the records behind those with which a report begins
+pub fault-behind : (records : List (List (List ℕ))) (k : ℕ) (f : RowFault) → k ≤ length records → Opens (take k records) → IsWrong (take k records) (drop k records) f → IsFault records (k + 1) f
+fault-behind records k f h o w =
+    let e : k ≡ k + 1 - 1 = omega arith in
+    (omega arith, omega (arith, h), subst (λ (j : ℕ). Opens (take j records)) e o, subst (λ (j : ℕ). IsWrong (take j records) (drop j records) f) e w)
+
+pub wrong-fields : (xs records : List (List (List ℕ))) (k n : ℕ) → k < length records → n ≡ min (length (get_or records k [])) 4_294_967_295 → length (get_or records k []) ≢ 3 → IsWrong xs (drop k records) (Fields n)
+wrong-fields xs [] k n h m other = absurd (omega (arith, h))
+wrong-fields xs (r ∷ rs) zero n h m other = (m, other)
+wrong-fields xs (r ∷ rs) (suc k) n h m other = wrong-fields xs rs k n (omega (arith, h)) m other
+
+wrong-past : (xs records : List (List (List ℕ))) (k : ℕ) → length records ≤ k → ¬ AreReport xs → IsWrong xs (drop k records) Unended
+wrong-past xs [] zero h n = n
+wrong-past xs [] (suc k) h n = n
+wrong-past xs (r ∷ rs) zero h n = absurd (omega (arith, h))
+wrong-past xs (r ∷ rs) (suc k) h n = wrong-past xs rs k (omega (arith, h)) n
+
+take-past : (records : List (List (List ℕ))) (k : ℕ) → length records ≤ k → take k records ≡ records
+take-past [] zero h = refl
+take-past [] (suc k) h = refl
+take-past (r ∷ rs) zero h = absurd (omega (arith, h))
+take-past (r ∷ rs) (suc k) h = ap (λ (x : List (List (List ℕ))). r ∷ x) (take-past rs k (omega (arith, h)))
+
+pub wrong-end : (records : List (List (List ℕ))) (k : ℕ) → length records ≤ k → ¬ AreReport records → IsWrong (take k records) (drop k records) Unended
+wrong-end records k h n = wrong-past (take k records) records k h (subst (λ (x : List (List (List ℕ))). ¬ AreReport x) (sym (take-past records k h)) n)
+
+pub at-map : {X : Type 0} (f : X → List (List ℕ)) (xs : List X) (k : ℕ) (d : X) → k < length xs → get_or (map f xs) k [] ≡ f (get_or xs k d)
+at-map f [] k d h = absurd (omega (arith, h))
+at-map f (x ∷ xs) zero d h = refl
+at-map f (x ∷ xs) (suc k) d h = at-map f xs k d (omega (arith, h))
+
+-- rows that are the first of the records are no more than they
+pub no-more : {X Y : Type 0} (f : X → Y) (rows : List X) (records : List Y) → map f rows ≡ take (length rows) records → length rows ≤ length records
+no-more f rows records e = let m = length-map rows f in let t = length-take (length rows) records in omega (arith, m, t, ap length e)

@@ -1,6 +1,7 @@
 //! Reads a report back: what the rows of its table tell.
 #![tactic(auto)]
 
+mod completion;
 mod crash;
 mod event;
 mod faults;

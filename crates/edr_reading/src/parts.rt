@@ -16,7 +16,7 @@ use crate::rows::{Row, put_values};
 use edr_record::{Crash, Pre};
 
 /// The names of the rows of what stood before time zero.
-const PRE_NAMES: [&str; 10] = [
+pub(crate) const PRE_NAMES: [&str; 10] = [
     "ignition cycle, crash",
     "time zero",
     "multi-event, number of events",
@@ -30,7 +30,7 @@ const PRE_NAMES: [&str; 10] = [
 ];
 
 /// The names of the rows of what came after time zero.
-const CRASH_NAMES: [&str; 15] = [
+pub(crate) const CRASH_NAMES: [&str; 15] = [
     "end of event",
     "delta-V longitudinal, km/h",
     "delta-V lateral, km/h",

@@ -38,6 +38,72 @@ const POWER_CUT: &[u8] = b"block,name,value\n\
     1,complete file recorded,no\n\
     0,\"ignition cycle, download\",1\n";
 
+// Two events of one crash.
+const TWO_EVENTS: &[u8] = b"block,name,value\n\
+    0,cycle 1,\"number 1, power off\"\n\
+    0,cycle 1 take at 6763,bank 1\n\
+    0,cycle 1 done at 6843,bank 1\n\
+    0,cycle 1 take at 9014,bank 2\n\
+    0,cycle 1 lock at 9019,bank 2\n\
+    0,cycle 1 done at 9125,bank 2\n\
+    1,event,1\n\
+    1,bank,1\n\
+    1,\"ignition cycle, crash\",1\n\
+    1,time zero,6718 ms\n\
+    1,\"multi-event, number of events\",1\n\
+    1,time from event 1 to 2,none\n\
+    1,deployment event,no\n\
+    1,\"speed, km/h\",31 31 31 31 31 31 31 30 30 30 30\n\
+    1,\"throttle, %\",18 18 18 18 18 18 18 18 18 18 18\n\
+    1,service brake,off off off off off off off off off off off\n\
+    1,driver belt,off\n\
+    1,frontal air bag warning lamp,on\n\
+    1,end of event,95 ms\n\
+    1,\"delta-V longitudinal, km/h\",0 1 3 4 6 8 10 11 12 12 12 12 12\n\
+    1,\"delta-V lateral, km/h\",0 0 -1 -1 -1 -2 -2 -2 -2 -2 -2 -2 -2\n\
+    1,maximum delta-V longitudinal,12 km/h at 92 ms\n\
+    1,maximum delta-V lateral,-2 km/h at 72 ms\n\
+    1,time of maximum resultant,92 ms\n\
+    1,ticks without sample,\"0 longitudinal, 0 lateral\"\n\
+    1,driver frontal deployment,none\n\
+    1,passenger frontal deployment,none\n\
+    1,driver side deployment,none\n\
+    1,passenger side deployment,none\n\
+    1,driver curtain deployment,none\n\
+    1,passenger curtain deployment,none\n\
+    1,driver pretensioner deployment,none\n\
+    1,passenger pretensioner deployment,none\n\
+    1,complete file recorded,yes\n\
+    2,event,2\n\
+    2,bank,2\n\
+    2,\"ignition cycle, crash\",1\n\
+    2,time zero,9008 ms\n\
+    2,\"multi-event, number of events\",2\n\
+    2,time from event 1 to 2,2.3 s\n\
+    2,deployment event,yes\n\
+    2,\"speed, km/h\",31 31 31 30 30 30 43 44 45 46 46\n\
+    2,\"throttle, %\",18 18 18 18 18 18 62 62 62 62 0\n\
+    2,service brake,off off off off off off off off off off on\n\
+    2,driver belt,off\n\
+    2,frontal air bag warning lamp,on\n\
+    2,end of event,87 ms\n\
+    2,\"delta-V longitudinal, km/h\",0 -4 -9 -16 -24 -29 -34 -37 -37 -37 -37 -37\n\
+    2,\"delta-V lateral, km/h\",0 -1 -3 -6 -8 -11 -13 -14 -14 -14 -14 -14\n\
+    2,maximum delta-V longitudinal,-37 km/h at 74 ms\n\
+    2,maximum delta-V lateral,-14 km/h at 72 ms\n\
+    2,time of maximum resultant,74 ms\n\
+    2,ticks without sample,\"0 longitudinal, 0 lateral\"\n\
+    2,driver frontal deployment,11 ms\n\
+    2,passenger frontal deployment,16 ms\n\
+    2,driver side deployment,none\n\
+    2,passenger side deployment,none\n\
+    2,driver curtain deployment,none\n\
+    2,passenger curtain deployment,none\n\
+    2,driver pretensioner deployment,6 ms\n\
+    2,passenger pretensioner deployment,16 ms\n\
+    2,complete file recorded,yes\n\
+    0,\"ignition cycle, download\",1\n";
+
 fn check_refused<R: Abort + AllocGlobal>(rt: &R, bytes: &[u8], wanted: ReportRefused) {
     match read(rt.alloc(), bytes) {
         Ok(_) => assert!(rt; false),
@@ -76,12 +142,52 @@ fn a_first_row_that_names_no_columns_is_told(rt: HostRuntime) {
     check_first_row(&rt, b"block,name,values\n", RowFault::Field(3));
 }
 
+// What is told of the text where it ends behind this many bytes.
+fn check_cut<R: Abort + AllocGlobal>(
+    rt: &R,
+    text: &[u8],
+    length: usize,
+    row: u32,
+    fault: RowFault,
+) {
+    let cut = text.get(..length).unwrap_or(text);
+    check_refused(rt, cut, ReportRefused::Fault { row, fault });
+}
+
+// The text is cut behind each of its rows, and behind the first comma of the next one.
+fn check_cuts<R: Abort + AllocGlobal>(rt: &R, text: &[u8]) {
+    let mut rows = 0;
+    for (i, byte) in text.iter().enumerate() {
+        if *byte == b'\n' && i + 1 < text.len() {
+            rows += 1;
+            check_cut(rt, text, i + 1, rows + 1, RowFault::Unended);
+            check_cut(rt, text, i + 3, rows + 1, RowFault::Fields(2));
+        }
+    }
+}
+
+#[test]
+fn a_cut_report_is_told(rt: HostRuntime) {
+    check_cuts(&rt, POWER_CUT);
+    check_cuts(&rt, TWO_EVENTS);
+    check_cuts(
+        &rt,
+        b"block,name,value\n0,bank 1,damaged at 25 found 1 locked no\n\
+        0,bank 2,damaged at 25 found 1 locked no\n0,\"ignition cycle, download\",1\n",
+    );
+}
+
+#[test]
+fn a_row_of_other_length_is_told(rt: HostRuntime) {
+    let text = b"block,name,value\n0,\"ignition cycle, download\",1\n0\n";
+    let fault = RowFault::Fields(1);
+    check_refused(&rt, text, ReportRefused::Fault { row: 3, fault });
+}
+
 #[test]
 fn a_damaged_report_is_refused(rt: HostRuntime) {
-    let texts: [&[u8]; 5] = [
-        b"block,name,value\n",
+    let texts: [&[u8]; 3] = [
         b"block,name,value\n0,\"ignition cycle, download\",01\n",
-        b"block,name,value\n0,\"ignition cycle, download\",1\n0\n",
         b"block,name,value\n0,bank 17,damaged at 25 found 1 locked no\n0,\"ignition cycle, download\",1\n",
         POWER_CUT.split_at(40).0,
     ];
