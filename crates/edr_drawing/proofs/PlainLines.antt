@@ -163,28 +163,65 @@ lines_run i reports = lines_flat_map (λ r. cycle_lines r.0 r.1) (λ r. lines_cy
 
 lines_pre : (block : ℕ) (p : PrePart) (locked : Bool) → PlainLines (pre_lines block p locked)
 unfolding pre_lines
-lines_pre block p locked =
-    (plain_fixed (codes "ignition cycle, crash") refl, plain_decimal (min p.key.cycle 60_000),
-    (plain_fixed (codes "time zero") refl, plain_milliseconds p.key.zero,
-    (plain_fixed (codes "multi-event, number of events") refl, plain_events p.place,
-    (plain_fixed (codes "time from event 1 to 2") refl, plain_between p.place,
-    (plain_fixed (codes "deployment event") refl, plain_yes_no locked,
-    (plain_fixed (codes "speed, km/h") refl, plain_spaced number_or_none plain_number p.speed,
-    (plain_fixed (codes "throttle, %") refl, plain_spaced number_or_none plain_number p.throttle,
-    (plain_fixed (codes "service brake") refl, plain_spaced switch_or_none plain_switch p.brake,
-    (plain_fixed (codes "driver belt") refl, plain_switch p.belt,
-    (plain_fixed (codes "frontal air bag warning lamp") refl, plain_switch p.lamp, tt))))))))))
+lines_pre block p locked = (
+  plain_fixed (codes "ignition cycle, crash") refl,
+  plain_decimal (min p.key.cycle 60_000),
+  (
+    plain_fixed (codes "time zero") refl,
+    plain_milliseconds p.key.zero,
+    (
+      plain_fixed (codes "multi-event, number of events") refl,
+      plain_events p.place,
+      (
+        plain_fixed (codes "time from event 1 to 2") refl,
+        plain_between p.place,
+        (
+          plain_fixed (codes "deployment event") refl,
+          plain_yes_no locked,
+          (
+            plain_fixed (codes "speed, km/h") refl,
+            plain_spaced number_or_none plain_number p.speed,
+            (
+              plain_fixed (codes "throttle, %") refl,
+              plain_spaced number_or_none plain_number p.throttle,
+              (
+                plain_fixed (codes "service brake") refl,
+                plain_spaced switch_or_none plain_switch p.brake,
+                (
+                  plain_fixed (codes "driver belt") refl,
+                  plain_switch p.belt,
+                  (plain_fixed (codes "frontal air bag warning lamp") refl, plain_switch p.lamp, tt),
+                ),
+              ),
+            ),
+          ),
+        ),
+      ),
+    ),
+  ),
+)
 
 all_crash : (crash : Option CrashPart) → AllPlain (crash_words crash)
 all_crash None = all_fixed (crash_words None) refl
-all_crash (Some c) =
-    (plain_milliseconds c.end,
-    (plain_spaced signed_decimal plain_signed (take (point_count c.end) c.along),
-    (plain_spaced signed_decimal plain_signed (take (point_count c.end) c.across),
-    (plain_extreme c.max_along,
-    (plain_extreme c.max_across,
-    (plain_milliseconds c.result_at,
-    (plain_missing c.missing_along c.missing_across, all_map firing_words plain_firing c.fired)))))))
+all_crash (Some c) = (
+  plain_milliseconds c.end,
+  (
+    plain_spaced signed_decimal plain_signed (take (point_count c.end) c.along),
+    (
+      plain_spaced signed_decimal plain_signed (take (point_count c.end) c.across),
+      (
+        plain_extreme c.max_along,
+        (
+          plain_extreme c.max_across,
+          (
+            plain_milliseconds c.result_at,
+            (plain_missing c.missing_along c.missing_across, all_map firing_words plain_firing c.fired),
+          ),
+        ),
+      ),
+    ),
+  ),
+)
 
 lines_crash : (block : ℕ) (crash : Option CrashPart) → PlainLines (crash_lines block crash)
 unfolding crash_lines
@@ -194,11 +231,16 @@ lines_event : (n bank : ℕ) (r : Record) → PlainLines (event_lines n bank r)
 unfolding event_lines
 lines_event n bank r =
     let last = line n (codes "complete file recorded") (yes_no (is_complete r)) ∷ [] in
-    let ends : PlainLines last = (plain_fixed (codes "complete file recorded") refl, plain_yes_no (is_complete r), tt) in
-    (plain_fixed (codes "event") refl, plain_decimal n,
-    (plain_fixed (codes "bank") refl, plain_decimal bank,
-    lines_append (pre_lines n r.pre r.locked ++ crash_lines n r.crash) last
-    (lines_append (pre_lines n r.pre r.locked) (crash_lines n r.crash) (lines_pre n r.pre r.locked) (lines_crash n r.crash)) ends))
+    let ends : PlainLines last = (plain_fixed (codes "complete file recorded") refl, plain_yes_no (is_complete r), tt) in (
+      plain_fixed (codes "event") refl,
+      plain_decimal n,
+      (
+        plain_fixed (codes "bank") refl,
+        plain_decimal bank,
+        lines_append (pre_lines n r.pre r.locked ++ crash_lines n r.crash) last
+            (lines_append (pre_lines n r.pre r.locked) (crash_lines n r.crash) (lines_pre n r.pre r.locked) (lines_crash n r.crash)) ends,
+      ),
+    )
 
 -- ---- their rows
 
