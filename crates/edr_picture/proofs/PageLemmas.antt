@@ -5,7 +5,7 @@ use Rattle.edr_device.specs.Told.{Told}
 use Rattle.edr_device.specs.Transfer.{GivesAll}
 use Rattle.edr_picture.specs.declared.faults.Fault.{Fault}
 use Rattle.edr_picture.specs.declared.faults.Fault.TheVariants as fault
-use Rattle.edr_picture.specs.Pages.{HasFault, Input, IsAtEnd, IsCause, IsNoReport, IsWhy, largest_report}
+use Rattle.edr_picture.specs.Pages.{HasFault, Input, IsCause, IsNoReport, IsWhy, largest_report}
 
 given : (P : List ℕ → Type 0) (bytes : List ℕ) (x y : Option (List ℕ)) → Told (GivesAll bytes) x y → P bytes → IfSome x P
 given P bytes None y t p = tt
