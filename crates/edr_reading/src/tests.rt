@@ -156,12 +156,12 @@ fn check_cut<R: Abort + AllocGlobal>(
 
 // The text is cut behind each of its rows, and behind the first comma of the next one.
 fn check_cuts<R: Abort + AllocGlobal>(rt: &R, text: &[u8]) {
-    let mut rows = 0;
+    let mut row = 1u32;
     for (i, byte) in text.iter().enumerate() {
         if *byte == b'\n' && i + 1 < text.len() {
-            rows += 1;
-            check_cut(rt, text, i + 1, rows + 1, RowFault::Unended);
-            check_cut(rt, text, i + 3, rows + 1, RowFault::Fields(2));
+            row = row.saturating_add(1);
+            check_cut(rt, text, i + 1, row, RowFault::Unended);
+            check_cut(rt, text, i + 3, row, RowFault::Fields(2));
         }
     }
 }
