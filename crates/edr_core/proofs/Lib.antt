@@ -4,3 +4,4 @@ pub mod RowLemmas
 pub mod TickLemmas
 pub mod GiveLemmas
 pub mod StepLemmas
+pub mod PartsLaws

@@ -5,3 +5,4 @@ pub mod Contents
 pub mod StandsFor
 pub mod Fields
 pub mod Answers
+pub mod Parts

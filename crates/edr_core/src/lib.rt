@@ -4,6 +4,7 @@
 
 mod candidate;
 mod captures;
+mod parts;
 
 ghost use Rattle.std.specs.Prelude.{◌≡◌, ◌↔◌, ℕ, ◌≤◌, IfOk, IfErr, IsOk, OnOk, OnErr};
 ghost use Rattle.edr_items.specs.SensorLists.{no_items};
@@ -17,6 +18,7 @@ use edr_items::{Item, Sensor};
 use edr_link::Link;
 use edr_merge::{Merge, MergeRefused, Next};
 use edr_record::{Crash, Key, Pre};
+pub use parts::parts_make_the_commands;
 use std::alloc::{AllocError as OutOfMemory, Global};
 use std::marker::Model;
 
