@@ -8,20 +8,21 @@ mod plain;
 mod reading;
 mod steps;
 
-ghost use Rattle.std.specs.Prelude.{◌≡◌, ◌≤◌, ◌<◌, ◌+◌, ◌^◌, ◌++◌, ℕ, List, Some, length, IfOk, IfErr, MatchResult, ◌⊎◌, All};
+ghost use Rattle.std.specs.Prelude.{◌≡◌, ◌≤◌, ◌<◌, ◌+◌, ◌^◌, ◌++◌, ℕ, List, Some, None, length, IfOk, IfErr, IfSome, MatchResult, ◌⊎◌, All};
 ghost use Rattle.edr_spell.specs.Spell.{Spell, IsCycle, largest_trace};
 ghost use Rattle.edr_spell.specs.Fault.{Fault};
 ghost use Rattle.csv.specs.declared.parser.State.TheVariants.{StartRecord};
 ghost use Rattle.edr_trace.specs.Told.{Tells};
 ghost use Rattle.edr_trace.specs.SoFar.{SoFar, unread};
+ghost use Rattle.edr_trace.specs.Plain.{IsTaken, IsRefused};
 
 use csv::{ByteRecord, ReaderBuilder};
 pub use edr_spell::{CycleInput, Row, TraceFault, TraceRefused, Word};
-use plain::plain_row;
+use plain::{across_row, along_row, any_row};
 pub use reading::{LONGEST_ROW, Reading};
 use std::alloc::{AllocError, Global};
 use std::io::Read;
-use steps::{Trace, at_row};
+use steps::{RowRefused, Trace, at_row};
 
 /// The most bytes that a trace may have.
 pub const LARGEST_TRACE: u32 = 67_108_864;
@@ -70,6 +71,46 @@ pub fn read(alloc: Global, bytes: &[u8]) -> Result<Vec<CycleInput>, ReadRefused>
     reading.finish(&bytes[taken..])
 }
 
+// Takes a row, whatever its word is, that stands plainly in front of the bytes, and answers the bytes behind it.
+#[inline(never)]
+fn take_any<'a>(
+    alloc: Global,
+    trace: &mut Trace,
+    bytes: &'a [u8],
+) -> Result<Option<&'a [u8]>, RowRefused>
+    ensures taken { IfOk result (λ o. IfSome o (λ rest. IsTaken trace.old trace.new bytes.now rest.now)) }
+    ensures none { IfOk result (λ o. o ≡ None → trace.new ≡ trace.old) }
+    ensures refused { IfErr result (IsRefused trace.old bytes.now) }
+{
+    let Some((row, behind)) = any_row(bytes) else {
+        return Ok(None);
+    };
+    trace.take_row(alloc, row)?;
+    Ok(Some(behind))
+}
+
+// The same. The two sensors that most rows are of are tried first, each with a code of its own.
+#[inline(always)]
+fn take_next<'a>(
+    alloc: Global,
+    trace: &mut Trace,
+    bytes: &'a [u8],
+) -> Result<Option<&'a [u8]>, RowRefused>
+    ensures taken { IfOk result (λ o. IfSome o (λ rest. IsTaken trace.old trace.new bytes.now rest.now)) }
+    ensures none { IfOk result (λ o. o ≡ None → trace.new ≡ trace.old) }
+    ensures refused { IfErr result (IsRefused trace.old bytes.now) }
+{
+    if let Some((row, behind)) = along_row(bytes) {
+        trace.take_row(alloc, row)?;
+        return Ok(Some(behind));
+    }
+    if let Some((row, behind)) = across_row(bytes) {
+        trace.take_row(alloc, row)?;
+        return Ok(Some(behind));
+    }
+    take_any(alloc, trace, bytes)
+}
+
 // Takes the rows that stand plainly in front of the bytes, and answers the bytes that are left. `rows` counts.
 fn take_plain<'a>(
     alloc: Global,
@@ -85,14 +126,16 @@ fn take_plain<'a>(
     ensures refused { IfErr result (λ e. (whole more : List ℕ) → SoFar whole StartRecord (unread rows.old (bytes.now ++ more)) trace.old.cycles.items trace.old.inside rows.old → Tells whole e) }
 {
     let mut rest = bytes;
-    while let Some((row, behind)) = plain_row(rest) {
-        if let Err(refused) = trace.take_row(alloc, row) {
-            return Err(at_row(*rows + 1, refused));
+    loop {
+        match take_next(alloc, trace, rest) {
+            Ok(Some(behind)) => {
+                *rows += 1;
+                rest = behind;
+            }
+            Ok(None) => return Ok(rest),
+            Err(refused) => return Err(at_row(*rows + 1, refused)),
         }
-        *rows += 1;
-        rest = behind;
     }
-    Ok(rest)
 }
 
 // Takes the records of a source one after the other, where so many rows were taken before.
