@@ -167,7 +167,6 @@ fn a_tray_gives_one_by_one(rt: HostRuntime) -> Result<(), Fail> {
         assert_eq!(rt; tray.take_upto(150), Some(Item { moment, value }));
     }
     assert_eq!(rt; tray.take_upto(150), None);
-    tray.beside(&mut seat);
     for moment in 151..=200u32 {
         let value = Some(1);
         assert_eq!(rt; tray.take_upto(200), Some(Item { moment, value }));
