@@ -12,6 +12,7 @@ mod stand;
 #[cfg(test)]
 mod tests;
 mod threads;
+mod tray;
 
 pub use crate::desk::Desk;
 pub use crate::held::Held;
@@ -22,3 +23,4 @@ pub use crate::orders::{Inbox, Order, Orders, Outbox, make_orders};
 pub use crate::place::{Gate, Offered, Place};
 pub use crate::stand::{Places, Stand};
 pub use crate::threads::{Recording, Serving, start_recorder, start_worker};
+pub use crate::tray::Tray;

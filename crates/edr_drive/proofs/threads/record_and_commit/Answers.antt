@@ -1,3 +1,5 @@
+use Rattle.std.proofs.Common.{arith, refl}
+use Rattle.edr_device.proofs.Lending.{tells_self}
 use Rattle.edr_loops.specs.Orders.{orders_taken}
 use Rattle.edr_drive.proofs.Taken.{none-committed}
 use Rattle.edr_drive.proofs.threads.record_and_commit.Goals as goal
@@ -6,3 +8,11 @@ pub returns-in-Err-clause-commits : goal.returns-in-Err-clause-commits
 returns-in-Err-clause-commits g c =
     let N = g.N.Nvm in
     none-committed N.content N.settled N.since N.clock N.last_good (orders_taken c.args.inbox.now) c.args.banks.now c.args.log.now c.args.nvm.now c.requires.fresh
+
+pub returns-in-Err-clause-lent : goal.returns-in-Err-clause-lent
+returns-in-Err-clause-lent g c = record {
+  size = refl;
+  device = g.met.N.Nvm.goes_on_self c.args.nvm.now;
+  tells = tells_self (g.N.Nvm.content c.args.nvm.now);
+  cause = record { later = omega arith; failed = tt };
+}

@@ -1,0 +1,14 @@
+-- What a contract sees of a tray.
+use Rattle.std.specs.Prelude.{◌-◌, List}
+use Rattle.edr_items.specs.declared.Item.{Item}
+use Rattle.edr_seats.specs.Inlet.{SameInlet, items_taken}
+use Rattle.edr_loops.specs.Slices.{but_last}
+use Rattle.edr_loops.specs.declared.tray.Tray.{Tray}
+
+-- the items that were taken, oldest first: what came out of the ring, but for what lies in the tray
+abbrev pub taken_of : Tray → List Item
+taken_of t = but_last (t.end - t.next) (items_taken t.inlet)
+
+-- the tray of the same ring
+abbrev pub SameTray : Tray → Tray → Type 0
+SameTray a b = SameInlet a.inlet b.inlet

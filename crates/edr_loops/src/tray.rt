@@ -1,0 +1,90 @@
+//! The recorder's end of a sensor's ring, with a tray for the items that come out of it together.
+
+ghost use Rattle.std.specs.Prelude.{◌≡◌, ◌-◌, ◌≤◌, ◌++◌};
+ghost use Rattle.edr_seats.specs.Inlet.{items_taken};
+ghost use Rattle.edr_loops.specs.Slices.{between, but_last};
+
+use edr_items::Item;
+use edr_seats::{Inlet, Seat};
+
+/// How many items a tray holds.
+pub const PLACES: usize = 64;
+
+/// An inlet, and the items that came out of the ring and that the recorder hasn't taken yet.
+///
+/// Each store into a ring's words costs as much as many items do, and takes them away from the sensor's thread. So items come out of
+/// the ring as many at a time as a tray holds, and the recorder takes them from there.
+#[derive(Drop)]
+pub struct Tray {
+    pub inlet: Inlet,
+    // Those from `next` up to `end` lie in the tray.
+    items: [Item; PLACES],
+    next: usize,
+    end: usize,
+    ghost within: { (next ≤ end) × (end ≤ 64) },
+    ghost lie: { items_taken inlet ≡ but_last (end - next) (items_taken inlet) ++ between next end items },
+}
+
+impl Tray {
+    ghost use Rattle.std.specs.Prelude.{[], ◌∷◌, MatchOption};
+    ghost use Rattle.edr_definitions.specs.Schedule.{BeginsWith};
+    ghost use Rattle.edr_seats.specs.Inlet.{AreOfOneRing};
+    ghost use Rattle.edr_seats.specs.Seat.{items_sent};
+    ghost use Rattle.edr_loops.specs.Trays.{SameTray, taken_of};
+
+    /// A tray in which nothing lies.
+    pub fn new(inlet: Inlet) -> Tray
+        ensures inlet { result.inlet ≡ inlet }
+        ensures taken { taken_of result ≡ items_taken inlet }
+    {
+        let empty = Item {
+            moment: 0,
+            value: None,
+        };
+        Tray {
+            inlet,
+            items: [empty; PLACES],
+            next: 0,
+            end: 0,
+        }
+    }
+
+    // Fills the empty tray with what there is in the ring.
+    fn fill(&mut self)
+        requires { self.old.next ≡ self.old.end }
+        ensures ring { SameTray self.old self.new }
+        ensures taken { taken_of self.new ≡ taken_of self.old }
+    {
+        self.end = self.inlet.take_some(&mut self.items);
+        self.next = 0;
+    }
+
+    /// Takes the next item, if there is one and its moment is not past `upto`.
+    #[inline(always)]
+    #[tactic(auto, using(crate::proofs::TrayLemmas::next_taken, crate::proofs::TrayLemmas::next_lie))]
+    pub fn take_upto(&mut self, upto: u32) -> Option<Item>
+        ensures ring { SameTray self.old self.new }
+        ensures taken { MatchOption result (taken_of self.new ≡ taken_of self.old) (λ item. (taken_of self.new ≡ taken_of self.old ++ item ∷ []) × (item.moment ≤ upto)) }
+    {
+        if self.next == self.end {
+            self.fill();
+        }
+        if self.next == self.end || upto < self.items[self.next].moment {
+            return None;
+        }
+        let item = self.items[self.next];
+        self.next += 1;
+        Some(item)
+    }
+
+    /// Looks at both ends of the ring, where they are in one thread again: what was taken is a beginning of what was sent.
+    pub fn beside(&mut self, seat: &mut Seat)
+        requires { AreOfOneRing seat.old self.old.inlet }
+        ensures ring { SameTray self.old self.new }
+        ensures taken { taken_of self.new ≡ taken_of self.old }
+        ensures sent { items_sent seat.new ≡ items_sent seat.old }
+        ensures begins { BeginsWith (items_sent seat.new) (taken_of self.new) }
+    {
+        self.inlet.beside(seat);
+    }
+}
