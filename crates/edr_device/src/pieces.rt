@@ -3,15 +3,16 @@ ghost use Rattle.std.specs.Prelude.{◌≡◌, ◌+◌, ◌-◌, ◌≤◌, [], 
 ghost use Rattle.edr_device.specs.Device.{Elapses, IsQuiet, MayLeave};
 ghost use Rattle.edr_device.specs.Lent.{Lent};
 ghost use Rattle.edr_device.specs.Pieces.{IsGatedStop, SameBut, Makes, put_at};
+ghost use Rattle.edr_device.specs.declared.device.TheConstants.{LONGEST_WRITE};
 
 use crate::device::Nvm;
 use crate::stream::Failed;
 
-/// Writes a piece of 1 to 512 bytes from `at` on, and settles it: two changing calls. Its clauses about bytes are for a
+/// Writes a piece of 1 to [`LONGEST_WRITE`] bytes from `at` on, and settles it: two changing calls. Its clauses about bytes are for a
 /// device that tells them and on which nothing is pending.
 pub fn write_settled<N: Nvm>(nvm: &mut N, at: u32, piece: &[u8]) -> Result<(), Failed>
     requires range { at + length piece.now ≤ N.extent nvm.old }
-    requires few { (1 ≤ length piece.now) × (length piece.now ≤ 512) }
+    requires few { (1 ≤ length piece.now) × (length piece.now ≤ LONGEST_WRITE) }
     ensures lent { Lent N.Nvm nvm.old nvm.new result }
     ensures time { Makes 2 (N.clock nvm.old) (N.clock nvm.new) (N.last_good nvm.old) (N.last_good nvm.new) result }
     ensures done { OnOk result (
@@ -33,7 +34,7 @@ pub fn write_settled<N: Nvm>(nvm: &mut N, at: u32, piece: &[u8]) -> Result<(), F
     Ok(())
 }
 
-/// Writes a piece of 1 to 512 bytes and settles it, and then writes a gate byte and settles it: four changing calls. Its
+/// Writes a piece of 1 to [`LONGEST_WRITE`] bytes and settles it, and then writes a gate byte and settles it: four changing calls. Its
 /// clauses about bytes are for a device that tells them and on which nothing is pending.
 pub fn write_gated<N: Nvm>(
     nvm: &mut N,
@@ -43,7 +44,7 @@ pub fn write_gated<N: Nvm>(
     gate: u8,
 ) -> Result<(), Failed>
     requires range { at + length piece.now ≤ N.extent nvm.old }
-    requires few { (1 ≤ length piece.now) × (length piece.now ≤ 512) }
+    requires few { (1 ≤ length piece.now) × (length piece.now ≤ LONGEST_WRITE) }
     requires gate { gate_at + 1 ≤ N.extent nvm.old }
     ensures lent { Lent N.Nvm nvm.old nvm.new result }
     ensures time { Makes 4 (N.clock nvm.old) (N.clock nvm.new) (N.last_good nvm.old) (N.last_good nvm.new) result }
