@@ -4,36 +4,15 @@ ghost use Rattle.edr_device.specs.Device.{Elapses, IsQuiet};
 ghost use Rattle.edr_device.specs.Faults.{Rose};
 ghost use Rattle.edr_device.specs.Lent.{GoesOn, Lent};
 ghost use Rattle.edr_device.specs.Pieces.{SameBut};
-ghost use Rattle.edr_image.specs.Image.{choice_byte, image_size, new_image, not_magic};
+ghost use Rattle.edr_image.specs.declared.places.TheConstants.{FEWEST_BANKS, MOST_BANKS};
+ghost use Rattle.edr_image.specs.Image.{image_size, not_magic};
 ghost use Rattle.edr_image.specs.Kept.{IsKept};
 ghost use Rattle.edr_banks.specs.Formatting.{IsBare, IsFilled, IsLeft, IsNew, IsPartlyFormatted, LacksMagic, IsUnmarked, IsUnmarking, Laid, formatted};
 ghost use Rattle.edr_banks.specs.declared.FormatFault.TheVariants.{Short, Formatted, StoreFault};
 
-use crate::{Banks, Choice, FormatFault, Header, image_size};
+use crate::{Banks, Choice, FormatFault, Header};
 use edr_device::{Failed, Nvm, write_settled};
-use edr_layout::{MAGIC, place_of};
-
-fn choice_byte(choice: Choice) -> u8
-    ensures { result ≡ choice_byte choice }
-{
-    match choice {
-        Choice::Keep => 0,
-        Choice::Overwrite => 1,
-    }
-}
-
-// What stands before the banks.
-#[tactic(auto, using(crate::proofs::NewImage::first_bytes_are))]
-fn first_bytes(header: Header) -> [u8; 96]
-    ensures { result ≡ take 96 (new_image header) }
-{
-    let mut bytes = [0; 96];
-    bytes[..8].copy_from_slice(&MAGIC);
-    bytes[9] = 1;
-    bytes[10] = header.banks;
-    bytes[11] = choice_byte(header.choice);
-    bytes
-}
+use edr_layout::{BANK_SIZE, MAGIC, image_size, new_front, not_magic, place_of};
 
 // Puts another byte over the first of the magic.
 fn unmark<N: Nvm>(nvm: &mut N, first: u8) -> Result<(), Failed>
@@ -54,7 +33,7 @@ fn unmark<N: Nvm>(nvm: &mut N, first: u8) -> Result<(), Failed>
 
 // Writes the image but its first byte, and settles nothing.
 fn lay_image<N: Nvm>(nvm: &mut N, header: Header) -> Result<(), Failed>
-    requires few { header.banks ≤ 16 }
+    requires few { header.banks ≤ MOST_BANKS }
     requires room { image_size header.banks ≤ N.extent nvm.old }
     ensures lent { Lent N.Nvm nvm.old nvm.new result }
     ensures later { N.clock nvm.old ≤ N.clock nvm.new }
@@ -64,17 +43,17 @@ fn lay_image<N: Nvm>(nvm: &mut N, header: Header) -> Result<(), Failed>
     ensures any_moment { (bytes : List ℕ) → IsBare (N.content nvm.old) (N.settled nvm.old) bytes
         → Elapses (N.clock nvm.old) (N.since nvm.old) (N.since nvm.new) (IsUnmarked header bytes) }
 {
-    let first = first_bytes(header);
-    nvm.write(1, &first[1..])?;
+    let front = new_front(header);
+    nvm.write(1, &front[1..])?;
     for bank in 0..header.banks {
-        nvm.write(place_of(bank + 1), &[0; 512])?;
+        nvm.write(place_of(bank + 1), &[0; BANK_SIZE])?;
     }
     Ok(())
 }
 
 // Writes the image but its first byte, and settles it.
 fn fill_image<N: Nvm>(nvm: &mut N, header: Header) -> Result<(), Failed>
-    requires few { header.banks ≤ 16 }
+    requires few { header.banks ≤ MOST_BANKS }
     requires room { image_size header.banks ≤ N.extent nvm.old }
     ensures lent { Lent N.Nvm nvm.old nvm.new result }
     ensures later { N.clock nvm.old ≤ N.clock nvm.new }
@@ -90,8 +69,8 @@ fn fill_image<N: Nvm>(nvm: &mut N, header: Header) -> Result<(), Failed>
 
 // Writes the image, its first byte last.
 fn put_image<N: Nvm>(nvm: &mut N, header: Header) -> Result<(), Failed>
-    requires from { 2 ≤ header.banks }
-    requires to { header.banks ≤ 16 }
+    requires from { FEWEST_BANKS ≤ header.banks }
+    requires to { header.banks ≤ MOST_BANKS }
     requires room { image_size header.banks ≤ N.extent nvm.old }
     ensures lent { Lent N.Nvm nvm.old nvm.new result }
     ensures later { N.clock nvm.old ≤ N.clock nvm.new }
@@ -107,8 +86,8 @@ fn put_image<N: Nvm>(nvm: &mut N, header: Header) -> Result<(), Failed>
 
 // Formats a device whose first byte is this one.
 fn write_image<N: Nvm>(nvm: &mut N, first: u8, header: Header) -> Result<(), Failed>
-    requires from { 2 ≤ header.banks }
-    requires to { header.banks ≤ 16 }
+    requires from { FEWEST_BANKS ≤ header.banks }
+    requires to { header.banks ≤ MOST_BANKS }
     requires room { image_size header.banks ≤ N.extent nvm.old }
     ensures lent { Lent N.Nvm nvm.old nvm.new result }
     ensures later { N.clock nvm.old ≤ N.clock nvm.new }
@@ -122,21 +101,14 @@ fn write_image<N: Nvm>(nvm: &mut N, first: u8, header: Header) -> Result<(), Fai
     put_image(nvm, header)
 }
 
-// The first place at which the magic doesn't stand.
-fn not_magic(first: &[u8; 8]) -> Option<usize>
-    ensures { result ≡ not_magic first.now }
-{
-    (0..8).find(|k| first[*k] != MAGIC[*k])
-}
-
 impl Banks {
     /// Makes an image with so many void banks, 2 to 16, and the count 0. What the device has past it stays, and a device
     /// that has an image already stays as it is.
     ///
     /// A crash inside the call leaves the bytes as they were, or without the magic, or the new image.
     pub fn format<N: Nvm>(nvm: &mut N, banks: u8, choice: Choice) -> Result<(), FormatFault>
-        requires from { 2 ≤ banks }
-        requires to { banks ≤ 16 }
+        requires from { FEWEST_BANKS ≤ banks }
+        requires to { banks ≤ MOST_BANKS }
         ensures lent { GoesOn N.Nvm nvm.old nvm.new }
         ensures later { N.clock nvm.old ≤ N.clock nvm.new }
         // Each refusal with its cause.
@@ -174,7 +146,7 @@ impl Banks {
         if size < needed {
             return Err(FormatFault::Short { size, needed });
         }
-        let mut first = [0; 8];
+        let mut first = [0; MAGIC.len()];
         if nvm.read(0, &mut first).is_err() {
             return Err(FormatFault::StoreFault);
         }

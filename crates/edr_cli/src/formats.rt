@@ -3,6 +3,7 @@ ghost use Rattle.std.specs.Prelude.{◌≡◌, ◌≤◌, ℕ, List, IfSome, IfO
 ghost use Rattle.edr_device.specs.Device.{IsQuiet, MayLeave};
 ghost use Rattle.edr_device.specs.Faults.{Rose};
 ghost use Rattle.edr_device.specs.Lent.{GoesOn};
+ghost use Rattle.edr_image.specs.declared.places.TheConstants.{FEWEST_BANKS, MOST_BANKS};
 ghost use Rattle.edr_image.specs.Image.{image_size};
 ghost use Rattle.edr_banks.specs.Formatting.{IsPartlyFormatted, LacksMagic};
 ghost use Rattle.edr_report.specs.Format.{format_line};
@@ -15,8 +16,8 @@ use edr_report::{Fault, ShortLine, format_line};
 
 /// Makes a new image, and the line that tells of it. The line is built before the device is touched.
 pub(crate) fn make_image<N: Nvm>(nvm: &mut N, header: Header) -> Result<ShortLine, Fault>
-    requires from { 2 ≤ header.banks }
-    requires to { header.banks ≤ 16 }
+    requires from { FEWEST_BANKS ≤ header.banks }
+    requires to { header.banks ≤ MOST_BANKS }
     ensures lent { GoesOn N.Nvm nvm.old nvm.new }
     ensures later { N.faults nvm.old ≤ N.faults nvm.new }
     ensures line { IfOk result (λ line. line ≡ format_line header) }

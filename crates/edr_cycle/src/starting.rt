@@ -6,6 +6,7 @@ ghost use Rattle.edr_device.specs.Faults.{Rose};
 ghost use Rattle.edr_device.specs.Lent.{GoesOn, OnlyRead};
 ghost use Rattle.edr_image.specs.declared.OpenFault.{OpenFault};
 ghost use Rattle.edr_image.specs.declared.OpenFault.TheVariants.{Short};
+ghost use Rattle.edr_image.specs.declared.places.TheConstants.{FRONT_SIZE};
 ghost use Rattle.edr_image.specs.Image.{View, image_refusal, image_size, view_of};
 ghost use Rattle.edr_banks.specs.Opening.{IsRefusal};
 ghost use Rattle.edr_run.specs.Cycle.{last_count};
@@ -38,7 +39,7 @@ fn prepare<N: Nvm>(alloc: Global, nvm: &mut N, ticks: u32) -> Result<Started, St
     ensures number { IfOk result (λ s. (1 ≤ s.number) × (s.number ≤ last_count)) }
     ensures fits { IfOk result (λ s. image_size s.banks.store.header.banks ≤ N.extent nvm.old) }
     ensures refused { IfErr result (λ e. (o : OpenFault) → e ≡ Open o → IsRefusal o → (bytes : List ℕ) → N.content nvm.old ≡ Some bytes → image_refusal bytes ≡ Some o) }
-    ensures short { N.extent nvm.old < 96 → result ≡ Err (Open (Short (N.extent nvm.old) 96)) }
+    ensures short { N.extent nvm.old < FRONT_SIZE → result ≡ Err (Open (Short (N.extent nvm.old) FRONT_SIZE)) }
     ensures sizes { IfErr result (λ e. (size needed : ℕ) → e ≡ Open (Short size needed) → (size ≡ N.extent nvm.old) × (size < needed)) }
     ensures spent { IfErr result (λ e. IsOpened e → (bytes : List ℕ) → N.content nvm.old ≡ Some bytes → (v : View) × (view_of bytes ≡ Some v) × (v.count ≤ last_count) × ((e ≡ Spent) ↔ (v.count ≡ last_count))) }
     ensures early { IfErr result IsEarly }
@@ -82,7 +83,7 @@ pub fn start<N: Nvm>(alloc: Global, nvm: &mut N, ticks: u32) -> Result<Started, 
         → (now : List ℕ) × IsFound (record { store = s.banks.store; count = s.number }) (N.content nvm.new) (N.settled nvm.new) now × SaysWith (v.count + 1) bytes v now) }
     // The cause of each answer: what refuses the image, a count at its greatest number, a fault of the device.
     ensures refused { IfErr result (λ e. (o : OpenFault) → e ≡ Open o → IsRefusal o → (bytes : List ℕ) → N.content nvm.old ≡ Some bytes → image_refusal bytes ≡ Some o) }
-    ensures short { N.extent nvm.old < 96 → result ≡ Err (Open (Short (N.extent nvm.old) 96)) }
+    ensures short { N.extent nvm.old < FRONT_SIZE → result ≡ Err (Open (Short (N.extent nvm.old) FRONT_SIZE)) }
     ensures sizes { IfErr result (λ e. (size needed : ℕ) → e ≡ Open (Short size needed) → (size ≡ N.extent nvm.old) × (size < needed)) }
     ensures spent { IfErr result (λ e. IsOpened e → (bytes : List ℕ) → N.content nvm.old ≡ Some bytes → (v : View) × (view_of bytes ≡ Some v) × (v.count ≤ last_count) × ((e ≡ Spent) ↔ (v.count ≡ last_count))) }
     ensures fault { IfErr result (λ e. IsStoreFault e → Rose (N.faults nvm.old) (N.faults nvm.new)) }

@@ -7,6 +7,7 @@ use Rattle.edr_device.specs.Pieces.{Makes}
 use Rattle.edr_device.specs.declared.device.Nvm.{Ghosts}
 use Rattle.edr_image.specs.declared.BankView.{BankView}
 use Rattle.edr_image.specs.declared.BankView.TheVariants.{Void, Event}
+use Rattle.edr_image.specs.declared.places.TheConstants.{BANK_SIZE}
 use Rattle.edr_image.specs.Steps.{Step, Erase, Fill, Lock, Done, after, banks_after}
 use Rattle.edr_image.specs.Calls.{all_calls, stops}
 use Rattle.edr_image.specs.Image.{View, image_after, place_of, view_of, writes_of}
@@ -47,7 +48,7 @@ bank_of (Done m crash) = m
 -- the offset lies in no bank in which one of the steps is taken
 abbrev pub IsAside : List Step → ℕ → Type 0
 IsAside [] i = Unit {0}
-IsAside (s ∷ steps) i = (is_in (place_of (bank_of s)) 512 i ≡ false) × IsAside steps i
+IsAside (s ∷ steps) i = (is_in (place_of (bank_of s)) BANK_SIZE i ≡ false) × IsAside steps i
 
 -- the offset lies in no write of the steps
 abbrev pub IsUnwritten : List Step → ℕ → Type 0
