@@ -28,7 +28,6 @@ use crate::generates::write_trace;
 use crate::images::report;
 use crate::replays::replay_source;
 use crate::status::Status;
-use edr_banks::Header;
 use edr_device::{Nvm, Sink, Source};
 use edr_large::large_lines;
 use edr_report::Fault;
@@ -182,7 +181,7 @@ pub fn command<S: Source, K: Sink, N: Nvm>(
             Ok(text) => write(sink, &text, Status::Ok),
             Err(fault) => tell(sink, fault),
         },
-        Some(Job::Format { banks, choice }) => match make_image(nvm, Header { banks, choice }) {
+        Some(Job::Format { header }) => match make_image(nvm, header) {
             Ok(line) => write(sink, line.as_bytes(), Status::Ok),
             Err(fault) => tell(sink, fault),
         },

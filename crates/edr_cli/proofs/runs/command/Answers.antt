@@ -125,7 +125,7 @@ returns-in-Ok-make_image-clause-format g c = λ h asked ok.
     let D = g.N.Nvm in
     let old = memory D c.args.nvm.now in
     let new = memory D c.make_image.new.nvm in
-    let is : AreFormat (record { banks = c.in-Some-Format.banks; choice = c.in-Some-Format.choice }) c.args.words.now = search rules in
+    let is : AreFormat c.in-Some-Format.header c.args.words.now = search rules in
     let same = same_header c.args.words.now _ h is asked in
     tells_whole (λ text. FormatIs h old new text) _ c.in-Ok-make_image.line c.as_bytes.result.now c.write-in-Ok-make_image.result (K.content c.args.sink.now) (K.content c.write-in-Ok-make_image.new.sink)
     (subst (λ (k : Header). FormatIs k old new c.in-Ok-make_image.line) same (c.in-Ok-make_image.ensures.made, c.in-Ok-make_image.ensures.line)) c.as_bytes.ensures c.write-in-Ok-make_image.ensures.whole ok
@@ -136,19 +136,19 @@ returns-in-Ok-make_image-clause-format_part g c = λ h asked failed.
     let D = g.N.Nvm in
     let old = memory D c.args.nvm.now in
     let new = memory D c.make_image.new.nvm in
-    let is : AreFormat (record { banks = c.in-Some-Format.banks; choice = c.in-Some-Format.choice }) c.args.words.now = search rules in
+    let is : AreFormat c.in-Some-Format.header c.args.words.now = search rules in
     let same = same_header c.args.words.now _ h is asked in
     tells_part (λ text. FormatIs h old new text) (λ f. IsFormatCause h old new f) _ c.in-Ok-make_image.line c.as_bytes.result.now c.write-in-Ok-make_image.result (K.content c.args.sink.now) (K.content c.write-in-Ok-make_image.new.sink)
     (subst (λ (k : Header). FormatIs k old new c.in-Ok-make_image.line) same (c.in-Ok-make_image.ensures.made, c.in-Ok-make_image.ensures.line)) c.as_bytes.ensures c.write-in-Ok-make_image.ensures.part failed
 
 pub returns-in-Ok-make_image-clause-format_crash : goal.returns-in-Ok-make_image-clause-format_crash
 returns-in-Ok-make_image-clause-format_crash g c = λ h bytes image asked quiet left.
-    let is : AreFormat (record { banks = c.in-Some-Format.banks; choice = c.in-Some-Format.choice }) c.args.words.now = search rules in
+    let is : AreFormat c.in-Some-Format.header c.args.words.now = search rules in
     subst (λ (k : Header). IsPartlyFormatted k bytes image) (same_header c.args.words.now _ h is asked) (c.make_image.ensures.crash bytes image quiet left)
 
 pub returns-in-Err-make_image-clause-format_crash : goal.returns-in-Err-make_image-clause-format_crash
 returns-in-Err-make_image-clause-format_crash g c = λ h bytes image asked quiet left.
-    let is : AreFormat (record { banks = c.in-Some-Format.banks; choice = c.in-Some-Format.choice }) c.args.words.now = search rules in
+    let is : AreFormat c.in-Some-Format.header c.args.words.now = search rules in
     subst (λ (k : Header). IsPartlyFormatted k bytes image) (same_header c.args.words.now _ h is asked) (c.make_image.ensures.crash bytes image quiet left)
 
 -- ---- other words
