@@ -1,25 +1,22 @@
 //! The top call.
-ghost use Rattle.std.specs.Prelude.{◌≡◌, ◌≢◌, ◌≤◌, ◌⊎◌, ◌+◌, ℕ, List, Some, None, IfSome, length};
+ghost use Rattle.std.specs.Prelude.{◌≡◌, ◌≢◌, ◌≤◌, ◌⊎◌, ◌+◌, ℕ, List, Some, None, IfSome};
 ghost use Rattle.edr_device.specs.Device.{IsQuiet, MayLeave};
 ghost use Rattle.edr_device.specs.Faults.{Rose};
-ghost use Rattle.edr_device.specs.Lent.{GoesOn};
+ghost use Rattle.edr_device.specs.Lent.{At, Between, GoesOn};
 ghost use Rattle.edr_device.specs.Told.{Told};
 ghost use Rattle.edr_device.specs.Transfer.{GivesAtMost};
 ghost use Rattle.edr_image.specs.declared.Header.{Header};
-ghost use Rattle.edr_image.specs.Banks.{Store};
 ghost use Rattle.edr_image.specs.Image.{image_refusal, image_size};
 ghost use Rattle.edr_banks.specs.Formatting.{IsPartlyFormatted, LacksMagic};
-ghost use Rattle.edr_spell.specs.Spell.{Spell, largest_trace};
-ghost use Rattle.edr_spell.specs.declared.CycleInput.{CycleInput};
-ghost use Rattle.edr_run.specs.Cycle.{last_count};
+ghost use Rattle.edr_spell.specs.Spell.{largest_trace};
 ghost use Rattle.edr_replay.specs.Past.{LeavesPast};
 ghost use Rattle.edr_gen.specs.Traces.{generated_trace};
 ghost use Rattle.edr_large.specs.Large.{IsTold};
 ghost use Rattle.edr_words.specs.declared.Form.{Form};
-ghost use Rattle.edr_cli.specs.Endings.{IsNumberCause, IsUsageCause, Tells, TellsFault, TellsFaultPart, TellsPart};
-ghost use Rattle.edr_cli.specs.Outside.{IsAtEnd, input, memory};
-ghost use Rattle.edr_cli.specs.Reports.{FormatIs, HasMagic, IsFormatCause, IsImageCause, ReportIs, Says};
-ghost use Rattle.edr_cli.specs.Runs.{IsReplayCause, RunIs};
+ghost use Rattle.edr_cli.specs.Endings.{ElseTellsFault, FaultTellsPart, IsNumberCause, IsServed, IsUsageCause, OkTells, TellsFault, TellsFaultPart};
+ghost use Rattle.edr_cli.specs.Outside.{IsAtEnd, NoFault, OfBoth, OfMemory, OfRun, input, memory};
+ghost use Rattle.edr_cli.specs.Reports.{FormatIs, HasMagic, IsFormatCause, IsImageCause, ReportIs};
+ghost use Rattle.edr_cli.specs.Runs.{CanRun, IsReplayCause, RunIs};
 ghost use Rattle.edr_cli.specs.Words.{AreFormat, AreGenerate, AreLarge, AreOther, AreReplay, AreReport};
 
 use crate::endings::{tell, write};
@@ -69,104 +66,84 @@ pub fn command<S: Source, K: Sink, N: Nvm>(
     // source spelled, from what the device told at first to what it holds, with nothing pending. What holds of each run
     // stands with it: each record is from its own window and cycle, and no locked event is lost.
     ensures input { (form : Form) → AreReplay form words.now → result ≡ Status.Ok → IsAtEnd (S.left source.new) }
-    ensures run { (form : Form) → AreReplay form words.now → result ≡ Status.Ok
-        → Tells
-        (RunIs form (input S.Source source.old) (memory N.Nvm nvm.old) (memory N.Nvm nvm.new))
-        (K.content sink.old) (K.content sink.new) }
+    ensures run { (form : Form) → AreReplay form words.now → OkTells K.Sink
+        (OfRun S.Source N.Nvm (RunIs form) source.old nvm.old nvm.new) result sink.old sink.new }
     // With another status the sink gained exactly the line of a fault that has its cause; and where a write failed, a part
     // of the report or of such a line.
-    ensures other { (form : Form) → AreReplay form words.now → result ≢ Status.Ok → result ≢ Status.WriteFault
-        → TellsFault
-        (IsReplayCause (input S.Source source.old) (input S.Source source.new)
-        (memory N.Nvm nvm.old) (memory N.Nvm nvm.new))
-        result (K.content sink.old) (K.content sink.new) }
-    ensures part { (form : Form) → AreReplay form words.now → result ≡ Status.WriteFault
-        → TellsPart
-        (RunIs form (input S.Source source.old) (memory N.Nvm nvm.old) (memory N.Nvm nvm.new))
-        (IsReplayCause (input S.Source source.old) (input S.Source source.new)
-        (memory N.Nvm nvm.old) (memory N.Nvm nvm.new))
-        (K.content sink.old) (K.content sink.new) }
+    ensures other { (form : Form) → AreReplay form words.now → ElseTellsFault K.Sink
+        (OfBoth S.Source N.Nvm IsReplayCause source.old source.new nvm.old nvm.new) result sink.old sink.new }
+    ensures part { (form : Form) → AreReplay form words.now → FaultTellsPart K.Sink
+        (OfRun S.Source N.Nvm (RunIs form) source.old nvm.old nvm.new)
+        (OfBoth S.Source N.Nvm IsReplayCause source.old source.new nvm.old nvm.new) result sink.old sink.new }
     // Whatever the status, what stands past the image stays.
     ensures past { (form : Form) → AreReplay form words.now
-        → LeavesPast (N.content nvm.old) (N.settled nvm.old) (N.content nvm.new) (N.settled nvm.new) }
+        → Between N.Nvm LeavesPast nvm.old nvm.new }
     // Where nothing counts a fault, a trace is run over an image that isn't refused and has numbers left.
-    ensures complete { (form : Form) (bytes image : List ℕ) (cycles : List CycleInput) (v : Store) (n : ℕ) → AreReplay form words.now
-        → S.left source.old ≡ Some bytes → length bytes ≤ largest_trace → Spell bytes cycles
-        → N.content nvm.old ≡ Some image → Says image v n → n + length cycles ≤ last_count
-        → ¬ Rose (S.faults source.old) (S.faults source.new) → ¬ Rose (N.faults nvm.old) (N.faults nvm.new) → ¬ Rose (K.faults sink.old) (K.faults sink.new)
-        → (result ≡ Status.Ok) ⊎ (result ≡ Status.OutOfMemory) }
+    ensures complete { (form : Form) → AreReplay form words.now → CanRun (input S.Source source.old) (memory N.Nvm nvm.old)
+        → NoFault S.faults source.old source.new → NoFault N.faults nvm.old nvm.new → NoFault K.faults sink.old sink.new
+        → IsServed result }
 
     // `report`. The same of what the device holds: nothing is read, and its bytes stay.
-    ensures report { (form : Form) → AreReport form words.now → result ≡ Status.Ok
-        → Tells
-        (ReportIs form (memory N.Nvm nvm.old) (memory N.Nvm nvm.new))
-        (K.content sink.old) (K.content sink.new) }
-    ensures report_other { (form : Form) → AreReport form words.now → result ≢ Status.Ok → result ≢ Status.WriteFault
-        → TellsFault
-        (IsImageCause (memory N.Nvm nvm.old) (memory N.Nvm nvm.new))
-        result (K.content sink.old) (K.content sink.new) }
-    ensures report_part { (form : Form) → AreReport form words.now → result ≡ Status.WriteFault
-        → TellsPart
-        (ReportIs form (memory N.Nvm nvm.old) (memory N.Nvm nvm.new))
-        (IsImageCause (memory N.Nvm nvm.old) (memory N.Nvm nvm.new))
-        (K.content sink.old) (K.content sink.new) }
+    ensures report { (form : Form) → AreReport form words.now → OkTells K.Sink
+        (OfMemory N.Nvm (ReportIs form) nvm.old nvm.new) result sink.old sink.new }
+    ensures report_other { (form : Form) → AreReport form words.now → ElseTellsFault K.Sink
+        (OfMemory N.Nvm IsImageCause nvm.old nvm.new) result sink.old sink.new }
+    ensures report_part { (form : Form) → AreReport form words.now → FaultTellsPart K.Sink
+        (OfMemory N.Nvm (ReportIs form) nvm.old nvm.new)
+        (OfMemory N.Nvm IsImageCause nvm.old nvm.new) result sink.old sink.new }
     ensures report_reads { (form : Form) → AreReport form words.now → source.new ≡ source.old }
     // Where nothing was pending, a crash at the end leaves the bytes as they were, whatever the status.
-    ensures report_stays { (form : Form) (bytes image : List ℕ) → AreReport form words.now → IsQuiet (N.content nvm.old) (N.settled nvm.old) bytes
-        → MayLeave (N.content nvm.new) (N.settled nvm.new) image → image ≡ bytes }
+    ensures report_stays { (form : Form) (bytes image : List ℕ) → AreReport form words.now → At N.Nvm IsQuiet nvm.old bytes
+        → At N.Nvm MayLeave nvm.new image → image ≡ bytes }
     ensures report_complete { (form : Form) (image : List ℕ) → AreReport form words.now → N.content nvm.old ≡ Some image → image_refusal image ≡ None
-        → ¬ Rose (N.faults nvm.old) (N.faults nvm.new) → ¬ Rose (K.faults sink.old) (K.faults sink.new)
-        → (result ≡ Status.Ok) ⊎ (result ≡ Status.OutOfMemory) }
+        → NoFault N.faults nvm.old nvm.new → NoFault K.faults sink.old sink.new
+        → IsServed result }
 
     // `format`. The same of its line: with Ok the device had no image and holds the new one, and a refusal leaves its bytes.
-    ensures format { (h : Header) → AreFormat h words.now → result ≡ Status.Ok
-        → Tells
-        (FormatIs h (memory N.Nvm nvm.old) (memory N.Nvm nvm.new))
-        (K.content sink.old) (K.content sink.new) }
-    ensures format_other { (h : Header) → AreFormat h words.now → result ≢ Status.Ok → result ≢ Status.WriteFault
-        → TellsFault
-        (IsFormatCause h (memory N.Nvm nvm.old) (memory N.Nvm nvm.new))
-        result (K.content sink.old) (K.content sink.new) }
-    ensures format_part { (h : Header) → AreFormat h words.now → result ≡ Status.WriteFault
-        → TellsPart
-        (FormatIs h (memory N.Nvm nvm.old) (memory N.Nvm nvm.new))
-        (IsFormatCause h (memory N.Nvm nvm.old) (memory N.Nvm nvm.new))
-        (K.content sink.old) (K.content sink.new) }
+    ensures format { (h : Header) → AreFormat h words.now → OkTells K.Sink
+        (OfMemory N.Nvm (FormatIs h) nvm.old nvm.new) result sink.old sink.new }
+    ensures format_other { (h : Header) → AreFormat h words.now → ElseTellsFault K.Sink
+        (OfMemory N.Nvm (IsFormatCause h) nvm.old nvm.new) result sink.old sink.new }
+    ensures format_part { (h : Header) → AreFormat h words.now → FaultTellsPart K.Sink
+        (OfMemory N.Nvm (FormatIs h) nvm.old nvm.new)
+        (OfMemory N.Nvm (IsFormatCause h) nvm.old nvm.new) result sink.old sink.new }
     ensures format_reads { (h : Header) → AreFormat h words.now → source.new ≡ source.old }
     // Where nothing was pending, a crash at the end leaves the image as it was, or without the magic, or the new one.
-    ensures format_crash { (h : Header) (bytes image : List ℕ) → AreFormat h words.now → IsQuiet (N.content nvm.old) (N.settled nvm.old) bytes
-        → MayLeave (N.content nvm.new) (N.settled nvm.new) image → IsPartlyFormatted h bytes image }
+    ensures format_crash { (h : Header) (bytes image : List ℕ) → AreFormat h words.now → At N.Nvm IsQuiet nvm.old bytes
+        → At N.Nvm MayLeave nvm.new image → IsPartlyFormatted h bytes image }
     // An image that is there stays, whatever the status.
-    ensures format_stays { (h : Header) (bytes image : List ℕ) → AreFormat h words.now → IsQuiet (N.content nvm.old) (N.settled nvm.old) bytes
-        → HasMagic bytes → MayLeave (N.content nvm.new) (N.settled nvm.new) image → image ≡ bytes }
+    ensures format_stays { (h : Header) (bytes image : List ℕ) → AreFormat h words.now → At N.Nvm IsQuiet nvm.old bytes
+        → HasMagic bytes → At N.Nvm MayLeave nvm.new image → image ≡ bytes }
     // Where neither the device nor the sink counts a fault, a device with room and without an image is formatted.
-    ensures format_complete { (h : Header) → AreFormat h words.now → ¬ Rose (N.faults nvm.old) (N.faults nvm.new) → ¬ Rose (K.faults sink.old) (K.faults sink.new)
+    ensures format_complete { (h : Header) → AreFormat h words.now → NoFault N.faults nvm.old nvm.new → NoFault K.faults sink.old sink.new
         → image_size h.banks ≤ N.extent nvm.old
-        → IfSome (N.content nvm.old) (λ bytes. LacksMagic bytes → (result ≡ Status.Ok) ⊎ (result ≡ Status.OutOfMemory)) }
+        → IfSome (N.content nvm.old) (λ bytes. LacksMagic bytes → IsServed result) }
 
     // `generate`. With Ok the sink gained exactly the trace of the number. Nothing is read, and the device stays.
-    ensures generate { (number cycles : ℕ) → AreGenerate number cycles words.now → result ≡ Status.Ok
-        → Tells (λ text. text ≡ generated_trace number cycles) (K.content sink.old) (K.content sink.new) }
-    ensures generate_other { (number cycles : ℕ) → AreGenerate number cycles words.now → result ≢ Status.Ok → result ≢ Status.WriteFault
-        → TellsFault IsNumberCause result (K.content sink.old) (K.content sink.new) }
-    ensures generate_part { (number cycles : ℕ) → AreGenerate number cycles words.now → result ≡ Status.WriteFault
-        → TellsPart (λ text. text ≡ generated_trace number cycles) IsNumberCause (K.content sink.old) (K.content sink.new) }
+    ensures generate { (number cycles : ℕ) → AreGenerate number cycles words.now → OkTells K.Sink
+        (λ text. text ≡ generated_trace number cycles) result sink.old sink.new }
+    ensures generate_other { (number cycles : ℕ) → AreGenerate number cycles words.now → ElseTellsFault K.Sink
+        IsNumberCause result sink.old sink.new }
+    ensures generate_part { (number cycles : ℕ) → AreGenerate number cycles words.now → FaultTellsPart K.Sink
+        (λ text. text ≡ generated_trace number cycles)
+        IsNumberCause result sink.old sink.new }
     ensures generate_stays { (number cycles : ℕ) → AreGenerate number cycles words.now
         → (source.new ≡ source.old) × (nvm.new ≡ nvm.old) }
-    ensures generate_complete { (number cycles : ℕ) → AreGenerate number cycles words.now → ¬ Rose (K.faults sink.old) (K.faults sink.new)
-        → (result ≡ Status.Ok) ⊎ (result ≡ Status.OutOfMemory) }
+    ensures generate_complete { (number cycles : ℕ) → AreGenerate number cycles words.now → NoFault K.faults sink.old sink.new
+        → IsServed result }
 
     // `large`. The same of the counts of a run over the cycles that this trace spells.
-    ensures large { (number cycles : ℕ) → AreLarge number cycles words.now → result ≡ Status.Ok
-        → Tells (IsTold number cycles) (K.content sink.old) (K.content sink.new) }
-    ensures large_other { (number cycles : ℕ) → AreLarge number cycles words.now → result ≢ Status.Ok → result ≢ Status.WriteFault
-        → TellsFault IsNumberCause result (K.content sink.old) (K.content sink.new) }
-    ensures large_part { (number cycles : ℕ) → AreLarge number cycles words.now → result ≡ Status.WriteFault
-        → TellsPart (IsTold number cycles) IsNumberCause (K.content sink.old) (K.content sink.new) }
+    ensures large { (number cycles : ℕ) → AreLarge number cycles words.now → OkTells K.Sink
+        (IsTold number cycles) result sink.old sink.new }
+    ensures large_other { (number cycles : ℕ) → AreLarge number cycles words.now → ElseTellsFault K.Sink
+        IsNumberCause result sink.old sink.new }
+    ensures large_part { (number cycles : ℕ) → AreLarge number cycles words.now → FaultTellsPart K.Sink
+        (IsTold number cycles)
+        IsNumberCause result sink.old sink.new }
     ensures large_stays { (number cycles : ℕ) → AreLarge number cycles words.now
         → (source.new ≡ source.old) × (nvm.new ≡ nvm.old) }
-    ensures large_complete { (number cycles : ℕ) → AreLarge number cycles words.now → ¬ Rose (K.faults sink.old) (K.faults sink.new)
-        → (result ≡ Status.Ok) ⊎ (result ≡ Status.OutOfMemory) }
+    ensures large_complete { (number cycles : ℕ) → AreLarge number cycles words.now → NoFault K.faults sink.old sink.new
+        → IsServed result }
 {
     let job = match words.job(alloc) {
         Ok(job) => job,

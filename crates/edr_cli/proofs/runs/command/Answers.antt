@@ -43,7 +43,7 @@ returns-in-Err-clause-part g c = λ form asked failed.
     inr (tells_fault_part (IsReplayCause i i m m) _ fault.OutOfMemory c.tell.result _ _ (inl refl) c.tell.ensures.part failed)
 
 pub returns-in-Err-clause-complete : goal.returns-in-Err-clause-complete
-returns-in-Err-clause-complete g c = λ form bytes image cs v n asked left within spelled told says room calm quiet_sink quiet.
+returns-in-Err-clause-complete g c = λ form asked can calm quiet_sink quiet.
     inr (answered _ _ c.tell.result status.OutOfMemory c.tell.ensures.answers c.tell.ensures.part quiet)
 
 pub returns-in-Err-clause-report_other : goal.returns-in-Err-clause-report_other
@@ -104,14 +104,14 @@ returns-in-Err-clause-large_complete g c = λ number cycles asked quiet.
 -- ---- replay
 
 pub returns-in-Err-replay_source-clause-complete : goal.returns-in-Err-replay_source-clause-complete
-returns-in-Err-replay_source-clause-complete g c = λ form bytes image cs v n asked left within spelled told says room calm quiet_sink quiet.
+returns-in-Err-replay_source-clause-complete g c = λ form asked can calm quiet_sink quiet.
     let S = g.S.Source in
     let D = g.N.Nvm in
     let i = input S c.args.source.now in
     let i' = input S c.replay_source.new.source in
     let old = memory D c.args.nvm.now in
     let new = memory D c.replay_source.new.nvm in
-    let memory_only = only_memory i i' old new c.in-Err-replay_source.fault bytes image cs v n left within spelled told says room calm quiet_sink c.in-Err-replay_source.ensures.cause in
+    let memory_only = only_memory i i' old new c.in-Err-replay_source.fault can.bytes can.image can.cycles can.store can.count can.given can.spelled.0 can.spelled.1 can.told can.says can.room calm quiet_sink c.in-Err-replay_source.ensures.cause in
     inr (answered _ _ c.tell-in-Err-replay_source.result (status_of c.in-Err-replay_source.fault) c.tell-in-Err-replay_source.ensures.answers c.tell-in-Err-replay_source.ensures.part quiet ∙ ap status_of memory_only)
 
 -- ---- format
