@@ -16,8 +16,8 @@ ghost use Rattle.edr_cli.specs.Steps.{IsDrivenCause, Reports};
 ghost use Rattle.edr_cli.specs.Words.{AreDrive, AreNoDrive};
 
 use crate::endings::{tell, write};
-use crate::images::{open_settled, report_held};
-use crate::replays::start_fault;
+use crate::replay::start_fault;
+use crate::report::{open_settled, report_held};
 use crate::status::Status;
 use crate::traces::trace_of;
 use edr_device::{Nvm, Sink, Source};

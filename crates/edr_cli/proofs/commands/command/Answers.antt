@@ -16,7 +16,7 @@ use Rattle.edr_cli.proofs.Dispatch.{same_header}
 use Rattle.edr_cli.proofs.EndingLemmas.{answered, tells_fault, tells_fault_part, tells_part, tells_whole}
 use Rattle.edr_cli.proofs.ImageLemmas.{still_there}
 use Rattle.edr_cli.proofs.TakingLemmas.{none_taken}
-use Rattle.edr_cli.proofs.runs.command.Goals as goal
+use Rattle.edr_cli.proofs.commands.command.Goals as goal
 
 -- ---- memory ran out before the words were read
 

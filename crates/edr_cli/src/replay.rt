@@ -9,7 +9,7 @@ ghost use Rattle.edr_cli.specs.Outside.{IsAtEnd, OfBoth, OfMemory, OfRun};
 ghost use Rattle.edr_cli.specs.Runs.{IsReplayCause, RunIs};
 ghost use Rattle.edr_cli.specs.Steps.{IsRunCause, Reports, fault_of_start};
 
-use crate::images::{open_fault, open_settled, report_held};
+use crate::report::{open_fault, open_settled, report_held};
 use crate::traces::trace_of;
 use edr_device::{Nvm, Source};
 use edr_replay::{StartFault, replay};

@@ -20,10 +20,10 @@ ghost use Rattle.edr_cli.specs.Runs.{CanRun, IsReplayCause, RunIs};
 ghost use Rattle.edr_cli.specs.Words.{AreFormat, AreGenerate, AreLarge, AreOther, AreReplay, AreReport};
 
 use crate::endings::{tell, write};
-use crate::formats::make_image;
-use crate::generates::write_trace;
-use crate::images::report;
-use crate::replays::replay_source;
+use crate::format::make_image;
+use crate::generate::write_trace;
+use crate::replay::replay_source;
+use crate::report::report;
 use crate::status::Status;
 use edr_device::{Nvm, Sink, Source};
 use edr_large::large_lines;
