@@ -1,6 +1,5 @@
 pub mod KeyOrder
 pub mod LeastKey
-pub mod PartPlaces
 pub mod NewImage
 pub mod Laying
 pub mod NewView

@@ -10,7 +10,7 @@ use Rattle.edr_device.proofs.Settling.{put_same, quiet_leaves}
 use Rattle.edr_image.specs.declared.Header.{Header}
 use Rattle.edr_image.specs.Image.{image_size, magic, new_image}
 use Rattle.edr_banks.specs.Formatting.{IsFilled, IsNew, IsPartlyFormatted, IsUnmarked, IsUnmarking, LacksMagic, SamePast, first_magic, formatted}
-use Rattle.edr_banks.proofs.NewImage.{new_image_is}
+use Rattle.edr_layout.proofs.NewFront.{new_image_is}
 use Rattle.edr_banks.proofs.NewView.{formatted_new}
 use Rattle.edr_banks.proofs.Laying.{formatted_past, formatted_size, formatted_there}
 

@@ -11,7 +11,8 @@ use Rattle.edr_image.specs.declared.BankView.{BankView}
 use Rattle.edr_image.specs.declared.BankView.TheVariants.{Void}
 use Rattle.edr_image.specs.Image.{View, bank_view, choice_byte, count_of, header_of, header_refusal, image_refusal, image_size, place_of, view_of}
 use Rattle.edr_banks.specs.Formatting.{IsNew, formatted, new_view}
-use Rattle.edr_banks.proofs.NewImage.{front, new_image_is, zeros_behind}
+use Rattle.edr_banks.proofs.NewImage.{zeros_behind}
+use Rattle.edr_layout.proofs.NewFront.{front, new_image_is}
 use Rattle.edr_banks.proofs.Laying.{formatted_size, formatted_there}
 
 few_banks : (n : ℕ) → 2 ≤ n → n ≤ 16 → (nat_lt n 2 || nat_lt 16 n) ≡ false

@@ -1,6 +1,6 @@
 -- What formatting leaves of an image, and what a crash inside it may leave.
 use Rattle.std.specs.Prelude.{◌≡◌, ◌≢◌, ◌⊎◌, ◌≤◌, ◌<◌, ℕ, Bool, true, List, ◌++◌, length, drop, replicate, slice_index, Option, Some, None, IsSome}
-use Rattle.edr_device.specs.Device.{IsQuiet, Stays}
+use Rattle.edr_device.specs.Device.{IsQuiet}
 use Rattle.edr_device.specs.Pieces.{SameBut}
 use Rattle.edr_image.specs.declared.Header.{Header}
 use Rattle.edr_image.specs.declared.BankView.TheVariants.{Void}
@@ -32,12 +32,6 @@ pub record IsPartlyFormatted (h : Header) (bytes image : List ℕ) : Type 0 wher
   pub size : length image ≡ length bytes
   pub past : SamePast h bytes image
   pub says : (image ≡ bytes) ⊎ (LacksMagic image ⊎ IsNew h bytes image)
-
--- nothing is changed, and no changing call was made
-pub record IsLeft (content : Option (List ℕ)) (settled : ℕ → Bool) (past : ℕ → List ℕ → Type 0) (content' : Option (List ℕ)) (settled' : ℕ → Bool) (since : ℕ → List ℕ → Type 0) (before now good good' : ℕ) : Type 0 where
-  pub stays : Stays content settled past content' settled' since
-  pub clock : now ≡ before
-  pub last_good : good' ≡ good
 
 -- ---- on the way
 

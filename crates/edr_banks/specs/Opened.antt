@@ -2,6 +2,7 @@
 use Rattle.std.specs.Prelude.{◌≡◌, ◌≤◌, ◌-◌, ℕ, Bool, Option, Some, None, length, slice_get}
 use Rattle.edr_record.specs.declared.Record.{Record}
 use Rattle.edr_image.specs.declared.BankView.TheVariants.{Event}
+use Rattle.edr_image.specs.declared.places.TheConstants.{FEWEST_BANKS, MOST_BANKS}
 use Rattle.edr_image.specs.Banks.{Store}
 use Rattle.edr_image.specs.Steps.{State}
 
@@ -19,7 +20,7 @@ state_of o = record { store = o.store; held = o.held }
 
 -- there are as many banks as the header says, and one that is held has an event that isn't done
 pub record IsOpened (o : Opened) : Type 0 where
-  pub from : 2 ≤ o.store.header.banks
-  pub to : o.store.header.banks ≤ 16
+  pub from : FEWEST_BANKS ≤ o.store.header.banks
+  pub to : o.store.header.banks ≤ MOST_BANKS
   pub all : length o.store.banks ≡ o.store.header.banks
   pub held : (m : ℕ) → o.held ≡ Some m → (1 ≤ m) × (r : Record) × (slice_get o.store.banks (m - 1) ≡ Some (Event r)) × (r.crash ≡ None)

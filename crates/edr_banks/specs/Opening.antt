@@ -5,7 +5,8 @@ use Rattle.std.specs.Option.{option_or}
 use Rattle.edr_image.specs.declared.BankView.{BankView}
 use Rattle.edr_image.specs.declared.OpenFault.{OpenFault}
 use Rattle.edr_image.specs.declared.OpenFault.TheVariants.{Short, Header, StoreFault, OutOfMemory}
-use Rattle.edr_image.specs.Image.{View, bank_view, header_refusal, image_size, place_of}
+use Rattle.edr_image.specs.declared.places.TheConstants.{BANKS}
+use Rattle.edr_image.specs.Image.{View, header_refusal, image_size}
 use Rattle.edr_banks.specs.Opened.{Opened}
 
 -- the image is refused by what it says
@@ -19,12 +20,8 @@ IsRefusal OutOfMemory = ⊥
 abbrev pub view_when_opened : Opened → View
 view_when_opened o = record { store = o.store; count = o.count }
 
--- why an image of at least 96 bytes is refused, by its first bytes and its size
+-- why an image that has a front is refused, by its first bytes and its size
 unfoldable pub refusal_by : List ℕ → ℕ → Option OpenFault
 refusal_by first size =
-    let needed = image_size (slice_index first 10) in
+    let needed = image_size (slice_index first BANKS) in
     option_or (option_map (λ h. Header h) (header_refusal first)) (if nat_lt size needed then Some (Short size needed) else None)
-
--- what the banks of an image hold, the first of which is bank 1
-abbrev pub banks_of : ℕ → List ℕ → List BankView
-banks_of count bytes = map (λ m. bank_view (slice_range bytes (place_of m) (place_of m + 512))) (range_with_len 1 count)

@@ -1,15 +1,14 @@
 //! Commands on the banks.
 ghost use Rattle.std.specs.Prelude.{◌≡◌, ◌+◌, ◌-◌, ◌≤◌, ◌⊎◌, [], ℕ, true, false, List, Some, length, slice_get, IfOk, IfErr, OnOk, OnErr, Ok, Err};
 ghost use Rattle.edr_device.specs.Faults.{Rose};
-ghost use Rattle.edr_device.specs.Lent.{GoesOn};
-ghost use Rattle.edr_device.specs.Pieces.{Makes};
+ghost use Rattle.edr_device.specs.Lent.{At, Between, GoesOn, LeftSince, MakesCalls};
 ghost use Rattle.edr_record.specs.Parts.{CrashPart};
 ghost use Rattle.edr_record.specs.declared.Record.{Record};
 ghost use Rattle.edr_image.specs.declared.BankView.TheVariants.{Event};
 ghost use Rattle.edr_image.specs.declared.Applied.TheVariants.{NotKept};
 ghost use Rattle.edr_image.specs.Calls.{all_calls};
 ghost use Rattle.edr_image.specs.Image.{View, image_size, view_of};
-ghost use Rattle.edr_gates.specs.Taken.{AreStopped, AreTaken, EachIsPassed, IsReady, MayTakeAll, PassMeanwhile};
+ghost use Rattle.edr_gates.specs.Taken.{AreStopped, AreTaken, EachIsPassedOn, IsReady, MayTakeAll, PassMeanwhileOn};
 ghost use Rattle.edr_banks.specs.Applying.{IsOldOrDone, IsSameOrDone, ended_after, opened_after, reply_of, steps_for};
 ghost use Rattle.edr_banks.specs.declared.ApplyFault.TheVariants.{StoreFault, Ended};
 
@@ -38,24 +37,23 @@ impl Banks {
         ensures fault { IfErr result (λ e. self.old.ended ≡ false → (e ≡ StoreFault) × Rose (N.faults nvm.old) (N.faults nvm.new)) }
         ensures spoiled { OnErr result (self.new ≡ ended_after self.old) }
         ensures later { N.faults nvm.old ≤ N.faults nvm.new }
-        ensures time { self.old.ended ≡ false → Makes (all_calls (steps_for self.old command.now))
-            (N.clock nvm.old) (N.clock nvm.new) (N.last_good nvm.old) (N.last_good nvm.new) result }
+        ensures time { self.old.ended ≡ false
+            → MakesCalls (all_calls (steps_for self.old command.now)) N.Nvm nvm.old nvm.new result }
         // The steps may be taken on these banks.
         ensures may { MayTakeAll self.old.store.banks (steps_for self.old command.now) }
-        ensures taken { OnOk result (AreTaken (steps_for self.old command.now)
-            (N.content nvm.old) (N.settled nvm.old) (N.content nvm.new) (N.settled nvm.new)) }
-        ensures stopped { OnErr result (self.old.ended ≡ false → AreStopped (steps_for self.old command.now) (N.clock nvm.new - N.clock nvm.old)
-            (N.content nvm.old) (N.settled nvm.old) (N.content nvm.new) (N.settled nvm.new)) }
-        ensures any_moment { PassMeanwhile (steps_for self.old command.now) (N.content nvm.old) (N.settled nvm.old)
-            (N.clock nvm.old) (N.since nvm.old) (N.since nvm.new) }
-        ensures each { EachIsPassed (steps_for self.old command.now) (N.content nvm.old) (N.settled nvm.old)
-            (N.clock nvm.old) (N.since nvm.new) }
+        ensures taken { OnOk result (Between N.Nvm (AreTaken (steps_for self.old command.now)) nvm.old nvm.new) }
+        ensures stopped { OnErr result (self.old.ended ≡ false → Between N.Nvm
+            (AreStopped (steps_for self.old command.now) (N.clock nvm.new - N.clock nvm.old)) nvm.old nvm.new) }
+        ensures any_moment { PassMeanwhileOn N.Nvm (steps_for self.old command.now) nvm.old nvm.new }
+        ensures each { EachIsPassedOn N.Nvm (steps_for self.old command.now) nvm.old nvm.new }
         // A locked event stays in each image, but for the crash part that its own Done gives it.
-        ensures locked { (bytes image : List ℕ) (v w : View) (i : ℕ) (r : Record) → IsReady (steps_for self.old command.now) (N.content nvm.old) (N.settled nvm.old) bytes v
-            → v.store ≡ self.old.store → N.since nvm.new (N.clock nvm.old) image → view_of image ≡ Some w
+        ensures locked { (bytes image : List ℕ) (v w : View) (i : ℕ) (r : Record)
+            → At N.Nvm (IsReady (steps_for self.old command.now)) nvm.old bytes v
+            → v.store ≡ self.old.store → LeftSince N.Nvm nvm.old nvm.new image → view_of image ≡ Some w
             → slice_get v.store.banks i ≡ Some (Event r) → r.locked ≡ true → IsSameOrDone command.now self.old.held i r w.store.banks }
-        ensures crash_parts { (bytes image : List ℕ) (v w : View) (i : ℕ) (r : Record) (crash : CrashPart) → IsReady (steps_for self.old command.now) (N.content nvm.old) (N.settled nvm.old) bytes v
-            → v.store ≡ self.old.store → N.since nvm.new (N.clock nvm.old) image → view_of image ≡ Some w
+        ensures crash_parts { (bytes image : List ℕ) (v w : View) (i : ℕ) (r : Record) (crash : CrashPart)
+            → At N.Nvm (IsReady (steps_for self.old command.now)) nvm.old bytes v
+            → v.store ≡ self.old.store → LeftSince N.Nvm nvm.old nvm.new image → view_of image ≡ Some w
             → slice_get w.store.banks i ≡ Some (Event r) → r.crash ≡ Some crash → IsOldOrDone command.now self.old.held v.store.banks i crash }
     {
         if self.ended {

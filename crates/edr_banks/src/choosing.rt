@@ -1,6 +1,7 @@
 //! Which bank a new event takes.
 ghost use Rattle.edr_banks.specs.Lesser.{is_first, is_free, referred};
 ghost use Rattle.std.specs.Prelude.{◌≡◌, ◌&&◌, ◌≤◌, ◌<◌, length, position, IfSome};
+ghost use Rattle.edr_image.specs.declared.places.TheConstants.{MOST_BANKS};
 ghost use Rattle.edr_image.specs.Banks.{comes_before, is_void, least_unlocked, lowest_void};
 
 use crate::BankView;
@@ -26,7 +27,7 @@ fn first_void(banks: &[BankView]) -> Option<usize>
 /// The lowest void bank.
 #[tactic(auto, using(crate::proofs::KeyOrder::lowest_void_is), unfolding(edr_image::specs::Banks::lowest_void))]
 pub(crate) fn lowest_void(banks: &[BankView]) -> Option<u8>
-    requires { length banks.now ≤ 16 }
+    requires { length banks.now ≤ MOST_BANKS }
     ensures { result ≡ lowest_void banks.now }
 {
     first_void(banks).map(|place| place as u8 + 1)
@@ -42,7 +43,7 @@ fn is_lesser(bank: u8, event: &Record, other: Option<(u8, &Record)>) -> bool
 /// The unlocked event bank of least key.
 #[tactic(auto, using(crate::proofs::LeastKey::least_more), unfolding(edr_image::specs::Banks::least_unlocked, edr_image::specs::Banks::events))]
 pub(crate) fn least_unlocked(banks: &[BankView]) -> Option<u8>
-    requires { length banks.now ≤ 16 }
+    requires { length banks.now ≤ MOST_BANKS }
     ensures { result ≡ least_unlocked banks.now }
 {
     let mut least: Option<(u8, &Record)> = None;

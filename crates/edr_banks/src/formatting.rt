@@ -1,39 +1,18 @@
 //! Formatting: byte 0 is put last, so no crash leaves the magic over anything but the image as it was or the new one.
 ghost use Rattle.std.specs.Prelude.{◌≡◌, ◌≢◌, ◌⊎◌, ◌+◌, ◌-◌, ◌*◌, ◌≤◌, ◌<◌, ℕ, List, Some, None, Err, length, take, slice_index, OnOk, IfErr};
-ghost use Rattle.edr_device.specs.Device.{Elapses, IsQuiet};
+ghost use Rattle.edr_device.specs.Device.{IsQuiet};
 ghost use Rattle.edr_device.specs.Faults.{Rose};
-ghost use Rattle.edr_device.specs.Lent.{GoesOn, Lent};
+ghost use Rattle.edr_device.specs.Lent.{At, GoesOn, LeftSince, Lent, Meanwhile, OnlyRead};
 ghost use Rattle.edr_device.specs.Pieces.{SameBut};
-ghost use Rattle.edr_image.specs.Image.{choice_byte, image_size, new_image, not_magic};
+ghost use Rattle.edr_image.specs.declared.places.TheConstants.{FEWEST_BANKS, MOST_BANKS};
+ghost use Rattle.edr_image.specs.Image.{image_size, not_magic};
 ghost use Rattle.edr_image.specs.Kept.{IsKept};
-ghost use Rattle.edr_banks.specs.Formatting.{IsBare, IsFilled, IsLeft, IsNew, IsPartlyFormatted, LacksMagic, IsUnmarked, IsUnmarking, Laid, formatted};
+ghost use Rattle.edr_banks.specs.Formatting.{IsBare, IsFilled, IsNew, IsPartlyFormatted, LacksMagic, IsUnmarked, IsUnmarking, Laid, formatted};
 ghost use Rattle.edr_banks.specs.declared.FormatFault.TheVariants.{Short, Formatted, StoreFault};
 
-use crate::{Banks, Choice, FormatFault, Header, image_size};
+use crate::{Banks, Choice, FormatFault, Header};
 use edr_device::{Failed, Nvm, write_settled};
-use edr_layout::{MAGIC, place_of};
-
-fn choice_byte(choice: Choice) -> u8
-    ensures { result ≡ choice_byte choice }
-{
-    match choice {
-        Choice::Keep => 0,
-        Choice::Overwrite => 1,
-    }
-}
-
-// What stands before the banks.
-#[tactic(auto, using(crate::proofs::NewImage::first_bytes_are))]
-fn first_bytes(header: Header) -> [u8; 96]
-    ensures { result ≡ take 96 (new_image header) }
-{
-    let mut bytes = [0; 96];
-    bytes[..8].copy_from_slice(&MAGIC);
-    bytes[9] = 1;
-    bytes[10] = header.banks;
-    bytes[11] = choice_byte(header.choice);
-    bytes
-}
+use edr_layout::{BANK_SIZE, MAGIC, image_size, new_front, not_magic, place_of};
 
 // Puts another byte over the first of the magic.
 fn unmark<N: Nvm>(nvm: &mut N, first: u8) -> Result<(), Failed>
@@ -41,10 +20,10 @@ fn unmark<N: Nvm>(nvm: &mut N, first: u8) -> Result<(), Failed>
     ensures lent { Lent N.Nvm nvm.old nvm.new result }
     ensures later { N.clock nvm.old ≤ N.clock nvm.new }
     ensures bare { OnOk result (
-        (bytes : List ℕ) → IsQuiet (N.content nvm.old) (N.settled nvm.old) bytes → slice_index bytes 0 ≡ first
-        → (now : List ℕ) × IsBare (N.content nvm.new) (N.settled nvm.new) now × SameBut 0 1 bytes now) }
-    ensures any_moment { (bytes : List ℕ) → IsQuiet (N.content nvm.old) (N.settled nvm.old) bytes → slice_index bytes 0 ≡ first
-        → Elapses (N.clock nvm.old) (N.since nvm.old) (N.since nvm.new) (IsUnmarking bytes) }
+        (bytes : List ℕ) → At N.Nvm IsQuiet nvm.old bytes → slice_index bytes 0 ≡ first
+        → (now : List ℕ) × At N.Nvm IsBare nvm.new now × SameBut 0 1 bytes now) }
+    ensures any_moment { (bytes : List ℕ) → At N.Nvm IsQuiet nvm.old bytes → slice_index bytes 0 ≡ first
+        → Meanwhile N.Nvm nvm.old nvm.new (IsUnmarking bytes) }
 {
     if first == MAGIC[0] {
         return write_settled(nvm, 0, &[0]);
@@ -54,35 +33,35 @@ fn unmark<N: Nvm>(nvm: &mut N, first: u8) -> Result<(), Failed>
 
 // Writes the image but its first byte, and settles nothing.
 fn lay_image<N: Nvm>(nvm: &mut N, header: Header) -> Result<(), Failed>
-    requires few { header.banks ≤ 16 }
+    requires few { header.banks ≤ MOST_BANKS }
     requires room { image_size header.banks ≤ N.extent nvm.old }
     ensures lent { Lent N.Nvm nvm.old nvm.new result }
     ensures later { N.clock nvm.old ≤ N.clock nvm.new }
     ensures laid { OnOk result (
-        (bytes : List ℕ) → IsBare (N.content nvm.old) (N.settled nvm.old) bytes
-        → Laid header (image_size header.banks) bytes (N.content nvm.new) (N.settled nvm.new)) }
-    ensures any_moment { (bytes : List ℕ) → IsBare (N.content nvm.old) (N.settled nvm.old) bytes
-        → Elapses (N.clock nvm.old) (N.since nvm.old) (N.since nvm.new) (IsUnmarked header bytes) }
+        (bytes : List ℕ) → At N.Nvm IsBare nvm.old bytes
+        → At N.Nvm (Laid header (image_size header.banks) bytes) nvm.new) }
+    ensures any_moment { (bytes : List ℕ) → At N.Nvm IsBare nvm.old bytes
+        → Meanwhile N.Nvm nvm.old nvm.new (IsUnmarked header bytes) }
 {
-    let first = first_bytes(header);
-    nvm.write(1, &first[1..])?;
+    let front = new_front(header);
+    nvm.write(1, &front[1..])?;
     for bank in 0..header.banks {
-        nvm.write(place_of(bank + 1), &[0; 512])?;
+        nvm.write(place_of(bank + 1), &[0; BANK_SIZE])?;
     }
     Ok(())
 }
 
 // Writes the image but its first byte, and settles it.
 fn fill_image<N: Nvm>(nvm: &mut N, header: Header) -> Result<(), Failed>
-    requires few { header.banks ≤ 16 }
+    requires few { header.banks ≤ MOST_BANKS }
     requires room { image_size header.banks ≤ N.extent nvm.old }
     ensures lent { Lent N.Nvm nvm.old nvm.new result }
     ensures later { N.clock nvm.old ≤ N.clock nvm.new }
     ensures filled { OnOk result (
-        (bytes : List ℕ) → IsBare (N.content nvm.old) (N.settled nvm.old) bytes
-        → (now : List ℕ) × IsQuiet (N.content nvm.new) (N.settled nvm.new) now × IsFilled header bytes now) }
-    ensures any_moment { (bytes : List ℕ) → IsBare (N.content nvm.old) (N.settled nvm.old) bytes
-        → Elapses (N.clock nvm.old) (N.since nvm.old) (N.since nvm.new) (IsUnmarked header bytes) }
+        (bytes : List ℕ) → At N.Nvm IsBare nvm.old bytes
+        → (now : List ℕ) × At N.Nvm IsQuiet nvm.new now × IsFilled header bytes now) }
+    ensures any_moment { (bytes : List ℕ) → At N.Nvm IsBare nvm.old bytes
+        → Meanwhile N.Nvm nvm.old nvm.new (IsUnmarked header bytes) }
 {
     lay_image(nvm, header)?;
     nvm.sync()
@@ -90,16 +69,16 @@ fn fill_image<N: Nvm>(nvm: &mut N, header: Header) -> Result<(), Failed>
 
 // Writes the image, its first byte last.
 fn put_image<N: Nvm>(nvm: &mut N, header: Header) -> Result<(), Failed>
-    requires from { 2 ≤ header.banks }
-    requires to { header.banks ≤ 16 }
+    requires from { FEWEST_BANKS ≤ header.banks }
+    requires to { header.banks ≤ MOST_BANKS }
     requires room { image_size header.banks ≤ N.extent nvm.old }
     ensures lent { Lent N.Nvm nvm.old nvm.new result }
     ensures later { N.clock nvm.old ≤ N.clock nvm.new }
     ensures done { OnOk result (
-        (bytes : List ℕ) → IsBare (N.content nvm.old) (N.settled nvm.old) bytes
-        → IsQuiet (N.content nvm.new) (N.settled nvm.new) (formatted header bytes)) }
-    ensures any_moment { (bytes : List ℕ) → IsBare (N.content nvm.old) (N.settled nvm.old) bytes
-        → Elapses (N.clock nvm.old) (N.since nvm.old) (N.since nvm.new) (IsPartlyFormatted header bytes) }
+        (bytes : List ℕ) → At N.Nvm IsBare nvm.old bytes
+        → At N.Nvm IsQuiet nvm.new (formatted header bytes)) }
+    ensures any_moment { (bytes : List ℕ) → At N.Nvm IsBare nvm.old bytes
+        → Meanwhile N.Nvm nvm.old nvm.new (IsPartlyFormatted header bytes) }
 {
     fill_image(nvm, header)?;
     write_settled(nvm, 0, &MAGIC[..1])
@@ -107,26 +86,19 @@ fn put_image<N: Nvm>(nvm: &mut N, header: Header) -> Result<(), Failed>
 
 // Formats a device whose first byte is this one.
 fn write_image<N: Nvm>(nvm: &mut N, first: u8, header: Header) -> Result<(), Failed>
-    requires from { 2 ≤ header.banks }
-    requires to { header.banks ≤ 16 }
+    requires from { FEWEST_BANKS ≤ header.banks }
+    requires to { header.banks ≤ MOST_BANKS }
     requires room { image_size header.banks ≤ N.extent nvm.old }
     ensures lent { Lent N.Nvm nvm.old nvm.new result }
     ensures later { N.clock nvm.old ≤ N.clock nvm.new }
     ensures done { OnOk result (
-        (bytes : List ℕ) → IsQuiet (N.content nvm.old) (N.settled nvm.old) bytes → slice_index bytes 0 ≡ first
-        → IsQuiet (N.content nvm.new) (N.settled nvm.new) (formatted header bytes)) }
-    ensures any_moment { (bytes : List ℕ) → IsQuiet (N.content nvm.old) (N.settled nvm.old) bytes → slice_index bytes 0 ≡ first
-        → Elapses (N.clock nvm.old) (N.since nvm.old) (N.since nvm.new) (IsPartlyFormatted header bytes) }
+        (bytes : List ℕ) → At N.Nvm IsQuiet nvm.old bytes → slice_index bytes 0 ≡ first
+        → At N.Nvm IsQuiet nvm.new (formatted header bytes)) }
+    ensures any_moment { (bytes : List ℕ) → At N.Nvm IsQuiet nvm.old bytes → slice_index bytes 0 ≡ first
+        → Meanwhile N.Nvm nvm.old nvm.new (IsPartlyFormatted header bytes) }
 {
     unmark(nvm, first)?;
     put_image(nvm, header)
-}
-
-// The first place at which the magic doesn't stand.
-fn not_magic(first: &[u8; 8]) -> Option<usize>
-    ensures { result ≡ not_magic first.now }
-{
-    (0..8).find(|k| first[*k] != MAGIC[*k])
 }
 
 impl Banks {
@@ -135,8 +107,8 @@ impl Banks {
     ///
     /// A crash inside the call leaves the bytes as they were, or without the magic, or the new image.
     pub fn format<N: Nvm>(nvm: &mut N, banks: u8, choice: Choice) -> Result<(), FormatFault>
-        requires from { 2 ≤ banks }
-        requires to { banks ≤ 16 }
+        requires from { FEWEST_BANKS ≤ banks }
+        requires to { banks ≤ MOST_BANKS }
         ensures lent { GoesOn N.Nvm nvm.old nvm.new }
         ensures later { N.clock nvm.old ≤ N.clock nvm.new }
         // Each refusal with its cause.
@@ -149,32 +121,28 @@ impl Banks {
         ensures fault { IfErr result (λ e. e ≡ StoreFault → Rose (N.faults nvm.old) (N.faults nvm.new)) }
         ensures faults { N.faults nvm.old ≤ N.faults nvm.new }
         // A refusal changes nothing; nor does a fault where the magic stands.
-        ensures refused { IfErr result (λ e. e ≢ StoreFault → IsLeft (N.content nvm.old) (N.settled nvm.old) (N.since nvm.old)
-            (N.content nvm.new) (N.settled nvm.new) (N.since nvm.new)
-            (N.clock nvm.old) (N.clock nvm.new) (N.last_good nvm.old) (N.last_good nvm.new)) }
+        ensures refused { IfErr result (λ e. e ≢ StoreFault → OnlyRead N.Nvm nvm.old nvm.new) }
         ensures magic_stays { (bytes : List ℕ) → N.content nvm.old ≡ Some bytes → not_magic bytes ≡ None
-            → IsLeft (N.content nvm.old) (N.settled nvm.old) (N.since nvm.old)
-            (N.content nvm.new) (N.settled nvm.new) (N.since nvm.new)
-            (N.clock nvm.old) (N.clock nvm.new) (N.last_good nvm.old) (N.last_good nvm.new) }
-        ensures done { OnOk result ((bytes : List ℕ) → IsQuiet (N.content nvm.old) (N.settled nvm.old) bytes
-            → (now : List ℕ) × IsQuiet (N.content nvm.new) (N.settled nvm.new) now
+            → OnlyRead N.Nvm nvm.old nvm.new }
+        ensures done { OnOk result ((bytes : List ℕ) → At N.Nvm IsQuiet nvm.old bytes
+            → (now : List ℕ) × At N.Nvm IsQuiet nvm.new now
             × IsNew (record { banks = banks; choice = choice }) bytes now) }
-        ensures any_moment { (bytes : List ℕ) → IsQuiet (N.content nvm.old) (N.settled nvm.old) bytes
-            → Elapses (N.clock nvm.old) (N.since nvm.old) (N.since nvm.new)
+        ensures any_moment { (bytes : List ℕ) → At N.Nvm IsQuiet nvm.old bytes
+            → Meanwhile N.Nvm nvm.old nvm.new
             (IsPartlyFormatted (record { banks = banks; choice = choice }) bytes) }
-        ensures each { (bytes image : List ℕ) → IsQuiet (N.content nvm.old) (N.settled nvm.old) bytes
-            → N.since nvm.new (N.clock nvm.old) image
+        ensures each { (bytes image : List ℕ) → At N.Nvm IsQuiet nvm.old bytes
+            → LeftSince N.Nvm nvm.old nvm.new image
             → IsPartlyFormatted (record { banks = banks; choice = choice }) bytes image }
         // Where the image was one that this program formatted, so is each of these, or it has no magic.
-        ensures kept { (bytes image : List ℕ) → IsQuiet (N.content nvm.old) (N.settled nvm.old) bytes → IsKept bytes
-            → N.since nvm.new (N.clock nvm.old) image → IsKept image ⊎ LacksMagic image }
+        ensures kept { (bytes image : List ℕ) → At N.Nvm IsQuiet nvm.old bytes → IsKept bytes
+            → LeftSince N.Nvm nvm.old nvm.new image → IsKept image ⊎ LacksMagic image }
     {
         let size = nvm.size();
         let needed = image_size(banks);
         if size < needed {
             return Err(FormatFault::Short { size, needed });
         }
-        let mut first = [0; 8];
+        let mut first = [0; MAGIC.len()];
         if nvm.read(0, &mut first).is_err() {
             return Err(FormatFault::StoreFault);
         }

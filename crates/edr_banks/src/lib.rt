@@ -3,7 +3,6 @@
 #![tactic(auto)]
 
 ghost use Rattle.std.specs.Prelude.{◌≡◌};
-ghost use Rattle.edr_image.specs.Image.{image_size};
 
 use std::marker::Model;
 
@@ -11,7 +10,6 @@ mod applying;
 mod choosing;
 mod formatting;
 mod opening;
-mod reading;
 mod retrieving;
 mod taking;
 mod tasks;
@@ -66,13 +64,6 @@ impl Model for Banks {
     ghost view = { opened_of };
 
     ghost invariant = { λ b. IsOpened (opened_of b) };
-}
-
-// How many bytes an image with so many banks has.
-fn image_size(banks: u8) -> u32
-    ensures { result ≡ image_size banks }
-{
-    96 + 512 * u32::from(banks)
 }
 
 impl Banks {

@@ -3,36 +3,33 @@ ghost use Rattle.std.specs.Prelude.{◌≡◌, ◌⊎◌, ◌≤◌, ◌<◌, �
 ghost use Rattle.edr_device.specs.Faults.{HasCause, Rose};
 ghost use Rattle.edr_device.specs.Lent.{OnlyRead};
 ghost use Rattle.edr_image.specs.declared.OpenFault.TheVariants.{OutOfMemory, Short, StoreFault};
-ghost use Rattle.edr_image.specs.Image.{bank_view, header_of, image_refusal, image_size, place_of, view_of};
-ghost use Rattle.edr_banks.specs.Opening.{IsRefusal, banks_of, refusal_by, view_when_opened};
+ghost use Rattle.edr_image.specs.declared.places.TheConstants.{BANK_SIZE, FEWEST_BANKS, FRONT_SIZE, MOST_BANKS};
+ghost use Rattle.edr_image.specs.Image.{bank_view, banks_of, header_of, image_refusal, image_size, place_of, view_of};
+ghost use Rattle.edr_banks.specs.Opening.{IsRefusal, refusal_by, view_when_opened};
 
-use crate::reading::bank_view;
-use crate::{BankView, Banks, Header, OpenFault, image_size};
+use crate::{BankView, Banks, Header, OpenFault};
 use edr_device::{Failed, Nvm};
-use edr_layout::{place_of, read_count, read_header};
+use edr_layout::{BANK_SIZE, FRONT_SIZE, bank_view, image_size, place_of, read_count, read_header};
 use std::alloc::Global;
-
-// How many bytes stand before the banks.
-const FIRST: u32 = 96;
 
 // What a bank of the device holds.
 fn read_bank<N: Nvm>(nvm: &mut N, bank: u8) -> Result<BankView, Failed>
     requires from { 1 ≤ bank }
-    requires to { bank ≤ 16 }
-    requires room { place_of bank + 512 ≤ N.extent nvm.old }
+    requires to { bank ≤ MOST_BANKS }
+    requires room { place_of bank + BANK_SIZE ≤ N.extent nvm.old }
     ensures view { IfOk result (λ v. (bytes : List ℕ) → N.content nvm.old ≡ Some bytes
-        → v ≡ bank_view (slice_range bytes (place_of bank) (place_of bank + 512))) }
+        → v ≡ bank_view (slice_range bytes (place_of bank) (place_of bank + BANK_SIZE))) }
     ensures read { OnlyRead N.Nvm nvm.old nvm.new }
     ensures cause { HasCause (N.faults nvm.old) (N.faults nvm.new) result }
 {
-    let mut bytes = [0; 512];
+    let mut bytes = [0; BANK_SIZE];
     nvm.read(place_of(bank), &mut bytes)?;
     Ok(bank_view(&bytes))
 }
 
 // What the first banks of the device hold.
 fn read_banks<N: Nvm>(alloc: Global, nvm: &mut N, count: u8) -> Result<Vec<BankView>, OpenFault>
-    requires few { count ≤ 16 }
+    requires few { count ≤ MOST_BANKS }
     requires room { image_size count ≤ N.extent nvm.old }
     ensures views { IfOk result (λ v. (bytes : List ℕ) → N.content nvm.old ≡ Some bytes → v.items ≡ banks_of count bytes) }
     ensures all { IfOk result (λ v. length v.items ≡ count) }
@@ -54,10 +51,10 @@ fn read_banks<N: Nvm>(alloc: Global, nvm: &mut N, count: u8) -> Result<Vec<BankV
 
 // The header that the first bytes of an image of this size say, or why the image is refused.
 #[tactic(auto, unfolding(crate::specs::Opening::refusal_by))]
-fn header_by(first: &[u8; 96], size: u32) -> Result<Header, OpenFault>
+fn header_by(first: &[u8; FRONT_SIZE], size: u32) -> Result<Header, OpenFault>
     ensures header { IfOk result (λ h. h ≡ header_of first.now) }
     ensures accepted { IfOk result (λ h. refusal_by first.now size ≡ None) }
-    ensures within { IfOk result (λ h. (2 ≤ h.banks) × (h.banks ≤ 16)) }
+    ensures within { IfOk result (λ h. (FEWEST_BANKS ≤ h.banks) × (h.banks ≤ MOST_BANKS)) }
     ensures fits { IfOk result (λ h. image_size h.banks ≤ size) }
     ensures refused { IfErr result (λ e. refusal_by first.now size ≡ Some e) }
     ensures kind { IfErr result IsRefusal }
@@ -83,20 +80,21 @@ impl Banks {
         ensures fits { IfOk result (λ b. image_size b.store.header.banks ≤ N.extent nvm.old) }
         // The cause of each refusal; and an image without one is not refused, by `view`.
         ensures refused { IfErr result (λ e. IsRefusal e → (bytes : List ℕ) → N.content nvm.old ≡ Some bytes → image_refusal bytes ≡ Some e) }
-        ensures short { N.extent nvm.old < 96 → result ≡ Err (Short (N.extent nvm.old) 96) }
+        ensures short { N.extent nvm.old < FRONT_SIZE → result ≡ Err (Short (N.extent nvm.old) FRONT_SIZE) }
         ensures sizes { IfErr result (λ e. (size needed : ℕ) → e ≡ Short size needed → (size ≡ N.extent nvm.old) × (size < needed)) }
         ensures fault { IfErr result (λ e. e ≡ StoreFault → Rose (N.faults nvm.old) (N.faults nvm.new)) }
         ensures later { N.faults nvm.old ≤ N.faults nvm.new }
         ensures read { OnlyRead N.Nvm nvm.old nvm.new }
     {
         let size = nvm.size();
-        if size < FIRST {
+        let least = FRONT_SIZE as u32;
+        if size < least {
             return Err(OpenFault::Short {
                 size,
-                needed: FIRST,
+                needed: least,
             });
         }
-        let mut first = [0; 96];
+        let mut first = [0; FRONT_SIZE];
         if nvm.read(0, &mut first).is_err() {
             return Err(OpenFault::StoreFault);
         }

@@ -1,5 +1,6 @@
 //! A task on the device.
 ghost use Rattle.std.specs.Prelude.{◌≡◌, ◌≤◌, [], IsOk};
+ghost use Rattle.edr_image.specs.declared.places.TheConstants.{MOST_BANKS};
 ghost use Rattle.edr_image.specs.Image.{image_size};
 ghost use Rattle.edr_gates.specs.Taken.{TakesSteps};
 ghost use Rattle.edr_banks.specs.Tasks.{IsWithin, steps_of};
@@ -10,7 +11,7 @@ use edr_gates::{fill, finish, lock, replace, replace_locked};
 
 /// Takes the steps of a task on a device that has so many banks. Where there is none, no call is made.
 pub(crate) fn take_on<N: Nvm>(nvm: &mut N, task: &Task, banks: u8) -> Result<(), Failed>
-    requires few { banks ≤ 16 }
+    requires few { banks ≤ MOST_BANKS }
     requires room { image_size banks ≤ N.extent nvm.old }
     requires within { IsWithin banks task.now }
     ensures nothing { steps_of task.now ≡ [] → IsOk result × (nvm.new ≡ nvm.old) }

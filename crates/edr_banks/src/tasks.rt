@@ -1,5 +1,6 @@
 //! What a command does to the banks, and which bank it takes.
 ghost use Rattle.std.specs.Prelude.{◌≡◌, ◌≤◌, [], ◌∷◌, Some, None};
+ghost use Rattle.edr_image.specs.declared.places.TheConstants.{MOST_BANKS};
 ghost use Rattle.edr_image.specs.declared.BankView.TheVariants.{Event};
 ghost use Rattle.edr_image.specs.Banks.{is_unlocked, least_unlocked, lowest_void, to_overwrite, with_bank};
 ghost use Rattle.edr_image.specs.Steps.{Done, Lock, done_reply, lock_reply, take_reply, with_crash, with_lock};
@@ -128,7 +129,7 @@ impl Banks {
         ensures reply { reply_for result ≡ reply_of self.now command.now }
         ensures may { MayTakeAll self.now.store.banks (steps_of result) }
         ensures within { IsWithin self.now.store.header.banks result }
-        ensures few { self.now.store.header.banks ≤ 16 }
+        ensures few { self.now.store.header.banks ≤ MOST_BANKS }
     {
         let _ = &self.held;
         self.task_of(command)

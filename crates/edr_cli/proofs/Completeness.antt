@@ -53,5 +53,4 @@ only_memory i i' old new (fault.Header h) bytes image cs v n left within spelled
 only_memory i i' old new fault.Spent bytes image cs v n left within spelled told says room calm quiet cause =
     absurd (spent_none bytes image new cs v n spelled says room (told_is (λ m. IsSpent bytes m new) old.content image told (told_is (λ b. IfSome old.content (λ m. IsSpent b m new)) i.left bytes left cause.0)))
 only_memory i i' old new fault.OutOfMemory bytes image cs v n left within spelled told says room calm quiet cause = refl
-only_memory i i' old new fault.Usage bytes image cs v n left within spelled told says room calm quiet cause = absurd cause
-only_memory i i' old new fault.Formatted bytes image cs v n left within spelled told says room calm quiet cause = absurd cause
+only_memory i i' old new other bytes image cs v n left within spelled told says room calm quiet cause = absurd cause

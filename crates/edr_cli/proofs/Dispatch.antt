@@ -7,8 +7,5 @@ use Rattle.edr_cli.specs.Words.{AreFormat}
 
 pub same_header : (words : List (List ℕ)) (h k : Header) → AreFormat h words → AreFormat k words → h ≡ k
 same_header words h k a b = go h k (sym a ∙ b) where
-  go : (h k : Header) → ◌≡◌ {A = Option Job} (Some (Format h.banks h.choice)) (Some (Format k.banks k.choice)) → h ≡ k
-  go h k e =
-      let parts : (h.banks ≡ k.banks) × (h.choice ≡ k.choice) = (cc, cc) in
-      let whole : ◌≡◌ {A = Header} (record { banks = h.banks; choice = h.choice }) (record { banks = k.banks; choice = k.choice }) = cc in
-      whole
+  go : (h k : Header) → ◌≡◌ {A = Option Job} (Some (Format h)) (Some (Format k)) → h ≡ k
+  go h k e = cc

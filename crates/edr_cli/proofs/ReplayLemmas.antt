@@ -109,12 +109,7 @@ behind_cause cs old mid new reports fault.Store run same settled long later caus
 behind_cause cs old mid new reports (fault.Short size needed) run same settled long later cause = (not_refused old mid cs reports (open_fault.Short size needed) run cause.0.0, same_size old.size mid.size size needed long cause.1)
 behind_cause cs old mid new reports (fault.Header h) run same settled long later cause = not_refused old mid cs reports (open_fault.Header h) run cause.0
 behind_cause cs old mid new reports fault.OutOfMemory run same settled long later cause = short_all cs old mid new reports run same settled
-behind_cause cs old mid new reports fault.Usage run same settled long later cause = cause
-behind_cause cs old mid new reports (fault.Trace t) run same settled long later cause = cause
-behind_cause cs old mid new reports fault.Read run same settled long later cause = cause
-behind_cause cs old mid new reports fault.Formatted run same settled long later cause = absurd cause
-behind_cause cs old mid new reports fault.Spent run same settled long later cause = absurd cause
-behind_cause cs old mid new reports fault.TooLong run same settled long later cause = cause
+behind_cause cs old mid new reports other run same settled long later cause = absurd cause
 
 -- ---- the whole
 
@@ -150,12 +145,7 @@ look_cause i i' old new cs fault.Store spelled end stays left cause = (gave i i'
 look_cause i i' old new cs (fault.Short size needed) spelled end stays left cause = (gave i i' cs spelled end, cause)
 look_cause i i' old new cs (fault.Header h) spelled end stays left cause = (gave i i' cs spelled end, cause)
 look_cause i i' old new cs fault.OutOfMemory spelled end stays left cause = inl cause
-look_cause i i' old new cs fault.Usage spelled end stays left cause = cause
-look_cause i i' old new cs (fault.Trace t) spelled end stays left cause = absurd cause
-look_cause i i' old new cs fault.Read spelled end stays left cause = absurd cause
-look_cause i i' old new cs fault.Formatted spelled end stays left cause = cause
-look_cause i i' old new cs fault.Spent spelled end stays left cause = absurd cause
-look_cause i i' old new cs fault.TooLong spelled end stays left cause = absurd cause
+look_cause i i' old new cs other spelled end stays left cause = absurd cause
 
 -- behind a look that passed no image is refused, so the device tells none
 none_refused : (old mid new : Memory) (v : Store) (n : ℕ) (e : OpenFault) → Settled old mid v n → StillTells old.content new.content → HeldNone mid → IsRefused e old new
@@ -232,8 +222,4 @@ run_replay i i' old mid new cs v n fault.OutOfMemory spelled end settled tells s
         let held : Holds mid.content mid.settled v n = record { bytes = image; quiet = s.1; says = s.0 } in
         let r = cause v n held in
         record { cycles = cs; store = v; count = n; p = r.0; outcome = r.1; spelled = spelled; says = s.0; ran = r.2; held = r.3 }
-run_replay i i' old mid new cs v n fault.Usage spelled end settled tells size later cause = cause
-run_replay i i' old mid new cs v n (fault.Trace t) spelled end settled tells size later cause = absurd cause
-run_replay i i' old mid new cs v n fault.Read spelled end settled tells size later cause = absurd cause
-run_replay i i' old mid new cs v n fault.Formatted spelled end settled tells size later cause = cause
-run_replay i i' old mid new cs v n fault.TooLong spelled end settled tells size later cause = absurd cause
+run_replay i i' old mid new cs v n other spelled end settled tells size later cause = absurd cause

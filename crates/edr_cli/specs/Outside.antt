@@ -1,5 +1,6 @@
 -- What the source and the device tell at one moment.
 use Rattle.std.specs.Prelude.{◌≡◌, ℕ, Bool, List, [], Option, IfSome}
+use Rattle.edr_device.specs.Faults.{Rose}
 use Rattle.edr_device.specs.declared.device.Nvm as device
 use Rattle.edr_device.specs.declared.stream.Source as stream
 
@@ -26,3 +27,21 @@ memory g nvm = record { size = g.extent nvm; content = g.content nvm; settled = 
 -- the source is at its end, if it tells
 abbrev pub IsAtEnd : Option (List ℕ) → Type 0
 IsAtEnd left = IfSome left (λ bytes. bytes ≡ [])
+
+-- the count of faults didn't rise
+abbrev pub NoFault : {D : Type 0} → (D → ℕ) → D → D → Type 0
+NoFault faults old new = ¬ Rose (faults old) (faults new)
+
+-- ---- what is said of what is told, said of the source and of the device
+
+-- of a device before a call and behind it
+abbrev pub OfMemory : {D : Type 0} {X : Type 1} → device.Ghosts D → (Memory → Memory → X) → D → D → X
+OfMemory g says old new = says (memory g old) (memory g new)
+
+-- and of the source before it
+abbrev pub OfRun : {S D : Type 0} {X : Type 1} → stream.Ghosts S → device.Ghosts D → (Input → Memory → Memory → X) → S → D → D → X
+OfRun s g says source old new = says (input s source) (memory g old) (memory g new)
+
+-- and of the source behind it
+abbrev pub OfBoth : {S D : Type 0} {X : Type 1} → stream.Ghosts S → device.Ghosts D → (Input → Input → Memory → Memory → X) → S → S → D → D → X
+OfBoth s g says source source' old new = says (input s source) (input s source') (memory g old) (memory g new)

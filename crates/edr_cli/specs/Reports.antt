@@ -58,12 +58,7 @@ IsImageCause old new fault.Store = Rose old.faults new.faults
 IsImageCause old new (fault.Short size needed) = IsRefused (open_fault.Short size needed) old new × IsShortOf old.size size needed
 IsImageCause old new (fault.Header h) = IsRefused (open_fault.Header h) old new
 IsImageCause old new fault.OutOfMemory = new.content ≡ old.content
-IsImageCause old new fault.Usage = ⊥
-IsImageCause old new (fault.Trace t) = ⊥
-IsImageCause old new fault.Read = ⊥
-IsImageCause old new fault.Formatted = ⊥
-IsImageCause old new fault.Spent = ⊥
-IsImageCause old new fault.TooLong = ⊥
+IsImageCause old new other = ⊥
 
 -- ---- format
 
@@ -84,10 +79,5 @@ abbrev pub IsFormatCause : Header → Memory → Memory → Fault → Type 0
 IsFormatCause h old new fault.Store = Rose old.faults new.faults
 IsFormatCause h old new (fault.Short size needed) = (size ≡ old.size) × (needed ≡ image_size h.banks) × (size < needed) × (new.content ≡ old.content)
 IsFormatCause h old new fault.Formatted = (image_size h.banks ≤ old.size) × IfSome old.content HasMagic × (new.content ≡ old.content)
-IsFormatCause h old new fault.Usage = ⊥
-IsFormatCause h old new (fault.Trace t) = ⊥
-IsFormatCause h old new fault.Read = ⊥
-IsFormatCause h old new (fault.Header r) = ⊥
-IsFormatCause h old new fault.Spent = ⊥
 IsFormatCause h old new fault.OutOfMemory = new.content ≡ old.content
-IsFormatCause h old new fault.TooLong = ⊥
+IsFormatCause h old new other = ⊥

@@ -1,5 +1,5 @@
 -- What the run of a trace comes to, and why there is none.
-use Rattle.std.specs.Prelude.{◌≡◌, ◌⊎◌, ◌≤◌, ◌<◌, ℕ, true, None, List, length, slice_get, Option, Some, IfSome, ⊤}
+use Rattle.std.specs.Prelude.{◌≡◌, ◌⊎◌, ◌+◌, ◌≤◌, ◌<◌, ℕ, true, None, List, length, slice_get, Option, Some, IfSome, ⊤}
 use Rattle.edr_device.specs.Device.{IsQuiet, MayLeave}
 use Rattle.edr_device.specs.Faults.{Rose}
 use Rattle.edr_device.specs.Told.{Told}
@@ -19,7 +19,7 @@ use Rattle.edr_image.specs.Reports.{Ran}
 use Rattle.edr_spell.specs.declared.CycleInput.{CycleInput}
 use Rattle.edr_spell.specs.Spell.{Spell, largest_trace}
 use Rattle.edr_spell.specs.Fault.{Fault as IsFaultOf}
-use Rattle.edr_run.specs.Cycle.{Outcome, IsRun}
+use Rattle.edr_run.specs.Cycle.{Outcome, IsRun, last_count}
 use Rattle.edr_run.specs.Logged.{IsLogged, NoTakeBetween}
 use Rattle.edr_run.specs.Own.{IsInWindow}
 use Rattle.edr_report.specs.declared.faults.Fault.{Fault}
@@ -102,6 +102,19 @@ IfTold i m says = IfSome i.left (λ bytes. IfSome m.content (λ image. says byte
 abbrev pub RunIs : Form → Input → Memory → Memory → List ℕ → Type 0
 RunIs form i old new text = IfTold i old (λ bytes image. TheRun form bytes image new text)
 
+-- what a run needs but memory: bytes that spell cycles, an image that isn't refused, and numbers for them all
+pub record CanRun (i : Input) (m : Memory) : Type 0 where
+  pub bytes : List ℕ
+  pub image : List ℕ
+  pub cycles : List CycleInput
+  pub store : Store
+  pub count : ℕ
+  pub given : i.left ≡ Some bytes
+  pub spelled : IsTraceOf cycles bytes
+  pub told : m.content ≡ Some image
+  pub says : Says image store count
+  pub room : count + length cycles ≤ last_count
+
 -- no stop is planned in the cycle
 abbrev pub IsPowered : CycleInput → Type 0
 IsPowered c = (c.start_stop ≡ 0) × (c.stop ≡ 0)
@@ -155,12 +168,7 @@ IsTraceCause i i' (fault.Trace t) = IfSome i.left (λ bytes. (length bytes ≤ l
 IsTraceCause i i' fault.Read = Rose i.faults i'.faults
 IsTraceCause i i' fault.TooLong = Told (GivesTooMany largest_trace) i.left i'.left
 IsTraceCause i i' fault.OutOfMemory = ⊤
-IsTraceCause i i' fault.Usage = ⊥
-IsTraceCause i i' fault.Store = ⊥
-IsTraceCause i i' (fault.Short size needed) = ⊥
-IsTraceCause i i' (fault.Header h) = ⊥
-IsTraceCause i i' fault.Formatted = ⊥
-IsTraceCause i i' fault.Spent = ⊥
+IsTraceCause i i' other = ⊥
 
 -- why there is no report of a run, by the first thing that went wrong
 abbrev pub IsReplayCause : Input → Input → Memory → Memory → Fault → Type 0
@@ -172,5 +180,4 @@ IsReplayCause i i' old new (fault.Short size needed) = GaveTrace i i' × IsImage
 IsReplayCause i i' old new (fault.Header h) = GaveTrace i i' × IsImageCause old new (fault.Header h)
 IsReplayCause i i' old new fault.Spent = IfTold i old (λ bytes image. IsSpent bytes image new) × IsAtEnd i'.left
 IsReplayCause i i' old new fault.OutOfMemory = (new.content ≡ old.content) ⊎ IfTold i old (λ bytes image. RanSome bytes image new)
-IsReplayCause i i' old new fault.Usage = ⊥
-IsReplayCause i i' old new fault.Formatted = ⊥
+IsReplayCause i i' old new other = ⊥

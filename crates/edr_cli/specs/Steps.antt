@@ -40,11 +40,7 @@ IsRunCause cycles old new fault.Spent = (v : Store) (n : ℕ) → Holds old.cont
     → (o : Outcome) × RanToTheLast cycles v n o × Holds new.content new.settled o.store o.count
 IsRunCause cycles old new fault.OutOfMemory = (v : Store) (n : ℕ) → Holds old.content old.settled v n
     → (p : ℕ) × (o : Outcome) × RanFirst cycles v n p o × Holds new.content new.settled o.store o.count
-IsRunCause cycles old new fault.Usage = ⊥
-IsRunCause cycles old new (fault.Trace t) = ⊥
-IsRunCause cycles old new fault.Read = ⊥
-IsRunCause cycles old new fault.Formatted = ⊥
-IsRunCause cycles old new fault.TooLong = ⊥
+IsRunCause cycles old new other = ⊥
 
 -- the text is the report of these cycles, and of the banks and the count that the device held
 abbrev pub ReportsHeld : Form → List Report → Memory → List ℕ → Type 0

@@ -8,7 +8,7 @@ use Rattle.edr_words.specs.Jobs.{job_of}
 
 -- they ask for a new image with this header
 abbrev pub AreFormat : Header → List (List ℕ) → Type 0
-AreFormat h words = job_of words ≡ Some (Format h.banks h.choice)
+AreFormat h words = job_of words ≡ Some (Format h)
 
 -- they ask for the run of a trace, and its report in this form
 abbrev pub AreReplay : Form → List (List ℕ) → Type 0
@@ -30,7 +30,7 @@ AreLarge number cycles words = job_of words ≡ Some (Large number cycles)
 abbrev pub IsOther : Option Job → Type 0
 IsOther None = ⊤
 IsOther (Some (Drive workers form)) = ⊤
-IsOther (Some (Format banks choice)) = ⊥
+IsOther (Some (Format header)) = ⊥
 IsOther (Some (Replay form)) = ⊥
 IsOther (Some (Report form)) = ⊥
 IsOther (Some (Generate number cycles)) = ⊥

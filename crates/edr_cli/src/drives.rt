@@ -1,26 +1,23 @@
 //! The top call of a run by threads. Its promises are those of a run on one thread, and hold if it returns.
-ghost use Rattle.std.specs.Prelude.{◌≡◌, ◌≢◌, ◌≤◌, ◌⊎◌, ◌+◌, ℕ, List, Some, All, IfOk, IfErr, OnOk, length};
+ghost use Rattle.std.specs.Prelude.{◌≡◌, ◌≢◌, ◌≤◌, ◌⊎◌, ◌+◌, ℕ, Some, All, IfOk, IfErr, OnOk};
 ghost use Rattle.edr_device.specs.Faults.{Rose};
-ghost use Rattle.edr_device.specs.Lent.{GoesOn};
+ghost use Rattle.edr_device.specs.Lent.{Between, GoesOn};
 ghost use Rattle.edr_device.specs.Told.{Told};
 ghost use Rattle.edr_device.specs.Transfer.{GivesAtMost};
-ghost use Rattle.edr_image.specs.Banks.{Store};
-ghost use Rattle.edr_spell.specs.Spell.{IsCycle, Spell, largest_trace};
+ghost use Rattle.edr_spell.specs.Spell.{IsCycle, largest_trace};
 ghost use Rattle.edr_spell.specs.declared.CycleInput.{CycleInput};
-ghost use Rattle.edr_run.specs.Cycle.{last_count};
 ghost use Rattle.edr_replay.specs.Past.{LeavesPast};
 ghost use Rattle.edr_words.specs.declared.Form.{Form};
 ghost use Rattle.edr_cli.specs.Drives.{IsDriveCause};
-ghost use Rattle.edr_cli.specs.Endings.{IsUsageCause, Tells, TellsFault, TellsFaultPart, TellsPart};
-ghost use Rattle.edr_cli.specs.Outside.{IsAtEnd, input, memory};
-ghost use Rattle.edr_cli.specs.Reports.{Says};
-ghost use Rattle.edr_cli.specs.Runs.{RunIs};
+ghost use Rattle.edr_cli.specs.Endings.{ElseTellsFault, FaultTellsPart, IsServed, IsUsageCause, OkTells, TellsFault, TellsFaultPart};
+ghost use Rattle.edr_cli.specs.Outside.{IsAtEnd, NoFault, OfBoth, OfMemory, OfRun, input, memory};
+ghost use Rattle.edr_cli.specs.Runs.{CanRun, RunIs};
 ghost use Rattle.edr_cli.specs.Steps.{IsDrivenCause, Reports};
 ghost use Rattle.edr_cli.specs.Words.{AreDrive, AreNoDrive};
 
 use crate::endings::{tell, write};
-use crate::images::{open_settled, report_held};
-use crate::replays::start_fault;
+use crate::replay::start_fault;
+use crate::report::{open_settled, report_held};
 use crate::status::Status;
 use crate::traces::trace_of;
 use edr_device::{Nvm, Sink, Source};
@@ -49,13 +46,11 @@ fn run_driven<
 ) -> Result<Vec<u8>, Fault>
     requires workers { (1 ≤ workers) × (workers ≤ 8) }
     requires cycles { All IsCycle cycles.items }
-    ensures text { IfOk result (λ out. Reports form cycles.items (memory N.Nvm nvm.old)
-        (memory N.Nvm nvm.new) out.items) }
-    ensures cause { IfErr result (IsDrivenCause cycles.items (memory N.Nvm nvm.old)
-        (memory N.Nvm nvm.new)) }
+    ensures text { IfOk result (λ out. OfMemory N.Nvm (Reports form cycles.items) nvm.old nvm.new out.items) }
+    ensures cause { IfErr result (OfMemory N.Nvm (IsDrivenCause cycles.items) nvm.old nvm.new) }
     ensures lent { GoesOn N.Nvm nvm.old nvm.new }
     ensures later { N.faults nvm.old ≤ N.faults nvm.new }
-    ensures past { LeavesPast (N.content nvm.old) (N.settled nvm.old) (N.content nvm.new) (N.settled nvm.new) }
+    ensures past { Between N.Nvm LeavesPast nvm.old nvm.new }
 {
     match replay_driven(rt, alloc, nvm, cycles, workers, gate) {
         Ok(reports) => report_held(alloc, nvm, form, &reports),
@@ -84,14 +79,10 @@ fn drive_source<
     ensures source_later { S.faults source.old ≤ S.faults source.new }
     ensures lent { GoesOn N.Nvm nvm.old nvm.new }
     ensures later { N.faults nvm.old ≤ N.faults nvm.new }
-    ensures past { LeavesPast (N.content nvm.old) (N.settled nvm.old) (N.content nvm.new) (N.settled nvm.new) }
+    ensures past { Between N.Nvm LeavesPast nvm.old nvm.new }
     ensures end { OnOk result (IsAtEnd (S.left source.new)) }
-    ensures text { IfOk result (λ out. RunIs form (input S.Source source.old)
-        (memory N.Nvm nvm.old)
-        (memory N.Nvm nvm.new) out.items) }
-    ensures cause { IfErr result (IsDriveCause (input S.Source source.old) (input S.Source source.new)
-        (memory N.Nvm nvm.old)
-        (memory N.Nvm nvm.new)) }
+    ensures text { IfOk result (λ out. OfRun S.Source N.Nvm (RunIs form) source.old nvm.old nvm.new out.items) }
+    ensures cause { IfErr result (OfBoth S.Source N.Nvm IsDriveCause source.old source.new nvm.old nvm.new) }
 {
     let cycles = trace_of(alloc, source)?;
     open_settled(alloc, nvm)?;
@@ -141,32 +132,22 @@ pub fn drive<
     // what the device told at first to what it holds, with nothing pending. What holds of each run stands with it: each record is
     // from its own window and cycle, and no locked event is lost.
     ensures input { (form : Form) (workers : ℕ) → AreDrive form workers words.now → result ≡ Status.Ok → IsAtEnd (S.left source.new) }
-    ensures run { (form : Form) (workers : ℕ) → AreDrive form workers words.now → result ≡ Status.Ok
-        → Tells
-        (RunIs form (input S.Source source.old) (memory N.Nvm nvm.old) (memory N.Nvm nvm.new))
-        (K.content sink.old) (K.content sink.new) }
+    ensures run { (form : Form) (workers : ℕ) → AreDrive form workers words.now → OkTells K.Sink
+        (OfRun S.Source N.Nvm (RunIs form) source.old nvm.old nvm.new) result sink.old sink.new }
     // With another status the sink gained exactly the line of a fault that has its cause; and where a write failed, a part
     // of the report or of such a line.
-    ensures other { (form : Form) (workers : ℕ) → AreDrive form workers words.now → result ≢ Status.Ok → result ≢ Status.WriteFault
-        → TellsFault
-        (IsDriveCause (input S.Source source.old) (input S.Source source.new)
-        (memory N.Nvm nvm.old) (memory N.Nvm nvm.new))
-        result (K.content sink.old) (K.content sink.new) }
-    ensures part { (form : Form) (workers : ℕ) → AreDrive form workers words.now → result ≡ Status.WriteFault
-        → TellsPart
-        (RunIs form (input S.Source source.old) (memory N.Nvm nvm.old) (memory N.Nvm nvm.new))
-        (IsDriveCause (input S.Source source.old) (input S.Source source.new)
-        (memory N.Nvm nvm.old) (memory N.Nvm nvm.new))
-        (K.content sink.old) (K.content sink.new) }
+    ensures other { (form : Form) (workers : ℕ) → AreDrive form workers words.now → ElseTellsFault K.Sink
+        (OfBoth S.Source N.Nvm IsDriveCause source.old source.new nvm.old nvm.new) result sink.old sink.new }
+    ensures part { (form : Form) (workers : ℕ) → AreDrive form workers words.now → FaultTellsPart K.Sink
+        (OfRun S.Source N.Nvm (RunIs form) source.old nvm.old nvm.new)
+        (OfBoth S.Source N.Nvm IsDriveCause source.old source.new nvm.old nvm.new) result sink.old sink.new }
     // Whatever the status, what stands past the image stays.
     ensures past { (form : Form) (workers : ℕ) → AreDrive form workers words.now
-        → LeavesPast (N.content nvm.old) (N.settled nvm.old) (N.content nvm.new) (N.settled nvm.new) }
+        → Between N.Nvm LeavesPast nvm.old nvm.new }
     // Where nothing counts a fault, a trace is run over an image that isn't refused and has numbers left.
-    ensures complete { (form : Form) (workers : ℕ) (bytes image : List ℕ) (cycles : List CycleInput) (v : Store) (n : ℕ) → AreDrive form workers words.now
-        → S.left source.old ≡ Some bytes → length bytes ≤ largest_trace → Spell bytes cycles
-        → N.content nvm.old ≡ Some image → Says image v n → n + length cycles ≤ last_count
-        → ¬ Rose (S.faults source.old) (S.faults source.new) → ¬ Rose (N.faults nvm.old) (N.faults nvm.new) → ¬ Rose (K.faults sink.old) (K.faults sink.new)
-        → (result ≡ Status.Ok) ⊎ (result ≡ Status.OutOfMemory) }
+    ensures complete { (form : Form) (workers : ℕ) → AreDrive form workers words.now → CanRun (input S.Source source.old) (memory N.Nvm nvm.old)
+        → NoFault S.faults source.old source.new → NoFault N.faults nvm.old nvm.new → NoFault K.faults sink.old sink.new
+        → IsServed result }
 {
     let job = match words.job(alloc) {
         Ok(job) => job,

@@ -2,20 +2,20 @@
 //! the records to the bytes that are printed, the memory afterwards, and the status that the program ends with.
 #![tactic(auto)]
 
+mod commands;
 mod drives;
 mod endings;
-mod formats;
-mod generates;
-mod images;
+mod format;
+mod generate;
 pub mod laws;
-mod replays;
-mod runs;
+mod replay;
+mod report;
 mod status;
 mod traces;
 
+pub use commands::command;
 pub use drives::drive;
 pub use edr_words::Words;
-pub use runs::command;
 pub use status::Status;
 
 #[cfg(test)]

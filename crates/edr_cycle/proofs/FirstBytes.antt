@@ -4,8 +4,8 @@ use Rattle.std.proofs.lemmas.Grind.{common_steps}
 use Rattle.edr_device.specs.Device.{Elapses, Shows, Stays}
 use Rattle.edr_device.proofs.Settling.{stays_quiet}
 use Rattle.edr_image.specs.PartBytes.{number_at}
-use Rattle.edr_image.specs.Image.{View, is_open, older_slot, slot_count}
-use Rattle.edr_cycle.specs.Counter.{IsNext, place_of_slot}
+use Rattle.edr_image.specs.Image.{View, is_open, older_slot, place_of_slot, slot_count}
+use Rattle.edr_cycle.specs.Counter.{IsNext}
 use Rattle.edr_cycle.specs.Ends.{IsFound}
 use Rattle.edr_cycle.proofs.Front.{seen}
 

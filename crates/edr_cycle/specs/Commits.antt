@@ -4,6 +4,7 @@ use Rattle.edr_definitions.specs.Commands.{Issue}
 use Rattle.edr_device.specs.Device.{Elapses, IsQuiet, IsSettled, MayLeave}
 use Rattle.edr_device.specs.Faults.{last_number}
 use Rattle.edr_device.specs.Pieces.{Makes}
+use Rattle.edr_device.specs.declared.device.Nvm.{Ghosts}
 use Rattle.edr_image.specs.declared.Ack.{Ack}
 use Rattle.edr_image.specs.Banks.{Store}
 use Rattle.edr_image.specs.Calls.{all_calls, IsStop}
@@ -92,3 +93,7 @@ pub record Commits {D T E : Type 0} (content : D → Option (List ℕ)) (settled
   pub any_moment : (bytes : List ℕ) (v : View) → IsReadyFor b.store (content d) (settled d) bytes v → Elapses (clock d) (since d) (since d') (IsAfterFirst (steps_from (state_of b) xs) v)
   -- and it leaves what stands past the image
   pub past : (bytes : List ℕ) (v : View) → IsReadyFor b.store (content d) (settled d) bytes v → Elapses (clock d) (since d) (since d') (KeepsPast b.store.header bytes)
+
+-- the same of a memory
+abbrev pub CommitsOn : {D T E : Type 0} → Ghosts D → List Issue → Result T E → Opened → Opened → Logged → Logged → D → D → Type 0
+CommitsOn g xs result b b' l l' d d' = Commits g.content g.settled g.since g.clock g.last_good xs result b b' l l' d d'

@@ -1,11 +1,8 @@
--- The count of ignition cycles, in two slots of 32 bytes.
+-- The count of ignition cycles, in two slots.
 use Rattle.std.specs.Prelude.{◌≡◌, ◌⊎◌, ◌+◌, ◌*◌, ◌≤◌, ◌<◌, ℕ, Bool, Some, List}
 use Rattle.edr_device.specs.Pieces.{SameBut}
-use Rattle.edr_image.specs.Image.{View, is_open, older_slot, view_of}
-
--- where a slot begins
-abbrev pub place_of_slot : ℕ → ℕ
-place_of_slot s = 32 + 32 * s
+use Rattle.edr_image.specs.declared.places.TheConstants.{FIRST_SLOT, SLOT_SIZE}
+use Rattle.edr_image.specs.Image.{View, is_open, older_slot, place_of_slot, view_of}
 
 -- the older slot of these bytes, with its gate as it is, and a count that follows theirs
 pub record IsNext (slot : ℕ) (opened : Bool) (next : ℕ) (bytes : List ℕ) (v : View) : Type 0 where
@@ -16,7 +13,7 @@ pub record IsNext (slot : ℕ) (opened : Bool) (next : ℕ) (bytes : List ℕ) (
 
 -- the image says the same with this count, and is the same but for the two slots
 pub record SaysWith (count : ℕ) (bytes : List ℕ) (v : View) (image : List ℕ) : Type 0 where
-  pub others : SameBut 32 64 bytes image
+  pub others : SameBut FIRST_SLOT (2 * SLOT_SIZE) bytes image
   pub view_is : view_of image ≡ Some (record v { count = count })
 
 -- after a stop in call r of a start: the count is as before, or from call 5 on the next one

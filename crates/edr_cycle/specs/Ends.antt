@@ -4,6 +4,7 @@ use Rattle.std.specs.Option.{option_map_or}
 use Rattle.edr_items.specs.SensorLists.{SensorLists}
 use Rattle.edr_device.specs.Device.{Elapses, IsQuiet, MayLeave}
 use Rattle.edr_device.specs.Faults.{last_number}
+use Rattle.edr_device.specs.declared.device.Nvm.{Ghosts}
 use Rattle.edr_record.specs.Parts.{CrashPart}
 use Rattle.edr_record.specs.declared.Record.{Record}
 use Rattle.edr_record.specs.declared.Command.TheVariants as command
@@ -100,3 +101,7 @@ pub record MeetsCycle {D : Type 0} (content : D → Option (List ℕ)) (settled 
   pub keeps : (bytes image : List ℕ) → IsFound (record { store = v; count = n }) (content d) (settled d) bytes → since d' (clock d) image → KeepsEvents f n v image
   -- and what stands past the image stays
   pub past : (bytes image : List ℕ) → IsFound (record { store = v; count = n }) (content d) (settled d) bytes → since d' (clock d) image → KeepsPast v.header bytes image
+
+-- the same of a memory
+abbrev pub MeetsCycleOn : {D : Type 0} → Ghosts D → SensorLists → ℕ → Store → Bool → List Ack → D → D → Type 0
+MeetsCycleOn g f n v failed acks d d' = MeetsCycle g.content g.settled g.since g.clock g.last_good f n v failed acks d d'

@@ -3,6 +3,7 @@ use Rattle.std.specs.Prelude.{◌≡◌, ◌≢◌, ◌⊎◌, ◌+◌, ◌-◌,
 use Rattle.edr_items.specs.SensorLists.{SensorLists}
 use Rattle.edr_device.specs.Device.{Elapses, IsQuiet, MayLeave}
 use Rattle.edr_device.specs.Faults.{last_number}
+use Rattle.edr_device.specs.declared.device.Nvm.{Ghosts}
 use Rattle.edr_image.specs.Image.{View}
 use Rattle.edr_image.specs.Kept.{IsKept}
 use Rattle.edr_image.specs.Reports.{StartStopped}
@@ -58,3 +59,7 @@ pub record MeetsStart {D T E : Type 0} (content : D → Option (List ℕ)) (sett
   pub each : (bytes image : List ℕ) (v : View) → IsFound v (content d) (settled d) bytes → since d' (clock d) image → IsCounted 6 (v.count + 1) bytes v image
   -- and what was kept stays so
   pub kept : (bytes image : List ℕ) → IsQuiet (content d) (settled d) bytes → IsKept bytes → since d' (clock d) image → IsKept image
+
+-- the same of a memory
+abbrev pub MeetsStartOn : {D T E : Type 0} → Ghosts D → Result T E → D → D → Type 0
+MeetsStartOn g result d d' = MeetsStart g.content g.settled g.since g.clock g.last_good result d d'

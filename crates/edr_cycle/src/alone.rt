@@ -5,7 +5,7 @@ ghost use Rattle.edr_device.specs.Lent.{GoesOn};
 ghost use Rattle.edr_items.specs.SensorLists.{IsLevel, horizon_of};
 ghost use Rattle.edr_device.specs.Faults.{Rose};
 ghost use Rattle.edr_image.specs.Image.{image_size};
-ghost use Rattle.edr_cycle.specs.Ends.{MeetsCycle};
+ghost use Rattle.edr_cycle.specs.Ends.{MeetsCycleOn};
 
 use crate::running::run;
 use crate::started::{CycleEnd, Parts, Started};
@@ -29,8 +29,8 @@ pub fn run_alone<N: Nvm>(started: Started, feeds: &Feeds, nvm: &mut N) -> CycleE
     ensures lent { GoesOn N.Nvm nvm.old nvm.new }
     ensures later { N.faults nvm.old ≤ N.faults nvm.new }
     ensures cause { result.failed ≡ true → Rose (N.faults nvm.old) (N.faults nvm.new) }
-    ensures cycle { MeetsCycle N.content N.settled N.since N.clock N.last_good
-        feeds.now started.number started.banks.store result.failed result.log.acks nvm.old nvm.new }
+    ensures cycle { MeetsCycleOn N.Nvm feeds.now started.number started.banks.store
+        result.failed result.log.acks nvm.old nvm.new }
 {
     let number = started.number();
     let Parts {

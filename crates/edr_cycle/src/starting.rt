@@ -3,16 +3,17 @@
 ghost use Rattle.std.specs.Prelude.{◌≡◌, ◌↔◌, ◌+◌, ◌-◌, ◌≤◌, ◌<◌, ℕ, List, Some, Err, IfOk, IfErr};
 ghost use Rattle.edr_device.specs.Device.{Stays};
 ghost use Rattle.edr_device.specs.Faults.{Rose};
-ghost use Rattle.edr_device.specs.Lent.{GoesOn, OnlyRead};
+ghost use Rattle.edr_device.specs.Lent.{At, GoesOn, OnlyRead};
 ghost use Rattle.edr_image.specs.declared.OpenFault.{OpenFault};
 ghost use Rattle.edr_image.specs.declared.OpenFault.TheVariants.{Short};
+ghost use Rattle.edr_image.specs.declared.places.TheConstants.{FRONT_SIZE};
 ghost use Rattle.edr_image.specs.Image.{View, image_refusal, image_size, view_of};
 ghost use Rattle.edr_banks.specs.Opening.{IsRefusal};
 ghost use Rattle.edr_run.specs.Cycle.{last_count};
 ghost use Rattle.edr_cycle.specs.Begun.{room_for};
 ghost use Rattle.edr_cycle.specs.Counter.{SaysWith};
 ghost use Rattle.edr_cycle.specs.Ends.{IsFound};
-ghost use Rattle.edr_cycle.specs.Starts.{IsEarly, IsOpened, IsStoreFault, MeetsStart};
+ghost use Rattle.edr_cycle.specs.Starts.{IsEarly, IsOpened, IsStoreFault, MeetsStartOn};
 ghost use Rattle.edr_cycle.specs.declared.started.StartFault.TheVariants.{Open, Spent};
 
 use crate::counter::count_cycle;
@@ -38,7 +39,7 @@ fn prepare<N: Nvm>(alloc: Global, nvm: &mut N, ticks: u32) -> Result<Started, St
     ensures number { IfOk result (λ s. (1 ≤ s.number) × (s.number ≤ last_count)) }
     ensures fits { IfOk result (λ s. image_size s.banks.store.header.banks ≤ N.extent nvm.old) }
     ensures refused { IfErr result (λ e. (o : OpenFault) → e ≡ Open o → IsRefusal o → (bytes : List ℕ) → N.content nvm.old ≡ Some bytes → image_refusal bytes ≡ Some o) }
-    ensures short { N.extent nvm.old < 96 → result ≡ Err (Open (Short (N.extent nvm.old) 96)) }
+    ensures short { N.extent nvm.old < FRONT_SIZE → result ≡ Err (Open (Short (N.extent nvm.old) FRONT_SIZE)) }
     ensures sizes { IfErr result (λ e. (size needed : ℕ) → e ≡ Open (Short size needed) → (size ≡ N.extent nvm.old) × (size < needed)) }
     ensures spent { IfErr result (λ e. IsOpened e → (bytes : List ℕ) → N.content nvm.old ≡ Some bytes → (v : View) × (view_of bytes ≡ Some v) × (v.count ≤ last_count) × ((e ≡ Spent) ↔ (v.count ≡ last_count))) }
     ensures early { IfErr result IsEarly }
@@ -78,18 +79,18 @@ pub fn start<N: Nvm>(alloc: Global, nvm: &mut N, ticks: u32) -> Result<Started, 
     ensures number { IfOk result (λ s. (1 ≤ s.number) × (s.number ≤ last_count)) }
     ensures fits { IfOk result (λ s. image_size s.banks.store.header.banks ≤ N.extent nvm.old) }
     // Where nothing was pending nothing is, and the image says the same with that number as its count.
-    ensures made { IfOk result (λ s. (bytes : List ℕ) (v : View) → IsFound v (N.content nvm.old) (N.settled nvm.old) bytes
-        → (now : List ℕ) × IsFound (record { store = s.banks.store; count = s.number }) (N.content nvm.new) (N.settled nvm.new) now × SaysWith (v.count + 1) bytes v now) }
+    ensures made { IfOk result (λ s. (bytes : List ℕ) (v : View) → At N.Nvm (IsFound v) nvm.old bytes
+        → (now : List ℕ) × At N.Nvm (IsFound (record { store = s.banks.store; count = s.number })) nvm.new now × SaysWith (v.count + 1) bytes v now) }
     // The cause of each answer: what refuses the image, a count at its greatest number, a fault of the device.
     ensures refused { IfErr result (λ e. (o : OpenFault) → e ≡ Open o → IsRefusal o → (bytes : List ℕ) → N.content nvm.old ≡ Some bytes → image_refusal bytes ≡ Some o) }
-    ensures short { N.extent nvm.old < 96 → result ≡ Err (Open (Short (N.extent nvm.old) 96)) }
+    ensures short { N.extent nvm.old < FRONT_SIZE → result ≡ Err (Open (Short (N.extent nvm.old) FRONT_SIZE)) }
     ensures sizes { IfErr result (λ e. (size needed : ℕ) → e ≡ Open (Short size needed) → (size ≡ N.extent nvm.old) × (size < needed)) }
     ensures spent { IfErr result (λ e. IsOpened e → (bytes : List ℕ) → N.content nvm.old ≡ Some bytes → (v : View) × (view_of bytes ≡ Some v) × (v.count ≤ last_count) × ((e ≡ Spent) ↔ (v.count ≡ last_count))) }
     ensures fault { IfErr result (λ e. IsStoreFault e → Rose (N.faults nvm.old) (N.faults nvm.new)) }
     ensures later { N.faults nvm.old ≤ N.faults nvm.new }
     // Any answer but a fault after the opening comes before the first changing call.
-    ensures early { IfErr result (λ e. IsEarly e → (N.clock nvm.new ≡ N.clock nvm.old) × (N.last_good nvm.new ≡ N.last_good nvm.old) × Stays (N.content nvm.old) (N.settled nvm.old) (N.since nvm.old) (N.content nvm.new) (N.settled nvm.new) (N.since nvm.new)) }
-    ensures cycle { MeetsStart N.content N.settled N.since N.clock N.last_good result nvm.old nvm.new }
+    ensures early { IfErr result (λ e. IsEarly e → (N.clock nvm.new ≡ N.clock nvm.old) × (N.last_good nvm.new ≡ N.last_good nvm.old) × At N.Nvm Stays nvm.old (N.since nvm.old) (N.content nvm.new) (N.settled nvm.new) (N.since nvm.new)) }
+    ensures cycle { MeetsStartOn N.Nvm result nvm.old nvm.new }
     ensures lent { GoesOn N.Nvm nvm.old nvm.new }
 {
     let started = prepare(alloc, nvm, ticks)?;

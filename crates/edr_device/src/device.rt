@@ -2,8 +2,12 @@
 ghost use Rattle.std.specs.Prelude.{◌≡◌, ◌+◌, ◌≤◌, ◌<◌, ◌^◌, ℕ, Bool, List, Option, Some, length, IsErr, OnOk, OnErr};
 ghost use Rattle.edr_device.specs.Device.{Cycled, Elapses, MayLeave, Shows, Stays, Synced, Ticks, Wrote, outside};
 ghost use Rattle.edr_device.specs.Faults.{HasCause, last_number};
+ghost use Rattle.edr_device.specs.declared.device.TheConstants.{LONGEST_WRITE};
 
 use crate::stream::Failed;
+
+/// The most bytes of one write.
+pub const LONGEST_WRITE: usize = 512;
 
 /// A memory of fixed size, of bytes with the offsets 0 to size - 1. A sync settles what was written before it. A crash
 /// keeps the settled bytes alone, and leaves anything at the other offsets.
@@ -56,11 +60,11 @@ pub trait Nvm {
         ensures cause { HasCause (faults self.old) (faults self.new) result }
         ensures device { goes_on self.old self.new };
 
-    /// Writes 1 to 512 bytes from `at` on, which are not settled then. A failed write keeps each settled byte outside
+    /// Writes 1 to [`LONGEST_WRITE`] bytes from `at` on, which are not settled then. A failed write keeps each settled byte outside
     /// their range, and leaves anything elsewhere, settled or not. At the last number of the clock nothing is done.
     fn write(&mut self, at: u32, bytes: &[u8]) -> Result<(), Failed>
         requires range { at + length bytes.now ≤ extent self.old }
-        requires piece { (1 ≤ length bytes.now) × (length bytes.now ≤ 512) }
+        requires piece { (1 ≤ length bytes.now) × (length bytes.now ≤ LONGEST_WRITE) }
         ensures size { extent self.new ≡ extent self.old }
         ensures told { Wrote at bytes.now result
             (content self.old) (settled self.old) (content self.new) (settled self.new) }

@@ -3,6 +3,7 @@ ghost use Rattle.std.specs.Prelude.{◌≡◌, ◌≢◌, ◌⊎◌, ◌+◌, �
 ghost use Rattle.edr_device.specs.Device.{Cycled, Elapses, MayLeave, Shows, Stays, Synced, Ticks, Wrote, outside};
 ghost use Rattle.edr_device.specs.Faults.{HasCause, Rose, last_number};
 ghost use Rattle.edr_device.specs.FuseState.{FuseGoesOn, IsDue, IsPassing, IsRefusing, IsStopping, PassesChange, StopsInSync, StopsInWrite, after_change, after_pass, after_refusal, after_refused_change, after_stop, fuse_state, fused_content, fused_extent, fused_settled, fused_since, lifted, new_fuse};
+ghost use Rattle.edr_device.specs.declared.device.TheConstants.{LONGEST_WRITE};
 
 use crate::device::Nvm;
 use crate::fused::Fused;
@@ -199,7 +200,7 @@ impl<'a, N: Nvm> Nvm for Fused<'a, N> {
     /// the device fails.
     fn write(&mut self, at: u32, bytes: &[u8]) -> Result<(), Failed>
         requires range { at + length bytes.now ≤ fused_extent self.old }
-        requires piece { (1 ≤ length bytes.now) × (length bytes.now ≤ 512) }
+        requires piece { (1 ≤ length bytes.now) × (length bytes.now ≤ LONGEST_WRITE) }
         ensures size { fused_extent self.new ≡ fused_extent self.old }
         ensures told { Wrote at bytes.now result
             (fused_content self.old) (fused_settled self.old)

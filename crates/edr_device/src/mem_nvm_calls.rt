@@ -3,6 +3,7 @@ ghost use Rattle.std.specs.Prelude.{◌≡◌, ◌+◌, ◌≤◌, ◌<◌, ◌^
 ghost use Rattle.edr_device.specs.Device.{Cycled, Elapses, MayLeave, Shows, Stays, Synced, Ticks, Wrote, outside};
 ghost use Rattle.edr_device.specs.Faults.{HasCause, last_number};
 ghost use Rattle.edr_device.specs.Memory.{ChangeFails, ReadFails, Remembers, SameChoices, after_failed_change, after_power_cycle, after_read, after_sync, after_write, memory_content, memory_image, memory_settled, memory_since, memory_state, new_memory};
+ghost use Rattle.edr_device.specs.declared.device.TheConstants.{LONGEST_WRITE};
 
 use crate::calls::is_numbered;
 use crate::device::Nvm;
@@ -158,7 +159,7 @@ impl Nvm for MemNvm {
     /// It fails exactly where the call is numbered or none is left, and then changes no byte.
     fn write(&mut self, at: u32, bytes: &[u8]) -> Result<(), Failed>
         requires range { at + length bytes.now ≤ length (memory_image self.old) }
-        requires piece { (1 ≤ length bytes.now) × (length bytes.now ≤ 512) }
+        requires piece { (1 ≤ length bytes.now) × (length bytes.now ≤ LONGEST_WRITE) }
         ensures size { length (memory_image self.new) ≡ length (memory_image self.old) }
         ensures told { Wrote at bytes.now result (memory_content self.old) (memory_settled self.old)
             (memory_content self.new) (memory_settled self.new) }

@@ -1,6 +1,7 @@
 //! The memory in memory and the fuse, by numbers; and what a caller knows of any device.
+ghost use Rattle.edr_device.specs.Lent.{At, Meanwhile};
 ghost use Rattle.std.specs.Prelude.{◌≡◌, ◌+◌, ◌≤◌, ◌<◌, ◌^◌, ℕ, List, length, OnOk, IfOk, IsErr};
-ghost use Rattle.edr_device.specs.Device.{Elapses, IsQuiet, Ticks};
+ghost use Rattle.edr_device.specs.Device.{IsQuiet, Ticks};
 ghost use Rattle.edr_device.specs.Faults.{HasCause, last_number, next_number};
 ghost use Rattle.edr_device.specs.Memory.{memory_image};
 ghost use Rattle.edr_device.specs.Pieces.{SameBut, put_at};
@@ -28,19 +29,19 @@ fn write_and_read_back<N: Nvm>(
     ensures cause { HasCause (N.faults nvm.old) (N.faults nvm.new) result }
     ensures device { N.goes_on nvm.old nvm.new }
     ensures back { OnOk result (
-        (bytes : List ℕ) → IsQuiet (N.content nvm.old) (N.settled nvm.old) bytes → into.new ≡ piece.now) }
+        (bytes : List ℕ) → At N.Nvm IsQuiet nvm.old bytes → into.new ≡ piece.now) }
     ensures settled { OnOk result (
-        (bytes : List ℕ) → IsQuiet (N.content nvm.old) (N.settled nvm.old) bytes
-        → IsQuiet (N.content nvm.new) (N.settled nvm.new) (put_at at piece.now bytes)) }
+        (bytes : List ℕ) → At N.Nvm IsQuiet nvm.old bytes
+        → At N.Nvm IsQuiet nvm.new (put_at at piece.now bytes)) }
     // A crash at any moment leaves what was there, but for the piece's place.
-    ensures any_moment { (bytes : List ℕ) → IsQuiet (N.content nvm.old) (N.settled nvm.old) bytes
-        → Elapses (N.clock nvm.old) (N.since nvm.old) (N.since nvm.new) (SameBut at (length piece.now) bytes) }
+    ensures any_moment { (bytes : List ℕ) → At N.Nvm IsQuiet nvm.old bytes
+        → Meanwhile N.Nvm nvm.old nvm.new (SameBut at (length piece.now) bytes) }
     // So does one after the write, and one after the sync leaves the piece too.
     ensures after_write { OnOk result (
-        (bytes image : List ℕ) → IsQuiet (N.content nvm.old) (N.settled nvm.old) bytes
+        (bytes image : List ℕ) → At N.Nvm IsQuiet nvm.old bytes
         → N.since nvm.new (N.clock nvm.old + 1) image → SameBut at (length piece.now) bytes image) }
     ensures after_sync { OnOk result (
-        (bytes image : List ℕ) → IsQuiet (N.content nvm.old) (N.settled nvm.old) bytes
+        (bytes image : List ℕ) → At N.Nvm IsQuiet nvm.old bytes
         → N.since nvm.new (N.clock nvm.old + 2) image → image ≡ put_at at piece.now bytes) }
 {
     nvm.write(at, piece)?;

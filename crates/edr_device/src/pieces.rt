@@ -1,31 +1,32 @@
 //! Pieces that are settled as soon as they are written.
 ghost use Rattle.std.specs.Prelude.{◌≡◌, ◌+◌, ◌-◌, ◌≤◌, [], ◌∷◌, ℕ, List, length, OnOk, OnErr};
-ghost use Rattle.edr_device.specs.Device.{Elapses, IsQuiet, MayLeave};
-ghost use Rattle.edr_device.specs.Lent.{Lent};
-ghost use Rattle.edr_device.specs.Pieces.{IsGatedStop, SameBut, Makes, put_at};
+ghost use Rattle.edr_device.specs.Device.{IsQuiet, MayLeave};
+ghost use Rattle.edr_device.specs.Lent.{At, Lent, MakesCalls, Meanwhile};
+ghost use Rattle.edr_device.specs.Pieces.{IsGatedStop, SameBut, put_at};
+ghost use Rattle.edr_device.specs.declared.device.TheConstants.{LONGEST_WRITE};
 
 use crate::device::Nvm;
 use crate::stream::Failed;
 
-/// Writes a piece of 1 to 512 bytes from `at` on, and settles it: two changing calls. Its clauses about bytes are for a
+/// Writes a piece of 1 to [`LONGEST_WRITE`] bytes from `at` on, and settles it: two changing calls. Its clauses about bytes are for a
 /// device that tells them and on which nothing is pending.
 pub fn write_settled<N: Nvm>(nvm: &mut N, at: u32, piece: &[u8]) -> Result<(), Failed>
     requires range { at + length piece.now ≤ N.extent nvm.old }
-    requires few { (1 ≤ length piece.now) × (length piece.now ≤ 512) }
+    requires few { (1 ≤ length piece.now) × (length piece.now ≤ LONGEST_WRITE) }
     ensures lent { Lent N.Nvm nvm.old nvm.new result }
-    ensures time { Makes 2 (N.clock nvm.old) (N.clock nvm.new) (N.last_good nvm.old) (N.last_good nvm.new) result }
+    ensures time { MakesCalls 2 N.Nvm nvm.old nvm.new result }
     ensures done { OnOk result (
-        (bytes : List ℕ) → IsQuiet (N.content nvm.old) (N.settled nvm.old) bytes
-        → IsQuiet (N.content nvm.new) (N.settled nvm.new) (put_at at piece.now bytes)) }
+        (bytes : List ℕ) → At N.Nvm IsQuiet nvm.old bytes
+        → At N.Nvm IsQuiet nvm.new (put_at at piece.now bytes)) }
     // After a fault a crash leaves what was there, but for the piece's place; and all of it where no call was made.
     ensures stopped { OnErr result (
-        (bytes image : List ℕ) → IsQuiet (N.content nvm.old) (N.settled nvm.old) bytes
-        → MayLeave (N.content nvm.new) (N.settled nvm.new) image
+        (bytes image : List ℕ) → At N.Nvm IsQuiet nvm.old bytes
+        → At N.Nvm MayLeave nvm.new image
         → SameBut at (length piece.now) bytes image
         × (N.clock nvm.new ≡ N.clock nvm.old → image ≡ bytes)) }
     // So does a crash at any moment of the call.
-    ensures any_moment { (bytes : List ℕ) → IsQuiet (N.content nvm.old) (N.settled nvm.old) bytes
-        → Elapses (N.clock nvm.old) (N.since nvm.old) (N.since nvm.new)
+    ensures any_moment { (bytes : List ℕ) → At N.Nvm IsQuiet nvm.old bytes
+        → Meanwhile N.Nvm nvm.old nvm.new
         (SameBut at (length piece.now) bytes) }
 {
     nvm.write(at, piece)?;
@@ -33,7 +34,7 @@ pub fn write_settled<N: Nvm>(nvm: &mut N, at: u32, piece: &[u8]) -> Result<(), F
     Ok(())
 }
 
-/// Writes a piece of 1 to 512 bytes and settles it, and then writes a gate byte and settles it: four changing calls. Its
+/// Writes a piece of 1 to [`LONGEST_WRITE`] bytes and settles it, and then writes a gate byte and settles it: four changing calls. Its
 /// clauses about bytes are for a device that tells them and on which nothing is pending.
 pub fn write_gated<N: Nvm>(
     nvm: &mut N,
@@ -43,22 +44,22 @@ pub fn write_gated<N: Nvm>(
     gate: u8,
 ) -> Result<(), Failed>
     requires range { at + length piece.now ≤ N.extent nvm.old }
-    requires few { (1 ≤ length piece.now) × (length piece.now ≤ 512) }
+    requires few { (1 ≤ length piece.now) × (length piece.now ≤ LONGEST_WRITE) }
     requires gate { gate_at + 1 ≤ N.extent nvm.old }
     ensures lent { Lent N.Nvm nvm.old nvm.new result }
-    ensures time { Makes 4 (N.clock nvm.old) (N.clock nvm.new) (N.last_good nvm.old) (N.last_good nvm.new) result }
+    ensures time { MakesCalls 4 N.Nvm nvm.old nvm.new result }
     ensures done { OnOk result (
-        (bytes : List ℕ) → IsQuiet (N.content nvm.old) (N.settled nvm.old) bytes
-        → IsQuiet (N.content nvm.new) (N.settled nvm.new)
+        (bytes : List ℕ) → At N.Nvm IsQuiet nvm.old bytes
+        → At N.Nvm IsQuiet nvm.new
         (put_at gate_at (gate ∷ []) (put_at at piece.now bytes))) }
     // After a fault a crash leaves what was there, but for the piece's place; or from the third call on the whole piece
     // too, and all else but for the gate's place.
     ensures stopped { OnErr result (
-        (bytes image : List ℕ) → IsQuiet (N.content nvm.old) (N.settled nvm.old) bytes
-        → MayLeave (N.content nvm.new) (N.settled nvm.new) image
+        (bytes image : List ℕ) → At N.Nvm IsQuiet nvm.old bytes
+        → At N.Nvm MayLeave nvm.new image
         → IsGatedStop (N.clock nvm.new - N.clock nvm.old) at piece.now gate_at bytes image) }
-    ensures any_moment { (bytes : List ℕ) → IsQuiet (N.content nvm.old) (N.settled nvm.old) bytes
-        → Elapses (N.clock nvm.old) (N.since nvm.old) (N.since nvm.new)
+    ensures any_moment { (bytes : List ℕ) → At N.Nvm IsQuiet nvm.old bytes
+        → Meanwhile N.Nvm nvm.old nvm.new
         (IsGatedStop 3 at piece.now gate_at bytes) }
 {
     write_settled(nvm, at, piece)?;

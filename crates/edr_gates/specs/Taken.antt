@@ -2,11 +2,11 @@
 use Rattle.std.specs.Prelude.{◌≡◌, ℕ, ◌-◌, ◌≤◌, ◌<◌, Bool, false, Option, Some, None, List, [], ◌∷◌, length, take, slice_get, slice_index, All, Contains, Result, OnOk, OnErr}
 use Rattle.edr_record.specs.declared.Record.{Record}
 use Rattle.edr_device.specs.Device.{Elapses, IsQuiet, MayLeave, is_in}
-use Rattle.edr_device.specs.Lent.{Lent}
-use Rattle.edr_device.specs.Pieces.{Makes}
+use Rattle.edr_device.specs.Lent.{Between, Lent, MakesCalls}
 use Rattle.edr_device.specs.declared.device.Nvm.{Ghosts}
 use Rattle.edr_image.specs.declared.BankView.{BankView}
 use Rattle.edr_image.specs.declared.BankView.TheVariants.{Void, Event}
+use Rattle.edr_image.specs.declared.places.TheConstants.{BANK_SIZE}
 use Rattle.edr_image.specs.Steps.{Step, Erase, Fill, Lock, Done, after, banks_after}
 use Rattle.edr_image.specs.Calls.{all_calls, stops}
 use Rattle.edr_image.specs.Image.{View, image_after, place_of, view_of, writes_of}
@@ -47,7 +47,7 @@ bank_of (Done m crash) = m
 -- the offset lies in no bank in which one of the steps is taken
 abbrev pub IsAside : List Step → ℕ → Type 0
 IsAside [] i = Unit {0}
-IsAside (s ∷ steps) i = (is_in (place_of (bank_of s)) 512 i ≡ false) × IsAside steps i
+IsAside (s ∷ steps) i = (is_in (place_of (bank_of s)) BANK_SIZE i ≡ false) × IsAside steps i
 
 -- the offset lies in no write of the steps
 abbrev pub IsUnwritten : List Step → ℕ → Type 0
@@ -100,15 +100,21 @@ EachIsPassed steps content settled before since =
     (bytes image : List ℕ) (v : View) → IsReady steps content settled bytes v
     → since before image → IsPassed steps bytes v image
 
+-- the same two of a memory
+abbrev pub PassMeanwhileOn : {D : Type 0} → Ghosts D → List Step → D → D → Type 0
+PassMeanwhileOn g steps old new = PassMeanwhile steps (g.content old) (g.settled old) (g.clock old) (g.since old) (g.since new)
+
+abbrev pub EachIsPassedOn : {D : Type 0} → Ghosts D → List Step → D → D → Type 0
+EachIsPassedOn g steps old new = EachIsPassed steps (g.content old) (g.settled old) (g.clock old) (g.since new)
+
 -- ---- a call that takes steps
 
 -- Whatever comes of it: the device goes on, and time passes. At Ok the steps are taken; after a fault a crash leaves what a
 -- stop in the last call leaves, and a crash meanwhile some first steps.
 pub record TakesSteps {T E D : Type 0} (g : Ghosts D) (steps : List Step) (old new : D) (result : Result T E) : Type 0 where
   pub lent : Lent g old new result
-  pub time : Makes (all_calls steps) (g.clock old) (g.clock new) (g.last_good old) (g.last_good new) result
-  pub taken : OnOk result (AreTaken steps (g.content old) (g.settled old) (g.content new) (g.settled new))
-  pub stopped : OnErr result
-      (AreStopped steps (g.clock new - g.clock old) (g.content old) (g.settled old) (g.content new) (g.settled new))
-  pub any_moment : PassMeanwhile steps (g.content old) (g.settled old) (g.clock old) (g.since old) (g.since new)
-  pub each : EachIsPassed steps (g.content old) (g.settled old) (g.clock old) (g.since new)
+  pub time : MakesCalls (all_calls steps) g old new result
+  pub taken : OnOk result (Between g (AreTaken steps) old new)
+  pub stopped : OnErr result (Between g (AreStopped steps (g.clock new - g.clock old)) old new)
+  pub any_moment : PassMeanwhileOn g steps old new
+  pub each : EachIsPassedOn g steps old new

@@ -1,5 +1,6 @@
 //! Several steps on one bank, one after the other.
 ghost use Rattle.std.specs.Prelude.{◌+◌, ◌≤◌, [], ◌∷◌};
+ghost use Rattle.edr_image.specs.declared.places.TheConstants.{BANK_SIZE, MOST_BANKS};
 ghost use Rattle.edr_image.specs.Image.{place_of};
 ghost use Rattle.edr_image.specs.Steps.{Erase, Fill, Lock};
 ghost use Rattle.edr_gates.specs.Taken.{TakesSteps};
@@ -11,8 +12,8 @@ use edr_record::Pre;
 /// Puts a new event in the place of one that may go.
 pub fn replace<N: Nvm>(nvm: &mut N, bank: u8, pre: &Pre) -> Result<(), Failed>
     requires from { 1 ≤ bank }
-    requires to { bank ≤ 16 }
-    requires fits { place_of bank + 512 ≤ N.extent nvm.old }
+    requires to { bank ≤ MOST_BANKS }
+    requires fits { place_of bank + BANK_SIZE ≤ N.extent nvm.old }
     ensures { TakesSteps N.Nvm (Erase bank ∷ Fill bank pre.now ∷ []) nvm.old nvm.new result }
 {
     erase(nvm, bank)?;
@@ -22,8 +23,8 @@ pub fn replace<N: Nvm>(nvm: &mut N, bank: u8, pre: &Pre) -> Result<(), Failed>
 // Puts a new event into a void bank, and locks it.
 fn fill_locked<N: Nvm>(nvm: &mut N, bank: u8, pre: &Pre) -> Result<(), Failed>
     requires from { 1 ≤ bank }
-    requires to { bank ≤ 16 }
-    requires fits { place_of bank + 512 ≤ N.extent nvm.old }
+    requires to { bank ≤ MOST_BANKS }
+    requires fits { place_of bank + BANK_SIZE ≤ N.extent nvm.old }
     ensures { TakesSteps N.Nvm (Fill bank pre.now ∷ Lock bank ∷ []) nvm.old nvm.new result }
 {
     fill(nvm, bank, pre)?;
@@ -33,8 +34,8 @@ fn fill_locked<N: Nvm>(nvm: &mut N, bank: u8, pre: &Pre) -> Result<(), Failed>
 /// Puts a new event, locked, in the place of one that may go.
 pub fn replace_locked<N: Nvm>(nvm: &mut N, bank: u8, pre: &Pre) -> Result<(), Failed>
     requires from { 1 ≤ bank }
-    requires to { bank ≤ 16 }
-    requires fits { place_of bank + 512 ≤ N.extent nvm.old }
+    requires to { bank ≤ MOST_BANKS }
+    requires fits { place_of bank + BANK_SIZE ≤ N.extent nvm.old }
     ensures { TakesSteps N.Nvm (Erase bank ∷ Fill bank pre.now ∷ Lock bank ∷ []) nvm.old nvm.new result }
 {
     erase(nvm, bank)?;

@@ -82,6 +82,7 @@ pub enum OpenFault {
 
 pub mod laws;
 mod log;
+pub mod places;
 #[cfg(test)]
 mod tests;
 

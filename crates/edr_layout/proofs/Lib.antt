@@ -1,0 +1,2 @@
+pub mod NewFront
+pub mod PartPlaces

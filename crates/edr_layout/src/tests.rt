@@ -1,6 +1,8 @@
 ghost use Rattle.std.specs.Prelude.{◌<◌, ◌≤◌};
 
 use super::*;
+use byteorder::{BigEndian, ByteOrder};
+use edr_image::places::{FIRST_SLOT, SECOND_SLOT};
 
 // The first bytes of an image with four banks that keeps what it has, with no start counted.
 fn first_bytes() -> [u8; 96] {
@@ -112,4 +114,46 @@ fn banks_stand_behind_the_first_bytes(rt: HostRuntime) {
     assert_eq!(rt; place_of(1), 96);
     assert_eq!(rt; place_of(2), 608);
     assert_eq!(rt; place_of(16), 7776);
+}
+
+#[test]
+fn a_new_front_is_read_back(rt: HostRuntime) {
+    let header = Header {
+        banks: 4,
+        choice: Choice::Keep,
+    };
+    assert_eq!(rt; new_front(header), first_bytes());
+    let overwrites = Header {
+        banks: 16,
+        choice: Choice::Overwrite,
+    };
+    let front = new_front(overwrites);
+    assert_eq!(rt; read_header(&front), Ok(overwrites));
+    assert_eq!(rt; read_count(&front), 0);
+    assert_eq!(rt; older_slot(&front), 0);
+}
+
+#[test]
+fn marks_stand_on_the_gates_of_their_bank(rt: HostRuntime) {
+    assert_eq!(rt; erase_write(1), Mark { at: 96, byte: 0 });
+    let locked = Mark {
+        at: 609,
+        byte: OPEN_GATE,
+    };
+    assert_eq!(rt; lock_write(2), locked);
+}
+
+#[test]
+fn a_count_is_written_behind_the_closed_gate_of_its_slot(rt: HostRuntime) {
+    assert_eq!(rt; closing_write(64, true), Mark { at: 64, byte: 0 });
+    // A torn write of a gate that is closed already could open it.
+    assert_eq!(rt; closing_write(64, false), Mark { at: 65, byte: 0 });
+    let count = Gated {
+        at: 68,
+        piece: [1, 2, 3, 4],
+        gate: 64,
+    };
+    assert_eq!(rt; count_writes(64, 0x0102_0304), count);
+    assert_eq!(rt; place_of_slot(0), 32);
+    assert_eq!(rt; place_of_slot(1), 64);
 }

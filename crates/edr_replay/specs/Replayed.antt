@@ -2,6 +2,7 @@
 use Rattle.std.specs.Prelude.{◌≡◌, ◌≢◌, ◌⊎◌, ◌+◌, ◌<◌, ℕ, Bool, List, Option, Some, length, map, take}
 use Rattle.edr_device.specs.Device.{IsQuiet, MayLeave}
 use Rattle.edr_device.specs.Faults.{Rose}
+use Rattle.edr_image.specs.declared.places.TheConstants.{FRONT_SIZE}
 use Rattle.edr_image.specs.declared.log.CycleReport.{CycleReport}
 use Rattle.edr_image.specs.Reports.{report_of}
 use Rattle.edr_image.specs.declared.OpenFault.TheVariants as open_fault
@@ -41,9 +42,9 @@ IsTrulySpent content settled content' settled' e = e ≡ fault.Spent → (v : St
 unfoldable pub IsTrulyRefused : Option (List ℕ) → (ℕ → Bool) → StartFault → Type 0
 IsTrulyRefused content settled e = IsRefusal e → (v : Store) (n : ℕ) → ¬ Holds content settled v n
 
--- a size that is told as too short is the device's, and less than what is needed: 96 bytes for the header, or more for its banks
+-- a size that is told as too short is the device's, and less than what is needed: the front, or more for its banks
 abbrev pub IsShortOf : ℕ → ℕ → ℕ → Type 0
-IsShortOf extent size needed = (size ≡ extent) × (size < needed) × (extent < 96 → needed ≡ 96)
+IsShortOf extent size needed = (size ≡ extent) × (size < needed) × (extent < FRONT_SIZE → needed ≡ FRONT_SIZE)
 
 unfoldable pub IsTrulyShort : ℕ → StartFault → Type 0
 IsTrulyShort extent e = (size needed : ℕ) → e ≡ fault.Open (open_fault.Short size needed) → IsShortOf extent size needed

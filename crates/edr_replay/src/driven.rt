@@ -4,7 +4,7 @@
 ghost use Rattle.std.specs.Prelude.{◌≡◌, ◌<◌, ◌≤◌, ℕ, All, IfOk, IfErr};
 ghost use Rattle.std.specs.Arc.{arc_value};
 ghost use Rattle.edr_device.specs.Faults.{Rose};
-ghost use Rattle.edr_device.specs.Lent.{GoesOn};
+ghost use Rattle.edr_device.specs.Lent.{At, Between, GoesOn};
 ghost use Rattle.edr_image.specs.Banks.{Store};
 ghost use Rattle.edr_image.specs.Image.{image_size};
 ghost use Rattle.edr_image.specs.Reports.{report_of};
@@ -49,11 +49,11 @@ fn drive_until<
     requires size { image_size started.banks.store.header.banks ≤ N.extent nvm.old }
     ensures lent { GoesOn N.Nvm nvm.old nvm.new }
     ensures later { N.faults nvm.old ≤ N.faults nvm.new }
-    ensures ran { IfOk result (RunsFrom (arc_value feeds.now) stop started.number started.banks.store (N.content nvm.old) (N.settled nvm.old) (N.content nvm.new) (N.settled nvm.new)) }
+    ensures ran { IfOk result (Between N.Nvm (RunsFrom (arc_value feeds.now) stop started.number started.banks.store) nvm.old nvm.new) }
     ensures fault { IfErr result (IsDrivenFault (N.faults nvm.old) (N.faults nvm.new)) }
     ensures nothing { IfErr result (λ e. e ≡ StartFault.OutOfMemory → nvm.new ≡ nvm.old) }
-    ensures left { IfErr result (λ _. LeavesOfRun (arc_value feeds.now) stop started.number started.banks.store (N.content nvm.old) (N.settled nvm.old) (N.content nvm.new) (N.settled nvm.new)) }
-    ensures past { LeavesPastOf (record { store = started.banks.store; count = started.number }) (N.content nvm.old) (N.settled nvm.old) (N.content nvm.new) (N.settled nvm.new) }
+    ensures left { IfErr result (λ _. Between N.Nvm (LeavesOfRun (arc_value feeds.now) stop started.number started.banks.store) nvm.old nvm.new) }
+    ensures past { Between N.Nvm (LeavesPastOf (record { store = started.banks.store; count = started.number })) nvm.old nvm.new }
 {
     let mut fuse = Fused::new(&mut *nvm);
     fuse.arm(stop);
@@ -83,15 +83,15 @@ fn drive_one<
     requires cycle { IsSpelled cycle }
     ensures lent { GoesOn N.Nvm nvm.old nvm.new }
     ensures later { N.faults nvm.old ≤ N.faults nvm.new }
-    ensures ran { IfOk result (λ report. (v : Store) (n : ℕ) → Holds (N.content nvm.old) (N.settled nvm.old) v n
-        → (n < last_count) × (e : End) × IsCycle cycle v n e × (e.report ≡ report_of report) × Holds (N.content nvm.new) (N.settled nvm.new) e.store e.count) }
-    ensures spent { IfErr result (IsTrulySpent (N.content nvm.old) (N.settled nvm.old) (N.content nvm.new) (N.settled nvm.new)) }
-    ensures refused { IfErr result (IsTrulyRefused (N.content nvm.old) (N.settled nvm.old)) }
+    ensures ran { IfOk result (λ report. (v : Store) (n : ℕ) → At N.Nvm Holds nvm.old v n
+        → (n < last_count) × (e : End) × IsCycle cycle v n e × (e.report ≡ report_of report) × At N.Nvm Holds nvm.new e.store e.count) }
+    ensures spent { IfErr result (Between N.Nvm IsTrulySpent nvm.old nvm.new) }
+    ensures refused { IfErr result (At N.Nvm IsTrulyRefused nvm.old) }
     ensures short { IfErr result (IsTrulyShort (N.extent nvm.old)) }
     ensures fault { IfErr result (λ e. IsFault e → Rose (N.faults nvm.old) (N.faults nvm.new)) }
-    ensures left { IfErr result (λ _. LeavesPart cycle (N.content nvm.old) (N.settled nvm.old) (N.content nvm.new) (N.settled nvm.new)) }
-    ensures memory { IfErr result (IsLeftOrCounted (N.content nvm.old) (N.settled nvm.old) (N.content nvm.new) (N.settled nvm.new)) }
-    ensures past { LeavesPast (N.content nvm.old) (N.settled nvm.old) (N.content nvm.new) (N.settled nvm.new) }
+    ensures left { IfErr result (λ _. Between N.Nvm (LeavesPart cycle) nvm.old nvm.new) }
+    ensures memory { IfErr result (Between N.Nvm IsLeftOrCounted nvm.old nvm.new) }
+    ensures past { Between N.Nvm LeavesPast nvm.old nvm.new }
 {
     let CycleInput {
         start_stop,
@@ -130,14 +130,14 @@ pub fn replay_driven<
     requires cycles { All IsSpelled cycles.items }
     ensures lent { GoesOn N.Nvm nvm.old nvm.new }
     ensures later { N.faults nvm.old ≤ N.faults nvm.new }
-    ensures ran { IfOk result (λ reports. HasRun cycles.items (N.content nvm.old) (N.settled nvm.old) (N.content nvm.new) (N.settled nvm.new) reports.items) }
-    ensures spent { IfErr result (EndsSpent cycles.items (N.content nvm.old) (N.settled nvm.old) (N.content nvm.new) (N.settled nvm.new)) }
-    ensures refused { IfErr result (IsTrulyRefused (N.content nvm.old) (N.settled nvm.old)) }
+    ensures ran { IfOk result (λ reports. Between N.Nvm (HasRun cycles.items) nvm.old nvm.new reports.items) }
+    ensures spent { IfErr result (Between N.Nvm (EndsSpent cycles.items) nvm.old nvm.new) }
+    ensures refused { IfErr result (At N.Nvm IsTrulyRefused nvm.old) }
     ensures short { IfErr result (IsTrulyShort (N.extent nvm.old)) }
     ensures fault { IfErr result (λ e. IsFault e → Rose (N.faults nvm.old) (N.faults nvm.new)) }
-    ensures left { IfErr result (λ _. LeavesReached cycles.items (N.content nvm.old) (N.settled nvm.old) (N.content nvm.new) (N.settled nvm.new)) }
-    ensures memory { IfErr result (EndsCutShort cycles.items (N.content nvm.old) (N.settled nvm.old) (N.content nvm.new) (N.settled nvm.new)) }
-    ensures past { LeavesPast (N.content nvm.old) (N.settled nvm.old) (N.content nvm.new) (N.settled nvm.new) }
+    ensures left { IfErr result (λ _. Between N.Nvm (LeavesReached cycles.items) nvm.old nvm.new) }
+    ensures memory { IfErr result (Between N.Nvm (EndsCutShort cycles.items) nvm.old nvm.new) }
+    ensures past { Between N.Nvm LeavesPast nvm.old nvm.new }
 {
     let Ok(mut reports) = Vec::with_capacity(alloc, cycles.len()) else {
         return Err(StartFault::OutOfMemory);

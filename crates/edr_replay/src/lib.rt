@@ -12,7 +12,7 @@ mod tests;
 
 ghost use Rattle.std.specs.Prelude.{◌≡◌, ◌<◌, ◌≤◌, ℕ, List, IfOk, IfErr, All, length, map, take};
 ghost use Rattle.edr_device.specs.Faults.{Rose};
-ghost use Rattle.edr_device.specs.Lent.{GoesOn};
+ghost use Rattle.edr_device.specs.Lent.{At, Between, GoesOn};
 ghost use Rattle.edr_image.specs.Banks.{Store};
 ghost use Rattle.edr_image.specs.Reports.{report_of};
 ghost use Rattle.edr_run.specs.Cycle.{End, IsCycle, Outcome, IsRun, last_count};
@@ -40,15 +40,15 @@ fn run_cycle<N: Nvm>(
     requires { IsSpelled cycle.now }
     ensures lent { GoesOn N.Nvm nvm.old nvm.new }
     ensures later { N.faults nvm.old ≤ N.faults nvm.new }
-    ensures ran { IfOk result (λ report. (v : Store) (n : ℕ) → Holds (N.content nvm.old) (N.settled nvm.old) v n
-        → (n < last_count) × (e : End) × IsCycle cycle.now v n e × (e.report ≡ report_of report) × Holds (N.content nvm.new) (N.settled nvm.new) e.store e.count) }
-    ensures spent { IfErr result (IsTrulySpent (N.content nvm.old) (N.settled nvm.old) (N.content nvm.new) (N.settled nvm.new)) }
-    ensures refused { IfErr result (IsTrulyRefused (N.content nvm.old) (N.settled nvm.old)) }
+    ensures ran { IfOk result (λ report. (v : Store) (n : ℕ) → At N.Nvm Holds nvm.old v n
+        → (n < last_count) × (e : End) × IsCycle cycle.now v n e × (e.report ≡ report_of report) × At N.Nvm Holds nvm.new e.store e.count) }
+    ensures spent { IfErr result (Between N.Nvm IsTrulySpent nvm.old nvm.new) }
+    ensures refused { IfErr result (At N.Nvm IsTrulyRefused nvm.old) }
     ensures short { IfErr result (IsTrulyShort (N.extent nvm.old)) }
     ensures fault { IfErr result (λ e. IsFault e → Rose (N.faults nvm.old) (N.faults nvm.new)) }
-    ensures left { IfErr result (λ _. LeavesPart cycle.now (N.content nvm.old) (N.settled nvm.old) (N.content nvm.new) (N.settled nvm.new)) }
-    ensures memory { IfErr result (IsLeftAlone (N.content nvm.old) (N.settled nvm.old) (N.content nvm.new) (N.settled nvm.new)) }
-    ensures past { LeavesPast (N.content nvm.old) (N.settled nvm.old) (N.content nvm.new) (N.settled nvm.new) }
+    ensures left { IfErr result (λ _. Between N.Nvm (LeavesPart cycle.now) nvm.old nvm.new) }
+    ensures memory { IfErr result (Between N.Nvm IsLeftAlone nvm.old nvm.new) }
+    ensures past { Between N.Nvm LeavesPast nvm.old nvm.new }
 {
     match start_until(alloc, nvm, cycle.start_stop, cycle.feeds.horizon())? {
         Begun::Stopped => Ok(CycleReport::StartStopped {
@@ -67,14 +67,14 @@ pub fn replay<N: Nvm>(
     requires { All IsSpelled cycles.now }
     ensures lent { GoesOn N.Nvm nvm.old nvm.new }
     ensures later { N.faults nvm.old ≤ N.faults nvm.new }
-    ensures ran { IfOk result (λ reports. HasRun cycles.now (N.content nvm.old) (N.settled nvm.old) (N.content nvm.new) (N.settled nvm.new) reports.items) }
-    ensures spent { IfErr result (EndsSpent cycles.now (N.content nvm.old) (N.settled nvm.old) (N.content nvm.new) (N.settled nvm.new)) }
-    ensures refused { IfErr result (IsTrulyRefused (N.content nvm.old) (N.settled nvm.old)) }
+    ensures ran { IfOk result (λ reports. Between N.Nvm (HasRun cycles.now) nvm.old nvm.new reports.items) }
+    ensures spent { IfErr result (Between N.Nvm (EndsSpent cycles.now) nvm.old nvm.new) }
+    ensures refused { IfErr result (At N.Nvm IsTrulyRefused nvm.old) }
     ensures short { IfErr result (IsTrulyShort (N.extent nvm.old)) }
     ensures fault { IfErr result (λ e. IsFault e → Rose (N.faults nvm.old) (N.faults nvm.new)) }
-    ensures left { IfErr result (λ _. LeavesReached cycles.now (N.content nvm.old) (N.settled nvm.old) (N.content nvm.new) (N.settled nvm.new)) }
-    ensures memory { IfErr result (EndsShort cycles.now (N.content nvm.old) (N.settled nvm.old) (N.content nvm.new) (N.settled nvm.new)) }
-    ensures past { LeavesPast (N.content nvm.old) (N.settled nvm.old) (N.content nvm.new) (N.settled nvm.new) }
+    ensures left { IfErr result (λ _. Between N.Nvm (LeavesReached cycles.now) nvm.old nvm.new) }
+    ensures memory { IfErr result (Between N.Nvm (EndsShort cycles.now) nvm.old nvm.new) }
+    ensures past { Between N.Nvm LeavesPast nvm.old nvm.new }
 {
     let Ok(mut reports) = Vec::with_capacity(alloc, cycles.len()) else {
         return Err(StartFault::OutOfMemory);

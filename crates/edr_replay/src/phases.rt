@@ -3,7 +3,7 @@
 ghost use Rattle.std.specs.Prelude.{◌≡◌, ◌≤◌, IfOk, IfErr, OnErr, Some, None, true, false};
 ghost use Rattle.edr_device.specs.Device.{Cycled};
 ghost use Rattle.edr_device.specs.Faults.{Rose};
-ghost use Rattle.edr_device.specs.Lent.{GoesOn};
+ghost use Rattle.edr_device.specs.Lent.{At, Between, GoesOn};
 ghost use Rattle.edr_image.specs.Image.{image_size};
 ghost use Rattle.edr_image.specs.Reports.{Ran, report_of};
 ghost use Rattle.edr_items.specs.SensorLists.{AreFeeds, IsLevel, horizon_of};
@@ -43,14 +43,14 @@ pub(crate) fn start_until<N: Nvm>(
     requires { stop ≤ 6 }
     ensures lent { GoesOn N.Nvm nvm.old nvm.new }
     ensures later { N.faults nvm.old ≤ N.faults nvm.new }
-    ensures begun { IfOk result (λ b. BeginsAs b stop ticks (N.extent nvm.old) (N.content nvm.old) (N.settled nvm.old) (N.content nvm.new) (N.settled nvm.new)) }
-    ensures spent { IfErr result (IsTrulySpent (N.content nvm.old) (N.settled nvm.old) (N.content nvm.new) (N.settled nvm.new)) }
-    ensures refused { IfErr result (IsTrulyRefused (N.content nvm.old) (N.settled nvm.old)) }
+    ensures begun { IfOk result (λ b. Between N.Nvm (BeginsAs b stop ticks (N.extent nvm.old)) nvm.old nvm.new) }
+    ensures spent { IfErr result (Between N.Nvm IsTrulySpent nvm.old nvm.new) }
+    ensures refused { IfErr result (At N.Nvm IsTrulyRefused nvm.old) }
     ensures short { IfErr result (IsTrulyShort (N.extent nvm.old)) }
     ensures fault { IfErr result (λ e. IsFault e → Rose (N.faults nvm.old) (N.faults nvm.new)) }
-    ensures left { IfErr result (λ _. LeavesOfStart (N.content nvm.old) (N.settled nvm.old) (N.content nvm.new) (N.settled nvm.new)) }
-    ensures memory { IfErr result (IsLeftAlone (N.content nvm.old) (N.settled nvm.old) (N.content nvm.new) (N.settled nvm.new)) }
-    ensures past { LeavesPast (N.content nvm.old) (N.settled nvm.old) (N.content nvm.new) (N.settled nvm.new) }
+    ensures left { IfErr result (λ _. Between N.Nvm LeavesOfStart nvm.old nvm.new) }
+    ensures memory { IfErr result (Between N.Nvm IsLeftAlone nvm.old nvm.new) }
+    ensures past { Between N.Nvm LeavesPast nvm.old nvm.new }
 {
     let mut fuse = Fused::new(nvm);
     fuse.arm(stop);
@@ -84,7 +84,8 @@ pub(crate) fn end_run<N: Nvm>(
 ) -> Result<CycleReport, StartFault>
     ensures lent { GoesOn N.Nvm nvm.old nvm.new }
     ensures later { N.faults nvm.old ≤ N.faults nvm.new }
-    ensures off { end.failed ≡ false → Cycled result (N.content nvm.old) (N.settled nvm.old) (N.since nvm.old) (N.content nvm.new) (N.settled nvm.new) (N.since nvm.new) }
+    ensures off { end.failed ≡ false → Cycled result
+        (N.content nvm.old) (N.settled nvm.old) (N.since nvm.old) (N.content nvm.new) (N.settled nvm.new) (N.since nvm.new) }
     ensures fault { IfErr result (λ e. (e ≡ StartFault.StoreFault) × (end.failed ≡ false → Rose (N.faults nvm.old) (N.faults nvm.new))) }
     ensures stays { end.failed ≡ true → nvm.new ≡ nvm.old }
     ensures whole { IfOk result (λ report. end.failed ≡ false → report_of report ≡ Ran end.number None end.log.acks) }
@@ -116,10 +117,10 @@ pub(crate) fn run_until<N: Nvm>(
     requires size { image_size started.banks.store.header.banks ≤ N.extent nvm.old }
     ensures lent { GoesOn N.Nvm nvm.old nvm.new }
     ensures later { N.faults nvm.old ≤ N.faults nvm.new }
-    ensures ran { IfOk result (RunsFrom feeds.now stop started.number started.banks.store (N.content nvm.old) (N.settled nvm.old) (N.content nvm.new) (N.settled nvm.new)) }
+    ensures ran { IfOk result (Between N.Nvm (RunsFrom feeds.now stop started.number started.banks.store) nvm.old nvm.new) }
     ensures fault { IfErr result (λ e. (e ≡ StartFault.StoreFault) × Rose (N.faults nvm.old) (N.faults nvm.new)) }
-    ensures left { IfErr result (λ _. LeavesOfRun feeds.now stop started.number started.banks.store (N.content nvm.old) (N.settled nvm.old) (N.content nvm.new) (N.settled nvm.new)) }
-    ensures past { LeavesPastOf (record { store = started.banks.store; count = started.number }) (N.content nvm.old) (N.settled nvm.old) (N.content nvm.new) (N.settled nvm.new) }
+    ensures left { IfErr result (λ _. Between N.Nvm (LeavesOfRun feeds.now stop started.number started.banks.store) nvm.old nvm.new) }
+    ensures past { Between N.Nvm (LeavesPastOf (record { store = started.banks.store; count = started.number })) nvm.old nvm.new }
 {
     let mut fuse = Fused::new(&mut *nvm);
     fuse.arm(stop);

@@ -4,6 +4,7 @@ use Rattle.std.specs.List.{list_all}
 use Rattle.edr_text.specs.Numbers.{fitting, natural_in}
 use Rattle.edr_image.specs.declared.Choice.{Choice}
 use Rattle.edr_image.specs.declared.Choice.TheVariants.{Keep, Overwrite}
+use Rattle.edr_image.specs.declared.places.TheConstants.{FEWEST_BANKS, MOST_BANKS}
 use Rattle.edr_words.specs.declared.Form.{Form}
 use Rattle.edr_words.specs.declared.Form.TheVariants.{Text, Table}
 use Rattle.edr_words.specs.declared.Job.{Job}
@@ -40,15 +41,15 @@ number_in word = option_and_then fitting (natural_in word)
 
 -- ---- the arguments of the words
 
--- B C: an image has 2 to 16 banks
+-- B C
 abbrev pub format_with : Option ℕ → Option Choice → Option Job
 format_with None choice = None
 format_with (Some banks) None = None
-format_with (Some banks) (Some choice) = Some (Format banks choice)
+format_with (Some banks) (Some choice) = Some (Format (record { banks = banks; choice = choice }))
 
 abbrev pub format_job : Option (Word × Word) → Option Job
 format_job None = None
-format_job (Some p) = format_with (within 2 16 p.0) (choice_in p.1)
+format_job (Some p) = format_with (within FEWEST_BANKS MOST_BANKS p.0) (choice_in p.1)
 
 -- [F]: without it the form is the text
 abbrev pub form_of : Option (Option Word) → Option Form
@@ -107,7 +108,7 @@ job_of (word ∷ arguments) = if list_all is_plain arguments then job_after word
 
 -- the numbers of a job lie in their bounds
 abbrev pub IsWithin : Job → Type 0
-IsWithin (Format banks choice) = (2 ≤ banks) × (banks ≤ 16)
+IsWithin (Format header) = (FEWEST_BANKS ≤ header.banks) × (header.banks ≤ MOST_BANKS)
 IsWithin (Replay form) = Unit {0}
 IsWithin (Report form) = Unit {0}
 IsWithin (Drive workers form) = (1 ≤ workers) × (workers ≤ 8)

@@ -5,7 +5,8 @@ ghost use Rattle.edr_words.specs.Arguments.{at_most_one, is_plain, one_or_two, t
 ghost use Rattle.edr_words.specs.Jobs.{IsWithin, choice_in, drive_job, form_in, form_of, format_job, generate_job, job_after, large_job, number_in, replay_job, report_job, trace_of, within};
 
 use crate::arguments::{at_most_one, one_or_two, two};
-use crate::{Choice, Form, Job};
+use crate::{Choice, Form, Header, Job};
+use edr_image::places::{FEWEST_BANKS, MOST_BANKS};
 use edr_text::{read_u32, read_u64};
 use std::alloc::{AllocError as OutOfMemory, Global};
 
@@ -107,9 +108,11 @@ fn new_image(banks: &str, choice: &str) -> Option<Job>
     ensures value { result ≡ format_job (Some (banks.now, choice.now)) }
     ensures within { IfSome result IsWithin }
 {
-    let banks = within(2, 16, banks)? as u8;
+    let banks = within(FEWEST_BANKS.into(), MOST_BANKS.into(), banks)? as u8;
     let choice = choice_in(choice)?;
-    Some(Job::Format { banks, choice })
+    Some(Job::Format {
+        header: Header { banks, choice },
+    })
 }
 
 // A run of so many workers, and its report in this form.

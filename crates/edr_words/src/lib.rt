@@ -7,7 +7,7 @@ mod jobs;
 mod tests;
 mod words;
 
-pub use edr_image::Choice;
+pub use edr_image::{Choice, Header};
 pub use words::Words;
 
 /// How a report is written.
@@ -23,7 +23,7 @@ pub enum Form {
 #[derive(Clone, Copy, Debug, PartialEq, Eq)]
 pub enum Job {
     /// `format B C`: writes an empty image of so many banks, 2 to 16.
-    Format { banks: u8, choice: Choice },
+    Format { header: Header },
     /// `replay [text|csv]`: runs a trace over the image, and reports.
     Replay { form: Form },
     /// `report [text|csv]`: reports what the image holds.

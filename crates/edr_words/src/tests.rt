@@ -33,12 +33,16 @@ fn each_job_of_an_image_has_its_words(rt: HostRuntime) -> Result<(), Fail> {
     let text = Form::Text;
     let csv = Form::Table;
     let keep = Job::Format {
-        banks: 2,
-        choice: Choice::Keep,
+        header: Header {
+            banks: 2,
+            choice: Choice::Keep,
+        },
     };
     let overwrite = Job::Format {
-        banks: 16,
-        choice: Choice::Overwrite,
+        header: Header {
+            banks: 16,
+            choice: Choice::Overwrite,
+        },
     };
     let table = [
         ("format 2 keep", keep),

@@ -8,10 +8,10 @@ use Rattle.edr_banks.proofs.FirstBytes.{shown_first, where_ok}
 use Rattle.edr_banks.proofs.HeaderBytes.{IsFront, refused_by_first, refused_short, view_read}
 use Rattle.edr_banks.proofs.Banks.open.Goals as goal
 
-pub returns-then-size-lt-FIRST-clause-refused : goal.returns-then-size-lt-FIRST-clause-refused
-returns-then-size-lt-FIRST-clause-refused g c = λ _ bytes told.
+pub returns-then-size-least-clause-refused : goal.returns-then-size-least-clause-refused
+returns-then-size-least-clause-refused g c = λ _ bytes told.
     let size : length bytes ≡ c.size-size.result = g.met.N.Nvm.told_size c.args.nvm.now bytes told ∙ sym c.size-size.ensures in
-    let short : length bytes < 96 = omega (arith, size, c.if-size-lt-FIRST.true) in
+    let short : length bytes < 96 = omega (arith, size, c.if-size-least.true) in
     refused_short bytes short ∙ ap (λ (n : ℕ). Some (open_fault.Short n 96)) size
 
 pub returns-in_err-header-clause-refused : goal.returns-in_err-header-clause-refused
@@ -22,7 +22,7 @@ returns-in_err-header-clause-refused g c =
     let size : length bytes ≡ c.size-size.result = g.met.N.Nvm.told_size c.args.nvm.now bytes told ∙ sym c.size-size.ensures in
     let shows = shown_first c.read.new.into bytes (D.content c.args.nvm.now) told (where_ok c.read.result c.is_err.result c.is_err.ensures.value c.if-is_err.false c.read.ensures.bytes) in
     let front : IsFront c.read.new.into bytes = λ k below. shows k (omega arith) in
-    refused_by_first c.read.new.into bytes c.size-size.result front c.if-size-lt-FIRST.false size ∙ c.in_err-header.ensures.refused in
+    refused_by_first c.read.new.into bytes c.size-size.result front c.if-size-least.false size ∙ c.in_err-header.ensures.refused in
     rw (p.1, p.2) f
 
 pub returns-clause-view : goal.returns-clause-view
@@ -31,5 +31,5 @@ returns-clause-view g c = λ bytes told.
     let size : length bytes ≡ c.size-size.result = g.met.N.Nvm.told_size c.args.nvm.now bytes told ∙ sym c.size-size.ensures in
     let shows = shown_first c.read.new.into bytes (D.content c.args.nvm.now) told (where_ok c.read.result c.is_err.result c.is_err.ensures.value c.if-is_err.false c.read.ensures.bytes) in
     let front : IsFront c.read.new.into bytes = λ k below. shows k (omega arith) in
-    view_read c.read.new.into bytes c.size-size.result c.in_ok-header.header c.in_ok-banks.banks.items c.read_count.result front c.if-size-lt-FIRST.false size c.in_ok-header.ensures.accepted c.in_ok-header.ensures.header
+    view_read c.read.new.into bytes c.size-size.result c.in_ok-header.header c.in_ok-banks.banks.items c.read_count.result front c.if-size-least.false size c.in_ok-header.ensures.accepted c.in_ok-header.ensures.header
     (c.in_ok-banks.ensures.views bytes (c.read.ensures.stays.same_content ∙ told)) c.read_count.ensures

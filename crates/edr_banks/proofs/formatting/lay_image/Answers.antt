@@ -14,9 +14,9 @@ loop-bank-init g c =
     let start = c.args.nvm.now in
     let end = c.write.new.self in
     let h = c.args.header in
-    let piece = take 95 (drop 1 c.first_bytes-first.result) in
-    let first = c.first_bytes-first.ensures in
-    let long = head_size h c.first_bytes-first.result first in
+    let piece = take 95 (drop 1 c.new_front-front.result) in
+    let first = c.new_front-front.ensures in
+    let long = head_size h c.new_front-front.result first in
     record {
       size = search rules;
       faults = search rules;
@@ -25,7 +25,7 @@ loop-bank-init g c =
       later = search rules;
       laid = λ bytes bare.
           let room : image_size h.banks ≤ length bytes = omega (arith, g.met.N.Nvm.told_size start bytes bare.0.0, c.requires.room) in
-          subst (λ n. Laid h (1 + n) bytes (D.content end) (D.settled end)) long (laid_more h 1 piece bytes (D.content start) (D.content end) (D.settled start) (D.settled end) (omega arith) (omega (arith, long)) room (head_piece h c.first_bytes-first.result first)
+          subst (λ n. Laid h (1 + n) bytes (D.content end) (D.settled end)) long (laid_more h 1 piece bytes (D.content start) (D.content end) (D.settled start) (D.settled end) (omega arith) (omega (arith, long)) room (head_piece h c.new_front-front.result first)
           (laid_first h bytes (D.content start) (D.settled start) bare) c.in_ok-write.ensures.told);
       moments = λ bytes bare.
           let room : image_size h.banks ≤ length bytes = omega (arith, g.met.N.Nvm.told_size start bytes bare.0.0, c.requires.room) in

@@ -1,6 +1,6 @@
 use Rattle.std.proofs.Common.{◌≡◌, ◌≤◌, Some, List, ℕ, length, vec_capacity}
 use Rattle.edr_device.specs.Device.{Stays}
-use Rattle.edr_banks.specs.Opening.{banks_of}
+use Rattle.edr_image.specs.Image.{banks_of}
 use Rattle.edr_banks.proofs.opening.read_banks.Given as goal
 
 -- the banks so far were read, and nothing was changed

@@ -34,20 +34,20 @@ returns-in-Err-clause-part g c = λ form workers asked failed.
     inr (tells_fault_part (IsDriveCause i i m m) _ fault.OutOfMemory c.tell.result _ _ (inl (inl refl)) c.tell.ensures.part failed)
 
 pub returns-in-Err-clause-complete : goal.returns-in-Err-clause-complete
-returns-in-Err-clause-complete g c = λ form workers bytes image cs v n asked left within spelled told says room calm quiet_sink quiet.
+returns-in-Err-clause-complete g c = λ form workers asked can calm quiet_sink quiet.
     inr (answered _ _ c.tell.result status.OutOfMemory c.tell.ensures.answers c.tell.ensures.part quiet)
 
 -- ---- a run by threads
 
 pub returns-in-Err-drive_source-clause-complete : goal.returns-in-Err-drive_source-clause-complete
-returns-in-Err-drive_source-clause-complete g c = λ form workers bytes image cs v n asked left within spelled told says room calm quiet_sink quiet.
+returns-in-Err-drive_source-clause-complete g c = λ form workers asked can calm quiet_sink quiet.
     let S = g.S.Source in
     let D = g.N.Nvm in
     let i = input S c.args.source.now in
     let i' = input S c.drive_source.new.source in
     let old = memory D c.args.nvm.now in
     let new = memory D c.drive_source.new.nvm in
-    let memory_only = driven_only_memory i i' old new c.in-Err-drive_source.fault bytes image cs v n left within spelled told says room calm quiet_sink c.in-Err-drive_source.ensures.cause in
+    let memory_only = driven_only_memory i i' old new c.in-Err-drive_source.fault can.bytes can.image can.cycles can.store can.count can.given can.spelled.0 can.spelled.1 can.told can.says can.room calm quiet_sink c.in-Err-drive_source.ensures.cause in
     inr (answered _ _ c.tell-in-Err-drive_source.result (status_of c.in-Err-drive_source.fault) c.tell-in-Err-drive_source.ensures.answers c.tell-in-Err-drive_source.ensures.part quiet ∙ ap status_of memory_only)
 
 -- ---- other words

@@ -14,9 +14,9 @@ returns g c =
     let nvm = c.args.nvm.now in
     let end = c.write_settled.new.nvm in
     let e = c.write_settled.ensures in
-    let done = rw c.place_of.ensures at e.done in
-    let stopped = rw c.place_of.ensures at e.stopped in
-    let moments = rw c.place_of.ensures at e.any_moment in
+    let done = rw (c.lock_write-locking.ensures.at, c.lock_write-locking.ensures.byte) at e.done in
+    let stopped = rw c.lock_write-locking.ensures.at at e.stopped in
+    let moments = rw c.lock_write-locking.ensures.at at e.any_moment in
     let passed = step_passes (Lock m) (D.content nvm) (D.settled nvm) (D.clock nvm) (D.since nvm) (D.since end) (SameBut (place_of m + 1) 1) (lock_image m) moments in
     record {
       lent = e.lent;

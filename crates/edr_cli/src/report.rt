@@ -1,9 +1,9 @@
 //! Reads what the memory of the records holds, and reports it.
 ghost use Rattle.std.specs.Prelude.{◌≡◌, ◌≤◌, ℕ, List, Some, IfOk, IfErr, map};
 ghost use Rattle.edr_device.specs.Device.{IsQuiet, MayLeave};
-ghost use Rattle.edr_device.specs.Lent.{GoesOn};
+ghost use Rattle.edr_device.specs.Lent.{At, GoesOn};
 ghost use Rattle.edr_image.specs.Reports.{report_of};
-ghost use Rattle.edr_cli.specs.Outside.{memory};
+ghost use Rattle.edr_cli.specs.Outside.{OfMemory, memory};
 ghost use Rattle.edr_cli.specs.Reports.{IsImageCause, ReportIs, Says, fault_of, report_in};
 ghost use Rattle.edr_cli.specs.Steps.{ReportsHeld};
 ghost use Rattle.edr_report.specs.declared.faults.Fault.TheVariants as fault;
@@ -30,10 +30,9 @@ pub(crate) fn open_fault(e: OpenFault) -> Fault
 /// Opens the banks behind a barrier, so that nothing is pending.
 pub(crate) fn open_settled<N: Nvm>(alloc: Global, nvm: &mut N) -> Result<Banks, Fault>
     ensures says { IfOk result (λ b. (image : List ℕ) → N.content nvm.old ≡ Some image
-        → Says image b.store b.count × IsQuiet (N.content nvm.new) (N.settled nvm.new) image) }
-    ensures cause { IfErr result (IsImageCause (memory N.Nvm nvm.old)
-        (memory N.Nvm nvm.new)) }
-    ensures stays { (bytes image : List ℕ) → IsQuiet (N.content nvm.old) (N.settled nvm.old) bytes → MayLeave (N.content nvm.new) (N.settled nvm.new) image → image ≡ bytes }
+        → Says image b.store b.count × At N.Nvm IsQuiet nvm.new image) }
+    ensures cause { IfErr result (OfMemory N.Nvm IsImageCause nvm.old nvm.new) }
+    ensures stays { (bytes image : List ℕ) → At N.Nvm IsQuiet nvm.old bytes → At N.Nvm MayLeave nvm.new image → image ≡ bytes }
     ensures lent { GoesOn N.Nvm nvm.old nvm.new }
     ensures later { N.faults nvm.old ≤ N.faults nvm.new }
 {
@@ -46,8 +45,7 @@ pub(crate) fn open_settled<N: Nvm>(alloc: Global, nvm: &mut N) -> Result<Banks, 
 /// Opens the banks.
 pub(crate) fn open<N: Nvm>(alloc: Global, nvm: &mut N) -> Result<Banks, Fault>
     ensures says { IfOk result (λ b. (image : List ℕ) → N.content nvm.old ≡ Some image → Says image b.store b.count) }
-    ensures cause { IfErr result (IsImageCause (memory N.Nvm nvm.old)
-        (memory N.Nvm nvm.new)) }
+    ensures cause { IfErr result (OfMemory N.Nvm IsImageCause nvm.old nvm.new) }
     ensures content { N.content nvm.new ≡ N.content nvm.old }
     ensures settled { (i : ℕ) → N.settled nvm.new i ≡ N.settled nvm.old i }
     ensures size { N.extent nvm.new ≡ N.extent nvm.old }
@@ -91,8 +89,7 @@ pub(crate) fn report_held<N: Nvm>(
     run: &[CycleReport],
 ) -> Result<Vec<u8>, Fault>
     ensures text { IfOk result (λ out. ReportsHeld form (map report_of run.now) (memory N.Nvm nvm.old) out.items) }
-    ensures cause { IfErr result (IsImageCause (memory N.Nvm nvm.old)
-        (memory N.Nvm nvm.new)) }
+    ensures cause { IfErr result (OfMemory N.Nvm IsImageCause nvm.old nvm.new) }
     ensures content { N.content nvm.new ≡ N.content nvm.old }
     ensures settled { (i : ℕ) → N.settled nvm.new i ≡ N.settled nvm.old i }
     ensures size { N.extent nvm.new ≡ N.extent nvm.old }
@@ -107,11 +104,9 @@ pub(crate) fn report_held<N: Nvm>(
 pub(crate) fn report<N: Nvm>(alloc: Global, nvm: &mut N, form: Form) -> Result<Vec<u8>, Fault>
     ensures lent { GoesOn N.Nvm nvm.old nvm.new }
     ensures later { N.faults nvm.old ≤ N.faults nvm.new }
-    ensures text { IfOk result (λ out. ReportIs form (memory N.Nvm nvm.old)
-        (memory N.Nvm nvm.new) out.items) }
-    ensures cause { IfErr result (IsImageCause (memory N.Nvm nvm.old)
-        (memory N.Nvm nvm.new)) }
-    ensures stays { (bytes image : List ℕ) → IsQuiet (N.content nvm.old) (N.settled nvm.old) bytes → MayLeave (N.content nvm.new) (N.settled nvm.new) image → image ≡ bytes }
+    ensures text { IfOk result (λ out. OfMemory N.Nvm (ReportIs form) nvm.old nvm.new out.items) }
+    ensures cause { IfErr result (OfMemory N.Nvm IsImageCause nvm.old nvm.new) }
+    ensures stays { (bytes image : List ℕ) → At N.Nvm IsQuiet nvm.old bytes → At N.Nvm MayLeave nvm.new image → image ≡ bytes }
 {
     let banks = open_settled(alloc, nvm)?;
     report_of_banks(alloc, form, &[], &banks)

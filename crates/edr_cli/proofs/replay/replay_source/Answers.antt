@@ -9,7 +9,7 @@ use Rattle.edr_replay.proofs.PastLemmas.{past_none}
 use Rattle.edr_cli.proofs.PastLemmas.{past_looked, past_opened}
 use Rattle.edr_cli.proofs.ReplayLemmas.{leaves_none, look_cause, replayed, run_replay}
 use Rattle.edr_device.proofs.Settling.{tells_again}
-use Rattle.edr_cli.proofs.replays.replay_source.Goals as goal
+use Rattle.edr_cli.proofs.replay.replay_source.Goals as goal
 
 pub returns-clause-text : goal.returns-clause-text
 returns-clause-text g c =

@@ -6,7 +6,7 @@ use Rattle.edr_cli.specs.Outside.{memory}
 use Rattle.edr_cli.specs.Reports.{IsImageCause, report_in}
 use Rattle.edr_cli.specs.Steps.{ReportsHeld}
 use Rattle.edr_cli.proofs.ImageLemmas.{err_map, ok_map}
-use Rattle.edr_cli.proofs.images.report_held.Goals as goal
+use Rattle.edr_cli.proofs.report.report_held.Goals as goal
 
 pub returns-clause-text : goal.returns-clause-text
 returns-clause-text g c =

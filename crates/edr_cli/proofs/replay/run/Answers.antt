@@ -8,7 +8,7 @@ use Rattle.edr_cli.specs.Steps.{IsRunCause, Reports, ReportsHeld}
 use Rattle.edr_cli.proofs.ImageLemmas.{err_map, ok_map}
 use Rattle.edr_cli.proofs.PastLemmas.{past_stays}
 use Rattle.edr_cli.proofs.ReplayLemmas.{start_cause, behind_cause, run_reports}
-use Rattle.edr_cli.proofs.replays.run.Goals as goal
+use Rattle.edr_cli.proofs.replay.run.Goals as goal
 
 pub returns-in-Err-clause-cause : goal.returns-in-Err-clause-cause
 returns-in-Err-clause-cause g c =

@@ -16,7 +16,7 @@ use Rattle.edr_cli.proofs.Dispatch.{same_header}
 use Rattle.edr_cli.proofs.EndingLemmas.{answered, tells_fault, tells_fault_part, tells_part, tells_whole}
 use Rattle.edr_cli.proofs.ImageLemmas.{still_there}
 use Rattle.edr_cli.proofs.TakingLemmas.{none_taken}
-use Rattle.edr_cli.proofs.runs.command.Goals as goal
+use Rattle.edr_cli.proofs.commands.command.Goals as goal
 
 -- ---- memory ran out before the words were read
 
@@ -43,7 +43,7 @@ returns-in-Err-clause-part g c = λ form asked failed.
     inr (tells_fault_part (IsReplayCause i i m m) _ fault.OutOfMemory c.tell.result _ _ (inl refl) c.tell.ensures.part failed)
 
 pub returns-in-Err-clause-complete : goal.returns-in-Err-clause-complete
-returns-in-Err-clause-complete g c = λ form bytes image cs v n asked left within spelled told says room calm quiet_sink quiet.
+returns-in-Err-clause-complete g c = λ form asked can calm quiet_sink quiet.
     inr (answered _ _ c.tell.result status.OutOfMemory c.tell.ensures.answers c.tell.ensures.part quiet)
 
 pub returns-in-Err-clause-report_other : goal.returns-in-Err-clause-report_other
@@ -104,14 +104,14 @@ returns-in-Err-clause-large_complete g c = λ number cycles asked quiet.
 -- ---- replay
 
 pub returns-in-Err-replay_source-clause-complete : goal.returns-in-Err-replay_source-clause-complete
-returns-in-Err-replay_source-clause-complete g c = λ form bytes image cs v n asked left within spelled told says room calm quiet_sink quiet.
+returns-in-Err-replay_source-clause-complete g c = λ form asked can calm quiet_sink quiet.
     let S = g.S.Source in
     let D = g.N.Nvm in
     let i = input S c.args.source.now in
     let i' = input S c.replay_source.new.source in
     let old = memory D c.args.nvm.now in
     let new = memory D c.replay_source.new.nvm in
-    let memory_only = only_memory i i' old new c.in-Err-replay_source.fault bytes image cs v n left within spelled told says room calm quiet_sink c.in-Err-replay_source.ensures.cause in
+    let memory_only = only_memory i i' old new c.in-Err-replay_source.fault can.bytes can.image can.cycles can.store can.count can.given can.spelled.0 can.spelled.1 can.told can.says can.room calm quiet_sink c.in-Err-replay_source.ensures.cause in
     inr (answered _ _ c.tell-in-Err-replay_source.result (status_of c.in-Err-replay_source.fault) c.tell-in-Err-replay_source.ensures.answers c.tell-in-Err-replay_source.ensures.part quiet ∙ ap status_of memory_only)
 
 -- ---- format
@@ -125,7 +125,7 @@ returns-in-Ok-make_image-clause-format g c = λ h asked ok.
     let D = g.N.Nvm in
     let old = memory D c.args.nvm.now in
     let new = memory D c.make_image.new.nvm in
-    let is : AreFormat (record { banks = c.in-Some-Format.banks; choice = c.in-Some-Format.choice }) c.args.words.now = search rules in
+    let is : AreFormat c.in-Some-Format.header c.args.words.now = search rules in
     let same = same_header c.args.words.now _ h is asked in
     tells_whole (λ text. FormatIs h old new text) _ c.in-Ok-make_image.line c.as_bytes.result.now c.write-in-Ok-make_image.result (K.content c.args.sink.now) (K.content c.write-in-Ok-make_image.new.sink)
     (subst (λ (k : Header). FormatIs k old new c.in-Ok-make_image.line) same (c.in-Ok-make_image.ensures.made, c.in-Ok-make_image.ensures.line)) c.as_bytes.ensures c.write-in-Ok-make_image.ensures.whole ok
@@ -136,19 +136,19 @@ returns-in-Ok-make_image-clause-format_part g c = λ h asked failed.
     let D = g.N.Nvm in
     let old = memory D c.args.nvm.now in
     let new = memory D c.make_image.new.nvm in
-    let is : AreFormat (record { banks = c.in-Some-Format.banks; choice = c.in-Some-Format.choice }) c.args.words.now = search rules in
+    let is : AreFormat c.in-Some-Format.header c.args.words.now = search rules in
     let same = same_header c.args.words.now _ h is asked in
     tells_part (λ text. FormatIs h old new text) (λ f. IsFormatCause h old new f) _ c.in-Ok-make_image.line c.as_bytes.result.now c.write-in-Ok-make_image.result (K.content c.args.sink.now) (K.content c.write-in-Ok-make_image.new.sink)
     (subst (λ (k : Header). FormatIs k old new c.in-Ok-make_image.line) same (c.in-Ok-make_image.ensures.made, c.in-Ok-make_image.ensures.line)) c.as_bytes.ensures c.write-in-Ok-make_image.ensures.part failed
 
 pub returns-in-Ok-make_image-clause-format_crash : goal.returns-in-Ok-make_image-clause-format_crash
 returns-in-Ok-make_image-clause-format_crash g c = λ h bytes image asked quiet left.
-    let is : AreFormat (record { banks = c.in-Some-Format.banks; choice = c.in-Some-Format.choice }) c.args.words.now = search rules in
+    let is : AreFormat c.in-Some-Format.header c.args.words.now = search rules in
     subst (λ (k : Header). IsPartlyFormatted k bytes image) (same_header c.args.words.now _ h is asked) (c.make_image.ensures.crash bytes image quiet left)
 
 pub returns-in-Err-make_image-clause-format_crash : goal.returns-in-Err-make_image-clause-format_crash
 returns-in-Err-make_image-clause-format_crash g c = λ h bytes image asked quiet left.
-    let is : AreFormat (record { banks = c.in-Some-Format.banks; choice = c.in-Some-Format.choice }) c.args.words.now = search rules in
+    let is : AreFormat c.in-Some-Format.header c.args.words.now = search rules in
     subst (λ (k : Header). IsPartlyFormatted k bytes image) (same_header c.args.words.now _ h is asked) (c.make_image.ensures.crash bytes image quiet left)
 
 -- ---- other words

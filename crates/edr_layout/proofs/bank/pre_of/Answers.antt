@@ -1,8 +1,8 @@
 -- What is read out of a copy of the part is read out of the bank.
 use Rattle.std.proofs.Common.{None, Some, arith}
 use Rattle.edr_codec.proofs.GrammarLaws.{pre_damage-within}
-use Rattle.edr_banks.proofs.PartPlaces.{byte_found, pre_damaged, pre_read}
-use Rattle.edr_banks.proofs.reading.pre_of.Goals as goal
+use Rattle.edr_layout.proofs.PartPlaces.{byte_found, pre_damaged, pre_read}
+use Rattle.edr_layout.proofs.bank.pre_of.Goals as goal
 
 pub overflow_add-result : goal.overflow_add-result
 overflow_add-result c = omega (arith, pre_damage-within c.copy_from_slice.new.self c.in-Err.field-0.offset c.in-Err.ensures.damaged)

@@ -4,7 +4,7 @@ use Rattle.edr_report.specs.declared.faults.Fault.TheVariants as fault
 use Rattle.edr_cli.specs.Outside.{memory}
 use Rattle.edr_cli.specs.Reports.{IsImageCause, ReportIs, report_in}
 use Rattle.edr_cli.proofs.ImageLemmas.{err_map, ok_map, reported, same_told}
-use Rattle.edr_cli.proofs.images.report.Goals as goal
+use Rattle.edr_cli.proofs.report.report.Goals as goal
 
 pub returns-clause-text : goal.returns-clause-text
 returns-clause-text g c =

@@ -4,7 +4,7 @@ use Rattle.edr_device.proofs.Settling.{quiet_leaves, stays_quiet}
 use Rattle.edr_banks.specs.Formatting.{IsNew, LacksMagic}
 use Rattle.edr_cli.proofs.Barrier.{sync_settles, sync_leaves}
 use Rattle.edr_cli.proofs.ImageLemmas.{if_each, still_there}
-use Rattle.edr_cli.proofs.formats.make_image.Goals as goal
+use Rattle.edr_cli.proofs.format.make_image.Goals as goal
 
 pub returns-then-is_err-clause-crash : goal.returns-then-is_err-clause-crash
 returns-then-is_err-clause-crash g c = λ bytes image quiet left.

@@ -1,15 +1,15 @@
 //! Runs a trace over the memory of the records, and reports.
 ghost use Rattle.std.specs.Prelude.{◌≡◌, ◌+◌, ◌≤◌, All, IfOk, IfErr, OnOk};
-ghost use Rattle.edr_device.specs.Lent.{GoesOn};
+ghost use Rattle.edr_device.specs.Lent.{Between, GoesOn};
 ghost use Rattle.edr_device.specs.Told.{Told};
 ghost use Rattle.edr_device.specs.Transfer.{GivesAtMost};
 ghost use Rattle.edr_spell.specs.Spell.{IsCycle, largest_trace};
 ghost use Rattle.edr_replay.specs.Past.{LeavesPast};
-ghost use Rattle.edr_cli.specs.Outside.{IsAtEnd, input, memory};
+ghost use Rattle.edr_cli.specs.Outside.{IsAtEnd, OfBoth, OfMemory, OfRun};
 ghost use Rattle.edr_cli.specs.Runs.{IsReplayCause, RunIs};
 ghost use Rattle.edr_cli.specs.Steps.{IsRunCause, Reports, fault_of_start};
 
-use crate::images::{open_fault, open_settled, report_held};
+use crate::report::{open_fault, open_settled, report_held};
 use crate::traces::trace_of;
 use edr_device::{Nvm, Source};
 use edr_replay::{StartFault, replay};
@@ -44,14 +44,10 @@ pub(crate) fn replay_source<S: Source, N: Nvm>(
     ensures source_later { S.faults source.old ≤ S.faults source.new }
     ensures lent { GoesOn N.Nvm nvm.old nvm.new }
     ensures later { N.faults nvm.old ≤ N.faults nvm.new }
-    ensures past { LeavesPast (N.content nvm.old) (N.settled nvm.old) (N.content nvm.new) (N.settled nvm.new) }
+    ensures past { Between N.Nvm LeavesPast nvm.old nvm.new }
     ensures end { OnOk result (IsAtEnd (S.left source.new)) }
-    ensures text { IfOk result (λ out. RunIs form (input S.Source source.old)
-        (memory N.Nvm nvm.old)
-        (memory N.Nvm nvm.new) out.items) }
-    ensures cause { IfErr result (IsReplayCause (input S.Source source.old) (input S.Source source.new)
-        (memory N.Nvm nvm.old)
-        (memory N.Nvm nvm.new)) }
+    ensures text { IfOk result (λ out. OfRun S.Source N.Nvm (RunIs form) source.old nvm.old nvm.new out.items) }
+    ensures cause { IfErr result (OfBoth S.Source N.Nvm IsReplayCause source.old source.new nvm.old nvm.new) }
 {
     let cycles = trace_of(alloc, source)?;
     open_settled(alloc, nvm)?;
@@ -66,13 +62,11 @@ fn run<N: Nvm>(
     form: Form,
 ) -> Result<Vec<u8>, Fault>
     requires { All IsCycle cycles.now }
-    ensures text { IfOk result (λ out. Reports form cycles.now (memory N.Nvm nvm.old)
-        (memory N.Nvm nvm.new) out.items) }
-    ensures cause { IfErr result (IsRunCause cycles.now (memory N.Nvm nvm.old)
-        (memory N.Nvm nvm.new)) }
+    ensures text { IfOk result (λ out. OfMemory N.Nvm (Reports form cycles.now) nvm.old nvm.new out.items) }
+    ensures cause { IfErr result (OfMemory N.Nvm (IsRunCause cycles.now) nvm.old nvm.new) }
     ensures lent { GoesOn N.Nvm nvm.old nvm.new }
     ensures later { N.faults nvm.old ≤ N.faults nvm.new }
-    ensures past { LeavesPast (N.content nvm.old) (N.settled nvm.old) (N.content nvm.new) (N.settled nvm.new) }
+    ensures past { Between N.Nvm LeavesPast nvm.old nvm.new }
 {
     match replay(alloc, nvm, cycles) {
         Ok(reports) => report_held(alloc, nvm, form, &reports),

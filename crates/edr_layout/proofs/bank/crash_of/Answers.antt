@@ -1,8 +1,8 @@
 -- What is read out of a copy of the part is read out of the bank.
 use Rattle.std.proofs.Common.{None, Some, arith}
 use Rattle.edr_codec.proofs.GrammarLaws.{crash_damage-within}
-use Rattle.edr_banks.proofs.PartPlaces.{byte_found, crash_damaged, crash_read}
-use Rattle.edr_banks.proofs.reading.crash_of.Goals as goal
+use Rattle.edr_layout.proofs.PartPlaces.{byte_found, crash_damaged, crash_read}
+use Rattle.edr_layout.proofs.bank.crash_of.Goals as goal
 
 pub overflow_add-result : goal.overflow_add-result
 overflow_add-result c = omega (arith, crash_damage-within c.copy_from_slice.new.self c.in-Err.field-0.offset c.in-Err.ensures.damaged)

@@ -2,11 +2,12 @@
 ghost use Rattle.std.specs.Prelude.{◌≡◌, ◌≤◌, ℕ, List, IfSome, IfOk, IfErr, IsOk};
 ghost use Rattle.edr_device.specs.Device.{IsQuiet, MayLeave};
 ghost use Rattle.edr_device.specs.Faults.{Rose};
-ghost use Rattle.edr_device.specs.Lent.{GoesOn};
+ghost use Rattle.edr_device.specs.Lent.{At, GoesOn};
+ghost use Rattle.edr_image.specs.declared.places.TheConstants.{FEWEST_BANKS, MOST_BANKS};
 ghost use Rattle.edr_image.specs.Image.{image_size};
 ghost use Rattle.edr_banks.specs.Formatting.{IsPartlyFormatted, LacksMagic};
 ghost use Rattle.edr_report.specs.Format.{format_line};
-ghost use Rattle.edr_cli.specs.Outside.{memory};
+ghost use Rattle.edr_cli.specs.Outside.{OfMemory};
 ghost use Rattle.edr_cli.specs.Reports.{HasMagic, IsMade, IsFormatCause};
 
 use edr_banks::{Banks, FormatFault, Header};
@@ -15,20 +16,18 @@ use edr_report::{Fault, ShortLine, format_line};
 
 /// Makes a new image, and the line that tells of it. The line is built before the device is touched.
 pub(crate) fn make_image<N: Nvm>(nvm: &mut N, header: Header) -> Result<ShortLine, Fault>
-    requires from { 2 ≤ header.banks }
-    requires to { header.banks ≤ 16 }
+    requires from { FEWEST_BANKS ≤ header.banks }
+    requires to { header.banks ≤ MOST_BANKS }
     ensures lent { GoesOn N.Nvm nvm.old nvm.new }
     ensures later { N.faults nvm.old ≤ N.faults nvm.new }
     ensures line { IfOk result (λ line. line ≡ format_line header) }
-    ensures made { IfOk result (λ line. IsMade header (memory N.Nvm nvm.old)
-        (memory N.Nvm nvm.new)) }
-    ensures cause { IfErr result (IsFormatCause header (memory N.Nvm nvm.old)
-        (memory N.Nvm nvm.new)) }
-    ensures crash { (bytes image : List ℕ) → IsQuiet (N.content nvm.old) (N.settled nvm.old) bytes
-        → MayLeave (N.content nvm.new) (N.settled nvm.new) image → IsPartlyFormatted header bytes image }
+    ensures made { IfOk result (λ line. OfMemory N.Nvm (IsMade header) nvm.old nvm.new) }
+    ensures cause { IfErr result (OfMemory N.Nvm (IsFormatCause header) nvm.old nvm.new) }
+    ensures crash { (bytes image : List ℕ) → At N.Nvm IsQuiet nvm.old bytes
+        → At N.Nvm MayLeave nvm.new image → IsPartlyFormatted header bytes image }
     // An image that is there stays.
-    ensures stays { (bytes image : List ℕ) → IsQuiet (N.content nvm.old) (N.settled nvm.old) bytes → HasMagic bytes
-        → MayLeave (N.content nvm.new) (N.settled nvm.new) image → image ≡ bytes }
+    ensures stays { (bytes image : List ℕ) → At N.Nvm IsQuiet nvm.old bytes → HasMagic bytes
+        → At N.Nvm MayLeave nvm.new image → image ≡ bytes }
     ensures complete { ¬ Rose (N.faults nvm.old) (N.faults nvm.new) → image_size header.banks ≤ N.extent nvm.old
         → IfSome (N.content nvm.old) (λ bytes. LacksMagic bytes → IsOk result) }
 {
