@@ -1,5 +1,5 @@
 -- The scale of a chart after time zero: changes of speed up, time across.
-use Rattle.std.specs.Prelude.{ℕ, ◌+◌, ◌*◌, ◌/◌, max, ℤ, Bool, true, ◌&&◌, if◌then◌else◌, nat_le, nat_eq, Option, Some, None, List, [], ◌∷◌}
+use Rattle.std.specs.Prelude.{◌≤◌, ℕ, ◌+◌, ◌*◌, ◌/◌, max, ℤ, Bool, true, ◌&&◌, if◌then◌else◌, nat_le, nat_eq, Option, Some, None, List, [], ◌∷◌}
 use Rattle.std.specs.List.{list_all}
 use Rattle.edr_record.specs.Parts.{CrashPart}
 use Rattle.edr_record.specs.Bounds.{window_from_end}
@@ -60,3 +60,10 @@ time_x s t = 330 + t * (1_500 / s.span)
 -- how long after time zero extremes are looked for
 abbrev pub window_of : ℕ → ℕ
 window_of end = window_from_end end
+
+-- what the scale of a crash part keeps to: a step, no reach that a chart can't have, some room up, and a span across
+pub record IsScale (s : Scale) : Type 0 where
+  pub step : (1 ≤ s.step) × (s.step ≤ 1_000)
+  pub range : (s.top ≤ 40_000) × (s.bottom ≤ 40_000)
+  pub some : 1 ≤ s.top + s.bottom
+  pub span : (300 ≤ s.span) × (s.span ≤ 500)

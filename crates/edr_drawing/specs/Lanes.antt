@@ -1,5 +1,5 @@
 -- A lane of eleven slots: a path through those that are there, and for each slot its mark or a field that says `none`.
-use Rattle.std.specs.Prelude.{ℕ, ◌+◌, ◌-◌, ◌*◌, ◌/◌, Bool, true, false, if◌then◌else◌, Option, Some, None, List, [], ◌∷◌, ◌++◌}
+use Rattle.std.specs.Prelude.{◌≤◌, ℕ, ◌+◌, ◌-◌, ◌*◌, ◌/◌, Bool, true, false, if◌then◌else◌, Option, Some, None, List, [], ◌∷◌, ◌++◌}
 use Rattle.edr_drawing.specs.declared.pieces.Piece.TheVariants as piece
 use Rattle.edr_drawing.specs.declared.texts.Mark.TheVariants as mark
 use Rattle.edr_drawing.specs.declared.texts.Class.TheVariants as class
@@ -71,3 +71,9 @@ drawn_lane l vs =
     ++ points l 0 false vs
     ++ pieces (piece.Mark mark.Closed ∷ [])
     ++ cells l 0 vs
+
+-- what a lane keeps to: a greatest value above 0, a step, and a place within its chart
+pub record IsLane (l : Lane) : Type 0 where
+  pub top : (1 ≤ l.top) × (l.top ≤ 100_000)
+  pub step : 1 ≤ l.step
+  pub place : (l.rise ≤ 1_000) × (l.foot ≤ 1_000) × (l.room ≤ 1_000)

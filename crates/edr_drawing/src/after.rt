@@ -2,6 +2,7 @@
 
 ghost use Rattle.std.specs.Prelude.{◌≡◌, ◌++◌, ◌≤◌, ◌<◌, ◌+◌, ◌-◌, ◌*◌, ◌/◌, OnOk, length, take};
 ghost use Rattle.edr_record.specs.Bounds.{point_count, window_from_end};
+ghost use Rattle.edr_drawing.specs.Changes.{IsScale};
 ghost use Rattle.edr_drawing.specs.After.{past_window, time_line, time_lines, legend, level, levels, after_frame, end_line, axis_point, axis_points, curve, dot, dots, square, squares, maximum_number, diamond, across_number, along_number, maxima, curves, changes_chart};
 
 use crate::before::name;
@@ -151,8 +152,7 @@ fn line(x: u32, to_x: u32, y: u32, class: Class) -> Element
 // Draws the line of a change of speed, which is so far above the bottom of the scale, with its number.
 #[tactic(auto, unfolding(crate::specs::After::level))]
 fn draw_level(out: &mut Vec<u8>, scale: &Scale, above: u32) -> Result<(), OutOfMemory>
-    requires range { (scale.now.top ≤ 40_000) × (scale.now.bottom ≤ 40_000) }
-    requires some { 1 ≤ scale.now.top + scale.now.bottom }
+    requires { IsScale scale.now }
     ensures { OnOk result (out.new.items ≡ out.old.items ++ level scale.now above) }
 {
     let Scale { top, bottom, .. } = *scale;
@@ -184,9 +184,7 @@ fn draw_level(out: &mut Vec<u8>, scale: &Scale, above: u32) -> Result<(), OutOfM
 // Draws a line at each step.
 #[tactic(auto, unfolding(crate::specs::After::levels))]
 fn draw_levels(out: &mut Vec<u8>, scale: &Scale) -> Result<(), OutOfMemory>
-    requires range { (scale.now.top ≤ 40_000) × (scale.now.bottom ≤ 40_000) }
-    requires some { 1 ≤ scale.now.top + scale.now.bottom }
-    requires step { 1 ≤ scale.now.step }
+    requires { IsScale scale.now }
     ensures { OnOk result (out.new.items ≡ out.old.items ++ levels scale.now) }
 {
     for i in 0..(scale.top + scale.bottom) / scale.step + 1 {
@@ -198,10 +196,7 @@ fn draw_levels(out: &mut Vec<u8>, scale: &Scale) -> Result<(), OutOfMemory>
 // Draws the frame, its lines and the names of the axes.
 #[tactic(auto, unfolding(crate::specs::After::after_frame))]
 fn draw_frame(out: &mut Vec<u8>, scale: &Scale, window: u16) -> Result<(), OutOfMemory>
-    requires range { (scale.now.top ≤ 40_000) × (scale.now.bottom ≤ 40_000) }
-    requires some { 1 ≤ scale.now.top + scale.now.bottom }
-    requires step { 1 ≤ scale.now.step }
-    requires span { (300 ≤ scale.now.span) × (scale.now.span ≤ 500) }
+    requires scale { IsScale scale.now }
     requires window { window ≤ 300 }
     ensures { OnOk result (out.new.items ≡ out.old.items ++ after_frame scale.now window) }
 {
@@ -261,9 +256,7 @@ fn draw_end(out: &mut Vec<u8>, scale: &Scale, end: u16, window: u16) -> Result<(
 // Appends the point of an axis that is this many times 10 ms past time zero.
 #[tactic(auto, unfolding(crate::specs::After::axis_point))]
 fn put_point(out: &mut Vec<u8>, scale: &Scale, i: u16, change: i16) -> Result<(), OutOfMemory>
-    requires range { (scale.now.top ≤ 40_000) × (scale.now.bottom ≤ 40_000) }
-    requires some { 1 ≤ scale.now.top + scale.now.bottom }
-    requires span { 300 ≤ scale.now.span }
+    requires scale { IsScale scale.now }
     requires place { i ≤ 26 }
     ensures { OnOk result (out.new.items ≡ out.old.items ++ axis_point scale.now i change) }
 {
@@ -282,9 +275,7 @@ fn put_point(out: &mut Vec<u8>, scale: &Scale, i: u16, change: i16) -> Result<()
 // Draws a dot at that point.
 #[tactic(auto, unfolding(crate::specs::After::dot))]
 fn draw_dot(out: &mut Vec<u8>, scale: &Scale, i: u16, change: i16) -> Result<(), OutOfMemory>
-    requires range { (scale.now.top ≤ 40_000) × (scale.now.bottom ≤ 40_000) }
-    requires some { 1 ≤ scale.now.top + scale.now.bottom }
-    requires span { 300 ≤ scale.now.span }
+    requires scale { IsScale scale.now }
     requires place { i ≤ 26 }
     ensures { OnOk result (out.new.items ≡ out.old.items ++ dot scale.now i change) }
 {
@@ -296,9 +287,7 @@ fn draw_dot(out: &mut Vec<u8>, scale: &Scale, i: u16, change: i16) -> Result<(),
 // Draws a square at that point.
 #[tactic(auto, unfolding(crate::specs::After::square))]
 fn draw_square(out: &mut Vec<u8>, scale: &Scale, i: u16, change: i16) -> Result<(), OutOfMemory>
-    requires range { (scale.now.top ≤ 40_000) × (scale.now.bottom ≤ 40_000) }
-    requires some { 1 ≤ scale.now.top + scale.now.bottom }
-    requires span { 300 ≤ scale.now.span }
+    requires scale { IsScale scale.now }
     requires place { i ≤ 26 }
     ensures { OnOk result (out.new.items ≡ out.old.items ++ square scale.now i change) }
 {
@@ -309,9 +298,7 @@ fn draw_square(out: &mut Vec<u8>, scale: &Scale, i: u16, change: i16) -> Result<
 
 // Appends the points of an axis, one at each 10 ms.
 fn put_points(out: &mut Vec<u8>, scale: &Scale, points: &[i16]) -> Result<(), OutOfMemory>
-    requires range { (scale.now.top ≤ 40_000) × (scale.now.bottom ≤ 40_000) }
-    requires some { 1 ≤ scale.now.top + scale.now.bottom }
-    requires span { 300 ≤ scale.now.span }
+    requires scale { IsScale scale.now }
     requires count { length points.now ≤ 26 }
     ensures { OnOk result (out.new.items ≡ out.old.items ++ axis_points scale.now 0 points.now) }
 {
@@ -329,9 +316,7 @@ fn draw_curve(
     points: &[i16],
     class: Class,
 ) -> Result<(), OutOfMemory>
-    requires range { (scale.now.top ≤ 40_000) × (scale.now.bottom ≤ 40_000) }
-    requires some { 1 ≤ scale.now.top + scale.now.bottom }
-    requires span { 300 ≤ scale.now.span }
+    requires scale { IsScale scale.now }
     requires count { length points.now ≤ 26 }
     ensures { OnOk result (out.new.items ≡ out.old.items ++ curve scale.now class points.now) }
 {
@@ -349,9 +334,7 @@ fn draw_curve(
 
 // Draws a dot at each point along.
 fn draw_dots(out: &mut Vec<u8>, scale: &Scale, points: &[i16]) -> Result<(), OutOfMemory>
-    requires range { (scale.now.top ≤ 40_000) × (scale.now.bottom ≤ 40_000) }
-    requires some { 1 ≤ scale.now.top + scale.now.bottom }
-    requires span { 300 ≤ scale.now.span }
+    requires scale { IsScale scale.now }
     requires count { length points.now ≤ 26 }
     ensures { OnOk result (out.new.items ≡ out.old.items ++ dots scale.now 0 points.now) }
 {
@@ -363,9 +346,7 @@ fn draw_dots(out: &mut Vec<u8>, scale: &Scale, points: &[i16]) -> Result<(), Out
 
 // Draws a square at each point across.
 fn draw_squares(out: &mut Vec<u8>, scale: &Scale, points: &[i16]) -> Result<(), OutOfMemory>
-    requires range { (scale.now.top ≤ 40_000) × (scale.now.bottom ≤ 40_000) }
-    requires some { 1 ≤ scale.now.top + scale.now.bottom }
-    requires span { 300 ≤ scale.now.span }
+    requires scale { IsScale scale.now }
     requires count { length points.now ≤ 26 }
     ensures { OnOk result (out.new.items ≡ out.old.items ++ squares scale.now 0 points.now) }
 {
@@ -401,9 +382,7 @@ fn draw_diamond(
     extreme: Extreme,
     class: Class,
 ) -> Result<(), OutOfMemory>
-    requires range { (scale.now.top ≤ 40_000) × (scale.now.bottom ≤ 40_000) }
-    requires some { 1 ≤ scale.now.top + scale.now.bottom }
-    requires span { 300 ≤ scale.now.span }
+    requires { IsScale scale.now }
     ensures { OnOk result (out.new.items ≡ out.old.items ++ diamond scale.now extreme class) }
 {
     let x = scale.x(extreme.at);
@@ -413,9 +392,7 @@ fn draw_diamond(
 
 // Draws the number of the greatest change across, above its diamond.
 fn draw_across_number(out: &mut Vec<u8>, scale: &Scale, across: Extreme) -> Result<(), OutOfMemory>
-    requires range { (scale.now.top ≤ 40_000) × (scale.now.bottom ≤ 40_000) }
-    requires some { 1 ≤ scale.now.top + scale.now.bottom }
-    requires span { 300 ≤ scale.now.span }
+    requires { IsScale scale.now }
     ensures { OnOk result (out.new.items ≡ out.old.items ++ across_number scale.now across) }
 {
     let x = scale.x(across.at);
@@ -425,9 +402,7 @@ fn draw_across_number(out: &mut Vec<u8>, scale: &Scale, across: Extreme) -> Resu
 
 // Draws the number of the greatest change along, below its diamond.
 fn draw_along_number(out: &mut Vec<u8>, scale: &Scale, along: Extreme) -> Result<(), OutOfMemory>
-    requires range { (scale.now.top ≤ 40_000) × (scale.now.bottom ≤ 40_000) }
-    requires some { 1 ≤ scale.now.top + scale.now.bottom }
-    requires span { 300 ≤ scale.now.span }
+    requires { IsScale scale.now }
     ensures { OnOk result (out.new.items ≡ out.old.items ++ along_number scale.now along) }
 {
     let x = scale.x(along.at);
@@ -443,9 +418,7 @@ fn draw_maxima(
     along: Extreme,
     across: Extreme,
 ) -> Result<(), OutOfMemory>
-    requires range { (scale.now.top ≤ 40_000) × (scale.now.bottom ≤ 40_000) }
-    requires some { 1 ≤ scale.now.top + scale.now.bottom }
-    requires span { 300 ≤ scale.now.span }
+    requires { IsScale scale.now }
     ensures { OnOk result (out.new.items ≡ out.old.items ++ maxima scale.now along across) }
 {
     draw_diamond(out, scale, across, Class::DiamondAcross)?;
@@ -457,9 +430,7 @@ fn draw_maxima(
 // Draws the curves of both axes, with a mark at each point.
 #[tactic(auto, unfolding(crate::specs::After::curves))]
 fn draw_curves(out: &mut Vec<u8>, scale: &Scale, crash: &Crash) -> Result<(), OutOfMemory>
-    requires range { (scale.now.top ≤ 40_000) × (scale.now.bottom ≤ 40_000) }
-    requires some { 1 ≤ scale.now.top + scale.now.bottom }
-    requires span { 300 ≤ scale.now.span }
+    requires { IsScale scale.now }
     ensures { OnOk result (out.new.items ≡ out.old.items ++ curves scale.now crash.now) }
 {
     let along = points_of(crash.end, &crash.along);
@@ -482,10 +453,7 @@ pub fn points_of(end: u16, points: &[i16; 26]) -> &[i16]
 // Draws the part of the chart that shows changes of speed.
 #[tactic(auto, unfolding(crate::specs::After::changes_chart))]
 pub fn draw_changes(out: &mut Vec<u8>, scale: &Scale, crash: &Crash) -> Result<(), OutOfMemory>
-    requires range { (scale.now.top ≤ 40_000) × (scale.now.bottom ≤ 40_000) }
-    requires some { 1 ≤ scale.now.top + scale.now.bottom }
-    requires step { 1 ≤ scale.now.step }
-    requires span { (300 ≤ scale.now.span) × (scale.now.span ≤ 500) }
+    requires { IsScale scale.now }
     ensures { OnOk result (out.new.items ≡ out.old.items ++ changes_chart scale.now crash.now) }
 {
     let window = window_of(crash.end);

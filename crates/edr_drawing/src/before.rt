@@ -2,6 +2,7 @@
 
 ghost use Rattle.std.specs.Prelude.{◌≡◌, ◌++◌, ◌≤◌, ◌<◌, OnOk, All};
 ghost use Rattle.edr_record.specs.Bounds.{IsUpTo};
+ghost use Rattle.edr_drawing.specs.Lanes.{IsLane};
 ghost use Rattle.edr_drawing.specs.Before.{greatest, speed_lane, throttle_lane, half_second, half_seconds, before_frame, before_speed, before_throttle, switch_field, switches, before_brake, named_switch, before_switches, before_head, before_chart};
 
 use crate::elements::{Element, Words, draw};
@@ -54,9 +55,7 @@ fn greatest(slots: &[Option<u16>; 11]) -> u16
 
 fn speed_lane(slots: &[Option<u16>; 11]) -> Lane
     ensures lane { result ≡ speed_lane slots.now }
-    ensures top { (1 ≤ result.top) × (result.top ≤ 100_000) }
-    ensures step { 1 ≤ result.step }
-    ensures place { (result.rise ≤ 1_000) × (result.foot ≤ 1_000) × (result.room ≤ 1_000) }
+    ensures within { IsLane result }
 {
     let most = u32::from(greatest(slots).max(1));
     let step = least_step(&[10, 20, 50, 100], 100, 4, most, 0);

@@ -2,7 +2,7 @@
 
 ghost use Rattle.std.specs.Prelude.{◌≡◌, ◌≤◌, ◌<◌, ◌+◌, ◌-◌, ◌*◌, max};
 ghost use Rattle.std.specs.List.{list_all};
-ghost use Rattle.edr_drawing.specs.Changes.{highest, lowest, reach_up, reach_down, is_early, span_of, scale_of, change_y, time_x, window_of};
+ghost use Rattle.edr_drawing.specs.Changes.{IsScale, highest, lowest, reach_up, reach_down, is_early, span_of, scale_of, change_y, time_x, window_of};
 
 use crate::scales::{LEFT, below_top, fall_of, least_step, rise_of, scale_top};
 use edr_record::Crash;
@@ -92,10 +92,7 @@ impl Scale {
     /// The scale of a crash part.
     pub fn of(crash: &Crash) -> Scale
         ensures scale { result ≡ scale_of crash.now }
-        ensures step { (1 ≤ result.step) × (result.step ≤ 1_000) }
-        ensures range { (result.top ≤ 40_000) × (result.bottom ≤ 40_000) }
-        ensures some { 1 ≤ result.top + result.bottom }
-        ensures span { (300 ≤ result.span) × (result.span ≤ 500) }
+        ensures within { IsScale result }
     {
         let up = reach_up(crash);
         let down = reach_down(crash);
@@ -111,8 +108,7 @@ impl Scale {
 
     /// Where a change of speed stands up.
     pub fn y(&self, change: i16) -> u32
-        requires range { (self.now.top ≤ 40_000) × (self.now.bottom ≤ 40_000) }
-        requires some { 1 ≤ self.now.top + self.now.bottom }
+        requires { IsScale self.now }
         ensures place { result ≡ change_y self.now change }
         ensures range { (80 ≤ result) × (result ≤ 40_000_000) }
     {

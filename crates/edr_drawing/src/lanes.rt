@@ -1,7 +1,7 @@
 //! A lane of eleven slots: a path through those that are there, and for each slot its mark or a field that says `none`.
 
 ghost use Rattle.std.specs.Prelude.{◌≡◌, ◌++◌, ◌≤◌, ◌<◌, ◌+◌, ◌*◌, ◌-◌, ◌/◌, false, All, IfSome, OnOk, length};
-ghost use Rattle.edr_drawing.specs.Lanes.{lane_y, grid, grid_line, point, points, none_field, cell, cells, drawn_lane};
+ghost use Rattle.edr_drawing.specs.Lanes.{IsLane, lane_y, grid, grid_line, point, points, none_field, cell, cells, drawn_lane};
 
 use crate::elements::{Element, Words, draw};
 use crate::pieces::{Piece, put};
@@ -22,9 +22,7 @@ pub struct Lane {
 
 /// Where a value stands up.
 fn lane_y(lane: &Lane, value: u32) -> u32
-    requires top { 1 ≤ lane.now.top }
-    requires rise { lane.now.rise ≤ 1_000 }
-    requires foot { lane.now.foot ≤ 1_000 }
+    requires lane { IsLane lane.now }
     requires value { value ≤ 100_000 }
     ensures place { result ≡ lane_y lane.now value }
     ensures range { result ≤ 1_000 }
@@ -34,9 +32,7 @@ fn lane_y(lane: &Lane, value: u32) -> u32
 
 // Draws the line of a value, with its number.
 fn draw_line(out: &mut Vec<u8>, lane: &Lane, value: u32) -> Result<(), OutOfMemory>
-    requires top { 1 ≤ lane.now.top }
-    requires rise { lane.now.rise ≤ 1_000 }
-    requires foot { lane.now.foot ≤ 1_000 }
+    requires lane { IsLane lane.now }
     requires value { value ≤ 100_000 }
     ensures { OnOk result (out.new.items ≡ out.old.items ++ grid_line lane.now value) }
 {
@@ -63,10 +59,7 @@ fn draw_line(out: &mut Vec<u8>, lane: &Lane, value: u32) -> Result<(), OutOfMemo
 
 // Draws a line at each step.
 fn draw_grid(out: &mut Vec<u8>, lane: &Lane) -> Result<(), OutOfMemory>
-    requires top { (1 ≤ lane.now.top) × (lane.now.top ≤ 100_000) }
-    requires step { 1 ≤ lane.now.step }
-    requires rise { lane.now.rise ≤ 1_000 }
-    requires foot { lane.now.foot ≤ 1_000 }
+    requires { IsLane lane.now }
     ensures { OnOk result (out.new.items ≡ out.old.items ++ grid lane.now) }
 {
     for i in 0..lane.top / lane.step + 1 {
@@ -84,9 +77,7 @@ fn put_point(
     before: bool,
     value: u16,
 ) -> Result<(), OutOfMemory>
-    requires top { 1 ≤ lane.now.top }
-    requires rise { lane.now.rise ≤ 1_000 }
-    requires foot { lane.now.foot ≤ 1_000 }
+    requires lane { IsLane lane.now }
     requires slot { k < 11 }
     ensures { OnOk result (out.new.items ≡ out.old.items ++ point lane.now k before value) }
 {
@@ -104,9 +95,7 @@ fn put_point(
 
 // Appends the points of all slots that are there.
 fn put_points(out: &mut Vec<u8>, lane: &Lane, slots: &[Option<u16>; 11]) -> Result<(), OutOfMemory>
-    requires top { 1 ≤ lane.now.top }
-    requires rise { lane.now.rise ≤ 1_000 }
-    requires foot { lane.now.foot ≤ 1_000 }
+    requires { IsLane lane.now }
     ensures { OnOk result (out.new.items ≡ out.old.items ++ points lane.now 0 false slots.now) }
 {
     let mut before = false;
@@ -153,10 +142,7 @@ pub fn draw_none(out: &mut Vec<u8>, k: u32, y: u32, height: u32) -> Result<(), O
 
 // Draws what stands in the place of a slot.
 fn draw_cell(out: &mut Vec<u8>, lane: &Lane, k: u32, slot: Option<u16>) -> Result<(), OutOfMemory>
-    requires top { 1 ≤ lane.now.top }
-    requires rise { lane.now.rise ≤ 1_000 }
-    requires foot { lane.now.foot ≤ 1_000 }
-    requires room { lane.now.room ≤ 1_000 }
+    requires lane { IsLane lane.now }
     requires slot { k < 11 }
     ensures { OnOk result (out.new.items ≡ out.old.items ++ cell lane.now k slot) }
 {
@@ -181,10 +167,7 @@ fn draw_cell(out: &mut Vec<u8>, lane: &Lane, k: u32, slot: Option<u16>) -> Resul
 
 // Draws the mark or the field of each slot.
 fn draw_cells(out: &mut Vec<u8>, lane: &Lane, slots: &[Option<u16>; 11]) -> Result<(), OutOfMemory>
-    requires top { 1 ≤ lane.now.top }
-    requires rise { lane.now.rise ≤ 1_000 }
-    requires foot { lane.now.foot ≤ 1_000 }
-    requires room { lane.now.room ≤ 1_000 }
+    requires { IsLane lane.now }
     ensures { OnOk result (out.new.items ≡ out.old.items ++ cells lane.now 0 slots.now) }
 {
     for k in 0..11_u32 {
@@ -200,11 +183,7 @@ pub fn draw_lane(
     lane: &Lane,
     slots: &[Option<u16>; 11],
 ) -> Result<(), OutOfMemory>
-    requires top { (1 ≤ lane.now.top) × (lane.now.top ≤ 100_000) }
-    requires step { 1 ≤ lane.now.step }
-    requires rise { lane.now.rise ≤ 1_000 }
-    requires foot { lane.now.foot ≤ 1_000 }
-    requires room { lane.now.room ≤ 1_000 }
+    requires { IsLane lane.now }
     ensures { OnOk result (out.new.items ≡ out.old.items ++ drawn_lane lane.now slots.now) }
 {
     draw_grid(out, lane)?;

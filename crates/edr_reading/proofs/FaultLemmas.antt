@@ -10,7 +10,7 @@ use Rattle.edr_reading.specs.declared.faults.RowFault.{RowFault}
 use Rattle.edr_reading.specs.declared.faults.RowFault.TheVariants.{Fields, Field, Unended}
 use Rattle.edr_reading.specs.Reading.{IsReading, head_row, report_rows}
 
-reading-none : IsReading [] [] 0
+pub reading-none : IsReading [] [] 0
 unfolding report_lines
 reading-none = record {
   run = λ k d h. absurd (omega (arith, h));
@@ -56,7 +56,7 @@ row-at [] r rs = refl
 row-at (x ∷ xs) r rs = row-at xs r rs
 
 -- a row of a report has three fields
-row-three : (xs : List (List (List ℕ))) (r : List (List ℕ)) (rs : List (List (List ℕ))) → AreReport (xs ++ r ∷ rs) → length r ≡ 3
+pub row-three : (xs : List (List (List ℕ))) (r : List (List ℕ)) (rs : List (List (List ℕ))) → AreReport (xs ++ r ∷ rs) → length r ≡ 3
 row-three xs r rs a =
     let long = length-append xs (r ∷ rs) in
     let at : length xs < length (report_rows a.0 a.1 a.2) = omega (arith, long, ap length a.4) in

@@ -12,5 +12,12 @@ pub mod FoundLemmas
 pub mod RunLemmas
 pub mod LastLemmas
 pub mod ReadingLemmas
+pub mod PlainLemmas
 pub mod TableLemmas
 pub mod FaultLemmas
+pub mod NextLemmas
+pub mod OpensLemmas
+pub mod TriedLemmas
+pub mod BankLemmas
+pub mod TryLemmas
+pub mod LaterLemmas

@@ -13,7 +13,7 @@ use Rattle.edr_report.specs.Words.{spaced, points_words}
 pub count-fits : (end : ℕ) → (1 ≤ point_count end) × (point_count end ≤ 26)
 count-fits end = (omega arith, omega arith)
 
-zeros-change : All IsChange (replicate 26 (pos 0))
+pub zeros-change : All IsChange (replicate 26 (pos 0))
 zeros-change = λ k d h. rw (zero-at k 26 d h) (omega arith)
   where
     zero-at : (k n : ℕ) (d : ℤ) → k < length (replicate n (pos 0)) → get_or (replicate n (pos 0)) k d ≡ pos 0

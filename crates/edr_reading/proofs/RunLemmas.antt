@@ -35,7 +35,7 @@ run-first i r rs more =
     ∙ append_assoc (map line_fields (cycle_lines i r)) (run_fields (i + 1) rs) more
     ∙ ap (λ (x : List (List (List ℕ))). x ++ (run_fields (i + 1) rs ++ more)) (cycle-lines i r)
 
-run-last : (rs : List Report) (r : Report) → run_fields 1 (rs ++ r ∷ []) ≡ run_fields 1 rs ++ map line_fields (cycle_lines (length rs + 1) r)
+pub run-last : (rs : List Report) (r : Report) → run_fields 1 (rs ++ r ∷ []) ≡ run_fields 1 rs ++ map line_fields (cycle_lines (length rs + 1) r)
 run-last rs r =
     let k : 1 + length rs ≡ length rs + 1 = omega arith in
     ap (map line_fields) (numbered-more (λ x. cycle_lines x.0 x.1) 1 rs r ∙ ap (λ (n : ℕ). run_lines 1 rs ++ cycle_lines n r) k)

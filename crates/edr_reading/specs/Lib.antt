@@ -8,4 +8,6 @@ pub mod Run
 pub mod Found
 pub mod Reading
 pub mod Faults
+pub mod Plain
+pub mod Cut
 pub mod Refusals

@@ -1,179 +1,226 @@
-//! Rows that may follow those of a report that was cut.
+//! Plain rows that may follow those of a report that was cut.
 
-ghost use Rattle.std.specs.Prelude.{◌<◌, ◌≤◌, IfSome};
+ghost use Rattle.std.specs.Prelude.{◌≡◌, ◌≢◌, ◌<◌, ◌≤◌, ◌+◌, ◌++◌, ℕ, ⊤, pos, Some, IfSome, MatchOption, OnOk, length, map, drop, replicate, slice_index_or, [], codes};
+ghost use Rattle.std.specs.Bool.{MatchBool};
+ghost use Rattle.edr_report.specs.Words.{points_words};
+ghost use Rattle.edr_reading.specs.Cut.{cut_texts};
+ghost use Rattle.edr_reading.specs.Plain.{event_names, plain_texts, block_fields, ArePlain};
+ghost use Rattle.edr_reading.specs.Rows.{fields};
 
-use crate::event::EVENT_ROWS;
 use crate::front::is_word;
-use crate::parts::{CRASH_NAMES, PRE_NAMES};
 use crate::rows::Row;
 use crate::values::time;
-use std::alloc::{AllocError as OutOfMemory, Global};
+use std::alloc::AllocError as OutOfMemory;
 
-// The row of an event that tells how many events the crash has, and that of its end, each by its place from 0.
-const EVENTS: usize = 4;
-
-const END: usize = 12;
-
-const BANKS: [&[u8]; 16] = [
-    b"1", b"2", b"3", b"4", b"5", b"6", b"7", b"8", b"9", b"10", b"11", b"12", b"13", b"14", b"15",
-    b"16",
+// The names of the rows of an event.
+const EVENT_NAMES: [&[u8]; 28] = [
+    b"event",
+    b"bank",
+    b"ignition cycle, crash",
+    b"time zero",
+    b"multi-event, number of events",
+    b"time from event 1 to 2",
+    b"deployment event",
+    b"speed, km/h",
+    b"throttle, %",
+    b"service brake",
+    b"driver belt",
+    b"frontal air bag warning lamp",
+    b"end of event",
+    b"delta-V longitudinal, km/h",
+    b"delta-V lateral, km/h",
+    b"maximum delta-V longitudinal",
+    b"maximum delta-V lateral",
+    b"time of maximum resultant",
+    b"ticks without sample",
+    b"driver frontal deployment",
+    b"passenger frontal deployment",
+    b"driver side deployment",
+    b"passenger side deployment",
+    b"driver curtain deployment",
+    b"passenger curtain deployment",
+    b"driver pretensioner deployment",
+    b"passenger pretensioner deployment",
+    b"complete file recorded",
 ];
 
 // As many points as an axis has at most, none of them a change.
 const UNCHANGED: &[u8] = b"0 0 0 0 0 0 0 0 0 0 0 0 0 0 0 0 0 0 0 0 0 0 0 0 0 0";
 
-const COUNT: &[u8] = b"ignition cycle, download";
-
-// What the rows of an event that are there tell of the others.
+/// What differs in the plain values of events.
 #[derive(Clone, Copy)]
-struct Cut<'a> {
-    block: &'a [u8],
-    bank: &'static [u8],
-    is_second: bool,
-    end: Option<u32>,
-    complete: &'static [u8],
+pub(crate) struct Cut<'a> {
+    pub block: &'a [u8],
+    pub bank: &'a [u8],
+    pub between: &'a [u8],
+    pub points: &'a [u8],
+    pub extreme: &'a [u8],
+    pub time: &'a [u8],
+    pub missing: &'a [u8],
+    pub complete: &'a [u8],
 }
 
-// The name of an event's row.
-fn name_at(place: usize) -> &'static [u8] {
-    match place {
-        0 => b"event",
-        1 => b"bank",
-        2..=11 => PRE_NAMES[place - 2].as_bytes(),
-        12..=26 => CRASH_NAMES[place - 12].as_bytes(),
-        _ => b"complete file recorded",
-    }
-}
-
-// The place in an event of the row with this name.
-fn place_of(name: &[u8]) -> Option<usize>
-    ensures { IfSome result (λ place. place < 28) }
+// The first place of a name among these.
+fn place_in(name: &[u8], names: &[&'static [u8]]) -> Option<usize>
+    ensures read { IfSome result (λ p. (p < length names.now) × (name.now ≡ slice_index_or (map (λ n. n.now) names.now) p [])) }
+    ensures none { MatchOption result ((p : ℕ) → p < length names.now → name.now ≢ slice_index_or (map (λ n. n.now) names.now) p []) (λ p. ⊤) }
 {
-    for place in 0..EVENT_ROWS {
-        if is_word(name, name_at(place)) {
+    for place in 0..names.len() {
+        if is_word(name, names[place]) {
             return Some(place);
         }
     }
     None
 }
 
-// A bank that isn't told by the rows.
-fn other_bank(rows: &[Row<'_>]) -> &'static [u8] {
-    for bank in BANKS {
-        if !has_bank(rows, bank) {
-            return bank;
-        }
-    }
-    b"1"
-}
-
-fn has_bank(rows: &[Row<'_>], bank: &[u8]) -> bool {
-    for row in rows {
-        if is_word(row.name, b"bank") && is_word(row.value, bank) {
-            return true;
-        }
-    }
-    false
-}
-
-// The end of the event of which the last row has this place.
-fn end_of(rows: &[Row<'_>], place: usize) -> Option<u32>
-    requires { place < 28 }
-    ensures { IfSome result (λ end. end ≤ 500) }
+/// The place in an event of the row with this name.
+pub(crate) fn place_of(name: &[u8]) -> Option<usize>
+    ensures read { IfSome result (λ p. (p < 28) × (name.now ≡ slice_index_or event_names p [])) }
+    ensures whole { (p : ℕ) → p < 28 → name.now ≡ slice_index_or event_names p [] → result ≡ Some p }
 {
-    if place < END || rows.len() <= place - END {
-        return None;
+    place_in(name, &EVENT_NAMES)
+}
+
+/// The name is that of the row of an event in this place.
+pub(crate) fn is_named(name: &[u8], place: usize) -> bool
+    requires { place < 28 }
+    ensures { MatchBool result (name.now ≡ slice_index_or event_names place []) (name.now ≢ slice_index_or event_names place []) }
+{
+    match place_of(name) {
+        Some(found) => found == place,
+        None => false,
     }
-    time(rows[rows.len() - 1 - (place - END)].value, 20, 500)
 }
 
 // Points of an axis that has no change, up to this end.
 fn unchanged(end: u32) -> &'static [u8]
     requires { end ≤ 500 }
+    ensures { result.now ≡ points_words end (replicate 26 (pos 0)) }
 {
     let count = (end + 30).min(250) / 10 + 1;
     UNCHANGED.split_at(2 * count as usize - 1).0
 }
 
-// A value of a row of what came after time zero.
-fn crash_value(place: usize, end: u32) -> &'static [u8]
-    requires { end ≤ 500 }
+/// Points that may stand behind the row in this place, which has this value.
+pub(crate) fn points_behind<'a>(place: usize, value: &'a [u8]) -> &'a [u8]
+    ensures { ArePlain place value.now result.now }
 {
-    match place {
-        13 | 14 => unchanged(end),
-        15 | 16 => b"0 km/h at 0 ms",
-        17 => b"0 ms",
-        18 => b"0 longitudinal, 0 lateral",
-        _ => b"none",
+    if place != 12 {
+        return value;
+    }
+    match time(value, 20, 500) {
+        Some(end) => unchanged(end),
+        None => value,
     }
 }
 
-// A value of a row of an event.
-fn plain_value(place: usize, cut: &Cut<'_>) -> &'static [u8]
-    requires { IfSome cut.now.end (λ end. end ≤ 500) }
-{
-    match (place, cut.end) {
-        (1, _) => cut.bank,
-        (2 | 4, _) => b"1",
-        (3, _) => b"1 ms",
-        (5, _) if cut.is_second => b"0.0 s",
-        (6, _) => b"no",
-        (7..=9, _) => b"none none none none none none none none none none none",
-        (27, _) => cut.complete,
-        (12..=26, Some(end)) => crash_value(place, end),
-        _ => b"none",
-    }
-}
-
-// What the last row of an event that was cut, which has this place, and those before it tell of the others.
-fn cut_at<'a>(rows: &[Row<'a>], last: &Row<'a>, place: usize, complete: bool) -> Cut<'a>
-    requires { place < 28 }
-    ensures { IfSome result.end (λ end. end ≤ 500) }
+/// An event without a crash part.
+pub(crate) fn absent<'a>(block: &'a [u8], bank: &'a [u8], between: &'a [u8]) -> Cut<'a>
+    ensures block { result.block.now ≡ block.now }
+    ensures texts { cut_texts result ≡ plain_texts block.now bank.now between.now (codes "none") (codes "none") (codes "none") (codes "none") (codes "no") }
 {
     Cut {
-        block: last.block,
-        bank: other_bank(rows),
-        is_second: place == EVENTS && is_word(last.value, b"2"),
-        end: end_of(rows, place),
-        complete: if complete { b"yes" } else { b"no" },
+        block,
+        bank,
+        between,
+        points: b"none",
+        extreme: b"none",
+        time: b"none",
+        missing: b"none",
+        complete: b"no",
     }
 }
 
-// Adds the rows of an event behind the one that has this place.
-fn push_event<'a>(rest: &mut Vec<Row<'a>>, place: usize, cut: &Cut<'a>) -> Result<(), OutOfMemory>
-    requires place { place < 28 }
-    requires end { IfSome cut.now.end (λ end. end ≤ 500) }
+/// An event in which nothing changed.
+pub(crate) fn present<'a>(
+    block: &'a [u8],
+    bank: &'a [u8],
+    points: &'a [u8],
+    complete: &'a [u8],
+) -> Cut<'a>
+    ensures block { result.block.now ≡ block.now }
+    ensures texts { cut_texts result ≡ plain_texts block.now bank.now (codes "none") points.now (codes "0 km/h at 0 ms") (codes "0 ms") (codes "0 longitudinal, 0 lateral") complete.now }
 {
-    for i in place + 1..EVENT_ROWS {
-        rest.push(Row {
-            block: cut.block,
-            name: name_at(i),
-            value: plain_value(i, cut),
-        })?;
+    Cut {
+        block,
+        bank,
+        between: b"none",
+        points,
+        extreme: b"0 km/h at 0 ms",
+        time: b"0 ms",
+        missing: b"0 longitudinal, 0 lateral",
+        complete,
     }
-    Ok(())
 }
 
-/// Rows that may follow these: those that the last event lacks, with plain values, and the count. The file of that event
-/// is then to be complete, or not. They are a guess, which is to be read with the rows.
-pub(crate) fn rest_of<'a>(
-    alloc: Global,
-    rows: &[Row<'a>],
-    complete: bool,
-) -> Result<Vec<Row<'a>>, OutOfMemory> {
-    let mut rest = Vec::new(alloc);
-    if let Some((last, _)) = rows.split_last() {
-        if is_word(last.name, COUNT) {
-            return Ok(rest);
-        }
-        if let Some(place) = place_of(last.name) {
-            push_event(&mut rest, place, &cut_at(rows, last, place, complete))?;
-        }
-    }
-    rest.push(Row {
-        block: b"0",
-        name: COUNT,
-        value: b"0",
-    })?;
-    Ok(rest)
+// The values of all rows of an event.
+fn values_of<'a>(cut: &Cut<'a>) -> [&'a [u8]; 28]
+    ensures { map (λ v. v.now) result ≡ cut_texts cut.now }
+{
+    let Cut { block, bank, .. } = *cut;
+    let slots: &[u8] = b"none none none none none none none none none none none";
+    let none: &[u8] = b"none";
+    [
+        block,
+        bank,
+        b"1",
+        b"1 ms",
+        b"1",
+        cut.between,
+        b"no",
+        slots,
+        slots,
+        slots,
+        none,
+        none,
+        none,
+        cut.points,
+        cut.points,
+        cut.extreme,
+        cut.extreme,
+        cut.time,
+        cut.missing,
+        none,
+        none,
+        none,
+        none,
+        none,
+        none,
+        none,
+        none,
+        cut.complete,
+    ]
+}
+
+// Adds rows of this block with these names and values.
+fn push_rows<'a>(
+    rows: &mut Vec<Row<'a>>,
+    block: &'a [u8],
+    names: &[&'static [u8]],
+    values: &[&'a [u8]],
+) -> Result<(), OutOfMemory>
+    ensures { OnOk result (map fields rows.new.items ≡ map fields rows.old.items ++ block_fields block.now (map (λ n. n.now) names.now) (map (λ v. v.now) values.now)) }
+{
+    let Some((name, names)) = names.split_first() else {
+        return Ok(());
+    };
+    let Some((value, values)) = values.split_first() else {
+        return Ok(());
+    };
+    rows.push(Row { block, name, value })?;
+    push_rows(rows, block, names, values)
+}
+
+/// Adds the rows of an event behind the one in this place.
+pub(crate) fn push_event<'a>(
+    rows: &mut Vec<Row<'a>>,
+    place: usize,
+    cut: &Cut<'a>,
+) -> Result<(), OutOfMemory>
+    requires { place < 28 }
+    ensures { OnOk result (map fields rows.new.items ≡ map fields rows.old.items ++ block_fields cut.now.block.now (drop (place + 1) event_names) (drop (place + 1) (cut_texts cut.now))) }
+{
+    let values = values_of(cut);
+    let names = EVENT_NAMES.split_at(place + 1).1;
+    push_rows(rows, cut.block, names, values.split_at(place + 1).1)
 }

@@ -10,10 +10,10 @@ ghost use Rattle.edr_reading.specs.Run.{RecordsOf};
 ghost use Rattle.edr_reading.specs.Reading.{IsReading, head_row, report_rows};
 ghost use Rattle.edr_reading.specs.Refusals.{IsRefusal};
 
-use crate::completion::rest_of;
 use crate::faults::{RowFault, head_fault};
 use crate::found::{Refused, found_of};
 use crate::front::is_word;
+use crate::later::{field_fault, opening};
 use crate::records::{records, rows_of};
 use crate::rows::Row;
 use crate::run::take_run;
@@ -40,8 +40,6 @@ pub struct Reading {
 pub enum ReportRefused {
     /// It can be no report from this row on, counted from 1.
     Fault { row: u32, fault: RowFault },
-    /// Its first row names the columns, it is no report, and the row at fault isn't known.
-    NoReport,
     OutOfMemory,
 }
 
@@ -62,7 +60,7 @@ fn behind_head<'r, 'a>(rows: &'r [Row<'a>]) -> Option<&'r [Row<'a>]>
 }
 
 // What the rows of a report tell.
-fn reading_of(alloc: Global, rows: &[Row<'_>]) -> Result<Reading, Refused>
+pub(crate) fn reading_of(alloc: Global, rows: &[Row<'_>]) -> Result<Reading, Refused>
     ensures read { IfOk result (λ r. map fields rows.now ≡ report_rows (map report_of r.run.items) r.found.items r.count) }
     ensures told { IfOk result (λ r. IsReading (map report_of r.run.items) r.found.items r.count) }
     ensures refused { IfErr result (λ e. (reports : List Report) (found : List Found) (n : ℕ) → IsReading reports found n
@@ -81,62 +79,40 @@ fn reading_of(alloc: Global, rows: &[Row<'_>]) -> Result<Reading, Refused>
     Ok(Reading { run, found, count })
 }
 
-// Whether these rows and the rest are the rows of a report.
-fn is_report(alloc: Global, rows: &[Row<'_>], rest: &[Row<'_>]) -> Result<bool, OutOfMemory>
-    ensures { IfOk result (λ b. b ≡ true → Opens (map fields rows.now)) }
-{
-    let mut all = Vec::with_capacity(alloc, rows.len())?;
-    all.extend_from_slice(rows)?;
-    all.extend_from_slice(rest)?;
-    match reading_of(alloc, &all) {
-        Ok(_) => Ok(true),
-        Err(Refused::NoReport) => Ok(false),
-        Err(Refused::OutOfMemory) => Err(OutOfMemory),
-    }
-}
-
-// Whether a report is found that begins with these rows.
-fn opens(alloc: Global, rows: &[Row<'_>]) -> Result<bool, OutOfMemory>
-    ensures { IfOk result (λ b. b ≡ true → Opens (map fields rows.now)) }
-{
-    let rest = rest_of(alloc, rows, false)?;
-    if is_report(alloc, rows, &rest)? {
-        return Ok(true);
-    }
-    let rest = rest_of(alloc, rows, true)?;
-    is_report(alloc, rows, &rest)
-}
-
-// The fault of the first of the records behind these rows, where that is all that is wrong.
+// What is wrong with records that are those of no report, of which these are the rows up to the first of another length.
 fn later_fault(
     alloc: Global,
     records: &[ByteRecord],
     rows: &[Row<'_>],
-) -> Result<Option<(u32, RowFault)>, OutOfMemory>
+) -> Result<(u32, RowFault), OutOfMemory>
+    requires head { (rest : List (List (List ℕ))) × (map fields rows.now ≡ head_row ∷ rest) }
     requires rows { map fields rows.now ≡ take (length rows.now) (map fields_of records.now) }
     requires stops { length rows.now < length records.now → length (get_or (map fields_of records.now) (length rows.now) []) ≢ 3 }
     requires none { length records.now ≤ length rows.now → ¬ AreReport (map fields_of records.now) }
-    ensures { IfOk result (λ o. IfSome o (λ p. IsFault (map fields_of records.now) p.0 p.1)) }
+    ensures { IfOk result (λ p. IsFault (map fields_of records.now) p.0 p.1) }
 {
-    if rows.len() > MOST_ROWS || !opens(alloc, rows)? {
-        return Ok(None);
+    let opening = opening(alloc, rows)?;
+    let row = opening as u32 + 1;
+    if opening < rows.len() {
+        let fault = field_fault(alloc, rows.split_at(opening).0, &rows[opening])?;
+        return Ok((row, fault));
     }
-    let fault = match records.get(rows.len()) {
+    let fault = match records.get(opening) {
         Some(record) => RowFault::Fields(record.len().min(u32::MAX as usize) as u32),
         None => RowFault::Unended,
     };
-    Ok(Some((rows.len() as u32 + 1, fault)))
+    Ok((row, fault))
 }
 
 /// Reads the table of a report back. What is read has exactly the rows that the text has: the cycles, each event with all
-/// its elements, the damaged banks and the count. A text is refused as no report only where it has the rows of none: a
-/// bank told twice, a row left out or one too many, a value that can't be. What a report shows and doesn't tell exactly is
-/// read as its plainest value: 60000 for a greater count, and the time between two events in tenths of a second.
+/// its elements, the damaged banks and the count. A text is refused only where it has the rows of no report: a bank told
+/// twice, a row left out or one too many, a value that can't be. What a report shows and doesn't tell exactly is read as
+/// its plainest value: 60000 for a greater count, and the time between two events in tenths of a second.
 ///
 /// # Errors
-/// `Fault` where the first row isn't the one that names the columns, and where a later row has other than three fields or is
-/// missing and the rows before it begin a report that goes on by plain values. `NoReport` where anything else is at fault,
-/// `OutOfMemory` where memory runs out before that is known.
+/// `Fault` with the first row with which the text can be no report, however it goes on, and the first field of that row
+/// with which it can't; or how many fields the row has in place of three; or that it is missing. `OutOfMemory` where memory
+/// runs out before that is known.
 pub fn read(alloc: Global, bytes: &[u8]) -> Result<Reading, ReportRefused>
     ensures read { IfOk result (λ r. RecordsOf bytes.now (report_rows (map report_of r.run.items) r.found.items r.count)) }
     ensures told { IfOk result (λ r. IsReading (map report_of r.run.items) r.found.items r.count) }
@@ -161,8 +137,7 @@ pub fn read(alloc: Global, bytes: &[u8]) -> Result<Reading, ReportRefused>
         }
     }
     match later_fault(alloc, &records, &rows) {
-        Ok(Some((row, fault))) => Err(ReportRefused::Fault { row, fault }),
-        Ok(None) => Err(ReportRefused::NoReport),
+        Ok((row, fault)) => Err(ReportRefused::Fault { row, fault }),
         Err(OutOfMemory) => Err(ReportRefused::OutOfMemory),
     }
 }

@@ -184,16 +184,26 @@ fn a_row_of_other_length_is_told(rt: HostRuntime) {
     check_refused(&rt, text, ReportRefused::Fault { row: 3, fault });
 }
 
+fn check_fault<R: Abort + AllocGlobal>(rt: &R, bytes: &[u8], row: u32, fault: RowFault) {
+    check_refused(rt, bytes, ReportRefused::Fault { row, fault });
+}
+
 #[test]
-fn a_damaged_report_is_refused(rt: HostRuntime) {
-    let texts: [&[u8]; 3] = [
+fn a_damaged_row_is_told(rt: HostRuntime) {
+    check_fault(
+        &rt,
         b"block,name,value\n0,\"ignition cycle, download\",01\n",
-        b"block,name,value\n0,bank 17,damaged at 25 found 1 locked no\n0,\"ignition cycle, download\",1\n",
-        POWER_CUT.split_at(40).0,
-    ];
-    for text in texts {
-        check_refused(&rt, text, ReportRefused::NoReport);
-    }
+        2,
+        RowFault::Field(3),
+    );
+    check_fault(
+        &rt,
+        b"block,name,value\n0,bank 17,damaged at 25 found 1 locked no\n",
+        2,
+        RowFault::Field(2),
+    );
+    check_fault(&rt, b"block,name,value\n2,event,2\n", 2, RowFault::Field(1));
+    check_fault(&rt, POWER_CUT.split_at(40).0, 2, RowFault::Field(3));
 }
 
 #[test]
@@ -203,5 +213,5 @@ fn a_bank_is_told_once(rt: HostRuntime) {
     let twice = b"block,name,value\n0,bank 1,damaged at 25 found 1 locked no\n\
         0,bank 1,damaged at 25 found 1 locked no\n0,\"ignition cycle, download\",1\n";
     assert!(rt; read(rt.alloc(), once).is_ok());
-    check_refused(&rt, twice, ReportRefused::NoReport);
+    check_fault(&rt, twice, 3, RowFault::Field(2));
 }

@@ -1,32 +1,57 @@
-use Rattle.std.proofs.Common.{arith, ◌≡◌, ◌<◌, ◌≤◌, ◌∙◌, sym, ap, subst, ℕ, map, take, drop, length, min, get_or, []}
+use Rattle.std.proofs.Common.{arith, ◌≡◌, ◌<◌, ◌≤◌, ◌∙◌, sym, ap, subst, ℕ, List, [], ◌∷◌, ◌++◌, ◌+◌, map, take, drop, length, min, get_or}
 use Rattle.std.proofs.lemmas.Bool.{ltb-true, ltb-false}
-use Rattle.std.proofs.lemmas.List.{length-map}
+use Rattle.std.proofs.lemmas.List.{length-map, take-map, map_more}
 use Rattle.csv.specs.Records.{fields_of}
 use Rattle.edr_reading.specs.Faults.{Opens, IsWrong}
 use Rattle.edr_reading.specs.Rows.{fields}
 use Rattle.edr_reading.proofs.FaultLemmas.{fault-behind, wrong-fields, wrong-end, at-map, no-more}
+use Rattle.edr_reading.proofs.LaterLemmas.{no_row, take-front, wrong-next}
 use Rattle.edr_reading.proofs.reading.later_fault.Goals as goal
-use Rattle.edr_reading.proofs.reading.later_fault.Goals.{in-Some, in-None}
 
-pub returns : goal.returns
-returns c =
+pub field_fault-requires-clause-stops : goal.field_fault-requires-clause-stops
+field_fault-requires-clause-stops c o =
+    let rows = c.args.rows.now in
+    let n = c.in_ok-opening.opening in
+    let less : n < length rows = c.if-opening-rows.true in
+    c.in_ok-opening.ensures.stops less (subst Opens (sym (take-map fields (n + 1) rows ∙ map_more fields rows n no_row less ∙ ap (λ (x : List _). map fields x ++ fields (get_or rows n no_row) ∷ []) (sym c.split_at.ensures.front))) o)
+
+pub returns-then-opening-rows : goal.returns-then-opening-rows
+returns-then-opening-rows c =
+    let rows = c.args.rows.now in
     let records = map fields_of c.args.records.now in
-    let k = length c.args.rows.now in
-    let within = no-more fields c.args.rows.now records c.requires.rows in
-    let opens = subst Opens c.requires.rows (c.in_ok-opens.ensures c.if-not-branch.false) in
+    let n = c.in_ok-opening.opening in
+    let less : n < length rows = c.if-opening-rows.true in
+    let within = no-more fields rows records c.requires.rows in
+    let front : take n (map fields rows) ≡ take n records = ap (take n) c.requires.rows ∙ take-front n (length rows) records (omega (arith, less)) in
+    let parted : map fields c.split_at.result.0.now ≡ take n records = ap (map fields) c.split_at.ensures.front ∙ sym (take-map fields n rows) ∙ front in
+    fault-behind records n c.in_ok-fault.fault (omega (arith, less, within)) (subst Opens front c.in_ok-opening.ensures.opens)
+    (wrong-next records (map fields rows) (length rows) n (fields (get_or rows n _)) (map fields c.split_at.result.0.now) c.in_ok-fault.fault c.requires.rows less within parted (at-map fields rows n _ less) c.in_ok-fault.ensures)
+
+pub returns-in-Some : goal.returns-in-Some
+returns-in-Some c =
+    let rows = c.args.rows.now in
+    let records = map fields_of c.args.records.now in
+    let n = c.in_ok-opening.opening in
+    let all : length rows ≡ n = omega (arith, c.if-opening-rows.false, c.in_ok-opening.ensures.within.1) in
     let long = length-map c.args.records.now fields_of in
-    fault-behind records k c.match-get.fault within opens (elim c.match-get.branch [
-      | in-Some w ↦ (
-          let l = w.in-Some.ensures.lookup in
-          let less : k < length c.args.records.now = ltb-true k (length c.args.records.now) (sym l.0) in
-          let same : get_or records k [] ≡ fields_of w.in-Some.record.now = at-map fields_of c.args.records.now k w.in-Some.record.now less ∙ ap fields_of (sym l.1) in
-          let count : w.min.result ≡ min (length (get_or records k [])) 4_294_967_295 = w.min.ensures ∙ ap (λ (n : ℕ). min n 4_294_967_295) (w.len.ensures ∙ ap length (sym same)) in
-          let more : k < length records = omega (arith, less, long) in
-          subst (IsWrong (take k records) (drop k records)) (sym w.fault-is) (wrong-fields (take k records) records k w.min.result more count (c.requires.stops less))
-          )
-      | in-None w ↦ (
-          let l = w.in-None.ensures.lookup in
-          let past : length c.args.records.now ≤ k = ltb-false k (length c.args.records.now) (sym l.0) in
-          subst (IsWrong (take k records) (drop k records)) (sym w.fault-is) (wrong-end records k (omega (arith, past, long)) (c.requires.none past))
-          )
-    ])
+    let within = no-more fields rows records c.requires.rows in
+    let front : take n (map fields rows) ≡ take n records = ap (take n) c.requires.rows ∙ take-front n (length rows) records (omega (arith, all)) in
+    let l = c.in-Some.ensures.lookup in
+    let less : n < length c.args.records.now = ltb-true n (length c.args.records.now) (sym l.0) in
+    let same : get_or records n [] ≡ fields_of c.in-Some.record.now = at-map fields_of c.args.records.now n c.in-Some.record.now less ∙ ap fields_of (sym l.1) in
+    let count : c.min.result ≡ min (length (get_or records n [])) 4_294_967_295 = c.min.ensures ∙ ap (λ (k : ℕ). min k 4_294_967_295) (c.len.ensures ∙ ap length (sym same)) in
+    fault-behind records n _ (omega (arith, all, within)) (subst Opens front c.in_ok-opening.ensures.opens)
+    (wrong-fields (take n records) records n c.min.result (omega (arith, less, long)) count (λ e. c.requires.stops (omega (arith, all, less)) (ap (λ (k : ℕ). length (get_or records k [])) all ∙ e)))
+
+pub returns-in-None : goal.returns-in-None
+returns-in-None c =
+    let rows = c.args.rows.now in
+    let records = map fields_of c.args.records.now in
+    let n = c.in_ok-opening.opening in
+    let all : length rows ≡ n = omega (arith, c.if-opening-rows.false, c.in_ok-opening.ensures.within.1) in
+    let long = length-map c.args.records.now fields_of in
+    let within = no-more fields rows records c.requires.rows in
+    let front : take n (map fields rows) ≡ take n records = ap (take n) c.requires.rows ∙ take-front n (length rows) records (omega (arith, all)) in
+    let l = c.in-None.ensures.lookup in
+    let past : length c.args.records.now ≤ n = ltb-false n (length c.args.records.now) (sym l.0) in
+    fault-behind records n _ (omega (arith, all, within)) (subst Opens front c.in_ok-opening.ensures.opens) (wrong-end records n (omega (arith, past, long)) (c.requires.none (omega (arith, past, all))))

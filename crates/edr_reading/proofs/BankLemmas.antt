@@ -1,0 +1,86 @@
+-- The banks, the names of rows and the plain values, as they are spelled.
+use Rattle.std.proofs.Common.{arith, ◌≡◌, ◌∙◌, sym, ap, ap₂, subst, refl, ℕ, zero, suc, ◌+◌, ◌*◌, ◌-◌, ◌/◌, ◌%◌, ◌<◌, ◌≤◌, ◌^◌, nat_eq, if◌then◌else◌, List, [], ◌∷◌, ◌++◌, map, length, take, get_or, replicate, codes, decimal, pos, Bor}
+use Rattle.std.specs.Fmt.{signed_decimal}
+use Rattle.std.proofs.lemmas.Fmt.{decimal_digit, decimal_step}
+use Rattle.edr_record.specs.declared.Place.TheVariants.{Second}
+use Rattle.edr_report.specs.Words.{spaced, milliseconds, shown_count, time_between, extreme_words, missing_words}
+use Rattle.edr_reading.specs.Plain.{event_names, no_extreme}
+use Rattle.edr_reading.specs.Values.{IsBank}
+use Rattle.edr_reading.proofs.PlainLemmas.{Below, below-at}
+
+abbrev pub banks : List (List ℕ)
+banks = codes "1" ∷ codes "2" ∷ codes "3" ∷ codes "4" ∷ codes "5" ∷ codes "6" ∷ codes "7" ∷ codes "8" ∷ codes "9" ∷ codes "10" ∷ codes "11" ∷ codes "12" ∷ codes "13" ∷ codes "14" ∷ codes "15" ∷ codes "16" ∷ []
+
+two-digits : (n d : ℕ) → 10 ≤ n → n < 100 → n / 10 ≡ 1 → n % 10 ≡ d → decimal n ≡ 49 ∷ (48 + d) ∷ []
+two-digits n d h k q r = decimal_step n h (omega (arith, k)) ∙ ap₂ (λ (x y : ℕ). decimal x ++ (48 + y) ∷ []) q r ∙ ap (λ (x : List ℕ). x ++ (48 + d) ∷ []) (decimal_digit 1 (omega arith))
+
+abbrev Spelled : ℕ → Type 0
+Spelled k = decimal (k + 1) ≡ get_or banks k []
+
+spelled : Below 16 Spelled
+spelled = (decimal_digit 1 (omega arith), (decimal_digit 2 (omega arith), (decimal_digit 3 (omega arith), (decimal_digit 4 (omega arith), (decimal_digit 5 (omega arith), (decimal_digit 6 (omega arith), (decimal_digit 7 (omega arith), (decimal_digit 8 (omega arith), (decimal_digit 9 (omega arith), (two-digits 10 0 (omega arith) (omega arith) refl refl, (two-digits 11 1 (omega arith) (omega arith) refl refl, (two-digits 12 2 (omega arith) (omega arith) refl refl, (two-digits 13 3 (omega arith) (omega arith) refl refl, (two-digits 14 4 (omega arith) (omega arith) refl refl, (two-digits 15 5 (omega arith) (omega arith) refl refl, (two-digits 16 6 (omega arith) (omega arith) refl refl, tt))))))))))))))))
+
+pub bank-spelled : (bank : ℕ) → IsBank bank → decimal bank ≡ get_or banks (bank - 1) []
+bank-spelled bank h =
+    let e : bank ≡ bank - 1 + 1 = omega (arith, h.0) in
+    ap decimal e ∙ below-at 16 Spelled spelled (bank - 1) (omega (arith, h.0, h.1))
+
+-- ---- a name of a row has one place
+
+abbrev key : List ℕ → ℕ
+key [] = 0
+key (b ∷ bs) = b + 2 * key bs
+
+abbrev place_in : List (List ℕ) → List ℕ → ℕ
+place_in [] w = 0
+place_in (n ∷ ns) w = if nat_eq (key n) (key w) then 0 else suc (place_in ns w)
+
+abbrev Placed : ℕ → Type 0
+Placed k = place_in event_names (get_or event_names k []) ≡ k
+
+placed : Below 28 Placed
+placed = (refl, (refl, (refl, (refl, (refl, (refl, (refl, (refl, (refl, (refl, (refl, (refl, (refl, (refl, (refl, (refl, (refl, (refl, (refl, (refl, (refl, (refl, (refl, (refl, (refl, (refl, (refl, (refl, tt))))))))))))))))))))))))))))
+
+pub name-once : (i k : ℕ) → i < 28 → k < 28 → get_or event_names i [] ≡ get_or event_names k [] → i ≡ k
+name-once i k h l e = sym (below-at 28 Placed placed i h) ∙ ap (place_in event_names) e ∙ below-at 28 Placed placed k l
+
+-- ---- plain values
+
+pub zero-is : codes "0" ≡ decimal 0
+zero-is = sym (decimal_digit 0 (omega arith))
+
+pub one-is : codes "1" ≡ shown_count 1
+one-is = sym (decimal_digit 1 (omega arith))
+
+pub millisecond-is : codes "1 ms" ≡ milliseconds 1
+millisecond-is = ap (λ (x : List ℕ). x ++ codes " ms") one-is
+
+pub zero-ms : codes "0 ms" ≡ milliseconds 0
+zero-ms = ap (λ (x : List ℕ). x ++ codes " ms") zero-is
+
+pub second-is : codes "0.0 s" ≡ time_between (Second 1)
+second-is = ap₂ (λ (x y : List ℕ). x ++ codes "." ++ y ++ codes " s") zero-is zero-is
+
+pub extreme-is : codes "0 km/h at 0 ms" ≡ extreme_words no_extreme
+extreme-is = ap₂ (λ (x y : List ℕ). x ++ codes " km/h at " ++ (y ++ codes " ms")) zero-is zero-is
+
+pub missing-is : codes "0 longitudinal, 0 lateral" ≡ missing_words 0 0
+missing-is = ap₂ (λ (x y : List ℕ). x ++ codes " longitudinal, " ++ y ++ codes " lateral") zero-is zero-is
+
+abbrev zeros : List ℕ
+zeros = codes "0 0 0 0 0 0 0 0 0 0 0 0 0 0 0 0 0 0 0 0 0 0 0 0 0 0"
+
+abbrev Unchanged : ℕ → Type 0
+Unchanged k = take (2 * (k + 1) - 1) zeros ≡ spaced (map signed_decimal (take (k + 1) (replicate 26 (pos 0))))
+
+unchanged : Below 26 Unchanged
+unchanged = (ap (λ (z : List ℕ). spaced (replicate 1 z)) zero-is, (ap (λ (z : List ℕ). spaced (replicate 2 z)) zero-is, (ap (λ (z : List ℕ). spaced (replicate 3 z)) zero-is, (ap (λ (z : List ℕ). spaced (replicate 4 z)) zero-is, (ap (λ (z : List ℕ). spaced (replicate 5 z)) zero-is, (ap (λ (z : List ℕ). spaced (replicate 6 z)) zero-is, (ap (λ (z : List ℕ). spaced (replicate 7 z)) zero-is, (ap (λ (z : List ℕ). spaced (replicate 8 z)) zero-is, (ap (λ (z : List ℕ). spaced (replicate 9 z)) zero-is, (ap (λ (z : List ℕ). spaced (replicate 10 z)) zero-is, (ap (λ (z : List ℕ). spaced (replicate 11 z)) zero-is, (ap (λ (z : List ℕ). spaced (replicate 12 z)) zero-is, (ap (λ (z : List ℕ). spaced (replicate 13 z)) zero-is, (ap (λ (z : List ℕ). spaced (replicate 14 z)) zero-is, (ap (λ (z : List ℕ). spaced (replicate 15 z)) zero-is, (ap (λ (z : List ℕ). spaced (replicate 16 z)) zero-is, (ap (λ (z : List ℕ). spaced (replicate 17 z)) zero-is, (ap (λ (z : List ℕ). spaced (replicate 18 z)) zero-is, (ap (λ (z : List ℕ). spaced (replicate 19 z)) zero-is, (ap (λ (z : List ℕ). spaced (replicate 20 z)) zero-is, (ap (λ (z : List ℕ). spaced (replicate 21 z)) zero-is, (ap (λ (z : List ℕ). spaced (replicate 22 z)) zero-is, (ap (λ (z : List ℕ). spaced (replicate 23 z)) zero-is, (ap (λ (z : List ℕ). spaced (replicate 24 z)) zero-is, (ap (λ (z : List ℕ). spaced (replicate 25 z)) zero-is, (ap (λ (z : List ℕ). spaced (replicate 26 z)) zero-is, tt))))))))))))))))))))))))))
+
+pub unchanged-are : (count : ℕ) → 1 ≤ count → count ≤ 26 → take (2 * count - 1) zeros ≡ spaced (map signed_decimal (take count (replicate 26 (pos 0))))
+unchanged-are count h k = let e : count - 1 + 1 ≡ count = omega (arith, h) in subst (λ (n : ℕ). take (2 * n - 1) zeros ≡ spaced (map signed_decimal (take n (replicate 26 (pos 0))))) e (below-at 26 Unchanged unchanged (count - 1) (omega (arith, h, k)))
+
+-- an element of a list of borrowed texts
+pub text-at : (xs : List (Bor (List ℕ))) (k : ℕ) (d : Bor (List ℕ)) → k < length xs → (get_or xs k d).now ≡ get_or (map (λ v. v.now) xs) k []
+text-at [] k d h = absurd (omega (arith, h))
+text-at (x ∷ xs) zero d h = refl
+text-at (x ∷ xs) (suc k) d h = text-at xs k d (omega (arith, h))

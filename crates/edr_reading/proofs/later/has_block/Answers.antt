@@ -1,0 +1,19 @@
+use Rattle.std.proofs.Common.{arith, map}
+use Rattle.std.proofs.lemmas.List.{length-map}
+use Rattle.edr_reading.specs.Rows.{fields}
+use Rattle.edr_reading.proofs.TryLemmas.{none-of, true-of, else-match, some-match, no-block}
+use Rattle.edr_reading.proofs.later.has_block.Goals as goal
+
+pub returns-then-same : goal.returns-then-same
+returns-then-same c =
+    let rows = map fields c.args.rows.now in
+    let long = length-map c.args.rows.now fields in
+    some-match rows (fields c.args.last.now) c.args.inside c.args.block.now _ (omega (arith, long, c.requires.some)) c.requires.last (none-of _ _ c.in_ok-opens_with.ensures c.if-branch.false) (none-of _ _ c.in_ok-opens_with-2.ensures c.if-branch-2.false) c.requires.inside
+    (true-of _ _ _ c.is_word-same.ensures c.if-same.true) c.is_some.ensures
+
+pub returns-else-same : goal.returns-else-same
+returns-else-same c =
+    let rows = map fields c.args.rows.now in
+    let long = length-map c.args.rows.now fields in
+    else-match _ _ _ _ c.is_word-same.result c.is_word-same.ensures c.if-same.false
+    (λ other. no-block rows (fields c.args.last.now) c.args.inside c.args.block.now (omega (arith, long, c.requires.some)) c.requires.last (none-of _ _ c.in_ok-opens_with.ensures c.if-branch.false) (none-of _ _ c.in_ok-opens_with-2.ensures c.if-branch-2.false) (λ p h e f. absurd (other f)))

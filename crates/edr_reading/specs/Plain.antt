@@ -1,0 +1,113 @@
+-- The rows of an event behind one of them, by plain values.
+use Rattle.std.specs.Prelude.{◌<◌, Option, Some, None, ◌≡◌, ◌≤◌, ◌+◌, ◌⊎◌, ℕ, Bool, true, false, pos, List, [], ◌∷◌, ◌++◌, drop, replicate, length, codes, decimal, slice_index_or}
+use Rattle.edr_record.specs.declared.Extreme.{Extreme}
+use Rattle.edr_record.specs.declared.Place.{Place}
+use Rattle.edr_record.specs.declared.Place.TheVariants.{First, Second}
+use Rattle.edr_record.specs.declared.Record.{Record}
+use Rattle.edr_record.specs.Complete.{is_complete}
+use Rattle.edr_report.specs.Report.{crash_names, crash_words}
+use Rattle.edr_report.specs.Words.{yes_no, none_word, milliseconds, shown_count, time_between, points_words, extreme_words, missing_words}
+use Rattle.edr_reading.specs.Found.{count_fields}
+use Rattle.edr_reading.specs.Faults.{AreReport}
+use Rattle.edr_reading.specs.Rows.{pre_names, pre_words}
+use Rattle.edr_reading.specs.Values.{IsBank}
+
+-- the names of the rows of an event
+abbrev pub event_names : List (List ℕ)
+event_names = codes "event" ∷ codes "bank" ∷ (pre_names ++ (crash_names ++ codes "complete file recorded" ∷ []))
+
+-- their values
+abbrev pub event_words : ℕ → ℕ → Record → List (List ℕ)
+event_words b bank r = decimal b ∷ decimal bank ∷ (pre_words r.pre r.locked ++ (crash_words r.crash ++ yes_no (is_complete r) ∷ []))
+
+-- a crash part in which nothing changed, and none
+abbrev pub no_extreme : Extreme
+no_extreme = record { kmh = pos 0; at = 0 }
+
+-- plain values, of which these may differ from event to event
+abbrev pub plain_texts : List ℕ → List ℕ → List ℕ → List ℕ → List ℕ → List ℕ → List ℕ → List ℕ → List (List ℕ)
+plain_texts block bank between points extreme time missing complete =
+    block
+    ∷ bank
+    ∷ shown_count 1
+    ∷ milliseconds 1
+    ∷ codes "1"
+    ∷ between
+    ∷ codes "no"
+    ∷ codes "none none none none none none none none none none none"
+    ∷ codes "none none none none none none none none none none none"
+    ∷ codes "none none none none none none none none none none none"
+    ∷ none_word
+    ∷ none_word
+    ∷ none_word
+    ∷ points
+    ∷ points
+    ∷ extreme
+    ∷ extreme
+    ∷ time
+    ∷ missing
+    ∷ none_word
+    ∷ none_word
+    ∷ none_word
+    ∷ none_word
+    ∷ none_word
+    ∷ none_word
+    ∷ none_word
+    ∷ none_word
+    ∷ complete
+    ∷ []
+
+-- those of an event without a crash part, and with one in which nothing changed
+abbrev pub absent_words : List ℕ → List ℕ → Place → List (List ℕ)
+absent_words block bank place = plain_texts block bank (time_between place) none_word none_word none_word none_word (codes "no")
+
+abbrev pub present_words : List ℕ → List ℕ → List ℕ → Bool → List (List ℕ)
+present_words block bank points complete = plain_texts block bank none_word points (extreme_words no_extreme) (milliseconds 0) (missing_words 0 0) (yes_no complete)
+
+-- the values that are tried behind a row
+abbrev pub IsGuess : List ℕ → List ℕ → List ℕ → List (List ℕ) → Type 0
+IsGuess block bank points v =
+    (v ≡ absent_words block bank First)
+    ⊎ ((v ≡ absent_words block bank (Second 1)) ⊎ ((v ≡ present_words block bank points true) ⊎ (v ≡ present_words block bank points false)))
+
+-- what is tried as the points of both axes behind the end of an event, which this value tells, and behind its points along
+abbrev pub ArePlain : ℕ → List ℕ → List ℕ → Type 0
+ArePlain place value points =
+    ((end : ℕ) → place ≡ 12 → 20 ≤ end → end ≤ 500 → value ≡ milliseconds end → points ≡ points_words end (replicate 26 (pos 0)))
+    × (place ≡ 13 → points ≡ value)
+
+-- rows of a block with these names and values
+abbrev pub block_fields : List ℕ → List (List ℕ) → List (List ℕ) → List (List (List ℕ))
+block_fields block [] values = []
+block_fields block (n ∷ names) [] = []
+block_fields block (n ∷ names) (v ∷ values) = (block ∷ n ∷ v ∷ []) ∷ block_fields block names values
+
+-- the rows of an event behind the one in this place, and the count
+abbrev pub back_rows : List ℕ → ℕ → List (List ℕ) → List (List (List ℕ))
+back_rows block place values = block_fields block (drop (place + 1) event_names) (drop (place + 1) values) ++ count_fields 0 ∷ []
+
+-- the first field of a row, and its last one
+abbrev pub block_of : List (List ℕ) → List ℕ
+block_of row = slice_index_or row 0 []
+
+abbrev pub name_of : List (List ℕ) → List ℕ
+name_of row = slice_index_or row 1 []
+
+abbrev pub value_of : List (List ℕ) → List ℕ
+value_of row = slice_index_or row 2 []
+
+-- behind rows that end with this one, in this place of an event, some values end a report
+abbrev pub SomeBehind : List (List (List ℕ)) → List (List ℕ) → ℕ → Type 0
+SomeBehind rows last place = (v : List (List ℕ)) × (length v ≡ 28) × AreReport (rows ++ back_rows (block_of last) place v)
+
+-- no plain values do, whatever the bank is
+abbrev pub NoneBehind : List (List (List ℕ)) → List (List ℕ) → ℕ → Type 0
+NoneBehind rows last place =
+    (bank : ℕ) → IsBank bank
+    → (other : List ℕ) × (points : List ℕ) × (place ≡ 0 → decimal bank ≡ other) × ArePlain place (value_of last) points
+    × ((v : List (List ℕ)) → IsGuess (block_of last) other points v → ¬ AreReport (rows ++ back_rows (block_of last) place v))
+
+-- the place in an event of the last row, if some plain values go on behind it
+abbrev pub IsInside : List (List (List ℕ)) → List (List ℕ) → Option ℕ → Type 0
+IsInside rows last None = (p : ℕ) → p < 27 → name_of last ≡ slice_index_or event_names p [] → NoneBehind rows last p
+IsInside rows last (Some p) = (p < 27) × (name_of last ≡ slice_index_or event_names p []) × SomeBehind rows last p

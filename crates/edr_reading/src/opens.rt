@@ -1,0 +1,174 @@
+//! Whether a report begins with rows.
+
+ghost use Rattle.std.specs.Prelude.{◌≡◌, ◌<◌, ◌-◌, ◌++◌, ◌∷◌, [], ℕ, List, true, false, IfOk, map, length, slice_index_or};
+ghost use Rattle.std.specs.Bool.{MatchBool};
+ghost use Rattle.edr_reading.specs.Cut.{cut_texts};
+ghost use Rattle.edr_reading.specs.Faults.{AreReport, Opens};
+ghost use Rattle.edr_reading.specs.Found.{count_fields};
+ghost use Rattle.edr_reading.specs.Plain.{ArePlain, IsGuess, SomeBehind, NoneBehind, back_rows};
+ghost use Rattle.edr_reading.specs.Rows.{fields};
+
+use crate::completion::{Cut, absent, place_of, points_behind, present, push_event};
+use crate::found::Refused;
+use crate::reading::reading_of;
+use crate::rows::Row;
+use std::alloc::{AllocError as OutOfMemory, Global};
+
+const BANKS: [&[u8]; 16] = [
+    b"1", b"2", b"3", b"4", b"5", b"6", b"7", b"8", b"9", b"10", b"11", b"12", b"13", b"14", b"15",
+    b"16",
+];
+
+// These are the rows of a report.
+fn is_report(alloc: Global, rows: &[Row<'_>]) -> Result<bool, OutOfMemory>
+    ensures { IfOk result (λ b. MatchBool b (AreReport (map fields rows.now)) (¬ AreReport (map fields rows.now))) }
+{
+    match reading_of(alloc, rows) {
+        Ok(_) => Ok(true),
+        Err(Refused::NoReport) => Ok(false),
+        Err(Refused::OutOfMemory) => Err(OutOfMemory),
+    }
+}
+
+// The row of a count of 0.
+fn count_row() -> Row<'static>
+    ensures { fields result ≡ count_fields 0 }
+{
+    Row {
+        block: b"0",
+        name: b"ignition cycle, download",
+        value: b"0",
+    }
+}
+
+/// These rows and one more.
+pub(crate) fn with_row<'a>(
+    alloc: Global,
+    rows: &[Row<'a>],
+    row: Row<'a>,
+) -> Result<Vec<Row<'a>>, OutOfMemory>
+    ensures { IfOk result (λ v. map fields v.items ≡ map fields rows.now ++ fields row.entry ∷ []) }
+{
+    let mut all = Vec::with_capacity(alloc, rows.len())?;
+    all.extend_from_slice(rows)?;
+    all.push(row)?;
+    Ok(all)
+}
+
+// The rows, the rest of an event with these values and the count are those of a report.
+fn ends_by<'a>(
+    alloc: Global,
+    rows: &[Row<'a>],
+    place: usize,
+    cut: &Cut<'a>,
+) -> Result<bool, OutOfMemory>
+    requires { place < 28 }
+    ensures { IfOk result (λ b. MatchBool b (AreReport (map fields rows.now ++ back_rows cut.now.block.now place (cut_texts cut.now)))
+        (¬ AreReport (map fields rows.now ++ back_rows cut.now.block.now place (cut_texts cut.now)))) }
+{
+    let mut all = Vec::with_capacity(alloc, rows.len())?;
+    all.extend_from_slice(rows)?;
+    push_event(&mut all, place, cut)?;
+    all.push(count_row())?;
+    is_report(alloc, &all)
+}
+
+// The same for some plain values of an event in this bank.
+fn ends_in_bank<'a>(
+    alloc: Global,
+    rows: &[Row<'a>],
+    last: &Row<'a>,
+    place: usize,
+    bank: &'a [u8],
+) -> Result<bool, OutOfMemory>
+    requires { place < 28 }
+    ensures some { IfOk result (λ b. b ≡ true → SomeBehind (map fields rows.now) (fields last.now) place) }
+    ensures none { IfOk result (λ b. b ≡ false → (points : List ℕ) × ArePlain place last.now.value.now points
+        × ((v : List (List ℕ)) → IsGuess last.now.block.now bank.now points v → ¬ AreReport (map fields rows.now ++ back_rows last.now.block.now place v))) }
+{
+    if ends_by(alloc, rows, place, &absent(last.block, bank, b"none"))? {
+        return Ok(true);
+    }
+    if ends_by(alloc, rows, place, &absent(last.block, bank, b"0.0 s"))? {
+        return Ok(true);
+    }
+    let points = points_behind(place, last.value);
+    if ends_by(
+        alloc,
+        rows,
+        place,
+        &present(last.block, bank, points, b"yes"),
+    )? {
+        return Ok(true);
+    }
+    ends_by(
+        alloc,
+        rows,
+        place,
+        &present(last.block, bank, points, b"no"),
+    )
+}
+
+// The same in one of these banks.
+fn ends_in_some<'a>(
+    alloc: Global,
+    rows: &[Row<'a>],
+    last: &Row<'a>,
+    place: usize,
+    banks: &[&'static [u8]],
+) -> Result<bool, OutOfMemory>
+    requires { place < 28 }
+    ensures some { IfOk result (λ b. b ≡ true → SomeBehind (map fields rows.now) (fields last.now) place) }
+    ensures none { IfOk result (λ b. b ≡ false → (k : ℕ) → k < length banks.now → (points : List ℕ) × ArePlain place last.now.value.now points
+        × ((v : List (List ℕ)) → IsGuess last.now.block.now (slice_index_or (map (λ n. n.now) banks.now) k []) points v → ¬ AreReport (map fields rows.now ++ back_rows last.now.block.now place v))) }
+{
+    for i in 0..banks.len() {
+        if ends_in_bank(alloc, rows, last, place, banks[i])? {
+            return Ok(true);
+        }
+    }
+    Ok(false)
+}
+
+/// The same for some plain values of an event in any bank.
+pub(crate) fn ends_inside<'a>(
+    alloc: Global,
+    rows: &[Row<'a>],
+    last: &Row<'a>,
+    place: usize,
+) -> Result<bool, OutOfMemory>
+    requires { place < 28 }
+    ensures { IfOk result (λ b. MatchBool b (SomeBehind (map fields rows.now) (fields last.now) place) (NoneBehind (map fields rows.now) (fields last.now) place)) }
+{
+    if place > 0 {
+        ends_in_bank(alloc, rows, last, place, b"1")
+    } else {
+        ends_in_some(alloc, rows, last, place, &BANKS)
+    }
+}
+
+/// The last of these rows.
+pub(crate) fn last_row<'r, 'a>(rows: &'r [Row<'a>]) -> &'r Row<'a>
+    requires { 0 < length rows.now }
+    ensures { fields result.now ≡ slice_index_or (map fields rows.now) (length (map fields rows.now) - 1) [] }
+{
+    &rows[rows.len() - 1]
+}
+
+/// A report begins with these rows, of which there are some.
+pub(crate) fn opens(alloc: Global, rows: &[Row<'_>]) -> Result<bool, OutOfMemory>
+    requires { 0 < length rows.now }
+    ensures { IfOk result (λ b. MatchBool b (Opens (map fields rows.now)) (¬ Opens (map fields rows.now))) }
+{
+    if is_report(alloc, rows)? {
+        return Ok(true);
+    }
+    if is_report(alloc, &with_row(alloc, rows, count_row())?)? {
+        return Ok(true);
+    }
+    let last = last_row(rows);
+    match place_of(last.name) {
+        Some(place) => ends_inside(alloc, rows, last, place),
+        None => Ok(false),
+    }
+}
