@@ -5,13 +5,12 @@ ghost use Rattle.edr_loops.specs.Desks.{IsPosted};
 ghost use Rattle.edr_loops.specs.Stands.{AreBegun};
 
 use crate::{
-    Desk, Gate, Held, Inbox, Lanes, Marks, Orders, Places, Stand, Tray, make_lanes, make_orders,
+    Desk, Gate, Held, Inbox, Lanes, Marks, Orders, Places, Stand, make_lanes, make_orders,
 };
 use edr_board::{Board, CommitterSeat, Opened, Watch};
 use edr_core::Core;
 use edr_items::{Feeds, Item, Sensor};
 use edr_record::Command;
-use edr_seats::{Lane, ring};
 use std::alloc::Global;
 use std::sync::atomic::{AtomicU64, Ordering};
 use std::test::Fail;
@@ -149,29 +148,6 @@ fn each_worker_serves_its_sensors(rt: HostRuntime) -> Result<(), Fail> {
             }
         }
     }
-    Ok(())
-}
-
-// What comes out of a ring together is taken one by one, in order, and none past the moment up to which items may be taken.
-#[test]
-fn a_tray_gives_one_by_one(rt: HostRuntime) -> Result<(), Fail> {
-    let Lane { mut seat, inlet } = ring(rt.alloc(), Sensor::Lamp)?;
-    let mut tray = Tray::new(inlet);
-    assert_eq!(rt; tray.take_upto(200), None);
-    for moment in 1..=200u32 {
-        let value = Some(1);
-        assert_eq!(rt; seat.offer(Item { moment, value }), Ok(()));
-    }
-    for moment in 1..=150u32 {
-        let value = Some(1);
-        assert_eq!(rt; tray.take_upto(150), Some(Item { moment, value }));
-    }
-    assert_eq!(rt; tray.take_upto(150), None);
-    for moment in 151..=200u32 {
-        let value = Some(1);
-        assert_eq!(rt; tray.take_upto(200), Some(Item { moment, value }));
-    }
-    assert_eq!(rt; tray.take_upto(200), None);
     Ok(())
 }
 
