@@ -1,5 +1,12 @@
-//! The board: three words that the threads of a recorder share. The recorder posts the gate and the last closed tick,
-//! the committer posts that it has stopped, and any number of watches read. No word ever falls.
+//! The words that the threads of a recorder share.
+//!
+//! The board has three. The recorder posts the gate and the last closed tick, the committer posts that it has stopped, and
+//! any number of watches read. No word ever falls.
+//!
+//! The [`Freeze`] has seven, by which the recorder and the five slow sensors agree on one time zero. The recorder grants the
+//! moments up to which a sensor may keep items, and asks for the parts of a time zero; each sensor marks up to which moment
+//! it has kept. While an ask is open, each mark has reached its zero, and no sensor keeps an item that is more than 1 s past
+//! it. Neither what is granted nor a mark ever falls.
 //!
 //! Posts and reads wait for nobody; [`Watch::wait_gate`] and [`Watch::sleep_at`] alone wait. Both sleep in the system until
 //! they are woken.
@@ -11,11 +18,17 @@ ghost use Rattle.edr_board.specs.Rule.{Moment, IsBoard, opening};
 ghost use Rattle.edr_board.specs.Steps.{Leads, KeepsTheRule};
 ghost use Rattle.edr_board.specs.Seats.{board_id, board_of_recorder, board_of_committer, board_of_watch, AreOfBoard, gate_posted, closed_posted, stopped_posted, last_posts, seen};
 
+mod freeze;
+mod freeze_rule;
+mod freeze_seats;
+mod freeze_view;
 mod rule;
 mod seats;
 mod status;
 mod view;
 
+pub use crate::freeze::no_mark_falls;
+pub use crate::freeze_seats::{Asker, Freeze, FreezeOpened, Keeper, Keepers};
 use crate::rule::{
     LoadClosed, LoadGate, LoadStopped, NeverFalling, PostClosed, PostGate, PostStopped, TakeIn,
     ToCommitter, ToRecorder, ToWatch,
@@ -212,5 +225,7 @@ pub fn no_word_falls()
     ensures steps { (a b : Moment) (between : List Moment) → IsBoard a → Leads a between b → KeepsTheRule a b }
 {}
 
+#[cfg(test)]
+mod freeze_tests;
 #[cfg(test)]
 mod tests;

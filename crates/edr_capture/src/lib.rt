@@ -1,15 +1,22 @@
 //! The samples of a sensor as far back as the pre-crash part of a record looks, in a ring that takes no memory once made.
 #![tactic(auto)]
 
-ghost use Rattle.std.specs.Prelude.{◌≡◌, ℕ, ◌+◌, ◌<◌, ◌≤◌, ◌↔◌, pos, ◌<ℤ◌, ◌≤ℤ◌, ◌+ℤ◌, IfOk, IsTrue, Some, List, [], ◌∷◌, ◌++◌, length, slice_get, All};
+ghost use Rattle.std.specs.Prelude.{◌≡◌, ℕ, ◌+◌, ◌-◌, ◌^◌, ◌<◌, ◌≤◌, ◌↔◌, None, replicate, pos, ◌<ℤ◌, ◌≤ℤ◌, ◌+ℤ◌, IfOk, IsTrue, Some, List, [], ◌∷◌, ◌++◌, length, slice_get, All};
 ghost use Rattle.edr_items.specs.declared.Item.{Item};
 ghost use Rattle.edr_items.specs.Item.{mark_of};
 ghost use Rattle.edr_definitions.specs.Rings.{RisesFrom};
+ghost use Rattle.edr_definitions.specs.Parts.{slot, slots_before};
+ghost use Rattle.edr_items.specs.declared.Sensor.{Sensor};
 ghost use Rattle.edr_capture.specs.Kept.{IsSample, IsCount};
 ghost use Rattle.edr_capture.specs.Capture.{StandsFor, kept_after, slot_at};
+ghost use Rattle.edr_items.specs.Sensor.{IsSlow};
+ghost use Rattle.edr_capture.specs.SensorPart.{IsOfSensor, part, part_slots};
+
+mod part;
 
 use circular_buffer::HeapCircularBuffer;
-use edr_items::Item;
+use edr_items::{Item, Sensor};
+pub use part::Part;
 use std::alloc::{AllocError as OutOfMemory, Global};
 use std::marker::Model;
 
@@ -19,6 +26,9 @@ pub const ROOM: usize = 6_200;
 
 // How much older than its slot a sample may be, in ticks.
 const LONGEST_AGE: i64 = 100;
+
+// How many slots a part has.
+const SLOTS: usize = 11;
 
 /// The newest samples of a sensor in an ignition cycle.
 #[derive(Drop)]
@@ -54,6 +64,7 @@ impl Capture {
         requires later { mark_of self.old < item.moment }
         ensures kept { self.new ≡ kept_after self.old item }
         ensures mark { mark_of self.new ≤ item.moment }
+        ensures sensor { (s : Sensor) → All (IsOfSensor s) self.old → IsOfSensor s item → All (IsOfSensor s) self.new }
 
         // The same of all items of the sensor.
         ensures stands { (given : List Item) → StandsFor self.old given → StandsFor self.new (given ++ item ∷ []) }
@@ -74,7 +85,71 @@ impl Capture {
     {
         slot_of(&self.ring, at)
     }
+
+    /// What a pre part of the time zero `zero` has of a slow sensor, whose samples these are and none of which is more than
+    /// 1 s past it.
+    pub fn part(&self, sensor: Sensor, zero: u32) -> Part
+        requires slow { IsSlow sensor }
+        requires range { All (IsOfSensor sensor) self.now }
+        requires near { mark_of self.now ≤ zero + 1_000 }
+        ensures kept { result ≡ part sensor self.now zero }
+
+        // The same of all items of the sensor, though the oldest of them are not kept.
+        ensures definition { (given : List Item) → StandsFor self.now given → result ≡ part sensor given zero }
+    {
+        Part {
+            sensor,
+            zero,
+            slots: slots_of_part(self, sensor, zero),
+        }
+    }
 }
+
+// The tick `back` before that one, where ticks before the cycle count as 0.
+fn tick_before(tick: u64, back: u64) -> i64
+    requires { tick < 2 ^ 33 }
+    ensures { result ≡ pos (tick - back) }
+{
+    tick.saturating_sub(back) as i64
+}
+
+// The slots at each half second from 5 s before that time zero up to it.
+fn slots_before(capture: &Capture, zero: u32) -> [Option<i32>; SLOTS]
+    requires near { mark_of capture.now ≤ zero + 1_000 }
+    ensures { result ≡ slots_before capture.now zero }
+{
+    let mut slots = [None; SLOTS];
+    for k in 0..SLOTS {
+        slots[k] = capture.slot(tick_before(u64::from(zero) + 500 * k as u64, 5_000));
+    }
+    slots
+}
+
+// The slot 1 s before that time zero, in the first place.
+fn slot_before(capture: &Capture, zero: u32) -> [Option<i32>; SLOTS]
+    requires near { mark_of capture.now ≤ zero + 1_000 }
+    ensures { result ≡ slot capture.now (zero - 1_000) ∷ replicate 10 None }
+{
+    let mut slots = [None; SLOTS];
+    slots[0] = capture.slot(tick_before(u64::from(zero), 1_000));
+    slots
+}
+
+// The slots of a sensor's part.
+fn slots_of_part(capture: &Capture, sensor: Sensor, zero: u32) -> [Option<i32>; SLOTS]
+    requires near { mark_of capture.now ≤ zero + 1_000 }
+    ensures { result ≡ part_slots sensor capture.now zero }
+{
+    match sensor {
+        Sensor::Belt | Sensor::Lamp => slot_before(capture, zero),
+        _ => slots_before(capture, zero),
+    }
+}
+
+/// Items of a sensor that are later than a time zero don't change its part.
+pub fn later_items_leave_a_part()
+    ensures { (s : Sensor) (xs later : List Item) (z : ℕ) → All (λ x. z < x.moment) later → part s (xs ++ later) z ≡ part s xs z }
+{}
 
 // Whether the sample in that place has a moment of at most `at`.
 fn is_up_to(ring: &HeapCircularBuffer<Item>, place: usize, at: i64) -> bool

@@ -2,3 +2,6 @@ pub mod Slots
 pub mod Seat
 pub mod Inlet
 pub mod Offer
+pub mod SlowContents
+pub mod Slow
+pub mod PartInlet

@@ -1,0 +1,147 @@
+-- What a contract sees of a freeze and its seats.
+use Rattle.std.specs.Prelude.{◌≡◌, ◌-◌, ◌≤◌, ℕ, Option, Some, None, List, if◌then◌else◌, nat_eq, slice_index}
+use Rattle.std.specs.Arc.{arc_value}
+use Rattle.atomic_table.specs.Seated.{TableId}
+use Rattle.edr_items.specs.declared.Sensor.{Sensor}
+use Rattle.edr_items.specs.declared.Sensor.TheVariants.{Along, Across, Speed, Throttle, Brake, Belt, Lamp, Restraint}
+use Rattle.edr_items.specs.Sensor.{number_of}
+use Rattle.edr_board.specs.declared.freeze_seats.Freeze.{Freeze}
+use Rattle.edr_board.specs.declared.freeze_seats.Asker.{Asker}
+use Rattle.edr_board.specs.declared.freeze_seats.Keeper.{Keeper}
+use Rattle.edr_board.specs.declared.freeze_seats.Keepers.{Keepers}
+
+-- which freeze it is, and whose freeze a seat is of
+abbrev pub freeze_id : Freeze → TableId
+freeze_id f = (arc_value f.table).shared.table_id
+
+abbrev pub freeze_of_asker : Asker → TableId
+freeze_of_asker a = a.seat.table_id
+
+abbrev pub freeze_of_keeper : Keeper → TableId
+freeze_of_keeper k = k.seat.table_id
+
+-- the place of a sensor's word of marks
+abbrev pub place_of : Sensor → ℕ
+place_of s = number_of s - 1
+
+-- the last grant, 1000 before the first
+abbrev pub grant_posted : Asker → ℕ
+grant_posted a = a.seat.me.0.granted
+
+-- the zero of the open ask, 0 where none is open
+abbrev pub open_zero : Asker → ℕ
+open_zero a = a.seat.me.0.asked
+
+-- the last zero that was asked for, 0 before the first
+abbrev pub last_zero : Asker → ℕ
+last_zero a = a.seat.me.0.last
+
+-- the marks of the slow sensors
+pub record SlowMarks : Type 0 where
+  pub speed : ℕ
+  pub throttle : ℕ
+  pub brake : ℕ
+  pub belt : ℕ
+  pub lamp : ℕ
+
+-- none was posted
+abbrev pub no_marks : SlowMarks
+no_marks = record { speed = 0; throttle = 0; brake = 0; belt = 0; lamp = 0 }
+
+-- the mark of that sensor; the other three have none here
+abbrev pub mark_in : Sensor → SlowMarks → ℕ
+mark_in Along m = 0
+mark_in Across m = 0
+mark_in Speed m = m.speed
+mark_in Throttle m = m.throttle
+mark_in Brake m = m.brake
+mark_in Belt m = m.belt
+mark_in Lamp m = m.lamp
+mark_in Restraint m = 0
+
+-- the marks with another one of that sensor
+abbrev pub with_mark_of : Sensor → ℕ → SlowMarks → SlowMarks
+with_mark_of Along n m = m
+with_mark_of Across n m = m
+with_mark_of Speed n m = record m { speed = n }
+with_mark_of Throttle n m = record m { throttle = n }
+with_mark_of Brake n m = record m { brake = n }
+with_mark_of Belt n m = record m { belt = n }
+with_mark_of Lamp n m = record m { lamp = n }
+with_mark_of Restraint n m = m
+
+-- the marks as the words have them
+abbrev pub marks_from : List ℕ → SlowMarks
+marks_from words = record {
+  speed = slice_index words 2;
+  throttle = slice_index words 3;
+  brake = slice_index words 4;
+  belt = slice_index words 5;
+  lamp = slice_index words 6;
+}
+
+-- what the asker has read of the marks, 0 before its first load of one
+abbrev pub marks_read : Asker → SlowMarks
+marks_read a = marks_from a.seat.me.0.read
+
+-- of which sensor a keeper is
+abbrev pub IsKeeperOf : Sensor → Keeper → Type 0
+IsKeeperOf s k = k.place ≡ place_of s
+
+-- what a keeper has read of granted
+abbrev pub grant_read : Keeper → ℕ
+grant_read k = k.seat.me.0.granted
+
+-- the last mark that a keeper posted, 0 before the first
+abbrev pub mark_posted : Keeper → ℕ
+mark_posted k = k.seat.me.0.mark
+
+-- what a keeper loaded last of the word asked, 0 before its first load
+abbrev pub asked_read : Keeper → ℕ
+asked_read k = k.seat.me.0.asked
+
+-- the zero that a word asked names: 0 names none
+abbrev pub zero_in : ℕ → Option ℕ
+zero_in n = if nat_eq n 0 then None else Some n
+
+-- the rest of an asker, and of a keeper, is as before
+pub record SameAsker (a b : Asker) : Type 0 where
+  pub freeze : freeze_of_asker b ≡ freeze_of_asker a
+  pub granted : grant_posted b ≡ grant_posted a
+  pub asks : open_zero b ≡ open_zero a
+  pub last : last_zero b ≡ last_zero a
+
+pub record SameKeeper (a b : Keeper) : Type 0 where
+  pub freeze : freeze_of_keeper b ≡ freeze_of_keeper a
+  pub place : b.place ≡ a.place
+
+-- each of these marks has reached the zero
+pub record IsReached (z : ℕ) (m : SlowMarks) : Type 0 where
+  pub speed : z ≤ m.speed
+  pub throttle : z ≤ m.throttle
+  pub brake : z ≤ m.brake
+  pub belt : z ≤ m.belt
+  pub lamp : z ≤ m.lamp
+
+-- an asker of this freeze that has granted what is granted at first, asked for nothing and read no mark
+pub record IsFreshAsker (id : TableId) (a : Asker) : Type 0 where
+  pub freeze : freeze_of_asker a ≡ id
+  pub granted : grant_posted a ≡ 1000
+  pub asks : open_zero a ≡ 0
+  pub last : last_zero a ≡ 0
+  pub marks : marks_read a ≡ no_marks
+
+-- a keeper of this freeze, of this sensor, that has posted no mark
+pub record IsFresh (id : TableId) (s : Sensor) (k : Keeper) : Type 0 where
+  pub freeze : freeze_of_keeper k ≡ id
+  pub sensor : IsKeeperOf s k
+  pub mark : mark_posted k ≡ 0
+  pub granted : grant_read k ≡ 1000
+
+-- the keepers of this freeze, none of which has posted a mark
+pub record AreFresh (id : TableId) (k : Keepers) : Type 0 where
+  pub speed : IsFresh id Speed k.speed
+  pub throttle : IsFresh id Throttle k.throttle
+  pub brake : IsFresh id Brake k.brake
+  pub belt : IsFresh id Belt k.belt
+  pub lamp : IsFresh id Lamp k.lamp

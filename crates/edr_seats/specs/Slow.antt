@@ -1,0 +1,90 @@
+-- What a slow sensor's seat keeps and sends.
+use Rattle.std.specs.Prelude.{◌≡◌, ◌≢◌, ◌⊎◌, ◌+◌, ◌-◌, ◌<◌, ◌≤◌, ℕ, Option, Some, None, List, [], ◌∷◌, ◌++◌, length}
+use Rattle.rtrb.specs.Ring.{SameProducer, known_free, sent}
+use Rattle.edr_items.specs.declared.Sensor.{Sensor}
+use Rattle.edr_items.specs.declared.Item.{Item}
+use Rattle.edr_items.specs.declared.ItemRefused.{ItemRefused}
+use Rattle.edr_items.specs.Item.{mark_of}
+use Rattle.edr_board.specs.declared.freeze_seats.Keeper.{Keeper}
+use Rattle.edr_board.specs.FreezeSeats.{freeze_of_keeper, grant_read, asked_read}
+use Rattle.edr_capture.specs.Capture.{StandsFor}
+use Rattle.edr_capture.specs.SensorPart.{SensorPart, part}
+use Rattle.edr_seats.specs.Slots.{part_room}
+use Rattle.edr_seats.specs.declared.slow_seat.SlowRefused.{SlowRefused}
+use Rattle.edr_seats.specs.declared.slow_seat.SlowRefused.TheVariants as slow_refused
+use Rattle.edr_seats.specs.declared.slow_seat.Served.{Served}
+use Rattle.edr_seats.specs.declared.slow_seat.Served.TheVariants.{Nothing, Sent, Full}
+use Rattle.edr_seats.specs.SlowContents.{SlowContents}
+
+-- the sensor, the mark of what was kept, and the parts that were sent
+abbrev pub sensor_of_slow : SlowContents → Sensor
+sensor_of_slow s = s.sensor
+
+abbrev pub mark_kept : SlowContents → ℕ
+mark_kept s = s.last
+
+abbrev pub parts_sent : SlowContents → List SensorPart
+parts_sent s = sent s.ring
+
+-- how many of the parts sent the seat knows taken
+abbrev pub parts_known_taken : SlowContents → ℕ
+parts_known_taken s = length (sent s.ring) + known_free s.ring - part_room
+
+-- what the seat loaded last of granted and of asked, and the zero of the last part that it sent, 0 before the first
+abbrev pub grant_known : SlowContents → ℕ
+grant_known s = grant_read s.keeper
+
+abbrev pub asked_known : SlowContents → ℕ
+asked_known s = asked_read s.keeper
+
+abbrev pub zero_served : SlowContents → ℕ
+zero_served s = s.served
+
+-- the same sensor's end of the same ring, at the same freeze
+pub record SameSlowSeat (a b : SlowContents) : Type 0 where
+  pub ring : SameProducer a.ring b.ring
+  pub sensor : b.sensor ≡ a.sensor
+  pub freeze : freeze_of_keeper b.keeper ≡ freeze_of_keeper a.keeper
+
+-- only the seat's knowledge of its ring may differ
+pub record SameButRoom (a b : SlowContents) : Type 0 where
+  pub ring : SameProducer a.ring b.ring
+  pub sent : parts_sent b ≡ parts_sent a
+  pub kept : b.kept ≡ a.kept
+  pub keeper : b.keeper ≡ a.keeper
+  pub sensor : b.sensor ≡ a.sensor
+  pub last : b.last ≡ a.last
+  pub served : b.served ≡ a.served
+
+-- the seat was given these items, and has sent these parts
+pub record SlowSeatIsFor (s : SlowContents) (kept : List Item) (parts : List SensorPart) : Type 0 where
+  pub keeps : StandsFor s.kept kept
+  pub mark : mark_of kept ≡ s.last
+  pub parts_are : parts_sent s ≡ parts
+
+-- the seat of this sensor, at the freeze of this keeper, that has kept no item and sent no part
+pub record IsFreshSeat (sensor : Sensor) (keeper : Keeper) (s : SlowContents) : Type 0 where
+  pub stands : SlowSeatIsFor s [] []
+  pub of_sensor : sensor_of_slow s ≡ sensor
+  pub freeze : freeze_of_keeper s.keeper ≡ freeze_of_keeper keeper
+  pub served : zero_served s ≡ 0
+  pub taken : parts_known_taken s ≡ 0
+
+-- by what speaks against the item, and else because its moment is past what the seat, as it is after the offer, loaded of granted
+abbrev pub ExplainsSlow : Option ItemRefused → Item → SlowContents → SlowRefused → Type 0
+ExplainsSlow (Some refused) x s answer = answer ≡ slow_refused.Item refused
+ExplainsSlow None x s answer = (answer ≡ slow_refused.Ungranted (grant_known s)) × (grant_known s < x.moment)
+
+-- nothing is sent exactly where the word that was loaded is 0 or the zero of the last part; else the part of that zero is sent,
+-- or there are as many parts as slots that the seat doesn't know taken
+abbrev pub HasServed : SlowContents → SlowContents → Served → Type 0
+HasServed a b Nothing = ((asked_known b ≡ 0) ⊎ (asked_known b ≡ zero_served a)) × (zero_served b ≡ zero_served a)
+HasServed a b (Sent z) = (asked_known b ≡ z) × (z ≢ 0) × (z ≢ zero_served a) × (zero_served b ≡ z) × (z ≤ mark_kept a) × (mark_kept a ≤ z + 1000)
+HasServed a b (Full z) =
+    (asked_known b ≡ z) × (z ≢ 0) × (z ≢ zero_served a) × (zero_served b ≡ zero_served a) × (length (parts_sent b) ≡ parts_known_taken b + part_room)
+
+-- the parts that were sent, past an answer
+abbrev pub parts_after : Sensor → List Item → List SensorPart → Served → List SensorPart
+parts_after s kept parts Nothing = parts
+parts_after s kept parts (Sent z) = parts ++ part s kept z ∷ []
+parts_after s kept parts (Full z) = parts

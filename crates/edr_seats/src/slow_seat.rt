@@ -1,0 +1,132 @@
+//! A slow sensor's seat: it keeps the sensor's samples itself, and sends the part of a time zero that is asked for.
+
+ghost use Rattle.std.specs.Prelude.{◌≡◌, ◌+◌, ◌<◌, ◌≤◌, [], ◌∷◌, ◌++◌, List, Err, OnOk, OnErr, IfErr, None, length};
+ghost use Rattle.rtrb.specs.Ring.{known_free, producer_capacity, sent};
+ghost use Rattle.edr_items.specs.declared.Item.{Item};
+ghost use Rattle.edr_items.specs.declared.ItemRefused.{ItemRefused};
+ghost use Rattle.edr_items.specs.Item.{refusal_of};
+ghost use Rattle.edr_board.specs.FreezeSeats.{mark_posted};
+ghost use Rattle.edr_capture.specs.Capture.{StandsFor};
+ghost use Rattle.edr_items.specs.Sensor.{IsSlow};
+ghost use Rattle.edr_capture.specs.SensorPart.{SensorPart};
+ghost use Rattle.edr_seats.specs.Slots.{part_room};
+ghost use Rattle.edr_seats.specs.Slow.{SlowSeatIsFor, SameSlowSeat, sensor_of_slow, mark_kept, grant_known, parts_known_taken, ExplainsSlow, HasServed, parts_after};
+
+use crate::PART_SLOTS;
+use edr_board::Keeper;
+use edr_capture::{Capture, Part};
+use edr_items::{Item, ItemRefused, Sensor, check};
+use rtrb::Producer;
+use std::marker::Model;
+
+/// Why a slow seat doesn't keep an item.
+#[derive(Clone, Copy, Debug, PartialEq, Eq)]
+pub enum SlowRefused {
+    /// The sensor may not give it after the last one that it kept.
+    Item(ItemRefused),
+    /// Moments are granted up to that one only.
+    Ungranted { granted: u32 },
+}
+
+/// What a slow seat answers to a look at what is asked.
+#[derive(Clone, Copy, Debug, PartialEq, Eq)]
+pub enum Served {
+    /// No part is asked for that wasn't sent.
+    Nothing,
+    /// The part of that time zero was sent.
+    Sent { zero: u32 },
+    /// It was not sent: no slot of the ring is known to be free.
+    Full { zero: u32 },
+}
+
+/// A slow sensor's end of its ring of parts, with the samples that it keeps. It can move into a thread.
+#[derive(Drop)]
+pub struct SlowSeat {
+    pub(crate) ring: Producer<Part>,
+    capture: Capture,
+    keeper: Keeper,
+    sensor: Sensor,
+    // The moment of the last item that was kept, 0 before the first.
+    last: u32,
+    // The time zero of the last part that was sent, 0 before the first.
+    served: u32,
+}
+
+impl Model for SlowSeat {
+    ghost use Rattle.edr_seats.specs.SlowContents.{SlowContents, slow_contents, IsSlowSeat};
+
+    ghost Value = { SlowContents };
+
+    ghost view = { slow_contents };
+
+    ghost invariant = { IsSlowSeat };
+}
+
+impl SlowSeat {
+    // The seat of a sensor that has kept nothing, at the end of a ring into which nothing was sent.
+    pub(crate) fn new(
+        ring: Producer<Part>,
+        capture: Capture,
+        keeper: Keeper,
+        sensor: Sensor,
+    ) -> SlowSeat
+        requires ring { (sent ring ≡ []) × (known_free ring ≡ part_room) × (producer_capacity ring ≡ part_room) }
+        requires slow { IsSlow sensor }
+        requires kept { (capture ≡ []) × (mark_posted keeper ≡ 0) }
+        ensures { (result.ring ≡ ring) × (result.kept ≡ []) × (result.keeper ≡ keeper) × (result.sensor ≡ sensor) × (result.last ≡ 0) × (result.served ≡ 0) }
+    {
+        SlowSeat {
+            ring,
+            capture,
+            keeper,
+            sensor,
+            last: 0,
+            served: 0,
+        }
+    }
+
+    /// Keeps an item, if the sensor may give it and its moment is granted, and then posts its moment as the sensor's mark. It
+    /// waits for nobody and takes no memory. A refusal keeps nothing.
+    pub fn offer(&mut self, item: Item) -> Result<(), SlowRefused>
+        ensures same { SameSlowSeat self.old self.new }
+        ensures ok { OnOk result ((kept : List Item) (parts : List SensorPart) → SlowSeatIsFor self.old kept parts → SlowSeatIsFor self.new (kept ++ item ∷ []) parts) }
+        ensures err { OnErr result ((kept : List Item) (parts : List SensorPart) → SlowSeatIsFor self.old kept parts → SlowSeatIsFor self.new kept parts) }
+        ensures accepted { OnOk result ((refusal_of (sensor_of_slow self.old) (mark_kept self.old) item ≡ None) × (item.moment ≤ grant_known self.new)) }
+        ensures why { IfErr result (ExplainsSlow (refusal_of (sensor_of_slow self.old) (mark_kept self.old) item) item self.new) }
+        ensures item { (refused : ItemRefused) → result ≡ Err (SlowRefused.Item refused) → self.new ≡ self.old }
+        ensures later { grant_known self.old ≤ grant_known self.new }
+    {
+        if let Err(refused) = check(self.sensor, self.last, &item) {
+            return Err(SlowRefused::Item(refused));
+        }
+        let granted = self.keeper.granted();
+        if item.moment > granted {
+            return Err(SlowRefused::Ungranted { granted });
+        }
+        self.capture.push(item);
+        self.last = item.moment;
+        self.keeper.post_mark(item.moment);
+        Ok(())
+    }
+
+    /// Sends the part of the time zero that is asked for, if one is that wasn't sent. It waits for nobody and takes no memory.
+    pub fn serve(&mut self) -> Served
+        ensures same { SameSlowSeat self.old self.new }
+        ensures answer { HasServed self.old self.new result }
+        ensures stands { (kept : List Item) (parts : List SensorPart) → SlowSeatIsFor self.old kept parts → SlowSeatIsFor self.new kept (parts_after (sensor_of_slow self.old) kept parts result) }
+        ensures known { parts_known_taken self.old ≤ parts_known_taken self.new }
+    {
+        let Some(zero) = self.keeper.asked() else {
+            return Served::Nothing;
+        };
+        if zero == self.served {
+            return Served::Nothing;
+        }
+        let part = self.capture.part(self.sensor, zero);
+        if self.ring.push(part).is_err() {
+            return Served::Full { zero };
+        }
+        self.served = zero;
+        Served::Sent { zero }
+    }
+}
