@@ -3,7 +3,7 @@ use Rattle.std.specs.Prelude.{ℕ, List, [], ◌∷◌, ◌++◌, codes, decimal
 use Rattle.edr_reading.specs.declared.faults.RowFault.{RowFault}
 use Rattle.edr_reading.specs.declared.faults.RowFault.TheVariants.{Fields, Field, Unended}
 use Rattle.edr_picture.specs.declared.faults.Fault.{Fault}
-use Rattle.edr_picture.specs.declared.faults.Fault.TheVariants.{Usage, Report, NoReport, Read, OutOfMemory, TooLong}
+use Rattle.edr_picture.specs.declared.faults.Fault.TheVariants.{Usage, Report, Read, OutOfMemory, TooLong}
 
 -- what is wrong with a row of a report
 abbrev pub row_words : RowFault → List ℕ
@@ -14,7 +14,6 @@ row_words Unended = codes "unended"
 abbrev pub fault_words : Fault → List ℕ
 fault_words Usage = codes "usage"
 fault_words (Report row fault) = codes "report row " ++ decimal row ++ codes ": " ++ row_words fault
-fault_words NoReport = codes "no report"
 fault_words Read = codes "read fault"
 fault_words OutOfMemory = codes "out of memory"
 fault_words TooLong = codes "too long"

@@ -29,10 +29,6 @@ pub record Tells (bytes : List ℕ) (run : List Report) (found : List Found) (co
 abbrev pub IsPage : List ℕ → List ℕ → Type 0
 IsPage bytes text = (run : List Report) × (found : List Found) × (count : ℕ) × Tells bytes run found count × (text ≡ page_bytes run found count (length bytes) (sha256 bytes))
 
--- the bytes tell nothing
-abbrev pub IsNoReport : List ℕ → Type 0
-IsNoReport bytes = (run : List Report) (found : List Found) (count : ℕ) → Tells bytes run found count → ⊥
-
 -- the records of the bytes can be no report from this row on
 abbrev pub HasFault : List ℕ → ℕ → RowFault → Type 0
 HasFault bytes row f = (records : List (List (List ℕ))) × RecordsOf bytes records × IsFault records row f
@@ -41,7 +37,6 @@ HasFault bytes row f = (records : List (List (List ℕ))) × RecordsOf bytes rec
 abbrev pub IsWhy : List ℕ → Fault → Type 0
 IsWhy bytes fault.Usage = ⊥
 IsWhy bytes (fault.Report row f) = HasFault bytes row f
-IsWhy bytes fault.NoReport = IsNoReport bytes
 IsWhy bytes fault.Read = ⊥
 IsWhy bytes fault.OutOfMemory = ⊤
 IsWhy bytes fault.TooLong = ⊥
@@ -66,7 +61,6 @@ PageIs i i' text = IfSome i.left (λ bytes. IsPage bytes text) × IsAtEnd i'
 abbrev pub IsCause : Bool → Input → Input → Fault → Type 0
 IsCause has_words i i' fault.Usage = (has_words ≡ true) × (i' ≡ i)
 IsCause has_words i i' (fault.Report row f) = (has_words ≡ false) × IfSome i.left (λ bytes. (length bytes ≤ largest_report) × HasFault bytes row f) × IsAtEnd i'
-IsCause has_words i i' fault.NoReport = (has_words ≡ false) × IfSome i.left (λ bytes. (length bytes ≤ largest_report) × IsNoReport bytes) × IsAtEnd i'
 IsCause has_words i i' fault.Read = (has_words ≡ false) × Rose i.faults i'.faults
 IsCause has_words i i' fault.OutOfMemory = has_words ≡ false
 IsCause has_words i i' fault.TooLong = (has_words ≡ false) × Told (GivesTooMany largest_report) i.left i'.left

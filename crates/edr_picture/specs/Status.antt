@@ -1,7 +1,7 @@
 -- The numbers with which the program ends.
 use Rattle.std.specs.Prelude.{ℕ}
 use Rattle.edr_picture.specs.declared.faults.Fault.{Fault}
-use Rattle.edr_picture.specs.declared.faults.Fault.TheVariants.{Usage, Report, NoReport, Read, OutOfMemory, TooLong}
+use Rattle.edr_picture.specs.declared.faults.Fault.TheVariants.{Usage, Report, Read, OutOfMemory, TooLong}
 use Rattle.edr_picture.specs.declared.status.Status.{Status}
 use Rattle.edr_picture.specs.declared.status.Status.TheVariants.{Done, Faulty, WriteFault}
 
@@ -9,7 +9,6 @@ use Rattle.edr_picture.specs.declared.status.Status.TheVariants.{Done, Faulty, W
 abbrev pub fault_number : Fault → ℕ
 fault_number Usage = 2
 fault_number (Report row fault) = 3
-fault_number NoReport = 3
 fault_number Read = 4
 fault_number OutOfMemory = 9
 fault_number TooLong = 10

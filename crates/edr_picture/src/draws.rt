@@ -30,7 +30,6 @@ fn page_of(alloc: Global, bytes: &[u8]) -> Result<Vec<u8>, Fault>
     let reading = match read(alloc, bytes) {
         Ok(reading) => reading,
         Err(ReportRefused::Fault { row, fault }) => return Err(Fault::Report { row, fault }),
-        Err(ReportRefused::NoReport) => return Err(Fault::NoReport),
         Err(ReportRefused::OutOfMemory) => return Err(Fault::OutOfMemory),
     };
     let digest = Sha256::digest(bytes);

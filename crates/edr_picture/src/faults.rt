@@ -13,8 +13,6 @@ pub enum Fault {
     Usage,
     /// The bytes can be no report from this row on.
     Report { row: u32, fault: RowFault },
-    /// They are no report.
-    NoReport,
     /// The source failed.
     Read,
     OutOfMemory,
@@ -48,7 +46,6 @@ fn push_fault(line: &mut Room, fault: Fault)
             line.push_str(": ");
             push_row_fault(line, fault);
         }
-        Fault::NoReport => line.push_str("no report"),
         Fault::Read => line.push_str("read fault"),
         Fault::OutOfMemory => line.push_str("out of memory"),
         Fault::TooLong => line.push_str("too long"),

@@ -20,7 +20,7 @@ fn fault_code(fault: Fault) -> u8
 {
     match fault {
         Fault::Usage => 2,
-        Fault::Report { .. } | Fault::NoReport => 3,
+        Fault::Report { .. } => 3,
         Fault::Read => 4,
         Fault::OutOfMemory => 9,
         Fault::TooLong => 10,

@@ -73,8 +73,12 @@ fn a_report_is_drawn_whole_or_in_part(rt: HostRuntime) -> Result<(), Fail> {
 #[test]
 fn what_is_no_report_is_told(rt: HostRuntime) -> Result<(), Fail> {
     let text = b"block,name,value\n0,\"ignition cycle, download\",03\n";
-    let run = sound(text, Status::Faulty(Fault::NoReport), 3);
-    check(&rt, run, b"fault: no report\n")
+    let told = Fault::Report {
+        row: 2,
+        fault: RowFault::Field(3),
+    };
+    let run = sound(text, Status::Faulty(told), 3);
+    check(&rt, run, b"fault: report row 2: field 3\n")
 }
 
 // A report that is at fault in its first row.

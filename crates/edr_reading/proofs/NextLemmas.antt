@@ -1,11 +1,11 @@
 -- What may stand next where a report is cut.
-use Rattle.std.proofs.Common.{arith, ◌≡◌, ◌∙◌, sym, ap, ap₂, subst, refl, ℕ, zero, suc, ◌+◌, ◌<◌, ◌≤◌, eqb, false, List, [], ◌∷◌, ◌++◌, map, length, take, drop, get_or, append_assoc, length-append, ◌⊎◌, inl, inr, ⊎_elim}
+use Rattle.std.proofs.Common.{arith, ◌≡◌, ◌∙◌, sym, ap, ap₂, subst, refl, ℕ, ◌+◌, ◌<◌, ◌≤◌, eqb, false, List, [], ◌∷◌, ◌++◌, map, length, take, get_or, append_assoc, length-append, ◌⊎◌, inl, inr, ⊎_elim}
 use Rattle.std.specs.Prelude.{Option}
 use Rattle.std.specs.List.{All, AllByRecursion, IsDistinct}
 use Rattle.std.proofs.lemmas.Bool.{cases_lt}
 use Rattle.std.proofs.lemmas.List.{map-append, append-nil, length-map, take-map}
 use Rattle.std.proofs.Math.Seq.{take-append_seam}
-use Rattle.std.proofs.lemmas.List.Elements.{All-head, All-tail, All-cons, All-append, All-take}
+use Rattle.std.proofs.lemmas.List.Elements.{All-head, All-tail, All-cons, All-take}
 use Rattle.std.proofs.lemmas.Map.Keys.{IsDistinct-cons, IsDistinct-head, IsDistinct-tail}
 use Rattle.edr_record.specs.declared.Record.{Record}
 use Rattle.edr_image.specs.declared.Ack.{Ack}
@@ -14,14 +14,14 @@ use Rattle.edr_image.specs.declared.Applied.TheVariants.{NotKept}
 use Rattle.edr_image.specs.declared.Found.{Found}
 use Rattle.edr_image.specs.Banks.{found_event}
 use Rattle.edr_image.specs.Reports.{Report, StartStopped, Ran}
-use Rattle.edr_report.specs.Report.{cycle_lines, run_lines, event_lines, events_lines}
+use Rattle.edr_report.specs.Report.{cycle_lines, run_lines, event_lines}
 use Rattle.edr_reading.specs.declared.told.CycleRow.{CycleRow}
 use Rattle.edr_reading.specs.Rows.{line_fields}
 use Rattle.edr_reading.specs.Told.{IsAck, IsCycleRow}
 use Rattle.edr_reading.specs.Run.{ack_fields, cycle_fields, run_fields, row_of, acks_of, IsReport}
-use Rattle.edr_reading.specs.Found.{IsEvent, IsDamaged, events_fields, damaged_fields, count_fields, last_rows}
-use Rattle.edr_reading.specs.Reading.{IsReading, AreDistinct, head_row, report_rows}
-use Rattle.edr_reading.specs.Faults.{AreReport, Opens}
+use Rattle.edr_reading.specs.Found.{IsEvent, IsDamaged, events_fields, damaged_fields, count_fields}
+use Rattle.edr_reading.specs.Reading.{AreDistinct, head_row, report_rows}
+use Rattle.edr_reading.specs.Faults.{AreReport}
 use Rattle.edr_reading.proofs.FaultLemmas.{at-map}
 use Rattle.edr_reading.proofs.FoundLemmas.{event-long, events-first}
 use Rattle.edr_reading.proofs.LastLemmas.{distinct-none}

@@ -1,34 +1,26 @@
 -- Rows with which a report begins go on by a plain row, and those rows end it.
-use Rattle.std.proofs.Common.{arith, ◌≡◌, ◌∙◌, sym, ap, ap₂, subst, refl, ℕ, zero, suc, ◌+◌, ◌-◌, ◌<◌, ◌≤◌, eqb, false, List, [], ◌∷◌, ◌++◌, map, length, take, drop, get_or, append_assoc, length-append, length-take, decimal, codes, inl, inr, ⊎_elim, ◌⊎◌}
+use Rattle.std.proofs.Common.{arith, ◌≡◌, ◌∙◌, sym, ap, ap₂, subst, refl, ℕ, zero, suc, ◌+◌, ◌-◌, ◌<◌, eqb, List, [], ◌∷◌, ◌++◌, map, length, take, drop, get_or, append_assoc, length-append, length-take, decimal, codes}
 use Rattle.std.specs.List.{All, IsDistinct}
-use Rattle.std.proofs.lemmas.List.{map-append, append-nil, drop_more, take-append-drop, length-map}
-use Rattle.std.proofs.lemmas.List.Elements.{All-head, All-tail, All-cons, All-append}
+use Rattle.std.proofs.lemmas.List.{map-append, append-nil, take-append-drop}
+use Rattle.std.proofs.lemmas.List.Elements.{All-head, All-tail, All-cons}
 use Rattle.edr_record.specs.declared.Record.{Record}
-use Rattle.edr_image.specs.declared.Ack.{Ack}
-use Rattle.edr_image.specs.declared.Applied.TheVariants.{NotKept}
-use Rattle.edr_image.specs.declared.BankView.TheVariants.{Damaged}
 use Rattle.edr_image.specs.declared.Found.{Found}
 use Rattle.edr_image.specs.Banks.{found_event}
-use Rattle.edr_image.specs.Reports.{Report, StartStopped, Ran}
-use Rattle.edr_report.specs.Report.{event_lines, pre_lines, crash_lines, crash_names, crash_words, cycle_lines, ack_line}
-use Rattle.edr_report.specs.Words.{yes_no, shown_count, damage_words}
+use Rattle.edr_image.specs.Reports.{Report}
+use Rattle.edr_report.specs.Report.{crash_names, crash_words, cycle_lines}
+use Rattle.edr_report.specs.Words.{yes_no}
 use Rattle.edr_record.specs.Complete.{is_complete}
-use Rattle.edr_reading.specs.declared.told.CycleRow.{CycleRow}
-use Rattle.edr_reading.specs.declared.told.CycleRow.TheVariants as row
 use Rattle.edr_reading.specs.Rows.{line_fields, named_fields, pre_names, pre_words}
 use Rattle.edr_reading.specs.Parts.{IsRecord}
-use Rattle.edr_reading.specs.Told.{IsAck, IsCycleRow}
-use Rattle.edr_reading.specs.Values.{IsBank}
-use Rattle.edr_reading.specs.Run.{ack_fields, cycle_fields, run_fields, row_of, acks_of, IsReport}
-use Rattle.edr_reading.specs.Found.{IsEvent, IsDamaged, events_fields, damaged_fields, count_fields}
-use Rattle.edr_reading.specs.Reading.{AreDistinct, head_row}
-use Rattle.edr_reading.specs.Faults.{AreReport, Opens, GoesOn}
-use Rattle.edr_reading.specs.Plain.{event_names, event_words, block_fields, back_rows, IsGuess, ArePlain}
+use Rattle.edr_reading.specs.Run.{run_fields}
+use Rattle.edr_reading.specs.Found.{IsEvent, events_fields, damaged_fields}
+use Rattle.edr_reading.specs.Reading.{head_row}
+use Rattle.edr_reading.specs.Plain.{event_names, event_words, block_fields}
 use Rattle.edr_reading.proofs.EventLemmas.{event-fields, head_fields, last_fields}
-use Rattle.edr_reading.proofs.FoundLemmas.{event-long, events-last}
-use Rattle.edr_reading.proofs.NextLemmas.{Rows, whole, IsTold, told-report, event_fields, next}
+use Rattle.edr_reading.proofs.FoundLemmas.{events-last}
+use Rattle.edr_reading.proofs.NextLemmas.{Rows, whole, IsTold, event_fields}
 use Rattle.edr_reading.proofs.PartLemmas.{pre-fields, crash-fields, crash-long}
-use Rattle.edr_reading.proofs.PlainLemmas.{front_back, IsGuessed, guessed}
+use Rattle.edr_reading.proofs.PlainLemmas.{front_back}
 use Rattle.edr_reading.proofs.RunLemmas.{run-last}
 
 -- ---- the rows of an event by their names and values

@@ -1,9 +1,9 @@
 -- Each beginning of an event goes on by plain values.
-use Rattle.std.proofs.Common.{arith, ◌≡◌, ◌∙◌, sym, ap, subst, refl, ℕ, zero, suc, ◌<◌, ◌≤◌, ◌+◌, ◌-◌, nat_le, cond, ◌&&◌, Bool, true, false, max, ℤ, pos, List, [], ◌∷◌, ◌++◌, length, map, take, drop, get_or, replicate, Option, None, Some, option_map, codes, decimal}
-use Rattle.std.proofs.Common.{⊎_elim, inl, inr, ◌⊎◌, length-append}
+use Rattle.std.proofs.Common.{arith, ◌≡◌, ◌∙◌, sym, ap, subst, refl, ℕ, zero, suc, ◌<◌, ◌≤◌, ◌+◌, ◌-◌, nat_le, cond, ◌&&◌, Bool, true, false, max, ℤ, pos, List, [], ◌∷◌, ◌++◌, length, take, drop, get_or, replicate, Option, None, Some, option_map, decimal}
+use Rattle.std.proofs.Common.{⊎_elim, inl, inr, length-append}
 use Rattle.std.specs.Option.{IfSome}
 use Rattle.std.specs.List.{All}
-use Rattle.std.proofs.lemmas.Bool.{cases_lt, cases_Bool}
+use Rattle.std.proofs.lemmas.Bool.{cases_lt}
 use Rattle.std.proofs.lemmas.List.{drop-replicate, length-replicate, length-take}
 use Rattle.std.proofs.lemmas.List.Elements.{All-append, All-take, All-replicate}
 use Rattle.edr_record.specs.declared.Record.{Record}
@@ -12,10 +12,9 @@ use Rattle.edr_reading.specs.Parts.{IsRecord}
 use Rattle.edr_reading.proofs.PointLemmas.{zeros-change}
 use Rattle.edr_record.specs.declared.Place.{Place}
 use Rattle.edr_record.specs.declared.Place.TheVariants.{First, Second}
-use Rattle.edr_record.specs.declared.Extreme.{Extreme}
 use Rattle.edr_record.specs.Parts.{PrePart, CrashPart}
 use Rattle.edr_record.specs.Complete.{is_complete, has_all_slots}
-use Rattle.edr_report.specs.Words.{yes_no, none_word, points_words, milliseconds, extreme_words, missing_words, shown_count, events_in_crash}
+use Rattle.edr_report.specs.Words.{points_words, milliseconds, shown_count, events_in_crash}
 use Rattle.edr_reading.specs.Plain.{event_words, absent_words, present_words, no_extreme, IsGuess, ArePlain}
 
 abbrev pub keep : {A : Type 0} → Bool → A → A → A

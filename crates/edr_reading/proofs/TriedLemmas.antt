@@ -1,7 +1,7 @@
 -- Where none of the plain rows goes on, no report does.
-use Rattle.std.proofs.Common.{arith, ◌≡◌, ◌∙◌, sym, ap, ap₂, subst, refl, ℕ, zero, suc, ◌+◌, ◌-◌, ◌<◌, ◌≤◌, eqb, false, List, [], ◌∷◌, ◌++◌, map, length, take, drop, get_or, append_assoc, length-append, length-take, decimal, codes, inl, inr}
+use Rattle.std.proofs.Common.{arith, ◌≡◌, ◌∙◌, sym, ap, ap₂, subst, refl, ℕ, ◌+◌, ◌-◌, ◌<◌, ◌≤◌, eqb, false, List, [], ◌∷◌, ◌++◌, map, length, take, drop, get_or, append_assoc, length-append, decimal, codes, inl}
 use Rattle.std.specs.Prelude.{Option}
-use Rattle.std.specs.List.{All, IsDistinct}
+use Rattle.std.specs.List.{IsDistinct}
 use Rattle.std.proofs.lemmas.List.{map-append, append-nil}
 use Rattle.std.proofs.lemmas.List.Elements.{All-append}
 use Rattle.edr_record.specs.declared.Record.{Record}
@@ -17,10 +17,9 @@ use Rattle.edr_reading.specs.declared.told.CycleRow.{CycleRow}
 use Rattle.edr_reading.specs.declared.told.CycleRow.TheVariants as row
 use Rattle.edr_reading.specs.Rows.{line_fields}
 use Rattle.edr_reading.specs.Parts.{IsRecord}
-use Rattle.edr_reading.specs.Told.{IsAck, IsCycleRow}
+use Rattle.edr_reading.specs.Told.{IsAck}
 use Rattle.edr_reading.specs.Run.{ack_fields, cycle_fields, IsReport}
 use Rattle.edr_reading.specs.Found.{IsEvent, IsDamaged, damaged_fields, count_fields}
-use Rattle.edr_reading.specs.Reading.{AreDistinct}
 use Rattle.edr_reading.specs.Faults.{AreReport, Opens, GoesOn}
 use Rattle.std.proofs.lemmas.Fmt.{decimal_digit}
 use Rattle.edr_reading.specs.Plain.{event_names, event_words, block_fields, back_rows, NoneBehind, block_of, name_of, IsGuess}

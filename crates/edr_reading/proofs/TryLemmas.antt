@@ -1,5 +1,5 @@
 -- What is tried behind rows, as code tells of it.
-use Rattle.std.proofs.Common.{arith, ◌≡◌, ◌≢◌, ◌∙◌, sym, ap, ap₂, subst, refl, ℕ, ◌<◌, ◌≤◌, ◌+◌, ◌-◌, Bool, true, false, List, [], ◌∷◌, ◌++◌, map, length, take, drop, length-append, append_assoc, get_or, Option, None, Some, Result, Ok, Err, codes, decimal, ⊎_elim, MatchBool}
+use Rattle.std.proofs.Common.{arith, ◌≡◌, ◌≢◌, ◌∙◌, sym, ap, ap₂, subst, refl, ℕ, ◌<◌, ◌≤◌, ◌+◌, ◌-◌, Bool, true, false, List, [], ◌∷◌, ◌++◌, map, length, take, drop, length-append, append_assoc, get_or, Option, None, Some, Result, Ok, Err, codes, ⊎_elim, MatchBool}
 use Rattle.std.specs.Option.{IfSome, MatchOption}
 use Rattle.std.specs.Prelude.{⊤}
 use Rattle.std.specs.Result.{IfOk}
@@ -8,7 +8,6 @@ use Rattle.edr_report.specs.Words.{yes_no, extreme_words, milliseconds}
 use Rattle.edr_reading.specs.Faults.{AreReport, Opens, GoesOn}
 use Rattle.edr_reading.specs.Found.{count_fields}
 use Rattle.edr_reading.specs.Plain.{no_extreme, event_names, plain_texts, absent_words, present_words, back_rows, block_fields, block_of, value_of, IsGuess, ArePlain, SomeBehind, NoneBehind, IsInside}
-use Rattle.edr_reading.specs.Values.{IsBank}
 use Rattle.std.specs.Prelude.{is_some}
 use Rattle.std.proofs.Common.{nat_eq, length-take-le, ◌&&◌}
 use Rattle.std.proofs.lemmas.Bool.{eqb-true}

@@ -1,4 +1,4 @@
-use Rattle.std.proofs.Common.{arith, ◌≡◌, ◌<◌, sym, subst, Some, map}
+use Rattle.std.proofs.Common.{arith, ◌≡◌, subst, Some, map}
 use Rattle.edr_reading.specs.Plain.{NoneBehind}
 use Rattle.edr_reading.specs.Rows.{fields}
 use Rattle.edr_reading.proofs.TryLemmas.{false-of}

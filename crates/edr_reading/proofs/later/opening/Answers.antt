@@ -1,4 +1,4 @@
-use Rattle.std.proofs.Common.{arith, ◌∙◌, sym, map}
+use Rattle.std.proofs.Common.{arith, sym, map}
 use Rattle.std.proofs.lemmas.List.{length-map}
 use Rattle.edr_reading.specs.Rows.{fields}
 use Rattle.edr_reading.proofs.TryLemmas.{none-of, some-closed, first-opens, if-both, opening-within}

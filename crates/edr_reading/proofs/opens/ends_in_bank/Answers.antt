@@ -1,7 +1,4 @@
-use Rattle.std.proofs.Common.{◌≡◌, ◌∙◌, List, ◌++◌, map, true, false}
-use Rattle.edr_reading.specs.Cut.{cut_texts}
-use Rattle.edr_reading.specs.Faults.{AreReport}
-use Rattle.edr_reading.specs.Plain.{back_rows}
+use Rattle.std.proofs.Common.{◌∙◌, map, true, false}
 use Rattle.edr_reading.specs.Rows.{fields}
 use Rattle.edr_reading.proofs.TryLemmas.{if-ok, none-of, moved, second-words, present-texts, all-tried}
 use Rattle.edr_reading.proofs.opens.ends_in_bank.Goals as goal

@@ -1,4 +1,4 @@
-use Rattle.std.proofs.Common.{arith, ◌<◌, length, subst, ℕ, List, map, below_more}
+use Rattle.std.proofs.Common.{arith, ◌<◌, length, subst, map, below_more}
 use Rattle.edr_reading.specs.Rows.{fields}
 use Rattle.edr_reading.proofs.BankLemmas.{text-at}
 use Rattle.edr_reading.proofs.TryLemmas.{NoneIn}

@@ -1,4 +1,4 @@
-use Rattle.std.proofs.Common.{arith, ◌≡◌, ◌∙◌, sym, ap, subst, ◌<◌, [], ◌∷◌, ◌++◌, List, ℕ, map, length}
+use Rattle.std.proofs.Common.{arith, ◌∙◌, ap, subst, [], ◌∷◌, ◌++◌, List, ℕ, map}
 use Rattle.std.proofs.lemmas.List.{length-map}
 use Rattle.edr_reading.specs.Faults.{AreReport}
 use Rattle.edr_reading.specs.Rows.{fields}

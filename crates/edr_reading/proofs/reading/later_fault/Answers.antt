@@ -1,8 +1,8 @@
-use Rattle.std.proofs.Common.{arith, ◌≡◌, ◌<◌, ◌≤◌, ◌∙◌, sym, ap, subst, ℕ, List, [], ◌∷◌, ◌++◌, ◌+◌, map, take, drop, length, min, get_or}
+use Rattle.std.proofs.Common.{arith, ◌≡◌, ◌<◌, ◌≤◌, ◌∙◌, sym, ap, subst, ℕ, List, [], ◌∷◌, ◌++◌, ◌+◌, map, take, length, min, get_or}
 use Rattle.std.proofs.lemmas.Bool.{ltb-true, ltb-false}
 use Rattle.std.proofs.lemmas.List.{length-map, take-map, map_more}
 use Rattle.csv.specs.Records.{fields_of}
-use Rattle.edr_reading.specs.Faults.{Opens, IsWrong}
+use Rattle.edr_reading.specs.Faults.{Opens}
 use Rattle.edr_reading.specs.Rows.{fields}
 use Rattle.edr_reading.proofs.FaultLemmas.{fault-behind, wrong-fields, wrong-end, at-map, no-more}
 use Rattle.edr_reading.proofs.LaterLemmas.{no_row, take-front, wrong-next}

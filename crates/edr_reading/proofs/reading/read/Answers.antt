@@ -1,16 +1,13 @@
-use Rattle.std.proofs.Common.{arith, ◌≡◌, ◌∙◌, sym, ap, subst, ◌<◌, Option, List, map, length}
+use Rattle.std.proofs.Common.{arith, ◌∙◌, sym, ap, subst, List, map, length}
 use Rattle.std.proofs.lemmas.List.{length-map}
-use Rattle.std.specs.Option.{IfSome}
 use Rattle.csv.specs.Reading.{default_config, strip_bom}
 use Rattle.csv.specs.Records.{fields_of}
 use Rattle.csv.specs.declared.parser.State.TheVariants as st
 use Rattle.edr_spell.proofs.CsvLemmas.{same_records}
-use Rattle.edr_reading.specs.Faults.{IsFault}
 use Rattle.edr_reading.specs.Reading.{report_rows}
 use Rattle.edr_reading.specs.Rows.{fields}
 use Rattle.edr_reading.specs.Run.{RecordsOf}
 use Rattle.edr_reading.proofs.FaultLemmas.{fault-is-none}
-use Rattle.edr_reading.proofs.ReadingLemmas.{no-other, all-rows}
 use Rattle.edr_reading.proofs.LaterLemmas.{head-first}
 use Rattle.edr_reading.proofs.reading.read.Goals as goal
 
