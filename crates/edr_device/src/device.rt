@@ -9,6 +9,11 @@ use crate::stream::Failed;
 /// The most bytes of one write.
 pub const LONGEST_WRITE: usize = 512;
 
+/// [`LONGEST_WRITE`] in numbers, since the clauses below cite it by name.
+pub fn a_write_is_short()
+    ensures { LONGEST_WRITE ≡ 512 }
+{}
+
 /// A memory of fixed size, of bytes with the offsets 0 to size - 1. A sync settles what was written before it. A crash
 /// keeps the settled bytes alone, and leaves anything at the other offsets.
 ///

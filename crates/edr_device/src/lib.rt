@@ -19,7 +19,7 @@ mod stream;
 mod tests;
 mod transfer;
 
-pub use crate::device::{LONGEST_WRITE, Nvm};
+pub use crate::device::{LONGEST_WRITE, Nvm, a_write_is_short};
 pub use crate::fused::Fused;
 pub use crate::mem_nvm::MemNvm;
 pub use crate::mem_sink::MemSink;

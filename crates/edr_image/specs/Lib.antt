@@ -2,6 +2,7 @@ pub mod Banks
 pub mod Steps
 pub mod Calls
 pub mod PartBytes
+pub mod Places
 pub mod Image
 pub mod Kept
 pub mod Order

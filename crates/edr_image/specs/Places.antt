@@ -1,0 +1,21 @@
+-- The places of an image in numbers. Definitions and code cite the constants; here each is what it is.
+use Rattle.std.specs.Prelude.{◌≡◌}
+use Rattle.edr_image.specs.declared.places.TheConstants.{BANK_SIZE, BANKS, CHOICE, CRASH_PART, CRASH_SIZE, DONE_GATE, EVENT_GATE, FEWEST_BANKS, FIRST_SLOT, FRONT_SIZE, HEADER_END, LOCK_GATE, MOST_BANKS, OPEN_GATE, PRE_PART, PRE_SIZE, SECOND_SLOT, SLOT_COUNT, SLOT_SIZE, VERSION}
+
+-- an image has 2 to 16 banks of 512 bytes behind a front of 96, and a gate is open at 165
+pub record HasSizes : Type 0 where
+  pub banks : (FEWEST_BANKS ≡ 2) × (MOST_BANKS ≡ 16)
+  pub sizes : (FRONT_SIZE ≡ 96) × (BANK_SIZE ≡ 512)
+  pub gate : OPEN_GATE ≡ 165
+
+-- in the front the header stands behind the magic, and the two slots of the count behind it
+pub record HasFront : Type 0 where
+  pub header : (VERSION ≡ 8) × (BANKS ≡ 10) × (CHOICE ≡ 11) × (HEADER_END ≡ 12)
+  pub slots : (FIRST_SLOT ≡ 32) × (SECOND_SLOT ≡ 64) × (SLOT_SIZE ≡ 32)
+  pub count : SLOT_COUNT ≡ 4
+
+-- a bank has its three gates, then the pre part, then the crash part
+pub record HasParts : Type 0 where
+  pub gates : (EVENT_GATE ≡ 0) × (LOCK_GATE ≡ 1) × (DONE_GATE ≡ 2)
+  pub pre : (PRE_PART ≡ 16) × (PRE_SIZE ≡ 160)
+  pub crash : (CRASH_PART ≡ 176) × (CRASH_SIZE ≡ 320)
