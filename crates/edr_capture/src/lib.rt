@@ -2,6 +2,10 @@
 #![tactic(auto)]
 
 ghost use Rattle.std.specs.Prelude.{◌≡◌, ℕ, ◌+◌, ◌-◌, ◌^◌, ◌<◌, ◌≤◌, ◌↔◌, None, replicate, pos, ◌<ℤ◌, ◌≤ℤ◌, ◌+ℤ◌, IfOk, IsTrue, Some, List, [], ◌∷◌, ◌++◌, length, slice_get, All};
+ghost use Rattle.edr_items.specs.declared.TheConstants.{LONGEST_GAP};
+ghost use Rattle.edr_definitions.specs.declared.limits.TheConstants.{LONGEST_AGE};
+ghost use Rattle.edr_capture.specs.declared.TheConstants.{ROOM};
+ghost use Rattle.edr_record.specs.declared.TheConstants.{SHORT_SLOTS, SINGLE_REACH};
 ghost use Rattle.edr_items.specs.declared.Item.{Item};
 ghost use Rattle.edr_items.specs.Item.{mark_of};
 ghost use Rattle.edr_definitions.specs.Rings.{RisesFrom};
@@ -15,7 +19,9 @@ ghost use Rattle.edr_capture.specs.SensorPart.{IsOfSensor, part, part_slots};
 mod part;
 
 use circular_buffer::HeapCircularBuffer;
+use edr_definitions::limits::LONGEST_AGE;
 use edr_items::{Item, Sensor};
+use edr_record::{SHORT_SLOTS, SINGLE_REACH, SLOT_REACH, SLOT_STEP};
 pub use part::Part;
 use std::alloc::{AllocError as OutOfMemory, Global};
 use std::marker::Model;
@@ -23,12 +29,6 @@ use std::marker::Model;
 /// How many samples a capture keeps: one for each tick from 100 ms before a slot to less than 6,100 ms past it. So the slots of
 /// the 5 s before time zero can still be read when samples of the second after it stand there already.
 pub const ROOM: usize = 6_200;
-
-// How much older than its slot a sample may be, in ticks.
-const LONGEST_AGE: i64 = 100;
-
-// How many slots a part has.
-const SLOTS: usize = 11;
 
 /// The newest samples of a sensor in an ignition cycle.
 #[derive(Drop)]
@@ -77,7 +77,7 @@ impl Capture {
     /// The slot of a tick: the value of the sensor's latest sample of the 100 ms up to it, `None` where there is none. A
     /// negative tick lies before the cycle. The number of steps is logarithmic in the number of samples that are kept.
     pub fn slot(&self, at: i64) -> Option<i32>
-        requires near { pos (mark_of self.now) <ℤ (at +ℤ pos 6_100) }
+        requires near { pos (mark_of self.now) <ℤ (at +ℤ pos (ROOM - LONGEST_AGE)) }
         ensures kept { result ≡ slot_at self.now at }
 
         // The same of all items of the sensor, though the oldest of them are not kept.
@@ -91,7 +91,7 @@ impl Capture {
     pub fn part(&self, sensor: Sensor, zero: u32) -> Part
         requires slow { IsSlow sensor }
         requires range { All (IsOfSensor sensor) self.now }
-        requires near { mark_of self.now ≤ zero + 1_000 }
+        requires near { mark_of self.now ≤ zero + LONGEST_GAP }
         ensures kept { result ≡ part sensor self.now zero }
 
         // The same of all items of the sensor, though the oldest of them are not kept.
@@ -114,30 +114,31 @@ fn tick_before(tick: u64, back: u64) -> i64
 }
 
 // The slots at each half second from 5 s before that time zero up to it.
-fn slots_before(capture: &Capture, zero: u32) -> [Option<i32>; SLOTS]
-    requires near { mark_of capture.now ≤ zero + 1_000 }
+fn slots_before(capture: &Capture, zero: u32) -> [Option<i32>; SHORT_SLOTS]
+    requires near { mark_of capture.now ≤ zero + LONGEST_GAP }
     ensures { result ≡ slots_before capture.now zero }
 {
-    let mut slots = [None; SLOTS];
-    for k in 0..SLOTS {
-        slots[k] = capture.slot(tick_before(u64::from(zero) + 500 * k as u64, 5_000));
+    let mut slots = [None; SHORT_SLOTS];
+    for k in 0..SHORT_SLOTS {
+        let at = u64::from(zero) + u64::from(SLOT_STEP) * k as u64;
+        slots[k] = capture.slot(tick_before(at, u64::from(SLOT_REACH)));
     }
     slots
 }
 
 // The slot 1 s before that time zero, in the first place.
-fn slot_before(capture: &Capture, zero: u32) -> [Option<i32>; SLOTS]
-    requires near { mark_of capture.now ≤ zero + 1_000 }
-    ensures { result ≡ slot capture.now (zero - 1_000) ∷ replicate 10 None }
+fn slot_before(capture: &Capture, zero: u32) -> [Option<i32>; SHORT_SLOTS]
+    requires near { mark_of capture.now ≤ zero + LONGEST_GAP }
+    ensures { result ≡ slot capture.now (zero - SINGLE_REACH) ∷ replicate (SHORT_SLOTS - 1) None }
 {
-    let mut slots = [None; SLOTS];
-    slots[0] = capture.slot(tick_before(u64::from(zero), 1_000));
+    let mut slots = [None; SHORT_SLOTS];
+    slots[0] = capture.slot(tick_before(u64::from(zero), u64::from(SINGLE_REACH)));
     slots
 }
 
 // The slots of a sensor's part.
-fn slots_of_part(capture: &Capture, sensor: Sensor, zero: u32) -> [Option<i32>; SLOTS]
-    requires near { mark_of capture.now ≤ zero + 1_000 }
+fn slots_of_part(capture: &Capture, sensor: Sensor, zero: u32) -> [Option<i32>; SHORT_SLOTS]
+    requires near { mark_of capture.now ≤ zero + LONGEST_GAP }
     ensures { result ≡ part_slots sensor capture.now zero }
 {
     match sensor {
@@ -145,6 +146,11 @@ fn slots_of_part(capture: &Capture, sensor: Sensor, zero: u32) -> [Option<i32>; 
         _ => slots_before(capture, zero),
     }
 }
+
+/// A capture has room for 6,200 samples.
+pub fn room_is_for_6200_samples()
+    ensures { ROOM ≡ 6_200 }
+{}
 
 /// Items of a sensor that are later than a time zero don't change its part.
 pub fn later_items_leave_a_part()
@@ -182,9 +188,9 @@ fn count_up_to(ring: &HeapCircularBuffer<Item>, at: i64) -> usize
 
 // Whether the sample counts at a tick that it is not later than.
 fn is_recent(sample: &Item, at: i64) -> bool
-    ensures { IsTrue result ↔ (at ≤ℤ pos (sample.now.moment + 100)) }
+    ensures { IsTrue result ↔ (at ≤ℤ pos (sample.now.moment + LONGEST_AGE)) }
 {
-    at <= i64::from(sample.moment) + LONGEST_AGE
+    at <= i64::from(sample.moment) + i64::from(LONGEST_AGE)
 }
 
 // The slot that the samples give.

@@ -16,6 +16,7 @@ use Rattle.edr_definitions.specs.Core.{ring_lists}
 use Rattle.edr_definitions.proofs.RingLaws.{IsFeedAfter-rises_from, mark-filter, mark_of-newest}
 use Rattle.edr_definitions.proofs.FreezeLaws.{pre_part-frozen}
 use Rattle.edr_definitions.proofs.BoundLaws.{pre_part-is}
+use Rattle.edr_capture.specs.declared.TheConstants.{ROOM}
 use Rattle.edr_capture.specs.Capture.{StandsFor}
 use Rattle.edr_core.specs.declared.captures.Captures.{Captures}
 use Rattle.edr_core.specs.Captures.{kept_lists, IsLater, CapturesStandFor, KeepPrePart}
@@ -24,7 +25,7 @@ use Rattle.edr_core.specs.Captures.{kept_lists, IsLater, CapturesStandFor, KeepP
 mark-kept : (s : Sensor) (kept given : List Item) → IsFeed s given → StandsFor kept given → mark_of kept ≤ mark_of given
 mark-kept s kept given feed stands =
     let is = ap mark_of stands.kept_is in
-    let same = mark_of-newest 6200 (samples given) (omega arith) in
+    let same = mark_of-newest ROOM (samples given) (omega arith) in
     let low = mark-filter (λ x. is_some x.value) 0 given (IsFeedAfter-rises_from s 0 given feed) in
     omega (arith, is, same, low)
 
@@ -53,8 +54,8 @@ module _ (c : Captures) (n z : ℕ) (f : SensorLists) (keep : KeepPrePart c n z 
       let d = keep.kept.brake.kept_is in
       let e = keep.kept.belt.kept_is in
       let g = keep.kept.lamp.kept_is in
-      let rings : pre_part (kept_lists c) n place z ≡ pre_part (ring_lists 6200 f) n place z = rw (a, b, d, e, g) refl in
-      rings ∙ pre_part-frozen f n z place keep.feeds keep.near
+      let rings : pre_part (kept_lists c) n place z ≡ pre_part (ring_lists ROOM f) n place z = rw (a, b, d, e, g) refl in
+      rings ∙ pre_part-frozen ROOM f n z place (omega arith) keep.feeds keep.near
 
   -- it is in its bounds
   pub pre_part-in_bounds : IsPre (pre_part (kept_lists c) n First z)

@@ -7,6 +7,7 @@ use Rattle.std.proofs.lemmas.List.{drop-set-lt, drop-drop, drop-replicate, get_o
 use Rattle.std.proofs.lemmas.Bool.{cases_lt}
 use Rattle.std.proofs.lemmas.List.Elements.{All-set, All-replicate, All-get_or, All-map}
 use Rattle.std.proofs.lemmas.Option.{slice_get-get_or}
+use Rattle.edr_record.specs.declared.TheConstants.{RESET}
 use Rattle.edr_record.specs.Bounds.{ArePoints, IsChange, IsExtreme, IsUpTo, IsCrash, most_points, point_count, window_from_end}
 use Rattle.edr_definitions.specs.Selection.{close_of}
 use Rattle.edr_definitions.specs.Parts.{kmh_of}
@@ -145,7 +146,7 @@ IsOpen-begin z fired = record {
   at_zero true = omega arith
   at_zero false = tt
 
-pub IsOpen-next : (p : OpenCrash) (along across : Option ℤ) (fired : ℕ) → IsOpen p → p.elapsed < 500 → IsInRange along → IsInRange across → IsOpen (next_crash p along across fired)
+pub IsOpen-next : (p : OpenCrash) (along across : Option ℤ) (fired : ℕ) → IsOpen p → p.elapsed < RESET → IsInRange along → IsInRange across → IsOpen (next_crash p along across fired)
 IsOpen-next p along across fired is few x_in y_in =
     record {
       elapsed = omega (arith, few);
@@ -167,7 +168,7 @@ finished_extreme elapsed end a is closed =
     let size = is.peak in let at = is.peak_at in let window = closed.window in
     record { change = is_change a.peak.value (omega (arith, size, at)); time = omega (arith, at, window) }
 
-pub IsCrash-finish : (p : OpenCrash) (e : ℕ) → IsOpen p → p.zero + 20 ≤ e → e ≤ p.zero + 500 → p.zero + p.elapsed ≡ close_of p.zero e → IsCrash (finish_crash p e)
+pub IsCrash-finish : (p : OpenCrash) (e : ℕ) → IsOpen p → p.zero + 20 ≤ e → e ≤ p.zero + RESET → p.zero + p.elapsed ≡ close_of p.zero e → IsCrash (finish_crash p e)
 IsCrash-finish p e is from to closed =
     let end = e - p.zero in
     let whole : IsClosed p.elapsed end = record { points = omega arith; window = omega arith; close = omega arith } in

@@ -1,6 +1,7 @@
 -- How large the numbers of an open crash part may be.
 use Rattle.std.specs.Prelude.{◌≡◌, ℕ, ◌*◌, ◌≤◌, min, ℤ, unsigned_abs, Option, length, All}
 use Rattle.std.specs.Option.{ForSome}
+use Rattle.edr_record.specs.declared.TheConstants.{RESET}
 use Rattle.edr_record.specs.Bounds.{ArePoints, IsUpTo}
 use Rattle.edr_definitions.specs.OpenCrash.{OpenAxis, OpenCrash, points_by}
 
@@ -18,7 +19,7 @@ pub record IsOpenAxis (elapsed : ℕ) (a : OpenAxis) : Type 0 where
 
 -- a crash part that is open for at most 500 ms
 pub record IsOpen (p : OpenCrash) : Type 0 where
-  pub elapsed : p.elapsed ≤ 500
+  pub elapsed : p.elapsed ≤ RESET
   pub along : IsOpenAxis p.elapsed p.along
   pub across : IsOpenAxis p.elapsed p.across
   pub result_at : p.result.at ≤ min 300 p.elapsed

@@ -1,4 +1,5 @@
 ghost use Rattle.std.specs.Prelude.{◌≡◌, ◌*◌, ◌+◌, ◌≤◌, ◌+ℤ◌, pos, unsigned_abs, unwrap_or};
+ghost use Rattle.edr_record.specs.declared.TheConstants.{RESET};
 ghost use Rattle.edr_definitions.specs.Parts.{kmh_of};
 ghost use Rattle.edr_definitions.specs.OpenCrash.{begin_axis, next_axis, next_points, higher};
 ghost use Rattle.edr_crashpart.specs.Bounds.{IsInRange};
@@ -84,9 +85,9 @@ impl Axis {
     // One tick more, `at` ticks after time zero.
     pub fn tick(&mut self, sample: Option<i32>, at: u16)
         requires sum { unsigned_abs self.old.sum + 100_000 ≤ 100_000 * at }
-        requires at { at ≤ 500 }
+        requires at { at ≤ RESET }
         requires sample { IsInRange sample }
-        requires missing { self.old.missing ≤ 500 }
+        requires missing { self.old.missing ≤ RESET }
         ensures axis { axis_of self.new ≡ next_axis (axis_of self.old) sample at }
         ensures size { unsigned_abs self.new.sum ≤ 100_000 * at }
     {

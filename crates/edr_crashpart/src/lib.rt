@@ -3,6 +3,7 @@
 
 ghost use Rattle.std.specs.Prelude.{◌≡◌, ℕ, unsigned_abs, nat_le, if◌then◌else◌, ◌+◌, ◌<◌, ◌≤◌, List, [], ◌∷◌, ◌++◌};
 ghost use Rattle.std.specs.Option.{option_or};
+ghost use Rattle.edr_record.specs.declared.TheConstants.{RESET};
 ghost use Rattle.edr_definitions.specs.Search.{tick_if};
 ghost use Rattle.edr_definitions.specs.Windows.{squares};
 ghost use Rattle.edr_definitions.specs.Selection.{close_of};
@@ -140,7 +141,7 @@ impl CrashPart {
 
     /// One tick more: the samples of both axes in steps of 0.0001 km/h, where there are any, and the restraints that fire.
     pub fn tick(&mut self, along: Option<i32>, across: Option<i32>, fired: Restraints)
-        requires few { self.old.elapsed < 500 }
+        requires few { self.old.elapsed < RESET }
         requires along { IsInRange along }
         requires across { IsInRange across }
         ensures part { self.new ≡ next_crash self.old along across fired.0 }
@@ -160,7 +161,7 @@ impl CrashPart {
     /// which extremes count if that is later.
     pub fn finish(&self, end: u32) -> Crash
         requires from { self.now.zero + 20 ≤ end }
-        requires to { end ≤ self.now.zero + 500 }
+        requires to { end ≤ self.now.zero + RESET }
         requires closed { self.now.zero + self.now.elapsed ≡ close_of self.now.zero end }
         ensures part { result ≡ finish_crash self.now end }
 

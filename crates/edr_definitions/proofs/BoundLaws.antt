@@ -11,6 +11,9 @@ use Rattle.std.proofs.lemmas.Bool.{cases_lt}
 use Rattle.std.proofs.lemmas.List.FromFn.{length-range_with_len, length-map-range_with_len}
 use Rattle.std.proofs.lemmas.List.Sums.{count_by-le-length}
 use Rattle.std.proofs.Math.Seq.{drop-append_seam}
+use Rattle.edr_definitions.specs.declared.limits.TheConstants.{STEPS_OF_KMH}
+use Rattle.edr_items.specs.declared.TheConstants.{LATEST_MOMENT}
+use Rattle.edr_record.specs.declared.TheConstants.{LONGEST_PAIR, RESET, SHORT_SLOTS, SLOT_REACH, SLOT_STEP}
 use Rattle.edr_items.specs.declared.Sensor.{Sensor}
 use Rattle.edr_items.specs.declared.Sensor.TheVariants.{Along, Across, Speed, Throttle}
 use Rattle.edr_items.specs.declared.Item.{Item}
@@ -37,7 +40,7 @@ use Rattle.edr_definitions.proofs.PartLaws.{first_greatest-below}
 
 -- ---- the values of a feed are in range
 
-accepted_value : (s : Sensor) (x : Item) (last : ℕ) → (late far : Bool) → (good : Bool) → has_value_in_range s x ≡ good → cond late (Some (item.Order last)) (cond far (Some (item.Moment 86_400_000)) (cond good None (Some (item.Range (lowest_of s) (highest_of s))))) ≡ None → good ≡ true
+accepted_value : (s : Sensor) (x : Item) (last : ℕ) → (late far : Bool) → (good : Bool) → has_value_in_range s x ≡ good → cond late (Some (item.Order last)) (cond far (Some (item.Moment LATEST_MOMENT)) (cond good None (Some (item.Range (lowest_of s) (highest_of s))))) ≡ None → good ≡ true
 accepted_value s x last true far good e h = cc
 accepted_value s x last false true good e h = cc
 accepted_value s x last false false true e h = refl
@@ -45,7 +48,7 @@ accepted_value s x last false false false e h = cc
 
 in_range : (s : Sensor) (last : ℕ) (x : Item) → refusal_of s last x ≡ None → has_value_in_range s x ≡ true
 unfolding refusal_of
-in_range s last x h = accepted_value s x last (nat_le x.moment last) (nat_le (86_400_000 + 1) x.moment) (has_value_in_range s x) refl h
+in_range s last x h = accepted_value s x last (nat_le x.moment last) (nat_le (LATEST_MOMENT + 1) x.moment) (has_value_in_range s x) refl h
 
 value_in_range : (s : Sensor) (x : Item) (v : ℤ) → has_value_in_range s x ≡ true → x.value ≡ Some v → is_in_range s v ≡ true
 value_in_range s x v h e = subst (λ (o : Option ℤ). option_map_or (is_in_range s) o true ≡ true) e h
@@ -80,22 +83,22 @@ slot_up_to highest (Some v) h = number_up_to highest v (h v refl)
 speeds_up_to : (xs : List Item) (z : ℕ) → IsFeed Speed xs → All (IsUpTo 300) (numbers (slots_before xs z))
 unfolding slots_before
 speeds_up_to xs z feed =
-    All-map (IsUpTo 300) (λ s. option_map unsigned_abs s) (map (λ k. slot xs (z + 500 * k - 5000)) (range_with_len 0 11))
-    (All-map (λ o. IsUpTo 300 (option_map unsigned_abs o)) (λ k. slot xs (z + 500 * k - 5000)) (range_with_len 0 11)
-    (λ k d within. slot_up_to 300 (slot xs (z + 500 * slice_index_or (range_with_len 0 11) k d - 5000)) (λ v e. slot_in_range Speed xs (z + 500 * slice_index_or (range_with_len 0 11) k d - 5000) v feed e)))
+    All-map (IsUpTo 300) (λ s. option_map unsigned_abs s) (map (λ k. slot xs (z + SLOT_STEP * k - SLOT_REACH)) (range_with_len 0 SHORT_SLOTS))
+    (All-map (λ o. IsUpTo 300 (option_map unsigned_abs o)) (λ k. slot xs (z + SLOT_STEP * k - SLOT_REACH)) (range_with_len 0 SHORT_SLOTS)
+    (λ k d within. slot_up_to 300 (slot xs (z + SLOT_STEP * slice_index_or (range_with_len 0 SHORT_SLOTS) k d - SLOT_REACH)) (λ v e. slot_in_range Speed xs (z + SLOT_STEP * slice_index_or (range_with_len 0 SHORT_SLOTS) k d - SLOT_REACH) v feed e)))
 
 throttles_up_to : (xs : List Item) (z : ℕ) → IsFeed Throttle xs → All (IsUpTo 100) (numbers (slots_before xs z))
 unfolding slots_before
 throttles_up_to xs z feed =
-    All-map (IsUpTo 100) (λ s. option_map unsigned_abs s) (map (λ k. slot xs (z + 500 * k - 5000)) (range_with_len 0 11))
-    (All-map (λ o. IsUpTo 100 (option_map unsigned_abs o)) (λ k. slot xs (z + 500 * k - 5000)) (range_with_len 0 11)
-    (λ k d within. slot_up_to 100 (slot xs (z + 500 * slice_index_or (range_with_len 0 11) k d - 5000)) (λ v e. slot_in_range Throttle xs (z + 500 * slice_index_or (range_with_len 0 11) k d - 5000) v feed e)))
+    All-map (IsUpTo 100) (λ s. option_map unsigned_abs s) (map (λ k. slot xs (z + SLOT_STEP * k - SLOT_REACH)) (range_with_len 0 SHORT_SLOTS))
+    (All-map (λ o. IsUpTo 100 (option_map unsigned_abs o)) (λ k. slot xs (z + SLOT_STEP * k - SLOT_REACH)) (range_with_len 0 SHORT_SLOTS)
+    (λ k d within. slot_up_to 100 (slot xs (z + SLOT_STEP * slice_index_or (range_with_len 0 SHORT_SLOTS) k d - SLOT_REACH)) (λ v e. slot_in_range Throttle xs (z + SLOT_STEP * slice_index_or (range_with_len 0 SHORT_SLOTS) k d - SLOT_REACH) v feed e)))
 
 eleven : (xs : List Item) (z : ℕ) → length (slots_before xs z) ≡ 11
 unfolding slots_before
 eleven xs z = refl
 
-pub pre_part-is : (f : SensorLists) (n z : ℕ) (place : Place) → AreFeeds f → 1 ≤ n → n ≤ 4_294_967_295 → 1 ≤ z → z ≤ 86_400_000 → IsPlace place → IsPre (pre_part f n place z)
+pub pre_part-is : (f : SensorLists) (n z : ℕ) (place : Place) → AreFeeds f → 1 ≤ n → n ≤ 4_294_967_295 → 1 ≤ z → z ≤ LATEST_MOMENT → IsPlace place → IsPre (pre_part f n place z)
 unfolding pre_part
 pre_part-is f n z place feeds low high from to is = record {
   cycle_from = low;
@@ -148,7 +151,7 @@ size_of_negative (suc k) = refl
 
 pub is_change : (z : ℤ) → unsigned_abs z ≤ 30_000_000 → IsChange (kmh_of z)
 is_change (pos n) h = omega (arith, h)
-is_change (negsuc n) h = let e = size_of_negative ((suc n + 5_000) / 10_000) in omega (arith, h, e)
+is_change (negsuc n) h = let e = size_of_negative ((suc n + STEPS_OF_KMH / 2) / STEPS_OF_KMH) in omega (arith, h, e)
 
 first_of_map : (f : ℕ → ℤ) (n : ℕ) (ys : List ℤ) → 1 ≤ n → slice_get (map f (range_with_len 0 n) ++ ys) 0 ≡ Some (f 0)
 first_of_map f zero ys some = absurd (omega (arith, some))
@@ -221,7 +224,7 @@ result_in m z w =
 short_window : (z e : ℕ) → window_of z e ≤ 300
 short_window z e = omega arith
 
-pub crash_part-is : (m : Signals) (z e : ℕ) → HasSmallSamples m.along → HasSmallSamples m.across → z + 20 ≤ e → e ≤ z + 500 → IsCrash (crash_part m z e)
+pub crash_part-is : (m : Signals) (z e : ℕ) → HasSmallSamples m.along → HasSmallSamples m.across → z + 20 ≤ e → e ≤ z + RESET → IsCrash (crash_part m z e)
 unfolding crash_part
 crash_part-is m z e along across late reset = record {
   end_from = omega (arith, late);
@@ -261,7 +264,7 @@ unfolding sample_at
 across-small xs feed = record { small = λ t v h. size_in_range v (sample_in_range Across 0 (λ x. nat_eq x.moment t) xs v feed h) }
 
 -- the crash part of an event of feeds
-pub crash_part-in_feeds : (f : SensorLists) (z e : ℕ) → AreFeeds f → z + 20 ≤ e → e ≤ z + 500 → IsCrash (crash_part (signals_of f) z e)
+pub crash_part-in_feeds : (f : SensorLists) (z e : ℕ) → AreFeeds f → z + 20 ≤ e → e ≤ z + RESET → IsCrash (crash_part (signals_of f) z e)
 crash_part-in_feeds f z e feeds late reset = crash_part-is (signals_of f) z e (along-small f.along feeds.along) (across-small f.across feeds.across) late reset
 
 -- ---- of commands
@@ -270,8 +273,8 @@ abbrev IsBy : ℕ → Option (Place × ℕ) → Type 0
 IsBy after s = IfSome s (λ x. x.1 ≤ after)
 
 place_in : (place : Place) (before z : ℕ) → before < z → IsPlace (place_after place before z)
-place_in First before z past = by_distance (nat_le (z - before) 5_000) refl where
-  by_distance : (b : Bool) → nat_le (z - before) 5_000 ≡ b → IsPlace (cond b (Second (z - before)) First)
+place_in First before z past = by_distance (nat_le (z - before) LONGEST_PAIR) refl where
+  by_distance : (b : Bool) → nat_le (z - before) LONGEST_PAIR ≡ b → IsPlace (cond b (Second (z - before)) First)
   by_distance true near = (omega (arith, past), grind (arith, near))
   by_distance false far = tt
 place_in (Second d) before z past = tt
@@ -280,7 +283,7 @@ place_of-is : (s : Option (Place × ℕ)) (after z : ℕ) → IsBy after s → a
 place_of-is None after z by past = tt
 place_of-is (Some s) after z by past = place_in s.0 s.1 z (omega (arith, by, past))
 
-module _ (f : SensorLists) (n t : ℕ) (feeds : AreFeeds f) (low : 1 ≤ n) (high : n ≤ 4_294_967_295) (short : t ≤ 86_400_000) where
+module _ (f : SensorLists) (n t : ℕ) (feeds : AreFeeds f) (low : 1 ≤ n) (high : n ≤ 4_294_967_295) (short : t ≤ LATEST_MOMENT) where
   locks_in : (pre : PrePart) (r : Option ℕ) → IsPre pre → All (λ (i : Issue). IsInBounds i.command) (locks_at pre r)
   locks_in pre None is = λ k d within. absurd (omega (arith, within))
   locks_in pre (Some l) is = All-cons (λ (i : Issue). IsInBounds i.command) (record { tick = l; command = Lock pre }) [] is (λ k d within. absurd (omega (arith, within)))

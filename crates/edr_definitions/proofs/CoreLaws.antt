@@ -6,6 +6,7 @@ use Rattle.std.specs.Option.{option_or, IfSome, ForSome}
 use Rattle.std.proofs.lemmas.Bool.{cases_lt}
 use Rattle.std.proofs.lemmas.List.{map-append}
 use Rattle.std.proofs.lemmas.List.Elements.{filter_map-append}
+use Rattle.edr_record.specs.declared.TheConstants.{RESET}
 use Rattle.edr_items.specs.SensorLists.{SensorLists, horizon_of}
 use Rattle.edr_record.specs.declared.Place.{Place}
 use Rattle.edr_record.specs.declared.Place.TheVariants.{First}
@@ -241,9 +242,9 @@ module _ (f : SensorLists) (n t : ℕ) (b : Bounds) (last : Option (Place × ℕ
 
   -- the close is what the end gives, and the end is 20 to 500 ms after time zero
   abbrev CloseIs : Type 0
-  CloseIs = ((pre_after change begun k).key.zero + 20 ≤ after.ended) × (after.ended ≤ (pre_after change begun k).key.zero + 500) × (close_of (pre_after change begun k).key.zero after.ended ≡ t + 1)
+  CloseIs = ((pre_after change begun k).key.zero + 20 ≤ after.ended) × (after.ended ≤ (pre_after change begun k).key.zero + RESET) × (close_of (pre_after change begun k).key.zero after.ended ≡ t + 1)
 
-  close_facts : (c : Candidate) (z e : ℕ) → IsCandidate (signals_of f) b c → z ≡ c.zero_tick → e ≡ c.end_tick → closes_at (t + 1) c ≡ true → (z + 20 ≤ e) × (e ≤ z + 500) × (close_of z e ≡ t + 1)
+  close_facts : (c : Candidate) (z e : ℕ) → IsCandidate (signals_of f) b c → z ≡ c.zero_tick → e ≡ c.end_tick → closes_at (t + 1) c ≡ true → (z + 20 ≤ e) × (e ≤ z + RESET) × (close_of z e ≡ t + 1)
   close_facts c z e is p q h =
       let early = end-after_zero (signals_of f) b c is in
       let late = end-by_reset (signals_of f) b c is in
@@ -441,7 +442,7 @@ module _ (f : SensorLists) (n t : ℕ) (s : Search) (k : CoreState) (begun : Pre
   core-issues = commands-next f n t s h.search_is ∙ ap (λ cs. commands f n t ++ cs) step_is.issues_are
 
 -- where an event closes, its end is 20 to 500 ms after its time zero, and the tick is the close that the end gives
-pub core-closes : (f : SensorLists) (n t : ℕ) (s : Search) (k : CoreState) (begun : PrePart) (change : Change) → CoreStandsFor f n t s k → IsTold f n (t + 1) change begun → change.closed ≡ true → ((pre_after change begun k).key.zero + 20 ≤ (core_after (t + 1) change begun k).ended) × ((core_after (t + 1) change begun k).ended ≤ (pre_after change begun k).key.zero + 500) × (close_of (pre_after change begun k).key.zero (core_after (t + 1) change begun k).ended ≡ t + 1)
+pub core-closes : (f : SensorLists) (n t : ℕ) (s : Search) (k : CoreState) (begun : PrePart) (change : Change) → CoreStandsFor f n t s k → IsTold f n (t + 1) change begun → change.closed ≡ true → ((pre_after change begun k).key.zero + 20 ≤ (core_after (t + 1) change begun k).ended) × ((core_after (t + 1) change begun k).ended ≤ (pre_after change begun k).key.zero + RESET) × (close_of (pre_after change begun k).key.zero (core_after (t + 1) change begun k).ended ≡ t + 1)
 core-closes f n t s k begun change h told =
     let crash = crash_part (signals_of f) (pre_after change begun k).key.zero (core_after (t + 1) change begun k).ended in
     let step = step_is f n t s k begun crash change h told (λ _. refl) in step.close_is

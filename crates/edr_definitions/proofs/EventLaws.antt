@@ -3,6 +3,7 @@ use Rattle.std.proofs.Common.{arith, ◌≡◌, ℕ, ◌+◌, ◌<◌, ◌≤◌
 use Rattle.std.specs.Prelude.{filter_map}
 use Rattle.std.specs.List.{cons_option}
 use Rattle.std.proofs.lemmas.Bool.{cases_lt}
+use Rattle.edr_record.specs.declared.TheConstants.{RESET}
 use Rattle.edr_definitions.specs.Ticks.{IsFirst, HoldsNowhere}
 use Rattle.edr_definitions.specs.Signals.{Signals}
 use Rattle.edr_definitions.specs.Selection.{Bounds, is_triggered, is_time_zero, is_end, Candidate, Event, bounds_after, close_of, event_of, chain, events, at_start}
@@ -28,10 +29,10 @@ end-after_zero m from c is = elim (cases_lt c.end_tick (c.zero_tick + 20)) [
 ]
 
 -- a candidate ends by the reset
-pub end-by_reset : (m : Signals) (from : Bounds) (c : Candidate) → IsCandidate m from c → c.end_tick ≤ c.zero_tick + 500
-end-by_reset m from c is = elim (cases_lt (c.zero_tick + 500) c.end_tick) [
+pub end-by_reset : (m : Signals) (from : Bounds) (c : Candidate) → IsCandidate m from c → c.end_tick ≤ c.zero_tick + RESET
+end-by_reset m from c is = elim (cases_lt (c.zero_tick + RESET) c.end_tick) [
   | inl late ↦
-      let not_there : is_end m c.zero_tick (c.zero_tick + 500) ≡ false = is.end_is.none_before (c.zero_tick + 500) (omega arith) late in
+      let not_there : is_end m c.zero_tick (c.zero_tick + RESET) ≡ false = is.end_is.none_before (c.zero_tick + RESET) (omega arith) late in
       let there = is_end-reset m c.zero_tick in cc
   | inr early ↦ early
 ]

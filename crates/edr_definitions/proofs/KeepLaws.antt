@@ -1,5 +1,6 @@
 -- A core between its ticks: at the start, with one more item, and with a candidate open.
 use Rattle.std.proofs.Common.{arith, refl, ap, subst, ◌≡◌, ◌∙◌, ℕ, ◌+◌, ◌<◌, ◌≤◌, Some, None, Option, []}
+use Rattle.edr_record.specs.declared.TheConstants.{RESET}
 use Rattle.edr_items.specs.declared.Sensor.{Sensor}
 use Rattle.edr_items.specs.declared.Item.{Item}
 use Rattle.edr_items.specs.Item.{refusal_of, mark_of}
@@ -72,10 +73,10 @@ core-accept f n t s k r x accepted h =
 
 -- ---- an open candidate
 -- its time zero is that of the frozen pre part, and the closed tick is less than 500 ms past it
-pub core-open : (f : SensorLists) (n t : ℕ) (s : Search) (k : CoreState) (z : ℕ) (c l e : Option ℕ) → CoreStandsFor f n t s k → s.phase ≡ Open z c l e → (k.frozen.key.zero ≡ z) × (z ≤ t) × (t < z + 500)
+pub core-open : (f : SensorLists) (n t : ℕ) (s : Search) (k : CoreState) (z : ℕ) (c l e : Option ℕ) → CoreStandsFor f n t s k → s.phase ≡ Open z c l e → (k.frozen.key.zero ≡ z) × (z ≤ t) × (t < z + RESET)
 unfolding candidate_at
 core-open f n t s k z c l e h is = by_end e (subst (λ (ph : Phase). PhaseIs (signals_of f) t s.bounds ph) is h.search_is.phase_is) (subst (λ (ph : Phase). OpenIs f n k ph) is h.open_is) where
-  by_end : (e : Option ℕ) → PhaseIs (signals_of f) t s.bounds (Open z c l e) → OpenIs f n k (Open z c l e) → (k.frozen.key.zero ≡ z) × (z ≤ t) × (t < z + 500)
+  by_end : (e : Option ℕ) → PhaseIs (signals_of f) t s.bounds (Open z c l e) → OpenIs f n k (Open z c l e) → (k.frozen.key.zero ≡ z) × (z ≤ t) × (t < z + RESET)
   by_end None p o =
       let m = signals_of f in
       let later = end_later m t z p.2 in

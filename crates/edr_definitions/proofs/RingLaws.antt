@@ -4,6 +4,7 @@ use Rattle.std.specs.Prelude.{is_some}
 use Rattle.std.specs.Option.{option_or}
 use Rattle.std.proofs.lemmas.Bool.{cases_lt}
 use Rattle.std.proofs.lemmas.List.Elements.{filter-append}
+use Rattle.edr_definitions.specs.declared.limits.TheConstants.{LONGEST_AGE}
 use Rattle.edr_items.specs.declared.Sensor.{Sensor}
 use Rattle.edr_items.specs.declared.Item.{Item}
 use Rattle.edr_items.specs.Item.{mark_from, mark_of, IsFeedAfter, IsRising}
@@ -45,15 +46,15 @@ mark-filter p last (x ∷ xs) h = by_test (mark-filter p x.moment xs h.1) (filte
 
 -- ---- old items
 -- an item from before the window does not count
-slot-old : (x : Item) (xs : List Item) (t : ℕ) → x.moment + 100 < t → slot (x ∷ xs) t ≡ slot xs t
+slot-old : (x : Item) (xs : List Item) (t : ℕ) → x.moment + LONGEST_AGE < t → slot (x ∷ xs) t ≡ slot xs t
 unfolding slot
 slot-old x xs t old =
-    let b : (nat_le t (x.moment + 100) && nat_le x.moment t) ≡ false = too_old x.moment t old in rw b refl where
-      too_old : (k t : ℕ) → k + 100 < t → (nat_le t (k + 100) && nat_le k t) ≡ false
+    let b : (nat_le t (x.moment + LONGEST_AGE) && nat_le x.moment t) ≡ false = too_old x.moment t old in rw b refl where
+      too_old : (k t : ℕ) → k + LONGEST_AGE < t → (nat_le t (k + LONGEST_AGE) && nat_le k t) ≡ false
       too_old k t h = grind arith
 
 -- where the newest moment is below t + n - 100, the last n items give the slot of all
-pub slot-newest : (n t last : ℕ) (xs : List Item) → RisesFrom last xs → mark_from last xs + 100 < t + n → slot (newest n xs) t ≡ slot xs t
+pub slot-newest : (n t last : ℕ) (xs : List Item) → RisesFrom last xs → mark_from last xs + LONGEST_AGE < t + n → slot (newest n xs) t ≡ slot xs t
 slot-newest n t last [] rises near = let e : 0 - n ≡ 0 = omega arith in ap (λ k. slot (drop k []) t) e
 slot-newest n t last (x ∷ xs) rises near = by_length (slot-newest n t x.moment xs rises.1 near) (cases_lt (length xs) n) where
   by_length : slot (newest n xs) t ≡ slot xs t → (length xs < n) ⊎ (n ≤ length xs) → slot (newest n (x ∷ xs)) t ≡ slot (x ∷ xs) t
@@ -61,7 +62,7 @@ slot-newest n t last (x ∷ xs) rises near = by_length (slot-newest n t x.moment
   by_length rest (inr many) =
       let e : length (x ∷ xs) - n ≡ suc (length xs - n) = omega arith in
       let grows = length-below_mark x.moment xs rises.1 in
-      let old : x.moment + 100 < t = omega (arith, grows, near, many) in
+      let old : x.moment + LONGEST_AGE < t = omega (arith, grows, near, many) in
       ap (λ k. slot (drop k (x ∷ xs)) t) e ∙ rest ∙ sym (slot-old x xs t old)
 
 -- ---- items without a value
@@ -87,10 +88,10 @@ latest_value-samples p (x ∷ xs) = by_value (latest_value-samples p xs) x.value
 
 slot-samples : (xs : List Item) (t : ℕ) → slot (samples xs) t ≡ slot xs t
 unfolding slot
-slot-samples xs t = latest_value-samples (λ y. nat_le t (y.moment + 100) && nat_le y.moment t) xs
+slot-samples xs t = latest_value-samples (λ y. nat_le t (y.moment + LONGEST_AGE) && nat_le y.moment t) xs
 
 -- a ring of n of the samples of a list gives the slots of the list
-pub slot-captured : (n t : ℕ) (xs : List Item) → RisesFrom 0 (samples xs) → mark_of (samples xs) + 100 < t + n → slot (newest n (samples xs)) t ≡ slot xs t
+pub slot-captured : (n t : ℕ) (xs : List Item) → RisesFrom 0 (samples xs) → mark_of (samples xs) + LONGEST_AGE < t + n → slot (newest n (samples xs)) t ≡ slot xs t
 slot-captured n t xs rises near = slot-newest n t 0 (samples xs) rises near ∙ slot-samples xs t
 
 -- ---- a ring that is given one more item

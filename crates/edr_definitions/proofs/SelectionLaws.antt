@@ -1,6 +1,7 @@
 -- Laws of the selection.
 use Rattle.std.proofs.Common.{arith, refl, ◌≡◌, ℕ, zero, suc, ◌+◌, ◌<◌, ◌≤◌, Bool, ◌⊎◌, inl, inr, true, false, Some, None, Option, MatchOption, [], ◌∷◌, unwrap_or}
 use Rattle.std.proofs.lemmas.Bool.{cases_lt}
+use Rattle.edr_record.specs.declared.TheConstants.{RESET}
 use Rattle.edr_definitions.specs.Ticks.{first_tick, IsFirst, HoldsNowhere}
 use Rattle.edr_definitions.specs.Signals.{Signals}
 use Rattle.edr_definitions.specs.Selection.{Bounds, is_triggered, is_time_zero, is_end, end_of, Candidate, candidate_at, bounds_after, chain_from, chain, at_start}
@@ -13,7 +14,7 @@ unfolding is_time_zero
 is_time_zero-early m from t h = grind arith
 
 -- the reset is an end
-pub is_end-reset : (m : Signals) (z : ℕ) → is_end m z (z + 500) ≡ true
+pub is_end-reset : (m : Signals) (z : ℕ) → is_end m z (z + RESET) ≡ true
 unfolding is_end
 is_end-reset m z = grind arith
 
@@ -42,16 +43,16 @@ nowhere_from_start m from b nowhere = record {
   nowhere_step u hi (inl past) = nowhere.none u (omega arith) hi
   nowhere_step u hi (inr early) = is_time_zero-early m from u early
 
-end_of_step : (m : Signals) (z : ℕ) (r : Option ℕ) → first_tick (is_end m z) z (z + 501) ≡ r → IsFirst (is_end m z) z (unwrap_or r (z + 500))
+end_of_step : (m : Signals) (z : ℕ) (r : Option ℕ) → first_tick (is_end m z) z (z + RESET + 1) ≡ r → IsFirst (is_end m z) z (unwrap_or r (z + RESET))
 end_of_step m z None e =
-    let f : is_end m z (z + 500) ≡ false = (first_tick-none (is_end m z) z (z + 501) e).none (z + 500) (omega arith) (omega arith) in
-    let g = is_end-reset m z in absurd (not_both (is_end m z (z + 500)) f g)
-end_of_step m z (Some t) e = (first_tick-some (is_end m z) z (z + 501) t e).0
+    let f : is_end m z (z + RESET) ≡ false = (first_tick-none (is_end m z) z (z + RESET + 1) e).none (z + RESET) (omega arith) (omega arith) in
+    let g = is_end-reset m z in absurd (not_both (is_end m z (z + RESET)) f g)
+end_of_step m z (Some t) e = (first_tick-some (is_end m z) z (z + RESET + 1) t e).0
 
 -- there is an end, and it is the least tick that is one
 pub end_of-is_first : (m : Signals) (z : ℕ) → IsFirst (is_end m z) z (end_of m z)
 unfolding end_of
-end_of-is_first m z = end_of_step m z (first_tick (is_end m z) z (z + 501)) refl
+end_of-is_first m z = end_of_step m z (first_tick (is_end m z) z (z + RESET + 1)) refl
 
 -- what is found up to a tick, as a fact
 pub first_tick-match : (p : ℕ → Bool) (z e : ℕ) (r : Option ℕ) → first_tick p z (e + 1) ≡ r → MatchOption r (HoldsNowhere p z (e + 1)) (λ t. IsFirst p z t × (t ≤ e))

@@ -2,6 +2,7 @@
 use Rattle.std.proofs.Common.{arith, refl, ap, sym, subst, ◌≡◌, ◌∙◌, ℕ, zero, suc, ◌+◌, ◌<◌, ◌≤◌, ◌⊎◌, inl, inr, Bool, true, false, cond, ◌&&◌, nat_le, ℤ, Some, None, Option, List, [], ◌∷◌, length, filter, get_or}
 use Rattle.std.specs.Prelude.{Contains}
 use Rattle.std.specs.Option.{option_or}
+use Rattle.edr_definitions.specs.declared.limits.TheConstants.{LONGEST_AGE}
 use Rattle.edr_items.specs.declared.Sensor.{Sensor}
 use Rattle.edr_items.specs.declared.Item.{Item}
 use Rattle.edr_items.specs.Item.{IsRising, IsFeedAfter, IsFeed}
@@ -105,16 +106,16 @@ latest_value-some p (x ∷ xs) v rising h = by_test (latest_value-some p xs v (I
   by_test rest false e h = of_others (rest h)
 
 -- ---- the slot
-recent_is : (t : ℕ) (x : Item) → IsRecent t x → (nat_le t (x.moment + 100) && nat_le x.moment t) ≡ true
+recent_is : (t : ℕ) (x : Item) → IsRecent t x → (nat_le t (x.moment + LONGEST_AGE) && nat_le x.moment t) ≡ true
 recent_is t x h = let a = h.0 in let b = h.1 in grind (arith, a, b)
 
-recent_means : (t : ℕ) (x : Item) → (nat_le t (x.moment + 100) && nat_le x.moment t) ≡ true → IsRecent t x
+recent_means : (t : ℕ) (x : Item) → (nat_le t (x.moment + LONGEST_AGE) && nat_le x.moment t) ≡ true → IsRecent t x
 recent_means t x h = (grind (arith, h), grind (arith, h))
 
 pub slot-is_latest : (xs : List Item) (t : ℕ) (v : ℤ) → IsRising xs → slot xs t ≡ Some v → IsLatestSample xs t v
 unfolding slot
 slot-is_latest xs t v rising h =
-    let is = latest_value-some (λ x. nat_le t (x.moment + 100) && nat_le x.moment t) xs v rising h in
+    let is = latest_value-some (λ x. nat_le t (x.moment + LONGEST_AGE) && nat_le x.moment t) xs v rising h in
     record {
       item = is.item;
       in_list = is.in_list;
@@ -125,7 +126,7 @@ slot-is_latest xs t v rising h =
 
 pub slot-has_none : (xs : List Item) (t : ℕ) → slot xs t ≡ None → HasNoSample xs t
 unfolding slot
-slot-has_none xs t h = record { none = λ x inside recent. latest_value-none (λ x. nat_le t (x.moment + 100) && nat_le x.moment t) xs h x inside (recent_is t x recent) }
+slot-has_none xs t h = record { none = λ x inside recent. latest_value-none (λ x. nat_le t (x.moment + LONGEST_AGE) && nat_le x.moment t) xs h x inside (recent_is t x recent) }
 
 -- there is one latest sample
 latest_unique : (xs : List Item) (t : ℕ) (v w : ℤ) → IsRising xs → IsLatestSample xs t v → IsLatestSample xs t w → v ≡ w
@@ -163,8 +164,8 @@ filter_passes p (x ∷ xs) y h = by_test (filter_passes p xs y) (p x) refl h whe
 pub none-is_slot : (xs : List Item) (t : ℕ) → HasNoSample xs t → slot xs t ≡ None
 unfolding slot
 none-is_slot xs t is =
-    latest_absent (filter (λ x. nat_le t (x.moment + 100) && nat_le x.moment t) xs)
-    (λ y inside. let found = filter_passes (λ x. nat_le t (x.moment + 100) && nat_le x.moment t) xs y inside in is.none y found.0 (recent_means t y found.1))
+    latest_absent (filter (λ x. nat_le t (x.moment + LONGEST_AGE) && nat_le x.moment t) xs)
+    (λ y inside. let found = filter_passes (λ x. nat_le t (x.moment + LONGEST_AGE) && nat_le x.moment t) xs y inside in is.none y found.0 (recent_means t y found.1))
 
 -- each item of a feed is past the moment before it
 feed_past : (s : Sensor) (last : ℕ) (xs : List Item) → IsFeedAfter s last xs → (x : Item) → Contains xs x → last < x.moment

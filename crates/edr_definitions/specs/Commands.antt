@@ -1,6 +1,7 @@
 -- The places of the events of a cycle, and the commands that they issue.
 use Rattle.std.specs.Prelude.{ℕ, ◌+◌, ◌-◌, ◌*◌, ◌%◌, ◌≤◌, Bool, not, nat_eq, nat_le, if◌then◌else◌, Option, Some, None, List, [], ◌∷◌, ◌++◌, map, filter, zip, flat_map}
 use Rattle.edr_items.specs.SensorLists.{SensorLists}
+use Rattle.edr_record.specs.declared.TheConstants.{LONGEST_PAIR}
 use Rattle.edr_record.specs.declared.Place.{Place}
 use Rattle.edr_record.specs.declared.Place.TheVariants.{First, Second}
 use Rattle.edr_record.specs.declared.Command.{Command}
@@ -13,7 +14,7 @@ use Rattle.edr_definitions.specs.Parts.{pre_part, crash_part}
 
 -- second after a first event whose time zero is at most 5 s before it, else first (563.5, multi-event crash)
 abbrev pub place_after : Place → ℕ → ℕ → Place
-place_after First before z = if nat_le (z - before) 5_000 then Second (z - before) else First
+place_after First before z = if nat_le (z - before) LONGEST_PAIR then Second (z - before) else First
 place_after (Second _) before z = First
 
 -- the place of an event with time zero z, from the place and the time zero of the event before it, if there is one

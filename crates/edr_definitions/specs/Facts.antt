@@ -5,6 +5,8 @@ use Rattle.edr_items.specs.SensorLists.{SensorLists}
 use Rattle.edr_record.specs.declared.Command.{Command}
 use Rattle.edr_record.specs.declared.Command.TheVariants.{Take, Lock, Done}
 use Rattle.edr_record.specs.Bounds.{IsPre, IsCrash}
+use Rattle.edr_record.specs.declared.TheConstants.{RESET}
+use Rattle.edr_definitions.specs.declared.limits.TheConstants.{LONGEST_AGE, OVER, TRIGGER, QUIET_SQUARES}
 use Rattle.edr_definitions.specs.Ticks.{IsFirst, HoldsNowhere}
 use Rattle.edr_definitions.specs.Signals.{Signals, signals_of}
 use Rattle.edr_definitions.specs.Windows.{delta_v, size_of_change, squares}
@@ -22,17 +24,17 @@ pub record Reaches (axis : ℕ → Option ℤ) (k from t size : ℕ) : Type 0 wh
 -- a restraint fires at t, or a change within 150 ms meets the trigger threshold
 abbrev pub IsTriggered : Signals → ℕ → ℕ → Type 0
 IsTriggered m since t =
-    (m.fired t ≢ 0) ⊎ (Reaches m.along 150 since t 80_000 ⊎ Reaches m.across 150 since t 80_000)
+    (m.fired t ≢ 0) ⊎ (Reaches m.along 150 since t TRIGGER ⊎ Reaches m.across 150 since t TRIGGER)
 
 -- past the bound, a change of over 0.8 km/h along within 20 ms or across within 5 ms, or the trigger
 abbrev pub IsTimeZero : Signals → Bounds → ℕ → Type 0
 IsTimeZero m from t =
-    (from.after < t) × (Reaches m.along 20 from.after t 8_001 ⊎ (Reaches m.across 5 from.after t 8_001 ⊎ IsTriggered m from.since t))
+    (from.after < t) × (Reaches m.along 20 from.after t (OVER + 1) ⊎ (Reaches m.across 5 from.after t (OVER + 1) ⊎ IsTriggered m from.since t))
 
 -- the reset 500 ms after time zero, or, at least 20 ms after it, quiet changes of the last 20 ms
 abbrev pub IsEnd : Signals → ℕ → ℕ → Type 0
 IsEnd m z t =
-    (t ≡ z + 500) ⊎ ((z + 20 ≤ t) × (squares (delta_v m.along (t - 20) t) (delta_v m.across (t - 20) t) ≤ 64_000_000))
+    (t ≡ z + RESET) ⊎ ((z + 20 ≤ t) × (squares (delta_v m.along (t - 20) t) (delta_v m.across (t - 20) t) ≤ QUIET_SQUARES))
 
 -- c is the candidate that the search finds from there on
 pub record IsCandidate (m : Signals) (from : Bounds) (c : Candidate) : Type 0 where
@@ -60,7 +62,7 @@ pub record IsEventAfter (m : Signals) (upto after : ℕ) (e : Event) : Type 0 wh
   pub confirmed_in_time : e.confirmed_tick ≤ upto
   pub confirmed_by_end : e.confirmed_tick ≤ e.end_tick
   pub ends_late : e.zero_tick + 20 ≤ e.end_tick
-  pub ends_by_reset : e.end_tick ≤ e.zero_tick + 500
+  pub ends_by_reset : e.end_tick ≤ e.zero_tick + RESET
   pub closes_late : e.zero_tick + 50 ≤ close_of e.zero_tick e.end_tick
   pub closes_past_end : e.end_tick ≤ close_of e.zero_tick e.end_tick
   pub lock_in_event : (l : ℕ) → lock_of m e.zero_tick e.end_tick ≡ Some l → (e.confirmed_tick ≤ l) × (l ≤ close_of e.zero_tick e.end_tick)
@@ -85,7 +87,7 @@ pub record IsFirstGreatest (f : ℕ → ℕ) (a b t : ℕ) : Type 0 where
 
 -- the item's moment lies in the 100 ms up to t
 abbrev pub IsRecent : ℕ → Item → Type 0
-IsRecent t x = (t ≤ x.moment + 100) × (x.moment ≤ t)
+IsRecent t x = (t ≤ x.moment + LONGEST_AGE) × (x.moment ≤ t)
 
 -- v is the value of a sample of the list in the 100 ms up to t, and no sample there is later
 pub record IsLatestSample (xs : List Item) (t : ℕ) (v : ℤ) : Type 0 where

@@ -5,10 +5,12 @@ use Rattle.std.specs.Int.{bit_at}
 use Rattle.std.specs.List.{range_with_len}
 use Rattle.edr_items.specs.declared.Item.{Item}
 use Rattle.edr_items.specs.SensorLists.{SensorLists}
+use Rattle.edr_record.specs.declared.TheConstants.{SHORT_SLOTS, SINGLE_REACH, SLOT_REACH, SLOT_STEP}
 use Rattle.edr_record.specs.declared.Place.{Place}
 use Rattle.edr_record.specs.declared.Extreme.{Extreme}
 use Rattle.edr_record.specs.Parts.{PrePart, CrashPart}
 use Rattle.edr_record.specs.Bounds.{point_count, most_points}
+use Rattle.edr_definitions.specs.declared.limits.TheConstants.{LONGEST_AGE, STEPS_OF_KMH}
 use Rattle.edr_definitions.specs.Ticks.{ticks, first_tick, greatest}
 use Rattle.edr_definitions.specs.Signals.{Signals}
 use Rattle.edr_definitions.specs.Windows.{delta_v, size_of_change, squares}
@@ -21,11 +23,11 @@ latest_value (x ∷ xs) = option_or (latest_value xs) x.value
 
 -- the slot of a sensor at the tick t: the value of its latest sample of the 100 ms up to t, or absent
 unfoldable pub slot : List Item → ℕ → Option ℤ
-slot xs t = latest_value (filter (λ x. nat_le t (x.moment + 100) && nat_le x.moment t) xs)
+slot xs t = latest_value (filter (λ x. nat_le t (x.moment + LONGEST_AGE) && nat_le x.moment t) xs)
 
 -- the slots at each half second from 5 s before z up to z; a time before the cycle counts as its tick 0, where no feed has a slot (563.7 Table I)
 unfoldable pub slots_before : List Item → ℕ → List (Option ℤ)
-slots_before xs z = map (λ k. slot xs (z + 500 * k - 5000)) (range_with_len 0 11)
+slots_before xs z = map (λ k. slot xs (z + SLOT_STEP * k - SLOT_REACH)) (range_with_len 0 SHORT_SLOTS)
 
 -- slots of a sensor that gives numbers from 0 on
 abbrev pub numbers : List (Option ℤ) → List (Option ℕ)
@@ -47,14 +49,14 @@ pre_part f n place z = record {
   speed = numbers (slots_before f.speed z);
   throttle = numbers (slots_before f.throttle z);
   brake = switches (slots_before f.brake z);
-  belt = switch (slot f.belt (z - 1000));
-  lamp = switch (slot f.lamp (z - 1000));
+  belt = switch (slot f.belt (z - SINGLE_REACH));
+  lamp = switch (slot f.lamp (z - SINGLE_REACH));
 }
 
 -- steps of 0.0001 km/h in whole km/h, rounded half away from zero (563.8, resolution of delta-V)
 abbrev pub kmh_of : ℤ → ℤ
-kmh_of (pos n) = pos ((n + 5_000) / 10_000)
-kmh_of (negsuc n) = neg_ℤ (pos ((suc n + 5_000) / 10_000))
+kmh_of (pos n) = pos ((n + STEPS_OF_KMH / 2) / STEPS_OF_KMH)
+kmh_of (negsuc n) = neg_ℤ (pos ((suc n + STEPS_OF_KMH / 2) / STEPS_OF_KMH))
 
 -- the first of the ticks `a..b` at which f is greatest
 unfoldable pub first_greatest : (ℕ → ℕ) → ℕ → ℕ → ℕ

@@ -1,6 +1,7 @@
 -- Which events the recorder selects from the signals of a cycle.
 use Rattle.std.specs.Prelude.{ℕ, zero, suc, ◌+◌, ◌-◌, min, max, Bool, not, ◌&&◌, ◌||◌, nat_eq, nat_lt, nat_le, if◌then◌else◌, Option, Some, None, unwrap_or, List, [], ◌∷◌, filter_map}
 use Rattle.std.specs.Option.{option_map_or}
+use Rattle.edr_record.specs.declared.TheConstants.{RESET}
 use Rattle.edr_definitions.specs.Ticks.{first_tick}
 use Rattle.edr_definitions.specs.Signals.{Signals}
 use Rattle.edr_definitions.specs.Windows.{delta_v, swing, is_over, meets_trigger, is_quiet}
@@ -23,11 +24,11 @@ is_time_zero m from t =
 -- the reset 500 ms after time zero, or, at least 20 ms after it, quiet changes of the last 20 ms (563.5, end of event time)
 unfoldable pub is_end : Signals → ℕ → ℕ → Bool
 is_end m z t =
-    nat_eq t (z + 500) || (nat_le (z + 20) t && is_quiet (delta_v m.along (t - 20) t) (delta_v m.across (t - 20) t))
+    nat_eq t (z + RESET) || (nat_le (z + 20) t && is_quiet (delta_v m.along (t - 20) t) (delta_v m.across (t - 20) t))
 
 -- the end of the time zero z: the first such tick from z on
 unfoldable pub end_of : Signals → ℕ → ℕ
-end_of m z = unwrap_or (first_tick (is_end m z) z (z + 501)) (z + 500)
+end_of m z = unwrap_or (first_tick (is_end m z) z (z + RESET + 1)) (z + RESET)
 
 -- how far past time zero extremes are looked for: 300 ms, or 30 ms past the end if that is shorter (563.7 Table I, maximum delta-V)
 abbrev pub window_of : ℕ → ℕ → ℕ

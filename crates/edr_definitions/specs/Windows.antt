@@ -1,6 +1,7 @@
 -- Changes of speed over intervals of ticks, in steps of 0.0001 km/h.
 use Rattle.std.specs.Prelude.{ℕ, ◌+◌, ◌-◌, ◌*◌, max, ℤ, pos, Bool, Option, Some, unwrap_or, unsigned_abs, nat_lt, nat_le, ◌&&◌, List, map, filter}
 use Rattle.edr_items.specs.declared.Item.{Item}
+use Rattle.edr_definitions.specs.declared.limits.TheConstants.{OVER, TRIGGER, QUIET_SQUARES}
 use Rattle.edr_definitions.specs.Ticks.{ticks, greatest, int_sum}
 use Rattle.edr_definitions.specs.Signals.{Signals}
 
@@ -31,11 +32,11 @@ swing axis k from t = largest_change axis (max from (t - k)) t
 
 -- a change of over 0.8 km/h (563.5, time zero)
 abbrev pub is_over : ℕ → Bool
-is_over size = nat_lt 8_000 size
+is_over size = nat_lt OVER size
 
 -- a change of at least 8 km/h (563.5, trigger threshold)
 abbrev pub meets_trigger : ℕ → Bool
-meets_trigger size = nat_le 80_000 size
+meets_trigger size = nat_le TRIGGER size
 
 -- the square of the resultant of two changes
 abbrev pub squares : ℤ → ℤ → ℕ
@@ -43,7 +44,7 @@ squares x y = unsigned_abs x * unsigned_abs x + unsigned_abs y * unsigned_abs y
 
 -- a resultant of at most 0.8 km/h (563.5, end of event time)
 abbrev pub is_quiet : ℤ → ℤ → Bool
-is_quiet x y = nat_le (squares x y) 64_000_000
+is_quiet x y = nat_le (squares x y) QUIET_SQUARES
 
 -- the same signals, with a sample of 0 at each tick without one
 abbrev pub filled : Signals → Signals

@@ -1,6 +1,7 @@
 //! Laws of what the recorder keeps from tick to tick, each the contract of a function that does nothing.
 
 ghost use Rattle.std.specs.Prelude.{◌≡◌, ℕ, ◌+◌, ◌<◌, ◌≤◌, List};
+ghost use Rattle.edr_definitions.specs.declared.limits.TheConstants.{LONGEST_AGE};
 ghost use Rattle.edr_items.specs.declared.Item.{Item};
 ghost use Rattle.edr_items.specs.Item.{mark_of};
 ghost use Rattle.edr_definitions.specs.Signals.{Signals};
@@ -24,5 +25,5 @@ pub fn a_crash_part_sees_its_ticks_alone()
 /// The newest n samples of a list give its slots, where the newest of them is less than n - 100 ms past the slot: moments
 /// rise, so what they leave out is at least n ms older than the newest, and more than 100 ms older than the slot.
 pub fn a_ring_gives_the_slots()
-    ensures { (n t : ℕ) (xs : List Item) → RisesFrom 0 (samples xs) → mark_of (samples xs) + 100 < t + n → slot (newest n (samples xs)) t ≡ slot xs t }
+    ensures { (n t : ℕ) (xs : List Item) → RisesFrom 0 (samples xs) → mark_of (samples xs) + LONGEST_AGE < t + n → slot (newest n (samples xs)) t ≡ slot xs t }
 {}

@@ -1,7 +1,10 @@
 //! Laws of the definitions, each the contract of a function that does nothing.
 
 ghost use Rattle.std.specs.Prelude.{◌≡◌, ℕ, ◌+◌, ◌<◌, ◌≤◌, ◌↔◌, Bool, List, Option, Some, None, ℤ, IsTrue, ◌⊎◌, nat_eq, nat_le, [], ◌∷◌, ◌++◌, ◌*◌, ◌/◌, length, map, filter, All, pos, neg_ℤ};
+ghost use Rattle.edr_items.specs.declared.TheConstants.{LATEST_MOMENT};
+ghost use Rattle.edr_record.specs.declared.TheConstants.{RESET};
 ghost use Rattle.edr_items.specs.declared.Sensor.{Sensor};
+ghost use Rattle.edr_definitions.specs.declared.limits.TheConstants.{STEPS_OF_KMH, OVER, TRIGGER, QUIET_SQUARES, LONGEST_AGE};
 ghost use Rattle.edr_items.specs.declared.Item.{Item};
 ghost use Rattle.edr_items.specs.Item.{IsFeed, IsRising, mark_of};
 ghost use Rattle.edr_items.specs.SensorLists.{SensorLists, items_of, with_items, AreFeeds, horizon_of, IsLevel};
@@ -76,15 +79,24 @@ pub fn whole_kmh_are_half_away_from_zero()
     ensures mirrored { (z : ℤ) → kmh_of (neg_ℤ z) ≡ neg_ℤ (kmh_of z) }
 {}
 
+/// The limits are 1 km/h, 0.8 km/h, 8 km/h, a resultant of 0.8 km/h, and 100 ms.
+pub fn limits_are_the_numbers()
+    ensures kmh { STEPS_OF_KMH ≡ 10_000 }
+    ensures over { OVER ≡ 8_000 }
+    ensures trigger { TRIGGER ≡ 80_000 }
+    ensures quiet { QUIET_SQUARES ≡ 64_000_000 }
+    ensures age { LONGEST_AGE ≡ 100 }
+{}
+
 /// The parts of an event of feeds have their fields in their bounds.
 pub fn parts_are_in_bounds()
-    ensures pre { (f : SensorLists) (n z : ℕ) (place : Place) → AreFeeds f → 1 ≤ n → n ≤ 4_294_967_295 → 1 ≤ z → z ≤ 86_400_000 → IsPlace place → IsPre (pre_part f n place z) }
-    ensures crash { (f : SensorLists) (z e : ℕ) → AreFeeds f → z + 20 ≤ e → e ≤ z + 500 → IsCrash (crash_part (signals_of f) z e) }
+    ensures pre { (f : SensorLists) (n z : ℕ) (place : Place) → AreFeeds f → 1 ≤ n → n ≤ 4_294_967_295 → 1 ≤ z → z ≤ LATEST_MOMENT → IsPlace place → IsPre (pre_part f n place z) }
+    ensures crash { (f : SensorLists) (z e : ℕ) → AreFeeds f → z + 20 ≤ e → e ≤ z + RESET → IsCrash (crash_part (signals_of f) z e) }
 {}
 
 /// Each command of a cycle of feeds carries a part in its bounds.
 pub fn commands_are_in_bounds()
-    ensures { (f : SensorLists) (n t : ℕ) → AreFeeds f → 1 ≤ n → n ≤ 4_294_967_295 → t ≤ 86_400_000 → All IsInBounds (commands f n t) }
+    ensures { (f : SensorLists) (n t : ℕ) → AreFeeds f → 1 ≤ n → n ≤ 4_294_967_295 → t ≤ LATEST_MOMENT → All IsInBounds (commands f n t) }
 {}
 
 /// One more event's place stands last, and follows from the place and the time zero of the last event before it.

@@ -5,6 +5,8 @@
 
 ghost use Rattle.std.specs.Prelude.{◌≡◌, ℕ, ◌+◌, ◌<◌, ◌≤◌, true, false, ◌&&◌, ◌||◌, not, Option, None, [], ◌++◌};
 ghost use Rattle.std.specs.Option.{ForSome};
+ghost use Rattle.edr_definitions.specs.declared.limits.TheConstants.{LONGEST_AGE};
+ghost use Rattle.edr_record.specs.declared.TheConstants.{RESET, SLOT_REACH};
 ghost use Rattle.edr_items.specs.declared.TheConstants.{LONGEST_GAP};
 ghost use Rattle.edr_items.specs.declared.Sensor.{Sensor};
 ghost use Rattle.edr_items.specs.declared.Item.{Item};
@@ -94,14 +96,14 @@ pub fn a_crash_part_is_short()
     ensures open { (f : SensorLists) (n t : ℕ) (s : Search) (k : CoreState) (z : ℕ) (c l e : Option ℕ)
         → CoreStandsFor f n t s k
         → s.phase ≡ Open z c l e
-        → (k.frozen.key.zero ≡ z) × (z ≤ t) × (t < z + 500) }
+        → (k.frozen.key.zero ≡ z) × (z ≤ t) × (t < z + RESET) }
     ensures close { (f : SensorLists) (n t : ℕ) (s : Search) (k : CoreState) (begun : PrePart) (change : Change)
         → CoreStandsFor f n t s k
         → IsTold f n (t + 1) change begun
         → change.closed ≡ true
         → let z = (pre_after change begun k).key.zero in
         let e = (core_after (t + 1) change begun k).ended in
-        (z + 20 ≤ e) × (e ≤ z + 500) × (close_of z e ≡ t + 1) }
+        (z + 20 ≤ e) × (e ≤ z + RESET) × (close_of z e ≡ t + 1) }
 {}
 
 /// Where a tick confirms an event, its time zero is past that of the last one.
@@ -113,10 +115,12 @@ pub fn an_event_is_past_the_last_one()
         → ForSome k.linked (λ last. last.1 < (pre_after change begun k).key.zero) }
 {}
 
-/// Rings of the newest 6,200 samples give the pre part of all items, where no mark is further past its time zero than a gap may be.
+/// Rings of the newest samples give the pre part of all items, where no mark is further past its time zero than a gap may be,
+/// and they have room for a sample of each tick from there back to the oldest that a slot may have.
 pub fn rings_give_the_pre_part()
-    ensures { (f : SensorLists) (n z : ℕ) (place : Place)
+    ensures { (room : ℕ) (f : SensorLists) (n z : ℕ) (place : Place)
+        → SLOT_REACH + LONGEST_GAP + LONGEST_AGE < room
         → AreFeeds f
         → ((s : Sensor) → mark_of (items_of s f) ≤ z + LONGEST_GAP)
-        → pre_part (ring_lists 6_200 f) n place z ≡ pre_part f n place z }
+        → pre_part (ring_lists room f) n place z ≡ pre_part f n place z }
 {}

@@ -34,6 +34,7 @@ impl Model for Detect {
 
 impl Detect {
     ghost use Rattle.std.specs.Prelude.{◌≡◌, ◌+◌, ◌<◌, ◌≤◌, [], ◌∷◌, ◌++◌, List, length, unsigned_abs};
+    ghost use Rattle.edr_items.specs.declared.TheConstants.{LATEST_MOMENT};
     ghost use Rattle.edr_definitions.specs.Change.{tick_change};
     ghost use Rattle.edr_detect.specs.Rows.{Row, signals_of_rows};
     ghost use Rattle.edr_detect.specs.Stages.{told_of};
@@ -58,7 +59,7 @@ impl Detect {
     pub fn tick(&mut self, along: i32, across: i32, fired: Restraints) -> Change
         requires along_small { unsigned_abs along ≤ 100_000 }
         requires across_small { unsigned_abs across ≤ 100_000 }
-        requires room { self.old.tick < 86_400_000 }
+        requires room { self.old.tick < LATEST_MOMENT }
         ensures stands { (rows : List Row) → DetectStandsFor self.old rows → DetectStandsFor self.new (rows ++ record { along = along; across = across; fired = fired } ∷ []) }
         ensures answer { (rows : List Row) → DetectStandsFor self.old rows → told_of result ≡ tick_change (signals_of_rows (rows ++ record { along = along; across = across; fired = fired } ∷ [])) (length rows + 1) }
         ensures tick { self.new.tick ≡ self.old.tick + 1 }
@@ -77,7 +78,7 @@ impl Detect {
     fn full_tick(&mut self, along: i32, across: i32, fired: Restraints) -> Change
         requires along_small { unsigned_abs along ≤ 100_000 }
         requires across_small { unsigned_abs across ≤ 100_000 }
-        requires room { self.old.tick < 86_400_000 }
+        requires room { self.old.tick < LATEST_MOMENT }
         ensures stands { (rows : List Row) → DetectStandsFor self.old rows → DetectStandsFor self.new (rows ++ record { along = along; across = across; fired = fired } ∷ []) }
         ensures answer { (rows : List Row) → DetectStandsFor self.old rows → told_of result ≡ tick_change (signals_of_rows (rows ++ record { along = along; across = across; fired = fired } ∷ [])) (length rows + 1) }
         ensures tick { self.new.tick ≡ self.old.tick + 1 }

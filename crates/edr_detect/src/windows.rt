@@ -1,6 +1,7 @@
 //! What the streaming search keeps of the samples.
 
-ghost use Rattle.std.specs.Prelude.{◌≡◌, ℕ, ◌+◌, ◌<◌, ◌≤◌, ℤ, pos, Option, None, IsTrue, false, unsigned_abs};
+ghost use Rattle.std.specs.Prelude.{◌≡◌, ℕ, ◌+◌, ◌-◌, ◌<◌, ◌≤◌, ℤ, pos, Option, None, IsTrue, false, unsigned_abs};
+ghost use Rattle.edr_items.specs.declared.TheConstants.{LATEST_MOMENT};
 ghost use Rattle.edr_definitions.specs.Windows.{swing, change_at};
 ghost use Rattle.edr_window.specs.Changes.{changes};
 ghost use Rattle.edr_window.specs.Swing.{SwingStandsFor};
@@ -8,6 +9,7 @@ ghost use Rattle.edr_window.specs.Swing.{SwingStandsFor};
 use crate::latest::Latest;
 use crate::stage::{Change, Stage, Tests};
 use edr_items::Restraints;
+use edr_record::RESET;
 use edr_units::{over, quiet, trigger};
 use edr_window::Swing;
 
@@ -72,7 +74,7 @@ impl Windows {
     fn push_swings(&mut self, along: i32, across: i32)
         requires along_small { unsigned_abs along ≤ 100_000 }
         requires across_small { unsigned_abs across ≤ 100_000 }
-        requires room { PushedAtMost 86_399_999 self.old }
+        requires room { PushedAtMost (LATEST_MOMENT - 1) self.old }
         ensures stands { (m : Signals) (b : Bounds) (before t : ℕ) → t ≡ before + 1 → b.after ≤ before → b.since ≤ before → change_at m.along t ≡ along → change_at m.across t ≡ across → SwingsStandFor m b before self.old → SwingsStandFor m b t self.new }
         ensures pushed { (n : ℕ) → PushedAtMost n self.old → PushedAtMost (n + 1) self.new }
         ensures latest_along { self.new.latest_along ≡ self.old.latest_along }
@@ -89,7 +91,7 @@ impl Windows {
     pub fn push(&mut self, stage: Stage, t: u32, along: i32, across: i32)
         requires along_small { unsigned_abs along ≤ 100_000 }
         requires across_small { unsigned_abs across ≤ 100_000 }
-        requires room { PushedAtMost 86_399_999 self.old }
+        requires room { PushedAtMost (LATEST_MOMENT - 1) self.old }
         ensures stands { (m : Signals) (b : Bounds) (before : ℕ) → t ≡ before + 1 → b.after ≤ before → b.since ≤ before → BeginsAtRest m → change_at m.along t ≡ along → change_at m.across t ≡ across → WindowsStandFor m b (phase_of stage) before self.old → WindowsStandFor m b (phase_of stage) t self.new }
         ensures pushed { (n : ℕ) → PushedAtMost n self.old → PushedAtMost (n + 1) self.new }
     {
@@ -104,7 +106,7 @@ impl Windows {
     // A further tick at which nothing changes. Only the swings count it, where the last 20 ticks changed nothing either.
     #[inline(always)]
     pub fn rest(&mut self)
-        requires room { PushedAtMost 86_399_999 self.old }
+        requires room { PushedAtMost (LATEST_MOMENT - 1) self.old }
         ensures stands { (m : Signals) (b : Bounds) (p : Phase) (before t : ℕ) → t ≡ before + 1 → b.after ≤ before → b.since ≤ before → BeginsAtRest m → change_at m.along t ≡ pos 0 → change_at m.across t ≡ pos 0 → HoldNothing self.old → WindowsStandFor m b p before self.old → WindowsStandFor m b p t self.new }
         ensures nothing { HoldNothing self.old → HoldNothing self.new }
         ensures pushed { (n : ℕ) → PushedAtMost n self.old → PushedAtMost (n + 1) self.new }
@@ -155,7 +157,7 @@ impl Windows {
         ensures { (m : Signals) (b : Bounds) (p : Phase) → WindowsStandFor m b p t self.now → result ≡ is_end m zero t }
     {
         let passed = t.saturating_sub(zero);
-        passed == 500
+        passed == u32::from(RESET)
             || (passed >= 20
                 && quiet(
                     i64::from(self.latest_along.sum),

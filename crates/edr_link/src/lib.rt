@@ -6,11 +6,8 @@ ghost use Rattle.edr_record.specs.Bounds.{IsPlace};
 ghost use Rattle.edr_definitions.specs.Commands.{place_of, places};
 ghost use Rattle.edr_link.specs.Link.{StandsFor, IsPast};
 
-use edr_record::Place;
+use edr_record::{LONGEST_PAIR, Place};
 use std::marker::Model;
-
-// How far apart the time zeros of a pair of events may be, in milliseconds.
-const LONGEST_PAIR: u32 = 5_000;
 
 /// Gives each event of an ignition cycle its place, one event after the other.
 #[derive(Drop)]

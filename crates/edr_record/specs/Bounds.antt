@@ -1,5 +1,7 @@
 -- Which values the fields of a record may have.
 use Rattle.std.specs.Prelude.{◌≡◌, ℕ, ◌+◌, ◌-◌, ◌/◌, ◌≤◌, min, max, ℤ, pos, unsigned_abs, Option, Some, IfSome, List, length, drop, replicate, slice_get, All}
+use Rattle.edr_items.specs.declared.TheConstants.{LATEST_MOMENT}
+use Rattle.edr_record.specs.declared.TheConstants.{LONGEST_PAIR, RESET, SHORT_SLOTS}
 use Rattle.edr_record.specs.declared.Place.{Place}
 use Rattle.edr_record.specs.declared.Place.TheVariants.{First, Second}
 use Rattle.edr_record.specs.declared.Extreme.{Extreme}
@@ -8,7 +10,7 @@ use Rattle.edr_record.specs.Parts.{PrePart, CrashPart}
 -- a second event begins at most five seconds after the first (563.5, multi-event crash)
 abbrev pub IsPlace : Place → Type 0
 IsPlace First = Unit {0}
-IsPlace (Second after) = (1 ≤ after) × (after ≤ 5_000)
+IsPlace (Second after) = (1 ≤ after) × (after ≤ LONGEST_PAIR)
 
 -- a slot or a time is absent, or at most this number
 abbrev pub IsUpTo : ℕ → Option ℕ → Type 0
@@ -19,13 +21,13 @@ pub record IsPre (p : PrePart) : Type 0 where
   pub cycle_from : 1 ≤ p.key.cycle
   pub cycle_to : p.key.cycle ≤ 4_294_967_295
   pub zero_from : 1 ≤ p.key.zero
-  pub zero_to : p.key.zero ≤ 86_400_000
+  pub zero_to : p.key.zero ≤ LATEST_MOMENT
   pub place : IsPlace p.place
-  pub speeds : length p.speed ≡ 11
+  pub speeds : length p.speed ≡ SHORT_SLOTS
   pub speed : All (IsUpTo 300) p.speed
-  pub throttles : length p.throttle ≡ 11
+  pub throttles : length p.throttle ≡ SHORT_SLOTS
   pub throttle : All (IsUpTo 100) p.throttle
-  pub brakes : length p.brake ≡ 11
+  pub brakes : length p.brake ≡ SHORT_SLOTS
 
 -- how long after time zero extremes and missing samples are looked for, from the time of the end (563.7 Table I, maximum delta-V)
 abbrev pub window_from_end : ℕ → ℕ
@@ -58,7 +60,7 @@ pub record IsExtreme (window : ℕ) (x : Extreme) : Type 0 where
 -- the bounds of a crash part: each follows from its end
 pub record IsCrash (c : CrashPart) : Type 0 where
   pub end_from : 20 ≤ c.end
-  pub end_to : c.end ≤ 500
+  pub end_to : c.end ≤ RESET
   pub along : ArePoints (point_count c.end) c.along
   pub across : ArePoints (point_count c.end) c.across
   pub max_along : IsExtreme (window_from_end c.end) c.max_along

@@ -6,6 +6,24 @@ ghost use Rattle.std.specs.List.{list_all};
 
 use std::marker::Model;
 
+/// How many slots a list of a pre part has.
+pub const SHORT_SLOTS: usize = 11;
+
+/// How far apart two slots are that follow one another, in milliseconds.
+pub const SLOT_STEP: u32 = 500;
+
+/// How far before time zero the first slot lies, in milliseconds. The last one lies at time zero.
+pub const SLOT_REACH: u32 = SLOT_STEP * (SHORT_SLOTS as u32 - 1);
+
+/// How far before time zero the slot of belt and lamp lies, which have one each, in milliseconds.
+pub const SINGLE_REACH: u32 = 1_000;
+
+/// How far apart the time zeros of a pair of events may be, in milliseconds.
+pub const LONGEST_PAIR: u32 = 5_000;
+
+/// How long after time zero an event ends at the latest, in milliseconds: the search for one is reset there.
+pub const RESET: u16 = 500;
+
 /// Names an event: the ignition cycle, and its time zero there in milliseconds.
 #[derive(Clone, Copy, Debug, PartialEq, Eq)]
 pub struct Key {
@@ -26,9 +44,9 @@ pub enum Place {
 pub struct Pre {
     pub key: Key,
     pub place: Place,
-    pub speed: [Option<u16>; 11],
-    pub throttle: [Option<u8>; 11],
-    pub brake: [Option<bool>; 11],
+    pub speed: [Option<u16>; SHORT_SLOTS],
+    pub throttle: [Option<u8>; SHORT_SLOTS],
+    pub brake: [Option<bool>; SHORT_SLOTS],
     pub belt: Option<bool>,
     pub lamp: Option<bool>,
 }
@@ -149,6 +167,17 @@ pub enum Command {
     Done { crash: Crash },
 }
 
+/// Lists have eleven slots, at each half second from 5 s before time zero on, and belt and lamp one, 1 s before it. The two
+/// events of a pair begin at most 5 s apart, and each ends at most half a second past its time zero.
+pub fn times_are_those_of_a_record()
+    ensures slots { SHORT_SLOTS ≡ 11 }
+    ensures step { SLOT_STEP ≡ 500 }
+    ensures reach { SLOT_REACH ≡ 5_000 }
+    ensures single { SINGLE_REACH ≡ 1_000 }
+    ensures pair { LONGEST_PAIR ≡ 5_000 }
+    ensures reset { RESET ≡ 500 }
+{}
+
 #[cfg(test)]
 mod tests {
     use super::*;
@@ -162,9 +191,9 @@ mod tests {
                     zero: 6003,
                 },
                 place: Place::First,
-                speed: [Some(50); 11],
-                throttle: [Some(20); 11],
-                brake: [Some(false); 11],
+                speed: [Some(50); SHORT_SLOTS],
+                throttle: [Some(20); SHORT_SLOTS],
+                brake: [Some(false); SHORT_SLOTS],
                 belt: Some(true),
                 lamp: Some(false),
             },

@@ -5,6 +5,7 @@ mod candidates;
 pub mod laws;
 
 ghost use Rattle.std.specs.Prelude.{◌≡◌, ℕ, ◌+◌, ◌<◌, ◌≤◌, [], ◌∷◌, ◌++◌, List, ℤ, neg_ℤ, unsigned_abs, IsTrue, MatchOption};
+ghost use Rattle.edr_items.specs.declared.TheConstants.{LATEST_MOMENT};
 ghost use Rattle.edr_window.specs.Candidates.{most};
 ghost use Rattle.edr_window.specs.Sums.{IsLeastSum, IsGreatestSum};
 ghost use Rattle.edr_window.specs.Swing.{SwingStandsFor};
@@ -73,7 +74,7 @@ impl<const K: usize> Swing<K> {
     #[inline(always)]
     pub fn push(&mut self, v: i64)
         requires small { unsigned_abs v ≤ 100_000 }
-        requires room { self.old.pushes < 86_400_000 }
+        requires room { self.old.pushes < LATEST_MOMENT }
         ensures stands { (values : List ℤ) → SwingStandsFor K self.old values → SwingStandsFor K self.new (values ++ v ∷ []) }
         ensures pushes { self.new.pushes ≡ self.old.pushes + 1 }
     {
@@ -89,7 +90,7 @@ impl<const K: usize> Swing<K> {
     #[inline(never)]
     fn put(&mut self, v: i64)
         requires small { unsigned_abs v ≤ 100_000 }
-        requires room { self.old.pushes < 86_400_000 }
+        requires room { self.old.pushes < LATEST_MOMENT }
         ensures stands { (values : List ℤ) → SwingStandsFor K self.old values → SwingStandsFor K self.new (values ++ v ∷ []) }
         ensures pushes { self.new.pushes ≡ self.old.pushes + 1 }
     {

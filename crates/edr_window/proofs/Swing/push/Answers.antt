@@ -1,4 +1,5 @@
 use Rattle.std.proofs.Common.{arith, ap, sym, subst, ◌≡◌, ◌∙◌, ◌<◌, pos, [], to_z, of_z, w64}
+use Rattle.edr_items.specs.declared.TheConstants.{LATEST_MOMENT}
 use Rattle.edr_window.specs.Swing.{SwingState, SwingStandsFor}
 use Rattle.edr_window.proofs.SwingLemmas.{stands-rested, holds-rested, back-small}
 use Rattle.edr_window.proofs.Swing.push.Goals as goal
@@ -6,7 +7,7 @@ use Rattle.edr_window.proofs.Swing.push.Goals as goal
 pub invariant_of-self : goal.invariant_of-self
 invariant_of-self g c =
     let q = c.self.inside in
-    let room : q.pushes < 86_400_000 = let r = c.requires.room in let e = ap (λ (s : SwingState). s.pushes) c.self.view_is in omega arith in
+    let room : q.pushes < LATEST_MOMENT = let r = c.requires.room in let e = ap (λ (s : SwingState). s.pushes) c.self.view_is in omega arith in
     holds-rested g.row.K q.pushes q.places q.sum q.high q.low q.rests c.self.invariant c.args.v [] room (c.self.invariant.rests_some c.if-self.true)
 
 pub returns-then-self-clause-stands : goal.returns-then-self-clause-stands

@@ -1,5 +1,6 @@
 use Rattle.std.proofs.Common.{arith, refl, ap, sym, subst, ◌≡◌, ◌∙◌, ◌<◌, pos, neg_ℤ, ◌+ℤ◌, ◌-ℤ◌, unsigned_abs, [], to_z, of_z, w64}
 use Rattle.std.proofs.lemmas.Int.{ints}
+use Rattle.edr_items.specs.declared.TheConstants.{LATEST_MOMENT}
 use Rattle.edr_window.specs.declared.candidates.Earlier.{Earlier}
 use Rattle.edr_window.specs.Swing.{SwingState, SwingStandsFor}
 use Rattle.edr_window.proofs.SwingLemmas.{stands-pushed, holds-pushed, back-small}
@@ -24,7 +25,7 @@ invariant_of-self g c =
     let more_is = back-small (to_z w64 (of_z w64 q.sum) +ℤ to_z w64 (of_z w64 c.args.v)) (omega (arith, ints, e, v_is, small, small_v)) in
     let more = to_z w64 (of_z w64 (to_z w64 (of_z w64 q.sum) +ℤ to_z w64 (of_z w64 c.args.v))) in
     let again : to_z w64 (of_z w64 more) ≡ more = ap (λ z. to_z w64 (of_z w64 z)) more_is ∙ refl in
-    let before : q.pushes < 86_400_000 = let r = c.requires.room in let p = ap (λ (s : SwingState). s.pushes) c.self.view_is in omega arith in
+    let before : q.pushes < LATEST_MOMENT = let r = c.requires.room in let p = ap (λ (s : SwingState). s.pushes) c.self.view_is in omega arith in
     let high = ap (λ (x : Earlier). x.sum) c.first.ensures in
     let low = ap (λ (x : Earlier). x.sum) c.first-2.ensures in
     holds-pushed g.row.K q.pushes q.places q.sum q.high q.low q.rests inv c.args.v [] more c.give.new.self c.give-2.new.self c.are_at_rest-self-inside.result before small_v (omega (arith, ints, e, v_is, more_is))
