@@ -2,7 +2,8 @@
 use Rattle.std.proofs.Common.{◌≡◌, ◌↔◌, inl, refl, sym, ap, ap₂, ◌∙◌, ℕ, zero, suc, ◌+◌, ◌*◌, ◌^◌, ◌<◌, ◌≤◌, max, Bool, true, false, Some, List, [], ◌∷◌, ◌++◌, length, replicate, slice_index, nat_eq, arith}
 use Rattle.std.specs.List.{flat_map}
 use Rattle.edr_record.specs.Bounds.{IsPre, IsCrash, window_from_end, point_count}
-use Rattle.edr_image.specs.PartBytes.{Field, field, damage_of_fields, pre_damage, pre_at, pre_bytes, BeginsPre, crash_fields, crash_damage, crash_at, crash_bytes, BeginsCrash, number_at, IsDamagedAt}
+use Rattle.edr_image.specs.declared.forms.CrashForm.{CrashForm}
+use Rattle.edr_image.specs.PartBytes.{Field, field, damage_of_fields, pre_damage, pre_at, pre_bytes, BeginsPre, crash_fields_by, crash_damage_by, crash_at, crash_bytes_by, BeginsCrashBy, number_at, IsDamagedAt, crash_size}
 use Rattle.edr_codec.specs.declared.rows.Row.{Row}
 use Rattle.edr_codec.specs.Rows.{ranges_of, fields_of, row_size}
 use Rattle.edr_codec.proofs.FieldLemmas.{fields_size, fields_size-replicate}
@@ -121,11 +122,11 @@ pre_damage-means b k long small = (
 abbrev crash_head : List Field
 crash_head = field 2 ((20, 500) ∷ []) ∷ []
 
-abbrev crash_rest : ℕ → List Row
-crash_rest end = axis_rows (point_count end) (axis_rows (point_count end) (last_rows (window_from_end end) (max end (window_from_end end))))
+abbrev crash_rest : CrashForm → ℕ → List Row
+crash_rest form end = axis_rows (point_count end) (axis_rows (point_count end) (last_rows form (window_from_end end) (max end (window_from_end end))))
 
-abbrev crash_tail : List ℕ → List Field
-crash_tail b = flat_map fields_of (crash_rest (number_at b 0 2))
+abbrev crash_tail : CrashForm → List ℕ → List Field
+crash_tail form b = flat_map fields_of (crash_rest form (number_at b 0 2))
 
 change-filled : IsFilled (field 2 ((0, 3_000) ∷ (62_536, 65_535) ∷ []))
 change-filled = two_filled 2 0 3_000 62_536 65_535 (omega arith) (omega arith) (omega arith)
@@ -136,8 +137,8 @@ time-filled last = one_filled 2 0 last (omega arith) (omega arith)
 axis-filled : (count : ℕ) (rest : List Row) → RowsFilled rest → RowsFilled (axis_rows count rest)
 axis-filled count rest are = (time-filled 0, (change-filled, (time-filled 0, are)))
 
-last-filled : (window last : ℕ) → RowsFilled (last_rows window last)
-last-filled window last = (
+last-filled : (form : CrashForm) (window last : ℕ) → RowsFilled (last_rows form window last)
+last-filled form window last = (
   change-filled,
   (
     time-filled window,
@@ -154,49 +155,49 @@ last-filled window last = (
   ),
 )
 
-crash_tail-size : (end : ℕ) → fields_size (flat_map fields_of (crash_rest end)) ≡ 318
-crash_tail-size end =
+crash_tail-size : (form : CrashForm) (end : ℕ) → fields_size (flat_map fields_of (crash_rest form end)) ≡ 134 + form.zeros
+crash_tail-size form end =
     let some = points-some end in
     let few = points-few end in
-    fields_size-rows (crash_rest end) ∙ sizes (point_count end) (window_from_end end) (max end (window_from_end end)) some few where
-      sizes : (count window last : ℕ) → 1 ≤ count → count ≤ 26 → rows_size (axis_rows count (axis_rows count (last_rows window last))) ≡ 318
+    fields_size-rows (crash_rest form end) ∙ sizes (point_count end) (window_from_end end) (max end (window_from_end end)) some few where
+      sizes : (count window last : ℕ) → 1 ≤ count → count ≤ 26 → rows_size (axis_rows count (axis_rows count (last_rows form window last))) ≡ 134 + form.zeros
       sizes count window last some few = omega arith
 
-pub crash_fields-size : (end : ℕ) → fields_size (crash_fields end) ≡ 320
-crash_fields-size end = sym (ap fields_size (crash_table-fields end)) ∙ ap (λ (n : ℕ). 2 + n) (crash_tail-size end)
+pub crash_fields-size : (form : CrashForm) (end : ℕ) → fields_size (crash_fields_by form end) ≡ crash_size form
+crash_fields-size form end = sym (ap fields_size (crash_table-fields form end)) ∙ ap (λ (n : ℕ). 2 + n) (crash_tail-size form end) ∙ (let e : 2 + (134 + form.zeros) ≡ crash_size form = omega arith in e)
 
-crash-is_table : IsTable 320 crash_head crash_tail
-crash-is_table = record {
+crash-is_table : (form : CrashForm) → IsTable (crash_size form) crash_head (crash_tail form)
+crash-is_table form = record {
   head_filled = (one_filled 2 20 500 (omega arith) (omega arith), tt);
   tail_filled = λ b.
       (let end = number_at b 0 2 in
       let count = point_count end in
       let window = window_from_end end in
-      let last = last_rows window (max end window) in
-      rows-filled (crash_rest end) (axis-filled count (axis_rows count last) (axis-filled count last (last-filled window (max end window)))));
+      let last = last_rows form window (max end window) in
+      rows-filled (crash_rest form end) (axis-filled count (axis_rows count last) (axis-filled count last (last-filled form window (max end window)))));
   told = λ b c same.
-      ap (λ (n : ℕ). flat_map fields_of (crash_rest n)) (let e : number_at b 0 2 ≡ number_at c 0 2 = ap₂ (λ (x y : ℕ). x * 256 + (y * 1 + 0)) (same 0 (omega arith)) (same 1 (omega arith)) in e);
-  sizes = λ b. ap (λ (n : ℕ). 2 + n) (crash_tail-size (number_at b 0 2));
+      ap (λ (n : ℕ). flat_map fields_of (crash_rest form n)) (let e : number_at b 0 2 ≡ number_at c 0 2 = ap₂ (λ (x y : ℕ). x * 256 + (y * 1 + 0)) (same 0 (omega arith)) (same 1 (omega arith)) in e);
+  sizes = λ b. ap (λ (n : ℕ). fields_size crash_head + n) (crash_tail-size form (number_at b 0 2)) ∙ (let e : 2 + (134 + form.zeros) ≡ crash_size form = omega arith in e);
 }
 
-crash_damage-table : (b : List ℕ) → crash_damage b 0 ≡ table_damage crash_head crash_tail b
-unfolding crash_damage
-crash_damage-table b = ap (λ (fs : List Field). damage_of_fields b 0 fs) (sym (crash_table-fields (number_at b 0 2)))
+crash_damage-table : (form : CrashForm) (b : List ℕ) → crash_damage_by form b 0 ≡ table_damage crash_head (crash_tail form) b
+unfolding crash_damage_by
+crash_damage-table form b = ap (λ (fs : List Field). damage_of_fields b 0 fs) (sym (crash_table-fields form (number_at b 0 2)))
 
-crash-is_grammar : IsGrammar 320 IsCrash crash_bytes (λ b. crash_at b 0) (table_damage crash_head crash_tail)
-crash-is_grammar = record {
-  same = λ b c k damaged same. table-same 320 crash_head crash_tail b c k crash-is_table damaged same;
-  complete = λ b k long small damaged. table-complete 320 crash_head crash_tail 320 b k crash-is_table long small damaged (omega arith);
-  read_back = λ p is. sym (crash_damage-table (crash_bytes p)) ∙ (crash-read_back p is).1;
+crash-is_grammar : (form : CrashForm) → IsGrammar (crash_size form) IsCrash (crash_bytes_by form) (λ b. crash_at b 0) (table_damage crash_head (crash_tail form))
+crash-is_grammar form = record {
+  same = λ b c k damaged same. table-same (crash_size form) crash_head (crash_tail form) b c k (crash-is_table form) damaged same;
+  complete = λ b k long small damaged. table-complete (crash_size form) crash_head (crash_tail form) (crash_size form) b k (crash-is_table form) long small damaged (omega arith);
+  read_back = λ p is. sym (crash_damage-table form (crash_bytes_by form p)) ∙ (crash-read_back form p is).1;
   written = λ b long small whole.
-      (let whole' = crash_damage-table b ∙ whole in
-      (crash_at-is b whole', sym (crash-written b long (small-bytes b small) whole')));
+      (let whole' = crash_damage-table form b ∙ whole in
+      (crash_at-is form b whole', sym (crash-written form b long (small-bytes b small) whole')));
 }
 
-pub crash_damage-means : (b : List ℕ) (k : ℕ) → length b ≡ 320 → AreSmall b → (crash_damage b 0 ≡ Some k) ↔ IsDamagedAt (BeginsCrash b) k
-crash_damage-means b k long small = (
-  (λ damaged. damage-means 320 IsCrash crash_bytes (λ x. crash_at x 0) (table_damage crash_head crash_tail) b k crash-is_grammar long small (sym (crash_damage-table b) ∙ damaged)),
-  (λ means. crash_damage-table b ∙ means-damage 320 IsCrash crash_bytes (λ x. crash_at x 0) (table_damage crash_head crash_tail) b k crash-is_grammar long small means),
+pub crash_damage-means : (form : CrashForm) (b : List ℕ) (k : ℕ) → length b ≡ crash_size form → AreSmall b → (crash_damage_by form b 0 ≡ Some k) ↔ IsDamagedAt (BeginsCrashBy form b) k
+crash_damage-means form b k long small = (
+  (λ damaged. damage-means (crash_size form) IsCrash (crash_bytes_by form) (λ x. crash_at x 0) (table_damage crash_head (crash_tail form)) b k (crash-is_grammar form) long small (sym (crash_damage-table form b) ∙ damaged)),
+  (λ means. crash_damage-table form b ∙ means-damage (crash_size form) IsCrash (crash_bytes_by form) (λ x. crash_at x 0) (table_damage crash_head (crash_tail form)) b k (crash-is_grammar form) long small means),
 )
 
 -- ---- where damage may lie
@@ -204,5 +205,5 @@ crash_damage-means b k long small = (
 pub pre_damage-within : (b : List ℕ) (k : ℕ) → pre_damage b 0 ≡ Some k → k < 160
 pre_damage-within b k damaged = table-within 160 pre_head pre_tail b k pre-is_table (sym (pre_damage-table b) ∙ damaged)
 
-pub crash_damage-within : (b : List ℕ) (k : ℕ) → crash_damage b 0 ≡ Some k → k < 320
-crash_damage-within b k damaged = table-within 320 crash_head crash_tail b k crash-is_table (sym (crash_damage-table b) ∙ damaged)
+pub crash_damage-within : (form : CrashForm) (b : List ℕ) (k : ℕ) → crash_damage_by form b 0 ≡ Some k → k < crash_size form
+crash_damage-within form b k damaged = table-within (crash_size form) crash_head (crash_tail form) b k (crash-is_table form) (sym (crash_damage-table form b) ∙ damaged)

@@ -6,7 +6,8 @@ use Rattle.std.proofs.lemmas.List.{get_or-drop, get_or-take}
 use Rattle.std.specs.List.{range_with_len}
 use Rattle.std.specs.Option.{option_or}
 use Rattle.edr_record.specs.declared.Extreme.{Extreme}
-use Rattle.edr_image.specs.PartBytes.{Field, can_be_in, damage_of_field, damage_of_fields, pre_fields, pre_damage, pre_at, crash_fields, crash_damage, crash_at, number_at, numbers_at, signed, extreme_at}
+use Rattle.edr_image.specs.declared.forms.CrashForm.{CrashForm}
+use Rattle.edr_image.specs.PartBytes.{Field, can_be_in, damage_of_field, damage_of_fields, pre_fields, pre_damage, pre_at, crash_fields_by, crash_damage_by, crash_at, number_at, numbers_at, signed, extreme_at, crash_size}
 use Rattle.edr_codec.proofs.FieldLemmas.{fields_size}
 use Rattle.edr_codec.proofs.GrammarLaws.{crash_fields-size}
 
@@ -86,24 +87,24 @@ pre_at-moved at bytes part stands =
     let lamp = stands 57 (omega arith) in
     cc
 
-pub crash_damage-moved : (at : ℕ) (bytes part : List ℕ) → StandsAt 320 at bytes part → crash_damage bytes at ≡ option_map (λ k. at + k) (crash_damage part 0)
-unfolding crash_damage
-crash_damage-moved at bytes part stands =
+pub crash_damage-moved : (form : CrashForm) (at : ℕ) (bytes part : List ℕ) → StandsAt (crash_size form) at bytes part → crash_damage_by form bytes at ≡ option_map (λ k. at + k) (crash_damage_by form part 0)
+unfolding crash_damage_by
+crash_damage-moved form at bytes part stands =
     let e : at ≡ at + 0 = omega arith in
     let end = number_at part 0 2 in
-    let size = crash_fields-size end in
-    ap (λ (n : ℕ). damage_of_fields bytes at (crash_fields n)) (ap (λ (i : ℕ). number_at bytes i 2) e ∙ number-moved 320 at bytes part stands 0 2 (omega arith))
-    ∙ ap (λ (i : ℕ). damage_of_fields bytes i (crash_fields end)) e
-    ∙ fields-moved 320 at bytes part stands 0 (crash_fields end) (omega arith)
+    let size = crash_fields-size form end in
+    ap (λ (n : ℕ). damage_of_fields bytes at (crash_fields_by form n)) (ap (λ (i : ℕ). number_at bytes i 2) e ∙ number-moved (crash_size form) at bytes part stands 0 2 (omega arith))
+    ∙ ap (λ (i : ℕ). damage_of_fields bytes i (crash_fields_by form end)) e
+    ∙ fields-moved (crash_size form) at bytes part stands 0 (crash_fields_by form end) (omega arith)
 
-pub crash_at-moved : (at : ℕ) (bytes part : List ℕ) → StandsAt 320 at bytes part → crash_at bytes at ≡ crash_at part 0
+pub crash_at-moved : (form : CrashForm) (at : ℕ) (bytes part : List ℕ) → StandsAt (crash_size form) at bytes part → crash_at bytes at ≡ crash_at part 0
 unfolding crash_at
-crash_at-moved at bytes part stands =
-    let number = λ (i n : ℕ) (room : i + n ≤ 320). number-moved 320 at bytes part stands i n room in
+crash_at-moved form at bytes part stands =
+    let number = λ (i n : ℕ) (room : i + n ≤ crash_size form). number-moved (crash_size form) at bytes part stands i n room in
     let end : number_at bytes at 2 ≡ number_at part 0 2 = ap (λ (i : ℕ). number_at bytes i 2) (let e : at ≡ at + 0 = omega arith in e) ∙ number 0 2 (omega arith) in
-    let along = numbers-moved 320 at bytes part stands 2 2 26 (omega arith) in
-    let across = numbers-moved 320 at bytes part stands 54 2 26 (omega arith) in
-    let extreme = λ (i : ℕ) (room : i + 4 ≤ 320).
+    let along = numbers-moved (crash_size form) at bytes part stands 2 2 26 (omega arith) in
+    let across = numbers-moved (crash_size form) at bytes part stands 54 2 26 (omega arith) in
+    let extreme = λ (i : ℕ) (room : i + 4 ≤ crash_size form).
     (let e : at + i + 2 ≡ at + (i + 2) = omega arith in
     let same : extreme_at bytes (at + i) ≡ extreme_at part i =
     ap₂ (λ (m n : ℕ). let x : Extreme = record { kmh = signed m; at = n } in x) (number i 2 (omega arith)) (ap (λ (j : ℕ). number_at bytes j 2) e ∙ number (i + 2) 2 (omega arith)) in same) in
@@ -112,5 +113,5 @@ crash_at-moved at bytes part stands =
     let result_at = number 114 2 (omega arith) in
     let missing_along = number 116 2 (omega arith) in
     let missing_across = number 118 2 (omega arith) in
-    let fired = numbers-moved 320 at bytes part stands 120 2 8 (omega arith) in
+    let fired = numbers-moved (crash_size form) at bytes part stands 120 2 8 (omega arith) in
     cc

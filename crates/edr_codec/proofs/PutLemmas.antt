@@ -6,7 +6,8 @@ use Rattle.std.proofs.lemmas.List.Concat.{flat_map_single}
 use Rattle.byteorder.specs.Endian.{big_bytes}
 use Rattle.edr_record.specs.Bounds.{IsPre, IsCrash}
 use Rattle.edr_record.specs.Parts.{PrePart, CrashPart}
-use Rattle.edr_image.specs.PartBytes.{pre_bytes, crash_bytes, place_bytes, slot_bytes, switch_byte, signed_bytes, extreme_bytes}
+use Rattle.edr_image.specs.declared.forms.CrashForm.{CrashForm}
+use Rattle.edr_image.specs.PartBytes.{pre_bytes, crash_bytes_by, place_bytes, slot_bytes, switch_byte, signed_bytes, extreme_bytes, crash_size}
 
 -- two single bytes before the last ones
 two-before : (front end : List ℕ) (a b : ℕ) → ((front ++ a ∷ []) ++ b ∷ []) ++ end ≡ front ++ a ∷ b ∷ end
@@ -35,7 +36,7 @@ pre-put p o1 o2 o3 o4 o5 o6 o7 o8 o9 is long e1 e2 e3 e4 e5 e6 e7 e8 e9 =
     let last : take 160 o9 ≡ ((front ++ map switch_byte p.brake ++ switch_byte p.belt ∷ []) ++ switch_byte p.lamp ∷ []) ++ replicate 102 0 = rw (e9, e8, e7, switches) refl in
     sym (take_all 160 o9 (omega arith)) ∙ last ∙ two-before (front ++ map switch_byte p.brake) (replicate 102 0) (switch_byte p.belt) (switch_byte p.lamp)
 
-pub crash-put : (c : CrashPart) (o1 o2 o3 o4 o5 o6 o7 o8 o9 o10 : List ℕ) → IsCrash c → length o10 ≡ 320
+pub crash-put : (form : CrashForm) (c : CrashPart) (o1 o2 o3 o4 o5 o6 o7 o8 o9 o10 : List ℕ) → IsCrash c → length o10 ≡ crash_size form
     → take 2 o1 ≡ big_bytes 2 c.end
     → take (2 + 2 * length c.along) o2 ≡ take 2 o1 ++ flat_map signed_bytes c.along
     → take (54 + 2 * length c.across) o3 ≡ take 54 o2 ++ flat_map signed_bytes c.across
@@ -45,11 +46,11 @@ pub crash-put : (c : CrashPart) (o1 o2 o3 o4 o5 o6 o7 o8 o9 o10 : List ℕ) → 
     → take 118 o7 ≡ take 116 o6 ++ big_bytes 2 c.missing_along
     → take 120 o8 ≡ take 118 o7 ++ big_bytes 2 c.missing_across
     → take (120 + 2 * length c.fired) o9 ≡ take 120 o8 ++ flat_map (slot_bytes 2) c.fired
-    → take 320 o10 ≡ take 136 o9 ++ replicate 184 0
-    → o10 ≡ crash_bytes c
-unfolding crash_bytes
-crash-put c o1 o2 o3 o4 o5 o6 o7 o8 o9 o10 is long e1 e2 e3 e4 e5 e6 e7 e8 e9 e10 =
+    → take (crash_size form) o10 ≡ take 136 o9 ++ replicate form.zeros 0
+    → o10 ≡ crash_bytes_by form c
+unfolding crash_bytes_by
+crash-put form c o1 o2 o3 o4 o5 o6 o7 o8 o9 o10 is long e1 e2 e3 e4 e5 e6 e7 e8 e9 e10 =
     let e2' : take 54 o2 ≡ take 2 o1 ++ flat_map signed_bytes c.along = rw is.along.room at e2 in
     let e3' : take 106 o3 ≡ take 54 o2 ++ flat_map signed_bytes c.across = rw is.across.room at e3 in
     let e9' : take 136 o9 ≡ take 120 o8 ++ flat_map (slot_bytes 2) c.fired = rw is.restraints at e9 in
-    sym (take_all 320 o10 (omega arith)) ∙ rw (e10, e9', e8, e7, e6, e5, e4, e3', e2', e1) refl
+    sym (take_all (crash_size form) o10 (omega arith)) ∙ rw (e10, e9', e8, e7, e6, e5, e4, e3', e2', e1) refl

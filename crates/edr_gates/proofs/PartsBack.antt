@@ -2,6 +2,7 @@
 use Rattle.std.proofs.Common.{◌≡◌, ◌++◌, ℕ, List, replicate, refl, sym, subst}
 use Rattle.edr_record.specs.Bounds.{IsCrash, IsPre}
 use Rattle.edr_record.specs.Parts.{CrashPart, PrePart}
+use Rattle.edr_image.specs.declared.forms.TheConstants.{VERSION_1}
 use Rattle.edr_codec.proofs.CrashLaws.{crash-read_back}
 use Rattle.edr_codec.proofs.PreLaws.{pre-read_back}
 use Rattle.edr_image.specs.PartBytes.{crash_bytes, pre_bytes}
@@ -14,5 +15,5 @@ filling_back piece pre same is =
 
 pub ending_back : (piece : List ℕ) (crash : CrashPart) → piece ≡ crash_bytes crash → IsCrash crash → IsEnding piece crash
 ending_back piece crash same is =
-    let back = crash-read_back crash is in
+    let back = crash-read_back VERSION_1.crash crash is in
     subst (λ (xs : List ℕ). IsEnding xs crash) (sym same) (record { written = refl; long = back.0; part = record { whole = back.1; same = back.2 } })
