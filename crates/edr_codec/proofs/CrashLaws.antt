@@ -8,7 +8,8 @@ use Rattle.byteorder.specs.Numbers.{big_from-lt}
 use Rattle.edr_record.specs.Parts.{CrashPart}
 use Rattle.edr_record.specs.Bounds.{IsCrash, ArePoints, IsChange, window_from_end, point_count}
 use Rattle.edr_record.specs.declared.Extreme.{Extreme}
-use Rattle.edr_image.specs.PartBytes.{Field, damage_of_fields, crash_damage, crash_at, crash_bytes, number_at, signed, unless, extreme_at, signed_bytes, slot_bytes, extreme_bytes}
+use Rattle.edr_image.specs.declared.forms.CrashForm.{CrashForm}
+use Rattle.edr_image.specs.PartBytes.{Field, damage_of_fields, crash_damage_by, crash_at, crash_bytes_by, number_at, signed, unless, extreme_at, signed_bytes, slot_bytes, extreme_bytes, crash_size}
 use Rattle.edr_codec.specs.declared.rows.Row.{Row}
 use Rattle.edr_codec.proofs.RowLemmas.{AreBytes, Lies, RowsLie, rows-whole}
 use Rattle.edr_codec.proofs.NumberLemmas.{number-stands, number-put}
@@ -31,14 +32,14 @@ extreme-stands bytes at are room =
     ∙ append_assoc (take at bytes) first later
     ∙ ap (λ (xs : List ℕ). take at bytes ++ (xs ++ later)) (sym (signed-piece bytes at are))
 
-pub crash-written : (bytes : List ℕ) → length bytes ≡ 320 → AreBytes bytes → crash_damage bytes 0 ≡ None → bytes ≡ crash_bytes (crash_at bytes 0)
+pub crash-written : (form : CrashForm) (bytes : List ℕ) → length bytes ≡ crash_size form → AreBytes bytes → crash_damage_by form bytes 0 ≡ None → bytes ≡ crash_bytes_by form (crash_at bytes 0)
 unfolding crash_at
-crash-written bytes long are whole =
+crash-written form bytes long are whole =
     let end = number_at bytes 0 2 in
-    let lies = crash-lies bytes end (crash-lie bytes whole) in
+    let lies = crash-lies form bytes end (crash-lie form bytes whole) in
     let ends = in_range 20 500 end lies.end_lies in
     let last : max end (window_from_end end) < 0xffff = omega arith in
-    crash-put (crash_at bytes 0) bytes bytes bytes bytes bytes bytes bytes bytes bytes bytes (crash_at-is bytes whole) long
+    crash-put form (crash_at bytes 0) bytes bytes bytes bytes bytes bytes bytes bytes bytes bytes (crash_at-is form bytes whole) long
     (number-stands bytes 0 2 are (omega arith))
     (PieceLemmas.values-stand bytes 2 2 26 signed signed_bytes are (omega arith) (λ k below. signed-piece bytes (2 + 2 * k) are))
     (PieceLemmas.values-stand bytes 54 2 26 signed signed_bytes are (omega arith) (λ k below. signed-piece bytes (54 + 2 * k) are))
@@ -49,12 +50,12 @@ crash-written bytes long are whole =
     (number-stands bytes 118 2 are (omega arith))
     (PieceLemmas.values-stand bytes 120 2 8 (unless 0xffff) (slot_bytes 2) are (omega arith)
     (λ k below. PieceLemmas.slot-number 2 (max end (window_from_end end)) 0xffff (number_at bytes (120 + 2 * k) 2) last refl (lies.last.fired k below)))
-    (PieceLemmas.zeros-stand bytes 136 184 are (omega arith) lies.last.zeros)
+    (subst (λ (n : ℕ). take (136 + n) bytes ≡ take 136 bytes ++ replicate form.zeros 0) (let e : 1 * form.zeros ≡ form.zeros = omega arith in e) (PieceLemmas.zeros-stand bytes 136 form.zeros are (omega arith) lies.last.zeros))
 
 -- ---- what is put is read back
 
 -- the numbers of the fields of a crash part
-pub record CrashNumbers (bytes : List ℕ) (c : CrashPart) : Type 0 where
+pub record CrashNumbers (form : CrashForm) (bytes : List ℕ) (c : CrashPart) : Type 0 where
   pub end_number : number_at bytes 0 2 ≡ c.end
   pub along : (k : ℕ) → k < 26 → number_at bytes (2 + 2 * k) 2 ≡ PieceLemmas.change_code (get_or c.along k (pos 0))
   pub across : (k : ℕ) → k < 26 → number_at bytes (54 + 2 * k) 2 ≡ PieceLemmas.change_code (get_or c.across k (pos 0))
@@ -66,15 +67,15 @@ pub record CrashNumbers (bytes : List ℕ) (c : CrashPart) : Type 0 where
   pub missing_along : number_at bytes 116 2 ≡ c.missing_along
   pub missing_across : number_at bytes 118 2 ≡ c.missing_across
   pub fired : (k : ℕ) → k < 8 → number_at bytes (120 + 2 * k) 2 ≡ PieceLemmas.slot_code 0xffff (get_or c.fired k None)
-  pub zeros : (k : ℕ) → k < 184 → number_at bytes (136 + 1 * k) 1 ≡ 0
+  pub zeros : (k : ℕ) → k < form.zeros → number_at bytes (136 + 1 * k) 1 ≡ 0
 
 -- pieces one behind the other, whichever way they are put together
 nested : (a b c d e f g h i j : List ℕ) → ((((((((a ++ b) ++ c) ++ d) ++ e) ++ f) ++ g) ++ h) ++ i) ++ j ≡ a ++ (b ++ (c ++ (d ++ (e ++ (f ++ (g ++ (h ++ (i ++ j))))))))
 nested a b c d e f g h i j = simp append_assoc
 
-pub crash-numbers : (bytes : List ℕ) (c : CrashPart) → IsCrash c → bytes ≡ crash_bytes c → CrashNumbers bytes c
-unfolding crash_bytes
-crash-numbers bytes c is put =
+pub crash-numbers : (form : CrashForm) (bytes : List ℕ) (c : CrashPart) → IsCrash c → bytes ≡ crash_bytes_by form c → CrashNumbers form bytes c
+unfolding crash_bytes_by
+crash-numbers form bytes c is put =
     let window = window_from_end c.end in
     let small : window ≤ 300 = omega arith in
     let ends = is.end_to in
@@ -82,7 +83,7 @@ crash-numbers bytes c is put =
     let along : List ℕ = flat_map signed_bytes c.along in
     let across : List ℕ = flat_map signed_bytes c.across in
     let fired : List ℕ = flat_map (slot_bytes 2) c.fired in
-    let zeros : List ℕ = replicate 184 0 in
+    let zeros : List ℕ = replicate form.zeros 0 in
     let along_coded = PieceLemmas.changes-coded c.along is.along.changes in
     let across_coded = PieceLemmas.changes-coded c.across is.across.changes in
     let fired_coded = PieceLemmas.slots-coded 2 (max c.end window) 0xffff c.fired (omega arith) (omega arith) refl is.fired in
@@ -119,7 +120,7 @@ crash-numbers bytes c is put =
       missing_along = number-put bytes r118 116 2 c.missing_along s116 (let h = is.missing_along in omega arith);
       missing_across = number-put bytes r120 118 2 c.missing_across s118 (let h = is.missing_across in omega arith);
       fired = λ k below. PieceLemmas.numbers-put bytes zeros 120 2 (slot_bytes 2) (PieceLemmas.slot_code 0xffff) c.fired fired_coded s120 k None (let h = is.restraints in omega arith);
-      zeros = PieceLemmas.zeros-put bytes [] 136 184 (s136 ∙ sym (append-nil zeros));
+      zeros = PieceLemmas.zeros-put bytes [] 136 form.zeros (s136 ∙ sym (append-nil zeros));
     }
 
 -- ---- the numbers lie in their ranges, and say the part
@@ -151,16 +152,16 @@ change-lies-at : (bytes : List ℕ) (at : ℕ) (z : ℤ) → number_at bytes at 
 change-lies-at bytes at z is small = PieceLemmas.lies-at change_ranges (number_at bytes at 2) (PieceLemmas.change_code z) is (PieceLemmas.change-lies z small)
 
 -- the four times behind the greatest change across
-times-lie : (bytes : List ℕ) (c : CrashPart) (window : ℕ) → CrashNumbers bytes c → c.max_across.at ≤ window → c.result_at ≤ window → c.missing_along ≤ window → c.missing_across ≤ window
+times-lie : (form : CrashForm) (bytes : List ℕ) (c : CrashPart) (window : ℕ) → CrashNumbers form bytes c → c.max_across.at ≤ window → c.result_at ≤ window → c.missing_along ≤ window → c.missing_across ≤ window
     → (k : ℕ) → k < 4 → Lies ((0, window) ∷ []) (number_at bytes (112 + 2 * k) 2)
-times-lie bytes c window are a b d e zero below = time-lies bytes 112 window c.max_across.at are.max_across_at a
-times-lie bytes c window are a b d e (suc zero) below = time-lies bytes 114 window c.result_at are.result_at b
-times-lie bytes c window are a b d e (suc (suc zero)) below = time-lies bytes 116 window c.missing_along are.missing_along d
-times-lie bytes c window are a b d e (suc (suc (suc zero))) below = time-lies bytes 118 window c.missing_across are.missing_across e
-times-lie bytes c window are a b d e (suc (suc (suc (suc k)))) below = absurd (omega arith)
+times-lie form bytes c window are a b d e zero below = time-lies bytes 112 window c.max_across.at are.max_across_at a
+times-lie form bytes c window are a b d e (suc zero) below = time-lies bytes 114 window c.result_at are.result_at b
+times-lie form bytes c window are a b d e (suc (suc zero)) below = time-lies bytes 116 window c.missing_along are.missing_along d
+times-lie form bytes c window are a b d e (suc (suc (suc zero))) below = time-lies bytes 118 window c.missing_across are.missing_across e
+times-lie form bytes c window are a b d e (suc (suc (suc (suc k)))) below = absurd (omega arith)
 
-numbers-lie : (bytes : List ℕ) (c : CrashPart) → IsCrash c → CrashNumbers bytes c → CrashLies bytes c.end
-numbers-lie bytes c is are =
+numbers-lie : (form : CrashForm) (bytes : List ℕ) (c : CrashPart) → IsCrash c → CrashNumbers form bytes c → CrashLies form bytes c.end
+numbers-lie form bytes c is are =
     let window = window_from_end c.end in
     let last = max c.end window in
     record {
@@ -171,7 +172,7 @@ numbers-lie bytes c is are =
         max_along = change-lies-at bytes 106 c.max_along.kmh are.max_along is.max_along.change;
         max_along_at = time-lies bytes 108 window c.max_along.at are.max_along_at is.max_along.time;
         max_across = change-lies-at bytes 110 c.max_across.kmh are.max_across is.max_across.change;
-        times = times-lie bytes c window are is.max_across.time is.result_at is.missing_along is.missing_across;
+        times = times-lie form bytes c window are is.max_across.time is.result_at is.missing_along is.missing_across;
         fired = λ k below. PieceLemmas.lies-at ((0, last) ∷ (0xffff, 0xffff) ∷ []) (number_at bytes (120 + 2 * k) 2) (PieceLemmas.slot_code 0xffff (get_or c.fired k None)) (are.fired k below)
             (PieceLemmas.slot-lies last 0xffff (get_or c.fired k None) (is.fired k None (let h = is.restraints in omega arith)));
         zeros = λ k below. PieceLemmas.lies-at ((0, 0) ∷ []) (number_at bytes (136 + 1 * k) 1) 0 (are.zeros k below) PieceLemmas.lies-zero;
@@ -195,11 +196,11 @@ axis-rows bytes at count rest some few lie later =
       ),
     )
 
-crash-rows : (bytes : List ℕ) (end : ℕ) → CrashLies bytes end → RowsLie bytes 0 (crash_table end)
-crash-rows bytes end lies =
+crash-rows : (form : CrashForm) (bytes : List ℕ) (end : ℕ) → CrashLies form bytes end → RowsLie bytes 0 (crash_table form end)
+crash-rows form bytes end lies =
     let count = point_count end in
     let window = window_from_end end in
-    let last = last_rows window (max end window) in
+    let last = last_rows form window (max end window) in
     let rest : RowsLie bytes 106 last = (
       one-row change_ranges bytes 106 lies.last.max_along,
       (
@@ -215,8 +216,8 @@ crash-rows bytes end lies =
           (axis-rows bytes 54 count last (points-some end) (points-few end) lies.across rest),
     )
 
-pub crash-numbers_say : (bytes : List ℕ) (c : CrashPart) → IsCrash c → CrashNumbers bytes c → crash_at bytes 0 ≡ c
-crash-numbers_say bytes c is are =
+pub crash-numbers_say : (form : CrashForm) (bytes : List ℕ) (c : CrashPart) → IsCrash c → CrashNumbers form bytes c → crash_at bytes 0 ≡ c
+crash-numbers_say form bytes c is are =
     let extreme = λ (at : ℕ) (x : Extreme) (change : IsChange x.kmh) (kmh : number_at bytes at 2 ≡ PieceLemmas.change_code x.kmh) (time : number_at bytes (at + 2) 2 ≡ x.at).
     (let same : extreme_at bytes at ≡ x = ap₂ (λ (z : ℤ) (n : ℕ). let y : Extreme = record { kmh = z; at = n } in y) (ap signed kmh ∙ PieceLemmas.change-back x.kmh change) time in same) in
     let points = λ (at count : ℕ) (zs : List ℤ) (points_are : ArePoints count zs) (put : (k : ℕ) → k < 26 → number_at bytes (at + 2 * k) 2 ≡ PieceLemmas.change_code (get_or zs k (pos 0))).
@@ -237,28 +238,28 @@ crash-numbers_say bytes c is are =
     (λ k below. PieceLemmas.slot-back (max c.end window) 0xffff last (get_or c.fired k None) (is.fired k None (let h = is.restraints in omega arith))))))
 
 -- the bytes of a crash part are 320
-pub crash_bytes-of : (c : CrashPart) → IsCrash c → PieceLemmas.AreBytesOf 320 (crash_bytes c)
-unfolding crash_bytes
-crash_bytes-of c is =
+pub crash_bytes-of : (form : CrashForm) (c : CrashPart) → IsCrash c → PieceLemmas.AreBytesOf (crash_size form) (crash_bytes_by form c)
+unfolding crash_bytes_by
+crash_bytes-of form c is =
     let ends = is.end_to in
     let points = λ (zs : List ℤ) (count : ℕ) (are : ArePoints count zs). PieceLemmas.bytes-pieces 2 26 signed_bytes PieceLemmas.change_code zs (PieceLemmas.changes-coded zs are.changes) are.room in
     let fired = PieceLemmas.bytes-pieces 2 8 (slot_bytes 2) (PieceLemmas.slot_code 0xffff) c.fired (PieceLemmas.slots-coded 2 (max c.end (window_from_end c.end)) 0xffff c.fired (omega arith) (omega arith) refl is.fired) is.restraints in
     let extreme = λ (x : Extreme). PieceLemmas.bytes-append (PieceLemmas.bytes-number 2 (PieceLemmas.change_code x.kmh)) (PieceLemmas.bytes-number 2 x.at) in
     PieceLemmas.bytes-append (PieceLemmas.bytes-append (PieceLemmas.bytes-append (PieceLemmas.bytes-append (PieceLemmas.bytes-append (PieceLemmas.bytes-append (PieceLemmas.bytes-append (PieceLemmas.bytes-append (PieceLemmas.bytes-append
     (PieceLemmas.bytes-number 2 c.end) (points c.along (point_count c.end) is.along)) (points c.across (point_count c.end) is.across)) (extreme c.max_along)) (extreme c.max_across))
-    (PieceLemmas.bytes-number 2 c.result_at)) (PieceLemmas.bytes-number 2 c.missing_along)) (PieceLemmas.bytes-number 2 c.missing_across)) fired) (PieceLemmas.bytes-zeros 184)
+    (PieceLemmas.bytes-number 2 c.result_at)) (PieceLemmas.bytes-number 2 c.missing_along)) (PieceLemmas.bytes-number 2 c.missing_across)) fired) (PieceLemmas.bytes-zeros form.zeros)
 
 -- what is read from the bytes of a crash part is this part
-pub crash-read_back : (c : CrashPart) → IsCrash c → (length (crash_bytes c) ≡ 320) × (crash_damage (crash_bytes c) 0 ≡ None) × (crash_at (crash_bytes c) 0 ≡ c)
-unfolding crash_damage
-crash-read_back c is =
-    let bytes = crash_bytes c in
-    let of = crash_bytes-of c is in
-    let numbers = crash-numbers bytes c is refl in
+pub crash-read_back : (form : CrashForm) (c : CrashPart) → IsCrash c → (length (crash_bytes_by form c) ≡ crash_size form) × (crash_damage_by form (crash_bytes_by form c) 0 ≡ None) × (crash_at (crash_bytes_by form c) 0 ≡ c)
+unfolding crash_damage_by
+crash-read_back form c is =
+    let bytes = crash_bytes_by form c in
+    let of = crash_bytes-of form c is in
+    let numbers = crash-numbers form bytes c is refl in
     let end = number_at bytes 0 2 in
-    let lies = subst (λ (n : ℕ). CrashLies bytes n) (sym numbers.end_number) (numbers-lie bytes c is numbers) in
-    let whole = rows-whole bytes 0 (crash_table end) (PieceLemmas.small-bytes bytes of.small) (crash-rows bytes end lies) in (
+    let lies = subst (λ (n : ℕ). CrashLies form bytes n) (sym numbers.end_number) (numbers-lie form bytes c is numbers) in
+    let whole = rows-whole bytes 0 (crash_table form end) (PieceLemmas.small-bytes bytes of.small) (crash-rows form bytes end lies) in (
       of.long,
-      subst (λ (fs : List Field). damage_of_fields bytes 0 fs ≡ None) (crash_table-fields end) whole,
-      crash-numbers_say bytes c is numbers,
+      subst (λ (fs : List Field). damage_of_fields bytes 0 fs ≡ None) (crash_table-fields form end) whole,
+      crash-numbers_say form bytes c is numbers,
     )

@@ -1,5 +1,5 @@
 -- What whole bytes of a crash part say lies in the bounds of one.
-use Rattle.std.proofs.Common.{◌≡◌, inl, inr, refl, sym, ap, ◌∙◌, ℕ, zero, suc, ◌+◌, ◌-◌, ◌*◌, ◌<◌, ◌≤◌, max, ℤ, pos, Option, None, List, [], ◌∷◌, ◌++◌, length, map, drop, replicate, get_or, subst, append_assoc, arith}
+use Rattle.std.proofs.Common.{◌≡◌, inl, inr, refl, sym, ap, ◌∙◌, ℕ, zero, suc, ◌+◌, ◌-◌, ◌*◌, ◌<◌, ◌≤◌, max, ℤ, pos, Option, None, List, [], ◌∷◌, ◌++◌, length, map, drop, replicate, get_or, subst, append_assoc, append-nil, arith}
 use Rattle.std.specs.List.{flat_map, range_with_len}
 use Rattle.std.proofs.lemmas.Bool.{cases_lt, lt-ltb, le-ltb}
 use Rattle.std.proofs.lemmas.Int.{ints}
@@ -9,7 +9,8 @@ use Rattle.std.proofs.lemmas.List.FromFn.{length-map-range_with_len, get_or-map-
 use Rattle.std.proofs.lemmas.Simd.{map-map}
 use Rattle.edr_record.specs.Bounds.{IsCrash, ArePoints, IsChange, IsExtreme, window_from_end, point_count}
 use Rattle.edr_record.specs.declared.Extreme.{Extreme}
-use Rattle.edr_image.specs.PartBytes.{Field, damage_of_fields, crash_fields, crash_damage, crash_at, number_at, numbers_at, signed, unless, extreme_at, change_field, time_field}
+use Rattle.edr_image.specs.declared.forms.CrashForm.{CrashForm}
+use Rattle.edr_image.specs.PartBytes.{Field, damage_of_fields, crash_fields_by, crash_damage_by, crash_at, number_at, numbers_at, signed, unless, extreme_at, change_field, time_field}
 use Rattle.edr_codec.specs.declared.rows.Row.{Row}
 use Rattle.edr_codec.specs.Rows.{fields_of}
 use Rattle.edr_codec.proofs.RowLemmas.{Lies, RowsLie, rows-lie}
@@ -36,49 +37,52 @@ abbrev pub axis_rows : ℕ → List Row → List Row
 axis_rows count rest = time_row 1 0 ∷ change_row (count - 1) ∷ time_row (26 - count) 0 ∷ rest
 
 -- the rows behind both axes
-abbrev pub last_rows : ℕ → ℕ → List Row
-last_rows window last =
+abbrev pub last_rows : CrashForm → ℕ → ℕ → List Row
+last_rows form window last =
     change_row 1
     ∷ time_row 1 window
     ∷ change_row 1
     ∷ time_row 4 window
     ∷ two_ranges 8 2 (0, last) (0xffff, 0xffff)
-    ∷ one_range 184 1 (0, 0)
+    ∷ one_range form.zeros 1 (0, 0)
     ∷ []
 
 -- the rows of a crash part, by its number of points, its window and its last time
-abbrev pub rows_by : ℕ → ℕ → ℕ → List Row
-rows_by count window last = one_range 1 2 (20, 500) ∷ axis_rows count (axis_rows count (last_rows window last))
+abbrev pub rows_by : CrashForm → ℕ → ℕ → ℕ → List Row
+rows_by form count window last = one_range 1 2 (20, 500) ∷ axis_rows count (axis_rows count (last_rows form window last))
 
-abbrev pub crash_table : ℕ → List Row
-crash_table end = rows_by (point_count end) (window_from_end end) (max end (window_from_end end))
+abbrev pub crash_table : CrashForm → ℕ → List Row
+crash_table form end = rows_by form (point_count end) (window_from_end end) (max end (window_from_end end))
 
 -- the points of both axes, whichever way they are put together
 regrouped : (first : Field) (changes past middle last : List Field)
     → changes ++ (past ++ (first ∷ (changes ++ (past ++ (middle ++ last))))) ≡ (((changes ++ past) ++ (first ∷ (changes ++ past))) ++ middle) ++ last
 regrouped first changes past middle last = simp append_assoc
 
-pub crash_table-fields : (end : ℕ) → flat_map fields_of (crash_table end) ≡ crash_fields end
-crash_table-fields end =
+pub crash_table-fields : (form : CrashForm) (end : ℕ) → flat_map fields_of (crash_table form end) ≡ crash_fields_by form end
+crash_table-fields form end =
     let window = window_from_end end in
     let time = time_field window in
     let last : Field = record { size = 2; ranges = (0, max end window) ∷ (0xffff, 0xffff) ∷ [] } in
+    let changes = replicate (point_count end - 1) change_field in
+    let past = replicate (26 - point_count end) (time_field 0) in
+    let middle = change_field ∷ time ∷ change_field ∷ time ∷ time ∷ time ∷ time ∷ replicate 8 last in
+    let behind : List Field = replicate form.zeros (record { size = 1; ranges = (0, 0) ∷ [] }) in
     ap (λ (fs : List Field). (record { size = 2; ranges = (20, 500) ∷ [] }) ∷ time_field 0 ∷ fs)
-    (regrouped (time_field 0) (replicate (point_count end - 1) change_field) (replicate (26 - point_count end) (time_field 0))
-    (change_field ∷ time ∷ change_field ∷ time ∷ time ∷ time ∷ time ∷ replicate 8 last) (replicate 184 (record { size = 1; ranges = (0, 0) ∷ [] })))
+    (ap (λ (xs : List Field). changes ++ (past ++ (time_field 0 ∷ (changes ++ (past ++ (middle ++ xs)))))) (append-nil behind) ∙ regrouped (time_field 0) changes past middle behind)
 
 -- the damage of a crash part is that of the fields that its end gives
-pub crash_damage-is : (bytes : List ℕ) (end : ℕ) (fs : List Field) → end ≡ number_at bytes 0 2 → fs ≡ crash_fields end → crash_damage bytes 0 ≡ damage_of_fields bytes 0 fs
-unfolding crash_damage
-crash_damage-is bytes end fs end_is are = ap (λ (e : ℕ). damage_of_fields bytes 0 (crash_fields e)) (sym end_is) ∙ ap (λ (x : List Field). damage_of_fields bytes 0 x) (sym are)
+pub crash_damage-is : (form : CrashForm) (bytes : List ℕ) (end : ℕ) (fs : List Field) → end ≡ number_at bytes 0 2 → fs ≡ crash_fields_by form end → crash_damage_by form bytes 0 ≡ damage_of_fields bytes 0 fs
+unfolding crash_damage_by
+crash_damage-is form bytes end fs end_is are = ap (λ (e : ℕ). damage_of_fields bytes 0 (crash_fields_by form e)) (sym end_is) ∙ ap (λ (x : List Field). damage_of_fields bytes 0 x) (sym are)
 
 -- whole bytes fit the table
-pub crash-lie : (bytes : List ℕ) → crash_damage bytes 0 ≡ None → RowsLie bytes 0 (crash_table (number_at bytes 0 2))
-unfolding crash_damage
-crash-lie bytes whole =
+pub crash-lie : (form : CrashForm) (bytes : List ℕ) → crash_damage_by form bytes 0 ≡ None → RowsLie bytes 0 (crash_table form (number_at bytes 0 2))
+unfolding crash_damage_by
+crash-lie form bytes whole =
     let end = number_at bytes 0 2 in
-    rows-lie bytes 0 (crash_table end) refl
-    (subst (λ (fs : List Field). damage_of_fields bytes 0 fs ≡ None) (sym (crash_table-fields end)) whole)
+    rows-lie bytes 0 (crash_table form end) refl
+    (subst (λ (fs : List Field). damage_of_fields bytes 0 fs ≡ None) (sym (crash_table-fields form end)) whole)
 
 -- ---- what the numbers are
 
@@ -92,20 +96,20 @@ pub record PointsLie (bytes : List ℕ) (at count : ℕ) : Type 0 where
   pub past : (k : ℕ) → count ≤ k → k < 26 → Lies ((0, 0) ∷ []) (number_at bytes (at + 2 * k) 2)
 
 -- the numbers behind both axes
-pub record LastLie (bytes : List ℕ) (window last : ℕ) : Type 0 where
+pub record LastLie (form : CrashForm) (bytes : List ℕ) (window last : ℕ) : Type 0 where
   pub max_along : Lies change_ranges (number_at bytes 106 2)
   pub max_along_at : Lies ((0, window) ∷ []) (number_at bytes 108 2)
   pub max_across : Lies change_ranges (number_at bytes 110 2)
   pub times : (k : ℕ) → k < 4 → Lies ((0, window) ∷ []) (number_at bytes (112 + 2 * k) 2)
   pub fired : (k : ℕ) → k < 8 → Lies ((0, last) ∷ (0xffff, 0xffff) ∷ []) (number_at bytes (120 + 2 * k) 2)
-  pub zeros : (k : ℕ) → k < 184 → Lies ((0, 0) ∷ []) (number_at bytes (136 + 1 * k) 1)
+  pub zeros : (k : ℕ) → k < form.zeros → Lies ((0, 0) ∷ []) (number_at bytes (136 + 1 * k) 1)
 
 -- the numbers of a crash part
-pub record CrashLies (bytes : List ℕ) (end : ℕ) : Type 0 where
+pub record CrashLies (form : CrashForm) (bytes : List ℕ) (end : ℕ) : Type 0 where
   pub end_lies : Lies ((20, 500) ∷ []) (number_at bytes 0 2)
   pub along : PointsLie bytes 2 (point_count end)
   pub across : PointsLie bytes 54 (point_count end)
-  pub last : LastLie bytes (window_from_end end) (max end (window_from_end end))
+  pub last : LastLie form bytes (window_from_end end) (max end (window_from_end end))
 
 moved : (ranges : List (ℕ × ℕ)) (bytes : List ℕ) (p q : ℕ) → p ≡ q → Lies ranges (number_at bytes p 2) → Lies ranges (number_at bytes q 2)
 moved ranges bytes p q same lies = subst (λ (x : ℕ). Lies ranges (number_at bytes x 2)) same lies
@@ -120,10 +124,10 @@ axis-lies bytes at count rest some few lie = (
   subst (λ (x : ℕ). RowsLie bytes x rest) (let e : at + 2 * 1 + 2 * (count - 1) + 2 * (26 - count) ≡ at + 52 = omega arith in e) lie.1.1.1,
 )
 
-pub crash-lies : (bytes : List ℕ) (end : ℕ) → RowsLie bytes 0 (crash_table end) → CrashLies bytes end
-crash-lies bytes end lie =
+pub crash-lies : (form : CrashForm) (bytes : List ℕ) (end : ℕ) → RowsLie bytes 0 (crash_table form end) → CrashLies form bytes end
+crash-lies form bytes end lie =
     let count = point_count end in
-    let last = last_rows (window_from_end end) (max end (window_from_end end)) in
+    let last = last_rows form (window_from_end end) (max end (window_from_end end)) in
     let along = axis-lies bytes 2 count (axis_rows count last) (points-some end) (points-few end) lie.1 in
     let across = axis-lies bytes 54 count last (points-some end) (points-few end) along.1 in
     let rest = across.1 in
@@ -190,12 +194,12 @@ extreme-is : (bytes : List ℕ) (at window : ℕ) → Lies change_ranges (number
     → IsExtreme window (record { kmh = signed (number_at bytes at 2); at = number_at bytes (at + 2) 2 })
 extreme-is bytes at window change time = record { change = signed-change (number_at bytes at 2) change; time = (in_range 0 window (number_at bytes (at + 2) 2) time).1 }
 
-pub crash_at-is : (bytes : List ℕ) → crash_damage bytes 0 ≡ None → IsCrash (crash_at bytes 0)
+pub crash_at-is : (form : CrashForm) (bytes : List ℕ) → crash_damage_by form bytes 0 ≡ None → IsCrash (crash_at bytes 0)
 unfolding crash_at
-crash_at-is bytes whole =
+crash_at-is form bytes whole =
     let end = number_at bytes 0 2 in
     let window = window_from_end end in
-    let lies = crash-lies bytes end (crash-lie bytes whole) in
+    let lies = crash-lies form bytes end (crash-lie form bytes whole) in
     let times = in_range 20 500 end lies.end_lies in
     record {
       end_from = times.0;

@@ -1,6 +1,6 @@
 -- The damage of fields is told by the bytes up to it, and another byte in its place lets them go on.
 use Rattle.std.proofs.Common.{◌≡◌, ◌≢◌, ◌⊎◌, inl, inr, refl, sym, ap, ◌∙◌, ℕ, zero, suc, ◌+◌, ◌-◌, ◌*◌, ◌/◌, ◌^◌, ◌<◌, ◌≤◌, max, Bool, true, false, ◌&&◌, Option, Some, None, List, [], ◌∷◌, length, set, slice_index, nat_le, nat_lt, if◌then◌else◌, subst, arith}
-use Rattle.std.proofs.Math.Nat.{div-mul-le_self, lt-div-mul-add, add-mul, pow-suc, mul_comm, one-le-pow}
+use Rattle.std.proofs.Math.Nat.{div-mul-le_self, lt-div-mul-add, add-mul, pow-suc, mul_comm}
 use Rattle.std.proofs.lemmas.Nat.{div_below}
 use Rattle.std.proofs.lemmas.List.{get_or-set_same, get_or-set_other}
 use Rattle.std.proofs.lemmas.Bool.{false≢true, or_cases, and_parts, leb-true, ltb-true}

@@ -1,6 +1,7 @@
 pub mod FieldLemmas
 pub mod RowLemmas
 pub mod PreLemmas
+pub mod VersionLemmas
 pub mod PutLemmas
 pub mod CrashLemmas
 pub mod NumberLemmas

@@ -1,14 +1,19 @@
 -- A part that stands in further bytes is damaged, and says, what its own bytes are and say.
-use Rattle.std.proofs.Common.{◌≡◌, inl, inr, refl, sym, ap, ap₂, ◌∙◌, ℕ, zero, suc, ◌+◌, ◌-◌, ◌*◌, ◌<◌, ◌≤◌, Option, Some, None, option_map, List, [], ◌∷◌, map, take, drop, slice_index, slice_range, arith}
+use Rattle.std.proofs.Common.{◌≡◌, inl, inr, refl, sym, ap, ap₂, ◌∙◌, ℕ, zero, suc, ◌+◌, ◌-◌, ◌*◌, ◌<◌, ◌≤◌, Option, Some, None, option_map, List, [], ◌∷◌, map, take, drop, slice_index, slice_range, nat_eq, if◌then◌else◌, arith}
 use Rattle.std.proofs.Math.Nat.{mul-le-mul_left, mul-suc}
 use Rattle.std.proofs.lemmas.Bool.{cases_Bool}
 use Rattle.std.proofs.lemmas.List.{get_or-drop, get_or-take}
 use Rattle.std.specs.List.{range_with_len}
 use Rattle.std.specs.Option.{option_or}
 use Rattle.edr_record.specs.declared.Extreme.{Extreme}
-use Rattle.edr_image.specs.PartBytes.{Field, can_be_in, damage_of_field, damage_of_fields, pre_fields, pre_damage, pre_at, crash_fields, crash_damage, crash_at, number_at, numbers_at, signed, extreme_at}
+use Rattle.edr_record.specs.declared.Place.{Place}
+use Rattle.edr_record.specs.declared.Place.TheVariants.{First, Second}
+use Rattle.edr_image.specs.declared.forms.CrashForm.{CrashForm}
+use Rattle.edr_image.specs.declared.forms.PreForm.{PreForm}
+use Rattle.edr_image.specs.PartBytes.{Field, can_be_in, damage_of_field, damage_of_fields, pre_size, slots_of, throttle_at, brake_at, belt_at, lamp_at, IsPreForm, pre_fields_by, pre_damage_by, pre_at_by, crash_fields_by, crash_damage_by, crash_at, number_at, numbers_at, signed, unless, switch_from, extreme_at, crash_size}
 use Rattle.edr_codec.proofs.FieldLemmas.{fields_size}
-use Rattle.edr_codec.proofs.GrammarLaws.{crash_fields-size}
+use Rattle.edr_codec.proofs.PreLemmas.{part-same}
+use Rattle.edr_codec.proofs.GrammarLaws.{crash_fields-size, pre_fields-size}
 
 -- the bytes from a place on are those of the part, as many as it has
 abbrev pub StandsAt : ℕ → ℕ → List ℕ → List ℕ → Type 0
@@ -62,48 +67,68 @@ fields-moved size at bytes part stands i (f ∷ fs) room =
     let later = fields-moved size at bytes part stands (i + f.size) fs (omega arith) in
     rw (first, e, later) (map-or at (damage_of_field f.ranges part i 0 f.size) (damage_of_fields part (i + f.size) fs))
 
-pub pre_damage-moved : (at : ℕ) (bytes part : List ℕ) → StandsAt 160 at bytes part → pre_damage bytes at ≡ option_map (λ k. at + k) (pre_damage part 0)
-unfolding pre_damage
-pre_damage-moved at bytes part stands =
+pub pre_damage-moved : (form : PreForm) → IsPreForm form → (at : ℕ) (bytes part : List ℕ) → StandsAt (pre_size form) at bytes part → pre_damage_by form bytes at ≡ option_map (λ k. at + k) (pre_damage_by form part 0)
+unfolding pre_damage_by
+pre_damage-moved form is at bytes part stands =
     let e : at ≡ at + 0 = omega arith in
-    let fields = pre_fields (slice_index part 8) in
-    ap (λ (n : ℕ). damage_of_fields bytes at (pre_fields n)) (stands 8 (omega arith))
+    let place = slice_index part 8 in
+    let profile = slice_index part 9 in
+    let fields = pre_fields_by form place profile in
+    let size = pre_fields-size form place profile is in
+    ap₂ (λ (m n : ℕ). damage_of_fields bytes at (pre_fields_by form m n)) (stands 8 (omega arith)) (stands 9 (omega arith))
     ∙ ap (λ (i : ℕ). damage_of_fields bytes i fields) e
-    ∙ fields-moved 160 at bytes part stands 0 fields (omega arith)
+    ∙ fields-moved (pre_size form) at bytes part stands 0 fields (omega arith)
 
-pub pre_at-moved : (at : ℕ) (bytes part : List ℕ) → StandsAt 160 at bytes part → pre_at bytes at ≡ pre_at part 0
-unfolding pre_at
-pre_at-moved at bytes part stands =
-    let number = λ (i n : ℕ) (room : i + n ≤ 160). number-moved 160 at bytes part stands i n room in
+pub pre_at-moved : (form : PreForm) → IsPreForm form → (at : ℕ) (bytes part : List ℕ) → StandsAt (pre_size form) at bytes part → pre_at_by form bytes at ≡ pre_at_by form part 0
+unfolding pre_at_by
+pre_at-moved form is at bytes part stands =
+    let size = pre_size form in
+    let number = λ (i n : ℕ) (room : i + n ≤ size). number-moved size at bytes part stands i n room in
     let start : number_at bytes at 4 ≡ number_at part 0 4 = ap (λ (i : ℕ). number_at bytes i 4) (let e : at ≡ at + 0 = omega arith in e) ∙ number 0 4 (omega arith) in
     let time = number 4 4 (omega arith) in
     let place = stands 8 (omega arith) in
+    let profile = stands 9 (omega arith) in
     let after = number 10 2 (omega arith) in
-    let speed = numbers-moved 160 at bytes part stands 12 2 11 (omega arith) in
-    let throttle = numbers-moved 160 at bytes part stands 34 1 11 (omega arith) in
-    let brake = numbers-moved 160 at bytes part stands 45 1 11 (omega arith) in
-    let belt = stands 56 (omega arith) in
-    let lamp = stands 57 (omega arith) in
-    cc
+    let n = slots_of form (slice_index part 9) in
+    let fits : n ≤ form.room = is.room (slice_index part 9) in
+    let from = λ (i : ℕ). (let e : i ≡ 0 + i = omega arith in e) in
+    let list = λ (i each : ℕ) (room : i + each * n ≤ size).
+    (let moved : numbers_at bytes (at + i) each (slots_of form (slice_index bytes (at + 9))) ≡ numbers_at part (0 + i) each n =
+    ap (λ (b : ℕ). numbers_at bytes (at + i) each (slots_of form b)) profile ∙ numbers-moved size at bytes part stands i each n room ∙ ap (λ (k : ℕ). numbers_at part k each n) (from i) in moved) in
+    let switch = λ (i : ℕ) (room : i < size).
+    (let moved : switch_from (slice_index bytes (at + i)) ≡ switch_from (slice_index part (0 + i)) = ap switch_from (stands i room ∙ ap (slice_index part) (from i)) in moved) in
+    part-same (number_at bytes at 4) (number_at part 0 4) (number_at bytes (at + 4) 4) (number_at part 4 4)
+    (if nat_eq (slice_index bytes (at + 8)) 1 then First else Second (number_at bytes (at + 10) 2)) (if nat_eq (slice_index part 8) 1 then First else Second (number_at part 10 2))
+    (map (unless 0xffff) (numbers_at bytes (at + 12) 2 (slots_of form (slice_index bytes (at + 9))))) (map (unless 0xffff) (numbers_at part 12 2 n))
+    (map (unless 0xff) (numbers_at bytes (at + throttle_at form) 1 (slots_of form (slice_index bytes (at + 9))))) (map (unless 0xff) (numbers_at part (0 + throttle_at form) 1 n))
+    (map switch_from (numbers_at bytes (at + brake_at form) 1 (slots_of form (slice_index bytes (at + 9))))) (map switch_from (numbers_at part (0 + brake_at form) 1 n))
+    (switch_from (slice_index bytes (at + belt_at form))) (switch_from (slice_index part (0 + belt_at form)))
+    (switch_from (slice_index bytes (at + lamp_at form))) (switch_from (slice_index part (0 + lamp_at form)))
+    start time (ap₂ (λ (p a : ℕ). let q : Place = if nat_eq p 1 then First else Second a in q) place after)
+    (ap (map (unless 0xffff)) (list 12 2 (omega arith)))
+    (ap (map (unless 0xff)) (list (throttle_at form) 1 (omega arith)))
+    (ap (map switch_from) (list (brake_at form) 1 (omega arith)))
+    (switch (belt_at form) (omega arith))
+    (switch (lamp_at form) (omega arith))
 
-pub crash_damage-moved : (at : ℕ) (bytes part : List ℕ) → StandsAt 320 at bytes part → crash_damage bytes at ≡ option_map (λ k. at + k) (crash_damage part 0)
-unfolding crash_damage
-crash_damage-moved at bytes part stands =
+pub crash_damage-moved : (form : CrashForm) (at : ℕ) (bytes part : List ℕ) → StandsAt (crash_size form) at bytes part → crash_damage_by form bytes at ≡ option_map (λ k. at + k) (crash_damage_by form part 0)
+unfolding crash_damage_by
+crash_damage-moved form at bytes part stands =
     let e : at ≡ at + 0 = omega arith in
     let end = number_at part 0 2 in
-    let size = crash_fields-size end in
-    ap (λ (n : ℕ). damage_of_fields bytes at (crash_fields n)) (ap (λ (i : ℕ). number_at bytes i 2) e ∙ number-moved 320 at bytes part stands 0 2 (omega arith))
-    ∙ ap (λ (i : ℕ). damage_of_fields bytes i (crash_fields end)) e
-    ∙ fields-moved 320 at bytes part stands 0 (crash_fields end) (omega arith)
+    let size = crash_fields-size form end in
+    ap (λ (n : ℕ). damage_of_fields bytes at (crash_fields_by form n)) (ap (λ (i : ℕ). number_at bytes i 2) e ∙ number-moved (crash_size form) at bytes part stands 0 2 (omega arith))
+    ∙ ap (λ (i : ℕ). damage_of_fields bytes i (crash_fields_by form end)) e
+    ∙ fields-moved (crash_size form) at bytes part stands 0 (crash_fields_by form end) (omega arith)
 
-pub crash_at-moved : (at : ℕ) (bytes part : List ℕ) → StandsAt 320 at bytes part → crash_at bytes at ≡ crash_at part 0
+pub crash_at-moved : (form : CrashForm) (at : ℕ) (bytes part : List ℕ) → StandsAt (crash_size form) at bytes part → crash_at bytes at ≡ crash_at part 0
 unfolding crash_at
-crash_at-moved at bytes part stands =
-    let number = λ (i n : ℕ) (room : i + n ≤ 320). number-moved 320 at bytes part stands i n room in
+crash_at-moved form at bytes part stands =
+    let number = λ (i n : ℕ) (room : i + n ≤ crash_size form). number-moved (crash_size form) at bytes part stands i n room in
     let end : number_at bytes at 2 ≡ number_at part 0 2 = ap (λ (i : ℕ). number_at bytes i 2) (let e : at ≡ at + 0 = omega arith in e) ∙ number 0 2 (omega arith) in
-    let along = numbers-moved 320 at bytes part stands 2 2 26 (omega arith) in
-    let across = numbers-moved 320 at bytes part stands 54 2 26 (omega arith) in
-    let extreme = λ (i : ℕ) (room : i + 4 ≤ 320).
+    let along = numbers-moved (crash_size form) at bytes part stands 2 2 26 (omega arith) in
+    let across = numbers-moved (crash_size form) at bytes part stands 54 2 26 (omega arith) in
+    let extreme = λ (i : ℕ) (room : i + 4 ≤ crash_size form).
     (let e : at + i + 2 ≡ at + (i + 2) = omega arith in
     let same : extreme_at bytes (at + i) ≡ extreme_at part i =
     ap₂ (λ (m n : ℕ). let x : Extreme = record { kmh = signed m; at = n } in x) (number i 2 (omega arith)) (ap (λ (j : ℕ). number_at bytes j 2) e ∙ number (i + 2) 2 (omega arith)) in same) in
@@ -112,5 +137,5 @@ crash_at-moved at bytes part stands =
     let result_at = number 114 2 (omega arith) in
     let missing_along = number 116 2 (omega arith) in
     let missing_across = number 118 2 (omega arith) in
-    let fired = numbers-moved 320 at bytes part stands 120 2 8 (omega arith) in
+    let fired = numbers-moved (crash_size form) at bytes part stands 120 2 8 (omega arith) in
     cc

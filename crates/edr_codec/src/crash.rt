@@ -1,14 +1,15 @@
-//! The crash part: 320 bytes.
+//! The crash part: 136 bytes, and those of 0 that its form has behind them.
 
-ghost use Rattle.std.specs.Prelude.{◌≡◌, ◌+◌, ◌*◌, ◌≤◌, ◌++◌, None, Some, IfOk, IfErr, OnOk, All, length, take, max, slice_index, sum_by};
+ghost use Rattle.std.specs.Prelude.{◌≡◌, ◌+◌, ◌*◌, ◌^◌, ◌<◌, ◌≤◌, ◌++◌, None, Some, IfOk, IfErr, OnOk, All, length, take, max, slice_index, sum_by};
 ghost use Rattle.std.specs.List.{flat_map};
-ghost use Rattle.edr_record.specs.Bounds.{window_from_end, point_count};
-ghost use Rattle.edr_image.specs.PartBytes.{crash_fields, crash_damage, crash_at, crash_bytes, extreme_at, extreme_bytes};
+ghost use Rattle.edr_record.specs.Bounds.{IsCrash, window_from_end, point_count};
+ghost use Rattle.edr_image.specs.PartBytes.{crash_fields_by, crash_size, crash_damage, crash_damage_by, crash_at, crash_bytes, crash_bytes_by, extreme_at, extreme_bytes};
 ghost use Rattle.edr_codec.specs.Rows.{fields_of, row_size};
 
 use crate::Damaged;
-use crate::pieces::{Piece, put_all, put_bytes, read_all};
+use crate::pieces::{Piece, put_all, put_zeros, read_all};
 use crate::rows::{Row, check_rows};
+use edr_image::forms::{CrashForm, VERSION_1};
 use edr_record::{Crash, Extreme};
 
 // How many points an axis has room for.
@@ -31,10 +32,10 @@ fn window_from_end(end: u16) -> u32
 }
 
 // The fields of a crash part with this end.
-fn crash_rows(end: u16) -> [Row; 13]
-    ensures fields { flat_map fields_of result ≡ crash_fields end }
+fn crash_rows(end: u16, form: &CrashForm) -> [Row; 13]
+    ensures fields { flat_map fields_of result ≡ crash_fields_by form.now end }
     ensures sizes { All (λ r. r.size ≤ 4) result }
-    ensures room { sum_by row_size result ≡ 320 }
+    ensures room { sum_by row_size result ≡ crash_size form.now }
 {
     let count = point_count(end);
     let window = window_from_end(end);
@@ -57,13 +58,13 @@ fn crash_rows(end: u16) -> [Row; 13]
         change,
         Row::of(4, 2, (0, window)),
         Row::either(8, 2, (0, last), (0xffff, 0xffff)),
-        Row::of(184, 1, (0, 0)),
+        Row::of(form.zeros, 1, (0, 0)),
     ]
 }
 
 // The extreme whose bytes begin at a place.
-fn extreme_from(bytes: &[u8; 320], at: usize) -> Extreme
-    requires { at + 4 ≤ 320 }
+fn extreme_from(bytes: &[u8], at: usize) -> Extreme
+    requires { at + 4 ≤ length bytes.now }
     ensures { result ≡ extreme_at bytes.now at }
 {
     Extreme {
@@ -81,10 +82,11 @@ fn put_extreme(extreme: Extreme, out: &mut [u8], at: usize)
     extreme.at.put_at(out, at + 2);
 }
 
-/// Writes the 320 bytes that spell a crash part, whatever stood there before.
-#[tactic(auto, unfolding(edr_image::specs::PartBytes::crash_bytes))]
-pub fn put_crash(crash: &Crash, out: &mut [u8; 320])
-    ensures { out.new ≡ crash_bytes crash.now }
+// Writes the bytes that spell a crash part, whatever stood there before.
+#[tactic(auto, unfolding(edr_image::specs::PartBytes::crash_bytes_by))]
+fn put_crash_by(crash: &Crash, out: &mut [u8], form: &CrashForm)
+    requires { length out.old ≡ crash_size form.now }
+    ensures { out.new ≡ crash_bytes_by form.now crash.now }
 {
     crash.end.put_at(out, 0);
     put_all(&crash.along, out, 2);
@@ -95,12 +97,13 @@ pub fn put_crash(crash: &Crash, out: &mut [u8; 320])
     crash.missing_along.put_at(out, 116);
     crash.missing_across.put_at(out, 118);
     put_all(&crash.fired, out, 120);
-    put_bytes(out, 136, &[0; 184]);
+    put_zeros(out, 136, form.zeros);
 }
 
-// The crash part that whole bytes say.
-fn crash_from(bytes: &[u8; 320]) -> Crash
-    requires { crash_damage bytes.now 0 ≡ None }
+// The crash part that bytes say, whose bounds hold.
+fn crash_from(bytes: &[u8]) -> Crash
+    requires room { 136 ≤ length bytes.now }
+    requires bounds { IsCrash (crash_at bytes.now 0) }
     ensures { result ≡ crash_at bytes.now 0 }
 {
     Crash {
@@ -117,13 +120,35 @@ fn crash_from(bytes: &[u8; 320]) -> Crash
 }
 
 // Whether bytes are those of a crash part, and else where they begin none.
-#[tactic(auto, unfolding(edr_image::specs::PartBytes::crash_damage))]
-fn check_crash(bytes: &[u8; 320]) -> Result<(), Damaged>
-    ensures whole { OnOk result (crash_damage bytes.now 0 ≡ None) }
-    ensures damaged { IfErr result (λ d. crash_damage bytes.now 0 ≡ Some d.offset) }
+#[tactic(auto, unfolding(edr_image::specs::PartBytes::crash_damage_by))]
+fn check_crash(bytes: &[u8], form: &CrashForm) -> Result<(), Damaged>
+    requires long { length bytes.now ≡ crash_size form.now }
+    requires few { length bytes.now < 2 ^ 16 }
+    ensures whole { OnOk result (crash_damage_by form.now bytes.now 0 ≡ None) }
+    ensures damaged { IfErr result (λ d. crash_damage_by form.now bytes.now 0 ≡ Some d.offset) }
     ensures found { IfErr result (λ d. d.found ≡ slice_index bytes.now d.offset) }
 {
-    check_rows(bytes, &crash_rows(u16::read_at(bytes, 0)))
+    check_rows(bytes, &crash_rows(u16::read_at(bytes, 0), form))
+}
+
+// The crash part that the bytes spell, or else the first byte with which they begin none.
+fn read_crash_by(bytes: &[u8], form: &CrashForm) -> Result<Crash, Damaged>
+    requires long { length bytes.now ≡ crash_size form.now }
+    requires few { length bytes.now < 2 ^ 16 }
+    ensures read { IfOk result (λ c. c ≡ crash_at bytes.now 0) }
+    ensures whole { OnOk result (crash_damage_by form.now bytes.now 0 ≡ None) }
+    ensures damaged { IfErr result (λ d. crash_damage_by form.now bytes.now 0 ≡ Some d.offset) }
+    ensures found { IfErr result (λ d. d.found ≡ slice_index bytes.now d.offset) }
+{
+    check_crash(bytes, form)?;
+    Ok(crash_from(bytes))
+}
+
+/// Writes the 320 bytes that spell a crash part, whatever stood there before.
+pub fn put_crash(crash: &Crash, out: &mut [u8; 320])
+    ensures { out.new ≡ crash_bytes crash.now }
+{
+    put_crash_by(crash, out, &VERSION_1.crash);
 }
 
 /// The crash part that the bytes spell. Else the answer is the first byte with which they begin none: an end of `00 13`,
@@ -134,6 +159,5 @@ pub fn read_crash(bytes: &[u8; 320]) -> Result<Crash, Damaged>
     ensures damaged { IfErr result (λ d. crash_damage bytes.now 0 ≡ Some d.offset) }
     ensures found { IfErr result (λ d. d.found ≡ slice_index bytes.now d.offset) }
 {
-    check_crash(bytes)?;
-    Ok(crash_from(bytes))
+    read_crash_by(bytes, &VERSION_1.crash)
 }

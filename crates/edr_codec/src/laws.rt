@@ -3,64 +3,79 @@
 ghost use Rattle.std.specs.Prelude.{◌≡◌, ◌↔◌, ◌<◌, ◌+◌, ℕ, List, Some, None, length, All, option_map, slice_index, slice_range};
 ghost use Rattle.edr_record.specs.Parts.{PrePart, CrashPart};
 ghost use Rattle.edr_record.specs.Bounds.{IsPre, IsCrash};
-ghost use Rattle.edr_image.specs.PartBytes.{pre_damage, pre_at, pre_bytes, BeginsPre, crash_damage, crash_at, crash_bytes, BeginsCrash, IsDamagedAt};
+ghost use Rattle.edr_image.specs.declared.forms.CrashForm.{CrashForm};
+ghost use Rattle.edr_image.specs.declared.forms.PreForm.{PreForm};
+ghost use Rattle.edr_image.specs.declared.forms.TheConstants.{VERSION_1};
+ghost use Rattle.edr_image.specs.PartBytes.{pre_size, IsPreForm, IsShort, pre_damage_by, pre_at_by, pre_bytes_by, BeginsPreBy, crash_size, crash_damage_by, crash_at, crash_bytes_by, BeginsCrashBy, IsDamagedAt};
 
-/// The bytes of a pre part in its bounds are 160, they are whole, and they say this part.
+/// Version 1 has a form in which parts can be told, with the slots of a record.
+pub fn version_1_has_a_form()
+    ensures form { IsPreForm VERSION_1.pre }
+    ensures short { IsShort VERSION_1.pre }
+{}
+
+/// In each form: the bytes of a pre part in its bounds are as many as the form has, they are whole, and they say this part.
 pub fn pre_is_read_back()
-    ensures { (p : PrePart) → IsPre p
-        → (length (pre_bytes p) ≡ 160) × (pre_damage (pre_bytes p) 0 ≡ None) × (pre_at (pre_bytes p) 0 ≡ p) }
+    ensures { (form : PreForm) → IsPreForm form → IsShort form → (p : PrePart) → IsPre p
+        → (length (pre_bytes_by form p) ≡ pre_size form) × (pre_damage_by form (pre_bytes_by form p) 0 ≡ None)
+        × (pre_at_by form (pre_bytes_by form p) 0 ≡ p) }
 {}
 
-/// The bytes of a crash part in its bounds are 320, they are whole, and they say this part.
+/// In each form: the bytes of a crash part in its bounds are as many as the form has, they are whole, and they say this
+/// part.
 pub fn crash_is_read_back()
-    ensures { (c : CrashPart) → IsCrash c
-        → (length (crash_bytes c) ≡ 320) × (crash_damage (crash_bytes c) 0 ≡ None) × (crash_at (crash_bytes c) 0 ≡ c) }
+    ensures { (form : CrashForm) (c : CrashPart) → IsCrash c → (length (crash_bytes_by form c) ≡ crash_size form)
+        × (crash_damage_by form (crash_bytes_by form c) 0 ≡ None) × (crash_at (crash_bytes_by form c) 0 ≡ c) }
 {}
 
-/// What whole bytes of a pre part say is in its bounds, and has these bytes. So each part has one spelling.
+/// What whole bytes of a pre part say is in its bounds, and has these bytes. So each part has one spelling in each form.
 pub fn pre_is_written_back()
-    ensures { (bytes : List ℕ) → length bytes ≡ 160 → All (λ b. b < 256) bytes → pre_damage bytes 0 ≡ None
-        → IsPre (pre_at bytes 0) × (pre_bytes (pre_at bytes 0) ≡ bytes) }
+    ensures { (form : PreForm) → IsPreForm form → IsShort form → (bytes : List ℕ) → length bytes ≡ pre_size form
+        → All (λ b. b < 256) bytes → pre_damage_by form bytes 0 ≡ None
+        → IsPre (pre_at_by form bytes 0) × (pre_bytes_by form (pre_at_by form bytes 0) ≡ bytes) }
 {}
 
-/// What whole bytes of a crash part say is in its bounds, and has these bytes. So each part has one spelling.
+/// What whole bytes of a crash part say is in its bounds, and has these bytes. So each part has one spelling in each form.
 pub fn crash_is_written_back()
-    ensures { (bytes : List ℕ) → length bytes ≡ 320 → All (λ b. b < 256) bytes → crash_damage bytes 0 ≡ None
-        → IsCrash (crash_at bytes 0) × (crash_bytes (crash_at bytes 0) ≡ bytes) }
+    ensures { (form : CrashForm) (bytes : List ℕ) → length bytes ≡ crash_size form → All (λ b. b < 256) bytes
+        → crash_damage_by form bytes 0 ≡ None → IsCrash (crash_at bytes 0) × (crash_bytes_by form (crash_at bytes 0) ≡ bytes) }
 {}
 
 /// Bytes are damaged at a place exactly where the bytes before it begin a pre part in its bounds, and those up to and
 /// with it begin none.
 pub fn pre_damage_is_first()
-    ensures { (bytes : List ℕ) (k : ℕ) → length bytes ≡ 160 → All (λ b. b < 256) bytes
-        → (pre_damage bytes 0 ≡ Some k) ↔ IsDamagedAt (BeginsPre bytes) k }
+    ensures { (form : PreForm) → IsPreForm form → IsShort form → (bytes : List ℕ) (k : ℕ) → length bytes ≡ pre_size form
+        → All (λ b. b < 256) bytes → (pre_damage_by form bytes 0 ≡ Some k) ↔ IsDamagedAt (BeginsPreBy form bytes) k }
 {}
 
 /// Bytes are damaged at a place exactly where the bytes before it begin a crash part in its bounds, and those up to and
 /// with it begin none.
 pub fn crash_damage_is_first()
-    ensures { (bytes : List ℕ) (k : ℕ) → length bytes ≡ 320 → All (λ b. b < 256) bytes
-        → (crash_damage bytes 0 ≡ Some k) ↔ IsDamagedAt (BeginsCrash bytes) k }
+    ensures { (form : CrashForm) (bytes : List ℕ) (k : ℕ) → length bytes ≡ crash_size form → All (λ b. b < 256) bytes
+        → (crash_damage_by form bytes 0 ≡ Some k) ↔ IsDamagedAt (BeginsCrashBy form bytes) k }
 {}
 
-/// Where a pre part stands in further bytes, its own 160 bytes tell what it says, whether it is damaged, and the byte
-/// that is found there.
+/// Where a pre part stands in further bytes, its own bytes tell what it says, whether it is damaged, and the byte that is
+/// found there.
 pub fn pre_is_told_by_its_bytes()
-    ensures value { (bytes : List ℕ) (at : ℕ) → pre_at bytes at ≡ pre_at (slice_range bytes at (at + 160)) 0 }
-    ensures damage { (bytes : List ℕ) (at : ℕ)
-        → pre_damage bytes at ≡ option_map (λ k. at + k) (pre_damage (slice_range bytes at (at + 160)) 0) }
-    ensures within { (bytes : List ℕ) (k : ℕ) → pre_damage bytes 0 ≡ Some k → k < 160 }
-    ensures found { (bytes : List ℕ) (at k : ℕ) → k < 160
-        → slice_index bytes (at + k) ≡ slice_index (slice_range bytes at (at + 160)) k }
+    ensures value { (form : PreForm) → IsPreForm form → (bytes : List ℕ) (at : ℕ)
+        → pre_at_by form bytes at ≡ pre_at_by form (slice_range bytes at (at + pre_size form)) 0 }
+    ensures damage { (form : PreForm) → IsPreForm form → (bytes : List ℕ) (at : ℕ) → pre_damage_by form bytes at
+        ≡ option_map (λ k. at + k) (pre_damage_by form (slice_range bytes at (at + pre_size form)) 0) }
+    ensures within { (form : PreForm) → IsPreForm form → (bytes : List ℕ) (k : ℕ) → pre_damage_by form bytes 0 ≡ Some k
+        → k < pre_size form }
+    ensures found { (form : PreForm) (bytes : List ℕ) (at k : ℕ) → k < pre_size form
+        → slice_index bytes (at + k) ≡ slice_index (slice_range bytes at (at + pre_size form)) k }
 {}
 
-/// Where a crash part stands in further bytes, its own 320 bytes tell what it says, whether it is damaged, and the byte
-/// that is found there.
+/// Where a crash part stands in further bytes, its own bytes tell what it says, whether it is damaged, and the byte that
+/// is found there.
 pub fn crash_is_told_by_its_bytes()
-    ensures value { (bytes : List ℕ) (at : ℕ) → crash_at bytes at ≡ crash_at (slice_range bytes at (at + 320)) 0 }
-    ensures damage { (bytes : List ℕ) (at : ℕ)
-        → crash_damage bytes at ≡ option_map (λ k. at + k) (crash_damage (slice_range bytes at (at + 320)) 0) }
-    ensures within { (bytes : List ℕ) (k : ℕ) → crash_damage bytes 0 ≡ Some k → k < 320 }
-    ensures found { (bytes : List ℕ) (at k : ℕ) → k < 320
-        → slice_index bytes (at + k) ≡ slice_index (slice_range bytes at (at + 320)) k }
+    ensures value { (form : CrashForm) (bytes : List ℕ) (at : ℕ)
+        → crash_at bytes at ≡ crash_at (slice_range bytes at (at + crash_size form)) 0 }
+    ensures damage { (form : CrashForm) (bytes : List ℕ) (at : ℕ) → crash_damage_by form bytes at
+        ≡ option_map (λ k. at + k) (crash_damage_by form (slice_range bytes at (at + crash_size form)) 0) }
+    ensures within { (form : CrashForm) (bytes : List ℕ) (k : ℕ) → crash_damage_by form bytes 0 ≡ Some k → k < crash_size form }
+    ensures found { (form : CrashForm) (bytes : List ℕ) (at k : ℕ) → k < crash_size form
+        → slice_index bytes (at + k) ≡ slice_index (slice_range bytes at (at + crash_size form)) k }
 {}

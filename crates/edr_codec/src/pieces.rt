@@ -1,6 +1,6 @@
 //! Values that stand in a part as one number each.
 
-ghost use Rattle.std.specs.Prelude.{◌≡◌, ℕ, ℤ, ◌+◌, ◌*◌, ◌≤◌, ◌<◌, ◌^◌, ◌++◌, ◌∷◌, [], List, length, take, map};
+ghost use Rattle.std.specs.Prelude.{◌≡◌, ℕ, ℤ, ◌+◌, ◌*◌, ◌≤◌, ◌<◌, ◌^◌, ◌++◌, ◌∷◌, [], List, length, take, map, replicate};
 ghost use Rattle.std.specs.List.{flat_map};
 ghost use Rattle.byteorder.specs.Endian.{big_bytes};
 ghost use Rattle.edr_image.specs.PartBytes.{number_at, numbers_at, unless, switch_from, signed, slot_bytes, switch_byte, signed_bytes};
@@ -40,6 +40,14 @@ pub(crate) fn put_bytes(out: &mut [u8], at: usize, bytes: &[u8])
     ensures { take (at + length bytes.now) out.new ≡ take at out.old ++ bytes.now }
 {
     out[at..at + bytes.len()].copy_from_slice(bytes);
+}
+
+/// Writes bytes of 0 over those from a place on.
+pub(crate) fn put_zeros(out: &mut [u8], at: usize, count: usize)
+    requires { at + count ≤ length out.old }
+    ensures { take (at + count) out.new ≡ take at out.old ++ replicate count 0 }
+{
+    out[at..at + count].fill(0);
 }
 
 impl Piece for u32 {

@@ -1,38 +1,117 @@
-//! The pre part: 160 bytes.
+//! The pre part: twelve bytes, three lists with room for as many slots as its form says, two switches, and the bytes of 0
+//! that its form has behind them.
 
-ghost use Rattle.std.specs.Prelude.{◌≡◌, ◌+◌, ◌≤◌, ◌++◌, None, Some, IfOk, IfErr, OnOk, All, length, take, slice_index, sum_by, nat_eq, if◌then◌else◌};
+ghost use Rattle.std.specs.Prelude.{◌≡◌, ◌+◌, ◌^◌, ◌<◌, ◌≤◌, ◌++◌, None, Some, IfOk, IfErr, OnOk, All, length, take, slice_index, sum_by, nat_eq, if◌then◌else◌};
 ghost use Rattle.std.specs.List.{flat_map};
-ghost use Rattle.edr_image.specs.PartBytes.{pre_fields, pre_damage, pre_at, pre_bytes, place_bytes, number_at};
+ghost use Rattle.edr_record.specs.Bounds.{IsPre};
+ghost use Rattle.edr_image.specs.PartBytes.{pre_size, slots_of, profile_of, throttle_at, brake_at, belt_at, lamp_at, end_at, IsPreForm, IsShort, pre_fields_by, pre_damage, pre_damage_by, pre_at, pre_at_by, pre_bytes, pre_bytes_by, place_bytes, number_at};
 ghost use Rattle.edr_codec.specs.Rows.{fields_of, row_size};
 
 use crate::Damaged;
-use crate::pieces::{Piece, put_all, put_bytes, read_all};
+use crate::pieces::{Piece, put_all, put_bytes, put_zeros, read_all};
 use crate::rows::{Row, check_rows};
 use byteorder::{BigEndian, ByteOrder};
+use edr_image::forms::{PreForm, VERSION_1};
 use edr_record::{Key, Place, Pre};
 
-// The fields of a pre part with this place byte.
-fn pre_rows(place: u8) -> [Row; 9]
-    ensures fields { flat_map fields_of result ≡ pre_fields place }
-    ensures sizes { All (λ r. r.size ≤ 4) result }
-    ensures room { sum_by row_size result ≡ 160 }
+// Where the speeds begin.
+const SPEED: usize = 12;
+
+// How many slots of each list a part with this profile byte uses.
+fn slots_of(form: &PreForm, profile: u8) -> usize
+    ensures { result ≡ slots_of form.now profile }
 {
+    if profile == form.profiles.0 {
+        form.slots.0
+    } else {
+        form.slots.1
+    }
+}
+
+// The profile byte of a part with this many slots in each list.
+fn profile_of(form: &PreForm, slots: usize) -> u8
+    ensures { result ≡ profile_of form.now slots }
+{
+    if slots == form.slots.0 {
+        form.profiles.0
+    } else {
+        form.profiles.1
+    }
+}
+
+// Where the slots of the throttle begin.
+fn throttle_at(form: &PreForm) -> usize
+    requires { pre_size form.now < 2 ^ 16 }
+    ensures { result ≡ throttle_at form.now }
+{
+    SPEED + 2 * form.room
+}
+
+// Where the slots of the brake begin.
+fn brake_at(form: &PreForm) -> usize
+    requires { pre_size form.now < 2 ^ 16 }
+    ensures { result ≡ brake_at form.now }
+{
+    SPEED + 3 * form.room
+}
+
+// Where the belt stands.
+fn belt_at(form: &PreForm) -> usize
+    requires { pre_size form.now < 2 ^ 16 }
+    ensures { result ≡ belt_at form.now }
+{
+    SPEED + 4 * form.room
+}
+
+// Where the lamp stands.
+fn lamp_at(form: &PreForm) -> usize
+    requires { pre_size form.now < 2 ^ 16 }
+    ensures { result ≡ lamp_at form.now }
+{
+    belt_at(form) + 1
+}
+
+// Where the bytes of 0 at the end begin.
+fn end_at(form: &PreForm) -> usize
+    requires { pre_size form.now < 2 ^ 16 }
+    ensures { result ≡ end_at form.now }
+{
+    belt_at(form) + 2
+}
+
+// The fields of a pre part with these place and profile bytes.
+fn pre_rows(place: u8, profile: u8, form: &PreForm) -> [Row; 13]
+    requires fits { slots_of form.now profile ≤ form.now.room }
+    requires few { pre_size form.now < 2 ^ 16 }
+    ensures fields { flat_map fields_of result ≡ pre_fields_by form.now place profile }
+    ensures sizes { All (λ r. r.size ≤ 4) result }
+    ensures room { sum_by row_size result ≡ pre_size form.now }
+{
+    let slots = slots_of(form, profile);
+    let rest = form.room - slots;
+    let profiles = (u32::from(form.profiles.0), u32::from(form.profiles.1));
     let after = if place == 1 { (0, 0) } else { (1, 5000) };
+    let past = Row::of(rest, 1, (0, 0));
     [
         Row::of(1, 4, (1, u32::MAX)),
         Row::of(1, 4, (1, 86_400_000)),
         Row::of(1, 1, (1, 2)),
-        Row::of(1, 1, (0, 0)),
+        Row::of(1, 1, profiles),
         Row::of(1, 2, after),
-        Row::either(11, 2, (0, 300), (0xffff, 0xffff)),
-        Row::either(11, 1, (0, 100), (0xff, 0xff)),
-        Row::either(13, 1, (0, 1), (0xff, 0xff)),
-        Row::of(102, 1, (0, 0)),
+        Row::either(slots, 2, (0, 300), (0xffff, 0xffff)),
+        Row::of(2 * rest, 1, (0, 0)),
+        Row::either(slots, 1, (0, 100), (0xff, 0xff)),
+        past,
+        Row::either(slots, 1, (0, 1), (0xff, 0xff)),
+        past,
+        Row::either(2, 1, (0, 1), (0xff, 0xff)),
+        Row::of(form.zeros, 1, (0, 0)),
     ]
 }
 
 // The place that the bytes of a pre part say.
-fn place_from(bytes: &[u8; 160]) -> Place
+fn place_from(bytes: &[u8]) -> Place
+    requires { 12 ≤ length bytes.now }
     ensures { result ≡ (if nat_eq (slice_index bytes.now 8) 1 then Place.First else Place.Second (number_at bytes.now 10 2)) }
 {
     match bytes[8] {
@@ -43,41 +122,53 @@ fn place_from(bytes: &[u8; 160]) -> Place
     }
 }
 
-// Writes a place over the bytes that begin at a place of theirs.
-fn put_place(place: Place, out: &mut [u8], at: usize)
+// Writes a place, with a profile byte in it, over the bytes that begin at a place of theirs.
+fn put_place(place: Place, profile: u8, out: &mut [u8], at: usize)
     requires { at + 4 ≤ length out.old }
-    ensures { take (at + 4) out.new ≡ take at out.old ++ place_bytes place }
+    ensures { take (at + 4) out.new ≡ take at out.old ++ place_bytes profile place }
 {
     let bytes = match place {
-        Place::First => [1, 0, 0, 0],
+        Place::First => [1, profile, 0, 0],
         Place::Second { after } => {
             let after = after.to_be_bytes();
-            [2, 0, after[2], after[3]]
+            [2, profile, after[2], after[3]]
         }
     };
     put_bytes(out, at, &bytes);
 }
 
-/// Writes the 160 bytes that spell a pre part, whatever stood there before.
-#[tactic(auto, unfolding(edr_image::specs::PartBytes::pre_bytes))]
-pub fn put_pre(pre: &Pre, out: &mut [u8; 160])
-    ensures { out.new ≡ pre_bytes pre.now }
+// Writes the bytes that spell a pre part, whatever stood there before.
+#[tactic(auto, unfolding(edr_image::specs::PartBytes::pre_bytes_by))]
+fn put_pre_by(pre: &Pre, out: &mut [u8], form: &PreForm)
+    requires fits { 11 ≤ form.now.room }
+    requires few { pre_size form.now < 2 ^ 16 }
+    requires long { length out.old ≡ pre_size form.now }
+    ensures { out.new ≡ pre_bytes_by form.now pre.now }
 {
+    let slots = pre.speed.len();
+    let rest = form.room - slots;
     pre.key.cycle.put_at(out, 0);
     pre.key.zero.put_at(out, 4);
-    put_place(pre.place, out, 8);
-    put_all(&pre.speed, out, 12);
-    put_all(&pre.throttle, out, 34);
-    put_all(&pre.brake, out, 45);
-    pre.belt.put_at(out, 56);
-    pre.lamp.put_at(out, 57);
-    put_bytes(out, 58, &[0; 102]);
+    put_place(pre.place, profile_of(form, slots), out, 8);
+    put_all(&pre.speed, out, SPEED);
+    put_zeros(out, SPEED + 2 * slots, 2 * rest);
+    put_all(&pre.throttle, out, throttle_at(form));
+    put_zeros(out, throttle_at(form) + slots, rest);
+    put_all(&pre.brake, out, brake_at(form));
+    put_zeros(out, brake_at(form) + slots, rest);
+    pre.belt.put_at(out, belt_at(form));
+    pre.lamp.put_at(out, lamp_at(form));
+    put_zeros(out, end_at(form), form.zeros);
 }
 
-// The pre part that whole bytes say.
-fn pre_from(bytes: &[u8; 160]) -> Pre
-    requires { pre_damage bytes.now 0 ≡ None }
-    ensures { result ≡ pre_at bytes.now 0 }
+// The pre part that bytes say, whose bounds hold.
+fn pre_from(bytes: &[u8], form: &PreForm) -> Pre
+    requires few { pre_size form.now < 2 ^ 16 }
+    requires long { length bytes.now ≡ pre_size form.now }
+    requires fits { 11 ≤ form.now.room }
+    requires slots { slots_of form.now (slice_index bytes.now 9) ≡ 11 }
+    requires bounds { IsPre (pre_at_by form.now bytes.now 0) }
+    ensures { result ≡ pre_at_by form.now bytes.now 0 }
 {
     Pre {
         key: Key {
@@ -85,22 +176,47 @@ fn pre_from(bytes: &[u8; 160]) -> Pre
             zero: u32::read_at(bytes, 4),
         },
         place: place_from(bytes),
-        speed: read_all(bytes, 12),
-        throttle: read_all(bytes, 34),
-        brake: read_all(bytes, 45),
-        belt: Piece::read_at(bytes, 56),
-        lamp: Piece::read_at(bytes, 57),
+        speed: read_all(bytes, SPEED),
+        throttle: read_all(bytes, throttle_at(form)),
+        brake: read_all(bytes, brake_at(form)),
+        belt: Piece::read_at(bytes, belt_at(form)),
+        lamp: Piece::read_at(bytes, lamp_at(form)),
     }
 }
 
 // Whether bytes are those of a pre part, and else where they begin none.
-#[tactic(auto, unfolding(edr_image::specs::PartBytes::pre_damage))]
-fn check_pre(bytes: &[u8; 160]) -> Result<(), Damaged>
-    ensures whole { OnOk result (pre_damage bytes.now 0 ≡ None) }
-    ensures damaged { IfErr result (λ d. pre_damage bytes.now 0 ≡ Some d.offset) }
+#[tactic(auto, unfolding(edr_image::specs::PartBytes::pre_damage_by))]
+fn check_pre(bytes: &[u8], form: &PreForm) -> Result<(), Damaged>
+    requires form { IsPreForm form.now }
+    requires few { length bytes.now < 2 ^ 16 }
+    requires long { length bytes.now ≡ pre_size form.now }
+    ensures whole { OnOk result (pre_damage_by form.now bytes.now 0 ≡ None) }
+    ensures damaged { IfErr result (λ d. pre_damage_by form.now bytes.now 0 ≡ Some d.offset) }
     ensures found { IfErr result (λ d. d.found ≡ slice_index bytes.now d.offset) }
 {
-    check_rows(bytes, &pre_rows(bytes[8]))
+    check_rows(bytes, &pre_rows(bytes[8], bytes[9], form))
+}
+
+// The pre part that the bytes spell, or else the first byte with which they begin none.
+fn read_pre_by(bytes: &[u8], form: &PreForm) -> Result<Pre, Damaged>
+    requires form { IsPreForm form.now }
+    requires short { IsShort form.now }
+    requires few { length bytes.now < 2 ^ 16 }
+    requires long { length bytes.now ≡ pre_size form.now }
+    ensures read { IfOk result (λ p. p ≡ pre_at_by form.now bytes.now 0) }
+    ensures whole { OnOk result (pre_damage_by form.now bytes.now 0 ≡ None) }
+    ensures damaged { IfErr result (λ d. pre_damage_by form.now bytes.now 0 ≡ Some d.offset) }
+    ensures found { IfErr result (λ d. d.found ≡ slice_index bytes.now d.offset) }
+{
+    check_pre(bytes, form)?;
+    Ok(pre_from(bytes, form))
+}
+
+/// Writes the 160 bytes that spell a pre part, whatever stood there before.
+pub fn put_pre(pre: &Pre, out: &mut [u8; 160])
+    ensures { out.new ≡ pre_bytes pre.now }
+{
+    put_pre_by(pre, out, &VERSION_1.pre);
 }
 
 /// The pre part that the bytes spell. Else the answer is the first byte with which they begin none: a speed of `01 2d`, say,
@@ -111,6 +227,5 @@ pub fn read_pre(bytes: &[u8; 160]) -> Result<Pre, Damaged>
     ensures damaged { IfErr result (λ d. pre_damage bytes.now 0 ≡ Some d.offset) }
     ensures found { IfErr result (λ d. d.found ≡ slice_index bytes.now d.offset) }
 {
-    check_pre(bytes)?;
-    Ok(pre_from(bytes))
+    read_pre_by(bytes, &VERSION_1.pre)
 }

@@ -80,6 +80,7 @@ pub enum OpenFault {
     OutOfMemory,
 }
 
+pub mod forms;
 pub mod laws;
 mod log;
 pub mod places;

@@ -5,4 +5,4 @@ use Rattle.edr_codec.proofs.CrashLaws.{crash-written}
 use Rattle.edr_codec.proofs.laws.crash_is_written_back.Goals as goal
 
 pub returns : goal.returns
-returns c = λ bytes long small whole. (crash_at-is bytes whole, sym (crash-written bytes long (small-bytes bytes small) whole))
+returns c = λ form bytes long small whole. (crash_at-is form bytes whole, sym (crash-written form bytes long (small-bytes bytes small) whole))

@@ -1,0 +1,24 @@
+-- The forms of the versions are such as the laws ask for.
+use Rattle.std.proofs.Common.{◌≡◌, inl, inr, refl, ℕ, nat_eq, subst, arith}
+use Rattle.std.proofs.lemmas.Bool.{cases_Bool}
+use Rattle.edr_image.specs.declared.forms.TheConstants.{VERSION_1}
+use Rattle.edr_image.specs.PartBytes.{slots_of, profile_of, IsPreForm, IsShort}
+use Rattle.edr_codec.proofs.PreLemmas.{IsProfile, short-profile}
+
+-- version 1 has eleven slots, whatever the profile byte
+slots-1 : (profile : ℕ) → slots_of VERSION_1.pre profile ≡ 11
+slots-1 profile = elim (cases_Bool (nat_eq profile 0)) [ inl e ↦ rw e refl | inr e ↦ rw e refl ]
+
+pub version_1-form : IsPreForm VERSION_1.pre
+version_1-form = record {
+  order = omega arith;
+  byte = omega arith;
+  room = λ profile. rw (slots-1 profile) (omega arith);
+  told = λ profile low high. subst (λ (b : ℕ). profile_of VERSION_1.pre (slots_of VERSION_1.pre b) ≡ b) (let e : 0 ≡ profile = omega arith in e) refl;
+}
+
+pub version_1-short : IsShort VERSION_1.pre
+version_1-short = λ profile low high. slots-1 profile
+
+pub version_1-profile : IsProfile VERSION_1.pre 11
+version_1-profile = short-profile VERSION_1.pre version_1-form version_1-short

@@ -1,0 +1,12 @@
+use Rattle.std.specs.Prelude.{slice_index}
+use Rattle.edr_codec.proofs.pre.read_pre_by.Goals as goal
+use Rattle.edr_codec.proofs.GrammarLaws.{pre_at-in_bounds}
+use Rattle.edr_codec.proofs.PreLemmas.{pre-profile}
+
+pub pre_from-requires-clause-slots : goal.pre_from-requires-clause-slots
+pre_from-requires-clause-slots c =
+    let within = pre-profile c.args.form.now c.args.bytes.now c.requires.form c.in_ok-check_pre.ensures.whole in
+    c.requires.short (slice_index c.args.bytes.now 9) within.0 within.1
+
+pub pre_from-requires-clause-bounds : goal.pre_from-requires-clause-bounds
+pre_from-requires-clause-bounds c = pre_at-in_bounds c.args.form.now c.args.bytes.now c.requires.form c.requires.short c.in_ok-check_pre.ensures.whole

@@ -1,0 +1,46 @@
+//! What tells the images of one version from those of another: how many bytes a bank has, and in which form the two
+//! parts of a record stand in it. All other places are those of [`places`](crate::places).
+
+/// The form of a pre part. Each list has room for some slots, of which a profile uses the first ones; the rest is 0.
+#[derive(Clone, Copy)]
+pub struct PreForm {
+    /// How many slots each list has room for.
+    pub room: usize,
+    /// How many bytes of 0 stand at its end.
+    pub zeros: usize,
+    /// The least and the greatest profile byte.
+    pub profiles: (u8, u8),
+    /// How many slots the least profile uses, and how many any other.
+    pub slots: (usize, usize),
+}
+
+/// The form of a crash part.
+#[derive(Clone, Copy)]
+pub struct CrashForm {
+    /// How many bytes of 0 stand at its end.
+    pub zeros: usize,
+}
+
+/// What a version lays down.
+#[derive(Clone, Copy)]
+pub struct Layout {
+    /// The number of the version, as the header has it.
+    pub version: u16,
+    /// How many bytes a bank has.
+    pub bank: usize,
+    pub pre: PreForm,
+    pub crash: CrashForm,
+}
+
+/// Version 1: there is one profile, whose byte is 0, and the lists have no room past its slots.
+pub const VERSION_1: Layout = Layout {
+    version: 1,
+    bank: 512,
+    pre: PreForm {
+        room: 11,
+        zeros: 102,
+        profiles: (0, 0),
+        slots: (11, 11),
+    },
+    crash: CrashForm { zeros: 184 },
+};
