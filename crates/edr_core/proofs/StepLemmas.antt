@@ -33,13 +33,13 @@ use Rattle.edr_core.specs.declared.candidate.Row.{Row as Given}
 use Rattle.edr_core.specs.Captures.{kept_lists, KeepPrePart}
 use Rattle.edr_core.specs.Candidate.{IsRowInRange, IsShort, CanBeTold, grown_or_begun, no_issues, candidate_after, link_after, issued_after, issues_in}
 use Rattle.edr_core.specs.Answers.{put}
-use Rattle.edr_core.specs.Rows.{row_of, rows_of}
+use Rattle.edr_core.specs.Rows.{RowIs, row_of, rows_of}
 use Rattle.edr_core.specs.Contents.{CoreContents}
 use Rattle.edr_core.specs.Fields.{contents_of}
 use Rattle.edr_core.specs.StandsFor.{CoreIsFor}
 use Rattle.edr_core.proofs.CaptureLemmas.{pre_part-kept}
 use Rattle.edr_core.proofs.RowLemmas.{length-rows_of}
-use Rattle.edr_core.proofs.TickLemmas.{RowIs, Did, can_be_told, core-stands, core-issues, open-short, change-is}
+use Rattle.edr_core.proofs.TickLemmas.{Did, can_be_told, core-stands, core-issues, open-short, change-is}
 
 -- the merge gave the row of the next tick, and waits for no sensor
 record NextRow (p : Progress) (t : ℕ) (r : Given) : Type 0 where

@@ -24,7 +24,7 @@ use Rattle.edr_detect.specs.Rows.{Row, signals_of_rows}
 use Rattle.edr_detect.specs.Detected.{DetectStandsFor}
 use Rattle.edr_core.specs.declared.captures.Captures.{Captures}
 use Rattle.edr_core.specs.Captures.{CapturesStandFor}
-use Rattle.edr_core.specs.Rows.{row_of, rows_of}
+use Rattle.edr_core.specs.Rows.{RowIs, row_of, rows_of}
 use Rattle.edr_core.proofs.RowLemmas.{rows_of-push, length-rows_of, tick_change-rows, silent-feeds}
 use Rattle.edr_core.specs.declared.candidate.Candidate.{Candidate}
 use Rattle.edr_core.specs.declared.candidate.Issued.{Issued}
@@ -32,12 +32,6 @@ use Rattle.edr_core.specs.declared.candidate.Row.{Row as Given}
 use Rattle.edr_core.specs.Candidate.{begun, grown, grown_or_begun, told, candidate_after, link_after, issued_after, issues_in, IsShort, CanBeTold}
 use Rattle.edr_core.specs.Contents.{CoreContents}
 use Rattle.edr_core.specs.StandsFor.{HoldsCandidate, CoreIsFor}
-
--- the row is that of the tick t
-pub record RowIs (m : Signals) (t : ℕ) (r : Given) : Type 0 where
-  pub along : r.along ≡ m.along t
-  pub across : r.across ≡ m.across t
-  pub fired : r.fired.0 ≡ m.fired t
 
 zero-is : (f : SensorLists) (n z : ℕ) (pre : PrePart) → IsPreOf f n z pre → pre.key.zero ≡ z
 unfolding pre_part

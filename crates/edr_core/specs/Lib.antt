@@ -6,3 +6,9 @@ pub mod StandsFor
 pub mod Fields
 pub mod Answers
 pub mod Parts
+pub mod SplitHistory
+pub mod Ask
+pub mod SplitContents
+pub mod SplitStandsFor
+pub mod SplitFields
+pub mod SplitAnswers

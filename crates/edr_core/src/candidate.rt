@@ -1,6 +1,6 @@
 //! The open candidate: what is kept of it from tick to tick, and what a tick issues of it.
 
-ghost use Rattle.std.specs.Prelude.{◌≡◌, ℕ, Option, true, IsTrue, Some, IfSome};
+ghost use Rattle.std.specs.Prelude.{◌≡◌, ℕ, Option, true, IsTrue, Some, IfSome, option_map};
 ghost use Rattle.edr_items.specs.SensorLists.{SensorLists};
 ghost use Rattle.edr_record.specs.declared.Place.{Place};
 ghost use Rattle.edr_record.specs.declared.Place.TheVariants.{First};
@@ -134,6 +134,18 @@ pub fn follow(
     if change.zero {
         open(candidate, captures, key, row);
     } else if let Some(open) = candidate {
+        open.grow(row);
+    }
+}
+
+// Gives the open candidate its row.
+#[inline(always)]
+pub fn grow(candidate: &mut Option<Candidate>, row: Row)
+    requires short { IfSome candidate.old IsShort }
+    requires in_range { IsRowInRange row }
+    ensures { candidate.new ≡ option_map (grown row) candidate.old }
+{
+    if let Some(open) = candidate {
         open.grow(row);
     }
 }

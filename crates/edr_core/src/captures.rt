@@ -1,19 +1,16 @@
 //! The rings of the five sensors of which a pre part tells, and the freeze of a pre part.
 
-ghost use Rattle.std.specs.Prelude.{◌≡◌, ℕ, ◌+◌, ◌≤◌, ◌-◌, unsigned_abs, option_map, IfOk, All};
+ghost use Rattle.std.specs.Prelude.{◌≡◌, ℕ, ◌+◌, ◌≤◌, ◌-◌, IfOk};
 ghost use Rattle.edr_items.specs.Item.{mark_of};
 ghost use Rattle.edr_items.specs.SensorLists.{SensorLists, no_items};
 ghost use Rattle.edr_record.specs.declared.Place.TheVariants.{First};
-ghost use Rattle.edr_record.specs.Bounds.{IsUpTo};
-ghost use Rattle.edr_definitions.specs.Parts.{slot, slots_before, numbers, switch, switches, pre_part};
+ghost use Rattle.edr_definitions.specs.Parts.{slot, slots_before, pre_part};
 
+use crate::slots::{SLOTS, per_cents, speeds, switch_of, switches_of};
 use edr_capture::Capture;
 use edr_items::{Item, Sensor};
 use edr_record::{Key, Place, Pre};
 use std::alloc::{AllocError as OutOfMemory, Global};
-
-// How many slots a sensor has in a pre part, one at each half second from 5 s before time zero up to it.
-const SLOTS: usize = 11;
 
 // What the five sensors gave.
 #[derive(Drop)]
@@ -46,70 +43,6 @@ fn slot_before(capture: &Capture, zero: u32) -> Option<i32>
     ensures { result ≡ slot capture.now (zero - 1_000) }
 {
     capture.slot(i64::from(zero.saturating_sub(1_000)))
-}
-
-// A slot in km/h.
-fn speed_of(slot: Option<i32>) -> Option<u16>
-    requires { IsUpTo 300 (option_map unsigned_abs slot) }
-    ensures { result ≡ option_map unsigned_abs slot }
-{
-    match slot {
-        Some(v) => Some(v.unsigned_abs() as u16),
-        None => None,
-    }
-}
-
-// Slots in km/h.
-fn speeds(slots: [Option<i32>; SLOTS]) -> [Option<u16>; SLOTS]
-    requires { All (IsUpTo 300) (numbers slots) }
-    ensures { result ≡ numbers slots }
-{
-    let mut speeds = [None; SLOTS];
-    for (k, slot) in slots.iter().enumerate() {
-        speeds[k] = speed_of(*slot);
-    }
-    speeds
-}
-
-// A slot in per cent.
-fn per_cent_of(slot: Option<i32>) -> Option<u8>
-    requires { IsUpTo 100 (option_map unsigned_abs slot) }
-    ensures { result ≡ option_map unsigned_abs slot }
-{
-    match slot {
-        Some(v) => Some(v.unsigned_abs() as u8),
-        None => None,
-    }
-}
-
-// Slots in per cent.
-fn per_cents(slots: [Option<i32>; SLOTS]) -> [Option<u8>; SLOTS]
-    requires { All (IsUpTo 100) (numbers slots) }
-    ensures { result ≡ numbers slots }
-{
-    let mut per_cents = [None; SLOTS];
-    for (k, slot) in slots.iter().enumerate() {
-        per_cents[k] = per_cent_of(*slot);
-    }
-    per_cents
-}
-
-// Whether a switch is on: it gives 1 then.
-fn switch_of(slot: Option<i32>) -> Option<bool>
-    ensures { result ≡ switch slot }
-{
-    slot.map(|v| v.unsigned_abs() == 1)
-}
-
-// Slots of a switch.
-fn switches_of(slots: [Option<i32>; SLOTS]) -> [Option<bool>; SLOTS]
-    ensures { result ≡ switches slots }
-{
-    let mut switches = [None; SLOTS];
-    for (k, slot) in slots.iter().enumerate() {
-        switches[k] = switch_of(*slot);
-    }
-    switches
 }
 
 impl Captures {

@@ -2,14 +2,18 @@
 //! and issues the commands of each tick.
 #![tactic(auto)]
 
+mod ask;
 mod candidate;
 mod captures;
 mod parts;
+mod slots;
+mod split;
 
 ghost use Rattle.std.specs.Prelude.{◌≡◌, ◌↔◌, ℕ, ◌≤◌, IfOk, IfErr, IsOk, OnOk, OnErr};
 ghost use Rattle.edr_items.specs.SensorLists.{no_items};
 ghost use Rattle.edr_definitions.specs.Schedule.{Progress, Give, Close, IsAllowed, after_step};
 
+pub use ask::PartRefused;
 pub use candidate::Issued;
 use candidate::{Candidate, Row, follow, issue, passes_by};
 use captures::Captures;
@@ -19,6 +23,7 @@ use edr_link::Link;
 use edr_merge::{Merge, MergeRefused, Next};
 use edr_record::{Crash, Key, Pre};
 pub use parts::parts_make_the_commands;
+pub use split::{SplitCore, SplitStep};
 use std::alloc::{AllocError as OutOfMemory, Global};
 use std::marker::Model;
 
