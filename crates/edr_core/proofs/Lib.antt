@@ -5,3 +5,7 @@ pub mod TickLemmas
 pub mod GiveLemmas
 pub mod StepLemmas
 pub mod PartsLaws
+pub mod SplitTickLemmas
+pub mod TakenLemmas
+pub mod SplitGiveLemmas
+pub mod SplitStepLemmas

@@ -1,11 +1,13 @@
 //! A tick that is a time zero, while parts of it are missing.
 
-ghost use Rattle.std.specs.Prelude.{◌≡◌, Some, None, IfOk, IfErr, IsSome, OnOk, OnErr};
-ghost use Rattle.edr_record.specs.declared.Key.{Key};
-ghost use Rattle.edr_record.specs.declared.Place.TheVariants.{First};
+ghost use Rattle.std.specs.Prelude.{◌≡◌, Some, None, IfOk, IfErr, IsSome, OnOk, OnErr, All};
+ghost use Rattle.edr_items.specs.declared.Sensor.TheVariants.{Speed, Throttle};
+ghost use Rattle.edr_record.specs.Bounds.{IsUpTo};
+ghost use Rattle.edr_definitions.specs.Parts.{numbers, switch};
+ghost use Rattle.edr_core.specs.Parts.{first_slot};
 
 use crate::candidate::Row;
-use crate::slots::{per_cents, speeds, switch_of, switches_of};
+use crate::slots::{SLOTS, per_cents, speeds, switch_of, switches_of};
 use edr_capture::Part;
 use edr_detect::Change;
 use edr_items::Sensor;
@@ -100,19 +102,60 @@ impl Parts {
         Ok(())
     }
 
+    #[tactic(auto, unfolding(crate::specs::Ask::missing_in))]
     // All five, or the lowest-numbered sensor of which none was taken.
     pub fn all(&self) -> Result<AllParts, Sensor>
         ensures all { IfOk result (λ parts. self.now ≡ in_places parts) }
         ensures missing { IfErr result (λ s. missing_in self.now ≡ Some s) }
     {
+        let Some(speed) = self.speed else {
+            return Err(Sensor::Speed);
+        };
+        let Some(throttle) = self.throttle else {
+            return Err(Sensor::Throttle);
+        };
+        let Some(brake) = self.brake else {
+            return Err(Sensor::Brake);
+        };
+        let Some(belt) = self.belt else {
+            return Err(Sensor::Belt);
+        };
+        let Some(lamp) = self.lamp else {
+            return Err(Sensor::Lamp);
+        };
         Ok(AllParts {
-            speed: self.speed.ok_or(Sensor::Speed)?,
-            throttle: self.throttle.ok_or(Sensor::Throttle)?,
-            brake: self.brake.ok_or(Sensor::Brake)?,
-            belt: self.belt.ok_or(Sensor::Belt)?,
-            lamp: self.lamp.ok_or(Sensor::Lamp)?,
+            speed,
+            throttle,
+            brake,
+            belt,
+            lamp,
         })
     }
+}
+
+// The slots of a speed part, in km/h.
+fn speeds_of(part: &Part) -> [Option<u16>; SLOTS]
+    requires { part.now.sensor ≡ Speed }
+    ensures slots { result ≡ numbers part.now.slots }
+    ensures bounded { All (IsUpTo 300) result }
+{
+    speeds(part.slots)
+}
+
+// The slots of a throttle part, in per cent.
+fn per_cents_of(part: &Part) -> [Option<u8>; SLOTS]
+    requires { part.now.sensor ≡ Throttle }
+    ensures slots { result ≡ numbers part.now.slots }
+    ensures bounded { All (IsUpTo 100) result }
+{
+    per_cents(part.slots)
+}
+
+// The one slot of a switch's part.
+fn first_switch(part: &Part) -> Option<bool>
+    ensures { result ≡ switch (first_slot part.now.slots) }
+{
+    switch_of(part.slots[0])
 }
 
 impl AllParts {
@@ -127,11 +170,11 @@ impl AllParts {
         Pre {
             key,
             place: Place::First,
-            speed: speeds(self.speed.slots),
-            throttle: per_cents(self.throttle.slots),
+            speed: speeds_of(&self.speed),
+            throttle: per_cents_of(&self.throttle),
             brake: switches_of(self.brake.slots),
-            belt: switch_of(self.belt.slots[0]),
-            lamp: switch_of(self.lamp.slots[0]),
+            belt: first_switch(&self.belt),
+            lamp: first_switch(&self.lamp),
         }
     }
 }

@@ -201,4 +201,6 @@ impl Core {
 }
 
 #[cfg(test)]
+mod split_tests;
+#[cfg(test)]
 mod tests;

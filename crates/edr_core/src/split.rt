@@ -123,7 +123,8 @@ impl SplitCore {
         if item.moment > self.closed + LONGEST_GAP && self.asking {
             return Err(self.ahead(sensor, item));
         }
-        self.merge.accept(sensor, item)
+        self.merge.accept(sensor, item)?;
+        Ok(())
     }
 
     // Why an item is refused that is too far ahead while parts are asked for: the merge has closed their time zero already.
@@ -256,12 +257,14 @@ impl SplitCore {
         ensures why { (h : History) → SplitCoreStandsFor self.old h → IfErr result (λ e. part_refusal_of part h ≡ Some e) }
     {
         let asked = self.closed + 1;
-        let Some(ask) = &mut self.ask else {
+        let Some(mut ask) = self.ask else {
             return Err(PartRefused::NotAsked);
         };
         if part.zero != asked {
             return Err(PartRefused::Zero { asked });
         }
-        ask.parts.put(part)
+        ask.parts.put(part)?;
+        self.ask = Some(ask);
+        Ok(())
     }
 }
