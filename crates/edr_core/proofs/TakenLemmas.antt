@@ -94,7 +94,7 @@ found : (q : SensorPart) (parts : List SensorPart) (s : Sensor) (z : ℕ) (b : B
 unfolding part_in
 found q parts s z b is = ap (λ (v : Bool). cond {A = Option SensorPart} v (Some q) (find (is_part_of s z) parts)) is
 
-eqb_same : (n : ℕ) → nat_eq n n ≡ true
+pub eqb_same : (n : ℕ) → nat_eq n n ≡ true
 eqb_same n = search arith
 
 is_of : (q : SensorPart) (r s : Sensor) (z : ℕ) → q.sensor ≡ r → q.zero ≡ z → is_part_of s z q ≡ (nat_eq (number_of r) (number_of s) && true)
@@ -104,7 +104,7 @@ is_of q r s z sensor zero =
     ∙ ap (λ (v : Bool). nat_eq (number_of r) (number_of s) && v) (eqb_same z)
 
 -- what is found once the part of the sensor r was taken
-taken : (q : SensorPart) (parts : List SensorPart) (z : ℕ) → q.zero ≡ z → (r s : Sensor) (b : Bool) → (nat_eq (number_of r) (number_of s) && true) ≡ b → q.sensor ≡ r → part_in (q ∷ parts) s z ≡ cond {A = Option SensorPart} b (Some q) (part_in parts s z)
+pub taken : (q : SensorPart) (parts : List SensorPart) (z : ℕ) → q.zero ≡ z → (r s : Sensor) (b : Bool) → (nat_eq (number_of r) (number_of s) && true) ≡ b → q.sensor ≡ r → part_in (q ∷ parts) s z ≡ cond {A = Option SensorPart} b (Some q) (part_in parts s z)
 taken q parts z zero r s b is sensor = found q parts s z b (is_of q r s z sensor zero ∙ is)
 
 -- one more part stands in its sensor's place

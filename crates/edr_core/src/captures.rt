@@ -1,15 +1,10 @@
-//! The rings of the five sensors of which a pre part tells, and the freeze of a pre part.
+//! The rings of the five sensors of which a pre part tells.
 
-ghost use Rattle.std.specs.Prelude.{◌≡◌, ℕ, ◌+◌, ◌≤◌, ◌-◌, IfOk};
-ghost use Rattle.edr_items.specs.Item.{mark_of};
-ghost use Rattle.edr_items.specs.SensorLists.{SensorLists, no_items};
-ghost use Rattle.edr_record.specs.declared.Place.TheVariants.{First};
-ghost use Rattle.edr_definitions.specs.Parts.{slot, slots_before, pre_part};
+ghost use Rattle.std.specs.Prelude.{◌≡◌, IfOk};
 
-use crate::slots::{SLOTS, per_cents, speeds, switch_of, switches_of};
+use crate::split::SplitCore;
 use edr_capture::Capture;
 use edr_items::{Item, Sensor};
-use edr_record::{Key, Place, Pre};
 use std::alloc::{AllocError as OutOfMemory, Global};
 
 // What the five sensors gave.
@@ -22,31 +17,11 @@ pub struct Captures {
     pub lamp: Capture,
 }
 
-// The slots of a sensor before that time zero. A time before the cycle counts as its tick 0.
-fn slots(capture: &Capture, zero: u32) -> [Option<i32>; SLOTS]
-    requires zero { zero ≤ 86_400_000 }
-    requires near { mark_of capture.now ≤ zero + 1_000 }
-    ensures { result ≡ slots_before capture.now zero }
-{
-    let mut slots = [None; SLOTS];
-    for k in 0..SLOTS {
-        let at = (zero + 500 * k as u32).saturating_sub(5_000);
-        slots[k] = capture.slot(i64::from(at));
-    }
-    slots
-}
-
-// The slot of a sensor 1 s before that time zero.
-fn slot_before(capture: &Capture, zero: u32) -> Option<i32>
-    requires zero { zero ≤ 86_400_000 }
-    requires near { mark_of capture.now ≤ zero + 1_000 }
-    ensures { result ≡ slot capture.now (zero - 1_000) }
-{
-    capture.slot(i64::from(zero.saturating_sub(1_000)))
-}
-
 impl Captures {
-    ghost use Rattle.edr_core.specs.Captures.{no_captures, kept_lists, with_kept, IsLater, KeepPrePart};
+    ghost use Rattle.edr_core.specs.Captures.{no_captures, with_kept, IsLater};
+    ghost use Rattle.edr_core.specs.SplitHistory.{History};
+    ghost use Rattle.edr_core.specs.SplitStandsFor.{SplitCoreStandsFor};
+    ghost use Rattle.edr_core.specs.OwnParts.{with_own_parts, AsksFor};
 
     // No sensor has given an item yet.
     pub fn new(alloc: Global) -> Result<Captures, OutOfMemory>
@@ -76,19 +51,18 @@ impl Captures {
         }
     }
 
-    // The pre part of the event with this key, as that of a first event.
-    pub fn freeze(&self, key: Key) -> Pre
-        requires { (f : SensorLists) × KeepPrePart self.now key.cycle key.zero f }
-        ensures { result ≡ pre_part (kept_lists self.now) key.cycle First key.zero }
+    // Gives the split core the five parts that it asks for. It stands apart, since few ticks are a time zero, and the places of the
+    // parts are large.
+    #[inline(never)]
+    pub fn give_parts(&self, split: &mut SplitCore, zero: u32)
+        requires { (h : History) × AsksFor split.old self.now h zero }
+        ensures { (h : History) → AsksFor split.old self.now h zero → SplitCoreStandsFor split.new (with_own_parts h) }
     {
-        Pre {
-            key,
-            place: Place::First,
-            speed: speeds(slots(&self.speed, key.zero)),
-            throttle: per_cents(slots(&self.throttle, key.zero)),
-            brake: switches_of(slots(&self.brake, key.zero)),
-            belt: switch_of(slot_before(&self.belt, key.zero)),
-            lamp: switch_of(slot_before(&self.lamp, key.zero)),
-        }
+        // It takes each: they are of its time zero, and it took none of them.
+        let _ = split.part(self.speed.part(Sensor::Speed, zero));
+        let _ = split.part(self.throttle.part(Sensor::Throttle, zero));
+        let _ = split.part(self.brake.part(Sensor::Brake, zero));
+        let _ = split.part(self.belt.part(Sensor::Belt, zero));
+        let _ = split.part(self.lamp.part(Sensor::Lamp, zero));
     }
 }

@@ -4,7 +4,7 @@ use Rattle.edr_core.specs.SplitHistory.{after_item}
 use Rattle.edr_core.specs.SplitContents.{SplitContents}
 use Rattle.edr_core.specs.SplitFields.{split_contents}
 use Rattle.edr_core.specs.SplitStandsFor.{merged, SplitCoreStandsFor}
-use Rattle.edr_core.proofs.SplitGiveLemmas.{closed-early, allowed-past, split-gives}
+use Rattle.edr_core.proofs.GiveLemmas.{closed-early, allowed-past, split-gives}
 use Rattle.edr_core.proofs.split.SplitCore.accept.Goals.{else-item-self-via-then-item-self+else-self, else-item-self-via-else-item-self}
 use Rattle.edr_core.proofs.split.SplitCore.accept.Goals as goal
 

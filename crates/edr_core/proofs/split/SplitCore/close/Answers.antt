@@ -7,8 +7,8 @@ use Rattle.edr_core.specs.Candidate.{no_issues}
 use Rattle.edr_core.specs.SplitContents.{SplitContents}
 use Rattle.edr_core.specs.SplitFields.{split_contents}
 use Rattle.edr_core.specs.SplitStandsFor.{SplitCoreStandsFor}
-use Rattle.edr_core.proofs.SplitGiveLemmas.{asks-not, no-ask, merge-free}
-use Rattle.edr_core.proofs.SplitStepLemmas.{waits-due, room, small-along, small-across, row-in_range, all-short, ask-opens, asks-due, closes-due, can-tell, step-stands, step-commands, step-ticks}
+use Rattle.edr_core.proofs.GiveLemmas.{asks-not, no-ask, merge-free}
+use Rattle.edr_core.proofs.StepLemmas.{waits-due, room, small-along, small-across, row-in_range, all-short, ask-opens, asks-due, closes-due, can-tell, step-stands, step-commands, step-ticks}
 use Rattle.edr_core.proofs.split.SplitCore.close.Goals as goal
 
 pub returns-in-Waiting-clause-answer : goal.returns-in-Waiting-clause-answer

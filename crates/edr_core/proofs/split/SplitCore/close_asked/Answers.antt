@@ -5,9 +5,9 @@ use Rattle.edr_core.specs.Candidate.{begun}
 use Rattle.edr_core.specs.SplitContents.{SplitContents}
 use Rattle.edr_core.specs.SplitFields.{split_contents}
 use Rattle.edr_core.specs.SplitStandsFor.{SplitCoreStandsFor}
-use Rattle.edr_core.proofs.SplitGiveLemmas.{closed-early, asked-is}
+use Rattle.edr_core.proofs.GiveLemmas.{closed-early, asked-is}
 use Rattle.edr_core.proofs.TakenLemmas.{of-sensors}
-use Rattle.edr_core.proofs.SplitStepLemmas.{lacks-due, key-fits, asked-due, asked-tell, asked-stands, asked-commands, asked-ticks}
+use Rattle.edr_core.proofs.StepLemmas.{lacks-due, key-fits, asked-due, asked-tell, asked-stands, asked-commands, asked-ticks}
 use Rattle.edr_core.proofs.split.SplitCore.close_asked.Goals as goal
 
 pub overflow_add-tick : goal.overflow_add-tick

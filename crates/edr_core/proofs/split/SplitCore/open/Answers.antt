@@ -1,6 +1,6 @@
 use Rattle.std.proofs.Common.{arith, refl}
 use Rattle.edr_core.specs.SplitHistory.{start_of}
-use Rattle.edr_core.proofs.SplitGiveLemmas.{split-starts}
+use Rattle.edr_core.proofs.GiveLemmas.{split-starts}
 use Rattle.edr_core.proofs.split.SplitCore.open.Goals as goal
 
 pub invariant_of-result : goal.invariant_of-result

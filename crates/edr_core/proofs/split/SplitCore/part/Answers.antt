@@ -7,7 +7,7 @@ use Rattle.edr_core.specs.SplitHistory.{after_part}
 use Rattle.edr_core.specs.SplitContents.{SplitContents}
 use Rattle.edr_core.specs.SplitFields.{split_contents}
 use Rattle.edr_core.specs.SplitStandsFor.{SplitCoreStandsFor}
-use Rattle.edr_core.proofs.SplitGiveLemmas.{closed-early, split-takes}
+use Rattle.edr_core.proofs.GiveLemmas.{closed-early, split-takes}
 use Rattle.edr_core.proofs.split.SplitCore.part.Goals as goal
 
 pub overflow_add-asked : goal.overflow_add-asked
