@@ -1,7 +1,9 @@
 pub mod SlotLemmas
-pub mod CaptureLemmas
 pub mod RowLemmas
+pub mod TakenLemmas
 pub mod TickLemmas
 pub mod GiveLemmas
 pub mod StepLemmas
+pub mod CaptureLemmas
+pub mod OwnLemmas
 pub mod PartsLaws

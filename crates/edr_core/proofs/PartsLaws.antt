@@ -11,7 +11,7 @@ use Rattle.edr_definitions.specs.Signals.{Signals, signals_of}
 use Rattle.edr_definitions.specs.Selection.{Event, close_of}
 use Rattle.edr_definitions.specs.Parts.{pre_part, crash_part}
 use Rattle.edr_definitions.specs.Commands.{Issue, locks_at, lock_of, issues_of, placed_events, all_issues, issues, commands}
-use Rattle.edr_core.specs.Parts.{with_parts, command_with, commands_with, parts_of, HaveTheFastItems}
+use Rattle.edr_core.specs.Parts.{with_parts, command_with, commands_with, issue_with, issues_with, parts_of, HaveTheFastItems}
 
 -- a pre part is made of its parts, whatever the slots were before
 pub pre_part-with : (f g : SensorLists) (n : ℕ) (place : Place) (z : ℕ) → with_parts (parts_of f) (pre_part g n place z) ≡ pre_part f n place z
@@ -20,10 +20,6 @@ pre_part-with f g n place z = refl
 
 signals_same : (f g : SensorLists) → HaveTheFastItems f g → signals_of g ≡ signals_of f
 signals_same f g h = rw (h.along, h.across, h.restraint) refl
-
--- an issue with its command's parts
-abbrev issue_with : (Sensor → ℕ → List (Option ℤ)) → Issue → Issue
-issue_with slots i = record { tick = i.tick; command = command_with slots i.command }
 
 locks-with : (slots : Sensor → ℕ → List (Option ℤ)) (p : PrePart) (o : Option ℕ) → map (issue_with slots) (locks_at p o) ≡ locks_at (with_parts slots p) o
 locks-with slots p None = refl
@@ -76,9 +72,11 @@ module _ (f g : SensorLists) (n : ℕ) (h : HaveTheFastItems f g) where
   commands-of [] = refl
   commands-of (i ∷ is) = ap (λ xs. command_with (parts_of f) i.command ∷ xs) (commands-of is)
 
+  pub issues-with : (t : ℕ) → issues_with (parts_of f) g n t ≡ issues f n t
+  issues-with t =
+      filtered-with t (all_issues g n t)
+      ∙ ap (filter (λ i. nat_le i.tick t)) (all-with (placed_events (signals_of g) t) ∙ ap (λ (m : Signals). flat_map (issues_of f n) (placed_events m t)) (signals_same f g h))
+
   pub commands-with : (t : ℕ) → commands_with (parts_of f) g n t ≡ commands f n t
   unfolding commands
-  commands-with t =
-      commands-of (issues g n t)
-      ∙ ap (map (λ i. i.command)) (filtered-with t (all_issues g n t)
-      ∙ ap (filter (λ i. nat_le i.tick t)) (all-with (placed_events (signals_of g) t) ∙ ap (λ (m : Signals). flat_map (issues_of f n) (placed_events m t)) (signals_same f g h)))
+  commands-with t = commands-of (issues g n t) ∙ ap (map (λ i. i.command)) (issues-with t)

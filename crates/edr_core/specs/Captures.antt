@@ -1,11 +1,10 @@
--- What the five captures stand for, and when a pre part can be frozen.
-use Rattle.std.specs.Prelude.{ℕ, ◌+◌, ◌<◌, ◌≤◌, []}
-use Rattle.edr_items.specs.declared.TheConstants.{LATEST_MOMENT, LONGEST_GAP}
+-- What the five captures stand for.
+use Rattle.std.specs.Prelude.{◌<◌, []}
 use Rattle.edr_items.specs.declared.Sensor.{Sensor}
 use Rattle.edr_items.specs.declared.Sensor.TheVariants.{Along, Across, Speed, Throttle, Brake, Belt, Lamp, Restraint}
 use Rattle.edr_items.specs.declared.Item.{Item}
 use Rattle.edr_items.specs.Item.{mark_of}
-use Rattle.edr_items.specs.SensorLists.{SensorLists, items_of, AreFeeds}
+use Rattle.edr_items.specs.SensorLists.{SensorLists, items_of}
 use Rattle.edr_capture.specs.Capture.{StandsFor, kept_after}
 use Rattle.edr_core.specs.declared.captures.Captures.{Captures}
 
@@ -39,13 +38,3 @@ pub record CapturesStandFor (c : Captures) (f : SensorLists) : Type 0 where
   pub brake : StandsFor c.brake f.brake
   pub belt : StandsFor c.belt f.belt
   pub lamp : StandsFor c.lamp f.lamp
-
--- the captures keep enough of these feeds for the pre part of the time zero z of cycle n: no sensor is further past it than a gap may be
-pub record KeepPrePart (c : Captures) (n z : ℕ) (f : SensorLists) : Type 0 where
-  pub feeds : AreFeeds f
-  pub kept : CapturesStandFor c f
-  pub near : (s : Sensor) → mark_of (items_of s f) ≤ z + LONGEST_GAP
-  pub cycle_from : 1 ≤ n
-  pub cycle_to : n ≤ 4_294_967_295
-  pub zero_from : 1 ≤ z
-  pub zero_to : z ≤ LATEST_MOMENT

@@ -1,8 +1,15 @@
 pub mod Captures
 pub mod Candidate
 pub mod Rows
+pub mod Parts
+pub mod SplitHistory
+pub mod Ask
+pub mod SplitContents
+pub mod SplitStandsFor
+pub mod SplitFields
+pub mod OwnParts
 pub mod Contents
 pub mod StandsFor
 pub mod Fields
 pub mod Answers
-pub mod Parts
+pub mod SplitAnswers

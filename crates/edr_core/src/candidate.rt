@@ -1,20 +1,15 @@
 //! The open candidate: what is kept of it from tick to tick, and what a tick issues of it.
 
-ghost use Rattle.std.specs.Prelude.{◌≡◌, ℕ, Option, true, IsTrue, Some, IfSome};
-ghost use Rattle.edr_items.specs.SensorLists.{SensorLists};
+ghost use Rattle.std.specs.Prelude.{◌≡◌, ℕ, Option, IsTrue, IfSome, option_map};
 ghost use Rattle.edr_record.specs.declared.Place.{Place};
-ghost use Rattle.edr_record.specs.declared.Place.TheVariants.{First};
-ghost use Rattle.edr_definitions.specs.Parts.{pre_part};
 ghost use Rattle.edr_detect.specs.Stages.{told_of};
-ghost use Rattle.edr_core.specs.Captures.{kept_lists, KeepPrePart};
-ghost use Rattle.edr_core.specs.Candidate.{IsRowInRange, IsShort, CanBeTold, begun, grown, grown_or_begun, told, linked, issued, no_issues, candidate_after, link_after, issued_after};
+ghost use Rattle.edr_core.specs.Candidate.{IsRowInRange, IsShort, CanBeTold, begun, grown, told, linked, issued, no_issues, candidate_after, link_after, issued_after};
 
-use crate::captures::Captures;
 use edr_crashpart::CrashPart;
 use edr_detect::Change;
 use edr_items::Restraints;
 use edr_link::Link;
-use edr_record::{Crash, Key, Pre};
+use edr_record::{Crash, Pre};
 
 // What was given of a tick: the sample of each axis, if there is one, and the restraints that fire.
 #[derive(Clone, Copy)]
@@ -107,33 +102,14 @@ impl Candidate {
     }
 }
 
-// Opens a candidate at its time zero. Few ticks are one, and the places that this takes are large: it stands apart, so that
-// the other ticks don't clear them.
-#[inline(never)]
-fn open(candidate: &mut Option<Candidate>, captures: &Captures, key: Key, row: Row)
-    requires { (f : SensorLists) × KeepPrePart captures.now key.cycle key.zero f }
-    ensures { candidate.new ≡ Some (begun (pre_part (kept_lists captures.now) key.cycle First key.zero) row) }
-{
-    *candidate = Some(Candidate::begin(captures.freeze(key), row));
-}
-
-// Begins a candidate where the tick is a time zero, and else gives the open one its row. `key` is that of an event with
-// this time zero.
-pub fn follow(
-    candidate: &mut Option<Candidate>,
-    captures: &Captures,
-    key: Key,
-    change: Change,
-    row: Row,
-)
-    requires freeze { change.zero ≡ true → (f : SensorLists) × KeepPrePart captures.now key.cycle key.zero f }
+// Gives the open candidate its row.
+#[inline(always)]
+pub fn grow(candidate: &mut Option<Candidate>, row: Row)
     requires short { IfSome candidate.old IsShort }
     requires in_range { IsRowInRange row }
-    ensures { candidate.new ≡ grown_or_begun (told_of change) (pre_part (kept_lists captures.now) key.cycle First key.zero) row candidate.old }
+    ensures { candidate.new ≡ option_map (grown row) candidate.old }
 {
-    if change.zero {
-        open(candidate, captures, key, row);
-    } else if let Some(open) = candidate {
+    if let Some(open) = candidate {
         open.grow(row);
     }
 }
@@ -151,7 +127,7 @@ pub fn passes_by(candidate: &Option<Candidate>, change: Change) -> bool
 }
 
 // Puts what a tick issues into `issued`, once it is told to the open candidate. One that is dropped or closed there is open
-// no longer. It stands apart for the same reason.
+// no longer. Records are large: it stands apart, so that other ticks don't clear their places.
 #[inline(never)]
 pub fn issue(
     candidate: &mut Option<Candidate>,

@@ -2,23 +2,26 @@
 //! and issues the commands of each tick.
 #![tactic(auto)]
 
+mod ask;
 mod candidate;
 mod captures;
 mod parts;
+mod slots;
+mod split;
 
 ghost use Rattle.std.specs.Prelude.{◌≡◌, ◌↔◌, ℕ, ◌≤◌, IfOk, IfErr, IsOk, OnOk, OnErr};
 ghost use Rattle.edr_items.specs.SensorLists.{no_items};
 ghost use Rattle.edr_definitions.specs.Schedule.{Progress, Give, Close, IsAllowed, after_step};
 
+pub use ask::PartRefused;
 pub use candidate::Issued;
-use candidate::{Candidate, Row, follow, issue, passes_by};
 use captures::Captures;
-use edr_detect::Detect;
 use edr_items::{Item, Sensor};
-use edr_link::Link;
-use edr_merge::{Merge, MergeRefused, Next};
-use edr_record::{Crash, Key, Pre};
+use edr_merge::MergeRefused;
+use edr_record::{Crash, Pre};
 pub use parts::parts_make_the_commands;
+use split::SplitClosing;
+pub use split::{SplitCore, SplitStep};
 use std::alloc::{AllocError as OutOfMemory, Global};
 use std::marker::Model;
 
@@ -55,13 +58,8 @@ pub enum Closing {
 /// All memory is taken when it is opened. A call takes none and has a bounded number of steps.
 #[derive(Drop)]
 pub struct Core {
-    cycle: u32,
-    closed: u32,
-    merge: Merge,
-    detect: Detect,
+    split: SplitCore,
     captures: Captures,
-    link: Link,
-    candidate: Option<Candidate>,
 }
 
 impl Model for Core {
@@ -87,13 +85,8 @@ impl Core {
         ensures { IfOk result (λ c. CoreIsFor c cycle (record { given = no_items; closed = 0 })) }
     {
         Ok(Core {
-            cycle,
-            closed: 0,
-            merge: Merge::new(alloc)?,
-            detect: Detect::new(),
+            split: SplitCore::open(alloc, cycle)?,
             captures: Captures::new(alloc)?,
-            link: Link::new(),
-            candidate: None,
         })
     }
 
@@ -101,7 +94,7 @@ impl Core {
     pub fn closed(&self) -> u32
         ensures { (n : ℕ) (p : Progress) → CoreIsFor self.now n p → result ≡ p.closed }
     {
-        self.closed
+        self.split.closed()
     }
 
     /// Takes one more item of that sensor.
@@ -119,7 +112,7 @@ impl Core {
         ensures allowed { (n : ℕ) (p : Progress) → CoreIsFor self.old n p → IsOk result ↔ IsAllowed (Give sensor item) p }
         ensures why { (n : ℕ) (p : Progress) → CoreIsFor self.old n p → IfErr result (λ e. give_refusal_of sensor item p ≡ Some e) }
     {
-        self.merge.accept(sensor, item)?;
+        self.split.accept(sensor, item)?;
         self.captures.push(sensor, item);
         Ok(())
     }
@@ -159,41 +152,22 @@ impl Core {
         ensures waits { (n : ℕ) (p : Progress) → CoreIsFor self.old n p → awaited (step_of result issued.new) ≡ waited_for p }
         ensures quiet { IsQuiet result → issued.new ≡ issued.old }
     {
-        let (tick, row) = match self.merge.next() {
-            Next::Waiting { sensor } => return Closing::Waiting { sensor },
-            Next::Row {
-                tick,
-                along,
-                across,
-                fired,
-            } => (
-                tick,
-                Row {
-                    along,
-                    across,
-                    fired,
-                },
-            ),
-        };
-        let key = Key {
-            cycle: self.cycle,
-            zero: tick,
-        };
-        let change = self
-            .detect
-            .tick(row.along.unwrap_or(0), row.across.unwrap_or(0), row.fired);
-        follow(&mut self.candidate, &self.captures, key, change, row);
-        self.closed = tick;
-        if passes_by(&self.candidate, change) {
-            return Closing::Closed {
-                tick,
-                issues: false,
-            };
+        match self.split.close(issued) {
+            SplitClosing::Waiting { sensor } => Closing::Waiting { sensor },
+            SplitClosing::Closed { tick, issues } => Closing::Closed { tick, issues },
+            SplitClosing::Ask { zero } => {
+                self.captures.give_parts(&mut self.split, zero);
+                match self.split.close_asked(issued) {
+                    SplitClosing::Closed { tick, issues } => Closing::Closed { tick, issues },
+                    _ => unreachable!(),
+                }
+            }
+            SplitClosing::Parts { .. } => unreachable!(),
         }
-        issue(&mut self.candidate, &mut self.link, tick, change, issued);
-        Closing::Closed { tick, issues: true }
     }
 }
 
+#[cfg(test)]
+mod split_tests;
 #[cfg(test)]
 mod tests;

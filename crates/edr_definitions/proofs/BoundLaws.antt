@@ -46,7 +46,7 @@ accepted_value s x last false true good e h = cc
 accepted_value s x last false false true e h = refl
 accepted_value s x last false false false e h = cc
 
-in_range : (s : Sensor) (last : ℕ) (x : Item) → refusal_of s last x ≡ None → has_value_in_range s x ≡ true
+pub in_range : (s : Sensor) (last : ℕ) (x : Item) → refusal_of s last x ≡ None → has_value_in_range s x ≡ true
 unfolding refusal_of
 in_range s last x h = accepted_value s x last (nat_le x.moment last) (nat_le (LATEST_MOMENT + 1) x.moment) (has_value_in_range s x) refl h
 

@@ -7,8 +7,8 @@ mod rings;
 mod samples;
 
 ghost use Rattle.std.specs.Prelude.{◌≡◌, ◌↔◌, ◌≤◌, pos, ◌≤ℤ◌, IfOk, IfErr, IsOk, OnOk, OnErr, IfSome, unsigned_abs, unwrap_or};
-ghost use Rattle.edr_items.specs.Item.{refusal_of};
-ghost use Rattle.edr_items.specs.SensorLists.{no_items};
+ghost use Rattle.edr_items.specs.Item.{refusal_of, mark_of};
+ghost use Rattle.edr_items.specs.SensorLists.{no_items, items_of};
 ghost use Rattle.edr_definitions.specs.Schedule.{Progress, Give, Close, IsAllowed, after_step};
 ghost use Rattle.edr_merge.specs.Marks.{first_at, mark_in};
 ghost use Rattle.edr_merge.specs.Lag.{IsBelowSlow};
@@ -156,6 +156,13 @@ impl Merge {
         self.marks.set(sensor, item.moment);
         self.rings.keep(sensor, item);
         Ok(())
+    }
+
+    /// The last moment of that sensor, 0 before its first item.
+    pub fn mark(&self, sensor: Sensor) -> u32
+        ensures { (p : Progress) → MergeStandsFor self.now p → result ≡ mark_of (items_of sensor p.given) }
+    {
+        self.marks.of(sensor)
     }
 
     /// Closes the next tick and gives its row, if no sensor can give an item of it any more.

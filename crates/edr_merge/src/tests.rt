@@ -126,6 +126,7 @@ fn an_item_too_far_ahead_is_refused(rt: HostRuntime) -> Result<(), Fail> {
         assert_eq!(rt; merge.accept(Sensor::Along, item), Err(why));
     }
     assert_eq!(rt; merge.accept(Sensor::Along, sample(1000, 1)), Ok(()));
+    assert_eq!(rt; merge.mark(Sensor::Along), 1000);
     assert_eq!(rt;
         merge.next(),
         Next::Waiting {

@@ -1,163 +1,143 @@
-use Rattle.std.proofs.Common.{rules, sym, subst, ◌∙◌, ◌≤◌, ℤ, unsigned_abs, FitsSigned, to_z, of_z, w32}
-use Rattle.std.proofs.lemmas.Int.{to_z-of_z}
+use Rattle.std.proofs.Common.{ap, refl, sym, subst, ◌≡◌, ◌∙◌, ◌+◌}
 use Rattle.edr_definitions.specs.Schedule.{Close, after_step}
-use Rattle.edr_detect.specs.Stages.{told_of}
-use Rattle.edr_core.specs.Candidate.{no_issues}
+use Rattle.edr_definitions.specs.Core.{commands_of}
+use Rattle.edr_core.specs.Answers.{commands_put}
 use Rattle.edr_core.specs.Contents.{CoreContents}
 use Rattle.edr_core.specs.Fields.{contents_of}
 use Rattle.edr_core.specs.StandsFor.{CoreIsFor}
-use Rattle.edr_core.proofs.StepLemmas.{waits-for-none, room, small-along, small-across, row-in_range, all-short, keeps, can-tell, step-stands, step-commands, step-ticks}
+use Rattle.edr_core.specs.Parts.{parts_of}
+use Rattle.edr_core.specs.OwnParts.{resting, own_parts, with_own_parts}
+use Rattle.edr_core.proofs.OwnLemmas.{asks, own-are, core-waits, core-closes, waits-own, closes-own, asks-own, lacks-none, may-close, may-not, asked, asks-for, closes-asked, must-close, own-commands, own-ticks}
 use Rattle.edr_core.proofs.Core.close.Goals as goal
 
-pub tick-change-requires-clause-along_small : goal.tick-change-requires-clause-along_small
-tick-change-requires-clause-along_small c =
-    let h = c.self.invariant in
-    let along_fits : FitsSigned w32 c.unwrap_or.result = search rules in
-    subst (λ (v : ℤ). unsigned_abs v ≤ 100_000) (sym (to_z-of_z w32 c.unwrap_or.result along_fits ∙ c.unwrap_or.ensures))
-    (small-along c.self.inside c.self.inside.cycle h.past h.stands c.in-Row.tick c.in-Row.along c.in-Row.across c.in-Row.fired (c.in-Row.ensures.answer h.past h.stands.merge_is) ((c.in-Row.ensures.allowed h.past h.stands.merge_is).0 tt))
-
-pub tick-change-requires-clause-across_small : goal.tick-change-requires-clause-across_small
-tick-change-requires-clause-across_small c =
-    let h = c.self.invariant in
-    let across_fits : FitsSigned w32 c.unwrap_or-2.result = search rules in
-    subst (λ (v : ℤ). unsigned_abs v ≤ 100_000) (sym (to_z-of_z w32 c.unwrap_or-2.result across_fits ∙ c.unwrap_or-2.ensures))
-    (small-across c.self.inside c.self.inside.cycle h.past h.stands c.in-Row.tick c.in-Row.along c.in-Row.across c.in-Row.fired (c.in-Row.ensures.answer h.past h.stands.merge_is) ((c.in-Row.ensures.allowed h.past h.stands.merge_is).0 tt))
-
-pub tick-change-requires-clause-room : goal.tick-change-requires-clause-room
-tick-change-requires-clause-room c =
-    let h = c.self.invariant in
-    room c.self.inside c.self.inside.cycle h.past h.stands c.in-Row.tick c.in-Row.along c.in-Row.across c.in-Row.fired (c.in-Row.ensures.answer h.past h.stands.merge_is) ((c.in-Row.ensures.allowed h.past h.stands.merge_is).0 tt)
-
-pub follow-requires-clause-freeze : goal.follow-requires-clause-freeze
-follow-requires-clause-freeze c = λ _.
-    let h = c.self.invariant in
-    (h.past.given, keeps c.self.inside c.self.inside.cycle h.past h.stands c.in-Row.tick c.in-Row.along c.in-Row.across c.in-Row.fired (c.in-Row.ensures.answer h.past h.stands.merge_is) ((c.in-Row.ensures.allowed h.past h.stands.merge_is).0 tt))
-
-pub follow-requires-clause-short : goal.follow-requires-clause-short
-follow-requires-clause-short c =
-    let h = c.self.invariant in
-    all-short c.self.inside c.self.inside.cycle h.past h.stands c.in-Row.tick c.in-Row.along c.in-Row.across c.in-Row.fired (c.in-Row.ensures.answer h.past h.stands.merge_is) ((c.in-Row.ensures.allowed h.past h.stands.merge_is).0 tt)
-
-pub follow-requires-clause-in_range : goal.follow-requires-clause-in_range
-follow-requires-clause-in_range c =
-    let h = c.self.invariant in
-    row-in_range c.self.inside c.self.inside.cycle h.past h.stands c.in-Row.tick c.in-Row.along c.in-Row.across c.in-Row.fired (c.in-Row.ensures.answer h.past h.stands.merge_is) ((c.in-Row.ensures.allowed h.past h.stands.merge_is).0 tt)
-
-pub issue-requires : goal.issue-requires
-issue-requires c =
-    let h = c.self.invariant in
-    let along_fits : FitsSigned w32 c.unwrap_or.result = search rules in
-    let across_fits : FitsSigned w32 c.unwrap_or-2.result = search rules in
-    can-tell c.self.inside c.self.inside.cycle h.past h.stands c.in-Row.tick c.in-Row.along c.in-Row.across c.in-Row.fired (c.in-Row.ensures.answer h.past h.stands.merge_is) ((c.in-Row.ensures.allowed h.past h.stands.merge_is).0 tt)
-    (told_of c.tick-change.result) c.tick-change.new.self (to_z w32 (of_z w32 c.unwrap_or.result)) (to_z w32 (of_z w32 c.unwrap_or-2.result))
-    (to_z-of_z w32 c.unwrap_or.result along_fits ∙ c.unwrap_or.ensures) (to_z-of_z w32 c.unwrap_or-2.result across_fits ∙ c.unwrap_or-2.ensures) c.tick-change.ensures.stands c.tick-change.ensures.answer
-    c.follow.new.candidate c.follow.ensures
-
-pub invariant_of-self-2 : goal.invariant_of-self-2
-invariant_of-self-2 c =
-    let h = c.self.invariant in
-    let along_fits : FitsSigned w32 c.unwrap_or.result = search rules in
-    let across_fits : FitsSigned w32 c.unwrap_or-2.result = search rules in
+-- ---- it waits
+pub invariant_of-self : goal.invariant_of-self
+invariant_of-self c =
+    let h = c.self.invariant.stands in
+    let n = c.self.inside.split.cycle in
+    let p = c.self.invariant.past in
+    let stands = core-waits (contents_of c.self.inside) n p c.close.new.self h (c.in-Waiting.ensures.stands (resting n p h.parts) h.split_is) in
     record {
-      past = after_step h.past Close;
-      stands = step-stands c.self.inside c.self.inside.cycle h.past h.stands c.in-Row.tick c.in-Row.along c.in-Row.across c.in-Row.fired (c.in-Row.ensures.answer h.past h.stands.merge_is) ((c.in-Row.ensures.allowed h.past h.stands.merge_is).0 tt)
-          (told_of c.tick-change.result) c.tick-change.new.self (to_z w32 (of_z w32 c.unwrap_or.result)) (to_z w32 (of_z w32 c.unwrap_or-2.result))
-          (to_z-of_z w32 c.unwrap_or.result along_fits ∙ c.unwrap_or.ensures) (to_z-of_z w32 c.unwrap_or-2.result across_fits ∙ c.unwrap_or-2.ensures) c.tick-change.ensures.stands c.tick-change.ensures.answer
-          c.next.new.self c.follow.new.candidate c.issue.new.candidate c.issue.new.link c.issue.new.issued c.follow.ensures
-          (c.issue.ensures.candidate, c.issue.ensures.link, c.issue.ensures.issued)
-          (c.in-Row.ensures.stands h.past h.stands.merge_is);
+      past = p;
+      stands = subst (λ k. CoreIsFor (contents_of (record { split = c.close.new.self; captures = c.self.inside.captures })) k (p)) (sym stands.cycle_is) stands;
     }
 
-pub returns-clause-stands : goal.returns-clause-stands
-returns-clause-stands c = λ n p before.
+pub returns-in-Waiting-clause-stands : goal.returns-in-Waiting-clause-stands
+returns-in-Waiting-clause-stands c = λ n p before.
     let h : CoreIsFor (contents_of c.self.inside) n p = subst (λ (v : CoreContents). CoreIsFor v n p) (sym c.self.view_is) before in
-    let along_fits : FitsSigned w32 c.unwrap_or.result = search rules in
-    let across_fits : FitsSigned w32 c.unwrap_or-2.result = search rules in
-    step-stands c.self.inside n p h c.in-Row.tick c.in-Row.along c.in-Row.across c.in-Row.fired (c.in-Row.ensures.answer p h.merge_is) ((c.in-Row.ensures.allowed p h.merge_is).0 tt)
-    (told_of c.tick-change.result) c.tick-change.new.self (to_z w32 (of_z w32 c.unwrap_or.result)) (to_z w32 (of_z w32 c.unwrap_or-2.result))
-    (to_z-of_z w32 c.unwrap_or.result along_fits ∙ c.unwrap_or.ensures) (to_z-of_z w32 c.unwrap_or-2.result across_fits ∙ c.unwrap_or-2.ensures) c.tick-change.ensures.stands c.tick-change.ensures.answer
-    c.next.new.self c.follow.new.candidate c.issue.new.candidate c.issue.new.link c.issue.new.issued c.follow.ensures
-    (c.issue.ensures.candidate, c.issue.ensures.link, c.issue.ensures.issued)
-    (c.in-Row.ensures.stands p h.merge_is)
+    core-waits (contents_of c.self.inside) n p c.close.new.self h (c.in-Waiting.ensures.stands (resting n p h.parts) h.split_is)
 
-pub returns-clause-commands : goal.returns-clause-commands
-returns-clause-commands c = λ n p before.
+pub returns-in-Waiting-clause-allowed : goal.returns-in-Waiting-clause-allowed
+returns-in-Waiting-clause-allowed c = λ n p before.
     let h : CoreIsFor (contents_of c.self.inside) n p = subst (λ (v : CoreContents). CoreIsFor v n p) (sym c.self.view_is) before in
-    let along_fits : FitsSigned w32 c.unwrap_or.result = search rules in
-    let across_fits : FitsSigned w32 c.unwrap_or-2.result = search rules in
-    step-commands c.self.inside n p h c.in-Row.tick c.in-Row.along c.in-Row.across c.in-Row.fired (c.in-Row.ensures.answer p h.merge_is) ((c.in-Row.ensures.allowed p h.merge_is).0 tt)
-    (told_of c.tick-change.result) c.tick-change.new.self (to_z w32 (of_z w32 c.unwrap_or.result)) (to_z w32 (of_z w32 c.unwrap_or-2.result))
-    (to_z-of_z w32 c.unwrap_or.result along_fits ∙ c.unwrap_or.ensures) (to_z-of_z w32 c.unwrap_or-2.result across_fits ∙ c.unwrap_or-2.ensures) c.tick-change.ensures.stands c.tick-change.ensures.answer
-    c.next.new.self c.follow.new.candidate c.issue.new.candidate c.issue.new.link c.issue.new.issued c.follow.ensures
-    (c.issue.ensures.candidate, c.issue.ensures.link, c.issue.ensures.issued)
+    ((λ e. absurd e), may-not (contents_of c.self.inside) n p c.in-Waiting.sensor h (waits-own n p h.parts c.in-Waiting.sensor (c.in-Waiting.ensures.answer (resting n p h.parts) h.split_is)))
 
-pub returns-clause-ticks : goal.returns-clause-ticks
-returns-clause-ticks c = λ n p before.
+pub returns-in-Waiting-clause-waits : goal.returns-in-Waiting-clause-waits
+returns-in-Waiting-clause-waits c = λ n p before.
     let h : CoreIsFor (contents_of c.self.inside) n p = subst (λ (v : CoreContents). CoreIsFor v n p) (sym c.self.view_is) before in
-    let along_fits : FitsSigned w32 c.unwrap_or.result = search rules in
-    let across_fits : FitsSigned w32 c.unwrap_or-2.result = search rules in
-    step-ticks c.self.inside n p h c.in-Row.tick c.in-Row.along c.in-Row.across c.in-Row.fired (c.in-Row.ensures.answer p h.merge_is) ((c.in-Row.ensures.allowed p h.merge_is).0 tt)
-    (told_of c.tick-change.result) c.tick-change.new.self (to_z w32 (of_z w32 c.unwrap_or.result)) (to_z w32 (of_z w32 c.unwrap_or-2.result))
-    (to_z-of_z w32 c.unwrap_or.result along_fits ∙ c.unwrap_or.ensures) (to_z-of_z w32 c.unwrap_or-2.result across_fits ∙ c.unwrap_or-2.ensures) c.tick-change.ensures.stands c.tick-change.ensures.answer
-    c.next.new.self c.follow.new.candidate c.issue.new.candidate c.issue.new.link c.issue.new.issued c.follow.ensures
-    (c.issue.ensures.candidate, c.issue.ensures.link, c.issue.ensures.issued)
+    sym (waits-own n p h.parts c.in-Waiting.sensor (c.in-Waiting.ensures.answer (resting n p h.parts) h.split_is))
 
-pub returns-clause-waits : goal.returns-clause-waits
-returns-clause-waits c = λ n p before.
-    let h : CoreIsFor (contents_of c.self.inside) n p = subst (λ (v : CoreContents). CoreIsFor v n p) (sym c.self.view_is) before in
-    sym (waits-for-none c.self.inside n p h c.in-Row.tick c.in-Row.along c.in-Row.across c.in-Row.fired (c.in-Row.ensures.answer p h.merge_is) ((c.in-Row.ensures.allowed p h.merge_is).0 tt))
-
--- the tick passes by what is open, and issues nothing
-pub invariant_of-self-then-passes_by : goal.invariant_of-self-then-passes_by
-invariant_of-self-then-passes_by c =
-    let h = c.self.invariant in
-    let along_fits : FitsSigned w32 c.unwrap_or.result = search rules in
-    let across_fits : FitsSigned w32 c.unwrap_or-2.result = search rules in
+-- ---- it closes a tick that is no time zero
+pub invariant_of-self-in-Closed : goal.invariant_of-self-in-Closed
+invariant_of-self-in-Closed c =
+    let h = c.self.invariant.stands in
+    let n = c.self.inside.split.cycle in
+    let p = c.self.invariant.past in
+    let stands = core-closes (contents_of c.self.inside) n p c.close.new.self h.parts h (c.in-Closed.ensures.stands (resting n p h.parts) h.split_is) h.parts_are in
     record {
-      past = after_step h.past Close;
-      stands = step-stands c.self.inside c.self.inside.cycle h.past h.stands c.in-Row.tick c.in-Row.along c.in-Row.across c.in-Row.fired (c.in-Row.ensures.answer h.past h.stands.merge_is) ((c.in-Row.ensures.allowed h.past h.stands.merge_is).0 tt)
-          (told_of c.tick-change.result) c.tick-change.new.self (to_z w32 (of_z w32 c.unwrap_or.result)) (to_z w32 (of_z w32 c.unwrap_or-2.result))
-          (to_z-of_z w32 c.unwrap_or.result along_fits ∙ c.unwrap_or.ensures) (to_z-of_z w32 c.unwrap_or-2.result across_fits ∙ c.unwrap_or-2.ensures) c.tick-change.ensures.stands c.tick-change.ensures.answer
-          c.next.new.self c.follow.new.candidate c.follow.new.candidate c.self.inside.link no_issues c.follow.ensures
-          (c.passes_by.ensures c.if-passes_by.true c.in-Row.tick c.self.inside.link)
-          (c.in-Row.ensures.stands h.past h.stands.merge_is);
+      past = after_step p Close;
+      stands = subst (λ k. CoreIsFor (contents_of (record { split = c.close.new.self; captures = c.self.inside.captures })) k (after_step p Close)) (sym stands.cycle_is) stands;
     }
 
-pub returns-then-passes_by-clause-stands : goal.returns-then-passes_by-clause-stands
-returns-then-passes_by-clause-stands c = λ n p before.
+pub returns-in-Closed-clause-commands : goal.returns-in-Closed-clause-commands
+returns-in-Closed-clause-commands c = λ n p before.
     let h : CoreIsFor (contents_of c.self.inside) n p = subst (λ (v : CoreContents). CoreIsFor v n p) (sym c.self.view_is) before in
-    let along_fits : FitsSigned w32 c.unwrap_or.result = search rules in
-    let across_fits : FitsSigned w32 c.unwrap_or-2.result = search rules in
-    step-stands c.self.inside n p h c.in-Row.tick c.in-Row.along c.in-Row.across c.in-Row.fired (c.in-Row.ensures.answer p h.merge_is) ((c.in-Row.ensures.allowed p h.merge_is).0 tt)
-    (told_of c.tick-change.result) c.tick-change.new.self (to_z w32 (of_z w32 c.unwrap_or.result)) (to_z w32 (of_z w32 c.unwrap_or-2.result))
-    (to_z-of_z w32 c.unwrap_or.result along_fits ∙ c.unwrap_or.ensures) (to_z-of_z w32 c.unwrap_or-2.result across_fits ∙ c.unwrap_or-2.ensures) c.tick-change.ensures.stands c.tick-change.ensures.answer
-    c.next.new.self c.follow.new.candidate c.follow.new.candidate c.self.inside.link no_issues c.follow.ensures
-    (c.passes_by.ensures c.if-passes_by.true c.in-Row.tick c.self.inside.link)
-    (c.in-Row.ensures.stands p h.merge_is)
+    let is = c.in-Closed.ensures.commands (resting n p h.parts) (parts_of p.given) h.split_is h.parts_are in
+    (is.0, own-commands p.given n c.in-Closed.tick p.closed (commands_put c.in-Closed.issues c.close.new.issued) is.1)
 
-pub returns-then-passes_by-clause-commands : goal.returns-then-passes_by-clause-commands
-returns-then-passes_by-clause-commands c = λ n p before.
+pub returns-in-Closed-clause-ticks : goal.returns-in-Closed-clause-ticks
+returns-in-Closed-clause-ticks c = λ n p before.
     let h : CoreIsFor (contents_of c.self.inside) n p = subst (λ (v : CoreContents). CoreIsFor v n p) (sym c.self.view_is) before in
-    let along_fits : FitsSigned w32 c.unwrap_or.result = search rules in
-    let across_fits : FitsSigned w32 c.unwrap_or-2.result = search rules in
-    step-commands c.self.inside n p h c.in-Row.tick c.in-Row.along c.in-Row.across c.in-Row.fired (c.in-Row.ensures.answer p h.merge_is) ((c.in-Row.ensures.allowed p h.merge_is).0 tt)
-    (told_of c.tick-change.result) c.tick-change.new.self (to_z w32 (of_z w32 c.unwrap_or.result)) (to_z w32 (of_z w32 c.unwrap_or-2.result))
-    (to_z-of_z w32 c.unwrap_or.result along_fits ∙ c.unwrap_or.ensures) (to_z-of_z w32 c.unwrap_or-2.result across_fits ∙ c.unwrap_or-2.ensures) c.tick-change.ensures.stands c.tick-change.ensures.answer
-    c.next.new.self c.follow.new.candidate c.follow.new.candidate c.self.inside.link no_issues c.follow.ensures
-    (c.passes_by.ensures c.if-passes_by.true c.in-Row.tick c.self.inside.link)
+    own-ticks p.given n c.in-Closed.tick p.closed (commands_put c.in-Closed.issues c.close.new.issued) (c.in-Closed.ensures.ticks (resting n p h.parts) (parts_of p.given) h.split_is h.parts_are)
 
-pub returns-then-passes_by-clause-ticks : goal.returns-then-passes_by-clause-ticks
-returns-then-passes_by-clause-ticks c = λ n p before.
+pub returns-in-Closed-clause-stands : goal.returns-in-Closed-clause-stands
+returns-in-Closed-clause-stands c = λ n p before.
     let h : CoreIsFor (contents_of c.self.inside) n p = subst (λ (v : CoreContents). CoreIsFor v n p) (sym c.self.view_is) before in
-    let along_fits : FitsSigned w32 c.unwrap_or.result = search rules in
-    let across_fits : FitsSigned w32 c.unwrap_or-2.result = search rules in
-    step-ticks c.self.inside n p h c.in-Row.tick c.in-Row.along c.in-Row.across c.in-Row.fired (c.in-Row.ensures.answer p h.merge_is) ((c.in-Row.ensures.allowed p h.merge_is).0 tt)
-    (told_of c.tick-change.result) c.tick-change.new.self (to_z w32 (of_z w32 c.unwrap_or.result)) (to_z w32 (of_z w32 c.unwrap_or-2.result))
-    (to_z-of_z w32 c.unwrap_or.result along_fits ∙ c.unwrap_or.ensures) (to_z-of_z w32 c.unwrap_or-2.result across_fits ∙ c.unwrap_or-2.ensures) c.tick-change.ensures.stands c.tick-change.ensures.answer
-    c.next.new.self c.follow.new.candidate c.follow.new.candidate c.self.inside.link no_issues c.follow.ensures
-    (c.passes_by.ensures c.if-passes_by.true c.in-Row.tick c.self.inside.link)
+    core-closes (contents_of c.self.inside) n p c.close.new.self h.parts h (c.in-Closed.ensures.stands (resting n p h.parts) h.split_is) h.parts_are
 
-pub returns-then-passes_by-clause-waits : goal.returns-then-passes_by-clause-waits
-returns-then-passes_by-clause-waits c = λ n p before.
+pub returns-in-Closed-clause-allowed : goal.returns-in-Closed-clause-allowed
+returns-in-Closed-clause-allowed c = λ n p before.
     let h : CoreIsFor (contents_of c.self.inside) n p = subst (λ (v : CoreContents). CoreIsFor v n p) (sym c.self.view_is) before in
-    sym (waits-for-none c.self.inside n p h c.in-Row.tick c.in-Row.along c.in-Row.across c.in-Row.fired (c.in-Row.ensures.answer p h.merge_is) ((c.in-Row.ensures.allowed p h.merge_is).0 tt))
+    ((λ _. may-close (contents_of c.self.inside) n p h (closes-own n p h.parts c.in-Closed.tick (c.in-Closed.ensures.answer (resting n p h.parts) h.split_is))), (λ _. tt))
+
+pub returns-in-Closed-clause-waits : goal.returns-in-Closed-clause-waits
+returns-in-Closed-clause-waits c = λ n p before.
+    let h : CoreIsFor (contents_of c.self.inside) n p = subst (λ (v : CoreContents). CoreIsFor v n p) (sym c.self.view_is) before in
+    sym (closes-own n p h.parts c.in-Closed.tick (c.in-Closed.ensures.answer (resting n p h.parts) h.split_is))
+
+-- ---- it closes a time zero
+pub give_parts-requires : goal.give_parts-requires
+give_parts-requires c =
+    let h = c.self.invariant.stands in
+    let n = c.self.inside.split.cycle in
+    let p = c.self.invariant.past in
+    (asked n p h.parts, (asks-for (contents_of c.self.inside) n p c.close.new.self c.in-Ask.zero h (c.in-Ask.ensures.stands (resting n p h.parts) h.split_is) (c.in-Ask.ensures.answer (resting n p h.parts) h.split_is)))
+
+pub close_asked-requires : goal.close_asked-requires
+close_asked-requires c =
+    let h = c.self.invariant.stands in
+    let n = c.self.inside.split.cycle in
+    let p = c.self.invariant.past in
+    asks c.give_parts.new.split (with_own_parts (asked n p h.parts)) (c.give_parts.ensures (asked n p h.parts) (asks-for (contents_of c.self.inside) n p c.close.new.self c.in-Ask.zero h (c.in-Ask.ensures.stands (resting n p h.parts) h.split_is) (c.in-Ask.ensures.answer (resting n p h.parts) h.split_is))) refl
+
+pub unreachable-requires : goal.unreachable-requires
+unreachable-requires c =
+    let h = c.self.invariant.stands in
+    let n = c.self.inside.split.cycle in
+    let p = c.self.invariant.past in
+    must-close c.close_asked.result c.close_asked.new.issued (p.closed + 1) (c.close_asked.ensures.answer (with_own_parts (asked n p h.parts)) (c.give_parts.ensures (asked n p h.parts) (asks-for (contents_of c.self.inside) n p c.close.new.self c.in-Ask.zero h (c.in-Ask.ensures.stands (resting n p h.parts) h.split_is) (c.in-Ask.ensures.answer (resting n p h.parts) h.split_is))) ∙ closes-asked n p h.parts) c.in_default.not-Closed
+
+pub invariant_of-self-in-Ask : goal.invariant_of-self-in-Ask
+invariant_of-self-in-Ask c =
+    let h = c.self.invariant.stands in
+    let n = c.self.inside.split.cycle in
+    let p = c.self.invariant.past in
+    let stands = core-closes (contents_of c.self.inside) n p c.close_asked.new.self (own_parts p.given (p.closed + 1) h.parts) h (c.in-Closed-close_asked.ensures.stands (with_own_parts (asked n p h.parts)) (c.give_parts.ensures (asked n p h.parts) (asks-for (contents_of c.self.inside) n p c.close.new.self c.in-Ask.zero h (c.in-Ask.ensures.stands (resting n p h.parts) h.split_is) (c.in-Ask.ensures.answer (resting n p h.parts) h.split_is)))) (own-are p.given (p.closed + 1) h.parts h.parts_are) in
+    record {
+      past = after_step p Close;
+      stands = subst (λ k. CoreIsFor (contents_of (record { split = c.close_asked.new.self; captures = c.self.inside.captures })) k (after_step p Close)) (sym stands.cycle_is) stands;
+    }
+
+pub returns-in-Closed-close_asked-clause-commands : goal.returns-in-Closed-close_asked-clause-commands
+returns-in-Closed-close_asked-clause-commands c = λ n p before.
+    let h : CoreIsFor (contents_of c.self.inside) n p = subst (λ (v : CoreContents). CoreIsFor v n p) (sym c.self.view_is) before in
+    let is = c.in-Closed-close_asked.ensures.commands (with_own_parts (asked n p h.parts)) (parts_of p.given) (c.give_parts.ensures (asked n p h.parts) (asks-for (contents_of c.self.inside) n p c.close.new.self c.in-Ask.zero h (c.in-Ask.ensures.stands (resting n p h.parts) h.split_is) (c.in-Ask.ensures.answer (resting n p h.parts) h.split_is))) (own-are p.given (p.closed + 1) h.parts h.parts_are) in
+    (is.0, own-commands p.given n c.in-Closed-close_asked.tick p.closed (commands_put c.in-Closed-close_asked.issues c.close_asked.new.issued) is.1)
+
+pub returns-in-Closed-close_asked-clause-ticks : goal.returns-in-Closed-close_asked-clause-ticks
+returns-in-Closed-close_asked-clause-ticks c = λ n p before.
+    let h : CoreIsFor (contents_of c.self.inside) n p = subst (λ (v : CoreContents). CoreIsFor v n p) (sym c.self.view_is) before in
+    own-ticks p.given n c.in-Closed-close_asked.tick p.closed (commands_put c.in-Closed-close_asked.issues c.close_asked.new.issued) (c.in-Closed-close_asked.ensures.ticks (with_own_parts (asked n p h.parts)) (parts_of p.given) (c.give_parts.ensures (asked n p h.parts) (asks-for (contents_of c.self.inside) n p c.close.new.self c.in-Ask.zero h (c.in-Ask.ensures.stands (resting n p h.parts) h.split_is) (c.in-Ask.ensures.answer (resting n p h.parts) h.split_is))) (own-are p.given (p.closed + 1) h.parts h.parts_are))
+
+pub returns-in-Closed-close_asked-clause-stands : goal.returns-in-Closed-close_asked-clause-stands
+returns-in-Closed-close_asked-clause-stands c = λ n p before.
+    let h : CoreIsFor (contents_of c.self.inside) n p = subst (λ (v : CoreContents). CoreIsFor v n p) (sym c.self.view_is) before in
+    core-closes (contents_of c.self.inside) n p c.close_asked.new.self (own_parts p.given (p.closed + 1) h.parts) h (c.in-Closed-close_asked.ensures.stands (with_own_parts (asked n p h.parts)) (c.give_parts.ensures (asked n p h.parts) (asks-for (contents_of c.self.inside) n p c.close.new.self c.in-Ask.zero h (c.in-Ask.ensures.stands (resting n p h.parts) h.split_is) (c.in-Ask.ensures.answer (resting n p h.parts) h.split_is)))) (own-are p.given (p.closed + 1) h.parts h.parts_are)
+
+pub returns-in-Closed-close_asked-clause-allowed : goal.returns-in-Closed-close_asked-clause-allowed
+returns-in-Closed-close_asked-clause-allowed c = λ n p before.
+    let h : CoreIsFor (contents_of c.self.inside) n p = subst (λ (v : CoreContents). CoreIsFor v n p) (sym c.self.view_is) before in
+    ((λ _. may-close (contents_of c.self.inside) n p h (asks-own n p h.parts c.in-Ask.zero (c.in-Ask.ensures.answer (resting n p h.parts) h.split_is)).0), (λ _. tt))
+
+pub returns-in-Closed-close_asked-clause-waits : goal.returns-in-Closed-close_asked-clause-waits
+returns-in-Closed-close_asked-clause-waits c = λ n p before.
+    let h : CoreIsFor (contents_of c.self.inside) n p = subst (λ (v : CoreContents). CoreIsFor v n p) (sym c.self.view_is) before in
+    sym (asks-own n p h.parts c.in-Ask.zero (c.in-Ask.ensures.answer (resting n p h.parts) h.split_is)).0
+
+-- ---- while nothing is asked for, it lacks no part
+pub unreachable-requires-in-Parts : goal.unreachable-requires-in-Parts
+unreachable-requires-in-Parts c =
+    let h = c.self.invariant.stands in
+    let n = c.self.inside.split.cycle in
+    let p = c.self.invariant.past in
+    lacks-none n p h.parts c.in-Parts.sensor (c.in-Parts.ensures.answer (resting n p h.parts) h.split_is)

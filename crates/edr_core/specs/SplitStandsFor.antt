@@ -1,0 +1,81 @@
+-- What a `SplitCore` stands for: what it was told of its cycle.
+use Rattle.std.specs.Prelude.{◌≡◌, ℕ, ◌+◌, ◌≤◌, Bool, true, false, if◌then◌else◌, Option, Some, None, is_some, List, All}
+use Rattle.edr_items.specs.declared.TheConstants.{LONGEST_GAP}
+use Rattle.edr_items.specs.declared.Sensor.{Sensor}
+use Rattle.edr_items.specs.declared.Sensor.TheVariants.{Speed, Throttle, Brake, Belt, Lamp}
+use Rattle.edr_items.specs.Item.{mark_of}
+use Rattle.edr_items.specs.SensorLists.{items_of}
+use Rattle.edr_record.specs.declared.Key.{Key}
+use Rattle.edr_record.specs.Parts.{PrePart}
+use Rattle.edr_definitions.specs.Signals.{signals_of}
+use Rattle.edr_definitions.specs.Search.{Search}
+use Rattle.edr_definitions.specs.Change.{tick_change}
+use Rattle.edr_definitions.specs.Schedule.{Progress, Close, after_step}
+use Rattle.edr_definitions.specs.OpenCrash.{OpenCrash}
+use Rattle.edr_definitions.specs.Core.{CoreState, is_open, WholeCoreStandsFor}
+use Rattle.edr_capture.specs.SensorPart.{SensorPart}
+use Rattle.edr_merge.specs.StandsFor.{MergeStandsFor}
+use Rattle.edr_detect.specs.Stages.{told_of}
+use Rattle.edr_detect.specs.Detected.{DetectStandsFor}
+use Rattle.edr_core.specs.declared.candidate.Candidate.{Candidate}
+use Rattle.edr_core.specs.declared.ask.Ask.{Ask}
+use Rattle.edr_core.specs.declared.ask.Parts.{Parts}
+use Rattle.edr_core.specs.Rows.{RowIs, rows_of}
+use Rattle.edr_core.specs.Parts.{Slots, AreSlotsOf, with_parts, part_in}
+use Rattle.edr_core.specs.SplitHistory.{History}
+use Rattle.edr_core.specs.SplitContents.{SplitContents}
+
+-- q is the pre part p with the slots that were taken
+pub record IsMadeOf (parts : List SensorPart) (p q : PrePart) : Type 0 where
+  pub key_is : q.key ≡ p.key
+  pub place_is : q.place ≡ p.place
+  pub made : (slots : Slots) → AreSlotsOf parts slots → q ≡ with_parts slots p
+
+-- an open candidate is what is kept of one, but for the slots of its pre part
+abbrev pub HoldsCandidateWith : List SensorPart → Option Candidate → CoreState → OpenCrash → Type 0
+HoldsCandidateWith parts None k crash = Unit {0}
+HoldsCandidateWith parts (Some o) k crash = IsMadeOf parts k.frozen o.pre × (o.end ≡ k.ended) × (o.crash ≡ crash)
+
+-- the parts of the time zero z are those that were taken
+pub record PartsAre (ps : Parts) (taken : List SensorPart) (z : ℕ) : Type 0 where
+  pub speed : ps.speed ≡ part_in taken Speed z
+  pub throttle : ps.throttle ≡ part_in taken Throttle z
+  pub brake : ps.brake ≡ part_in taken Brake z
+  pub belt : ps.belt ≡ part_in taken Belt z
+  pub lamp : ps.lamp ≡ part_in taken Lamp z
+
+-- the next tick is a time zero, and this is what was given of it, what stands there, and its parts as far as they were taken
+pub record AskIs (a : Ask) (h : History) : Type 0 where
+  pub asking : h.asking ≡ true
+  pub row : RowIs (signals_of h.past.given) (h.past.closed + 1) a.row
+  pub change : told_of a.change ≡ tick_change (signals_of h.past.given) (h.past.closed + 1)
+  pub zero : a.change.zero ≡ true
+  pub parts : PartsAre a.parts h.parts (h.past.closed + 1)
+
+-- an ask is open where parts are asked for
+abbrev pub HoldsAsk : Option Ask → History → Type 0
+HoldsAsk None h = h.asking ≡ false
+HoldsAsk (Some a) h = AskIs a h
+
+-- how far the merge has come: the tick of an open ask is merged
+abbrev pub merged : History → Progress
+merged h = if h.asking then after_step h.past Close else h.past
+
+-- the split core was told this
+pub record SplitCoreStandsFor (c : SplitContents) (h : History) : Type 0 where
+  pub cycle_is : c.cycle ≡ h.cycle
+  pub cycle_from : 1 ≤ h.cycle
+  pub cycle_to : h.cycle ≤ 4_294_967_295
+  pub closed_is : c.closed ≡ h.past.closed
+  pub near : (s : Sensor) → mark_of (items_of s h.past.given) ≤ h.past.closed + LONGEST_GAP
+  pub merge_is : MergeStandsFor c.merge (merged h)
+  pub detect_is : DetectStandsFor c.detect (rows_of (signals_of h.past.given) (merged h).closed)
+  pub search : Search
+  pub kept : CoreState
+  pub crash : OpenCrash
+  pub whole_is : WholeCoreStandsFor h.past.given h.cycle h.past.closed search kept crash
+  pub link_is : c.link ≡ kept.linked
+  pub open_is : is_some c.candidate ≡ is_open search.phase
+  pub candidate_is : HoldsCandidateWith h.parts c.candidate kept crash
+  pub ask_is : HoldsAsk c.ask h
+  pub early : All (λ q. q.zero ≤ (merged h).closed) h.parts

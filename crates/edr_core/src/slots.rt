@@ -1,0 +1,72 @@
+//! The slots of a sensor as a record has them.
+
+ghost use Rattle.std.specs.Prelude.{◌≡◌, unsigned_abs, option_map, All};
+ghost use Rattle.edr_record.specs.Bounds.{IsUpTo};
+ghost use Rattle.edr_definitions.specs.Parts.{numbers, switch, switches};
+
+// How many slots a sensor has in a pre part, one at each half second from 5 s before time zero up to it.
+pub const SLOTS: usize = 11;
+
+// A slot in km/h.
+fn speed_of(slot: Option<i32>) -> Option<u16>
+    requires { IsUpTo 300 (option_map unsigned_abs slot) }
+    ensures { result ≡ option_map unsigned_abs slot }
+{
+    match slot {
+        Some(v) => Some(v.unsigned_abs() as u16),
+        None => None,
+    }
+}
+
+// Slots in km/h.
+pub fn speeds(slots: [Option<i32>; SLOTS]) -> [Option<u16>; SLOTS]
+    requires { All (IsUpTo 300) (numbers slots) }
+    ensures { result ≡ numbers slots }
+{
+    let mut speeds = [None; SLOTS];
+    for (k, slot) in slots.iter().enumerate() {
+        speeds[k] = speed_of(*slot);
+    }
+    speeds
+}
+
+// A slot in per cent.
+fn per_cent_of(slot: Option<i32>) -> Option<u8>
+    requires { IsUpTo 100 (option_map unsigned_abs slot) }
+    ensures { result ≡ option_map unsigned_abs slot }
+{
+    match slot {
+        Some(v) => Some(v.unsigned_abs() as u8),
+        None => None,
+    }
+}
+
+// Slots in per cent.
+pub fn per_cents(slots: [Option<i32>; SLOTS]) -> [Option<u8>; SLOTS]
+    requires { All (IsUpTo 100) (numbers slots) }
+    ensures { result ≡ numbers slots }
+{
+    let mut per_cents = [None; SLOTS];
+    for (k, slot) in slots.iter().enumerate() {
+        per_cents[k] = per_cent_of(*slot);
+    }
+    per_cents
+}
+
+// Whether a switch is on: it gives 1 then.
+pub fn switch_of(slot: Option<i32>) -> Option<bool>
+    ensures { result ≡ switch slot }
+{
+    slot.map(|v| v.unsigned_abs() == 1)
+}
+
+// Slots of a switch.
+pub fn switches_of(slots: [Option<i32>; SLOTS]) -> [Option<bool>; SLOTS]
+    ensures { result ≡ switches slots }
+{
+    let mut switches = [None; SLOTS];
+    for (k, slot) in slots.iter().enumerate() {
+        switches[k] = switch_of(*slot);
+    }
+    switches
+}

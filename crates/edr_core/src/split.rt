@@ -1,0 +1,270 @@
+//! The core that is told no value of a slow sensor: it asks for the five parts of each time zero.
+
+ghost use Rattle.std.specs.Prelude.{◌≡◌, ◌↔◌, ℕ, ◌+◌, ◌≤◌, ◌<◌, Some, None, IfOk, IfErr, IsOk, IsSome, OnOk, OnErr};
+ghost use Rattle.edr_definitions.specs.Schedule.{Give, IsAllowed};
+
+use crate::ask::{Ask, PartRefused};
+use crate::candidate::{Candidate, Issued, Row, grow, issue, passes_by};
+use edr_capture::Part;
+use edr_detect::Detect;
+use edr_items::{Item, LONGEST_GAP, Sensor, check};
+use edr_link::Link;
+use edr_merge::{Merge, MergeRefused, Next};
+use edr_record::{Crash, Key, Pre};
+use std::alloc::{AllocError as OutOfMemory, Global};
+use std::marker::Model;
+
+/// What a split core answers to the wish for the next tick.
+#[derive(Clone, Copy, Debug, PartialEq, Eq)]
+pub enum SplitStep {
+    /// The next tick can't be closed: this sensor may still give an item of it.
+    Waiting {
+        sensor: Sensor,
+    },
+    /// The next tick is a time zero, whose parts are asked for from here on. It isn't closed yet.
+    Ask {
+        zero: u32,
+    },
+    /// The next tick is a time zero, and this sensor's part is missing.
+    Parts {
+        sensor: Sensor,
+    },
+    /// The next tick is closed. `take` is the pre part of an event that is confirmed there, `lock` that of one whose
+    /// first locking deployment it is, and `done` the crash part of one whose close it is.
+    Closed {
+        tick: u32,
+        take: Option<Pre>,
+        lock: Option<Pre>,
+        done: Option<Crash>,
+    },
+}
+
+// What a split core answers where it puts aside what a tick issues.
+#[derive(Clone, Copy)]
+pub enum SplitClosing {
+    Waiting { sensor: Sensor },
+    Ask { zero: u32 },
+    Parts { sensor: Sensor },
+    // It issues what was put aside, or nothing where `issues` is false.
+    Closed { tick: u32, issues: bool },
+}
+
+/// The core of the recorder in one ignition cycle, but for the values of the slow sensors: of these it takes the moments of items,
+/// and the parts of each time zero that it asks for.
+///
+/// All memory is taken when it is opened. A call takes none and has a bounded number of steps.
+#[derive(Drop)]
+pub struct SplitCore {
+    cycle: u32,
+    closed: u32,
+    merge: Merge,
+    detect: Detect,
+    link: Link,
+    candidate: Option<Candidate>,
+    // Whether an ask is open: one byte, which is looked at in each tick.
+    asking: bool,
+    ask: Option<Ask>,
+}
+
+impl Model for SplitCore {
+    ghost use Rattle.edr_core.specs.SplitContents.{SplitContents};
+
+    ghost Value = { SplitContents };
+
+    ghost use Rattle.edr_core.specs.SplitFields.{split_contents, IsSplit};
+
+    ghost view = { split_contents };
+
+    ghost invariant = { IsSplit };
+}
+
+impl SplitCore {
+    ghost use Rattle.edr_merge.specs.Answers.{give_refusal_of};
+    ghost use Rattle.edr_capture.specs.SensorPart.{SensorPart};
+    ghost use Rattle.edr_core.specs.Parts.{Slots, AreSlotsOf};
+    ghost use Rattle.edr_core.specs.SplitHistory.{History, start_of, after_item, after_part, due};
+    ghost use Rattle.edr_core.specs.SplitStandsFor.{SplitCoreStandsFor};
+    ghost use Rattle.edr_core.specs.SplitAnswers.{answer_of, after_split, HasTheCommandsWith, HasTheIssuesWith, split_step_of, IsSplitQuiet, part_refusal_of};
+
+    /// A core for the ignition cycle of that number, to which no sensor has given an item, and of which no tick is closed.
+    pub fn open(alloc: Global, cycle: u32) -> Result<SplitCore, OutOfMemory>
+        requires { 1 ≤ cycle }
+        ensures { IfOk result (λ c. SplitCoreStandsFor c (start_of cycle)) }
+    {
+        Ok(SplitCore {
+            cycle,
+            closed: 0,
+            merge: Merge::new(alloc)?,
+            detect: Detect::new(),
+            link: Link::new(),
+            candidate: None,
+            asking: false,
+            ask: None,
+        })
+    }
+
+    /// The tick up to which all are closed.
+    pub fn closed(&self) -> u32
+        ensures { (h : History) → SplitCoreStandsFor self.now h → result ≡ h.past.closed }
+    {
+        self.closed
+    }
+
+    /// Takes one more item of that sensor. Of a slow sensor its moment alone counts, and an item without a value does.
+    #[inline(always)]
+    pub fn accept(&mut self, sensor: Sensor, item: Item) -> Result<(), MergeRefused>
+        ensures ok { OnOk result ((h : History) → SplitCoreStandsFor self.old h → SplitCoreStandsFor self.new (after_item sensor item h)) }
+        ensures err { OnErr result (self.new ≡ self.old) }
+
+        // An item is taken exactly where the schedule allows it, also while parts are asked for.
+        ensures allowed { (h : History) → SplitCoreStandsFor self.old h → IsOk result ↔ IsAllowed (Give sensor item) h.past }
+        ensures why { (h : History) → SplitCoreStandsFor self.old h → IfErr result (λ e. give_refusal_of sensor item h.past ≡ Some e) }
+    {
+        if item.moment > self.closed + LONGEST_GAP && self.asking {
+            return Err(self.ahead(sensor, item));
+        }
+        self.merge.accept(sensor, item)?;
+        Ok(())
+    }
+
+    // Why an item is refused that is too far ahead while parts are asked for: the merge has closed their time zero already.
+    #[inline(never)]
+    fn ahead(&self, sensor: Sensor, item: Item) -> MergeRefused
+        requires { self.now.closed + 1_000 < item.moment }
+        ensures { (h : History) → SplitCoreStandsFor self.now h → give_refusal_of sensor item h.past ≡ Some result }
+    {
+        match check(sensor, self.merge.mark(sensor), &item) {
+            Err(refused) => MergeRefused::Item(refused),
+            Ok(()) => MergeRefused::Ahead {
+                closed: self.closed,
+            },
+        }
+    }
+
+    /// Closes the next tick and gives what it issues, if no sensor can give an item of it any more. Where it is a time zero, it
+    /// first asks for the five parts of it, and closes it once they are taken.
+    pub fn step(&mut self) -> SplitStep
+        // A tick that is closed is the next one, and the commands up to it are those before it and then the ones that it carries,
+        // where each pre part has the slots of the parts that were taken for its time zero.
+        ensures commands { (h : History) (slots : Slots) → SplitCoreStandsFor self.old h → AreSlotsOf h.parts slots → HasTheCommandsWith slots h.cycle h.past result }
+        ensures ticks { (h : History) (slots : Slots) → SplitCoreStandsFor self.old h → AreSlotsOf h.parts slots → HasTheIssuesWith slots h.cycle h.past result }
+        ensures stands { (h : History) → SplitCoreStandsFor self.old h → SplitCoreStandsFor self.new (after_split h result) }
+
+        // It waits as the schedule says, asks at each time zero, lacks parts up to the last of them, and closes else.
+        ensures answer { (h : History) → SplitCoreStandsFor self.old h → answer_of result ≡ due h }
+    {
+        let mut issued = Issued::none();
+        match self.close(&mut issued) {
+            SplitClosing::Waiting { sensor } => SplitStep::Waiting { sensor },
+            SplitClosing::Ask { zero } => SplitStep::Ask { zero },
+            SplitClosing::Parts { sensor } => SplitStep::Parts { sensor },
+            SplitClosing::Closed { tick, .. } => SplitStep::Closed {
+                tick,
+                take: issued.take,
+                lock: issued.lock,
+                done: issued.done,
+            },
+        }
+    }
+
+    // The same step, for a caller that steps often: what the tick issues is put into `issued`.
+    #[inline(always)]
+    pub(crate) fn close(&mut self, issued: &mut Issued) -> SplitClosing
+        ensures commands { (h : History) (slots : Slots) → SplitCoreStandsFor self.old h → AreSlotsOf h.parts slots → HasTheCommandsWith slots h.cycle h.past (split_step_of result issued.new) }
+        ensures ticks { (h : History) (slots : Slots) → SplitCoreStandsFor self.old h → AreSlotsOf h.parts slots → HasTheIssuesWith slots h.cycle h.past (split_step_of result issued.new) }
+        ensures stands { (h : History) → SplitCoreStandsFor self.old h → SplitCoreStandsFor self.new (after_split h (split_step_of result issued.new)) }
+        ensures answer { (h : History) → SplitCoreStandsFor self.old h → answer_of (split_step_of result issued.new) ≡ due h }
+        ensures quiet { IsSplitQuiet result → issued.new ≡ issued.old }
+    {
+        if self.asking {
+            return self.close_asked(issued);
+        }
+        let (tick, row) = match self.merge.next() {
+            Next::Waiting { sensor } => return SplitClosing::Waiting { sensor },
+            Next::Row {
+                tick,
+                along,
+                across,
+                fired,
+            } => (
+                tick,
+                Row {
+                    along,
+                    across,
+                    fired,
+                },
+            ),
+        };
+        let change = self
+            .detect
+            .tick(row.along.unwrap_or(0), row.across.unwrap_or(0), row.fired);
+        if change.zero {
+            self.asking = true;
+            Ask::open(&mut self.ask, row, change);
+            return SplitClosing::Ask { zero: tick };
+        }
+        grow(&mut self.candidate, row);
+        self.closed = tick;
+        if passes_by(&self.candidate, change) {
+            return SplitClosing::Closed {
+                tick,
+                issues: false,
+            };
+        }
+        issue(&mut self.candidate, &mut self.link, tick, change, issued);
+        SplitClosing::Closed { tick, issues: true }
+    }
+
+    // Closes the time zero that is asked for, once its parts are taken. Few ticks are one, and the places of the parts are large:
+    // it stands apart.
+    #[inline(never)]
+    pub(crate) fn close_asked(&mut self, issued: &mut Issued) -> SplitClosing
+        requires { IsSome self.old.ask }
+        ensures commands { (h : History) (slots : Slots) → SplitCoreStandsFor self.old h → AreSlotsOf h.parts slots → HasTheCommandsWith slots h.cycle h.past (split_step_of result issued.new) }
+        ensures ticks { (h : History) (slots : Slots) → SplitCoreStandsFor self.old h → AreSlotsOf h.parts slots → HasTheIssuesWith slots h.cycle h.past (split_step_of result issued.new) }
+        ensures stands { (h : History) → SplitCoreStandsFor self.old h → SplitCoreStandsFor self.new (after_split h (split_step_of result issued.new)) }
+        ensures answer { (h : History) → SplitCoreStandsFor self.old h → answer_of (split_step_of result issued.new) ≡ due h }
+        ensures quiet { IsSplitQuiet result → issued.new ≡ issued.old }
+    {
+        let tick = self.closed + 1;
+        let Some(ask) = &self.ask else {
+            unreachable!();
+        };
+        let parts = match ask.parts.all() {
+            Ok(parts) => parts,
+            Err(sensor) => return SplitClosing::Parts { sensor },
+        };
+        let key = Key {
+            cycle: self.cycle,
+            zero: tick,
+        };
+        let change = ask.change;
+        self.candidate = Some(Candidate::begin(parts.pre(key), ask.row));
+        self.asking = false;
+        self.ask = None;
+        self.closed = tick;
+        issue(&mut self.candidate, &mut self.link, tick, change, issued);
+        SplitClosing::Closed { tick, issues: true }
+    }
+
+    /// Takes a part of the time zero that is asked for.
+    pub fn part(&mut self, part: Part) -> Result<(), PartRefused>
+        ensures ok { OnOk result ((h : History) → SplitCoreStandsFor self.old h → SplitCoreStandsFor self.new (after_part part h)) }
+        ensures err { OnErr result (self.new ≡ self.old) }
+
+        // A part is taken exactly where nothing refuses it.
+        ensures allowed { (h : History) → SplitCoreStandsFor self.old h → IsOk result ↔ (part_refusal_of part h ≡ None) }
+        ensures why { (h : History) → SplitCoreStandsFor self.old h → IfErr result (λ e. part_refusal_of part h ≡ Some e) }
+    {
+        let asked = self.closed + 1;
+        let Some(mut ask) = self.ask else {
+            return Err(PartRefused::NotAsked);
+        };
+        if part.zero != asked {
+            return Err(PartRefused::Zero { asked });
+        }
+        ask.parts.put(part)?;
+        self.ask = Some(ask);
+        Ok(())
+    }
+}
