@@ -11,6 +11,8 @@ mod place;
 mod service;
 mod service_inlets;
 mod service_lanes;
+#[cfg(test)]
+mod service_tests;
 mod service_threads;
 mod slow_place;
 mod stand;
