@@ -8,6 +8,13 @@ mod lanes;
 mod marks;
 mod orders;
 mod place;
+mod service;
+mod service_inlets;
+mod service_lanes;
+#[cfg(test)]
+mod service_tests;
+mod service_threads;
+mod slow_place;
 mod stand;
 #[cfg(test)]
 mod tests;
@@ -20,7 +27,14 @@ pub use crate::inlets::Inlets;
 pub use crate::lanes::{Lanes, make_lanes, settle};
 pub use crate::marks::Marks;
 pub use crate::orders::{Inbox, Order, Orders, Outbox, make_orders};
-pub use crate::place::{Gate, Offered, Place};
+pub use crate::place::{Gate, Offered, Passage, Place};
+pub use crate::service::{FastPlaces, Service, SlowPlaces};
+pub use crate::service_inlets::{FastInlets, PartInlets};
+pub use crate::service_lanes::{
+    FastLanes, SlowLanes, make_fast_lanes, make_slow_lanes, settle_fast, settle_parts,
+};
+pub use crate::service_threads::{ServiceDone, start_service};
+pub use crate::slow_place::SlowPlace;
 pub use crate::stand::{Places, Stand};
 pub use crate::threads::{Recording, Serving, start_recorder, start_worker};
 pub use crate::tray::Tray;

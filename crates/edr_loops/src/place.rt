@@ -12,6 +12,9 @@ use edr_seats::{OfferRefused, SLOTS, Seat};
 pub trait Gate {
     /// Lets pass the item that is the nth of the sensor with that number; both count from 1.
     fn pass(&self, sensor: u8, nth: u32);
+
+    /// Is told that the slow sensor with that number has sent its part of this time zero.
+    fn served(&self, _sensor: u8, _zero: u32) {}
 }
 
 /// What came of offers.
@@ -39,14 +42,44 @@ impl Offered {
     }
 }
 
+/// How the items of a sensor pass the gate: one after the other, each once.
+#[derive(Clone, Copy, Debug, PartialEq, Eq)]
+pub struct Passage {
+    // The next item has passed, as item of this number.
+    passed: bool,
+    nth: u32,
+}
+
+impl Passage {
+    // Before the first item.
+    pub(crate) const fn new() -> Passage {
+        Passage {
+            passed: false,
+            nth: 0,
+        }
+    }
+
+    // Lets the next item pass, if it hasn't passed yet.
+    pub(crate) fn pass<G: Gate>(&mut self, sensor: Sensor, gate: &G) {
+        if !self.passed {
+            self.nth = self.nth.saturating_add(1);
+            gate.pass(sensor.number(), self.nth);
+            self.passed = true;
+        }
+    }
+
+    // The next item is the one behind.
+    pub(crate) fn go_on(&mut self) {
+        self.passed = false;
+    }
+}
+
 /// A sensor's seat, with how many items of its feed it has sent.
 #[derive(Drop)]
 pub struct Place {
     pub seat: Seat,
     pub next: usize,
-    // The next item has passed the gate, as item of this number.
-    pub passed: bool,
-    pub nth: u32,
+    pub passage: Passage,
 }
 
 impl Place {
@@ -59,15 +92,11 @@ impl Place {
         if self.next >= items.len() {
             return Offered::Over;
         }
-        if !self.passed {
-            self.nth = self.nth.saturating_add(1);
-            gate.pass(sensor.number(), self.nth);
-            self.passed = true;
-        }
+        self.passage.pass(sensor, gate);
         match self.seat.offer(items[self.next]) {
             Ok(()) => {
                 self.next += 1;
-                self.passed = false;
+                self.passage.go_on();
                 Offered::Sent
             }
             Err(OfferRefused::Full { .. }) => Offered::Full,

@@ -32,7 +32,7 @@ fn give(feeds: &mut Feeds, sensor: Sensor, moment: u32, value: Option<i32>) -> R
 }
 
 // A car that drives for 200 ms, and whose air bag fires at 100 ms: 412 items.
-fn fired_feeds(alloc: Global) -> Result<Feeds, Fail> {
+pub(crate) fn fired_feeds(alloc: Global) -> Result<Feeds, Fail> {
     let mut feeds = Feeds::new(alloc);
     for tick in 1..=200u32 {
         give(&mut feeds, Sensor::Along, tick, Some(0))?;

@@ -1,0 +1,6 @@
+use Rattle.std.proofs.Common.{refl}
+use Rattle.edr_loops.proofs.SlowPlaceLemmas.{keeping-part}
+use Rattle.edr_loops.proofs.slow_place.SlowPlace.send_part.Goals as goal
+
+pub returns-in-Sent-clause-keeping : goal.returns-in-Sent-clause-keeping
+returns-in-Sent-clause-keeping g c = λ xs h. keeping-part c.args.sensor xs c.in-Sent.zero c.args.self.now _ c.in-Sent.ensures.same refl c.in-Sent.ensures.answer.4 c.in-Sent.ensures.stands h

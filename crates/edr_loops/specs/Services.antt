@@ -1,0 +1,35 @@
+-- What the places of a worker have sent and kept, where the slow sensors keep their own items.
+use Rattle.edr_items.specs.declared.Sensor.TheVariants.{Speed, Throttle, Brake, Belt, Lamp}
+use Rattle.edr_items.specs.SensorLists.{SensorLists}
+use Rattle.edr_loops.specs.declared.service.FastPlaces.{FastPlaces}
+use Rattle.edr_loops.specs.declared.service.SlowPlaces.{SlowPlaces}
+use Rattle.edr_loops.specs.Places.{Goes, IsBegun}
+use Rattle.edr_loops.specs.SlowPlaces.{IsKept, KeepsOn}
+
+-- each fast sensor's place has sent first items of its list
+pub record AreFastBegun (f : SensorLists) (p : FastPlaces) : Type 0 where
+  pub along : IsBegun f.along p.along
+  pub across : IsBegun f.across p.across
+  pub restraint : IsBegun f.restraint p.restraint
+
+-- the same places later
+pub record FastGoOn (f : SensorLists) (a b : FastPlaces) : Type 0 where
+  pub along : Goes f.along a.along b.along
+  pub across : Goes f.across a.across b.across
+  pub restraint : Goes f.restraint a.restraint b.restraint
+
+-- each slow sensor's place has kept first items of its list, and sent parts of beginnings of it
+pub record AreKept (f : SensorLists) (p : SlowPlaces) : Type 0 where
+  pub speed : IsKept Speed f.speed p.speed
+  pub throttle : IsKept Throttle f.throttle p.throttle
+  pub brake : IsKept Brake f.brake p.brake
+  pub belt : IsKept Belt f.belt p.belt
+  pub lamp : IsKept Lamp f.lamp p.lamp
+
+-- the same places later
+pub record SlowKeepOn (f : SensorLists) (a b : SlowPlaces) : Type 0 where
+  pub speed : KeepsOn Speed f.speed a.speed b.speed
+  pub throttle : KeepsOn Throttle f.throttle a.throttle b.throttle
+  pub brake : KeepsOn Brake f.brake a.brake b.brake
+  pub belt : KeepsOn Belt f.belt a.belt b.belt
+  pub lamp : KeepsOn Lamp f.lamp a.lamp b.lamp

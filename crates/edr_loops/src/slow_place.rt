@@ -1,0 +1,93 @@
+//! A slow sensor's place at a worker: it keeps the sensor's items, and sends the parts that are asked for.
+
+ghost use Rattle.std.specs.Prelude.{List};
+ghost use Rattle.edr_items.specs.declared.Item.{Item};
+ghost use Rattle.edr_items.specs.SensorLists.{items_of};
+ghost use Rattle.edr_seats.specs.Slow.{SameSlowSeat};
+ghost use Rattle.edr_loops.specs.SlowPlaces.{IsKeeping, IsKept, KeepsOn};
+
+use crate::place::{Gate, Offered, Passage};
+use edr_items::{Feeds, Item, Sensor};
+use edr_seats::{SLOTS, Served, SlowRefused, SlowSeat};
+
+/// A slow sensor's seat, with how many items of its feed it has kept.
+#[derive(Drop)]
+pub struct SlowPlace {
+    pub seat: SlowSeat,
+    pub next: usize,
+    pub passage: Passage,
+}
+
+impl SlowPlace {
+    // Offers the next item to the seat that keeps it; it passes the gate before its first offer.
+    fn offer_next<G: Gate>(&mut self, sensor: Sensor, items: &[Item], gate: &G) -> Offered
+        requires { IsKeeping sensor items.now self.old }
+        ensures seat { SameSlowSeat self.old.seat self.new.seat }
+        ensures keeping { IsKeeping sensor items.now self.new }
+    {
+        if self.next >= items.len() {
+            return Offered::Over;
+        }
+        self.passage.pass(sensor, gate);
+        match self.seat.offer(items[self.next]) {
+            Ok(()) => {
+                self.next += 1;
+                self.passage.go_on();
+                Offered::Sent
+            }
+            Err(SlowRefused::Ungranted { .. }) => Offered::Full,
+            // Feeds are feeds, so no item of them is refused.
+            Err(SlowRefused::Item(_)) => Offered::Over,
+        }
+    }
+
+    // Sends the part that is asked for, if one is that wasn't sent, and tells the gate.
+    fn send_part<G: Gate>(&mut self, sensor: Sensor, gate: &G) -> Offered
+        ensures seat { SameSlowSeat self.old.seat self.new.seat }
+        ensures keeping { (xs : List Item) → IsKeeping sensor xs self.old → IsKeeping sensor xs self.new }
+    {
+        match self.seat.serve() {
+            Served::Nothing => Offered::Over,
+            Served::Full { .. } => Offered::Full,
+            Served::Sent { zero } => {
+                gate.served(sensor.number(), zero);
+                Offered::Sent
+            }
+        }
+    }
+
+    /// Offers items up to one that isn't granted, at most as many as the ring of a fast sensor has room for, and then looks
+    /// whether the sensor's part is asked for.
+    pub fn serve<G: Gate>(&mut self, sensor: Sensor, items: &[Item], gate: &G) -> Offered
+        requires { IsKeeping sensor items.now self.old }
+        ensures seat { SameSlowSeat self.old.seat self.new.seat }
+        ensures keeping { IsKeeping sensor items.now self.new }
+    {
+        let mut kept = Offered::Over;
+        for _ in 0..SLOTS {
+            let offered = self.offer_next(sensor, items, gate);
+            kept = kept.and(offered);
+            if offered != Offered::Sent {
+                break;
+            }
+        }
+        let part = self.send_part(sensor, gate);
+        kept.and(part)
+    }
+}
+
+// The same of a sensor that may be at another worker.
+pub fn serve_slow<G: Gate>(
+    place: &mut Option<SlowPlace>,
+    sensor: Sensor,
+    feeds: &Feeds,
+    gate: &G,
+) -> Offered
+    requires { IsKept sensor (items_of sensor feeds.now) place.old }
+    ensures { KeepsOn sensor (items_of sensor feeds.now) place.old place.new }
+{
+    match place {
+        Some(place) => place.serve(sensor, feeds.of(sensor), gate),
+        None => Offered::Over,
+    }
+}
