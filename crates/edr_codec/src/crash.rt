@@ -84,7 +84,7 @@ fn put_extreme(extreme: Extreme, out: &mut [u8], at: usize)
 
 // Writes the bytes that spell a crash part, whatever stood there before.
 #[tactic(auto, unfolding(edr_image::specs::PartBytes::crash_bytes_by))]
-fn put_crash_by(crash: &Crash, out: &mut [u8], form: &CrashForm)
+pub(crate) fn put_crash_by(crash: &Crash, out: &mut [u8], form: &CrashForm)
     requires { length out.old ≡ crash_size form.now }
     ensures { out.new ≡ crash_bytes_by form.now crash.now }
 {
@@ -132,7 +132,7 @@ fn check_crash(bytes: &[u8], form: &CrashForm) -> Result<(), Damaged>
 }
 
 // The crash part that the bytes spell, or else the first byte with which they begin none.
-fn read_crash_by(bytes: &[u8], form: &CrashForm) -> Result<Crash, Damaged>
+pub(crate) fn read_crash_by(bytes: &[u8], form: &CrashForm) -> Result<Crash, Damaged>
     requires long { length bytes.now ≡ crash_size form.now }
     requires few { length bytes.now < 2 ^ 16 }
     ensures read { IfOk result (λ c. c ≡ crash_at bytes.now 0) }

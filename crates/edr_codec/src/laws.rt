@@ -5,13 +5,19 @@ ghost use Rattle.edr_record.specs.Parts.{PrePart, CrashPart};
 ghost use Rattle.edr_record.specs.Bounds.{IsPre, IsCrash};
 ghost use Rattle.edr_image.specs.declared.forms.CrashForm.{CrashForm};
 ghost use Rattle.edr_image.specs.declared.forms.PreForm.{PreForm};
-ghost use Rattle.edr_image.specs.declared.forms.TheConstants.{VERSION_1};
+ghost use Rattle.edr_image.specs.declared.forms.TheConstants.{VERSION_1, VERSION_2};
 ghost use Rattle.edr_image.specs.PartBytes.{pre_size, IsPreForm, IsShort, pre_damage_by, pre_at_by, pre_bytes_by, BeginsPreBy, crash_size, crash_damage_by, crash_at, crash_bytes_by, BeginsCrashBy, IsDamagedAt};
 
 /// Version 1 has a form in which parts can be told, with the slots of a record.
 pub fn version_1_has_a_form()
     ensures form { IsPreForm VERSION_1.pre }
     ensures short { IsShort VERSION_1.pre }
+{}
+
+/// So has version 2.
+pub fn version_2_has_a_form()
+    ensures form { IsPreForm VERSION_2.pre }
+    ensures short { IsShort VERSION_2.pre }
 {}
 
 /// In each form: the bytes of a pre part in its bounds are as many as the form has, they are whole, and they say this part.

@@ -7,6 +7,7 @@ pub mod laws;
 mod pieces;
 mod pre;
 mod rows;
+pub mod version_2;
 
 pub use crash::{put_crash, read_crash};
 pub use pre::{put_pre, read_pre};

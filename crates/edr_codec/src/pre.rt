@@ -3,6 +3,7 @@
 
 ghost use Rattle.std.specs.Prelude.{◌≡◌, ◌+◌, ◌^◌, ◌<◌, ◌≤◌, ◌++◌, None, Some, IfOk, IfErr, OnOk, All, length, take, slice_index, sum_by, nat_eq, if◌then◌else◌};
 ghost use Rattle.std.specs.List.{flat_map};
+ghost use Rattle.edr_record.specs.declared.TheConstants.{SHORT_SLOTS};
 ghost use Rattle.edr_record.specs.Bounds.{IsPre};
 ghost use Rattle.edr_image.specs.PartBytes.{pre_size, slots_of, profile_of, throttle_at, brake_at, belt_at, lamp_at, end_at, IsPreForm, IsShort, pre_fields_by, pre_damage, pre_damage_by, pre_at, pre_at_by, pre_bytes, pre_bytes_by, place_bytes, number_at};
 ghost use Rattle.edr_codec.specs.Rows.{fields_of, row_size};
@@ -139,8 +140,8 @@ fn put_place(place: Place, profile: u8, out: &mut [u8], at: usize)
 
 // Writes the bytes that spell a pre part, whatever stood there before.
 #[tactic(auto, unfolding(edr_image::specs::PartBytes::pre_bytes_by))]
-fn put_pre_by(pre: &Pre, out: &mut [u8], form: &PreForm)
-    requires fits { 11 ≤ form.now.room }
+pub(crate) fn put_pre_by(pre: &Pre, out: &mut [u8], form: &PreForm)
+    requires fits { SHORT_SLOTS ≤ form.now.room }
     requires few { pre_size form.now < 2 ^ 16 }
     requires long { length out.old ≡ pre_size form.now }
     ensures { out.new ≡ pre_bytes_by form.now pre.now }
@@ -165,8 +166,8 @@ fn put_pre_by(pre: &Pre, out: &mut [u8], form: &PreForm)
 fn pre_from(bytes: &[u8], form: &PreForm) -> Pre
     requires few { pre_size form.now < 2 ^ 16 }
     requires long { length bytes.now ≡ pre_size form.now }
-    requires fits { 11 ≤ form.now.room }
-    requires slots { slots_of form.now (slice_index bytes.now 9) ≡ 11 }
+    requires fits { SHORT_SLOTS ≤ form.now.room }
+    requires slots { slots_of form.now (slice_index bytes.now 9) ≡ SHORT_SLOTS }
     requires bounds { IsPre (pre_at_by form.now bytes.now 0) }
     ensures { result ≡ pre_at_by form.now bytes.now 0 }
 {
@@ -198,7 +199,7 @@ fn check_pre(bytes: &[u8], form: &PreForm) -> Result<(), Damaged>
 }
 
 // The pre part that the bytes spell, or else the first byte with which they begin none.
-fn read_pre_by(bytes: &[u8], form: &PreForm) -> Result<Pre, Damaged>
+pub(crate) fn read_pre_by(bytes: &[u8], form: &PreForm) -> Result<Pre, Damaged>
     requires form { IsPreForm form.now }
     requires short { IsShort form.now }
     requires few { length bytes.now < 2 ^ 16 }

@@ -2,6 +2,8 @@ use super::*;
 use edr_record::{Crash, Extreme, Key, Place, Pre};
 use std::process::Abort;
 
+mod version_2;
+
 // What a byte is changed to where each byte is tried.
 const CHANGES: [u8; 7] = [0, 1, 0x7f, 0x80, 0xa5, 0xfe, 0xff];
 

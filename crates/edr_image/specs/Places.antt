@@ -1,6 +1,8 @@
 -- The places of an image in numbers. Definitions and code cite the constants; here each is what it is.
-use Rattle.std.specs.Prelude.{◌≡◌}
+use Rattle.std.specs.Prelude.{◌≡◌, ◌+◌}
+use Rattle.edr_image.specs.declared.forms.TheConstants.{VERSION_1, VERSION_2}
 use Rattle.edr_image.specs.declared.places.TheConstants.{BANK_SIZE, BANKS, CHOICE, CRASH_PART, CRASH_SIZE, DONE_GATE, EVENT_GATE, FEWEST_BANKS, FIRST_SLOT, FRONT_SIZE, HEADER_END, LOCK_GATE, MOST_BANKS, OPEN_GATE, PRE_PART, PRE_SIZE, SECOND_SLOT, SLOT_COUNT, SLOT_SIZE, VERSION}
+use Rattle.edr_image.specs.PartBytes.{pre_size, crash_size}
 
 -- an image has 2 to 16 banks of 512 bytes behind a front of 96, and a gate is open at 165
 pub record HasSizes : Type 0 where
@@ -19,3 +21,23 @@ pub record HasParts : Type 0 where
   pub gates : (EVENT_GATE ≡ 0) × (LOCK_GATE ≡ 1) × (DONE_GATE ≡ 2)
   pub pre : (PRE_PART ≡ 16) × (PRE_SIZE ≡ 160)
   pub crash : (CRASH_PART ≡ 176) × (CRASH_SIZE ≡ 320)
+
+-- what each version lays down, and that the places are those of version 1
+pub record HasVersions : Type 0 where
+  pub version_1 :
+      VERSION_1
+      ≡ record {
+        version = 1;
+        bank = 512;
+        pre = record { room = 11; zeros = 102; profiles = (0, 0); slots = (11, 11) };
+        crash = record { zeros = 184 };
+      }
+  pub version_2 :
+      VERSION_2
+      ≡ record {
+        version = 2;
+        bank = 1024;
+        pre = record { room = 201; zeros = 30; profiles = (1, 1); slots = (11, 201) };
+        crash = record { zeros = 24 };
+      }
+  pub places : (pre_size VERSION_1.pre ≡ PRE_SIZE) × (PRE_PART + pre_size VERSION_1.pre ≡ CRASH_PART) × (crash_size VERSION_1.crash ≡ CRASH_SIZE)

@@ -1,6 +1,9 @@
 //! What tells the images of one version from those of another: how many bytes a bank has, and in which form the two
 //! parts of a record stand in it. All other places are those of [`places`](crate::places).
 
+use crate::places::BANK_SIZE;
+use edr_record::SHORT_SLOTS;
+
 /// The form of a pre part. Each list has room for some slots, of which a profile uses the first ones; the rest is 0.
 #[derive(Clone, Copy)]
 pub struct PreForm {
@@ -35,12 +38,25 @@ pub struct Layout {
 /// Version 1: there is one profile, whose byte is 0, and the lists have no room past its slots.
 pub const VERSION_1: Layout = Layout {
     version: 1,
-    bank: 512,
+    bank: BANK_SIZE,
     pre: PreForm {
-        room: 11,
+        room: SHORT_SLOTS,
         zeros: 102,
         profiles: (0, 0),
-        slots: (11, 11),
+        slots: (SHORT_SLOTS, SHORT_SLOTS),
     },
     crash: CrashForm { zeros: 184 },
+};
+
+/// Version 2: there is one profile, whose byte is 1, and the lists have room for many more slots than it uses.
+pub const VERSION_2: Layout = Layout {
+    version: 2,
+    bank: 1_024,
+    pre: PreForm {
+        room: 201,
+        zeros: 30,
+        profiles: (1, 1),
+        slots: (SHORT_SLOTS, 201),
+    },
+    crash: CrashForm { zeros: 24 },
 };

@@ -4,7 +4,7 @@ use Rattle.std.specs.List.{list_all}
 use Rattle.std.proofs.lemmas.Bool.{leb-true}
 use Rattle.std.proofs.lemmas.List.Elements.{All-replicate, All-weaker}
 use Rattle.std.proofs.lemmas.List.Sums.{AllPass-from_list_all}
-use Rattle.edr_record.specs.Bounds.{IsUpTo, IsChange, ArePoints, IsExtreme}
+use Rattle.edr_record.specs.Bounds.{IsUpTo, IsChange}
 use Rattle.edr_codec.proofs.tests.crash.Goals as goal
 
 are_changes : (zs : List ℤ) → list_all (λ z. nat_le (unsigned_abs z) 3_000) zs ≡ true → All IsChange zs
