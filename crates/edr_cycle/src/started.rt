@@ -5,6 +5,8 @@ ghost use Rattle.edr_cycle.specs.Begun.{IsFresh, room_for};
 
 use edr_banks::{Banks, Log, OpenFault};
 use edr_core::Core;
+use edr_device::Failed;
+use std::alloc::AllocError;
 use std::marker::Model;
 
 /// A cycle that was started: it is counted, and has all memory that it will need.
@@ -52,6 +54,36 @@ pub enum StartFault {
     StoreFault,
     /// There is no room for the core or the log.
     OutOfMemory,
+}
+
+impl From<OpenFault> for StartFault {
+    ghost use Rattle.edr_cycle.specs.declared.started.StartFault.TheVariants as fault;
+
+    ghost from_gives = { λ refused e. e ≡ fault.Open refused };
+
+    fn from(refused: OpenFault) -> StartFault {
+        StartFault::Open(refused)
+    }
+}
+
+impl From<Failed> for StartFault {
+    ghost use Rattle.edr_cycle.specs.declared.started.StartFault.TheVariants as fault;
+
+    ghost from_gives = { λ _ e. e ≡ fault.StoreFault };
+
+    fn from(_: Failed) -> StartFault {
+        StartFault::StoreFault
+    }
+}
+
+impl From<AllocError> for StartFault {
+    ghost use Rattle.edr_cycle.specs.declared.started.StartFault.TheVariants as fault;
+
+    ghost from_gives = { λ _ e. e ≡ fault.OutOfMemory };
+
+    fn from(_: AllocError) -> StartFault {
+        StartFault::OutOfMemory
+    }
 }
 
 /// How a cycle ended.

@@ -47,19 +47,12 @@ fn prepare<N: Nvm>(alloc: Global, nvm: &mut N, ticks: u32) -> Result<Started, St
     ensures later { N.faults nvm.old ≤ N.faults nvm.new }
     ensures read { OnlyRead N.Nvm nvm.old nvm.new }
 {
-    let banks = match Banks::open(alloc, nvm) {
-        Ok(banks) => banks,
-        Err(fault) => return Err(StartFault::Open(fault)),
-    };
+    let banks = Banks::open(alloc, nvm)?;
     let Some(number) = banks.count().checked_add(1) else {
         return Err(StartFault::Spent);
     };
-    let Ok(core) = Core::open(alloc, number) else {
-        return Err(StartFault::OutOfMemory);
-    };
-    let Ok(log) = Log::with_room(alloc, room_for(ticks)) else {
-        return Err(StartFault::OutOfMemory);
-    };
+    let core = Core::open(alloc, number)?;
+    let log = Log::with_room(alloc, room_for(ticks))?;
     Ok(Started {
         number,
         ticks,
@@ -94,8 +87,6 @@ pub fn start<N: Nvm>(alloc: Global, nvm: &mut N, ticks: u32) -> Result<Started, 
     ensures lent { GoesOn N.Nvm nvm.old nvm.new }
 {
     let started = prepare(alloc, nvm, ticks)?;
-    match count_cycle(nvm, started.number()) {
-        Ok(()) => Ok(started),
-        Err(_) => Err(StartFault::StoreFault),
-    }
+    count_cycle(nvm, started.number())?;
+    Ok(started)
 }

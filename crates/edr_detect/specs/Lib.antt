@@ -1,6 +1,3 @@
-pub mod Selected
-pub mod Places
-pub mod Found
 pub mod Stages
 pub mod Sums
 pub mod Latest

@@ -1,7 +1,7 @@
 ghost use Rattle.std.specs.Prelude.{◌≤◌, unsigned_abs};
 
 use super::*;
-use edr_items::{AddRefused, Feeds, Item, Restraints, Sensor};
+use edr_items::Restraints;
 use std::alloc::{AllocError as OutOfMemory, Global};
 use std::test::Fail;
 
@@ -26,27 +26,28 @@ fn value_at(stretches: &[Stretch], t: u32) -> i32 {
     0
 }
 
-// Both axes have a sample at each tick up to the last, 0 outside the stretches.
-fn cycle(
-    alloc: Global,
-    last: u32,
-    along: &[Stretch],
-    across: &[Stretch],
-) -> Result<Feeds, AddRefused> {
-    let mut feeds = Feeds::new(alloc);
-    for moment in 1..=last {
-        let value = Some(value_at(along, moment));
-        feeds.add(Sensor::Along, Item { moment, value })?;
-        let value = Some(value_at(across, moment));
-        feeds.add(Sensor::Across, Item { moment, value })?;
+// An event, in ticks of the cycle.
+#[derive(Clone, Copy, Debug, PartialEq, Eq)]
+struct Found {
+    zero: u32,
+    confirmed: u32,
+    end: u32,
+    close: u32,
+}
+
+const fn event(zero: u32, confirmed: u32, end: u32, close: u32) -> Found {
+    Found {
+        zero,
+        confirmed,
+        end,
+        close,
     }
-    Ok(feeds)
 }
 
 // What the detector tells of a cycle: its events, and of the candidates that it drops time zero and end.
 #[derive(Drop)]
 struct Told {
-    events: Vec<Selected>,
+    events: Vec<Found>,
     dropped: Vec<(u32, u32)>,
 }
 
@@ -66,6 +67,7 @@ fn tell(
     last: u32,
     along: &[Stretch],
     across: &[Stretch],
+    fired: &[u32],
 ) -> Result<Told, OutOfMemory>
     requires { last ≤ 86_400_000 }
 {
@@ -80,7 +82,7 @@ fn tell(
         let change = detect.tick(
             change_in_range(along, t),
             change_in_range(across, t),
-            Restraints(0),
+            Restraints(u8::from(fired.contains(&t))),
         );
         begun = follow(begun, change, t);
         if change.dropped {
@@ -94,7 +96,7 @@ fn tell(
 }
 
 // The open candidate with what stands at the tick t.
-fn follow(begun: Selected, change: Change, t: u32) -> Selected {
+fn follow(begun: Found, change: Change, t: u32) -> Found {
     let mut next = begun;
     if change.zero {
         next.zero = t;
@@ -102,115 +104,21 @@ fn follow(begun: Selected, change: Change, t: u32) -> Selected {
     if change.confirmed {
         next.confirmed = t;
     }
-    let mut rest = begun.rest.unwrap_or(Rest { end: t, close: t });
     if change.ended {
-        rest.end = t;
+        next.end = t;
     }
     if change.closed {
-        rest.close = t;
+        next.close = t;
     }
-    next.rest = Some(rest);
     next
 }
 
-fn event(zero: u32, confirmed: u32, end: u32, close: u32) -> Selected {
-    Selected {
-        zero,
-        confirmed,
-        rest: Some(Rest { end, close }),
-    }
-}
-
-// 8,000 steps at 6002 are not over, and 80,000 at 6020 meet the trigger threshold.
+// A tie: 8,000 steps at 6002 are not over, and 80,000 at 6020 meet the trigger threshold. A reach back: the candidate at
+// 6002 is dropped at 6029, and the trigger still counts from the start of the cycle. A turn: 80,000 steps backwards over
+// 20 ticks confirm, while the last 150 ticks come to 50,000. A lateral trigger: five ticks of 540 steps are never over,
+// and 149 of them meet the threshold.
 #[test]
-fn a_tie_at_each_threshold(rt: HostRuntime) -> Result<(), Fail> {
-    let blow = [steady(6001, 6100, -4000)];
-    let feeds = cycle(rt.alloc(), 7000, &blow, &[])?;
-    let found = select(rt.alloc(), &feeds, 7000)?;
-    assert_eq!(rt;
-        found.as_slice(),
-        [event(6003, 6020, 6118, 6148)].as_slice()
-    );
-    let cut_short = select(rt.alloc(), &feeds, 6100)?;
-    let rest = None;
-    let begun = Selected {
-        zero: 6003,
-        confirmed: 6020,
-        rest,
-    };
-    assert_eq!(rt; cut_short.as_slice(), [begun].as_slice());
-    let unconfirmed = select(rt.alloc(), &feeds, 6019)?;
-    assert!(rt; unconfirmed.is_empty());
-    Ok(())
-}
-
-// The candidate at 6002 is dropped at 6029; the trigger still counts from the start of the cycle.
-#[test]
-fn the_trigger_reaches_back_past_a_dropped_candidate(rt: HostRuntime) -> Result<(), Fail> {
-    let blows = [steady(6001, 6010, 5000), steady(6071, 6080, 5000)];
-    let feeds = cycle(rt.alloc(), 7000, &blows, &[])?;
-    let found = select(rt.alloc(), &feeds, 7000)?;
-    assert_eq!(rt;
-        found.as_slice(),
-        [event(6072, 6076, 6099, 6129)].as_slice()
-    );
-    Ok(())
-}
-
-// 80,000 steps backwards over 20 ticks confirm, while the last 150 ticks come to 50,000.
-#[test]
-fn an_impulse_that_turns(rt: HostRuntime) -> Result<(), Fail> {
-    let blows = [steady(6001, 6010, 3000), steady(6011, 6030, -4000)];
-    let feeds = cycle(rt.alloc(), 7000, &blows, &[])?;
-    let found = select(rt.alloc(), &feeds, 7000)?;
-    assert_eq!(rt;
-        found.as_slice(),
-        [event(6003, 6030, 6048, 6078)].as_slice()
-    );
-    Ok(())
-}
-
-// Five ticks of 540 steps are never over; 149 of them meet the trigger threshold.
-#[test]
-fn a_lateral_trigger_is_its_own_time_zero(rt: HostRuntime) -> Result<(), Fail> {
-    let push = [steady(6001, 6400, 540)];
-    let feeds = cycle(rt.alloc(), 7000, &[], &push)?;
-    let found = select(rt.alloc(), &feeds, 7000)?;
-    assert_eq!(rt;
-        found.as_slice(),
-        [event(6149, 6149, 6406, 6436)].as_slice()
-    );
-    Ok(())
-}
-
-// 400 steps a tick stay at 8,000 within 20 ticks, and 401 give candidates of which none is confirmed.
-#[test]
-fn a_steady_pull_is_no_event(rt: HostRuntime) -> Result<(), Fail> {
-    for value in [400, 401] {
-        let pull = [steady(1, 2000, value)];
-        let feeds = cycle(rt.alloc(), 3000, &pull, &[])?;
-        assert!(rt; select(rt.alloc(), &feeds, 3000)?.is_empty(), "at {value}");
-    }
-    Ok(())
-}
-
-// A deployment at time zero, then one at the close, which belongs to the event, and one a tick past it.
-#[test]
-fn a_deployment_confirms_and_a_late_one_belongs(rt: HostRuntime) -> Result<(), Fail> {
-    let mut feeds = cycle(rt.alloc(), 800, &[], &[])?;
-    for moment in [500, 550, 551] {
-        let value = Some(1);
-        feeds.add(Sensor::Restraint, Item { moment, value })?;
-    }
-    let found = select(rt.alloc(), &feeds, 800)?;
-    let both = [event(500, 500, 520, 550), event(551, 551, 571, 601)];
-    assert_eq!(rt; found.as_slice(), both.as_slice());
-    Ok(())
-}
-
-// The worked traces: ties, a reach back past a dropped candidate, an impulse that turns, a lateral trigger.
-#[test]
-fn the_detector_tells_what_select_finds(rt: HostRuntime) -> Result<(), Fail> {
+fn the_detector_tells_the_worked_events(rt: HostRuntime) -> Result<(), Fail> {
     let blow = [steady(6001, 6100, -4000)];
     let apart = [steady(6001, 6010, 5000), steady(6071, 6080, 5000)];
     let turned = [steady(6001, 6010, 3000), steady(6011, 6030, -4000)];
@@ -222,23 +130,29 @@ fn the_detector_tells_what_select_finds(rt: HostRuntime) -> Result<(), Fail> {
         (turned.as_slice(), none, event(6003, 6030, 6048, 6078)),
         (none, push.as_slice(), event(6149, 6149, 6406, 6436)),
     ] {
-        let told = tell(rt.alloc(), 7000, along, across)?;
+        let told = tell(rt.alloc(), 7000, along, across, &[])?;
         assert_eq!(rt; told.events.as_slice(), [found].as_slice());
-        let feeds = cycle(rt.alloc(), 7000, along, across)?;
-        let selected = select(rt.alloc(), &feeds, 7000)?;
-        assert_eq!(rt; told.events.as_slice(), selected.as_slice());
     }
-    let told = tell(rt.alloc(), 7000, &apart, none)?;
+    let told = tell(rt.alloc(), 7000, &apart, none, &[])?;
     assert_eq!(rt; told.dropped.as_slice(), [(6002, 6029)].as_slice());
+    Ok(())
+}
+
+// A deployment at time zero, then one at the close, which belongs to the event, and one a tick past it.
+#[test]
+fn a_deployment_confirms_and_a_late_one_belongs(rt: HostRuntime) -> Result<(), Fail> {
+    let told = tell(rt.alloc(), 800, &[], &[], &[500, 550, 551])?;
+    let both = [event(500, 500, 520, 550), event(551, 551, 571, 601)];
+    assert_eq!(rt; told.events.as_slice(), both.as_slice());
     Ok(())
 }
 
 // Three candidates end by the reset and one quietly, and none is an event.
 #[test]
 fn the_detector_drops_candidates_of_a_steady_pull(rt: HostRuntime) -> Result<(), Fail> {
-    let told = tell(rt.alloc(), 3000, &[steady(1, 2000, 400)], &[])?;
+    let told = tell(rt.alloc(), 3000, &[steady(1, 2000, 400)], &[], &[])?;
     assert!(rt; told.events.is_empty() && told.dropped.is_empty());
-    let told = tell(rt.alloc(), 3000, &[steady(1, 2000, 401)], &[])?;
+    let told = tell(rt.alloc(), 3000, &[steady(1, 2000, 401)], &[], &[])?;
     let ends = [(20, 520), (540, 1040), (1060, 1560), (1580, 2001)];
     assert!(rt; told.events.is_empty());
     assert_eq!(rt; told.dropped.as_slice(), ends.as_slice());
