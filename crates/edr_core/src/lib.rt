@@ -20,8 +20,7 @@ use edr_items::{Item, Sensor};
 use edr_merge::MergeRefused;
 use edr_record::{Crash, Pre};
 pub use parts::parts_make_the_commands;
-use split::SplitClosing;
-pub use split::{SplitCore, SplitStep};
+pub use split::{SplitClosing, SplitCore, SplitStep};
 use std::alloc::{AllocError as OutOfMemory, Global};
 use std::marker::Model;
 

@@ -39,13 +39,16 @@ pub enum SplitStep {
     },
 }
 
-// What a split core answers where it puts aside what a tick issues.
-#[derive(Clone, Copy)]
+/// What a split core answers where it puts aside what a tick issues.
+#[derive(Clone, Copy, Debug, PartialEq, Eq)]
 pub enum SplitClosing {
+    /// The next tick can't be closed: this sensor may still give an item of it.
     Waiting { sensor: Sensor },
+    /// The next tick is a time zero, whose parts are asked for from here on.
     Ask { zero: u32 },
+    /// The next tick is a time zero, and this sensor's part is missing.
     Parts { sensor: Sensor },
-    // It issues what was put aside, or nothing where `issues` is false.
+    /// The next tick is closed. It issues what was put aside, or nothing where `issues` is false.
     Closed { tick: u32, issues: bool },
 }
 
@@ -167,9 +170,10 @@ impl SplitCore {
         }
     }
 
-    // The same step, for a caller that steps often: what the tick issues is put into `issued`.
+    /// The same step, for a caller that steps often: what the tick issues is put into `issued`, which is left as it is where no
+    /// candidate is open.
     #[inline(always)]
-    pub(crate) fn close(&mut self, issued: &mut Issued) -> SplitClosing
+    pub fn close(&mut self, issued: &mut Issued) -> SplitClosing
         ensures commands { (h : History) (slots : Slots) → SplitCoreStandsFor self.old h → AreSlotsOf h.parts slots → HasTheCommandsWith slots h.cycle h.past (split_step_of result issued.new) }
         ensures ticks { (h : History) (slots : Slots) → SplitCoreStandsFor self.old h → AreSlotsOf h.parts slots → HasTheIssuesWith slots h.cycle h.past (split_step_of result issued.new) }
         ensures stands { (h : History) → SplitCoreStandsFor self.old h → SplitCoreStandsFor self.new (after_split h (split_step_of result issued.new)) }

@@ -9,8 +9,8 @@ use Rattle.edr_seats.specs.PartInlet.{AreOfOnePartRing, SamePartInlet, parts_tak
 use Rattle.edr_seats.specs.declared.part_inlet.PartInlet.{PartInlet}
 use Rattle.edr_loops.specs.declared.service.FastPlaces.{FastPlaces}
 use Rattle.edr_loops.specs.declared.service.SlowPlaces.{SlowPlaces}
-use Rattle.edr_loops.specs.declared.service_inlets.FastInlets.{FastInlets}
-use Rattle.edr_loops.specs.declared.service_inlets.PartInlets.{PartInlets}
+use Rattle.edr_loops.specs.declared.fast_inlets.FastInlets.{FastInlets}
+use Rattle.edr_loops.specs.declared.part_inlets.PartInlets.{PartInlets}
 use Rattle.edr_loops.specs.declared.slow_place.SlowPlace.{SlowPlace}
 use Rattle.edr_loops.specs.Lanes.{IsLane}
 use Rattle.edr_loops.specs.SlowPlaces.{AreParts}

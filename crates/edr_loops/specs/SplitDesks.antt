@@ -1,0 +1,96 @@
+-- What the desk of a recorder stands for that asks the slow sensors for their parts.
+use Rattle.std.specs.Prelude.{◌≡◌, ◌≤◌, ◌+◌, ℕ, All, if◌then◌else◌}
+use Rattle.edr_items.specs.declared.TheConstants.{LATEST_MOMENT, LONGEST_GAP}
+use Rattle.edr_items.specs.Item.{mark_of}
+use Rattle.edr_items.specs.SensorLists.{SensorLists}
+use Rattle.edr_board.specs.Seats.{board_of_recorder, board_of_watch, closed_posted, gate_posted}
+use Rattle.edr_board.specs.declared.freeze_seats.Asker.{Asker}
+use Rattle.edr_board.specs.FreezeSeats.{SlowMarks, freeze_of_asker, grant_posted, last_zero, marks_read, open_zero}
+use Rattle.edr_core.specs.Parts.{AreSlotsOf, Slots, issues_with}
+use Rattle.edr_core.specs.SplitHistory.{History}
+use Rattle.edr_core.specs.SplitStandsFor.{SplitCoreStandsFor, merged}
+use Rattle.edr_loops.specs.declared.split_desk.SplitDesk.{SplitDesk}
+use Rattle.edr_loops.specs.FastInlets.{AreFastFeeds, HaveFast, fast_marks_of}
+use Rattle.edr_loops.specs.ServiceLanes.{SameFastInlets, SamePartInlets, fast_taken, slow_taken}
+use Rattle.edr_loops.specs.Held.{issues_out}
+use Rattle.edr_loops.specs.Orders.{SameOutbox}
+use Rattle.edr_loops.specs.PartInlets.{IsTaken}
+
+-- the zero that is asked for, 0 where none is
+abbrev pub zero_of : History → ℕ
+zero_of h = if h.asking then h.past.closed + 1 else 0
+
+-- the asker later, where it asks for nothing
+pub record IsSettled (a b : Asker) : Type 0 where
+  pub freeze : freeze_of_asker b ≡ freeze_of_asker a
+  pub granted : grant_posted b ≡ grant_posted a
+  pub asks : open_zero b ≡ 0
+  pub last : last_zero b ≡ last_zero a
+  pub marks : marks_read b ≡ marks_read a
+
+-- of the slow sensors the lists have these marks
+pub record HaveMarks (m : SlowMarks) (f : SensorLists) : Type 0 where
+  pub speed : mark_of f.speed ≡ m.speed
+  pub throttle : mark_of f.throttle ≡ m.throttle
+  pub brake : mark_of f.brake ≡ m.brake
+  pub belt : mark_of f.belt ≡ m.belt
+  pub lamp : mark_of f.lamp ≡ m.lamp
+
+-- of each slow sensor the core was given what the asker read of its mark; the ask of the core is that of the asker; and what was
+-- granted is no further ahead of the closed tick than a gap may be
+pub record Agrees (a : Asker) (h : History) : Type 0 where
+  pub marks_are : HaveMarks (marks_read a) h.past.given
+  pub zero_is : open_zero a ≡ zero_of h
+  pub last_to : last_zero a ≤ (merged h).closed
+  pub granted_near : grant_posted a ≤ h.past.closed + LONGEST_GAP
+  pub granted_to : grant_posted a ≤ LATEST_MOMENT
+
+-- the core of cycle n was told this, up to the horizon at most: each part came out of its sensor's ring; what was sent, and then
+-- what is held, is what it issued; and where what was taken of the sensors 1, 2 and 8 are feeds, it was given just that
+pub record IsTold (n horizon : ℕ) (d : SplitDesk) (h : History) : Type 0 where
+  pub core_is : SplitCoreStandsFor d.core h
+  pub cycle_is : h.cycle ≡ n
+  pub agrees : Agrees d.asker h
+  pub within : h.past.closed ≤ horizon
+  pub parts_are : All (IsTaken (slow_taken d.parts)) h.parts
+  pub issues_are : (slots : Slots) → AreSlotsOf h.parts slots → issues_out d.outbox d.held ≡ issues_with slots h.past.given n h.past.closed
+  pub taken_are : AreFastFeeds (fast_taken d.fast) → HaveFast (fast_taken d.fast) h.past.given
+
+-- the desk of cycle n stands for something, and knows the last moments of what was taken, what it granted, and whether it asks
+pub record Stands (n horizon : ℕ) (d : SplitDesk) : Type 0 where
+  pub history : History
+  pub told : IsTold n horizon d history
+  pub last_is : d.last ≡ fast_marks_of (fast_taken d.fast)
+  pub granted_is : d.granted ≡ grant_posted d.asker
+  pub asking_is : d.asking ≡ history.asking
+
+-- it does so of some cycle
+abbrev pub IsRecording : SplitDesk → Type 0
+IsRecording d = (n : ℕ) × (horizon : ℕ) × Stands n horizon d
+
+-- the desk at the same rings, the same freeze and the same board
+pub record SameSplitDesk (a b : SplitDesk) : Type 0 where
+  pub fast : SameFastInlets a.fast b.fast
+  pub parts : SamePartInlets a.parts b.parts
+  pub outbox : SameOutbox a.outbox b.outbox
+  pub freeze : freeze_of_asker b.asker ≡ freeze_of_asker a.asker
+  pub recorder : board_of_recorder b.seat ≡ board_of_recorder a.seat
+  pub watch : board_of_watch b.watch ≡ board_of_watch a.watch
+
+-- the desk knows which tick its seat has posted as closed, and the gate is not past go
+abbrev pub HasPosted : SplitDesk → Type 0
+HasPosted d = (closed_posted d.seat ≡ d.posted) × (gate_posted d.seat ≤ 1)
+
+-- a desk later: at the same rings, freeze and board, and standing for what was told if it did so before, under each horizon that
+-- isn't below this tick
+pub record LaterUpTo (tick : ℕ) (a b : SplitDesk) : Type 0 where
+  pub same : SameSplitDesk a b
+  pub stands : (n horizon : ℕ) → tick ≤ horizon → Stands n horizon a → Stands n horizon b
+
+-- the same where no tick is closed
+abbrev pub Later : SplitDesk → SplitDesk → Type 0
+Later a b = LaterUpTo 0 a b
+
+-- nothing is posted on the board
+abbrev pub SeatStays : SplitDesk → SplitDesk → Type 0
+SeatStays a b = (b.seat ≡ a.seat) × (b.posted ≡ a.posted)

@@ -1,0 +1,213 @@
+//! The turns of the desk of `split_desk.rt`: what one step does for one sensor is done for all, again and again. It stands apart, since
+//! each turn is made of the steps there.
+
+ghost use Rattle.std.specs.Prelude.{◌≡◌, ◌≤◌, [], true};
+ghost use Rattle.edr_loops.specs.Held.{issues_held};
+ghost use Rattle.edr_loops.specs.SplitDesks.{HasPosted, IsRecording, Later, LaterUpTo, SeatStays};
+
+use crate::fast_inlets::{FastMarks, FastSensor};
+use crate::split_desk::SplitDesk;
+use edr_core::Issued;
+use edr_items::{LATEST_MOMENT, LONGEST_GAP, Sensor};
+use edr_seats::SLOTS;
+use std::sync::Wait;
+use std::thread;
+
+impl SplitDesk {
+    // Takes what there is of that sensor and may be taken, at most as many items as a ring has room for.
+    #[inline(always)]
+    fn take_some(&mut self, sensor: FastSensor) -> bool
+        requires { IsRecording self.old }
+        ensures later { Later self.old self.new }
+        ensures stands { IsRecording self.new }
+        ensures seat { SeatStays self.old self.new }
+        ensures held { self.new.held ≡ self.old.held }
+    {
+        let mut moved = false;
+        for _ in 0..SLOTS {
+            if !self.take_next(sensor) {
+                break;
+            }
+            moved = true;
+        }
+        moved
+    }
+
+    // Takes items of each axis and of the restraints.
+    fn take_fast(&mut self) -> bool
+        requires { IsRecording self.old }
+        ensures later { Later self.old self.new }
+        ensures stands { IsRecording self.new }
+        ensures seat { SeatStays self.old self.new }
+        ensures held { self.new.held ≡ self.old.held }
+    {
+        let along = self.take_some(FastSensor::Along);
+        let across = self.take_some(FastSensor::Across);
+        let restraint = self.take_some(FastSensor::Restraint);
+        along | across | restraint
+    }
+
+    // Reads the marks of the slow sensors.
+    fn load_marks(&mut self) -> bool
+        requires { IsRecording self.old }
+        ensures later { Later self.old self.new }
+        ensures stands { IsRecording self.new }
+        ensures seat { SeatStays self.old self.new }
+        ensures held { self.new.held ≡ self.old.held }
+    {
+        let speed = self.load_mark(Sensor::Speed);
+        let throttle = self.load_mark(Sensor::Throttle);
+        let brake = self.load_mark(Sensor::Brake);
+        let belt = self.load_mark(Sensor::Belt);
+        let lamp = self.load_mark(Sensor::Lamp);
+        speed | throttle | brake | belt | lamp
+    }
+
+    // Takes a part of each slow sensor, while parts are asked for.
+    fn take_parts(&mut self) -> bool
+        requires { IsRecording self.old }
+        ensures later { Later self.old self.new }
+        ensures stands { IsRecording self.new }
+        ensures seat { SeatStays self.old self.new }
+        ensures held { self.new.held ≡ self.old.held }
+    {
+        if !self.asking {
+            return false;
+        }
+        let speed = self.take_part(Sensor::Speed);
+        let throttle = self.take_part(Sensor::Throttle);
+        let brake = self.take_part(Sensor::Brake);
+        let belt = self.take_part(Sensor::Belt);
+        let lamp = self.take_part(Sensor::Lamp);
+        speed | throttle | brake | belt | lamp
+    }
+
+    // Closes ticks up to one that issues something, or that waits for a sensor or a part, or the horizon.
+    fn close_some(&mut self, horizon: u32) -> bool
+        requires { IsRecording self.old }
+        ensures later { LaterUpTo horizon self.old self.new }
+        ensures stands { IsRecording self.new }
+        ensures seat { SeatStays self.old self.new }
+    {
+        let mut issued = Issued::none();
+        let mut moved = false;
+        for _ in 0..SLOTS {
+            if !self.close_below(horizon, &mut issued) {
+                break;
+            }
+            moved = true;
+        }
+        moved
+    }
+
+    // Sends what is held, as far as there is room, and answers whether none is left.
+    fn send_held(&mut self) -> bool
+        requires stands { IsRecording self.old }
+        ensures later { Later self.old self.new }
+        ensures stands { IsRecording self.new }
+        ensures seat { SeatStays self.old self.new }
+        ensures all { result ≡ true → issues_held self.new.held ≡ [] }
+    {
+        self.held.send(&mut self.outbox)
+    }
+
+    // Posts the closed tick, if it has risen. All that was issued up to it is sent by then.
+    fn post_closed(&mut self)
+        requires stands { IsRecording self.old }
+        requires posted { HasPosted self.old }
+        requires sent { issues_held self.old.held ≡ [] }
+        ensures later { Later self.old self.new }
+        ensures stands { IsRecording self.new }
+        ensures posted { HasPosted self.new }
+        ensures held { self.new.held ≡ self.old.held }
+    {
+        let closed = self.core.closed();
+        if self.posted < closed {
+            self.seat.post_closed(closed);
+            self.posted = closed;
+        }
+    }
+
+    // Wakes the committer where there is news for it: orders were sent, or the horizon is posted.
+    fn wake(&self, sent: bool, horizon: u32) {
+        if sent || self.posted >= horizon {
+            self.seat.wake();
+        }
+    }
+
+    // Takes items, marks and parts, and closes ticks.
+    fn advance(&mut self, horizon: u32) -> bool
+        requires { IsRecording self.old }
+        ensures later { LaterUpTo horizon self.old self.new }
+        ensures stands { IsRecording self.new }
+        ensures seat { SeatStays self.old self.new }
+    {
+        self.grant();
+        let items = self.take_fast();
+        let marks = self.load_marks();
+        let parts = self.take_parts();
+        let ticks = self.close_some(horizon);
+        items | marks | parts | ticks
+    }
+
+    // One turn: what is held is sent before its tick is posted as closed; then the desk advances. It answers whether anything was done.
+    fn turn(&mut self, horizon: u32) -> bool
+        requires stands { IsRecording self.old }
+        requires posted { HasPosted self.old }
+        ensures later { LaterUpTo horizon self.old self.new }
+        ensures stands { IsRecording self.new }
+        ensures posted { HasPosted self.new }
+    {
+        let sends = !self.held.is_none();
+        if !self.send_held() {
+            return false;
+        }
+        self.post_closed();
+        self.wake(sends, horizon);
+        self.advance(horizon)
+    }
+
+    // Whether all is done: each item of the fast sensors is taken, the horizon is closed, and what the slow sensors may still keep past it
+    // is granted.
+    fn is_done(&self, horizon: u32, ends: FastMarks) -> bool {
+        let upto = horizon.saturating_add(LONGEST_GAP).min(LATEST_MOMENT);
+        self.posted >= horizon && self.granted >= upto && self.last == ends
+    }
+
+    // Turns until all is done, or the committer has stopped.
+    fn work<R: Wait>(&mut self, rt: &R, horizon: u32, ends: FastMarks)
+        requires stands { IsRecording self.old }
+        requires posted { HasPosted self.old }
+        ensures later { LaterUpTo horizon self.old self.new }
+    {
+        for _ in rt.forever() {
+            let moved = self.turn(horizon);
+            if self.is_done(horizon, ends) {
+                break;
+            }
+            if self.watch.read().stopped {
+                break;
+            }
+            if !moved {
+                thread::yield_now();
+            }
+        }
+    }
+
+    /// The recorder's loop. Where the committer has stopped, the gate is posted 2 and nothing is done. `ends` are the last moments of
+    /// the feeds of the sensors 1, 2 and 8, and the loop ends once it has taken every item of these and closed the horizon.
+    pub fn record<R: Wait>(self, rt: &R, horizon: u32, ends: FastMarks) -> SplitDesk
+        requires stands { IsRecording self }
+        requires posted { HasPosted self }
+        ensures later { LaterUpTo horizon self result }
+    {
+        let mut desk = self;
+        if desk.watch.read().stopped {
+            desk.seat.post_gate(2);
+            return desk;
+        }
+        desk.seat.post_gate(1);
+        desk.work(rt, horizon, ends);
+        desk
+    }
+}
