@@ -60,10 +60,8 @@ fn drive_until<
     let end = drive_cycle(rt, alloc, started, feeds, workers, &mut fuse, gate);
     let cut = is_cut(&fuse);
     fuse.end();
-    match end {
-        Ok(end) => end_run(end, cut, stop, nvm),
-        Err(_) => Err(StartFault::OutOfMemory),
-    }
+    let end = end?;
+    end_run(end, cut, stop, nvm)
 }
 
 // Runs one cycle: its start and its commands, each up to its planned stop, and then the power goes off.
@@ -139,9 +137,7 @@ pub fn replay_driven<
     ensures memory { IfErr result (Between N.Nvm (EndsCutShort cycles.items) nvm.old nvm.new) }
     ensures past { Between N.Nvm LeavesPast nvm.old nvm.new }
 {
-    let Ok(mut reports) = Vec::with_capacity(alloc, cycles.len()) else {
-        return Err(StartFault::OutOfMemory);
-    };
+    let mut reports = Vec::with_capacity(alloc, cycles.len())?;
     for cycle in cycles {
         let report = drive_one(rt, alloc, nvm, cycle, workers, gate)?;
         reports.push_reserved(report);

@@ -76,9 +76,7 @@ pub fn replay<N: Nvm>(
     ensures memory { IfErr result (Between N.Nvm (EndsShort cycles.now) nvm.old nvm.new) }
     ensures past { Between N.Nvm LeavesPast nvm.old nvm.new }
 {
-    let Ok(mut reports) = Vec::with_capacity(alloc, cycles.len()) else {
-        return Err(StartFault::OutOfMemory);
-    };
+    let mut reports = Vec::with_capacity(alloc, cycles.len())?;
     for cycle in cycles {
         let report = run_cycle(alloc, nvm, cycle)?;
         reports.push_reserved(report);

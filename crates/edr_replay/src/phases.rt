@@ -93,10 +93,8 @@ pub(crate) fn end_run<N: Nvm>(
     ensures unplanned { OnErr result (end.failed ≡ true → cut ≡ false) }
 {
     if !end.failed {
-        return match nvm.power_cycle() {
-            Ok(()) => Ok(ran(end, None)),
-            Err(_) => Err(StartFault::StoreFault),
-        };
+        nvm.power_cycle()?;
+        return Ok(ran(end, None));
     }
     if !cut {
         return Err(StartFault::StoreFault);

@@ -1,4 +1,5 @@
 use Rattle.std.proofs.Common.{rules, arith}
+use Rattle.std.proofs.lemmas.Result.{err_from_is_err_and}
 use Rattle.edr_cycle.specs.declared.started.StartFault.TheVariants as fault
 use Rattle.edr_replay.proofs.CycleLemmas.{memory_short, memory_spent, memory_refused}
 use Rattle.edr_replay.proofs.PastLemmas.{past_none}
@@ -6,16 +7,22 @@ use Rattle.edr_replay.proofs.Running.{running_first, running_more, ends_spent, e
 use Rattle.edr_replay.proofs.Leaving.{reached_none, reached_more, short_none, short_more}
 use Rattle.edr_replay.proofs.replay.Goals as goal
 
-pub returns-in_default-clause-spent : goal.returns-in_default-clause-spent
-returns-in_default-clause-spent g c = let D = g.N.Nvm in memory_spent c.args.cycles.now (D.content c.args.nvm.now) (D.settled c.args.nvm.now) (D.content c.args.nvm.now) (D.settled c.args.nvm.now)
+pub returns-in_err-reports-clause-spent : goal.returns-in_err-reports-clause-spent
+returns-in_err-reports-clause-spent g c =
+    let D = g.N.Nvm in
+    let p = err_from_is_err_and c.from_residual.result c.from_residual.ensures.1 in
+    rw (p.1, p.2) (memory_spent c.args.cycles.now (D.content c.args.nvm.now) (D.settled c.args.nvm.now) (D.content c.args.nvm.now) (D.settled c.args.nvm.now))
 
-pub returns-in_default-clause-refused : goal.returns-in_default-clause-refused
-returns-in_default-clause-refused g c = let D = g.N.Nvm in memory_refused (D.content c.args.nvm.now) (D.settled c.args.nvm.now)
+pub returns-in_err-reports-clause-refused : goal.returns-in_err-reports-clause-refused
+returns-in_err-reports-clause-refused g c =
+    let D = g.N.Nvm in
+    let p = err_from_is_err_and c.from_residual.result c.from_residual.ensures.1 in
+    rw (p.1, p.2) (memory_refused (D.content c.args.nvm.now) (D.settled c.args.nvm.now))
 
 pub loop-cycle-init : goal.loop-cycle-init
 loop-cycle-init g c =
     let D = g.N.Nvm in
-    running_first D.extent D.content D.settled D.faults D.goes_on c.args.cycles.now _ c.in-Ok.reports.items c.args.nvm.now (g.met.N.Nvm.goes_on_self c.args.nvm.now) c.in-Ok.ensures.items c.in-Ok.ensures.capacity
+    running_first D.extent D.content D.settled D.faults D.goes_on c.args.cycles.now _ c.in_ok-reports.reports.items c.args.nvm.now (g.met.N.Nvm.goes_on_self c.args.nvm.now) c.in_ok-reports.ensures.items c.in_ok-reports.ensures.capacity
 
 pub returns-in_err-report-clause-spent : goal.returns-in_err-report-clause-spent
 returns-in_err-report-clause-spent g c =
@@ -44,11 +51,17 @@ loop-cycle-preserved g c =
     c.loop-cycle.invariant c.loop-cycle-test.true c.cycle-item.is c.run_cycle.ensures.lent.size (g.met.N.Nvm.goes_on_again old mid new c.loop-cycle.invariant.device c.run_cycle.ensures.lent.device) c.run_cycle.ensures.lent.tells c.run_cycle.ensures.later c.run_cycle.ensures.past
     c.in_ok-report.ensures.ran c.push_reserved.ensures.items (let same = c.push_reserved.ensures.capacity in let room = c.loop-cycle.invariant.room in omega (arith, same, room))
 
-pub returns-in_default-clause-left : goal.returns-in_default-clause-left
-returns-in_default-clause-left g c = let D = g.N.Nvm in reached_none c.args.cycles.now (D.content c.args.nvm.now) (D.settled c.args.nvm.now)
+pub returns-in_err-reports-clause-left : goal.returns-in_err-reports-clause-left
+returns-in_err-reports-clause-left g c =
+    let D = g.N.Nvm in
+    let p = err_from_is_err_and c.from_residual.result c.from_residual.ensures.1 in
+    rw p.1 (reached_none c.args.cycles.now (D.content c.args.nvm.now) (D.settled c.args.nvm.now))
 
-pub returns-in_default-clause-memory : goal.returns-in_default-clause-memory
-returns-in_default-clause-memory g c = let D = g.N.Nvm in short_none c.args.cycles.now (D.content c.args.nvm.now) (D.settled c.args.nvm.now) fault.OutOfMemory
+pub returns-in_err-reports-clause-memory : goal.returns-in_err-reports-clause-memory
+returns-in_err-reports-clause-memory g c =
+    let D = g.N.Nvm in
+    let p = err_from_is_err_and c.from_residual.result c.from_residual.ensures.1 in
+    rw (p.1, p.2) (short_none c.args.cycles.now (D.content c.args.nvm.now) (D.settled c.args.nvm.now) fault.OutOfMemory)
 
 pub returns-in_err-report-clause-left : goal.returns-in_err-report-clause-left
 returns-in_err-report-clause-left g c =
@@ -68,8 +81,8 @@ returns-in_err-report-clause-memory g c =
     let s = short_more c.args.cycles.now c.loop-cycle.cycle-index (D.content old) (D.settled old) (D.content mid) (D.settled mid) (D.content new) (D.settled new) c.loop-cycle.reports.items c.in_err-report.field-0.0 c.loop-cycle.invariant.run c.loop-cycle-test.true c.in_err-report.ensures.memory in
     search rules
 
-pub returns-in_default-clause-past : goal.returns-in_default-clause-past
-returns-in_default-clause-past g c = let D = g.N.Nvm in past_none (D.content c.args.nvm.now) (D.settled c.args.nvm.now)
+pub returns-in_err-reports-clause-past : goal.returns-in_err-reports-clause-past
+returns-in_err-reports-clause-past g c = let D = g.N.Nvm in past_none (D.content c.args.nvm.now) (D.settled c.args.nvm.now)
 
 pub returns-in_err-report-clause-past : goal.returns-in_err-report-clause-past
 returns-in_err-report-clause-past g c =
@@ -79,5 +92,8 @@ returns-in_err-report-clause-past g c =
     let new = c.run_cycle.new.nvm in
     past_ran _ (D.content old) (D.content mid) (D.content new) (D.settled old) (D.settled mid) (D.settled new) c.loop-cycle.reports.items c.loop-cycle.invariant.past c.loop-cycle.invariant.run c.run_cycle.ensures.past
 
-pub returns-in_default-clause-short : goal.returns-in_default-clause-short
-returns-in_default-clause-short g c = let D = g.N.Nvm in memory_short (D.extent c.args.nvm.now)
+pub returns-in_err-reports-clause-short : goal.returns-in_err-reports-clause-short
+returns-in_err-reports-clause-short g c =
+    let D = g.N.Nvm in
+    let p = err_from_is_err_and c.from_residual.result c.from_residual.ensures.1 in
+    rw (p.1, p.2) (memory_short (D.extent c.args.nvm.now))

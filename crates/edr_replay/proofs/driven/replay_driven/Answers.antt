@@ -1,4 +1,5 @@
 use Rattle.std.proofs.Common.{rules, arith, subst, ℕ}
+use Rattle.std.proofs.lemmas.Result.{err_from_is_err_and}
 use Rattle.std.proofs.lemmas.Iterator.Adapters.{YieldsList-from_vec}
 use Rattle.std.proofs.lemmas.Iterator.Consumers.{YieldsList-turn}
 use Rattle.std.specs.Prelude.{length, vec_capacity}
@@ -9,25 +10,40 @@ use Rattle.edr_replay.proofs.Leaving.{reached_none, reached_more}
 use Rattle.edr_replay.proofs.Running.{Running, running_first, running_more, ends_spent, ends_refused, past_ran}
 use Rattle.edr_replay.proofs.driven.replay_driven.Goals as goal
 
-pub returns-in_default-clause-spent : goal.returns-in_default-clause-spent
-returns-in_default-clause-spent g c = let D = g.N.Nvm in memory_spent c.args.cycles.items (D.content c.args.nvm.now) (D.settled c.args.nvm.now) (D.content c.args.nvm.now) (D.settled c.args.nvm.now)
+pub returns-in_err-reports-clause-spent : goal.returns-in_err-reports-clause-spent
+returns-in_err-reports-clause-spent g c =
+    let D = g.N.Nvm in
+    let p = err_from_is_err_and c.from_residual.result c.from_residual.ensures.1 in
+    rw (p.1, p.2) (memory_spent c.args.cycles.items (D.content c.args.nvm.now) (D.settled c.args.nvm.now) (D.content c.args.nvm.now) (D.settled c.args.nvm.now))
 
-pub returns-in_default-clause-refused : goal.returns-in_default-clause-refused
-returns-in_default-clause-refused g c = let D = g.N.Nvm in memory_refused (D.content c.args.nvm.now) (D.settled c.args.nvm.now)
+pub returns-in_err-reports-clause-refused : goal.returns-in_err-reports-clause-refused
+returns-in_err-reports-clause-refused g c =
+    let D = g.N.Nvm in
+    let p = err_from_is_err_and c.from_residual.result c.from_residual.ensures.1 in
+    rw (p.1, p.2) (memory_refused (D.content c.args.nvm.now) (D.settled c.args.nvm.now))
 
-pub returns-in_default-clause-short : goal.returns-in_default-clause-short
-returns-in_default-clause-short g c = let D = g.N.Nvm in memory_short (D.extent c.args.nvm.now)
+pub returns-in_err-reports-clause-short : goal.returns-in_err-reports-clause-short
+returns-in_err-reports-clause-short g c =
+    let D = g.N.Nvm in
+    let p = err_from_is_err_and c.from_residual.result c.from_residual.ensures.1 in
+    rw (p.1, p.2) (memory_short (D.extent c.args.nvm.now))
 
-pub returns-in_default-clause-left : goal.returns-in_default-clause-left
-returns-in_default-clause-left g c = let D = g.N.Nvm in reached_none c.args.cycles.items (D.content c.args.nvm.now) (D.settled c.args.nvm.now)
+pub returns-in_err-reports-clause-left : goal.returns-in_err-reports-clause-left
+returns-in_err-reports-clause-left g c =
+    let D = g.N.Nvm in
+    let p = err_from_is_err_and c.from_residual.result c.from_residual.ensures.1 in
+    rw p.1 (reached_none c.args.cycles.items (D.content c.args.nvm.now) (D.settled c.args.nvm.now))
 
-pub returns-in_default-clause-memory : goal.returns-in_default-clause-memory
-returns-in_default-clause-memory g c = let D = g.N.Nvm in cut_short_none c.args.cycles.items (D.content c.args.nvm.now) (D.settled c.args.nvm.now) fault.OutOfMemory
+pub returns-in_err-reports-clause-memory : goal.returns-in_err-reports-clause-memory
+returns-in_err-reports-clause-memory g c =
+    let D = g.N.Nvm in
+    let p = err_from_is_err_and c.from_residual.result c.from_residual.ensures.1 in
+    rw (p.1, p.2) (cut_short_none c.args.cycles.items (D.content c.args.nvm.now) (D.settled c.args.nvm.now) fault.OutOfMemory)
 
 pub loop-cycle-init : goal.loop-cycle-init
 loop-cycle-init g c =
     let D = g.N.Nvm in
-    running_first D.extent D.content D.settled D.faults D.goes_on c.args.cycles.items _ c.in-Ok.reports.items c.args.nvm.now (g.met.N.Nvm.goes_on_self c.args.nvm.now) c.in-Ok.ensures.items (search rules)
+    running_first D.extent D.content D.settled D.faults D.goes_on c.args.cycles.items _ c.in_ok-reports.reports.items c.args.nvm.now (g.met.N.Nvm.goes_on_self c.args.nvm.now) c.in_ok-reports.ensures.items (search rules)
 
 pub returns-in_err-report-clause-spent : goal.returns-in_err-report-clause-spent
 returns-in_err-report-clause-spent g c =
