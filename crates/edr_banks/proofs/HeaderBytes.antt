@@ -11,7 +11,7 @@ use Rattle.edr_image.specs.declared.HeaderRefused.TheVariants as refused
 use Rattle.edr_image.specs.declared.OpenFault.TheVariants as open_fault
 use Rattle.edr_image.specs.declared.BankView.{BankView}
 use Rattle.edr_image.specs.PartBytes.{number_at}
-use Rattle.edr_image.specs.Image.{View, bank_view, banks_of, count_of, header_of, header_refusal, image_refusal, magic, not_magic, place_of, slot_count, store_of, view_of}
+use Rattle.edr_image.specs.Image.{View, bank_view, banks_of, count_of, header_of, header_refusal, image_refusal, magic, not_magic, place_of, slot_count, store_of, view_of, header_refusal_by, image_refusal_by, view_by}
 use Rattle.edr_gates.proofs.Matching.{Match, match_at}
 use Rattle.edr_banks.specs.Opening.{refusal_by}
 use Rattle.edr_banks.proofs.FirstBytes.{magic_same}
@@ -48,7 +48,7 @@ number_same first bytes at n front fits =
     let zero_on : 0 + at ≡ at = omega arith in rw zero_on at (match_at first 0 bytes 0 96 at n (front_match first bytes front) (omega arith))
 
 header_same : (first bytes : List ℕ) → IsFront first bytes → header_refusal first ≡ header_refusal bytes
-unfolding header_refusal
+unfolding header_refusal_by
 header_same first bytes front =
     let banks = front 10 (omega arith) in
     let choice = front 11 (omega arith) in
@@ -73,11 +73,11 @@ long_or_not : (a b : ℕ) → b ≤ a → nat_lt a b ≡ false
 long_or_not a b h = grind (arith, nat_tests)
 
 pub refused_short : (bytes : List ℕ) → length bytes < 96 → image_refusal bytes ≡ Some (open_fault.Short (length bytes) 96)
-unfolding image_refusal
+unfolding image_refusal_by
 refused_short bytes short = rw (short_or_not (length bytes) 96 short) refl
 
 pub refused_by_first : (first bytes : List ℕ) (size : ℕ) → IsFront first bytes → 96 ≤ size → length bytes ≡ size → image_refusal bytes ≡ refusal_by first size
-unfolding image_refusal refusal_by
+unfolding image_refusal_by refusal_by
 refused_by_first first bytes size front long is =
     let banks = front 10 (omega arith) in
     let some_left : 96 ≤ length bytes = omega arith in
@@ -86,7 +86,7 @@ refused_by_first first bytes size front long is =
 -- ---- what an image says
 
 read_as : (bytes : List ℕ) → image_refusal bytes ≡ None → view_of bytes ≡ Some (record { store = store_of bytes; count = count_of bytes })
-unfolding view_of
+unfolding view_by
 read_as bytes none = rw none refl
 
 same_view : (a b : Header) (xs ys : List BankView) (m n : ℕ) → a ≡ b → xs ≡ ys → m ≡ n → (let v : View = record { store = record { header = a; banks = xs }; count = m } in Some v) ≡ Some (record { store = record { header = b; banks = ys }; count = n })
@@ -117,7 +117,7 @@ first_none f (Some x) p e = absurd cc
 
 -- a header that isn't refused has 2 to 16 banks
 accepted_within : (first : List ℕ) → header_refusal first ≡ None → (2 ≤ slice_index first 10) × (slice_index first 10 ≤ 16)
-unfolding header_refusal
+unfolding header_refusal_by
 accepted_within first none = between (slice_index first 10) (accepted_banks _ _ _ _ _ _ _ none)
 
 pub header_within : (first : List ℕ) (h : Header) → header_refusal first ≡ None → h ≡ header_of first → (2 ≤ h.banks) × (h.banks ≤ 16)

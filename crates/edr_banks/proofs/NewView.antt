@@ -9,7 +9,7 @@ use Rattle.edr_image.specs.declared.Choice.TheVariants.{Keep, Overwrite}
 use Rattle.edr_image.specs.declared.Header.{Header}
 use Rattle.edr_image.specs.declared.BankView.{BankView}
 use Rattle.edr_image.specs.declared.BankView.TheVariants.{Void}
-use Rattle.edr_image.specs.Image.{View, bank_view, choice_byte, count_of, header_of, header_refusal, image_refusal, image_size, place_of, view_of}
+use Rattle.edr_image.specs.Image.{View, bank_view, choice_byte, count_of, header_of, header_refusal, image_refusal, image_size, place_of, view_of, bank_view_by, header_refusal_by, image_refusal_by, view_by}
 use Rattle.edr_banks.specs.Formatting.{IsNew, formatted, new_view}
 use Rattle.edr_banks.proofs.NewImage.{zeros_behind}
 use Rattle.edr_layout.proofs.NewFront.{front, new_image_is}
@@ -23,7 +23,7 @@ a_choice Keep = refl
 a_choice Overwrite = refl
 
 header_stands : (h : Header) (rest : List ℕ) → 2 ≤ h.banks → h.banks ≤ 16 → header_refusal (front h ++ rest) ≡ None
-unfolding header_refusal
+unfolding header_refusal_by
 header_stands h rest low high = rw (few_banks h.banks low high, a_choice h.choice) refl
 
 header_of_choice : (n : ℕ) (c : Choice) → (let h : Header = record { banks = n; choice = cond (nat_eq (choice_byte c) 0) Keep Overwrite } in h) ≡ record { banks = n; choice = c }
@@ -42,7 +42,7 @@ first_of_range : (bytes : List ℕ) (at : ℕ) → slice_index (slice_range byte
 first_of_range bytes at = grind (arith, common_steps)
 
 void_there : (bytes : List ℕ) (at : ℕ) → slice_index bytes at ≡ 0 → bank_view (slice_range bytes at (at + 512)) ≡ Void
-unfolding bank_view
+unfolding bank_view_by
 void_there bytes at closed = rw (first_of_range bytes at ∙ closed) refl
 
 all_void : (view : ℕ → BankView) (s n : ℕ) → ((m : ℕ) → s ≤ m → m < s + n → view m ≡ Void) → map view (range_with_len s n) ≡ replicate n Void
@@ -60,7 +60,7 @@ banks_void h bytes new =
     all_void (λ m. bank_view (slice_range bytes (place_of m) (place_of m + 512))) 1 h.banks (λ m low high. void_there bytes (place_of m) (new (place_of m) (omega arith) (omega arith)))
 
 not_refused : (h : Header) (rest : List ℕ) → 2 ≤ h.banks → h.banks ≤ 16 → image_size h.banks ≤ length (front h ++ rest) → image_refusal (front h ++ rest) ≡ None
-unfolding image_refusal
+unfolding image_refusal_by
 not_refused h rest low high long =
     let first : nat_lt (length (front h ++ rest)) 96 ≡ false = at_least (length (front h ++ rest)) 96 (omega arith) in
     rw (first, header_stands h rest low high, at_least (length (front h ++ rest)) (image_size h.banks) long) refl
@@ -72,7 +72,7 @@ same_view : (a b : Header) (xs ys : List BankView) (m n : ℕ) → a ≡ b → x
 same_view a b xs ys m n p q r = cc
 
 view_is : (h : Header) (rest : List ℕ) → 2 ≤ h.banks → h.banks ≤ 16 → image_size h.banks ≤ length (front h ++ rest) → IsZero h (front h ++ rest) → view_of (front h ++ rest) ≡ Some (new_view h)
-unfolding view_of
+unfolding view_by
 view_is h rest low high long new =
     let bytes = front h ++ rest in
     let count = none_counted bytes (new 32 (omega arith) (omega arith)) (new 64 (omega arith) (omega arith)) in

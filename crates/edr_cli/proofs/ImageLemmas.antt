@@ -4,7 +4,7 @@ use Rattle.edr_device.specs.Device.{IsQuiet, StillTells}
 use Rattle.edr_image.specs.declared.Header.{Header}
 use Rattle.edr_image.specs.declared.OpenFault.{OpenFault}
 use Rattle.edr_image.specs.Banks.{Store}
-use Rattle.edr_image.specs.Image.{View, image_refusal, view_of}
+use Rattle.edr_image.specs.Image.{View, image_refusal, view_of, view_by}
 use Rattle.edr_banks.specs.Formatting.{IsPartlyFormatted}
 use Rattle.edr_words.specs.declared.Form.{Form}
 use Rattle.edr_cli.specs.Outside.{Memory}
@@ -12,7 +12,7 @@ use Rattle.edr_cli.specs.Reports.{IsReported, ReportIs, Says, report_in}
 
 -- an image that says banks and a count is not refused
 pub says_refused : (image : List ℕ) (v : Store) (n : ℕ) (e : OpenFault) → Says image v n → image_refusal image ≢ Some e
-unfolding view_of
+unfolding view_by
 says_refused image v n e says refused = cc
 
 pub same_view : (v w : View) → Some v ≡ Some w → v ≡ w

@@ -11,7 +11,7 @@ use Rattle.edr_image.specs.declared.Header.{Header}
 use Rattle.edr_image.specs.declared.OpenFault.{OpenFault}
 use Rattle.edr_image.specs.Banks.{Store}
 use Rattle.edr_image.specs.PartBytes.{number_at}
-use Rattle.edr_image.specs.Image.{View, bank_view, count_of, is_open, slot_count, header_of, header_refusal, image_refusal, image_size, magic, not_magic, place_of, store_of, view_of}
+use Rattle.edr_image.specs.Image.{View, bank_view, count_of, is_open, slot_count, header_of, header_refusal, image_refusal, image_size, magic, not_magic, place_of, store_of, view_of, header_refusal_by, image_refusal_by, view_by}
 use Rattle.edr_cycle.specs.Counter.{IsCounted, IsNext, SaysWith}
 use Rattle.edr_cycle.proofs.Bytes.{byte_beside, number_beside, same_wider}
 use Rattle.edr_cycle.proofs.Slots.{IsCount, IsOlder, counted, older_is}
@@ -70,20 +70,20 @@ at_least : (a b : ℕ) → b ≤ a → nat_lt a b ≡ false
 at_least a b h = grind (arith, nat_tests)
 
 not_refused : (bytes : List ℕ) → image_refusal bytes ≡ None → (header_refusal bytes ≡ None) × (image_size (slice_index bytes 10) ≤ length bytes)
-unfolding image_refusal
+unfolding image_refusal_by
 not_refused bytes e =
     let two = long_enough _ _ _ _ _ e in (none_mapped (header_refusal bytes) _ two.0, not_below (length bytes) (image_size (slice_index bytes 10)) two.1)
 
 refused_none : (bytes : List ℕ) → header_refusal bytes ≡ None → image_size (slice_index bytes 10) ≤ length bytes → image_refusal bytes ≡ None
-unfolding image_refusal
+unfolding image_refusal_by
 refused_none bytes header long = rw (at_least (length bytes) 96 (omega arith), header, at_least (length bytes) (image_size (slice_index bytes 10)) long) refl
 
 pub view_is : (bytes : List ℕ) → header_refusal bytes ≡ None → image_size (slice_index bytes 10) ≤ length bytes → view_of bytes ≡ Some (record { store = store_of bytes; count = count_of bytes })
-unfolding view_of
+unfolding view_by
 view_is bytes header long = rw (refused_none bytes header long) refl
 
 pub seen : (bytes : List ℕ) (v : View) → view_of bytes ≡ Some v → IsSeen bytes v
-unfolding view_of
+unfolding view_by
 seen bytes v e =
     let is = seen_as (image_refusal bytes) _ v e in
     let ok = not_refused bytes is.0 in
@@ -104,7 +104,7 @@ module _ (bytes image : List ℕ) (s : SameBut 32 64 bytes image) (fits : 96 ≤
   header_same = rw (front 10 (omega arith), front 11 (omega arith)) refl
 
   header_stays : header_refusal bytes ≡ None → header_refusal image ≡ None
-  unfolding header_refusal
+  unfolding header_refusal_by
   header_stays e =
       let two = both_none _ _ e in
       let magic_none : not_magic image ≡ None = magic_same ∙ none_mapped (not_magic bytes) _ two.0 in

@@ -5,7 +5,7 @@ use Rattle.edr_record.specs.Parts.{PrePart, CrashPart}
 use Rattle.edr_record.specs.declared.Record.{Record}
 use Rattle.edr_image.specs.declared.BankView.{BankView}
 use Rattle.edr_image.specs.declared.BankView.TheVariants.{Void, Event, Damaged}
-use Rattle.edr_image.specs.Image.{bank_damage, bank_view, is_open, record_of}
+use Rattle.edr_image.specs.Image.{bank_damage, bank_view, is_open, record_of, bank_view_by}
 use Rattle.edr_image.specs.PartBytes.{crash_at, crash_damage, pre_at, pre_damage}
 use Rattle.edr_gates.proofs.Matching.{Match, crash_none, crash_same, match_part, pre_none, pre_same}
 
@@ -56,7 +56,7 @@ crash_case bank true gate whole = (gate, record { whole = whole; same = refl })
 crash_case bank false gate whole = gate
 
 pub bank_shows : (bank : List ℕ) (view : BankView) → bank_view bank ≡ view → ((o b : ℕ) (l : Bool) → view ≡ Damaged o b l → ⊥) → Shows bank 0 view
-unfolding bank_view
+unfolding bank_view_by
 bank_shows bank Void e whole = void_case (is_open bank 0) (bank_damage bank) (slice_index bank) (is_open bank 1) (record_of bank) e
 bank_shows bank (Damaged o b l) e whole = whole o b l refl
 bank_shows bank (Event r) e whole =
@@ -67,12 +67,12 @@ bank_shows bank (Event r) e whole =
 
 event_view : (bank : List ℕ) (lock : Bool) (pre : PrePart) (crash : Option CrashPart) → is_open bank 0 ≡ true → is_open bank 1 ≡ lock → pre_damage bank 16 ≡ None → pre_at bank 16 ≡ pre → ShowsCrash bank 0 crash
     → bank_view bank ≡ Event (record { pre = pre; locked = lock; crash = crash })
-unfolding bank_view
+unfolding bank_view_by
 event_view bank lock pre None opened locked whole same done = rw (opened, whole, done, same, locked) refl
 event_view bank lock pre (Some crash) opened locked whole same done = rw (opened, whole, done.0, done.1.whole, same, locked, done.1.same) refl
 
 pub shows_bank : (bank : List ℕ) (view : BankView) → Shows bank 0 view → bank_view bank ≡ view
-unfolding bank_view
+unfolding bank_view_by
 shows_bank bank Void s = rw s refl
 shows_bank bank (Event r) s = event_view bank r.locked r.pre r.crash s.opened s.lock s.begins.whole s.begins.same s.ends
 shows_bank bank (Damaged o b l) s = absurd s

@@ -15,7 +15,7 @@ use Rattle.edr_image.specs.declared.Header.{Header}
 use Rattle.edr_image.specs.declared.OpenFault.{OpenFault}
 use Rattle.edr_image.specs.Banks.{with_bank}
 use Rattle.edr_image.specs.PartBytes.{number_at}
-use Rattle.edr_image.specs.Image.{View, bank_view, count_of, header_of, header_refusal, image_refusal, image_size, magic, not_magic, place_of, slot_count, store_of, view_of}
+use Rattle.edr_image.specs.Image.{View, bank_view, count_of, header_of, header_refusal, image_refusal, image_size, magic, not_magic, place_of, slot_count, store_of, view_of, header_refusal_by, image_refusal_by, view_by}
 use Rattle.edr_gates.specs.Taken.{Holds}
 use Rattle.edr_gates.proofs.Matching.{Match, match_at, match_back}
 use Rattle.edr_gates.proofs.BankBytes.{both_none, Shows, bank_shows, shows_bank, shows_moves}
@@ -48,23 +48,23 @@ not_below a b e = grind (arith, nat_tests)
 
 -- the header isn't refused, and the banks are there
 not_refused : (bytes : List ℕ) → image_refusal bytes ≡ None → (header_refusal bytes ≡ None) × (image_size (slice_index bytes 10) ≤ length bytes)
-unfolding image_refusal
+unfolding image_refusal_by
 not_refused bytes e =
     let two = long_enough _ _ _ _ _ e in (refusal_none (header_refusal bytes) _ two.0, not_below (length bytes) (image_size (slice_index bytes 10)) two.1)
 
 refused_none : (bytes : List ℕ) → header_refusal bytes ≡ None → image_size (slice_index bytes 10) ≤ length bytes → image_refusal bytes ≡ None
-unfolding image_refusal
+unfolding image_refusal_by
 refused_none bytes header long = rw (at_least (length bytes) 96 (omega arith), header, at_least (length bytes) (image_size (slice_index bytes 10)) long) refl
   where
     at_least : (a b : ℕ) → b ≤ a → nat_lt a b ≡ false
     at_least a b h = grind (arith, nat_tests)
 
 view_is : (bytes : List ℕ) → header_refusal bytes ≡ None → image_size (slice_index bytes 10) ≤ length bytes → view_of bytes ≡ Some (record { store = store_of bytes; count = count_of bytes })
-unfolding view_of
+unfolding view_by
 view_is bytes header long = rw (refused_none bytes header long) refl
 
 pub seen : (bytes : List ℕ) (v : View) → view_of bytes ≡ Some v → IsSeen bytes v
-unfolding view_of
+unfolding view_by
 seen bytes v e =
     let is = seen_as (image_refusal bytes) _ v e in
     let ok = not_refused bytes is.0 in
@@ -87,7 +87,7 @@ magic_same xs ys h =
     (λ k low high. rw (byte_at xs ys 96 k h (omega arith)) refl)
 
 header_stays : (xs ys : List ℕ) → Match xs 0 ys 0 96 → header_refusal xs ≡ None → header_refusal ys ≡ None
-unfolding header_refusal
+unfolding header_refusal_by
 header_stays xs ys h e =
     let two = both_none _ _ e in
     let magic_none : not_magic ys ≡ None = sym (magic_same xs ys h) ∙ refusal_none (not_magic xs) _ two.0 in

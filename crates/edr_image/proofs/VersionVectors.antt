@@ -1,11 +1,13 @@
--- Parts of version 2, and parts of a longer profile, computed.
+-- Parts and images of version 2, and parts of a longer profile, computed.
 use Rattle.std.proofs.Common.{◌≡◌, refl, ℕ, true, false, Option, Some, None, List, [], ◌∷◌, ◌++◌, length, replicate, slice_set, take}
 use Rattle.std.specs.List.{flat_map, range_with_len}
 use Rattle.edr_record.specs.Parts.{PrePart}
 use Rattle.edr_record.specs.declared.Place.TheVariants.{First}
+use Rattle.edr_image.specs.declared.HeaderRefused.TheVariants as refused
 use Rattle.edr_image.specs.declared.forms.PreForm.{PreForm}
-use Rattle.edr_image.specs.declared.forms.TheConstants.{VERSION_2}
-use Rattle.edr_image.specs.PartBytes.{pre_size, crash_size, pre_bytes_by, crash_bytes, crash_bytes_by, pre_at_by, pre_damage_by, crash_damage_by}
+use Rattle.edr_image.specs.declared.forms.TheConstants.{VERSION_1, VERSION_2}
+use Rattle.edr_image.specs.PartBytes.{pre_size, crash_size, pre_bytes, pre_bytes_by, crash_bytes, crash_bytes_by, pre_at_by, crash_at, pre_damage_by, crash_damage_by}
+use Rattle.edr_image.specs.Image.{magic, size_by, view_by, bank_view_by, image_refusal_by, header_refusal_by, count_of}
 use Rattle.edr_image.proofs.Vectors.{pre_1, crash}
 
 -- ---- the pre part of `crash_with_tie`
@@ -112,3 +114,34 @@ long-short = refl
 long-profile : (pre_damage_by long_form (slice_set pre_2 9 2) 0 ≡ None) × (pre_damage_by long_form (slice_set pre_2 9 3) 0 ≡ Some 9)
 unfolding pre_damage_by pre_bytes_by
 long-profile = (refl, refl)
+
+-- ---- images
+
+-- the front of an image of two banks with the count 1
+abbrev front : ℕ → List ℕ
+front version = magic ++ 0 ∷ version ∷ 2 ∷ 0 ∷ replicate 20 0 ++ 0xa5 ∷ 0 ∷ 0 ∷ 0 ∷ 0 ∷ 0 ∷ 0 ∷ 1 ∷ replicate 56 0
+
+-- one event that is done and not locked
+abbrev image_1 : List ℕ
+image_1 = front 1 ++ 0xa5 ∷ 0 ∷ 0xa5 ∷ replicate 13 0 ++ pre_bytes pre_1 ++ crash_bytes crash ++ replicate 528 0
+
+abbrev image_2 : List ℕ
+image_2 = front 2 ++ 0xa5 ∷ 0 ∷ 0xa5 ∷ replicate 13 0 ++ pre_2 ++ crash_2 ++ replicate 1024 0
+
+image-sizes : (size_by VERSION_2 2 ≡ 2144) × (length image_2 ≡ 2144) × (size_by VERSION_2 16 ≡ 16480)
+unfolding pre_bytes_by crash_bytes_by
+image-sizes = (refl, refl, refl)
+
+-- both versions say the same of this event
+image-view : view_by VERSION_2 image_2 ≡ view_by VERSION_1 image_1
+unfolding view_by image_refusal_by header_refusal_by count_of bank_view_by pre_damage_by crash_damage_by pre_at_by crash_at pre_bytes_by crash_bytes_by
+image-view = refl
+
+-- and refuse each other's header
+image-version_1 : header_refusal_by VERSION_2 image_1 ≡ Some (refused.Version 1)
+unfolding header_refusal_by pre_bytes_by crash_bytes_by
+image-version_1 = refl
+
+image-version_2 : header_refusal_by VERSION_1 image_2 ≡ Some (refused.Version 2)
+unfolding header_refusal_by pre_bytes_by crash_bytes_by
+image-version_2 = refl

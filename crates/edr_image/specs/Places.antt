@@ -1,8 +1,9 @@
 -- The places of an image in numbers. Definitions and code cite the constants; here each is what it is.
-use Rattle.std.specs.Prelude.{◌≡◌, ◌+◌}
+use Rattle.std.specs.Prelude.{◌≡◌}
 use Rattle.edr_image.specs.declared.forms.TheConstants.{VERSION_1, VERSION_2}
 use Rattle.edr_image.specs.declared.places.TheConstants.{BANK_SIZE, BANKS, CHOICE, CRASH_PART, CRASH_SIZE, DONE_GATE, EVENT_GATE, FEWEST_BANKS, FIRST_SLOT, FRONT_SIZE, HEADER_END, LOCK_GATE, MOST_BANKS, OPEN_GATE, PRE_PART, PRE_SIZE, SECOND_SLOT, SLOT_COUNT, SLOT_SIZE, VERSION}
 use Rattle.edr_image.specs.PartBytes.{pre_size, crash_size}
+use Rattle.edr_image.specs.Image.{crash_place}
 
 -- an image has 2 to 16 banks of 512 bytes behind a front of 96, and a gate is open at 165
 pub record HasSizes : Type 0 where
@@ -40,4 +41,4 @@ pub record HasVersions : Type 0 where
         pre = record { room = 201; zeros = 30; profiles = (1, 1); slots = (11, 201) };
         crash = record { zeros = 24 };
       }
-  pub places : (pre_size VERSION_1.pre ≡ PRE_SIZE) × (PRE_PART + pre_size VERSION_1.pre ≡ CRASH_PART) × (crash_size VERSION_1.crash ≡ CRASH_SIZE)
+  pub places : (pre_size VERSION_1.pre ≡ PRE_SIZE) × (crash_place VERSION_1 ≡ CRASH_PART) × (crash_size VERSION_1.crash ≡ CRASH_SIZE)

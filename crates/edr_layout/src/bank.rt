@@ -66,7 +66,7 @@ fn record_of(bank: &[u8; BANK_SIZE]) -> Result<Record, Damaged>
 }
 
 /// What a bank holds.
-#[tactic(auto, unfolding(edr_image::specs::Image::bank_view))]
+#[tactic(auto, unfolding(edr_image::specs::Image::bank_view_by))]
 pub fn bank_view(bank: &[u8; BANK_SIZE]) -> BankView
     ensures { result ≡ bank_view bank.now }
 {

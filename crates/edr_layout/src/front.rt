@@ -31,7 +31,7 @@ pub fn is_open(bytes: &[u8], at: usize) -> bool
 
 /// What the first bytes of an image say, or why they are refused: of several causes the one that
 /// [`HeaderRefused`] has first.
-#[tactic(auto, unfolding(edr_image::specs::Image::header_refusal))]
+#[tactic(auto, unfolding(edr_image::specs::Image::header_refusal_by))]
 pub fn read_header(bytes: &[u8; FRONT_SIZE]) -> Result<Header, HeaderRefused>
     ensures read { IfOk result (λ h. h ≡ header_of bytes.now) }
     ensures accepted { IfOk result (λ _. header_refusal bytes.now ≡ None) }

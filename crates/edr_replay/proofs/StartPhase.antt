@@ -5,7 +5,7 @@ use Rattle.edr_device.specs.Device.{IsQuiet, IsSettled, MayLeave, Stays, StillTe
 use Rattle.edr_image.specs.declared.OpenFault.{OpenFault}
 use Rattle.edr_image.specs.declared.OpenFault.TheVariants as open_fault
 use Rattle.edr_image.specs.Banks.{Store}
-use Rattle.edr_image.specs.Image.{View, count_of, image_refusal, store_of, view_of}
+use Rattle.edr_image.specs.Image.{View, count_of, image_refusal, store_of, view_of, view_by}
 use Rattle.edr_banks.specs.Opening.{IsRefusal as IsImageRefusal}
 use Rattle.edr_run.specs.Cycle.{last_count}
 use Rattle.edr_cycle.specs.declared.started.StartFault.{StartFault}
@@ -107,7 +107,7 @@ truly_spent e content settled content' settled' past since counted early = λ sp
 
 -- an image that is refused has no view
 no_view : (bytes : List ℕ) (v : View) (o : OpenFault) → image_refusal bytes ≡ Some o → view_of bytes ≡ Some v → ⊥
-unfolding view_of
+unfolding view_by
 no_view bytes v o refused says = by (image_refusal bytes) refused says
   where
     by : (r : Option OpenFault) → r ≡ Some o → cond (is_none r) (Some (record { store = store_of bytes; count = count_of bytes })) None ≡ Some v → ⊥
