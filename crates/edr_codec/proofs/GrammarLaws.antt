@@ -1,10 +1,10 @@
 -- The damage of the parts means that the bytes before it begin a part, and those up to and with it don't.
-use Rattle.std.proofs.Common.{◌≡◌, ◌↔◌, inl, refl, subst, None, sym, ap, ap₂, ◌∙◌, ℕ, zero, suc, ◌+◌, ◌*◌, ◌^◌, ◌<◌, ◌≤◌, max, Bool, true, false, Some, List, [], ◌∷◌, ◌++◌, length, replicate, slice_index, nat_eq, arith}
+use Rattle.std.proofs.Common.{◌≡◌, ◌↔◌, inl, refl, None, sym, ap, ap₂, ◌∙◌, ℕ, zero, suc, ◌+◌, ◌*◌, ◌^◌, ◌<◌, ◌≤◌, max, Bool, true, false, Some, List, [], ◌∷◌, ◌++◌, length, replicate, slice_index, nat_eq, arith}
 use Rattle.std.specs.List.{flat_map}
-use Rattle.edr_record.specs.Bounds.{IsPre, IsCrash, window_from_end, point_count}
+use Rattle.edr_record.specs.Bounds.{IsCrash, window_from_end, point_count}
 use Rattle.edr_image.specs.declared.forms.CrashForm.{CrashForm}
 use Rattle.edr_image.specs.declared.forms.PreForm.{PreForm}
-use Rattle.edr_image.specs.PartBytes.{Field, field, damage_of_fields, pre_size, slots_of, IsPreForm, IsShort, pre_fields_by, pre_damage_by, pre_at_by, pre_bytes_by, BeginsPreBy, crash_size, crash_fields_by, crash_damage_by, crash_at, crash_bytes_by, BeginsCrashBy, number_at, IsDamagedAt}
+use Rattle.edr_image.specs.PartBytes.{Field, field, damage_of_fields, pre_size, slots_of, IsPreForm, IsPreBy, pre_fields_by, pre_damage_by, pre_at_by, pre_bytes_by, BeginsPreBy, crash_size, crash_fields_by, crash_damage_by, crash_at, crash_bytes_by, BeginsCrashBy, number_at, IsDamagedAt}
 use Rattle.edr_codec.specs.declared.rows.Row.{Row}
 use Rattle.edr_codec.specs.Rows.{ranges_of, fields_of, row_size}
 use Rattle.edr_codec.proofs.FieldLemmas.{fields_size, fields_size-replicate}
@@ -12,7 +12,7 @@ use Rattle.edr_codec.proofs.RowLemmas.{Lies, can_be_in-lies}
 use Rattle.edr_codec.proofs.PieceLemmas.{AreSmall, small-bytes}
 use Rattle.edr_codec.proofs.DamageLemmas.{AreFilled, IsFilled, FieldsFilled}
 use Rattle.edr_codec.proofs.MeaningLemmas.{IsTable, IsGrammar, table_damage, table-within, table-same, table-complete, damage-means, means-damage}
-use Rattle.edr_codec.proofs.PreLemmas.{IsPreOf, is-short, short-is, short-profile, pre_rest, pre_table-fields, pre-profile, after_range, pre_at-is}
+use Rattle.edr_codec.proofs.PreLemmas.{by-profile, profile-by, profile-is, pre_rest, pre_table-fields, pre-profile, after_range, pre_at-is}
 use Rattle.edr_codec.proofs.CrashLemmas.{axis_rows, last_rows, crash_table-fields, crash_at-is, points-some, points-few}
 use Rattle.edr_codec.proofs.PreLaws.{pre-read_back, pre-written}
 use Rattle.edr_codec.proofs.CrashLaws.{crash-read_back, crash-written}
@@ -124,25 +124,26 @@ unfolding pre_damage_by
 pre_damage-table form b = ap (λ (fs : List Field). damage_of_fields b 0 fs) (sym (pre_table-fields form (slice_index b 8) (slice_index b 9)))
 
 -- what whole bytes say is in its bounds
-pub pre_at-in_bounds : (form : PreForm) (b : List ℕ) → IsPreForm form → IsShort form → pre_damage_by form b 0 ≡ None → IsPre (pre_at_by form b 0)
-pre_at-in_bounds form b is short whole =
+pub pre_at-in_bounds : (form : PreForm) (b : List ℕ) → IsPreForm form → pre_damage_by form b 0 ≡ None → IsPreBy form (pre_at_by form b 0)
+pre_at-in_bounds form b is whole =
+    let profile = slice_index b 9 in
     let within = pre-profile form b is whole in
-    is-short (pre_at_by form b 0) (subst (λ (n : ℕ). IsPreOf n (pre_at_by form b 0)) (short (slice_index b 9) within.0 within.1) (pre_at-is form b is whole))
+    by-profile form (slots_of form profile) (pre_at_by form b 0) (profile-is form profile is within.0 within.1) (pre_at-is form b is whole)
 
-pre-is_grammar : (form : PreForm) → IsPreForm form → IsShort form → IsGrammar (pre_size form) IsPre (pre_bytes_by form) (λ b. pre_at_by form b 0) (table_damage (pre_head form) (pre_tail form))
-pre-is_grammar form is short = record {
+pre-is_grammar : (form : PreForm) → IsPreForm form → IsGrammar (pre_size form) (IsPreBy form) (pre_bytes_by form) (λ b. pre_at_by form b 0) (table_damage (pre_head form) (pre_tail form))
+pre-is_grammar form is = record {
   same = λ b c k damaged same. table-same (pre_size form) (pre_head form) (pre_tail form) b c k (pre-is_table form is) damaged same;
   complete = λ b k long small damaged. table-complete (pre_size form) (pre_head form) (pre_tail form) (pre_size form) b k (pre-is_table form is) long small damaged (omega arith);
-  read_back = λ p bounds. sym (pre_damage-table form (pre_bytes_by form p)) ∙ (pre-read_back form 11 p (short-is p bounds) (short-profile form is short)).1;
+  read_back = λ p by. sym (pre_damage-table form (pre_bytes_by form p)) ∙ (pre-read_back form (length p.speed) p by.bounds (profile-by form p is by)).1;
   written = λ b long small whole.
       (let whole' = pre_damage-table form b ∙ whole in
-      (pre_at-in_bounds form b is short whole', sym (pre-written form b is long (small-bytes b small) whole')));
+      (pre_at-in_bounds form b is whole', sym (pre-written form b is long (small-bytes b small) whole')));
 }
 
-pub pre_damage-means : (form : PreForm) → IsPreForm form → IsShort form → (b : List ℕ) (k : ℕ) → length b ≡ pre_size form → AreSmall b → (pre_damage_by form b 0 ≡ Some k) ↔ IsDamagedAt (BeginsPreBy form b) k
-pre_damage-means form is short b k long small = (
-  (λ damaged. damage-means (pre_size form) IsPre (pre_bytes_by form) (λ x. pre_at_by form x 0) (table_damage (pre_head form) (pre_tail form)) b k (pre-is_grammar form is short) long small (sym (pre_damage-table form b) ∙ damaged)),
-  (λ means. pre_damage-table form b ∙ means-damage (pre_size form) IsPre (pre_bytes_by form) (λ x. pre_at_by form x 0) (table_damage (pre_head form) (pre_tail form)) b k (pre-is_grammar form is short) long small means),
+pub pre_damage-means : (form : PreForm) → IsPreForm form → (b : List ℕ) (k : ℕ) → length b ≡ pre_size form → AreSmall b → (pre_damage_by form b 0 ≡ Some k) ↔ IsDamagedAt (BeginsPreBy form b) k
+pre_damage-means form is b k long small = (
+  (λ damaged. damage-means (pre_size form) (IsPreBy form) (pre_bytes_by form) (λ x. pre_at_by form x 0) (table_damage (pre_head form) (pre_tail form)) b k (pre-is_grammar form is) long small (sym (pre_damage-table form b) ∙ damaged)),
+  (λ means. pre_damage-table form b ∙ means-damage (pre_size form) (IsPreBy form) (pre_bytes_by form) (λ x. pre_at_by form x 0) (table_damage (pre_head form) (pre_tail form)) b k (pre-is_grammar form is) long small means),
 )
 
 -- ---- the crash part

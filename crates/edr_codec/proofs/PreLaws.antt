@@ -7,7 +7,7 @@ use Rattle.std.specs.Prelude.{All}
 use Rattle.std.specs.List.{flat_map}
 use Rattle.byteorder.specs.Endian.{big_bytes}
 use Rattle.edr_record.specs.Parts.{PrePart}
-use Rattle.edr_record.specs.Bounds.{IsPlace, IsUpTo}
+use Rattle.edr_record.specs.Bounds.{IsPlace, IsPreOf, IsUpTo}
 use Rattle.edr_record.specs.declared.Place.{Place}
 use Rattle.edr_record.specs.declared.Place.TheVariants.{First, Second}
 use Rattle.edr_image.specs.declared.forms.PreForm.{PreForm}
@@ -16,7 +16,7 @@ use Rattle.edr_codec.specs.Rows.{fields_of}
 use Rattle.edr_codec.proofs.RowLemmas.{AreBytes, Lies, rows-whole}
 use Rattle.edr_codec.proofs.NumberLemmas.{number-stands, number-put}
 use Rattle.edr_codec.proofs.PieceLemmas
-use Rattle.edr_codec.proofs.PreLemmas.{AllLie, PreLies, IsPreOf, IsProfile, pre_table, pre_table-fields, pre-whole, pre-profile, pre-rows, in_range, after_range, switch_ranges, pre_at-is, pre_at-parts, read_part, read_part-is}
+use Rattle.edr_codec.proofs.PreLemmas.{AllLie, PreLies, IsProfile, pre_table, pre_table-fields, pre-whole, pre-profile, pre-rows, in_range, after_range, switch_ranges, pre_at-is, pre_at-parts, read_part, read_part-is}
 use Rattle.edr_codec.proofs.PutLemmas.{pre-put}
 
 -- ---- what is read is put back

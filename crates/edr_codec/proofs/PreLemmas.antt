@@ -6,12 +6,12 @@ use Rattle.std.proofs.lemmas.Bool.{cases_Bool}
 use Rattle.std.proofs.lemmas.List.Elements.{All-map, All-from_get_or}
 use Rattle.std.proofs.lemmas.List.FromFn.{length-map-range_with_len, get_or-map-range_with_len}
 use Rattle.std.proofs.lemmas.Simd.{map-map}
-use Rattle.edr_record.specs.Bounds.{IsPre, IsPlace, IsUpTo}
+use Rattle.edr_record.specs.Bounds.{IsPre, IsPreOf, IsPlace, IsUpTo}
 use Rattle.edr_record.specs.Parts.{PrePart}
 use Rattle.edr_record.specs.declared.Place.{Place}
 use Rattle.edr_record.specs.declared.Place.TheVariants.{First, Second}
 use Rattle.edr_image.specs.declared.forms.PreForm.{PreForm}
-use Rattle.edr_image.specs.PartBytes.{Field, damage_of_fields, slots_of, profile_of, throttle_at, brake_at, belt_at, lamp_at, end_at, IsPreForm, IsShort, pre_fields_by, pre_damage_by, pre_at_by, number_at, numbers_at, unless, switch_from, switch_field}
+use Rattle.edr_image.specs.PartBytes.{Field, damage_of_fields, slots_of, profile_of, throttle_at, brake_at, belt_at, lamp_at, end_at, IsPreForm, IsShort, IsPreBy, pre_fields_by, pre_damage_by, pre_at_by, number_at, numbers_at, unless, switch_from, switch_field}
 use Rattle.edr_codec.specs.declared.rows.Row.{Row}
 use Rattle.edr_codec.specs.Rows.{fields_of}
 use Rattle.edr_codec.proofs.RowLemmas.{Lies, RowsLie, rows-lie}
@@ -194,48 +194,6 @@ values-many bytes at size n value =
     let number = λ (k : ℕ). number_at bytes (at + size * k) size in
     ap length (map-map value number (range_with_len 0 n)) ∙ length-map-range_with_len (λ (k : ℕ). value (number k)) 0 n
 
--- the bounds of a pre part with n slots in each list
-pub record IsPreOf (n : ℕ) (p : PrePart) : Type 0 where
-  pub cycle_from : 1 ≤ p.key.cycle
-  pub cycle_to : p.key.cycle ≤ 4_294_967_295
-  pub zero_from : 1 ≤ p.key.zero
-  pub zero_to : p.key.zero ≤ 86_400_000
-  pub place : IsPlace p.place
-  pub speeds : length p.speed ≡ n
-  pub speed : All (IsUpTo 300) p.speed
-  pub throttles : length p.throttle ≡ n
-  pub throttle : All (IsUpTo 100) p.throttle
-  pub brakes : length p.brake ≡ n
-
--- those of a record have eleven
-pub short-is : (p : PrePart) → IsPre p → IsPreOf 11 p
-short-is p is = record {
-  cycle_from = is.cycle_from;
-  cycle_to = is.cycle_to;
-  zero_from = is.zero_from;
-  zero_to = is.zero_to;
-  place = is.place;
-  speeds = is.speeds;
-  speed = is.speed;
-  throttles = is.throttles;
-  throttle = is.throttle;
-  brakes = is.brakes;
-}
-
-pub is-short : (p : PrePart) → IsPreOf 11 p → IsPre p
-is-short p is = record {
-  cycle_from = is.cycle_from;
-  cycle_to = is.cycle_to;
-  zero_from = is.zero_from;
-  zero_to = is.zero_to;
-  place = is.place;
-  speeds = is.speeds;
-  speed = is.speed;
-  throttles = is.throttles;
-  throttle = is.throttle;
-  brakes = is.brakes;
-}
-
 -- a profile of the form has n slots, and is the one that a part with n slots gets
 pub record IsProfile (form : PreForm) (n : ℕ) : Type 0 where
   pub fits : n ≤ form.room
@@ -263,6 +221,38 @@ short-profile form is short =
     let low = form.profiles.0 in
     let least : low ≤ low = omega arith in
     subst (λ (n : ℕ). IsProfile form n) (short low least is.order) (profile-is form low is least is.order)
+
+-- parts with the slots of a profile
+pub profile-by : (form : PreForm) (p : PrePart) → IsPreForm form → IsPreBy form p → IsProfile form (length p.speed)
+profile-by form p is by =
+    let top = is.byte in
+    let last = by.to in
+    record {
+      fits = subst (λ (n : ℕ). n ≤ form.room) by.slots (is.room (profile_of form (length p.speed)));
+      from = by.from;
+      to = by.to;
+      byte = omega arith;
+      back = by.slots;
+    }
+
+pub by-profile : (form : PreForm) (n : ℕ) (p : PrePart) → IsProfile form n → IsPreOf n p → IsPreBy form p
+by-profile form n p in_form bounds =
+    let many = sym bounds.speeds in
+    record {
+      bounds = subst (λ (m : ℕ). IsPreOf m p) many bounds;
+      from = subst (λ (m : ℕ). form.profiles.0 ≤ profile_of form m) many in_form.from;
+      to = subst (λ (m : ℕ). profile_of form m ≤ form.profiles.1) many in_form.to;
+      slots = subst (λ (m : ℕ). slots_of form (profile_of form m) ≡ m) many in_form.back;
+    }
+
+-- where each profile has eleven slots, these are the parts of records
+pub short-by : (form : PreForm) (p : PrePart) → IsPreForm form → IsShort form → IsPre p → IsPreBy form p
+short-by form p is short bounds = by-profile form 11 p (short-profile form is short) bounds
+
+pub by-short : (form : PreForm) (p : PrePart) → IsShort form → IsPreBy form p → IsPre p
+by-short form p short by =
+    let n = profile_of form (length p.speed) in
+    subst (λ (m : ℕ). IsPreOf m p) (sym by.slots ∙ short n by.from by.to) by.bounds
 
 place-from : (is_first : Bool) (after : ℕ) → Lies (after_range is_first ∷ []) after → IsPlace (if is_first then First else Second after)
 place-from true after lies = tt

@@ -4,12 +4,11 @@ use Rattle.std.specs.List.{flat_map}
 use Rattle.std.proofs.lemmas.List.{take_all}
 use Rattle.std.proofs.lemmas.List.Concat.{flat_map_single}
 use Rattle.byteorder.specs.Endian.{big_bytes}
-use Rattle.edr_record.specs.Bounds.{IsCrash}
+use Rattle.edr_record.specs.Bounds.{IsCrash, IsPreOf}
 use Rattle.edr_record.specs.Parts.{PrePart, CrashPart}
 use Rattle.edr_image.specs.declared.forms.CrashForm.{CrashForm}
 use Rattle.edr_image.specs.declared.forms.PreForm.{PreForm}
 use Rattle.edr_image.specs.PartBytes.{pre_size, profile_of, throttle_at, brake_at, belt_at, lamp_at, end_at, pre_bytes_by, pre_bytes_with, crash_bytes_by, place_bytes, slot_bytes, switch_byte, signed_bytes, extreme_bytes, crash_size}
-use Rattle.edr_codec.proofs.PreLemmas.{IsPreOf}
 
 -- pieces one behind the other, as they are put
 joined : (a b c d e f g h i : List ℕ) (x y : ℕ) (z : List ℕ)

@@ -6,7 +6,7 @@ ghost use Rattle.edr_record.specs.Bounds.{IsPre, IsCrash};
 ghost use Rattle.edr_image.specs.declared.forms.CrashForm.{CrashForm};
 ghost use Rattle.edr_image.specs.declared.forms.PreForm.{PreForm};
 ghost use Rattle.edr_image.specs.declared.forms.TheConstants.{VERSION_1, VERSION_2};
-ghost use Rattle.edr_image.specs.PartBytes.{pre_size, IsPreForm, IsShort, pre_damage_by, pre_at_by, pre_bytes_by, BeginsPreBy, crash_size, crash_damage_by, crash_at, crash_bytes_by, BeginsCrashBy, IsDamagedAt};
+ghost use Rattle.edr_image.specs.PartBytes.{pre_size, IsPreForm, IsShort, IsPreBy, pre_damage_by, pre_at_by, pre_bytes_by, BeginsPreBy, crash_size, crash_damage_by, crash_at, crash_bytes_by, BeginsCrashBy, IsDamagedAt};
 
 /// Version 1 has a form in which parts can be told, with the slots of a record.
 pub fn version_1_has_a_form()
@@ -20,9 +20,14 @@ pub fn version_2_has_a_form()
     ensures short { IsShort VERSION_2.pre }
 {}
 
+/// Where each profile has as many slots as a record, the parts of the form are those of records.
+pub fn short_parts_are_of_records()
+    ensures { (form : PreForm) → IsPreForm form → IsShort form → (p : PrePart) → IsPreBy form p ↔ IsPre p }
+{}
+
 /// In each form: the bytes of a pre part in its bounds are as many as the form has, they are whole, and they say this part.
 pub fn pre_is_read_back()
-    ensures { (form : PreForm) → IsPreForm form → IsShort form → (p : PrePart) → IsPre p
+    ensures { (form : PreForm) → IsPreForm form → (p : PrePart) → IsPreBy form p
         → (length (pre_bytes_by form p) ≡ pre_size form) × (pre_damage_by form (pre_bytes_by form p) 0 ≡ None)
         × (pre_at_by form (pre_bytes_by form p) 0 ≡ p) }
 {}
@@ -36,9 +41,9 @@ pub fn crash_is_read_back()
 
 /// What whole bytes of a pre part say is in its bounds, and has these bytes. So each part has one spelling in each form.
 pub fn pre_is_written_back()
-    ensures { (form : PreForm) → IsPreForm form → IsShort form → (bytes : List ℕ) → length bytes ≡ pre_size form
+    ensures { (form : PreForm) → IsPreForm form → (bytes : List ℕ) → length bytes ≡ pre_size form
         → All (λ b. b < 256) bytes → pre_damage_by form bytes 0 ≡ None
-        → IsPre (pre_at_by form bytes 0) × (pre_bytes_by form (pre_at_by form bytes 0) ≡ bytes) }
+        → IsPreBy form (pre_at_by form bytes 0) × (pre_bytes_by form (pre_at_by form bytes 0) ≡ bytes) }
 {}
 
 /// What whole bytes of a crash part say is in its bounds, and has these bytes. So each part has one spelling in each form.
@@ -50,7 +55,7 @@ pub fn crash_is_written_back()
 /// Bytes are damaged at a place exactly where the bytes before it begin a pre part in its bounds, and those up to and
 /// with it begin none.
 pub fn pre_damage_is_first()
-    ensures { (form : PreForm) → IsPreForm form → IsShort form → (bytes : List ℕ) (k : ℕ) → length bytes ≡ pre_size form
+    ensures { (form : PreForm) → IsPreForm form → (bytes : List ℕ) (k : ℕ) → length bytes ≡ pre_size form
         → All (λ b. b < 256) bytes → (pre_damage_by form bytes 0 ≡ Some k) ↔ IsDamagedAt (BeginsPreBy form bytes) k }
 {}
 

@@ -16,18 +16,22 @@ IsPlace (Second after) = (1 ≤ after) × (after ≤ LONGEST_PAIR)
 abbrev pub IsUpTo : ℕ → Option ℕ → Type 0
 IsUpTo highest slot = IfSome slot (λ v. v ≤ highest)
 
--- the bounds of a pre part: km/h, per cent, ticks of 1 ms
-pub record IsPre (p : PrePart) : Type 0 where
+-- the bounds of a pre part with n slots in each list: km/h, per cent, ticks of 1 ms
+pub record IsPreOf (n : ℕ) (p : PrePart) : Type 0 where
   pub cycle_from : 1 ≤ p.key.cycle
   pub cycle_to : p.key.cycle ≤ 4_294_967_295
   pub zero_from : 1 ≤ p.key.zero
   pub zero_to : p.key.zero ≤ LATEST_MOMENT
   pub place : IsPlace p.place
-  pub speeds : length p.speed ≡ SHORT_SLOTS
+  pub speeds : length p.speed ≡ n
   pub speed : All (IsUpTo 300) p.speed
-  pub throttles : length p.throttle ≡ SHORT_SLOTS
+  pub throttles : length p.throttle ≡ n
   pub throttle : All (IsUpTo 100) p.throttle
-  pub brakes : length p.brake ≡ SHORT_SLOTS
+  pub brakes : length p.brake ≡ n
+
+-- the bounds of the pre part of a record
+abbrev pub IsPre : PrePart → Type 0
+IsPre p = IsPreOf SHORT_SLOTS p
 
 -- how long after time zero extremes and missing samples are looked for, from the time of the end (563.7 Table I, maximum delta-V)
 abbrev pub window_from_end : ℕ → ℕ

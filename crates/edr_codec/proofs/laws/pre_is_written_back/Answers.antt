@@ -5,4 +5,4 @@ use Rattle.edr_codec.proofs.PreLaws.{pre-written}
 use Rattle.edr_codec.proofs.laws.pre_is_written_back.Goals as goal
 
 pub returns : goal.returns
-returns c = λ form is short bytes long small whole. (pre_at-in_bounds form bytes is short whole, sym (pre-written form bytes is long (small-bytes bytes small) whole))
+returns c = λ form is bytes long small whole. (pre_at-in_bounds form bytes is whole, sym (pre-written form bytes is long (small-bytes bytes small) whole))

@@ -2,7 +2,6 @@ use Rattle.std.proofs.Common.{◌≡◌, ◌∙◌, ap, ℕ, ◌+◌, ◌-◌, �
 use Rattle.std.specs.List.{flat_map}
 use Rattle.edr_record.specs.Fields.{pre_part_of}
 use Rattle.edr_image.specs.PartBytes.{profile_of, throttle_at, brake_at, belt_at, lamp_at, end_at, pre_bytes_by, place_bytes, slot_bytes, switch_byte}
-use Rattle.edr_codec.proofs.PreLemmas.{short-is}
 use Rattle.edr_codec.proofs.PutLemmas.{pre-put}
 use Rattle.edr_codec.proofs.pre.put_pre_by.Goals as goal
 
@@ -25,7 +24,7 @@ returns c =
     let e12 : take (end_at form + form.zeros) c.put_zeros-4.new.out ≡ take (end_at form) c.put_at-4.new.out ++ replicate form.zeros 0 = rw c.end_at.ensures at c.put_zeros-4.ensures in
     let up = λ (o : List ℕ) (i j : ℕ) (same : i ≡ j). ap (λ (k : ℕ). take k o) same in
     pre-put form 11 p c.put_at.new.out c.put_at-2.new.out c.put_place.new.out c.put_all.new.out c.put_zeros.new.out c.put_all-2.new.out c.put_zeros-2.new.out c.put_all-3.new.out c.put_zeros-3.new.out c.put_at-3.new.out c.put_at-4.new.out c.put_zeros-4.new.out
-    (short-is p is) fits (omega arith) c.put_at.ensures c.put_at-2.ensures e3 e4
+    is fits (omega arith) c.put_at.ensures c.put_at-2.ensures e3 e4
     (up c.put_zeros.new.out (throttle_at form) (34 + 2 * rest) (omega arith) ∙ e5)
     e6
     (up c.put_zeros-2.new.out (brake_at form) (throttle_at form + 11 + rest) (omega arith) ∙ e7)

@@ -1,7 +1,8 @@
 use Rattle.std.specs.Prelude.{slice_index}
+use Rattle.edr_image.specs.PartBytes.{pre_at_by}
 use Rattle.edr_codec.proofs.pre.read_pre_by.Goals as goal
 use Rattle.edr_codec.proofs.GrammarLaws.{pre_at-in_bounds}
-use Rattle.edr_codec.proofs.PreLemmas.{pre-profile}
+use Rattle.edr_codec.proofs.PreLemmas.{by-short, pre-profile}
 
 pub pre_from-requires-clause-slots : goal.pre_from-requires-clause-slots
 pre_from-requires-clause-slots c =
@@ -9,4 +10,5 @@ pre_from-requires-clause-slots c =
     c.requires.short (slice_index c.args.bytes.now 9) within.0 within.1
 
 pub pre_from-requires-clause-bounds : goal.pre_from-requires-clause-bounds
-pre_from-requires-clause-bounds c = pre_at-in_bounds c.args.form.now c.args.bytes.now c.requires.form c.requires.short c.in_ok-check_pre.ensures.whole
+pre_from-requires-clause-bounds c =
+    by-short c.args.form.now (pre_at_by c.args.form.now c.args.bytes.now 0) c.requires.short (pre_at-in_bounds c.args.form.now c.args.bytes.now c.requires.form c.in_ok-check_pre.ensures.whole)
