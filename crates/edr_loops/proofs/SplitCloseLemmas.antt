@@ -218,7 +218,7 @@ module _ (n e : ℕ) (d : SplitDesk) (c : SplitContents) (a : Asker) (k : Held) 
           parts_are = t.parts_are;
           issues_are = λ slots are.
               let sent : issues_of (orders_sent d.outbox) ≡ issues_with slots g.past.given n g.past.closed =
-                  sym (append-nil (issues_of (orders_sent d.outbox))) ∙ ap (λ (xs : List Issue). issues_of (orders_sent d.outbox) ++ xs) (sym none) ∙ t.issues_are slots are in
+              sym (append-nil (issues_of (orders_sent d.outbox))) ∙ ap (λ (xs : List Issue). issues_of (orders_sent d.outbox) ++ xs) (sym none) ∙ t.issues_are slots are in
               ap (λ (xs : List Issue). issues_of (orders_sent d.outbox) ++ xs) held ∙ ap (λ (xs : List Issue). xs ++ cs) sent ∙ sym (adds slots are);
           taken_are = t.taken_are;
         };

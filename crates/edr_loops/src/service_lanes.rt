@@ -10,11 +10,11 @@ ghost use Rattle.edr_loops.specs.ServiceLanes.{AreFastLanes, ArePartLanes, ArePa
 ghost use Rattle.edr_loops.specs.Services.{AreFastBegun, AreKept};
 ghost use Rattle.edr_loops.specs.SlowPlaces.{AreParts, IsKept};
 
+use crate::fast_inlets::FastInlets;
 use crate::lanes::{open_lane, settle_one};
+use crate::part_inlets::PartInlets;
 use crate::place::Passage;
 use crate::service::{FastPlaces, SlowPlaces};
-use crate::fast_inlets::FastInlets;
-use crate::part_inlets::PartInlets;
 use crate::slow_place::SlowPlace;
 use edr_board::{Keeper, Keepers};
 use edr_items::Sensor;

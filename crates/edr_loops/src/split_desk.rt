@@ -20,7 +20,6 @@ use edr_capture::Part;
 use edr_core::{Issued, SplitClosing, SplitCore};
 use edr_items::{Item, LATEST_MOMENT, LONGEST_GAP, Sensor};
 
-
 /// What the recorder's thread owns, and hands back at its join.
 #[derive(Drop)]
 pub struct SplitDesk {

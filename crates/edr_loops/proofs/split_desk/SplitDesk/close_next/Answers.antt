@@ -37,10 +37,10 @@ pub returns-in-Closed-clause-later : goal.returns-in-Closed-clause-later
 returns-in-Closed-clause-later c =
     later-by _ c.args.self.now _ refl refl refl c.settle.ensures.settled.freeze refl refl
     (λ n e low s.
-        let h = s.history in
-        let closed = s.told.core_is.closed_is in
-        stands-closed n e c.args.self.now c.close.new.self c.settle.new.asker c.hold_issued.new.held c.settle.new.asking _ s (c.in-Closed.ensures.stands h s.told.core_is) (omega (arith, low, closed)) c.settle.ensures.settled c.settle.ensures.asking c.requires.none c.hold_issued.ensures
-        (λ slots are. adds-here n e c.in-Closed.tick c.in-Closed.issues c.close.new.issued c.args.self.now slots s are c.in-Closed.ensures.commands c.in-Closed.ensures.ticks))
+    let h = s.history in
+    let closed = s.told.core_is.closed_is in
+    stands-closed n e c.args.self.now c.close.new.self c.settle.new.asker c.hold_issued.new.held c.settle.new.asking _ s (c.in-Closed.ensures.stands h s.told.core_is) (omega (arith, low, closed)) c.settle.ensures.settled c.settle.ensures.asking c.requires.none c.hold_issued.ensures
+    (λ slots are. adds-here n e c.in-Closed.tick c.in-Closed.issues c.close.new.issued c.args.self.now slots s are c.in-Closed.ensures.commands c.in-Closed.ensures.ticks))
 
 pub returns-in-Waiting-clause-stands : goal.returns-in-Waiting-clause-stands
 returns-in-Waiting-clause-stands c = recording-later _ c.args.self.now _ (returns-in-Waiting-clause-later c) c.requires.stands

@@ -16,8 +16,8 @@ pub returns-then-self-upto-clause-later : goal.returns-then-self-upto-clause-lat
 returns-then-self-upto-clause-later c =
     later-by 0 c.args.self.now _ refl refl refl c.grant.ensures.freeze refl refl
     (λ n e low s. stands-grant n e c.min-upto.result c.args.self.now c.grant.new.self
-        (λ h is. let closed = c.closed.ensures h is in let upto = c.saturating_add.ensures in let least = c.min-upto.ensures in omega (arith, closed, upto, least))
-        (let least = c.min-upto.ensures in omega (arith, least)) c.grant.ensures.granted c.grant.ensures.asked c.grant.ensures.marks s)
+    (λ h is. let closed = c.closed.ensures h is in let upto = c.saturating_add.ensures in let least = c.min-upto.ensures in omega (arith, closed, upto, least))
+    (let least = c.min-upto.ensures in omega (arith, least)) c.grant.ensures.granted c.grant.ensures.asked c.grant.ensures.marks s)
 
 pub returns-then-self-upto-clause-stands : goal.returns-then-self-upto-clause-stands
 returns-then-self-upto-clause-stands c = recording-later _ c.args.self.now _ (returns-then-self-upto-clause-later c) c.requires
