@@ -25,14 +25,13 @@ mod threads;
 mod tray;
 
 pub use crate::desk::Desk;
-pub use crate::fast_inlets::{FastInlets, FastInlets, FastMarks, FastSensor};
+pub use crate::fast_inlets::{FastInlets, FastMarks, FastSensor};
 pub use crate::held::Held;
 pub use crate::inlets::Inlets;
 pub use crate::lanes::{Lanes, make_lanes, settle};
 pub use crate::marks::Marks;
 pub use crate::orders::{Inbox, Order, Orders, Outbox, make_orders};
 pub use crate::part_inlets::PartInlets;
-use crate::part_inlets::PartInlets;
 pub use crate::place::{Gate, Offered, Passage, Place};
 pub use crate::service::{FastPlaces, Service, SlowPlaces};
 pub use crate::service_lanes::{
