@@ -1,5 +1,5 @@
 -- What the captures keep of a cycle, and the parts that they give.
-use Rattle.std.proofs.Common.{arith, refl, ap, sym, subst, ◌≡◌, ◌∙◌, ℕ, ◌+◌, ◌-◌, ◌≤◌, true, None, List, [], ◌∷◌, length}
+use Rattle.std.proofs.Common.{arith, ap, sym, subst, ◌≡◌, ℕ, ◌-◌, ◌≤◌, None, List, [], ◌∷◌, length}
 use Rattle.std.specs.Prelude.{is_some, All}
 use Rattle.std.proofs.lemmas.List.Elements.{All-nil, All-cons, All-filter, All-drop}
 use Rattle.edr_items.specs.declared.Sensor.{Sensor}

@@ -1,12 +1,11 @@
 -- The start of a split core, one more item, and one more part.
-use Rattle.std.proofs.Common.{arith, refl, ap, sym, subst, ◌≡◌, ◌∙◌, ℕ, ◌+◌, ◌≤◌, Bool, true, false, cond, not, nat_eq, nat_le, Some, None, Option, List, [], ◌∷◌, ◌++◌}
-use Rattle.std.specs.Prelude.{is_some, IsSome, All}
+use Rattle.std.proofs.Common.{arith, refl, ap, sym, subst, ◌≡◌, ◌∙◌, ℕ, ◌+◌, ◌≤◌, Bool, true, false, cond, Some, None, Option, List, [], ◌∷◌, ◌++◌}
+use Rattle.std.specs.Prelude.{is_some, All}
 use Rattle.std.proofs.lemmas.List.Elements.{All-nil, All-cons, All-tail}
 use Rattle.edr_items.specs.declared.TheConstants.{LONGEST_GAP}
 use Rattle.edr_items.specs.declared.Sensor.{Sensor}
 use Rattle.edr_items.specs.declared.Sensor.TheVariants.{Along}
 use Rattle.edr_items.specs.declared.Item.{Item}
-use Rattle.edr_items.specs.Sensor.{IsSlow}
 use Rattle.edr_items.specs.Item.{refusal_of, mark_of}
 use Rattle.edr_items.specs.SensorLists.{SensorLists, no_items, items_of, AreFeeds, horizon_of}
 use Rattle.edr_items.proofs.FeedLemmas.{IsFeedAfter-within}
@@ -16,7 +15,6 @@ use Rattle.edr_record.specs.Parts.{PrePart}
 use Rattle.edr_definitions.specs.Signals.{Signals, signals_of}
 use Rattle.edr_definitions.specs.Selection.{at_start}
 use Rattle.edr_definitions.specs.Search.{Searching}
-use Rattle.edr_definitions.specs.Change.{tick_change}
 use Rattle.edr_definitions.specs.Facts.{AgreeUpTo}
 use Rattle.edr_definitions.specs.Schedule.{Progress, Give, Close, IsAllowed, after_step, with_item}
 use Rattle.edr_definitions.specs.Parts.{pre_part}
@@ -29,22 +27,18 @@ use Rattle.edr_definitions.proofs.KeepLaws.{accepted-later}
 use Rattle.edr_definitions.proofs.LaterLaws.{GiveTheSameUpTo-push}
 use Rattle.edr_definitions.proofs.MarkLaws.{horizon-least, with_items-each, mark-push}
 use Rattle.edr_capture.specs.SensorPart.{SensorPart}
-use Rattle.edr_merge.specs.declared.MergeRefused.{MergeRefused}
 use Rattle.edr_merge.specs.State.{MergeState}
 use Rattle.edr_merge.specs.StandsFor.{MergeStandsFor}
-use Rattle.edr_merge.specs.Answers.{refusal_or_ahead, give_refusal_of}
-use Rattle.edr_detect.specs.Stages.{told_of}
 use Rattle.edr_detect.specs.Detected.{DetectState, DetectStandsFor}
 use Rattle.edr_core.specs.declared.candidate.Candidate.{Candidate}
 use Rattle.edr_core.specs.declared.ask.Ask.{Ask}
 use Rattle.edr_core.specs.Rows.{RowIs, rows_of}
-use Rattle.edr_core.specs.Parts.{Slots, AreSlotsOf}
 use Rattle.edr_core.specs.Ask.{with_part}
 use Rattle.edr_core.specs.SplitHistory.{History, start_of, after_item, after_part}
 use Rattle.edr_core.specs.SplitContents.{SplitContents}
 use Rattle.edr_core.specs.SplitStandsFor.{IsMadeOf, HoldsCandidateWith, AskIs, HoldsAsk, merged, SplitCoreStandsFor}
 use Rattle.edr_core.proofs.RowLemmas.{rows_of-agree}
-use Rattle.edr_core.proofs.TakenLemmas.{early-later, one-taken}
+use Rattle.edr_core.proofs.TakenLemmas.{one-taken}
 
 -- ---- how far the merge has come
 merged-closed : (w : History) (b : Bool) → w.asking ≡ b → (merged w).closed ≡ cond {A = ℕ} b (w.past.closed + 1) w.past.closed

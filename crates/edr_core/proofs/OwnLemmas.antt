@@ -7,7 +7,7 @@ use Rattle.edr_items.specs.declared.Sensor.{Sensor}
 use Rattle.edr_items.specs.declared.Sensor.TheVariants.{Speed, Throttle, Brake, Belt, Lamp}
 use Rattle.edr_items.specs.declared.Item.{Item}
 use Rattle.edr_items.specs.Item.{mark_of, IsFeed}
-use Rattle.edr_items.specs.SensorLists.{SensorLists, no_items, items_of, horizon_of}
+use Rattle.edr_items.specs.SensorLists.{SensorLists, no_items, items_of}
 use Rattle.edr_record.specs.declared.Command.{Command}
 use Rattle.edr_definitions.specs.Commands.{issue_at, issues, commands}
 use Rattle.edr_definitions.specs.Schedule.{Progress, Give, Close, IsAllowed, after_step, with_item}
@@ -30,13 +30,13 @@ use Rattle.edr_core.specs.StandsFor.{CoreIsFor}
 use Rattle.edr_core.specs.Parts.{AreSlotsOf, parts_of, part_in, commands_with, issues_with, HaveTheFastItems}
 use Rattle.edr_core.specs.SplitHistory.{History, start_of, after_item, after_part, Answer, Waits, Asks, Lacks, Closes, is_zero_next, missing_part, due}
 use Rattle.edr_core.specs.SplitContents.{SplitContents}
-use Rattle.edr_core.specs.SplitStandsFor.{HoldsAsk, merged, SplitCoreStandsFor}
+use Rattle.edr_core.specs.SplitStandsFor.{HoldsAsk, SplitCoreStandsFor}
 use Rattle.edr_core.specs.SplitAnswers.{answer_of, split_step_of, part_refusal_of}
 use Rattle.edr_core.specs.OwnParts.{resting, own_parts, with_own_parts, AsksFor}
 use Rattle.edr_core.specs.declared.ask.Ask.{Ask as OpenAsk}
 use Rattle.edr_core.proofs.TakenLemmas.{part_in-early, eqb_same}
 use Rattle.edr_core.proofs.GiveLemmas.{feeds-of}
-use Rattle.edr_core.proofs.CaptureLemmas.{mark-kept, range-kept, captures-push, later-accepted}
+use Rattle.edr_core.proofs.CaptureLemmas.{mark-kept, captures-push, later-accepted}
 use Rattle.edr_core.proofs.PartsLaws.{commands-with, issues-with}
 
 -- ---- the five parts are taken
@@ -266,10 +266,10 @@ abbrev pub asked : (n : ℕ) → Progress → List SensorPart → History
 asked n p parts = record (resting n p parts) { asking = true }
 
 pub asks-for : (c : CoreContents) (n : ℕ) (p : Progress) (split : SplitContents) (zero : ℕ) → (h : CoreIsFor c n p) → SplitCoreStandsFor split (asked n p h.parts) → Asks zero ≡ due (resting n p h.parts) → AsksFor split c.captures (asked n p h.parts) zero
-asks-for c n p split zero h stands answer = record {
+asks-for c n p split z h stands answer = record {
   stands = stands;
   asking = refl;
-  zero_is = (asks-own n p h.parts zero answer).1;
+  zero_is = (asks-own n p h.parts z answer).1;
   before = h.split_is.early;
   captures_are = h.captures_are;
 }

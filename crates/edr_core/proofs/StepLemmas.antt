@@ -1,11 +1,11 @@
 -- A step of a split core.
 use Rattle.std.proofs.Common.{arith, refl, ap, sym, subst, ◌≡◌, ◌∙◌, ℕ, ◌+◌, ◌<◌, ◌≤◌, ℤ, pos, unwrap_or, unsigned_abs, Bool, true, false, cond, Some, None, Option, List, [], ◌∷◌, ◌++◌, length, map}
-use Rattle.std.specs.Prelude.{IfSome, is_some, option_map, All}
+use Rattle.std.specs.Prelude.{IfSome, option_map, All}
 use Rattle.std.specs.Option.{option_map_or}
 use Rattle.edr_items.specs.declared.Sensor.{Sensor}
 use Rattle.edr_items.specs.declared.Sensor.TheVariants.{Along}
 use Rattle.edr_items.specs.declared.Restraints.{Restraints}
-use Rattle.edr_items.specs.SensorLists.{SensorLists, horizon_of}
+use Rattle.edr_items.specs.SensorLists.{horizon_of}
 use Rattle.edr_items.proofs.FeedLemmas.{IsFeedAfter-within}
 use Rattle.edr_record.specs.declared.Key.{Key}
 use Rattle.edr_record.specs.declared.Place.{Place}
@@ -13,14 +13,13 @@ use Rattle.edr_record.specs.declared.Place.TheVariants.{First}
 use Rattle.edr_record.specs.Parts.{PrePart}
 use Rattle.edr_definitions.specs.Signals.{sample_at, signals_of}
 use Rattle.edr_definitions.specs.Parts.{pre_part}
-use Rattle.edr_definitions.specs.Commands.{issue_at, issues}
+use Rattle.edr_definitions.specs.Commands.{issue_at}
 use Rattle.edr_definitions.specs.Change.{Change, tick_change}
 use Rattle.edr_definitions.specs.Schedule.{Progress, Close, after_step}
 use Rattle.edr_definitions.specs.Core.{IsPreOf, commands_of}
 use Rattle.edr_definitions.proofs.BoundLaws.{small_by, along-small, across-small}
 use Rattle.edr_definitions.proofs.MarkLaws.{horizon-least}
 use Rattle.edr_crashpart.specs.Bounds.{IsInRange}
-use Rattle.edr_capture.specs.SensorPart.{SensorPart}
 use Rattle.edr_merge.specs.declared.Next.TheVariants.{Waiting, Row}
 use Rattle.edr_merge.specs.Answers.{waited_for, row_at, next_of}
 use Rattle.edr_merge.specs.State.{MergeState}
@@ -43,9 +42,9 @@ use Rattle.edr_core.specs.SplitHistory.{History, Answer, Waits, Asks, Lacks, Clo
 use Rattle.edr_core.specs.SplitContents.{SplitContents}
 use Rattle.edr_core.specs.SplitStandsFor.{IsMadeOf, AskIs, HoldsAsk, merged, SplitCoreStandsFor}
 use Rattle.edr_core.proofs.RowLemmas.{rows_of-push, length-rows_of, tick_change-rows, silent-feeds}
-use Rattle.edr_core.proofs.TakenLemmas.{none-taken, early-later, of-sensors, pre-made, missing-is, none-missing}
+use Rattle.edr_core.proofs.TakenLemmas.{none-taken, early-later, pre-made, missing-is, none-missing}
 use Rattle.edr_core.proofs.TickLemmas.{Did, can_be_told, split-stands, split-commands, split-ticks, open-short}
-use Rattle.edr_core.proofs.GiveLemmas.{merged-given, merged-free, merged-asking, feeds-of, within-merged, closed-early, asked-is}
+use Rattle.edr_core.proofs.GiveLemmas.{merged-free, merged-asking, feeds-of, within-merged, asked-is}
 
 -- where nothing counts of what was put aside, it is nothing
 pub put-all : (some : Bool) (i : Issued) → (some ≡ false → i ≡ no_issues) → put some i ≡ i

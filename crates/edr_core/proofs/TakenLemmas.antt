@@ -1,6 +1,6 @@
 -- The parts that were taken, and the pre part of a time zero that they make.
-use Rattle.std.proofs.Common.{arith, refl, ap, sym, subst, ◌≡◌, ◌∙◌, ℕ, ◌+◌, ◌<◌, ◌≤◌, Bool, true, false, cond, ◌&&◌, nat_eq, Some, None, Option, List, [], ◌∷◌, ℤ}
-use Rattle.std.specs.Prelude.{is_none, is_some, find, All}
+use Rattle.std.proofs.Common.{arith, refl, ap, sym, subst, ◌≡◌, ◌∙◌, ℕ, ◌+◌, ◌<◌, ◌≤◌, Bool, true, false, cond, ◌&&◌, nat_eq, Some, None, Option, List, [], ◌∷◌}
+use Rattle.std.specs.Prelude.{find, All}
 use Rattle.std.proofs.lemmas.Bool.{eqb-true}
 use Rattle.std.proofs.lemmas.List.Elements.{All-head, All-tail, All-weaker}
 use Rattle.edr_items.specs.declared.Sensor.{Sensor}
@@ -9,14 +9,13 @@ use Rattle.edr_items.specs.Sensor.{number_of, IsSlow}
 use Rattle.edr_items.specs.SensorLists.{SensorLists}
 use Rattle.edr_record.specs.declared.Key.{Key}
 use Rattle.edr_record.specs.declared.Place.TheVariants.{First}
-use Rattle.edr_record.specs.Parts.{PrePart}
-use Rattle.edr_definitions.specs.Parts.{numbers, switch, switches, pre_part}
+use Rattle.edr_definitions.specs.Parts.{pre_part}
 use Rattle.edr_capture.specs.SensorPart.{SensorPart}
 use Rattle.edr_core.specs.declared.ask.Parts.{Parts}
 use Rattle.edr_core.specs.declared.ask.AllParts.{AllParts}
-use Rattle.edr_core.specs.Parts.{Slots, AreSlotsOf, with_parts, first_slot, is_part_of, part_in}
+use Rattle.edr_core.specs.Parts.{Slots, AreSlotsOf, is_part_of, part_in}
 use Rattle.edr_core.specs.Ask.{no_parts, part_at, with_part_of, in_places, missing_in, AreOfTheirSensors, pre_of}
-use Rattle.edr_core.specs.SplitHistory.{History, slow_sensors, is_missing, missing_part}
+use Rattle.edr_core.specs.SplitHistory.{History, missing_part}
 use Rattle.edr_core.specs.SplitStandsFor.{IsMadeOf, PartsAre}
 
 -- ---- one part

@@ -1,5 +1,5 @@
 -- What the next tick does with the open candidate of a split core is what the definitions say, but for the slots of its pre part.
-use Rattle.std.proofs.Common.{arith, refl, ap, sym, subst, ◌≡◌, ◌∙◌, ℕ, ◌+◌, Bool, true, false, cond, ◌&&◌, ◌||◌, not, Some, None, Option, ◌-◌, ◌<◌, ◌≤◌, List, [], ◌∷◌, ◌++◌, length, map}
+use Rattle.std.proofs.Common.{arith, refl, ap, sym, subst, ◌≡◌, ◌∙◌, ℕ, ◌+◌, Bool, true, false, cond, ◌&&◌, ◌||◌, not, Some, None, Option, ◌-◌, ◌<◌, ◌≤◌, List, [], ◌∷◌, ◌++◌, map}
 use Rattle.std.specs.Prelude.{is_some, option_map, All}
 use Rattle.std.specs.Option.{ForSome}
 use Rattle.std.proofs.lemmas.List.{map-append}
@@ -33,7 +33,7 @@ use Rattle.edr_core.specs.Candidate.{begun, grown, grown_or_begun, told, candida
 use Rattle.edr_core.specs.Parts.{Slots, AreSlotsOf, with_parts, command_with, commands_with, issue_with, issues_with}
 use Rattle.edr_core.specs.SplitHistory.{History}
 use Rattle.edr_core.specs.SplitContents.{SplitContents}
-use Rattle.edr_core.specs.SplitStandsFor.{IsMadeOf, HoldsCandidateWith, HoldsAsk, merged, SplitCoreStandsFor}
+use Rattle.edr_core.specs.SplitStandsFor.{IsMadeOf, HoldsCandidateWith, HoldsAsk, SplitCoreStandsFor}
 
 zero-is : (f : SensorLists) (n z : ℕ) (pre : PrePart) → IsPreOf f n z pre → pre.key.zero ≡ z
 unfolding pre_part

@@ -1,5 +1,5 @@
 -- The parts of a time zero as they are taken, and the pre part that they make.
-use Rattle.std.specs.Prelude.{◌≡◌, ℕ, ◌≤◌, Option, Some, None, is_none, find}
+use Rattle.std.specs.Prelude.{◌≡◌, ◌≤◌, Option, Some, None, is_none, find}
 use Rattle.edr_items.specs.declared.Sensor.{Sensor}
 use Rattle.edr_items.specs.declared.Sensor.TheVariants.{Along, Across, Speed, Throttle, Brake, Belt, Lamp, Restraint}
 use Rattle.edr_record.specs.declared.Key.{Key}

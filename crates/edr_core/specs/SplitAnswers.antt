@@ -1,5 +1,5 @@
 -- What a split core answers.
-use Rattle.std.specs.Prelude.{◌≡◌, ℕ, ◌+◌, Bool, true, false, not, nat_eq, is_some, if◌then◌else◌, Option, Some, None, List, ◌++◌, map}
+use Rattle.std.specs.Prelude.{◌≡◌, ℕ, ◌+◌, true, false, not, nat_eq, is_some, if◌then◌else◌, Option, Some, None, ◌++◌, map}
 use Rattle.edr_definitions.specs.Commands.{issue_at}
 use Rattle.edr_definitions.specs.Schedule.{Progress, Close, after_step}
 use Rattle.edr_definitions.specs.Core.{commands_of}

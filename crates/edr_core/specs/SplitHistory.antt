@@ -1,5 +1,5 @@
 -- What a split core was told, and what it answers next.
-use Rattle.std.specs.Prelude.{◌≡◌, ℕ, ◌+◌, Bool, true, false, if◌then◌else◌, Option, Some, None, is_none, List, [], ◌∷◌, find}
+use Rattle.std.specs.Prelude.{ℕ, ◌+◌, Bool, false, if◌then◌else◌, Option, is_none, List, [], ◌∷◌, find}
 use Rattle.std.specs.Option.{option_map_or}
 use Rattle.edr_items.specs.declared.Sensor.{Sensor}
 use Rattle.edr_items.specs.declared.Sensor.TheVariants.{Speed, Throttle, Brake, Belt, Lamp}
@@ -7,7 +7,7 @@ use Rattle.edr_items.specs.declared.Item.{Item}
 use Rattle.edr_items.specs.SensorLists.{no_items}
 use Rattle.edr_definitions.specs.Signals.{signals_of}
 use Rattle.edr_definitions.specs.Change.{tick_change}
-use Rattle.edr_definitions.specs.Schedule.{Progress, Give, Close, after_step}
+use Rattle.edr_definitions.specs.Schedule.{Progress, Give, after_step}
 use Rattle.edr_capture.specs.SensorPart.{SensorPart}
 use Rattle.edr_merge.specs.Answers.{waited_for}
 use Rattle.edr_core.specs.Parts.{part_in}

@@ -1,11 +1,10 @@
 -- What a `SplitCore` stands for: what it was told of its cycle.
-use Rattle.std.specs.Prelude.{◌≡◌, ℕ, ◌+◌, ◌≤◌, Bool, true, false, if◌then◌else◌, Option, Some, None, is_some, List, All}
+use Rattle.std.specs.Prelude.{◌≡◌, ℕ, ◌+◌, ◌≤◌, true, false, if◌then◌else◌, Option, Some, None, is_some, List, All}
 use Rattle.edr_items.specs.declared.TheConstants.{LONGEST_GAP}
 use Rattle.edr_items.specs.declared.Sensor.{Sensor}
 use Rattle.edr_items.specs.declared.Sensor.TheVariants.{Speed, Throttle, Brake, Belt, Lamp}
 use Rattle.edr_items.specs.Item.{mark_of}
 use Rattle.edr_items.specs.SensorLists.{items_of}
-use Rattle.edr_record.specs.declared.Key.{Key}
 use Rattle.edr_record.specs.Parts.{PrePart}
 use Rattle.edr_definitions.specs.Signals.{signals_of}
 use Rattle.edr_definitions.specs.Search.{Search}

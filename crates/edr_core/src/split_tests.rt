@@ -1,6 +1,10 @@
+ghost use Rattle.std.specs.Prelude.{◌≡◌, []};
+ghost use Rattle.edr_items.specs.Sensor.{IsSlow};
+
 use super::*;
 use edr_capture::Capture;
 use edr_items::Item;
+use std::process::Abort;
 use std::test::Fail;
 
 fn silence(moment: u32) -> Item {
@@ -28,6 +32,18 @@ fn part_not_asked(rt: HostRuntime) -> Result<(), Fail> {
     Ok(())
 }
 
+// The part of that sensor and of the time zero 3 is missing. One of another time zero isn't taken, and none twice.
+fn take_part(rt: &impl Abort, core: &mut SplitCore, capture: &Capture, sensor: Sensor)
+    requires slow { IsSlow sensor }
+    requires empty { capture.now ≡ [] }
+{
+    assert_eq!(rt; core.step(), SplitStep::Parts { sensor });
+    let zero = PartRefused::Zero { asked: 3 };
+    assert_eq!(rt; core.part(capture.part(sensor, 4)), Err(zero));
+    assert_eq!(rt; core.part(capture.part(sensor, 3)), Ok(()));
+    assert_eq!(rt; core.part(capture.part(sensor, 3)), Err(PartRefused::Twice));
+}
+
 // A firing at 3 is a time zero. While its parts are missing nothing is closed, and the limit of what may be given stays.
 #[test]
 fn an_open_ask_closes_nothing(rt: HostRuntime) -> Result<(), Fail> {
@@ -53,13 +69,11 @@ fn an_open_ask_closes_nothing(rt: HostRuntime) -> Result<(), Fail> {
     let ahead = MergeRefused::Ahead { closed: 2 };
     assert_eq!(rt; core.accept(Sensor::Along, silence(1003)), Err(ahead));
     core.accept(Sensor::Along, silence(1002))?;
-    for sensor in SLOW {
-        assert_eq!(rt; core.step(), SplitStep::Parts { sensor });
-        let zero = PartRefused::Zero { asked: 3 };
-        assert_eq!(rt; core.part(capture.part(sensor, 4)), Err(zero));
-        assert_eq!(rt; core.part(capture.part(sensor, 3)), Ok(()));
-        assert_eq!(rt; core.part(capture.part(sensor, 3)), Err(PartRefused::Twice));
-    }
+    take_part(&rt, &mut core, &capture, Sensor::Speed);
+    take_part(&rt, &mut core, &capture, Sensor::Throttle);
+    take_part(&rt, &mut core, &capture, Sensor::Brake);
+    take_part(&rt, &mut core, &capture, Sensor::Belt);
+    take_part(&rt, &mut core, &capture, Sensor::Lamp);
     let SplitStep::Closed { tick, take, .. } = core.step() else {
         return Err("a closed tick".into());
     };

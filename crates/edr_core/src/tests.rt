@@ -1,7 +1,7 @@
 mod traces;
 
 use super::*;
-use edr_record::{Extreme, Place};
+use edr_record::{Extreme, Key, Place};
 use std::process::Abort;
 use std::test::Fail;
 use traces::{Pulse, Trace};

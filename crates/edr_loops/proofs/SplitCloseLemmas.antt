@@ -19,7 +19,7 @@ use Rattle.edr_core.specs.Parts.{AreSlotsOf, Slots, commands_with, issues_with}
 use Rattle.edr_core.specs.SplitContents.{SplitContents}
 use Rattle.edr_core.specs.SplitHistory.{History, Answer, Waits, Asks, Lacks, Closes, due, is_zero_next, missing_part}
 use Rattle.edr_core.specs.SplitStandsFor.{SplitCoreStandsFor, merged}
-use Rattle.edr_core.proofs.SplitGiveLemmas.{within-merged}
+use Rattle.edr_core.proofs.GiveLemmas.{within-merged}
 use Rattle.edr_board.specs.Seats.{board_of_recorder, board_of_watch}
 use Rattle.edr_board.specs.declared.seats.RecorderSeat.{RecorderSeat}
 use Rattle.edr_board.specs.declared.seats.Watch.{Watch}

@@ -25,7 +25,7 @@ use Rattle.edr_core.specs.Parts.{AreSlotsOf, Slots, issue_with, issues_with}
 use Rattle.edr_core.specs.SplitContents.{SplitContents}
 use Rattle.edr_core.specs.SplitHistory.{History, after_item, after_part}
 use Rattle.edr_core.specs.SplitStandsFor.{SplitCoreStandsFor, merged}
-use Rattle.edr_core.proofs.SplitGiveLemmas.{within-merged}
+use Rattle.edr_core.proofs.GiveLemmas.{within-merged}
 use Rattle.edr_loops.specs.declared.fast_inlets.FastSensor.{FastSensor}
 use Rattle.edr_loops.specs.declared.fast_inlets.FastInlets.{FastInlets}
 use Rattle.edr_loops.specs.declared.fast_inlets.FastMarks.{FastMarks}

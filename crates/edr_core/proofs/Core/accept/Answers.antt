@@ -1,4 +1,4 @@
-use Rattle.std.proofs.Common.{rules, refl, sym, subst, ◌≡◌}
+use Rattle.std.proofs.Common.{rules, refl, sym, subst}
 use Rattle.edr_definitions.specs.Schedule.{Give, after_step}
 use Rattle.edr_core.specs.Contents.{CoreContents}
 use Rattle.edr_core.specs.Fields.{contents_of}

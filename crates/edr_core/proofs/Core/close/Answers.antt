@@ -1,6 +1,5 @@
-use Rattle.std.proofs.Common.{ap, refl, sym, subst, ◌≡◌, ◌∙◌, ◌+◌}
+use Rattle.std.proofs.Common.{refl, sym, subst, ◌∙◌, ◌+◌}
 use Rattle.edr_definitions.specs.Schedule.{Close, after_step}
-use Rattle.edr_definitions.specs.Core.{commands_of}
 use Rattle.edr_core.specs.Answers.{commands_put}
 use Rattle.edr_core.specs.Contents.{CoreContents}
 use Rattle.edr_core.specs.Fields.{contents_of}

@@ -1,4 +1,4 @@
-use Rattle.std.proofs.Common.{rules, sym, subst, ap, refl, ◌∙◌, ◌≤◌, ℤ, unsigned_abs, FitsSigned, to_z, of_z, w32, true, false, Option}
+use Rattle.std.proofs.Common.{rules, sym, subst, ap, ◌∙◌, ◌≤◌, ℤ, unsigned_abs, FitsSigned, to_z, of_z, w32, true, false, Option}
 use Rattle.std.specs.Prelude.{is_some}
 use Rattle.std.proofs.lemmas.Int.{to_z-of_z}
 use Rattle.edr_definitions.specs.Schedule.{Close, after_step}

@@ -1,4 +1,4 @@
-use Rattle.std.proofs.Common.{arith, ap, sym, subst, refl, ◌≡◌, ◌∙◌, ◌+◌, false}
+use Rattle.std.proofs.Common.{arith, ap, sym, subst, refl, ◌∙◌, ◌+◌, false}
 use Rattle.edr_definitions.specs.Schedule.{Close, after_step}
 use Rattle.edr_record.specs.Parts.{PrePart}
 use Rattle.edr_core.specs.Candidate.{begun}
