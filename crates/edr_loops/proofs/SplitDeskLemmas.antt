@@ -3,7 +3,7 @@ use Rattle.std.proofs.Common.{arith, ◌≡◌, ◌≢◌, ◌∙◌, ◌≤◌,
 use Rattle.std.specs.Prelude.{All, OnErr, OnOk}
 use Rattle.std.specs.Option.{option_map_or}
 use Rattle.std.proofs.Math.Nat.{eq-or-lt_of_le}
-use Rattle.std.proofs.lemmas.List.Elements.{All-cons, All-tail}
+use Rattle.std.proofs.lemmas.List.Elements.{All-cons, All-nil, All-tail}
 use Rattle.std.proofs.lemmas.List.{map-append}
 use Rattle.edr_items.specs.declared.TheConstants.{LATEST_MOMENT, LONGEST_GAP}
 use Rattle.edr_items.specs.declared.Sensor.{Sensor}
@@ -12,9 +12,10 @@ use Rattle.edr_items.specs.declared.ItemRefused.{ItemRefused}
 use Rattle.edr_items.specs.declared.ItemRefused.TheVariants.{Order, Moment, Range}
 use Rattle.edr_items.specs.Item.{mark_of, refusal_of}
 use Rattle.edr_items.specs.Sensor.{IsSlow, highest_of, lowest_of}
-use Rattle.edr_items.specs.SensorLists.{SensorLists, horizon_of, items_of}
-use Rattle.edr_definitions.specs.Commands.{Issue, issue_at, issues}
+use Rattle.edr_items.specs.SensorLists.{SensorLists, horizon_of, items_of, no_items}
+use Rattle.edr_definitions.specs.Commands.{Issue, commands, issue_at, issues}
 use Rattle.edr_definitions.specs.Schedule.{Progress, Give, Close, IsAllowed, after_step, with_item}
+use Rattle.edr_definitions.proofs.KeepLaws.{commands-start}
 use Rattle.edr_definitions.proofs.MarkLaws.{horizon-least}
 use Rattle.edr_definitions.proofs.WholeLaws.{issues-accept}
 use Rattle.edr_board.specs.Seats.{board_of_recorder, board_of_watch}
@@ -23,7 +24,7 @@ use Rattle.edr_board.specs.FreezeSeats.{IsReached, SameAsker, SlowMarks, freeze_
 use Rattle.edr_capture.specs.SensorPart.{SensorPart}
 use Rattle.edr_core.specs.Parts.{AreSlotsOf, Slots, issue_with, issues_with}
 use Rattle.edr_core.specs.SplitContents.{SplitContents}
-use Rattle.edr_core.specs.SplitHistory.{History, after_item, after_part}
+use Rattle.edr_core.specs.SplitHistory.{History, after_item, after_part, start_of}
 use Rattle.edr_core.specs.SplitStandsFor.{SplitCoreStandsFor, merged}
 use Rattle.edr_core.proofs.GiveLemmas.{within-merged}
 use Rattle.edr_loops.specs.declared.fast_inlets.FastSensor.{FastSensor}
@@ -33,8 +34,10 @@ use Rattle.edr_loops.specs.declared.part_inlets.PartInlets.{PartInlets}
 use Rattle.edr_loops.specs.declared.split_desk.SplitDesk.{SplitDesk}
 use Rattle.edr_loops.specs.FastInlets.{AreFastFeeds, HaveFast, fast_marks_of, list_of, sensor_of, with_fast, with_fast_mark}
 use Rattle.edr_loops.specs.ServiceLanes.{FastItems, SlowParts, fast_taken, slow_taken}
+use Rattle.edr_loops.specs.Held.{issues_held}
+use Rattle.edr_loops.specs.Orders.{issues_of, orders_sent}
 use Rattle.edr_loops.specs.PartInlets.{IsTaken, with_part}
-use Rattle.edr_loops.specs.SplitDesks.{Agrees, HaveMarks, IsTold, Stands, zero_of}
+use Rattle.edr_loops.specs.SplitDesks.{Agrees, Begins, HaveMarks, IsTold, Stands, zero_of}
 use Rattle.edr_loops.proofs.FastLemmas.{all-taken, fast-beside, fast-front, fast-marks-with, fast-next, have-list, have-with, is-taken, mark-is, marks-beside, marks-same, marks-with_item}
 
 -- ---- how far the merge of a core has come
@@ -315,4 +318,39 @@ stands-unfast n e d i taken s =
       last_is = s.last_is ∙ ap fast_marks_of (sym taken);
       granted_is = s.granted_is;
       asking_is = s.asking_is;
+    }
+
+-- ---- at first
+none_by : (n : ℕ) (xs : List Issue) → map (λ i. i.command) xs ≡ [] → xs ≡ []
+none_by n [] e = refl
+none_by n (x ∷ xs) e = cc
+
+-- nothing is issued up to the tick 0
+nothing-issued : (n : ℕ) → issues no_items n 0 ≡ []
+unfolding commands
+nothing-issued n = none_by n (issues no_items n 0) (commands-start no_items n)
+
+-- a desk that was told nothing stands for that
+pub stands-begins : (n e : ℕ) (d : SplitDesk) → Begins n d.core d.asker d.fast d.parts d.outbox → d.last ≡ record { along = 0; across = 0; restraint = 0 } → d.granted ≡ 1000 → d.asking ≡ false → issues_held d.held ≡ [] → Stands n e d
+stands-begins n e d b last granted free held =
+    let a = b.asker_is in record {
+      history = start_of n;
+      told = record {
+        core_is = b.core_is;
+        cycle_is = refl;
+        agrees = record {
+          marks_are = subst (λ (m : SlowMarks). HaveMarks m no_items) (sym a.marks) (record { speed = refl; throttle = refl; brake = refl; belt = refl; lamp = refl });
+          zero_is = a.asks;
+          last_to = let is = a.last in omega (arith, is);
+          granted_near = let is = a.granted in omega (arith, is);
+          granted_to = let is = a.granted in omega (arith, is);
+        };
+        within = omega arith;
+        parts_are = All-nil (IsTaken (slow_taken d.parts));
+        issues_are = λ slots are. ap (λ (xs : List Issue). issues_of (orders_sent d.outbox) ++ xs) held ∙ ap (λ os. issues_of os ++ []) b.sent_is ∙ sym (ap (map (issue_with slots)) (nothing-issued n));
+        taken_are = λ feeds. subst (λ (l : FastItems). HaveFast l no_items) (sym b.fast_is) (record { along = refl; across = refl; restraint = refl });
+      };
+      last_is = last ∙ ap fast_marks_of (sym b.fast_is);
+      granted_is = granted ∙ sym a.granted;
+      asking_is = free;
     }

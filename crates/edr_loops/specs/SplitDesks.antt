@@ -1,19 +1,23 @@
 -- What the desk of a recorder stands for that asks the slow sensors for their parts.
-use Rattle.std.specs.Prelude.{◌≡◌, ◌≤◌, ◌+◌, ℕ, All, if◌then◌else◌}
+use Rattle.std.specs.Prelude.{◌≡◌, ◌≤◌, ◌+◌, ℕ, All, [], if◌then◌else◌}
 use Rattle.edr_items.specs.declared.TheConstants.{LATEST_MOMENT, LONGEST_GAP}
 use Rattle.edr_items.specs.Item.{mark_of}
 use Rattle.edr_items.specs.SensorLists.{SensorLists}
 use Rattle.edr_board.specs.Seats.{board_of_recorder, board_of_watch, closed_posted, gate_posted}
 use Rattle.edr_board.specs.declared.freeze_seats.Asker.{Asker}
-use Rattle.edr_board.specs.FreezeSeats.{SlowMarks, freeze_of_asker, grant_posted, last_zero, marks_read, open_zero}
+use Rattle.edr_board.specs.FreezeSeats.{IsFreshAsker, SlowMarks, freeze_of_asker, grant_posted, last_zero, marks_read, open_zero}
 use Rattle.edr_core.specs.Parts.{AreSlotsOf, Slots, issues_with}
-use Rattle.edr_core.specs.SplitHistory.{History}
+use Rattle.edr_core.specs.SplitContents.{SplitContents}
+use Rattle.edr_core.specs.SplitHistory.{History, start_of}
 use Rattle.edr_core.specs.SplitStandsFor.{SplitCoreStandsFor, merged}
+use Rattle.edr_loops.specs.declared.fast_inlets.FastInlets.{FastInlets}
+use Rattle.edr_loops.specs.declared.orders.Outbox.{Outbox}
+use Rattle.edr_loops.specs.declared.part_inlets.PartInlets.{PartInlets}
 use Rattle.edr_loops.specs.declared.split_desk.SplitDesk.{SplitDesk}
 use Rattle.edr_loops.specs.FastInlets.{AreFastFeeds, HaveFast, fast_marks_of}
-use Rattle.edr_loops.specs.ServiceLanes.{SameFastInlets, SamePartInlets, fast_taken, slow_taken}
+use Rattle.edr_loops.specs.ServiceLanes.{SameFastInlets, SamePartInlets, fast_taken, no_fast_items, no_slow_parts, slow_taken}
 use Rattle.edr_loops.specs.Held.{issues_out}
-use Rattle.edr_loops.specs.Orders.{SameOutbox}
+use Rattle.edr_loops.specs.Orders.{SameOutbox, orders_sent}
 use Rattle.edr_loops.specs.PartInlets.{IsTaken}
 
 -- the zero that is asked for, 0 where none is
@@ -63,6 +67,14 @@ pub record Stands (n horizon : ℕ) (d : SplitDesk) : Type 0 where
   pub last_is : d.last ≡ fast_marks_of (fast_taken d.fast)
   pub granted_is : d.granted ≡ grant_posted d.asker
   pub asking_is : d.asking ≡ history.asking
+
+-- a core of cycle n that was told nothing, and an asker, rings and an outbox that are fresh
+pub record Begins (n : ℕ) (c : SplitContents) (a : Asker) (fast : FastInlets) (parts : PartInlets) (o : Outbox) : Type 0 where
+  pub core_is : SplitCoreStandsFor c (start_of n)
+  pub asker_is : IsFreshAsker (freeze_of_asker a) a
+  pub fast_is : fast_taken fast ≡ no_fast_items
+  pub parts_are : slow_taken parts ≡ no_slow_parts
+  pub sent_is : orders_sent o ≡ []
 
 -- it does so of some cycle
 abbrev pub IsRecording : SplitDesk → Type 0

@@ -2,6 +2,8 @@
 #![tactic(auto)]
 
 mod desk;
+#[cfg(test)]
+mod desk_tests;
 mod desk_turns;
 mod fast_inlets;
 mod held;

@@ -22,9 +22,9 @@ use std::thread::Threads;
 
 // A gate that lets every item pass. It counts them, and the parts of the time zero 100 that are sent.
 #[derive(Drop)]
-struct Telling {
-    passed: AtomicU64,
-    served: AtomicU64,
+pub(crate) struct Telling {
+    pub(crate) passed: AtomicU64,
+    pub(crate) served: AtomicU64,
 }
 
 impl Gate for Telling {
@@ -39,7 +39,7 @@ impl Gate for Telling {
     }
 }
 
-fn new_gate() -> Telling {
+pub(crate) fn new_gate() -> Telling {
     Telling {
         passed: AtomicU64::new(0),
         served: AtomicU64::new(0),

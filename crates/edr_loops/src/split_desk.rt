@@ -1,15 +1,16 @@
 //! The desk of a recorder that asks the slow sensors for their parts of a time zero: what its thread owns, and its steps.
 
-ghost use Rattle.std.specs.Prelude.{◌≡◌, ◌≢◌, ◌+◌, ℕ, [], true, false, map};
+ghost use Rattle.std.specs.Prelude.{◌≡◌, ◌≢◌, ◌≤◌, ◌+◌, ℕ, [], true, false, map};
 ghost use Rattle.edr_items.specs.Sensor.{IsSlow};
 ghost use Rattle.edr_definitions.specs.Commands.{issue_at};
 ghost use Rattle.edr_definitions.specs.Schedule.{Give, IsAllowed};
 ghost use Rattle.edr_board.specs.FreezeSeats.{open_zero};
+ghost use Rattle.edr_board.specs.Seats.{closed_posted, gate_posted};
 ghost use Rattle.edr_core.specs.Answers.{commands_put};
 ghost use Rattle.edr_core.specs.SplitHistory.{History, after_item};
 ghost use Rattle.edr_core.specs.SplitStandsFor.{SplitCoreStandsFor};
 ghost use Rattle.edr_loops.specs.Held.{issues_held};
-ghost use Rattle.edr_loops.specs.SplitDesks.{IsRecording, IsSettled, Later, LaterUpTo, SeatStays};
+ghost use Rattle.edr_loops.specs.SplitDesks.{Begins, HasPosted, IsRecording, IsSettled, Later, LaterUpTo, SeatStays, Stands};
 
 use crate::fast_inlets::{FastInlets, FastMarks, FastSensor};
 use crate::held::Held;
@@ -19,6 +20,9 @@ use edr_board::{Asker, RecorderSeat, Watch};
 use edr_capture::Part;
 use edr_core::{Issued, SplitClosing, SplitCore};
 use edr_items::{Item, LATEST_MOMENT, LONGEST_GAP, Sensor};
+
+// What is granted as a freeze is opened.
+const FIRST_GRANT: u32 = 1_000;
 
 /// What the recorder's thread owns, and hands back at its join.
 #[derive(Drop)]
@@ -95,6 +99,42 @@ fn give(core: &mut SplitCore, sensor: Sensor, item: Item) -> bool
 }
 
 impl SplitDesk {
+    /// A desk before the first item: nothing was posted by its seats, taken out of its rings or sent.
+    pub fn new(
+        core: SplitCore,
+        fast: FastInlets,
+        parts: PartInlets,
+        asker: Asker,
+        seat: RecorderSeat,
+        watch: Watch,
+        outbox: Outbox,
+    ) -> SplitDesk
+        ensures core { result.core ≡ core }
+        ensures rings { (result.fast ≡ fast) × (result.parts ≡ parts) × (result.outbox ≡ outbox) }
+        ensures seats { (result.asker ≡ asker) × (result.seat ≡ seat) × (result.watch ≡ watch) }
+        ensures stands { (n horizon : ℕ) → Begins n core asker fast parts outbox → Stands n horizon result }
+        ensures posted { closed_posted seat ≡ 0 → gate_posted seat ≤ 1 → HasPosted result }
+    {
+        SplitDesk {
+            core,
+            fast,
+            last: FastMarks {
+                along: 0,
+                across: 0,
+                restraint: 0,
+            },
+            parts,
+            asker,
+            seat,
+            watch,
+            outbox,
+            held: Held::none(),
+            posted: 0,
+            granted: FIRST_GRANT,
+            asking: false,
+        }
+    }
+
     // Takes the next item of that sensor, if it is no further ahead of the closed tick than a gap may be.
     #[inline(always)]
     pub(crate) fn take_next(&mut self, sensor: FastSensor) -> bool
