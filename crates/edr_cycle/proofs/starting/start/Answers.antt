@@ -61,3 +61,13 @@ returns-clause-made g c = λ bytes v found.
     let e = c.count_cycle.new.nvm in
     let both = made_found s.banks.store s.number c.number.result v bytes made.0 (N.content e) (N.settled e) called next store made.1 made.2 in
     (made.0, both.0, both.1)
+
+pub returns-in_err-count_cycle-clause-refused : goal.returns-in_err-count_cycle-clause-refused
+returns-in_err-count_cycle-clause-refused g c =
+    let p = err_from_is_err_and c.from_residual-in_err-count_cycle.result c.from_residual-in_err-count_cycle.ensures.1 in
+    rw (p.1, p.2) (λ o e refusal bytes told. absurd cc)
+
+pub returns-in_err-count_cycle-clause-sizes : goal.returns-in_err-count_cycle-clause-sizes
+returns-in_err-count_cycle-clause-sizes g c =
+    let p = err_from_is_err_and c.from_residual-in_err-count_cycle.result c.from_residual-in_err-count_cycle.ensures.1 in
+    rw (p.1, p.2) (λ size needed e. absurd cc)
