@@ -1,6 +1,8 @@
 use Rattle.std.proofs.Common.{rules, ◌∙◌, subst}
 use Rattle.std.proofs.lemmas.Result.{err_from_is_err_and}
 use Rattle.std.specs.Arc.{arc_value}
+use Rattle.edr_device.specs.Device.{StillTells}
+use Rattle.edr_device.proofs.Settling.{tells_again}
 use Rattle.edr_replay.specs.Past.{LeavesPastOf}
 use Rattle.edr_replay.specs.Phases.{LeavesOfRun, RunsFrom}
 use Rattle.edr_replay.specs.Replayed.{IsDrivenFault}
@@ -64,3 +66,11 @@ returns-in_err-end-clause-past g c =
     let none = past_none (D.content c.arm.new.self.nvm.now) (D.settled c.arm.new.self.nvm.now) in
     lent (λ a b. LeavesPastOf (record { store = c.args.started.banks.store; count = c.args.started.number }) (D.content a) (D.settled a) (D.content b) (D.settled b)) c.args.nvm.now c.arm.new.self.nvm.now c.arm.new.self.nvm.now _ (search rules) (search rules)
     (none.keeps (record { store = c.args.started.banks.store; count = c.args.started.number }))
+
+pub returns-clause-lent : goal.returns-clause-lent
+returns-clause-lent g c =
+    let N = g.N.Nvm in
+    let again = g.met.N.Nvm.goes_on_again in
+    let first : StillTells (N.content c.args.nvm.now) (N.content c.drive_cycle-end.new.nvm.nvm.now) = search rules in
+    let second : StillTells (N.content c.drive_cycle-end.new.nvm.nvm.now) (N.content c.end_run.new.nvm) = search rules in
+    record { size = search rules; device = search (rules, again); tells = tells_again _ _ _ first second }
