@@ -46,6 +46,13 @@ asks c w h asking = by c.ask h.ask_is where
   by None free = let apart : false ≡ true = sym free ∙ asking in cc
   by (Some a) is = refl
 
+-- a core of all sensors asks for nothing between its calls
+pub asks-nothing : (c : CoreContents) (n : ℕ) (p : Progress) → CoreIsFor c n p → is_some c.split.ask ≡ false
+asks-nothing c n p h = by c.split.ask h.split_is.ask_is where
+  by : (o : Option OpenAsk) → HoldsAsk o (resting n p h.parts) → is_some o ≡ false
+  by None free = refl
+  by (Some a) is = let asks = is.asking in cc
+
 -- a part of the time zero is taken, if none of its sensor was
 pub refused-not : (q : SensorPart) (w : History) → w.asking ≡ true → q.zero ≡ w.past.closed + 1 → part_in w.parts q.sensor (w.past.closed + 1) ≡ None → part_refusal_of q w ≡ None
 refused-not q w asking zero none =

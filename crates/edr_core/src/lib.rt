@@ -111,7 +111,7 @@ impl Core {
         ensures allowed { (n : ℕ) (p : Progress) → CoreIsFor self.old n p → IsOk result ↔ IsAllowed (Give sensor item) p }
         ensures why { (n : ℕ) (p : Progress) → CoreIsFor self.old n p → IfErr result (λ e. give_refusal_of sensor item p ≡ Some e) }
     {
-        self.split.accept(sensor, item)?;
+        self.split.take(sensor, item)?;
         self.captures.push(sensor, item);
         Ok(())
     }
@@ -151,7 +151,7 @@ impl Core {
         ensures waits { (n : ℕ) (p : Progress) → CoreIsFor self.old n p → awaited (step_of result issued.new) ≡ waited_for p }
         ensures quiet { IsQuiet result → issued.new ≡ issued.old }
     {
-        match self.split.close(issued) {
+        match self.split.close_free(issued) {
             SplitClosing::Waiting { sensor } => Closing::Waiting { sensor },
             SplitClosing::Closed { tick, issues } => Closing::Closed { tick, issues },
             SplitClosing::Ask { zero } => {

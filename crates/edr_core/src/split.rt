@@ -1,6 +1,6 @@
 //! The core that is told no value of a slow sensor: it asks for the five parts of each time zero.
 
-ghost use Rattle.std.specs.Prelude.{◌≡◌, ◌↔◌, ℕ, ◌+◌, ◌≤◌, ◌<◌, Some, None, IfOk, IfErr, IsOk, IsSome, OnOk, OnErr};
+ghost use Rattle.std.specs.Prelude.{◌≡◌, ◌↔◌, ℕ, ◌+◌, ◌≤◌, ◌<◌, true, false, Some, None, is_some, IfOk, IfErr, IsOk, IsSome, OnOk, OnErr};
 ghost use Rattle.edr_definitions.specs.Schedule.{Give, IsAllowed};
 
 use crate::ask::{Ask, PartRefused};
@@ -126,6 +126,18 @@ impl SplitCore {
         if item.moment > self.closed + LONGEST_GAP && self.asking {
             return Err(self.ahead(sensor, item));
         }
+        self.take(sensor, item)
+    }
+
+    // The same of an item that isn't too far ahead while parts are asked for.
+    #[inline(always)]
+    pub(crate) fn take(&mut self, sensor: Sensor, item: Item) -> Result<(), MergeRefused>
+        requires { is_some self.old.ask ≡ true → item.moment ≤ self.old.closed + 1_000 }
+        ensures ok { OnOk result ((h : History) → SplitCoreStandsFor self.old h → SplitCoreStandsFor self.new (after_item sensor item h)) }
+        ensures err { OnErr result (self.new ≡ self.old) }
+        ensures allowed { (h : History) → SplitCoreStandsFor self.old h → IsOk result ↔ IsAllowed (Give sensor item) h.past }
+        ensures why { (h : History) → SplitCoreStandsFor self.old h → IfErr result (λ e. give_refusal_of sensor item h.past ≡ Some e) }
+    {
         self.merge.accept(sensor, item)?;
         Ok(())
     }
@@ -183,6 +195,19 @@ impl SplitCore {
         if self.asking {
             return self.close_asked(issued);
         }
+        self.close_free(issued)
+    }
+
+    // The same where no parts are asked for.
+    #[inline(always)]
+    pub(crate) fn close_free(&mut self, issued: &mut Issued) -> SplitClosing
+        requires { is_some self.old.ask ≡ false }
+        ensures commands { (h : History) (slots : Slots) → SplitCoreStandsFor self.old h → AreSlotsOf h.parts slots → HasTheCommandsWith slots h.cycle h.past (split_step_of result issued.new) }
+        ensures ticks { (h : History) (slots : Slots) → SplitCoreStandsFor self.old h → AreSlotsOf h.parts slots → HasTheIssuesWith slots h.cycle h.past (split_step_of result issued.new) }
+        ensures stands { (h : History) → SplitCoreStandsFor self.old h → SplitCoreStandsFor self.new (after_split h (split_step_of result issued.new)) }
+        ensures answer { (h : History) → SplitCoreStandsFor self.old h → answer_of (split_step_of result issued.new) ≡ due h }
+        ensures quiet { IsSplitQuiet result → issued.new ≡ issued.old }
+    {
         let (tick, row) = match self.merge.next() {
             Next::Waiting { sensor } => return SplitClosing::Waiting { sensor },
             Next::Row {

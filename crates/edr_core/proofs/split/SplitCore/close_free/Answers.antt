@@ -1,4 +1,4 @@
-use Rattle.std.proofs.Common.{rules, sym, subst, ap, ◌∙◌, ◌≤◌, ℤ, unsigned_abs, FitsSigned, to_z, of_z, w32, true, false, Option}
+use Rattle.std.proofs.Common.{rules, sym, subst, ap, ◌≡◌, ◌∙◌, ◌≤◌, ℤ, unsigned_abs, FitsSigned, to_z, of_z, w32, true, false, Option}
 use Rattle.std.specs.Prelude.{is_some}
 use Rattle.std.proofs.lemmas.Int.{to_z-of_z}
 use Rattle.edr_definitions.specs.Schedule.{Close, after_step}
@@ -9,12 +9,12 @@ use Rattle.edr_core.specs.SplitFields.{split_contents}
 use Rattle.edr_core.specs.SplitStandsFor.{SplitCoreStandsFor}
 use Rattle.edr_core.proofs.GiveLemmas.{asks-not, no-ask, merge-free}
 use Rattle.edr_core.proofs.StepLemmas.{waits-due, room, small-along, small-across, row-in_range, all-short, ask-opens, asks-due, closes-due, can-tell, step-stands, step-commands, step-ticks}
-use Rattle.edr_core.proofs.split.SplitCore.close.Goals as goal
+use Rattle.edr_core.proofs.split.SplitCore.close_free.Goals as goal
 
 pub returns-in-Waiting-clause-answer : goal.returns-in-Waiting-clause-answer
 returns-in-Waiting-clause-answer c = λ w before.
     let h : SplitCoreStandsFor (split_contents c.self.inside) w = subst (λ (v : SplitContents). SplitCoreStandsFor v w) (sym c.self.view_is) before in
-    let none = sym c.self.invariant.asking_is ∙ c.if-self.false in
+    let none = subst (λ (v : SplitContents). is_some v.ask ≡ false) (sym c.self.view_is) c.requires in
     let merge = merge-free (split_contents c.self.inside) w h none in
     waits-due w c.in-Waiting.sensor (asks-not (split_contents c.self.inside) w h none) (c.in-Waiting.ensures.answer w.past merge)
 
@@ -24,7 +24,7 @@ tick-change-requires-clause-along_small c =
     let i = c.self.invariant in
     let w = i.history in
     let h = i.stands in
-    let none = sym c.self.invariant.asking_is ∙ c.if-self.false in
+    let none = subst (λ (v : SplitContents). is_some v.ask ≡ false) (sym c.self.view_is) c.requires in
     let merge = merge-free (split_contents c.self.inside) w h none in
     let fits : FitsSigned w32 c.unwrap_or.result = search rules in
     subst (λ (v : ℤ). unsigned_abs v ≤ 100_000) (sym (to_z-of_z w32 c.unwrap_or.result fits ∙ c.unwrap_or.ensures))
@@ -35,7 +35,7 @@ tick-change-requires-clause-across_small c =
     let i = c.self.invariant in
     let w = i.history in
     let h = i.stands in
-    let none = sym c.self.invariant.asking_is ∙ c.if-self.false in
+    let none = subst (λ (v : SplitContents). is_some v.ask ≡ false) (sym c.self.view_is) c.requires in
     let merge = merge-free (split_contents c.self.inside) w h none in
     let fits : FitsSigned w32 c.unwrap_or-2.result = search rules in
     subst (λ (v : ℤ). unsigned_abs v ≤ 100_000) (sym (to_z-of_z w32 c.unwrap_or-2.result fits ∙ c.unwrap_or-2.ensures))
@@ -46,7 +46,7 @@ tick-change-requires-clause-room c =
     let i = c.self.invariant in
     let w = i.history in
     let h = i.stands in
-    let none = sym c.self.invariant.asking_is ∙ c.if-self.false in
+    let none = subst (λ (v : SplitContents). is_some v.ask ≡ false) (sym c.self.view_is) c.requires in
     let merge = merge-free (split_contents c.self.inside) w h none in
     room (split_contents c.self.inside) w h (asks-not (split_contents c.self.inside) w h none) c.in-Row.tick c.in-Row.along c.in-Row.across c.in-Row.fired (c.in-Row.ensures.answer w.past merge) ((c.in-Row.ensures.allowed w.past merge).0 tt)
 
@@ -55,7 +55,7 @@ grow-requires-clause-short c =
     let i = c.self.invariant in
     let w = i.history in
     let h = i.stands in
-    let none = sym c.self.invariant.asking_is ∙ c.if-self.false in
+    let none = subst (λ (v : SplitContents). is_some v.ask ≡ false) (sym c.self.view_is) c.requires in
     let merge = merge-free (split_contents c.self.inside) w h none in
     all-short (split_contents c.self.inside) w h (asks-not (split_contents c.self.inside) w h none) c.in-Row.tick c.in-Row.along c.in-Row.across c.in-Row.fired (c.in-Row.ensures.answer w.past merge) ((c.in-Row.ensures.allowed w.past merge).0 tt)
 
@@ -64,7 +64,7 @@ grow-requires-clause-in_range c =
     let i = c.self.invariant in
     let w = i.history in
     let h = i.stands in
-    let none = sym c.self.invariant.asking_is ∙ c.if-self.false in
+    let none = subst (λ (v : SplitContents). is_some v.ask ≡ false) (sym c.self.view_is) c.requires in
     let merge = merge-free (split_contents c.self.inside) w h none in
     row-in_range (split_contents c.self.inside) w h (asks-not (split_contents c.self.inside) w h none) c.in-Row.tick c.in-Row.along c.in-Row.across c.in-Row.fired (c.in-Row.ensures.answer w.past merge) ((c.in-Row.ensures.allowed w.past merge).0 tt)
 
@@ -73,7 +73,7 @@ issue-requires c =
     let i = c.self.invariant in
     let w = i.history in
     let h = i.stands in
-    let none = sym c.self.invariant.asking_is ∙ c.if-self.false in
+    let none = subst (λ (v : SplitContents). is_some v.ask ≡ false) (sym c.self.view_is) c.requires in
     let merge = merge-free (split_contents c.self.inside) w h none in
     let along_fits : FitsSigned w32 c.unwrap_or.result = search rules in
     let across_fits : FitsSigned w32 c.unwrap_or-2.result = search rules in
@@ -88,7 +88,7 @@ invariant_of-self-then-change c =
     let i = c.self.invariant in
     let w = i.history in
     let h = i.stands in
-    let none = sym c.self.invariant.asking_is ∙ c.if-self.false in
+    let none = subst (λ (v : SplitContents). is_some v.ask ≡ false) (sym c.self.view_is) c.requires in
     let merge = merge-free (split_contents c.self.inside) w h none in
     let along_fits : FitsSigned w32 c.unwrap_or.result = search rules in
     let across_fits : FitsSigned w32 c.unwrap_or-2.result = search rules in
@@ -104,7 +104,7 @@ invariant_of-self-then-change c =
 pub returns-then-change-clause-stands : goal.returns-then-change-clause-stands
 returns-then-change-clause-stands c = λ w before.
     let h : SplitCoreStandsFor (split_contents c.self.inside) w = subst (λ (v : SplitContents). SplitCoreStandsFor v w) (sym c.self.view_is) before in
-    let none = sym c.self.invariant.asking_is ∙ c.if-self.false in
+    let none = subst (λ (v : SplitContents). is_some v.ask ≡ false) (sym c.self.view_is) c.requires in
     let merge = merge-free (split_contents c.self.inside) w h none in
     let along_fits : FitsSigned w32 c.unwrap_or.result = search rules in
     let across_fits : FitsSigned w32 c.unwrap_or-2.result = search rules in
@@ -116,7 +116,7 @@ returns-then-change-clause-stands c = λ w before.
 pub returns-then-change-clause-answer : goal.returns-then-change-clause-answer
 returns-then-change-clause-answer c = λ w before.
     let h : SplitCoreStandsFor (split_contents c.self.inside) w = subst (λ (v : SplitContents). SplitCoreStandsFor v w) (sym c.self.view_is) before in
-    let none = sym c.self.invariant.asking_is ∙ c.if-self.false in
+    let none = subst (λ (v : SplitContents). is_some v.ask ≡ false) (sym c.self.view_is) c.requires in
     let merge = merge-free (split_contents c.self.inside) w h none in
     let along_fits : FitsSigned w32 c.unwrap_or.result = search rules in
     let across_fits : FitsSigned w32 c.unwrap_or-2.result = search rules in
@@ -131,7 +131,7 @@ invariant_of-self-2 c =
     let i = c.self.invariant in
     let w = i.history in
     let h = i.stands in
-    let none = sym c.self.invariant.asking_is ∙ c.if-self.false in
+    let none = subst (λ (v : SplitContents). is_some v.ask ≡ false) (sym c.self.view_is) c.requires in
     let merge = merge-free (split_contents c.self.inside) w h none in
     let along_fits : FitsSigned w32 c.unwrap_or.result = search rules in
     let across_fits : FitsSigned w32 c.unwrap_or-2.result = search rules in
@@ -147,7 +147,7 @@ invariant_of-self-2 c =
 pub returns-clause-stands : goal.returns-clause-stands
 returns-clause-stands c = λ w before.
     let h : SplitCoreStandsFor (split_contents c.self.inside) w = subst (λ (v : SplitContents). SplitCoreStandsFor v w) (sym c.self.view_is) before in
-    let none = sym c.self.invariant.asking_is ∙ c.if-self.false in
+    let none = subst (λ (v : SplitContents). is_some v.ask ≡ false) (sym c.self.view_is) c.requires in
     let merge = merge-free (split_contents c.self.inside) w h none in
     let along_fits : FitsSigned w32 c.unwrap_or.result = search rules in
     let across_fits : FitsSigned w32 c.unwrap_or-2.result = search rules in
@@ -159,7 +159,7 @@ returns-clause-stands c = λ w before.
 pub returns-clause-commands : goal.returns-clause-commands
 returns-clause-commands c = λ w slots before are.
     let h : SplitCoreStandsFor (split_contents c.self.inside) w = subst (λ (v : SplitContents). SplitCoreStandsFor v w) (sym c.self.view_is) before in
-    let none = sym c.self.invariant.asking_is ∙ c.if-self.false in
+    let none = subst (λ (v : SplitContents). is_some v.ask ≡ false) (sym c.self.view_is) c.requires in
     let merge = merge-free (split_contents c.self.inside) w h none in
     let along_fits : FitsSigned w32 c.unwrap_or.result = search rules in
     let across_fits : FitsSigned w32 c.unwrap_or-2.result = search rules in
@@ -171,7 +171,7 @@ returns-clause-commands c = λ w slots before are.
 pub returns-clause-ticks : goal.returns-clause-ticks
 returns-clause-ticks c = λ w slots before are.
     let h : SplitCoreStandsFor (split_contents c.self.inside) w = subst (λ (v : SplitContents). SplitCoreStandsFor v w) (sym c.self.view_is) before in
-    let none = sym c.self.invariant.asking_is ∙ c.if-self.false in
+    let none = subst (λ (v : SplitContents). is_some v.ask ≡ false) (sym c.self.view_is) c.requires in
     let merge = merge-free (split_contents c.self.inside) w h none in
     let along_fits : FitsSigned w32 c.unwrap_or.result = search rules in
     let across_fits : FitsSigned w32 c.unwrap_or-2.result = search rules in
@@ -183,7 +183,7 @@ returns-clause-ticks c = λ w slots before are.
 pub returns-clause-answer : goal.returns-clause-answer
 returns-clause-answer c = λ w before.
     let h : SplitCoreStandsFor (split_contents c.self.inside) w = subst (λ (v : SplitContents). SplitCoreStandsFor v w) (sym c.self.view_is) before in
-    let none = sym c.self.invariant.asking_is ∙ c.if-self.false in
+    let none = subst (λ (v : SplitContents). is_some v.ask ≡ false) (sym c.self.view_is) c.requires in
     let merge = merge-free (split_contents c.self.inside) w h none in
     let along_fits : FitsSigned w32 c.unwrap_or.result = search rules in
     let across_fits : FitsSigned w32 c.unwrap_or-2.result = search rules in
@@ -198,7 +198,7 @@ invariant_of-self-then-passes_by c =
     let i = c.self.invariant in
     let w = i.history in
     let h = i.stands in
-    let none = sym c.self.invariant.asking_is ∙ c.if-self.false in
+    let none = subst (λ (v : SplitContents). is_some v.ask ≡ false) (sym c.self.view_is) c.requires in
     let merge = merge-free (split_contents c.self.inside) w h none in
     let along_fits : FitsSigned w32 c.unwrap_or.result = search rules in
     let across_fits : FitsSigned w32 c.unwrap_or-2.result = search rules in
@@ -214,7 +214,7 @@ invariant_of-self-then-passes_by c =
 pub returns-then-passes_by-clause-stands : goal.returns-then-passes_by-clause-stands
 returns-then-passes_by-clause-stands c = λ w before.
     let h : SplitCoreStandsFor (split_contents c.self.inside) w = subst (λ (v : SplitContents). SplitCoreStandsFor v w) (sym c.self.view_is) before in
-    let none = sym c.self.invariant.asking_is ∙ c.if-self.false in
+    let none = subst (λ (v : SplitContents). is_some v.ask ≡ false) (sym c.self.view_is) c.requires in
     let merge = merge-free (split_contents c.self.inside) w h none in
     let along_fits : FitsSigned w32 c.unwrap_or.result = search rules in
     let across_fits : FitsSigned w32 c.unwrap_or-2.result = search rules in
@@ -226,7 +226,7 @@ returns-then-passes_by-clause-stands c = λ w before.
 pub returns-then-passes_by-clause-commands : goal.returns-then-passes_by-clause-commands
 returns-then-passes_by-clause-commands c = λ w slots before are.
     let h : SplitCoreStandsFor (split_contents c.self.inside) w = subst (λ (v : SplitContents). SplitCoreStandsFor v w) (sym c.self.view_is) before in
-    let none = sym c.self.invariant.asking_is ∙ c.if-self.false in
+    let none = subst (λ (v : SplitContents). is_some v.ask ≡ false) (sym c.self.view_is) c.requires in
     let merge = merge-free (split_contents c.self.inside) w h none in
     let along_fits : FitsSigned w32 c.unwrap_or.result = search rules in
     let across_fits : FitsSigned w32 c.unwrap_or-2.result = search rules in
@@ -238,7 +238,7 @@ returns-then-passes_by-clause-commands c = λ w slots before are.
 pub returns-then-passes_by-clause-ticks : goal.returns-then-passes_by-clause-ticks
 returns-then-passes_by-clause-ticks c = λ w slots before are.
     let h : SplitCoreStandsFor (split_contents c.self.inside) w = subst (λ (v : SplitContents). SplitCoreStandsFor v w) (sym c.self.view_is) before in
-    let none = sym c.self.invariant.asking_is ∙ c.if-self.false in
+    let none = subst (λ (v : SplitContents). is_some v.ask ≡ false) (sym c.self.view_is) c.requires in
     let merge = merge-free (split_contents c.self.inside) w h none in
     let along_fits : FitsSigned w32 c.unwrap_or.result = search rules in
     let across_fits : FitsSigned w32 c.unwrap_or-2.result = search rules in
@@ -250,7 +250,7 @@ returns-then-passes_by-clause-ticks c = λ w slots before are.
 pub returns-then-passes_by-clause-answer : goal.returns-then-passes_by-clause-answer
 returns-then-passes_by-clause-answer c = λ w before.
     let h : SplitCoreStandsFor (split_contents c.self.inside) w = subst (λ (v : SplitContents). SplitCoreStandsFor v w) (sym c.self.view_is) before in
-    let none = sym c.self.invariant.asking_is ∙ c.if-self.false in
+    let none = subst (λ (v : SplitContents). is_some v.ask ≡ false) (sym c.self.view_is) c.requires in
     let merge = merge-free (split_contents c.self.inside) w h none in
     let along_fits : FitsSigned w32 c.unwrap_or.result = search rules in
     let across_fits : FitsSigned w32 c.unwrap_or-2.result = search rules in
