@@ -15,7 +15,7 @@ ghost use Rattle.edr_definitions.specs.Schedule.{Progress, Give, Close, IsAllowe
 
 pub use ask::PartRefused;
 pub use candidate::Issued;
-use captures::Captures;
+pub use captures::Captures;
 use edr_items::{Item, Sensor};
 use edr_merge::MergeRefused;
 use edr_record::{Crash, Pre};
