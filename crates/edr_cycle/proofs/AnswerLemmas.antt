@@ -201,7 +201,7 @@ lacks-asking h s answer = by h.asking (missing_part h) (waited_for h.past) (is_z
   by false m None true is e = cc
   by false m None false is e = cc
 
--- ---- a tick that is closed
+-- ---- what is issued
 command-same : (f g : SensorLists) → f.speed ≡ g.speed → f.throttle ≡ g.throttle → f.brake ≡ g.brake → f.belt ≡ g.belt → f.lamp ≡ g.lamp → (k : Command) → command_with (parts_of f) k ≡ command_with (parts_of g) k
 command-same f g a b d e h (Take p) = rw (a, b, d, e, h) refl
 command-same f g a b d e h (Lock p) = rw (a, b, d, e, h) refl
@@ -213,7 +213,8 @@ issues-same f g same (x ∷ xs) =
     ap (λ (k : Command). record { tick = x.tick; command = k } ∷ map (issue_with (parts_of f)) xs) (same x.command)
     ∙ ap (λ (is : List Issue). issue_with (parts_of g) x ∷ is) (issues-same f g same xs)
 
-module _ (lists : SensorLists) (n : ℕ) (h : History) (c c' : SplitContents) (rest : Remaining) (at : IsOpenAt lists n h c rest) (stands : SplitCoreStandsFor c' (record h { past = after_step h.past Close; asking = false })) where
+-- what the split core issues up to a tick that the given lists and the cycle's own reach
+module _ (lists : SensorLists) (n : ℕ) (h : History) (c : SplitContents) (rest : Remaining) (at : RemainsAt lists n h c rest) (u : ℕ) (reach : u ≤ horizon_of h.past.given) (below : u ≤ horizon_of lists) where
   abbrev g : SensorLists
   g = h.past.given
 
@@ -221,43 +222,51 @@ module _ (lists : SensorLists) (n : ℕ) (h : History) (c c' : SplitContents) (r
   abbrev mid : SensorLists
   mid = record lists { along = g.along; across = g.across; restraint = g.restraint }
 
-  reach : h.past.closed + 1 ≤ horizon_of g
-  reach = within-merged c' (record h { past = after_step h.past Close; asking = false }) stands
-
-  reaches : (s : Sensor) → h.past.closed + 1 ≤ mark_of (items_of s mid)
-  reaches Along = let a = horizon-least g Along in let b = reach in omega (arith, a, b)
-  reaches Across = let a = horizon-least g Across in let b = reach in omega (arith, a, b)
-  reaches Speed = let a = horizon-least lists Speed in let b = at.below in omega (arith, a, b)
-  reaches Throttle = let a = horizon-least lists Throttle in let b = at.below in omega (arith, a, b)
-  reaches Brake = let a = horizon-least lists Brake in let b = at.below in omega (arith, a, b)
-  reaches Belt = let a = horizon-least lists Belt in let b = at.below in omega (arith, a, b)
-  reaches Lamp = let a = horizon-least lists Lamp in let b = at.below in omega (arith, a, b)
-  reaches Restraint = let a = horizon-least g Restraint in let b = reach in omega (arith, a, b)
+  reaches : (s : Sensor) → u ≤ mark_of (items_of s mid)
+  reaches Along = let a = horizon-least g Along in omega (arith, a, reach)
+  reaches Across = let a = horizon-least g Across in omega (arith, a, reach)
+  reaches Speed = let a = horizon-least lists Speed in omega (arith, a, below)
+  reaches Throttle = let a = horizon-least lists Throttle in omega (arith, a, below)
+  reaches Brake = let a = horizon-least lists Brake in omega (arith, a, below)
+  reaches Belt = let a = horizon-least lists Belt in omega (arith, a, below)
+  reaches Lamp = let a = horizon-least lists Lamp in omega (arith, a, below)
+  reaches Restraint = let a = horizon-least g Restraint in omega (arith, a, reach)
 
   begins : (s : Sensor) → BeginsWith (items_of s lists) (items_of s mid)
-  begins Along = let r = at.remains.rests Along in (rest.left.along, r.whole ∙ ap (λ xs. xs ++ rest.left.along) (sym r.keeps))
-  begins Across = let r = at.remains.rests Across in (rest.left.across, r.whole ∙ ap (λ xs. xs ++ rest.left.across) (sym r.keeps))
+  begins Along = let r = at.rests Along in (rest.left.along, r.whole ∙ ap (λ xs. xs ++ rest.left.along) (sym r.keeps))
+  begins Across = let r = at.rests Across in (rest.left.across, r.whole ∙ ap (λ xs. xs ++ rest.left.across) (sym r.keeps))
   begins Speed = ([], sym (append-nil lists.speed))
   begins Throttle = ([], sym (append-nil lists.throttle))
   begins Brake = ([], sym (append-nil lists.brake))
   begins Belt = ([], sym (append-nil lists.belt))
   begins Lamp = ([], sym (append-nil lists.lamp))
-  begins Restraint = let r = at.remains.rests Restraint in (rest.left.restraint, r.whole ∙ ap (λ xs. xs ++ rest.left.restraint) (sym r.keeps))
+  begins Restraint = let r = at.rests Restraint in (rest.left.restraint, r.whole ∙ ap (λ xs. xs ++ rest.left.restraint) (sym r.keeps))
 
-  -- up to the tick that is closed the core issues what the cycle does
-  issued : (t : ℕ) → t ≤ h.past.closed + 1 → issues_with (parts_of lists) g n t ≡ issues lists n t
+  issued : (t : ℕ) → t ≤ u → issues_with (parts_of lists) g n t ≡ issues lists n t
   issued t upto =
-      let all : h.past.closed + 1 ≤ horizon_of mid = horizon-above mid (h.past.closed + 1) reaches in
-      let on : IsUnderWay lists (record { given = mid; closed = h.past.closed + 1 }) = record { begun = begins; within = all } in
+      let all : u ≤ horizon_of mid = horizon-above mid u reaches in
+      let on : IsUnderWay lists (record { given = mid; closed = u }) = record { begun = begins; within = all } in
       let fast : HaveTheFastItems mid g = record { along = refl; across = refl; restraint = refl } in
       issues-same lists mid (command-same lists mid refl refl refl refl refl) (issues g n t)
       ∙ issues-with mid g n fast t
-      ∙ issues-under_way lists (record { given = mid; closed = h.past.closed + 1 }) n t at.remains.feeds on (omega (arith, upto, all))
+      ∙ issues-under_way lists (record { given = mid; closed = u }) n t at.feeds on (omega (arith, upto, all))
 
-  pub closes : (t : ℕ) (cs : List Command) → t ≡ h.past.closed + 1 → issues_with (parts_of lists) g h.cycle t ≡ issues_with (parts_of lists) g h.cycle h.past.closed ++ map (issue_at t) cs
+-- so what it issued so far is what the cycle issues up to the closed tick
+pub issued-now : (lists : SensorLists) (n : ℕ) (h : History) (c : SplitContents) (rest : Remaining) → RemainsAt lists n h c rest → issues_with (parts_of lists) h.past.given n h.past.closed ≡ issues lists n h.past.closed
+issued-now lists n h c rest at = issued lists n h c rest at h.past.closed at.core_is.whole_is.core_is.within at.within h.past.closed (omega arith)
+
+module _ (lists : SensorLists) (n : ℕ) (h : History) (c c' : SplitContents) (rest : Remaining) (at : IsOpenAt lists n h c rest) (stands : SplitCoreStandsFor c' (record h { past = after_step h.past Close; asking = false })) where
+  upto-next : (t : ℕ) → t ≤ h.past.closed + 1 → issues_with (parts_of lists) h.past.given n t ≡ issues lists n t
+  upto-next t upto =
+      let below = at.below in
+      issued lists n h c rest at.remains (h.past.closed + 1) (within-merged c' (record h { past = after_step h.past Close; asking = false }) stands) (omega (arith, below)) t upto
+
+  pub closes : (t : ℕ) (cs : List Command) → t ≡ h.past.closed + 1 → issues_with (parts_of lists) h.past.given h.cycle t ≡ issues_with (parts_of lists) h.past.given h.cycle h.past.closed ++ map (issue_at t) cs
       → (h' : History) × (h'.past.closed ≡ t) × RemainsAt lists n h' c' rest × (t ≡ h.past.closed + 1) × (issues lists n t ≡ issues lists n h.past.closed ++ map (issue_at t) cs)
   closes t cs next adds =
-      let own : issues_with (parts_of lists) g n t ≡ issues_with (parts_of lists) g n h.past.closed ++ map (issue_at t) cs = subst (λ (m : ℕ). issues_with (parts_of lists) g m t ≡ issues_with (parts_of lists) g m h.past.closed ++ map (issue_at t) cs) at.remains.cycle_is adds in (
+      let g = h.past.given in
+      let own : issues_with (parts_of lists) g n t ≡ issues_with (parts_of lists) g n h.past.closed ++ map (issue_at t) cs = subst (λ (m : ℕ). issues_with (parts_of lists) g m t ≡ issues_with (parts_of lists) g m h.past.closed ++ map (issue_at t) cs) at.remains.cycle_is adds in
+      (
         record h { past = after_step h.past Close; asking = false },
         sym next,
         record {
@@ -269,7 +278,7 @@ module _ (lists : SensorLists) (n : ℕ) (h : History) (c c' : SplitContents) (r
           rests = at.remains.rests;
         },
         next,
-        sym (issued t (omega (arith, next))) ∙ own ∙ ap (λ xs. xs ++ map (issue_at t) cs) (issued h.past.closed (omega arith)),
+        sym (upto-next t (omega (arith, next))) ∙ own ∙ ap (λ xs. xs ++ map (issue_at t) cs) (upto-next h.past.closed (omega arith)),
       )
 
 -- ---- the sensor that is waited for

@@ -16,3 +16,4 @@ pub mod Skips
 pub mod RestLemmas
 pub mod AnswerLemmas
 pub mod RestRuns
+pub mod RestBegins

@@ -32,11 +32,11 @@ pub feed-front : (s : Sensor) (last : ℕ) (xs ys : List Item) → IsFeedAfter s
 feed-front s last [] ys h = tt
 feed-front s last (x ∷ xs) ys h = (h.0, h.1, feed-front s x.moment xs ys h.2)
 
-feed-back : (s : Sensor) (last : ℕ) (xs ys : List Item) → IsFeedAfter s last (xs ++ ys) → IsFeedAfter s (mark_from last xs) ys
+pub feed-back : (s : Sensor) (last : ℕ) (xs ys : List Item) → IsFeedAfter s last (xs ++ ys) → IsFeedAfter s (mark_from last xs) ys
 feed-back s last [] ys h = h
 feed-back s last (x ∷ xs) ys h = feed-back s x.moment xs ys h.2
 
-feed-past : (s : Sensor) (last z : ℕ) (ys : List Item) → z ≤ last → IsFeedAfter s last ys → All (λ y. z < y.moment) ys
+pub feed-past : (s : Sensor) (last z : ℕ) (ys : List Item) → z ≤ last → IsFeedAfter s last ys → All (λ y. z < y.moment) ys
 feed-past s last z [] low h = All-nil (λ y. z < y.moment)
 feed-past s last z (y ∷ ys) low h =
     let rises = refusal_of-rises s last y h.0 in

@@ -7,6 +7,7 @@ use Rattle.edr_items.specs.declared.Item.{Item}
 use Rattle.edr_items.specs.Item.{mark_of}
 use Rattle.edr_items.specs.SensorLists.{SensorLists, AreFeeds, horizon_of, items_of}
 use Rattle.edr_definitions.specs.Commands.{issue_at, issues}
+use Rattle.edr_definitions.specs.Schedule.{BeginsWith}
 use Rattle.edr_capture.specs.Capture.{StandsFor}
 use Rattle.edr_core.specs.declared.Closing.{Closing}
 use Rattle.edr_core.specs.declared.Closing.TheVariants.{Waiting, Closed}
@@ -45,6 +46,18 @@ pub record RemainsAt (lists : SensorLists) (n : ℕ) (h : History) (core : Split
   pub within : h.past.closed ≤ horizon_of lists
   pub parts_are : AreSlotsOf h.parts (parts_of lists)
   pub rests : (s : Sensor) → IsRest s (items_of s lists) (items_of s h.past.given) (items_of s rest.left) (items_of s (kept_lists rest.captures))
+
+-- the core was told h of these lists: of the fast sensors beginnings with these last moments, and parts of the whole lists
+pub record WasTold (lists : SensorLists) (h : History) (core : SplitContents) (along across restraint : ℕ) : Type 0 where
+  pub core_is : SplitCoreStandsFor core h
+  pub within : h.past.closed ≤ horizon_of lists
+  pub parts_are : AreSlotsOf h.parts (parts_of lists)
+  pub along_begins : BeginsWith lists.along h.past.given.along
+  pub across_begins : BeginsWith lists.across h.past.given.across
+  pub restraint_begins : BeginsWith lists.restraint h.past.given.restraint
+  pub along_last : along ≡ mark_of h.past.given.along
+  pub across_last : across ≡ mark_of h.past.given.across
+  pub restraint_last : restraint ≡ mark_of h.past.given.restraint
 
 -- it was told something
 pub record Remains (lists : SensorLists) (n : ℕ) (core : SplitContents) (rest : Remaining) : Type 0 where

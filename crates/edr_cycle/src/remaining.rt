@@ -28,6 +28,29 @@ pub struct Remaining<'a> {
     pub captures: Captures,
 }
 
+impl<'a> Remaining<'a> {
+    ghost use Rattle.edr_core.specs.Captures.{no_captures};
+    ghost use Rattle.edr_core.specs.SplitContents.{SplitContents};
+    ghost use Rattle.edr_cycle.specs.Remaining.{WasTold};
+
+    /// What is left past these last moments of the sensors 1, 2 and 8, and all of the slow sensors.
+    pub fn after(
+        feeds: &'a Feeds,
+        along: u32,
+        across: u32,
+        restraint: u32,
+        captures: Captures,
+    ) -> Remaining<'a>
+        requires empty { captures ≡ no_captures }
+        ensures { (h : History) (core : SplitContents) → WasTold feeds.now h core along across restraint → RemainsAt feeds.now h.cycle h core result }
+    {
+        Remaining {
+            left: Left::after(feeds, &[along, across, 0, 0, 0, 0, 0, restraint]),
+            captures,
+        }
+    }
+}
+
 // Takes the sensor's next item, which is no longer left: the core takes it, unless it knows that moment of a slow sensor.
 fn give(rest: &mut Remaining<'_>, core: &mut SplitCore, sensor: Sensor)
     requires { (f : SensorLists) × (n : ℕ) × (h : History) × HasNext f n h core.old rest.old sensor }
