@@ -1,5 +1,5 @@
 -- The parts that a split core asks for, given from captures, and the ticks that it closes.
-use Rattle.std.proofs.Common.{arith, refl, ap, sym, subst, ◌≡◌, ◌∙◌, ℕ, ◌+◌, ◌<◌, ◌≤◌, Bool, true, false, cond, ◌&&◌, not, nat_eq, Some, None, Option, Ok, Err, Result, List, [], ◌∷◌, ◌++◌, map, append-nil}
+use Rattle.std.proofs.Common.{arith, refl, ap, sym, subst, ◌≡◌, ◌∙◌, ℕ, ◌+◌, ◌<◌, ◌≤◌, Bool, true, false, cond, ◌&&◌, Some, None, Option, Ok, Err, Result, List, [], ◌∷◌, ◌++◌, map, append-nil}
 use Rattle.std.specs.Prelude.{is_some, is_none, IsSome, OnOk, OnErr, IfErr, All, find}
 use Rattle.std.specs.Option.{option_map_or}
 use Rattle.std.proofs.lemmas.Bool.{eqb-true}
@@ -15,7 +15,7 @@ use Rattle.edr_record.specs.declared.Command.{Command}
 use Rattle.edr_record.specs.declared.Command.TheVariants.{Take, Lock, Done}
 use Rattle.edr_definitions.specs.Commands.{Issue, issue_at, issues}
 use Rattle.edr_definitions.specs.Schedule.{Progress, Close, after_step, BeginsWith, IsUnderWay}
-use Rattle.edr_definitions.proofs.MarkLaws.{AreFeeds-each, feed-next, horizon-least, horizon-above}
+use Rattle.edr_definitions.proofs.MarkLaws.{feed-next, horizon-least, horizon-above}
 use Rattle.edr_capture.specs.Capture.{StandsFor}
 use Rattle.edr_capture.specs.SensorPart.{SensorPart, part, part_slots, IsOfSensor}
 use Rattle.edr_capture.proofs.PartLemmas.{part-later}
@@ -27,8 +27,8 @@ use Rattle.edr_core.specs.declared.ask.PartRefused.{PartRefused}
 use Rattle.edr_core.specs.declared.candidate.Issued.{Issued}
 use Rattle.edr_core.specs.Answers.{commands_put}
 use Rattle.edr_core.specs.Captures.{kept_lists}
-use Rattle.edr_core.specs.Parts.{AreSlotsOf, parts_of, part_in, is_part_of, command_with, issue_with, issues_with, HaveTheFastItems}
-use Rattle.edr_core.specs.SplitHistory.{History, after_part, Answer, Waits, Asks, Lacks, Closes, is_zero_next, is_missing, missing_part, due, slow_sensors}
+use Rattle.edr_core.specs.Parts.{parts_of, part_in, is_part_of, command_with, issue_with, issues_with, HaveTheFastItems}
+use Rattle.edr_core.specs.SplitHistory.{History, after_part, Answer, Waits, Asks, Lacks, Closes, is_zero_next, is_missing, missing_part, due}
 use Rattle.edr_core.specs.SplitContents.{SplitContents}
 use Rattle.edr_core.specs.SplitStandsFor.{SplitCoreStandsFor}
 use Rattle.edr_core.specs.SplitAnswers.{part_refusal_of}
@@ -265,8 +265,7 @@ module _ (lists : SensorLists) (n : ℕ) (h : History) (c c' : SplitContents) (r
       → (h' : History) × (h'.past.closed ≡ t) × RemainsAt lists n h' c' rest × (t ≡ h.past.closed + 1) × (issues lists n t ≡ issues lists n h.past.closed ++ map (issue_at t) cs)
   closes t cs next adds =
       let g = h.past.given in
-      let own : issues_with (parts_of lists) g n t ≡ issues_with (parts_of lists) g n h.past.closed ++ map (issue_at t) cs = subst (λ (m : ℕ). issues_with (parts_of lists) g m t ≡ issues_with (parts_of lists) g m h.past.closed ++ map (issue_at t) cs) at.remains.cycle_is adds in
-      (
+      let own : issues_with (parts_of lists) g n t ≡ issues_with (parts_of lists) g n h.past.closed ++ map (issue_at t) cs = subst (λ (m : ℕ). issues_with (parts_of lists) g m t ≡ issues_with (parts_of lists) g m h.past.closed ++ map (issue_at t) cs) at.remains.cycle_is adds in (
         record h { past = after_step h.past Close; asking = false },
         sym next,
         record {

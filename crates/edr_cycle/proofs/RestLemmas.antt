@@ -1,6 +1,6 @@
 -- What is left of a cycle, as items of it are given and its parts are answered.
-use Rattle.std.proofs.Common.{arith, refl, ap, sym, subst, ◌≡◌, ◌∙◌, ℕ, ◌+◌, ◌<◌, ◌≤◌, inl, inr, Bool, true, false, cond, not, nat_eq, Some, None, Option, Ok, Err, Result, List, [], ◌∷◌, ◌++◌, append_assoc, append-nil, ◌↔◌}
-use Rattle.std.specs.Prelude.{is_some, is_none, IsSome, IsOk, OnOk, OnErr, IfErr, All, find}
+use Rattle.std.proofs.Common.{arith, refl, ap, sym, subst, ◌≡◌, ◌∙◌, ℕ, ◌+◌, ◌<◌, ◌≤◌, inl, inr, None, Ok, Err, Result, List, [], ◌∷◌, ◌++◌, append_assoc, ◌↔◌}
+use Rattle.std.specs.Prelude.{IsOk, OnOk, OnErr, All}
 use Rattle.std.proofs.lemmas.Bool.{cases_lt}
 use Rattle.std.proofs.lemmas.List.Elements.{All-nil, All-cons}
 use Rattle.edr_items.specs.declared.TheConstants.{LONGEST_GAP}
@@ -9,23 +9,20 @@ use Rattle.edr_items.specs.declared.Sensor.TheVariants.{Along, Across, Speed, Th
 use Rattle.edr_items.specs.declared.Item.{Item}
 use Rattle.edr_items.specs.Sensor.{IsSlow}
 use Rattle.edr_items.specs.Item.{refusal_of, mark_of, mark_from, IsFeed, IsFeedAfter}
-use Rattle.edr_items.specs.SensorLists.{SensorLists, items_of, with_items, horizon_of, AreFeeds}
+use Rattle.edr_items.specs.SensorLists.{SensorLists, items_of, with_items}
 use Rattle.edr_items.proofs.FeedLemmas.{refusal_of-rises}
 use Rattle.edr_definitions.specs.Schedule.{Give, IsAllowed, with_item}
-use Rattle.edr_definitions.proofs.MarkLaws.{AreFeeds-each, feed-next, mark-push, horizon-least}
+use Rattle.edr_definitions.proofs.MarkLaws.{AreFeeds-each, feed-next, mark-push}
 use Rattle.edr_capture.specs.Capture.{StandsFor}
-use Rattle.edr_capture.specs.SensorPart.{SensorPart, part, part_slots, IsOfSensor}
 use Rattle.edr_capture.proofs.CaptureLemmas.{stands-push}
-use Rattle.edr_capture.proofs.PartLemmas.{part-later}
 use Rattle.edr_core.specs.declared.captures.Captures.{Captures}
 use Rattle.edr_core.specs.Captures.{kept_lists, with_kept, IsLater}
-use Rattle.edr_core.specs.Parts.{AreSlotsOf, parts_of}
 use Rattle.edr_core.specs.SplitHistory.{History, after_item}
 use Rattle.edr_core.specs.SplitContents.{SplitContents}
 use Rattle.edr_core.specs.SplitStandsFor.{SplitCoreStandsFor}
-use Rattle.edr_core.proofs.CaptureLemmas.{mark-kept, range-kept}
+use Rattle.edr_core.proofs.CaptureLemmas.{mark-kept}
 use Rattle.edr_cycle.specs.declared.remaining.Remaining.{Remaining}
-use Rattle.edr_cycle.specs.Remaining.{Keeps, IsRest, RemainsAt, HasNext, IsOpenAt, IsAsked, SameAsk, count_left}
+use Rattle.edr_cycle.specs.Remaining.{Keeps, IsRest, RemainsAt, HasNext, IsAsked, SameAsk}
 
 -- ---- a feed in two
 pub feed-front : (s : Sensor) (last : ℕ) (xs ys : List Item) → IsFeedAfter s last (xs ++ ys) → IsFeedAfter s last xs

@@ -1,9 +1,9 @@
 -- While the rest of a cycle is done by one thread, what its closed ticks issued is committed.
-use Rattle.std.proofs.Common.{arith, ap, sym, subst, ◌≡◌, ◌∙◌, ℕ, ◌+◌, ◌-◌, ◌*◌, ◌/◌, ◌<◌, ◌≤◌, Bool, Option, List, [], ◌∷◌, ◌++◌, map, length, Result, Ok, Err, refl}
-use Rattle.std.specs.Prelude.{IsErr, drop}
+use Rattle.std.proofs.Common.{arith, ap, sym, subst, ◌≡◌, ◌∙◌, ℕ, ◌+◌, ◌-◌, ◌*◌, ◌/◌, ◌≤◌, Bool, Option, List, ◌++◌, map, length, Result, Ok, Err, refl}
+use Rattle.std.specs.Prelude.{IsErr}
 use Rattle.std.proofs.lemmas.List.{length-append, length-map}
 use Rattle.edr_items.specs.SensorLists.{SensorLists, horizon_of}
-use Rattle.edr_definitions.specs.Commands.{Issue, issue_at, issues}
+use Rattle.edr_definitions.specs.Commands.{issue_at, issues}
 use Rattle.edr_record.specs.declared.Command.{Command}
 use Rattle.edr_image.specs.Logged.{Logged}
 use Rattle.edr_banks.specs.Opened.{Opened}

@@ -3,7 +3,7 @@
 ghost use Rattle.std.specs.Prelude.{◌≡◌, ◌+◌, ◌<◌, ◌≤◌, ◌*◌, ◌/◌, ℕ, None, false, length, All};
 ghost use Rattle.edr_device.specs.Lent.{Lent};
 ghost use Rattle.edr_items.specs.Sensor.{IsSlow};
-ghost use Rattle.edr_items.specs.SensorLists.{SensorLists, horizon_of, items_of};
+ghost use Rattle.edr_items.specs.SensorLists.{SensorLists, AreFeeds, horizon_of, items_of};
 ghost use Rattle.edr_definitions.specs.Commands.{issues};
 ghost use Rattle.edr_image.specs.Image.{image_size};
 ghost use Rattle.edr_core.specs.SplitHistory.{History, missing_part};
@@ -42,7 +42,8 @@ impl<'a> Remaining<'a> {
         captures: Captures,
     ) -> Remaining<'a>
         requires empty { captures ≡ no_captures }
-        ensures { (h : History) (core : SplitContents) → WasTold feeds.now h core along across restraint → RemainsAt feeds.now h.cycle h core result }
+        ensures feeds { AreFeeds feeds.now }
+        ensures remains { (h : History) (core : SplitContents) → WasTold feeds.now h core along across restraint → RemainsAt feeds.now h.cycle h core result }
     {
         Remaining {
             left: Left::after(feeds, &[along, across, 0, 0, 0, 0, 0, restraint]),

@@ -1,5 +1,4 @@
 use Rattle.std.proofs.Common.{arith, ◌∙◌, ◌≡◌, ◌+◌}
-use Rattle.edr_items.specs.SensorLists.{SensorLists}
 use Rattle.edr_core.specs.Answers.{commands_put}
 use Rattle.edr_core.specs.Parts.{parts_of}
 use Rattle.edr_core.specs.declared.Closing.TheVariants.{Closed}

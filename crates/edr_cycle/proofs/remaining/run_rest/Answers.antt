@@ -1,4 +1,4 @@
-use Rattle.std.proofs.Common.{arith, refl, ◌∙◌, ◌<◌, ◌≡◌, ◌+◌, ℕ}
+use Rattle.std.proofs.Common.{arith, refl, ◌∙◌, ◌<◌, ◌≡◌, ℕ}
 use Rattle.edr_items.specs.SensorLists.{SensorLists, horizon_of}
 use Rattle.edr_core.specs.Answers.{commands_put}
 use Rattle.edr_core.specs.SplitHistory.{History}
