@@ -17,3 +17,4 @@ pub mod RestLemmas
 pub mod AnswerLemmas
 pub mod RestRuns
 pub mod RestBegins
+pub mod FreshRest
