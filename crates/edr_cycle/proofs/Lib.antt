@@ -13,3 +13,8 @@ pub mod StartLemmas
 pub mod Keeping
 pub mod Acknowledging
 pub mod Skips
+pub mod RestLemmas
+pub mod AnswerLemmas
+pub mod RestRuns
+pub mod RestBegins
+pub mod FreshRest

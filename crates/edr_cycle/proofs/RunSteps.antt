@@ -42,14 +42,14 @@ pub record Runs {D : Type 0} (content : D → Option (List ℕ)) (settled : D �
   pub commits : Commits {T = Unit {0}} {E = Unit {0}} content settled since clock good (issues_between given.progress.given n base given.progress.closed) (Ok tt) b b' l l' d d'
 
 -- ---- what is issued between two ticks
-drop_own : {X : Type 0} (xs : List X) → drop (length xs) xs ≡ []
+pub drop_own : {X : Type 0} (xs : List X) → drop (length xs) xs ≡ []
 drop_own [] = refl
 drop_own (x ∷ xs) = drop_own xs
 
 drop_same : {X : Type 0} (xs ys zs : List X) → ys ≡ xs ++ zs → drop (length xs) ys ≡ zs
 drop_same xs ys zs is = ap (drop (length xs)) is ∙ drop-append_seam xs zs
 
-issues-upto : (f : SensorLists) (n a t : ℕ) → a ≤ t → (more : List Issue) × (issues f n t ≡ issues f n a ++ more)
+pub issues-upto : (f : SensorLists) (n a t : ℕ) → a ≤ t → (more : List Issue) × (issues f n t ≡ issues f n a ++ more)
 issues-upto f n a t from =
     let more = issues-more f n a (t - a) in
     let whole : a + (t - a) ≡ t = omega (arith, from) in
@@ -60,10 +60,10 @@ between-whole f n a t from =
     let more = issues-upto f n a t from in
     more.1 ∙ ap (λ xs. issues f n a ++ xs) (sym (drop_same (issues f n a) (issues f n t) more.0 more.1))
 
-between-length : (f : SensorLists) (n a t : ℕ) → a ≤ t → length (issues f n t) ≡ length (issues f n a) + length (issues_between f n a t)
+pub between-length : (f : SensorLists) (n a t : ℕ) → a ≤ t → length (issues f n t) ≡ length (issues f n a) + length (issues_between f n a t)
 between-length f n a t from = ap length (between-whole f n a t from) ∙ length-append (issues f n a) (issues_between f n a t)
 
-between-next : (f : SensorLists) (n a t t' : ℕ) (new : List Issue) → a ≤ t → issues f n t' ≡ issues f n t ++ new → issues_between f n a t' ≡ issues_between f n a t ++ new
+pub between-next : (f : SensorLists) (n a t t' : ℕ) (new : List Issue) → a ≤ t → issues f n t' ≡ issues f n t ++ new → issues_between f n a t' ≡ issues_between f n a t ++ new
 between-next f n a t t' new from adds =
     drop_same (issues f n a) (issues f n t') (issues_between f n a t ++ new) (adds ∙ ap (λ xs. xs ++ new) (between-whole f n a t from) ∙ append_assoc (issues f n a) (issues_between f n a t) new)
 

@@ -3,8 +3,9 @@ ghost use Rattle.std.specs.Prelude.{◌≡◌, ◌≤◌, ◌<◌, ◌^◌, ◌+
 ghost use Rattle.edr_device.specs.Memory.{memory_image};
 ghost use Rattle.edr_items.specs.SensorLists.{IsLevel};
 
-use crate::{StartFault, run_alone, start};
-use edr_banks::{Ack, Applied, BankView, Banks, Choice, CycleReport, Found, Kind};
+use crate::{Parts, Remaining, StartFault, run_alone, run_rest, start};
+use edr_banks::{Ack, Applied, BankView, Banks, Choice, CycleReport, Found, Kind, Log};
+use edr_core::{Captures, SplitCore};
 use edr_device::{Fused, MemNvm, Nvm};
 use edr_items::{Feeds, Item, Sensor, level_is_none_lagging};
 use edr_layout::OPEN_GATE;
@@ -316,6 +317,39 @@ fn pretensioner_overwritten(rt: HostRuntime) -> Result<(), Fail> {
     assert_eq!(rt; event_at(&found, 1).map(|r| r.locked), Some(false));
     run_cycle(alloc, &mut memory, 0, &feeds, 0)?;
     assert_found(&rt, &retrieved(alloc, &mut memory)?, &[(1, 3), (2, 4)]);
+    Ok(())
+}
+
+// Runs a whole cycle over a split core, and answers its asks from captures.
+fn run_split(alloc: Global, memory: &mut MemNvm, feeds: &Feeds) -> Result<Log, Fail> {
+    let started = start(alloc, memory, feeds.horizon())?;
+    let core = SplitCore::open(alloc, started.number())?;
+    let captures = Captures::new(alloc)?;
+    let Parts {
+        mut banks,
+        mut log,
+        ..
+    } = started.parts();
+    let rest = Remaining::after(feeds, 0, 0, 0, captures);
+    run_rest(core, feeds, rest, &mut banks, memory, &mut log)?;
+    Ok(log)
+}
+
+#[test]
+fn asks_are_answered(rt: HostRuntime) -> Result<(), Fail> {
+    let alloc = rt.alloc();
+    let mut memory = formatted(alloc, 2, Choice::Keep, 0)?;
+    let feeds = feeds_of(alloc, struck(6200, &[]))?;
+    let log = run_split(alloc, &mut memory, &feeds)?;
+    assert_eq!(rt; log.acks(), crash_acks(1).as_slice());
+    let record = event_at(&retrieved(alloc, &mut memory)?, 0).ok_or("an event")?;
+    assert_eq!(rt; record.pre.speed, [Some(50); 11]);
+    assert_eq!(rt; record.pre.throttle, [Some(20); 11]);
+    assert_eq!(rt; record.pre.brake, [Some(false); 11]);
+    assert_eq!(rt;
+        (record.pre.belt, record.pre.lamp),
+        (Some(true), Some(false))
+    );
     Ok(())
 }
 

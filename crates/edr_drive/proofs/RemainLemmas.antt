@@ -1,0 +1,93 @@
+-- What a desk that asks for parts leaves to the closing path.
+use Rattle.std.proofs.Common.{arith, ◌≡◌, ◌∙◌, ◌<◌, ◌≤◌, ℕ, List, [], get_or, sym, ap, subst}
+use Rattle.std.specs.Prelude.{All}
+use Rattle.std.specs.List.{Contains}
+use Rattle.edr_items.specs.declared.Sensor.{Sensor}
+use Rattle.edr_items.specs.declared.Sensor.TheVariants.{Along, Across, Speed, Throttle, Brake, Belt, Lamp, Restraint}
+use Rattle.edr_items.specs.declared.Item.{Item}
+use Rattle.edr_items.specs.Item.{IsFeed, mark_of}
+use Rattle.edr_items.specs.SensorLists.{SensorLists, AreFeeds, horizon_of, items_of}
+use Rattle.edr_definitions.specs.Commands.{issues}
+use Rattle.edr_definitions.specs.Schedule.{BeginsWith}
+use Rattle.edr_capture.specs.SensorPart.{SensorPart, part_slots}
+use Rattle.edr_core.specs.Parts.{AreSlotsOf, issues_with, parts_of}
+use Rattle.edr_core.specs.SplitHistory.{History}
+use Rattle.edr_cycle.specs.declared.remaining.Remaining.{Remaining}
+use Rattle.edr_cycle.specs.Remaining.{Remains, RemainsAt, WasTold}
+use Rattle.edr_cycle.proofs.AnswerLemmas.{issued-now}
+use Rattle.edr_cycle.proofs.RestBegins.{part-begun}
+use Rattle.edr_cycle.proofs.RestLemmas.{feed-front}
+use Rattle.edr_loops.specs.declared.fast_inlets.FastInlets.{FastInlets}
+use Rattle.edr_loops.specs.declared.part_inlets.PartInlets.{PartInlets}
+use Rattle.edr_loops.specs.declared.split_desk.SplitDesk.{SplitDesk}
+use Rattle.edr_loops.specs.FastInlets.{AreFastFeeds, HaveFast}
+use Rattle.edr_loops.specs.Held.{issues_out}
+use Rattle.edr_loops.specs.PartInlets.{IsTaken}
+use Rattle.edr_loops.specs.PartInlets.{parts_of as parts_of_inlets}
+use Rattle.edr_loops.specs.ServiceLanes.{ArePartsOf, FastBegin, fast_taken, slow_taken}
+use Rattle.edr_loops.specs.SlowPlaces.{AreParts, IsPartOf}
+use Rattle.edr_loops.specs.SplitDesks.{Stands}
+
+-- ---- the parts
+in-list : (s : Sensor) (xs : List Item) (ps : List SensorPart) (q : SensorPart) → IsFeed s xs → AreParts s xs ps → Contains ps q → part_slots s xs q.zero ≡ q.slots
+in-list s xs ps q feed all inside =
+    let own : IsPartOf s xs q = subst (λ (p : SensorPart). IsPartOf s xs p) inside.2 (all inside.0 q inside.1) in
+    part-begun s xs own.many q feed own.is own.reached
+
+none-in : (q : SensorPart) → Contains [] q → ⊥
+none-in q inside = let low = inside.1 in omega (arith, low)
+
+-- each part that came out of its sensor's ring is that of the whole list
+part-whole : (f : SensorLists) (i : PartInlets) (q : SensorPart) → AreFeeds f → ArePartsOf f i → IsTaken (slow_taken i) q → parts_of f q.sensor q.zero ≡ q.slots
+part-whole f i q feeds are taken = by q.sensor taken where
+  by : (s : Sensor) → Contains (parts_of_inlets s (slow_taken i)) q → part_slots s (items_of s f) q.zero ≡ q.slots
+  by Along inside = absurd (none-in q inside)
+  by Across inside = absurd (none-in q inside)
+  by Speed inside = in-list Speed f.speed (slow_taken i).speed q feeds.speed are.speed inside
+  by Throttle inside = in-list Throttle f.throttle (slow_taken i).throttle q feeds.throttle are.throttle inside
+  by Brake inside = in-list Brake f.brake (slow_taken i).brake q feeds.brake are.brake inside
+  by Belt inside = in-list Belt f.belt (slow_taken i).belt q feeds.belt are.belt inside
+  by Lamp inside = in-list Lamp f.lamp (slow_taken i).lamp q feeds.lamp are.lamp inside
+  by Restraint inside = absurd (none-in q inside)
+
+parts-whole : (f : SensorLists) (i : PartInlets) (parts : List SensorPart) → AreFeeds f → ArePartsOf f i → All (IsTaken (slow_taken i)) parts → AreSlotsOf parts (parts_of f)
+parts-whole f i parts feeds are taken = λ k d lt. part-whole f i (get_or parts k d) feeds are (taken k d lt)
+
+-- ---- what the core was told
+fast-feeds : (f : SensorLists) (i : FastInlets) → AreFeeds f → FastBegin f i → AreFastFeeds (fast_taken i)
+fast-feeds f i feeds begins = record {
+  along = feed-front Along 0 (fast_taken i).along begins.along.0 (subst (λ (xs : List Item). IsFeed Along xs) begins.along.1 feeds.along);
+  across = feed-front Across 0 (fast_taken i).across begins.across.0 (subst (λ (xs : List Item). IsFeed Across xs) begins.across.1 feeds.across);
+  restraint = feed-front Restraint 0 (fast_taken i).restraint begins.restraint.0 (subst (λ (xs : List Item). IsFeed Restraint xs) begins.restraint.1 feeds.restraint);
+}
+
+pub desk-was-told : (f : SensorLists) (n : ℕ) (d : SplitDesk) → AreFeeds f → FastBegin f d.fast → ArePartsOf f d.parts → (s : Stands n (horizon_of f) d) → WasTold f s.history d.core d.last.along d.last.across d.last.restraint
+desk-was-told f n d feeds begins are s =
+    let have : HaveFast (fast_taken d.fast) s.history.past.given = s.told.taken_are (fast-feeds f d.fast feeds begins) in
+    record {
+      core_is = s.told.core_is;
+      within = s.told.within;
+      parts_are = parts-whole f d.parts s.history.parts feeds are s.told.parts_are;
+      along_begins = subst (λ (xs : List Item). BeginsWith f.along xs) (sym have.along) begins.along;
+      across_begins = subst (λ (xs : List Item). BeginsWith f.across xs) (sym have.across) begins.across;
+      restraint_begins = subst (λ (xs : List Item). BeginsWith f.restraint xs) (sym have.restraint) begins.restraint;
+      along_last = ap (λ m. m.along) s.last_is ∙ ap mark_of (sym have.along);
+      across_last = ap (λ m. m.across) s.last_is ∙ ap mark_of (sym have.across);
+      restraint_last = ap (λ m. m.restraint) s.last_is ∙ ap mark_of (sym have.restraint);
+    }
+
+-- what remains of its cycle, by the number that the core has
+pub desk-remains : (f : SensorLists) (n : ℕ) (d : SplitDesk) (rest : Remaining) → (s : Stands n (horizon_of f) d) → RemainsAt f s.history.cycle s.history d.core rest → Remains f d.core.cycle d.core rest
+desk-remains f n d rest s at = record { history = s.history; remains = subst (λ (m : ℕ). RemainsAt f m s.history d.core rest) (sym s.told.core_is.cycle_is) at }
+
+pub desk-cycle : (f : SensorLists) (n : ℕ) (d : SplitDesk) → (s : Stands n (horizon_of f) d) → d.core.cycle ≡ n
+desk-cycle f n d s = s.told.core_is.cycle_is ∙ s.told.cycle_is
+
+-- what was sent, and then what is held, is what the cycle issues up to the closed tick
+pub desk-issued : (f : SensorLists) (n : ℕ) (d : SplitDesk) (rest : Remaining) → (s : Stands n (horizon_of f) d) → RemainsAt f s.history.cycle s.history d.core rest → issues f n d.core.closed ≡ issues_out d.outbox d.held
+desk-issued f n d rest s at =
+    let h = s.history in
+    let own : RemainsAt f n h d.core rest = subst (λ (m : ℕ). RemainsAt f m h d.core rest) s.told.cycle_is at in
+    ap (issues f n) s.told.core_is.closed_is
+    ∙ sym (issued-now f n h d.core rest own)
+    ∙ sym (s.told.issues_are (parts_of f) at.parts_are)
