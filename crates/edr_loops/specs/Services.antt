@@ -3,8 +3,9 @@ use Rattle.edr_items.specs.declared.Sensor.TheVariants.{Speed, Throttle, Brake, 
 use Rattle.edr_items.specs.SensorLists.{SensorLists}
 use Rattle.edr_loops.specs.declared.service.FastPlaces.{FastPlaces}
 use Rattle.edr_loops.specs.declared.service.SlowPlaces.{SlowPlaces}
-use Rattle.edr_loops.specs.Places.{Goes, IsBegun}
+use Rattle.edr_loops.specs.Places.{Goes, IsBegun, IsDealt}
 use Rattle.edr_loops.specs.SlowPlaces.{IsKept, KeepsOn}
+use Rattle.edr_loops.specs.Stands.{either}
 
 -- each fast sensor's place has sent first items of its list
 pub record AreFastBegun (f : SensorLists) (p : FastPlaces) : Type 0 where
@@ -33,3 +34,33 @@ pub record SlowKeepOn (f : SensorLists) (a b : SlowPlaces) : Type 0 where
   pub brake : KeepsOn Brake f.brake a.brake b.brake
   pub belt : KeepsOn Belt f.belt a.belt b.belt
   pub lamp : KeepsOn Lamp f.lamp a.lamp b.lamp
+
+-- of two hands one has each place
+pub record AreFastDealt (old mine rest : FastPlaces) : Type 0 where
+  pub along : IsDealt old.along mine.along rest.along
+  pub across : IsDealt old.across mine.across rest.across
+  pub restraint : IsDealt old.restraint mine.restraint rest.restraint
+
+pub record AreSlowDealt (old mine rest : SlowPlaces) : Type 0 where
+  pub speed : IsDealt old.speed mine.speed rest.speed
+  pub throttle : IsDealt old.throttle mine.throttle rest.throttle
+  pub brake : IsDealt old.brake mine.brake rest.brake
+  pub belt : IsDealt old.belt mine.belt rest.belt
+  pub lamp : IsDealt old.lamp mine.lamp rest.lamp
+
+-- the places of one hand, and where it has none those of the other
+abbrev pub either_fast : FastPlaces → FastPlaces → FastPlaces
+either_fast a b = record {
+  along = either a.along b.along;
+  across = either a.across b.across;
+  restraint = either a.restraint b.restraint;
+}
+
+abbrev pub either_slow : SlowPlaces → SlowPlaces → SlowPlaces
+either_slow a b = record {
+  speed = either a.speed b.speed;
+  throttle = either a.throttle b.throttle;
+  brake = either a.brake b.brake;
+  belt = either a.belt b.belt;
+  lamp = either a.lamp b.lamp;
+}

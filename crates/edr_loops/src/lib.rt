@@ -1,6 +1,7 @@
 //! The loops of the threads of a recorder, and what crosses between them.
 #![tactic(auto)]
 
+mod dealing;
 mod desk;
 #[cfg(test)]
 mod desk_tests;

@@ -2,9 +2,9 @@
 
 ghost use Rattle.std.specs.Prelude.{◌≡◌};
 ghost use Rattle.edr_board.specs.Seats.{board_of_watch};
-ghost use Rattle.edr_loops.specs.Places.{IsDealt};
 ghost use Rattle.edr_loops.specs.Stands.{AreBegun, AreDealt, GoOn, either_places};
 
+use crate::dealing::{deal_one, is_served_by};
 use crate::place::{Gate, Offered, Place, serve_some};
 use edr_board::Watch;
 use edr_items::{Feeds, Sensor};
@@ -29,19 +29,6 @@ pub struct Places {
 pub struct Stand {
     pub places: Places,
     pub watch: Watch,
-}
-
-// Deals a place to this hand, or leaves it.
-fn deal_one(place: &mut Option<Place>, mine: bool) -> Option<Place>
-    ensures { IsDealt place.old result place.new }
-{
-    if mine { place.take() } else { None }
-}
-
-// Worker w serves the sensors i with (i - 1) mod workers = w.
-fn is_served_by(sensor: Sensor, w: u32, workers: u32) -> bool {
-    let place = u32::from(sensor.number() - 1);
-    place.checked_rem(workers) == Some(w)
 }
 
 impl Places {
