@@ -78,7 +78,7 @@ pub later-raised : (t u : ℕ) (a b : SplitDesk) → t ≤ u → LaterUpTo t a b
 later-raised t u a b low h = record { same = h.same; stands = λ n e up s. h.stands n e (omega (arith, low, up)) s }
 
 -- what stands under a horizon stands under a greater one
-stands-under : (n e f : ℕ) (d : SplitDesk) → e ≤ f → Stands n e d → Stands n f d
+pub stands-under : (n e f : ℕ) (d : SplitDesk) → e ≤ f → Stands n e d → Stands n f d
 stands-under n e f d up s =
     let t = s.told in record {
       history = s.history;

@@ -44,7 +44,7 @@ keeping-part s xs z a b same next reached sends h =
     }
 
 -- ---- one place
-keeps-kept : (s : Sensor) (xs : List Item) (a b : Option SlowPlace) → KeepsOn s xs a b → IsKept s xs b
+pub keeps-kept : (s : Sensor) (xs : List Item) (a b : Option SlowPlace) → KeepsOn s xs a b → IsKept s xs b
 keeps-kept s xs None None h = tt
 keeps-kept s xs (Some a) (Some b) h = h.1
 keeps-kept s xs None (Some b) h = absurd h

@@ -263,3 +263,7 @@ stands-beside n e d seat posted watch s =
 
 pub later-beside : (d : SplitDesk) (seat : RecorderSeat) (watch : Watch) → board_of_recorder seat ≡ board_of_recorder d.seat → board_of_watch watch ≡ board_of_watch d.watch → Later d (record d { seat = seat; watch = watch })
 later-beside d seat watch recorder board = later-by 0 d (record d { seat = seat; watch = watch }) refl refl refl refl recorder board (λ n e low s. stands-beside n e d seat d.posted watch s)
+
+-- a gate or a closed tick is posted by the desk's seat
+pub later-seated : (d : SplitDesk) (seat : RecorderSeat) → board_of_recorder seat ≡ board_of_recorder d.seat → Later d (record d { seat = seat })
+later-seated d seat recorder = later-beside d seat d.watch recorder refl
