@@ -40,7 +40,9 @@ pub use crate::service::{FastPlaces, Service, SlowPlaces};
 pub use crate::service_lanes::{
     FastLanes, SlowLanes, make_fast_lanes, make_slow_lanes, settle_fast, settle_parts,
 };
-pub use crate::service_threads::{ServiceDone, SplitRecording, start_service, start_split_recorder};
+pub use crate::service_threads::{
+    ServiceDone, SplitRecording, start_service, start_split_recorder,
+};
 pub use crate::slow_place::SlowPlace;
 pub use crate::split_desk::SplitDesk;
 pub use crate::stand::{Places, Stand};
