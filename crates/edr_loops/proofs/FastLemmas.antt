@@ -1,13 +1,12 @@
 -- One more item of a fast sensor, one more mark of a slow one, and one more part.
-use Rattle.std.proofs.Common.{arith, ◌≡◌, ◌∙◌, ◌≤◌, ◌<◌, ◌+◌, ℕ, List, [], ◌∷◌, ◌++◌, refl, sym, ap, subst, None}
+use Rattle.std.proofs.Common.{arith, ◌≡◌, ◌≤◌, ℕ, List, [], ◌∷◌, ◌++◌, refl, sym, ap, subst, None}
 use Rattle.std.specs.Prelude.{All}
 use Rattle.std.specs.List.{Contains}
 use Rattle.std.proofs.lemmas.List.Elements.{All-weaker, Contains-append_left, Contains-append_right}
-use Rattle.edr_items.specs.declared.TheConstants.{LATEST_MOMENT}
 use Rattle.edr_items.specs.declared.Sensor.{Sensor}
 use Rattle.edr_items.specs.declared.Sensor.TheVariants as sensor
 use Rattle.edr_items.specs.declared.Item.{Item}
-use Rattle.edr_items.specs.Item.{IsFeedAfter, mark_of, refusal_of}
+use Rattle.edr_items.specs.Item.{mark_of, refusal_of}
 use Rattle.edr_items.specs.Sensor.{IsSlow}
 use Rattle.edr_items.specs.SensorLists.{SensorLists, items_of}
 use Rattle.edr_definitions.specs.Schedule.{with_item}

@@ -1,5 +1,5 @@
 -- One desk later than another.
-use Rattle.std.proofs.Common.{arith, ◌≡◌, ◌∙◌, ◌≤◌, ◌+◌, ℕ, max, refl, sym, subst}
+use Rattle.std.proofs.Common.{arith, ◌≡◌, ◌∙◌, ◌≤◌, ℕ, max, refl, sym, subst}
 use Rattle.edr_board.specs.Seats.{board_of_recorder, board_of_watch}
 use Rattle.edr_board.specs.FreezeSeats.{freeze_of_asker}
 use Rattle.edr_seats.specs.declared.part_inlet.PartInlet.{PartInlet}
@@ -13,7 +13,7 @@ use Rattle.edr_loops.specs.declared.part_inlets.PartInlets.{PartInlets}
 use Rattle.edr_loops.specs.declared.split_desk.SplitDesk.{SplitDesk}
 use Rattle.edr_loops.specs.ServiceLanes.{SameFastInlets, SamePartInlets}
 use Rattle.edr_loops.specs.Orders.{SameOutbox}
-use Rattle.edr_loops.specs.SplitDesks.{IsRecording, IsTold, Later, LaterUpTo, SameSplitDesk, Stands}
+use Rattle.edr_loops.specs.SplitDesks.{IsRecording, Later, LaterUpTo, SameSplitDesk, Stands}
 use Rattle.edr_loops.proofs.DeskLemmas.{outbox-again, outbox-self, tray-again, tray-self}
 
 -- ---- the same rings

@@ -1,16 +1,13 @@
 -- A slow sensor's place that goes on, and goes on again.
-use Rattle.std.proofs.Common.{◌≡◌, ◌∙◌, ℕ, ◌+◌, ◌≤◌, List, [], ◌∷◌, ◌++◌, Option, Some, None, ap, sym, subst, take}
+use Rattle.std.proofs.Common.{◌≡◌, ◌∙◌, ℕ, ◌≤◌, List, [], ◌∷◌, ◌++◌, Option, Some, None, ap, sym, subst, take}
 use Rattle.std.specs.Prelude.{All}
 use Rattle.std.proofs.lemmas.List.Elements.{All-cons, All-head, All-nil, All-push, All-tail}
 use Rattle.edr_items.specs.declared.Sensor.{Sensor}
 use Rattle.edr_items.specs.declared.Sensor.TheVariants.{Speed, Throttle, Brake, Belt, Lamp}
 use Rattle.edr_items.specs.declared.Item.{Item}
-use Rattle.edr_items.specs.Item.{mark_of}
 use Rattle.edr_items.specs.SensorLists.{SensorLists}
-use Rattle.edr_board.specs.declared.freeze_seats.Keeper.{Keeper}
 use Rattle.edr_capture.specs.SensorPart.{SensorPart, part}
-use Rattle.edr_seats.specs.Slow.{IsFreshSeat, SameSlowSeat, SlowSeatIsFor, mark_kept, parts_sent, sensor_of_slow}
-use Rattle.edr_seats.specs.SlowContents.{SlowContents}
+use Rattle.edr_seats.specs.Slow.{SameSlowSeat, SlowSeatIsFor, mark_kept, parts_sent, sensor_of_slow}
 use Rattle.edr_loops.specs.declared.slow_place.SlowPlace.{SlowPlace}
 use Rattle.edr_loops.specs.declared.service.SlowPlaces.{SlowPlaces}
 use Rattle.edr_loops.specs.SlowPlaces.{AreParts, IsKeeping, IsKept, IsPartOf, KeepsOn}

@@ -1,14 +1,12 @@
 -- What a desk stands for after a step of its core.
 use Rattle.std.proofs.Common.{arith, ◌≡◌, ◌≢◌, ◌∙◌, ◌≤◌, ◌<◌, ◌+◌, ℕ, Bool, true, false, cond, Option, Some, None, List, [], ◌∷◌, ◌++◌, map, refl, sym, ap, subst, append-nil, nat_eq, find}
 use Rattle.std.specs.Option.{option_map_or}
-use Rattle.edr_items.specs.declared.TheConstants.{LONGEST_GAP}
 use Rattle.edr_items.specs.declared.Sensor.{Sensor}
 use Rattle.edr_items.specs.declared.Sensor.TheVariants.{Along, Across, Speed, Throttle, Brake, Belt, Lamp, Restraint}
 use Rattle.edr_items.specs.Item.{mark_of}
-use Rattle.edr_items.specs.SensorLists.{SensorLists, horizon_of, items_of, sensors}
+use Rattle.edr_items.specs.SensorLists.{items_of}
 use Rattle.edr_definitions.specs.Commands.{Issue, issue_at}
 use Rattle.edr_definitions.specs.Schedule.{Progress, Close, after_step}
-use Rattle.edr_definitions.specs.Core.{commands_of}
 use Rattle.edr_definitions.proofs.MarkLaws.{horizon-least}
 use Rattle.edr_board.specs.declared.freeze_seats.Asker.{Asker}
 use Rattle.edr_board.specs.FreezeSeats.{IsReached, SlowMarks, grant_posted, last_zero, marks_read, open_zero}
@@ -28,7 +26,7 @@ use Rattle.edr_loops.specs.declared.orders.Outbox.{Outbox}
 use Rattle.edr_loops.specs.declared.split_desk.SplitDesk.{SplitDesk}
 use Rattle.edr_loops.specs.Held.{issues_held, issues_out}
 use Rattle.edr_loops.specs.Orders.{issues_of, orders_sent}
-use Rattle.edr_loops.specs.SplitDesks.{Agrees, HaveMarks, IsSettled, IsTold, Later, Stands, zero_of}
+use Rattle.edr_loops.specs.SplitDesks.{HaveMarks, IsSettled, Later, Stands, zero_of}
 use Rattle.edr_loops.proofs.FastLemmas.{all-reached}
 use Rattle.edr_loops.proofs.LaterLemmas.{later-by}
 use Rattle.edr_loops.proofs.SplitDeskLemmas.{closed-low}

@@ -1,28 +1,22 @@
 -- What a desk stands for after each of its steps.
-use Rattle.std.proofs.Common.{arith, ◌≡◌, ◌≢◌, ◌∙◌, ◌≤◌, ◌<◌, ◌+◌, ℕ, Bool, true, false, cond, nat_le, Option, Some, None, List, [], ◌∷◌, ◌++◌, ◌⊎◌, inl, inr, map, refl, sym, ap, subst, append-nil, Result, Ok, Err}
+use Rattle.std.proofs.Common.{arith, ◌≡◌, ◌≢◌, ◌∙◌, ◌≤◌, ◌<◌, ◌+◌, ℕ, Bool, true, false, cond, None, List, [], ◌∷◌, ◌++◌, ◌⊎◌, inl, inr, map, refl, sym, ap, subst, Result, Ok, Err}
 use Rattle.std.specs.Prelude.{All, OnErr, OnOk}
-use Rattle.std.specs.Option.{option_map_or}
 use Rattle.std.proofs.Math.Nat.{eq-or-lt_of_le}
 use Rattle.std.proofs.lemmas.List.Elements.{All-cons, All-nil, All-tail}
-use Rattle.std.proofs.lemmas.List.{map-append}
 use Rattle.edr_items.specs.declared.TheConstants.{LATEST_MOMENT, LONGEST_GAP}
 use Rattle.edr_items.specs.declared.Sensor.{Sensor}
 use Rattle.edr_items.specs.declared.Item.{Item}
-use Rattle.edr_items.specs.declared.ItemRefused.{ItemRefused}
-use Rattle.edr_items.specs.declared.ItemRefused.TheVariants.{Order, Moment, Range}
 use Rattle.edr_items.specs.Item.{mark_of, refusal_of}
-use Rattle.edr_items.specs.Sensor.{IsSlow, highest_of, lowest_of}
-use Rattle.edr_items.specs.SensorLists.{SensorLists, horizon_of, items_of, no_items}
-use Rattle.edr_definitions.specs.Commands.{Issue, commands, issue_at, issues}
+use Rattle.edr_items.specs.Sensor.{IsSlow}
+use Rattle.edr_items.specs.SensorLists.{horizon_of, items_of, no_items}
+use Rattle.edr_definitions.specs.Commands.{Issue, commands, issues}
 use Rattle.edr_definitions.specs.Schedule.{Progress, Give, Close, IsAllowed, after_step, with_item}
 use Rattle.edr_definitions.proofs.KeepLaws.{commands-start}
-use Rattle.edr_definitions.proofs.MarkLaws.{horizon-least}
 use Rattle.edr_definitions.proofs.WholeLaws.{issues-accept}
-use Rattle.edr_board.specs.Seats.{board_of_recorder, board_of_watch}
 use Rattle.edr_board.specs.declared.freeze_seats.Asker.{Asker}
-use Rattle.edr_board.specs.FreezeSeats.{IsReached, SameAsker, SlowMarks, freeze_of_asker, grant_posted, last_zero, mark_in, marks_read, open_zero, with_mark_of}
+use Rattle.edr_board.specs.FreezeSeats.{SameAsker, SlowMarks, grant_posted, last_zero, mark_in, marks_read, open_zero, with_mark_of}
 use Rattle.edr_capture.specs.SensorPart.{SensorPart}
-use Rattle.edr_core.specs.Parts.{AreSlotsOf, Slots, issue_with, issues_with}
+use Rattle.edr_core.specs.Parts.{Slots, issue_with, issues_with}
 use Rattle.edr_core.specs.SplitContents.{SplitContents}
 use Rattle.edr_core.specs.SplitHistory.{History, after_item, after_part, start_of}
 use Rattle.edr_core.specs.SplitStandsFor.{SplitCoreStandsFor, merged}
@@ -32,12 +26,12 @@ use Rattle.edr_loops.specs.declared.fast_inlets.FastInlets.{FastInlets}
 use Rattle.edr_loops.specs.declared.fast_inlets.FastMarks.{FastMarks}
 use Rattle.edr_loops.specs.declared.part_inlets.PartInlets.{PartInlets}
 use Rattle.edr_loops.specs.declared.split_desk.SplitDesk.{SplitDesk}
-use Rattle.edr_loops.specs.FastInlets.{AreFastFeeds, HaveFast, fast_marks_of, list_of, sensor_of, with_fast, with_fast_mark}
+use Rattle.edr_loops.specs.FastInlets.{AreFastFeeds, HaveFast, fast_marks_of, sensor_of, with_fast, with_fast_mark}
 use Rattle.edr_loops.specs.ServiceLanes.{FastItems, SlowParts, fast_taken, slow_taken}
 use Rattle.edr_loops.specs.Held.{issues_held}
 use Rattle.edr_loops.specs.Orders.{issues_of, orders_sent}
 use Rattle.edr_loops.specs.PartInlets.{IsTaken, with_part}
-use Rattle.edr_loops.specs.SplitDesks.{Agrees, Begins, HaveMarks, IsTold, Stands, zero_of}
+use Rattle.edr_loops.specs.SplitDesks.{Begins, HaveMarks, IsTold, Stands}
 use Rattle.edr_loops.proofs.FastLemmas.{all-taken, fast-beside, fast-front, fast-marks-with, fast-next, have-list, have-with, is-taken, mark-is, marks-beside, marks-same, marks-with_item}
 
 -- ---- how far the merge of a core has come

@@ -1,4 +1,4 @@
-use Rattle.std.proofs.Common.{arith, ap, ◌∙◌, ◌≡◌, ◌≤◌}
+use Rattle.std.proofs.Common.{arith, ap, ◌∙◌}
 use Rattle.edr_board.specs.Seats.{closed_posted, gate_posted}
 use Rattle.edr_loops.proofs.desk_tests.record_beside.Goals as goal
 

@@ -1,4 +1,4 @@
-use Rattle.std.proofs.Common.{arith, ◌≡◌, ◌≤◌, ◌<◌, ◌+◌}
+use Rattle.std.proofs.Common.{arith, ◌+◌}
 use Rattle.edr_loops.proofs.LaterLemmas.{later-raised}
 use Rattle.edr_loops.proofs.split_desk.SplitDesk.close_below.Goals as goal
 

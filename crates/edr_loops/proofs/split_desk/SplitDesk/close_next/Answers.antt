@@ -1,5 +1,4 @@
-use Rattle.std.proofs.Common.{arith, refl, sym, subst, ◌∙◌, ◌≡◌, ◌≤◌, ◌+◌, ℕ}
-use Rattle.edr_core.specs.Parts.{issues_with}
+use Rattle.std.proofs.Common.{arith, refl}
 use Rattle.edr_loops.proofs.LaterLemmas.{later-by, recording-later}
 use Rattle.edr_loops.proofs.SplitCloseLemmas.{adds-here, ask-closed, ask-later, ask-near, ask-reached, settled-not, settles, stands-ask, stands-closed, stands-waits}
 use Rattle.edr_loops.proofs.split_desk.SplitDesk.close_next.Goals as goal

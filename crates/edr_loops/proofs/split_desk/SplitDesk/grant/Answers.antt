@@ -1,4 +1,4 @@
-use Rattle.std.proofs.Common.{arith, refl, ap, ◌≡◌, ◌≤◌, ◌+◌, ℕ, Bool, cond}
+use Rattle.std.proofs.Common.{arith, refl}
 use Rattle.edr_loops.proofs.LaterLemmas.{later-by, recording-later}
 use Rattle.edr_loops.proofs.SplitDeskLemmas.{grant-near, stands-grant}
 use Rattle.edr_loops.proofs.split_desk.SplitDesk.grant.Goals as goal

@@ -1,4 +1,4 @@
-use Rattle.std.proofs.Common.{arith, refl}
+use Rattle.std.proofs.Common.{arith}
 use Rattle.edr_loops.proofs.LaterLemmas.{later-again, later-raised, recording-later}
 use Rattle.edr_loops.proofs.SplitCloseLemmas.{later-beside}
 use Rattle.edr_loops.proofs.split_desk.SplitDesk.record.Goals as goal

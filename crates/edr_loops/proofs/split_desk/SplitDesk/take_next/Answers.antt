@@ -1,4 +1,4 @@
-use Rattle.std.proofs.Common.{arith, ◌≤◌, ◌+◌}
+use Rattle.std.proofs.Common.{arith}
 use Rattle.edr_loops.proofs.LaterLemmas.{same-taken, recording-later}
 use Rattle.edr_loops.proofs.SplitDeskLemmas.{stands-take, stands-unfast}
 use Rattle.edr_loops.proofs.split_desk.SplitDesk.take_next.Goals as goal

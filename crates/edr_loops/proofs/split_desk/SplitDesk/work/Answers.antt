@@ -1,6 +1,6 @@
 use Rattle.std.proofs.Common.{arith, refl, subst, sym}
 use Rattle.edr_loops.specs.SplitDesks.{LaterUpTo}
-use Rattle.edr_loops.proofs.LaterLemmas.{later-again, later-raised, recording-later}
+use Rattle.edr_loops.proofs.LaterLemmas.{later-again, recording-later}
 use Rattle.edr_loops.proofs.SplitCloseLemmas.{later-beside}
 use Rattle.edr_loops.proofs.split_desk.SplitDesk.work.Goals.{in-None, in-Some+then-is_done, in-Some+else-is_done+then-read}
 use Rattle.edr_loops.proofs.split_desk.SplitDesk.work.Goals as goal
