@@ -6,7 +6,7 @@ use Rattle.std.proofs.lemmas.List.Elements.{All-weaker, Contains-append_left, Co
 use Rattle.edr_items.specs.declared.Sensor.{Sensor}
 use Rattle.edr_items.specs.declared.Sensor.TheVariants as sensor
 use Rattle.edr_items.specs.declared.Item.{Item}
-use Rattle.edr_items.specs.Item.{mark_of, refusal_of}
+use Rattle.edr_items.specs.Item.{IsFeedAfter, mark_of, refusal_of}
 use Rattle.edr_items.specs.Sensor.{IsSlow}
 use Rattle.edr_items.specs.SensorLists.{SensorLists, items_of}
 use Rattle.edr_definitions.specs.Schedule.{with_item}
@@ -19,7 +19,11 @@ use Rattle.edr_loops.specs.FastInlets.{AreFastFeeds, HaveFast, fast_marks_of, li
 use Rattle.edr_loops.specs.ServiceLanes.{FastItems, SlowParts}
 use Rattle.edr_loops.specs.PartInlets.{IsTaken, parts_of, with_part}
 use Rattle.edr_loops.specs.SplitDesks.{HaveMarks}
-use Rattle.edr_loops.proofs.DeskLemmas.{feed-front}
+
+-- ---- the front of a feed is one
+pub feed-front : (s : Sensor) (last : ℕ) (xs ys : List Item) → IsFeedAfter s last (xs ++ ys) → IsFeedAfter s last xs
+feed-front s last [] ys h = tt
+feed-front s last (x ∷ xs) ys h = (h.0, h.1, feed-front s x.moment xs ys h.2)
 
 -- ---- one more item of a fast sensor
 pub fast-marks-with : (k : FastSensor) (x : Item) (l : FastItems) → fast_marks_of (with_fast k x l) ≡ with_fast_mark k x.moment (fast_marks_of l)

@@ -10,13 +10,26 @@ use Rattle.edr_loops.specs.declared.fast_inlets.FastMarks.{FastMarks}
 use Rattle.edr_loops.specs.declared.held.Held.{Held}
 use Rattle.edr_loops.specs.declared.orders.Outbox.{Outbox}
 use Rattle.edr_loops.specs.declared.part_inlets.PartInlets.{PartInlets}
+use Rattle.edr_loops.specs.declared.tray.Tray.{Tray}
 use Rattle.edr_loops.specs.declared.split_desk.SplitDesk.{SplitDesk}
 use Rattle.edr_loops.specs.ServiceLanes.{SameFastInlets, SamePartInlets}
 use Rattle.edr_loops.specs.Orders.{SameOutbox}
+use Rattle.edr_loops.specs.Trays.{SameTray}
 use Rattle.edr_loops.specs.SplitDesks.{IsRecording, Later, LaterUpTo, SameSplitDesk, Stands}
-use Rattle.edr_loops.proofs.DeskLemmas.{outbox-again, outbox-self, tray-again, tray-self}
 
 -- ---- the same rings
+tray-self : (a : Tray) → SameTray a a
+tray-self a = search
+
+tray-again : (a b c : Tray) → SameTray a b → SameTray b c → SameTray a c
+tray-again a b c h k = ((k.0.0 ∙ h.0.0, k.0.1 ∙ h.0.1, k.0.2 ∙ h.0.2, k.0.3 ∙ h.0.3), k.1 ∙ h.1)
+
+outbox-self : (a : Outbox) → SameOutbox a a
+outbox-self a = search
+
+outbox-again : (a b c : Outbox) → SameOutbox a b → SameOutbox b c → SameOutbox a c
+outbox-again a b c h k = ((k.0.0 ∙ h.0.0, k.0.1 ∙ h.0.1, k.0.2 ∙ h.0.2, k.0.3 ∙ h.0.3), k.1 ∙ h.1)
+
 pub fast-self : (a : FastInlets) → SameFastInlets a a
 fast-self a = record { along = tray-self a.along; across = tray-self a.across; restraint = tray-self a.restraint }
 

@@ -10,8 +10,7 @@ use Rattle.edr_loops.specs.declared.service.SlowPlaces.{SlowPlaces}
 use Rattle.edr_loops.specs.declared.slow_place.SlowPlace.{SlowPlace}
 use Rattle.edr_loops.specs.Places.{IsDealt}
 use Rattle.edr_loops.specs.SlowPlaces.{IsKept, KeepsOn}
-use Rattle.edr_loops.specs.Services.{AreFastBegun, AreFastDealt, AreKept, AreSlowDealt, FastGoOn, SlowKeepOn, either_fast, either_slow}
-use Rattle.edr_loops.specs.Stands.{either}
+use Rattle.edr_loops.specs.Services.{AreFastBegun, AreFastDealt, AreKept, AreSlowDealt, FastGoOn, SlowKeepOn, either_fast, either_slow, either}
 use Rattle.edr_loops.proofs.PlaceLemmas.{dealt-begun, dealt-goes, goes-again, goes-begun, goes-self, none-or}
 
 -- ---- the places of fast sensors

@@ -5,16 +5,23 @@ use Rattle.edr_items.specs.declared.Item.{Item}
 use Rattle.edr_items.specs.SensorLists.{SensorLists}
 use Rattle.edr_definitions.specs.Schedule.{BeginsWith}
 use Rattle.edr_capture.specs.SensorPart.{SensorPart}
+use Rattle.edr_seats.specs.Inlet.{AreOfOneRing}
 use Rattle.edr_seats.specs.PartInlet.{AreOfOnePartRing, SamePartInlet, parts_taken}
 use Rattle.edr_seats.specs.declared.part_inlet.PartInlet.{PartInlet}
+use Rattle.edr_loops.specs.declared.place.Place.{Place}
+use Rattle.edr_loops.specs.declared.tray.Tray.{Tray}
 use Rattle.edr_loops.specs.declared.service.FastPlaces.{FastPlaces}
 use Rattle.edr_loops.specs.declared.service.SlowPlaces.{SlowPlaces}
 use Rattle.edr_loops.specs.declared.fast_inlets.FastInlets.{FastInlets}
 use Rattle.edr_loops.specs.declared.part_inlets.PartInlets.{PartInlets}
 use Rattle.edr_loops.specs.declared.slow_place.SlowPlace.{SlowPlace}
-use Rattle.edr_loops.specs.Lanes.{IsLane}
 use Rattle.edr_loops.specs.SlowPlaces.{AreParts}
 use Rattle.edr_loops.specs.Trays.{SameTray, taken_of}
+
+-- there is a place, and its seat and the tray's inlet are the ends of one ring
+abbrev pub IsLane : Option Place → Tray → Type 0
+IsLane None t = ⊥
+IsLane (Some p) t = AreOfOneRing p.seat t.inlet
 
 pub record AreFastLanes (p : FastPlaces) (i : FastInlets) : Type 0 where
   pub along : IsLane p.along i.along

@@ -1,11 +1,11 @@
 -- What the places of a worker have sent and kept, where the slow sensors keep their own items.
+use Rattle.std.specs.Prelude.{Option, Some, None}
 use Rattle.edr_items.specs.declared.Sensor.TheVariants.{Speed, Throttle, Brake, Belt, Lamp}
 use Rattle.edr_items.specs.SensorLists.{SensorLists}
 use Rattle.edr_loops.specs.declared.service.FastPlaces.{FastPlaces}
 use Rattle.edr_loops.specs.declared.service.SlowPlaces.{SlowPlaces}
 use Rattle.edr_loops.specs.Places.{Goes, IsBegun, IsDealt}
 use Rattle.edr_loops.specs.SlowPlaces.{IsKept, KeepsOn}
-use Rattle.edr_loops.specs.Stands.{either}
 
 -- each fast sensor's place has sent first items of its list
 pub record AreFastBegun (f : SensorLists) (p : FastPlaces) : Type 0 where
@@ -48,7 +48,11 @@ pub record AreSlowDealt (old mine rest : SlowPlaces) : Type 0 where
   pub belt : IsDealt old.belt mine.belt rest.belt
   pub lamp : IsDealt old.lamp mine.lamp rest.lamp
 
--- the places of one hand, and where it has none those of the other
+-- the place of one hand, and where it has none that of the other
+abbrev pub either : {A : Type 0} → Option A → Option A → Option A
+either None b = b
+either (Some a) b = Some a
+
 abbrev pub either_fast : FastPlaces → FastPlaces → FastPlaces
 either_fast a b = record {
   along = either a.along b.along;

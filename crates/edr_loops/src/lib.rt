@@ -2,15 +2,11 @@
 #![tactic(auto)]
 
 mod dealing;
-mod desk;
 #[cfg(test)]
 mod desk_tests;
 mod desk_turns;
 mod fast_inlets;
 mod held;
-mod inlets;
-mod lanes;
-mod marks;
 mod orders;
 mod part_inlets;
 mod place;
@@ -21,18 +17,12 @@ mod service_tests;
 mod service_threads;
 mod slow_place;
 mod split_desk;
-mod stand;
 #[cfg(test)]
 mod tests;
-mod threads;
 mod tray;
 
-pub use crate::desk::Desk;
 pub use crate::fast_inlets::{FastInlets, FastMarks, FastSensor};
 pub use crate::held::Held;
-pub use crate::inlets::Inlets;
-pub use crate::lanes::{Lanes, make_lanes, settle};
-pub use crate::marks::Marks;
 pub use crate::orders::{Inbox, Order, Orders, Outbox, make_orders};
 pub use crate::part_inlets::PartInlets;
 pub use crate::place::{Gate, Offered, Passage, Place};
@@ -45,6 +35,4 @@ pub use crate::service_threads::{
 };
 pub use crate::slow_place::SlowPlace;
 pub use crate::split_desk::SplitDesk;
-pub use crate::stand::{Places, Stand};
-pub use crate::threads::{Recording, Serving, start_recorder, start_worker};
 pub use crate::tray::Tray;

@@ -5,21 +5,47 @@ ghost use Rattle.edr_board.specs.FreezeSeats.{AreFresh, IsKeeperOf, freeze_of_ke
 ghost use Rattle.edr_items.specs.declared.Item.{Item};
 ghost use Rattle.edr_items.specs.Sensor.{IsSlow};
 ghost use Rattle.edr_items.specs.SensorLists.{SensorLists};
+ghost use Rattle.edr_definitions.specs.Schedule.{BeginsWith};
 ghost use Rattle.edr_seats.specs.PartInlet.{SamePartInlet, parts_taken};
-ghost use Rattle.edr_loops.specs.ServiceLanes.{AreFastLanes, ArePartLanes, ArePartsOf, FastBegin, IsPartLane, SameFastInlets, SamePartInlets, fast_taken, no_fast_items, no_slow_parts, slow_taken};
+ghost use Rattle.edr_loops.specs.ServiceLanes.{AreFastLanes, ArePartLanes, ArePartsOf, FastBegin, IsLane, IsPartLane, SameFastInlets, SamePartInlets, fast_taken, no_fast_items, no_slow_parts, slow_taken};
+ghost use Rattle.edr_loops.specs.Places.{IsBegun};
 ghost use Rattle.edr_loops.specs.Services.{AreFastBegun, AreKept};
 ghost use Rattle.edr_loops.specs.SlowPlaces.{AreParts, IsKept};
+ghost use Rattle.edr_loops.specs.Trays.{SameTray, taken_of};
 
 use crate::fast_inlets::FastInlets;
-use crate::lanes::{open_lane, settle_one};
 use crate::part_inlets::PartInlets;
-use crate::place::Passage;
+use crate::place::{Passage, Place};
 use crate::service::{FastPlaces, SlowPlaces};
 use crate::slow_place::SlowPlace;
+use crate::tray::Tray;
 use edr_board::{Keeper, Keepers};
 use edr_items::Sensor;
-use edr_seats::{PartInlet, SlowLane, slow};
+use edr_seats::{Lane, PartInlet, SlowLane, ring, slow};
 use std::alloc::{AllocError as OutOfMemory, Global};
+
+// A place at a fresh ring, with its inlet.
+#[derive(Drop)]
+struct Side {
+    place: Option<Place>,
+    tray: Tray,
+}
+
+fn open_lane(alloc: Global, sensor: Sensor) -> Result<Side, OutOfMemory>
+    ensures lane { IfOk result (λ s. IsLane s.place s.tray) }
+    ensures fresh { IfOk result (λ s. taken_of s.tray ≡ []) }
+    ensures begun { (xs : List Item) → IfOk result (λ s. IsBegun xs s.place) }
+{
+    let Lane { seat, inlet } = ring(alloc, sensor)?;
+    Ok(Side {
+        place: Some(Place {
+            seat,
+            next: 0,
+            passage: Passage::new(),
+        }),
+        tray: Tray::new(inlet),
+    })
+}
 
 /// The places and the inlets of the rings of the fast sensors.
 #[derive(Drop)]
@@ -114,6 +140,19 @@ pub fn make_slow_lanes(alloc: Global, keepers: Keepers) -> Result<SlowLanes, Out
             lamp: lamp.inlet,
         },
     })
+}
+
+// Looks at both ends of a ring: what was taken is a beginning of what the place was to send.
+fn settle_one(tray: &mut Tray, place: Option<Place>)
+    requires { IsLane place tray.old }
+    ensures ring { SameTray tray.old tray.new }
+    ensures same { taken_of tray.new ≡ taken_of tray.old }
+    ensures begins { (xs : List Item) → IsBegun xs place → BeginsWith xs (taken_of tray.new) }
+{
+    if let Some(place) = place {
+        let mut seat = place.seat;
+        tray.beside(&mut seat);
+    }
 }
 
 /// Looks at both ends of each ring of a fast sensor, where all are in one thread again: what was taken is a beginning of its feed.

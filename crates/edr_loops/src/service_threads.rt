@@ -10,12 +10,15 @@ use crate::fast_inlets::FastMarks;
 use crate::place::Gate;
 use crate::service::Service;
 use crate::split_desk::SplitDesk;
-use crate::threads::STACK;
 use edr_board::{CommitterSeat, RecorderSeat};
 use edr_items::Feeds;
 use std::snapshot::Snapshot;
 use std::sync::{Arc, Wait};
 use std::thread::{Builder, Promise, PromisedHandle, Threads};
+
+// How many bytes of stack a thread gets. The system keeps the stacks of ended threads for new ones, up to 40 MB of them: with its usual
+// 8 MB each, the ten of a cycle would be taken anew in each.
+const STACK: usize = 1 << 20;
 
 // A worker hands back its service, whose places have gone on.
 #[derive(Drop)]

@@ -1,4 +1,6 @@
-use Rattle.edr_loops.proofs.desk_tests.open_parted.Goals as goal
+use Rattle.std.proofs.Common.{sym, subst}
+use Rattle.edr_board.specs.FreezeSeats.{IsFreshAsker}
+use Rattle.edr_loops.proofs.desk_tests.open_bench.Goals as goal
 
 pub returns-clause-begun : goal.returns-clause-begun
 returns-clause-begun c = λ f. c.in_ok-fast.ensures.begun f
