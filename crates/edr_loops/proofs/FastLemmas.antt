@@ -16,9 +16,9 @@ use Rattle.edr_capture.specs.SensorPart.{SensorPart}
 use Rattle.edr_loops.specs.declared.fast_inlets.FastSensor.{FastSensor}
 use Rattle.edr_loops.specs.declared.fast_inlets.FastSensor.TheVariants.{Along, Across, Restraint}
 use Rattle.edr_loops.specs.FastInlets.{AreFastFeeds, HaveFast, fast_marks_of, list_of, sensor_of, with_fast, with_fast_mark}
-use Rattle.edr_loops.specs.ServiceLanes.{FastItems, SlowParts}
+use Rattle.edr_loops.specs.Lanes.{FastItems, SlowParts}
 use Rattle.edr_loops.specs.PartInlets.{IsTaken, parts_of, with_part}
-use Rattle.edr_loops.specs.SplitDesks.{HaveMarks}
+use Rattle.edr_loops.specs.Desks.{HaveMarks}
 
 -- ---- the front of a feed is one
 pub feed-front : (s : Sensor) (last : ℕ) (xs ys : List Item) → IsFeedAfter s last (xs ++ ys) → IsFeedAfter s last xs

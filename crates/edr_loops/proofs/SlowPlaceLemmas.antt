@@ -9,9 +9,9 @@ use Rattle.edr_items.specs.SensorLists.{SensorLists}
 use Rattle.edr_capture.specs.SensorPart.{SensorPart, part}
 use Rattle.edr_seats.specs.Slow.{SameSlowSeat, SlowSeatIsFor, mark_kept, parts_sent, sensor_of_slow}
 use Rattle.edr_loops.specs.declared.slow_place.SlowPlace.{SlowPlace}
-use Rattle.edr_loops.specs.declared.service.SlowPlaces.{SlowPlaces}
+use Rattle.edr_loops.specs.declared.stand.SlowPlaces.{SlowPlaces}
 use Rattle.edr_loops.specs.SlowPlaces.{AreParts, IsKeeping, IsKept, IsPartOf, KeepsOn}
-use Rattle.edr_loops.specs.Services.{AreKept, SlowKeepOn}
+use Rattle.edr_loops.specs.Stands.{AreKept, SlowKeepOn}
 
 -- the seat has kept one more item, the next of the list
 pub keeping-item : (s : Sensor) (xs : List Item) (x : Item) (a b : SlowPlace) → SameSlowSeat a.seat b.seat → take b.next xs ≡ take a.next xs ++ x ∷ []

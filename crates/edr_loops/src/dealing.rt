@@ -2,9 +2,9 @@
 
 ghost use Rattle.std.specs.Prelude.{◌≡◌};
 ghost use Rattle.edr_loops.specs.Places.{IsDealt};
-ghost use Rattle.edr_loops.specs.Services.{AreFastDealt, AreSlowDealt, either_fast, either_slow};
+ghost use Rattle.edr_loops.specs.Stands.{AreFastDealt, AreSlowDealt, either_fast, either_slow};
 
-use crate::service::{FastPlaces, SlowPlaces};
+use crate::stand::{FastPlaces, SlowPlaces};
 use edr_items::Sensor;
 
 // Deals a place to this hand, or leaves it.

@@ -3,14 +3,14 @@
 ghost use Rattle.std.specs.Prelude.{◌≡◌, IfOk};
 ghost use Rattle.std.specs.Arc.{arc_value};
 ghost use Rattle.edr_items.specs.SensorLists.{SensorLists};
-ghost use Rattle.edr_loops.specs.Services.{AreFastBegun, AreKept};
-ghost use Rattle.edr_loops.specs.SplitDesks.{HasPosted, IsRecording};
+ghost use Rattle.edr_loops.specs.Stands.{AreFastBegun, AreKept};
+ghost use Rattle.edr_loops.specs.Desks.{HasPosted, IsRecording};
 
-use crate::service_tests::{Telling, new_gate};
+use crate::stand_tests::{Telling, new_gate};
 use crate::tests::fired_feeds;
 use crate::{
-    FastMarks, Inbox, Orders, Service, SplitDesk, make_fast_lanes, make_orders, make_slow_lanes,
-    start_service,
+    Desk, FastMarks, Inbox, Orders, Stand, make_fast_lanes, make_orders, make_slow_lanes,
+    start_worker,
 };
 use edr_board::{Board, CommitterSeat, Freeze, FreezeOpened, Opened, Watch};
 use edr_core::SplitCore;
@@ -32,16 +32,16 @@ const ENDS: FastMarks = FastMarks {
 // One worker with all sensors, the recorder, and what the committer has.
 #[derive(Drop)]
 struct Bench {
-    service: Service,
-    desk: SplitDesk,
+    stand: Stand,
+    desk: Desk,
     inbox: Inbox,
     committer: CommitterSeat,
     watch: Watch,
 }
 
 fn open_bench(alloc: Global) -> Result<Bench, Fail>
-    ensures begun { (f : SensorLists) → IfOk result (λ b. AreFastBegun f b.service.fast) }
-    ensures kept { (f : SensorLists) → IfOk result (λ b. AreKept f b.service.slow) }
+    ensures begun { (f : SensorLists) → IfOk result (λ b. AreFastBegun f b.stand.fast) }
+    ensures kept { (f : SensorLists) → IfOk result (λ b. AreKept f b.stand.slow) }
     ensures recording { IfOk result (λ b. IsRecording b.desk) }
     ensures posted { IfOk result (λ b. HasPosted b.desk) }
 {
@@ -62,7 +62,7 @@ fn open_bench(alloc: Global) -> Result<Bench, Fail>
     let seen = watch.split()?;
     let Orders { outbox, inbox } = make_orders(alloc)?;
     let core = SplitCore::open(alloc, 1)?;
-    let desk = SplitDesk::new(
+    let desk = Desk::new(
         core,
         fast.inlets,
         slow.inlets,
@@ -72,7 +72,7 @@ fn open_bench(alloc: Global) -> Result<Bench, Fail>
         outbox,
     );
     Ok(Bench {
-        service: Service {
+        stand: Stand {
             fast: fast.places,
             slow: slow.places,
             watch: own,
@@ -87,18 +87,18 @@ fn open_bench(alloc: Global) -> Result<Bench, Fail>
 // Lets a worker serve in a thread of its own, and the desk record here. None where no thread could be started.
 fn record_beside<R: Threads + Wait + Copy + Send + 'static>(
     rt: &R,
-    service: Service,
-    desk: SplitDesk,
+    stand: Stand,
+    desk: Desk,
     feeds: &Arc<Feeds>,
     gate: &Arc<Telling>,
-) -> Option<SplitDesk>
-    requires begun { AreFastBegun (arc_value feeds.now) service.fast }
-    requires kept { AreKept (arc_value feeds.now) service.slow }
+) -> Option<Desk>
+    requires begun { AreFastBegun (arc_value feeds.now) stand.fast }
+    requires kept { AreKept (arc_value feeds.now) stand.slow }
     requires recording { IsRecording desk }
     requires posted { HasPosted desk }
 {
     let mut desk = desk;
-    let Ok(child) = start_service(rt, service, feeds, gate, &mut desk.seat) else {
+    let Ok(child) = start_worker(rt, stand, feeds, gate, &mut desk.seat) else {
         return None;
     };
     let desk = desk.record(rt, 200, ENDS);
@@ -123,13 +123,13 @@ fn a_desk_takes_the_parts_that_it_asks_for(rt: HostRuntime) -> Result<(), Fail> 
     let feeds = Arc::new(rt.alloc(), fired_feeds(rt.alloc())?)?;
     let gate = Arc::new(rt.alloc(), new_gate())?;
     let Bench {
-        service,
+        stand,
         desk,
         mut inbox,
         committer: _,
         watch: _,
     } = open_bench(rt.alloc())?;
-    let Some(desk) = record_beside(&rt, service, desk, &feeds, &gate) else {
+    let Some(desk) = record_beside(&rt, stand, desk, &feeds, &gate) else {
         return Err(Fail::new("no thread could be started"));
     };
     assert_eq!(rt; desk.posted, 200);
@@ -150,7 +150,7 @@ fn a_stop_ends_the_loops(rt: HostRuntime) -> Result<(), Fail> {
     let feeds = fired_feeds(rt.alloc())?;
     let gate = new_gate();
     let Bench {
-        service,
+        stand,
         desk,
         mut inbox,
         mut committer,
@@ -160,7 +160,7 @@ fn a_stop_ends_the_loops(rt: HostRuntime) -> Result<(), Fail> {
     let desk = desk.record(&rt, 200, ENDS);
     assert_eq!(rt; desk.posted, 0);
     assert_eq!(rt; watch.read().gate, 2);
-    service.serve(&rt, &feeds, &gate);
+    stand.serve(&rt, &feeds, &gate);
     assert_eq!(rt; gate.passed.load(Ordering::SeqCst), 0);
     assert_eq!(rt; next_order(&mut inbox), None);
     Ok(())

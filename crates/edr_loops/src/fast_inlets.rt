@@ -2,7 +2,7 @@
 
 ghost use Rattle.std.specs.Prelude.{◌≡◌, ◌≤◌, MatchOption};
 ghost use Rattle.edr_loops.specs.FastInlets.{fast_mark, sensor_of, with_fast, with_fast_mark};
-ghost use Rattle.edr_loops.specs.ServiceLanes.{SameFastInlets, fast_taken};
+ghost use Rattle.edr_loops.specs.Lanes.{SameFastInlets, fast_taken};
 
 use crate::tray::Tray;
 use edr_items::{Item, Sensor};

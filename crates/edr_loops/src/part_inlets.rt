@@ -2,7 +2,7 @@
 
 ghost use Rattle.std.specs.Prelude.{◌≡◌, MatchOption};
 ghost use Rattle.edr_loops.specs.PartInlets.{with_part};
-ghost use Rattle.edr_loops.specs.ServiceLanes.{SamePartInlets, slow_taken};
+ghost use Rattle.edr_loops.specs.Lanes.{SamePartInlets, slow_taken};
 
 use edr_capture::Part;
 use edr_items::Sensor;

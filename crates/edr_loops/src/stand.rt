@@ -1,0 +1,121 @@
+//! A worker's stand: the sensors that it serves, of which the slow ones keep their own items, and its loop.
+
+ghost use Rattle.std.specs.Prelude.{◌≡◌};
+ghost use Rattle.edr_board.specs.Seats.{board_of_watch};
+ghost use Rattle.edr_loops.specs.Stands.{AreFastBegun, AreKept, FastGoOn, SlowKeepOn};
+
+use crate::place::{Gate, Offered, Place, serve_some};
+use crate::slow_place::{SlowPlace, serve_slow};
+use edr_board::Watch;
+use edr_items::{Feeds, Sensor};
+use std::sync::Wait;
+use std::thread;
+
+/// The places of some of the sensors 1, 2 and 8, whose items go through rings.
+#[derive(Drop)]
+pub struct FastPlaces {
+    pub along: Option<Place>,
+    pub across: Option<Place>,
+    pub restraint: Option<Place>,
+}
+
+/// The places of some of the sensors 3 to 7, which keep their items and send parts alone.
+#[derive(Drop)]
+pub struct SlowPlaces {
+    pub speed: Option<SlowPlace>,
+    pub throttle: Option<SlowPlace>,
+    pub brake: Option<SlowPlace>,
+    pub belt: Option<SlowPlace>,
+    pub lamp: Option<SlowPlace>,
+}
+
+/// What a worker owns, and hands back at its join.
+#[derive(Drop)]
+pub struct Stand {
+    pub fast: FastPlaces,
+    pub slow: SlowPlaces,
+    pub watch: Watch,
+}
+
+impl FastPlaces {
+    // One round over the sensors. It answers what came of their offers.
+    fn round<G: Gate>(&mut self, feeds: &Feeds, gate: &G) -> Offered
+        requires { AreFastBegun feeds.now self.old }
+        ensures { FastGoOn feeds.now self.old self.new }
+    {
+        let along = serve_some(&mut self.along, Sensor::Along, feeds, gate);
+        let across = serve_some(&mut self.across, Sensor::Across, feeds, gate);
+        let restraint = serve_some(&mut self.restraint, Sensor::Restraint, feeds, gate);
+        along.and(across).and(restraint)
+    }
+}
+
+impl SlowPlaces {
+    // Whether no slow sensor is served here.
+    fn is_empty(&self) -> bool {
+        let pedals = self.speed.is_none() && self.throttle.is_none() && self.brake.is_none();
+        pedals && self.belt.is_none() && self.lamp.is_none()
+    }
+
+    // One round over the sensors. It answers what came of their offers, and of the parts that are asked for.
+    fn round<G: Gate>(&mut self, feeds: &Feeds, gate: &G) -> Offered
+        requires { AreKept feeds.now self.old }
+        ensures { SlowKeepOn feeds.now self.old self.new }
+    {
+        let speed = serve_slow(&mut self.speed, Sensor::Speed, feeds, gate);
+        let throttle = serve_slow(&mut self.throttle, Sensor::Throttle, feeds, gate);
+        let brake = serve_slow(&mut self.brake, Sensor::Brake, feeds, gate);
+        let belt = serve_slow(&mut self.belt, Sensor::Belt, feeds, gate);
+        let lamp = serve_slow(&mut self.lamp, Sensor::Lamp, feeds, gate);
+        let driver = speed.and(throttle).and(brake);
+        let seats = belt.and(lamp);
+        driver.and(seats)
+    }
+}
+
+impl Stand {
+    // Whether the worker's own work is done, once its fast sensors have given this. A slow sensor may be asked for a part until
+    // the horizon is closed.
+    fn is_done(&self, fast: Offered, closed: u32, horizon: u32) -> bool {
+        fast == Offered::Over && (self.slow.is_empty() || horizon <= closed)
+    }
+
+    // Rounds, until the worker's own work is done, or the board says that the work goes on without it.
+    fn work<R: Wait, G: Gate>(&mut self, rt: &R, feeds: &Feeds, gate: &G)
+        requires fast { AreFastBegun feeds.now self.old.fast }
+        requires slow { AreKept feeds.now self.old.slow }
+        ensures fast { FastGoOn feeds.now self.old.fast self.new.fast }
+        ensures slow { SlowKeepOn feeds.now self.old.slow self.new.slow }
+        ensures board { board_of_watch self.new.watch ≡ board_of_watch self.old.watch }
+    {
+        let horizon = feeds.horizon();
+        for _ in rt.forever() {
+            let fast = self.fast.round(feeds, gate);
+            let slow = self.slow.round(feeds, gate);
+            let status = self.watch.read();
+            if status.stopped || status.gate == 2 || self.is_done(fast, status.closed, horizon) {
+                break;
+            }
+            if fast.and(slow) != Offered::Sent {
+                thread::yield_now();
+            }
+        }
+    }
+
+    /// Serves its sensors once the gate isn't 0. Without slow sensors it goes on until all items are offered; with some of them
+    /// also until the horizon is closed, since their parts may be asked for up to there. It ends earlier where the board says
+    /// that the work goes on without it.
+    pub fn serve<R: Wait, G: Gate>(self, rt: &R, feeds: &Feeds, gate: &G) -> Stand
+        requires fast { AreFastBegun feeds.now self.fast }
+        requires slow { AreKept feeds.now self.slow }
+        ensures fast { FastGoOn feeds.now self.fast result.fast }
+        ensures slow { SlowKeepOn feeds.now self.slow result.slow }
+        ensures board { board_of_watch result.watch ≡ board_of_watch self.watch }
+    {
+        let mut stand = self;
+        if stand.watch.wait_gate(rt) != 2 {
+            stand.work(rt, feeds, gate);
+        }
+        stand
+    }
+}
