@@ -1,9 +1,8 @@
 -- One more item of a fast sensor, one more mark of a slow one, and one more part.
-use Rattle.std.proofs.Common.{arith, ◌≡◌, ◌∙◌, ◌≤◌, ◌<◌, ◌+◌, ℕ, List, [], ◌∷◌, ◌++◌, refl, sym, ap, subst, None}
+use Rattle.std.proofs.Common.{arith, ◌≡◌, ◌≤◌, ℕ, List, [], ◌∷◌, ◌++◌, refl, sym, ap, subst, None}
 use Rattle.std.specs.Prelude.{All}
 use Rattle.std.specs.List.{Contains}
 use Rattle.std.proofs.lemmas.List.Elements.{All-weaker, Contains-append_left, Contains-append_right}
-use Rattle.edr_items.specs.declared.TheConstants.{LATEST_MOMENT}
 use Rattle.edr_items.specs.declared.Sensor.{Sensor}
 use Rattle.edr_items.specs.declared.Sensor.TheVariants as sensor
 use Rattle.edr_items.specs.declared.Item.{Item}
@@ -17,10 +16,14 @@ use Rattle.edr_capture.specs.SensorPart.{SensorPart}
 use Rattle.edr_loops.specs.declared.fast_inlets.FastSensor.{FastSensor}
 use Rattle.edr_loops.specs.declared.fast_inlets.FastSensor.TheVariants.{Along, Across, Restraint}
 use Rattle.edr_loops.specs.FastInlets.{AreFastFeeds, HaveFast, fast_marks_of, list_of, sensor_of, with_fast, with_fast_mark}
-use Rattle.edr_loops.specs.ServiceLanes.{FastItems, SlowParts}
+use Rattle.edr_loops.specs.Lanes.{FastItems, SlowParts}
 use Rattle.edr_loops.specs.PartInlets.{IsTaken, parts_of, with_part}
-use Rattle.edr_loops.specs.SplitDesks.{HaveMarks}
-use Rattle.edr_loops.proofs.DeskLemmas.{feed-front}
+use Rattle.edr_loops.specs.Desks.{HaveMarks}
+
+-- ---- the front of a feed is one
+pub feed-front : (s : Sensor) (last : ℕ) (xs ys : List Item) → IsFeedAfter s last (xs ++ ys) → IsFeedAfter s last xs
+feed-front s last [] ys h = tt
+feed-front s last (x ∷ xs) ys h = (h.0, h.1, feed-front s x.moment xs ys h.2)
 
 -- ---- one more item of a fast sensor
 pub fast-marks-with : (k : FastSensor) (x : Item) (l : FastItems) → fast_marks_of (with_fast k x l) ≡ with_fast_mark k x.moment (fast_marks_of l)

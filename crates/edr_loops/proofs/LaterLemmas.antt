@@ -1,5 +1,5 @@
 -- One desk later than another.
-use Rattle.std.proofs.Common.{arith, ◌≡◌, ◌∙◌, ◌≤◌, ◌+◌, ℕ, max, refl, sym, subst}
+use Rattle.std.proofs.Common.{arith, ◌≡◌, ◌∙◌, ◌≤◌, ℕ, max, refl, sym, subst}
 use Rattle.edr_board.specs.Seats.{board_of_recorder, board_of_watch}
 use Rattle.edr_board.specs.FreezeSeats.{freeze_of_asker}
 use Rattle.edr_seats.specs.declared.part_inlet.PartInlet.{PartInlet}
@@ -10,13 +10,26 @@ use Rattle.edr_loops.specs.declared.fast_inlets.FastMarks.{FastMarks}
 use Rattle.edr_loops.specs.declared.held.Held.{Held}
 use Rattle.edr_loops.specs.declared.orders.Outbox.{Outbox}
 use Rattle.edr_loops.specs.declared.part_inlets.PartInlets.{PartInlets}
-use Rattle.edr_loops.specs.declared.split_desk.SplitDesk.{SplitDesk}
-use Rattle.edr_loops.specs.ServiceLanes.{SameFastInlets, SamePartInlets}
+use Rattle.edr_loops.specs.declared.tray.Tray.{Tray}
+use Rattle.edr_loops.specs.declared.desk.Desk.{Desk}
+use Rattle.edr_loops.specs.Lanes.{SameFastInlets, SamePartInlets}
 use Rattle.edr_loops.specs.Orders.{SameOutbox}
-use Rattle.edr_loops.specs.SplitDesks.{IsRecording, IsTold, Later, LaterUpTo, SameSplitDesk, Stands}
-use Rattle.edr_loops.proofs.DeskLemmas.{outbox-again, outbox-self, tray-again, tray-self}
+use Rattle.edr_loops.specs.Trays.{SameTray}
+use Rattle.edr_loops.specs.Desks.{IsRecording, Later, LaterUpTo, SameDesk, DeskStands}
 
 -- ---- the same rings
+tray-self : (a : Tray) → SameTray a a
+tray-self a = search
+
+tray-again : (a b c : Tray) → SameTray a b → SameTray b c → SameTray a c
+tray-again a b c h k = ((k.0.0 ∙ h.0.0, k.0.1 ∙ h.0.1, k.0.2 ∙ h.0.2, k.0.3 ∙ h.0.3), k.1 ∙ h.1)
+
+outbox-self : (a : Outbox) → SameOutbox a a
+outbox-self a = search
+
+outbox-again : (a b c : Outbox) → SameOutbox a b → SameOutbox b c → SameOutbox a c
+outbox-again a b c h k = ((k.0.0 ∙ h.0.0, k.0.1 ∙ h.0.1, k.0.2 ∙ h.0.2, k.0.3 ∙ h.0.3), k.1 ∙ h.1)
+
 pub fast-self : (a : FastInlets) → SameFastInlets a a
 fast-self a = record { along = tray-self a.along; across = tray-self a.across; restraint = tray-self a.restraint }
 
@@ -42,23 +55,23 @@ parts-again a b c h k = record {
 }
 
 -- ---- the same desk
-pub desk-self : (a : SplitDesk) → SameSplitDesk a a
+pub desk-self : (a : Desk) → SameDesk a a
 desk-self a = record { fast = fast-self a.fast; parts = parts-self a.parts; outbox = outbox-self a.outbox; freeze = refl; recorder = refl; watch = refl }
 
-pub same-taken : (d : SplitDesk) (c : SplitContents) (i : FastInlets) (m : FastMarks) → SameFastInlets d.fast i → SameSplitDesk d (record d { core = c; fast = i; last = m })
+pub same-taken : (d : Desk) (c : SplitContents) (i : FastInlets) (m : FastMarks) → SameFastInlets d.fast i → SameDesk d (record d { core = c; fast = i; last = m })
 same-taken d c i m rings = record { fast = rings; parts = parts-self d.parts; outbox = outbox-self d.outbox; freeze = refl; recorder = refl; watch = refl }
 
-pub same-taken_part : (d : SplitDesk) (c : SplitContents) (i : PartInlets) → SamePartInlets d.parts i → SameSplitDesk d (record d { core = c; parts = i })
+pub same-taken_part : (d : Desk) (c : SplitContents) (i : PartInlets) → SamePartInlets d.parts i → SameDesk d (record d { core = c; parts = i })
 same-taken_part d c i rings = record { fast = fast-self d.fast; parts = rings; outbox = outbox-self d.outbox; freeze = refl; recorder = refl; watch = refl }
 
-pub same-sent : (d : SplitDesk) (o : Outbox) (k : Held) → SameOutbox d.outbox o → SameSplitDesk d (record d { outbox = o; held = k })
+pub same-sent : (d : Desk) (o : Outbox) (k : Held) → SameOutbox d.outbox o → SameDesk d (record d { outbox = o; held = k })
 same-sent d o k ring = record { fast = fast-self d.fast; parts = parts-self d.parts; outbox = ring; freeze = refl; recorder = refl; watch = refl }
 
-pub later-self : (a : SplitDesk) → Later a a
+pub later-self : (a : Desk) → Later a a
 later-self a = record { same = desk-self a; stands = λ n e low s. s }
 
 -- first up to one tick, then up to another
-pub later-again : (t u v : ℕ) (a b c : SplitDesk) → t ≤ v → u ≤ v → LaterUpTo t a b → LaterUpTo u b c → LaterUpTo v a c
+pub later-again : (t u v : ℕ) (a b c : Desk) → t ≤ v → u ≤ v → LaterUpTo t a b → LaterUpTo u b c → LaterUpTo v a c
 later-again t u v a b c first second h k = record {
   same = record {
     fast = fast-again a.fast b.fast c.fast h.same.fast k.same.fast;
@@ -71,14 +84,14 @@ later-again t u v a b c first second h k = record {
   stands = λ n e low s. k.stands n e (omega (arith, second, low)) (h.stands n e (omega (arith, first, low)) s);
 }
 
-pub later-twice : (a b c : SplitDesk) → Later a b → Later b c → Later a c
+pub later-twice : (a b c : Desk) → Later a b → Later b c → Later a c
 later-twice a b c h k = later-again 0 0 0 a b c (omega arith) (omega arith) h k
 
-pub later-raised : (t u : ℕ) (a b : SplitDesk) → t ≤ u → LaterUpTo t a b → LaterUpTo u a b
+pub later-raised : (t u : ℕ) (a b : Desk) → t ≤ u → LaterUpTo t a b → LaterUpTo u a b
 later-raised t u a b low h = record { same = h.same; stands = λ n e up s. h.stands n e (omega (arith, low, up)) s }
 
 -- what stands under a horizon stands under a greater one
-stands-under : (n e f : ℕ) (d : SplitDesk) → e ≤ f → Stands n e d → Stands n f d
+pub stands-under : (n e f : ℕ) (d : Desk) → e ≤ f → DeskStands n e d → DeskStands n f d
 stands-under n e f d up s =
     let t = s.told in record {
       history = s.history;
@@ -88,15 +101,15 @@ stands-under n e f d up s =
       asking_is = s.asking_is;
     }
 
-pub recording-later : (t : ℕ) (a b : SplitDesk) → LaterUpTo t a b → IsRecording a → IsRecording b
+pub recording-later : (t : ℕ) (a b : Desk) → LaterUpTo t a b → IsRecording a → IsRecording b
 recording-later t a b h r =
     let n = r.0 in
     let e = max r.1 t in
     (n, e, h.stands n e (omega arith) (stands-under n r.1 e a (omega arith) r.2))
 
 -- ---- steps that leave the rings and the board
-pub later-by : (t : ℕ) (a b : SplitDesk) → b.fast ≡ a.fast → b.parts ≡ a.parts → b.outbox ≡ a.outbox → freeze_of_asker b.asker ≡ freeze_of_asker a.asker → board_of_recorder b.seat ≡ board_of_recorder a.seat → board_of_watch b.watch ≡ board_of_watch a.watch
-    → ((n e : ℕ) → t ≤ e → Stands n e a → Stands n e b) → LaterUpTo t a b
+pub later-by : (t : ℕ) (a b : Desk) → b.fast ≡ a.fast → b.parts ≡ a.parts → b.outbox ≡ a.outbox → freeze_of_asker b.asker ≡ freeze_of_asker a.asker → board_of_recorder b.seat ≡ board_of_recorder a.seat → board_of_watch b.watch ≡ board_of_watch a.watch
+    → ((n e : ℕ) → t ≤ e → DeskStands n e a → DeskStands n e b) → LaterUpTo t a b
 later-by t a b fast parts outbox freeze recorder watch stands = record {
   same = record {
     fast = subst (λ (i : FastInlets). SameFastInlets a.fast i) (sym fast) (fast-self a.fast);

@@ -1,20 +1,17 @@
 -- A slow sensor's place that goes on, and goes on again.
-use Rattle.std.proofs.Common.{◌≡◌, ◌∙◌, ℕ, ◌+◌, ◌≤◌, List, [], ◌∷◌, ◌++◌, Option, Some, None, ap, sym, subst, take}
+use Rattle.std.proofs.Common.{◌≡◌, ◌∙◌, ℕ, ◌≤◌, List, [], ◌∷◌, ◌++◌, Option, Some, None, ap, sym, subst, take}
 use Rattle.std.specs.Prelude.{All}
 use Rattle.std.proofs.lemmas.List.Elements.{All-cons, All-head, All-nil, All-push, All-tail}
 use Rattle.edr_items.specs.declared.Sensor.{Sensor}
 use Rattle.edr_items.specs.declared.Sensor.TheVariants.{Speed, Throttle, Brake, Belt, Lamp}
 use Rattle.edr_items.specs.declared.Item.{Item}
-use Rattle.edr_items.specs.Item.{mark_of}
 use Rattle.edr_items.specs.SensorLists.{SensorLists}
-use Rattle.edr_board.specs.declared.freeze_seats.Keeper.{Keeper}
 use Rattle.edr_capture.specs.SensorPart.{SensorPart, part}
-use Rattle.edr_seats.specs.Slow.{IsFreshSeat, SameSlowSeat, SlowSeatIsFor, mark_kept, parts_sent, sensor_of_slow}
-use Rattle.edr_seats.specs.SlowContents.{SlowContents}
+use Rattle.edr_seats.specs.Slow.{SameSlowSeat, SlowSeatIsFor, mark_kept, parts_sent, sensor_of_slow}
 use Rattle.edr_loops.specs.declared.slow_place.SlowPlace.{SlowPlace}
-use Rattle.edr_loops.specs.declared.service.SlowPlaces.{SlowPlaces}
+use Rattle.edr_loops.specs.declared.stand.SlowPlaces.{SlowPlaces}
 use Rattle.edr_loops.specs.SlowPlaces.{AreParts, IsKeeping, IsKept, IsPartOf, KeepsOn}
-use Rattle.edr_loops.specs.Services.{AreKept, SlowKeepOn}
+use Rattle.edr_loops.specs.Stands.{AreKept, SlowKeepOn}
 
 -- the seat has kept one more item, the next of the list
 pub keeping-item : (s : Sensor) (xs : List Item) (x : Item) (a b : SlowPlace) → SameSlowSeat a.seat b.seat → take b.next xs ≡ take a.next xs ++ x ∷ []
@@ -44,7 +41,7 @@ keeping-part s xs z a b same next reached sends h =
     }
 
 -- ---- one place
-keeps-kept : (s : Sensor) (xs : List Item) (a b : Option SlowPlace) → KeepsOn s xs a b → IsKept s xs b
+pub keeps-kept : (s : Sensor) (xs : List Item) (a b : Option SlowPlace) → KeepsOn s xs a b → IsKept s xs b
 keeps-kept s xs None None h = tt
 keeps-kept s xs (Some a) (Some b) h = h.1
 keeps-kept s xs None (Some b) h = absurd h

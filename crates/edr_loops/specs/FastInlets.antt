@@ -8,7 +8,7 @@ use Rattle.edr_items.specs.SensorLists.{SensorLists}
 use Rattle.edr_loops.specs.declared.fast_inlets.FastSensor.{FastSensor}
 use Rattle.edr_loops.specs.declared.fast_inlets.FastSensor.TheVariants.{Along, Across, Restraint}
 use Rattle.edr_loops.specs.declared.fast_inlets.FastMarks.{FastMarks}
-use Rattle.edr_loops.specs.ServiceLanes.{FastItems}
+use Rattle.edr_loops.specs.Lanes.{FastItems}
 
 abbrev pub sensor_of : FastSensor → Sensor
 sensor_of Along = sensor.Along

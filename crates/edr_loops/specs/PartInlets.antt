@@ -4,7 +4,7 @@ use Rattle.std.specs.List.{Contains}
 use Rattle.edr_items.specs.declared.Sensor.{Sensor}
 use Rattle.edr_items.specs.declared.Sensor.TheVariants.{Along, Across, Speed, Throttle, Brake, Belt, Lamp, Restraint}
 use Rattle.edr_capture.specs.SensorPart.{SensorPart}
-use Rattle.edr_loops.specs.ServiceLanes.{SlowParts}
+use Rattle.edr_loops.specs.Lanes.{SlowParts}
 
 -- those of one sensor; the other three have none
 abbrev pub parts_of : Sensor → SlowParts → List SensorPart

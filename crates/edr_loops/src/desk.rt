@@ -1,37 +1,45 @@
-//! The recorder's desk: what the recorder's thread owns, and its loop.
+//! The recorder's desk: what its thread owns, and its steps. It asks the slow sensors for their parts of a time zero.
 
-ghost use Rattle.std.specs.Prelude.{◌≡◌, ◌≤◌, ℕ, [], true, map};
+ghost use Rattle.std.specs.Prelude.{◌≡◌, ◌≢◌, ◌≤◌, ◌+◌, ℕ, [], true, false, map};
+ghost use Rattle.edr_items.specs.Sensor.{IsSlow};
 ghost use Rattle.edr_definitions.specs.Commands.{issue_at};
-ghost use Rattle.edr_definitions.specs.Schedule.{Progress, Give, IsAllowed, after_step};
-ghost use Rattle.edr_core.specs.Answers.{commands_put};
-ghost use Rattle.edr_core.specs.StandsFor.{CoreIsFor};
+ghost use Rattle.edr_definitions.specs.Schedule.{Give, IsAllowed};
+ghost use Rattle.edr_board.specs.FreezeSeats.{open_zero};
 ghost use Rattle.edr_board.specs.Seats.{closed_posted, gate_posted};
+ghost use Rattle.edr_core.specs.Answers.{commands_put};
+ghost use Rattle.edr_core.specs.SplitHistory.{History, after_item};
+ghost use Rattle.edr_core.specs.SplitStandsFor.{SplitCoreStandsFor};
 ghost use Rattle.edr_loops.specs.Held.{issues_held};
-ghost use Rattle.edr_loops.specs.Desks.{Follows, IsPosted};
+ghost use Rattle.edr_loops.specs.Desks.{Begins, HasPosted, IsRecording, IsSettled, Later, LaterUpTo, SeatStays, DeskStands};
 
+use crate::fast_inlets::{FastInlets, FastMarks, FastSensor};
 use crate::held::Held;
-use crate::inlets::Inlets;
-use crate::marks::Marks;
 use crate::orders::Outbox;
-use edr_board::{RecorderSeat, Watch};
-use edr_core::{Closing, Core, Issued};
-use edr_items::{Item, LONGEST_GAP, Sensor};
-use edr_seats::SLOTS;
-use std::sync::Wait;
-use std::thread;
+use crate::part_inlets::PartInlets;
+use edr_board::{Asker, RecorderSeat, Watch};
+use edr_capture::Part;
+use edr_core::{Issued, SplitClosing, SplitCore};
+use edr_items::{Item, LATEST_MOMENT, LONGEST_GAP, Sensor};
+
+// What is granted as a freeze is opened.
+const FIRST_GRANT: u32 = 1_000;
 
 /// What the recorder's thread owns, and hands back at its join.
 #[derive(Drop)]
 pub struct Desk {
-    pub core: Core,
-    pub inlets: Inlets,
-    pub last: Marks,
+    pub core: SplitCore,
+    pub fast: FastInlets,
+    pub last: FastMarks,
+    pub parts: PartInlets,
+    pub asker: Asker,
     pub seat: RecorderSeat,
     pub watch: Watch,
     pub outbox: Outbox,
     pub held: Held,
-    // The closed tick that was posted last.
+    // The closed tick that was posted last, the last grant, and whether parts are asked for.
     pub posted: u32,
+    pub granted: u32,
+    pub asking: bool,
 }
 
 // Holds what a tick issues. Few ticks issue something, and the places that this takes are large: it stands apart, so that the other
@@ -43,202 +51,198 @@ fn hold(held: &mut Held, tick: u32, issued: &Issued)
     *held = Held::of_tick(tick, true, issued);
 }
 
-// Gives an item to the core. One that the schedule allows is taken; no other is given to it in a run.
+// The same where a tick issues something at all.
 #[inline(always)]
-fn give(core: &mut Core, sensor: Sensor, item: Item)
-    ensures { (n : ℕ) (p : Progress) → CoreIsFor core.old n p → IsAllowed (Give sensor item) p → CoreIsFor core.new n (after_step p (Give sensor item)) }
+fn hold_issued(held: &mut Held, tick: u32, issues: bool, issued: &Issued)
+    requires { issues_held held.old ≡ [] }
+    ensures { issues_held held.new ≡ map (issue_at tick) (commands_put issues issued.now) }
 {
-    let _ = core.accept(sensor, item);
+    if issues {
+        hold(held, tick, issued);
+    }
+}
+
+// Closes the ask, if one is open.
+fn settle(asker: &mut Asker, asking: &mut bool)
+    requires open { asking.old ≡ true → open_zero asker.old ≢ 0 }
+    requires none { asking.old ≡ false → open_zero asker.old ≡ 0 }
+    ensures asking { asking.new ≡ false }
+    ensures settled { IsSettled asker.old asker.new }
+{
+    if *asking {
+        asker.settle();
+        *asking = false;
+    }
+}
+
+// Whether the part is one of that slow sensor.
+fn is_of(part: &Part, sensor: Sensor) -> bool
+    ensures { result ≡ true → IsSlow part.now.sensor × (part.now.sensor ≡ sensor) }
+{
+    match (part.sensor, sensor) {
+        (Sensor::Speed, Sensor::Speed) => true,
+        (Sensor::Throttle, Sensor::Throttle) => true,
+        (Sensor::Brake, Sensor::Brake) => true,
+        (Sensor::Belt, Sensor::Belt) => true,
+        (Sensor::Lamp, Sensor::Lamp) => true,
+        _ => false,
+    }
+}
+
+// Gives an item to the core. It answers whether it was taken, as one that the schedule allows is.
+#[inline(always)]
+fn give(core: &mut SplitCore, sensor: Sensor, item: Item) -> bool
+    ensures taken { result ≡ true → (h : History) → SplitCoreStandsFor core.old h → IsAllowed (Give sensor item) h.past × SplitCoreStandsFor core.new (after_item sensor item h) }
+    ensures refused { result ≡ false → (core.new ≡ core.old) × ((h : History) → SplitCoreStandsFor core.old h → IsAllowed (Give sensor item) h.past → ⊥) }
+{
+    core.accept(sensor, item).is_ok()
 }
 
 impl Desk {
-    // Takes the next item of that sensor, if it is no further ahead of the closed tick than a gap may be. In each call of `take_some`
-    // the sensor is known, and with it all that is chosen by it.
+    /// A desk before the first item: nothing was posted by its seats, taken out of its rings or sent.
+    pub fn new(
+        core: SplitCore,
+        fast: FastInlets,
+        parts: PartInlets,
+        asker: Asker,
+        seat: RecorderSeat,
+        watch: Watch,
+        outbox: Outbox,
+    ) -> Desk
+        ensures core { result.core ≡ core }
+        ensures rings { (result.fast ≡ fast) × (result.parts ≡ parts) × (result.outbox ≡ outbox) }
+        ensures seats { (result.asker ≡ asker) × (result.seat ≡ seat) × (result.watch ≡ watch) }
+        ensures stands { (n horizon : ℕ) → Begins n core asker fast parts outbox → DeskStands n horizon result }
+        ensures posted { closed_posted seat ≡ 0 → gate_posted seat ≤ 1 → HasPosted result }
+    {
+        Desk {
+            core,
+            fast,
+            last: FastMarks {
+                along: 0,
+                across: 0,
+                restraint: 0,
+            },
+            parts,
+            asker,
+            seat,
+            watch,
+            outbox,
+            held: Held::none(),
+            posted: 0,
+            granted: FIRST_GRANT,
+            asking: false,
+        }
+    }
+
+    // Takes the next item of that sensor, if it is no further ahead of the closed tick than a gap may be.
     #[inline(always)]
-    fn take_next(&mut self, sensor: Sensor) -> bool
-        ensures follows { Follows self.old self.new }
-        ensures seat { (self.new.seat ≡ self.old.seat) × (self.new.posted ≡ self.old.posted) }
+    pub(crate) fn take_next(&mut self, sensor: FastSensor) -> bool
+        requires { IsRecording self.old }
+        ensures later { Later self.old self.new }
+        ensures stands { IsRecording self.new }
+        ensures seat { SeatStays self.old self.new }
         ensures held { self.new.held ≡ self.old.held }
     {
         let upto = self.core.closed().saturating_add(LONGEST_GAP);
-        let Some(item) = self.inlets.take_upto(sensor, upto) else {
+        let Some(item) = self.fast.take_upto(sensor, upto) else {
             return false;
         };
         self.last.set(sensor, item.moment);
-        give(&mut self.core, sensor, item);
+        give(&mut self.core, sensor.sensor(), item);
         true
     }
 
-    // Takes what there is of that sensor and may be taken, at most as many items as a ring has room for.
-    #[inline(always)]
-    fn take_some(&mut self, sensor: Sensor) -> bool
-        ensures follows { Follows self.old self.new }
-        ensures seat { (self.new.seat ≡ self.old.seat) × (self.new.posted ≡ self.old.posted) }
+    // Reads the mark of a slow sensor, and gives it to the core where it has risen.
+    pub(crate) fn load_mark(&mut self, sensor: Sensor) -> bool
+        requires slow { IsSlow sensor }
+        requires stands { IsRecording self.old }
+        ensures later { Later self.old self.new }
+        ensures stands { IsRecording self.new }
+        ensures seat { SeatStays self.old self.new }
         ensures held { self.new.held ≡ self.old.held }
     {
-        let mut moved = false;
-        for _ in 0..SLOTS {
-            if !self.take_next(sensor) {
-                break;
-            }
-            moved = true;
-        }
-        moved
+        let mark = self.asker.mark(sensor);
+        let item = Item {
+            moment: mark,
+            value: None,
+        };
+        give(&mut self.core, sensor, item)
     }
 
-    // Closes the next tick, if no sensor can give an item of it any more, and holds what it issues. `issued` is a place to put that
-    // aside: it is large, and most ticks issue nothing.
+    // Grants what the slow sensors may keep, where that has risen: as far ahead of the closed tick as a gap may be, up to a day.
+    pub(crate) fn grant(&mut self)
+        requires { IsRecording self.old }
+        ensures later { Later self.old self.new }
+        ensures stands { IsRecording self.new }
+        ensures seat { SeatStays self.old self.new }
+        ensures held { self.new.held ≡ self.old.held }
+    {
+        let upto = self
+            .core
+            .closed()
+            .saturating_add(LONGEST_GAP)
+            .min(LATEST_MOMENT);
+        if self.granted < upto {
+            self.asker.grant(upto);
+            self.granted = upto;
+        }
+    }
+
+    // Takes a part of that sensor, if there is one. One that isn't of its ring's sensor, or isn't asked for, is left aside.
+    pub(crate) fn take_part(&mut self, sensor: Sensor) -> bool
+        requires { IsRecording self.old }
+        ensures later { Later self.old self.new }
+        ensures stands { IsRecording self.new }
+        ensures seat { SeatStays self.old self.new }
+        ensures held { self.new.held ≡ self.old.held }
+    {
+        let Some(own) = self.parts.take(sensor) else {
+            return false;
+        };
+        if is_of(&own, sensor) {
+            let _ = self.core.part(own);
+        }
+        true
+    }
+
+    // Closes the next tick, if no sensor can give an item of it any more, and holds what it issues. A time zero is asked for first,
+    // and closed once its parts are there. `issued` is a place to put aside what a tick issues: it is large, and most ticks issue
+    // nothing.
     fn close_next(&mut self, issued: &mut Issued) -> bool
-        requires { issues_held self.old.held ≡ [] }
-        ensures follows { Follows self.old self.new }
-        ensures seat { (self.new.seat ≡ self.old.seat) × (self.new.posted ≡ self.old.posted) }
+        requires stands { IsRecording self.old }
+        requires none { issues_held self.old.held ≡ [] }
+        ensures later { LaterUpTo (self.old.core.closed + 1) self.old self.new }
+        ensures stands { IsRecording self.new }
+        ensures seat { SeatStays self.old self.new }
     {
         match self.core.close(issued) {
-            Closing::Waiting { .. } => false,
-            Closing::Closed { issues: false, .. } => true,
-            Closing::Closed { tick, issues: true } => {
-                hold(&mut self.held, tick, issued);
+            SplitClosing::Waiting { .. } => false,
+            SplitClosing::Parts { .. } => false,
+            SplitClosing::Ask { zero } => {
+                self.asker.ask(zero);
+                self.asking = true;
+                true
+            }
+            SplitClosing::Closed { tick, issues } => {
+                settle(&mut self.asker, &mut self.asking);
+                hold_issued(&mut self.held, tick, issues, issued);
                 true
             }
         }
     }
 
     // The same below the horizon alone, and where nothing is held.
-    fn close_below(&mut self, horizon: u32, issued: &mut Issued) -> bool
-        ensures follows { Follows self.old self.new }
-        ensures seat { (self.new.seat ≡ self.old.seat) × (self.new.posted ≡ self.old.posted) }
+    pub(crate) fn close_below(&mut self, horizon: u32, issued: &mut Issued) -> bool
+        requires { IsRecording self.old }
+        ensures later { LaterUpTo horizon self.old self.new }
+        ensures stands { IsRecording self.new }
+        ensures seat { SeatStays self.old self.new }
     {
         if self.held.is_none() && self.core.closed() < horizon {
             self.close_next(issued)
         } else {
             false
         }
-    }
-
-    // Closes ticks up to one that issues something, or that waits for a sensor, or the horizon.
-    fn close_some(&mut self, horizon: u32) -> bool
-        ensures follows { Follows self.old self.new }
-        ensures seat { (self.new.seat ≡ self.old.seat) × (self.new.posted ≡ self.old.posted) }
-    {
-        let mut issued = Issued::none();
-        let mut moved = false;
-        for _ in 0..SLOTS {
-            if !self.close_below(horizon, &mut issued) {
-                break;
-            }
-            moved = true;
-        }
-        moved
-    }
-
-    // Sends what is held, as far as there is room, and answers whether none is left.
-    fn send_held(&mut self) -> bool
-        ensures follows { Follows self.old self.new }
-        ensures seat { (self.new.seat ≡ self.old.seat) × (self.new.posted ≡ self.old.posted) }
-        ensures all { result ≡ true → issues_held self.new.held ≡ [] }
-    {
-        self.held.send(&mut self.outbox)
-    }
-
-    // Posts the closed tick, if it has risen. All that was issued up to it is sent by then.
-    fn post_closed(&mut self)
-        requires posted { IsPosted self.old }
-        requires sent { issues_held self.old.held ≡ [] }
-        ensures follows { Follows self.old self.new }
-        ensures posted { IsPosted self.new }
-        ensures held { self.new.held ≡ self.old.held }
-    {
-        let closed = self.core.closed();
-        if self.posted < closed {
-            self.seat.post_closed(closed);
-            self.posted = closed;
-        }
-    }
-
-    // Wakes the committer where there is news for it: orders were sent, or the horizon is posted.
-    fn wake(&self, sent: bool, horizon: u32) {
-        if sent || self.posted >= horizon {
-            self.seat.wake();
-        }
-    }
-
-    // Takes items of each axis and of the restraints.
-    fn take_fast(&mut self) -> bool
-        ensures follows { Follows self.old self.new }
-        ensures seat { (self.new.seat ≡ self.old.seat) × (self.new.posted ≡ self.old.posted) }
-        ensures held { self.new.held ≡ self.old.held }
-    {
-        let along = self.take_some(Sensor::Along);
-        let across = self.take_some(Sensor::Across);
-        let restraint = self.take_some(Sensor::Restraint);
-        along | across | restraint
-    }
-
-    // Takes items of the other sensors.
-    fn take_slow(&mut self) -> bool
-        ensures follows { Follows self.old self.new }
-        ensures seat { (self.new.seat ≡ self.old.seat) × (self.new.posted ≡ self.old.posted) }
-        ensures held { self.new.held ≡ self.old.held }
-    {
-        let speed = self.take_some(Sensor::Speed);
-        let throttle = self.take_some(Sensor::Throttle);
-        let brake = self.take_some(Sensor::Brake);
-        let belt = self.take_some(Sensor::Belt);
-        let lamp = self.take_some(Sensor::Lamp);
-        speed | throttle | brake | belt | lamp
-    }
-
-    // One turn: what is held is sent before its tick is posted as closed; then items are taken, and ticks are closed. It answers
-    // whether anything was done.
-    fn turn(&mut self, horizon: u32) -> bool
-        requires { IsPosted self.old }
-        ensures follows { Follows self.old self.new }
-        ensures posted { IsPosted self.new }
-    {
-        let sends = !self.held.is_none();
-        if !self.send_held() {
-            return false;
-        }
-        self.post_closed();
-        self.wake(sends, horizon);
-        let fast = self.take_fast();
-        let slow = self.take_slow();
-        let closed = self.close_some(horizon);
-        fast | slow | closed
-    }
-
-    // Turns, up to the horizon, or until the committer has stopped.
-    fn work<R: Wait>(&mut self, rt: &R, horizon: u32, ends: Marks)
-        requires { IsPosted self.old }
-        ensures follows { Follows self.old self.new }
-    {
-        for _ in rt.forever() {
-            let moved = self.turn(horizon);
-            if self.posted >= horizon && self.last == ends {
-                break;
-            }
-            if self.watch.read().stopped {
-                break;
-            }
-            if !moved {
-                thread::yield_now();
-            }
-        }
-    }
-
-    /// The recorder's loop. Where the committer has stopped, the gate is posted 2 and nothing is done. `ends` are the last moments of
-    /// the feeds, and the loop ends once it has taken every item and closed the horizon.
-    pub fn record<R: Wait>(self, rt: &R, horizon: u32, ends: Marks) -> Desk
-        requires { IsPosted self }
-        ensures follows { Follows self result }
-    {
-        let mut desk = self;
-        if desk.watch.read().stopped {
-            desk.seat.post_gate(2);
-            return desk;
-        }
-        desk.seat.post_gate(1);
-        desk.work(rt, horizon, ends);
-        desk
     }
 }

@@ -1,19 +1,19 @@
-//! The turns of the desk of `split_desk.rt`: what one step does for one sensor is done for all, again and again. It stands apart, since
+//! The turns of the desk of `desk.rt`: what one step does for one sensor is done for all, again and again. It stands apart, since
 //! each turn is made of the steps there.
 
 ghost use Rattle.std.specs.Prelude.{◌≡◌, ◌≤◌, [], true};
 ghost use Rattle.edr_loops.specs.Held.{issues_held};
-ghost use Rattle.edr_loops.specs.SplitDesks.{HasPosted, IsRecording, Later, LaterUpTo, SeatStays};
+ghost use Rattle.edr_loops.specs.Desks.{HasPosted, IsRecording, Later, LaterUpTo, SeatStays};
 
+use crate::desk::Desk;
 use crate::fast_inlets::{FastMarks, FastSensor};
-use crate::split_desk::SplitDesk;
 use edr_core::Issued;
 use edr_items::{LATEST_MOMENT, LONGEST_GAP, Sensor};
 use edr_seats::SLOTS;
 use std::sync::Wait;
 use std::thread;
 
-impl SplitDesk {
+impl Desk {
     // Takes what there is of that sensor and may be taken, at most as many items as a ring has room for.
     #[inline(always)]
     fn take_some(&mut self, sensor: FastSensor) -> bool
@@ -196,7 +196,7 @@ impl SplitDesk {
 
     /// The recorder's loop. Where the committer has stopped, the gate is posted 2 and nothing is done. `ends` are the last moments of
     /// the feeds of the sensors 1, 2 and 8, and the loop ends once it has taken every item of these and closed the horizon.
-    pub fn record<R: Wait>(self, rt: &R, horizon: u32, ends: FastMarks) -> SplitDesk
+    pub fn record<R: Wait>(self, rt: &R, horizon: u32, ends: FastMarks) -> Desk
         requires stands { IsRecording self }
         requires posted { HasPosted self }
         ensures later { LaterUpTo horizon self result }

@@ -2,7 +2,7 @@
 
 ghost use Rattle.std.specs.Prelude.{◌≡◌, ◌≤◌, MatchOption};
 ghost use Rattle.edr_loops.specs.FastInlets.{fast_mark, sensor_of, with_fast, with_fast_mark};
-ghost use Rattle.edr_loops.specs.ServiceLanes.{SameFastInlets, fast_taken};
+ghost use Rattle.edr_loops.specs.Lanes.{SameFastInlets, fast_taken};
 
 use crate::tray::Tray;
 use edr_items::{Item, Sensor};
@@ -38,9 +38,9 @@ pub struct FastInlets {
 }
 
 impl FastInlets {
-    /// Takes the next item of that sensor, if there is one and its moment is not past `upto`.
+    // Takes the next item of that sensor, if there is one and its moment is not past `upto`.
     #[inline(always)]
-    pub fn take_upto(&mut self, sensor: FastSensor, upto: u32) -> Option<Item>
+    pub(crate) fn take_upto(&mut self, sensor: FastSensor, upto: u32) -> Option<Item>
         ensures rings { SameFastInlets self.old self.new }
         ensures taken { MatchOption result (fast_taken self.new ≡ fast_taken self.old)
             (λ item. (fast_taken self.new ≡ with_fast sensor item (fast_taken self.old)) × (item.moment ≤ upto)) }

@@ -1,26 +1,21 @@
 //! The loops of the threads of a recorder, and what crosses between them.
 #![tactic(auto)]
 
+mod dealing;
 mod desk;
 #[cfg(test)]
 mod desk_tests;
 mod desk_turns;
 mod fast_inlets;
 mod held;
-mod inlets;
 mod lanes;
-mod marks;
 mod orders;
 mod part_inlets;
 mod place;
-mod service;
-mod service_lanes;
-#[cfg(test)]
-mod service_tests;
-mod service_threads;
 mod slow_place;
-mod split_desk;
 mod stand;
+#[cfg(test)]
+mod stand_tests;
 #[cfg(test)]
 mod tests;
 mod threads;
@@ -29,19 +24,13 @@ mod tray;
 pub use crate::desk::Desk;
 pub use crate::fast_inlets::{FastInlets, FastMarks, FastSensor};
 pub use crate::held::Held;
-pub use crate::inlets::Inlets;
-pub use crate::lanes::{Lanes, make_lanes, settle};
-pub use crate::marks::Marks;
+pub use crate::lanes::{
+    FastLanes, SlowLanes, make_fast_lanes, make_slow_lanes, settle_fast, settle_parts,
+};
 pub use crate::orders::{Inbox, Order, Orders, Outbox, make_orders};
 pub use crate::part_inlets::PartInlets;
 pub use crate::place::{Gate, Offered, Passage, Place};
-pub use crate::service::{FastPlaces, Service, SlowPlaces};
-pub use crate::service_lanes::{
-    FastLanes, SlowLanes, make_fast_lanes, make_slow_lanes, settle_fast, settle_parts,
-};
-pub use crate::service_threads::{ServiceDone, start_service};
 pub use crate::slow_place::SlowPlace;
-pub use crate::split_desk::SplitDesk;
-pub use crate::stand::{Places, Stand};
+pub use crate::stand::{FastPlaces, SlowPlaces, Stand};
 pub use crate::threads::{Recording, Serving, start_recorder, start_worker};
 pub use crate::tray::Tray;

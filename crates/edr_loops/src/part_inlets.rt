@@ -2,7 +2,7 @@
 
 ghost use Rattle.std.specs.Prelude.{◌≡◌, MatchOption};
 ghost use Rattle.edr_loops.specs.PartInlets.{with_part};
-ghost use Rattle.edr_loops.specs.ServiceLanes.{SamePartInlets, slow_taken};
+ghost use Rattle.edr_loops.specs.Lanes.{SamePartInlets, slow_taken};
 
 use edr_capture::Part;
 use edr_items::Sensor;
@@ -19,8 +19,8 @@ pub struct PartInlets {
 }
 
 impl PartInlets {
-    /// Takes the oldest part of that sensor, if there is one. The other three sensors give none.
-    pub fn take(&mut self, sensor: Sensor) -> Option<Part>
+    // Takes the oldest part of that sensor, if there is one. The other three sensors give none.
+    pub(crate) fn take(&mut self, sensor: Sensor) -> Option<Part>
         ensures rings { SamePartInlets self.old self.new }
         ensures taken { MatchOption result (slow_taken self.new ≡ slow_taken self.old)
             (λ part. slow_taken self.new ≡ with_part sensor part (slow_taken self.old)) }

@@ -1,144 +1,121 @@
-//! A worker's stand: the sensors that it serves, and its loop.
+//! A worker's stand: the sensors that it serves, of which the slow ones keep their own items, and its loop.
 
 ghost use Rattle.std.specs.Prelude.{◌≡◌};
 ghost use Rattle.edr_board.specs.Seats.{board_of_watch};
-ghost use Rattle.edr_loops.specs.Places.{IsDealt};
-ghost use Rattle.edr_loops.specs.Stands.{AreBegun, AreDealt, GoOn, either_places};
+ghost use Rattle.edr_loops.specs.Stands.{AreFastBegun, AreKept, FastGoOn, SlowKeepOn};
 
 use crate::place::{Gate, Offered, Place, serve_some};
+use crate::slow_place::{SlowPlace, serve_slow};
 use edr_board::Watch;
 use edr_items::{Feeds, Sensor};
 use std::sync::Wait;
 use std::thread;
 
-/// The places of some sensors.
+/// The places of some of the sensors 1, 2 and 8, whose items go through rings.
 #[derive(Drop)]
-pub struct Places {
+pub struct FastPlaces {
     pub along: Option<Place>,
     pub across: Option<Place>,
-    pub speed: Option<Place>,
-    pub throttle: Option<Place>,
-    pub brake: Option<Place>,
-    pub belt: Option<Place>,
-    pub lamp: Option<Place>,
     pub restraint: Option<Place>,
+}
+
+/// The places of some of the sensors 3 to 7, which keep their items and send parts alone.
+#[derive(Drop)]
+pub struct SlowPlaces {
+    pub speed: Option<SlowPlace>,
+    pub throttle: Option<SlowPlace>,
+    pub brake: Option<SlowPlace>,
+    pub belt: Option<SlowPlace>,
+    pub lamp: Option<SlowPlace>,
 }
 
 /// What a worker owns, and hands back at its join.
 #[derive(Drop)]
 pub struct Stand {
-    pub places: Places,
+    pub fast: FastPlaces,
+    pub slow: SlowPlaces,
     pub watch: Watch,
 }
 
-// Deals a place to this hand, or leaves it.
-fn deal_one(place: &mut Option<Place>, mine: bool) -> Option<Place>
-    ensures { IsDealt place.old result place.new }
-{
-    if mine { place.take() } else { None }
-}
-
-// Worker w serves the sensors i with (i - 1) mod workers = w.
-fn is_served_by(sensor: Sensor, w: u32, workers: u32) -> bool {
-    let place = u32::from(sensor.number() - 1);
-    place.checked_rem(workers) == Some(w)
-}
-
-impl Places {
-    /// Deals the places of this worker.
-    pub fn deal(&mut self, w: u32, workers: u32) -> Places
-        ensures { AreDealt self.old result self.new }
-    {
-        Places {
-            along: deal_one(&mut self.along, is_served_by(Sensor::Along, w, workers)),
-            across: deal_one(&mut self.across, is_served_by(Sensor::Across, w, workers)),
-            speed: deal_one(&mut self.speed, is_served_by(Sensor::Speed, w, workers)),
-            throttle: deal_one(
-                &mut self.throttle,
-                is_served_by(Sensor::Throttle, w, workers),
-            ),
-            brake: deal_one(&mut self.brake, is_served_by(Sensor::Brake, w, workers)),
-            belt: deal_one(&mut self.belt, is_served_by(Sensor::Belt, w, workers)),
-            lamp: deal_one(&mut self.lamp, is_served_by(Sensor::Lamp, w, workers)),
-            restraint: deal_one(
-                &mut self.restraint,
-                is_served_by(Sensor::Restraint, w, workers),
-            ),
-        }
-    }
-
-    /// These places and the others.
-    pub fn and(self, other: Places) -> Places
-        ensures { result ≡ either_places self other }
-    {
-        Places {
-            along: self.along.or(other.along),
-            across: self.across.or(other.across),
-            speed: self.speed.or(other.speed),
-            throttle: self.throttle.or(other.throttle),
-            brake: self.brake.or(other.brake),
-            belt: self.belt.or(other.belt),
-            lamp: self.lamp.or(other.lamp),
-            restraint: self.restraint.or(other.restraint),
-        }
-    }
-
+impl FastPlaces {
     // One round over the sensors. It answers what came of their offers.
     fn round<G: Gate>(&mut self, feeds: &Feeds, gate: &G) -> Offered
-        requires { AreBegun feeds.now self.old }
-        ensures { GoOn feeds.now self.old self.new }
+        requires { AreFastBegun feeds.now self.old }
+        ensures { FastGoOn feeds.now self.old self.new }
     {
         let along = serve_some(&mut self.along, Sensor::Along, feeds, gate);
         let across = serve_some(&mut self.across, Sensor::Across, feeds, gate);
-        let speed = serve_some(&mut self.speed, Sensor::Speed, feeds, gate);
-        let throttle = serve_some(&mut self.throttle, Sensor::Throttle, feeds, gate);
-        let brake = serve_some(&mut self.brake, Sensor::Brake, feeds, gate);
-        let belt = serve_some(&mut self.belt, Sensor::Belt, feeds, gate);
-        let lamp = serve_some(&mut self.lamp, Sensor::Lamp, feeds, gate);
         let restraint = serve_some(&mut self.restraint, Sensor::Restraint, feeds, gate);
-        let axes = along.and(across);
-        let fast = axes.and(restraint);
-        let driver = speed.and(throttle).and(brake);
-        let seats = belt.and(lamp);
-        fast.and(driver).and(seats)
+        along.and(across).and(restraint)
     }
 }
 
-impl Places {
-    // Rounds, until all items are offered, or the board says that the work goes on without this worker.
-    fn work<R: Wait, G: Gate>(&mut self, rt: &R, watch: &mut Watch, feeds: &Feeds, gate: &G)
-        requires { AreBegun feeds.now self.old }
-        ensures places { GoOn feeds.now self.old self.new }
-        ensures board { board_of_watch watch.new ≡ board_of_watch watch.old }
+impl SlowPlaces {
+    // Whether no slow sensor is served here.
+    fn is_empty(&self) -> bool {
+        let pedals = self.speed.is_none() && self.throttle.is_none() && self.brake.is_none();
+        pedals && self.belt.is_none() && self.lamp.is_none()
+    }
+
+    // One round over the sensors. It answers what came of their offers, and of the parts that are asked for.
+    fn round<G: Gate>(&mut self, feeds: &Feeds, gate: &G) -> Offered
+        requires { AreKept feeds.now self.old }
+        ensures { SlowKeepOn feeds.now self.old self.new }
     {
-        for _ in rt.forever() {
-            let offered = self.round(feeds, gate);
-            let status = watch.read();
-            if offered == Offered::Over || status.stopped || status.gate == 2 {
-                break;
-            }
-            if offered == Offered::Full {
-                thread::yield_now();
-            }
-        }
+        let speed = serve_slow(&mut self.speed, Sensor::Speed, feeds, gate);
+        let throttle = serve_slow(&mut self.throttle, Sensor::Throttle, feeds, gate);
+        let brake = serve_slow(&mut self.brake, Sensor::Brake, feeds, gate);
+        let belt = serve_slow(&mut self.belt, Sensor::Belt, feeds, gate);
+        let lamp = serve_slow(&mut self.lamp, Sensor::Lamp, feeds, gate);
+        let driver = speed.and(throttle).and(brake);
+        let seats = belt.and(lamp);
+        driver.and(seats)
     }
 }
 
 impl Stand {
-    /// Serves its sensors once the gate isn't 0, until all their items are offered, or the board says that the work goes on
-    /// without it.
+    // Whether the worker's own work is done, once its fast sensors have given this. A slow sensor may be asked for a part until
+    // the horizon is closed.
+    fn is_done(&self, fast: Offered, closed: u32, horizon: u32) -> bool {
+        fast == Offered::Over && (self.slow.is_empty() || horizon <= closed)
+    }
+
+    // Rounds, until the worker's own work is done, or the board says that the work goes on without it.
+    fn work<R: Wait, G: Gate>(&mut self, rt: &R, feeds: &Feeds, gate: &G)
+        requires fast { AreFastBegun feeds.now self.old.fast }
+        requires slow { AreKept feeds.now self.old.slow }
+        ensures fast { FastGoOn feeds.now self.old.fast self.new.fast }
+        ensures slow { SlowKeepOn feeds.now self.old.slow self.new.slow }
+        ensures board { board_of_watch self.new.watch ≡ board_of_watch self.old.watch }
+    {
+        let horizon = feeds.horizon();
+        for _ in rt.forever() {
+            let fast = self.fast.round(feeds, gate);
+            let slow = self.slow.round(feeds, gate);
+            let status = self.watch.read();
+            if status.stopped || status.gate == 2 || self.is_done(fast, status.closed, horizon) {
+                break;
+            }
+            if fast.and(slow) != Offered::Sent {
+                thread::yield_now();
+            }
+        }
+    }
+
+    /// Serves its sensors once the gate isn't 0. Without slow sensors it goes on until all items are offered; with some of them
+    /// also until the horizon is closed, since their parts may be asked for up to there. It ends earlier where the board says
+    /// that the work goes on without it.
     pub fn serve<R: Wait, G: Gate>(self, rt: &R, feeds: &Feeds, gate: &G) -> Stand
-        requires { AreBegun feeds.now self.places }
-        ensures places { GoOn feeds.now self.places result.places }
+        requires fast { AreFastBegun feeds.now self.fast }
+        requires slow { AreKept feeds.now self.slow }
+        ensures fast { FastGoOn feeds.now self.fast result.fast }
+        ensures slow { SlowKeepOn feeds.now self.slow result.slow }
         ensures board { board_of_watch result.watch ≡ board_of_watch self.watch }
     {
-        let Stand {
-            mut places,
-            mut watch,
-        } = self;
-        if watch.wait_gate(rt) != 2 {
-            places.work(rt, &mut watch, feeds, gate);
+        let mut stand = self;
+        if stand.watch.wait_gate(rt) != 2 {
+            stand.work(rt, feeds, gate);
         }
-        Stand { places, watch }
+        stand
     }
 }

@@ -1,13 +1,13 @@
-use Rattle.std.proofs.Common.{◌∙◌}
-use Rattle.edr_loops.proofs.DeskLemmas.{follows-again}
+use Rattle.std.proofs.Common.{arith, ◌∙◌}
+use Rattle.edr_loops.proofs.LaterLemmas.{later-again}
 use Rattle.edr_loops.proofs.desk.Desk.close_some.Goals as goal
 
 pub loop-preserved : goal.loop-preserved
 loop-preserved c = (
-  follows-again _ _ _ c.loop.invariant.0 c.close_below.ensures.follows,
-  c.close_below.ensures.seat.0 ∙ c.loop.invariant.1,
-  c.close_below.ensures.seat.1 ∙ c.loop.invariant.2,
+  later-again c.args.horizon c.args.horizon c.args.horizon _ _ _ (omega arith) (omega arith) c.loop.invariant.0 c.close_below.ensures.later,
+  c.close_below.ensures.stands,
+  (c.close_below.ensures.seat.0 ∙ c.loop.invariant.2.0, c.close_below.ensures.seat.1 ∙ c.loop.invariant.2.1),
 )
 
-pub returns-then-not-close_below-clause-follows : goal.returns-then-not-close_below-clause-follows
-returns-then-not-close_below-clause-follows c = follows-again _ _ _ c.loop.invariant.0 c.close_below.ensures.follows
+pub returns-then-not-close_below-clause-later : goal.returns-then-not-close_below-clause-later
+returns-then-not-close_below-clause-later c = later-again c.args.horizon c.args.horizon c.args.horizon _ _ _ (omega arith) (omega arith) c.loop.invariant.0 c.close_below.ensures.later

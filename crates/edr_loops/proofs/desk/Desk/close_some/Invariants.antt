@@ -1,6 +1,5 @@
-use Rattle.std.proofs.Common.{◌≡◌}
-use Rattle.edr_loops.specs.Desks.{Follows}
+use Rattle.edr_loops.specs.Desks.{IsRecording, LaterUpTo, SeatStays}
 use Rattle.edr_loops.proofs.desk.Desk.close_some.Given as goal
 
 abbrev pub invariant-loop : goal.invariant-loop
-invariant-loop l = Follows l.fn.self l.self × (l.self.seat ≡ l.fn.self.seat) × (l.self.posted ≡ l.fn.self.posted)
+invariant-loop l = LaterUpTo l.horizon l.fn.self l.self × IsRecording l.self × SeatStays l.fn.self l.self

@@ -1,6 +1,5 @@
-use Rattle.edr_loops.proofs.DeskLemmas.{follows-again}
+use Rattle.edr_loops.proofs.LaterLemmas.{later-twice}
 use Rattle.edr_loops.proofs.desk.Desk.take_fast.Goals as goal
 
-pub returns-clause-follows : goal.returns-clause-follows
-returns-clause-follows c =
-    follows-again _ _ _ c.take_some-along.ensures.follows (follows-again _ _ _ c.take_some-across.ensures.follows c.take_some-restraint.ensures.follows)
+pub returns-clause-later : goal.returns-clause-later
+returns-clause-later c = later-twice _ _ _ c.take_some-along.ensures.later (later-twice _ _ _ c.take_some-across.ensures.later (c.take_some-restraint.ensures.later))

@@ -1,6 +1,6 @@
 use Rattle.std.proofs.Common.{◌≡◌}
-use Rattle.edr_loops.specs.Desks.{Follows}
+use Rattle.edr_loops.specs.Desks.{IsRecording, Later, SeatStays}
 use Rattle.edr_loops.proofs.desk.Desk.take_some.Given as goal
 
 abbrev pub invariant-loop : goal.invariant-loop
-invariant-loop l = Follows l.fn.self l.self × (l.self.seat ≡ l.fn.self.seat) × (l.self.posted ≡ l.fn.self.posted) × (l.self.held ≡ l.fn.self.held)
+invariant-loop l = Later l.fn.self l.self × IsRecording l.self × SeatStays l.fn.self l.self × (l.self.held ≡ l.fn.self.held)

@@ -1,0 +1,111 @@
+-- The places of a worker that go on, and how they are dealt.
+use Rattle.std.proofs.Common.{◌≡◌, List, Option, Some, None, refl, sym, subst, inl, inr}
+use Rattle.edr_items.specs.declared.Sensor.{Sensor}
+use Rattle.edr_items.specs.declared.Sensor.TheVariants.{Speed, Throttle, Brake, Belt, Lamp}
+use Rattle.edr_items.specs.declared.Item.{Item}
+use Rattle.edr_items.specs.SensorLists.{SensorLists}
+use Rattle.edr_loops.specs.declared.stand.FastPlaces.{FastPlaces}
+use Rattle.edr_loops.specs.declared.stand.Stand.{Stand}
+use Rattle.edr_loops.specs.declared.stand.SlowPlaces.{SlowPlaces}
+use Rattle.edr_loops.specs.declared.slow_place.SlowPlace.{SlowPlace}
+use Rattle.edr_loops.specs.Places.{IsDealt}
+use Rattle.edr_loops.specs.SlowPlaces.{IsKept, KeepsOn}
+use Rattle.edr_loops.specs.Stands.{AreFastBegun, AreFastDealt, AreKept, AreSlowDealt, FastGoOn, SlowKeepOn, either_fast, either_slow, either}
+use Rattle.edr_loops.proofs.PlaceLemmas.{dealt-begun, dealt-goes, goes-again, goes-begun, goes-self, none-or}
+
+-- ---- the places of fast sensors
+pub fast_on-begun : (f : SensorLists) (a b : FastPlaces) → FastGoOn f a b → AreFastBegun f b
+fast_on-begun f a b h = record {
+  along = goes-begun f.along a.along b.along h.along;
+  across = goes-begun f.across a.across b.across h.across;
+  restraint = goes-begun f.restraint a.restraint b.restraint h.restraint;
+}
+
+pub fast_on-self : (f : SensorLists) (a : FastPlaces) → AreFastBegun f a → FastGoOn f a a
+fast_on-self f a h = record {
+  along = goes-self f.along a.along h.along;
+  across = goes-self f.across a.across h.across;
+  restraint = goes-self f.restraint a.restraint h.restraint;
+}
+
+pub fast_on-again : (f : SensorLists) (a b c : FastPlaces) → FastGoOn f a b → FastGoOn f b c → FastGoOn f a c
+fast_on-again f a b c h k = record {
+  along = goes-again f.along a.along b.along c.along h.along k.along;
+  across = goes-again f.across a.across b.across c.across h.across k.across;
+  restraint = goes-again f.restraint a.restraint b.restraint c.restraint h.restraint k.restraint;
+}
+
+pub fast_dealt-mine : (f : SensorLists) (a m r : FastPlaces) → AreFastBegun f a → AreFastDealt a m r → AreFastBegun f m
+fast_dealt-mine f a m r h d = record {
+  along = (dealt-begun f.along a.along m.along r.along h.along d.along).0;
+  across = (dealt-begun f.across a.across m.across r.across h.across d.across).0;
+  restraint = (dealt-begun f.restraint a.restraint m.restraint r.restraint h.restraint d.restraint).0;
+}
+
+pub fast_dealt-rest : (f : SensorLists) (a m r : FastPlaces) → AreFastBegun f a → AreFastDealt a m r → AreFastBegun f r
+fast_dealt-rest f a m r h d = record {
+  along = (dealt-begun f.along a.along m.along r.along h.along d.along).1;
+  across = (dealt-begun f.across a.across m.across r.across h.across d.across).1;
+  restraint = (dealt-begun f.restraint a.restraint m.restraint r.restraint h.restraint d.restraint).1;
+}
+
+pub fast_dealt-on : (f : SensorLists) (a m r m' r' : FastPlaces) → AreFastDealt a m r → FastGoOn f m m' → FastGoOn f r r' → FastGoOn f a (either_fast r' m')
+fast_dealt-on f a m r m' r' d h k = record {
+  along = dealt-goes f.along a.along m.along r.along m'.along r'.along d.along h.along k.along;
+  across = dealt-goes f.across a.across m.across r.across m'.across r'.across d.across h.across k.across;
+  restraint = dealt-goes f.restraint a.restraint m.restraint r.restraint m'.restraint r'.restraint d.restraint h.restraint k.restraint;
+}
+
+-- ---- one place of a slow sensor
+slow_dealt : (s : Sensor) (xs : List Item) (a m r : Option SlowPlace) → IsKept s xs a → IsDealt a m r → IsKept s xs m × IsKept s xs r
+slow_dealt s xs a m r h (inl d) = (subst (IsKept s xs) (sym d.0) h, subst (IsKept s xs) (sym d.1) tt)
+slow_dealt s xs a m r h (inr d) = (subst (IsKept s xs) (sym d.0) tt, subst (IsKept s xs) (sym d.1) h)
+
+slow-left : (s : Sensor) (xs : List Item) (r : Option SlowPlace) → KeepsOn s xs None r → r ≡ None
+slow-left s xs None h = refl
+slow-left s xs (Some r) h = absurd h
+
+slow_dealt-keeps : (s : Sensor) (xs : List Item) (a m r m' r' : Option SlowPlace) → IsDealt a m r → KeepsOn s xs m m' → KeepsOn s xs r r' → KeepsOn s xs a (either r' m')
+slow_dealt-keeps s xs a m r m' r' (inl d) h k =
+    let gone : r' ≡ None = slow-left s xs r' (subst (λ q. KeepsOn s xs q r') d.1 k) in
+    subst (λ q. KeepsOn s xs a (either q m')) (sym gone) (subst (λ q. KeepsOn s xs q m') d.0 h)
+slow_dealt-keeps s xs a m r m' r' (inr d) h k =
+    let gone : m' ≡ None = slow-left s xs m' (subst (λ q. KeepsOn s xs q m') d.0 h) in
+    subst (λ q. KeepsOn s xs a (either r' q)) (sym gone) (subst (λ q. KeepsOn s xs a q) (sym (none-or r')) (subst (λ q. KeepsOn s xs q r') d.1 k))
+
+-- ---- the places of slow sensors
+pub slow_dealt-mine : (f : SensorLists) (a m r : SlowPlaces) → AreKept f a → AreSlowDealt a m r → AreKept f m
+slow_dealt-mine f a m r h d = record {
+  speed = (slow_dealt Speed f.speed a.speed m.speed r.speed h.speed d.speed).0;
+  throttle = (slow_dealt Throttle f.throttle a.throttle m.throttle r.throttle h.throttle d.throttle).0;
+  brake = (slow_dealt Brake f.brake a.brake m.brake r.brake h.brake d.brake).0;
+  belt = (slow_dealt Belt f.belt a.belt m.belt r.belt h.belt d.belt).0;
+  lamp = (slow_dealt Lamp f.lamp a.lamp m.lamp r.lamp h.lamp d.lamp).0;
+}
+
+pub slow_dealt-rest : (f : SensorLists) (a m r : SlowPlaces) → AreKept f a → AreSlowDealt a m r → AreKept f r
+slow_dealt-rest f a m r h d = record {
+  speed = (slow_dealt Speed f.speed a.speed m.speed r.speed h.speed d.speed).1;
+  throttle = (slow_dealt Throttle f.throttle a.throttle m.throttle r.throttle h.throttle d.throttle).1;
+  brake = (slow_dealt Brake f.brake a.brake m.brake r.brake h.brake d.brake).1;
+  belt = (slow_dealt Belt f.belt a.belt m.belt r.belt h.belt d.belt).1;
+  lamp = (slow_dealt Lamp f.lamp a.lamp m.lamp r.lamp h.lamp d.lamp).1;
+}
+
+pub slow_dealt-on : (f : SensorLists) (a m r m' r' : SlowPlaces) → AreSlowDealt a m r → SlowKeepOn f m m' → SlowKeepOn f r r' → SlowKeepOn f a (either_slow r' m')
+slow_dealt-on f a m r m' r' d h k = record {
+  speed = slow_dealt-keeps Speed f.speed a.speed m.speed r.speed m'.speed r'.speed d.speed h.speed k.speed;
+  throttle = slow_dealt-keeps Throttle f.throttle a.throttle m.throttle r.throttle m'.throttle r'.throttle d.throttle h.throttle k.throttle;
+  brake = slow_dealt-keeps Brake f.brake a.brake m.brake r.brake m'.brake r'.brake d.brake h.brake k.brake;
+  belt = slow_dealt-keeps Belt f.belt a.belt m.belt r.belt m'.belt r'.belt d.belt h.belt k.belt;
+  lamp = slow_dealt-keeps Lamp f.lamp a.lamp m.lamp r.lamp m'.lamp r'.lamp d.lamp h.lamp k.lamp;
+}
+
+-- ---- what a worker's handle promises, of the places that went in
+pub back-fast_on : (f f' : SensorLists) (stand before back : Stand) → FastGoOn f' before.fast back.fast → before ≡ stand → f' ≡ f → FastGoOn f stand.fast back.fast
+back-fast_on f f' stand before back h was same =
+    subst (λ (l : SensorLists). FastGoOn l stand.fast back.fast) same (subst (λ (s : Stand). FastGoOn f' s.fast back.fast) was h)
+
+pub back-slow_on : (f f' : SensorLists) (stand before back : Stand) → SlowKeepOn f' before.slow back.slow → before ≡ stand → f' ≡ f → SlowKeepOn f stand.slow back.slow
+back-slow_on f f' stand before back h was same =
+    subst (λ (l : SensorLists). SlowKeepOn l stand.slow back.slow) same (subst (λ (s : Stand). SlowKeepOn f' s.slow back.slow) was h)

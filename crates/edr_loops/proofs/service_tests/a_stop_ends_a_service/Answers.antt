@@ -1,7 +1,0 @@
-use Rattle.edr_loops.proofs.service_tests.a_stop_ends_a_service.Goals as goal
-
-pub serve-requires-clause-fast : goal.serve-requires-clause-fast
-serve-requires-clause-fast g c = c.in_ok-service.ensures.fast c.in_ok-feeds.feeds
-
-pub serve-requires-clause-slow : goal.serve-requires-clause-slow
-serve-requires-clause-slow g c = c.in_ok-service.ensures.slow c.in_ok-feeds.feeds

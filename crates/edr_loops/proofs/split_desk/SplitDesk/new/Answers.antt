@@ -1,6 +1,0 @@
-use Rattle.std.proofs.Common.{refl}
-use Rattle.edr_loops.proofs.SplitDeskLemmas.{stands-begins}
-use Rattle.edr_loops.proofs.split_desk.SplitDesk.new.Goals as goal
-
-pub returns-clause-stands : goal.returns-clause-stands
-returns-clause-stands c = λ n horizon b. stands-begins n horizon _ b refl refl refl c.none.ensures

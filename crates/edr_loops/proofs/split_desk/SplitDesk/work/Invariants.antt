@@ -1,5 +1,0 @@
-use Rattle.edr_loops.specs.SplitDesks.{HasPosted, IsRecording, LaterUpTo}
-use Rattle.edr_loops.proofs.split_desk.SplitDesk.work.Given as goal
-
-abbrev pub invariant-loop : goal.invariant-loop
-invariant-loop g l = HasPosted l.self × IsRecording l.self × LaterUpTo l.horizon l.fn.self l.self

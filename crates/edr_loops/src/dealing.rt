@@ -1,0 +1,79 @@
+//! The sensors of a cycle are dealt to its workers, and what the workers hand back is put together again.
+
+ghost use Rattle.std.specs.Prelude.{◌≡◌};
+ghost use Rattle.edr_loops.specs.Places.{IsDealt};
+ghost use Rattle.edr_loops.specs.Stands.{AreFastDealt, AreSlowDealt, either_fast, either_slow};
+
+use crate::stand::{FastPlaces, SlowPlaces};
+use edr_items::Sensor;
+
+// Deals a place to this hand, or leaves it.
+pub(crate) fn deal_one<T>(place: &mut Option<T>, mine: bool) -> Option<T>
+    ensures { IsDealt place.old result place.new }
+{
+    if mine { place.take() } else { None }
+}
+
+// Worker w serves the sensors i with (i - 1) mod workers = w.
+pub(crate) fn is_served_by(sensor: Sensor, w: u32, workers: u32) -> bool {
+    let place = u32::from(sensor.number() - 1);
+    place.checked_rem(workers) == Some(w)
+}
+
+impl FastPlaces {
+    /// Deals the places of this worker: that of sensor number i is at the worker (i - 1) mod `workers`.
+    pub fn deal(&mut self, w: u32, workers: u32) -> FastPlaces
+        ensures { AreFastDealt self.old result self.new }
+    {
+        FastPlaces {
+            along: deal_one(&mut self.along, is_served_by(Sensor::Along, w, workers)),
+            across: deal_one(&mut self.across, is_served_by(Sensor::Across, w, workers)),
+            restraint: deal_one(
+                &mut self.restraint,
+                is_served_by(Sensor::Restraint, w, workers),
+            ),
+        }
+    }
+
+    /// These places and the others.
+    pub fn and(self, other: FastPlaces) -> FastPlaces
+        ensures { result ≡ either_fast self other }
+    {
+        FastPlaces {
+            along: self.along.or(other.along),
+            across: self.across.or(other.across),
+            restraint: self.restraint.or(other.restraint),
+        }
+    }
+}
+
+impl SlowPlaces {
+    /// Deals the places of this worker: that of sensor number i is at the worker (i - 1) mod `workers`.
+    pub fn deal(&mut self, w: u32, workers: u32) -> SlowPlaces
+        ensures { AreSlowDealt self.old result self.new }
+    {
+        SlowPlaces {
+            speed: deal_one(&mut self.speed, is_served_by(Sensor::Speed, w, workers)),
+            throttle: deal_one(
+                &mut self.throttle,
+                is_served_by(Sensor::Throttle, w, workers),
+            ),
+            brake: deal_one(&mut self.brake, is_served_by(Sensor::Brake, w, workers)),
+            belt: deal_one(&mut self.belt, is_served_by(Sensor::Belt, w, workers)),
+            lamp: deal_one(&mut self.lamp, is_served_by(Sensor::Lamp, w, workers)),
+        }
+    }
+
+    /// These places and the others.
+    pub fn and(self, other: SlowPlaces) -> SlowPlaces
+        ensures { result ≡ either_slow self other }
+    {
+        SlowPlaces {
+            speed: self.speed.or(other.speed),
+            throttle: self.throttle.or(other.throttle),
+            brake: self.brake.or(other.brake),
+            belt: self.belt.or(other.belt),
+            lamp: self.lamp.or(other.lamp),
+        }
+    }
+}
