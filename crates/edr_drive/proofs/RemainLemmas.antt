@@ -1,5 +1,5 @@
 -- What a desk that asks for parts leaves to the closing path.
-use Rattle.std.proofs.Common.{arith, ◌≡◌, ◌∙◌, ◌<◌, ◌≤◌, ℕ, List, [], get_or, sym, ap, subst}
+use Rattle.std.proofs.Common.{arith, ◌≡◌, ◌∙◌, ◌≤◌, ℕ, List, [], get_or, sym, ap, subst}
 use Rattle.std.specs.Prelude.{All}
 use Rattle.std.specs.List.{Contains}
 use Rattle.edr_items.specs.declared.Sensor.{Sensor}
@@ -10,8 +10,8 @@ use Rattle.edr_items.specs.SensorLists.{SensorLists, AreFeeds, horizon_of, items
 use Rattle.edr_definitions.specs.Commands.{issues}
 use Rattle.edr_definitions.specs.Schedule.{BeginsWith}
 use Rattle.edr_capture.specs.SensorPart.{SensorPart, part_slots}
-use Rattle.edr_core.specs.Parts.{AreSlotsOf, issues_with, parts_of}
-use Rattle.edr_core.specs.SplitHistory.{History}
+use Rattle.edr_core.specs.Parts.{AreSlotsOf, parts_of}
+use Rattle.edr_core.specs.SplitContents.{SplitContents}
 use Rattle.edr_cycle.specs.declared.remaining.Remaining.{Remaining}
 use Rattle.edr_cycle.specs.Remaining.{Remains, RemainsAt, WasTold}
 use Rattle.edr_cycle.proofs.AnswerLemmas.{issued-now}
@@ -19,14 +19,14 @@ use Rattle.edr_cycle.proofs.RestBegins.{part-begun}
 use Rattle.edr_cycle.proofs.RestLemmas.{feed-front}
 use Rattle.edr_loops.specs.declared.fast_inlets.FastInlets.{FastInlets}
 use Rattle.edr_loops.specs.declared.part_inlets.PartInlets.{PartInlets}
-use Rattle.edr_loops.specs.declared.split_desk.SplitDesk.{SplitDesk}
+use Rattle.edr_loops.specs.declared.desk.Desk.{Desk}
 use Rattle.edr_loops.specs.FastInlets.{AreFastFeeds, HaveFast}
 use Rattle.edr_loops.specs.Held.{issues_out}
 use Rattle.edr_loops.specs.PartInlets.{IsTaken}
 use Rattle.edr_loops.specs.PartInlets.{parts_of as parts_of_inlets}
-use Rattle.edr_loops.specs.ServiceLanes.{ArePartsOf, FastBegin, fast_taken, slow_taken}
+use Rattle.edr_loops.specs.Lanes.{ArePartsOf, FastBegin, fast_taken, slow_taken}
 use Rattle.edr_loops.specs.SlowPlaces.{AreParts, IsPartOf}
-use Rattle.edr_loops.specs.SplitDesks.{Stands}
+use Rattle.edr_loops.specs.Desks.{DeskStands}
 
 -- ---- the parts
 in-list : (s : Sensor) (xs : List Item) (ps : List SensorPart) (q : SensorPart) → IsFeed s xs → AreParts s xs ps → Contains ps q → part_slots s xs q.zero ≡ q.slots
@@ -61,7 +61,7 @@ fast-feeds f i feeds begins = record {
   restraint = feed-front Restraint 0 (fast_taken i).restraint begins.restraint.0 (subst (λ (xs : List Item). IsFeed Restraint xs) begins.restraint.1 feeds.restraint);
 }
 
-pub desk-was-told : (f : SensorLists) (n : ℕ) (d : SplitDesk) → AreFeeds f → FastBegin f d.fast → ArePartsOf f d.parts → (s : Stands n (horizon_of f) d) → WasTold f s.history d.core d.last.along d.last.across d.last.restraint
+pub desk-was-told : (f : SensorLists) (n : ℕ) (d : Desk) → AreFeeds f → FastBegin f d.fast → ArePartsOf f d.parts → (s : DeskStands n (horizon_of f) d) → WasTold f s.history d.core d.last.along d.last.across d.last.restraint
 desk-was-told f n d feeds begins are s =
     let have : HaveFast (fast_taken d.fast) s.history.past.given = s.told.taken_are (fast-feeds f d.fast feeds begins) in
     record {
@@ -77,17 +77,22 @@ desk-was-told f n d feeds begins are s =
     }
 
 -- what remains of its cycle, by the number that the core has
-pub desk-remains : (f : SensorLists) (n : ℕ) (d : SplitDesk) (rest : Remaining) → (s : Stands n (horizon_of f) d) → RemainsAt f s.history.cycle s.history d.core rest → Remains f d.core.cycle d.core rest
+pub desk-remains : (f : SensorLists) (n : ℕ) (d : Desk) (rest : Remaining) → (s : DeskStands n (horizon_of f) d) → RemainsAt f s.history.cycle s.history d.core rest → Remains f d.core.cycle d.core rest
 desk-remains f n d rest s at = record { history = s.history; remains = subst (λ (m : ℕ). RemainsAt f m s.history d.core rest) (sym s.told.core_is.cycle_is) at }
 
-pub desk-cycle : (f : SensorLists) (n : ℕ) (d : SplitDesk) → (s : Stands n (horizon_of f) d) → d.core.cycle ≡ n
-desk-cycle f n d s = s.told.core_is.cycle_is ∙ s.told.cycle_is
+-- the desk is of the cycle n
+pub desk-cycle : (n e : ℕ) (d : Desk) → DeskStands n e d → d.core.cycle ≡ n
+desk-cycle n e d s = s.told.core_is.cycle_is ∙ s.told.cycle_is
 
 -- what was sent, and then what is held, is what the cycle issues up to the closed tick
-pub desk-issued : (f : SensorLists) (n : ℕ) (d : SplitDesk) (rest : Remaining) → (s : Stands n (horizon_of f) d) → RemainsAt f s.history.cycle s.history d.core rest → issues f n d.core.closed ≡ issues_out d.outbox d.held
+pub desk-issued : (f : SensorLists) (n : ℕ) (d : Desk) (rest : Remaining) → (s : DeskStands n (horizon_of f) d) → RemainsAt f s.history.cycle s.history d.core rest → issues f n d.core.closed ≡ issues_out d.outbox d.held
 desk-issued f n d rest s at =
     let h = s.history in
     let own : RemainsAt f n h d.core rest = subst (λ (m : ℕ). RemainsAt f m h d.core rest) s.told.cycle_is at in
     ap (issues f n) s.told.core_is.closed_is
     ∙ sym (issued-now f n h d.core rest own)
     ∙ sym (s.told.issues_are (parts_of f) at.parts_are)
+
+-- no tick past the horizon is closed
+pub remains-within : (f : SensorLists) (n : ℕ) (c : SplitContents) (rest : Remaining) → Remains f n c rest → c.closed ≤ horizon_of f
+remains-within f n c rest r = let is = r.remains.core_is.closed_is in let within = r.remains.within in omega (arith, is, within)

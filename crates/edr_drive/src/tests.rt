@@ -153,6 +153,47 @@ fn threads_end_as_one_thread(rt: HostRuntime) -> Result<(), Fail> {
     Ok(())
 }
 
+// The axes and the restraints go on for 400 ms past the last items of the slow sensors, by more items than a ring has room for.
+fn longer_feeds(rt: &impl Abort, alloc: Global) -> Result<Feeds, Fail>
+    ensures { IfOk result (λ f. IsLevel f) }
+{
+    let mut feeds = feeds_of(alloc, 600)?;
+    for tick in 601..=1000 {
+        give(&mut feeds, Sensor::Along, tick, Some(0))?;
+        give(&mut feeds, Sensor::Across, tick, Some(0))?;
+        if tick % 100 == 0 {
+            give(&mut feeds, Sensor::Restraint, tick, None)?;
+        }
+    }
+    level_is_none_lagging();
+    assert!(rt; feeds.lagging().is_none());
+    Ok(feeds)
+}
+
+// No clause refuses threads that wait for each other for ever: a worker that ends at the horizon, and leaves items for which the
+// recorder waits.
+#[test]
+fn items_past_the_horizon_hold_nobody_up(rt: HostRuntime) -> Result<(), Fail> {
+    let alloc = rt.alloc();
+    let feeds = longer_feeds(&rt, alloc)?;
+    assert_eq!(rt; feeds.horizon(), 600);
+    let feeds = Arc::new(alloc, feeds)?;
+    for workers in [1u8, 2] {
+        let mut memory = formatted(alloc)?;
+        let end = cycle(
+            &rt,
+            alloc,
+            &mut memory,
+            &feeds,
+            workers,
+            0,
+            &new_gate(alloc)?,
+        )?;
+        assert!(rt; !end.failed);
+    }
+    Ok(())
+}
+
 // A cycle up to the join of its threads: every item was offered, every tick was closed and posted, and every order was committed.
 fn check_threads<R: Threads + Wait + Abort + Copy + Send + 'static>(
     rt: &R,
@@ -162,18 +203,21 @@ fn check_threads<R: Threads + Wait + Abort + Copy + Send + 'static>(
 ) -> Result<(), Fail> {
     let mut memory = formatted(alloc)?;
     let gate = new_gate(alloc)?;
+    let started = start(alloc, &mut memory, feeds.horizon())?;
+    let number = started.number();
     let Parts {
         mut banks,
-        core,
+        core: _,
         mut log,
-    } = start(alloc, &mut memory, feeds.horizon())?.parts();
+    } = started.parts();
     let Beginning {
         places,
         desk,
+        captures: _,
         mut inbox,
         mut watch,
         mut committer,
-    } = begin(alloc, core)?;
+    } = begin(alloc, number)?;
     let ends = ends_of(feeds);
     let mut desk = Some(desk);
     let back = with_workers(

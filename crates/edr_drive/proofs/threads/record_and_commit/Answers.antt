@@ -1,7 +1,7 @@
 use Rattle.std.proofs.Common.{arith, refl}
 use Rattle.edr_device.proofs.Lending.{tells_self}
 use Rattle.edr_loops.specs.Orders.{orders_taken}
-use Rattle.edr_drive.proofs.Taken.{none-committed}
+use Rattle.edr_drive.proofs.TakenLemmas.{none-committed}
 use Rattle.edr_drive.proofs.threads.record_and_commit.Goals as goal
 
 pub returns-in-Err-clause-commits : goal.returns-in-Err-clause-commits

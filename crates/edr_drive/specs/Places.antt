@@ -1,0 +1,22 @@
+-- What the places of all eight sensors have sent and kept.
+use Rattle.edr_items.specs.SensorLists.{SensorLists}
+use Rattle.edr_drive.specs.declared.places.Places.{Places}
+use Rattle.edr_loops.specs.Stands.{AreFastBegun, AreFastDealt, AreKept, AreSlowDealt, FastGoOn, SlowKeepOn, either_fast, either_slow}
+
+-- each place has sent or kept first items of its list, and sent parts of beginnings of it
+pub record HaveBegun (f : SensorLists) (p : Places) : Type 0 where
+  pub fast : AreFastBegun f p.fast
+  pub slow : AreKept f p.slow
+
+-- the same places later
+pub record HaveGoneOn (f : SensorLists) (a b : Places) : Type 0 where
+  pub fast : FastGoOn f a.fast b.fast
+  pub slow : SlowKeepOn f a.slow b.slow
+
+-- of two hands one has each place
+pub record AreAllDealt (old mine rest : Places) : Type 0 where
+  pub fast : AreFastDealt old.fast mine.fast rest.fast
+  pub slow : AreSlowDealt old.slow mine.slow rest.slow
+
+abbrev pub either_all : Places → Places → Places
+either_all a b = record { fast = either_fast a.fast b.fast; slow = either_slow a.slow b.slow }
