@@ -1,5 +1,5 @@
-//! Runs by threads beside the same runs on one thread; and two sensors that are served at once, since no clause refuses a drive
-//! that runs all of it on the caller's thread.
+//! Runs by threads beside the same runs on one thread; and what no clause tells of a drive: that two sensors are served at once, and
+//! that the slow sensors are asked for their parts.
 
 use super::drives::{Drive, quiet, struck, trace_of};
 use super::{KEEP, SIZE, memory_of, new_image, words_of};
@@ -212,6 +212,21 @@ impl Gate for Meeting {
     }
 }
 
+// A run of a crash by eight workers, at this gate.
+fn drive_struck<
+    R: Threads + Wait + Abort + Copy + Send + Sync + 'static,
+    G: Gate + Drop + Send + Sync + 'static,
+>(rt: &R, alloc: Global, gate: &Arc<G>) -> Result<(), Fail> {
+    let words = words_of(alloc, &["drive", "8"])?;
+    let trace = trace_of(alloc, &[struck(7000)])?;
+    let mut source = MemSource::new(trace.as_bytes().to_vec(alloc)?, 10_000, Vec::new(alloc));
+    let mut sink = MemSink::new(alloc, 20_000, 20_000, Vec::new(alloc))?;
+    let mut memory = memory_of(alloc, &new_image(2, KEEP), &[], 0)?;
+    let status = drive(rt, alloc, &words, &mut source, &mut sink, &mut memory, gate);
+    assert_eq!(rt; status, Status::Ok);
+    Ok(())
+}
+
 #[test]
 fn second_sensor_passes(rt: HostRuntime) -> Result<(), Fail> {
     let alloc = rt.alloc();
@@ -221,21 +236,61 @@ fn second_sensor_passes(rt: HostRuntime) -> Result<(), Fail> {
         met: AtomicU64::new(0),
     };
     let gate = Arc::new(alloc, gate)?;
-    let words = words_of(alloc, &["drive", "8"])?;
-    let trace = trace_of(alloc, &[struck(7000)])?;
-    let mut source = MemSource::new(trace.as_bytes().to_vec(alloc)?, 10_000, Vec::new(alloc));
-    let mut sink = MemSink::new(alloc, 20_000, 20_000, Vec::new(alloc))?;
-    let mut memory = memory_of(alloc, &new_image(2, KEEP), &[], 0)?;
-    let status = drive(
-        &rt,
-        alloc,
-        &words,
-        &mut source,
-        &mut sink,
-        &mut memory,
-        &gate,
-    );
-    assert_eq!(rt; status, Status::Ok);
+    drive_struck(&rt, alloc, &gate)?;
     assert_eq!(rt; gate.met.load(Ordering::SeqCst), 2);
+    Ok(())
+}
+
+// A gate that counts the parts that each sensor has sent of the time zero at 6.003 s, and those of other times zero.
+#[derive(Drop)]
+struct Served {
+    speed: AtomicU64,
+    throttle: AtomicU64,
+    brake: AtomicU64,
+    belt: AtomicU64,
+    lamp: AtomicU64,
+    others: AtomicU64,
+}
+
+impl Gate for Served {
+    fn pass(&self, _sensor: u8, _nth: u32) {}
+
+    fn served(&self, sensor: u8, zero: u32) {
+        let sent = match (sensor, zero) {
+            (3, 6003) => &self.speed,
+            (4, 6003) => &self.throttle,
+            (5, 6003) => &self.brake,
+            (6, 6003) => &self.belt,
+            (7, 6003) => &self.lamp,
+            _ => &self.others,
+        };
+        sent.fetch_add(1, Ordering::SeqCst);
+    }
+}
+
+// Each slow sensor is asked for its part once. No clause refuses a drive that reads the parts out of its feeds.
+#[test]
+fn parts_are_served(rt: HostRuntime) -> Result<(), Fail> {
+    let alloc = rt.alloc();
+    let gate = Served {
+        speed: AtomicU64::new(0),
+        throttle: AtomicU64::new(0),
+        brake: AtomicU64::new(0),
+        belt: AtomicU64::new(0),
+        lamp: AtomicU64::new(0),
+        others: AtomicU64::new(0),
+    };
+    let gate = Arc::new(alloc, gate)?;
+    drive_struck(&rt, alloc, &gate)?;
+    for sent in [
+        &gate.speed,
+        &gate.throttle,
+        &gate.brake,
+        &gate.belt,
+        &gate.lamp,
+    ] {
+        assert_eq!(rt; sent.load(Ordering::SeqCst), 1);
+    }
+    assert_eq!(rt; gate.others.load(Ordering::SeqCst), 0);
     Ok(())
 }
