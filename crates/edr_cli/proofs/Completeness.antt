@@ -11,12 +11,12 @@ use Rattle.edr_spell.specs.Spell.{Spell, largest_trace}
 use Rattle.edr_spell.specs.Fault.{Fault as IsFaultOf}
 use Rattle.edr_spell.proofs.LawLemmas.{spell-not_fault, spell-one}
 use Rattle.edr_run.specs.Cycle.{Outcome, last_count}
-use Rattle.edr_report.specs.declared.faults.Fault.{Fault}
-use Rattle.edr_report.specs.declared.faults.Fault.TheVariants as fault
+use Rattle.edr_cli.specs.declared.fault.Fault.{Fault}
+use Rattle.edr_cli.specs.declared.fault.Fault.TheVariants as fault
 use Rattle.edr_replay.specs.Replayed.{RanToTheLast}
+use Rattle.edr_cli.specs.Causes.{IsReplayCause, IsSpent}
 use Rattle.edr_cli.specs.Outside.{Input, Memory}
 use Rattle.edr_cli.specs.Reports.{Says}
-use Rattle.edr_cli.specs.Runs.{IsReplayCause, IsSpent}
 use Rattle.edr_cli.proofs.ImageLemmas.{same_view, says_refused, told_is}
 use Rattle.edr_cli.proofs.RunLaws.{run_count}
 use Rattle.edr_cli.proofs.TakingLemmas.{too_many}

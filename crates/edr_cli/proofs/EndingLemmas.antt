@@ -3,12 +3,11 @@ use Rattle.std.proofs.Common.{◌≡◌, ◌≢◌, ◌⊎◌, ◌∙◌, sym, s
 use Rattle.edr_device.specs.Stream.{Appends}
 use Rattle.edr_device.specs.Told.{Told}
 use Rattle.edr_device.specs.Transfer.{AppendsPart}
-use Rattle.edr_report.specs.declared.faults.Fault.{Fault}
+use Rattle.edr_cli.specs.declared.fault.Fault.{Fault}
 use Rattle.edr_cli.specs.declared.status.Status.{Status}
 use Rattle.edr_cli.specs.declared.status.Status.TheVariants as status
 use Rattle.edr_cli.specs.Endings.{Tells, TellsFault, TellsFaultPart, TellsPart}
-use Rattle.edr_cli.specs.Status.{status_of}
-use Rattle.edr_report.specs.Faults.{fault_line}
+use Rattle.edr_cli.specs.Faults.{fault_line, status_of}
 
 -- a text was written whole
 pub tells_whole : (P : List ℕ → Type 0) (T : Type 0) (text bytes : List ℕ) (s : Status) (old new : Option (List ℕ)) → P text → bytes ≡ text

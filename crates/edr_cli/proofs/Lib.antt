@@ -8,3 +8,4 @@ pub mod Completeness
 pub mod DriveLemmas
 pub mod Dispatch
 pub mod TakingLemmas
+mod FaultVectors

@@ -4,12 +4,10 @@ use Rattle.edr_device.specs.Stream.{Appends}
 use Rattle.edr_device.specs.Told.{Told}
 use Rattle.edr_device.specs.Transfer.{AppendsPart}
 use Rattle.edr_device.specs.declared.stream.Sink as sink
-use Rattle.edr_report.specs.declared.faults.Fault.{Fault}
-use Rattle.edr_report.specs.declared.faults.Fault.TheVariants as fault
-use Rattle.edr_report.specs.Faults.{fault_line}
+use Rattle.edr_cli.specs.declared.fault.Fault.{Fault}
+use Rattle.edr_cli.specs.Faults.{fault_line, status_of}
 use Rattle.edr_cli.specs.declared.status.Status.{Status}
 use Rattle.edr_cli.specs.declared.status.Status.TheVariants.{Ok, OutOfMemory, WriteFault}
-use Rattle.edr_cli.specs.Status.{status_of}
 
 -- the sink gained the text that is asked for
 abbrev pub Tells : (List ℕ → Type 0) → Option (List ℕ) → Option (List ℕ) → Type 0
@@ -44,13 +42,3 @@ FaultTellsPart k IsText IsCause status old new = status ≡ WriteFault → Tells
 -- it is whole, or there was no memory
 abbrev pub IsServed : Status → Type 0
 IsServed status = (status ≡ Ok) ⊎ (status ≡ OutOfMemory)
-
--- ---- causes
-
--- why words are not served: they ask for nothing that is, or memory ran out while they were read
-abbrev pub IsUsageCause : Fault → Type 0
-IsUsageCause f = (f ≡ fault.Usage) ⊎ (f ≡ fault.OutOfMemory)
-
--- why there is no text that is made from a number: memory ran out
-abbrev pub IsNumberCause : Fault → Type 0
-IsNumberCause f = f ≡ fault.OutOfMemory

@@ -1,9 +1,5 @@
--- What the run of a trace comes to, and why there is none.
-use Rattle.std.specs.Prelude.{◌≡◌, ◌⊎◌, ◌+◌, ◌≤◌, ◌<◌, ℕ, true, None, List, length, slice_get, Option, Some, IfSome, ⊤}
-use Rattle.edr_device.specs.Device.{IsQuiet, MayLeave}
-use Rattle.edr_device.specs.Faults.{Rose}
-use Rattle.edr_device.specs.Told.{Told}
-use Rattle.edr_device.specs.Transfer.{GivesTooMany}
+-- What the run of a trace comes to.
+use Rattle.std.specs.Prelude.{◌≡◌, ◌+◌, ◌≤◌, ◌<◌, ℕ, true, List, length, slice_get, Option, Some, IfSome}
 use Rattle.edr_record.specs.Parts.{PrePart, CrashPart}
 use Rattle.edr_record.specs.declared.Record.{Record}
 use Rattle.edr_record.specs.declared.Command.TheVariants as command
@@ -13,22 +9,17 @@ use Rattle.edr_image.specs.declared.Applied.TheVariants as applied
 use Rattle.edr_image.specs.declared.BankView.TheVariants.{Event}
 use Rattle.edr_image.specs.Answered.{IsLockedIn, IsLockedWith}
 use Rattle.edr_image.specs.Banks.{Store}
-use Rattle.edr_image.specs.Image.{View, view_of}
 use Rattle.edr_image.specs.Kept.{AreKept}
 use Rattle.edr_image.specs.Reports.{Ran}
 use Rattle.edr_spell.specs.declared.CycleInput.{CycleInput}
 use Rattle.edr_spell.specs.Spell.{Spell, largest_trace}
-use Rattle.edr_spell.specs.Fault.{Fault as IsFaultOf}
 use Rattle.edr_run.specs.Cycle.{Outcome, IsRun, last_count}
 use Rattle.edr_run.specs.Logged.{IsLogged, NoTakeBetween}
 use Rattle.edr_run.specs.Own.{IsInWindow}
-use Rattle.edr_report.specs.declared.faults.Fault.{Fault}
-use Rattle.edr_report.specs.declared.faults.Fault.TheVariants as fault
 use Rattle.edr_words.specs.declared.Form.{Form}
-use Rattle.edr_replay.specs.Reached.{IsReached, RanFirst}
-use Rattle.edr_replay.specs.Replayed.{Holds, RanToTheLast}
-use Rattle.edr_cli.specs.Outside.{Input, IsAtEnd, Memory}
-use Rattle.edr_cli.specs.Reports.{Says, report_in, IsImageCause}
+use Rattle.edr_replay.specs.Replayed.{Holds}
+use Rattle.edr_cli.specs.Outside.{Input, Memory}
+use Rattle.edr_cli.specs.Reports.{Says, report_in}
 
 -- ---- what holds of a run
 
@@ -118,66 +109,3 @@ pub record CanRun (i : Input) (m : Memory) : Type 0 where
 -- no stop is planned in the cycle
 abbrev pub IsPowered : CycleInput → Type 0
 IsPowered c = (c.start_stop ≡ 0) × (c.stop ≡ 0)
-
--- ---- why there is no run
-
--- the source gave a trace, and is at its end
-abbrev pub GaveTrace : Input → Input → Type 0
-GaveTrace i i' = IfSome i.left (λ bytes. (cycles : List CycleInput) × IsTraceOf cycles bytes) × IsAtEnd i'.left
-
--- the cycles before one that found no number left ran, and the device holds what they came to
-pub record IsSpent (bytes image : List ℕ) (new : Memory) : Type 0 where
-  pub cycles : List CycleInput
-  pub store : Store
-  pub count : ℕ
-  pub outcome : Outcome
-  pub spelled : IsTraceOf cycles bytes
-  pub says : Says image store count
-  pub ran : RanToTheLast cycles store count outcome
-  pub held : Holds new.content new.settled outcome.store outcome.count
-
--- the trace of these bytes brings a view to one that the image says: after some first cycles, or by a stop in the next one
-pub record Reaches (bytes : List ℕ) (v : View) (image : List ℕ) : Type 0 where
-  pub cycles : List CycleInput
-  pub spelled : Spell bytes cycles
-  pub view : View
-  pub view_is : view_of image ≡ Some view
-  pub reached : IsReached cycles v.store v.count view.store view.count
-
--- where nothing was pending, each image that a crash may leave is the bytes, if they have no view, or else one that the trace reaches
-abbrev pub LeavesRun : Input → Memory → Memory → Type 0
-LeavesRun i old new = (bytes image : List ℕ) → IsQuiet old.content old.settled bytes → MayLeave new.content new.settled image
-    → (view_of bytes ≡ None → image ≡ bytes)
-    × ((v : View) → view_of bytes ≡ Some v → IfSome i.left (λ trace. Reaches trace v image))
-
--- some first cycles of the trace ran, and the device holds what they came to
-pub record RanSome (bytes image : List ℕ) (new : Memory) : Type 0 where
-  pub cycles : List CycleInput
-  pub store : Store
-  pub count : ℕ
-  pub p : ℕ
-  pub outcome : Outcome
-  pub spelled : IsTraceOf cycles bytes
-  pub says : Says image store count
-  pub ran : RanFirst cycles store count p outcome
-  pub held : Holds new.content new.settled outcome.store outcome.count
-
--- why a source gave no trace; one that gave too much was read for one byte past the most that a trace may have
-abbrev pub IsTraceCause : Input → Input → Fault → Type 0
-IsTraceCause i i' (fault.Trace t) = IfSome i.left (λ bytes. (length bytes ≤ largest_trace) × IsFaultOf bytes t) × IsAtEnd i'.left
-IsTraceCause i i' fault.Read = Rose i.faults i'.faults
-IsTraceCause i i' fault.TooLong = Told (GivesTooMany largest_trace) i.left i'.left
-IsTraceCause i i' fault.OutOfMemory = ⊤
-IsTraceCause i i' other = ⊥
-
--- why there is no report of a run, by the first thing that went wrong
-abbrev pub IsReplayCause : Input → Input → Memory → Memory → Fault → Type 0
-IsReplayCause i i' old new (fault.Trace t) = IsTraceCause i i' (fault.Trace t) × (new ≡ old)
-IsReplayCause i i' old new fault.Read = IsTraceCause i i' fault.Read × (new ≡ old)
-IsReplayCause i i' old new fault.TooLong = IsTraceCause i i' fault.TooLong × (new ≡ old)
-IsReplayCause i i' old new fault.Store = GaveTrace i i' × Rose old.faults new.faults × LeavesRun i old new
-IsReplayCause i i' old new (fault.Short size needed) = GaveTrace i i' × IsImageCause old new (fault.Short size needed)
-IsReplayCause i i' old new (fault.Header h) = GaveTrace i i' × IsImageCause old new (fault.Header h)
-IsReplayCause i i' old new fault.Spent = IfTold i old (λ bytes image. IsSpent bytes image new) × IsAtEnd i'.left
-IsReplayCause i i' old new fault.OutOfMemory = (new.content ≡ old.content) ⊎ IfTold i old (λ bytes image. RanSome bytes image new)
-IsReplayCause i i' old new other = ⊥

@@ -1,5 +1,5 @@
 //! The top call.
-ghost use Rattle.std.specs.Prelude.{◌≡◌, ◌≢◌, ◌≤◌, ◌⊎◌, ◌+◌, ℕ, List, Some, None, IfSome};
+ghost use Rattle.std.specs.Prelude.{◌≡◌, ◌≢◌, ◌≤◌, ◌+◌, ℕ, List, Some, None, IfSome};
 ghost use Rattle.edr_device.specs.Device.{IsQuiet, MayLeave};
 ghost use Rattle.edr_device.specs.Faults.{Rose};
 ghost use Rattle.edr_device.specs.Lent.{At, Between, GoesOn};
@@ -13,13 +13,15 @@ ghost use Rattle.edr_replay.specs.Past.{LeavesPast};
 ghost use Rattle.edr_gen.specs.Traces.{generated_trace};
 ghost use Rattle.edr_large.specs.Large.{IsTold};
 ghost use Rattle.edr_words.specs.declared.Form.{Form};
-ghost use Rattle.edr_cli.specs.Endings.{ElseTellsFault, FaultTellsPart, IsNumberCause, IsServed, IsUsageCause, OkTells, TellsFault, TellsFaultPart};
+ghost use Rattle.edr_cli.specs.Causes.{IsFormatCause, IsImageCause, IsNumberCause, IsReplayCause, IsUsageCause};
+ghost use Rattle.edr_cli.specs.Endings.{ElseTellsFault, FaultTellsPart, IsServed, OkTells, TellsFault, TellsFaultPart};
 ghost use Rattle.edr_cli.specs.Outside.{IsAtEnd, NoFault, OfBoth, OfMemory, OfRun, input, memory};
-ghost use Rattle.edr_cli.specs.Reports.{FormatIs, HasMagic, IsFormatCause, IsImageCause, ReportIs};
-ghost use Rattle.edr_cli.specs.Runs.{CanRun, IsReplayCause, RunIs};
+ghost use Rattle.edr_cli.specs.Reports.{FormatIs, HasMagic, ReportIs};
+ghost use Rattle.edr_cli.specs.Runs.{CanRun, RunIs};
 ghost use Rattle.edr_cli.specs.Words.{AreFormat, AreGenerate, AreLarge, AreOther, AreReplay, AreReport};
 
 use crate::endings::{tell, write};
+use crate::fault::Fault;
 use crate::format::make_image;
 use crate::generate::write_trace;
 use crate::replay::replay_source;
@@ -27,7 +29,6 @@ use crate::report::report;
 use crate::status::Status;
 use edr_device::{Nvm, Sink, Source};
 use edr_large::large_lines;
-use edr_report::Fault;
 use edr_words::{Job, Words};
 use std::alloc::{AllocError as OutOfMemory, Global};
 

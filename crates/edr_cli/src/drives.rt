@@ -1,5 +1,5 @@
 //! The top call of a run by threads. Its promises are those of a run on one thread, and hold if it returns.
-ghost use Rattle.std.specs.Prelude.{◌≡◌, ◌≢◌, ◌≤◌, ◌⊎◌, ◌+◌, ℕ, Some, All, IfOk, IfErr, OnOk};
+ghost use Rattle.std.specs.Prelude.{◌≡◌, ◌≢◌, ◌≤◌, ◌+◌, ℕ, Some, All, IfOk, IfErr, OnOk};
 ghost use Rattle.edr_device.specs.Faults.{Rose};
 ghost use Rattle.edr_device.specs.Lent.{Between, GoesOn};
 ghost use Rattle.edr_device.specs.Told.{Told};
@@ -8,22 +8,21 @@ ghost use Rattle.edr_spell.specs.Spell.{IsCycle, largest_trace};
 ghost use Rattle.edr_spell.specs.declared.CycleInput.{CycleInput};
 ghost use Rattle.edr_replay.specs.Past.{LeavesPast};
 ghost use Rattle.edr_words.specs.declared.Form.{Form};
-ghost use Rattle.edr_cli.specs.Drives.{IsDriveCause};
-ghost use Rattle.edr_cli.specs.Endings.{ElseTellsFault, FaultTellsPart, IsServed, IsUsageCause, OkTells, TellsFault, TellsFaultPart};
+ghost use Rattle.edr_cli.specs.Causes.{IsDriveCause, IsUsageCause};
+ghost use Rattle.edr_cli.specs.Endings.{ElseTellsFault, FaultTellsPart, IsServed, OkTells, TellsFault, TellsFaultPart};
 ghost use Rattle.edr_cli.specs.Outside.{IsAtEnd, NoFault, OfBoth, OfMemory, OfRun, input, memory};
 ghost use Rattle.edr_cli.specs.Runs.{CanRun, RunIs};
 ghost use Rattle.edr_cli.specs.Steps.{IsDrivenCause, Reports};
 ghost use Rattle.edr_cli.specs.Words.{AreDrive, AreNoDrive};
 
 use crate::endings::{tell, write};
-use crate::replay::start_fault;
+use crate::fault::Fault;
 use crate::report::{open_settled, report_held};
 use crate::status::Status;
 use crate::traces::trace_of;
 use edr_device::{Nvm, Sink, Source};
 use edr_drive::Gate;
 use edr_replay::replay_driven;
-use edr_report::Fault;
 use edr_trace::CycleInput;
 use edr_words::{Form, Job, Words};
 use std::alloc::{AllocError as OutOfMemory, Global};
@@ -52,10 +51,8 @@ fn run_driven<
     ensures later { N.faults nvm.old ≤ N.faults nvm.new }
     ensures past { Between N.Nvm LeavesPast nvm.old nvm.new }
 {
-    match replay_driven(rt, alloc, nvm, cycles, workers, gate) {
-        Ok(reports) => report_held(alloc, nvm, form, &reports),
-        Err(e) => Err(start_fault(e)),
-    }
+    let reports = replay_driven(rt, alloc, nvm, cycles, workers, gate)?;
+    report_held(alloc, nvm, form, &reports)
 }
 
 // Runs the trace that the source gives over the device by so many workers, and gives the report of the run and of what the device

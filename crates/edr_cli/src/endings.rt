@@ -1,15 +1,14 @@
 //! Writes what a call has to tell.
-ghost use Rattle.std.specs.Prelude.{◌≡◌, ◌≢◌, ◌⊎◌, ◌≤◌, List};
+ghost use Rattle.std.specs.Prelude.{◌≡◌, ◌≢◌, ◌⊎◌, ◌≤◌};
 ghost use Rattle.edr_device.specs.Faults.{Rose};
 ghost use Rattle.edr_device.specs.Stream.{Appends};
 ghost use Rattle.edr_device.specs.Told.{Told};
 ghost use Rattle.edr_device.specs.Transfer.{AppendsPart};
-ghost use Rattle.edr_report.specs.Faults.{fault_line};
-ghost use Rattle.edr_cli.specs.Status.{status_of};
+ghost use Rattle.edr_cli.specs.Faults.{fault_line, status_of};
 
+use crate::fault::Fault;
 use crate::status::Status;
 use edr_device::{Failed, Sink, put_all};
-use edr_report::Fault;
 
 /// Writes the text of a call that would end with that status.
 pub(crate) fn write<K: Sink>(sink: &mut K, text: &[u8], status: Status) -> Status
@@ -32,5 +31,5 @@ pub(crate) fn tell<K: Sink>(sink: &mut K, fault: Fault) -> Status
     ensures answers { (result ≡ status_of fault) ⊎ (result ≡ Status.WriteFault) }
     ensures later { K.faults sink.old ≤ K.faults sink.new }
 {
-    write(sink, fault.line().as_bytes(), Status::of(&fault))
+    write(sink, fault.line().as_bytes(), fault.status())
 }

@@ -7,12 +7,14 @@ ghost use Rattle.edr_image.specs.declared.places.TheConstants.{FEWEST_BANKS, MOS
 ghost use Rattle.edr_image.specs.Image.{image_size};
 ghost use Rattle.edr_banks.specs.Formatting.{IsPartlyFormatted, LacksMagic};
 ghost use Rattle.edr_report.specs.Format.{format_line};
+ghost use Rattle.edr_cli.specs.Causes.{IsFormatCause};
 ghost use Rattle.edr_cli.specs.Outside.{OfMemory};
-ghost use Rattle.edr_cli.specs.Reports.{HasMagic, IsMade, IsFormatCause};
+ghost use Rattle.edr_cli.specs.Reports.{HasMagic, IsMade};
 
-use edr_banks::{Banks, FormatFault, Header};
+use crate::fault::Fault;
+use edr_banks::{Banks, Header};
 use edr_device::Nvm;
-use edr_report::{Fault, ShortLine, format_line};
+use edr_report::{ShortLine, format_line};
 
 /// Makes a new image, and the line that tells of it. The line is built before the device is touched.
 pub(crate) fn make_image<N: Nvm>(nvm: &mut N, header: Header) -> Result<ShortLine, Fault>
@@ -32,13 +34,7 @@ pub(crate) fn make_image<N: Nvm>(nvm: &mut N, header: Header) -> Result<ShortLin
         → IfSome (N.content nvm.old) (λ bytes. LacksMagic bytes → IsOk result) }
 {
     let line = format_line(header);
-    if nvm.sync().is_err() {
-        return Err(Fault::Store);
-    }
-    match Banks::format(nvm, header.banks, header.choice) {
-        Ok(()) => Ok(line),
-        Err(FormatFault::Short { size, needed }) => Err(Fault::Short { size, needed }),
-        Err(FormatFault::Formatted) => Err(Fault::Formatted),
-        Err(FormatFault::StoreFault) => Err(Fault::Store),
-    }
+    nvm.sync()?;
+    Banks::format(nvm, header.banks, header.choice)?;
+    Ok(line)
 }

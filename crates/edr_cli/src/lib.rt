@@ -5,6 +5,7 @@
 mod commands;
 mod drives;
 mod endings;
+mod fault;
 mod format;
 mod generate;
 pub mod laws;
@@ -16,7 +17,10 @@ mod traces;
 pub use commands::command;
 pub use drives::drive;
 pub use edr_words::Words;
+pub use fault::Fault;
 pub use status::Status;
 
 #[cfg(test)]
 mod command_tests;
+#[cfg(test)]
+mod fault_tests;

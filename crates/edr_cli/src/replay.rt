@@ -1,34 +1,23 @@
 //! Runs a trace over the memory of the records, and reports.
-ghost use Rattle.std.specs.Prelude.{◌≡◌, ◌+◌, ◌≤◌, All, IfOk, IfErr, OnOk};
+ghost use Rattle.std.specs.Prelude.{◌+◌, ◌≤◌, All, IfOk, IfErr, OnOk};
 ghost use Rattle.edr_device.specs.Lent.{Between, GoesOn};
 ghost use Rattle.edr_device.specs.Told.{Told};
 ghost use Rattle.edr_device.specs.Transfer.{GivesAtMost};
 ghost use Rattle.edr_spell.specs.Spell.{IsCycle, largest_trace};
 ghost use Rattle.edr_replay.specs.Past.{LeavesPast};
+ghost use Rattle.edr_cli.specs.Causes.{IsReplayCause};
 ghost use Rattle.edr_cli.specs.Outside.{IsAtEnd, OfBoth, OfMemory, OfRun};
-ghost use Rattle.edr_cli.specs.Runs.{IsReplayCause, RunIs};
-ghost use Rattle.edr_cli.specs.Steps.{IsRunCause, Reports, fault_of_start};
+ghost use Rattle.edr_cli.specs.Runs.{RunIs};
+ghost use Rattle.edr_cli.specs.Steps.{IsRunCause, Reports};
 
-use crate::report::{open_fault, open_settled, report_held};
+use crate::fault::Fault;
+use crate::report::{open_settled, report_held};
 use crate::traces::trace_of;
 use edr_device::{Nvm, Source};
-use edr_replay::{StartFault, replay};
-use edr_report::Fault;
+use edr_replay::replay;
 use edr_trace::CycleInput;
 use edr_words::Form;
 use std::alloc::Global;
-
-/// The fault of a call whose run ended early.
-pub(crate) fn start_fault(e: StartFault) -> Fault
-    ensures { result ≡ fault_of_start e }
-{
-    match e {
-        StartFault::Open(e) => open_fault(e),
-        StartFault::Spent => Fault::Spent,
-        StartFault::StoreFault => Fault::Store,
-        StartFault::OutOfMemory => Fault::OutOfMemory,
-    }
-}
 
 /// Runs the trace that the source gives over the device, and gives the report of the run and of what the device holds
 /// behind it.
@@ -68,8 +57,6 @@ fn run<N: Nvm>(
     ensures later { N.faults nvm.old ≤ N.faults nvm.new }
     ensures past { Between N.Nvm LeavesPast nvm.old nvm.new }
 {
-    match replay(alloc, nvm, cycles) {
-        Ok(reports) => report_held(alloc, nvm, form, &reports),
-        Err(e) => Err(start_fault(e)),
-    }
+    let reports = replay(alloc, nvm, cycles)?;
+    report_held(alloc, nvm, form, &reports)
 }

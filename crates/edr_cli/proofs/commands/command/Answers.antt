@@ -2,14 +2,13 @@ use Rattle.std.proofs.Common.{rules, ◌+◌, ◌∙◌, inl, inr, refl, subst, 
 use Rattle.edr_device.proofs.Settling.{quiet_leaves}
 use Rattle.edr_image.specs.declared.Header.{Header}
 use Rattle.edr_banks.specs.Formatting.{IsPartlyFormatted}
-use Rattle.edr_report.specs.declared.faults.Fault.TheVariants as fault
+use Rattle.edr_cli.specs.declared.fault.Fault.TheVariants as fault
 use Rattle.edr_spell.specs.Spell.{largest_trace}
 use Rattle.edr_cli.specs.declared.status.Status.TheVariants as status
-use Rattle.edr_cli.specs.Endings.{IsNumberCause, IsUsageCause}
+use Rattle.edr_cli.specs.Causes.{IsFormatCause, IsImageCause, IsNumberCause, IsReplayCause, IsUsageCause}
 use Rattle.edr_cli.specs.Outside.{input, memory}
-use Rattle.edr_cli.specs.Reports.{FormatIs, IsFormatCause, IsImageCause}
-use Rattle.edr_cli.specs.Runs.{IsReplayCause}
-use Rattle.edr_cli.specs.Status.{status_of}
+use Rattle.edr_cli.specs.Reports.{FormatIs}
+use Rattle.edr_cli.specs.Faults.{status_of}
 use Rattle.edr_cli.specs.Words.{AreFormat}
 use Rattle.edr_cli.proofs.Completeness.{only_memory}
 use Rattle.edr_cli.proofs.Dispatch.{same_header}

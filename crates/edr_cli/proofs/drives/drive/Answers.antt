@@ -1,10 +1,9 @@
 use Rattle.std.proofs.Common.{◌∙◌, inl, inr, refl, ap}
-use Rattle.edr_report.specs.declared.faults.Fault.TheVariants as fault
+use Rattle.edr_cli.specs.declared.fault.Fault.TheVariants as fault
 use Rattle.edr_cli.specs.declared.status.Status.TheVariants as status
-use Rattle.edr_cli.specs.Drives.{IsDriveCause}
-use Rattle.edr_cli.specs.Endings.{IsUsageCause}
+use Rattle.edr_cli.specs.Causes.{IsDriveCause, IsUsageCause}
 use Rattle.edr_cli.specs.Outside.{input, memory}
-use Rattle.edr_cli.specs.Status.{status_of}
+use Rattle.edr_cli.specs.Faults.{status_of}
 use Rattle.edr_cli.proofs.DriveLemmas.{driven_only_memory}
 use Rattle.edr_cli.proofs.EndingLemmas.{answered, tells_fault, tells_fault_part}
 use Rattle.edr_cli.proofs.drives.drive.Goals as goal
