@@ -1,5 +1,6 @@
 pub mod Barrier
 pub mod EndingLemmas
+pub mod OutcomeLemmas
 pub mod ImageLemmas
 pub mod RunLaws
 pub mod PastLemmas

@@ -17,7 +17,7 @@ use Rattle.edr_cycle.specs.declared.started.StartFault.TheVariants as start
 use Rattle.edr_cli.specs.declared.fault.Fault.{Fault}
 use Rattle.edr_cli.specs.declared.fault.Fault.TheVariants as fault
 use Rattle.edr_words.specs.declared.Form.{Form}
-use Rattle.edr_replay.specs.Reached.{IsReached, RanFirst, between}
+use Rattle.edr_replay.specs.Reached.{RanFirst, between}
 use Rattle.edr_replay.specs.Replayed.{Holds, HasRun, EndsShort, EndsSpent, IsFault, IsShortOf, IsTrulyRefused, IsTrulyShort, LeavesReached}
 use Rattle.edr_cli.specs.Causes.{GaveTrace, IsImageCause, IsRefused, IsReplayCause, IsSpent, LeavesRun, RanSome, Reaches}
 use Rattle.edr_cli.specs.Outside.{Input, IsAtEnd, Memory}

@@ -6,4 +6,5 @@ pub mod Reports
 pub mod Runs
 pub mod Causes
 pub mod Endings
+pub mod Outcomes
 pub mod Steps

@@ -8,6 +8,7 @@ mod endings;
 mod fault;
 mod format;
 mod generate;
+mod large;
 pub mod laws;
 mod replay;
 mod report;

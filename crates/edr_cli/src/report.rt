@@ -1,16 +1,20 @@
-//! Reads what the memory of the records holds, and reports it.
+//! Serves `report`: reads what the memory of the records holds, and reports it.
 ghost use Rattle.std.specs.Prelude.{◌≡◌, ◌≤◌, ℕ, List, Some, IfOk, IfErr, map};
 ghost use Rattle.edr_device.specs.Device.{IsQuiet, MayLeave};
+ghost use Rattle.edr_device.specs.Faults.{Rose};
 ghost use Rattle.edr_device.specs.Lent.{At, GoesOn};
 ghost use Rattle.edr_image.specs.Reports.{report_of};
 ghost use Rattle.edr_cli.specs.Causes.{IsImageCause};
+ghost use Rattle.edr_cli.specs.Outcomes.{Shows};
 ghost use Rattle.edr_cli.specs.Outside.{OfMemory, memory};
 ghost use Rattle.edr_cli.specs.Reports.{ReportIs, Says, report_in};
 ghost use Rattle.edr_cli.specs.Steps.{ReportsHeld};
 
+use crate::endings::finish;
 use crate::fault::Fault;
+use crate::status::Status;
 use edr_banks::Banks;
-use edr_device::Nvm;
+use edr_device::{Nvm, Sink};
 use edr_image::CycleReport;
 use edr_report::{table, text};
 use edr_words::Form;
@@ -87,4 +91,20 @@ pub(crate) fn report<N: Nvm>(alloc: Global, nvm: &mut N, form: Form) -> Result<V
 {
     let banks = open_settled(alloc, nvm)?;
     Ok(report_of_banks(alloc, form, &[], &banks)?)
+}
+
+/// Writes the report of what the device holds.
+pub(crate) fn serve_report<K: Sink, N: Nvm>(
+    alloc: Global,
+    sink: &mut K,
+    nvm: &mut N,
+    form: Form,
+) -> Status
+    ensures shows { Shows K.Sink N.Nvm form result sink.old sink.new nvm.old nvm.new }
+    ensures write_fault { result ≡ Status.WriteFault → Rose (K.faults sink.old) (K.faults sink.new) }
+    ensures sink_later { K.faults sink.old ≤ K.faults sink.new }
+    ensures lent { GoesOn N.Nvm nvm.old nvm.new }
+    ensures later { N.faults nvm.old ≤ N.faults nvm.new }
+{
+    finish(sink, report(alloc, nvm, form))
 }
