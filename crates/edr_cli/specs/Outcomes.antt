@@ -26,43 +26,51 @@ use Rattle.edr_cli.specs.Words.{AreDrive, AreFormat, AreGenerate, AreLarge, AreR
 
 -- the report of a run of the cycles that the source spelled, from what the device told at first to what it holds, with nothing pending
 pub record Runs {S K D : Type 0} (s : stream.Ghosts S) (k : sink.Ghosts K) (d : device.Ghosts D)
-    (IsCause : Input → Input → Memory → Memory → Fault → Type 0) (form : Form) (status : Status) (source source' : S) (sink sink' : K) (nvm nvm' : D) : Type 0 where
+    (IsCause : Input → Input → Memory → Memory → Fault → Type 0) (form : Form) (status : Status)
+    (source source' : S) (sink sink' : K) (nvm nvm' : D) : Type 0 where
   -- with Ok the source is at its end
   pub at_end : status ≡ Ok → IsAtEnd (s.left source')
   pub ends : Ends k (OfRun s d (RunIs form) source nvm nvm') (OfBoth s d IsCause source source' nvm nvm') status sink sink'
   -- whatever the status, what stands past the image stays
   pub past : Between d LeavesPast nvm nvm'
   -- where nothing counts a fault, a trace is run over an image that isn't refused and has numbers left
-  pub complete : CanRun (input s source) (memory d nvm) → NoFault s.faults source source' → NoFault d.faults nvm nvm' → NoFault k.faults sink sink' → IsServed status
+  pub complete : CanRun (input s source) (memory d nvm) → NoFault s.faults source source' → NoFault d.faults nvm nvm'
+      → NoFault k.faults sink sink' → IsServed status
 
 -- `replay` runs a trace
-abbrev pub ServesReplay : {S K D : Type 0} → stream.Ghosts S → sink.Ghosts K → device.Ghosts D → List (List ℕ) → Status → S → S → K → K → D → D → Type 0
+abbrev pub ServesReplay : {S K D : Type 0} → stream.Ghosts S → sink.Ghosts K → device.Ghosts D → List (List ℕ) → Status
+    → S → S → K → K → D → D → Type 0
 ServesReplay s k d words status source source' sink sink' nvm nvm' =
     (form : Form) → AreReplay form words → Runs s k d IsReplayCause form status source source' sink sink' nvm nvm'
 
 -- `drive` runs it by threads
-abbrev pub ServesDrive : {S K D : Type 0} → stream.Ghosts S → sink.Ghosts K → device.Ghosts D → List (List ℕ) → Status → S → S → K → K → D → D → Type 0
+abbrev pub ServesDrive : {S K D : Type 0} → stream.Ghosts S → sink.Ghosts K → device.Ghosts D → List (List ℕ) → Status
+    → S → S → K → K → D → D → Type 0
 ServesDrive s k d words status source source' sink sink' nvm nvm' =
     (form : Form) (workers : ℕ) → AreDrive form workers words → Runs s k d IsDriveCause form status source source' sink sink' nvm nvm'
 
 -- ---- `report`
 
 -- the report of what the device holds
-pub record Shows {K D : Type 0} (k : sink.Ghosts K) (d : device.Ghosts D) (form : Form) (status : Status) (sink sink' : K) (nvm nvm' : D) : Type 0 where
+pub record Shows {K D : Type 0} (k : sink.Ghosts K) (d : device.Ghosts D) (form : Form) (status : Status)
+    (sink sink' : K) (nvm nvm' : D) : Type 0 where
   pub ends : Ends k (OfMemory d (ReportIs form) nvm nvm') (OfMemory d IsImageCause nvm nvm') status sink sink'
   -- where nothing was pending, a crash at the end leaves the bytes as they were, whatever the status
   pub stays : (bytes image : List ℕ) → At d IsQuiet nvm bytes → At d MayLeave nvm' image → image ≡ bytes
   -- where nothing counts a fault, an image that isn't refused is reported
-  pub complete : (image : List ℕ) → d.content nvm ≡ Some image → image_refusal image ≡ None → NoFault d.faults nvm nvm' → NoFault k.faults sink sink' → IsServed status
+  pub complete : (image : List ℕ) → d.content nvm ≡ Some image → image_refusal image ≡ None
+      → NoFault d.faults nvm nvm' → NoFault k.faults sink sink' → IsServed status
 
 -- `report` shows it
 abbrev pub ServesReport : {K D : Type 0} → sink.Ghosts K → device.Ghosts D → List (List ℕ) → Status → K → K → D → D → Type 0
-ServesReport k d words status sink sink' nvm nvm' = (form : Form) → AreReport form words → Shows k d form status sink sink' nvm nvm'
+ServesReport k d words status sink sink' nvm nvm' =
+    (form : Form) → AreReport form words → Shows k d form status sink sink' nvm nvm'
 
 -- ---- `format`
 
 -- the line of a new image, which the device holds and had none before; a refusal leaves its bytes
-pub record Formats {K D : Type 0} (k : sink.Ghosts K) (d : device.Ghosts D) (h : Header) (status : Status) (sink sink' : K) (nvm nvm' : D) : Type 0 where
+pub record Formats {K D : Type 0} (k : sink.Ghosts K) (d : device.Ghosts D) (h : Header) (status : Status)
+    (sink sink' : K) (nvm nvm' : D) : Type 0 where
   pub ends : Ends k (OfMemory d (FormatIs h) nvm nvm') (OfMemory d (IsFormatCause h) nvm nvm') status sink sink'
   -- where nothing was pending, a crash at the end leaves the image as it was, or without the magic, or the new one
   pub crash : (bytes image : List ℕ) → At d IsQuiet nvm bytes → At d MayLeave nvm' image → IsPartlyFormatted h bytes image
@@ -74,7 +82,8 @@ pub record Formats {K D : Type 0} (k : sink.Ghosts K) (d : device.Ghosts D) (h :
 
 -- `format` makes it
 abbrev pub ServesFormat : {K D : Type 0} → sink.Ghosts K → device.Ghosts D → List (List ℕ) → Status → K → K → D → D → Type 0
-ServesFormat k d words status sink sink' nvm nvm' = (h : Header) → AreFormat h words → Formats k d h status sink sink' nvm nvm'
+ServesFormat k d words status sink sink' nvm nvm' =
+    (h : Header) → AreFormat h words → Formats k d h status sink sink' nvm nvm'
 
 -- ---- `generate` and `large`
 
@@ -91,4 +100,5 @@ ServesGenerate k words status sink sink' =
 
 -- `large` the counts of a run over the cycles that this trace spells
 abbrev pub ServesLarge : {K : Type 0} → sink.Ghosts K → List (List ℕ) → Status → K → K → Type 0
-ServesLarge k words status sink sink' = (number cycles : ℕ) → AreLarge number cycles words → Makes k (IsTold number cycles) status sink sink'
+ServesLarge k words status sink sink' =
+    (number cycles : ℕ) → AreLarge number cycles words → Makes k (IsTold number cycles) status sink sink'
