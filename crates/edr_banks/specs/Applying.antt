@@ -6,6 +6,10 @@ use Rattle.edr_record.specs.declared.Command.{Command}
 use Rattle.edr_record.specs.declared.Command.TheVariants as command
 use Rattle.edr_image.specs.declared.BankView.{BankView}
 use Rattle.edr_image.specs.declared.BankView.TheVariants.{Event}
+use Rattle.edr_device.specs.Lent.{At, LeftSince}
+use Rattle.edr_device.specs.declared.device.Nvm.{Ghosts}
+use Rattle.edr_image.specs.Image.{View, view_of}
+use Rattle.edr_gates.specs.Taken.{IsReady}
 use Rattle.edr_image.specs.Steps.{Step, Reply, after, held_after, reply_to}
 use Rattle.edr_banks.specs.Opened.{Opened, state_of}
 
@@ -34,3 +38,21 @@ IsSameOrDone c held i r banks =
 abbrev pub IsOldOrDone : Command → Option ℕ → List BankView → ℕ → CrashPart → Type 0
 IsOldOrDone c held old i crash =
     ((r : Record) × (slice_get old i ≡ Some (Event r)) × (r.crash ≡ Some crash)) ⊎ ((held ≡ Some (i + 1)) × (c ≡ command.Done crash))
+
+-- a crash in or behind a command on the opened banks may leave an image that says w, of a device that told v, these banks
+pub record MayLeaveView {D : Type 0} (g : Ghosts D) (o : Opened) (c : Command) (old new : D) (v w : View) : Type 0 where
+  pub bytes : List ℕ
+  pub image : List ℕ
+  pub ready : At g (IsReady (steps_for o c)) old bytes v
+  pub same : v.store ≡ o.store
+  pub left : LeftSince g old new image
+  pub seen : view_of image ≡ Some w
+
+-- a locked event stays in its bank, but for the crash part that its own Done gives it
+abbrev pub KeepsLockedEvents : Command → Option ℕ → List BankView → List BankView → Type 0
+KeepsLockedEvents c held old new = (i : ℕ) (r : Record) → slice_get old i ≡ Some (Event r) → r.locked ≡ true → IsSameOrDone c held i r new
+
+-- each crash part was there, or the Done of its event gives it
+abbrev pub KeepsCrashParts : Command → Option ℕ → List BankView → List BankView → Type 0
+KeepsCrashParts c held old new =
+    (i : ℕ) (r : Record) (crash : CrashPart) → slice_get new i ≡ Some (Event r) → r.crash ≡ Some crash → IsOldOrDone c held old i crash

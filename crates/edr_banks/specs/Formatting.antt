@@ -2,6 +2,7 @@
 use Rattle.std.specs.Prelude.{◌≡◌, ◌≢◌, ◌⊎◌, ◌≤◌, ◌<◌, ℕ, Bool, true, List, ◌++◌, length, drop, replicate, slice_index, Option, Some, None, IsSome}
 use Rattle.edr_device.specs.Device.{IsQuiet}
 use Rattle.edr_device.specs.Pieces.{SameBut}
+use Rattle.edr_image.specs.declared.Choice.{Choice}
 use Rattle.edr_image.specs.declared.Header.{Header}
 use Rattle.edr_image.specs.declared.BankView.TheVariants.{Void}
 use Rattle.edr_image.specs.Image.{View, image_size, new_image, not_magic, view_of}
@@ -68,3 +69,7 @@ Laid h n bytes (Some now) settled = IsLaid h n bytes now settled
 pub record IsFilled (h : Header) (bytes now : List ℕ) : Type 0 where
   pub same : SameBut 0 1 (formatted h bytes) now
   pub first : slice_index now 0 ≢ first_magic
+
+-- the header of a new image
+abbrev pub new_header : ℕ → Choice → Header
+new_header banks choice = record { banks = banks; choice = choice }

@@ -1,15 +1,12 @@
 //! Commands on the banks.
-ghost use Rattle.std.specs.Prelude.{◌≡◌, ◌+◌, ◌-◌, ◌≤◌, ◌⊎◌, [], ℕ, true, false, List, Some, length, slice_get, IfOk, IfErr, OnOk, OnErr, Ok, Err};
+ghost use Rattle.std.specs.Prelude.{◌≡◌, ◌-◌, ◌≤◌, [], true, false, IfOk, IfErr, OnOk, OnErr, Ok, Err};
 ghost use Rattle.edr_device.specs.Faults.{Rose};
-ghost use Rattle.edr_device.specs.Lent.{At, Between, GoesOn, LeftSince, MakesCalls};
-ghost use Rattle.edr_record.specs.Parts.{CrashPart};
-ghost use Rattle.edr_record.specs.declared.Record.{Record};
-ghost use Rattle.edr_image.specs.declared.BankView.TheVariants.{Event};
+ghost use Rattle.edr_device.specs.Lent.{At, Between, GoesOn, MakesCalls};
 ghost use Rattle.edr_image.specs.declared.Applied.TheVariants.{NotKept};
 ghost use Rattle.edr_image.specs.Calls.{all_calls};
-ghost use Rattle.edr_image.specs.Image.{View, image_size, view_of};
-ghost use Rattle.edr_gates.specs.Taken.{AreStopped, AreTaken, EachIsPassedOn, IsReady, MayTakeAll, PassMeanwhileOn};
-ghost use Rattle.edr_banks.specs.Applying.{IsOldOrDone, IsSameOrDone, ended_after, opened_after, reply_of, steps_for};
+ghost use Rattle.edr_image.specs.Image.{View, image_size};
+ghost use Rattle.edr_gates.specs.Taken.{AreStopped, AreTaken, EachIsPassedOn, MayTakeAll, PassMeanwhileOn};
+ghost use Rattle.edr_banks.specs.Applying.{KeepsCrashParts, KeepsLockedEvents, MayLeaveView, ended_after, opened_after, reply_of, steps_for};
 ghost use Rattle.edr_banks.specs.declared.ApplyFault.TheVariants.{StoreFault, Ended};
 
 use crate::taking::take_on;
@@ -47,14 +44,10 @@ impl Banks {
         ensures any_moment { PassMeanwhileOn N.Nvm (steps_for self.old command.now) nvm.old nvm.new }
         ensures each { EachIsPassedOn N.Nvm (steps_for self.old command.now) nvm.old nvm.new }
         // A locked event stays in each image, but for the crash part that its own Done gives it.
-        ensures locked { (bytes image : List ℕ) (v w : View) (i : ℕ) (r : Record)
-            → At N.Nvm (IsReady (steps_for self.old command.now)) nvm.old bytes v
-            → v.store ≡ self.old.store → LeftSince N.Nvm nvm.old nvm.new image → view_of image ≡ Some w
-            → slice_get v.store.banks i ≡ Some (Event r) → r.locked ≡ true → IsSameOrDone command.now self.old.held i r w.store.banks }
-        ensures crash_parts { (bytes image : List ℕ) (v w : View) (i : ℕ) (r : Record) (crash : CrashPart)
-            → At N.Nvm (IsReady (steps_for self.old command.now)) nvm.old bytes v
-            → v.store ≡ self.old.store → LeftSince N.Nvm nvm.old nvm.new image → view_of image ≡ Some w
-            → slice_get w.store.banks i ≡ Some (Event r) → r.crash ≡ Some crash → IsOldOrDone command.now self.old.held v.store.banks i crash }
+        ensures locked { (v w : View) → MayLeaveView N.Nvm self.old command.now nvm.old nvm.new v w
+            → KeepsLockedEvents command.now self.old.held v.store.banks w.store.banks }
+        ensures crash_parts { (v w : View) → MayLeaveView N.Nvm self.old command.now nvm.old nvm.new v w
+            → KeepsCrashParts command.now self.old.held v.store.banks w.store.banks }
     {
         if self.ended {
             return Err(ApplyFault::Ended);

@@ -1,5 +1,5 @@
 //! Formatting: byte 0 is put last, so no crash leaves the magic over anything but the image as it was or the new one.
-ghost use Rattle.std.specs.Prelude.{◌≡◌, ◌≢◌, ◌⊎◌, ◌+◌, ◌-◌, ◌*◌, ◌≤◌, ◌<◌, ℕ, List, Some, None, Err, length, take, slice_index, OnOk, IfErr};
+ghost use Rattle.std.specs.Prelude.{◌≡◌, ◌≢◌, ◌⊎◌, ◌+◌, ◌-◌, ◌≤◌, ◌<◌, ℕ, List, Some, None, Err, slice_index, OnOk, IfErr};
 ghost use Rattle.edr_device.specs.Device.{IsQuiet};
 ghost use Rattle.edr_device.specs.Faults.{Rose};
 ghost use Rattle.edr_device.specs.Lent.{At, GoesOn, LeftSince, Lent, Meanwhile, OnlyRead};
@@ -7,7 +7,7 @@ ghost use Rattle.edr_device.specs.Pieces.{SameBut};
 ghost use Rattle.edr_image.specs.declared.places.TheConstants.{FEWEST_BANKS, MOST_BANKS};
 ghost use Rattle.edr_image.specs.Image.{image_size, not_magic};
 ghost use Rattle.edr_image.specs.Kept.{IsKept};
-ghost use Rattle.edr_banks.specs.Formatting.{IsBare, IsFilled, IsNew, IsPartlyFormatted, LacksMagic, IsUnmarked, IsUnmarking, Laid, formatted};
+ghost use Rattle.edr_banks.specs.Formatting.{IsBare, IsFilled, IsNew, IsPartlyFormatted, LacksMagic, IsUnmarked, IsUnmarking, Laid, formatted, new_header};
 ghost use Rattle.edr_banks.specs.declared.FormatFault.TheVariants.{Short, Formatted, StoreFault};
 
 use crate::{Banks, Choice, FormatFault, Header};
@@ -125,14 +125,11 @@ impl Banks {
         ensures magic_stays { (bytes : List ℕ) → N.content nvm.old ≡ Some bytes → not_magic bytes ≡ None
             → OnlyRead N.Nvm nvm.old nvm.new }
         ensures done { OnOk result ((bytes : List ℕ) → At N.Nvm IsQuiet nvm.old bytes
-            → (now : List ℕ) × At N.Nvm IsQuiet nvm.new now
-            × IsNew (record { banks = banks; choice = choice }) bytes now) }
+            → (now : List ℕ) × At N.Nvm IsQuiet nvm.new now × IsNew (new_header banks choice) bytes now) }
         ensures any_moment { (bytes : List ℕ) → At N.Nvm IsQuiet nvm.old bytes
-            → Meanwhile N.Nvm nvm.old nvm.new
-            (IsPartlyFormatted (record { banks = banks; choice = choice }) bytes) }
-        ensures each { (bytes image : List ℕ) → At N.Nvm IsQuiet nvm.old bytes
-            → LeftSince N.Nvm nvm.old nvm.new image
-            → IsPartlyFormatted (record { banks = banks; choice = choice }) bytes image }
+            → Meanwhile N.Nvm nvm.old nvm.new (IsPartlyFormatted (new_header banks choice) bytes) }
+        ensures each { (bytes image : List ℕ) → At N.Nvm IsQuiet nvm.old bytes → LeftSince N.Nvm nvm.old nvm.new image
+            → IsPartlyFormatted (new_header banks choice) bytes image }
         // Where the image was one that this program formatted, so is each of these, or it has no magic.
         ensures kept { (bytes image : List ℕ) → At N.Nvm IsQuiet nvm.old bytes → IsKept bytes
             → LeftSince N.Nvm nvm.old nvm.new image → IsKept image ⊎ LacksMagic image }

@@ -1,9 +1,10 @@
 -- Where nothing counts a fault, a trace wants nothing but memory.
-use Rattle.std.proofs.Common.{◌≡◌, ◌∙◌, refl, sym, subst, ap, arith, ℕ, ◌+◌, ◌≤◌, ◌<◌, List, length, take, Some, IfSome}
+use Rattle.std.proofs.Common.{◌≡◌, ◌∙◌, refl, sym, subst, ap, arith, ℕ, ◌+◌, ◌≤◌, List, length, take, Some, None, IfSome}
 use Rattle.std.proofs.lemmas.List.{length-take}
 use Rattle.edr_device.specs.Faults.{Rose}
 use Rattle.edr_image.specs.Banks.{Store}
 use Rattle.edr_image.specs.Image.{View}
+use Rattle.edr_image.specs.declared.OpenFault.{OpenFault}
 use Rattle.edr_image.specs.declared.OpenFault.TheVariants as open_fault
 use Rattle.edr_image.specs.Image.{image_refusal}
 use Rattle.edr_spell.specs.declared.CycleInput.{CycleInput}
@@ -11,12 +12,12 @@ use Rattle.edr_spell.specs.Spell.{Spell, largest_trace}
 use Rattle.edr_spell.specs.Fault.{Fault as IsFaultOf}
 use Rattle.edr_spell.proofs.LawLemmas.{spell-not_fault, spell-one}
 use Rattle.edr_run.specs.Cycle.{Outcome, last_count}
-use Rattle.edr_report.specs.declared.faults.Fault.{Fault}
-use Rattle.edr_report.specs.declared.faults.Fault.TheVariants as fault
+use Rattle.edr_cli.specs.declared.fault.Fault.{Fault}
+use Rattle.edr_cli.specs.declared.fault.Fault.TheVariants as fault
 use Rattle.edr_replay.specs.Replayed.{RanToTheLast}
+use Rattle.edr_cli.specs.Causes.{IsImageCause, IsReplayCause, IsSpent}
 use Rattle.edr_cli.specs.Outside.{Input, Memory}
 use Rattle.edr_cli.specs.Reports.{Says}
-use Rattle.edr_cli.specs.Runs.{IsReplayCause, IsSpent}
 use Rattle.edr_cli.proofs.ImageLemmas.{same_view, says_refused, told_is}
 use Rattle.edr_cli.proofs.RunLaws.{run_count}
 use Rattle.edr_cli.proofs.TakingLemmas.{too_many}
@@ -54,3 +55,16 @@ only_memory i i' old new fault.Spent bytes image cs v n left within spelled told
     absurd (spent_none bytes image new cs v n spelled says room (told_is (λ m. IsSpent bytes m new) old.content image told (told_is (λ b. IfSome old.content (λ m. IsSpent b m new)) i.left bytes left cause.0)))
 only_memory i i' old new fault.OutOfMemory bytes image cs v n left within spelled told says room calm quiet cause = refl
 only_memory i i' old new other bytes image cs v n left within spelled told says room calm quiet cause = absurd cause
+
+refused_none : (image : List ℕ) (e : OpenFault) → image_refusal image ≡ None → image_refusal image ≡ Some e → ⊥
+refused_none image e none some = cc
+
+-- nor does a report of an image that isn't refused
+pub image_only_memory : (old new : Memory) (f : Fault) (image : List ℕ) → old.content ≡ Some image → image_refusal image ≡ None → ¬ Rose old.faults new.faults → IsImageCause old new f → f ≡ fault.OutOfMemory
+image_only_memory old new fault.Store image told none quiet cause = absurd (quiet cause)
+image_only_memory old new (fault.Short size needed) image told none quiet cause =
+    absurd (refused_none image (open_fault.Short size needed) none (told_is (λ b. image_refusal b ≡ Some (open_fault.Short size needed)) old.content image told cause.0.0))
+image_only_memory old new (fault.Header h) image told none quiet cause =
+    absurd (refused_none image (open_fault.Header h) none (told_is (λ b. image_refusal b ≡ Some (open_fault.Header h)) old.content image told cause.0))
+image_only_memory old new fault.OutOfMemory image told none quiet cause = refl
+image_only_memory old new other image told none quiet cause = absurd cause

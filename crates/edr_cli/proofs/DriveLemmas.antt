@@ -1,5 +1,5 @@
 -- What the parts of a run by threads say of the whole.
-use Rattle.std.proofs.Common.{◌≡◌, ◌⊎◌, refl, inl, inr, ℕ, ◌+◌, ◌≤◌, List, length, Option, Some, None, IfSome}
+use Rattle.std.proofs.Common.{◌≡◌, refl, inl, inr, ℕ, ◌+◌, ◌≤◌, List, length, Option, Some, None, IfSome}
 use Rattle.edr_device.specs.Device.{StillTells, IsQuiet}
 use Rattle.edr_device.specs.Faults.{Rose}
 use Rattle.edr_image.specs.declared.OpenFault.TheVariants as open_fault
@@ -9,14 +9,15 @@ use Rattle.edr_spell.specs.Spell.{Spell, largest_trace}
 use Rattle.edr_run.specs.Cycle.{last_count}
 use Rattle.edr_cycle.specs.declared.started.StartFault.{StartFault}
 use Rattle.edr_cycle.specs.declared.started.StartFault.TheVariants as start
-use Rattle.edr_report.specs.declared.faults.Fault.{Fault}
-use Rattle.edr_report.specs.declared.faults.Fault.TheVariants as fault
+use Rattle.edr_cli.specs.declared.fault.Fault.{Fault}
+use Rattle.edr_cli.specs.declared.fault.Fault.TheVariants as fault
 use Rattle.edr_replay.specs.Replayed.{EndsCutShort, EndsShort, EndsSpent, Holds, IsFault, IsMemory, IsTrulyRefused, IsTrulyShort, LeavesReached}
-use Rattle.edr_cli.specs.Drives.{IsDriveCause, RanCutShort}
+use Rattle.edr_cli.specs.Causes.{IsDriveCause, RanCutShort}
 use Rattle.edr_cli.specs.Outside.{Input, IsAtEnd, Memory}
 use Rattle.edr_cli.specs.Reports.{Says}
 use Rattle.edr_cli.specs.Runs.{IsTraceOf}
-use Rattle.edr_cli.specs.Steps.{HoldsCutShort, IsDrivenCause, IsRunCause, fault_of_start}
+use Rattle.edr_cli.specs.Faults.{fault_of_start}
+use Rattle.edr_cli.specs.Steps.{IsDrivenCause}
 use Rattle.edr_cli.proofs.Completeness.{only_memory}
 use Rattle.edr_cli.proofs.ReplayLemmas.{Settled, run_replay, start_cause}
 

@@ -4,7 +4,7 @@ use Rattle.edr_device.specs.Device.{IsQuiet, StillTells}
 use Rattle.edr_image.specs.declared.Header.{Header}
 use Rattle.edr_image.specs.declared.OpenFault.{OpenFault}
 use Rattle.edr_image.specs.Banks.{Store}
-use Rattle.edr_image.specs.Image.{View, image_refusal, view_of, view_by}
+use Rattle.edr_image.specs.Image.{View, image_refusal, view_by}
 use Rattle.edr_banks.specs.Formatting.{IsPartlyFormatted}
 use Rattle.edr_words.specs.declared.Form.{Form}
 use Rattle.edr_cli.specs.Outside.{Memory}

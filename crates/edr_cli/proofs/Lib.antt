@@ -1,5 +1,6 @@
 pub mod Barrier
 pub mod EndingLemmas
+pub mod OutcomeLemmas
 pub mod ImageLemmas
 pub mod RunLaws
 pub mod PastLemmas
@@ -8,3 +9,4 @@ pub mod Completeness
 pub mod DriveLemmas
 pub mod Dispatch
 pub mod TakingLemmas
+mod FaultVectors

@@ -14,15 +14,17 @@ use Rattle.edr_spell.specs.declared.CycleInput.{CycleInput}
 use Rattle.edr_run.specs.Cycle.{Outcome, IsRun}
 use Rattle.edr_cycle.specs.declared.started.StartFault.{StartFault}
 use Rattle.edr_cycle.specs.declared.started.StartFault.TheVariants as start
-use Rattle.edr_report.specs.declared.faults.Fault.{Fault}
-use Rattle.edr_report.specs.declared.faults.Fault.TheVariants as fault
+use Rattle.edr_cli.specs.declared.fault.Fault.{Fault}
+use Rattle.edr_cli.specs.declared.fault.Fault.TheVariants as fault
 use Rattle.edr_words.specs.declared.Form.{Form}
-use Rattle.edr_replay.specs.Reached.{IsReached, RanFirst, between}
+use Rattle.edr_replay.specs.Reached.{RanFirst, between}
 use Rattle.edr_replay.specs.Replayed.{Holds, HasRun, EndsShort, EndsSpent, IsFault, IsShortOf, IsTrulyRefused, IsTrulyShort, LeavesReached}
+use Rattle.edr_cli.specs.Causes.{GaveTrace, IsImageCause, IsRefused, IsReplayCause, IsSpent, LeavesRun, RanSome, Reaches}
 use Rattle.edr_cli.specs.Outside.{Input, IsAtEnd, Memory}
-use Rattle.edr_cli.specs.Reports.{IsImageCause, IsRefused, Says, report_in}
-use Rattle.edr_cli.specs.Runs.{GaveTrace, IsReplayCause, IsSpent, IsTraceOf, LeavesRun, RanSome, Reaches, RunIs, TheRun}
-use Rattle.edr_cli.specs.Steps.{HeldNone, IsRunCause, Reports, ReportsHeld, fault_of_start}
+use Rattle.edr_cli.specs.Reports.{Says, report_in}
+use Rattle.edr_cli.specs.Runs.{IsTraceOf, RunIs, TheRun}
+use Rattle.edr_cli.specs.Faults.{fault_of_start}
+use Rattle.edr_cli.specs.Steps.{HeldNone, IsRunCause, Reports, ReportsHeld}
 use Rattle.edr_cli.proofs.ImageLemmas.{same_view, says_refused, told_is}
 use Rattle.edr_cli.proofs.RunLaws.{the_run}
 

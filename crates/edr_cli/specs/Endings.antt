@@ -1,15 +1,14 @@
 -- How a call ends: what it has written, by its status.
-use Rattle.std.specs.Prelude.{◌≡◌, ◌≢◌, ◌⊎◌, ℕ, List, Option}
+use Rattle.std.specs.Prelude.{◌≡◌, ◌≢◌, ◌⊎◌, ◌≤◌, ℕ, List, Option}
+use Rattle.edr_device.specs.Faults.{Rose}
 use Rattle.edr_device.specs.Stream.{Appends}
 use Rattle.edr_device.specs.Told.{Told}
 use Rattle.edr_device.specs.Transfer.{AppendsPart}
 use Rattle.edr_device.specs.declared.stream.Sink as sink
-use Rattle.edr_report.specs.declared.faults.Fault.{Fault}
-use Rattle.edr_report.specs.declared.faults.Fault.TheVariants as fault
-use Rattle.edr_report.specs.Faults.{fault_line}
+use Rattle.edr_cli.specs.declared.fault.Fault.{Fault}
+use Rattle.edr_cli.specs.Faults.{fault_line, status_of}
 use Rattle.edr_cli.specs.declared.status.Status.{Status}
 use Rattle.edr_cli.specs.declared.status.Status.TheVariants.{Ok, OutOfMemory, WriteFault}
-use Rattle.edr_cli.specs.Status.{status_of}
 
 -- the sink gained the text that is asked for
 abbrev pub Tells : (List ℕ → Type 0) → Option (List ℕ) → Option (List ℕ) → Type 0
@@ -27,30 +26,22 @@ TellsFaultPart IsCause old new = (f : Fault) × IsCause f × Told (AppendsPart (
 abbrev pub TellsPart : (List ℕ → Type 0) → (Fault → Type 0) → Option (List ℕ) → Option (List ℕ) → Type 0
 TellsPart IsText IsCause old new = ((text : List ℕ) × IsText text × Told (AppendsPart text) old new) ⊎ TellsFaultPart IsCause old new
 
--- ---- the same of a sink, by the status
+-- ---- of a sink
 
--- with Ok it gained the text
-abbrev pub OkTells : {K : Type 0} → sink.Ghosts K → (List ℕ → Type 0) → Status → K → K → Type 0
-OkTells k IsText status old new = status ≡ Ok → Tells IsText (k.content old) (k.content new)
+-- a text was written for a call that would end with this status: the sink gained it, or a part of it where a write failed
+pub record Gains {K : Type 0} (k : sink.Ghosts K) (text : List ℕ) (wanted status : Status) (old new : K) : Type 0 where
+  pub whole : status ≢ WriteFault → (status ≡ wanted) × Told (Appends text) (k.content old) (k.content new)
+  pub part : status ≡ WriteFault → Told (AppendsPart text) (k.content old) (k.content new) × Rose (k.faults old) (k.faults new)
+  pub answers : (status ≡ wanted) ⊎ (status ≡ WriteFault)
+  pub later : k.faults old ≤ k.faults new
 
--- with another status it gained the line of a fault, unless a write failed
-abbrev pub ElseTellsFault : {K : Type 0} → sink.Ghosts K → (Fault → Type 0) → Status → K → K → Type 0
-ElseTellsFault k IsCause status old new = status ≢ Ok → status ≢ WriteFault → TellsFault IsCause status (k.content old) (k.content new)
-
--- and then a part of either
-abbrev pub FaultTellsPart : {K : Type 0} → sink.Ghosts K → (List ℕ → Type 0) → (Fault → Type 0) → Status → K → K → Type 0
-FaultTellsPart k IsText IsCause status old new = status ≡ WriteFault → TellsPart IsText IsCause (k.content old) (k.content new)
+-- a call ended that tells a text or a fault: with Ok the sink gained the text; with another status the line of a fault, unless a
+-- write failed; and then a part of either
+pub record Ends {K : Type 0} (k : sink.Ghosts K) (IsText : List ℕ → Type 0) (IsCause : Fault → Type 0) (status : Status) (old new : K) : Type 0 where
+  pub text : status ≡ Ok → Tells IsText (k.content old) (k.content new)
+  pub other : status ≢ Ok → status ≢ WriteFault → TellsFault IsCause status (k.content old) (k.content new)
+  pub part : status ≡ WriteFault → TellsPart IsText IsCause (k.content old) (k.content new)
 
 -- it is whole, or there was no memory
 abbrev pub IsServed : Status → Type 0
 IsServed status = (status ≡ Ok) ⊎ (status ≡ OutOfMemory)
-
--- ---- causes
-
--- why words are not served: they ask for nothing that is, or memory ran out while they were read
-abbrev pub IsUsageCause : Fault → Type 0
-IsUsageCause f = (f ≡ fault.Usage) ⊎ (f ≡ fault.OutOfMemory)
-
--- why there is no text that is made from a number: memory ran out
-abbrev pub IsNumberCause : Fault → Type 0
-IsNumberCause f = f ≡ fault.OutOfMemory

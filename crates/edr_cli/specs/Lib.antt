@@ -1,8 +1,10 @@
 pub mod Status
+pub mod Faults
 pub mod Words
 pub mod Outside
 pub mod Reports
 pub mod Runs
-pub mod Drives
+pub mod Causes
 pub mod Endings
+pub mod Outcomes
 pub mod Steps

@@ -1,21 +1,15 @@
--- What an image says, the report of it, and why there is none.
-use Rattle.std.specs.Prelude.{◌≡◌, ◌<◌, ◌≤◌, ℕ, [], List, Some, None, IfSome}
-use Rattle.edr_device.specs.Faults.{Rose}
+-- What an image says, the report of it, and what a new one is.
+use Rattle.std.specs.Prelude.{◌≡◌, ℕ, [], List, Some, None, IfSome}
 use Rattle.edr_image.specs.declared.Header.{Header}
-use Rattle.edr_image.specs.declared.OpenFault.{OpenFault}
-use Rattle.edr_image.specs.declared.OpenFault.TheVariants as open_fault
 use Rattle.edr_image.specs.Banks.{Store}
-use Rattle.edr_image.specs.Image.{image_refusal, image_size, not_magic, view_of}
+use Rattle.edr_image.specs.Image.{not_magic, view_of}
 use Rattle.edr_image.specs.Reports.{Report}
 use Rattle.edr_banks.specs.Formatting.{IsNew, LacksMagic}
-use Rattle.edr_report.specs.declared.faults.Fault.{Fault}
-use Rattle.edr_report.specs.declared.faults.Fault.TheVariants as fault
 use Rattle.edr_report.specs.Format.{format_line}
 use Rattle.edr_report.specs.Report.{report_text, report_table}
 use Rattle.edr_words.specs.declared.Form.{Form}
 use Rattle.edr_words.specs.declared.Form.TheVariants.{Text, Table}
 use Rattle.edr_device.specs.Device.{IsQuiet}
-use Rattle.edr_replay.specs.Replayed.{IsShortOf}
 use Rattle.edr_cli.specs.Outside.{Memory}
 
 -- the image says these banks and this count
@@ -41,25 +35,6 @@ pub record IsReported (form : Form) (image : List ℕ) (new : Memory) (text : Li
 abbrev pub ReportIs : Form → Memory → Memory → List ℕ → Type 0
 ReportIs form old new text = IfSome old.content (λ image. IsReported form image new text)
 
--- the image is refused for this reason, and the bytes stay
-abbrev pub IsRefused : OpenFault → Memory → Memory → Type 0
-IsRefused e old new = IfSome old.content (λ image. image_refusal image ≡ Some e) × (new.content ≡ old.content)
-
--- the fault of a call that could not open the banks
-abbrev pub fault_of : OpenFault → Fault
-fault_of (open_fault.Short size needed) = fault.Short size needed
-fault_of (open_fault.Header h) = fault.Header h
-fault_of open_fault.StoreFault = fault.Store
-fault_of open_fault.OutOfMemory = fault.OutOfMemory
-
--- why there is no report of an image; the size of a short one is the device's, also where it tells no bytes
-abbrev pub IsImageCause : Memory → Memory → Fault → Type 0
-IsImageCause old new fault.Store = Rose old.faults new.faults
-IsImageCause old new (fault.Short size needed) = IsRefused (open_fault.Short size needed) old new × IsShortOf old.size size needed
-IsImageCause old new (fault.Header h) = IsRefused (open_fault.Header h) old new
-IsImageCause old new fault.OutOfMemory = new.content ≡ old.content
-IsImageCause old new other = ⊥
-
 -- ---- format
 
 -- where the device told bytes, there was no image among them; it tells those of the new one, and nothing is pending
@@ -73,11 +48,3 @@ FormatIs h old new text = IsMade h old new × (text ≡ format_line h)
 -- the magic stands
 abbrev pub HasMagic : List ℕ → Type 0
 HasMagic bytes = not_magic bytes ≡ None
-
--- why there is no new image; a refusal leaves the bytes as they were
-abbrev pub IsFormatCause : Header → Memory → Memory → Fault → Type 0
-IsFormatCause h old new fault.Store = Rose old.faults new.faults
-IsFormatCause h old new (fault.Short size needed) = (size ≡ old.size) × (needed ≡ image_size h.banks) × (size < needed) × (new.content ≡ old.content)
-IsFormatCause h old new fault.Formatted = (image_size h.banks ≤ old.size) × IfSome old.content HasMagic × (new.content ≡ old.content)
-IsFormatCause h old new fault.OutOfMemory = new.content ≡ old.content
-IsFormatCause h old new other = ⊥

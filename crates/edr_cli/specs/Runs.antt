@@ -1,78 +1,28 @@
--- What the run of a trace comes to, and why there is none.
-use Rattle.std.specs.Prelude.{◌≡◌, ◌⊎◌, ◌+◌, ◌≤◌, ◌<◌, ℕ, true, None, List, length, slice_get, Option, Some, IfSome, ⊤}
-use Rattle.edr_device.specs.Device.{IsQuiet, MayLeave}
-use Rattle.edr_device.specs.Faults.{Rose}
-use Rattle.edr_device.specs.Told.{Told}
-use Rattle.edr_device.specs.Transfer.{GivesTooMany}
-use Rattle.edr_record.specs.Parts.{PrePart, CrashPart}
-use Rattle.edr_record.specs.declared.Record.{Record}
-use Rattle.edr_record.specs.declared.Command.TheVariants as command
-use Rattle.edr_image.specs.declared.Ack.{Ack}
-use Rattle.edr_image.specs.declared.Kind.TheVariants as kind
-use Rattle.edr_image.specs.declared.Applied.TheVariants as applied
-use Rattle.edr_image.specs.declared.BankView.TheVariants.{Event}
-use Rattle.edr_image.specs.Answered.{IsLockedIn, IsLockedWith}
+-- What the run of a trace comes to.
+use Rattle.std.specs.Prelude.{◌≡◌, ◌+◌, ◌≤◌, ℕ, List, length, Some, IfSome}
 use Rattle.edr_image.specs.Banks.{Store}
-use Rattle.edr_image.specs.Image.{View, view_of}
 use Rattle.edr_image.specs.Kept.{AreKept}
-use Rattle.edr_image.specs.Reports.{Ran}
 use Rattle.edr_spell.specs.declared.CycleInput.{CycleInput}
 use Rattle.edr_spell.specs.Spell.{Spell, largest_trace}
-use Rattle.edr_spell.specs.Fault.{Fault as IsFaultOf}
 use Rattle.edr_run.specs.Cycle.{Outcome, IsRun, last_count}
-use Rattle.edr_run.specs.Logged.{IsLogged, NoTakeBetween}
-use Rattle.edr_run.specs.Own.{IsInWindow}
-use Rattle.edr_report.specs.declared.faults.Fault.{Fault}
-use Rattle.edr_report.specs.declared.faults.Fault.TheVariants as fault
+use Rattle.edr_run.specs.Keeps.{KeepsDone, KeepsLocked, LeavesLocked, StaysInWindow}
 use Rattle.edr_words.specs.declared.Form.{Form}
-use Rattle.edr_replay.specs.Reached.{IsReached, RanFirst}
-use Rattle.edr_replay.specs.Replayed.{Holds, RanToTheLast}
-use Rattle.edr_cli.specs.Outside.{Input, IsAtEnd, Memory}
-use Rattle.edr_cli.specs.Reports.{Says, report_in, IsImageCause}
-
--- ---- what holds of a run
+use Rattle.edr_replay.specs.Replayed.{Holds}
+use Rattle.edr_cli.specs.Outside.{Input, Memory}
+use Rattle.edr_cli.specs.Reports.{Says, report_in}
 
 -- over banks that were kept: they are kept, each event above the count at first is one of the cycle that had its number, with
 -- that event's own parts, and each other one stood in its bank at first
 abbrev pub HasOwnWindow : List CycleInput → Store → ℕ → Outcome → Type 0
-HasOwnWindow cycles v n o = AreKept v.banks n
-    → AreKept o.store.banks o.count
-    × ((i : ℕ) (e : Record) → slice_get o.store.banks i ≡ Some (Event e) → IsInWindow cycles v.banks n o.reports i e)
-
--- an event that was locked at first stands in its bank as it was
-abbrev pub LeavesLocked : Store → Outcome → Type 0
-LeavesLocked v o = (i : ℕ) (e : Record) → slice_get v.banks i ≡ Some (Event e) → e.locked ≡ true → slice_get o.store.banks i ≡ Some (Event e)
-
--- the acknowledgement in place j of the log of the cycle in place k tells that an event was locked in the bank m
-pub record IsLockAck (cycles : List CycleInput) (o : Outcome) (k j m : ℕ) : Type 0 where
-  pub cycle : CycleInput
-  pub number : ℕ
-  pub stop : Option ℕ
-  pub log : List Ack
-  pub ack : Ack
-  pub ran : slice_get cycles k ≡ Some cycle
-  pub told : slice_get o.reports k ≡ Some (Ran number stop log)
-  pub stands : slice_get log j ≡ Some ack
-  pub is_lock : ack.kind ≡ kind.Lock
-  pub is_locked : ack.applied ≡ applied.Locked m
-
--- its event is locked in that bank
-abbrev pub KeepsLocked : List CycleInput → Outcome → Type 0
-KeepsLocked cycles o = (k j m : ℕ) (a : IsLockAck cycles o k j m)
-    → (pre : PrePart) × IsLogged a.cycle.feeds a.number j (command.Lock pre) × IsLockedIn o.store.banks m pre
-
--- and where a Done follows in that log before another Take, it has the crash part of that Done
-abbrev pub KeepsDone : List CycleInput → Outcome → Type 0
-KeepsDone cycles o = (k j l m : ℕ) (a : IsLockAck cycles o k j m) (done : Ack) → slice_get a.log l ≡ Some done → done.kind ≡ kind.Done → j < l → NoTakeBetween a.log j l
-    → (pre : PrePart) × (crash : CrashPart)
-    × IsLogged a.cycle.feeds a.number j (command.Lock pre) × IsLogged a.cycle.feeds a.number l (command.Done crash)
-    × IsLockedWith o.store.banks m pre crash
-
--- ---- a run
+HasOwnWindow cycles v n o = AreKept v.banks n → AreKept o.store.banks o.count × StaysInWindow cycles v n o
 
 -- a trace may have so many bytes, and they spell these cycles
 abbrev pub IsTraceOf : List CycleInput → List ℕ → Type 0
 IsTraceOf cycles bytes = (length bytes ≤ largest_trace) × Spell bytes cycles
+
+-- a source told the bytes of a trace of these cycles
+abbrev pub ToldTraceOf : List CycleInput → Input → Type 0
+ToldTraceOf cycles i = (bytes : List ℕ) × (i.left ≡ Some bytes) × IsTraceOf cycles bytes
 
 -- the run of the trace of these bytes over this image, with its report
 pub record TheRun (form : Form) (bytes image : List ℕ) (new : Memory) (text : List ℕ) : Type 0 where
@@ -118,66 +68,3 @@ pub record CanRun (i : Input) (m : Memory) : Type 0 where
 -- no stop is planned in the cycle
 abbrev pub IsPowered : CycleInput → Type 0
 IsPowered c = (c.start_stop ≡ 0) × (c.stop ≡ 0)
-
--- ---- why there is no run
-
--- the source gave a trace, and is at its end
-abbrev pub GaveTrace : Input → Input → Type 0
-GaveTrace i i' = IfSome i.left (λ bytes. (cycles : List CycleInput) × IsTraceOf cycles bytes) × IsAtEnd i'.left
-
--- the cycles before one that found no number left ran, and the device holds what they came to
-pub record IsSpent (bytes image : List ℕ) (new : Memory) : Type 0 where
-  pub cycles : List CycleInput
-  pub store : Store
-  pub count : ℕ
-  pub outcome : Outcome
-  pub spelled : IsTraceOf cycles bytes
-  pub says : Says image store count
-  pub ran : RanToTheLast cycles store count outcome
-  pub held : Holds new.content new.settled outcome.store outcome.count
-
--- the trace of these bytes brings a view to one that the image says: after some first cycles, or by a stop in the next one
-pub record Reaches (bytes : List ℕ) (v : View) (image : List ℕ) : Type 0 where
-  pub cycles : List CycleInput
-  pub spelled : Spell bytes cycles
-  pub view : View
-  pub view_is : view_of image ≡ Some view
-  pub reached : IsReached cycles v.store v.count view.store view.count
-
--- where nothing was pending, each image that a crash may leave is the bytes, if they have no view, or else one that the trace reaches
-abbrev pub LeavesRun : Input → Memory → Memory → Type 0
-LeavesRun i old new = (bytes image : List ℕ) → IsQuiet old.content old.settled bytes → MayLeave new.content new.settled image
-    → (view_of bytes ≡ None → image ≡ bytes)
-    × ((v : View) → view_of bytes ≡ Some v → IfSome i.left (λ trace. Reaches trace v image))
-
--- some first cycles of the trace ran, and the device holds what they came to
-pub record RanSome (bytes image : List ℕ) (new : Memory) : Type 0 where
-  pub cycles : List CycleInput
-  pub store : Store
-  pub count : ℕ
-  pub p : ℕ
-  pub outcome : Outcome
-  pub spelled : IsTraceOf cycles bytes
-  pub says : Says image store count
-  pub ran : RanFirst cycles store count p outcome
-  pub held : Holds new.content new.settled outcome.store outcome.count
-
--- why a source gave no trace; one that gave too much was read for one byte past the most that a trace may have
-abbrev pub IsTraceCause : Input → Input → Fault → Type 0
-IsTraceCause i i' (fault.Trace t) = IfSome i.left (λ bytes. (length bytes ≤ largest_trace) × IsFaultOf bytes t) × IsAtEnd i'.left
-IsTraceCause i i' fault.Read = Rose i.faults i'.faults
-IsTraceCause i i' fault.TooLong = Told (GivesTooMany largest_trace) i.left i'.left
-IsTraceCause i i' fault.OutOfMemory = ⊤
-IsTraceCause i i' other = ⊥
-
--- why there is no report of a run, by the first thing that went wrong
-abbrev pub IsReplayCause : Input → Input → Memory → Memory → Fault → Type 0
-IsReplayCause i i' old new (fault.Trace t) = IsTraceCause i i' (fault.Trace t) × (new ≡ old)
-IsReplayCause i i' old new fault.Read = IsTraceCause i i' fault.Read × (new ≡ old)
-IsReplayCause i i' old new fault.TooLong = IsTraceCause i i' fault.TooLong × (new ≡ old)
-IsReplayCause i i' old new fault.Store = GaveTrace i i' × Rose old.faults new.faults × LeavesRun i old new
-IsReplayCause i i' old new (fault.Short size needed) = GaveTrace i i' × IsImageCause old new (fault.Short size needed)
-IsReplayCause i i' old new (fault.Header h) = GaveTrace i i' × IsImageCause old new (fault.Header h)
-IsReplayCause i i' old new fault.Spent = IfTold i old (λ bytes image. IsSpent bytes image new) × IsAtEnd i'.left
-IsReplayCause i i' old new fault.OutOfMemory = (new.content ≡ old.content) ⊎ IfTold i old (λ bytes image. RanSome bytes image new)
-IsReplayCause i i' old new other = ⊥

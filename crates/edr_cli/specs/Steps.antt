@@ -5,22 +5,13 @@ use Rattle.edr_image.specs.Banks.{Store}
 use Rattle.edr_image.specs.Reports.{Report}
 use Rattle.edr_spell.specs.declared.CycleInput.{CycleInput}
 use Rattle.edr_run.specs.Cycle.{Outcome, IsRun}
-use Rattle.edr_cycle.specs.declared.started.StartFault.{StartFault}
-use Rattle.edr_cycle.specs.declared.started.StartFault.TheVariants as start
-use Rattle.edr_report.specs.declared.faults.Fault.{Fault}
-use Rattle.edr_report.specs.declared.faults.Fault.TheVariants as fault
+use Rattle.edr_cli.specs.declared.fault.Fault.{Fault}
+use Rattle.edr_cli.specs.declared.fault.Fault.TheVariants as fault
 use Rattle.edr_words.specs.declared.Form.{Form}
 use Rattle.edr_replay.specs.Reached.{IsCutShort, RanFirst}
 use Rattle.edr_replay.specs.Replayed.{Holds, IsShortOf, LeavesReached, RanToTheLast}
 use Rattle.edr_cli.specs.Outside.{Memory}
-use Rattle.edr_cli.specs.Reports.{Says, fault_of, report_in}
-
--- the fault of a call whose run ended early
-abbrev pub fault_of_start : StartFault → Fault
-fault_of_start (start.Open e) = fault_of e
-fault_of_start start.Spent = fault.Spent
-fault_of_start start.StoreFault = fault.Store
-fault_of_start start.OutOfMemory = fault.OutOfMemory
+use Rattle.edr_cli.specs.Reports.{Says, report_in}
 
 -- the text is the report of a run of these cycles over what the device held
 abbrev pub Reports : Form → List CycleInput → Memory → Memory → List ℕ → Type 0

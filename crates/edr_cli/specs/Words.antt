@@ -26,19 +26,37 @@ AreGenerate number cycles words = job_of words ≡ Some (Generate number cycles)
 abbrev pub AreLarge : ℕ → ℕ → List (List ℕ) → Type 0
 AreLarge number cycles words = job_of words ≡ Some (Large number cycles)
 
+-- ---- other words
+
 -- the job, if there is one, is none that is served
 abbrev pub IsOther : Option Job → Type 0
 IsOther None = ⊤
 IsOther (Some (Drive workers form)) = ⊤
-IsOther (Some (Format header)) = ⊥
-IsOther (Some (Replay form)) = ⊥
-IsOther (Some (Report form)) = ⊥
-IsOther (Some (Generate number cycles)) = ⊥
-IsOther (Some (Large number cycles)) = ⊥
+IsOther other = ⊥
 
 -- they ask for nothing that is served
 abbrev pub AreOther : List (List ℕ) → Type 0
 AreOther words = IsOther (job_of words)
+
+-- the job, if there is one, reads no trace
+abbrev pub IsWithoutTrace : Option Job → Type 0
+IsWithoutTrace (Some (Replay form)) = ⊥
+IsWithoutTrace other = ⊤
+
+-- they ask for nothing that reads a trace
+abbrev pub ReadNothing : List (List ℕ) → Type 0
+ReadNothing words = IsWithoutTrace (job_of words)
+
+-- the job, if there is one, uses no memory of records
+abbrev pub IsWithoutMemory : Option Job → Type 0
+IsWithoutMemory (Some (Format header)) = ⊥
+IsWithoutMemory (Some (Replay form)) = ⊥
+IsWithoutMemory (Some (Report form)) = ⊥
+IsWithoutMemory other = ⊤
+
+-- they ask for nothing that uses one
+abbrev pub UseNoMemory : List (List ℕ) → Type 0
+UseNoMemory words = IsWithoutMemory (job_of words)
 
 -- ---- the words of a run by threads
 

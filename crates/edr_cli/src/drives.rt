@@ -1,5 +1,5 @@
-//! The top call of a run by threads. Its promises are those of a run on one thread, and hold if it returns.
-ghost use Rattle.std.specs.Prelude.{◌≡◌, ◌≢◌, ◌≤◌, ◌⊎◌, ◌+◌, ℕ, Some, All, IfOk, IfErr, OnOk};
+//! The top call of `drive`, a run by threads. Its promises are those of a run on one thread, and hold if it returns.
+ghost use Rattle.std.specs.Prelude.{◌≡◌, ◌≢◌, ◌≤◌, ◌+◌, Some, All, IfOk, IfErr, OnOk};
 ghost use Rattle.edr_device.specs.Faults.{Rose};
 ghost use Rattle.edr_device.specs.Lent.{Between, GoesOn};
 ghost use Rattle.edr_device.specs.Told.{Told};
@@ -8,22 +8,22 @@ ghost use Rattle.edr_spell.specs.Spell.{IsCycle, largest_trace};
 ghost use Rattle.edr_spell.specs.declared.CycleInput.{CycleInput};
 ghost use Rattle.edr_replay.specs.Past.{LeavesPast};
 ghost use Rattle.edr_words.specs.declared.Form.{Form};
-ghost use Rattle.edr_cli.specs.Drives.{IsDriveCause};
-ghost use Rattle.edr_cli.specs.Endings.{ElseTellsFault, FaultTellsPart, IsServed, IsUsageCause, OkTells, TellsFault, TellsFaultPart};
-ghost use Rattle.edr_cli.specs.Outside.{IsAtEnd, NoFault, OfBoth, OfMemory, OfRun, input, memory};
-ghost use Rattle.edr_cli.specs.Runs.{CanRun, RunIs};
+ghost use Rattle.edr_cli.specs.Causes.{IsDriveCause, IsUsageCause};
+ghost use Rattle.edr_cli.specs.Endings.{TellsFault, TellsFaultPart};
+ghost use Rattle.edr_cli.specs.Outcomes.{ServesDrive};
+ghost use Rattle.edr_cli.specs.Outside.{IsAtEnd, OfBoth, OfMemory, OfRun, memory};
+ghost use Rattle.edr_cli.specs.Runs.{RunIs};
 ghost use Rattle.edr_cli.specs.Steps.{IsDrivenCause, Reports};
-ghost use Rattle.edr_cli.specs.Words.{AreDrive, AreNoDrive};
+ghost use Rattle.edr_cli.specs.Words.{AreNoDrive};
 
-use crate::endings::{tell, write};
-use crate::replay::start_fault;
+use crate::endings::{finish, tell};
+use crate::fault::Fault;
 use crate::report::{open_settled, report_held};
 use crate::status::Status;
 use crate::traces::trace_of;
 use edr_device::{Nvm, Sink, Source};
 use edr_drive::Gate;
 use edr_replay::replay_driven;
-use edr_report::Fault;
 use edr_trace::CycleInput;
 use edr_words::{Form, Job, Words};
 use std::alloc::{AllocError as OutOfMemory, Global};
@@ -52,10 +52,8 @@ fn run_driven<
     ensures later { N.faults nvm.old ≤ N.faults nvm.new }
     ensures past { Between N.Nvm LeavesPast nvm.old nvm.new }
 {
-    match replay_driven(rt, alloc, nvm, cycles, workers, gate) {
-        Ok(reports) => report_held(alloc, nvm, form, &reports),
-        Err(e) => Err(start_fault(e)),
-    }
+    let reports = replay_driven(rt, alloc, nvm, cycles, workers, gate)?;
+    report_held(alloc, nvm, form, &reports)
 }
 
 // Runs the trace that the source gives over the device by so many workers, and gives the report of the run and of what the device
@@ -112,13 +110,13 @@ pub fn drive<
     gate: &Arc<G>,
 ) -> Status
     // What is lent is handed back as it was lent: the same device of the same size, which tells its bytes if it did, and no count
-    // of faults that falls. Of the source no more is taken than tells that it gives too much.
+    // of faults that falls. Of the source no more is taken than tells that it gives too much. Where a write fails, the sink
+    // counted it.
     ensures takes { Told (GivesAtMost (largest_trace + 1)) (S.left source.old) (S.left source.new) }
     ensures lent { GoesOn N.Nvm nvm.old nvm.new }
-    ensures later { (S.faults source.old ≤ S.faults source.new) × (K.faults sink.old ≤ K.faults sink.new)
-        × (N.faults nvm.old ≤ N.faults nvm.new) }
-
-    // Where a write fails, the sink counted it.
+    ensures source_later { S.faults source.old ≤ S.faults source.new }
+    ensures sink_later { K.faults sink.old ≤ K.faults sink.new }
+    ensures later { N.faults nvm.old ≤ N.faults nvm.new }
     ensures write_fault { result ≡ Status.WriteFault → Rose (K.faults sink.old) (K.faults sink.new) }
 
     // Other words are a fault of usage, unless memory runs out. Nothing is read, and the device stays.
@@ -128,26 +126,9 @@ pub fn drive<
         → TellsFaultPart IsUsageCause (K.content sink.old) (K.content sink.new) }
     ensures untouched { AreNoDrive words.now → (source.new ≡ source.old) × (nvm.new ≡ nvm.old) }
 
-    // With Ok the source is at its end, and the sink gained exactly the report of a run of the cycles that the source spelled, from
-    // what the device told at first to what it holds, with nothing pending. What holds of each run stands with it: each record is
-    // from its own window and cycle, and no locked event is lost.
-    ensures input { (form : Form) (workers : ℕ) → AreDrive form workers words.now → result ≡ Status.Ok → IsAtEnd (S.left source.new) }
-    ensures run { (form : Form) (workers : ℕ) → AreDrive form workers words.now → OkTells K.Sink
-        (OfRun S.Source N.Nvm (RunIs form) source.old nvm.old nvm.new) result sink.old sink.new }
-    // With another status the sink gained exactly the line of a fault that has its cause; and where a write failed, a part
-    // of the report or of such a line.
-    ensures other { (form : Form) (workers : ℕ) → AreDrive form workers words.now → ElseTellsFault K.Sink
-        (OfBoth S.Source N.Nvm IsDriveCause source.old source.new nvm.old nvm.new) result sink.old sink.new }
-    ensures part { (form : Form) (workers : ℕ) → AreDrive form workers words.now → FaultTellsPart K.Sink
-        (OfRun S.Source N.Nvm (RunIs form) source.old nvm.old nvm.new)
-        (OfBoth S.Source N.Nvm IsDriveCause source.old source.new nvm.old nvm.new) result sink.old sink.new }
-    // Whatever the status, what stands past the image stays.
-    ensures past { (form : Form) (workers : ℕ) → AreDrive form workers words.now
-        → Between N.Nvm LeavesPast nvm.old nvm.new }
-    // Where nothing counts a fault, a trace is run over an image that isn't refused and has numbers left.
-    ensures complete { (form : Form) (workers : ℕ) → AreDrive form workers words.now → CanRun (input S.Source source.old) (memory N.Nvm nvm.old)
-        → NoFault S.faults source.old source.new → NoFault N.faults nvm.old nvm.new → NoFault K.faults sink.old sink.new
-        → IsServed result }
+    // With Ok the sink gained exactly the report of a run of the cycles that the source spelled, as by `replay`, with another
+    // status exactly the line of a fault that has its cause, and where a write failed a part of either.
+    ensures drive { ServesDrive S.Source K.Sink N.Nvm words.now result source.old source.new sink.old sink.new nvm.old nvm.new }
 {
     let job = match words.job(alloc) {
         Ok(job) => job,
@@ -156,8 +137,8 @@ pub fn drive<
     let Some(Job::Drive { workers, form }) = job else {
         return tell(sink, Fault::Usage);
     };
-    match drive_source(rt, alloc, source, nvm, workers, form, gate) {
-        Ok(text) => write(sink, &text, Status::Ok),
-        Err(fault) => tell(sink, fault),
-    }
+    finish(
+        sink,
+        drive_source(rt, alloc, source, nvm, workers, form, gate),
+    )
 }

@@ -1,4 +1,4 @@
-//! Formats the memory of the records.
+//! Serves `format`: makes a new image on the memory of the records.
 ghost use Rattle.std.specs.Prelude.{◌≡◌, ◌≤◌, ℕ, List, IfSome, IfOk, IfErr, IsOk};
 ghost use Rattle.edr_device.specs.Device.{IsQuiet, MayLeave};
 ghost use Rattle.edr_device.specs.Faults.{Rose};
@@ -7,15 +7,20 @@ ghost use Rattle.edr_image.specs.declared.places.TheConstants.{FEWEST_BANKS, MOS
 ghost use Rattle.edr_image.specs.Image.{image_size};
 ghost use Rattle.edr_banks.specs.Formatting.{IsPartlyFormatted, LacksMagic};
 ghost use Rattle.edr_report.specs.Format.{format_line};
+ghost use Rattle.edr_cli.specs.Causes.{IsFormatCause};
+ghost use Rattle.edr_cli.specs.Outcomes.{Formats};
 ghost use Rattle.edr_cli.specs.Outside.{OfMemory};
-ghost use Rattle.edr_cli.specs.Reports.{HasMagic, IsMade, IsFormatCause};
+ghost use Rattle.edr_cli.specs.Reports.{HasMagic, IsMade};
 
-use edr_banks::{Banks, FormatFault, Header};
-use edr_device::Nvm;
-use edr_report::{Fault, ShortLine, format_line};
+use crate::endings::{tell, write};
+use crate::fault::Fault;
+use crate::status::Status;
+use edr_banks::{Banks, Header};
+use edr_device::{Nvm, Sink};
+use edr_report::{ShortLine, format_line};
 
-/// Makes a new image, and the line that tells of it. The line is built before the device is touched.
-pub(crate) fn make_image<N: Nvm>(nvm: &mut N, header: Header) -> Result<ShortLine, Fault>
+// Makes a new image, and the line that tells of it. The line is built before the device is touched.
+fn make_image<N: Nvm>(nvm: &mut N, header: Header) -> Result<ShortLine, Fault>
     requires from { FEWEST_BANKS ≤ header.banks }
     requires to { header.banks ≤ MOST_BANKS }
     ensures lent { GoesOn N.Nvm nvm.old nvm.new }
@@ -32,13 +37,23 @@ pub(crate) fn make_image<N: Nvm>(nvm: &mut N, header: Header) -> Result<ShortLin
         → IfSome (N.content nvm.old) (λ bytes. LacksMagic bytes → IsOk result) }
 {
     let line = format_line(header);
-    if nvm.sync().is_err() {
-        return Err(Fault::Store);
-    }
-    match Banks::format(nvm, header.banks, header.choice) {
-        Ok(()) => Ok(line),
-        Err(FormatFault::Short { size, needed }) => Err(Fault::Short { size, needed }),
-        Err(FormatFault::Formatted) => Err(Fault::Formatted),
-        Err(FormatFault::StoreFault) => Err(Fault::Store),
+    nvm.sync()?;
+    Banks::format(nvm, header.banks, header.choice)?;
+    Ok(line)
+}
+
+/// Makes a new image, and writes the line that tells of it.
+pub(crate) fn serve_format<K: Sink, N: Nvm>(sink: &mut K, nvm: &mut N, header: Header) -> Status
+    requires from { FEWEST_BANKS ≤ header.banks }
+    requires to { header.banks ≤ MOST_BANKS }
+    ensures formats { Formats K.Sink N.Nvm header result sink.old sink.new nvm.old nvm.new }
+    ensures write_fault { result ≡ Status.WriteFault → Rose (K.faults sink.old) (K.faults sink.new) }
+    ensures sink_later { K.faults sink.old ≤ K.faults sink.new }
+    ensures lent { GoesOn N.Nvm nvm.old nvm.new }
+    ensures later { N.faults nvm.old ≤ N.faults nvm.new }
+{
+    match make_image(nvm, header) {
+        Ok(line) => write(sink, line.as_bytes(), Status::Ok),
+        Err(fault) => tell(sink, fault),
     }
 }

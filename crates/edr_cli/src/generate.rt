@@ -1,9 +1,5 @@
-//! Writes the trace of a number.
-ghost use Rattle.std.specs.Prelude.{◌≡◌, ◌≢◌, ◌⊎◌, ◌≤◌};
-ghost use Rattle.edr_device.specs.Faults.{Rose};
-ghost use Rattle.edr_device.specs.Stream.{Appends};
-ghost use Rattle.edr_device.specs.Told.{Told};
-ghost use Rattle.edr_device.specs.Transfer.{AppendsPart};
+//! Serves `generate`: writes the trace of a number.
+ghost use Rattle.edr_cli.specs.Endings.{Gains};
 ghost use Rattle.edr_gen.specs.Traces.{generated_trace};
 
 use crate::status::Status;
@@ -11,14 +7,8 @@ use edr_device::{Failed, Sink};
 use edr_gen::generate;
 
 /// Writes the trace of the number with so many cycles, piece by piece.
-pub(crate) fn write_trace<K: Sink>(sink: &mut K, number: u64, cycles: u32) -> Status
-    ensures whole { result ≢ Status.WriteFault → (result ≡ Status.Ok)
-        × Told (Appends (generated_trace number cycles)) (K.content sink.old) (K.content sink.new) }
-    ensures part { result ≡ Status.WriteFault
-        → Told (AppendsPart (generated_trace number cycles)) (K.content sink.old) (K.content sink.new)
-        × Rose (K.faults sink.old) (K.faults sink.new) }
-    ensures answers { (result ≡ Status.Ok) ⊎ (result ≡ Status.WriteFault) }
-    ensures later { K.faults sink.old ≤ K.faults sink.new }
+pub(crate) fn serve_generate<K: Sink>(sink: &mut K, number: u64, cycles: u32) -> Status
+    ensures gains { Gains K.Sink (generated_trace number cycles) Status.Ok result sink.old sink.new }
 {
     match generate(number, cycles, sink) {
         Ok(()) => Status::Ok,

@@ -1,19 +1,20 @@
 //! Laws of whole calls, each the contract of a function that does nothing.
-ghost use Rattle.std.specs.Prelude.{◌≡◌, ◌↔◌, ℕ, All, List};
+ghost use Rattle.std.specs.Prelude.{◌≡◌, ℕ, All, List};
 ghost use Rattle.edr_image.specs.Banks.{Store};
 ghost use Rattle.edr_run.specs.Cycle.{Outcome, IsRun};
 ghost use Rattle.edr_spell.specs.declared.CycleInput.{CycleInput};
 ghost use Rattle.edr_words.specs.declared.Form.{Form};
 ghost use Rattle.edr_cli.specs.Outside.{Input, Memory};
-ghost use Rattle.edr_cli.specs.Runs.{IsPowered, IsTraceOf, RunIs};
+ghost use Rattle.edr_cli.specs.Runs.{IsPowered, RunIs, ToldTraceOf};
 
 /// Traces that spell the same cycles have the same reports over the same image.
 pub fn reports_are_of_the_cycles()
-    ensures { (form : Form) (cycles : List CycleInput) (i j : Input) (old new : Memory) (a b text : List ℕ) → IsTraceOf cycles a → IsTraceOf cycles b
-        → i.left ≡ Some a → j.left ≡ Some b → RunIs form i old new text → RunIs form j old new text }
+    ensures { (form : Form) (cycles : List CycleInput) (i j : Input) (old new : Memory) (text : List ℕ)
+        → ToldTraceOf cycles i → ToldTraceOf cycles j → RunIs form i old new text → RunIs form j old new text }
 {}
 
 /// Where no stop is planned, a run comes to one outcome.
 pub fn runs_without_a_stop_are_one()
-    ensures { (cycles : List CycleInput) (v : Store) (n : ℕ) (a b : Outcome) → All IsPowered cycles → IsRun cycles v n a → IsRun cycles v n b → a ≡ b }
+    ensures { (cycles : List CycleInput) (v : Store) (n : ℕ) (a b : Outcome) → All IsPowered cycles
+        → IsRun cycles v n a → IsRun cycles v n b → a ≡ b }
 {}

@@ -5,8 +5,10 @@
 mod commands;
 mod drives;
 mod endings;
+mod fault;
 mod format;
 mod generate;
+mod large;
 pub mod laws;
 mod replay;
 mod report;
@@ -16,7 +18,10 @@ mod traces;
 pub use commands::command;
 pub use drives::drive;
 pub use edr_words::Words;
+pub use fault::Fault;
 pub use status::Status;
 
 #[cfg(test)]
 mod command_tests;
+#[cfg(test)]
+mod fault_tests;

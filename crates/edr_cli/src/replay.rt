@@ -1,40 +1,31 @@
-//! Runs a trace over the memory of the records, and reports.
+//! Serves `replay`: runs a trace over the memory of the records, and reports.
 ghost use Rattle.std.specs.Prelude.{◌≡◌, ◌+◌, ◌≤◌, All, IfOk, IfErr, OnOk};
+ghost use Rattle.edr_device.specs.Faults.{Rose};
 ghost use Rattle.edr_device.specs.Lent.{Between, GoesOn};
 ghost use Rattle.edr_device.specs.Told.{Told};
 ghost use Rattle.edr_device.specs.Transfer.{GivesAtMost};
 ghost use Rattle.edr_spell.specs.Spell.{IsCycle, largest_trace};
 ghost use Rattle.edr_replay.specs.Past.{LeavesPast};
+ghost use Rattle.edr_cli.specs.Causes.{IsReplayCause};
+ghost use Rattle.edr_cli.specs.Outcomes.{Runs};
 ghost use Rattle.edr_cli.specs.Outside.{IsAtEnd, OfBoth, OfMemory, OfRun};
-ghost use Rattle.edr_cli.specs.Runs.{IsReplayCause, RunIs};
-ghost use Rattle.edr_cli.specs.Steps.{IsRunCause, Reports, fault_of_start};
+ghost use Rattle.edr_cli.specs.Runs.{RunIs};
+ghost use Rattle.edr_cli.specs.Steps.{IsRunCause, Reports};
 
-use crate::report::{open_fault, open_settled, report_held};
+use crate::endings::finish;
+use crate::fault::Fault;
+use crate::report::{open_settled, report_held};
+use crate::status::Status;
 use crate::traces::trace_of;
-use edr_device::{Nvm, Source};
-use edr_replay::{StartFault, replay};
-use edr_report::Fault;
+use edr_device::{Nvm, Sink, Source};
+use edr_replay::replay;
 use edr_trace::CycleInput;
 use edr_words::Form;
 use std::alloc::Global;
 
-/// The fault of a call whose run ended early.
-pub(crate) fn start_fault(e: StartFault) -> Fault
-    ensures { result ≡ fault_of_start e }
-{
-    match e {
-        StartFault::Open(e) => open_fault(e),
-        StartFault::Spent => Fault::Spent,
-        StartFault::StoreFault => Fault::Store,
-        StartFault::OutOfMemory => Fault::OutOfMemory,
-    }
-}
-
-/// Runs the trace that the source gives over the device, and gives the report of the run and of what the device holds
-/// behind it.
-///
-/// The trace is whole before the device is used, and the image is looked at before the first cycle.
-pub(crate) fn replay_source<S: Source, N: Nvm>(
+// Runs the trace that the source gives over the device, and gives the report of the run and of what the device holds
+// behind it. The trace is whole before the device is used, and the image is looked at before the first cycle.
+fn replay_source<S: Source, N: Nvm>(
     alloc: Global,
     source: &mut S,
     nvm: &mut N,
@@ -68,8 +59,25 @@ fn run<N: Nvm>(
     ensures later { N.faults nvm.old ≤ N.faults nvm.new }
     ensures past { Between N.Nvm LeavesPast nvm.old nvm.new }
 {
-    match replay(alloc, nvm, cycles) {
-        Ok(reports) => report_held(alloc, nvm, form, &reports),
-        Err(e) => Err(start_fault(e)),
-    }
+    let reports = replay(alloc, nvm, cycles)?;
+    report_held(alloc, nvm, form, &reports)
+}
+
+/// Writes the report of the run of the trace that the source gives.
+pub(crate) fn serve_replay<S: Source, K: Sink, N: Nvm>(
+    alloc: Global,
+    source: &mut S,
+    sink: &mut K,
+    nvm: &mut N,
+    form: Form,
+) -> Status
+    ensures runs { Runs S.Source K.Sink N.Nvm IsReplayCause form result source.old source.new sink.old sink.new nvm.old nvm.new }
+    ensures write_fault { result ≡ Status.WriteFault → Rose (K.faults sink.old) (K.faults sink.new) }
+    ensures sink_later { K.faults sink.old ≤ K.faults sink.new }
+    ensures takes { Told (GivesAtMost (largest_trace + 1)) (S.left source.old) (S.left source.new) }
+    ensures source_later { S.faults source.old ≤ S.faults source.new }
+    ensures lent { GoesOn N.Nvm nvm.old nvm.new }
+    ensures later { N.faults nvm.old ≤ N.faults nvm.new }
+{
+    finish(sink, replay_source(alloc, source, nvm, form))
 }

@@ -1,31 +1,24 @@
-//! Reads what the memory of the records holds, and reports it.
+//! Serves `report`: reads what the memory of the records holds, and reports it.
 ghost use Rattle.std.specs.Prelude.{◌≡◌, ◌≤◌, ℕ, List, Some, IfOk, IfErr, map};
 ghost use Rattle.edr_device.specs.Device.{IsQuiet, MayLeave};
+ghost use Rattle.edr_device.specs.Faults.{Rose};
 ghost use Rattle.edr_device.specs.Lent.{At, GoesOn};
 ghost use Rattle.edr_image.specs.Reports.{report_of};
+ghost use Rattle.edr_cli.specs.Causes.{IsImageCause};
+ghost use Rattle.edr_cli.specs.Outcomes.{Shows};
 ghost use Rattle.edr_cli.specs.Outside.{OfMemory, memory};
-ghost use Rattle.edr_cli.specs.Reports.{IsImageCause, ReportIs, Says, fault_of, report_in};
+ghost use Rattle.edr_cli.specs.Reports.{ReportIs, Says, report_in};
 ghost use Rattle.edr_cli.specs.Steps.{ReportsHeld};
-ghost use Rattle.edr_report.specs.declared.faults.Fault.TheVariants as fault;
 
-use edr_banks::{Banks, OpenFault};
-use edr_device::Nvm;
+use crate::endings::finish;
+use crate::fault::Fault;
+use crate::status::Status;
+use edr_banks::Banks;
+use edr_device::{Nvm, Sink};
 use edr_image::CycleReport;
-use edr_report::{Fault, table, text};
+use edr_report::{table, text};
 use edr_words::Form;
-use std::alloc::Global;
-
-/// The fault of a call that could not open the banks.
-pub(crate) fn open_fault(e: OpenFault) -> Fault
-    ensures { result ≡ fault_of e }
-{
-    match e {
-        OpenFault::Short { size, needed } => Fault::Short { size, needed },
-        OpenFault::Header(refused) => Fault::Header(refused),
-        OpenFault::StoreFault => Fault::Store,
-        OpenFault::OutOfMemory => Fault::OutOfMemory,
-    }
-}
+use std::alloc::{AllocError as OutOfMemory, Global};
 
 /// Opens the banks behind a barrier, so that nothing is pending.
 pub(crate) fn open_settled<N: Nvm>(alloc: Global, nvm: &mut N) -> Result<Banks, Fault>
@@ -36,9 +29,7 @@ pub(crate) fn open_settled<N: Nvm>(alloc: Global, nvm: &mut N) -> Result<Banks, 
     ensures lent { GoesOn N.Nvm nvm.old nvm.new }
     ensures later { N.faults nvm.old ≤ N.faults nvm.new }
 {
-    if nvm.sync().is_err() {
-        return Err(Fault::Store);
-    }
+    nvm.sync()?;
     open(alloc, nvm)
 }
 
@@ -52,10 +43,7 @@ pub(crate) fn open<N: Nvm>(alloc: Global, nvm: &mut N) -> Result<Banks, Fault>
     ensures device { N.goes_on nvm.old nvm.new }
     ensures later { N.faults nvm.old ≤ N.faults nvm.new }
 {
-    match Banks::open(alloc, nvm) {
-        Ok(banks) => Ok(banks),
-        Err(e) => Err(open_fault(e)),
-    }
+    Ok(Banks::open(alloc, nvm)?)
 }
 
 /// The report of these cycles and of what the banks hold.
@@ -64,20 +52,13 @@ pub(crate) fn report_of_banks(
     form: Form,
     run: &[CycleReport],
     banks: &Banks,
-) -> Result<Vec<u8>, Fault>
+) -> Result<Vec<u8>, OutOfMemory>
     ensures text { IfOk result (λ out. out.items ≡ report_in form (map report_of run.now) banks.now.store banks.now.count) }
-    ensures memory { IfErr result (λ e. e ≡ fault.OutOfMemory) }
 {
-    let Ok(found) = banks.retrieve(alloc) else {
-        return Err(Fault::OutOfMemory);
-    };
-    let written = match form {
+    let found = banks.retrieve(alloc)?;
+    match form {
         Form::Text => text(alloc, run, &found, banks.count()),
         Form::Table => table(alloc, run, &found, banks.count()),
-    };
-    match written {
-        Ok(out) => Ok(out),
-        Err(_) => Err(Fault::OutOfMemory),
     }
 }
 
@@ -97,7 +78,7 @@ pub(crate) fn report_held<N: Nvm>(
     ensures later { N.faults nvm.old ≤ N.faults nvm.new }
 {
     let banks = open(alloc, nvm)?;
-    report_of_banks(alloc, form, run, &banks)
+    Ok(report_of_banks(alloc, form, run, &banks)?)
 }
 
 /// The report of what the device holds.
@@ -109,5 +90,21 @@ pub(crate) fn report<N: Nvm>(alloc: Global, nvm: &mut N, form: Form) -> Result<V
     ensures stays { (bytes image : List ℕ) → At N.Nvm IsQuiet nvm.old bytes → At N.Nvm MayLeave nvm.new image → image ≡ bytes }
 {
     let banks = open_settled(alloc, nvm)?;
-    report_of_banks(alloc, form, &[], &banks)
+    Ok(report_of_banks(alloc, form, &[], &banks)?)
+}
+
+/// Writes the report of what the device holds.
+pub(crate) fn serve_report<K: Sink, N: Nvm>(
+    alloc: Global,
+    sink: &mut K,
+    nvm: &mut N,
+    form: Form,
+) -> Status
+    ensures shows { Shows K.Sink N.Nvm form result sink.old sink.new nvm.old nvm.new }
+    ensures write_fault { result ≡ Status.WriteFault → Rose (K.faults sink.old) (K.faults sink.new) }
+    ensures sink_later { K.faults sink.old ≤ K.faults sink.new }
+    ensures lent { GoesOn N.Nvm nvm.old nvm.new }
+    ensures later { N.faults nvm.old ≤ N.faults nvm.new }
+{
+    finish(sink, report(alloc, nvm, form))
 }

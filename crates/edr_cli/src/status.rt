@@ -1,8 +1,6 @@
 //! The ways in which a call ends.
 ghost use Rattle.std.specs.Prelude.{◌≡◌};
-ghost use Rattle.edr_cli.specs.Status.{number_of, status_of};
-
-use edr_report::Fault;
+ghost use Rattle.edr_cli.specs.Status.{number_of};
 
 /// How a call ends. All but `Ok` and `WriteFault` write the one line of their fault.
 #[derive(Clone, Copy, Debug, PartialEq, Eq)]
@@ -45,22 +43,6 @@ impl Status {
             Status::Spent => 8,
             Status::OutOfMemory => 9,
             Status::TooLong => 10,
-        }
-    }
-
-    /// The status of a call that ends with this fault.
-    pub(crate) fn of(fault: &Fault) -> Status
-        ensures { result ≡ status_of fault.now }
-    {
-        match fault {
-            Fault::Usage => Status::Usage,
-            Fault::Trace(_) => Status::Trace,
-            Fault::Read => Status::ReadFault,
-            Fault::Store => Status::StoreFault,
-            Fault::Short { .. } | Fault::Header(_) | Fault::Formatted => Status::Image,
-            Fault::Spent => Status::Spent,
-            Fault::OutOfMemory => Status::OutOfMemory,
-            Fault::TooLong => Status::TooLong,
         }
     }
 }

@@ -5,12 +5,13 @@ ghost use Rattle.edr_device.specs.Told.{Told};
 ghost use Rattle.edr_device.specs.Transfer.{Carries, GivesAll, GivesAtMost, GivesTooMany};
 ghost use Rattle.edr_spell.specs.Spell.{IsCycle, largest_trace};
 ghost use Rattle.edr_trace.specs.Given.{Given};
+ghost use Rattle.edr_cli.specs.Causes.{IsTraceCause};
 ghost use Rattle.edr_cli.specs.Outside.{IsAtEnd, input};
-ghost use Rattle.edr_cli.specs.Runs.{IsTraceCause, IsTraceOf};
+ghost use Rattle.edr_cli.specs.Runs.{IsTraceOf};
 
+use crate::fault::Fault;
 use edr_device::{Source, TakeFault};
-use edr_report::Fault;
-use edr_trace::{CycleInput, LARGEST_TRACE, LONGEST_ROW, ReadRefused, Reading};
+use edr_trace::{CycleInput, LARGEST_TRACE, LONGEST_ROW, Reading};
 use std::alloc::Global;
 
 // The most bytes that are asked for at once.
@@ -111,15 +112,6 @@ pub(crate) fn trace_of<S: Source>(alloc: Global, source: &mut S) -> Result<Vec<C
     ensures takes { Told (GivesAtMost (largest_trace + 1)) (S.left source.old) (S.left source.new) }
     ensures later { S.faults source.old ≤ S.faults source.new }
 {
-    let Taken { reading, left } = match take_trace(alloc, source, LARGEST_TRACE as usize) {
-        Ok(taken) => taken,
-        Err(TakeFault::Failed) => return Err(Fault::Read),
-        Err(TakeFault::TooLong) => return Err(Fault::TooLong),
-        Err(TakeFault::OutOfMemory) => return Err(Fault::OutOfMemory),
-    };
-    match reading.finish(&left) {
-        Ok(cycles) => Ok(cycles),
-        Err(ReadRefused::Trace(refused)) => Err(Fault::Trace(refused)),
-        Err(ReadRefused::OutOfMemory) => Err(Fault::OutOfMemory),
-    }
+    let Taken { reading, left } = take_trace(alloc, source, LARGEST_TRACE as usize)?;
+    Ok(reading.finish(&left)?)
 }

@@ -1,11 +1,11 @@
 -- What stands at a tick.
-use Rattle.std.specs.Prelude.{ℕ, Bool, false, ◌&&◌, nat_eq, Option, Some, None, is_some, is_none, List}
+use Rattle.std.specs.Prelude.{◌≡◌, ℕ, Bool, false, ◌&&◌, nat_eq, Option, Some, None, is_some, is_none, List}
 use Rattle.std.specs.List.{list_any}
 use Rattle.std.specs.Option.{option_or}
 use Rattle.edr_definitions.specs.Signals.{Signals}
-use Rattle.edr_definitions.specs.Selection.{Candidate, close_of, chain}
-use Rattle.edr_definitions.specs.Search.{Phase, Searching, Open, tick_if}
-use Rattle.edr_definitions.specs.Commands.{lock_of}
+use Rattle.edr_definitions.specs.Selection.{Candidate, close_of, chain, is_end, is_time_zero, is_triggered}
+use Rattle.edr_definitions.specs.Search.{Phase, Search, Searching, Open, tick_if}
+use Rattle.edr_definitions.specs.Commands.{is_locking, lock_of}
 
 -- whether a tick is a time zero, a confirmation, an event's first locking firing, an end, the end of a dropped candidate, the close of an event
 pub record Change : Type 0 where
@@ -67,3 +67,12 @@ stepped_change t begins trigger locks ends (Open z c l None) =
     let now = option_or c (tick_if trigger t) in
     record { zero = false; confirmed = is_none c && trigger; locked = is_none l && locks; ended = ends; dropped = is_none now && ends; closed = is_some now && (ends && nat_eq (close_of z t) t) }
 stepped_change t begins trigger locks ends (Open z c l (Some e)) = record { zero = false; confirmed = false; locked = is_none l && locks; ended = false; dropped = false; closed = nat_eq (close_of z e) t }
+
+-- the answer of the test for the end at the tick t, where a candidate is open that has none
+abbrev pub TellsEnd : Signals → ℕ → Search → Bool → Type 0
+TellsEnd m t s ends = (z : ℕ) (c l : Option ℕ) → s.phase ≡ Open z c l None → ends ≡ is_end m z t
+
+-- the change at the tick t by the tests there, from the search before it
+abbrev pub tested_change : Signals → ℕ → Search → Bool → Change
+tested_change m t s ends =
+    stepped_change t (is_time_zero m s.bounds t) (is_triggered m s.bounds.since t) (is_locking m t) ends s.phase

@@ -1,5 +1,5 @@
 -- The crash part while it grows, one tick at a time.
-use Rattle.std.specs.Prelude.{ℕ, ◌+◌, ◌-◌, ◌*◌, ◌/◌, ◌%◌, min, ℤ, pos, ◌+ℤ◌, unsigned_abs, Bool, ◌&&◌, nat_eq, nat_lt, nat_le, if◌then◌else◌, Option, None, unwrap_or, is_none, List, ◌++◌, map, replicate, slice_set, slice_index_or}
+use Rattle.std.specs.Prelude.{◌≡◌, ◌<◌, ◌≤◌, ℕ, ◌+◌, ◌-◌, ◌*◌, ◌/◌, ◌%◌, min, ℤ, pos, ◌+ℤ◌, unsigned_abs, Bool, ◌&&◌, nat_eq, nat_lt, nat_le, if◌then◌else◌, Option, None, unwrap_or, is_none, List, ◌++◌, map, replicate, slice_set, slice_index_or}
 use Rattle.std.specs.Option.{option_or}
 use Rattle.std.specs.Int.{bit_at}
 use Rattle.std.specs.List.{range_with_len}
@@ -161,3 +161,13 @@ finish_crash p e = record {
   missing_across = p.across.missing;
   fired = p.fired;
 }
+
+-- ---- two signals that are alike
+
+-- they are the same at each tick from z to t
+abbrev pub SameFrom : {X : Type 0} → ℕ → ℕ → (ℕ → X) → (ℕ → X) → Type 0
+SameFrom z t a b = (u : ℕ) → z ≤ u → u ≤ t → a u ≡ b u
+
+-- they are the same at each tick past z up to t
+abbrev pub SameAfter : {X : Type 0} → ℕ → ℕ → (ℕ → X) → (ℕ → X) → Type 0
+SameAfter z t a b = (u : ℕ) → z < u → u ≤ t → a u ≡ b u

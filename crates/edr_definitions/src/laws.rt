@@ -16,10 +16,10 @@ ghost use Rattle.edr_definitions.specs.Signals.{Signals, sample_at, signals_of};
 ghost use Rattle.edr_definitions.specs.Windows.{delta_v, sum_between, swing, filled};
 ghost use Rattle.edr_definitions.specs.Selection.{Bounds, Candidate, is_triggered, is_time_zero, is_end, chain, at_start, events};
 ghost use Rattle.edr_definitions.specs.Parts.{first_greatest, kmh_of, slot, pre_part, crash_part};
-ghost use Rattle.edr_definitions.specs.Commands.{place_of, places, last_placed, issue_at, all_issues, issues, commands, InOrder, is_locking};
+ghost use Rattle.edr_definitions.specs.Commands.{place_of, places, last_placed, issue_at, all_issues, issues, commands, InOrder};
 ghost use Rattle.edr_definitions.specs.Facts.{Reaches, IsTriggered, IsTimeZero, IsEnd, IsCandidate, IsChain, AreEventsAfter, IsFirstGreatest, IsLatestSample, HasNoSample, IsInBounds, AgreeUpTo};
-ghost use Rattle.edr_definitions.specs.Search.{Search, Searching, Open, next_search, StandsFor, open_candidates};
-ghost use Rattle.edr_definitions.specs.Change.{change_of_list, tick_change, stepped_change};
+ghost use Rattle.edr_definitions.specs.Search.{Search, Searching, next_search, StandsFor, open_candidates};
+ghost use Rattle.edr_definitions.specs.Change.{TellsEnd, change_of_list, tested_change, tick_change};
 ghost use Rattle.edr_definitions.specs.Schedule.{Progress, Step, Give, IsAllowed, after_steps, items_given, IsNext, IsUnderWay, GoesOn, IsOver};
 
 /// What is found is the least tick that passes the test, and nothing is found where none passes.
@@ -40,7 +40,8 @@ pub fn change_is_sum_of_samples()
 
 /// A swing has a size exactly where some change in its window has it.
 pub fn swing_is_reached()
-    ensures { (axis : ℕ → Option ℤ) (k from t size : ℕ) → 0 < size → (size ≤ swing axis k from t) ↔ Reaches axis k from t size }
+    ensures { (axis : ℕ → Option ℤ) (k from t size : ℕ) → 0 < size
+        → (size ≤ swing axis k from t) ↔ Reaches axis k from t size }
 {}
 
 /// The three tests of the search mean their facts.
@@ -58,7 +59,8 @@ pub fn chain_is_the_chain()
 
 /// A candidate that has ended stays one, whatever samples come later.
 pub fn ended_candidates_stay()
-    ensures { (m n : Signals) (from : Bounds) (c : Candidate) → AgreeUpTo c.end_tick m n → IsCandidate m from c → IsCandidate n from c }
+    ensures { (m n : Signals) (from : Bounds) (c : Candidate) → AgreeUpTo c.end_tick m n → IsCandidate m from c
+        → IsCandidate n from c }
 {}
 
 /// Time zero, confirmation, end and close of an event stand in this order, its lock between, and the next time zero is past the close.
@@ -90,13 +92,16 @@ pub fn limits_are_the_numbers()
 
 /// The parts of an event of feeds have their fields in their bounds.
 pub fn parts_are_in_bounds()
-    ensures pre { (f : SensorLists) (n z : ℕ) (place : Place) → AreFeeds f → 1 ≤ n → n ≤ 4_294_967_295 → 1 ≤ z → z ≤ LATEST_MOMENT → IsPlace place → IsPre (pre_part f n place z) }
-    ensures crash { (f : SensorLists) (z e : ℕ) → AreFeeds f → z + 20 ≤ e → e ≤ z + RESET → IsCrash (crash_part (signals_of f) z e) }
+    ensures pre { (f : SensorLists) (n z : ℕ) (place : Place) → AreFeeds f → 1 ≤ n → n ≤ 4_294_967_295
+        → 1 ≤ z → z ≤ LATEST_MOMENT → IsPlace place → IsPre (pre_part f n place z) }
+    ensures crash { (f : SensorLists) (z e : ℕ) → AreFeeds f → z + 20 ≤ e → e ≤ z + RESET
+        → IsCrash (crash_part (signals_of f) z e) }
 {}
 
 /// Each command of a cycle of feeds carries a part in its bounds.
 pub fn commands_are_in_bounds()
-    ensures { (f : SensorLists) (n t : ℕ) → AreFeeds f → 1 ≤ n → n ≤ 4_294_967_295 → t ≤ LATEST_MOMENT → All IsInBounds (commands f n t) }
+    ensures { (f : SensorLists) (n t : ℕ) → AreFeeds f → 1 ≤ n → n ≤ 4_294_967_295 → t ≤ LATEST_MOMENT
+        → All IsInBounds (commands f n t) }
 {}
 
 /// One more event's place stands last, and follows from the place and the time zero of the last event before it.
@@ -117,18 +122,22 @@ pub fn commands_are_few()
 
 /// The commands up to a tick are those that the events of a longer stretch issue by then.
 pub fn commands_lie_in_longer_ones()
-    ensures { (f : SensorLists) (n t w : ℕ) → t ≤ w → map (λ i. i.command) (filter (λ i. nat_le i.tick t) (all_issues f n w)) ≡ commands f n t }
+    ensures { (f : SensorLists) (n t w : ℕ) → t ≤ w
+        → map (λ i. i.command) (filter (λ i. nat_le i.tick t) (all_issues f n w)) ≡ commands f n t }
 {}
 
 /// The next tick adds its own commands at the end, and they are issued at it.
 pub fn a_tick_adds_its_commands()
-    ensures commands { (f : SensorLists) (n t : ℕ) → commands f n (t + 1) ≡ commands f n t ++ map (λ i. i.command) (filter (λ i. nat_eq i.tick (t + 1)) (all_issues f n (t + 1))) }
-    ensures ticks { (f : SensorLists) (n t : ℕ) (added : List Command) → commands f n (t + 1) ≡ commands f n t ++ added → issues f n (t + 1) ≡ issues f n t ++ map (issue_at (t + 1)) added }
+    ensures commands { (f : SensorLists) (n t : ℕ) → commands f n (t + 1)
+        ≡ commands f n t ++ map (λ i. i.command) (filter (λ i. nat_eq i.tick (t + 1)) (all_issues f n (t + 1))) }
+    ensures ticks { (f : SensorLists) (n t : ℕ) (added : List Command) → commands f n (t + 1) ≡ commands f n t ++ added
+        → issues f n (t + 1) ≡ issues f n t ++ map (issue_at (t + 1)) added }
 {}
 
 /// An item of a later moment doesn't change the commands up to a tick.
 pub fn later_items_change_nothing()
-    ensures { (s : Sensor) (f : SensorLists) (x : Item) (n t : ℕ) → t < x.moment → commands f n t ≡ commands (with_items s (items_of s f ++ x ∷ []) f) n t }
+    ensures { (s : Sensor) (f : SensorLists) (x : Item) (n t : ℕ) → t < x.moment
+        → commands f n t ≡ commands (with_items s (items_of s f ++ x ∷ []) f) n t }
 {}
 
 /// At the start of a cycle the search stands for any signals.
@@ -138,13 +147,16 @@ pub fn a_search_begins_with_the_cycle()
 
 /// The chain up to a tick is what the search has closed, and then its open candidate.
 pub fn a_search_tells_the_chain()
-    ensures { (m : Signals) (t : ℕ) (s : Search) (h : StandsFor m t s) → h.closed ++ open_candidates m s.bounds s.phase ≡ chain m t }
+    ensures { (m : Signals) (t : ℕ) (s : Search) (h : StandsFor m t s)
+        → h.closed ++ open_candidates m s.bounds s.phase ≡ chain m t }
 {}
 
 /// What stands at the next tick follows from the four tests there and the phase before it.
 pub fn a_change_follows_from_the_phase()
-    ensures stands { (m : Signals) (t : ℕ) (s : Search) → StandsFor m t s → StandsFor m (t + 1) (next_search m (t + 1) s) }
-    ensures change { (m : Signals) (t : ℕ) (s : Search) (ends : Bool) → StandsFor m t s → ((z : ℕ) (c l : Option ℕ) → s.phase ≡ Open z c l None → ends ≡ is_end m z (t + 1)) → tick_change m (t + 1) ≡ stepped_change (t + 1) (is_time_zero m s.bounds (t + 1)) (is_triggered m s.bounds.since (t + 1)) (is_locking m (t + 1)) ends s.phase }
+    ensures stands { (m : Signals) (t : ℕ) (s : Search) → StandsFor m t s
+        → StandsFor m (t + 1) (next_search m (t + 1) s) }
+    ensures change { (m : Signals) (t : ℕ) (s : Search) (ends : Bool) → StandsFor m t s → TellsEnd m (t + 1) s ends
+        → tick_change m (t + 1) ≡ tested_change m (t + 1) s ends }
 {}
 
 /// What stands at a tick is known there: of the chain up to any later tick the same stands at it.
@@ -154,8 +166,10 @@ pub fn each_tick_is_told_as_it_comes()
 
 /// A tick without a sample counts as a sample of 0.
 pub fn a_missing_sample_counts_as_zero()
-    ensures stands { (m n : Signals) (t : ℕ) (s : Search) → AgreeUpTo t (filled m) (filled n) → StandsFor m t s → StandsFor n t s }
-    ensures change { (m n : Signals) (t : ℕ) (s : Search) → AgreeUpTo (t + 1) (filled m) (filled n) → StandsFor m t s → tick_change m (t + 1) ≡ tick_change n (t + 1) }
+    ensures stands { (m n : Signals) (t : ℕ) (s : Search) → AgreeUpTo t (filled m) (filled n) → StandsFor m t s
+        → StandsFor n t s }
+    ensures change { (m n : Signals) (t : ℕ) (s : Search) → AgreeUpTo (t + 1) (filled m) (filled n) → StandsFor m t s
+        → tick_change m (t + 1) ≡ tick_change n (t + 1) }
 {}
 
 /// The search that stands for signals up to a tick is one.
@@ -167,18 +181,25 @@ pub fn one_search_stands()
 /// horizon. The next item of a sensor that is waited for is never too far ahead of the closed tick, nor is any
 /// once the horizon is closed: so a run that gives each item only then meets no refusal.
 pub fn a_run_is_never_stuck_and_never_ahead()
-    ensures stuck { (f : SensorLists) (p : Progress) → AreFeeds f → IsLevel f → IsUnderWay f p → GoesOn f p ⊎ IsOver f p }
-    ensures ahead { (f : SensorLists) (p : Progress) (s : Sensor) (x : Item) → AreFeeds f → IsLevel f → IsUnderWay f p → IsNext f p s x → (mark_of (items_of s p.given) ≡ p.closed) ⊎ (p.closed ≡ horizon_of f) → IsAllowed (Give s x) p }
+    ensures stuck { (f : SensorLists) (p : Progress) → AreFeeds f → IsLevel f → IsUnderWay f p
+        → GoesOn f p ⊎ IsOver f p }
+    ensures ahead { (f : SensorLists) (p : Progress) (s : Sensor) (x : Item) → AreFeeds f → IsLevel f
+        → IsUnderWay f p → IsNext f p s x → (mark_of (items_of s p.given) ≡ p.closed) ⊎ (p.closed ≡ horizon_of f)
+        → IsAllowed (Give s x) p }
 {}
 
 /// What was given depends on no order but each sensor's own: steps that give each sensor the same items, in
 /// whatever order they come and wherever ticks are closed between them, lead to the same lists.
 pub fn arrival_order_is_free()
-    ensures lists { (p : Progress) (steps : List Step) (s : Sensor) → items_of s (after_steps p steps).given ≡ items_of s p.given ++ items_given s steps }
-    ensures same { (p : Progress) (steps others : List Step) → ((s : Sensor) → items_given s steps ≡ items_given s others) → (after_steps p steps).given ≡ (after_steps p others).given }
+    ensures lists { (p : Progress) (steps : List Step) (s : Sensor)
+        → items_of s (after_steps p steps).given ≡ items_of s p.given ++ items_given s steps }
+    ensures same { (p : Progress) (steps others : List Step)
+        → ((s : Sensor) → items_given s steps ≡ items_given s others)
+        → (after_steps p steps).given ≡ (after_steps p others).given }
 {}
 
 /// What stands at a tick that may be closed is what the whole feeds have there, however far they have been given.
 pub fn a_closed_tick_stands()
-    ensures { (f : SensorLists) (p : Progress) (t : ℕ) → AreFeeds f → IsUnderWay f p → t ≤ horizon_of p.given → AgreeUpTo t (signals_of p.given) (signals_of f) }
+    ensures { (f : SensorLists) (p : Progress) (t : ℕ) → AreFeeds f → IsUnderWay f p → t ≤ horizon_of p.given
+        → AgreeUpTo t (signals_of p.given) (signals_of f) }
 {}

@@ -3,7 +3,6 @@ use Rattle.std.proofs.Common.{◌≡◌, refl, pos, negsuc, false, true, Some, N
 use Rattle.std.specs.Prelude.{codes}
 use Rattle.std.specs.Fmt.{digits}
 use Rattle.csv.specs.Writing.{fields_text, is_blank, escaped}
-use Rattle.edr_items.specs.declared.Sensor.TheVariants.{Across}
 use Rattle.edr_record.specs.declared.Place.TheVariants as place
 use Rattle.edr_record.specs.declared.Record.{Record}
 use Rattle.edr_record.specs.Complete.{is_complete}
@@ -11,14 +10,10 @@ use Rattle.edr_image.specs.declared.Choice.TheVariants.{Keep, Overwrite}
 use Rattle.edr_image.specs.declared.BankView.TheVariants.{Void, Event, Damaged}
 use Rattle.edr_image.specs.declared.Applied.TheVariants as applied
 use Rattle.edr_image.specs.declared.Kind.TheVariants as kind
-use Rattle.edr_image.specs.declared.HeaderRefused.TheVariants as header
 use Rattle.edr_image.specs.Banks.{Store, events, damaged}
 use Rattle.edr_image.specs.Reports.{Report, Ran, StartStopped}
-use Rattle.edr_spell.specs.declared.TraceFault.TheVariants as trace
-use Rattle.edr_report.specs.declared.faults.Fault.TheVariants as fault
 use Rattle.edr_report.specs.Words.{time_between}
 use Rattle.edr_report.specs.Report.{pre_lines, crash_lines, event_lines, report_lines, report_text, report_table}
-use Rattle.edr_report.specs.Faults.{fault_line}
 use Rattle.edr_report.specs.Format.{format_line}
 
 abbrev fresh : Store
@@ -97,23 +92,7 @@ rounded-up : time_between (place.Second 2_950) ≡ codes "3.0 s"
 unfolding digits
 rounded-up = refl
 
--- fault lines, and the line of a format
-range-fault : fault_line (fault.Trace (record { row = 2; fault = trace.Range (negsuc 99999) (pos 100000) })) ≡ codes "fault: trace row 2: range -100000 to 100000\n"
-unfolding digits
-range-fault = refl
-
-skew-fault : fault_line (fault.Trace (record { row = 4; fault = trace.Skew Across })) ≡ codes "fault: trace row 4: skew of across\n"
-unfolding digits
-skew-fault = refl
-
-image-fault : fault_line (fault.Header (header.NotFormatted 0 0)) ≡ codes "fault: image not formatted at 0 found 0\n"
-unfolding digits
-image-fault = refl
-
-short-fault : fault_line (fault.Short 95 96) ≡ codes "fault: image short 95 of 96\n"
-unfolding digits
-short-fault = refl
-
+-- the line of a format
 keep-line : format_line (record { banks = 2; choice = Keep }) ≡ codes "formatted: 2 banks, keep\n"
 unfolding digits
 keep-line = refl

@@ -3,5 +3,4 @@ pub mod Words
 pub mod Values
 pub mod Report
 pub mod Forms
-pub mod Faults
 pub mod Format

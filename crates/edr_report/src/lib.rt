@@ -5,7 +5,6 @@
 //! bytes of both forms are defined in `specs/`.
 #![tactic(auto)]
 
-mod faults;
 mod forms;
 mod printer;
 mod short_lines;
@@ -17,12 +16,11 @@ ghost use Rattle.edr_report.specs.Lines.{text_of, table_of};
 ghost use Rattle.edr_report.specs.Report.{report_lines};
 
 use edr_image::{CycleReport, Found};
-pub use faults::Fault;
 pub use forms::Lines;
 use forms::{Table, Text};
 use printer::print;
 pub use printer::{print_event, print_run};
-pub use short_lines::{Room, ShortLine, format_line, push_number};
+pub use short_lines::{Room, ShortLine, format_line, push_number, push_signed};
 use std::alloc::{AllocError as OutOfMemory, Global};
 
 /// The report of the cycles of a run, of what was found in the banks in this order, and of the count of ignition

@@ -55,7 +55,7 @@ pub fn push_number(line: &mut Room, words: &str, n: u32)
 }
 
 /// Appends words and a number that may be below zero.
-pub(crate) fn push_signed(line: &mut Room, words: &str, z: i32)
+pub fn push_signed(line: &mut Room, words: &str, z: i32)
     requires { array_string_len line.old + length words.now + 11 ≤ 80 }
     ensures bytes { line.new.bytes ≡ line.old.bytes ++ (words.now ++ signed_decimal z) }
     ensures len { array_string_len line.new ≤ array_string_len line.old + length words.now + 11 }

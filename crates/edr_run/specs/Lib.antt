@@ -2,3 +2,4 @@ pub mod Cycle
 pub mod Own
 pub mod Logged
 pub mod Schedule
+pub mod Keeps

@@ -1,14 +1,15 @@
 -- The schedule of a cycle: items are given, ticks closed, and issued commands applied to the banks, in any order that is allowed.
-use Rattle.std.specs.Prelude.{◌≡◌, ◌⊎◌, ◌+◌, ◌<◌, ℕ, Some, List, [], ◌∷◌, take, length, slice_get}
+use Rattle.std.specs.Prelude.{◌≡◌, ◌⊎◌, ◌+◌, ◌<◌, ◌≤◌, ℕ, Some, List, [], ◌∷◌, take, length, slice_get}
 use Rattle.edr_items.specs.declared.Sensor.{Sensor}
 use Rattle.edr_items.specs.declared.Item.{Item}
-use Rattle.edr_items.specs.SensorLists.{SensorLists, items_of, horizon_of, no_items}
+use Rattle.edr_items.specs.SensorLists.{SensorLists, AreFeeds, items_of, horizon_of, no_items}
 use Rattle.edr_record.specs.declared.Command.{Command}
 use Rattle.edr_definitions.specs.Commands.{commands}
 use Rattle.edr_definitions.specs.Schedule.{Progress, Give, Close, BeginsWith, IsAllowed, after_step}
 use Rattle.edr_image.specs.Banks.{Store}
-use Rattle.edr_image.specs.Calls.{IsStop}
+use Rattle.edr_image.specs.Calls.{IsStop, all_calls}
 use Rattle.edr_image.specs.Steps.{State, Step, at_rest, after, reply_to, state_after, steps_of}
+use Rattle.edr_run.specs.Cycle.{steps_in}
 
 -- what was given and closed, how many commands were issued and how many applied, and the banks
 pub record Moment : Type 0 where
@@ -63,3 +64,17 @@ all_commands f n = commands f n (horizon_of f)
 -- the steps of the first j commands
 abbrev pub steps_of_first : SensorLists → ℕ → Store → ℕ → List Step
 steps_of_first f n v j = steps_of v (take j (all_commands f n))
+
+-- allowed steps of cycle n over the feeds f lead from the banks v to b
+pub record HasReached (f : SensorLists) (n : ℕ) (v : Store) (b : Moment) : Type 0 where
+  pub feeds : AreFeeds f
+  pub over : List Moment
+  pub leads : Leads n (begun v) over b
+  pub begins : Begins f b
+
+-- these are the banks after the first j commands, or after a stop of the cycle in the next one
+abbrev pub IsLeftAfter : SensorLists → ℕ → Store → ℕ → Store → Type 0
+IsLeftAfter f n v j w =
+    (w ≡ after v (steps_of_first f n v j))
+    ⊎ ((k : ℕ) × (done : List Step) × IsStop (steps_in f n v) k done
+    × (all_calls (steps_of_first f n v j) < k) × (k ≤ all_calls (steps_of_first f n v (j + 1))) × (w ≡ after v done))

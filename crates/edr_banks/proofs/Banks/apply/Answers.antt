@@ -20,43 +20,43 @@ returns-then-self-clause-each g c =
     (λ bytes v ready. record { nothing_else = λ t image within left. inl left; past_stays = λ t image within left. left })
 
 pub returns-then-self-clause-locked : goal.returns-then-self-clause-locked
-returns-then-self-clause-locked g c = λ bytes image v w i r ready same left seen stands locked.
+returns-then-self-clause-locked g c = λ v w m. λ i r stands locked.
     let o = c.args.self.now in
-    locked_passed o c.args.command.now bytes image v w i r (subst (λ (o : Opened). IsOpened o) c.self.view_is c.self.invariant) same (returns-then-self-clause-each g c bytes image v ready left) seen stands locked
+    locked_passed o c.args.command.now m.bytes m.image v w i r (subst (λ (o : Opened). IsOpened o) c.self.view_is c.self.invariant) m.same (returns-then-self-clause-each g c m.bytes m.image v m.ready m.left) m.seen stands locked
 
 pub returns-then-self-clause-crash_parts : goal.returns-then-self-clause-crash_parts
-returns-then-self-clause-crash_parts g c = λ bytes image v w i r crash ready same left seen stands has.
+returns-then-self-clause-crash_parts g c = λ v w m. λ i r crash stands has.
     let o = c.args.self.now in
-    crash_passed o c.args.command.now bytes image v w i r crash (subst (λ (o : Opened). IsOpened o) c.self.view_is c.self.invariant) same (returns-then-self-clause-each g c bytes image v ready left) seen stands has
+    crash_passed o c.args.command.now m.bytes m.image v w i r crash (subst (λ (o : Opened). IsOpened o) c.self.view_is c.self.invariant) m.same (returns-then-self-clause-each g c m.bytes m.image v m.ready m.left) m.seen stands has
 
 pub returns-then-is_err-clause-locked : goal.returns-then-is_err-clause-locked
-returns-then-is_err-clause-locked g c = λ bytes image v w i r ready same left seen stands locked.
+returns-then-is_err-clause-locked g c = λ v w m. λ i r stands locked.
     let D = g.N.Nvm in
     let start = c.args.nvm.now in
     let o = c.args.self.now in
     let each = subst (λ (x : Reply). EachIsPassed x.steps (D.content start) (D.settled start) (D.clock start) (D.since c.take_on.new.nvm)) c.task-task.ensures.reply c.take_on.ensures.steps.each in
-    locked_passed o c.args.command.now bytes image v w i r (subst (λ (o : Opened). IsOpened o) c.self.view_is c.self.invariant) same (each bytes image v ready left) seen stands locked
+    locked_passed o c.args.command.now m.bytes m.image v w i r (subst (λ (o : Opened). IsOpened o) c.self.view_is c.self.invariant) m.same (each m.bytes m.image v m.ready m.left) m.seen stands locked
 
 pub returns-then-is_err-clause-crash_parts : goal.returns-then-is_err-clause-crash_parts
-returns-then-is_err-clause-crash_parts g c = λ bytes image v w i r crash ready same left seen stands has.
+returns-then-is_err-clause-crash_parts g c = λ v w m. λ i r crash stands has.
     let D = g.N.Nvm in
     let start = c.args.nvm.now in
     let o = c.args.self.now in
     let each = subst (λ (x : Reply). EachIsPassed x.steps (D.content start) (D.settled start) (D.clock start) (D.since c.take_on.new.nvm)) c.task-task.ensures.reply c.take_on.ensures.steps.each in
-    crash_passed o c.args.command.now bytes image v w i r crash (subst (λ (o : Opened). IsOpened o) c.self.view_is c.self.invariant) same (each bytes image v ready left) seen stands has
+    crash_passed o c.args.command.now m.bytes m.image v w i r crash (subst (λ (o : Opened). IsOpened o) c.self.view_is c.self.invariant) m.same (each m.bytes m.image v m.ready m.left) m.seen stands has
 
 pub returns-clause-locked : goal.returns-clause-locked
-returns-clause-locked g c = λ bytes image v w i r ready same left seen stands locked.
+returns-clause-locked g c = λ v w m. λ i r stands locked.
     let D = g.N.Nvm in
     let start = c.args.nvm.now in
     let o = c.args.self.now in
     let each = subst (λ (x : Reply). EachIsPassed x.steps (D.content start) (D.settled start) (D.clock start) (D.since c.take_on.new.nvm)) c.task-task.ensures.reply c.take_on.ensures.steps.each in
-    locked_passed o c.args.command.now bytes image v w i r (subst (λ (o : Opened). IsOpened o) c.self.view_is c.self.invariant) same (each bytes image v ready left) seen stands locked
+    locked_passed o c.args.command.now m.bytes m.image v w i r (subst (λ (o : Opened). IsOpened o) c.self.view_is c.self.invariant) m.same (each m.bytes m.image v m.ready m.left) m.seen stands locked
 
 pub returns-clause-crash_parts : goal.returns-clause-crash_parts
-returns-clause-crash_parts g c = λ bytes image v w i r crash ready same left seen stands has.
+returns-clause-crash_parts g c = λ v w m. λ i r crash stands has.
     let D = g.N.Nvm in
     let start = c.args.nvm.now in
     let o = c.args.self.now in
     let each = subst (λ (x : Reply). EachIsPassed x.steps (D.content start) (D.settled start) (D.clock start) (D.since c.take_on.new.nvm)) c.task-task.ensures.reply c.take_on.ensures.steps.each in
-    crash_passed o c.args.command.now bytes image v w i r crash (subst (λ (o : Opened). IsOpened o) c.self.view_is c.self.invariant) same (each bytes image v ready left) seen stands has
+    crash_passed o c.args.command.now m.bytes m.image v w i r crash (subst (λ (o : Opened). IsOpened o) c.self.view_is c.self.invariant) m.same (each m.bytes m.image v m.ready m.left) m.seen stands has

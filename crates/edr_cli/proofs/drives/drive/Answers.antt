@@ -1,59 +1,59 @@
-use Rattle.std.proofs.Common.{◌∙◌, inl, inr, refl, ap}
-use Rattle.edr_report.specs.declared.faults.Fault.TheVariants as fault
-use Rattle.edr_cli.specs.declared.status.Status.TheVariants as status
-use Rattle.edr_cli.specs.Drives.{IsDriveCause}
-use Rattle.edr_cli.specs.Endings.{IsUsageCause}
+use Rattle.std.proofs.Common.{rules, inl, inr, refl}
+use Rattle.edr_words.specs.declared.Form.{Form}
+use Rattle.edr_cli.specs.declared.fault.Fault.TheVariants as fault
+use Rattle.edr_cli.specs.Causes.{IsDriveCause, IsUsageCause}
+use Rattle.edr_cli.specs.Outcomes.{Runs}
 use Rattle.edr_cli.specs.Outside.{input, memory}
-use Rattle.edr_cli.specs.Status.{status_of}
+use Rattle.edr_cli.specs.Runs.{RunIs}
+use Rattle.edr_cli.specs.Words.{AreDrive}
+use Rattle.edr_cli.proofs.Dispatch.{as_drive}
 use Rattle.edr_cli.proofs.DriveLemmas.{driven_only_memory}
-use Rattle.edr_cli.proofs.EndingLemmas.{answered, tells_fault, tells_fault_part}
+use Rattle.edr_cli.proofs.EndingLemmas.{ends, served, tells_fault, tells_fault_part, when_ok}
+use Rattle.edr_cli.proofs.ImageLemmas.{err_map}
+use Rattle.edr_cli.proofs.OutcomeLemmas.{runs_short}
 use Rattle.edr_cli.proofs.drives.drive.Goals as goal
 
 -- ---- memory ran out before the words were read
 
 pub returns-in-Err-clause-usage : goal.returns-in-Err-clause-usage
-returns-in-Err-clause-usage g c = λ other. tells_fault IsUsageCause fault.OutOfMemory c.tell.result _ _ (inr refl) c.tell.ensures.whole
+returns-in-Err-clause-usage g c = λ other fine. tells_fault g.K.Sink IsUsageCause fault.OutOfMemory c.tell.result c.args.sink.now c.tell.new.sink (inr refl) c.tell.ensures.gains fine
 
 pub returns-in-Err-clause-usage_part : goal.returns-in-Err-clause-usage_part
-returns-in-Err-clause-usage_part g c = λ other. tells_fault_part IsUsageCause _ fault.OutOfMemory c.tell.result _ _ (inr refl) c.tell.ensures.part
+returns-in-Err-clause-usage_part g c = λ other failed. tells_fault_part g.K.Sink IsUsageCause fault.OutOfMemory c.tell.result c.args.sink.now c.tell.new.sink (inr refl) c.tell.ensures.gains failed
 
-pub returns-in-Err-clause-other : goal.returns-in-Err-clause-other
-returns-in-Err-clause-other g c = λ form workers asked ended.
-    let S = g.S.Source in
-    let D = g.N.Nvm in
-    let i = input S c.args.source.now in
-    let m = memory D c.args.nvm.now in
-    tells_fault (IsDriveCause i i m m) fault.OutOfMemory c.tell.result _ _ (inl (inl refl)) c.tell.ensures.whole
-
-pub returns-in-Err-clause-part : goal.returns-in-Err-clause-part
-returns-in-Err-clause-part g c = λ form workers asked failed.
-    let S = g.S.Source in
-    let D = g.N.Nvm in
-    let i = input S c.args.source.now in
-    let m = memory D c.args.nvm.now in
-    inr (tells_fault_part (IsDriveCause i i m m) _ fault.OutOfMemory c.tell.result _ _ (inl (inl refl)) c.tell.ensures.part failed)
-
-pub returns-in-Err-clause-complete : goal.returns-in-Err-clause-complete
-returns-in-Err-clause-complete g c = λ form workers asked can calm quiet_sink quiet.
-    inr (answered _ _ c.tell.result status.OutOfMemory c.tell.ensures.answers c.tell.ensures.part quiet)
+pub returns-in-Err-clause-drive : goal.returns-in-Err-clause-drive
+returns-in-Err-clause-drive g c = λ form workers asked.
+    runs_short g.S.Source g.K.Sink g.N.Nvm IsDriveCause form c.tell.result c.args.source.now c.args.sink.now c.tell.new.sink c.args.nvm.now (inl (inl refl)) c.tell.ensures.gains
 
 -- ---- a run by threads
 
-pub returns-in-Err-drive_source-clause-complete : goal.returns-in-Err-drive_source-clause-complete
-returns-in-Err-drive_source-clause-complete g c = λ form workers asked can calm quiet_sink quiet.
+pub returns-clause-drive : goal.returns-clause-drive
+returns-clause-drive g c = λ form workers asked.
     let S = g.S.Source in
+    let K = g.K.Sink in
     let D = g.N.Nvm in
     let i = input S c.args.source.now in
     let i' = input S c.drive_source.new.source in
     let old = memory D c.args.nvm.now in
     let new = memory D c.drive_source.new.nvm in
-    let memory_only = driven_only_memory i i' old new c.in-Err-drive_source.fault can.bytes can.image can.cycles can.store can.count can.given can.spelled.0 can.spelled.1 can.told can.says can.room calm quiet_sink c.in-Err-drive_source.ensures.cause in
-    inr (answered _ _ c.tell-in-Err-drive_source.result (status_of c.in-Err-drive_source.fault) c.tell-in-Err-drive_source.ensures.answers c.tell-in-Err-drive_source.ensures.part quiet ∙ ap status_of memory_only)
+    let r = c.drive_source.result in
+    let s = c.finish.result in
+    let f = c.in-Some-Drive.form in
+    let is : AreDrive f c.in-Some-Drive.workers c.args.words.now = search rules in
+    let served_by : Runs S K D IsDriveCause f s c.args.source.now c.drive_source.new.source c.args.sink.now c.finish.new.sink c.args.nvm.now c.drive_source.new.nvm = record {
+      at_end = when_ok K r _ s c.args.sink.now c.finish.new.sink c.drive_source.ensures.end c.finish.ensures.fault;
+      ends = ends K r (λ v. v.items) (RunIs f i old new) (IsDriveCause i i' old new) s c.args.sink.now c.finish.new.sink c.drive_source.ensures.text c.drive_source.ensures.cause c.finish.ensures.text c.finish.ensures.fault;
+      past = c.drive_source.ensures.past;
+      complete = λ can calm quiet_device quiet. served K r (λ v. v.items) s c.args.sink.now c.finish.new.sink
+          (err_map r _ _ (λ f cause. driven_only_memory i i' old new f can.bytes can.image can.cycles can.store can.count can.given can.spelled.0 can.spelled.1 can.told can.says can.room calm quiet_device cause) c.drive_source.ensures.cause)
+          c.finish.ensures.text c.finish.ensures.fault quiet;
+    } in
+    as_drive (λ (x : Form). Runs S K D IsDriveCause x s c.args.source.now c.drive_source.new.source c.args.sink.now c.finish.new.sink c.args.nvm.now c.drive_source.new.nvm) c.args.words.now f form c.in-Some-Drive.workers workers is served_by asked
 
 -- ---- other words
 
 pub returns-in_default-clause-usage : goal.returns-in_default-clause-usage
-returns-in_default-clause-usage g c = λ other. tells_fault IsUsageCause fault.Usage c.tell-in_default.result _ _ (inl refl) c.tell-in_default.ensures.whole
+returns-in_default-clause-usage g c = λ other fine. tells_fault g.K.Sink IsUsageCause fault.Usage c.tell-in_default.result c.args.sink.now c.tell-in_default.new.sink (inl refl) c.tell-in_default.ensures.gains fine
 
 pub returns-in_default-clause-usage_part : goal.returns-in_default-clause-usage_part
-returns-in_default-clause-usage_part g c = λ other. tells_fault_part IsUsageCause _ fault.Usage c.tell-in_default.result _ _ (inl refl) c.tell-in_default.ensures.part
+returns-in_default-clause-usage_part g c = λ other failed. tells_fault_part g.K.Sink IsUsageCause fault.Usage c.tell-in_default.result c.args.sink.now c.tell-in_default.new.sink (inl refl) c.tell-in_default.ensures.gains failed

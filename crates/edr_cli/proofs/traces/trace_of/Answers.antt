@@ -15,17 +15,17 @@ trace-is bytes cycles None y few spelled t = tt
 trace-is bytes cycles (Some a) (Some b) few spelled t = subst (λ (v : List ℕ). IsTraceOf cycles v) (sym t.0) (few, spelled)
 trace-is bytes cycles (Some a) None few spelled t = absurd t
 
-pub returns-in-Ok-finish-clause-spelled : goal.returns-in-Ok-finish-clause-spelled
-returns-in-Ok-finish-clause-spelled g c =
+pub returns-clause-spelled : goal.returns-clause-spelled
+returns-clause-spelled g c =
     let left = g.S.Source.left in
-    let all = c.in-Ok.ensures.all in
-    let cycles = c.in-Ok-finish.cycles.items in
-    let rest = c.in-Ok.taken.left in
-    let spelled = subst (λ (x : List ℕ). Spell (all.0 ++ x) cycles) c.deref.ensures.value (c.in-Ok-finish.ensures.spelled all.0 all.1) in
+    let all = c.in_ok-reading.ensures.all in
+    let cycles = c.in_ok-finish.field-0.items in
+    let rest = c.in_ok-reading.field-0.left in
+    let spelled = subst (λ (x : List ℕ). Spell (all.0 ++ x) cycles) c.deref.ensures.value (c.in_ok-finish.ensures.spelled all.0 all.1) in
     trace-is (all.0 ++ rest.items) cycles (left c.args.source.now) (left c.take_trace.new.source) (omega (arith, length-append all.0 rest.items, all.2, rest.ok.0)) spelled all.3
 
-pub returns-in-Ok-finish-clause-cycles : goal.returns-in-Ok-finish-clause-cycles
-returns-in-Ok-finish-clause-cycles g c =
-    let all = c.in-Ok.ensures.all in
-    let cycles = c.in-Ok-finish.cycles.items in
-    All-from_recursion IsCycle cycles (spelled-cycles (all.0 ++ c.deref.result.now) cycles (c.in-Ok-finish.ensures.spelled all.0 all.1))
+pub returns-clause-cycles : goal.returns-clause-cycles
+returns-clause-cycles g c =
+    let all = c.in_ok-reading.ensures.all in
+    let cycles = c.in_ok-finish.field-0.items in
+    All-from_recursion IsCycle cycles (spelled-cycles (all.0 ++ c.deref.result.now) cycles (c.in_ok-finish.ensures.spelled all.0 all.1))

@@ -2,4 +2,4 @@ use Rattle.edr_run.proofs.AnySchedule.{banks-any}
 use Rattle.edr_run.proofs.laws.any_schedule.Goals as goal
 
 pub returns : goal.returns
-returns c = banks-any
+returns c = λ f n v b way. banks-any f n v way.over b way.feeds way.leads way.begins

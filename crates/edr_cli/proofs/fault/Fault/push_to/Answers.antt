@@ -1,5 +1,5 @@
 use Rattle.std.proofs.Common.{append_assoc}
-use Rattle.edr_report.proofs.faults.Fault.push_to.Goals as goal
+use Rattle.edr_cli.proofs.fault.Fault.push_to.Goals as goal
 
 pub returns-in-Short-clause-bytes : goal.returns-in-Short-clause-bytes
 returns-in-Short-clause-bytes c =

@@ -1,17 +1,22 @@
-//! Why a program ends without what was asked of it, and the line that tells it.
-
+//! Why a call ends without what was asked of it: the line that tells it, and the status.
 ghost use Rattle.std.specs.Prelude.{◌≡◌, ◌+◌, ◌≤◌, ◌++◌, length};
 ghost use Rattle.arrayvec.specs.ArrayString.{array_string_len};
 ghost use Rattle.edr_spell.specs.declared.Word.TheVariants.{Of};
 ghost use Rattle.edr_spell.specs.Rows.{spelling_of};
-ghost use Rattle.edr_report.specs.Faults.{trace_words, header_words, fault_words, fault_line};
+ghost use Rattle.edr_cli.specs.Faults.{trace_words, header_words, fault_words, fault_line, status_of};
 
-use crate::short_lines::{Room, ShortLine, push_number, push_signed};
+use crate::status::Status;
+use edr_banks::{FormatFault, OpenFault};
+use edr_cycle::StartFault;
+use edr_device::{Failed, TakeFault};
 use edr_image::HeaderRefused;
 use edr_items::Sensor;
+use edr_report::{Room, ShortLine, push_number, push_signed};
 use edr_spell::{TraceFault, TraceRefused};
+use edr_trace::ReadRefused;
+use std::alloc::AllocError;
 
-/// Why a program ends without what was asked of it.
+/// Why a call ends without what was asked of it.
 #[derive(Clone, Copy, Debug, PartialEq, Eq)]
 pub enum Fault {
     /// The words of the command line are none that it serves.
@@ -134,5 +139,115 @@ impl Fault {
         self.push_to(&mut line);
         line.push_str("\n");
         ShortLine::new(line)
+    }
+
+    /// The status of a call that ends with it.
+    pub fn status(&self) -> Status
+        ensures { result ≡ status_of self.now }
+    {
+        match self {
+            Fault::Usage => Status::Usage,
+            Fault::Trace(_) => Status::Trace,
+            Fault::Read => Status::ReadFault,
+            Fault::Store => Status::StoreFault,
+            Fault::Short { .. } | Fault::Header(_) | Fault::Formatted => Status::Image,
+            Fault::Spent => Status::Spent,
+            Fault::OutOfMemory => Status::OutOfMemory,
+            Fault::TooLong => Status::TooLong,
+        }
+    }
+}
+
+// ---- the faults of what is called
+
+impl From<AllocError> for Fault {
+    ghost use Rattle.edr_cli.specs.declared.fault.Fault.TheVariants as fault;
+
+    ghost from_gives = { λ _ f. f ≡ fault.OutOfMemory };
+
+    fn from(_: AllocError) -> Fault {
+        Fault::OutOfMemory
+    }
+}
+
+/// Of a device: what a source or a sink fails is told apart before.
+impl From<Failed> for Fault {
+    ghost use Rattle.edr_cli.specs.declared.fault.Fault.TheVariants as fault;
+
+    ghost from_gives = { λ _ f. f ≡ fault.Store };
+
+    fn from(_: Failed) -> Fault {
+        Fault::Store
+    }
+}
+
+impl From<TakeFault> for Fault {
+    ghost use Rattle.edr_cli.specs.Faults.{fault_of_take};
+
+    ghost from_gives = { λ e f. f ≡ fault_of_take e };
+
+    fn from(e: TakeFault) -> Fault {
+        match e {
+            TakeFault::Failed => Fault::Read,
+            TakeFault::TooLong => Fault::TooLong,
+            TakeFault::OutOfMemory => Fault::OutOfMemory,
+        }
+    }
+}
+
+impl From<ReadRefused> for Fault {
+    ghost use Rattle.edr_cli.specs.Faults.{fault_of_read};
+
+    ghost from_gives = { λ e f. f ≡ fault_of_read e };
+
+    fn from(e: ReadRefused) -> Fault {
+        match e {
+            ReadRefused::Trace(refused) => Fault::Trace(refused),
+            ReadRefused::OutOfMemory => Fault::OutOfMemory,
+        }
+    }
+}
+
+impl From<OpenFault> for Fault {
+    ghost use Rattle.edr_cli.specs.Faults.{fault_of_open};
+
+    ghost from_gives = { λ e f. f ≡ fault_of_open e };
+
+    fn from(e: OpenFault) -> Fault {
+        match e {
+            OpenFault::Short { size, needed } => Fault::Short { size, needed },
+            OpenFault::Header(refused) => Fault::Header(refused),
+            OpenFault::StoreFault => Fault::Store,
+            OpenFault::OutOfMemory => Fault::OutOfMemory,
+        }
+    }
+}
+
+impl From<FormatFault> for Fault {
+    ghost use Rattle.edr_cli.specs.Faults.{fault_of_format};
+
+    ghost from_gives = { λ e f. f ≡ fault_of_format e };
+
+    fn from(e: FormatFault) -> Fault {
+        match e {
+            FormatFault::Short { size, needed } => Fault::Short { size, needed },
+            FormatFault::Formatted => Fault::Formatted,
+            FormatFault::StoreFault => Fault::Store,
+        }
+    }
+}
+
+impl From<StartFault> for Fault {
+    ghost use Rattle.edr_cli.specs.Faults.{fault_of_start};
+
+    ghost from_gives = { λ e f. f ≡ fault_of_start e };
+
+    fn from(e: StartFault) -> Fault {
+        match e {
+            StartFault::Open(e) => Fault::from(e),
+            StartFault::Spent => Fault::Spent,
+            StartFault::StoreFault => Fault::Store,
+            StartFault::OutOfMemory => Fault::OutOfMemory,
+        }
     }
 }

@@ -1,0 +1,105 @@
+-- Why a call ends without what was asked of it: the line that tells it, its status, and the faults of what is called.
+use Rattle.std.specs.Prelude.{ℕ, List, [], ◌∷◌, ◌++◌, codes, decimal}
+use Rattle.std.specs.Fmt.{signed_decimal}
+use Rattle.edr_spell.specs.declared.TraceFault.{TraceFault}
+use Rattle.edr_spell.specs.declared.TraceFault.TheVariants as trace
+use Rattle.edr_spell.specs.declared.Word.TheVariants.{Of}
+use Rattle.edr_spell.specs.Rows.{spelling_of}
+use Rattle.edr_image.specs.declared.HeaderRefused.{HeaderRefused}
+use Rattle.edr_image.specs.declared.HeaderRefused.TheVariants as header
+use Rattle.edr_cli.specs.declared.fault.Fault.{Fault}
+use Rattle.edr_cli.specs.declared.fault.Fault.TheVariants.{Usage, Trace, Read, Store, Short, Header, Formatted, Spent, OutOfMemory, TooLong}
+use Rattle.edr_cli.specs.declared.status.Status.{Status}
+use Rattle.edr_cli.specs.declared.status.Status.TheVariants as status
+use Rattle.edr_device.specs.declared.transfer.TakeFault.{TakeFault}
+use Rattle.edr_device.specs.declared.transfer.TakeFault.TheVariants as take
+use Rattle.edr_trace.specs.declared.ReadRefused.{ReadRefused}
+use Rattle.edr_trace.specs.declared.ReadRefused.TheVariants as read
+use Rattle.edr_image.specs.declared.OpenFault.{OpenFault}
+use Rattle.edr_image.specs.declared.OpenFault.TheVariants as open_fault
+use Rattle.edr_banks.specs.declared.FormatFault.{FormatFault}
+use Rattle.edr_banks.specs.declared.FormatFault.TheVariants as format
+use Rattle.edr_cycle.specs.declared.started.StartFault.{StartFault}
+use Rattle.edr_cycle.specs.declared.started.StartFault.TheVariants as start
+
+-- what is wrong with a row of a trace
+abbrev pub trace_words : TraceFault → List ℕ
+trace_words (trace.Fields n) = codes "fields " ++ decimal n
+trace_words trace.Word = codes "word"
+trace_words (trace.Number n) = codes "number in field " ++ decimal n
+trace_words trace.Place = codes "place"
+trace_words (trace.Order last) = codes "order after " ++ decimal last
+trace_words (trace.Moment limit) = codes "moment past " ++ decimal limit
+trace_words (trace.Range low high) = codes "range " ++ signed_decimal low ++ codes " to " ++ signed_decimal high
+trace_words (trace.Gap last) = codes "gap after " ++ decimal last
+trace_words (trace.Skew s) = codes "skew of " ++ spelling_of (Of s)
+trace_words trace.Unended = codes "unended"
+
+-- what is wrong with the first bytes of an image
+abbrev pub header_words : HeaderRefused → List ℕ
+header_words (header.NotFormatted offset found) = codes "not formatted at " ++ decimal offset ++ codes " found " ++ decimal found
+header_words (header.Version found) = codes "version " ++ decimal found
+header_words (header.Banks found) = codes "banks " ++ decimal found
+header_words (header.Choice found) = codes "choice " ++ decimal found
+
+abbrev pub fault_words : Fault → List ℕ
+fault_words Usage = codes "usage"
+fault_words (Trace t) = codes "trace row " ++ decimal t.row ++ codes ": " ++ trace_words t.fault
+fault_words Read = codes "read fault"
+fault_words Store = codes "store fault"
+fault_words (Short size needed) = codes "image short " ++ decimal size ++ codes " of " ++ decimal needed
+fault_words (Header h) = codes "image " ++ header_words h
+fault_words Formatted = codes "image formatted"
+fault_words Spent = codes "spent"
+fault_words OutOfMemory = codes "out of memory"
+fault_words TooLong = codes "too long"
+
+-- the line of a fault
+abbrev pub fault_line : Fault → List ℕ
+fault_line f = codes "fault: " ++ fault_words f ++ 10 ∷ []
+
+-- the status of a call that ends with it
+abbrev pub status_of : Fault → Status
+status_of Usage = status.Usage
+status_of (Trace t) = status.Trace
+status_of Read = status.ReadFault
+status_of Store = status.StoreFault
+status_of (Short size needed) = status.Image
+status_of (Header h) = status.Image
+status_of Formatted = status.Image
+status_of Spent = status.Spent
+status_of OutOfMemory = status.OutOfMemory
+status_of TooLong = status.TooLong
+
+-- ---- the fault of a call, from that of what it called
+
+-- a source was not taken whole
+abbrev pub fault_of_take : TakeFault → Fault
+fault_of_take take.Failed = Read
+fault_of_take take.TooLong = TooLong
+fault_of_take take.OutOfMemory = OutOfMemory
+
+-- bytes were not read as a trace
+abbrev pub fault_of_read : ReadRefused → Fault
+fault_of_read (read.Trace t) = Trace t
+fault_of_read read.OutOfMemory = OutOfMemory
+
+-- the banks were not opened
+abbrev pub fault_of_open : OpenFault → Fault
+fault_of_open (open_fault.Short size needed) = Short size needed
+fault_of_open (open_fault.Header h) = Header h
+fault_of_open open_fault.StoreFault = Store
+fault_of_open open_fault.OutOfMemory = OutOfMemory
+
+-- no image was made
+abbrev pub fault_of_format : FormatFault → Fault
+fault_of_format (format.Short size needed) = Short size needed
+fault_of_format format.Formatted = Formatted
+fault_of_format format.StoreFault = Store
+
+-- a run ended early
+abbrev pub fault_of_start : StartFault → Fault
+fault_of_start (start.Open e) = fault_of_open e
+fault_of_start start.Spent = Spent
+fault_of_start start.StoreFault = Store
+fault_of_start start.OutOfMemory = OutOfMemory

@@ -1,0 +1,104 @@
+-- What a call comes to, word by word.
+use Rattle.std.specs.Prelude.{◌≡◌, ◌≤◌, ℕ, List, Some, None, IfSome}
+use Rattle.edr_device.specs.Device.{IsQuiet, MayLeave}
+use Rattle.edr_device.specs.Lent.{At, Between}
+use Rattle.edr_device.specs.declared.device.Nvm as device
+use Rattle.edr_device.specs.declared.stream.Sink as sink
+use Rattle.edr_device.specs.declared.stream.Source as stream
+use Rattle.edr_image.specs.declared.Header.{Header}
+use Rattle.edr_image.specs.Image.{image_refusal, image_size}
+use Rattle.edr_banks.specs.Formatting.{IsPartlyFormatted, LacksMagic}
+use Rattle.edr_gen.specs.Traces.{generated_trace}
+use Rattle.edr_large.specs.Large.{IsTold}
+use Rattle.edr_replay.specs.Past.{LeavesPast}
+use Rattle.edr_words.specs.declared.Form.{Form}
+use Rattle.edr_cli.specs.declared.fault.Fault.{Fault}
+use Rattle.edr_cli.specs.declared.status.Status.{Status}
+use Rattle.edr_cli.specs.declared.status.Status.TheVariants.{Ok}
+use Rattle.edr_cli.specs.Causes.{IsDriveCause, IsFormatCause, IsImageCause, IsNumberCause, IsReplayCause}
+use Rattle.edr_cli.specs.Endings.{Ends, IsServed}
+use Rattle.edr_cli.specs.Outside.{Input, IsAtEnd, Memory, NoFault, OfBoth, OfMemory, OfRun, input, memory}
+use Rattle.edr_cli.specs.Reports.{FormatIs, HasMagic, ReportIs}
+use Rattle.edr_cli.specs.Runs.{CanRun, RunIs}
+use Rattle.edr_cli.specs.Words.{AreDrive, AreFormat, AreGenerate, AreLarge, AreReplay, AreReport}
+
+-- ---- a run, by `replay` and by `drive`
+
+-- the report of a run of the cycles that the source spelled, from what the device told at first to what it holds, with nothing pending
+pub record Runs {S K D : Type 0} (s : stream.Ghosts S) (k : sink.Ghosts K) (d : device.Ghosts D)
+    (IsCause : Input → Input → Memory → Memory → Fault → Type 0) (form : Form) (status : Status)
+    (source source' : S) (sink sink' : K) (nvm nvm' : D) : Type 0 where
+  -- with Ok the source is at its end
+  pub at_end : status ≡ Ok → IsAtEnd (s.left source')
+  pub ends : Ends k (OfRun s d (RunIs form) source nvm nvm') (OfBoth s d IsCause source source' nvm nvm') status sink sink'
+  -- whatever the status, what stands past the image stays
+  pub past : Between d LeavesPast nvm nvm'
+  -- where nothing counts a fault, a trace is run over an image that isn't refused and has numbers left
+  pub complete : CanRun (input s source) (memory d nvm) → NoFault s.faults source source' → NoFault d.faults nvm nvm'
+      → NoFault k.faults sink sink' → IsServed status
+
+-- `replay` runs a trace
+abbrev pub ServesReplay : {S K D : Type 0} → stream.Ghosts S → sink.Ghosts K → device.Ghosts D → List (List ℕ) → Status
+    → S → S → K → K → D → D → Type 0
+ServesReplay s k d words status source source' sink sink' nvm nvm' =
+    (form : Form) → AreReplay form words → Runs s k d IsReplayCause form status source source' sink sink' nvm nvm'
+
+-- `drive` runs it by threads
+abbrev pub ServesDrive : {S K D : Type 0} → stream.Ghosts S → sink.Ghosts K → device.Ghosts D → List (List ℕ) → Status
+    → S → S → K → K → D → D → Type 0
+ServesDrive s k d words status source source' sink sink' nvm nvm' =
+    (form : Form) (workers : ℕ) → AreDrive form workers words → Runs s k d IsDriveCause form status source source' sink sink' nvm nvm'
+
+-- ---- `report`
+
+-- the report of what the device holds
+pub record Shows {K D : Type 0} (k : sink.Ghosts K) (d : device.Ghosts D) (form : Form) (status : Status)
+    (sink sink' : K) (nvm nvm' : D) : Type 0 where
+  pub ends : Ends k (OfMemory d (ReportIs form) nvm nvm') (OfMemory d IsImageCause nvm nvm') status sink sink'
+  -- where nothing was pending, a crash at the end leaves the bytes as they were, whatever the status
+  pub stays : (bytes image : List ℕ) → At d IsQuiet nvm bytes → At d MayLeave nvm' image → image ≡ bytes
+  -- where nothing counts a fault, an image that isn't refused is reported
+  pub complete : (image : List ℕ) → d.content nvm ≡ Some image → image_refusal image ≡ None
+      → NoFault d.faults nvm nvm' → NoFault k.faults sink sink' → IsServed status
+
+-- `report` shows it
+abbrev pub ServesReport : {K D : Type 0} → sink.Ghosts K → device.Ghosts D → List (List ℕ) → Status → K → K → D → D → Type 0
+ServesReport k d words status sink sink' nvm nvm' =
+    (form : Form) → AreReport form words → Shows k d form status sink sink' nvm nvm'
+
+-- ---- `format`
+
+-- the line of a new image, which the device holds and had none before; a refusal leaves its bytes
+pub record Formats {K D : Type 0} (k : sink.Ghosts K) (d : device.Ghosts D) (h : Header) (status : Status)
+    (sink sink' : K) (nvm nvm' : D) : Type 0 where
+  pub ends : Ends k (OfMemory d (FormatIs h) nvm nvm') (OfMemory d (IsFormatCause h) nvm nvm') status sink sink'
+  -- where nothing was pending, a crash at the end leaves the image as it was, or without the magic, or the new one
+  pub crash : (bytes image : List ℕ) → At d IsQuiet nvm bytes → At d MayLeave nvm' image → IsPartlyFormatted h bytes image
+  -- an image that is there stays, whatever the status
+  pub stays : (bytes image : List ℕ) → At d IsQuiet nvm bytes → HasMagic bytes → At d MayLeave nvm' image → image ≡ bytes
+  -- where neither the device nor the sink counts a fault, a device with room and without an image is formatted
+  pub complete : NoFault d.faults nvm nvm' → NoFault k.faults sink sink' → image_size h.banks ≤ d.extent nvm
+      → IfSome (d.content nvm) (λ bytes. LacksMagic bytes → IsServed status)
+
+-- `format` makes it
+abbrev pub ServesFormat : {K D : Type 0} → sink.Ghosts K → device.Ghosts D → List (List ℕ) → Status → K → K → D → D → Type 0
+ServesFormat k d words status sink sink' nvm nvm' =
+    (h : Header) → AreFormat h words → Formats k d h status sink sink' nvm nvm'
+
+-- ---- `generate` and `large`
+
+-- a text that is made from a number
+pub record Makes {K : Type 0} (k : sink.Ghosts K) (IsText : List ℕ → Type 0) (status : Status) (sink sink' : K) : Type 0 where
+  pub ends : Ends k IsText IsNumberCause status sink sink'
+  -- where the sink counts no fault, it is whole
+  pub complete : NoFault k.faults sink sink' → IsServed status
+
+-- `generate` writes exactly the trace of the number
+abbrev pub ServesGenerate : {K : Type 0} → sink.Ghosts K → List (List ℕ) → Status → K → K → Type 0
+ServesGenerate k words status sink sink' =
+    (number cycles : ℕ) → AreGenerate number cycles words → Makes k (λ text. text ≡ generated_trace number cycles) status sink sink'
+
+-- `large` the counts of a run over the cycles that this trace spells
+abbrev pub ServesLarge : {K : Type 0} → sink.Ghosts K → List (List ℕ) → Status → K → K → Type 0
+ServesLarge k words status sink sink' =
+    (number cycles : ℕ) → AreLarge number cycles words → Makes k (IsTold number cycles) status sink sink'

@@ -1,0 +1,83 @@
+//! Each fault has its line.
+
+use crate::Fault;
+use edr_image::HeaderRefused;
+use edr_items::Sensor;
+use edr_spell::{TraceFault, TraceRefused};
+use std::process::Abort;
+use std::test::Fail;
+
+#[test]
+fn each_fault_has_its_line(rt: HostRuntime) {
+    let not_formatted = HeaderRefused::NotFormatted {
+        offset: 0,
+        found: 0,
+    };
+    let faults = [
+        (Fault::Usage, "fault: usage\n"),
+        (Fault::Read, "fault: read fault\n"),
+        (Fault::Store, "fault: store fault\n"),
+        (
+            Fault::Short {
+                size: 95,
+                needed: 96,
+            },
+            "fault: image short 95 of 96\n",
+        ),
+        (
+            Fault::Header(not_formatted),
+            "fault: image not formatted at 0 found 0\n",
+        ),
+        (
+            Fault::Header(HeaderRefused::Version { found: 2 }),
+            "fault: image version 2\n",
+        ),
+        (
+            Fault::Header(HeaderRefused::Banks { found: 17 }),
+            "fault: image banks 17\n",
+        ),
+        (
+            Fault::Header(HeaderRefused::Choice { found: 2 }),
+            "fault: image choice 2\n",
+        ),
+        (Fault::Formatted, "fault: image formatted\n"),
+        (Fault::Spent, "fault: spent\n"),
+        (Fault::OutOfMemory, "fault: out of memory\n"),
+        (Fault::TooLong, "fault: too long\n"),
+    ];
+    for (fault, line) in faults {
+        assert!(rt; fault.line().as_bytes() == line.as_bytes());
+    }
+}
+
+#[test]
+fn each_fault_of_a_trace_has_its_words(rt: HostRuntime) {
+    let low = -100_000;
+    let high = 100_000;
+    let sensor = Sensor::Across;
+    let faults = [
+        (1, TraceFault::Fields { found: 2 }, "1: fields 2\n"),
+        (1, TraceFault::Word, "1: word\n"),
+        (1, TraceFault::Number { field: 2 }, "1: number in field 2\n"),
+        (1, TraceFault::Place, "1: place\n"),
+        (3, TraceFault::Order { last: 5 }, "3: order after 5\n"),
+        (
+            2,
+            TraceFault::Moment { limit: 86_400_000 },
+            "2: moment past 86400000\n",
+        ),
+        (
+            2,
+            TraceFault::Range { low, high },
+            "2: range -100000 to 100000\n",
+        ),
+        (2, TraceFault::Gap { last: 0 }, "2: gap after 0\n"),
+        (4, TraceFault::Skew { sensor }, "4: skew of across\n"),
+        (3, TraceFault::Unended, "3: unended\n"),
+    ];
+    for (row, fault, words) in faults {
+        let line = Fault::Trace(TraceRefused { row, fault }).line();
+        assert!(rt; line.as_bytes().starts_with(b"fault: trace row "));
+        assert!(rt; line.as_bytes().ends_with(words.as_bytes()));
+    }
+}
