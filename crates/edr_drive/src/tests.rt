@@ -76,13 +76,21 @@ fn level_feeds(rt: &impl Abort, alloc: Global, ticks: u32) -> Result<Feeds, Fail
     Ok(feeds)
 }
 
+// Feeds that threads share.
+fn share(alloc: Global, feeds: Feeds) -> Result<Arc<Feeds>, Fail>
+    requires { IsLevel feeds }
+    ensures { IfOk result (λ f. IsLevel (arc_value f)) }
+{
+    Ok(Arc::new(alloc, feeds)?)
+}
+
 // The same for threads. Nothing is left behind their horizon.
 fn shared_feeds(rt: &impl Abort, alloc: Global, ticks: u32) -> Result<Arc<Feeds>, Fail>
     ensures { IfOk result (λ f. IsLevel (arc_value f)) }
 {
     let feeds = level_feeds(rt, alloc, ticks)?;
     assert_eq!(rt; feeds.horizon(), ticks);
-    Ok(Arc::new(alloc, feeds)?)
+    share(alloc, feeds)
 }
 
 // How many items there are: two for each tick, six more for each hundred, and the deployment.
@@ -177,7 +185,7 @@ fn items_past_the_horizon_hold_nobody_up(rt: HostRuntime) -> Result<(), Fail> {
     let alloc = rt.alloc();
     let feeds = longer_feeds(&rt, alloc)?;
     assert_eq!(rt; feeds.horizon(), 600);
-    let feeds = Arc::new(alloc, feeds)?;
+    let feeds = share(alloc, feeds)?;
     for workers in [1u8, 2] {
         let mut memory = formatted(alloc)?;
         let end = cycle(
