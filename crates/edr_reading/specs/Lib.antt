@@ -3,6 +3,7 @@ pub mod Values
 pub mod Slots
 pub mod Parts
 pub mod Rows
+pub mod Answers
 pub mod Told
 pub mod Run
 pub mod Found

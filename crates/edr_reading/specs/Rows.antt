@@ -1,7 +1,9 @@
 -- The rows of a report's table, by their fields.
 use Rattle.std.specs.Prelude.{ℕ, Bool, List, [], ◌∷◌, map, codes, decimal}
 use Rattle.edr_record.specs.Parts.{PrePart}
-use Rattle.edr_report.specs.Lines.{Line}
+use Rattle.edr_record.specs.declared.Record.{Record}
+use Rattle.edr_report.specs.Lines.{Line, line}
+use Rattle.edr_report.specs.Report.{event_lines}
 use Rattle.edr_report.specs.Words.{yes_no, number_or_none, switch_or_none, milliseconds, shown_count, events_in_crash, time_between, spaced}
 use Rattle.edr_reading.specs.declared.crash.CrashValues.{CrashValues}
 use Rattle.edr_reading.specs.declared.pre.PreValues.{PreValues}
@@ -14,6 +16,16 @@ fields r = r.block.now ∷ r.name.now ∷ r.value.now ∷ []
 -- the fields of the row of a line
 abbrev pub line_fields : Line → List (List ℕ)
 line_fields l = decimal l.block ∷ l.name ∷ l.value ∷ []
+
+-- the rows of an event, the two that begin it, and the one that ends it
+abbrev pub event_fields : ℕ → ℕ → Record → List (List (List ℕ))
+event_fields block b r = map line_fields (event_lines block b r)
+
+abbrev pub event_head : ℕ → ℕ → List (List (List ℕ))
+event_head block b = map line_fields (line block (codes "event") (decimal block) ∷ line block (codes "bank") (decimal b) ∷ [])
+
+abbrev pub event_end : ℕ → Bool → List (List (List ℕ))
+event_end block complete = map line_fields (line block (codes "complete file recorded") (yes_no complete) ∷ [])
 
 -- the fields of rows of a block with these names and values
 abbrev pub named_fields : ℕ → List (List ℕ) → List (List ℕ) → List (List (List ℕ))

@@ -1,12 +1,10 @@
 //! An event, read back from its rows.
 
-ghost use Rattle.std.specs.Prelude.{◌≡◌, ◌≢◌, ◌∷◌, [], ℕ, length, map, codes, Some, IfSome, MatchOption, decimal};
-ghost use Rattle.std.specs.Bool.{MatchBool};
+ghost use Rattle.std.specs.Prelude.{◌≡◌, ℕ, length, map, decimal, Some, IfSome, MatchOption};
 ghost use Rattle.edr_record.specs.declared.Record.{Record};
-ghost use Rattle.edr_report.specs.Lines.{line};
-ghost use Rattle.edr_report.specs.Report.{event_lines};
 ghost use Rattle.edr_report.specs.Words.{yes_no};
-ghost use Rattle.edr_reading.specs.Rows.{fields, line_fields};
+ghost use Rattle.edr_reading.specs.Answers.{Tells};
+ghost use Rattle.edr_reading.specs.Rows.{event_end, event_fields, event_head, fields};
 ghost use Rattle.edr_reading.specs.Values.{IsBank};
 ghost use Rattle.edr_reading.specs.Parts.{IsRecord};
 
@@ -22,8 +20,8 @@ pub(crate) const EVENT_ROWS: usize = 28;
 // The bank of the event of this block, if these two rows begin it.
 fn head_rows(rows: &[Row<'_>], block: u32) -> Option<u8>
     requires { length rows.now ≡ 2 }
-    ensures read { IfSome result (λ b. IsBank b × (map fields rows.now ≡ map line_fields (line block (codes "event") (decimal block) ∷ line block (codes "bank") (decimal b) ∷ []))) }
-    ensures whole { (b : ℕ) → IsBank b → map fields rows.now ≡ map line_fields (line block (codes "event") (decimal block) ∷ line block (codes "bank") (decimal b) ∷ [])
+    ensures read { IfSome result (λ b. IsBank b × (map fields rows.now ≡ event_head block b)) }
+    ensures whole { (b : ℕ) → IsBank b → map fields rows.now ≡ event_head block b
         → result ≡ Some b }
 {
     let mut values: [&[u8]; 2] = [b""; 2];
@@ -48,8 +46,7 @@ fn bank_in(block: u32, event: &[u8], bank: &[u8]) -> Option<u8>
 // This one row says whether the file is complete.
 fn ends_with(rows: &[Row<'_>], block: u32, complete: bool) -> bool
     requires { length rows.now ≡ 1 }
-    ensures { MatchBool result (map fields rows.now ≡ map line_fields (line block (codes "complete file recorded") (yes_no complete) ∷ []))
-        (map fields rows.now ≢ map line_fields (line block (codes "complete file recorded") (yes_no complete) ∷ [])) }
+    ensures { Tells result (map fields rows.now ≡ event_end block complete) }
 {
     let mut values: [&[u8]; 1] = [b""; 1];
     if put_values(rows, block, &["complete file recorded"], &mut values) {
@@ -68,8 +65,8 @@ fn word_of(decision: bool) -> &'static [u8]
 /// The event of this block and its bank, if these 28 rows show it.
 pub(crate) fn read_event(rows: &[Row<'_>], block: u32) -> Option<(u8, Record)>
     requires { length rows.now ≡ 28 }
-    ensures read { IfSome result (λ p. IsBank p.0 × IsRecord p.1 × (map fields rows.now ≡ map line_fields (event_lines block p.0 p.1))) }
-    ensures whole { (b : ℕ) (r : Record) → IsBank b → IsRecord r → map fields rows.now ≡ map line_fields (event_lines block b r)
+    ensures read { IfSome result (λ p. IsBank p.0 × IsRecord p.1 × (map fields rows.now ≡ event_fields block p.0 p.1)) }
+    ensures whole { (b : ℕ) (r : Record) → IsBank b → IsRecord r → map fields rows.now ≡ event_fields block b r
         → MatchOption result ⊥ (λ p. p.0 ≡ b) }
 {
     let (head, rest) = rows.split_at(2);

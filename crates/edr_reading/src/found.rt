@@ -4,9 +4,9 @@ ghost use Rattle.std.specs.Prelude.{◌≡◌, ◌≤◌, ◌+◌, ◌*◌, ◌�
 ghost use Rattle.std.specs.Bool.{MatchBool};
 ghost use Rattle.std.specs.List.{AllByRecursion};
 ghost use Rattle.edr_image.specs.Banks.{found_event};
-ghost use Rattle.edr_report.specs.Report.{event_lines};
+ghost use Rattle.edr_reading.specs.Answers.{GivesRow};
 ghost use Rattle.edr_reading.specs.Found.{IsEvent, IsDamaged, events_fields, damaged_fields, count_fields, last_rows, BeginsTold};
-ghost use Rattle.edr_reading.specs.Rows.{fields, line_fields};
+ghost use Rattle.edr_reading.specs.Rows.{event_fields, fields};
 ghost use Rattle.edr_reading.specs.Reading.{AreDistinct};
 
 use crate::event::{EVENT_ROWS, read_event};
@@ -40,8 +40,8 @@ fn begins_event(rows: &[Row<'_>]) -> bool
 // The event of this block that the rows begin with, and its bank.
 fn first_event(rows: &[Row<'_>], block: u32) -> Option<(u8, Record)>
     ensures read { IfSome result (λ e. IsEvent e × (28 ≤ length rows.now)
-        × (map fields rows.now ≡ map line_fields (event_lines block e.0 e.1) ++ map fields (drop 28 rows.now))) }
-    ensures whole { (e : ℕ × Record) (more : List (List (List ℕ))) → IsEvent e → map fields rows.now ≡ map line_fields (event_lines block e.0 e.1) ++ more
+        × (map fields rows.now ≡ event_fields block e.0 e.1 ++ map fields (drop 28 rows.now))) }
+    ensures whole { (e : ℕ × Record) (more : List (List (List ℕ))) → IsEvent e → map fields rows.now ≡ event_fields block e.0 e.1 ++ more
         → MatchOption result ⊥ (λ f. (f.0 ≡ e.0) × (map fields (drop 28 rows.now) ≡ more)) }
 {
     if rows.len() < EVENT_ROWS {
@@ -90,7 +90,7 @@ pub(crate) fn take_events(
 fn first_damaged<'r, 'a>(rows: &'r [Row<'a>]) -> Option<(Found, &'r [Row<'a>])>
     ensures read { IfSome result (λ p. IsDamaged p.0 × (map fields rows.now ≡ damaged_fields p.0 ∷ map fields p.1.now)) }
     ensures whole { (f : Found) (more : List (List (List ℕ))) → IsDamaged f → map fields rows.now ≡ damaged_fields f ∷ more
-        → MatchOption result ⊥ (λ p. (p.0 ≡ f) × (map fields p.1.now ≡ more)) }
+        → GivesRow f more result }
 {
     let (row, rest) = rows.split_first()?;
     let damaged = read_damaged(row)?;

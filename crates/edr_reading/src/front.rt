@@ -4,6 +4,7 @@ ghost use Rattle.std.specs.Prelude.{◌≡◌, ◌≤◌, ◌<◌, ◌^◌, ◌+
 ghost use Rattle.std.specs.Bool.{MatchBool};
 ghost use Rattle.std.specs.List.{list_all};
 ghost use Rattle.edr_text.specs.Numbers.{is_digit};
+ghost use Rattle.edr_reading.specs.Answers.{Gives};
 ghost use Rattle.edr_reading.specs.Front.{EndsNumber};
 
 use edr_text::read_u32;
@@ -44,7 +45,7 @@ fn digits_in_front(bytes: &[u8]) -> usize
 pub(crate) fn number_in_front(bytes: &[u8]) -> Option<(u32, &[u8])>
     ensures read { IfSome result (λ p. bytes.now ≡ decimal p.0 ++ p.1.now) }
     ensures whole { (n : ℕ) (more : List ℕ) → n < 2 ^ 32 → EndsNumber more → bytes.now ≡ decimal n ++ more
-        → MatchOption result ⊥ (λ p. (p.0 ≡ n) × (p.1.now ≡ more)) }
+        → Gives n more result }
 {
     let (digits, rest) = bytes.split_at(digits_in_front(bytes));
     match read_u32(digits) {
@@ -57,7 +58,7 @@ pub(crate) fn number_in_front(bytes: &[u8]) -> Option<(u32, &[u8])>
 pub(crate) fn number_behind<'a>(bytes: &'a [u8], front: &[u8]) -> Option<(u32, &'a [u8])>
     ensures read { IfSome result (λ p. bytes.now ≡ front.now ++ (decimal p.0 ++ p.1.now)) }
     ensures whole { (n : ℕ) (more : List ℕ) → n < 2 ^ 32 → EndsNumber more → bytes.now ≡ front.now ++ (decimal n ++ more)
-        → MatchOption result ⊥ (λ p. (p.0 ≡ n) × (p.1.now ≡ more)) }
+        → Gives n more result }
 {
     match behind(bytes, front) {
         Some(rest) => number_in_front(rest),
@@ -130,7 +131,7 @@ pub(crate) fn within_behind<'a>(
 ) -> Option<(u32, &'a [u8])>
     ensures read { IfSome result (λ p. (bytes.now ≡ front.now ++ (decimal p.0 ++ p.1.now)) × (low ≤ p.0) × (p.0 ≤ high)) }
     ensures whole { (n : ℕ) (more : List ℕ) → low ≤ n → n ≤ high → EndsNumber more → bytes.now ≡ front.now ++ (decimal n ++ more)
-        → MatchOption result ⊥ (λ p. (p.0 ≡ n) × (p.1.now ≡ more)) }
+        → Gives n more result }
 {
     match number_behind(bytes, front) {
         Some((n, rest)) if low <= n && n <= high => Some((n, rest)),

@@ -1,7 +1,7 @@
 //! The first row behind the one that names the columns with which a text can be no report.
 
 ghost use Rattle.std.specs.Prelude.{◌≡◌, ◌<◌, ◌≤◌, ◌+◌, ◌-◌, ◌++◌, ◌∷◌, [], ℕ, List, IfOk, map, take, length, slice_index_or};
-ghost use Rattle.std.specs.Bool.{MatchBool};
+ghost use Rattle.edr_reading.specs.Answers.{Tells};
 ghost use Rattle.edr_reading.specs.Faults.{Opens, GoesOn, IsWrong};
 ghost use Rattle.edr_reading.specs.Plain.{IsInside};
 ghost use Rattle.edr_reading.specs.Reading.{head_row};
@@ -22,8 +22,7 @@ fn opens_with<'a>(
     name: &'a [u8],
     value: &'a [u8],
 ) -> Result<bool, OutOfMemory>
-    ensures { IfOk result (λ b. MatchBool b (Opens (map fields rows.now ++ (block.now ∷ name.now ∷ value.now ∷ []) ∷ []))
-        (¬ Opens (map fields rows.now ++ (block.now ∷ name.now ∷ value.now ∷ []) ∷ []))) }
+    ensures { IfOk result (λ b. Tells b (Opens (map fields rows.now ++ (block.now ∷ name.now ∷ value.now ∷ []) ∷ []))) }
 {
     let row = Row { block, name, value };
     opens(alloc, &with_row(alloc, rows, row)?)
@@ -54,7 +53,7 @@ fn has_block<'a>(
     requires some { 0 < length rows.now }
     requires last { fields last.now ≡ slice_index_or (map fields rows.now) (length (map fields rows.now) - 1) [] }
     requires inside { IsInside (map fields rows.now) (fields last.now) inside }
-    ensures { IfOk result (λ b. MatchBool b (GoesOn (map fields rows.now) (block.now ∷ [])) (¬ GoesOn (map fields rows.now) (block.now ∷ []))) }
+    ensures { IfOk result (λ b. Tells b (GoesOn (map fields rows.now) (block.now ∷ []))) }
 {
     let count: &'a [u8] = b"ignition cycle, download";
     if opens_with(alloc, rows, block, count, b"0")? {
@@ -80,7 +79,7 @@ fn has_name<'a>(
     requires some { 0 < length rows.now }
     requires last { fields last.now ≡ slice_index_or (map fields rows.now) (length (map fields rows.now) - 1) [] }
     requires inside { IsInside (map fields rows.now) (fields last.now) inside }
-    ensures { IfOk result (λ b. MatchBool b (GoesOn (map fields rows.now) (block.now ∷ name.now ∷ [])) (¬ GoesOn (map fields rows.now) (block.now ∷ name.now ∷ []))) }
+    ensures { IfOk result (λ b. Tells b (GoesOn (map fields rows.now) (block.now ∷ name.now ∷ []))) }
 {
     if opens_with(alloc, rows, block, name, b"0")? {
         return Ok(true);
@@ -131,7 +130,7 @@ pub(crate) fn field_fault<'a>(
 // A report begins with so many of the rows.
 fn opens_front(alloc: Global, rows: &[Row<'_>], count: usize) -> Result<bool, OutOfMemory>
     requires { (0 < count) × (count ≤ length rows.now) }
-    ensures { IfOk result (λ b. MatchBool b (Opens (take count (map fields rows.now))) (¬ Opens (take count (map fields rows.now)))) }
+    ensures { IfOk result (λ b. Tells b (Opens (take count (map fields rows.now)))) }
 {
     opens(alloc, rows.split_at(count).0)
 }

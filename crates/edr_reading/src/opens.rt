@@ -2,6 +2,7 @@
 
 ghost use Rattle.std.specs.Prelude.{◌≡◌, ◌<◌, ◌-◌, ◌++◌, ◌∷◌, [], ℕ, List, true, false, IfOk, map, length, slice_index_or};
 ghost use Rattle.std.specs.Bool.{MatchBool};
+ghost use Rattle.edr_reading.specs.Answers.{Tells};
 ghost use Rattle.edr_reading.specs.Cut.{cut_texts};
 ghost use Rattle.edr_reading.specs.Faults.{AreReport, Opens};
 ghost use Rattle.edr_reading.specs.Found.{count_fields};
@@ -21,7 +22,7 @@ const BANKS: [&[u8]; 16] = [
 
 // These are the rows of a report.
 fn is_report(alloc: Global, rows: &[Row<'_>]) -> Result<bool, OutOfMemory>
-    ensures { IfOk result (λ b. MatchBool b (AreReport (map fields rows.now)) (¬ AreReport (map fields rows.now))) }
+    ensures { IfOk result (λ b. Tells b (AreReport (map fields rows.now))) }
 {
     match reading_of(alloc, rows) {
         Ok(_) => Ok(true),
@@ -63,8 +64,7 @@ fn ends_by<'a>(
     cut: &Cut<'a>,
 ) -> Result<bool, OutOfMemory>
     requires { place < 28 }
-    ensures { IfOk result (λ b. MatchBool b (AreReport (map fields rows.now ++ back_rows cut.now.block.now place (cut_texts cut.now)))
-        (¬ AreReport (map fields rows.now ++ back_rows cut.now.block.now place (cut_texts cut.now)))) }
+    ensures { IfOk result (λ b. Tells b (AreReport (map fields rows.now ++ back_rows cut.now.block.now place (cut_texts cut.now)))) }
 {
     let mut all = Vec::with_capacity(alloc, rows.len())?;
     all.extend_from_slice(rows)?;
@@ -158,7 +158,7 @@ pub(crate) fn last_row<'r, 'a>(rows: &'r [Row<'a>]) -> &'r Row<'a>
 /// A report begins with these rows, of which there are some.
 pub(crate) fn opens(alloc: Global, rows: &[Row<'_>]) -> Result<bool, OutOfMemory>
     requires { 0 < length rows.now }
-    ensures { IfOk result (λ b. MatchBool b (Opens (map fields rows.now)) (¬ Opens (map fields rows.now))) }
+    ensures { IfOk result (λ b. Tells b (Opens (map fields rows.now))) }
 {
     if is_report(alloc, rows)? {
         return Ok(true);

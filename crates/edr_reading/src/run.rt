@@ -1,7 +1,8 @@
 //! The cycles of a run, read back from the first rows of block 0.
 
-ghost use Rattle.std.specs.Prelude.{◌≡◌, ◌≤◌, ◌<◌, ◌^◌, ◌+◌, ◌∷◌, ◌++◌, ℕ, List, All, IfOk, IfSome, MatchOption, length, map, drop, take};
+ghost use Rattle.std.specs.Prelude.{◌≡◌, ◌≤◌, ◌<◌, ◌^◌, ◌+◌, ◌∷◌, ◌++◌, ℕ, List, All, IfOk, IfSome, length, map, drop, take};
 ghost use Rattle.edr_image.specs.Reports.{Report, report_of};
+ghost use Rattle.edr_reading.specs.Answers.{GivesRow};
 ghost use Rattle.edr_reading.specs.Rows.{fields};
 ghost use Rattle.edr_reading.specs.Run.{Others, ack_fields, cycle_fields, run_fields, row_of, acks_of, IsReport, BehindRun};
 ghost use Rattle.edr_reading.specs.Told.{IsAck, IsCycleRow};
@@ -46,7 +47,7 @@ fn first_cycle<'r, 'a>(rows: &'r [Row<'a>], place: u32) -> Option<(CycleRow, &'r
     ensures read { IfSome result (λ p. IsCycleRow p.0 × (length p.1.now + 1 ≡ length rows.now) × (map fields rows.now ≡ cycle_fields place p.0 ∷ map fields p.1.now)) }
     ensures behind { IfSome result (λ p. p.1.now ≡ drop 1 rows.now) }
     ensures whole { (c : CycleRow) (more : List (List (List ℕ))) → IsCycleRow c → map fields rows.now ≡ cycle_fields place c ∷ more
-        → MatchOption result ⊥ (λ p. (p.0 ≡ c) × (map fields p.1.now ≡ more)) }
+        → GivesRow c more result }
 {
     let (row, rest) = rows.split_first()?;
     let cycle = read_cycle(row, place)?;

@@ -2,6 +2,7 @@
 
 ghost use Rattle.std.specs.Prelude.{◌≡◌, ◌++◌, true, ℕ, List, length, map, All, IfSome, MatchOption};
 ghost use Rattle.edr_report.specs.Words.{spaced};
+ghost use Rattle.edr_reading.specs.Answers.{Gives};
 ghost use Rattle.edr_reading.specs.Front.{EndsNumber};
 ghost use Rattle.edr_reading.specs.Slots.{space_at};
 
@@ -108,7 +109,7 @@ fn space_at(place: usize) -> &'static [u8]
 fn slot_behind<'a, S: Slot>(bytes: &'a [u8], front: &[u8]) -> Option<(S, &'a [u8])>
     ensures read { IfSome result (λ p. (bytes.now ≡ front.now ++ (S.words p.0 ++ p.1.now)) × S.is_slot p.0) }
     ensures whole { (x : S) (more : List ℕ) → S.is_slot x → EndsNumber more → bytes.now ≡ front.now ++ (S.words x ++ more)
-        → MatchOption result ⊥ (λ p. (p.0 ≡ x) × (p.1.now ≡ more)) }
+        → Gives x more result }
 {
     match behind(bytes, front) {
         Some(rest) => S::in_front(rest),

@@ -4,6 +4,7 @@ ghost use Rattle.std.specs.Prelude.{◌≡◌, ◌≤◌, ◌<◌, ◌^◌, ◌+
 ghost use Rattle.std.specs.Fmt.{signed_decimal};
 ghost use Rattle.edr_record.specs.Bounds.{IsChange, IsExtreme, IsPlace, IsUpTo};
 ghost use Rattle.edr_report.specs.Words.{bank_words, applied_words, stop_words, yes_no, switch_or_none, milliseconds, firing_words, shown_count, events_in_crash, time_between, extreme_words, missing_words, damage_words, ack_words, kind_word, seconds};
+ghost use Rattle.edr_reading.specs.Answers.{Gives};
 ghost use Rattle.edr_reading.specs.Front.{EndsNumber};
 ghost use Rattle.edr_reading.specs.Values.{IsBank, IsStop, IsApplied, IsDamagedView, IsTick, done_in, view_words};
 
@@ -101,7 +102,7 @@ pub(crate) fn firing(bytes: &[u8], latest: u16) -> Option<Option<u16>>
 fn negative_in_front(bytes: &[u8]) -> Option<(i16, &[u8])>
     ensures read { IfSome result (λ p. (45 ∷ bytes.now ≡ signed_decimal p.0 ++ p.1.now) × IsChange p.0) }
     ensures whole { (k : ℕ) (more : List ℕ) → k + 1 ≤ 3_000 → EndsNumber more → bytes.now ≡ decimal (k + 1) ++ more
-        → MatchOption result ⊥ (λ p. (p.0 ≡ negsuc k) × (p.1.now ≡ more)) }
+        → Gives (negsuc k) more result }
 {
     match within_behind(bytes, b"", 1, GREATEST_CHANGE) {
         Some((n, rest)) => Some((0 - n as i16, rest)),
@@ -113,7 +114,7 @@ fn negative_in_front(bytes: &[u8]) -> Option<(i16, &[u8])>
 fn positive_in_front(bytes: &[u8]) -> Option<(i16, &[u8])>
     ensures read { IfSome result (λ p. (bytes.now ≡ signed_decimal p.0 ++ p.1.now) × IsChange p.0) }
     ensures whole { (n : ℕ) (more : List ℕ) → n ≤ 3_000 → EndsNumber more → bytes.now ≡ decimal n ++ more
-        → MatchOption result ⊥ (λ p. (p.0 ≡ pos n) × (p.1.now ≡ more)) }
+        → Gives (pos n) more result }
 {
     match within_behind(bytes, b"", 0, GREATEST_CHANGE) {
         Some((n, rest)) => Some((n as i16, rest)),
@@ -125,7 +126,7 @@ fn positive_in_front(bytes: &[u8]) -> Option<(i16, &[u8])>
 pub(crate) fn change_in_front(bytes: &[u8]) -> Option<(i16, &[u8])>
     ensures read { IfSome result (λ p. (bytes.now ≡ signed_decimal p.0 ++ p.1.now) × IsChange p.0) }
     ensures whole { (z : ℤ) (more : List ℕ) → IsChange z → EndsNumber more → bytes.now ≡ signed_decimal z ++ more
-        → MatchOption result ⊥ (λ p. (p.0 ≡ z) × (p.1.now ≡ more)) }
+        → Gives z more result }
 {
     match behind(bytes, b"-") {
         Some(digits) => negative_in_front(digits),
