@@ -7,11 +7,11 @@ ghost use Rattle.edr_device.specs.declared.device.TheConstants.{LONGEST_WRITE};
 use crate::stream::Failed;
 
 /// The most bytes of one write.
-pub const LONGEST_WRITE: usize = 512;
+pub const LONGEST_WRITE: usize = 1_024;
 
 /// [`LONGEST_WRITE`] in numbers, since the clauses below cite it by name.
 pub fn a_write_is_short()
-    ensures { LONGEST_WRITE ≡ 512 }
+    ensures { LONGEST_WRITE ≡ 1024 }
 {}
 
 /// A memory of fixed size, of bytes with the offsets 0 to size - 1. A sync settles what was written before it. A crash

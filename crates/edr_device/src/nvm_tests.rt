@@ -23,7 +23,7 @@ fn write_and_read_back<N: Nvm>(
     into: &mut [u8],
 ) -> Result<(), Failed>
     requires range { at + length piece.now ≤ N.extent nvm.old }
-    requires few { (1 ≤ length piece.now) × (length piece.now ≤ 512) }
+    requires few { (1 ≤ length piece.now) × (length piece.now ≤ 1024) }
     requires same { length into.old ≡ length piece.now }
     ensures size { N.extent nvm.new ≡ N.extent nvm.old }
     ensures cause { HasCause (N.faults nvm.old) (N.faults nvm.new) result }
