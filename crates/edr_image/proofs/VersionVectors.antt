@@ -1,79 +1,66 @@
--- Parts and images of version 2, and parts of a longer profile, computed.
+-- Parts and images of version 1, and parts of a longer profile, computed.
 use Rattle.std.proofs.Common.{◌≡◌, refl, ℕ, true, false, Option, Some, None, List, [], ◌∷◌, ◌++◌, length, replicate, slice_set, take}
-use Rattle.std.specs.List.{flat_map, range_with_len}
 use Rattle.edr_record.specs.Parts.{PrePart}
 use Rattle.edr_record.specs.declared.Place.TheVariants.{First}
 use Rattle.edr_image.specs.declared.HeaderRefused.TheVariants as refused
+use Rattle.edr_image.specs.declared.OldRefused.TheVariants as old_refused
 use Rattle.edr_image.specs.declared.forms.PreForm.{PreForm}
 use Rattle.edr_image.specs.declared.forms.TheConstants.{VERSION_1, VERSION_2}
-use Rattle.edr_image.specs.PartBytes.{pre_size, crash_size, pre_bytes, pre_bytes_by, crash_bytes, crash_bytes_by, pre_at_by, crash_at, pre_damage_by, crash_damage_by}
-use Rattle.edr_image.specs.Image.{magic, size_by, view_by, bank_view_by, image_refusal_by, header_refusal_by, count_of}
-use Rattle.edr_image.proofs.Vectors.{pre_1, crash}
+use Rattle.edr_image.specs.PartBytes.{pre_size, crash_size, pre_bytes, pre_bytes_by, crash_bytes, crash_bytes_by, pre_at_by, crash_at, pre_damage_by, crash_damage_by, old_pre_at, old_pre_damage, old_crash_damage}
+use Rattle.edr_image.specs.Image.{magic, image_size, old_image_size, view_of, view_by, bank_view_by, image_refusal_by, header_refusal, header_refusal_by, old_header_refusal, count_of, old_view_of, old_refusal}
+use Rattle.edr_image.proofs.Vectors.{pre_1, crash, speeds}
 
--- ---- the pre part of `crash_with_tie`
+-- ---- the parts of `crash_with_tie` in version 1
 
-abbrev pre_2 : List ℕ
-pre_2 = pre_bytes_by VERSION_2.pre pre_1
+abbrev old_pre : List ℕ
+old_pre = pre_bytes_by VERSION_1.pre pre_1
 
--- n speeds of 50
-abbrev speeds : ℕ → List ℕ
-speeds n = flat_map (λ (k : ℕ). 0 ∷ 50 ∷ []) (range_with_len 0 n)
-
-bytes :
-    pre_2
-    ≡ 0 ∷ 0 ∷ 0 ∷ 1 ∷ 0 ∷ 0 ∷ 0x17 ∷ 0x73 ∷ 1 ∷ 1 ∷ 0 ∷ 0 ∷ [] ++ speeds 11 ++ replicate 380 0 ++ replicate 11 20 ++ replicate 190 0 ++ replicate 11 0 ++ replicate 190 0 ++ 1 ∷ 0 ∷ [] ++ replicate 30 0
+pre-bytes : old_pre ≡ 0 ∷ 0 ∷ 0 ∷ 1 ∷ 0 ∷ 0 ∷ 0x17 ∷ 0x73 ∷ 1 ∷ 0 ∷ 0 ∷ 0 ∷ [] ++ speeds 11 ++ replicate 11 20 ++ replicate 11 0 ++ 1 ∷ 0 ∷ [] ++ replicate 102 0
 unfolding pre_bytes_by
-bytes = refl
+pre-bytes = refl
 
-sizes : (pre_size VERSION_2.pre ≡ 848) × (length pre_2 ≡ 848)
+pre-sizes : (pre_size VERSION_1.pre ≡ 160) × (length old_pre ≡ 160)
 unfolding pre_bytes_by
-sizes = (refl, refl)
+pre-sizes = (refl, refl)
 
-whole : pre_damage_by VERSION_2.pre pre_2 0 ≡ None
+pre-whole : old_pre_damage old_pre 0 ≡ None
 unfolding pre_damage_by pre_bytes_by
-whole = refl
+pre-whole = refl
 
-back : pre_at_by VERSION_2.pre pre_2 0 ≡ pre_1
+pre-back : old_pre_at old_pre 0 ≡ pre_1
 unfolding pre_at_by pre_bytes_by
-back = refl
+pre-back = refl
 
--- the damage with a byte changed
 abbrev damage : ℕ → ℕ → Option ℕ
-damage at byte = pre_damage_by VERSION_2.pre (slice_set pre_2 at byte) 0
+damage at byte = old_pre_damage (slice_set old_pre at byte) 0
 
--- the profile byte, the twelfth speed, the last one's first byte, the twelfth slots of throttle and brake, the switches, the end
-damage-profile : (damage 9 0 ≡ Some 9) × (damage 9 2 ≡ Some 9) × (damage 9 3 ≡ Some 9)
+-- cycle 0, the profile byte of version 2, a speed of 512 and more, one of 301, the last zero
+damage-pre : (damage 3 0 ≡ Some 3) × (damage 9 1 ≡ Some 9) × (damage 12 2 ≡ Some 12) × (old_pre_damage (slice_set (slice_set old_pre 12 1) 13 0x2d) 0 ≡ Some 13) × (damage 159 1 ≡ Some 159)
 unfolding pre_damage_by pre_bytes_by
-damage-profile = (refl, refl, refl)
+damage-pre = (refl, refl, refl, refl, refl)
 
-damage-past_slots : (damage 35 50 ≡ Some 35) × (damage 34 255 ≡ Some 34) × (damage 413 1 ≡ Some 413) × (damage 425 1 ≡ Some 425) × (damage 626 1 ≡ Some 626)
-unfolding pre_damage_by pre_bytes_by
-damage-past_slots = (refl, refl, refl, refl, refl)
+abbrev old_crash : List ℕ
+old_crash = crash_bytes_by VERSION_1.crash crash
 
-damage-end : (damage 816 2 ≡ Some 816) × (damage 817 2 ≡ Some 817) × (damage 847 1 ≡ Some 847)
-unfolding pre_damage_by pre_bytes_by
-damage-end = (refl, refl, refl)
-
--- ---- the crash part
-
-abbrev crash_2 : List ℕ
-crash_2 = crash_bytes_by VERSION_2.crash crash
-
-crash-bytes : crash_2 ≡ take 136 (crash_bytes crash) ++ replicate 24 0
+crash-bytes : old_crash ≡ take 136 (crash_bytes crash) ++ replicate 184 0
 unfolding crash_bytes_by
 crash-bytes = refl
 
-crash-sizes : (crash_size VERSION_2.crash ≡ 160) × (length crash_2 ≡ 160)
+crash-sizes : (crash_size VERSION_1.crash ≡ 320) × (length old_crash ≡ 320)
 unfolding crash_bytes_by
 crash-sizes = (refl, refl)
 
-crash-whole : crash_damage_by VERSION_2.crash crash_2 0 ≡ None
+crash-whole : old_crash_damage old_crash 0 ≡ None
 unfolding crash_damage_by crash_bytes_by
 crash-whole = refl
 
-crash-damage : (crash_damage_by VERSION_2.crash (slice_set crash_2 33 1) 0 ≡ Some 33) × (crash_damage_by VERSION_2.crash (slice_set crash_2 159 1) 0 ≡ Some 159)
+crash-back : crash_at old_crash 0 ≡ crash
+unfolding crash_at crash_bytes_by
+crash-back = refl
+
+damage-crash : (old_crash_damage (slice_set old_crash 1 0x13) 0 ≡ Some 1) × (old_crash_damage (slice_set old_crash 33 1) 0 ≡ Some 33) × (old_crash_damage (slice_set old_crash 319 1) 0 ≡ Some 319)
 unfolding crash_damage_by crash_bytes_by
-crash-damage = (refl, refl)
+damage-crash = (refl, refl, refl)
 
 -- ---- a profile that uses all the room
 
@@ -107,11 +94,11 @@ unfolding pre_at_by
 long-back = refl
 
 -- the short profile has the bytes of version 2, and with the other byte all its zeros are values
-long-short : pre_bytes_by long_form pre_1 ≡ pre_2
+long-short : pre_bytes_by long_form pre_1 ≡ pre_bytes pre_1
 unfolding pre_bytes_by
 long-short = refl
 
-long-profile : (pre_damage_by long_form (slice_set pre_2 9 2) 0 ≡ None) × (pre_damage_by long_form (slice_set pre_2 9 3) 0 ≡ Some 9)
+long-profile : (pre_damage_by long_form (slice_set (pre_bytes pre_1) 9 2) 0 ≡ None) × (pre_damage_by long_form (slice_set (pre_bytes pre_1) 9 3) 0 ≡ Some 9)
 unfolding pre_damage_by pre_bytes_by
 long-profile = (refl, refl)
 
@@ -122,26 +109,53 @@ abbrev front : ℕ → List ℕ
 front version = magic ++ 0 ∷ version ∷ 2 ∷ 0 ∷ replicate 20 0 ++ 0xa5 ∷ 0 ∷ 0 ∷ 0 ∷ 0 ∷ 0 ∷ 0 ∷ 1 ∷ replicate 56 0
 
 -- one event that is done and not locked
-abbrev image_1 : List ℕ
-image_1 = front 1 ++ 0xa5 ∷ 0 ∷ 0xa5 ∷ replicate 13 0 ++ pre_bytes pre_1 ++ crash_bytes crash ++ replicate 528 0
+abbrev old_image : List ℕ
+old_image = front 1 ++ 0xa5 ∷ 0 ∷ 0xa5 ∷ replicate 13 0 ++ old_pre ++ old_crash ++ replicate 528 0
 
-abbrev image_2 : List ℕ
-image_2 = front 2 ++ 0xa5 ∷ 0 ∷ 0xa5 ∷ replicate 13 0 ++ pre_2 ++ crash_2 ++ replicate 1024 0
+abbrev new_image : List ℕ
+new_image = front 2 ++ 0xa5 ∷ 0 ∷ 0xa5 ∷ replicate 13 0 ++ pre_bytes pre_1 ++ crash_bytes crash ++ replicate 1024 0
 
-image-sizes : (size_by VERSION_2 2 ≡ 2144) × (length image_2 ≡ 2144) × (size_by VERSION_2 16 ≡ 16480)
+old_image-sizes : (old_image_size 2 ≡ 1120) × (length old_image ≡ 1120)
+unfolding pre_bytes_by crash_bytes_by
+old_image-sizes = (refl, refl)
+
+image-sizes : (image_size 2 ≡ 2144) × (length new_image ≡ 2144) × (image_size 16 ≡ 16480)
 unfolding pre_bytes_by crash_bytes_by
 image-sizes = (refl, refl, refl)
 
 -- both versions say the same of this event
-image-view : view_by VERSION_2 image_2 ≡ view_by VERSION_1 image_1
+image-view : view_of new_image ≡ old_view_of old_image
 unfolding view_by image_refusal_by header_refusal_by count_of bank_view_by pre_damage_by crash_damage_by pre_at_by crash_at pre_bytes_by crash_bytes_by
 image-view = refl
 
 -- and refuse each other's header
-image-version_1 : header_refusal_by VERSION_2 image_1 ≡ Some (refused.Version 1)
+image-version_1 : header_refusal old_image ≡ Some (refused.Version 1)
 unfolding header_refusal_by pre_bytes_by crash_bytes_by
 image-version_1 = refl
 
-image-version_2 : header_refusal_by VERSION_1 image_2 ≡ Some (refused.Version 2)
+image-version_2 : old_header_refusal new_image ≡ Some (refused.Version 2)
 unfolding header_refusal_by pre_bytes_by crash_bytes_by
 image-version_2 = refl
+
+-- ---- old images that are migrated, or aren't
+
+migrated : old_refusal old_image ≡ None
+unfolding old_refusal header_refusal_by bank_view_by pre_damage_by crash_damage_by pre_at_by crash_at pre_bytes_by crash_bytes_by
+migrated = refl
+
+not_migrated-short : (old_refusal [] ≡ Some (old_refused.Short 0 96)) × (old_refusal (take 95 old_image) ≡ Some (old_refused.Short 95 96)) × (old_refusal (take 1119 old_image) ≡ Some (old_refused.Short 1119 1120))
+unfolding old_refusal header_refusal_by pre_bytes_by crash_bytes_by
+not_migrated-short = (refl, refl, refl)
+
+not_migrated-header : (old_refusal new_image ≡ Some (old_refused.Header (refused.Version 2))) × (old_refusal (replicate 96 0) ≡ Some (old_refused.Header (refused.NotFormatted 0 0)))
+unfolding old_refusal header_refusal_by pre_bytes_by crash_bytes_by
+not_migrated-header = (refl, refl)
+
+-- cycle 0 in bank 1, and a second bank that is damaged too
+not_migrated-bank : old_refusal (slice_set (slice_set old_image 115 0) 608 0xa5) ≡ Some (old_refused.Bank 1 19 0)
+unfolding old_refusal header_refusal_by bank_view_by pre_damage_by crash_damage_by pre_at_by crash_at pre_bytes_by crash_bytes_by
+not_migrated-bank = refl
+
+not_migrated-second_bank : old_refusal (slice_set old_image 608 0xa5) ≡ Some (old_refused.Bank 2 19 0)
+unfolding old_refusal header_refusal_by bank_view_by pre_damage_by crash_damage_by pre_at_by crash_at pre_bytes_by crash_bytes_by
+not_migrated-second_bank = refl

@@ -5,10 +5,10 @@ use Rattle.edr_image.specs.declared.places.TheConstants.{BANK_SIZE, BANKS, CHOIC
 use Rattle.edr_image.specs.PartBytes.{pre_size, crash_size}
 use Rattle.edr_image.specs.Image.{crash_place}
 
--- an image has 2 to 16 banks of 512 bytes behind a front of 96, and a gate is open at 165
+-- an image has 2 to 16 banks of 1,024 bytes behind a front of 96, and a gate is open at 165
 pub record HasSizes : Type 0 where
   pub banks : (FEWEST_BANKS ≡ 2) × (MOST_BANKS ≡ 16)
-  pub sizes : (FRONT_SIZE ≡ 96) × (BANK_SIZE ≡ 512)
+  pub sizes : (FRONT_SIZE ≡ 96) × (BANK_SIZE ≡ 1024)
   pub gate : OPEN_GATE ≡ 165
 
 -- in the front the header stands behind the magic, and the two slots of the count behind it
@@ -20,10 +20,10 @@ pub record HasFront : Type 0 where
 -- a bank has its three gates, then the pre part, then the crash part
 pub record HasParts : Type 0 where
   pub gates : (EVENT_GATE ≡ 0) × (LOCK_GATE ≡ 1) × (DONE_GATE ≡ 2)
-  pub pre : (PRE_PART ≡ 16) × (PRE_SIZE ≡ 160)
-  pub crash : (CRASH_PART ≡ 176) × (CRASH_SIZE ≡ 320)
+  pub pre : (PRE_PART ≡ 16) × (PRE_SIZE ≡ 848)
+  pub crash : (CRASH_PART ≡ 864) × (CRASH_SIZE ≡ 160)
 
--- what each version lays down, and that the places are those of version 1
+-- what each version lays down, and that the places are those of version 2
 pub record HasVersions : Type 0 where
   pub version_1 :
       VERSION_1
@@ -41,4 +41,4 @@ pub record HasVersions : Type 0 where
         pre = record { room = 201; zeros = 30; profiles = (1, 1); slots = (11, 201) };
         crash = record { zeros = 24 };
       }
-  pub places : (pre_size VERSION_1.pre ≡ PRE_SIZE) × (crash_place VERSION_1 ≡ CRASH_PART) × (crash_size VERSION_1.crash ≡ CRASH_SIZE)
+  pub places : (VERSION_2.bank ≡ BANK_SIZE) × (pre_size VERSION_2.pre ≡ PRE_SIZE) × (crash_place VERSION_2 ≡ CRASH_PART) × (crash_size VERSION_2.crash ≡ CRASH_SIZE)

@@ -1,7 +1,11 @@
 //! What tells the images of one version from those of another: how many bytes a bank has, and in which form the two
 //! parts of a record stand in it. All other places are those of [`places`](crate::places).
 
-use crate::places::BANK_SIZE;
+ghost use Rattle.std.specs.Prelude.{◌≡◌, ◌<◌, ◌^◌};
+ghost use Rattle.edr_image.specs.Image.{crash_place};
+ghost use Rattle.edr_image.specs.PartBytes.{crash_size, pre_size};
+
+use crate::places::{BANK_SIZE, PRE_PART};
 use edr_record::SHORT_SLOTS;
 
 /// The form of a pre part. Each list has room for some slots, of which a profile uses the first ones; the rest is 0.
@@ -35,10 +39,43 @@ pub struct Layout {
     pub crash: CrashForm,
 }
 
+impl PreForm {
+    /// How many bytes a pre part has.
+    pub fn size(&self) -> usize
+        requires { pre_size self.now < 2 ^ 16 }
+        ensures { result ≡ pre_size self.now }
+    {
+        14 + 4 * self.room + self.zeros
+    }
+}
+
+impl CrashForm {
+    /// How many bytes a crash part has.
+    pub fn size(&self) -> usize
+        requires { crash_size self.now < 2 ^ 16 }
+        ensures { result ≡ crash_size self.now }
+    {
+        136 + self.zeros
+    }
+}
+
+impl Layout {
+    /// Where the crash part of a bank begins, behind its pre part.
+    pub fn crash_place(&self) -> usize
+        requires { crash_place self.now < 2 ^ 16 }
+        ensures { result ≡ crash_place self.now }
+    {
+        PRE_PART + self.pre.size()
+    }
+}
+
+/// How many bytes a bank of version 1 has.
+pub const OLD_BANK_SIZE: usize = 512;
+
 /// Version 1: there is one profile, whose byte is 0, and the lists have no room past its slots.
 pub const VERSION_1: Layout = Layout {
     version: 1,
-    bank: BANK_SIZE,
+    bank: OLD_BANK_SIZE,
     pre: PreForm {
         room: SHORT_SLOTS,
         zeros: 102,
@@ -51,7 +88,7 @@ pub const VERSION_1: Layout = Layout {
 /// Version 2: there is one profile, whose byte is 1, and the lists have room for many more slots than it uses.
 pub const VERSION_2: Layout = Layout {
     version: 2,
-    bank: 1_024,
+    bank: BANK_SIZE,
     pre: PreForm {
         room: 201,
         zeros: 30,

@@ -80,6 +80,15 @@ pub enum OpenFault {
     OutOfMemory,
 }
 
+/// Why an image of version 1 is not migrated.
+#[derive(Clone, Copy, Debug, PartialEq, Eq)]
+pub enum OldRefused {
+    Short { size: u32, needed: u32 },
+    Header(HeaderRefused),
+    /// The lowest bank that is damaged, and where.
+    Bank { bank: u8, offset: u16, found: u8 },
+}
+
 pub mod forms;
 pub mod laws;
 mod log;

@@ -1,4 +1,4 @@
-//! Where things stand in an image, in bytes: in the front from the first byte of the image on, in a bank from the first
+//! Where things stand in an image of version 2, in bytes: in the front from the first byte of the image on, in a bank from the first
 //! byte of the bank on.
 
 /// The fewest banks of an image.
@@ -11,7 +11,7 @@ pub const MOST_BANKS: u8 = 16;
 pub const FRONT_SIZE: usize = 96;
 
 /// How many bytes a bank has.
-pub const BANK_SIZE: usize = 512;
+pub const BANK_SIZE: usize = 1_024;
 
 /// The byte of a gate that is open.
 pub const OPEN_GATE: u8 = 0xa5;
@@ -57,10 +57,10 @@ pub const DONE_GATE: usize = 2;
 pub const PRE_PART: usize = 16;
 
 /// How many bytes the pre part has.
-pub const PRE_SIZE: usize = 160;
+pub const PRE_SIZE: usize = 848;
 
 /// The crash part, behind the pre part.
-pub const CRASH_PART: usize = 176;
+pub const CRASH_PART: usize = 864;
 
 /// How many bytes the crash part has.
-pub const CRASH_SIZE: usize = 320;
+pub const CRASH_SIZE: usize = 160;
