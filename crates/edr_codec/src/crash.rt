@@ -3,13 +3,13 @@
 ghost use Rattle.std.specs.Prelude.{◌≡◌, ◌+◌, ◌*◌, ◌^◌, ◌<◌, ◌≤◌, ◌++◌, None, Some, IfOk, IfErr, OnOk, All, length, take, max, slice_index, sum_by};
 ghost use Rattle.std.specs.List.{flat_map};
 ghost use Rattle.edr_record.specs.Bounds.{IsCrash, window_from_end, point_count};
-ghost use Rattle.edr_image.specs.PartBytes.{crash_fields_by, crash_size, crash_damage, crash_damage_by, crash_at, crash_bytes, crash_bytes_by, extreme_at, extreme_bytes};
+ghost use Rattle.edr_image.specs.PartBytes.{crash_fields_by, crash_size, crash_damage, crash_damage_by, crash_at, crash_bytes, crash_bytes_by, old_crash_damage, extreme_at, extreme_bytes};
 ghost use Rattle.edr_codec.specs.Rows.{fields_of, row_size};
 
 use crate::Damaged;
 use crate::pieces::{Piece, put_all, put_zeros, read_all};
 use crate::rows::{Row, check_rows};
-use edr_image::forms::{CrashForm, VERSION_1};
+use edr_image::forms::{CrashForm, VERSION_1, VERSION_2};
 use edr_record::{Crash, Extreme};
 
 // How many points an axis has room for.
@@ -84,7 +84,7 @@ fn put_extreme(extreme: Extreme, out: &mut [u8], at: usize)
 
 // Writes the bytes that spell a crash part, whatever stood there before.
 #[tactic(auto, unfolding(edr_image::specs::PartBytes::crash_bytes_by))]
-pub(crate) fn put_crash_by(crash: &Crash, out: &mut [u8], form: &CrashForm)
+fn put_crash_by(crash: &Crash, out: &mut [u8], form: &CrashForm)
     requires { length out.old ≡ crash_size form.now }
     ensures { out.new ≡ crash_bytes_by form.now crash.now }
 {
@@ -131,8 +131,8 @@ fn check_crash(bytes: &[u8], form: &CrashForm) -> Result<(), Damaged>
     check_rows(bytes, &crash_rows(u16::read_at(bytes, 0), form))
 }
 
-// The crash part that the bytes spell, or else the first byte with which they begin none.
-pub(crate) fn read_crash_by(bytes: &[u8], form: &CrashForm) -> Result<Crash, Damaged>
+/// The crash part that the bytes spell in a form, or else the first byte with which they begin none.
+pub fn read_crash_by(bytes: &[u8], form: &CrashForm) -> Result<Crash, Damaged>
     requires long { length bytes.now ≡ crash_size form.now }
     requires few { length bytes.now < 2 ^ 16 }
     ensures read { IfOk result (λ c. c ≡ crash_at bytes.now 0) }
@@ -144,19 +144,29 @@ pub(crate) fn read_crash_by(bytes: &[u8], form: &CrashForm) -> Result<Crash, Dam
     Ok(crash_from(bytes))
 }
 
-/// Writes the 320 bytes that spell a crash part, whatever stood there before.
-pub fn put_crash(crash: &Crash, out: &mut [u8; 320])
+/// Writes the 160 bytes that spell a crash part, whatever stood there before.
+pub fn put_crash(crash: &Crash, out: &mut [u8; 160])
     ensures { out.new ≡ crash_bytes crash.now }
 {
-    put_crash_by(crash, out, &VERSION_1.crash);
+    put_crash_by(crash, out, &VERSION_2.crash);
 }
 
 /// The crash part that the bytes spell. Else the answer is the first byte with which they begin none: an end of `00 13`,
 /// say, which is 19 ms, is damaged at its second byte.
-pub fn read_crash(bytes: &[u8; 320]) -> Result<Crash, Damaged>
+pub fn read_crash(bytes: &[u8; 160]) -> Result<Crash, Damaged>
     ensures read { IfOk result (λ c. c ≡ crash_at bytes.now 0) }
     ensures whole { OnOk result (crash_damage bytes.now 0 ≡ None) }
     ensures damaged { IfErr result (λ d. crash_damage bytes.now 0 ≡ Some d.offset) }
+    ensures found { IfErr result (λ d. d.found ≡ slice_index bytes.now d.offset) }
+{
+    read_crash_by(bytes, &VERSION_2.crash)
+}
+
+/// The same of a crash part of version 1.
+pub fn read_old_crash(bytes: &[u8; 320]) -> Result<Crash, Damaged>
+    ensures read { IfOk result (λ c. c ≡ crash_at bytes.now 0) }
+    ensures whole { OnOk result (old_crash_damage bytes.now 0 ≡ None) }
+    ensures damaged { IfErr result (λ d. old_crash_damage bytes.now 0 ≡ Some d.offset) }
     ensures found { IfErr result (λ d. d.found ≡ slice_index bytes.now d.offset) }
 {
     read_crash_by(bytes, &VERSION_1.crash)

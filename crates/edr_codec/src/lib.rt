@@ -7,10 +7,9 @@ pub mod laws;
 mod pieces;
 mod pre;
 mod rows;
-pub mod version_2;
 
-pub use crash::{put_crash, read_crash};
-pub use pre::{put_pre, read_pre};
+pub use crash::{put_crash, read_crash, read_crash_by, read_old_crash};
+pub use pre::{put_pre, read_old_pre, read_pre, read_pre_by};
 
 /// Why bytes are no part: the bytes before `offset` begin a part, and those up to and with it begin none.
 #[derive(Clone, Copy, Debug, PartialEq, Eq)]

@@ -5,14 +5,14 @@ ghost use Rattle.std.specs.Prelude.{◌≡◌, ◌+◌, ◌^◌, ◌<◌, ◌≤
 ghost use Rattle.std.specs.List.{flat_map};
 ghost use Rattle.edr_record.specs.declared.TheConstants.{SHORT_SLOTS};
 ghost use Rattle.edr_record.specs.Bounds.{IsPre};
-ghost use Rattle.edr_image.specs.PartBytes.{pre_size, slots_of, profile_of, throttle_at, brake_at, belt_at, lamp_at, end_at, IsPreForm, IsShort, pre_fields_by, pre_damage, pre_damage_by, pre_at, pre_at_by, pre_bytes, pre_bytes_by, place_bytes, number_at};
+ghost use Rattle.edr_image.specs.PartBytes.{pre_size, slots_of, profile_of, throttle_at, brake_at, belt_at, lamp_at, end_at, IsPreForm, IsShort, pre_fields_by, pre_damage, pre_damage_by, pre_at, pre_at_by, pre_bytes, pre_bytes_by, old_pre_at, old_pre_damage, place_bytes, number_at};
 ghost use Rattle.edr_codec.specs.Rows.{fields_of, row_size};
 
 use crate::Damaged;
 use crate::pieces::{Piece, put_all, put_bytes, put_zeros, read_all};
 use crate::rows::{Row, check_rows};
 use byteorder::{BigEndian, ByteOrder};
-use edr_image::forms::{PreForm, VERSION_1};
+use edr_image::forms::{PreForm, VERSION_1, VERSION_2};
 use edr_record::{Key, Place, Pre};
 
 // Where the speeds begin.
@@ -140,7 +140,7 @@ fn put_place(place: Place, profile: u8, out: &mut [u8], at: usize)
 
 // Writes the bytes that spell a pre part, whatever stood there before.
 #[tactic(auto, unfolding(edr_image::specs::PartBytes::pre_bytes_by))]
-pub(crate) fn put_pre_by(pre: &Pre, out: &mut [u8], form: &PreForm)
+fn put_pre_by(pre: &Pre, out: &mut [u8], form: &PreForm)
     requires fits { SHORT_SLOTS ≤ form.now.room }
     requires few { pre_size form.now < 2 ^ 16 }
     requires long { length out.old ≡ pre_size form.now }
@@ -198,8 +198,8 @@ fn check_pre(bytes: &[u8], form: &PreForm) -> Result<(), Damaged>
     check_rows(bytes, &pre_rows(bytes[8], bytes[9], form))
 }
 
-// The pre part that the bytes spell, or else the first byte with which they begin none.
-pub(crate) fn read_pre_by(bytes: &[u8], form: &PreForm) -> Result<Pre, Damaged>
+/// The pre part that the bytes spell in a form, or else the first byte with which they begin none.
+pub fn read_pre_by(bytes: &[u8], form: &PreForm) -> Result<Pre, Damaged>
     requires form { IsPreForm form.now }
     requires short { IsShort form.now }
     requires few { length bytes.now < 2 ^ 16 }
@@ -213,19 +213,29 @@ pub(crate) fn read_pre_by(bytes: &[u8], form: &PreForm) -> Result<Pre, Damaged>
     Ok(pre_from(bytes, form))
 }
 
-/// Writes the 160 bytes that spell a pre part, whatever stood there before.
-pub fn put_pre(pre: &Pre, out: &mut [u8; 160])
+/// Writes the 848 bytes that spell a pre part, whatever stood there before.
+pub fn put_pre(pre: &Pre, out: &mut [u8; 848])
     ensures { out.new ≡ pre_bytes pre.now }
 {
-    put_pre_by(pre, out, &VERSION_1.pre);
+    put_pre_by(pre, out, &VERSION_2.pre);
 }
 
 /// The pre part that the bytes spell. Else the answer is the first byte with which they begin none: a speed of `01 2d`, say,
 /// which is 301 km/h, is damaged at its second byte.
-pub fn read_pre(bytes: &[u8; 160]) -> Result<Pre, Damaged>
+pub fn read_pre(bytes: &[u8; 848]) -> Result<Pre, Damaged>
     ensures read { IfOk result (λ p. p ≡ pre_at bytes.now 0) }
     ensures whole { OnOk result (pre_damage bytes.now 0 ≡ None) }
     ensures damaged { IfErr result (λ d. pre_damage bytes.now 0 ≡ Some d.offset) }
+    ensures found { IfErr result (λ d. d.found ≡ slice_index bytes.now d.offset) }
+{
+    read_pre_by(bytes, &VERSION_2.pre)
+}
+
+/// The same of a pre part of version 1.
+pub fn read_old_pre(bytes: &[u8; 160]) -> Result<Pre, Damaged>
+    ensures read { IfOk result (λ p. p ≡ old_pre_at bytes.now 0) }
+    ensures whole { OnOk result (old_pre_damage bytes.now 0 ≡ None) }
+    ensures damaged { IfErr result (λ d. old_pre_damage bytes.now 0 ≡ Some d.offset) }
     ensures found { IfErr result (λ d. d.found ≡ slice_index bytes.now d.offset) }
 {
     read_pre_by(bytes, &VERSION_1.pre)

@@ -2,7 +2,7 @@ use super::*;
 use edr_record::{Crash, Extreme, Key, Place, Pre};
 use std::process::Abort;
 
-mod version_2;
+mod old;
 
 // What a byte is changed to where each byte is tried.
 const CHANGES: [u8; 7] = [0, 1, 0x7f, 0x80, 0xa5, 0xfe, 0xff];
@@ -41,25 +41,26 @@ fn crash() -> Crash {
 }
 
 // Their bytes, written by hand.
-fn pre_bytes() -> [u8; 160] {
-    let mut bytes = [0; 160];
+fn pre_bytes() -> [u8; 848] {
+    let mut bytes = [0; 848];
     bytes[3] = 1;
     bytes[6] = 0x17;
     bytes[7] = 0x73;
     bytes[8] = 1;
+    bytes[9] = 1;
     for k in 0..11 {
         bytes[13 + 2 * k] = 0x32;
-        bytes[34 + k] = 0x14;
+        bytes[414 + k] = 0x14;
     }
-    bytes[56] = 1;
+    bytes[816] = 1;
     bytes
 }
 
-fn crash_bytes() -> [u8; 320] {
+fn crash_bytes() -> [u8; 160] {
     let lost = [
         0xfc, 0xf8, 0xf4, 0xf0, 0xec, 0xe8, 0xe4, 0xe0, 0xdc, 0xd9, 0xd9, 0xd9, 0xd9, 0xd9,
     ];
-    let mut bytes = [0; 320];
+    let mut bytes = [0; 160];
     bytes[1] = 0x73;
     for k in 0..14 {
         bytes[4 + 2 * k] = 0xff;
@@ -77,11 +78,11 @@ fn crash_bytes() -> [u8; 320] {
 
 #[test]
 fn parts_have_their_bytes_and_are_read_back(rt: HostRuntime) {
-    let mut bytes = [0xee; 160];
+    let mut bytes = [0xee; 848];
     put_pre(&pre(), &mut bytes);
     assert_eq!(rt; bytes, pre_bytes());
     assert_eq!(rt; read_pre(&bytes), Ok(pre()));
-    let mut bytes = [0xee; 320];
+    let mut bytes = [0xee; 160];
     put_crash(&crash(), &mut bytes);
     assert_eq!(rt; bytes, crash_bytes());
     assert_eq!(rt; read_crash(&bytes), Ok(crash()));
@@ -101,12 +102,15 @@ fn a_second_event_without_samples_has_absent_slots(rt: HostRuntime) {
         belt: None,
         lamp: None,
     };
-    let mut bytes = [0xee; 160];
+    let mut bytes = [0xee; 848];
     put_pre(&second, &mut bytes);
-    let mut wanted = [0; 160];
+    let mut wanted = [0; 848];
     wanted[..4].copy_from_slice(&[0xff; 4]);
-    wanted[4..12].copy_from_slice(&[0x05, 0x26, 0x5c, 0x00, 2, 0, 0x13, 0x88]);
-    wanted[12..58].copy_from_slice(&[0xff; 46]);
+    wanted[4..12].copy_from_slice(&[0x05, 0x26, 0x5c, 0x00, 2, 1, 0x13, 0x88]);
+    wanted[12..34].copy_from_slice(&[0xff; 22]);
+    wanted[414..425].copy_from_slice(&[0xff; 11]);
+    wanted[615..626].copy_from_slice(&[0xff; 11]);
+    wanted[816..818].copy_from_slice(&[0xff; 2]);
     assert_eq!(rt; bytes, wanted);
     assert_eq!(rt; read_pre(&bytes), Ok(second));
 }
@@ -134,22 +138,31 @@ fn crash_with(changes: &[(usize, u8)]) -> Result<Crash, Damaged> {
 
 #[test]
 fn a_pre_part_is_refused_at_its_first_damaged_byte(rt: HostRuntime) {
-    let table: [(&[(usize, u8)], u16, u8); 12] = [
+    let table: [(&[(usize, u8)], u16, u8); 19] = [
         // no cycle, and a time zero past the last one
         (&[(3, 0)], 3, 0),
         (&[(4, 5), (5, 0x26), (6, 0x5c), (7, 1)], 7, 1),
         (&[(4, 6)], 4, 6),
-        // no such place; a byte that is 0; a first event with a time, a second one without
+        // no such place; other profiles; a first event with a time, a second one without
         (&[(8, 3)], 8, 3),
-        (&[(9, 1)], 9, 1),
+        (&[(9, 0)], 9, 0),
+        (&[(9, 2)], 9, 2),
+        (&[(9, 3)], 9, 3),
         (&[(11, 1)], 11, 1),
         (&[(8, 2)], 11, 0),
         // speeds of 512 and more, and of 301
         (&[(12, 2)], 12, 2),
         (&[(12, 1), (13, 0x2d)], 13, 0x2d),
-        (&[(34, 101)], 34, 101),
-        (&[(57, 2)], 57, 2),
-        (&[(159, 1)], 159, 1),
+        // the twelfth speed, which may not be absent either, and the last one
+        (&[(35, 50)], 35, 50),
+        (&[(34, 0xff), (35, 0xff)], 34, 255),
+        (&[(413, 1)], 413, 1),
+        // a throttle, the twelfth one, the twelfth brake, the lamp, and the last byte
+        (&[(414, 101)], 414, 101),
+        (&[(425, 1)], 425, 1),
+        (&[(626, 1)], 626, 1),
+        (&[(817, 2)], 817, 2),
+        (&[(847, 1)], 847, 1),
     ];
     for (changes, offset, found) in table {
         assert_eq!(rt;
@@ -159,7 +172,7 @@ fn a_pre_part_is_refused_at_its_first_damaged_byte(rt: HostRuntime) {
         );
     }
     assert!(rt; pre_with(&[(12, 1), (13, 0x2c)]).is_ok());
-    assert!(rt; pre_with(&[(12, 0xff), (13, 0xff), (34, 100), (45, 0xff)]).is_ok());
+    assert!(rt; pre_with(&[(12, 0xff), (13, 0xff), (414, 100), (615, 0xff)]).is_ok());
 }
 
 #[test]
@@ -177,7 +190,7 @@ fn a_crash_part_is_refused_at_its_first_damaged_byte(rt: HostRuntime) {
         (&[(109, 0x92)], 109, 0x92),
         (&[(117, 0x92)], 117, 0x92),
         (&[(120, 0), (121, 0x92)], 121, 0x92),
-        (&[(319, 1)], 319, 1),
+        (&[(159, 1)], 159, 1),
     ];
     for (changes, offset, found) in table {
         assert_eq!(rt;
@@ -223,10 +236,10 @@ fn end_of_crash_field(at: usize) -> usize {
 }
 
 // What is read is put back equal; a refusal is at the changed byte or behind it in its field, and tells the byte there.
-fn try_pre(rt: &impl Abort, bytes: &[u8; 160], changed: usize) -> Option<u16> {
+fn try_pre(rt: &impl Abort, bytes: &[u8; 848], changed: usize) -> Option<u16> {
     match read_pre(bytes) {
         Ok(read) => {
-            let mut back = [0xee; 160];
+            let mut back = [0xee; 848];
             put_pre(&read, &mut back);
             assert_eq!(rt; back, *bytes, "byte {changed}");
             None
@@ -243,10 +256,10 @@ fn try_pre(rt: &impl Abort, bytes: &[u8; 160], changed: usize) -> Option<u16> {
     }
 }
 
-fn try_crash(rt: &impl Abort, bytes: &[u8; 320], changed: usize) -> Option<u16> {
+fn try_crash(rt: &impl Abort, bytes: &[u8; 160], changed: usize) -> Option<u16> {
     match read_crash(bytes) {
         Ok(read) => {
-            let mut back = [0xee; 320];
+            let mut back = [0xee; 160];
             put_crash(&read, &mut back);
             assert_eq!(rt; back, *bytes, "byte {changed}");
             None
@@ -279,8 +292,8 @@ fn each_byte_of_a_pre_part_is_checked(rt: HostRuntime) {
         }
     }
     let wanted = Tally {
-        parts: 316,
-        places: 72_495,
+        parts: 1_004,
+        places: 2_127_003,
     };
     assert_eq!(rt; tally, wanted);
 }
@@ -300,8 +313,8 @@ fn each_byte_of_a_crash_part_is_checked(rt: HostRuntime) {
         }
     }
     let wanted = Tally {
-        parts: 610,
-        places: 291_565,
+        parts: 450,
+        places: 61_645,
     };
     assert_eq!(rt; tally, wanted);
 }
