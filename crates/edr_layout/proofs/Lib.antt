@@ -1,2 +1,3 @@
 pub mod NewFront
 pub mod PartPlaces
+pub mod Readable

@@ -6,7 +6,7 @@ use Rattle.edr_image.specs.Image.{choice_byte, image_size, magic, new_image}
 
 -- what stands before the banks, and in the first of them
 abbrev pub front : Header → List ℕ
-front h = magic ++ 0 ∷ 1 ∷ h.banks ∷ choice_byte h.choice ∷ []
+front h = magic ++ 0 ∷ 2 ∷ h.banks ∷ choice_byte h.choice ∷ []
 
 pub new_image_is : (h : Header) → new_image h ≡ front h ++ replicate (image_size h.banks - 12) 0
 unfolding new_image

@@ -1,27 +1,27 @@
 //! What the bytes of a bank say.
-ghost use Rattle.std.specs.Prelude.{◌≡◌, Some, None, IfOk, IfErr, OnOk, slice_index};
-ghost use Rattle.edr_image.specs.declared.places.TheConstants.{CRASH_PART, PRE_PART};
-ghost use Rattle.edr_image.specs.Image.{bank_damage, bank_view, record_of};
-ghost use Rattle.edr_image.specs.PartBytes.{crash_at, crash_damage, pre_at, pre_damage};
+ghost use Rattle.std.specs.Prelude.{◌≡◌, Some, None, IfOk, IfErr, OnOk, length, slice_index};
+ghost use Rattle.edr_image.specs.declared.places.TheConstants.{PRE_PART};
+ghost use Rattle.edr_image.specs.Image.{bank_damage_by, bank_view, bank_view_by, crash_place, old_bank_view, record_by};
+ghost use Rattle.edr_image.specs.PartBytes.{crash_at, crash_damage_by, pre_at_by, pre_damage_by};
+ghost use Rattle.edr_layout.specs.Readable.{IsReadable};
 
 use crate::front::is_open;
-use edr_codec::{Damaged, read_crash, read_pre};
+use edr_codec::{Damaged, read_crash_by, read_pre_by};
 use edr_image::BankView;
-use edr_image::places::{
-    BANK_SIZE, CRASH_PART, CRASH_SIZE, DONE_GATE, EVENT_GATE, LOCK_GATE, PRE_PART, PRE_SIZE,
-};
+use edr_image::forms::{Layout, OLD_BANK_SIZE, VERSION_1, VERSION_2};
+use edr_image::places::{BANK_SIZE, DONE_GATE, EVENT_GATE, LOCK_GATE, PRE_PART};
 use edr_record::{Crash, Pre, Record};
 
 // The pre part of a bank, or the first byte of the bank with which it is none.
-fn pre_of(bank: &[u8; BANK_SIZE]) -> Result<Pre, Damaged>
-    ensures read { IfOk result (λ p. p ≡ pre_at bank.now PRE_PART) }
-    ensures whole { OnOk result (pre_damage bank.now PRE_PART ≡ None) }
-    ensures damaged { IfErr result (λ d. pre_damage bank.now PRE_PART ≡ Some d.offset) }
+fn pre_of(bank: &[u8], layout: &Layout) -> Result<Pre, Damaged>
+    requires layout { IsReadable layout.now }
+    requires long { length bank.now ≡ layout.now.bank }
+    ensures read { IfOk result (λ p. p ≡ pre_at_by layout.now.pre bank.now PRE_PART) }
+    ensures whole { OnOk result (pre_damage_by layout.now.pre bank.now PRE_PART ≡ None) }
+    ensures damaged { IfErr result (λ d. pre_damage_by layout.now.pre bank.now PRE_PART ≡ Some d.offset) }
     ensures found { IfErr result (λ d. d.found ≡ slice_index bank.now d.offset) }
 {
-    let mut part = [0; PRE_SIZE];
-    part.copy_from_slice(&bank[PRE_PART..PRE_PART + PRE_SIZE]);
-    match read_pre(&part) {
+    match read_pre_by(&bank[PRE_PART..layout.crash_place()], &layout.pre) {
         Ok(pre) => Ok(pre),
         Err(Damaged { offset, found }) => Err(Damaged {
             offset: PRE_PART as u16 + offset,
@@ -31,33 +31,36 @@ fn pre_of(bank: &[u8; BANK_SIZE]) -> Result<Pre, Damaged>
 }
 
 // The same of its crash part.
-fn crash_of(bank: &[u8; BANK_SIZE]) -> Result<Crash, Damaged>
-    ensures read { IfOk result (λ c. c ≡ crash_at bank.now CRASH_PART) }
-    ensures whole { OnOk result (crash_damage bank.now CRASH_PART ≡ None) }
-    ensures damaged { IfErr result (λ d. crash_damage bank.now CRASH_PART ≡ Some d.offset) }
+fn crash_of(bank: &[u8], layout: &Layout) -> Result<Crash, Damaged>
+    requires layout { IsReadable layout.now }
+    requires long { length bank.now ≡ layout.now.bank }
+    ensures read { IfOk result (λ c. c ≡ crash_at bank.now (crash_place layout.now)) }
+    ensures whole { OnOk result (crash_damage_by layout.now.crash bank.now (crash_place layout.now) ≡ None) }
+    ensures damaged { IfErr result (λ d. crash_damage_by layout.now.crash bank.now (crash_place layout.now) ≡ Some d.offset) }
     ensures found { IfErr result (λ d. d.found ≡ slice_index bank.now d.offset) }
 {
-    let mut part = [0; CRASH_SIZE];
-    part.copy_from_slice(&bank[CRASH_PART..CRASH_PART + CRASH_SIZE]);
-    match read_crash(&part) {
+    let place = layout.crash_place();
+    match read_crash_by(&bank[place..place + layout.crash.size()], &layout.crash) {
         Ok(crash) => Ok(crash),
         Err(Damaged { offset, found }) => Err(Damaged {
-            offset: CRASH_PART as u16 + offset,
+            offset: place as u16 + offset,
             found,
         }),
     }
 }
 
 // The record of a bank, or the first byte with which its parts are none.
-fn record_of(bank: &[u8; BANK_SIZE]) -> Result<Record, Damaged>
-    ensures read { IfOk result (λ r. r ≡ record_of bank.now) }
-    ensures whole { OnOk result (bank_damage bank.now ≡ None) }
-    ensures damaged { IfErr result (λ d. bank_damage bank.now ≡ Some d.offset) }
+fn record_of(bank: &[u8], layout: &Layout) -> Result<Record, Damaged>
+    requires layout { IsReadable layout.now }
+    requires long { length bank.now ≡ layout.now.bank }
+    ensures read { IfOk result (λ r. r ≡ record_by layout.now bank.now) }
+    ensures whole { OnOk result (bank_damage_by layout.now bank.now ≡ None) }
+    ensures damaged { IfErr result (λ d. bank_damage_by layout.now bank.now ≡ Some d.offset) }
     ensures found { IfErr result (λ d. d.found ≡ slice_index bank.now d.offset) }
 {
-    let pre = pre_of(bank)?;
+    let pre = pre_of(bank, layout)?;
     let crash = if is_open(bank, DONE_GATE) {
-        Some(crash_of(bank)?)
+        Some(crash_of(bank, layout)?)
     } else {
         None
     };
@@ -65,15 +68,17 @@ fn record_of(bank: &[u8; BANK_SIZE]) -> Result<Record, Damaged>
     Ok(Record { pre, locked, crash })
 }
 
-/// What a bank holds.
+// What a bank of a layout holds.
 #[tactic(auto, unfolding(edr_image::specs::Image::bank_view_by))]
-pub fn bank_view(bank: &[u8; BANK_SIZE]) -> BankView
-    ensures { result ≡ bank_view bank.now }
+fn bank_view_by(bank: &[u8], layout: &Layout) -> BankView
+    requires layout { IsReadable layout.now }
+    requires long { length bank.now ≡ layout.now.bank }
+    ensures { result ≡ bank_view_by layout.now bank.now }
 {
     if !is_open(bank, EVENT_GATE) {
         return BankView::Void;
     }
-    match record_of(bank) {
+    match record_of(bank, layout) {
         Ok(whole) => BankView::Event(whole),
         Err(Damaged { offset, found }) => BankView::Damaged {
             offset,
@@ -81,4 +86,20 @@ pub fn bank_view(bank: &[u8; BANK_SIZE]) -> BankView
             locked: is_open(bank, LOCK_GATE),
         },
     }
+}
+
+/// What a bank holds.
+#[tactic(auto, using(crate::proofs::Readable::version_2_is_readable))]
+pub fn bank_view(bank: &[u8; BANK_SIZE]) -> BankView
+    ensures { result ≡ bank_view bank.now }
+{
+    bank_view_by(bank, &VERSION_2)
+}
+
+/// What a bank of version 1 holds.
+#[tactic(auto, using(crate::proofs::Readable::version_1_is_readable))]
+pub fn old_bank_view(bank: &[u8; OLD_BANK_SIZE]) -> BankView
+    ensures { result ≡ old_bank_view bank.now }
+{
+    bank_view_by(bank, &VERSION_1)
 }

@@ -1,9 +1,10 @@
 //! The front of an image: its header and the two slots of its count. Numbers are big-endian.
 ghost use Rattle.std.specs.Prelude.{◌≡◌, ◌+◌, ◌≤◌, ◌<◌, Some, None, IfOk, IfErr, length, take};
 ghost use Rattle.edr_image.specs.declared.places.TheConstants.{FRONT_SIZE, SECOND_SLOT, SLOT_SIZE};
-ghost use Rattle.edr_image.specs.Image.{choice_byte, count_of, header_of, header_refusal, is_open, new_image, not_magic, older_slot, place_of_slot, slot_count};
+ghost use Rattle.edr_image.specs.Image.{choice_byte, count_of, header_of, header_refusal, header_refusal_by, is_open, new_image, not_magic, old_header_refusal, older_slot, place_of_slot, slot_count};
 
 use byteorder::{BigEndian, ByteOrder};
+use edr_image::forms::{Layout, VERSION_1, VERSION_2};
 use edr_image::places::{
     BANKS, CHOICE, FEWEST_BANKS, FIRST_SLOT, FRONT_SIZE, MOST_BANKS, OPEN_GATE, SECOND_SLOT,
     SLOT_COUNT, SLOT_SIZE, VERSION,
@@ -29,13 +30,12 @@ pub fn is_open(bytes: &[u8], at: usize) -> bool
     bytes[at] == OPEN_GATE
 }
 
-/// What the first bytes of an image say, or why they are refused: of several causes the one that
-/// [`HeaderRefused`] has first.
+// What the first bytes of an image of a layout say, or why they are refused.
 #[tactic(auto, unfolding(edr_image::specs::Image::header_refusal_by))]
-pub fn read_header(bytes: &[u8; FRONT_SIZE]) -> Result<Header, HeaderRefused>
+fn read_header_by(bytes: &[u8; FRONT_SIZE], layout: &Layout) -> Result<Header, HeaderRefused>
     ensures read { IfOk result (λ h. h ≡ header_of bytes.now) }
-    ensures accepted { IfOk result (λ _. header_refusal bytes.now ≡ None) }
-    ensures refused { IfErr result (λ e. header_refusal bytes.now ≡ Some e) }
+    ensures accepted { IfOk result (λ _. header_refusal_by layout.now bytes.now ≡ None) }
+    ensures refused { IfErr result (λ e. header_refusal_by layout.now bytes.now ≡ Some e) }
 {
     if let Some(k) = not_magic(bytes) {
         return Err(HeaderRefused::NotFormatted {
@@ -46,7 +46,7 @@ pub fn read_header(bytes: &[u8; FRONT_SIZE]) -> Result<Header, HeaderRefused>
     let version = BigEndian::read_u16(&bytes[VERSION..]);
     let banks = bytes[BANKS];
     let choice = bytes[CHOICE];
-    if version != 1 {
+    if version != layout.version {
         return Err(HeaderRefused::Version { found: version });
     }
     if banks < FEWEST_BANKS || MOST_BANKS < banks {
@@ -65,6 +65,25 @@ pub fn read_header(bytes: &[u8; FRONT_SIZE]) -> Result<Header, HeaderRefused>
     }
 }
 
+/// What the first bytes of an image say, or why they are refused: of several causes the one that
+/// [`HeaderRefused`] has first.
+pub fn read_header(bytes: &[u8; FRONT_SIZE]) -> Result<Header, HeaderRefused>
+    ensures read { IfOk result (λ h. h ≡ header_of bytes.now) }
+    ensures accepted { IfOk result (λ _. header_refusal bytes.now ≡ None) }
+    ensures refused { IfErr result (λ e. header_refusal bytes.now ≡ Some e) }
+{
+    read_header_by(bytes, &VERSION_2)
+}
+
+/// The same of an image of version 1.
+pub fn read_old_header(bytes: &[u8; FRONT_SIZE]) -> Result<Header, HeaderRefused>
+    ensures read { IfOk result (λ h. h ≡ header_of bytes.now) }
+    ensures accepted { IfOk result (λ _. old_header_refusal bytes.now ≡ None) }
+    ensures refused { IfErr result (λ e. old_header_refusal bytes.now ≡ Some e) }
+{
+    read_header_by(bytes, &VERSION_1)
+}
+
 fn choice_byte(choice: Choice) -> u8
     ensures { result ≡ choice_byte choice }
 {
@@ -81,7 +100,7 @@ pub fn new_front(header: Header) -> [u8; FRONT_SIZE]
 {
     let mut bytes = [0; FRONT_SIZE];
     bytes[..8].copy_from_slice(&MAGIC);
-    bytes[VERSION + 1] = 1;
+    bytes[VERSION..BANKS].copy_from_slice(&VERSION_2.version.to_be_bytes());
     bytes[BANKS] = header.banks;
     bytes[CHOICE] = choice_byte(header.choice);
     bytes

@@ -1,10 +1,13 @@
 //! Where things stand in an image, as bytes that are read and written: its front with the header and the two slots of its
-//! count, and its banks with their gates and parts. The places have their names in `edr_image::places`.
+//! count, and its banks with their gates and parts. The places have their names in `edr_image::places`. Images of version 1
+//! are only read.
 #![tactic(auto)]
 
-ghost use Rattle.std.specs.Prelude.{◌≡◌, ◌≤◌};
+ghost use Rattle.std.specs.Prelude.{◌≡◌, ◌≤◌, ◌<◌, ◌^◌};
 ghost use Rattle.edr_image.specs.declared.places.TheConstants.{MOST_BANKS};
-ghost use Rattle.edr_image.specs.Image.{image_size, place_of};
+ghost use Rattle.edr_image.specs.Image.{image_size, old_image_size, old_place_of, place_by, place_of, size_by};
+
+use edr_image::forms::{Layout, VERSION_1, VERSION_2};
 
 mod bank;
 mod front;
@@ -12,15 +15,34 @@ mod front;
 mod tests;
 mod writes;
 
-pub use crate::bank::bank_view;
+pub use crate::bank::{bank_view, old_bank_view};
 pub use crate::front::{
     MAGIC, is_open, new_front, not_magic, older_slot, place_of_slot, read_count, read_header,
+    read_old_header,
 };
 pub use crate::writes::{
     Gated, Mark, closing_write, count_writes, done_writes, erase_write, fill_writes, lock_write,
 };
+pub use edr_image::forms::OLD_BANK_SIZE;
 pub use edr_image::places::{BANK_SIZE, FEWEST_BANKS, FRONT_SIZE, MOST_BANKS, OPEN_GATE};
 pub use edr_image::{Choice, Header, HeaderRefused};
+
+// Where a bank begins in an image of a layout.
+fn place_by(layout: &Layout, bank: u8) -> u32
+    requires few { layout.now.bank < 2 ^ 16 }
+    requires from { 1 ≤ bank }
+    ensures { result ≡ place_by layout.now bank }
+{
+    FRONT_SIZE as u32 + layout.bank as u32 * (u32::from(bank) - 1)
+}
+
+// How many bytes an image of a layout with so many banks has.
+fn size_by(layout: &Layout, banks: u8) -> u32
+    requires few { layout.now.bank < 2 ^ 16 }
+    ensures { result ≡ size_by layout.now banks }
+{
+    FRONT_SIZE as u32 + layout.bank as u32 * u32::from(banks)
+}
 
 /// Where a bank begins in the image. Banks are numbered from 1.
 pub fn place_of(bank: u8) -> u32
@@ -28,12 +50,28 @@ pub fn place_of(bank: u8) -> u32
     requires to { bank ≤ MOST_BANKS }
     ensures { result ≡ place_of bank }
 {
-    FRONT_SIZE as u32 + BANK_SIZE as u32 * (u32::from(bank) - 1)
+    place_by(&VERSION_2, bank)
+}
+
+/// Where a bank begins in an image of version 1.
+pub fn old_place_of(bank: u8) -> u32
+    requires from { 1 ≤ bank }
+    requires to { bank ≤ MOST_BANKS }
+    ensures { result ≡ old_place_of bank }
+{
+    place_by(&VERSION_1, bank)
 }
 
 /// How many bytes an image with so many banks has.
 pub fn image_size(banks: u8) -> u32
     ensures { result ≡ image_size banks }
 {
-    FRONT_SIZE as u32 + BANK_SIZE as u32 * u32::from(banks)
+    size_by(&VERSION_2, banks)
+}
+
+/// How many bytes an image of version 1 with so many banks has.
+pub fn old_image_size(banks: u8) -> u32
+    ensures { result ≡ old_image_size banks }
+{
+    size_by(&VERSION_1, banks)
 }

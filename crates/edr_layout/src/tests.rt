@@ -2,13 +2,15 @@ ghost use Rattle.std.specs.Prelude.{◌<◌, ◌≤◌};
 
 use super::*;
 use byteorder::{BigEndian, ByteOrder};
+use edr_image::BankView;
 use edr_image::places::{FIRST_SLOT, SECOND_SLOT};
+use edr_record::{Key, Place, Pre, Record};
 
 // The first bytes of an image with four banks that keeps what it has, with no start counted.
 fn first_bytes() -> [u8; 96] {
     let mut bytes = [0; 96];
     bytes[..8].copy_from_slice(&MAGIC);
-    bytes[9] = 1;
+    bytes[9] = 2;
     bytes[10] = 4;
     bytes
 }
@@ -53,10 +55,10 @@ fn a_header_is_read_or_refused_by_its_first_fault(rt: HostRuntime) {
     assert_eq!(rt; header_with(12, 255), Ok(read));
     assert_eq!(rt; header_with(0, 0), not_formatted(0, 0));
     assert_eq!(rt; header_with(7, b'e'), not_formatted(7, b'e'));
-    assert_eq!(rt; header_with(9, 2), Err(HeaderRefused::Version { found: 2 }));
+    assert_eq!(rt; header_with(9, 1), Err(HeaderRefused::Version { found: 1 }));
     assert_eq!(rt;
         header_with(8, 1),
-        Err(HeaderRefused::Version { found: 257 })
+        Err(HeaderRefused::Version { found: 258 })
     );
     assert_eq!(rt; header_with(10, 1), Err(HeaderRefused::Banks { found: 1 }));
     assert_eq!(rt;
@@ -75,7 +77,7 @@ fn the_first_of_several_faults_is_told(rt: HostRuntime) {
         read_header(&bytes),
         Err(HeaderRefused::Version { found: 0xffff })
     );
-    bytes[8..10].copy_from_slice(&[0, 1]);
+    bytes[8..10].copy_from_slice(&[0, 2]);
     assert_eq!(rt;
         read_header(&bytes),
         Err(HeaderRefused::Banks { found: 0xff })
@@ -112,8 +114,10 @@ fn the_count_is_that_of_the_open_slots_and_a_start_writes_the_older_one(rt: Host
 #[test]
 fn banks_stand_behind_the_first_bytes(rt: HostRuntime) {
     assert_eq!(rt; place_of(1), 96);
-    assert_eq!(rt; place_of(2), 608);
-    assert_eq!(rt; place_of(16), 7776);
+    assert_eq!(rt; place_of(2), 1120);
+    assert_eq!(rt; place_of(16), 15_456);
+    assert_eq!(rt; image_size(2), 2144);
+    assert_eq!(rt; image_size(16), 16_480);
 }
 
 #[test]
@@ -137,7 +141,7 @@ fn a_new_front_is_read_back(rt: HostRuntime) {
 fn marks_stand_on_the_gates_of_their_bank(rt: HostRuntime) {
     assert_eq!(rt; erase_write(1), Mark { at: 96, byte: 0 });
     let locked = Mark {
-        at: 609,
+        at: 1121,
         byte: OPEN_GATE,
     };
     assert_eq!(rt; lock_write(2), locked);
@@ -156,4 +160,88 @@ fn a_count_is_written_behind_the_closed_gate_of_its_slot(rt: HostRuntime) {
     assert_eq!(rt; count_writes(64, 0x0102_0304), count);
     assert_eq!(rt; place_of_slot(0), 32);
     assert_eq!(rt; place_of_slot(1), 64);
+}
+
+#[test]
+fn the_header_of_an_old_image_is_read(rt: HostRuntime) {
+    let mut bytes = first_bytes();
+    assert_eq!(rt;
+        read_old_header(&bytes),
+        Err(HeaderRefused::Version { found: 2 })
+    );
+    bytes[9] = 1;
+    let read = Header {
+        banks: 4,
+        choice: Choice::Keep,
+    };
+    assert_eq!(rt; read_old_header(&bytes), Ok(read));
+    bytes[10] = 17;
+    assert_eq!(rt;
+        read_old_header(&bytes),
+        Err(HeaderRefused::Banks { found: 17 })
+    );
+}
+
+#[test]
+fn the_banks_of_an_old_image_are_shorter(rt: HostRuntime) {
+    assert_eq!(rt; old_place_of(1), 96);
+    assert_eq!(rt; old_place_of(2), 608);
+    assert_eq!(rt; old_place_of(16), 7776);
+    assert_eq!(rt; old_image_size(2), 1120);
+    assert_eq!(rt; old_image_size(16), 8288);
+}
+
+// A bank of an old image with an event without a crash part, written by hand.
+fn old_bank() -> [u8; 512] {
+    let mut bytes = [0; 512];
+    bytes[0] = OPEN_GATE;
+    bytes[1] = OPEN_GATE;
+    bytes[19] = 1;
+    bytes[22..25].copy_from_slice(&[0x17, 0x73, 1]);
+    for k in 0..11 {
+        bytes[29 + 2 * k] = 0x32;
+        bytes[50 + k] = 0x14;
+    }
+    bytes[72] = 1;
+    bytes
+}
+
+#[test]
+fn a_bank_of_an_old_image_is_read(rt: HostRuntime) {
+    let pre = Pre {
+        key: Key {
+            cycle: 1,
+            zero: 6003,
+        },
+        place: Place::First,
+        speed: [Some(50); 11],
+        throttle: [Some(20); 11],
+        brake: [Some(false); 11],
+        belt: Some(true),
+        lamp: Some(false),
+    };
+    let taken = Record {
+        pre,
+        locked: true,
+        crash: None,
+    };
+    let mut bytes = old_bank();
+    assert_eq!(rt; old_bank_view(&bytes), BankView::Event(taken));
+    // Its crash part, whose end is 0.
+    bytes[2] = OPEN_GATE;
+    let damaged = BankView::Damaged {
+        offset: 177,
+        found: 0,
+        locked: true,
+    };
+    assert_eq!(rt; old_bank_view(&bytes), damaged);
+    bytes[25] = 1;
+    let damaged = BankView::Damaged {
+        offset: 25,
+        found: 1,
+        locked: true,
+    };
+    assert_eq!(rt; old_bank_view(&bytes), damaged);
+    bytes[0] = 0;
+    assert_eq!(rt; old_bank_view(&bytes), BankView::Void);
 }
