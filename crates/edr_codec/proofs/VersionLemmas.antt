@@ -20,9 +20,6 @@ version_1-form = record {
 pub version_1-short : IsShort VERSION_1.pre
 version_1-short = λ profile low high. slots-1 profile
 
-pub version_1-profile : IsProfile VERSION_1.pre 11
-version_1-profile = short-profile VERSION_1.pre version_1-form version_1-short
-
 -- version 2 has no more than 201, and eleven for its only profile byte
 slots-2 : (profile : ℕ) → slots_of VERSION_2.pre profile ≤ 201
 slots-2 profile = elim (cases_Bool (nat_eq profile 1)) [ inl e ↦ rw e (omega arith) | inr e ↦ rw e (omega arith) ]
@@ -37,3 +34,6 @@ version_2-form = record {
 
 pub version_2-short : IsShort VERSION_2.pre
 version_2-short = λ profile low high. subst (λ (b : ℕ). slots_of VERSION_2.pre b ≡ 11) (let e : 1 ≡ profile = omega arith in e) refl
+
+pub version_2-profile : IsProfile VERSION_2.pre 11
+version_2-profile = short-profile VERSION_2.pre version_2-form version_2-short
