@@ -20,7 +20,7 @@ pub record IsCrashFrom (bytes : List ℕ) (at : ℕ) (crash : CrashPart) : Type 
 
 abbrev pub ShowsCrash : List ℕ → ℕ → Option CrashPart → Type 0
 ShowsCrash bytes at None = is_open bytes (at + 2) ≡ false
-ShowsCrash bytes at (Some crash) = (is_open bytes (at + 2) ≡ true) × IsCrashFrom bytes (at + 176) crash
+ShowsCrash bytes at (Some crash) = (is_open bytes (at + 2) ≡ true) × IsCrashFrom bytes (at + 864) crash
 
 pub record ShowsEvent (bytes : List ℕ) (at : ℕ) (r : Record) : Type 0 where
   pub opened : is_open bytes at ≡ true
@@ -51,7 +51,7 @@ pub both_none : {X : Type 0} (o p : Option X) → option_or o p ≡ None → (o 
 both_none None p e = (refl, e)
 both_none (Some x) p e = absurd cc
 
-crash_case : (bank : List ℕ) (done : Bool) → is_open bank 2 ≡ done → cond done (crash_damage bank 176) None ≡ None → ShowsCrash bank 0 (cond done (Some (crash_at bank 176)) None)
+crash_case : (bank : List ℕ) (done : Bool) → is_open bank 2 ≡ done → cond done (crash_damage bank 864) None ≡ None → ShowsCrash bank 0 (cond done (Some (crash_at bank 864)) None)
 crash_case bank true gate whole = (gate, record { whole = whole; same = refl })
 crash_case bank false gate whole = gate
 
@@ -61,7 +61,7 @@ bank_shows bank Void e whole = void_case (is_open bank 0) (bank_damage bank) (sl
 bank_shows bank (Damaged o b l) e whole = whole o b l refl
 bank_shows bank (Event r) e whole =
     let f = event_case (is_open bank 0) (bank_damage bank) (slice_index bank) (is_open bank 1) (record_of bank) r e in
-    let none = both_none (pre_damage bank 16) (cond (is_open bank 2) (crash_damage bank 176) None) f.1 in
+    let none = both_none (pre_damage bank 16) (cond (is_open bank 2) (crash_damage bank 864) None) f.1 in
     let own : ShowsEvent bank 0 (record_of bank) = record { opened = f.0; lock = refl; begins = record { whole = none.0; same = refl }; ends = crash_case bank (is_open bank 2) refl none.1 } in
     subst (λ (x : Record). ShowsEvent bank 0 x) f.2 own
 
@@ -88,19 +88,19 @@ gate_first xs a ys b n o h below e =
     let right : b + 0 ≡ b = omega arith in
     rw right at (gate_same xs a ys b n 0 o h below (rw left e))
 
-pub pre_moves : (xs : List ℕ) (a : ℕ) (ys : List ℕ) (b : ℕ) (pre : PrePart) → Match xs a ys b 160 → IsPreFrom xs a pre → IsPreFrom ys b pre
+pub pre_moves : (xs : List ℕ) (a : ℕ) (ys : List ℕ) (b : ℕ) (pre : PrePart) → Match xs a ys b 848 → IsPreFrom xs a pre → IsPreFrom ys b pre
 pre_moves xs a ys b pre h p = record { whole = pre_none xs a ys b h p.whole; same = sym (pre_same xs a ys b h) ∙ p.same }
 
-pub crash_moves : (xs : List ℕ) (a : ℕ) (ys : List ℕ) (b : ℕ) (crash : CrashPart) → Match xs a ys b 320 → IsCrashFrom xs a crash → IsCrashFrom ys b crash
+pub crash_moves : (xs : List ℕ) (a : ℕ) (ys : List ℕ) (b : ℕ) (crash : CrashPart) → Match xs a ys b 160 → IsCrashFrom xs a crash → IsCrashFrom ys b crash
 crash_moves xs a ys b crash h p = record { whole = crash_none xs a ys b h p.whole; same = sym (crash_same xs a ys b h) ∙ p.same }
 
-crash_stays : (xs : List ℕ) (a : ℕ) (ys : List ℕ) (b : ℕ) (crash : Option CrashPart) → is_open ys (b + 2) ≡ is_open xs (a + 2) → Match xs (a + 176) ys (b + 176) 320 → ShowsCrash xs a crash → ShowsCrash ys b crash
+crash_stays : (xs : List ℕ) (a : ℕ) (ys : List ℕ) (b : ℕ) (crash : Option CrashPart) → is_open ys (b + 2) ≡ is_open xs (a + 2) → Match xs (a + 864) ys (b + 864) 160 → ShowsCrash xs a crash → ShowsCrash ys b crash
 crash_stays xs a ys b None gate h s = gate ∙ s
-crash_stays xs a ys b (Some crash) gate h s = (gate ∙ s.0, crash_moves xs (a + 176) ys (b + 176) crash h s.1)
+crash_stays xs a ys b (Some crash) gate h s = (gate ∙ s.0, crash_moves xs (a + 864) ys (b + 864) crash h s.1)
 
 -- an event whose parts are as they were, with the lock that its gate says
 pub event_stays : (xs : List ℕ) (a : ℕ) (ys : List ℕ) (b : ℕ) (r : Record) (lock : Bool) → is_open ys b ≡ true → is_open ys (b + 1) ≡ lock → is_open ys (b + 2) ≡ is_open xs (a + 2)
-    → Match xs (a + 16) ys (b + 16) 160 → Match xs (a + 176) ys (b + 176) 320 → ShowsEvent xs a r → ShowsEvent ys b (record r { locked = lock })
+    → Match xs (a + 16) ys (b + 16) 848 → Match xs (a + 864) ys (b + 864) 160 → ShowsEvent xs a r → ShowsEvent ys b (record r { locked = lock })
 event_stays xs a ys b r lock opened locked done pre crash s = record {
   opened = opened;
   lock = locked;
@@ -108,9 +108,9 @@ event_stays xs a ys b r lock opened locked done pre crash s = record {
   ends = crash_stays xs a ys b r.crash done crash s.ends;
 }
 
-pub shows_moves : (xs : List ℕ) (a : ℕ) (ys : List ℕ) (b : ℕ) (view : BankView) → Match xs a ys b 512 → Shows xs a view → Shows ys b view
-shows_moves xs a ys b Void h s = gate_first xs a ys b 512 false h (omega arith) s
+pub shows_moves : (xs : List ℕ) (a : ℕ) (ys : List ℕ) (b : ℕ) (view : BankView) → Match xs a ys b 1024 → Shows xs a view → Shows ys b view
+shows_moves xs a ys b Void h s = gate_first xs a ys b 1024 false h (omega arith) s
 shows_moves xs a ys b (Damaged o f l) h s = absurd s
 shows_moves xs a ys b (Event r) h s =
-    event_stays xs a ys b r r.locked (gate_first xs a ys b 512 true h (omega arith) s.opened) (gate_same xs a ys b 512 1 r.locked h (omega arith) s.lock) (gate_same xs a ys b 512 2 (is_open xs (a + 2)) h (omega arith) refl)
-    (match_part xs a ys b 512 16 160 h (omega arith)) (match_part xs a ys b 512 176 320 h (omega arith)) s
+    event_stays xs a ys b r r.locked (gate_first xs a ys b 1024 true h (omega arith) s.opened) (gate_same xs a ys b 1024 1 r.locked h (omega arith) s.lock) (gate_same xs a ys b 1024 2 (is_open xs (a + 2)) h (omega arith) refl)
+    (match_part xs a ys b 1024 16 848 h (omega arith)) (match_part xs a ys b 1024 864 160 h (omega arith)) s

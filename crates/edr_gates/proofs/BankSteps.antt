@@ -41,50 +41,50 @@ put_gate k bytes fits = gate_first (165 ∷ []) 0 (put_at k (165 ∷ []) bytes) 
 
 -- ---- erase: only the gate of the bank may have changed
 
-erase_gate : (at : ℕ) (bytes image : List ℕ) (r : Record) → at + 512 ≤ length bytes → SameBut at 1 bytes image → is_open image at ≡ true → ShowsEvent bytes at r → Shows image at (Event r)
+erase_gate : (at : ℕ) (bytes image : List ℕ) (r : Record) → at + 1024 ≤ length bytes → SameBut at 1 bytes image → is_open image at ≡ true → ShowsEvent bytes at r → Shows image at (Event r)
 erase_gate at bytes image r fits s gate e =
     event_stays bytes at image at r r.locked gate (gate_beside at 1 bytes image (at + 1) s (omega arith) (inr (omega arith)) ∙ e.lock) (gate_beside at 1 bytes image (at + 2) s (omega arith) (inr (omega arith)))
-    (beside at 1 bytes image (at + 16) 160 s (omega arith) (inr (omega arith))) (beside at 1 bytes image (at + 176) 320 s (omega arith) (inr (omega arith))) e
+    (beside at 1 bytes image (at + 16) 848 s (omega arith) (inr (omega arith))) (beside at 1 bytes image (at + 864) 160 s (omega arith) (inr (omega arith))) e
 
-pub erase_either : (at : ℕ) (bytes image : List ℕ) (r : Record) → at + 512 ≤ length bytes → SameBut at 1 bytes image → ShowsEvent bytes at r → Shows image at (Event r) ⊎ Shows image at Void
+pub erase_either : (at : ℕ) (bytes image : List ℕ) (r : Record) → at + 1024 ≤ length bytes → SameBut at 1 bytes image → ShowsEvent bytes at r → Shows image at (Event r) ⊎ Shows image at Void
 erase_either at bytes image r fits s e = by_gate (is_open image at) refl where
   by_gate : (o : Bool) → is_open image at ≡ o → Shows image at (Event r) ⊎ Shows image at Void
   by_gate true gate = inl (erase_gate at bytes image r fits s gate e)
   by_gate false gate = inr gate
 
-pub erase_made : (at : ℕ) (bytes : List ℕ) → at + 512 ≤ length bytes → Shows (put_at at (0 ∷ []) bytes) at Void
+pub erase_made : (at : ℕ) (bytes : List ℕ) → at + 1024 ≤ length bytes → Shows (put_at at (0 ∷ []) bytes) at Void
 erase_made at bytes fits = gate_first (0 ∷ []) 0 (put_at at (0 ∷ []) bytes) at 1 false (put_there at (0 ∷ []) bytes (omega arith)) (omega arith) refl
 
 -- ---- lock: only its gate may have changed
 
-lock_gate : (at : ℕ) (bytes image : List ℕ) (r : Record) (o : Bool) → at + 512 ≤ length bytes → SameBut (at + 1) 1 bytes image → is_open image (at + 1) ≡ o → ShowsEvent bytes at r → Shows image at (Event (record r { locked = o }))
+lock_gate : (at : ℕ) (bytes image : List ℕ) (r : Record) (o : Bool) → at + 1024 ≤ length bytes → SameBut (at + 1) 1 bytes image → is_open image (at + 1) ≡ o → ShowsEvent bytes at r → Shows image at (Event (record r { locked = o }))
 lock_gate at bytes image r o fits s gate e =
     event_stays bytes at image at r o (gate_beside (at + 1) 1 bytes image at s (omega arith) (inl (omega arith)) ∙ e.opened) gate (gate_beside (at + 1) 1 bytes image (at + 2) s (omega arith) (inr (omega arith)))
-    (beside (at + 1) 1 bytes image (at + 16) 160 s (omega arith) (inr (omega arith))) (beside (at + 1) 1 bytes image (at + 176) 320 s (omega arith) (inr (omega arith))) e
+    (beside (at + 1) 1 bytes image (at + 16) 848 s (omega arith) (inr (omega arith))) (beside (at + 1) 1 bytes image (at + 864) 160 s (omega arith) (inr (omega arith))) e
 
-pub lock_either : (at : ℕ) (bytes image : List ℕ) (r : Record) → at + 512 ≤ length bytes → SameBut (at + 1) 1 bytes image → r.locked ≡ false → ShowsEvent bytes at r → Shows image at (Event r) ⊎ Shows image at (Event (record r { locked = true }))
+pub lock_either : (at : ℕ) (bytes image : List ℕ) (r : Record) → at + 1024 ≤ length bytes → SameBut (at + 1) 1 bytes image → r.locked ≡ false → ShowsEvent bytes at r → Shows image at (Event r) ⊎ Shows image at (Event (record r { locked = true }))
 lock_either at bytes image r fits s unlocked e = by_gate (is_open image (at + 1)) refl where
   by_gate : (o : Bool) → is_open image (at + 1) ≡ o → Shows image at (Event r) ⊎ Shows image at (Event (record r { locked = true }))
   by_gate true gate = inr (lock_gate at bytes image r true fits s gate e)
   by_gate false gate = inl (subst (λ (l : Bool). ShowsEvent image at (record r { locked = l })) (sym unlocked) (lock_gate at bytes image r false fits s gate e))
 
-pub lock_made : (at : ℕ) (bytes : List ℕ) (r : Record) → at + 512 ≤ length bytes → ShowsEvent bytes at r → Shows (put_at (at + 1) (165 ∷ []) bytes) at (Event (record r { locked = true }))
+pub lock_made : (at : ℕ) (bytes : List ℕ) (r : Record) → at + 1024 ≤ length bytes → ShowsEvent bytes at r → Shows (put_at (at + 1) (165 ∷ []) bytes) at (Event (record r { locked = true }))
 lock_made at bytes r fits e = lock_gate at bytes (put_at (at + 1) (165 ∷ []) bytes) r true fits (put_same (at + 1) (165 ∷ []) bytes (omega arith)) (put_gate (at + 1) bytes (omega arith)) e
 
 -- ---- fill: closed gates, zeros and the pre part are written behind a closed gate
 
-pub fill_front : (at : ℕ) (bytes image : List ℕ) → at + 512 ≤ length bytes → SameBut (at + 1) 175 bytes image → Shows bytes at Void → Shows image at Void
-fill_front at bytes image fits s void = gate_beside (at + 1) 175 bytes image at s (omega arith) (inl (omega arith)) ∙ void
+pub fill_front : (at : ℕ) (bytes image : List ℕ) → at + 1024 ≤ length bytes → SameBut (at + 1) 863 bytes image → Shows bytes at Void → Shows image at Void
+fill_front at bytes image fits s void = gate_beside (at + 1) 863 bytes image at s (omega arith) (inl (omega arith)) ∙ void
 
 -- 15 zeros and a pre part
 pub record IsFilling (piece : List ℕ) (pre : PrePart) : Type 0 where
   pub written : piece ≡ replicate 15 0 ++ pre_bytes pre
-  pub long : length piece ≡ 175
+  pub long : length piece ≡ 863
   pub lock : is_open piece 0 ≡ false
   pub done : is_open piece 1 ≡ false
   pub part : IsPreFrom piece 15 pre
 
-pub filling_is : (part : List ℕ) (pre : PrePart) → part ≡ pre_bytes pre → length part ≡ 160 → IsPreFrom part 0 pre → IsFilling (replicate 15 0 ++ part) pre
+pub filling_is : (part : List ℕ) (pre : PrePart) → part ≡ pre_bytes pre → length part ≡ 848 → IsPreFrom part 0 pre → IsFilling (replicate 15 0 ++ part) pre
 filling_is part pre same long whole = record {
   written = ap (λ (xs : List ℕ). replicate 15 0 ++ xs) same;
   long = grind (arith, common_steps);
@@ -96,28 +96,28 @@ filling_is part pre same long whole = record {
     behind : (part : List ℕ) (j : ℕ) → slice_index part j ≡ slice_index (replicate 15 0 ++ part) (15 + j)
     behind part j = grind (arith, common_steps)
 
-fill_gate : (at : ℕ) (bytes image piece : List ℕ) (pre : PrePart) → at + 512 ≤ length bytes → IsFilling piece pre → SameBut at 1 (put_at (at + 1) piece bytes) image → is_open image at ≡ true → Shows image at (Event (new_record pre))
+fill_gate : (at : ℕ) (bytes image piece : List ℕ) (pre : PrePart) → at + 1024 ≤ length bytes → IsFilling piece pre → SameBut at 1 (put_at (at + 1) piece bytes) image → is_open image at ≡ true → Shows image at (Event (new_record pre))
 fill_gate at bytes image piece pre fits is s gate =
     let mid = put_at (at + 1) piece bytes in
     let long = is.long in
     let size : length mid ≡ length bytes = put_size (at + 1) piece bytes (omega arith) in
-    let there : Match piece 0 mid (at + 1) 175 = subst (λ (n : ℕ). Match piece 0 mid (at + 1) n) is.long (put_there (at + 1) piece bytes (omega arith)) in
-    let stays = beside at 1 mid image (at + 1) 175 s (omega arith) (inr (omega arith)) in
-    let all : Match piece 0 image (at + 1) 175 = match_chain piece 0 mid (at + 1) image (at + 1) 175 there stays in
+    let there : Match piece 0 mid (at + 1) 863 = subst (λ (n : ℕ). Match piece 0 mid (at + 1) n) is.long (put_there (at + 1) piece bytes (omega arith)) in
+    let stays = beside at 1 mid image (at + 1) 863 s (omega arith) (inr (omega arith)) in
+    let all : Match piece 0 image (at + 1) 863 = match_chain piece 0 mid (at + 1) image (at + 1) 863 there stays in
     record {
       opened = gate;
-      lock = gate_first piece 0 image (at + 1) 175 false all (omega arith) is.lock;
-      begins = let e : at + 1 + 15 ≡ at + 16 = omega arith in subst (λ (k : ℕ). IsPreFrom image k pre) e (pre_moves piece 15 image (at + 1 + 15) pre (match_part piece 0 image (at + 1) 175 15 160 all (omega arith)) is.part);
-      ends = let e : at + 1 + 1 ≡ at + 2 = omega arith in subst (λ (k : ℕ). is_open image k ≡ false) e (gate_same piece 0 image (at + 1) 175 1 false all (omega arith) is.done);
+      lock = gate_first piece 0 image (at + 1) 863 false all (omega arith) is.lock;
+      begins = let e : at + 1 + 15 ≡ at + 16 = omega arith in subst (λ (k : ℕ). IsPreFrom image k pre) e (pre_moves piece 15 image (at + 1 + 15) pre (match_part piece 0 image (at + 1) 863 15 848 all (omega arith)) is.part);
+      ends = let e : at + 1 + 1 ≡ at + 2 = omega arith in subst (λ (k : ℕ). is_open image k ≡ false) e (gate_same piece 0 image (at + 1) 863 1 false all (omega arith) is.done);
     }
 
-pub fill_either : (at : ℕ) (bytes image piece : List ℕ) (pre : PrePart) → at + 512 ≤ length bytes → IsFilling piece pre → SameBut at 1 (put_at (at + 1) piece bytes) image → Shows image at Void ⊎ Shows image at (Event (new_record pre))
+pub fill_either : (at : ℕ) (bytes image piece : List ℕ) (pre : PrePart) → at + 1024 ≤ length bytes → IsFilling piece pre → SameBut at 1 (put_at (at + 1) piece bytes) image → Shows image at Void ⊎ Shows image at (Event (new_record pre))
 fill_either at bytes image piece pre fits is s = by_gate (is_open image at) refl where
   by_gate : (o : Bool) → is_open image at ≡ o → Shows image at Void ⊎ Shows image at (Event (new_record pre))
   by_gate true gate = inr (fill_gate at bytes image piece pre fits is s gate)
   by_gate false gate = inl gate
 
-pub fill_made : (at : ℕ) (bytes piece : List ℕ) (pre : PrePart) → at + 512 ≤ length bytes → IsFilling piece pre → Shows (put_at at (165 ∷ []) (put_at (at + 1) piece bytes)) at (Event (new_record pre))
+pub fill_made : (at : ℕ) (bytes piece : List ℕ) (pre : PrePart) → at + 1024 ≤ length bytes → IsFilling piece pre → Shows (put_at at (165 ∷ []) (put_at (at + 1) piece bytes)) at (Event (new_record pre))
 fill_made at bytes piece pre fits is =
     let mid = put_at (at + 1) piece bytes in
     let long = is.long in
@@ -129,7 +129,7 @@ fill_made at bytes piece pre fits is =
 -- the bytes of a crash part
 pub record IsEnding (piece : List ℕ) (crash : CrashPart) : Type 0 where
   pub written : piece ≡ crash_bytes crash
-  pub long : length piece ≡ 320
+  pub long : length piece ≡ 160
   pub part : IsCrashFrom piece 0 crash
 
 done_opens : (at : ℕ) (bytes : List ℕ) (r : Record) → r.crash ≡ None → ShowsEvent bytes at r → is_open bytes (at + 2) ≡ false
@@ -139,42 +139,42 @@ done_opens at bytes r none e = go r.crash none e.ends
     go None is ends = ends
     go (Some crash) is ends = absurd cc
 
-pub done_front : (at : ℕ) (bytes image : List ℕ) (r : Record) → at + 512 ≤ length bytes → SameBut (at + 176) 320 bytes image → r.crash ≡ None → ShowsEvent bytes at r → Shows image at (Event r)
+pub done_front : (at : ℕ) (bytes image : List ℕ) (r : Record) → at + 1024 ≤ length bytes → SameBut (at + 864) 160 bytes image → r.crash ≡ None → ShowsEvent bytes at r → Shows image at (Event r)
 done_front at bytes image r fits s none e = record {
-  opened = gate_beside (at + 176) 320 bytes image at s (omega arith) (inl (omega arith)) ∙ e.opened;
-  lock = gate_beside (at + 176) 320 bytes image (at + 1) s (omega arith) (inl (omega arith)) ∙ e.lock;
-  begins = pre_moves bytes (at + 16) image (at + 16) r.pre (beside (at + 176) 320 bytes image (at + 16) 160 s (omega arith) (inl (omega arith))) e.begins;
-  ends = subst (λ (c : Option CrashPart). ShowsCrash image at c) (sym none) (gate_beside (at + 176) 320 bytes image (at + 2) s (omega arith) (inl (omega arith)) ∙ done_opens at bytes r none e);
+  opened = gate_beside (at + 864) 160 bytes image at s (omega arith) (inl (omega arith)) ∙ e.opened;
+  lock = gate_beside (at + 864) 160 bytes image (at + 1) s (omega arith) (inl (omega arith)) ∙ e.lock;
+  begins = pre_moves bytes (at + 16) image (at + 16) r.pre (beside (at + 864) 160 bytes image (at + 16) 848 s (omega arith) (inl (omega arith))) e.begins;
+  ends = subst (λ (c : Option CrashPart). ShowsCrash image at c) (sym none) (gate_beside (at + 864) 160 bytes image (at + 2) s (omega arith) (inl (omega arith)) ∙ done_opens at bytes r none e);
 }
 
 -- a crash part is put, and its gate may have changed: the event with what the gate says of its crash part
-done_gate : (at : ℕ) (bytes image piece : List ℕ) (r : Record) (crash : Option CrashPart) → at + 512 ≤ length bytes → length piece ≡ 320 → SameBut (at + 2) 1 (put_at (at + 176) piece bytes) image
-    → (Match piece 0 image (at + 176) 320 → ShowsCrash image at crash) → ShowsEvent bytes at r → Shows image at (Event (record r { crash = crash }))
+done_gate : (at : ℕ) (bytes image piece : List ℕ) (r : Record) (crash : Option CrashPart) → at + 1024 ≤ length bytes → length piece ≡ 160 → SameBut (at + 2) 1 (put_at (at + 864) piece bytes) image
+    → (Match piece 0 image (at + 864) 160 → ShowsCrash image at crash) → ShowsEvent bytes at r → Shows image at (Event (record r { crash = crash }))
 done_gate at bytes image piece r crash fits long s ends e =
-    let mid = put_at (at + 176) piece bytes in
-    let size : length mid ≡ length bytes = put_size (at + 176) piece bytes (omega arith) in
-    let put : SameBut (at + 176) 320 bytes mid = subst (λ (n : ℕ). SameBut (at + 176) n bytes mid) long (put_same (at + 176) piece bytes (omega arith)) in
-    let there : Match piece 0 mid (at + 176) 320 = subst (λ (n : ℕ). Match piece 0 mid (at + 176) n) long (put_there (at + 176) piece bytes (omega arith)) in
+    let mid = put_at (at + 864) piece bytes in
+    let size : length mid ≡ length bytes = put_size (at + 864) piece bytes (omega arith) in
+    let put : SameBut (at + 864) 160 bytes mid = subst (λ (n : ℕ). SameBut (at + 864) n bytes mid) long (put_same (at + 864) piece bytes (omega arith)) in
+    let there : Match piece 0 mid (at + 864) 160 = subst (λ (n : ℕ). Match piece 0 mid (at + 864) n) long (put_there (at + 864) piece bytes (omega arith)) in
     record {
-      opened = gate_beside (at + 2) 1 mid image at s (omega arith) (inl (omega arith)) ∙ gate_beside (at + 176) 320 bytes mid at put (omega arith) (inl (omega arith)) ∙ e.opened;
-      lock = gate_beside (at + 2) 1 mid image (at + 1) s (omega arith) (inl (omega arith)) ∙ gate_beside (at + 176) 320 bytes mid (at + 1) put (omega arith) (inl (omega arith)) ∙ e.lock;
-      begins = pre_moves mid (at + 16) image (at + 16) r.pre (beside (at + 2) 1 mid image (at + 16) 160 s (omega arith) (inr (omega arith)))
-          (pre_moves bytes (at + 16) mid (at + 16) r.pre (beside (at + 176) 320 bytes mid (at + 16) 160 put (omega arith) (inl (omega arith))) e.begins);
-      ends = ends (match_chain piece 0 mid (at + 176) image (at + 176) 320 there (beside (at + 2) 1 mid image (at + 176) 320 s (omega arith) (inr (omega arith))));
+      opened = gate_beside (at + 2) 1 mid image at s (omega arith) (inl (omega arith)) ∙ gate_beside (at + 864) 160 bytes mid at put (omega arith) (inl (omega arith)) ∙ e.opened;
+      lock = gate_beside (at + 2) 1 mid image (at + 1) s (omega arith) (inl (omega arith)) ∙ gate_beside (at + 864) 160 bytes mid (at + 1) put (omega arith) (inl (omega arith)) ∙ e.lock;
+      begins = pre_moves mid (at + 16) image (at + 16) r.pre (beside (at + 2) 1 mid image (at + 16) 848 s (omega arith) (inr (omega arith)))
+          (pre_moves bytes (at + 16) mid (at + 16) r.pre (beside (at + 864) 160 bytes mid (at + 16) 848 put (omega arith) (inl (omega arith))) e.begins);
+      ends = ends (match_chain piece 0 mid (at + 864) image (at + 864) 160 there (beside (at + 2) 1 mid image (at + 864) 160 s (omega arith) (inr (omega arith))));
     }
 
-pub done_either : (at : ℕ) (bytes image piece : List ℕ) (r : Record) (crash : CrashPart) → at + 512 ≤ length bytes → IsEnding piece crash → SameBut (at + 2) 1 (put_at (at + 176) piece bytes) image
+pub done_either : (at : ℕ) (bytes image piece : List ℕ) (r : Record) (crash : CrashPart) → at + 1024 ≤ length bytes → IsEnding piece crash → SameBut (at + 2) 1 (put_at (at + 864) piece bytes) image
     → r.crash ≡ None → ShowsEvent bytes at r → Shows image at (Event r) ⊎ Shows image at (Event (record r { crash = Some crash }))
 done_either at bytes image piece r crash fits is s none e = by_gate (is_open image (at + 2)) refl where
   by_gate : (o : Bool) → is_open image (at + 2) ≡ o → Shows image at (Event r) ⊎ Shows image at (Event (record r { crash = Some crash }))
-  by_gate true gate = inr (done_gate at bytes image piece r (Some crash) fits is.long s (λ h. (gate, crash_moves piece 0 image (at + 176) crash h is.part)) e)
+  by_gate true gate = inr (done_gate at bytes image piece r (Some crash) fits is.long s (λ h. (gate, crash_moves piece 0 image (at + 864) crash h is.part)) e)
   by_gate false gate = inl (subst (λ (c : Option CrashPart). ShowsEvent image at (record r { crash = c })) (sym none) (done_gate at bytes image piece r None fits is.long s (λ h. gate) e))
 
-pub done_made : (at : ℕ) (bytes piece : List ℕ) (r : Record) (crash : CrashPart) → at + 512 ≤ length bytes → IsEnding piece crash → ShowsEvent bytes at r
-    → Shows (put_at (at + 2) (165 ∷ []) (put_at (at + 176) piece bytes)) at (Event (record r { crash = Some crash }))
+pub done_made : (at : ℕ) (bytes piece : List ℕ) (r : Record) (crash : CrashPart) → at + 1024 ≤ length bytes → IsEnding piece crash → ShowsEvent bytes at r
+    → Shows (put_at (at + 2) (165 ∷ []) (put_at (at + 864) piece bytes)) at (Event (record r { crash = Some crash }))
 done_made at bytes piece r crash fits is e =
     let long = is.long in
-    let mid = put_at (at + 176) piece bytes in
+    let mid = put_at (at + 864) piece bytes in
     let image = put_at (at + 2) (165 ∷ []) mid in
-    let size : length mid ≡ length bytes = put_size (at + 176) piece bytes (omega arith) in
-    done_gate at bytes image piece r (Some crash) fits long (put_same (at + 2) (165 ∷ []) mid (omega arith)) (λ h. (put_gate (at + 2) mid (omega arith), crash_moves piece 0 image (at + 176) crash h is.part)) e
+    let size : length mid ≡ length bytes = put_size (at + 864) piece bytes (omega arith) in
+    done_gate at bytes image piece r (Some crash) fits long (put_same (at + 2) (165 ∷ []) mid (omega arith)) (λ h. (put_gate (at + 2) mid (omega arith), crash_moves piece 0 image (at + 864) crash h is.part)) e

@@ -1,9 +1,9 @@
 -- Bytes that match others, at a place of their own: what is read from them is the same.
 use Rattle.std.proofs.Common.{◌≡◌, ◌≤◌, ◌<◌, ◌+◌, ◌∙◌, ℕ, zero, suc, Option, Some, None, option_map, List, slice_index, slice_range, refl, sym, ap, arith}
-use Rattle.edr_image.specs.declared.forms.TheConstants.{VERSION_1}
+use Rattle.edr_image.specs.declared.forms.TheConstants.{VERSION_2}
 use Rattle.edr_image.specs.PartBytes.{crash_at, crash_damage, number_at, pre_at, pre_damage}
 use Rattle.edr_codec.proofs.MovedLaws.{StandsAt, crash_at-moved, crash_damage-moved, pre_at-moved, pre_damage-moved, range-stands}
-use Rattle.edr_codec.proofs.VersionLemmas.{version_1-form}
+use Rattle.edr_codec.proofs.VersionLemmas.{version_2-form}
 
 -- n bytes from a on are those of the other list from b on
 pub record Match (xs : List ℕ) (a : ℕ) (ys : List ℕ) (b n : ℕ) : Type 0 where
@@ -58,24 +58,24 @@ moved_none at (Some k) e = absurd cc
 same_part : (xs : List ℕ) (a : ℕ) (ys : List ℕ) (b n : ℕ) → Match xs a ys b n → StandsAt n b ys (slice_range xs a (a + n))
 same_part xs a ys b n h = λ i below. sym (h.same i below) ∙ range-stands xs a n i below
 
-pub pre_none : (xs : List ℕ) (a : ℕ) (ys : List ℕ) (b : ℕ) → Match xs a ys b 160 → pre_damage xs a ≡ None → pre_damage ys b ≡ None
+pub pre_none : (xs : List ℕ) (a : ℕ) (ys : List ℕ) (b : ℕ) → Match xs a ys b 848 → pre_damage xs a ≡ None → pre_damage ys b ≡ None
 pre_none xs a ys b h e =
-    let part = slice_range xs a (a + 160) in
-    let none = moved_none a (pre_damage part 0) (sym (pre_damage-moved VERSION_1.pre version_1-form a xs part (range-stands xs a 160)) ∙ e) in
-    pre_damage-moved VERSION_1.pre version_1-form b ys part (same_part xs a ys b 160 h) ∙ ap (option_map (λ k. b + k)) none
+    let part = slice_range xs a (a + 848) in
+    let none = moved_none a (pre_damage part 0) (sym (pre_damage-moved VERSION_2.pre version_2-form a xs part (range-stands xs a 848)) ∙ e) in
+    pre_damage-moved VERSION_2.pre version_2-form b ys part (same_part xs a ys b 848 h) ∙ ap (option_map (λ k. b + k)) none
 
-pub pre_same : (xs : List ℕ) (a : ℕ) (ys : List ℕ) (b : ℕ) → Match xs a ys b 160 → pre_at xs a ≡ pre_at ys b
+pub pre_same : (xs : List ℕ) (a : ℕ) (ys : List ℕ) (b : ℕ) → Match xs a ys b 848 → pre_at xs a ≡ pre_at ys b
 pre_same xs a ys b h =
-    let part = slice_range xs a (a + 160) in
-    pre_at-moved VERSION_1.pre version_1-form a xs part (range-stands xs a 160) ∙ sym (pre_at-moved VERSION_1.pre version_1-form b ys part (same_part xs a ys b 160 h))
+    let part = slice_range xs a (a + 848) in
+    pre_at-moved VERSION_2.pre version_2-form a xs part (range-stands xs a 848) ∙ sym (pre_at-moved VERSION_2.pre version_2-form b ys part (same_part xs a ys b 848 h))
 
-pub crash_none : (xs : List ℕ) (a : ℕ) (ys : List ℕ) (b : ℕ) → Match xs a ys b 320 → crash_damage xs a ≡ None → crash_damage ys b ≡ None
+pub crash_none : (xs : List ℕ) (a : ℕ) (ys : List ℕ) (b : ℕ) → Match xs a ys b 160 → crash_damage xs a ≡ None → crash_damage ys b ≡ None
 crash_none xs a ys b h e =
-    let part = slice_range xs a (a + 320) in
-    let none = moved_none a (crash_damage part 0) (sym (crash_damage-moved VERSION_1.crash a xs part (range-stands xs a 320)) ∙ e) in
-    crash_damage-moved VERSION_1.crash b ys part (same_part xs a ys b 320 h) ∙ ap (option_map (λ k. b + k)) none
+    let part = slice_range xs a (a + 160) in
+    let none = moved_none a (crash_damage part 0) (sym (crash_damage-moved VERSION_2.crash a xs part (range-stands xs a 160)) ∙ e) in
+    crash_damage-moved VERSION_2.crash b ys part (same_part xs a ys b 160 h) ∙ ap (option_map (λ k. b + k)) none
 
-pub crash_same : (xs : List ℕ) (a : ℕ) (ys : List ℕ) (b : ℕ) → Match xs a ys b 320 → crash_at xs a ≡ crash_at ys b
+pub crash_same : (xs : List ℕ) (a : ℕ) (ys : List ℕ) (b : ℕ) → Match xs a ys b 160 → crash_at xs a ≡ crash_at ys b
 crash_same xs a ys b h =
-    let part = slice_range xs a (a + 320) in
-    crash_at-moved VERSION_1.crash a xs part (range-stands xs a 320) ∙ sym (crash_at-moved VERSION_1.crash b ys part (same_part xs a ys b 320 h))
+    let part = slice_range xs a (a + 160) in
+    crash_at-moved VERSION_2.crash a xs part (range-stands xs a 160) ∙ sym (crash_at-moved VERSION_2.crash b ys part (same_part xs a ys b 160 h))

@@ -34,10 +34,10 @@ same_chain : (at m : ℕ) (bytes mid image : List ℕ) → SameBut at m bytes mi
 same_chain at m bytes mid image a b = record { size = b.size ∙ a.size; same = λ i below out. b.same i (subst (λ l. i < l) (sym a.size) below) out ∙ a.same i below out }
 
 -- a piece that is put into a bank, and then a gate of it that may have changed
-gated_in : (at k gate : ℕ) (piece bytes image : List ℕ) → at + 512 ≤ length bytes → at ≤ k → k + length piece ≤ at + 512 → at ≤ gate → gate + 1 ≤ at + 512 → SameBut gate 1 (put_at k piece bytes) image → SameBut at 512 bytes image
+gated_in : (at k gate : ℕ) (piece bytes image : List ℕ) → at + 1024 ≤ length bytes → at ≤ k → k + length piece ≤ at + 1024 → at ≤ gate → gate + 1 ≤ at + 1024 → SameBut gate 1 (put_at k piece bytes) image → SameBut at 1024 bytes image
 gated_in at k gate piece bytes image fits low high gate_low gate_high s =
-    same_chain at 512 bytes (put_at k piece bytes) image (same_wider k (length piece) at 512 bytes (put_at k piece bytes) low high (put_same k piece bytes (omega arith)))
-    (same_wider gate 1 at 512 (put_at k piece bytes) image gate_low gate_high s)
+    same_chain at 1024 bytes (put_at k piece bytes) image (same_wider k (length piece) at 1024 bytes (put_at k piece bytes) low high (put_same k piece bytes (omega arith)))
+    (same_wider gate 1 at 1024 (put_at k piece bytes) image gate_low gate_high s)
 
 -- ---- bytes that a step doesn't write
 
@@ -62,15 +62,15 @@ fill_keeps m pre piece bytes image fits is s i below out =
     let put = put_same (place_of m + 1) piece bytes fits in
     s.same i (subst (λ n. i < n) (sym put.size) below) (out.0 1 (open_gate 0) (omega arith)) ∙ fill_keeps_front m pre piece bytes (put_at (place_of m + 1) piece bytes) is put i below out
 
-done_keeps_front : (m : ℕ) (crash : CrashPart) (piece bytes image : List ℕ) → IsEnding piece crash → SameBut (place_of m + 176) (length piece) bytes image → KeepsUnwritten (Done m crash) bytes image
+done_keeps_front : (m : ℕ) (crash : CrashPart) (piece bytes image : List ℕ) → IsEnding piece crash → SameBut (place_of m + 864) (length piece) bytes image → KeepsUnwritten (Done m crash) bytes image
 unfolding writes_of
-done_keeps_front m crash piece bytes image is s i below out = s.same i below (subst (λ (xs : List ℕ). is_in (place_of m + 176) (length xs) i ≡ false) (sym is.written) (out.0 0 (open_gate 0) (omega arith)))
+done_keeps_front m crash piece bytes image is s i below out = s.same i below (subst (λ (xs : List ℕ). is_in (place_of m + 864) (length xs) i ≡ false) (sym is.written) (out.0 0 (open_gate 0) (omega arith)))
 
-done_keeps : (m : ℕ) (crash : CrashPart) (piece bytes image : List ℕ) → place_of m + 176 + length piece ≤ length bytes → IsEnding piece crash → SameBut (place_of m + 2) 1 (put_at (place_of m + 176) piece bytes) image → KeepsUnwritten (Done m crash) bytes image
+done_keeps : (m : ℕ) (crash : CrashPart) (piece bytes image : List ℕ) → place_of m + 864 + length piece ≤ length bytes → IsEnding piece crash → SameBut (place_of m + 2) 1 (put_at (place_of m + 864) piece bytes) image → KeepsUnwritten (Done m crash) bytes image
 unfolding writes_of
 done_keeps m crash piece bytes image fits is s i below out =
-    let put = put_same (place_of m + 176) piece bytes fits in
-    s.same i (subst (λ n. i < n) (sym put.size) below) (out.0 1 (open_gate 0) (omega arith)) ∙ done_keeps_front m crash piece bytes (put_at (place_of m + 176) piece bytes) is put i below out
+    let put = put_same (place_of m + 864) piece bytes fits in
+    s.same i (subst (λ n. i < n) (sym put.size) below) (out.0 1 (open_gate 0) (omega arith)) ∙ done_keeps_front m crash piece bytes (put_at (place_of m + 864) piece bytes) is put i below out
 
 -- ---- views
 
@@ -87,7 +87,7 @@ bank_is : (banks : List BankView) (m : ℕ) (view : BankView) → Holds banks m 
 bank_is banks m view holds = get_or_from_slice_get banks (m - 1) view Void holds.1
 
 -- the bank of the step says what it said
-not_done : (s : Step) (bytes image : List ℕ) (v : View) (old : BankView) → view_of bytes ≡ Some v → Holds v.store.banks (bank_of s) old → SameBut (place_of (bank_of s)) 512 bytes image → KeepsUnwritten s bytes image → Shows image (place_of (bank_of s)) old → HasDone (s ∷ []) [] bytes v image
+not_done : (s : Step) (bytes image : List ℕ) (v : View) (old : BankView) → view_of bytes ≡ Some v → Holds v.store.banks (bank_of s) old → SameBut (place_of (bank_of s)) 1024 bytes image → KeepsUnwritten s bytes image → Shows image (place_of (bank_of s)) old → HasDone (s ∷ []) [] bytes v image
 not_done s bytes image v old e holds same keeps shows = record {
   size = same.size;
   same = λ i below aside. same.same i below aside.0;
@@ -96,7 +96,7 @@ not_done s bytes image v old e holds same keeps shows = record {
 }
 
 -- the bank of the step says what the step makes of it
-is_done : (s : Step) (bytes image : List ℕ) (v : View) (old new : BankView) → view_of bytes ≡ Some v → Holds v.store.banks (bank_of s) old → SameBut (place_of (bank_of s)) 512 bytes image → KeepsUnwritten s bytes image → Shows image (place_of (bank_of s)) new
+is_done : (s : Step) (bytes image : List ℕ) (v : View) (old new : BankView) → view_of bytes ≡ Some v → Holds v.store.banks (bank_of s) old → SameBut (place_of (bank_of s)) 1024 bytes image → KeepsUnwritten s bytes image → Shows image (place_of (bank_of s)) new
     → with_bank v.store.banks (bank_of s) new ≡ (after v.store (s ∷ [])).banks → HasDone (s ∷ []) (s ∷ []) bytes v image
 is_done s bytes image v old new e holds same keeps shows makes = record {
   size = same.size;
@@ -117,7 +117,7 @@ pub erase_image : (m : ℕ) (bytes image : List ℕ) (v : View) → view_of byte
 erase_image m bytes image v e may s =
     let at = place_of m in
     let old = view_shows bytes v m (Event may.0) e may.1 (event_is_whole may.0) in
-    let wide = same_wider at 1 at 512 bytes image (omega arith) (omega arith) s in
+    let wide = same_wider at 1 at 1024 bytes image (omega arith) (omega arith) s in
     let keeps = erase_keeps m bytes image s in
     ⊎_elim
     (λ (same : Shows image at (Event may.0)). inl (not_done (Erase m) bytes image v (Event may.0) e may.1 wide keeps same))
@@ -129,7 +129,7 @@ erase_whole m bytes v e may =
     let at = place_of m in
     let old = view_shows bytes v m (Event may.0) e may.1 (event_is_whole may.0) in
     let fits = old.0 in
-    let wide = same_wider at 1 at 512 bytes _ (omega arith) (omega arith) (put_same at (0 ∷ []) bytes (omega arith)) in
+    let wide = same_wider at 1 at 1024 bytes _ (omega arith) (omega arith) (put_same at (0 ∷ []) bytes (omega arith)) in
     let keeps = erase_keeps m bytes (put_at at (0 ∷ []) bytes) (put_same at (0 ∷ []) bytes (omega arith)) in
     is_done (Erase m) bytes _ v (Event may.0) Void e may.1 wide keeps (erase_made at bytes fits) refl
 
@@ -140,7 +140,7 @@ lock_image m bytes image v e may s =
     let at = place_of m in
     let r = may.0 in
     let old = view_shows bytes v m (Event r) e may.1 (event_is_whole r) in
-    let wide = same_wider (at + 1) 1 at 512 bytes image (omega arith) (omega arith) s in
+    let wide = same_wider (at + 1) 1 at 1024 bytes image (omega arith) (omega arith) s in
     let keeps = lock_keeps m bytes image s in
     ⊎_elim
     (λ (same : Shows image at (Event r)). inl (not_done (Lock m) bytes image v (Event r) e may.1 wide keeps same))
@@ -153,7 +153,7 @@ lock_whole m bytes v e may =
     let r = may.0 in
     let old = view_shows bytes v m (Event r) e may.1 (event_is_whole r) in
     let fits = old.0 in
-    let wide = same_wider (at + 1) 1 at 512 bytes _ (omega arith) (omega arith) (put_same (at + 1) (165 ∷ []) bytes (omega arith)) in
+    let wide = same_wider (at + 1) 1 at 1024 bytes _ (omega arith) (omega arith) (put_same (at + 1) (165 ∷ []) bytes (omega arith)) in
     let keeps = lock_keeps m bytes (put_at (at + 1) (165 ∷ []) bytes) (put_same (at + 1) (165 ∷ []) bytes (omega arith)) in
     is_done (Lock m) bytes _ v (Event r) (Event (record r { locked = true })) e may.1 wide keeps (lock_made at bytes r fits old.1) (lock_makes v.store.banks m r may.1)
 
@@ -164,7 +164,7 @@ fill_before m pre piece bytes image v e may is same =
     let at = place_of m in
     let s = subst (λ (n : ℕ). SameBut (at + 1) n bytes image) is.long same in
     let old = view_shows bytes v m Void e may void_is_whole in
-    let wide = same_wider (at + 1) 175 at 512 bytes image (omega arith) (omega arith) s in
+    let wide = same_wider (at + 1) 863 at 1024 bytes image (omega arith) (omega arith) s in
     let keeps = fill_keeps_front m pre piece bytes image is same in
     not_done (Fill m pre) bytes image v Void e may wide keeps (fill_front at bytes image old.0 s old.1)
 
@@ -195,25 +195,25 @@ fill_whole m pre piece bytes v e may is =
 
 -- ---- done
 
-pub done_before : (m : ℕ) (crash : CrashPart) (piece bytes image : List ℕ) (v : View) → view_of bytes ≡ Some v → MayTake v.store.banks (Done m crash) → IsEnding piece crash → SameBut (place_of m + 176) (length piece) bytes image → HasDone (Done m crash ∷ []) [] bytes v image
+pub done_before : (m : ℕ) (crash : CrashPart) (piece bytes image : List ℕ) (v : View) → view_of bytes ≡ Some v → MayTake v.store.banks (Done m crash) → IsEnding piece crash → SameBut (place_of m + 864) (length piece) bytes image → HasDone (Done m crash ∷ []) [] bytes v image
 done_before m crash piece bytes image v e may is same =
     let at = place_of m in
-    let s = subst (λ (n : ℕ). SameBut (at + 176) n bytes image) is.long same in
+    let s = subst (λ (n : ℕ). SameBut (at + 864) n bytes image) is.long same in
     let r = may.0 in
     let old = view_shows bytes v m (Event r) e may.1 (event_is_whole r) in
-    let wide = same_wider (at + 176) 320 at 512 bytes image (omega arith) (omega arith) s in
+    let wide = same_wider (at + 864) 160 at 1024 bytes image (omega arith) (omega arith) s in
     let keeps = done_keeps_front m crash piece bytes image is same in
     not_done (Done m crash) bytes image v (Event r) e may.1 wide keeps (done_front at bytes image r old.0 s may.2 old.1)
 
 pub done_image : (m : ℕ) (crash : CrashPart) (piece bytes image : List ℕ) (v : View) → view_of bytes ≡ Some v → MayTake v.store.banks (Done m crash) → IsEnding piece crash
-    → SameBut (place_of m + 2) 1 (put_at (place_of m + 176) piece bytes) image → Either (Done m crash) bytes v image
+    → SameBut (place_of m + 2) 1 (put_at (place_of m + 864) piece bytes) image → Either (Done m crash) bytes v image
 done_image m crash piece bytes image v e may is s =
     let at = place_of m in
     let long = is.long in
     let r = may.0 in
     let old = view_shows bytes v m (Event r) e may.1 (event_is_whole r) in
     let fits = old.0 in
-    let wide = gated_in at (at + 176) (at + 2) piece bytes image fits (omega arith) (omega arith) (omega arith) (omega arith) s in
+    let wide = gated_in at (at + 864) (at + 2) piece bytes image fits (omega arith) (omega arith) (omega arith) (omega arith) s in
     let keeps = done_keeps m crash piece bytes image (omega arith) is s in
     ⊎_elim
     (λ (same : Shows image at (Event r)). inl (not_done (Done m crash) bytes image v (Event r) e may.1 wide keeps same))
@@ -221,15 +221,15 @@ done_image m crash piece bytes image v e may is s =
     (done_either at bytes image piece r crash fits is s may.2 old.1)
 
 pub done_whole : (m : ℕ) (crash : CrashPart) (piece bytes : List ℕ) (v : View) → view_of bytes ≡ Some v → MayTake v.store.banks (Done m crash) → IsEnding piece crash
-    → HasDone (Done m crash ∷ []) (Done m crash ∷ []) bytes v (put_at (place_of m + 2) (165 ∷ []) (put_at (place_of m + 176) piece bytes))
+    → HasDone (Done m crash ∷ []) (Done m crash ∷ []) bytes v (put_at (place_of m + 2) (165 ∷ []) (put_at (place_of m + 864) piece bytes))
 done_whole m crash piece bytes v e may is =
     let at = place_of m in
     let long = is.long in
     let r = may.0 in
     let old = view_shows bytes v m (Event r) e may.1 (event_is_whole r) in
     let fits = old.0 in
-    let mid = put_at (at + 176) piece bytes in
-    let size : length mid ≡ length bytes = put_size (at + 176) piece bytes (omega arith) in
-    let wide = gated_in at (at + 176) (at + 2) piece bytes _ fits (omega arith) (omega arith) (omega arith) (omega arith) (put_same (at + 2) (165 ∷ []) mid (omega arith)) in
+    let mid = put_at (at + 864) piece bytes in
+    let size : length mid ≡ length bytes = put_size (at + 864) piece bytes (omega arith) in
+    let wide = gated_in at (at + 864) (at + 2) piece bytes _ fits (omega arith) (omega arith) (omega arith) (omega arith) (put_same (at + 2) (165 ∷ []) mid (omega arith)) in
     let keeps = done_keeps m crash piece bytes (put_at (at + 2) (165 ∷ []) mid) (omega arith) is (put_same (at + 2) (165 ∷ []) mid (omega arith)) in
     is_done (Done m crash) bytes _ v (Event r) (Event (record r { crash = Some crash })) e may.1 wide keeps (done_made at bytes piece r crash fits is old.1) (done_makes v.store.banks m r crash may.1)

@@ -108,18 +108,18 @@ count_stays xs ys h = rw (slot_stays xs ys 32 (omega arith) h, slot_stays xs ys 
 
 -- ---- the banks
 
-match_range : (bytes : List ℕ) (at : ℕ) → at + 512 ≤ length bytes → Match (slice_range bytes at (at + 512)) 0 bytes at 512
+match_range : (bytes : List ℕ) (at : ℕ) → at + 1024 ≤ length bytes → Match (slice_range bytes at (at + 1024)) 0 bytes at 1024
 match_range bytes at fits = record { same = λ j below. zero_first j ∙ there bytes at j fits below }
   where
-    zero_first : (j : ℕ) → slice_index (slice_range bytes at (at + 512)) (0 + j) ≡ slice_index (slice_range bytes at (at + 512)) j
+    zero_first : (j : ℕ) → slice_index (slice_range bytes at (at + 1024)) (0 + j) ≡ slice_index (slice_range bytes at (at + 1024)) j
     zero_first j = let e : 0 + j ≡ j = omega arith in rw e refl
 
-    there : (bytes : List ℕ) (at j : ℕ) → at + 512 ≤ length bytes → j < 512 → slice_index (slice_range bytes at (at + 512)) j ≡ slice_index bytes (at + j)
+    there : (bytes : List ℕ) (at j : ℕ) → at + 1024 ≤ length bytes → j < 1024 → slice_index (slice_range bytes at (at + 1024)) j ≡ slice_index bytes (at + j)
     there bytes at j fits below = grind (arith, common_steps)
 
 -- what the bank m shows
 abbrev bank_in : List ℕ → ℕ → BankView
-bank_in bytes m = bank_view (slice_range bytes (place_of m) (place_of m + 512))
+bank_in bytes m = bank_view (slice_range bytes (place_of m) (place_of m + 1024))
 
 abbrev banks_in : ℕ → List ℕ → List BankView
 banks_in n bytes = map (bank_in bytes) (range_with_len 1 n)
@@ -131,30 +131,30 @@ banks_at : (n j : ℕ) (bytes : List ℕ) (d : BankView) → j < n → get_or (b
 banks_at n j bytes d below = get_or-map-range_with_len (bank_in bytes) 1 n j (1 + j) d below refl
 
 -- a bank beside the range
-bank_beside : (k n : ℕ) (bytes image : List ℕ) (at : ℕ) → SameBut k n bytes image → at + 512 ≤ length bytes → (at + 512 ≤ k) ⊎ (k + n ≤ at) → slice_range image at (at + 512) ≡ slice_range bytes at (at + 512)
+bank_beside : (k n : ℕ) (bytes image : List ℕ) (at : ℕ) → SameBut k n bytes image → at + 1024 ≤ length bytes → (at + 1024 ≤ k) ⊎ (k + n ≤ at) → slice_range image at (at + 1024) ≡ slice_range bytes at (at + 1024)
 bank_beside k n bytes image at s fits out =
-    let fits' : at + 512 ≤ length image = let size = s.size in omega arith in
+    let fits' : at + 1024 ≤ length image = let size = s.size in omega arith in
     let here = match_range bytes at fits in
     let there = match_range image at fits' in
-    let beside = beside k n bytes image at 512 s fits out in
-    same_number_lists (slice_range image at (at + 512)) (slice_range bytes at (at + 512)) (range_length image at fits' ∙ sym (range_length bytes at fits)) (λ j below.
-    let below' : j < 512 = subst (λ (l : ℕ). j < l) (range_length image at fits') below in
-    plain (slice_range image at (at + 512)) j ∙ there.same j below' ∙ sym (beside.same j below') ∙ sym (here.same j below') ∙ sym (plain (slice_range bytes at (at + 512)) j))
+    let beside = beside k n bytes image at 1024 s fits out in
+    same_number_lists (slice_range image at (at + 1024)) (slice_range bytes at (at + 1024)) (range_length image at fits' ∙ sym (range_length bytes at fits)) (λ j below.
+    let below' : j < 1024 = subst (λ (l : ℕ). j < l) (range_length image at fits') below in
+    plain (slice_range image at (at + 1024)) j ∙ there.same j below' ∙ sym (beside.same j below') ∙ sym (here.same j below') ∙ sym (plain (slice_range bytes at (at + 1024)) j))
   where
-    range_length : (xs : List ℕ) (at : ℕ) → at + 512 ≤ length xs → length (slice_range xs at (at + 512)) ≡ 512
+    range_length : (xs : List ℕ) (at : ℕ) → at + 1024 ≤ length xs → length (slice_range xs at (at + 1024)) ≡ 1024
     range_length xs at fits = grind (arith, common_steps)
 
     plain : (xs : List ℕ) (j : ℕ) → slice_index xs j ≡ slice_index xs (0 + j)
     plain xs j = let e : 0 + j ≡ j = omega arith in rw e refl
 
-apart : (j m : ℕ) → 1 ≤ m → j ≢ m - 1 → (place_of (1 + j) + 512 ≤ place_of m) ⊎ (place_of m + 512 ≤ place_of (1 + j))
+apart : (j m : ℕ) → 1 ≤ m → j ≢ m - 1 → (place_of (1 + j) + 1024 ≤ place_of m) ⊎ (place_of m + 1024 ≤ place_of (1 + j))
 apart j m low h = grind arith
 
 split : (j k : ℕ) → (j ≡ k) ⊎ (j ≢ k)
 split j k = grind arith
 
 -- where only the bank m may have changed
-banks_but : (n m : ℕ) (bytes image : List ℕ) → 1 ≤ m → m ≤ n → image_size n ≤ length bytes → SameBut (place_of m) 512 bytes image → banks_in n image ≡ slice_set (banks_in n bytes) (m - 1) (bank_in image m)
+banks_but : (n m : ℕ) (bytes image : List ℕ) → 1 ≤ m → m ≤ n → image_size n ≤ length bytes → SameBut (place_of m) 1024 bytes image → banks_in n image ≡ slice_set (banks_in n bytes) (m - 1) (bank_in image m)
 banks_but n m bytes image low high fits s =
     same_lists (banks_in n image) (slice_set (banks_in n bytes) (m - 1) (bank_in image m)) (banks_length n image ∙ sym (length-set (banks_in n bytes) (m - 1) (bank_in image m) ∙ banks_length n bytes)) (λ j d below.
     let below' : j < n = subst (λ (l : ℕ). j < l) (banks_length n image) below in
@@ -162,7 +162,7 @@ banks_but n m bytes image low high fits s =
     (λ (same : j ≡ m - 1). ap (λ (i : ℕ). get_or (slice_set (banks_in n bytes) (m - 1) (bank_in image m)) i d) same
     ∙ get_or-set_same (banks_in n bytes) (m - 1) (bank_in image m) d (subst (λ (l : ℕ). m - 1 < l) (sym (banks_length n bytes)) (omega arith)) ∙ ap (bank_in image) (number j same))
     (λ (other : j ≢ m - 1). get_or-set_other (banks_in n bytes) (m - 1) j (bank_in image m) d other ∙ banks_at n j bytes d below'
-    ∙ ap bank_view (sym (bank_beside (place_of m) 512 bytes image (place_of (1 + j)) s (omega arith) (apart j m low other))))
+    ∙ ap bank_view (sym (bank_beside (place_of m) 1024 bytes image (place_of (1 + j)) s (omega arith) (apart j m low other))))
     (split j (m - 1))))
   where
     number : (j : ℕ) → j ≡ m - 1 → m ≡ 1 + j
@@ -174,7 +174,7 @@ banks_but n m bytes image low high fits s =
 abbrev pub IsWhole : BankView → Type 0
 IsWhole view = (o b : ℕ) (l : Bool) → view ≡ Damaged o b l → ⊥
 
-pub view_shows : (bytes : List ℕ) (v : View) (m : ℕ) (view : BankView) → view_of bytes ≡ Some v → Holds v.store.banks m view → IsWhole view → (place_of m + 512 ≤ length bytes) × Shows bytes (place_of m) view
+pub view_shows : (bytes : List ℕ) (v : View) (m : ℕ) (view : BankView) → view_of bytes ≡ Some v → Holds v.store.banks m view → IsWhole view → (place_of m + 1024 ≤ length bytes) × Shows bytes (place_of m) view
 view_shows bytes v m view e holds whole =
     let is = seen bytes v e in
     let n = slice_index bytes 10 in
@@ -182,12 +182,12 @@ view_shows bytes v m view e holds whole =
     let within : m - 1 < n = subst (λ (l : ℕ). m - 1 < l) (banks_length n bytes) (slice_get_within (banks_in n bytes) (m - 1) view here) in
     let long = is.long in
     let low = holds.0 in
-    let fits : place_of m + 512 ≤ length bytes = omega arith in
+    let fits : place_of m + 1024 ≤ length bytes = omega arith in
     let number : 1 + (m - 1) ≡ m = omega arith in
     let bank : bank_in bytes m ≡ view = subst (λ (k : ℕ). bank_in bytes k ≡ view) number (sym (banks_at n (m - 1) bytes view within) ∙ get_or_from_slice_get (banks_in n bytes) (m - 1) view view here) in
     (fits, shows_moves _ 0 bytes (place_of m) view (match_range bytes (place_of m) fits) (bank_shows _ view bank whole))
 
-pub view_but : (bytes image : List ℕ) (v : View) (m : ℕ) (old new : BankView) → view_of bytes ≡ Some v → Holds v.store.banks m old → SameBut (place_of m) 512 bytes image → Shows image (place_of m) new
+pub view_but : (bytes image : List ℕ) (v : View) (m : ℕ) (old new : BankView) → view_of bytes ≡ Some v → Holds v.store.banks m old → SameBut (place_of m) 1024 bytes image → Shows image (place_of m) new
     → view_of image ≡ Some (record v { store = record v.store { banks = with_bank v.store.banks m new } })
 view_but bytes image v m old new e holds s shows =
     let is = seen bytes v e in
@@ -197,9 +197,9 @@ view_but bytes image v m old new e holds s shows =
     let long = is.long in
     let low = holds.0 in
     let size = s.size in
-    let fits : place_of m + 512 ≤ length image = omega arith in
-    let front : Match bytes 0 image 0 96 = beside (place_of m) 512 bytes image 0 96 s (omega arith) (inl (omega arith)) in
-    let bank : bank_in image m ≡ new = shows_bank _ new (shows_moves image (place_of m) _ 0 new (match_back _ 0 image (place_of m) 512 (match_range image (place_of m) fits)) shows) in
+    let fits : place_of m + 1024 ≤ length image = omega arith in
+    let front : Match bytes 0 image 0 96 = beside (place_of m) 1024 bytes image 0 96 s (omega arith) (inl (omega arith)) in
+    let bank : bank_in image m ≡ new = shows_bank _ new (shows_moves image (place_of m) _ 0 new (match_back _ 0 image (place_of m) 1024 (match_range image (place_of m) fits)) shows) in
     let banks : banks_in n image ≡ slice_set (banks_in n bytes) (m - 1) new = banks_but n m bytes image low (omega arith) is.long s ∙ ap (slice_set (banks_in n bytes) (m - 1)) bank in
     let count : slice_index image 10 ≡ n = sym (byte_at bytes image 96 10 front (omega arith)) in
     let header = header_back bytes image front in

@@ -66,9 +66,9 @@ pub fill_writes : (m : ℕ) (pre : PrePart) (piece bytes : List ℕ) → piece �
 unfolding writes_of
 fill_writes m pre piece bytes same = ap (λ (xs : List ℕ). put_at (place_of m) (165 ∷ []) (put_at (place_of m + 1) xs bytes)) same
 
-pub done_writes : (m : ℕ) (crash : CrashPart) (piece bytes : List ℕ) → piece ≡ crash_bytes crash → put_at (place_of m + 2) (165 ∷ []) (put_at (place_of m + 176) piece bytes) ≡ image_after bytes (Done m crash ∷ [])
+pub done_writes : (m : ℕ) (crash : CrashPart) (piece bytes : List ℕ) → piece ≡ crash_bytes crash → put_at (place_of m + 2) (165 ∷ []) (put_at (place_of m + 864) piece bytes) ≡ image_after bytes (Done m crash ∷ [])
 unfolding writes_of
-done_writes m crash piece bytes same = ap (λ (xs : List ℕ). put_at (place_of m + 2) (165 ∷ []) (put_at (place_of m + 176) xs bytes)) same
+done_writes m crash piece bytes same = ap (λ (xs : List ℕ). put_at (place_of m + 2) (165 ∷ []) (put_at (place_of m + 864) xs bytes)) same
 
 -- ---- a gate alone
 

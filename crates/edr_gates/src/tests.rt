@@ -25,8 +25,8 @@ const PRE: Pre = Pre {
 };
 
 // A crash part that ends at 115 ms: along it falls by 4 km/h in each 10 ms, to -39 km/h at 97 ms.
-fn crash_bytes() -> [u8; 320] {
-    let mut bytes = [0; 320];
+fn crash_bytes() -> [u8; 160] {
+    let mut bytes = [0; 160];
     bytes[1] = 0x73;
     bytes[4..32].copy_from_slice(&[
         0xff, 0xfc, 0xff, 0xf8, 0xff, 0xf4, 0xff, 0xf0, 0xff, 0xec, 0xff, 0xe8, 0xff, 0xe4, 0xff,
@@ -42,7 +42,7 @@ fn crash_bytes() -> [u8; 320] {
 fn two_banks(alloc: Global, fails: &[u32], pick: u64) -> Result<MemNvm, AllocError>
     ensures { IfOk result (λ m. length (memory_image m) ≡ 1120) }
 {
-    let image = [0u8; 1120].to_vec(alloc)?;
+    let image = [0u8; 2144].to_vec(alloc)?;
     MemNvm::new(
         alloc,
         image,
@@ -55,8 +55,8 @@ fn two_banks(alloc: Global, fails: &[u32], pick: u64) -> Result<MemNvm, AllocErr
 
 // Which gates of a bank are open: of the event, its lock and its crash part.
 fn gates(memory: &MemNvm, place: usize) -> [bool; 3]
-    requires at { place ≤ 608 }
-    requires size { length (memory_image memory.now) ≡ 1120 }
+    requires at { place ≤ 1120 }
+    requires size { length (memory_image memory.now) ≡ 2144 }
 {
     let bytes = memory.image();
     [
@@ -73,12 +73,12 @@ fn steps_write_their_bytes_and_no_others(rt: HostRuntime) -> Result<(), Fail> {
     assert_eq!(rt; lock(&mut memory, 1), Ok(()));
     let crash = read_crash(&crash_bytes())?;
     assert_eq!(rt; finish(&mut memory, 1, &crash), Ok(()));
-    let mut pre = [0; 160];
+    let mut pre = [0; 848];
     put_pre(&PRE, &mut pre);
-    let mut want = [0; 1120];
+    let mut want = [0; 2144];
     want[96..99].copy_from_slice(&[OPEN; 3]);
-    want[112..272].copy_from_slice(&pre);
-    want[272..592].copy_from_slice(&crash_bytes());
+    want[112..960].copy_from_slice(&pre);
+    want[960..1120].copy_from_slice(&crash_bytes());
     assert_eq!(rt; memory.image(), want.as_slice());
     Ok(())
 }
@@ -132,7 +132,7 @@ fn finished_until(alloc: Global, stop: u32, pick: u64) -> Result<[bool; 3], Fail
     fused.arm(stop);
     let _ = finish(&mut fused, 2, &crash);
     fused.end();
-    Ok(gates(&memory, 608))
+    Ok(gates(&memory, 1120))
 }
 
 #[test]

@@ -21,15 +21,15 @@ returns g c =
     let done = rw (c.done_writes-ending.ensures.at, c.done_writes-ending.ensures.gate) at e.done in
     let stopped = rw (c.done_writes-ending.ensures.at, c.done_writes-ending.ensures.gate) at e.stopped in
     let moments = rw (c.done_writes-ending.ensures.at, c.done_writes-ending.ensures.gate) at e.any_moment in
-    let passed = step_passes (Done m part) (D.content nvm) (D.settled nvm) (D.clock nvm) (D.since nvm) (D.since end) (IsGatedStop 3 (place_of m + 176) piece (place_of m + 2))
-    (λ bytes image v view may. gated_either (Done m part) 3 (place_of m + 176) (place_of m + 2) piece bytes image v (done_before m part piece bytes image v view may is) (done_image m part piece bytes image v view may is)) moments in
+    let passed = step_passes (Done m part) (D.content nvm) (D.settled nvm) (D.clock nvm) (D.since nvm) (D.since end) (IsGatedStop 3 (place_of m + 864) piece (place_of m + 2))
+    (λ bytes image v view may. gated_either (Done m part) 3 (place_of m + 864) (place_of m + 2) piece bytes image v (done_before m part piece bytes image v view may is) (done_image m part piece bytes image v view may is)) moments in
     record {
       lent = e.lent;
       time = e.time;
       taken = step_taken c.write_gated.result (Done m part) (D.content nvm) (D.content end) (D.settled nvm) (D.settled end)
-          (λ (bytes : List ℕ). put_at (place_of m + 2) (165 ∷ []) (put_at (place_of m + 176) piece bytes)) (λ bytes v view may. done_whole m part piece bytes v view may is) (λ bytes. done_writes m part piece bytes c.done_writes-ending.ensures.piece) done;
-      stopped = step_stopped c.write_gated.result (Done m part) (D.clock nvm) (D.clock end) (D.content nvm) (D.content end) (D.settled nvm) (D.settled end) (IsGatedStop (D.clock end - D.clock nvm) (place_of m + 176) piece (place_of m + 2))
-          (λ bytes image v view may. gated_stop (Done m part) (D.clock end - D.clock nvm) (place_of m + 176) (place_of m + 2) piece bytes image v refl (done_before m part piece bytes image v view may is) (done_image m part piece bytes image v view may is))
+          (λ (bytes : List ℕ). put_at (place_of m + 2) (165 ∷ []) (put_at (place_of m + 864) piece bytes)) (λ bytes v view may. done_whole m part piece bytes v view may is) (λ bytes. done_writes m part piece bytes c.done_writes-ending.ensures.piece) done;
+      stopped = step_stopped c.write_gated.result (Done m part) (D.clock nvm) (D.clock end) (D.content nvm) (D.content end) (D.settled nvm) (D.settled end) (IsGatedStop (D.clock end - D.clock nvm) (place_of m + 864) piece (place_of m + 2))
+          (λ bytes image v view may. gated_stop (Done m part) (D.clock end - D.clock nvm) (place_of m + 864) (place_of m + 2) piece bytes image v refl (done_before m part piece bytes image v view may is) (done_image m part piece bytes image v view may is))
           e.time.few stopped;
       any_moment = passed;
       each = each_passed (Done m part ∷ []) (D.content nvm) (D.settled nvm) (D.clock nvm) (D.since nvm) (D.since end) (g.met.N.Nvm.only_now nvm) passed;
