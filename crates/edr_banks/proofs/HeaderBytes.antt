@@ -125,9 +125,9 @@ header_within first h none is = let number : h.banks ≡ slice_index first 10 = 
 
 -- ---- banks that were read one after the other
 
-pub banks_more : (k : ℕ) (bytes : List ℕ) (old new : List BankView) (view : BankView) → old ≡ banks_of k bytes → view ≡ bank_view (slice_range bytes (place_of (k + 1)) (place_of (k + 1) + 512)) → new ≡ old ++ view ∷ [] → new ≡ banks_of (k + 1) bytes
+pub banks_more : (k : ℕ) (bytes : List ℕ) (old new : List BankView) (view : BankView) → old ≡ banks_of k bytes → view ≡ bank_view (slice_range bytes (place_of (k + 1)) (place_of (k + 1) + 1024)) → new ≡ old ++ view ∷ [] → new ≡ banks_of (k + 1) bytes
 banks_more k bytes old new view were is put =
-    let f : ℕ → BankView = λ m. bank_view (slice_range bytes (place_of m) (place_of m + 512)) in
+    let f : ℕ → BankView = λ m. bank_view (slice_range bytes (place_of m) (place_of m + 1024)) in
     put ∙ ap (λ (xs : List BankView). xs ++ view ∷ []) were ∙ ap (λ (x : BankView). banks_of k bytes ++ x ∷ []) is ∙ sym (map-range_with_len_more f 1 k (k + 1) (omega arith))
 
 -- two runs that change nothing

@@ -30,7 +30,7 @@ fn pre(cycle: u32) -> Pre
 
 // A crash part that ends at 20 ms, without any change of speed.
 fn crash() -> Result<Crash, Fail> {
-    let mut bytes = [0; 320];
+    let mut bytes = [0; 160];
     bytes[1] = 20;
     bytes[120..136].copy_from_slice(&[0xff; 16]);
     Ok(read_crash(&bytes)?)
@@ -57,7 +57,7 @@ fn zeros(
 fn formatted(alloc: Global, choice: Choice, fails: &[u32], pick: u64) -> Result<MemNvm, Fail>
     ensures { IfOk result (λ m. length (memory_image m) ≡ 1120) }
 {
-    let mut memory = zeros(alloc, 1_120, fails, &[], pick)?;
+    let mut memory = zeros(alloc, 2_144, fails, &[], pick)?;
     Banks::format(&mut memory, 2, choice)?;
     Ok(memory)
 }
@@ -67,7 +67,7 @@ fn format_short(rt: HostRuntime) -> Result<(), Fail> {
     let mut memory = zeros(rt.alloc(), 95, &[], &[], 0)?;
     let short = FormatFault::Short {
         size: 95,
-        needed: 1_120,
+        needed: 2_144,
     };
     assert_eq!(rt; Banks::format(&mut memory, 2, Choice::Keep), Err(short));
     assert_eq!(rt; memory.image(), [0; 95].as_slice());
@@ -80,7 +80,7 @@ fn format_zero_bytes(rt: HostRuntime) -> Result<(), Fail> {
     assert_eq!(rt; Banks::format(&mut memory, 2, Choice::Keep), Ok(()));
     let bytes = memory.image();
     assert_eq!(rt; bytes.len(), 16_480);
-    assert_eq!(rt; &bytes[..12], b"EDRIMAGE\0\x01\x02\0".as_slice());
+    assert_eq!(rt; &bytes[..12], b"EDRIMAGE\0\x02\x02\0".as_slice());
     assert!(rt; bytes[12..].iter().all(|byte| *byte == 0));
     Ok(())
 }
@@ -228,7 +228,7 @@ fn late_lock_under_keep(rt: HostRuntime) -> Result<(), Fail> {
 // The formatting reads once, and the opening three times.
 #[test]
 fn commands_make_no_read(rt: HostRuntime) -> Result<(), Fail> {
-    let mut memory = zeros(rt.alloc(), 1_120, &[], &[5, 6, 7, 8, 9, 10], 0)?;
+    let mut memory = zeros(rt.alloc(), 2_144, &[], &[5, 6, 7, 8, 9, 10], 0)?;
     Banks::format(&mut memory, 2, Choice::Overwrite)?;
     let mut banks = Banks::open(rt.alloc(), &mut memory)?;
     keep_event(&mut banks, &mut memory, 1, true, crash()?)?;
@@ -245,7 +245,7 @@ fn damaged_bank_is_told_with_its_lock_and_never_taken(rt: HostRuntime) -> Result
         .image()
         .to_vec(rt.alloc())?;
     // The second bank is open and locked, and its cycle is 0. Slot 1 of the count says 3.
-    for place in [608, 609, 64] {
+    for place in [1120, 1121, 64] {
         image[place] = OPEN_GATE;
     }
     image[71] = 3;
