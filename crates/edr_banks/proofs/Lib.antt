@@ -1,7 +1,8 @@
 pub mod KeyOrder
 pub mod LeastKey
+pub mod LaidPieces
+pub mod Pieces
 pub mod NewImage
-pub mod Laying
 pub mod NewView
 pub mod FirstBytes
 pub mod HeaderBytes

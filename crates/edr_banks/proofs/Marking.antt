@@ -7,12 +7,9 @@ use Rattle.std.proofs.lemmas.Bool.Decides.{nat_tests}
 use Rattle.edr_device.specs.Device.{IsQuiet, MayLeave, is_in}
 use Rattle.edr_device.specs.Pieces.{SameBut, put_at}
 use Rattle.edr_device.proofs.Settling.{put_same, quiet_leaves}
-use Rattle.edr_image.specs.declared.Header.{Header}
-use Rattle.edr_image.specs.Image.{image_size, magic, new_image}
-use Rattle.edr_banks.specs.Formatting.{IsFilled, IsNew, IsPartlyFormatted, IsUnmarked, IsUnmarking, LacksMagic, SamePast, first_magic, formatted}
-use Rattle.edr_layout.proofs.NewFront.{new_image_is}
-use Rattle.edr_banks.proofs.NewView.{formatted_new}
-use Rattle.edr_banks.proofs.Laying.{formatted_past, formatted_size, formatted_there}
+use Rattle.edr_image.specs.Image.{magic}
+use Rattle.edr_banks.specs.Laying.{IsFilled, IsImageOf, IsOver, IsPartlyOver, IsUnmarked, IsUnmarking, LacksMagic, StandsPast, first_magic, over}
+use Rattle.edr_banks.proofs.LaidPieces.{over_past, over_size, over_there}
 
 -- ---- the magic
 
@@ -47,8 +44,8 @@ first_too bytes image but here = same_number_lists image bytes but.size (λ i be
       first_or_later : (i : ℕ) → (i ≡ 0) ⊎ (1 ≤ i)
       first_or_later i = grind arith
 
-past_but : (h : Header) (bytes image : List ℕ) → SameBut 0 1 bytes image → SamePast h bytes image
-past_but h bytes image but = λ i from below. but.same i below (not_first i (omega arith))
+past_but : (full : ℕ) (bytes image : List ℕ) → 0 < full → SameBut 0 1 bytes image → StandsPast full bytes image
+past_but full bytes image some but = λ i from below. but.same i below (not_first i (omega arith))
 
 pub unmarking_marked : (bytes image : List ℕ) → slice_index bytes 0 ≡ first_magic → SameBut 0 1 bytes image → IsUnmarking bytes image
 unmarking_marked bytes image marked but = ⊎_elim
@@ -65,50 +62,47 @@ unmarked_put bytes e = absurd (omega (arith, e))
 
 -- ---- what each moment may leave
 
-pub unmarking_part : (h : Header) (bytes image : List ℕ) → IsUnmarking bytes image → IsPartlyFormatted h bytes image
-unmarking_part h bytes image (inl same) = record { size = ap length same; past = λ i from below. ap (λ (xs : List ℕ). slice_index xs i) same; says = inl same }
-unmarking_part h bytes image (inr (but, apart)) = record { size = but.size; past = past_but h bytes image but; says = inr (inl (lacks image apart)) }
+pub unmarking_part : (full : ℕ) (target bytes image : List ℕ) → 0 < full → IsUnmarking bytes image → IsPartlyOver full target bytes image
+unmarking_part full target bytes image some (inl same) = record { size = ap length same; past = λ i from below. ap (λ (xs : List ℕ). slice_index xs i) same; says = inl same }
+unmarking_part full target bytes image some (inr (but, apart)) = record { size = but.size; past = past_but full bytes image some but; says = inr (inl (lacks image apart)) }
 
-pub unmarked_part : (h : Header) (bytes image : List ℕ) → IsUnmarked h bytes image → IsPartlyFormatted h bytes image
-unmarked_part h bytes image is = record { size = is.size; past = is.past; says = inr (inl (lacks image is.first)) }
+pub unmarked_part : (full : ℕ) (target bytes image : List ℕ) → IsUnmarked full bytes image → IsPartlyOver full target bytes image
+unmarked_part full target bytes image is = record { size = is.size; past = is.past; says = inr (inl (lacks image is.first)) }
 
-new_image_first : (h : Header) → slice_index (new_image h) 0 ≡ first_magic
-new_image_first h = ap (λ (xs : List ℕ). slice_index xs 0) (new_image_is h)
+over_first : (full : ℕ) (target bytes : List ℕ) → IsImageOf full target → full ≤ length bytes → slice_index (over full target bytes) 0 ≡ first_magic
+over_first full target bytes is wide = over_there full target bytes 0 is.size wide is.some ∙ is.marked
 
-formatted_first : (h : Header) (bytes : List ℕ) → image_size h.banks ≤ length bytes → slice_index (formatted h bytes) 0 ≡ first_magic
-formatted_first h bytes wide = formatted_there h bytes 0 wide (omega arith) ∙ new_image_first h
-
-pub filled_part : (h : Header) (bytes now image : List ℕ) → 2 ≤ h.banks → h.banks ≤ 16 → image_size h.banks ≤ length bytes → IsFilled h bytes now → SameBut 0 1 now image → IsPartlyFormatted h bytes image
-filled_part h bytes now image low high wide filled but =
-    let long = formatted_size h bytes wide in
-    let chain : SameBut 0 1 (formatted h bytes) image = record {
+pub filled_part : (full : ℕ) (target bytes now image : List ℕ) → IsImageOf full target → full ≤ length bytes → IsFilled full target bytes now → SameBut 0 1 now image → IsPartlyOver full target bytes image
+filled_part full target bytes now image is wide filled but =
+    let long = over_size full target bytes is.size wide in
+    let chain : SameBut 0 1 (over full target bytes) image = record {
       size = but.size ∙ filled.same.size;
       same = λ i below out. but.same i (omega (arith, filled.same.size)) out ∙ filled.same.same i below out;
     } in
     record {
       size = chain.size ∙ long;
-      past = λ i from below. chain.same i (omega (arith, long)) (not_first i (omega arith)) ∙ formatted_past h bytes i wide from;
+      past = λ i from below. chain.same i (omega (arith, long)) (not_first i (omega arith)) ∙ over_past full target bytes i is.size wide from;
       says = ⊎_elim
-          (λ (same : slice_index image 0 ≡ first_magic). inr (inr (formatted_new h bytes image low high wide (first_too (formatted h bytes) image chain (same ∙ sym (formatted_first h bytes wide))))))
+          (λ (same : slice_index image 0 ≡ first_magic). inr (inr (first_too (over full target bytes) image chain (same ∙ sym (over_first full target bytes is wide)))))
           (λ (apart : slice_index image 0 ≢ first_magic). inr (inl (lacks image apart)))
           (is_first_or_not (slice_index image 0));
     }
 
 -- the first byte is put last
-pub filled_put : (h : Header) (bytes now : List ℕ) → image_size h.banks ≤ length bytes → IsFilled h bytes now → put_at 0 (first_magic ∷ []) now ≡ formatted h bytes
-filled_put h bytes now wide filled =
-    let long = formatted_size h bytes wide in
+pub filled_put : (full : ℕ) (target bytes now : List ℕ) → IsImageOf full target → full ≤ length bytes → IsFilled full target bytes now → put_at 0 (first_magic ∷ []) now ≡ over full target bytes
+filled_put full target bytes now is wide filled =
+    let long = over_size full target bytes is.size wide in
     let fits : 0 + length (first_magic ∷ []) ≤ length now = omega (arith, filled.same.size) in
     let put = put_same 0 (first_magic ∷ []) now fits in
-    first_too (formatted h bytes) (put_at 0 (first_magic ∷ []) now) (record {
+    first_too (over full target bytes) (put_at 0 (first_magic ∷ []) now) (record {
       size = put.size ∙ filled.same.size;
       same = λ i below out. put.same i (omega (arith, filled.same.size)) out ∙ filled.same.same i below out;
     })
-    (sym (formatted_first h bytes wide))
+    (sym (over_first full target bytes is wide))
 
 -- where nothing was done
-pub left_part : (h : Header) (bytes : List ℕ) (content : Option (List ℕ)) (settled : ℕ → Bool) (image : List ℕ) → IsQuiet content settled bytes → MayLeave content settled image → IsPartlyFormatted h bytes image
-left_part h bytes content settled image quiet left = unmarking_part h bytes image (inl (quiet_leaves bytes content settled image quiet left))
+pub left_part : (full : ℕ) (target bytes : List ℕ) (content : Option (List ℕ)) (settled : ℕ → Bool) (image : List ℕ) → 0 < full → IsQuiet content settled bytes → MayLeave content settled image → IsPartlyOver full target bytes image
+left_part full target bytes content settled image some quiet left = unmarking_part full target bytes image some (inl (quiet_leaves bytes content settled image quiet left))
 
 -- ---- over bytes of which only the first was another one
 
@@ -122,18 +116,18 @@ drop_same n bytes image low but =
     let inside : n + k < length bytes = omega (arith, long, length-drop n bytes) in
     dropped n k image ∙ but.same (n + k) inside (not_first (n + k) (omega arith)) ∙ sym (dropped n k bytes))
 
-pub formatted_same : (h : Header) (bytes image : List ℕ) → SameBut 0 1 bytes image → formatted h image ≡ formatted h bytes
-formatted_same h bytes image but = ap (λ (xs : List ℕ). new_image h ++ xs) (drop_same (image_size h.banks) bytes image (omega arith) but)
+pub over_same : (full : ℕ) (target bytes image : List ℕ) → 0 < full → SameBut 0 1 bytes image → over full target image ≡ over full target bytes
+over_same full target bytes image some but = ap (λ (xs : List ℕ). target ++ xs) (drop_same full bytes image (omega arith) but)
 
-pub part_before : (h : Header) (bytes now image : List ℕ) → SameBut 0 1 bytes now → slice_index now 0 ≢ first_magic → IsPartlyFormatted h now image → IsPartlyFormatted h bytes image
-part_before h bytes now image but bare part = record {
+pub part_before : (full : ℕ) (target bytes now image : List ℕ) → 0 < full → SameBut 0 1 bytes now → slice_index now 0 ≢ first_magic → IsPartlyOver full target now image → IsPartlyOver full target bytes image
+part_before full target bytes now image some but bare part = record {
   size = part.size ∙ but.size;
   past = λ i from below. part.past i from (omega (arith, but.size)) ∙ but.same i below (not_first i (omega arith));
   says = ⊎_elim
       (λ (same : image ≡ now). inr (inl (lacks image (λ e. bare (sym (ap (λ (xs : List ℕ). slice_index xs 0) same) ∙ e)))))
-      (λ (other : LacksMagic image ⊎ IsNew h now image). ⊎_elim
+      (λ (other : LacksMagic image ⊎ IsOver full target now image). ⊎_elim
       (λ (none : LacksMagic image). inr (inl none))
-      (λ (new : IsNew h now image). inr (inr (record { same = new.same ∙ formatted_same h bytes now but; view = new.view })))
+      (λ (new : IsOver full target now image). inr (inr (new ∙ over_same full target bytes now some but)))
       other)
       part.says;
 }

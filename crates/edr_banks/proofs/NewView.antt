@@ -1,5 +1,5 @@
 -- What a new image says.
-use Rattle.std.proofs.Common.{◌≡◌, ◌≤◌, ◌<◌, ◌+◌, ◌-◌, ◌++◌, ◌||◌, ◌∙◌, ℕ, zero, suc, false, List, length, map, drop, replicate, slice_index, nat_eq, Some, None, refl, sym, ap, subst, arith}
+use Rattle.std.proofs.Common.{◌≡◌, ◌⊎◌, ◌≤◌, ◌<◌, ◌+◌, ◌-◌, ◌++◌, ◌||◌, ◌∙◌, ℕ, zero, suc, false, List, length, map, drop, length-append, length-drop, inl, inr, ⊎_elim, replicate, slice_index, nat_eq, Some, None, Result, Ok, Err, OnOk, refl, sym, ap, subst, arith}
 use Rattle.std.specs.Prelude.{cond, nat_lt, slice_range}
 use Rattle.std.specs.List.{range_with_len}
 use Rattle.std.proofs.lemmas.Grind.{common_steps}
@@ -9,11 +9,12 @@ use Rattle.edr_image.specs.declared.Choice.TheVariants.{Keep, Overwrite}
 use Rattle.edr_image.specs.declared.Header.{Header}
 use Rattle.edr_image.specs.declared.BankView.{BankView}
 use Rattle.edr_image.specs.declared.BankView.TheVariants.{Void}
-use Rattle.edr_image.specs.Image.{View, bank_view, choice_byte, count_of, header_of, header_refusal, image_refusal, image_size, place_of, view_of, bank_view_by, header_refusal_by, image_refusal_by, view_by}
-use Rattle.edr_banks.specs.Formatting.{IsNew, formatted, new_view}
-use Rattle.edr_banks.proofs.NewImage.{zeros_behind}
+use Rattle.edr_image.specs.Image.{View, bank_view, choice_byte, count_of, header_of, header_refusal, image_refusal, image_size, new_image, place_of, view_of, bank_view_by, header_refusal_by, image_refusal_by, view_by}
+use Rattle.edr_banks.specs.Formatting.{IsNew, IsPartlyFormatted, formatted, new_view}
+use Rattle.edr_banks.proofs.NewImage.{new_image_size, zeros_behind}
 use Rattle.edr_layout.proofs.NewFront.{front, new_image_is}
-use Rattle.edr_banks.proofs.Laying.{formatted_size, formatted_there}
+use Rattle.edr_banks.proofs.LaidPieces.{over_size, over_there}
+use Rattle.edr_banks.specs.Laying.{IsOver, IsPartlyLaid, IsPartlyOver, LacksMagic, over}
 
 few_banks : (n : ℕ) → 2 ≤ n → n ≤ 16 → (nat_lt n 2 || nat_lt 16 n) ≡ false
 few_banks n low high = grind (arith, nat_tests)
@@ -84,9 +85,33 @@ formatted-view : (h : Header) (bytes : List ℕ) → 2 ≤ h.banks → h.banks �
 formatted-view h bytes low high wide =
     let rest = replicate (image_size h.banks - 12) 0 ++ drop (image_size h.banks) bytes in
     let is : formatted h bytes ≡ front h ++ rest = ap (λ (xs : List ℕ). xs ++ drop (image_size h.banks) bytes) (new_image_is h) in
-    let long : image_size h.banks ≤ length (front h ++ rest) = subst (λ (xs : List ℕ). image_size h.banks ≤ length xs) is (omega (arith, formatted_size h bytes wide)) in
-    let new : IsZero h (front h ++ rest) = λ i from to. ap (λ (xs : List ℕ). slice_index xs i) (sym is) ∙ formatted_there h bytes i wide to ∙ zeros_behind h i from in
+    let long : image_size h.banks ≤ length (front h ++ rest) = subst (λ (xs : List ℕ). image_size h.banks ≤ length xs) is (omega (arith, over_size (image_size h.banks) (new_image h) bytes (new_image_size h) wide)) in
+    let new : IsZero h (front h ++ rest) = λ i from to. ap (λ (xs : List ℕ). slice_index xs i) (sym is) ∙ over_there (image_size h.banks) (new_image h) bytes i (new_image_size h) wide to ∙ zeros_behind h i from in
     ap view_of is ∙ view_is h rest low high long new
 
 pub formatted_new : (h : Header) (bytes image : List ℕ) → 2 ≤ h.banks → h.banks ≤ 16 → image_size h.banks ≤ length bytes → image ≡ formatted h bytes → IsNew h bytes image
 formatted_new h bytes image low high wide same = record { same = same; view = ap view_of same ∙ formatted-view h bytes low high wide }
+
+-- what is laid is as long as what it is laid over, so the image has room
+laid_wide : (full : ℕ) (target bytes image : List ℕ) → length target ≡ full → image ≡ over full target bytes → length image ≡ length bytes → full ≤ length bytes
+laid_wide full target bytes image long is size =
+    let sum : length image ≡ full + (length bytes - full) = ap length is ∙ length-append target (drop full bytes) ∙ grind (arith, common_steps) in omega arith
+
+-- what a laying of a new image may leave, formatting may leave
+pub formatted_part : (h : Header) (bytes image : List ℕ) → 2 ≤ h.banks → h.banks ≤ 16 → IsPartlyOver (image_size h.banks) (new_image h) bytes image → IsPartlyFormatted h bytes image
+formatted_part h bytes image low high part = record {
+  size = part.size;
+  past = part.past;
+  says = ⊎_elim
+      (λ (same : image ≡ bytes). inl same)
+      (λ (other : LacksMagic image ⊎ IsOver (image_size h.banks) (new_image h) bytes image). inr (⊎_elim
+      (λ (none : LacksMagic image). inl none)
+      (λ (new : IsOver (image_size h.banks) (new_image h) bytes image). inr (formatted_new h bytes image low high (laid_wide (image_size h.banks) (new_image h) bytes image (new_image_size h) new part.size) new))
+      other))
+      part.says;
+}
+
+-- two facts of what was done, in one
+pub room_done : {T E P Q R : Type 0} (r : Result T E) → OnOk r P → OnOk r Q → (P → Q → R) → OnOk r R
+room_done (Ok x) p q f = f p q
+room_done (Err e) p q f = tt

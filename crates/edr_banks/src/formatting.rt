@@ -1,104 +1,43 @@
-//! Formatting: byte 0 is put last, so no crash leaves the magic over anything but the image as it was or the new one.
-ghost use Rattle.std.specs.Prelude.{◌≡◌, ◌≢◌, ◌⊎◌, ◌+◌, ◌-◌, ◌≤◌, ◌<◌, ℕ, List, Some, None, Err, slice_index, OnOk, IfErr};
+//! Formatting: an image with void banks and the count 0 is laid over a device.
+ghost use Rattle.std.specs.Prelude.{◌≡◌, ◌≢◌, ◌⊎◌, ◌≤◌, ◌<◌, ℕ, List, Some, None, Err, OnOk, IfErr, ⊤};
 ghost use Rattle.edr_device.specs.Device.{IsQuiet};
 ghost use Rattle.edr_device.specs.Faults.{Rose};
-ghost use Rattle.edr_device.specs.Lent.{At, GoesOn, LeftSince, Lent, Meanwhile, OnlyRead};
-ghost use Rattle.edr_device.specs.Pieces.{SameBut};
+ghost use Rattle.edr_device.specs.Lent.{At, GoesOn, LeftSince, Meanwhile, OnlyRead};
 ghost use Rattle.edr_image.specs.declared.places.TheConstants.{FEWEST_BANKS, MOST_BANKS};
-ghost use Rattle.edr_image.specs.Image.{image_size, not_magic};
+ghost use Rattle.edr_image.specs.Image.{image_size, new_image, not_magic};
 ghost use Rattle.edr_image.specs.Kept.{IsKept};
-ghost use Rattle.edr_banks.specs.Formatting.{IsBare, IsFilled, IsNew, IsPartlyFormatted, LacksMagic, IsUnmarked, IsUnmarking, Laid, formatted, new_header};
+ghost use Rattle.edr_banks.specs.Formatting.{IsNew, IsPartlyFormatted, LacksMagic, new_header};
 ghost use Rattle.edr_banks.specs.declared.FormatFault.TheVariants.{Short, Formatted, StoreFault};
 
+use crate::laying::{Image, lay};
 use crate::{Banks, Choice, FormatFault, Header};
-use edr_device::{Failed, Nvm, write_settled};
-use edr_layout::{BANK_SIZE, MAGIC, image_size, new_front, not_magic, place_of};
+use edr_device::Nvm;
+use edr_layout::{BANK_SIZE, FRONT_SIZE, new_front};
 
-// Puts another byte over the first of the magic.
-fn unmark<N: Nvm>(nvm: &mut N, first: u8) -> Result<(), Failed>
-    requires { 1 ≤ N.extent nvm.old }
-    ensures lent { Lent N.Nvm nvm.old nvm.new result }
-    ensures later { N.clock nvm.old ≤ N.clock nvm.new }
-    ensures bare { OnOk result (
-        (bytes : List ℕ) → At N.Nvm IsQuiet nvm.old bytes → slice_index bytes 0 ≡ first
-        → (now : List ℕ) × At N.Nvm IsBare nvm.new now × SameBut 0 1 bytes now) }
-    ensures any_moment { (bytes : List ℕ) → At N.Nvm IsQuiet nvm.old bytes → slice_index bytes 0 ≡ first
-        → Meanwhile N.Nvm nvm.old nvm.new (IsUnmarking bytes) }
-{
-    if first == MAGIC[0] {
-        return write_settled(nvm, 0, &[0]);
+// The image of a header with void banks.
+#[derive(Drop)]
+struct NewImage {
+    header: Header,
+}
+
+impl Image for NewImage {
+    ghost bytes = { λ i. new_image i.header };
+
+    ghost bank_count = { λ i. i.header.banks };
+
+    ghost is_told = { λ i. ⊤ };
+
+    fn banks(&self) -> u8 {
+        self.header.banks
     }
-    Ok(())
-}
 
-// Writes the image but its first byte, and settles nothing.
-fn lay_image<N: Nvm>(nvm: &mut N, header: Header) -> Result<(), Failed>
-    requires few { header.banks ≤ MOST_BANKS }
-    requires room { image_size header.banks ≤ N.extent nvm.old }
-    ensures lent { Lent N.Nvm nvm.old nvm.new result }
-    ensures later { N.clock nvm.old ≤ N.clock nvm.new }
-    ensures laid { OnOk result (
-        (bytes : List ℕ) → At N.Nvm IsBare nvm.old bytes
-        → At N.Nvm (Laid header (image_size header.banks) bytes) nvm.new) }
-    ensures any_moment { (bytes : List ℕ) → At N.Nvm IsBare nvm.old bytes
-        → Meanwhile N.Nvm nvm.old nvm.new (IsUnmarked header bytes) }
-{
-    let front = new_front(header);
-    nvm.write(1, &front[1..])?;
-    for bank in 0..header.banks {
-        nvm.write(place_of(bank + 1), &[0; BANK_SIZE])?;
+    fn front(&self) -> [u8; FRONT_SIZE] {
+        new_front(self.header)
     }
-    Ok(())
-}
 
-// Writes the image but its first byte, and settles it.
-fn fill_image<N: Nvm>(nvm: &mut N, header: Header) -> Result<(), Failed>
-    requires few { header.banks ≤ MOST_BANKS }
-    requires room { image_size header.banks ≤ N.extent nvm.old }
-    ensures lent { Lent N.Nvm nvm.old nvm.new result }
-    ensures later { N.clock nvm.old ≤ N.clock nvm.new }
-    ensures filled { OnOk result (
-        (bytes : List ℕ) → At N.Nvm IsBare nvm.old bytes
-        → (now : List ℕ) × At N.Nvm IsQuiet nvm.new now × IsFilled header bytes now) }
-    ensures any_moment { (bytes : List ℕ) → At N.Nvm IsBare nvm.old bytes
-        → Meanwhile N.Nvm nvm.old nvm.new (IsUnmarked header bytes) }
-{
-    lay_image(nvm, header)?;
-    nvm.sync()
-}
-
-// Writes the image, its first byte last.
-fn put_image<N: Nvm>(nvm: &mut N, header: Header) -> Result<(), Failed>
-    requires from { FEWEST_BANKS ≤ header.banks }
-    requires to { header.banks ≤ MOST_BANKS }
-    requires room { image_size header.banks ≤ N.extent nvm.old }
-    ensures lent { Lent N.Nvm nvm.old nvm.new result }
-    ensures later { N.clock nvm.old ≤ N.clock nvm.new }
-    ensures done { OnOk result (
-        (bytes : List ℕ) → At N.Nvm IsBare nvm.old bytes
-        → At N.Nvm IsQuiet nvm.new (formatted header bytes)) }
-    ensures any_moment { (bytes : List ℕ) → At N.Nvm IsBare nvm.old bytes
-        → Meanwhile N.Nvm nvm.old nvm.new (IsPartlyFormatted header bytes) }
-{
-    fill_image(nvm, header)?;
-    write_settled(nvm, 0, &MAGIC[..1])
-}
-
-// Formats a device whose first byte is this one.
-fn write_image<N: Nvm>(nvm: &mut N, first: u8, header: Header) -> Result<(), Failed>
-    requires from { FEWEST_BANKS ≤ header.banks }
-    requires to { header.banks ≤ MOST_BANKS }
-    requires room { image_size header.banks ≤ N.extent nvm.old }
-    ensures lent { Lent N.Nvm nvm.old nvm.new result }
-    ensures later { N.clock nvm.old ≤ N.clock nvm.new }
-    ensures done { OnOk result (
-        (bytes : List ℕ) → At N.Nvm IsQuiet nvm.old bytes → slice_index bytes 0 ≡ first
-        → At N.Nvm IsQuiet nvm.new (formatted header bytes)) }
-    ensures any_moment { (bytes : List ℕ) → At N.Nvm IsQuiet nvm.old bytes → slice_index bytes 0 ≡ first
-        → Meanwhile N.Nvm nvm.old nvm.new (IsPartlyFormatted header bytes) }
-{
-    unmark(nvm, first)?;
-    put_image(nvm, header)
+    fn bank(&self, _: u8) -> [u8; BANK_SIZE] {
+        [0; BANK_SIZE]
+    }
 }
 
 impl Banks {
@@ -134,21 +73,7 @@ impl Banks {
         ensures kept { (bytes image : List ℕ) → At N.Nvm IsQuiet nvm.old bytes → IsKept bytes
             → LeftSince N.Nvm nvm.old nvm.new image → IsKept image ⊎ LacksMagic image }
     {
-        let size = nvm.size();
-        let needed = image_size(banks);
-        if size < needed {
-            return Err(FormatFault::Short { size, needed });
-        }
-        let mut first = [0; MAGIC.len()];
-        if nvm.read(0, &mut first).is_err() {
-            return Err(FormatFault::StoreFault);
-        }
-        if not_magic(&first).is_none() {
-            return Err(FormatFault::Formatted);
-        }
-        match write_image(nvm, first[0], Header { banks, choice }) {
-            Ok(()) => Ok(()),
-            Err(Failed) => Err(FormatFault::StoreFault),
-        }
+        let header = Header { banks, choice };
+        lay(nvm, &NewImage { header })
     }
 }

@@ -9,6 +9,7 @@ use std::marker::Model;
 mod applying;
 mod choosing;
 mod formatting;
+mod laying;
 mod opening;
 mod retrieving;
 mod taking;
@@ -19,6 +20,7 @@ mod tests;
 pub use edr_image::{
     Ack, Applied, BankView, Choice, CycleReport, Found, Header, HeaderRefused, Kind, Log, OpenFault,
 };
+pub use crate::laying::{Image, lay};
 pub use edr_record::Command;
 
 /// Why a command was not taken.

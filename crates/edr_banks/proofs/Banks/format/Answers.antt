@@ -1,118 +1,41 @@
--- A refusal leaves all as it was; else the image is written over what was read.
-use Rattle.std.proofs.Common.{◌≤◌, refl, sym, arith, length, ⊎_elim}
-use Rattle.edr_device.proofs.Settling.{stays_quiet}
+-- What a laying of a new image leaves.
+use Rattle.std.proofs.Common.{refl, arith, length, ℕ, ◌≤◌, List}
+use Rattle.edr_device.proofs.Settling.{elapses_more, map_ok}
 use Rattle.edr_image.specs.declared.Header.{Header}
-use Rattle.edr_image.specs.Image.{image_size}
+use Rattle.edr_image.specs.Image.{image_size, new_image}
 use Rattle.edr_banks.specs.Formatting.{IsPartlyFormatted, formatted}
-use Rattle.edr_banks.proofs.FirstBytes.{elapses_after, not_read, shown_first, where_ok}
+use Rattle.edr_banks.specs.Laying.{IsPartlyOver}
 use Rattle.edr_banks.proofs.KeptNew.{kept_part}
-use Rattle.edr_banks.proofs.Marking.{left_part}
-use Rattle.edr_banks.proofs.NewView.{formatted_new}
+use Rattle.edr_banks.proofs.NewImage.{new_image_whole}
+use Rattle.edr_banks.proofs.NewView.{formatted_new, formatted_part, room_done}
 use Rattle.edr_banks.proofs.Banks.format.Goals as goal
 
-pub returns-then-size-needed-clause-each : goal.returns-then-size-needed-clause-each
-returns-then-size-needed-clause-each g c = λ bytes image quiet left.
-    let D = g.N.Nvm in
-    let start = c.args.nvm.now in
-    left_part (record { banks = c.args.banks; choice = c.args.choice }) bytes (D.content start) (D.settled start) image quiet (g.met.N.Nvm.only_now start image left)
+pub lay-requires-clause-whole : goal.lay-requires-clause-whole
+lay-requires-clause-whole g c = new_image_whole (record { banks = c.args.banks; choice = c.args.choice })
 
-pub returns-then-is_err-clause-each : goal.returns-then-is_err-clause-each
-returns-then-is_err-clause-each g c = λ bytes image quiet left.
-    let D = g.N.Nvm in
-    let start = c.args.nvm.now in
-    left_part (record { banks = c.args.banks; choice = c.args.choice }) bytes (D.content start) (D.settled start) image quiet (g.met.N.Nvm.only_now start image (c.read.ensures.stays.nothing_else (D.clock start) image left))
-
-pub returns-then-is_none-clause-each : goal.returns-then-is_none-clause-each
-returns-then-is_none-clause-each g c = λ bytes image quiet left.
-    let D = g.N.Nvm in
-    let start = c.args.nvm.now in
-    left_part (record { banks = c.args.banks; choice = c.args.choice }) bytes (D.content start) (D.settled start) image quiet (g.met.N.Nvm.only_now start image (c.read.ensures.stays.nothing_else (D.clock start) image left))
-
-pub returns-in-Ok-clause-magic_stays : goal.returns-in-Ok-clause-magic_stays
-returns-in-Ok-clause-magic_stays g c = λ bytes told stands.
-    let D = g.N.Nvm in
-    let piece = c.read.new.into in
-    let shows = shown_first piece bytes (D.content c.args.nvm.now) told (where_ok c.read.result c.is_err.result c.is_err.ensures.value c.if-is_err.false c.read.ensures.bytes) in
-    absurd (not_read piece bytes c.not_magic.result c.is_none.result (omega arith) shows c.not_magic.ensures c.is_none.ensures c.if-is_none.false stands)
-
-pub returns-in-Ok-clause-any_moment : goal.returns-in-Ok-clause-any_moment
-returns-in-Ok-clause-any_moment g c = λ bytes quiet.
-    let D = g.N.Nvm in
-    let start = c.args.nvm.now in
-    let mid = c.read.new.self in
-    let end = c.write_image.new.nvm in
-    let h : Header = record { banks = c.args.banks; choice = c.args.choice } in
-    let shows = shown_first c.read.new.into bytes (D.content start) quiet.0 (where_ok c.read.result c.is_err.result c.is_err.ensures.value c.if-is_err.false c.read.ensures.bytes) in
-    let still = stays_quiet bytes (D.content start) (D.content mid) (D.settled start) (D.settled mid) (D.since start) (D.since mid) quiet c.read.ensures.stays in
-    elapses_after (D.clock start) (D.clock mid) (D.content start) (D.content mid) (D.settled start) (D.settled mid) (D.since start) (D.since mid) (D.since end) (IsPartlyFormatted h bytes) c.read.ensures.stays c.read.ensures.clock
-    (c.write_image.ensures.any_moment bytes still (sym (shows 0 (omega arith))))
-
-pub returns-in-Ok-clause-each : goal.returns-in-Ok-clause-each
-returns-in-Ok-clause-each g c = λ bytes image quiet left.
+pub returns-clause-done : goal.returns-clause-done
+returns-clause-done g c =
     let D = g.N.Nvm in
     let start = c.args.nvm.now in
     let h : Header = record { banks = c.args.banks; choice = c.args.choice } in
-    ⊎_elim
-    (λ (before : D.since start (D.clock start) image). left_part h bytes (D.content start) (D.settled start) image quiet (g.met.N.Nvm.only_now start image before))
-    (λ (meanwhile : IsPartlyFormatted h bytes image). meanwhile)
-    ((returns-in-Ok-clause-any_moment g c bytes quiet).nothing_else (D.clock start) image (omega arith) left)
+    room_done c.lay.result c.lay.ensures.room c.lay.ensures.done (λ room done. λ bytes quiet.
+    let wide : image_size c.args.banks ≤ length bytes = omega (arith, g.met.N.Nvm.told_size start bytes quiet.0, room) in
+    (formatted h bytes, done bytes quiet, formatted_new h bytes (formatted h bytes) c.requires.from c.requires.to wide refl))
 
-pub returns-in-Err-clause-magic_stays : goal.returns-in-Err-clause-magic_stays
-returns-in-Err-clause-magic_stays g c = λ bytes told stands.
-    let D = g.N.Nvm in
-    let piece = c.read.new.into in
-    let shows = shown_first piece bytes (D.content c.args.nvm.now) told (where_ok c.read.result c.is_err.result c.is_err.ensures.value c.if-is_err.false c.read.ensures.bytes) in
-    absurd (not_read piece bytes c.not_magic.result c.is_none.result (omega arith) shows c.not_magic.ensures c.is_none.ensures c.if-is_none.false stands)
-
-pub returns-in-Err-clause-any_moment : goal.returns-in-Err-clause-any_moment
-returns-in-Err-clause-any_moment g c = λ bytes quiet.
+pub returns-clause-any_moment : goal.returns-clause-any_moment
+returns-clause-any_moment g c = λ bytes quiet.
     let D = g.N.Nvm in
     let start = c.args.nvm.now in
-    let mid = c.read.new.self in
-    let end = c.write_image.new.nvm in
+    let end = c.lay.new.nvm in
     let h : Header = record { banks = c.args.banks; choice = c.args.choice } in
-    let shows = shown_first c.read.new.into bytes (D.content start) quiet.0 (where_ok c.read.result c.is_err.result c.is_err.ensures.value c.if-is_err.false c.read.ensures.bytes) in
-    let still = stays_quiet bytes (D.content start) (D.content mid) (D.settled start) (D.settled mid) (D.since start) (D.since mid) quiet c.read.ensures.stays in
-    elapses_after (D.clock start) (D.clock mid) (D.content start) (D.content mid) (D.settled start) (D.settled mid) (D.since start) (D.since mid) (D.since end) (IsPartlyFormatted h bytes) c.read.ensures.stays c.read.ensures.clock
-    (c.write_image.ensures.any_moment bytes still (sym (shows 0 (omega arith))))
+    elapses_more (D.clock start) (D.since start) (D.since end) (IsPartlyOver (image_size h.banks) (new_image h) bytes) (IsPartlyFormatted h bytes) (c.lay.ensures.any_moment bytes quiet)
+    (λ image part. formatted_part h bytes image c.requires.from c.requires.to part)
 
-pub returns-in-Err-clause-each : goal.returns-in-Err-clause-each
-returns-in-Err-clause-each g c = λ bytes image quiet left.
-    let D = g.N.Nvm in
-    let start = c.args.nvm.now in
+pub returns-clause-each : goal.returns-clause-each
+returns-clause-each g c = λ bytes image quiet left.
     let h : Header = record { banks = c.args.banks; choice = c.args.choice } in
-    ⊎_elim
-    (λ (before : D.since start (D.clock start) image). left_part h bytes (D.content start) (D.settled start) image quiet (g.met.N.Nvm.only_now start image before))
-    (λ (meanwhile : IsPartlyFormatted h bytes image). meanwhile)
-    ((returns-in-Err-clause-any_moment g c bytes quiet).nothing_else (D.clock start) image (omega arith) left)
+    formatted_part h bytes image c.requires.from c.requires.to (c.lay.ensures.each bytes image quiet left)
 
-pub returns-in-Ok-clause-done : goal.returns-in-Ok-clause-done
-returns-in-Ok-clause-done g c = λ bytes quiet.
-    let D = g.N.Nvm in
-    let start = c.args.nvm.now in
-    let mid = c.read.new.self in
-    let h : Header = record { banks = c.args.banks; choice = c.args.choice } in
-    let shows = shown_first c.read.new.into bytes (D.content start) quiet.0 (where_ok c.read.result c.is_err.result c.is_err.ensures.value c.if-is_err.false c.read.ensures.bytes) in
-    let still = stays_quiet bytes (D.content start) (D.content mid) (D.settled start) (D.settled mid) (D.since start) (D.since mid) quiet c.read.ensures.stays in
-    let wide : image_size c.args.banks ≤ length bytes = omega (arith, g.met.N.Nvm.told_size start bytes quiet.0, c.size-size.ensures, c.image_size-needed.ensures, c.if-size-needed.false) in
-    (formatted h bytes, c.in-Ok.ensures.done bytes still (sym (shows 0 (omega arith))), formatted_new h bytes (formatted h bytes) c.requires.from c.requires.to wide refl)
-
-pub returns-then-size-needed-clause-kept : goal.returns-then-size-needed-clause-kept
-returns-then-size-needed-clause-kept g c = λ bytes image quiet kept left.
-    kept_part (record { banks = c.args.banks; choice = c.args.choice }) bytes image (returns-then-size-needed-clause-each g c bytes image quiet left) kept
-
-pub returns-then-is_err-clause-kept : goal.returns-then-is_err-clause-kept
-returns-then-is_err-clause-kept g c = λ bytes image quiet kept left.
-    kept_part (record { banks = c.args.banks; choice = c.args.choice }) bytes image (returns-then-is_err-clause-each g c bytes image quiet left) kept
-
-pub returns-then-is_none-clause-kept : goal.returns-then-is_none-clause-kept
-returns-then-is_none-clause-kept g c = λ bytes image quiet kept left.
-    kept_part (record { banks = c.args.banks; choice = c.args.choice }) bytes image (returns-then-is_none-clause-each g c bytes image quiet left) kept
-
-pub returns-in-Ok-clause-kept : goal.returns-in-Ok-clause-kept
-returns-in-Ok-clause-kept g c = λ bytes image quiet kept left.
-    kept_part (record { banks = c.args.banks; choice = c.args.choice }) bytes image (returns-in-Ok-clause-each g c bytes image quiet left) kept
-
-pub returns-in-Err-clause-kept : goal.returns-in-Err-clause-kept
-returns-in-Err-clause-kept g c = λ bytes image quiet kept left.
-    kept_part (record { banks = c.args.banks; choice = c.args.choice }) bytes image (returns-in-Err-clause-each g c bytes image quiet left) kept
+pub returns-clause-kept : goal.returns-clause-kept
+returns-clause-kept g c = λ bytes image quiet kept left.
+    kept_part (record { banks = c.args.banks; choice = c.args.choice }) bytes image (returns-clause-each g c bytes image quiet left) kept

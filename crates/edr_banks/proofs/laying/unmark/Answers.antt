@@ -2,9 +2,9 @@
 use Rattle.std.proofs.Common.{◌∙◌}
 use Rattle.edr_device.specs.Pieces.{SameBut}
 use Rattle.edr_device.proofs.Settling.{elapses_more}
-use Rattle.edr_banks.specs.Formatting.{IsUnmarking}
+use Rattle.edr_banks.specs.Laying.{IsUnmarking}
 use Rattle.edr_banks.proofs.Marking.{unmarking_marked}
-use Rattle.edr_banks.proofs.formatting.unmark.Goals as goal
+use Rattle.edr_banks.proofs.laying.unmark.Goals as goal
 
 pub returns-then-first-clause-any_moment : goal.returns-then-first-clause-any_moment
 returns-then-first-clause-any_moment g c = λ bytes quiet first.
