@@ -9,6 +9,7 @@ use Rattle.edr_image.specs.declared.Choice.TheVariants.{Keep, Overwrite}
 use Rattle.edr_image.specs.declared.Header.{Header}
 use Rattle.edr_image.specs.declared.BankView.{BankView}
 use Rattle.edr_image.specs.declared.BankView.TheVariants.{Void}
+use Rattle.edr_image.specs.declared.places.TheConstants.{BANK_SIZE}
 use Rattle.edr_image.specs.Image.{View, bank_view, choice_byte, count_of, header_of, header_refusal, image_refusal, image_size, new_image, place_of, view_of, bank_view_by, header_refusal_by, image_refusal_by, view_by}
 use Rattle.edr_banks.specs.Formatting.{IsNew, IsPartlyFormatted, formatted, new_view}
 use Rattle.edr_banks.proofs.NewImage.{new_image_size, zeros_behind}
@@ -39,10 +40,10 @@ none_counted : (bytes : List ℕ) → slice_index bytes 32 ≡ 0 → slice_index
 unfolding count_of
 none_counted bytes first second = rw (first, second) refl
 
-first_of_range : (bytes : List ℕ) (at : ℕ) → slice_index (slice_range bytes at (at + 512)) 0 ≡ slice_index bytes at
+first_of_range : (bytes : List ℕ) (at : ℕ) → slice_index (slice_range bytes at (at + BANK_SIZE)) 0 ≡ slice_index bytes at
 first_of_range bytes at = grind (arith, common_steps)
 
-void_there : (bytes : List ℕ) (at : ℕ) → slice_index bytes at ≡ 0 → bank_view (slice_range bytes at (at + 512)) ≡ Void
+void_there : (bytes : List ℕ) (at : ℕ) → slice_index bytes at ≡ 0 → bank_view (slice_range bytes at (at + BANK_SIZE)) ≡ Void
 unfolding bank_view_by
 void_there bytes at closed = rw (first_of_range bytes at ∙ closed) refl
 
@@ -56,9 +57,9 @@ all_void view s (suc n) h =
 abbrev IsZero : Header → List ℕ → Type 0
 IsZero h bytes = (i : ℕ) → 12 ≤ i → i < image_size h.banks → slice_index bytes i ≡ 0
 
-banks_void : (h : Header) (bytes : List ℕ) → IsZero h bytes → map (λ m. bank_view (slice_range bytes (place_of m) (place_of m + 512))) (range_with_len 1 h.banks) ≡ replicate h.banks Void
+banks_void : (h : Header) (bytes : List ℕ) → IsZero h bytes → map (λ m. bank_view (slice_range bytes (place_of m) (place_of m + BANK_SIZE))) (range_with_len 1 h.banks) ≡ replicate h.banks Void
 banks_void h bytes new =
-    all_void (λ m. bank_view (slice_range bytes (place_of m) (place_of m + 512))) 1 h.banks (λ m low high. void_there bytes (place_of m) (new (place_of m) (omega arith) (omega arith)))
+    all_void (λ m. bank_view (slice_range bytes (place_of m) (place_of m + BANK_SIZE))) 1 h.banks (λ m low high. void_there bytes (place_of m) (new (place_of m) (omega arith) (omega arith)))
 
 not_refused : (h : Header) (rest : List ℕ) → 2 ≤ h.banks → h.banks ≤ 16 → image_size h.banks ≤ length (front h ++ rest) → image_refusal (front h ++ rest) ≡ None
 unfolding image_refusal_by

@@ -5,7 +5,6 @@ use Rattle.edr_image.specs.declared.Header.{Header}
 use Rattle.edr_image.specs.declared.BankView.TheVariants.{Void}
 use Rattle.edr_image.specs.Image.{View, image_size, new_image, view_of}
 use Rattle.edr_banks.specs.Laying.{IsPartlyLaid, StandsPast, over}
-
 pub use Rattle.edr_banks.specs.Laying.{LacksMagic}
 
 -- the image of a header with void banks, and past it what stood there

@@ -17,10 +17,10 @@ mod tasks;
 #[cfg(test)]
 mod tests;
 
+pub use crate::laying::{Image, lay};
 pub use edr_image::{
     Ack, Applied, BankView, Choice, CycleReport, Found, Header, HeaderRefused, Kind, Log, OpenFault,
 };
-pub use crate::laying::{Image, lay};
 pub use edr_record::Command;
 
 /// Why a command was not taken.
