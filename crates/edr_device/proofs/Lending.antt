@@ -1,8 +1,8 @@
 -- A memory that is lent to one call after another, and the time that they take.
-use Rattle.std.proofs.Common.{◌≡◌, ◌≢◌, ◌⊎◌, ◌+◌, ◌≤◌, ◌<◌, ◌∙◌, ℕ, Result, Ok, Err, List, Option, Some, None, inl, inr, ⊎_elim, refl, arith}
+use Rattle.std.proofs.Common.{◌≡◌, ◌⊎◌, ◌+◌, ◌≤◌, ◌<◌, ◌∙◌, ℕ, Result, Ok, Err, List, Option, Some, None, inl, inr, ⊎_elim, refl, arith}
 use Rattle.std.proofs.Math.Nat.{le_trans}
 use Rattle.edr_device.specs.Device.{StillTells}
-use Rattle.edr_device.specs.Faults.{HasCause, last_number}
+use Rattle.edr_device.specs.Faults.{HasCause}
 use Rattle.edr_device.specs.Lent.{Lent}
 use Rattle.edr_device.specs.Pieces.{Makes}
 use Rattle.edr_device.specs.declared.device.Nvm.{Ghosts}

@@ -92,3 +92,25 @@ pub record Ticks {T E : Type 0} (before now good good' : ℕ) (result : Result T
 pub record Elapses (before : ℕ) (past since : ℕ → List ℕ → Type 0) (during : List ℕ → Type 0) : Type 0 where
   pub nothing_else : (t : ℕ) (image : List ℕ) → t ≤ before → since t image → past t image ⊎ during image
   pub past_stays : (t : ℕ) (image : List ℕ) → t ≤ before → past t image → since t image
+
+-- ---- the same of a device before and after a call, by what it tells
+
+-- of what a read gives and of what is settled
+abbrev pub Across : {D : Type 0} {X : Type 1} → (D → Option (List ℕ)) → (D → ℕ → Bool) → (Option (List ℕ) → (ℕ → Bool) → Option (List ℕ) → (ℕ → Bool) → X) → D → D → X
+Across content settled says old new = says (content old) (settled old) (content new) (settled new)
+
+-- nothing is changed
+abbrev pub Unchanged : {D : Type 0} → (D → Option (List ℕ)) → (D → ℕ → Bool) → (D → ℕ → List ℕ → Type 0) → D → D → Type 0
+Unchanged content settled since old new = Stays (content old) (settled old) (since old) (content new) (settled new) (since new)
+
+-- the power was taken away and given back, with this result
+abbrev pub Repowered : {T E D : Type 0} → (D → Option (List ℕ)) → (D → ℕ → Bool) → (D → ℕ → List ℕ → Type 0) → Result T E → D → D → Type 0
+Repowered content settled since result old new = Cycled result (content old) (settled old) (since old) (content new) (settled new) (since new)
+
+-- what a crash inside a call may leave, which begins at this moment: in a write what is settled outside the range of the piece, in a
+-- sync what was settled
+abbrev pub CrashInWrite : {D : Type 0} → (D → Option (List ℕ)) → (D → ℕ → Bool) → (D → ℕ → List ℕ → Type 0) → ℕ → ℕ → List ℕ → D → D → Type 0
+CrashInWrite content settled since moment at piece old new = Elapses moment (since old) (since new) (MayLeave (content old) (outside at (length piece) (settled old)))
+
+abbrev pub CrashInSync : {D : Type 0} → (D → Option (List ℕ)) → (D → ℕ → Bool) → (D → ℕ → List ℕ → Type 0) → ℕ → D → D → Type 0
+CrashInSync content settled since moment old new = Elapses moment (since old) (since new) (MayLeave (content old) (settled old))

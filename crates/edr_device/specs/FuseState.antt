@@ -1,6 +1,6 @@
 -- What a clause sees of a fuse, and what a call changes there.
-use Rattle.std.specs.Prelude.{◌≡◌, ◌≢◌, ◌⊎◌, ◌+◌, ◌-◌, ◌<◌, ◌≤◌, ◌||◌, if◌then◌else◌, ℕ, Bool, true, false, is_err, List, Option, Result, IsErr}
-use Rattle.edr_device.specs.Device.{Cycled, MayLeave, Ticks, Wrote}
+use Rattle.std.specs.Prelude.{◌≡◌, ◌≢◌, ◌⊎◌, ◌+◌, ◌-◌, ◌<◌, ◌≤◌, ◌||◌, if◌then◌else◌, ℕ, Bool, true, false, is_ok, is_err, List, Option, Result, IsErr}
+use Rattle.edr_device.specs.Device.{Cycled, MayLeave, Ticks, Unchanged, Wrote}
 use Rattle.edr_device.specs.Faults.{HasCause, last_number, next_number}
 use Rattle.edr_device.specs.Fuse.{Breaks, FusedSince}
 use Rattle.edr_device.specs.declared.device.Nvm.{Ghosts}
@@ -46,6 +46,10 @@ fused_settled {g = g} f = g.settled f.nvm.now
 abbrev pub fused_since : {D : Type 0} {g : Ghosts D} → Fused D g → ℕ → List ℕ → Type 0
 fused_since {g = g} f = FusedSince f.spent f.cut (g.clock f.start.value) (g.clock f.nvm.now) (g.clock f.middle.value) (g.since f.nvm.now) (g.since f.middle.value) (MayLeave (g.content f.nvm.now) (g.settled f.nvm.now))
 
+-- nothing of this is changed
+abbrev pub FuseStays : {D : Type 0} {g : Ghosts D} → Fused D g → Fused D g → Type 0
+FuseStays old new = Unchanged fused_content fused_settled fused_since old new
+
 -- What no call of a device changes: the device inside, the plan and the faults at the beginning. The clock goes on, a stop stays
 -- and comes after the moment at which there was none, and what is broken stays so.
 pub record FuseGoesOn {D : Type 0} {g : Ghosts D} (old new : Fused D g) : Type 0 where
@@ -89,6 +93,10 @@ new_fuse = record {
   cut = 0;
   broken = false;
 }
+
+-- the changing call of this number from now on is the stop
+abbrev pub armed_for : ℕ → FuseState → FuseState
+armed_for changing_calls s = record s { armed = changing_calls; armed_at = s.ticks }
 
 -- the clock begins anew, and a plan that still waits stays
 abbrev pub lifted : FuseState → FuseState
@@ -156,3 +164,28 @@ pub record StopsInSync {T E D : Type 0} (g : Ghosts D) (old new : D) (broken bro
   pub cycled : Result T E
   pub power : CutsPower g old new cycled
   pub marks : broken' ≡ (broken || is_err cycled)
+
+-- ---- what becomes of a fuse and the device inside
+
+-- a read or a power cycle was refused
+abbrev pub Refuses : {T E D : Type 0} {g : Ghosts D} → Fused D g → Fused D g → Result T E → Type 0
+Refuses old new result = IsErr result × (fuse_state new ≡ after_refusal (fuse_state old)) × (new.nvm.now ≡ old.nvm.now)
+
+-- it was passed on, with this result
+abbrev pub Passes : {T E D : Type 0} {g : Ghosts D} → Fused D g → Fused D g → Result T E → Type 0
+Passes {g = g} old new result = (fuse_state new ≡ after_pass (is_ok result) (fuse_state old)) × HasCause (g.faults old.nvm.now) (g.faults new.nvm.now) result
+
+-- a write or sync was refused
+abbrev pub RefusesChange : {T E D : Type 0} {g : Ghosts D} → Fused D g → Fused D g → Result T E → Type 0
+RefusesChange old new result = IsErr result × (fuse_state new ≡ after_refused_change (fuse_state old)) × (new.nvm.now ≡ old.nvm.now)
+
+-- it was passed on, with this result
+abbrev pub ForwardsChange : {T E D : Type 0} {g : Ghosts D} → Fused D g → Fused D g → Result T E → Type 0
+ForwardsChange {g = g} old new result = (fuse_state new ≡ after_change (is_ok result) (fuse_state old)) × PassesChange g old.nvm.now new.nvm.now result
+
+-- it was the stop
+abbrev pub StopsWrite : {T E D : Type 0} {g : Ghosts D} → ℕ → List ℕ → Fused D g → Fused D g → Result T E → Type 0
+StopsWrite {g = g} at piece old new result = (fuse_state new ≡ after_stop new.broken (fuse_state old)) × StopsInWrite g at piece old.nvm.now new.middle.value new.nvm.now old.broken new.broken result
+
+abbrev pub StopsSync : {T E D : Type 0} {g : Ghosts D} → Fused D g → Fused D g → Result T E → Type 0
+StopsSync {g = g} old new result = (fuse_state new ≡ after_stop new.broken (fuse_state old)) × StopsInSync g old.nvm.now new.nvm.now old.broken new.broken result

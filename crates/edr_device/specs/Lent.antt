@@ -1,6 +1,6 @@
 -- What is so of a memory that was lent to a call, whatever the call does to its bytes.
 use Rattle.std.specs.Prelude.{◌≡◌, ℕ, Bool, List, Option, Result}
-use Rattle.edr_device.specs.Device.{Elapses, StillTells, Stays}
+use Rattle.edr_device.specs.Device.{Elapses, IsQuiet, MayLeave, StillTells, Stays}
 use Rattle.edr_device.specs.Faults.{HasCause}
 use Rattle.edr_device.specs.Pieces.{Makes}
 use Rattle.edr_device.specs.declared.device.Nvm.{Ghosts}
@@ -47,3 +47,17 @@ LeftSince g old new image = g.since new (g.clock old) image
 -- n writes and syncs that end where one fails
 abbrev pub MakesCalls : {T E D : Type 0} → ℕ → Ghosts D → D → D → Result T E → Type 0
 MakesCalls n g old new result = Makes n (g.clock old) (g.clock new) (g.last_good old) (g.last_good new) result
+
+-- ---- of a memory on which nothing was pending, whatever its bytes were
+
+-- nothing is pending again, and its bytes are what becomes of those
+abbrev pub SettlesTo : {D : Type 0} → Ghosts D → (List ℕ → List ℕ) → D → D → Type 0
+SettlesTo g becomes old new = (bytes : List ℕ) → At g IsQuiet old bytes → At g IsQuiet new (becomes bytes)
+
+-- a crash after the call leaves such an image of them
+abbrev pub LeavesAfter : {D : Type 0} → Ghosts D → (List ℕ → List ℕ → Type 0) → D → D → Type 0
+LeavesAfter g leaves old new = (bytes image : List ℕ) → At g IsQuiet old bytes → At g MayLeave new image → leaves bytes image
+
+-- a crash meanwhile leaves such an image of them
+abbrev pub LeavesMeanwhile : {D : Type 0} → Ghosts D → (List ℕ → List ℕ → Type 0) → D → D → Type 0
+LeavesMeanwhile g leaves old new = (bytes : List ℕ) → At g IsQuiet old bytes → Meanwhile g old new (leaves bytes)

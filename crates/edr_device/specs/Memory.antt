@@ -3,6 +3,7 @@ use Rattle.std.specs.Prelude.{◌≡◌, ◌⊎◌, ◌+◌, ◌≤◌, if◌the
 use Rattle.std.proofs.Common.{◌∙◌, refl, sym, subst, ap}
 use Rattle.std.proofs.Math.Nat.{min-le_left}
 use Rattle.std.specs.List.{Contains}
+use Rattle.edr_device.specs.Device.{Unchanged}
 use Rattle.edr_device.specs.Draw.{image_after}
 use Rattle.edr_device.specs.Faults.{next_number}
 use Rattle.edr_device.specs.Past.{LeftSince, settled_at}
@@ -124,6 +125,10 @@ memory_settled m = settled_at m.state
 
 abbrev pub memory_since : MemNvm → ℕ → List ℕ → Type 0
 memory_since m = LeftSince m.past.items m.state
+
+-- nothing of this is changed
+abbrev pub MemoryStays : MemNvm → MemNvm → Type 0
+MemoryStays old new = Unchanged memory_content memory_settled memory_since old new
 
 pub told_length : (xs ys : List ℕ) → Some xs ≡ Some ys → length ys ≡ length xs
 told_length xs ys e = sym (ap (λ (o : Option (List ℕ)). length (unwrap_or o [])) e)

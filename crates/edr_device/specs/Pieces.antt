@@ -22,6 +22,10 @@ pub record Makes {T E : Type 0} (n before now good good' : ℕ) (result : Result
   pub made : OnErr result (now ≢ last_number → before < now)
   pub last : OnErr result (now ≢ last_number → ((now ≡ before + 1) × (good' ≡ good)) ⊎ (now ≡ good' + 1))
 
+-- After a stop in a write and a sync of a piece: the bytes but for the piece's place, and all of them where the clock has not moved.
+abbrev pub IsPieceStop : ℕ → ℕ → ℕ → List ℕ → List ℕ → List ℕ → Type 0
+IsPieceStop before now at piece bytes image = SameBut at (length piece) bytes image × (now ≡ before → image ≡ bytes)
+
 -- After a stop in call r of a write and a sync of a piece, and a write and a sync of a gate: the bytes but for the piece's place, or
 -- from the third call on the bytes with the piece but for the gate's place.
 abbrev pub IsGatedStop : ℕ → ℕ → List ℕ → ℕ → List ℕ → List ℕ → Type 0

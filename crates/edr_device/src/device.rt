@@ -1,6 +1,6 @@
 //! A memory that keeps its bytes without power, as callers see it.
 ghost use Rattle.std.specs.Prelude.{◌≡◌, ◌+◌, ◌≤◌, ◌<◌, ◌^◌, ℕ, Bool, List, Option, Some, length, IsErr, OnOk, OnErr};
-ghost use Rattle.edr_device.specs.Device.{Cycled, Elapses, MayLeave, Shows, Stays, Synced, Ticks, Wrote, outside};
+ghost use Rattle.edr_device.specs.Device.{Across, CrashInSync, CrashInWrite, MayLeave, Repowered, Shows, Synced, Ticks, Unchanged, Wrote};
 ghost use Rattle.edr_device.specs.Faults.{HasCause, last_number};
 ghost use Rattle.edr_device.specs.declared.device.TheConstants.{LONGEST_WRITE};
 
@@ -58,8 +58,7 @@ pub trait Nvm {
         ensures size { extent self.new ≡ extent self.old }
         ensures bytes { OnOk result (Shows at into.new (content self.old)) }
         ensures into_stays { OnErr result (into.new ≡ into.old) }
-        ensures stays { Stays (content self.old) (settled self.old) (since self.old)
-            (content self.new) (settled self.new) (since self.new) }
+        ensures stays { Unchanged content settled since self.old self.new }
         ensures clock { clock self.new ≡ clock self.old }
         ensures good { last_good self.new ≡ last_good self.old }
         ensures cause { HasCause (faults self.old) (faults self.new) result }
@@ -71,15 +70,13 @@ pub trait Nvm {
         requires range { at + length bytes.now ≤ extent self.old }
         requires piece { (1 ≤ length bytes.now) × (length bytes.now ≤ LONGEST_WRITE) }
         ensures size { extent self.new ≡ extent self.old }
-        ensures told { Wrote at bytes.now result
-            (content self.old) (settled self.old) (content self.new) (settled self.new) }
+        ensures told { Across content settled (Wrote at bytes.now result) self.old self.new }
         ensures time { Ticks (clock self.old) (clock self.new) (last_good self.old) (last_good self.new) result }
         // A crash inside the call leaves what is settled outside the range.
-        ensures crash { Elapses (clock self.old) (since self.old) (since self.new)
-            (MayLeave (content self.old) (outside at (length bytes.now) (settled self.old))) }
-        ensures full { clock self.old ≡ last_number → IsErr result
-            × Stays (content self.old) (settled self.old) (since self.old)
-            (content self.new) (settled self.new) (since self.new) }
+        ensures crash { CrashInWrite content settled since
+            (clock self.old) at bytes.now self.old self.new }
+        ensures full { clock self.old ≡ last_number
+            → IsErr result × Unchanged content settled since self.old self.new }
         ensures cause { HasCause (faults self.old) (faults self.new) result }
         ensures device { goes_on self.old self.new };
 
@@ -87,15 +84,12 @@ pub trait Nvm {
     /// last number of the clock nothing is done.
     fn sync(&mut self) -> Result<(), Failed>
         ensures size { extent self.new ≡ extent self.old }
-        ensures told { Synced result
-            (content self.old) (settled self.old) (content self.new) (settled self.new) }
+        ensures told { Across content settled (Synced result) self.old self.new }
         ensures time { Ticks (clock self.old) (clock self.new) (last_good self.old) (last_good self.new) result }
         // A crash inside the call leaves what was settled.
-        ensures crash { Elapses (clock self.old) (since self.old) (since self.new)
-            (MayLeave (content self.old) (settled self.old)) }
-        ensures full { clock self.old ≡ last_number → IsErr result
-            × Stays (content self.old) (settled self.old) (since self.old)
-            (content self.new) (settled self.new) (since self.new) }
+        ensures crash { CrashInSync content settled since (clock self.old) self.old self.new }
+        ensures full { clock self.old ≡ last_number
+            → IsErr result × Unchanged content settled since self.old self.new }
         ensures cause { HasCause (faults self.old) (faults self.new) result }
         ensures device { goes_on self.old self.new };
 
@@ -103,8 +97,7 @@ pub trait Nvm {
     /// A failed power cycle changes nothing.
     fn power_cycle(&mut self) -> Result<(), Failed>
         ensures size { extent self.new ≡ extent self.old }
-        ensures told { Cycled result (content self.old) (settled self.old) (since self.old)
-            (content self.new) (settled self.new) (since self.new) }
+        ensures told { Repowered content settled since result self.old self.new }
         ensures no_more { (t : ℕ) (image : List ℕ) → t ≤ clock self.old
             → since self.new t image → since self.old t image }
         // What a crash may have left since a moment before the last good one stays. A power cycle has no moment of its

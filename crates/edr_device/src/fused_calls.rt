@@ -1,8 +1,8 @@
 //! The calls of a fuse.
 ghost use Rattle.std.specs.Prelude.{◌≡◌, ◌≢◌, ◌⊎◌, ◌+◌, ◌-◌, ◌≤◌, ◌<◌, ℕ, List, true, false, is_ok, length, IsTrue, IsErr, OnOk, OnErr};
-ghost use Rattle.edr_device.specs.Device.{Cycled, Elapses, MayLeave, Shows, Stays, Synced, Ticks, Wrote, outside};
+ghost use Rattle.edr_device.specs.Device.{Across, CrashInSync, CrashInWrite, Repowered, Shows, Synced, Ticks, Wrote};
 ghost use Rattle.edr_device.specs.Faults.{HasCause, Rose, last_number};
-ghost use Rattle.edr_device.specs.FuseState.{FuseGoesOn, IsDue, IsPassing, IsRefusing, IsStopping, PassesChange, StopsInSync, StopsInWrite, after_change, after_pass, after_refusal, after_refused_change, after_stop, fuse_state, fused_content, fused_extent, fused_settled, fused_since, lifted, new_fuse};
+ghost use Rattle.edr_device.specs.FuseState.{ForwardsChange, FuseGoesOn, FuseStays, IsDue, IsPassing, IsRefusing, IsStopping, Passes, Refuses, RefusesChange, StopsSync, StopsWrite, after_refused_change, armed_for, fuse_state, fused_content, fused_extent, fused_settled, fused_since, lifted, new_fuse};
 ghost use Rattle.edr_device.specs.declared.device.TheConstants.{LONGEST_WRITE};
 
 use crate::device::Nvm;
@@ -50,10 +50,8 @@ impl<'a, N: Nvm> Fused<'a, N> {
     pub fn arm(&mut self, changing_calls: u32)
         ensures device { self.new.nvm.ghost_name ≡ self.old.nvm.ghost_name }
         ensures now { self.new.nvm.now ≡ self.old.nvm.now }
-        ensures state { fuse_state self.new ≡ record (fuse_state self.old)
-            { armed = changing_calls; armed_at = self.old.ticks } }
-        ensures stays { Stays (fused_content self.old) (fused_settled self.old) (fused_since self.old)
-            (fused_content self.new) (fused_settled self.new) (fused_since self.new) }
+        ensures state { fuse_state self.new ≡ armed_for changing_calls (fuse_state self.old) }
+        ensures stays { FuseStays self.old self.new }
     {
         self.armed = changing_calls;
         self.armed_at = self.ticks;
@@ -168,19 +166,14 @@ impl<'a, N: Nvm> Nvm for Fused<'a, N> {
         ensures size { fused_extent self.new ≡ fused_extent self.old }
         ensures bytes { OnOk result (Shows at into.new (fused_content self.old)) }
         ensures into_stays { OnErr result (into.new ≡ into.old) }
-        ensures stays { Stays (fused_content self.old) (fused_settled self.old) (fused_since self.old)
-            (fused_content self.new) (fused_settled self.new) (fused_since self.new) }
+        ensures stays { FuseStays self.old self.new }
         ensures clock { self.new.ticks ≡ self.old.ticks }
         ensures good { self.new.last_good ≡ self.old.last_good }
         ensures cause { HasCause self.old.faults self.new.faults result }
         ensures device { FuseGoesOn self.old self.new }
 
-        ensures refuses { self.old.spent ≡ true → IsErr result
-            × (fuse_state self.new ≡ after_refusal (fuse_state self.old))
-            × (self.new.nvm.now ≡ self.old.nvm.now) }
-        ensures passes { self.old.spent ≡ false
-            → (fuse_state self.new ≡ after_pass (is_ok result) (fuse_state self.old))
-            × HasCause (N.faults self.old.nvm.now) (N.faults self.new.nvm.now) result }
+        ensures refuses { self.old.spent ≡ true → Refuses self.old self.new result }
+        ensures passes { self.old.spent ≡ false → Passes self.old self.new result }
     {
         if self.spent {
             self.faults = self.faults.saturating_add(1);
@@ -202,28 +195,19 @@ impl<'a, N: Nvm> Nvm for Fused<'a, N> {
         requires range { at + length bytes.now ≤ fused_extent self.old }
         requires piece { (1 ≤ length bytes.now) × (length bytes.now ≤ LONGEST_WRITE) }
         ensures size { fused_extent self.new ≡ fused_extent self.old }
-        ensures told { Wrote at bytes.now result
-            (fused_content self.old) (fused_settled self.old)
-            (fused_content self.new) (fused_settled self.new) }
+        ensures told { Across fused_content fused_settled
+            (Wrote at bytes.now result) self.old self.new }
         ensures time { Ticks self.old.ticks self.new.ticks self.old.last_good self.new.last_good result }
-        ensures crash { Elapses self.old.ticks (fused_since self.old) (fused_since self.new)
-            (MayLeave (fused_content self.old) (outside at (length bytes.now) (fused_settled self.old))) }
-        ensures full { self.old.ticks ≡ last_number → IsErr result
-            × Stays (fused_content self.old) (fused_settled self.old) (fused_since self.old)
-            (fused_content self.new) (fused_settled self.new) (fused_since self.new) }
+        ensures crash { CrashInWrite fused_content fused_settled fused_since
+            self.old.ticks at bytes.now self.old self.new }
+        ensures full { self.old.ticks ≡ last_number → IsErr result × FuseStays self.old self.new }
         ensures cause { HasCause self.old.faults self.new.faults result }
         ensures device { FuseGoesOn self.old self.new }
 
-        ensures refuses { IsRefusing (fuse_state self.old) → IsErr result
-            × (fuse_state self.new ≡ after_refused_change (fuse_state self.old))
-            × (self.new.nvm.now ≡ self.old.nvm.now) }
-        ensures passes { IsPassing (fuse_state self.old)
-            → (fuse_state self.new ≡ after_change (is_ok result) (fuse_state self.old))
-            × PassesChange N.Nvm self.old.nvm.now self.new.nvm.now result }
+        ensures refuses { IsRefusing (fuse_state self.old) → RefusesChange self.old self.new result }
+        ensures passes { IsPassing (fuse_state self.old) → ForwardsChange self.old self.new result }
         ensures stops { IsStopping (fuse_state self.old)
-            → (fuse_state self.new ≡ after_stop self.new.broken (fuse_state self.old))
-            × StopsInWrite N.Nvm at bytes.now self.old.nvm.now self.new.middle.value self.new.nvm.now
-            self.old.broken self.new.broken result }
+            → StopsWrite at bytes.now self.old self.new result }
     {
         if self.spent || self.ticks == u64::MAX {
             return Err(self.refuse());
@@ -258,28 +242,17 @@ impl<'a, N: Nvm> Nvm for Fused<'a, N> {
     /// the device fails.
     fn sync(&mut self) -> Result<(), Failed>
         ensures size { fused_extent self.new ≡ fused_extent self.old }
-        ensures told { Synced result
-            (fused_content self.old) (fused_settled self.old)
-            (fused_content self.new) (fused_settled self.new) }
+        ensures told { Across fused_content fused_settled (Synced result) self.old self.new }
         ensures time { Ticks self.old.ticks self.new.ticks self.old.last_good self.new.last_good result }
-        ensures crash { Elapses self.old.ticks (fused_since self.old) (fused_since self.new)
-            (MayLeave (fused_content self.old) (fused_settled self.old)) }
-        ensures full { self.old.ticks ≡ last_number → IsErr result
-            × Stays (fused_content self.old) (fused_settled self.old) (fused_since self.old)
-            (fused_content self.new) (fused_settled self.new) (fused_since self.new) }
+        ensures crash { CrashInSync fused_content fused_settled fused_since
+            self.old.ticks self.old self.new }
+        ensures full { self.old.ticks ≡ last_number → IsErr result × FuseStays self.old self.new }
         ensures cause { HasCause self.old.faults self.new.faults result }
         ensures device { FuseGoesOn self.old self.new }
 
-        ensures refuses { IsRefusing (fuse_state self.old) → IsErr result
-            × (fuse_state self.new ≡ after_refused_change (fuse_state self.old))
-            × (self.new.nvm.now ≡ self.old.nvm.now) }
-        ensures passes { IsPassing (fuse_state self.old)
-            → (fuse_state self.new ≡ after_change (is_ok result) (fuse_state self.old))
-            × PassesChange N.Nvm self.old.nvm.now self.new.nvm.now result }
-        ensures stops { IsStopping (fuse_state self.old)
-            → (fuse_state self.new ≡ after_stop self.new.broken (fuse_state self.old))
-            × StopsInSync N.Nvm self.old.nvm.now self.new.nvm.now
-            self.old.broken self.new.broken result }
+        ensures refuses { IsRefusing (fuse_state self.old) → RefusesChange self.old self.new result }
+        ensures passes { IsPassing (fuse_state self.old) → ForwardsChange self.old self.new result }
+        ensures stops { IsStopping (fuse_state self.old) → StopsSync self.old self.new result }
     {
         if self.spent || self.ticks == u64::MAX {
             return Err(self.refuse());
@@ -312,8 +285,8 @@ impl<'a, N: Nvm> Nvm for Fused<'a, N> {
     /// It fails exactly where the fuse is spent or the device fails.
     fn power_cycle(&mut self) -> Result<(), Failed>
         ensures size { fused_extent self.new ≡ fused_extent self.old }
-        ensures told { Cycled result (fused_content self.old) (fused_settled self.old) (fused_since self.old)
-            (fused_content self.new) (fused_settled self.new) (fused_since self.new) }
+        ensures told { Repowered fused_content fused_settled fused_since
+            result self.old self.new }
         ensures no_more { (t : ℕ) (image : List ℕ) → t ≤ self.old.ticks
             → fused_since self.new t image → fused_since self.old t image }
         ensures past_stays { (t : ℕ) (image : List ℕ) → t < self.old.last_good
@@ -323,12 +296,8 @@ impl<'a, N: Nvm> Nvm for Fused<'a, N> {
         ensures cause { HasCause self.old.faults self.new.faults result }
         ensures device { FuseGoesOn self.old self.new }
 
-        ensures refuses { self.old.spent ≡ true → IsErr result
-            × (fuse_state self.new ≡ after_refusal (fuse_state self.old))
-            × (self.new.nvm.now ≡ self.old.nvm.now) }
-        ensures passes { self.old.spent ≡ false
-            → (fuse_state self.new ≡ after_pass (is_ok result) (fuse_state self.old))
-            × HasCause (N.faults self.old.nvm.now) (N.faults self.new.nvm.now) result }
+        ensures refuses { self.old.spent ≡ true → Refuses self.old self.new result }
+        ensures passes { self.old.spent ≡ false → Passes self.old self.new result }
     {
         if self.spent {
             self.faults = self.faults.saturating_add(1);

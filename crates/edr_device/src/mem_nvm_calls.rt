@@ -1,8 +1,8 @@
 //! The calls of a memory in memory.
 ghost use Rattle.std.specs.Prelude.{◌≡◌, ◌+◌, ◌≤◌, ◌<◌, ◌^◌, ℕ, List, false, is_ok, length, IsOk, IsErr, OnOk, OnErr, IfOk, IsTrue};
-ghost use Rattle.edr_device.specs.Device.{Cycled, Elapses, MayLeave, Shows, Stays, Synced, Ticks, Wrote, outside};
+ghost use Rattle.edr_device.specs.Device.{Across, CrashInSync, CrashInWrite, Repowered, Shows, Synced, Ticks, Wrote};
 ghost use Rattle.edr_device.specs.Faults.{HasCause, last_number};
-ghost use Rattle.edr_device.specs.Memory.{ChangeFails, ReadFails, Remembers, SameChoices, after_failed_change, after_power_cycle, after_read, after_sync, after_write, memory_content, memory_image, memory_settled, memory_since, memory_state, new_memory};
+ghost use Rattle.edr_device.specs.Memory.{ChangeFails, MemoryStays, ReadFails, Remembers, SameChoices, after_failed_change, after_power_cycle, after_read, after_sync, after_write, memory_content, memory_image, memory_settled, memory_since, memory_state, new_memory};
 ghost use Rattle.edr_device.specs.declared.device.TheConstants.{LONGEST_WRITE};
 
 use crate::calls::is_numbered;
@@ -135,8 +135,7 @@ impl Nvm for MemNvm {
         ensures size { length (memory_image self.new) ≡ length (memory_image self.old) }
         ensures bytes { OnOk result (Shows at into.new (memory_content self.old)) }
         ensures into_stays { OnErr result (into.new ≡ into.old) }
-        ensures stays { Stays (memory_content self.old) (memory_settled self.old) (memory_since self.old)
-            (memory_content self.new) (memory_settled self.new) (memory_since self.new) }
+        ensures stays { MemoryStays self.old self.new }
         ensures clock { self.new.clock ≡ self.old.clock }
         ensures good { self.new.last_good ≡ self.old.last_good }
         ensures cause { HasCause self.old.faults self.new.faults result }
@@ -161,14 +160,12 @@ impl Nvm for MemNvm {
         requires range { at + length bytes.now ≤ length (memory_image self.old) }
         requires piece { (1 ≤ length bytes.now) × (length bytes.now ≤ LONGEST_WRITE) }
         ensures size { length (memory_image self.new) ≡ length (memory_image self.old) }
-        ensures told { Wrote at bytes.now result (memory_content self.old) (memory_settled self.old)
-            (memory_content self.new) (memory_settled self.new) }
+        ensures told { Across memory_content memory_settled
+            (Wrote at bytes.now result) self.old self.new }
         ensures time { Ticks self.old.clock self.new.clock self.old.last_good self.new.last_good result }
-        ensures crash { Elapses self.old.clock (memory_since self.old) (memory_since self.new)
-            (MayLeave (memory_content self.old) (outside at (length bytes.now) (memory_settled self.old))) }
-        ensures full { self.old.clock ≡ last_number → IsErr result
-            × Stays (memory_content self.old) (memory_settled self.old) (memory_since self.old)
-            (memory_content self.new) (memory_settled self.new) (memory_since self.new) }
+        ensures crash { CrashInWrite memory_content memory_settled memory_since
+            self.old.clock at bytes.now self.old self.new }
+        ensures full { self.old.clock ≡ last_number → IsErr result × MemoryStays self.old self.new }
         ensures cause { HasCause self.old.faults self.new.faults result }
         ensures device { SameChoices self.old self.new }
 
@@ -191,14 +188,11 @@ impl Nvm for MemNvm {
     /// It fails exactly where the call is numbered or none is left, and then settles nothing.
     fn sync(&mut self) -> Result<(), Failed>
         ensures size { length (memory_image self.new) ≡ length (memory_image self.old) }
-        ensures told { Synced result (memory_content self.old) (memory_settled self.old)
-            (memory_content self.new) (memory_settled self.new) }
+        ensures told { Across memory_content memory_settled (Synced result) self.old self.new }
         ensures time { Ticks self.old.clock self.new.clock self.old.last_good self.new.last_good result }
-        ensures crash { Elapses self.old.clock (memory_since self.old) (memory_since self.new)
-            (MayLeave (memory_content self.old) (memory_settled self.old)) }
-        ensures full { self.old.clock ≡ last_number → IsErr result
-            × Stays (memory_content self.old) (memory_settled self.old) (memory_since self.old)
-            (memory_content self.new) (memory_settled self.new) (memory_since self.new) }
+        ensures crash { CrashInSync memory_content memory_settled memory_since
+            self.old.clock self.old self.new }
+        ensures full { self.old.clock ≡ last_number → IsErr result × MemoryStays self.old self.new }
         ensures cause { HasCause self.old.faults self.new.faults result }
         ensures device { SameChoices self.old self.new }
 
@@ -222,8 +216,8 @@ impl Nvm for MemNvm {
     /// It never fails. It leaves the image that was picked.
     fn power_cycle(&mut self) -> Result<(), Failed>
         ensures size { length (memory_image self.new) ≡ length (memory_image self.old) }
-        ensures told { Cycled result (memory_content self.old) (memory_settled self.old) (memory_since self.old)
-            (memory_content self.new) (memory_settled self.new) (memory_since self.new) }
+        ensures told { Repowered memory_content memory_settled memory_since
+            result self.old self.new }
         ensures no_more { (t : ℕ) (image : List ℕ) → t ≤ self.old.clock
             → memory_since self.new t image → memory_since self.old t image }
         ensures past_stays { (t : ℕ) (image : List ℕ) → t < self.old.last_good

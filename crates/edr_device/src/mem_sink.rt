@@ -21,8 +21,7 @@ pub struct MemSink {
 }
 
 impl MemSink {
-    ghost use Rattle.edr_device.specs.CallCounts.{no_calls};
-    ghost use Rattle.edr_device.specs.SinkState.{sink_state};
+    ghost use Rattle.edr_device.specs.SinkState.{new_sink, sink_state};
 
     /// An empty sink with room for so many bytes. A call takes at most `piece` of them. The calls that are numbered in
     /// `fails`, from 1, fail.
@@ -33,7 +32,7 @@ impl MemSink {
         fails: Vec<u32>,
     ) -> Result<MemSink, OutOfMemory>
         requires { 1 ≤ piece }
-        ensures { IfOk result (λ s. sink_state s ≡ record { content = []; room = room; piece = piece; calls = no_calls fails.items }) }
+        ensures { IfOk result (λ s. sink_state s ≡ new_sink room piece fails.items) }
     {
         let bytes = Vec::with_capacity(alloc, room)?;
         Ok(MemSink {
@@ -55,7 +54,7 @@ impl MemSink {
 impl Sink for MemSink {
     ghost use Rattle.std.specs.Prelude.{Some};
     ghost use Rattle.edr_device.specs.CallCounts.{after_call};
-    ghost use Rattle.edr_device.specs.SinkState.{PutFails, sink_state, taken_of};
+    ghost use Rattle.edr_device.specs.SinkState.{PutFails, room_in_all, sink_state, taken_of};
 
     ghost content = { λ s. Some (sink_state s).content };
 
@@ -73,7 +72,7 @@ impl Sink for MemSink {
         ensures fails { OnErr result (PutFails (sink_state self.old)) }
         ensures succeeds { OnOk result (¬ PutFails (sink_state self.old)) }
         ensures taken { IfOk result (λ n. n ≡ taken_of (sink_state self.old) (length piece.now)) }
-        ensures room { length (sink_state self.new).content + (sink_state self.new).room ≡ length (sink_state self.old).content + (sink_state self.old).room }
+        ensures room { room_in_all (sink_state self.new) ≡ room_in_all (sink_state self.old) }
         ensures counts { (sink_state self.new).calls ≡ after_call (is_ok result) (sink_state self.old).calls }
         ensures piece { (sink_state self.new).piece ≡ (sink_state self.old).piece }
     {

@@ -1,5 +1,6 @@
 //! Whole transfers: all bytes of a source, and all bytes into a sink.
 ghost use Rattle.std.specs.Prelude.{◌≡◌, ◌≢◌, ◌+◌, ◌≤◌, ◌<◌, ◌^◌, ℕ, List, [], Some, length, vec_len, IfOk, IsOk, OnErr, OnOk};
+ghost use Rattle.std.specs.Option.{ForSome};
 ghost use Rattle.edr_device.specs.Faults.{HasCause, Rose};
 ghost use Rattle.edr_device.specs.Stream.{Appends};
 ghost use Rattle.edr_device.specs.Told.{Told};
@@ -81,7 +82,8 @@ pub fn take_all<S: Source>(
     ensures within { IfOk result (λ v. vec_len v ≤ limit) }
     ensures too_long { result ≡ Err TakeFault.TooLong → Told (GivesTooMany limit) (S.left source.old) (S.left source.new) }
     ensures failed { result ≡ Err TakeFault.Failed → Rose (S.faults source.old) (S.faults source.new) }
-    ensures complete { (bytes : List ℕ) → S.left source.old ≡ Some bytes → ¬ Rose (S.faults source.old) (S.faults source.new) → IsAnswerWithin limit bytes result }
+    ensures complete { ForSome (S.left source.old) (λ bytes.
+        ¬ Rose (S.faults source.old) (S.faults source.new) → IsAnswerWithin limit bytes result) }
     ensures err { OnErr result (Told (GivesAtMost (limit + 1)) (S.left source.old) (S.left source.new)) }
     ensures later { S.faults source.old ≤ S.faults source.new }
 {

@@ -9,6 +9,7 @@ use Rattle.std.proofs.lemmas.Map.Keys.{IsDistinct-cons, IsDistinct-head, IsDisti
 use Rattle.std.proofs.lemmas.Map.Steps.{length-le_from_distinct_below}
 use Rattle.edr_record.specs.declared.Record.{Record}
 use Rattle.edr_image.specs.declared.Found.{Found}
+use Rattle.edr_image.specs.declared.places.TheConstants.{MOST_BANKS}
 use Rattle.edr_image.specs.Banks.{found_event}
 use Rattle.edr_reading.specs.Values.{IsBank}
 use Rattle.edr_reading.specs.Found.{IsEvent, IsDamaged, BeginsTold, damaged_fields, count_fields, last_rows}
@@ -46,28 +47,28 @@ not-zero (x ∷ xs) h = (other x h.0.0, not-zero xs h.1)
     other : (x : ℕ) → 1 ≤ x → eqb 0 x ≡ false
     other x k = grind (arith, nat_tests)
 
-below-17 : (xs : List ℕ) (q : ℕ) → AllByRecursion IsBank xs → list_any (eqb q) xs ≡ true → q < 17
-below-17 [] q h e = cc
-below-17 (x ∷ xs) q h e = ⊎_elim
+below-most : (xs : List ℕ) (q : ℕ) → AllByRecursion IsBank xs → list_any (eqb q) xs ≡ true → q < MOST_BANKS + 1
+below-most [] q h e = cc
+below-most (x ∷ xs) q h e = ⊎_elim
     (λ t. let s : q ≡ x = grind (arith, nat_tests) in omega (arith, s, h.0.1))
-    (λ f. below-17 xs q h.1 (rw f at e))
+    (λ f. below-most xs q h.1 (rw f at e))
     (cases_Bool (eqb q x))
 
 -- banks that are told once are no more than there are
-pub few-banks : (es : List (ℕ × Record)) (ds : List Found) → All IsEvent es → All IsDamaged ds → AreDistinct (map found_event es ++ ds) → length es + length ds ≤ 16
+pub few-banks : (es : List (ℕ × Record)) (ds : List Found) → All IsEvent es → All IsDamaged ds → AreDistinct (map found_event es ++ ds) → length es + length ds ≤ MOST_BANKS
 few-banks es ds a b d =
     let banks = map (λ (f : Found). f.bank) (map found_event es ++ ds) in
     let are = banks-are es ds a b in
-    let most = length-le_from_distinct_below (0 ∷ banks) 17 (IsDistinct-cons eqb 0 banks (not-zero banks are) d) (λ q h. first q banks are h) in
+    let most = length-le_from_distinct_below (0 ∷ banks) (MOST_BANKS + 1) (IsDistinct-cons eqb 0 banks (not-zero banks are) d) (λ q h. first q banks are h) in
     let n = length-map (map found_event es ++ ds) (λ (f : Found). f.bank) in
     let m = length-append (map found_event es) ds in
     let k = length-map es found_event in
     omega (arith, most, n, m, k)
   where
-    first : (q : ℕ) (xs : List ℕ) → AllByRecursion IsBank xs → list_any (eqb q) (0 ∷ xs) ≡ true → q < 17
+    first : (q : ℕ) (xs : List ℕ) → AllByRecursion IsBank xs → list_any (eqb q) (0 ∷ xs) ≡ true → q < MOST_BANKS + 1
     first q xs h e = ⊎_elim
         (λ t. let s : q ≡ 0 = grind (arith, nat_tests) in omega (arith, s))
-        (λ f. below-17 xs q h (rw f at e))
+        (λ f. below-most xs q h (rw f at e))
         (cases_Bool (eqb q 0))
 
 -- one more damaged bank

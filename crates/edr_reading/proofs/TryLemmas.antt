@@ -4,6 +4,7 @@ use Rattle.std.specs.Option.{IfSome, MatchOption}
 use Rattle.std.specs.Prelude.{⊤}
 use Rattle.std.specs.Result.{IfOk}
 use Rattle.edr_record.specs.declared.Place.TheVariants.{First, Second}
+use Rattle.edr_image.specs.declared.places.TheConstants.{MOST_BANKS}
 use Rattle.edr_report.specs.Words.{yes_no, extreme_words, milliseconds}
 use Rattle.edr_reading.specs.Faults.{AreReport, Opens, GoesOn}
 use Rattle.edr_reading.specs.Found.{count_fields}
@@ -65,7 +66,7 @@ pub none-later : (rows : List (List (List ℕ))) (last : List (List ℕ)) (p : �
 none-later rows last p true h s n = s refl
 none-later rows last p false h s n = λ bank k. let m = n refl in (codes "1", m.0, (λ z. absurd (omega (arith, h, z))), m.1, m.2)
 
-pub none-first : (rows : List (List (List ℕ))) (last : List (List ℕ)) (p : ℕ) (b : Bool) → (b ≡ true → SomeBehind rows last p) → (b ≡ false → (k : ℕ) → k < 16 → NoneIn rows last p (get_or banks k [])) → MatchBool b (SomeBehind rows last p) (NoneBehind rows last p)
+pub none-first : (rows : List (List (List ℕ))) (last : List (List ℕ)) (p : ℕ) (b : Bool) → (b ≡ true → SomeBehind rows last p) → (b ≡ false → (k : ℕ) → k < MOST_BANKS → NoneIn rows last p (get_or banks k [])) → MatchBool b (SomeBehind rows last p) (NoneBehind rows last p)
 none-first rows last p true s n = s refl
 none-first rows last p false s n = λ bank k. let m = n refl (bank - 1) (omega (arith, k.0, k.1)) in (get_or banks (bank - 1) [], m.0, (λ z. bank-spelled bank k), m.1, m.2)
 

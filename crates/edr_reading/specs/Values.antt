@@ -1,5 +1,6 @@
 -- Which values a report may show, where the parts of a record don't say it.
 use Rattle.std.specs.Prelude.{ℕ, ◌≡◌, ◌≤◌, ◌⊎◌, Option, IfSome, List, []}
+use Rattle.edr_image.specs.declared.places.TheConstants.{MOST_BANKS}
 use Rattle.edr_image.specs.declared.BankView.{BankView}
 use Rattle.edr_image.specs.declared.BankView.TheVariants.{Void, Event, Damaged}
 use Rattle.edr_report.specs.Words.{damage_words}
@@ -10,7 +11,7 @@ use Rattle.edr_image.specs.declared.Applied.TheVariants.{Kept, Locked, Done, Not
 
 -- the number of a bank
 abbrev pub IsBank : ℕ → Type 0
-IsBank b = (1 ≤ b) × (b ≤ 16)
+IsBank b = (1 ≤ b) × (b ≤ MOST_BANKS)
 
 -- the changing call in which a cycle was stopped, if it was
 abbrev pub IsStop : Option ℕ → Type 0

@@ -3,6 +3,7 @@
 ghost use Rattle.std.specs.Prelude.{◌≡◌, ◌≤◌, ◌+◌, ◌*◌, ◌∷◌, ◌++◌, ℕ, [], List, All, eqb, false, IfOk, OnOk, IfErr, IfSome, IsSome, MatchOption, length, map, drop};
 ghost use Rattle.std.specs.Bool.{MatchBool};
 ghost use Rattle.std.specs.List.{AllByRecursion};
+ghost use Rattle.edr_image.specs.declared.places.TheConstants.{MOST_BANKS};
 ghost use Rattle.edr_image.specs.Banks.{found_event};
 ghost use Rattle.edr_reading.specs.Answers.{GivesRow};
 ghost use Rattle.edr_reading.specs.Found.{IsEvent, IsDamaged, events_fields, damaged_fields, count_fields, last_rows, BeginsTold};
@@ -12,6 +13,7 @@ ghost use Rattle.edr_reading.specs.Reading.{AreDistinct};
 use crate::event::{EVENT_ROWS, read_event};
 use crate::rows::Row;
 use crate::told::{is_told, read_count, read_damaged};
+use edr_image::places::MOST_BANKS;
 use edr_image::{BankView, Found};
 use edr_record::Record;
 use std::alloc::Global;
@@ -23,9 +25,6 @@ pub(crate) enum Refused {
     NoReport,
     OutOfMemory,
 }
-
-// The most banks that an image has.
-const MOST_BANKS: u32 = 16;
 
 // The rows begin with one that isn't of block 0.
 fn begins_event(rows: &[Row<'_>]) -> bool
@@ -61,16 +60,16 @@ pub(crate) fn take_events(
     requires { 1 ≤ block }
     ensures read { OnOk result ((es : List (ℕ × Record)) × (found.new.items ≡ found.old.items ++ map found_event es) × All IsEvent es
         × (map fields rows.now ≡ events_fields block es ++ map fields (drop (28 * length es) rows.now)) × (28 * length es ≤ length rows.now)) }
-    ensures whole { OnOk result ((es : List (ℕ × Record)) (more : List (List (List ℕ))) → All IsEvent es → length es + block ≤ 17 → BeginsTold more
+    ensures whole { OnOk result ((es : List (ℕ × Record)) (more : List (List (List ℕ))) → All IsEvent es → length es + block ≤ MOST_BANKS + 1 → BeginsTold more
         → map fields rows.now ≡ events_fields block es ++ more
         → (map (λ f. f.bank) found.new.items ≡ map (λ f. f.bank) found.old.items ++ map (λ e. e.0) es) × (map fields (drop (28 * length es) rows.now) ≡ more)) }
-    ensures refused { IfErr result (λ e. (es : List (ℕ × Record)) (more : List (List (List ℕ))) → All IsEvent es → length es + block ≤ 17 → BeginsTold more
+    ensures refused { IfErr result (λ e. (es : List (ℕ × Record)) (more : List (List (List ℕ))) → All IsEvent es → length es + block ≤ MOST_BANKS + 1 → BeginsTold more
         → map fields rows.now ≡ events_fields block es ++ more → e ≡ Refused.OutOfMemory) }
 {
     if !begins_event(rows) {
         return Ok(());
     }
-    if block > MOST_BANKS {
+    if block > u32::from(MOST_BANKS) {
         return Err(Refused::NoReport);
     }
     match first_event(rows, block) {
@@ -170,7 +169,7 @@ pub(crate) fn found_of(alloc: Global, rows: &[Row<'_>]) -> Result<(Vec<Found>, u
     let mut found = Vec::new(alloc);
     take_events(rows, 1, &mut found)?;
     let rest = rows.split_at(EVENT_ROWS * found.len()).1;
-    let count = take_damaged(rest, MOST_BANKS, &mut found)?;
+    let count = take_damaged(rest, MOST_BANKS.into(), &mut found)?;
     if are_distinct(&found) {
         Ok((found, count))
     } else {

@@ -11,6 +11,7 @@ ghost use Rattle.edr_reading.specs.Values.{IsBank, IsStop, IsApplied, IsDamagedV
 use crate::front::{
     behind, is_word, last_within, number_behind, one_number, two_numbers, two_within, within_behind,
 };
+use edr_image::places::MOST_BANKS;
 use edr_image::{Applied, BankView, Kind};
 use edr_record::{Extreme, Place};
 
@@ -28,7 +29,7 @@ pub(crate) fn bank_behind(bytes: &[u8], front: &[u8]) -> Option<u8>
     ensures read { IfSome result (λ b. (bytes.now ≡ front.now ++ decimal b) × IsBank b) }
     ensures whole { (b : ℕ) → IsBank b → bytes.now ≡ front.now ++ decimal b → result ≡ Some b }
 {
-    match last_within(bytes, front, 1, 16) {
+    match last_within(bytes, front, 1, MOST_BANKS.into()) {
         Some(bank) => Some(bank as u8),
         None => None,
     }
