@@ -12,9 +12,10 @@ import sys
 from pathlib import Path
 
 MAGIC = b"EDRIMAGE"
-FRONT, BANK = 96, 512
+FRONT, BANK = 96, 1_024
 SLOTS_OF_COUNT = (32, 64)
-PRE, CRASH = 16, 176
+PRE, CRASH = 16, 864
+SLOTS, ROOM = 11, 201
 OPEN = 0xA5
 DAY, DURATION, LAST_COUNT = 86_400_000, 500, 4_294_967_295
 MOST_SPEED, MOST_CHANGE, LONGEST_PAIR = 300, 3_000, 5_000
@@ -68,20 +69,26 @@ class Fields:
         for _ in range(count):
             self.take(1, [(0, 0)])
 
+    def slots(self, width, most):
+        """The slots of a list, and zeros in the rest of its room."""
+        slots = [self.optional(width, most) for _ in range(SLOTS)]
+        self.zeros(width * (ROOM - SLOTS))
+        return slots
+
 
 def read_pre(bank):
     """The part of a record that stood before time zero."""
     fields = Fields(bank, PRE)
     pre = {"cycle": fields.take(4, [(1, LAST_COUNT)]), "zero": fields.take(4, [(1, DAY)])}
     pre["place"] = fields.take(1, [(1, 2)])
-    fields.zeros(1)
+    fields.take(1, [(1, 1)])
     pre["after"] = fields.take(2, [(0, 0)] if pre["place"] == 1 else [(1, LONGEST_PAIR)])
-    pre["speed"] = [fields.optional(2, MOST_SPEED) for _ in range(11)]
-    pre["throttle"] = [fields.optional(1, 100) for _ in range(11)]
-    pre["brake"] = [fields.optional(1, 1) for _ in range(11)]
+    pre["speed"] = fields.slots(2, MOST_SPEED)
+    pre["throttle"] = fields.slots(1, 100)
+    pre["brake"] = fields.slots(1, 1)
     pre["belt"] = fields.optional(1, 1)
     pre["lamp"] = fields.optional(1, 1)
-    fields.zeros(102)
+    fields.zeros(30)
     return pre
 
 
@@ -99,7 +106,7 @@ def read_crash(bank):
     crash["resultant"] = fields.take(2, [(0, window)])
     crash["missing"] = [fields.take(2, [(0, window)]) for _ in range(2)]
     crash["fired"] = [fields.optional(2, max(end, window)) for _ in range(8)]
-    fields.zeros(184)
+    fields.zeros(24)
     return crash
 
 
@@ -111,7 +118,7 @@ def check_front(image):
         if image[at] != letter:
             raise Refused(f"image not formatted at {at} found {image[at]}")
     version = int.from_bytes(image[8:10], "big")
-    if version != 1:
+    if version != 2:
         raise Refused(f"image version {version}")
     if not 2 <= image[10] <= 16:
         raise Refused(f"image banks {image[10]}")
