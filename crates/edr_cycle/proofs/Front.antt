@@ -36,10 +36,10 @@ none_mapped : {X Y : Type 0} (o : Option X) (f : X → Y) → option_map f o ≡
 none_mapped None f e = refl
 none_mapped (Some x) f e = absurd cc
 
-range_length : (xs : List ℕ) (at : ℕ) → at + 512 ≤ length xs → length (slice_range xs at (at + 512)) ≡ 512
+range_length : (xs : List ℕ) (at : ℕ) → at + 1024 ≤ length xs → length (slice_range xs at (at + 1024)) ≡ 1024
 range_length xs at fits = grind (arith, common_steps)
 
-range_read : (xs : List ℕ) (at j : ℕ) → at + 512 ≤ length xs → j < 512 → slice_index (slice_range xs at (at + 512)) j ≡ slice_index xs (at + j)
+range_read : (xs : List ℕ) (at j : ℕ) → at + 1024 ≤ length xs → j < 1024 → slice_index (slice_range xs at (at + 1024)) j ≡ slice_index xs (at + j)
 range_read xs at j fits below = grind (arith, common_steps)
 
 same_store : (h h' : Header) (b b' : List BankView) → h ≡ h' → b ≡ b' → ◌≡◌ {A = Store} (record { header = h; banks = b }) (record { header = h'; banks = b' })
@@ -111,16 +111,16 @@ module _ (bytes image : List ℕ) (s : SameBut 32 64 bytes image) (fits : 96 ≤
       let version : number_at image 8 2 ≡ number_at bytes 8 2 = number_beside 32 64 bytes image 8 2 s (omega arith) (inl (omega arith)) in
       rw (magic_none, version, front 10 (omega arith), front 11 (omega arith)) two.1
 
-  bank_range : (at : ℕ) → 96 ≤ at → at + 512 ≤ length bytes → slice_range image at (at + 512) ≡ slice_range bytes at (at + 512)
+  bank_range : (at : ℕ) → 96 ≤ at → at + 1024 ≤ length bytes → slice_range image at (at + 1024) ≡ slice_range bytes at (at + 1024)
   bank_range at low high =
       let size = s.size in
-      same_number_lists (slice_range image at (at + 512)) (slice_range bytes at (at + 512)) (range_length image at (omega arith) ∙ sym (range_length bytes at high)) (λ j below.
-      let below' : j < 512 = subst (λ (l : ℕ). j < l) (range_length image at (omega arith)) below in
+      same_number_lists (slice_range image at (at + 1024)) (slice_range bytes at (at + 1024)) (range_length image at (omega arith) ∙ sym (range_length bytes at high)) (λ j below.
+      let below' : j < 1024 = subst (λ (l : ℕ). j < l) (range_length image at (omega arith)) below in
       range_read image at j (omega arith) below' ∙ byte_beside 32 64 bytes image (at + j) s (omega arith) (inr (omega arith)) ∙ sym (range_read bytes at j high below'))
 
   store_same : image_size (slice_index bytes 10) ≤ length bytes → store_of image ≡ store_of bytes
-  store_same long = same_store _ _ _ _ header_same (ap (λ (n : ℕ). map (λ m. bank_view (slice_range image (place_of m) (place_of m + 512))) (range_with_len 1 n)) (front 10 (omega arith))
-      ∙ map_same (λ m. bank_view (slice_range image (place_of m) (place_of m + 512))) (λ m. bank_view (slice_range bytes (place_of m) (place_of m + 512))) 1 (slice_index bytes 10) (λ k low high. ap bank_view (bank_range (place_of k) (omega arith) (omega arith))))
+  store_same long = same_store _ _ _ _ header_same (ap (λ (n : ℕ). map (λ m. bank_view (slice_range image (place_of m) (place_of m + 1024))) (range_with_len 1 n)) (front 10 (omega arith))
+      ∙ map_same (λ m. bank_view (slice_range image (place_of m) (place_of m + 1024))) (λ m. bank_view (slice_range bytes (place_of m) (place_of m + 1024))) 1 (slice_index bytes 10) (λ k low high. ap bank_view (bank_range (place_of k) (omega arith) (omega arith))))
 
   -- the view is the same with the count that stands there
   pub view_same : (v : View) → view_of bytes ≡ Some v → view_of image ≡ Some (record v { count = count_of image })

@@ -44,7 +44,7 @@ as_many banks (Fill m pre) = length-set banks (m - 1) _
 as_many banks (Lock m) = length-set banks (m - 1) _
 as_many banks (Done m crash) = length-set banks (m - 1) _
 
-past_bank : (n m i : ℕ) → 1 ≤ m → m ≤ n → image_size n ≤ i → is_in (place_of m) 512 i ≡ false
+past_bank : (n m i : ℕ) → 1 ≤ m → m ≤ n → image_size n ≤ i → is_in (place_of m) 1024 i ≡ false
 past_bank n m i from to past = grind (arith, nat_tests)
 
 past_banks : (steps : List Step) (banks : List BankView) (i : ℕ) → MayTakeAll banks steps → image_size (length banks) ≤ i → IsAside steps i

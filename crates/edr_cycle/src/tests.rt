@@ -64,9 +64,9 @@ fn memory_of(alloc: Global, image: &[u8], pick: u64) -> Result<MemNvm, Fail>
 fn formatted(alloc: Global, banks: u8, choice: Choice, pick: u64) -> Result<MemNvm, Fail>
     requires from { 2 ≤ banks }
     requires to { banks ≤ 16 }
-    ensures { IfOk result (λ m. length (memory_image m) ≡ 8288) }
+    ensures { IfOk result (λ m. length (memory_image m) ≡ 16480) }
 {
-    let mut memory = memory_of(alloc, &[0; 8_288], pick)?;
+    let mut memory = memory_of(alloc, &[0; 16_480], pick)?;
     Banks::format(&mut memory, banks, choice)?;
     Ok(memory)
 }
@@ -248,7 +248,7 @@ fn crash_acks(bank: u8) -> [Ack; 2] {
 
 // A formatted image with this count in its first slot.
 fn image_with_count(alloc: Global, count: u32) -> Result<Vec<u8>, Fail>
-    ensures { IfOk result (λ image. length image.items ≡ 8288) }
+    ensures { IfOk result (λ image. length image.items ≡ 16480) }
 {
     let memory = formatted(alloc, 2, Choice::Keep, 0)?;
     let mut image = memory.image().to_vec(alloc)?;
