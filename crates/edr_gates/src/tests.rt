@@ -40,7 +40,7 @@ fn crash_bytes() -> [u8; 160] {
 
 // An image of two void banks, with calls that fail.
 fn two_banks(alloc: Global, fails: &[u32], pick: u64) -> Result<MemNvm, AllocError>
-    ensures { IfOk result (λ m. length (memory_image m) ≡ 1120) }
+    ensures { IfOk result (λ m. length (memory_image m) ≡ 2144) }
 {
     let image = [0u8; 2144].to_vec(alloc)?;
     MemNvm::new(
