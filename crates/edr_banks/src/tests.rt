@@ -55,7 +55,7 @@ fn zeros(
 
 // A formatted image with two void banks, whose further calls with these numbers fail.
 fn formatted(alloc: Global, choice: Choice, fails: &[u32], pick: u64) -> Result<MemNvm, Fail>
-    ensures { IfOk result (λ m. length (memory_image m) ≡ 1120) }
+    ensures { IfOk result (λ m. length (memory_image m) ≡ 2144) }
 {
     let mut memory = zeros(alloc, 2_144, fails, &[], pick)?;
     Banks::format(&mut memory, 2, choice)?;
