@@ -1,6 +1,6 @@
 -- What a command leaves of opened banks and of time.
-use Rattle.std.specs.Prelude.{◌≡◌, ◌⊎◌, ◌+◌, ℕ, true, List, fold, Option, Some, slice_get}
-use Rattle.edr_record.specs.Parts.{CrashPart}
+use Rattle.std.specs.Prelude.{◌≡◌, ◌⊎◌, ◌+◌, ℕ, Bool, true, List, fold, Option, Some, None, slice_get}
+use Rattle.edr_record.specs.Parts.{CrashPart, PrePart}
 use Rattle.edr_record.specs.declared.Record.{Record}
 use Rattle.edr_record.specs.declared.Command.{Command}
 use Rattle.edr_record.specs.declared.Command.TheVariants as command
@@ -8,6 +8,7 @@ use Rattle.edr_image.specs.declared.BankView.{BankView}
 use Rattle.edr_image.specs.declared.BankView.TheVariants.{Event}
 use Rattle.edr_device.specs.Lent.{At, LeftSince}
 use Rattle.edr_device.specs.declared.device.Nvm.{Ghosts}
+use Rattle.edr_image.specs.Banks.{with_bank}
 use Rattle.edr_image.specs.Image.{View, view_of}
 use Rattle.edr_gates.specs.Taken.{IsReady}
 use Rattle.edr_image.specs.Steps.{Step, Reply, after, held_after, reply_to}
@@ -23,6 +24,13 @@ steps_for o c = (reply_of o c).steps
 -- the banks after steps, with the bank that is then held
 abbrev pub opened_after : Opened → List Step → Opened
 opened_after o steps = record o { store = after o.store steps; held = fold held_after o.held steps }
+
+-- the banks with a new event in that bank, which is then held
+abbrev pub holding : ℕ → PrePart → Bool → Opened → Opened
+holding bank pre locked o = record o {
+  store = record o.store { banks = with_bank o.store.banks bank (Event (record { pre = pre; locked = locked; crash = None })) };
+  held = Some bank;
+}
 
 -- no command is taken any more
 abbrev pub ended_after : Opened → Opened
@@ -56,3 +64,7 @@ KeepsLockedEvents c held old new = (i : ℕ) (r : Record) → slice_get old i �
 abbrev pub KeepsCrashParts : Command → Option ℕ → List BankView → List BankView → Type 0
 KeepsCrashParts c held old new =
     (i : ℕ) (r : Record) (crash : CrashPart) → slice_get new i ≡ Some (Event r) → r.crash ≡ Some crash → IsOldOrDone c held old i crash
+
+-- the banks that a crash in or behind the command may leave are such, beside those that the device told
+abbrev pub LeavesBanks : {D : Type 0} → Ghosts D → (Command → Option ℕ → List BankView → List BankView → Type 0) → Opened → Command → D → D → Type 0
+LeavesBanks g keeps o c old new = (v w : View) → MayLeaveView g o c old new v w → keeps c o.held v.store.banks w.store.banks

@@ -4,9 +4,9 @@ ghost use Rattle.edr_device.specs.Faults.{Rose};
 ghost use Rattle.edr_device.specs.Lent.{At, Between, GoesOn, MakesCalls};
 ghost use Rattle.edr_image.specs.declared.Applied.TheVariants.{NotKept};
 ghost use Rattle.edr_image.specs.Calls.{all_calls};
-ghost use Rattle.edr_image.specs.Image.{View, image_size};
+ghost use Rattle.edr_image.specs.Image.{image_size};
 ghost use Rattle.edr_gates.specs.Taken.{AreStopped, AreTaken, EachIsPassedOn, MayTakeAll, PassMeanwhileOn};
-ghost use Rattle.edr_banks.specs.Applying.{KeepsCrashParts, KeepsLockedEvents, MayLeaveView, ended_after, opened_after, reply_of, steps_for};
+ghost use Rattle.edr_banks.specs.Applying.{KeepsCrashParts, KeepsLockedEvents, LeavesBanks, ended_after, opened_after, reply_of, steps_for};
 ghost use Rattle.edr_banks.specs.declared.ApplyFault.TheVariants.{StoreFault, Ended};
 
 use crate::taking::take_on;
@@ -44,10 +44,8 @@ impl Banks {
         ensures any_moment { PassMeanwhileOn N.Nvm (steps_for self.old command.now) nvm.old nvm.new }
         ensures each { EachIsPassedOn N.Nvm (steps_for self.old command.now) nvm.old nvm.new }
         // A locked event stays in each image, but for the crash part that its own Done gives it.
-        ensures locked { (v w : View) → MayLeaveView N.Nvm self.old command.now nvm.old nvm.new v w
-            → KeepsLockedEvents command.now self.old.held v.store.banks w.store.banks }
-        ensures crash_parts { (v w : View) → MayLeaveView N.Nvm self.old command.now nvm.old nvm.new v w
-            → KeepsCrashParts command.now self.old.held v.store.banks w.store.banks }
+        ensures locked { LeavesBanks N.Nvm KeepsLockedEvents self.old command.now nvm.old nvm.new }
+        ensures crash_parts { LeavesBanks N.Nvm KeepsCrashParts self.old command.now nvm.old nvm.new }
     {
         if self.ended {
             return Err(ApplyFault::Ended);

@@ -1,11 +1,12 @@
 //! Opening an image.
 ghost use Rattle.std.specs.Prelude.{◌≡◌, ◌⊎◌, ◌≤◌, ◌<◌, ◌+◌, ℕ, false, None, List, Some, Err, length, slice_range, IfOk, IfErr};
+ghost use Rattle.std.specs.Option.{ForSome};
 ghost use Rattle.edr_device.specs.Faults.{HasCause, Rose};
 ghost use Rattle.edr_device.specs.Lent.{OnlyRead};
 ghost use Rattle.edr_image.specs.declared.OpenFault.TheVariants.{OutOfMemory, Short, StoreFault};
 ghost use Rattle.edr_image.specs.declared.places.TheConstants.{BANK_SIZE, FEWEST_BANKS, FRONT_SIZE, MOST_BANKS};
-ghost use Rattle.edr_image.specs.Image.{bank_view, banks_of, header_of, image_refusal, image_size, place_of, view_of};
-ghost use Rattle.edr_banks.specs.Opening.{IsRefusal, refusal_by, view_when_opened};
+ghost use Rattle.edr_image.specs.Image.{bank_view, banks_of, header_of, image_size, place_of};
+ghost use Rattle.edr_banks.specs.Opening.{IsRefusal, RefusesRightly, TellsView, bank_in, refusal_by, view_when_opened};
 
 use crate::{BankView, Banks, Header, OpenFault};
 use edr_device::{Failed, Nvm};
@@ -17,8 +18,7 @@ fn read_bank<N: Nvm>(nvm: &mut N, bank: u8) -> Result<BankView, Failed>
     requires from { 1 ≤ bank }
     requires to { bank ≤ MOST_BANKS }
     requires room { place_of bank + BANK_SIZE ≤ N.extent nvm.old }
-    ensures view { IfOk result (λ v. (bytes : List ℕ) → N.content nvm.old ≡ Some bytes
-        → v ≡ bank_view (slice_range bytes (place_of bank) (place_of bank + BANK_SIZE))) }
+    ensures view { IfOk result (λ v. ForSome (N.content nvm.old) (λ bytes. v ≡ bank_in bank bytes)) }
     ensures read { OnlyRead N.Nvm nvm.old nvm.new }
     ensures cause { HasCause (N.faults nvm.old) (N.faults nvm.new) result }
 {
@@ -31,7 +31,8 @@ fn read_bank<N: Nvm>(nvm: &mut N, bank: u8) -> Result<BankView, Failed>
 fn read_banks<N: Nvm>(alloc: Global, nvm: &mut N, count: u8) -> Result<Vec<BankView>, OpenFault>
     requires few { count ≤ MOST_BANKS }
     requires room { image_size count ≤ N.extent nvm.old }
-    ensures views { IfOk result (λ v. (bytes : List ℕ) → N.content nvm.old ≡ Some bytes → v.items ≡ banks_of count bytes) }
+    ensures views { IfOk result (λ v.
+        ForSome (N.content nvm.old) (λ bytes. v.items ≡ banks_of count bytes)) }
     ensures all { IfOk result (λ v. length v.items ≡ count) }
     ensures fault { IfErr result (λ e. (e ≡ OutOfMemory) ⊎ ((e ≡ StoreFault) × Rose (N.faults nvm.old) (N.faults nvm.new))) }
     ensures later { N.faults nvm.old ≤ N.faults nvm.new }
@@ -74,12 +75,12 @@ fn header_by(first: &[u8; FRONT_SIZE], size: u32) -> Result<Header, OpenFault>
 impl Banks {
     /// Reads the banks of an image. It makes no changing call.
     pub fn open<N: Nvm>(alloc: Global, nvm: &mut N) -> Result<Banks, OpenFault>
-        ensures view { IfOk result (λ b. (bytes : List ℕ) → N.content nvm.old ≡ Some bytes → view_of bytes ≡ Some (view_when_opened b)) }
+        ensures view { IfOk result (λ b. TellsView (N.content nvm.old) (view_when_opened b)) }
         ensures held { IfOk result (λ b. (b.held ≡ None) × (b.ended ≡ false)) }
         // The device has the bytes of so many banks, also where it tells none.
         ensures fits { IfOk result (λ b. image_size b.store.header.banks ≤ N.extent nvm.old) }
         // The cause of each refusal; and an image without one is not refused, by `view`.
-        ensures refused { IfErr result (λ e. IsRefusal e → (bytes : List ℕ) → N.content nvm.old ≡ Some bytes → image_refusal bytes ≡ Some e) }
+        ensures refused { IfErr result (RefusesRightly (N.content nvm.old)) }
         ensures short { N.extent nvm.old < FRONT_SIZE → result ≡ Err (Short (N.extent nvm.old) FRONT_SIZE) }
         ensures sizes { IfErr result (λ e. (size needed : ℕ) → e ≡ Short size needed → (size ≡ N.extent nvm.old) × (size < needed)) }
         ensures fault { IfErr result (λ e. e ≡ StoreFault → Rose (N.faults nvm.old) (N.faults nvm.new)) }

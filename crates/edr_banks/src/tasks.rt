@@ -1,11 +1,10 @@
 //! What a command does to the banks, and which bank it takes.
-ghost use Rattle.std.specs.Prelude.{◌≡◌, ◌≤◌, [], ◌∷◌, Some, None};
+ghost use Rattle.std.specs.Prelude.{◌≡◌, ◌≤◌, [], ◌∷◌};
 ghost use Rattle.edr_image.specs.declared.places.TheConstants.{MOST_BANKS};
-ghost use Rattle.edr_image.specs.declared.BankView.TheVariants.{Event};
-ghost use Rattle.edr_image.specs.Banks.{is_unlocked, least_unlocked, lowest_void, to_overwrite, with_bank};
+ghost use Rattle.edr_image.specs.Banks.{is_unlocked, least_unlocked, lowest_void, to_overwrite};
 ghost use Rattle.edr_image.specs.Steps.{Done, Lock, done_reply, lock_reply, take_reply, with_crash, with_lock};
 ghost use Rattle.edr_gates.specs.Taken.{MayTakeAll};
-ghost use Rattle.edr_banks.specs.Applying.{opened_after, reply_of};
+ghost use Rattle.edr_banks.specs.Applying.{holding, opened_after, reply_of};
 ghost use Rattle.edr_banks.specs.Tasks.{IsWithin, reply_for, steps_of};
 
 use crate::choosing::{least_unlocked, lowest_void};
@@ -139,10 +138,7 @@ impl Banks {
     fn hold(&mut self, bank: u8, pre: Pre, locked: bool)
         requires from { 1 ≤ bank }
         requires to { bank ≤ self.old.store.header.banks }
-        ensures { self.new ≡ record self.old {
-          store = record self.old.store { banks = with_bank self.old.store.banks bank (Event (record { pre = pre; locked = locked; crash = None })) };
-          held = Some bank;
-        } }
+        ensures { self.new ≡ holding bank pre locked self.old }
     {
         self.banks[bank as usize - 1] = BankView::Event(Record {
             pre,

@@ -1,8 +1,9 @@
 -- What contracts see of a cycle that was started.
-use Rattle.std.specs.Prelude.{◌≡◌, ◌+◌, ◌*◌, ◌/◌, ◌≤◌, ℕ, false, None, []}
+use Rattle.std.specs.Prelude.{◌≡◌, ◌+◌, ◌-◌, ◌*◌, ◌/◌, ◌≤◌, ℕ, false, None, []}
 use Rattle.edr_items.specs.SensorLists.{no_items}
 use Rattle.edr_core.specs.Contents.{CoreContents}
 use Rattle.edr_core.specs.StandsFor.{CoreIsFor}
+use Rattle.edr_image.specs.Image.{View}
 use Rattle.edr_image.specs.Logged.{Logged}
 use Rattle.edr_banks.specs.Opened.{Opened}
 
@@ -13,6 +14,13 @@ pub record Begun : Type 0 where
   pub banks : Opened
   pub core : CoreContents
   pub log : Logged
+
+-- what the image says before it and after it
+abbrev pub view_before : Begun → View
+view_before s = record { store = s.banks.store; count = s.number - 1 }
+
+abbrev pub view_begun : Begun → View
+view_begun s = record { store = s.banks.store; count = s.number }
 
 -- the core stands for the cycle of that number, to which nothing was given yet
 abbrev pub IsFresh : CoreContents → ℕ → Type 0

@@ -1,6 +1,9 @@
 -- What issued commands do to opened banks, to a log and to the device, one after the other.
 use Rattle.std.specs.Prelude.{◌≡◌, ◌≢◌, ◌⊎◌, ◌+◌, ◌-◌, ◌≤◌, ◌<◌, ℕ, Bool, Option, Some, List, [], ◌++◌, map, flat_map, take, zip, length, slice_get, Result, OnOk, OnErr}
+use Rattle.edr_record.specs.Parts.{CrashPart, PrePart}
+use Rattle.edr_record.specs.declared.Command.{Command}
 use Rattle.edr_definitions.specs.Commands.{Issue}
+use Rattle.edr_definitions.specs.Core.{commands_of}
 use Rattle.edr_device.specs.Device.{Elapses, IsQuiet, IsSettled, MayLeave}
 use Rattle.edr_device.specs.Faults.{last_number}
 use Rattle.edr_device.specs.Pieces.{Makes}
@@ -17,6 +20,10 @@ use Rattle.edr_run.specs.Cycle.{ack_of}
 use Rattle.edr_cycle.specs.Past.{KeepsPast}
 
 -- ---- what is issued, and the replies
+
+-- what a tick issues, in its order
+abbrev pub in_order : Option PrePart → Option PrePart → Option CrashPart → List Command
+in_order take lock done = commands_of (record { take = take; lock = lock; done = done })
 
 -- the replies to issued commands, from a state on
 abbrev pub replies_from : State → List Issue → List Reply

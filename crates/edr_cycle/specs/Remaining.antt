@@ -106,3 +106,8 @@ Leads lists n h (Waiting s) i core rest = (h' : History) × (h'.past.closed ≡ 
 Leads lists n h (Closed t some) i core rest =
     (h' : History) × (h'.past.closed ≡ t) × RemainsAt lists n h' core rest × (t ≡ h.past.closed + 1)
     × (issues lists n t ≡ issues lists n h.past.closed ++ map (issue_at t) (commands_put some i))
+
+-- the core still asks for the parts of this time zero, and what it was told has grown in this way
+abbrev pub KeepsAsking : ℕ → (History → History → Type 0) → SplitContents → SplitContents → Remaining → Remaining → Type 0
+KeepsAsking asked grows core core' rest rest' =
+    (f : SensorLists) (n : ℕ) (h : History) → IsAsked f n h core rest asked → (h' : History) × IsAsked f n h' core' rest' asked × grows h h'

@@ -1,13 +1,15 @@
 -- What a start says of its causes and of time.
-use Rattle.std.specs.Prelude.{◌≡◌, ◌≢◌, ◌⊎◌, ◌+◌, ◌-◌, ◌≤◌, ℕ, Bool, Option, List, Result, OnOk, OnErr}
+use Rattle.std.specs.Prelude.{◌≡◌, ◌≢◌, ◌⊎◌, ◌+◌, ◌-◌, ◌≤◌, ◌<◌, ◌↔◌, ℕ, Bool, Option, Some, List, Result, OnOk, OnErr}
 use Rattle.edr_items.specs.SensorLists.{SensorLists}
-use Rattle.edr_device.specs.Device.{Elapses, IsQuiet, MayLeave}
+use Rattle.edr_device.specs.Device.{Elapses, IsQuiet, MayLeave, Unchanged}
 use Rattle.edr_device.specs.Faults.{last_number}
+use Rattle.edr_device.specs.Lent.{At, Meanwhile}
 use Rattle.edr_device.specs.declared.device.Nvm.{Ghosts}
-use Rattle.edr_image.specs.Image.{View}
+use Rattle.edr_image.specs.Image.{View, view_of}
 use Rattle.edr_image.specs.Kept.{IsKept}
 use Rattle.edr_image.specs.Reports.{StartStopped}
-use Rattle.edr_cycle.specs.Counter.{IsCounted}
+use Rattle.edr_run.specs.Cycle.{last_count}
+use Rattle.edr_cycle.specs.Counter.{IsCounted, SaysWith}
 use Rattle.edr_cycle.specs.Ends.{ComesTo, IsFound, cycle_with}
 use Rattle.edr_image.specs.declared.OpenFault.TheVariants as open_fault
 use Rattle.edr_cycle.specs.declared.started.StartFault.{StartFault}
@@ -36,6 +38,38 @@ IsEarly (Open o) = Unit {0}
 IsEarly Spent = Unit {0}
 IsEarly StoreFault = ⊥
 IsEarly OutOfMemory = Unit {0}
+
+-- the bytes have a count, which is the greatest exactly where no number is left
+abbrev pub IsSpentRightly : StartFault → List ℕ → Type 0
+IsSpentRightly e bytes = (v : View) × (view_of bytes ≡ Some v) × (v.count ≤ last_count) × ((e ≡ Spent) ↔ (v.count ≡ last_count))
+
+-- a size that is told as too short is the device's, and less than what is needed
+abbrev pub TellsShort : ℕ → StartFault → Type 0
+TellsShort extent e = (size needed : ℕ) → e ≡ Open (open_fault.Short size needed) → (size ≡ extent) × (size < needed)
+
+-- ---- a count, on a device that tells bytes of this view and on which nothing is pending
+
+-- the image says the same with this count, and nothing is pending again
+abbrev pub CountsTo : {D : Type 0} → Ghosts D → (List ℕ → View → Type 0) → ℕ → D → D → Type 0
+CountsTo g is next old new = (bytes : List ℕ) (v : View) → At g (IsFound v) old bytes → is bytes v → (now : List ℕ) × At g IsQuiet new now × SaysWith next bytes v now
+
+-- a crash after it leaves what a stop in its last call may leave
+abbrev pub LeavesCounted : {D : Type 0} → Ghosts D → (List ℕ → View → Type 0) → ℕ → D → D → Type 0
+LeavesCounted g is next old new = (bytes image : List ℕ) (v : View) → At g (IsFound v) old bytes → is bytes v → At g MayLeave new image → IsCounted (g.clock new - g.clock old) next bytes v image
+
+-- a crash meanwhile leaves the count as it was, or this one
+abbrev pub MeanwhileCounted : {D : Type 0} → Ghosts D → (List ℕ → View → Type 0) → ℕ → D → D → Type 0
+MeanwhileCounted g is next old new = (bytes : List ℕ) (v : View) → At g (IsFound v) old bytes → is bytes v → Meanwhile g old new (IsCounted 6 next bytes v)
+
+-- ---- a start
+
+-- no call was counted, and nothing is changed
+abbrev pub StandsStill : {D : Type 0} → Ghosts D → D → D → Type 0
+StandsStill g old new = (g.clock new ≡ g.clock old) × (g.last_good new ≡ g.last_good old) × Unchanged g.content g.settled g.since old new
+
+-- what was found, with one more on the count, is what stands now
+abbrev pub CountsOne : {D : Type 0} → Ghosts D → View → D → D → Type 0
+CountsOne g w old new = (bytes : List ℕ) (v : View) → At g (IsFound v) old bytes → (now : List ℕ) × At g (IsFound w) new now × SaysWith (v.count + 1) bytes v now
 
 -- Six writes and syncs, or fewer where one fails. `now` is the clock after them, and `good'` the last good moment. Unless the clock stands
 -- at its last value, nothing follows the one that failed.

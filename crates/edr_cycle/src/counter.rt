@@ -1,13 +1,10 @@
 //! The count of ignition cycles, in the older of its two slots.
 
-ghost use Rattle.std.specs.Prelude.{◌+◌, ◌-◌, ◌≤◌, ◌<◌, ℕ, List, OnOk, OnErr};
-ghost use Rattle.edr_device.specs.Lent.{At, Lent, MakesCalls, Meanwhile};
+ghost use Rattle.std.specs.Prelude.{◌+◌, ◌≤◌, ◌<◌, OnOk, OnErr};
+ghost use Rattle.edr_device.specs.Lent.{Lent, MakesCalls};
 ghost use Rattle.edr_image.specs.declared.places.TheConstants.{FRONT_SIZE, SLOT_SIZE};
-ghost use Rattle.edr_image.specs.Image.{View};
-ghost use Rattle.edr_device.specs.Device.{IsQuiet, MayLeave};
-ghost use Rattle.edr_cycle.specs.Counter.{IsCounted, IsNext, SaysWith};
-ghost use Rattle.edr_cycle.specs.Ends.{IsFound};
-ghost use Rattle.edr_cycle.specs.Starts.{MakesSix};
+ghost use Rattle.edr_cycle.specs.Counter.{IsNext};
+ghost use Rattle.edr_cycle.specs.Starts.{CountsTo, LeavesCounted, MakesSix, MeanwhileCounted};
 
 use edr_device::{Failed, Nvm, write_gated, write_settled};
 use edr_layout::{
@@ -24,15 +21,10 @@ pub(crate) fn count_up<N: Nvm>(
     requires { slot + SLOT_SIZE ≤ N.extent nvm.old }
     ensures lent { Lent N.Nvm nvm.old nvm.new result }
     ensures time { MakesCalls 6 N.Nvm nvm.old nvm.new result }
-    ensures made { OnOk result ((bytes : List ℕ) (v : View) → At N.Nvm IsQuiet nvm.old bytes
-        → IsNext slot is_open next bytes v
-        → (now : List ℕ) × At N.Nvm IsQuiet nvm.new now × SaysWith next bytes v now) }
-    ensures stopped { OnErr result ((bytes image : List ℕ) (v : View) → At N.Nvm IsQuiet nvm.old bytes
-        → IsNext slot is_open next bytes v → At N.Nvm MayLeave nvm.new image
-        → IsCounted (N.clock nvm.new - N.clock nvm.old) next bytes v image) }
-    ensures any_moment { (bytes : List ℕ) (v : View) → At N.Nvm IsQuiet nvm.old bytes
-        → IsNext slot is_open next bytes v
-        → Meanwhile N.Nvm nvm.old nvm.new (IsCounted 6 next bytes v) }
+    ensures made { OnOk result (CountsTo N.Nvm (IsNext slot is_open next) next nvm.old nvm.new) }
+    ensures stopped { OnErr result
+        (LeavesCounted N.Nvm (IsNext slot is_open next) next nvm.old nvm.new) }
+    ensures any_moment { MeanwhileCounted N.Nvm (IsNext slot is_open next) next nvm.old nvm.new }
 {
     let closing = closing_write(slot, is_open);
     write_settled(nvm, closing.at, &[closing.byte])?;
@@ -45,12 +37,10 @@ pub(crate) fn count_cycle<N: Nvm>(nvm: &mut N, number: u32) -> Result<(), Failed
     requires { FRONT_SIZE ≤ N.extent nvm.old }
     ensures lent { Lent N.Nvm nvm.old nvm.new result }
     ensures time { MakesSix (N.clock nvm.old) (N.clock nvm.new) (N.last_good nvm.new) result }
-    ensures made { OnOk result ((bytes : List ℕ) (v : View) → At N.Nvm (IsFound v) nvm.old bytes → v.count < number
-        → (now : List ℕ) × At N.Nvm IsQuiet nvm.new now × SaysWith number bytes v now) }
-    ensures stopped { OnErr result ((bytes image : List ℕ) (v : View) → At N.Nvm (IsFound v) nvm.old bytes → v.count < number
-        → At N.Nvm MayLeave nvm.new image → IsCounted (N.clock nvm.new - N.clock nvm.old) number bytes v image) }
-    ensures any_moment { (bytes : List ℕ) (v : View) → At N.Nvm (IsFound v) nvm.old bytes → v.count < number
-        → Meanwhile N.Nvm nvm.old nvm.new (IsCounted 6 number bytes v) }
+    ensures made { OnOk result (CountsTo N.Nvm (λ _ v. v.count < number) number nvm.old nvm.new) }
+    ensures stopped { OnErr result
+        (LeavesCounted N.Nvm (λ _ v. v.count < number) number nvm.old nvm.new) }
+    ensures any_moment { MeanwhileCounted N.Nvm (λ _ v. v.count < number) number nvm.old nvm.new }
 {
     let mut front = [0; FRONT_SIZE];
     nvm.read(0, &mut front)?;

@@ -12,10 +12,14 @@ ghost use Rattle.edr_cycle.specs.Ends.{FirstSteps, KeepsEvents};
 /// What is acknowledged is there with all its steps, wherever a cycle is stopped; the next command is there whole, with
 /// its first steps or not at all; and no other is.
 pub fn what_is_acknowledged_is_there()
-    ensures { (f : SensorLists) (n : ℕ) (v : Store) (k : ℕ) (done : List Step) → IsStop (steps_in f n v) k done → FirstSteps (replies_in f n v) (length (acks_before f n v k)) done }
+    ensures { (f : SensorLists) (n k : ℕ) (v : Store) (done : List Step)
+        → IsStop (steps_in f n v) k done
+        → FirstSteps (replies_in f n v) (length (acks_before f n v k)) done }
 {}
 
 /// After any first steps of a cycle each event stood in its bank before or is of that cycle, and what was locked is there.
 pub fn first_steps_keep_events()
-    ensures { (f : SensorLists) (n : ℕ) (v : Store) (image : List ℕ) → 1 ≤ n → IsAfterFirst (steps_in f n v) (record { store = v; count = n }) image → KeepsEvents f n v image }
+    ensures { (f : SensorLists) (n : ℕ) (v : Store) (image : List ℕ) → 1 ≤ n
+        → IsAfterFirst (steps_in f n v) (record { store = v; count = n }) image
+        → KeepsEvents f n v image }
 {}

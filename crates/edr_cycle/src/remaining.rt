@@ -1,14 +1,15 @@
 //! What is left of a cycle whose slow sensors keep their own samples, done by one thread.
 
-ghost use Rattle.std.specs.Prelude.{◌≡◌, ◌+◌, ◌<◌, ◌≤◌, ◌*◌, ◌/◌, ℕ, None, false, length, All};
+ghost use Rattle.std.specs.Prelude.{◌≡◌, ◌+◌, ◌<◌, ◌≤◌, ℕ, None, false, length, All};
 ghost use Rattle.edr_device.specs.Lent.{Lent};
 ghost use Rattle.edr_items.specs.Sensor.{IsSlow};
 ghost use Rattle.edr_items.specs.SensorLists.{SensorLists, AreFeeds, horizon_of, items_of};
 ghost use Rattle.edr_definitions.specs.Commands.{issues};
 ghost use Rattle.edr_image.specs.Image.{image_size};
 ghost use Rattle.edr_core.specs.SplitHistory.{History, missing_part};
+ghost use Rattle.edr_cycle.specs.Begun.{room_for};
 ghost use Rattle.edr_cycle.specs.Commits.{CommitsOn};
-ghost use Rattle.edr_cycle.specs.Remaining.{HasNext, IsAsked, IsOpenAt, IsTakenOf, Leads, Remains, RemainsAt, SameAsk, count_left};
+ghost use Rattle.edr_cycle.specs.Remaining.{HasNext, IsAsked, IsOpenAt, IsTakenOf, KeepsAsking, Leads, Remains, RemainsAt, SameAsk, count_left};
 ghost use Rattle.edr_cycle.specs.Rest.{issues_past};
 
 use crate::left::Left;
@@ -43,7 +44,9 @@ impl<'a> Remaining<'a> {
     ) -> Remaining<'a>
         requires empty { captures ≡ no_captures }
         ensures feeds { AreFeeds feeds.now }
-        ensures remains { (h : History) (core : SplitContents) → WasTold feeds.now h core along across restraint → RemainsAt feeds.now h.cycle h core result }
+        ensures remains { (h : History) (core : SplitContents)
+            → WasTold feeds.now h core along across restraint
+            → RemainsAt feeds.now h.cycle h core result }
     {
         Remaining {
             left: Left::after(feeds, &[along, across, 0, 0, 0, 0, 0, restraint]),
@@ -55,7 +58,8 @@ impl<'a> Remaining<'a> {
 // Takes the sensor's next item, which is no longer left: the core takes it, unless it knows that moment of a slow sensor.
 fn give(rest: &mut Remaining<'_>, core: &mut SplitCore, sensor: Sensor)
     requires { (f : SensorLists) × (n : ℕ) × (h : History) × HasNext f n h core.old rest.old sensor }
-    ensures goes { (f : SensorLists) (n : ℕ) (h : History) → HasNext f n h core.old rest.old sensor → (h' : History) × RemainsAt f n h' core.new rest.new × SameAsk h h' }
+    ensures goes { (f : SensorLists) (n : ℕ) (h : History) → HasNext f n h core.old rest.old sensor
+        → (h' : History) × RemainsAt f n h' core.new rest.new × SameAsk h h' }
     ensures fewer { count_left rest.new.left < count_left rest.old.left }
 {
     let Some(item) = rest.left.next(sensor) else {
@@ -68,9 +72,9 @@ fn give(rest: &mut Remaining<'_>, core: &mut SplitCore, sensor: Sensor)
 // Gives the items of a sensor up to the time zero that is asked for.
 fn fill(rest: &mut Remaining<'_>, core: &mut SplitCore, sensor: Sensor, zero: u32)
     requires { (f : SensorLists) × (n : ℕ) × (h : History) × IsAsked f n h core.old rest.old zero }
-    ensures asked { (f : SensorLists) (n : ℕ) (h : History) → IsAsked f n h core.old rest.old zero
-        → (h' : History) × IsAsked f n h' core.new rest.new zero × SameAsk h h' }
-    ensures past { (f : SensorLists) (n : ℕ) (h : History) → IsAsked f n h core.old rest.old zero → All (λ x. zero < x.moment) (items_of sensor rest.new.left) }
+    ensures asked { KeepsAsking zero SameAsk core.old core.new rest.old rest.new }
+    ensures past { (f : SensorLists) (n : ℕ) (h : History) → IsAsked f n h core.old rest.old zero
+        → All (λ x. zero < x.moment) (items_of sensor rest.new.left) }
     ensures fewer { count_left rest.new.left ≤ count_left rest.old.left }
 {
     while let Some(item) = rest.left.first(sensor) {
@@ -85,8 +89,7 @@ fn fill(rest: &mut Remaining<'_>, core: &mut SplitCore, sensor: Sensor, zero: u3
 fn put(rest: &mut Remaining<'_>, core: &mut SplitCore, sensor: Sensor, zero: u32)
     requires slow { IsSlow sensor }
     requires asked { (f : SensorLists) × (n : ℕ) × (h : History) × IsAsked f n h core.old rest.old zero }
-    ensures taken { (f : SensorLists) (n : ℕ) (h : History) → IsAsked f n h core.old rest.old zero
-        → (h' : History) × IsAsked f n h' core.new rest.new zero × IsTakenOf sensor zero h h' }
+    ensures taken { KeepsAsking zero (IsTakenOf sensor zero) core.old core.new rest.old rest.new }
     ensures fewer { count_left rest.new.left ≤ count_left rest.old.left }
 {
     fill(rest, core, sensor, zero);
@@ -96,8 +99,8 @@ fn put(rest: &mut Remaining<'_>, core: &mut SplitCore, sensor: Sensor, zero: u32
 // Gives the core all parts that it asks for.
 fn answer(rest: &mut Remaining<'_>, core: &mut SplitCore, zero: u32)
     requires { (f : SensorLists) × (n : ℕ) × (h : History) × IsAsked f n h core.old rest.old zero }
-    ensures answered { (f : SensorLists) (n : ℕ) (h : History) → IsAsked f n h core.old rest.old zero
-        → (h' : History) × IsAsked f n h' core.new rest.new zero × (missing_part h' ≡ None) }
+    ensures answered { KeepsAsking zero (λ _ h. missing_part h ≡ None)
+        core.old core.new rest.old rest.new }
     ensures fewer { count_left rest.new.left ≤ count_left rest.old.left }
 {
     put(rest, core, Sensor::Speed, zero);
@@ -115,7 +118,8 @@ fn close_asked(
     issued: &mut Issued,
 ) -> Closing
     requires { (f : SensorLists) × (n : ℕ) × (h : History) × IsAsked f n h core.old rest.old zero }
-    ensures leads { (f : SensorLists) (n : ℕ) (h : History) → IsAsked f n h core.old rest.old zero → Leads f n h result issued.new core.new rest.new }
+    ensures leads { (f : SensorLists) (n : ℕ) (h : History) → IsAsked f n h core.old rest.old zero
+        → Leads f n h result issued.new core.new rest.new }
     ensures fewer { count_left rest.new.left ≤ count_left rest.old.left }
 {
     answer(rest, core, zero);
@@ -128,7 +132,8 @@ fn close_asked(
 // Closes the next tick, or tells which sensor the core waits for.
 fn close(rest: &mut Remaining<'_>, core: &mut SplitCore, issued: &mut Issued) -> Closing
     requires { (f : SensorLists) × (n : ℕ) × (h : History) × IsOpenAt f n h core.old rest.old }
-    ensures leads { (f : SensorLists) (n : ℕ) (h : History) → IsOpenAt f n h core.old rest.old → Leads f n h result issued.new core.new rest.new }
+    ensures leads { (f : SensorLists) (n : ℕ) (h : History) → IsOpenAt f n h core.old rest.old
+        → Leads f n h result issued.new core.new rest.new }
     ensures fewer { count_left rest.new.left ≤ count_left rest.old.left }
 {
     match core.close(issued) {
@@ -155,7 +160,8 @@ pub fn run_rest<N: Nvm>(
     requires remains { Remains feeds.now core.cycle core rest }
     requires live { banks.old.ended ≡ false }
     requires size { image_size banks.old.store.header.banks ≤ N.extent nvm.old }
-    requires room { 3 * (horizon_of feeds.now / 51 + 1) ≤ log.old.spare + length (issues feeds.now core.cycle core.closed) }
+    requires room { room_for (horizon_of feeds.now)
+        ≤ log.old.spare + length (issues feeds.now core.cycle core.closed) }
     ensures lent { Lent N.Nvm nvm.old nvm.new result }
     ensures commits { CommitsOn N.Nvm (issues_past feeds.now core.cycle core.closed)
         result banks.old banks.new log.old log.new nvm.old nvm.new }

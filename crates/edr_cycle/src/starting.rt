@@ -1,20 +1,18 @@
 //! The start of a cycle, which counts it.
 
-ghost use Rattle.std.specs.Prelude.{◌≡◌, ◌↔◌, ◌+◌, ◌-◌, ◌≤◌, ◌<◌, ℕ, List, Some, Err, IfOk, IfErr};
-ghost use Rattle.edr_device.specs.Device.{Stays};
+ghost use Rattle.std.specs.Prelude.{◌≡◌, ◌+◌, ◌≤◌, ◌<◌, Err, IfOk, IfErr};
+ghost use Rattle.std.specs.Option.{ForSome};
 ghost use Rattle.edr_device.specs.Faults.{Rose};
-ghost use Rattle.edr_device.specs.Lent.{At, GoesOn, OnlyRead};
+ghost use Rattle.edr_device.specs.Lent.{GoesOn, OnlyRead};
 ghost use Rattle.edr_image.specs.declared.OpenFault.{OpenFault};
 ghost use Rattle.edr_image.specs.declared.OpenFault.TheVariants.{Short};
 ghost use Rattle.edr_image.specs.declared.places.TheConstants.{FRONT_SIZE};
-ghost use Rattle.edr_image.specs.Image.{View, image_refusal, image_size, view_of};
-ghost use Rattle.edr_banks.specs.Opening.{IsRefusal};
+ghost use Rattle.edr_image.specs.Image.{image_size};
+ghost use Rattle.edr_banks.specs.Opening.{RefusesRightly, TellsView};
 ghost use Rattle.edr_run.specs.Cycle.{last_count};
-ghost use Rattle.edr_cycle.specs.Begun.{room_for};
-ghost use Rattle.edr_cycle.specs.Counter.{SaysWith};
-ghost use Rattle.edr_cycle.specs.Ends.{IsFound};
-ghost use Rattle.edr_cycle.specs.Starts.{IsEarly, IsOpened, IsStoreFault, MeetsStartOn};
-ghost use Rattle.edr_cycle.specs.declared.started.StartFault.TheVariants.{Open, Spent};
+ghost use Rattle.edr_cycle.specs.Begun.{room_for, view_before, view_begun};
+ghost use Rattle.edr_cycle.specs.Starts.{CountsOne, IsEarly, IsOpened, IsSpentRightly, IsStoreFault, MeetsStartOn, StandsStill, TellsShort};
+ghost use Rattle.edr_cycle.specs.declared.started.StartFault.TheVariants.{Open};
 
 use crate::counter::count_cycle;
 use crate::started::{StartFault, Started};
@@ -34,14 +32,15 @@ fn room_for(ticks: u32) -> u32
 // All of a start but its changing calls: the banks are opened, and all memory is taken.
 fn prepare<N: Nvm>(alloc: Global, nvm: &mut N, ticks: u32) -> Result<Started, StartFault>
     ensures ticks { IfOk result (λ s. s.ticks ≡ ticks) }
-    ensures found { IfOk result (λ s. (bytes : List ℕ) → N.content nvm.old ≡ Some bytes
-        → view_of bytes ≡ Some (record { store = s.banks.store; count = s.number - 1 })) }
+    ensures found { IfOk result (λ s. TellsView (N.content nvm.old) (view_before s)) }
     ensures number { IfOk result (λ s. (1 ≤ s.number) × (s.number ≤ last_count)) }
     ensures fits { IfOk result (λ s. image_size s.banks.store.header.banks ≤ N.extent nvm.old) }
-    ensures refused { IfErr result (λ e. (o : OpenFault) → e ≡ Open o → IsRefusal o → (bytes : List ℕ) → N.content nvm.old ≡ Some bytes → image_refusal bytes ≡ Some o) }
+    ensures refused { IfErr result (λ e.
+        (o : OpenFault) → e ≡ Open o → RefusesRightly (N.content nvm.old) o) }
     ensures short { N.extent nvm.old < FRONT_SIZE → result ≡ Err (Open (Short (N.extent nvm.old) FRONT_SIZE)) }
-    ensures sizes { IfErr result (λ e. (size needed : ℕ) → e ≡ Open (Short size needed) → (size ≡ N.extent nvm.old) × (size < needed)) }
-    ensures spent { IfErr result (λ e. IsOpened e → (bytes : List ℕ) → N.content nvm.old ≡ Some bytes → (v : View) × (view_of bytes ≡ Some v) × (v.count ≤ last_count) × ((e ≡ Spent) ↔ (v.count ≡ last_count))) }
+    ensures sizes { IfErr result (TellsShort (N.extent nvm.old)) }
+    ensures spent { IfErr result (λ e.
+        IsOpened e → ForSome (N.content nvm.old) (IsSpentRightly e)) }
     ensures early { IfErr result IsEarly }
     ensures fault { IfErr result (λ e. IsStoreFault e → Rose (N.faults nvm.old) (N.faults nvm.new)) }
     ensures later { N.faults nvm.old ≤ N.faults nvm.new }
@@ -67,22 +66,22 @@ fn prepare<N: Nvm>(alloc: Global, nvm: &mut N, ticks: u32) -> Result<Started, St
 pub fn start<N: Nvm>(alloc: Global, nvm: &mut N, ticks: u32) -> Result<Started, StartFault>
     ensures ticks { IfOk result (λ s. s.ticks ≡ ticks) }
     // The banks are those that were found, and the number is one more than the count.
-    ensures found { IfOk result (λ s. (bytes : List ℕ) → N.content nvm.old ≡ Some bytes
-        → view_of bytes ≡ Some (record { store = s.banks.store; count = s.number - 1 })) }
+    ensures found { IfOk result (λ s. TellsView (N.content nvm.old) (view_before s)) }
     ensures number { IfOk result (λ s. (1 ≤ s.number) × (s.number ≤ last_count)) }
     ensures fits { IfOk result (λ s. image_size s.banks.store.header.banks ≤ N.extent nvm.old) }
     // Where nothing was pending nothing is, and the image says the same with that number as its count.
-    ensures made { IfOk result (λ s. (bytes : List ℕ) (v : View) → At N.Nvm (IsFound v) nvm.old bytes
-        → (now : List ℕ) × At N.Nvm (IsFound (record { store = s.banks.store; count = s.number })) nvm.new now × SaysWith (v.count + 1) bytes v now) }
+    ensures made { IfOk result (λ s. CountsOne N.Nvm (view_begun s) nvm.old nvm.new) }
     // The cause of each answer: what refuses the image, a count at its greatest number, a fault of the device.
-    ensures refused { IfErr result (λ e. (o : OpenFault) → e ≡ Open o → IsRefusal o → (bytes : List ℕ) → N.content nvm.old ≡ Some bytes → image_refusal bytes ≡ Some o) }
+    ensures refused { IfErr result (λ e.
+        (o : OpenFault) → e ≡ Open o → RefusesRightly (N.content nvm.old) o) }
     ensures short { N.extent nvm.old < FRONT_SIZE → result ≡ Err (Open (Short (N.extent nvm.old) FRONT_SIZE)) }
-    ensures sizes { IfErr result (λ e. (size needed : ℕ) → e ≡ Open (Short size needed) → (size ≡ N.extent nvm.old) × (size < needed)) }
-    ensures spent { IfErr result (λ e. IsOpened e → (bytes : List ℕ) → N.content nvm.old ≡ Some bytes → (v : View) × (view_of bytes ≡ Some v) × (v.count ≤ last_count) × ((e ≡ Spent) ↔ (v.count ≡ last_count))) }
+    ensures sizes { IfErr result (TellsShort (N.extent nvm.old)) }
+    ensures spent { IfErr result (λ e.
+        IsOpened e → ForSome (N.content nvm.old) (IsSpentRightly e)) }
     ensures fault { IfErr result (λ e. IsStoreFault e → Rose (N.faults nvm.old) (N.faults nvm.new)) }
     ensures later { N.faults nvm.old ≤ N.faults nvm.new }
     // Any answer but a fault after the opening comes before the first changing call.
-    ensures early { IfErr result (λ e. IsEarly e → (N.clock nvm.new ≡ N.clock nvm.old) × (N.last_good nvm.new ≡ N.last_good nvm.old) × At N.Nvm Stays nvm.old (N.since nvm.old) (N.content nvm.new) (N.settled nvm.new) (N.since nvm.new)) }
+    ensures early { IfErr result (λ e. IsEarly e → StandsStill N.Nvm nvm.old nvm.new) }
     ensures cycle { MeetsStartOn N.Nvm result nvm.old nvm.new }
     ensures lent { GoesOn N.Nvm nvm.old nvm.new }
 {

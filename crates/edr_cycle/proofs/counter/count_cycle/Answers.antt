@@ -23,7 +23,7 @@ returns-clause-made g c =
     let place = c.place_of_slot-slot.ensures ∙ ap place_of_slot c.older_slot.ensures in
     map_ok c.count_up.result c.count_up.ensures.made (λ made bytes v found more.
     let still = found_stays v (N.content d) (N.content e) (N.settled d) (N.settled e) (N.since d) (N.since e) bytes c.read.ensures.stays found in
-    made bytes v still.quiet (next_found c.read.new.into c.place_of_slot-slot.result c.args.number _ v (N.content d) (N.settled d) bytes size c.in_ok-read.ensures.bytes place (sym c.is_open-opened.ensures) found more))
+    made bytes v still (next_found c.read.new.into c.place_of_slot-slot.result c.args.number _ v (N.content d) (N.settled d) bytes size c.in_ok-read.ensures.bytes place (sym c.is_open-opened.ensures) found more))
 
 pub returns-clause-stopped : goal.returns-clause-stopped
 returns-clause-stopped g c =
@@ -35,7 +35,7 @@ returns-clause-stopped g c =
     map_err c.count_up.result c.count_up.ensures.stopped (λ stopped bytes image v found more left.
     let still = found_stays v (N.content d) (N.content e) (N.settled d) (N.settled e) (N.since d) (N.since e) bytes c.read.ensures.stays found in
     subst (λ (t : ℕ). IsCounted (N.clock c.count_up.new.nvm - t) c.args.number bytes v image) c.read.ensures.clock
-    (stopped bytes image v still.quiet (next_found c.read.new.into c.place_of_slot-slot.result c.args.number _ v (N.content d) (N.settled d) bytes size c.in_ok-read.ensures.bytes place (sym c.is_open-opened.ensures) found more) left))
+    (stopped bytes image v still (next_found c.read.new.into c.place_of_slot-slot.result c.args.number _ v (N.content d) (N.settled d) bytes size c.in_ok-read.ensures.bytes place (sym c.is_open-opened.ensures) found more) left))
 
 pub returns-clause-any_moment : goal.returns-clause-any_moment
 returns-clause-any_moment g c = λ bytes v found more.
@@ -46,4 +46,4 @@ returns-clause-any_moment g c = λ bytes v found more.
     let place = c.place_of_slot-slot.ensures ∙ ap place_of_slot c.older_slot.ensures in
     let still = found_stays v (N.content d) (N.content e) (N.settled d) (N.settled e) (N.since d) (N.since e) bytes c.read.ensures.stays found in
     stays_elapse (N.content d) (N.content e) (N.settled d) (N.settled e) (N.since d) (N.since e) (N.since c.count_up.new.nvm) (N.clock d) (N.clock e) (IsCounted 6 c.args.number bytes v) c.read.ensures.stays c.read.ensures.clock
-    (c.count_up.ensures.any_moment bytes v still.quiet (next_found c.read.new.into c.place_of_slot-slot.result c.args.number _ v (N.content d) (N.settled d) bytes size c.in_ok-read.ensures.bytes place (sym c.is_open-opened.ensures) found more))
+    (c.count_up.ensures.any_moment bytes v still (next_found c.read.new.into c.place_of_slot-slot.result c.args.number _ v (N.content d) (N.settled d) bytes size c.in_ok-read.ensures.bytes place (sym c.is_open-opened.ensures) found more))

@@ -2,4 +2,4 @@ use Rattle.edr_cycle.proofs.Acknowledging.{stop-acknowledged}
 use Rattle.edr_cycle.proofs.laws.what_is_acknowledged_is_there.Goals as goal
 
 pub returns : goal.returns
-returns c = stop-acknowledged
+returns c = λ f n k v done. stop-acknowledged f n v k done
