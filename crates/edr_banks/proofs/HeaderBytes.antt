@@ -7,6 +7,8 @@ use Rattle.std.proofs.lemmas.Bool.Decides.{nat_tests}
 use Rattle.std.proofs.lemmas.List.FromFn.{map-range_with_len_more}
 use Rattle.edr_device.specs.Device.{Stays}
 use Rattle.edr_image.specs.declared.Header.{Header}
+use Rattle.edr_image.specs.declared.forms.Layout.{Layout}
+use Rattle.edr_image.specs.declared.forms.TheConstants.{VERSION_2}
 use Rattle.edr_image.specs.declared.HeaderRefused.TheVariants as refused
 use Rattle.edr_image.specs.declared.OpenFault.TheVariants as open_fault
 use Rattle.edr_image.specs.declared.BankView.{BankView}
@@ -47,9 +49,9 @@ number_same : (first bytes : List ℕ) (at n : ℕ) → IsFront first bytes → 
 number_same first bytes at n front fits =
     let zero_on : 0 + at ≡ at = omega arith in rw zero_on at (match_at first 0 bytes 0 96 at n (front_match first bytes front) (omega arith))
 
-header_same : (first bytes : List ℕ) → IsFront first bytes → header_refusal first ≡ header_refusal bytes
+pub header_same : (layout : Layout) (first bytes : List ℕ) → IsFront first bytes → header_refusal_by layout first ≡ header_refusal_by layout bytes
 unfolding header_refusal_by
-header_same first bytes front =
+header_same layout first bytes front =
     let banks = front 10 (omega arith) in
     let choice = front 11 (omega arith) in
     rw (refused_magic first bytes front, number_same first bytes 8 2 front (omega arith), banks, choice) refl
@@ -81,7 +83,7 @@ unfolding image_refusal_by refusal_by
 refused_by_first first bytes size front long is =
     let banks = front 10 (omega arith) in
     let some_left : 96 ≤ length bytes = omega arith in
-    rw (long_or_not (length bytes) 96 some_left, header_same first bytes front, banks, is) refl
+    rw (long_or_not (length bytes) 96 some_left, header_same VERSION_2 first bytes front, banks, is) refl
 
 -- ---- what an image says
 
@@ -116,12 +118,12 @@ first_none f None p e = refl
 first_none f (Some x) p e = absurd cc
 
 -- a header that isn't refused has 2 to 16 banks
-accepted_within : (first : List ℕ) → header_refusal first ≡ None → (2 ≤ slice_index first 10) × (slice_index first 10 ≤ 16)
+accepted_within : (layout : Layout) (first : List ℕ) → header_refusal_by layout first ≡ None → (2 ≤ slice_index first 10) × (slice_index first 10 ≤ 16)
 unfolding header_refusal_by
-accepted_within first none = between (slice_index first 10) (accepted_banks _ _ _ _ _ _ _ none)
+accepted_within layout first none = between (slice_index first 10) (accepted_banks _ _ _ _ _ _ _ none)
 
-pub header_within : (first : List ℕ) (h : Header) → header_refusal first ≡ None → h ≡ header_of first → (2 ≤ h.banks) × (h.banks ≤ 16)
-header_within first h none is = let number : h.banks ≡ slice_index first 10 = ap (λ (x : Header). x.banks) is in rw number (accepted_within first none)
+pub header_within : (layout : Layout) (first : List ℕ) (h : Header) → header_refusal_by layout first ≡ None → h ≡ header_of first → (2 ≤ h.banks) × (h.banks ≤ 16)
+header_within layout first h none is = let number : h.banks ≡ slice_index first 10 = ap (λ (x : Header). x.banks) is in rw number (accepted_within layout first none)
 
 -- ---- banks that were read one after the other
 

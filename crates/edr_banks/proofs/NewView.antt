@@ -24,7 +24,7 @@ a_choice : (c : Choice) → nat_lt 1 (choice_byte c) ≡ false
 a_choice Keep = refl
 a_choice Overwrite = refl
 
-header_stands : (h : Header) (rest : List ℕ) → 2 ≤ h.banks → h.banks ≤ 16 → header_refusal (front h ++ rest) ≡ None
+pub header_stands : (h : Header) (rest : List ℕ) → 2 ≤ h.banks → h.banks ≤ 16 → header_refusal (front h ++ rest) ≡ None
 unfolding header_refusal_by
 header_stands h rest low high = rw (few_banks h.banks low high, a_choice h.choice) refl
 
@@ -32,7 +32,7 @@ header_of_choice : (n : ℕ) (c : Choice) → (let h : Header = record { banks =
 header_of_choice n Keep = refl
 header_of_choice n Overwrite = refl
 
-header_is : (h : Header) (rest : List ℕ) → header_of (front h ++ rest) ≡ h
+pub header_is : (h : Header) (rest : List ℕ) → header_of (front h ++ rest) ≡ h
 header_is h rest = header_of_choice h.banks h.choice
 
 -- closed slots count 0
@@ -61,7 +61,7 @@ banks_void : (h : Header) (bytes : List ℕ) → IsZero h bytes → map (λ m. b
 banks_void h bytes new =
     all_void (λ m. bank_view (slice_range bytes (place_of m) (place_of m + BANK_SIZE))) 1 h.banks (λ m low high. void_there bytes (place_of m) (new (place_of m) (omega arith) (omega arith)))
 
-not_refused : (h : Header) (rest : List ℕ) → 2 ≤ h.banks → h.banks ≤ 16 → image_size h.banks ≤ length (front h ++ rest) → image_refusal (front h ++ rest) ≡ None
+pub not_refused : (h : Header) (rest : List ℕ) → 2 ≤ h.banks → h.banks ≤ 16 → image_size h.banks ≤ length (front h ++ rest) → image_refusal (front h ++ rest) ≡ None
 unfolding image_refusal_by
 not_refused h rest low high long =
     let first : nat_lt (length (front h ++ rest)) 96 ≡ false = at_least (length (front h ++ rest)) 96 (omega arith) in
@@ -70,7 +70,7 @@ not_refused h rest low high long =
     at_least : (a b : ℕ) → b ≤ a → nat_lt a b ≡ false
     at_least a b h = grind (arith, nat_tests)
 
-same_view : (a b : Header) (xs ys : List BankView) (m n : ℕ) → a ≡ b → xs ≡ ys → m ≡ n → (let v : View = record { store = record { header = a; banks = xs }; count = m } in Some v) ≡ Some (record { store = record { header = b; banks = ys }; count = n })
+pub same_view : (a b : Header) (xs ys : List BankView) (m n : ℕ) → a ≡ b → xs ≡ ys → m ≡ n → (let v : View = record { store = record { header = a; banks = xs }; count = m } in Some v) ≡ Some (record { store = record { header = b; banks = ys }; count = n })
 same_view a b xs ys m n p q r = cc
 
 view_is : (h : Header) (rest : List ℕ) → 2 ≤ h.banks → h.banks ≤ 16 → image_size h.banks ≤ length (front h ++ rest) → IsZero h (front h ++ rest) → view_of (front h ++ rest) ≡ Some (new_view h)
