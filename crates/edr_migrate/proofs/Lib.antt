@@ -1,0 +1,6 @@
+pub mod OldBanks
+pub mod OldReading
+pub mod EventBytes
+pub mod ImageBytes
+pub mod ImageView
+pub mod Outcomes

@@ -1,0 +1,4 @@
+pub mod Migrated
+pub mod OldImage
+pub mod NewBytes
+pub mod Causes

@@ -1,0 +1,147 @@
+//! Worked cases of a migration.
+ghost use Rattle.std.specs.Prelude.{◌≡◌, ◌<◌, ◌^◌, IfOk, length};
+ghost use Rattle.edr_device.specs.Memory.{memory_image};
+
+use super::*;
+use edr_banks::{Banks, Choice};
+use edr_device::MemNvm;
+use std::alloc::{AllocError, Global};
+use std::process::Abort;
+use std::test::Fail;
+
+// The pre part of an event in version 1, up to its zeros.
+const PRE: [u8; 58] = [
+    0, 0, 0, 1, 0, 0, 0x17, 0x73, 1, 0, 0, 0, // key and place
+    0, 50, 0, 50, 0, 50, 0, 50, 0, 50, 0, 50, 0, 50, 0, 50, 0, 50, 0, 50, 0, 50, // speed
+    20, 20, 20, 20, 20, 20, 20, 20, 20, 20, 20, // throttle
+    0, 0, 0, 0, 0, 0, 0, 0, 0, 0, 0, // brake
+    1, 0, // belt and lamp
+];
+
+// The changes along of its crash part, every ten ticks.
+const ALONG: [i16; 15] = [
+    0, -4, -8, -12, -16, -20, -24, -28, -32, -36, -39, -39, -39, -39, -39,
+];
+
+// The 136 bytes of its crash part, of which none are zeros that a version has behind them.
+fn crash() -> [u8; 136] {
+    let mut bytes = [0; 136];
+    bytes[1] = 115;
+    for k in 0..15 {
+        bytes[2 + 2 * k..4 + 2 * k].copy_from_slice(&ALONG[k].to_be_bytes());
+    }
+    bytes[106..110].copy_from_slice(&[0xff, 0xd9, 0, 97]);
+    bytes[115] = 97;
+    bytes[120..].fill(0xff);
+    bytes
+}
+
+// An image of version 1 with two banks, the first of which holds an event, and the count 1.
+fn old_image() -> [u8; 1_120] {
+    let mut old = [0; 1_120];
+    old[..12].copy_from_slice(b"EDRIMAGE\0\x01\x02\0");
+    old[32] = 0xa5;
+    old[39] = 1;
+    old[96] = 0xa5;
+    old[98] = 0xa5;
+    old[112..170].copy_from_slice(&PRE);
+    old[272..408].copy_from_slice(&crash());
+    old
+}
+
+// The same in version 2.
+fn new_image() -> [u8; 2_144] {
+    let mut new = [0; 2_144];
+    new[..12].copy_from_slice(b"EDRIMAGE\0\x02\x02\0");
+    new[32] = 0xa5;
+    new[39] = 1;
+    new[96] = 0xa5;
+    new[98] = 0xa5;
+    new[112..146].copy_from_slice(&PRE[..34]);
+    new[121] = 1;
+    new[526..537].copy_from_slice(&PRE[34..45]);
+    new[727..738].copy_from_slice(&PRE[45..56]);
+    new[928..930].copy_from_slice(&PRE[56..]);
+    new[960..1_096].copy_from_slice(&crash());
+    new
+}
+
+// A memory of zeros that takes 60 writes and syncs, of which some fail.
+fn zeros(alloc: Global, size: usize, fails: &[u32], pick: u64) -> Result<MemNvm, AllocError>
+    requires { size < 2 ^ 32 }
+    ensures { IfOk result (λ m. length (memory_image m) ≡ size) }
+{
+    let image = vec![in alloc; 0u8; size]?;
+    let fails = fails.to_vec(alloc)?;
+    let read_fails = [].to_vec(alloc)?;
+    MemNvm::new(alloc, image, 60, fails, read_fails, pick)
+}
+
+#[test]
+fn one_event_is_migrated(rt: HostRuntime) -> Result<(), Fail> {
+    let mut memory = zeros(rt.alloc(), 2_150, &[], 0)?;
+    let migrated = Migrated {
+        events: 1,
+        count: 1,
+    };
+    let old = old_image();
+    assert_eq!(rt; check(&old), Ok(migrated));
+    assert_eq!(rt; migrate(&mut memory, &old), Ok(migrated));
+    assert_eq!(rt; &memory.image()[..2_144], new_image().as_slice());
+    assert_eq!(rt; &memory.image()[2_144..], [0; 6].as_slice());
+    Ok(())
+}
+
+#[test]
+fn what_is_refused_is_told_in_order(rt: HostRuntime) -> Result<(), Fail> {
+    let mut old = old_image();
+    let mut memory = zeros(rt.alloc(), 2_143, &[], 0)?;
+    let short = |size, needed| MigrateFault::OldShort { size, needed };
+    assert_eq!(rt; migrate(&mut memory, &old[..95]), Err(short(95, 96)));
+    assert_eq!(rt;
+        migrate(&mut memory, &old[..1_119]),
+        Err(short(1_119, 1_120))
+    );
+    let small = MigrateFault::Short {
+        size: 2_143,
+        needed: 2_144,
+    };
+    assert_eq!(rt; migrate(&mut memory, &old), Err(small));
+    old[112 + 3] = 0;
+    let damaged = MigrateFault::OldBank {
+        bank: 1,
+        offset: 19,
+        found: 0,
+    };
+    assert_eq!(rt; migrate(&mut memory, &old), Err(damaged));
+    old[9] = 2;
+    let version = MigrateFault::OldHeader(HeaderRefused::Version { found: 2 });
+    assert_eq!(rt; migrate(&mut memory, &old), Err(version));
+    assert!(rt; memory.image().iter().all(|byte| *byte == 0));
+    Ok(())
+}
+
+#[test]
+fn a_formatted_device_stays(rt: HostRuntime) -> Result<(), Fail> {
+    let mut memory = zeros(rt.alloc(), 2_144, &[], 0)?;
+    Banks::format(&mut memory, 2, Choice::Keep)?;
+    let before = memory.image().to_vec(rt.alloc())?;
+    assert_eq!(rt;
+        migrate(&mut memory, &old_image()),
+        Err(MigrateFault::Formatted)
+    );
+    assert_eq!(rt; memory.image(), before.as_slice());
+    Ok(())
+}
+
+#[test]
+fn the_last_call_fails(rt: HostRuntime) -> Result<(), Fail> {
+    let mut memory = zeros(rt.alloc(), 2_144, &[6], 0)?;
+    assert_eq!(rt;
+        migrate(&mut memory, &old_image()),
+        Err(MigrateFault::StoreFault)
+    );
+    memory.power_cycle()?;
+    assert_eq!(rt; memory.image()[0], 0);
+    Ok(())
+}
