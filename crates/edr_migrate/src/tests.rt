@@ -49,8 +49,8 @@ fn old_image() -> [u8; 1_120] {
     old
 }
 
-// The same in version 2.
-fn new_image() -> [u8; 2_144] {
+// The front of the same in version 2, the gates of its banks, and the key, the place and the speed of its event.
+fn new_begin() -> [u8; 2_144] {
     let mut new = [0; 2_144];
     new[..12].copy_from_slice(b"EDRIMAGE\0\x02\x02\0");
     new[32] = 0xa5;
@@ -59,6 +59,12 @@ fn new_image() -> [u8; 2_144] {
     new[98] = 0xa5;
     new[112..146].copy_from_slice(&PRE[..34]);
     new[121] = 1;
+    new
+}
+
+// The same in version 2.
+fn new_image() -> [u8; 2_144] {
+    let mut new = new_begin();
     new[526..537].copy_from_slice(&PRE[34..45]);
     new[727..738].copy_from_slice(&PRE[45..56]);
     new[928..930].copy_from_slice(&PRE[56..]);
