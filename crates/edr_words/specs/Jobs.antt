@@ -8,7 +8,7 @@ use Rattle.edr_image.specs.declared.places.TheConstants.{FEWEST_BANKS, MOST_BANK
 use Rattle.edr_words.specs.declared.Form.{Form}
 use Rattle.edr_words.specs.declared.Form.TheVariants.{Text, Table}
 use Rattle.edr_words.specs.declared.Job.{Job}
-use Rattle.edr_words.specs.declared.Job.TheVariants.{Format, Replay, Report, Drive, Generate, Large}
+use Rattle.edr_words.specs.declared.Job.TheVariants.{Format, Replay, Report, Drive, Generate, Large, Migrate}
 use Rattle.edr_words.specs.Arguments.{Word, at_most_one, is_plain, one_or_two, two}
 
 -- ---- what a word stands for
@@ -89,6 +89,11 @@ generate_job arguments = option_map (λ t. Generate t.0 t.1) (trace_of arguments
 abbrev pub large_job : Option (Word × Word) → Option Job
 large_job arguments = option_map (λ t. Large t.0 t.1) (trace_of arguments)
 
+-- no argument
+abbrev pub migrate_job : List Word → Option Job
+migrate_job [] = Some Migrate
+migrate_job (argument ∷ more) = None
+
 -- ---- the table of words
 
 abbrev pub job_after : Word → List Word → Option Job
@@ -99,6 +104,7 @@ job_after word arguments =
     else if bytes_eq word (codes "drive") then drive_job (one_or_two arguments)
     else if bytes_eq word (codes "generate") then generate_job (two arguments)
     else if bytes_eq word (codes "large") then large_job (two arguments)
+    else if bytes_eq word (codes "migrate") then migrate_job arguments
     else None
 
 -- the job that a list of words names, if it names one; a word that begins with `-` is in no line of the table
@@ -114,3 +120,4 @@ IsWithin (Report form) = Unit {0}
 IsWithin (Drive workers form) = (1 ≤ workers) × (workers ≤ 8)
 IsWithin (Generate number cycles) = (1 ≤ cycles) × (cycles ≤ 60)
 IsWithin (Large number cycles) = (1 ≤ cycles) × (cycles ≤ 60)
+IsWithin Migrate = Unit {0}

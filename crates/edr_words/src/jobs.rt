@@ -2,7 +2,7 @@
 ghost use Rattle.std.specs.Prelude.{◌≡◌, ◌≤◌, Some, true, map, option_map, string_bytes, IfOk, IfSome};
 ghost use Rattle.std.specs.List.{list_all};
 ghost use Rattle.edr_words.specs.Arguments.{at_most_one, is_plain, one_or_two, two};
-ghost use Rattle.edr_words.specs.Jobs.{IsWithin, choice_in, drive_job, form_in, form_of, format_job, generate_job, job_after, large_job, number_in, replay_job, report_job, trace_of, within};
+ghost use Rattle.edr_words.specs.Jobs.{IsWithin, choice_in, drive_job, form_in, form_of, format_job, generate_job, job_after, large_job, migrate_job, number_in, replay_job, report_job, trace_of, within};
 
 use crate::arguments::{at_most_one, one_or_two, two};
 use crate::{Choice, Form, Header, Job};
@@ -27,6 +27,7 @@ pub(crate) fn job_after(
         "drive" => drive_job(alloc, arguments),
         "generate" => generate_job(alloc, arguments),
         "large" => large_job(alloc, arguments),
+        "migrate" => Ok(migrate_job(arguments)),
         _ => Ok(None),
     }
 }
@@ -100,6 +101,17 @@ fn large_job(alloc: Global, arguments: &[String]) -> Result<Option<Job>, OutOfMe
     match trace_of(alloc, "large", arguments)? {
         Some((number, cycles)) => Ok(Some(Job::Large { number, cycles })),
         None => Ok(None),
+    }
+}
+
+// `migrate`
+fn migrate_job(arguments: &[String]) -> Option<Job>
+    ensures value { result ≡ migrate_job (map string_bytes arguments.now) }
+    ensures within { IfSome result IsWithin }
+{
+    match arguments {
+        [] => Some(Job::Migrate),
+        _ => None,
     }
 }
 

@@ -34,4 +34,6 @@ pub enum Job {
     Generate { number: u64, cycles: u32 },
     /// `large N M`: runs that trace over a new image, and counts.
     Large { number: u64, cycles: u32 },
+    /// `migrate`: takes over the records of an image of version 1.
+    Migrate,
 }

@@ -53,6 +53,7 @@ fn each_job_of_an_image_has_its_words(rt: HostRuntime) -> Result<(), Fail> {
         ("report", Job::Report { form: text }),
         ("report text", Job::Report { form: text }),
         ("report csv", Job::Report { form: csv }),
+        ("migrate", Job::Migrate),
     ];
     check_jobs(&rt, &table)
 }
@@ -95,6 +96,8 @@ fn other_words_name_no_job(rt: HostRuntime) -> Result<(), Fail> {
         "format 2 Keep",
         "format 4294967298 keep",
         "format 2 keep now",
+        "migrate ",
+        "migrate 1",
     ];
     check_others(&rt, &lines)
 }
