@@ -14,7 +14,7 @@ use Rattle.edr_image.specs.Banks.{Store, events, damaged}
 use Rattle.edr_image.specs.Reports.{Report, Ran, StartStopped}
 use Rattle.edr_report.specs.Words.{time_between}
 use Rattle.edr_report.specs.Report.{pre_lines, crash_lines, event_lines, report_lines, report_text, report_table}
-use Rattle.edr_report.specs.Format.{format_line}
+use Rattle.edr_report.specs.Format.{format_line, migrate_line}
 
 abbrev fresh : Store
 fresh = record { header = record { banks = 2; choice = Keep }; banks = Void ∷ Void ∷ [] }
@@ -100,3 +100,8 @@ keep-line = refl
 overwrite-line : format_line (record { banks = 16; choice = Overwrite }) ≡ codes "formatted: 16 banks, overwrite\n"
 unfolding digits
 overwrite-line = refl
+
+-- the line of a migration
+migrated-line : migrate_line 1 4_294_967_295 ≡ codes "migrated: 1 events, count 4294967295\n"
+unfolding digits
+migrated-line = refl

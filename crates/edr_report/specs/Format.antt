@@ -1,4 +1,4 @@
--- The line that tells of a new image.
+-- The lines that tell of a new image.
 use Rattle.std.specs.Prelude.{ℕ, List, ◌++◌, codes, decimal}
 use Rattle.edr_text.specs.Lines.{line_of}
 use Rattle.edr_image.specs.declared.Choice.{Choice}
@@ -13,3 +13,7 @@ choice_word Overwrite = codes "overwrite"
 -- how many banks there are, and the choice
 abbrev pub format_line : Header → List ℕ
 format_line h = line_of (codes "formatted") (decimal h.banks ++ codes " banks, " ++ choice_word h.choice)
+
+-- how many events were taken over, and the count
+abbrev pub migrate_line : ℕ → ℕ → List ℕ
+migrate_line events count = line_of (codes "migrated") (decimal events ++ codes " events, count " ++ decimal count)

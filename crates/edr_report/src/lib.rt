@@ -20,7 +20,7 @@ pub use forms::Lines;
 use forms::{Table, Text};
 use printer::print;
 pub use printer::{print_event, print_run};
-pub use short_lines::{Room, ShortLine, format_line, push_number, push_signed};
+pub use short_lines::{Room, ShortLine, format_line, migrate_line, push_number, push_signed};
 use std::alloc::{AllocError as OutOfMemory, Global};
 
 /// The report of the cycles of a run, of what was found in the banks in this order, and of the count of ignition

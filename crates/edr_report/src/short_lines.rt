@@ -3,7 +3,7 @@
 ghost use Rattle.std.specs.Prelude.{◌≡◌, ◌+◌, ◌≤◌, ◌++◌, decimal, length};
 ghost use Rattle.std.specs.Fmt.{signed_decimal};
 ghost use Rattle.arrayvec.specs.ArrayString.{array_string_len};
-ghost use Rattle.edr_report.specs.Format.{format_line};
+ghost use Rattle.edr_report.specs.Format.{format_line, migrate_line};
 
 use arrayvec::ArrayString;
 use edr_image::{Choice, Header};
@@ -76,6 +76,17 @@ pub fn format_line(header: Header) -> ShortLine
         Choice::Keep => "keep",
         Choice::Overwrite => "overwrite",
     });
+    line.push_str("\n");
+    ShortLine::new(line)
+}
+
+/// The line that tells of an old image whose events were taken over, with the count of ignition cycles. It takes no memory.
+pub fn migrate_line(events: u8, count: u32) -> ShortLine
+    ensures { result ≡ migrate_line events count }
+{
+    let mut line = Room::new();
+    push_number(&mut line, "migrated: ", u32::from(events));
+    push_number(&mut line, " events, count ", count);
     line.push_str("\n");
     ShortLine::new(line)
 }

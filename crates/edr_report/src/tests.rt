@@ -1,7 +1,7 @@
 ghost use Rattle.std.specs.Prelude.{◌≤◌};
 
 use crate::values::Value;
-use crate::{format_line, table, text, texts};
+use crate::{format_line, migrate_line, table, text, texts};
 use edr_image::{Ack, Applied, BankView, Choice, CycleReport, Found, Header, Kind, Log};
 use edr_record::{Crash, Extreme, Key, Place, Pre, Record};
 use std::alloc::{AllocError, Global};
@@ -242,4 +242,10 @@ fn a_format_tells_its_banks_and_its_choice(rt: HostRuntime) {
     let (banks, choice) = (16, Choice::Overwrite);
     let line = format_line(Header { banks, choice });
     assert!(rt; line.as_bytes() == b"formatted: 16 banks, overwrite\n".as_slice());
+}
+
+#[test]
+fn a_migration_tells_its_events_and_the_count(rt: HostRuntime) {
+    let line = migrate_line(1, 1);
+    assert!(rt; line.as_bytes() == b"migrated: 1 events, count 1\n".as_slice());
 }

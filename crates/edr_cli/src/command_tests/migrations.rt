@@ -1,0 +1,77 @@
+//! `migrate` of the image that version 1 leaves of the struck car.
+
+use super::crashes::struck_image;
+use super::expected::{COUNTED_ONE, STRUCK_EVENT, joined};
+use super::{KEEP, Run, SIZE, check_run, memory_of, new_image, run_of};
+use crate::Status;
+use edr_device::Nvm;
+use std::process::Abort;
+use std::test::Fail;
+
+// The same record in an image of version 1.
+fn old_image() -> [u8; 1_120] {
+    let image = struck_image();
+    let mut old = [0; 1_120];
+    old[..121].copy_from_slice(&image[..121]);
+    old[9] = 1;
+    old[124..146].copy_from_slice(&image[124..146]);
+    old[146..157].copy_from_slice(&image[526..537]);
+    old[168] = 1;
+    old[272..408].copy_from_slice(&image[960..1_096]);
+    old
+}
+
+// A migration of these bytes, and what it is to answer.
+const fn migrated<'a>(old: &'a [u8], status: Status, output: &'a str) -> Run<'a> {
+    Run {
+        words: &["migrate"],
+        trace: old,
+        status,
+        output,
+    }
+}
+
+#[test]
+fn an_old_image_is_migrated_once(rt: HostRuntime) -> Result<(), Fail> {
+    let old = old_image();
+    let mut memory = memory_of(rt.alloc(), &[0; SIZE], &[], 0)?;
+    let run = migrated(&old, Status::Ok, "migrated: 1 events, count 1\n");
+    check_run(&rt, run, &mut memory)?;
+    assert_eq!(rt; memory.image(), struck_image().as_slice());
+    let report = joined(rt.alloc(), &[STRUCK_EVENT, COUNTED_ONE])?;
+    check_run(&rt, run_of(&["report"], Status::Ok, &report), &mut memory)?;
+    let run = migrated(&old, Status::Image, "fault: image formatted\n");
+    check_run(&rt, run, &mut memory)
+}
+
+#[test]
+fn an_old_image_that_is_refused_is_told(rt: HostRuntime) -> Result<(), Fail> {
+    let mut damaged = old_image();
+    damaged[115] = 0;
+    let new = new_image(2, KEEP);
+    let refused = [
+        (
+            damaged.as_slice(),
+            "fault: old image bank 1 damaged at 19 found 0\n",
+        ),
+        (&[], "fault: old image short 0 of 96\n"),
+        (&new, "fault: old image version 2\n"),
+    ];
+    for (old, line) in refused {
+        let mut memory = memory_of(rt.alloc(), &[0; SIZE], &[], 0)?;
+        check_run(&rt, migrated(old, Status::OldImage, line), &mut memory)?;
+        assert_eq!(rt; memory.image(), [0; SIZE].as_slice());
+    }
+    Ok(())
+}
+
+// The last changing call settles byte 0.
+#[test]
+fn a_migration_that_fails_in_its_last_call_leaves_no_magic(rt: HostRuntime) -> Result<(), Fail> {
+    let mut memory = memory_of(rt.alloc(), &[0; SIZE], &[7], 0)?;
+    let run = migrated(&old_image(), Status::StoreFault, "fault: store fault\n");
+    check_run(&rt, run, &mut memory)?;
+    memory.power_cycle()?;
+    assert!(rt; memory.image().starts_with(b"\x00".as_slice()));
+    Ok(())
+}

@@ -1,0 +1,99 @@
+//! Serves `migrate`: takes over the records of an old image, one of version 1, which the source gives.
+ghost use Rattle.std.specs.Prelude.{◌≡◌, ◌+◌, ◌≤◌, ℕ, List, IfOk, IfErr, IfSome, OnOk, length, vec_len};
+ghost use Rattle.edr_device.specs.Device.{IsQuiet, MayLeave};
+ghost use Rattle.edr_device.specs.Faults.{Rose};
+ghost use Rattle.edr_device.specs.Lent.{At, GoesOn};
+ghost use Rattle.edr_device.specs.Told.{Told};
+ghost use Rattle.edr_device.specs.Transfer.{GivesAtMost};
+ghost use Rattle.edr_spell.specs.Spell.{largest_trace};
+ghost use Rattle.edr_cli.specs.Causes.{IsMigrateCause, IsTakingCause, IsTraceCause};
+ghost use Rattle.edr_cli.specs.Migrations.{IsPartlyTaken, MigrateIs};
+ghost use Rattle.edr_cli.specs.Outcomes.{Migrates};
+ghost use Rattle.edr_cli.specs.Outside.{IsAtEnd, OfBoth, OfMemory, OfRun, input};
+ghost use Rattle.edr_cli.specs.Reports.{HasMagic};
+ghost use Rattle.edr_cli.specs.Steps.{IsTaken};
+
+use crate::endings::{tell, write};
+use crate::fault::Fault;
+use crate::status::Status;
+use edr_device::{Nvm, Sink, Source, take_all};
+use edr_migrate::{check, migrate};
+use edr_report::{ShortLine, migrate_line};
+use edr_trace::LARGEST_TRACE;
+use std::alloc::Global;
+
+// All that the source gives.
+fn old_image<S: Source>(alloc: Global, source: &mut S) -> Result<Vec<u8>, Fault>
+    ensures end { OnOk result (IsAtEnd (S.left source.new)) }
+    ensures bytes { IfOk result (λ old. IfSome (S.left source.old) (λ bytes. bytes ≡ old.items)) }
+    ensures within { IfOk result (λ old. vec_len old ≤ largest_trace) }
+    ensures cause { IfErr result (IsTraceCause (input S.Source source.old) (input S.Source source.new)) }
+    ensures takes { Told (GivesAtMost (largest_trace + 1)) (S.left source.old) (S.left source.new) }
+    ensures later { S.faults source.old ≤ S.faults source.new }
+{
+    Ok(take_all(alloc, source, LARGEST_TRACE as usize)?)
+}
+
+// Takes over what an old image holds, and makes the line that tells of it. The old image is looked at and the line is built before
+// the device is touched.
+fn take_over<N: Nvm>(nvm: &mut N, old: &[u8]) -> Result<ShortLine, Fault>
+    requires { length old.now ≤ largest_trace }
+    ensures lent { GoesOn N.Nvm nvm.old nvm.new }
+    ensures later { N.faults nvm.old ≤ N.faults nvm.new }
+    ensures taken { IfOk result (λ line. OfMemory N.Nvm (IsTaken old.now) nvm.old nvm.new line) }
+    ensures cause { IfErr result (OfMemory N.Nvm (IsTakingCause (λ AreSuch. AreSuch old.now)) nvm.old nvm.new) }
+    ensures crash { (bytes image : List ℕ) → At N.Nvm IsQuiet nvm.old bytes
+        → At N.Nvm MayLeave nvm.new image → IsPartlyTaken old.now bytes image }
+    // An image that is there stays.
+    ensures stays { (bytes image : List ℕ) → At N.Nvm IsQuiet nvm.old bytes → HasMagic bytes
+        → At N.Nvm MayLeave nvm.new image → image ≡ bytes }
+{
+    let migrated = check(old)?;
+    let line = migrate_line(migrated.events, migrated.count);
+    nvm.sync()?;
+    migrate(nvm, old)?;
+    Ok(line)
+}
+
+// Takes over what the source gives.
+fn migrate_source<S: Source, N: Nvm>(
+    alloc: Global,
+    source: &mut S,
+    nvm: &mut N,
+) -> Result<ShortLine, Fault>
+    ensures takes { Told (GivesAtMost (largest_trace + 1)) (S.left source.old) (S.left source.new) }
+    ensures source_later { S.faults source.old ≤ S.faults source.new }
+    ensures lent { GoesOn N.Nvm nvm.old nvm.new }
+    ensures later { N.faults nvm.old ≤ N.faults nvm.new }
+    ensures end { OnOk result (IsAtEnd (S.left source.new)) }
+    ensures text { IfOk result (λ line. OfRun S.Source N.Nvm MigrateIs source.old nvm.old nvm.new line) }
+    ensures cause { IfErr result (OfBoth S.Source N.Nvm IsMigrateCause source.old source.new nvm.old nvm.new) }
+    ensures crash { (bytes image : List ℕ) → At N.Nvm IsQuiet nvm.old bytes → At N.Nvm MayLeave nvm.new image
+        → IfSome (S.left source.old) (λ old. IsPartlyTaken old bytes image) }
+    ensures stays { (bytes image : List ℕ) → At N.Nvm IsQuiet nvm.old bytes → HasMagic bytes
+        → At N.Nvm MayLeave nvm.new image → image ≡ bytes }
+{
+    let old = old_image(alloc, source)?;
+    take_over(nvm, &old)
+}
+
+/// Takes over the records of the old image that the source gives, and writes the line that tells of them.
+pub(crate) fn serve_migrate<S: Source, K: Sink, N: Nvm>(
+    alloc: Global,
+    source: &mut S,
+    sink: &mut K,
+    nvm: &mut N,
+) -> Status
+    ensures migrates { Migrates S.Source K.Sink N.Nvm result source.old source.new sink.old sink.new nvm.old nvm.new }
+    ensures write_fault { result ≡ Status.WriteFault → Rose (K.faults sink.old) (K.faults sink.new) }
+    ensures sink_later { K.faults sink.old ≤ K.faults sink.new }
+    ensures takes { Told (GivesAtMost (largest_trace + 1)) (S.left source.old) (S.left source.new) }
+    ensures source_later { S.faults source.old ≤ S.faults source.new }
+    ensures lent { GoesOn N.Nvm nvm.old nvm.new }
+    ensures later { N.faults nvm.old ≤ N.faults nvm.new }
+{
+    match migrate_source(alloc, source, nvm) {
+        Ok(line) => write(sink, line.as_bytes(), Status::Ok),
+        Err(fault) => tell(sink, fault),
+    }
+}
