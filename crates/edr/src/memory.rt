@@ -10,7 +10,7 @@ use std::fs::{File, Files};
 use std::rt::Clock;
 
 /// The longest piece that is read at once.
-const LONGEST_READ: usize = 512;
+const LONGEST_READ: usize = 1_024;
 
 /// A memory in a file, which counts what fails. It tells no bytes. Where the file can't be opened or made it has the size 0,
 /// and each of its calls fails.

@@ -100,9 +100,9 @@ fn items_in(ticks: u32) -> u64 {
 }
 
 fn formatted(alloc: Global) -> Result<MemNvm, Fail>
-    ensures { IfOk result (λ m. length (memory_image m) ≡ 8288) }
+    ensures { IfOk result (λ m. length (memory_image m) ≡ 16480) }
 {
-    let image = [0u8; 8_288].to_vec(alloc)?;
+    let image = [0u8; 16_480].to_vec(alloc)?;
     let mut memory = MemNvm::new(alloc, image, 400, Vec::new(alloc), Vec::new(alloc), 0)?;
     Banks::format(&mut memory, 2, Choice::Keep)?;
     Ok(memory)

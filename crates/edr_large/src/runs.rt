@@ -16,7 +16,7 @@ use edr_items::Feeds;
 use std::alloc::{AllocError as OutOfMemory, Global};
 
 /// How many bytes the image of 16 banks has.
-const IMAGE: usize = 8_288;
+const IMAGE: usize = 16_480;
 
 // As many changing calls as a cycle never makes.
 const CALLS: u32 = 100_000_000;
