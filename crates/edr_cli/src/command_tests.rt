@@ -69,7 +69,7 @@ const fn run_of<'a>(words: &'a [&'a str], status: Status, output: &'a str) -> Ru
 }
 
 // How many bytes the memory of most runs has: as many as an image of three banks.
-const SIZE: usize = 1_632;
+const SIZE: usize = 3_168;
 
 const KEEP: u8 = 0;
 
@@ -78,7 +78,7 @@ const OVERWRITE: u8 = 1;
 // A new image, in the bytes of the memory of most runs.
 fn new_image(banks: u8, choice: u8) -> [u8; SIZE] {
     let mut image = [0; SIZE];
-    image[..10].copy_from_slice(b"EDRIMAGE\x00\x01".as_slice());
+    image[..10].copy_from_slice(b"EDRIMAGE\x00\x02".as_slice());
     image[10] = banks;
     image[11] = choice;
     image

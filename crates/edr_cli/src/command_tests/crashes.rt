@@ -99,27 +99,27 @@ fn a_crash_is_told_as_text_and_as_a_table(rt: HostRuntime) -> Result<(), Fail> {
 }
 
 // The bytes of a memory that has the record: the count stands in the first slot, and the record in the first bank.
-fn struck_image() -> [u8; SIZE] {
+pub(super) fn struck_image() -> [u8; SIZE] {
     let mut image = new_image(2, KEEP);
     image[32] = 0xa5;
     image[39] = 1;
     image[96] = 0xa5;
     image[98] = 0xa5;
-    put(&mut image, 112, b"\x00\x00\x00\x01\x00\x00\x17\x73\x01");
+    put(&mut image, 112, b"\x00\x00\x00\x01\x00\x00\x17\x73\x01\x01");
     for slot in 0..11usize {
         put(&mut image, 124 + 2 * slot, b"\x00\x32");
     }
-    put(&mut image, 146, &[0x14; 11]);
-    image[168] = 1;
+    put(&mut image, 526, &[0x14; 11]);
+    image[928] = 1;
     let points = b"\xff\xfc\xff\xf8\xff\xf4\xff\xf0\xff\xec\xff\xe8\xff\xe4\xff\xe0\xff\xdc";
-    put(&mut image, 272, b"\x00\x73");
-    put(&mut image, 276, points);
+    put(&mut image, 960, b"\x00\x73");
+    put(&mut image, 964, points);
     for point in 10..15usize {
-        put(&mut image, 274 + 2 * point, b"\xff\xd9");
+        put(&mut image, 962 + 2 * point, b"\xff\xd9");
     }
-    put(&mut image, 378, b"\xff\xd9\x00\x61");
-    put(&mut image, 386, b"\x00\x61");
-    put(&mut image, 392, &[0xff; 16]);
+    put(&mut image, 1_066, b"\xff\xd9\x00\x61");
+    put(&mut image, 1_074, b"\x00\x61");
+    put(&mut image, 1_080, &[0xff; 16]);
     image
 }
 

@@ -45,11 +45,14 @@ fn a_memory_needs_room_for_its_banks(rt: HostRuntime) -> Result<(), Fail> {
     let mut memory = memory_of(rt.alloc(), &[0x45; SIZE], &[], 0)?;
     check_run(&rt, FORMAT, &mut memory)?;
     let mut image = new_image(2, KEEP);
-    image[1_120..].copy_from_slice(&[0x45; 512]);
+    image[2_144..].copy_from_slice(&[0x45; 1_024]);
     assert_eq!(rt; memory.image(), image.as_slice());
     let needed = [
-        (&["format", "2", "keep"], "fault: image short 95 of 1120\n"),
-        (&["format", "16", "keep"], "fault: image short 95 of 8288\n"),
+        (&["format", "2", "keep"], "fault: image short 95 of 2144\n"),
+        (
+            &["format", "16", "keep"],
+            "fault: image short 95 of 16480\n",
+        ),
     ];
     for (words, line) in needed {
         let mut short = memory_of(rt.alloc(), &[0; 95], &[], 0)?;
@@ -66,7 +69,7 @@ fn the_line_tells_of_the_new_image(rt: HostRuntime) -> Result<(), Fail> {
     let line = "formatted: 3 banks, overwrite\n";
     check_run(&rt, run_of(&words, Status::Ok, line), &mut memory)?;
     assert_eq!(rt; memory.image(), new_image(3, OVERWRITE).as_slice());
-    let mut memory = memory_of(rt.alloc(), &[0; 8_288], &[], 0)?;
+    let mut memory = memory_of(rt.alloc(), &[0; 16_480], &[], 0)?;
     let words = ["format", "16", "keep"];
     let line = "formatted: 16 banks, keep\n";
     check_run(&rt, run_of(&words, Status::Ok, line), &mut memory)?;
@@ -78,13 +81,13 @@ fn the_line_tells_of_the_new_image(rt: HostRuntime) -> Result<(), Fail> {
 #[test]
 fn a_memory_that_fails_at_any_call_of_a_format_is_told(rt: HostRuntime) -> Result<(), Fail> {
     for fails in 1..=7u32 {
-        let mut memory = memory_of(rt.alloc(), &[0; 1_120], &[fails], 0)?;
+        let mut memory = memory_of(rt.alloc(), &[0; 2_144], &[fails], 0)?;
         let words = ["format", "2", "keep"];
         let fault = run_of(&words, Status::StoreFault, "fault: store fault\n");
         check_run(&rt, fault, &mut memory)?;
         assert_eq!(rt; memory.image().starts_with(b"E".as_slice()), fails == 7);
     }
-    let mut memory = memory_of(rt.alloc(), &[0; 1_120], &[8], 0)?;
+    let mut memory = memory_of(rt.alloc(), &[0; 2_144], &[8], 0)?;
     check_run(&rt, FORMAT, &mut memory)
 }
 

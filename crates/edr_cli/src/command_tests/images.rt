@@ -35,8 +35,8 @@ fn each_refusal_of_an_image_has_its_line(rt: HostRuntime) -> Result<(), Fail> {
     let refused = [
         (3, 0x69, "fault: image not formatted at 3 found 105\n"),
         (7, 0x46, "fault: image not formatted at 7 found 70\n"),
-        (8, 1, "fault: image version 257\n"),
-        (9, 2, "fault: image version 2\n"),
+        (8, 1, "fault: image version 258\n"),
+        (9, 1, "fault: image version 1\n"),
         (10, 1, "fault: image banks 1\n"),
         (10, 17, "fault: image banks 17\n"),
         (11, 2, "fault: image choice 2\n"),
@@ -51,13 +51,13 @@ fn each_refusal_of_an_image_has_its_line(rt: HostRuntime) -> Result<(), Fail> {
     check_refused(
         &rt,
         &new_image(4, KEEP),
-        "fault: image short 1632 of 2144\n",
+        "fault: image short 3168 of 4192\n",
     )
 }
 
 // A replay over so many first bytes of a new image is refused with this line.
 fn check_short<R: Abort + AllocGlobal>(rt: &R, size: usize, line: &str) -> Result<(), Fail>
-    requires { size ≤ 1_632 }
+    requires { size ≤ 3_168 }
 {
     let mut run = replayed("on,0,\ncut,0,\n", line);
     run.status = Status::Image;
@@ -69,7 +69,7 @@ fn check_short<R: Abort + AllocGlobal>(rt: &R, size: usize, line: &str) -> Resul
 #[test]
 fn a_short_memory_is_refused_with_both_sizes(rt: HostRuntime) -> Result<(), Fail> {
     check_short(&rt, 95, "fault: image short 95 of 96\n")?;
-    check_short(&rt, 1_119, "fault: image short 1119 of 1120\n")
+    check_short(&rt, 2_143, "fault: image short 2143 of 2144\n")
 }
 
 #[test]
@@ -103,10 +103,10 @@ fn struck_image<R: Abort + AllocGlobal>(rt: &R) -> Result<[u8; SIZE], Fail> {
 // A byte of the record that its field cannot have, at an offset of the bank, and the line that tells of it.
 const DAMAGES: [(usize, u8, &str); 5] = [
     (19, 0, "damaged at 19 found 0 locked"),
-    (25, 1, "damaged at 25 found 1 locked"),
-    (176, 2, "damaged at 176 found 2 locked"),
-    (209, 1, "damaged at 209 found 1 locked"),
-    (495, 7, "damaged at 495 found 7 locked"),
+    (25, 2, "damaged at 25 found 2 locked"),
+    (864, 2, "damaged at 864 found 2 locked"),
+    (897, 1, "damaged at 897 found 1 locked"),
+    (1_023, 7, "damaged at 1023 found 7 locked"),
 ];
 
 // The image with this byte in that place.
@@ -146,8 +146,8 @@ fn a_damaged_record_is_told_with_its_place_and_lock(rt: HostRuntime) -> Result<(
 // The record of the struck car, damaged in bank 1 and whole in bank 2.
 fn half_damaged_image<R: Abort + AllocGlobal>(rt: &R) -> Result<[u8; SIZE], Fail> {
     let mut image = struck_image(rt)?;
-    for offset in 96..608usize {
-        image[512 + offset] = image[offset];
+    for offset in 96..1_120usize {
+        image[1_024 + offset] = image[offset];
     }
     image[115] = 0;
     Ok(image)
@@ -166,7 +166,7 @@ fn a_damaged_bank_stands_behind_the_events(rt: HostRuntime) -> Result<(), Fail> 
 #[test]
 fn a_damaged_bank_is_told_in_a_table(rt: HostRuntime) -> Result<(), Fail> {
     let mut image = half_damaged_image(&rt)?;
-    image[608] = 0xa4;
+    image[1_120] = 0xa4;
     let table = "block,name,value
 0,bank 1,damaged at 19 found 0 locked no
 0,\"ignition cycle, download\",1
@@ -184,7 +184,7 @@ fn a_damaged_bank_is_told_in_a_table(rt: HostRuntime) -> Result<(), Fail> {
 // A new image, with a byte that opens a gate in each place of its banks.
 fn open_image() -> [u8; SIZE] {
     let mut image = new_image(2, KEEP);
-    image[96..].copy_from_slice(&[0xa5; 1_536]);
+    image[96..].copy_from_slice(&[0xa5; 3_072]);
     image
 }
 
