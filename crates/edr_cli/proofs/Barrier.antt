@@ -1,5 +1,5 @@
 -- What a barrier leaves.
-use Rattle.std.proofs.Common.{◌≡◌, ◌∙◌, sym, subst, ap, arith, ◌<◌, ℕ, Bool, true, false, List, length, slice_index, Option, Some, None, Result, Ok, Err}
+use Rattle.std.proofs.Common.{◌≡◌, ◌∙◌, refl, sym, subst, ap, arith, ◌<◌, ℕ, Bool, true, false, List, length, slice_index, Option, Some, None, Result, Ok, Err}
 use Rattle.std.specs.Result.{is_err}
 use Rattle.std.proofs.lemmas.Grind.{same_number_lists}
 use Rattle.std.proofs.lemmas.Bool.Decides.{nat_tests}
@@ -11,6 +11,14 @@ sync_settles (Ok x) (Some a) (Some b) settled settled' bytes told ok same = (ap 
 sync_settles (Ok x) None new settled settled' bytes told ok same = absurd cc
 sync_settles (Ok x) (Some a) None settled settled' bytes told ok same = absurd told
 sync_settles (Err e) old new settled settled' bytes told ok same = absurd cc
+
+-- a sync that succeeds changes nothing that is told
+pub sync_stays : {T E : Type 0} (r : Result T E) (old new : Option (List ℕ)) (settled settled' : ℕ → Bool) → Synced r old settled new settled' → is_err r ≡ false → new ≡ old
+sync_stays (Ok x) (Some a) (Some b) settled settled' told ok = ap (λ (x : List ℕ). Some x) told.0
+sync_stays (Ok x) None None settled settled' told ok = refl
+sync_stays (Ok x) (Some a) None settled settled' told ok = absurd told
+sync_stays (Ok x) None (Some b) settled settled' told ok = absurd told
+sync_stays (Err e) old new settled settled' told ok = absurd cc
 
 none_in : (i : ℕ) → is_in 0 0 i ≡ false
 none_in i = grind (arith, nat_tests)

@@ -9,4 +9,5 @@ pub mod Completeness
 pub mod DriveLemmas
 pub mod Dispatch
 pub mod TakingLemmas
+pub mod MigrationLemmas
 mod FaultVectors

@@ -1,57 +1,28 @@
 -- What is said of an old image that a source gave.
-use Rattle.std.proofs.Common.{arith, ◌≡◌, ◌≢◌, ◌∙◌, refl, sym, subst, ap, ◌+◌, ◌≤◌, ◌<◌, nat_lt, if◌then◌else◌, ℕ, Bool, true, false, List, [], ◌∷◌, length, slice_index, Option, Some, None, option_map, is_none, IfSome, IsSome}
-use Rattle.std.specs.Option.{option_or}
+use Rattle.std.proofs.Common.{arith, ◌≡◌, ◌≢◌, ◌∙◌, refl, sym, subst, ap, ◌≤◌, ◌<◌, ℕ, List, length, Option, Some, None, IfSome, IsSome}
 use Rattle.edr_device.specs.Device.{StillTells}
 use Rattle.edr_device.specs.Faults.{Rose}
-use Rattle.edr_image.specs.declared.BankView.{BankView}
-use Rattle.edr_image.specs.declared.BankView.TheVariants.{Void, Event, Damaged}
-use Rattle.edr_image.specs.declared.HeaderRefused.{HeaderRefused}
-use Rattle.edr_image.specs.declared.OpenFault.{OpenFault}
-use Rattle.edr_image.specs.declared.OpenFault.TheVariants as open_fault
-use Rattle.edr_image.specs.declared.forms.TheConstants.{VERSION_1}
-use Rattle.edr_image.specs.declared.places.TheConstants.{BANKS, FRONT_SIZE}
-use Rattle.edr_image.specs.Image.{View, count_of, header_refusal_by, image_refusal_by, image_size, not_magic, size_by, store_by, view_by, old_banks_refusal, old_refusal}
-use Rattle.edr_image.specs.declared.OldRefused.{OldRefused}
-use Rattle.edr_image.specs.declared.OldRefused.TheVariants as old_refused
+use Rattle.edr_device.specs.Told.{Told}
+use Rattle.edr_device.specs.Transfer.{GivesAll, GivesTooMany}
+use Rattle.edr_device.specs.declared.transfer.TakeFault.{TakeFault}
+use Rattle.edr_device.specs.declared.transfer.TakeFault.TheVariants as take
+use Rattle.edr_image.specs.Image.{View, image_size, not_magic}
 use Rattle.edr_banks.specs.Formatting.{LacksMagic}
 use Rattle.edr_migrate.specs.Causes.{IsCause}
-use Rattle.edr_migrate.specs.Migrated.{AreWhole, IsWhole}
+use Rattle.edr_migrate.specs.Migrated.{IsWhole}
 use Rattle.edr_migrate.specs.declared.MigrateFault.{MigrateFault}
 use Rattle.edr_migrate.specs.declared.MigrateFault.TheVariants as migrate
+use Rattle.edr_migrate.proofs.Outcomes.{refused_not_whole}
 use Rattle.edr_spell.specs.Spell.{largest_trace}
 use Rattle.edr_cli.specs.declared.fault.Fault.{Fault}
 use Rattle.edr_cli.specs.declared.fault.Fault.TheVariants as fault
 use Rattle.edr_cli.specs.Causes.{Gave, IsMigrateCause, IsTakingCause}
-use Rattle.edr_cli.specs.Faults.{fault_of_migrate}
+use Rattle.edr_cli.specs.Faults.{fault_of_migrate, fault_of_take}
 use Rattle.edr_cli.specs.Migrations.{CanMigrate, FitsInto, IsOldRefused, NeedsBytes}
 use Rattle.edr_cli.specs.Outside.{Input, IsAtEnd, Memory}
 use Rattle.edr_cli.specs.Reports.{HasMagic}
 use Rattle.edr_cli.proofs.ImageLemmas.{same_view, told_is}
 use Rattle.edr_cli.proofs.TakingLemmas.{too_many}
-
--- banks without damage aren't refused
-banks_not_refused : (m : ℕ) (banks : List BankView) (e : OldRefused) → AreWhole banks → old_banks_refusal m banks ≡ Some e → ⊥
-banks_not_refused m [] e whole is = cc
-banks_not_refused m (Void ∷ banks) e whole is = banks_not_refused (m + 1) banks e (λ i offset found locked at. whole (suc i) offset found locked at) is
-banks_not_refused m (Event r ∷ banks) e whole is = banks_not_refused (m + 1) banks e (λ i offset found locked at. whole (suc i) offset found locked at) is
-banks_not_refused m (Damaged offset found locked ∷ banks) e whole is = whole 0 offset found locked refl
-
--- an image that is refused doesn't say a view without damage
-pub refused_not_whole : (old : List ℕ) (e : OldRefused) (v : View) → old_refusal old ≡ Some e → ¬ IsWhole old v
-unfolding old_refusal view_by image_refusal_by
-refused_not_whole old e v refused whole = by_tests
-    (nat_lt (length old) FRONT_SIZE) (header_refusal_by VERSION_1 old) (nat_lt (length old) (size_by VERSION_1 (slice_index old BANKS)))
-    _ _ _ _ (record { store = store_by VERSION_1 old; count = count_of old }) refused whole.view
-  where
-    by_tests : (short : Bool) (header : Option HeaderRefused) (cut : Bool) (a b : OldRefused) (c d : OpenFault) (w : View)
-        → (if short then Some a else option_or (option_map (λ h. old_refused.Header h) header) (if cut then Some b else old_banks_refusal 1 w.store.banks)) ≡ Some e
-        → (if is_none (if short then Some c else option_or (option_map (λ h. open_fault.Header h) header) (if cut then Some d else None)) then Some w else None) ≡ Some v
-        → ⊥
-    by_tests true header cut a b c d w is says = cc
-    by_tests false (Some h) cut a b c d w is says = cc
-    by_tests false None true a b c d w is says = cc
-    by_tests false None false a b c d w is says =
-        banks_not_refused 1 w.store.banks e (subst (λ (x : View). AreWhole x.store.banks) (sym (same_view w v says)) whole.whole) is
 
 -- ---- from what was given to the source that gave it
 
@@ -63,8 +34,8 @@ of_given P (Some b) bytes is p = subst P (sym is) p
 lifted : (G H : (List ℕ → Type 0) → Type 0) (old new : Memory) (f : Fault) → ((P : List ℕ → Type 0) → G P → H P) → IsTakingCause G old new f → IsTakingCause H old new f
 lifted G H old new (fault.Old e) so cause = (so _ cause.0, cause.1)
 lifted G H old new fault.Store so cause = (so _ cause.0, cause.1)
-lifted G H old new (fault.Short size needed) so cause = (so _ cause.0, cause.1)
-lifted G H old new fault.Formatted so cause = (so _ cause.0, cause.1)
+lifted G H old new (fault.Short size needed) so cause = (so _ cause.0, cause.1, cause.2, cause.3)
+lifted G H old new fault.Formatted so cause = (so _ cause.0, cause.1, cause.2)
 lifted G H old new other so cause = cause
 
 pub migrate_cause : (i i' : Input) (bytes : List ℕ) (old new : Memory) (f : Fault) → IfSome i.left (λ b. b ≡ bytes) → IsAtEnd i'.left → IsTakingCause (λ P. P bytes) old new f → IsMigrateCause i i' old new f
@@ -76,6 +47,20 @@ migrate_cause i i' bytes old new f is end cause =
     by_fault fault.TooLong cause = absurd cause
     by_fault fault.OutOfMemory cause = absurd cause
     by_fault other cause = cause
+
+-- the bytes that were taken are all that the source told
+pub gave_all : (bytes : List ℕ) (x y : Option (List ℕ)) → Told (GivesAll bytes) x y → IfSome x (λ b. b ≡ bytes) × IsAtEnd y
+gave_all bytes None None t = (tt, tt)
+gave_all bytes (Some a) (Some b) t = t
+gave_all bytes None (Some b) t = absurd t
+gave_all bytes (Some a) None t = absurd t
+
+-- a source that was not taken whole
+pub source_cause : (i i' : Input) (m : Memory) (e : TakeFault) → (e ≡ take.TooLong → Told (GivesTooMany largest_trace) i.left i'.left) → (e ≡ take.Failed → Rose i.faults i'.faults)
+    → IsMigrateCause i i' m m (fault_of_take e)
+source_cause i i' m take.Failed long failed = (failed refl, refl)
+source_cause i i' m take.TooLong long failed = (long refl, refl)
+source_cause i i' m take.OutOfMemory long failed = refl
 
 -- ---- the fault of a migration
 
@@ -91,17 +76,21 @@ taking_cause image v old mid new (migrate.OldHeader h) few whole told same later
 taking_cause image v old mid new (migrate.OldBank bank offset found) few whole told same later stays cause = absurd (refused_not_whole image _ v cause whole)
 taking_cause image v old mid new (migrate.Short size needed) few whole told same later stays cause =
     ((cause.0, (few, cause.2.old_is), cause.2.needs), cause.1 ∙ same, subst (λ (n : ℕ). n < needed) (sym cause.1) cause.2.short, stays (λ e. cc) ∙ told)
-taking_cause image v old mid new migrate.Formatted few whole told same later stays cause =
-    ( (cause.0, (few, cause.1.old_is), subst (λ (n : ℕ). image_size cause.0.store.header.banks ≤ n) same cause.1.room)
-    , subst (λ (x : Option (List ℕ)). IfSome x HasMagic) told cause.2
-    , stays (λ e. cc) ∙ told)
+taking_cause image v old mid new migrate.Formatted few whole told same later stays cause = (
+  (cause.0, (few, cause.1.old_is), subst (λ (n : ℕ). image_size cause.0.store.header.banks ≤ n) same cause.1.room),
+  subst (λ (x : Option (List ℕ)). IfSome x HasMagic) told cause.2,
+  stays (λ e. cc) ∙ told,
+)
 taking_cause image v old mid new migrate.StoreFault few whole told same later stays cause =
-    ((v, few, whole), rose_before old.faults mid.faults new.faults later cause.2)
+    ((v, (few, whole)), rose_before old.faults mid.faults new.faults later cause.2)
 
 -- ---- where nothing counts a fault, a migration wants nothing but memory
 
 has_lacks : (bytes : List ℕ) → HasMagic bytes → LacksMagic bytes → ⊥
-has_lacks bytes has lacks = subst (λ (o : Option ℕ). IsSome o) has lacks
+has_lacks bytes has lacks = by_place (not_magic bytes) has lacks where
+  by_place : (o : Option ℕ) → o ≡ None → IsSome o → ⊥
+  by_place (Some k) is some = cc
+  by_place None is some = cc
 
 pub migrate_only_memory : (i i' : Input) (old new : Memory) (f : Fault) → CanMigrate i old → ¬ Rose i.faults i'.faults → ¬ Rose old.faults new.faults → IsMigrateCause i i' old new f → f ≡ fault.OutOfMemory
 migrate_only_memory i i' old new (fault.Old e) can calm quiet cause =

@@ -1,5 +1,5 @@
 -- What each word comes to where memory ran out before the words were read.
-use Rattle.std.proofs.Common.{refl, ℕ, List}
+use Rattle.std.proofs.Common.{refl, inl, ℕ, List}
 use Rattle.edr_device.specs.declared.device.Nvm as device
 use Rattle.edr_device.specs.declared.stream.Sink as sink
 use Rattle.edr_device.specs.declared.stream.Source as stream
@@ -14,7 +14,8 @@ use Rattle.edr_cli.specs.declared.status.Status.{Status}
 use Rattle.edr_cli.specs.declared.status.Status.TheVariants as status
 use Rattle.edr_cli.specs.Endings.{Gains, IsServed}
 use Rattle.edr_cli.specs.Faults.{fault_line}
-use Rattle.edr_cli.specs.Outcomes.{Formats, Makes, Runs, Shows}
+use Rattle.edr_cli.specs.Migrations.{IsPartlyTaken}
+use Rattle.edr_cli.specs.Outcomes.{Formats, Makes, Migrates, Runs, Shows}
 use Rattle.edr_cli.specs.Outside.{Input, Memory, input, memory}
 use Rattle.edr_cli.proofs.EndingLemmas.{ends_fault, not_ok, served_fault}
 use Rattle.edr_cli.proofs.ImageLemmas.{if_each, still_there}
@@ -46,6 +47,16 @@ formats_short k d h end old new nvm g = record {
   crash = λ bytes image quiet left. still_there h bytes image (quiet_leaves bytes _ _ image quiet left);
   stays = λ bytes image quiet has left. quiet_leaves bytes _ _ image quiet left;
   complete = λ quiet_device quiet room. if_each (λ bytes. LacksMagic bytes → IsServed end) (d.content nvm) (λ bytes told lacks. served_fault k fault.OutOfMemory end old new refl g quiet);
+}
+
+pub migrates_short : {S K D : Type 0} (s : stream.Ghosts S) (k : sink.Ghosts K) (d : device.Ghosts D) (end : Status) (source : S) (old new : K) (nvm : D)
+    → Short k end old new → Migrates s k d end source source old new nvm nvm
+migrates_short s k d end source old new nvm g = record {
+  at_end = λ ok. absurd (not_ok fault.OutOfMemory end ok g.answers);
+  ends = ends_fault k _ _ fault.OutOfMemory end old new refl g;
+  crash = λ bytes image quiet left. if_each (λ old. IsPartlyTaken old bytes image) (s.left source) (λ old told. inl (quiet_leaves bytes _ _ image quiet left));
+  stays = λ bytes image quiet has left. quiet_leaves bytes _ _ image quiet left;
+  complete = λ can calm quiet_device quiet. served_fault k fault.OutOfMemory end old new refl g quiet;
 }
 
 pub makes_short : {K : Type 0} (k : sink.Ghosts K) (P : List ℕ → Type 0) (end : Status) (old new : K) → Short k end old new → Makes k P end old new

@@ -17,6 +17,7 @@ use Rattle.edr_replay.specs.Reached.{IsCutShort, IsReached, RanFirst}
 use Rattle.edr_replay.specs.Replayed.{Holds, IsShortOf, RanToTheLast}
 use Rattle.edr_cli.specs.declared.fault.Fault.{Fault}
 use Rattle.edr_cli.specs.declared.fault.Fault.TheVariants as fault
+use Rattle.edr_cli.specs.Migrations.{FitsInto, IsAnOldImage, IsOldRefused, NeedsBytes}
 use Rattle.edr_cli.specs.Outside.{Input, IsAtEnd, Memory}
 use Rattle.edr_cli.specs.Reports.{HasMagic, Says}
 use Rattle.edr_cli.specs.Runs.{IfTold, IsTraceOf}
@@ -117,6 +118,28 @@ IsReplayCause i i' old new (fault.Header h) = GaveTrace i i' × IsImageCause old
 IsReplayCause i i' old new fault.Spent = IfTold i old (λ bytes image. IsSpent bytes image new) × IsAtEnd i'.left
 IsReplayCause i i' old new fault.OutOfMemory = (new.content ≡ old.content) ⊎ IfTold i old (λ bytes image. RanSome bytes image new)
 IsReplayCause i i' old new other = ⊥
+
+-- ---- the records of an old image: `migrate`
+
+-- the source gave such bytes, and is at its end
+abbrev pub Gave : Input → Input → (List ℕ → Type 0) → Type 0
+Gave i i' AreSuch = IfSome i.left AreSuch × IsAtEnd i'.left
+
+-- why an old image that was given was not taken over; a refusal leaves the bytes as they were
+abbrev pub IsTakingCause : ((List ℕ → Type 0) → Type 0) → Memory → Memory → Fault → Type 0
+IsTakingCause IsGiven old new (fault.Old e) = IsGiven (IsOldRefused e) × (new ≡ old)
+IsTakingCause IsGiven old new fault.Store = IsGiven IsAnOldImage × Rose old.faults new.faults
+IsTakingCause IsGiven old new (fault.Short size needed) =
+    IsGiven (NeedsBytes needed) × (size ≡ old.size) × (size < needed) × (new.content ≡ old.content)
+IsTakingCause IsGiven old new fault.Formatted = IsGiven (FitsInto old.size) × IfSome old.content HasMagic × (new.content ≡ old.content)
+IsTakingCause IsGiven old new other = ⊥
+
+-- why nothing was taken over, by the first thing that went wrong
+abbrev pub IsMigrateCause : Input → Input → Memory → Memory → Fault → Type 0
+IsMigrateCause i i' old new fault.Read = IsTraceCause i i' fault.Read × (new ≡ old)
+IsMigrateCause i i' old new fault.TooLong = IsTraceCause i i' fault.TooLong × (new ≡ old)
+IsMigrateCause i i' old new fault.OutOfMemory = new ≡ old
+IsMigrateCause i i' old new other = IsTakingCause (Gave i i') old new other
 
 -- ---- a run by threads: `drive`
 

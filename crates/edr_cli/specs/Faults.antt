@@ -7,8 +7,10 @@ use Rattle.edr_spell.specs.declared.Word.TheVariants.{Of}
 use Rattle.edr_spell.specs.Rows.{spelling_of}
 use Rattle.edr_image.specs.declared.HeaderRefused.{HeaderRefused}
 use Rattle.edr_image.specs.declared.HeaderRefused.TheVariants as header
+use Rattle.edr_image.specs.declared.OldRefused.{OldRefused}
+use Rattle.edr_image.specs.declared.OldRefused.TheVariants as old
 use Rattle.edr_cli.specs.declared.fault.Fault.{Fault}
-use Rattle.edr_cli.specs.declared.fault.Fault.TheVariants.{Usage, Trace, Read, Store, Short, Header, Formatted, Spent, OutOfMemory, TooLong}
+use Rattle.edr_cli.specs.declared.fault.Fault.TheVariants.{Usage, Trace, Read, Store, Short, Header, Formatted, Spent, OutOfMemory, TooLong, Old}
 use Rattle.edr_cli.specs.declared.status.Status.{Status}
 use Rattle.edr_cli.specs.declared.status.Status.TheVariants as status
 use Rattle.edr_device.specs.declared.transfer.TakeFault.{TakeFault}
@@ -19,6 +21,8 @@ use Rattle.edr_image.specs.declared.OpenFault.{OpenFault}
 use Rattle.edr_image.specs.declared.OpenFault.TheVariants as open_fault
 use Rattle.edr_banks.specs.declared.FormatFault.{FormatFault}
 use Rattle.edr_banks.specs.declared.FormatFault.TheVariants as format
+use Rattle.edr_migrate.specs.declared.MigrateFault.{MigrateFault}
+use Rattle.edr_migrate.specs.declared.MigrateFault.TheVariants as migrate
 use Rattle.edr_cycle.specs.declared.started.StartFault.{StartFault}
 use Rattle.edr_cycle.specs.declared.started.StartFault.TheVariants as start
 
@@ -42,6 +46,12 @@ header_words (header.Version found) = codes "version " ++ decimal found
 header_words (header.Banks found) = codes "banks " ++ decimal found
 header_words (header.Choice found) = codes "choice " ++ decimal found
 
+-- what is wrong with an old image
+abbrev pub old_words : OldRefused → List ℕ
+old_words (old.Short size needed) = codes "short " ++ decimal size ++ codes " of " ++ decimal needed
+old_words (old.Header h) = header_words h
+old_words (old.Bank bank offset found) = codes "bank " ++ decimal bank ++ codes " damaged at " ++ decimal offset ++ codes " found " ++ decimal found
+
 abbrev pub fault_words : Fault → List ℕ
 fault_words Usage = codes "usage"
 fault_words (Trace t) = codes "trace row " ++ decimal t.row ++ codes ": " ++ trace_words t.fault
@@ -53,6 +63,7 @@ fault_words Formatted = codes "image formatted"
 fault_words Spent = codes "spent"
 fault_words OutOfMemory = codes "out of memory"
 fault_words TooLong = codes "too long"
+fault_words (Old e) = codes "old image " ++ old_words e
 
 -- the line of a fault
 abbrev pub fault_line : Fault → List ℕ
@@ -70,6 +81,7 @@ status_of Formatted = status.Image
 status_of Spent = status.Spent
 status_of OutOfMemory = status.OutOfMemory
 status_of TooLong = status.TooLong
+status_of (Old e) = status.OldImage
 
 -- ---- the fault of a call, from that of what it called
 
@@ -96,6 +108,15 @@ abbrev pub fault_of_format : FormatFault → Fault
 fault_of_format (format.Short size needed) = Short size needed
 fault_of_format format.Formatted = Formatted
 fault_of_format format.StoreFault = Store
+
+-- an old image was not taken over
+abbrev pub fault_of_migrate : MigrateFault → Fault
+fault_of_migrate (migrate.OldShort size needed) = Old (old.Short size needed)
+fault_of_migrate (migrate.OldHeader h) = Old (old.Header h)
+fault_of_migrate (migrate.OldBank bank offset found) = Old (old.Bank bank offset found)
+fault_of_migrate (migrate.Short size needed) = Short size needed
+fault_of_migrate migrate.Formatted = Formatted
+fault_of_migrate migrate.StoreFault = Store
 
 -- a run ended early
 abbrev pub fault_of_start : StartFault → Fault

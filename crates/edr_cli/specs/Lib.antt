@@ -4,6 +4,7 @@ pub mod Words
 pub mod Outside
 pub mod Reports
 pub mod Runs
+pub mod Migrations
 pub mod Causes
 pub mod Endings
 pub mod Outcomes

@@ -15,12 +15,13 @@ use Rattle.edr_words.specs.declared.Form.{Form}
 use Rattle.edr_cli.specs.declared.fault.Fault.{Fault}
 use Rattle.edr_cli.specs.declared.status.Status.{Status}
 use Rattle.edr_cli.specs.declared.status.Status.TheVariants.{Ok}
-use Rattle.edr_cli.specs.Causes.{IsDriveCause, IsFormatCause, IsImageCause, IsNumberCause, IsReplayCause}
+use Rattle.edr_cli.specs.Causes.{IsDriveCause, IsFormatCause, IsImageCause, IsMigrateCause, IsNumberCause, IsReplayCause}
 use Rattle.edr_cli.specs.Endings.{Ends, IsServed}
+use Rattle.edr_cli.specs.Migrations.{CanMigrate, IsPartlyTaken, MigrateIs}
 use Rattle.edr_cli.specs.Outside.{Input, IsAtEnd, Memory, NoFault, OfBoth, OfMemory, OfRun, input, memory}
 use Rattle.edr_cli.specs.Reports.{FormatIs, HasMagic, ReportIs}
 use Rattle.edr_cli.specs.Runs.{CanRun, RunIs}
-use Rattle.edr_cli.specs.Words.{AreDrive, AreFormat, AreGenerate, AreLarge, AreReplay, AreReport}
+use Rattle.edr_cli.specs.Words.{AreDrive, AreFormat, AreGenerate, AreLarge, AreMigrate, AreReplay, AreReport}
 
 -- ---- a run, by `replay` and by `drive`
 
@@ -84,6 +85,29 @@ pub record Formats {K D : Type 0} (k : sink.Ghosts K) (d : device.Ghosts D) (h :
 abbrev pub ServesFormat : {K D : Type 0} → sink.Ghosts K → device.Ghosts D → List (List ℕ) → Status → K → K → D → D → Type 0
 ServesFormat k d words status sink sink' nvm nvm' =
     (h : Header) → AreFormat h words → Formats k d h status sink sink' nvm nvm'
+
+-- ---- `migrate`
+
+-- the line of what was taken over from an old image, which the device holds and had none before; a refusal leaves its bytes
+pub record Migrates {S K D : Type 0} (s : stream.Ghosts S) (k : sink.Ghosts K) (d : device.Ghosts D) (status : Status)
+    (source source' : S) (sink sink' : K) (nvm nvm' : D) : Type 0 where
+  -- with Ok the source is at its end
+  pub at_end : status ≡ Ok → IsAtEnd (s.left source')
+  pub ends : Ends k (OfRun s d MigrateIs source nvm nvm') (OfBoth s d IsMigrateCause source source' nvm nvm') status sink sink'
+  -- where nothing was pending, a crash at the end leaves the image as it was, or without the magic, or one that says what the old one said
+  pub crash : (bytes image : List ℕ) → At d IsQuiet nvm bytes → At d MayLeave nvm' image
+      → IfSome (s.left source) (λ old. IsPartlyTaken old bytes image)
+  -- an image that is there stays, whatever the status
+  pub stays : (bytes image : List ℕ) → At d IsQuiet nvm bytes → HasMagic bytes → At d MayLeave nvm' image → image ≡ bytes
+  -- where nothing counts a fault, an old image without damage is taken over by a device with room and without an image
+  pub complete : CanMigrate (input s source) (memory d nvm) → NoFault s.faults source source' → NoFault d.faults nvm nvm'
+      → NoFault k.faults sink sink' → IsServed status
+
+-- `migrate` takes it over
+abbrev pub ServesMigrate : {S K D : Type 0} → stream.Ghosts S → sink.Ghosts K → device.Ghosts D → List (List ℕ) → Status
+    → S → S → K → K → D → D → Type 0
+ServesMigrate s k d words status source source' sink sink' nvm nvm' =
+    AreMigrate words → Migrates s k d status source source' sink sink' nvm nvm'
 
 -- ---- `generate` and `large`
 

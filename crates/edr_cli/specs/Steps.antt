@@ -1,5 +1,5 @@
 -- What the steps of a run say of each other. The clauses of the top call need none of this.
-use Rattle.std.specs.Prelude.{◌≡◌, ◌⊎◌, ℕ, List, Some}
+use Rattle.std.specs.Prelude.{◌≡◌, ◌⊎◌, ℕ, List, Some, IfSome}
 use Rattle.edr_device.specs.Faults.{Rose}
 use Rattle.edr_image.specs.Banks.{Store}
 use Rattle.edr_image.specs.Reports.{Report}
@@ -10,6 +10,7 @@ use Rattle.edr_cli.specs.declared.fault.Fault.TheVariants as fault
 use Rattle.edr_words.specs.declared.Form.{Form}
 use Rattle.edr_replay.specs.Reached.{IsCutShort, RanFirst}
 use Rattle.edr_replay.specs.Replayed.{Holds, IsShortOf, LeavesReached, RanToTheLast}
+use Rattle.edr_cli.specs.Migrations.{TookOver}
 use Rattle.edr_cli.specs.Outside.{Memory}
 use Rattle.edr_cli.specs.Reports.{Says, report_in}
 
@@ -37,6 +38,10 @@ IsRunCause cycles old new other = ⊥
 abbrev pub ReportsHeld : Form → List Report → Memory → List ℕ → Type 0
 ReportsHeld form reports old text =
     (v : Store) × (n : ℕ) × ((image : List ℕ) → old.content ≡ Some image → Says image v n) × (text ≡ report_in form reports v n)
+
+-- an old image that was given was taken over
+abbrev pub IsTaken : List ℕ → Memory → Memory → List ℕ → Type 0
+IsTaken image old new text = IfSome old.content (λ bytes. TookOver image bytes new text)
 
 -- the device holds what some first cycles came to, or these and the start of the next one
 abbrev pub HoldsCutShort : List CycleInput → Memory → Memory → Type 0

@@ -3,7 +3,7 @@ use Rattle.std.specs.Prelude.{◌≡◌, ℕ, Option, Some, None, List, ⊤}
 use Rattle.edr_image.specs.declared.Header.{Header}
 use Rattle.edr_words.specs.declared.Form.{Form}
 use Rattle.edr_words.specs.declared.Job.{Job}
-use Rattle.edr_words.specs.declared.Job.TheVariants.{Format, Replay, Report, Drive, Generate, Large}
+use Rattle.edr_words.specs.declared.Job.TheVariants.{Format, Replay, Report, Drive, Generate, Large, Migrate}
 use Rattle.edr_words.specs.Jobs.{job_of}
 
 -- they ask for a new image with this header
@@ -26,6 +26,10 @@ AreGenerate number cycles words = job_of words ≡ Some (Generate number cycles)
 abbrev pub AreLarge : ℕ → ℕ → List (List ℕ) → Type 0
 AreLarge number cycles words = job_of words ≡ Some (Large number cycles)
 
+-- they ask for what an old image holds to be taken over
+abbrev pub AreMigrate : List (List ℕ) → Type 0
+AreMigrate words = job_of words ≡ Some Migrate
+
 -- ---- other words
 
 -- the job, if there is one, is none that is served
@@ -38,20 +42,22 @@ IsOther other = ⊥
 abbrev pub AreOther : List (List ℕ) → Type 0
 AreOther words = IsOther (job_of words)
 
--- the job, if there is one, reads no trace
-abbrev pub IsWithoutTrace : Option Job → Type 0
-IsWithoutTrace (Some (Replay form)) = ⊥
-IsWithoutTrace other = ⊤
+-- the job, if there is one, reads nothing
+abbrev pub IsWithoutSource : Option Job → Type 0
+IsWithoutSource (Some (Replay form)) = ⊥
+IsWithoutSource (Some Migrate) = ⊥
+IsWithoutSource other = ⊤
 
--- they ask for nothing that reads a trace
+-- they ask for nothing that reads a trace or an old image
 abbrev pub ReadNothing : List (List ℕ) → Type 0
-ReadNothing words = IsWithoutTrace (job_of words)
+ReadNothing words = IsWithoutSource (job_of words)
 
 -- the job, if there is one, uses no memory of records
 abbrev pub IsWithoutMemory : Option Job → Type 0
 IsWithoutMemory (Some (Format header)) = ⊥
 IsWithoutMemory (Some (Replay form)) = ⊥
 IsWithoutMemory (Some (Report form)) = ⊥
+IsWithoutMemory (Some Migrate) = ⊥
 IsWithoutMemory other = ⊤
 
 -- they ask for nothing that uses one

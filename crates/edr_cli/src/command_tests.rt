@@ -12,6 +12,7 @@ mod faults;
 mod formats;
 mod generated;
 mod images;
+mod migrations;
 mod orders;
 mod refusals;
 
@@ -167,6 +168,7 @@ fn each_status_has_its_code(rt: HostRuntime) {
         (Status::Spent, 8),
         (Status::OutOfMemory, 9),
         (Status::TooLong, 10),
+        (Status::OldImage, 11),
     ];
     for (status, code) in codes {
         assert_eq!(rt; status.code(), code);

@@ -7,7 +7,7 @@ ghost use Rattle.edr_device.specs.Transfer.{GivesAtMost};
 ghost use Rattle.edr_spell.specs.Spell.{largest_trace};
 ghost use Rattle.edr_cli.specs.Causes.{IsUsageCause};
 ghost use Rattle.edr_cli.specs.Endings.{TellsFault, TellsFaultPart};
-ghost use Rattle.edr_cli.specs.Outcomes.{ServesFormat, ServesGenerate, ServesLarge, ServesReplay, ServesReport};
+ghost use Rattle.edr_cli.specs.Outcomes.{ServesFormat, ServesGenerate, ServesLarge, ServesMigrate, ServesReplay, ServesReport};
 ghost use Rattle.edr_cli.specs.Words.{AreOther, ReadNothing, UseNoMemory};
 
 use crate::endings::tell;
@@ -15,6 +15,7 @@ use crate::fault::Fault;
 use crate::format::serve_format;
 use crate::generate::serve_generate;
 use crate::large::serve_large;
+use crate::migrate::serve_migrate;
 use crate::replay::serve_replay;
 use crate::report::serve_report;
 use crate::status::Status;
@@ -22,13 +23,14 @@ use edr_device::{Nvm, Sink, Source};
 use edr_words::{Job, Words};
 use std::alloc::{AllocError as OutOfMemory, Global};
 
-/// Serves the words `format B C`, `replay [text|csv]`, `report [text|csv]`, `generate N M` and `large N M`.
+/// Serves the words `format B C`, `replay [text|csv]`, `report [text|csv]`, `generate N M`, `large N M` and `migrate`.
 ///
 /// `replay` reads a trace from the source, runs its ignition cycles over the device, each up to its planned power cut, and
 /// writes what was acknowledged and every record that the device holds then. `report` writes the records that the device
 /// holds. `format` makes a new image on the device, and writes the line that tells of it. `generate` writes a trace that is
-/// made from a number, and `large` counts what its cycles come to over a memory of their own. A fault writes its one line
-/// and nothing else.
+/// made from a number, and `large` counts what its cycles come to over a memory of their own. `migrate` reads an image of
+/// version 1 from the source, and makes one on the device that holds the same records. A fault writes its one line and nothing
+/// else.
 pub fn command<S: Source, K: Sink, N: Nvm>(
     alloc: Global,
     words: &Words,
@@ -70,6 +72,8 @@ pub fn command<S: Source, K: Sink, N: Nvm>(
     ensures generate { ServesGenerate K.Sink words.now result sink.old sink.new }
     // `large`: the counts of a run over the cycles that this trace spells.
     ensures large { ServesLarge K.Sink words.now result sink.old sink.new }
+    // `migrate`: a line. The device had no image and holds one that says what the old image says, and a refusal leaves its bytes.
+    ensures migrate { ServesMigrate S.Source K.Sink N.Nvm words.now result source.old source.new sink.old sink.new nvm.old nvm.new }
 {
     let job = match words.job(alloc) {
         Ok(job) => job,
@@ -81,6 +85,7 @@ pub fn command<S: Source, K: Sink, N: Nvm>(
         Some(Job::Format { header }) => serve_format(sink, nvm, header),
         Some(Job::Generate { number, cycles }) => serve_generate(sink, number, cycles),
         Some(Job::Large { number, cycles }) => serve_large(alloc, sink, number, cycles),
+        Some(Job::Migrate) => serve_migrate(alloc, source, sink, nvm),
         Some(Job::Drive { .. }) | None => tell(sink, Fault::Usage),
     }
 }

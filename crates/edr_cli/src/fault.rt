@@ -3,14 +3,15 @@ ghost use Rattle.std.specs.Prelude.{◌≡◌, ◌+◌, ◌≤◌, ◌++◌, len
 ghost use Rattle.arrayvec.specs.ArrayString.{array_string_len};
 ghost use Rattle.edr_spell.specs.declared.Word.TheVariants.{Of};
 ghost use Rattle.edr_spell.specs.Rows.{spelling_of};
-ghost use Rattle.edr_cli.specs.Faults.{trace_words, header_words, fault_words, fault_line, status_of};
+ghost use Rattle.edr_cli.specs.Faults.{trace_words, header_words, old_words, fault_words, fault_line, status_of};
 
 use crate::status::Status;
 use edr_banks::{FormatFault, OpenFault};
 use edr_cycle::StartFault;
 use edr_device::{Failed, TakeFault};
-use edr_image::HeaderRefused;
+use edr_image::{HeaderRefused, OldRefused};
 use edr_items::Sensor;
+use edr_migrate::MigrateFault;
 use edr_report::{Room, ShortLine, push_number, push_signed};
 use edr_spell::{TraceFault, TraceRefused};
 use edr_trace::ReadRefused;
@@ -38,6 +39,8 @@ pub enum Fault {
     OutOfMemory,
     /// The source gave more bytes than a trace may have.
     TooLong,
+    /// The old image that the source gave is refused.
+    Old(OldRefused),
 }
 
 fn sensor_word(sensor: Sensor) -> &'static str
@@ -99,6 +102,30 @@ fn push_header_refused(line: &mut Room, refused: HeaderRefused)
     }
 }
 
+// Appends what is wrong with an old image.
+fn push_old_refused(line: &mut Room, refused: OldRefused)
+    requires { array_string_len line.old ≤ 17 }
+    ensures bytes { line.new.bytes ≡ line.old.bytes ++ old_words refused }
+    ensures len { array_string_len line.new ≤ array_string_len line.old + 54 }
+{
+    match refused {
+        OldRefused::Short { size, needed } => {
+            push_number(line, "short ", size);
+            push_number(line, " of ", needed);
+        }
+        OldRefused::Header(refused) => push_header_refused(line, refused),
+        OldRefused::Bank {
+            bank,
+            offset,
+            found,
+        } => {
+            push_number(line, "bank ", u32::from(bank));
+            push_number(line, " damaged at ", u32::from(offset));
+            push_number(line, " found ", u32::from(found));
+        }
+    }
+}
+
 impl Fault {
     // Appends what went wrong.
     fn push_to(&self, line: &mut Room)
@@ -127,6 +154,10 @@ impl Fault {
             Fault::Spent => line.push_str("spent"),
             Fault::OutOfMemory => line.push_str("out of memory"),
             Fault::TooLong => line.push_str("too long"),
+            Fault::Old(refused) => {
+                line.push_str("old image ");
+                push_old_refused(line, *refused);
+            }
         }
     }
 
@@ -154,6 +185,7 @@ impl Fault {
             Fault::Spent => Status::Spent,
             Fault::OutOfMemory => Status::OutOfMemory,
             Fault::TooLong => Status::TooLong,
+            Fault::Old(_) => Status::OldImage,
         }
     }
 }
@@ -248,6 +280,44 @@ impl From<StartFault> for Fault {
             StartFault::Spent => Fault::Spent,
             StartFault::StoreFault => Fault::Store,
             StartFault::OutOfMemory => Fault::OutOfMemory,
+        }
+    }
+}
+
+impl From<OldRefused> for Fault {
+    ghost use Rattle.edr_cli.specs.declared.fault.Fault.TheVariants as fault;
+
+    ghost from_gives = { λ e f. f ≡ fault.Old e };
+
+    fn from(e: OldRefused) -> Fault {
+        Fault::Old(e)
+    }
+}
+
+impl From<MigrateFault> for Fault {
+    ghost use Rattle.edr_cli.specs.Faults.{fault_of_migrate};
+
+    ghost from_gives = { λ e f. f ≡ fault_of_migrate e };
+
+    fn from(e: MigrateFault) -> Fault {
+        match e {
+            MigrateFault::OldShort { size, needed } => Fault::Old(OldRefused::Short {
+                size,
+                needed,
+            }),
+            MigrateFault::OldHeader(refused) => Fault::Old(OldRefused::Header(refused)),
+            MigrateFault::OldBank {
+                bank,
+                offset,
+                found,
+            } => Fault::Old(OldRefused::Bank {
+                bank,
+                offset,
+                found,
+            }),
+            MigrateFault::Short { size, needed } => Fault::Short { size, needed },
+            MigrateFault::Formatted => Fault::Formatted,
+            MigrateFault::StoreFault => Fault::Store,
         }
     }
 }

@@ -1,7 +1,7 @@
 //! Each fault has its line.
 
 use crate::Fault;
-use edr_image::HeaderRefused;
+use edr_image::{HeaderRefused, OldRefused};
 use edr_items::Sensor;
 use edr_spell::{TraceFault, TraceRefused};
 use std::process::Abort;
@@ -47,6 +47,33 @@ fn each_fault_has_its_line(rt: HostRuntime) {
     ];
     for (fault, line) in faults {
         assert!(rt; fault.line().as_bytes() == line.as_bytes());
+    }
+}
+
+#[test]
+fn each_refusal_of_an_old_image_has_its_line(rt: HostRuntime) {
+    let (size, needed) = (1_119, 1_120);
+    let (bank, offset, found) = (1, 19, 0);
+    let faults = [
+        (
+            OldRefused::Short { size, needed },
+            "fault: old image short 1119 of 1120\n",
+        ),
+        (
+            OldRefused::Header(HeaderRefused::Version { found: 2 }),
+            "fault: old image version 2\n",
+        ),
+        (
+            OldRefused::Bank {
+                bank,
+                offset,
+                found,
+            },
+            "fault: old image bank 1 damaged at 19 found 0\n",
+        ),
+    ];
+    for (refused, line) in faults {
+        assert!(rt; Fault::Old(refused).line().as_bytes() == line.as_bytes());
     }
 }
 

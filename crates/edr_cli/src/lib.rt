@@ -10,6 +10,7 @@ mod format;
 mod generate;
 mod large;
 pub mod laws;
+mod migrate;
 mod replay;
 mod report;
 mod status;

@@ -1,15 +1,15 @@
 //! Serves `migrate`: takes over the records of an old image, one of version 1, which the source gives.
-ghost use Rattle.std.specs.Prelude.{◌≡◌, ◌+◌, ◌≤◌, ℕ, List, IfOk, IfErr, IfSome, OnOk, length, vec_len};
+ghost use Rattle.std.specs.Prelude.{◌≡◌, ◌+◌, ◌≤◌, ℕ, List, IfOk, IfErr, IfSome, OnOk, length};
 ghost use Rattle.edr_device.specs.Device.{IsQuiet, MayLeave};
 ghost use Rattle.edr_device.specs.Faults.{Rose};
 ghost use Rattle.edr_device.specs.Lent.{At, GoesOn};
 ghost use Rattle.edr_device.specs.Told.{Told};
 ghost use Rattle.edr_device.specs.Transfer.{GivesAtMost};
 ghost use Rattle.edr_spell.specs.Spell.{largest_trace};
-ghost use Rattle.edr_cli.specs.Causes.{IsMigrateCause, IsTakingCause, IsTraceCause};
+ghost use Rattle.edr_cli.specs.Causes.{IsMigrateCause, IsTakingCause};
 ghost use Rattle.edr_cli.specs.Migrations.{IsPartlyTaken, MigrateIs};
 ghost use Rattle.edr_cli.specs.Outcomes.{Migrates};
-ghost use Rattle.edr_cli.specs.Outside.{IsAtEnd, OfBoth, OfMemory, OfRun, input};
+ghost use Rattle.edr_cli.specs.Outside.{IsAtEnd, OfBoth, OfMemory, OfRun};
 ghost use Rattle.edr_cli.specs.Reports.{HasMagic};
 ghost use Rattle.edr_cli.specs.Steps.{IsTaken};
 
@@ -21,18 +21,6 @@ use edr_migrate::{check, migrate};
 use edr_report::{ShortLine, migrate_line};
 use edr_trace::LARGEST_TRACE;
 use std::alloc::Global;
-
-// All that the source gives.
-fn old_image<S: Source>(alloc: Global, source: &mut S) -> Result<Vec<u8>, Fault>
-    ensures end { OnOk result (IsAtEnd (S.left source.new)) }
-    ensures bytes { IfOk result (λ old. IfSome (S.left source.old) (λ bytes. bytes ≡ old.items)) }
-    ensures within { IfOk result (λ old. vec_len old ≤ largest_trace) }
-    ensures cause { IfErr result (IsTraceCause (input S.Source source.old) (input S.Source source.new)) }
-    ensures takes { Told (GivesAtMost (largest_trace + 1)) (S.left source.old) (S.left source.new) }
-    ensures later { S.faults source.old ≤ S.faults source.new }
-{
-    Ok(take_all(alloc, source, LARGEST_TRACE as usize)?)
-}
 
 // Takes over what an old image holds, and makes the line that tells of it. The old image is looked at and the line is built before
 // the device is touched.
@@ -73,7 +61,7 @@ fn migrate_source<S: Source, N: Nvm>(
     ensures stays { (bytes image : List ℕ) → At N.Nvm IsQuiet nvm.old bytes → HasMagic bytes
         → At N.Nvm MayLeave nvm.new image → image ≡ bytes }
 {
-    let old = old_image(alloc, source)?;
+    let old = take_all(alloc, source, LARGEST_TRACE as usize)?;
     take_over(nvm, &old)
 }
 

@@ -25,10 +25,12 @@ pub enum Status {
     OutOfMemory,
     /// The source gave more bytes than a trace may have.
     TooLong,
+    /// The old image that the source gave is refused.
+    OldImage,
 }
 
 impl Status {
-    /// The exit status: 0 for `Ok`, and from 2 to 10 for the others in order.
+    /// The exit status: 0 for `Ok`, and from 2 to 11 for the others in order.
     pub fn code(&self) -> u8
         ensures { result ≡ number_of self.now }
     {
@@ -43,6 +45,7 @@ impl Status {
             Status::Spent => 8,
             Status::OutOfMemory => 9,
             Status::TooLong => 10,
+            Status::OldImage => 11,
         }
     }
 }

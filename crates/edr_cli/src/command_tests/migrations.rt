@@ -69,7 +69,8 @@ fn an_old_image_that_is_refused_is_told(rt: HostRuntime) -> Result<(), Fail> {
 #[test]
 fn a_migration_that_fails_in_its_last_call_leaves_no_magic(rt: HostRuntime) -> Result<(), Fail> {
     let mut memory = memory_of(rt.alloc(), &[0; SIZE], &[7], 0)?;
-    let run = migrated(&old_image(), Status::StoreFault, "fault: store fault\n");
+    let old = old_image();
+    let run = migrated(&old, Status::StoreFault, "fault: store fault\n");
     check_run(&rt, run, &mut memory)?;
     memory.power_cycle()?;
     assert!(rt; memory.image().starts_with(b"\x00".as_slice()));

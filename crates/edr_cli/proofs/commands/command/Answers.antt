@@ -9,7 +9,7 @@ use Rattle.edr_cli.specs.Outcomes.{Formats, Makes, Runs, Shows}
 use Rattle.edr_cli.specs.Words.{AreFormat, AreGenerate, AreLarge, AreReplay, AreReport}
 use Rattle.edr_cli.proofs.Dispatch.{as_format, as_generate, as_large, as_replay, as_report}
 use Rattle.edr_cli.proofs.EndingLemmas.{ends_text, served_text, tells_fault, tells_fault_part}
-use Rattle.edr_cli.proofs.OutcomeLemmas.{formats_short, makes_short, runs_short, shows_short}
+use Rattle.edr_cli.proofs.OutcomeLemmas.{formats_short, makes_short, migrates_short, runs_short, shows_short}
 use Rattle.edr_cli.proofs.commands.command.Goals as goal
 
 -- ---- memory ran out before the words were read
@@ -28,6 +28,9 @@ returns-in-Err-clause-report g c = λ form asked. shows_short g.K.Sink g.N.Nvm f
 
 pub returns-in-Err-clause-format : goal.returns-in-Err-clause-format
 returns-in-Err-clause-format g c = λ h asked. formats_short g.K.Sink g.N.Nvm h c.tell.result c.args.sink.now c.tell.new.sink c.args.nvm.now c.tell.ensures.gains
+
+pub returns-in-Err-clause-migrate : goal.returns-in-Err-clause-migrate
+returns-in-Err-clause-migrate g c = λ asked. migrates_short g.S.Source g.K.Sink g.N.Nvm c.tell.result c.args.source.now c.args.sink.now c.tell.new.sink c.args.nvm.now c.tell.ensures.gains
 
 pub returns-in-Err-clause-generate : goal.returns-in-Err-clause-generate
 returns-in-Err-clause-generate g c = λ number cycles asked. makes_short g.K.Sink (λ text. text ≡ generated_trace number cycles) c.tell.result c.args.sink.now c.tell.new.sink c.tell.ensures.gains

@@ -1,11 +1,12 @@
 use Rattle.std.proofs.Common.{◌≡◌, ◌∙◌, ap, sym, inl, inr, List, ℕ}
+use Rattle.std.proofs.lemmas.Result.{err_from_is_err_and}
 use Rattle.std.specs.Result.{is_err}
 use Rattle.edr_device.proofs.Settling.{quiet_leaves, stays_quiet}
 use Rattle.edr_migrate.specs.declared.Migrated.{Migrated}
 use Rattle.edr_report.specs.Format.{migrate_line}
 use Rattle.edr_cli.specs.Migrations.{TookOver}
 use Rattle.edr_cli.specs.Outside.{memory}
-use Rattle.edr_cli.proofs.Barrier.{sync_leaves, sync_settles}
+use Rattle.edr_cli.proofs.Barrier.{sync_leaves, sync_settles, sync_stays}
 use Rattle.edr_cli.proofs.ImageLemmas.{if_each}
 use Rattle.edr_cli.proofs.MigrationLemmas.{taking_cause}
 use Rattle.edr_cli.proofs.migrate.take_over.Goals as goal
@@ -31,6 +32,18 @@ returns-in_err-sync-clause-stays g c = λ bytes image quiet has left.
     sync_leaves c.sync.result (D.content c.args.nvm.now) (D.content c.sync.new.self) (D.settled c.args.nvm.now) (D.settled c.sync.new.self) bytes image c.sync.ensures.told (ap is_err c.in_err-sync.was) quiet left
 
 -- ---- the migration failed
+
+pub returns-in_err-migrate-clause-cause : goal.returns-in_err-migrate-clause-cause
+returns-in_err-migrate-clause-cause g c =
+    let D = g.N.Nvm in
+    let old = memory D c.args.nvm.now in
+    let mid = memory D c.sync.new.self in
+    let new = memory D c.migrate.new.nvm in
+    let whole = c.in_ok-migrated.ensures.passed in
+    let stays = sync_stays c.sync.result old.content mid.content old.settled mid.settled c.sync.ensures.told (ap is_err c.in_ok-sync.was) in
+    let p = err_from_is_err_and c.from_residual-in_err-migrate.result c.from_residual-in_err-migrate.ensures.1 in
+    rw (p.1, p.2) (taking_cause c.args.old.now whole.0 old mid new c.in_err-migrate.field-0.0 c.requires whole.1 stays c.sync.ensures.size c.sync.ensures.cause.later
+    (λ other. (c.in_err-migrate.ensures.refused other).stays.same_content) c.in_err-migrate.ensures.cause)
 
 pub returns-in_err-migrate-clause-crash : goal.returns-in_err-migrate-clause-crash
 returns-in_err-migrate-clause-crash g c = λ bytes image quiet left.
