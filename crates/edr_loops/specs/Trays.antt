@@ -1,5 +1,5 @@
 -- What a contract sees of a tray.
-use Rattle.std.specs.Prelude.{◌-◌, List}
+use Rattle.std.specs.Prelude.{◌≡◌, ◌-◌, ◌≤◌, ◌++◌, ◌∷◌, [], ℕ, List, Option, MatchOption}
 use Rattle.edr_items.specs.declared.Item.{Item}
 use Rattle.edr_seats.specs.Inlet.{SameInlet, items_taken}
 use Rattle.edr_loops.specs.Slices.{but_last}
@@ -8,6 +8,14 @@ use Rattle.edr_loops.specs.declared.tray.Tray.{Tray}
 -- the items that were taken, oldest first: what came out of the ring, but for what lies in the tray
 abbrev pub taken_of : Tray → List Item
 taken_of t = but_last (t.end - t.next) (items_taken t.inlet)
+
+-- an item up to that moment was taken, by which what was taken has grown; or none was
+abbrev pub TakesUpTo : {A : Type 0} → ℕ → (Item → A → A) → Option Item → A → A → Type 0
+TakesUpTo upto grown taken old new = MatchOption taken (new ≡ old) (λ item. (new ≡ grown item old) × (item.moment ≤ upto))
+
+-- the items with one more at their end
+abbrev pub with_last : Item → List Item → List Item
+with_last item items = items ++ item ∷ []
 
 -- the tray of the same ring
 abbrev pub SameTray : Tray → Tray → Type 0

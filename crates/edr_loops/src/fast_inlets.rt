@@ -1,8 +1,9 @@
 //! The recorder's ends of the rings of the sensors 1, 2 and 8, of which each item reaches the recorder.
 
-ghost use Rattle.std.specs.Prelude.{◌≡◌, ◌≤◌, MatchOption};
+ghost use Rattle.std.specs.Prelude.{◌≡◌, ◌≤◌};
 ghost use Rattle.edr_loops.specs.FastInlets.{fast_mark, sensor_of, with_fast, with_fast_mark};
 ghost use Rattle.edr_loops.specs.Lanes.{SameFastInlets, fast_taken};
+ghost use Rattle.edr_loops.specs.Trays.{TakesUpTo};
 
 use crate::tray::Tray;
 use edr_items::{Item, Sensor};
@@ -42,8 +43,8 @@ impl FastInlets {
     #[inline(always)]
     pub(crate) fn take_upto(&mut self, sensor: FastSensor, upto: u32) -> Option<Item>
         ensures rings { SameFastInlets self.old self.new }
-        ensures taken { MatchOption result (fast_taken self.new ≡ fast_taken self.old)
-            (λ item. (fast_taken self.new ≡ with_fast sensor item (fast_taken self.old)) × (item.moment ≤ upto)) }
+        ensures taken { TakesUpTo upto (with_fast sensor)
+            result (fast_taken self.old) (fast_taken self.new) }
     {
         match sensor {
             FastSensor::Along => self.along.take_upto(upto),

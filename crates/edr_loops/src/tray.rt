@@ -26,11 +26,11 @@ pub struct Tray {
 }
 
 impl Tray {
-    ghost use Rattle.std.specs.Prelude.{[], ◌∷◌, MatchOption};
+    ghost use Rattle.std.specs.Prelude.{[]};
     ghost use Rattle.edr_definitions.specs.Schedule.{BeginsWith};
     ghost use Rattle.edr_seats.specs.Inlet.{AreOfOneRing};
     ghost use Rattle.edr_seats.specs.Seat.{items_sent};
-    ghost use Rattle.edr_loops.specs.Trays.{SameTray, taken_of};
+    ghost use Rattle.edr_loops.specs.Trays.{SameTray, TakesUpTo, taken_of, with_last};
 
     /// A tray in which nothing lies.
     pub fn new(inlet: Inlet) -> Tray
@@ -64,7 +64,7 @@ impl Tray {
     #[tactic(auto, using(crate::proofs::TrayLemmas::next_taken, crate::proofs::TrayLemmas::next_lie))]
     pub fn take_upto(&mut self, upto: u32) -> Option<Item>
         ensures ring { SameTray self.old self.new }
-        ensures taken { MatchOption result (taken_of self.new ≡ taken_of self.old) (λ item. (taken_of self.new ≡ taken_of self.old ++ item ∷ []) × (item.moment ≤ upto)) }
+        ensures taken { TakesUpTo upto with_last result (taken_of self.old) (taken_of self.new) }
     {
         if self.next == self.end {
             self.fill();

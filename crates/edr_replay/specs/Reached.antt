@@ -32,10 +32,14 @@ pub data IsReached (cs : List CycleInput) (v : Store) (n : ℕ) (w : Store) (m :
   between : (p : ℕ) (o : Outcome) → RanFirst cs v n p o → w ≡ o.store → m ≡ o.count → IsReached cs v n w m
   inside : (p : ℕ) (o : Outcome) (c : CycleInput) (e : End) → RanFirst cs v n p o → slice_get cs p ≡ Some c → o.count < last_count → IsStopIn c o.store o.count e → w ≡ e.store → m ≡ e.count → IsReached cs v n w m
 
+-- the event stands in that bank
+abbrev pub StandsAt : ℕ → Record → List BankView → Type 0
+StandsAt i r banks = slice_get banks i ≡ Some (bank.Event r)
+
 -- an event up to the count n stood in its bank at first; one above it is an event of one of the cycles
 abbrev pub IsOfCycles : List CycleInput → List BankView → ℕ → ℕ → Record → Type 0
 IsOfCycles cs first n i r =
-    ((r.pre.key.cycle ≤ n) × (slice_get first i ≡ Some (bank.Event r)))
+    ((r.pre.key.cycle ≤ n) × StandsAt i r first)
     ⊎ ((n < r.pre.key.cycle) × (k : ℕ) × (c : CycleInput) × (slice_get cs k ≡ Some c) × IsRecordOf c.feeds r.pre.key.cycle r)
 
 -- banks and a count to which some first cycles came; or these, and a start of the next one that was stopped in call 6 and did move

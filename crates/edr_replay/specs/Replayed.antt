@@ -9,7 +9,7 @@ use Rattle.edr_image.specs.declared.OpenFault.TheVariants as open_fault
 use Rattle.edr_image.specs.Banks.{Store}
 use Rattle.edr_image.specs.Image.{View, view_of}
 use Rattle.edr_spell.specs.declared.CycleInput.{CycleInput}
-use Rattle.edr_run.specs.Cycle.{Outcome, IsRun, last_count}
+use Rattle.edr_run.specs.Cycle.{End, Outcome, IsCycle, IsRun, last_count}
 use Rattle.edr_replay.specs.Reached.{IsCutShort, IsPartOf, IsReached, RanFirst}
 use Rattle.edr_cycle.specs.declared.started.StartFault.{StartFault}
 use Rattle.edr_cycle.specs.declared.started.StartFault.TheVariants as fault
@@ -55,6 +55,12 @@ pub record RanToTheLast (cs : List CycleInput) (v : Store) (n : ℕ) (o : Outcom
   pub within : p < length cs
   pub run : IsRun (take p cs) v n o
   pub full : o.count ≡ last_count
+
+-- the cycle ran as its report tells, and the device holds what it came to
+abbrev pub HasRunCycle : CycleInput → Option (List ℕ) → (ℕ → Bool) → Option (List ℕ) → (ℕ → Bool) → CycleReport → Type 0
+HasRunCycle c content settled content' settled' report =
+    (v : Store) (n : ℕ) → Holds content settled v n
+    → (n < last_count) × (e : End) × IsCycle c v n e × (e.report ≡ report_of report) × Holds content' settled' e.store e.count
 
 -- the cycles ran as these reports tell, and the device holds what they came to
 unfoldable pub HasRun : List CycleInput → Option (List ℕ) → (ℕ → Bool) → Option (List ℕ) → (ℕ → Bool) → List CycleReport → Type 0

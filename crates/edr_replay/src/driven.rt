@@ -1,19 +1,17 @@
 //! The same cycles by threads. What a thread rests on may not be a bound that is known inside an `impl` alone, so these functions stand
 //! beside those that run a cycle on one thread, and share all but the one call.
 
-ghost use Rattle.std.specs.Prelude.{◌≡◌, ◌<◌, ◌≤◌, ℕ, All, IfOk, IfErr};
+ghost use Rattle.std.specs.Prelude.{◌≡◌, ◌<◌, ◌≤◌, All, IfOk, IfErr};
 ghost use Rattle.std.specs.Arc.{arc_value};
 ghost use Rattle.edr_device.specs.Faults.{Rose};
 ghost use Rattle.edr_device.specs.Lent.{At, Between, GoesOn};
-ghost use Rattle.edr_image.specs.Banks.{Store};
 ghost use Rattle.edr_image.specs.Image.{image_size};
-ghost use Rattle.edr_image.specs.Reports.{report_of};
 ghost use Rattle.edr_items.specs.SensorLists.{AreFeeds, IsLevel, horizon_of};
-ghost use Rattle.edr_run.specs.Cycle.{End, IsCycle, last_count};
 ghost use Rattle.edr_spell.specs.Spell.{IsCycle as IsSpelled};
+ghost use Rattle.edr_cycle.specs.Begun.{view_begun};
 ghost use Rattle.edr_replay.specs.Past.{LeavesPast, LeavesPastOf};
 ghost use Rattle.edr_replay.specs.Phases.{LeavesOfRun, RunsFrom};
-ghost use Rattle.edr_replay.specs.Replayed.{EndsCutShort, EndsSpent, HasRun, Holds, IsDrivenFault, IsFault, IsLeftOrCounted, IsTrulyRefused, IsTrulyShort, IsTrulySpent, LeavesPart, LeavesReached};
+ghost use Rattle.edr_replay.specs.Replayed.{EndsCutShort, EndsSpent, HasRun, HasRunCycle, IsDrivenFault, IsFault, IsLeftOrCounted, IsTrulyRefused, IsTrulyShort, IsTrulySpent, LeavesPart, LeavesReached};
 
 use crate::phases::{Begun, end_run, is_cut, start_until};
 use edr_cycle::{StartFault, Started};
@@ -49,11 +47,14 @@ fn drive_until<
     requires size { image_size started.banks.store.header.banks ≤ N.extent nvm.old }
     ensures lent { GoesOn N.Nvm nvm.old nvm.new }
     ensures later { N.faults nvm.old ≤ N.faults nvm.new }
-    ensures ran { IfOk result (Between N.Nvm (RunsFrom (arc_value feeds.now) stop started.number started.banks.store) nvm.old nvm.new) }
+    ensures ran { IfOk result (Between N.Nvm
+        (RunsFrom (arc_value feeds.now) stop started.number started.banks.store) nvm.old nvm.new) }
     ensures fault { IfErr result (IsDrivenFault (N.faults nvm.old) (N.faults nvm.new)) }
     ensures nothing { IfErr result (λ e. e ≡ StartFault.OutOfMemory → nvm.new ≡ nvm.old) }
-    ensures left { IfErr result (λ _. Between N.Nvm (LeavesOfRun (arc_value feeds.now) stop started.number started.banks.store) nvm.old nvm.new) }
-    ensures past { Between N.Nvm (LeavesPastOf (record { store = started.banks.store; count = started.number })) nvm.old nvm.new }
+    ensures left { IfErr result (λ _. Between N.Nvm
+        (LeavesOfRun (arc_value feeds.now) stop started.number started.banks.store)
+        nvm.old nvm.new) }
+    ensures past { Between N.Nvm (LeavesPastOf (view_begun started)) nvm.old nvm.new }
 {
     let mut fuse = Fused::new(&mut *nvm);
     fuse.arm(stop);
@@ -81,8 +82,7 @@ fn drive_one<
     requires cycle { IsSpelled cycle }
     ensures lent { GoesOn N.Nvm nvm.old nvm.new }
     ensures later { N.faults nvm.old ≤ N.faults nvm.new }
-    ensures ran { IfOk result (λ report. (v : Store) (n : ℕ) → At N.Nvm Holds nvm.old v n
-        → (n < last_count) × (e : End) × IsCycle cycle v n e × (e.report ≡ report_of report) × At N.Nvm Holds nvm.new e.store e.count) }
+    ensures ran { IfOk result (Between N.Nvm (HasRunCycle cycle) nvm.old nvm.new) }
     ensures spent { IfErr result (Between N.Nvm IsTrulySpent nvm.old nvm.new) }
     ensures refused { IfErr result (At N.Nvm IsTrulyRefused nvm.old) }
     ensures short { IfErr result (IsTrulyShort (N.extent nvm.old)) }

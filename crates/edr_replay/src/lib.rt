@@ -10,15 +10,12 @@ mod powered_tests;
 #[cfg(test)]
 mod tests;
 
-ghost use Rattle.std.specs.Prelude.{◌≡◌, ◌<◌, ◌≤◌, ℕ, List, IfOk, IfErr, All, length, map, take};
+ghost use Rattle.std.specs.Prelude.{◌<◌, ◌≤◌, IfOk, IfErr, All};
 ghost use Rattle.edr_device.specs.Faults.{Rose};
 ghost use Rattle.edr_device.specs.Lent.{At, Between, GoesOn};
-ghost use Rattle.edr_image.specs.Banks.{Store};
-ghost use Rattle.edr_image.specs.Reports.{report_of};
-ghost use Rattle.edr_run.specs.Cycle.{End, IsCycle, Outcome, IsRun, last_count};
 ghost use Rattle.edr_spell.specs.Spell.{IsCycle as IsSpelled};
 ghost use Rattle.edr_replay.specs.Past.{LeavesPast};
-ghost use Rattle.edr_replay.specs.Replayed.{EndsShort, EndsSpent, HasRun, Holds, IsFault, IsLeftAlone, IsTrulyRefused, IsTrulyShort, IsTrulySpent, LeavesPart, LeavesReached};
+ghost use Rattle.edr_replay.specs.Replayed.{EndsShort, EndsSpent, HasRun, HasRunCycle, IsFault, IsLeftAlone, IsTrulyRefused, IsTrulyShort, IsTrulySpent, LeavesPart, LeavesReached};
 
 pub use driven::replay_driven;
 pub use edr_cycle::StartFault;
@@ -40,8 +37,7 @@ fn run_cycle<N: Nvm>(
     requires { IsSpelled cycle.now }
     ensures lent { GoesOn N.Nvm nvm.old nvm.new }
     ensures later { N.faults nvm.old ≤ N.faults nvm.new }
-    ensures ran { IfOk result (λ report. (v : Store) (n : ℕ) → At N.Nvm Holds nvm.old v n
-        → (n < last_count) × (e : End) × IsCycle cycle.now v n e × (e.report ≡ report_of report) × At N.Nvm Holds nvm.new e.store e.count) }
+    ensures ran { IfOk result (Between N.Nvm (HasRunCycle cycle.now) nvm.old nvm.new) }
     ensures spent { IfErr result (Between N.Nvm IsTrulySpent nvm.old nvm.new) }
     ensures refused { IfErr result (At N.Nvm IsTrulyRefused nvm.old) }
     ensures short { IfErr result (IsTrulyShort (N.extent nvm.old)) }

@@ -1,12 +1,13 @@
 //! The two phases of a cycle, its start and its commands, each over a fuse that stops it as planned.
 
 ghost use Rattle.std.specs.Prelude.{◌≡◌, ◌≤◌, IfOk, IfErr, OnErr, Some, None, true, false};
-ghost use Rattle.edr_device.specs.Device.{Cycled};
+ghost use Rattle.edr_device.specs.Device.{Repowered};
 ghost use Rattle.edr_device.specs.Faults.{Rose};
 ghost use Rattle.edr_device.specs.Lent.{At, Between, GoesOn};
 ghost use Rattle.edr_image.specs.Image.{image_size};
 ghost use Rattle.edr_image.specs.Reports.{Ran, report_of};
 ghost use Rattle.edr_items.specs.SensorLists.{AreFeeds, IsLevel, horizon_of};
+ghost use Rattle.edr_cycle.specs.Begun.{view_begun};
 ghost use Rattle.edr_replay.specs.Replayed.{IsFault, IsLeftAlone, IsTrulyRefused, IsTrulyShort, IsTrulySpent};
 ghost use Rattle.edr_replay.specs.Past.{LeavesPast, LeavesPastOf};
 ghost use Rattle.edr_replay.specs.Phases.{BeginsAs, LeavesOfRun, LeavesOfStart, RunsFrom};
@@ -84,12 +85,14 @@ pub(crate) fn end_run<N: Nvm>(
 ) -> Result<CycleReport, StartFault>
     ensures lent { GoesOn N.Nvm nvm.old nvm.new }
     ensures later { N.faults nvm.old ≤ N.faults nvm.new }
-    ensures off { end.failed ≡ false → Cycled result
-        (N.content nvm.old) (N.settled nvm.old) (N.since nvm.old) (N.content nvm.new) (N.settled nvm.new) (N.since nvm.new) }
-    ensures fault { IfErr result (λ e. (e ≡ StartFault.StoreFault) × (end.failed ≡ false → Rose (N.faults nvm.old) (N.faults nvm.new))) }
+    ensures off { end.failed ≡ false
+        → Repowered N.content N.settled N.since result nvm.old nvm.new }
+    ensures fault { IfErr result (λ e. (e ≡ StartFault.StoreFault)
+        × (end.failed ≡ false → Rose (N.faults nvm.old) (N.faults nvm.new))) }
     ensures stays { end.failed ≡ true → nvm.new ≡ nvm.old }
     ensures whole { IfOk result (λ report. end.failed ≡ false → report_of report ≡ Ran end.number None end.log.acks) }
-    ensures stopped { IfOk result (λ report. end.failed ≡ true → (cut ≡ true) × (report_of report ≡ Ran end.number (Some stop) end.log.acks)) }
+    ensures stopped { IfOk result (λ report. end.failed ≡ true
+        → (cut ≡ true) × (report_of report ≡ Ran end.number (Some stop) end.log.acks)) }
     ensures unplanned { OnErr result (end.failed ≡ true → cut ≡ false) }
 {
     if !end.failed {
@@ -115,10 +118,12 @@ pub(crate) fn run_until<N: Nvm>(
     requires size { image_size started.banks.store.header.banks ≤ N.extent nvm.old }
     ensures lent { GoesOn N.Nvm nvm.old nvm.new }
     ensures later { N.faults nvm.old ≤ N.faults nvm.new }
-    ensures ran { IfOk result (Between N.Nvm (RunsFrom feeds.now stop started.number started.banks.store) nvm.old nvm.new) }
+    ensures ran { IfOk result (Between N.Nvm
+        (RunsFrom feeds.now stop started.number started.banks.store) nvm.old nvm.new) }
     ensures fault { IfErr result (λ e. (e ≡ StartFault.StoreFault) × Rose (N.faults nvm.old) (N.faults nvm.new)) }
-    ensures left { IfErr result (λ _. Between N.Nvm (LeavesOfRun feeds.now stop started.number started.banks.store) nvm.old nvm.new) }
-    ensures past { Between N.Nvm (LeavesPastOf (record { store = started.banks.store; count = started.number })) nvm.old nvm.new }
+    ensures left { IfErr result (λ _. Between N.Nvm
+        (LeavesOfRun feeds.now stop started.number started.banks.store) nvm.old nvm.new) }
+    ensures past { Between N.Nvm (LeavesPastOf (view_begun started)) nvm.old nvm.new }
 {
     let mut fuse = Fused::new(&mut *nvm);
     fuse.arm(stop);

@@ -62,6 +62,10 @@ pub record SlowSeatIsFor (s : SlowContents) (kept : List Item) (parts : List Sen
   pub mark : mark_of kept ≡ s.last
   pub parts_are : parts_sent s ≡ parts
 
+-- whatever items and parts it was so for, it is now so for these
+abbrev pub NowIsFor : (List Item → List Item) → (List Item → List SensorPart → List SensorPart) → SlowContents → SlowContents → Type 0
+NowIsFor kept_then sent_then old new = (kept : List Item) (parts : List SensorPart) → SlowSeatIsFor old kept parts → SlowSeatIsFor new (kept_then kept) (sent_then kept parts)
+
 -- the seat of this sensor, at the freeze of this keeper, that has kept no item and sent no part
 pub record IsFreshSeat (sensor : Sensor) (keeper : Keeper) (s : SlowContents) : Type 0 where
   pub stands : SlowSeatIsFor s [] []

@@ -10,7 +10,7 @@ ghost use Rattle.edr_capture.specs.Capture.{StandsFor};
 ghost use Rattle.edr_items.specs.Sensor.{IsSlow};
 ghost use Rattle.edr_capture.specs.SensorPart.{SensorPart};
 ghost use Rattle.edr_seats.specs.Slots.{part_room};
-ghost use Rattle.edr_seats.specs.Slow.{SlowSeatIsFor, SameSlowSeat, sensor_of_slow, mark_kept, grant_known, parts_known_taken, ExplainsSlow, HasServed, parts_after};
+ghost use Rattle.edr_seats.specs.Slow.{NowIsFor, SameSlowSeat, sensor_of_slow, mark_kept, grant_known, parts_known_taken, ExplainsSlow, HasServed, parts_after};
 
 use crate::PART_SLOTS;
 use edr_board::Keeper;
@@ -73,7 +73,8 @@ impl SlowSeat {
         requires ring { (sent ring ≡ []) × (known_free ring ≡ part_room) × (producer_capacity ring ≡ part_room) }
         requires slow { IsSlow sensor }
         requires kept { (capture ≡ []) × (mark_posted keeper ≡ 0) }
-        ensures { (result.ring ≡ ring) × (result.kept ≡ []) × (result.keeper ≡ keeper) × (result.sensor ≡ sensor) × (result.last ≡ 0) × (result.served ≡ 0) }
+        ensures { (result.ring ≡ ring) × (result.kept ≡ []) × (result.keeper ≡ keeper)
+            × (result.sensor ≡ sensor) × (result.last ≡ 0) × (result.served ≡ 0) }
     {
         SlowSeat {
             ring,
@@ -89,10 +90,14 @@ impl SlowSeat {
     /// waits for nobody and takes no memory. A refusal keeps nothing.
     pub fn offer(&mut self, item: Item) -> Result<(), SlowRefused>
         ensures same { SameSlowSeat self.old self.new }
-        ensures ok { OnOk result ((kept : List Item) (parts : List SensorPart) → SlowSeatIsFor self.old kept parts → SlowSeatIsFor self.new (kept ++ item ∷ []) parts) }
-        ensures err { OnErr result ((kept : List Item) (parts : List SensorPart) → SlowSeatIsFor self.old kept parts → SlowSeatIsFor self.new kept parts) }
-        ensures accepted { OnOk result ((refusal_of (sensor_of_slow self.old) (mark_kept self.old) item ≡ None) × (item.moment ≤ grant_known self.new)) }
-        ensures why { IfErr result (ExplainsSlow (refusal_of (sensor_of_slow self.old) (mark_kept self.old) item) item self.new) }
+        ensures ok { OnOk result
+            (NowIsFor (λ kept. kept ++ item ∷ []) (λ _ parts. parts) self.old self.new) }
+        ensures err { OnErr result (NowIsFor (λ kept. kept) (λ _ parts. parts) self.old self.new) }
+        ensures accepted { OnOk result (
+            (refusal_of (sensor_of_slow self.old) (mark_kept self.old) item ≡ None)
+            × (item.moment ≤ grant_known self.new)) }
+        ensures why { IfErr result (ExplainsSlow
+            (refusal_of (sensor_of_slow self.old) (mark_kept self.old) item) item self.new) }
         ensures item { (refused : ItemRefused) → result ≡ Err (SlowRefused.Item refused) → self.new ≡ self.old }
         ensures later { grant_known self.old ≤ grant_known self.new }
     {
@@ -113,7 +118,9 @@ impl SlowSeat {
     pub fn serve(&mut self) -> Served
         ensures same { SameSlowSeat self.old self.new }
         ensures answer { HasServed self.old self.new result }
-        ensures stands { (kept : List Item) (parts : List SensorPart) → SlowSeatIsFor self.old kept parts → SlowSeatIsFor self.new kept (parts_after (sensor_of_slow self.old) kept parts result) }
+        ensures stands { NowIsFor (λ kept. kept)
+            (λ kept parts. parts_after (sensor_of_slow self.old) kept parts result)
+            self.old self.new }
         ensures known { parts_known_taken self.old ≤ parts_known_taken self.new }
     {
         let Some(zero) = self.keeper.asked() else {

@@ -2,4 +2,4 @@ use Rattle.edr_replay.proofs.ReachedLaws.{reached-kept}
 use Rattle.edr_replay.proofs.laws.reached_keeps.Goals as goal
 
 pub returns : goal.returns
-returns c = reached-kept
+returns c = λ cs v w n m. reached-kept cs v n w m

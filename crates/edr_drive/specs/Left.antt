@@ -1,0 +1,23 @@
+-- What is left to commit of a cycle by threads, once they have ended.
+use Rattle.std.specs.Prelude.{◌++◌, ℕ, List}
+use Rattle.edr_items.specs.SensorLists.{SensorLists, horizon_of}
+use Rattle.edr_definitions.specs.Commands.{Issue}
+use Rattle.edr_cycle.specs.Rest.{issues_past}
+use Rattle.edr_loops.specs.declared.orders.Inbox.{Inbox}
+use Rattle.edr_loops.specs.declared.desk.Desk.{Desk}
+use Rattle.edr_loops.specs.Desks.{DeskStands}
+use Rattle.edr_loops.specs.Held.{issues_held}
+use Rattle.edr_loops.specs.Lanes.{ArePartsOf, FastBegin}
+use Rattle.edr_loops.specs.Orders.{issues_of, orders_known, orders_taken}
+
+-- what the committer took
+abbrev pub issues_taken : Inbox → List Issue
+issues_taken inbox = issues_of (orders_taken inbox)
+
+-- the orders in the ring, those that the recorder holds, and what the cycle issues past the closed tick
+abbrev pub issues_left : SensorLists → Inbox → Desk → List Issue
+issues_left f inbox desk = issues_of (orders_known inbox) ++ (issues_held desk.held ++ issues_past f desk.core.cycle desk.core.closed)
+
+-- this is so of a cycle of which the desk took first items and parts of these feeds
+abbrev pub WhereStands : SensorLists → Desk → (ℕ → Type 0) → Type 0
+WhereStands f desk says = (n : ℕ) → FastBegin f desk.fast → ArePartsOf f desk.parts → DeskStands n (horizon_of f) desk → says n
