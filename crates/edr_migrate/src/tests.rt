@@ -1,5 +1,5 @@
 //! Worked cases of a migration.
-ghost use Rattle.std.specs.Prelude.{◌≡◌, ◌<◌, ◌^◌, IfOk, length};
+ghost use Rattle.std.specs.Prelude.{◌≡◌, ◌+◌, ◌<◌, ◌≤◌, ◌^◌, IfOk, length};
 ghost use Rattle.edr_device.specs.Memory.{memory_image};
 
 use super::*;
@@ -49,26 +49,27 @@ fn old_image() -> [u8; 1_120] {
     old
 }
 
-// The front of the same in version 2, the gates of its banks, and the key, the place and the speed of its event.
-fn new_begin() -> [u8; 2_144] {
+// Puts a piece into an image of version 2.
+fn put(image: &mut [u8; 2_144], at: usize, piece: &[u8])
+    requires { at + length piece.now ≤ 2144 }
+{
+    image[at..at + piece.len()].copy_from_slice(piece);
+}
+
+// The same in version 2, whose profile byte is 1.
+fn new_image() -> [u8; 2_144] {
     let mut new = [0; 2_144];
-    new[..12].copy_from_slice(b"EDRIMAGE\0\x02\x02\0");
+    put(&mut new, 0, b"EDRIMAGE\0\x02\x02\0");
     new[32] = 0xa5;
     new[39] = 1;
     new[96] = 0xa5;
     new[98] = 0xa5;
-    new[112..146].copy_from_slice(&PRE[..34]);
+    put(&mut new, 112, &PRE[..34]);
     new[121] = 1;
-    new
-}
-
-// The same in version 2.
-fn new_image() -> [u8; 2_144] {
-    let mut new = new_begin();
-    new[526..537].copy_from_slice(&PRE[34..45]);
-    new[727..738].copy_from_slice(&PRE[45..56]);
-    new[928..930].copy_from_slice(&PRE[56..]);
-    new[960..1_096].copy_from_slice(&crash());
+    put(&mut new, 526, &PRE[34..45]);
+    put(&mut new, 727, &PRE[45..56]);
+    put(&mut new, 928, &PRE[56..]);
+    put(&mut new, 960, &crash());
     new
 }
 
@@ -85,7 +86,7 @@ fn zeros(alloc: Global, size: usize, fails: &[u32], pick: u64) -> Result<MemNvm,
 
 #[test]
 fn one_event_is_migrated(rt: HostRuntime) -> Result<(), Fail> {
-    let mut memory = zeros(rt.alloc(), 2_150, &[], 0)?;
+    let mut memory = zeros(rt.alloc(), 2_144, &[], 0)?;
     let migrated = Migrated {
         events: 1,
         count: 1,
@@ -93,26 +94,41 @@ fn one_event_is_migrated(rt: HostRuntime) -> Result<(), Fail> {
     let old = old_image();
     assert_eq!(rt; check(&old), Ok(migrated));
     assert_eq!(rt; migrate(&mut memory, &old), Ok(migrated));
-    assert_eq!(rt; &memory.image()[..2_144], new_image().as_slice());
-    assert_eq!(rt; &memory.image()[2_144..], [0; 6].as_slice());
+    assert_eq!(rt; memory.image(), new_image().as_slice());
     Ok(())
 }
 
+// The first bytes of an old image.
+fn begin_of(old: &[u8; 1_120], size: usize) -> &[u8]
+    requires { size ≤ 1120 }
+    ensures { length result.now ≡ size }
+{
+    &old[..size]
+}
+
 #[test]
-fn what_is_refused_is_told_in_order(rt: HostRuntime) -> Result<(), Fail> {
-    let mut old = old_image();
+fn what_is_short_is_refused(rt: HostRuntime) -> Result<(), Fail> {
+    let old = old_image();
     let mut memory = zeros(rt.alloc(), 2_143, &[], 0)?;
-    let short = |size, needed| MigrateFault::OldShort { size, needed };
-    assert_eq!(rt; migrate(&mut memory, &old[..95]), Err(short(95, 96)));
+    let short = |size, needed| Err(MigrateFault::OldShort { size, needed });
+    assert_eq!(rt; migrate(&mut memory, begin_of(&old, 95)), short(95, 96));
     assert_eq!(rt;
-        migrate(&mut memory, &old[..1_119]),
-        Err(short(1_119, 1_120))
+        migrate(&mut memory, begin_of(&old, 1_119)),
+        short(1_119, 1_120)
     );
     let small = MigrateFault::Short {
         size: 2_143,
         needed: 2_144,
     };
     assert_eq!(rt; migrate(&mut memory, &old), Err(small));
+    assert!(rt; memory.image().iter().all(|byte| *byte == 0));
+    Ok(())
+}
+
+#[test]
+fn the_header_is_refused_before_a_bank(rt: HostRuntime) -> Result<(), Fail> {
+    let mut old = old_image();
+    let mut memory = zeros(rt.alloc(), 2_144, &[], 0)?;
     old[112 + 3] = 0;
     let damaged = MigrateFault::OldBank {
         bank: 1,
@@ -123,7 +139,6 @@ fn what_is_refused_is_told_in_order(rt: HostRuntime) -> Result<(), Fail> {
     old[9] = 2;
     let version = MigrateFault::OldHeader(HeaderRefused::Version { found: 2 });
     assert_eq!(rt; migrate(&mut memory, &old), Err(version));
-    assert!(rt; memory.image().iter().all(|byte| *byte == 0));
     Ok(())
 }
 
