@@ -1,9 +1,12 @@
 -- What the program prints, and why it prints no page.
-use Rattle.std.specs.Prelude.{◌≡◌, ◌⊎◌, ◌≤◌, ⊤, ℕ, Bool, true, false, List, [], Option, IfSome, length}
+use Rattle.std.specs.Prelude.{◌≡◌, ◌⊎◌, ◌≤◌, ⊤, ℕ, Bool, true, false, List, [], Option, Some, IfSome, length}
 use Rattle.sha2.specs.Sha256.{sha256}
 use Rattle.edr_device.specs.Faults.{Rose}
+use Rattle.edr_device.specs.Stream.{Appends}
 use Rattle.edr_device.specs.Told.{Told}
-use Rattle.edr_device.specs.Transfer.{GivesTooMany}
+use Rattle.edr_device.specs.Transfer.{AppendsPart, GivesTooMany}
+use Rattle.edr_device.specs.declared.stream.Sink as sink
+use Rattle.edr_device.specs.declared.stream.Source as stream
 use Rattle.edr_drawing.specs.Page.{page_bytes}
 use Rattle.edr_image.specs.declared.Found.{Found}
 use Rattle.edr_image.specs.Reports.{Report}
@@ -14,6 +17,8 @@ use Rattle.edr_reading.specs.Run.{RecordsOf}
 use Rattle.edr_picture.specs.declared.faults.Fault.{Fault}
 use Rattle.edr_picture.specs.declared.faults.Fault.TheVariants as fault
 use Rattle.edr_picture.specs.Faults.{fault_line}
+use Rattle.edr_picture.specs.declared.status.Status.{Status}
+use Rattle.edr_picture.specs.declared.status.Status.TheVariants as status
 
 -- the most bytes that a report may have
 abbrev pub largest_report : ℕ
@@ -68,3 +73,38 @@ IsCause has_words i i' fault.TooLong = (has_words ≡ false) × Told (GivesTooMa
 -- a page, or the line of a fault that has its cause
 abbrev pub IsText : Bool → Input → Input → List ℕ → Type 0
 IsText has_words i i' text = PageIs i i' text ⊎ ((f : Fault) × IsCause has_words i i' f × (text ≡ fault_line f))
+
+-- ---- the same of a source and a sink, before a call and after it
+
+-- of what the source tells
+abbrev pub OnInput : {S : Type 0} {X : Type 1} → stream.Ghosts S → (Input → Input → X) → S → S → X
+OnInput s says old new = says (input s.left s.faults old) (input s.left s.faults new)
+
+-- whatever report the source gives, if it counts no fault, this is so
+abbrev pub OfReport : {S : Type 0} → stream.Ghosts S → S → S → Type 0 → Type 0
+OfReport s old new says =
+    (bytes : List ℕ) (run : List Report) (found : List Found) (count : ℕ) → s.left old ≡ Some bytes → Tells bytes run found count
+    → ¬ Rose (s.faults old) (s.faults new) → says
+
+-- the sink gained the text
+abbrev pub Gains : {K : Type 0} → sink.Ghosts K → List ℕ → K → K → Type 0
+Gains k text old new = Told (Appends text) (k.content old) (k.content new)
+
+-- it gained a part of it
+abbrev pub GainsPart : {K : Type 0} → sink.Ghosts K → List ℕ → K → K → Type 0
+GainsPart k text old new = Told (AppendsPart text) (k.content old) (k.content new)
+
+-- such a text, or a part of one
+abbrev pub Writes : {K : Type 0} → sink.Ghosts K → (List ℕ → Type 0) → K → K → Type 0
+Writes k is old new = (text : List ℕ) × is text × Gains k text old new
+
+abbrev pub WritesPart : {K : Type 0} → sink.Ghosts K → (List ℕ → Type 0) → K → K → Type 0
+WritesPart k is old new = (text : List ℕ) × is text × GainsPart k text old new
+
+-- it counted a fault
+abbrev pub Fails : {K : Type 0} → sink.Ghosts K → K → K → Type 0
+Fails k old new = Rose (k.faults old) (k.faults new)
+
+-- the page was drawn, unless memory ran out
+abbrev pub IsDrawn : Status → Type 0
+IsDrawn s = (s ≡ status.Done) ⊎ (s ≡ status.Faulty fault.OutOfMemory)

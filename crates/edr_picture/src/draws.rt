@@ -1,13 +1,11 @@
 //! The top call: from the bytes of a report to those of its page.
-ghost use Rattle.std.specs.Prelude.{◌≡◌, ◌≢◌, ◌⊎◌, ◌≤◌, ◌+◌, ℕ, List, Some, false, true, IfOk, IfErr, IfSome, OnOk, OnErr, length};
+ghost use Rattle.std.specs.Prelude.{◌≡◌, ◌≢◌, ◌⊎◌, ◌≤◌, ◌+◌, ℕ, List, false, IfOk, IfErr, length};
 ghost use Rattle.edr_image.specs.declared.Found.{Found};
 ghost use Rattle.edr_image.specs.Reports.{Report};
-ghost use Rattle.edr_device.specs.Faults.{Rose};
-ghost use Rattle.edr_device.specs.Stream.{Appends};
 ghost use Rattle.edr_device.specs.Told.{Told};
-ghost use Rattle.edr_device.specs.Transfer.{AppendsPart, GivesAll, GivesAtMost, GivesTooMany};
+ghost use Rattle.edr_device.specs.Transfer.{GivesAtMost};
 ghost use Rattle.edr_picture.specs.Faults.{fault_line};
-ghost use Rattle.edr_picture.specs.Pages.{IsCause, IsPage, IsText, IsWhy, PageIs, Tells, input, largest_report};
+ghost use Rattle.edr_picture.specs.Pages.{Fails, Gains, GainsPart, IsCause, IsDrawn, IsPage, IsText, IsWhy, OfReport, OnInput, PageIs, Tells, Writes, WritesPart, largest_report};
 
 use crate::faults::Fault;
 use crate::status::Status;
@@ -25,7 +23,8 @@ fn page_of(alloc: Global, bytes: &[u8]) -> Result<Vec<u8>, Fault>
     requires { length bytes.now ≤ largest_report }
     ensures page { IfOk result (λ v. IsPage bytes.now v.items) }
     ensures refused { IfErr result (λ f. IsWhy bytes.now f) }
-    ensures complete { (run : List Report) (found : List Found) (count : ℕ) → Tells bytes.now run found count → IfErr result (λ f. f ≡ Fault.OutOfMemory) }
+    ensures complete { (run : List Report) (found : List Found) (count : ℕ)
+        → Tells bytes.now run found count → IfErr result (λ f. f ≡ Fault.OutOfMemory) }
 {
     let reading = match read(alloc, bytes) {
         Ok(reading) => reading,
@@ -49,10 +48,10 @@ fn page_of(alloc: Global, bytes: &[u8]) -> Result<Vec<u8>, Fault>
 
 // The page of the report that the source gives up to its end, or why there is none.
 fn page_from<S: Source>(alloc: Global, source: &mut S) -> Result<Vec<u8>, Fault>
-    ensures page { IfOk result (λ v. PageIs (input S.left S.faults source.old) (input S.left S.faults source.new) v.items) }
-    ensures cause { IfErr result (IsCause false (input S.left S.faults source.old) (input S.left S.faults source.new)) }
-    ensures complete { (bytes : List ℕ) (run : List Report) (found : List Found) (count : ℕ) → S.left source.old ≡ Some bytes → Tells bytes run found count
-        → ¬ Rose (S.faults source.old) (S.faults source.new) → IfErr result (λ f. f ≡ Fault.OutOfMemory) }
+    ensures page { IfOk result (λ v. OnInput S.Source PageIs source.old source.new v.items) }
+    ensures cause { IfErr result (OnInput S.Source (IsCause false) source.old source.new) }
+    ensures complete { OfReport S.Source source.old source.new
+        (IfErr result (λ f. f ≡ Fault.OutOfMemory)) }
     ensures takes { Told (GivesAtMost (largest_report + 1)) (S.left source.old) (S.left source.new) }
     ensures later { S.faults source.old ≤ S.faults source.new }
 {
@@ -66,8 +65,10 @@ fn page_from<S: Source>(alloc: Global, source: &mut S) -> Result<Vec<u8>, Fault>
 
 // Writes the text with which a call ends so.
 fn write<K: Sink>(sink: &mut K, text: &[u8], status: Status) -> Status
-    ensures whole { result ≢ Status.WriteFault → (result ≡ status) × Told (Appends text.now) (K.content sink.old) (K.content sink.new) }
-    ensures part { status ≢ Status.WriteFault → result ≡ Status.WriteFault → Told (AppendsPart text.now) (K.content sink.old) (K.content sink.new) × Rose (K.faults sink.old) (K.faults sink.new) }
+    ensures whole { result ≢ Status.WriteFault
+        → (result ≡ status) × Gains K.Sink text.now sink.old sink.new }
+    ensures part { status ≢ Status.WriteFault → result ≡ Status.WriteFault
+        → GainsPart K.Sink text.now sink.old sink.new × Fails K.Sink sink.old sink.new }
     ensures answers { (result ≡ status) ⊎ (result ≡ Status.WriteFault) }
     ensures later { K.faults sink.old ≤ K.faults sink.new }
 {
@@ -86,22 +87,20 @@ pub fn draw<S: Source, K: Sink>(
     sink: &mut K,
 ) -> Status
     // With Done the source is at its end, and the sink gained exactly the page of its bytes.
-    ensures done { result ≡ Status.Done → (has_words ≡ false) × (text : List ℕ)
-        × PageIs (input S.left S.faults source.old) (input S.left S.faults source.new) text
-        × Told (Appends text) (K.content sink.old) (K.content sink.new) }
+    ensures done { result ≡ Status.Done → (has_words ≡ false)
+        × Writes K.Sink (OnInput S.Source PageIs source.old source.new) sink.old sink.new }
     // With a fault it gained exactly its line, and the fault has its cause.
     ensures fault { (f : Fault) → result ≡ Status.Faulty f
-        → IsCause has_words (input S.left S.faults source.old) (input S.left S.faults source.new) f
-        × Told (Appends (fault_line f)) (K.content sink.old) (K.content sink.new) }
+        → OnInput S.Source (IsCause has_words) source.old source.new f
+        × Gains K.Sink (fault_line f) sink.old sink.new }
     // Where a write failed it gained a part of one of these texts.
-    ensures part { result ≡ Status.WriteFault → Rose (K.faults sink.old) (K.faults sink.new) × (text : List ℕ)
-        × IsText has_words (input S.left S.faults source.old) (input S.left S.faults source.new) text
-        × Told (AppendsPart text) (K.content sink.old) (K.content sink.new) }
+    ensures part { result ≡ Status.WriteFault
+        → Fails K.Sink sink.old sink.new
+        × WritesPart K.Sink (OnInput S.Source (IsText has_words) source.old source.new)
+        sink.old sink.new }
     // Where neither source nor sink counts a fault, a report is drawn, unless memory runs out.
-    ensures complete { (bytes : List ℕ) (run : List Report) (found : List Found) (count : ℕ) → has_words ≡ false
-        → S.left source.old ≡ Some bytes → Tells bytes run found count
-        → ¬ Rose (S.faults source.old) (S.faults source.new) → ¬ Rose (K.faults sink.old) (K.faults sink.new)
-        → (result ≡ Status.Done) ⊎ (result ≡ Status.Faulty Fault.OutOfMemory) }
+    ensures complete { has_words ≡ false → ¬ Fails K.Sink sink.old sink.new
+        → OfReport S.Source source.old source.new (IsDrawn result) }
     ensures takes { Told (GivesAtMost (largest_report + 1)) (S.left source.old) (S.left source.new) }
     ensures later { (S.faults source.old ≤ S.faults source.new) × (K.faults sink.old ≤ K.faults sink.new) }
 {

@@ -1,5 +1,5 @@
 -- Which values show the parts of a record.
-use Rattle.std.specs.Prelude.{◌≡◌, Bool, map, IfSome}
+use Rattle.std.specs.Prelude.{◌≡◌, Bool, map, IfSome, Option, MatchOption}
 use Rattle.edr_record.specs.Parts.{PrePart, CrashPart}
 use Rattle.edr_record.specs.Bounds.{IsPre, IsCrash}
 use Rattle.edr_record.specs.declared.Record.{Record}
@@ -38,6 +38,10 @@ pub record SlotsAre (p q : PrePart) : Type 0 where
   pub brake : p.brake ≡ q.brake
   pub belt : p.belt ≡ q.belt
   pub lamp : p.lamp ≡ q.lamp
+
+-- what was read has these slots, and is so locked
+abbrev pub GivesPre : PrePart → Bool → Option (PrePart × Bool) → Type 0
+GivesPre p locked read = MatchOption read ⊥ (λ q. SlotsAre q.0 p × (q.1 ≡ locked))
 
 -- the bounds of a record
 pub record IsRecord (r : Record) : Type 0 where

@@ -1,5 +1,5 @@
 -- The rows of an event behind one of them, by plain values.
-use Rattle.std.specs.Prelude.{◌<◌, Option, Some, None, ◌≡◌, ◌≤◌, ◌+◌, ◌⊎◌, ℕ, Bool, true, false, pos, List, [], ◌∷◌, ◌++◌, drop, replicate, length, codes, decimal, slice_index_or}
+use Rattle.std.specs.Prelude.{◌<◌, Option, Some, None, ◌≡◌, ◌≤◌, ◌+◌, ◌⊎◌, ℕ, Bool, true, false, pos, List, [], ◌∷◌, ◌++◌, drop, replicate, length, map, codes, decimal, slice_index_or}
 use Rattle.edr_record.specs.declared.Extreme.{Extreme}
 use Rattle.edr_record.specs.declared.Place.{Place}
 use Rattle.edr_record.specs.declared.Place.TheVariants.{First, Second}
@@ -9,7 +9,8 @@ use Rattle.edr_report.specs.Report.{crash_names, crash_words}
 use Rattle.edr_report.specs.Words.{yes_no, none_word, milliseconds, shown_count, time_between, points_words, extreme_words, missing_words}
 use Rattle.edr_reading.specs.Found.{count_fields}
 use Rattle.edr_reading.specs.Faults.{AreReport}
-use Rattle.edr_reading.specs.Rows.{pre_names, pre_words}
+use Rattle.edr_reading.specs.declared.rows.Row.{Row}
+use Rattle.edr_reading.specs.Rows.{fields, pre_names, pre_words}
 use Rattle.edr_reading.specs.Values.{IsBank}
 
 -- the names of the rows of an event
@@ -64,6 +65,14 @@ absent_words block bank place = plain_texts block bank (time_between place) none
 abbrev pub present_words : List ℕ → List ℕ → List ℕ → Bool → List (List ℕ)
 present_words block bank points complete = plain_texts block bank none_word points (extreme_words no_extreme) (milliseconds 0) (missing_words 0 0) (yes_no complete)
 
+-- the texts of these
+abbrev pub absent_texts : List ℕ → List ℕ → List ℕ → List (List ℕ)
+absent_texts block bank between = plain_texts block bank between (codes "none") (codes "none") (codes "none") (codes "none") (codes "no")
+
+abbrev pub present_texts : List ℕ → List ℕ → List ℕ → List ℕ → List (List ℕ)
+present_texts block bank points complete =
+    plain_texts block bank (codes "none") points (codes "0 km/h at 0 ms") (codes "0 ms") (codes "0 longitudinal, 0 lateral") complete
+
 -- the values that are tried behind a row
 abbrev pub IsGuess : List ℕ → List ℕ → List ℕ → List (List ℕ) → Type 0
 IsGuess block bank points v =
@@ -106,6 +115,12 @@ NoneBehind rows last place =
     (bank : ℕ) → IsBank bank
     → (other : List ℕ) × (points : List ℕ) × (place ≡ 0 → decimal bank ≡ other) × ArePlain place (value_of last) points
     × ((v : List (List ℕ)) → IsGuess (block_of last) other points v → ¬ AreReport (rows ++ back_rows (block_of last) place v))
+
+-- no plain values of an event in this bank do
+abbrev pub NoneInBank : List Row → Row → ℕ → List ℕ → Type 0
+NoneInBank rows last place bank =
+    (points : List ℕ) × ArePlain place last.value.now points
+    × ((v : List (List ℕ)) → IsGuess last.block.now bank points v → ¬ AreReport (map fields rows ++ back_rows last.block.now place v))
 
 -- the place in an event of the last row, if some plain values go on behind it
 abbrev pub IsInside : List (List (List ℕ)) → List (List ℕ) → Option ℕ → Type 0

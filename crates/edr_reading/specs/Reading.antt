@@ -6,8 +6,9 @@ use Rattle.edr_image.specs.declared.Found.{Found}
 use Rattle.edr_image.specs.Banks.{found_event}
 use Rattle.edr_image.specs.Reports.{Report}
 use Rattle.edr_report.specs.Report.{report_lines}
-use Rattle.edr_reading.specs.Found.{IsEvent, IsDamaged}
-use Rattle.edr_reading.specs.Rows.{line_fields}
+use Rattle.edr_reading.specs.declared.rows.Row.{Row}
+use Rattle.edr_reading.specs.Found.{IsEvent, IsDamaged, events_fields, last_rows}
+use Rattle.edr_reading.specs.Rows.{FieldRows, fields, line_fields}
 use Rattle.edr_reading.specs.Run.{IsReport}
 
 -- the row that names the columns
@@ -22,6 +23,12 @@ report_rows reports found n = head_row ∷ map line_fields (report_lines reports
 abbrev pub AreDistinct : List Found → Type 0
 AreDistinct found = IsDistinct eqb (map (λ f. f.bank) found)
 
+-- whatever was found that the rows tell, in different banks, this is so
+abbrev pub OfFound : List Row → Type 0 → Type 0
+OfFound rows says =
+    (es : List (ℕ × Record)) (ds : List Found) (n : ℕ) → All IsEvent es → All IsDamaged ds → AreDistinct (map found_event es ++ ds)
+    → map fields rows ≡ events_fields 1 es ++ last_rows ds n → says
+
 -- what a report may tell: cycles within their bounds, events and then damaged banks within theirs, each of another bank,
 -- in less rows than a u32 counts
 pub record IsReading (reports : List Report) (banks : List Found) (n : ℕ) : Type 0 where
@@ -29,3 +36,7 @@ pub record IsReading (reports : List Report) (banks : List Found) (n : ℕ) : Ty
   pub found : (events : List (ℕ × Record)) × (damaged : List Found) × (banks ≡ map found_event events ++ damaged) × All IsEvent events × All IsDamaged damaged
   pub distinct : AreDistinct banks
   pub short : length (report_rows reports banks n) ≤ 4_294_967_294
+
+-- whatever report the rows are of, this is so
+abbrev pub OfReport : (FieldRows → Type 0) → Type 0 → Type 0
+OfReport are says = (reports : List Report) (found : List Found) (n : ℕ) → IsReading reports found n → are (report_rows reports found n) → says

@@ -1,5 +1,6 @@
 -- The rows of a report's table, by their fields.
-use Rattle.std.specs.Prelude.{ℕ, Bool, List, [], ◌∷◌, map, codes, decimal}
+use Rattle.std.specs.Prelude.{◌≡◌, ◌++◌, ℕ, Bool, List, [], ◌∷◌, map, codes, decimal}
+use denote.Ref.{Bor}
 use Rattle.edr_record.specs.Parts.{PrePart}
 use Rattle.edr_record.specs.declared.Record.{Record}
 use Rattle.edr_report.specs.Lines.{Line, line}
@@ -12,6 +13,22 @@ use Rattle.edr_reading.specs.declared.rows.Row.{Row}
 -- the fields of a row
 abbrev pub fields : Row → List (List ℕ)
 fields r = r.block.now ∷ r.name.now ∷ r.value.now ∷ []
+
+-- rows by their fields
+abbrev pub FieldRows : Type 0
+FieldRows = List (List (List ℕ))
+
+-- texts, as the fields of a row or the values of some
+abbrev pub Texts : Type 0
+Texts = List (List ℕ)
+
+-- texts that stand elsewhere
+abbrev pub texts_in : {A : Type 0} → List (Bor A) → List A
+texts_in xs = map (λ x. x.now) xs
+
+-- rows with these fields were added
+abbrev pub AddsRows : FieldRows → List Row → List Row → Type 0
+AddsRows added old new = map fields new ≡ map fields old ++ added
 
 -- the fields of the row of a line
 abbrev pub line_fields : Line → List (List ℕ)

@@ -1,5 +1,5 @@
 -- The rows of the cycles of a run, and those that follow them.
-use Rattle.std.specs.Prelude.{◌≡◌, ◌≢◌, ℕ, ⊤, List, [], ◌∷◌, All, map, decimal, slice_index_or}
+use Rattle.std.specs.Prelude.{◌≡◌, ◌≢◌, ◌++◌, ℕ, ⊤, List, [], ◌∷◌, All, map, decimal, slice_index_or}
 use Rattle.csv.specs.Reading.{AreRecords, default_config, strip_bom}
 use Rattle.csv.specs.declared.parser.State.TheVariants as st
 use Rattle.edr_image.specs.declared.Ack.{Ack}
@@ -7,7 +7,8 @@ use Rattle.edr_image.specs.Reports.{Report, StartStopped, Ran}
 use Rattle.edr_report.specs.Report.{ack_line, run_lines}
 use Rattle.edr_reading.specs.declared.told.CycleRow.{CycleRow}
 use Rattle.edr_reading.specs.declared.told.CycleRow.TheVariants as row
-use Rattle.edr_reading.specs.Rows.{line_fields}
+use Rattle.edr_reading.specs.declared.rows.Row.{Row}
+use Rattle.edr_reading.specs.Rows.{FieldRows, fields, line_fields}
 use Rattle.edr_reading.specs.Told.{IsAck, IsCycleRow, cycle_line}
 
 -- these are all the records that csv gives of the bytes
@@ -48,3 +49,21 @@ run_fields place reports = map line_fields (run_lines place reports)
 abbrev pub BehindRun : List (List (List ℕ)) → Type 0
 BehindRun [] = ⊤
 BehindRun (r ∷ rows) = slice_index_or r 0 [] ≡ decimal 0 → slice_index_or (slice_index_or r 1 []) 0 0 ≢ 99
+
+-- ---- what is read of rows
+
+-- whatever acknowledged commands the rows begin with, up to a row of none, this is so
+abbrev pub OfAcks : ℕ → List Row → (List Ack → FieldRows → Type 0) → Type 0
+OfAcks place rows says =
+    (acks : List Ack) (more : FieldRows) → All IsAck acks → Others IsAck (ack_fields place) more
+    → map fields rows ≡ map (ack_fields place) acks ++ more → says acks more
+
+-- whatever cycle with this first row they tell, behind that row, this is so
+abbrev pub OfCycle : ℕ → CycleRow → List Row → (FieldRows → Type 0) → Type 0
+OfCycle place first rows says =
+    (r : Report) (more : FieldRows) → row_of r ≡ first → All IsAck (acks_of r) → Others IsAck (ack_fields place) more
+    → map fields rows ≡ map (ack_fields place) (acks_of r) ++ more → says more
+
+-- whatever cycles they begin with, up to a row of none, this is so
+abbrev pub OfRun : List Row → (FieldRows → Type 0) → Type 0
+OfRun rows says = (reports : List Report) (more : FieldRows) → All IsReport reports → BehindRun more → map fields rows ≡ run_fields 1 reports ++ more → says more

@@ -1,6 +1,7 @@
 -- Words parted by one space, of which some were taken.
-use Rattle.std.specs.Prelude.{ℕ, zero, suc, ℤ, pos, List, [], ◌∷◌, ◌++◌, flat_map, drop, replicate}
-use Rattle.edr_record.specs.Bounds.{most_points}
+use Rattle.std.specs.Prelude.{◌≡◌, ℕ, zero, suc, ℤ, pos, List, [], ◌∷◌, ◌++◌, All, map, length, flat_map, drop, replicate}
+use Rattle.std.specs.Fmt.{signed_decimal}
+use Rattle.edr_record.specs.Bounds.{IsChange, most_points}
 use Rattle.edr_report.specs.Words.{spaced}
 
 -- words, each with a space before it
@@ -20,3 +21,7 @@ space_at (suc n) = 32 ∷ []
 -- so many points, and zeros in the place of those past them
 abbrev pub with_zeros : ℕ → List ℤ → List ℤ
 with_zeros count front = front ++ drop count (replicate most_points (pos 0))
+
+-- the bytes show so many points
+abbrev pub ShowPoints : ℕ → List ℕ → List ℤ → Type 0
+ShowPoints count bytes front = (length front ≡ count) × (bytes ≡ spaced (map signed_decimal front)) × All IsChange front

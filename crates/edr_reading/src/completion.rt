@@ -1,11 +1,11 @@
 //! Plain rows that may follow those of a report that was cut.
 
-ghost use Rattle.std.specs.Prelude.{◌≡◌, ◌≢◌, ◌<◌, ◌≤◌, ◌+◌, ◌++◌, ℕ, ⊤, pos, Some, IfSome, MatchOption, OnOk, length, map, drop, replicate, slice_index_or, [], codes};
+ghost use Rattle.std.specs.Prelude.{◌≡◌, ◌≢◌, ◌<◌, ◌≤◌, ◌+◌, ℕ, ⊤, pos, Some, IfSome, MatchOption, OnOk, length, drop, replicate, slice_index_or, []};
 ghost use Rattle.std.specs.Bool.{MatchBool};
 ghost use Rattle.edr_report.specs.Words.{points_words};
 ghost use Rattle.edr_reading.specs.Cut.{cut_texts};
-ghost use Rattle.edr_reading.specs.Plain.{event_names, plain_texts, block_fields, ArePlain};
-ghost use Rattle.edr_reading.specs.Rows.{fields};
+ghost use Rattle.edr_reading.specs.Plain.{event_names, block_fields, ArePlain, absent_texts, present_texts};
+ghost use Rattle.edr_reading.specs.Rows.{AddsRows, texts_in};
 
 use crate::front::is_word;
 use crate::rows::Row;
@@ -62,8 +62,8 @@ pub(crate) struct Cut<'a> {
 
 // The first place of a name among these.
 fn place_in(name: &[u8], names: &[&'static [u8]]) -> Option<usize>
-    ensures read { IfSome result (λ p. (p < length names.now) × (name.now ≡ slice_index_or (map (λ n. n.now) names.now) p [])) }
-    ensures none { MatchOption result ((p : ℕ) → p < length names.now → name.now ≢ slice_index_or (map (λ n. n.now) names.now) p []) (λ p. ⊤) }
+    ensures read { IfSome result (λ p. (p < length names.now) × (name.now ≡ slice_index_or (texts_in names.now) p [])) }
+    ensures none { MatchOption result ((p : ℕ) → p < length names.now → name.now ≢ slice_index_or (texts_in names.now) p []) (λ p. ⊤) }
 {
     for place in 0..names.len() {
         if is_word(name, names[place]) {
@@ -117,7 +117,7 @@ pub(crate) fn points_behind<'a>(place: usize, value: &'a [u8]) -> &'a [u8]
 /// An event without a crash part.
 pub(crate) fn absent<'a>(block: &'a [u8], bank: &'a [u8], between: &'a [u8]) -> Cut<'a>
     ensures block { result.block.now ≡ block.now }
-    ensures texts { cut_texts result ≡ plain_texts block.now bank.now between.now (codes "none") (codes "none") (codes "none") (codes "none") (codes "no") }
+    ensures texts { cut_texts result ≡ absent_texts block.now bank.now between.now }
 {
     Cut {
         block,
@@ -139,7 +139,8 @@ pub(crate) fn present<'a>(
     complete: &'a [u8],
 ) -> Cut<'a>
     ensures block { result.block.now ≡ block.now }
-    ensures texts { cut_texts result ≡ plain_texts block.now bank.now (codes "none") points.now (codes "0 km/h at 0 ms") (codes "0 ms") (codes "0 longitudinal, 0 lateral") complete.now }
+    ensures texts { cut_texts result
+        ≡ present_texts block.now bank.now points.now complete.now }
 {
     Cut {
         block,
@@ -155,7 +156,7 @@ pub(crate) fn present<'a>(
 
 // The values of all rows of an event.
 fn values_of<'a>(cut: &Cut<'a>) -> [&'a [u8]; 28]
-    ensures { map (λ v. v.now) result ≡ cut_texts cut.now }
+    ensures { texts_in result ≡ cut_texts cut.now }
 {
     let Cut { block, bank, .. } = *cut;
     let slots: &[u8] = b"none none none none none none none none none none none";
@@ -199,7 +200,9 @@ fn push_rows<'a>(
     names: &[&'static [u8]],
     values: &[&'a [u8]],
 ) -> Result<(), OutOfMemory>
-    ensures { OnOk result (map fields rows.new.items ≡ map fields rows.old.items ++ block_fields block.now (map (λ n. n.now) names.now) (map (λ v. v.now) values.now)) }
+    ensures { OnOk result (AddsRows
+        (block_fields block.now (texts_in names.now) (texts_in values.now))
+        rows.old.items rows.new.items) }
 {
     let Some((name, names)) = names.split_first() else {
         return Ok(());
@@ -218,7 +221,10 @@ pub(crate) fn push_event<'a>(
     cut: &Cut<'a>,
 ) -> Result<(), OutOfMemory>
     requires { place < 28 }
-    ensures { OnOk result (map fields rows.new.items ≡ map fields rows.old.items ++ block_fields cut.now.block.now (drop (place + 1) event_names) (drop (place + 1) (cut_texts cut.now))) }
+    ensures { OnOk result (AddsRows
+        (block_fields cut.now.block.now
+        (drop (place + 1) event_names) (drop (place + 1) (cut_texts cut.now)))
+        rows.old.items rows.new.items) }
 {
     let values = values_of(cut);
     let names = EVENT_NAMES.split_at(place + 1).1;

@@ -1,12 +1,12 @@
 //! What came after time zero, read back from the values of its lines.
 
-ghost use Rattle.std.specs.Prelude.{◌≡◌, ◌≤◌, true, ℕ, ℤ, List, Option, All, length, map, max, Some, IfSome, pos, ◌≢◌};
+ghost use Rattle.std.specs.Prelude.{◌≡◌, ◌≤◌, ℕ, ℤ, List, Option, All, length, map, Some, IfSome, pos, ◌≢◌};
 ghost use Rattle.std.specs.Bool.{MatchBool};
 ghost use Rattle.edr_record.specs.Bounds.{ArePoints, IsChange, IsCrash, IsUpTo, point_count, window_from_end};
 ghost use Rattle.edr_record.specs.Parts.{CrashPart};
 ghost use Rattle.edr_report.specs.Words.{points_words, firing_words, spaced};
 ghost use Rattle.edr_reading.specs.Parts.{ShowsCrash};
-ghost use Rattle.edr_reading.specs.Slots.{with_zeros};
+ghost use Rattle.edr_reading.specs.Slots.{with_zeros, ShowPoints};
 ghost use Rattle.std.specs.Fmt.{signed_decimal};
 
 use crate::slots::read_slots;
@@ -45,8 +45,8 @@ fn count_from(end: u16) -> usize
 // So many points, with zeros behind them.
 fn some_points(bytes: &[u8], count: usize) -> Option<[i16; 26]>
     requires { count ≤ 26 }
-    ensures read { IfSome result (λ ps. (front : List ℤ) × (ps ≡ with_zeros count front) × (length front ≡ count)
-        × (bytes.now ≡ spaced (map signed_decimal front)) × All IsChange front) }
+    ensures read { IfSome result (λ ps. (front : List ℤ)
+        × (ps ≡ with_zeros count front) × ShowPoints count bytes.now front) }
     ensures whole { (front : List ℤ) → length front ≡ count → All IsChange front → bytes.now ≡ spaced (map signed_decimal front)
         → result ≡ Some (with_zeros count front) }
 {

@@ -1,14 +1,11 @@
 //! What was found in the banks, read back from its rows.
 
-ghost use Rattle.std.specs.Prelude.{◌≡◌, ◌≤◌, ◌+◌, ◌*◌, ◌∷◌, ◌++◌, ℕ, [], List, All, eqb, false, IfOk, OnOk, IfErr, IfSome, IsSome, MatchOption, length, map, drop};
+ghost use Rattle.std.specs.Prelude.{◌≡◌, ◌≤◌, ◌+◌, ◌*◌, ◌∷◌, ◌++◌, ℕ, [], false, IfOk, OnOk, IfErr, IfSome, IsSome, length, map, drop};
 ghost use Rattle.std.specs.Bool.{MatchBool};
-ghost use Rattle.std.specs.List.{AllByRecursion};
-ghost use Rattle.edr_image.specs.declared.places.TheConstants.{MOST_BANKS};
-ghost use Rattle.edr_image.specs.Banks.{found_event};
 ghost use Rattle.edr_reading.specs.Answers.{GivesRow};
-ghost use Rattle.edr_reading.specs.Found.{IsEvent, IsDamaged, events_fields, damaged_fields, count_fields, last_rows, BeginsTold};
-ghost use Rattle.edr_reading.specs.Rows.{event_fields, fields};
-ghost use Rattle.edr_reading.specs.Reading.{AreDistinct};
+ghost use Rattle.edr_reading.specs.Found.{IsEvent, IsDamaged, damaged_fields, count_fields, BeginsTold, AddsBanks, AddsEvents, AddsLast, AreOfFound, GivesBank, LacksBank, OfEvents, OfLast};
+ghost use Rattle.edr_reading.specs.Rows.{event_fields, fields, FieldRows};
+ghost use Rattle.edr_reading.specs.Reading.{AreDistinct, OfFound};
 
 use crate::event::{EVENT_ROWS, read_event};
 use crate::rows::Row;
@@ -40,8 +37,9 @@ fn begins_event(rows: &[Row<'_>]) -> bool
 fn first_event(rows: &[Row<'_>], block: u32) -> Option<(u8, Record)>
     ensures read { IfSome result (λ e. IsEvent e × (28 ≤ length rows.now)
         × (map fields rows.now ≡ event_fields block e.0 e.1 ++ map fields (drop 28 rows.now))) }
-    ensures whole { (e : ℕ × Record) (more : List (List (List ℕ))) → IsEvent e → map fields rows.now ≡ event_fields block e.0 e.1 ++ more
-        → MatchOption result ⊥ (λ f. (f.0 ≡ e.0) × (map fields (drop 28 rows.now) ≡ more)) }
+    ensures whole { (e : ℕ × Record) (more : FieldRows) → IsEvent e
+        → map fields rows.now ≡ event_fields block e.0 e.1 ++ more
+        → GivesBank e.0 more rows.now result }
 {
     if rows.len() < EVENT_ROWS {
         return None;
@@ -58,13 +56,11 @@ pub(crate) fn take_events(
     found: &mut Vec<Found>,
 ) -> Result<(), Refused>
     requires { 1 ≤ block }
-    ensures read { OnOk result ((es : List (ℕ × Record)) × (found.new.items ≡ found.old.items ++ map found_event es) × All IsEvent es
-        × (map fields rows.now ≡ events_fields block es ++ map fields (drop (28 * length es) rows.now)) × (28 * length es ≤ length rows.now)) }
-    ensures whole { OnOk result ((es : List (ℕ × Record)) (more : List (List (List ℕ))) → All IsEvent es → length es + block ≤ MOST_BANKS + 1 → BeginsTold more
-        → map fields rows.now ≡ events_fields block es ++ more
-        → (map (λ f. f.bank) found.new.items ≡ map (λ f. f.bank) found.old.items ++ map (λ e. e.0) es) × (map fields (drop (28 * length es) rows.now) ≡ more)) }
-    ensures refused { IfErr result (λ e. (es : List (ℕ × Record)) (more : List (List (List ℕ))) → All IsEvent es → length es + block ≤ MOST_BANKS + 1 → BeginsTold more
-        → map fields rows.now ≡ events_fields block es ++ more → e ≡ Refused.OutOfMemory) }
+    ensures read { OnOk result (AddsEvents block rows.now found.old.items found.new.items) }
+    ensures whole { OnOk result
+        (OfEvents block rows.now (AddsBanks rows.now found.old.items found.new.items)) }
+    ensures refused { IfErr result (λ e.
+        OfEvents block rows.now (λ _ _. e ≡ Refused.OutOfMemory)) }
 {
     if !begins_event(rows) {
         return Ok(());
@@ -88,7 +84,7 @@ pub(crate) fn take_events(
 // The damaged bank of which the first row tells, and the rows behind it, if it does.
 fn first_damaged<'r, 'a>(rows: &'r [Row<'a>]) -> Option<(Found, &'r [Row<'a>])>
     ensures read { IfSome result (λ p. IsDamaged p.0 × (map fields rows.now ≡ damaged_fields p.0 ∷ map fields p.1.now)) }
-    ensures whole { (f : Found) (more : List (List (List ℕ))) → IsDamaged f → map fields rows.now ≡ damaged_fields f ∷ more
+    ensures whole { (f : Found) (more : FieldRows) → IsDamaged f → map fields rows.now ≡ damaged_fields f ∷ more
         → GivesRow f more result }
 {
     let (row, rest) = rows.split_first()?;
@@ -111,9 +107,11 @@ fn last_count(rows: &[Row<'_>]) -> Option<u32>
 
 // Adds the damaged banks of which the rows tell, `most` at most, and answers the count that the last row shows.
 fn take_damaged(rows: &[Row<'_>], most: u32, found: &mut Vec<Found>) -> Result<u32, Refused>
-    ensures read { OnOk result ((n : ℕ) × (result ≡ Ok n) × (ds : List Found) × (found.new.items ≡ found.old.items ++ ds) × All IsDamaged ds × (map fields rows.now ≡ last_rows ds n)) }
-    ensures whole { OnOk result ((ds : List Found) (n : ℕ) → All IsDamaged ds → length ds ≤ most → map fields rows.now ≡ last_rows ds n → found.new.items ≡ found.old.items ++ ds) }
-    ensures refused { IfErr result (λ e. (ds : List Found) (n : ℕ) → All IsDamaged ds → length ds ≤ most → map fields rows.now ≡ last_rows ds n → e ≡ Refused.OutOfMemory) }
+    ensures read { OnOk result ((n : ℕ) × (result ≡ Ok n)
+        × AddsLast rows.now n found.old.items found.new.items) }
+    ensures whole { OnOk result
+        (OfLast most rows.now (λ ds. found.new.items ≡ found.old.items ++ ds)) }
+    ensures refused { IfErr result (λ e. OfLast most rows.now (λ _. e ≡ Refused.OutOfMemory)) }
 {
     match first_damaged(rows) {
         Some((damaged, rest)) => {
@@ -134,8 +132,7 @@ fn take_damaged(rows: &[Row<'_>], most: u32, found: &mut Vec<Found>) -> Result<u
 
 // This bank was found.
 fn is_among(found: &[Found], bank: u8) -> bool
-    ensures { MatchBool result (AllByRecursion (λ b. eqb bank b ≡ false) (map (λ f. f.bank) found.now) → ⊥)
-        (AllByRecursion (λ b. eqb bank b ≡ false) (map (λ f. f.bank) found.now)) }
+    ensures { MatchBool result (LacksBank bank found.now → ⊥) (LacksBank bank found.now) }
 {
     match found.split_first() {
         Some((first, rest)) => first.bank == bank || is_among(rest, bank),
@@ -160,11 +157,9 @@ fn are_distinct(found: &[Found]) -> bool
 
 /// What was found in the banks, each in another one, and the count of ignition cycles, by the rows behind a run.
 pub(crate) fn found_of(alloc: Global, rows: &[Row<'_>]) -> Result<(Vec<Found>, u32), Refused>
-    ensures read { IfOk result (λ p. (es : List (ℕ × Record)) × (ds : List Found) × (p.0.items ≡ map found_event es ++ ds) × All IsEvent es × All IsDamaged ds
-        × (map fields rows.now ≡ events_fields 1 es ++ last_rows ds p.1)) }
+    ensures read { IfOk result (λ p. AreOfFound rows.now p.0.items p.1) }
     ensures distinct { IfOk result (λ p. AreDistinct p.0.items) }
-    ensures refused { IfErr result (λ e. (es : List (ℕ × Record)) (ds : List Found) (n : ℕ) → All IsEvent es → All IsDamaged ds → AreDistinct (map found_event es ++ ds)
-        → map fields rows.now ≡ events_fields 1 es ++ last_rows ds n → e ≡ Refused.OutOfMemory) }
+    ensures refused { IfErr result (λ e. OfFound rows.now (e ≡ Refused.OutOfMemory)) }
 {
     let mut found = Vec::new(alloc);
     take_events(rows, 1, &mut found)?;

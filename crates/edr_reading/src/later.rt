@@ -1,11 +1,11 @@
 //! The first row behind the one that names the columns with which a text can be no report.
 
-ghost use Rattle.std.specs.Prelude.{◌≡◌, ◌<◌, ◌≤◌, ◌+◌, ◌-◌, ◌++◌, ◌∷◌, [], ℕ, List, IfOk, map, take, length, slice_index_or};
+ghost use Rattle.std.specs.Prelude.{◌≡◌, ◌<◌, ◌≤◌, ◌+◌, ◌-◌, ◌++◌, ◌∷◌, [], IfOk, map, take, length, slice_index_or};
 ghost use Rattle.edr_reading.specs.Answers.{Tells};
 ghost use Rattle.edr_reading.specs.Faults.{Opens, GoesOn, IsWrong};
 ghost use Rattle.edr_reading.specs.Plain.{IsInside};
 ghost use Rattle.edr_reading.specs.Reading.{head_row};
-ghost use Rattle.edr_reading.specs.Rows.{fields};
+ghost use Rattle.edr_reading.specs.Rows.{fields, FieldRows};
 
 use crate::completion::{is_named, place_of};
 use crate::faults::RowFault;
@@ -114,7 +114,7 @@ pub(crate) fn field_fault<'a>(
 ) -> Result<RowFault, OutOfMemory>
     requires some { 0 < length rows.now }
     requires stops { ¬ Opens (map fields rows.now ++ fields next.now ∷ []) }
-    ensures { IfOk result (λ f. (more : List (List (List ℕ))) → IsWrong (map fields rows.now) (fields next.now ∷ more) f) }
+    ensures { IfOk result (λ f. (more : FieldRows) → IsWrong (map fields rows.now) (fields next.now ∷ more) f) }
 {
     let last = last_row(rows);
     let inside = inside(alloc, rows, last)?;
@@ -159,7 +159,7 @@ fn search(alloc: Global, rows: &[Row<'_>], low: usize, high: usize) -> Result<us
 
 /// With how many of the rows a report begins; the first names the columns.
 pub(crate) fn opening(alloc: Global, rows: &[Row<'_>]) -> Result<usize, OutOfMemory>
-    requires { (rest : List (List (List ℕ))) × (map fields rows.now ≡ head_row ∷ rest) }
+    requires { (rest : FieldRows) × (map fields rows.now ≡ head_row ∷ rest) }
     ensures within { IfOk result (λ n. (1 ≤ n) × (n ≤ length rows.now) × (n ≤ 4_294_967_294)) }
     ensures opens { IfOk result (λ n. Opens (take n (map fields rows.now))) }
     ensures stops { IfOk result (λ n. n < length rows.now → ¬ Opens (take (n + 1) (map fields rows.now))) }

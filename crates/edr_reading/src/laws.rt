@@ -9,6 +9,7 @@ ghost use Rattle.edr_reading.specs.declared.faults.RowFault.{RowFault};
 ghost use Rattle.edr_reading.specs.Faults.{AreReport, IsFault};
 ghost use Rattle.edr_reading.specs.Reading.{report_rows};
 ghost use Rattle.edr_reading.specs.Run.{RecordsOf};
+ghost use Rattle.edr_reading.specs.Rows.{FieldRows};
 
 /// The records of a report's table are the rows of the report.
 pub fn tables_are_rows()
@@ -17,5 +18,5 @@ pub fn tables_are_rows()
 
 /// Records that can be no report from some row on are none.
 pub fn a_fault_is_of_no_report()
-    ensures { (records : List (List (List ℕ))) (row : ℕ) (f : RowFault) → IsFault records row f → ¬ AreReport records }
+    ensures { (records : FieldRows) (row : ℕ) (f : RowFault) → IsFault records row f → ¬ AreReport records }
 {}

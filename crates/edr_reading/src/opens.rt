@@ -1,13 +1,13 @@
 //! Whether a report begins with rows.
 
-ghost use Rattle.std.specs.Prelude.{◌≡◌, ◌<◌, ◌-◌, ◌++◌, ◌∷◌, [], ℕ, List, true, false, IfOk, map, length, slice_index_or};
+ghost use Rattle.std.specs.Prelude.{◌≡◌, ◌<◌, ◌-◌, ◌++◌, ◌∷◌, [], ℕ, true, false, IfOk, map, length, slice_index_or};
 ghost use Rattle.std.specs.Bool.{MatchBool};
 ghost use Rattle.edr_reading.specs.Answers.{Tells};
 ghost use Rattle.edr_reading.specs.Cut.{cut_texts};
 ghost use Rattle.edr_reading.specs.Faults.{AreReport, Opens};
 ghost use Rattle.edr_reading.specs.Found.{count_fields};
-ghost use Rattle.edr_reading.specs.Plain.{ArePlain, IsGuess, SomeBehind, NoneBehind, back_rows};
-ghost use Rattle.edr_reading.specs.Rows.{fields};
+ghost use Rattle.edr_reading.specs.Plain.{SomeBehind, NoneBehind, back_rows, NoneInBank};
+ghost use Rattle.edr_reading.specs.Rows.{fields, texts_in};
 
 use crate::completion::{Cut, absent, place_of, points_behind, present, push_event};
 use crate::found::Refused;
@@ -64,7 +64,8 @@ fn ends_by<'a>(
     cut: &Cut<'a>,
 ) -> Result<bool, OutOfMemory>
     requires { place < 28 }
-    ensures { IfOk result (λ b. Tells b (AreReport (map fields rows.now ++ back_rows cut.now.block.now place (cut_texts cut.now)))) }
+    ensures { IfOk result (λ b. Tells b (AreReport
+        (map fields rows.now ++ back_rows cut.now.block.now place (cut_texts cut.now)))) }
 {
     let mut all = Vec::with_capacity(alloc, rows.len())?;
     all.extend_from_slice(rows)?;
@@ -83,8 +84,7 @@ fn ends_in_bank<'a>(
 ) -> Result<bool, OutOfMemory>
     requires { place < 28 }
     ensures some { IfOk result (λ b. b ≡ true → SomeBehind (map fields rows.now) (fields last.now) place) }
-    ensures none { IfOk result (λ b. b ≡ false → (points : List ℕ) × ArePlain place last.now.value.now points
-        × ((v : List (List ℕ)) → IsGuess last.now.block.now bank.now points v → ¬ AreReport (map fields rows.now ++ back_rows last.now.block.now place v))) }
+    ensures none { IfOk result (λ b. b ≡ false → NoneInBank rows.now last.now place bank.now) }
 {
     if ends_by(alloc, rows, place, &absent(last.block, bank, b"none"))? {
         return Ok(true);
@@ -119,8 +119,8 @@ fn ends_in_some<'a>(
 ) -> Result<bool, OutOfMemory>
     requires { place < 28 }
     ensures some { IfOk result (λ b. b ≡ true → SomeBehind (map fields rows.now) (fields last.now) place) }
-    ensures none { IfOk result (λ b. b ≡ false → (k : ℕ) → k < length banks.now → (points : List ℕ) × ArePlain place last.now.value.now points
-        × ((v : List (List ℕ)) → IsGuess last.now.block.now (slice_index_or (map (λ n. n.now) banks.now) k []) points v → ¬ AreReport (map fields rows.now ++ back_rows last.now.block.now place v))) }
+    ensures none { IfOk result (λ b. b ≡ false → (k : ℕ) → k < length banks.now
+        → NoneInBank rows.now last.now place (slice_index_or (texts_in banks.now) k [])) }
 {
     for i in 0..banks.len() {
         if ends_in_bank(alloc, rows, last, place, banks[i])? {
@@ -138,7 +138,9 @@ pub(crate) fn ends_inside<'a>(
     place: usize,
 ) -> Result<bool, OutOfMemory>
     requires { place < 28 }
-    ensures { IfOk result (λ b. MatchBool b (SomeBehind (map fields rows.now) (fields last.now) place) (NoneBehind (map fields rows.now) (fields last.now) place)) }
+    ensures { IfOk result (λ b.
+        MatchBool b (SomeBehind (map fields rows.now) (fields last.now) place)
+        (NoneBehind (map fields rows.now) (fields last.now) place)) }
 {
     if place > 0 {
         ends_in_bank(alloc, rows, last, place, b"1")

@@ -1,13 +1,13 @@
 //! The parts of a record, read back from their rows.
 
-ghost use Rattle.std.specs.Prelude.{◌≡◌, ◌≢◌, Bool, Option, Some, length, map, replicate, IfSome, MatchOption};
+ghost use Rattle.std.specs.Prelude.{◌≡◌, ◌≢◌, Bool, Option, Some, length, map, replicate, IfSome};
 ghost use Rattle.std.specs.Bool.{MatchBool};
 ghost use Rattle.edr_record.specs.Bounds.{IsPre, IsCrash};
 ghost use Rattle.edr_record.specs.Parts.{PrePart, CrashPart};
 ghost use Rattle.edr_report.specs.Report.{pre_lines, crash_words, crash_lines};
 ghost use Rattle.edr_report.specs.Words.{none_word};
-ghost use Rattle.edr_reading.specs.Parts.{SlotsAre};
-ghost use Rattle.edr_reading.specs.Rows.{fields, line_fields, pre_list, crash_list};
+ghost use Rattle.edr_reading.specs.Parts.{GivesPre};
+ghost use Rattle.edr_reading.specs.Rows.{fields, line_fields, pre_list, crash_list, texts_in};
 
 use crate::crash::{CrashValues, read_crash};
 use crate::front::is_word;
@@ -50,7 +50,7 @@ pub(crate) const CRASH_NAMES: [&str; 15] = [
 
 // The values of ten rows by their meaning.
 fn pre_values<'a>(values: &[&'a [u8]; 10]) -> PreValues<'a>
-    ensures { map (λ v. v.now) values.now ≡ pre_list result }
+    ensures { texts_in values.now ≡ pre_list result }
 {
     PreValues {
         cycle: values[0],
@@ -71,8 +71,9 @@ pub(crate) fn pre_rows(rows: &[Row<'_>], block: u32) -> Option<(Pre, bool)>
     requires { length rows.now ≡ 10 }
     ensures read { IfSome result (λ q. map fields rows.now ≡ map line_fields (pre_lines block q.0 q.1)) }
     ensures bounds { IfSome result (λ q. IsPre q.0) }
-    ensures whole { (p : PrePart) (locked : Bool) → IsPre p → map fields rows.now ≡ map line_fields (pre_lines block p locked)
-        → MatchOption result ⊥ (λ q. SlotsAre q.0 p × (q.1 ≡ locked)) }
+    ensures whole { (p : PrePart) (locked : Bool) → IsPre p
+        → map fields rows.now ≡ map line_fields (pre_lines block p locked)
+        → GivesPre p locked result }
 {
     let mut values: [&[u8]; 10] = [b""; 10];
     if put_values(rows, block, &PRE_NAMES, &mut values) {
@@ -84,7 +85,7 @@ pub(crate) fn pre_rows(rows: &[Row<'_>], block: u32) -> Option<(Pre, bool)>
 
 // The values of fifteen rows by their meaning.
 fn crash_values<'a>(values: &[&'a [u8]; 15]) -> CrashValues<'a>
-    ensures { map (λ v. v.now) values.now ≡ crash_list result }
+    ensures { texts_in values.now ≡ crash_list result }
 {
     CrashValues {
         end: values[0],
@@ -103,7 +104,7 @@ fn crash_values<'a>(values: &[&'a [u8]; 15]) -> CrashValues<'a>
 
 // Each of the values is `none`.
 fn are_absent(values: &[&[u8]; 15]) -> bool
-    ensures { MatchBool result (map (λ v. v.now) values.now ≡ replicate 15 none_word) (map (λ v. v.now) values.now ≢ replicate 15 none_word) }
+    ensures { MatchBool result (texts_in values.now ≡ replicate 15 none_word) (texts_in values.now ≢ replicate 15 none_word) }
 {
     for i in 0..15 {
         if !is_word(values[i], b"none") {
@@ -115,9 +116,9 @@ fn are_absent(values: &[&[u8]; 15]) -> bool
 
 // What came after time zero, if these values show it or none.
 fn crash_or_none(values: &[&[u8]; 15]) -> Option<Option<Crash>>
-    ensures read { IfSome result (λ c. map (λ v. v.now) values.now ≡ crash_words c) }
+    ensures read { IfSome result (λ c. texts_in values.now ≡ crash_words c) }
     ensures bounds { IfSome result (λ c. IfSome c IsCrash) }
-    ensures whole { (c : Option CrashPart) → IfSome c IsCrash → map (λ v. v.now) values.now ≡ crash_words c → result ≡ Some c }
+    ensures whole { (c : Option CrashPart) → IfSome c IsCrash → texts_in values.now ≡ crash_words c → result ≡ Some c }
 {
     if are_absent(values) {
         return Some(None);

@@ -1,10 +1,10 @@
 //! What stood before time zero, read back from the values of its lines.
 
-ghost use Rattle.std.specs.Prelude.{◌≡◌, ◌≤◌, true, ℕ, Bool, List, Option, All, length, map, Some, IfSome, MatchOption};
+ghost use Rattle.std.specs.Prelude.{◌≡◌, ℕ, Bool, List, Option, All, length, map, Some, IfSome};
 ghost use Rattle.edr_record.specs.Bounds.{IsPre, IsUpTo};
 ghost use Rattle.edr_record.specs.Parts.{PrePart};
 ghost use Rattle.edr_report.specs.Words.{spaced, number_or_none, switch_or_none};
-ghost use Rattle.edr_reading.specs.Parts.{ShowsPre, SlotsAre};
+ghost use Rattle.edr_reading.specs.Parts.{ShowsPre, GivesPre};
 
 use crate::slots::read_slots;
 use crate::values::{count, decision, place, switch, time};
@@ -66,7 +66,7 @@ pub(crate) fn read_pre(values: &PreValues<'_>) -> Option<(Pre, bool)>
     ensures read { IfSome result (λ q. ShowsPre values.now q.0 q.1) }
     ensures bounds { IfSome result (λ q. IsPre q.0) }
     ensures whole { (p : PrePart) (locked : Bool) → IsPre p → ShowsPre values.now p locked
-        → MatchOption result ⊥ (λ q. SlotsAre q.0 p × (q.1 ≡ locked)) }
+        → GivesPre p locked result }
 {
     let cycle = count(values.cycle, 1)?;
     let zero = time(values.zero, 1, 86_400_000)?;

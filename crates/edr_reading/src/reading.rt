@@ -1,13 +1,13 @@
 //! A report's table, read back.
 
-ghost use Rattle.std.specs.Prelude.{◌≡◌, ◌≢◌, ◌<◌, ◌≤◌, ◌+◌, ◌∷◌, [], ℕ, List, true, IfOk, IfErr, IfSome, MatchOption, length, map, take, get_or};
+ghost use Rattle.std.specs.Prelude.{◌≡◌, ◌≢◌, ◌<◌, ◌≤◌, ◌+◌, ◌∷◌, [], IfOk, IfErr, IfSome, MatchOption, length, map, take, get_or};
 ghost use Rattle.std.specs.Bool.{MatchBool};
-ghost use Rattle.edr_image.specs.Reports.{Report, report_of};
+ghost use Rattle.edr_image.specs.Reports.{report_of};
 ghost use Rattle.csv.specs.Records.{fields_of};
-ghost use Rattle.edr_reading.specs.Faults.{AreReport, Opens, IsFault};
-ghost use Rattle.edr_reading.specs.Rows.{fields};
+ghost use Rattle.edr_reading.specs.Faults.{AreReport, IsFault};
+ghost use Rattle.edr_reading.specs.Rows.{fields, FieldRows};
 ghost use Rattle.edr_reading.specs.Run.{RecordsOf};
-ghost use Rattle.edr_reading.specs.Reading.{IsReading, head_row, report_rows};
+ghost use Rattle.edr_reading.specs.Reading.{IsReading, head_row, report_rows, OfReport};
 ghost use Rattle.edr_reading.specs.Refusals.{IsRefusal};
 
 use crate::faults::{RowFault, head_fault};
@@ -52,8 +52,10 @@ fn is_head(row: &Row<'_>) -> bool
 
 // The rows behind the one that names the columns, if that is the first.
 fn behind_head<'r, 'a>(rows: &'r [Row<'a>]) -> Option<&'r [Row<'a>]>
-    ensures read { IfSome result (λ rest. (length rest.now + 1 ≡ length rows.now) × (map fields rows.now ≡ head_row ∷ map fields rest.now)) }
-    ensures whole { (more : List (List (List ℕ))) → map fields rows.now ≡ head_row ∷ more → MatchOption result ⊥ (λ rest. map fields rest.now ≡ more) }
+    ensures read { IfSome result (λ rest. (length rest.now + 1 ≡ length rows.now)
+        × (map fields rows.now ≡ head_row ∷ map fields rest.now)) }
+    ensures whole { (more : FieldRows) → map fields rows.now ≡ head_row ∷ more
+        → MatchOption result ⊥ (λ rest. map fields rest.now ≡ more) }
 {
     let (row, rest) = rows.split_first()?;
     if is_head(row) { Some(rest) } else { None }
@@ -63,8 +65,8 @@ fn behind_head<'r, 'a>(rows: &'r [Row<'a>]) -> Option<&'r [Row<'a>]>
 pub(crate) fn reading_of(alloc: Global, rows: &[Row<'_>]) -> Result<Reading, Refused>
     ensures read { IfOk result (λ r. map fields rows.now ≡ report_rows (map report_of r.run.items) r.found.items r.count) }
     ensures told { IfOk result (λ r. IsReading (map report_of r.run.items) r.found.items r.count) }
-    ensures refused { IfErr result (λ e. (reports : List Report) (found : List Found) (n : ℕ) → IsReading reports found n
-        → map fields rows.now ≡ report_rows reports found n → e ≡ Refused.OutOfMemory) }
+    ensures refused { IfErr result (λ e.
+        OfReport (λ told. map fields rows.now ≡ told) (e ≡ Refused.OutOfMemory)) }
 {
     if rows.len() > MOST_ROWS {
         return Err(Refused::NoReport);
@@ -85,7 +87,7 @@ fn later_fault(
     records: &[ByteRecord],
     rows: &[Row<'_>],
 ) -> Result<(u32, RowFault), OutOfMemory>
-    requires head { (rest : List (List (List ℕ))) × (map fields rows.now ≡ head_row ∷ rest) }
+    requires head { (rest : FieldRows) × (map fields rows.now ≡ head_row ∷ rest) }
     requires rows { map fields rows.now ≡ take (length rows.now) (map fields_of records.now) }
     requires stops { length rows.now < length records.now → length (get_or (map fields_of records.now) (length rows.now) []) ≢ 3 }
     requires none { length records.now ≤ length rows.now → ¬ AreReport (map fields_of records.now) }
@@ -116,8 +118,8 @@ fn later_fault(
 pub fn read(alloc: Global, bytes: &[u8]) -> Result<Reading, ReportRefused>
     ensures read { IfOk result (λ r. RecordsOf bytes.now (report_rows (map report_of r.run.items) r.found.items r.count)) }
     ensures told { IfOk result (λ r. IsReading (map report_of r.run.items) r.found.items r.count) }
-    ensures refused { IfErr result (λ e. (reports : List Report) (found : List Found) (n : ℕ) → IsReading reports found n
-        → RecordsOf bytes.now (report_rows reports found n) → e ≡ ReportRefused.OutOfMemory) }
+    ensures refused { IfErr result (λ e.
+        OfReport (RecordsOf bytes.now) (e ≡ ReportRefused.OutOfMemory)) }
     ensures fault { IfErr result (IsRefusal bytes.now) }
 {
     let Ok(records) = records(alloc, bytes) else {

@@ -1,7 +1,7 @@
 //! Rows of a table, and the values of rows with known names.
 
 ghost use Rattle.std.specs.Prelude.{◌≡◌, ◌∷◌, [], true, ℕ, List, length, map, decimal, IfSome, MatchOption};
-ghost use Rattle.edr_reading.specs.Rows.{fields, named_fields};
+ghost use Rattle.edr_reading.specs.Rows.{Texts, fields, named_fields, texts_in};
 
 use crate::front::{is_word, last_within};
 
@@ -16,7 +16,8 @@ pub(crate) struct Row<'a> {
 /// The value of a row that is to have this block and this name.
 pub(crate) fn value_in<'a>(row: &Row<'a>, block: u32, name: &str) -> Option<&'a [u8]>
     ensures read { IfSome result (λ v. fields row.now ≡ decimal block ∷ name.now ∷ v.now ∷ []) }
-    ensures whole { (v : List ℕ) → fields row.now ≡ decimal block ∷ name.now ∷ v ∷ [] → MatchOption result ⊥ (λ w. w.now ≡ v) }
+    ensures whole { (v : List ℕ) → fields row.now ≡ decimal block ∷ name.now ∷ v ∷ []
+        → MatchOption result ⊥ (λ w. w.now ≡ v) }
 {
     if last_within(row.block, b"", block, block).is_none() {
         return None;
@@ -38,9 +39,11 @@ pub(crate) fn put_values<'a>(
     requires names { length names.now ≡ length rows.now }
     requires values { length values.old ≡ length rows.now }
     ensures long { length values.new ≡ length values.old }
-    ensures read { result ≡ true → map fields rows.now ≡ named_fields block (map (λ n. n.now) names.now) (map (λ v. v.now) values.new) }
-    ensures whole { (ws : List (List ℕ)) → length ws ≡ length rows.now → map fields rows.now ≡ named_fields block (map (λ n. n.now) names.now) ws
-        → (result ≡ true) × (map (λ v. v.now) values.new ≡ ws) }
+    ensures read { result ≡ true
+        → map fields rows.now ≡ named_fields block (texts_in names.now) (texts_in values.new) }
+    ensures whole { (ws : Texts) → length ws ≡ length rows.now
+        → map fields rows.now ≡ named_fields block (texts_in names.now) ws
+        → (result ≡ true) × (texts_in values.new ≡ ws) }
 {
     for i in 0..rows.len() {
         match value_in(&rows[i], block, names[i]) {

@@ -1,10 +1,10 @@
 //! The cycles of a run, read back from the first rows of block 0.
 
-ghost use Rattle.std.specs.Prelude.{◌≡◌, ◌≤◌, ◌<◌, ◌^◌, ◌+◌, ◌∷◌, ◌++◌, ℕ, List, All, IfOk, IfSome, length, map, drop, take};
-ghost use Rattle.edr_image.specs.Reports.{Report, report_of};
+ghost use Rattle.std.specs.Prelude.{◌≡◌, ◌≤◌, ◌<◌, ◌^◌, ◌+◌, ◌∷◌, ◌++◌, All, IfOk, IfSome, length, map, drop, take};
+ghost use Rattle.edr_image.specs.Reports.{report_of};
 ghost use Rattle.edr_reading.specs.Answers.{GivesRow};
-ghost use Rattle.edr_reading.specs.Rows.{fields};
-ghost use Rattle.edr_reading.specs.Run.{Others, ack_fields, cycle_fields, run_fields, row_of, acks_of, IsReport, BehindRun};
+ghost use Rattle.edr_reading.specs.Rows.{fields, FieldRows};
+ghost use Rattle.edr_reading.specs.Run.{ack_fields, cycle_fields, run_fields, row_of, acks_of, IsReport, OfAcks, OfCycle, OfRun};
 ghost use Rattle.edr_reading.specs.Told.{IsAck, IsCycleRow};
 
 use crate::rows::Row;
@@ -17,8 +17,8 @@ fn take_acks(alloc: Global, rows: &[Row<'_>], place: u32) -> Result<Vec<Ack>, Ou
     ensures within { IfOk result (λ v. length v.items ≤ length rows.now) }
     ensures bounds { IfOk result (λ v. All IsAck v.items) }
     ensures read { IfOk result (λ v. map fields (take (length v.items) rows.now) ≡ map (ack_fields place) v.items) }
-    ensures whole { IfOk result (λ v. (acks : List Ack) (more : List (List (List ℕ))) → All IsAck acks → Others IsAck (ack_fields place) more
-        → map fields rows.now ≡ map (ack_fields place) acks ++ more → (v.items ≡ acks) × (map fields (drop (length v.items) rows.now) ≡ more)) }
+    ensures whole { IfOk result (λ v. OfAcks place rows.now (λ acks more.
+        (v.items ≡ acks) × (map fields (drop (length v.items) rows.now) ≡ more))) }
 {
     let mut acks = Vec::new(alloc);
     for row in rows {
@@ -44,10 +44,11 @@ fn log_of(alloc: Global, acks: &[Ack]) -> Result<Log, OutOfMemory>
 
 // What the first row tells of the cycle in this place, and the rows behind it, if it does.
 fn first_cycle<'r, 'a>(rows: &'r [Row<'a>], place: u32) -> Option<(CycleRow, &'r [Row<'a>])>
-    ensures read { IfSome result (λ p. IsCycleRow p.0 × (length p.1.now + 1 ≡ length rows.now) × (map fields rows.now ≡ cycle_fields place p.0 ∷ map fields p.1.now)) }
+    ensures read { IfSome result (λ p. IsCycleRow p.0 × (length p.1.now + 1 ≡ length rows.now)
+        × (map fields rows.now ≡ cycle_fields place p.0 ∷ map fields p.1.now)) }
     ensures behind { IfSome result (λ p. p.1.now ≡ drop 1 rows.now) }
-    ensures whole { (c : CycleRow) (more : List (List (List ℕ))) → IsCycleRow c → map fields rows.now ≡ cycle_fields place c ∷ more
-        → GivesRow c more result }
+    ensures whole { (c : CycleRow) (more : FieldRows) → IsCycleRow c
+        → map fields rows.now ≡ cycle_fields place c ∷ more → GivesRow c more result }
 {
     let (row, rest) = rows.split_first()?;
     let cycle = read_cycle(row, place)?;
@@ -65,9 +66,10 @@ fn cycle_of(
     ensures within { IfOk result (λ p. p.1 ≤ length rows.now) }
     ensures first { IfOk result (λ p. row_of (report_of p.0) ≡ first) }
     ensures bounds { IfOk result (λ p. All IsAck (acks_of (report_of p.0))) }
-    ensures read { IfOk result (λ p. map fields rows.now ≡ map (ack_fields place) (acks_of (report_of p.0)) ++ map fields (drop p.1 rows.now)) }
-    ensures whole { IfOk result (λ p. (r : Report) (more : List (List (List ℕ))) → row_of r ≡ first → All IsAck (acks_of r) → Others IsAck (ack_fields place) more
-        → map fields rows.now ≡ map (ack_fields place) (acks_of r) ++ more → map fields (drop p.1 rows.now) ≡ more) }
+    ensures read { IfOk result (λ p. map fields rows.now
+        ≡ map (ack_fields place) (acks_of (report_of p.0)) ++ map fields (drop p.1 rows.now)) }
+    ensures whole { IfOk result (λ p.
+        OfCycle place first rows.now (λ more. map fields (drop p.1 rows.now) ≡ more)) }
 {
     match first {
         CycleRow::StartStopped { call } => Ok((CycleReport::StartStopped { call }, 0)),
@@ -91,9 +93,9 @@ pub(crate) fn take_run<'r, 'a>(
 ) -> Result<(Vec<CycleReport>, &'r [Row<'a>]), OutOfMemory>
     requires { length rows.now + 1 < 2 ^ 32 }
     ensures bounds { IfOk result (λ p. All IsReport (map report_of p.0.items)) }
-    ensures read { IfOk result (λ p. map fields rows.now ≡ run_fields 1 (map report_of p.0.items) ++ map fields p.1.now) }
-    ensures whole { IfOk result (λ p. (reports : List Report) (more : List (List (List ℕ))) → All IsReport reports → BehindRun more
-        → map fields rows.now ≡ run_fields 1 reports ++ more → map fields p.1.now ≡ more) }
+    ensures read { IfOk result (λ p. map fields rows.now
+        ≡ run_fields 1 (map report_of p.0.items) ++ map fields p.1.now) }
+    ensures whole { IfOk result (λ p. OfRun rows.now (λ more. map fields p.1.now ≡ more)) }
 {
     let mut run = Vec::new(alloc);
     let mut at = 0;
