@@ -12,7 +12,6 @@ mod faults;
 mod formats;
 mod generated;
 mod images;
-mod migrations;
 mod orders;
 mod refusals;
 
