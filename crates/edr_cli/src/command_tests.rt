@@ -12,6 +12,7 @@ mod faults;
 mod formats;
 mod generated;
 mod images;
+mod migrations;
 mod orders;
 mod refusals;
 
