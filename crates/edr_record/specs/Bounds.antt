@@ -1,10 +1,12 @@
 -- Which values the fields of a record may have.
 use Rattle.std.specs.Prelude.{◌≡◌, ℕ, ◌+◌, ◌-◌, ◌/◌, ◌≤◌, min, max, ℤ, pos, unsigned_abs, Option, Some, IfSome, List, length, drop, replicate, slice_get, All}
 use Rattle.edr_items.specs.declared.TheConstants.{LATEST_MOMENT}
-use Rattle.edr_record.specs.declared.TheConstants.{LONGEST_PAIR, RESET, SHORT_SLOTS}
+use Rattle.edr_record.specs.declared.TheConstants.{LONG_SLOTS, LONGEST_PAIR, RESET, SHORT_SLOTS}
 use Rattle.edr_record.specs.declared.Place.{Place}
 use Rattle.edr_record.specs.declared.Place.TheVariants.{First, Second}
 use Rattle.edr_record.specs.declared.Extreme.{Extreme}
+use Rattle.edr_record.specs.declared.Profile.{Profile}
+use Rattle.edr_record.specs.declared.Profile.TheVariants.{Short, Long}
 use Rattle.edr_record.specs.Parts.{PrePart, CrashPart}
 
 -- a second event begins at most five seconds after the first (563.5, multi-event crash)
@@ -15,6 +17,11 @@ IsPlace (Second after) = (1 ≤ after) × (after ≤ LONGEST_PAIR)
 -- a slot or a time is absent, or at most this number
 abbrev pub IsUpTo : ℕ → Option ℕ → Type 0
 IsUpTo highest slot = IfSome slot (λ v. v ≤ highest)
+
+-- how many slots each list of a pre part of this profile has
+abbrev pub slots_in : Profile → ℕ
+slots_in Short = SHORT_SLOTS
+slots_in Long = LONG_SLOTS
 
 -- the bounds of a pre part with n slots in each list: km/h, per cent, ticks of 1 ms
 pub record IsPreOf (n : ℕ) (p : PrePart) : Type 0 where
@@ -31,7 +38,7 @@ pub record IsPreOf (n : ℕ) (p : PrePart) : Type 0 where
 
 -- the bounds of the pre part of a record
 abbrev pub IsPre : PrePart → Type 0
-IsPre p = IsPreOf SHORT_SLOTS p
+IsPre p = IsPreOf (slots_in p.profile) p
 
 -- how long after time zero extremes and missing samples are looked for, from the time of the end (563.7 Table I, maximum delta-V)
 abbrev pub window_from_end : ℕ → ℕ

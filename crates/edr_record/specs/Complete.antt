@@ -5,7 +5,7 @@ use Rattle.std.specs.Option.{option_map_or}
 use Rattle.edr_record.specs.Parts.{PrePart, CrashPart}
 use Rattle.edr_record.specs.declared.Record.{Record}
 
--- none of the 35 slots is absent
+-- none of the slots of its profile is absent, 605 of a long part and 35 of a short one
 abbrev pub has_all_slots : PrePart → Bool
 has_all_slots p =
     list_all is_some p.speed && list_all is_some p.throttle && list_all is_some p.brake && is_some p.belt && is_some p.lamp

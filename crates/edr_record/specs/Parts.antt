@@ -3,11 +3,13 @@ use Rattle.std.specs.Prelude.{ℕ, ℤ, Bool, Option, List}
 use Rattle.edr_record.specs.declared.Key.{Key}
 use Rattle.edr_record.specs.declared.Place.{Place}
 use Rattle.edr_record.specs.declared.Extreme.{Extreme}
+use Rattle.edr_record.specs.declared.Profile.{Profile}
 
--- what stood before time zero: eleven slots of speed, throttle and brake, one of belt and lamp (563.7 Table I)
+-- what stood before time zero: the slots of its profile of speed, throttle and brake, one of belt and lamp (563.7 Table I)
 pub record PrePart : Type 0 where
   pub key : Key
   pub place : Place
+  pub profile : Profile
   pub speed : List (Option ℕ)
   pub throttle : List (Option ℕ)
   pub brake : List (Option Bool)

@@ -6,14 +6,17 @@ ghost use Rattle.std.specs.List.{list_all};
 
 use std::marker::Model;
 
-/// How many slots a list of a pre part has.
+/// How many slots a list of a short pre part has, which a recorder of version 1 made.
 pub const SHORT_SLOTS: usize = 11;
 
-/// How far apart two slots are that follow one another, in milliseconds.
-pub const SLOT_STEP: u32 = 500;
+/// How many slots a list of a long pre part has, which this recorder makes.
+pub const LONG_SLOTS: usize = 201;
 
-/// How far before time zero the first slot lies, in milliseconds. The last one lies at time zero.
-pub const SLOT_REACH: u32 = SLOT_STEP * (SHORT_SLOTS as u32 - 1);
+/// How far apart two slots of a long pre part are that follow one another, in milliseconds.
+pub const SLOT_STEP: u32 = 100;
+
+/// How far before time zero the first slot of a long pre part lies, in milliseconds. The last one lies at time zero.
+pub const SLOT_REACH: u32 = SLOT_STEP * (LONG_SLOTS as u32 - 1);
 
 /// How far before time zero the slot of belt and lamp lies, which have one each, in milliseconds.
 pub const SINGLE_REACH: u32 = 1_000;
@@ -38,15 +41,38 @@ pub enum Place {
     Second { after: u32 },
 }
 
-/// What stood before time zero. Lists have a slot at each half second from 5 s before time zero on; a slot without a
-/// sample is `None`. Speed is in km/h, throttle in per cent; belt and lamp are those of 1 s before time zero.
+/// How far a pre part looks back, and how often.
+#[derive(Clone, Copy, Debug, PartialEq, Eq)]
+pub enum Profile {
+    /// 5 s, twice a second.
+    Short,
+    /// 20 s, ten times a second.
+    Long,
+}
+
+/// The lists of a pre part: a slot without a sample is `None`. Speed is in km/h, throttle in per cent.
+#[derive(Clone, Copy, Debug, PartialEq, Eq)]
+pub enum Slots {
+    /// A slot at each half second from 5 s before time zero up to it.
+    Short {
+        speed: [Option<u16>; SHORT_SLOTS],
+        throttle: [Option<u8>; SHORT_SLOTS],
+        brake: [Option<bool>; SHORT_SLOTS],
+    },
+    /// A slot at each tenth of a second from 20 s before time zero up to it.
+    Long {
+        speed: [Option<u16>; LONG_SLOTS],
+        throttle: [Option<u8>; LONG_SLOTS],
+        brake: [Option<bool>; LONG_SLOTS],
+    },
+}
+
+/// What stood before time zero. Belt and lamp are those of 1 s before it.
 #[derive(Clone, Copy, Debug, PartialEq, Eq)]
 pub struct Pre {
     pub key: Key,
     pub place: Place,
-    pub speed: [Option<u16>; SHORT_SLOTS],
-    pub throttle: [Option<u8>; SHORT_SLOTS],
-    pub brake: [Option<bool>; SHORT_SLOTS],
+    pub slots: Slots,
     pub belt: Option<bool>,
     pub lamp: Option<bool>,
 }
@@ -121,13 +147,53 @@ fn are_present<T>(slots: &[Option<T>]) -> bool
 impl Pre {
     ghost use Rattle.edr_record.specs.Complete.{has_all_slots};
 
-    /// None of the 35 slots is absent.
+    /// How far it looks back.
+    pub fn profile(&self) -> Profile
+        ensures { result ≡ self.now.profile }
+    {
+        match self.slots {
+            Slots::Short { .. } => Profile::Short,
+            Slots::Long { .. } => Profile::Long,
+        }
+    }
+
+    /// The slots of the speed, in km/h.
+    pub fn speed(&self) -> &[Option<u16>]
+        ensures { result.now ≡ self.now.speed }
+    {
+        match &self.slots {
+            Slots::Short { speed, .. } => speed,
+            Slots::Long { speed, .. } => speed,
+        }
+    }
+
+    /// The slots of the throttle, in per cent.
+    pub fn throttle(&self) -> &[Option<u8>]
+        ensures { result.now ≡ self.now.throttle }
+    {
+        match &self.slots {
+            Slots::Short { throttle, .. } => throttle,
+            Slots::Long { throttle, .. } => throttle,
+        }
+    }
+
+    /// The slots of the brake: whether it was on.
+    pub fn brake(&self) -> &[Option<bool>]
+        ensures { result.now ≡ self.now.brake }
+    {
+        match &self.slots {
+            Slots::Short { brake, .. } => brake,
+            Slots::Long { brake, .. } => brake,
+        }
+    }
+
+    /// None of the slots of its profile is absent.
     fn has_all_slots(&self) -> bool
         ensures { result ≡ has_all_slots self.now }
     {
-        are_present(&self.speed)
-            && are_present(&self.throttle)
-            && are_present(&self.brake)
+        are_present(self.speed())
+            && are_present(self.throttle())
+            && are_present(self.brake())
             && self.belt.is_some()
             && self.lamp.is_some()
     }
@@ -167,12 +233,13 @@ pub enum Command {
     Done { crash: Crash },
 }
 
-/// Lists have eleven slots, at each half second from 5 s before time zero on, and belt and lamp one, 1 s before it. The two
-/// events of a pair begin at most 5 s apart, and each ends at most half a second past its time zero.
+/// Lists have eleven slots, or 201, at each tenth of a second from 20 s before time zero on; belt and lamp have one, 1 s
+/// before it. The two events of a pair begin at most 5 s apart, and each ends at most half a second past its time zero.
 pub fn times_are_those_of_a_record()
-    ensures slots { SHORT_SLOTS ≡ 11 }
-    ensures step { SLOT_STEP ≡ 500 }
-    ensures reach { SLOT_REACH ≡ 5_000 }
+    ensures short { SHORT_SLOTS ≡ 11 }
+    ensures long { LONG_SLOTS ≡ 201 }
+    ensures step { SLOT_STEP ≡ 100 }
+    ensures reach { SLOT_REACH ≡ 20_000 }
     ensures single { SINGLE_REACH ≡ 1_000 }
     ensures pair { LONGEST_PAIR ≡ 5_000 }
     ensures reset { RESET ≡ 500 }
@@ -182,18 +249,28 @@ pub fn times_are_those_of_a_record()
 mod tests {
     use super::*;
 
+    // Slots of both profiles, none of which is absent.
+    const SHORT: Slots = Slots::Short {
+        speed: [Some(50); SHORT_SLOTS],
+        throttle: [Some(20); SHORT_SLOTS],
+        brake: [Some(false); SHORT_SLOTS],
+    };
+    const LONG: Slots = Slots::Long {
+        speed: [Some(50); LONG_SLOTS],
+        throttle: [Some(20); LONG_SLOTS],
+        brake: [Some(false); LONG_SLOTS],
+    };
+
     // A record with every element.
     fn whole() -> Record {
         Record {
             pre: Pre {
                 key: Key {
                     cycle: 1,
-                    zero: 6003,
+                    zero: 26_003,
                 },
                 place: Place::First,
-                speed: [Some(50); SHORT_SLOTS],
-                throttle: [Some(20); SHORT_SLOTS],
-                brake: [Some(false); SHORT_SLOTS],
+                slots: LONG,
                 belt: Some(true),
                 lamp: Some(false),
             },
@@ -221,8 +298,21 @@ mod tests {
         let mut without_lamp = whole();
         without_lamp.pre.lamp = None;
         assert!(rt; !without_lamp.complete());
-        let mut without_oldest_speed = whole();
-        without_oldest_speed.pre.speed[0] = None;
-        assert!(rt; !without_oldest_speed.complete());
+    }
+
+    #[test]
+    fn a_record_is_complete_with_all_slots_of_its_profile(rt: HostRuntime) {
+        let mut short = whole();
+        short.pre.slots = SHORT;
+        assert!(rt; short.complete());
+        assert!(rt; short.pre.profile() == Profile::Short && short.pre.brake().len() == 11);
+        let mut long = whole();
+        assert!(rt; long.pre.profile() == Profile::Long && long.pre.speed().len() == 201);
+        long.pre.slots = Slots::Long {
+            speed: [None; LONG_SLOTS],
+            throttle: [Some(20); LONG_SLOTS],
+            brake: [Some(false); LONG_SLOTS],
+        };
+        assert!(rt; !long.complete());
     }
 }

@@ -1,4 +1,4 @@
-use Rattle.std.proofs.Common.{arith, refl, pos, None}
+use Rattle.std.proofs.Common.{arith, refl, pos, None, Some}
 use Rattle.std.specs.Prelude.{replicate}
 use Rattle.std.proofs.lemmas.List.Elements.{All-replicate}
 use Rattle.edr_record.specs.Bounds.{IsUpTo, IsChange, ArePoints, IsExtreme}
@@ -9,6 +9,20 @@ no_points = record { room = refl; first = refl; changes = All-replicate IsChange
 
 no_change : IsExtreme 50 (record { kmh = pos 0; at = 0 })
 no_change = record { change = omega arith; time = omega arith }
+
+pub invariant_of-result-2 : goal.invariant_of-result-2
+invariant_of-result-2 c = record {
+  cycle_from = omega arith;
+  cycle_to = omega arith;
+  zero_from = omega arith;
+  zero_to = omega arith;
+  place = tt;
+  speeds = refl;
+  speed = All-replicate (IsUpTo 300) 201 (Some 50) (omega arith);
+  throttles = refl;
+  throttle = All-replicate (IsUpTo 100) 201 (Some 20) (omega arith);
+  brakes = refl;
+}
 
 pub invariant_of-result : goal.invariant_of-result
 invariant_of-result c = record {
