@@ -13,7 +13,7 @@ use Rattle.std.proofs.lemmas.List.Sums.{count_by-le-length}
 use Rattle.std.proofs.Math.Seq.{drop-append_seam}
 use Rattle.edr_definitions.specs.declared.limits.TheConstants.{STEPS_OF_KMH}
 use Rattle.edr_items.specs.declared.TheConstants.{LATEST_MOMENT}
-use Rattle.edr_record.specs.declared.TheConstants.{LONGEST_PAIR, RESET, SHORT_SLOTS, SLOT_REACH, SLOT_STEP}
+use Rattle.edr_record.specs.declared.TheConstants.{LONG_SLOTS, LONGEST_PAIR, RESET, SLOT_REACH, SLOT_STEP}
 use Rattle.edr_items.specs.declared.Sensor.{Sensor}
 use Rattle.edr_items.specs.declared.Sensor.TheVariants.{Along, Across, Speed, Throttle}
 use Rattle.edr_items.specs.declared.Item.{Item}
@@ -83,20 +83,20 @@ slot_up_to highest (Some v) h = number_up_to highest v (h v refl)
 speeds_up_to : (xs : List Item) (z : ℕ) → IsFeed Speed xs → All (IsUpTo 300) (numbers (slots_before xs z))
 unfolding slots_before
 speeds_up_to xs z feed =
-    All-map (IsUpTo 300) (λ s. option_map unsigned_abs s) (map (λ k. slot xs (z + SLOT_STEP * k - SLOT_REACH)) (range_with_len 0 SHORT_SLOTS))
-    (All-map (λ o. IsUpTo 300 (option_map unsigned_abs o)) (λ k. slot xs (z + SLOT_STEP * k - SLOT_REACH)) (range_with_len 0 SHORT_SLOTS)
-    (λ k d within. slot_up_to 300 (slot xs (z + SLOT_STEP * slice_index_or (range_with_len 0 SHORT_SLOTS) k d - SLOT_REACH)) (λ v e. slot_in_range Speed xs (z + SLOT_STEP * slice_index_or (range_with_len 0 SHORT_SLOTS) k d - SLOT_REACH) v feed e)))
+    All-map (IsUpTo 300) (λ s. option_map unsigned_abs s) (map (λ k. slot xs (z + SLOT_STEP * k - SLOT_REACH)) (range_with_len 0 LONG_SLOTS))
+    (All-map (λ o. IsUpTo 300 (option_map unsigned_abs o)) (λ k. slot xs (z + SLOT_STEP * k - SLOT_REACH)) (range_with_len 0 LONG_SLOTS)
+    (λ k d within. slot_up_to 300 (slot xs (z + SLOT_STEP * slice_index_or (range_with_len 0 LONG_SLOTS) k d - SLOT_REACH)) (λ v e. slot_in_range Speed xs (z + SLOT_STEP * slice_index_or (range_with_len 0 LONG_SLOTS) k d - SLOT_REACH) v feed e)))
 
 throttles_up_to : (xs : List Item) (z : ℕ) → IsFeed Throttle xs → All (IsUpTo 100) (numbers (slots_before xs z))
 unfolding slots_before
 throttles_up_to xs z feed =
-    All-map (IsUpTo 100) (λ s. option_map unsigned_abs s) (map (λ k. slot xs (z + SLOT_STEP * k - SLOT_REACH)) (range_with_len 0 SHORT_SLOTS))
-    (All-map (λ o. IsUpTo 100 (option_map unsigned_abs o)) (λ k. slot xs (z + SLOT_STEP * k - SLOT_REACH)) (range_with_len 0 SHORT_SLOTS)
-    (λ k d within. slot_up_to 100 (slot xs (z + SLOT_STEP * slice_index_or (range_with_len 0 SHORT_SLOTS) k d - SLOT_REACH)) (λ v e. slot_in_range Throttle xs (z + SLOT_STEP * slice_index_or (range_with_len 0 SHORT_SLOTS) k d - SLOT_REACH) v feed e)))
+    All-map (IsUpTo 100) (λ s. option_map unsigned_abs s) (map (λ k. slot xs (z + SLOT_STEP * k - SLOT_REACH)) (range_with_len 0 LONG_SLOTS))
+    (All-map (λ o. IsUpTo 100 (option_map unsigned_abs o)) (λ k. slot xs (z + SLOT_STEP * k - SLOT_REACH)) (range_with_len 0 LONG_SLOTS)
+    (λ k d within. slot_up_to 100 (slot xs (z + SLOT_STEP * slice_index_or (range_with_len 0 LONG_SLOTS) k d - SLOT_REACH)) (λ v e. slot_in_range Throttle xs (z + SLOT_STEP * slice_index_or (range_with_len 0 LONG_SLOTS) k d - SLOT_REACH) v feed e)))
 
-eleven : (xs : List Item) (z : ℕ) → length (slots_before xs z) ≡ 11
+all_slots : (xs : List Item) (z : ℕ) → length (slots_before xs z) ≡ LONG_SLOTS
 unfolding slots_before
-eleven xs z = refl
+all_slots xs z = refl
 
 pub pre_part-is : (f : SensorLists) (n z : ℕ) (place : Place) → AreFeeds f → 1 ≤ n → n ≤ 4_294_967_295 → 1 ≤ z → z ≤ LATEST_MOMENT → IsPlace place → IsPre (pre_part f n place z)
 unfolding pre_part
@@ -106,11 +106,11 @@ pre_part-is f n z place feeds low high from to is = record {
   zero_from = from;
   zero_to = to;
   place = is;
-  speeds = length-map (slots_before f.speed z) (λ s. option_map unsigned_abs s) ∙ eleven f.speed z;
+  speeds = length-map (slots_before f.speed z) (λ s. option_map unsigned_abs s) ∙ all_slots f.speed z;
   speed = speeds_up_to f.speed z feeds.speed;
-  throttles = length-map (slots_before f.throttle z) (λ s. option_map unsigned_abs s) ∙ eleven f.throttle z;
+  throttles = length-map (slots_before f.throttle z) (λ s. option_map unsigned_abs s) ∙ all_slots f.throttle z;
   throttle = throttles_up_to f.throttle z feeds.throttle;
-  brakes = length-map (slots_before f.brake z) switch ∙ eleven f.brake z;
+  brakes = length-map (slots_before f.brake z) switch ∙ all_slots f.brake z;
 }
 
 -- ---- changes of speed

@@ -2,7 +2,7 @@
 use Rattle.std.proofs.Common.{arith, refl, ◌≡◌, ℕ, ◌+◌, ◌-◌, ◌*◌, ◌<◌, ◌≤◌, List}
 use Rattle.std.specs.Prelude.{is_some}
 use Rattle.edr_definitions.specs.declared.limits.TheConstants.{LONGEST_AGE}
-use Rattle.edr_record.specs.declared.TheConstants.{SHORT_SLOTS, SINGLE_REACH, SLOT_REACH, SLOT_STEP}
+use Rattle.edr_record.specs.declared.TheConstants.{LONG_SLOTS, SINGLE_REACH, SLOT_REACH, SLOT_STEP}
 use Rattle.edr_items.specs.declared.TheConstants.{LONGEST_GAP}
 use Rattle.edr_items.specs.declared.Sensor.{Sensor}
 use Rattle.edr_items.specs.declared.Sensor.TheVariants.{Speed, Throttle, Brake, Belt, Lamp}
@@ -16,7 +16,7 @@ use Rattle.edr_definitions.specs.Core.{ring_lists}
 use Rattle.edr_definitions.proofs.AgreeLaws.{map_agree}
 use Rattle.edr_definitions.proofs.RingLaws.{IsFeedAfter-rises_from, filter-rises, mark-filter, slot-captured}
 
--- a slot of the 5 s before time zero, where the mark is no further past it than a gap may be
+-- a slot of the 20 s before time zero, where the mark is no further past it than a gap may be
 slot-frozen : (s : Sensor) (n z t : ℕ) (xs : List Item) → SLOT_REACH + LONGEST_GAP + LONGEST_AGE < n → IsFeed s xs → mark_of xs ≤ z + LONGEST_GAP → z ≤ t + SLOT_REACH → slot (newest n (samples xs)) t ≡ slot xs t
 slot-frozen s n z t xs room feed near before =
     let rises = IsFeedAfter-rises_from s 0 xs feed in
@@ -26,7 +26,7 @@ slot-frozen s n z t xs room feed near before =
 slots_before-frozen : (s : Sensor) (n z : ℕ) (xs : List Item) → SLOT_REACH + LONGEST_GAP + LONGEST_AGE < n → IsFeed s xs → mark_of xs ≤ z + LONGEST_GAP → slots_before (newest n (samples xs)) z ≡ slots_before xs z
 unfolding slots_before
 slots_before-frozen s n z xs room feed near =
-    map_agree (λ k. slot (newest n (samples xs)) (z + SLOT_STEP * k - SLOT_REACH)) (λ k. slot xs (z + SLOT_STEP * k - SLOT_REACH)) SHORT_SLOTS 0
+    map_agree (λ k. slot (newest n (samples xs)) (z + SLOT_STEP * k - SLOT_REACH)) (λ k. slot xs (z + SLOT_STEP * k - SLOT_REACH)) LONG_SLOTS 0
     (λ k lo hi. slot-frozen s n z (z + SLOT_STEP * k - SLOT_REACH) xs room feed near (omega arith))
 
 -- rings that reach back past the first slot from the newest sample that may stand in them give the pre part

@@ -2,13 +2,14 @@
 use Rattle.std.proofs.Common.{refl, ◌≡◌, ℕ, true, Some, None, Option, [], ◌∷◌}
 use Rattle.edr_record.specs.declared.Place.{Place}
 use Rattle.edr_record.specs.declared.Place.TheVariants.{First, Second}
+use Rattle.edr_record.specs.declared.Profile.TheVariants.{Long}
 use Rattle.edr_record.specs.declared.Command.TheVariants.{Take, Lock, Done}
 use Rattle.edr_record.specs.Parts.{PrePart, CrashPart}
 use Rattle.edr_definitions.specs.Core.{CoreState, no_change, core_after, issues_at, commands_of}
 
 -- a pre part of time zero z in cycle 1, with no sample
 abbrev pre : ℕ → Place → PrePart
-pre z place = record { key = record { cycle = 1; zero = z }; place = place; speed = []; throttle = []; brake = []; belt = None; lamp = None }
+pre z place = record { key = record { cycle = 1; zero = z }; place = place; profile = Long; speed = []; throttle = []; brake = []; belt = None; lamp = None }
 
 -- that pre part is kept, after this event
 abbrev kept : ℕ → Option (Place × ℕ) → CoreState

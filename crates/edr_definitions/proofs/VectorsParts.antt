@@ -1,8 +1,10 @@
 -- Slots and the two parts of a record.
 use Rattle.std.proofs.Common.{refl, ◌≡◌, ◌+◌, ℕ, pos, negsuc, true, false, Some, None, [], ◌∷◌, ◌++◌, map}
 use Rattle.std.specs.Prelude.{replicate}
+use Rattle.std.specs.List.{range_with_len}
 use Rattle.edr_items.specs.SensorLists.{SensorLists, no_items}
 use Rattle.edr_record.specs.declared.Place.TheVariants.{First}
+use Rattle.edr_record.specs.declared.Profile.TheVariants.{Long}
 use Rattle.edr_definitions.specs.Ticks.{first_tick, greatest}
 use Rattle.edr_definitions.specs.Windows.{delta_v}
 use Rattle.edr_definitions.specs.Parts.{slot, slots_before, numbers, switch, pre_part, kmh_of, first_greatest, points, extreme, result_at, missing, first_firing, firings, crash_part}
@@ -33,13 +35,13 @@ slot_not_newest : slot (sample 100 (pos 50) ∷ sample 150 (pos 60) ∷ []) 149 
 unfolding slot
 slot_not_newest = refl
 
--- with a sample each 100 ms the slots of time zero 6,003 are those of 1,000 to 6,000
-eleven_slots : numbers (slots_before (each_100 (λ k. pos k) 70) 6003) ≡ map (λ v. Some v) (10 ∷ 15 ∷ 20 ∷ 25 ∷ 30 ∷ 35 ∷ 40 ∷ 45 ∷ 50 ∷ 55 ∷ 60 ∷ [])
+-- with a sample each 100 ms the slots of time zero 26,003 are those of 6,000 to 26,000
+long_slots : numbers (slots_before (each_100 (λ k. pos k) 270) 26_003) ≡ map (λ v. Some v) (range_with_len 60 201)
 unfolding slots_before slot
-eleven_slots = refl
+long_slots = refl
 
--- with power on at tick 1, time zero 3,000 has no slots before it: at -5.0 to -3.0 s they are absent
-before_power_on : numbers (slots_before (each_100 (λ k. pos 50) 40) 3000) ≡ replicate 5 None ++ replicate 6 (Some 50)
+-- with power on at tick 1, time zero 3,000 has no slots before it: at -20.0 to -3.0 s they are absent
+before_power_on : numbers (slots_before (each_100 (λ k. pos 50) 40) 3000) ≡ replicate 171 None ++ replicate 30 (Some 50)
 unfolding slots_before slot
 before_power_on = refl
 
@@ -58,9 +60,10 @@ driver = record no_items { belt = sample 4950 (pos 1) ∷ sample 5001 (pos 0) �
 pre_part_of_driver : pre_part driver 7 First 6000 ≡ record {
   key = record { cycle = 7; zero = 6000 };
   place = First;
-  speed = replicate 11 None;
-  throttle = replicate 11 None;
-  brake = replicate 10 None ++ Some true ∷ [];
+  profile = Long;
+  speed = replicate 201 None;
+  throttle = replicate 201 None;
+  brake = replicate 200 None ++ Some true ∷ [];
   belt = Some true;
   lamp = Some false;
 }

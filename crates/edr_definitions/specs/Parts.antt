@@ -5,8 +5,9 @@ use Rattle.std.specs.Int.{bit_at}
 use Rattle.std.specs.List.{range_with_len}
 use Rattle.edr_items.specs.declared.Item.{Item}
 use Rattle.edr_items.specs.SensorLists.{SensorLists}
-use Rattle.edr_record.specs.declared.TheConstants.{SHORT_SLOTS, SINGLE_REACH, SLOT_REACH, SLOT_STEP}
+use Rattle.edr_record.specs.declared.TheConstants.{LONG_SLOTS, SINGLE_REACH, SLOT_REACH, SLOT_STEP}
 use Rattle.edr_record.specs.declared.Place.{Place}
+use Rattle.edr_record.specs.declared.Profile.TheVariants.{Long}
 use Rattle.edr_record.specs.declared.Extreme.{Extreme}
 use Rattle.edr_record.specs.Parts.{PrePart, CrashPart}
 use Rattle.edr_record.specs.Bounds.{point_count, most_points}
@@ -25,9 +26,9 @@ latest_value (x ∷ xs) = option_or (latest_value xs) x.value
 unfoldable pub slot : List Item → ℕ → Option ℤ
 slot xs t = latest_value (filter (λ x. nat_le t (x.moment + LONGEST_AGE) && nat_le x.moment t) xs)
 
--- the slots at each half second from 5 s before z up to z; a time before the cycle counts as its tick 0, where no feed has a slot (563.7 Table I)
+-- the slots at each tenth of a second from 20 s before z up to z; a time before the cycle counts as its tick 0, where no feed has a slot (563.7 Table I)
 unfoldable pub slots_before : List Item → ℕ → List (Option ℤ)
-slots_before xs z = map (λ k. slot xs (z + SLOT_STEP * k - SLOT_REACH)) (range_with_len 0 SHORT_SLOTS)
+slots_before xs z = map (λ k. slot xs (z + SLOT_STEP * k - SLOT_REACH)) (range_with_len 0 LONG_SLOTS)
 
 -- slots of a sensor that gives numbers from 0 on
 abbrev pub numbers : List (Option ℤ) → List (Option ℕ)
@@ -41,11 +42,12 @@ switch s = option_map (λ v. nat_eq (unsigned_abs v) 1) s
 abbrev pub switches : List (Option ℤ) → List (Option Bool)
 switches slots = map switch slots
 
--- the pre part of the event with time zero z of cycle n; belt and lamp are those of 1 s before z (563.7 Table I)
+-- the long pre part of the event with time zero z of cycle n; belt and lamp are those of 1 s before z (563.7 Table I)
 unfoldable pub pre_part : SensorLists → ℕ → Place → ℕ → PrePart
 pre_part f n place z = record {
   key = record { cycle = n; zero = z };
   place = place;
+  profile = Long;
   speed = numbers (slots_before f.speed z);
   throttle = numbers (slots_before f.throttle z);
   brake = switches (slots_before f.brake z);
