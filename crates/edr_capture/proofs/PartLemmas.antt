@@ -8,7 +8,7 @@ use Rattle.std.proofs.lemmas.List.{append-nil}
 use Rattle.std.proofs.lemmas.List.Elements.{filter-append, All-head, All-tail, All-filter, All-map, All-cons, All-replicate, All-from_get_or}
 use Rattle.edr_definitions.specs.declared.limits.TheConstants.{LONGEST_AGE}
 use Rattle.edr_items.specs.declared.TheConstants.{LONGEST_GAP}
-use Rattle.edr_record.specs.declared.TheConstants.{SHORT_SLOTS, SINGLE_REACH, SLOT_REACH, SLOT_STEP}
+use Rattle.edr_record.specs.declared.TheConstants.{LONG_SLOTS, SINGLE_REACH, SLOT_REACH, SLOT_STEP}
 use Rattle.edr_items.specs.declared.Sensor.{Sensor}
 use Rattle.edr_items.specs.declared.Sensor.TheVariants.{Along, Across, Speed, Throttle, Brake, Belt, Lamp, Restraint}
 use Rattle.edr_items.specs.declared.Item.{Item}
@@ -41,11 +41,11 @@ slot-later t z xs later le all =
 slots-later : (z : ℕ) (xs later : List Item) → All (λ x. z < x.moment) later → slots_before (xs ++ later) z ≡ slots_before xs z
 unfolding slots_before
 slots-later z xs later all =
-    map_agree (λ k. slot (xs ++ later) (z + SLOT_STEP * k - SLOT_REACH)) (λ k. slot xs (z + SLOT_STEP * k - SLOT_REACH)) SHORT_SLOTS 0 (λ k lo hi. slot-later (z + SLOT_STEP * k - SLOT_REACH) z xs later (omega arith) all)
+    map_agree (λ k. slot (xs ++ later) (z + SLOT_STEP * k - SLOT_REACH)) (λ k. slot xs (z + SLOT_STEP * k - SLOT_REACH)) LONG_SLOTS 0 (λ k lo hi. slot-later (z + SLOT_STEP * k - SLOT_REACH) z xs later (omega arith) all)
 
 part_slots-later : (s : Sensor) (xs later : List Item) (z : ℕ) → All (λ x. z < x.moment) later → part_slots s (xs ++ later) z ≡ part_slots s xs z
-part_slots-later Belt xs later z all = ap (λ o. o ∷ replicate (SHORT_SLOTS - 1) None) (slot-later (z - SINGLE_REACH) z xs later (omega arith) all)
-part_slots-later Lamp xs later z all = ap (λ o. o ∷ replicate (SHORT_SLOTS - 1) None) (slot-later (z - SINGLE_REACH) z xs later (omega arith) all)
+part_slots-later Belt xs later z all = ap (λ o. o ∷ replicate (LONG_SLOTS - 1) None) (slot-later (z - SINGLE_REACH) z xs later (omega arith) all)
+part_slots-later Lamp xs later z all = ap (λ o. o ∷ replicate (LONG_SLOTS - 1) None) (slot-later (z - SINGLE_REACH) z xs later (omega arith) all)
 part_slots-later Along xs later z all = slots-later z xs later all
 part_slots-later Across xs later z all = slots-later z xs later all
 part_slots-later Speed xs later z all = slots-later z xs later all
@@ -63,11 +63,11 @@ slot-given kept given z t near before is = slot_at-given kept given (pos t) (ome
 slots-given : (kept given : List Item) (z : ℕ) → mark_of kept ≤ z + LONGEST_GAP → StandsFor kept given → slots_before kept z ≡ slots_before given z
 unfolding slots_before
 slots-given kept given z near is =
-    map_agree (λ k. slot kept (z + SLOT_STEP * k - SLOT_REACH)) (λ k. slot given (z + SLOT_STEP * k - SLOT_REACH)) SHORT_SLOTS 0 (λ k lo hi. slot-given kept given z (z + SLOT_STEP * k - SLOT_REACH) near (omega arith) is)
+    map_agree (λ k. slot kept (z + SLOT_STEP * k - SLOT_REACH)) (λ k. slot given (z + SLOT_STEP * k - SLOT_REACH)) LONG_SLOTS 0 (λ k lo hi. slot-given kept given z (z + SLOT_STEP * k - SLOT_REACH) near (omega arith) is)
 
 part_slots-given : (s : Sensor) (kept given : List Item) (z : ℕ) → mark_of kept ≤ z + LONGEST_GAP → StandsFor kept given → part_slots s kept z ≡ part_slots s given z
-part_slots-given Belt kept given z near is = ap (λ o. o ∷ replicate (SHORT_SLOTS - 1) None) (slot-given kept given z (z - SINGLE_REACH) near (omega arith) is)
-part_slots-given Lamp kept given z near is = ap (λ o. o ∷ replicate (SHORT_SLOTS - 1) None) (slot-given kept given z (z - SINGLE_REACH) near (omega arith) is)
+part_slots-given Belt kept given z near is = ap (λ o. o ∷ replicate (LONG_SLOTS - 1) None) (slot-given kept given z (z - SINGLE_REACH) near (omega arith) is)
+part_slots-given Lamp kept given z near is = ap (λ o. o ∷ replicate (LONG_SLOTS - 1) None) (slot-given kept given z (z - SINGLE_REACH) near (omega arith) is)
 part_slots-given Along kept given z near is = slots-given kept given z near is
 part_slots-given Across kept given z near is = slots-given kept given z near is
 part_slots-given Speed kept given z near is = slots-given kept given z near is
@@ -98,13 +98,13 @@ slot_is : (s : Sensor) (xs : List Item) (t : ℕ) → All (IsOfSensor s) xs → 
 unfolding slot
 slot_is s xs t all = latest_is s (filter (λ x. nat_le t (x.moment + LONGEST_AGE) && nat_le x.moment t) xs) (All-filter (λ x. nat_le t (x.moment + LONGEST_AGE) && nat_le x.moment t) (IsOfSensor s) xs all)
 
-slots_are : (s : Sensor) (xs : List Item) (z : ℕ) → All (IsOfSensor s) xs → All (IsSlotOf s) (slots_before xs z) × (length (slots_before xs z) ≡ SHORT_SLOTS)
+slots_are : (s : Sensor) (xs : List Item) (z : ℕ) → All (IsOfSensor s) xs → All (IsSlotOf s) (slots_before xs z) × (length (slots_before xs z) ≡ LONG_SLOTS)
 unfolding slots_before
 slots_are s xs z all =
-    (All-map (IsSlotOf s) (λ k. slot xs (z + SLOT_STEP * k - SLOT_REACH)) (range_with_len 0 SHORT_SLOTS) (All-from_get_or (λ k. IsSlotOf s (slot xs (z + SLOT_STEP * k - SLOT_REACH))) (range_with_len 0 SHORT_SLOTS) 0 (λ i lt. slot_is s xs _ all)), refl)
+    (All-map (IsSlotOf s) (λ k. slot xs (z + SLOT_STEP * k - SLOT_REACH)) (range_with_len 0 LONG_SLOTS) (All-from_get_or (λ k. IsSlotOf s (slot xs (z + SLOT_STEP * k - SLOT_REACH))) (range_with_len 0 LONG_SLOTS) 0 (λ i lt. slot_is s xs _ all)), refl)
 
-one_slot : (s : Sensor) (o : Option ℤ) → IsSlotOf s o → All (IsSlotOf s) (o ∷ replicate (SHORT_SLOTS - 1) None)
-one_slot s o is = All-cons (IsSlotOf s) o (replicate (SHORT_SLOTS - 1) None) is (All-replicate (IsSlotOf s) 10 None tt)
+one_slot : (s : Sensor) (o : Option ℤ) → IsSlotOf s o → All (IsSlotOf s) (o ∷ replicate (LONG_SLOTS - 1) None)
+one_slot s o is = All-cons (IsSlotOf s) o (replicate (LONG_SLOTS - 1) None) is (All-replicate (IsSlotOf s) (LONG_SLOTS - 1) None tt)
 
 pub part-is : (s : Sensor) (xs : List Item) (z : ℕ) → IsSlow s → All (IsOfSensor s) xs → IsPart (part s xs z)
 part-is Belt xs z slow all = record { slow = slow; long = refl; range = one_slot Belt (slot xs (z - SINGLE_REACH)) (slot_is Belt xs (z - SINGLE_REACH) all); its = refl }

@@ -1,6 +1,6 @@
 -- What a pre part has of one slow sensor.
 use Rattle.std.specs.Prelude.{◌≡◌, ◌-◌, ℕ, ℤ, true, Option, None, IfSome, List, ◌∷◌, length, replicate, drop, All}
-use Rattle.edr_record.specs.declared.TheConstants.{SHORT_SLOTS, SINGLE_REACH}
+use Rattle.edr_record.specs.declared.TheConstants.{LONG_SLOTS, SINGLE_REACH}
 use Rattle.edr_items.specs.declared.Sensor.{Sensor}
 use Rattle.edr_items.specs.declared.Sensor.TheVariants.{Along, Across, Speed, Throttle, Brake, Belt, Lamp, Restraint}
 use Rattle.edr_items.specs.declared.Item.{Item}
@@ -20,8 +20,8 @@ pub record SensorPart : Type 0 where
 
 -- the slots of the time zero z of a sensor with these items: of belt and lamp that of 1 s before it alone (563.7 Table I)
 abbrev pub part_slots : Sensor → List Item → ℕ → List (Option ℤ)
-part_slots Belt xs z = slot xs (z - SINGLE_REACH) ∷ replicate (SHORT_SLOTS - 1) None
-part_slots Lamp xs z = slot xs (z - SINGLE_REACH) ∷ replicate (SHORT_SLOTS - 1) None
+part_slots Belt xs z = slot xs (z - SINGLE_REACH) ∷ replicate (LONG_SLOTS - 1) None
+part_slots Lamp xs z = slot xs (z - SINGLE_REACH) ∷ replicate (LONG_SLOTS - 1) None
 part_slots Along xs z = slots_before xs z
 part_slots Across xs z = slots_before xs z
 part_slots Speed xs z = slots_before xs z
@@ -35,8 +35,8 @@ part s xs z = record { sensor = s; zero = z; slots = part_slots s xs z }
 
 -- where a sensor gives one slot there is no other
 abbrev pub HasItsSlots : Sensor → List (Option ℤ) → Type 0
-HasItsSlots Belt slots = drop 1 slots ≡ replicate (SHORT_SLOTS - 1) None
-HasItsSlots Lamp slots = drop 1 slots ≡ replicate (SHORT_SLOTS - 1) None
+HasItsSlots Belt slots = drop 1 slots ≡ replicate (LONG_SLOTS - 1) None
+HasItsSlots Lamp slots = drop 1 slots ≡ replicate (LONG_SLOTS - 1) None
 HasItsSlots Along slots = Unit {0}
 HasItsSlots Across slots = Unit {0}
 HasItsSlots Speed slots = Unit {0}
@@ -47,6 +47,6 @@ HasItsSlots Restraint slots = Unit {0}
 -- the bounds of a part
 pub record IsPart (p : SensorPart) : Type 0 where
   pub slow : IsSlow p.sensor
-  pub long : length p.slots ≡ SHORT_SLOTS
+  pub long : length p.slots ≡ LONG_SLOTS
   pub range : All (λ o. IfSome o (λ v. is_in_range p.sensor v ≡ true)) p.slots
   pub its : HasItsSlots p.sensor p.slots

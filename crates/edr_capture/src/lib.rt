@@ -5,7 +5,7 @@ ghost use Rattle.std.specs.Prelude.{◌≡◌, ℕ, ◌+◌, ◌-◌, ◌^◌, �
 ghost use Rattle.edr_items.specs.declared.TheConstants.{LONGEST_GAP};
 ghost use Rattle.edr_definitions.specs.declared.limits.TheConstants.{LONGEST_AGE};
 ghost use Rattle.edr_capture.specs.declared.TheConstants.{ROOM};
-ghost use Rattle.edr_record.specs.declared.TheConstants.{SHORT_SLOTS, SINGLE_REACH};
+ghost use Rattle.edr_record.specs.declared.TheConstants.{LONG_SLOTS, SINGLE_REACH};
 ghost use Rattle.edr_items.specs.declared.Item.{Item};
 ghost use Rattle.edr_items.specs.Item.{mark_of};
 ghost use Rattle.edr_definitions.specs.Rings.{RisesFrom};
@@ -21,14 +21,14 @@ mod part;
 use circular_buffer::HeapCircularBuffer;
 use edr_definitions::limits::LONGEST_AGE;
 use edr_items::{Item, Sensor};
-use edr_record::{SHORT_SLOTS, SINGLE_REACH, SLOT_REACH, SLOT_STEP};
+use edr_record::{LONG_SLOTS, SINGLE_REACH, SLOT_REACH, SLOT_STEP};
 pub use part::Part;
 use std::alloc::{AllocError as OutOfMemory, Global};
 use std::marker::Model;
 
-/// How many samples a capture keeps: one for each tick from 100 ms before a slot to less than 6,100 ms past it. So the slots of
-/// the 5 s before time zero can still be read when samples of the second after it stand there already.
-pub const ROOM: usize = 6_200;
+/// How many samples a capture keeps: one for each tick from 100 ms before a slot to less than 21,100 ms past it. So the slots of
+/// the 20 s before time zero can still be read when samples of the second after it stand there already.
+pub const ROOM: usize = 21_200;
 
 /// The newest samples of a sensor in an ignition cycle.
 #[derive(Drop)]
@@ -113,13 +113,13 @@ fn tick_before(tick: u64, back: u64) -> i64
     tick.saturating_sub(back) as i64
 }
 
-// The slots at each half second from 5 s before that time zero up to it.
-fn slots_before(capture: &Capture, zero: u32) -> [Option<i32>; SHORT_SLOTS]
+// The slots at each tenth of a second from 20 s before that time zero up to it.
+fn slots_before(capture: &Capture, zero: u32) -> [Option<i32>; LONG_SLOTS]
     requires near { mark_of capture.now ≤ zero + LONGEST_GAP }
     ensures { result ≡ slots_before capture.now zero }
 {
-    let mut slots = [None; SHORT_SLOTS];
-    for k in 0..SHORT_SLOTS {
+    let mut slots = [None; LONG_SLOTS];
+    for k in 0..LONG_SLOTS {
         let at = u64::from(zero) + u64::from(SLOT_STEP) * k as u64;
         slots[k] = capture.slot(tick_before(at, u64::from(SLOT_REACH)));
     }
@@ -127,17 +127,17 @@ fn slots_before(capture: &Capture, zero: u32) -> [Option<i32>; SHORT_SLOTS]
 }
 
 // The slot 1 s before that time zero, in the first place.
-fn slot_before(capture: &Capture, zero: u32) -> [Option<i32>; SHORT_SLOTS]
+fn slot_before(capture: &Capture, zero: u32) -> [Option<i32>; LONG_SLOTS]
     requires near { mark_of capture.now ≤ zero + LONGEST_GAP }
-    ensures { result ≡ slot capture.now (zero - SINGLE_REACH) ∷ replicate (SHORT_SLOTS - 1) None }
+    ensures { result ≡ slot capture.now (zero - SINGLE_REACH) ∷ replicate (LONG_SLOTS - 1) None }
 {
-    let mut slots = [None; SHORT_SLOTS];
+    let mut slots = [None; LONG_SLOTS];
     slots[0] = capture.slot(tick_before(u64::from(zero), u64::from(SINGLE_REACH)));
     slots
 }
 
 // The slots of a sensor's part.
-fn slots_of_part(capture: &Capture, sensor: Sensor, zero: u32) -> [Option<i32>; SHORT_SLOTS]
+fn slots_of_part(capture: &Capture, sensor: Sensor, zero: u32) -> [Option<i32>; LONG_SLOTS]
     requires near { mark_of capture.now ≤ zero + LONGEST_GAP }
     ensures { result ≡ part_slots sensor capture.now zero }
 {
@@ -147,9 +147,9 @@ fn slots_of_part(capture: &Capture, sensor: Sensor, zero: u32) -> [Option<i32>; 
     }
 }
 
-/// A capture has room for 6,200 samples.
-pub fn room_is_for_6200_samples()
-    ensures { ROOM ≡ 6_200 }
+/// A capture has room for 21,200 samples.
+pub fn room_is_for_21200_samples()
+    ensures { ROOM ≡ 21_200 }
 {}
 
 /// Items of a sensor that are later than a time zero don't change its part.
