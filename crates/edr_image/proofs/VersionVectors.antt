@@ -1,12 +1,12 @@
--- Parts and images of version 1, and parts of a longer profile, computed.
+-- Parts and images of version 1, and parts of the long profile, computed.
 use Rattle.std.proofs.Common.{◌≡◌, refl, ℕ, true, false, Option, Some, None, List, [], ◌∷◌, ◌++◌, length, replicate, slice_set, take}
 use Rattle.edr_record.specs.Parts.{PrePart}
 use Rattle.edr_record.specs.declared.Place.TheVariants.{First}
+use Rattle.edr_record.specs.declared.Profile.TheVariants.{Short, Long}
 use Rattle.edr_image.specs.declared.HeaderRefused.TheVariants as refused
 use Rattle.edr_image.specs.declared.OldRefused.TheVariants as old_refused
-use Rattle.edr_image.specs.declared.forms.PreForm.{PreForm}
 use Rattle.edr_image.specs.declared.forms.TheConstants.{VERSION_1, VERSION_2}
-use Rattle.edr_image.specs.PartBytes.{pre_size, crash_size, pre_bytes, pre_bytes_by, crash_bytes, crash_bytes_by, pre_at_by, crash_at, pre_damage_by, crash_damage_by, old_pre_at, old_pre_damage, old_crash_damage}
+use Rattle.edr_image.specs.PartBytes.{pre_size, crash_size, profile_byte, profile_from, pre_bytes, pre_bytes_by, crash_bytes, crash_bytes_by, pre_at, pre_at_by, crash_at, pre_damage, pre_damage_by, crash_damage_by, old_pre_at, old_pre_damage, old_crash_damage}
 use Rattle.edr_image.specs.Image.{magic, image_size, old_image_size, view_of, view_by, bank_view_by, image_refusal_by, header_refusal, header_refusal_by, old_header_refusal, count_of, old_view_of, old_refusal}
 use Rattle.edr_image.proofs.Vectors.{pre_1, crash, speeds}
 
@@ -62,15 +62,14 @@ damage-crash : (old_crash_damage (slice_set old_crash 1 0x13) 0 ≡ Some 1) × (
 unfolding crash_damage_by crash_bytes_by
 damage-crash = (refl, refl, refl)
 
--- ---- a profile that uses all the room
+-- ---- the long profile, which uses all the room
 
-abbrev long_form : PreForm
-long_form = record VERSION_2.pre { profiles = (1, 2) }
-
+-- the pre part of `crash_with_tie`
 abbrev long_pre : PrePart
 long_pre = record {
   key = record { cycle = 1; zero = 26003 };
   place = First;
+  profile = Long;
   speed = replicate 201 (Some 50);
   throttle = replicate 201 (Some 20);
   brake = replicate 201 (Some false);
@@ -81,26 +80,37 @@ long_pre = record {
 abbrev long_bytes : List ℕ
 long_bytes = 0 ∷ 0 ∷ 0 ∷ 1 ∷ 0 ∷ 0 ∷ 0x65 ∷ 0x93 ∷ 1 ∷ 2 ∷ 0 ∷ 0 ∷ [] ++ speeds 201 ++ replicate 201 20 ++ replicate 201 0 ++ 1 ∷ 0 ∷ [] ++ replicate 30 0
 
-long-bytes : pre_bytes_by long_form long_pre ≡ long_bytes
+long-bytes : pre_bytes long_pre ≡ long_bytes
 unfolding pre_bytes_by
 long-bytes = refl
 
-long-whole : pre_damage_by long_form long_bytes 0 ≡ None
+long-size : length long_bytes ≡ 848
+long-size = refl
+
+long-whole : pre_damage long_bytes 0 ≡ None
 unfolding pre_damage_by
 long-whole = refl
 
-long-back : pre_at_by long_form long_bytes 0 ≡ long_pre
+long-back : pre_at long_bytes 0 ≡ long_pre
 unfolding pre_at_by
 long-back = refl
 
--- the short profile has the bytes of version 2, and with the other byte all its zeros are values
-long-short : pre_bytes_by long_form pre_1 ≡ pre_bytes pre_1
-unfolding pre_bytes_by
-long-short = refl
+abbrev long_damage : ℕ → ℕ → Option ℕ
+long_damage at byte = pre_damage (slice_set long_bytes at byte) 0
 
-long-profile : (pre_damage_by long_form (slice_set (pre_bytes pre_1) 9 2) 0 ≡ None) × (pre_damage_by long_form (slice_set (pre_bytes pre_1) 9 3) 0 ≡ Some 9)
-unfolding pre_damage_by pre_bytes_by
-long-profile = (refl, refl)
+-- told short it has a twelfth speed; no other profile
+long-profile : (long_damage 9 1 ≡ Some 35) × (long_damage 9 0 ≡ Some 9) × (long_damage 9 3 ≡ Some 9)
+unfolding pre_damage_by
+long-profile = (refl, refl, refl)
+
+-- the last slots of speed, throttle and brake, and the last zero
+long-slots : (long_damage 412 2 ≡ Some 412) × (long_damage 614 101 ≡ Some 614) × (long_damage 815 2 ≡ Some 815) × (long_damage 847 1 ≡ Some 847)
+unfolding pre_damage_by
+long-slots = (refl, refl, refl, refl)
+
+-- each profile has its byte in version 2, and version 1 has no long one
+profile-bytes : (profile_byte VERSION_2.pre Short ≡ 1) × (profile_byte VERSION_2.pre Long ≡ 2) × (profile_from VERSION_1.pre 0 ≡ Short)
+profile-bytes = (refl, refl, refl)
 
 -- ---- images
 

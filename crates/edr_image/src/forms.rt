@@ -6,7 +6,7 @@ ghost use Rattle.edr_image.specs.Image.{crash_place};
 ghost use Rattle.edr_image.specs.PartBytes.{crash_size, pre_size};
 
 use crate::places::{BANK_SIZE, PRE_PART};
-use edr_record::SHORT_SLOTS;
+use edr_record::{LONG_SLOTS, SHORT_SLOTS};
 
 /// The form of a pre part. Each list has room for some slots, of which a profile uses the first ones; the rest is 0.
 #[derive(Clone, Copy)]
@@ -15,9 +15,9 @@ pub struct PreForm {
     pub room: usize,
     /// How many bytes of 0 stand at its end.
     pub zeros: usize,
-    /// The least and the greatest profile byte.
+    /// The profile byte of a short part and that of a long one, the same where each part is short.
     pub profiles: (u8, u8),
-    /// How many slots the least profile uses, and how many any other.
+    /// How many slots a part with the first profile byte uses, and how many one with any other.
     pub slots: (usize, usize),
 }
 
@@ -72,7 +72,7 @@ impl Layout {
 /// How many bytes a bank of version 1 has.
 pub const OLD_BANK_SIZE: usize = 512;
 
-/// Version 1: there is one profile, whose byte is 0, and the lists have no room past its slots.
+/// Version 1: there is the short profile alone, whose byte is 0, and the lists have no room past its slots.
 pub const VERSION_1: Layout = Layout {
     version: 1,
     bank: OLD_BANK_SIZE,
@@ -85,15 +85,15 @@ pub const VERSION_1: Layout = Layout {
     crash: CrashForm { zeros: 184 },
 };
 
-/// Version 2: there is one profile, whose byte is 1, and the lists have room for many more slots than it uses.
+/// Version 2: there are two profiles, the short one with the byte 1 and the long one with 2, which uses all the room.
 pub const VERSION_2: Layout = Layout {
     version: 2,
     bank: BANK_SIZE,
     pre: PreForm {
-        room: 201,
+        room: LONG_SLOTS,
         zeros: 30,
-        profiles: (1, 1),
-        slots: (SHORT_SLOTS, 201),
+        profiles: (1, 2),
+        slots: (SHORT_SLOTS, LONG_SLOTS),
     },
     crash: CrashForm { zeros: 24 },
 };
