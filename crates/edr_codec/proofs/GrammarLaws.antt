@@ -4,7 +4,7 @@ use Rattle.std.specs.List.{flat_map}
 use Rattle.edr_record.specs.Bounds.{IsCrash, window_from_end, point_count}
 use Rattle.edr_image.specs.declared.forms.CrashForm.{CrashForm}
 use Rattle.edr_image.specs.declared.forms.PreForm.{PreForm}
-use Rattle.edr_image.specs.PartBytes.{Field, field, damage_of_fields, pre_size, slots_of, IsPreForm, IsPreBy, pre_fields_by, pre_damage_by, pre_at_by, pre_bytes_by, BeginsPreBy, crash_size, crash_fields_by, crash_damage_by, crash_at, crash_bytes_by, BeginsCrashBy, number_at, IsDamagedAt}
+use Rattle.edr_image.specs.PartBytes.{Field, field, damage_of_fields, pre_size, slots_of, profile_byte, IsPreForm, IsPreBy, pre_fields_by, pre_damage_by, pre_at_by, pre_bytes_by, BeginsPreBy, crash_size, crash_fields_by, crash_damage_by, crash_at, crash_bytes_by, BeginsCrashBy, number_at, IsDamagedAt}
 use Rattle.edr_codec.specs.declared.rows.Row.{Row}
 use Rattle.edr_codec.specs.Rows.{ranges_of, fields_of, row_size}
 use Rattle.edr_codec.proofs.FieldLemmas.{fields_size, fields_size-replicate}
@@ -125,6 +125,7 @@ pre_damage-table form b = ap (λ (fs : List Field). damage_of_fields b 0 fs) (sy
 
 -- what whole bytes say is in its bounds
 pub pre_at-in_bounds : (form : PreForm) (b : List ℕ) → IsPreForm form → pre_damage_by form b 0 ≡ None → IsPreBy form (pre_at_by form b 0)
+unfolding pre_at_by
 pre_at-in_bounds form b is whole =
     let profile = slice_index b 9 in
     let within = pre-profile form b is whole in
@@ -134,7 +135,7 @@ pre-is_grammar : (form : PreForm) → IsPreForm form → IsGrammar (pre_size for
 pre-is_grammar form is = record {
   same = λ b c k damaged same. table-same (pre_size form) (pre_head form) (pre_tail form) b c k (pre-is_table form is) damaged same;
   complete = λ b k long small damaged. table-complete (pre_size form) (pre_head form) (pre_tail form) (pre_size form) b k (pre-is_table form is) long small damaged (omega arith);
-  read_back = λ p by. sym (pre_damage-table form (pre_bytes_by form p)) ∙ (pre-read_back form (length p.speed) p by.bounds (profile-by form p is by)).1;
+  read_back = λ p by. sym (pre_damage-table form (pre_bytes_by form p)) ∙ (pre-read_back form (slots_of form (profile_byte form p.profile)) p by.bounds (profile-by form p is by)).1;
   written = λ b long small whole.
       (let whole' = pre_damage-table form b ∙ whole in
       (pre_at-in_bounds form b is whole', sym (pre-written form b is long (small-bytes b small) whole')));

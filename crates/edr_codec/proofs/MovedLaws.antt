@@ -10,7 +10,7 @@ use Rattle.edr_record.specs.declared.Place.{Place}
 use Rattle.edr_record.specs.declared.Place.TheVariants.{First, Second}
 use Rattle.edr_image.specs.declared.forms.CrashForm.{CrashForm}
 use Rattle.edr_image.specs.declared.forms.PreForm.{PreForm}
-use Rattle.edr_image.specs.PartBytes.{Field, can_be_in, damage_of_field, damage_of_fields, pre_size, slots_of, throttle_at, brake_at, belt_at, lamp_at, IsPreForm, pre_fields_by, pre_damage_by, pre_at_by, crash_fields_by, crash_damage_by, crash_at, number_at, numbers_at, signed, unless, switch_from, extreme_at, crash_size}
+use Rattle.edr_image.specs.PartBytes.{Field, can_be_in, damage_of_field, damage_of_fields, pre_size, slots_of, profile_from, throttle_at, brake_at, belt_at, lamp_at, IsPreForm, pre_fields_by, pre_damage_by, pre_at_by, crash_fields_by, crash_damage_by, crash_at, number_at, numbers_at, signed, unless, switch_from, extreme_at, crash_size}
 use Rattle.edr_codec.proofs.FieldLemmas.{fields_size}
 use Rattle.edr_codec.proofs.PreLemmas.{part-same}
 use Rattle.edr_codec.proofs.GrammarLaws.{crash_fields-size, pre_fields-size}
@@ -99,12 +99,14 @@ pre_at-moved form is at bytes part stands =
     (let moved : switch_from (slice_index bytes (at + i)) ≡ switch_from (slice_index part (0 + i)) = ap switch_from (stands i room ∙ ap (slice_index part) (from i)) in moved) in
     part-same (number_at bytes at 4) (number_at part 0 4) (number_at bytes (at + 4) 4) (number_at part 4 4)
     (if nat_eq (slice_index bytes (at + 8)) 1 then First else Second (number_at bytes (at + 10) 2)) (if nat_eq (slice_index part 8) 1 then First else Second (number_at part 10 2))
+    (profile_from form (slice_index bytes (at + 9))) (profile_from form (slice_index part 9))
     (map (unless 0xffff) (numbers_at bytes (at + 12) 2 (slots_of form (slice_index bytes (at + 9))))) (map (unless 0xffff) (numbers_at part 12 2 n))
     (map (unless 0xff) (numbers_at bytes (at + throttle_at form) 1 (slots_of form (slice_index bytes (at + 9))))) (map (unless 0xff) (numbers_at part (0 + throttle_at form) 1 n))
     (map switch_from (numbers_at bytes (at + brake_at form) 1 (slots_of form (slice_index bytes (at + 9))))) (map switch_from (numbers_at part (0 + brake_at form) 1 n))
     (switch_from (slice_index bytes (at + belt_at form))) (switch_from (slice_index part (0 + belt_at form)))
     (switch_from (slice_index bytes (at + lamp_at form))) (switch_from (slice_index part (0 + lamp_at form)))
     start time (ap₂ (λ (p a : ℕ). let q : Place = if nat_eq p 1 then First else Second a in q) place after)
+    (ap (profile_from form) profile)
     (ap (map (unless 0xffff)) (list 12 2 (omega arith)))
     (ap (map (unless 0xff)) (list (throttle_at form) 1 (omega arith)))
     (ap (map switch_from) (list (brake_at form) 1 (omega arith)))

@@ -11,7 +11,7 @@ use Rattle.edr_record.specs.Bounds.{IsPlace, IsPreOf, IsUpTo}
 use Rattle.edr_record.specs.declared.Place.{Place}
 use Rattle.edr_record.specs.declared.Place.TheVariants.{First, Second}
 use Rattle.edr_image.specs.declared.forms.PreForm.{PreForm}
-use Rattle.edr_image.specs.PartBytes.{Field, damage_of_fields, slots_of, profile_of, throttle_at, brake_at, belt_at, lamp_at, end_at, pre_size, IsPreForm, pre_fields_by, pre_damage_by, pre_at_by, pre_bytes_by, pre_bytes_with, place_bytes, number_at, numbers_at, unless, switch_from, slot_bytes, switch_byte}
+use Rattle.edr_image.specs.PartBytes.{Field, damage_of_fields, slots_of, profile_from, profile_byte, throttle_at, brake_at, belt_at, lamp_at, end_at, pre_size, IsPreForm, pre_fields_by, pre_damage_by, pre_at_by, pre_bytes_by, pre_bytes_with, place_bytes, number_at, numbers_at, unless, switch_from, slot_bytes, switch_byte}
 use Rattle.edr_codec.specs.Rows.{fields_of}
 use Rattle.edr_codec.proofs.RowLemmas.{AreBytes, Lies, rows-whole}
 use Rattle.edr_codec.proofs.NumberLemmas.{number-stands, number-put}
@@ -77,7 +77,7 @@ pre-written form bytes is long are whole =
     let n = slots_of form profile in
     let fits = is.room profile in
     let within = pre-profile form bytes is whole in
-    let same : profile_of form n ≡ profile = is.told profile within.0 within.1 in
+    let same : profile_byte form (profile_from form profile) ≡ profile = is.told profile within.0 within.1 in
     let lies = pre-whole form bytes is whole in
     let first = nat_eq (slice_index bytes 8) 1 in
     let lamp : belt_at form + 1 * 1 ≡ lamp_at form = omega arith in
@@ -127,7 +127,7 @@ pub record PreNumbers (form : PreForm) (n : ℕ) (bytes : List ℕ) (p : PrePart
   pub cycle : number_at bytes 0 4 ≡ p.key.cycle
   pub zero_tick : number_at bytes 4 4 ≡ p.key.zero
   pub place : number_at bytes 8 1 ≡ place_code p.place
-  pub profile : number_at bytes 9 1 ≡ profile_of form n
+  pub profile : number_at bytes 9 1 ≡ profile_byte form p.profile
   pub after : number_at bytes 10 2 ≡ after_code p.place
   pub speed : (k : ℕ) → k < n → number_at bytes (12 + 2 * k) 2 ≡ PieceLemmas.slot_code 0xffff (get_or p.speed k None)
   pub past_speed : (k : ℕ) → k < 2 * (form.room - n) → number_at bytes (12 + 2 * n + 1 * k) 1 ≡ 0
@@ -155,14 +155,14 @@ past-bytes bytes rest at n bytes_of code xs coded many stands =
     PieceLemmas.past-piece bytes (flat_map bytes_of xs) rest at n stands
     (PieceLemmas.length-pieces 1 bytes_of code xs coded ∙ ap (λ (i : ℕ). 1 * i) many ∙ (let e : 1 * n ≡ n = omega arith in e))
 
-pub pre-numbers : (form : PreForm) (n : ℕ) (bytes : List ℕ) (p : PrePart) → IsPreOf n p → IsProfile form n → bytes ≡ pre_bytes_by form p → PreNumbers form n bytes p
+pub pre-numbers : (form : PreForm) (n : ℕ) (bytes : List ℕ) (p : PrePart) → IsPreOf n p → IsProfile form n p.profile → bytes ≡ pre_bytes_by form p → PreNumbers form n bytes p
 unfolding pre_bytes_by
 pre-numbers form n bytes p is in_form put =
     let fits = in_form.fits in
     let rest = form.room - n in
     let cycle : List ℕ = big_bytes 4 p.key.cycle in
     let zero_tick : List ℕ = big_bytes 4 p.key.zero in
-    let profile = profile_of form n in
+    let profile = profile_byte form p.profile in
     let place : List ℕ = place_bytes profile p.place in
     let speeds : List ℕ = flat_map (slot_bytes 2) p.speed in
     let throttles : List ℕ = flat_map (slot_bytes 1) p.throttle in
@@ -253,7 +253,7 @@ switches-lie form n bytes p are k below = elim (cases_lt k 1) [
       (ap (λ (i : ℕ). number_at bytes i 1) (let e : belt_at form + 1 * k ≡ lamp_at form = omega arith in e) ∙ are.lamp) (PieceLemmas.switch-lies p.lamp)
 ]
 
-pub pre-numbers_lie : (form : PreForm) (n : ℕ) (bytes : List ℕ) (p : PrePart) → IsPreOf n p → IsProfile form n → PreNumbers form n bytes p → PreLies form n (nat_eq (slice_index bytes 8) 1) bytes
+pub pre-numbers_lie : (form : PreForm) (n : ℕ) (bytes : List ℕ) (p : PrePart) → IsPreOf n p → IsProfile form n p.profile → PreNumbers form n bytes p → PreLies form n (nat_eq (slice_index bytes 8) 1) bytes
 pre-numbers_lie form n bytes p is in_form are =
     let place : slice_index bytes 8 ≡ place_code p.place = sym (PieceLemmas.byte-is bytes 8) ∙ are.place in
     let is_first = nat_eq (slice_index bytes 8) 1 in
@@ -261,7 +261,7 @@ pre-numbers_lie form n bytes p is in_form are =
       cycle = one-lies ((1, 4_294_967_295) ∷ []) bytes 0 4 p.key.cycle are.cycle (inl (is.cycle_from, is.cycle_to));
       zero_tick = one-lies ((1, 86_400_000) ∷ []) bytes 4 4 p.key.zero are.zero_tick (inl (is.zero_from, is.zero_to));
       place = one-lies ((1, 2) ∷ []) bytes 8 1 (place_code p.place) are.place (place-lies p.place);
-      profile = one-lies (form.profiles ∷ []) bytes 9 1 (profile_of form n) are.profile (inl (in_form.from, in_form.to));
+      profile = one-lies (form.profiles ∷ []) bytes 9 1 (profile_byte form p.profile) are.profile (inl (in_form.from, in_form.to));
       after = one-lies (after_range is_first ∷ []) bytes 10 2 (number_at bytes 10 2) refl (after-lies p.place (slice_index bytes 8) (number_at bytes 10 2) is.place place are.after);
       speed = slots-lie bytes 12 2 n 300 0xffff p.speed is.speeds is.speed are.speed;
       past_speed = zeros-lie bytes (12 + 2 * n) (2 * (form.room - n)) are.past_speed;
@@ -273,20 +273,23 @@ pre-numbers_lie form n bytes p is in_form are =
       zeros = zeros-lie bytes (end_at form) form.zeros are.zeros;
     }
 
--- the profile of the bytes has n slots
-numbers-slots : (form : PreForm) (n : ℕ) (bytes : List ℕ) (p : PrePart) → IsProfile form n → PreNumbers form n bytes p → slots_of form (slice_index bytes 9) ≡ n
-numbers-slots form n bytes p in_form are =
-    let profile : slice_index bytes 9 ≡ profile_of form n = sym (PieceLemmas.byte-is bytes 9) ∙ are.profile in
-    ap (slots_of form) profile ∙ in_form.back
+-- the profile byte
+numbers-byte : (form : PreForm) (n : ℕ) (bytes : List ℕ) (p : PrePart) → PreNumbers form n bytes p → slice_index bytes 9 ≡ profile_byte form p.profile
+numbers-byte form n bytes p are = sym (PieceLemmas.byte-is bytes 9) ∙ are.profile
 
-pub pre-numbers_say : (form : PreForm) (n : ℕ) (bytes : List ℕ) (p : PrePart) → IsPreOf n p → IsProfile form n → PreNumbers form n bytes p → pre_at_by form bytes 0 ≡ p
+-- with it each list has n slots
+numbers-slots : (form : PreForm) (n : ℕ) (bytes : List ℕ) (p : PrePart) → IsProfile form n p.profile → PreNumbers form n bytes p → slots_of form (slice_index bytes 9) ≡ n
+numbers-slots form n bytes p in_form are = ap (slots_of form) (numbers-byte form n bytes p are) ∙ in_form.back
+
+pub pre-numbers_say : (form : PreForm) (n : ℕ) (bytes : List ℕ) (p : PrePart) → IsPreOf n p → IsProfile form n p.profile → PreNumbers form n bytes p → pre_at_by form bytes 0 ≡ p
 pre-numbers_say form n bytes p is in_form are =
     let place : slice_index bytes 8 ≡ place_code p.place = sym (PieceLemmas.byte-is bytes 8) ∙ are.place in
-    sym (pre_at-parts form n bytes p.key.cycle p.key.zero p.place p.speed p.throttle p.brake p.belt p.lamp
+    sym (pre_at-parts form n bytes p.key.cycle p.key.zero p.place p.profile p.speed p.throttle p.brake p.belt p.lamp
     (numbers-slots form n bytes p in_form are)
     (sym are.cycle)
     (sym are.zero_tick)
     (place-back p.place (slice_index bytes 8) (number_at bytes 10 2) place are.after)
+    (sym (ap (profile_from form) (numbers-byte form n bytes p are) ∙ in_form.told))
     (sym (PieceLemmas.values-back bytes 12 2 n (unless 0xffff) (PieceLemmas.slot_code 0xffff) None p.speed is.speeds are.speed (λ k below. PieceLemmas.slot-back 300 0xffff (omega arith) (get_or p.speed k None) (is.speed k None (let h = is.speeds in omega arith)))))
     (sym (PieceLemmas.values-back bytes (throttle_at form) 1 n (unless 0xff) (PieceLemmas.slot_code 0xff) None p.throttle is.throttles are.throttle (λ k below. PieceLemmas.slot-back 100 0xff (omega arith) (get_or p.throttle k None) (is.throttle k None (let h = is.throttles in omega arith)))))
     (sym (PieceLemmas.values-back bytes (brake_at form) 1 n switch_from switch_byte None p.brake is.brakes are.brake (λ k below. PieceLemmas.switch-back (get_or p.brake k None))))
@@ -298,7 +301,7 @@ place_bytes-of profile place byte = subst (λ (xs : List ℕ). PieceLemmas.AreBy
     (PieceLemmas.bytes-append (PieceLemmas.bytes-number 1 (place_code place)) (PieceLemmas.bytes-append (PieceLemmas.bytes-number 1 profile) (PieceLemmas.bytes-number 2 (after_code place))))
 
 -- how many bytes a pre part has
-pub pre_bytes-of : (form : PreForm) (n : ℕ) (p : PrePart) → IsPreOf n p → IsProfile form n → PieceLemmas.AreBytesOf (pre_size form) (pre_bytes_by form p)
+pub pre_bytes-of : (form : PreForm) (n : ℕ) (p : PrePart) → IsPreOf n p → IsProfile form n p.profile → PieceLemmas.AreBytesOf (pre_size form) (pre_bytes_by form p)
 unfolding pre_bytes_by
 pre_bytes-of form n p is in_form =
     let fits = in_form.fits in
@@ -311,13 +314,13 @@ pre_bytes-of form n p is in_form =
     let switches : PieceLemmas.AreBytesOf (1 + (1 + form.zeros)) (switch_byte p.belt ∷ switch_byte p.lamp ∷ replicate form.zeros 0) =
     PieceLemmas.bytes-append (PieceLemmas.bytes-switch p.belt) (PieceLemmas.bytes-append (PieceLemmas.bytes-switch p.lamp) (PieceLemmas.bytes-zeros form.zeros)) in
     let all = PieceLemmas.bytes-append (PieceLemmas.bytes-append (PieceLemmas.bytes-append (PieceLemmas.bytes-append (PieceLemmas.bytes-append (PieceLemmas.bytes-append (PieceLemmas.bytes-append (PieceLemmas.bytes-append (PieceLemmas.bytes-append
-    (PieceLemmas.bytes-number 4 p.key.cycle) (PieceLemmas.bytes-number 4 p.key.zero)) (place_bytes-of (profile_of form n) p.place in_form.byte)) speeds) (PieceLemmas.bytes-zeros (2 * rest))) throttles) (PieceLemmas.bytes-zeros rest)) brakes)
+    (PieceLemmas.bytes-number 4 p.key.cycle) (PieceLemmas.bytes-number 4 p.key.zero)) (place_bytes-of (profile_byte form p.profile) p.place in_form.byte)) speeds) (PieceLemmas.bytes-zeros (2 * rest))) throttles) (PieceLemmas.bytes-zeros rest)) brakes)
     (PieceLemmas.bytes-zeros rest)) switches in
     let size : 4 + 4 + 4 + 2 * n + 2 * rest + 1 * n + rest + 1 * n + rest + (1 + (1 + form.zeros)) ≡ pre_size form = omega arith in
     subst (λ (m : ℕ). PieceLemmas.AreBytesOf (pre_size form) (pre_bytes_with form m p)) (sym is.speeds) (record { long = all.long ∙ size; small = all.small })
 
 -- what is read from the bytes of a pre part is this part
-pub pre-read_back : (form : PreForm) (n : ℕ) (p : PrePart) → IsPreOf n p → IsProfile form n
+pub pre-read_back : (form : PreForm) (n : ℕ) (p : PrePart) → IsPreOf n p → IsProfile form n p.profile
     → (length (pre_bytes_by form p) ≡ pre_size form) × (pre_damage_by form (pre_bytes_by form p) 0 ≡ None) × (pre_at_by form (pre_bytes_by form p) 0 ≡ p)
 unfolding pre_damage_by
 pre-read_back form n p is in_form =

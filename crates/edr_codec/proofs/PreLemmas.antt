@@ -6,12 +6,16 @@ use Rattle.std.proofs.lemmas.Bool.{cases_Bool}
 use Rattle.std.proofs.lemmas.List.Elements.{All-map, All-from_get_or}
 use Rattle.std.proofs.lemmas.List.FromFn.{length-map-range_with_len, get_or-map-range_with_len}
 use Rattle.std.proofs.lemmas.Simd.{map-map}
-use Rattle.edr_record.specs.Bounds.{IsPre, IsPreOf, IsPlace, IsUpTo}
+use Rattle.edr_record.specs.Bounds.{IsPre, IsPreOf, IsPlace, IsUpTo, slots_in}
+use Rattle.edr_record.specs.Fields.{profile_of_slots, speed_of, throttle_of, brake_of, slots_with}
 use Rattle.edr_record.specs.Parts.{PrePart}
 use Rattle.edr_record.specs.declared.Place.{Place}
 use Rattle.edr_record.specs.declared.Place.TheVariants.{First, Second}
+use Rattle.edr_record.specs.declared.Profile.{Profile}
+use Rattle.edr_record.specs.declared.Profile.TheVariants.{Short, Long}
+use Rattle.edr_record.specs.declared.Slots.{Slots}
 use Rattle.edr_image.specs.declared.forms.PreForm.{PreForm}
-use Rattle.edr_image.specs.PartBytes.{Field, damage_of_fields, slots_of, profile_of, throttle_at, brake_at, belt_at, lamp_at, end_at, IsPreForm, IsShort, IsPreBy, pre_fields_by, pre_damage_by, pre_at_by, number_at, numbers_at, unless, switch_from, switch_field}
+use Rattle.edr_image.specs.PartBytes.{Field, damage_of_fields, slots_of, profile_from, profile_byte, throttle_at, brake_at, belt_at, lamp_at, end_at, IsPreForm, HasProfile, HasSlots, IsPreBy, pre_fields_by, pre_damage_by, pre_at_by, number_at, numbers_at, unless, switch_from, switch_field}
 use Rattle.edr_codec.specs.declared.rows.Row.{Row}
 use Rattle.edr_codec.specs.Rows.{fields_of}
 use Rattle.edr_codec.proofs.RowLemmas.{Lies, RowsLie, rows-lie}
@@ -194,65 +198,67 @@ values-many bytes at size n value =
     let number = λ (k : ℕ). number_at bytes (at + size * k) size in
     ap length (map-map value number (range_with_len 0 n)) ∙ length-map-range_with_len (λ (k : ℕ). value (number k)) 0 n
 
--- a profile of the form has n slots, and is the one that a part with n slots gets
-pub record IsProfile (form : PreForm) (n : ℕ) : Type 0 where
+-- parts of a profile of the form have n slots in each list, and are told by their profile byte
+pub record IsProfile (form : PreForm) (n : ℕ) (profile : Profile) : Type 0 where
   pub fits : n ≤ form.room
-  pub from : form.profiles.0 ≤ profile_of form n
-  pub to : profile_of form n ≤ form.profiles.1
-  pub byte : profile_of form n < 256
-  pub back : slots_of form (profile_of form n) ≡ n
+  pub from : form.profiles.0 ≤ profile_byte form profile
+  pub to : profile_byte form profile ≤ form.profiles.1
+  pub byte : profile_byte form profile < 256
+  pub back : slots_of form (profile_byte form profile) ≡ n
+  pub told : HasProfile form profile
 
 -- the profile of bytes
-pub profile-is : (form : PreForm) (profile : ℕ) → IsPreForm form → form.profiles.0 ≤ profile → profile ≤ form.profiles.1 → IsProfile form (slots_of form profile)
+pub profile-is : (form : PreForm) (profile : ℕ) → IsPreForm form → form.profiles.0 ≤ profile → profile ≤ form.profiles.1 → IsProfile form (slots_of form profile) (profile_from form profile)
 profile-is form profile is low high =
-    let told = is.told profile low high in
+    let told : profile_byte form (profile_from form profile) ≡ profile = is.told profile low high in
     let top = is.byte in
     record {
       fits = is.room profile;
-      from = rw told low;
-      to = rw told high;
-      byte = rw told (omega arith);
+      from = subst (λ (b : ℕ). form.profiles.0 ≤ b) (sym told) low;
+      to = subst (λ (b : ℕ). b ≤ form.profiles.1) (sym told) high;
+      byte = subst (λ (b : ℕ). b < 256) (sym told) (omega arith);
       back = ap (slots_of form) told;
+      told = ap (profile_from form) told;
     }
 
--- that of a form with eleven slots in each profile
-pub short-profile : (form : PreForm) → IsPreForm form → IsShort form → IsProfile form 11
-short-profile form is short =
-    let low = form.profiles.0 in
-    let least : low ≤ low = omega arith in
-    subst (λ (n : ℕ). IsProfile form n) (short low least is.order) (profile-is form low is least is.order)
+byte-from : (form : PreForm) (profile : Profile) → IsPreForm form → form.profiles.0 ≤ profile_byte form profile
+byte-from form Short is = omega arith
+byte-from form Long is = is.order
+
+byte-to : (form : PreForm) (profile : Profile) → IsPreForm form → profile_byte form profile ≤ form.profiles.1
+byte-to form Short is = is.order
+byte-to form Long is = omega arith
+
+-- a profile by its byte
+pub profile-has : (form : PreForm) (profile : Profile) → IsPreForm form → HasProfile form profile → IsProfile form (slots_of form (profile_byte form profile)) profile
+profile-has form profile is has =
+    subst (λ (p : Profile). IsProfile form (slots_of form (profile_byte form profile)) p) has
+    (profile-is form (profile_byte form profile) is (byte-from form profile is) (byte-to form profile is))
 
 -- parts with the slots of a profile
-pub profile-by : (form : PreForm) (p : PrePart) → IsPreForm form → IsPreBy form p → IsProfile form (length p.speed)
-profile-by form p is by =
-    let top = is.byte in
-    let last = by.to in
-    record {
-      fits = subst (λ (n : ℕ). n ≤ form.room) by.slots (is.room (profile_of form (length p.speed)));
-      from = by.from;
-      to = by.to;
-      byte = omega arith;
-      back = by.slots;
-    }
+pub profile-by : (form : PreForm) (p : PrePart) → IsPreForm form → IsPreBy form p → IsProfile form (slots_of form (profile_byte form p.profile)) p.profile
+profile-by form p is by = profile-has form p.profile is by.profile
 
-pub by-profile : (form : PreForm) (n : ℕ) (p : PrePart) → IsProfile form n → IsPreOf n p → IsPreBy form p
-by-profile form n p in_form bounds =
-    let many = sym bounds.speeds in
-    record {
-      bounds = subst (λ (m : ℕ). IsPreOf m p) many bounds;
-      from = subst (λ (m : ℕ). form.profiles.0 ≤ profile_of form m) many in_form.from;
-      to = subst (λ (m : ℕ). profile_of form m ≤ form.profiles.1) many in_form.to;
-      slots = subst (λ (m : ℕ). slots_of form (profile_of form m) ≡ m) many in_form.back;
-    }
+pub by-profile : (form : PreForm) (n : ℕ) (p : PrePart) → IsProfile form n p.profile → IsPreOf n p → IsPreBy form p
+by-profile form n p in_form bounds = record {
+  profile = in_form.told;
+  bounds = subst (λ (m : ℕ). IsPreOf m p) (sym in_form.back) bounds;
+}
 
--- where each profile has eleven slots, these are the parts of records
-pub short-by : (form : PreForm) (p : PrePart) → IsPreForm form → IsShort form → IsPre p → IsPreBy form p
-short-by form p is short bounds = by-profile form 11 p (short-profile form is short) bounds
+-- where each profile byte has the slots of its profile, these are the parts of records
+pub record-slots : (form : PreForm) (profile : Profile) → IsPreForm form → HasSlots form → HasProfile form profile → slots_of form (profile_byte form profile) ≡ slots_in profile
+record-slots form profile is slots has =
+    slots (profile_byte form profile) (byte-from form profile is) (byte-to form profile is) ∙ ap slots_in has
 
-pub by-short : (form : PreForm) (p : PrePart) → IsShort form → IsPreBy form p → IsPre p
-by-short form p short by =
-    let n = profile_of form (length p.speed) in
-    subst (λ (m : ℕ). IsPreOf m p) (sym by.slots ∙ short n by.from by.to) by.bounds
+pub record-profile : (form : PreForm) (profile : Profile) → IsPreForm form → HasSlots form → HasProfile form profile → IsProfile form (slots_in profile) profile
+record-profile form profile is slots has =
+    subst (λ (n : ℕ). IsProfile form n profile) (record-slots form profile is slots has) (profile-has form profile is has)
+
+pub record-by : (form : PreForm) (p : PrePart) → IsPreForm form → HasSlots form → IsPre p → HasProfile form p.profile → IsPreBy form p
+record-by form p is slots bounds has = by-profile form (slots_in p.profile) p (record-profile form p.profile is slots has) bounds
+
+pub by-record : (form : PreForm) (p : PrePart) → IsPreForm form → HasSlots form → IsPreBy form p → IsPre p
+by-record form p is slots by = subst (λ (m : ℕ). IsPreOf m p) (record-slots form p.profile is slots by.profile) by.bounds
 
 place-from : (is_first : Bool) (after : ℕ) → Lies (after_range is_first ∷ []) after → IsPlace (if is_first then First else Second after)
 place-from true after lies = tt
@@ -294,28 +300,29 @@ pre_at-is form bytes is whole =
     }
 
 -- a part by its fields
-abbrev pub part : ℕ → ℕ → Place → List (Option ℕ) → List (Option ℕ) → List (Option Bool) → Option Bool → Option Bool → PrePart
-part cycle zero_tick place speed throttle brake belt lamp =
-    record { key = record { cycle = cycle; zero = zero_tick }; place = place; speed = speed; throttle = throttle; brake = brake; belt = belt; lamp = lamp }
+abbrev pub part : ℕ → ℕ → Place → Profile → List (Option ℕ) → List (Option ℕ) → List (Option Bool) → Option Bool → Option Bool → PrePart
+part cycle zero_tick place profile speed throttle brake belt lamp =
+    record { key = record { cycle = cycle; zero = zero_tick }; place = place; profile = profile; speed = speed; throttle = throttle; brake = brake; belt = belt; lamp = lamp }
 
-pub part-same : (c c' z z' : ℕ) (p p' : Place) (s s' t t' : List (Option ℕ)) (b b' : List (Option Bool)) (belt belt' lamp lamp' : Option Bool)
-    → c ≡ c' → z ≡ z' → p ≡ p' → s ≡ s' → t ≡ t' → b ≡ b' → belt ≡ belt' → lamp ≡ lamp' → part c z p s t b belt lamp ≡ part c' z' p' s' t' b' belt' lamp'
-part-same c c' z z' p p' s s' t t' b b' belt belt' lamp lamp' e1 e2 e3 e4 e5 e6 e7 e8 = cc
+pub part-same : (c c' z z' : ℕ) (p p' : Place) (f f' : Profile) (s s' t t' : List (Option ℕ)) (b b' : List (Option Bool)) (belt belt' lamp lamp' : Option Bool)
+    → c ≡ c' → z ≡ z' → p ≡ p' → f ≡ f' → s ≡ s' → t ≡ t' → b ≡ b' → belt ≡ belt' → lamp ≡ lamp' → part c z p f s t b belt lamp ≡ part c' z' p' f' s' t' b' belt' lamp'
+part-same c c' z z' p p' f f' s s' t t' b b' belt belt' lamp lamp' e1 e2 e3 e4 e5 e6 e7 e8 e9 = cc
 
 -- the values that are read, each at its place, are the pre part
-pub pre_at-parts : (form : PreForm) (n : ℕ) (bytes : List ℕ) (cycle zero_tick : ℕ) (place : Place) (speed throttle : List (Option ℕ)) (brake : List (Option Bool)) (belt lamp : Option Bool)
+pub pre_at-parts : (form : PreForm) (n : ℕ) (bytes : List ℕ) (cycle zero_tick : ℕ) (place : Place) (profile : Profile) (speed throttle : List (Option ℕ)) (brake : List (Option Bool)) (belt lamp : Option Bool)
     → slots_of form (slice_index bytes 9) ≡ n
     → cycle ≡ number_at bytes 0 4
     → zero_tick ≡ number_at bytes 4 4
     → place ≡ (if nat_eq (slice_index bytes 8) 1 then First else Second (number_at bytes 10 2))
+    → profile ≡ profile_from form (slice_index bytes 9)
     → speed ≡ map (unless 0xffff) (numbers_at bytes 12 2 n)
     → throttle ≡ map (unless 0xff) (numbers_at bytes (throttle_at form) 1 n)
     → brake ≡ map switch_from (numbers_at bytes (brake_at form) 1 n)
     → belt ≡ switch_from (number_at bytes (belt_at form) 1)
     → lamp ≡ switch_from (number_at bytes (lamp_at form) 1)
-    → record { key = record { cycle = cycle; zero = zero_tick }; place = place; speed = speed; throttle = throttle; brake = brake; belt = belt; lamp = lamp } ≡ pre_at_by form bytes 0
+    → part cycle zero_tick place profile speed throttle brake belt lamp ≡ pre_at_by form bytes 0
 unfolding pre_at_by
-pre_at-parts form n bytes cycle zero_tick place speed throttle brake belt lamp many e1 e2 e3 e4 e5 e6 e7 e8 =
+pre_at-parts form n bytes cycle zero_tick place profile speed throttle brake belt lamp many e1 e2 e3 told e4 e5 e6 e7 e8 =
     let m = slots_of form (slice_index bytes 9) in
     let from = λ (i : ℕ). (let e : i ≡ 0 + i = omega arith in e) in
     let some = sym many in
@@ -327,21 +334,77 @@ pre_at-parts form n bytes cycle zero_tick place speed throttle brake belt lamp m
     let belt_is : belt ≡ switch_from (slice_index bytes (0 + belt_at form)) = e7 ∙ ap switch_from (one_byte bytes (belt_at form)) ∙ ap (λ (i : ℕ). switch_from (slice_index bytes i)) (from (belt_at form)) in
     let lamp_is : lamp ≡ switch_from (slice_index bytes (0 + lamp_at form)) = e8 ∙ ap switch_from (one_byte bytes (lamp_at form)) ∙ ap (λ (i : ℕ). switch_from (slice_index bytes i)) (from (lamp_at form)) in
     part-same cycle (number_at bytes 0 4) zero_tick (number_at bytes 4 4) place (if nat_eq (slice_index bytes 8) 1 then First else Second (number_at bytes 10 2))
-    speed (map (unless 0xffff) (numbers_at bytes 12 2 m)) throttle (map (unless 0xff) (numbers_at bytes (0 + throttle_at form) 1 m)) brake (map switch_from (numbers_at bytes (0 + brake_at form) 1 m))
-    belt (switch_from (slice_index bytes (0 + belt_at form))) lamp (switch_from (slice_index bytes (0 + lamp_at form))) e1 e2 e3 speeds throttles brakes belt_is lamp_is
+    profile (profile_from form (slice_index bytes 9)) speed (map (unless 0xffff) (numbers_at bytes 12 2 m)) throttle (map (unless 0xff) (numbers_at bytes (0 + throttle_at form) 1 m)) brake (map switch_from (numbers_at bytes (0 + brake_at form) 1 m))
+    belt (switch_from (slice_index bytes (0 + belt_at form))) lamp (switch_from (slice_index bytes (0 + lamp_at form))) e1 e2 e3 told speeds throttles brakes belt_is lamp_is
 
 -- the part of n slots in each list that bytes say, each value at its place
 abbrev pub read_part : PreForm → ℕ → List ℕ → PrePart
 read_part form n bytes =
-    part (number_at bytes 0 4) (number_at bytes 4 4) (if nat_eq (slice_index bytes 8) 1 then First else Second (number_at bytes 10 2))
+    part (number_at bytes 0 4) (number_at bytes 4 4) (if nat_eq (slice_index bytes 8) 1 then First else Second (number_at bytes 10 2)) (profile_from form (slice_index bytes 9))
     (map (unless 0xffff) (numbers_at bytes 12 2 n)) (map (unless 0xff) (numbers_at bytes (throttle_at form) 1 n)) (map switch_from (numbers_at bytes (brake_at form) 1 n))
     (switch_from (slice_index bytes (belt_at form))) (switch_from (slice_index bytes (lamp_at form)))
 
 pub read_part-is : (form : PreForm) (bytes : List ℕ) → read_part form (slots_of form (slice_index bytes 9)) bytes ≡ pre_at_by form bytes 0
 read_part-is form bytes =
     let n = slots_of form (slice_index bytes 9) in
-    pre_at-parts form n bytes (number_at bytes 0 4) (number_at bytes 4 4) (if nat_eq (slice_index bytes 8) 1 then First else Second (number_at bytes 10 2))
+    pre_at-parts form n bytes (number_at bytes 0 4) (number_at bytes 4 4) (if nat_eq (slice_index bytes 8) 1 then First else Second (number_at bytes 10 2)) (profile_from form (slice_index bytes 9))
     (map (unless 0xffff) (numbers_at bytes 12 2 n)) (map (unless 0xff) (numbers_at bytes (throttle_at form) 1 n)) (map switch_from (numbers_at bytes (brake_at form) 1 n))
     (switch_from (slice_index bytes (belt_at form))) (switch_from (slice_index bytes (lamp_at form)))
-    refl refl refl refl refl refl refl
+    refl refl refl refl refl refl refl refl
     (ap switch_from (sym (one_byte bytes (belt_at form)))) (ap switch_from (sym (one_byte bytes (lamp_at form))))
+
+-- ---- the lists of a part, as the code has them
+
+-- what slots with some lists say
+pub profile-with : (profile : Profile) (speed throttle : List (Option ℕ)) (brake : List (Option Bool)) → profile_of_slots (slots_with profile speed throttle brake) ≡ profile
+profile-with Short speed throttle brake = refl
+profile-with Long speed throttle brake = refl
+
+pub speed-with : (profile : Profile) (speed throttle : List (Option ℕ)) (brake : List (Option Bool)) → speed_of (slots_with profile speed throttle brake) ≡ speed
+speed-with Short speed throttle brake = refl
+speed-with Long speed throttle brake = refl
+
+pub throttle-with : (profile : Profile) (speed throttle : List (Option ℕ)) (brake : List (Option Bool)) → throttle_of (slots_with profile speed throttle brake) ≡ throttle
+throttle-with Short speed throttle brake = refl
+throttle-with Long speed throttle brake = refl
+
+pub brake-with : (profile : Profile) (speed throttle : List (Option ℕ)) (brake : List (Option Bool)) → brake_of (slots_with profile speed throttle brake) ≡ brake
+brake-with Short speed throttle brake = refl
+brake-with Long speed throttle brake = refl
+
+-- the lists that are read, each at its place, are those of the pre part
+pub slots-read : (form : PreForm) (bytes : List ℕ) (profile : Profile) (speed throttle : List (Option ℕ)) (brake : List (Option Bool))
+    → slots_of form (slice_index bytes 9) ≡ slots_in (profile_from form (slice_index bytes 9))
+    → profile ≡ profile_from form (slice_index bytes 9)
+    → speed ≡ map (unless 0xffff) (numbers_at bytes 12 2 (slots_in profile))
+    → throttle ≡ map (unless 0xff) (numbers_at bytes (throttle_at form) 1 (slots_in profile))
+    → brake ≡ map switch_from (numbers_at bytes (brake_at form) 1 (slots_in profile))
+    → (let p = pre_at_by form bytes 0 in slots_with profile speed throttle brake ≡ slots_with p.profile p.speed p.throttle p.brake)
+slots-read form bytes profile speed throttle brake many told e1 e2 e3 =
+    ap (λ (p : PrePart). slots_with p.profile p.speed p.throttle p.brake)
+    (pre_at-parts form (slots_in profile) bytes (number_at bytes 0 4) (number_at bytes 4 4) (if nat_eq (slice_index bytes 8) 1 then First else Second (number_at bytes 10 2)) profile speed throttle brake
+    (switch_from (number_at bytes (belt_at form) 1)) (switch_from (number_at bytes (lamp_at form) 1))
+    (many ∙ ap slots_in (sym told)) refl refl refl told e1 e2 e3 refl refl)
+
+-- with them, the other values that are read are the pre part
+pub pre-read : (form : PreForm) (bytes : List ℕ) (cycle zero_tick : ℕ) (place : Place) (slots : Slots) (belt lamp : Option Bool)
+    → cycle ≡ number_at bytes 0 4
+    → zero_tick ≡ number_at bytes 4 4
+    → place ≡ (if nat_eq (slice_index bytes 8) 1 then First else Second (number_at bytes 10 2))
+    → (let p = pre_at_by form bytes 0 in slots ≡ slots_with p.profile p.speed p.throttle p.brake)
+    → belt ≡ switch_from (number_at bytes (belt_at form) 1)
+    → lamp ≡ switch_from (number_at bytes (lamp_at form) 1)
+    → part cycle zero_tick place (profile_of_slots slots) (speed_of slots) (throttle_of slots) (brake_of slots) belt lamp ≡ pre_at_by form bytes 0
+pre-read form bytes cycle zero_tick place slots belt lamp e1 e2 e3 lists e4 e5 =
+    let p = pre_at_by form bytes 0 in
+    let read = read_part-is form bytes in
+    part-same cycle p.key.cycle zero_tick p.key.zero place p.place (profile_of_slots slots) p.profile (speed_of slots) p.speed (throttle_of slots) p.throttle (brake_of slots) p.brake belt p.belt lamp p.lamp
+    (e1 ∙ ap (λ (q : PrePart). q.key.cycle) read)
+    (e2 ∙ ap (λ (q : PrePart). q.key.zero) read)
+    (e3 ∙ ap (λ (q : PrePart). q.place) read)
+    (ap profile_of_slots lists ∙ profile-with p.profile p.speed p.throttle p.brake)
+    (ap speed_of lists ∙ speed-with p.profile p.speed p.throttle p.brake)
+    (ap throttle_of lists ∙ throttle-with p.profile p.speed p.throttle p.brake)
+    (ap brake_of lists ∙ brake-with p.profile p.speed p.throttle p.brake)
+    (e4 ∙ ap switch_from (one_byte bytes (belt_at form)) ∙ ap (λ (q : PrePart). q.belt) read)
+    (e5 ∙ ap switch_from (one_byte bytes (lamp_at form)) ∙ ap (λ (q : PrePart). q.lamp) read)

@@ -8,7 +8,7 @@ use Rattle.edr_record.specs.Bounds.{IsCrash, IsPreOf}
 use Rattle.edr_record.specs.Parts.{PrePart, CrashPart}
 use Rattle.edr_image.specs.declared.forms.CrashForm.{CrashForm}
 use Rattle.edr_image.specs.declared.forms.PreForm.{PreForm}
-use Rattle.edr_image.specs.PartBytes.{pre_size, profile_of, throttle_at, brake_at, belt_at, lamp_at, end_at, pre_bytes_by, pre_bytes_with, crash_bytes_by, place_bytes, slot_bytes, switch_byte, signed_bytes, extreme_bytes, crash_size}
+use Rattle.edr_image.specs.PartBytes.{pre_size, profile_byte, throttle_at, brake_at, belt_at, lamp_at, end_at, pre_bytes_by, pre_bytes_with, crash_bytes_by, place_bytes, slot_bytes, switch_byte, signed_bytes, extreme_bytes, crash_size}
 
 -- pieces one behind the other, as they are put
 joined : (a b c d e f g h i : List ℕ) (x y : ℕ) (z : List ℕ)
@@ -18,7 +18,7 @@ joined a b c d e f g h i x y z = simp append_assoc
 pub pre-put : (form : PreForm) (n : ℕ) (p : PrePart) (o1 o2 o3 o4 o5 o6 o7 o8 o9 o10 o11 o12 : List ℕ) → IsPreOf n p → n ≤ form.room → length o12 ≡ pre_size form
     → take 4 o1 ≡ big_bytes 4 p.key.cycle
     → take 8 o2 ≡ take 4 o1 ++ big_bytes 4 p.key.zero
-    → take 12 o3 ≡ take 8 o2 ++ place_bytes (profile_of form n) p.place
+    → take 12 o3 ≡ take 8 o2 ++ place_bytes (profile_byte form p.profile) p.place
     → take (12 + 2 * n) o4 ≡ take 12 o3 ++ flat_map (slot_bytes 2) p.speed
     → take (throttle_at form) o5 ≡ take (12 + 2 * n) o4 ++ replicate (2 * (form.room - n)) 0
     → take (throttle_at form + n) o6 ≡ take (throttle_at form) o5 ++ flat_map (slot_bytes 1) p.throttle
@@ -35,7 +35,7 @@ pre-put form n p o1 o2 o3 o4 o5 o6 o7 o8 o9 o10 o11 o12 is fits long e1 e2 e3 e4
     let whole : o12 ≡ take (pre_size form) o12 = sym (take_all (pre_size form) o12 (omega arith)) in
     subst (λ (m : ℕ). o12 ≡ pre_bytes_with form m p) (sym is.speeds)
     (whole ∙ rw (e12, e11, e10, e9, e8, e7, e6, e5, e4, e3, e2, e1, brakes) refl
-    ∙ joined (big_bytes 4 p.key.cycle) (big_bytes 4 p.key.zero) (place_bytes (profile_of form n) p.place) (flat_map (slot_bytes 2) p.speed) (replicate (2 * (form.room - n)) 0)
+    ∙ joined (big_bytes 4 p.key.cycle) (big_bytes 4 p.key.zero) (place_bytes (profile_byte form p.profile) p.place) (flat_map (slot_bytes 2) p.speed) (replicate (2 * (form.room - n)) 0)
     (flat_map (slot_bytes 1) p.throttle) (replicate (form.room - n) 0) (map switch_byte p.brake) (replicate (form.room - n) 0) (switch_byte p.belt) (switch_byte p.lamp) (replicate form.zeros 0))
 
 pub crash-put : (form : CrashForm) (c : CrashPart) (o1 o2 o3 o4 o5 o6 o7 o8 o9 o10 : List ℕ) → IsCrash c → length o10 ≡ crash_size form

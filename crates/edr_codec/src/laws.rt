@@ -2,27 +2,35 @@
 
 ghost use Rattle.std.specs.Prelude.{◌≡◌, ◌↔◌, ◌<◌, ◌+◌, ℕ, List, Some, None, length, All, option_map, slice_index, slice_range};
 ghost use Rattle.edr_record.specs.Parts.{PrePart, CrashPart};
+ghost use Rattle.edr_record.specs.declared.Profile.{Profile};
+ghost use Rattle.edr_record.specs.declared.Profile.TheVariants.{Short};
 ghost use Rattle.edr_record.specs.Bounds.{IsPre, IsCrash};
 ghost use Rattle.edr_image.specs.declared.forms.CrashForm.{CrashForm};
 ghost use Rattle.edr_image.specs.declared.forms.PreForm.{PreForm};
 ghost use Rattle.edr_image.specs.declared.forms.TheConstants.{VERSION_1, VERSION_2};
-ghost use Rattle.edr_image.specs.PartBytes.{pre_size, IsPreForm, IsShort, IsPreBy, pre_damage_by, pre_at_by, pre_bytes_by, BeginsPreBy, crash_size, crash_damage_by, crash_at, crash_bytes_by, BeginsCrashBy, IsDamagedAt};
+ghost use Rattle.edr_image.specs.PartBytes.{pre_size, IsPreForm, HasProfile, HasSlots, IsPreBy, pre_damage_by, pre_at_by, pre_bytes_by, BeginsPreBy, crash_size, crash_damage_by, crash_at, crash_bytes_by, BeginsCrashBy, IsDamagedAt};
 
-/// Version 1 has a form in which parts can be told, with the slots of a record.
+/// Version 1 has a form in which parts can be told, with the slots of a record. Each part is short.
 pub fn version_1_has_a_form()
     ensures form { IsPreForm VERSION_1.pre }
-    ensures short { IsShort VERSION_1.pre }
+    ensures slots { HasSlots VERSION_1.pre }
+    ensures profile { (p : Profile) → HasProfile VERSION_1.pre p ↔ (p ≡ Short) }
 {}
 
-/// So has version 2.
+/// So has version 2, with both profiles.
 pub fn version_2_has_a_form()
     ensures form { IsPreForm VERSION_2.pre }
-    ensures short { IsShort VERSION_2.pre }
+    ensures slots { HasSlots VERSION_2.pre }
+    ensures profiles { (p : Profile) → HasProfile VERSION_2.pre p }
 {}
 
-/// Where each profile has as many slots as a record, the parts of the form are those of records.
-pub fn short_parts_are_of_records()
-    ensures { (form : PreForm) → IsPreForm form → IsShort form → (p : PrePart) → IsPreBy form p ↔ IsPre p }
+/// Where each profile byte has as many slots as a record of its profile, the parts of the form are those of the records of
+/// its profiles: in version 1 of the short records, in version 2 of all.
+pub fn parts_are_of_records()
+    ensures any { (form : PreForm) → IsPreForm form → HasSlots form → (p : PrePart)
+        → IsPreBy form p ↔ (IsPre p × HasProfile form p.profile) }
+    ensures version_1 { (p : PrePart) → IsPreBy VERSION_1.pre p ↔ (IsPre p × (p.profile ≡ Short)) }
+    ensures version_2 { (p : PrePart) → IsPreBy VERSION_2.pre p ↔ IsPre p }
 {}
 
 /// In each form: the bytes of a pre part in its bounds are as many as the form has, they are whole, and they say this part.

@@ -1,11 +1,11 @@
-//! The pre part: twelve bytes, three lists with room for as many slots as its form says, two switches, and the bytes of 0
-//! that its form has behind them.
+//! The pre part: twelve bytes, three lists with room for as many slots as its form says, of which its profile uses the first
+//! ones, two switches, and the bytes of 0 that its form has behind them.
 
 ghost use Rattle.std.specs.Prelude.{◌≡◌, ◌+◌, ◌^◌, ◌<◌, ◌≤◌, ◌++◌, None, Some, IfOk, IfErr, OnOk, All, length, take, slice_index, sum_by, nat_eq, if◌then◌else◌};
 ghost use Rattle.std.specs.List.{flat_map};
-ghost use Rattle.edr_record.specs.declared.TheConstants.{SHORT_SLOTS};
-ghost use Rattle.edr_record.specs.Bounds.{IsPre};
-ghost use Rattle.edr_image.specs.PartBytes.{pre_size, slots_of, profile_of, throttle_at, brake_at, belt_at, lamp_at, end_at, IsPreForm, IsShort, pre_fields_by, pre_damage, pre_damage_by, pre_at, pre_at_by, pre_bytes, pre_bytes_by, old_pre_at, old_pre_damage, place_bytes, number_at};
+ghost use Rattle.edr_record.specs.Bounds.{IsPre, slots_in};
+ghost use Rattle.edr_record.specs.Fields.{slots_with};
+ghost use Rattle.edr_image.specs.PartBytes.{pre_size, slots_of, profile_byte, profile_from, throttle_at, brake_at, belt_at, lamp_at, end_at, IsPreForm, HasSlots, pre_fields_by, pre_damage, pre_damage_by, pre_at, pre_at_by, pre_bytes, pre_bytes_by, old_pre_at, old_pre_damage, place_bytes, number_at};
 ghost use Rattle.edr_codec.specs.Rows.{fields_of, row_size};
 
 use crate::Damaged;
@@ -13,7 +13,7 @@ use crate::pieces::{Piece, put_all, put_bytes, put_zeros, read_all};
 use crate::rows::{Row, check_rows};
 use byteorder::{BigEndian, ByteOrder};
 use edr_image::forms::{PreForm, VERSION_1, VERSION_2};
-use edr_record::{Key, Place, Pre};
+use edr_record::{Key, Place, Pre, Profile, Slots};
 
 // Where the speeds begin.
 const SPEED: usize = 12;
@@ -29,14 +29,24 @@ fn slots_of(form: &PreForm, profile: u8) -> usize
     }
 }
 
-// The profile byte of a part with this many slots in each list.
-fn profile_of(form: &PreForm, slots: usize) -> u8
-    ensures { result ≡ profile_of form.now slots }
+// The profile of a part with this profile byte.
+fn profile_from(form: &PreForm, profile: u8) -> Profile
+    ensures { result ≡ profile_from form.now profile }
 {
-    if slots == form.slots.0 {
-        form.profiles.0
+    if profile == form.profiles.0 {
+        Profile::Short
     } else {
-        form.profiles.1
+        Profile::Long
+    }
+}
+
+// The profile byte of a part of this profile.
+fn profile_byte(form: &PreForm, profile: Profile) -> u8
+    ensures { result ≡ profile_byte form.now profile }
+{
+    match profile {
+        Profile::Short => form.profiles.0,
+        Profile::Long => form.profiles.1,
     }
 }
 
@@ -141,33 +151,57 @@ fn put_place(place: Place, profile: u8, out: &mut [u8], at: usize)
 // Writes the bytes that spell a pre part, whatever stood there before.
 #[tactic(auto, unfolding(edr_image::specs::PartBytes::pre_bytes_by))]
 fn put_pre_by(pre: &Pre, out: &mut [u8], form: &PreForm)
-    requires fits { SHORT_SLOTS ≤ form.now.room }
+    requires fits { slots_in pre.now.profile ≤ form.now.room }
     requires few { pre_size form.now < 2 ^ 16 }
     requires long { length out.old ≡ pre_size form.now }
     ensures { out.new ≡ pre_bytes_by form.now pre.now }
 {
-    let slots = pre.speed.len();
-    let rest = form.room - slots;
     pre.key.cycle.put_at(out, 0);
     pre.key.zero.put_at(out, 4);
-    put_place(pre.place, profile_of(form, slots), out, 8);
-    put_all(&pre.speed, out, SPEED);
+    let slots = pre.speed().len();
+    let rest = form.room - slots;
+    put_place(pre.place, profile_byte(form, pre.profile()), out, 8);
+    put_all(pre.speed(), out, SPEED);
     put_zeros(out, SPEED + 2 * slots, 2 * rest);
-    put_all(&pre.throttle, out, throttle_at(form));
+    put_all(pre.throttle(), out, throttle_at(form));
     put_zeros(out, throttle_at(form) + slots, rest);
-    put_all(&pre.brake, out, brake_at(form));
+    put_all(pre.brake(), out, brake_at(form));
     put_zeros(out, brake_at(form) + slots, rest);
     pre.belt.put_at(out, belt_at(form));
     pre.lamp.put_at(out, lamp_at(form));
     put_zeros(out, end_at(form), form.zeros);
 }
 
+// The lists of the pre part that bytes say.
+#[tactic(auto, unfolding(edr_image::specs::PartBytes::pre_at_by))]
+fn slots_from(bytes: &[u8], form: &PreForm) -> Slots
+    requires few { pre_size form.now < 2 ^ 16 }
+    requires long { length bytes.now ≡ pre_size form.now }
+    requires fits { slots_of form.now (slice_index bytes.now 9) ≤ form.now.room }
+    requires slots { let b = slice_index bytes.now 9 in slots_of form.now b ≡ slots_in (profile_from form.now b) }
+    ensures { let p = pre_at_by form.now bytes.now 0 in
+        result ≡ slots_with p.profile p.speed p.throttle p.brake }
+{
+    match profile_from(form, bytes[9]) {
+        Profile::Short => Slots::Short {
+            speed: read_all(bytes, SPEED),
+            throttle: read_all(bytes, throttle_at(form)),
+            brake: read_all(bytes, brake_at(form)),
+        },
+        Profile::Long => Slots::Long {
+            speed: read_all(bytes, SPEED),
+            throttle: read_all(bytes, throttle_at(form)),
+            brake: read_all(bytes, brake_at(form)),
+        },
+    }
+}
+
 // The pre part that bytes say, whose bounds hold.
 fn pre_from(bytes: &[u8], form: &PreForm) -> Pre
     requires few { pre_size form.now < 2 ^ 16 }
     requires long { length bytes.now ≡ pre_size form.now }
-    requires fits { SHORT_SLOTS ≤ form.now.room }
-    requires slots { slots_of form.now (slice_index bytes.now 9) ≡ SHORT_SLOTS }
+    requires fits { slots_of form.now (slice_index bytes.now 9) ≤ form.now.room }
+    requires slots { let b = slice_index bytes.now 9 in slots_of form.now b ≡ slots_in (profile_from form.now b) }
     requires bounds { IsPre (pre_at_by form.now bytes.now 0) }
     ensures { result ≡ pre_at_by form.now bytes.now 0 }
 {
@@ -177,9 +211,7 @@ fn pre_from(bytes: &[u8], form: &PreForm) -> Pre
             zero: u32::read_at(bytes, 4),
         },
         place: place_from(bytes),
-        speed: read_all(bytes, SPEED),
-        throttle: read_all(bytes, throttle_at(form)),
-        brake: read_all(bytes, brake_at(form)),
+        slots: slots_from(bytes, form),
         belt: Piece::read_at(bytes, belt_at(form)),
         lamp: Piece::read_at(bytes, lamp_at(form)),
     }
@@ -201,7 +233,7 @@ fn check_pre(bytes: &[u8], form: &PreForm) -> Result<(), Damaged>
 /// The pre part that the bytes spell in a form, or else the first byte with which they begin none.
 pub fn read_pre_by(bytes: &[u8], form: &PreForm) -> Result<Pre, Damaged>
     requires form { IsPreForm form.now }
-    requires short { IsShort form.now }
+    requires slots { HasSlots form.now }
     requires few { length bytes.now < 2 ^ 16 }
     requires long { length bytes.now ≡ pre_size form.now }
     ensures read { IfOk result (λ p. p ≡ pre_at_by form.now bytes.now 0) }
