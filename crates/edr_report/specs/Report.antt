@@ -10,7 +10,7 @@ use Rattle.edr_image.specs.declared.BankView.TheVariants.{Void, Event, Damaged}
 use Rattle.edr_image.specs.declared.Found.{Found}
 use Rattle.edr_image.specs.Banks.{Store, retrieved}
 use Rattle.edr_image.specs.Reports.{Report, StartStopped, Ran}
-use Rattle.edr_report.specs.Words.{cycle_words, ack_words, bank_words, applied_words, stop_words, none_word, yes_no, number_or_none, switch_or_none, milliseconds, firing_words, shown_count, events_in_crash, time_between, spaced, points_words, extreme_words, missing_words, damage_words}
+use Rattle.edr_report.specs.Words.{cycle_words, ack_words, bank_words, applied_words, stop_words, none_word, yes_no, profile_word, number_or_none, switch_or_none, milliseconds, firing_words, shown_count, events_in_crash, time_between, spaced, points_words, extreme_words, missing_words, damage_words}
 use Rattle.edr_report.specs.Lines.{Line, line, text_of, table_of}
 
 -- ---- cycles, in block 0
@@ -35,6 +35,7 @@ pre_lines block p locked =
     ∷ line block (codes "multi-event, number of events") (events_in_crash p.place)
     ∷ line block (codes "time from event 1 to 2") (time_between p.place)
     ∷ line block (codes "deployment event") (yes_no locked)
+    ∷ line block (codes "pre-crash profile") (profile_word p.profile)
     ∷ line block (codes "speed, km/h") (spaced (map number_or_none p.speed))
     ∷ line block (codes "throttle, %") (spaced (map number_or_none p.throttle))
     ∷ line block (codes "service brake") (spaced (map switch_or_none p.brake))

@@ -5,6 +5,8 @@ use Rattle.std.specs.Option.{option_map_or}
 use Rattle.std.specs.Fmt.{signed_decimal}
 use Rattle.edr_record.specs.declared.Place.{Place}
 use Rattle.edr_record.specs.declared.Place.TheVariants.{First, Second}
+use Rattle.edr_record.specs.declared.Profile.{Profile}
+use Rattle.edr_record.specs.declared.Profile.TheVariants as profile
 use Rattle.edr_record.specs.declared.Extreme.{Extreme}
 use Rattle.edr_record.specs.Bounds.{point_count}
 use Rattle.edr_image.specs.declared.Kind.{Kind}
@@ -83,6 +85,11 @@ seconds tenths = decimal (tenths / 10) ++ codes "." ++ decimal (tenths % 10) ++ 
 abbrev pub time_between : Place → List ℕ
 time_between First = none_word
 time_between (Second after) = seconds ((after + 50) / 100)
+
+-- how far the lists of the pre part look back, and how often
+abbrev pub profile_word : Profile → List ℕ
+profile_word profile.Short = codes "short"
+profile_word profile.Long = codes "long"
 
 -- words parted by one space
 abbrev pub spaced : List (List ℕ) → List ℕ

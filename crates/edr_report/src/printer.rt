@@ -33,7 +33,7 @@ const CRASH_NAMES: [&str; 15] = [
 ];
 
 // The values of these lines.
-fn crash_values(crash: &Option<Crash>) -> [Value; 15]
+fn crash_values(crash: &Option<Crash>) -> [Value<'static>; 15]
     ensures { map value_words result ≡ crash_words crash.now }
 {
     match crash {
@@ -87,10 +87,10 @@ pub struct Printer<L: Lines> {
 
 impl<L: Lines> Printer<L> {
     // Gives a line.
-    fn put(&mut self, block: u64, name: &str, value: Value) -> Result<(), OutOfMemory>
+    fn put(&mut self, block: u64, name: &str, value: Value<'_>) -> Result<(), OutOfMemory>
         requires { L.ready self.old.lines }
         ensures ready { OnOk result (L.ready self.new.lines) }
-        ensures bytes { OnOk result (L.bytes self.new.lines ≡ L.bytes self.old.lines ++ L.form (line block name.now (value_words value))) }
+        ensures bytes { OnOk result (L.bytes self.new.lines ≡ L.bytes self.old.lines ++ L.form (line block name.now (value_words value.entry))) }
     {
         self.value.clear();
         value.put(&mut self.value)?;
@@ -99,7 +99,11 @@ impl<L: Lines> Printer<L> {
     }
 
     // Gives lines of a block.
-    fn put_all(&mut self, block: u64, entries: &[(&'static str, Value)]) -> Result<(), OutOfMemory>
+    fn put_all(
+        &mut self,
+        block: u64,
+        entries: &[(&'static str, Value<'_>)],
+    ) -> Result<(), OutOfMemory>
         requires { L.ready self.old.lines }
         ensures ready { OnOk result (L.ready self.new.lines) }
         ensures bytes { OnOk result (L.bytes self.new.lines ≡ L.bytes self.old.lines ++ flat_map L.form (map (λ e. line block e.0.now (value_words e.1)) entries.now)) }
@@ -125,9 +129,10 @@ impl<L: Lines> Printer<L> {
             ),
             ("time from event 1 to 2", Value::TimeBetween(pre.place)),
             ("deployment event", Value::YesNo(locked)),
-            ("speed, km/h", Value::Speeds(pre.speed)),
-            ("throttle, %", Value::Throttles(pre.throttle)),
-            ("service brake", Value::Switches(pre.brake)),
+            ("pre-crash profile", Value::Profile(pre.profile())),
+            ("speed, km/h", Value::Speeds(pre.speed())),
+            ("throttle, %", Value::Throttles(pre.throttle())),
+            ("service brake", Value::Switches(pre.brake())),
             ("driver belt", Value::Switch(pre.belt)),
             ("frontal air bag warning lamp", Value::Switch(pre.lamp)),
         ];
@@ -139,7 +144,7 @@ impl<L: Lines> Printer<L> {
         &mut self,
         block: u64,
         names: &[&'static str],
-        values: &[Value],
+        values: &[Value<'_>],
     ) -> Result<(), OutOfMemory>
         requires ready { L.ready self.old.lines }
         requires named { length values.now ≤ length names.now }
@@ -180,10 +185,10 @@ impl<L: Lines> Printer<L> {
     }
 
     // Gives a line of block 0 whose name stands in `self.name`.
-    fn put_named(&mut self, value: Value) -> Result<(), OutOfMemory>
+    fn put_named(&mut self, value: Value<'_>) -> Result<(), OutOfMemory>
         requires { L.ready self.old.lines }
         ensures ready { OnOk result (L.ready self.new.lines) }
-        ensures bytes { OnOk result (L.bytes self.new.lines ≡ L.bytes self.old.lines ++ L.form (line 0 (string_bytes self.old.name) (value_words value))) }
+        ensures bytes { OnOk result (L.bytes self.new.lines ≡ L.bytes self.old.lines ++ L.form (line 0 (string_bytes self.old.name) (value_words value.entry))) }
     {
         self.value.clear();
         value.put(&mut self.value)?;

@@ -3,7 +3,7 @@ ghost use Rattle.std.specs.Prelude.{◌≤◌};
 use crate::values::Value;
 use crate::{format_line, migrate_line, table, text, texts};
 use edr_image::{Ack, Applied, BankView, Choice, CycleReport, Found, Header, Kind, Log};
-use edr_record::{Crash, Extreme, Key, Place, Pre, Record};
+use edr_record::{Crash, Extreme, Key, LONG_SLOTS, Place, Pre, Record, SHORT_SLOTS, Slots};
 use std::alloc::{AllocError, Global};
 use std::process::Abort;
 use std::test::Fail;
@@ -17,9 +17,11 @@ fn before(cycle: u32, zero: u32) -> Pre
     Pre {
         key: Key { cycle, zero },
         place: Place::First,
-        speed: [Some(50); 11],
-        throttle: [Some(20); 11],
-        brake: [Some(false); 11],
+        slots: Slots::Short {
+            speed: [Some(50); SHORT_SLOTS],
+            throttle: [Some(20); SHORT_SLOTS],
+            brake: [Some(false); SHORT_SLOTS],
+        },
         belt: Some(true),
         lamp: Some(false),
     }
@@ -36,14 +38,34 @@ fn early() -> Pre {
             zero: 3000,
         },
         place: Place::First,
-        speed: [
-            None, None, None, None, None, slot, slot, slot, slot, slot, slot,
-        ],
-        throttle: [
-            None, None, None, None, None, throttle, throttle, throttle, throttle, throttle,
-            throttle,
-        ],
-        brake: [None, None, None, None, None, off, off, off, off, off, off],
+        slots: Slots::Short {
+            speed: [
+                None, None, None, None, None, slot, slot, slot, slot, slot, slot,
+            ],
+            throttle: [
+                None, None, None, None, None, throttle, throttle, throttle, throttle, throttle,
+                throttle,
+            ],
+            brake: [None, None, None, None, None, off, off, off, off, off, off],
+        },
+        belt: Some(true),
+        lamp: Some(false),
+    }
+}
+
+// What stood in 20 s before an event.
+fn long() -> Pre {
+    Pre {
+        key: Key {
+            cycle: 1,
+            zero: 26_003,
+        },
+        place: Place::First,
+        slots: Slots::Long {
+            speed: [Some(50); LONG_SLOTS],
+            throttle: [Some(20); LONG_SLOTS],
+            brake: [Some(false); LONG_SLOTS],
+        },
         belt: Some(true),
         lamp: Some(false),
     }
@@ -184,6 +206,30 @@ fn an_absent_slot_or_part_is_none(rt: HostRuntime) -> Result<(), Fail> {
     let run = [ran(rt.alloc(), 1, &[taken])?];
     let found = [event(1, before(1, 6003), false, None)];
     assert!(rt; text(rt.alloc(), &run, &found, 1)?.as_slice() == texts::CUT_SHORT);
+    Ok(())
+}
+
+// Appends the line of a list that has this value 201 times.
+fn push_list(out: &mut Vec<u8>, name: &[u8], value: &[u8]) -> Result<(), AllocError> {
+    out.extend_from_slice(name)?;
+    for _ in 0..200 {
+        out.extend_from_slice(value)?;
+        out.extend_from_slice(b" ")?;
+    }
+    out.extend_from_slice(value)?;
+    out.extend_from_slice(b"\n")
+}
+
+#[test]
+fn a_long_profile_is_told_with_201_values_a_list(rt: HostRuntime) -> Result<(), Fail> {
+    let mut lines = Vec::new(rt.alloc());
+    lines.extend_from_slice(texts::LONG_FRONT)?;
+    push_list(&mut lines, b"speed, km/h: ", b"50")?;
+    push_list(&mut lines, b"throttle, %: ", b"20")?;
+    push_list(&mut lines, b"service brake: ", b"off")?;
+    lines.extend_from_slice(texts::LONG_BACK)?;
+    let found = [event(1, long(), false, None)];
+    assert!(rt; text(rt.alloc(), &[], &found, 1)?.as_slice() == lines.as_slice());
     Ok(())
 }
 

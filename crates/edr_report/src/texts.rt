@@ -11,6 +11,7 @@ pub const CRASH: &[u8] = b"cycle 1: number 1, power off\n\
     multi-event, number of events: 1\n\
     time from event 1 to 2: none\n\
     deployment event: no\n\
+    pre-crash profile: short\n\
     speed, km/h: 50 50 50 50 50 50 50 50 50 50 50\n\
     throttle, %: 20 20 20 20 20 20 20 20 20 20 20\n\
     service brake: off off off off off off off off off off off\n\
@@ -45,6 +46,7 @@ pub const CRASH_TABLE: &[u8] = b"block,name,value\n\
     1,\"multi-event, number of events\",1\n\
     1,time from event 1 to 2,none\n\
     1,deployment event,no\n\
+    1,pre-crash profile,short\n\
     1,\"speed, km/h\",50 50 50 50 50 50 50 50 50 50 50\n\
     1,\"throttle, %\",20 20 20 20 20 20 20 20 20 20 20\n\
     1,service brake,off off off off off off off off off off off\n\
@@ -112,6 +114,7 @@ pub const EARLY: &[u8] = b"cycle 1: number 1, power off\n\
     multi-event, number of events: 1\n\
     time from event 1 to 2: none\n\
     deployment event: yes\n\
+    pre-crash profile: short\n\
     speed, km/h: none none none none none 50 50 50 50 50 50\n\
     throttle, %: none none none none none 20 20 20 20 20 20\n\
     service brake: none none none none none off off off off off off\n\
@@ -145,6 +148,7 @@ pub const CUT_SHORT: &[u8] = b"cycle 1: number 1, power off\n\
     multi-event, number of events: 1\n\
     time from event 1 to 2: none\n\
     deployment event: no\n\
+    pre-crash profile: short\n\
     speed, km/h: 50 50 50 50 50 50 50 50 50 50 50\n\
     throttle, %: 20 20 20 20 20 20 20 20 20 20 20\n\
     service brake: off off off off off off off off off off off\n\
@@ -179,6 +183,7 @@ pub const PAST_60000: &[u8] = b"cycle 1: number 60002, power off\n\
     multi-event, number of events: 1\n\
     time from event 1 to 2: none\n\
     deployment event: no\n\
+    pre-crash profile: short\n\
     speed, km/h: 50 50 50 50 50 50 50 50 50 50 50\n\
     throttle, %: 20 20 20 20 20 20 20 20 20 20 20\n\
     service brake: off off off off off off off off off off off\n\
@@ -201,6 +206,36 @@ pub const PAST_60000: &[u8] = b"cycle 1: number 60002, power off\n\
     passenger pretensioner deployment: none\n\
     complete file recorded: yes\n\
     ignition cycle, download: 60000\n";
+
+// What stands before and behind the lists of a long profile, where the power goes off before the event is closed.
+pub const LONG_FRONT: &[u8] = b"event: 1\n\
+    bank: 1\n\
+    ignition cycle, crash: 1\n\
+    time zero: 26003 ms\n\
+    multi-event, number of events: 1\n\
+    time from event 1 to 2: none\n\
+    deployment event: no\n\
+    pre-crash profile: long\n";
+
+pub const LONG_BACK: &[u8] = b"driver belt: on\n\
+    frontal air bag warning lamp: off\n\
+    end of event: none\n\
+    delta-V longitudinal, km/h: none\n\
+    delta-V lateral, km/h: none\n\
+    maximum delta-V longitudinal: none\n\
+    maximum delta-V lateral: none\n\
+    time of maximum resultant: none\n\
+    ticks without sample: none\n\
+    driver frontal deployment: none\n\
+    passenger frontal deployment: none\n\
+    driver side deployment: none\n\
+    passenger side deployment: none\n\
+    driver curtain deployment: none\n\
+    passenger curtain deployment: none\n\
+    driver pretensioner deployment: none\n\
+    passenger pretensioner deployment: none\n\
+    complete file recorded: no\n\
+    ignition cycle, download: 1\n";
 
 // A start that is stopped, and a cycle after it.
 pub const STOPPED: &[u8] = b"cycle 1: start stopped in call 5\n\

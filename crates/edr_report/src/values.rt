@@ -1,11 +1,11 @@
 //! The values of a report, and how they are spelled.
 
 ghost use Rattle.std.specs.Prelude.{◌≡◌, ◌++◌, OnOk, string_bytes, map};
-ghost use Rattle.edr_report.specs.Words.{spaced, yes_no, switch_or_none, firing_words, applied_words, stop_words, events_in_crash, time_between, points_words, extreme_words};
+ghost use Rattle.edr_report.specs.Words.{spaced, yes_no, profile_word, switch_or_none, firing_words, applied_words, stop_words, events_in_crash, time_between, points_words, extreme_words};
 ghost use Rattle.edr_report.specs.Values.{value_words};
 
 use edr_image::Applied;
-use edr_record::{Extreme, Place};
+use edr_record::{Extreme, Place, Profile};
 use std::alloc::AllocError as OutOfMemory;
 
 /// Counts of ignition cycles are shown up to this number.
@@ -13,7 +13,7 @@ pub const LARGEST_SHOWN_COUNT: u32 = 60_000;
 
 /// What stands in a line of a report behind its name.
 #[derive(Clone, Copy)]
-pub enum Value {
+pub enum Value<'a> {
     /// A start was stopped in this changing call.
     StartStopped(u32),
     /// A cycle had this number, and was stopped in this changing call or not at all.
@@ -36,9 +36,10 @@ pub enum Value {
     /// The time from the first event to the one in this place.
     TimeBetween(Place),
     YesNo(bool),
-    Speeds([Option<u16>; 11]),
-    Throttles([Option<u8>; 11]),
-    Switches([Option<bool>; 11]),
+    Profile(Profile),
+    Speeds(&'a [Option<u16>]),
+    Throttles(&'a [Option<u8>]),
+    Switches(&'a [Option<bool>]),
     Switch(Option<bool>),
     /// The points of an axis that this end allows.
     Points {
@@ -129,6 +130,15 @@ fn yes_no(b: bool) -> &'static str
     if b { "yes" } else { "no" }
 }
 
+fn profile_word(profile: Profile) -> &'static str
+    ensures { result.now ≡ profile_word profile }
+{
+    match profile {
+        Profile::Short => "short",
+        Profile::Long => "long",
+    }
+}
+
 // Appends slots, parted by one space.
 fn put_spaced<S: Slot>(out: &mut String, slots: &[S]) -> Result<(), OutOfMemory>
     ensures { OnOk result (string_bytes out.new ≡ string_bytes out.old ++ spaced (map S.words slots.now)) }
@@ -200,10 +210,10 @@ fn put_extreme(out: &mut String, extreme: Extreme) -> Result<(), OutOfMemory>
     write!(out, "{kmh} km/h at {at} ms")
 }
 
-impl Value {
+impl<'a> Value<'a> {
     /// Appends the value.
     pub fn put(self, out: &mut String) -> Result<(), OutOfMemory>
-        ensures { OnOk result (string_bytes out.new ≡ string_bytes out.old ++ value_words self) }
+        ensures { OnOk result (string_bytes out.new ≡ string_bytes out.old ++ value_words self.entry) }
     {
         match self {
             Value::StartStopped(call) => write!(out, "start stopped in call {call}"),
@@ -229,9 +239,10 @@ impl Value {
             Value::EventsInCrash(place) => out.push_str(events_in_crash(place)),
             Value::TimeBetween(place) => put_time_between(out, place),
             Value::YesNo(b) => out.push_str(yes_no(b)),
-            Value::Speeds(slots) => put_spaced(out, &slots),
-            Value::Throttles(slots) => put_spaced(out, &slots),
-            Value::Switches(slots) => put_spaced(out, &slots),
+            Value::Profile(profile) => out.push_str(profile_word(profile)),
+            Value::Speeds(slots) => put_spaced(out, slots),
+            Value::Throttles(slots) => put_spaced(out, slots),
+            Value::Switches(slots) => put_spaced(out, slots),
             Value::Switch(switch) => out.push_str(switch_word(switch)),
             Value::Points { end, points } => put_points(out, end, points),
             Value::Extreme(extreme) => put_extreme(out, extreme),
