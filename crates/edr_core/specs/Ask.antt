@@ -4,6 +4,7 @@ use Rattle.edr_items.specs.declared.Sensor.{Sensor}
 use Rattle.edr_items.specs.declared.Sensor.TheVariants.{Along, Across, Speed, Throttle, Brake, Belt, Lamp, Restraint}
 use Rattle.edr_record.specs.declared.Key.{Key}
 use Rattle.edr_record.specs.declared.Place.TheVariants.{First}
+use Rattle.edr_record.specs.declared.Profile.TheVariants.{Long}
 use Rattle.edr_record.specs.Parts.{PrePart}
 use Rattle.edr_definitions.specs.Parts.{numbers, switch, switches}
 use Rattle.edr_capture.specs.SensorPart.{SensorPart}
@@ -70,11 +71,12 @@ pub record IsKey (k : Key) : Type 0 where
   pub zero_from : 1 ≤ k.zero
   pub zero_to : k.zero ≤ 86_400_000
 
--- the pre part of these parts, as that of a first event
+-- the long pre part of these parts, as that of a first event
 abbrev pub pre_of : AllParts → Key → PrePart
 pre_of a key = record {
   key = key;
   place = First;
+  profile = Long;
   speed = numbers a.speed.slots;
   throttle = numbers a.throttle.slots;
   brake = switches a.brake.slots;

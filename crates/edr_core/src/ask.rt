@@ -7,11 +7,11 @@ ghost use Rattle.edr_definitions.specs.Parts.{numbers, switch};
 ghost use Rattle.edr_core.specs.Parts.{first_slot};
 
 use crate::candidate::Row;
-use crate::slots::{SLOTS, per_cents, speeds, switch_of, switches_of};
+use crate::slots::{per_cents, speeds, switch_of, switches_of};
 use edr_capture::Part;
 use edr_detect::Change;
 use edr_items::Sensor;
-use edr_record::{Key, Place, Pre};
+use edr_record::{Key, LONG_SLOTS, Place, Pre, Slots};
 
 /// Why a split core doesn't take a part.
 #[derive(Clone, Copy, Debug, PartialEq, Eq)]
@@ -134,7 +134,7 @@ impl Parts {
 }
 
 // The slots of a speed part, in km/h.
-fn speeds_of(part: &Part) -> [Option<u16>; SLOTS]
+fn speeds_of(part: &Part) -> [Option<u16>; LONG_SLOTS]
     requires { part.now.sensor ≡ Speed }
     ensures slots { result ≡ numbers part.now.slots }
     ensures bounded { All (IsUpTo 300) result }
@@ -143,7 +143,7 @@ fn speeds_of(part: &Part) -> [Option<u16>; SLOTS]
 }
 
 // The slots of a throttle part, in per cent.
-fn per_cents_of(part: &Part) -> [Option<u8>; SLOTS]
+fn per_cents_of(part: &Part) -> [Option<u8>; LONG_SLOTS]
     requires { part.now.sensor ≡ Throttle }
     ensures slots { result ≡ numbers part.now.slots }
     ensures bounded { All (IsUpTo 100) result }
@@ -161,7 +161,7 @@ fn first_switch(part: &Part) -> Option<bool>
 impl AllParts {
     ghost use Rattle.edr_core.specs.Ask.{AreOfTheirSensors, IsKey, pre_of};
 
-    // The pre part that they make of the event with this key, as that of a first event.
+    // The long pre part that they make of the event with this key, as that of a first event.
     pub fn pre(&self, key: Key) -> Pre
         requires sensors { AreOfTheirSensors self.now }
         requires key { IsKey key }
@@ -170,9 +170,11 @@ impl AllParts {
         Pre {
             key,
             place: Place::First,
-            speed: speeds_of(&self.speed),
-            throttle: per_cents_of(&self.throttle),
-            brake: switches_of(self.brake.slots),
+            slots: Slots::Long {
+                speed: speeds_of(&self.speed),
+                throttle: per_cents_of(&self.throttle),
+                brake: switches_of(self.brake.slots),
+            },
             belt: first_switch(&self.belt),
             lamp: first_switch(&self.lamp),
         }

@@ -4,8 +4,7 @@ ghost use Rattle.std.specs.Prelude.{◌≡◌, unsigned_abs, option_map, All};
 ghost use Rattle.edr_record.specs.Bounds.{IsUpTo};
 ghost use Rattle.edr_definitions.specs.Parts.{numbers, switch, switches};
 
-// How many slots a sensor has in a pre part, one at each half second from 5 s before time zero up to it.
-pub const SLOTS: usize = 11;
+use edr_record::LONG_SLOTS;
 
 // A slot in km/h.
 fn speed_of(slot: Option<i32>) -> Option<u16>
@@ -19,11 +18,11 @@ fn speed_of(slot: Option<i32>) -> Option<u16>
 }
 
 // Slots in km/h.
-pub fn speeds(slots: [Option<i32>; SLOTS]) -> [Option<u16>; SLOTS]
+pub fn speeds(slots: [Option<i32>; LONG_SLOTS]) -> [Option<u16>; LONG_SLOTS]
     requires { All (IsUpTo 300) (numbers slots) }
     ensures { result ≡ numbers slots }
 {
-    let mut speeds = [None; SLOTS];
+    let mut speeds = [None; LONG_SLOTS];
     for (k, slot) in slots.iter().enumerate() {
         speeds[k] = speed_of(*slot);
     }
@@ -42,11 +41,11 @@ fn per_cent_of(slot: Option<i32>) -> Option<u8>
 }
 
 // Slots in per cent.
-pub fn per_cents(slots: [Option<i32>; SLOTS]) -> [Option<u8>; SLOTS]
+pub fn per_cents(slots: [Option<i32>; LONG_SLOTS]) -> [Option<u8>; LONG_SLOTS]
     requires { All (IsUpTo 100) (numbers slots) }
     ensures { result ≡ numbers slots }
 {
-    let mut per_cents = [None; SLOTS];
+    let mut per_cents = [None; LONG_SLOTS];
     for (k, slot) in slots.iter().enumerate() {
         per_cents[k] = per_cent_of(*slot);
     }
@@ -61,10 +60,10 @@ pub fn switch_of(slot: Option<i32>) -> Option<bool>
 }
 
 // Slots of a switch.
-pub fn switches_of(slots: [Option<i32>; SLOTS]) -> [Option<bool>; SLOTS]
+pub fn switches_of(slots: [Option<i32>; LONG_SLOTS]) -> [Option<bool>; LONG_SLOTS]
     ensures { result ≡ switches slots }
 {
-    let mut switches = [None; SLOTS];
+    let mut switches = [None; LONG_SLOTS];
     for (k, slot) in slots.iter().enumerate() {
         switches[k] = switch_of(*slot);
     }

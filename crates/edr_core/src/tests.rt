@@ -1,7 +1,7 @@
 mod traces;
 
 use super::*;
-use edr_record::{Extreme, Key, Place};
+use edr_record::{Extreme, Key, LONG_SLOTS, Place, Slots};
 use std::process::Abort;
 use std::test::Fail;
 use traces::{Pulse, Trace};
@@ -135,9 +135,12 @@ fn check_event(
 
 // A drive at 50 km/h.
 fn check_drive(rt: &impl Abort, pre: &Pre) {
-    assert_eq!(rt; pre.speed, [Some(50); 11]);
-    assert_eq!(rt; pre.throttle, [Some(20); 11]);
-    assert_eq!(rt; pre.brake, [Some(false); 11]);
+    let slots = Slots::Long {
+        speed: [Some(50); LONG_SLOTS],
+        throttle: [Some(20); LONG_SLOTS],
+        brake: [Some(false); LONG_SLOTS],
+    };
+    assert_eq!(rt; pre.slots, slots);
     assert_eq!(rt; pre.belt, Some(true));
     assert_eq!(rt; pre.lamp, Some(false));
     assert_eq!(rt; pre.place, Place::First);
@@ -155,7 +158,15 @@ const TIE: [i16; 15] = [
 
 #[test]
 fn crash_with_tie(rt: HostRuntime) -> Result<(), Fail> {
-    let (pre, crash) = check_event(&rt, rt.alloc(), &Trace::crash(7000), 6003, 6020, None, 6148)?;
+    let (pre, crash) = check_event(
+        &rt,
+        rt.alloc(),
+        &Trace::crash(27_000),
+        26_003,
+        26_020,
+        None,
+        26_148,
+    )?;
     check_drive(&rt, &pre);
     assert_eq!(rt; crash.end, 115);
     assert_eq!(rt; crash.along, points(&TIE));
@@ -169,18 +180,20 @@ fn crash_with_tie(rt: HostRuntime) -> Result<(), Fail> {
 
 #[test]
 fn any_interleaving_freezes_the_same_speeds(rt: HostRuntime) -> Result<(), Fail> {
-    let mut trace = Trace::crash(7000);
+    let mut trace = Trace::crash(27_000);
     trace.speeds_up = true;
-    let (pre, _) = check_event(&rt, rt.alloc(), &trace, 6003, 6020, None, 6148)?;
-    let speeds = [10, 15, 20, 25, 30, 35, 40, 45, 50, 55, 60];
-    assert_eq!(rt; pre.speed, speeds.map(Some));
+    let (pre, _) = check_event(&rt, rt.alloc(), &trace, 26_003, 26_020, None, 26_148)?;
+    for k in 0..LONG_SLOTS {
+        assert_eq!(rt; pre.speed().get(k).copied(), Some(Some(60 + k as u16)));
+    }
+    assert_eq!(rt; pre.speed().len(), 201);
     Ok(())
 }
 
 // A deployment with no change of speed: the restraint of that bit alone.
 fn check_deployment(rt: &impl Abort, alloc: Global, bits: i32, place: usize) -> Result<(), Fail> {
-    let trace = Trace::firing(8000, bits, [7000, 0, 0]);
-    let (pre, crash) = check_event(rt, alloc, &trace, 7000, 7000, Some(7000), 7050)?;
+    let trace = Trace::firing(28_000, bits, [27_000, 0, 0]);
+    let (pre, crash) = check_event(rt, alloc, &trace, 27_000, 27_000, Some(27_000), 27_050)?;
     check_drive(rt, &pre);
     assert_eq!(rt; crash.end, 20);
     check_nothing(rt, crash.along, crash.max_along);
@@ -205,13 +218,13 @@ fn side_air_bag_locks(rt: HostRuntime) -> Result<(), Fail> {
 
 #[test]
 fn lateral_trigger(rt: HostRuntime) -> Result<(), Fail> {
-    let mut trace = Trace::still(7000);
+    let mut trace = Trace::still(27_000);
     trace.across = Pulse {
-        first: 6001,
-        last: 6400,
+        first: 26_001,
+        last: 26_400,
         value: 540,
     };
-    let (pre, crash) = check_event(&rt, rt.alloc(), &trace, 6149, 6149, None, 6436)?;
+    let (pre, crash) = check_event(&rt, rt.alloc(), &trace, 26_149, 26_149, None, 26_436)?;
     check_drive(&rt, &pre);
     assert_eq!(rt; crash.end, 257);
     let lateral = [
@@ -226,20 +239,20 @@ fn lateral_trigger(rt: HostRuntime) -> Result<(), Fail> {
 
 #[test]
 fn trigger_reaches_back(rt: HostRuntime) -> Result<(), Fail> {
-    let mut trace = Trace::still(7000);
+    let mut trace = Trace::still(27_000);
     trace.along = [
         Pulse {
-            first: 6001,
-            last: 6010,
+            first: 26_001,
+            last: 26_010,
             value: 5000,
         },
         Pulse {
-            first: 6071,
-            last: 6080,
+            first: 26_071,
+            last: 26_080,
             value: 5000,
         },
     ];
-    let (pre, crash) = check_event(&rt, rt.alloc(), &trace, 6072, 6076, None, 6129)?;
+    let (pre, crash) = check_event(&rt, rt.alloc(), &trace, 26_072, 26_076, None, 26_129)?;
     check_drive(&rt, &pre);
     assert_eq!(rt; crash.end, 27);
     assert_eq!(rt; crash.along, points(&[0, 4, 4, 4, 4, 4]));
@@ -250,20 +263,20 @@ fn trigger_reaches_back(rt: HostRuntime) -> Result<(), Fail> {
 
 #[test]
 fn turned_impulse(rt: HostRuntime) -> Result<(), Fail> {
-    let mut trace = Trace::still(7000);
+    let mut trace = Trace::still(27_000);
     trace.along = [
         Pulse {
-            first: 6001,
-            last: 6010,
+            first: 26_001,
+            last: 26_010,
             value: 3000,
         },
         Pulse {
-            first: 6011,
-            last: 6030,
+            first: 26_011,
+            last: 26_030,
             value: -4000,
         },
     ];
-    let (pre, crash) = check_event(&rt, rt.alloc(), &trace, 6003, 6030, None, 6078)?;
+    let (pre, crash) = check_event(&rt, rt.alloc(), &trace, 26_003, 26_030, None, 26_078)?;
     check_drive(&rt, &pre);
     assert_eq!(rt; crash.end, 45);
     assert_eq!(rt; crash.along, points(&[0, 1, -3, -6, -6, -6, -6, -6]));
@@ -275,10 +288,11 @@ fn turned_impulse(rt: HostRuntime) -> Result<(), Fail> {
 fn before_power_on(rt: HostRuntime) -> Result<(), Fail> {
     let trace = Trace::firing(4000, 1, [3000, 0, 0]);
     let (pre, _) = check_event(&rt, rt.alloc(), &trace, 3000, 3000, Some(3000), 3050)?;
-    for k in 0..11 {
-        assert_eq!(rt; pre.speed[k], (k > 4).then_some(50));
-        assert_eq!(rt; pre.throttle[k], (k > 4).then_some(20));
-        assert_eq!(rt; pre.brake[k], (k > 4).then_some(false));
+    for k in 0..LONG_SLOTS {
+        let powered = k > 170;
+        assert_eq!(rt; pre.speed().get(k).copied(), Some(powered.then_some(50)));
+        assert_eq!(rt; pre.throttle().get(k).copied(), Some(powered.then_some(20)));
+        assert_eq!(rt; pre.brake().get(k).copied(), Some(powered.then_some(false)));
     }
     assert_eq!(rt; pre.belt, Some(true));
     assert_eq!(rt; pre.lamp, Some(false));
@@ -289,7 +303,7 @@ fn before_power_on(rt: HostRuntime) -> Result<(), Fail> {
 fn pairs(rt: HostRuntime) -> Result<(), Fail> {
     for (moments, places) in [
         (
-            [6000, 9000, 12000],
+            [26_000, 29_000, 32_000],
             [
                 Some(Place::First),
                 Some(Place::Second { after: 3000 }),
@@ -297,7 +311,7 @@ fn pairs(rt: HostRuntime) -> Result<(), Fail> {
             ],
         ),
         (
-            [6000, 11000, 0],
+            [26_000, 31_000, 0],
             [
                 Some(Place::First),
                 Some(Place::Second { after: 5000 }),
@@ -305,11 +319,11 @@ fn pairs(rt: HostRuntime) -> Result<(), Fail> {
             ],
         ),
         (
-            [6000, 11001, 0],
+            [26_000, 31_001, 0],
             [Some(Place::First), Some(Place::First), None],
         ),
     ] {
-        let trace = Trace::firing(13000, 64, moments);
+        let trace = Trace::firing(33_000, 64, moments);
         for arrival in ARRIVALS {
             let issues = issues_of(rt.alloc(), &trace, arrival)?;
             for (k, place) in places.iter().enumerate() {
@@ -326,10 +340,10 @@ fn pairs(rt: HostRuntime) -> Result<(), Fail> {
 #[test]
 fn cut_short(rt: HostRuntime) -> Result<(), Fail> {
     for arrival in ARRIVALS {
-        let issues = issues_of(rt.alloc(), &Trace::crash(6100), arrival)?;
+        let issues = issues_of(rt.alloc(), &Trace::crash(26_100), arrival)?;
         assert_eq!(rt; issues.takes.len(), 1);
         let (tick, pre) = *issues.takes.first().ok_or("a take")?;
-        assert_eq!(rt; tick, 6020);
+        assert_eq!(rt; tick, 26_020);
         check_drive(&rt, &pre);
         assert_eq!(rt; issues.locks.len(), 0);
         assert_eq!(rt; issues.dones.len(), 0);
@@ -339,9 +353,9 @@ fn cut_short(rt: HostRuntime) -> Result<(), Fail> {
 
 #[test]
 fn gap_in_samples(rt: HostRuntime) -> Result<(), Fail> {
-    let mut trace = Trace::crash(7000);
-    trace.gap = 6033;
-    let (pre, crash) = check_event(&rt, rt.alloc(), &trace, 6003, 6020, None, 6148)?;
+    let mut trace = Trace::crash(27_000);
+    trace.gap = 26_033;
+    let (pre, crash) = check_event(&rt, rt.alloc(), &trace, 26_003, 26_020, None, 26_148)?;
     check_drive(&rt, &pre);
     assert_eq!(rt; crash.end, 115);
     let along = [

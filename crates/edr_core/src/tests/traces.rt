@@ -67,8 +67,8 @@ impl Trace {
     pub fn crash(end: u32) -> Trace {
         let mut trace = Trace::still(end);
         trace.along[0] = Pulse {
-            first: 6001,
-            last: 6100,
+            first: 26_001,
+            last: 26_100,
             value: -4000,
         };
         trace
