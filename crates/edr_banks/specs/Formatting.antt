@@ -1,9 +1,13 @@
 -- What formatting leaves of an image, and what a crash inside it may leave.
-use Rattle.std.specs.Prelude.{◌≡◌, ℕ, List, replicate, Some}
+use Rattle.std.specs.Prelude.{◌≡◌, ◌⊎◌, ℕ, List, replicate, Some}
+use Rattle.edr_device.specs.Device.{IsQuiet}
+use Rattle.edr_device.specs.Lent.{At, LeftSince}
+use Rattle.edr_device.specs.declared.device.Nvm.{Ghosts}
 use Rattle.edr_image.specs.declared.Choice.{Choice}
 use Rattle.edr_image.specs.declared.Header.{Header}
 use Rattle.edr_image.specs.declared.BankView.TheVariants.{Void}
 use Rattle.edr_image.specs.Image.{View, image_size, new_image, view_of}
+use Rattle.edr_image.specs.Kept.{IsKept}
 use Rattle.edr_banks.specs.Laying.{IsPartlyLaid, StandsPast, over}
 pub use Rattle.edr_banks.specs.Laying.{LacksMagic}
 
@@ -31,3 +35,8 @@ IsPartlyFormatted h bytes image = IsPartlyLaid (image_size h.banks) (IsNew h byt
 -- the header of a new image
 abbrev pub new_header : ℕ → Choice → Header
 new_header banks choice = record { banks = banks; choice = choice }
+
+-- where the image was kept, so is each that a crash may have left since then, or it has no magic
+abbrev pub LeavesKept : {D : Type 0} → Ghosts D → D → D → Type 0
+LeavesKept g old new =
+    (bytes image : List ℕ) → At g IsQuiet old bytes → IsKept bytes → LeftSince g old new image → IsKept image ⊎ LacksMagic image

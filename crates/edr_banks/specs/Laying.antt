@@ -1,8 +1,14 @@
 -- What a laying leaves of an image, and what a crash inside it may leave.
 use Rattle.std.specs.Prelude.{◌≡◌, ◌≢◌, ◌⊎◌, ◌≤◌, ◌<◌, ℕ, Bool, true, List, ◌++◌, length, drop, slice_index, Option, Some, None, IsSome}
 use Rattle.edr_device.specs.Device.{IsQuiet}
+use Rattle.edr_device.specs.Lent.{At, LeftSince, Meanwhile}
 use Rattle.edr_device.specs.Pieces.{SameBut}
-use Rattle.edr_image.specs.Image.{not_magic}
+use Rattle.edr_device.specs.declared.device.Nvm as device
+use Rattle.edr_image.specs.Image.{image_size, not_magic}
+use Rattle.edr_image.specs.declared.places.TheConstants.{MOST_BANKS}
+use Rattle.edr_banks.specs.declared.FormatFault.{FormatFault}
+use Rattle.edr_banks.specs.declared.FormatFault.TheVariants.{Short, Formatted}
+use Rattle.edr_banks.specs.declared.image.Image as laid
 
 -- ---- what is left of it
 
@@ -72,3 +78,82 @@ Laid full target n bytes (Some now) settled = IsLaid full target n bytes now set
 pub record IsFilled (full : ℕ) (target bytes now : List ℕ) : Type 0 where
   pub same : SameBut 0 1 (over full target bytes) now
   pub first : slice_index now 0 ≢ first_magic
+
+-- ---- of an image by its words
+
+-- how many bytes it has
+abbrev pub full_size : {I : Type 0} → laid.Ghosts I → I → ℕ
+full_size g image = image_size (g.bank_count image)
+
+-- it can tell its bytes, which are those of so many banks, over a device with so much room
+pub record HasPlace {I : Type 0} (g : laid.Ghosts I) (image : I) (extent : ℕ) : Type 0 where
+  pub told : g.is_told image
+  pub whole : IsImageOf (full_size g image) (g.bytes image)
+  pub few : g.bank_count image ≤ MOST_BANKS
+  pub room : full_size g image ≤ extent
+
+-- all of its bytes stand but the first, perhaps not settled
+abbrev pub AllLaid : {I : Type 0} → laid.Ghosts I → I → List ℕ → Option (List ℕ) → (ℕ → Bool) → Type 0
+AllLaid g image bytes content settled = Laid (full_size g image) (g.bytes image) (full_size g image) bytes content settled
+
+-- the same, and nothing is pending
+abbrev pub AllFilled : {I : Type 0} → laid.Ghosts I → I → List ℕ → Option (List ℕ) → (ℕ → Bool) → Type 0
+AllFilled g image bytes content settled =
+    (now : List ℕ) × IsQuiet content settled now × IsFilled (full_size g image) (g.bytes image) bytes now
+
+-- what becomes of the bytes
+abbrev pub laid_over : {I : Type 0} → laid.Ghosts I → I → List ℕ → List ℕ
+laid_over g image bytes = over (full_size g image) (g.bytes image) bytes
+
+-- these stand, and nothing is pending
+abbrev pub AllOver : {I : Type 0} → laid.Ghosts I → I → List ℕ → Option (List ℕ) → (ℕ → Bool) → Type 0
+AllOver g image bytes content settled = IsQuiet content settled (laid_over g image bytes)
+
+-- what a crash inside it may leave of them
+abbrev pub PartlyOver : {I : Type 0} → laid.Ghosts I → I → List ℕ → List ℕ → Type 0
+PartlyOver g image bytes left = IsPartlyOver (full_size g image) (g.bytes image) bytes left
+
+-- ---- of a memory over which it is laid
+
+-- where nothing was pending and byte 0 wasn't that of the magic, this is so of its bytes
+abbrev pub FromBare : {D : Type 0} → device.Ghosts D → (List ℕ → Option (List ℕ) → (ℕ → Bool) → Type 0) → D → D → Type 0
+FromBare g becomes old new = (bytes : List ℕ) → At g IsBare old bytes → At g (becomes bytes) new
+
+-- and a crash meanwhile leaves such an image of them
+abbrev pub BareMeanwhile : {D : Type 0} → device.Ghosts D → (List ℕ → List ℕ → Type 0) → D → D → Type 0
+BareMeanwhile g leaves old new = (bytes : List ℕ) → At g IsBare old bytes → Meanwhile g old new (leaves bytes)
+
+-- the same where nothing was pending and this was byte 0
+abbrev pub FromFirst : {D : Type 0} → device.Ghosts D → ℕ → (List ℕ → Option (List ℕ) → (ℕ → Bool) → Type 0) → D → D → Type 0
+FromFirst g first becomes old new =
+    (bytes : List ℕ) → At g IsQuiet old bytes → slice_index bytes 0 ≡ first → At g (becomes bytes) new
+
+abbrev pub FirstMeanwhile : {D : Type 0} → device.Ghosts D → ℕ → (List ℕ → List ℕ → Type 0) → D → D → Type 0
+FirstMeanwhile g first leaves old new =
+    (bytes : List ℕ) → At g IsQuiet old bytes → slice_index bytes 0 ≡ first → Meanwhile g old new (leaves bytes)
+
+-- nothing is pending, and byte 0 alone is another one, which isn't that of the magic
+abbrev pub IsBared : List ℕ → Option (List ℕ) → (ℕ → Bool) → Type 0
+IsBared bytes content settled = (now : List ℕ) × IsBare content settled now × SameBut 0 1 bytes now
+
+-- nothing is pending again, and its bytes are such ones of those
+abbrev pub SettlesIn : {D : Type 0} → device.Ghosts D → (List ℕ → List ℕ → Type 0) → D → D → Type 0
+SettlesIn g becomes old new =
+    (bytes : List ℕ) → At g IsQuiet old bytes → (now : List ℕ) × At g IsQuiet new now × becomes bytes now
+
+-- where nothing was pending, each image that a crash may have left since then is such a one of its bytes
+abbrev pub LeavesSince : {D : Type 0} → device.Ghosts D → (List ℕ → List ℕ → Type 0) → D → D → Type 0
+LeavesSince g leaves old new =
+    (bytes left : List ℕ) → At g IsQuiet old bytes → LeftSince g old new left → leaves bytes left
+
+-- ---- why nothing is laid
+
+-- a device is too short exactly by these numbers
+abbrev pub HasSizes : ℕ → ℕ → FormatFault → Type 0
+HasSizes extent full e =
+    (size needed : ℕ) → e ≡ Short size needed → (size ≡ extent) × (needed ≡ full) × (size < needed)
+
+-- the magic stands, on a device that is long enough
+abbrev pub HasMagic : Option (List ℕ) → ℕ → ℕ → FormatFault → Type 0
+HasMagic content extent full e =
+    e ≡ Formatted → (full ≤ extent) × ((bytes : List ℕ) → content ≡ Some bytes → not_magic bytes ≡ None)

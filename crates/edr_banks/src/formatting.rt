@@ -1,15 +1,15 @@
 //! Formatting: an image with void banks and the count 0 is laid over a device.
-ghost use Rattle.std.specs.Prelude.{◌≡◌, ◌≢◌, ◌⊎◌, ◌≤◌, ◌<◌, ℕ, List, Some, None, Err, OnOk, IfErr, ⊤};
-ghost use Rattle.edr_device.specs.Device.{IsQuiet};
+ghost use Rattle.std.specs.Prelude.{◌≡◌, ◌≢◌, ◌≤◌, ◌<◌, ℕ, List, Some, None, Err, OnOk, IfErr, ⊤};
 ghost use Rattle.edr_device.specs.Faults.{Rose};
-ghost use Rattle.edr_device.specs.Lent.{At, GoesOn, LeftSince, Meanwhile, OnlyRead};
+ghost use Rattle.edr_device.specs.Lent.{GoesOn, LeavesMeanwhile, OnlyRead};
 ghost use Rattle.edr_image.specs.declared.places.TheConstants.{FEWEST_BANKS, MOST_BANKS};
 ghost use Rattle.edr_image.specs.Image.{image_size, new_image, not_magic};
-ghost use Rattle.edr_image.specs.Kept.{IsKept};
-ghost use Rattle.edr_banks.specs.Formatting.{IsNew, IsPartlyFormatted, LacksMagic, new_header};
+ghost use Rattle.edr_banks.specs.Formatting.{IsNew, IsPartlyFormatted, LacksMagic, LeavesKept, new_header};
+ghost use Rattle.edr_banks.specs.Laying.{HasMagic, HasSizes, LeavesSince, SettlesIn};
 ghost use Rattle.edr_banks.specs.declared.FormatFault.TheVariants.{Short, Formatted, StoreFault};
 
-use crate::laying::{Image, lay};
+use crate::image::Image;
+use crate::laying::lay;
 use crate::{Banks, Choice, FormatFault, Header};
 use edr_device::Nvm;
 use edr_layout::{BANK_SIZE, FRONT_SIZE, new_front};
@@ -52,10 +52,8 @@ impl Banks {
         ensures later { N.clock nvm.old ≤ N.clock nvm.new }
         // Each refusal with its cause.
         ensures short { N.extent nvm.old < image_size banks → result ≡ Err (Short (N.extent nvm.old) (image_size banks)) }
-        ensures sizes { IfErr result (λ e. (size needed : ℕ) → e ≡ Short size needed
-            → (size ≡ N.extent nvm.old) × (needed ≡ image_size banks) × (size < needed)) }
-        ensures formatted { IfErr result (λ e. e ≡ Formatted → (image_size banks ≤ N.extent nvm.old)
-            × ((bytes : List ℕ) → N.content nvm.old ≡ Some bytes → not_magic bytes ≡ None)) }
+        ensures sizes { IfErr result (HasSizes (N.extent nvm.old) (image_size banks)) }
+        ensures formatted { IfErr result (HasMagic (N.content nvm.old) (N.extent nvm.old) (image_size banks)) }
         ensures not_formatted { OnOk result ((bytes : List ℕ) → N.content nvm.old ≡ Some bytes → LacksMagic bytes) }
         ensures fault { IfErr result (λ e. e ≡ StoreFault → Rose (N.faults nvm.old) (N.faults nvm.new)) }
         ensures faults { N.faults nvm.old ≤ N.faults nvm.new }
@@ -63,15 +61,11 @@ impl Banks {
         ensures refused { IfErr result (λ e. e ≢ StoreFault → OnlyRead N.Nvm nvm.old nvm.new) }
         ensures magic_stays { (bytes : List ℕ) → N.content nvm.old ≡ Some bytes → not_magic bytes ≡ None
             → OnlyRead N.Nvm nvm.old nvm.new }
-        ensures done { OnOk result ((bytes : List ℕ) → At N.Nvm IsQuiet nvm.old bytes
-            → (now : List ℕ) × At N.Nvm IsQuiet nvm.new now × IsNew (new_header banks choice) bytes now) }
-        ensures any_moment { (bytes : List ℕ) → At N.Nvm IsQuiet nvm.old bytes
-            → Meanwhile N.Nvm nvm.old nvm.new (IsPartlyFormatted (new_header banks choice) bytes) }
-        ensures each { (bytes image : List ℕ) → At N.Nvm IsQuiet nvm.old bytes → LeftSince N.Nvm nvm.old nvm.new image
-            → IsPartlyFormatted (new_header banks choice) bytes image }
+        ensures done { OnOk result (SettlesIn N.Nvm (IsNew (new_header banks choice)) nvm.old nvm.new) }
+        ensures any_moment { LeavesMeanwhile N.Nvm (IsPartlyFormatted (new_header banks choice)) nvm.old nvm.new }
+        ensures each { LeavesSince N.Nvm (IsPartlyFormatted (new_header banks choice)) nvm.old nvm.new }
         // Where the image was one that this program formatted, so is each of these, or it has no magic.
-        ensures kept { (bytes image : List ℕ) → At N.Nvm IsQuiet nvm.old bytes → IsKept bytes
-            → LeftSince N.Nvm nvm.old nvm.new image → IsKept image ⊎ LacksMagic image }
+        ensures kept { LeavesKept N.Nvm nvm.old nvm.new }
     {
         let header = Header { banks, choice };
         lay(nvm, &NewImage { header })

@@ -1,57 +1,25 @@
 //! Laying an image over a device: byte 0 is put last, so no crash leaves the magic over anything but the image as it was or
 //! the new one.
-ghost use Rattle.std.specs.Prelude.{◌≡◌, ◌≢◌, ◌+◌, ◌≤◌, ◌<◌, ℕ, List, Some, None, Err, length, slice_index, slice_range, take, OnOk, IfErr};
-ghost use Rattle.edr_device.specs.Device.{IsQuiet};
+ghost use Rattle.std.specs.Prelude.{◌≡◌, ◌≢◌, ◌≤◌, ◌<◌, ℕ, List, Some, None, Err, OnOk, IfErr};
 ghost use Rattle.edr_device.specs.Faults.{Rose};
-ghost use Rattle.edr_device.specs.Lent.{At, GoesOn, LeftSince, Lent, Meanwhile, OnlyRead};
-ghost use Rattle.edr_device.specs.Pieces.{SameBut};
-ghost use Rattle.edr_image.specs.declared.places.TheConstants.{BANK_SIZE, FRONT_SIZE, MOST_BANKS};
-ghost use Rattle.edr_image.specs.Image.{image_size, not_magic, place_of};
-ghost use Rattle.edr_banks.specs.Laying.{IsBare, IsFilled, IsImageOf, IsPartlyOver, IsUnmarked, IsUnmarking, LacksMagic, Laid, over};
+ghost use Rattle.edr_device.specs.Lent.{GoesOn, LeavesMeanwhile, Lent, OnlyRead, SettlesTo};
+ghost use Rattle.edr_image.specs.declared.places.TheConstants.{MOST_BANKS};
+ghost use Rattle.edr_image.specs.Image.{not_magic};
+ghost use Rattle.edr_banks.specs.Laying.{AllFilled, AllLaid, AllOver, BareMeanwhile, FirstMeanwhile, FromBare, FromFirst, HasMagic, HasPlace, HasSizes, IsBared, IsImageOf, IsUnmarked, IsUnmarking, LacksMagic, LeavesSince, PartlyOver, full_size, laid_over};
 ghost use Rattle.edr_banks.specs.declared.FormatFault.TheVariants.{Short, Formatted, StoreFault};
 
 use crate::FormatFault;
+use crate::image::Image;
 use edr_device::{Failed, Nvm, write_settled};
-use edr_layout::{BANK_SIZE, FRONT_SIZE, MAGIC, image_size, not_magic, place_of};
-
-/// What is laid over a device: what stands before the banks, and each bank.
-pub trait Image {
-    /// Its bytes.
-    ghost bytes: { Self → List ℕ };
-
-    /// How many banks it has.
-    ghost bank_count: { Self → ℕ };
-
-    /// What is so of one that can tell its bytes.
-    ghost is_told: { Self → Type 0 };
-
-    /// How many banks it has.
-    fn banks(&self) -> u8
-        ensures { result ≡ bank_count self.now };
-
-    /// What stands before the banks.
-    fn front(&self) -> [u8; FRONT_SIZE]
-        requires { is_told self.now }
-        ensures { result ≡ take FRONT_SIZE (bytes self.now) };
-
-    /// The bytes of a bank. Banks are numbered from 1.
-    fn bank(&self, bank: u8) -> [u8; BANK_SIZE]
-        requires told { is_told self.now }
-        requires from { 1 ≤ bank }
-        requires to { bank ≤ bank_count self.now }
-        ensures { result ≡ slice_range (bytes self.now) (place_of bank) (place_of bank + BANK_SIZE) };
-}
+use edr_layout::{MAGIC, image_size, not_magic, place_of};
 
 // Puts another byte over the first of the magic.
 fn unmark<N: Nvm>(nvm: &mut N, first: u8) -> Result<(), Failed>
     requires { 1 ≤ N.extent nvm.old }
     ensures lent { Lent N.Nvm nvm.old nvm.new result }
     ensures later { N.clock nvm.old ≤ N.clock nvm.new }
-    ensures bare { OnOk result (
-        (bytes : List ℕ) → At N.Nvm IsQuiet nvm.old bytes → slice_index bytes 0 ≡ first
-        → (now : List ℕ) × At N.Nvm IsBare nvm.new now × SameBut 0 1 bytes now) }
-    ensures any_moment { (bytes : List ℕ) → At N.Nvm IsQuiet nvm.old bytes → slice_index bytes 0 ≡ first
-        → Meanwhile N.Nvm nvm.old nvm.new (IsUnmarking bytes) }
+    ensures bare { OnOk result (FromFirst N.Nvm first IsBared nvm.old nvm.new) }
+    ensures any_moment { FirstMeanwhile N.Nvm first IsUnmarking nvm.old nvm.new }
 {
     if first == MAGIC[0] {
         return write_settled(nvm, 0, &[0]);
@@ -61,17 +29,11 @@ fn unmark<N: Nvm>(nvm: &mut N, first: u8) -> Result<(), Failed>
 
 // Writes the image but its first byte, and settles nothing.
 fn lay_image<N: Nvm, I: Image>(nvm: &mut N, image: &I) -> Result<(), Failed>
-    requires told { I.is_told image.now }
-    requires whole { IsImageOf (image_size (I.bank_count image.now)) (I.bytes image.now) }
-    requires few { I.bank_count image.now ≤ MOST_BANKS }
-    requires room { image_size (I.bank_count image.now) ≤ N.extent nvm.old }
+    requires { HasPlace I.Image image.now (N.extent nvm.old) }
     ensures lent { Lent N.Nvm nvm.old nvm.new result }
     ensures later { N.clock nvm.old ≤ N.clock nvm.new }
-    ensures laid { OnOk result (
-        (bytes : List ℕ) → At N.Nvm IsBare nvm.old bytes
-        → At N.Nvm (Laid (image_size (I.bank_count image.now)) (I.bytes image.now) (image_size (I.bank_count image.now)) bytes) nvm.new) }
-    ensures any_moment { (bytes : List ℕ) → At N.Nvm IsBare nvm.old bytes
-        → Meanwhile N.Nvm nvm.old nvm.new (IsUnmarked (image_size (I.bank_count image.now)) bytes) }
+    ensures laid { OnOk result (FromBare N.Nvm (AllLaid I.Image image.now) nvm.old nvm.new) }
+    ensures any_moment { BareMeanwhile N.Nvm (IsUnmarked (full_size I.Image image.now)) nvm.old nvm.new }
 {
     let front = image.front();
     nvm.write(1, &front[1..])?;
@@ -84,17 +46,11 @@ fn lay_image<N: Nvm, I: Image>(nvm: &mut N, image: &I) -> Result<(), Failed>
 
 // Writes the image but its first byte, and settles it.
 fn fill_image<N: Nvm, I: Image>(nvm: &mut N, image: &I) -> Result<(), Failed>
-    requires told { I.is_told image.now }
-    requires whole { IsImageOf (image_size (I.bank_count image.now)) (I.bytes image.now) }
-    requires few { I.bank_count image.now ≤ MOST_BANKS }
-    requires room { image_size (I.bank_count image.now) ≤ N.extent nvm.old }
+    requires { HasPlace I.Image image.now (N.extent nvm.old) }
     ensures lent { Lent N.Nvm nvm.old nvm.new result }
     ensures later { N.clock nvm.old ≤ N.clock nvm.new }
-    ensures filled { OnOk result (
-        (bytes : List ℕ) → At N.Nvm IsBare nvm.old bytes
-        → (now : List ℕ) × At N.Nvm IsQuiet nvm.new now × IsFilled (image_size (I.bank_count image.now)) (I.bytes image.now) bytes now) }
-    ensures any_moment { (bytes : List ℕ) → At N.Nvm IsBare nvm.old bytes
-        → Meanwhile N.Nvm nvm.old nvm.new (IsUnmarked (image_size (I.bank_count image.now)) bytes) }
+    ensures filled { OnOk result (FromBare N.Nvm (AllFilled I.Image image.now) nvm.old nvm.new) }
+    ensures any_moment { BareMeanwhile N.Nvm (IsUnmarked (full_size I.Image image.now)) nvm.old nvm.new }
 {
     lay_image(nvm, image)?;
     nvm.sync()
@@ -102,17 +58,11 @@ fn fill_image<N: Nvm, I: Image>(nvm: &mut N, image: &I) -> Result<(), Failed>
 
 // Writes the image, its first byte last.
 fn put_image<N: Nvm, I: Image>(nvm: &mut N, image: &I) -> Result<(), Failed>
-    requires told { I.is_told image.now }
-    requires whole { IsImageOf (image_size (I.bank_count image.now)) (I.bytes image.now) }
-    requires few { I.bank_count image.now ≤ MOST_BANKS }
-    requires room { image_size (I.bank_count image.now) ≤ N.extent nvm.old }
+    requires { HasPlace I.Image image.now (N.extent nvm.old) }
     ensures lent { Lent N.Nvm nvm.old nvm.new result }
     ensures later { N.clock nvm.old ≤ N.clock nvm.new }
-    ensures done { OnOk result (
-        (bytes : List ℕ) → At N.Nvm IsBare nvm.old bytes
-        → At N.Nvm IsQuiet nvm.new (over (image_size (I.bank_count image.now)) (I.bytes image.now) bytes)) }
-    ensures any_moment { (bytes : List ℕ) → At N.Nvm IsBare nvm.old bytes
-        → Meanwhile N.Nvm nvm.old nvm.new (IsPartlyOver (image_size (I.bank_count image.now)) (I.bytes image.now) bytes) }
+    ensures done { OnOk result (FromBare N.Nvm (AllOver I.Image image.now) nvm.old nvm.new) }
+    ensures any_moment { BareMeanwhile N.Nvm (PartlyOver I.Image image.now) nvm.old nvm.new }
 {
     fill_image(nvm, image)?;
     write_settled(nvm, 0, &MAGIC[..1])
@@ -120,17 +70,11 @@ fn put_image<N: Nvm, I: Image>(nvm: &mut N, image: &I) -> Result<(), Failed>
 
 // Lays the image over a device whose first byte is this one.
 fn write_image<N: Nvm, I: Image>(nvm: &mut N, first: u8, image: &I) -> Result<(), Failed>
-    requires told { I.is_told image.now }
-    requires whole { IsImageOf (image_size (I.bank_count image.now)) (I.bytes image.now) }
-    requires few { I.bank_count image.now ≤ MOST_BANKS }
-    requires room { image_size (I.bank_count image.now) ≤ N.extent nvm.old }
+    requires { HasPlace I.Image image.now (N.extent nvm.old) }
     ensures lent { Lent N.Nvm nvm.old nvm.new result }
     ensures later { N.clock nvm.old ≤ N.clock nvm.new }
-    ensures done { OnOk result (
-        (bytes : List ℕ) → At N.Nvm IsQuiet nvm.old bytes → slice_index bytes 0 ≡ first
-        → At N.Nvm IsQuiet nvm.new (over (image_size (I.bank_count image.now)) (I.bytes image.now) bytes)) }
-    ensures any_moment { (bytes : List ℕ) → At N.Nvm IsQuiet nvm.old bytes → slice_index bytes 0 ≡ first
-        → Meanwhile N.Nvm nvm.old nvm.new (IsPartlyOver (image_size (I.bank_count image.now)) (I.bytes image.now) bytes) }
+    ensures done { OnOk result (FromFirst N.Nvm first (AllOver I.Image image.now) nvm.old nvm.new) }
+    ensures any_moment { FirstMeanwhile N.Nvm first (PartlyOver I.Image image.now) nvm.old nvm.new }
 {
     unmark(nvm, first)?;
     put_image(nvm, image)
@@ -142,32 +86,27 @@ fn write_image<N: Nvm, I: Image>(nvm: &mut N, first: u8, image: &I) -> Result<()
 /// A crash inside the call leaves the bytes as they were, or without the magic, or the new image.
 pub fn lay<N: Nvm, I: Image>(nvm: &mut N, image: &I) -> Result<(), FormatFault>
     requires told { I.is_told image.now }
-    requires whole { IsImageOf (image_size (I.bank_count image.now)) (I.bytes image.now) }
+    requires whole { IsImageOf (full_size I.Image image.now) (I.bytes image.now) }
     requires few { I.bank_count image.now ≤ MOST_BANKS }
     ensures lent { GoesOn N.Nvm nvm.old nvm.new }
     ensures later { N.clock nvm.old ≤ N.clock nvm.new }
     // Each refusal with its cause.
-    ensures short { N.extent nvm.old < image_size (I.bank_count image.now)
-        → result ≡ Err (Short (N.extent nvm.old) (image_size (I.bank_count image.now))) }
-    ensures sizes { IfErr result (λ e. (size needed : ℕ) → e ≡ Short size needed
-        → (size ≡ N.extent nvm.old) × (needed ≡ image_size (I.bank_count image.now)) × (size < needed)) }
-    ensures formatted { IfErr result (λ e. e ≡ Formatted → (image_size (I.bank_count image.now) ≤ N.extent nvm.old)
-        × ((bytes : List ℕ) → N.content nvm.old ≡ Some bytes → not_magic bytes ≡ None)) }
+    ensures short { N.extent nvm.old < full_size I.Image image.now
+        → result ≡ Err (Short (N.extent nvm.old) (full_size I.Image image.now)) }
+    ensures sizes { IfErr result (HasSizes (N.extent nvm.old) (full_size I.Image image.now)) }
+    ensures formatted { IfErr result (HasMagic (N.content nvm.old) (N.extent nvm.old) (full_size I.Image image.now)) }
     ensures not_formatted { OnOk result ((bytes : List ℕ) → N.content nvm.old ≡ Some bytes → LacksMagic bytes) }
-    ensures fault { IfErr result (λ e. e ≡ StoreFault → (image_size (I.bank_count image.now) ≤ N.extent nvm.old)
+    ensures fault { IfErr result (λ e. e ≡ StoreFault → (full_size I.Image image.now ≤ N.extent nvm.old)
         × Rose (N.faults nvm.old) (N.faults nvm.new)) }
     ensures faults { N.faults nvm.old ≤ N.faults nvm.new }
-    ensures room { OnOk result (image_size (I.bank_count image.now) ≤ N.extent nvm.old) }
+    ensures room { OnOk result (full_size I.Image image.now ≤ N.extent nvm.old) }
     // A refusal changes nothing; nor does a fault where the magic stands.
     ensures refused { IfErr result (λ e. e ≢ StoreFault → OnlyRead N.Nvm nvm.old nvm.new) }
     ensures magic_stays { (bytes : List ℕ) → N.content nvm.old ≡ Some bytes → not_magic bytes ≡ None
         → OnlyRead N.Nvm nvm.old nvm.new }
-    ensures done { OnOk result ((bytes : List ℕ) → At N.Nvm IsQuiet nvm.old bytes
-        → At N.Nvm IsQuiet nvm.new (over (image_size (I.bank_count image.now)) (I.bytes image.now) bytes)) }
-    ensures any_moment { (bytes : List ℕ) → At N.Nvm IsQuiet nvm.old bytes
-        → Meanwhile N.Nvm nvm.old nvm.new (IsPartlyOver (image_size (I.bank_count image.now)) (I.bytes image.now) bytes) }
-    ensures each { (bytes left : List ℕ) → At N.Nvm IsQuiet nvm.old bytes → LeftSince N.Nvm nvm.old nvm.new left
-        → IsPartlyOver (image_size (I.bank_count image.now)) (I.bytes image.now) bytes left }
+    ensures done { OnOk result (SettlesTo N.Nvm (laid_over I.Image image.now) nvm.old nvm.new) }
+    ensures any_moment { LeavesMeanwhile N.Nvm (PartlyOver I.Image image.now) nvm.old nvm.new }
+    ensures each { LeavesSince N.Nvm (PartlyOver I.Image image.now) nvm.old nvm.new }
 {
     let size = nvm.size();
     let needed = image_size(image.banks());

@@ -9,6 +9,7 @@ use std::marker::Model;
 mod applying;
 mod choosing;
 mod formatting;
+mod image;
 mod laying;
 mod opening;
 mod retrieving;
@@ -17,7 +18,8 @@ mod tasks;
 #[cfg(test)]
 mod tests;
 
-pub use crate::laying::{Image, lay};
+pub use crate::image::Image;
+pub use crate::laying::lay;
 pub use edr_image::{
     Ack, Applied, BankView, Choice, CycleReport, Found, Header, HeaderRefused, Kind, Log, OpenFault,
 };

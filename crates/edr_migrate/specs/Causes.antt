@@ -22,15 +22,19 @@ laying_fault (format_fault.Short size needed) = Short size needed
 laying_fault format_fault.Formatted = Formatted
 laying_fault format_fault.StoreFault = StoreFault
 
+-- how many bytes the new image has of an old one that says this
+abbrev pub new_size : View → ℕ
+new_size v = image_size v.store.header.banks
+
 -- the old image says this, and a device of this size has room for the new one
 pub record HasRoom (old : List ℕ) (size : ℕ) (v : View) : Type 0 where
   pub old_is : IsWhole old v
-  pub room : image_size v.store.header.banks ≤ size
+  pub room : new_size v ≤ size
 
 -- the device is too short for an old image that says this
 pub record LacksRoom (old : List ℕ) (size needed : ℕ) (v : View) : Type 0 where
   pub old_is : IsWhole old v
-  pub needs : needed ≡ image_size v.store.header.banks
+  pub needs : needed ≡ new_size v
   pub short : size < needed
 
 -- the cause of each fault, over a device of this size that told this content and counted these faults

@@ -1,5 +1,5 @@
 -- The bytes of the image that a migration makes, and what a crash inside it may leave.
-use Rattle.std.specs.Prelude.{◌≡◌, ◌⊎◌, ℕ, Bool, not, nat_eq, if◌then◌else◌, Option, Some, List, ◌∷◌, ◌++◌, drop, length, is_some, flat_map, replicate, take}
+use Rattle.std.specs.Prelude.{◌≡◌, ◌⊎◌, ℕ, Bool, not, nat_eq, if◌then◌else◌, Option, Some, List, ◌∷◌, ◌++◌, drop, is_some, flat_map, replicate, take}
 use Rattle.std.specs.Option.{option_map_or}
 use Rattle.byteorder.specs.Endian.{big_bytes}
 use Rattle.edr_record.specs.Parts.{CrashPart}
@@ -10,7 +10,10 @@ use Rattle.edr_image.specs.declared.Header.{Header}
 use Rattle.edr_image.specs.declared.places.TheConstants.{BANK_SIZE, CRASH_SIZE, FIRST_SLOT, OPEN_GATE}
 use Rattle.edr_image.specs.Image.{View, image_size, new_image, view_of}
 use Rattle.edr_image.specs.PartBytes.{crash_bytes, pre_bytes}
-use Rattle.edr_banks.specs.Formatting.{LacksMagic, SamePast}
+use Rattle.edr_device.specs.Faults.{Rose}
+use Rattle.edr_device.specs.declared.device.Nvm.{Ghosts}
+use Rattle.edr_image.specs.Kept.{IsKept}
+use Rattle.edr_banks.specs.Laying.{IsPartlyLaid, LacksMagic}
 use Rattle.edr_migrate.specs.Migrated.{migrated}
 
 -- ---- its bytes
@@ -51,7 +54,14 @@ pub record IsMigrated (v : View) (bytes image : List ℕ) : Type 0 where
   pub view : view_of image ≡ Some (migrated v)
 
 -- the bytes are as they were, or the magic doesn't stand, or the image is migrated; and what stands past it is as it was
-pub record IsPartlyMigrated (v : View) (bytes image : List ℕ) : Type 0 where
-  pub size : length image ≡ length bytes
-  pub past : SamePast v.store.header bytes image
-  pub says : (image ≡ bytes) ⊎ (LacksMagic image ⊎ IsMigrated v bytes image)
+abbrev pub IsPartlyMigrated : View → List ℕ → List ℕ → Type 0
+IsPartlyMigrated v bytes image = IsPartlyLaid (image_size v.store.header.banks) (IsMigrated v bytes) bytes image
+
+-- the bytes are as they were, or the magic doesn't stand, or the image is kept
+abbrev pub IsKeptAnew : List ℕ → List ℕ → Type 0
+IsKeptAnew bytes image = (image ≡ bytes) ⊎ (LacksMagic image ⊎ IsKept image)
+
+-- where the magic doesn't stand and the device doesn't fail, this is so
+abbrev pub Completes : {D : Type 0} → Ghosts D → D → D → Type 0 → Type 0
+Completes g old new done =
+    (bytes : List ℕ) → g.content old ≡ Some bytes → LacksMagic bytes → ¬ Rose (g.faults old) (g.faults new) → done

@@ -2,16 +2,14 @@
 #![tactic(auto)]
 
 ghost use Rattle.std.specs.Prelude.{◌≡◌, ◌≢◌, ◌⊎◌, ◌≤◌, ◌<◌, ℕ, List, Some, None, Ok, Err, length, IfOk, IfErr, OnOk};
-ghost use Rattle.edr_device.specs.Device.{IsQuiet};
-ghost use Rattle.edr_device.specs.Faults.{Rose};
-ghost use Rattle.edr_device.specs.Lent.{At, GoesOn, LeftSince, Meanwhile, OnlyRead};
+ghost use Rattle.edr_device.specs.Lent.{GoesOn, LeavesMeanwhile, OnlyRead};
 ghost use Rattle.edr_image.specs.declared.OldRefused.{OldRefused};
-ghost use Rattle.edr_image.specs.Image.{View, image_size, not_magic, old_refusal, old_view_of};
-ghost use Rattle.edr_image.specs.Kept.{AreKept, IsKept};
-ghost use Rattle.edr_banks.specs.Formatting.{LacksMagic};
-ghost use Rattle.edr_migrate.specs.Causes.{HasRoom, IsCause, LacksRoom, fault_of, laying_fault};
+ghost use Rattle.edr_image.specs.Image.{View, not_magic, old_refusal, old_view_of};
+ghost use Rattle.edr_image.specs.Kept.{AreKept};
+ghost use Rattle.edr_banks.specs.Laying.{LacksMagic, LeavesSince, SettlesIn};
+ghost use Rattle.edr_migrate.specs.Causes.{HasRoom, IsCause, LacksRoom, fault_of, laying_fault, new_size};
 ghost use Rattle.edr_migrate.specs.Migrated.{IsWhole, migrated_of};
-ghost use Rattle.edr_migrate.specs.NewBytes.{IsMigrated, IsPartlyMigrated};
+ghost use Rattle.edr_migrate.specs.NewBytes.{Completes, IsKeptAnew, IsMigrated, IsPartlyMigrated};
 ghost use Rattle.edr_migrate.specs.declared.MigrateFault.TheVariants.{Short, Formatted, StoreFault};
 
 mod new_bytes;
@@ -107,8 +105,8 @@ pub fn migrate<N: Nvm>(nvm: &mut N, old: &[u8]) -> Result<Migrated, MigrateFault
     ensures faults { N.faults nvm.old ≤ N.faults nvm.new }
     // Each refusal exactly by its cause: the old image comes first, then the size of the device, then its magic.
     ensures old_refused { (e : OldRefused) → old_refusal old.now ≡ Some e → result ≡ Err (fault_of e) }
-    ensures short { (v : View) → LacksRoom old.now (N.extent nvm.old) (image_size v.store.header.banks) v
-        → result ≡ Err (Short (N.extent nvm.old) (image_size v.store.header.banks)) }
+    ensures short { (v : View) → LacksRoom old.now (N.extent nvm.old) (new_size v) v
+        → result ≡ Err (Short (N.extent nvm.old) (new_size v)) }
     ensures cause { IfErr result (IsCause old.now (N.extent nvm.old) (N.content nvm.old) (N.faults nvm.old) (N.faults nvm.new)) }
     // A refusal changes nothing; nor does a fault where the magic stands.
     ensures refused { IfErr result (λ e. e ≢ StoreFault → OnlyRead N.Nvm nvm.old nvm.new) }
@@ -117,22 +115,17 @@ pub fn migrate<N: Nvm>(nvm: &mut N, old: &[u8]) -> Result<Migrated, MigrateFault
     ensures not_formatted { OnOk result ((bytes : List ℕ) → N.content nvm.old ≡ Some bytes → LacksMagic bytes) }
     ensures counts { IfOk result (λ m. (v : View) × HasRoom old.now (N.extent nvm.old) v × (m ≡ migrated_of v)) }
     ensures done { OnOk result ((v : View) → old_view_of old.now ≡ Some v
-        → (bytes : List ℕ) → At N.Nvm IsQuiet nvm.old bytes
-        → (now : List ℕ) × At N.Nvm IsQuiet nvm.new now × IsMigrated v bytes now) }
+        → SettlesIn N.Nvm (IsMigrated v) nvm.old nvm.new) }
     // Where nothing refuses it and the device doesn't fail, it is done.
     ensures complete { (v : View) → HasRoom old.now (N.extent nvm.old) v
-        → (bytes : List ℕ) → N.content nvm.old ≡ Some bytes → LacksMagic bytes
-        → ¬ Rose (N.faults nvm.old) (N.faults nvm.new) → result ≡ Ok (migrated_of v) }
+        → Completes N.Nvm nvm.old nvm.new (result ≡ Ok (migrated_of v)) }
     ensures any_moment { (v : View) → old_view_of old.now ≡ Some v
-        → (bytes : List ℕ) → At N.Nvm IsQuiet nvm.old bytes
-        → Meanwhile N.Nvm nvm.old nvm.new (IsPartlyMigrated v bytes) }
+        → LeavesMeanwhile N.Nvm (IsPartlyMigrated v) nvm.old nvm.new }
     ensures each { (v : View) → old_view_of old.now ≡ Some v
-        → (bytes image : List ℕ) → At N.Nvm IsQuiet nvm.old bytes → LeftSince N.Nvm nvm.old nvm.new image
-        → IsPartlyMigrated v bytes image }
+        → LeavesSince N.Nvm (IsPartlyMigrated v) nvm.old nvm.new }
     // Where the old image was one that this program formatted, the new one is kept too.
     ensures kept { (v : View) → old_view_of old.now ≡ Some v → AreKept v.store.banks v.count
-        → (bytes image : List ℕ) → At N.Nvm IsQuiet nvm.old bytes → LeftSince N.Nvm nvm.old nvm.new image
-        → (image ≡ bytes) ⊎ (LacksMagic image ⊎ IsKept image) }
+        → LeavesSince N.Nvm IsKeptAnew nvm.old nvm.new }
 {
     let image = match read_old(old) {
         Ok(image) => image,
