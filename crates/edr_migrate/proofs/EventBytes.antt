@@ -3,8 +3,9 @@ use Rattle.std.proofs.Common.{◌≡◌, ◌<◌, ◌+◌, ◌++◌, ◌∙◌, 
 use Rattle.std.specs.Prelude.{IfSome, is_some}
 use Rattle.std.specs.Option.{option_map_or}
 use Rattle.std.proofs.lemmas.Grind.{common_steps}
-use Rattle.edr_record.specs.Bounds.{IsCrash, IsPre}
+use Rattle.edr_record.specs.Bounds.{IsCrash, IsPre, slots_in}
 use Rattle.edr_record.specs.Parts.{CrashPart, PrePart}
+use Rattle.edr_record.specs.declared.Profile.TheVariants.{Short}
 use Rattle.edr_record.specs.declared.Record.{Record}
 use Rattle.edr_image.specs.declared.BankView.{BankView}
 use Rattle.edr_image.specs.declared.BankView.TheVariants.{Void, Event, Damaged}
@@ -17,8 +18,7 @@ use Rattle.edr_codec.proofs.CrashLemmas.{crash_at-is}
 use Rattle.edr_codec.proofs.GrammarLaws.{pre_at-in_bounds}
 use Rattle.edr_codec.proofs.MovedLaws.{crash_at-moved, crash_damage-moved, pre_at-moved, pre_damage-moved, range-stands}
 use Rattle.edr_codec.proofs.PreLaws.{pre-read_back}
-use Rattle.edr_codec.proofs.PreLemmas.{by-short}
-use Rattle.edr_codec.proofs.VersionLemmas.{version_1-form, version_1-short, version_2-profile}
+use Rattle.edr_codec.proofs.VersionLemmas.{version_1-form, version_1-parts, version_2-profile}
 use Rattle.edr_gates.proofs.BankBytes.{IsPreFrom, ShowsCrash, ShowsEvent, both_none, crash_moves, pre_moves, shows_bank}
 use Rattle.edr_gates.proofs.Matching.{Match}
 use Rattle.edr_migrate.specs.NewBytes.{bank_bytes, done_bytes, event_bytes, gate_byte}
@@ -43,13 +43,13 @@ moved_none : (at : ℕ) (o : Option ℕ) → option_map (λ k. at + k) o ≡ Non
 moved_none at None e = refl
 moved_none at (Some k) e = absurd (let y : ⊥ = cc in y)
 
-old_pre_is : (bank : List ℕ) → old_pre_damage bank 16 ≡ None → IsPre (old_pre_at bank 16)
+old_pre_is : (bank : List ℕ) → old_pre_damage bank 16 ≡ None → IsPre (old_pre_at bank 16) × ((old_pre_at bank 16).profile ≡ Short)
 old_pre_is bank e =
     let part = slice_range bank 16 (16 + 160) in
     let stands = range-stands bank 16 160 in
     let none = moved_none 16 (pre_damage_by VERSION_1.pre part 0) (sym (pre_damage-moved VERSION_1.pre version_1-form 16 bank part stands) ∙ e) in
-    let there = by-short VERSION_1.pre (pre_at_by VERSION_1.pre part 0) version_1-short (pre_at-in_bounds VERSION_1.pre part version_1-form none) in
-    subst (λ (p : PrePart). IsPre p) (sym (pre_at-moved VERSION_1.pre version_1-form 16 bank part stands)) there
+    let there = (version_1-parts (pre_at_by VERSION_1.pre part 0)).0 (pre_at-in_bounds VERSION_1.pre part version_1-form none) in
+    subst (λ (p : PrePart). IsPre p × (p.profile ≡ Short)) (sym (pre_at-moved VERSION_1.pre version_1-form 16 bank part stands)) there
 
 old_crash_is : (bank : List ℕ) → old_crash_damage bank 176 ≡ None → IsCrash (crash_at bank 176)
 old_crash_is bank e =
@@ -73,7 +73,26 @@ unfolding bank_view_by
 old_sound bank whole =
     view_case (is_open bank 0) (bank_damage_by VERSION_1 bank) (slice_index bank) (is_open bank 1) (record_by VERSION_1 bank) (bank_view_by VERSION_1 bank) refl whole (λ none.
     let both = both_none (old_pre_damage bank 16) (cond (is_open bank 2) (old_crash_damage bank 176) None) none in
-    record { pre = old_pre_is bank both.0; crash = done_case bank (is_open bank 2) both.1 })
+    record { pre = (old_pre_is bank both.0).0; crash = done_case bank (is_open bank 2) both.1 })
+
+-- ---- and short
+
+-- an event has the profile short
+abbrev pub IsShortBank : BankView → Type 0
+IsShortBank Void = Unit {0}
+IsShortBank (Event r) = r.pre.profile ≡ Short
+IsShortBank (Damaged o f l) = Unit {0}
+
+short_case : (o : Bool) (damage : Option ℕ) (f : ℕ → ℕ) (lock : Bool) (x : Record) → (damage ≡ None → x.pre.profile ≡ Short) → IsShortBank (cond o (option_map_or (λ k. Damaged k (f k) lock) damage (Event x)) Void)
+short_case false damage f lock x whole = tt
+short_case true None f lock x whole = whole refl
+short_case true (Some k) f lock x whole = tt
+
+pub old_short : (bank : List ℕ) → IsShortBank (old_bank_view bank)
+unfolding bank_view_by
+old_short bank =
+    short_case (is_open bank 0) (bank_damage_by VERSION_1 bank) (slice_index bank) (is_open bank 1) (record_by VERSION_1 bank) (λ none.
+    (old_pre_is bank (both_none (old_pre_damage bank 16) (cond (is_open bank 2) (old_crash_damage bank 176) None) none).0).1)
 
 -- ---- what is written says the same
 
@@ -98,7 +117,7 @@ sizes : (a b c : ℕ) (pre done : List ℕ) → length pre ≡ 848 → length do
 sizes a b c pre done long short = grind (arith, common_steps)
 
 pub pre_length : (pre : PrePart) → IsPre pre → length (pre_bytes pre) ≡ 848
-pre_length pre is = (pre-read_back VERSION_2.pre 11 pre is version_2-profile).0
+pre_length pre is = (pre-read_back VERSION_2.pre (slots_in pre.profile) pre is (version_2-profile pre.profile)).0
 
 done_length : (crash : Option CrashPart) → IfSome crash IsCrash → length (done_bytes crash) ≡ 160
 done_length None is = let e : length {A = ℕ} (replicate 160 0) ≡ 160 = refl in e
@@ -106,7 +125,7 @@ done_length (Some c) is = (crash-read_back VERSION_2.crash c is).0
 
 pre_from : (r : Record) → IsPre r.pre → IsPreFrom (event_bytes r) 16 r.pre
 pre_from r is =
-    let back = pre-read_back VERSION_2.pre 11 r.pre is version_2-profile in
+    let back = pre-read_back VERSION_2.pre (slots_in r.pre.profile) r.pre is (version_2-profile r.pre.profile) in
     let put : Match (pre_bytes r.pre) 0 (event_bytes r) 16 848 = record { same = λ j below. pre_there OPEN_GATE (gate_byte r.locked) (gate_byte (is_some r.crash)) j (pre_bytes r.pre) (done_bytes r.crash) (omega (arith, back.0)) } in
     pre_moves (pre_bytes r.pre) 0 (event_bytes r) 16 r.pre put (record { whole = back.1; same = back.2 })
 

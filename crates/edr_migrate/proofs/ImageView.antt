@@ -16,7 +16,7 @@ use Rattle.edr_codec.proofs.NumberLemmas.{number-put}
 use Rattle.edr_layout.proofs.NewFront.{front}
 use Rattle.edr_banks.proofs.NewView.{header_is, not_refused, same_view}
 use Rattle.edr_banks.specs.Laying.{IsImageOf}
-use Rattle.edr_migrate.specs.Migrated.{AreWhole, migrated, migrated_bank}
+use Rattle.edr_migrate.specs.Migrated.{AreWhole}
 use Rattle.edr_migrate.specs.NewBytes.{bank_bytes, gate_byte, image_of}
 use Rattle.edr_migrate.specs.OldImage.{IsOld, view_in}
 use Rattle.edr_migrate.proofs.EventBytes.{AreSound, bank_says, old_sound}
@@ -110,17 +110,6 @@ old_view_sound h count old is = record {
 
 pub view_whole : (v : View) → IsSoundView v → IsImageOf (image_size v.store.header.banks) (image_of v)
 view_whole v sound = record { some = omega arith; size = image_length v sound.banks sound.many; marked = image_first v }
-
--- ---- what a migration keeps is all that an image says
-
-banks_kept : (xs : List BankView) → map migrated_bank xs ≡ xs
-banks_kept [] = refl
-banks_kept (Void ∷ xs) = ap (λ (ys : List BankView). Void ∷ ys) (banks_kept xs)
-banks_kept (Event r ∷ xs) = ap (λ (ys : List BankView). Event r ∷ ys) (banks_kept xs)
-banks_kept (Damaged o f l ∷ xs) = ap (λ (ys : List BankView). Damaged o f l ∷ ys) (banks_kept xs)
-
-pub migrated_is : (v : View) → migrated v ≡ v
-migrated_is v = ap (λ (xs : List BankView). let w : View = record { store = record { header = v.store.header; banks = xs }; count = v.count } in w) (banks_kept v.store.banks)
 
 -- a bank of the image is that of the old one
 pub old_bank_range : (h : Header) (count : ℕ) (old : List ℕ) (m : ℕ) (view : BankView) (bytes : List ℕ) → IsOld h count old → 1 ≤ m → m ≤ h.banks → view ≡ old_view_at old m → bytes ≡ bank_bytes view

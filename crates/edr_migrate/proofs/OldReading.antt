@@ -59,7 +59,7 @@ cond_some : {X : Type 0} (o : Option OpenFault) (x v : X) → cond (is_none o) (
 cond_some None x v e = (refl, cc)
 cond_some (Some f) x v e = absurd (let y : ⊥ = cc in y)
 
-seen : (old : List ℕ) (v : View) → old_view_of old ≡ Some v → (image_refusal_by VERSION_1 old ≡ None) × (view_in (header_of old) (count_of old) old ≡ v)
+pub seen : (old : List ℕ) (v : View) → old_view_of old ≡ Some v → (image_refusal_by VERSION_1 old ≡ None) × (view_in (header_of old) (count_of old) old ≡ v)
 unfolding view_by
 seen old v is = cond_some (image_refusal_by VERSION_1 old) (view_in (header_of old) (count_of old) old) v is
 

@@ -10,23 +10,24 @@ use Rattle.edr_banks.specs.Laying.{IsOver, IsPartlyOver, LacksMagic, over}
 use Rattle.edr_migrate.specs.Migrated.{IsWhole}
 use Rattle.edr_migrate.specs.NewBytes.{IsMigrated, IsPartlyMigrated, image_of}
 use Rattle.edr_migrate.specs.OldImage.{IsOld, view_in}
-use Rattle.edr_migrate.proofs.ImageView.{IsSoundView, migrated_is, old_view_sound, view_is}
+use Rattle.edr_migrate.proofs.ImageView.{IsSoundView, old_view_sound, view_is}
 use Rattle.edr_migrate.proofs.OldReading.{view_same, whole_passes}
+use Rattle.edr_migrate.proofs.ShortEvents.{migrated_is}
 
--- ---- of a sound view
+-- ---- of a sound view of an old image
 
-new_migrated : (v : View) (bytes image : List ℕ) → IsSoundView v → image ≡ over (image_size v.store.header.banks) (image_of v) bytes → IsMigrated v bytes image
-new_migrated v bytes image sound is = record { same = is; view = ap view_of is ∙ view_is v (drop (image_size v.store.header.banks) bytes) sound ∙ ap Some (sym (migrated_is v)) }
+new_migrated : (old : List ℕ) (v : View) (bytes image : List ℕ) → old_view_of old ≡ Some v → IsSoundView v → image ≡ over (image_size v.store.header.banks) (image_of v) bytes → IsMigrated v bytes image
+new_migrated old v bytes image seen sound is = record { same = is; view = ap view_of is ∙ view_is v (drop (image_size v.store.header.banks) bytes) sound ∙ ap Some (sym (migrated_is old v seen)) }
 
-part_migrated : (v : View) (bytes image : List ℕ) → IsSoundView v → IsPartlyOver (image_size v.store.header.banks) (image_of v) bytes image → IsPartlyMigrated v bytes image
-part_migrated v bytes image sound part = record {
+part_migrated : (old : List ℕ) (v : View) (bytes image : List ℕ) → old_view_of old ≡ Some v → IsSoundView v → IsPartlyOver (image_size v.store.header.banks) (image_of v) bytes image → IsPartlyMigrated v bytes image
+part_migrated old v bytes image seen sound part = record {
   size = part.size;
   past = part.past;
   says = ⊎_elim
       (λ (same : image ≡ bytes). inl same)
       (λ (other : LacksMagic image ⊎ IsOver (image_size v.store.header.banks) (image_of v) bytes image). inr (⊎_elim
       (λ (none : LacksMagic image). inl none)
-      (λ (new : IsOver (image_size v.store.header.banks) (image_of v) bytes image). inr (new_migrated v bytes image sound new))
+      (λ (new : IsOver (image_size v.store.header.banks) (image_of v) bytes image). inr (new_migrated old v bytes image seen sound new))
       other))
       part.says;
 }
@@ -36,11 +37,11 @@ part_migrated v bytes image sound part = record {
 pub old_over : (h : Header) (count : ℕ) (old : List ℕ) (v : View) (bytes : List ℕ) → IsOld h count old → old_view_of old ≡ Some v → IsMigrated v bytes (over (image_size h.banks) (image_of (view_in h count old)) bytes)
 old_over h count old v bytes is seen =
     subst (λ (w : View). IsMigrated w bytes (over (image_size h.banks) (image_of (view_in h count old)) bytes)) (view_same old (view_in h count old) v is.whole.view seen)
-    (new_migrated (view_in h count old) bytes (over (image_size h.banks) (image_of (view_in h count old)) bytes) (old_view_sound h count old is) refl)
+    (new_migrated old (view_in h count old) bytes (over (image_size h.banks) (image_of (view_in h count old)) bytes) is.whole.view (old_view_sound h count old is) refl)
 
 pub old_part : (h : Header) (count : ℕ) (old : List ℕ) (v : View) (bytes image : List ℕ) → IsOld h count old → old_view_of old ≡ Some v → IsPartlyOver (image_size h.banks) (image_of (view_in h count old)) bytes image → IsPartlyMigrated v bytes image
 old_part h count old v bytes image is seen part =
-    subst (λ (w : View). IsPartlyMigrated w bytes image) (view_same old (view_in h count old) v is.whole.view seen) (part_migrated (view_in h count old) bytes image (old_view_sound h count old is) part)
+    subst (λ (w : View). IsPartlyMigrated w bytes image) (view_same old (view_in h count old) v is.whole.view seen) (part_migrated old (view_in h count old) bytes image is.whole.view (old_view_sound h count old is) part)
 
 -- where nothing was done
 pub same_part : (v : View) (bytes : List ℕ) (content : Option (List ℕ)) (settled : ℕ → Bool) (image : List ℕ) → IsQuiet content settled bytes → MayLeave content settled image → IsPartlyMigrated v bytes image
@@ -50,12 +51,12 @@ same_part v bytes content settled image quiet left =
 
 -- ---- what is kept
 
-pub part_kept : (v : View) (bytes image : List ℕ) → AreKept v.store.banks v.count → IsPartlyMigrated v bytes image → (image ≡ bytes) ⊎ (LacksMagic image ⊎ IsKept image)
-part_kept v bytes image kept part = ⊎_elim
+pub part_kept : (old : List ℕ) (v : View) (bytes image : List ℕ) → old_view_of old ≡ Some v → AreKept v.store.banks v.count → IsPartlyMigrated v bytes image → (image ≡ bytes) ⊎ (LacksMagic image ⊎ IsKept image)
+part_kept old v bytes image seen kept part = ⊎_elim
     (λ (same : image ≡ bytes). inl same)
     (λ (other : LacksMagic image ⊎ IsMigrated v bytes image). inr (⊎_elim
     (λ (none : LacksMagic image). inl none)
-    (λ (new : IsMigrated v bytes image). inr (v, new.view ∙ ap Some (migrated_is v), kept))
+    (λ (new : IsMigrated v bytes image). inr (v, new.view ∙ ap Some (migrated_is old v seen), kept))
     other))
     part.says
 

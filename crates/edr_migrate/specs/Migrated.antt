@@ -1,5 +1,6 @@
 -- What a migration keeps of an image of version 1.
 use Rattle.std.specs.Prelude.{◌≡◌, ◌≢◌, ℕ, Bool, true, false, Some, List, map, count_by, slice_get}
+use Rattle.edr_record.specs.declared.Profile.TheVariants.{Short}
 use Rattle.edr_record.specs.declared.Record.{Record}
 use Rattle.edr_record.specs.Parts.{PrePart}
 use Rattle.edr_image.specs.declared.BankView.{BankView}
@@ -11,11 +12,12 @@ use Rattle.edr_migrate.specs.declared.Migrated.{Migrated}
 
 -- ---- the definition
 
--- the same key, place and slots
+-- the same key, place and slots, and the profile short
 abbrev pub migrated_pre : PrePart → PrePart
 migrated_pre p = record {
   key = p.key;
   place = p.place;
+  profile = Short;
   speed = p.speed;
   throttle = p.throttle;
   brake = p.brake;
@@ -43,6 +45,10 @@ migrated_store s = record { header = migrated_header s.header; banks = map migra
 -- what the new image says, where the old one says this: the same count too
 abbrev pub migrated : View → View
 migrated v = record { store = migrated_store v.store; count = v.count }
+
+-- each event has the profile short
+abbrev pub AreShort : List BankView → Type 0
+AreShort banks = (i : ℕ) (r : Record) → slice_get banks i ≡ Some (Event r) → r.pre.profile ≡ Short
 
 -- ---- what is migrated
 

@@ -12,6 +12,7 @@ ghost use Rattle.edr_migrate.specs.Migrated.{IsWhole, migrated_of};
 ghost use Rattle.edr_migrate.specs.NewBytes.{Completes, IsKeptAnew, IsMigrated, IsPartlyMigrated};
 ghost use Rattle.edr_migrate.specs.declared.MigrateFault.TheVariants.{Short, Formatted, StoreFault};
 
+pub mod laws;
 mod new_bytes;
 mod old_image;
 #[cfg(test)]

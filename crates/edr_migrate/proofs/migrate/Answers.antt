@@ -22,7 +22,7 @@ returns-in-Err-clause-each g c = λ v seen bytes image quiet left.
     same_part v bytes (D.content start) (D.settled start) image quiet (g.met.N.Nvm.only_now start image left)
 
 pub returns-in-Err-clause-kept : goal.returns-in-Err-clause-kept
-returns-in-Err-clause-kept g c = λ v seen kept bytes image quiet left. part_kept v bytes image kept (returns-in-Err-clause-each g c v seen bytes image quiet left)
+returns-in-Err-clause-kept g c = λ v seen kept bytes image quiet left. part_kept c.args.old.now v bytes image seen kept (returns-in-Err-clause-each g c v seen bytes image quiet left)
 
 pub lay-requires-clause-whole : goal.lay-requires-clause-whole
 lay-requires-clause-whole g c =
@@ -61,7 +61,7 @@ returns-in-Ok-lay-clause-each g c = λ v seen bytes image quiet left.
     old_part o.header o.count o.bytes.now v bytes image read.1 seen_there (c.lay.ensures.each bytes image quiet left)
 
 pub returns-in-Ok-lay-clause-kept : goal.returns-in-Ok-lay-clause-kept
-returns-in-Ok-lay-clause-kept g c = λ v seen kept bytes image quiet left. part_kept v bytes image kept (returns-in-Ok-lay-clause-each g c v seen bytes image quiet left)
+returns-in-Ok-lay-clause-kept g c = λ v seen kept bytes image quiet left. part_kept c.args.old.now v bytes image seen kept (returns-in-Ok-lay-clause-each g c v seen bytes image quiet left)
 
 pub returns-in-Err-lay-clause-old_refused : goal.returns-in-Err-lay-clause-old_refused
 returns-in-Err-lay-clause-old_refused g c = λ refused is.
@@ -89,4 +89,4 @@ returns-in-Err-lay-clause-each g c = λ v seen bytes image quiet left.
     old_part o.header o.count o.bytes.now v bytes image read.1 seen_there (c.lay.ensures.each bytes image quiet left)
 
 pub returns-in-Err-lay-clause-kept : goal.returns-in-Err-lay-clause-kept
-returns-in-Err-lay-clause-kept g c = λ v seen kept bytes image quiet left. part_kept v bytes image kept (returns-in-Err-lay-clause-each g c v seen bytes image quiet left)
+returns-in-Err-lay-clause-kept g c = λ v seen kept bytes image quiet left. part_kept c.args.old.now v bytes image seen kept (returns-in-Err-lay-clause-each g c v seen bytes image quiet left)
