@@ -7,7 +7,7 @@ use super::*;
 use edr_codec::read_crash;
 use edr_device::{Fused, MemNvm, Nvm};
 use edr_layout::OPEN_GATE;
-use edr_record::{Crash, Key, Place, Pre, Record};
+use edr_record::{Crash, Key, LONG_SLOTS, Place, Pre, Record, Slots};
 use std::alloc::{AllocError, Global};
 use std::process::Abort;
 use std::test::Fail;
@@ -18,11 +18,16 @@ fn pre(cycle: u32) -> Pre
     requires to { cycle ≤ 3 }
 {
     Pre {
-        key: Key { cycle, zero: 7_000 },
+        key: Key {
+            cycle,
+            zero: 27_000,
+        },
         place: Place::First,
-        speed: [Some(50); 11],
-        throttle: [Some(20); 11],
-        brake: [Some(false); 11],
+        slots: Slots::Long {
+            speed: [Some(50); LONG_SLOTS],
+            throttle: [Some(20); LONG_SLOTS],
+            brake: [Some(false); LONG_SLOTS],
+        },
         belt: Some(true),
         lamp: Some(false),
     }

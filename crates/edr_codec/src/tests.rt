@@ -1,13 +1,14 @@
 use super::*;
-use edr_record::{Crash, Extreme, Key, Place, Pre};
+use edr_record::{Crash, Extreme, Key, LONG_SLOTS, Place, Pre, Profile, SHORT_SLOTS, Slots};
 use std::process::Abort;
 
+mod long;
 mod old;
 
 // What a byte is changed to where each byte is tried.
 const CHANGES: [u8; 7] = [0, 1, 0x7f, 0x80, 0xa5, 0xfe, 0xff];
 
-// The parts of a crash from the front: the car loses 0.4 km/h in each of 97 ms.
+// The parts of a crash from the front, the first one short: the car loses 0.4 km/h in each of 97 ms.
 fn pre() -> Pre {
     Pre {
         key: Key {
@@ -15,9 +16,11 @@ fn pre() -> Pre {
             zero: 6003,
         },
         place: Place::First,
-        speed: [Some(50); 11],
-        throttle: [Some(20); 11],
-        brake: [Some(false); 11],
+        slots: Slots::Short {
+            speed: [Some(50); SHORT_SLOTS],
+            throttle: [Some(20); SHORT_SLOTS],
+            brake: [Some(false); SHORT_SLOTS],
+        },
         belt: Some(true),
         lamp: Some(false),
     }
@@ -96,9 +99,11 @@ fn a_second_event_without_samples_has_absent_slots(rt: HostRuntime) {
             zero: 86_400_000,
         },
         place: Place::Second { after: 5000 },
-        speed: [None; 11],
-        throttle: [None; 11],
-        brake: [None; 11],
+        slots: Slots::Short {
+            speed: [None; SHORT_SLOTS],
+            throttle: [None; SHORT_SLOTS],
+            brake: [None; SHORT_SLOTS],
+        },
         belt: None,
         lamp: None,
     };
@@ -138,7 +143,7 @@ fn crash_with(changes: &[(usize, u8)]) -> Result<Crash, Damaged> {
 
 #[test]
 fn a_pre_part_is_refused_at_its_first_damaged_byte(rt: HostRuntime) {
-    let table: [(&[(usize, u8)], u16, u8); 19] = [
+    let table: [(&[(usize, u8)], u16, u8); 18] = [
         // no cycle, and a time zero past the last one
         (&[(3, 0)], 3, 0),
         (&[(4, 5), (5, 0x26), (6, 0x5c), (7, 1)], 7, 1),
@@ -146,7 +151,6 @@ fn a_pre_part_is_refused_at_its_first_damaged_byte(rt: HostRuntime) {
         // no such place; other profiles; a first event with a time, a second one without
         (&[(8, 3)], 8, 3),
         (&[(9, 0)], 9, 0),
-        (&[(9, 2)], 9, 2),
         (&[(9, 3)], 9, 3),
         (&[(11, 1)], 11, 1),
         (&[(8, 2)], 11, 0),

@@ -5,7 +5,7 @@ ghost use Rattle.edr_device.specs.Memory.{memory_image};
 use super::*;
 use edr_codec::{put_pre, read_crash};
 use edr_device::{Fused, MemNvm, Nvm};
-use edr_record::{Key, Place, Pre};
+use edr_record::{Key, LONG_SLOTS, Place, Pre, Slots};
 use std::alloc::{AllocError, Global};
 use std::test::Fail;
 
@@ -14,12 +14,14 @@ const OPEN: u8 = 0xa5;
 const PRE: Pre = Pre {
     key: Key {
         cycle: 1,
-        zero: 6_003,
+        zero: 26_003,
     },
     place: Place::First,
-    speed: [Some(50); 11],
-    throttle: [Some(20); 11],
-    brake: [Some(false); 11],
+    slots: Slots::Long {
+        speed: [Some(50); LONG_SLOTS],
+        throttle: [Some(20); LONG_SLOTS],
+        brake: [Some(false); LONG_SLOTS],
+    },
     belt: Some(true),
     lamp: Some(false),
 };

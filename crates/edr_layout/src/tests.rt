@@ -4,7 +4,7 @@ use super::*;
 use byteorder::{BigEndian, ByteOrder};
 use edr_image::BankView;
 use edr_image::places::{FIRST_SLOT, SECOND_SLOT};
-use edr_record::{Key, Place, Pre, Record};
+use edr_record::{Key, Place, Pre, Record, SHORT_SLOTS, Slots};
 
 // The first bytes of an image with four banks that keeps what it has, with no start counted.
 fn first_bytes() -> [u8; 96] {
@@ -214,9 +214,11 @@ fn a_bank_of_an_old_image_is_read(rt: HostRuntime) {
             zero: 6003,
         },
         place: Place::First,
-        speed: [Some(50); 11],
-        throttle: [Some(20); 11],
-        brake: [Some(false); 11],
+        slots: Slots::Short {
+            speed: [Some(50); SHORT_SLOTS],
+            throttle: [Some(20); SHORT_SLOTS],
+            brake: [Some(false); SHORT_SLOTS],
+        },
         belt: Some(true),
         lamp: Some(false),
     };
