@@ -1,6 +1,6 @@
 //! Laws of the bytes of the parts, each the contract of a function that does nothing.
 
-ghost use Rattle.std.specs.Prelude.{◌≡◌, ◌↔◌, ◌<◌, ◌+◌, ℕ, List, Some, None, length, All, option_map, slice_index, slice_range};
+ghost use Rattle.std.specs.Prelude.{◌≡◌, ◌↔◌, ◌<◌, ◌+◌, ℕ, List, Some, slice_index};
 ghost use Rattle.edr_record.specs.Parts.{PrePart, CrashPart};
 ghost use Rattle.edr_record.specs.declared.Profile.{Profile};
 ghost use Rattle.edr_record.specs.declared.Profile.TheVariants.{Short};
@@ -8,7 +8,8 @@ ghost use Rattle.edr_record.specs.Bounds.{IsPre, IsCrash};
 ghost use Rattle.edr_image.specs.declared.forms.CrashForm.{CrashForm};
 ghost use Rattle.edr_image.specs.declared.forms.PreForm.{PreForm};
 ghost use Rattle.edr_image.specs.declared.forms.TheConstants.{VERSION_1, VERSION_2};
-ghost use Rattle.edr_image.specs.PartBytes.{pre_size, IsPreForm, HasProfile, HasSlots, IsPreBy, pre_damage_by, pre_at_by, pre_bytes_by, BeginsPreBy, crash_size, crash_damage_by, crash_at, crash_bytes_by, BeginsCrashBy, IsDamagedAt};
+ghost use Rattle.edr_image.specs.PartBytes.{pre_size, IsPreForm, HasProfile, HasSlots, IsPreBy, pre_damage_by, pre_at_by, crash_size, crash_damage_by, crash_at};
+ghost use Rattle.edr_codec.specs.Laws.{CrashDamageIsFirst, CrashIsReadBack, CrashIsWrittenBack, OfBytes, PreDamageIsFirst, PreIsReadBack, PreIsWrittenBack, crash_range, further, pre_range};
 
 /// Version 1 has a form in which parts can be told, with the slots of a record. Each part is short.
 pub fn version_1_has_a_form()
@@ -36,65 +37,58 @@ pub fn parts_are_of_records()
 /// In each form: the bytes of a pre part in its bounds are as many as the form has, they are whole, and they say this part.
 pub fn pre_is_read_back()
     ensures { (form : PreForm) → IsPreForm form → (p : PrePart) → IsPreBy form p
-        → (length (pre_bytes_by form p) ≡ pre_size form) × (pre_damage_by form (pre_bytes_by form p) 0 ≡ None)
-        × (pre_at_by form (pre_bytes_by form p) 0 ≡ p) }
+        → PreIsReadBack form p }
 {}
 
 /// In each form: the bytes of a crash part in its bounds are as many as the form has, they are whole, and they say this
 /// part.
 pub fn crash_is_read_back()
-    ensures { (form : CrashForm) (c : CrashPart) → IsCrash c → (length (crash_bytes_by form c) ≡ crash_size form)
-        × (crash_damage_by form (crash_bytes_by form c) 0 ≡ None) × (crash_at (crash_bytes_by form c) 0 ≡ c) }
+    ensures { (form : CrashForm) (c : CrashPart) → IsCrash c → CrashIsReadBack form c }
 {}
 
 /// What whole bytes of a pre part say is in its bounds, and has these bytes. So each part has one spelling in each form.
 pub fn pre_is_written_back()
-    ensures { (form : PreForm) → IsPreForm form → (bytes : List ℕ) → length bytes ≡ pre_size form
-        → All (λ b. b < 256) bytes → pre_damage_by form bytes 0 ≡ None
-        → IsPreBy form (pre_at_by form bytes 0) × (pre_bytes_by form (pre_at_by form bytes 0) ≡ bytes) }
+    ensures { (form : PreForm) → IsPreForm form → OfBytes (pre_size form) (PreIsWrittenBack form) }
 {}
 
 /// What whole bytes of a crash part say is in its bounds, and has these bytes. So each part has one spelling in each form.
 pub fn crash_is_written_back()
-    ensures { (form : CrashForm) (bytes : List ℕ) → length bytes ≡ crash_size form → All (λ b. b < 256) bytes
-        → crash_damage_by form bytes 0 ≡ None → IsCrash (crash_at bytes 0) × (crash_bytes_by form (crash_at bytes 0) ≡ bytes) }
+    ensures { (form : CrashForm) → OfBytes (crash_size form) (CrashIsWrittenBack form) }
 {}
 
 /// Bytes are damaged at a place exactly where the bytes before it begin a pre part in its bounds, and those up to and
 /// with it begin none.
 pub fn pre_damage_is_first()
-    ensures { (form : PreForm) → IsPreForm form → (bytes : List ℕ) (k : ℕ) → length bytes ≡ pre_size form
-        → All (λ b. b < 256) bytes → (pre_damage_by form bytes 0 ≡ Some k) ↔ IsDamagedAt (BeginsPreBy form bytes) k }
+    ensures { (form : PreForm) → IsPreForm form → OfBytes (pre_size form) (PreDamageIsFirst form) }
 {}
 
 /// Bytes are damaged at a place exactly where the bytes before it begin a crash part in its bounds, and those up to and
 /// with it begin none.
 pub fn crash_damage_is_first()
-    ensures { (form : CrashForm) (bytes : List ℕ) (k : ℕ) → length bytes ≡ crash_size form → All (λ b. b < 256) bytes
-        → (crash_damage_by form bytes 0 ≡ Some k) ↔ IsDamagedAt (BeginsCrashBy form bytes) k }
+    ensures { (form : CrashForm) → OfBytes (crash_size form) (CrashDamageIsFirst form) }
 {}
 
 /// Where a pre part stands in further bytes, its own bytes tell what it says, whether it is damaged, and the byte that is
 /// found there.
 pub fn pre_is_told_by_its_bytes()
     ensures value { (form : PreForm) → IsPreForm form → (bytes : List ℕ) (at : ℕ)
-        → pre_at_by form bytes at ≡ pre_at_by form (slice_range bytes at (at + pre_size form)) 0 }
-    ensures damage { (form : PreForm) → IsPreForm form → (bytes : List ℕ) (at : ℕ) → pre_damage_by form bytes at
-        ≡ option_map (λ k. at + k) (pre_damage_by form (slice_range bytes at (at + pre_size form)) 0) }
+        → pre_at_by form bytes at ≡ pre_at_by form (pre_range form bytes at) 0 }
+    ensures damage { (form : PreForm) → IsPreForm form → (bytes : List ℕ) (at : ℕ)
+        → pre_damage_by form bytes at ≡ further at (pre_damage_by form (pre_range form bytes at) 0) }
     ensures within { (form : PreForm) → IsPreForm form → (bytes : List ℕ) (k : ℕ) → pre_damage_by form bytes 0 ≡ Some k
         → k < pre_size form }
     ensures found { (form : PreForm) (bytes : List ℕ) (at k : ℕ) → k < pre_size form
-        → slice_index bytes (at + k) ≡ slice_index (slice_range bytes at (at + pre_size form)) k }
+        → slice_index bytes (at + k) ≡ slice_index (pre_range form bytes at) k }
 {}
 
 /// Where a crash part stands in further bytes, its own bytes tell what it says, whether it is damaged, and the byte that
 /// is found there.
 pub fn crash_is_told_by_its_bytes()
     ensures value { (form : CrashForm) (bytes : List ℕ) (at : ℕ)
-        → crash_at bytes at ≡ crash_at (slice_range bytes at (at + crash_size form)) 0 }
-    ensures damage { (form : CrashForm) (bytes : List ℕ) (at : ℕ) → crash_damage_by form bytes at
-        ≡ option_map (λ k. at + k) (crash_damage_by form (slice_range bytes at (at + crash_size form)) 0) }
+        → crash_at bytes at ≡ crash_at (crash_range form bytes at) 0 }
+    ensures damage { (form : CrashForm) (bytes : List ℕ) (at : ℕ)
+        → crash_damage_by form bytes at ≡ further at (crash_damage_by form (crash_range form bytes at) 0) }
     ensures within { (form : CrashForm) (bytes : List ℕ) (k : ℕ) → crash_damage_by form bytes 0 ≡ Some k → k < crash_size form }
     ensures found { (form : CrashForm) (bytes : List ℕ) (at k : ℕ) → k < crash_size form
-        → slice_index bytes (at + k) ≡ slice_index (slice_range bytes at (at + crash_size form)) k }
+        → slice_index bytes (at + k) ≡ slice_index (crash_range form bytes at) k }
 {}

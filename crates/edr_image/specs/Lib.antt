@@ -9,3 +9,4 @@ pub mod Order
 pub mod Answered
 pub mod Logged
 pub mod Reports
+pub mod Laws

@@ -1,0 +1,43 @@
+-- What the laws of the banks say.
+use Rattle.std.specs.Prelude.{◌≡◌, ◌⊎◌, ◌+◌, ◌++◌, ℕ, Bool, true, Some, None, List, flat_map, take, slice_get}
+use Rattle.edr_record.specs.Parts.{PrePart, CrashPart}
+use Rattle.edr_record.specs.declared.Record.{Record}
+use Rattle.edr_record.specs.declared.Command.{Command}
+use Rattle.edr_record.specs.declared.Command.TheVariants.{Done}
+use Rattle.edr_image.specs.declared.BankView.{BankView}
+use Rattle.edr_image.specs.declared.BankView.TheVariants.{Event}
+use Rattle.edr_image.specs.Banks.{Store}
+use Rattle.edr_image.specs.Steps.{Reply, State, Step, after, reply_to}
+use Rattle.edr_image.specs.Calls.{acknowledged}
+use Rattle.edr_image.specs.Order.{AreOwn, IsOwn}
+
+-- the bank with this index holds the event
+abbrev pub Holds : List BankView → ℕ → Record → Type 0
+Holds banks i r = slice_get banks i ≡ Some (Event r)
+
+-- the banks once the first p of the steps are done
+abbrev pub banks_after : Store → ℕ → List Step → List BankView
+banks_after v p steps = (after v (take p steps)).banks
+
+-- the steps of all replies
+abbrev pub all_steps : List Reply → List Step
+all_steps rs = flat_map (λ r. r.steps) rs
+
+-- the steps of what was acknowledged before a stop in call k are done, and others
+abbrev pub HasAcknowledged : List Reply → ℕ → List Step → Type 0
+HasAcknowledged rs k done = (rest : List Step) × (done ≡ all_steps (take (acknowledged k rs) rs) ++ rest)
+
+-- after the first p steps of the command the event stands, or it is the one that the command ends
+abbrev pub StandsOrEnds : State → Command → ℕ → ℕ → Record → Type 0
+StandsOrEnds s c p i r =
+    let banks = banks_after s.store p (reply_to s c).steps in
+    Holds banks i r
+    ⊎ ((s.held ≡ Some (i + 1)) × (crash : CrashPart) × (c ≡ Done crash) × Holds banks i (record r { crash = Some crash }))
+
+-- the commands are those of events whose parts these tests tell
+abbrev pub AreToldBy : (PrePart → Bool) → (PrePart → CrashPart → Bool) → List Command → Type 0
+AreToldBy is_pre go_with cs = AreOwn (λ a. is_pre a ≡ true) (λ a c. go_with a c ≡ true) None cs
+
+-- the event stood there before, or is one of those
+abbrev pub StoodOrIsTold : (PrePart → Bool) → (PrePart → CrashPart → Bool) → List BankView → ℕ → Record → Type 0
+StoodOrIsTold is_pre go_with banks i r = Holds banks i r ⊎ IsOwn (λ a. is_pre a ≡ true) (λ a c. go_with a c ≡ true) r
