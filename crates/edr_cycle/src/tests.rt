@@ -14,7 +14,7 @@ use std::alloc::Global;
 use std::process::Abort;
 use std::test::Fail;
 
-// What happens in a cycle: the car is struck from the front at 6.001 s or not.
+// What happens in a cycle: the car is struck from the front at 26.001 s or not.
 #[derive(Clone, Copy)]
 struct Happens {
     ticks: u32,
@@ -29,7 +29,7 @@ fn give(feeds: &mut Feeds, sensor: Sensor, moment: u32, value: Option<i32>) -> R
 fn feeds_of(alloc: Global, happens: Happens) -> Result<Feeds, Fail> {
     let mut feeds = Feeds::new(alloc);
     for tick in 1..=happens.ticks {
-        let is_struck = happens.struck && 6000 < tick && tick <= 6100;
+        let is_struck = happens.struck && 26_000 < tick && tick <= 26_100;
         give(
             &mut feeds,
             Sensor::Along,
@@ -241,8 +241,8 @@ const DONE: Kind = Kind::Done;
 // The event of the car that is struck is taken into this bank and done.
 fn crash_acks(bank: u8) -> [Ack; 2] {
     [
-        acknowledged(6020, TAKE, Applied::Kept { bank }),
-        acknowledged(6148, DONE, Applied::Done { bank }),
+        acknowledged(26_020, TAKE, Applied::Kept { bank }),
+        acknowledged(26_148, DONE, Applied::Done { bank }),
     ]
 }
 
@@ -261,7 +261,7 @@ fn image_with_count(alloc: Global, count: u32) -> Result<Vec<u8>, Fail>
 fn counter_limits(rt: HostRuntime) -> Result<(), Fail> {
     let alloc = rt.alloc();
     let mut memory = memory_of(alloc, &image_with_count(alloc, 60_001)?, 0)?;
-    let report = run_whole(&rt, alloc, &mut memory, struck(7000))?;
+    let report = run_whole(&rt, alloc, &mut memory, struck(27_000))?;
     assert_ran(&rt, &report, 60_002, None, &crash_acks(1));
     assert_found(&rt, &retrieved(alloc, &mut memory)?, &[(1, 60_002)]);
     let mut last = memory_of(alloc, &image_with_count(alloc, 4_294_967_294)?, 0)?;
@@ -275,8 +275,8 @@ fn counter_limits(rt: HostRuntime) -> Result<(), Fail> {
 fn cut_short(rt: HostRuntime) -> Result<(), Fail> {
     let alloc = rt.alloc();
     let mut memory = formatted(alloc, 2, Choice::Keep, 0)?;
-    let report = run_whole(&rt, alloc, &mut memory, struck(6100))?;
-    let take = acknowledged(6020, TAKE, Applied::Kept { bank: 1 });
+    let report = run_whole(&rt, alloc, &mut memory, struck(26_100))?;
+    let take = acknowledged(26_020, TAKE, Applied::Kept { bank: 1 });
     assert_ran(&rt, &report, 1, None, &[take]);
     let found = retrieved(alloc, &mut memory)?;
     assert_found(&rt, &found, &[(1, 1)]);
@@ -305,13 +305,13 @@ fn run_split(alloc: Global, memory: &mut MemNvm, feeds: &Feeds) -> Result<Log, F
 fn asks_are_answered(rt: HostRuntime) -> Result<(), Fail> {
     let alloc = rt.alloc();
     let mut memory = formatted(alloc, 2, Choice::Keep, 0)?;
-    let feeds = feeds_of(alloc, struck(6200))?;
+    let feeds = feeds_of(alloc, struck(26_200))?;
     let log = run_split(alloc, &mut memory, &feeds)?;
     assert_eq!(rt; log.acks(), crash_acks(1).as_slice());
     let record = event_at(&retrieved(alloc, &mut memory)?, 0).ok_or("an event")?;
-    assert_eq!(rt; record.pre.speed, [Some(50); 11]);
-    assert_eq!(rt; record.pre.throttle, [Some(20); 11]);
-    assert_eq!(rt; record.pre.brake, [Some(false); 11]);
+    assert_eq!(rt; record.pre.speed(), [Some(50); 201].as_slice());
+    assert_eq!(rt; record.pre.throttle(), [Some(20); 201].as_slice());
+    assert_eq!(rt; record.pre.brake(), [Some(false); 201].as_slice());
     assert_eq!(rt;
         (record.pre.belt, record.pre.lamp),
         (Some(true), Some(false))
@@ -326,7 +326,7 @@ fn fault_of_the_device(rt: HostRuntime) -> Result<(), Fail> {
     let image = formatted(alloc, 2, Choice::Keep, 0)?.image().to_vec(alloc)?;
     let fails = [11u32].to_vec(alloc)?;
     let mut memory = MemNvm::new(alloc, image, 400, fails, Vec::new(alloc), 0)?;
-    let feeds = level_feeds(&rt, alloc, struck(7000))?;
+    let feeds = level_feeds(&rt, alloc, struck(27_000))?;
     let started = start(alloc, &mut memory, feeds.horizon())?;
     assert_eq!(rt; started.number(), 1);
     let end = run_alone(started, &feeds, &mut memory);

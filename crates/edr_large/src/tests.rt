@@ -11,7 +11,7 @@ const LARGE: Counts = Counts {
     dones: 73,
     not_kept: 0,
     retrieved: 16,
-    complete: 16,
+    complete: 0,
 };
 
 // What it counts of the number 1 with one cycle.
@@ -23,7 +23,7 @@ const SMALL: Counts = Counts {
     dones: 3,
     not_kept: 0,
     retrieved: 3,
-    complete: 3,
+    complete: 0,
 };
 
 #[test]

@@ -1,10 +1,12 @@
 //! One cycle with one crash, or with none.
 
 use super::drives::{Drive, blow, gap, quiet, struck, trace_of};
-use super::expected::{COUNTED_ONE, STRUCK_CYCLE, STRUCK_EVENT, changed, joined};
+use super::expected::{
+    COUNTED_ONE, STRUCK_CYCLE, changed, joined, slots, struck_event, struck_report,
+};
 use super::{KEEP, Run, SIZE, check_run, kept_memory, memory_of, new_image, put, replayed, run_of};
 use crate::Status;
-use std::alloc::AllocError;
+use std::alloc::{AllocError, Global};
 use std::process::Abort;
 use std::test::Fail;
 
@@ -17,22 +19,24 @@ fn check_crash<R: Abort + AllocGlobal>(
 ) -> Result<(), Fail> {
     let alloc = rt.alloc();
     let trace = trace_of(alloc, &[drive])?;
-    let event = changed(alloc, STRUCK_EVENT, changes)?;
+    let event = changed(alloc, &struck_event(alloc)?, changes)?;
     let report = joined(alloc, &[cycle, &event, COUNTED_ONE])?;
     check_run(rt, replayed(&trace, &report), &mut kept_memory(alloc)?)
 }
 
-// The report of the struck car as a table.
-const STRUCK_TABLE: &str = "1,event,1
+// The record of the struck car as a table, up to its lists of slots.
+const STRUCK_TABLE_HEAD: &str = "1,event,1
 1,bank,1
 1,\"ignition cycle, crash\",1
-1,time zero,6003 ms
+1,time zero,26003 ms
 1,\"multi-event, number of events\",1
 1,time from event 1 to 2,none
 1,deployment event,no
-1,\"speed, km/h\",50 50 50 50 50 50 50 50 50 50 50
-1,\"throttle, %\",20 20 20 20 20 20 20 20 20 20 20
-1,service brake,off off off off off off off off off off off
+1,pre-crash profile,long
+";
+
+// And behind them.
+const STRUCK_TABLE_END: &str = "
 1,driver belt,on
 1,frontal air bag warning lamp,off
 1,end of event,115 ms
@@ -54,43 +58,63 @@ const STRUCK_TABLE: &str = "1,event,1
 0,\"ignition cycle, download\",1
 ";
 
+// The report of the struck car as a table.
+fn struck_table(alloc: Global) -> Result<String, AllocError> {
+    let speed = slots(alloc, 0, "50")?;
+    let throttle = slots(alloc, 0, "20")?;
+    let brake = slots(alloc, 0, "off")?;
+    let pieces = [
+        STRUCK_TABLE_HEAD,
+        "1,\"speed, km/h\",",
+        &speed,
+        "\n1,\"throttle, %\",",
+        &throttle,
+        "\n1,service brake,",
+        &brake,
+        STRUCK_TABLE_END,
+    ];
+    joined(alloc, &pieces)
+}
+
 const TABLE_HEAD: &str = "block,name,value\n";
 
 const STRUCK_CYCLE_TABLE: &str = "0,cycle 1,\"number 1, power off\"
-0,cycle 1 take at 6020,bank 1
-0,cycle 1 done at 6148,bank 1
+0,cycle 1 take at 26020,bank 1
+0,cycle 1 done at 26148,bank 1
 ";
 
 #[test]
 fn a_crash_is_taken_at_its_trigger_and_done_at_its_end(rt: HostRuntime) -> Result<(), Fail> {
-    check_crash(&rt, struck(7000), STRUCK_CYCLE, &[])
+    check_crash(&rt, struck(27_000), STRUCK_CYCLE, &[])
 }
 
 #[test]
 fn a_crash_is_told_as_text_and_as_a_table(rt: HostRuntime) -> Result<(), Fail> {
     let alloc = rt.alloc();
-    let trace = trace_of(alloc, &[struck(7000)])?;
-    let text = joined(alloc, &[STRUCK_CYCLE, STRUCK_EVENT, COUNTED_ONE])?;
+    let trace = trace_of(alloc, &[struck(27_000)])?;
+    let text = struck_report(alloc)?;
     let run = Run {
         words: &["replay", "text"],
         ..replayed(&trace, &text)
     };
     check_run(&rt, run, &mut kept_memory(alloc)?)?;
     let mut memory = kept_memory(alloc)?;
-    let table = joined(alloc, &[TABLE_HEAD, STRUCK_CYCLE_TABLE, STRUCK_TABLE])?;
+    let struck = struck_table(alloc)?;
+    let table = joined(alloc, &[TABLE_HEAD, STRUCK_CYCLE_TABLE, &struck])?;
     let run = Run {
         words: &["replay", "csv"],
         ..replayed(&trace, &table)
     };
     check_run(&rt, run, &mut memory)?;
-    let report = joined(alloc, &[STRUCK_EVENT, COUNTED_ONE])?;
+    let event = struck_event(alloc)?;
+    let report = joined(alloc, &[&event, COUNTED_ONE])?;
     check_run(&rt, run_of(&["report"], Status::Ok, &report), &mut memory)?;
     check_run(
         &rt,
         run_of(&["report", "text"], Status::Ok, &report),
         &mut memory,
     )?;
-    let table = joined(alloc, &[TABLE_HEAD, STRUCK_TABLE])?;
+    let table = joined(alloc, &[TABLE_HEAD, &struck])?;
     check_run(
         &rt,
         run_of(&["report", "csv"], Status::Ok, &table),
@@ -98,18 +122,22 @@ fn a_crash_is_told_as_text_and_as_a_table(rt: HostRuntime) -> Result<(), Fail> {
     )
 }
 
-// The bytes of a memory that has the record: the count stands in the first slot, and the record in the first bank.
-pub(super) fn struck_image() -> [u8; SIZE] {
+// The bytes of a memory that has the record, with this time zero and a count of slots in each list of this profile: the cycle is
+// counted in the first slot, and the record stands in the first bank.
+pub(super) fn image_with(zero: u16, profile: u8, count: u8) -> [u8; SIZE] {
     let mut image = new_image(2, KEEP);
     image[32] = 0xa5;
     image[39] = 1;
     image[96] = 0xa5;
     image[98] = 0xa5;
-    put(&mut image, 112, b"\x00\x00\x00\x01\x00\x00\x17\x73\x01\x01");
-    for slot in 0..11usize {
+    image[115] = 1;
+    put(&mut image, 118, &zero.to_be_bytes());
+    put(&mut image, 120, &[1, profile]);
+    for slot in 0..count {
+        let slot = usize::from(slot);
         put(&mut image, 124 + 2 * slot, b"\x00\x32");
+        put(&mut image, 526 + slot, b"\x14");
     }
-    put(&mut image, 526, &[0x14; 11]);
     image[928] = 1;
     let points = b"\xff\xfc\xff\xf8\xff\xf4\xff\xf0\xff\xec\xff\xe8\xff\xe4\xff\xe0\xff\xdc";
     put(&mut image, 960, b"\x00\x73");
@@ -123,16 +151,22 @@ pub(super) fn struck_image() -> [u8; SIZE] {
     image
 }
 
+// The bytes of a memory that has the record of the struck car.
+fn struck_image() -> [u8; SIZE] {
+    image_with(26_003, 2, 201)
+}
+
 #[test]
 fn a_crash_is_stored_as_these_bytes(rt: HostRuntime) -> Result<(), Fail> {
     let alloc = rt.alloc();
-    let trace = trace_of(alloc, &[struck(7000)])?;
-    let report = joined(alloc, &[STRUCK_CYCLE, STRUCK_EVENT, COUNTED_ONE])?;
+    let trace = trace_of(alloc, &[struck(27_000)])?;
+    let report = struck_report(alloc)?;
     let mut memory = kept_memory(alloc)?;
     check_run(&rt, replayed(&trace, &report), &mut memory)?;
     assert_eq!(rt; memory.image(), struck_image().as_slice());
     let mut stored = memory_of(alloc, &struck_image(), &[], 0)?;
-    let report = joined(alloc, &[STRUCK_EVENT, COUNTED_ONE])?;
+    let event = struck_event(alloc)?;
+    let report = joined(alloc, &[&event, COUNTED_ONE])?;
     check_run(&rt, run_of(&["report"], Status::Ok, &report), &mut stored)
 }
 
@@ -205,15 +239,15 @@ fn a_long_push_is_no_event(rt: HostRuntime) -> Result<(), Fail> {
 // Five ticks are not over the threshold, but the sum of all of them triggers.
 #[test]
 fn a_weak_blow_from_the_side_triggers_late(rt: HostRuntime) -> Result<(), Fail> {
-    let across = [blow(6001, 6400, 540)];
+    let across = [blow(26_001, 26_400, 540)];
     let drive = Drive {
         across: &across,
-        ..quiet(7000)
+        ..quiet(27_000)
     };
     const CYCLE: &str =
-        "cycle 1: number 1, power off\ncycle 1 take at 6149: bank 1\ncycle 1 done at 6436: bank 1\n";
+        "cycle 1: number 1, power off\ncycle 1 take at 26149: bank 1\ncycle 1 done at 26436: bank 1\n";
     let changes = [
-        ("time zero", "6149 ms"),
+        ("time zero", "26149 ms"),
         ("end of event", "257 ms"),
         (
             "delta-V longitudinal, km/h",
@@ -233,15 +267,15 @@ fn a_weak_blow_from_the_side_triggers_late(rt: HostRuntime) -> Result<(), Fail> 
 // The first blow is over when the second comes, but its ticks count for the trigger of the second.
 #[test]
 fn a_trigger_reaches_back_past_time_zero(rt: HostRuntime) -> Result<(), Fail> {
-    let along = [blow(6001, 6010, 5000), blow(6071, 6080, 5000)];
+    let along = [blow(26_001, 26_010, 5000), blow(26_071, 26_080, 5000)];
     let drive = Drive {
         along: &along,
-        ..quiet(7000)
+        ..quiet(27_000)
     };
     const CYCLE: &str =
-        "cycle 1: number 1, power off\ncycle 1 take at 6076: bank 1\ncycle 1 done at 6129: bank 1\n";
+        "cycle 1: number 1, power off\ncycle 1 take at 26076: bank 1\ncycle 1 done at 26129: bank 1\n";
     let changes = [
-        ("time zero", "6072 ms"),
+        ("time zero", "26072 ms"),
         ("end of event", "27 ms"),
         ("delta-V longitudinal, km/h", "0 4 4 4 4 4"),
         ("delta-V lateral, km/h", "0 0 0 0 0 0"),
@@ -254,13 +288,13 @@ fn a_trigger_reaches_back_past_time_zero(rt: HostRuntime) -> Result<(), Fail> {
 // The blow turns, so the sum of the last ticks triggers where that of more of them would not.
 #[test]
 fn a_blow_that_turns_triggers_by_its_last_ticks(rt: HostRuntime) -> Result<(), Fail> {
-    let along = [blow(6001, 6010, 3000), blow(6011, 6030, -4000)];
+    let along = [blow(26_001, 26_010, 3000), blow(26_011, 26_030, -4000)];
     let drive = Drive {
         along: &along,
-        ..quiet(7000)
+        ..quiet(27_000)
     };
     const CYCLE: &str =
-        "cycle 1: number 1, power off\ncycle 1 take at 6030: bank 1\ncycle 1 done at 6078: bank 1\n";
+        "cycle 1: number 1, power off\ncycle 1 take at 26030: bank 1\ncycle 1 done at 26078: bank 1\n";
     let changes = [
         ("end of event", "45 ms"),
         ("delta-V longitudinal, km/h", "0 1 -3 -6 -6 -6 -6 -6"),
@@ -275,10 +309,10 @@ fn a_blow_that_turns_triggers_by_its_last_ticks(rt: HostRuntime) -> Result<(), F
 fn a_missing_sample_is_counted_and_leaves_the_record_incomplete(
     rt: HostRuntime,
 ) -> Result<(), Fail> {
-    let along = [gap(6033), blow(6001, 6100, -4000)];
+    let along = [gap(26_033), blow(26_001, 26_100, -4000)];
     let drive = Drive {
         along: &along,
-        ..quiet(7000)
+        ..quiet(27_000)
     };
     let changes = [
         (
@@ -290,4 +324,23 @@ fn a_missing_sample_is_counted_and_leaves_the_record_incomplete(
         ("complete file recorded", "no"),
     ];
     check_crash(&rt, drive, STRUCK_CYCLE, &changes)
+}
+
+// The first slot lies at 6.003 s, and a sample of it from 5.903 s on.
+#[test]
+fn a_slot_without_a_sample_is_absent_and_leaves_the_record_incomplete(
+    rt: HostRuntime,
+) -> Result<(), Fail> {
+    let alloc = rt.alloc();
+    let trace = trace_of(alloc, &[struck(27_000)])?;
+    let (before, behind) = trace.split_once("speed,6000,50\n").ok_or("a speed")?;
+    let trace = joined(alloc, &[before, behind])?;
+    let speed = slots(alloc, 1, "50")?;
+    let changes = [
+        ("speed, km/h", speed.as_str()),
+        ("complete file recorded", "no"),
+    ];
+    let event = changed(alloc, &struck_event(alloc)?, &changes)?;
+    let report = joined(alloc, &[STRUCK_CYCLE, &event, COUNTED_ONE])?;
+    check_run(&rt, replayed(&trace, &report), &mut kept_memory(alloc)?)
 }

@@ -2,7 +2,7 @@
 
 use super::drives::{TENSED, push_drive, quiet, struck, trace_of};
 use super::expected::{
-    COUNTED_ONE, NOT_DONE, STRUCK_EVENT, TENSED_EVENT, TENSED_TWICE, changed, joined,
+    COUNTED_ONE, NOT_DONE, TENSED_TWICE, changed, joined, struck_event, tensed_event,
 };
 use super::{KEEP, OVERWRITE, check_run, kept_memory, memory_of, new_image, replayed};
 use std::alloc::{AllocError, Global};
@@ -12,9 +12,9 @@ use std::test::Fail;
 #[test]
 fn a_drive_that_ends_within_its_event_leaves_no_crash_part(rt: HostRuntime) -> Result<(), Fail> {
     let alloc = rt.alloc();
-    let trace = trace_of(alloc, &[struck(6100)])?;
-    const CYCLE: &str = "cycle 1: number 1, power off\ncycle 1 take at 6020: bank 1\n";
-    let event = changed(alloc, STRUCK_EVENT, &NOT_DONE)?;
+    let trace = trace_of(alloc, &[struck(26_100)])?;
+    const CYCLE: &str = "cycle 1: number 1, power off\ncycle 1 take at 26020: bank 1\n";
+    let event = changed(alloc, &struck_event(alloc)?, &NOT_DONE)?;
     let report = joined(alloc, &[CYCLE, &event, COUNTED_ONE])?;
     check_run(&rt, replayed(&trace, &report), &mut kept_memory(alloc)?)
 }
@@ -86,8 +86,8 @@ fn cuts() -> [Cut; 12] {
 }
 
 const ACKS: [&str; 2] = [
-    "cycle 3 take at 6020: bank 1\n",
-    "cycle 3 done at 6148: bank 1\n",
+    "cycle 3 take at 26020: bank 1\n",
+    "cycle 3 done at 26148: bank 1\n",
 ];
 
 // The lines of cycle 3.
@@ -109,19 +109,20 @@ fn second_event(alloc: Global, place: &str) -> Result<String, AllocError> {
         ("bank", "2"),
         ("ignition cycle, crash", "2"),
     ];
-    changed(alloc, TENSED_EVENT, &changes)
+    tensed_event(alloc, &changes)
 }
 
 // All records, by cycle.
 fn events(alloc: Global, bank: Bank) -> Result<String, AllocError> {
     let third = [("event", "2"), ("ignition cycle, crash", "3")];
-    let complete = changed(alloc, STRUCK_EVENT, &third)?;
+    let complete = changed(alloc, &struck_event(alloc)?, &third)?;
     let taken = changed(alloc, &complete, &NOT_DONE)?;
     let second = second_event(alloc, "1")?;
     match bank {
         Bank::First => {
+            let first = tensed_event(alloc, &[])?;
             let behind = second_event(alloc, "2")?;
-            joined(alloc, &[TENSED_EVENT, &behind])
+            joined(alloc, &[&first, &behind])
         }
         Bank::Void => Ok(second),
         Bank::Taken => joined(alloc, &[&second, &taken]),
@@ -138,7 +139,7 @@ fn check_cut<R: Abort + AllocGlobal>(
     bank: Bank,
 ) -> Result<(), Fail> {
     let alloc = rt.alloc();
-    let mut drive = struck(7000);
+    let mut drive = struck(27_000);
     drive.stop = cut.call;
     let mut trace = String::from_str(alloc, before)?;
     push_drive(&mut trace, drive)?;

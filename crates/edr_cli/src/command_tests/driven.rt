@@ -123,7 +123,7 @@ fn sound<'a>(trace: &'a [u8], image: &'a [u8; SIZE]) -> Case<'a> {
 fn a_crash_by_threads_is_told_as_on_one_thread(rt: HostRuntime) -> Result<(), Fail> {
     let alloc = rt.alloc();
     let image = new_image(2, KEEP);
-    let trace = trace_of(alloc, &[struck(7000)])?;
+    let trace = trace_of(alloc, &[struck(27_000)])?;
     for form in ["text", "csv"] {
         check_driven(&rt, alloc, sound(trace.as_bytes(), &image), form)?;
     }
@@ -137,7 +137,7 @@ fn stops_by_threads_are_told_as_on_one_thread(rt: HostRuntime) -> Result<(), Fai
     let image = new_image(2, KEEP);
     let stopped = Drive {
         stop: 3,
-        ..struck(7000)
+        ..struck(27_000)
     };
     let drives = trace_of(alloc, &[stopped, quiet(500)])?;
     let trace = format!(in alloc; "on,2,\n{drives}")?;
@@ -218,7 +218,7 @@ fn drive_struck<
     G: Gate + Drop + Send + Sync + 'static,
 >(rt: &R, alloc: Global, gate: &Arc<G>) -> Result<(), Fail> {
     let words = words_of(alloc, &["drive", "8"])?;
-    let trace = trace_of(alloc, &[struck(7000)])?;
+    let trace = trace_of(alloc, &[struck(27_000)])?;
     let mut source = MemSource::new(trace.as_bytes().to_vec(alloc)?, 10_000, Vec::new(alloc));
     let mut sink = MemSink::new(alloc, 20_000, 20_000, Vec::new(alloc))?;
     let mut memory = memory_of(alloc, &new_image(2, KEEP), &[], 0)?;
@@ -241,7 +241,7 @@ fn second_sensor_passes(rt: HostRuntime) -> Result<(), Fail> {
     Ok(())
 }
 
-// A gate that counts the parts that each sensor has sent of the time zero at 6.003 s, and those of other times zero.
+// A gate that counts the parts that each sensor has sent of the time zero at 26.003 s, and those of other times zero.
 #[derive(Drop)]
 struct Served {
     speed: AtomicU64,
@@ -257,11 +257,11 @@ impl Gate for Served {
 
     fn served(&self, sensor: u8, zero: u32) {
         let sent = match (sensor, zero) {
-            (3, 6003) => &self.speed,
-            (4, 6003) => &self.throttle,
-            (5, 6003) => &self.brake,
-            (6, 6003) => &self.belt,
-            (7, 6003) => &self.lamp,
+            (3, 26_003) => &self.speed,
+            (4, 26_003) => &self.throttle,
+            (5, 26_003) => &self.brake,
+            (6, 26_003) => &self.belt,
+            (7, 26_003) => &self.lamp,
             _ => &self.others,
         };
         sent.fetch_add(1, Ordering::SeqCst);

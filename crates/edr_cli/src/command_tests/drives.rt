@@ -53,10 +53,10 @@ pub(crate) const fn quiet(ticks: u32) -> Drive<'static> {
     }
 }
 
-/// The car is struck from the front at 6.001 s, for 100 ms.
+/// The car is struck from the front at 26.001 s, for 100 ms.
 pub(crate) const STRUCK: [Stretch; 1] = [Stretch {
-    first: 6001,
-    last: 6100,
+    first: 26_001,
+    last: 26_100,
     value: Some(-4000),
 }];
 
@@ -80,22 +80,22 @@ pub(crate) const fn fired(ticks: u32, fired: &[(u32, i32)]) -> Drive<'_> {
     }
 }
 
-/// A drive in which a pretensioner fires at 7 s.
+/// A drive in which a pretensioner fires at 27 s.
 pub(crate) const TENSED: Drive<'static> = Drive {
-    ticks: 8000,
+    ticks: 28_000,
     along: &[],
     across: &[],
-    fired: &[(7000, 64)],
+    fired: &[(27_000, 64)],
     speeds_up: false,
     stop: 0,
 };
 
-/// A drive in which an air bag fires at 7 s.
+/// A drive in which an air bag fires at 27 s.
 pub(crate) const DEPLOYED: Drive<'static> = Drive {
-    ticks: 8000,
+    ticks: 28_000,
     along: &[],
     across: &[],
-    fired: &[(7000, 1)],
+    fired: &[(27_000, 1)],
     speeds_up: false,
     stop: 0,
 };

@@ -2,8 +2,8 @@
 
 use super::drives::{DEPLOYED, Drive, TENSED, fired, struck, trace_of};
 use super::expected::{
-    COUNTED_ONE, DEPLOYED_CYCLE, STRUCK_EVENT, TENSED_EVENT, TENSED_TWICE, bag_event, changed,
-    joined,
+    COUNTED_ONE, DEPLOYED_CYCLE, TENSED_TWICE, bag_event, changed, joined, slots, struck_event,
+    tensed_event,
 };
 use super::{KEEP, OVERWRITE, check_run, memory_of, new_image, replayed};
 use edr_device::MemNvm;
@@ -12,13 +12,13 @@ use std::process::Abort;
 use std::test::Fail;
 
 // The record of a pretensioner in a CYCLE, with its place in a report and its bank.
-fn tensed_event(alloc: Global, place: &str, bank: &str, cycle: &str) -> Result<String, AllocError> {
+fn tensed_in(alloc: Global, place: &str, bank: &str, cycle: &str) -> Result<String, AllocError> {
     let changes = [
         ("event", place),
         ("bank", bank),
         ("ignition cycle, crash", cycle),
     ];
-    changed(alloc, TENSED_EVENT, &changes)
+    tensed_event(alloc, &changes)
 }
 
 fn check_drives<R: Abort + AllocGlobal>(
@@ -47,30 +47,31 @@ cycle 1 take at 3000: bank 1
 cycle 1 lock at 3000: bank 1
 cycle 1 done at 3050: bank 1
 ";
+    let alloc = rt.alloc();
+    let speed = slots(alloc, 171, "50")?;
+    let throttle = slots(alloc, 171, "20")?;
+    let brake = slots(alloc, 171, "off")?;
     let changes = [
         ("time zero", "3000 ms"),
-        ("speed, km/h", "none none none none none 50 50 50 50 50 50"),
-        ("throttle, %", "none none none none none 20 20 20 20 20 20"),
-        (
-            "service brake",
-            "none none none none none off off off off off off",
-        ),
+        ("speed, km/h", &speed),
+        ("throttle, %", &throttle),
+        ("service brake", &brake),
         ("complete file recorded", "no"),
     ];
-    let event = changed(rt.alloc(), &bag_event(rt.alloc(), "1")?, &changes)?;
-    let mut memory = memory_of(rt.alloc(), &new_image(2, KEEP), &[], 0)?;
+    let event = changed(alloc, &bag_event(alloc, "1")?, &changes)?;
+    let mut memory = memory_of(alloc, &new_image(2, KEEP), &[], 0)?;
     let drive = fired(4000, &[(3000, 1)]);
     check_drives(&rt, &[drive], &mut memory, &[CYCLE, &event, COUNTED_ONE])
 }
 
 const LOCKED_TWICE: &str = "cycle 1: number 1, power off
-cycle 1 take at 7000: bank 1
-cycle 1 lock at 7000: bank 1
-cycle 1 done at 7050: bank 1
+cycle 1 take at 27000: bank 1
+cycle 1 lock at 27000: bank 1
+cycle 1 done at 27050: bank 1
 cycle 2: number 2, power off
-cycle 2 take at 7000: bank 2
-cycle 2 lock at 7000: bank 2
-cycle 2 done at 7050: bank 2
+cycle 2 take at 27000: bank 2
+cycle 2 lock at 27000: bank 2
+cycle 2 done at 27050: bank 2
 ";
 
 // Under either choice.
@@ -81,9 +82,9 @@ fn locked_events_leave_no_bank_for_a_third(rt: HostRuntime) -> Result<(), Fail> 
     for choice in [KEEP, OVERWRITE] {
         let mut memory = memory_of(rt.alloc(), &new_image(2, choice), &[], 0)?;
         let third = "cycle 3: number 3, power off
-cycle 3 take at 7000: not kept
-cycle 3 lock at 7000: not kept
-cycle 3 done at 7050: not kept
+cycle 3 take at 27000: not kept
+cycle 3 lock at 27000: not kept
+cycle 3 done at 27050: not kept
 ";
         let report = [
             LOCKED_TWICE,
@@ -98,16 +99,16 @@ cycle 3 done at 7050: not kept
 }
 
 const TENSED_AGAIN: &str = "cycle 3: number 3, power off
-cycle 3 take at 7000: bank 1
-cycle 3 done at 7050: bank 1
+cycle 3 take at 27000: bank 1
+cycle 3 done at 27050: bank 1
 ";
 
 #[test]
 fn the_oldest_pretensioner_event_is_overwritten(rt: HostRuntime) -> Result<(), Fail> {
     let alloc = rt.alloc();
     let mut memory = memory_of(alloc, &new_image(2, OVERWRITE), &[], 0)?;
-    let second = tensed_event(alloc, "1", "2", "2")?;
-    let third = tensed_event(alloc, "2", "1", "3")?;
+    let second = tensed_in(alloc, "1", "2", "2")?;
+    let third = tensed_in(alloc, "2", "1", "3")?;
     let report = [
         TENSED_TWICE,
         TENSED_AGAIN,
@@ -119,11 +120,11 @@ fn the_oldest_pretensioner_event_is_overwritten(rt: HostRuntime) -> Result<(), F
 
     let mut memory = memory_of(alloc, &new_image(2, OVERWRITE), &[], 0)?;
     const FOURTH_CYCLE: &str = "cycle 4: number 4, power off
-cycle 4 take at 7000: bank 2
-cycle 4 done at 7050: bank 2
+cycle 4 take at 27000: bank 2
+cycle 4 done at 27050: bank 2
 ";
-    let third = tensed_event(alloc, "1", "1", "3")?;
-    let fourth = tensed_event(alloc, "2", "2", "4")?;
+    let third = tensed_in(alloc, "1", "1", "3")?;
+    let fourth = tensed_in(alloc, "2", "2", "4")?;
     let report = [
         TENSED_TWICE,
         TENSED_AGAIN,
@@ -139,22 +140,22 @@ cycle 4 done at 7050: bank 2
 fn a_late_lock_takes_the_bank_that_keep_refused(rt: HostRuntime) -> Result<(), Fail> {
     let alloc = rt.alloc();
     let drive = Drive {
-        fired: &[(6030, 1)],
-        ..struck(7000)
+        fired: &[(26_030, 1)],
+        ..struck(27_000)
     };
     const THIRD_CYCLE: &str = "cycle 3: number 3, power off
-cycle 3 take at 6020: not kept
-cycle 3 lock at 6030: bank 1
-cycle 3 done at 6148: bank 1
+cycle 3 take at 26020: not kept
+cycle 3 lock at 26030: bank 1
+cycle 3 done at 26148: bank 1
 ";
-    let second = tensed_event(alloc, "1", "2", "2")?;
+    let second = tensed_in(alloc, "1", "2", "2")?;
     let changes = [
         ("event", "2"),
         ("ignition cycle, crash", "3"),
         ("deployment event", "yes"),
         ("driver frontal deployment", "27 ms"),
     ];
-    let third = changed(alloc, STRUCK_EVENT, &changes)?;
+    let third = changed(alloc, &struck_event(alloc)?, &changes)?;
     let mut memory = memory_of(alloc, &new_image(2, KEEP), &[], 0)?;
     let report = [
         TENSED_TWICE,
@@ -181,24 +182,24 @@ fn event_at(
         ("multi-event, number of events", events),
         ("time from event 1 to 2", time),
     ];
-    changed(alloc, TENSED_EVENT, &changes)
+    tensed_event(alloc, &changes)
 }
 
 #[test]
 fn the_third_event_is_the_first_of_a_new_pair(rt: HostRuntime) -> Result<(), Fail> {
     let alloc = rt.alloc();
-    let drive = fired(13_000, &[(6000, 64), (9000, 64), (12_000, 64)]);
+    let drive = fired(33_000, &[(26_000, 64), (29_000, 64), (32_000, 64)]);
     const CYCLE: &str = "cycle 1: number 1, power off
-cycle 1 take at 6000: bank 1
-cycle 1 done at 6050: bank 1
-cycle 1 take at 9000: bank 2
-cycle 1 done at 9050: bank 2
-cycle 1 take at 12000: bank 3
-cycle 1 done at 12050: bank 3
+cycle 1 take at 26000: bank 1
+cycle 1 done at 26050: bank 1
+cycle 1 take at 29000: bank 2
+cycle 1 done at 29050: bank 2
+cycle 1 take at 32000: bank 3
+cycle 1 done at 32050: bank 3
 ";
-    let first = event_at(alloc, "1", "6000 ms", "1", "none")?;
-    let second = event_at(alloc, "2", "9000 ms", "2", "3.0 s")?;
-    let third = event_at(alloc, "3", "12000 ms", "1", "none")?;
+    let first = event_at(alloc, "1", "26000 ms", "1", "none")?;
+    let second = event_at(alloc, "2", "29000 ms", "2", "3.0 s")?;
+    let third = event_at(alloc, "3", "32000 ms", "1", "none")?;
     let mut memory = memory_of(alloc, &new_image(3, KEEP), &[], 0)?;
     let report = [CYCLE, &first, &second, &third, COUNTED_ONE];
     check_drives(&rt, &[drive], &mut memory, &report)
@@ -207,28 +208,28 @@ cycle 1 done at 12050: bank 3
 #[test]
 fn events_up_to_five_seconds_apart_are_a_pair(rt: HostRuntime) -> Result<(), Fail> {
     let alloc = rt.alloc();
-    let first = event_at(alloc, "1", "6000 ms", "1", "none")?;
+    let first = event_at(alloc, "1", "26000 ms", "1", "none")?;
     const NEAR_CYCLE: &str = "cycle 1: number 1, power off
-cycle 1 take at 6000: bank 1
-cycle 1 done at 6050: bank 1
-cycle 1 take at 11000: bank 2
-cycle 1 done at 11050: bank 2
+cycle 1 take at 26000: bank 1
+cycle 1 done at 26050: bank 1
+cycle 1 take at 31000: bank 2
+cycle 1 done at 31050: bank 2
 ";
-    let near = event_at(alloc, "2", "11000 ms", "2", "5.0 s")?;
+    let near = event_at(alloc, "2", "31000 ms", "2", "5.0 s")?;
     let mut memory = memory_of(alloc, &new_image(3, KEEP), &[], 0)?;
-    let drive = fired(13_000, &[(6000, 64), (11_000, 64)]);
+    let drive = fired(33_000, &[(26_000, 64), (31_000, 64)]);
     let report = [NEAR_CYCLE, &first, &near, COUNTED_ONE];
     check_drives(&rt, &[drive], &mut memory, &report)?;
 
     const FAR_CYCLE: &str = "cycle 1: number 1, power off
-cycle 1 take at 6000: bank 1
-cycle 1 done at 6050: bank 1
-cycle 1 take at 11001: bank 2
-cycle 1 done at 11051: bank 2
+cycle 1 take at 26000: bank 1
+cycle 1 done at 26050: bank 1
+cycle 1 take at 31001: bank 2
+cycle 1 done at 31051: bank 2
 ";
-    let far = event_at(alloc, "2", "11001 ms", "1", "none")?;
+    let far = event_at(alloc, "2", "31001 ms", "1", "none")?;
     let mut memory = memory_of(alloc, &new_image(3, KEEP), &[], 0)?;
-    let drive = fired(13_000, &[(6000, 64), (11_001, 64)]);
+    let drive = fired(33_000, &[(26_000, 64), (31_001, 64)]);
     let report = [FAR_CYCLE, &first, &far, COUNTED_ONE];
     check_drives(&rt, &[drive], &mut memory, &report)
 }

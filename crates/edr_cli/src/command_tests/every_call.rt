@@ -81,21 +81,21 @@ fn each_read_fails_once(rt: HostRuntime) -> Result<(), Fail> {
     check_run(&rt, replayed(&trace, &whole_report(alloc)?), &mut memory)
 }
 
-// The trace has 219,323 bytes, and each call takes 50,000; one more finds its end.
+// The trace has 810,169 bytes, and each call takes 50,000; one more finds its end.
 #[test]
 fn each_call_of_the_source_fails_once(rt: HostRuntime) -> Result<(), Fail> {
     let alloc = rt.alloc();
     let trace = trace_of(alloc, &[DEPLOYED])?;
     let fault = faulty(&trace, Status::ReadFault, "fault: read fault\n");
     let whole = whole_report(alloc)?;
-    for call in 1..=7u32 {
+    for call in 1..=19u32 {
         let streams = Streams {
             source_piece: 50_000,
             source_fails: &[call],
             ..SOUND
         };
         let mut memory = kept_memory(alloc)?;
-        if call == 7 {
+        if call == 19 {
             check_streams(&rt, replayed(&trace, &whole), streams, &mut memory)?;
         } else {
             check_streams(&rt, fault, streams, &mut memory)?;
@@ -105,7 +105,7 @@ fn each_call_of_the_source_fails_once(rt: HostRuntime) -> Result<(), Fail> {
     Ok(())
 }
 
-// The report has 1,050 bytes, and each call takes 100. The memory has the whole record, whichever call fails.
+// The report has 2,978 bytes, and each call takes 300. The memory has the whole record, whichever call fails.
 #[test]
 fn each_call_of_the_sink_fails_once(rt: HostRuntime) -> Result<(), Fail> {
     let alloc = rt.alloc();
@@ -113,17 +113,17 @@ fn each_call_of_the_sink_fails_once(rt: HostRuntime) -> Result<(), Fail> {
     let whole = whole_report(alloc)?;
     let event = bag_event(alloc, "1")?;
     let report = joined(alloc, &[&event, COUNTED_ONE])?;
-    for call in 1..=12u32 {
+    for call in 1..=11u32 {
         let streams = Streams {
-            sink_piece: 100,
+            sink_piece: 300,
             sink_fails: &[call],
             ..SOUND
         };
         let mut memory = kept_memory(alloc)?;
-        let run = if call == 12 {
+        let run = if call == 11 {
             replayed(&trace, &whole)
         } else {
-            let before = whole.get(..100 * (call as usize - 1)).unwrap_or("");
+            let before = whole.get(..300 * (call as usize - 1)).unwrap_or("");
             faulty(&trace, Status::WriteFault, before)
         };
         check_streams(&rt, run, streams, &mut memory)?;

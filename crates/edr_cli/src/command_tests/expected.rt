@@ -2,14 +2,15 @@
 
 use std::alloc::{AllocError, Global};
 
-/// The record of a car that is struck from the front at 6.001 s for 100 ms.
-pub(crate) const STRUCK_EVENT: &str = "event: 1
+/// The record of a car that was struck from the front at 6.001 s for 100 ms, as version 1 kept it.
+pub(crate) const OLD_EVENT: &str = "event: 1
 bank: 1
 ignition cycle, crash: 1
 time zero: 6003 ms
 multi-event, number of events: 1
 time from event 1 to 2: none
 deployment event: no
+pre-crash profile: short
 speed, km/h: 50 50 50 50 50 50 50 50 50 50 50
 throttle, %: 20 20 20 20 20 20 20 20 20 20 20
 service brake: off off off off off off off off off off off
@@ -33,36 +34,59 @@ passenger pretensioner deployment: none
 complete file recorded: yes
 ";
 
-/// The record of a car whose pretensioner fires at 7 s, and that nothing strikes.
-pub(crate) const TENSED_EVENT: &str = "event: 1
-bank: 1
-ignition cycle, crash: 1
-time zero: 7000 ms
-multi-event, number of events: 1
-time from event 1 to 2: none
-deployment event: no
-speed, km/h: 50 50 50 50 50 50 50 50 50 50 50
-throttle, %: 20 20 20 20 20 20 20 20 20 20 20
-service brake: off off off off off off off off off off off
-driver belt: on
-frontal air bag warning lamp: off
-end of event: 20 ms
-delta-V longitudinal, km/h: 0 0 0 0 0 0
-delta-V lateral, km/h: 0 0 0 0 0 0
-maximum delta-V longitudinal: 0 km/h at 0 ms
-maximum delta-V lateral: 0 km/h at 0 ms
-time of maximum resultant: 0 ms
-ticks without sample: 0 longitudinal, 0 lateral
-driver frontal deployment: none
-passenger frontal deployment: none
-driver side deployment: none
-passenger side deployment: none
-driver curtain deployment: none
-passenger curtain deployment: none
-driver pretensioner deployment: 0 ms
-passenger pretensioner deployment: none
-complete file recorded: yes
-";
+// How many slots a list has.
+const SLOTS: usize = 201;
+
+/// A list of which so many first slots are absent, and the others have this value.
+pub(crate) fn slots(alloc: Global, absent: usize, value: &str) -> Result<String, AllocError> {
+    let mut out = String::new(alloc);
+    for slot in 0..SLOTS {
+        if slot > 0 {
+            out.push_str(" ")?;
+        }
+        out.push_str(if slot < absent { "none" } else { value })?;
+    }
+    Ok(out)
+}
+
+/// The record of a car that is struck from the front at 26.001 s for 100 ms.
+pub(crate) fn struck_event(alloc: Global) -> Result<String, AllocError> {
+    let speed = slots(alloc, 0, "50")?;
+    let throttle = slots(alloc, 0, "20")?;
+    let brake = slots(alloc, 0, "off")?;
+    let changes = [
+        ("time zero", "26003 ms"),
+        ("pre-crash profile", "long"),
+        ("speed, km/h", &speed),
+        ("throttle, %", &throttle),
+        ("service brake", &brake),
+    ];
+    changed(alloc, OLD_EVENT, &changes)
+}
+
+/// The report of a replay in which the car is struck.
+pub(crate) fn struck_report(alloc: Global) -> Result<String, AllocError> {
+    let event = struck_event(alloc)?;
+    joined(alloc, &[STRUCK_CYCLE, &event, COUNTED_ONE])
+}
+
+// What the record of a car says whose pretensioner fires at 27 s, and that nothing strikes.
+const TENSED: [(&str, &str); 8] = [
+    ("time zero", "27000 ms"),
+    ("end of event", "20 ms"),
+    ("delta-V longitudinal, km/h", "0 0 0 0 0 0"),
+    ("delta-V lateral, km/h", "0 0 0 0 0 0"),
+    ("maximum delta-V longitudinal", "0 km/h at 0 ms"),
+    ("maximum delta-V lateral", "0 km/h at 0 ms"),
+    ("time of maximum resultant", "0 ms"),
+    ("driver pretensioner deployment", "0 ms"),
+];
+
+/// The record of a car whose pretensioner fires at 27 s, and that nothing strikes, with these other values.
+pub(crate) fn tensed_event(alloc: Global, changes: &[(&str, &str)]) -> Result<String, AllocError> {
+    let tensed = changed(alloc, &struck_event(alloc)?, &TENSED)?;
+    changed(alloc, &tensed, changes)
+}
 
 /// What a record says whose event was not done.
 pub(crate) const NOT_DONE: [(&str, &str); 16] = [
@@ -86,15 +110,15 @@ pub(crate) const NOT_DONE: [(&str, &str); 16] = [
 
 /// The lines of the first cycle in which the car is struck.
 pub(crate) const STRUCK_CYCLE: &str = "cycle 1: number 1, power off
-cycle 1 take at 6020: bank 1
-cycle 1 done at 6148: bank 1
+cycle 1 take at 26020: bank 1
+cycle 1 done at 26148: bank 1
 ";
 
-/// The lines of the first cycle in which an air bag fires at 7 s.
+/// The lines of the first cycle in which an air bag fires at 27 s.
 pub(crate) const DEPLOYED_CYCLE: &str = "cycle 1: number 1, power off
-cycle 1 take at 7000: bank 1
-cycle 1 lock at 7000: bank 1
-cycle 1 done at 7050: bank 1
+cycle 1 take at 27000: bank 1
+cycle 1 lock at 27000: bank 1
+cycle 1 done at 27050: bank 1
 ";
 
 /// The last line after one cycle.
@@ -102,11 +126,11 @@ pub(crate) const COUNTED_ONE: &str = "ignition cycle, download: 1\n";
 
 /// The lines of the first two cycles in which a pretensioner fires.
 pub(crate) const TENSED_TWICE: &str = "cycle 1: number 1, power off
-cycle 1 take at 7000: bank 1
-cycle 1 done at 7050: bank 1
+cycle 1 take at 27000: bank 1
+cycle 1 done at 27050: bank 1
 cycle 2: number 2, power off
-cycle 2 take at 7000: bank 2
-cycle 2 done at 7050: bank 2
+cycle 2 take at 27000: bank 2
+cycle 2 done at 27050: bank 2
 ";
 
 /// The lines of a text, of which those with these names have other values.
@@ -149,7 +173,7 @@ const FIRED_BAG: [(&str, &str); 3] = [
 
 /// The record of the air bag with its place in a report and its bank, of the cycle with the same number.
 pub(crate) fn bag_event(alloc: Global, place: &str) -> Result<String, AllocError> {
-    let bag = changed(alloc, TENSED_EVENT, &FIRED_BAG)?;
+    let bag = tensed_event(alloc, &FIRED_BAG)?;
     let changes = [
         ("event", place),
         ("bank", place),

@@ -3,7 +3,7 @@ ghost use Rattle.std.specs.Prelude.{◌≤◌};
 ghost use Rattle.edr_device.specs.Faults.{last_number};
 
 use super::drives::{struck, trace_of};
-use super::expected::{COUNTED_ONE, NOT_DONE, STRUCK_CYCLE, STRUCK_EVENT, changed, joined};
+use super::expected::{NOT_DONE, changed, struck_event, struck_report};
 use super::{
     KEEP, Run, SOUND, Streams, check_run, check_streams, kept_memory, memory_of, new_image,
     replayed, run_of, words_of,
@@ -57,7 +57,7 @@ fn a_source_that_fails_at_any_call_is_told(rt: HostRuntime) -> Result<(), Fail> 
 
 #[test]
 fn a_source_that_fails_within_a_crash_is_told(rt: HostRuntime) -> Result<(), Fail> {
-    let trace = trace_of(rt.alloc(), &[struck(7000)])?;
+    let trace = trace_of(rt.alloc(), &[struck(27_000)])?;
     let mut fault = replayed(&trace, "fault: read fault\n");
     fault.status = Status::ReadFault;
     let streams = Streams {
@@ -70,7 +70,7 @@ fn a_source_that_fails_within_a_crash_is_told(rt: HostRuntime) -> Result<(), Fai
 
 #[test]
 fn a_sink_that_is_full_has_the_first_bytes(rt: HostRuntime) -> Result<(), Fail> {
-    let trace = trace_of(rt.alloc(), &[struck(7000)])?;
+    let trace = trace_of(rt.alloc(), &[struck(27_000)])?;
     let mut fault = replayed(&trace, "cycle 1: n");
     fault.status = Status::WriteFault;
     let streams = Streams {
@@ -114,8 +114,8 @@ fn a_sink_that_fails_at_any_call_has_the_bytes_before(rt: HostRuntime) -> Result
 fn left(alloc: Global, fails: u32, pick: u32) -> Result<String, AllocError> {
     let reached = fails.saturating_add(pick);
     let event = match reached {
-        16 => changed(alloc, STRUCK_EVENT, &[])?,
-        12..=15 => changed(alloc, STRUCK_EVENT, &NOT_DONE)?,
+        16 => struck_event(alloc)?,
+        12..=15 => changed(alloc, &struck_event(alloc)?, &NOT_DONE)?,
         _ => String::new(alloc),
     };
     let count = if reached >= 8 { 1 } else { 0 };
@@ -125,7 +125,7 @@ fn left(alloc: Global, fails: u32, pick: u32) -> Result<String, AllocError> {
 #[test]
 fn a_memory_that_fails_at_any_call_of_a_crash_is_told(rt: HostRuntime) -> Result<(), Fail> {
     let alloc = rt.alloc();
-    let trace = trace_of(alloc, &[struck(7000)])?;
+    let trace = trace_of(alloc, &[struck(27_000)])?;
     let mut fault = replayed(&trace, "fault: store fault\n");
     fault.status = Status::StoreFault;
     for pick in [0u32, 1] {
@@ -138,7 +138,7 @@ fn a_memory_that_fails_at_any_call_of_a_crash_is_told(rt: HostRuntime) -> Result
             check_run(&rt, run_of(&["report"], Status::Ok, &report), &mut memory)?;
         }
     }
-    let report = joined(alloc, &[STRUCK_CYCLE, STRUCK_EVENT, COUNTED_ONE])?;
+    let report = struck_report(alloc)?;
     let mut memory = memory_of(alloc, &new_image(2, KEEP), &[16], 0)?;
     check_run(&rt, replayed(&trace, &report), &mut memory)
 }

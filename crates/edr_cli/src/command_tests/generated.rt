@@ -61,7 +61,7 @@ locks: 12
 dones: 73
 not kept: 0
 retrieved: 16
-complete: 16
+complete: 0
 ";
 
 #[test]

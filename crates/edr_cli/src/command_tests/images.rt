@@ -2,7 +2,7 @@
 ghost use Rattle.std.specs.Prelude.{◌≤◌};
 
 use super::drives::{DEPLOYED, struck, trace_of};
-use super::expected::{COUNTED_ONE, STRUCK_CYCLE, STRUCK_EVENT, changed, joined};
+use super::expected::{COUNTED_ONE, STRUCK_CYCLE, changed, joined, struck_event, struck_report};
 use super::{KEEP, SIZE, check_run, image_of, kept_memory, memory_of, new_image, replayed, run_of};
 use crate::Status;
 use std::process::Abort;
@@ -93,17 +93,19 @@ fn a_refused_trace_is_told_before_a_refused_image(rt: HostRuntime) -> Result<(),
 // The image of a car that was struck: a record in bank 1.
 fn struck_image<R: Abort + AllocGlobal>(rt: &R) -> Result<[u8; SIZE], Fail> {
     let alloc = rt.alloc();
-    let trace = trace_of(alloc, &[struck(7000)])?;
-    let report = joined(alloc, &[STRUCK_CYCLE, STRUCK_EVENT, COUNTED_ONE])?;
+    let trace = trace_of(alloc, &[struck(27_000)])?;
+    let report = struck_report(alloc)?;
     let mut memory = kept_memory(alloc)?;
     check_run(rt, replayed(&trace, &report), &mut memory)?;
     Ok(image_of(&memory))
 }
 
-// A byte of the record that its field cannot have, at an offset of the bank, and the line that tells of it.
-const DAMAGES: [(usize, u8, &str); 5] = [
+// A byte at an offset of the bank that makes it no record, and the line that tells of it. Of the profile short it would have 11
+// slots of the speed, and zeros behind them.
+const DAMAGES: [(usize, u8, &str); 6] = [
     (19, 0, "damaged at 19 found 0 locked"),
-    (25, 2, "damaged at 25 found 2 locked"),
+    (25, 1, "damaged at 51 found 50 locked"),
+    (25, 3, "damaged at 25 found 3 locked"),
     (864, 2, "damaged at 864 found 2 locked"),
     (897, 1, "damaged at 897 found 1 locked"),
     (1_023, 7, "damaged at 1023 found 7 locked"),
@@ -157,7 +159,7 @@ fn half_damaged_image<R: Abort + AllocGlobal>(rt: &R) -> Result<[u8; SIZE], Fail
 fn a_damaged_bank_stands_behind_the_events(rt: HostRuntime) -> Result<(), Fail> {
     const DAMAGE: &str = "bank 1: damaged at 19 found 0 locked no\n";
     let alloc = rt.alloc();
-    let event = changed(alloc, STRUCK_EVENT, &[("bank", "2")])?;
+    let event = changed(alloc, &struck_event(alloc)?, &[("bank", "2")])?;
     let report = joined(alloc, &[&event, DAMAGE, COUNTED_ONE])?;
     let mut memory = memory_of(alloc, &half_damaged_image(&rt)?, &[], 0)?;
     check_run(&rt, run_of(&["report"], Status::Ok, &report), &mut memory)
@@ -193,9 +195,9 @@ fn open_image() -> [u8; SIZE] {
 fn damaged_banks_that_are_locked_take_no_event(rt: HostRuntime) -> Result<(), Fail> {
     let trace = trace_of(rt.alloc(), &[DEPLOYED])?;
     let report = "cycle 1: number 1, power off
-cycle 1 take at 7000: not kept
-cycle 1 lock at 7000: not kept
-cycle 1 done at 7050: not kept
+cycle 1 take at 27000: not kept
+cycle 1 lock at 27000: not kept
+cycle 1 done at 27050: not kept
 bank 1: damaged at 20 found 165 locked yes
 bank 2: damaged at 20 found 165 locked yes
 ignition cycle, download: 1
@@ -218,13 +220,14 @@ fn counted_image(count: u32) -> [u8; SIZE] {
 #[test]
 fn a_count_past_60000_is_told_as_60000(rt: HostRuntime) -> Result<(), Fail> {
     let alloc = rt.alloc();
-    let trace = trace_of(alloc, &[struck(7000)])?;
+    let trace = trace_of(alloc, &[struck(27_000)])?;
     let cycle = changed(
         alloc,
         STRUCK_CYCLE,
         &[("cycle 1", "number 60002, power off")],
     )?;
-    let event = changed(alloc, STRUCK_EVENT, &[("ignition cycle, crash", "60000")])?;
+    let changes = [("ignition cycle, crash", "60000")];
+    let event = changed(alloc, &struck_event(alloc)?, &changes)?;
     const LAST: &str = "ignition cycle, download: 60000\n";
     let report = joined(alloc, &[&cycle, &event, LAST])?;
     let mut memory = memory_of(alloc, &counted_image(60_001), &[], 0)?;
@@ -234,7 +237,7 @@ fn a_count_past_60000_is_told_as_60000(rt: HostRuntime) -> Result<(), Fail> {
 #[test]
 fn the_last_number_is_given_once(rt: HostRuntime) -> Result<(), Fail> {
     let alloc = rt.alloc();
-    let trace = trace_of(alloc, &[struck(7000)])?;
+    let trace = trace_of(alloc, &[struck(27_000)])?;
     let image = counted_image(4_294_967_295);
     let mut memory = memory_of(alloc, &image, &[], 0)?;
     let mut spent = replayed(&trace, "fault: spent\n");

@@ -1,7 +1,7 @@
 //! `migrate` of the image that version 1 leaves of the struck car.
 
-use super::crashes::struck_image;
-use super::expected::{COUNTED_ONE, STRUCK_EVENT, joined};
+use super::crashes::image_with;
+use super::expected::{COUNTED_ONE, OLD_EVENT, joined};
 use super::{KEEP, Run, SIZE, check_run, memory_of, new_image, run_of};
 use crate::Status;
 use edr_device::Nvm;
@@ -64,8 +64,8 @@ fn an_old_image_is_migrated_once(rt: HostRuntime) -> Result<(), Fail> {
     let mut memory = memory_of(rt.alloc(), &[0; SIZE], &[], 0)?;
     let run = migrated(&old, Status::Ok, "migrated: 1 events, count 1\n");
     check_run(&rt, run, &mut memory)?;
-    assert_eq!(rt; memory.image(), struck_image().as_slice());
-    let report = joined(rt.alloc(), &[STRUCK_EVENT, COUNTED_ONE])?;
+    assert_eq!(rt; memory.image(), image_with(6003, 1, 11).as_slice());
+    let report = joined(rt.alloc(), &[OLD_EVENT, COUNTED_ONE])?;
     check_run(&rt, run_of(&["report"], Status::Ok, &report), &mut memory)?;
     let run = migrated(&old, Status::Image, "fault: image formatted\n");
     check_run(&rt, run, &mut memory)
