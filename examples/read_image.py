@@ -15,7 +15,9 @@ MAGIC = b"EDRIMAGE"
 FRONT, BANK = 96, 1_024
 SLOTS_OF_COUNT = (32, 64)
 PRE, CRASH = 16, 864
-SLOTS, ROOM = 11, 201
+ROOM = 201
+# The profile bytes, each with its name and how many slots a list then has.
+PROFILES = {1: ("short", 11), 2: ("long", 201)}
 OPEN = 0xA5
 DAY, DURATION, LAST_COUNT = 86_400_000, 500, 4_294_967_295
 MOST_SPEED, MOST_CHANGE, LONGEST_PAIR = 300, 3_000, 5_000
@@ -69,10 +71,10 @@ class Fields:
         for _ in range(count):
             self.take(1, [(0, 0)])
 
-    def slots(self, width, most):
+    def slots(self, count, width, most):
         """The slots of a list, and zeros in the rest of its room."""
-        slots = [self.optional(width, most) for _ in range(SLOTS)]
-        self.zeros(width * (ROOM - SLOTS))
+        slots = [self.optional(width, most) for _ in range(count)]
+        self.zeros(width * (ROOM - count))
         return slots
 
 
@@ -81,11 +83,11 @@ def read_pre(bank):
     fields = Fields(bank, PRE)
     pre = {"cycle": fields.take(4, [(1, LAST_COUNT)]), "zero": fields.take(4, [(1, DAY)])}
     pre["place"] = fields.take(1, [(1, 2)])
-    fields.take(1, [(1, 1)])
+    pre["profile"], count = PROFILES[fields.take(1, [(1, 2)])]
     pre["after"] = fields.take(2, [(0, 0)] if pre["place"] == 1 else [(1, LONGEST_PAIR)])
-    pre["speed"] = fields.slots(2, MOST_SPEED)
-    pre["throttle"] = fields.slots(1, 100)
-    pre["brake"] = fields.slots(1, 1)
+    pre["speed"] = fields.slots(count, 2, MOST_SPEED)
+    pre["throttle"] = fields.slots(count, 1, 100)
+    pre["brake"] = fields.slots(count, 1, 1)
     pre["belt"] = fields.optional(1, 1)
     pre["lamp"] = fields.optional(1, 1)
     fields.zeros(30)
@@ -176,6 +178,7 @@ def lines_before(number, bank, locked, pre):
     yield "multi-event, number of events", pre["place"]
     yield "time from event 1 to 2", "none" if pre["place"] == 1 else f"{tenths // 10}.{tenths % 10} s"
     yield "deployment event", "yes" if locked else "no"
+    yield "pre-crash profile", pre["profile"]
     yield "speed, km/h", listed(pre["speed"])
     yield "throttle, %", listed(pre["throttle"])
     yield "service brake", listed(SWITCH[value] for value in pre["brake"])
