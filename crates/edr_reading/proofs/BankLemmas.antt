@@ -38,11 +38,11 @@ place_in (n ∷ ns) w = if nat_eq (key n) (key w) then 0 else suc (place_in ns w
 abbrev Placed : ℕ → Type 0
 Placed k = place_in event_names (get_or event_names k []) ≡ k
 
-placed : Below 28 Placed
-placed = (refl, (refl, (refl, (refl, (refl, (refl, (refl, (refl, (refl, (refl, (refl, (refl, (refl, (refl, (refl, (refl, (refl, (refl, (refl, (refl, (refl, (refl, (refl, (refl, (refl, (refl, (refl, (refl, tt))))))))))))))))))))))))))))
+placed : Below 29 Placed
+placed = (refl, (refl, (refl, (refl, (refl, (refl, (refl, (refl, (refl, (refl, (refl, (refl, (refl, (refl, (refl, (refl, (refl, (refl, (refl, (refl, (refl, (refl, (refl, (refl, (refl, (refl, (refl, (refl, (refl, tt)))))))))))))))))))))))))))))
 
-pub name-once : (i k : ℕ) → i < 28 → k < 28 → get_or event_names i [] ≡ get_or event_names k [] → i ≡ k
-name-once i k h l e = sym (below-at 28 Placed placed i h) ∙ ap (place_in event_names) e ∙ below-at 28 Placed placed k l
+pub name-once : (i k : ℕ) → i < 29 → k < 29 → get_or event_names i [] ≡ get_or event_names k [] → i ≡ k
+name-once i k h l e = sym (below-at 29 Placed placed i h) ∙ ap (place_in event_names) e ∙ below-at 29 Placed placed k l
 
 -- ---- plain values
 

@@ -34,7 +34,7 @@ named-long b [] values e = refl
 named-long b (n ∷ names) [] e = absurd (omega (arith, e))
 named-long b (n ∷ names) (v ∷ values) e = ap suc (named-long b names values (omega (arith, e)))
 
-pub pre-long : (b : ℕ) (p : PrePart) (l : Bool) → length (map line_fields (pre_lines b p l)) ≡ 10
+pub pre-long : (b : ℕ) (p : PrePart) (l : Bool) → length (map line_fields (pre_lines b p l)) ≡ 11
 unfolding pre_lines
 pre-long b p l = refl
 
@@ -52,19 +52,19 @@ pub rows-joined : {X Y : Type 0} (f : X → Y) (rows front rest : List X) (n : �
 rows-joined f rows front rest n a b e g is this =
     ap (map f) (sym (take-append-drop n rows) ∙ ap (λ (x : List _). x ++ drop n rows) (sym e) ∙ ap (λ (x : List _). front ++ x) (sym g)) ∙ map-append f front rest ∙ ap (λ (x : List _). x ++ map f rest) is ∙ ap (λ (x : List _). a ++ x) this
 
-module _ (rows head rest pre rest2 crash last : List Row) (head-is : head ≡ take 2 rows) (rest-is : rest ≡ drop 2 rows) (pre-is : pre ≡ take 10 rest) (rest2-is : rest2 ≡ drop 10 rest) (crash-is : crash ≡ take 15 rest2) (last-is : last ≡ drop 15 rest2) where
+module _ (rows head rest pre rest2 crash last : List Row) (head-is : head ≡ take 2 rows) (rest-is : rest ≡ drop 2 rows) (pre-is : pre ≡ take 11 rest) (rest2-is : rest2 ≡ drop 11 rest) (crash-is : crash ≡ take 15 rest2) (last-is : last ≡ drop 15 rest2) where
   pub event-parts : (b bank : ℕ) (r : Record) → IsRecord r → map fields rows ≡ map line_fields (event_lines b bank r)
       → (map fields head ≡ head_fields b bank) × (map fields pre ≡ map line_fields (pre_lines b r.pre r.locked)) × (map fields crash ≡ map line_fields (crash_lines b r.crash)) × (map fields last ≡ last_fields b (is_complete r))
   event-parts b bank r h is =
       let one = rows-parted fields rows head rest 2 _ _ head-is rest-is (is ∙ event-fields b bank r) refl in
-      let two = rows-parted fields rest pre rest2 10 _ _ pre-is rest2-is one.1 (pre-long b r.pre r.locked) in
+      let two = rows-parted fields rest pre rest2 11 _ _ pre-is rest2-is one.1 (pre-long b r.pre r.locked) in
       let three = rows-parted fields rest2 crash last 15 _ _ crash-is last-is two.1 (crash-rows-long b r.crash h.crash) in
       (one.0, two.0, three.0, three.1)
 
   pub event-whole : (b bank : ℕ) (r : Record) → map fields head ≡ head_fields b bank → map fields pre ≡ map line_fields (pre_lines b r.pre r.locked) → map fields crash ≡ map line_fields (crash_lines b r.crash) → map fields last ≡ last_fields b (is_complete r)
       → map fields rows ≡ map line_fields (event_lines b bank r)
   event-whole b bank r e f g h =
-      rows-joined fields rows head rest 2 _ _ head-is rest-is e (rows-joined fields rest pre rest2 10 _ _ pre-is rest2-is f (rows-joined fields rest2 crash last 15 _ _ crash-is last-is g h)) ∙ sym (event-fields b bank r)
+      rows-joined fields rows head rest 2 _ _ head-is rest-is e (rows-joined fields rest pre rest2 11 _ _ pre-is rest2-is f (rows-joined fields rest2 crash last 15 _ _ crash-is last-is g h)) ∙ sym (event-fields b bank r)
 
 pub complete-same : (q : PrePart) (l : Bool) (c : Option CrashPart) (r : Record) → SlotsAre q r.pre → c ≡ r.crash → is_complete (record { pre = q; locked = l; crash = c }) ≡ is_complete r
 unfolding is_complete

@@ -39,7 +39,7 @@ pub event-told : (k : ℕ) (e : ℕ × Record) (more : List (List (List ℕ))) �
 unfolding event_lines
 event-told k e more one h told = let z = decimal-same k 0 h (omega arith) told in omega (arith, z)
 
-pub event-long : (k bank : ℕ) (r : Record) → IsRecord r → length (map line_fields (event_lines k bank r)) ≡ 28
+pub event-long : (k bank : ℕ) (r : Record) → IsRecord r → length (map line_fields (event_lines k bank r)) ≡ 29
 event-long k bank r h =
     let head = head_fields k bank in
     let pre = map line_fields (pre_lines k r.pre r.locked) in
@@ -73,7 +73,7 @@ some-event k [] more rows other told is = absurd (other (subst BeginsTold (sym i
 some-event k (e ∷ es) more rows other told is = (e, es, refl, is ∙ first-behind k e es more)
 
 pub none-whole : (k : ℕ) (banks : List ℕ) (rows : List Row) (es : List (ℕ × Record)) (more : List (List (List ℕ))) → es ≡ [] → map fields rows ≡ events_fields k es ++ more
-    → (banks ≡ banks ++ map (λ e. e.0) es) × (map fields (drop (28 * length es) rows) ≡ more)
+    → (banks ≡ banks ++ map (λ e. e.0) es) × (map fields (drop (29 * length es) rows) ≡ more)
 none-whole k banks rows [] more z is = (sym (append-nil banks), is)
 none-whole k banks rows (e ∷ es) more z is = cc
 
@@ -87,10 +87,10 @@ drop-both n m [] = drop-none [] (n + m) refl ∙ sym (ap (drop m) (drop-none [] 
 drop-both zero m (x ∷ xs) = let e : 0 + m ≡ m = omega arith in ap (λ (k : ℕ). drop k (x ∷ xs)) e
 drop-both (suc n) m (x ∷ xs) = let e : suc n + m ≡ suc (n + m) = omega arith in ap (λ (k : ℕ). drop k (x ∷ xs)) e ∙ drop-both n m xs
 
-pub rest-more : (rows rest : List Row) (e : ℕ × Record) (left : List (ℕ × Record)) → rest ≡ drop 28 rows → map fields (drop (28 * length (e ∷ left)) rows) ≡ map fields (drop (28 * length left) rest)
+pub rest-more : (rows rest : List Row) (e : ℕ × Record) (left : List (ℕ × Record)) → rest ≡ drop 29 rows → map fields (drop (29 * length (e ∷ left)) rows) ≡ map fields (drop (29 * length left) rest)
 rest-more rows rest e left is =
-    let n : 28 * length (e ∷ left) ≡ 28 + 28 * length left = omega arith in
-    ap (map fields) (ap (λ (k : ℕ). drop k rows) n ∙ drop-both 28 (28 * length left) rows ∙ ap (drop (28 * length left)) (sym is))
+    let n : 29 * length (e ∷ left) ≡ 29 + 29 * length left = omega arith in
+    ap (map fields) (ap (λ (k : ℕ). drop k rows) n ∙ drop-both 29 (29 * length left) rows ∙ ap (drop (29 * length left)) (sym is))
 
 pub banks-more : (old items new : List Found) (f : Found) (e : ℕ × Record) (left es : List (ℕ × Record)) → items ≡ old ++ f ∷ [] → f.bank ≡ e.0 → es ≡ e ∷ left → map (λ f. f.bank) new ≡ map (λ f. f.bank) items ++ map (λ e. e.0) left
     → map (λ f. f.bank) new ≡ map (λ f. f.bank) old ++ map (λ e. e.0) es
@@ -98,15 +98,15 @@ banks-more old items new f e left es is same parts told =
     told ∙ ap (λ (x : List Found). map (λ g. g.bank) x ++ map (λ g. g.0) left) is ∙ ap (λ (x : List ℕ). x ++ map (λ g. g.0) left) (map-append (λ (g : Found). g.bank) old (f ∷ []))
     ∙ append_assoc (map (λ g. g.bank) old) (f.bank ∷ []) (map (λ g. g.0) left) ∙ ap (λ (b : ℕ). map (λ g. g.bank) old ++ b ∷ map (λ g. g.0) left) same ∙ ap (λ (x : List (ℕ × Record)). map (λ g. g.bank) old ++ map (λ g. g.0) x) (sym parts)
 
-pub read-events : (k : ℕ) (rows rest : List Row) (old items new : List Found) (e : ℕ × Record) → rest ≡ drop 28 rows → length rest + 28 ≡ length rows → items ≡ old ++ found_event e ∷ [] → IsEvent e → map fields rows ≡ map line_fields (event_lines k e.0 e.1) ++ map fields (drop 28 rows)
-    → (es : List (ℕ × Record)) × (new ≡ items ++ map found_event es) × All IsEvent es × (map fields rest ≡ events_fields (k + 1) es ++ map fields (drop (28 * length es) rest)) × (28 * length es ≤ length rest)
-    → (es : List (ℕ × Record)) × (new ≡ old ++ map found_event es) × All IsEvent es × (map fields rows ≡ events_fields k es ++ map fields (drop (28 * length es) rows)) × (28 * length es ≤ length rows)
+pub read-events : (k : ℕ) (rows rest : List Row) (old items new : List Found) (e : ℕ × Record) → rest ≡ drop 29 rows → length rest + 29 ≡ length rows → items ≡ old ++ found_event e ∷ [] → IsEvent e → map fields rows ≡ map line_fields (event_lines k e.0 e.1) ++ map fields (drop 29 rows)
+    → (es : List (ℕ × Record)) × (new ≡ items ++ map found_event es) × All IsEvent es × (map fields rest ≡ events_fields (k + 1) es ++ map fields (drop (29 * length es) rest)) × (29 * length es ≤ length rest)
+    → (es : List (ℕ × Record)) × (new ≡ old ++ map found_event es) × All IsEvent es × (map fields rows ≡ events_fields k es ++ map fields (drop (29 * length es) rows)) × (29 * length es ≤ length rows)
 read-events k rows rest old items new e r long i b is x = (
   e ∷ x.0,
   x.1 ∙ ap (λ (y : List Found). y ++ map found_event x.0) i ∙ append_assoc old (found_event e ∷ []) (map found_event x.0),
   All-cons IsEvent e x.0 b x.2,
   is ∙ ap (λ (y : List Row). map line_fields (event_lines k e.0 e.1) ++ map fields y) (sym r) ∙ ap (λ (y : List (List (List ℕ))). map line_fields (event_lines k e.0 e.1) ++ y) x.3
-      ∙ sym (first-behind k e x.0 (map fields (drop (28 * length x.0) rest))) ∙ ap (λ (y : List (List (List ℕ))). events_fields k (e ∷ x.0) ++ y) (sym (rest-more rows rest e x.0 r)),
+      ∙ sym (first-behind k e x.0 (map fields (drop (29 * length x.0) rest))) ∙ ap (λ (y : List (List (List ℕ))). events_fields k (e ∷ x.0) ++ y) (sym (rest-more rows rest e x.0 r)),
   omega (arith, long, x.4),
 )
 

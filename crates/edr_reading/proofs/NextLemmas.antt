@@ -199,8 +199,8 @@ event_fields k e = map line_fields (event_lines k e.0 e.1)
 
 abbrev InEvent : ℕ → List (ℕ × Record) → Rows → List (List ℕ) → Rows → Rows → Type 0
 InEvent k es xs r more rest =
-    (done : List (ℕ × Record)) × (e : ℕ × Record) × (left : List (ℕ × Record)) × (zs : Rows) × (es ≡ done ++ e ∷ left) × (xs ≡ events_fields k done ++ zs) × (length zs < 28)
-    × (zs ≡ take (length zs) (event_fields (k + length done) e)) × ((d : List (List ℕ)) → r ≡ get_or (event_fields (k + length done) e) (length zs) d) × (28 + length rest ≤ length zs + 1 + length more)
+    (done : List (ℕ × Record)) × (e : ℕ × Record) × (left : List (ℕ × Record)) × (zs : Rows) × (es ≡ done ++ e ∷ left) × (xs ≡ events_fields k done ++ zs) × (length zs < 29)
+    × (zs ≡ take (length zs) (event_fields (k + length done) e)) × ((d : List (List ℕ)) → r ≡ get_or (event_fields (k + length done) e) (length zs) d) × (29 + length rest ≤ length zs + 1 + length more)
 
 events-next : (k : ℕ) (es : List (ℕ × Record)) (xs : Rows) (r : List (List ℕ)) (more rest : Rows) → All IsEvent es → events_fields k es ++ rest ≡ xs ++ r ∷ more
     → InEvent k es xs r more rest ⊎ Beyond (events_fields k es) xs r more rest
@@ -278,8 +278,8 @@ damaged-told reports es ds done left e h = record {
 module _ (P : Type 0) (rows : Rows) (r : List (List ℕ)) (more : Rows)
     (at-cycle : (reports : List Report) (c : CycleRow) → IsTold reports [] [] → IsCycleRow c → rows ≡ whole reports [] [] → r ≡ cycle_fields (1 + length reports) c → length rows + 2 ≤ 4_294_967_294 → P)
     (at-ack : (reports : List Report) (n : ℕ) (s : Option ℕ) (acks : List Ack) (a : Ack) → IsTold (reports ++ Ran n s acks ∷ []) [] [] → IsAck a → rows ≡ whole (reports ++ Ran n s acks ∷ []) [] [] → r ≡ ack_fields (1 + length reports) a → length rows + 2 ≤ 4_294_967_294 → P)
-    (in-event : (reports : List Report) (es : List (ℕ × Record)) (e : ℕ × Record) (zs : Rows) → IsTold reports (es ++ e ∷ []) [] → rows ≡ whole reports es [] ++ zs → length zs < 28 → zs ≡ take (length zs) (event_fields (1 + length es) e)
-    → ((d : List (List ℕ)) → r ≡ get_or (event_fields (1 + length es) e) (length zs) d) → length rows + 29 ≤ 4_294_967_294 + length zs → P)
+    (in-event : (reports : List Report) (es : List (ℕ × Record)) (e : ℕ × Record) (zs : Rows) → IsTold reports (es ++ e ∷ []) [] → rows ≡ whole reports es [] ++ zs → length zs < 29 → zs ≡ take (length zs) (event_fields (1 + length es) e)
+    → ((d : List (List ℕ)) → r ≡ get_or (event_fields (1 + length es) e) (length zs) d) → length rows + 30 ≤ 4_294_967_294 + length zs → P)
     (at-damaged : (reports : List Report) (es : List (ℕ × Record)) (ds : List Found) (d : Found) → IsTold reports es (ds ++ d ∷ []) → rows ≡ whole reports es ds → r ≡ damaged_fields d → length rows + 2 ≤ 4_294_967_294 → P)
     (at-count : (reports : List Report) (es : List (ℕ × Record)) (ds : List Found) (n : ℕ) → IsTold reports es ds → rows ≡ whole reports es ds → r ≡ count_fields n → more ≡ [] → length rows + 1 ≤ 4_294_967_294 → P) where
   pub next : 0 < length rows → AreReport (rows ++ r ∷ more) → P

@@ -36,7 +36,7 @@ block-append b [] ms (v ∷ vs) ws e = absurd (omega (arith, e))
 block-append b (n ∷ ns) ms [] ws e = absurd (omega (arith, e))
 block-append b (n ∷ ns) ms (v ∷ vs) ws e = ap (λ (x : Rows). (b ∷ n ∷ v ∷ []) ∷ x) (block-append b ns ms vs ws (omega (arith, e)))
 
-pub words-long : (b bank : ℕ) (r : Record) → IsRecord r → length (event_words b bank r) ≡ 28
+pub words-long : (b bank : ℕ) (r : Record) → IsRecord r → length (event_words b bank r) ≡ 29
 words-long b bank r h =
     let c = crash-long r.crash h.crash in
     let a = length-append (crash_words r.crash) (yes_no (is_complete r) ∷ []) in
@@ -68,7 +68,7 @@ at-block b zero (n ∷ ns) (v ∷ vs) h l = refl
 at-block b (suc k) (n ∷ ns) (v ∷ vs) h l = at-block b k ns vs (omega (arith, h)) (omega (arith, l))
 
 -- the first rows of an event, and plain ones behind them
-pub front-back-rows : (b : List ℕ) (p : ℕ) (vs ws : List (List ℕ)) → p < 28 → length vs ≡ 28 → take (p + 1) (block_fields b event_names vs) ++ block_fields b (drop (p + 1) event_names) (drop (p + 1) ws) ≡ block_fields b event_names (front_back p vs ws)
+pub front-back-rows : (b : List ℕ) (p : ℕ) (vs ws : List (List ℕ)) → p < 29 → length vs ≡ 29 → take (p + 1) (block_fields b event_names vs) ++ block_fields b (drop (p + 1) event_names) (drop (p + 1) ws) ≡ block_fields b event_names (front_back p vs ws)
 front-back-rows b p vs ws small long =
     let a = length-take (p + 1) event_names in
     let c = length-take (p + 1) vs in

@@ -2,6 +2,7 @@
 use Rattle.std.proofs.Common.{arith, ◌≡◌, ◌∙◌, sym, ap, refl, ℕ, zero, suc, ◌+◌, ◌<◌, Bool, List, [], ◌∷◌, ◌++◌, length, map, drop, get_or, replicate, Option, None, Some, Bor, codes, decimal}
 use Rattle.std.proofs.lemmas.List.{length-map}
 use Rattle.std.specs.Option.{IfSome}
+use Rattle.std.proofs.lemmas.List.FromFn.{fill_by_all}
 use Rattle.edr_record.specs.Parts.{PrePart, CrashPart}
 use Rattle.edr_record.specs.Bounds.{IsCrash}
 use Rattle.edr_reading.proofs.FrontLemmas.{not-number}
@@ -26,18 +27,27 @@ pre-shown v p l e = record {
   events = ap (λ (x : List (List ℕ)). get_or x 2 []) e;
   between = ap (λ (x : List (List ℕ)). get_or x 3 []) e;
   locked = ap (λ (x : List (List ℕ)). get_or x 4 []) e;
-  speed = ap (λ (x : List (List ℕ)). get_or x 5 []) e;
-  throttle = ap (λ (x : List (List ℕ)). get_or x 6 []) e;
-  brake = ap (λ (x : List (List ℕ)). get_or x 7 []) e;
-  belt = ap (λ (x : List (List ℕ)). get_or x 8 []) e;
-  lamp = ap (λ (x : List (List ℕ)). get_or x 9 []) e;
+  profile = ap (λ (x : List (List ℕ)). get_or x 5 []) e;
+  speed = ap (λ (x : List (List ℕ)). get_or x 6 []) e;
+  throttle = ap (λ (x : List (List ℕ)). get_or x 7 []) e;
+  brake = ap (λ (x : List (List ℕ)). get_or x 8 []) e;
+  belt = ap (λ (x : List (List ℕ)). get_or x 9 []) e;
+  lamp = ap (λ (x : List (List ℕ)). get_or x 10 []) e;
 }
 
 pub pre-listed : (v : PreValues) (p : PrePart) (l : Bool) → ShowsPre v p l → pre_list v ≡ pre_words p l
-pre-listed v p l s = rw (s.cycle, s.zero, s.events, s.between, s.locked, s.speed, s.throttle, s.brake, s.belt, s.lamp) refl
+pre-listed v p l s = rw (s.cycle, s.zero, s.events, s.between, s.locked, s.profile, s.speed, s.throttle, s.brake, s.belt, s.lamp) refl
 
 abbrev nothing : Bor (List ℕ)
 nothing = record { ref_ptr = (0, 0); now = [] }
+
+-- eleven values, one by one
+pub eleven : (xs : List (Bor (List ℕ))) → length xs ≡ 11 →
+    map (λ v. v.now) xs
+    ≡ (get_or xs 0 nothing).now ∷ (get_or xs 1 nothing).now ∷ (get_or xs 2 nothing).now ∷ (get_or xs 3 nothing).now ∷ (get_or xs 4 nothing).now
+    ∷ (get_or xs 5 nothing).now ∷ (get_or xs 6 nothing).now ∷ (get_or xs 7 nothing).now ∷ (get_or xs 8 nothing).now ∷ (get_or xs 9 nothing).now
+    ∷ (get_or xs 10 nothing).now ∷ []
+eleven xs long = ap (map (λ v. v.now)) (fill_by_all (λ (k : ℕ). get_or xs k nothing) xs 11 nothing long (λ k within. refl))
 
 -- fifteen values, one by one
 pub fifteen : (xs : List (Bor (List ℕ))) → length xs ≡ 15 → map (λ v. v.now) xs ≡ (get_or xs 0 nothing).now ∷ (get_or xs 1 nothing).now ∷ (get_or xs 2 nothing).now ∷ (get_or xs 3 nothing).now ∷ (get_or xs 4 nothing).now ∷ (get_or xs 5 nothing).now ∷ (get_or xs 6 nothing).now ∷ (get_or xs 7 nothing).now ∷ (get_or xs 8 nothing).now ∷ (get_or xs 9 nothing).now ∷ (get_or xs 10 nothing).now ∷ (get_or xs 11 nothing).now ∷ (get_or xs 12 nothing).now ∷ (get_or xs 13 nothing).now ∷ (get_or xs 14 nothing).now ∷ []

@@ -56,7 +56,7 @@ cycle-name i (row.Ran n s) = refl
 -- ---- in an event
 
 module _ (rows zs : Rows) (reports : List Report) (es : List (ℕ × Record)) (e : ℕ × Record) (p : ℕ) (h : IsTold reports (es ++ e ∷ []) [])
-    (rows-are : rows ≡ whole reports es [] ++ zs) (zs-long : length zs ≡ p + 1) (small : p < 28) (zs-are : zs ≡ take (length zs) (event_fields (1 + length es) e)) where
+    (rows-are : rows ≡ whole reports es [] ++ zs) (zs-long : length zs ≡ p + 1) (small : p < 29) (zs-are : zs ≡ take (length zs) (event_fields (1 + length es) e)) where
   abbrev number : ℕ
   number = 1 + length es
 
@@ -74,13 +74,13 @@ module _ (rows zs : Rows) (reports : List Report) (es : List (ℕ × Record)) (e
       ∙ at-block (decimal number) p event_names (event_words number e.0 e.1) small (omega (arith, small, long))
 
   -- the row that stands next
-  inside-next : (r : List (List ℕ)) → ((d : List (List ℕ)) → r ≡ get_or (event_fields number e) (length zs) d) → length zs < 28 → r ≡ decimal number ∷ get_or event_names (p + 1) [] ∷ get_or (event_words number e.0 e.1) (p + 1) [] ∷ []
+  inside-next : (r : List (List ℕ)) → ((d : List (List ℕ)) → r ≡ get_or (event_fields number e) (length zs) d) → length zs < 29 → r ≡ decimal number ∷ get_or event_names (p + 1) [] ∷ get_or (event_words number e.0 e.1) (p + 1) [] ∷ []
   inside-next r this less =
       let long = words-long number e.0 e.1 is-record in
       this [] ∙ ap (λ (k : ℕ). get_or (event_fields number e) k []) zs-long ∙ ap (λ (x : Rows). get_or x (p + 1) []) (event-named number e.0 e.1 is-record)
       ∙ at-block (decimal number) (p + 1) event_names (event_words number e.0 e.1) (omega (arith, zs-long, less)) (omega (arith, zs-long, less, long))
 
-  inside-none : length rows + 29 ≤ 4_294_967_294 + length zs → NoneBehind rows (get_or rows (length rows - 1) []) p → ⊥
+  inside-none : length rows + 30 ≤ 4_294_967_294 + length zs → NoneBehind rows (get_or rows (length rows - 1) []) p → ⊥
   inside-none short none =
       let b = decimal number in
       let words = event_words number e.0 e.1 in
@@ -104,7 +104,7 @@ module _ (rows zs : Rows) (reports : List Report) (es : List (ℕ × Record)) (e
       n.4 g.0 (subst (λ (x : List ℕ). IsGuess x n.0 n.1 g.0) (sym block-is) g.2) (subst AreReport whole-is report)
 
 -- the first row of an event may stand behind whole rows
-event-next : (rows : Rows) (reports : List Report) (es : List (ℕ × Record)) (e : ℕ × Record) → IsTold reports (es ++ e ∷ []) [] → rows ≡ whole reports es [] → length rows + 29 ≤ 4_294_967_294
+event-next : (rows : Rows) (reports : List Report) (es : List (ℕ × Record)) (e : ℕ × Record) → IsTold reports (es ++ e ∷ []) [] → rows ≡ whole reports es [] → length rows + 30 ≤ 4_294_967_294
     → Opens (rows ++ (decimal (1 + length es) ∷ codes "event" ∷ decimal (1 + length es) ∷ []) ∷ [])
 event-next rows reports es e h is short =
     let k = 1 + length es in
@@ -126,7 +126,7 @@ cut : (zs : Rows) (P : Type 0) → (zs ≡ [] → P) → ((p : ℕ) → length z
 cut [] P f g = f refl
 cut (z ∷ zs) P f g = g (length zs) (omega arith)
 
-pub opens-no : (rows : Rows) → 0 < length rows → ¬ AreReport rows → ¬ AreReport (rows ++ count_fields 0 ∷ []) → ((p : ℕ) → p < 28 → name_of (last rows) ≡ get_or event_names p [] → NoneBehind rows (last rows) p) → Opens rows → ⊥
+pub opens-no : (rows : Rows) → 0 < length rows → ¬ AreReport rows → ¬ AreReport (rows ++ count_fields 0 ∷ []) → ((p : ℕ) → p < 29 → name_of (last rows) ≡ get_or event_names p [] → NoneBehind rows (last rows) p) → Opens rows → ⊥
 opens-no rows some none no-count inside o = by o.0 o.1
   where
     by : (more : Rows) → AreReport (rows ++ more) → ⊥
@@ -145,7 +145,7 @@ zero-is : decimal 0 ≡ codes "0"
 zero-is = decimal_digit 0 (omega arith)
 
 abbrev pub Within : Rows → List ℕ → Type 0
-Within rows b = (p : ℕ) → p < 27 → name_of (last rows) ≡ get_or event_names p [] → b ≡ block_of (last rows) → NoneBehind rows (last rows) p
+Within rows b = (p : ℕ) → p < 28 → name_of (last rows) ≡ get_or event_names p [] → b ≡ block_of (last rows) → NoneBehind rows (last rows) p
 
 abbrev count_of : List ℕ → List ℕ → List (List ℕ)
 count_of b n = b ∷ n ∷ codes "0" ∷ []
@@ -168,7 +168,7 @@ module _ (rows : Rows) (some : 0 < length rows) (b : List ℕ) where
       (λ reports es e zs h is l z this short. cut zs ⊥
       (λ nil. no-event (event-row (codes "event") (1 + length es) (ap block_of (this [] ∙ ap (λ (x : Rows). get_or (event_fields (1 + length es) e) (length x) []) nil ∙ ap (λ (x : Rows). get_or x 0 []) (event-named (1 + length es) e.0 e.1 (last-of IsEvent es e h.events).1))) refl (event-next rows reports es e h (is ∙ ap (λ (x : Rows). whole reports es [] ++ x) nil ∙ append-nil (whole reports es [])) (omega (arith, short, ap length nil)))))
       (λ p long.
-      let small : p < 28 = omega (arith, long, l) in
+      let small : p < 29 = omega (arith, long, l) in
       let row-is = inside-row rows zs reports es e p h is long small z in
       let next-is = inside-next rows zs reports es e p h is long small z r this l in
       inside-none rows zs reports es e p h is long small z short (inside p (omega (arith, long, l)) (ap name_of row-is) (ap block_of next-is ∙ sym (ap block_of row-is)))))
@@ -228,7 +228,7 @@ damaged-row rows reports es ds d h is short =
     more-next rows (whole reports es ds) (damaged_fields new) reports es (ds ++ new ∷ []) told (whole-damaged reports es ds new) is short
 
 abbrev pub WithinNamed : Rows → List ℕ → List ℕ → Type 0
-WithinNamed rows b n = (p : ℕ) → p < 27 → name_of (last rows) ≡ get_or event_names p [] → b ≡ block_of (last rows) → n ≡ get_or event_names (p + 1) [] → NoneBehind rows (last rows) p
+WithinNamed rows b n = (p : ℕ) → p < 28 → name_of (last rows) ≡ get_or event_names p [] → b ≡ block_of (last rows) → n ≡ get_or event_names (p + 1) [] → NoneBehind rows (last rows) p
 
 row-is : (rows : Rows) (b c n m v w : List ℕ) → b ≡ c → n ≡ m → w ≡ v → Opens (rows ++ (c ∷ m ∷ w ∷ []) ∷ []) → Opens (rows ++ (b ∷ n ∷ v ∷ []) ∷ [])
 row-is rows b c n m v w e f g o = subst (λ (r : List (List ℕ)). Opens (rows ++ r ∷ [])) (sym (ap₂ (λ (x y : List ℕ). x ∷ y ∷ v ∷ []) e f ∙ ap (λ (x : List ℕ). c ∷ m ∷ x ∷ []) (sym g))) o
@@ -247,7 +247,7 @@ second-no rows some b n no-count no-event no-start no-ack no-damage inside g =
     let first = this [] ∙ ap (λ (x : Rows). get_or (event_fields (1 + length es) e) (length x) []) nil ∙ ap (λ (x : Rows). get_or x 0 []) (event-named (1 + length es) e.0 e.1 (last-of IsEvent es e h.events).1) in
     no-event (event-row rows some b n (1 + length es) (ap block_of first) (ap name_of first) (event-next rows reports es e h (is ∙ ap (λ (x : Rows). whole reports es [] ++ x) nil ∙ append-nil (whole reports es [])) (omega (arith, short, ap length nil)))))
     (λ p long.
-    let small : p < 28 = omega (arith, long, l) in
+    let small : p < 29 = omega (arith, long, l) in
     let row-is = inside-row rows zs reports es e p h is long small z in
     let next-is = inside-next rows zs reports es e p h is long small z r this l in
     inside-none rows zs reports es e p h is long small z short (inside p (omega (arith, long, l)) (ap name_of row-is) (ap block_of next-is ∙ sym (ap block_of row-is)) (ap name_of next-is))))

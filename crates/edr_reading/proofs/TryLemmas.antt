@@ -4,11 +4,13 @@ use Rattle.std.specs.Option.{IfSome, MatchOption}
 use Rattle.std.specs.Prelude.{⊤}
 use Rattle.std.specs.Result.{IfOk}
 use Rattle.edr_record.specs.declared.Place.TheVariants.{First, Second}
+use Rattle.edr_record.specs.declared.Profile.{Profile}
+use Rattle.edr_record.specs.declared.Profile.TheVariants.{Short, Long}
 use Rattle.edr_image.specs.declared.places.TheConstants.{MOST_BANKS}
-use Rattle.edr_report.specs.Words.{yes_no, extreme_words, milliseconds}
+use Rattle.edr_report.specs.Words.{yes_no, profile_word, extreme_words, milliseconds}
 use Rattle.edr_reading.specs.Faults.{AreReport, Opens, GoesOn}
 use Rattle.edr_reading.specs.Found.{count_fields}
-use Rattle.edr_reading.specs.Plain.{no_extreme, event_names, plain_texts, absent_words, present_words, back_rows, block_fields, block_of, value_of, IsGuess, ArePlain, SomeBehind, NoneBehind, IsInside}
+use Rattle.edr_reading.specs.Plain.{no_extreme, event_names, plain_texts, absent_words, present_words, absent_texts, present_texts, no_numbers, no_switches, NoneAfter, back_rows, block_fields, block_of, value_of, IsGuess, ArePlain, SomeBehind, NoneBehind, IsInside}
 use Rattle.std.specs.Prelude.{is_some}
 use Rattle.std.proofs.Common.{nat_eq, length-take-le, ◌&&◌}
 use Rattle.std.proofs.lemmas.Bool.{eqb-true}
@@ -21,7 +23,7 @@ use Rattle.edr_reading.specs.Rows.{line_fields}
 use Rattle.edr_reading.proofs.TriedLemmas.{opens-no, first-no, second-no}
 use Rattle.edr_reading.proofs.BankLemmas.{name-once, banks, bank-spelled, second-is, zero-ms, extreme-is, missing-is}
 
-pub placed-whole : (o : Option ℕ) (name : List ℕ) (p : ℕ) → p < 28 → name ≡ get_or event_names p [] → IfSome o (λ i. (i < 28) × (name ≡ get_or event_names i [])) → MatchOption o ((i : ℕ) → i < 28 → name ≢ get_or event_names i []) (λ i. ⊤) → o ≡ Some p
+pub placed-whole : (o : Option ℕ) (name : List ℕ) (p : ℕ) → p < 29 → name ≡ get_or event_names p [] → IfSome o (λ i. (i < 29) × (name ≡ get_or event_names i [])) → MatchOption o ((i : ℕ) → i < 29 → name ≢ get_or event_names i []) (λ i. ⊤) → o ≡ Some p
 placed-whole None name p h e read none = absurd (none p h e)
 placed-whole (Some i) name p h e read none = ap Some (name-once i p read.0 h (sym read.1 ∙ e))
 
@@ -40,23 +42,28 @@ none-of A false m e = m
 pub moved : (rows : List (List (List ℕ))) (a b : List ℕ) (p : ℕ) (v w : List (List ℕ)) → a ≡ b → v ≡ w → ¬ AreReport (rows ++ back_rows a p v) → ¬ AreReport (rows ++ back_rows b p w)
 moved rows a b p v w e f n = subst (λ (x : List ℕ). ¬ AreReport (rows ++ back_rows x p w)) e (subst (λ (x : List (List ℕ)). ¬ AreReport (rows ++ back_rows a p x)) f n)
 
-pub second-words : (block bank : List ℕ) → plain_texts block bank (codes "0.0 s") (codes "none") (codes "none") (codes "none") (codes "none") (codes "no") ≡ absent_words block bank (Second 1)
-second-words block bank = ap (λ (x : List ℕ). plain_texts block bank x (codes "none") (codes "none") (codes "none") (codes "none") (codes "no")) second-is
+pub second-words : (block bank : List ℕ) (f : Profile) → absent_texts block bank (codes "0.0 s") f ≡ absent_words block bank (Second 1) f
+second-words block bank f = ap (λ (x : List ℕ). plain_texts block bank x (profile_word f) (no_numbers f) (no_switches f) (codes "none") (codes "none") (codes "none") (codes "none") (codes "no")) second-is
 
-pub present-texts : (block bank points : List ℕ) (b : Bool) → plain_texts block bank (codes "none") points (codes "0 km/h at 0 ms") (codes "0 ms") (codes "0 longitudinal, 0 lateral") (yes_no b) ≡ present_words block bank points b
-present-texts block bank points b =
-    ap₂ (λ (x y : List ℕ). plain_texts block bank (codes "none") points x y (codes "0 longitudinal, 0 lateral") (yes_no b)) extreme-is zero-ms
-    ∙ ap (λ (x : List ℕ). plain_texts block bank (codes "none") points (extreme_words no_extreme) (milliseconds 0) x (yes_no b)) missing-is
+pub present-texts : (block bank : List ℕ) (f : Profile) (points : List ℕ) (b : Bool) → present_texts block bank f points (yes_no b) ≡ present_words block bank f points b
+present-texts block bank f points b =
+    ap₂ (λ (x y : List ℕ). plain_texts block bank (codes "none") (profile_word f) (no_numbers f) (no_switches f) points x y (codes "0 longitudinal, 0 lateral") (yes_no b)) extreme-is zero-ms
+    ∙ ap (λ (x : List ℕ). plain_texts block bank (codes "none") (profile_word f) (no_numbers f) (no_switches f) points (extreme_words no_extreme) (milliseconds 0) x (yes_no b)) missing-is
 
-pub all-tried : (rows : List (List (List ℕ))) (block bank points : List ℕ) (p : ℕ) → ¬ AreReport (rows ++ back_rows block p (absent_words block bank First)) → ¬ AreReport (rows ++ back_rows block p (absent_words block bank (Second 1)))
-    → ¬ AreReport (rows ++ back_rows block p (present_words block bank points true)) → ¬ AreReport (rows ++ back_rows block p (present_words block bank points false)) → (v : List (List ℕ)) → IsGuess block bank points v → ¬ AreReport (rows ++ back_rows block p v)
-all-tried rows block bank points p n1 n2 n3 n4 v g = ⊎_elim
+pub all-tried : (rows : List (List (List ℕ))) (block bank : List ℕ) (f : Profile) (points : List ℕ) (p : ℕ) → ¬ AreReport (rows ++ back_rows block p (absent_words block bank First f)) → ¬ AreReport (rows ++ back_rows block p (absent_words block bank (Second 1) f))
+    → ¬ AreReport (rows ++ back_rows block p (present_words block bank f points true)) → ¬ AreReport (rows ++ back_rows block p (present_words block bank f points false)) → NoneAfter f rows p block bank points
+all-tried rows block bank f points p n1 n2 n3 n4 v g = ⊎_elim
     (λ e. to e n1)
     (λ g. ⊎_elim (λ e. to e n2) (λ g. ⊎_elim (λ e. to e n3) (λ e. to e n4) g) g)
     g
   where
     to : {w : List (List ℕ)} → v ≡ w → ¬ AreReport (rows ++ back_rows block p w) → ¬ AreReport (rows ++ back_rows block p v)
     to e n = subst (λ (x : List (List ℕ)). ¬ AreReport (rows ++ back_rows block p x)) (sym e) n
+
+-- of both profiles nothing ends a report
+pub both-tried : (rows : List (List (List ℕ))) (block bank points : List ℕ) (p : ℕ) → NoneAfter Short rows p block bank points → NoneAfter Long rows p block bank points
+    → (v : List (List ℕ)) → IsGuess block bank points v → ¬ AreReport (rows ++ back_rows block p v)
+both-tried rows block bank points p short long v g = ⊎_elim (short v) (long v) g
 
 -- in each bank nothing ends a report
 abbrev pub NoneIn : List (List (List ℕ)) → List (List ℕ) → ℕ → List ℕ → Type 0
@@ -79,7 +86,7 @@ true-of A B true m e = m
 true-of A B false m e = cc
 
 pub opens-match : (rows : List (List (List ℕ))) (last : List (List ℕ)) (p : ℕ) (b : Bool) → 0 < length rows → ¬ AreReport rows → ¬ AreReport (rows ++ count_fields 0 ∷ []) → last ≡ get_or rows (length rows - 1) []
-    → ((k : ℕ) → k < 28 → get_or last 1 [] ≡ get_or event_names k [] → Some p ≡ Some k) → MatchBool b (SomeBehind rows last p) (NoneBehind rows last p) → MatchBool b (Opens rows) (¬ Opens rows)
+    → ((k : ℕ) → k < 29 → get_or last 1 [] ≡ get_or event_names k [] → Some p ≡ Some k) → MatchBool b (SomeBehind rows last p) (NoneBehind rows last p) → MatchBool b (Opens rows) (¬ Opens rows)
 opens-match rows last p true some none no-count is whole m = (back_rows (block_of last) p m.0, m.2)
 opens-match rows last p false some none no-count is whole m = opens-no rows some none no-count (λ k h e.
     let same : Some p ≡ Some k = whole k h (ap (λ (r : List (List ℕ)). get_or r 1 []) is ∙ e) in
@@ -87,7 +94,7 @@ opens-match rows last p false some none no-count is whole m = opens-no rows some
     subst (λ (r : List (List ℕ)). NoneBehind rows r k) is (subst (NoneBehind rows last) at m))
 
 pub opens-none : (rows : List (List (List ℕ))) (last : List (List ℕ)) → 0 < length rows → ¬ AreReport rows → ¬ AreReport (rows ++ count_fields 0 ∷ []) → last ≡ get_or rows (length rows - 1) []
-    → ((k : ℕ) → k < 28 → get_or last 1 [] ≡ get_or event_names k [] → ◌≡◌ {A = Option ℕ} None (Some k)) → ¬ Opens rows
+    → ((k : ℕ) → k < 29 → get_or last 1 [] ≡ get_or event_names k [] → ◌≡◌ {A = Option ℕ} None (Some k)) → ¬ Opens rows
 opens-none rows last some none no-count is whole = opens-no rows some none no-count (λ k h e. let same = whole k h (ap (λ (r : List (List ℕ)). get_or r 1 []) is ∙ e) in absurd cc)
 
 -- ---- a row's first fields
@@ -98,29 +105,29 @@ first-goes rows b n v o = (n ∷ v ∷ [], o.0, subst AreReport (append_assoc ro
 pub second-goes : (rows : List (List (List ℕ))) (b n v : List ℕ) → Opens (rows ++ (b ∷ n ∷ v ∷ []) ∷ []) → GoesOn rows (b ∷ n ∷ [])
 second-goes rows b n v o = (v ∷ [], o.0, subst AreReport (append_assoc rows ((b ∷ n ∷ v ∷ []) ∷ []) o.0) o.1)
 
-back-first : (b : List ℕ) (p : ℕ) (v : List (List ℕ)) → p < 27 → length v ≡ 28 → back_rows b p v ≡ (b ∷ get_or event_names (p + 1) [] ∷ get_or v (p + 1) [] ∷ []) ∷ (block_fields b (drop (p + 1 + 1) event_names) (drop (p + 1 + 1) v) ++ count_fields 0 ∷ [])
+back-first : (b : List ℕ) (p : ℕ) (v : List (List ℕ)) → p < 28 → length v ≡ 29 → back_rows b p v ≡ (b ∷ get_or event_names (p + 1) [] ∷ get_or v (p + 1) [] ∷ []) ∷ (block_fields b (drop (p + 1 + 1) event_names) (drop (p + 1 + 1) v) ++ count_fields 0 ∷ [])
 back-first b p v small long = ap₂ (λ (x y : List (List ℕ)). block_fields b x y ++ count_fields 0 ∷ []) (drop_more event_names (p + 1) [] (omega (arith, small))) (drop_more v (p + 1) [] (omega (arith, small, long)))
 
-pub inside-second : (rows : List (List (List ℕ))) (last : List (List ℕ)) (p : ℕ) (b n : List ℕ) → p < 27 → SomeBehind rows last p → b ≡ block_of last → n ≡ get_or event_names (p + 1) [] → GoesOn rows (b ∷ n ∷ [])
+pub inside-second : (rows : List (List (List ℕ))) (last : List (List ℕ)) (p : ℕ) (b n : List ℕ) → p < 28 → SomeBehind rows last p → b ≡ block_of last → n ≡ get_or event_names (p + 1) [] → GoesOn rows (b ∷ n ∷ [])
 inside-second rows last p b n small s e f =
     let a = subst AreReport (ap (λ (x : List (List (List ℕ))). rows ++ x) (back-first (block_of last) p s.0 small s.1)) s.2 in
     let more = block_fields (block_of last) (drop (p + 1 + 1) event_names) (drop (p + 1 + 1) s.0) ++ count_fields 0 ∷ [] in
     (get_or s.0 (p + 1) [] ∷ [], more, subst (λ (r : List (List ℕ)). AreReport (rows ++ r ∷ more)) (sym (ap₂ (λ (x y : List ℕ). x ∷ y ∷ get_or s.0 (p + 1) [] ∷ []) e f)) a)
 
-pub inside-first : (rows : List (List (List ℕ))) (last : List (List ℕ)) (p : ℕ) (b : List ℕ) → p < 27 → SomeBehind rows last p → b ≡ block_of last → GoesOn rows (b ∷ [])
+pub inside-first : (rows : List (List (List ℕ))) (last : List (List ℕ)) (p : ℕ) (b : List ℕ) → p < 28 → SomeBehind rows last p → b ≡ block_of last → GoesOn rows (b ∷ [])
 inside-first rows last p b small s e = let g = inside-second rows last p b (get_or event_names (p + 1) []) small s e refl in (get_or event_names (p + 1) [] ∷ g.0, g.1, g.2)
 
 abbrev pub Last : List (List (List ℕ)) → List (List ℕ)
 Last rows = get_or rows (length rows - 1) []
 
 pub no-block : (rows : List (List (List ℕ))) (last : List (List ℕ)) (o : Option ℕ) (b : List ℕ) → 0 < length rows → last ≡ Last rows → ¬ Opens (rows ++ (b ∷ codes "ignition cycle, download" ∷ codes "0" ∷ []) ∷ []) → ¬ Opens (rows ++ (b ∷ codes "event" ∷ b ∷ []) ∷ [])
-    → ((p : ℕ) → p < 27 → get_or last 1 [] ≡ get_or event_names p [] → b ≡ block_of last → NoneBehind rows last p) → ¬ GoesOn rows (b ∷ [])
+    → ((p : ℕ) → p < 28 → get_or last 1 [] ≡ get_or event_names p [] → b ≡ block_of last → NoneBehind rows last p) → ¬ GoesOn rows (b ∷ [])
 no-block rows last o b some is no-count no-event none = first-no rows some b no-count no-event (λ p h e f.
     subst (λ (r : List (List ℕ)). NoneBehind rows r p) is (none p h (ap (λ (r : List (List ℕ)). get_or r 1 []) is ∙ e) (f ∙ sym (ap block_of is))))
 
 pub no-name : (rows : List (List (List ℕ))) (last : List (List ℕ)) (o : Option ℕ) (b n : List ℕ) → 0 < length rows → last ≡ Last rows → ¬ Opens (rows ++ (b ∷ n ∷ codes "0" ∷ []) ∷ []) → ¬ Opens (rows ++ (b ∷ n ∷ b ∷ []) ∷ [])
     → ¬ Opens (rows ++ (b ∷ n ∷ codes "start stopped in call 1" ∷ []) ∷ []) → ¬ Opens (rows ++ (b ∷ n ∷ codes "not kept" ∷ []) ∷ []) → ¬ Opens (rows ++ (b ∷ n ∷ codes "damaged at 0 found 0 locked no" ∷ []) ∷ [])
-    → ((p : ℕ) → p < 27 → get_or last 1 [] ≡ get_or event_names p [] → b ≡ block_of last → n ≡ get_or event_names (p + 1) [] → NoneBehind rows last p) → ¬ GoesOn rows (b ∷ n ∷ [])
+    → ((p : ℕ) → p < 28 → get_or last 1 [] ≡ get_or event_names p [] → b ≡ block_of last → n ≡ get_or event_names (p + 1) [] → NoneBehind rows last p) → ¬ GoesOn rows (b ∷ n ∷ [])
 no-name rows last o b n some is n1 n2 n3 n4 n5 none = second-no rows some b n n1 n2 n3 n4 n5 (λ p h e f g.
     subst (λ (r : List (List ℕ)). NoneBehind rows r p) is (none p h (ap (λ (r : List (List ℕ)). get_or r 1 []) is ∙ e) (f ∙ sym (ap block_of is)) g))
 
@@ -149,7 +156,7 @@ name-match rows last p b n x some is n1 n2 n3 n4 n5 inside same m = match-both _
     absurd (other (g ∙ ap (λ (k : ℕ). get_or event_names (k + 1) []) at))))
     m
 
-pub named-match : (o : Option ℕ) (name : List ℕ) (place : ℕ) → place < 28 → IfSome o (λ i. (i < 28) × (name ≡ get_or event_names i [])) → ((p : ℕ) → p < 28 → name ≡ get_or event_names p [] → o ≡ Some p) → name ≡ get_or event_names place [] → o ≡ Some place
+pub named-match : (o : Option ℕ) (name : List ℕ) (place : ℕ) → place < 29 → IfSome o (λ i. (i < 29) × (name ≡ get_or event_names i [])) → ((p : ℕ) → p < 29 → name ≡ get_or event_names p [] → o ≡ Some p) → name ≡ get_or event_names place [] → o ≡ Some place
 named-match o name place h read whole e = whole place h e
 
 -- ---- how many rows begin a report
@@ -165,7 +172,7 @@ some-closed rows (r ∷ rest) e n = omega (arith, ap length e)
 pub first-opens : (rows rest : List (List (List ℕ))) → rows ≡ head_row ∷ rest → Opens (take 1 rows)
 first-opens rows rest e = subst Opens (sym (ap (take 1) e)) opens-head
 
-pub named-bool : (found place : ℕ) (name : List ℕ) → found < 28 → name ≡ get_or event_names found [] → place < 28 → MatchBool (nat_eq found place) (name ≡ get_or event_names place []) (name ≢ get_or event_names place [])
+pub named-bool : (found place : ℕ) (name : List ℕ) → found < 29 → name ≡ get_or event_names found [] → place < 29 → MatchBool (nat_eq found place) (name ≡ get_or event_names place []) (name ≢ get_or event_names place [])
 named-bool found place name h e l = by (nat_eq found place) refl
   where
     by : (x : Bool) → nat_eq found place ≡ x → MatchBool x (name ≡ get_or event_names place []) (name ≢ get_or event_names place [])

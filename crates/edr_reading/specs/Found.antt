@@ -53,17 +53,17 @@ LacksBank bank found = AllByRecursion (λ b. eqb bank b ≡ false) (banks_in fou
 
 -- an event in this bank, and more rows behind it
 abbrev pub GivesBank : {A : Type 0} → ℕ → FieldRows → List Row → Option (ℕ × A) → Type 0
-GivesBank b more rows read = MatchOption read ⊥ (λ f. (f.0 ≡ b) × (map fields (drop 28 rows) ≡ more))
+GivesBank b more rows read = MatchOption read ⊥ (λ f. (f.0 ≡ b) × (map fields (drop 29 rows) ≡ more))
 
 -- events that the rows begin with were added
 abbrev pub AddsEvents : ℕ → List Row → List Found → List Found → Type 0
 AddsEvents block rows old new =
     (es : List (ℕ × Record)) × (new ≡ old ++ map found_event es) × All IsEvent es
-    × (map fields rows ≡ events_fields block es ++ map fields (drop (28 * length es) rows)) × (28 * length es ≤ length rows)
+    × (map fields rows ≡ events_fields block es ++ map fields (drop (29 * length es) rows)) × (29 * length es ≤ length rows)
 
 -- the banks of these events were added, and more rows are behind them
 abbrev pub AddsBanks : List Row → List Found → List Found → List (ℕ × Record) → FieldRows → Type 0
-AddsBanks rows old new es more = (banks_in new ≡ banks_in old ++ map (λ e. e.0) es) × (map fields (drop (28 * length es) rows) ≡ more)
+AddsBanks rows old new es more = (banks_in new ≡ banks_in old ++ map (λ e. e.0) es) × (map fields (drop (29 * length es) rows) ≡ more)
 
 -- whatever events the rows begin with, up to the first row of block 0 and no more than banks, this is so
 abbrev pub OfEvents : ℕ → List Row → (List (ℕ × Record) → FieldRows → Type 0) → Type 0

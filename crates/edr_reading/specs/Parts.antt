@@ -1,9 +1,12 @@
 -- Which values show the parts of a record.
-use Rattle.std.specs.Prelude.{◌≡◌, Bool, map, IfSome, Option, MatchOption}
+use Rattle.std.specs.Prelude.{◌≡◌, ℕ, Bool, List, All, length, map, IfSome, Option, MatchOption}
 use Rattle.edr_record.specs.Parts.{PrePart, CrashPart}
-use Rattle.edr_record.specs.Bounds.{IsPre, IsCrash}
+use Rattle.edr_record.specs.Bounds.{IsPre, IsCrash, IsUpTo, slots_in}
+use Rattle.edr_record.specs.Fields.{profile_of_slots, speed_of, throttle_of, brake_of}
+use Rattle.edr_record.specs.declared.Profile.{Profile}
+use Rattle.edr_record.specs.declared.Slots.{Slots}
 use Rattle.edr_record.specs.declared.Record.{Record}
-use Rattle.edr_report.specs.Words.{yes_no, number_or_none, switch_or_none, milliseconds, firing_words, shown_count, events_in_crash, time_between, spaced, points_words, extreme_words, missing_words}
+use Rattle.edr_report.specs.Words.{yes_no, profile_word, number_or_none, switch_or_none, milliseconds, firing_words, shown_count, events_in_crash, time_between, spaced, points_words, extreme_words, missing_words}
 use Rattle.edr_reading.specs.declared.pre.PreValues.{PreValues}
 use Rattle.edr_reading.specs.declared.crash.CrashValues.{CrashValues}
 
@@ -14,11 +17,32 @@ pub record ShowsPre (v : PreValues) (p : PrePart) (is_locked : Bool) : Type 0 wh
   pub events : v.events.now ≡ events_in_crash p.place
   pub between : v.between.now ≡ time_between p.place
   pub locked : v.locked.now ≡ yes_no is_locked
+  pub profile : v.profile.now ≡ profile_word p.profile
   pub speed : v.speed.now ≡ spaced (map number_or_none p.speed)
   pub throttle : v.throttle.now ≡ spaced (map number_or_none p.throttle)
   pub brake : v.brake.now ≡ spaced (map switch_or_none p.brake)
   pub belt : v.belt.now ≡ switch_or_none p.belt
   pub lamp : v.lamp.now ≡ switch_or_none p.lamp
+
+-- the values of the lines of lists of this profile
+pub record ShowsLists (v : PreValues) (f : Profile) (kmh per_cent : List (Option ℕ)) (is_on : List (Option Bool)) : Type 0 where
+  pub speeds : length kmh ≡ slots_in f
+  pub speed_range : All (IsUpTo 300) kmh
+  pub speed : v.speed.now ≡ spaced (map number_or_none kmh)
+  pub throttles : length per_cent ≡ slots_in f
+  pub throttle_range : All (IsUpTo 100) per_cent
+  pub throttle : v.throttle.now ≡ spaced (map number_or_none per_cent)
+  pub brakes : length is_on ≡ slots_in f
+  pub brake : v.brake.now ≡ spaced (map switch_or_none is_on)
+
+-- these slots are shown as those of their profile
+abbrev pub ShowsSlots : PreValues → Slots → Type 0
+ShowsSlots v s = ShowsLists v (profile_of_slots s) (speed_of s) (throttle_of s) (brake_of s)
+
+-- what was read has these lists
+abbrev pub GivesLists : List (Option ℕ) → List (Option ℕ) → List (Option Bool) → Option Slots → Type 0
+GivesLists speed throttle brake read =
+    MatchOption read ⊥ (λ s. (speed_of s ≡ speed) × (throttle_of s ≡ throttle) × (brake_of s ≡ brake))
 
 -- the values of the lines of what came after time zero
 pub record ShowsCrash (v : CrashValues) (c : CrashPart) : Type 0 where

@@ -3,10 +3,13 @@ use Rattle.std.specs.Prelude.{◌<◌, Option, Some, None, ◌≡◌, ◌≤◌,
 use Rattle.edr_record.specs.declared.Extreme.{Extreme}
 use Rattle.edr_record.specs.declared.Place.{Place}
 use Rattle.edr_record.specs.declared.Place.TheVariants.{First, Second}
+use Rattle.edr_record.specs.declared.Profile.{Profile}
+use Rattle.edr_record.specs.declared.Profile.TheVariants.{Short, Long}
 use Rattle.edr_record.specs.declared.Record.{Record}
+use Rattle.edr_record.specs.Bounds.{slots_in}
 use Rattle.edr_record.specs.Complete.{is_complete}
 use Rattle.edr_report.specs.Report.{crash_names, crash_words}
-use Rattle.edr_report.specs.Words.{yes_no, none_word, milliseconds, shown_count, time_between, points_words, extreme_words, missing_words}
+use Rattle.edr_report.specs.Words.{yes_no, profile_word, none_word, number_or_none, switch_or_none, spaced, milliseconds, shown_count, time_between, points_words, extreme_words, missing_words}
 use Rattle.edr_reading.specs.Found.{count_fields}
 use Rattle.edr_reading.specs.Faults.{AreReport}
 use Rattle.edr_reading.specs.declared.rows.Row.{Row}
@@ -26,8 +29,8 @@ abbrev pub no_extreme : Extreme
 no_extreme = record { kmh = pos 0; at = 0 }
 
 -- plain values, of which these may differ from event to event
-abbrev pub plain_texts : List ℕ → List ℕ → List ℕ → List ℕ → List ℕ → List ℕ → List ℕ → List ℕ → List (List ℕ)
-plain_texts block bank between points extreme time missing complete =
+abbrev pub plain_texts : List ℕ → List ℕ → List ℕ → List ℕ → List ℕ → List ℕ → List ℕ → List ℕ → List ℕ → List ℕ → List ℕ → List (List ℕ)
+plain_texts block bank between profile numbers switches points extreme time missing complete =
     block
     ∷ bank
     ∷ shown_count 1
@@ -35,9 +38,10 @@ plain_texts block bank between points extreme time missing complete =
     ∷ codes "1"
     ∷ between
     ∷ codes "no"
-    ∷ codes "none none none none none none none none none none none"
-    ∷ codes "none none none none none none none none none none none"
-    ∷ codes "none none none none none none none none none none none"
+    ∷ profile
+    ∷ numbers
+    ∷ numbers
+    ∷ switches
     ∷ none_word
     ∷ none_word
     ∷ none_word
@@ -58,32 +62,51 @@ plain_texts block bank between points extreme time missing complete =
     ∷ complete
     ∷ []
 
--- those of an event without a crash part, and with one in which nothing changed
-abbrev pub absent_words : List ℕ → List ℕ → Place → List (List ℕ)
-absent_words block bank place = plain_texts block bank (time_between place) none_word none_word none_word none_word (codes "no")
+-- the slots of a profile, all absent, as words of numbers and of switches
+abbrev pub no_numbers : Profile → List ℕ
+no_numbers f = spaced (map number_or_none (replicate (slots_in f) None))
 
-abbrev pub present_words : List ℕ → List ℕ → List ℕ → Bool → List (List ℕ)
-present_words block bank points complete = plain_texts block bank none_word points (extreme_words no_extreme) (milliseconds 0) (missing_words 0 0) (yes_no complete)
+abbrev pub no_switches : Profile → List ℕ
+no_switches f = spaced (map switch_or_none (replicate (slots_in f) None))
+
+-- those of an event of a profile without a crash part, and with one in which nothing changed
+abbrev pub absent_words : List ℕ → List ℕ → Place → Profile → List (List ℕ)
+absent_words block bank place f =
+    plain_texts block bank (time_between place) (profile_word f) (no_numbers f) (no_switches f)
+    none_word none_word none_word none_word (codes "no")
+
+abbrev pub present_words : List ℕ → List ℕ → Profile → List ℕ → Bool → List (List ℕ)
+present_words block bank f points complete =
+    plain_texts block bank none_word (profile_word f) (no_numbers f) (no_switches f)
+    points (extreme_words no_extreme) (milliseconds 0) (missing_words 0 0) (yes_no complete)
 
 -- the texts of these
-abbrev pub absent_texts : List ℕ → List ℕ → List ℕ → List (List ℕ)
-absent_texts block bank between = plain_texts block bank between (codes "none") (codes "none") (codes "none") (codes "none") (codes "no")
+abbrev pub absent_texts : List ℕ → List ℕ → List ℕ → Profile → List (List ℕ)
+absent_texts block bank between f =
+    plain_texts block bank between (profile_word f) (no_numbers f) (no_switches f)
+    (codes "none") (codes "none") (codes "none") (codes "none") (codes "no")
 
-abbrev pub present_texts : List ℕ → List ℕ → List ℕ → List ℕ → List (List ℕ)
-present_texts block bank points complete =
-    plain_texts block bank (codes "none") points (codes "0 km/h at 0 ms") (codes "0 ms") (codes "0 longitudinal, 0 lateral") complete
+abbrev pub present_texts : List ℕ → List ℕ → Profile → List ℕ → List ℕ → List (List ℕ)
+present_texts block bank f points complete =
+    plain_texts block bank (codes "none") (profile_word f) (no_numbers f) (no_switches f)
+    points (codes "0 km/h at 0 ms") (codes "0 ms") (codes "0 longitudinal, 0 lateral") complete
+
+-- the values of a profile that are tried behind a row
+abbrev pub IsGuessOf : Profile → List ℕ → List ℕ → List ℕ → List (List ℕ) → Type 0
+IsGuessOf f block bank points v =
+    (v ≡ absent_words block bank First f)
+    ⊎ ((v ≡ absent_words block bank (Second 1) f)
+    ⊎ ((v ≡ present_words block bank f points true) ⊎ (v ≡ present_words block bank f points false)))
 
 -- the values that are tried behind a row
 abbrev pub IsGuess : List ℕ → List ℕ → List ℕ → List (List ℕ) → Type 0
-IsGuess block bank points v =
-    (v ≡ absent_words block bank First)
-    ⊎ ((v ≡ absent_words block bank (Second 1)) ⊎ ((v ≡ present_words block bank points true) ⊎ (v ≡ present_words block bank points false)))
+IsGuess block bank points v = IsGuessOf Short block bank points v ⊎ IsGuessOf Long block bank points v
 
 -- what is tried as the points of both axes behind the end of an event, which this value tells, and behind its points along
 abbrev pub ArePlain : ℕ → List ℕ → List ℕ → Type 0
 ArePlain place value points =
-    ((end : ℕ) → place ≡ 12 → 20 ≤ end → end ≤ 500 → value ≡ milliseconds end → points ≡ points_words end (replicate 26 (pos 0)))
-    × (place ≡ 13 → points ≡ value)
+    ((end : ℕ) → place ≡ 13 → 20 ≤ end → end ≤ 500 → value ≡ milliseconds end → points ≡ points_words end (replicate 26 (pos 0)))
+    × (place ≡ 14 → points ≡ value)
 
 -- rows of a block with these names and values
 abbrev pub block_fields : List ℕ → List (List ℕ) → List (List ℕ) → List (List (List ℕ))
@@ -105,9 +128,17 @@ name_of row = slice_index_or row 1 []
 abbrev pub value_of : List (List ℕ) → List ℕ
 value_of row = slice_index_or row 2 []
 
--- behind rows that end with this one, in this place of an event, some values end a report
+-- behind rows, the last of which is of this block and in this place of an event, some values end a report
+abbrev pub SomeAfter : List (List (List ℕ)) → List ℕ → ℕ → Type 0
+SomeAfter rows block place = (v : List (List ℕ)) × (length v ≡ 29) × AreReport (rows ++ back_rows block place v)
+
 abbrev pub SomeBehind : List (List (List ℕ)) → List (List ℕ) → ℕ → Type 0
-SomeBehind rows last place = (v : List (List ℕ)) × (length v ≡ 28) × AreReport (rows ++ back_rows (block_of last) place v)
+SomeBehind rows last place = SomeAfter rows (block_of last) place
+
+-- none of the plain values of this profile does
+abbrev pub NoneAfter : Profile → List (List (List ℕ)) → ℕ → List ℕ → List ℕ → List ℕ → Type 0
+NoneAfter f rows place block bank points =
+    (v : List (List ℕ)) → IsGuessOf f block bank points v → ¬ AreReport (rows ++ back_rows block place v)
 
 -- no plain values do, whatever the bank is
 abbrev pub NoneBehind : List (List (List ℕ)) → List (List ℕ) → ℕ → Type 0
@@ -124,5 +155,5 @@ NoneInBank rows last place bank =
 
 -- the place in an event of the last row, if some plain values go on behind it
 abbrev pub IsInside : List (List (List ℕ)) → List (List ℕ) → Option ℕ → Type 0
-IsInside rows last None = (p : ℕ) → p < 27 → name_of last ≡ slice_index_or event_names p [] → NoneBehind rows last p
-IsInside rows last (Some p) = (p < 27) × (name_of last ≡ slice_index_or event_names p []) × SomeBehind rows last p
+IsInside rows last None = (p : ℕ) → p < 28 → name_of last ≡ slice_index_or event_names p [] → NoneBehind rows last p
+IsInside rows last (Some p) = (p < 28) × (name_of last ≡ slice_index_or event_names p []) × SomeBehind rows last p

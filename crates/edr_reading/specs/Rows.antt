@@ -5,7 +5,7 @@ use Rattle.edr_record.specs.Parts.{PrePart}
 use Rattle.edr_record.specs.declared.Record.{Record}
 use Rattle.edr_report.specs.Lines.{Line, line}
 use Rattle.edr_report.specs.Report.{event_lines}
-use Rattle.edr_report.specs.Words.{yes_no, number_or_none, switch_or_none, milliseconds, shown_count, events_in_crash, time_between, spaced}
+use Rattle.edr_report.specs.Words.{yes_no, profile_word, number_or_none, switch_or_none, milliseconds, shown_count, events_in_crash, time_between, spaced}
 use Rattle.edr_reading.specs.declared.crash.CrashValues.{CrashValues}
 use Rattle.edr_reading.specs.declared.pre.PreValues.{PreValues}
 use Rattle.edr_reading.specs.declared.rows.Row.{Row}
@@ -58,6 +58,7 @@ pre_names =
     ∷ codes "multi-event, number of events"
     ∷ codes "time from event 1 to 2"
     ∷ codes "deployment event"
+    ∷ codes "pre-crash profile"
     ∷ codes "speed, km/h"
     ∷ codes "throttle, %"
     ∷ codes "service brake"
@@ -72,6 +73,7 @@ pre_words p locked =
     ∷ events_in_crash p.place
     ∷ time_between p.place
     ∷ yes_no locked
+    ∷ profile_word p.profile
     ∷ spaced (map number_or_none p.speed)
     ∷ spaced (map number_or_none p.throttle)
     ∷ spaced (map switch_or_none p.brake)
@@ -81,7 +83,7 @@ pre_words p locked =
 
 -- values as they stand in their rows
 abbrev pub pre_list : PreValues → List (List ℕ)
-pre_list v = v.cycle.now ∷ v.zero.now ∷ v.events.now ∷ v.between.now ∷ v.locked.now ∷ v.speed.now ∷ v.throttle.now ∷ v.brake.now ∷ v.belt.now ∷ v.lamp.now ∷ []
+pre_list v = v.cycle.now ∷ v.zero.now ∷ v.events.now ∷ v.between.now ∷ v.locked.now ∷ v.profile.now ∷ v.speed.now ∷ v.throttle.now ∷ v.brake.now ∷ v.belt.now ∷ v.lamp.now ∷ []
 
 abbrev pub crash_list : CrashValues → List (List ℕ)
 crash_list v = v.end.now ∷ v.along.now ∷ v.across.now ∷ v.max_along.now ∷ v.max_across.now ∷ v.result_at.now ∷ v.missing.now ∷ map (λ f. f.now) v.fired

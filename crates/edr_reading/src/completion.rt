@@ -2,18 +2,19 @@
 
 ghost use Rattle.std.specs.Prelude.{◌≡◌, ◌≢◌, ◌<◌, ◌≤◌, ◌+◌, ℕ, ⊤, pos, Some, IfSome, MatchOption, OnOk, length, drop, replicate, slice_index_or, []};
 ghost use Rattle.std.specs.Bool.{MatchBool};
-ghost use Rattle.edr_report.specs.Words.{points_words};
+ghost use Rattle.edr_report.specs.Words.{points_words, profile_word};
 ghost use Rattle.edr_reading.specs.Cut.{cut_texts};
-ghost use Rattle.edr_reading.specs.Plain.{event_names, block_fields, ArePlain, absent_texts, present_texts};
+ghost use Rattle.edr_reading.specs.Plain.{event_names, block_fields, ArePlain, absent_texts, present_texts, no_numbers, no_switches};
 ghost use Rattle.edr_reading.specs.Rows.{AddsRows, texts_in};
 
 use crate::front::is_word;
 use crate::rows::Row;
 use crate::values::time;
+use edr_record::Profile;
 use std::alloc::AllocError as OutOfMemory;
 
 // The names of the rows of an event.
-const EVENT_NAMES: [&[u8]; 28] = [
+const EVENT_NAMES: [&[u8]; 29] = [
     b"event",
     b"bank",
     b"ignition cycle, crash",
@@ -21,6 +22,7 @@ const EVENT_NAMES: [&[u8]; 28] = [
     b"multi-event, number of events",
     b"time from event 1 to 2",
     b"deployment event",
+    b"pre-crash profile",
     b"speed, km/h",
     b"throttle, %",
     b"service brake",
@@ -53,11 +55,22 @@ pub(crate) struct Cut<'a> {
     pub block: &'a [u8],
     pub bank: &'a [u8],
     pub between: &'a [u8],
+    pub profile: &'a [u8],
+    pub slots: &'a [u8],
     pub points: &'a [u8],
     pub extreme: &'a [u8],
     pub time: &'a [u8],
     pub missing: &'a [u8],
     pub complete: &'a [u8],
+}
+
+/// What is tried behind the rows of an event: this block, bank and profile, and these points of both axes.
+#[derive(Clone, Copy)]
+pub(crate) struct Guess<'a> {
+    pub block: &'a [u8],
+    pub bank: &'a [u8],
+    pub profile: Profile,
+    pub points: &'a [u8],
 }
 
 // The first place of a name among these.
@@ -75,15 +88,15 @@ fn place_in(name: &[u8], names: &[&'static [u8]]) -> Option<usize>
 
 /// The place in an event of the row with this name.
 pub(crate) fn place_of(name: &[u8]) -> Option<usize>
-    ensures read { IfSome result (λ p. (p < 28) × (name.now ≡ slice_index_or event_names p [])) }
-    ensures whole { (p : ℕ) → p < 28 → name.now ≡ slice_index_or event_names p [] → result ≡ Some p }
+    ensures read { IfSome result (λ p. (p < 29) × (name.now ≡ slice_index_or event_names p [])) }
+    ensures whole { (p : ℕ) → p < 29 → name.now ≡ slice_index_or event_names p [] → result ≡ Some p }
 {
     place_in(name, &EVENT_NAMES)
 }
 
 /// The name is that of the row of an event in this place.
 pub(crate) fn is_named(name: &[u8], place: usize) -> bool
-    requires { place < 28 }
+    requires { place < 29 }
     ensures { MatchBool result (name.now ≡ slice_index_or event_names place []) (name.now ≢ slice_index_or event_names place []) }
 {
     match place_of(name) {
@@ -105,7 +118,7 @@ fn unchanged(end: u32) -> &'static [u8]
 pub(crate) fn points_behind<'a>(place: usize, value: &'a [u8]) -> &'a [u8]
     ensures { ArePlain place value.now result.now }
 {
-    if place != 12 {
+    if place != 13 {
         return value;
     }
     match time(value, 20, 500) {
@@ -114,15 +127,50 @@ pub(crate) fn points_behind<'a>(place: usize, value: &'a [u8]) -> &'a [u8]
     }
 }
 
+fn profile_word(profile: Profile) -> &'static [u8]
+    ensures { result.now ≡ profile_word profile }
+{
+    match profile {
+        Profile::Short => b"short",
+        Profile::Long => b"long",
+    }
+}
+
+// The slots of a list, all of which are absent.
+fn no_slots(profile: Profile) -> &'static [u8]
+    ensures numbers { result.now ≡ no_numbers profile }
+    ensures switches { result.now ≡ no_switches profile }
+{
+    match profile {
+        Profile::Short => b"none none none none none none none none none none none",
+        Profile::Long =>
+            b"none none none none none none none none none none none none none none none none none \
+              none none none none none none none none none none none none none none none none none \
+              none none none none none none none none none none none none none none none none none \
+              none none none none none none none none none none none none none none none none none \
+              none none none none none none none none none none none none none none none none none \
+              none none none none none none none none none none none none none none none none none \
+              none none none none none none none none none none none none none none none none none \
+              none none none none none none none none none none none none none none none none none \
+              none none none none none none none none none none none none none none none none none \
+              none none none none none none none none none none none none none none none none none \
+              none none none none none none none none none none none none none none none none none \
+              none none none none none none none none none none none none none none",
+    }
+}
+
 /// An event without a crash part.
-pub(crate) fn absent<'a>(block: &'a [u8], bank: &'a [u8], between: &'a [u8]) -> Cut<'a>
-    ensures block { result.block.now ≡ block.now }
-    ensures texts { cut_texts result ≡ absent_texts block.now bank.now between.now }
+pub(crate) fn absent<'a>(guess: &Guess<'a>, between: &'a [u8]) -> Cut<'a>
+    ensures block { result.block.now ≡ guess.now.block.now }
+    ensures texts { cut_texts result
+        ≡ absent_texts guess.now.block.now guess.now.bank.now between.now guess.now.profile }
 {
     Cut {
-        block,
-        bank,
+        block: guess.block,
+        bank: guess.bank,
         between,
+        profile: profile_word(guess.profile),
+        slots: no_slots(guess.profile),
         points: b"none",
         extreme: b"none",
         time: b"none",
@@ -132,21 +180,19 @@ pub(crate) fn absent<'a>(block: &'a [u8], bank: &'a [u8], between: &'a [u8]) -> 
 }
 
 /// An event in which nothing changed.
-pub(crate) fn present<'a>(
-    block: &'a [u8],
-    bank: &'a [u8],
-    points: &'a [u8],
-    complete: &'a [u8],
-) -> Cut<'a>
-    ensures block { result.block.now ≡ block.now }
+pub(crate) fn present<'a>(guess: &Guess<'a>, complete: &'a [u8]) -> Cut<'a>
+    ensures block { result.block.now ≡ guess.now.block.now }
     ensures texts { cut_texts result
-        ≡ present_texts block.now bank.now points.now complete.now }
+        ≡ present_texts guess.now.block.now guess.now.bank.now guess.now.profile
+        guess.now.points.now complete.now }
 {
     Cut {
-        block,
-        bank,
+        block: guess.block,
+        bank: guess.bank,
         between: b"none",
-        points,
+        profile: profile_word(guess.profile),
+        slots: no_slots(guess.profile),
+        points: guess.points,
         extreme: b"0 km/h at 0 ms",
         time: b"0 ms",
         missing: b"0 longitudinal, 0 lateral",
@@ -155,11 +201,15 @@ pub(crate) fn present<'a>(
 }
 
 // The values of all rows of an event.
-fn values_of<'a>(cut: &Cut<'a>) -> [&'a [u8]; 28]
+fn values_of<'a>(cut: &Cut<'a>) -> [&'a [u8]; 29]
     ensures { texts_in result ≡ cut_texts cut.now }
 {
-    let Cut { block, bank, .. } = *cut;
-    let slots: &[u8] = b"none none none none none none none none none none none";
+    let Cut {
+        block,
+        bank,
+        slots,
+        ..
+    } = *cut;
     let none: &[u8] = b"none";
     [
         block,
@@ -169,6 +219,7 @@ fn values_of<'a>(cut: &Cut<'a>) -> [&'a [u8]; 28]
         b"1",
         cut.between,
         b"no",
+        cut.profile,
         slots,
         slots,
         slots,
@@ -220,7 +271,7 @@ pub(crate) fn push_event<'a>(
     place: usize,
     cut: &Cut<'a>,
 ) -> Result<(), OutOfMemory>
-    requires { place < 28 }
+    requires { place < 29 }
     ensures { OnOk result (AddsRows
         (block_fields cut.now.block.now
         (drop (place + 1) event_names) (drop (place + 1) (cut_texts cut.now)))

@@ -15,7 +15,7 @@ use crate::values::bank_behind;
 use edr_record::Record;
 
 // How many rows an event has.
-pub(crate) const EVENT_ROWS: usize = 28;
+pub(crate) const EVENT_ROWS: usize = 29;
 
 // The bank of the event of this block, if these two rows begin it.
 fn head_rows(rows: &[Row<'_>], block: u32) -> Option<u8>
@@ -62,15 +62,15 @@ fn word_of(decision: bool) -> &'static [u8]
     if decision { b"yes" } else { b"no" }
 }
 
-/// The event of this block and its bank, if these 28 rows show it.
+/// The event of this block and its bank, if these 29 rows show it.
 pub(crate) fn read_event(rows: &[Row<'_>], block: u32) -> Option<(u8, Record)>
-    requires { length rows.now ≡ 28 }
+    requires { length rows.now ≡ 29 }
     ensures read { IfSome result (λ p. IsBank p.0 × IsRecord p.1 × (map fields rows.now ≡ event_fields block p.0 p.1)) }
     ensures whole { (b : ℕ) (r : Record) → IsBank b → IsRecord r → map fields rows.now ≡ event_fields block b r
         → MatchOption result ⊥ (λ p. p.0 ≡ b) }
 {
     let (head, rest) = rows.split_at(2);
-    let (pre, rest) = rest.split_at(10);
+    let (pre, rest) = rest.split_at(11);
     let (crash, last) = rest.split_at(15);
     let bank = head_rows(head, block)?;
     let (pre, locked) = pre_rows(pre, block)?;

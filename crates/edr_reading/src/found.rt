@@ -35,8 +35,8 @@ fn begins_event(rows: &[Row<'_>]) -> bool
 
 // The event of this block that the rows begin with, and its bank.
 fn first_event(rows: &[Row<'_>], block: u32) -> Option<(u8, Record)>
-    ensures read { IfSome result (λ e. IsEvent e × (28 ≤ length rows.now)
-        × (map fields rows.now ≡ event_fields block e.0 e.1 ++ map fields (drop 28 rows.now))) }
+    ensures read { IfSome result (λ e. IsEvent e × (29 ≤ length rows.now)
+        × (map fields rows.now ≡ event_fields block e.0 e.1 ++ map fields (drop 29 rows.now))) }
     ensures whole { (e : ℕ × Record) (more : FieldRows) → IsEvent e
         → map fields rows.now ≡ event_fields block e.0 e.1 ++ more
         → GivesBank e.0 more rows.now result }

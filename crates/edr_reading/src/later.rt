@@ -35,7 +35,7 @@ fn inside<'a>(alloc: Global, rows: &[Row<'a>], last: &Row<'a>) -> Result<Option<
     let Some(place) = place_of(last.name) else {
         return Ok(None);
     };
-    if place < 27 && ends_inside(alloc, rows, last, place)? {
+    if place < 28 && ends_inside(alloc, rows, last, place)? {
         Ok(Some(place))
     } else {
         Ok(None)

@@ -6,13 +6,14 @@ ghost use Rattle.edr_reading.specs.Answers.{Tells};
 ghost use Rattle.edr_reading.specs.Cut.{cut_texts};
 ghost use Rattle.edr_reading.specs.Faults.{AreReport, Opens};
 ghost use Rattle.edr_reading.specs.Found.{count_fields};
-ghost use Rattle.edr_reading.specs.Plain.{SomeBehind, NoneBehind, back_rows, NoneInBank};
+ghost use Rattle.edr_reading.specs.Plain.{SomeAfter, SomeBehind, NoneAfter, NoneBehind, back_rows, NoneInBank};
 ghost use Rattle.edr_reading.specs.Rows.{fields, texts_in};
 
-use crate::completion::{Cut, absent, place_of, points_behind, present, push_event};
+use crate::completion::{Cut, Guess, absent, place_of, points_behind, present, push_event};
 use crate::found::Refused;
 use crate::reading::reading_of;
 use crate::rows::Row;
+use edr_record::Profile;
 use std::alloc::{AllocError as OutOfMemory, Global};
 
 const BANKS: [&[u8]; 16] = [
@@ -63,7 +64,7 @@ fn ends_by<'a>(
     place: usize,
     cut: &Cut<'a>,
 ) -> Result<bool, OutOfMemory>
-    requires { place < 28 }
+    requires { place < 29 }
     ensures { IfOk result (λ b. Tells b (AreReport
         (map fields rows.now ++ back_rows cut.now.block.now place (cut_texts cut.now)))) }
 {
@@ -74,7 +75,33 @@ fn ends_by<'a>(
     is_report(alloc, &all)
 }
 
-// The same for some plain values of an event in this bank.
+// The same for some plain values of an event, by this guess.
+fn ends_by_guess<'a>(
+    alloc: Global,
+    rows: &[Row<'a>],
+    place: usize,
+    guess: &Guess<'a>,
+) -> Result<bool, OutOfMemory>
+    requires { place < 29 }
+    ensures some { IfOk result (λ b. b ≡ true
+        → SomeAfter (map fields rows.now) guess.now.block.now place) }
+    ensures none { IfOk result (λ b. b ≡ false
+        → NoneAfter guess.now.profile (map fields rows.now) place
+        guess.now.block.now guess.now.bank.now guess.now.points.now) }
+{
+    if ends_by(alloc, rows, place, &absent(guess, b"none"))? {
+        return Ok(true);
+    }
+    if ends_by(alloc, rows, place, &absent(guess, b"0.0 s"))? {
+        return Ok(true);
+    }
+    if ends_by(alloc, rows, place, &present(guess, b"yes"))? {
+        return Ok(true);
+    }
+    ends_by(alloc, rows, place, &present(guess, b"no"))
+}
+
+// The same for an event in this bank, of either profile.
 fn ends_in_bank<'a>(
     alloc: Global,
     rows: &[Row<'a>],
@@ -82,31 +109,24 @@ fn ends_in_bank<'a>(
     place: usize,
     bank: &'a [u8],
 ) -> Result<bool, OutOfMemory>
-    requires { place < 28 }
+    requires { place < 29 }
     ensures some { IfOk result (λ b. b ≡ true → SomeBehind (map fields rows.now) (fields last.now) place) }
     ensures none { IfOk result (λ b. b ≡ false → NoneInBank rows.now last.now place bank.now) }
 {
-    if ends_by(alloc, rows, place, &absent(last.block, bank, b"none"))? {
+    let short = Guess {
+        block: last.block,
+        bank,
+        profile: Profile::Short,
+        points: points_behind(place, last.value),
+    };
+    if ends_by_guess(alloc, rows, place, &short)? {
         return Ok(true);
     }
-    if ends_by(alloc, rows, place, &absent(last.block, bank, b"0.0 s"))? {
-        return Ok(true);
-    }
-    let points = points_behind(place, last.value);
-    if ends_by(
-        alloc,
-        rows,
-        place,
-        &present(last.block, bank, points, b"yes"),
-    )? {
-        return Ok(true);
-    }
-    ends_by(
-        alloc,
-        rows,
-        place,
-        &present(last.block, bank, points, b"no"),
-    )
+    let long = Guess {
+        profile: Profile::Long,
+        ..short
+    };
+    ends_by_guess(alloc, rows, place, &long)
 }
 
 // The same in one of these banks.
@@ -117,7 +137,7 @@ fn ends_in_some<'a>(
     place: usize,
     banks: &[&'static [u8]],
 ) -> Result<bool, OutOfMemory>
-    requires { place < 28 }
+    requires { place < 29 }
     ensures some { IfOk result (λ b. b ≡ true → SomeBehind (map fields rows.now) (fields last.now) place) }
     ensures none { IfOk result (λ b. b ≡ false → (k : ℕ) → k < length banks.now
         → NoneInBank rows.now last.now place (slice_index_or (texts_in banks.now) k [])) }
@@ -137,7 +157,7 @@ pub(crate) fn ends_inside<'a>(
     last: &Row<'a>,
     place: usize,
 ) -> Result<bool, OutOfMemory>
-    requires { place < 28 }
+    requires { place < 29 }
     ensures { IfOk result (λ b.
         MatchBool b (SomeBehind (map fields rows.now) (fields last.now) place)
         (NoneBehind (map fields rows.now) (fields last.now) place)) }

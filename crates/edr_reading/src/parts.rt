@@ -16,12 +16,13 @@ use crate::rows::{Row, put_values};
 use edr_record::{Crash, Pre};
 
 /// The names of the rows of what stood before time zero.
-pub(crate) const PRE_NAMES: [&str; 10] = [
+pub(crate) const PRE_NAMES: [&str; 11] = [
     "ignition cycle, crash",
     "time zero",
     "multi-event, number of events",
     "time from event 1 to 2",
     "deployment event",
+    "pre-crash profile",
     "speed, km/h",
     "throttle, %",
     "service brake",
@@ -48,8 +49,8 @@ pub(crate) const CRASH_NAMES: [&str; 15] = [
     "passenger pretensioner deployment",
 ];
 
-// The values of ten rows by their meaning.
-fn pre_values<'a>(values: &[&'a [u8]; 10]) -> PreValues<'a>
+// The values of eleven rows by their meaning.
+fn pre_values<'a>(values: &[&'a [u8]; 11]) -> PreValues<'a>
     ensures { texts_in values.now ≡ pre_list result }
 {
     PreValues {
@@ -58,24 +59,25 @@ fn pre_values<'a>(values: &[&'a [u8]; 10]) -> PreValues<'a>
         events: values[2],
         between: values[3],
         locked: values[4],
-        speed: values[5],
-        throttle: values[6],
-        brake: values[7],
-        belt: values[8],
-        lamp: values[9],
+        profile: values[5],
+        speed: values[6],
+        throttle: values[7],
+        brake: values[8],
+        belt: values[9],
+        lamp: values[10],
     }
 }
 
-/// What stood before time zero, and whether the record is locked, if these ten rows of this block show them.
+/// What stood before time zero, and whether the record is locked, if these eleven rows of this block show them.
 pub(crate) fn pre_rows(rows: &[Row<'_>], block: u32) -> Option<(Pre, bool)>
-    requires { length rows.now ≡ 10 }
+    requires { length rows.now ≡ 11 }
     ensures read { IfSome result (λ q. map fields rows.now ≡ map line_fields (pre_lines block q.0 q.1)) }
     ensures bounds { IfSome result (λ q. IsPre q.0) }
     ensures whole { (p : PrePart) (locked : Bool) → IsPre p
         → map fields rows.now ≡ map line_fields (pre_lines block p locked)
         → GivesPre p locked result }
 {
-    let mut values: [&[u8]; 10] = [b""; 10];
+    let mut values: [&[u8]; 11] = [b""; 11];
     if put_values(rows, block, &PRE_NAMES, &mut values) {
         read_pre(&pre_values(&values))
     } else {

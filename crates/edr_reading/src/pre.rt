@@ -1,14 +1,17 @@
 //! What stood before time zero, read back from the values of its lines.
 
-ghost use Rattle.std.specs.Prelude.{◌≡◌, ℕ, Bool, List, Option, All, length, map, Some, IfSome};
-ghost use Rattle.edr_record.specs.Bounds.{IsPre, IsUpTo};
+ghost use Rattle.std.specs.Prelude.{◌≡◌, ℕ, Bool, List, Option, IfSome};
+ghost use Rattle.edr_record.specs.Bounds.{IsPre};
+ghost use Rattle.edr_record.specs.Fields.{profile_of_slots};
 ghost use Rattle.edr_record.specs.Parts.{PrePart};
-ghost use Rattle.edr_report.specs.Words.{spaced, number_or_none, switch_or_none};
-ghost use Rattle.edr_reading.specs.Parts.{ShowsPre, GivesPre};
+ghost use Rattle.edr_record.specs.declared.Profile.{Profile};
+ghost use Rattle.edr_record.specs.declared.Profile.TheVariants.{Short, Long};
+ghost use Rattle.edr_report.specs.Words.{profile_word};
+ghost use Rattle.edr_reading.specs.Parts.{ShowsPre, ShowsLists, ShowsSlots, GivesPre, GivesLists};
 
 use crate::slots::read_slots;
-use crate::values::{count, decision, place, switch, time};
-use edr_record::{Key, Pre};
+use crate::values::{count, decision, place, profile, switch, time};
+use edr_record::{Key, LONG_SLOTS, Pre, Profile, SHORT_SLOTS, Slots};
 
 /// The values of the lines of what stood before time zero, in their order.
 #[derive(Clone, Copy)]
@@ -18,6 +21,7 @@ pub(crate) struct PreValues<'a> {
     pub events: &'a [u8],
     pub between: &'a [u8],
     pub locked: &'a [u8],
+    pub profile: &'a [u8],
     pub speed: &'a [u8],
     pub throttle: &'a [u8],
     pub brake: &'a [u8],
@@ -25,39 +29,71 @@ pub(crate) struct PreValues<'a> {
     pub lamp: &'a [u8],
 }
 
-fn speeds(bytes: &[u8]) -> Option<[Option<u16>; 11]>
-    ensures read { IfSome result (λ s. (bytes.now ≡ spaced (map number_or_none s)) × All (IsUpTo 300) s) }
-    ensures whole { (s : List (Option ℕ)) → length s ≡ 11 → All (IsUpTo 300) s → bytes.now ≡ spaced (map number_or_none s) → result ≡ Some s }
+// The lists of a short profile, if these values show them.
+fn short_slots(values: &PreValues<'_>) -> Option<Slots>
+    ensures read { IfSome result (λ s. (profile_of_slots s ≡ Short) × ShowsSlots values.now s) }
+    ensures whole { (speed throttle : List (Option ℕ)) (brake : List (Option Bool))
+        → ShowsLists values.now Short speed throttle brake
+        → GivesLists speed throttle brake result }
 {
-    let mut slots = [None; 11];
-    if read_slots(bytes, &mut slots) {
-        Some(slots)
-    } else {
-        None
+    let mut speed = [None; SHORT_SLOTS];
+    let mut throttle = [None; SHORT_SLOTS];
+    let mut brake = [None; SHORT_SLOTS];
+    if !read_slots(values.speed, &mut speed) {
+        return None;
     }
+    if !read_slots(values.throttle, &mut throttle) {
+        return None;
+    }
+    if !read_slots(values.brake, &mut brake) {
+        return None;
+    }
+    Some(Slots::Short {
+        speed,
+        throttle,
+        brake,
+    })
 }
 
-fn throttles(bytes: &[u8]) -> Option<[Option<u8>; 11]>
-    ensures read { IfSome result (λ s. (bytes.now ≡ spaced (map number_or_none s)) × All (IsUpTo 100) s) }
-    ensures whole { (s : List (Option ℕ)) → length s ≡ 11 → All (IsUpTo 100) s → bytes.now ≡ spaced (map number_or_none s) → result ≡ Some s }
+// The lists of a long profile, if these values show them.
+fn long_slots(values: &PreValues<'_>) -> Option<Slots>
+    ensures read { IfSome result (λ s. (profile_of_slots s ≡ Long) × ShowsSlots values.now s) }
+    ensures whole { (speed throttle : List (Option ℕ)) (brake : List (Option Bool))
+        → ShowsLists values.now Long speed throttle brake
+        → GivesLists speed throttle brake result }
 {
-    let mut slots = [None; 11];
-    if read_slots(bytes, &mut slots) {
-        Some(slots)
-    } else {
-        None
+    let mut speed = [None; LONG_SLOTS];
+    let mut throttle = [None; LONG_SLOTS];
+    let mut brake = [None; LONG_SLOTS];
+    if !read_slots(values.speed, &mut speed) {
+        return None;
     }
+    if !read_slots(values.throttle, &mut throttle) {
+        return None;
+    }
+    if !read_slots(values.brake, &mut brake) {
+        return None;
+    }
+    Some(Slots::Long {
+        speed,
+        throttle,
+        brake,
+    })
 }
 
-fn switches(bytes: &[u8]) -> Option<[Option<bool>; 11]>
-    ensures read { IfSome result (λ s. bytes.now ≡ spaced (map switch_or_none s)) }
-    ensures whole { (s : List (Option Bool)) → length s ≡ 11 → bytes.now ≡ spaced (map switch_or_none s) → result ≡ Some s }
+// The lists of the profile that is told, if these values show them.
+fn slots(values: &PreValues<'_>) -> Option<Slots>
+    ensures told { IfSome result (λ s. values.now.profile.now ≡ profile_word (profile_of_slots s)) }
+    ensures read { IfSome result (ShowsSlots values.now) }
+    ensures whole { (f : Profile) (speed throttle : List (Option ℕ)) (brake : List (Option Bool))
+        → values.now.profile.now ≡ profile_word f
+        → ShowsLists values.now f speed throttle brake
+        → GivesLists speed throttle brake result }
 {
-    let mut slots = [None; 11];
-    if read_slots(bytes, &mut slots) {
-        Some(slots)
-    } else {
-        None
+    match profile(values.profile) {
+        Some(Profile::Short) => short_slots(values),
+        Some(Profile::Long) => long_slots(values),
+        None => None,
     }
 }
 
@@ -72,17 +108,13 @@ pub(crate) fn read_pre(values: &PreValues<'_>) -> Option<(Pre, bool)>
     let zero = time(values.zero, 1, 86_400_000)?;
     let place = place(values.events, values.between)?;
     let locked = decision(values.locked)?;
-    let speed = speeds(values.speed)?;
-    let throttle = throttles(values.throttle)?;
-    let brake = switches(values.brake)?;
+    let slots = slots(values)?;
     let belt = switch(values.belt)?;
     let lamp = switch(values.lamp)?;
     let pre = Pre {
         key: Key { cycle, zero },
         place,
-        speed,
-        throttle,
-        brake,
+        slots,
         belt,
         lamp,
     };

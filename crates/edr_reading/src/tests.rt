@@ -1,5 +1,6 @@
 use crate::{ReportRefused, RowFault, read};
 use edr_report::table;
+use std::alloc::{AllocError, Global};
 use std::process::Abort;
 use std::test::Fail;
 
@@ -15,6 +16,7 @@ const POWER_CUT: &[u8] = b"block,name,value\n\
     1,\"multi-event, number of events\",1\n\
     1,time from event 1 to 2,none\n\
     1,deployment event,yes\n\
+    1,pre-crash profile,short\n\
     1,\"speed, km/h\",none none none 44 45 45 none 46 47 47 48\n\
     1,\"throttle, %\",none none none 20 20 20 20 20 20 20 20\n\
     1,service brake,none none none off off off off off off on on\n\
@@ -53,6 +55,7 @@ const TWO_EVENTS: &[u8] = b"block,name,value\n\
     1,\"multi-event, number of events\",1\n\
     1,time from event 1 to 2,none\n\
     1,deployment event,no\n\
+    1,pre-crash profile,short\n\
     1,\"speed, km/h\",31 31 31 31 31 31 31 30 30 30 30\n\
     1,\"throttle, %\",18 18 18 18 18 18 18 18 18 18 18\n\
     1,service brake,off off off off off off off off off off off\n\
@@ -81,6 +84,7 @@ const TWO_EVENTS: &[u8] = b"block,name,value\n\
     2,\"multi-event, number of events\",2\n\
     2,time from event 1 to 2,2.3 s\n\
     2,deployment event,yes\n\
+    2,pre-crash profile,short\n\
     2,\"speed, km/h\",31 31 31 30 30 30 43 44 45 46 46\n\
     2,\"throttle, %\",18 18 18 18 18 18 62 62 62 62 0\n\
     2,service brake,off off off off off off off off off off on\n\
@@ -103,6 +107,61 @@ const TWO_EVENTS: &[u8] = b"block,name,value\n\
     2,passenger pretensioner deployment,16 ms\n\
     2,complete file recorded,yes\n\
     0,\"ignition cycle, download\",1\n";
+
+// What stands before the profile and behind the lists of a record, where the power goes off before the event is closed.
+const FRONT: &[u8] = b"block,name,value\n\
+    1,event,1\n\
+    1,bank,1\n\
+    1,\"ignition cycle, crash\",1\n\
+    1,time zero,26003 ms\n\
+    1,\"multi-event, number of events\",1\n\
+    1,time from event 1 to 2,none\n\
+    1,deployment event,no\n\
+    1,pre-crash profile,";
+
+const BACK: &[u8] = b"1,driver belt,on\n\
+    1,frontal air bag warning lamp,off\n\
+    1,end of event,none\n\
+    1,\"delta-V longitudinal, km/h\",none\n\
+    1,\"delta-V lateral, km/h\",none\n\
+    1,maximum delta-V longitudinal,none\n\
+    1,maximum delta-V lateral,none\n\
+    1,time of maximum resultant,none\n\
+    1,ticks without sample,none\n\
+    1,driver frontal deployment,none\n\
+    1,passenger frontal deployment,none\n\
+    1,driver side deployment,none\n\
+    1,passenger side deployment,none\n\
+    1,driver curtain deployment,none\n\
+    1,passenger curtain deployment,none\n\
+    1,driver pretensioner deployment,none\n\
+    1,passenger pretensioner deployment,none\n\
+    1,complete file recorded,no\n\
+    0,\"ignition cycle, download\",1\n";
+
+// Appends the row of a list that has this value so many times.
+fn push_list(out: &mut Vec<u8>, name: &[u8], value: &[u8], count: usize) -> Result<(), AllocError> {
+    out.extend_from_slice(name)?;
+    out.extend_from_slice(value)?;
+    for _ in 1..count {
+        out.extend_from_slice(b" ")?;
+        out.extend_from_slice(value)?;
+    }
+    out.extend_from_slice(b"\n")
+}
+
+// The report of a record that is told to have this profile, with so many values in each of its lists.
+fn report_of(alloc: Global, profile: &[u8], count: usize) -> Result<Vec<u8>, AllocError> {
+    let mut out = Vec::new(alloc);
+    out.extend_from_slice(FRONT)?;
+    out.extend_from_slice(profile)?;
+    out.extend_from_slice(b"\n")?;
+    push_list(&mut out, b"1,\"speed, km/h\",", b"50", count)?;
+    push_list(&mut out, b"1,\"throttle, %\",", b"20", count)?;
+    push_list(&mut out, b"1,service brake,", b"off", count)?;
+    out.extend_from_slice(BACK)?;
+    Ok(out)
+}
 
 fn check_refused<R: Abort + AllocGlobal>(rt: &R, bytes: &[u8], wanted: ReportRefused) {
     match read(rt.alloc(), bytes) {
@@ -127,6 +186,45 @@ fn a_report_is_read_as_it_was_printed(rt: HostRuntime) -> Result<(), Fail> {
         }
         Err(_) => assert!(rt; false),
     }
+    Ok(())
+}
+
+#[test]
+fn a_long_profile_has_201_values_and_a_short_one_11(rt: HostRuntime) -> Result<(), Fail> {
+    let long = report_of(rt.alloc(), b"long", 201)?;
+    match read(rt.alloc(), long.as_slice()) {
+        Ok(reading) => {
+            let again = table(rt.alloc(), &reading.run, &reading.found, reading.count)?;
+            assert!(rt; again.as_slice() == long.as_slice());
+        }
+        Err(_) => assert!(rt; false),
+    }
+    let wrong = RowFault::Field(3);
+    check_fault(
+        &rt,
+        report_of(rt.alloc(), b"long", 11)?.as_slice(),
+        10,
+        wrong,
+    );
+    check_fault(
+        &rt,
+        report_of(rt.alloc(), b"long", 200)?.as_slice(),
+        10,
+        wrong,
+    );
+    check_fault(
+        &rt,
+        report_of(rt.alloc(), b"short", 201)?.as_slice(),
+        10,
+        wrong,
+    );
+    check_fault(
+        &rt,
+        report_of(rt.alloc(), b"wide", 201)?.as_slice(),
+        9,
+        wrong,
+    );
+    check_cuts(&rt, long.as_slice());
     Ok(())
 }
 

@@ -2,8 +2,9 @@
 
 ghost use Rattle.std.specs.Prelude.{◌≡◌, ◌≤◌, ◌<◌, ◌^◌, ◌++◌, ◌∷◌, ◌+◌, negsuc, pos, true, Bool, IsSome, ⊤, ℕ, ℤ, List, min, decimal, codes, Some, None, Option, IfSome, MatchOption, ◌/◌, ◌≢◌};
 ghost use Rattle.std.specs.Fmt.{signed_decimal};
+ghost use Rattle.edr_record.specs.declared.Profile.{Profile};
 ghost use Rattle.edr_record.specs.Bounds.{IsChange, IsExtreme, IsPlace, IsUpTo};
-ghost use Rattle.edr_report.specs.Words.{bank_words, applied_words, stop_words, yes_no, switch_or_none, milliseconds, firing_words, shown_count, events_in_crash, time_between, extreme_words, missing_words, damage_words, ack_words, kind_word, seconds};
+ghost use Rattle.edr_report.specs.Words.{bank_words, applied_words, stop_words, yes_no, profile_word, switch_or_none, milliseconds, firing_words, shown_count, events_in_crash, time_between, extreme_words, missing_words, damage_words, ack_words, kind_word, seconds};
 ghost use Rattle.edr_reading.specs.Answers.{Gives};
 ghost use Rattle.edr_reading.specs.Front.{EndsNumber};
 ghost use Rattle.edr_reading.specs.Values.{IsBank, IsStop, IsApplied, IsDamagedView, IsTick, done_in, view_words};
@@ -13,7 +14,7 @@ use crate::front::{
 };
 use edr_image::places::MOST_BANKS;
 use edr_image::{Applied, BankView, Kind};
-use edr_record::{Extreme, Place};
+use edr_record::{Extreme, Place, Profile};
 
 // Counts of ignition cycles are shown up to this number.
 const LARGEST_SHOWN_COUNT: u32 = 60_000;
@@ -64,6 +65,20 @@ pub(crate) fn decision(bytes: &[u8]) -> Option<bool>
         Some(true)
     } else if is_word(bytes, b"no") {
         Some(false)
+    } else {
+        None
+    }
+}
+
+/// How far lists look back: `short` or `long`.
+pub(crate) fn profile(bytes: &[u8]) -> Option<Profile>
+    ensures read { IfSome result (λ f. bytes.now ≡ profile_word f) }
+    ensures whole { (f : Profile) → bytes.now ≡ profile_word f → result ≡ Some f }
+{
+    if is_word(bytes, b"short") {
+        Some(Profile::Short)
+    } else if is_word(bytes, b"long") {
+        Some(Profile::Long)
     } else {
         None
     }

@@ -29,7 +29,7 @@ returns-in-Ok-clause-whole n c =
     let all = subst (All IsEvent) s.2 are in
     let w = c.in-Some.ensures.whole s.0 _ (All-head IsEvent s.0 s.1 all) s.3 in
     let r = f s.1 more (All-tail IsEvent s.0 s.1 all) (omega (arith, few, ap length s.2)) told (ap (map fields) c.split_at.ensures.back ∙ w.1) in
-    (banks-more c.args.found.now.items _ c.take_events.new.found.items _ s.0 s.1 es c.in-Ok.ensures.items w.0 s.2 r.0, ap (λ (x : List (ℕ × Record)). map fields (drop (28 * length x) c.args.rows.now)) s.2 ∙ rest-more c.args.rows.now c.split_at.result.1.now s.0 s.1 c.split_at.ensures.back ∙ r.1)) c.take_events.ensures.whole
+    (banks-more c.args.found.now.items _ c.take_events.new.found.items _ s.0 s.1 es c.in-Ok.ensures.items w.0 s.2 r.0, ap (λ (x : List (ℕ × Record)). map fields (drop (29 * length x) c.args.rows.now)) s.2 ∙ rest-more c.args.rows.now c.split_at.result.1.now s.0 s.1 c.split_at.ensures.back ∙ r.1)) c.take_events.ensures.whole
 
 pub returns-in-Ok-clause-refused : goal.returns-in-Ok-clause-refused
 returns-in-Ok-clause-refused n c =

@@ -11,5 +11,5 @@ returns-then-rows-lt-EVENT_ROWS-clause-whole c e more h is =
 
 pub returns-clause-whole : goal.returns-clause-whole
 returns-clause-whole c e more h is =
-    let p = rows-parted fields c.args.rows.now c.split_at.result.0.now (drop 28 c.args.rows.now) 28 _ more c.split_at.ensures.front refl is (event-long c.args.block e.0 e.1 h.1) in
+    let p = rows-parted fields c.args.rows.now c.split_at.result.0.now (drop 29 c.args.rows.now) 29 _ more c.split_at.ensures.front refl is (event-long c.args.block e.0 e.1 h.1) in
     match-more c.read_event.result _ _ p.1 (c.read_event.ensures.whole e.0 e.1 h.0 h.1 p.0)

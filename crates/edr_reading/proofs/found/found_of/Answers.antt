@@ -21,7 +21,7 @@ returns-in_err-count-clause-refused c =
     let banks = w.0 ∙ ap (λ (x : List Found). map (λ f. f.bank) x ++ map (λ e. e.0) es) c.new-found.ensures.items in
     let count = event-count c.take_events.new.found.items es banks in
     let len : c.len.result ≡ length es = omega (arith, c.len.ensures, count, c.take_events.new.found.ok) in
-    let left = ap (map fields) (c.split_at.ensures.back ∙ ap (λ (k : ℕ). drop (28 * k) c.args.rows.now) len) ∙ w.1 in
+    let left = ap (map fields) (c.split_at.ensures.back ∙ ap (λ (k : ℕ). drop (29 * k) c.args.rows.now) len) ∙ w.1 in
     c.in_err-count.ensures.refused ds n b (omega (arith, few)) left)
 
 pub returns-else-are_distinct-clause-refused : goal.returns-else-are_distinct-clause-refused
@@ -31,6 +31,6 @@ returns-else-are_distinct-clause-refused c es ds n a b d is =
     let banks = w.0 ∙ ap (λ (x : List Found). map (λ f. f.bank) x ++ map (λ e. e.0) es) c.new-found.ensures.items in
     let count = event-count c.take_events.new.found.items es banks in
     let len : c.len.result ≡ length es = omega (arith, c.len.ensures, count, c.take_events.new.found.ok) in
-    let left = ap (map fields) (c.split_at.ensures.back ∙ ap (λ (k : ℕ). drop (28 * k) c.args.rows.now) len) ∙ w.1 in
+    let left = ap (map fields) (c.split_at.ensures.back ∙ ap (λ (k : ℕ). drop (29 * k) c.args.rows.now) len) ∙ w.1 in
     let more = c.in_ok-count.ensures.whole ds n b (omega (arith, few)) left in
     absurd (c.if-are_distinct.ensures (subst AreDistinct (sym c.deref.ensures.value) (same-banks c.take_events.new.found.items c.take_damaged.new.found.items es ds banks more d)))

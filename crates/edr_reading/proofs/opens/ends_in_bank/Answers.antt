@@ -1,23 +1,17 @@
-use Rattle.std.proofs.Common.{◌∙◌, map, true, false}
+use Rattle.std.proofs.Common.{map}
 use Rattle.edr_reading.specs.Rows.{fields}
-use Rattle.edr_reading.proofs.TryLemmas.{if-ok, none-of, moved, second-words, present-texts, all-tried}
+use Rattle.edr_reading.proofs.TryLemmas.{if-ok, both-tried}
 use Rattle.edr_reading.proofs.opens.ends_in_bank.Goals as goal
 
 pub returns-clause-none : goal.returns-clause-none
 returns-clause-none c =
     let rows = map fields c.args.rows.now in
-    let block = c.args.last.now.block.now in
-    let bank = c.args.bank.now in
-    let points = c.points_behind-points.result.now in
-    let p = c.args.place in
-    if-ok c.ends_by-4.result _ _
+    let points = c.points_behind.result.now in
+    if-ok c.ends_by_guess-2.result _ _
     (λ b m f. (
       points,
-      c.points_behind-points.ensures,
-      all-tried rows block bank points p
-          (moved rows _ block p _ _ c.absent.ensures.block c.absent.ensures.texts (none-of _ _ c.in_ok-ends_by.ensures c.if-branch.false))
-          (moved rows _ block p _ _ c.absent-2.ensures.block (c.absent-2.ensures.texts ∙ second-words block bank) (none-of _ _ c.in_ok-ends_by-2.ensures c.if-branch-2.false))
-          (moved rows _ block p _ _ c.present.ensures.block (c.present.ensures.texts ∙ present-texts block bank points true) (none-of _ _ c.in_ok-ends_by-3.ensures c.if-branch-3.false))
-          (moved rows _ block p _ _ c.present-2.ensures.block (c.present-2.ensures.texts ∙ present-texts block bank points false) (none-of _ _ m f)),
+      c.points_behind.ensures,
+      both-tried rows c.args.last.now.block.now c.args.bank.now points c.args.place
+          (c.in_ok-ends_by_guess.ensures.none c.if-branch.false) (m f),
     ))
-    c.ends_by-4.ensures
+    c.ends_by_guess-2.ensures.none
