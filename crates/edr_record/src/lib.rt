@@ -255,6 +255,7 @@ mod tests {
         throttle: [Some(20); SHORT_SLOTS],
         brake: [Some(false); SHORT_SLOTS],
     };
+
     const LONG: Slots = Slots::Long {
         speed: [Some(50); LONG_SLOTS],
         throttle: [Some(20); LONG_SLOTS],
