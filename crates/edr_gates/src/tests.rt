@@ -11,20 +11,23 @@ use std::test::Fail;
 
 const OPEN: u8 = 0xa5;
 
-const PRE: Pre = Pre {
-    key: Key {
-        cycle: 1,
-        zero: 26_003,
-    },
-    place: Place::First,
-    slots: Slots::Long {
-        speed: [Some(50); LONG_SLOTS],
-        throttle: [Some(20); LONG_SLOTS],
-        brake: [Some(false); LONG_SLOTS],
-    },
-    belt: Some(true),
-    lamp: Some(false),
-};
+// The pre part of an event in which all slots have a sample.
+fn pre() -> Pre {
+    Pre {
+        key: Key {
+            cycle: 1,
+            zero: 26_003,
+        },
+        place: Place::First,
+        slots: Slots::Long {
+            speed: [Some(50); LONG_SLOTS],
+            throttle: [Some(20); LONG_SLOTS],
+            brake: [Some(false); LONG_SLOTS],
+        },
+        belt: Some(true),
+        lamp: Some(false),
+    }
+}
 
 // A crash part that ends at 115 ms: along it falls by 4 km/h in each 10 ms, to -39 km/h at 97 ms.
 fn crash_bytes() -> [u8; 160] {
@@ -71,15 +74,15 @@ fn gates(memory: &MemNvm, place: usize) -> [bool; 3]
 #[test]
 fn steps_write_their_bytes_and_no_others(rt: HostRuntime) -> Result<(), Fail> {
     let mut memory = two_banks(rt.alloc(), &[], 0)?;
-    assert_eq!(rt; fill(&mut memory, 1, &PRE), Ok(()));
+    assert_eq!(rt; fill(&mut memory, 1, &pre()), Ok(()));
     assert_eq!(rt; lock(&mut memory, 1), Ok(()));
     let crash = read_crash(&crash_bytes())?;
     assert_eq!(rt; finish(&mut memory, 1, &crash), Ok(()));
-    let mut pre = [0; 848];
-    put_pre(&PRE, &mut pre);
+    let mut part = [0; 848];
+    put_pre(&pre(), &mut part);
     let mut want = [0; 2144];
     want[96..99].copy_from_slice(&[OPEN; 3]);
-    want[112..960].copy_from_slice(&pre);
+    want[112..960].copy_from_slice(&part);
     want[960..1120].copy_from_slice(&crash_bytes());
     assert_eq!(rt; memory.image(), want.as_slice());
     Ok(())
@@ -90,8 +93,8 @@ fn replaced(alloc: Global, call: u32, pick: u64) -> Result<(bool, [bool; 3]), Fa
     requires { call ≤ 9 }
 {
     let mut memory = two_banks(alloc, &[4 + call], pick)?;
-    fill(&mut memory, 1, &PRE)?;
-    let whole = replace_locked(&mut memory, 1, &PRE).is_ok();
+    fill(&mut memory, 1, &pre())?;
+    let whole = replace_locked(&mut memory, 1, &pre()).is_ok();
     memory.power_cycle()?;
     Ok((whole, gates(&memory, 96)))
 }
@@ -127,8 +130,8 @@ fn fault_in_each_call_leaves_first_steps(rt: HostRuntime) -> Result<(), Fail> {
 // Ends an event in bank 2 that was taken in the place of another, over a stop in this call.
 fn finished_until(alloc: Global, stop: u32, pick: u64) -> Result<[bool; 3], Fail> {
     let mut memory = two_banks(alloc, &[], pick)?;
-    fill(&mut memory, 2, &PRE)?;
-    replace(&mut memory, 2, &PRE)?;
+    fill(&mut memory, 2, &pre())?;
+    replace(&mut memory, 2, &pre())?;
     let crash = read_crash(&crash_bytes())?;
     let mut fused = Fused::new(&mut memory);
     fused.arm(stop);

@@ -1,20 +1,39 @@
 use super::*;
 
-// A second event of a long part with these slots in each list.
-fn long(speed: Option<u16>, throttle: Option<u8>, brake: Option<bool>) -> Slots {
-    Slots::Long {
-        speed: [speed; LONG_SLOTS],
-        throttle: [throttle; LONG_SLOTS],
-        brake: [brake; LONG_SLOTS],
+// The pre part of the same crash, 20 s later and long.
+fn long_pre() -> Pre {
+    Pre {
+        key: Key {
+            cycle: 1,
+            zero: 26_003,
+        },
+        place: Place::First,
+        slots: Slots::Long {
+            speed: [Some(50); LONG_SLOTS],
+            throttle: [Some(20); LONG_SLOTS],
+            brake: [Some(false); LONG_SLOTS],
+        },
+        belt: Some(true),
+        lamp: Some(false),
     }
 }
 
-// The pre part of the same crash, 20 s later and long.
-fn long_pre() -> Pre {
-    let mut pre = pre();
-    pre.key.zero = 26_003;
-    pre.slots = long(Some(50), Some(20), Some(false));
-    pre
+// The same without samples of speed, throttle and brake.
+fn empty_pre() -> Pre {
+    Pre {
+        key: Key {
+            cycle: 1,
+            zero: 26_003,
+        },
+        place: Place::First,
+        slots: Slots::Long {
+            speed: [None; LONG_SLOTS],
+            throttle: [None; LONG_SLOTS],
+            brake: [None; LONG_SLOTS],
+        },
+        belt: Some(true),
+        lamp: Some(false),
+    }
 }
 
 // Its bytes, written by hand.
@@ -40,14 +59,12 @@ fn a_long_part_has_its_bytes_and_is_read_back(rt: HostRuntime) {
 
 #[test]
 fn a_long_part_without_samples_has_absent_slots(rt: HostRuntime) {
-    let mut absent = long_pre();
-    absent.slots = long(None, None, None);
     let mut bytes = [0xee; 848];
-    put_pre(&absent, &mut bytes);
+    put_pre(&empty_pre(), &mut bytes);
     let mut wanted = long_bytes();
     wanted[12..816].fill(0xff);
     assert_eq!(rt; bytes, wanted);
-    assert_eq!(rt; read_pre(&bytes), Ok(absent));
+    assert_eq!(rt; read_pre(&bytes), Ok(empty_pre()));
 }
 
 // The answer for the long part with some bytes changed.
