@@ -122,7 +122,7 @@ fn ask_when_reached<R: Wait>(rt: &R, asker: &mut Asker, zero: u32)
 fn next_part<R: Wait>(rt: &R, inlet: &mut PartInlet) -> (u32, Option<i32>) {
     for _ in rt.forever() {
         if let Some(part) = inlet.take() {
-            return (part.zero, part.slots[10]);
+            return (part.zero, part.slots[200]);
         }
         thread::yield_now();
     }
