@@ -7,3 +7,4 @@ pub mod PlainLemmas
 pub mod PlainCharts
 pub mod PlainLines
 pub mod PlainSheets
+pub mod SlotLemmas

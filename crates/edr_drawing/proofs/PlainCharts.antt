@@ -3,6 +3,8 @@ use Rattle.std.proofs.Common.{ℕ, ◌+◌, ◌*◌, ◌/◌, ℤ, Bool, true, f
 use Rattle.std.specs.Ordering.{int_eq}
 use Rattle.edr_record.specs.declared.Extreme.{Extreme}
 use Rattle.edr_record.specs.Parts.{PrePart, CrashPart}
+use Rattle.edr_record.specs.declared.Profile.{Profile}
+use Rattle.edr_record.specs.declared.Profile.TheVariants.{Short, Long}
 use Rattle.edr_drawing.specs.declared.texts.Class.{Class}
 use Rattle.edr_drawing.specs.declared.texts.Label.{Label}
 use Rattle.edr_drawing.specs.declared.elements.Words.{Words}
@@ -11,9 +13,10 @@ use Rattle.edr_drawing.specs.declared.elements.Element.{Element}
 use Rattle.edr_drawing.specs.declared.elements.Element.TheVariants as element
 use Rattle.edr_drawing.specs.declared.lanes.Lane.{Lane}
 use Rattle.edr_drawing.specs.declared.changes.Scale.{Scale}
+use Rattle.edr_drawing.specs.Scales.{slot_x}
 use Rattle.edr_drawing.specs.Elements.{words_bytes, element_bytes, drawn}
-use Rattle.edr_drawing.specs.Lanes.{grid_line, grid, point, points, cell, cells, drawn_lane}
-use Rattle.edr_drawing.specs.Before.{half_second, half_seconds, before_frame, before_speed, before_throttle, switch_field, switches, before_brake, before_switches, before_head, before_chart}
+use Rattle.edr_drawing.specs.Lanes.{lane_y, grid_line, grid, point, points, cell, cells, gap_elements, long_cells, cells_of, drawn_lane}
+use Rattle.edr_drawing.specs.Before.{second_line, second_lines, before_frame, before_speed, before_throttle, switch_field, switches, run_field, switch_run, are_same, switch_runs, brake_slots, before_brake, before_switches, before_head, before_chart}
 use Rattle.edr_drawing.specs.Changes.{time_x}
 use Rattle.edr_drawing.specs.After.{past_window, time_line, time_lines, legend, level, levels, after_frame, end_line, axis_point, axis_points, curve, dot, square, dots, squares, curves, maximum_number, maxima, changes_chart}
 use Rattle.edr_drawing.specs.Rows.{timed_row, restraint_row, bag_rows, belt_rows, event_rows, rows_chart, after_head, without_part, after_chart}
@@ -34,6 +37,7 @@ plain_element (element.Text x y class w) = search (plain_pieces, plain_words) de
 plain_element (element.Line x y to_x to_y class) = search plain_pieces depth 40
 plain_element (element.Rect x y width height class) = search plain_pieces depth 40
 plain_element (element.Dot x y) = search plain_pieces depth 40
+plain_element (element.Point x y) = search plain_pieces depth 40
 plain_element (element.Square x y) = search plain_pieces depth 40
 plain_element (element.Diamond x y class) = search plain_pieces depth 40
 plain_element (element.Flag x y) = search plain_pieces depth 40
@@ -45,14 +49,14 @@ plain_drawn es = plain_flat_map element_bytes plain_element es
 plain_grid : (l : Lane) → Plain (grid l)
 plain_grid l = plain_counted (λ i. grid_line l (l.step * i)) (λ i. search (plain_pieces, plain_element)) (l.top / l.step + 1)
 
-plain_point : (l : Lane) (k : ℕ) (before : Bool) (value : ℕ) → Plain (point l k before value)
+plain_point : (f : Profile) (l : Lane) (k : ℕ) (before : Bool) (value : ℕ) → Plain (point f l k before value)
 unfolding point
-plain_point l k before value = search plain_pieces
+plain_point f l k before value = search plain_pieces
 
-plain_points : (l : Lane) (k : ℕ) (before : Bool) (vs : List (Option ℕ)) → Plain (points l k before vs)
-plain_points l k before [] = plain_nil
-plain_points l k before (None ∷ vs) = plain_points l (k + 1) false vs
-plain_points l k before (Some v ∷ vs) = plain_append _ _ (plain_point l k before v) (plain_points l (k + 1) true vs)
+plain_points : (f : Profile) (l : Lane) (k : ℕ) (before : Bool) (vs : List (Option ℕ)) → Plain (points f l k before vs)
+plain_points f l k before [] = plain_nil
+plain_points f l k before (None ∷ vs) = plain_points f l (k + 1) false vs
+plain_points f l k before (Some v ∷ vs) = plain_append _ _ (plain_point f l k before v) (plain_points f l (k + 1) true vs)
 
 plain_cell : (l : Lane) (k : ℕ) (v : Option ℕ) → Plain (cell l k v)
 plain_cell l k None = search (plain_pieces, plain_element)
@@ -62,46 +66,68 @@ plain_cells : (l : Lane) (k : ℕ) (vs : List (Option ℕ)) → Plain (cells l k
 plain_cells l k [] = plain_nil
 plain_cells l k (v ∷ vs) = plain_append _ _ (plain_cell l k v) (plain_cells l (k + 1) vs)
 
+plain_long_cells : (l : Lane) (k n : ℕ) (vs : List (Option ℕ)) → Plain (long_cells l k n vs)
+plain_long_cells l k n [] = plain_drawn (gap_elements l k n)
+plain_long_cells l k n (None ∷ vs) = plain_long_cells l k (n + 1) vs
+plain_long_cells l k n (Some v ∷ vs) =
+    plain_append _ _ (plain_append _ _ (plain_drawn (gap_elements l k n)) (plain_drawn (element.Point (slot_x Long (k + n)) (lane_y l v) ∷ []))) (plain_long_cells l (k + n + 1) 0 vs)
+
+plain_cells_of : (f : Profile) (l : Lane) (vs : List (Option ℕ)) → Plain (cells_of f l vs)
+plain_cells_of Short l vs = plain_cells l 0 vs
+plain_cells_of Long l vs = plain_long_cells l 0 0 vs
+
 plain_lane : (l : Lane) (vs : List (Option ℕ)) → Plain (drawn_lane l vs)
 unfolding drawn_lane
-plain_lane l vs = search (plain_pieces, plain_grid, plain_points, plain_cells) depth 40
+plain_lane l vs = search (plain_pieces, plain_grid, plain_points, plain_cells_of) depth 40
 
-plain_half_seconds : Plain half_seconds
-unfolding half_seconds
-plain_half_seconds = plain_counted half_second (λ k. plain_if (nat_lt k 10) _ _ (search (plain_pieces, plain_element)) (search (plain_pieces, plain_element))) 11
+plain_second_lines : (f : Profile) → Plain (second_lines f)
+unfolding second_lines
+plain_second_lines f = plain_counted (second_line f) (λ k. plain_if (nat_lt k 10) _ _ (search (plain_pieces, plain_element)) (search (plain_pieces, plain_element))) 11
 
-plain_before_frame : Plain before_frame
+plain_before_frame : (f : Profile) → Plain (before_frame f)
 unfolding before_frame
-plain_before_frame = search (plain_pieces, plain_element, plain_half_seconds)
+plain_before_frame f = search (plain_pieces, plain_element, plain_second_lines)
 
-plain_switch : (k y : ℕ) (v : Option Bool) → Plain (switch_field k y v)
-plain_switch k y (Some true) = search (plain_pieces, plain_element)
-plain_switch k y (Some false) = search (plain_pieces, plain_element)
-plain_switch k y None = search (plain_pieces, plain_element)
+plain_switch : (x y : ℕ) (v : Option Bool) → Plain (switch_field x y v)
+plain_switch x y (Some true) = search (plain_pieces, plain_element)
+plain_switch x y (Some false) = search (plain_pieces, plain_element)
+plain_switch x y None = search (plain_pieces, plain_element)
 
 plain_switches : (k : ℕ) (vs : List (Option Bool)) → Plain (switches k vs)
 plain_switches k [] = plain_nil
-plain_switches k (v ∷ vs) = plain_append _ _ (plain_switch k 367 v) (plain_switches (k + 1) vs)
+plain_switches k (v ∷ vs) = plain_append _ _ (plain_switch (slot_x Short k) 367 v) (plain_switches (k + 1) vs)
 
-plain_before_head : (n : ℕ) → Plain (before_head n)
+plain_switch_run : (k n : ℕ) (v : Option Bool) → Plain (switch_run k n v)
+plain_switch_run k n v = plain_if (nat_eq n 0) _ _ plain_nil (plain_drawn (run_field k n v))
+
+plain_switch_runs : (k n : ℕ) (u : Option Bool) (vs : List (Option Bool)) → Plain (switch_runs k n u vs)
+plain_switch_runs k n u [] = plain_switch_run k n u
+plain_switch_runs k n u (v ∷ vs) =
+    plain_if (are_same u v) _ _ (plain_switch_runs k (n + 1) u vs) (plain_append _ _ (plain_switch_run k n u) (plain_switch_runs (k + n) 1 v vs))
+
+plain_brake_slots : (f : Profile) (vs : List (Option Bool)) → Plain (brake_slots f vs)
+plain_brake_slots Short vs = plain_switches 0 vs
+plain_brake_slots Long vs = plain_switch_runs 0 0 None vs
+
+plain_before_head : (n : ℕ) (f : Profile) → Plain (before_head n f)
 unfolding before_head
-plain_before_head n = search plain_pieces depth 40
+plain_before_head n f = search plain_pieces depth 40
 
-plain_before_speed : (slots : List (Option ℕ)) → Plain (before_speed slots)
+plain_before_speed : (f : Profile) (slots : List (Option ℕ)) → Plain (before_speed f slots)
 unfolding before_speed
-plain_before_speed slots = search (plain_pieces, plain_element, plain_lane)
+plain_before_speed f slots = search (plain_pieces, plain_element, plain_lane)
 
-plain_before_throttle : (slots : List (Option ℕ)) → Plain (before_throttle slots)
+plain_before_throttle : (f : Profile) (slots : List (Option ℕ)) → Plain (before_throttle f slots)
 unfolding before_throttle
-plain_before_throttle slots = search (plain_pieces, plain_element, plain_lane)
+plain_before_throttle f slots = search (plain_pieces, plain_element, plain_lane)
 
-plain_before_brake : (slots : List (Option Bool)) → Plain (before_brake slots)
+plain_before_brake : (f : Profile) (slots : List (Option Bool)) → Plain (before_brake f slots)
 unfolding before_brake
-plain_before_brake slots = search (plain_pieces, plain_element, plain_switches)
+plain_before_brake f slots = search (plain_pieces, plain_element, plain_brake_slots)
 
-plain_before_switches : (belt lamp : Option Bool) → Plain (before_switches belt lamp)
+plain_before_switches : (f : Profile) (belt lamp : Option Bool) → Plain (before_switches f belt lamp)
 unfolding before_switches
-plain_before_switches belt lamp = search (plain_pieces, plain_element, plain_switch)
+plain_before_switches f belt lamp = search (plain_pieces, plain_element, plain_switch)
 
 pub plain_before_chart : (n : ℕ) (p : PrePart) → Plain (before_chart n p)
 unfolding before_chart

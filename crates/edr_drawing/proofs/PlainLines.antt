@@ -6,6 +6,8 @@ use Rattle.std.proofs.lemmas.Bool.{and_parts}
 use Rattle.edr_record.specs.declared.Place.{Place}
 use Rattle.edr_record.specs.declared.Place.TheVariants.{First, Second}
 use Rattle.edr_record.specs.declared.Extreme.{Extreme}
+use Rattle.edr_record.specs.declared.Profile.{Profile}
+use Rattle.edr_record.specs.declared.Profile.TheVariants as profile
 use Rattle.edr_record.specs.declared.Record.{Record}
 use Rattle.edr_record.specs.Parts.{PrePart, CrashPart}
 use Rattle.edr_record.specs.Bounds.{point_count}
@@ -16,7 +18,7 @@ use Rattle.edr_image.specs.declared.Kind.TheVariants as kind
 use Rattle.edr_image.specs.declared.Applied.{Applied}
 use Rattle.edr_image.specs.declared.Applied.TheVariants.{Kept, Locked, Done, NotKept}
 use Rattle.edr_image.specs.Reports.{Report, StartStopped, Ran}
-use Rattle.edr_report.specs.Words.{cycle_words, kind_word, ack_words, bank_words, applied_words, stop_words, none_word, yes_no, on_off, number_or_none, switch_or_none, milliseconds, firing_words, events_in_crash, seconds, time_between, spaced, extreme_words, missing_words}
+use Rattle.edr_report.specs.Words.{cycle_words, kind_word, ack_words, bank_words, applied_words, stop_words, none_word, yes_no, on_off, profile_word, number_or_none, switch_or_none, milliseconds, firing_words, events_in_crash, seconds, time_between, spaced, extreme_words, missing_words}
 use Rattle.edr_report.specs.Lines.{Line, line}
 use Rattle.edr_report.specs.Report.{ack_line, cycle_lines, pre_lines, crash_names, crash_words, named_lines, crash_lines, event_lines, run_lines}
 use Rattle.edr_drawing.specs.Tables.{row, line_row, begins_table}
@@ -65,6 +67,10 @@ plain_yes_no false = plain_fixed (codes "no") refl
 plain_on_off : (b : Bool) → Plain (on_off b)
 plain_on_off true = plain_fixed (codes "on") refl
 plain_on_off false = plain_fixed (codes "off") refl
+
+plain_profile : (f : Profile) → Plain (profile_word f)
+plain_profile profile.Short = plain_fixed (codes "short") refl
+plain_profile profile.Long = plain_fixed (codes "long") refl
 
 plain_number : (v : Option ℕ) → Plain (number_or_none v)
 plain_number None = plain_fixed none_word refl
@@ -179,18 +185,22 @@ lines_pre block p locked = (
           plain_fixed (codes "deployment event") refl,
           plain_yes_no locked,
           (
-            plain_fixed (codes "speed, km/h") refl,
-            plain_spaced number_or_none plain_number p.speed,
+            plain_fixed (codes "pre-crash profile") refl,
+            plain_profile p.profile,
             (
-              plain_fixed (codes "throttle, %") refl,
-              plain_spaced number_or_none plain_number p.throttle,
+              plain_fixed (codes "speed, km/h") refl,
+              plain_spaced number_or_none plain_number p.speed,
               (
-                plain_fixed (codes "service brake") refl,
-                plain_spaced switch_or_none plain_switch p.brake,
+                plain_fixed (codes "throttle, %") refl,
+                plain_spaced number_or_none plain_number p.throttle,
                 (
-                  plain_fixed (codes "driver belt") refl,
-                  plain_switch p.belt,
-                  (plain_fixed (codes "frontal air bag warning lamp") refl, plain_switch p.lamp, tt),
+                  plain_fixed (codes "service brake") refl,
+                  plain_spaced switch_or_none plain_switch p.brake,
+                  (
+                    plain_fixed (codes "driver belt") refl,
+                    plain_switch p.belt,
+                    (plain_fixed (codes "frontal air bag warning lamp") refl, plain_switch p.lamp, tt),
+                  ),
                 ),
               ),
             ),

@@ -4,6 +4,7 @@ use Rattle.std.proofs.lemmas.List.Elements.{All-head, All-tail}
 use Rattle.edr_record.specs.declared.Key.{Key}
 use Rattle.edr_record.specs.declared.Place.{Place}
 use Rattle.edr_record.specs.declared.Place.TheVariants.{First, Second}
+use Rattle.edr_record.specs.declared.Profile.{Profile}
 use Rattle.edr_record.specs.declared.Record.{Record}
 use Rattle.edr_record.specs.Parts.{PrePart, CrashPart}
 use Rattle.edr_record.specs.Complete.{is_complete}
@@ -38,9 +39,9 @@ plain_digest (b ∷ bs) small =
     (plain_digest bs (All-tail (λ b. b < 256) b bs small))
 
 -- why a record isn't complete
-plain_slots : (t : Tag) (absent : ℕ) → Plain (slots_reason t absent)
+plain_slots : (t : Tag) (absent count : ℕ) → Plain (slots_reason t absent count)
 unfolding slots_reason
-plain_slots t absent = plain_if (nat_eq absent 0) _ _ plain_nil (search plain_pieces)
+plain_slots t absent count = plain_if (nat_eq absent 0) _ _ plain_nil (search plain_pieces depth 20)
 
 plain_switch_reason : (t : Tag) (v : Option Bool) → Plain (switch_reason t v)
 unfolding switch_reason
@@ -94,9 +95,9 @@ plain_sheet_head : (n : ℕ) (complete : Bool) → Plain (sheet_head n complete)
 unfolding sheet_head
 plain_sheet_head n complete = search plain_pieces depth 40
 
-plain_facts : (bank : ℕ) (key : Key) (locked : Bool) (place : Place) → Plain (facts bank key locked place)
+plain_facts : (bank : ℕ) (key : Key) (locked : Bool) (f : Profile) (place : Place) → Plain (facts bank key locked f place)
 unfolding facts
-plain_facts bank key locked place = search (plain_pieces, plain_place) depth 40
+plain_facts bank key locked f place = search (plain_pieces, plain_place) depth 40
 
 plain_sheet_foot : (n : ℕ) (digest : List ℕ) → All (λ b. b < 256) digest → Plain (sheet_foot n digest)
 unfolding sheet_foot

@@ -1,11 +1,14 @@
--- The chart of the five seconds before time zero.
-use Rattle.std.specs.Prelude.{ℕ, ◌+◌, ◌-◌, ◌*◌, max, Bool, true, false, if◌then◌else◌, nat_lt, Option, Some, None, List, [], ◌∷◌, ◌++◌}
+-- The chart of the seconds before time zero, five of a short profile and twenty of a long one.
+use Rattle.std.specs.Prelude.{ℕ, ◌+◌, ◌-◌, ◌*◌, max, Bool, true, false, if◌then◌else◌, nat_eq, nat_lt, Option, Some, None, List, [], ◌∷◌, ◌++◌}
 use Rattle.edr_record.specs.Parts.{PrePart}
+use Rattle.edr_record.specs.declared.Profile.{Profile}
+use Rattle.edr_record.specs.declared.Profile.TheVariants.{Short, Long}
 use Rattle.edr_drawing.specs.declared.pieces.Piece.TheVariants as piece
 use Rattle.edr_drawing.specs.declared.texts.Class.{Class}
 use Rattle.edr_drawing.specs.declared.texts.Class.TheVariants as class
 use Rattle.edr_drawing.specs.declared.texts.Label.{Label}
 use Rattle.edr_drawing.specs.declared.texts.Label.TheVariants as label
+use Rattle.edr_drawing.specs.declared.tags.Tag.{Tag}
 use Rattle.edr_drawing.specs.declared.tags.Tag.TheVariants as tag
 use Rattle.edr_drawing.specs.declared.elements.Words.TheVariants as words
 use Rattle.edr_drawing.specs.declared.elements.Element.{Element}
@@ -13,8 +16,8 @@ use Rattle.edr_drawing.specs.declared.elements.Element.TheVariants as element
 use Rattle.edr_drawing.specs.declared.lanes.Lane.{Lane}
 use Rattle.edr_drawing.specs.Pieces.{pieces}
 use Rattle.edr_drawing.specs.Elements.{drawn}
-use Rattle.edr_drawing.specs.Scales.{slot_x, least_step, scale_top, counted}
-use Rattle.edr_drawing.specs.Lanes.{drawn_lane}
+use Rattle.edr_drawing.specs.Scales.{time_at, slot_x, least_step, scale_top, counted}
+use Rattle.edr_drawing.specs.Lanes.{run_elements, drawn_lane}
 
 -- a text at the left, and a line across all of a chart
 abbrev pub name : ℕ → Class → Label → Element
@@ -30,8 +33,9 @@ greatest (None ∷ vs) = greatest vs
 greatest (Some v ∷ vs) = max v (greatest vs)
 
 -- the lane of speed: its top is at least 1 km/h, and it has at most four steps
-abbrev pub speed_scale : ℕ → Lane
-speed_scale most = record {
+abbrev pub speed_scale : Profile → ℕ → Lane
+speed_scale f most = record {
+  profile = f;
   foot = 220;
   rise = 140;
   top = scale_top (least_step (10 ∷ 20 ∷ 50 ∷ 100 ∷ []) 100 4 most 0) most;
@@ -39,77 +43,123 @@ speed_scale most = record {
   room = 170;
 }
 
-abbrev pub speed_lane : List (Option ℕ) → Lane
-speed_lane slots = speed_scale (max (greatest slots) 1)
+abbrev pub speed_lane : Profile → List (Option ℕ) → Lane
+speed_lane f slots = speed_scale f (max (greatest slots) 1)
 
-abbrev pub throttle_lane : Lane
-throttle_lane = record { foot = 346; rise = 70; top = 100; step = 50; room = 96 }
+abbrev pub throttle_lane : Profile → Lane
+throttle_lane f = record { profile = f; foot = 346; rise = 70; top = 100; step = 50; room = 96 }
 
--- the line of a half second, with its time
-abbrev pub half_second : ℕ → List ℕ
-half_second k =
+-- how long before time zero time k of eleven is, in tenths of a second
+abbrev pub tenths_before : Profile → ℕ → ℕ
+tenths_before Short k = 50 - 5 * k
+tenths_before Long k = 200 - 20 * k
+
+-- the line of a time, with its words
+abbrev pub second_line : Profile → ℕ → List ℕ
+second_line f k =
     if nat_lt k 10
     then drawn
-    (element.Line (slot_x k) 36 (slot_x k) 490 class.Grid
-    ∷ element.Text (slot_x k) 522 class.Centre (words.Before (50 - 5 * k))
+    (element.Line (time_at k) 36 (time_at k) 490 class.Grid
+    ∷ element.Text (time_at k) 522 class.Centre (words.Before (tenths_before f k))
     ∷ [])
     else drawn
-    (element.Line (slot_x k) 36 (slot_x k) 490 class.Zero
-    ∷ element.Text (slot_x k) 522 class.CentreBold words.Zero
+    (element.Line (time_at k) 36 (time_at k) 490 class.Zero
+    ∷ element.Text (time_at k) 522 class.CentreBold words.Zero
     ∷ [])
 
-unfoldable pub half_seconds : List ℕ
-half_seconds = counted half_second 11
+unfoldable pub second_lines : Profile → List ℕ
+second_lines f = counted (second_line f) 11
 
-unfoldable pub before_frame : List ℕ
-before_frame =
+unfoldable pub before_frame : Profile → List ℕ
+before_frame f =
     drawn (element.Rect 330 36 1_500 454 class.Plot ∷ [])
-    ++ half_seconds
+    ++ second_lines f
     ++ drawn
     (name 522 class.Plain label.TimeInSeconds
-    ∷ element.Text (slot_x 10) 26 class.CentreBold (words.Label label.TimeZero)
+    ∷ element.Text (time_at 10) 26 class.CentreBold (words.Label label.TimeZero)
     ∷ [])
 
-unfoldable pub before_speed : List (Option ℕ) → List ℕ
-before_speed slots =
-    drawn (name 120 class.Bold label.Speed ∷ name 152 class.Plain label.Kmh ∷ []) ++ drawn_lane (speed_lane slots) slots
+unfoldable pub before_speed : Profile → List (Option ℕ) → List ℕ
+before_speed f slots =
+    drawn (name 120 class.Bold label.Speed ∷ name 152 class.Plain label.Kmh ∷ []) ++ drawn_lane (speed_lane f slots) slots
 
-unfoldable pub before_throttle : List (Option ℕ) → List ℕ
-before_throttle slots =
+unfoldable pub before_throttle : Profile → List (Option ℕ) → List ℕ
+before_throttle f slots =
     drawn (rule 236 ∷ name 290 class.Bold label.Throttle ∷ name 322 class.Plain label.OfFull ∷ [])
-    ++ drawn_lane throttle_lane slots
+    ++ drawn_lane (throttle_lane f) slots
 
 -- the field of a switch
 abbrev pub switch_with : ℕ → ℕ → Class → Class → Label → List ℕ
-switch_with k y field c l =
-    drawn
-    (element.Rect (slot_x k - 50) y 100 34 field
-    ∷ element.Text (slot_x k) (y + 26) c (words.Label l)
-    ∷ [])
+switch_with x y field c l =
+    drawn (element.Rect (x - 50) y 100 34 field ∷ element.Text x (y + 26) c (words.Label l) ∷ [])
 
 abbrev pub switch_field : ℕ → ℕ → Option Bool → List ℕ
-switch_field k y (Some true) = switch_with k y class.On class.CentreOn label.On
-switch_field k y (Some false) = switch_with k y class.Off class.Centre label.Off
-switch_field k y None = switch_with k y class.Gap class.CentreGap label.None
+switch_field x y (Some true) = switch_with x y class.On class.CentreOn label.On
+switch_field x y (Some false) = switch_with x y class.Off class.Centre label.Off
+switch_field x y None = switch_with x y class.Gap class.CentreGap label.None
 
+-- the slots of a short profile, each with its field
 abbrev pub switches : ℕ → List (Option Bool) → List ℕ
 switches k [] = []
-switches k (v ∷ vs) = switch_field k 367 v ++ switches (k + 1) vs
+switches k (v ∷ vs) = switch_field (slot_x Short k) 367 v ++ switches (k + 1) vs
+
+-- the field of n slots of a long profile that are the same, if there are any
+abbrev pub run_field : ℕ → ℕ → Option Bool → List Element
+run_field k n (Some true) = run_elements k n 367 34 class.On class.CentreOn label.On
+run_field k n (Some false) = run_elements k n 367 34 class.Off class.Centre label.Off
+run_field k n None = run_elements k n 367 34 class.Gap class.CentreGap label.None
+
+abbrev pub switch_run : ℕ → ℕ → Option Bool → List ℕ
+switch_run k n v = if nat_eq n 0 then [] else drawn (run_field k n v)
+
+abbrev pub are_same : Option Bool → Option Bool → Bool
+are_same (Some true) (Some true) = true
+are_same (Some true) (Some false) = false
+are_same (Some true) None = false
+are_same (Some false) (Some true) = false
+are_same (Some false) (Some false) = true
+are_same (Some false) None = false
+are_same None (Some v) = false
+are_same None None = true
+
+-- these slots behind n that are all u, the first of which has the number k: a field for each run of slots that are the same
+abbrev pub switch_runs : ℕ → ℕ → Option Bool → List (Option Bool) → List ℕ
+switch_runs k n u [] = switch_run k n u
+switch_runs k n u (v ∷ vs) =
+    if are_same u v then switch_runs k (n + 1) u vs else switch_run k n u ++ switch_runs (k + n) 1 v vs
+
+abbrev pub brake_slots : Profile → List (Option Bool) → List ℕ
+brake_slots Short vs = switches 0 vs
+brake_slots Long vs = switch_runs 0 0 None vs
+
+-- across: 1 s before time zero
+abbrev pub second_x : Profile → ℕ
+second_x Short = slot_x Short 8
+second_x Long = slot_x Long 190
 
 -- the switch at 1 s before time zero, with its name
-abbrev pub named_switch : ℕ → Label → Option Bool → List ℕ
-named_switch y l v = drawn (name (y + 26) class.Bold l ∷ []) ++ switch_field 8 y v
+abbrev pub named_switch : Profile → ℕ → Label → Option Bool → List ℕ
+named_switch f y l v = drawn (name (y + 26) class.Bold l ∷ []) ++ switch_field (second_x f) y v
 
-unfoldable pub before_brake : List (Option Bool) → List ℕ
-before_brake slots = drawn (rule 362 ∷ name 393 class.Bold label.ServiceBrake ∷ []) ++ switches 0 slots
+unfoldable pub before_brake : Profile → List (Option Bool) → List ℕ
+before_brake f slots = drawn (rule 362 ∷ name 393 class.Bold label.ServiceBrake ∷ []) ++ brake_slots f slots
 
-unfoldable pub before_switches : Option Bool → Option Bool → List ℕ
-before_switches belt lamp =
-    named_switch 409 label.DriverBelt belt ++ named_switch 451 label.AirBagLamp lamp ++ drawn (rule 490 ∷ [])
+unfoldable pub before_switches : Profile → Option Bool → Option Bool → List ℕ
+before_switches f belt lamp =
+    named_switch f 409 label.DriverBelt belt ++ named_switch f 451 label.AirBagLamp lamp ++ drawn (rule 490 ∷ [])
+
+-- what a chart says of its times
+abbrev pub description : Profile → Tag
+description Short = tag.BeforeDescription
+description Long = tag.LongDescription
+
+abbrev pub described : Profile → Tag
+described Short = tag.BeforeDescribed
+described Long = tag.LongDescribed
 
 -- the title and the description of the chart of event n
-unfoldable pub before_head : ℕ → List ℕ
-before_head n =
+unfoldable pub before_head : ℕ → Profile → List ℕ
+before_head n f =
     pieces
     (piece.Tag tag.BeforeChart
     ∷ piece.Count n
@@ -119,17 +169,17 @@ before_head n =
     ∷ piece.Count n
     ∷ piece.Tag tag.TitleEvent
     ∷ piece.Count n
-    ∷ piece.Tag tag.BeforeDescription
+    ∷ piece.Tag (description f)
     ∷ piece.Count n
-    ∷ piece.Tag tag.BeforeDescribed
+    ∷ piece.Tag (described f)
     ∷ [])
 
 unfoldable pub before_chart : ℕ → PrePart → List ℕ
 before_chart n p =
-    before_head n
-    ++ before_frame
-    ++ before_speed p.speed
-    ++ before_throttle p.throttle
-    ++ before_brake p.brake
-    ++ before_switches p.belt p.lamp
+    before_head n p.profile
+    ++ before_frame p.profile
+    ++ before_speed p.profile p.speed
+    ++ before_throttle p.profile p.throttle
+    ++ before_brake p.profile p.brake
+    ++ before_switches p.profile p.belt p.lamp
     ++ pieces (piece.Tag tag.ChartEnd ∷ [])

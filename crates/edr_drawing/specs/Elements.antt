@@ -65,6 +65,8 @@ element_bytes (element.Rect x y width height class) =
     ∷ [])
 element_bytes (element.Dot x y) =
     pieces (piece.Mark mark.DotX ∷ piece.Number x ∷ piece.Mark mark.DotY ∷ piece.Number y ∷ piece.Mark mark.DotEnd ∷ [])
+element_bytes (element.Point x y) =
+    pieces (piece.Mark mark.DotX ∷ piece.Number x ∷ piece.Mark mark.DotY ∷ piece.Number y ∷ piece.Mark mark.PointEnd ∷ [])
 element_bytes (element.Square x y) =
     pieces (piece.Mark mark.RectX ∷ piece.Number (x - 8) ∷ piece.Mark mark.Y ∷ piece.Number (y - 8) ∷ piece.Mark mark.SquareEnd ∷ [])
 element_bytes (element.Diamond x y class) =

@@ -1,5 +1,7 @@
 -- What the laws of a page speak of.
 use Rattle.std.specs.Prelude.{◌≡◌, ◌≤◌, ℕ, ◌+◌, ℤ, Bool, true, false, Option, Some, None, List, [], ◌∷◌, ◌++◌, filter, map, flat_map}
+use Rattle.edr_record.specs.declared.Profile.{Profile}
+use Rattle.edr_record.specs.declared.Profile.TheVariants.{Short, Long}
 use Rattle.edr_drawing.specs.declared.elements.Element.{Element}
 use Rattle.edr_drawing.specs.declared.elements.Element.TheVariants as element
 use Rattle.edr_drawing.specs.declared.lanes.Lane.{Lane}
@@ -20,26 +22,28 @@ present k (None ∷ vs) = present (k + 1) vs
 present k (Some v ∷ vs) = (k, v) ∷ present (k + 1) vs
 
 -- the mark of a slot that is there
-abbrev pub mark_of : Lane → ℕ × ℕ → Element
-mark_of l e = element.Dot (slot_x e.0) (lane_y l e.1)
+abbrev pub mark_of : Profile → Lane → ℕ × ℕ → Element
+mark_of Short l e = element.Dot (slot_x Short e.0) (lane_y l e.1)
+mark_of Long l e = element.Point (slot_x Long e.0) (lane_y l e.1)
 
 abbrev pub is_mark : Element → Bool
 is_mark (element.Text x y c w) = false
 is_mark (element.Line x y u v c) = false
 is_mark (element.Rect x y w h c) = false
 is_mark (element.Dot x y) = true
+is_mark (element.Point x y) = true
 is_mark (element.Square x y) = false
 is_mark (element.Diamond x y c) = false
 is_mark (element.Flag x y) = false
 
 -- the elements of the fields of slots, whose marks are those of the slots that are there, in order
-abbrev pub HasMarks : Lane → List (Option ℕ) → List ℕ → Type 0
-HasMarks l vs bytes = (es : List Element) × (bytes ≡ drawn es) × (filter is_mark es ≡ map (mark_of l) (present 0 vs))
+abbrev pub HasMarks : Profile → Lane → List (Option ℕ) → List ℕ → Type 0
+HasMarks f l vs bytes = (es : List Element) × (bytes ≡ drawn es) × (filter is_mark es ≡ map (mark_of f l) (present 0 vs))
 
 -- the points of a path, each joined to the one before or not, which are those of the slots that are there, in order
-abbrev pub HasPoints : Lane → List (Option ℕ) → List ℕ → Type 0
-HasPoints l vs bytes =
-    (ps : List (Bool × (ℕ × ℕ))) × (map (λ p. p.1) ps ≡ present 0 vs) × (bytes ≡ flat_map (λ p. point l p.1.0 p.0 p.1.1) ps)
+abbrev pub HasPoints : Profile → Lane → List (Option ℕ) → List ℕ → Type 0
+HasPoints f l vs bytes =
+    (ps : List (Bool × (ℕ × ℕ))) × (map (λ p. p.1) ps ≡ present 0 vs) × (bytes ≡ flat_map (λ p. point f l p.1.0 p.0 p.1.1) ps)
 
 -- a change of speed stands between the top and the foot of the plot
 abbrev pub StandsIn : Scale → ℤ → Type 0

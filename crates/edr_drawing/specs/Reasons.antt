@@ -2,6 +2,7 @@
 use Rattle.std.specs.Prelude.{ℕ, ◌+◌, Bool, if◌then◌else◌, nat_eq, Option, Some, None, List, [], ◌∷◌, ◌++◌}
 use Rattle.edr_record.specs.declared.Record.{Record}
 use Rattle.edr_record.specs.Parts.{PrePart, CrashPart}
+use Rattle.edr_record.specs.Bounds.{slots_in}
 use Rattle.edr_record.specs.Complete.{is_complete}
 use Rattle.edr_drawing.specs.declared.pieces.Piece.TheVariants as piece
 use Rattle.edr_drawing.specs.declared.tags.Tag.{Tag}
@@ -15,10 +16,12 @@ absent_count [] = 0
 absent_count (None ∷ vs) = absent_count vs + 1
 absent_count (Some v ∷ vs) = absent_count vs
 
--- how many slots of a list are absent, if any is
-unfoldable pub slots_reason : Tag → ℕ → List ℕ
-slots_reason t absent =
-    if nat_eq absent 0 then [] else pieces (piece.Tag t ∷ piece.Number absent ∷ piece.Tag tag.SlotsAbsent ∷ [])
+-- how many slots of a list of so many are absent, if any is
+unfoldable pub slots_reason : Tag → ℕ → ℕ → List ℕ
+slots_reason t absent count =
+    if nat_eq absent 0
+    then []
+    else pieces (piece.Tag t ∷ piece.Number absent ∷ piece.Tag tag.OfWindow ∷ piece.Number count ∷ piece.Tag tag.SlotsAbsent ∷ [])
 
 -- a switch is absent, if it is
 unfoldable pub switch_reason : Tag → Option Bool → List ℕ
@@ -27,9 +30,9 @@ switch_reason t None = pieces (piece.Tag t ∷ [])
 
 unfoldable pub pre_reasons : PrePart → List ℕ
 pre_reasons p =
-    slots_reason tag.SpeedReason (absent_count p.speed)
-    ++ slots_reason tag.ThrottleReason (absent_count p.throttle)
-    ++ slots_reason tag.BrakeReason (absent_count p.brake)
+    slots_reason tag.SpeedReason (absent_count p.speed) (slots_in p.profile)
+    ++ slots_reason tag.ThrottleReason (absent_count p.throttle) (slots_in p.profile)
+    ++ slots_reason tag.BrakeReason (absent_count p.brake) (slots_in p.profile)
     ++ switch_reason tag.BeltAbsent p.belt
     ++ switch_reason tag.LampAbsent p.lamp
 

@@ -1,9 +1,16 @@
 -- Where values stand in a chart: whole units, from values by whole numbers alone.
 use Rattle.std.specs.Prelude.{ℕ, zero, suc, ◌+◌, ◌-◌, ◌*◌, ◌/◌, ℤ, pos, negsuc, List, [], ◌∷◌, ◌++◌, if◌then◌else◌, nat_le}
+use Rattle.edr_record.specs.declared.Profile.{Profile}
+use Rattle.edr_record.specs.declared.Profile.TheVariants.{Short, Long}
 
--- across: slot k of eleven, the newest at time zero
-abbrev pub slot_x : ℕ → ℕ
-slot_x k = 400 + 136 * k
+-- across: time k of eleven, the last one time zero
+abbrev pub time_at : ℕ → ℕ
+time_at k = 400 + 136 * k
+
+-- across: slot k of a profile, the newest at time zero; a long one has twenty slots from one time to the next
+abbrev pub slot_x : Profile → ℕ → ℕ
+slot_x Short k = time_at k
+slot_x Long k = 400 + 136 * k / 20
 
 -- how many steps reach up to a value
 abbrev pub intervals : ℕ → ℕ → ℕ

@@ -3,6 +3,8 @@ use Rattle.std.specs.Prelude.{ℕ, ◌+◌, ◌-◌, ◌/◌, ◌%◌, min, Bool
 use Rattle.edr_record.specs.declared.Key.{Key}
 use Rattle.edr_record.specs.declared.Place.{Place}
 use Rattle.edr_record.specs.declared.Place.TheVariants.{First, Second}
+use Rattle.edr_record.specs.declared.Profile.{Profile}
+use Rattle.edr_record.specs.declared.Profile.TheVariants.{Short, Long}
 use Rattle.edr_record.specs.declared.Record.{Record}
 use Rattle.edr_record.specs.Complete.{is_complete}
 use Rattle.edr_image.specs.declared.BankView.{BankView}
@@ -65,8 +67,13 @@ sheet_head n complete =
     ∷ piece.Tag tag.SheetHeadEnd
     ∷ [])
 
-unfoldable pub facts : ℕ → Key → Bool → Place → List ℕ
-facts bank key locked place =
+-- the profile of a pre part
+abbrev pub profile_tag : Profile → Tag
+profile_tag Short = tag.Short
+profile_tag Long = tag.Long
+
+unfoldable pub facts : ℕ → Key → Bool → Profile → Place → List ℕ
+facts bank key locked profile place =
     pieces
     (piece.Tag tag.FactsCycle
     ∷ piece.Number (shown key.cycle)
@@ -76,6 +83,8 @@ facts bank key locked place =
     ∷ piece.Number bank
     ∷ piece.Tag tag.FactsLocked
     ∷ piece.Tag (yes_no locked)
+    ∷ piece.Tag tag.FactsProfile
+    ∷ piece.Tag (profile_tag profile)
     ∷ piece.Tag tag.FactsPlace
     ∷ [])
     ++ place_words place
@@ -91,7 +100,7 @@ sheet_foot n digest =
 unfoldable pub sheet : ℕ → ℕ → Record → List ℕ → List ℕ
 sheet n bank r digest =
     sheet_head n (is_complete r)
-    ++ facts bank r.pre.key r.locked r.pre.place
+    ++ facts bank r.pre.key r.locked r.pre.profile r.pre.place
     ++ reasons r
     ++ before_chart n r.pre
     ++ after_chart n r.crash

@@ -1,17 +1,17 @@
-//! The chart of the five seconds before time zero.
+//! The chart of the seconds before time zero, five of a short profile and twenty of a long one.
 
-ghost use Rattle.std.specs.Prelude.{◌≡◌, ◌++◌, ◌≤◌, ◌<◌, OnOk, All};
-ghost use Rattle.edr_record.specs.Bounds.{IsUpTo};
+ghost use Rattle.std.specs.Prelude.{◌≡◌, ◌++◌, ◌≤◌, ◌<◌, ◌+◌, None, OnOk, All, length, take};
+ghost use Rattle.edr_record.specs.Bounds.{IsUpTo, slots_in};
 ghost use Rattle.edr_drawing.specs.Lanes.{IsLane};
-ghost use Rattle.edr_drawing.specs.Before.{greatest, speed_lane, throttle_lane, half_second, half_seconds, before_frame, before_speed, before_throttle, switch_field, switches, before_brake, named_switch, before_switches, before_head, before_chart};
+ghost use Rattle.edr_drawing.specs.Before.{greatest, speed_lane, throttle_lane, tenths_before, second_line, second_lines, before_frame, before_speed, before_throttle, switch_field, switches, switch_run, are_same, switch_runs, brake_slots, second_x, before_brake, description, described, named_switch, before_switches, before_head, before_chart};
 
 use crate::elements::{Element, Words, draw};
-use crate::lanes::{Lane, draw_lane, draw_none};
+use crate::lanes::{Field, Lane, draw_lane, draw_run};
 use crate::pieces::{Piece, put};
-use crate::scales::{LEFT, RIGHT, least_step, scale_top, slot_x};
+use crate::scales::{LEFT, RIGHT, least_step, scale_top, slot_x, time_at};
 use crate::tags::Tag;
 use crate::texts::{Class, Label};
-use edr_record::Pre;
+use edr_record::{LONG_SLOTS, Pre, Profile};
 use std::alloc::AllocError as OutOfMemory;
 
 /// A text at the left of a chart.
@@ -40,7 +40,7 @@ pub fn rule(y: u32) -> Element
 }
 
 // The greatest value that is there, or 0.
-fn greatest(slots: &[Option<u16>; 11]) -> u16
+fn greatest(slots: &[Option<u16>]) -> u16
     ensures { result ≡ greatest slots.now }
 {
     let mut most = 0;
@@ -53,13 +53,14 @@ fn greatest(slots: &[Option<u16>; 11]) -> u16
     most
 }
 
-fn speed_lane(slots: &[Option<u16>; 11]) -> Lane
-    ensures lane { result ≡ speed_lane slots.now }
+fn speed_lane(profile: Profile, slots: &[Option<u16>]) -> Lane
+    ensures lane { result ≡ speed_lane profile slots.now }
     ensures within { IsLane result }
 {
     let most = u32::from(greatest(slots).max(1));
     let step = least_step(&[10, 20, 50, 100], 100, 4, most, 0);
     Lane {
+        profile,
         foot: 220,
         rise: 140,
         top: scale_top(step, most),
@@ -68,22 +69,43 @@ fn speed_lane(slots: &[Option<u16>; 11]) -> Lane
     }
 }
 
-const THROTTLE_LANE: Lane = Lane {
-    foot: 346,
-    rise: 70,
-    top: 100,
-    step: 50,
-    room: 96,
-};
-
-// Draws the line of a half second, with its time.
-fn draw_half_second(out: &mut Vec<u8>, k: u32) -> Result<(), OutOfMemory>
-    requires { k < 11 }
-    ensures { OnOk result (out.new.items ≡ out.old.items ++ half_second k) }
+fn throttle_lane(profile: Profile) -> Lane
+    ensures lane { result ≡ throttle_lane profile }
+    ensures within { IsLane result }
 {
-    let x = slot_x(k);
+    Lane {
+        profile,
+        foot: 346,
+        rise: 70,
+        top: 100,
+        step: 50,
+        room: 96,
+    }
+}
+
+// How long before time zero a time of eleven is, in tenths of a second.
+fn tenths_before(profile: Profile, k: u32) -> u32
+    requires { k < 10 }
+    ensures { result ≡ tenths_before profile k }
+{
+    match profile {
+        Profile::Short => 50 - 5 * k,
+        Profile::Long => 200 - 20 * k,
+    }
+}
+
+// Draws the line of a time, with its words.
+fn draw_second_line(out: &mut Vec<u8>, profile: Profile, k: u32) -> Result<(), OutOfMemory>
+    requires { k < 11 }
+    ensures { OnOk result (out.new.items ≡ out.old.items ++ second_line profile k) }
+{
+    let x = time_at(k);
     let (line, class, words) = if k < 10 {
-        (Class::Grid, Class::Centre, Words::Before(50 - 5 * k))
+        (
+            Class::Grid,
+            Class::Centre,
+            Words::Before(tenths_before(profile, k)),
+        )
     } else {
         (Class::Zero, Class::CentreBold, Words::Zero)
     };
@@ -107,20 +129,20 @@ fn draw_half_second(out: &mut Vec<u8>, k: u32) -> Result<(), OutOfMemory>
     )
 }
 
-#[tactic(auto, unfolding(crate::specs::Before::half_seconds))]
-fn draw_half_seconds(out: &mut Vec<u8>) -> Result<(), OutOfMemory>
-    ensures { OnOk result (out.new.items ≡ out.old.items ++ half_seconds) }
+#[tactic(auto, unfolding(crate::specs::Before::second_lines))]
+fn draw_second_lines(out: &mut Vec<u8>, profile: Profile) -> Result<(), OutOfMemory>
+    ensures { OnOk result (out.new.items ≡ out.old.items ++ second_lines profile) }
 {
     for k in 0..11 {
-        draw_half_second(out, k)?;
+        draw_second_line(out, profile, k)?;
     }
     Ok(())
 }
 
 // Draws the frame with its times.
 #[tactic(auto, unfolding(crate::specs::Before::before_frame))]
-fn draw_frame(out: &mut Vec<u8>) -> Result<(), OutOfMemory>
-    ensures { OnOk result (out.new.items ≡ out.old.items ++ before_frame) }
+fn draw_frame(out: &mut Vec<u8>, profile: Profile) -> Result<(), OutOfMemory>
+    ensures { OnOk result (out.new.items ≡ out.old.items ++ before_frame profile) }
 {
     draw(
         out,
@@ -132,13 +154,13 @@ fn draw_frame(out: &mut Vec<u8>) -> Result<(), OutOfMemory>
             class: Class::Plot,
         }],
     )?;
-    draw_half_seconds(out)?;
+    draw_second_lines(out, profile)?;
     draw(
         out,
         &[
             name(522, Class::Plain, Label::TimeInSeconds),
             Element::Text {
-                x: slot_x(10),
+                x: time_at(10),
                 y: 26,
                 class: Class::CentreBold,
                 words: Words::Label(Label::TimeZero),
@@ -148,8 +170,13 @@ fn draw_frame(out: &mut Vec<u8>) -> Result<(), OutOfMemory>
 }
 
 #[tactic(auto, unfolding(crate::specs::Before::before_speed))]
-fn draw_speed(out: &mut Vec<u8>, slots: &[Option<u16>; 11]) -> Result<(), OutOfMemory>
-    ensures { OnOk result (out.new.items ≡ out.old.items ++ before_speed slots.now) }
+fn draw_speed(
+    out: &mut Vec<u8>,
+    profile: Profile,
+    slots: &[Option<u16>],
+) -> Result<(), OutOfMemory>
+    requires { length slots.now ≤ slots_in profile }
+    ensures { OnOk result (out.new.items ≡ out.old.items ++ before_speed profile slots.now) }
 {
     draw(
         out,
@@ -158,7 +185,7 @@ fn draw_speed(out: &mut Vec<u8>, slots: &[Option<u16>; 11]) -> Result<(), OutOfM
             name(152, Class::Plain, Label::Kmh),
         ],
     )?;
-    draw_lane(out, &speed_lane(slots), slots)
+    draw_lane(out, &speed_lane(profile, slots), slots)
 }
 
 fn wide(slot: Option<u8>) -> Option<u16>
@@ -170,28 +197,26 @@ fn wide(slot: Option<u8>) -> Option<u16>
     }
 }
 
-// The same slots as wider numbers.
-fn widened(slots: &[Option<u8>; 11]) -> [Option<u16>; 11]
-    ensures { result ≡ slots.now }
+// The same slots as wider numbers, and absent ones behind them.
+fn widened(slots: &[Option<u8>]) -> [Option<u16>; LONG_SLOTS]
+    requires { length slots.now ≤ 201 }
+    ensures { take (length slots.now) result ≡ slots.now }
 {
-    [
-        wide(slots[0]),
-        wide(slots[1]),
-        wide(slots[2]),
-        wide(slots[3]),
-        wide(slots[4]),
-        wide(slots[5]),
-        wide(slots[6]),
-        wide(slots[7]),
-        wide(slots[8]),
-        wide(slots[9]),
-        wide(slots[10]),
-    ]
+    let mut wider = [None; LONG_SLOTS];
+    for k in 0..slots.len() {
+        wider[k] = wide(slots[k]);
+    }
+    wider
 }
 
-#[tactic(auto, unfolding(crate::specs::Before::before_throttle))]
-fn draw_throttle(out: &mut Vec<u8>, slots: &[Option<u8>; 11]) -> Result<(), OutOfMemory>
-    ensures { OnOk result (out.new.items ≡ out.old.items ++ before_throttle slots.now) }
+#[tactic(auto, using(crate::proofs::SlotLemmas::few_slots), unfolding(crate::specs::Before::before_throttle))]
+fn draw_throttle(
+    out: &mut Vec<u8>,
+    profile: Profile,
+    slots: &[Option<u8>],
+) -> Result<(), OutOfMemory>
+    requires { length slots.now ≤ slots_in profile }
+    ensures { OnOk result (out.new.items ≡ out.old.items ++ before_throttle profile slots.now) }
 {
     draw(
         out,
@@ -201,21 +226,20 @@ fn draw_throttle(out: &mut Vec<u8>, slots: &[Option<u8>; 11]) -> Result<(), OutO
             name(322, Class::Plain, Label::OfFull),
         ],
     )?;
-    draw_lane(out, &THROTTLE_LANE, &widened(slots))
+    let wider = widened(slots);
+    draw_lane(out, &throttle_lane(profile), &wider[..slots.len()])
 }
 
 // Draws the field of a switch.
-fn draw_switch(out: &mut Vec<u8>, k: u32, y: u32, switch: Option<bool>) -> Result<(), OutOfMemory>
-    requires slot { k < 11 }
-    requires place { y ≤ 1_000 }
-    ensures { OnOk result (out.new.items ≡ out.old.items ++ switch_field k y switch) }
+fn draw_switch(out: &mut Vec<u8>, x: u32, y: u32, switch: Option<bool>) -> Result<(), OutOfMemory>
+    requires place { (400 ≤ x) × (x ≤ 30_000) × (y ≤ 1_000) }
+    ensures { OnOk result (out.new.items ≡ out.old.items ++ switch_field x y switch) }
 {
     let (field, class, label) = match switch {
         Some(true) => (Class::On, Class::CentreOn, Label::On),
         Some(false) => (Class::Off, Class::Centre, Label::Off),
         None => (Class::Gap, Class::CentreGap, Label::None),
     };
-    let x = slot_x(k);
     draw(
         out,
         &[
@@ -236,57 +260,164 @@ fn draw_switch(out: &mut Vec<u8>, k: u32, y: u32, switch: Option<bool>) -> Resul
     )
 }
 
-fn draw_brake_slots(out: &mut Vec<u8>, slots: &[Option<bool>; 11]) -> Result<(), OutOfMemory>
+// Draws the field of each slot of a short profile.
+fn draw_short_brake(out: &mut Vec<u8>, slots: &[Option<bool>]) -> Result<(), OutOfMemory>
+    requires { length slots.now ≤ 11 }
     ensures { OnOk result (out.new.items ≡ out.old.items ++ switches 0 slots.now) }
 {
-    for k in 0..11_u32 {
-        draw_switch(out, k, 367, slots[k as usize])?;
+    for k in 0..slots.len() {
+        draw_switch(out, slot_x(Profile::Short, k as u32), 367, slots[k])?;
     }
     Ok(())
 }
 
+// Draws the field of a run of slots that are the same, if there are any.
+fn draw_switch_run(
+    out: &mut Vec<u8>,
+    first: u32,
+    count: u32,
+    switch: Option<bool>,
+) -> Result<(), OutOfMemory>
+    requires { first + count ≤ 201 }
+    ensures { OnOk result (out.new.items ≡ out.old.items ++ switch_run first count switch) }
+{
+    if count == 0 {
+        return Ok(());
+    }
+    let (class, words, label) = match switch {
+        Some(true) => (Class::On, Class::CentreOn, Label::On),
+        Some(false) => (Class::Off, Class::Centre, Label::Off),
+        None => (Class::Gap, Class::CentreGap, Label::None),
+    };
+    let field = Field {
+        y: 367,
+        height: 34,
+        class,
+        words,
+        label,
+    };
+    draw_run(out, first, count, &field)
+}
+
+fn are_same(one: Option<bool>, other: Option<bool>) -> bool
+    ensures { result ≡ are_same one other }
+{
+    match (one, other) {
+        (Some(true), Some(true)) => true,
+        (Some(false), Some(false)) => true,
+        (None, None) => true,
+        _ => false,
+    }
+}
+
+// Draws a field for each run of slots of a long profile that are the same.
+fn draw_long_brake(out: &mut Vec<u8>, slots: &[Option<bool>]) -> Result<(), OutOfMemory>
+    requires { length slots.now ≤ 201 }
+    ensures { OnOk result (out.new.items ≡ out.old.items ++ switch_runs 0 0 None slots.now) }
+{
+    let mut first = 0;
+    let mut count = 0;
+    let mut switch = None;
+    for k in 0..slots.len() {
+        let next = slots[k];
+        if are_same(switch, next) {
+            count += 1;
+        } else {
+            draw_switch_run(out, first, count, switch)?;
+            first += count;
+            count = 1;
+            switch = next;
+        }
+    }
+    draw_switch_run(out, first, count, switch)
+}
+
+// Draws the fields of the slots.
+fn draw_brake_slots(
+    out: &mut Vec<u8>,
+    profile: Profile,
+    slots: &[Option<bool>],
+) -> Result<(), OutOfMemory>
+    requires { length slots.now ≤ slots_in profile }
+    ensures { OnOk result (out.new.items ≡ out.old.items ++ brake_slots profile slots.now) }
+{
+    match profile {
+        Profile::Short => draw_short_brake(out, slots),
+        Profile::Long => draw_long_brake(out, slots),
+    }
+}
+
 #[tactic(auto, unfolding(crate::specs::Before::before_brake))]
-fn draw_brake(out: &mut Vec<u8>, slots: &[Option<bool>; 11]) -> Result<(), OutOfMemory>
-    ensures { OnOk result (out.new.items ≡ out.old.items ++ before_brake slots.now) }
+fn draw_brake(
+    out: &mut Vec<u8>,
+    profile: Profile,
+    slots: &[Option<bool>],
+) -> Result<(), OutOfMemory>
+    requires { length slots.now ≤ slots_in profile }
+    ensures { OnOk result (out.new.items ≡ out.old.items ++ before_brake profile slots.now) }
 {
     draw(
         out,
         &[rule(362), name(393, Class::Bold, Label::ServiceBrake)],
     )?;
-    draw_brake_slots(out, slots)
+    draw_brake_slots(out, profile, slots)
+}
+
+// Where 1 s before time zero stands across.
+fn second_x(profile: Profile) -> u32
+    ensures place { result ≡ second_x profile }
+    ensures range { (400 ≤ result) × (result ≤ 30_000) }
+{
+    match profile {
+        Profile::Short => slot_x(profile, 8),
+        Profile::Long => slot_x(profile, 190),
+    }
 }
 
 // Draws a switch at 1 s before time zero, with its name.
 fn draw_named_switch(
     out: &mut Vec<u8>,
+    profile: Profile,
     y: u32,
     label: Label,
     switch: Option<bool>,
 ) -> Result<(), OutOfMemory>
     requires { y ≤ 900 }
-    ensures { OnOk result (out.new.items ≡ out.old.items ++ named_switch y label switch) }
+    ensures { OnOk result (out.new.items ≡ out.old.items ++ named_switch profile y label switch) }
 {
     draw(out, &[name(y + 26, Class::Bold, label)])?;
-    draw_switch(out, 8, y, switch)
+    draw_switch(out, second_x(profile), y, switch)
 }
 
 #[tactic(auto, unfolding(crate::specs::Before::before_switches))]
 fn draw_switches(
     out: &mut Vec<u8>,
+    profile: Profile,
     belt: Option<bool>,
     lamp: Option<bool>,
 ) -> Result<(), OutOfMemory>
-    ensures { OnOk result (out.new.items ≡ out.old.items ++ before_switches belt lamp) }
+    ensures { OnOk result (out.new.items ≡ out.old.items ++ before_switches profile belt lamp) }
 {
-    draw_named_switch(out, 409, Label::DriverBelt, belt)?;
-    draw_named_switch(out, 451, Label::AirBagLamp, lamp)?;
+    draw_named_switch(out, profile, 409, Label::DriverBelt, belt)?;
+    draw_named_switch(out, profile, 451, Label::AirBagLamp, lamp)?;
     draw(out, &[rule(490)])
 }
 
-#[tactic(auto, unfolding(crate::specs::Before::before_head))]
-fn put_head(out: &mut Vec<u8>, number: u64) -> Result<(), OutOfMemory>
-    ensures { OnOk result (out.new.items ≡ out.old.items ++ before_head number) }
+// What the chart says of its times.
+fn description(profile: Profile) -> (Tag, Tag)
+    ensures { (result.0 ≡ description profile) × (result.1 ≡ described profile) }
 {
+    match profile {
+        Profile::Short => (Tag::BeforeDescription, Tag::BeforeDescribed),
+        Profile::Long => (Tag::LongDescription, Tag::LongDescribed),
+    }
+}
+
+#[tactic(auto, unfolding(crate::specs::Before::before_head))]
+fn put_head(out: &mut Vec<u8>, number: u64, profile: Profile) -> Result<(), OutOfMemory>
+    ensures { OnOk result (out.new.items ≡ out.old.items ++ before_head number profile) }
+{
+    let (description, described) = description(profile);
     put(
         out,
         &[
@@ -298,9 +429,9 @@ fn put_head(out: &mut Vec<u8>, number: u64) -> Result<(), OutOfMemory>
             Piece::Count(number),
             Piece::Tag(Tag::TitleEvent),
             Piece::Count(number),
-            Piece::Tag(Tag::BeforeDescription),
+            Piece::Tag(description),
             Piece::Count(number),
-            Piece::Tag(Tag::BeforeDescribed),
+            Piece::Tag(described),
         ],
     )
 }
@@ -310,11 +441,13 @@ fn put_head(out: &mut Vec<u8>, number: u64) -> Result<(), OutOfMemory>
 pub fn draw_before(out: &mut Vec<u8>, number: u64, pre: &Pre) -> Result<(), OutOfMemory>
     ensures { OnOk result (out.new.items ≡ out.old.items ++ before_chart number pre.now) }
 {
-    put_head(out, number)?;
-    draw_frame(out)?;
-    draw_speed(out, &pre.speed)?;
-    draw_throttle(out, &pre.throttle)?;
-    draw_brake(out, &pre.brake)?;
-    draw_switches(out, pre.belt, pre.lamp)?;
+    let (belt, lamp) = (pre.belt, pre.lamp);
+    let profile = pre.profile();
+    put_head(out, number, profile)?;
+    draw_frame(out, profile)?;
+    draw_speed(out, profile, pre.speed())?;
+    draw_throttle(out, profile, pre.throttle())?;
+    draw_brake(out, profile, pre.brake())?;
+    draw_switches(out, profile, belt, lamp)?;
     put(out, &[Piece::Tag(Tag::ChartEnd)])
 }

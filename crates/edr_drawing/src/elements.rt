@@ -51,6 +51,11 @@ pub enum Element {
         x: u32,
         y: u32,
     },
+    /// A small dot, of many.
+    Point {
+        x: u32,
+        y: u32,
+    },
     Square {
         x: u32,
         y: u32,
@@ -199,6 +204,22 @@ fn put_dot(out: &mut Vec<u8>, x: u32, y: u32) -> Result<(), OutOfMemory>
     )
 }
 
+// Appends a small dot.
+fn put_point(out: &mut Vec<u8>, x: u32, y: u32) -> Result<(), OutOfMemory>
+    ensures { OnOk result (out.new.items ≡ out.old.items ++ element_bytes (Element.Point x y)) }
+{
+    put(
+        out,
+        &[
+            Piece::Mark(Mark::DotX),
+            Piece::Number(x),
+            Piece::Mark(Mark::DotY),
+            Piece::Number(y),
+            Piece::Mark(Mark::PointEnd),
+        ],
+    )
+}
+
 // Appends an open square.
 fn put_square(out: &mut Vec<u8>, x: u32, y: u32) -> Result<(), OutOfMemory>
     ensures { OnOk result (out.new.items ≡ out.old.items ++ element_bytes (Element.Square x y)) }
@@ -271,6 +292,7 @@ fn put_element(out: &mut Vec<u8>, element: Element) -> Result<(), OutOfMemory>
             class,
         } => put_rect(out, (x, y), width, height, class),
         Element::Dot { x, y } => put_dot(out, x, y),
+        Element::Point { x, y } => put_point(out, x, y),
         Element::Square { x, y } => put_square(out, x, y),
         Element::Diamond { x, y, class } => put_diamond(out, x, y, class),
         Element::Flag { x, y } => put_flag(out, x, y),

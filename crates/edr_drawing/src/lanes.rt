@@ -1,18 +1,22 @@
-//! A lane of eleven slots: a path through those that are there, and for each slot its mark or a field that says `none`.
+//! A lane of slots: a path through those that are there, their marks, and fields in the place of those that are absent.
 
 ghost use Rattle.std.specs.Prelude.{◌≡◌, ◌++◌, ◌≤◌, ◌<◌, ◌+◌, ◌*◌, ◌-◌, ◌/◌, false, All, IfSome, OnOk, length};
-ghost use Rattle.edr_drawing.specs.Lanes.{IsLane, lane_y, grid, grid_line, point, points, none_field, cell, cells, drawn_lane};
+ghost use Rattle.edr_record.specs.Bounds.{slots_in};
+ghost use Rattle.edr_drawing.specs.Elements.{drawn};
+ghost use Rattle.edr_drawing.specs.Lanes.{IsLane, lane_y, grid, grid_line, point, points, none_field, cell, cells, run_elements, gap_elements, long_cells, cells_of, drawn_lane};
 
 use crate::elements::{Element, Words, draw};
 use crate::pieces::{Piece, put};
 use crate::scales::{LEFT, RIGHT, slot_x};
 use crate::texts::{Class, Label, Mark};
+use edr_record::Profile;
 use std::alloc::AllocError as OutOfMemory;
 
-/// A lane: where its 0 stands, how far above that its top stands, which value that is, the step between its lines, and
+/// A lane: the profile of its slots, where its 0 stands, how far above that its top stands, which value that is, the step between its lines, and
 /// how much room it has above its foot.
 #[derive(Clone, Copy)]
 pub struct Lane {
+    pub profile: Profile,
     pub foot: u32,
     pub rise: u32,
     pub top: u32,
@@ -78,15 +82,15 @@ fn put_point(
     value: u16,
 ) -> Result<(), OutOfMemory>
     requires lane { IsLane lane.now }
-    requires slot { k < 11 }
-    ensures { OnOk result (out.new.items ≡ out.old.items ++ point lane.now k before value) }
+    requires slot { k < 201 }
+    ensures { OnOk result (out.new.items ≡ out.old.items ++ point lane.now.profile lane.now k before value) }
 {
     let join = if before { Mark::LineTo } else { Mark::MoveTo };
     put(
         out,
         &[
             Piece::Mark(join),
-            Piece::Number(slot_x(k)),
+            Piece::Number(slot_x(lane.profile, k)),
             Piece::Mark(Mark::Space),
             Piece::Number(lane_y(lane, u32::from(value))),
         ],
@@ -94,15 +98,16 @@ fn put_point(
 }
 
 // Appends the points of all slots that are there.
-fn put_points(out: &mut Vec<u8>, lane: &Lane, slots: &[Option<u16>; 11]) -> Result<(), OutOfMemory>
-    requires { IsLane lane.now }
-    ensures { OnOk result (out.new.items ≡ out.old.items ++ points lane.now 0 false slots.now) }
+fn put_points(out: &mut Vec<u8>, lane: &Lane, slots: &[Option<u16>]) -> Result<(), OutOfMemory>
+    requires lane { IsLane lane.now }
+    requires slots { length slots.now ≤ 201 }
+    ensures { OnOk result (out.new.items ≡ out.old.items ++ points lane.now.profile lane.now 0 false slots.now) }
 {
     let mut before = false;
-    for k in 0..11_u32 {
-        match slots[k as usize] {
+    for k in 0..slots.len() {
+        match slots[k] {
             Some(value) => {
-                put_point(out, lane, k, before, value)?;
+                put_point(out, lane, k as u32, before, value)?;
                 before = true;
             }
             None => {
@@ -113,13 +118,13 @@ fn put_points(out: &mut Vec<u8>, lane: &Lane, slots: &[Option<u16>; 11]) -> Resu
     Ok(())
 }
 
-/// Draws the field of an absent slot.
-pub fn draw_none(out: &mut Vec<u8>, k: u32, y: u32, height: u32) -> Result<(), OutOfMemory>
+// Draws the field of an absent slot of a short profile.
+fn draw_none(out: &mut Vec<u8>, k: u32, y: u32, height: u32) -> Result<(), OutOfMemory>
     requires slot { k < 11 }
     requires place { (y ≤ 1_000) × (height ≤ 1_000) }
     ensures { OnOk result (out.new.items ≡ out.old.items ++ none_field k y height) }
 {
-    let x = slot_x(k);
+    let x = slot_x(Profile::Short, k);
     draw(
         out,
         &[
@@ -140,7 +145,7 @@ pub fn draw_none(out: &mut Vec<u8>, k: u32, y: u32, height: u32) -> Result<(), O
     )
 }
 
-// Draws what stands in the place of a slot.
+// Draws what stands in the place of a slot of a short profile.
 fn draw_cell(out: &mut Vec<u8>, lane: &Lane, k: u32, slot: Option<u16>) -> Result<(), OutOfMemory>
     requires lane { IsLane lane.now }
     requires slot { k < 11 }
@@ -149,7 +154,7 @@ fn draw_cell(out: &mut Vec<u8>, lane: &Lane, k: u32, slot: Option<u16>) -> Resul
     let Some(value) = slot else {
         return draw_none(out, k, lane.foot.saturating_sub(lane.room), lane.room);
     };
-    let x = slot_x(k);
+    let x = slot_x(Profile::Short, k);
     let y = lane_y(lane, u32::from(value));
     draw(
         out,
@@ -165,25 +170,120 @@ fn draw_cell(out: &mut Vec<u8>, lane: &Lane, k: u32, slot: Option<u16>) -> Resul
     )
 }
 
-// Draws the mark or the field of each slot.
-fn draw_cells(out: &mut Vec<u8>, lane: &Lane, slots: &[Option<u16>; 11]) -> Result<(), OutOfMemory>
-    requires { IsLane lane.now }
+// Draws the mark or the field of each slot of a short profile.
+fn draw_short(out: &mut Vec<u8>, lane: &Lane, slots: &[Option<u16>]) -> Result<(), OutOfMemory>
+    requires lane { IsLane lane.now }
+    requires slots { length slots.now ≤ 11 }
     ensures { OnOk result (out.new.items ≡ out.old.items ++ cells lane.now 0 slots.now) }
 {
-    for k in 0..11_u32 {
-        draw_cell(out, lane, k, slots[k as usize])?;
+    for k in 0..slots.len() {
+        draw_cell(out, lane, k as u32, slots[k])?;
     }
     Ok(())
 }
 
+/// The place and the looks of the fields of runs of slots.
+#[derive(Clone, Copy)]
+pub struct Field {
+    pub y: u32,
+    pub height: u32,
+    pub class: Class,
+    pub words: Class,
+    pub label: Label,
+}
+
+/// Draws the field of a run of slots of a long profile.
+pub fn draw_run(out: &mut Vec<u8>, first: u32, count: u32, field: &Field) -> Result<(), OutOfMemory>
+    requires run { (1 ≤ count) × (first + count ≤ 201) }
+    requires place { (field.now.y ≤ 1_000) × (field.now.height ≤ 1_000) }
+    ensures { OnOk result (out.new.items ≡ out.old.items ++ drawn
+        (run_elements first count field.now.y field.now.height field.now.class field.now.words field.now.label)) }
+{
+    let x = slot_x(Profile::Long, first);
+    let to_x = slot_x(Profile::Long, first + count - 1);
+    let rect = Element::Rect {
+        x: x - 3,
+        y: field.y,
+        width: (to_x + 6).saturating_sub(x),
+        height: field.height,
+        class: field.class,
+    };
+    if count < 10 {
+        return draw(out, &[rect]);
+    }
+    let text = Element::Text {
+        x: (x + to_x) / 2,
+        y: field.y + field.height / 2 + 9,
+        class: field.words,
+        words: Words::Label(field.label),
+    };
+    draw(out, &[rect, text])
+}
+
+// Draws the field of absent slots, if there are any.
+fn draw_gap(out: &mut Vec<u8>, lane: &Lane, first: u32, count: u32) -> Result<(), OutOfMemory>
+    requires lane { IsLane lane.now }
+    requires run { first + count ≤ 201 }
+    ensures { OnOk result (out.new.items ≡ out.old.items ++ drawn (gap_elements lane.now first count)) }
+{
+    if count == 0 {
+        return Ok(());
+    }
+    let field = Field {
+        y: lane.foot.saturating_sub(lane.room),
+        height: lane.room,
+        class: Class::Gap,
+        words: Class::CentreGap,
+        label: Label::None,
+    };
+    draw_run(out, first, count, &field)
+}
+
+// Draws the marks of a long profile, and a field for each run of absent slots.
+fn draw_long(out: &mut Vec<u8>, lane: &Lane, slots: &[Option<u16>]) -> Result<(), OutOfMemory>
+    requires lane { IsLane lane.now }
+    requires slots { length slots.now ≤ 201 }
+    ensures { OnOk result (out.new.items ≡ out.old.items ++ long_cells lane.now 0 0 slots.now) }
+{
+    let mut first = 0;
+    let mut absent = 0;
+    for k in 0..slots.len() {
+        match slots[k] {
+            Some(value) => {
+                draw_gap(out, lane, first, absent)?;
+                let x = slot_x(Profile::Long, first + absent);
+                let y = lane_y(lane, u32::from(value));
+                draw(out, &[Element::Point { x, y }])?;
+                first = first + absent + 1;
+                absent = 0;
+            }
+            None => absent += 1,
+        }
+    }
+    draw_gap(out, lane, first, absent)
+}
+
+// Draws the marks and fields of the slots.
+fn draw_cells(out: &mut Vec<u8>, lane: &Lane, slots: &[Option<u16>]) -> Result<(), OutOfMemory>
+    requires lane { IsLane lane.now }
+    requires slots { length slots.now ≤ slots_in lane.now.profile }
+    ensures { OnOk result (out.new.items ≡ out.old.items ++ cells_of lane.now.profile lane.now slots.now) }
+{
+    match lane.profile {
+        Profile::Short => draw_short(out, lane, slots),
+        Profile::Long => draw_long(out, lane, slots),
+    }
+}
+
 /// Draws the lane of these slots.
-#[tactic(auto, unfolding(crate::specs::Lanes::drawn_lane))]
+#[tactic(auto, using(crate::proofs::SlotLemmas::few_slots), unfolding(crate::specs::Lanes::drawn_lane))]
 pub fn draw_lane(
     out: &mut Vec<u8>,
     lane: &Lane,
-    slots: &[Option<u16>; 11],
+    slots: &[Option<u16>],
 ) -> Result<(), OutOfMemory>
-    requires { IsLane lane.now }
+    requires lane { IsLane lane.now }
+    requires slots { length slots.now ≤ slots_in lane.now.profile }
     ensures { OnOk result (out.new.items ≡ out.old.items ++ drawn_lane lane.now slots.now) }
 {
     draw_grid(out, lane)?;

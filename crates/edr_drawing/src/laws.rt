@@ -2,13 +2,14 @@
 
 ghost use Rattle.std.specs.Prelude.{◌≡◌, ◌≤◌, ◌<◌, ◌+◌, ℕ, ℤ, false, true, Option, List, All, Contains, int_le};
 ghost use Rattle.edr_record.specs.Parts.{CrashPart};
+ghost use Rattle.edr_record.specs.declared.Profile.{Profile};
 ghost use Rattle.edr_image.specs.declared.Found.{Found};
 ghost use Rattle.edr_image.specs.Reports.{Report};
 ghost use Rattle.edr_report.specs.Lines.{Line};
 ghost use Rattle.edr_report.specs.Report.{events_lines, found_records, run_lines};
 ghost use Rattle.edr_drawing.specs.declared.changes.Scale.{Scale};
 ghost use Rattle.edr_drawing.specs.declared.lanes.Lane.{Lane};
-ghost use Rattle.edr_drawing.specs.Lanes.{lane_y, cells, points};
+ghost use Rattle.edr_drawing.specs.Lanes.{lane_y, cells_of, points};
 ghost use Rattle.edr_drawing.specs.Changes.{change_y, scale_of, span_of, time_x};
 ghost use Rattle.edr_drawing.specs.Tables.{row};
 ghost use Rattle.edr_drawing.specs.Page.{page_bytes};
@@ -24,8 +25,8 @@ pub fn each_line()
 
 /// The marks of a lane are those of the slots that are there, in order, and no other; and so are the points of its path.
 pub fn no_absent()
-    ensures marks { (l : Lane) (vs : List (Option ℕ)) → HasMarks l vs (cells l 0 vs) }
-    ensures path { (l : Lane) (vs : List (Option ℕ)) → HasPoints l vs (points l 0 false vs) }
+    ensures marks { (f : Profile) (l : Lane) (vs : List (Option ℕ)) → HasMarks f l vs (cells_of f l vs) }
+    ensures path { (f : Profile) (l : Lane) (vs : List (Option ℕ)) → HasPoints f l vs (points f l 0 false vs) }
 {}
 
 /// A greater value never stands lower.

@@ -1,16 +1,18 @@
 //! Why a record isn't complete.
 
-ghost use Rattle.std.specs.Prelude.{◌≡◌, ◌++◌, ◌≤◌, ◌+◌, OnOk};
+ghost use Rattle.std.specs.Prelude.{◌≡◌, ◌++◌, ◌≤◌, ◌+◌, OnOk, length};
+ghost use Rattle.edr_record.specs.Bounds.{slots_in};
 ghost use Rattle.edr_drawing.specs.Reasons.{absent_count, slots_reason, switch_reason, ticks_reason, pre_reasons, crash_reasons, reasons};
 
 use crate::changes::window_of;
 use crate::pieces::{Piece, put};
 use crate::tags::Tag;
-use edr_record::{Crash, Pre, Record};
+use edr_record::{Crash, Pre, Profile, Record};
 use std::alloc::AllocError as OutOfMemory;
 
 // How many slots are absent.
-fn absent_count<T>(slots: &[Option<T>; 11]) -> u32
+fn absent_count<T>(slots: &[Option<T>]) -> u32
+    requires { length slots.now ≤ 201 }
     ensures { result ≡ absent_count slots.now }
 {
     let mut absent = 0;
@@ -22,10 +24,25 @@ fn absent_count<T>(slots: &[Option<T>; 11]) -> u32
     absent
 }
 
-// Tells how many slots of a list are absent, if any is.
+// How many slots a list of this profile has.
+fn slots_in(profile: Profile) -> u32
+    ensures { result ≡ slots_in profile }
+{
+    match profile {
+        Profile::Short => 11,
+        Profile::Long => 201,
+    }
+}
+
+// Tells how many slots of a list of so many are absent, if any is.
 #[tactic(auto, unfolding(crate::specs::Reasons::slots_reason))]
-fn put_slots_reason(out: &mut Vec<u8>, tag: Tag, absent: u32) -> Result<(), OutOfMemory>
-    ensures { OnOk result (out.new.items ≡ out.old.items ++ slots_reason tag absent) }
+fn put_slots_reason(
+    out: &mut Vec<u8>,
+    tag: Tag,
+    absent: u32,
+    count: u32,
+) -> Result<(), OutOfMemory>
+    ensures { OnOk result (out.new.items ≡ out.old.items ++ slots_reason tag absent count) }
 {
     if absent == 0 {
         return Ok(());
@@ -35,6 +52,8 @@ fn put_slots_reason(out: &mut Vec<u8>, tag: Tag, absent: u32) -> Result<(), OutO
         &[
             Piece::Tag(tag),
             Piece::Number(absent),
+            Piece::Tag(Tag::OfWindow),
+            Piece::Number(count),
             Piece::Tag(Tag::SlotsAbsent),
         ],
     )
@@ -55,11 +74,13 @@ fn put_switch_reason(out: &mut Vec<u8>, tag: Tag, switch: Option<bool>) -> Resul
 fn put_pre_reasons(out: &mut Vec<u8>, pre: &Pre) -> Result<(), OutOfMemory>
     ensures { OnOk result (out.new.items ≡ out.old.items ++ pre_reasons pre.now) }
 {
-    put_slots_reason(out, Tag::SpeedReason, absent_count(&pre.speed))?;
-    put_slots_reason(out, Tag::ThrottleReason, absent_count(&pre.throttle))?;
-    put_slots_reason(out, Tag::BrakeReason, absent_count(&pre.brake))?;
-    put_switch_reason(out, Tag::BeltAbsent, pre.belt)?;
-    put_switch_reason(out, Tag::LampAbsent, pre.lamp)
+    let (belt, lamp) = (pre.belt, pre.lamp);
+    let count = slots_in(pre.profile());
+    put_slots_reason(out, Tag::SpeedReason, absent_count(pre.speed()), count)?;
+    put_slots_reason(out, Tag::ThrottleReason, absent_count(pre.throttle()), count)?;
+    put_slots_reason(out, Tag::BrakeReason, absent_count(pre.brake()), count)?;
+    put_switch_reason(out, Tag::BeltAbsent, belt)?;
+    put_switch_reason(out, Tag::LampAbsent, lamp)
 }
 
 // Tells how many ticks of the window have no sample, if any has none.

@@ -1,19 +1,33 @@
 //! Where values stand in a chart.
 
 ghost use Rattle.std.specs.Prelude.{◌≡◌, ◌≤◌, ◌<◌, ◌+◌, ◌*◌, All, max, unsigned_abs};
-ghost use Rattle.edr_drawing.specs.Scales.{slot_x, intervals, least_step, scale_top, rise_of, fall_of, below_top};
+ghost use Rattle.edr_drawing.specs.Scales.{time_at, slot_x, intervals, least_step, scale_top, rise_of, fall_of, below_top};
+
+use edr_record::Profile;
 
 /// The left end of a plot, and its width.
 pub const LEFT: u32 = 330;
 
 pub const RIGHT: u32 = 1_830;
 
-/// Where a slot of eleven stands across.
-pub fn slot_x(k: u32) -> u32
+/// Where a time of eleven stands across, the last of which is time zero.
+pub fn time_at(k: u32) -> u32
     requires { k < 11 }
-    ensures { result ≡ slot_x k }
+    ensures { result ≡ time_at k }
 {
     400 + 136 * k
+}
+
+/// Where a slot stands across, the newest of which is at time zero.
+pub fn slot_x(profile: Profile, k: u32) -> u32
+    requires { k < 201 }
+    ensures place { result ≡ slot_x profile k }
+    ensures range { (400 ≤ result) × (result ≤ 30_000) }
+{
+    match profile {
+        Profile::Short => 400 + 136 * k,
+        Profile::Long => 400 + 136 * k / 20,
+    }
 }
 
 /// How many steps reach up to a value.

@@ -1,7 +1,7 @@
 //! The sheet of an event.
 
 ghost use Rattle.std.specs.Prelude.{◌≡◌, ◌++◌, ◌≤◌, ◌+◌, ◌/◌, OnOk, flat_map};
-ghost use Rattle.edr_drawing.specs.Sheets.{yes_no, shown, place_words, hex_digit, hex_byte, digest_hex, sheet_head, facts, sheet_foot, sheet, sheet_if, count_if, sheets};
+ghost use Rattle.edr_drawing.specs.Sheets.{yes_no, profile_tag, shown, place_words, hex_digit, hex_byte, digest_hex, sheet_head, facts, sheet_foot, sheet, sheet_if, count_if, sheets};
 
 use crate::before::draw_before;
 use crate::pieces::{Piece, put};
@@ -10,7 +10,7 @@ use crate::rows::draw_after;
 use crate::tables::{put_elements, put_points_table};
 use crate::tags::Tag;
 use edr_image::{BankView, Found};
-use edr_record::{Key, Place, Record};
+use edr_record::{Key, Place, Profile, Record};
 use std::alloc::{AllocError as OutOfMemory, Global};
 
 pub fn yes_no(b: bool) -> Tag
@@ -93,15 +93,25 @@ fn put_head(out: &mut Vec<u8>, number: u64, complete: bool) -> Result<(), OutOfM
     )
 }
 
+fn profile_tag(profile: Profile) -> Tag
+    ensures { result ≡ profile_tag profile }
+{
+    match profile {
+        Profile::Short => Tag::Short,
+        Profile::Long => Tag::Long,
+    }
+}
+
 #[tactic(auto, unfolding(crate::specs::Sheets::facts))]
 fn put_facts(
     out: &mut Vec<u8>,
     bank: u8,
     key: Key,
     locked: bool,
+    profile: Profile,
     place: Place,
 ) -> Result<(), OutOfMemory>
-    ensures { OnOk result (out.new.items ≡ out.old.items ++ facts bank key locked place) }
+    ensures { OnOk result (out.new.items ≡ out.old.items ++ facts bank key locked profile place) }
 {
     put(
         out,
@@ -114,6 +124,8 @@ fn put_facts(
             Piece::Number(u32::from(bank)),
             Piece::Tag(Tag::FactsLocked),
             Piece::Tag(yes_no(locked)),
+            Piece::Tag(Tag::FactsProfile),
+            Piece::Tag(profile_tag(profile)),
             Piece::Tag(Tag::FactsPlace),
         ],
     )?;
@@ -150,9 +162,10 @@ fn put_sheet(
     ensures { OnOk result (out.new.items ≡ out.old.items ++ sheet number bank event.now digest.now) }
 {
     put_head(out, number, event.complete())?;
-    put_facts(out, bank, event.pre.key, event.locked, event.pre.place)?;
+    let pre = &event.pre;
+    put_facts(out, bank, pre.key, event.locked, pre.profile(), pre.place)?;
     put_reasons(out, event)?;
-    draw_before(out, number, &event.pre)?;
+    draw_before(out, number, pre)?;
     draw_after(out, number, &event.crash)?;
     put_points_table(out, &event.crash)?;
     put_elements(out, alloc, number, bank, event)?;

@@ -2,7 +2,7 @@
 
 use crate::page;
 use edr_image::{Ack, Applied, BankView, CycleReport, Found, Kind, Log};
-use edr_record::{Key, Place, Pre, Record};
+use edr_record::{Key, Place, Pre, Record, Slots};
 use sha2::{Digest, Sha256};
 use std::alloc::{AllocError, Global};
 use std::process::Abort;
@@ -16,6 +16,7 @@ fn before_a_cut() -> Pre {
             zero: 4311,
         },
         place: Place::First,
+        slots: Slots::Short {
         speed: [
             None,
             None,
@@ -55,6 +56,7 @@ fn before_a_cut() -> Pre {
             Some(true),
             Some(true),
         ],
+        },
         belt: None,
         lamp: Some(false),
     }

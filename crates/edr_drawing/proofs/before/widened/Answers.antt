@@ -1,14 +1,13 @@
-use Rattle.std.proofs.Common.{◌≡◌, refl, sym, ℕ, Option, None, List, [], ◌∷◌, length, get_or}
-use Rattle.std.proofs.lemmas.List.FromFn.{fill_by_all}
+use Rattle.std.proofs.Common.{arith, ◌≡◌, ◌∙◌, sym, ap, ℕ, ◌+◌, ◌<◌, List, Option, [], ◌∷◌, ◌++◌, length, take}
+use Rattle.std.proofs.lemmas.List.{take_more, take_more_set, length-set}
 use Rattle.edr_drawing.proofs.before.widened.Goals as goal
 
--- eleven slots, each read by its place, are the list of them
-eleven : (xs : List (Option ℕ)) → length xs ≡ 11 →
-    get_or xs 0 None ∷ get_or xs 1 None ∷ get_or xs 2 None ∷ get_or xs 3 None ∷ get_or xs 4 None ∷ get_or xs 5 None
-    ∷ get_or xs 6 None ∷ get_or xs 7 None ∷ get_or xs 8 None ∷ get_or xs 9 None ∷ get_or xs 10 None ∷ []
-    ≡ xs
-eleven xs count = sym (fill_by_all (λ (k : ℕ). get_or xs k None) xs 11 None count (λ k within. refl))
-
-pub returns : goal.returns
-returns c =
-    rw (c.wide.ensures, c.wide-2.ensures, c.wide-3.ensures, c.wide-4.ensures, c.wide-5.ensures, c.wide-6.ensures) (rw (c.wide-7.ensures, c.wide-8.ensures, c.wide-9.ensures, c.wide-10.ensures, c.wide-11.ensures) (eleven c.args.slots.now c.told-slots))
+pub loop-k-preserved : goal.loop-k-preserved
+loop-k-preserved c =
+    let at = c.loop-k in
+    let inside : at.k < length at.wider = omega (arith, at.invariant.1, c.requires, c.loop-k-test.true) in
+    (
+      take_more_set at.wider at.k _ inside ∙ ap (λ (vs : List (Option ℕ)). vs ++ c.wide.result ∷ []) at.invariant.0
+      ∙ ap (λ (v : Option ℕ). take at.k c.args.slots.now ++ v ∷ []) c.wide.ensures ∙ sym (take_more c.args.slots.now at.k _ c.loop-k-test.true),
+      length-set at.wider at.k _ ∙ at.invariant.1,
+    )

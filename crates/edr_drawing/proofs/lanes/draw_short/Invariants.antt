@@ -1,6 +1,6 @@
 use Rattle.std.proofs.Common.{◌≡◌, ◌++◌, drop}
 use Rattle.edr_drawing.specs.Lanes.{cells}
-use Rattle.edr_drawing.proofs.lanes.draw_cells.Given as goal
+use Rattle.edr_drawing.proofs.lanes.draw_short.Given as goal
 
 -- what is left gives the rest
 abbrev pub invariant-loop-k : goal.invariant-loop-k

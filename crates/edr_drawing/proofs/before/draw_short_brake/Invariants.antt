@@ -1,6 +1,6 @@
 use Rattle.std.proofs.Common.{◌≡◌, ◌++◌, drop}
 use Rattle.edr_drawing.specs.Before.{switches}
-use Rattle.edr_drawing.proofs.before.draw_brake_slots.Given as goal
+use Rattle.edr_drawing.proofs.before.draw_short_brake.Given as goal
 
 -- what is left gives the rest
 abbrev pub invariant-loop-k : goal.invariant-loop-k
