@@ -57,11 +57,10 @@ long_marks l k n (None ∷ vs) =
 long_marks l k n (Some v ∷ vs) =
     let next : k + n + 1 + 0 ≡ k + n + 1 = omega arith in
     let rest = subst (λ (j : ℕ). Marks Long l j vs (long_cells l (k + n + 1) 0 vs)) next (long_marks l (k + n + 1) 0 vs) in
-    let dot = element.Point (slot_x Long (k + n)) (lane_y l v) in
-    (
+    let dot = element.Point (slot_x Long (k + n)) (lane_y l v) in (
       gap_elements l k n ++ dot ∷ rest.0,
       append_assoc (drawn (gap_elements l k n)) (drawn (dot ∷ [])) (long_cells l (k + n + 1) 0 vs)
-      ∙ drawn_behind (gap_elements l k n) (drawn (dot ∷ []) ++ long_cells l (k + n + 1) 0 vs) (dot ∷ rest.0) (drawn_behind (dot ∷ []) (long_cells l (k + n + 1) 0 vs) rest.0 rest.1),
+          ∙ drawn_behind (gap_elements l k n) (drawn (dot ∷ []) ++ long_cells l (k + n + 1) 0 vs) (dot ∷ rest.0) (drawn_behind (dot ∷ []) (long_cells l (k + n + 1) 0 vs) rest.0 rest.1),
       no_mark l k n (dot ∷ rest.0) ∙ ap (λ (xs : List Element). dot ∷ xs) rest.2,
     )
 

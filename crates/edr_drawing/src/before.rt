@@ -170,11 +170,7 @@ fn draw_frame(out: &mut Vec<u8>, profile: Profile) -> Result<(), OutOfMemory>
 }
 
 #[tactic(auto, unfolding(crate::specs::Before::before_speed))]
-fn draw_speed(
-    out: &mut Vec<u8>,
-    profile: Profile,
-    slots: &[Option<u16>],
-) -> Result<(), OutOfMemory>
+fn draw_speed(out: &mut Vec<u8>, profile: Profile, slots: &[Option<u16>]) -> Result<(), OutOfMemory>
     requires { length slots.now ≤ slots_in profile }
     ensures { OnOk result (out.new.items ≡ out.old.items ++ before_speed profile slots.now) }
 {

@@ -277,11 +277,7 @@ fn draw_cells(out: &mut Vec<u8>, lane: &Lane, slots: &[Option<u16>]) -> Result<(
 
 /// Draws the lane of these slots.
 #[tactic(auto, using(crate::proofs::SlotLemmas::few_slots), unfolding(crate::specs::Lanes::drawn_lane))]
-pub fn draw_lane(
-    out: &mut Vec<u8>,
-    lane: &Lane,
-    slots: &[Option<u16>],
-) -> Result<(), OutOfMemory>
+pub fn draw_lane(out: &mut Vec<u8>, lane: &Lane, slots: &[Option<u16>]) -> Result<(), OutOfMemory>
     requires lane { IsLane lane.now }
     requires slots { length slots.now ≤ slots_in lane.now.profile }
     ensures { OnOk result (out.new.items ≡ out.old.items ++ drawn_lane lane.now slots.now) }

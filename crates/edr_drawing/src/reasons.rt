@@ -36,12 +36,7 @@ fn slots_in(profile: Profile) -> u32
 
 // Tells how many slots of a list of so many are absent, if any is.
 #[tactic(auto, unfolding(crate::specs::Reasons::slots_reason))]
-fn put_slots_reason(
-    out: &mut Vec<u8>,
-    tag: Tag,
-    absent: u32,
-    count: u32,
-) -> Result<(), OutOfMemory>
+fn put_slots_reason(out: &mut Vec<u8>, tag: Tag, absent: u32, count: u32) -> Result<(), OutOfMemory>
     ensures { OnOk result (out.new.items ≡ out.old.items ++ slots_reason tag absent count) }
 {
     if absent == 0 {
@@ -77,7 +72,12 @@ fn put_pre_reasons(out: &mut Vec<u8>, pre: &Pre) -> Result<(), OutOfMemory>
     let (belt, lamp) = (pre.belt, pre.lamp);
     let count = slots_in(pre.profile());
     put_slots_reason(out, Tag::SpeedReason, absent_count(pre.speed()), count)?;
-    put_slots_reason(out, Tag::ThrottleReason, absent_count(pre.throttle()), count)?;
+    put_slots_reason(
+        out,
+        Tag::ThrottleReason,
+        absent_count(pre.throttle()),
+        count,
+    )?;
     put_slots_reason(out, Tag::BrakeReason, absent_count(pre.brake()), count)?;
     put_switch_reason(out, Tag::BeltAbsent, belt)?;
     put_switch_reason(out, Tag::LampAbsent, lamp)

@@ -118,8 +118,7 @@ impl Tag {
             Tag::BeforeDescription => ", the five seconds before time zero</title>\n<desc id=\"p",
             Tag::BeforeDescribed =>
                 "d\">Speed, throttle and service brake at each half second, driver belt and warning lamp one second before time zero. The table of elements has all values.</desc>\n",
-            Tag::LongDescription =>
-                ", the twenty seconds before time zero</title>\n<desc id=\"p",
+            Tag::LongDescription => ", the twenty seconds before time zero</title>\n<desc id=\"p",
             Tag::LongDescribed =>
                 "d\">Speed, throttle and service brake at each tenth of a second, driver belt and warning lamp one second before time zero. The table of elements has all values.</desc>\n",
             Tag::ChartEnd => "</svg>\n",

@@ -2,7 +2,7 @@
 
 use crate::page;
 use edr_image::{Ack, Applied, BankView, CycleReport, Found, Kind, Log};
-use edr_record::{Key, Place, Pre, Record, Slots};
+use edr_record::{Key, LONG_SLOTS, Place, Pre, Record, Slots};
 use sha2::{Digest, Sha256};
 use std::alloc::{AllocError, Global};
 use std::process::Abort;
@@ -17,48 +17,66 @@ fn before_a_cut() -> Pre {
         },
         place: Place::First,
         slots: Slots::Short {
-        speed: [
-            None,
-            None,
-            None,
-            Some(44),
-            Some(45),
-            Some(45),
-            None,
-            Some(46),
-            Some(47),
-            Some(47),
-            Some(48),
-        ],
-        throttle: [
-            None,
-            None,
-            None,
-            Some(20),
-            Some(20),
-            Some(20),
-            Some(20),
-            Some(20),
-            Some(20),
-            Some(20),
-            Some(20),
-        ],
-        brake: [
-            None,
-            None,
-            None,
-            Some(false),
-            Some(false),
-            Some(false),
-            Some(false),
-            Some(false),
-            Some(false),
-            Some(true),
-            Some(true),
-        ],
+            speed: [
+                None,
+                None,
+                None,
+                Some(44),
+                Some(45),
+                Some(45),
+                None,
+                Some(46),
+                Some(47),
+                Some(47),
+                Some(48),
+            ],
+            throttle: [
+                None,
+                None,
+                None,
+                Some(20),
+                Some(20),
+                Some(20),
+                Some(20),
+                Some(20),
+                Some(20),
+                Some(20),
+                Some(20),
+            ],
+            brake: [
+                None,
+                None,
+                None,
+                Some(false),
+                Some(false),
+                Some(false),
+                Some(false),
+                Some(false),
+                Some(false),
+                Some(true),
+                Some(true),
+            ],
         },
         belt: None,
         lamp: Some(false),
+    }
+}
+
+// What stood in the 20 s before one.
+fn long_before_a_cut() -> Pre {
+    Pre {
+        key: Key {
+            cycle: 1,
+            zero: 26_003,
+        },
+        place: Place::First,
+        slots: Slots::Long {
+            speed: [Some(50); LONG_SLOTS],
+            throttle: [None; LONG_SLOTS],
+            brake: [Some(true); LONG_SLOTS],
+        },
+        belt: None,
+        lamp: Some(true),
     }
 }
 
@@ -109,17 +127,32 @@ fn is_known(
 }
 
 const POWER_CUT: Known = Known {
-    size: 1046,
+    size: 1072,
     report: [
-        0x5d, 0xbb, 0xe7, 0x60, 0x83, 0x90, 0x77, 0x35, 0xf7, 0xb7, 0x85, 0xd1, 0x02, 0xf1, 0x0c,
-        0x4d, 0xa7, 0x9b, 0xf2, 0x2b, 0xa0, 0xc7, 0x78, 0x88, 0xcd, 0xc3, 0xb3, 0xad, 0xfb, 0x25,
-        0x80, 0xbd,
+        0xb1, 0xb8, 0xc2, 0x07, 0xe8, 0x2a, 0xd7, 0xd0, 0x56, 0xfc, 0x12, 0x94, 0x72, 0x0b, 0xca,
+        0x8e, 0xc7, 0x9d, 0x6c, 0x4c, 0xa1, 0x26, 0x82, 0x31, 0x20, 0x88, 0x05, 0x92, 0x01, 0xc9,
+        0x9b, 0x7d,
     ],
-    len: 15207,
+    len: 15309,
     page: [
-        0xc4, 0xf3, 0x3e, 0xdb, 0x8c, 0x57, 0x45, 0xbc, 0x84, 0xda, 0xc5, 0x04, 0x0a, 0x8b, 0x18,
-        0xe2, 0x7d, 0xd0, 0x0e, 0x41, 0xe7, 0xa4, 0x8b, 0x9c, 0x47, 0x86, 0xac, 0xe2, 0x14, 0xe1,
-        0xfb, 0x89,
+        0x1b, 0x01, 0xf6, 0xdf, 0xbf, 0x1c, 0xd0, 0x63, 0xe1, 0x71, 0xe9, 0x04, 0x29, 0x4d, 0xfc,
+        0xa7, 0x41, 0x26, 0x40, 0xfd, 0xcf, 0xc8, 0xf1, 0x00, 0xd3, 0xf3, 0x56, 0x5d, 0xef, 0xb7,
+        0x22, 0xad,
+    ],
+};
+
+const LONG: Known = Known {
+    size: 3127,
+    report: [
+        0x2c, 0xc0, 0x56, 0x55, 0xd0, 0xf3, 0xe6, 0x89, 0xc8, 0xc8, 0xe3, 0xf5, 0x19, 0xf0, 0xbc,
+        0x8e, 0x8f, 0x70, 0x2e, 0x2f, 0xf7, 0x2a, 0x88, 0x57, 0x92, 0xf7, 0xa6, 0xaf, 0x47, 0x5f,
+        0x0d, 0xed,
+    ],
+    len: 24950,
+    page: [
+        0xad, 0xf3, 0xea, 0x20, 0xb5, 0x5d, 0x0e, 0x1a, 0x2c, 0x70, 0x8b, 0x03, 0x88, 0x64, 0x1d,
+        0xaf, 0x37, 0x56, 0xff, 0xf8, 0x60, 0x14, 0xfe, 0x6d, 0xee, 0xbc, 0x62, 0x6f, 0xba, 0x7f,
+        0x63, 0x46,
     ],
 };
 
@@ -138,5 +171,21 @@ fn an_event_without_its_end_says_so(rt: HostRuntime) -> Result<(), Fail> {
     let view = BankView::Event(record);
     let found = [Found { bank: 1, view }];
     assert!(rt; is_known(rt.alloc(), &run, &found, 1, &POWER_CUT)?);
+    Ok(())
+}
+
+#[test]
+fn the_lists_of_a_long_profile_are_drawn_without_numbers(rt: HostRuntime) -> Result<(), Fail> {
+    let run = [ran(
+        rt.alloc(),
+        &[ack(26_020, Kind::Take, Applied::Kept { bank: 1 })],
+    )?];
+    let view = BankView::Event(Record {
+        pre: long_before_a_cut(),
+        locked: false,
+        crash: None,
+    });
+    let found = [Found { bank: 1, view }];
+    assert!(rt; is_known(rt.alloc(), &run, &found, 1, &LONG)?);
     Ok(())
 }

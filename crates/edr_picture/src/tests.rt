@@ -8,6 +8,7 @@ use crate::status::Status;
 use edr_device::{MemSink, MemSource};
 use edr_reading::RowFault;
 use sha2::{Digest, Sha256};
+use std::alloc::{AllocError, Global};
 use std::process::Abort;
 use std::test::Fail;
 
@@ -213,4 +214,38 @@ fn a_long_slide_is_drawn(rt: HostRuntime) -> Result<(), Fail> {
 #[test]
 fn two_events_are_drawn(rt: HostRuntime) -> Result<(), Fail> {
     check_page(&rt, reports::TWO_EVENTS, &reports::TWO_EVENTS_PAGE)
+}
+
+// Appends slots that are the same, each behind a space or, the first one of a list, behind the name of its row.
+fn push_slots(out: &mut Vec<u8>, slot: &[u8], count: usize) -> Result<(), AllocError> {
+    for _ in 0..count {
+        out.extend_from_slice(slot)?;
+    }
+    Ok(())
+}
+
+// A report of a long profile in which some slots are absent.
+fn long_report(alloc: Global) -> Result<Vec<u8>, AllocError> {
+    let mut out = Vec::new(alloc);
+    out.extend_from_slice(reports::LONG_FRONT)?;
+    out.extend_from_slice(b"1,\"speed, km/h\",none")?;
+    push_slots(&mut out, b" none", 29)?;
+    push_slots(&mut out, b" 60", 100)?;
+    push_slots(&mut out, b" none", 5)?;
+    push_slots(&mut out, b" 0", 66)?;
+    out.extend_from_slice(b"\n1,\"throttle, %\",20")?;
+    push_slots(&mut out, b" 20", 149)?;
+    push_slots(&mut out, b" 0", 51)?;
+    out.extend_from_slice(b"\n1,service brake,none")?;
+    push_slots(&mut out, b" none", 8)?;
+    push_slots(&mut out, b" off", 141)?;
+    push_slots(&mut out, b" on", 51)?;
+    out.extend_from_slice(b"\n")?;
+    out.extend_from_slice(reports::LONG_BACK)?;
+    Ok(out)
+}
+
+#[test]
+fn a_long_profile_is_drawn(rt: HostRuntime) -> Result<(), Fail> {
+    check_page(&rt, long_report(rt.alloc())?.as_slice(), &reports::LONG_PAGE)
 }
