@@ -1,5 +1,5 @@
 -- What a new image says.
-use Rattle.std.proofs.Common.{◌≡◌, ◌⊎◌, ◌≤◌, ◌<◌, ◌+◌, ◌-◌, ◌++◌, ◌||◌, ◌∙◌, ℕ, zero, suc, false, List, length, map, drop, length-append, length-drop, inl, inr, ⊎_elim, replicate, slice_index, nat_eq, Some, None, Result, Ok, Err, OnOk, refl, sym, ap, subst, arith}
+use Rattle.std.proofs.Common.{◌≡◌, ◌⊎◌, ◌≤◌, ◌<◌, ◌+◌, ◌-◌, ◌++◌, ◌||◌, ◌∙◌, ℕ, zero, suc, false, List, length, map, drop, length-append, inl, inr, ⊎_elim, replicate, slice_index, nat_eq, Some, None, Result, Ok, Err, OnOk, refl, sym, ap, subst, arith}
 use Rattle.std.specs.Prelude.{cond, nat_lt, slice_range}
 use Rattle.std.specs.List.{range_with_len}
 use Rattle.std.proofs.lemmas.Grind.{common_steps}
@@ -15,7 +15,7 @@ use Rattle.edr_banks.specs.Formatting.{IsNew, IsPartlyFormatted, formatted, new_
 use Rattle.edr_banks.proofs.NewImage.{new_image_size, zeros_behind}
 use Rattle.edr_layout.proofs.NewFront.{front, new_image_is}
 use Rattle.edr_banks.proofs.LaidPieces.{over_size, over_there}
-use Rattle.edr_banks.specs.Laying.{IsOver, IsPartlyLaid, IsPartlyOver, LacksMagic, over}
+use Rattle.edr_banks.specs.Laying.{IsOver, IsPartlyOver, LacksMagic, over}
 
 few_banks : (n : ℕ) → 2 ≤ n → n ≤ 16 → (nat_lt n 2 || nat_lt 16 n) ≡ false
 few_banks n low high = grind (arith, nat_tests)

@@ -210,11 +210,7 @@ fn older_event_gives_way_and_the_newer_stands_last(rt: HostRuntime) -> Result<()
 }
 
 // The answer to a command, of which no more is said here.
-fn answer<N: Nvm>(
-    banks: &mut Banks,
-    nvm: &mut N,
-    command: &Command,
-) -> Result<Applied, ApplyFault>
+fn answer<N: Nvm>(banks: &mut Banks, nvm: &mut N, command: &Command) -> Result<Applied, ApplyFault>
     requires { image_size banks.old.store.header.banks ≤ N.extent nvm.old }
     ensures header { banks.new.store.header ≡ banks.old.store.header }
     ensures size { N.extent nvm.new ≡ N.extent nvm.old }
@@ -229,7 +225,10 @@ fn late_lock_under_keep(rt: HostRuntime) -> Result<(), Fail> {
     keep_event(&mut banks, &mut memory, 1, false, crash()?)?;
     keep_event(&mut banks, &mut memory, 2, false, crash()?)?;
     let take = Command::Take { pre: pre(3) };
-    assert_eq!(rt; answer(&mut banks, &mut memory, &take), Ok(Applied::NotKept));
+    assert_eq!(rt;
+        answer(&mut banks, &mut memory, &take),
+        Ok(Applied::NotKept)
+    );
     let lock = Command::Lock { pre: pre(3) };
     assert_eq!(rt;
         answer(&mut banks, &mut memory, &lock),

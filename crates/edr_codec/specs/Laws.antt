@@ -1,5 +1,5 @@
 -- What the laws of the two parts say of their bytes.
-use Rattle.std.specs.Prelude.{◌≡◌, ◌<◌, ◌+◌, ◌↔◌, ℕ, List, Option, Some, None, length, All, option_map, slice_index, slice_range}
+use Rattle.std.specs.Prelude.{◌≡◌, ◌<◌, ◌+◌, ◌↔◌, ℕ, List, Option, Some, None, length, All, option_map, slice_range}
 use Rattle.edr_record.specs.Parts.{PrePart, CrashPart}
 use Rattle.edr_record.specs.Bounds.{IsCrash}
 use Rattle.edr_image.specs.declared.forms.CrashForm.{CrashForm}

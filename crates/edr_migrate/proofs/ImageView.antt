@@ -7,7 +7,7 @@ use Rattle.std.proofs.lemmas.Bool.{eqb-true}
 use Rattle.std.proofs.lemmas.List.FromFn.{get_or-map-range_with_len}
 use Rattle.byteorder.specs.Endian.{big_bytes}
 use Rattle.edr_image.specs.declared.BankView.{BankView}
-use Rattle.edr_image.specs.declared.BankView.TheVariants.{Void, Event, Damaged}
+use Rattle.edr_image.specs.declared.BankView.TheVariants.{Void}
 use Rattle.edr_image.specs.declared.Header.{Header}
 use Rattle.edr_image.specs.declared.places.TheConstants.{BANK_SIZE}
 use Rattle.edr_image.specs.Image.{View, bank_view, banks_of, count_of, header_of, image_size, place_of, slot_count, view_by, view_of}

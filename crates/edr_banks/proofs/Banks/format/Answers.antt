@@ -1,6 +1,6 @@
 -- What a laying of a new image leaves.
-use Rattle.std.proofs.Common.{refl, arith, length, ℕ, ◌≤◌, List}
-use Rattle.edr_device.proofs.Settling.{elapses_more, map_ok}
+use Rattle.std.proofs.Common.{refl, arith, length, ◌≤◌}
+use Rattle.edr_device.proofs.Settling.{elapses_more}
 use Rattle.edr_image.specs.declared.Header.{Header}
 use Rattle.edr_image.specs.Image.{image_size, new_image}
 use Rattle.edr_banks.specs.Formatting.{IsPartlyFormatted, formatted}

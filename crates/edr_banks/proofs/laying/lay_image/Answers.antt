@@ -1,5 +1,5 @@
 -- Each piece stands behind those before it.
-use Rattle.std.proofs.Common.{◌≡◌, ◌≤◌, ◌+◌, ◌*◌, arith, rules, subst, take, drop, length, ℕ}
+use Rattle.std.proofs.Common.{◌≡◌, ◌≤◌, ◌+◌, arith, rules, subst, take, drop, length, ℕ}
 use Rattle.edr_device.specs.Device.{MayLeave, outside}
 use Rattle.edr_image.specs.declared.places.TheConstants.{BANK_SIZE}
 use Rattle.edr_image.specs.Image.{image_size, place_of}
