@@ -1,11 +1,11 @@
 -- Where the points of a crash part stand.
-use Rattle.std.proofs.Common.{arith, ◌≡◌, refl, ℕ, ◌+◌, ◌-◌, ◌*◌, ◌/◌, ◌<◌, ◌≤◌, max, ℤ, pos, negsuc, Bool, true, false, ◌&&◌, nat_eq, if◌then◌else◌, List, [], ◌∷◌, All}
+use Rattle.std.proofs.Common.{arith, ◌≡◌, refl, ℕ, ◌+◌, ◌*◌, ◌/◌, ◌≤◌, max, ℤ, pos, negsuc, Bool, true, false, ◌&&◌, nat_eq, if◌then◌else◌, List, [], ◌∷◌, All}
 use Rattle.std.proofs.Math.Nat.{mul-le-mul_right, div-le_of_le-mul}
 use Rattle.std.proofs.lemmas.List.Elements.{All-nil, All-cons, All-weaker}
 use Rattle.edr_record.specs.Parts.{CrashPart}
 use Rattle.edr_drawing.specs.declared.changes.Scale.{Scale}
-use Rattle.edr_drawing.specs.Scales.{rise_of, fall_of, below_top, intervals, scale_top, least_step}
-use Rattle.edr_drawing.specs.Changes.{highest, lowest, reach_up, reach_down, step_of, part_of, scale_of, span_of, change_y, time_x}
+use Rattle.edr_drawing.specs.Scales.{rise_of, fall_of, below_top, scale_top}
+use Rattle.edr_drawing.specs.Changes.{highest, lowest, reach_up, reach_down, step_of, part_of, scale_of, span_of, time_x}
 use Rattle.edr_drawing.specs.Laws.{StandsIn}
 
 -- a change that the scale reaches

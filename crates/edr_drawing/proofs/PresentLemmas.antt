@@ -11,7 +11,7 @@ use Rattle.edr_drawing.specs.declared.elements.Element.{Element}
 use Rattle.edr_drawing.specs.declared.elements.Element.TheVariants as element
 use Rattle.edr_drawing.specs.Elements.{element_bytes, drawn}
 use Rattle.edr_drawing.specs.Scales.{slot_x}
-use Rattle.edr_drawing.specs.Lanes.{lane_y, cell, cells, gap_elements, long_cells, cells_of, point, points}
+use Rattle.edr_drawing.specs.Lanes.{lane_y, cells, gap_elements, long_cells, cells_of, point, points}
 use Rattle.edr_drawing.specs.Laws.{present, mark_of, is_mark, HasMarks}
 
 -- two elements more

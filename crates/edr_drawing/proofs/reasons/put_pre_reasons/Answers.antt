@@ -1,5 +1,4 @@
-use Rattle.std.proofs.Common.{arith, refl, ◌≤◌, length}
-use Rattle.edr_record.specs.Bounds.{slots_in}
+use Rattle.std.proofs.Common.{arith, refl}
 use Rattle.edr_drawing.proofs.SlotLemmas.{few_slots, speed_fills, throttle_fills, brake_fills}
 use Rattle.edr_drawing.proofs.reasons.put_pre_reasons.Goals as goal
 
