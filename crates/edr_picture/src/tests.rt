@@ -247,5 +247,9 @@ fn long_report(alloc: Global) -> Result<Vec<u8>, AllocError> {
 
 #[test]
 fn a_long_profile_is_drawn(rt: HostRuntime) -> Result<(), Fail> {
-    check_page(&rt, long_report(rt.alloc())?.as_slice(), &reports::LONG_PAGE)
+    check_page(
+        &rt,
+        long_report(rt.alloc())?.as_slice(),
+        &reports::LONG_PAGE,
+    )
 }
