@@ -83,7 +83,8 @@ fn put_point(
 ) -> Result<(), OutOfMemory>
     requires lane { IsLane lane.now }
     requires slot { k < 201 }
-    ensures { OnOk result (out.new.items ≡ out.old.items ++ point lane.now.profile lane.now k before value) }
+    ensures { OnOk result (out.new.items
+        ≡ out.old.items ++ point lane.now.profile lane.now k before value) }
 {
     let join = if before { Mark::LineTo } else { Mark::MoveTo };
     put(
@@ -101,7 +102,8 @@ fn put_point(
 fn put_points(out: &mut Vec<u8>, lane: &Lane, slots: &[Option<u16>]) -> Result<(), OutOfMemory>
     requires lane { IsLane lane.now }
     requires slots { length slots.now ≤ 201 }
-    ensures { OnOk result (out.new.items ≡ out.old.items ++ points lane.now.profile lane.now 0 false slots.now) }
+    ensures { OnOk result (out.new.items
+        ≡ out.old.items ++ points lane.now.profile lane.now 0 false slots.now) }
 {
     let mut before = false;
     for k in 0..slots.len() {
@@ -197,7 +199,8 @@ pub fn draw_run(out: &mut Vec<u8>, first: u32, count: u32, field: &Field) -> Res
     requires run { (1 ≤ count) × (first + count ≤ 201) }
     requires place { (field.now.y ≤ 1_000) × (field.now.height ≤ 1_000) }
     ensures { OnOk result (out.new.items ≡ out.old.items ++ drawn
-        (run_elements first count field.now.y field.now.height field.now.class field.now.words field.now.label)) }
+        (run_elements first count field.now.y field.now.height
+        field.now.class field.now.words field.now.label)) }
 {
     let x = slot_x(Profile::Long, first);
     let to_x = slot_x(Profile::Long, first + count - 1);
@@ -267,7 +270,8 @@ fn draw_long(out: &mut Vec<u8>, lane: &Lane, slots: &[Option<u16>]) -> Result<()
 fn draw_cells(out: &mut Vec<u8>, lane: &Lane, slots: &[Option<u16>]) -> Result<(), OutOfMemory>
     requires lane { IsLane lane.now }
     requires slots { length slots.now ≤ slots_in lane.now.profile }
-    ensures { OnOk result (out.new.items ≡ out.old.items ++ cells_of lane.now.profile lane.now slots.now) }
+    ensures { OnOk result (out.new.items
+        ≡ out.old.items ++ cells_of lane.now.profile lane.now slots.now) }
 {
     match lane.profile {
         Profile::Short => draw_short(out, lane, slots),

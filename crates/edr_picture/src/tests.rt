@@ -216,7 +216,7 @@ fn two_events_are_drawn(rt: HostRuntime) -> Result<(), Fail> {
     check_page(&rt, reports::TWO_EVENTS, &reports::TWO_EVENTS_PAGE)
 }
 
-// Appends slots that are the same, each behind a space or, the first one of a list, behind the name of its row.
+// Appends slots that are the same.
 fn push_slots(out: &mut Vec<u8>, slot: &[u8], count: usize) -> Result<(), AllocError> {
     for _ in 0..count {
         out.extend_from_slice(slot)?;
