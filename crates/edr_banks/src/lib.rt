@@ -15,8 +15,6 @@ mod opening;
 mod retrieving;
 mod taking;
 mod tasks;
-#[cfg(test)]
-mod tests;
 
 pub use crate::image::Image;
 pub use crate::laying::lay;

@@ -165,8 +165,3 @@ impl Core {
         }
     }
 }
-
-#[cfg(test)]
-mod split_tests;
-#[cfg(test)]
-mod tests;

@@ -59,6 +59,3 @@ pub fn page(
     put(&mut out, &[Piece::Tag(Tag::PageEnd)])?;
     Ok(out)
 }
-
-#[cfg(test)]
-mod tests;

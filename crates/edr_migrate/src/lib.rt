@@ -15,8 +15,6 @@ ghost use Rattle.edr_migrate.specs.declared.MigrateFault.TheVariants.{Short, For
 pub mod laws;
 mod new_bytes;
 mod old_image;
-#[cfg(test)]
-mod tests;
 
 use crate::old_image::read_old;
 use edr_banks::{FormatFault, lay};

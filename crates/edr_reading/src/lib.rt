@@ -22,6 +22,3 @@ mod values;
 
 pub use faults::RowFault;
 pub use reading::{Reading, ReportRefused, read};
-
-#[cfg(test)]
-mod tests;

@@ -5,10 +5,6 @@
 mod driven;
 pub mod laws;
 mod phases;
-#[cfg(test)]
-mod powered_tests;
-#[cfg(test)]
-mod tests;
 
 ghost use Rattle.std.specs.Prelude.{◌<◌, ◌≤◌, IfOk, IfErr, All};
 ghost use Rattle.edr_device.specs.Faults.{Rose};

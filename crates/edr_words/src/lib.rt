@@ -3,8 +3,6 @@
 
 mod arguments;
 mod jobs;
-#[cfg(test)]
-mod tests;
 mod words;
 
 pub use edr_image::{Choice, Header};

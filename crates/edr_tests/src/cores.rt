@@ -1,7 +1,9 @@
 mod traces;
 
-use super::*;
-use edr_record::{Extreme, Key, LONG_SLOTS, Place, Slots};
+use edr_core::{Core, Step};
+use edr_items::Sensor;
+use edr_record::{Crash, Extreme, Key, LONG_SLOTS, Place, Pre, Slots};
+use std::alloc::{AllocError as OutOfMemory, Global};
 use std::process::Abort;
 use std::test::Fail;
 use traces::{Pulse, Trace};

@@ -1,4 +1,4 @@
-use super::*;
+use edr_words::{Choice, Form, Header, Job, Words};
 use std::alloc::{AllocError, Global};
 use std::process::Abort;
 use std::test::Fail;

@@ -2,8 +2,8 @@
 ghost use Rattle.std.specs.Prelude.{IfOk};
 ghost use Rattle.edr_spell.specs.Spell.{IsCycle};
 
-use crate::replay;
-use crate::tests::{fired, formatted, stopped};
+use edr_replay::replay;
+use crate::runs::{fired, formatted, stopped};
 use edr_device::{Failed, Nvm};
 use std::alloc::Global;
 use std::process::Abort;

@@ -1,4 +1,4 @@
-use crate::{ReportRefused, RowFault, read};
+use edr_reading::{ReportRefused, RowFault, read};
 use edr_report::table;
 use std::alloc::{AllocError, Global};
 use std::process::Abort;

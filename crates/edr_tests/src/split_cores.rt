@@ -1,9 +1,10 @@
 ghost use Rattle.std.specs.Prelude.{◌≡◌, []};
 ghost use Rattle.edr_items.specs.Sensor.{IsSlow};
 
-use super::*;
+use edr_core::{PartRefused, SplitCore, SplitStep};
 use edr_capture::Capture;
-use edr_items::Item;
+use edr_items::{Item, Sensor};
+use edr_merge::MergeRefused;
 use std::process::Abort;
 use std::test::Fail;
 

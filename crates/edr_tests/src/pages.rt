@@ -1,6 +1,6 @@
 //! A whole page. What it is compared with was made by another program; of the page the length and the SHA-256 are kept.
 
-use crate::page;
+use edr_drawing::page;
 use edr_image::{Ack, Applied, BankView, CycleReport, Found, Kind, Log};
 use edr_record::{Key, LONG_SLOTS, Place, Pre, Record, Slots};
 use sha2::{Digest, Sha256};

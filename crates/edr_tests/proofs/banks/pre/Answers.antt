@@ -1,7 +1,7 @@
-use Rattle.std.proofs.Common.{arith, refl, Some, None}
+use Rattle.std.proofs.Common.{arith, refl, Some}
 use Rattle.std.proofs.lemmas.List.Elements.{All-replicate}
 use Rattle.edr_record.specs.Bounds.{IsUpTo}
-use Rattle.edr_drawing.proofs.tests.long_before_a_cut.Goals as goal
+use Rattle.edr_tests.proofs.banks.pre.Goals as goal
 
 pub invariant_of-result : goal.invariant_of-result
 invariant_of-result c = record {
@@ -13,6 +13,6 @@ invariant_of-result c = record {
   speeds = refl;
   speed = All-replicate (IsUpTo 300) 201 (Some 50) (omega arith);
   throttles = refl;
-  throttle = All-replicate (IsUpTo 100) 201 None tt;
+  throttle = All-replicate (IsUpTo 100) 201 (Some 20) (omega arith);
   brakes = refl;
 }

@@ -3,7 +3,7 @@ ghost use Rattle.std.specs.Prelude.{◌≤◌, IfOk};
 ghost use Rattle.edr_items.specs.SensorLists.{IsLevel};
 ghost use Rattle.edr_spell.specs.Spell.{IsCycle};
 
-use crate::replay;
+use edr_replay::replay;
 use edr_banks::{Ack, Applied, BankView, Banks, Choice, Kind};
 use edr_device::MemNvm;
 use edr_image::CycleReport;

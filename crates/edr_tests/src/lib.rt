@@ -1,0 +1,24 @@
+//! Tests of the crates below through their public calls, a module for each. A crate is proved once more with its tests, so
+//! those that need nothing private stand here, where only they are proved.
+#![tactic(auto)]
+
+#[cfg(test)]
+mod banks;
+#[cfg(test)]
+mod cores;
+#[cfg(test)]
+mod cycles;
+#[cfg(test)]
+mod migrations;
+#[cfg(test)]
+mod pages;
+#[cfg(test)]
+mod powered_runs;
+#[cfg(test)]
+mod readings;
+#[cfg(test)]
+mod runs;
+#[cfg(test)]
+mod split_cores;
+#[cfg(test)]
+mod words;
