@@ -3,7 +3,7 @@ use Rattle.std.proofs.Common.{◌≡◌, refl}
 use Rattle.edr_items.specs.declared.Sensor.{Sensor}
 use Rattle.edr_items.specs.declared.Sensor.TheVariants.{Along, Across, Speed, Throttle, Brake, Belt, Lamp, Restraint}
 use Rattle.edr_items.specs.declared.per_sensor.PerSensor.{PerSensor}
-use Rattle.edr_items.specs.PerSensor.{value_of, map_values}
+use Rattle.edr_items.specs.PerSensor.{value_of, with_value, each_value, map_values}
 
 -- values that are the same for each sensor are the same
 pub values-same : {A : Type 0} (p q : PerSensor A) → ((s : Sensor) → value_of s p ≡ value_of s q) → p ≡ q
@@ -12,3 +12,19 @@ values-same p q h = rw (h Along, h Across, h Speed, h Throttle, h Brake, h Belt,
 -- the value that a function gives for that of a sensor
 pub value_of-map : {A B : Type 0} (h : A → B) (s : Sensor) (p : PerSensor A) → value_of s (map_values h p) ≡ h (value_of s p)
 value_of-map h s p = elim s as (λ t. value_of t (map_values h p) ≡ h (value_of t p)) [ Along ↦ refl | Across ↦ refl | Speed ↦ refl | Throttle ↦ refl | Brake ↦ refl | Belt ↦ refl | Lamp ↦ refl | Restraint ↦ refl ]
+
+-- what holds of a sensor's new value and of each old one holds of each value after that
+pub with_value-each : {A : Type 0} (P : Sensor → A → Type 0) (s : Sensor) (x : A) (p : PerSensor A) → P s x → ((r : Sensor) → P r (value_of r p)) → (r : Sensor) → P r (value_of r (with_value s x p))
+with_value-each P Along x p here rest Along = here
+with_value-each P Across x p here rest Across = here
+with_value-each P Speed x p here rest Speed = here
+with_value-each P Throttle x p here rest Throttle = here
+with_value-each P Brake x p here rest Brake = here
+with_value-each P Belt x p here rest Belt = here
+with_value-each P Lamp x p here rest Lamp = here
+with_value-each P Restraint x p here rest Restraint = here
+with_value-each P s x p here rest r = rest r
+
+-- each sensor has the value that all have
+pub value_of-each : {A : Type 0} (x : A) (s : Sensor) → value_of s (each_value x) ≡ x
+value_of-each x s = elim s as (λ t. value_of t (each_value x) ≡ x) [ Along ↦ refl | Across ↦ refl | Speed ↦ refl | Throttle ↦ refl | Brake ↦ refl | Belt ↦ refl | Lamp ↦ refl | Restraint ↦ refl ]
