@@ -38,12 +38,12 @@ find-cons p x xs h = by (p x) refl h
     by true e k = cc
     by false e k = (e, k)
 
-find-none : (p : Sensor → Bool) (xs : List Sensor) → ((x : Sensor) → p x ≡ false) → find p xs ≡ None
+pub find-none : (p : Sensor → Bool) (xs : List Sensor) → ((x : Sensor) → p x ≡ false) → find p xs ≡ None
 find-none p [] h = refl
 find-none p (x ∷ xs) h = rw (h x) (find-none p xs h)
 
 -- a test that finds none of the sensors fails at each
-none-found : (p : Sensor → Bool) → find p sensors ≡ None → (s : Sensor) → p s ≡ false
+pub none-found : (p : Sensor → Bool) → find p sensors ≡ None → (s : Sensor) → p s ≡ false
 none-found p h s =
     let a = find-cons p Along (Across ∷ Speed ∷ Throttle ∷ Brake ∷ Belt ∷ Lamp ∷ Restraint ∷ []) h in
     let b = find-cons p Across (Speed ∷ Throttle ∷ Brake ∷ Belt ∷ Lamp ∷ Restraint ∷ []) a.1 in

@@ -2,14 +2,14 @@
 use Rattle.std.proofs.Common.{arith, ◌≡◌, ℕ, ◌+◌, ◌≤◌, None, All}
 use Rattle.edr_items.specs.declared.TheConstants.{LATEST_MOMENT}
 use Rattle.edr_items.specs.declared.Sensor.{Sensor}
-use Rattle.edr_items.specs.declared.Sensor.TheVariants.{Along, Across, Speed, Throttle, Brake, Belt, Lamp, Restraint}
+use Rattle.edr_items.specs.declared.Sensor.TheVariants.{Restraint}
 use Rattle.edr_items.specs.declared.Item.{Item}
 use Rattle.edr_items.specs.Item.{refusal_of}
 use Rattle.edr_items.proofs.FeedLemmas.{refusal_of-rises}
 use Rattle.edr_merge.specs.declared.Merge.TheInside.{Inside}
-use Rattle.edr_merge.specs.declared.marks.Marks.{Marks}
 use Rattle.edr_merge.specs.declared.rings.Rings.{Rings}
-use Rattle.edr_merge.specs.Marks.{mark_in, with_mark}
+use Rattle.edr_items.proofs.PerSensorLemmas.{with_value-each}
+use Rattle.edr_merge.specs.Marks.{Marks, mark_in, with_mark}
 use Rattle.edr_merge.specs.Rings.{with_kept}
 use Rattle.edr_merge.specs.Samples.{IsFiring}
 use Rattle.edr_merge.specs.Fields.{IsSound}
@@ -17,18 +17,6 @@ use Rattle.edr_merge.proofs.WaitingLemmas.{refusal_of-in_range, firings-kept, fi
 use Rattle.edr_merge.proofs.StandsLemmas.{past_tick}
 use Rattle.edr_merge.proofs.LagLemmas.{below-risen}
 use Rattle.edr_merge.specs.Lag.{IsBelowSlow}
-
--- what holds of a sensor's new mark and of each old one holds of each mark after that
-with_mark-each : (P : ℕ → Type 0) (s : Sensor) (t : ℕ) (m : Marks) → P t → ((r : Sensor) → P (mark_in r m)) → (r : Sensor) → P (mark_in r (with_mark s t m))
-with_mark-each P Along t m here rest Along = here
-with_mark-each P Across t m here rest Across = here
-with_mark-each P Speed t m here rest Speed = here
-with_mark-each P Throttle t m here rest Throttle = here
-with_mark-each P Brake t m here rest Brake = here
-with_mark-each P Belt t m here rest Belt = here
-with_mark-each P Lamp t m here rest Lamp = here
-with_mark-each P Restraint t m here rest Restraint = here
-with_mark-each P s t m here rest r = rest r
 
 -- an accepted item is within a cycle
 refusal_of-within : (s : Sensor) (last : ℕ) (x : Item) → refusal_of s last x ≡ None → x.moment ≤ LATEST_MOMENT
@@ -46,8 +34,8 @@ sound-given a s x last m r sound at accepted is_m is_r =
     let within = refusal_of-within s last x accepted in
     let low = sound.closed_low s in
     rw (is_m, is_r) (record {
-      closed_low = with_mark-each (λ n. a.closed ≤ n) s x.moment a.marks (omega (arith, rises, low, at)) sound.closed_low;
-      marks_low = with_mark-each (λ n. n ≤ LATEST_MOMENT) s x.moment a.marks within sound.marks_low;
+      closed_low = with_value-each (λ _ (n : ℕ). a.closed ≤ n) s x.moment a.marks (omega (arith, rises, low, at)) sound.closed_low;
+      marks_low = with_value-each (λ _ (n : ℕ). n ≤ LATEST_MOMENT) s x.moment a.marks within sound.marks_low;
       slow_low = below-risen a.slow x.moment s a.marks (omega (arith, rises, at)) sound.slow_low;
       firings = firings-with_kept s last x a.rings accepted sound.firings;
     })

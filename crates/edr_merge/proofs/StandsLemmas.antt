@@ -5,7 +5,7 @@ use Rattle.std.specs.List.{find}
 use Rattle.std.specs.Option.{option_map_or}
 use Rattle.edr_items.specs.declared.TheConstants.{LONGEST_GAP}
 use Rattle.edr_items.specs.declared.Sensor.{Sensor}
-use Rattle.edr_items.specs.declared.Sensor.TheVariants.{Along, Across, Speed, Throttle, Brake, Belt, Lamp, Restraint}
+use Rattle.edr_items.specs.declared.Sensor.TheVariants.{Along, Across, Restraint}
 use Rattle.edr_items.specs.declared.Item.{Item}
 use Rattle.edr_items.specs.declared.Restraints.{Restraints}
 use Rattle.edr_items.specs.Item.{refusal_of, mark_of, IsFeed}
@@ -15,9 +15,10 @@ use Rattle.edr_definitions.specs.Signals.{sample_at}
 use Rattle.edr_definitions.specs.Schedule.{Progress, Give, Close, IsAllowed, with_item, after_step}
 use Rattle.edr_definitions.proofs.MarkLaws.{with_items-each, AreFeeds-each, each-AreFeeds, mark-push, horizon-least, horizon-above, horizon-with_item}
 use Rattle.edr_merge.specs.declared.Next.TheVariants.{Waiting, Row}
-use Rattle.edr_merge.specs.declared.marks.Marks.{Marks}
 use Rattle.edr_merge.specs.declared.rings.Rings.{Rings}
-use Rattle.edr_merge.specs.Marks.{no_marks, mark_in, with_mark, is_marked_at, first_at}
+use Rattle.edr_items.proofs.LevelLemmas.{none-found}
+use Rattle.edr_items.proofs.PerSensorLemmas.{value_of-each, with_value-both}
+use Rattle.edr_merge.specs.Marks.{Marks, no_marks, mark_in, with_mark, is_marked_at, first_at}
 use Rattle.edr_merge.specs.Samples.{waiting, kept, first_value, past_first}
 use Rattle.edr_merge.specs.Rings.{no_samples, with_kept}
 use Rattle.edr_merge.specs.State.{MergeState}
@@ -26,16 +27,8 @@ use Rattle.edr_merge.specs.StandsFor.{AreWaiting, MergeStandsFor}
 use Rattle.edr_merge.proofs.WaitingLemmas.{kept-waiting, tick-taken}
 
 -- the marks with the item's moment are those of the lists with the item
-marks-with_item : (s r : Sensor) (m : Marks) (x : Item) (f : SensorLists) → mark_in r m ≡ mark_of (items_of r f) → mark_in r (with_mark s x.moment m) ≡ mark_of (items_of r (with_item s x f))
-marks-with_item Along Along m x f h = sym (mark-push 0 f.along x)
-marks-with_item Across Across m x f h = sym (mark-push 0 f.across x)
-marks-with_item Speed Speed m x f h = sym (mark-push 0 f.speed x)
-marks-with_item Throttle Throttle m x f h = sym (mark-push 0 f.throttle x)
-marks-with_item Brake Brake m x f h = sym (mark-push 0 f.brake x)
-marks-with_item Belt Belt m x f h = sym (mark-push 0 f.belt x)
-marks-with_item Lamp Lamp m x f h = sym (mark-push 0 f.lamp x)
-marks-with_item Restraint Restraint m x f h = sym (mark-push 0 f.restraint x)
-marks-with_item s r m x f h = h
+marks-with_item : (s : Sensor) (m : Marks) (x : Item) (f : SensorLists) → ((r : Sensor) → mark_in r m ≡ mark_of (items_of r f)) → (r : Sensor) → mark_in r (with_mark s x.moment m) ≡ mark_of (items_of r (with_item s x f))
+marks-with_item s m x f h = with_value-both (λ _ (n : ℕ) (xs : List Item). n ≡ mark_of xs) s x.moment (items_of s f ++ x ∷ []) m f (sym (mark-push 0 (items_of s f) x)) h
 
 -- the list with the item is a feed, since the item makes no gap
 feed-with_item : (m : MergeState) (p : Progress) (s : Sensor) (x : Item) → MergeStandsFor m p → IsAllowed (Give s x) p → IsFeed s (items_of s p.given ++ x ∷ [])
@@ -67,7 +60,7 @@ stands-given m p s x h allowed = record {
   near = with_items-each (λ r (xs : List Item). mark_of xs ≤ p.closed + LONGEST_GAP) s (items_of s p.given ++ x ∷ []) p.given
       (let last = mark-push 0 (items_of s p.given) x in let near = allowed.1 in omega (arith, last, near)) h.near;
   closed_is = h.closed_is;
-  marks_are = λ r. marks-with_item s r m.marks x p.given (h.marks_are r);
+  marks_are = marks-with_item s m.marks x p.given h.marks_are;
   waits = waits-with_item m p s x h allowed;
 }
 
@@ -107,23 +100,6 @@ pub first_at-is : (m : MergeState) (p : Progress) → MergeStandsFor m p → fir
 unfolding first_at waited_for
 first_at-is m p h = λ i. find (λ s. nat_eq (h.marks_are s i) (h.closed_is i)) sensors
 
-cond-none : (b : Bool) (s : Sensor) (o : Option Sensor) → cond b (Some s) o ≡ None → (b ≡ false) × (o ≡ None)
-cond-none true s o h = absurd (cc)
-cond-none false s o h = (refl, h)
-
--- a test that finds none of the sensors fails at each
-none-found : (p : Sensor → Bool) → find p sensors ≡ None → (s : Sensor) → p s ≡ false
-none-found p h s =
-    let a = cond-none (p Along) _ _ h in
-    let b = cond-none (p Across) _ _ a.1 in
-    let c = cond-none (p Speed) _ _ b.1 in
-    let d = cond-none (p Throttle) _ _ c.1 in
-    let e = cond-none (p Brake) _ _ d.1 in
-    let g = cond-none (p Belt) _ _ e.1 in
-    let i = cond-none (p Lamp) _ _ g.1 in
-    let j = cond-none (p Restraint) _ _ i.1 in
-    elim s as (λ t. p t ≡ false) [ Along ↦ a.0 | Across ↦ b.0 | Speed ↦ c.0 | Throttle ↦ d.0 | Brake ↦ e.0 | Belt ↦ g.0 | Lamp ↦ i.0 | Restraint ↦ j.0 ]
-
 -- where no mark is the closed tick, and none is before it, the next tick may be closed
 pub marks-past : (m : Marks) (t : ℕ) → first_at m t ≡ None → ((s : Sensor) → t ≤ mark_in s m) → (s : Sensor) → t + 1 ≤ mark_in s m
 unfolding first_at
@@ -147,9 +123,9 @@ unfolding waiting
 stands-new m r is_m is_r = rw (is_m, is_r) (record {
   feeds = record { along = tt; across = tt; speed = tt; throttle = tt; brake = tt; belt = tt; lamp = tt; restraint = tt };
   within = omega arith;
-  near = λ s. elim s as (λ r. mark_of (items_of r no_items) ≤ 0 + LONGEST_GAP) [ Along ↦ omega arith | Across ↦ omega arith | Speed ↦ omega arith | Throttle ↦ omega arith | Brake ↦ omega arith | Belt ↦ omega arith | Lamp ↦ omega arith | Restraint ↦ omega arith ];
+  near = λ s. rw (value_of-each {A = List Item} [] s) (omega arith);
   closed_is = refl;
-  marks_are = λ s. elim s as (λ r. mark_in r no_marks ≡ mark_of (items_of r no_items)) [ Along ↦ refl | Across ↦ refl | Speed ↦ refl | Throttle ↦ refl | Brake ↦ refl | Belt ↦ refl | Lamp ↦ refl | Restraint ↦ refl ];
+  marks_are = λ s. value_of-each 0 s ∙ sym (ap mark_of (value_of-each [] s));
   waits = record { along_is = refl; across_is = refl; restraint_is = refl };
 })
 

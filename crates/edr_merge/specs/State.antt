@@ -1,6 +1,6 @@
 -- What contracts see of a `Merge`.
 use Rattle.std.specs.Prelude.{ℕ}
-use Rattle.edr_merge.specs.declared.marks.Marks.{Marks}
+use Rattle.edr_merge.specs.Marks.{Marks}
 use Rattle.edr_merge.specs.declared.rings.Rings.{Rings}
 
 -- the closed tick, the marks, and the samples past the closed tick

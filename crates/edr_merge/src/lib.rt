@@ -13,8 +13,8 @@ ghost use Rattle.edr_definitions.specs.Schedule.{Progress, Give, Close, IsAllowe
 ghost use Rattle.edr_merge.specs.Marks.{first_at, mark_in};
 ghost use Rattle.edr_merge.specs.Lag.{IsBelowSlow};
 
-use edr_items::{Item, ItemRefused, LONGEST_GAP, Restraints, Sensor, check};
-use marks::Marks;
+use edr_items::{Item, ItemRefused, LONGEST_GAP, PerSensor, Restraints, Sensor, check};
+use marks::{Marks, first_at, least_slow};
 use rings::Rings;
 use std::alloc::{AllocError as OutOfMemory, Global};
 use std::marker::Model;
@@ -88,17 +88,17 @@ fn lagging(marks: &Marks, slow: &mut u32, tick: u32) -> Option<Sensor>
     ensures found { result ≡ first_at marks.now tick }
     ensures below { IsBelowSlow slow.new marks.now }
 {
-    if marks.of(Sensor::Along) == tick {
+    if marks.along == tick {
         return Some(Sensor::Along);
     }
-    if marks.of(Sensor::Across) == tick {
+    if marks.across == tick {
         return Some(Sensor::Across);
     }
     if tick < *slow {
         return None;
     }
-    *slow = marks.least_slow();
-    marks.first_at(tick)
+    *slow = least_slow(marks);
+    first_at(marks, tick)
 }
 
 // Whether the sensor may give the item behind those that it gave. Each axis, which may give one each tick, has a call of its own:
@@ -108,9 +108,9 @@ fn check_next(marks: &Marks, sensor: Sensor, item: &Item) -> Result<(), ItemRefu
     ensures refused { IfErr result (λ e. refusal_of sensor (mark_in sensor marks.now) item.now ≡ Some e) }
 {
     match sensor {
-        Sensor::Along => check(Sensor::Along, marks.of(Sensor::Along), item),
-        Sensor::Across => check(Sensor::Across, marks.of(Sensor::Across), item),
-        _ => check(sensor, marks.of(sensor), item),
+        Sensor::Along => check(Sensor::Along, marks.along, item),
+        Sensor::Across => check(Sensor::Across, marks.across, item),
+        _ => check(sensor, *marks.of(sensor), item),
     }
 }
 
@@ -124,7 +124,7 @@ impl Merge {
     {
         Ok(Merge {
             closed: 0,
-            marks: Marks::new(),
+            marks: PerSensor::each(0),
             slow: 0,
             rings: Rings::new(alloc)?,
         })
@@ -162,7 +162,7 @@ impl Merge {
     pub fn mark(&self, sensor: Sensor) -> u32
         ensures { (p : Progress) → MergeStandsFor self.now p → result ≡ mark_of (items_of sensor p.given) }
     {
-        self.marks.of(sensor)
+        *self.marks.of(sensor)
     }
 
     /// Closes the next tick and gives its row, if no sensor can give an item of it any more.

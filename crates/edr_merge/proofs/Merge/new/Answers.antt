@@ -2,4 +2,4 @@ use Rattle.edr_merge.proofs.StandsLemmas.{stands-new}
 use Rattle.edr_merge.proofs.Merge.new.Goals as goal
 
 pub returns : goal.returns
-returns c = stands-new c.new.result c.in_ok-new.field-0 c.new.ensures c.in_ok-new.ensures
+returns c = stands-new c.each.result c.in_ok-new.field-0 c.each.ensures c.in_ok-new.ensures

@@ -1,0 +1,35 @@
+-- One value for each of the five slow sensors.
+use Rattle.std.specs.Prelude.{Option, Some, None}
+use Rattle.edr_items.specs.declared.Sensor.{Sensor}
+use Rattle.edr_items.specs.declared.Sensor.TheVariants.{Along, Across, Speed, Throttle, Brake, Belt, Lamp, Restraint}
+use Rattle.edr_items.specs.declared.per_slow_sensor.PerSlowSensor.{PerSlowSensor}
+
+-- the value of one sensor; the other three have none
+abbrev pub slow_value_of : {A : Type 0} → Sensor → PerSlowSensor A → Option A
+slow_value_of Along p = None
+slow_value_of Across p = None
+slow_value_of Speed p = Some p.speed
+slow_value_of Throttle p = Some p.throttle
+slow_value_of Brake p = Some p.brake
+slow_value_of Belt p = Some p.belt
+slow_value_of Lamp p = Some p.lamp
+slow_value_of Restraint p = None
+
+-- the values with another one for that sensor
+abbrev pub with_slow_value : {A : Type 0} → Sensor → A → PerSlowSensor A → PerSlowSensor A
+with_slow_value Along x p = p
+with_slow_value Across x p = p
+with_slow_value Speed x p = record p { speed = x }
+with_slow_value Throttle x p = record p { throttle = x }
+with_slow_value Brake x p = record p { brake = x }
+with_slow_value Belt x p = record p { belt = x }
+with_slow_value Lamp x p = record p { lamp = x }
+with_slow_value Restraint x p = p
+
+-- the same value for each slow sensor
+abbrev pub each_slow_value : {A : Type 0} → A → PerSlowSensor A
+each_slow_value x = record { speed = x; throttle = x; brake = x; belt = x; lamp = x }
+
+-- the values that a function gives for those
+abbrev pub map_slow_values : {A B : Type 0} → (A → B) → PerSlowSensor A → PerSlowSensor B
+map_slow_values h p = record { speed = h p.speed; throttle = h p.throttle; brake = h p.brake; belt = h p.belt; lamp = h p.lamp }
