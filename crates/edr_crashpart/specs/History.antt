@@ -1,7 +1,9 @@
 -- What an open crash part stands for: its time zero and the ticks after it.
-use Rattle.std.specs.Prelude.{◌≡◌, ℕ, ◌+◌, ◌-◌, nat_eq, nat_lt, if◌then◌else◌, ℤ, Option, None, option_and_then, List, length, slice_get}
+use Rattle.std.specs.Prelude.{◌≡◌, ℕ, ◌+◌, ◌-◌, nat_eq, nat_lt, if◌then◌else◌, ℤ, Option, None, option_and_then, List, [], ◌∷◌, ◌++◌, length, slice_get}
 use Rattle.std.specs.Option.{option_map_or}
+use Rattle.edr_record.specs.Parts.{CrashPart}
 use Rattle.edr_definitions.specs.Signals.{Signals}
+use Rattle.edr_definitions.specs.Parts.{crash_part}
 use Rattle.edr_definitions.specs.OpenCrash.{OpenCrash, crash_at}
 
 -- a tick: the sample of each axis, if there is one, and the sum of the bits of the restraints that fire
@@ -25,3 +27,16 @@ signals_from z fired rows = record {
 -- the open crash part is that of this time zero, with these restraints firing at it, after these ticks
 abbrev pub StandsFor : OpenCrash → ℕ → ℕ → List Row → Type 0
 StandsFor part z fired rows = part ≡ crash_at (signals_from z fired rows) z (z + length rows)
+
+-- the row of a tick, of its samples and the restraints that fire
+abbrev pub row_of : Option ℤ → Option ℤ → ℕ → Row
+row_of along across fired = record { along = along; across = across; fired = fired }
+
+-- whatever ticks the part stands for, the next one stands for this row behind them
+abbrev pub StandsWith : Row → OpenCrash → OpenCrash → Type 0
+StandsWith row part next =
+    (z fired : ℕ) (rows : List Row) → StandsFor part z fired rows → StandsFor next z fired (rows ++ row ∷ [])
+
+-- the crash part of the definition that ends at e, of this time zero with these restraints firing and the ticks after it
+abbrev pub crash_part_of : ℕ → ℕ → List Row → ℕ → CrashPart
+crash_part_of z fired rows e = crash_part (signals_from z fired rows) z e

@@ -1,17 +1,16 @@
 //! The crash part of a record while it grows, one tick at a time, in fixed arrays.
 #![tactic(auto)]
 
-ghost use Rattle.std.specs.Prelude.{◌≡◌, ℕ, unsigned_abs, nat_le, if◌then◌else◌, ◌+◌, ◌<◌, ◌≤◌, List, [], ◌∷◌, ◌++◌};
+ghost use Rattle.std.specs.Prelude.{◌≡◌, ℕ, unsigned_abs, if◌then◌else◌, ◌+◌, ◌<◌, ◌≤◌, List, []};
 ghost use Rattle.std.specs.Option.{option_or};
 ghost use Rattle.edr_record.specs.declared.TheConstants.{RESET};
 ghost use Rattle.edr_definitions.specs.Search.{tick_if};
 ghost use Rattle.edr_definitions.specs.Windows.{squares};
 ghost use Rattle.edr_definitions.specs.Selection.{close_of};
-ghost use Rattle.edr_definitions.specs.Parts.{crash_part};
 ghost use Rattle.edr_definitions.specs.OpenCrash.{begin_crash, next_crash, finish_crash, next_firings, higher_result};
-ghost use Rattle.edr_crashpart.specs.Fields.{result_of};
+ghost use Rattle.edr_crashpart.specs.Fields.{result_of, next_result};
 ghost use Rattle.edr_crashpart.specs.Bounds.{IsInRange};
-ghost use Rattle.edr_crashpart.specs.History.{Row, signals_from, StandsFor};
+ghost use Rattle.edr_crashpart.specs.History.{Row, row_of, StandsFor, StandsWith, crash_part_of};
 
 mod axis;
 
@@ -57,7 +56,7 @@ impl ResultPeak {
     fn next(self, along: &Axis, across: &Axis, at: u16) -> ResultPeak
         requires along { unsigned_abs along.now.sum ≤ 50_000_000 }
         requires across { unsigned_abs across.now.sum ≤ 50_000_000 }
-        ensures { result_of result ≡ (if nat_le at 300 then higher_result (result_of self) (squares along.now.sum across.now.sum) at else result_of self) }
+        ensures { result_of result ≡ next_result (result_of self) along.now.sum across.now.sum at }
     {
         if at <= WINDOW {
             self.or_higher(sum_of_squares(along.sum, across.sum), at)
@@ -147,7 +146,7 @@ impl CrashPart {
         ensures part { self.new ≡ next_crash self.old along across fired.0 }
 
         // The same of its time zero and all its ticks.
-        ensures stands { (z first : ℕ) (rows : List Row) → StandsFor self.old z first rows → StandsFor self.new z first (rows ++ record { along = along; across = across; fired = fired.0 } ∷ []) }
+        ensures stands { StandsWith (row_of along across fired.0) self.old self.new }
     {
         let at = self.elapsed + 1;
         self.along.tick(along, at);
@@ -166,7 +165,7 @@ impl CrashPart {
         ensures part { result ≡ finish_crash self.now end }
 
         // It is the crash part of the definition for its time zero and its ticks.
-        ensures definition { (z first : ℕ) (rows : List Row) → StandsFor self.now z first rows → result ≡ crash_part (signals_from z first rows) z end }
+        ensures definition { (z first : ℕ) (rows : List Row) → StandsFor self.now z first rows → result ≡ crash_part_of z first rows end }
     {
         Crash {
             end: (end - self.zero) as u16,

@@ -11,3 +11,5 @@ pub mod OpenCrash
 pub mod Rings
 pub mod Schedule
 pub mod Core
+pub mod Premises
+pub mod Streaming

@@ -1,26 +1,27 @@
 //! Laws of the definitions, each the contract of a function that does nothing.
 
-ghost use Rattle.std.specs.Prelude.{◌≡◌, ℕ, ◌+◌, ◌<◌, ◌≤◌, ◌↔◌, Bool, List, Option, Some, None, ℤ, IsTrue, ◌⊎◌, nat_eq, nat_le, [], ◌∷◌, ◌++◌, ◌*◌, ◌/◌, length, map, filter, All, pos, neg_ℤ};
+ghost use Rattle.std.specs.Prelude.{◌≡◌, ℕ, ◌+◌, ◌<◌, ◌≤◌, ◌↔◌, Bool, List, Option, Some, None, ℤ, IsTrue, ◌⊎◌, [], ◌∷◌, ◌++◌, ◌*◌, ◌/◌, length, All, pos, neg_ℤ};
 ghost use Rattle.edr_items.specs.declared.TheConstants.{LATEST_MOMENT};
-ghost use Rattle.edr_record.specs.declared.TheConstants.{RESET};
 ghost use Rattle.edr_items.specs.declared.Sensor.{Sensor};
 ghost use Rattle.edr_definitions.specs.declared.limits.TheConstants.{STEPS_OF_KMH, OVER, TRIGGER, QUIET_SQUARES, LONGEST_AGE};
 ghost use Rattle.edr_items.specs.declared.Item.{Item};
-ghost use Rattle.edr_items.specs.Item.{IsFeed, IsRising, mark_of};
-ghost use Rattle.edr_items.specs.SensorLists.{SensorLists, items_of, with_items, AreFeeds, horizon_of, IsLevel};
+ghost use Rattle.edr_items.specs.Item.{IsFeed, IsRising};
+ghost use Rattle.edr_items.specs.SensorLists.{SensorLists, items_of, AreFeeds, horizon_of};
 ghost use Rattle.edr_record.specs.declared.Place.{Place};
 ghost use Rattle.edr_record.specs.declared.Command.{Command};
 ghost use Rattle.edr_record.specs.Bounds.{IsPlace, IsPre, IsCrash};
 ghost use Rattle.edr_definitions.specs.Ticks.{first_tick, IsFirst, HoldsNowhere};
 ghost use Rattle.edr_definitions.specs.Signals.{Signals, sample_at, signals_of};
-ghost use Rattle.edr_definitions.specs.Windows.{delta_v, sum_between, swing, filled};
+ghost use Rattle.edr_definitions.specs.Windows.{delta_v, sum_between, swing};
 ghost use Rattle.edr_definitions.specs.Selection.{Bounds, Candidate, is_triggered, is_time_zero, is_end, chain, at_start, events};
 ghost use Rattle.edr_definitions.specs.Parts.{first_greatest, kmh_of, slot, pre_part, crash_part};
-ghost use Rattle.edr_definitions.specs.Commands.{place_of, places, last_placed, issue_at, all_issues, issues, commands, InOrder};
+ghost use Rattle.edr_definitions.specs.Commands.{place_of, places, last_placed, all_issues, issues, commands, InOrder};
 ghost use Rattle.edr_definitions.specs.Facts.{Reaches, IsTriggered, IsTimeZero, IsEnd, IsCandidate, IsChain, AreEventsAfter, IsFirstGreatest, IsLatestSample, HasNoSample, IsInBounds, AgreeUpTo};
-ghost use Rattle.edr_definitions.specs.Search.{Search, Searching, next_search, StandsFor, open_candidates};
+ghost use Rattle.edr_definitions.specs.Search.{Search, next_search, StandsFor};
 ghost use Rattle.edr_definitions.specs.Change.{TellsEnd, change_of_list, tested_change, tick_change};
-ghost use Rattle.edr_definitions.specs.Schedule.{Progress, Step, Give, IsAllowed, after_steps, items_given, IsNext, IsUnderWay, GoesOn, IsOver};
+ghost use Rattle.edr_definitions.specs.Schedule.{Progress, Step, Give, with_item, IsAllowed, after_steps, items_given, IsUnderWay, GoesOn, IsOver};
+ghost use Rattle.edr_definitions.specs.Premises.{EndsInTime, AreFeedsOf, commands_by, commands_at, AddsCommands, AddsIssues, ChangeAlikeUpTo, told_chain, AreLevelUnderWay, IsAwaited, GiveTheSameItems};
+ghost use Rattle.edr_definitions.specs.Streaming.{first_search};
 
 /// What is found is the least tick that passes the test, and nothing is found where none passes.
 pub fn first_tick_is_least()
@@ -92,16 +93,14 @@ pub fn limits_are_the_numbers()
 
 /// The parts of an event of feeds have their fields in their bounds.
 pub fn parts_are_in_bounds()
-    ensures pre { (f : SensorLists) (n z : ℕ) (place : Place) → AreFeeds f → 1 ≤ n → n ≤ 4_294_967_295
-        → 1 ≤ z → z ≤ LATEST_MOMENT → IsPlace place → IsPre (pre_part f n place z) }
-    ensures crash { (f : SensorLists) (z e : ℕ) → AreFeeds f → z + 20 ≤ e → e ≤ z + RESET
-        → IsCrash (crash_part (signals_of f) z e) }
+    ensures pre { (f : SensorLists) (n z : ℕ) (place : Place) → AreFeedsOf n f → 1 ≤ z → z ≤ LATEST_MOMENT
+        → IsPlace place → IsPre (pre_part f n place z) }
+    ensures crash { (f : SensorLists) (z e : ℕ) → AreFeeds f → EndsInTime z e → IsCrash (crash_part (signals_of f) z e) }
 {}
 
 /// Each command of a cycle of feeds carries a part in its bounds.
 pub fn commands_are_in_bounds()
-    ensures { (f : SensorLists) (n t : ℕ) → AreFeeds f → 1 ≤ n → n ≤ 4_294_967_295 → t ≤ LATEST_MOMENT
-        → All IsInBounds (commands f n t) }
+    ensures { (f : SensorLists) (n t : ℕ) → AreFeedsOf n f → t ≤ LATEST_MOMENT → All IsInBounds (commands f n t) }
 {}
 
 /// One more event's place stands last, and follows from the place and the time zero of the last event before it.
@@ -122,33 +121,29 @@ pub fn commands_are_few()
 
 /// The commands up to a tick are those that the events of a longer stretch issue by then.
 pub fn commands_lie_in_longer_ones()
-    ensures { (f : SensorLists) (n t w : ℕ) → t ≤ w
-        → map (λ i. i.command) (filter (λ i. nat_le i.tick t) (all_issues f n w)) ≡ commands f n t }
+    ensures { (f : SensorLists) (n t w : ℕ) → t ≤ w → commands_by t (all_issues f n w) ≡ commands f n t }
 {}
 
 /// The next tick adds its own commands at the end, and they are issued at it.
 pub fn a_tick_adds_its_commands()
-    ensures commands { (f : SensorLists) (n t : ℕ) → commands f n (t + 1)
-        ≡ commands f n t ++ map (λ i. i.command) (filter (λ i. nat_eq i.tick (t + 1)) (all_issues f n (t + 1))) }
-    ensures ticks { (f : SensorLists) (n t : ℕ) (added : List Command) → commands f n (t + 1) ≡ commands f n t ++ added
-        → issues f n (t + 1) ≡ issues f n t ++ map (issue_at (t + 1)) added }
+    ensures commands { (f : SensorLists) (n t : ℕ) → AddsCommands f n t (commands_at f n (t + 1)) }
+    ensures ticks { (f : SensorLists) (n t : ℕ) (cs : List Command) → AddsCommands f n t cs → AddsIssues f n t cs }
 {}
 
 /// An item of a later moment doesn't change the commands up to a tick.
 pub fn later_items_change_nothing()
     ensures { (s : Sensor) (f : SensorLists) (x : Item) (n t : ℕ) → t < x.moment
-        → commands f n t ≡ commands (with_items s (items_of s f ++ x ∷ []) f) n t }
+        → commands f n t ≡ commands (with_item s x f) n t }
 {}
 
 /// At the start of a cycle the search stands for any signals.
 pub fn a_search_begins_with_the_cycle()
-    ensures { (m : Signals) → StandsFor m 0 (record { bounds = at_start; phase = Searching }) }
+    ensures { (m : Signals) → StandsFor m 0 first_search }
 {}
 
 /// The chain up to a tick is what the search has closed, and then its open candidate.
 pub fn a_search_tells_the_chain()
-    ensures { (m : Signals) (t : ℕ) (s : Search) (h : StandsFor m t s)
-        → h.closed ++ open_candidates m s.bounds s.phase ≡ chain m t }
+    ensures { (m : Signals) (t : ℕ) (s : Search) (h : StandsFor m t s) → told_chain m t s h ≡ chain m t }
 {}
 
 /// What stands at the next tick follows from the four tests there and the phase before it.
@@ -166,9 +161,8 @@ pub fn each_tick_is_told_as_it_comes()
 
 /// A tick without a sample counts as a sample of 0.
 pub fn a_missing_sample_counts_as_zero()
-    ensures stands { (m n : Signals) (t : ℕ) (s : Search) → AgreeUpTo t (filled m) (filled n) → StandsFor m t s
-        → StandsFor n t s }
-    ensures change { (m n : Signals) (t : ℕ) (s : Search) → AgreeUpTo (t + 1) (filled m) (filled n) → StandsFor m t s
+    ensures stands { (m n : Signals) (t : ℕ) (s : Search) → ChangeAlikeUpTo t m n → StandsFor m t s → StandsFor n t s }
+    ensures change { (m n : Signals) (t : ℕ) (s : Search) → ChangeAlikeUpTo (t + 1) m n → StandsFor m t s
         → tick_change m (t + 1) ≡ tick_change n (t + 1) }
 {}
 
@@ -181,10 +175,8 @@ pub fn one_search_stands()
 /// horizon. The next item of a sensor that is waited for is never too far ahead of the closed tick, nor is any
 /// once the horizon is closed: so a run that gives each item only then meets no refusal.
 pub fn a_run_is_never_stuck_and_never_ahead()
-    ensures stuck { (f : SensorLists) (p : Progress) → AreFeeds f → IsLevel f → IsUnderWay f p
-        → GoesOn f p ⊎ IsOver f p }
-    ensures ahead { (f : SensorLists) (p : Progress) (s : Sensor) (x : Item) → AreFeeds f → IsLevel f
-        → IsUnderWay f p → IsNext f p s x → (mark_of (items_of s p.given) ≡ p.closed) ⊎ (p.closed ≡ horizon_of f)
+    ensures stuck { (f : SensorLists) (p : Progress) → AreLevelUnderWay f p → GoesOn f p ⊎ IsOver f p }
+    ensures ahead { (f : SensorLists) (p : Progress) (s : Sensor) (x : Item) → AreLevelUnderWay f p → IsAwaited f p s x
         → IsAllowed (Give s x) p }
 {}
 
@@ -193,8 +185,7 @@ pub fn a_run_is_never_stuck_and_never_ahead()
 pub fn arrival_order_is_free()
     ensures lists { (p : Progress) (steps : List Step) (s : Sensor)
         → items_of s (after_steps p steps).given ≡ items_of s p.given ++ items_given s steps }
-    ensures same { (p : Progress) (steps others : List Step)
-        → ((s : Sensor) → items_given s steps ≡ items_given s others)
+    ensures same { (p : Progress) (steps others : List Step) → GiveTheSameItems steps others
         → (after_steps p steps).given ≡ (after_steps p others).given }
 {}
 

@@ -1,11 +1,13 @@
 -- What a detector is, and of which rows.
-use Rattle.std.specs.Prelude.{◌≡◌, ℕ, ◌≤◌, Bool, IsTrue, List, length}
+use Rattle.std.specs.Prelude.{◌≡◌, ℕ, ◌+◌, ◌≤◌, Bool, IsTrue, List, [], ◌∷◌, ◌++◌, length}
 use Rattle.edr_definitions.specs.Signals.{Signals}
 use Rattle.edr_definitions.specs.Selection.{Bounds}
 use Rattle.edr_definitions.specs.Search.{Searching, StandsFor}
+use Rattle.edr_definitions.specs.Change.{tick_change}
+use Rattle.edr_detect.specs.declared.stage.Change.{Change as Answer}
 use Rattle.edr_detect.specs.declared.stage.Stage.{Stage}
 use Rattle.edr_detect.specs.declared.windows.Windows.{Windows}
-use Rattle.edr_detect.specs.Stages.{phase_of}
+use Rattle.edr_detect.specs.Stages.{phase_of, told_of}
 use Rattle.edr_detect.specs.Standing.{WindowsStandFor, HoldNothing, AreStill}
 use Rattle.edr_detect.specs.Rows.{Row, signals_of_rows}
 
@@ -33,3 +35,12 @@ pub record DetectStandsFor (d : DetectState) (rows : List Row) : Type 0 where
   pub since_past : bounds.since ≤ length rows
   pub search_is : StandsFor (signals_of_rows rows) (length rows) (record { bounds = bounds; phase = phase_of d.stage })
   pub kept_are : KeepsPast (signals_of_rows rows) bounds (length rows) d
+
+-- whatever rows the detector was given, it was then given this one behind them
+abbrev pub DetectsNext : Row → DetectState → DetectState → Type 0
+DetectsNext row d next = (rows : List Row) → DetectStandsFor d rows → DetectStandsFor next (rows ++ row ∷ [])
+
+-- whatever rows the detector was given, the answer is what stands at the tick of this one behind them
+abbrev pub TellsNext : Row → DetectState → Answer → Type 0
+TellsNext row d answer =
+    (rows : List Row) → DetectStandsFor d rows → told_of answer ≡ tick_change (signals_of_rows (rows ++ row ∷ [])) (length rows + 1)

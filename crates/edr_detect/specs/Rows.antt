@@ -10,6 +10,10 @@ pub record Row : Type 0 where
   pub across : ℤ
   pub fired : Restraints
 
+-- the row of a tick, of its changes and the restraints that fire
+abbrev pub row_of : ℤ → ℤ → Restraints → Row
+row_of along across fired = record { along = along; across = across; fired = fired }
+
 -- the row of a tick: the first row is that of tick 1
 abbrev pub row_at : List Row → ℕ → Option Row
 row_at rows zero = None

@@ -1,12 +1,12 @@
 -- What the windows of the streaming search hold.
-use Rattle.std.specs.Prelude.{◌≡◌, ℕ, ◌≤◌, pos, false, if◌then◌else◌, Option, None}
+use Rattle.std.specs.Prelude.{◌≡◌, ℕ, ◌+◌, ◌≤◌, ℤ, pos, Bool, false, if◌then◌else◌, Option, None}
 use Rattle.edr_definitions.specs.Signals.{Signals}
 use Rattle.edr_definitions.specs.Windows.{change_at, swing}
 use Rattle.edr_definitions.specs.Selection.{Bounds, is_triggered, is_time_zero, is_end}
 use Rattle.edr_definitions.specs.Search.{Phase}
 use Rattle.edr_definitions.specs.Commands.{is_locking}
 use Rattle.edr_window.specs.Changes.{changes}
-use Rattle.edr_window.specs.Swing.{SwingStandsFor}
+use Rattle.edr_window.specs.Swing.{SwingState, SwingStandsFor}
 use Rattle.edr_detect.specs.declared.stage.Change.{Change as Answer}
 use Rattle.edr_detect.specs.declared.stage.Stage.{Stage}
 use Rattle.edr_detect.specs.declared.stage.Stage.TheVariants as stage
@@ -27,6 +27,12 @@ pub record WindowsStandFor (m : Signals) (b : Bounds) (p : Phase) (t : ℕ) (w :
   pub swings : is_event p ≡ false → SwingsStandFor m b t w
   pub latest_along : LatestStandsFor m.along t w.latest_along.values w.latest_along.sum
   pub latest_across : LatestStandsFor m.across t w.latest_across.values w.latest_across.sum
+
+-- swings that hold the changes up to a tick, at which the bounds have come, then hold these of the next tick too
+abbrev pub SwingsTake : ℤ → ℤ → Windows → Windows → Type 0
+SwingsTake along across w next =
+    (m : Signals) (b : Bounds) (before t : ℕ) → t ≡ before + 1 → b.after ≤ before → b.since ≤ before
+    → change_at m.along t ≡ along → change_at m.across t ≡ across → SwingsStandFor m b before w → SwingsStandFor m b t next
 
 -- no change of the last 20 ticks of either axis differs from 0
 pub record HoldNothing (w : Windows) : Type 0 where
@@ -52,12 +58,35 @@ pub record BeginsAtRest (m : Signals) : Type 0 where
   pub along : change_at m.along 0 ≡ pos 0
   pub across : change_at m.across 0 ≡ pos 0
 
+-- windows that hold up to a tick, at which the bounds have come, what the tests of a phase ask hold it up to t with these changes of t, where that is the next tick
+abbrev pub WindowsTake : Phase → ℕ → ℤ → ℤ → Windows → Windows → Type 0
+WindowsTake p t along across w next =
+    (m : Signals) (b : Bounds) (before : ℕ) → t ≡ before + 1 → b.after ≤ before → b.since ≤ before → BeginsAtRest m
+    → change_at m.along t ≡ along → change_at m.across t ≡ across → WindowsStandFor m b p before w → WindowsStandFor m b p t next
+
+-- the size is that of the swing of any changes that the sums stand for
+abbrev pub IsSizeOfSwing : ℕ → SwingState → ℕ → Type 0
+IsSizeOfSwing k s size =
+    (axis : ℕ → Option ℤ) (from t : ℕ) → SwingStandsFor k s (changes axis from t) → size ≡ swing axis k from t
+
+-- any changes that the sums stand for have no swing
+abbrev pub HasNoSwing : ℕ → SwingState → Type 0
+HasNoSwing k s = (axis : ℕ → Option ℤ) (from t : ℕ) → SwingStandsFor k s (changes axis from t) → swing axis k from t ≡ 0
+
+-- where the open candidate has not ended, this is whether it does at the tick t
+abbrev pub TellsEnd : Signals → Stage → ℕ → Bool → Type 0
+TellsEnd m s t ends = (z : ℕ) (c l : Option ℕ) → s ≡ stage.Open z c l None → ends ≡ is_end m z t
+
+-- an event that is open in the phase p is open in q too, unless it closes
+abbrev pub IsEventUntilClosed : Answer → Phase → Phase → Type 0
+IsEventUntilClosed a p q = a.closed ≡ false → is_event q ≡ false → is_event p ≡ false
+
 -- the answers are those of the definitions' tests at the tick t; the first two don't count while an event is open
 pub record TestsAre (m : Signals) (b : Bounds) (s : Stage) (t : ℕ) (a : Tests) : Type 0 where
   pub zero : is_event (phase_of s) ≡ false → a.zero ≡ is_time_zero m b t
   pub trigger : is_event (phase_of s) ≡ false → a.trigger ≡ is_triggered m b.since t
   pub locks : a.locks ≡ is_locking m t
-  pub ends : (z : ℕ) (c l : Option ℕ) → s ≡ stage.Open z c l None → a.ends ≡ is_end m z t
+  pub ends : TellsEnd m s t a.ends
 
 -- the bounds past the tick t at which this stands: both at the close of an event, and the first alone at the end of a dropped candidate
 abbrev pub bounds_past : ℕ → Answer → Bounds → Bounds

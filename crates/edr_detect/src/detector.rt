@@ -33,12 +33,10 @@ impl Model for Detect {
 }
 
 impl Detect {
-    ghost use Rattle.std.specs.Prelude.{◌≡◌, ◌+◌, ◌<◌, ◌≤◌, [], ◌∷◌, ◌++◌, List, length, unsigned_abs};
+    ghost use Rattle.std.specs.Prelude.{◌≡◌, ◌+◌, ◌<◌, ◌≤◌, [], unsigned_abs};
     ghost use Rattle.edr_items.specs.declared.TheConstants.{LATEST_MOMENT};
-    ghost use Rattle.edr_definitions.specs.Change.{tick_change};
-    ghost use Rattle.edr_detect.specs.Rows.{Row, signals_of_rows};
-    ghost use Rattle.edr_detect.specs.Stages.{told_of};
-    ghost use Rattle.edr_detect.specs.Detected.{DetectStandsFor};
+    ghost use Rattle.edr_detect.specs.Rows.{row_of};
+    ghost use Rattle.edr_detect.specs.Detected.{DetectStandsFor, DetectsNext, TellsNext};
 
     /// A detector at the start of a cycle, before its first tick.
     pub fn new() -> Detect
@@ -60,8 +58,8 @@ impl Detect {
         requires along_small { unsigned_abs along ≤ 100_000 }
         requires across_small { unsigned_abs across ≤ 100_000 }
         requires room { self.old.tick < LATEST_MOMENT }
-        ensures stands { (rows : List Row) → DetectStandsFor self.old rows → DetectStandsFor self.new (rows ++ record { along = along; across = across; fired = fired } ∷ []) }
-        ensures answer { (rows : List Row) → DetectStandsFor self.old rows → told_of result ≡ tick_change (signals_of_rows (rows ++ record { along = along; across = across; fired = fired } ∷ [])) (length rows + 1) }
+        ensures stands { DetectsNext (row_of along across fired) self.old self.new }
+        ensures answer { TellsNext (row_of along across fired) self.old result }
         ensures tick { self.new.tick ≡ self.old.tick + 1 }
     {
         // At most ticks of a drive nothing moves, nothing fires and no candidate is open.
@@ -79,8 +77,8 @@ impl Detect {
         requires along_small { unsigned_abs along ≤ 100_000 }
         requires across_small { unsigned_abs across ≤ 100_000 }
         requires room { self.old.tick < LATEST_MOMENT }
-        ensures stands { (rows : List Row) → DetectStandsFor self.old rows → DetectStandsFor self.new (rows ++ record { along = along; across = across; fired = fired } ∷ []) }
-        ensures answer { (rows : List Row) → DetectStandsFor self.old rows → told_of result ≡ tick_change (signals_of_rows (rows ++ record { along = along; across = across; fired = fired } ∷ [])) (length rows + 1) }
+        ensures stands { DetectsNext (row_of along across fired) self.old self.new }
+        ensures answer { TellsNext (row_of along across fired) self.old result }
         ensures tick { self.new.tick ≡ self.old.tick + 1 }
     {
         self.tick += 1;

@@ -1,10 +1,8 @@
 //! What the streaming search keeps of the samples.
 
-ghost use Rattle.std.specs.Prelude.{◌≡◌, ℕ, ◌+◌, ◌-◌, ◌<◌, ◌≤◌, ℤ, pos, Option, None, IsTrue, false, unsigned_abs};
+ghost use Rattle.std.specs.Prelude.{◌≡◌, ℕ, ◌+◌, ◌-◌, ◌<◌, ◌≤◌, pos, IsTrue, false, unsigned_abs};
 ghost use Rattle.edr_items.specs.declared.TheConstants.{LATEST_MOMENT};
-ghost use Rattle.edr_definitions.specs.Windows.{swing, change_at};
-ghost use Rattle.edr_window.specs.Changes.{changes};
-ghost use Rattle.edr_window.specs.Swing.{SwingStandsFor};
+ghost use Rattle.edr_detect.specs.Standing.{IsSizeOfSwing, HasNoSwing};
 
 use crate::latest::Latest;
 use crate::stage::{Change, Stage, Tests};
@@ -27,7 +25,7 @@ pub struct Windows {
 
 // The sum of the greatest size, either way.
 fn largest<const K: usize>(sums: &Swing<K>) -> i64
-    ensures { (axis : ℕ → Option ℤ) (from t : ℕ) → SwingStandsFor K sums.now (changes axis from t) → unsigned_abs result ≡ swing axis K from t }
+    ensures { IsSizeOfSwing K sums.now (unsigned_abs result) }
 {
     let Some(least) = sums.least() else {
         return 0;
@@ -44,7 +42,7 @@ fn largest<const K: usize>(sums: &Swing<K>) -> i64
 
 // No sum differs from 0.
 fn is_at_rest<const K: usize>(sums: &Swing<K>) -> bool
-    ensures { IsTrue result → (axis : ℕ → Option ℤ) (from t : ℕ) → SwingStandsFor K sums.now (changes axis from t) → swing axis K from t ≡ 0 }
+    ensures { IsTrue result → HasNoSwing K sums.now }
 {
     sums.least() == Some(0) && sums.greatest() == Some(0)
 }
@@ -54,7 +52,7 @@ impl Windows {
     ghost use Rattle.edr_definitions.specs.Selection.{Bounds, is_triggered, is_time_zero, is_end, at_start};
     ghost use Rattle.edr_definitions.specs.Search.{Phase, Searching};
     ghost use Rattle.edr_detect.specs.Stages.{phase_of, is_event};
-    ghost use Rattle.edr_detect.specs.Standing.{SwingsStandFor, WindowsStandFor, HoldNothing, PushedAtMost, BeginsAtRest, TestsAre, bounds_past};
+    ghost use Rattle.edr_detect.specs.Standing.{SwingsStandFor, SwingsTake, WindowsStandFor, WindowsTake, HoldNothing, AreStill, PushedAtMost, BeginsAtRest, TellsEnd, IsEventUntilClosed, TestsAre, bounds_past};
 
     pub fn new() -> Windows
         ensures stands { (m : Signals) → BeginsAtRest m → WindowsStandFor m at_start Searching 0 result }
@@ -75,7 +73,7 @@ impl Windows {
         requires along_small { unsigned_abs along ≤ 100_000 }
         requires across_small { unsigned_abs across ≤ 100_000 }
         requires room { PushedAtMost (LATEST_MOMENT - 1) self.old }
-        ensures stands { (m : Signals) (b : Bounds) (before t : ℕ) → t ≡ before + 1 → b.after ≤ before → b.since ≤ before → change_at m.along t ≡ along → change_at m.across t ≡ across → SwingsStandFor m b before self.old → SwingsStandFor m b t self.new }
+        ensures stands { SwingsTake along across self.old self.new }
         ensures pushed { (n : ℕ) → PushedAtMost n self.old → PushedAtMost (n + 1) self.new }
         ensures latest_along { self.new.latest_along ≡ self.old.latest_along }
         ensures latest_across { self.new.latest_across ≡ self.old.latest_across }
@@ -92,7 +90,7 @@ impl Windows {
         requires along_small { unsigned_abs along ≤ 100_000 }
         requires across_small { unsigned_abs across ≤ 100_000 }
         requires room { PushedAtMost (LATEST_MOMENT - 1) self.old }
-        ensures stands { (m : Signals) (b : Bounds) (before : ℕ) → t ≡ before + 1 → b.after ≤ before → b.since ≤ before → BeginsAtRest m → change_at m.along t ≡ along → change_at m.across t ≡ across → WindowsStandFor m b (phase_of stage) before self.old → WindowsStandFor m b (phase_of stage) t self.new }
+        ensures stands { WindowsTake (phase_of stage) t along across self.old self.new }
         ensures pushed { (n : ℕ) → PushedAtMost n self.old → PushedAtMost (n + 1) self.new }
     {
         self.latest_along.push(t, along);
@@ -107,7 +105,7 @@ impl Windows {
     #[inline(always)]
     pub fn rest(&mut self)
         requires room { PushedAtMost (LATEST_MOMENT - 1) self.old }
-        ensures stands { (m : Signals) (b : Bounds) (p : Phase) (before t : ℕ) → t ≡ before + 1 → b.after ≤ before → b.since ≤ before → BeginsAtRest m → change_at m.along t ≡ pos 0 → change_at m.across t ≡ pos 0 → HoldNothing self.old → WindowsStandFor m b p before self.old → WindowsStandFor m b p t self.new }
+        ensures stands { HoldNothing self.old → (p : Phase) (t : ℕ) → WindowsTake p t (pos 0) (pos 0) self.old self.new }
         ensures nothing { HoldNothing self.old → HoldNothing self.new }
         ensures pushed { (n : ℕ) → PushedAtMost n self.old → PushedAtMost (n + 1) self.new }
     {
@@ -119,10 +117,7 @@ impl Windows {
 
     // No sum of any swing differs from 0, and no change of the last 20 ticks.
     pub fn are_at_rest(&self) -> bool
-        ensures zero_along { IsTrue result → (m : Signals) (b : Bounds) (t : ℕ) → SwingsStandFor m b t self.now → swing m.along 20 b.after t ≡ 0 }
-        ensures zero_across { IsTrue result → (m : Signals) (b : Bounds) (t : ℕ) → SwingsStandFor m b t self.now → swing m.across 5 b.after t ≡ 0 }
-        ensures trigger_along { IsTrue result → (m : Signals) (b : Bounds) (t : ℕ) → SwingsStandFor m b t self.now → swing m.along 150 b.since t ≡ 0 }
-        ensures trigger_across { IsTrue result → (m : Signals) (b : Bounds) (t : ℕ) → SwingsStandFor m b t self.now → swing m.across 150 b.since t ≡ 0 }
+        ensures still { IsTrue result → (m : Signals) (b : Bounds) (t : ℕ) → SwingsStandFor m b t self.now → AreStill m b t }
         ensures nothing { IsTrue result → HoldNothing self.now }
     {
         is_at_rest(&self.zero_along)
@@ -167,7 +162,7 @@ impl Windows {
 
     // The open candidate ends at the tick t, if it hasn't before.
     fn end_stands(&self, stage: Stage, t: u32) -> bool
-        ensures { (m : Signals) (b : Bounds) (p : Phase) → WindowsStandFor m b p t self.now → (z : ℕ) (c l : Option ℕ) → stage ≡ Stage.Open z c l None → result ≡ is_end m z t }
+        ensures { (m : Signals) (b : Bounds) (p : Phase) → WindowsStandFor m b p t self.now → TellsEnd m stage t result }
     {
         match stage {
             Stage::Open { zero, .. } => self.ends(zero, t),
@@ -200,7 +195,7 @@ impl Windows {
 
     // A candidate leaves the search: a time zero comes after it, and after an event the trigger begins anew too.
     pub fn restart(&mut self, change: Change)
-        ensures stands { (m : Signals) (b : Bounds) (p q : Phase) (t : ℕ) → (change.closed ≡ false → is_event q ≡ false → is_event p ≡ false) → WindowsStandFor m b p t self.old → WindowsStandFor m (bounds_past t change b) q t self.new }
+        ensures stands { (m : Signals) (b : Bounds) (p q : Phase) (t : ℕ) → IsEventUntilClosed change p q → WindowsStandFor m b p t self.old → WindowsStandFor m (bounds_past t change b) q t self.new }
         ensures pushed { (n : ℕ) → PushedAtMost n self.old → PushedAtMost n self.new }
     {
         if change.closed {

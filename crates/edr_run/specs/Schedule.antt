@@ -5,7 +5,7 @@ use Rattle.edr_items.specs.declared.Item.{Item}
 use Rattle.edr_items.specs.SensorLists.{SensorLists, AreFeeds, items_of, horizon_of, no_items}
 use Rattle.edr_record.specs.declared.Command.{Command}
 use Rattle.edr_definitions.specs.Commands.{commands}
-use Rattle.edr_definitions.specs.Schedule.{Progress, Give, Close, BeginsWith, IsAllowed, after_step}
+use Rattle.edr_definitions.specs.Schedule.{Progress, Give, Close, BeginsWith, IsAllowed, after_step, IsOver}
 use Rattle.edr_image.specs.Banks.{Store}
 use Rattle.edr_image.specs.Calls.{IsStop, all_calls}
 use Rattle.edr_image.specs.Steps.{State, Step, at_rest, after, reply_to, state_after, steps_of}
@@ -71,6 +71,14 @@ pub record HasReached (f : SensorLists) (n : ℕ) (v : Store) (b : Moment) : Typ
   pub over : List Moment
   pub leads : Leads n (begun v) over b
   pub begins : Begins f b
+
+-- they lead to b, where all is given and closed and every issued command applied
+pub record HasFinished (f : SensorLists) (n : ℕ) (v : Store) (b : Moment) : Type 0 where
+  pub feeds : AreFeeds f
+  pub over : List Moment
+  pub leads : Leads n (begun v) over b
+  pub is_over : IsOver f b.progress
+  pub all_applied : b.applied ≡ b.issued
 
 -- these are the banks after the first j commands, or after a stop of the cycle in the next one
 abbrev pub IsLeftAfter : SensorLists → ℕ → Store → ℕ → Store → Type 0

@@ -1,9 +1,8 @@
 //! Laws of cycles and runs, each the contract of a function that does nothing.
 
 ghost use Rattle.std.specs.Prelude.{◌≡◌, ◌↔◌, ℕ, None, List, Contains};
-ghost use Rattle.edr_items.specs.SensorLists.{SensorLists, AreFeeds};
+ghost use Rattle.edr_items.specs.SensorLists.{SensorLists};
 ghost use Rattle.edr_definitions.specs.Commands.{commands};
-ghost use Rattle.edr_definitions.specs.Schedule.{IsOver};
 ghost use Rattle.edr_image.specs.Banks.{Store};
 ghost use Rattle.edr_image.specs.Kept.{AreKept};
 ghost use Rattle.edr_image.specs.Order.{AreInOrder};
@@ -11,7 +10,7 @@ ghost use Rattle.edr_image.specs.Steps.{after, state_after, at_rest};
 ghost use Rattle.edr_spell.specs.declared.CycleInput.{CycleInput};
 ghost use Rattle.edr_run.specs.Keeps.{KeepsDone, KeepsLocked, LeavesLocked, StaysInWindow};
 ghost use Rattle.edr_run.specs.Cycle.{End, IsCycle, ends, Outcome, IsRun, outcomes, steps_in};
-ghost use Rattle.edr_run.specs.Schedule.{HasReached, IsCut, IsLeftAfter, Leads, Moment, begun, steps_of_first};
+ghost use Rattle.edr_run.specs.Schedule.{HasFinished, HasReached, IsCut, IsLeftAfter, Moment, steps_of_first};
 
 /// The listed ends are those to which a cycle may come.
 pub fn ends_are_listed()
@@ -66,7 +65,6 @@ pub fn any_cut()
 
 /// Where all is given and closed and every issued command applied, they are those after the whole cycle.
 pub fn whole_schedule()
-    ensures { (f : SensorLists) (n : ℕ) (v : Store) (ms : List Moment) (b : Moment) → AreFeeds f
-        → Leads n (begun v) ms b → IsOver f b.progress → b.applied ≡ b.issued
+    ensures { (f : SensorLists) (n : ℕ) (v : Store) (b : Moment) → HasFinished f n v b
         → b.banks.store ≡ after v (steps_in f n v) }
 {}

@@ -4,10 +4,10 @@
 mod candidates;
 pub mod laws;
 
-ghost use Rattle.std.specs.Prelude.{◌≡◌, ℕ, ◌+◌, ◌<◌, ◌≤◌, [], ◌∷◌, ◌++◌, List, ℤ, neg_ℤ, unsigned_abs, IsTrue, MatchOption};
+ghost use Rattle.std.specs.Prelude.{◌≡◌, ◌+◌, ◌<◌, ◌≤◌, [], ◌∷◌, ◌++◌, List, ℤ, neg_ℤ, unsigned_abs, IsTrue};
 ghost use Rattle.edr_items.specs.declared.TheConstants.{LATEST_MOMENT};
 ghost use Rattle.edr_window.specs.Candidates.{most};
-ghost use Rattle.edr_window.specs.Sums.{IsLeastSum, IsGreatestSum};
+ghost use Rattle.edr_window.specs.Sums.{IsLeastSumIfAny, IsGreatestSumIfAny};
 ghost use Rattle.edr_window.specs.Swing.{SwingStandsFor};
 
 use crate::candidates::{Candidates, Earlier};
@@ -104,7 +104,7 @@ impl<const K: usize> Swing<K> {
 
     /// The least of the sums, or None where nothing was pushed since the restart.
     pub fn least(&self) -> Option<i64>
-        ensures { (values : List ℤ) → SwingStandsFor K self.now values → MatchOption result (values ≡ []) (IsLeastSum K values) }
+        ensures { (values : List ℤ) → SwingStandsFor K self.now values → IsLeastSumIfAny K values result }
     {
         match self.pushes {
             0 => None,
@@ -114,7 +114,7 @@ impl<const K: usize> Swing<K> {
 
     /// The greatest of the sums, or None where nothing was pushed since the restart.
     pub fn greatest(&self) -> Option<i64>
-        ensures { (values : List ℤ) → SwingStandsFor K self.now values → MatchOption result (values ≡ []) (IsGreatestSum K values) }
+        ensures { (values : List ℤ) → SwingStandsFor K self.now values → IsGreatestSumIfAny K values result }
     {
         match self.pushes {
             0 => None,

@@ -2,7 +2,7 @@ use Rattle.edr_definitions.proofs.WholeLaws.{whole-accept, commands-accept, issu
 use Rattle.edr_definitions.proofs.streaming.an_accepted_item_changes_no_command.Goals as goal
 
 pub returns-clause-stands : goal.returns-clause-stands
-returns-clause-stands c = whole-accept
+returns-clause-stands c = λ core. whole-accept core.lists core.cycle core.tick core.search core.state core.crash
 
 pub returns-clause-same : goal.returns-clause-same
 returns-clause-same c = commands-accept

@@ -21,7 +21,7 @@ returns-then-not-tests c =
     (c.self.inside.tick + 1) c.push.new.self c.are_at_rest-self-inside.result
     (subst (λ (d : DetectState). DetectStandsFor d rows) (sym c.self.view_is) h) refl (c.is_searching.ensures c.if-is_searching.true)
     push rest.nothing c.tests-tests.result (not-true c.tests-tests.result.zero c.if-not-tests.true) (λ m b before next after fires w. c.tests-tests.ensures m b w (omega arith) fires)
-    (λ told m b t w. record { zero_along = rest.zero_along told m b t w; zero_across = rest.zero_across told m b t w; trigger_along = rest.trigger_along told m b t w; trigger_across = rest.trigger_across told m b t w }) in
+    rest.still in
     record {
       stands = λ rows h. (both rows h).0;
       answer = λ rows h. (both rows h).1;

@@ -24,7 +24,7 @@ returns-then-self c =
     let h : DetectStandsFor before rows = subst (λ (d : DetectState). DetectStandsFor d rows) (sym c.self.view_is) stands in
     let rest = at-rest before rows h c.if-self.true in
     tick-quiet rows r before (c.self.inside.tick + 1) c.rest.new.self c.self.inside.rests h refl rest.0
-    (λ m b t next past since start here side old. c.rest.ensures.stands m b (phase_of c.self.inside.stage) t (c.self.inside.tick + 1) next past since start (here ∙ along) (side ∙ across) rest.1 old)
+    (λ m b t next past since start here side old. c.rest.ensures.stands rest.1 (phase_of c.self.inside.stage) (c.self.inside.tick + 1) m b t next past since start (here ∙ along) (side ∙ across) old)
     (λ _. c.rest.ensures.nothing rest.1)
     along across c.if-fired-eq0.true c.if-self.true in
     record {

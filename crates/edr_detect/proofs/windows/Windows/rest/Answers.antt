@@ -3,7 +3,7 @@ use Rattle.edr_detect.proofs.LatestLemmas.{latest-still}
 use Rattle.edr_detect.proofs.windows.Windows.rest.Goals as goal
 
 pub returns-clause-stands : goal.returns-clause-stands
-returns-clause-stands c = λ m b p before t next after_past since_past start along across none h. record {
+returns-clause-stands c = λ none p t m b before next after_past since_past start along across h. record {
   swings = λ none_open. let w = h.swings none_open in record {
     zero_along = swing-more 20 m.along b.after before t _ c.args.self.now.zero_along _ next after_past along c.push.ensures.stands w.zero_along;
     zero_across = swing-more 5 m.across b.after before t _ c.args.self.now.zero_across _ next after_past across c.push-2.ensures.stands w.zero_across;
