@@ -67,7 +67,12 @@ abbrev pub issued_after : ℕ → Change → Option (Place × ℕ) → Option Ca
 issued_after t change link None = no_issues
 issued_after t change link (Some o) = issued change (told t change link o)
 
--- the same in the words of the definitions
+-- where this stands at a tick, the open candidate and the last event stay as they are, and nothing is issued
+abbrev pub PassesBy : Change → Option Candidate → Type 0
+PassesBy change o =
+    (t : ℕ) (link : Option (Place × ℕ)) → (o ≡ candidate_after t change link o) × (link ≡ link_after t change link o) × (no_issues ≡ issued_after t change link o)
+
+-- the issues in the words of the definitions
 abbrev pub issues_in : Issued → TickIssues
 issues_in i = record { take = i.take; lock = i.lock; done = i.done }
 

@@ -13,3 +13,4 @@ pub mod StandsFor
 pub mod Fields
 pub mod Answers
 pub mod SplitAnswers
+pub mod Calls

@@ -1,9 +1,8 @@
 //! The open candidate: what is kept of it from tick to tick, and what a tick issues of it.
 
-ghost use Rattle.std.specs.Prelude.{◌≡◌, ℕ, Option, IsTrue, IfSome, option_map};
-ghost use Rattle.edr_record.specs.declared.Place.{Place};
+ghost use Rattle.std.specs.Prelude.{◌≡◌, Option, IsTrue, IfSome, option_map};
 ghost use Rattle.edr_detect.specs.Stages.{told_of};
-ghost use Rattle.edr_core.specs.Candidate.{IsRowInRange, IsShort, CanBeTold, begun, grown, told, linked, issued, no_issues, candidate_after, link_after, issued_after};
+ghost use Rattle.edr_core.specs.Candidate.{IsRowInRange, IsShort, CanBeTold, PassesBy, begun, grown, told, linked, issued, no_issues, candidate_after, link_after, issued_after};
 
 use edr_crashpart::CrashPart;
 use edr_detect::Change;
@@ -117,8 +116,7 @@ pub fn grow(candidate: &mut Option<Candidate>, row: Row)
 // The tick issues nothing, and leaves what is open as it is.
 #[inline(always)]
 pub fn passes_by(candidate: &Option<Candidate>, change: Change) -> bool
-    ensures { IsTrue result → (t : ℕ) (link : Option (Place × ℕ)) → (candidate.now ≡ candidate_after t (told_of change) link candidate.now)
-        × (link ≡ link_after t (told_of change) link candidate.now) × (no_issues ≡ issued_after t (told_of change) link candidate.now) }
+    ensures { IsTrue result → PassesBy (told_of change) candidate.now }
 {
     if change.confirmed || change.locked || change.ended || change.dropped || change.closed {
         return candidate.is_none();

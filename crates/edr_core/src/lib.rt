@@ -74,9 +74,10 @@ impl Model for Core {
 }
 
 impl Core {
-    ghost use Rattle.edr_merge.specs.Answers.{give_refusal_of, waited_for};
+    ghost use Rattle.edr_merge.specs.Answers.{waited_for};
     ghost use Rattle.edr_core.specs.StandsFor.{CoreIsFor};
     ghost use Rattle.edr_core.specs.Answers.{IsClosed, IsQuiet, awaited, after_answer, step_of, HasTheCommands, HasTheIssues};
+    ghost use Rattle.edr_core.specs.Calls.{IsWhyRefused, CoreFollows};
 
     /// A core for the ignition cycle of that number, to which no sensor has given an item, and of which no tick is closed.
     pub fn open(alloc: Global, cycle: u32) -> Result<Core, OutOfMemory>
@@ -104,12 +105,12 @@ impl Core {
     /// ```
     #[inline(always)]
     pub fn accept(&mut self, sensor: Sensor, item: Item) -> Result<(), MergeRefused>
-        ensures ok { OnOk result ((n : ℕ) (p : Progress) → CoreIsFor self.old n p → CoreIsFor self.new n (after_step p (Give sensor item))) }
+        ensures ok { OnOk result (CoreFollows (λ p. after_step p (Give sensor item)) self.old self.new) }
         ensures err { OnErr result (self.new ≡ self.old) }
 
         // An item is taken exactly where the schedule allows it.
         ensures allowed { (n : ℕ) (p : Progress) → CoreIsFor self.old n p → IsOk result ↔ IsAllowed (Give sensor item) p }
-        ensures why { (n : ℕ) (p : Progress) → CoreIsFor self.old n p → IfErr result (λ e. give_refusal_of sensor item p ≡ Some e) }
+        ensures why { (n : ℕ) (p : Progress) → CoreIsFor self.old n p → IfErr result (IsWhyRefused sensor item p) }
     {
         self.split.take(sensor, item)?;
         self.captures.push(sensor, item);
@@ -121,7 +122,7 @@ impl Core {
         // A tick that is closed is the next one, and the commands up to it are those before it and then the ones that it carries.
         ensures commands { (n : ℕ) (p : Progress) → CoreIsFor self.old n p → HasTheCommands n p result }
         ensures ticks { (n : ℕ) (p : Progress) → CoreIsFor self.old n p → HasTheIssues n p result }
-        ensures stands { (n : ℕ) (p : Progress) → CoreIsFor self.old n p → CoreIsFor self.new n (after_answer p result) }
+        ensures stands { CoreFollows (λ p. after_answer p result) self.old self.new }
 
         // A tick is closed exactly where the schedule allows it; else the sensor is the lowest-numbered that it waits for.
         ensures allowed { (n : ℕ) (p : Progress) → CoreIsFor self.old n p → IsClosed result ↔ IsAllowed Close p }
@@ -146,7 +147,7 @@ impl Core {
         // The answer and what was put aside are a step, of which all stands that stands of one.
         ensures commands { (n : ℕ) (p : Progress) → CoreIsFor self.old n p → HasTheCommands n p (step_of result issued.new) }
         ensures ticks { (n : ℕ) (p : Progress) → CoreIsFor self.old n p → HasTheIssues n p (step_of result issued.new) }
-        ensures stands { (n : ℕ) (p : Progress) → CoreIsFor self.old n p → CoreIsFor self.new n (after_answer p (step_of result issued.new)) }
+        ensures stands { CoreFollows (λ p. after_answer p (step_of result issued.new)) self.old self.new }
         ensures allowed { (n : ℕ) (p : Progress) → CoreIsFor self.old n p → IsClosed (step_of result issued.new) ↔ IsAllowed Close p }
         ensures waits { (n : ℕ) (p : Progress) → CoreIsFor self.old n p → awaited (step_of result issued.new) ≡ waited_for p }
         ensures quiet { IsQuiet result → issued.new ≡ issued.old }

@@ -1,6 +1,6 @@
 //! The core that is told no value of a slow sensor: it asks for the five parts of each time zero.
 
-ghost use Rattle.std.specs.Prelude.{◌≡◌, ◌↔◌, ℕ, ◌+◌, ◌≤◌, ◌<◌, true, false, Some, None, is_some, IfOk, IfErr, IsOk, IsSome, OnOk, OnErr};
+ghost use Rattle.std.specs.Prelude.{◌≡◌, ◌↔◌, ◌+◌, ◌≤◌, ◌<◌, true, false, Some, None, is_some, IfOk, IfErr, IsOk, IsSome, OnOk, OnErr};
 ghost use Rattle.edr_definitions.specs.Schedule.{Give, IsAllowed};
 
 use crate::ask::{Ask, PartRefused};
@@ -83,11 +83,10 @@ impl Model for SplitCore {
 
 impl SplitCore {
     ghost use Rattle.edr_merge.specs.Answers.{give_refusal_of};
-    ghost use Rattle.edr_capture.specs.SensorPart.{SensorPart};
-    ghost use Rattle.edr_core.specs.Parts.{Slots, AreSlotsOf};
     ghost use Rattle.edr_core.specs.SplitHistory.{History, start_of, after_item, after_part, due};
     ghost use Rattle.edr_core.specs.SplitStandsFor.{SplitCoreStandsFor};
-    ghost use Rattle.edr_core.specs.SplitAnswers.{answer_of, after_split, HasTheCommandsWith, HasTheIssuesWith, split_step_of, IsSplitQuiet, part_refusal_of};
+    ghost use Rattle.edr_core.specs.SplitAnswers.{answer_of, after_split, split_step_of, IsSplitQuiet, part_refusal_of};
+    ghost use Rattle.edr_core.specs.Calls.{IsWhyRefused, SplitFollows, GivesTheCommands, GivesTheIssues};
 
     /// A core for the ignition cycle of that number, to which no sensor has given an item, and of which no tick is closed.
     pub fn open(alloc: Global, cycle: u32) -> Result<SplitCore, OutOfMemory>
@@ -116,12 +115,12 @@ impl SplitCore {
     /// Takes one more item of that sensor. Of a slow sensor its moment alone counts, and an item without a value does.
     #[inline(always)]
     pub fn accept(&mut self, sensor: Sensor, item: Item) -> Result<(), MergeRefused>
-        ensures ok { OnOk result ((h : History) → SplitCoreStandsFor self.old h → SplitCoreStandsFor self.new (after_item sensor item h)) }
+        ensures ok { OnOk result (SplitFollows (after_item sensor item) self.old self.new) }
         ensures err { OnErr result (self.new ≡ self.old) }
 
         // An item is taken exactly where the schedule allows it, also while parts are asked for.
         ensures allowed { (h : History) → SplitCoreStandsFor self.old h → IsOk result ↔ IsAllowed (Give sensor item) h.past }
-        ensures why { (h : History) → SplitCoreStandsFor self.old h → IfErr result (λ e. give_refusal_of sensor item h.past ≡ Some e) }
+        ensures why { (h : History) → SplitCoreStandsFor self.old h → IfErr result (IsWhyRefused sensor item h.past) }
     {
         if item.moment > self.closed + LONGEST_GAP && self.asking {
             return Err(self.ahead(sensor, item));
@@ -133,10 +132,10 @@ impl SplitCore {
     #[inline(always)]
     pub(crate) fn take(&mut self, sensor: Sensor, item: Item) -> Result<(), MergeRefused>
         requires { is_some self.old.ask ≡ true → item.moment ≤ self.old.closed + 1_000 }
-        ensures ok { OnOk result ((h : History) → SplitCoreStandsFor self.old h → SplitCoreStandsFor self.new (after_item sensor item h)) }
+        ensures ok { OnOk result (SplitFollows (after_item sensor item) self.old self.new) }
         ensures err { OnErr result (self.new ≡ self.old) }
         ensures allowed { (h : History) → SplitCoreStandsFor self.old h → IsOk result ↔ IsAllowed (Give sensor item) h.past }
-        ensures why { (h : History) → SplitCoreStandsFor self.old h → IfErr result (λ e. give_refusal_of sensor item h.past ≡ Some e) }
+        ensures why { (h : History) → SplitCoreStandsFor self.old h → IfErr result (IsWhyRefused sensor item h.past) }
     {
         self.merge.accept(sensor, item)?;
         Ok(())
@@ -161,9 +160,9 @@ impl SplitCore {
     pub fn step(&mut self) -> SplitStep
         // A tick that is closed is the next one, and the commands up to it are those before it and then the ones that it carries,
         // where each pre part has the slots of the parts that were taken for its time zero.
-        ensures commands { (h : History) (slots : Slots) → SplitCoreStandsFor self.old h → AreSlotsOf h.parts slots → HasTheCommandsWith slots h.cycle h.past result }
-        ensures ticks { (h : History) (slots : Slots) → SplitCoreStandsFor self.old h → AreSlotsOf h.parts slots → HasTheIssuesWith slots h.cycle h.past result }
-        ensures stands { (h : History) → SplitCoreStandsFor self.old h → SplitCoreStandsFor self.new (after_split h result) }
+        ensures commands { GivesTheCommands self.old result }
+        ensures ticks { GivesTheIssues self.old result }
+        ensures stands { SplitFollows (λ h. after_split h result) self.old self.new }
 
         // It waits as the schedule says, asks at each time zero, lacks parts up to the last of them, and closes else.
         ensures answer { (h : History) → SplitCoreStandsFor self.old h → answer_of result ≡ due h }
@@ -186,9 +185,9 @@ impl SplitCore {
     /// candidate is open.
     #[inline(always)]
     pub fn close(&mut self, issued: &mut Issued) -> SplitClosing
-        ensures commands { (h : History) (slots : Slots) → SplitCoreStandsFor self.old h → AreSlotsOf h.parts slots → HasTheCommandsWith slots h.cycle h.past (split_step_of result issued.new) }
-        ensures ticks { (h : History) (slots : Slots) → SplitCoreStandsFor self.old h → AreSlotsOf h.parts slots → HasTheIssuesWith slots h.cycle h.past (split_step_of result issued.new) }
-        ensures stands { (h : History) → SplitCoreStandsFor self.old h → SplitCoreStandsFor self.new (after_split h (split_step_of result issued.new)) }
+        ensures commands { GivesTheCommands self.old (split_step_of result issued.new) }
+        ensures ticks { GivesTheIssues self.old (split_step_of result issued.new) }
+        ensures stands { SplitFollows (λ h. after_split h (split_step_of result issued.new)) self.old self.new }
         ensures answer { (h : History) → SplitCoreStandsFor self.old h → answer_of (split_step_of result issued.new) ≡ due h }
         ensures quiet { IsSplitQuiet result → issued.new ≡ issued.old }
     {
@@ -202,9 +201,9 @@ impl SplitCore {
     #[inline(always)]
     pub(crate) fn close_free(&mut self, issued: &mut Issued) -> SplitClosing
         requires { is_some self.old.ask ≡ false }
-        ensures commands { (h : History) (slots : Slots) → SplitCoreStandsFor self.old h → AreSlotsOf h.parts slots → HasTheCommandsWith slots h.cycle h.past (split_step_of result issued.new) }
-        ensures ticks { (h : History) (slots : Slots) → SplitCoreStandsFor self.old h → AreSlotsOf h.parts slots → HasTheIssuesWith slots h.cycle h.past (split_step_of result issued.new) }
-        ensures stands { (h : History) → SplitCoreStandsFor self.old h → SplitCoreStandsFor self.new (after_split h (split_step_of result issued.new)) }
+        ensures commands { GivesTheCommands self.old (split_step_of result issued.new) }
+        ensures ticks { GivesTheIssues self.old (split_step_of result issued.new) }
+        ensures stands { SplitFollows (λ h. after_split h (split_step_of result issued.new)) self.old self.new }
         ensures answer { (h : History) → SplitCoreStandsFor self.old h → answer_of (split_step_of result issued.new) ≡ due h }
         ensures quiet { IsSplitQuiet result → issued.new ≡ issued.old }
     {
@@ -249,9 +248,9 @@ impl SplitCore {
     #[inline(never)]
     pub(crate) fn close_asked(&mut self, issued: &mut Issued) -> SplitClosing
         requires { IsSome self.old.ask }
-        ensures commands { (h : History) (slots : Slots) → SplitCoreStandsFor self.old h → AreSlotsOf h.parts slots → HasTheCommandsWith slots h.cycle h.past (split_step_of result issued.new) }
-        ensures ticks { (h : History) (slots : Slots) → SplitCoreStandsFor self.old h → AreSlotsOf h.parts slots → HasTheIssuesWith slots h.cycle h.past (split_step_of result issued.new) }
-        ensures stands { (h : History) → SplitCoreStandsFor self.old h → SplitCoreStandsFor self.new (after_split h (split_step_of result issued.new)) }
+        ensures commands { GivesTheCommands self.old (split_step_of result issued.new) }
+        ensures ticks { GivesTheIssues self.old (split_step_of result issued.new) }
+        ensures stands { SplitFollows (λ h. after_split h (split_step_of result issued.new)) self.old self.new }
         ensures answer { (h : History) → SplitCoreStandsFor self.old h → answer_of (split_step_of result issued.new) ≡ due h }
         ensures quiet { IsSplitQuiet result → issued.new ≡ issued.old }
     {
@@ -278,7 +277,7 @@ impl SplitCore {
 
     /// Takes a part of the time zero that is asked for.
     pub fn part(&mut self, part: Part) -> Result<(), PartRefused>
-        ensures ok { OnOk result ((h : History) → SplitCoreStandsFor self.old h → SplitCoreStandsFor self.new (after_part part h)) }
+        ensures ok { OnOk result (SplitFollows (after_part part) self.old self.new) }
         ensures err { OnErr result (self.new ≡ self.old) }
 
         // A part is taken exactly where nothing refuses it.
