@@ -4,7 +4,7 @@ ghost use Rattle.std.specs.Prelude.{◌≡◌, Option, IsTrue, IfSome, option_ma
 ghost use Rattle.edr_detect.specs.Stages.{told_of};
 ghost use Rattle.edr_core.specs.Candidate.{IsRowInRange, IsShort, CanBeTold, PassesBy, begun, grown, told, linked, issued, no_issues, candidate_after, link_after, issued_after};
 
-use edr_crashpart::CrashPart;
+use edr_crashpart::OpenCrash;
 use edr_detect::Change;
 use edr_items::Restraints;
 use edr_link::Link;
@@ -23,7 +23,7 @@ pub struct Row {
 pub struct Candidate {
     // Frozen at time zero. The place is that of the event once it is confirmed.
     pub pre: Pre,
-    pub crash: CrashPart,
+    pub crash: OpenCrash,
     // The end once it has come, and time zero before that.
     pub end: u32,
 }
@@ -62,7 +62,7 @@ impl Candidate {
         let zero = pre.key.zero;
         Candidate {
             pre,
-            crash: CrashPart::begin(zero, row.fired),
+            crash: OpenCrash::begin(zero, row.fired),
             end: zero,
         }
     }

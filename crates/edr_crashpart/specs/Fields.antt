@@ -5,7 +5,7 @@ use Rattle.edr_definitions.specs.OpenCrash as meant
 use Rattle.edr_crashpart.specs.declared.axis.Axis.{Axis}
 use Rattle.edr_crashpart.specs.declared.axis.Peak.{Peak}
 use Rattle.edr_crashpart.specs.declared.ResultPeak.{ResultPeak}
-use Rattle.edr_crashpart.specs.declared.CrashPart.TheInside.{Inside}
+use Rattle.edr_crashpart.specs.declared.OpenCrash.TheInside.{Inside}
 
 abbrev pub peak_of : Peak → meant.Peak
 peak_of p = record { value = p.value; at = p.at }

@@ -99,7 +99,7 @@ fn with_firings(firsts: [Option<u16>; 8], fired: Restraints, at: u16) -> [Option
 /// The crash part of an event whose end may still be to come. It is given each tick from time zero on, in order, and
 /// takes a bounded number of steps for each.
 #[derive(Drop)]
-pub struct CrashPart {
+pub struct OpenCrash {
     zero: u32,
     // How many ticks there were after time zero.
     elapsed: u16,
@@ -109,7 +109,7 @@ pub struct CrashPart {
     fired: [Option<u16>; 8],
 }
 
-impl Model for CrashPart {
+impl Model for OpenCrash {
     ghost use Rattle.edr_definitions.specs.OpenCrash.{OpenCrash};
 
     ghost Value = { OpenCrash };
@@ -122,13 +122,13 @@ impl Model for CrashPart {
     ghost invariant = { λ p. IsOpen (part_of p) };
 }
 
-impl CrashPart {
+impl OpenCrash {
     /// The crash part at its time zero, a tick of the cycle, with the restraints that fire at that tick.
-    pub fn begin(zero: u32, fired: Restraints) -> CrashPart
+    pub fn begin(zero: u32, fired: Restraints) -> OpenCrash
         ensures part { result ≡ begin_crash zero fired.0 }
         ensures stands { StandsFor result zero fired.0 [] }
     {
-        CrashPart {
+        OpenCrash {
             zero,
             elapsed: 0,
             along: Axis::begin(),

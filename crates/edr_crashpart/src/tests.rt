@@ -42,13 +42,13 @@ fn sample_at(pulse: Pulse, t: u32) -> Option<i32>
 }
 
 // The crash part of a time zero after that many ticks, where restraints fire at time zero alone.
-fn part_after(zero: u32, ticks: u16, fired: u8, along: Pulse, across: Pulse) -> CrashPart
+fn part_after(zero: u32, ticks: u16, fired: u8, along: Pulse, across: Pulse) -> OpenCrash
     requires zero { zero + 500 < 2 ^ 32 }
     requires ticks { ticks ≤ 500 }
     ensures zero { result.zero ≡ zero }
     ensures elapsed { result.elapsed ≡ ticks }
 {
-    let mut part = CrashPart::begin(zero, Restraints(fired));
+    let mut part = OpenCrash::begin(zero, Restraints(fired));
     for k in 0..ticks {
         let t = zero + u32::from(k) + 1;
         part.tick(sample_at(along, t), sample_at(across, t), Restraints(0));

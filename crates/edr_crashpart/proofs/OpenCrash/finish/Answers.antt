@@ -3,7 +3,7 @@ use Rattle.edr_definitions.specs.OpenCrash.{OpenCrash, finish_crash}
 use Rattle.edr_crashpart.specs.Fields.{part_of}
 use Rattle.edr_crashpart.proofs.PartLemmas.{finish_crash-is}
 use Rattle.edr_crashpart.proofs.HistoryLemmas.{finish-definition}
-use Rattle.edr_crashpart.proofs.CrashPart.finish.Goals as goal
+use Rattle.edr_crashpart.proofs.OpenCrash.finish.Goals as goal
 
 pub returns-clause-definition : goal.returns-clause-definition
 returns-clause-definition c = λ z first rows is.

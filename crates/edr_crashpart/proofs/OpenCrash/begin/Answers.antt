@@ -4,7 +4,7 @@ use Rattle.edr_crashpart.specs.Fields.{axis_of}
 use Rattle.edr_crashpart.proofs.BoundLemmas.{IsOpen-begin}
 use Rattle.edr_crashpart.proofs.PartLemmas.{begin_crash-is}
 use Rattle.edr_crashpart.proofs.HistoryLemmas.{stands-begin}
-use Rattle.edr_crashpart.proofs.CrashPart.begin.Goals as goal
+use Rattle.edr_crashpart.proofs.OpenCrash.begin.Goals as goal
 
 pub invariant_of-result : goal.invariant_of-result
 invariant_of-result c =

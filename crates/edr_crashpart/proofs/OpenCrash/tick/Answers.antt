@@ -5,7 +5,7 @@ use Rattle.edr_crashpart.specs.Fields.{axis_of, result_of, part_of}
 use Rattle.edr_crashpart.proofs.BoundLemmas.{IsOpen-next}
 use Rattle.edr_crashpart.proofs.PartLemmas.{next_crash-is}
 use Rattle.edr_crashpart.proofs.HistoryLemmas.{stands-next}
-use Rattle.edr_crashpart.proofs.CrashPart.tick.Goals as goal
+use Rattle.edr_crashpart.proofs.OpenCrash.tick.Goals as goal
 
 pub invariant_of-self : goal.invariant_of-self
 invariant_of-self c =
