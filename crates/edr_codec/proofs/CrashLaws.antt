@@ -10,7 +10,7 @@ use Rattle.edr_record.specs.Bounds.{IsCrash, ArePoints, IsChange, window_from_en
 use Rattle.edr_record.specs.declared.Extreme.{Extreme}
 use Rattle.edr_image.specs.declared.forms.CrashForm.{CrashForm}
 use Rattle.edr_image.specs.PartBytes.{Field, damage_of_fields, crash_damage_by, crash_at, crash_bytes_by, number_at, signed, unless, extreme_at, signed_bytes, slot_bytes, extreme_bytes, crash_size}
-use Rattle.edr_codec.specs.declared.rows.Row.{Row}
+use Rattle.edr_codec.specs.declared.rows.FieldRow.{FieldRow}
 use Rattle.edr_codec.proofs.RowLemmas.{AreBytes, Lies, RowsLie, rows-whole}
 use Rattle.edr_codec.proofs.NumberLemmas.{number-stands, number-put}
 use Rattle.edr_codec.proofs.PieceLemmas
@@ -183,7 +183,7 @@ one-row : (ranges : List (ℕ × ℕ)) (bytes : List ℕ) (at : ℕ) → Lies ra
 one-row ranges bytes at lies = PieceLemmas.only_one (λ k. Lies ranges (number_at bytes (at + 2 * k) 2))
     (subst (λ (i : ℕ). Lies ranges (number_at bytes i 2)) (let e : at ≡ at + 2 * 0 = omega arith in e) lies)
 
-axis-rows : (bytes : List ℕ) (at count : ℕ) (rest : List Row) → 1 ≤ count → count ≤ 26 → PointsLie bytes at count → RowsLie bytes (at + 52) rest → RowsLie bytes at (axis_rows count rest)
+axis-rows : (bytes : List ℕ) (at count : ℕ) (rest : List FieldRow) → 1 ≤ count → count ≤ 26 → PointsLie bytes at count → RowsLie bytes (at + 52) rest → RowsLie bytes at (axis_rows count rest)
 axis-rows bytes at count rest some few lie later =
     let here = λ (ranges : List (ℕ × ℕ)) (p q : ℕ) (same : p ≡ q) (lies : Lies ranges (number_at bytes p 2)). subst (λ (i : ℕ). Lies ranges (number_at bytes i 2)) same lies in (
       one-row ((0, 0) ∷ []) bytes at lie.first,

@@ -11,7 +11,7 @@ use Rattle.edr_record.specs.Bounds.{IsCrash, ArePoints, IsChange, IsExtreme, win
 use Rattle.edr_record.specs.declared.Extreme.{Extreme}
 use Rattle.edr_image.specs.declared.forms.CrashForm.{CrashForm}
 use Rattle.edr_image.specs.PartBytes.{Field, damage_of_fields, crash_fields_by, crash_damage_by, crash_at, number_at, numbers_at, signed, unless, extreme_at, change_field, time_field}
-use Rattle.edr_codec.specs.declared.rows.Row.{Row}
+use Rattle.edr_codec.specs.declared.rows.FieldRow.{FieldRow}
 use Rattle.edr_codec.specs.Rows.{fields_of}
 use Rattle.edr_codec.proofs.RowLemmas.{Lies, RowsLie, rows-lie}
 use Rattle.edr_codec.proofs.PieceLemmas.{only_zero}
@@ -26,18 +26,18 @@ points-few end = omega arith
 
 -- ---- the table
 
-abbrev pub change_row : ℕ → Row
+abbrev pub change_row : ℕ → FieldRow
 change_row count = two_ranges count 2 (0, 3_000) (62_536, 65_535)
 
-abbrev pub time_row : ℕ → ℕ → Row
+abbrev pub time_row : ℕ → ℕ → FieldRow
 time_row count last = one_range count 2 (0, last)
 
 -- the rows of the points of an axis, before further ones
-abbrev pub axis_rows : ℕ → List Row → List Row
+abbrev pub axis_rows : ℕ → List FieldRow → List FieldRow
 axis_rows count rest = time_row 1 0 ∷ change_row (count - 1) ∷ time_row (26 - count) 0 ∷ rest
 
 -- the rows behind both axes
-abbrev pub last_rows : CrashForm → ℕ → ℕ → List Row
+abbrev pub last_rows : CrashForm → ℕ → ℕ → List FieldRow
 last_rows form window last =
     change_row 1
     ∷ time_row 1 window
@@ -48,10 +48,10 @@ last_rows form window last =
     ∷ []
 
 -- the rows of a crash part, by its number of points, its window and its last time
-abbrev pub rows_by : CrashForm → ℕ → ℕ → ℕ → List Row
+abbrev pub rows_by : CrashForm → ℕ → ℕ → ℕ → List FieldRow
 rows_by form count window last = one_range 1 2 (20, 500) ∷ axis_rows count (axis_rows count (last_rows form window last))
 
-abbrev pub crash_table : CrashForm → ℕ → List Row
+abbrev pub crash_table : CrashForm → ℕ → List FieldRow
 crash_table form end = rows_by form (point_count end) (window_from_end end) (max end (window_from_end end))
 
 -- the points of both axes, whichever way they are put together
@@ -114,7 +114,7 @@ pub record CrashLies (form : CrashForm) (bytes : List ℕ) (end : ℕ) : Type 0 
 moved : (ranges : List (ℕ × ℕ)) (bytes : List ℕ) (p q : ℕ) → p ≡ q → Lies ranges (number_at bytes p 2) → Lies ranges (number_at bytes q 2)
 moved ranges bytes p q same lies = subst (λ (x : ℕ). Lies ranges (number_at bytes x 2)) same lies
 
-axis-lies : (bytes : List ℕ) (at count : ℕ) (rest : List Row) → 1 ≤ count → count ≤ 26 → RowsLie bytes at (axis_rows count rest) → PointsLie bytes at count × RowsLie bytes (at + 52) rest
+axis-lies : (bytes : List ℕ) (at count : ℕ) (rest : List FieldRow) → 1 ≤ count → count ≤ 26 → RowsLie bytes at (axis_rows count rest) → PointsLie bytes at count × RowsLie bytes (at + 52) rest
 axis-lies bytes at count rest some few lie = (
   record {
     first = moved ((0, 0) ∷ []) bytes (at + 2 * 0) at (omega arith) (lie.0 0 (omega arith));

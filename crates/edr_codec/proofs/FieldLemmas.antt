@@ -6,7 +6,7 @@ use Rattle.std.proofs.lemmas.Bool.{true≢false, false≢true}
 use Rattle.std.specs.Option.{option_or, is_some}
 use Rattle.std.specs.List.{flat_map}
 use Rattle.edr_image.specs.PartBytes.{Field, field, can_be_in, damage_of_field, damage_of_fields}
-use Rattle.edr_codec.specs.declared.rows.Row.{Row}
+use Rattle.edr_codec.specs.declared.rows.FieldRow.{FieldRow}
 use Rattle.edr_codec.specs.Rows.{ranges_of, fields_of, row_size}
 
 -- at most three bytes that are to come can be so many
@@ -93,7 +93,7 @@ fields_size-replicate zero f = omega arith
 fields_size-replicate (suc n) f = let ih = fields_size-replicate n f in rw (ih, mul-suc f.size n) (omega arith)
 
 -- row i of a table, whose fields are whole or not
-pub rows-go_on : (bytes : List ℕ) (at i : ℕ) (rows : List Row) (d : Row) → i < length rows
+pub rows-go_on : (bytes : List ℕ) (at i : ℕ) (rows : List FieldRow) (d : FieldRow) → i < length rows
     → damage_of_fields bytes at (flat_map fields_of (drop i rows))
     ≡ option_or (damage_of_fields bytes at (fields_of (get_or rows i d))) (damage_of_fields bytes (at + row_size (get_or rows i d)) (flat_map fields_of (drop (i + 1) rows)))
 rows-go_on bytes at i rows d within =

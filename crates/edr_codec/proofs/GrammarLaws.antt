@@ -5,7 +5,7 @@ use Rattle.edr_record.specs.Bounds.{IsCrash, window_from_end, point_count}
 use Rattle.edr_image.specs.declared.forms.CrashForm.{CrashForm}
 use Rattle.edr_image.specs.declared.forms.PreForm.{PreForm}
 use Rattle.edr_image.specs.PartBytes.{Field, field, damage_of_fields, pre_size, slots_of, profile_byte, IsPreForm, IsPreBy, pre_fields_by, pre_damage_by, pre_at_by, pre_bytes_by, BeginsPreBy, crash_size, crash_fields_by, crash_damage_by, crash_at, crash_bytes_by, BeginsCrashBy, number_at, IsDamagedAt}
-use Rattle.edr_codec.specs.declared.rows.Row.{Row}
+use Rattle.edr_codec.specs.declared.rows.FieldRow.{FieldRow}
 use Rattle.edr_codec.specs.Rows.{ranges_of, fields_of, row_size}
 use Rattle.edr_codec.proofs.FieldLemmas.{fields_size, fields_size-replicate}
 use Rattle.edr_codec.proofs.RowLemmas.{Lies, can_be_in-lies}
@@ -26,7 +26,7 @@ filled size ranges n are fits lies = record {
   some = can_be_in-lies ranges 0 size n (omega arith) (let e : (0 + 1) * 256 ^ size ≡ 256 ^ size = omega arith in omega arith) lies;
 }
 
-abbrev RowsFilled : List Row → Type 0
+abbrev RowsFilled : List FieldRow → Type 0
 RowsFilled [] = Unit {0}
 RowsFilled (r ∷ rs) = IsFilled (field r.size (ranges_of r)) × RowsFilled rs
 
@@ -38,12 +38,12 @@ filled-replicate : (n : ℕ) (f : Field) → IsFilled f → FieldsFilled (replic
 filled-replicate zero f is = tt
 filled-replicate (suc n) f is = (is, filled-replicate n f is)
 
-rows-filled : (rows : List Row) → RowsFilled rows → FieldsFilled (flat_map fields_of rows)
+rows-filled : (rows : List FieldRow) → RowsFilled rows → FieldsFilled (flat_map fields_of rows)
 rows-filled [] are = tt
 rows-filled (r ∷ rs) are = filled-append (fields_of r) (flat_map fields_of rs) (filled-replicate r.count (field r.size (ranges_of r)) are.0) (rows-filled rs are.1)
 
 -- how many bytes rows have
-abbrev rows_size : List Row → ℕ
+abbrev rows_size : List FieldRow → ℕ
 rows_size [] = 0
 rows_size (r ∷ rs) = row_size r + rows_size rs
 
@@ -51,7 +51,7 @@ fields_size-append : (xs ys : List Field) → fields_size (xs ++ ys) ≡ fields_
 fields_size-append [] ys = omega arith
 fields_size-append (x ∷ xs) ys = let ih = fields_size-append xs ys in omega arith
 
-fields_size-rows : (rows : List Row) → fields_size (flat_map fields_of rows) ≡ rows_size rows
+fields_size-rows : (rows : List FieldRow) → fields_size (flat_map fields_of rows) ≡ rows_size rows
 fields_size-rows [] = refl
 fields_size-rows (r ∷ rs) =
     fields_size-append (fields_of r) (flat_map fields_of rs)
@@ -152,7 +152,7 @@ pre_damage-means form is b k long small = (
 abbrev crash_head : List Field
 crash_head = field 2 ((20, 500) ∷ []) ∷ []
 
-abbrev crash_rest : CrashForm → ℕ → List Row
+abbrev crash_rest : CrashForm → ℕ → List FieldRow
 crash_rest form end = axis_rows (point_count end) (axis_rows (point_count end) (last_rows form (window_from_end end) (max end (window_from_end end))))
 
 abbrev crash_tail : CrashForm → List ℕ → List Field
@@ -164,7 +164,7 @@ change-filled = two_filled 2 0 3_000 62_536 65_535 (omega arith) (omega arith) (
 time-filled : (last : ℕ) → IsFilled (field 2 ((0, last) ∷ []))
 time-filled last = one_filled 2 0 last (omega arith) (omega arith)
 
-axis-filled : (count : ℕ) (rest : List Row) → RowsFilled rest → RowsFilled (axis_rows count rest)
+axis-filled : (count : ℕ) (rest : List FieldRow) → RowsFilled rest → RowsFilled (axis_rows count rest)
 axis-filled count rest are = (time-filled 0, (change-filled, (time-filled 0, are)))
 
 last-filled : (form : CrashForm) (window last : ℕ) → RowsFilled (last_rows form window last)

@@ -16,15 +16,15 @@ use Rattle.edr_record.specs.declared.Profile.TheVariants.{Short, Long}
 use Rattle.edr_record.specs.declared.Slots.{Slots}
 use Rattle.edr_image.specs.declared.forms.PreForm.{PreForm}
 use Rattle.edr_image.specs.PartBytes.{Field, damage_of_fields, slots_of, profile_from, profile_byte, throttle_at, brake_at, belt_at, lamp_at, end_at, IsPreForm, HasProfile, HasSlots, IsPreBy, pre_fields_by, pre_damage_by, pre_at_by, number_at, numbers_at, unless, switch_from, switch_field}
-use Rattle.edr_codec.specs.declared.rows.Row.{Row}
+use Rattle.edr_codec.specs.declared.rows.FieldRow.{FieldRow}
 use Rattle.edr_codec.specs.Rows.{fields_of}
 use Rattle.edr_codec.proofs.RowLemmas.{Lies, RowsLie, rows-lie}
 
 -- fields whose numbers lie in one range, and in one of two
-abbrev pub one_range : ℕ → ℕ → ℕ × ℕ → Row
+abbrev pub one_range : ℕ → ℕ → ℕ × ℕ → FieldRow
 one_range count size values = record { count = count; size = size; values = values; others = None }
 
-abbrev pub two_ranges : ℕ → ℕ → ℕ × ℕ → ℕ × ℕ → Row
+abbrev pub two_ranges : ℕ → ℕ → ℕ × ℕ → ℕ × ℕ → FieldRow
 two_ranges count size values others = record { count = count; size = size; values = values; others = Some others }
 
 -- ---- the table
@@ -34,7 +34,7 @@ abbrev pub after_range : Bool → ℕ × ℕ
 after_range is_first = if is_first then (0, 0) else (1, 5_000)
 
 -- the rows behind the profile byte, with n slots in each list, by whether the event is the first of a crash
-abbrev pub pre_rest : PreForm → ℕ → Bool → List Row
+abbrev pub pre_rest : PreForm → ℕ → Bool → List FieldRow
 pre_rest form n is_first =
     one_range 1 2 (after_range is_first)
     ∷ two_ranges n 2 (0, 300) (0xffff, 0xffff)
@@ -48,7 +48,7 @@ pre_rest form n is_first =
     ∷ []
 
 -- the rows of a pre part
-abbrev pub pre_table : PreForm → ℕ → Bool → List Row
+abbrev pub pre_table : PreForm → ℕ → Bool → List FieldRow
 pre_table form n is_first =
     one_range 1 4 (1, 4_294_967_295)
     ∷ one_range 1 4 (1, 86_400_000)

@@ -7,7 +7,7 @@ use Rattle.std.specs.List.{list_all, flat_map}
 use Rattle.byteorder.specs.Endian.{big_from}
 use Rattle.byteorder.specs.Numbers.{big_from-lt}
 use Rattle.edr_image.specs.PartBytes.{Field, can_be_in, damage_of_field, damage_of_fields, number_at}
-use Rattle.edr_codec.specs.declared.rows.Row.{Row}
+use Rattle.edr_codec.specs.declared.rows.FieldRow.{FieldRow}
 use Rattle.edr_codec.specs.Rows.{ranges_of, fields_of, row_size}
 use Rattle.edr_codec.proofs.FieldLemmas.{fields_size, fields_size-replicate, damage_of_fields-append}
 
@@ -84,12 +84,12 @@ field-whole ranges bytes at n (suc left) are lies =
     rw (can, ih) refl
 
 -- each number of the rows lies in the ranges of its row
-abbrev pub RowsLie : List ℕ → ℕ → List Row → Type 0
+abbrev pub RowsLie : List ℕ → ℕ → List FieldRow → Type 0
 RowsLie bytes at [] = Unit {0}
 RowsLie bytes at (r ∷ rs) = ((k : ℕ) → k < r.count → Lies (ranges_of r) (number_at bytes (at + r.size * k) r.size)) × RowsLie bytes (at + row_size r) rs
 
 -- each row has fields of some bytes
-abbrev pub are_sized : List Row → Bool
+abbrev pub are_sized : List FieldRow → Bool
 are_sized rows = list_all (λ r. nat_lt 0 r.size) rows
 
 pub option_or-none : (a b : Option ℕ) → option_or a b ≡ None → (a ≡ None) × (b ≡ None)
@@ -116,7 +116,7 @@ row-lies bytes at (suc n) f some whole (suc k) within =
     subst (λ (x : ℕ). Lies f.ranges (number_at bytes x f.size)) e (row-lies bytes (at + f.size) n f some both.1 k (omega arith))
 
 -- rows that fit
-pub rows-lie : (bytes : List ℕ) (at : ℕ) (rows : List Row) → are_sized rows ≡ true → damage_of_fields bytes at (flat_map fields_of rows) ≡ None → RowsLie bytes at rows
+pub rows-lie : (bytes : List ℕ) (at : ℕ) (rows : List FieldRow) → are_sized rows ≡ true → damage_of_fields bytes at (flat_map fields_of rows) ≡ None → RowsLie bytes at rows
 rows-lie bytes at [] sized whole = tt
 rows-lie bytes at (r ∷ rs) sized whole =
     let size = fields_size-replicate r.count (record { size = r.size; ranges = ranges_of r }) in
@@ -140,7 +140,7 @@ row-whole bytes at (suc n) f are lies =
     rw (field-whole f.ranges bytes at 0 f.size are here, later) refl
 
 -- rows whose numbers lie in their ranges
-pub rows-whole : (bytes : List ℕ) (at : ℕ) (rows : List Row) → AreBytes bytes → RowsLie bytes at rows → damage_of_fields bytes at (flat_map fields_of rows) ≡ None
+pub rows-whole : (bytes : List ℕ) (at : ℕ) (rows : List FieldRow) → AreBytes bytes → RowsLie bytes at rows → damage_of_fields bytes at (flat_map fields_of rows) ≡ None
 rows-whole bytes at [] are lie = refl
 rows-whole bytes at (r ∷ rs) are lie =
     let size = fields_size-replicate r.count (record { size = r.size; ranges = ranges_of r }) in

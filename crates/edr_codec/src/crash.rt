@@ -8,7 +8,7 @@ ghost use Rattle.edr_codec.specs.Rows.{fields_of, row_size};
 
 use crate::Damaged;
 use crate::pieces::{Piece, put_all, put_zeros, read_all};
-use crate::rows::{Row, check_rows};
+use crate::rows::{FieldRow, check_rows};
 use edr_image::forms::{CrashForm, VERSION_1, VERSION_2};
 use edr_record::{Crash, Extreme};
 
@@ -32,7 +32,7 @@ fn window_from_end(end: u16) -> u32
 }
 
 // The fields of a crash part with this end.
-fn crash_rows(end: u16, form: &CrashForm) -> [Row; 13]
+fn crash_rows(end: u16, form: &CrashForm) -> [FieldRow; 13]
     ensures fields { flat_map fields_of result ≡ crash_fields_by form.now end }
     ensures sizes { All (λ r. r.size ≤ 4) result }
     ensures room { sum_by row_size result ≡ crash_size form.now }
@@ -40,13 +40,13 @@ fn crash_rows(end: u16, form: &CrashForm) -> [Row; 13]
     let count = point_count(end);
     let window = window_from_end(end);
     let last = u32::from(end).max(window);
-    let changes = Row::either(count - 1, 2, (0, 3000), (62_536, 65_535));
-    let change = Row::either(1, 2, (0, 3000), (62_536, 65_535));
-    let past = Row::of(POINTS - count, 2, (0, 0));
-    let first = Row::of(1, 2, (0, 0));
-    let time = Row::of(1, 2, (0, window));
+    let changes = FieldRow::either(count - 1, 2, (0, 3000), (62_536, 65_535));
+    let change = FieldRow::either(1, 2, (0, 3000), (62_536, 65_535));
+    let past = FieldRow::of(POINTS - count, 2, (0, 0));
+    let first = FieldRow::of(1, 2, (0, 0));
+    let time = FieldRow::of(1, 2, (0, window));
     [
-        Row::of(1, 2, (20, 500)),
+        FieldRow::of(1, 2, (20, 500)),
         first,
         changes,
         past,
@@ -56,9 +56,9 @@ fn crash_rows(end: u16, form: &CrashForm) -> [Row; 13]
         change,
         time,
         change,
-        Row::of(4, 2, (0, window)),
-        Row::either(8, 2, (0, last), (0xffff, 0xffff)),
-        Row::of(form.zeros, 1, (0, 0)),
+        FieldRow::of(4, 2, (0, window)),
+        FieldRow::either(8, 2, (0, last), (0xffff, 0xffff)),
+        FieldRow::of(form.zeros, 1, (0, 0)),
     ]
 }
 

@@ -10,7 +10,7 @@ ghost use Rattle.edr_codec.specs.Rows.{fields_of, row_size};
 
 use crate::Damaged;
 use crate::pieces::{Piece, put_all, put_bytes, put_zeros, read_all};
-use crate::rows::{Row, check_rows};
+use crate::rows::{FieldRow, check_rows};
 use byteorder::{BigEndian, ByteOrder};
 use edr_image::forms::{PreForm, VERSION_1, VERSION_2};
 use edr_record::{Key, Place, Pre, Profile, Slots};
@@ -91,7 +91,7 @@ fn end_at(form: &PreForm) -> usize
 }
 
 // The fields of a pre part with these place and profile bytes.
-fn pre_rows(place: u8, profile: u8, form: &PreForm) -> [Row; 13]
+fn pre_rows(place: u8, profile: u8, form: &PreForm) -> [FieldRow; 13]
     requires fits { slots_of form.now profile ≤ form.now.room }
     requires few { pre_size form.now < 2 ^ 16 }
     ensures fields { flat_map fields_of result ≡ pre_fields_by form.now place profile }
@@ -102,21 +102,21 @@ fn pre_rows(place: u8, profile: u8, form: &PreForm) -> [Row; 13]
     let rest = form.room - slots;
     let profiles = (u32::from(form.profiles.0), u32::from(form.profiles.1));
     let after = if place == 1 { (0, 0) } else { (1, 5000) };
-    let past = Row::of(rest, 1, (0, 0));
+    let past = FieldRow::of(rest, 1, (0, 0));
     [
-        Row::of(1, 4, (1, u32::MAX)),
-        Row::of(1, 4, (1, 86_400_000)),
-        Row::of(1, 1, (1, 2)),
-        Row::of(1, 1, profiles),
-        Row::of(1, 2, after),
-        Row::either(slots, 2, (0, 300), (0xffff, 0xffff)),
-        Row::of(2 * rest, 1, (0, 0)),
-        Row::either(slots, 1, (0, 100), (0xff, 0xff)),
+        FieldRow::of(1, 4, (1, u32::MAX)),
+        FieldRow::of(1, 4, (1, 86_400_000)),
+        FieldRow::of(1, 1, (1, 2)),
+        FieldRow::of(1, 1, profiles),
+        FieldRow::of(1, 2, after),
+        FieldRow::either(slots, 2, (0, 300), (0xffff, 0xffff)),
+        FieldRow::of(2 * rest, 1, (0, 0)),
+        FieldRow::either(slots, 1, (0, 100), (0xff, 0xff)),
         past,
-        Row::either(slots, 1, (0, 1), (0xff, 0xff)),
+        FieldRow::either(slots, 1, (0, 1), (0xff, 0xff)),
         past,
-        Row::either(2, 1, (0, 1), (0xff, 0xff)),
-        Row::of(form.zeros, 1, (0, 0)),
+        FieldRow::either(2, 1, (0, 1), (0xff, 0xff)),
+        FieldRow::of(form.zeros, 1, (0, 0)),
     ]
 }
 

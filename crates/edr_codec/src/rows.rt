@@ -13,7 +13,7 @@ pub(crate) type Range = (u32, u32);
 /// Fields of one kind, one after the other: how many there are, how many bytes each has, and in which ranges its number
 /// may lie.
 #[derive(Clone, Copy, Debug)]
-pub(crate) struct Row {
+pub(crate) struct FieldRow {
     pub(crate) count: usize,
     pub(crate) size: usize,
     pub(crate) values: Range,
@@ -27,12 +27,12 @@ fn meets(range: Range, first: u64, last: u64) -> bool
     first <= u64::from(range.1) && u64::from(range.0) < last
 }
 
-impl Row {
+impl FieldRow {
     /// Fields whose numbers lie in one range.
-    pub(crate) fn of(count: usize, size: usize, values: Range) -> Row
+    pub(crate) fn of(count: usize, size: usize, values: Range) -> FieldRow
         ensures { result ≡ record { count = count; size = size; values = values; others = None } }
     {
-        Row {
+        FieldRow {
             count,
             size,
             values,
@@ -41,10 +41,10 @@ impl Row {
     }
 
     /// Fields whose numbers lie in one of two ranges.
-    pub(crate) fn either(count: usize, size: usize, values: Range, others: Range) -> Row
+    pub(crate) fn either(count: usize, size: usize, values: Range, others: Range) -> FieldRow
         ensures { result ≡ record { count = count; size = size; values = values; others = Some others } }
     {
-        Row {
+        FieldRow {
             count,
             size,
             values,
@@ -99,7 +99,7 @@ impl Row {
 }
 
 // The first place at which bytes don't fit the rows, if there is one.
-fn damage_of_rows(bytes: &[u8], rows: &[Row]) -> Option<usize>
+fn damage_of_rows(bytes: &[u8], rows: &[FieldRow]) -> Option<usize>
     requires sizes { All (λ r. r.size ≤ 4) rows.now }
     requires room { sum_by row_size rows.now ≤ length bytes.now }
     ensures value { result ≡ damage_of_fields bytes.now 0 (flat_map fields_of rows.now) }
@@ -117,7 +117,7 @@ fn damage_of_rows(bytes: &[u8], rows: &[Row]) -> Option<usize>
 }
 
 /// Whether bytes fit the rows, and else where they don't.
-pub(crate) fn check_rows(bytes: &[u8], rows: &[Row]) -> Result<(), Damaged>
+pub(crate) fn check_rows(bytes: &[u8], rows: &[FieldRow]) -> Result<(), Damaged>
     requires sizes { All (λ r. r.size ≤ 4) rows.now }
     requires room { sum_by row_size rows.now ≤ length bytes.now }
     requires few { length bytes.now < 2 ^ 16 }

@@ -3,13 +3,13 @@ use Rattle.std.proofs.lemmas.List.Sums.{sum_by-drop_more}
 use Rattle.std.specs.List.{flat_map}
 use Rattle.std.specs.Option.{option_or, is_some}
 use Rattle.edr_image.specs.PartBytes.{damage_of_fields}
-use Rattle.edr_codec.specs.declared.rows.Row.{Row}
+use Rattle.edr_codec.specs.declared.rows.FieldRow.{FieldRow}
 use Rattle.edr_codec.specs.Rows.{fields_of, row_size}
 use Rattle.edr_codec.proofs.FieldLemmas.{rows-go_on, is_some-false, option_or-first}
 use Rattle.edr_codec.proofs.rows.damage_of_rows.Goals as goal
 
 -- what a list is read as past its end
-abbrev none : Row
+abbrev none : FieldRow
 none = record { count = 0; size = 0; values = (0, 0); others = None }
 
 pub returns-then-is_some-clause-value : goal.returns-then-is_some-clause-value

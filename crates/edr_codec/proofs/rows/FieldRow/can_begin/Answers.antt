@@ -1,6 +1,6 @@
 use Rattle.std.proofs.Common.{◌≤◌, ◌+◌, arith}
 use Rattle.edr_codec.proofs.FieldLemmas.{span-small, moved-small}
-use Rattle.edr_codec.proofs.rows.Row.can_begin.Goals as goal
+use Rattle.edr_codec.proofs.rows.FieldRow.can_begin.Goals as goal
 
 pub pow-span-requires : goal.pow-span-requires
 pow-span-requires c = let h = span-small c.args.left c.requires.few in omega arith

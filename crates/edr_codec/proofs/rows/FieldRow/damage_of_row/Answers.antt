@@ -2,7 +2,7 @@ use Rattle.std.proofs.Common.{◌∙◌, sym}
 use Rattle.edr_image.specs.PartBytes.{field}
 use Rattle.edr_codec.specs.Rows.{ranges_of}
 use Rattle.edr_codec.proofs.FieldLemmas.{row-goes_on, is_some-false}
-use Rattle.edr_codec.proofs.rows.Row.damage_of_row.Goals as goal
+use Rattle.edr_codec.proofs.rows.FieldRow.damage_of_row.Goals as goal
 
 pub loop-k-preserved : goal.loop-k-preserved
 loop-k-preserved c =
