@@ -6,8 +6,6 @@ mod counts;
 mod lines;
 mod rows;
 mod runs;
-#[cfg(test)]
-mod tests;
 
 ghost use Rattle.std.specs.Prelude.{IfOk};
 ghost use Rattle.edr_large.specs.Large.{IsCounted, IsTold};

@@ -3,8 +3,6 @@
 
 mod dealing;
 mod desk;
-#[cfg(test)]
-mod desk_tests;
 mod desk_turns;
 mod fast_inlets;
 mod held;
@@ -14,10 +12,6 @@ mod part_inlets;
 mod place;
 mod slow_place;
 mod stand;
-#[cfg(test)]
-mod stand_tests;
-#[cfg(test)]
-mod tests;
 mod threads;
 mod tray;
 

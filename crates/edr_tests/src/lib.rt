@@ -9,6 +9,12 @@ mod cores;
 #[cfg(test)]
 mod cycles;
 #[cfg(test)]
+mod dealt_sensors;
+#[cfg(test)]
+mod desks;
+#[cfg(test)]
+mod large_runs;
+#[cfg(test)]
 mod migrations;
 #[cfg(test)]
 mod pages;
@@ -20,5 +26,7 @@ mod readings;
 mod runs;
 #[cfg(test)]
 mod split_cores;
+#[cfg(test)]
+mod stands;
 #[cfg(test)]
 mod words;

@@ -6,9 +6,9 @@ ghost use Rattle.edr_items.specs.SensorLists.{SensorLists};
 ghost use Rattle.edr_loops.specs.Stands.{AreFastBegun, AreKept};
 ghost use Rattle.edr_loops.specs.Desks.{HasPosted, IsRecording};
 
-use crate::stand_tests::{Telling, new_gate};
-use crate::tests::fired_feeds;
-use crate::{
+use crate::stands::{Telling, new_gate};
+use crate::dealt_sensors::fired_feeds;
+use edr_loops::{
     Desk, FastMarks, Inbox, Orders, Stand, make_fast_lanes, make_orders, make_slow_lanes,
     start_worker,
 };

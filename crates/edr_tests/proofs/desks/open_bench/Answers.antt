@@ -1,6 +1,6 @@
 use Rattle.std.proofs.Common.{arith, refl, ap}
 use Rattle.edr_board.specs.declared.status.BoardStatus.{BoardStatus}
-use Rattle.edr_loops.proofs.desk_tests.open_bench.Goals as goal
+use Rattle.edr_tests.proofs.desks.open_bench.Goals as goal
 
 pub returns-clause-begun : goal.returns-clause-begun
 returns-clause-begun c = λ f. c.in_ok-fast.ensures.begun f

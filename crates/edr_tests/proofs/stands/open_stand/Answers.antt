@@ -1,4 +1,4 @@
-use Rattle.edr_loops.proofs.stand_tests.open_stand.Goals as goal
+use Rattle.edr_tests.proofs.stands.open_stand.Goals as goal
 
 pub returns-clause-fast : goal.returns-clause-fast
 returns-clause-fast c = λ f. c.in_ok-fast.ensures.begun f

@@ -1,4 +1,4 @@
-use Rattle.edr_loops.proofs.desk_tests.a_desk_takes_the_parts_that_it_asks_for.Goals as goal
+use Rattle.edr_tests.proofs.desks.a_desk_takes_the_parts_that_it_asks_for.Goals as goal
 
 pub record_beside-requires-clause-begun : goal.record_beside-requires-clause-begun
 record_beside-requires-clause-begun g c κs = c.in_ok-stand.ensures.begun _

@@ -1,4 +1,4 @@
-use Rattle.edr_loops.proofs.stand_tests.a_worker_sends_what_is_asked_for.Goals as goal
+use Rattle.edr_tests.proofs.stands.a_worker_sends_what_is_asked_for.Goals as goal
 
 pub play-taken-requires-clause-fast : goal.play-taken-requires-clause-fast
 play-taken-requires-clause-fast g c κs = c.in_ok-played.ensures.fast _

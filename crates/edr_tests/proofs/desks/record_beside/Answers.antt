@@ -1,6 +1,6 @@
 use Rattle.edr_loops.proofs.CloseLemmas.{later-seated}
 use Rattle.edr_loops.proofs.LaterLemmas.{recording-later}
-use Rattle.edr_loops.proofs.desk_tests.record_beside.Goals as goal
+use Rattle.edr_tests.proofs.desks.record_beside.Goals as goal
 
 pub record-desk-requires-clause-stands : goal.record-desk-requires-clause-stands
 record-desk-requires-clause-stands g c =

@@ -1,4 +1,4 @@
-use crate::{Counts, count, text};
+use edr_large::{Counts, count, text};
 use edr_gen::generate_into;
 use std::test::Fail;
 

@@ -6,8 +6,8 @@ ghost use Rattle.edr_board.specs.Seats.{closed_posted, gate_posted};
 ghost use Rattle.edr_items.specs.SensorLists.{SensorLists};
 ghost use Rattle.edr_loops.specs.Stands.{AreFastBegun, AreKept};
 
-use crate::tests::fired_feeds;
-use crate::{FastInlets, Gate, PartInlets, Stand, make_fast_lanes, make_slow_lanes, start_worker};
+use crate::dealt_sensors::fired_feeds;
+use edr_loops::{FastInlets, Gate, PartInlets, Stand, make_fast_lanes, make_slow_lanes, start_worker};
 use edr_board::{Asker, Board, CommitterSeat, Freeze, FreezeOpened, Opened, RecorderSeat};
 use edr_items::{Feeds, Sensor};
 use edr_seats::PartInlet;

@@ -1,4 +1,4 @@
-use Rattle.edr_loops.proofs.stand_tests.a_stop_ends_a_worker.Goals as goal
+use Rattle.edr_tests.proofs.stands.a_stop_ends_a_worker.Goals as goal
 
 pub serve-requires-clause-fast : goal.serve-requires-clause-fast
 serve-requires-clause-fast g c = c.in_ok-stand.ensures.fast c.in_ok-feeds.feeds

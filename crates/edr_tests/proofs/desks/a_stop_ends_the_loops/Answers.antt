@@ -1,4 +1,4 @@
-use Rattle.edr_loops.proofs.desk_tests.a_stop_ends_the_loops.Goals as goal
+use Rattle.edr_tests.proofs.desks.a_stop_ends_the_loops.Goals as goal
 
 pub serve-requires-clause-fast : goal.serve-requires-clause-fast
 serve-requires-clause-fast g c = c.in_ok-stand.ensures.begun c.in_ok-feeds.feeds
