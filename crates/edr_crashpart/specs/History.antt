@@ -37,6 +37,7 @@ abbrev pub StandsWith : Row → OpenCrash → OpenCrash → Type 0
 StandsWith row part next =
     (z fired : ℕ) (rows : List Row) → StandsFor part z fired rows → StandsFor next z fired (rows ++ row ∷ [])
 
--- the crash part of the definition that ends at e, of this time zero with these restraints firing and the ticks after it
-abbrev pub crash_part_of : ℕ → ℕ → List Row → ℕ → CrashPart
-crash_part_of z fired rows e = crash_part (signals_from z fired rows) z e
+-- whatever ticks the part stands for, this is the crash part of the definition of them and the end e
+abbrev pub IsPartWithEnd : OpenCrash → ℕ → CrashPart → Type 0
+IsPartWithEnd part e crash =
+    (z fired : ℕ) (rows : List Row) → StandsFor part z fired rows → crash ≡ crash_part (signals_from z fired rows) z e

@@ -1,7 +1,7 @@
 //! The crash part of a record while it grows, one tick at a time, in fixed arrays.
 #![tactic(auto)]
 
-ghost use Rattle.std.specs.Prelude.{◌≡◌, ℕ, unsigned_abs, if◌then◌else◌, ◌+◌, ◌<◌, ◌≤◌, List, []};
+ghost use Rattle.std.specs.Prelude.{◌≡◌, unsigned_abs, if◌then◌else◌, ◌+◌, ◌<◌, ◌≤◌, []};
 ghost use Rattle.std.specs.Option.{option_or};
 ghost use Rattle.edr_record.specs.declared.TheConstants.{RESET};
 ghost use Rattle.edr_definitions.specs.Search.{tick_if};
@@ -10,7 +10,7 @@ ghost use Rattle.edr_definitions.specs.Selection.{close_of};
 ghost use Rattle.edr_definitions.specs.OpenCrash.{begin_crash, next_crash, finish_crash, next_firings, higher_result};
 ghost use Rattle.edr_crashpart.specs.Fields.{result_of, next_result};
 ghost use Rattle.edr_crashpart.specs.Bounds.{IsInRange};
-ghost use Rattle.edr_crashpart.specs.History.{Row, row_of, StandsFor, StandsWith, crash_part_of};
+ghost use Rattle.edr_crashpart.specs.History.{row_of, StandsFor, StandsWith, IsPartWithEnd};
 
 mod axis;
 
@@ -165,7 +165,7 @@ impl OpenCrash {
         ensures part { result ≡ finish_crash self.now end }
 
         // It is the crash part of the definition for its time zero and its ticks.
-        ensures definition { (z first : ℕ) (rows : List Row) → StandsFor self.now z first rows → result ≡ crash_part_of z first rows end }
+        ensures definition { IsPartWithEnd self.now end result }
     {
         Crash {
             end: (end - self.zero) as u16,

@@ -74,8 +74,8 @@ abbrev pub HasNoSwing : ℕ → SwingState → Type 0
 HasNoSwing k s = (axis : ℕ → Option ℤ) (from t : ℕ) → SwingStandsFor k s (changes axis from t) → swing axis k from t ≡ 0
 
 -- where the open candidate has not ended, this is whether it does at the tick t
-abbrev pub TellsEnd : Signals → Stage → ℕ → Bool → Type 0
-TellsEnd m s t ends = (z : ℕ) (c l : Option ℕ) → s ≡ stage.Open z c l None → ends ≡ is_end m z t
+abbrev pub EndIs : Signals → Stage → ℕ → Bool → Type 0
+EndIs m s t ends = (z : ℕ) (c l : Option ℕ) → s ≡ stage.Open z c l None → ends ≡ is_end m z t
 
 -- an event that is open in the phase p is open in q too, unless it closes
 abbrev pub IsEventUntilClosed : Answer → Phase → Phase → Type 0
@@ -86,7 +86,7 @@ pub record TestsAre (m : Signals) (b : Bounds) (s : Stage) (t : ℕ) (a : Tests)
   pub zero : is_event (phase_of s) ≡ false → a.zero ≡ is_time_zero m b t
   pub trigger : is_event (phase_of s) ≡ false → a.trigger ≡ is_triggered m b.since t
   pub locks : a.locks ≡ is_locking m t
-  pub ends : TellsEnd m s t a.ends
+  pub ends : EndIs m s t a.ends
 
 -- the bounds past the tick t at which this stands: both at the close of an event, and the first alone at the end of a dropped candidate
 abbrev pub bounds_past : ℕ → Answer → Bounds → Bounds
@@ -94,3 +94,8 @@ bounds_past t a b =
     if a.closed then record { after = t; since = t }
     else if a.dropped then record { after = t; since = b.since }
     else b
+
+-- windows that stand at a tick then stand past what is there, in any phase to which that can lead
+abbrev pub WindowsRestart : Answer → Windows → Windows → Type 0
+WindowsRestart a w next =
+    (m : Signals) (b : Bounds) (p q : Phase) (t : ℕ) → IsEventUntilClosed a p q → WindowsStandFor m b p t w → WindowsStandFor m (bounds_past t a b) q t next

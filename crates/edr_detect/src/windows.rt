@@ -52,7 +52,7 @@ impl Windows {
     ghost use Rattle.edr_definitions.specs.Selection.{Bounds, is_triggered, is_time_zero, is_end, at_start};
     ghost use Rattle.edr_definitions.specs.Search.{Phase, Searching};
     ghost use Rattle.edr_detect.specs.Stages.{phase_of, is_event};
-    ghost use Rattle.edr_detect.specs.Standing.{SwingsStandFor, SwingsTake, WindowsStandFor, WindowsTake, HoldNothing, AreStill, PushedAtMost, BeginsAtRest, TellsEnd, IsEventUntilClosed, TestsAre, bounds_past};
+    ghost use Rattle.edr_detect.specs.Standing.{SwingsStandFor, SwingsTake, WindowsStandFor, WindowsTake, HoldNothing, AreStill, PushedAtMost, BeginsAtRest, EndIs, TestsAre, WindowsRestart};
 
     pub fn new() -> Windows
         ensures stands { (m : Signals) → BeginsAtRest m → WindowsStandFor m at_start Searching 0 result }
@@ -162,7 +162,7 @@ impl Windows {
 
     // The open candidate ends at the tick t, if it hasn't before.
     fn end_stands(&self, stage: Stage, t: u32) -> bool
-        ensures { (m : Signals) (b : Bounds) (p : Phase) → WindowsStandFor m b p t self.now → TellsEnd m stage t result }
+        ensures { (m : Signals) (b : Bounds) (p : Phase) → WindowsStandFor m b p t self.now → EndIs m stage t result }
     {
         match stage {
             Stage::Open { zero, .. } => self.ends(zero, t),
@@ -195,7 +195,7 @@ impl Windows {
 
     // A candidate leaves the search: a time zero comes after it, and after an event the trigger begins anew too.
     pub fn restart(&mut self, change: Change)
-        ensures stands { (m : Signals) (b : Bounds) (p q : Phase) (t : ℕ) → IsEventUntilClosed change p q → WindowsStandFor m b p t self.old → WindowsStandFor m (bounds_past t change b) q t self.new }
+        ensures stands { WindowsRestart change self.old self.new }
         ensures pushed { (n : ℕ) → PushedAtMost n self.old → PushedAtMost n self.new }
     {
         if change.closed {
