@@ -1,14 +1,15 @@
 -- What a contract sees of a freeze and its seats.
-use Rattle.std.specs.Prelude.{◌≡◌, ◌-◌, ◌≤◌, ℕ, Option, Some, None, List, if◌then◌else◌, nat_eq, slice_index}
+use Rattle.std.specs.Prelude.{◌≡◌, ◌-◌, ◌≤◌, ℕ, Option, Some, None, List, if◌then◌else◌, nat_eq, slice_index, unwrap_or}
 use Rattle.std.specs.Arc.{arc_value}
 use Rattle.atomic_table.specs.Seated.{TableId}
 use Rattle.edr_items.specs.declared.Sensor.{Sensor}
-use Rattle.edr_items.specs.declared.Sensor.TheVariants.{Along, Across, Speed, Throttle, Brake, Belt, Lamp, Restraint}
+use Rattle.edr_items.specs.declared.Sensor.TheVariants.{Speed, Throttle, Brake, Belt, Lamp}
+use Rattle.edr_items.specs.declared.per_slow_sensor.PerSlowSensor.{PerSlowSensor}
+use Rattle.edr_items.specs.PerSlowSensor.{slow_value_of, with_slow_value, each_slow_value}
 use Rattle.edr_items.specs.Sensor.{number_of}
 use Rattle.edr_board.specs.declared.freeze_seats.Freeze.{Freeze}
 use Rattle.edr_board.specs.declared.freeze_seats.Asker.{Asker}
 use Rattle.edr_board.specs.declared.freeze_seats.Keeper.{Keeper}
-use Rattle.edr_board.specs.declared.freeze_seats.Keepers.{Keepers}
 
 -- which freeze it is, and whose freeze a seat is of
 abbrev pub freeze_id : Freeze → TableId
@@ -37,38 +38,20 @@ abbrev pub last_zero : Asker → ℕ
 last_zero a = a.seat.me.0.last
 
 -- the marks of the slow sensors
-pub record SlowMarks : Type 0 where
-  pub speed : ℕ
-  pub throttle : ℕ
-  pub brake : ℕ
-  pub belt : ℕ
-  pub lamp : ℕ
+abbrev pub SlowMarks : Type 0
+SlowMarks = PerSlowSensor ℕ
 
 -- none was posted
 abbrev pub no_marks : SlowMarks
-no_marks = record { speed = 0; throttle = 0; brake = 0; belt = 0; lamp = 0 }
+no_marks = each_slow_value 0
 
 -- the mark of that sensor; the other three have none here
 abbrev pub mark_in : Sensor → SlowMarks → ℕ
-mark_in Along m = 0
-mark_in Across m = 0
-mark_in Speed m = m.speed
-mark_in Throttle m = m.throttle
-mark_in Brake m = m.brake
-mark_in Belt m = m.belt
-mark_in Lamp m = m.lamp
-mark_in Restraint m = 0
+mark_in s m = unwrap_or (slow_value_of s m) 0
 
 -- the marks with another one of that sensor
 abbrev pub with_mark_of : Sensor → ℕ → SlowMarks → SlowMarks
-with_mark_of Along n m = m
-with_mark_of Across n m = m
-with_mark_of Speed n m = record m { speed = n }
-with_mark_of Throttle n m = record m { throttle = n }
-with_mark_of Brake n m = record m { brake = n }
-with_mark_of Belt n m = record m { belt = n }
-with_mark_of Lamp n m = record m { lamp = n }
-with_mark_of Restraint n m = m
+with_mark_of s n m = with_slow_value s n m
 
 -- the marks as the words have them
 abbrev pub marks_from : List ℕ → SlowMarks
@@ -139,7 +122,7 @@ pub record IsFresh (id : TableId) (s : Sensor) (k : Keeper) : Type 0 where
   pub granted : grant_read k ≡ 1000
 
 -- the keepers of this freeze, none of which has posted a mark
-pub record AreFresh (id : TableId) (k : Keepers) : Type 0 where
+pub record AreFresh (id : TableId) (k : PerSlowSensor Keeper) : Type 0 where
   pub speed : IsFresh id Speed k.speed
   pub throttle : IsFresh id Throttle k.throttle
   pub brake : IsFresh id Brake k.brake
