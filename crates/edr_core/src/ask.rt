@@ -82,7 +82,7 @@ impl Parts {
         }
     }
 
-    // Takes a part, unless one of that sensor was.
+    /// Keeps what the samples of a slow sensor say of the time zero. A part that was taken is never replaced.
     pub fn put(&mut self, part: Part) -> Result<(), PartRefused>
         ensures ok { OnOk result ((part_at part.sensor self.old ≡ None) × (self.new ≡ with_part part self.old)) }
         ensures err { OnErr result ((self.new ≡ self.old) × IsSome (part_at part.sensor self.old)) }
@@ -103,7 +103,7 @@ impl Parts {
     }
 
     #[tactic(auto, unfolding(crate::specs::Ask::missing_in))]
-    // All five, or the lowest-numbered sensor of which none was taken.
+    /// The five parts once the record can be made, or the first sensor, by its number, that it still waits for.
     pub fn all(&self) -> Result<AllParts, Sensor>
         ensures all { IfOk result (λ parts. self.now ≡ in_places parts) }
         ensures missing { IfErr result (λ s. missing_in self.now ≡ Some s) }
@@ -161,7 +161,7 @@ fn first_switch(part: &Part) -> Option<bool>
 impl AllParts {
     ghost use Rattle.edr_core.specs.Ask.{AreOfTheirSensors, IsKey, pre_of};
 
-    // The long pre part that they make of the event with this key, as that of a first event.
+    /// The pre part that they make, of the long profile. Its place is that of a first event until the event is confirmed.
     pub fn pre(&self, key: Key) -> Pre
         requires sensors { AreOfTheirSensors self.now }
         requires key { IsKey key }

@@ -55,7 +55,7 @@ impl Issued {
 }
 
 impl Candidate {
-    // A candidate at its time zero.
+    /// Freezes what stood before time zero. The row is that of time zero, of which only the restraints count.
     pub fn begin(pre: Pre, row: Row) -> Candidate
         ensures { result ≡ begun pre row }
     {
@@ -67,7 +67,7 @@ impl Candidate {
         }
     }
 
-    // One tick more.
+    /// Gives the crash part one tick more, of 1 ms: the samples in steps of 0.0001 km/h, and the restraints that fire.
     pub fn grow(&mut self, row: Row)
         requires short { IsShort self.old }
         requires in_range { IsRowInRange row }
@@ -76,7 +76,7 @@ impl Candidate {
         self.crash.tick(row.along, row.across, row.fired);
     }
 
-    // What is issued at a tick, once what stands there is told.
+    /// What the memory is to do at a tick of the cycle, in ms. At its confirmation the event gets its place in the pair.
     pub fn tell(&mut self, tick: u32, change: Change, link: &mut Link) -> Issued
         requires { CanBeTold tick (told_of change) link.old self.old }
         ensures candidate { self.new ≡ told tick (told_of change) link.old self.old }

@@ -90,14 +90,14 @@ fn past(t: u32, zero: u32, confirmed: Option<u32>, locked: Option<u32>, end: u32
 }
 
 impl Stage {
-    // No candidate is open.
+    /// No candidate is open, so that a tick is looked at for a time zero.
     pub fn is_searching(self) -> bool
         ensures { IsTrue result → phase_of self ≡ Searching }
     {
         matches!(self, Stage::Searching)
     }
 
-    // A candidate is open that is confirmed.
+    /// A candidate is open that is confirmed, so that its trigger need not be looked for any more.
     pub fn is_event(self) -> bool
         ensures { result ≡ is_event (phase_of self) }
     {
@@ -110,7 +110,7 @@ impl Stage {
         )
     }
 
-    // The stage past the tick t.
+    /// The stage with which the search goes on past the tick t, in ms of the cycle.
     pub fn next(self, t: u32, tests: Tests) -> Stage
         ensures { (b : Bounds) → phase_of result ≡ (stepped t tests b (phase_of self)).phase }
     {
@@ -155,7 +155,7 @@ impl Stage {
         }
     }
 
-    // What stands at the tick t, from the stage before it.
+    /// What there is to tell of the tick t, in ms of the cycle, from the stage before it.
     pub fn change_at(self, t: u32, tests: Tests) -> Change
         ensures { told_of result ≡ stepped_change t tests.zero tests.trigger tests.locks tests.ends (phase_of self) }
     {

@@ -35,6 +35,7 @@ pub struct Text {
 impl Text {
     ghost use Rattle.edr_report.specs.Forms.{text_bytes};
 
+    /// A report to be read by a person, which has no line yet.
     pub fn new(alloc: Global) -> Text
         ensures { text_bytes result ≡ [] }
     {
@@ -75,6 +76,7 @@ pub struct Table {
 impl Table {
     ghost use Rattle.edr_report.specs.Forms.{table_bytes, IsReady};
 
+    /// A report to be read by a spreadsheet, which has its row of headings alone.
     pub fn new(alloc: Global) -> Result<Table, OutOfMemory>
         ensures ready { IfOk result IsReady }
         ensures head { IfOk result (λ t. table_bytes t ≡ table_head) }
