@@ -3,4 +3,5 @@ pub mod Words
 pub mod Values
 pub mod Report
 pub mod Forms
+pub mod Printed
 pub mod Format

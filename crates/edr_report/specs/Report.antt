@@ -113,6 +113,10 @@ damaged_lines bank Void = []
 damaged_lines bank (Event r) = []
 damaged_lines bank (Damaged o x l) = line 0 (bank_words bank) (damage_words o x l) ∷ []
 
+-- the lines of the damaged banks that were found
+abbrev pub damage_lines : List Found → List Line
+damage_lines found = flat_map (λ f. damaged_lines f.bank f.view) found
+
 -- ---- the report
 
 -- the lines of cycles, the first of which is in this place of the run
@@ -128,7 +132,7 @@ unfoldable pub report_lines : List Report → List Found → ℕ → List Line
 report_lines reports found count =
     run_lines 1 reports
     ++ events_lines 1 (found_records found)
-    ++ flat_map (λ f. damaged_lines f.bank f.view) found
+    ++ damage_lines found
     ++ line 0 (codes "ignition cycle, download") (shown_count count)
     ∷ []
 

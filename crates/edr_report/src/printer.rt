@@ -1,11 +1,12 @@
 //! The walk over a run and what its banks hold, which gives the lines of the report to a form.
 
-ghost use Rattle.std.specs.Prelude.{◌≡◌, ◌++◌, ◌≤◌, IfOk, OnOk, length, map, flat_map, string_bytes};
+ghost use Rattle.std.specs.Prelude.{◌≡◌, ◌≤◌, IfOk, OnOk, length, map};
 ghost use Rattle.edr_image.specs.Reports.{report_of};
 ghost use Rattle.edr_report.specs.Lines.{line};
 ghost use Rattle.edr_report.specs.Words.{kind_word};
+ghost use Rattle.edr_report.specs.Printed.{Gains, Gives, GivesLine, entry_lines, named_line, value_lines};
 ghost use Rattle.edr_report.specs.Values.{value_words};
-ghost use Rattle.edr_report.specs.Report.{ack_line, cycle_lines, run_lines, pre_lines, crash_words, named_lines, crash_lines, event_lines, events_lines, found_records, damaged_lines, report_lines};
+ghost use Rattle.edr_report.specs.Report.{ack_line, cycle_lines, run_lines, pre_lines, crash_words, crash_lines, event_lines, events_lines, found_records, damage_lines, damaged_lines, report_lines};
 
 use crate::forms::Lines;
 use crate::values::Value;
@@ -90,7 +91,7 @@ impl<L: Lines> Printer<L> {
     fn put(&mut self, block: u64, name: &str, value: Value<'_>) -> Result<(), OutOfMemory>
         requires { L.ready self.old.lines }
         ensures ready { OnOk result (L.ready self.new.lines) }
-        ensures bytes { OnOk result (L.bytes self.new.lines ≡ L.bytes self.old.lines ++ L.form (line block name.now (value_words value.entry))) }
+        ensures bytes { OnOk result (GivesLine L.Lines self.old self.new (line block name.now (value_words value.entry))) }
     {
         self.value.clear();
         value.put(&mut self.value)?;
@@ -106,7 +107,7 @@ impl<L: Lines> Printer<L> {
     ) -> Result<(), OutOfMemory>
         requires { L.ready self.old.lines }
         ensures ready { OnOk result (L.ready self.new.lines) }
-        ensures bytes { OnOk result (L.bytes self.new.lines ≡ L.bytes self.old.lines ++ flat_map L.form (map (λ e. line block e.0.now (value_words e.1)) entries.now)) }
+        ensures bytes { OnOk result (Gives L.Lines self.old self.new (entry_lines block entries.now)) }
     {
         for (name, value) in entries {
             self.put(block, name, *value)?;
@@ -118,7 +119,7 @@ impl<L: Lines> Printer<L> {
     fn put_pre(&mut self, block: u64, pre: &Pre, locked: bool) -> Result<(), OutOfMemory>
         requires { L.ready self.old.lines }
         ensures ready { OnOk result (L.ready self.new.lines) }
-        ensures bytes { OnOk result (L.bytes self.new.lines ≡ L.bytes self.old.lines ++ flat_map L.form (pre_lines block pre.now locked)) }
+        ensures bytes { OnOk result (Gives L.Lines self.old self.new (pre_lines block pre.now locked)) }
     {
         let entries = [
             ("ignition cycle, crash", Value::Count(pre.key.cycle)),
@@ -149,7 +150,7 @@ impl<L: Lines> Printer<L> {
         requires ready { L.ready self.old.lines }
         requires named { length values.now ≤ length names.now }
         ensures ready { OnOk result (L.ready self.new.lines) }
-        ensures bytes { OnOk result (L.bytes self.new.lines ≡ L.bytes self.old.lines ++ flat_map L.form (named_lines block (map (λ n. n.now) names.now) (map value_words values.now))) }
+        ensures bytes { OnOk result (Gives L.Lines self.old self.new (value_lines block names.now values.now)) }
     {
         for (i, value) in values.iter().enumerate() {
             self.put(block, names[i], *value)?;
@@ -162,7 +163,7 @@ impl<L: Lines> Printer<L> {
     fn put_crash(&mut self, block: u64, crash: &Option<Crash>) -> Result<(), OutOfMemory>
         requires { L.ready self.old.lines }
         ensures ready { OnOk result (L.ready self.new.lines) }
-        ensures bytes { OnOk result (L.bytes self.new.lines ≡ L.bytes self.old.lines ++ flat_map L.form (crash_lines block crash.now)) }
+        ensures bytes { OnOk result (Gives L.Lines self.old self.new (crash_lines block crash.now)) }
     {
         self.put_values(block, &CRASH_NAMES, &crash_values(crash))
     }
@@ -171,7 +172,7 @@ impl<L: Lines> Printer<L> {
     fn put_event(&mut self, block: u64, bank: u8, event: &Record) -> Result<(), OutOfMemory>
         requires { L.ready self.old.lines }
         ensures ready { OnOk result (L.ready self.new.lines) }
-        ensures bytes { OnOk result (L.bytes self.new.lines ≡ L.bytes self.old.lines ++ flat_map L.form (event_lines block bank event.now)) }
+        ensures bytes { OnOk result (Gives L.Lines self.old self.new (event_lines block bank event.now)) }
     {
         self.put(block, "event", Value::Number(block))?;
         self.put(block, "bank", Value::Number(u64::from(bank)))?;
@@ -188,7 +189,7 @@ impl<L: Lines> Printer<L> {
     fn put_named(&mut self, value: Value<'_>) -> Result<(), OutOfMemory>
         requires { L.ready self.old.lines }
         ensures ready { OnOk result (L.ready self.new.lines) }
-        ensures bytes { OnOk result (L.bytes self.new.lines ≡ L.bytes self.old.lines ++ L.form (line 0 (string_bytes self.old.name) (value_words value.entry))) }
+        ensures bytes { OnOk result (GivesLine L.Lines self.old self.new (named_line self.old value.entry)) }
     {
         self.value.clear();
         value.put(&mut self.value)?;
@@ -200,7 +201,7 @@ impl<L: Lines> Printer<L> {
     fn put_ack(&mut self, place: u64, ack: &Ack) -> Result<(), OutOfMemory>
         requires { L.ready self.old.lines }
         ensures ready { OnOk result (L.ready self.new.lines) }
-        ensures bytes { OnOk result (L.bytes self.new.lines ≡ L.bytes self.old.lines ++ L.form (ack_line place ack.now)) }
+        ensures bytes { OnOk result (GivesLine L.Lines self.old self.new (ack_line place ack.now)) }
     {
         let kind = kind_word(ack.kind);
         let tick = ack.tick;
@@ -213,7 +214,7 @@ impl<L: Lines> Printer<L> {
     fn put_acks(&mut self, place: u64, acks: &[Ack]) -> Result<(), OutOfMemory>
         requires { L.ready self.old.lines }
         ensures ready { OnOk result (L.ready self.new.lines) }
-        ensures bytes { OnOk result (L.bytes self.new.lines ≡ L.bytes self.old.lines ++ flat_map L.form (map (ack_line place) acks.now)) }
+        ensures bytes { OnOk result (Gives L.Lines self.old self.new (map (ack_line place) acks.now)) }
     {
         for ack in acks {
             self.put_ack(place, ack)?;
@@ -225,7 +226,7 @@ impl<L: Lines> Printer<L> {
     fn put_cycle(&mut self, place: u64, report: &CycleReport) -> Result<(), OutOfMemory>
         requires { L.ready self.old.lines }
         ensures ready { OnOk result (L.ready self.new.lines) }
-        ensures bytes { OnOk result (L.bytes self.new.lines ≡ L.bytes self.old.lines ++ flat_map L.form (cycle_lines place (report_of report.now))) }
+        ensures bytes { OnOk result (Gives L.Lines self.old self.new (cycle_lines place (report_of report.now))) }
     {
         self.name.clear();
         write!(self.name, "cycle {place}")?;
@@ -249,7 +250,7 @@ impl<L: Lines> Printer<L> {
     fn put_run(&mut self, run: &[CycleReport]) -> Result<(), OutOfMemory>
         requires { L.ready self.old.lines }
         ensures ready { OnOk result (L.ready self.new.lines) }
-        ensures bytes { OnOk result (L.bytes self.new.lines ≡ L.bytes self.old.lines ++ flat_map L.form (run_lines 1 (map report_of run.now))) }
+        ensures bytes { OnOk result (Gives L.Lines self.old self.new (run_lines 1 (map report_of run.now))) }
     {
         for (i, report) in run.iter().enumerate() {
             self.put_cycle(i as u64 + 1, report)?;
@@ -261,7 +262,7 @@ impl<L: Lines> Printer<L> {
     fn put_events(&mut self, found: &[Found]) -> Result<(), OutOfMemory>
         requires { L.ready self.old.lines }
         ensures ready { OnOk result (L.ready self.new.lines) }
-        ensures bytes { OnOk result (L.bytes self.new.lines ≡ L.bytes self.old.lines ++ flat_map L.form (events_lines 1 (found_records found.now))) }
+        ensures bytes { OnOk result (Gives L.Lines self.old self.new (events_lines 1 (found_records found.now))) }
     {
         let mut block = 0;
         for bank in found {
@@ -277,7 +278,7 @@ impl<L: Lines> Printer<L> {
     fn put_if_damaged(&mut self, bank: &Found) -> Result<(), OutOfMemory>
         requires { L.ready self.old.lines }
         ensures ready { OnOk result (L.ready self.new.lines) }
-        ensures bytes { OnOk result (L.bytes self.new.lines ≡ L.bytes self.old.lines ++ flat_map L.form (damaged_lines bank.now.bank bank.now.view)) }
+        ensures bytes { OnOk result (Gives L.Lines self.old self.new (damaged_lines bank.now.bank bank.now.view)) }
     {
         match bank.view {
             BankView::Damaged {
@@ -302,7 +303,7 @@ impl<L: Lines> Printer<L> {
     fn put_damaged(&mut self, found: &[Found]) -> Result<(), OutOfMemory>
         requires { L.ready self.old.lines }
         ensures ready { OnOk result (L.ready self.new.lines) }
-        ensures bytes { OnOk result (L.bytes self.new.lines ≡ L.bytes self.old.lines ++ flat_map L.form (flat_map (λ f. damaged_lines f.bank f.view) found.now)) }
+        ensures bytes { OnOk result (Gives L.Lines self.old self.new (damage_lines found.now)) }
     {
         for bank in found {
             self.put_if_damaged(bank)?;
@@ -319,7 +320,7 @@ impl<L: Lines> Printer<L> {
     ) -> Result<(), OutOfMemory>
         requires { L.ready self.old.lines }
         ensures ready { OnOk result (L.ready self.new.lines) }
-        ensures bytes { OnOk result (L.bytes self.new.lines ≡ L.bytes self.old.lines ++ flat_map L.form (report_lines (map report_of run.now) found.now count)) }
+        ensures bytes { OnOk result (Gives L.Lines self.old self.new (report_lines (map report_of run.now) found.now count)) }
     {
         self.put_run(run)?;
         self.put_events(found)?;
@@ -337,7 +338,7 @@ pub fn print<L: Lines + Drop>(
     count: u32,
 ) -> Result<L, OutOfMemory>
     requires { L.ready form }
-    ensures { IfOk result (λ printed. L.bytes printed ≡ L.bytes form ++ flat_map L.form (report_lines (map report_of run.now) found.now count)) }
+    ensures { IfOk result (λ out. Gains L.Lines form out (report_lines (map report_of run.now) found.now count)) }
 {
     let mut printer = Printer {
         lines: form,
@@ -355,7 +356,7 @@ pub fn print_run<L: Lines + Drop>(
     run: &[CycleReport],
 ) -> Result<L, OutOfMemory>
     requires { L.ready form }
-    ensures { IfOk result (λ printed. L.bytes printed ≡ L.bytes form ++ flat_map L.form (run_lines 1 (map report_of run.now))) }
+    ensures { IfOk result (λ out. Gains L.Lines form out (run_lines 1 (map report_of run.now))) }
 {
     let mut printer = Printer {
         lines: form,
@@ -375,7 +376,7 @@ pub fn print_event<L: Lines + Drop>(
     event: &Record,
 ) -> Result<L, OutOfMemory>
     requires { L.ready form }
-    ensures { IfOk result (λ printed. L.bytes printed ≡ L.bytes form ++ flat_map L.form (event_lines block bank event.now)) }
+    ensures { IfOk result (λ out. Gains L.Lines form out (event_lines block bank event.now)) }
 {
     let mut printer = Printer {
         lines: form,

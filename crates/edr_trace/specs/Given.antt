@@ -1,17 +1,17 @@
 -- What a reading stands for.
 use Rattle.std.specs.Prelude.{ℕ, ◌+◌, ◌≤◌, List, [], ◌++◌, length}
-use Rattle.csv.specs.declared.parser.State.TheVariants.{StartRecord}
+use Rattle.edr_trace.specs.declared.ReadRefused.{ReadRefused}
 use Rattle.edr_trace.specs.declared.reading.Reading.{Reading}
 use Rattle.edr_trace.specs.declared.reading.Way.{Way}
 use Rattle.edr_trace.specs.declared.reading.Way.TheVariants as way
 use Rattle.edr_trace.specs.declared.steps.Trace.{Trace}
-use Rattle.edr_trace.specs.SoFar.{SoFar, unread}
+use Rattle.edr_trace.specs.SoFar.{IsLeft}
 use Rattle.edr_trace.specs.Told.{Tells}
 
 -- so many rows of the bytes were read, and what is left of them is this, whatever follows
 abbrev pub AreReadBut : List ℕ → List ℕ → Trace → ℕ → Type 0
 AreReadBut left bytes trace rows = (rows + length left ≤ length bytes)
-    × ((more : List ℕ) → SoFar (bytes ++ more) StartRecord (unread rows (left ++ more)) trace.cycles.items trace.inside rows)
+    × ((more : List ℕ) → IsLeft (bytes ++ more) (left ++ more) trace rows)
 
 -- the same by the way in which what follows is read
 abbrev pub AreReadBy : Way → List ℕ → Trace → ℕ → Type 0
@@ -22,3 +22,11 @@ AreReadBy (way.Refused e) bytes trace rows = (more : List ℕ) → Tells (bytes 
 -- these bytes were given to the reading, and it took them
 pub record Given (bytes : List ℕ) (r : Reading) : Type 0 where
   pub are_read : AreReadBy r.way bytes r.trace r.rows
+
+-- the reading took these bytes more
+abbrev pub Takes : List ℕ → Reading → Reading → Type 0
+Takes bytes old new = (before : List ℕ) → Given before old → Given (before ++ bytes) new
+
+-- a refusal of these bytes tells of the trace's fault, whatever follows
+abbrev pub TellsOfMore : List ℕ → Reading → ReadRefused → Type 0
+TellsOfMore bytes r e = (before more : List ℕ) → Given before r → Tells ((before ++ bytes) ++ more) e

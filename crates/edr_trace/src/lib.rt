@@ -8,12 +8,11 @@ mod plain;
 mod reading;
 mod steps;
 
-ghost use Rattle.std.specs.Prelude.{◌≡◌, ◌≤◌, ◌<◌, ◌+◌, ◌^◌, ◌++◌, ℕ, List, Some, None, length, IfOk, IfErr, IfSome, MatchResult, ◌⊎◌, All};
+ghost use Rattle.std.specs.Prelude.{◌≡◌, ◌≤◌, ◌<◌, ◌+◌, ◌^◌, ℕ, List, Some, None, length, IfOk, IfErr, IfSome, All};
 ghost use Rattle.edr_spell.specs.Spell.{Spell, IsCycle, largest_trace};
 ghost use Rattle.edr_spell.specs.Fault.{Fault};
-ghost use Rattle.csv.specs.declared.parser.State.TheVariants.{StartRecord};
-ghost use Rattle.edr_trace.specs.Told.{Tells};
-ghost use Rattle.edr_trace.specs.SoFar.{SoFar, unread};
+ghost use Rattle.edr_trace.specs.Told.{GivesCycles, GivesFault, Tells, TellsOf};
+ghost use Rattle.edr_trace.specs.SoFar.{LeadsTo, OfWhole};
 ghost use Rattle.edr_trace.specs.Plain.{IsTaken, IsRefused};
 
 use csv::{ByteRecord, ReaderBuilder};
@@ -63,8 +62,8 @@ pub fn read(alloc: Global, bytes: &[u8]) -> Result<Vec<CycleInput>, ReadRefused>
     ensures cycles { IfOk result (λ v. All IsCycle v.items) }
 
     // What is spelled is read, and a fault is told, unless memory runs out.
-    ensures only_spelled { (cycles : List CycleInput) → Spell bytes.now cycles → MatchResult result (λ v. v.items ≡ cycles) (λ e. e ≡ ReadRefused.OutOfMemory) }
-    ensures only_refused { (t : TraceRefused) → Fault bytes.now t → MatchResult result (λ v. ⊥) (λ e. (e ≡ ReadRefused.Trace t) ⊎ (e ≡ ReadRefused.OutOfMemory)) }
+    ensures only_spelled { (cycles : List CycleInput) → Spell bytes.now cycles → GivesCycles cycles result }
+    ensures only_refused { (t : TraceRefused) → Fault bytes.now t → GivesFault t result }
 {
     let mut reading = Reading::new(alloc);
     let taken = reading.take_rows(bytes);
@@ -120,10 +119,8 @@ fn take_plain<'a>(
 ) -> Result<&'a [u8], ReadRefused>
     requires { rows.old + length bytes.now < 2 ^ 32 }
     ensures count { IfOk result (λ rest. rows.new + length rest.now ≤ rows.old + length bytes.now) }
-    ensures taken { IfOk result (λ rest. (front : List ℕ) × (bytes.now ≡ front ++ rest.now)
-        × ((whole more : List ℕ) → SoFar whole StartRecord (unread rows.old (front ++ more)) trace.old.cycles.items trace.old.inside rows.old
-        → SoFar whole StartRecord (unread rows.new more) trace.new.cycles.items trace.new.inside rows.new)) }
-    ensures refused { IfErr result (λ e. (whole more : List ℕ) → SoFar whole StartRecord (unread rows.old (bytes.now ++ more)) trace.old.cycles.items trace.old.inside rows.old → Tells whole e) }
+    ensures taken { IfOk result (λ rest. LeadsTo bytes.now rest.now trace.old trace.new rows.old rows.new) }
+    ensures refused { IfErr result (TellsOf bytes.now trace.old rows.old) }
 {
     let mut rest = bytes;
     loop {
@@ -146,8 +143,8 @@ fn read_rest<R: Read + Drop>(
     source: R,
 ) -> Result<Vec<CycleInput>, ReadRefused>
     requires { (bytes : List ℕ) × (R.remaining source ≡ Some bytes) × (rows + length bytes ≤ largest_trace) }
-    ensures spelled { IfOk result (λ v. (whole bytes : List ℕ) → R.remaining source ≡ Some bytes → SoFar whole StartRecord (unread rows bytes) trace.cycles.items trace.inside rows → Spell whole v.items) }
-    ensures refused { IfErr result (λ e. (whole bytes : List ℕ) → R.remaining source ≡ Some bytes → SoFar whole StartRecord (unread rows bytes) trace.cycles.items trace.inside rows → Tells whole e) }
+    ensures spelled { IfOk result (λ v. OfWhole (R.remaining source) trace rows (λ whole. Spell whole v.items)) }
+    ensures refused { IfErr result (λ e. OfWhole (R.remaining source) trace rows (λ whole. Tells whole e)) }
 {
     let mut trace = trace;
     // A byte order mark is one at the front of a trace alone. A blank line is no record.

@@ -3,7 +3,7 @@
 ghost use Rattle.std.specs.Prelude.{◌≤◌, ◌<◌, ◌+◌, ◌^◌, ◌++◌, ℕ, List, [], length, take, IfOk, IfErr};
 ghost use Rattle.edr_spell.specs.Spell.{Spell, largest_trace};
 ghost use Rattle.edr_trace.specs.Told.{Tells};
-ghost use Rattle.edr_trace.specs.Given.{Given};
+ghost use Rattle.edr_trace.specs.Given.{Given, Takes, TellsOfMore};
 
 use crate::pieces::Pieces;
 use crate::steps::Trace;
@@ -64,8 +64,7 @@ impl Reading {
         requires { (before : List ℕ) × Given before self.old × (length before + length bytes.now < 2 ^ 32) }
         ensures within { result ≤ length bytes.now }
         ensures left { length bytes.now ≤ result + 64 }
-        ensures given { (before : List ℕ) → Given before self.old
-            → Given (before ++ take result bytes.now) self.new }
+        ensures given { Takes (take result bytes.now) self.old self.new }
     {
         match self.take_front(bytes) {
             Ok(taken) => taken,
@@ -81,10 +80,8 @@ impl Reading {
         requires { (before : List ℕ) × Given before self.old × (length before + length bytes.now < 2 ^ 32) }
         ensures within { IfOk result (λ n. n ≤ length bytes.now) }
         ensures left { IfOk result (λ n. length bytes.now ≤ n + LONGEST_ROW) }
-        ensures given { IfOk result (λ n. (before : List ℕ) → Given before self.old
-            → Given (before ++ take n bytes.now) self.new) }
-        ensures refused { IfErr result (λ e. (before more : List ℕ) → Given before self.old
-            → Tells ((before ++ bytes.now) ++ more) e) }
+        ensures given { IfOk result (λ n. Takes (take n bytes.now) self.old self.new) }
+        ensures refused { IfErr result (TellsOfMore bytes.now self.old) }
     {
         match &mut self.way {
             Way::Plain => {}

@@ -1,10 +1,23 @@
 -- The arguments behind a word of a command line, and the commands that take them.
-use Rattle.std.specs.Prelude.{ℕ, Bool, true, not, ◌==◌, Option, Some, None, List, [], ◌∷◌, codes}
-use Rattle.clap.specs.Walk.{Rule}
-use Rattle.clap.specs.Simple.{App, new_app, new_rule, on_top, with_rule}
+use Rattle.std.specs.Prelude.{◌≡◌, ℕ, Bool, true, not, ◌==◌, Option, Some, None, option_map, List, [], ◌∷◌, map, codes, string_bytes, String}
+use Rattle.std.specs.Borrow.{Bor}
+use Rattle.std.specs.declared.alloc.Global.{Global}
+use Rattle.clap.specs.Faults.{fault_of}
+use Rattle.clap.specs.Matches.{first_value, found_of}
+use Rattle.clap.specs.Simple.{App, matches_of, new_app, new_rule, on_top, with_rule}
+use Rattle.clap.specs.Walk.{Rule, rows_of}
+use Rattle.clap.specs.declared.parser.matches.ArgMatches.{ArgMatches}
+use Rattle.clap.specs.declared.parser.matches.Found.{Found}
 
 abbrev pub Word : Type 0
 Word = List ℕ
+
+abbrev pub words_of : List (String Global) → List Word
+words_of arguments = map string_bytes arguments
+
+-- a word, and a second if there is one, behind references
+abbrev pub words_in : Bor Word × Option (Bor Word) → Word × Option Word
+words_in p = (p.0.now, option_map (λ s. s.now) p.1)
 
 -- the word doesn't begin with `-`
 abbrev pub is_plain : Word → Bool
@@ -38,7 +51,15 @@ abbrev pub with_second : Option Word → Option Word → Option (Word × Option 
 with_second None second = None
 with_second (Some first) second = Some (first, second)
 
+-- what was matched as `first`, with `second` if there is one
+abbrev pub first_and_second : Found → Option (Word × Option Word)
+first_and_second found = with_second (first_value found (codes "first")) (first_value found (codes "second"))
+
 -- ---- the commands
+
+-- a command takes the words without a fault, and these are its matches
+abbrev pub Takes : App → List Word → ArgMatches → Type 0
+Takes app words matches = (fault_of app words ≡ []) × (rows_of (found_of matches) ≡ matches_of app words)
 
 abbrev pub first : Rule
 first = new_rule (codes "first")

@@ -1,11 +1,10 @@
 //! The arguments behind a word of a command line, told apart by `clap`.
-ghost use Rattle.std.specs.Prelude.{◌≡◌, ◌≢◌, true, [], None, codes, map, option_map, string_bytes, IfOk, IfSome};
+ghost use Rattle.std.specs.Prelude.{◌≡◌, ◌≢◌, true, [], None, option_map, string_bytes, IfOk, IfSome};
 ghost use Rattle.std.specs.List.{list_all};
 ghost use Rattle.clap.specs.Faults.{fault_of, is_simple_and_free};
-ghost use Rattle.clap.specs.Matches.{first_value, found_of};
-ghost use Rattle.clap.specs.Simple.{app_of, matches_of};
-ghost use Rattle.clap.specs.Walk.{rows_of};
-ghost use Rattle.edr_words.specs.Arguments.{at_most_one, bare, is_plain, may_have_one, may_have_two, needs_two, one_or_two, two, with_second};
+ghost use Rattle.clap.specs.Matches.{found_of};
+ghost use Rattle.clap.specs.Simple.{app_of};
+ghost use Rattle.edr_words.specs.Arguments.{Takes, at_most_one, bare, first_and_second, is_plain, may_have_one, may_have_two, needs_two, one_or_two, two, words_in, words_of};
 
 use clap::error::ErrorKind;
 use clap::{Arg, ArgMatches, Command};
@@ -64,9 +63,8 @@ fn parsed<'a>(
     arguments: &'a [String],
 ) -> Result<Option<ArgMatches<'a>>, OutOfMemory>
     requires { is_simple_and_free (app_of command) ≡ true }
-    ensures taken { IfOk result (λ r. IfSome r (λ m. (fault_of (app_of command.entry) (map string_bytes arguments.entry.now) ≡ [])
-        × (rows_of (found_of m) ≡ matches_of (app_of command.entry) (map string_bytes arguments.entry.now)))) }
-    ensures refused { IfOk result (λ r. r ≡ None → fault_of (app_of command.entry) (map string_bytes arguments.entry.now) ≢ []) }
+    ensures taken { IfOk result (λ r. IfSome r (Takes (app_of command.entry) (words_of arguments.entry.now))) }
+    ensures refused { IfOk result (λ r. r ≡ None → fault_of (app_of command.entry) (words_of arguments.entry.now) ≢ []) }
 {
     match command.try_get_matches_from(arguments) {
         Ok(matches) => Ok(Some(matches)),
@@ -83,8 +81,8 @@ pub(crate) fn two<'a>(
     name: &'a str,
     arguments: &'a [String],
 ) -> Result<Option<(&'a str, &'a str)>, OutOfMemory>
-    requires { list_all is_plain (map string_bytes arguments.now) ≡ true }
-    ensures { IfOk result (λ r. option_map (λ p. (p.0.now, p.1.now)) r ≡ two (map string_bytes arguments.now)) }
+    requires { list_all is_plain (words_of arguments.now) ≡ true }
+    ensures { IfOk result (λ r. option_map (λ p. (p.0.now, p.1.now)) r ≡ two (words_of arguments.now)) }
 {
     match parsed(needs_two(alloc, name)?, arguments)? {
         Some(matches) => Ok(matches.get_str("first").zip(matches.get_str("second"))),
@@ -98,8 +96,8 @@ pub(crate) fn at_most_one<'a>(
     name: &'a str,
     arguments: &'a [String],
 ) -> Result<Option<Option<&'a str>>, OutOfMemory>
-    requires { list_all is_plain (map string_bytes arguments.now) ≡ true }
-    ensures { IfOk result (λ r. option_map (option_map (λ s. s.now)) r ≡ at_most_one (map string_bytes arguments.now)) }
+    requires { list_all is_plain (words_of arguments.now) ≡ true }
+    ensures { IfOk result (λ r. option_map (option_map (λ s. s.now)) r ≡ at_most_one (words_of arguments.now)) }
 {
     match parsed(may_have_one(alloc, name)?, arguments)? {
         Some(matches) => Ok(Some(matches.get_str("first"))),
@@ -113,8 +111,8 @@ pub(crate) fn one_or_two<'a>(
     name: &'a str,
     arguments: &'a [String],
 ) -> Result<Option<(&'a str, Option<&'a str>)>, OutOfMemory>
-    requires { list_all is_plain (map string_bytes arguments.now) ≡ true }
-    ensures { IfOk result (λ r. option_map (λ p. (p.0.now, option_map (λ s. s.now) p.1)) r ≡ one_or_two (map string_bytes arguments.now)) }
+    requires { list_all is_plain (words_of arguments.now) ≡ true }
+    ensures { IfOk result (λ r. option_map words_in r ≡ one_or_two (words_of arguments.now)) }
 {
     match parsed(may_have_two(alloc, name)?, arguments)? {
         Some(matches) => Ok(with_second(&matches)),
@@ -124,7 +122,7 @@ pub(crate) fn one_or_two<'a>(
 
 // The first argument, with the second if there is one.
 fn with_second<'a>(matches: &ArgMatches<'a>) -> Option<(&'a str, Option<&'a str>)>
-    ensures { option_map (λ p. (p.0.now, option_map (λ s. s.now) p.1)) result ≡ with_second (first_value (found_of matches.now) (codes "first")) (first_value (found_of matches.now) (codes "second")) }
+    ensures { option_map words_in result ≡ first_and_second (found_of matches.now) }
 {
     match matches.get_str("first") {
         Some(first) => Some((first, matches.get_str("second"))),
