@@ -32,7 +32,7 @@ use Rattle.edr_core.specs.declared.ask.Ask.{Ask}
 use Rattle.edr_core.specs.declared.ask.AllParts.{AllParts}
 use Rattle.edr_core.specs.declared.candidate.Candidate.{Candidate}
 use Rattle.edr_core.specs.declared.candidate.Issued.{Issued}
-use Rattle.edr_core.specs.declared.candidate.Row.{Row as Given}
+use Rattle.edr_core.specs.declared.candidate.TickRow.{TickRow as Given}
 use Rattle.edr_core.specs.Candidate.{IsRowInRange, IsShort, CanBeTold, begun, grown, grown_or_begun, no_issues, candidate_after, link_after, issued_after, issues_in}
 use Rattle.edr_core.specs.Answers.{put}
 use Rattle.edr_core.specs.Ask.{no_parts, in_places, missing_in, IsKey, pre_of}

@@ -28,7 +28,7 @@ use Rattle.edr_detect.specs.Detected.{DetectStandsFor}
 use Rattle.edr_core.specs.Rows.{RowIs, rows_of}
 use Rattle.edr_core.specs.declared.candidate.Candidate.{Candidate}
 use Rattle.edr_core.specs.declared.candidate.Issued.{Issued}
-use Rattle.edr_core.specs.declared.candidate.Row.{Row as Given}
+use Rattle.edr_core.specs.declared.candidate.TickRow.{TickRow as Given}
 use Rattle.edr_core.specs.Candidate.{begun, grown, grown_or_begun, told, candidate_after, link_after, issued_after, issues_in, IsShort, CanBeTold}
 use Rattle.edr_core.specs.Parts.{Slots, AreSlotsOf, with_parts, command_with, commands_with, issue_with, issues_with}
 use Rattle.edr_core.specs.SplitHistory.{History}

@@ -11,23 +11,23 @@ use Rattle.edr_crashpart.specs.Bounds.{IsInRange}
 use Rattle.edr_link.specs.Link.{IsPast}
 use Rattle.edr_core.specs.declared.candidate.Candidate.{Candidate}
 use Rattle.edr_core.specs.declared.candidate.Issued.{Issued}
-use Rattle.edr_core.specs.declared.candidate.Row.{Row}
+use Rattle.edr_core.specs.declared.candidate.TickRow.{TickRow}
 
 -- the samples of a row lie in the range of the acceleration sensors
-pub record IsRowInRange (r : Row) : Type 0 where
+pub record IsRowInRange (r : TickRow) : Type 0 where
   pub along : IsInRange r.along
   pub across : IsInRange r.across
 
 -- a candidate with that pre part, at its time zero
-abbrev pub begun : PrePart → Row → Candidate
+abbrev pub begun : PrePart → TickRow → Candidate
 begun pre r = record { pre = pre; crash = begin_crash pre.key.zero r.fired.0; end = pre.key.zero }
 
 -- a candidate with one tick more
-abbrev pub grown : Row → Candidate → Candidate
+abbrev pub grown : TickRow → Candidate → Candidate
 grown r o = record o { crash = next_crash o.crash r.along r.across r.fired.0 }
 
 -- the open candidate at the next tick, with what stands there: a time zero begins one
-abbrev pub grown_or_begun : Change → PrePart → Row → Option Candidate → Option Candidate
+abbrev pub grown_or_begun : Change → PrePart → TickRow → Option Candidate → Option Candidate
 grown_or_begun change pre r o = if change.zero then Some (begun pre r) else option_map {T = Candidate} {U = Candidate} (grown r) o
 
 -- a confirmation puts in the place, an end is kept

@@ -4,7 +4,7 @@ use Rattle.edr_definitions.specs.Ticks.{ticks}
 use Rattle.edr_definitions.specs.Signals.{Signals}
 use Rattle.edr_definitions.specs.Windows.{change_at}
 use Rattle.edr_detect.specs.Rows.{Row}
-use Rattle.edr_core.specs.declared.candidate.Row.{Row as Given}
+use Rattle.edr_core.specs.declared.candidate.TickRow.{TickRow as Given}
 
 -- the row of the tick t: a tick without a sample has a change of 0
 abbrev pub row_of : Signals → ℕ → Row

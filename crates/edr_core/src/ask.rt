@@ -6,7 +6,7 @@ ghost use Rattle.edr_record.specs.Bounds.{IsUpTo};
 ghost use Rattle.edr_definitions.specs.Parts.{numbers, switch};
 ghost use Rattle.edr_core.specs.Parts.{first_slot};
 
-use crate::candidate::Row;
+use crate::candidate::TickRow;
 use crate::slots::{per_cents, speeds, switch_of, switches_of};
 use edr_capture::Part;
 use edr_detect::Change;
@@ -47,7 +47,7 @@ pub struct AllParts {
 // What was given of a time zero, what stands there, and its parts as far as they were taken.
 #[derive(Clone, Copy)]
 pub struct Ask {
-    pub row: Row,
+    pub row: TickRow,
     pub change: Change,
     pub parts: Parts,
 }
@@ -186,7 +186,7 @@ impl Ask {
 
     // No part was taken yet. It stands apart, since few ticks are a time zero, and its place is large.
     #[inline(never)]
-    pub fn open(ask: &mut Option<Ask>, row: Row, change: Change)
+    pub fn open(ask: &mut Option<Ask>, row: TickRow, change: Change)
         ensures { ask.new ≡ Some (record { row = row; change = change; parts = no_parts }) }
     {
         *ask = Some(Ask {

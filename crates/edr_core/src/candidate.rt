@@ -12,7 +12,7 @@ use edr_record::{Crash, Pre};
 
 // What was given of a tick: the sample of each axis, if there is one, and the restraints that fire.
 #[derive(Clone, Copy)]
-pub struct Row {
+pub struct TickRow {
     pub along: Option<i32>,
     pub across: Option<i32>,
     pub fired: Restraints,
@@ -56,7 +56,7 @@ impl Issued {
 
 impl Candidate {
     /// Freezes what stood before time zero. The row is that of time zero, of which only the restraints count.
-    pub fn begin(pre: Pre, row: Row) -> Candidate
+    pub fn begin(pre: Pre, row: TickRow) -> Candidate
         ensures { result ≡ begun pre row }
     {
         let zero = pre.key.zero;
@@ -68,7 +68,7 @@ impl Candidate {
     }
 
     /// Gives the crash part one tick more, of 1 ms: the samples in steps of 0.0001 km/h, and the restraints that fire.
-    pub fn grow(&mut self, row: Row)
+    pub fn grow(&mut self, row: TickRow)
         requires short { IsShort self.old }
         requires in_range { IsRowInRange row }
         ensures { self.new ≡ grown row self.old }
@@ -103,7 +103,7 @@ impl Candidate {
 
 // Gives the open candidate its row.
 #[inline(always)]
-pub fn grow(candidate: &mut Option<Candidate>, row: Row)
+pub fn grow(candidate: &mut Option<Candidate>, row: TickRow)
     requires short { IfSome candidate.old IsShort }
     requires in_range { IsRowInRange row }
     ensures { candidate.new ≡ option_map (grown row) candidate.old }

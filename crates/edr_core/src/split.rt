@@ -4,7 +4,7 @@ ghost use Rattle.std.specs.Prelude.{◌≡◌, ◌↔◌, ◌+◌, ◌≤◌, �
 ghost use Rattle.edr_definitions.specs.Schedule.{Give, IsAllowed};
 
 use crate::ask::{Ask, PartRefused};
-use crate::candidate::{Candidate, Issued, Row, grow, issue, passes_by};
+use crate::candidate::{Candidate, Issued, TickRow, grow, issue, passes_by};
 use edr_capture::Part;
 use edr_detect::Detect;
 use edr_items::{Item, LONGEST_GAP, Sensor, check};
@@ -216,7 +216,7 @@ impl SplitCore {
                 fired,
             } => (
                 tick,
-                Row {
+                TickRow {
                     along,
                     across,
                     fired,
