@@ -1,0 +1,29 @@
+use Rattle.std.proofs.Common.{arith, sym, subst}
+use Rattle.edr_loops.specs.declared.fast_inlets.FastInlets.{FastInlets}
+use Rattle.edr_loops.specs.declared.orders.Outbox.{Outbox}
+use Rattle.edr_loops.specs.declared.part_inlets.PartInlets.{PartInlets}
+use Rattle.edr_loops.specs.Orders.{AreOfOneRing}
+use Rattle.edr_loops.specs.Lanes.{AreFastLanes, ArePartLanes}
+use Rattle.edr_drive.proofs.beginning.seat_desk.Goals as goal
+
+pub returns : goal.returns
+returns c = λ n fresh.
+    let desk = c.new-desk.ensures in
+    let rings = fresh.rings in
+    let gate = fresh.seats.gate in
+    record {
+      stands = λ horizon. desk.stands n horizon (record {
+        core_is = fresh.core;
+        asker_is = rings.asker_is;
+        fast_is = rings.fast_taken_is;
+        parts_are = rings.parts_taken_are;
+        sent_is = fresh.sent;
+      });
+      posted = desk.posted fresh.seats.closed (omega (arith, gate));
+      lanes = subst (λ (i : FastInlets). AreFastLanes c.args.rings.places.fast i) (sym desk.rings.0) rings.lanes;
+      part_lanes = subst (λ (i : PartInlets). ArePartLanes c.args.rings.places.slow i) (sym desk.rings.1) rings.part_lanes;
+      begun = rings.begun;
+      pair = subst (λ (o : Outbox). AreOfOneRing o c.args.orders.inbox) (sym desk.rings.2) fresh.pair;
+      fresh = fresh.taken;
+      captures = fresh.captures_are;
+    }
