@@ -11,6 +11,7 @@ use Rattle.edr_drawing.specs.declared.texts.Label.TheVariants as label
 use Rattle.edr_drawing.specs.declared.elements.Words.TheVariants as words
 use Rattle.edr_drawing.specs.declared.elements.Element.{Element}
 use Rattle.edr_drawing.specs.declared.elements.Element.TheVariants as element
+use Rattle.edr_drawing.specs.declared.lanes.Field.{Field}
 use Rattle.edr_drawing.specs.declared.lanes.Lane.{Lane}
 use Rattle.edr_drawing.specs.Pieces.{pieces}
 use Rattle.edr_drawing.specs.Elements.{drawn}
@@ -80,6 +81,10 @@ run_elements k n y height field class word =
     ∷ (if nat_lt n 10
     then []
     else element.Text ((slot_x Long k + slot_x Long (k + n - 1)) / 2) (y + height / 2 + 9) class (words.Label word) ∷ [])
+
+-- the same by the place and the looks of the field
+abbrev pub field_elements : ℕ → ℕ → Field → List Element
+field_elements k n f = run_elements k n f.y f.height f.class f.words f.label
 
 -- n absent slots from slot k on, if there are any
 abbrev pub gap_elements : Lane → ℕ → ℕ → List Element

@@ -1,7 +1,10 @@
 -- What the laws of a page speak of.
-use Rattle.std.specs.Prelude.{◌≡◌, ◌≤◌, ℕ, ◌+◌, ℤ, Bool, true, false, Option, Some, None, List, [], ◌∷◌, ◌++◌, filter, map, flat_map}
+use Rattle.std.specs.Prelude.{◌≡◌, ◌≤◌, ℕ, ◌+◌, ℤ, Bool, true, false, Option, Some, None, List, [], ◌∷◌, ◌++◌, Contains, filter, map, flat_map}
 use Rattle.edr_record.specs.declared.Profile.{Profile}
 use Rattle.edr_record.specs.declared.Profile.TheVariants.{Short, Long}
+use Rattle.edr_image.specs.declared.Found.{Found}
+use Rattle.edr_image.specs.Reports.{Report}
+use Rattle.edr_report.specs.Lines.{Line}
 use Rattle.edr_drawing.specs.declared.elements.Element.{Element}
 use Rattle.edr_drawing.specs.declared.elements.Element.TheVariants as element
 use Rattle.edr_drawing.specs.declared.lanes.Lane.{Lane}
@@ -10,10 +13,22 @@ use Rattle.edr_drawing.specs.Elements.{drawn}
 use Rattle.edr_drawing.specs.Scales.{slot_x}
 use Rattle.edr_drawing.specs.Lanes.{lane_y, point}
 use Rattle.edr_drawing.specs.Changes.{change_y}
+use Rattle.edr_drawing.specs.Page.{page_bytes}
+use Rattle.edr_drawing.specs.Tables.{row}
 
 -- the bytes stand in the others, in one piece
 abbrev pub IsPart : List ℕ → List ℕ → Type 0
 IsPart part whole = (front : List ℕ) × (back : List ℕ) × (whole ≡ front ++ part ++ back)
+
+-- each of the lines has its row there, word for word
+abbrev pub HasRows : List Line → List ℕ → Type 0
+HasRows lines page = (l : Line) → Contains lines l → IsPart (row l.name l.value) page
+
+-- of each page, with its reports, what it was found in and its digest, this is so
+abbrev pub OfPages : (List Report → List Found → List ℕ → List ℕ → Type 0) → Type 0
+OfPages says =
+    (reports : List Report) (found : List Found) (count size : ℕ) (digest : List ℕ)
+    → says reports found digest (page_bytes reports found count size digest)
 
 -- the places and the values of the slots that are there, in order; the first slot has the number k
 abbrev pub present : ℕ → List (Option ℕ) → List (ℕ × ℕ)

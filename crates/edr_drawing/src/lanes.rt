@@ -3,7 +3,7 @@
 ghost use Rattle.std.specs.Prelude.{◌≡◌, ◌++◌, ◌≤◌, ◌<◌, ◌+◌, ◌*◌, ◌-◌, ◌/◌, false, All, IfSome, OnOk, length};
 ghost use Rattle.edr_record.specs.Bounds.{slots_in};
 ghost use Rattle.edr_drawing.specs.Elements.{drawn};
-ghost use Rattle.edr_drawing.specs.Lanes.{IsLane, lane_y, grid, grid_line, point, points, none_field, cell, cells, run_elements, gap_elements, long_cells, cells_of, drawn_lane};
+ghost use Rattle.edr_drawing.specs.Lanes.{IsLane, lane_y, grid, grid_line, point, points, none_field, cell, cells, field_elements, gap_elements, long_cells, cells_of, drawn_lane};
 
 use crate::elements::{Element, Words, draw};
 use crate::pieces::{Piece, put};
@@ -198,9 +198,7 @@ pub struct Field {
 pub fn draw_run(out: &mut Vec<u8>, first: u32, count: u32, field: &Field) -> Result<(), OutOfMemory>
     requires run { (1 ≤ count) × (first + count ≤ 201) }
     requires place { (field.now.y ≤ 1_000) × (field.now.height ≤ 1_000) }
-    ensures { OnOk result (out.new.items ≡ out.old.items ++ drawn
-        (run_elements first count field.now.y field.now.height
-        field.now.class field.now.words field.now.label)) }
+    ensures { OnOk result (out.new.items ≡ out.old.items ++ drawn (field_elements first count field.now)) }
 {
     let x = slot_x(Profile::Long, first);
     let to_x = slot_x(Profile::Long, first + count - 1);

@@ -1,26 +1,19 @@
 //! Laws of a page, each the contract of a function that does nothing.
 
-ghost use Rattle.std.specs.Prelude.{◌≡◌, ◌≤◌, ◌<◌, ◌+◌, ℕ, ℤ, false, true, Option, List, All, Contains, int_le};
+ghost use Rattle.std.specs.Prelude.{◌≡◌, ◌≤◌, ◌<◌, ◌+◌, ℕ, ℤ, false, true, Option, List, All, int_le};
 ghost use Rattle.edr_record.specs.Parts.{CrashPart};
 ghost use Rattle.edr_record.specs.declared.Profile.{Profile};
-ghost use Rattle.edr_image.specs.declared.Found.{Found};
-ghost use Rattle.edr_image.specs.Reports.{Report};
-ghost use Rattle.edr_report.specs.Lines.{Line};
 ghost use Rattle.edr_report.specs.Report.{events_lines, found_records, run_lines};
 ghost use Rattle.edr_drawing.specs.declared.changes.Scale.{Scale};
 ghost use Rattle.edr_drawing.specs.declared.lanes.Lane.{Lane};
 ghost use Rattle.edr_drawing.specs.Lanes.{lane_y, cells_of, points};
 ghost use Rattle.edr_drawing.specs.Changes.{change_y, scale_of, span_of, time_x};
-ghost use Rattle.edr_drawing.specs.Tables.{row};
-ghost use Rattle.edr_drawing.specs.Page.{page_bytes};
-ghost use Rattle.edr_drawing.specs.Laws.{IsPart, HasMarks, HasPoints, StandsIn};
+ghost use Rattle.edr_drawing.specs.Laws.{HasMarks, HasPoints, HasRows, OfPages, StandsIn};
 
 /// Each line of an event, and each line of a cycle, has its row on the page, word for word.
 pub fn each_line()
-    ensures events { (reports : List Report) (found : List Found) (count size : ℕ) (digest : List ℕ) (l : Line) → Contains (events_lines 1 (found_records found)) l
-        → IsPart (row l.name l.value) (page_bytes reports found count size digest) }
-    ensures cycles { (reports : List Report) (found : List Found) (count size : ℕ) (digest : List ℕ) (l : Line) → Contains (run_lines 1 reports) l
-        → IsPart (row l.name l.value) (page_bytes reports found count size digest) }
+    ensures events { OfPages (λ reports found digest page. HasRows (events_lines 1 (found_records found)) page) }
+    ensures cycles { OfPages (λ reports found digest page. HasRows (run_lines 1 reports) page) }
 {}
 
 /// The marks of a lane are those of the slots that are there, in order, and no other; and so are the points of its path.
@@ -45,6 +38,5 @@ pub fn all_in_the_plot()
 
 /// Every byte of a page is below 128, whatever the numbers of its report are.
 pub fn plain()
-    ensures { (reports : List Report) (found : List Found) (count size : ℕ) (digest : List ℕ) → All (λ b. b < 256) digest
-        → All (λ b. b < 128) (page_bytes reports found count size digest) }
+    ensures { OfPages (λ reports found digest page. All (λ b. b < 256) digest → All (λ b. b < 128) page) }
 {}

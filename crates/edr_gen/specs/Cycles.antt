@@ -1,9 +1,10 @@
 -- What the sensors give in a planned cycle.
-use Rattle.std.specs.Prelude.{◌+◌, ◌%◌, ◌==◌, ◌&&◌, nat_lt, nat_le, ℕ, zero, suc, ℤ, pos, Bool, true, false, Option, Some, None, find, List, [], ◌∷◌, ◌++◌}
+use Rattle.std.specs.Prelude.{◌≡◌, ◌+◌, ◌%◌, ◌==◌, ◌&&◌, nat_lt, nat_le, ℕ, zero, suc, ℤ, pos, Bool, true, false, Option, Some, None, find, List, [], ◌∷◌, ◌++◌}
 use Rattle.std.specs.List.{list_any}
 use Rattle.edr_items.specs.declared.Sensor.{Sensor}
 use Rattle.edr_items.specs.declared.Sensor.TheVariants.{Along, Across, Speed, Throttle, Brake, Belt, Lamp, Restraint}
-use Rattle.edr_spell.specs.Samples.{Sample}
+use Rattle.edr_items.specs.SensorLists.{SensorLists}
+use Rattle.edr_spell.specs.Samples.{Sample, feeds_given}
 use Rattle.edr_gen.specs.declared.plan.Impulse.{Impulse}
 
 -- the impulse acts at the tick
@@ -60,3 +61,7 @@ samples_at impulses t =
 unfoldable pub samples_after : List Impulse → ℕ → ℕ → List Sample
 samples_after impulses t zero = []
 samples_after impulses t (suc n) = samples_at impulses (t + 1) ++ samples_after impulses (t + 1) n
+
+-- feeds that samples gave have these more
+abbrev pub Gives : List Sample → SensorLists → SensorLists → Type 0
+Gives more old new = (xs : List Sample) → old ≡ feeds_given xs → new ≡ feeds_given (xs ++ more)

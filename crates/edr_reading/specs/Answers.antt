@@ -1,5 +1,5 @@
 -- What a reader answers.
-use Rattle.std.specs.Prelude.{◌≡◌, ℕ, Bool, List, Option, MatchOption, map}
+use Rattle.std.specs.Prelude.{◌≡◌, ℕ, Bool, List, ◌∷◌, Option, MatchOption, map}
 use Rattle.std.specs.Bool.{MatchBool}
 use denote.Ref.{Bor}
 use Rattle.edr_reading.specs.declared.rows.Row.{Row}
@@ -16,3 +16,15 @@ Gives x more read = MatchOption read ⊥ (λ p. (p.0 ≡ x) × (p.1.now ≡ more
 -- it read this value, and rows with these fields are left
 abbrev pub GivesRow : {A : Type 0} → A → List (List (List ℕ)) → Option (A × Bor (List Row)) → Type 0
 GivesRow x more read = MatchOption read ⊥ (λ p. (p.0 ≡ x) × (map fields p.1.now ≡ more))
+
+-- it read rows with these fields
+abbrev pub GivesRest : List (List (List ℕ)) → Option (Bor (List Row)) → Type 0
+GivesRest more read = MatchOption read ⊥ (λ rest. map fields rest.now ≡ more)
+
+-- it read this text
+abbrev pub GivesText : List ℕ → Option (Bor (List ℕ)) → Type 0
+GivesText text read = MatchOption read ⊥ (λ w. w.now ≡ text)
+
+-- a value within bounds is read, where the first of the rows is its row
+abbrev pub ReadsFirst : {A : Type 0} → (A → List (List ℕ)) → (A → Type 0) → List Row → Option (A × Bor (List Row)) → Type 0
+ReadsFirst form ok rows read = (x : _) (more : List (List (List ℕ))) → ok x → map fields rows ≡ form x ∷ more → GivesRow x more read

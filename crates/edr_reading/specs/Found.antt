@@ -10,7 +10,7 @@ use Rattle.edr_report.specs.Report.{events_lines}
 use Rattle.edr_report.specs.Words.{bank_words, shown_count}
 use Rattle.edr_reading.specs.Parts.{IsRecord}
 use Rattle.edr_reading.specs.declared.rows.Row.{Row}
-use Rattle.edr_reading.specs.Rows.{FieldRows, fields, line_fields}
+use Rattle.edr_reading.specs.Rows.{FieldRows, event_fields, fields, line_fields}
 use Rattle.edr_reading.specs.Values.{IsBank, IsDamagedView, view_words}
 
 -- the bounds of an event and its bank
@@ -50,6 +50,15 @@ abbrev pub LacksBank : ℕ → List Found → Type 0
 LacksBank bank found = AllByRecursion (λ b. eqb bank b ≡ false) (banks_in found)
 
 -- ---- what is read of rows
+
+-- this event is the first that the rows tell
+abbrev pub BeginsWith : ℕ → List Row → ℕ × Record → Type 0
+BeginsWith block rows e =
+    IsEvent e × (29 ≤ length rows) × (map fields rows ≡ event_fields block e.0 e.1 ++ map fields (drop 29 rows))
+
+-- whatever event they begin with, this is so
+abbrev pub OfEvent : ℕ → List Row → (ℕ × Record → FieldRows → Type 0) → Type 0
+OfEvent block rows says = (e : ℕ × Record) (more : FieldRows) → IsEvent e → map fields rows ≡ event_fields block e.0 e.1 ++ more → says e more
 
 -- an event in this bank, and more rows behind it
 abbrev pub GivesBank : {A : Type 0} → ℕ → FieldRows → List Row → Option (ℕ × A) → Type 0

@@ -1,5 +1,6 @@
 -- Which values show the parts of a record.
 use Rattle.std.specs.Prelude.{◌≡◌, ℕ, Bool, List, All, length, map, IfSome, Option, MatchOption}
+use denote.Ref.{Bor}
 use Rattle.edr_record.specs.Parts.{PrePart, CrashPart}
 use Rattle.edr_record.specs.Bounds.{IsPre, IsCrash, IsUpTo, slots_in}
 use Rattle.edr_record.specs.Fields.{profile_of_slots, speed_of, throttle_of, brake_of}
@@ -7,6 +8,9 @@ use Rattle.edr_record.specs.declared.Profile.{Profile}
 use Rattle.edr_record.specs.declared.Slots.{Slots}
 use Rattle.edr_record.specs.declared.Record.{Record}
 use Rattle.edr_report.specs.Words.{yes_no, profile_word, number_or_none, switch_or_none, milliseconds, firing_words, shown_count, events_in_crash, time_between, spaced, points_words, extreme_words, missing_words}
+use Rattle.edr_report.specs.Report.{pre_lines, crash_lines}
+use Rattle.edr_reading.specs.Rows.{fields, line_fields, texts_in}
+use Rattle.edr_reading.specs.declared.rows.Row.{Row}
 use Rattle.edr_reading.specs.declared.pre.PreValues.{PreValues}
 use Rattle.edr_reading.specs.declared.crash.CrashValues.{CrashValues}
 
@@ -44,6 +48,22 @@ abbrev pub GivesLists : List (Option ℕ) → List (Option ℕ) → List (Option
 GivesLists speed throttle brake read =
     MatchOption read ⊥ (λ s. (speed_of s ≡ speed) × (throttle_of s ≡ throttle) × (brake_of s ≡ brake))
 
+-- lists of this profile are read, where the values show them
+abbrev pub ReadsLists : PreValues → Profile → Option Slots → Type 0
+ReadsLists v f read =
+    (speed throttle : List (Option ℕ)) (brake : List (Option Bool)) → ShowsLists v f speed throttle brake → GivesLists speed throttle brake read
+
+-- lists of the profile that is told are
+abbrev pub ReadsToldLists : PreValues → Option Slots → Type 0
+ReadsToldLists v read =
+    (f : Profile) (speed throttle : List (Option ℕ)) (brake : List (Option Bool)) → v.profile.now ≡ profile_word f
+    → ShowsLists v f speed throttle brake → GivesLists speed throttle brake read
+
+-- whatever eight firings, of which none is later, the values tell, this is so
+abbrev pub OfFirings : ℕ → List (Bor (List ℕ)) → (List (Option ℕ) → Type 0) → Type 0
+OfFirings latest values says =
+    (fired : List (Option ℕ)) → length fired ≡ 8 → All (IsUpTo latest) fired → texts_in values ≡ map firing_words fired → says fired
+
 -- the values of the lines of what came after time zero
 pub record ShowsCrash (v : CrashValues) (c : CrashPart) : Type 0 where
   pub end : v.end.now ≡ milliseconds c.end
@@ -66,6 +86,14 @@ pub record SlotsAre (p q : PrePart) : Type 0 where
 -- what was read has these slots, and is so locked
 abbrev pub GivesPre : PrePart → Bool → Option (PrePart × Bool) → Type 0
 GivesPre p locked read = MatchOption read ⊥ (λ q. SlotsAre q.0 p × (q.1 ≡ locked))
+
+-- whatever the rows tell of what stood before time zero, this is so
+abbrev pub OfPre : ℕ → List Row → (PrePart → Bool → Type 0) → Type 0
+OfPre block rows says = (p : PrePart) (locked : Bool) → IsPre p → map fields rows ≡ map line_fields (pre_lines block p locked) → says p locked
+
+-- whatever they tell of what came after it, this is so
+abbrev pub OfCrash : ℕ → List Row → (Option CrashPart → Type 0) → Type 0
+OfCrash block rows says = (c : Option CrashPart) → IfSome c IsCrash → map fields rows ≡ map line_fields (crash_lines block c) → says c
 
 -- the bounds of a record
 pub record IsRecord (r : Record) : Type 0 where

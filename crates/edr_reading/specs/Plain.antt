@@ -1,5 +1,7 @@
 -- The rows of an event behind one of them, by plain values.
 use Rattle.std.specs.Prelude.{◌<◌, Option, Some, None, ◌≡◌, ◌≤◌, ◌+◌, ◌⊎◌, ℕ, Bool, true, false, pos, List, [], ◌∷◌, ◌++◌, drop, replicate, length, map, codes, decimal, slice_index_or}
+use Rattle.std.specs.Bool.{MatchBool}
+use denote.Ref.{Bor}
 use Rattle.edr_record.specs.declared.Extreme.{Extreme}
 use Rattle.edr_record.specs.declared.Place.{Place}
 use Rattle.edr_record.specs.declared.Place.TheVariants.{First, Second}
@@ -13,7 +15,7 @@ use Rattle.edr_report.specs.Words.{yes_no, profile_word, none_word, number_or_no
 use Rattle.edr_reading.specs.Found.{count_fields}
 use Rattle.edr_reading.specs.Faults.{AreReport}
 use Rattle.edr_reading.specs.declared.rows.Row.{Row}
-use Rattle.edr_reading.specs.Rows.{fields, pre_names, pre_words}
+use Rattle.edr_reading.specs.Rows.{fields, pre_names, pre_words, texts_in}
 use Rattle.edr_reading.specs.Values.{IsBank}
 
 -- the names of the rows of an event
@@ -114,9 +116,12 @@ block_fields block [] values = []
 block_fields block (n ∷ names) [] = []
 block_fields block (n ∷ names) (v ∷ values) = (block ∷ n ∷ v ∷ []) ∷ block_fields block names values
 
--- the rows of an event behind the one in this place, and the count
+-- the rows of an event behind the one in this place, and the same with the count
+abbrev pub rows_behind : List ℕ → ℕ → List (List ℕ) → List (List (List ℕ))
+rows_behind block place values = block_fields block (drop (place + 1) event_names) (drop (place + 1) values)
+
 abbrev pub back_rows : List ℕ → ℕ → List (List ℕ) → List (List (List ℕ))
-back_rows block place values = block_fields block (drop (place + 1) event_names) (drop (place + 1) values) ++ count_fields 0 ∷ []
+back_rows block place values = rows_behind block place values ++ count_fields 0 ∷ []
 
 -- the first field of a row, and its last one
 abbrev pub block_of : List (List ℕ) → List ℕ
@@ -152,6 +157,14 @@ abbrev pub NoneInBank : List Row → Row → ℕ → List ℕ → Type 0
 NoneInBank rows last place bank =
     (points : List ℕ) × ArePlain place last.value.now points
     × ((v : List (List ℕ)) → IsGuess last.block.now bank points v → ¬ AreReport (map fields rows ++ back_rows last.block.now place v))
+
+-- none does in any of these banks
+abbrev pub NoneInBanks : List Row → Row → ℕ → List (Bor (List ℕ)) → Type 0
+NoneInBanks rows last place banks = (k : ℕ) → k < length banks → NoneInBank rows last place (slice_index_or (texts_in banks) k [])
+
+-- it tells whether some values end a report, or no plain ones do
+abbrev pub TellsBehind : Bool → List (List (List ℕ)) → List (List ℕ) → ℕ → Type 0
+TellsBehind told rows last place = MatchBool told (SomeBehind rows last place) (NoneBehind rows last place)
 
 -- the place in an event of the last row, if some plain values go on behind it
 abbrev pub IsInside : List (List (List ℕ)) → List (List ℕ) → Option ℕ → Type 0

@@ -1,11 +1,12 @@
 -- The rows of a report, and what a report may tell.
-use Rattle.std.specs.Prelude.{◌≡◌, ◌≤◌, ℕ, eqb, List, [], ◌∷◌, ◌++◌, All, map, length, codes}
+use Rattle.std.specs.Prelude.{◌≡◌, ◌≤◌, ◌+◌, ℕ, eqb, List, [], ◌∷◌, ◌++◌, All, map, length, codes}
 use Rattle.std.specs.List.{IsDistinct}
 use Rattle.edr_record.specs.declared.Record.{Record}
 use Rattle.edr_image.specs.declared.Found.{Found}
 use Rattle.edr_image.specs.Banks.{found_event}
-use Rattle.edr_image.specs.Reports.{Report}
+use Rattle.edr_image.specs.Reports.{Report, report_of}
 use Rattle.edr_report.specs.Report.{report_lines}
+use Rattle.edr_reading.specs.declared.reading.Reading.{Reading}
 use Rattle.edr_reading.specs.declared.rows.Row.{Row}
 use Rattle.edr_reading.specs.Found.{IsEvent, IsDamaged, events_fields, last_rows}
 use Rattle.edr_reading.specs.Rows.{FieldRows, fields, line_fields}
@@ -18,6 +19,18 @@ head_row = codes "block" ∷ codes "name" ∷ codes "value" ∷ []
 -- the rows of the table of a report
 abbrev pub report_rows : List Report → List Found → ℕ → List (List (List ℕ))
 report_rows reports found n = head_row ∷ map line_fields (report_lines reports found n)
+
+-- those of the report that was read
+abbrev pub rows_told : Reading → List (List (List ℕ))
+rows_told r = report_rows (map report_of r.run.items) r.found.items r.count
+
+-- the first of the rows names the columns
+abbrev pub BeginsWithHead : FieldRows → Type 0
+BeginsWithHead rows = (rest : FieldRows) × (rows ≡ head_row ∷ rest)
+
+-- it does, and the rest is behind it
+abbrev pub IsBehindHead : List Row → List Row → Type 0
+IsBehindHead rest rows = (length rest + 1 ≡ length rows) × (map fields rows ≡ head_row ∷ map fields rest)
 
 -- no bank is told twice
 abbrev pub AreDistinct : List Found → Type 0

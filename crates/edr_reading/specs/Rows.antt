@@ -1,5 +1,5 @@
 -- The rows of a report's table, by their fields.
-use Rattle.std.specs.Prelude.{◌≡◌, ◌++◌, ℕ, Bool, List, [], ◌∷◌, map, codes, decimal}
+use Rattle.std.specs.Prelude.{◌≡◌, ◌++◌, ℕ, Bool, List, [], ◌∷◌, length, map, codes, decimal}
 use denote.Ref.{Bor}
 use Rattle.edr_record.specs.Parts.{PrePart}
 use Rattle.edr_record.specs.declared.Record.{Record}
@@ -30,6 +30,10 @@ texts_in xs = map (λ x. x.now) xs
 abbrev pub AddsRows : FieldRows → List Row → List Row → Type 0
 AddsRows added old new = map fields new ≡ map fields old ++ added
 
+-- the rows begin with these, and the rest is behind them
+abbrev pub BeginWith : List Row → FieldRows → List Row → Type 0
+BeginWith rows first rest = map fields rows ≡ first ++ map fields rest
+
 -- the fields of the row of a line
 abbrev pub line_fields : Line → List (List ℕ)
 line_fields l = decimal l.block ∷ l.name ∷ l.value ∷ []
@@ -49,6 +53,10 @@ abbrev pub named_fields : ℕ → List (List ℕ) → List (List ℕ) → List (
 named_fields block [] values = []
 named_fields block (n ∷ names) [] = []
 named_fields block (n ∷ names) (v ∷ values) = (decimal block ∷ n ∷ v ∷ []) ∷ named_fields block names values
+
+-- whatever values the rows of the block tell under these names, this is so
+abbrev pub OfNamed : ℕ → List (Bor (List ℕ)) → List Row → (Texts → Type 0) → Type 0
+OfNamed block names rows says = (ws : Texts) → length ws ≡ length rows → map fields rows ≡ named_fields block (texts_in names) ws → says ws
 
 -- the names of the lines of what stood before time zero, and their values
 abbrev pub pre_names : List (List ℕ)

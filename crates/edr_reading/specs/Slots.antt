@@ -18,6 +18,10 @@ abbrev pub space_at : ℕ → List ℕ
 space_at zero = []
 space_at (suc n) = 32 ∷ []
 
+-- whatever n values within bounds the bytes show, parted by spaces, this is so
+abbrev pub OfSpaced : {A : Type 0} → ℕ → (A → List ℕ) → (A → Type 0) → List ℕ → (List A → Type 0) → Type 0
+OfSpaced n words ok bytes says = (xs : List _) → length xs ≡ n → All ok xs → bytes ≡ spaced (map words xs) → says xs
+
 -- so many points, and zeros in the place of those past them
 abbrev pub with_zeros : ℕ → List ℤ → List ℤ
 with_zeros count front = front ++ drop count (replicate most_points (pos 0))
@@ -25,3 +29,7 @@ with_zeros count front = front ++ drop count (replicate most_points (pos 0))
 -- the bytes show so many points
 abbrev pub ShowPoints : ℕ → List ℕ → List ℤ → Type 0
 ShowPoints count bytes front = (length front ≡ count) × (bytes ≡ spaced (map signed_decimal front)) × All IsChange front
+
+-- they are the points that the bytes show, with zeros past them
+abbrev pub AreShown : ℕ → List ℕ → List ℤ → Type 0
+AreShown count bytes points = (front : List ℤ) × (points ≡ with_zeros count front) × ShowPoints count bytes front

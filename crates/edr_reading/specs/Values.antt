@@ -1,9 +1,9 @@
 -- Which values a report may show, where the parts of a record don't say it.
-use Rattle.std.specs.Prelude.{ℕ, ◌≡◌, ◌≤◌, ◌⊎◌, Option, IfSome, List, []}
+use Rattle.std.specs.Prelude.{ℕ, ◌≡◌, ◌≤◌, ◌⊎◌, Bool, Option, IfSome, List, [], ◌++◌, codes, decimal}
 use Rattle.edr_image.specs.declared.places.TheConstants.{MOST_BANKS}
 use Rattle.edr_image.specs.declared.BankView.{BankView}
 use Rattle.edr_image.specs.declared.BankView.TheVariants.{Void, Event, Damaged}
-use Rattle.edr_report.specs.Words.{damage_words}
+use Rattle.edr_report.specs.Words.{damage_words, kind_word, stop_words, yes_no}
 use Rattle.edr_image.specs.declared.Kind.{Kind}
 use Rattle.edr_image.specs.declared.Kind.TheVariants as kind
 use Rattle.edr_image.specs.declared.Applied.{Applied}
@@ -46,3 +46,15 @@ abbrev pub view_words : BankView → List ℕ
 view_words Void = []
 view_words (Event r) = []
 view_words (Damaged o x l) = damage_words o x l
+
+-- how the number of a cycle and its end are spelled
+abbrev pub ran_words : ℕ → Option ℕ → List ℕ
+ran_words n stop = codes "number " ++ decimal n ++ codes ", " ++ stop_words stop
+
+-- how a command and its time are, behind the cycle
+abbrev pub command_words : Kind → ℕ → List ℕ
+command_words k t = codes " " ++ kind_word k ++ codes " at " ++ decimal t
+
+-- how the byte of a damaged bank and its lock are, behind the offset
+abbrev pub byte_words : ℕ → Bool → List ℕ
+byte_words found locked = codes " found " ++ decimal found ++ codes " locked " ++ yes_no locked

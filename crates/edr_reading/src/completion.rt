@@ -1,11 +1,11 @@
 //! Plain rows that may follow those of a report that was cut.
 
-ghost use Rattle.std.specs.Prelude.{◌≡◌, ◌≢◌, ◌<◌, ◌≤◌, ◌+◌, ℕ, ⊤, pos, Some, IfSome, MatchOption, OnOk, length, drop, replicate, slice_index_or, []};
-ghost use Rattle.std.specs.Bool.{MatchBool};
+ghost use Rattle.std.specs.Prelude.{◌≡◌, ◌<◌, ◌≤◌, ◌+◌, ℕ, ⊤, pos, Some, IfSome, MatchOption, OnOk, length, replicate, slice_index_or, []};
 ghost use Rattle.edr_report.specs.Words.{points_words, profile_word};
-ghost use Rattle.edr_reading.specs.Cut.{cut_texts};
-ghost use Rattle.edr_reading.specs.Plain.{event_names, block_fields, ArePlain, absent_texts, present_texts, no_numbers, no_switches};
+ghost use Rattle.edr_reading.specs.Cut.{cut_texts, IsNoneOf, cut_rows, rows_of, tried_texts};
+ghost use Rattle.edr_reading.specs.Plain.{event_names, ArePlain, absent_texts, no_numbers, no_switches};
 ghost use Rattle.edr_reading.specs.Rows.{AddsRows, texts_in};
+ghost use Rattle.edr_reading.specs.Answers.{Tells};
 
 use crate::front::is_word;
 use crate::rows::Row;
@@ -76,7 +76,7 @@ pub(crate) struct Guess<'a> {
 // The first place of a name among these.
 fn place_in(name: &[u8], names: &[&'static [u8]]) -> Option<usize>
     ensures read { IfSome result (λ p. (p < length names.now) × (name.now ≡ slice_index_or (texts_in names.now) p [])) }
-    ensures none { MatchOption result ((p : ℕ) → p < length names.now → name.now ≢ slice_index_or (texts_in names.now) p []) (λ p. ⊤) }
+    ensures none { MatchOption result (IsNoneOf name.now names.now) (λ p. ⊤) }
 {
     for place in 0..names.len() {
         if is_word(name, names[place]) {
@@ -97,7 +97,7 @@ pub(crate) fn place_of(name: &[u8]) -> Option<usize>
 /// The name is that of the row of an event in this place.
 pub(crate) fn is_named(name: &[u8], place: usize) -> bool
     requires { place < 29 }
-    ensures { MatchBool result (name.now ≡ slice_index_or event_names place []) (name.now ≢ slice_index_or event_names place []) }
+    ensures { Tells result (name.now ≡ slice_index_or event_names place []) }
 {
     match place_of(name) {
         Some(found) => found == place,
@@ -182,9 +182,7 @@ pub(crate) fn absent<'a>(guess: &Guess<'a>, between: &'a [u8]) -> Cut<'a>
 /// An event in which nothing changed.
 pub(crate) fn present<'a>(guess: &Guess<'a>, complete: &'a [u8]) -> Cut<'a>
     ensures block { result.block.now ≡ guess.now.block.now }
-    ensures texts { cut_texts result
-        ≡ present_texts guess.now.block.now guess.now.bank.now guess.now.profile
-        guess.now.points.now complete.now }
+    ensures texts { cut_texts result ≡ tried_texts guess.now complete.now }
 {
     Cut {
         block: guess.block,
@@ -251,9 +249,7 @@ fn push_rows<'a>(
     names: &[&'static [u8]],
     values: &[&'a [u8]],
 ) -> Result<(), OutOfMemory>
-    ensures { OnOk result (AddsRows
-        (block_fields block.now (texts_in names.now) (texts_in values.now))
-        rows.old.items rows.new.items) }
+    ensures { OnOk result (AddsRows (rows_of block.now names.now values.now) rows.old.items rows.new.items) }
 {
     let Some((name, names)) = names.split_first() else {
         return Ok(());
@@ -272,10 +268,7 @@ pub(crate) fn push_event<'a>(
     cut: &Cut<'a>,
 ) -> Result<(), OutOfMemory>
     requires { place < 29 }
-    ensures { OnOk result (AddsRows
-        (block_fields cut.now.block.now
-        (drop (place + 1) event_names) (drop (place + 1) (cut_texts cut.now)))
-        rows.old.items rows.new.items) }
+    ensures { OnOk result (AddsRows (cut_rows place cut.now) rows.old.items rows.new.items) }
 {
     let values = values_of(cut);
     let names = EVENT_NAMES.split_at(place + 1).1;

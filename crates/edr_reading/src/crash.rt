@@ -1,13 +1,14 @@
 //! What came after time zero, read back from the values of its lines.
 
-ghost use Rattle.std.specs.Prelude.{◌≡◌, ◌≤◌, ℕ, ℤ, List, Option, All, length, map, Some, IfSome, pos, ◌≢◌};
+ghost use Rattle.std.specs.Prelude.{◌≡◌, ◌≤◌, ℤ, List, Option, All, map, Some, IfSome, pos, ◌≢◌};
 ghost use Rattle.std.specs.Bool.{MatchBool};
 ghost use Rattle.edr_record.specs.Bounds.{ArePoints, IsChange, IsCrash, IsUpTo, point_count, window_from_end};
 ghost use Rattle.edr_record.specs.Parts.{CrashPart};
-ghost use Rattle.edr_report.specs.Words.{points_words, firing_words, spaced};
-ghost use Rattle.edr_reading.specs.Parts.{ShowsCrash};
-ghost use Rattle.edr_reading.specs.Slots.{with_zeros, ShowPoints};
+ghost use Rattle.edr_report.specs.Words.{points_words, firing_words};
+ghost use Rattle.edr_reading.specs.Parts.{ShowsCrash, OfFirings};
+ghost use Rattle.edr_reading.specs.Slots.{with_zeros, AreShown, OfSpaced};
 ghost use Rattle.std.specs.Fmt.{signed_decimal};
+ghost use Rattle.edr_reading.specs.Rows.{texts_in};
 
 use crate::slots::read_slots;
 use crate::values::{extreme, firing, missing, time};
@@ -45,10 +46,8 @@ fn count_from(end: u16) -> usize
 // So many points, with zeros behind them.
 fn some_points(bytes: &[u8], count: usize) -> Option<[i16; 26]>
     requires { count ≤ 26 }
-    ensures read { IfSome result (λ ps. (front : List ℤ)
-        × (ps ≡ with_zeros count front) × ShowPoints count bytes.now front) }
-    ensures whole { (front : List ℤ) → length front ≡ count → All IsChange front → bytes.now ≡ spaced (map signed_decimal front)
-        → result ≡ Some (with_zeros count front) }
+    ensures read { IfSome result (AreShown count bytes.now) }
+    ensures whole { OfSpaced count signed_decimal IsChange bytes.now (λ front. result ≡ Some (with_zeros count front)) }
 {
     let mut points = [0; 26];
     if read_slots(bytes, &mut points[..count]) {
@@ -78,9 +77,8 @@ fn points(bytes: &[u8], end: u16) -> Option<[i16; 26]>
 
 // When the restraints fired, up to `latest`.
 fn firings(values: &[&[u8]; 8], latest: u16) -> Option<[Option<u16>; 8]>
-    ensures read { IfSome result (λ fired. (map (λ v. v.now) values.now ≡ map firing_words fired) × All (IsUpTo latest) fired) }
-    ensures whole { (fired : List (Option ℕ)) → length fired ≡ 8 → All (IsUpTo latest) fired → map (λ v. v.now) values.now ≡ map firing_words fired
-        → result ≡ Some fired }
+    ensures read { IfSome result (λ fired. (texts_in values.now ≡ map firing_words fired) × All (IsUpTo latest) fired) }
+    ensures whole { OfFirings latest values.now (λ fired. result ≡ Some fired) }
 {
     let mut fired = [None; 8];
     for i in 0..8 {

@@ -3,7 +3,7 @@
 ghost use Rattle.std.specs.Prelude.{◌≡◌, ◌∷◌, map, MatchOption};
 ghost use Rattle.csv.specs.Records.{fields_of};
 ghost use Rattle.edr_reading.specs.Faults.{IsFault};
-ghost use Rattle.edr_reading.specs.Reading.{head_row};
+ghost use Rattle.edr_reading.specs.Reading.{head_row, BeginsWithHead};
 ghost use Rattle.edr_reading.specs.Rows.{fields, FieldRows};
 
 use crate::front::is_word;
@@ -40,7 +40,7 @@ fn other_than_head(row: &Row<'_>) -> Option<RowFault>
 
 /// What is wrong with the first of the records, if it isn't the row that names the columns.
 pub(crate) fn head_fault(records: &[ByteRecord]) -> Option<RowFault>
-    ensures { MatchOption result ((rest : FieldRows) × (map fields_of records.now ≡ head_row ∷ rest)) (λ f. IsFault (map fields_of records.now) 1 f) }
+    ensures { MatchOption result (BeginsWithHead (map fields_of records.now)) (IsFault (map fields_of records.now) 1) }
 {
     let Some((first, _)) = records.split_first() else {
         return Some(RowFault::Unended);

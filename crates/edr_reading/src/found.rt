@@ -1,10 +1,10 @@
 //! What was found in the banks, read back from its rows.
 
-ghost use Rattle.std.specs.Prelude.{◌≡◌, ◌≤◌, ◌+◌, ◌*◌, ◌∷◌, ◌++◌, ℕ, [], false, IfOk, OnOk, IfErr, IfSome, IsSome, length, map, drop};
+ghost use Rattle.std.specs.Prelude.{◌≡◌, ◌≤◌, ◌+◌, ◌*◌, ◌∷◌, ◌++◌, ℕ, [], false, IfOk, OnOk, IfErr, IfSome, IsSome, map};
 ghost use Rattle.std.specs.Bool.{MatchBool};
-ghost use Rattle.edr_reading.specs.Answers.{GivesRow};
-ghost use Rattle.edr_reading.specs.Found.{IsEvent, IsDamaged, damaged_fields, count_fields, BeginsTold, AddsBanks, AddsEvents, AddsLast, AreOfFound, GivesBank, LacksBank, OfEvents, OfLast};
-ghost use Rattle.edr_reading.specs.Rows.{event_fields, fields, FieldRows};
+ghost use Rattle.edr_reading.specs.Answers.{ReadsFirst};
+ghost use Rattle.edr_reading.specs.Found.{IsDamaged, damaged_fields, count_fields, BeginsTold, AddsBanks, AddsEvents, AddsLast, AreOfFound, GivesBank, LacksBank, OfEvents, OfLast, BeginsWith, OfEvent};
+ghost use Rattle.edr_reading.specs.Rows.{fields};
 ghost use Rattle.edr_reading.specs.Reading.{AreDistinct, OfFound};
 
 use crate::event::{EVENT_ROWS, read_event};
@@ -35,11 +35,8 @@ fn begins_event(rows: &[Row<'_>]) -> bool
 
 // The event of this block that the rows begin with, and its bank.
 fn first_event(rows: &[Row<'_>], block: u32) -> Option<(u8, Record)>
-    ensures read { IfSome result (λ e. IsEvent e × (29 ≤ length rows.now)
-        × (map fields rows.now ≡ event_fields block e.0 e.1 ++ map fields (drop 29 rows.now))) }
-    ensures whole { (e : ℕ × Record) (more : FieldRows) → IsEvent e
-        → map fields rows.now ≡ event_fields block e.0 e.1 ++ more
-        → GivesBank e.0 more rows.now result }
+    ensures read { IfSome result (BeginsWith block rows.now) }
+    ensures whole { OfEvent block rows.now (λ e more. GivesBank e.0 more rows.now result) }
 {
     if rows.len() < EVENT_ROWS {
         return None;
@@ -84,8 +81,7 @@ pub(crate) fn take_events(
 // The damaged bank of which the first row tells, and the rows behind it, if it does.
 fn first_damaged<'r, 'a>(rows: &'r [Row<'a>]) -> Option<(Found, &'r [Row<'a>])>
     ensures read { IfSome result (λ p. IsDamaged p.0 × (map fields rows.now ≡ damaged_fields p.0 ∷ map fields p.1.now)) }
-    ensures whole { (f : Found) (more : FieldRows) → IsDamaged f → map fields rows.now ≡ damaged_fields f ∷ more
-        → GivesRow f more result }
+    ensures whole { ReadsFirst damaged_fields IsDamaged rows.now result }
 {
     let (row, rest) = rows.split_first()?;
     let damaged = read_damaged(row)?;

@@ -1,11 +1,10 @@
 //! What stands in front of bytes.
 
-ghost use Rattle.std.specs.Prelude.{◌≡◌, ◌≤◌, ◌<◌, ◌^◌, ◌++◌, true, ℕ, List, [], length, take, drop, decimal, Some, IfSome, MatchOption, ◌≢◌};
+ghost use Rattle.std.specs.Prelude.{◌≡◌, ◌≤◌, ◌<◌, ◌^◌, ◌++◌, true, ℕ, List, length, take, drop, decimal, Some, IfSome, MatchOption, ◌≢◌};
 ghost use Rattle.std.specs.Bool.{MatchBool};
 ghost use Rattle.std.specs.List.{list_all};
 ghost use Rattle.edr_text.specs.Numbers.{is_digit};
-ghost use Rattle.edr_reading.specs.Answers.{Gives};
-ghost use Rattle.edr_reading.specs.Front.{EndsNumber};
+ghost use Rattle.edr_reading.specs.Front.{EndsNumber, OfTwo, ReadsBehind, ReadsBetween, ReadsFront, two_numbers};
 
 use edr_text::read_u32;
 
@@ -44,8 +43,7 @@ fn digits_in_front(bytes: &[u8]) -> usize
 /// The number in front of the bytes, and what stands behind it.
 pub(crate) fn number_in_front(bytes: &[u8]) -> Option<(u32, &[u8])>
     ensures read { IfSome result (λ p. bytes.now ≡ decimal p.0 ++ p.1.now) }
-    ensures whole { (n : ℕ) (more : List ℕ) → n < 2 ^ 32 → EndsNumber more → bytes.now ≡ decimal n ++ more
-        → Gives n more result }
+    ensures whole { ReadsFront decimal (λ n. n < 2 ^ 32) bytes.now result }
 {
     let (digits, rest) = bytes.split_at(digits_in_front(bytes));
     match read_u32(digits) {
@@ -57,8 +55,7 @@ pub(crate) fn number_in_front(bytes: &[u8]) -> Option<(u32, &[u8])>
 /// The number behind these bytes, and what stands behind it.
 pub(crate) fn number_behind<'a>(bytes: &'a [u8], front: &[u8]) -> Option<(u32, &'a [u8])>
     ensures read { IfSome result (λ p. bytes.now ≡ front.now ++ (decimal p.0 ++ p.1.now)) }
-    ensures whole { (n : ℕ) (more : List ℕ) → n < 2 ^ 32 → EndsNumber more → bytes.now ≡ front.now ++ (decimal n ++ more)
-        → Gives n more result }
+    ensures whole { ReadsBehind front.now decimal (λ n. n < 2 ^ 32) bytes.now result }
 {
     match behind(bytes, front) {
         Some(rest) => number_in_front(rest),
@@ -98,9 +95,8 @@ pub(crate) fn two_numbers(
 ) -> Option<(u32, u32)>
     requires middle { (more : List ℕ) → EndsNumber (middle.now ++ more) }
     requires back { EndsNumber back.now }
-    ensures read { IfSome result (λ p. bytes.now ≡ front.now ++ (decimal p.0 ++ (middle.now ++ (decimal p.1 ++ back.now)))) }
-    ensures whole { (m n : ℕ) → m < 2 ^ 32 → n < 2 ^ 32
-        → bytes.now ≡ front.now ++ (decimal m ++ (middle.now ++ (decimal n ++ back.now))) → result ≡ Some (m, n) }
+    ensures read { IfSome result (λ p. bytes.now ≡ two_numbers front.now p.0 middle.now p.1 back.now) }
+    ensures whole { OfTwo (λ n. n < 2 ^ 32) front.now middle.now back.now bytes.now (λ p. result ≡ Some p) }
 {
     match number_behind(bytes, front) {
         Some((m, rest)) => match one_number(rest, middle, back) {
@@ -130,8 +126,7 @@ pub(crate) fn within_behind<'a>(
     high: u32,
 ) -> Option<(u32, &'a [u8])>
     ensures read { IfSome result (λ p. (bytes.now ≡ front.now ++ (decimal p.0 ++ p.1.now)) × (low ≤ p.0) × (p.0 ≤ high)) }
-    ensures whole { (n : ℕ) (more : List ℕ) → low ≤ n → n ≤ high → EndsNumber more → bytes.now ≡ front.now ++ (decimal n ++ more)
-        → Gives n more result }
+    ensures whole { ReadsBetween low high front.now bytes.now result }
 {
     match number_behind(bytes, front) {
         Some((n, rest)) if low <= n && n <= high => Some((n, rest)),
@@ -149,9 +144,8 @@ pub(crate) fn two_within(
 ) -> Option<(u32, u32)>
     requires middle { (more : List ℕ) → EndsNumber (middle.now ++ more) }
     requires back { EndsNumber back.now }
-    ensures read { IfSome result (λ p. (bytes.now ≡ front.now ++ (decimal p.0 ++ (middle.now ++ (decimal p.1 ++ back.now)))) × (p.0 ≤ high) × (p.1 ≤ high)) }
-    ensures whole { (m n : ℕ) → m ≤ high → n ≤ high
-        → bytes.now ≡ front.now ++ (decimal m ++ (middle.now ++ (decimal n ++ back.now))) → result ≡ Some (m, n) }
+    ensures read { IfSome result (λ p. (bytes.now ≡ two_numbers front.now p.0 middle.now p.1 back.now) × (p.0 ≤ high) × (p.1 ≤ high)) }
+    ensures whole { OfTwo (λ n. n ≤ high) front.now middle.now back.now bytes.now (λ p. result ≡ Some p) }
 {
     match within_behind(bytes, front, 0, high) {
         Some((m, rest)) => match one_number(rest, middle, back) {

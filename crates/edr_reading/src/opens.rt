@@ -1,13 +1,12 @@
 //! Whether a report begins with rows.
 
-ghost use Rattle.std.specs.Prelude.{◌≡◌, ◌<◌, ◌-◌, ◌++◌, ◌∷◌, [], ℕ, true, false, IfOk, map, length, slice_index_or};
-ghost use Rattle.std.specs.Bool.{MatchBool};
+ghost use Rattle.std.specs.Prelude.{◌≡◌, ◌<◌, ◌-◌, ◌++◌, ◌∷◌, [], true, false, IfOk, map, length, slice_index_or};
 ghost use Rattle.edr_reading.specs.Answers.{Tells};
-ghost use Rattle.edr_reading.specs.Cut.{cut_texts};
+ghost use Rattle.edr_reading.specs.Cut.{EndsReport, NoneOf};
 ghost use Rattle.edr_reading.specs.Faults.{AreReport, Opens};
 ghost use Rattle.edr_reading.specs.Found.{count_fields};
-ghost use Rattle.edr_reading.specs.Plain.{SomeAfter, SomeBehind, NoneAfter, NoneBehind, back_rows, NoneInBank};
-ghost use Rattle.edr_reading.specs.Rows.{fields, texts_in};
+ghost use Rattle.edr_reading.specs.Plain.{SomeAfter, SomeBehind, NoneInBank, NoneInBanks, TellsBehind};
+ghost use Rattle.edr_reading.specs.Rows.{fields};
 
 use crate::completion::{Cut, Guess, absent, place_of, points_behind, present, push_event};
 use crate::found::Refused;
@@ -65,8 +64,7 @@ fn ends_by<'a>(
     cut: &Cut<'a>,
 ) -> Result<bool, OutOfMemory>
     requires { place < 29 }
-    ensures { IfOk result (λ b. Tells b (AreReport
-        (map fields rows.now ++ back_rows cut.now.block.now place (cut_texts cut.now)))) }
+    ensures { IfOk result (λ b. Tells b (EndsReport rows.now place cut.now)) }
 {
     let mut all = Vec::with_capacity(alloc, rows.len())?;
     all.extend_from_slice(rows)?;
@@ -85,9 +83,7 @@ fn ends_by_guess<'a>(
     requires { place < 29 }
     ensures some { IfOk result (λ b. b ≡ true
         → SomeAfter (map fields rows.now) guess.now.block.now place) }
-    ensures none { IfOk result (λ b. b ≡ false
-        → NoneAfter guess.now.profile (map fields rows.now) place
-        guess.now.block.now guess.now.bank.now guess.now.points.now) }
+    ensures none { IfOk result (λ b. b ≡ false → NoneOf guess.now rows.now place) }
 {
     if ends_by(alloc, rows, place, &absent(guess, b"none"))? {
         return Ok(true);
@@ -139,8 +135,7 @@ fn ends_in_some<'a>(
 ) -> Result<bool, OutOfMemory>
     requires { place < 29 }
     ensures some { IfOk result (λ b. b ≡ true → SomeBehind (map fields rows.now) (fields last.now) place) }
-    ensures none { IfOk result (λ b. b ≡ false → (k : ℕ) → k < length banks.now
-        → NoneInBank rows.now last.now place (slice_index_or (texts_in banks.now) k [])) }
+    ensures none { IfOk result (λ b. b ≡ false → NoneInBanks rows.now last.now place banks.now) }
 {
     for i in 0..banks.len() {
         if ends_in_bank(alloc, rows, last, place, banks[i])? {
@@ -158,9 +153,7 @@ pub(crate) fn ends_inside<'a>(
     place: usize,
 ) -> Result<bool, OutOfMemory>
     requires { place < 29 }
-    ensures { IfOk result (λ b.
-        MatchBool b (SomeBehind (map fields rows.now) (fields last.now) place)
-        (NoneBehind (map fields rows.now) (fields last.now) place)) }
+    ensures { IfOk result (λ b. TellsBehind b (map fields rows.now) (fields last.now) place) }
 {
     if place > 0 {
         ends_in_bank(alloc, rows, last, place, b"1")

@@ -1,13 +1,13 @@
 //! The parts of a record, read back from their rows.
 
-ghost use Rattle.std.specs.Prelude.{◌≡◌, ◌≢◌, Bool, Option, Some, length, map, replicate, IfSome};
-ghost use Rattle.std.specs.Bool.{MatchBool};
+ghost use Rattle.std.specs.Prelude.{◌≡◌, Option, Some, length, map, replicate, IfSome};
 ghost use Rattle.edr_record.specs.Bounds.{IsPre, IsCrash};
-ghost use Rattle.edr_record.specs.Parts.{PrePart, CrashPart};
+ghost use Rattle.edr_record.specs.Parts.{CrashPart};
 ghost use Rattle.edr_report.specs.Report.{pre_lines, crash_words, crash_lines};
 ghost use Rattle.edr_report.specs.Words.{none_word};
-ghost use Rattle.edr_reading.specs.Parts.{GivesPre};
+ghost use Rattle.edr_reading.specs.Parts.{GivesPre, OfCrash, OfPre};
 ghost use Rattle.edr_reading.specs.Rows.{fields, line_fields, pre_list, crash_list, texts_in};
+ghost use Rattle.edr_reading.specs.Answers.{Tells};
 
 use crate::crash::{CrashValues, read_crash};
 use crate::front::is_word;
@@ -73,9 +73,7 @@ pub(crate) fn pre_rows(rows: &[Row<'_>], block: u32) -> Option<(Pre, bool)>
     requires { length rows.now ≡ 11 }
     ensures read { IfSome result (λ q. map fields rows.now ≡ map line_fields (pre_lines block q.0 q.1)) }
     ensures bounds { IfSome result (λ q. IsPre q.0) }
-    ensures whole { (p : PrePart) (locked : Bool) → IsPre p
-        → map fields rows.now ≡ map line_fields (pre_lines block p locked)
-        → GivesPre p locked result }
+    ensures whole { OfPre block rows.now (λ p locked. GivesPre p locked result) }
 {
     let mut values: [&[u8]; 11] = [b""; 11];
     if put_values(rows, block, &PRE_NAMES, &mut values) {
@@ -106,7 +104,7 @@ fn crash_values<'a>(values: &[&'a [u8]; 15]) -> CrashValues<'a>
 
 // Each of the values is `none`.
 fn are_absent(values: &[&[u8]; 15]) -> bool
-    ensures { MatchBool result (texts_in values.now ≡ replicate 15 none_word) (texts_in values.now ≢ replicate 15 none_word) }
+    ensures { Tells result (texts_in values.now ≡ replicate 15 none_word) }
 {
     for i in 0..15 {
         if !is_word(values[i], b"none") {
@@ -136,8 +134,7 @@ pub(crate) fn crash_rows(rows: &[Row<'_>], block: u32) -> Option<Option<Crash>>
     requires { length rows.now ≡ 15 }
     ensures read { IfSome result (λ c. map fields rows.now ≡ map line_fields (crash_lines block c)) }
     ensures bounds { IfSome result (λ c. IfSome c IsCrash) }
-    ensures whole { (c : Option CrashPart) → IfSome c IsCrash → map fields rows.now ≡ map line_fields (crash_lines block c)
-        → result ≡ Some c }
+    ensures whole { OfCrash block rows.now (λ c. result ≡ Some c) }
 {
     let mut values: [&[u8]; 15] = [b""; 15];
     if put_values(rows, block, &CRASH_NAMES, &mut values) {

@@ -1,13 +1,13 @@
 //! What stood before time zero, read back from the values of its lines.
 
-ghost use Rattle.std.specs.Prelude.{◌≡◌, ℕ, Bool, List, Option, IfSome};
+ghost use Rattle.std.specs.Prelude.{◌≡◌, Bool, Option, IfSome};
 ghost use Rattle.edr_record.specs.Bounds.{IsPre};
 ghost use Rattle.edr_record.specs.Fields.{profile_of_slots};
 ghost use Rattle.edr_record.specs.Parts.{PrePart};
 ghost use Rattle.edr_record.specs.declared.Profile.{Profile};
 ghost use Rattle.edr_record.specs.declared.Profile.TheVariants.{Short, Long};
 ghost use Rattle.edr_report.specs.Words.{profile_word};
-ghost use Rattle.edr_reading.specs.Parts.{ShowsPre, ShowsLists, ShowsSlots, GivesPre, GivesLists};
+ghost use Rattle.edr_reading.specs.Parts.{ShowsPre, ShowsSlots, GivesPre, ReadsLists, ReadsToldLists};
 
 use crate::slots::read_slots;
 use crate::values::{count, decision, place, profile, switch, time};
@@ -32,9 +32,7 @@ pub(crate) struct PreValues<'a> {
 // The lists of a short profile, if these values show them.
 fn short_slots(values: &PreValues<'_>) -> Option<Slots>
     ensures read { IfSome result (λ s. (profile_of_slots s ≡ Short) × ShowsSlots values.now s) }
-    ensures whole { (speed throttle : List (Option ℕ)) (brake : List (Option Bool))
-        → ShowsLists values.now Short speed throttle brake
-        → GivesLists speed throttle brake result }
+    ensures whole { ReadsLists values.now Short result }
 {
     let mut speed = [None; SHORT_SLOTS];
     let mut throttle = [None; SHORT_SLOTS];
@@ -58,9 +56,7 @@ fn short_slots(values: &PreValues<'_>) -> Option<Slots>
 // The lists of a long profile, if these values show them.
 fn long_slots(values: &PreValues<'_>) -> Option<Slots>
     ensures read { IfSome result (λ s. (profile_of_slots s ≡ Long) × ShowsSlots values.now s) }
-    ensures whole { (speed throttle : List (Option ℕ)) (brake : List (Option Bool))
-        → ShowsLists values.now Long speed throttle brake
-        → GivesLists speed throttle brake result }
+    ensures whole { ReadsLists values.now Long result }
 {
     let mut speed = [None; LONG_SLOTS];
     let mut throttle = [None; LONG_SLOTS];
@@ -85,10 +81,7 @@ fn long_slots(values: &PreValues<'_>) -> Option<Slots>
 fn slots(values: &PreValues<'_>) -> Option<Slots>
     ensures told { IfSome result (λ s. values.now.profile.now ≡ profile_word (profile_of_slots s)) }
     ensures read { IfSome result (ShowsSlots values.now) }
-    ensures whole { (f : Profile) (speed throttle : List (Option ℕ)) (brake : List (Option Bool))
-        → values.now.profile.now ≡ profile_word f
-        → ShowsLists values.now f speed throttle brake
-        → GivesLists speed throttle brake result }
+    ensures whole { ReadsToldLists values.now result }
 {
     match profile(values.profile) {
         Some(Profile::Short) => short_slots(values),

@@ -1,14 +1,15 @@
 //! A report's table, read back.
 
-ghost use Rattle.std.specs.Prelude.{◌≡◌, ◌≢◌, ◌<◌, ◌≤◌, ◌+◌, ◌∷◌, [], IfOk, IfErr, IfSome, MatchOption, length, map, take, get_or};
+ghost use Rattle.std.specs.Prelude.{◌≡◌, ◌≢◌, ◌<◌, ◌≤◌, ◌+◌, ◌∷◌, IfOk, IfErr, IfSome, length, map, take};
 ghost use Rattle.std.specs.Bool.{MatchBool};
 ghost use Rattle.edr_image.specs.Reports.{report_of};
 ghost use Rattle.csv.specs.Records.{fields_of};
 ghost use Rattle.edr_reading.specs.Faults.{AreReport, IsFault};
 ghost use Rattle.edr_reading.specs.Rows.{fields, FieldRows};
-ghost use Rattle.edr_reading.specs.Run.{RecordsOf};
-ghost use Rattle.edr_reading.specs.Reading.{IsReading, head_row, report_rows, OfReport};
+ghost use Rattle.edr_reading.specs.Run.{RecordsOf, StopsAt};
+ghost use Rattle.edr_reading.specs.Reading.{IsReading, head_row, OfReport, BeginsWithHead, IsBehindHead, rows_told};
 ghost use Rattle.edr_reading.specs.Refusals.{IsRefusal};
+ghost use Rattle.edr_reading.specs.Answers.{GivesRest};
 
 use crate::faults::{RowFault, head_fault};
 use crate::found::{Refused, found_of};
@@ -52,10 +53,8 @@ fn is_head(row: &Row<'_>) -> bool
 
 // The rows behind the one that names the columns, if that is the first.
 fn behind_head<'r, 'a>(rows: &'r [Row<'a>]) -> Option<&'r [Row<'a>]>
-    ensures read { IfSome result (λ rest. (length rest.now + 1 ≡ length rows.now)
-        × (map fields rows.now ≡ head_row ∷ map fields rest.now)) }
-    ensures whole { (more : FieldRows) → map fields rows.now ≡ head_row ∷ more
-        → MatchOption result ⊥ (λ rest. map fields rest.now ≡ more) }
+    ensures read { IfSome result (λ rest. IsBehindHead rest.now rows.now) }
+    ensures whole { (more : FieldRows) → map fields rows.now ≡ head_row ∷ more → GivesRest more result }
 {
     let (row, rest) = rows.split_first()?;
     if is_head(row) { Some(rest) } else { None }
@@ -63,7 +62,7 @@ fn behind_head<'r, 'a>(rows: &'r [Row<'a>]) -> Option<&'r [Row<'a>]>
 
 // What the rows of a report tell.
 pub(crate) fn reading_of(alloc: Global, rows: &[Row<'_>]) -> Result<Reading, Refused>
-    ensures read { IfOk result (λ r. map fields rows.now ≡ report_rows (map report_of r.run.items) r.found.items r.count) }
+    ensures read { IfOk result (λ r. map fields rows.now ≡ rows_told r) }
     ensures told { IfOk result (λ r. IsReading (map report_of r.run.items) r.found.items r.count) }
     ensures refused { IfErr result (λ e.
         OfReport (λ told. map fields rows.now ≡ told) (e ≡ Refused.OutOfMemory)) }
@@ -87,9 +86,9 @@ fn later_fault(
     records: &[ByteRecord],
     rows: &[Row<'_>],
 ) -> Result<(u32, RowFault), OutOfMemory>
-    requires head { (rest : FieldRows) × (map fields rows.now ≡ head_row ∷ rest) }
+    requires head { BeginsWithHead (map fields rows.now) }
     requires rows { map fields rows.now ≡ take (length rows.now) (map fields_of records.now) }
-    requires stops { length rows.now < length records.now → length (get_or (map fields_of records.now) (length rows.now) []) ≢ 3 }
+    requires stops { StopsAt fields_of (length rows.now) records.now }
     requires none { length records.now ≤ length rows.now → ¬ AreReport (map fields_of records.now) }
     ensures { IfOk result (λ p. IsFault (map fields_of records.now) p.0 p.1) }
 {
@@ -116,7 +115,7 @@ fn later_fault(
 /// with which it can't; or how many fields the row has in place of three; or that it is missing. `OutOfMemory` where memory
 /// runs out before that is known.
 pub fn read(alloc: Global, bytes: &[u8]) -> Result<Reading, ReportRefused>
-    ensures read { IfOk result (λ r. RecordsOf bytes.now (report_rows (map report_of r.run.items) r.found.items r.count)) }
+    ensures read { IfOk result (λ r. RecordsOf bytes.now (rows_told r)) }
     ensures told { IfOk result (λ r. IsReading (map report_of r.run.items) r.found.items r.count) }
     ensures refused { IfErr result (λ e.
         OfReport (RecordsOf bytes.now) (e ≡ ReportRefused.OutOfMemory)) }

@@ -1,9 +1,9 @@
 //! The records of a table, as rows of three fields.
 
-ghost use Rattle.std.specs.Prelude.{◌≡◌, ◌≢◌, ◌<◌, ◌≤◌, [], Some, IfOk, MatchOption, length, map, take, get_or};
+ghost use Rattle.std.specs.Prelude.{◌≡◌, ◌≢◌, ◌<◌, ◌≤◌, Some, IfOk, MatchOption, length, map, take};
 ghost use Rattle.csv.specs.Records.{fields_of, field_at};
 ghost use Rattle.edr_reading.specs.Rows.{fields};
-ghost use Rattle.edr_reading.specs.Run.{RecordsOf};
+ghost use Rattle.edr_reading.specs.Run.{RecordsOf, StopsAt};
 
 use crate::rows::Row;
 use csv::{ByteRecord, ReaderBuilder};
@@ -58,7 +58,7 @@ pub(crate) fn rows_of<'a>(
 ) -> Result<Vec<Row<'a>>, OutOfMemory>
     ensures within { IfOk result (λ rows. length rows.items ≤ length records.now) }
     ensures rows { IfOk result (λ rows. map fields rows.items ≡ take (length rows.items) (map fields_of records.now)) }
-    ensures stops { IfOk result (λ rows. length rows.items < length records.now → length (get_or (map fields_of records.now) (length rows.items) []) ≢ 3) }
+    ensures stops { IfOk result (λ rows. StopsAt fields_of (length rows.items) records.now) }
 {
     let mut rows = Vec::new(alloc);
     for record in records {

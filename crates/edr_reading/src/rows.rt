@@ -1,7 +1,8 @@
 //! Rows of a table, and the values of rows with known names.
 
-ghost use Rattle.std.specs.Prelude.{◌≡◌, ◌∷◌, [], true, ℕ, List, length, map, decimal, IfSome, MatchOption};
-ghost use Rattle.edr_reading.specs.Rows.{Texts, fields, named_fields, texts_in};
+ghost use Rattle.std.specs.Prelude.{◌≡◌, ◌∷◌, [], true, ℕ, List, length, map, decimal, IfSome};
+ghost use Rattle.edr_reading.specs.Rows.{fields, named_fields, texts_in, OfNamed};
+ghost use Rattle.edr_reading.specs.Answers.{GivesText};
 
 use crate::front::{is_word, last_within};
 
@@ -16,8 +17,7 @@ pub(crate) struct Row<'a> {
 /// The value of a row that is to have this block and this name.
 pub(crate) fn value_in<'a>(row: &Row<'a>, block: u32, name: &str) -> Option<&'a [u8]>
     ensures read { IfSome result (λ v. fields row.now ≡ decimal block ∷ name.now ∷ v.now ∷ []) }
-    ensures whole { (v : List ℕ) → fields row.now ≡ decimal block ∷ name.now ∷ v ∷ []
-        → MatchOption result ⊥ (λ w. w.now ≡ v) }
+    ensures whole { (v : List ℕ) → fields row.now ≡ decimal block ∷ name.now ∷ v ∷ [] → GivesText v result }
 {
     if last_within(row.block, b"", block, block).is_none() {
         return None;
@@ -41,9 +41,7 @@ pub(crate) fn put_values<'a>(
     ensures long { length values.new ≡ length values.old }
     ensures read { result ≡ true
         → map fields rows.now ≡ named_fields block (texts_in names.now) (texts_in values.new) }
-    ensures whole { (ws : Texts) → length ws ≡ length rows.now
-        → map fields rows.now ≡ named_fields block (texts_in names.now) ws
-        → (result ≡ true) × (texts_in values.new ≡ ws) }
+    ensures whole { OfNamed block names.now rows.now (λ ws. (result ≡ true) × (texts_in values.new ≡ ws)) }
 {
     for i in 0..rows.len() {
         match value_in(&rows[i], block, names[i]) {

@@ -1,10 +1,10 @@
 //! The cycles of a run, read back from the first rows of block 0.
 
-ghost use Rattle.std.specs.Prelude.{◌≡◌, ◌≤◌, ◌<◌, ◌^◌, ◌+◌, ◌∷◌, ◌++◌, All, IfOk, IfSome, length, map, drop, take};
+ghost use Rattle.std.specs.Prelude.{◌≡◌, ◌≤◌, ◌<◌, ◌^◌, ◌+◌, All, IfOk, IfSome, length, map, drop, take};
 ghost use Rattle.edr_image.specs.Reports.{report_of};
-ghost use Rattle.edr_reading.specs.Answers.{GivesRow};
-ghost use Rattle.edr_reading.specs.Rows.{fields, FieldRows};
-ghost use Rattle.edr_reading.specs.Run.{ack_fields, cycle_fields, run_fields, row_of, acks_of, IsReport, OfAcks, OfCycle, OfRun};
+ghost use Rattle.edr_reading.specs.Answers.{ReadsFirst};
+ghost use Rattle.edr_reading.specs.Rows.{fields, BeginWith};
+ghost use Rattle.edr_reading.specs.Run.{ack_fields, cycle_fields, run_fields, row_of, acks_of, IsReport, OfAcks, OfCycle, OfRun, BeginsCycle, GivesAcks, acks_fields};
 ghost use Rattle.edr_reading.specs.Told.{IsAck, IsCycleRow};
 
 use crate::rows::Row;
@@ -17,8 +17,7 @@ fn take_acks(alloc: Global, rows: &[Row<'_>], place: u32) -> Result<Vec<Ack>, Ou
     ensures within { IfOk result (λ v. length v.items ≤ length rows.now) }
     ensures bounds { IfOk result (λ v. All IsAck v.items) }
     ensures read { IfOk result (λ v. map fields (take (length v.items) rows.now) ≡ map (ack_fields place) v.items) }
-    ensures whole { IfOk result (λ v. OfAcks place rows.now (λ acks more.
-        (v.items ≡ acks) × (map fields (drop (length v.items) rows.now) ≡ more))) }
+    ensures whole { IfOk result (λ v. OfAcks place rows.now (GivesAcks rows.now v.items)) }
 {
     let mut acks = Vec::new(alloc);
     for row in rows {
@@ -44,11 +43,9 @@ fn log_of(alloc: Global, acks: &[Ack]) -> Result<Log, OutOfMemory>
 
 // What the first row tells of the cycle in this place, and the rows behind it, if it does.
 fn first_cycle<'r, 'a>(rows: &'r [Row<'a>], place: u32) -> Option<(CycleRow, &'r [Row<'a>])>
-    ensures read { IfSome result (λ p. IsCycleRow p.0 × (length p.1.now + 1 ≡ length rows.now)
-        × (map fields rows.now ≡ cycle_fields place p.0 ∷ map fields p.1.now)) }
+    ensures read { IfSome result (BeginsCycle place rows.now) }
     ensures behind { IfSome result (λ p. p.1.now ≡ drop 1 rows.now) }
-    ensures whole { (c : CycleRow) (more : FieldRows) → IsCycleRow c
-        → map fields rows.now ≡ cycle_fields place c ∷ more → GivesRow c more result }
+    ensures whole { ReadsFirst (cycle_fields place) IsCycleRow rows.now result }
 {
     let (row, rest) = rows.split_first()?;
     let cycle = read_cycle(row, place)?;
@@ -66,8 +63,7 @@ fn cycle_of(
     ensures within { IfOk result (λ p. p.1 ≤ length rows.now) }
     ensures first { IfOk result (λ p. row_of (report_of p.0) ≡ first) }
     ensures bounds { IfOk result (λ p. All IsAck (acks_of (report_of p.0))) }
-    ensures read { IfOk result (λ p. map fields rows.now
-        ≡ map (ack_fields place) (acks_of (report_of p.0)) ++ map fields (drop p.1 rows.now)) }
+    ensures read { IfOk result (λ p. BeginWith rows.now (acks_fields place (report_of p.0)) (drop p.1 rows.now)) }
     ensures whole { IfOk result (λ p.
         OfCycle place first rows.now (λ more. map fields (drop p.1 rows.now) ≡ more)) }
 {
@@ -93,8 +89,7 @@ pub(crate) fn take_run<'r, 'a>(
 ) -> Result<(Vec<CycleReport>, &'r [Row<'a>]), OutOfMemory>
     requires { length rows.now + 1 < 2 ^ 32 }
     ensures bounds { IfOk result (λ p. All IsReport (map report_of p.0.items)) }
-    ensures read { IfOk result (λ p. map fields rows.now
-        ≡ run_fields 1 (map report_of p.0.items) ++ map fields p.1.now) }
+    ensures read { IfOk result (λ p. BeginWith rows.now (run_fields 1 (map report_of p.0.items)) p.1.now) }
     ensures whole { IfOk result (λ p. OfRun rows.now (λ more. map fields p.1.now ≡ more)) }
 {
     let mut run = Vec::new(alloc);

@@ -1,10 +1,9 @@
 //! Lists of slots, read back.
 
-ghost use Rattle.std.specs.Prelude.{◌≡◌, ◌++◌, true, ℕ, List, length, map, All, IfSome, MatchOption};
+ghost use Rattle.std.specs.Prelude.{◌≡◌, ◌++◌, true, ℕ, List, length, map, All, IfSome};
 ghost use Rattle.edr_report.specs.Words.{spaced};
-ghost use Rattle.edr_reading.specs.Answers.{Gives};
-ghost use Rattle.edr_reading.specs.Front.{EndsNumber};
-ghost use Rattle.edr_reading.specs.Slots.{space_at};
+ghost use Rattle.edr_reading.specs.Front.{ReadsBehind, ReadsFront};
+ghost use Rattle.edr_reading.specs.Slots.{space_at, OfSpaced};
 
 use crate::front::{behind, within_behind};
 use crate::values::change_in_front;
@@ -21,8 +20,7 @@ pub(crate) trait Slot {
     /// The slot in front of the bytes, and what stands behind it.
     fn in_front(bytes: &[u8]) -> Option<(Self, &[u8])>
         ensures read { IfSome result (λ p. (bytes.now ≡ words p.0 ++ p.1.now) × is_slot p.0) }
-        ensures whole { (x : Self) (more : List ℕ) → is_slot x → EndsNumber more → bytes.now ≡ words x ++ more
-            → MatchOption result ⊥ (λ p. (p.0 ≡ x) × (p.1.now ≡ more)) };
+        ensures whole { ReadsFront words is_slot bytes.now result };
 }
 
 impl Slot for i16 {
@@ -108,8 +106,7 @@ fn space_at(place: usize) -> &'static [u8]
 // The slot behind these bytes, and what stands behind it.
 fn slot_behind<'a, S: Slot>(bytes: &'a [u8], front: &[u8]) -> Option<(S, &'a [u8])>
     ensures read { IfSome result (λ p. (bytes.now ≡ front.now ++ (S.words p.0 ++ p.1.now)) × S.is_slot p.0) }
-    ensures whole { (x : S) (more : List ℕ) → S.is_slot x → EndsNumber more → bytes.now ≡ front.now ++ (S.words x ++ more)
-        → Gives x more result }
+    ensures whole { ReadsBehind front.now S.words S.is_slot bytes.now result }
 {
     match behind(bytes, front) {
         Some(rest) => S::in_front(rest),
@@ -121,8 +118,7 @@ fn slot_behind<'a, S: Slot>(bytes: &'a [u8], front: &[u8]) -> Option<(S, &'a [u8
 pub(crate) fn read_slots<S: Slot + Copy>(bytes: &[u8], slots: &mut [S]) -> bool
     ensures long { length slots.new ≡ length slots.old }
     ensures read { result ≡ true → (bytes.now ≡ spaced (map S.words slots.new)) × All S.is_slot slots.new }
-    ensures whole { (xs : List S) → length xs ≡ length slots.old → All S.is_slot xs → bytes.now ≡ spaced (map S.words xs)
-        → (result ≡ true) × (slots.new ≡ xs) }
+    ensures whole { OfSpaced (length slots.old) S.words S.is_slot bytes.now (λ xs. (result ≡ true) × (slots.new ≡ xs)) }
 {
     let mut rest = bytes;
     for i in 0..slots.len() {

@@ -1,11 +1,9 @@
 //! The rows of block 0: what is told of cycles and of damaged banks, and the count of ignition cycles.
 
-ghost use Rattle.std.specs.Prelude.{◌≡◌, ◌≢◌, ℕ, Bool, Some, IfSome, IsSome, codes, decimal};
+ghost use Rattle.std.specs.Prelude.{◌≡◌, ◌≢◌, ℕ, Some, IfSome, IsSome, decimal};
 ghost use Rattle.std.specs.Bool.{MatchBool};
-ghost use Rattle.edr_report.specs.Lines.{line};
 ghost use Rattle.edr_report.specs.Report.{ack_line};
-ghost use Rattle.edr_report.specs.Words.{shown_count};
-ghost use Rattle.edr_reading.specs.Found.{IsDamaged, damaged_fields};
+ghost use Rattle.edr_reading.specs.Found.{IsDamaged, damaged_fields, count_fields};
 ghost use Rattle.edr_reading.specs.Rows.{fields, line_fields};
 ghost use Rattle.edr_reading.specs.Told.{IsAck, IsCycleRow, cycle_line};
 
@@ -98,8 +96,8 @@ pub(crate) fn read_damaged(row: &Row<'_>) -> Option<Found>
 
 /// The count of ignition cycles that the last row shows, if the row is one.
 pub(crate) fn read_count(row: &Row<'_>) -> Option<u32>
-    ensures read { IfSome result (λ n. fields row.now ≡ line_fields (line 0 (codes "ignition cycle, download") (shown_count n))) }
-    ensures whole { (n : ℕ) → fields row.now ≡ line_fields (line 0 (codes "ignition cycle, download") (shown_count n)) → IsSome result }
+    ensures read { IfSome result (λ n. fields row.now ≡ count_fields n) }
+    ensures whole { (n : ℕ) → fields row.now ≡ count_fields n → IsSome result }
 {
     match value_in(row, 0, "ignition cycle, download") {
         Some(value) => count(value, 0),

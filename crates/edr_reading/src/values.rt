@@ -1,13 +1,13 @@
 //! The values of a report, read back.
 
-ghost use Rattle.std.specs.Prelude.{◌≡◌, ◌≤◌, ◌<◌, ◌^◌, ◌++◌, ◌∷◌, ◌+◌, negsuc, pos, true, Bool, IsSome, ⊤, ℕ, ℤ, List, min, decimal, codes, Some, None, Option, IfSome, MatchOption, ◌/◌, ◌≢◌};
+ghost use Rattle.std.specs.Prelude.{◌≡◌, ◌≤◌, ◌<◌, ◌^◌, ◌++◌, ◌∷◌, ◌+◌, negsuc, pos, true, Bool, IsSome, ⊤, ℕ, List, min, decimal, codes, Some, None, Option, IfSome, MatchOption, ◌/◌, ◌≢◌};
 ghost use Rattle.std.specs.Fmt.{signed_decimal};
 ghost use Rattle.edr_record.specs.declared.Profile.{Profile};
 ghost use Rattle.edr_record.specs.Bounds.{IsChange, IsExtreme, IsPlace, IsUpTo};
-ghost use Rattle.edr_report.specs.Words.{bank_words, applied_words, stop_words, yes_no, profile_word, switch_or_none, milliseconds, firing_words, shown_count, events_in_crash, time_between, extreme_words, missing_words, damage_words, ack_words, kind_word, seconds};
+ghost use Rattle.edr_report.specs.Words.{bank_words, applied_words, stop_words, yes_no, profile_word, switch_or_none, milliseconds, firing_words, shown_count, events_in_crash, time_between, extreme_words, missing_words, damage_words, ack_words, seconds};
 ghost use Rattle.edr_reading.specs.Answers.{Gives};
-ghost use Rattle.edr_reading.specs.Front.{EndsNumber};
-ghost use Rattle.edr_reading.specs.Values.{IsBank, IsStop, IsApplied, IsDamagedView, IsTick, done_in, view_words};
+ghost use Rattle.edr_reading.specs.Front.{EndsNumber, ReadsFront};
+ghost use Rattle.edr_reading.specs.Values.{IsBank, IsStop, IsApplied, IsDamagedView, IsTick, done_in, view_words, byte_words, command_words, ran_words};
 
 use crate::front::{
     behind, is_word, last_within, number_behind, one_number, two_numbers, two_within, within_behind,
@@ -141,8 +141,7 @@ fn positive_in_front(bytes: &[u8]) -> Option<(i16, &[u8])>
 /// The change of speed in front of the bytes, and what stands behind it.
 pub(crate) fn change_in_front(bytes: &[u8]) -> Option<(i16, &[u8])>
     ensures read { IfSome result (λ p. (bytes.now ≡ signed_decimal p.0 ++ p.1.now) × IsChange p.0) }
-    ensures whole { (z : ℤ) (more : List ℕ) → IsChange z → EndsNumber more → bytes.now ≡ signed_decimal z ++ more
-        → Gives z more result }
+    ensures whole { ReadsFront signed_decimal IsChange bytes.now result }
 {
     match behind(bytes, b"-") {
         Some(digits) => negative_in_front(digits),
@@ -249,8 +248,8 @@ fn locked(bytes: &[u8]) -> Option<bool>
 
 // The byte that a damaged bank shows, and whether it is locked.
 fn found(bytes: &[u8]) -> Option<(u8, bool)>
-    ensures read { IfSome result (λ p. bytes.now ≡ codes " found " ++ decimal p.0 ++ codes " locked " ++ yes_no p.1) }
-    ensures whole { (x : ℕ) (l : Bool) → x ≤ 255 → bytes.now ≡ codes " found " ++ decimal x ++ codes " locked " ++ yes_no l → result ≡ Some (x, l) }
+    ensures read { IfSome result (λ p. bytes.now ≡ byte_words p.0 p.1) }
+    ensures whole { (x : ℕ) (l : Bool) → x ≤ 255 → bytes.now ≡ byte_words x l → result ≡ Some (x, l) }
 {
     match within_behind(bytes, b" found ", 0, 255) {
         Some((found, rest)) => match locked(rest) {
@@ -303,8 +302,8 @@ fn stop(bytes: &[u8]) -> Option<Option<u32>>
 
 /// The number of a cycle that ran, and how it ended.
 pub(crate) fn ran(bytes: &[u8]) -> Option<(u32, Option<u32>)>
-    ensures read { IfSome result (λ p. (bytes.now ≡ codes "number " ++ decimal p.0 ++ codes ", " ++ stop_words p.1) × (1 ≤ p.0) × IsStop p.1) }
-    ensures whole { (n : ℕ) (s : Option ℕ) → 1 ≤ n → n < 2 ^ 32 → IsStop s → bytes.now ≡ codes "number " ++ decimal n ++ codes ", " ++ stop_words s → result ≡ Some (n, s) }
+    ensures read { IfSome result (λ p. (bytes.now ≡ ran_words p.0 p.1) × (1 ≤ p.0) × IsStop p.1) }
+    ensures whole { (n : ℕ) (s : Option ℕ) → 1 ≤ n → n < 2 ^ 32 → IsStop s → bytes.now ≡ ran_words n s → result ≡ Some (n, s) }
 {
     match within_behind(bytes, b"number ", 1, u32::MAX) {
         Some((number, rest)) => match stop(rest) {
@@ -350,8 +349,8 @@ fn tick_behind(bytes: &[u8], front: &[u8]) -> Option<u32>
 
 // Which command was acknowledged, and when.
 fn command(bytes: &[u8]) -> Option<(Kind, u32)>
-    ensures read { IfSome result (λ p. (bytes.now ≡ codes " " ++ kind_word p.0 ++ codes " at " ++ decimal p.1) × IsTick p.1) }
-    ensures whole { (k : Kind) (t : ℕ) → IsTick t → bytes.now ≡ codes " " ++ kind_word k ++ codes " at " ++ decimal t → result ≡ Some (k, t) }
+    ensures read { IfSome result (λ p. (bytes.now ≡ command_words p.0 p.1) × IsTick p.1) }
+    ensures whole { (k : Kind) (t : ℕ) → IsTick t → bytes.now ≡ command_words k t → result ≡ Some (k, t) }
 {
     if let Some(tick) = tick_behind(bytes, b" take at ") {
         return Some((Kind::Take, tick));
