@@ -7,7 +7,7 @@ use Rattle.edr_record.specs.declared.Command.TheVariants.{Done}
 use Rattle.edr_image.specs.declared.BankView.{BankView}
 use Rattle.edr_image.specs.declared.BankView.TheVariants.{Event}
 use Rattle.edr_image.specs.Banks.{Store}
-use Rattle.edr_image.specs.Steps.{Reply, State, Step, after, reply_to}
+use Rattle.edr_image.specs.Steps.{Reply, State, Step, after, reply_to, steps_of}
 use Rattle.edr_image.specs.Calls.{acknowledged}
 use Rattle.edr_image.specs.Order.{AreOwn, IsOwn}
 
@@ -41,3 +41,8 @@ AreToldBy is_pre go_with cs = AreOwn (λ a. is_pre a ≡ true) (λ a c. go_with 
 -- the event stood there before, or is one of those
 abbrev pub StoodOrIsTold : (PrePart → Bool) → (PrePart → CrashPart → Bool) → List BankView → ℕ → Record → Type 0
 StoodOrIsTold is_pre go_with banks i r = Holds banks i r ⊎ IsOwn (λ a. is_pre a ≡ true) (λ a c. go_with a c ≡ true) r
+
+-- after any first steps of the commands each event stood there before, or is one of those
+abbrev pub EachStoodOrIsTold : (PrePart → Bool) → (PrePart → CrashPart → Bool) → Store → List Command → Type 0
+EachStoodOrIsTold is_pre go_with v cs =
+    (p i : ℕ) (r : Record) → Holds (banks_after v p (steps_of v cs)) i r → StoodOrIsTold is_pre go_with v.banks i r
