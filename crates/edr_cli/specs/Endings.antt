@@ -42,6 +42,13 @@ pub record Ends {K : Type 0} (k : sink.Ghosts K) (IsText : List ℕ → Type 0) 
   pub other : status ≢ Ok → status ≢ WriteFault → TellsFault IsCause status (k.content old) (k.content new)
   pub part : status ≡ WriteFault → TellsPart IsText IsCause (k.content old) (k.content new)
 
+-- a fault of this cause is told, whole unless a write failed, and then a part of it
+abbrev pub TellsWhole : {K : Type 0} → sink.Ghosts K → (Fault → Type 0) → Status → K → K → Type 0
+TellsWhole k IsCause status old new = status ≢ WriteFault → TellsFault IsCause status (k.content old) (k.content new)
+
+abbrev pub TellsCut : {K : Type 0} → sink.Ghosts K → (Fault → Type 0) → Status → K → K → Type 0
+TellsCut k IsCause status old new = status ≡ WriteFault → TellsFaultPart IsCause (k.content old) (k.content new)
+
 -- it is whole, or there was no memory
 abbrev pub IsServed : Status → Type 0
 IsServed status = (status ≡ Ok) ⊎ (status ≡ OutOfMemory)

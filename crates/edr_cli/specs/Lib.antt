@@ -2,8 +2,10 @@ pub mod Status
 pub mod Faults
 pub mod Words
 pub mod Outside
+pub mod Crashes
 pub mod Reports
 pub mod Runs
+pub mod Traces
 pub mod Migrations
 pub mod Causes
 pub mod Endings

@@ -1,7 +1,6 @@
 -- What a call comes to, word by word.
 use Rattle.std.specs.Prelude.{◌≡◌, ◌≤◌, ℕ, List, Some, None, IfSome}
-use Rattle.edr_device.specs.Device.{IsQuiet, MayLeave}
-use Rattle.edr_device.specs.Lent.{At, Between}
+use Rattle.edr_device.specs.Lent.{Between}
 use Rattle.edr_device.specs.declared.device.Nvm as device
 use Rattle.edr_device.specs.declared.stream.Sink as sink
 use Rattle.edr_device.specs.declared.stream.Source as stream
@@ -16,10 +15,11 @@ use Rattle.edr_cli.specs.declared.fault.Fault.{Fault}
 use Rattle.edr_cli.specs.declared.status.Status.{Status}
 use Rattle.edr_cli.specs.declared.status.Status.TheVariants.{Ok}
 use Rattle.edr_cli.specs.Causes.{IsDriveCause, IsFormatCause, IsImageCause, IsMigrateCause, IsNumberCause, IsReplayCause}
+use Rattle.edr_cli.specs.Crashes.{KeepsBytes, KeepsImage, OfCrash}
 use Rattle.edr_cli.specs.Endings.{Ends, IsServed}
 use Rattle.edr_cli.specs.Migrations.{CanMigrate, IsPartlyTaken, MigrateIs}
 use Rattle.edr_cli.specs.Outside.{Input, IsAtEnd, Memory, NoFault, OfBoth, OfMemory, OfRun, input, memory}
-use Rattle.edr_cli.specs.Reports.{FormatIs, HasMagic, ReportIs}
+use Rattle.edr_cli.specs.Reports.{FormatIs, ReportIs}
 use Rattle.edr_cli.specs.Runs.{CanRun, RunIs}
 use Rattle.edr_cli.specs.Words.{AreDrive, AreFormat, AreGenerate, AreLarge, AreMigrate, AreReplay, AreReport}
 
@@ -57,7 +57,7 @@ pub record Shows {K D : Type 0} (k : sink.Ghosts K) (d : device.Ghosts D) (form 
     (sink sink' : K) (nvm nvm' : D) : Type 0 where
   pub ends : Ends k (OfMemory d (ReportIs form) nvm nvm') (OfMemory d IsImageCause nvm nvm') status sink sink'
   -- where nothing was pending, a crash at the end leaves the bytes as they were, whatever the status
-  pub stays : (bytes image : List ℕ) → At d IsQuiet nvm bytes → At d MayLeave nvm' image → image ≡ bytes
+  pub stays : KeepsBytes d nvm nvm'
   -- where nothing counts a fault, an image that isn't refused is reported
   pub complete : (image : List ℕ) → d.content nvm ≡ Some image → image_refusal image ≡ None
       → NoFault d.faults nvm nvm' → NoFault k.faults sink sink' → IsServed status
@@ -74,9 +74,9 @@ pub record Formats {K D : Type 0} (k : sink.Ghosts K) (d : device.Ghosts D) (h :
     (sink sink' : K) (nvm nvm' : D) : Type 0 where
   pub ends : Ends k (OfMemory d (FormatIs h) nvm nvm') (OfMemory d (IsFormatCause h) nvm nvm') status sink sink'
   -- where nothing was pending, a crash at the end leaves the image as it was, or without the magic, or the new one
-  pub crash : (bytes image : List ℕ) → At d IsQuiet nvm bytes → At d MayLeave nvm' image → IsPartlyFormatted h bytes image
+  pub crash : OfCrash d nvm nvm' (IsPartlyFormatted h)
   -- an image that is there stays, whatever the status
-  pub stays : (bytes image : List ℕ) → At d IsQuiet nvm bytes → HasMagic bytes → At d MayLeave nvm' image → image ≡ bytes
+  pub stays : KeepsImage d nvm nvm'
   -- where neither the device nor the sink counts a fault, a device with room and without an image is formatted
   pub complete : NoFault d.faults nvm nvm' → NoFault k.faults sink sink' → image_size h.banks ≤ d.extent nvm
       → IfSome (d.content nvm) (λ bytes. LacksMagic bytes → IsServed status)
@@ -95,10 +95,9 @@ pub record Migrates {S K D : Type 0} (s : stream.Ghosts S) (k : sink.Ghosts K) (
   pub at_end : status ≡ Ok → IsAtEnd (s.left source')
   pub ends : Ends k (OfRun s d MigrateIs source nvm nvm') (OfBoth s d IsMigrateCause source source' nvm nvm') status sink sink'
   -- where nothing was pending, a crash at the end leaves the image as it was, or without the magic, or one that says what the old one said
-  pub crash : (bytes image : List ℕ) → At d IsQuiet nvm bytes → At d MayLeave nvm' image
-      → IfSome (s.left source) (λ old. IsPartlyTaken old bytes image)
+  pub crash : OfCrash d nvm nvm' (λ bytes image. IfSome (s.left source) (λ old. IsPartlyTaken old bytes image))
   -- an image that is there stays, whatever the status
-  pub stays : (bytes image : List ℕ) → At d IsQuiet nvm bytes → HasMagic bytes → At d MayLeave nvm' image → image ≡ bytes
+  pub stays : KeepsImage d nvm nvm'
   -- where nothing counts a fault, an old image without damage is taken over by a device with room and without an image
   pub complete : CanMigrate (input s source) (memory d nvm) → NoFault s.faults source source' → NoFault d.faults nvm nvm'
       → NoFault k.faults sink sink' → IsServed status

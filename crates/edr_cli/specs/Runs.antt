@@ -68,3 +68,7 @@ pub record CanRun (i : Input) (m : Memory) : Type 0 where
 -- no stop is planned in the cycle
 abbrev pub IsPowered : CycleInput → Type 0
 IsPowered c = (c.start_stop ≡ 0) × (c.stop ≡ 0)
+
+-- a report of a run of the one trace is one of the other, over the same image
+abbrev pub HaveSameReports : Input → Input → Type 0
+HaveSameReports i j = (form : Form) (old new : Memory) (text : List ℕ) → RunIs form i old new text → RunIs form j old new text

@@ -1,12 +1,12 @@
 //! The top call.
-ghost use Rattle.std.specs.Prelude.{◌≡◌, ◌≢◌, ◌≤◌, ◌+◌};
+ghost use Rattle.std.specs.Prelude.{◌≡◌, ◌≤◌, ◌+◌};
 ghost use Rattle.edr_device.specs.Faults.{Rose};
 ghost use Rattle.edr_device.specs.Lent.{GoesOn};
 ghost use Rattle.edr_device.specs.Told.{Told};
 ghost use Rattle.edr_device.specs.Transfer.{GivesAtMost};
 ghost use Rattle.edr_spell.specs.Spell.{largest_trace};
 ghost use Rattle.edr_cli.specs.Causes.{IsUsageCause};
-ghost use Rattle.edr_cli.specs.Endings.{TellsFault, TellsFaultPart};
+ghost use Rattle.edr_cli.specs.Endings.{TellsCut, TellsWhole};
 ghost use Rattle.edr_cli.specs.Outcomes.{ServesFormat, ServesGenerate, ServesLarge, ServesMigrate, ServesReplay, ServesReport};
 ghost use Rattle.edr_cli.specs.Words.{AreOther, ReadNothing, UseNoMemory};
 
@@ -50,10 +50,8 @@ pub fn command<S: Source, K: Sink, N: Nvm>(
 
     // Other words are a fault of usage, unless memory runs out. But by `replay` nothing is read, and a word that needs no device
     // leaves it as it was.
-    ensures usage { AreOther words.now → result ≢ Status.WriteFault
-        → TellsFault IsUsageCause result (K.content sink.old) (K.content sink.new) }
-    ensures usage_part { AreOther words.now → result ≡ Status.WriteFault
-        → TellsFaultPart IsUsageCause (K.content sink.old) (K.content sink.new) }
+    ensures usage { AreOther words.now → TellsWhole K.Sink IsUsageCause result sink.old sink.new }
+    ensures usage_part { AreOther words.now → TellsCut K.Sink IsUsageCause result sink.old sink.new }
     ensures reads { ReadNothing words.now → source.new ≡ source.old }
     ensures uses { UseNoMemory words.now → nvm.new ≡ nvm.old }
 

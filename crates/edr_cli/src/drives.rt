@@ -1,5 +1,5 @@
 //! The top call of `drive`, a run by threads. Its promises are those of a run on one thread, and hold if it returns.
-ghost use Rattle.std.specs.Prelude.{◌≡◌, ◌≢◌, ◌≤◌, ◌+◌, Some, All, IfOk, IfErr, OnOk};
+ghost use Rattle.std.specs.Prelude.{◌≡◌, ◌≤◌, ◌+◌, Some, All, IfOk, IfErr, OnOk};
 ghost use Rattle.edr_device.specs.Faults.{Rose};
 ghost use Rattle.edr_device.specs.Lent.{Between, GoesOn};
 ghost use Rattle.edr_device.specs.Told.{Told};
@@ -9,7 +9,7 @@ ghost use Rattle.edr_spell.specs.declared.CycleInput.{CycleInput};
 ghost use Rattle.edr_replay.specs.Past.{LeavesPast};
 ghost use Rattle.edr_words.specs.declared.Form.{Form};
 ghost use Rattle.edr_cli.specs.Causes.{IsDriveCause, IsUsageCause};
-ghost use Rattle.edr_cli.specs.Endings.{TellsFault, TellsFaultPart};
+ghost use Rattle.edr_cli.specs.Endings.{TellsCut, TellsWhole};
 ghost use Rattle.edr_cli.specs.Outcomes.{ServesDrive};
 ghost use Rattle.edr_cli.specs.Outside.{IsAtEnd, OfBoth, OfMemory, OfRun, memory};
 ghost use Rattle.edr_cli.specs.Runs.{RunIs};
@@ -120,10 +120,8 @@ pub fn drive<
     ensures write_fault { result ≡ Status.WriteFault → Rose (K.faults sink.old) (K.faults sink.new) }
 
     // Other words are a fault of usage, unless memory runs out. Nothing is read, and the device stays.
-    ensures usage { AreNoDrive words.now → result ≢ Status.WriteFault
-        → TellsFault IsUsageCause result (K.content sink.old) (K.content sink.new) }
-    ensures usage_part { AreNoDrive words.now → result ≡ Status.WriteFault
-        → TellsFaultPart IsUsageCause (K.content sink.old) (K.content sink.new) }
+    ensures usage { AreNoDrive words.now → TellsWhole K.Sink IsUsageCause result sink.old sink.new }
+    ensures usage_part { AreNoDrive words.now → TellsCut K.Sink IsUsageCause result sink.old sink.new }
     ensures untouched { AreNoDrive words.now → (source.new ≡ source.old) × (nvm.new ≡ nvm.old) }
 
     // With Ok the sink gained exactly the report of a run of the cycles that the source spelled, as by `replay`, with another

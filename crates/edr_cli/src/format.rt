@@ -1,8 +1,7 @@
 //! Serves `format`: makes a new image on the memory of the records.
-ghost use Rattle.std.specs.Prelude.{◌≡◌, ◌≤◌, ℕ, List, IfSome, IfOk, IfErr, IsOk};
-ghost use Rattle.edr_device.specs.Device.{IsQuiet, MayLeave};
+ghost use Rattle.std.specs.Prelude.{◌≡◌, ◌≤◌, IfSome, IfOk, IfErr, IsOk};
 ghost use Rattle.edr_device.specs.Faults.{Rose};
-ghost use Rattle.edr_device.specs.Lent.{At, GoesOn};
+ghost use Rattle.edr_device.specs.Lent.{GoesOn};
 ghost use Rattle.edr_image.specs.declared.places.TheConstants.{FEWEST_BANKS, MOST_BANKS};
 ghost use Rattle.edr_image.specs.Image.{image_size};
 ghost use Rattle.edr_banks.specs.Formatting.{IsPartlyFormatted, LacksMagic};
@@ -10,7 +9,8 @@ ghost use Rattle.edr_report.specs.Format.{format_line};
 ghost use Rattle.edr_cli.specs.Causes.{IsFormatCause};
 ghost use Rattle.edr_cli.specs.Outcomes.{Formats};
 ghost use Rattle.edr_cli.specs.Outside.{OfMemory};
-ghost use Rattle.edr_cli.specs.Reports.{HasMagic, IsMade};
+ghost use Rattle.edr_cli.specs.Reports.{IsMade};
+ghost use Rattle.edr_cli.specs.Crashes.{KeepsImage, OfCrash};
 
 use crate::endings::{tell, write};
 use crate::fault::Fault;
@@ -28,11 +28,9 @@ fn make_image<N: Nvm>(nvm: &mut N, header: Header) -> Result<ShortLine, Fault>
     ensures line { IfOk result (λ line. line ≡ format_line header) }
     ensures made { IfOk result (λ line. OfMemory N.Nvm (IsMade header) nvm.old nvm.new) }
     ensures cause { IfErr result (OfMemory N.Nvm (IsFormatCause header) nvm.old nvm.new) }
-    ensures crash { (bytes image : List ℕ) → At N.Nvm IsQuiet nvm.old bytes
-        → At N.Nvm MayLeave nvm.new image → IsPartlyFormatted header bytes image }
+    ensures crash { OfCrash N.Nvm nvm.old nvm.new (IsPartlyFormatted header) }
     // An image that is there stays.
-    ensures stays { (bytes image : List ℕ) → At N.Nvm IsQuiet nvm.old bytes → HasMagic bytes
-        → At N.Nvm MayLeave nvm.new image → image ≡ bytes }
+    ensures stays { KeepsImage N.Nvm nvm.old nvm.new }
     ensures complete { ¬ Rose (N.faults nvm.old) (N.faults nvm.new) → image_size header.banks ≤ N.extent nvm.old
         → IfSome (N.content nvm.old) (λ bytes. LacksMagic bytes → IsOk result) }
 {

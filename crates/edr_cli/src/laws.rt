@@ -3,14 +3,12 @@ ghost use Rattle.std.specs.Prelude.{◌≡◌, ℕ, All, List};
 ghost use Rattle.edr_image.specs.Banks.{Store};
 ghost use Rattle.edr_run.specs.Cycle.{Outcome, IsRun};
 ghost use Rattle.edr_spell.specs.declared.CycleInput.{CycleInput};
-ghost use Rattle.edr_words.specs.declared.Form.{Form};
-ghost use Rattle.edr_cli.specs.Outside.{Input, Memory};
-ghost use Rattle.edr_cli.specs.Runs.{IsPowered, RunIs, ToldTraceOf};
+ghost use Rattle.edr_cli.specs.Outside.{Input};
+ghost use Rattle.edr_cli.specs.Runs.{IsPowered, ToldTraceOf, HaveSameReports};
 
 /// Traces that spell the same cycles have the same reports over the same image.
 pub fn reports_are_of_the_cycles()
-    ensures { (form : Form) (cycles : List CycleInput) (i j : Input) (old new : Memory) (text : List ℕ)
-        → ToldTraceOf cycles i → ToldTraceOf cycles j → RunIs form i old new text → RunIs form j old new text }
+    ensures { (cycles : List CycleInput) (i j : Input) → ToldTraceOf cycles i → ToldTraceOf cycles j → HaveSameReports i j }
 {}
 
 /// Where no stop is planned, a run comes to one outcome.

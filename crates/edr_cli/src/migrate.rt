@@ -1,8 +1,7 @@
 //! Serves `migrate`: takes over the records of an old image, one of version 1, which the source gives.
-ghost use Rattle.std.specs.Prelude.{◌≡◌, ◌+◌, ◌≤◌, ℕ, List, IfOk, IfErr, IfSome, OnOk, length};
-ghost use Rattle.edr_device.specs.Device.{IsQuiet, MayLeave};
+ghost use Rattle.std.specs.Prelude.{◌≡◌, ◌+◌, ◌≤◌, IfOk, IfErr, IfSome, OnOk, length};
 ghost use Rattle.edr_device.specs.Faults.{Rose};
-ghost use Rattle.edr_device.specs.Lent.{At, GoesOn};
+ghost use Rattle.edr_device.specs.Lent.{GoesOn};
 ghost use Rattle.edr_device.specs.Told.{Told};
 ghost use Rattle.edr_device.specs.Transfer.{GivesAtMost};
 ghost use Rattle.edr_spell.specs.Spell.{largest_trace};
@@ -10,8 +9,8 @@ ghost use Rattle.edr_cli.specs.Causes.{IsMigrateCause, IsTakingCause};
 ghost use Rattle.edr_cli.specs.Migrations.{IsPartlyTaken, MigrateIs};
 ghost use Rattle.edr_cli.specs.Outcomes.{Migrates};
 ghost use Rattle.edr_cli.specs.Outside.{IsAtEnd, OfBoth, OfMemory, OfRun};
-ghost use Rattle.edr_cli.specs.Reports.{HasMagic};
 ghost use Rattle.edr_cli.specs.Steps.{IsTaken};
+ghost use Rattle.edr_cli.specs.Crashes.{KeepsImage, OfCrash};
 
 use crate::endings::{tell, write};
 use crate::fault::Fault;
@@ -30,11 +29,9 @@ fn take_over<N: Nvm>(nvm: &mut N, old: &[u8]) -> Result<ShortLine, Fault>
     ensures later { N.faults nvm.old ≤ N.faults nvm.new }
     ensures taken { IfOk result (λ line. OfMemory N.Nvm (IsTaken old.now) nvm.old nvm.new line) }
     ensures cause { IfErr result (OfMemory N.Nvm (IsTakingCause (λ AreSuch. AreSuch old.now)) nvm.old nvm.new) }
-    ensures crash { (bytes image : List ℕ) → At N.Nvm IsQuiet nvm.old bytes
-        → At N.Nvm MayLeave nvm.new image → IsPartlyTaken old.now bytes image }
+    ensures crash { OfCrash N.Nvm nvm.old nvm.new (IsPartlyTaken old.now) }
     // An image that is there stays.
-    ensures stays { (bytes image : List ℕ) → At N.Nvm IsQuiet nvm.old bytes → HasMagic bytes
-        → At N.Nvm MayLeave nvm.new image → image ≡ bytes }
+    ensures stays { KeepsImage N.Nvm nvm.old nvm.new }
 {
     let migrated = check(old)?;
     let line = migrate_line(migrated.events, migrated.count);
@@ -56,10 +53,8 @@ fn migrate_source<S: Source, N: Nvm>(
     ensures end { OnOk result (IsAtEnd (S.left source.new)) }
     ensures text { IfOk result (λ line. OfRun S.Source N.Nvm MigrateIs source.old nvm.old nvm.new line) }
     ensures cause { IfErr result (OfBoth S.Source N.Nvm IsMigrateCause source.old source.new nvm.old nvm.new) }
-    ensures crash { (bytes image : List ℕ) → At N.Nvm IsQuiet nvm.old bytes → At N.Nvm MayLeave nvm.new image
-        → IfSome (S.left source.old) (λ old. IsPartlyTaken old bytes image) }
-    ensures stays { (bytes image : List ℕ) → At N.Nvm IsQuiet nvm.old bytes → HasMagic bytes
-        → At N.Nvm MayLeave nvm.new image → image ≡ bytes }
+    ensures crash { OfCrash N.Nvm nvm.old nvm.new (λ b i. IfSome (S.left source.old) (λ old. IsPartlyTaken old b i)) }
+    ensures stays { KeepsImage N.Nvm nvm.old nvm.new }
 {
     let old = take_all(alloc, source, LARGEST_TRACE as usize)?;
     take_over(nvm, &old)

@@ -1,6 +1,6 @@
 //! Serves `report`: reads what the memory of the records holds, and reports it.
 ghost use Rattle.std.specs.Prelude.{◌≡◌, ◌≤◌, ℕ, List, Some, IfOk, IfErr, map};
-ghost use Rattle.edr_device.specs.Device.{IsQuiet, MayLeave};
+ghost use Rattle.edr_device.specs.Device.{IsQuiet};
 ghost use Rattle.edr_device.specs.Faults.{Rose};
 ghost use Rattle.edr_device.specs.Lent.{At, GoesOn};
 ghost use Rattle.edr_image.specs.Reports.{report_of};
@@ -9,6 +9,7 @@ ghost use Rattle.edr_cli.specs.Outcomes.{Shows};
 ghost use Rattle.edr_cli.specs.Outside.{OfMemory, memory};
 ghost use Rattle.edr_cli.specs.Reports.{ReportIs, Says, report_in};
 ghost use Rattle.edr_cli.specs.Steps.{ReportsHeld};
+ghost use Rattle.edr_cli.specs.Crashes.{KeepsBytes};
 
 use crate::endings::finish;
 use crate::fault::Fault;
@@ -25,7 +26,7 @@ pub(crate) fn open_settled<N: Nvm>(alloc: Global, nvm: &mut N) -> Result<Banks, 
     ensures says { IfOk result (λ b. (image : List ℕ) → N.content nvm.old ≡ Some image
         → Says image b.store b.count × At N.Nvm IsQuiet nvm.new image) }
     ensures cause { IfErr result (OfMemory N.Nvm IsImageCause nvm.old nvm.new) }
-    ensures stays { (bytes image : List ℕ) → At N.Nvm IsQuiet nvm.old bytes → At N.Nvm MayLeave nvm.new image → image ≡ bytes }
+    ensures stays { KeepsBytes N.Nvm nvm.old nvm.new }
     ensures lent { GoesOn N.Nvm nvm.old nvm.new }
     ensures later { N.faults nvm.old ≤ N.faults nvm.new }
 {
@@ -87,7 +88,7 @@ pub(crate) fn report<N: Nvm>(alloc: Global, nvm: &mut N, form: Form) -> Result<V
     ensures later { N.faults nvm.old ≤ N.faults nvm.new }
     ensures text { IfOk result (λ out. OfMemory N.Nvm (ReportIs form) nvm.old nvm.new out.items) }
     ensures cause { IfErr result (OfMemory N.Nvm IsImageCause nvm.old nvm.new) }
-    ensures stays { (bytes image : List ℕ) → At N.Nvm IsQuiet nvm.old bytes → At N.Nvm MayLeave nvm.new image → image ≡ bytes }
+    ensures stays { KeepsBytes N.Nvm nvm.old nvm.new }
 {
     let banks = open_settled(alloc, nvm)?;
     Ok(report_of_banks(alloc, form, &[], &banks)?)

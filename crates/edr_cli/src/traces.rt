@@ -1,13 +1,14 @@
 //! Reads the trace that a source gives.
-ghost use Rattle.std.specs.Prelude.{◌≡◌, ◌≢◌, ◌+◌, ◌-◌, ◌≤◌, ◌<◌, ◌^◌, ℕ, List, Err, ◌++◌, length, take, vec_len, All, IfOk, IfErr, IfSome, OnErr, OnOk};
+ghost use Rattle.std.specs.Prelude.{◌≡◌, ◌≢◌, ◌+◌, ◌-◌, ◌≤◌, ◌<◌, ◌^◌, ℕ, List, Err, ◌++◌, length, take, All, IfOk, IfErr, IfSome, OnErr, OnOk};
 ghost use Rattle.edr_device.specs.Faults.{Rose};
 ghost use Rattle.edr_device.specs.Told.{Told};
-ghost use Rattle.edr_device.specs.Transfer.{Carries, GivesAll, GivesAtMost, GivesTooMany};
+ghost use Rattle.edr_device.specs.Transfer.{Carries, GivesAtMost, GivesTooMany};
 ghost use Rattle.edr_spell.specs.Spell.{IsCycle, largest_trace};
-ghost use Rattle.edr_trace.specs.Given.{Given};
+ghost use Rattle.edr_trace.specs.Given.{Given, Takes};
 ghost use Rattle.edr_cli.specs.Causes.{IsTraceCause};
 ghost use Rattle.edr_cli.specs.Outside.{IsAtEnd, input};
 ghost use Rattle.edr_cli.specs.Runs.{IsTraceOf};
+ghost use Rattle.edr_cli.specs.Traces.{HasAll};
 
 use crate::fault::Fault;
 use edr_device::{Source, TakeFault};
@@ -53,8 +54,7 @@ fn keep_left(reading: &mut Reading, buffer: &mut [u8], end: usize) -> usize
     requires fits { (before : List ℕ) × Given before reading.old × (length before + end < 2 ^ 32) }
     ensures few { result ≤ LONGEST_ROW }
     ensures left { result ≤ end }
-    ensures given { (before : List ℕ) → Given before reading.old
-        → Given (before ++ take (end - result) buffer.old) reading.new }
+    ensures given { Takes (take (end - result) buffer.old) reading.old reading.new }
     ensures moved { take (end - result) buffer.old ++ take result buffer.new ≡ take end buffer.old }
 {
     let taken = reading.take_rows(&buffer[..end]);
@@ -72,9 +72,7 @@ struct Taken {
 // Takes all bytes up to the end of the source, as `take_all` does, but reads their rows as they come.
 fn take_trace<S: Source>(alloc: Global, source: &mut S, limit: usize) -> Result<Taken, TakeFault>
     requires { limit < 2 ^ 31 }
-    ensures all { IfOk result (λ t. (before : List ℕ) × Given before t.reading
-        × (length before + vec_len t.left ≤ limit)
-        × Told (GivesAll (before ++ t.left.items)) (S.left source.old) (S.left source.new)) }
+    ensures all { IfOk result (λ t. HasAll limit t (S.left source.old) (S.left source.new)) }
     ensures too_long { result ≡ Err TakeFault.TooLong
         → Told (GivesTooMany limit) (S.left source.old) (S.left source.new) }
     ensures failed { result ≡ Err TakeFault.Failed → Rose (S.faults source.old) (S.faults source.new) }

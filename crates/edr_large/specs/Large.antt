@@ -63,3 +63,11 @@ pub record HasRunOn (f : SensorLists) (v : Store) (n : ℕ) (before acks : List 
   pub cycle : IsCycle (record { start_stop = 0; feeds = f; stop = 0 }) v n end
   pub acks_are : acks ≡ before ++ acks_in end.report
   pub says : view_of image ≡ Some (record { store = end.store; count = end.count })
+
+-- of what the image says this is so
+abbrev pub OfImage : List ℕ → (Store → ℕ → Type 0) → Type 0
+OfImage image says = (v : Store) (n : ℕ) → view_of image ≡ Some (record { store = v; count = n }) → says v n
+
+-- a cycle with these feeds ran over an image
+abbrev pub HasRunOver : SensorLists → List ℕ → List Ack → List Ack → List ℕ → Type 0
+HasRunOver f image before acks now = OfImage image (λ v n. HasRunOn f v n before acks now)

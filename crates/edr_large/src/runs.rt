@@ -1,10 +1,10 @@
 //! The run over a memory in memory. Its calls don't fail; a fault of it would be told as want of memory.
-ghost use Rattle.std.specs.Prelude.{◌≡◌, ◌<◌, ◌^◌, ℕ, [], Some, length, IfOk};
+ghost use Rattle.std.specs.Prelude.{◌≡◌, ◌<◌, ◌^◌, [], Some, length, IfOk};
 ghost use Rattle.edr_device.specs.Memory.{memory_image, memory_state, new_memory};
-ghost use Rattle.edr_image.specs.Banks.{Store, retrieved};
+ghost use Rattle.edr_image.specs.Banks.{retrieved};
 ghost use Rattle.edr_image.specs.Image.{view_of};
 ghost use Rattle.edr_items.specs.SensorLists.{AreFeeds, IsLevel};
-ghost use Rattle.edr_large.specs.Large.{HasCounted, HasRunOn, new_store};
+ghost use Rattle.edr_large.specs.Large.{HasCounted, HasRunOver, OfImage, new_store};
 
 use crate::rows::rows_of;
 use edr_banks::{Banks, Choice};
@@ -59,8 +59,7 @@ fn run_cycle(
     requires feeds { AreFeeds feeds.now }
     requires level { IsLevel feeds.now }
     ensures size { IfOk result (λ now. length now.items ≡ length image.items) }
-    ensures ran { IfOk result (λ now. (v : Store) (n : ℕ) → view_of image.items ≡ Some (record { store = v; count = n })
-        → HasRunOn feeds.now v n acks.old.items acks.new.items now.items) }
+    ensures ran { IfOk result (λ now. HasRunOver feeds.now image.items acks.old.items acks.new.items now.items) }
 {
     let mut memory = memory_of(alloc, image)?;
     let Ok(started) = start(alloc, &mut memory, feeds.horizon()) else {
@@ -100,8 +99,7 @@ pub(crate) fn run_cycles(alloc: Global, number: u64, cycles: u32) -> Result<Run,
 /// What is found in the banks of an image.
 pub(crate) fn found_in(alloc: Global, image: Vec<u8>) -> Result<Vec<Found>, OutOfMemory>
     requires { length image.items < 2 ^ 32 }
-    ensures { IfOk result (λ found. (v : Store) (n : ℕ) → view_of image.items ≡ Some (record { store = v; count = n })
-        → found.items ≡ retrieved v.banks) }
+    ensures { IfOk result (λ found. OfImage image.items (λ v n. found.items ≡ retrieved v.banks)) }
 {
     let mut memory = memory_of(alloc, image)?;
     match Banks::open(alloc, &mut memory) {
