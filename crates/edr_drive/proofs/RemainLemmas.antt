@@ -18,13 +18,12 @@ use Rattle.edr_cycle.proofs.AnswerLemmas.{issued-now}
 use Rattle.edr_cycle.proofs.RestBegins.{part-begun}
 use Rattle.edr_cycle.proofs.RestLemmas.{feed-front}
 use Rattle.edr_loops.specs.declared.fast_inlets.FastInlets.{FastInlets}
-use Rattle.edr_loops.specs.declared.part_inlets.PartInlets.{PartInlets}
 use Rattle.edr_loops.specs.declared.desk.Desk.{Desk}
 use Rattle.edr_loops.specs.FastInlets.{AreFastFeeds, HaveFast}
 use Rattle.edr_loops.specs.Held.{issues_out}
 use Rattle.edr_loops.specs.PartInlets.{IsTaken}
 use Rattle.edr_loops.specs.PartInlets.{parts_of as parts_of_inlets}
-use Rattle.edr_loops.specs.Lanes.{ArePartsOf, FastBegin, fast_taken, slow_taken}
+use Rattle.edr_loops.specs.Lanes.{ArePartsOf, FastBegin, PartInlets, fast_taken, slow_taken}
 use Rattle.edr_loops.specs.SlowPlaces.{AreParts, IsPartOf}
 use Rattle.edr_loops.specs.Desks.{DeskStands}
 

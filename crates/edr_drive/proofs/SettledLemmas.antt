@@ -10,11 +10,10 @@ use Rattle.edr_cycle.proofs.RunSteps.{between-whole}
 use Rattle.edr_loops.specs.declared.fast_inlets.FastInlets.{FastInlets}
 use Rattle.edr_loops.specs.declared.orders.Order.{Order}
 use Rattle.edr_loops.specs.declared.orders.Outbox.{Outbox}
-use Rattle.edr_loops.specs.declared.part_inlets.PartInlets.{PartInlets}
 use Rattle.edr_loops.specs.declared.desk.Desk.{Desk}
 use Rattle.edr_loops.specs.Held.{issues_held, issues_out}
 use Rattle.edr_loops.specs.Orders.{issue_of, issues_of, orders_sent}
-use Rattle.edr_loops.specs.Lanes.{fast_taken, slow_taken}
+use Rattle.edr_loops.specs.Lanes.{PartInlets, fast_taken, slow_taken}
 use Rattle.edr_loops.specs.Desks.{DeskStands}
 use Rattle.edr_loops.proofs.CloseLemmas.{stands-sent}
 use Rattle.edr_loops.proofs.DeskLemmas.{stands-none, stands-unfast}

@@ -9,10 +9,9 @@ use Rattle.edr_loops.specs.declared.fast_inlets.FastInlets.{FastInlets}
 use Rattle.edr_loops.specs.declared.fast_inlets.FastMarks.{FastMarks}
 use Rattle.edr_loops.specs.declared.held.Held.{Held}
 use Rattle.edr_loops.specs.declared.orders.Outbox.{Outbox}
-use Rattle.edr_loops.specs.declared.part_inlets.PartInlets.{PartInlets}
 use Rattle.edr_loops.specs.declared.tray.Tray.{Tray}
 use Rattle.edr_loops.specs.declared.desk.Desk.{Desk}
-use Rattle.edr_loops.specs.Lanes.{SameFastInlets, SamePartInlets}
+use Rattle.edr_loops.specs.Lanes.{PartInlets, SameFastInlets, SamePartInlets}
 use Rattle.edr_loops.specs.Orders.{SameOutbox}
 use Rattle.edr_loops.specs.Trays.{SameTray}
 use Rattle.edr_loops.specs.Desks.{IsRecording, Later, LaterUpTo, SameDesk, DeskStands}

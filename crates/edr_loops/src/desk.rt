@@ -15,7 +15,7 @@ ghost use Rattle.edr_loops.specs.Desks.{Begins, HasPosted, IsRecording, IsSettle
 use crate::fast_inlets::{FastInlets, FastMarks, FastSensor};
 use crate::held::Held;
 use crate::orders::Outbox;
-use crate::part_inlets::PartInlets;
+use crate::part_inlets::{self, PartInlets};
 use edr_board::{Asker, RecorderSeat, Watch};
 use edr_capture::Part;
 use edr_core::{Issued, SplitClosing, SplitCore};
@@ -197,7 +197,7 @@ impl Desk {
         ensures seat { SeatStays self.old self.new }
         ensures held { self.new.held ≡ self.old.held }
     {
-        let Some(own) = self.parts.take(sensor) else {
+        let Some(own) = part_inlets::take(&mut self.parts, sensor) else {
             return false;
         };
         if is_of(&own, sensor) {

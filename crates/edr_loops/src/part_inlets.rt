@@ -5,33 +5,17 @@ ghost use Rattle.edr_loops.specs.PartInlets.{with_part};
 ghost use Rattle.edr_loops.specs.Lanes.{SamePartInlets, slow_taken};
 
 use edr_capture::Part;
-use edr_items::Sensor;
+use edr_items::{PerSlowSensor, Sensor};
 use edr_seats::PartInlet;
 
 /// The inlets of the five slow sensors.
-#[derive(Drop)]
-pub struct PartInlets {
-    pub speed: PartInlet,
-    pub throttle: PartInlet,
-    pub brake: PartInlet,
-    pub belt: PartInlet,
-    pub lamp: PartInlet,
-}
+pub type PartInlets = PerSlowSensor<PartInlet>;
 
-impl PartInlets {
-    // Takes the oldest part of that sensor, if there is one. The other three sensors give none.
-    pub(crate) fn take(&mut self, sensor: Sensor) -> Option<Part>
-        ensures rings { SamePartInlets self.old self.new }
-        ensures taken { MatchOption result (slow_taken self.new ≡ slow_taken self.old)
-            (λ part. slow_taken self.new ≡ with_part sensor part (slow_taken self.old)) }
-    {
-        match sensor {
-            Sensor::Speed => self.speed.take(),
-            Sensor::Throttle => self.throttle.take(),
-            Sensor::Brake => self.brake.take(),
-            Sensor::Belt => self.belt.take(),
-            Sensor::Lamp => self.lamp.take(),
-            _ => None,
-        }
-    }
+// Takes the oldest part of that sensor, if there is one. The other three sensors give none.
+pub(crate) fn take(inlets: &mut PartInlets, sensor: Sensor) -> Option<Part>
+    ensures rings { SamePartInlets inlets.old inlets.new }
+    ensures taken { MatchOption result (slow_taken inlets.new ≡ slow_taken inlets.old)
+        (λ part. slow_taken inlets.new ≡ with_part sensor part (slow_taken inlets.old)) }
+{
+    inlets.of_mut(sensor)?.take()
 }

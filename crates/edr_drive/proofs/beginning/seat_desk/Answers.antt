@@ -1,9 +1,8 @@
 use Rattle.std.proofs.Common.{arith, sym, subst}
 use Rattle.edr_loops.specs.declared.fast_inlets.FastInlets.{FastInlets}
 use Rattle.edr_loops.specs.declared.orders.Outbox.{Outbox}
-use Rattle.edr_loops.specs.declared.part_inlets.PartInlets.{PartInlets}
 use Rattle.edr_loops.specs.Orders.{AreOfOneRing}
-use Rattle.edr_loops.specs.Lanes.{AreFastLanes, ArePartLanes}
+use Rattle.edr_loops.specs.Lanes.{AreFastLanes, ArePartLanes, PartInlets}
 use Rattle.edr_drive.proofs.beginning.seat_desk.Goals as goal
 
 pub returns : goal.returns
