@@ -5,22 +5,22 @@ use Rattle.edr_loops.proofs.desk.Desk.take_part.Goals as goal
 
 pub returns-in_default-clause-later : goal.returns-in_default-clause-later
 returns-in_default-clause-later c = record {
-  same = same-taken_part c.args.self.now c.args.self.now.core c.take.new.self c.in_default.ensures.rings;
-  stands = λ n e low s. stands-none n e c.args.self.now c.take.new.self c.in_default.ensures.taken s;
+  same = same-taken_part c.args.self.now c.args.self.now.core c.take.new.inlets c.in_default.ensures.rings;
+  stands = λ n e low s. stands-none n e c.args.self.now c.take.new.inlets c.in_default.ensures.taken s;
 }
 
 pub returns-then-is_of-clause-later : goal.returns-then-is_of-clause-later
 returns-then-is_of-clause-later c = record {
-  same = same-taken_part c.args.self.now c.part.new.self c.take.new.self c.in-Some.ensures.rings;
+  same = same-taken_part c.args.self.now c.part.new.self c.take.new.inlets c.in-Some.ensures.rings;
   stands = λ n e low s.
-      stands-part_or n e c.args.sensor c.in-Some.own c.args.self.now c.part.new.self c.take.new.self c.in-Some.ensures.taken s
+      stands-part_or n e c.args.sensor c.in-Some.own c.args.self.now c.part.new.self c.take.new.inlets c.in-Some.ensures.taken s
       (c.is_of.ensures c.if-is_of.true).0 (c.is_of.ensures c.if-is_of.true).1 c.part.result c.part.ensures.ok c.part.ensures.err;
 }
 
 pub returns-else-is_of-clause-later : goal.returns-else-is_of-clause-later
 returns-else-is_of-clause-later c = record {
-  same = same-taken_part c.args.self.now c.args.self.now.core c.take.new.self c.in-Some.ensures.rings;
-  stands = λ n e low s. stands-aside n e c.args.sensor c.in-Some.own c.args.self.now c.args.self.now.core c.take.new.self c.in-Some.ensures.taken s refl;
+  same = same-taken_part c.args.self.now c.args.self.now.core c.take.new.inlets c.in-Some.ensures.rings;
+  stands = λ n e low s. stands-aside n e c.args.sensor c.in-Some.own c.args.self.now c.args.self.now.core c.take.new.inlets c.in-Some.ensures.taken s refl;
 }
 
 pub returns-in_default-clause-stands : goal.returns-in_default-clause-stands
