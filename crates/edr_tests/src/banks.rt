@@ -3,7 +3,10 @@ ghost use Rattle.std.specs.Prelude.{◌≡◌, ◌≤◌, ◌<◌, ◌^◌, IfOk
 ghost use Rattle.edr_device.specs.Memory.{memory_image};
 ghost use Rattle.edr_image.specs.Image.{image_size};
 
-use edr_banks::{Ack, Applied, ApplyFault, BankView, Banks, Choice, Command, FormatFault, Found, HeaderRefused, OpenFault};
+use edr_banks::{
+    Ack, Applied, ApplyFault, BankView, Banks, Choice, Command, FormatFault, Found, HeaderRefused,
+    OpenFault,
+};
 use edr_codec::read_crash;
 use edr_device::{Fused, MemNvm, Nvm};
 use edr_layout::OPEN_GATE;

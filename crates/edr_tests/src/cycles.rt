@@ -3,9 +3,9 @@ ghost use Rattle.std.specs.Prelude.{◌≡◌, ◌≤◌, ◌<◌, ◌^◌, ◌+
 ghost use Rattle.edr_device.specs.Memory.{memory_image};
 ghost use Rattle.edr_items.specs.SensorLists.{IsLevel};
 
-use edr_cycle::{Parts, Remaining, StartFault, run_alone, run_rest, start};
 use edr_banks::{Ack, Applied, BankView, Banks, Choice, CycleReport, Found, Kind, Log};
 use edr_core::{Captures, SplitCore};
+use edr_cycle::{Parts, Remaining, StartFault, run_alone, run_rest, start};
 use edr_device::{Fused, MemNvm, Nvm};
 use edr_items::{Feeds, Item, Sensor, level_is_none_lagging};
 use edr_layout::OPEN_GATE;

@@ -1,8 +1,8 @@
 //! What several tests use, and how the sensors are dealt to workers.
 
-use edr_loops::{FastLanes, FastPlaces, SlowLanes, SlowPlaces, make_fast_lanes, make_slow_lanes};
 use edr_board::{Freeze, FreezeOpened};
 use edr_items::{Feeds, Item, Sensor};
+use edr_loops::{FastLanes, FastPlaces, SlowLanes, SlowPlaces, make_fast_lanes, make_slow_lanes};
 use std::alloc::Global;
 use std::test::Fail;
 

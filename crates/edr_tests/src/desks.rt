@@ -6,15 +6,15 @@ ghost use Rattle.edr_items.specs.SensorLists.{SensorLists};
 ghost use Rattle.edr_loops.specs.Stands.{AreFastBegun, AreKept};
 ghost use Rattle.edr_loops.specs.Desks.{HasPosted, IsRecording};
 
-use crate::stands::{Telling, new_gate};
 use crate::dealt_sensors::fired_feeds;
+use crate::stands::{Telling, new_gate};
+use edr_board::{Board, CommitterSeat, Freeze, FreezeOpened, Opened, Watch};
+use edr_core::SplitCore;
+use edr_items::Feeds;
 use edr_loops::{
     Desk, FastMarks, Inbox, Orders, Stand, make_fast_lanes, make_orders, make_slow_lanes,
     start_worker,
 };
-use edr_board::{Board, CommitterSeat, Freeze, FreezeOpened, Opened, Watch};
-use edr_core::SplitCore;
-use edr_items::Feeds;
 use edr_record::Command;
 use std::alloc::Global;
 use std::sync::atomic::Ordering;

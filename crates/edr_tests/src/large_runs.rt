@@ -1,5 +1,5 @@
-use edr_large::{Counts, count, text};
 use edr_gen::generate_into;
+use edr_large::{Counts, count, text};
 use std::test::Fail;
 
 // What a second program counts of the number 7 with 40 cycles.

@@ -2,9 +2,9 @@
 ghost use Rattle.std.specs.Prelude.{◌≡◌, ◌+◌, ◌<◌, ◌≤◌, ◌^◌, IfOk, length};
 ghost use Rattle.edr_device.specs.Memory.{memory_image};
 
-use edr_migrate::{HeaderRefused, MigrateFault, Migrated, OldRefused, check, migrate};
 use edr_banks::{Banks, Choice};
 use edr_device::{MemNvm, Nvm};
+use edr_migrate::{HeaderRefused, MigrateFault, Migrated, OldRefused, check, migrate};
 use std::alloc::{AllocError, Global};
 use std::process::Abort;
 use std::test::Fail;

@@ -2,9 +2,9 @@
 ghost use Rattle.std.specs.Prelude.{IfOk};
 ghost use Rattle.edr_spell.specs.Spell.{IsCycle};
 
-use edr_replay::replay;
 use crate::runs::{fired, formatted, stopped};
 use edr_device::{Failed, Nvm};
+use edr_replay::replay;
 use std::alloc::Global;
 use std::process::Abort;
 use std::test::Fail;

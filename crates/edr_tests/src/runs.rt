@@ -3,12 +3,12 @@ ghost use Rattle.std.specs.Prelude.{◌≤◌, IfOk};
 ghost use Rattle.edr_items.specs.SensorLists.{IsLevel};
 ghost use Rattle.edr_spell.specs.Spell.{IsCycle};
 
-use edr_replay::replay;
 use edr_banks::{Ack, Applied, BankView, Banks, Choice, Kind};
 use edr_device::MemNvm;
 use edr_image::CycleReport;
 use edr_items::{Feeds, Item, Sensor, level_is_none_lagging};
 use edr_record::Record;
+use edr_replay::replay;
 use edr_spell::CycleInput;
 use std::alloc::Global;
 use std::process::Abort;

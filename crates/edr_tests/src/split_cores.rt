@@ -1,8 +1,8 @@
 ghost use Rattle.std.specs.Prelude.{◌≡◌, []};
 ghost use Rattle.edr_items.specs.Sensor.{IsSlow};
 
-use edr_core::{PartRefused, SplitCore, SplitStep};
 use edr_capture::Capture;
+use edr_core::{PartRefused, SplitCore, SplitStep};
 use edr_items::{Item, Sensor};
 use edr_merge::MergeRefused;
 use std::process::Abort;

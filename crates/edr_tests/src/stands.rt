@@ -7,9 +7,11 @@ ghost use Rattle.edr_items.specs.SensorLists.{SensorLists};
 ghost use Rattle.edr_loops.specs.Stands.{AreFastBegun, AreKept};
 
 use crate::dealt_sensors::fired_feeds;
-use edr_loops::{FastInlets, Gate, PartInlets, Stand, make_fast_lanes, make_slow_lanes, start_worker};
 use edr_board::{Asker, Board, CommitterSeat, Freeze, FreezeOpened, Opened, RecorderSeat};
 use edr_items::{Feeds, Sensor};
+use edr_loops::{
+    FastInlets, Gate, PartInlets, Stand, make_fast_lanes, make_slow_lanes, start_worker,
+};
 use edr_seats::PartInlet;
 use std::alloc::Global;
 use std::sync::atomic::{AtomicU64, Ordering};
