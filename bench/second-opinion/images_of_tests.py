@@ -8,9 +8,13 @@ import os, shutil, subprocess, sys, tempfile
 
 TOP = os.path.join(os.path.dirname(os.path.abspath(__file__)), '..', '..')
 # The crates whose tests have whole images, and the least number of different ones that each must tell.
-CRATES = {'edr_gates': 10, 'edr_banks': 18, 'edr_migrate': 4, 'edr_cycle': 11, 'edr_replay': 6, 'edr_drive': 5, 'edr_cli': 70}
-# Tests of `edr_cli` that take long: of many replays each, which leave what those of the crates below leave. The copy has none of them.
-LEFT_OUT = ('cuts', 'driven', 'every_call', 'faults', 'generated', 'orders')
+CRATES = {'edr_gates': 10, 'edr_tests': 36, 'edr_drive': 5, 'edr_cli': 70}
+# Modules of tests that take long, or have no image: in `edr_cli` those of many replays each, which leave what those of the crates below
+# leave. The copy has none of them.
+LEFT_OUT = {
+    'crates/edr_cli/src/command_tests.rt': ('cuts', 'driven', 'every_call', 'faults', 'generated', 'orders'),
+    'crates/edr_tests/src/lib.rt': ('cores', 'dealt_sensors', 'desks', 'large_runs', 'pages', 'readings', 'split_cores', 'stands', 'words'),
+}
 # What stands in a file once, and what the copy has in its place.
 READ = '        self.reads = self.reads.saturating_add(1);\n'
 LOOK = '        &self.state.image\n    }\n'
@@ -21,7 +25,8 @@ PATCHES = {
         LOOK: '        tell_image(&self.state.image);\n' + LOOK,
         CALLS: 'unsafe extern "C" {\n    safe fn tell_image(bytes: &[u8]);\n}\n\n' + CALLS,
     },
-    'crates/edr_cli/src/command_tests.rt': {f'mod {name};\n': '' for name in LEFT_OUT},
+    'crates/edr_cli/src/command_tests.rt': {f'mod {name};\n': '' for name in LEFT_OUT['crates/edr_cli/src/command_tests.rt']},
+    'crates/edr_tests/src/lib.rt': {f'#[cfg(test)]\nmod {name};\n': '' for name in LEFT_OUT['crates/edr_tests/src/lib.rt']},
 }
 MOST = 16_480
 TELL_IMAGE = """
@@ -64,8 +69,11 @@ def copy_of_crates(folder, told):
         shutil.copy(os.path.join(TOP, name), folder)
     for path, changes in PATCHES.items():
         patch(folder, path, changes)
-    for name in LEFT_OUT:
-        os.remove(os.path.join(folder, 'crates/edr_cli/src/command_tests', f'{name}.rt'))
+    for path, names in LEFT_OUT.items():
+        modules = os.path.join(folder, path.removesuffix('/lib.rt').removesuffix('.rt'))
+        for name in names:
+            os.remove(os.path.join(modules, f'{name}.rt'))
+            shutil.rmtree(os.path.join(modules, name), ignore_errors=True)
     os.mkdir(os.path.join(folder, 'crates', 'edr_device', 'c'))
     with open(os.path.join(folder, 'crates', 'edr_device', 'c', 'tell_image.c'), 'w') as file:
         file.write(f'#define FILE "{told}"\n#define MOST {MOST}\n{TELL_IMAGE}')

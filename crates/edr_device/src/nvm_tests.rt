@@ -199,6 +199,16 @@ impl Nvm for Adapter {
     }
 }
 
+// The memory after these steps and a power cut, by that pick.
+fn cut_after(alloc: Global, steps: &[Step], fails: &[u32], pick: u64) -> Result<MemNvm, Fail> {
+    let mut memory = eight_bytes(alloc, fails, &[], pick)?;
+    for &step in steps {
+        let _ = make(&mut memory, step);
+    }
+    memory.power_cycle()?;
+    Ok(memory)
+}
+
 // These steps and then a power cut leave this image by the picks 0, 1 and 7.
 fn check_images(
     rt: &impl Abort,
@@ -208,11 +218,7 @@ fn check_images(
     images: [[u8; 8]; 3],
 ) -> Result<(), Fail> {
     for (i, pick) in [0u64, 1, 7].into_iter().enumerate() {
-        let mut memory = eight_bytes(alloc, fails, &[], pick)?;
-        for &step in steps {
-            let _ = make(&mut memory, step);
-        }
-        assert_eq!(rt; memory.power_cycle(), Ok(()));
+        let memory = cut_after(alloc, steps, fails, pick)?;
         assert_eq!(rt; memory.image(), images[i].as_slice(), "pick {pick}");
     }
     Ok(())
@@ -285,28 +291,35 @@ fn failed_call_changes_nothing(rt: HostRuntime) -> Result<(), Fail> {
 }
 
 #[test]
-fn calls_fail_by_their_numbers_and_past_the_last(rt: HostRuntime) -> Result<(), Fail> {
-    let alloc = rt.alloc();
-    let mut memory = eight_bytes(alloc, &[2], &[1, 3], 0)?;
+fn reads_fail_by_their_numbers(rt: HostRuntime) -> Result<(), Fail> {
+    let mut memory = eight_bytes(rt.alloc(), &[], &[1, 3], 0)?;
     let mut byte = [99u8];
     for (call, want) in [(1, false), (2, true), (3, false), (4, true)] {
         let read = memory.read(7, &mut byte);
         assert_eq!(rt; read.is_ok(), want, "read {call}");
         assert_eq!(rt; byte[0], if call == 1 { 99 } else { 17 });
     }
+    Ok(())
+}
+
+#[test]
+fn calls_fail_by_their_numbers_and_past_the_last(rt: HostRuntime) -> Result<(), Fail> {
+    let mut memory = eight_bytes(rt.alloc(), &[2], &[], 0)?;
     for call in 1..25u32 {
         let made = make(&mut memory, if call % 2 == 0 { Step::Sync } else { FIRST });
         assert_eq!(rt; made.is_ok(), call != 2 && call <= 20, "call {call}");
     }
     assert_eq!(rt; memory.size(), 8);
+    Ok(())
+}
+
+// What it keeps of past calls takes no memory.
+#[test]
+fn a_memory_takes_as_many_calls_as_there_are_numbers(rt: HostRuntime) -> Result<(), Fail> {
+    let alloc = rt.alloc();
     let image = [1u8].to_vec(alloc)?;
-    let no_calls = Vec::new(alloc);
-    let mut many = MemNvm::new(alloc, image, u32::MAX, no_calls, Vec::new(alloc), 0)?;
-    assert_eq!(rt;
-        many.sync(),
-        Ok(()),
-        "what it keeps of past calls takes no memory"
-    );
+    let mut many = MemNvm::new(alloc, image, u32::MAX, Vec::new(alloc), Vec::new(alloc), 0)?;
+    assert_eq!(rt; many.sync(), Ok(()));
     Ok(())
 }
 
