@@ -133,21 +133,40 @@ fn source_fails_at_each_call(rt: HostRuntime) -> Result<(), Fail> {
     Ok(())
 }
 
+// What a sink whose call of that number fails gained of 35 bytes, ten at a time.
+fn put_until(
+    alloc: Global,
+    bytes: &[u8],
+    call: u32,
+) -> Result<(Result<(), Failed>, MemSink), Fail> {
+    let fails = [call].to_vec(alloc)?;
+    let mut sink = MemSink::new(alloc, 100, 10, fails)?;
+    let put = put_all(&mut sink, bytes);
+    Ok((put, sink))
+}
+
 #[test]
 fn sink_fails_at_each_call(rt: HostRuntime) -> Result<(), Fail> {
     let bytes = some_bytes(rt.alloc(), 35)?;
     for call in 1..6u32 {
-        let fails = [call].to_vec(rt.alloc())?;
-        let mut sink = MemSink::new(rt.alloc(), 100, 10, fails)?;
-        let wanted = if call < 5 { Err(Failed) } else { Ok(()) };
-        assert_eq!(rt; put_all(&mut sink, &bytes), wanted, "call {call}");
-        let before = some_bytes(rt.alloc(), if call < 5 { 10 * (call - 1) } else { 35 })?;
-        assert_eq!(rt; sink.bytes(), before.as_slice(), "call {call}");
+        let (put, sink) = put_until(rt.alloc(), &bytes, call)?;
+        assert_eq!(rt; put.is_ok(), call == 5, "call {call}");
+        let gained = some_bytes(rt.alloc(), if call < 5 { 10 * (call - 1) } else { 35 })?;
+        assert_eq!(rt; sink.bytes(), gained.as_slice(), "call {call}");
     }
+    Ok(())
+}
+
+#[test]
+fn sink_fails_where_its_room_ends(rt: HostRuntime) -> Result<(), Fail> {
+    let bytes = some_bytes(rt.alloc(), 35)?;
     for room in [0usize, 1, 10, 34, 35] {
         let mut sink = MemSink::new(rt.alloc(), room, 10, Vec::new(rt.alloc()))?;
-        let wanted = if room < 35 { Err(Failed) } else { Ok(()) };
-        assert_eq!(rt; put_all(&mut sink, &bytes), wanted, "room {room}");
+        assert_eq!(rt;
+            put_all(&mut sink, &bytes).is_ok(),
+            room == 35,
+            "room {room}"
+        );
         assert_eq!(rt; sink.bytes().len(), room);
     }
     Ok(())
