@@ -4,6 +4,7 @@ use edr_core::{Core, Step};
 use edr_items::Sensor;
 use edr_record::{Crash, Extreme, Key, LONG_SLOTS, Place, Pre, Slots};
 use std::alloc::{AllocError as OutOfMemory, Global};
+use std::ops::Range;
 use std::process::Abort;
 use std::test::Fail;
 use traces::{Pulse, Trace};
@@ -65,9 +66,40 @@ const ARRIVALS: [Arrival; 3] = [
     },
 ];
 
-// What a core issues of the trace.
-fn issues_of(alloc: Global, trace: &Trace, arrival: Arrival) -> Result<Issues, Fail> {
-    let mut core = Core::open(alloc, 1)?;
+// Gives a core what a sensor of the trace has from one moment up to another.
+fn give_items(
+    core: &mut Core,
+    trace: &Trace,
+    sensor: Sensor,
+    moments: Range<u32>,
+) -> Result<(), Fail> {
+    for moment in moments {
+        if let Some(item) = trace.item(sensor, moment) {
+            core.accept(sensor, item)?;
+        }
+    }
+    Ok(())
+}
+
+// Gives a core the ticks of a round, of one sensor after the other.
+fn give_round(core: &mut Core, trace: &Trace, arrival: Arrival, first: u32) -> Result<(), Fail> {
+    let past = first
+        .saturating_add(arrival.ticks)
+        .min(trace.end.saturating_add(1));
+    for number in arrival.sensors {
+        let sensor = Sensor::from_number(number).ok_or("a sensor")?;
+        give_items(core, trace, sensor, first..past)?;
+    }
+    Ok(())
+}
+
+// What a core issues of the trace, in rounds up to its end.
+fn issue_all(
+    alloc: Global,
+    core: &mut Core,
+    trace: &Trace,
+    arrival: Arrival,
+) -> Result<Issues, Fail> {
     let mut issues = Issues {
         takes: Vec::new(alloc),
         locks: Vec::new(alloc),
@@ -78,19 +110,16 @@ fn issues_of(alloc: Global, trace: &Trace, arrival: Arrival) -> Result<Issues, F
         if first > trace.end {
             break;
         }
-        let past = first
-            .saturating_add(arrival.ticks)
-            .min(trace.end.saturating_add(1));
-        for number in arrival.sensors {
-            let sensor = Sensor::from_number(number).ok_or("a sensor")?;
-            for moment in first..past {
-                if let Some(item) = trace.item(sensor, moment) {
-                    core.accept(sensor, item)?;
-                }
-            }
-        }
-        close_all(&mut core, &mut issues)?;
+        give_round(core, trace, arrival, first)?;
+        close_all(core, &mut issues)?;
     }
+    Ok(issues)
+}
+
+// What a core issues of the trace, all of whose ticks it closes.
+fn issues_of(alloc: Global, trace: &Trace, arrival: Arrival) -> Result<Issues, Fail> {
+    let mut core = Core::open(alloc, 1)?;
+    let issues = issue_all(alloc, &mut core, trace, arrival)?;
     if core.closed() != trace.end {
         return Err("all ticks closed".into());
     }
