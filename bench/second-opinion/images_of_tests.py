@@ -1,32 +1,55 @@
 """The images that the tests of the crates build, without a proof of them.
 
-All of these tests keep an image in a `MemNvm`. In a copy of the repository that type tells its bytes, in hexadecimal digits, where a
-reader begins at offset 0 and where a test asks for them; there `rt try --test` runs the tests. It ends the program where a text that
-is changed in the copy doesn't stand there once, where a test fails, and where a crate tells fewer images than it is known to.
+All of these tests keep an image in a `MemNvm`. In copies of the repository that type tells its bytes, in hexadecimal digits, where a
+reader begins at offset 0 and where a test asks for them; there `rt try --test` runs the tests, of some copies at a time. A test that
+goes on past its seconds is stopped: what it told until then counts, and it is named. It ends the program where a text that is changed
+in a copy doesn't stand there once, where a test fails otherwise, and where a copy tells fewer images than it is known to.
 """
-import os, shutil, subprocess, sys, tempfile
+import concurrent.futures, os, re, shutil, subprocess, sys, tempfile
+from typing import NamedTuple
 
 TOP = os.path.join(os.path.dirname(os.path.abspath(__file__)), '..', '..')
-# The crates whose tests have whole images, and the least number of different ones that each must tell.
-CRATES = {'edr_gates': 10, 'edr_tests': 36, 'edr_drive': 5, 'edr_cli': 70}
-# Modules of tests that take long, or have no image: in `edr_cli` those of many replays each, which leave what those of the crates below
-# leave. The copy has none of them.
-LEFT_OUT = {
-    'crates/edr_cli/src/command_tests.rt': ('cuts', 'driven', 'every_call', 'faults', 'generated', 'orders'),
-    'crates/edr_tests/src/lib.rt': ('cores', 'dealt_sensors', 'desks', 'large_runs', 'pages', 'readings', 'split_cores', 'stands', 'words'),
+SECONDS = 120
+CLI, TESTS = 'crates/edr_cli/src/command_tests.rt', 'crates/edr_tests/src/lib.rt'
+# The modules of the top call's tests that replay once or twice, those that let each call fail in turn, and the others of many replays.
+ONCE = ('crashes', 'events', 'formats', 'images', 'migrations', 'refusals')
+FAILING = ('every_call', 'faults')
+MANY = ('cuts', 'driven', 'generated', 'orders')
+
+
+class Copy(NamedTuple):
+    """A copy's name, its crate, the least number of different images that it must tell, and in this file the modules that it lacks."""
+
+    name: str
+    crate: str
+    least: int
+    root: str = ''
+    lacks: tuple = ()
+
+
+COPIES = (
+    Copy('edr_cli, many replays', 'edr_cli', 15, CLI, ONCE + FAILING),
+    Copy('edr_cli, failing calls', 'edr_cli', 10, CLI, ONCE + MANY),
+    Copy('edr_cli, one replay', 'edr_cli', 70, CLI, FAILING + MANY),
+    # The others of these modules have no image, but for `large_runs`, whose banks nobody reads.
+    Copy('edr_tests', 'edr_tests', 36, TESTS, (
+        'cores', 'dealt_sensors', 'desks', 'large_runs', 'pages', 'readings', 'split_cores', 'stands', 'words')),
+    Copy('edr_gates', 'edr_gates', 10),
+    Copy('edr_drive', 'edr_drive', 5),
+)
+# Tests that take long and have no other image than a new one. A copy has none of them.
+LONG = {
+    'generated': ('a_large_run_is_counted_beside_the_memory',),
+    'faults': ('a_source_that_gives_the_most_is_read', 'a_source_that_gives_too_much_is_told'),
 }
-# What stands in a file once, and what the copy has in its place.
+# What stands in a file once, and what a copy has in its place.
 READ = '        self.reads = self.reads.saturating_add(1);\n'
 LOOK = '        &self.state.image\n    }\n'
 CALLS = 'impl Nvm for MemNvm {\n'
-PATCHES = {
-    'crates/edr_device/src/mem_nvm_calls.rt': {
-        READ: '        if at == 0 {\n            tell_image(&self.state.image);\n        }\n' + READ,
-        LOOK: '        tell_image(&self.state.image);\n' + LOOK,
-        CALLS: 'unsafe extern "C" {\n    safe fn tell_image(bytes: &[u8]);\n}\n\n' + CALLS,
-    },
-    'crates/edr_cli/src/command_tests.rt': {f'mod {name};\n': '' for name in LEFT_OUT['crates/edr_cli/src/command_tests.rt']},
-    'crates/edr_tests/src/lib.rt': {f'#[cfg(test)]\nmod {name};\n': '' for name in LEFT_OUT['crates/edr_tests/src/lib.rt']},
+TELLING = {
+    READ: '        if at == 0 {\n            tell_image(&self.state.image);\n        }\n' + READ,
+    LOOK: '        tell_image(&self.state.image);\n' + LOOK,
+    CALLS: 'unsafe extern "C" {\n    safe fn tell_image(bytes: &[u8]);\n}\n\n' + CALLS,
 }
 MOST = 16_480
 TELL_IMAGE = """
@@ -34,18 +57,20 @@ TELL_IMAGE = """
 #include <stddef.h>
 #include <unistd.h>
 
-/* Appends a line of digits to the file FILE. Longer memories are no images. */
+/* Appends a line of digits between < and > to the file FILE. Longer memories are no images. */
 void tell_image(const unsigned char *bytes, size_t size) {
-    char line[2 * MOST + 1];
+    char line[2 * MOST + 3];
     int file;
     if (size > MOST) return;
+    line[0] = '<';
     for (size_t i = 0; i < size; i++) {
-        line[2 * i] = "0123456789abcdef"[bytes[i] >> 4];
-        line[2 * i + 1] = "0123456789abcdef"[bytes[i] & 15];
+        line[2 * i + 1] = "0123456789abcdef"[bytes[i] >> 4];
+        line[2 * i + 2] = "0123456789abcdef"[bytes[i] & 15];
     }
-    line[2 * size] = '\\n';
+    line[2 * size + 1] = '>';
+    line[2 * size + 2] = '\\n';
     file = open(FILE, O_WRONLY | O_APPEND | O_CREAT, 0600);
-    if (file < 0 || write(file, line, 2 * size + 1) < 0 || close(file) < 0) _exit(99);
+    if (file < 0 || write(file, line, 2 * size + 3) < 0 || close(file) < 0) _exit(99);
 }
 """
 
@@ -62,45 +87,69 @@ def patch(folder, path, changes):
         file.write(text)
 
 
-def copy_of_crates(folder, told):
+def leave_out(folder, root, modules):
+    """Takes modules of tests out of the copy, and the long tests out of the others."""
+    own = os.path.join(folder, root.removesuffix('/lib.rt').removesuffix('.rt'))
+    mark = '#[cfg(test)]\n' if root.endswith('/lib.rt') else ''
+    patch(folder, root, {f'{mark}mod {name};\n': '' for name in modules})
+    for name in modules:
+        os.remove(os.path.join(own, f'{name}.rt'))
+        shutil.rmtree(os.path.join(own, name), ignore_errors=True)
+    for name, tests in LONG.items():
+        path = os.path.join(own, f'{name}.rt')
+        for test in tests if name not in modules and root == CLI else ():
+            with open(path, encoding='utf-8') as file:
+                found = re.search(rf'#\[test\]\nfn {test}\(.*?^}}\n', file.read(), re.S | re.M)
+            if found is None:
+                sys.exit(f'{name}.rt: no test {test}')
+            patch(folder, os.path.relpath(path, folder), {found[0]: ''})
+
+
+def make_copy(copy, folder, told):
     """Copies the crates, in which a `MemNvm` then tells its bytes to the file `told`."""
     shutil.copytree(os.path.join(TOP, 'crates'), os.path.join(folder, 'crates'), ignore=shutil.ignore_patterns('out'))
     for name in ('crates.txt', 'HANDLES'):
         shutil.copy(os.path.join(TOP, name), folder)
-    for path, changes in PATCHES.items():
-        patch(folder, path, changes)
-    for path, names in LEFT_OUT.items():
-        modules = os.path.join(folder, path.removesuffix('/lib.rt').removesuffix('.rt'))
-        for name in names:
-            os.remove(os.path.join(modules, f'{name}.rt'))
-            shutil.rmtree(os.path.join(modules, name), ignore_errors=True)
+    patch(folder, 'crates/edr_device/src/mem_nvm_calls.rt', TELLING)
+    if copy.root:
+        leave_out(folder, copy.root, copy.lacks)
     os.mkdir(os.path.join(folder, 'crates', 'edr_device', 'c'))
     with open(os.path.join(folder, 'crates', 'edr_device', 'c', 'tell_image.c'), 'w') as file:
         file.write(f'#define FILE "{told}"\n#define MOST {MOST}\n{TELL_IMAGE}')
 
 
-def told_by(crate, least, folder, told):
-    """The different images that the tests of a crate tell."""
-    done = subprocess.run(
-        ['rt', 'try', '--test', '--seconds', '1200'], cwd=os.path.join(folder, 'crates', crate), stdin=subprocess.DEVNULL,
-        env={**os.environ, 'RT_ALLOW_C': 'edr_device'}, capture_output=True, text=True)
-    if done.returncode:
-        sys.exit(f'{crate}: its tests end with {done.returncode}:\n{done.stdout}{done.stderr}')
-    with open(told) as file:
-        images = {bytes.fromhex(line) for line in file} - {b''}
-    os.remove(told)
-    print(f'{crate}: {len(images)} images', flush=True)
-    if len(images) < least:
-        sys.exit(f'{crate}: its tests tell {len(images)} images, and not {least}')
-    return images
+def stopped_tests(copy, done):
+    """The tests that went on past their seconds. Any other failure ends the program."""
+    said = done.stdout + done.stderr
+    if done.returncode == 0:
+        return []
+    failed = re.findall(r'^test (\S+) \.\.\. FAILED\n((?:    .*\n)*)', said, re.M)
+    if not failed or not all('no-answer: the program did not end within the time limit' in why for _, why in failed):
+        sys.exit(f'{copy.name}: its tests end with {done.returncode}:\n{said}')
+    return [name for name, _ in failed]
 
 
-def images_of_tests():
-    """The different images of all these tests, in one order."""
+def told_by(copy):
+    """The different images that the tests of a copy tell."""
     folder = tempfile.mkdtemp(dir='/dev/shm')
     try:
         told = os.path.join(folder, 'told')
-        copy_of_crates(folder, told)
-        return sorted(set().union(*(told_by(crate, least, folder, told) for crate, least in CRATES.items())))
+        make_copy(copy, folder, told)
+        done = subprocess.run(
+            ['rt', 'try', '--test', '--seconds', str(SECONDS)], cwd=os.path.join(folder, 'crates', copy.crate),
+            stdin=subprocess.DEVNULL, env={**os.environ, 'RT_ALLOW_C': 'edr_device'}, capture_output=True, text=True)
+        stopped = stopped_tests(copy, done)
+        with open(told) as file:
+            images = {bytes.fromhex(digits) for digits in re.findall(r'<([0-9a-f]+)>', file.read())}
     finally:
         shutil.rmtree(folder)
+    print('; stopped: '.join([f'{copy.name}: {len(images)} images', *stopped]), flush=True)
+    if len(images) < copy.least:
+        sys.exit(f'{copy.name}: its tests tell {len(images)} images, and not {copy.least}')
+    return images
+
+
+def images_of_tests(jobs):
+    """The different images of all these tests, in one order. So many copies are tried at a time."""
+    with concurrent.futures.ThreadPoolExecutor(jobs) as pool:
+        return sorted(set().union(*pool.map(told_by, COPIES)))
