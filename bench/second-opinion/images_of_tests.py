@@ -33,7 +33,8 @@ COPIES = (
     Copy('edr_cli, one replay', 'edr_cli', 70, CLI, FAILING + MANY),
     # The others of these modules have no image, but for `large_runs`, whose banks nobody reads.
     Copy('edr_tests', 'edr_tests', 36, TESTS, (
-        'cores', 'dealt_sensors', 'desks', 'large_runs', 'pages', 'readings', 'split_cores', 'stands', 'words')),
+        'boards', 'cores', 'dealt_sensors', 'desks', 'detectors', 'freezes', 'generators', 'large_runs', 'logs', 'pages', 'readings',
+        'split_cores', 'stands', 'windows', 'words')),
     Copy('edr_gates', 'edr_gates', 10),
     Copy('edr_drive', 'edr_drive', 5),
 )

@@ -93,7 +93,5 @@ pub mod forms;
 pub mod laws;
 mod log;
 pub mod places;
-#[cfg(test)]
-mod tests;
 
 pub use log::{CycleReport, Log};

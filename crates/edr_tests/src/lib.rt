@@ -15,6 +15,8 @@ mod desks;
 #[cfg(test)]
 mod large_runs;
 #[cfg(test)]
+mod logs;
+#[cfg(test)]
 mod migrations;
 #[cfg(test)]
 mod pages;
@@ -28,5 +30,7 @@ mod runs;
 mod split_cores;
 #[cfg(test)]
 mod stands;
+#[cfg(test)]
+mod windows;
 #[cfg(test)]
 mod words;

@@ -135,6 +135,3 @@ impl<const K: usize> Swing<K> {
         self.rests = false;
     }
 }
-
-#[cfg(test)]
-mod tests;

@@ -1,4 +1,4 @@
-use super::*;
+use edr_image::{Ack, Applied, Kind, Log};
 use std::test::Fail;
 
 #[test]
