@@ -224,8 +224,3 @@ pub fn no_word_falls()
     ensures opened { IsBoard opening }
     ensures steps { (a b : Moment) (between : List Moment) → IsBoard a → Leads a between b → KeepsTheRule a b }
 {}
-
-#[cfg(test)]
-mod freeze_tests;
-#[cfg(test)]
-mod tests;

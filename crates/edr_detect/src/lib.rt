@@ -8,6 +8,3 @@ mod windows;
 
 pub use detector::Detect;
 pub use stage::Change;
-
-#[cfg(test)]
-mod tests;

@@ -7,8 +7,6 @@ mod gathered;
 pub mod laws;
 mod pages;
 mod plan;
-#[cfg(test)]
-mod tests;
 mod traces;
 
 pub use cycles::Generator;

@@ -5,6 +5,8 @@
 #[cfg(test)]
 mod banks;
 #[cfg(test)]
+mod boards;
+#[cfg(test)]
 mod cores;
 #[cfg(test)]
 mod cycles;
@@ -12,6 +14,12 @@ mod cycles;
 mod dealt_sensors;
 #[cfg(test)]
 mod desks;
+#[cfg(test)]
+mod detectors;
+#[cfg(test)]
+mod freezes;
+#[cfg(test)]
+mod generators;
 #[cfg(test)]
 mod large_runs;
 #[cfg(test)]

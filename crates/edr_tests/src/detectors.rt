@@ -1,6 +1,6 @@
 ghost use Rattle.std.specs.Prelude.{◌≤◌, unsigned_abs};
 
-use super::*;
+use edr_detect::{Change, Detect};
 use edr_items::Restraints;
 use std::alloc::{AllocError as OutOfMemory, Global};
 use std::test::Fail;
