@@ -1,31 +1,31 @@
 -- A run is never stuck and never ahead, the order of arrival is free, and what stands at a closed tick stays.
-use Rattle.std.proofs.Common.{ℤ, pos, Option, unwrap_or, unsigned_abs, arith, refl, sym, ap, subst, ◌≡◌, ◌∙◌, ℕ, ◌+◌, ◌-◌, ◌<◌, ◌≤◌, ◌⊎◌, inl, inr, None, List, [], ◌∷◌, ◌++◌, append-nil, append_assoc}
+use Rattle.std.proofs.Common.{ℤ, pos, Bool, true, cond, nat_eq, Option, unwrap_or, unsigned_abs, arith, sym, ap, subst, ◌≡◌, ◌∙◌, ℕ, ◌+◌, ◌-◌, ◌<◌, ◌≤◌, ◌⊎◌, inl, inr, None, List, [], ◌∷◌, ◌++◌, append-nil, append_assoc}
 use Rattle.std.proofs.lemmas.Bool.{cases_lt}
 use Rattle.edr_items.specs.declared.TheConstants.{LONGEST_GAP}
 use Rattle.edr_items.specs.declared.Sensor.{Sensor}
-use Rattle.edr_items.specs.declared.Sensor.TheVariants.{Along, Across, Speed, Throttle, Brake, Belt, Lamp, Restraint}
+use Rattle.edr_items.specs.declared.Sensor.TheVariants.{Along, Across, Restraint}
+use Rattle.edr_items.specs.Sensor.{number_of}
 use Rattle.edr_items.specs.declared.Item.{Item}
 use Rattle.edr_items.specs.Item.{refusal_of, mark_of, IsFeed}
 use Rattle.edr_items.specs.SensorLists.{SensorLists, items_of, AreFeeds, horizon_of, IsLevel}
 use Rattle.edr_items.proofs.FeedLemmas.{refusal_of-rises}
+use Rattle.edr_items.proofs.PerSensorLemmas.{with_value-others, each_or_some, values-same}
 use Rattle.edr_definitions.specs.Signals.{sample_at, signals_of}
 use Rattle.edr_definitions.specs.Facts.{AgreeUpTo}
 use Rattle.edr_definitions.proofs.LaterLaws.{sample_at-push}
 use Rattle.edr_definitions.specs.Schedule.{Progress, Step, Give, Close, with_item, MayGive, after_step, after_steps, given_by, items_given, BeginsWith, IsNext, IsUnderWay, GoesOn, IsOver}
-use Rattle.edr_definitions.proofs.MarkLaws.{with_items-each, mark-push, each_or_some, lists-same, AreFeeds-each, mark-more, feed-next, horizon-least, horizon-above, horizon-more, horizon-with_item}
+use Rattle.edr_definitions.proofs.MarkLaws.{with_items-each, mark-push, AreFeeds-each, mark-more, feed-next, horizon-least, horizon-above, horizon-more, horizon-with_item}
 
 -- ---- the order of arrival
 -- one more item of a sensor is at the end of its list, and in no other
 items-with_item : (s r : Sensor) (x : Item) (f : SensorLists) → items_of s (with_item r x f) ≡ items_of s f ++ given_by s (Give r x)
-items-with_item Along Along x f = refl
-items-with_item Across Across x f = refl
-items-with_item Speed Speed x f = refl
-items-with_item Throttle Throttle x f = refl
-items-with_item Brake Brake x f = refl
-items-with_item Belt Belt x f = refl
-items-with_item Lamp Lamp x f = refl
-items-with_item Restraint Restraint x f = refl
-items-with_item s r x f = sym (append-nil (items_of s f))
+items-with_item s r x f =
+    with_value-others (λ q (xs : List Item). xs ≡ items_of q f ++ given_by q (Give r x)) r (items_of r f ++ x ∷ []) f
+    (ap (λ (b : Bool). items_of r f ++ cond b (x ∷ []) []) (sym (eqb_same (number_of r))))
+    (λ q other. sym (append-nil (items_of q f)) ∙ ap (λ (b : Bool). items_of q f ++ cond b (x ∷ []) []) (sym other)) s
+  where
+    eqb_same : (n : ℕ) → nat_eq n n ≡ true
+    eqb_same n = search arith
 
 items-after_step : (s : Sensor) (p : Progress) (step : Step) → items_of s (after_step p step).given ≡ items_of s p.given ++ given_by s step
 items-after_step s p (Give r x) = items-with_item s r x p.given
@@ -39,7 +39,7 @@ items-after_steps p (step ∷ steps) s =
 
 pub steps-same : (p : Progress) (steps others : List Step) → ((s : Sensor) → items_given s steps ≡ items_given s others) → (after_steps p steps).given ≡ (after_steps p others).given
 steps-same p steps others same =
-    lists-same (after_steps p steps).given (after_steps p others).given
+    values-same (after_steps p steps).given (after_steps p others).given
     (λ s. items-after_steps p steps s ∙ ap (λ xs. items_of s p.given ++ xs) (same s) ∙ sym (items-after_steps p others s))
 
 -- ---- never ahead, never stuck
@@ -102,7 +102,7 @@ module _ (f : SensorLists) (p : Progress) (feeds : AreFeeds f) (level : IsLevel 
 
   at_end : p.closed ≡ horizon_of f → GoesOn f p ⊎ IsOver f p
   at_end e = elim (each_or_some (λ s. items_of s p.given ≡ items_of s f) (λ s. (x : Item) × IsNext f p s x) all_or_next) [
-    | inl all ↦ inr (record { all_given = lists-same p.given f all; all_closed = e })
+    | inl all ↦ inr (record { all_given = values-same p.given f all; all_closed = e })
     | inr some ↦ inl (gives some.0 some.1.0 some.1.1 (never_ahead some.0 some.1.0 some.1.1 (inr e)))
   ]
 

@@ -1,11 +1,11 @@
--- Feeds are level exactly where no sensor lags.
+-- Marks and the horizon; feeds are level exactly where no sensor lags.
 use Rattle.std.proofs.Common.{arith, ap, sym, ◌≡◌, ◌∙◌, refl, ℕ, suc, ◌+◌, ◌<◌, ◌≤◌, Bool, true, false, cond, nat_lt, Some, None, List, [], ◌∷◌, length, drop, slice_index_or, drop-cons, add-one}
 use Rattle.std.proofs.lemmas.Bool.Decides.{nat_tests}
 use Rattle.std.specs.List.{find}
 use Rattle.edr_items.specs.declared.Sensor.{Sensor}
 use Rattle.edr_items.specs.declared.Sensor.TheVariants.{Along, Across, Speed, Throttle, Brake, Belt, Lamp, Restraint}
 use Rattle.edr_items.specs.Item.{mark_of}
-use Rattle.edr_items.specs.SensorLists.{SensorLists, items_of, greatest_mark, sensors, is_behind, lagging_of, IsLevel}
+use Rattle.edr_items.specs.SensorLists.{SensorLists, items_of, horizon_of, greatest_mark, sensors, is_behind, lagging_of, IsLevel}
 
 -- each mark is at most the greatest
 pub mark-le_greatest : (f : SensorLists) (r : Sensor) → mark_of (items_of r f) ≤ greatest_mark f
@@ -21,6 +21,30 @@ mark-le_greatest f Restraint = omega arith
 -- what all marks are below, the greatest is
 greatest-below : (f : SensorLists) (n : ℕ) → ((r : Sensor) → mark_of (items_of r f) ≤ n) → greatest_mark f ≤ n
 greatest-below f n h =
+    let a = h Along in
+    let b = h Across in
+    let c = h Speed in
+    let d = h Throttle in
+    let e = h Brake in
+    let g = h Belt in
+    let i = h Lamp in
+    let j = h Restraint in
+    omega arith
+
+-- no mark is below the horizon
+pub horizon-least : (f : SensorLists) (s : Sensor) → horizon_of f ≤ mark_of (items_of s f)
+horizon-least f Along = omega arith
+horizon-least f Across = omega arith
+horizon-least f Speed = omega arith
+horizon-least f Throttle = omega arith
+horizon-least f Brake = omega arith
+horizon-least f Belt = omega arith
+horizon-least f Lamp = omega arith
+horizon-least f Restraint = omega arith
+
+-- what no mark is below, the horizon isn't below
+pub horizon-above : (f : SensorLists) (n : ℕ) → ((s : Sensor) → n ≤ mark_of (items_of s f)) → n ≤ horizon_of f
+horizon-above f n h =
     let a = h Along in
     let b = h Across in
     let c = h Speed in
