@@ -1,14 +1,16 @@
 -- What one more sensor row gives.
-use Rattle.std.proofs.Common.{◌≡◌, ◌∙◌, ap, refl, ℕ, true, false, None, List, [], ◌∷◌, ◌++◌, map}
+use Rattle.std.proofs.Common.{arith, ◌≡◌, ◌∙◌, ap, sym, refl, nat_eq, ℕ, true, false, None, List, [], ◌∷◌, ◌++◌, map}
 use Rattle.std.specs.List.{filter}
 use Rattle.std.proofs.lemmas.List.{append-nil, map-append}
 use Rattle.std.proofs.lemmas.List.Elements.{filter-append}
 use Rattle.edr_items.specs.declared.Sensor.{Sensor}
 use Rattle.edr_items.specs.declared.Sensor.TheVariants.{Along, Across, Speed, Throttle, Brake, Belt, Lamp, Restraint}
 use Rattle.edr_items.specs.declared.Item.{Item}
+use Rattle.edr_items.specs.Sensor.{number_of}
 use Rattle.edr_items.specs.Item.{mark_from, mark_of, IsFeedAfter, IsFeed}
 use Rattle.edr_items.specs.SensorLists.{SensorLists, items_of, with_items, AreFeeds, no_items}
 use Rattle.edr_items.proofs.FeedLemmas.{IsFeedAfter-push}
+use Rattle.edr_items.proofs.PerSensorLemmas.{values-same, with_value-each, with_value-others}
 use Rattle.edr_spell.specs.Samples.{Sample, is_of, items_given, feeds_given}
 use Rattle.edr_spell.specs.Fault.{item_fault}
 use Rattle.edr_spell.proofs.ItemLemmas.{item_fault-accepts, accepted-item_fault}
@@ -32,6 +34,9 @@ items_of-given Belt xs = refl
 items_of-given Lamp xs = refl
 items_of-given Restraint xs = refl
 
+eqb_same : (n : ℕ) → nat_eq n n ≡ true
+eqb_same n = search arith
+
 -- one more row of a sensor gives that sensor one more item, and the others none
 given-same : (s : Sensor) (xs : List Sample) (x : Sample) → is_of s x ≡ true → items_given s (xs ++ x ∷ []) ≡ items_given s xs ++ x.item ∷ []
 given-same s xs x e = items_given-append s xs (x ∷ []) ∙ ap (λ (ys : List Item). items_given s xs ++ ys) (rw e refl)
@@ -40,106 +45,13 @@ given-other : (s : Sensor) (xs : List Sample) (x : Sample) → is_of s x ≡ fal
 given-other s xs x e = items_given-append s xs (x ∷ []) ∙ ap (λ (ys : List Item). items_given s xs ++ ys) (rw e refl) ∙ append-nil (items_given s xs)
 
 pub feeds_given-push : (xs : List Sample) (s : Sensor) (x : Item) → feeds_given (xs ++ record { sensor = s; item = x } ∷ []) ≡ with_items s (items_of s (feeds_given xs) ++ x ∷ []) (feeds_given xs)
-unfolding feeds_given
-feeds_given-push xs Along x =
-    let z : Sample = record { sensor = Along; item = x } in
-    let a = given-same Along xs z refl in
-    let b = given-other Across xs z refl in
-    let c = given-other Speed xs z refl in
-    let d = given-other Throttle xs z refl in
-    let e = given-other Brake xs z refl in
-    let g = given-other Belt xs z refl in
-    let h = given-other Lamp xs z refl in
-    let i = given-other Restraint xs z refl in
-    rw (a, b, c, d, e, g, h, i) refl
-feeds_given-push xs Across x =
-    let z : Sample = record { sensor = Across; item = x } in
-    let a = given-other Along xs z refl in
-    let b = given-same Across xs z refl in
-    let c = given-other Speed xs z refl in
-    let d = given-other Throttle xs z refl in
-    let e = given-other Brake xs z refl in
-    let g = given-other Belt xs z refl in
-    let h = given-other Lamp xs z refl in
-    let i = given-other Restraint xs z refl in
-    rw (a, b, c, d, e, g, h, i) refl
-feeds_given-push xs Speed x =
-    let z : Sample = record { sensor = Speed; item = x } in
-    let a = given-other Along xs z refl in
-    let b = given-other Across xs z refl in
-    let c = given-same Speed xs z refl in
-    let d = given-other Throttle xs z refl in
-    let e = given-other Brake xs z refl in
-    let g = given-other Belt xs z refl in
-    let h = given-other Lamp xs z refl in
-    let i = given-other Restraint xs z refl in
-    rw (a, b, c, d, e, g, h, i) refl
-feeds_given-push xs Throttle x =
-    let z : Sample = record { sensor = Throttle; item = x } in
-    let a = given-other Along xs z refl in
-    let b = given-other Across xs z refl in
-    let c = given-other Speed xs z refl in
-    let d = given-same Throttle xs z refl in
-    let e = given-other Brake xs z refl in
-    let g = given-other Belt xs z refl in
-    let h = given-other Lamp xs z refl in
-    let i = given-other Restraint xs z refl in
-    rw (a, b, c, d, e, g, h, i) refl
-feeds_given-push xs Brake x =
-    let z : Sample = record { sensor = Brake; item = x } in
-    let a = given-other Along xs z refl in
-    let b = given-other Across xs z refl in
-    let c = given-other Speed xs z refl in
-    let d = given-other Throttle xs z refl in
-    let e = given-same Brake xs z refl in
-    let g = given-other Belt xs z refl in
-    let h = given-other Lamp xs z refl in
-    let i = given-other Restraint xs z refl in
-    rw (a, b, c, d, e, g, h, i) refl
-feeds_given-push xs Belt x =
-    let z : Sample = record { sensor = Belt; item = x } in
-    let a = given-other Along xs z refl in
-    let b = given-other Across xs z refl in
-    let c = given-other Speed xs z refl in
-    let d = given-other Throttle xs z refl in
-    let e = given-other Brake xs z refl in
-    let g = given-same Belt xs z refl in
-    let h = given-other Lamp xs z refl in
-    let i = given-other Restraint xs z refl in
-    rw (a, b, c, d, e, g, h, i) refl
-feeds_given-push xs Lamp x =
-    let z : Sample = record { sensor = Lamp; item = x } in
-    let a = given-other Along xs z refl in
-    let b = given-other Across xs z refl in
-    let c = given-other Speed xs z refl in
-    let d = given-other Throttle xs z refl in
-    let e = given-other Brake xs z refl in
-    let g = given-other Belt xs z refl in
-    let h = given-same Lamp xs z refl in
-    let i = given-other Restraint xs z refl in
-    rw (a, b, c, d, e, g, h, i) refl
-feeds_given-push xs Restraint x =
-    let z : Sample = record { sensor = Restraint; item = x } in
-    let a = given-other Along xs z refl in
-    let b = given-other Across xs z refl in
-    let c = given-other Speed xs z refl in
-    let d = given-other Throttle xs z refl in
-    let e = given-other Brake xs z refl in
-    let g = given-other Belt xs z refl in
-    let h = given-other Lamp xs z refl in
-    let i = given-same Restraint xs z refl in
-    rw (a, b, c, d, e, g, h, i) refl
-
--- feeds with one more item that has no fault are feeds
-pub AreFeeds-push : (f : SensorLists) (s : Sensor) (x : Item) → AreFeeds f → item_fault s (mark_of (items_of s f)) x ≡ None → AreFeeds (with_items s (items_of s f ++ x ∷ []) f)
-AreFeeds-push f Along x fed h = let ok = item_fault-accepts Along (mark_of f.along) x h in record { along = IsFeedAfter-push Along 0 f.along x fed.along ok.0 ok.1; across = fed.across; speed = fed.speed; throttle = fed.throttle; brake = fed.brake; belt = fed.belt; lamp = fed.lamp; restraint = fed.restraint }
-AreFeeds-push f Across x fed h = let ok = item_fault-accepts Across (mark_of f.across) x h in record { along = fed.along; across = IsFeedAfter-push Across 0 f.across x fed.across ok.0 ok.1; speed = fed.speed; throttle = fed.throttle; brake = fed.brake; belt = fed.belt; lamp = fed.lamp; restraint = fed.restraint }
-AreFeeds-push f Speed x fed h = let ok = item_fault-accepts Speed (mark_of f.speed) x h in record { along = fed.along; across = fed.across; speed = IsFeedAfter-push Speed 0 f.speed x fed.speed ok.0 ok.1; throttle = fed.throttle; brake = fed.brake; belt = fed.belt; lamp = fed.lamp; restraint = fed.restraint }
-AreFeeds-push f Throttle x fed h = let ok = item_fault-accepts Throttle (mark_of f.throttle) x h in record { along = fed.along; across = fed.across; speed = fed.speed; throttle = IsFeedAfter-push Throttle 0 f.throttle x fed.throttle ok.0 ok.1; brake = fed.brake; belt = fed.belt; lamp = fed.lamp; restraint = fed.restraint }
-AreFeeds-push f Brake x fed h = let ok = item_fault-accepts Brake (mark_of f.brake) x h in record { along = fed.along; across = fed.across; speed = fed.speed; throttle = fed.throttle; brake = IsFeedAfter-push Brake 0 f.brake x fed.brake ok.0 ok.1; belt = fed.belt; lamp = fed.lamp; restraint = fed.restraint }
-AreFeeds-push f Belt x fed h = let ok = item_fault-accepts Belt (mark_of f.belt) x h in record { along = fed.along; across = fed.across; speed = fed.speed; throttle = fed.throttle; brake = fed.brake; belt = IsFeedAfter-push Belt 0 f.belt x fed.belt ok.0 ok.1; lamp = fed.lamp; restraint = fed.restraint }
-AreFeeds-push f Lamp x fed h = let ok = item_fault-accepts Lamp (mark_of f.lamp) x h in record { along = fed.along; across = fed.across; speed = fed.speed; throttle = fed.throttle; brake = fed.brake; belt = fed.belt; lamp = IsFeedAfter-push Lamp 0 f.lamp x fed.lamp ok.0 ok.1; restraint = fed.restraint }
-AreFeeds-push f Restraint x fed h = let ok = item_fault-accepts Restraint (mark_of f.restraint) x h in record { along = fed.along; across = fed.across; speed = fed.speed; throttle = fed.throttle; brake = fed.brake; belt = fed.belt; lamp = fed.lamp; restraint = IsFeedAfter-push Restraint 0 f.restraint x fed.restraint ok.0 ok.1 }
+feeds_given-push xs s x =
+    let z : Sample = record { sensor = s; item = x } in
+    let f = feeds_given xs in
+    let more = with_value-others (λ r (ys : List Item). items_given r (xs ++ z ∷ []) ≡ ys) s (items_of s f ++ x ∷ []) f
+    (given-same s xs z (eqb_same (number_of s)) ∙ ap (λ (ys : List Item). ys ++ x ∷ []) (sym (items_of-given s xs)))
+    (λ r other. given-other r xs z other ∙ sym (items_of-given r xs)) in
+    values-same (feeds_given (xs ++ z ∷ [])) (with_items s (items_of s f ++ x ∷ []) f) (λ r. items_of-given r (xs ++ z ∷ []) ∙ more r)
 
 pub IsFeed-of : (s : Sensor) (f : SensorLists) → AreFeeds f → IsFeed s (items_of s f)
 IsFeed-of Along f fed = fed.along
@@ -150,6 +62,23 @@ IsFeed-of Brake f fed = fed.brake
 IsFeed-of Belt f fed = fed.belt
 IsFeed-of Lamp f fed = fed.lamp
 IsFeed-of Restraint f fed = fed.restraint
+
+-- feeds with one more item that has no fault are feeds
+pub AreFeeds-push : (f : SensorLists) (s : Sensor) (x : Item) → AreFeeds f → item_fault s (mark_of (items_of s f)) x ≡ None → AreFeeds (with_items s (items_of s f ++ x ∷ []) f)
+AreFeeds-push f s x fed h = record {
+  along = feed Along;
+  across = feed Across;
+  speed = feed Speed;
+  throttle = feed Throttle;
+  brake = feed Brake;
+  belt = feed Belt;
+  lamp = feed Lamp;
+  restraint = feed Restraint;
+} where
+  feed : (r : Sensor) → IsFeed r (items_of r (with_items s (items_of s f ++ x ∷ []) f))
+  feed =
+      let ok = item_fault-accepts s (mark_of (items_of s f)) x h in
+      with_value-each IsFeed s (items_of s f ++ x ∷ []) f (IsFeedAfter-push s 0 (items_of s f) x (IsFeed-of s f fed) ok.0 ok.1) (λ r. IsFeed-of r f fed)
 
 -- what stands within a feed is accepted after what is before it
 pub IsFeedAfter-within : (s : Sensor) (last : ℕ) (xs ys : List Item) (x : Item) → IsFeedAfter s last (xs ++ x ∷ ys) → item_fault s (mark_from last xs) x ≡ None
