@@ -8,7 +8,7 @@ use Rattle.edr_device.specs.Device.{IsQuiet, MayLeave, is_in}
 use Rattle.edr_device.specs.Pieces.{SameBut, put_at}
 use Rattle.edr_device.proofs.Settling.{put_same, quiet_leaves}
 use Rattle.edr_image.specs.Image.{magic}
-use Rattle.edr_banks.specs.Laying.{IsFilled, IsImageOf, IsOver, IsPartlyOver, IsUnmarked, IsUnmarking, LacksMagic, StandsPast, first_magic, over}
+use Rattle.edr_banks.specs.Laying.{IsFilled, IsImageOf, IsLaidOver, IsPartlyOver, IsUnmarked, IsUnmarking, LacksMagic, StandsPast, first_magic, over}
 use Rattle.edr_banks.proofs.LaidPieces.{over_past, over_size, over_there}
 
 -- ---- the magic
@@ -125,9 +125,9 @@ part_before full target bytes now image some but bare part = record {
   past = λ i from below. part.past i from (omega (arith, but.size)) ∙ but.same i below (not_first i (omega arith));
   says = ⊎_elim
       (λ (same : image ≡ now). inr (inl (lacks image (λ e. bare (sym (ap (λ (xs : List ℕ). slice_index xs 0) same) ∙ e)))))
-      (λ (other : LacksMagic image ⊎ IsOver full target now image). ⊎_elim
+      (λ (other : LacksMagic image ⊎ IsLaidOver full target now image). ⊎_elim
       (λ (none : LacksMagic image). inr (inl none))
-      (λ (new : IsOver full target now image). inr (inr (new ∙ over_same full target bytes now some but)))
+      (λ (new : IsLaidOver full target now image). inr (inr (new ∙ over_same full target bytes now some but)))
       other)
       part.says;
 }

@@ -15,7 +15,7 @@ use Rattle.edr_banks.specs.Formatting.{IsNew, IsPartlyFormatted, formatted, new_
 use Rattle.edr_banks.proofs.NewImage.{new_image_size, zeros_behind}
 use Rattle.edr_layout.proofs.NewFront.{front, new_image_is}
 use Rattle.edr_banks.proofs.LaidPieces.{over_size, over_there}
-use Rattle.edr_banks.specs.Laying.{IsOver, IsPartlyOver, LacksMagic, over}
+use Rattle.edr_banks.specs.Laying.{IsLaidOver, IsPartlyOver, LacksMagic, over}
 
 few_banks : (n : ℕ) → 2 ≤ n → n ≤ 16 → (nat_lt n 2 || nat_lt 16 n) ≡ false
 few_banks n low high = grind (arith, nat_tests)
@@ -105,9 +105,9 @@ formatted_part h bytes image low high part = record {
   past = part.past;
   says = ⊎_elim
       (λ (same : image ≡ bytes). inl same)
-      (λ (other : LacksMagic image ⊎ IsOver (image_size h.banks) (new_image h) bytes image). inr (⊎_elim
+      (λ (other : LacksMagic image ⊎ IsLaidOver (image_size h.banks) (new_image h) bytes image). inr (⊎_elim
       (λ (none : LacksMagic image). inl none)
-      (λ (new : IsOver (image_size h.banks) (new_image h) bytes image). inr (formatted_new h bytes image low high (laid_wide (image_size h.banks) (new_image h) bytes image (new_image_size h) new part.size) new))
+      (λ (new : IsLaidOver (image_size h.banks) (new_image h) bytes image). inr (formatted_new h bytes image low high (laid_wide (image_size h.banks) (new_image h) bytes image (new_image_size h) new part.size) new))
       other))
       part.says;
 }

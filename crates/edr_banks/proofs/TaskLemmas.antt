@@ -15,10 +15,10 @@ use Rattle.edr_image.specs.declared.BankView.TheVariants.{Void, Event}
 use Rattle.edr_image.specs.Banks.{bank_at, is_unlocked, least_unlocked, lowest_void, to_overwrite, with_bank}
 use Rattle.edr_image.specs.Steps.{Lock, Reply, done_reply, lock_reply, new_record, not_kept, reply_to, take_reply, with_lock}
 use Rattle.edr_image.proofs.StepLaws.{get_set_here, least_unlocked-is, lowest_void-is, place_holds}
-use Rattle.edr_gates.specs.Taken.{Holds, MayTakeAll}
-use Rattle.edr_banks.specs.Opened.{IsOpened, Opened}
+use Rattle.edr_gates.specs.Taken.{BankHolds, MayTakeAll}
+use Rattle.edr_banks.specs.Opened.{IsOpened, OpenedBanks}
 use Rattle.edr_banks.specs.Applying.{reply_of}
-use Rattle.edr_banks.specs.Tasks.{IsWithin, steps_of}
+use Rattle.edr_banks.specs.Tasks.{IsBankWithin, steps_of}
 use Rattle.edr_banks.specs.declared.tasks.Task.{Task}
 use Rattle.edr_banks.specs.declared.tasks.Task.TheVariants as task
 
@@ -27,21 +27,21 @@ use Rattle.edr_banks.specs.declared.tasks.Task.TheVariants as task
 numbered : (i m : ℕ) → m ≡ i + 1 → (1 ≤ m) × (m - 1 ≡ i)
 numbered i m e = (omega (arith, e), omega (arith, e))
 
-void_holds : (banks : List BankView) (m : ℕ) → lowest_void banks ≡ Some m → Holds banks m Void
+void_holds : (banks : List BankView) (m : ℕ) → lowest_void banks ≡ Some m → BankHolds banks m Void
 void_holds banks m e =
     let found = lowest_void-is banks m e in
     let n = numbered found.0 m found.1 in (n.0, ap (λ (i : ℕ). slice_get banks i) n.1 ∙ found.2)
 
 -- an older event may go: its bank is void then
-older_holds : (banks : List BankView) (m : ℕ) → least_unlocked banks ≡ Some m → (r : Record) × Holds banks m (Event r)
+older_holds : (banks : List BankView) (m : ℕ) → least_unlocked banks ≡ Some m → (r : Record) × BankHolds banks m (Event r)
 older_holds banks m e =
     let found = least_unlocked-is banks m e in
     let n = numbered found.0 m found.1 in (found.2, (n.0, ap (λ (i : ℕ). slice_get banks i) n.1 ∙ found.3))
 
-set_holds : (banks : List BankView) (m : ℕ) (old new : BankView) → Holds banks m old → Holds (with_bank banks m new) m new
+set_holds : (banks : List BankView) (m : ℕ) (old new : BankView) → BankHolds banks m old → BankHolds (with_bank banks m new) m new
 set_holds banks m old new h = (h.0, get_set_here banks (m - 1) old new h.1)
 
-take_may : (banks : List BankView) (pre : PrePart) (void older : Option ℕ) → ((m : ℕ) → void ≡ Some m → Holds banks m Void) → ((m : ℕ) → older ≡ Some m → (r : Record) × Holds banks m (Event r)) → MayTakeAll banks (take_reply pre void older).steps
+take_may : (banks : List BankView) (pre : PrePart) (void older : Option ℕ) → ((m : ℕ) → void ≡ Some m → BankHolds banks m Void) → ((m : ℕ) → older ≡ Some m → (r : Record) × BankHolds banks m (Event r)) → MayTakeAll banks (take_reply pre void older).steps
 take_may banks pre (Some m) older voids olders = (voids m refl, tt)
 take_may banks pre None (Some m) voids olders = let was = olders m refl in (was, (set_holds banks m (Event was.0) Void was.1, tt))
 take_may banks pre None None voids olders = tt
@@ -53,13 +53,13 @@ unlocked_record r e = by_lock r.locked e where
   by_lock true e = cc
   by_lock false e = refl
 
-lock_held : (banks : List BankView) (m : ℕ) (r : Record) (b : Bool) → Holds banks m (Event r) → is_unlocked (bank_at banks m) ≡ b → MayTakeAll banks (let x : Reply = cond b (record { steps = Lock m ∷ []; answer = applied.Locked m }) not_kept in x.steps)
+lock_held : (banks : List BankView) (m : ℕ) (r : Record) (b : Bool) → BankHolds banks m (Event r) → is_unlocked (bank_at banks m) ≡ b → MayTakeAll banks (let x : Reply = cond b (record { steps = Lock m ∷ []; answer = applied.Locked m }) not_kept in x.steps)
 lock_held banks m r true h e =
     let there : bank_at banks m ≡ Event r = place_holds banks (m - 1) (Event r) Void h.1 in
     ((r, h, unlocked_record r (ap is_unlocked (sym there) ∙ e)), tt)
 lock_held banks m r false h e = tt
 
-lock_may : (banks : List BankView) (pre : PrePart) (held older : Option ℕ) → ((m : ℕ) → held ≡ Some m → (r : Record) × Holds banks m (Event r)) → ((m : ℕ) → older ≡ Some m → (r : Record) × Holds banks m (Event r)) → MayTakeAll banks (lock_reply pre banks held older).steps
+lock_may : (banks : List BankView) (pre : PrePart) (held older : Option ℕ) → ((m : ℕ) → held ≡ Some m → (r : Record) × BankHolds banks m (Event r)) → ((m : ℕ) → older ≡ Some m → (r : Record) × BankHolds banks m (Event r)) → MayTakeAll banks (lock_reply pre banks held older).steps
 lock_may banks pre (Some m) older helds olders = let h = helds m refl in lock_held banks m h.0 (is_unlocked (bank_at banks m)) h.1 refl
 lock_may banks pre None (Some m) helds olders =
     let was = olders m refl in
@@ -68,18 +68,18 @@ lock_may banks pre None (Some m) helds olders =
     (was, (void, ((new_record pre, new, refl), tt)))
 lock_may banks pre None None helds olders = tt
 
-done_may : (banks : List BankView) (crash : CrashPart) (held : Option ℕ) → ((m : ℕ) → held ≡ Some m → (r : Record) × Holds banks m (Event r) × (r.crash ≡ None)) → MayTakeAll banks (done_reply crash held).steps
+done_may : (banks : List BankView) (crash : CrashPart) (held : Option ℕ) → ((m : ℕ) → held ≡ Some m → (r : Record) × BankHolds banks m (Event r) × (r.crash ≡ None)) → MayTakeAll banks (done_reply crash held).steps
 done_may banks crash (Some m) helds = (helds m refl, tt)
 done_may banks crash None helds = tt
 
-held_holds : (o : Opened) (m : ℕ) → IsOpened o → o.held ≡ Some m → (r : Record) × Holds o.store.banks m (Event r) × (r.crash ≡ None)
+held_holds : (o : OpenedBanks) (m : ℕ) → IsOpened o → o.held ≡ Some m → (r : Record) × BankHolds o.store.banks m (Event r) × (r.crash ≡ None)
 held_holds o m is e = let h = is.held m e in (h.1, (h.0, h.2), h.3)
 
-overwritten_holds : (choice : Choice) (banks : List BankView) (m : ℕ) → to_overwrite choice banks ≡ Some m → (r : Record) × Holds banks m (Event r)
+overwritten_holds : (choice : Choice) (banks : List BankView) (m : ℕ) → to_overwrite choice banks ≡ Some m → (r : Record) × BankHolds banks m (Event r)
 overwritten_holds Keep banks m e = absurd cc
 overwritten_holds Overwrite banks m e = older_holds banks m e
 
-pub reply_may : (o : Opened) (c : Command) → IsOpened o → MayTakeAll o.store.banks (reply_of o c).steps
+pub reply_may : (o : OpenedBanks) (c : Command) → IsOpened o → MayTakeAll o.store.banks (reply_of o c).steps
 unfolding reply_to
 reply_may o (command.Take pre) is = take_may o.store.banks pre (lowest_void o.store.banks) (to_overwrite o.store.header.choice o.store.banks) (void_holds o.store.banks) (overwritten_holds o.store.header.choice o.store.banks)
 reply_may o (command.Lock pre) is = lock_may o.store.banks pre o.held (least_unlocked o.store.banks) (λ m e. let h = held_holds o m is e in (h.0, h.1)) (older_holds o.store.banks)
@@ -87,10 +87,10 @@ reply_may o (command.Done crash) is = done_may o.store.banks crash o.held (λ m 
 
 -- ---- the bank of a task is there
 
-holds_within : (banks : List BankView) (n m : ℕ) (view : BankView) → length banks ≡ n → Holds banks m view → (1 ≤ m) × (m ≤ n)
+holds_within : (banks : List BankView) (n m : ℕ) (view : BankView) → length banks ≡ n → BankHolds banks m view → (1 ≤ m) × (m ≤ n)
 holds_within banks n m view long h = let below = slice_get_within banks (m - 1) view h.1 in (h.0, omega (arith, long, below, h.0))
 
-pub task_within : (t : Task) (banks : List BankView) (n : ℕ) → length banks ≡ n → MayTakeAll banks (steps_of t) → IsWithin n t
+pub task_within : (t : Task) (banks : List BankView) (n : ℕ) → length banks ≡ n → MayTakeAll banks (steps_of t) → IsBankWithin n t
 task_within task.Nothing banks n long may = tt
 task_within (task.Fill m pre) banks n long may = holds_within banks n m Void long may.0
 task_within (task.Replace m pre) banks n long may = holds_within banks n m (Event may.0.0) long may.0.1
@@ -112,7 +112,7 @@ set_there [] i view below = absurd (omega (arith, below))
 set_there (b ∷ banks) zero view below = refl
 set_there (b ∷ banks) (suc i) view below = set_there banks i view (omega arith)
 
-pub hold_still : (o : Opened) (m : ℕ) (r : Record) → IsOpened o → 1 ≤ m → m ≤ o.store.header.banks → r.crash ≡ None
+pub hold_still : (o : OpenedBanks) (m : ℕ) (r : Record) → IsOpened o → 1 ≤ m → m ≤ o.store.header.banks → r.crash ≡ None
     → IsOpened (record o { store = record o.store { banks = with_bank o.store.banks m (Event r) }; held = Some m })
 hold_still o m r is low high none = record {
   from = is.from;
@@ -131,7 +131,7 @@ lock_keeps (b ∷ banks) zero (suc j) r e none = (r, e, none)
 lock_keeps (b ∷ banks) (suc i) zero r e none = (r, e, none)
 lock_keeps (b ∷ banks) (suc i) (suc j) r e none = lock_keeps banks i j r e none
 
-pub lock_still : (o : Opened) (m : ℕ) → IsOpened o → IsOpened (record o { store = record o.store { banks = with_bank o.store.banks m (with_lock (bank_at o.store.banks m)) } })
+pub lock_still : (o : OpenedBanks) (m : ℕ) → IsOpened o → IsOpened (record o { store = record o.store { banks = with_bank o.store.banks m (with_lock (bank_at o.store.banks m)) } })
 lock_still o m is = record {
   from = is.from;
   to = is.to;

@@ -11,29 +11,29 @@ use Rattle.edr_device.specs.declared.device.Nvm.{Ghosts}
 use Rattle.edr_image.specs.Banks.{with_bank}
 use Rattle.edr_image.specs.Image.{View, view_of}
 use Rattle.edr_gates.specs.Taken.{IsReady}
-use Rattle.edr_image.specs.Steps.{Step, Reply, after, held_after, reply_to}
-use Rattle.edr_banks.specs.Opened.{Opened, state_of}
+use Rattle.edr_image.specs.Steps.{BankStep, Reply, after, held_after, reply_to}
+use Rattle.edr_banks.specs.Opened.{OpenedBanks, state_of}
 
 -- the steps of a command, and its answer
-abbrev pub reply_of : Opened → Command → Reply
+abbrev pub reply_of : OpenedBanks → Command → Reply
 reply_of o c = reply_to (state_of o) c
 
-abbrev pub steps_for : Opened → Command → List Step
+abbrev pub steps_for : OpenedBanks → Command → List BankStep
 steps_for o c = (reply_of o c).steps
 
 -- the banks after steps, with the bank that is then held
-abbrev pub opened_after : Opened → List Step → Opened
+abbrev pub opened_after : OpenedBanks → List BankStep → OpenedBanks
 opened_after o steps = record o { store = after o.store steps; held = fold held_after o.held steps }
 
 -- the banks with a new event in that bank, which is then held
-abbrev pub holding : ℕ → PrePart → Bool → Opened → Opened
+abbrev pub holding : ℕ → PrePart → Bool → OpenedBanks → OpenedBanks
 holding bank pre locked o = record o {
   store = record o.store { banks = with_bank o.store.banks bank (Event (record { pre = pre; locked = locked; crash = None })) };
   held = Some bank;
 }
 
 -- no command is taken any more
-abbrev pub ended_after : Opened → Opened
+abbrev pub ended_after : OpenedBanks → OpenedBanks
 ended_after o = record o { ended = true }
 
 -- the event at place i of the image is this one, or a Done of the bank that is held has given it its crash part
@@ -48,7 +48,7 @@ IsOldOrDone c held old i crash =
     ((r : Record) × (slice_get old i ≡ Some (Event r)) × (r.crash ≡ Some crash)) ⊎ ((held ≡ Some (i + 1)) × (c ≡ command.Done crash))
 
 -- a crash in or behind a command on the opened banks may leave an image that says w, of a device that told v, these banks
-pub record MayLeaveView {D : Type 0} (g : Ghosts D) (o : Opened) (c : Command) (old new : D) (v w : View) : Type 0 where
+pub record MayLeaveView {D : Type 0} (g : Ghosts D) (o : OpenedBanks) (c : Command) (old new : D) (v w : View) : Type 0 where
   pub bytes : List ℕ
   pub image : List ℕ
   pub ready : At g (IsReady (steps_for o c)) old bytes v
@@ -66,5 +66,5 @@ KeepsCrashParts c held old new =
     (i : ℕ) (r : Record) (crash : CrashPart) → slice_get new i ≡ Some (Event r) → r.crash ≡ Some crash → IsOldOrDone c held old i crash
 
 -- the banks that a crash in or behind the command may leave are such, beside those that the device told
-abbrev pub LeavesBanks : {D : Type 0} → Ghosts D → (Command → Option ℕ → List BankView → List BankView → Type 0) → Opened → Command → D → D → Type 0
+abbrev pub LeavesBanks : {D : Type 0} → Ghosts D → (Command → Option ℕ → List BankView → List BankView → Type 0) → OpenedBanks → Command → D → D → Type 0
 LeavesBanks g keeps o c old new = (v w : View) → MayLeaveView g o c old new v w → keeps c o.held v.store.banks w.store.banks

@@ -16,8 +16,8 @@ use Rattle.edr_banks.specs.declared.image.Image as laid
 abbrev pub over : ℕ → List ℕ → List ℕ → List ℕ
 over full target bytes = target ++ drop full bytes
 
-abbrev pub IsOver : ℕ → List ℕ → List ℕ → List ℕ → Type 0
-IsOver full target bytes image = image ≡ over full target bytes
+abbrev pub IsLaidOver : ℕ → List ℕ → List ℕ → List ℕ → Type 0
+IsLaidOver full target bytes image = image ≡ over full target bytes
 
 -- the magic doesn't stand
 abbrev pub LacksMagic : List ℕ → Type 0
@@ -35,7 +35,7 @@ pub record IsPartlyLaid (full : ℕ) (IsNew : List ℕ → Type 0) (bytes image 
 
 -- the same of the image that is laid over the bytes
 abbrev pub IsPartlyOver : ℕ → List ℕ → List ℕ → List ℕ → Type 0
-IsPartlyOver full target bytes image = IsPartlyLaid full (IsOver full target bytes) bytes image
+IsPartlyOver full target bytes image = IsPartlyLaid full (IsLaidOver full target bytes) bytes image
 
 -- ---- on the way
 
@@ -149,11 +149,11 @@ LeavesSince g leaves old new =
 -- ---- why nothing is laid
 
 -- a device is too short exactly by these numbers
-abbrev pub HasSizes : ℕ → ℕ → FormatFault → Type 0
-HasSizes extent full e =
+abbrev pub IsShortBy : ℕ → ℕ → FormatFault → Type 0
+IsShortBy extent full e =
     (size needed : ℕ) → e ≡ Short size needed → (size ≡ extent) × (needed ≡ full) × (size < needed)
 
 -- the magic stands, on a device that is long enough
-abbrev pub HasMagic : Option (List ℕ) → ℕ → ℕ → FormatFault → Type 0
-HasMagic content extent full e =
+abbrev pub HasRoomAndMagic : Option (List ℕ) → ℕ → ℕ → FormatFault → Type 0
+HasRoomAndMagic content extent full e =
     e ≡ Formatted → (full ≤ extent) × ((bytes : List ℕ) → content ≡ Some bytes → not_magic bytes ≡ None)

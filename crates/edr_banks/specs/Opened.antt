@@ -8,18 +8,18 @@ use Rattle.edr_image.specs.Steps.{State}
 
 -- the banks with their header, the count of cycles that the image had, the bank that the open event holds, and whether a
 -- command has met a fault of the device
-pub record Opened : Type 0 where
+pub record OpenedBanks : Type 0 where
   pub store : Store
   pub count : ℕ
   pub held : Option ℕ
   pub ended : Bool
 
 -- the banks, and the bank that the open event holds
-abbrev pub state_of : Opened → State
+abbrev pub state_of : OpenedBanks → State
 state_of o = record { store = o.store; held = o.held }
 
 -- there are as many banks as the header says, and one that is held has an event that isn't done
-pub record IsOpened (o : Opened) : Type 0 where
+pub record IsOpened (o : OpenedBanks) : Type 0 where
   pub from : FEWEST_BANKS ≤ o.store.header.banks
   pub to : o.store.header.banks ≤ MOST_BANKS
   pub all : length o.store.banks ≡ o.store.header.banks

@@ -6,7 +6,7 @@ use Rattle.edr_image.specs.declared.OpenFault.{OpenFault}
 use Rattle.edr_image.specs.declared.OpenFault.TheVariants.{Short, Header, StoreFault, OutOfMemory}
 use Rattle.edr_image.specs.declared.places.TheConstants.{BANKS, BANK_SIZE}
 use Rattle.edr_image.specs.Image.{View, bank_view, header_refusal, image_refusal, image_size, place_of, view_of}
-use Rattle.edr_banks.specs.Opened.{Opened}
+use Rattle.edr_banks.specs.Opened.{OpenedBanks}
 
 -- the image is refused by what it says
 abbrev pub IsRefusal : OpenFault → Type 0
@@ -28,7 +28,7 @@ abbrev pub bank_in : ℕ → List ℕ → BankView
 bank_in bank bytes = bank_view (slice_range bytes (place_of bank) (place_of bank + BANK_SIZE))
 
 -- what the image said when it was opened
-abbrev pub view_when_opened : Opened → View
+abbrev pub view_when_opened : OpenedBanks → View
 view_when_opened o = record { store = o.store; count = o.count }
 
 -- why an image that has a front is refused, by its first bytes and its size

@@ -1,7 +1,7 @@
 -- The steps of a task, and its answer.
 use Rattle.std.specs.Prelude.{◌≤◌, ℕ, List, [], ◌∷◌}
 use Rattle.edr_image.specs.declared.Applied.TheVariants as applied
-use Rattle.edr_image.specs.Steps.{Step, Erase, Fill, Lock, Done, Reply, not_kept}
+use Rattle.edr_image.specs.Steps.{BankStep, Erase, Fill, Lock, Done, Reply, not_kept}
 use Rattle.edr_banks.specs.declared.tasks.Task.{Task}
 use Rattle.edr_banks.specs.declared.tasks.Task.TheVariants as task
 
@@ -13,14 +13,14 @@ reply_for (task.Lock m) = record { steps = Lock m ∷ []; answer = applied.Locke
 reply_for (task.ReplaceLocked m pre) = record { steps = Erase m ∷ Fill m pre ∷ Lock m ∷ []; answer = applied.Locked m }
 reply_for (task.Finish m crash) = record { steps = Done m crash ∷ []; answer = applied.Done m }
 
-abbrev pub steps_of : Task → List Step
+abbrev pub steps_of : Task → List BankStep
 steps_of t = (reply_for t).steps
 
 -- the bank of the task is one of so many banks
-abbrev pub IsWithin : ℕ → Task → Type 0
-IsWithin banks task.Nothing = Unit {0}
-IsWithin banks (task.Fill m pre) = (1 ≤ m) × (m ≤ banks)
-IsWithin banks (task.Replace m pre) = (1 ≤ m) × (m ≤ banks)
-IsWithin banks (task.Lock m) = (1 ≤ m) × (m ≤ banks)
-IsWithin banks (task.ReplaceLocked m pre) = (1 ≤ m) × (m ≤ banks)
-IsWithin banks (task.Finish m crash) = (1 ≤ m) × (m ≤ banks)
+abbrev pub IsBankWithin : ℕ → Task → Type 0
+IsBankWithin banks task.Nothing = Unit {0}
+IsBankWithin banks (task.Fill m pre) = (1 ≤ m) × (m ≤ banks)
+IsBankWithin banks (task.Replace m pre) = (1 ≤ m) × (m ≤ banks)
+IsBankWithin banks (task.Lock m) = (1 ≤ m) × (m ≤ banks)
+IsBankWithin banks (task.ReplaceLocked m pre) = (1 ≤ m) × (m ≤ banks)
+IsBankWithin banks (task.Finish m crash) = (1 ≤ m) × (m ≤ banks)

@@ -5,7 +5,7 @@ ghost use Rattle.edr_device.specs.Lent.{GoesOn, LeavesMeanwhile, OnlyRead};
 ghost use Rattle.edr_image.specs.declared.places.TheConstants.{FEWEST_BANKS, MOST_BANKS};
 ghost use Rattle.edr_image.specs.Image.{image_size, new_image, not_magic};
 ghost use Rattle.edr_banks.specs.Formatting.{IsNew, IsPartlyFormatted, LacksMagic, LeavesKept, new_header};
-ghost use Rattle.edr_banks.specs.Laying.{HasMagic, HasSizes, LeavesSince, SettlesIn};
+ghost use Rattle.edr_banks.specs.Laying.{HasRoomAndMagic, IsShortBy, LeavesSince, SettlesIn};
 ghost use Rattle.edr_banks.specs.declared.FormatFault.TheVariants.{Short, Formatted, StoreFault};
 
 use crate::image::Image;
@@ -52,8 +52,8 @@ impl Banks {
         ensures later { N.clock nvm.old ≤ N.clock nvm.new }
         // Each refusal with its cause.
         ensures short { N.extent nvm.old < image_size banks → result ≡ Err (Short (N.extent nvm.old) (image_size banks)) }
-        ensures sizes { IfErr result (HasSizes (N.extent nvm.old) (image_size banks)) }
-        ensures formatted { IfErr result (HasMagic (N.content nvm.old) (N.extent nvm.old) (image_size banks)) }
+        ensures sizes { IfErr result (IsShortBy (N.extent nvm.old) (image_size banks)) }
+        ensures formatted { IfErr result (HasRoomAndMagic (N.content nvm.old) (N.extent nvm.old) (image_size banks)) }
         ensures not_formatted { OnOk result ((bytes : List ℕ) → N.content nvm.old ≡ Some bytes → LacksMagic bytes) }
         ensures fault { IfErr result (λ e. e ≡ StoreFault → Rose (N.faults nvm.old) (N.faults nvm.new)) }
         ensures faults { N.faults nvm.old ≤ N.faults nvm.new }

@@ -5,7 +5,7 @@ ghost use Rattle.edr_device.specs.Faults.{Rose};
 ghost use Rattle.edr_device.specs.Lent.{GoesOn, LeavesMeanwhile, Lent, OnlyRead, SettlesTo};
 ghost use Rattle.edr_image.specs.declared.places.TheConstants.{MOST_BANKS};
 ghost use Rattle.edr_image.specs.Image.{not_magic};
-ghost use Rattle.edr_banks.specs.Laying.{AllFilled, AllLaid, AllOver, BareMeanwhile, FirstMeanwhile, FromBare, FromFirst, HasMagic, HasPlace, HasSizes, IsBared, IsImageOf, IsUnmarked, IsUnmarking, LacksMagic, LeavesSince, PartlyOver, full_size, laid_over};
+ghost use Rattle.edr_banks.specs.Laying.{AllFilled, AllLaid, AllOver, BareMeanwhile, FirstMeanwhile, FromBare, FromFirst, HasRoomAndMagic, HasPlace, IsShortBy, IsBared, IsImageOf, IsUnmarked, IsUnmarking, LacksMagic, LeavesSince, PartlyOver, full_size, laid_over};
 ghost use Rattle.edr_banks.specs.declared.FormatFault.TheVariants.{Short, Formatted, StoreFault};
 
 use crate::FormatFault;
@@ -93,8 +93,8 @@ pub fn lay<N: Nvm, I: Image>(nvm: &mut N, image: &I) -> Result<(), FormatFault>
     // Each refusal with its cause.
     ensures short { N.extent nvm.old < full_size I.Image image.now
         → result ≡ Err (Short (N.extent nvm.old) (full_size I.Image image.now)) }
-    ensures sizes { IfErr result (HasSizes (N.extent nvm.old) (full_size I.Image image.now)) }
-    ensures formatted { IfErr result (HasMagic (N.content nvm.old) (N.extent nvm.old) (full_size I.Image image.now)) }
+    ensures sizes { IfErr result (IsShortBy (N.extent nvm.old) (full_size I.Image image.now)) }
+    ensures formatted { IfErr result (HasRoomAndMagic (N.content nvm.old) (N.extent nvm.old) (full_size I.Image image.now)) }
     ensures not_formatted { OnOk result ((bytes : List ℕ) → N.content nvm.old ≡ Some bytes → LacksMagic bytes) }
     ensures fault { IfErr result (λ e. e ≡ StoreFault → (full_size I.Image image.now ≤ N.extent nvm.old)
         × Rose (N.faults nvm.old) (N.faults nvm.new)) }

@@ -57,9 +57,9 @@ pub struct Banks {
 }
 
 impl Model for Banks {
-    ghost use Rattle.edr_banks.specs.Opened.{Opened, IsOpened};
+    ghost use Rattle.edr_banks.specs.Opened.{OpenedBanks, IsOpened};
 
-    ghost Value = { Opened };
+    ghost Value = { OpenedBanks };
 
     ghost use Rattle.edr_banks.specs.Fields.{opened_of};
 

@@ -3,7 +3,7 @@ ghost use Rattle.std.specs.Prelude.{◌≡◌, ◌≤◌, [], IsOk};
 ghost use Rattle.edr_image.specs.declared.places.TheConstants.{MOST_BANKS};
 ghost use Rattle.edr_image.specs.Image.{image_size};
 ghost use Rattle.edr_gates.specs.Taken.{TakesSteps};
-ghost use Rattle.edr_banks.specs.Tasks.{IsWithin, steps_of};
+ghost use Rattle.edr_banks.specs.Tasks.{IsBankWithin, steps_of};
 
 use crate::tasks::Task;
 use edr_device::{Failed, Nvm};
@@ -13,7 +13,7 @@ use edr_gates::{fill, finish, lock, replace, replace_locked};
 pub(crate) fn take_on<N: Nvm>(nvm: &mut N, task: &Task, banks: u8) -> Result<(), Failed>
     requires few { banks ≤ MOST_BANKS }
     requires room { image_size banks ≤ N.extent nvm.old }
-    requires within { IsWithin banks task.now }
+    requires within { IsBankWithin banks task.now }
     ensures nothing { steps_of task.now ≡ [] → IsOk result × (nvm.new ≡ nvm.old) }
     ensures steps { TakesSteps N.Nvm (steps_of task.now) nvm.old nvm.new result }
 {

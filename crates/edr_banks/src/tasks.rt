@@ -5,7 +5,7 @@ ghost use Rattle.edr_image.specs.Banks.{is_unlocked, least_unlocked, lowest_void
 ghost use Rattle.edr_image.specs.Steps.{Done, Lock, done_reply, lock_reply, take_reply, with_crash, with_lock};
 ghost use Rattle.edr_gates.specs.Taken.{MayTakeAll};
 ghost use Rattle.edr_banks.specs.Applying.{holding, opened_after, reply_of};
-ghost use Rattle.edr_banks.specs.Tasks.{IsWithin, reply_for, steps_of};
+ghost use Rattle.edr_banks.specs.Tasks.{IsBankWithin, reply_for, steps_of};
 
 use crate::choosing::{least_unlocked, lowest_void};
 use crate::{Applied, BankView, Banks, Choice, Command};
@@ -127,7 +127,7 @@ impl Banks {
     pub(crate) fn task(&self, command: &Command) -> Task
         ensures reply { reply_for result ≡ reply_of self.now command.now }
         ensures may { MayTakeAll self.now.store.banks (steps_of result) }
-        ensures within { IsWithin self.now.store.header.banks result }
+        ensures within { IsBankWithin self.now.store.header.banks result }
         ensures few { self.now.store.header.banks ≤ MOST_BANKS }
     {
         let _ = &self.held;
@@ -171,7 +171,7 @@ impl Banks {
 
     /// Takes the steps of a task, which the device has taken.
     pub(crate) fn note(&mut self, task: &Task)
-        requires { IsWithin self.old.store.header.banks task.now }
+        requires { IsBankWithin self.old.store.header.banks task.now }
         ensures { self.new ≡ opened_after self.old (steps_of task.now) }
     {
         match *task {

@@ -3,10 +3,10 @@ use Rattle.std.proofs.Common.{arith, ◌≡◌, ℕ, zero, suc, ◌≤◌, ◌<�
 use Rattle.edr_items.specs.declared.Sensor.{Sensor}
 use Rattle.edr_items.specs.declared.Sensor.TheVariants.{Along, Across, Speed, Throttle, Brake, Belt, Lamp, Restraint}
 use Rattle.edr_items.specs.Sensor.{IsSlow}
-use Rattle.edr_board.specs.FreezeSeats.{place_of, mark_in, with_mark_of, marks_from, IsReached}
+use Rattle.edr_board.specs.FreezeSeats.{place_of, mark_in, with_mark_of, marks_from, AllReach}
 
 -- what each mark has reached, by the places of their words
-pub each_place : (n : ℕ) (words : List ℕ) → IsReached n (marks_from words) → (p : ℕ) → 2 ≤ p → p < 7 → n ≤ slice_index words p
+pub each_place : (n : ℕ) (words : List ℕ) → AllReach n (marks_from words) → (p : ℕ) → 2 ≤ p → p < 7 → n ≤ slice_index words p
 each_place n words h zero from to = absurd (omega arith)
 each_place n words h (suc zero) from to = absurd (omega arith)
 each_place n words h (suc (suc zero)) from to = h.speed

@@ -99,7 +99,7 @@ pub record SameKeeper (a b : Keeper) : Type 0 where
   pub place : b.place ≡ a.place
 
 -- each of these marks has reached the zero
-pub record IsReached (z : ℕ) (m : SlowMarks) : Type 0 where
+pub record AllReach (z : ℕ) (m : SlowMarks) : Type 0 where
   pub speed : z ≤ m.speed
   pub throttle : z ≤ m.throttle
   pub brake : z ≤ m.brake
@@ -115,7 +115,7 @@ pub record IsFreshAsker (id : TableId) (a : Asker) : Type 0 where
   pub marks : marks_read a ≡ no_marks
 
 -- a keeper of this freeze, of this sensor, that has posted no mark
-pub record IsFresh (id : TableId) (s : Sensor) (k : Keeper) : Type 0 where
+pub record IsFreshKeeper (id : TableId) (s : Sensor) (k : Keeper) : Type 0 where
   pub freeze : freeze_of_keeper k ≡ id
   pub sensor : IsKeeperOf s k
   pub mark : mark_posted k ≡ 0
@@ -123,8 +123,8 @@ pub record IsFresh (id : TableId) (s : Sensor) (k : Keeper) : Type 0 where
 
 -- the keepers of this freeze, none of which has posted a mark
 pub record AreFresh (id : TableId) (k : PerSlowSensor Keeper) : Type 0 where
-  pub speed : IsFresh id Speed k.speed
-  pub throttle : IsFresh id Throttle k.throttle
-  pub brake : IsFresh id Brake k.brake
-  pub belt : IsFresh id Belt k.belt
-  pub lamp : IsFresh id Lamp k.lamp
+  pub speed : IsFreshKeeper id Speed k.speed
+  pub throttle : IsFreshKeeper id Throttle k.throttle
+  pub brake : IsFreshKeeper id Brake k.brake
+  pub belt : IsFreshKeeper id Belt k.belt
+  pub lamp : IsFreshKeeper id Lamp k.lamp

@@ -4,7 +4,7 @@ ghost use Rattle.std.specs.Prelude.{◌≡◌, ◌≢◌, ◌+◌, ◌≤◌, �
 ghost use Rattle.edr_items.specs.Sensor.{IsSlow};
 ghost use Rattle.edr_board.specs.FreezeRule.{FreezeMoment, IsFreeze, freeze_opening};
 ghost use Rattle.edr_board.specs.FreezeSteps.{FreezeLeads, KeepsTheFreeze};
-ghost use Rattle.edr_board.specs.FreezeSeats.{freeze_id, freeze_of_asker, freeze_of_keeper, grant_posted, open_zero, last_zero, marks_read, mark_in, with_mark_of, grant_read, mark_posted, asked_read, zero_in, SameAsker, SameKeeper, IsReached, IsFreshAsker, AreFresh};
+ghost use Rattle.edr_board.specs.FreezeSeats.{freeze_id, freeze_of_asker, freeze_of_keeper, grant_posted, open_zero, last_zero, marks_read, mark_in, with_mark_of, grant_read, mark_posted, asked_read, zero_in, SameAsker, SameKeeper, AllReach, IsFreshAsker, AreFresh};
 
 use crate::freeze_rule::{
     Ask, Grant, LoadAsked, LoadGranted, LoadMark, MarksWithinGrants, PostMark, Settle, ToKeeper,
@@ -111,7 +111,7 @@ impl Asker {
     pub fn ask(&mut self, zero: u32)
         requires closed { open_zero self.old ≡ 0 }
         requires later { last_zero self.old < zero }
-        requires reached { IsReached zero (marks_read self.old) }
+        requires reached { AllReach zero (marks_read self.old) }
         requires near { grant_posted self.old ≤ zero + 1_000 }
         ensures freeze { freeze_of_asker self.new ≡ freeze_of_asker self.old }
         ensures granted { grant_posted self.new ≡ grant_posted self.old }

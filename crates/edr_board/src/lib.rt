@@ -13,9 +13,9 @@
 #![tactic(auto)]
 
 ghost use Rattle.std.specs.Prelude.{◌≡◌, ◌≤◌, List, true, IfOk, OnErr};
-ghost use Rattle.edr_board.specs.Status.{unposted, greater, IsUpTo};
-ghost use Rattle.edr_board.specs.Rule.{Moment, IsBoard, opening};
-ghost use Rattle.edr_board.specs.Steps.{Leads, KeepsTheRule};
+ghost use Rattle.edr_board.specs.Status.{unposted, greater, IsStatusUpTo};
+ghost use Rattle.edr_board.specs.Rule.{BoardState, IsBoard, opening};
+ghost use Rattle.edr_board.specs.Steps.{SeatsLead, KeepsTheRule};
 ghost use Rattle.edr_board.specs.Seats.{board_id, board_of_recorder, board_of_committer, board_of_watch, AreOfBoard, gate_posted, closed_posted, stopped_posted, last_posts, seen};
 
 mod freeze;
@@ -35,7 +35,7 @@ use crate::rule::{
 };
 pub use crate::seats::{Board, CommitterSeat, Opened, RecorderSeat, Watch};
 pub use crate::status::BoardStatus;
-use crate::view::View;
+use crate::view::SeatView;
 use atomic_table::Table;
 use std::alloc::{AllocError as OutOfMemory, Global};
 use std::sync::{Arc, Wait};
@@ -54,7 +54,7 @@ impl Board {
         ensures posts { IfOk result (λ o. last_posts o.recorder o.committer ≡ unposted) }
         ensures watch { IfOk result (λ o. seen o.watch ≡ unposted) }
     {
-        let (table, mut first) = Table::<u8, View, (), NeverFalling, Global>::of_words(
+        let (table, mut first) = Table::<u8, SeatView, (), NeverFalling, Global>::of_words(
             alloc,
             &[0, 0, 0],
             &(),
@@ -155,7 +155,7 @@ impl Watch {
     /// The words, each read by itself: they are not of one moment.
     pub fn read(&mut self) -> BoardStatus
         ensures board { board_of_watch self.new ≡ board_of_watch self.old }
-        ensures later { IsUpTo (seen self.old) result }
+        ensures later { IsStatusUpTo (seen self.old) result }
         ensures seen { seen self.new ≡ result }
     {
         let gate = self.table.shared.load::<LoadGate>(&mut self.seat, GATE);
@@ -222,5 +222,5 @@ impl Watch {
 /// falls.
 pub fn no_word_falls()
     ensures opened { IsBoard opening }
-    ensures steps { (a b : Moment) (between : List Moment) → IsBoard a → Leads a between b → KeepsTheRule a b }
+    ensures steps { (a b : BoardState) (between : List BoardState) → IsBoard a → SeatsLead a between b → KeepsTheRule a b }
 {}

@@ -16,7 +16,7 @@ use Rattle.edr_items.specs.Item.{mark_of}
 use Rattle.edr_items.specs.Sensor.{is_in_range, IsSlow}
 use Rattle.edr_definitions.specs.Parts.{latest_value, slot, slots_before}
 use Rattle.edr_definitions.proofs.AgreeLaws.{map_agree}
-use Rattle.edr_capture.specs.Capture.{StandsFor}
+use Rattle.edr_capture.specs.Capture.{CaptureStandsFor}
 use Rattle.edr_capture.specs.SensorPart.{IsOfSensor, part_slots, part, IsPart}
 use Rattle.edr_capture.proofs.CaptureLemmas.{slot_at-given}
 
@@ -57,15 +57,15 @@ pub part-later : (s : Sensor) (xs later : List Item) (z : ℕ) → All (λ x. z 
 part-later s xs later z all = ap (λ slots. record { sensor = s; zero = z; slots = slots }) (part_slots-later s xs later z all)
 
 -- ---- all items that were given
-slot-given : (kept given : List Item) (z t : ℕ) → mark_of kept ≤ z + LONGEST_GAP → z ≤ t + SLOT_REACH → StandsFor kept given → slot kept t ≡ slot given t
+slot-given : (kept given : List Item) (z t : ℕ) → mark_of kept ≤ z + LONGEST_GAP → z ≤ t + SLOT_REACH → CaptureStandsFor kept given → slot kept t ≡ slot given t
 slot-given kept given z t near before is = slot_at-given kept given (pos t) (omega (arith, ints, near, before)) is
 
-slots-given : (kept given : List Item) (z : ℕ) → mark_of kept ≤ z + LONGEST_GAP → StandsFor kept given → slots_before kept z ≡ slots_before given z
+slots-given : (kept given : List Item) (z : ℕ) → mark_of kept ≤ z + LONGEST_GAP → CaptureStandsFor kept given → slots_before kept z ≡ slots_before given z
 unfolding slots_before
 slots-given kept given z near is =
     map_agree (λ k. slot kept (z + SLOT_STEP * k - SLOT_REACH)) (λ k. slot given (z + SLOT_STEP * k - SLOT_REACH)) LONG_SLOTS 0 (λ k lo hi. slot-given kept given z (z + SLOT_STEP * k - SLOT_REACH) near (omega arith) is)
 
-part_slots-given : (s : Sensor) (kept given : List Item) (z : ℕ) → mark_of kept ≤ z + LONGEST_GAP → StandsFor kept given → part_slots s kept z ≡ part_slots s given z
+part_slots-given : (s : Sensor) (kept given : List Item) (z : ℕ) → mark_of kept ≤ z + LONGEST_GAP → CaptureStandsFor kept given → part_slots s kept z ≡ part_slots s given z
 part_slots-given Belt kept given z near is = ap (λ o. o ∷ replicate (LONG_SLOTS - 1) None) (slot-given kept given z (z - SINGLE_REACH) near (omega arith) is)
 part_slots-given Lamp kept given z near is = ap (λ o. o ∷ replicate (LONG_SLOTS - 1) None) (slot-given kept given z (z - SINGLE_REACH) near (omega arith) is)
 part_slots-given Along kept given z near is = slots-given kept given z near is
@@ -75,7 +75,7 @@ part_slots-given Throttle kept given z near is = slots-given kept given z near i
 part_slots-given Brake kept given z near is = slots-given kept given z near is
 part_slots-given Restraint kept given z near is = slots-given kept given z near is
 
-pub part-given : (s : Sensor) (kept given : List Item) (z : ℕ) → mark_of kept ≤ z + LONGEST_GAP → StandsFor kept given → part s kept z ≡ part s given z
+pub part-given : (s : Sensor) (kept given : List Item) (z : ℕ) → mark_of kept ≤ z + LONGEST_GAP → CaptureStandsFor kept given → part s kept z ≡ part s given z
 part-given s kept given z near is = ap (λ slots. record { sensor = s; zero = z; slots = slots }) (part_slots-given s kept given z near is)
 
 -- ---- bounds

@@ -12,7 +12,7 @@ ghost use Rattle.edr_definitions.specs.Rings.{RisesFrom};
 ghost use Rattle.edr_definitions.specs.Parts.{slot, slots_before};
 ghost use Rattle.edr_items.specs.declared.Sensor.{Sensor};
 ghost use Rattle.edr_capture.specs.Kept.{IsSample, IsCount};
-ghost use Rattle.edr_capture.specs.Capture.{StandsFor, kept_after, slot_at};
+ghost use Rattle.edr_capture.specs.Capture.{CaptureStandsFor, kept_after, slot_at};
 ghost use Rattle.edr_items.specs.Sensor.{IsSlow};
 ghost use Rattle.edr_capture.specs.SensorPart.{IsOfSensor, part, part_slots};
 
@@ -53,7 +53,7 @@ impl Capture {
     /// A capture of a sensor that has given nothing yet. It takes all its memory here.
     pub fn new(alloc: Global) -> Result<Capture, OutOfMemory>
         ensures empty { IfOk result (λ c. c ≡ []) }
-        ensures stands { IfOk result (λ c. StandsFor c []) }
+        ensures stands { IfOk result (λ c. CaptureStandsFor c []) }
     {
         let ring = HeapCircularBuffer::with_capacity(alloc, ROOM)?;
         Ok(Capture { ring })
@@ -67,7 +67,7 @@ impl Capture {
         ensures sensor { (s : Sensor) → All (IsOfSensor s) self.old → IsOfSensor s item → All (IsOfSensor s) self.new }
 
         // The same of all items of the sensor.
-        ensures stands { (given : List Item) → StandsFor self.old given → StandsFor self.new (given ++ item ∷ []) }
+        ensures stands { (given : List Item) → CaptureStandsFor self.old given → CaptureStandsFor self.new (given ++ item ∷ []) }
     {
         if item.value.is_some() {
             self.ring.push_back(item);
@@ -81,7 +81,7 @@ impl Capture {
         ensures kept { result ≡ slot_at self.now at }
 
         // The same of all items of the sensor, though the oldest of them are not kept.
-        ensures definition { (given : List Item) → StandsFor self.now given → result ≡ slot_at given at }
+        ensures definition { (given : List Item) → CaptureStandsFor self.now given → result ≡ slot_at given at }
     {
         slot_of(&self.ring, at)
     }
@@ -95,7 +95,7 @@ impl Capture {
         ensures kept { result ≡ part sensor self.now zero }
 
         // The same of all items of the sensor, though the oldest of them are not kept.
-        ensures definition { (given : List Item) → StandsFor self.now given → result ≡ part sensor given zero }
+        ensures definition { (given : List Item) → CaptureStandsFor self.now given → result ≡ part sensor given zero }
     {
         Part {
             sensor,

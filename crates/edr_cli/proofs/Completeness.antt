@@ -9,7 +9,7 @@ use Rattle.edr_image.specs.declared.OpenFault.TheVariants as open_fault
 use Rattle.edr_image.specs.Image.{image_refusal}
 use Rattle.edr_spell.specs.declared.CycleInput.{CycleInput}
 use Rattle.edr_spell.specs.Spell.{Spell, largest_trace}
-use Rattle.edr_spell.specs.Fault.{Fault as IsFaultOf}
+use Rattle.edr_spell.specs.Fault.{FirstFault as IsFaultOf}
 use Rattle.edr_spell.proofs.LawLemmas.{spell-not_fault, spell-one}
 use Rattle.edr_run.specs.Cycle.{Outcome, last_count}
 use Rattle.edr_cli.specs.declared.fault.Fault.{Fault}

@@ -11,7 +11,7 @@ use Rattle.edr_cycle.specs.declared.started.StartFault.{StartFault}
 use Rattle.edr_cycle.specs.declared.started.StartFault.TheVariants as start
 use Rattle.edr_cli.specs.declared.fault.Fault.{Fault}
 use Rattle.edr_cli.specs.declared.fault.Fault.TheVariants as fault
-use Rattle.edr_replay.specs.Replayed.{EndsCutShort, EndsShort, EndsSpent, Holds, IsFault, IsMemory, IsTrulyRefused, IsTrulyShort, LeavesReached}
+use Rattle.edr_replay.specs.Replayed.{EndsCutShort, EndsShort, EndsSpent, Holds, IsDeviceFault, IsMemory, IsTrulyRefused, IsTrulyShort, LeavesReached}
 use Rattle.edr_cli.specs.Causes.{IsDriveCause, RanCutShort}
 use Rattle.edr_cli.specs.Outside.{Input, IsAtEnd, Memory}
 use Rattle.edr_cli.specs.Reports.{Says}
@@ -27,7 +27,7 @@ unfolding EndsShort
 not_short cs old new e none = λ short v n held. absurd (none short)
 
 -- the run's fault is that of a call
-pub driven_cause : (cs : List CycleInput) (old new : Memory) (e : StartFault) → (IsFault e → Rose old.faults new.faults) → IsTrulyRefused old.content old.settled e
+pub driven_cause : (cs : List CycleInput) (old new : Memory) (e : StartFault) → (IsDeviceFault e → Rose old.faults new.faults) → IsTrulyRefused old.content old.settled e
     → IsTrulyShort old.size e → EndsSpent cs old.content old.settled new.content new.settled e → LeavesReached cs old.content old.settled new.content new.settled → EndsCutShort cs old.content old.settled new.content new.settled e
     → IsDrivenCause cs old new (fault_of_start e)
 unfolding EndsCutShort

@@ -15,7 +15,7 @@ use Rattle.edr_cli.specs.declared.status.Status.TheVariants as status
 use Rattle.edr_cli.specs.Endings.{Gains, IsServed}
 use Rattle.edr_cli.specs.Faults.{fault_line}
 use Rattle.edr_cli.specs.Migrations.{IsPartlyTaken}
-use Rattle.edr_cli.specs.Outcomes.{Formats, Makes, Migrates, Runs, Shows}
+use Rattle.edr_cli.specs.Outcomes.{Formats, MakesText, Migrates, Runs, ShowsReport}
 use Rattle.edr_cli.specs.Outside.{Input, Memory, input, memory}
 use Rattle.edr_cli.proofs.EndingLemmas.{ends_fault, not_ok, served_fault}
 use Rattle.edr_cli.proofs.ImageLemmas.{if_each, still_there}
@@ -34,7 +34,7 @@ runs_short s k d C form end source old new nvm cause g = record {
   complete = λ can calm quiet_device quiet. served_fault k fault.OutOfMemory end old new refl g quiet;
 }
 
-pub shows_short : {K D : Type 0} (k : sink.Ghosts K) (d : device.Ghosts D) (form : Form) (end : Status) (old new : K) (nvm : D) → Short k end old new → Shows k d form end old new nvm nvm
+pub shows_short : {K D : Type 0} (k : sink.Ghosts K) (d : device.Ghosts D) (form : Form) (end : Status) (old new : K) (nvm : D) → Short k end old new → ShowsReport k d form end old new nvm nvm
 shows_short k d form end old new nvm g = record {
   ends = ends_fault k _ _ fault.OutOfMemory end old new refl g;
   stays = λ bytes image quiet left. quiet_leaves bytes _ _ image quiet left;
@@ -59,7 +59,7 @@ migrates_short s k d end source old new nvm g = record {
   complete = λ can calm quiet_device quiet. served_fault k fault.OutOfMemory end old new refl g quiet;
 }
 
-pub makes_short : {K : Type 0} (k : sink.Ghosts K) (P : List ℕ → Type 0) (end : Status) (old new : K) → Short k end old new → Makes k P end old new
+pub makes_short : {K : Type 0} (k : sink.Ghosts K) (P : List ℕ → Type 0) (end : Status) (old new : K) → Short k end old new → MakesText k P end old new
 makes_short k P end old new g = record {
   ends = ends_fault k P _ fault.OutOfMemory end old new refl g;
   complete = λ quiet. served_fault k fault.OutOfMemory end old new refl g quiet;

@@ -18,8 +18,8 @@ use Rattle.edr_cli.specs.declared.fault.Fault.{Fault}
 use Rattle.edr_cli.specs.declared.fault.Fault.TheVariants as fault
 use Rattle.edr_words.specs.declared.Form.{Form}
 use Rattle.edr_replay.specs.Reached.{RanFirst, between}
-use Rattle.edr_replay.specs.Replayed.{Holds, HasRun, EndsShort, EndsSpent, IsFault, IsShortOf, IsTrulyRefused, IsTrulyShort, LeavesReached}
-use Rattle.edr_cli.specs.Causes.{GaveTrace, IsImageCause, IsRefused, IsReplayCause, IsSpent, LeavesRun, RanSome, Reaches}
+use Rattle.edr_replay.specs.Replayed.{Holds, HasRun, EndsShort, EndsSpent, IsDeviceFault, IsShortOf, IsTrulyRefused, IsTrulyShort, LeavesReached}
+use Rattle.edr_cli.specs.Causes.{GaveTrace, IsImageCause, IsImageRefused, IsReplayCause, IsSpent, LeavesRun, RanSome, ReachesByTrace}
 use Rattle.edr_cli.specs.Outside.{Input, IsAtEnd, Memory}
 use Rattle.edr_cli.specs.Reports.{Says, report_in}
 use Rattle.edr_cli.specs.Runs.{IsTraceOf, RunIs, TheRun}
@@ -31,7 +31,7 @@ use Rattle.edr_cli.proofs.RunLaws.{the_run}
 -- ---- the run of cycles, and the banks behind it
 
 -- the run's fault is that of a call
-pub start_cause : (cs : List CycleInput) (old new : Memory) (e : StartFault) → (IsFault e → Rose old.faults new.faults) → IsTrulyRefused old.content old.settled e
+pub start_cause : (cs : List CycleInput) (old new : Memory) (e : StartFault) → (IsDeviceFault e → Rose old.faults new.faults) → IsTrulyRefused old.content old.settled e
     → IsTrulyShort old.size e → EndsSpent cs old.content old.settled new.content new.settled e → LeavesReached cs old.content old.settled new.content new.settled → EndsShort cs old.content old.settled new.content new.settled e
     → IsRunCause cs old new (fault_of_start e)
 unfolding IsTrulyRefused IsTrulyShort EndsSpent EndsShort
@@ -150,7 +150,7 @@ look_cause i i' old new cs fault.OutOfMemory spelled end stays left cause = inl 
 look_cause i i' old new cs other spelled end stays left cause = absurd cause
 
 -- behind a look that passed no image is refused, so the device tells none
-none_refused : (old mid new : Memory) (v : Store) (n : ℕ) (e : OpenFault) → Settled old mid v n → StillTells old.content new.content → HeldNone mid → IsRefused e old new
+none_refused : (old mid new : Memory) (v : Store) (n : ℕ) (e : OpenFault) → Settled old mid v n → StillTells old.content new.content → HeldNone mid → IsImageRefused e old new
 none_refused old mid new v n e settled tells none = go old.content new.content tells (λ image told. settled image told)
   where
     go : (content content' : Option (List ℕ)) → StillTells content content' → ((image : List ℕ) → content ≡ Some image → Says image v n × IsQuiet mid.content mid.settled image)
@@ -178,8 +178,8 @@ leaves_run i old mid new cs v n spelled settled left = λ bytes image quiet may.
     let r = left v n held image may in (
       (λ none. absurd (some_view (view_of bytes) (record { store = v; count = n }) none s.0)),
       (λ w says. let same : ◌≡◌ {A = View} (record { store = v; count = n }) w = same_view _ _ (sym s.0 ∙ says) in
-          subst (λ (x : View). IfSome i.left (λ trace. Reaches trace x image)) same
-          (if_spelled i.left cs (λ trace. Reaches trace (record { store = v; count = n }) image) (λ trace is. record { cycles = cs; spelled = is.1; view = r.0; view_is = r.1; reached = r.2 }) spelled)),
+          subst (λ (x : View). IfSome i.left (λ trace. ReachesByTrace trace x image)) same
+          (if_spelled i.left cs (λ trace. ReachesByTrace trace (record { store = v; count = n }) image) (λ trace is. record { cycles = cs; spelled = is.1; view = r.0; view_is = r.1; reached = r.2 }) spelled)),
     )
 
 -- before the run nothing was changed
@@ -187,7 +187,7 @@ pub leaves_none : (i : Input) (old new : Memory) (cs : List CycleInput) → IfSo
 leaves_none i old new cs spelled stays = λ bytes image quiet may.
     let same = stays bytes image quiet may in (
       (λ none. same),
-      (λ w says. if_spelled i.left cs (λ trace. Reaches trace w image)
+      (λ w says. if_spelled i.left cs (λ trace. ReachesByTrace trace w image)
           (λ trace is. record { cycles = cs; spelled = is.1; view = w; view_is = ap view_of same ∙ says; reached = between 0 (record { reports = []; store = w.store; count = w.count }) (record { within = omega arith; run = refl }) refl refl }) spelled),
     )
 

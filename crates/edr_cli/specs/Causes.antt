@@ -11,7 +11,7 @@ use Rattle.edr_image.specs.Banks.{Store}
 use Rattle.edr_image.specs.Image.{View, image_refusal, image_size, view_of}
 use Rattle.edr_spell.specs.declared.CycleInput.{CycleInput}
 use Rattle.edr_spell.specs.Spell.{Spell, largest_trace}
-use Rattle.edr_spell.specs.Fault.{Fault as IsFaultOf}
+use Rattle.edr_spell.specs.Fault.{FirstFault as IsFaultOf}
 use Rattle.edr_run.specs.Cycle.{Outcome}
 use Rattle.edr_replay.specs.Reached.{IsCutShort, IsReached, RanFirst}
 use Rattle.edr_replay.specs.Replayed.{Holds, IsShortOf, RanToTheLast}
@@ -35,14 +35,14 @@ IsNumberCause f = f ≡ fault.OutOfMemory
 -- ---- an image: `report`
 
 -- the image is refused for this reason, and the bytes stay
-abbrev pub IsRefused : OpenFault → Memory → Memory → Type 0
-IsRefused e old new = IfSome old.content (λ image. image_refusal image ≡ Some e) × (new.content ≡ old.content)
+abbrev pub IsImageRefused : OpenFault → Memory → Memory → Type 0
+IsImageRefused e old new = IfSome old.content (λ image. image_refusal image ≡ Some e) × (new.content ≡ old.content)
 
 -- why there is no report of an image; the size of a short one is the device's, also where it tells no bytes
 abbrev pub IsImageCause : Memory → Memory → Fault → Type 0
 IsImageCause old new fault.Store = Rose old.faults new.faults
-IsImageCause old new (fault.Short size needed) = IsRefused (open_fault.Short size needed) old new × IsShortOf old.size size needed
-IsImageCause old new (fault.Header h) = IsRefused (open_fault.Header h) old new
+IsImageCause old new (fault.Short size needed) = IsImageRefused (open_fault.Short size needed) old new × IsShortOf old.size size needed
+IsImageCause old new (fault.Header h) = IsImageRefused (open_fault.Header h) old new
 IsImageCause old new fault.OutOfMemory = new.content ≡ old.content
 IsImageCause old new other = ⊥
 
@@ -74,7 +74,7 @@ pub record IsSpent (bytes image : List ℕ) (new : Memory) : Type 0 where
   pub held : Holds new.content new.settled outcome.store outcome.count
 
 -- the trace of these bytes brings a view to one that the image says: after some first cycles, or by a stop in the next one
-pub record Reaches (bytes : List ℕ) (v : View) (image : List ℕ) : Type 0 where
+pub record ReachesByTrace (bytes : List ℕ) (v : View) (image : List ℕ) : Type 0 where
   pub cycles : List CycleInput
   pub spelled : Spell bytes cycles
   pub view : View
@@ -85,7 +85,7 @@ pub record Reaches (bytes : List ℕ) (v : View) (image : List ℕ) : Type 0 whe
 abbrev pub LeavesRun : Input → Memory → Memory → Type 0
 LeavesRun i old new = (bytes image : List ℕ) → IsQuiet old.content old.settled bytes → MayLeave new.content new.settled image
     → (view_of bytes ≡ None → image ≡ bytes)
-    × ((v : View) → view_of bytes ≡ Some v → IfSome i.left (λ trace. Reaches trace v image))
+    × ((v : View) → view_of bytes ≡ Some v → IfSome i.left (λ trace. ReachesByTrace trace v image))
 
 -- some first cycles of the trace ran, and the device holds what they came to
 pub record RanSome (bytes image : List ℕ) (new : Memory) : Type 0 where

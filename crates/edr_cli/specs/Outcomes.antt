@@ -8,7 +8,7 @@ use Rattle.edr_image.specs.declared.Header.{Header}
 use Rattle.edr_image.specs.Image.{image_refusal, image_size}
 use Rattle.edr_banks.specs.Formatting.{IsPartlyFormatted, LacksMagic}
 use Rattle.edr_gen.specs.Traces.{generated_trace}
-use Rattle.edr_large.specs.Large.{IsTold}
+use Rattle.edr_large.specs.Large.{AreLinesOf}
 use Rattle.edr_replay.specs.Past.{LeavesPast}
 use Rattle.edr_words.specs.declared.Form.{Form}
 use Rattle.edr_cli.specs.declared.fault.Fault.{Fault}
@@ -21,7 +21,7 @@ use Rattle.edr_cli.specs.Migrations.{CanMigrate, IsPartlyTaken, MigrateIs}
 use Rattle.edr_cli.specs.Outside.{Input, IsAtEnd, Memory, NoFault, OfBoth, OfMemory, OfRun, input, memory}
 use Rattle.edr_cli.specs.Reports.{FormatIs, ReportIs}
 use Rattle.edr_cli.specs.Runs.{CanRun, RunIs}
-use Rattle.edr_cli.specs.Words.{AreDrive, AreFormat, AreGenerate, AreLarge, AreMigrate, AreReplay, AreReport}
+use Rattle.edr_cli.specs.Words.{AreDrive, AreFormatWords, AreGenerateWords, AreLargeWords, AreMigrateWords, AreReplayWords, AreReportWords}
 
 -- ---- a run, by `replay` and by `drive`
 
@@ -42,7 +42,7 @@ pub record Runs {S K D : Type 0} (s : stream.Ghosts S) (k : sink.Ghosts K) (d : 
 abbrev pub ServesReplay : {S K D : Type 0} → stream.Ghosts S → sink.Ghosts K → device.Ghosts D → List (List ℕ) → Status
     → S → S → K → K → D → D → Type 0
 ServesReplay s k d words status source source' sink sink' nvm nvm' =
-    (form : Form) → AreReplay form words → Runs s k d IsReplayCause form status source source' sink sink' nvm nvm'
+    (form : Form) → AreReplayWords form words → Runs s k d IsReplayCause form status source source' sink sink' nvm nvm'
 
 -- `drive` runs it by threads
 abbrev pub ServesDrive : {S K D : Type 0} → stream.Ghosts S → sink.Ghosts K → device.Ghosts D → List (List ℕ) → Status
@@ -53,7 +53,7 @@ ServesDrive s k d words status source source' sink sink' nvm nvm' =
 -- ---- `report`
 
 -- the report of what the device holds
-pub record Shows {K D : Type 0} (k : sink.Ghosts K) (d : device.Ghosts D) (form : Form) (status : Status)
+pub record ShowsReport {K D : Type 0} (k : sink.Ghosts K) (d : device.Ghosts D) (form : Form) (status : Status)
     (sink sink' : K) (nvm nvm' : D) : Type 0 where
   pub ends : Ends k (OfMemory d (ReportIs form) nvm nvm') (OfMemory d IsImageCause nvm nvm') status sink sink'
   -- where nothing was pending, a crash at the end leaves the bytes as they were, whatever the status
@@ -65,7 +65,7 @@ pub record Shows {K D : Type 0} (k : sink.Ghosts K) (d : device.Ghosts D) (form 
 -- `report` shows it
 abbrev pub ServesReport : {K D : Type 0} → sink.Ghosts K → device.Ghosts D → List (List ℕ) → Status → K → K → D → D → Type 0
 ServesReport k d words status sink sink' nvm nvm' =
-    (form : Form) → AreReport form words → Shows k d form status sink sink' nvm nvm'
+    (form : Form) → AreReportWords form words → ShowsReport k d form status sink sink' nvm nvm'
 
 -- ---- `format`
 
@@ -84,7 +84,7 @@ pub record Formats {K D : Type 0} (k : sink.Ghosts K) (d : device.Ghosts D) (h :
 -- `format` makes it
 abbrev pub ServesFormat : {K D : Type 0} → sink.Ghosts K → device.Ghosts D → List (List ℕ) → Status → K → K → D → D → Type 0
 ServesFormat k d words status sink sink' nvm nvm' =
-    (h : Header) → AreFormat h words → Formats k d h status sink sink' nvm nvm'
+    (h : Header) → AreFormatWords h words → Formats k d h status sink sink' nvm nvm'
 
 -- ---- `migrate`
 
@@ -106,12 +106,12 @@ pub record Migrates {S K D : Type 0} (s : stream.Ghosts S) (k : sink.Ghosts K) (
 abbrev pub ServesMigrate : {S K D : Type 0} → stream.Ghosts S → sink.Ghosts K → device.Ghosts D → List (List ℕ) → Status
     → S → S → K → K → D → D → Type 0
 ServesMigrate s k d words status source source' sink sink' nvm nvm' =
-    AreMigrate words → Migrates s k d status source source' sink sink' nvm nvm'
+    AreMigrateWords words → Migrates s k d status source source' sink sink' nvm nvm'
 
 -- ---- `generate` and `large`
 
 -- a text that is made from a number
-pub record Makes {K : Type 0} (k : sink.Ghosts K) (IsText : List ℕ → Type 0) (status : Status) (sink sink' : K) : Type 0 where
+pub record MakesText {K : Type 0} (k : sink.Ghosts K) (IsText : List ℕ → Type 0) (status : Status) (sink sink' : K) : Type 0 where
   pub ends : Ends k IsText IsNumberCause status sink sink'
   -- where the sink counts no fault, it is whole
   pub complete : NoFault k.faults sink sink' → IsServed status
@@ -119,9 +119,9 @@ pub record Makes {K : Type 0} (k : sink.Ghosts K) (IsText : List ℕ → Type 0)
 -- `generate` writes exactly the trace of the number
 abbrev pub ServesGenerate : {K : Type 0} → sink.Ghosts K → List (List ℕ) → Status → K → K → Type 0
 ServesGenerate k words status sink sink' =
-    (number cycles : ℕ) → AreGenerate number cycles words → Makes k (λ text. text ≡ generated_trace number cycles) status sink sink'
+    (number cycles : ℕ) → AreGenerateWords number cycles words → MakesText k (λ text. text ≡ generated_trace number cycles) status sink sink'
 
 -- `large` the counts of a run over the cycles that this trace spells
 abbrev pub ServesLarge : {K : Type 0} → sink.Ghosts K → List (List ℕ) → Status → K → K → Type 0
 ServesLarge k words status sink sink' =
-    (number cycles : ℕ) → AreLarge number cycles words → Makes k (IsTold number cycles) status sink sink'
+    (number cycles : ℕ) → AreLargeWords number cycles words → MakesText k (AreLinesOf number cycles) status sink sink'

@@ -40,8 +40,8 @@ ReportsHeld form reports old text =
     (v : Store) × (n : ℕ) × ((image : List ℕ) → old.content ≡ Some image → Says image v n) × (text ≡ report_in form reports v n)
 
 -- an old image that was given was taken over
-abbrev pub IsTaken : List ℕ → Memory → Memory → List ℕ → Type 0
-IsTaken image old new text = IfSome old.content (λ bytes. TookOver image bytes new text)
+abbrev pub IsTakenOver : List ℕ → Memory → Memory → List ℕ → Type 0
+IsTakenOver image old new text = IfSome old.content (λ bytes. TookOver image bytes new text)
 
 -- the device holds what some first cycles came to, or these and the start of the next one
 abbrev pub HoldsCutShort : List CycleInput → Memory → Memory → Type 0

@@ -7,28 +7,28 @@ use Rattle.edr_words.specs.declared.Job.TheVariants.{Format, Replay, Report, Dri
 use Rattle.edr_words.specs.Jobs.{job_of}
 
 -- they ask for a new image with this header
-abbrev pub AreFormat : Header → List (List ℕ) → Type 0
-AreFormat h words = job_of words ≡ Some (Format h)
+abbrev pub AreFormatWords : Header → List (List ℕ) → Type 0
+AreFormatWords h words = job_of words ≡ Some (Format h)
 
 -- they ask for the run of a trace, and its report in this form
-abbrev pub AreReplay : Form → List (List ℕ) → Type 0
-AreReplay form words = job_of words ≡ Some (Replay form)
+abbrev pub AreReplayWords : Form → List (List ℕ) → Type 0
+AreReplayWords form words = job_of words ≡ Some (Replay form)
 
 -- they ask for the report of what the image holds, in this form
-abbrev pub AreReport : Form → List (List ℕ) → Type 0
-AreReport form words = job_of words ≡ Some (Report form)
+abbrev pub AreReportWords : Form → List (List ℕ) → Type 0
+AreReportWords form words = job_of words ≡ Some (Report form)
 
 -- they ask for the trace of this number, with so many cycles
-abbrev pub AreGenerate : ℕ → ℕ → List (List ℕ) → Type 0
-AreGenerate number cycles words = job_of words ≡ Some (Generate number cycles)
+abbrev pub AreGenerateWords : ℕ → ℕ → List (List ℕ) → Type 0
+AreGenerateWords number cycles words = job_of words ≡ Some (Generate number cycles)
 
 -- they ask for the run of that trace over a new memory, and its counts
-abbrev pub AreLarge : ℕ → ℕ → List (List ℕ) → Type 0
-AreLarge number cycles words = job_of words ≡ Some (Large number cycles)
+abbrev pub AreLargeWords : ℕ → ℕ → List (List ℕ) → Type 0
+AreLargeWords number cycles words = job_of words ≡ Some (Large number cycles)
 
 -- they ask for what an old image holds to be taken over
-abbrev pub AreMigrate : List (List ℕ) → Type 0
-AreMigrate words = job_of words ≡ Some Migrate
+abbrev pub AreMigrateWords : List (List ℕ) → Type 0
+AreMigrateWords words = job_of words ≡ Some Migrate
 
 -- ---- other words
 

@@ -4,7 +4,7 @@ ghost use Rattle.edr_device.specs.Faults.{Rose};
 ghost use Rattle.edr_device.specs.Lent.{Between, GoesOn};
 ghost use Rattle.edr_device.specs.Told.{Told};
 ghost use Rattle.edr_device.specs.Transfer.{GivesAtMost};
-ghost use Rattle.edr_spell.specs.Spell.{IsCycle, largest_trace};
+ghost use Rattle.edr_spell.specs.Spell.{IsCycleInput, largest_trace};
 ghost use Rattle.edr_spell.specs.declared.CycleInput.{CycleInput};
 ghost use Rattle.edr_replay.specs.Past.{LeavesPast};
 ghost use Rattle.edr_words.specs.declared.Form.{Form};
@@ -45,7 +45,7 @@ fn run_driven<
     gate: &Arc<G>,
 ) -> Result<Vec<u8>, Fault>
     requires workers { (1 ≤ workers) × (workers ≤ 8) }
-    requires cycles { All IsCycle cycles.items }
+    requires cycles { All IsCycleInput cycles.items }
     ensures text { IfOk result (λ out. OfMemory N.Nvm (Reports form cycles.items) nvm.old nvm.new out.items) }
     ensures cause { IfErr result (OfMemory N.Nvm (IsDrivenCause cycles.items) nvm.old nvm.new) }
     ensures lent { GoesOn N.Nvm nvm.old nvm.new }

@@ -9,7 +9,7 @@ ghost use Rattle.edr_cli.specs.Causes.{IsMigrateCause, IsTakingCause};
 ghost use Rattle.edr_cli.specs.Migrations.{IsPartlyTaken, MigrateIs};
 ghost use Rattle.edr_cli.specs.Outcomes.{Migrates};
 ghost use Rattle.edr_cli.specs.Outside.{IsAtEnd, OfBoth, OfMemory, OfRun};
-ghost use Rattle.edr_cli.specs.Steps.{IsTaken};
+ghost use Rattle.edr_cli.specs.Steps.{IsTakenOver};
 ghost use Rattle.edr_cli.specs.Crashes.{KeepsImage, OfCrash};
 
 use crate::endings::{tell, write};
@@ -27,7 +27,7 @@ fn take_over<N: Nvm>(nvm: &mut N, old: &[u8]) -> Result<ShortLine, Fault>
     requires { length old.now ≤ largest_trace }
     ensures lent { GoesOn N.Nvm nvm.old nvm.new }
     ensures later { N.faults nvm.old ≤ N.faults nvm.new }
-    ensures taken { IfOk result (λ line. OfMemory N.Nvm (IsTaken old.now) nvm.old nvm.new line) }
+    ensures taken { IfOk result (λ line. OfMemory N.Nvm (IsTakenOver old.now) nvm.old nvm.new line) }
     ensures cause { IfErr result (OfMemory N.Nvm (IsTakingCause (λ AreSuch. AreSuch old.now)) nvm.old nvm.new) }
     ensures crash { OfCrash N.Nvm nvm.old nvm.new (IsPartlyTaken old.now) }
     // An image that is there stays.

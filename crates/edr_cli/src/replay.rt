@@ -4,7 +4,7 @@ ghost use Rattle.edr_device.specs.Faults.{Rose};
 ghost use Rattle.edr_device.specs.Lent.{Between, GoesOn};
 ghost use Rattle.edr_device.specs.Told.{Told};
 ghost use Rattle.edr_device.specs.Transfer.{GivesAtMost};
-ghost use Rattle.edr_spell.specs.Spell.{IsCycle, largest_trace};
+ghost use Rattle.edr_spell.specs.Spell.{IsCycleInput, largest_trace};
 ghost use Rattle.edr_replay.specs.Past.{LeavesPast};
 ghost use Rattle.edr_cli.specs.Causes.{IsReplayCause};
 ghost use Rattle.edr_cli.specs.Outcomes.{Runs};
@@ -52,7 +52,7 @@ fn run<N: Nvm>(
     cycles: &[CycleInput],
     form: Form,
 ) -> Result<Vec<u8>, Fault>
-    requires { All IsCycle cycles.now }
+    requires { All IsCycleInput cycles.now }
     ensures text { IfOk result (λ out. OfMemory N.Nvm (Reports form cycles.now) nvm.old nvm.new out.items) }
     ensures cause { IfErr result (OfMemory N.Nvm (IsRunCause cycles.now) nvm.old nvm.new) }
     ensures lent { GoesOn N.Nvm nvm.old nvm.new }

@@ -5,7 +5,7 @@ ghost use Rattle.edr_device.specs.Faults.{Rose};
 ghost use Rattle.edr_device.specs.Lent.{At, GoesOn};
 ghost use Rattle.edr_image.specs.Reports.{report_of};
 ghost use Rattle.edr_cli.specs.Causes.{IsImageCause};
-ghost use Rattle.edr_cli.specs.Outcomes.{Shows};
+ghost use Rattle.edr_cli.specs.Outcomes.{ShowsReport};
 ghost use Rattle.edr_cli.specs.Outside.{OfMemory, memory};
 ghost use Rattle.edr_cli.specs.Reports.{ReportIs, Says, report_in};
 ghost use Rattle.edr_cli.specs.Steps.{ReportsHeld};
@@ -101,7 +101,7 @@ pub(crate) fn serve_report<K: Sink, N: Nvm>(
     nvm: &mut N,
     form: Form,
 ) -> Status
-    ensures shows { Shows K.Sink N.Nvm form result sink.old sink.new nvm.old nvm.new }
+    ensures shows { ShowsReport K.Sink N.Nvm form result sink.old sink.new nvm.old nvm.new }
     ensures write_fault { result ≡ Status.WriteFault → Rose (K.faults sink.old) (K.faults sink.new) }
     ensures sink_later { K.faults sink.old ≤ K.faults sink.new }
     ensures lent { GoesOn N.Nvm nvm.old nvm.new }

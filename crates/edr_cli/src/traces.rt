@@ -3,8 +3,8 @@ ghost use Rattle.std.specs.Prelude.{◌≡◌, ◌≢◌, ◌+◌, ◌-◌, ◌�
 ghost use Rattle.edr_device.specs.Faults.{Rose};
 ghost use Rattle.edr_device.specs.Told.{Told};
 ghost use Rattle.edr_device.specs.Transfer.{Carries, GivesAtMost, GivesTooMany};
-ghost use Rattle.edr_spell.specs.Spell.{IsCycle, largest_trace};
-ghost use Rattle.edr_trace.specs.Given.{Given, Takes};
+ghost use Rattle.edr_spell.specs.Spell.{IsCycleInput, largest_trace};
+ghost use Rattle.edr_trace.specs.Given.{Given, TakesBytes};
 ghost use Rattle.edr_cli.specs.Causes.{IsTraceCause};
 ghost use Rattle.edr_cli.specs.Outside.{IsAtEnd, input};
 ghost use Rattle.edr_cli.specs.Runs.{IsTraceOf};
@@ -12,7 +12,7 @@ ghost use Rattle.edr_cli.specs.Traces.{HasAll};
 
 use crate::fault::Fault;
 use edr_device::{Source, TakeFault};
-use edr_trace::{CycleInput, LARGEST_TRACE, LONGEST_ROW, Reading};
+use edr_trace::{CycleInput, LARGEST_TRACE, LONGEST_ROW, TraceReading};
 use std::alloc::Global;
 
 // The most bytes that are asked for at once.
@@ -49,12 +49,12 @@ fn take_behind<S: Source>(
 }
 
 // Gives the first `end` bytes of the buffer to the reading, moves what it leaves to the front, and answers how many bytes that is.
-fn keep_left(reading: &mut Reading, buffer: &mut [u8], end: usize) -> usize
+fn keep_left(reading: &mut TraceReading, buffer: &mut [u8], end: usize) -> usize
     requires within { end ≤ length buffer.old }
     requires fits { (before : List ℕ) × Given before reading.old × (length before + end < 2 ^ 32) }
     ensures few { result ≤ LONGEST_ROW }
     ensures left { result ≤ end }
-    ensures given { Takes (take (end - result) buffer.old) reading.old reading.new }
+    ensures given { TakesBytes (take (end - result) buffer.old) reading.old reading.new }
     ensures moved { take (end - result) buffer.old ++ take result buffer.new ≡ take end buffer.old }
 {
     let taken = reading.take_rows(&buffer[..end]);
@@ -65,7 +65,7 @@ fn keep_left(reading: &mut Reading, buffer: &mut [u8], end: usize) -> usize
 // A trace that was taken to its end: what was read of it, and the bytes that are left.
 #[derive(Drop)]
 struct Taken {
-    reading: Reading,
+    reading: TraceReading,
     left: Vec<u8>,
 }
 
@@ -79,7 +79,7 @@ fn take_trace<S: Source>(alloc: Global, source: &mut S, limit: usize) -> Result<
     ensures most { Told (GivesAtMost (limit + 1)) (S.left source.old) (S.left source.new) }
     ensures later { S.faults source.old ≤ S.faults source.new }
 {
-    let mut reading = Reading::new(alloc);
+    let mut reading = TraceReading::new(alloc);
     let longest = piece_len(limit + 1);
     let mut buffer = vec![in alloc; 0; LONGEST_ROW + longest]?;
     let mut taken = 0;
@@ -105,7 +105,7 @@ fn take_trace<S: Source>(alloc: Global, source: &mut S, limit: usize) -> Result<
 pub(crate) fn trace_of<S: Source>(alloc: Global, source: &mut S) -> Result<Vec<CycleInput>, Fault>
     ensures end { OnOk result (IsAtEnd (S.left source.new)) }
     ensures spelled { IfOk result (λ cycles. IfSome (S.left source.old) (IsTraceOf cycles.items)) }
-    ensures cycles { IfOk result (λ cycles. All IsCycle cycles.items) }
+    ensures cycles { IfOk result (λ cycles. All IsCycleInput cycles.items) }
     ensures cause { IfErr result (IsTraceCause (input S.Source source.old) (input S.Source source.new)) }
     ensures takes { Told (GivesAtMost (largest_trace + 1)) (S.left source.old) (S.left source.new) }
     ensures later { S.faults source.old ≤ S.faults source.new }

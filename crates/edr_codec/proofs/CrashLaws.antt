@@ -9,7 +9,7 @@ use Rattle.edr_record.specs.Parts.{CrashPart}
 use Rattle.edr_record.specs.Bounds.{IsCrash, ArePoints, IsChange, window_from_end, point_count}
 use Rattle.edr_record.specs.declared.Extreme.{Extreme}
 use Rattle.edr_image.specs.declared.forms.CrashForm.{CrashForm}
-use Rattle.edr_image.specs.PartBytes.{Field, damage_of_fields, crash_damage_by, crash_at, crash_bytes_by, number_at, signed, unless, extreme_at, signed_bytes, slot_bytes, extreme_bytes, crash_size}
+use Rattle.edr_image.specs.PartBytes.{NumberField, damage_of_fields, crash_damage_by, crash_at, crash_bytes_by, number_at, signed, unless, extreme_at, signed_bytes, slot_bytes, extreme_bytes, crash_size}
 use Rattle.edr_codec.specs.declared.rows.FieldRow.{FieldRow}
 use Rattle.edr_codec.proofs.RowLemmas.{AreBytes, Lies, RowsLie, rows-whole}
 use Rattle.edr_codec.proofs.NumberLemmas.{number-stands, number-put}
@@ -260,6 +260,6 @@ crash-read_back form c is =
     let lies = subst (λ (n : ℕ). CrashLies form bytes n) (sym numbers.end_number) (numbers-lie form bytes c is numbers) in
     let whole = rows-whole bytes 0 (crash_table form end) (PieceLemmas.small-bytes bytes of.small) (crash-rows form bytes end lies) in (
       of.long,
-      subst (λ (fs : List Field). damage_of_fields bytes 0 fs ≡ None) (crash_table-fields form end) whole,
+      subst (λ (fs : List NumberField). damage_of_fields bytes 0 fs ≡ None) (crash_table-fields form end) whole,
       crash-numbers_say form bytes c is numbers,
     )

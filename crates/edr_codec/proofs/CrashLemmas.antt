@@ -10,7 +10,7 @@ use Rattle.std.proofs.lemmas.Simd.{map-map}
 use Rattle.edr_record.specs.Bounds.{IsCrash, ArePoints, IsChange, IsExtreme, window_from_end, point_count}
 use Rattle.edr_record.specs.declared.Extreme.{Extreme}
 use Rattle.edr_image.specs.declared.forms.CrashForm.{CrashForm}
-use Rattle.edr_image.specs.PartBytes.{Field, damage_of_fields, crash_fields_by, crash_damage_by, crash_at, number_at, numbers_at, signed, unless, extreme_at, change_field, time_field}
+use Rattle.edr_image.specs.PartBytes.{NumberField, damage_of_fields, crash_fields_by, crash_damage_by, crash_at, number_at, numbers_at, signed, unless, extreme_at, change_field, time_field}
 use Rattle.edr_codec.specs.declared.rows.FieldRow.{FieldRow}
 use Rattle.edr_codec.specs.Rows.{fields_of}
 use Rattle.edr_codec.proofs.RowLemmas.{Lies, RowsLie, rows-lie}
@@ -55,7 +55,7 @@ abbrev pub crash_table : CrashForm → ℕ → List FieldRow
 crash_table form end = rows_by form (point_count end) (window_from_end end) (max end (window_from_end end))
 
 -- the points of both axes, whichever way they are put together
-regrouped : (first : Field) (changes past middle last : List Field)
+regrouped : (first : NumberField) (changes past middle last : List NumberField)
     → changes ++ (past ++ (first ∷ (changes ++ (past ++ (middle ++ last))))) ≡ (((changes ++ past) ++ (first ∷ (changes ++ past))) ++ middle) ++ last
 regrouped first changes past middle last = simp append_assoc
 
@@ -63,18 +63,18 @@ pub crash_table-fields : (form : CrashForm) (end : ℕ) → flat_map fields_of (
 crash_table-fields form end =
     let window = window_from_end end in
     let time = time_field window in
-    let last : Field = record { size = 2; ranges = (0, max end window) ∷ (0xffff, 0xffff) ∷ [] } in
+    let last : NumberField = record { size = 2; ranges = (0, max end window) ∷ (0xffff, 0xffff) ∷ [] } in
     let changes = replicate (point_count end - 1) change_field in
     let past = replicate (26 - point_count end) (time_field 0) in
     let middle = change_field ∷ time ∷ change_field ∷ time ∷ time ∷ time ∷ time ∷ replicate 8 last in
-    let behind : List Field = replicate form.zeros (record { size = 1; ranges = (0, 0) ∷ [] }) in
-    ap (λ (fs : List Field). (record { size = 2; ranges = (20, 500) ∷ [] }) ∷ time_field 0 ∷ fs)
-    (ap (λ (xs : List Field). changes ++ (past ++ (time_field 0 ∷ (changes ++ (past ++ (middle ++ xs)))))) (append-nil behind) ∙ regrouped (time_field 0) changes past middle behind)
+    let behind : List NumberField = replicate form.zeros (record { size = 1; ranges = (0, 0) ∷ [] }) in
+    ap (λ (fs : List NumberField). (record { size = 2; ranges = (20, 500) ∷ [] }) ∷ time_field 0 ∷ fs)
+    (ap (λ (xs : List NumberField). changes ++ (past ++ (time_field 0 ∷ (changes ++ (past ++ (middle ++ xs)))))) (append-nil behind) ∙ regrouped (time_field 0) changes past middle behind)
 
 -- the damage of a crash part is that of the fields that its end gives
-pub crash_damage-is : (form : CrashForm) (bytes : List ℕ) (end : ℕ) (fs : List Field) → end ≡ number_at bytes 0 2 → fs ≡ crash_fields_by form end → crash_damage_by form bytes 0 ≡ damage_of_fields bytes 0 fs
+pub crash_damage-is : (form : CrashForm) (bytes : List ℕ) (end : ℕ) (fs : List NumberField) → end ≡ number_at bytes 0 2 → fs ≡ crash_fields_by form end → crash_damage_by form bytes 0 ≡ damage_of_fields bytes 0 fs
 unfolding crash_damage_by
-crash_damage-is form bytes end fs end_is are = ap (λ (e : ℕ). damage_of_fields bytes 0 (crash_fields_by form e)) (sym end_is) ∙ ap (λ (x : List Field). damage_of_fields bytes 0 x) (sym are)
+crash_damage-is form bytes end fs end_is are = ap (λ (e : ℕ). damage_of_fields bytes 0 (crash_fields_by form e)) (sym end_is) ∙ ap (λ (x : List NumberField). damage_of_fields bytes 0 x) (sym are)
 
 -- whole bytes fit the table
 pub crash-lie : (form : CrashForm) (bytes : List ℕ) → crash_damage_by form bytes 0 ≡ None → RowsLie bytes 0 (crash_table form (number_at bytes 0 2))
@@ -82,7 +82,7 @@ unfolding crash_damage_by
 crash-lie form bytes whole =
     let end = number_at bytes 0 2 in
     rows-lie bytes 0 (crash_table form end) refl
-    (subst (λ (fs : List Field). damage_of_fields bytes 0 fs ≡ None) (sym (crash_table-fields form end)) whole)
+    (subst (λ (fs : List NumberField). damage_of_fields bytes 0 fs ≡ None) (sym (crash_table-fields form end)) whole)
 
 -- ---- what the numbers are
 

@@ -5,7 +5,7 @@ use Rattle.std.proofs.lemmas.Nat.{div_below}
 use Rattle.std.proofs.lemmas.List.{get_or-set_same, get_or-set_other}
 use Rattle.std.proofs.lemmas.Bool.{false≢true, or_cases, and_parts, leb-true, ltb-true}
 use Rattle.std.specs.Option.{option_or}
-use Rattle.edr_image.specs.PartBytes.{Field, can_be_in, damage_of_field, damage_of_fields}
+use Rattle.edr_image.specs.PartBytes.{NumberField, can_be_in, damage_of_field, damage_of_fields}
 use Rattle.edr_codec.proofs.FieldLemmas.{fields_size}
 use Rattle.edr_codec.proofs.RowLemmas.{Lies, can_be_in-lies, shift, cond-none, option_or-none}
 use Rattle.edr_codec.proofs.NumberLemmas.{span-some}
@@ -58,14 +58,14 @@ field-none_same ranges b c at n (suc left) whole same =
 
 -- ---- fields in a row
 
-pub fields-from : (b : List ℕ) (at : ℕ) (fs : List Field) (k : ℕ) → damage_of_fields b at fs ≡ Some k → (at ≤ k) × (k < at + fields_size fs)
+pub fields-from : (b : List ℕ) (at : ℕ) (fs : List NumberField) (k : ℕ) → damage_of_fields b at fs ≡ Some k → (at ≤ k) × (k < at + fields_size fs)
 fields-from b at [] k damaged = absurd (grind arith)
 fields-from b at (f ∷ fs) k damaged = elim (option_or-some (damage_of_field f.ranges b at 0 f.size) (damage_of_fields b (at + f.size) fs) k damaged) [
   | inl here ↦ (let from = field-from f.ranges b at 0 f.size k here in (omega arith, omega arith))
   | inr later ↦ (let ih = fields-from b (at + f.size) fs k later.1 in (omega arith, omega arith))
 ]
 
-pub fields-same : (b c : List ℕ) (at : ℕ) (fs : List Field) (k : ℕ) → damage_of_fields b at fs ≡ Some k → SameUpTo k b c → damage_of_fields c at fs ≡ Some k
+pub fields-same : (b c : List ℕ) (at : ℕ) (fs : List NumberField) (k : ℕ) → damage_of_fields b at fs ≡ Some k → SameUpTo k b c → damage_of_fields c at fs ≡ Some k
 fields-same b c at [] k damaged same = absurd (grind arith)
 fields-same b c at (f ∷ fs) k damaged same = elim (option_or-some (damage_of_field f.ranges b at 0 f.size) (damage_of_fields b (at + f.size) fs) k damaged) [
   | inl here ↦ rw (field-same f.ranges b c at 0 f.size k here same) refl
@@ -73,7 +73,7 @@ fields-same b c at (f ∷ fs) k damaged same = elim (option_or-some (damage_of_f
       rw (field-none_same f.ranges b c at 0 f.size later.0 (λ i below. same i (omega arith))) (fields-same b c (at + f.size) fs k later.1 same))
 ]
 
-pub fields-none_same : (b c : List ℕ) (at : ℕ) (fs : List Field) → damage_of_fields b at fs ≡ None → SameBelow (at + fields_size fs) b c → damage_of_fields c at fs ≡ None
+pub fields-none_same : (b c : List ℕ) (at : ℕ) (fs : List NumberField) → damage_of_fields b at fs ≡ None → SameBelow (at + fields_size fs) b c → damage_of_fields c at fs ≡ None
 fields-none_same b c at [] whole same = refl
 fields-none_same b c at (f ∷ fs) whole same =
     let both = option_or-none (damage_of_field f.ranges b at 0 f.size) (damage_of_fields b (at + f.size) fs) whole in
@@ -87,7 +87,7 @@ AreFilled [] = Unit {0}
 AreFilled (r ∷ rs) = (r.0 ≤ r.1) × AreFilled rs
 
 -- a field has a number of its size
-pub record IsFilled (f : Field) : Type 0 where
+pub record IsFilled (f : NumberField) : Type 0 where
   pub ranges : AreFilled f.ranges
   pub some : can_be_in f.ranges 0 f.size ≡ true
 
@@ -165,11 +165,11 @@ field-fill ranges b at n (suc left) k filled can room damaged =
           (c, next.1, rw (byte, next.2) rest))
     ]
 
-abbrev pub FieldsFilled : List Field → Type 0
+abbrev pub FieldsFilled : List NumberField → Type 0
 FieldsFilled [] = Unit {0}
 FieldsFilled (f ∷ fs) = IsFilled f × FieldsFilled fs
 
-pub fields-fill : (b : List ℕ) (at : ℕ) (fs : List Field) (k : ℕ) → FieldsFilled fs → at + fields_size fs ≤ length b → damage_of_fields b at fs ≡ Some k
+pub fields-fill : (b : List ℕ) (at : ℕ) (fs : List NumberField) (k : ℕ) → FieldsFilled fs → at + fields_size fs ≤ length b → damage_of_fields b at fs ≡ Some k
     → (c : ℕ) × (c < 256) × IsPast k (damage_of_fields (set b k c) at fs)
 fields-fill b at [] k filled room damaged = absurd (grind arith)
 fields-fill b at (f ∷ fs) k filled room damaged = elim (option_or-some (damage_of_field f.ranges b at 0 f.size) (damage_of_fields b (at + f.size) fs) k damaged) [

@@ -5,7 +5,7 @@ use Rattle.std.proofs.Math.Seq.{drop-cons}
 use Rattle.std.proofs.lemmas.Bool.{true≢false, false≢true}
 use Rattle.std.specs.Option.{option_or, is_some}
 use Rattle.std.specs.List.{flat_map}
-use Rattle.edr_image.specs.PartBytes.{Field, field, can_be_in, damage_of_field, damage_of_fields}
+use Rattle.edr_image.specs.PartBytes.{NumberField, field, can_be_in, damage_of_field, damage_of_fields}
 use Rattle.edr_codec.specs.declared.rows.FieldRow.{FieldRow}
 use Rattle.edr_codec.specs.Rows.{ranges_of, fields_of, row_size}
 
@@ -54,7 +54,7 @@ field-stops ranges bytes at n size k b within is can =
     rw (left, can') refl
 
 -- how many bytes fields have
-abbrev pub fields_size : List Field → ℕ
+abbrev pub fields_size : List NumberField → ℕ
 fields_size [] = 0
 fields_size (f ∷ fs) = f.size + fields_size fs
 
@@ -72,7 +72,7 @@ option_or-assoc None b c = refl
 option_or-assoc (Some x) b c = refl
 
 -- the damage of fields in a row is that of the first ones, or else of the rest
-pub damage_of_fields-append : (bytes : List ℕ) (at : ℕ) (xs ys : List Field)
+pub damage_of_fields-append : (bytes : List ℕ) (at : ℕ) (xs ys : List NumberField)
     → damage_of_fields bytes at (xs ++ ys) ≡ option_or (damage_of_fields bytes at xs) (damage_of_fields bytes (at + fields_size xs) ys)
 damage_of_fields-append bytes at [] ys = let e : at + 0 ≡ at = omega arith in rw e refl
 damage_of_fields-append bytes at (f ∷ fs) ys =
@@ -81,14 +81,14 @@ damage_of_fields-append bytes at (f ∷ fs) ys =
     rw (ih, e) (sym (option_or-assoc (damage_of_field f.ranges bytes at 0 f.size) (damage_of_fields bytes (at + f.size) fs) (damage_of_fields bytes (at + (f.size + fields_size fs)) ys)))
 
 -- field k of a row, which is one
-pub row-goes_on : (bytes : List ℕ) (at count k : ℕ) (f : Field) → k < count → damage_of_field f.ranges bytes (at + f.size * k) 0 f.size ≡ None
+pub row-goes_on : (bytes : List ℕ) (at count k : ℕ) (f : NumberField) → k < count → damage_of_field f.ranges bytes (at + f.size * k) 0 f.size ≡ None
     → damage_of_fields bytes (at + f.size * k) (replicate (count - k) f) ≡ damage_of_fields bytes (at + f.size * (k + 1)) (replicate (count - (k + 1)) f)
 row-goes_on bytes at count k f within whole =
     let left : count - k ≡ suc (count - (k + 1)) = omega arith in
     let next : at + f.size * k + f.size ≡ at + f.size * (k + 1) = rw (add-one k, mul-suc f.size k) (omega arith) in
     rw (left, whole, next) refl
 
-pub fields_size-replicate : (n : ℕ) (f : Field) → fields_size (replicate n f) ≡ f.size * n
+pub fields_size-replicate : (n : ℕ) (f : NumberField) → fields_size (replicate n f) ≡ f.size * n
 fields_size-replicate zero f = omega arith
 fields_size-replicate (suc n) f = let ih = fields_size-replicate n f in rw (ih, mul-suc f.size n) (omega arith)
 

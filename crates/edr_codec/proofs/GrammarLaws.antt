@@ -4,7 +4,7 @@ use Rattle.std.specs.List.{flat_map}
 use Rattle.edr_record.specs.Bounds.{IsCrash, window_from_end, point_count}
 use Rattle.edr_image.specs.declared.forms.CrashForm.{CrashForm}
 use Rattle.edr_image.specs.declared.forms.PreForm.{PreForm}
-use Rattle.edr_image.specs.PartBytes.{Field, field, damage_of_fields, pre_size, slots_of, profile_byte, IsPreForm, IsPreBy, pre_fields_by, pre_damage_by, pre_at_by, pre_bytes_by, BeginsPreBy, crash_size, crash_fields_by, crash_damage_by, crash_at, crash_bytes_by, BeginsCrashBy, number_at, IsDamagedAt}
+use Rattle.edr_image.specs.PartBytes.{NumberField, field, damage_of_fields, pre_size, slots_of, profile_byte, IsPreForm, IsPreBy, pre_fields_by, pre_damage_by, pre_at_by, pre_bytes_by, BeginsPreBy, crash_size, crash_fields_by, crash_damage_by, crash_at, crash_bytes_by, BeginsCrashBy, number_at, IsDamagedAt}
 use Rattle.edr_codec.specs.declared.rows.FieldRow.{FieldRow}
 use Rattle.edr_codec.specs.Rows.{ranges_of, fields_of, row_size}
 use Rattle.edr_codec.proofs.FieldLemmas.{fields_size, fields_size-replicate}
@@ -30,11 +30,11 @@ abbrev RowsFilled : List FieldRow → Type 0
 RowsFilled [] = Unit {0}
 RowsFilled (r ∷ rs) = IsFilled (field r.size (ranges_of r)) × RowsFilled rs
 
-filled-append : (xs ys : List Field) → FieldsFilled xs → FieldsFilled ys → FieldsFilled (xs ++ ys)
+filled-append : (xs ys : List NumberField) → FieldsFilled xs → FieldsFilled ys → FieldsFilled (xs ++ ys)
 filled-append [] ys a b = b
 filled-append (x ∷ xs) ys a b = (a.0, filled-append xs ys a.1 b)
 
-filled-replicate : (n : ℕ) (f : Field) → IsFilled f → FieldsFilled (replicate n f)
+filled-replicate : (n : ℕ) (f : NumberField) → IsFilled f → FieldsFilled (replicate n f)
 filled-replicate zero f is = tt
 filled-replicate (suc n) f is = (is, filled-replicate n f is)
 
@@ -47,7 +47,7 @@ abbrev rows_size : List FieldRow → ℕ
 rows_size [] = 0
 rows_size (r ∷ rs) = row_size r + rows_size rs
 
-fields_size-append : (xs ys : List Field) → fields_size (xs ++ ys) ≡ fields_size xs + fields_size ys
+fields_size-append : (xs ys : List NumberField) → fields_size (xs ++ ys) ≡ fields_size xs + fields_size ys
 fields_size-append [] ys = omega arith
 fields_size-append (x ∷ xs) ys = let ih = fields_size-append xs ys in omega arith
 
@@ -59,10 +59,10 @@ fields_size-rows (r ∷ rs) =
 
 -- ---- the pre part
 
-abbrev pre_head : PreForm → List Field
+abbrev pre_head : PreForm → List NumberField
 pre_head form = field 4 ((1, 4_294_967_295) ∷ []) ∷ field 4 ((1, 86_400_000) ∷ []) ∷ field 1 ((1, 2) ∷ []) ∷ field 1 (form.profiles ∷ []) ∷ []
 
-abbrev pre_tail : PreForm → List ℕ → List Field
+abbrev pre_tail : PreForm → List ℕ → List NumberField
 pre_tail form b = flat_map fields_of (pre_rest form (slots_of form (slice_index b 9)) (nat_eq (slice_index b 8) 1))
 
 one_filled : (size low high : ℕ) → low ≤ high → low < 256 ^ size → IsFilled (field size ((low, high) ∷ []))
@@ -121,7 +121,7 @@ pre-is_table form is = record {
 
 pre_damage-table : (form : PreForm) (b : List ℕ) → pre_damage_by form b 0 ≡ table_damage (pre_head form) (pre_tail form) b
 unfolding pre_damage_by
-pre_damage-table form b = ap (λ (fs : List Field). damage_of_fields b 0 fs) (sym (pre_table-fields form (slice_index b 8) (slice_index b 9)))
+pre_damage-table form b = ap (λ (fs : List NumberField). damage_of_fields b 0 fs) (sym (pre_table-fields form (slice_index b 8) (slice_index b 9)))
 
 -- what whole bytes say is in its bounds
 pub pre_at-in_bounds : (form : PreForm) (b : List ℕ) → IsPreForm form → pre_damage_by form b 0 ≡ None → IsPreBy form (pre_at_by form b 0)
@@ -149,13 +149,13 @@ pre_damage-means form is b k long small = (
 
 -- ---- the crash part
 
-abbrev crash_head : List Field
+abbrev crash_head : List NumberField
 crash_head = field 2 ((20, 500) ∷ []) ∷ []
 
 abbrev crash_rest : CrashForm → ℕ → List FieldRow
 crash_rest form end = axis_rows (point_count end) (axis_rows (point_count end) (last_rows form (window_from_end end) (max end (window_from_end end))))
 
-abbrev crash_tail : CrashForm → List ℕ → List Field
+abbrev crash_tail : CrashForm → List ℕ → List NumberField
 crash_tail form b = flat_map fields_of (crash_rest form (number_at b 0 2))
 
 change-filled : IsFilled (field 2 ((0, 3_000) ∷ (62_536, 65_535) ∷ []))
@@ -212,7 +212,7 @@ crash-is_table form = record {
 
 crash_damage-table : (form : CrashForm) (b : List ℕ) → crash_damage_by form b 0 ≡ table_damage crash_head (crash_tail form) b
 unfolding crash_damage_by
-crash_damage-table form b = ap (λ (fs : List Field). damage_of_fields b 0 fs) (sym (crash_table-fields form (number_at b 0 2)))
+crash_damage-table form b = ap (λ (fs : List NumberField). damage_of_fields b 0 fs) (sym (crash_table-fields form (number_at b 0 2)))
 
 crash-is_grammar : (form : CrashForm) → IsGrammar (crash_size form) IsCrash (crash_bytes_by form) (λ b. crash_at b 0) (table_damage crash_head (crash_tail form))
 crash-is_grammar form = record {

@@ -4,28 +4,28 @@ use Rattle.std.proofs.lemmas.Bool.{cases_order}
 use Rattle.std.proofs.lemmas.List.{length-set, get_or-take, take-set-le, take-take}
 use Rattle.std.proofs.lemmas.List.Elements.{All-set}
 use Rattle.std.specs.Option.{option_or}
-use Rattle.edr_image.specs.PartBytes.{Field, damage_of_fields, IsDamagedAt}
+use Rattle.edr_image.specs.PartBytes.{NumberField, damage_of_fields, IsDamagedAt}
 use Rattle.edr_codec.proofs.FieldLemmas.{fields_size, damage_of_fields-append}
 use Rattle.edr_codec.proofs.PieceLemmas.{AreSmall}
 use Rattle.edr_codec.proofs.DamageLemmas
 
 -- the damage by a table of which the first fields are always the same, and the others are told by the bytes of these
-abbrev pub table_damage : List Field → (List ℕ → List Field) → List ℕ → Option ℕ
+abbrev pub table_damage : List NumberField → (List ℕ → List NumberField) → List ℕ → Option ℕ
 table_damage head tail b = damage_of_fields b 0 (head ++ tail b)
 
-pub record IsTable (size : ℕ) (head : List Field) (tail : List ℕ → List Field) : Type 0 where
+pub record IsTable (size : ℕ) (head : List NumberField) (tail : List ℕ → List NumberField) : Type 0 where
   pub head_filled : DamageLemmas.FieldsFilled head
   pub tail_filled : (b : List ℕ) → DamageLemmas.FieldsFilled (tail b)
   pub told : (b c : List ℕ) → DamageLemmas.SameBelow (fields_size head) b c → tail b ≡ tail c
   pub sizes : (b : List ℕ) → fields_size head + fields_size (tail b) ≡ size
 
-table-parts : (head : List Field) (tail : List ℕ → List Field) (b : List ℕ)
+table-parts : (head : List NumberField) (tail : List ℕ → List NumberField) (b : List ℕ)
     → table_damage head tail b ≡ option_or (damage_of_fields b 0 head) (damage_of_fields b (fields_size head) (tail b))
 table-parts head tail b =
     let e : 0 + fields_size head ≡ fields_size head = omega arith in
     damage_of_fields-append b 0 head (tail b) ∙ ap (λ (i : ℕ). option_or (damage_of_fields b 0 head) (damage_of_fields b i (tail b))) e
 
-pub table-within : (size : ℕ) (head : List Field) (tail : List ℕ → List Field) (b : List ℕ) (k : ℕ) → IsTable size head tail → table_damage head tail b ≡ Some k → k < size
+pub table-within : (size : ℕ) (head : List NumberField) (tail : List ℕ → List NumberField) (b : List ℕ) (k : ℕ) → IsTable size head tail → table_damage head tail b ≡ Some k → k < size
 table-within size head tail b k is damaged =
     let e = is.sizes b in
     elim (DamageLemmas.option_or-some (damage_of_fields b 0 head) (damage_of_fields b (fields_size head) (tail b)) k (sym (table-parts head tail b) ∙ damaged)) [
@@ -34,7 +34,7 @@ table-within size head tail b k is damaged =
     ]
 
 -- the damage is told by the bytes up to it
-pub table-same : (size : ℕ) (head : List Field) (tail : List ℕ → List Field) (b c : List ℕ) (k : ℕ) → IsTable size head tail → table_damage head tail b ≡ Some k → DamageLemmas.SameUpTo k b c
+pub table-same : (size : ℕ) (head : List NumberField) (tail : List ℕ → List NumberField) (b c : List ℕ) (k : ℕ) → IsTable size head tail → table_damage head tail b ≡ Some k → DamageLemmas.SameUpTo k b c
     → table_damage head tail c ≡ Some k
 table-same size head tail b c k is damaged same = table-parts head tail c
     ∙ elim (DamageLemmas.option_or-some (damage_of_fields b 0 head) (damage_of_fields b (fields_size head) (tail b)) k (sym (table-parts head tail b) ∙ damaged)) as (λ _. option_or (damage_of_fields c 0 head) (damage_of_fields c (fields_size head) (tail c)) ≡ Some k) [
@@ -47,7 +47,7 @@ table-same size head tail b c k is damaged same = table-parts head tail c
     ]
 
 -- with another byte in its place the damage is later, or none
-pub table-fill : (size : ℕ) (head : List Field) (tail : List ℕ → List Field) (b : List ℕ) (k : ℕ) → IsTable size head tail → length b ≡ size → table_damage head tail b ≡ Some k
+pub table-fill : (size : ℕ) (head : List NumberField) (tail : List ℕ → List NumberField) (b : List ℕ) (k : ℕ) → IsTable size head tail → length b ≡ size → table_damage head tail b ≡ Some k
     → (c : ℕ) × (c < 256) × DamageLemmas.IsPast k (table_damage head tail (set b k c))
 table-fill size head tail b k is long damaged =
     let e = is.sizes b in
@@ -95,7 +95,7 @@ complete-step size damage b after k (Some j) long small front is past later =
     sym (take-take k j rest.bytes (omega arith)) ∙ ap (λ (xs : List ℕ). take k xs) rest.begins ∙ take-take k j after (omega arith) in
     record { bytes = rest.bytes; long = rest.long; small = rest.small; whole = rest.whole; begins = begins ∙ front }
 
-pub table-complete : (size : ℕ) (head : List Field) (tail : List ℕ → List Field) (fuel : ℕ) (b : List ℕ) (k : ℕ) → IsTable size head tail → length b ≡ size → AreSmall b
+pub table-complete : (size : ℕ) (head : List NumberField) (tail : List ℕ → List NumberField) (fuel : ℕ) (b : List ℕ) (k : ℕ) → IsTable size head tail → length b ≡ size → AreSmall b
     → table_damage head tail b ≡ Some k → size ≤ k + fuel → IsCompleted size (table_damage head tail) b k
 table-complete size head tail zero b k is long small damaged room = absurd (let h = table-within size head tail b k is damaged in omega arith)
 table-complete size head tail (suc fuel) b k is long small damaged room =

@@ -10,7 +10,7 @@ use Rattle.edr_record.specs.declared.Place.{Place}
 use Rattle.edr_record.specs.declared.Place.TheVariants.{First, Second}
 use Rattle.edr_image.specs.declared.forms.CrashForm.{CrashForm}
 use Rattle.edr_image.specs.declared.forms.PreForm.{PreForm}
-use Rattle.edr_image.specs.PartBytes.{Field, can_be_in, damage_of_field, damage_of_fields, pre_size, slots_of, profile_from, throttle_at, brake_at, belt_at, lamp_at, IsPreForm, pre_fields_by, pre_damage_by, pre_at_by, crash_fields_by, crash_damage_by, crash_at, number_at, numbers_at, signed, unless, switch_from, extreme_at, crash_size}
+use Rattle.edr_image.specs.PartBytes.{NumberField, can_be_in, damage_of_field, damage_of_fields, pre_size, slots_of, profile_from, throttle_at, brake_at, belt_at, lamp_at, IsPreForm, pre_fields_by, pre_damage_by, pre_at_by, crash_fields_by, crash_damage_by, crash_at, number_at, numbers_at, signed, unless, switch_from, extreme_at, crash_size}
 use Rattle.edr_codec.proofs.FieldLemmas.{fields_size}
 use Rattle.edr_codec.proofs.PreLemmas.{part-same}
 use Rattle.edr_codec.proofs.GrammarLaws.{crash_fields-size, pre_fields-size}
@@ -58,7 +58,7 @@ map-or : (at : ℕ) (a b : Option ℕ) → option_or (option_map (λ k. at + k) 
 map-or at None b = refl
 map-or at (Some x) b = refl
 
-fields-moved : (size at : ℕ) (bytes part : List ℕ) → StandsAt size at bytes part → (i : ℕ) (fs : List Field) → i + fields_size fs ≤ size
+fields-moved : (size at : ℕ) (bytes part : List ℕ) → StandsAt size at bytes part → (i : ℕ) (fs : List NumberField) → i + fields_size fs ≤ size
     → damage_of_fields bytes (at + i) fs ≡ option_map (λ k. at + k) (damage_of_fields part i fs)
 fields-moved size at bytes part stands i [] room = refl
 fields-moved size at bytes part stands i (f ∷ fs) room =

@@ -7,11 +7,11 @@ use Rattle.std.specs.Prelude.{All}
 use Rattle.std.specs.List.{flat_map}
 use Rattle.byteorder.specs.Endian.{big_bytes}
 use Rattle.edr_record.specs.Parts.{PrePart}
-use Rattle.edr_record.specs.Bounds.{IsPlace, IsPreOf, IsUpTo}
+use Rattle.edr_record.specs.Bounds.{IsPlace, IsPreWithSlots, IsUpTo}
 use Rattle.edr_record.specs.declared.Place.{Place}
 use Rattle.edr_record.specs.declared.Place.TheVariants.{First, Second}
 use Rattle.edr_image.specs.declared.forms.PreForm.{PreForm}
-use Rattle.edr_image.specs.PartBytes.{Field, damage_of_fields, slots_of, profile_from, profile_byte, throttle_at, brake_at, belt_at, lamp_at, end_at, pre_size, IsPreForm, pre_fields_by, pre_damage_by, pre_at_by, pre_bytes_by, pre_bytes_with, place_bytes, number_at, numbers_at, unless, switch_from, slot_bytes, switch_byte}
+use Rattle.edr_image.specs.PartBytes.{NumberField, damage_of_fields, slots_of, profile_from, profile_byte, throttle_at, brake_at, belt_at, lamp_at, end_at, pre_size, IsPreForm, pre_fields_by, pre_damage_by, pre_at_by, pre_bytes_by, pre_bytes_with, place_bytes, number_at, numbers_at, unless, switch_from, slot_bytes, switch_byte}
 use Rattle.edr_codec.specs.Rows.{fields_of}
 use Rattle.edr_codec.proofs.RowLemmas.{AreBytes, Lies, rows-whole}
 use Rattle.edr_codec.proofs.NumberLemmas.{number-stands, number-put}
@@ -84,7 +84,7 @@ pre-written form bytes is long are whole =
     let belt : belt_at form + 1 * 0 ≡ belt_at form = omega arith in
     let read = read_part-is form bytes in
     subst (λ (p : PrePart). bytes ≡ pre_bytes_by form p) read
-    (pre-put form n (read_part form n bytes) bytes bytes bytes bytes bytes bytes bytes bytes bytes bytes bytes bytes (subst (λ (p : PrePart). IsPreOf n p) (sym read) (pre_at-is form bytes is whole)) fits long
+    (pre-put form n (read_part form n bytes) bytes bytes bytes bytes bytes bytes bytes bytes bytes bytes bytes bytes (subst (λ (p : PrePart). IsPreWithSlots n p) (sym read) (pre_at-is form bytes is whole)) fits long
     (number-stands bytes 0 4 are (omega arith))
     (number-stands bytes 4 4 are (omega arith))
     (place-stands form n bytes (omega arith) are lies ∙ ap (λ (b : ℕ). take 8 bytes ++ place_bytes b (if first then First else Second (number_at bytes 10 2))) (sym same))
@@ -155,7 +155,7 @@ past-bytes bytes rest at n bytes_of code xs coded many stands =
     PieceLemmas.past-piece bytes (flat_map bytes_of xs) rest at n stands
     (PieceLemmas.length-pieces 1 bytes_of code xs coded ∙ ap (λ (i : ℕ). 1 * i) many ∙ (let e : 1 * n ≡ n = omega arith in e))
 
-pub pre-numbers : (form : PreForm) (n : ℕ) (bytes : List ℕ) (p : PrePart) → IsPreOf n p → IsProfile form n p.profile → bytes ≡ pre_bytes_by form p → PreNumbers form n bytes p
+pub pre-numbers : (form : PreForm) (n : ℕ) (bytes : List ℕ) (p : PrePart) → IsPreWithSlots n p → IsProfile form n p.profile → bytes ≡ pre_bytes_by form p → PreNumbers form n bytes p
 unfolding pre_bytes_by
 pre-numbers form n bytes p is in_form put =
     let fits = in_form.fits in
@@ -253,7 +253,7 @@ switches-lie form n bytes p are k below = elim (cases_lt k 1) [
       (ap (λ (i : ℕ). number_at bytes i 1) (let e : belt_at form + 1 * k ≡ lamp_at form = omega arith in e) ∙ are.lamp) (PieceLemmas.switch-lies p.lamp)
 ]
 
-pub pre-numbers_lie : (form : PreForm) (n : ℕ) (bytes : List ℕ) (p : PrePart) → IsPreOf n p → IsProfile form n p.profile → PreNumbers form n bytes p → PreLies form n (nat_eq (slice_index bytes 8) 1) bytes
+pub pre-numbers_lie : (form : PreForm) (n : ℕ) (bytes : List ℕ) (p : PrePart) → IsPreWithSlots n p → IsProfile form n p.profile → PreNumbers form n bytes p → PreLies form n (nat_eq (slice_index bytes 8) 1) bytes
 pre-numbers_lie form n bytes p is in_form are =
     let place : slice_index bytes 8 ≡ place_code p.place = sym (PieceLemmas.byte-is bytes 8) ∙ are.place in
     let is_first = nat_eq (slice_index bytes 8) 1 in
@@ -281,7 +281,7 @@ numbers-byte form n bytes p are = sym (PieceLemmas.byte-is bytes 9) ∙ are.prof
 numbers-slots : (form : PreForm) (n : ℕ) (bytes : List ℕ) (p : PrePart) → IsProfile form n p.profile → PreNumbers form n bytes p → slots_of form (slice_index bytes 9) ≡ n
 numbers-slots form n bytes p in_form are = ap (slots_of form) (numbers-byte form n bytes p are) ∙ in_form.back
 
-pub pre-numbers_say : (form : PreForm) (n : ℕ) (bytes : List ℕ) (p : PrePart) → IsPreOf n p → IsProfile form n p.profile → PreNumbers form n bytes p → pre_at_by form bytes 0 ≡ p
+pub pre-numbers_say : (form : PreForm) (n : ℕ) (bytes : List ℕ) (p : PrePart) → IsPreWithSlots n p → IsProfile form n p.profile → PreNumbers form n bytes p → pre_at_by form bytes 0 ≡ p
 pre-numbers_say form n bytes p is in_form are =
     let place : slice_index bytes 8 ≡ place_code p.place = sym (PieceLemmas.byte-is bytes 8) ∙ are.place in
     sym (pre_at-parts form n bytes p.key.cycle p.key.zero p.place p.profile p.speed p.throttle p.brake p.belt p.lamp
@@ -301,7 +301,7 @@ place_bytes-of profile place byte = subst (λ (xs : List ℕ). PieceLemmas.AreBy
     (PieceLemmas.bytes-append (PieceLemmas.bytes-number 1 (place_code place)) (PieceLemmas.bytes-append (PieceLemmas.bytes-number 1 profile) (PieceLemmas.bytes-number 2 (after_code place))))
 
 -- how many bytes a pre part has
-pub pre_bytes-of : (form : PreForm) (n : ℕ) (p : PrePart) → IsPreOf n p → IsProfile form n p.profile → PieceLemmas.AreBytesOf (pre_size form) (pre_bytes_by form p)
+pub pre_bytes-of : (form : PreForm) (n : ℕ) (p : PrePart) → IsPreWithSlots n p → IsProfile form n p.profile → PieceLemmas.AreBytesOf (pre_size form) (pre_bytes_by form p)
 unfolding pre_bytes_by
 pre_bytes-of form n p is in_form =
     let fits = in_form.fits in
@@ -320,7 +320,7 @@ pre_bytes-of form n p is in_form =
     subst (λ (m : ℕ). PieceLemmas.AreBytesOf (pre_size form) (pre_bytes_with form m p)) (sym is.speeds) (record { long = all.long ∙ size; small = all.small })
 
 -- what is read from the bytes of a pre part is this part
-pub pre-read_back : (form : PreForm) (n : ℕ) (p : PrePart) → IsPreOf n p → IsProfile form n p.profile
+pub pre-read_back : (form : PreForm) (n : ℕ) (p : PrePart) → IsPreWithSlots n p → IsProfile form n p.profile
     → (length (pre_bytes_by form p) ≡ pre_size form) × (pre_damage_by form (pre_bytes_by form p) 0 ≡ None) × (pre_at_by form (pre_bytes_by form p) 0 ≡ p)
 unfolding pre_damage_by
 pre-read_back form n p is in_form =
@@ -335,6 +335,6 @@ pre-read_back form n p is in_form =
     let fields : flat_map fields_of (pre_table form n (nat_eq place 1)) ≡ pre_fields_by form place profile =
     ap (λ (m : ℕ). flat_map fields_of (pre_table form m (nat_eq place 1))) (sym slots) ∙ pre_table-fields form place profile in (
       of.long,
-      subst (λ (fs : List Field). damage_of_fields bytes 0 fs ≡ None) fields whole,
+      subst (λ (fs : List NumberField). damage_of_fields bytes 0 fs ≡ None) fields whole,
       pre-numbers_say form n bytes p is in_form numbers,
     )

@@ -6,7 +6,7 @@ use Rattle.std.proofs.lemmas.Bool.{cases_Bool}
 use Rattle.std.proofs.lemmas.List.Elements.{All-map, All-from_get_or}
 use Rattle.std.proofs.lemmas.List.FromFn.{length-map-range_with_len, get_or-map-range_with_len}
 use Rattle.std.proofs.lemmas.Simd.{map-map}
-use Rattle.edr_record.specs.Bounds.{IsPre, IsPreOf, IsPlace, IsUpTo, slots_in}
+use Rattle.edr_record.specs.Bounds.{IsPre, IsPreWithSlots, IsPlace, IsUpTo, slots_in}
 use Rattle.edr_record.specs.Fields.{profile_of_slots, speed_of, throttle_of, brake_of, slots_with}
 use Rattle.edr_record.specs.Parts.{PrePart}
 use Rattle.edr_record.specs.declared.Place.{Place}
@@ -15,7 +15,7 @@ use Rattle.edr_record.specs.declared.Profile.{Profile}
 use Rattle.edr_record.specs.declared.Profile.TheVariants.{Short, Long}
 use Rattle.edr_record.specs.declared.Slots.{Slots}
 use Rattle.edr_image.specs.declared.forms.PreForm.{PreForm}
-use Rattle.edr_image.specs.PartBytes.{Field, damage_of_fields, slots_of, profile_from, profile_byte, throttle_at, brake_at, belt_at, lamp_at, end_at, IsPreForm, HasProfile, HasSlots, IsPreBy, pre_fields_by, pre_damage_by, pre_at_by, number_at, numbers_at, unless, switch_from, switch_field}
+use Rattle.edr_image.specs.PartBytes.{NumberField, damage_of_fields, slots_of, profile_from, profile_byte, throttle_at, brake_at, belt_at, lamp_at, end_at, IsPreForm, HasProfile, HasSlots, IsPreBy, pre_fields_by, pre_damage_by, pre_at_by, number_at, numbers_at, unless, switch_from, switch_field}
 use Rattle.edr_codec.specs.declared.rows.FieldRow.{FieldRow}
 use Rattle.edr_codec.specs.Rows.{fields_of}
 use Rattle.edr_codec.proofs.RowLemmas.{Lies, RowsLie, rows-lie}
@@ -57,15 +57,15 @@ pre_table form n is_first =
     ∷ pre_rest form n is_first
 
 -- the fields behind the time to the first event, whichever way they are put together
-regrouped : (a b c d e f g h : List Field) → a ++ (b ++ (c ++ (d ++ (e ++ (f ++ (g ++ (h ++ []))))))) ≡ (((((a ++ b) ++ c) ++ d) ++ e) ++ f) ++ (g ++ h)
+regrouped : (a b c d e f g h : List NumberField) → a ++ (b ++ (c ++ (d ++ (e ++ (f ++ (g ++ (h ++ []))))))) ≡ (((((a ++ b) ++ c) ++ d) ++ e) ++ f) ++ (g ++ h)
 regrouped a b c d e f g h = simp (append_assoc, append-nil)
 
 pub pre_table-fields : (form : PreForm) (place profile : ℕ) → flat_map fields_of (pre_table form (slots_of form profile) (nat_eq place 1)) ≡ pre_fields_by form place profile
 pre_table-fields form place profile =
     let n = slots_of form profile in
-    let one = λ (size : ℕ) (values : ℕ × ℕ). (let f : Field = record { size = size; ranges = values ∷ [] } in f) in
-    let two = λ (size : ℕ) (values others : ℕ × ℕ). (let f : Field = record { size = size; ranges = values ∷ others ∷ [] } in f) in
-    ap (λ (fs : List Field). one 4 (1, 4_294_967_295) ∷ one 4 (1, 86_400_000) ∷ one 1 (1, 2) ∷ one 1 form.profiles ∷ one 2 (after_range (nat_eq place 1)) ∷ fs)
+    let one = λ (size : ℕ) (values : ℕ × ℕ). (let f : NumberField = record { size = size; ranges = values ∷ [] } in f) in
+    let two = λ (size : ℕ) (values others : ℕ × ℕ). (let f : NumberField = record { size = size; ranges = values ∷ others ∷ [] } in f) in
+    ap (λ (fs : List NumberField). one 4 (1, 4_294_967_295) ∷ one 4 (1, 86_400_000) ∷ one 1 (1, 2) ∷ one 1 form.profiles ∷ one 2 (after_range (nat_eq place 1)) ∷ fs)
     (regrouped (replicate n (two 2 (0, 300) (0xffff, 0xffff))) (replicate (2 * (form.room - n)) (one 1 (0, 0))) (replicate n (two 1 (0, 100) (0xff, 0xff))) (replicate (form.room - n) (one 1 (0, 0)))
     (replicate n switch_field) (replicate (form.room - n) (one 1 (0, 0))) (switch_field ∷ switch_field ∷ []) (replicate form.zeros (one 1 (0, 0))))
 
@@ -76,7 +76,7 @@ pre-lie form bytes whole =
     let place = slice_index bytes 8 in
     let profile = slice_index bytes 9 in
     rows-lie bytes 0 (pre_table form (slots_of form profile) (nat_eq place 1)) refl
-    (subst (λ (fs : List Field). damage_of_fields bytes 0 fs ≡ None) (sym (pre_table-fields form place profile)) whole)
+    (subst (λ (fs : List NumberField). damage_of_fields bytes 0 fs ≡ None) (sym (pre_table-fields form place profile)) whole)
 
 -- ---- what the numbers are
 
@@ -239,10 +239,10 @@ profile-has form profile is has =
 pub profile-by : (form : PreForm) (p : PrePart) → IsPreForm form → IsPreBy form p → IsProfile form (slots_of form (profile_byte form p.profile)) p.profile
 profile-by form p is by = profile-has form p.profile is by.profile
 
-pub by-profile : (form : PreForm) (n : ℕ) (p : PrePart) → IsProfile form n p.profile → IsPreOf n p → IsPreBy form p
+pub by-profile : (form : PreForm) (n : ℕ) (p : PrePart) → IsProfile form n p.profile → IsPreWithSlots n p → IsPreBy form p
 by-profile form n p in_form bounds = record {
   profile = in_form.told;
-  bounds = subst (λ (m : ℕ). IsPreOf m p) (sym in_form.back) bounds;
+  bounds = subst (λ (m : ℕ). IsPreWithSlots m p) (sym in_form.back) bounds;
 }
 
 -- where each profile byte has the slots of its profile, these are the parts of records
@@ -258,7 +258,7 @@ pub record-by : (form : PreForm) (p : PrePart) → IsPreForm form → HasSlots f
 record-by form p is slots bounds has = by-profile form (slots_in p.profile) p (record-profile form p.profile is slots has) bounds
 
 pub by-record : (form : PreForm) (p : PrePart) → IsPreForm form → HasSlots form → IsPreBy form p → IsPre p
-by-record form p is slots by = subst (λ (m : ℕ). IsPreOf m p) (record-slots form p.profile is slots by.profile) by.bounds
+by-record form p is slots by = subst (λ (m : ℕ). IsPreWithSlots m p) (record-slots form p.profile is slots by.profile) by.bounds
 
 place-from : (is_first : Bool) (after : ℕ) → Lies (after_range is_first ∷ []) after → IsPlace (if is_first then First else Second after)
 place-from true after lies = tt
@@ -279,7 +279,7 @@ pre-profile form bytes is whole =
     in_range form.profiles.0 form.profiles.1 (slice_index bytes 9)
     (subst (λ (x : ℕ). Lies (form.profiles ∷ []) x) (one_byte bytes 9) ((pre-whole form bytes is whole).profile 0 (omega arith)))
 
-pub pre_at-is : (form : PreForm) (bytes : List ℕ) → IsPreForm form → pre_damage_by form bytes 0 ≡ None → IsPreOf (slots_of form (slice_index bytes 9)) (pre_at_by form bytes 0)
+pub pre_at-is : (form : PreForm) (bytes : List ℕ) → IsPreForm form → pre_damage_by form bytes 0 ≡ None → IsPreWithSlots (slots_of form (slice_index bytes 9)) (pre_at_by form bytes 0)
 unfolding pre_at_by
 pre_at-is form bytes is whole =
     let n = slots_of form (slice_index bytes 9) in

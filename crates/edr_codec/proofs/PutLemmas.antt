@@ -4,7 +4,7 @@ use Rattle.std.specs.List.{flat_map}
 use Rattle.std.proofs.lemmas.List.{take_all}
 use Rattle.std.proofs.lemmas.List.Concat.{flat_map_single}
 use Rattle.byteorder.specs.Endian.{big_bytes}
-use Rattle.edr_record.specs.Bounds.{IsCrash, IsPreOf}
+use Rattle.edr_record.specs.Bounds.{IsCrash, IsPreWithSlots}
 use Rattle.edr_record.specs.Parts.{PrePart, CrashPart}
 use Rattle.edr_image.specs.declared.forms.CrashForm.{CrashForm}
 use Rattle.edr_image.specs.declared.forms.PreForm.{PreForm}
@@ -15,7 +15,7 @@ joined : (a b c d e f g h i : List ℕ) (x y : ℕ) (z : List ℕ)
     → (((((((((a ++ b) ++ c) ++ d) ++ e) ++ f) ++ g) ++ h) ++ i) ++ x ∷ []) ++ y ∷ [] ++ z ≡ ((((((((a ++ b) ++ c) ++ d) ++ e) ++ f) ++ g) ++ h) ++ i) ++ x ∷ y ∷ z
 joined a b c d e f g h i x y z = simp append_assoc
 
-pub pre-put : (form : PreForm) (n : ℕ) (p : PrePart) (o1 o2 o3 o4 o5 o6 o7 o8 o9 o10 o11 o12 : List ℕ) → IsPreOf n p → n ≤ form.room → length o12 ≡ pre_size form
+pub pre-put : (form : PreForm) (n : ℕ) (p : PrePart) (o1 o2 o3 o4 o5 o6 o7 o8 o9 o10 o11 o12 : List ℕ) → IsPreWithSlots n p → n ≤ form.room → length o12 ≡ pre_size form
     → take 4 o1 ≡ big_bytes 4 p.key.cycle
     → take 8 o2 ≡ take 4 o1 ++ big_bytes 4 p.key.zero
     → take 12 o3 ≡ take 8 o2 ++ place_bytes (profile_byte form p.profile) p.place

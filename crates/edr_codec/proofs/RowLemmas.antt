@@ -6,7 +6,7 @@ use Rattle.std.specs.Option.{option_or}
 use Rattle.std.specs.List.{list_all, flat_map}
 use Rattle.byteorder.specs.Endian.{big_from}
 use Rattle.byteorder.specs.Numbers.{big_from-lt}
-use Rattle.edr_image.specs.PartBytes.{Field, can_be_in, damage_of_field, damage_of_fields, number_at}
+use Rattle.edr_image.specs.PartBytes.{NumberField, can_be_in, damage_of_field, damage_of_fields, number_at}
 use Rattle.edr_codec.specs.declared.rows.FieldRow.{FieldRow}
 use Rattle.edr_codec.specs.Rows.{ranges_of, fields_of, row_size}
 use Rattle.edr_codec.proofs.FieldLemmas.{fields_size, fields_size-replicate, damage_of_fields-append}
@@ -103,7 +103,7 @@ number-lies ranges bytes at (suc left) some whole =
     let e : 0 * 256 ^ suc left + big_from at (suc left) bytes ≡ big_from at (suc left) bytes = omega arith in
     subst (λ (x : ℕ). Lies ranges x) e (field-lies ranges bytes at 0 left whole)
 
-row-lies : (bytes : List ℕ) (at n : ℕ) (f : Field) → 0 < f.size → damage_of_fields bytes at (replicate n f) ≡ None
+row-lies : (bytes : List ℕ) (at n : ℕ) (f : NumberField) → 0 < f.size → damage_of_fields bytes at (replicate n f) ≡ None
     → (k : ℕ) → k < n → Lies f.ranges (number_at bytes (at + f.size * k) f.size)
 row-lies bytes at zero f some whole k within = absurd (omega arith)
 row-lies bytes at (suc n) f some whole zero within =
@@ -127,7 +127,7 @@ rows-lie bytes at (r ∷ rs) sized whole =
       rows-lie bytes (at + row_size r) rs ok.1 (subst (λ (x : ℕ). damage_of_fields bytes (at + x) (flat_map fields_of rs) ≡ None) size both.1),
     )
 
-row-whole : (bytes : List ℕ) (at n : ℕ) (f : Field) → AreBytes bytes → ((k : ℕ) → k < n → Lies f.ranges (number_at bytes (at + f.size * k) f.size)) → damage_of_fields bytes at (replicate n f) ≡ None
+row-whole : (bytes : List ℕ) (at n : ℕ) (f : NumberField) → AreBytes bytes → ((k : ℕ) → k < n → Lies f.ranges (number_at bytes (at + f.size * k) f.size)) → damage_of_fields bytes at (replicate n f) ≡ None
 row-whole bytes at zero f are lies = refl
 row-whole bytes at (suc n) f are lies =
     let e : at + f.size * 0 ≡ at = omega arith in

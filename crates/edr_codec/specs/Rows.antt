@@ -1,6 +1,6 @@
 -- The tables of the parts, as the code has them.
 use Rattle.std.specs.Prelude.{ℕ, ◌*◌, Option, Some, None, List, [], ◌∷◌, replicate}
-use Rattle.edr_image.specs.PartBytes.{Field, field}
+use Rattle.edr_image.specs.PartBytes.{NumberField, field}
 use Rattle.edr_codec.specs.declared.rows.FieldRow.{FieldRow}
 
 -- a second range, if there is one
@@ -13,7 +13,7 @@ abbrev pub ranges_of : FieldRow → List (ℕ × ℕ)
 ranges_of row = row.values ∷ other_ranges row.others
 
 -- the fields of a row
-abbrev pub fields_of : FieldRow → List Field
+abbrev pub fields_of : FieldRow → List NumberField
 fields_of row = replicate row.count (field row.size (ranges_of row))
 
 -- how many bytes a row has

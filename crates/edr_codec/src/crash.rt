@@ -7,7 +7,7 @@ ghost use Rattle.edr_image.specs.PartBytes.{crash_fields_by, crash_size, crash_d
 ghost use Rattle.edr_codec.specs.Rows.{fields_of, row_size};
 
 use crate::Damaged;
-use crate::pieces::{Piece, put_all, put_zeros, read_all};
+use crate::pieces::{PartValue, put_all, put_zeros, read_all};
 use crate::rows::{FieldRow, check_rows};
 use edr_image::forms::{CrashForm, VERSION_1, VERSION_2};
 use edr_record::{Crash, Extreme};

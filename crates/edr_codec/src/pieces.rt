@@ -8,7 +8,7 @@ ghost use Rattle.edr_image.specs.PartBytes.{number_at, numbers_at, unless, switc
 use byteorder::{BigEndian, ByteOrder};
 
 /// A value that stands in a part as a number of so many bytes.
-pub(crate) trait Piece: Copy + Default {
+pub(crate) trait PartValue: Copy + Default {
     // How many bytes the number has.
     ghost size: { ℕ };
 
@@ -50,7 +50,7 @@ pub(crate) fn put_zeros(out: &mut [u8], at: usize, count: usize)
     out[at..at + count].fill(0);
 }
 
-impl Piece for u32 {
+impl PartValue for u32 {
     ghost size = { 4 };
 
     ghost value_of = { λ n. n };
@@ -70,7 +70,7 @@ impl Piece for u32 {
     }
 }
 
-impl Piece for u16 {
+impl PartValue for u16 {
     ghost size = { 2 };
 
     ghost value_of = { λ n. n };
@@ -90,7 +90,7 @@ impl Piece for u16 {
     }
 }
 
-impl Piece for i16 {
+impl PartValue for i16 {
     ghost size = { 2 };
 
     ghost value_of = { signed };
@@ -110,7 +110,7 @@ impl Piece for i16 {
     }
 }
 
-impl Piece for Option<u16> {
+impl PartValue for Option<u16> {
     ghost size = { 2 };
 
     ghost value_of = { unless 0xffff };
@@ -131,7 +131,7 @@ impl Piece for Option<u16> {
     }
 }
 
-impl Piece for Option<u8> {
+impl PartValue for Option<u8> {
     ghost size = { 1 };
 
     ghost value_of = { unless 0xff };
@@ -151,7 +151,7 @@ impl Piece for Option<u8> {
     }
 }
 
-impl Piece for Option<bool> {
+impl PartValue for Option<bool> {
     ghost size = { 1 };
 
     ghost value_of = { switch_from };
@@ -178,7 +178,7 @@ impl Piece for Option<bool> {
 }
 
 /// So many values, one after the other, whose bytes begin at a place.
-pub(crate) fn read_all<P: Piece, const N: usize>(bytes: &[u8], at: usize) -> [P; N]
+pub(crate) fn read_all<P: PartValue, const N: usize>(bytes: &[u8], at: usize) -> [P; N]
     requires { at + P.size * N ≤ length bytes.now }
     ensures { result ≡ map P.value_of (numbers_at bytes.now at P.size N) }
 {
@@ -190,7 +190,7 @@ pub(crate) fn read_all<P: Piece, const N: usize>(bytes: &[u8], at: usize) -> [P;
 }
 
 /// Writes values one after the other over the bytes that begin at a place.
-pub(crate) fn put_all<P: Piece>(values: &[P], out: &mut [u8], at: usize)
+pub(crate) fn put_all<P: PartValue>(values: &[P], out: &mut [u8], at: usize)
     requires few { length values.now < 2 ^ 16 }
     requires room { at + P.size * length values.now ≤ length out.old }
     ensures { take (at + P.size * length values.now) out.new ≡ take at out.old ++ flat_map P.bytes_of values.now }

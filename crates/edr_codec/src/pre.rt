@@ -9,7 +9,7 @@ ghost use Rattle.edr_image.specs.PartBytes.{pre_size, slots_of, profile_byte, pr
 ghost use Rattle.edr_codec.specs.Rows.{fields_of, row_size};
 
 use crate::Damaged;
-use crate::pieces::{Piece, put_all, put_bytes, put_zeros, read_all};
+use crate::pieces::{PartValue, put_all, put_bytes, put_zeros, read_all};
 use crate::rows::{FieldRow, check_rows};
 use byteorder::{BigEndian, ByteOrder};
 use edr_image::forms::{PreForm, VERSION_1, VERSION_2};
@@ -212,8 +212,8 @@ fn pre_from(bytes: &[u8], form: &PreForm) -> Pre
         },
         place: place_from(bytes),
         slots: slots_from(bytes, form),
-        belt: Piece::read_at(bytes, belt_at(form)),
-        lamp: Piece::read_at(bytes, lamp_at(form)),
+        belt: PartValue::read_at(bytes, belt_at(form)),
+        lamp: PartValue::read_at(bytes, lamp_at(form)),
     }
 }
 

@@ -13,14 +13,14 @@ use Rattle.edr_definitions.specs.Schedule.{with_item}
 use Rattle.edr_definitions.proofs.RingLaws.{IsFeedAfter-rises_from, mark-filter, mark_of-newest}
 use Rattle.edr_definitions.proofs.BoundLaws.{in_range}
 use Rattle.edr_capture.specs.declared.TheConstants.{ROOM}
-use Rattle.edr_capture.specs.Capture.{StandsFor}
+use Rattle.edr_capture.specs.Capture.{CaptureStandsFor}
 use Rattle.edr_capture.specs.SensorPart.{IsOfSensor}
 use Rattle.edr_capture.proofs.CaptureLemmas.{stands-push}
 use Rattle.edr_core.specs.declared.captures.Captures.{Captures}
 use Rattle.edr_core.specs.Captures.{kept_lists, with_kept, IsLater, CapturesStandFor}
 
 -- no sample that is kept is later than the last item
-pub mark-kept : (s : Sensor) (kept given : List Item) → IsFeed s given → StandsFor kept given → mark_of kept ≤ mark_of given
+pub mark-kept : (s : Sensor) (kept given : List Item) → IsFeed s given → CaptureStandsFor kept given → mark_of kept ≤ mark_of given
 mark-kept s kept given feed stands =
     let is = ap mark_of stands.kept_is in
     let same = mark_of-newest ROOM (samples given) (omega arith) in
@@ -32,7 +32,7 @@ range-feed : (s : Sensor) (last : ℕ) (xs : List Item) → IsFeedAfter s last x
 range-feed s last [] feed = All-nil (IsOfSensor s)
 range-feed s last (x ∷ xs) feed = All-cons (IsOfSensor s) x xs (in_range s last x feed.0) (range-feed s x.moment xs feed.2)
 
-pub range-kept : (s : Sensor) (kept given : List Item) → IsFeed s given → StandsFor kept given → All (IsOfSensor s) kept
+pub range-kept : (s : Sensor) (kept given : List Item) → IsFeed s given → CaptureStandsFor kept given → All (IsOfSensor s) kept
 range-kept s kept given feed stands =
     subst (λ xs. All (IsOfSensor s) xs) (sym stands.kept_is)
     (All-drop (IsOfSensor s) (length (samples given) - ROOM) (samples given) (All-filter (λ x. is_some x.value) (IsOfSensor s) given (range-feed s 0 given feed)))

@@ -31,7 +31,7 @@ use Rattle.edr_merge.specs.State.{MergeState}
 use Rattle.edr_merge.specs.StandsFor.{MergeStandsFor}
 use Rattle.edr_detect.specs.Detected.{DetectState, DetectStandsFor}
 use Rattle.edr_core.specs.declared.candidate.Candidate.{Candidate}
-use Rattle.edr_core.specs.declared.ask.Ask.{Ask}
+use Rattle.edr_core.specs.declared.ask.OpenAsk.{OpenAsk}
 use Rattle.edr_core.specs.Rows.{RowIs, rows_of}
 use Rattle.edr_core.specs.Ask.{with_part}
 use Rattle.edr_core.specs.SplitHistory.{History, start_of, after_item, after_part}
@@ -81,19 +81,19 @@ closed-early c w h =
 -- ---- whether it asks
 pub asks-not : (c : SplitContents) (w : History) → SplitCoreStandsFor c w → is_some c.ask ≡ false → w.asking ≡ false
 asks-not c w h none = by c.ask refl none where
-  by : (o : Option Ask) → c.ask ≡ o → is_some o ≡ false → w.asking ≡ false
-  by None is e = subst (λ (x : Option Ask). HoldsAsk x w) is h.ask_is
+  by : (o : Option OpenAsk) → c.ask ≡ o → is_some o ≡ false → w.asking ≡ false
+  by None is e = subst (λ (x : Option OpenAsk). HoldsAsk x w) is h.ask_is
   by (Some a) is e = cc
 
-pub no-ask : (o : Option Ask) → is_some o ≡ false → o ≡ None
+pub no-ask : (o : Option OpenAsk) → is_some o ≡ false → o ≡ None
 no-ask None e = refl
 no-ask (Some a) e = cc
 
 pub merge-free : (c : SplitContents) (w : History) → SplitCoreStandsFor c w → is_some c.ask ≡ false → MergeStandsFor c.merge w.past
 merge-free c w h none = subst (λ (p : Progress). MergeStandsFor c.merge p) (merged-free w (asks-not c w h none)) h.merge_is
 
-pub asked-is : (c : SplitContents) (w : History) (a : Ask) → SplitCoreStandsFor c w → c.ask ≡ Some a → AskIs a w
-asked-is c w a h is = subst (λ (x : Option Ask). HoldsAsk x w) is h.ask_is
+pub asked-is : (c : SplitContents) (w : History) (a : OpenAsk) → SplitCoreStandsFor c w → c.ask ≡ Some a → AskIs a w
+asked-is c w a h is = subst (λ (x : Option OpenAsk). HoldsAsk x w) is h.ask_is
 
 -- ---- the start
 pub split-starts : (n : ℕ) (m : MergeState) (d : DetectState) (link : Option (Place × ℕ)) → 1 ≤ n → n ≤ 4_294_967_295 → MergeStandsFor m (record { given = no_items; closed = 0 }) → DetectStandsFor d [] → link ≡ None → SplitCoreStandsFor (record { cycle = n; closed = 0; merge = m; detect = d; link = link; candidate = None; ask = None }) (start_of n)
@@ -125,12 +125,12 @@ allowed-past c w s x h near allowed = by c.ask refl where
   refusal : refusal_of s (mark_of (items_of s w.past.given)) x ≡ None
   refusal = subst (λ f. refusal_of s (mark_of (items_of s f)) x ≡ None) (merged-given w) allowed.0
 
-  by : (o : Option Ask) → c.ask ≡ o → IsAllowed (Give s x) w.past
+  by : (o : Option OpenAsk) → c.ask ≡ o → IsAllowed (Give s x) w.past
   by None is =
-      let free = asks-not c w h (ap (λ (a : Option Ask). is_some a) is) in
+      let free = asks-not c w h (ap (λ (a : Option OpenAsk). is_some a) is) in
       subst (λ (p : Progress). IsAllowed (Give s x) p) (merged-free w free) allowed
   by (Some a) is =
-      let low = near (ap (λ (o : Option Ask). is_some o) is) in
+      let low = near (ap (λ (o : Option OpenAsk). is_some o) is) in
       let closed = h.closed_is in
       (refusal, omega (arith, low, closed))
 
@@ -140,7 +140,7 @@ near-given s x f t item near r =
     with_items-each (λ q xs. mark_of xs ≤ t + LONGEST_GAP) s (items_of s f ++ x ∷ []) f
     (let is = mark-push 0 (items_of s f) x in omega (arith, is, item)) near r
 
-row-agrees : (m m' : Signals) (t : ℕ) (a : Ask) → AgreeUpTo t m m' → RowIs m t a.row → RowIs m' t a.row
+row-agrees : (m m' : Signals) (t : ℕ) (a : OpenAsk) → AgreeUpTo t m m' → RowIs m t a.row → RowIs m' t a.row
 row-agrees m m' t a same row = record {
   along = row.along ∙ same.along t (omega arith);
   across = row.across ∙ same.across t (omega arith);
@@ -157,7 +157,7 @@ module _ (c : SplitContents) (w : History) (s : Sensor) (x : Item) (merge : Merg
   later : (merged w).closed ≤ horizon_of f → AgreeUpTo (merged w).closed (signals_of f) (signals_of g)
   later within = (GiveTheSameUpTo-push s f x (merged w).closed (accepted-later f (merged w).closed s x within allowed.0)).signals
 
-  ask-gives : (o : Option Ask) → HoldsAsk o w → HoldsAsk o (after_item s x w)
+  ask-gives : (o : Option OpenAsk) → HoldsAsk o w → HoldsAsk o (after_item s x w)
   ask-gives None free = free
   ask-gives (Some a) is =
       let t = w.past.closed in
@@ -202,7 +202,7 @@ holds-more : (q : SensorPart) (parts : List SensorPart) (o : Option Candidate) (
 holds-more q parts None k crash h = tt
 holds-more q parts (Some o) k crash h = (more-made q parts k.frozen o.pre h.0, h.1, h.2)
 
-pub split-takes : (c : SplitContents) (w : History) (a : Ask) (q : SensorPart) → SplitCoreStandsFor c w → c.ask ≡ Some a → q.zero ≡ w.past.closed + 1 → SplitCoreStandsFor (record c { ask = Some (record a { parts = with_part q a.parts }) }) (after_part q w)
+pub split-takes : (c : SplitContents) (w : History) (a : OpenAsk) (q : SensorPart) → SplitCoreStandsFor c w → c.ask ≡ Some a → q.zero ≡ w.past.closed + 1 → SplitCoreStandsFor (record c { ask = Some (record a { parts = with_part q a.parts }) }) (after_part q w)
 split-takes c w a q h is zero =
     let asked = asked-is c w a h is in
     let closed : (merged w).closed ≡ w.past.closed + 1 = ap (λ (p : Progress). p.closed) (merged-asking w asked.asking) in

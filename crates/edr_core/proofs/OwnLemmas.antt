@@ -13,7 +13,7 @@ use Rattle.edr_definitions.specs.Commands.{issue_at, issues, commands}
 use Rattle.edr_definitions.specs.Schedule.{Progress, Give, Close, IsAllowed, after_step, with_item}
 use Rattle.edr_definitions.proofs.KeepLaws.{accepted-later}
 use Rattle.edr_definitions.proofs.MarkLaws.{with_items-each, AreFeeds-each}
-use Rattle.edr_capture.specs.Capture.{StandsFor}
+use Rattle.edr_capture.specs.Capture.{CaptureStandsFor}
 use Rattle.edr_capture.specs.SensorPart.{SensorPart, part, part_slots}
 use Rattle.edr_capture.proofs.PartLemmas.{part-later}
 use Rattle.edr_merge.specs.Answers.{waited_for}
@@ -33,7 +33,7 @@ use Rattle.edr_core.specs.SplitContents.{SplitContents}
 use Rattle.edr_core.specs.SplitStandsFor.{HoldsAsk, SplitCoreStandsFor}
 use Rattle.edr_core.specs.SplitAnswers.{answer_of, split_step_of, part_refusal_of}
 use Rattle.edr_core.specs.OwnParts.{resting, own_parts, with_own_parts, AsksFor}
-use Rattle.edr_core.specs.declared.ask.Ask.{Ask as OpenAsk}
+use Rattle.edr_core.specs.declared.ask.OpenAsk.{OpenAsk as OpenAsk}
 use Rattle.edr_core.proofs.TakenLemmas.{part_in-early, eqb_same}
 use Rattle.edr_core.proofs.GiveLemmas.{feeds-of}
 use Rattle.edr_core.proofs.CaptureLemmas.{mark-kept, captures-push, later-accepted}
@@ -125,7 +125,7 @@ module _ (c0 c1 c2 c3 c4 c5 : SplitContents) (captures : Captures) (w : History)
       subst (λ u. Takes c4 c5 (part Lamp f.lamp u)) is five we e (refused-not (part Lamp f.lamp t) we h.asking refl none-five)
 
   -- what the captures are asked for
-  near-of : (s : Sensor) (kept given : List Item) → IsFeed s given → StandsFor kept given → mark_of given ≤ w.past.closed + 1000 → mark_of kept ≤ z + 1000
+  near-of : (s : Sensor) (kept given : List Item) → IsFeed s given → CaptureStandsFor kept given → mark_of given ≤ w.past.closed + 1000 → mark_of kept ≤ z + 1000
   near-of s kept given feed stands near = let low = mark-kept s kept given feed stands in let is = h.zero_is in omega (arith, low, near, is)
 
   pub speed-near : mark_of captures.speed ≤ z + 1000
@@ -177,7 +177,7 @@ none-missing-own w = let same = eqb_same (w.past.closed + 1) in rw same refl
 -- ---- what the core stands for
 pub core-starts : (n : ℕ) (c : SplitContents) (k : Captures) → 1 ≤ n → n ≤ 4_294_967_295 → SplitCoreStandsFor c (start_of n) → k ≡ no_captures → CoreIsFor (record { cycle = c.cycle; closed = c.closed; split = c; captures = k }) n (record { given = no_items; closed = 0 })
 core-starts n c k from to split captures =
-    let empty : StandsFor [] [] = record { rises = tt; kept_is = refl } in
+    let empty : CaptureStandsFor [] [] = record { rises = tt; kept_is = refl } in
     record {
       cycle_is = split.cycle_is;
       cycle_from = from;

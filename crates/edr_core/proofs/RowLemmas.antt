@@ -18,12 +18,12 @@ use Rattle.edr_definitions.proofs.AgreeLaws.{map-ticks-agree, AgreeUpTo-sym}
 use Rattle.edr_definitions.proofs.SampleLaws.{sample_at-other}
 use Rattle.edr_definitions.proofs.RingLaws.{IsFeedAfter-rises_from}
 use Rattle.edr_definitions.proofs.TestLaws.{SameTests-changes, tick_change-tests}
-use Rattle.edr_detect.specs.Rows.{Row, row_at, signals_of_rows}
+use Rattle.edr_detect.specs.Rows.{SignalRow, row_at, signals_of_rows}
 use Rattle.edr_core.specs.Rows.{row_of, rows_of}
 
 -- one tick more
 pub rows_of-push : (m : Signals) (t : ℕ) → rows_of m (t + 1) ≡ rows_of m t ++ row_of m (t + 1) ∷ []
-rows_of-push m t = ticks-push 1 (t + 1) (omega arith) Row (row_of m)
+rows_of-push m t = ticks-push 1 (t + 1) (omega arith) SignalRow (row_of m)
 
 pub length-rows_of : (m : Signals) (t : ℕ) → length (rows_of m t) ≡ t
 length-rows_of m t = let e = length-map-range_with_len (row_of m) 1 (t + 1 - 1) in omega (arith, e)
@@ -57,15 +57,15 @@ rows_of-changes : (m : Signals) (t : ℕ) → IsSilentBefore m → AgreeUpTo t (
 rows_of-changes m t silent = record { along = along; across = across; fired = fired } where
   along : (u : ℕ) → u ≤ t → (filled (signals_of_rows (rows_of m t))).along u ≡ (filled m).along u
   along zero near = ap (λ (o : Option ℤ). Some (unwrap_or o (pos 0))) (sym silent.along)
-  along (suc k) near = ap (λ (o : Option Row). Some (unwrap_or (option_map (λ (r : Row). r.along) o) (pos 0))) (row_at-rows_of m t k (omega arith))
+  along (suc k) near = ap (λ (o : Option SignalRow). Some (unwrap_or (option_map (λ (r : SignalRow). r.along) o) (pos 0))) (row_at-rows_of m t k (omega arith))
 
   across : (u : ℕ) → u ≤ t → (filled (signals_of_rows (rows_of m t))).across u ≡ (filled m).across u
   across zero near = ap (λ (o : Option ℤ). Some (unwrap_or o (pos 0))) (sym silent.across)
-  across (suc k) near = ap (λ (o : Option Row). Some (unwrap_or (option_map (λ (r : Row). r.across) o) (pos 0))) (row_at-rows_of m t k (omega arith))
+  across (suc k) near = ap (λ (o : Option SignalRow). Some (unwrap_or (option_map (λ (r : SignalRow). r.across) o) (pos 0))) (row_at-rows_of m t k (omega arith))
 
   fired : (u : ℕ) → u ≤ t → (filled (signals_of_rows (rows_of m t))).fired u ≡ (filled m).fired u
   fired zero near = sym silent.fired
-  fired (suc k) near = ap (λ (o : Option Row). option_map_or (λ (r : Row). r.fired.0) o 0) (row_at-rows_of m t k (omega arith))
+  fired (suc k) near = ap (λ (o : Option SignalRow). option_map_or (λ (r : SignalRow). r.fired.0) o 0) (row_at-rows_of m t k (omega arith))
 
 -- what stands at the next tick of the rows stands there of the signals
 pub tick_change-rows : (m : Signals) (t : ℕ) (s : Search) → IsSilentBefore m → StandsFor m t s → tick_change (signals_of_rows (rows_of m (t + 1))) (t + 1) ≡ tick_change m (t + 1)

@@ -16,7 +16,7 @@ use Rattle.edr_definitions.specs.Parts.{pre_part}
 use Rattle.edr_definitions.specs.Commands.{issue_at}
 use Rattle.edr_definitions.specs.Change.{Change, tick_change}
 use Rattle.edr_definitions.specs.Schedule.{Progress, Close, after_step}
-use Rattle.edr_definitions.specs.Core.{IsPreOf, commands_of}
+use Rattle.edr_definitions.specs.Core.{IsPreOfZero, commands_of}
 use Rattle.edr_definitions.proofs.BoundLaws.{small_by, along-small, across-small}
 use Rattle.edr_definitions.proofs.MarkLaws.{horizon-least}
 use Rattle.edr_crashpart.specs.Bounds.{IsInRange}
@@ -26,9 +26,9 @@ use Rattle.edr_merge.specs.State.{MergeState}
 use Rattle.edr_merge.specs.StandsFor.{MergeStandsFor}
 use Rattle.edr_detect.specs.declared.stage.Change.{Change as Told}
 use Rattle.edr_detect.specs.Stages.{told_of}
-use Rattle.edr_detect.specs.Rows.{Row as Changes, signals_of_rows}
+use Rattle.edr_detect.specs.Rows.{SignalRow as Changes, signals_of_rows}
 use Rattle.edr_detect.specs.Detected.{DetectState, DetectStandsFor}
-use Rattle.edr_core.specs.declared.ask.Ask.{Ask}
+use Rattle.edr_core.specs.declared.ask.OpenAsk.{OpenAsk}
 use Rattle.edr_core.specs.declared.ask.AllParts.{AllParts}
 use Rattle.edr_core.specs.declared.candidate.Candidate.{Candidate}
 use Rattle.edr_core.specs.declared.candidate.Issued.{Issued}
@@ -36,7 +36,7 @@ use Rattle.edr_core.specs.declared.candidate.TickRow.{TickRow as Given}
 use Rattle.edr_core.specs.Candidate.{IsRowInRange, IsShort, CanBeTold, begun, grown, grown_or_begun, no_issues, candidate_after, link_after, issued_after, issues_in}
 use Rattle.edr_core.specs.Answers.{put}
 use Rattle.edr_core.specs.Ask.{no_parts, in_places, missing_in, IsKey, pre_of}
-use Rattle.edr_core.specs.Parts.{Slots, AreSlotsOf, commands_with, issues_with}
+use Rattle.edr_core.specs.Parts.{PartSlots, AreSlotsOf, commands_with, issues_with}
 use Rattle.edr_core.specs.Rows.{RowIs, row_of, rows_of}
 use Rattle.edr_core.specs.SplitHistory.{History, Answer, Waits, Asks, Lacks, Closes, is_zero_next, missing_part, due}
 use Rattle.edr_core.specs.SplitContents.{SplitContents}
@@ -95,7 +95,7 @@ change-is c w h change answer =
 abbrev first_pre : History → PrePart
 first_pre w = pre_part w.past.given w.cycle First (w.past.closed + 1)
 
-first-is : (w : History) → IsPreOf w.past.given w.cycle (w.past.closed + 1) (first_pre w)
+first-is : (w : History) → IsPreOfZero w.past.given w.cycle (w.past.closed + 1) (first_pre w)
 unfolding pre_part
 first-is w = refl
 
@@ -175,7 +175,7 @@ module _ (c : SplitContents) (w : History) (h : SplitCoreStandsFor c w) (free : 
 
     -- ---- it is a time zero
     module _ (zero : told.zero ≡ true) where
-      pub ask-opens : (o : Option Ask) → o ≡ Some (record { row = r; change = told; parts = no_parts }) → SplitCoreStandsFor (record { cycle = c.cycle; closed = c.closed; merge = merge; detect = d; link = c.link; candidate = c.candidate; ask = o }) (record w { asking = true })
+      pub ask-opens : (o : Option OpenAsk) → o ≡ Some (record { row = r; change = told; parts = no_parts }) → SplitCoreStandsFor (record { cycle = c.cycle; closed = c.closed; merge = merge; detect = d; link = c.link; candidate = c.candidate; ask = o }) (record w { asking = true })
       ask-opens o opened =
           let early = subst (λ (p : Progress). All (λ q. q.zero ≤ p.closed) w.parts) (merged-free w free) h.early in
           record {
@@ -248,11 +248,11 @@ module _ (c : SplitContents) (w : History) (h : SplitCoreStandsFor c w) (free : 
               split-stands c after w (told_of told) (first_pre w) (first_pre w) r i h told-next next.row (λ _. first-is w) (λ e. absurd (no_zero e)) done merge_is detected refl next.tick_is no_ask
               (early-later w.parts w.past.closed (w.past.closed + 1) (omega arith) early)
 
-          pub step-commands : (slots : Slots) → AreSlotsOf w.parts slots → (t ≡ w.past.closed + 1) × (commands_with slots w.past.given w.cycle t ≡ commands_with slots w.past.given w.cycle w.past.closed ++ commands_of (issues_in i))
+          pub step-commands : (slots : PartSlots) → AreSlotsOf w.parts slots → (t ≡ w.past.closed + 1) × (commands_with slots w.past.given w.cycle t ≡ commands_with slots w.past.given w.cycle w.past.closed ++ commands_of (issues_in i))
           step-commands slots are =
               (next.tick_is, ap (λ k. commands_with slots w.past.given w.cycle k) next.tick_is ∙ split-commands c after w (told_of told) (first_pre w) (first_pre w) r i h told-next next.row (λ _. first-is w) (λ e. absurd (no_zero e)) done slots are)
 
-          pub step-ticks : (slots : Slots) → AreSlotsOf w.parts slots → issues_with slots w.past.given w.cycle t ≡ issues_with slots w.past.given w.cycle w.past.closed ++ map (issue_at t) (commands_of (issues_in i))
+          pub step-ticks : (slots : PartSlots) → AreSlotsOf w.parts slots → issues_with slots w.past.given w.cycle t ≡ issues_with slots w.past.given w.cycle w.past.closed ++ map (issue_at t) (commands_of (issues_in i))
           step-ticks slots are =
               ap (λ k. issues_with slots w.past.given w.cycle k) next.tick_is
               ∙ split-ticks c after w (told_of told) (first_pre w) (first_pre w) r i h told-next next.row (λ _. first-is w) (λ e. absurd (no_zero e)) done slots are
@@ -260,13 +260,13 @@ module _ (c : SplitContents) (w : History) (h : SplitCoreStandsFor c w) (free : 
 
 -- ---- a tick whose parts are asked for
 -- a part is missing
-pub lacks-due : (c : SplitContents) (w : History) (a : Ask) (s : Sensor) → SplitCoreStandsFor c w → c.ask ≡ Some a → missing_in a.parts ≡ Some s → Lacks s ≡ due w
+pub lacks-due : (c : SplitContents) (w : History) (a : OpenAsk) (s : Sensor) → SplitCoreStandsFor c w → c.ask ≡ Some a → missing_in a.parts ≡ Some s → Lacks s ≡ due w
 lacks-due c w a s h is missing =
     let asked = asked-is c w a h is in
     ap (λ (o : Option Sensor). option_map_or Lacks o (Closes (w.past.closed + 1))) (sym missing ∙ missing-is w a.parts asked.parts)
     ∙ sym (due-asked w asked.asking)
 
-module _ (c : SplitContents) (w : History) (h : SplitCoreStandsFor c w) (a : Ask) (is : c.ask ≡ Some a) (all : AllParts) (all_is : a.parts ≡ in_places all) where
+module _ (c : SplitContents) (w : History) (h : SplitCoreStandsFor c w) (a : OpenAsk) (is : c.ask ≡ Some a) (all : AllParts) (all_is : a.parts ≡ in_places all) where
   asked_now : AskIs a w
   asked_now = asked-is c w a h is
 
@@ -334,11 +334,11 @@ module _ (c : SplitContents) (w : History) (h : SplitCoreStandsFor c w) (a : Ask
         refl tick-is refl
         (subst (λ (p : Progress). All (λ q. q.zero ≤ p.closed) w.parts) on h.early)
 
-    pub asked-commands : (slots : Slots) → AreSlotsOf w.parts slots → (c.closed + 1 ≡ w.past.closed + 1) × (commands_with slots w.past.given w.cycle (c.closed + 1) ≡ commands_with slots w.past.given w.cycle w.past.closed ++ commands_of (issues_in i))
+    pub asked-commands : (slots : PartSlots) → AreSlotsOf w.parts slots → (c.closed + 1 ≡ w.past.closed + 1) × (commands_with slots w.past.given w.cycle (c.closed + 1) ≡ commands_with slots w.past.given w.cycle w.past.closed ++ commands_of (issues_in i))
     asked-commands slots are =
         (tick-is, ap (λ k. commands_with slots w.past.given w.cycle k) tick-is ∙ split-commands c settled w (told_of a.change) (first_pre w) made a.row i h asked_now.change asked_now.row (λ _. first-is w) (λ _. made-is) asked-did slots are)
 
-    pub asked-ticks : (slots : Slots) → AreSlotsOf w.parts slots → issues_with slots w.past.given w.cycle (c.closed + 1) ≡ issues_with slots w.past.given w.cycle w.past.closed ++ map (issue_at (c.closed + 1)) (commands_of (issues_in i))
+    pub asked-ticks : (slots : PartSlots) → AreSlotsOf w.parts slots → issues_with slots w.past.given w.cycle (c.closed + 1) ≡ issues_with slots w.past.given w.cycle w.past.closed ++ map (issue_at (c.closed + 1)) (commands_of (issues_in i))
     asked-ticks slots are =
         ap (λ k. issues_with slots w.past.given w.cycle k) tick-is
         ∙ split-ticks c settled w (told_of a.change) (first_pre w) made a.row i h asked_now.change asked_now.row (λ _. first-is w) (λ _. made-is) asked-did slots are

@@ -13,7 +13,7 @@ use Rattle.edr_definitions.specs.Parts.{pre_part}
 use Rattle.edr_capture.specs.SensorPart.{SensorPart}
 use Rattle.edr_core.specs.declared.ask.Parts.{Parts}
 use Rattle.edr_core.specs.declared.ask.AllParts.{AllParts}
-use Rattle.edr_core.specs.Parts.{Slots, AreSlotsOf, is_part_of, part_in}
+use Rattle.edr_core.specs.Parts.{PartSlots, AreSlotsOf, is_part_of, part_in}
 use Rattle.edr_core.specs.Ask.{no_parts, part_at, with_part_of, in_places, missing_in, AreOfTheirSensors, pre_of}
 use Rattle.edr_core.specs.SplitHistory.{History, missing_part}
 use Rattle.edr_core.specs.SplitStandsFor.{IsMadeOf, PartsAre}
@@ -48,7 +48,7 @@ part_in-is (x ∷ xs) s z q e = by (is_part_of s z x) refl (part_in-is xs s z q)
   by false is rest e = rest e
 
 -- slots of all parts are those of the one that is found
-pub part_in-slots : (parts : List SensorPart) (slots : Slots) (s : Sensor) (z : ℕ) (q : SensorPart) → AreSlotsOf parts slots → part_in parts s z ≡ Some q → slots s z ≡ q.slots
+pub part_in-slots : (parts : List SensorPart) (slots : PartSlots) (s : Sensor) (z : ℕ) (q : SensorPart) → AreSlotsOf parts slots → part_in parts s z ≡ Some q → slots s z ≡ q.slots
 unfolding part_in
 part_in-slots [] slots s z q are e = cc
 part_in-slots (x ∷ xs) slots s z q are e = by (is_part_of s z x) refl (part_in-slots xs slots s z q (All-tail (λ y. slots y.sensor y.zero ≡ y.slots) x xs are)) e where

@@ -15,7 +15,7 @@ use Rattle.edr_definitions.specs.Change.{Change, tick_change}
 use Rattle.edr_definitions.specs.OpenCrash.{OpenCrash, crash_at, begin_crash, next_crash, finish_crash}
 use Rattle.edr_definitions.specs.Schedule.{Progress, Close, after_step}
 use Rattle.edr_definitions.specs.Selection.{close_of}
-use Rattle.edr_definitions.specs.Core.{CoreState, TickIssues, when, is_open, no_change, pre_after, core_after, part_after, issues_at, commands_of, IsPreOf, IsTold, PartIs, WholeCoreStandsFor}
+use Rattle.edr_definitions.specs.Core.{CoreState, TickIssues, when, is_open, no_change, pre_after, core_after, part_after, issues_at, commands_of, IsPreOfZero, IsTold, PartIs, WholeCoreStandsFor}
 use Rattle.edr_definitions.proofs.OpenLaws.{is_open-next, zero-open, nothing-searching}
 use Rattle.edr_definitions.proofs.OrderLaws.{issues-added}
 use Rattle.edr_definitions.proofs.WholeLaws.{whole-stands, whole-issues, whole-searching}
@@ -30,12 +30,12 @@ use Rattle.edr_core.specs.declared.candidate.Candidate.{Candidate}
 use Rattle.edr_core.specs.declared.candidate.Issued.{Issued}
 use Rattle.edr_core.specs.declared.candidate.TickRow.{TickRow as Given}
 use Rattle.edr_core.specs.Candidate.{begun, grown, grown_or_begun, told, candidate_after, link_after, issued_after, issues_in, IsShort, CanBeTold}
-use Rattle.edr_core.specs.Parts.{Slots, AreSlotsOf, with_parts, command_with, commands_with, issue_with, issues_with}
+use Rattle.edr_core.specs.Parts.{PartSlots, AreSlotsOf, with_parts, command_with, commands_with, issue_with, issues_with}
 use Rattle.edr_core.specs.SplitHistory.{History}
 use Rattle.edr_core.specs.SplitContents.{SplitContents}
 use Rattle.edr_core.specs.SplitStandsFor.{IsMadeOf, HoldsCandidateWith, HoldsAsk, SplitCoreStandsFor}
 
-zero-is : (f : SensorLists) (n z : ℕ) (pre : PrePart) → IsPreOf f n z pre → pre.key.zero ≡ z
+zero-is : (f : SensorLists) (n z : ℕ) (pre : PrePart) → IsPreOfZero f n z pre → pre.key.zero ≡ z
 unfolding pre_part
 zero-is f n z pre is = ap (λ (x : PrePart). x.key.zero) is
 
@@ -55,14 +55,14 @@ placed true parts l l' x y same h = record {
 }
 
 -- what is issued, with the slots
-abbrev pub issues_made : Slots → TickIssues → TickIssues
+abbrev pub issues_made : PartSlots → TickIssues → TickIssues
 issues_made slots i = record { take = option_map (with_parts slots) i.take; lock = option_map (with_parts slots) i.lock; done = i.done }
 
-when-made : (slots : Slots) (b : Bool) (x : PrePart) → when b (with_parts slots x) ≡ option_map (with_parts slots) (when b x)
+when-made : (slots : PartSlots) (b : Bool) (x : PrePart) → when b (with_parts slots x) ≡ option_map (with_parts slots) (when b x)
 when-made slots true x = refl
 when-made slots false x = refl
 
-commands_made : (slots : Slots) (a b : Option PrePart) (d : Option CrashPart) → map (command_with slots) (commands_of (record { take = a; lock = b; done = d })) ≡ commands_of (issues_made slots (record { take = a; lock = b; done = d }))
+commands_made : (slots : PartSlots) (a b : Option PrePart) (d : Option CrashPart) → map (command_with slots) (commands_of (record { take = a; lock = b; done = d })) ≡ commands_of (issues_made slots (record { take = a; lock = b; done = d }))
 commands_made slots None None None = refl
 commands_made slots None None (Some d) = refl
 commands_made slots None (Some b) None = refl
@@ -72,7 +72,7 @@ commands_made slots (Some a) None (Some d) = refl
 commands_made slots (Some a) (Some b) None = refl
 commands_made slots (Some a) (Some b) (Some d) = refl
 
-issued_made : (slots : Slots) (t : ℕ) (cs : List Command) → map (issue_with slots) (map (issue_at t) cs) ≡ map (issue_at t) (map (command_with slots) cs)
+issued_made : (slots : PartSlots) (t : ℕ) (cs : List Command) → map (issue_with slots) (map (issue_at t) cs) ≡ map (issue_at t) (map (command_with slots) cs)
 issued_made slots t [] = refl
 issued_made slots t (c ∷ cs) = ap (λ xs. issue_with slots (issue_at t c) ∷ xs) (issued_made slots t cs)
 
@@ -103,7 +103,7 @@ module _ (c c' : SplitContents) (w : History) (change : Change) (pre made : PreP
     pub link_past : c'.link ≡ (core_after (t + 1) change pre k).linked
     pub open_past : is_some c'.candidate ≡ is_open (next_search m (t + 1) s).phase
     pub holds_past : HoldsCandidateWith ps c'.candidate (core_after (t + 1) change pre k) (part_after m (t + 1) change q)
-    pub issues_past : (slots : Slots) → AreSlotsOf ps slots → issues_in i ≡ issues_made slots (issues_at change pre (finish_crash (part_after m (t + 1) change q) (core_after (t + 1) change pre k).ended) k)
+    pub issues_past : (slots : PartSlots) → AreSlotsOf ps slots → issues_in i ≡ issues_made slots (issues_at change pre (finish_crash (part_after m (t + 1) change q) (core_after (t + 1) change pre k).ended) k)
 
   module _ (change_is : change ≡ tick_change m (t + 1)) where
     some_left : (v : Bool) (o : Candidate) → is_some (cond {A = Option Candidate} v None (Some o)) ≡ not v
@@ -165,7 +165,7 @@ module _ (c c' : SplitContents) (w : History) (change : Change) (pre made : PreP
     pub open_is : (o : Candidate) → grown_or_begun change made r c.candidate ≡ Some o → IsMadeOf w.parts (cond change.zero pre kept.frozen) o.pre × (o.end ≡ kept.ended) × (o.crash ≡ part_after (signals_of w.past.given) (w.past.closed + 1) change crash) × ((change.zero || is_open h.search.phase) ≡ true)
     pub none_is : grown_or_begun change made r c.candidate ≡ None → (is_open h.search.phase ≡ false) × (change ≡ no_change)
 
-  module _ (h : SplitCoreStandsFor c w) (change_is : change ≡ tick_change (signals_of w.past.given) (w.past.closed + 1)) (row : RowIs (signals_of w.past.given) (w.past.closed + 1) r) (pre_is : change.zero ≡ true → IsPreOf w.past.given w.cycle (w.past.closed + 1) pre) (made_is : change.zero ≡ true → IsMadeOf w.parts pre made) where
+  module _ (h : SplitCoreStandsFor c w) (change_is : change ≡ tick_change (signals_of w.past.given) (w.past.closed + 1)) (row : RowIs (signals_of w.past.given) (w.past.closed + 1) r) (pre_is : change.zero ≡ true → IsPreOfZero w.past.given w.cycle (w.past.closed + 1) pre) (made_is : change.zero ≡ true → IsMadeOf w.parts pre made) where
     stands : StandsFor m t h.search
     stands = h.whole_is.core_is.search_is
 
@@ -331,7 +331,7 @@ module _ (c c' : SplitContents) (w : History) (change : Change) (pre made : PreP
         }
 
     -- the commands of the definition that the tick adds, and what they are made with the slots
-    module _ (did : Did (grown_or_begun change made r c.candidate)) (slots : Slots) (are : AreSlotsOf w.parts slots) where
+    module _ (did : Did (grown_or_begun change made r c.candidate)) (slots : PartSlots) (are : AreSlotsOf w.parts slots) where
       abbrev own : TickIssues
       own = issues_at change pre (finish_crash (part_after m (t + 1) change fit.crash) (core_after (t + 1) change pre fit.kept).ended) fit.kept
 

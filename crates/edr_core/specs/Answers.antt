@@ -54,6 +54,6 @@ step_of (closing.Waiting s) i = Waiting s
 step_of (closing.Closed t some) i = Closed t (put some i).take (put some i).lock (put some i).done
 
 -- nothing is put aside
-abbrev pub IsQuiet : Closing → Type 0
-IsQuiet (closing.Waiting s) = Unit {0}
-IsQuiet (closing.Closed t some) = some ≡ false
+abbrev pub PutsNothingAside : Closing → Type 0
+PutsNothingAside (closing.Waiting s) = Unit {0}
+PutsNothingAside (closing.Closed t some) = some ≡ false

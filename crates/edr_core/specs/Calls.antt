@@ -6,7 +6,7 @@ use Rattle.edr_definitions.specs.Schedule.{Progress}
 use Rattle.edr_merge.specs.declared.MergeRefused.{MergeRefused}
 use Rattle.edr_merge.specs.Answers.{give_refusal_of}
 use Rattle.edr_core.specs.declared.split.SplitStep.{SplitStep}
-use Rattle.edr_core.specs.Parts.{Slots, AreSlotsOf}
+use Rattle.edr_core.specs.Parts.{PartSlots, AreSlotsOf}
 use Rattle.edr_core.specs.Contents.{CoreContents}
 use Rattle.edr_core.specs.StandsFor.{CoreIsFor}
 use Rattle.edr_core.specs.SplitContents.{SplitContents}
@@ -29,9 +29,9 @@ SplitFollows next c d = (h : History) → SplitCoreStandsFor c h → SplitCoreSt
 -- the step has the commands of its tick, whatever slots the parts make that were taken
 abbrev pub GivesTheCommands : SplitContents → SplitStep → Type 0
 GivesTheCommands c step =
-    (h : History) (slots : Slots) → SplitCoreStandsFor c h → AreSlotsOf h.parts slots → HasTheCommandsWith slots h.cycle h.past step
+    (h : History) (slots : PartSlots) → SplitCoreStandsFor c h → AreSlotsOf h.parts slots → HasTheCommandsWith slots h.cycle h.past step
 
 -- the same with their ticks
 abbrev pub GivesTheIssues : SplitContents → SplitStep → Type 0
 GivesTheIssues c step =
-    (h : History) (slots : Slots) → SplitCoreStandsFor c h → AreSlotsOf h.parts slots → HasTheIssuesWith slots h.cycle h.past step
+    (h : History) (slots : PartSlots) → SplitCoreStandsFor c h → AreSlotsOf h.parts slots → HasTheIssuesWith slots h.cycle h.past step

@@ -5,7 +5,7 @@ use Rattle.edr_items.specs.declared.Sensor.TheVariants.{Along, Across, Speed, Th
 use Rattle.edr_items.specs.declared.Item.{Item}
 use Rattle.edr_items.specs.Item.{mark_of}
 use Rattle.edr_items.specs.SensorLists.{SensorLists, items_of}
-use Rattle.edr_capture.specs.Capture.{StandsFor, kept_after}
+use Rattle.edr_capture.specs.Capture.{CaptureStandsFor, kept_after}
 use Rattle.edr_core.specs.declared.captures.Captures.{Captures}
 
 -- nothing is kept
@@ -33,8 +33,8 @@ IsLater s x c = mark_of (items_of s (kept_lists c)) < x.moment
 
 -- the captures were given these lists
 pub record CapturesStandFor (c : Captures) (f : SensorLists) : Type 0 where
-  pub speed : StandsFor c.speed f.speed
-  pub throttle : StandsFor c.throttle f.throttle
-  pub brake : StandsFor c.brake f.brake
-  pub belt : StandsFor c.belt f.belt
-  pub lamp : StandsFor c.lamp f.lamp
+  pub speed : CaptureStandsFor c.speed f.speed
+  pub throttle : CaptureStandsFor c.throttle f.throttle
+  pub brake : CaptureStandsFor c.brake f.brake
+  pub belt : CaptureStandsFor c.belt f.belt
+  pub lamp : CaptureStandsFor c.lamp f.lamp

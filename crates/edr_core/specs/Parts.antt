@@ -12,8 +12,8 @@ use Rattle.edr_definitions.specs.Commands.{Issue, issues, commands}
 use Rattle.edr_capture.specs.SensorPart.{SensorPart, part_slots}
 
 -- the slots of each slow sensor's part, by its time zero
-abbrev pub Slots : Type 0
-Slots = Sensor → ℕ → List (Option ℤ)
+abbrev pub PartSlots : Type 0
+PartSlots = Sensor → ℕ → List (Option ℤ)
 
 -- the first slot of a part
 abbrev pub first_slot : List (Option ℤ) → Option ℤ
@@ -21,7 +21,7 @@ first_slot [] = None
 first_slot (o ∷ os) = o
 
 -- a pre part with the slots of its time zero
-abbrev pub with_parts : Slots → PrePart → PrePart
+abbrev pub with_parts : PartSlots → PrePart → PrePart
 with_parts slots p = record p {
   speed = numbers (slots Speed p.key.zero);
   throttle = numbers (slots Throttle p.key.zero);
@@ -30,28 +30,28 @@ with_parts slots p = record p {
   lamp = switch (first_slot (slots Lamp p.key.zero));
 }
 
-abbrev pub command_with : Slots → Command → Command
+abbrev pub command_with : PartSlots → Command → Command
 command_with slots (Take p) = Take (with_parts slots p)
 command_with slots (Lock p) = Lock (with_parts slots p)
 command_with slots (Done c) = Done c
 
 -- the commands of a cycle, each pre part made of the parts of its time zero
-abbrev pub commands_with : Slots → SensorLists → ℕ → ℕ → List Command
+abbrev pub commands_with : PartSlots → SensorLists → ℕ → ℕ → List Command
 commands_with slots f n t = map (command_with slots) (commands f n t)
 
 -- the same with their ticks
-abbrev pub issue_with : Slots → Issue → Issue
+abbrev pub issue_with : PartSlots → Issue → Issue
 issue_with slots i = record { tick = i.tick; command = command_with slots i.command }
 
-abbrev pub issues_with : Slots → SensorLists → ℕ → ℕ → List Issue
+abbrev pub issues_with : PartSlots → SensorLists → ℕ → ℕ → List Issue
 issues_with slots f n t = map (issue_with slots) (issues f n t)
 
 -- the parts of a cycle's own lists
-abbrev pub parts_of : SensorLists → Slots
+abbrev pub parts_of : SensorLists → PartSlots
 parts_of f s z = part_slots s (items_of s f) z
 
 -- the slots are those of each of these parts
-abbrev pub AreSlotsOf : List SensorPart → Slots → Type 0
+abbrev pub AreSlotsOf : List SensorPart → PartSlots → Type 0
 AreSlotsOf parts slots = All (λ q. slots q.sensor q.zero ≡ q.slots) parts
 
 -- the part is that of the sensor s and the time zero z

@@ -12,7 +12,7 @@ use Rattle.edr_core.specs.declared.split.SplitClosing.TheVariants as closing
 use Rattle.edr_core.specs.declared.ask.PartRefused.{PartRefused}
 use Rattle.edr_core.specs.declared.ask.PartRefused.TheVariants as refused
 use Rattle.edr_core.specs.Answers.{put}
-use Rattle.edr_core.specs.Parts.{Slots, commands_with, issues_with, part_in}
+use Rattle.edr_core.specs.Parts.{PartSlots, commands_with, issues_with, part_in}
 use Rattle.edr_core.specs.SplitHistory.{History, Answer, Waits, Asks, Lacks, Closes}
 
 -- an answer without its commands
@@ -30,7 +30,7 @@ after_split h (Parts s) = h
 after_split h (Closed t take lock crash) = record h { past = after_step h.past Close; asking = false }
 
 -- a closed tick is the next one, and carries exactly its commands of cycle n, each pre part made of the parts of its time zero
-abbrev pub HasTheCommandsWith : Slots → ℕ → Progress → SplitStep → Type 0
+abbrev pub HasTheCommandsWith : PartSlots → ℕ → Progress → SplitStep → Type 0
 HasTheCommandsWith slots n p (Waiting s) = Unit {0}
 HasTheCommandsWith slots n p (Ask z) = Unit {0}
 HasTheCommandsWith slots n p (Parts s) = Unit {0}
@@ -38,7 +38,7 @@ HasTheCommandsWith slots n p (Closed t take lock crash) =
     (t ≡ p.closed + 1) × (commands_with slots p.given n t ≡ commands_with slots p.given n p.closed ++ commands_of (record { take = take; lock = lock; done = crash }))
 
 -- the same with their ticks
-abbrev pub HasTheIssuesWith : Slots → ℕ → Progress → SplitStep → Type 0
+abbrev pub HasTheIssuesWith : PartSlots → ℕ → Progress → SplitStep → Type 0
 HasTheIssuesWith slots n p (Waiting s) = Unit {0}
 HasTheIssuesWith slots n p (Ask z) = Unit {0}
 HasTheIssuesWith slots n p (Parts s) = Unit {0}

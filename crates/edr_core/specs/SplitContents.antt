@@ -4,7 +4,7 @@ use Rattle.edr_record.specs.declared.Place.{Place}
 use Rattle.edr_merge.specs.State.{MergeState}
 use Rattle.edr_detect.specs.Detected.{DetectState}
 use Rattle.edr_core.specs.declared.candidate.Candidate.{Candidate}
-use Rattle.edr_core.specs.declared.ask.Ask.{Ask}
+use Rattle.edr_core.specs.declared.ask.OpenAsk.{OpenAsk}
 
 -- the cycle and the closed tick, what waits to be closed, what the search has seen, the last event, the open candidate, and the
 -- open ask
@@ -15,4 +15,4 @@ pub record SplitContents : Type 0 where
   pub detect : DetectState
   pub link : Option (Place × ℕ)
   pub candidate : Option Candidate
-  pub ask : Option Ask
+  pub ask : Option OpenAsk

@@ -17,10 +17,10 @@ use Rattle.edr_merge.specs.StandsFor.{MergeStandsFor}
 use Rattle.edr_detect.specs.Stages.{told_of}
 use Rattle.edr_detect.specs.Detected.{DetectStandsFor}
 use Rattle.edr_core.specs.declared.candidate.Candidate.{Candidate}
-use Rattle.edr_core.specs.declared.ask.Ask.{Ask}
+use Rattle.edr_core.specs.declared.ask.OpenAsk.{OpenAsk}
 use Rattle.edr_core.specs.declared.ask.Parts.{Parts}
 use Rattle.edr_core.specs.Rows.{RowIs, rows_of}
-use Rattle.edr_core.specs.Parts.{Slots, AreSlotsOf, with_parts, part_in}
+use Rattle.edr_core.specs.Parts.{PartSlots, AreSlotsOf, with_parts, part_in}
 use Rattle.edr_core.specs.SplitHistory.{History}
 use Rattle.edr_core.specs.SplitContents.{SplitContents}
 
@@ -28,7 +28,7 @@ use Rattle.edr_core.specs.SplitContents.{SplitContents}
 pub record IsMadeOf (parts : List SensorPart) (p q : PrePart) : Type 0 where
   pub key_is : q.key ≡ p.key
   pub place_is : q.place ≡ p.place
-  pub made : (slots : Slots) → AreSlotsOf parts slots → q ≡ with_parts slots p
+  pub made : (slots : PartSlots) → AreSlotsOf parts slots → q ≡ with_parts slots p
 
 -- an open candidate is what is kept of one, but for the slots of its pre part
 abbrev pub HoldsCandidateWith : List SensorPart → Option Candidate → CoreState → OpenCrash → Type 0
@@ -44,7 +44,7 @@ pub record PartsAre (ps : Parts) (taken : List SensorPart) (z : ℕ) : Type 0 wh
   pub lamp : ps.lamp ≡ part_in taken Lamp z
 
 -- the next tick is a time zero, and this is what was given of it, what stands there, and its parts as far as they were taken
-pub record AskIs (a : Ask) (h : History) : Type 0 where
+pub record AskIs (a : OpenAsk) (h : History) : Type 0 where
   pub asking : h.asking ≡ true
   pub row : RowIs (signals_of h.past.given) (h.past.closed + 1) a.row
   pub change : told_of a.change ≡ tick_change (signals_of h.past.given) (h.past.closed + 1)
@@ -52,7 +52,7 @@ pub record AskIs (a : Ask) (h : History) : Type 0 where
   pub parts : PartsAre a.parts h.parts (h.past.closed + 1)
 
 -- an ask is open where parts are asked for
-abbrev pub HoldsAsk : Option Ask → History → Type 0
+abbrev pub HoldsAsk : Option OpenAsk → History → Type 0
 HoldsAsk None h = h.asking ≡ false
 HoldsAsk (Some a) h = AskIs a h
 

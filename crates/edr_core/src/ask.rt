@@ -46,7 +46,7 @@ pub struct AllParts {
 
 // What was given of a time zero, what stands there, and its parts as far as they were taken.
 #[derive(Clone, Copy)]
-pub struct Ask {
+pub struct OpenAsk {
     pub row: TickRow,
     pub change: Change,
     pub parts: Parts,
@@ -181,15 +181,15 @@ impl AllParts {
     }
 }
 
-impl Ask {
+impl OpenAsk {
     ghost use Rattle.edr_core.specs.Ask.{no_parts};
 
     // No part was taken yet. It stands apart, since few ticks are a time zero, and its place is large.
     #[inline(never)]
-    pub fn open(ask: &mut Option<Ask>, row: TickRow, change: Change)
+    pub fn open(ask: &mut Option<OpenAsk>, row: TickRow, change: Change)
         ensures { ask.new ≡ Some (record { row = row; change = change; parts = no_parts }) }
     {
-        *ask = Some(Ask {
+        *ask = Some(OpenAsk {
             row,
             change,
             parts: Parts::none(),

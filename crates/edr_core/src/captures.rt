@@ -23,7 +23,7 @@ pub struct Captures {
 }
 
 impl Captures {
-    ghost use Rattle.edr_capture.specs.Capture.{StandsFor};
+    ghost use Rattle.edr_capture.specs.Capture.{CaptureStandsFor};
     ghost use Rattle.edr_capture.specs.SensorPart.{IsOfSensor, part};
     ghost use Rattle.edr_core.specs.Captures.{no_captures, kept_lists, with_kept, IsLater};
     ghost use Rattle.edr_core.specs.SplitHistory.{History};
@@ -66,7 +66,7 @@ impl Captures {
         ensures kept { result ≡ part sensor (items_of sensor (kept_lists self.now)) zero }
 
         // The same of all items of the sensor, though the oldest of them are not kept.
-        ensures definition { (given : List Item) → StandsFor (items_of sensor (kept_lists self.now)) given → result ≡ part sensor given zero }
+        ensures definition { (given : List Item) → CaptureStandsFor (items_of sensor (kept_lists self.now)) given → result ≡ part sensor given zero }
     {
         match sensor {
             Sensor::Speed => self.speed.part(sensor, zero),

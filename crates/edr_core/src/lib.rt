@@ -76,7 +76,7 @@ impl Model for Core {
 impl Core {
     ghost use Rattle.edr_merge.specs.Answers.{waited_for};
     ghost use Rattle.edr_core.specs.StandsFor.{CoreIsFor};
-    ghost use Rattle.edr_core.specs.Answers.{IsClosed, IsQuiet, awaited, after_answer, step_of, HasTheCommands, HasTheIssues};
+    ghost use Rattle.edr_core.specs.Answers.{IsClosed, PutsNothingAside, awaited, after_answer, step_of, HasTheCommands, HasTheIssues};
     ghost use Rattle.edr_core.specs.Calls.{IsWhyRefused, CoreFollows};
 
     /// A core for the ignition cycle of that number, to which no sensor has given an item, and of which no tick is closed.
@@ -150,7 +150,7 @@ impl Core {
         ensures stands { CoreFollows (λ p. after_answer p (step_of result issued.new)) self.old self.new }
         ensures allowed { (n : ℕ) (p : Progress) → CoreIsFor self.old n p → IsClosed (step_of result issued.new) ↔ IsAllowed Close p }
         ensures waits { (n : ℕ) (p : Progress) → CoreIsFor self.old n p → awaited (step_of result issued.new) ≡ waited_for p }
-        ensures quiet { IsQuiet result → issued.new ≡ issued.old }
+        ensures quiet { PutsNothingAside result → issued.new ≡ issued.old }
     {
         match self.split.close_free(issued) {
             SplitClosing::Waiting { sensor } => Closing::Waiting { sensor },

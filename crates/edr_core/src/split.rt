@@ -3,7 +3,7 @@
 ghost use Rattle.std.specs.Prelude.{◌≡◌, ◌↔◌, ◌+◌, ◌≤◌, ◌<◌, true, false, Some, None, is_some, IfOk, IfErr, IsOk, IsSome, OnOk, OnErr};
 ghost use Rattle.edr_definitions.specs.Schedule.{Give, IsAllowed};
 
-use crate::ask::{Ask, PartRefused};
+use crate::ask::{OpenAsk, PartRefused};
 use crate::candidate::{Candidate, Issued, TickRow, grow, issue, passes_by};
 use edr_capture::Part;
 use edr_detect::Detect;
@@ -66,7 +66,7 @@ pub struct SplitCore {
     candidate: Option<Candidate>,
     // Whether an ask is open: one byte, which is looked at in each tick.
     asking: bool,
-    ask: Option<Ask>,
+    ask: Option<OpenAsk>,
 }
 
 impl Model for SplitCore {
@@ -228,7 +228,7 @@ impl SplitCore {
             .tick(row.along.unwrap_or(0), row.across.unwrap_or(0), row.fired);
         if change.zero {
             self.asking = true;
-            Ask::open(&mut self.ask, row, change);
+            OpenAsk::open(&mut self.ask, row, change);
             return SplitClosing::Ask { zero: tick };
         }
         grow(&mut self.candidate, row);

@@ -10,7 +10,7 @@ ghost use Rattle.edr_definitions.specs.Selection.{close_of};
 ghost use Rattle.edr_definitions.specs.OpenCrash.{begin_crash, next_crash, finish_crash, next_firings, higher_result};
 ghost use Rattle.edr_crashpart.specs.Fields.{result_of, next_result};
 ghost use Rattle.edr_crashpart.specs.Bounds.{IsInRange};
-ghost use Rattle.edr_crashpart.specs.History.{row_of, StandsFor, StandsWith, IsPartWithEnd};
+ghost use Rattle.edr_crashpart.specs.History.{row_of, OpenCrashStandsFor, StandsWith, IsPartWithEnd};
 
 mod axis;
 
@@ -126,7 +126,7 @@ impl OpenCrash {
     /// The crash part at its time zero, a tick of the cycle, with the restraints that fire at that tick.
     pub fn begin(zero: u32, fired: Restraints) -> OpenCrash
         ensures part { result ≡ begin_crash zero fired.0 }
-        ensures stands { StandsFor result zero fired.0 [] }
+        ensures stands { OpenCrashStandsFor result zero fired.0 [] }
     {
         OpenCrash {
             zero,

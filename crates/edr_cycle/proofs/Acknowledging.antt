@@ -8,20 +8,20 @@ use Rattle.std.proofs.lemmas.Option.{slice_get_within}
 use Rattle.edr_items.specs.SensorLists.{SensorLists}
 use Rattle.edr_image.specs.Banks.{Store}
 use Rattle.edr_image.specs.Calls.{IsStop, acknowledged, all_calls, calls_of, done_of_step, gate_call_of, stops}
-use Rattle.edr_image.specs.Steps.{Step, Reply}
+use Rattle.edr_image.specs.Steps.{BankStep, Reply}
 use Rattle.edr_image.proofs.StopLaws.{FallsInReply, acknowledged-falls, contains_cases, contains_map, contains_none, stop-within, stops-has}
 use Rattle.edr_run.specs.Cycle.{acks_before, acks_in, replies_in, steps_in}
 use Rattle.edr_cycle.specs.Ends.{FirstSteps, steps_at, steps_before}
 use Rattle.edr_cycle.proofs.Ending.{at_is, length-acks_in, split_at}
 
 -- some first steps of the middle one of three lists, behind the first
-abbrev Middle : List Step → List Step → List Step → Type 0
+abbrev Middle : List BankStep → List BankStep → List BankStep → Type 0
 Middle a b done = (q : ℕ) × (q ≤ length b) × (done ≡ a ++ take q b)
 
 -- a stop in the first step, or a later one
-by_step : (s : Step) (steps done : List Step) (k : ℕ) (before first : Bool) → nat_lt k (gate_call_of s) ≡ before → nat_le k (calls_of s) ≡ first
+by_step : (s : BankStep) (steps done : List BankStep) (k : ℕ) (before first : Bool) → nat_lt k (gate_call_of s) ≡ before → nat_le k (calls_of s) ≡ first
     → Contains (cond first (cond before ([] ∷ []) ([] ∷ (s ∷ []) ∷ [])) (map (λ d. s ∷ d) (stops (k - calls_of s) steps))) done
-    → ((k ≤ calls_of s) × ((done ≡ []) ⊎ (done ≡ s ∷ []))) ⊎ ((calls_of s < k) × (d : List Step) × Contains (stops (k - calls_of s) steps) d × (done ≡ s ∷ d))
+    → ((k ≤ calls_of s) × ((done ≡ []) ⊎ (done ≡ s ∷ []))) ⊎ ((calls_of s < k) × (d : List BankStep) × Contains (stops (k - calls_of s) steps) d × (done ≡ s ∷ d))
 by_step s steps done k true true g h c = elim (contains_cases [] [] done c) [ inl e ↦ inl (grind (arith, h), inl (sym e)) | inr none ↦ contains_none done _ none ]
 by_step s steps done k false true g h c = elim (contains_cases [] ((s ∷ []) ∷ []) done c) [
   | inl e ↦ inl (grind (arith, h), inl (sym e))
@@ -29,12 +29,12 @@ by_step s steps done k false true g h c = elim (contains_cases [] ((s ∷ []) �
 ]
 by_step s steps done k before false g h c = let found = contains_map (λ d. s ∷ d) (stops (k - calls_of s) steps) done c in inr (grind (arith, h), found.0, found.1, sym found.2)
 
-first_or_later : (s : Step) (steps done : List Step) (k : ℕ) → Contains (stops k (s ∷ steps)) done
-    → ((k ≤ calls_of s) × ((done ≡ []) ⊎ (done ≡ s ∷ []))) ⊎ ((calls_of s < k) × (d : List Step) × Contains (stops (k - calls_of s) steps) d × (done ≡ s ∷ d))
+first_or_later : (s : BankStep) (steps done : List BankStep) (k : ℕ) → Contains (stops k (s ∷ steps)) done
+    → ((k ≤ calls_of s) × ((done ≡ []) ⊎ (done ≡ s ∷ []))) ⊎ ((calls_of s < k) × (d : List BankStep) × Contains (stops (k - calls_of s) steps) d × (done ≡ s ∷ d))
 unfolding stops
 first_or_later s steps done k c = by_step s steps done k (nat_lt k (gate_call_of s)) (nat_le k (calls_of s)) refl refl c
 
-in_middle : (a b c done : List Step) (k : ℕ) → Contains (stops k (a ++ (b ++ c))) done → all_calls a < k → k ≤ all_calls a + all_calls b → Middle a b done
+in_middle : (a b c done : List BankStep) (k : ℕ) → Contains (stops k (a ++ (b ++ c))) done → all_calls a < k → k ≤ all_calls a + all_calls b → Middle a b done
 in_middle [] [] c done k h past within = absurd (omega arith)
 in_middle [] (s ∷ b) c done k h past within =
     elim (first_or_later s (b ++ c) done k h) [
@@ -55,7 +55,7 @@ in_middle (s ∷ a) b c done k h past within =
           (rest.0, rest.1, later.3 ∙ ap (λ d. s ∷ d) rest.2)
     ]
 
-pub stop-acknowledged : (f : SensorLists) (n : ℕ) (v : Store) (k : ℕ) (done : List Step) → IsStop (steps_in f n v) k done → FirstSteps (replies_in f n v) (length (acks_before f n v k)) done
+pub stop-acknowledged : (f : SensorLists) (n : ℕ) (v : Store) (k : ℕ) (done : List BankStep) → IsStop (steps_in f n v) k done → FirstSteps (replies_in f n v) (length (acks_before f n v k)) done
 unfolding steps_in acks_before
 stop-acknowledged f n v k done stop =
     let rs = replies_in f n v in

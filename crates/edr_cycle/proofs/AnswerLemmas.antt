@@ -16,7 +16,7 @@ use Rattle.edr_record.specs.declared.Command.TheVariants.{Take, Lock, Done}
 use Rattle.edr_definitions.specs.Commands.{Issue, issue_at, issues}
 use Rattle.edr_definitions.specs.Schedule.{Progress, Close, after_step, BeginsWith, IsUnderWay}
 use Rattle.edr_definitions.proofs.MarkLaws.{feed-next, horizon-least, horizon-above}
-use Rattle.edr_capture.specs.Capture.{StandsFor}
+use Rattle.edr_capture.specs.Capture.{CaptureStandsFor}
 use Rattle.edr_capture.specs.SensorPart.{SensorPart, part, part_slots, IsOfSensor}
 use Rattle.edr_capture.proofs.PartLemmas.{part-later}
 use Rattle.edr_merge.specs.Answers.{is_waited_for, waited_for}
@@ -39,7 +39,7 @@ use Rattle.edr_core.proofs.PartsLaws.{issues-with}
 use Rattle.edr_core.proofs.TakenLemmas.{eqb_same, taken}
 use Rattle.edr_run.proofs.Issues.{issues-under_way}
 use Rattle.edr_cycle.specs.declared.remaining.Remaining.{Remaining}
-use Rattle.edr_cycle.specs.Remaining.{IsRest, RemainsAt, HasNext, IsOpenAt, IsAsked, SameAsk, IsTakenOf, Leads}
+use Rattle.edr_cycle.specs.Remaining.{IsRest, RemainsAt, HasNext, IsOpenAt, IsAsked, SameAsk, IsTakenOf, AnswerLeads}
 use Rattle.edr_cycle.proofs.RestLemmas.{feed-front, whole-feed, stands-of}
 
 -- ---- one part
@@ -70,7 +70,7 @@ module _ (lists : SensorLists) (n : ℕ) (h : History) (c : SplitContents) (rest
   abbrev kept : List Item
   kept = items_of s (kept_lists rest.captures)
 
-  pub kept-stands : StandsFor kept done
+  pub kept-stands : CaptureStandsFor kept done
   kept-stands = stands-of s done (items_of s h.past.given) kept slow (at.rests s).keeps
 
   done-feed : IsFeed s done
@@ -335,7 +335,7 @@ asked-before lists n h c c' rest z at stands asking zero = record {
 }
 
 -- where an answer leads depends on the closed tick alone
-pub leads-from : (lists : SensorLists) (n : ℕ) (a b : History) (r : Closing) (i : Issued) (c : SplitContents) (rest : Remaining) → a.past.closed ≡ b.past.closed → Leads lists n a r i c rest → Leads lists n b r i c rest
+pub leads-from : (lists : SensorLists) (n : ℕ) (a b : History) (r : Closing) (i : Issued) (c : SplitContents) (rest : Remaining) → a.past.closed ≡ b.past.closed → AnswerLeads lists n a r i c rest → AnswerLeads lists n b r i c rest
 leads-from lists n a b (Waiting s) i c rest same leads = (leads.0, leads.1 ∙ same, leads.2)
 leads-from lists n a b (Closed t some) i c rest same leads =
     (leads.0, leads.1, leads.2, leads.3 ∙ ap (λ u. u + 1) same, leads.4 ∙ ap (λ u. issues lists n u ++ map (issue_at t) (commands_put some i)) same)

@@ -16,11 +16,11 @@ use Rattle.edr_image.specs.declared.Ack.{Ack}
 use Rattle.edr_image.specs.Calls.{all_calls, calls_of}
 use Rattle.edr_image.specs.Image.{View}
 use Rattle.edr_image.specs.Logged.{Logged}
-use Rattle.edr_image.specs.Steps.{Step, State, after, held_after, reply_to, state_after}
+use Rattle.edr_image.specs.Steps.{BankStep, State, after, held_after, reply_to, state_after}
 use Rattle.edr_run.specs.Cycle.{ack_of}
-use Rattle.edr_banks.specs.Opened.{Opened, state_of}
+use Rattle.edr_banks.specs.Opened.{OpenedBanks, state_of}
 use Rattle.edr_banks.specs.Applying.{opened_after}
-use Rattle.edr_cycle.specs.Commits.{Commits, IsAfterFirst, IsLeftBy, IsReadyFor, StopsAt, Says, acks_from, first_steps, replies_from, steps_from}
+use Rattle.edr_cycle.specs.Commits.{Commits, IsAfterFirst, IsLeftBy, IsReadyFor, StopsAt, SaysAfter, acks_from, first_steps, replies_from, steps_from}
 use Rattle.edr_cycle.specs.Past.{KeepsPast}
 use Rattle.edr_cycle.proofs.Answered.{map_err, map_ok}
 use Rattle.edr_cycle.proofs.PastLemmas.{past_again, past_self}
@@ -29,7 +29,7 @@ use Rattle.edr_run.proofs.Replies.{after-append, get_first, get_later}
 
 -- ---- what is passed and what is cut
 
-passed_first : (a b : List Step) (v : View) (image : List ℕ) → IsAfterFirst a v image → IsAfterFirst (a ++ b) v image
+passed_first : (a b : List BankStep) (v : View) (image : List ℕ) → IsAfterFirst a v image → IsAfterFirst (a ++ b) v image
 passed_first a b v image h =
     let within = h.within in
     let size = length-append a b in record {
@@ -39,13 +39,13 @@ passed_first a b v image h =
     }
 
 -- the view after steps
-abbrev pub view_after : View → List Step → View
+abbrev pub view_after : View → List BankStep → View
 view_after v steps = record v { store = after v.store steps }
 
-says-append : (a b : List Step) (v : View) (image : List ℕ) → Says (view_after v a) b image → Says v (a ++ b) image
+says-append : (a b : List BankStep) (v : View) (image : List ℕ) → SaysAfter (view_after v a) b image → SaysAfter v (a ++ b) image
 says-append a b v image h = h ∙ ap (λ store. Some (record v { store = store })) (after-append v.store a b)
 
-passed_later : (a b : List Step) (v : View) (image : List ℕ) → IsAfterFirst b (view_after v a) image → IsAfterFirst (a ++ b) v image
+passed_later : (a b : List BankStep) (v : View) (image : List ℕ) → IsAfterFirst b (view_after v a) image → IsAfterFirst (a ++ b) v image
 passed_later a b v image h =
     let within = h.within in
     let size = length-append a b in record {
@@ -82,7 +82,7 @@ module _ (s : State) (xs ys : List Issue) where
             let c = h.cut bytes image v ready left in record {
               part = c.part;
               left = subst (λ steps. IsLeftBy (now - before - all_calls steps) h.fails.reply.steps c.part) (sym same) c.left;
-              says = subst (λ steps. Says v (steps ++ c.part) image) (sym same) c.says;
+              says = subst (λ steps. SaysAfter v (steps ++ c.part) image) (sym same) c.says;
             };
       }
 
@@ -120,11 +120,11 @@ module _ (s : State) (xs ys : List Issue) where
 -- ---- commits
 
 module _ {D : Type 0} (content : D → Option (List ℕ)) (settled : D → ℕ → Bool) (since : D → ℕ → List ℕ → Type 0) (clock good : D → ℕ) where
-  abbrev These : {T E : Type 0} → List Issue → Result T E → Opened → Opened → Logged → Logged → D → D → Type 0
+  abbrev These : {T E : Type 0} → List Issue → Result T E → OpenedBanks → OpenedBanks → Logged → Logged → D → D → Type 0
   These xs r b b' l l' d d' = Commits content settled since clock good xs r b b' l l' d d'
 
   -- nothing is committed
-  pub commits_none : {T E : Type 0} (x : T) (b : Opened) (l : Logged) (d : D) → These {E = E} [] (Ok x) b b l l d d
+  pub commits_none : {T E : Type 0} (x : T) (b : OpenedBanks) (l : Logged) (d : D) → These {E = E} [] (Ok x) b b l l d d
   commits_none x b l d = record {
     banks_are = refl;
     log_is = same_log;
@@ -139,7 +139,7 @@ module _ {D : Type 0} (content : D → Option (List ℕ)) (settled : D → ℕ �
       same_log = rw (append-nil l.acks) (let e : l.spare - 0 ≡ l.spare = omega arith in rw e refl)
 
   -- what a call answered is no matter
-  pub commits_same : {T E T' E' : Type 0} (xs : List Issue) (r : Result T E) (x : T) (y : T') (b b' : Opened) (l l' : Logged) (d d' : D) → r ≡ Ok x → These xs r b b' l l' d d' → These {E = E'} xs (Ok y) b b' l l' d d'
+  pub commits_same : {T E T' E' : Type 0} (xs : List Issue) (r : Result T E) (x : T) (y : T') (b b' : OpenedBanks) (l l' : Logged) (d d' : D) → r ≡ Ok x → These xs r b b' l l' d d' → These {E = E'} xs (Ok y) b b' l l' d d'
   commits_same {T} {E} xs r x y b b' l l' d d' was h =
       let k = subst (λ (q : Result T E). These xs q b b' l l' d d') was h in record {
         banks_are = k.banks_are;
@@ -152,7 +152,7 @@ module _ {D : Type 0} (content : D → Option (List ℕ)) (settled : D → ℕ �
       }
 
   -- a command failed, and others would have followed
-  pub commits_first : {T E T' E' : Type 0} (xs ys : List Issue) (e : E) (e' : E') (b b' : Opened) (l l' : Logged) (d d' : D) → These {T = T} xs (Err e) b b' l l' d d' → These {T = T'} (xs ++ ys) (Err e') b b' l l' d d'
+  pub commits_first : {T E T' E' : Type 0} (xs ys : List Issue) (e : E) (e' : E') (b b' : OpenedBanks) (l l' : Logged) (d d' : D) → These {T = T} xs (Err e) b b' l l' d d' → These {T = T'} (xs ++ ys) (Err e') b b' l l' d d'
   commits_first xs ys e e' b b' l l' d d' h =
       let s = state_of b in
       let a = steps_from s xs in
@@ -168,11 +168,11 @@ module _ {D : Type 0} (content : D → Option (List ℕ)) (settled : D → ℕ �
       }
 
   -- after all of them others follow
-  pub commits_again : {T E T' E' : Type 0} (xs ys : List Issue) (x : T) (r : Result T' E') (b b' b'' : Opened) (l l' l'' : Logged) (d d' d'' : D) → These {E = E} xs (Ok x) b b' l l' d d' → These ys r b' b'' l' l'' d' d'' → These (xs ++ ys) r b b'' l l'' d d''
+  pub commits_again : {T E T' E' : Type 0} (xs ys : List Issue) (x : T) (r : Result T' E') (b b' b'' : OpenedBanks) (l l' l'' : Logged) (d d' d'' : D) → These {E = E} xs (Ok x) b b' l l' d d' → These ys r b' b'' l' l'' d' d'' → These (xs ++ ys) r b b'' l l'' d d''
   commits_again xs ys x r b b' b'' l l' l'' d d' d'' h k =
-      joined xs ys x r b b'' l l'' d d' d'' (rw (h.banks_are, h.log_is) at h) (subst (λ (m : Logged). These ys r (opened_after b (steps_from (state_of b) xs)) b'' m l'' d' d'') h.log_is (subst (λ (o : Opened). These ys r o b'' l' l'' d' d'') h.banks_are k))
+      joined xs ys x r b b'' l l'' d d' d'' (rw (h.banks_are, h.log_is) at h) (subst (λ (m : Logged). These ys r (opened_after b (steps_from (state_of b) xs)) b'' m l'' d' d'') h.log_is (subst (λ (o : OpenedBanks). These ys r o b'' l' l'' d' d'') h.banks_are k))
     where
-      joined : {T E T' E' : Type 0} (xs ys : List Issue) (x : T) (r : Result T' E') (b b'' : Opened) (l l'' : Logged) (d d' d'' : D)
+      joined : {T E T' E' : Type 0} (xs ys : List Issue) (x : T) (r : Result T' E') (b b'' : OpenedBanks) (l l'' : Logged) (d d' d'' : D)
           → These {E = E} xs (Ok x) b (opened_after b (steps_from (state_of b) xs)) l (record { acks = l.acks ++ acks_from (state_of b) xs; spare = l.spare - length xs }) d d'
           → These ys r (opened_after b (steps_from (state_of b) xs)) b'' (record { acks = l.acks ++ acks_from (state_of b) xs; spare = l.spare - length xs }) l'' d' d'' → These (xs ++ ys) r b b'' l l'' d d''
       joined xs ys x r b b'' l l'' d d' d'' h k =
@@ -204,7 +204,7 @@ module _ {D : Type 0} (content : D → Option (List ℕ)) (settled : D → ℕ �
                 (λ image p. past_again b.store.header bytes first.0 image first.3 p);
           }
         where
-          opened-append : (b : Opened) (a more : List Step) → opened_after (opened_after b a) more ≡ opened_after b (a ++ more)
+          opened-append : (b : OpenedBanks) (a more : List BankStep) → opened_after (opened_after b a) more ≡ opened_after b (a ++ more)
           opened-append b a more = rw (after-append b.store a more, ← fold-append held_after b.held a more) refl
 
           logged-append : (l : Logged) (p q : List Ack) (m n : ℕ) (all : List Ack) (k : ℕ) → all ≡ p ++ q → k ≡ m + n → ◌≡◌ {A = Logged} (record { acks = (l.acks ++ p) ++ q; spare = l.spare - m - n }) (record { acks = l.acks ++ all; spare = l.spare - k })
@@ -212,14 +212,14 @@ module _ {D : Type 0} (content : D → Option (List ℕ)) (settled : D → ℕ �
               let spare : l.spare - m - n ≡ l.spare - k = omega (arith, f) in
               rw (append_assoc l.acks p q, ← e, spare) refl
 
-          ready_after : (b : Opened) (a : List Step) (now : List ℕ) (d : D) (v : View) → v.store ≡ b.store → IsQuiet (content d) (settled d) now → Says v a now → IsReadyFor (after b.store a) (content d) (settled d) now (view_after v a)
+          ready_after : (b : OpenedBanks) (a : List BankStep) (now : List ℕ) (d : D) (v : View) → v.store ≡ b.store → IsQuiet (content d) (settled d) now → SaysAfter v a now → IsReadyFor (after b.store a) (content d) (settled d) now (view_after v a)
           ready_after b a now d v same quiet says = record { quiet = quiet; view_is = says; store_is = ap (λ store. after store a) same }
 
   -- one command that was applied
-  pub one_applied : {T E : Type 0} (x : T) (i : Issue) (b b' : Opened) (l l' : Logged) (d d' : D) → let r = reply_to (state_of b) i.command in
+  pub one_applied : {T E : Type 0} (x : T) (i : Issue) (b b' : OpenedBanks) (l l' : Logged) (d d' : D) → let r = reply_to (state_of b) i.command in
       l' ≡ record { acks = l.acks ++ ack_of i r ∷ []; spare = l.spare - 1 } → state_of b' ≡ state_after (state_of b) r.steps → b'.count ≡ b.count → b'.ended ≡ b.ended
       → Makes {T = T} {E = E} (all_calls r.steps) (clock d) (clock d') (good d) (good d') (Ok x)
-      → ((bytes : List ℕ) (v : View) → IsReadyFor b.store (content d) (settled d) bytes v → (now : List ℕ) × IsQuiet (content d') (settled d') now × Says v r.steps now × KeepsPast b.store.header bytes now)
+      → ((bytes : List ℕ) (v : View) → IsReadyFor b.store (content d) (settled d) bytes v → (now : List ℕ) × IsQuiet (content d') (settled d') now × SaysAfter v r.steps now × KeepsPast b.store.header bytes now)
       → ((bytes : List ℕ) (v : View) → IsReadyFor b.store (content d) (settled d) bytes v → Elapses (clock d) (since d) (since d') (IsAfterFirst r.steps v))
       → ((bytes : List ℕ) (v : View) → IsReadyFor b.store (content d) (settled d) bytes v → Elapses (clock d) (since d) (since d') (KeepsPast b.store.header bytes))
       → These {E = E} (i ∷ []) (Ok x) b b' l l' d d'
@@ -235,16 +235,16 @@ module _ {D : Type 0} (content : D → Option (List ℕ)) (settled : D → ℕ �
         past = past;
       }
     where
-      parts : (o p : Opened) → state_of o ≡ state_of p → o.count ≡ p.count → o.ended ≡ p.ended → o ≡ p
+      parts : (o p : OpenedBanks) → state_of o ≡ state_of p → o.count ≡ p.count → o.ended ≡ p.ended → o ≡ p
       parts o p e f g =
           let store : o.store ≡ p.store = ap (λ (s : State). s.store) e in
           let held : o.held ≡ p.held = ap (λ (s : State). s.held) e in
-          let whole : ◌≡◌ {A = Opened} (record { store = o.store; count = o.count; held = o.held; ended = o.ended }) (record { store = p.store; count = p.count; held = p.held; ended = p.ended }) = cc in whole
+          let whole : ◌≡◌ {A = OpenedBanks} (record { store = o.store; count = o.count; held = o.held; ended = o.ended }) (record { store = p.store; count = p.count; held = p.held; ended = p.ended }) = cc in whole
 
   -- one command that failed
-  pub one_failed : {T E : Type 0} (e : E) (i : Issue) (b b' : Opened) (l : Logged) (d d' : D) → let r = reply_to (state_of b) i.command in
+  pub one_failed : {T E : Type 0} (e : E) (i : Issue) (b b' : OpenedBanks) (l : Logged) (d d' : D) → let r = reply_to (state_of b) i.command in
       Makes {T = T} {E = E} (all_calls r.steps) (clock d) (clock d') (good d) (good d') (Err e)
-      → ((bytes image : List ℕ) (v : View) → IsReadyFor b.store (content d) (settled d) bytes v → MayLeave (content d') (settled d') image → (part : List Step) × IsLeftBy (clock d' - clock d) r.steps part × Says v part image)
+      → ((bytes image : List ℕ) (v : View) → IsReadyFor b.store (content d) (settled d) bytes v → MayLeave (content d') (settled d') image → (part : List BankStep) × IsLeftBy (clock d' - clock d) r.steps part × SaysAfter v part image)
       → ((bytes : List ℕ) (v : View) → IsReadyFor b.store (content d) (settled d) bytes v → Elapses (clock d) (since d) (since d') (IsAfterFirst r.steps v))
       → ((bytes : List ℕ) (v : View) → IsReadyFor b.store (content d) (settled d) bytes v → Elapses (clock d) (since d) (since d') (KeepsPast b.store.header bytes))
       → These {T = T} (i ∷ []) (Err e) b b' l l d d'
@@ -270,14 +270,14 @@ module _ {D : Type 0} (content : D → Option (List ℕ)) (settled : D → ℕ �
       }
 
   -- the same, with what a call answered
-  pub commits_failed : {T E T' E' : Type 0} (xs ys zs : List Issue) (r : Result T E) (r' : Result T' E') (e : E) (b b' : Opened) (l l' : Logged) (d d' : D) → zs ≡ xs ++ ys → r ≡ Err e → IsErr r' → These xs r b b' l l' d d' → These zs r' b b' l l' d d'
+  pub commits_failed : {T E T' E' : Type 0} (xs ys zs : List Issue) (r : Result T E) (r' : Result T' E') (e : E) (b b' : OpenedBanks) (l l' : Logged) (d d' : D) → zs ≡ xs ++ ys → r ≡ Err e → IsErr r' → These xs r b b' l l' d d' → These zs r' b b' l l' d d'
   commits_failed xs ys zs r (Ok x) e b b' l l' d d' all was is h = absurd (false≢true is)
   commits_failed {T} {E} {T'} {E'} xs ys zs r (Err e') e b b' l l' d d' all was is h =
       let q : Result T' E' = Err e' in
       subst (λ (ws : List Issue). These ws q b b' l l' d d') (sym all)
       (commits_first xs ys e e' b b' l l' d d' (subst (λ (q : Result T E). These xs q b b' l l' d d') was h))
 
-  pub commits_then : {T E T' E' : Type 0} (xs ys zs : List Issue) (r : Result T E) (r' : Result T' E') (x : T) (b b' b'' : Opened) (l l' l'' : Logged) (d d' d'' : D) → zs ≡ xs ++ ys → r ≡ Ok x → These xs r b b' l l' d d' → These ys r' b' b'' l' l'' d' d'' → These zs r' b b'' l l'' d d''
+  pub commits_then : {T E T' E' : Type 0} (xs ys zs : List Issue) (r : Result T E) (r' : Result T' E') (x : T) (b b' b'' : OpenedBanks) (l l' l'' : Logged) (d d' d'' : D) → zs ≡ xs ++ ys → r ≡ Ok x → These xs r b b' l l' d d' → These ys r' b' b'' l' l'' d' d'' → These zs r' b b'' l l'' d d''
   commits_then {T} {E} xs ys zs r r' x b b' b'' l l' l'' d d' d'' all was h k =
       subst (λ (ws : List Issue). These ws r' b b'' l l'' d d'') (sym all)
       (commits_again xs ys x r' b b' b'' l l' l'' d d' d'' (subst (λ (q : Result T E). These xs q b b' l l' d d') was h) k)

@@ -15,11 +15,11 @@ use Rattle.edr_image.specs.Banks.{Store}
 use Rattle.edr_image.specs.Image.{View, view_of}
 use Rattle.edr_image.specs.Logged.{Logged}
 use Rattle.edr_image.specs.Reports.{Ran}
-use Rattle.edr_image.specs.Steps.{Step, State, Reply, after, at_rest}
+use Rattle.edr_image.specs.Steps.{BankStep, State, Reply, after, at_rest}
 use Rattle.edr_image.proofs.StopLaws.{stop-prefix}
-use Rattle.edr_banks.specs.Opened.{Opened, state_of}
+use Rattle.edr_banks.specs.Opened.{OpenedBanks, state_of}
 use Rattle.edr_run.specs.Cycle.{End, cut, whole, acks_before, acks_in, cut_end, issues_in, replies_in, steps_in, whole_end}
-use Rattle.edr_cycle.specs.Commits.{Commits, IsAfterFirst, IsLeftBy, IsReadyFor, Says, acks_from, first_steps, replies_from, steps_from}
+use Rattle.edr_cycle.specs.Commits.{Commits, IsAfterFirst, IsLeftBy, IsReadyFor, SaysAfter, acks_from, first_steps, replies_from, steps_from}
 use Rattle.edr_cycle.specs.Ends.{HasFirst, IsFound, MeetsCycle, steps_at, steps_before}
 use Rattle.edr_cycle.specs.Past.{KeepsPast}
 use Rattle.edr_cycle.proofs.Keeping.{first_steps-keep}
@@ -55,7 +55,7 @@ acknowledged-is (r ∷ rs) k (suc j) reply at past within =
     by_test false e h rest = ap suc rest
 
 -- the steps before a command, its own, and those after it
-pub split_at : (rs : List Reply) (j : ℕ) (reply : Reply) → slice_get rs j ≡ Some reply → (rest : List Step) × (flat_map (λ r. r.steps) rs ≡ steps_before rs j ++ (reply.steps ++ rest))
+pub split_at : (rs : List Reply) (j : ℕ) (reply : Reply) → slice_get rs j ≡ Some reply → (rest : List BankStep) × (flat_map (λ r. r.steps) rs ≡ steps_before rs j ++ (reply.steps ++ rest))
 split_at [] j reply at = absurd cc
 split_at (r ∷ rs) zero reply at = let same : r ≡ reply = cc in (flat_map (λ x. x.steps) rs, ap (λ (x : Reply). x.steps ++ flat_map (λ y. y.steps) rs) same)
 split_at (r ∷ rs) (suc j) reply at = let rest = split_at rs j reply at in (rest.0, ap (λ xs. r.steps ++ xs) rest.1 ∙ sym (append_assoc r.steps (steps_before rs j) (reply.steps ++ rest.0)))
@@ -67,7 +67,7 @@ before_all : (rs : List Reply) → steps_before rs (length rs) ≡ flat_map (λ 
 before_all rs = ap (flat_map (λ r. r.steps)) (take-length rs)
 
 -- some first steps
-prefix_of : (k : ℕ) (steps part : List Step) → IsLeftBy k steps part → (q : ℕ) × (q ≤ length steps) × (part ≡ take q steps)
+prefix_of : (k : ℕ) (steps part : List BankStep) → IsLeftBy k steps part → (q : ℕ) × (q ≤ length steps) × (part ≡ take q steps)
 prefix_of k steps part (inl none) = (0, omega arith, none.1)
 prefix_of k steps part (inr stop) = let p = stop-prefix steps part k stop in (min p.0 (length steps), omega arith, p.1 ∙ sym (take_min p.0 steps))
 
@@ -87,7 +87,7 @@ length-acks_in f n v = length-acks_from (at_rest v) (issues_in f n) ∙ sym (len
 
 module _ {D : Type 0} (content : D → Option (List ℕ)) (settled : D → ℕ → Bool) (since : D → ℕ → List ℕ → Type 0) (clock good : D → ℕ)
     (only_now : (d : D) (image : List ℕ) → since d (clock d) image → MayLeave (content d) (settled d) image)
-    (f : SensorLists) (n : ℕ) (some : 1 ≤ n) (b b' : Opened) (rests : b.held ≡ None) (l l' : Logged) (empty : l.acks ≡ []) (d d' : D) where
+    (f : SensorLists) (n : ℕ) (some : 1 ≤ n) (b b' : OpenedBanks) (rests : b.held ≡ None) (l l' : Logged) (empty : l.acks ≡ []) (d d' : D) where
   abbrev seen : View
   seen = record { store = b.store; count = n }
 
@@ -137,7 +137,7 @@ module _ {D : Type 0} (content : D → Option (List ℕ)) (settled : D → ℕ �
       (λ (p : KeepsPast b.store.header bytes image). p)
       ((h.past bytes seen (ready bytes found)).nothing_else (clock d) image (omega arith) had)
 
-  all_first : (image : List ℕ) → Says seen (steps_in f n b.store) image → HasFirst (replies_in f n b.store) (length (acks_in f n b.store)) seen image
+  all_first : (image : List ℕ) → SaysAfter seen (steps_in f n b.store) image → HasFirst (replies_in f n b.store) (length (acks_in f n b.store)) seen image
   all_first image says = record {
     done = steps_in f n b.store;
     says = says;
@@ -152,8 +152,8 @@ module _ {D : Type 0} (content : D → Option (List ℕ)) (settled : D → ℕ �
   ended_whole : {T E : Type 0} (x : T) → Commits {E = E} content settled since clock good (issues_in f n) (Ok x) b b' l l' d d' → MeetsCycle content settled since clock good f n b.store false l'.acks d d'
   ended_whole x h =
       let log : l'.acks ≡ acks_in f n b.store = ap (λ (m : Logged). m.acks) h.log_is ∙ ap (λ as'. as' ++ acks_from (state_of b) (issues_in f n)) empty ∙ acks_are in
-      let end : (bytes : List ℕ) → at bytes → (now : List ℕ) × IsQuiet (content d') (settled d') now × Says seen (steps_in f n b.store) now = λ bytes found. rw (sym steps_are) (let t = h.taken bytes seen (ready bytes found) in (t.0, t.1, t.2)) in
-      let left : (bytes image : List ℕ) → at bytes → MayLeave (content d') (settled d') image → Says seen (steps_in f n b.store) image = λ bytes image found may. let e = end bytes found in ap view_of (quiet_leaves e.0 (content d') (settled d') image e.1 may) ∙ e.2 in
+      let end : (bytes : List ℕ) → at bytes → (now : List ℕ) × IsQuiet (content d') (settled d') now × SaysAfter seen (steps_in f n b.store) now = λ bytes found. rw (sym steps_are) (let t = h.taken bytes seen (ready bytes found) in (t.0, t.1, t.2)) in
+      let left : (bytes image : List ℕ) → at bytes → MayLeave (content d') (settled d') image → SaysAfter seen (steps_in f n b.store) image = λ bytes image found may. let e = end bytes found in ap view_of (quiet_leaves e.0 (content d') (settled d') image e.1 may) ∙ e.2 in
       record {
         calls_of_all = λ _. h.time.ok ∙ ap (λ steps. clock d + all_calls steps) steps_are;
         good_at_end = λ _ more. h.time.good_is.0 (subst (λ steps. 0 < all_calls steps) (sym steps_are) more);
@@ -198,9 +198,9 @@ module _ {D : Type 0} (content : D → Option (List ℕ)) (settled : D → ℕ �
       let long : length l'.acks ≡ s.j = ap length log ∙ length-take-le s.j (acks_in f n b.store) (omega arith) in
       let past = s.fails.past in
       let within = s.fails.within in
-      let parts : (bytes image : List ℕ) → at bytes → MayLeave (content d') (settled d') image → (part : List Step) × IsLeftBy (k - all_calls (steps_before rs s.j)) reply.steps part × Says seen (steps_before rs s.j ++ part) image =
+      let parts : (bytes image : List ℕ) → at bytes → MayLeave (content d') (settled d') image → (part : List BankStep) × IsLeftBy (k - all_calls (steps_before rs s.j)) reply.steps part × SaysAfter seen (steps_before rs s.j ++ part) image =
       λ bytes image found may. let c = s.cut bytes image seen (ready bytes found) may in
-      (c.part, subst (λ steps. IsLeftBy (k - all_calls steps) reply.steps c.part) first c.left, subst (λ steps. Says seen (steps ++ c.part) image) first c.says) in
+      (c.part, subst (λ steps. IsLeftBy (k - all_calls steps) reply.steps c.part) first c.left, subst (λ steps. SaysAfter seen (steps ++ c.part) image) first c.says) in
       record {
         calls_of_all = λ x. true_not x;
         good_at_end = λ x. true_not x;
@@ -236,14 +236,14 @@ module _ {D : Type 0} (content : D → Option (List ℕ)) (settled : D → ℕ �
         past = past_of (Err e) h;
       }
     where
-      is_stop : (k : ℕ) (steps done : List Step) → IsLeftBy k steps done → 1 ≤ k → IsStop steps k done
+      is_stop : (k : ℕ) (steps done : List BankStep) → IsLeftBy k steps done → 1 ≤ k → IsStop steps k done
       is_stop k steps done (inl none) low = let z = none.0 in absurd (omega (arith, z, low))
       is_stop k steps done (inr stop) low = stop
 
-      cut_is : (k : ℕ) (done : List Step) → l'.acks ≡ acks_before f n b.store k → ◌≡◌ {A = End} (record { report = Ran n (Some k) l'.acks; store = after b.store done; count = n }) (cut_end f b.store (n - 1 + 1) k done)
+      cut_is : (k : ℕ) (done : List BankStep) → l'.acks ≡ acks_before f n b.store k → ◌≡◌ {A = End} (record { report = Ran n (Some k) l'.acks; store = after b.store done; count = n }) (cut_end f b.store (n - 1 + 1) k done)
       cut_is k done log = rw (log, number_is) refl
 
-      first_of : (j : ℕ) (reply : Reply) → slice_get (replies_in f n b.store) j ≡ Some reply → (part : List Step) (q : ℕ) → q ≤ length reply.steps → part ≡ take q reply.steps → (image : List ℕ) → Says seen (steps_before (replies_in f n b.store) j ++ part) image → HasFirst (replies_in f n b.store) j seen image
+      first_of : (j : ℕ) (reply : Reply) → slice_get (replies_in f n b.store) j ≡ Some reply → (part : List BankStep) (q : ℕ) → q ≤ length reply.steps → part ≡ take q reply.steps → (image : List ℕ) → SaysAfter seen (steps_before (replies_in f n b.store) j ++ part) image → HasFirst (replies_in f n b.store) j seen image
       first_of j reply here part q within is image says =
           let own = at_is (replies_in f n b.store) j reply here in record {
             done = steps_before (replies_in f n b.store) j ++ part;

@@ -5,7 +5,7 @@ use Rattle.edr_device.specs.Device.{Elapses, Shows, Stays}
 use Rattle.edr_device.proofs.Settling.{stays_quiet}
 use Rattle.edr_image.specs.PartBytes.{number_at}
 use Rattle.edr_image.specs.Image.{View, is_open, older_slot, place_of_slot, slot_count}
-use Rattle.edr_cycle.specs.Counter.{IsNext}
+use Rattle.edr_cycle.specs.Counter.{IsNextSlot}
 use Rattle.edr_cycle.specs.Ends.{IsFound}
 use Rattle.edr_cycle.proofs.Front.{seen}
 
@@ -53,7 +53,7 @@ stays_elapse content content' settled settled' past middle since before before' 
 
 -- the slot that is found in the first bytes is the older one of the image
 pub next_found : (front : List ℕ) (slot next : ℕ) (opened : Bool) (v : View) (content : Option (List ℕ)) (settled : ℕ → Bool) (bytes : List ℕ) → length front ≡ 96 → Shows 0 front content → slot ≡ place_of_slot (older_slot front) → is_open front slot ≡ opened
-    → IsFound v content settled bytes → v.count < next → IsNext slot opened next bytes v
+    → IsFound v content settled bytes → v.count < next → IsNextSlot slot opened next bytes v
 next_found front slot next opened v content settled bytes size shows place gate h more =
     let told : Shows 0 front (Some bytes) = subst (λ (c : Option (List ℕ)). Shows 0 front c) h.quiet.0 shows in
     let long = (seen bytes v h.view_is).long in

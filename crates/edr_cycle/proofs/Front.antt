@@ -12,7 +12,7 @@ use Rattle.edr_image.specs.declared.OpenFault.{OpenFault}
 use Rattle.edr_image.specs.Banks.{Store}
 use Rattle.edr_image.specs.PartBytes.{number_at}
 use Rattle.edr_image.specs.Image.{View, bank_view, count_of, is_open, slot_count, header_of, header_refusal, image_refusal, image_size, magic, not_magic, place_of, store_of, view_of, header_refusal_by, image_refusal_by, view_by}
-use Rattle.edr_cycle.specs.Counter.{IsCounted, IsNext, SaysWith}
+use Rattle.edr_cycle.specs.Counter.{IsCountAfterStop, IsNextSlot, SaysWith}
 use Rattle.edr_cycle.proofs.Bytes.{byte_beside, number_beside, same_wider}
 use Rattle.edr_cycle.proofs.Slots.{IsCount, IsOlder, counted, older_is}
 
@@ -141,7 +141,7 @@ pub record Fits (slot : ℕ) (opened : Bool) (next : ℕ) (bytes : List ℕ) (v 
   pub now_is : v.count ≡ counted slot other bytes
   pub more : max next (slot_count bytes other) ≡ next
 
-pub fits_next : (slot : ℕ) (opened : Bool) (next : ℕ) (bytes : List ℕ) (v : View) → IsNext slot opened next bytes v → Fits slot opened next bytes v
+pub fits_next : (slot : ℕ) (opened : Bool) (next : ℕ) (bytes : List ℕ) (v : View) → IsNextSlot slot opened next bytes v → Fits slot opened next bytes v
 fits_next slot opened next bytes v h =
     let is = seen bytes v h.view_is in
     let long = is.long in
@@ -161,7 +161,7 @@ fits_next slot opened next bytes v h =
     greater_max : (a b : ℕ) → b < a → max a b ≡ a
     greater_max a b h = omega arith
 
-says : (slot : ℕ) (opened : Bool) (next count : ℕ) (bytes image : List ℕ) (v : View) → IsNext slot opened next bytes v → (f : Fits slot opened next bytes v) → SameBut slot 32 bytes image → counted slot f.other image ≡ count → SaysWith count bytes v image
+says : (slot : ℕ) (opened : Bool) (next count : ℕ) (bytes image : List ℕ) (v : View) → IsNextSlot slot opened next bytes v → (f : Fits slot opened next bytes v) → SameBut slot 32 bytes image → counted slot f.other image ≡ count → SaysWith count bytes v image
 says slot opened next count bytes image v h f s is =
     let wide : SameBut 32 64 bytes image = same_wider slot 32 32 64 bytes image f.places.0 (let p = f.places.1 in omega arith) s in
     let long = (seen bytes v h.view_is).long in
@@ -170,19 +170,19 @@ says slot opened next count bytes image v h f s is =
       view_is = view_same bytes image wide (omega arith) v h.view_is ∙ ap (λ (n : ℕ). Some (record v { count = n })) (f.count_is image ∙ is);
     }
 
-pub says_counted : (slot : ℕ) (opened : Bool) (r next : ℕ) (bytes image : List ℕ) (v : View) → IsNext slot opened next bytes v → (f : Fits slot opened next bytes v) → IsCount r slot f.other next bytes image → IsCounted r next bytes v image
+pub says_counted : (slot : ℕ) (opened : Bool) (r next : ℕ) (bytes image : List ℕ) (v : View) → IsNextSlot slot opened next bytes v → (f : Fits slot opened next bytes v) → IsCount r slot f.other next bytes image → IsCountAfterStop r next bytes v image
 says_counted slot opened r next bytes image v h f x = ⊎_elim
     (λ (same : counted slot f.other image ≡ counted slot f.other bytes). inl (says slot opened next v.count bytes image v h f x.others (same ∙ sym f.now_is)))
     (λ (later : (5 ≤ r) × (counted slot f.other image ≡ max next (slot_count bytes f.other))). inr (later.0, says slot opened next next bytes image v h f x.others (later.1 ∙ f.more)))
     x.count
 
 -- a crash at any moment
-pub says_later : (slot : ℕ) (opened : Bool) (next : ℕ) (bytes image : List ℕ) (v : View) → IsNext slot opened next bytes v → (f : Fits slot opened next bytes v) → IsCount 5 slot f.other next bytes image → IsCounted 6 next bytes v image
+pub says_later : (slot : ℕ) (opened : Bool) (next : ℕ) (bytes image : List ℕ) (v : View) → IsNextSlot slot opened next bytes v → (f : Fits slot opened next bytes v) → IsCount 5 slot f.other next bytes image → IsCountAfterStop 6 next bytes v image
 says_later slot opened next bytes image v h f x = later (says_counted slot opened 5 next bytes image v h f x)
   where
-    later : IsCounted 5 next bytes v image → IsCounted 6 next bytes v image
+    later : IsCountAfterStop 5 next bytes v image → IsCountAfterStop 6 next bytes v image
     later (inl same) = inl same
     later (inr more) = inr (omega arith, more.1)
 
-pub says_made : (slot : ℕ) (opened : Bool) (next : ℕ) (bytes image : List ℕ) (v : View) → IsNext slot opened next bytes v → (f : Fits slot opened next bytes v) → SameBut slot 32 bytes image → counted slot f.other image ≡ max next (slot_count bytes f.other) → SaysWith next bytes v image
+pub says_made : (slot : ℕ) (opened : Bool) (next : ℕ) (bytes image : List ℕ) (v : View) → IsNextSlot slot opened next bytes v → (f : Fits slot opened next bytes v) → SameBut slot 32 bytes image → counted slot f.other image ≡ max next (slot_count bytes f.other) → SaysWith next bytes v image
 says_made slot opened next bytes image v h f s e = says slot opened next next bytes image v h f s (e ∙ f.more)

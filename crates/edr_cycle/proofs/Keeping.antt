@@ -16,7 +16,7 @@ use Rattle.edr_image.proofs.OwnLaws.{own-steps}
 use Rattle.edr_image.proofs.StepLaws.{locked-stays}
 use Rattle.edr_image.proofs.StopLaws.{contains_here, contains_later}
 use Rattle.edr_run.specs.Cycle.{issues_in, steps_in}
-use Rattle.edr_run.specs.Own.{ArePartsOf, IsPreOf, IsRecordOf}
+use Rattle.edr_run.specs.Own.{ArePartsOf, IsPreOfCycle, IsRecordOf}
 use Rattle.edr_run.proofs.OrderLaws.{cycle_steps-kept}
 use Rattle.edr_run.proofs.OwnLaws.{issues-own}
 use Rattle.edr_cycle.specs.Commits.{IsAfterFirst}
@@ -43,12 +43,12 @@ first_steps-keep f n v image some h =
       view = record { store = after v (take h.p (steps_of v cs)); count = n };
       view_is = h.says;
       locked = λ i r at is. locked-stays v cs h.p i r at is;
-      own = λ i r at. (own-steps (IsPreOf f n) (ArePartsOf f n) v cs h.p own).each i r at;
-      crash_parts = λ i r crash at is. by_done i r crash is ((own-steps (IsPreOf f n) (λ p c. Contains cs (command.Done c)) v cs h.p (own_done (IsPreOf f n) (ArePartsOf f n) cs None cs (λ c at. at) own)).each i r at);
+      own = λ i r at. (own-steps (IsPreOfCycle f n) (ArePartsOf f n) v cs h.p own).each i r at;
+      crash_parts = λ i r crash at is. by_done i r crash is ((own-steps (IsPreOfCycle f n) (λ p c. Contains cs (command.Done c)) v cs h.p (own_done (IsPreOfCycle f n) (ArePartsOf f n) cs None cs (λ c at. at) own)).each i r at);
       kept = λ was. subst (λ (m : ℕ). AreKept (after v (take h.p (steps_in f m v))).banks m) number (cycle_steps-kept f v (n - 1) h.p was);
     }
   where
-    by_done : (i : ℕ) (r : Record) (crash : CrashPart) → r.crash ≡ Some crash → (slice_get v.banks i ≡ Some (Event r)) ⊎ IsOwn (IsPreOf f n) (λ p c. Contains (map (λ x. x.command) (issues_in f n)) (command.Done c)) r
+    by_done : (i : ℕ) (r : Record) (crash : CrashPart) → r.crash ≡ Some crash → (slice_get v.banks i ≡ Some (Event r)) ⊎ IsOwn (IsPreOfCycle f n) (λ p c. Contains (map (λ x. x.command) (issues_in f n)) (command.Done c)) r
         → (slice_get v.banks i ≡ Some (Event r)) ⊎ Contains (map (λ x. x.command) (issues_in f n)) (command.Done crash)
     by_done i r crash is (inl old) = inl old
     by_done i r crash is (inr own) = inr (own.crash crash is)

@@ -10,7 +10,7 @@ use Rattle.edr_record.specs.declared.Command.{Command}
 use Rattle.edr_definitions.specs.Commands.{Issue}
 use Rattle.edr_image.specs.Banks.{Store}
 use Rattle.edr_image.specs.Calls.{IsStop, all_calls, calls_of, gate_call_of}
-use Rattle.edr_image.specs.Steps.{Step, Erase, Fill, Lock, Done, State, Reply, after, banks_after, held_after, replies, reply_to, state_after}
+use Rattle.edr_image.specs.Steps.{BankStep, Erase, Fill, Lock, Done, State, Reply, after, banks_after, held_after, replies, reply_to, state_after}
 use Rattle.edr_run.specs.Cycle.{ack_of}
 use Rattle.edr_run.proofs.Replies.{replies-append, stop_first, stop_later}
 use Rattle.edr_cycle.specs.Commits.{IsLeftBy, acks_from, first_steps, replies_from, steps_from}
@@ -79,14 +79,14 @@ all_steps s xs = ap (flat_map (λ r. r.steps)) (ap (λ n. take n (replies_from s
 
 -- ---- stops
 
-gate_within : (s : Step) → (gate_call_of s ≤ calls_of s) × (1 ≤ calls_of s)
+gate_within : (s : BankStep) → (gate_call_of s ≤ calls_of s) × (1 ≤ calls_of s)
 gate_within (Erase m) = (omega arith, omega arith)
 gate_within (Fill m pre) = (omega arith, omega arith)
 gate_within (Lock m) = (omega arith, omega arith)
 gate_within (Done m crash) = (omega arith, omega arith)
 
 -- a stop in the last call may leave all steps done
-stop_last : (s : Step) (steps : List Step) → IsStop (s ∷ steps) (all_calls (s ∷ steps)) (s ∷ steps)
+stop_last : (s : BankStep) (steps : List BankStep) → IsStop (s ∷ steps) (all_calls (s ∷ steps)) (s ∷ steps)
 stop_last s [] = record {
   p = 0;
   r = calls_of s;
@@ -96,15 +96,15 @@ stop_last s [] = record {
 }
 stop_last s (t ∷ steps) = subst (λ k. IsStop (s ∷ t ∷ steps) k (s ∷ t ∷ steps)) (sym (sum_by-append calls_of (s ∷ []) (t ∷ steps))) (stop_later (s ∷ []) (t ∷ steps) (t ∷ steps) (all_calls (t ∷ steps)) (stop_last t steps))
 
-pub left_all : (steps : List Step) → IsLeftBy (all_calls steps) steps steps
+pub left_all : (steps : List BankStep) → IsLeftBy (all_calls steps) steps steps
 left_all [] = inl (refl, refl)
 left_all (s ∷ steps) = inr (stop_last s steps)
 
-pub left_first : (a b done : List Step) (k : ℕ) → IsLeftBy k a done → IsLeftBy k (a ++ b) done
+pub left_first : (a b done : List BankStep) (k : ℕ) → IsLeftBy k a done → IsLeftBy k (a ++ b) done
 left_first a b done k (inl none) = inl none
 left_first a b done k (inr stop) = inr (stop_first a b done k stop)
 
-pub left_later : (a b done : List Step) (k : ℕ) → IsLeftBy k b done → IsLeftBy (all_calls a + k) (a ++ b) (a ++ done)
+pub left_later : (a b done : List BankStep) (k : ℕ) → IsLeftBy k b done → IsLeftBy (all_calls a + k) (a ++ b) (a ++ done)
 left_later a b done k (inr stop) = inr (stop_later a b done k stop)
 left_later a b done k (inl none) =
     let calls : all_calls a ≡ all_calls a + k = let z = none.0 in omega (arith, z) in

@@ -10,8 +10,8 @@ use Rattle.edr_image.specs.declared.BankView.{BankView}
 use Rattle.edr_image.specs.declared.BankView.TheVariants.{Void, Event}
 use Rattle.edr_image.specs.declared.Header.{Header}
 use Rattle.edr_image.specs.Image.{View, image_size, place_of, view_of}
-use Rattle.edr_image.specs.Steps.{Step, Erase, Fill, Lock, Done, banks_after}
-use Rattle.edr_gates.specs.Taken.{HasDone, Holds, IsAside, MayTake, MayTakeAll, bank_of}
+use Rattle.edr_image.specs.Steps.{BankStep, Erase, Fill, Lock, Done, banks_after}
+use Rattle.edr_gates.specs.Taken.{HasDone, BankHolds, IsAside, MayTake, MayTakeAll, bank_of}
 use Rattle.edr_gates.proofs.Views.{seen}
 use Rattle.edr_cycle.specs.Past.{KeepsPast}
 
@@ -29,16 +29,16 @@ past_again h bytes mid image a b = record {
 
 -- ---- the banks end where the image does
 
-held_within : (banks : List BankView) (m : ℕ) (view : BankView) → Holds banks m view → (1 ≤ m) × (m ≤ length banks)
+held_within : (banks : List BankView) (m : ℕ) (view : BankView) → BankHolds banks m view → (1 ≤ m) × (m ≤ length banks)
 held_within banks m view h = let below = slice_get_within banks (m - 1) view h.1 in let from = h.0 in (from, omega (arith, below, from))
 
-bank_within : (banks : List BankView) (s : Step) → MayTake banks s → (1 ≤ bank_of s) × (bank_of s ≤ length banks)
+bank_within : (banks : List BankView) (s : BankStep) → MayTake banks s → (1 ≤ bank_of s) × (bank_of s ≤ length banks)
 bank_within banks (Erase m) may = held_within banks m (Event may.0) may.1
 bank_within banks (Fill m pre) may = held_within banks m Void may
 bank_within banks (Lock m) may = held_within banks m (Event may.0) may.1
 bank_within banks (Done m crash) may = held_within banks m (Event may.0) may.1
 
-as_many : (banks : List BankView) (s : Step) → length (banks_after banks s) ≡ length banks
+as_many : (banks : List BankView) (s : BankStep) → length (banks_after banks s) ≡ length banks
 as_many banks (Erase m) = length-set banks (m - 1) _
 as_many banks (Fill m pre) = length-set banks (m - 1) _
 as_many banks (Lock m) = length-set banks (m - 1) _
@@ -47,7 +47,7 @@ as_many banks (Done m crash) = length-set banks (m - 1) _
 past_bank : (n m i : ℕ) → 1 ≤ m → m ≤ n → image_size n ≤ i → is_in (place_of m) 1024 i ≡ false
 past_bank n m i from to past = grind (arith, nat_tests)
 
-past_banks : (steps : List Step) (banks : List BankView) (i : ℕ) → MayTakeAll banks steps → image_size (length banks) ≤ i → IsAside steps i
+past_banks : (steps : List BankStep) (banks : List BankView) (i : ℕ) → MayTakeAll banks steps → image_size (length banks) ≤ i → IsAside steps i
 past_banks [] banks i may past = tt
 past_banks (s ∷ steps) banks i may past =
     let within = bank_within banks s may.0 in (
@@ -59,7 +59,7 @@ all_banks : (bytes : List ℕ) (v : View) → view_of bytes ≡ Some v → lengt
 all_banks bytes v is = let same = (seen bytes v is).same in rw same (length-map-range_with_len _ 1 (slice_index bytes 10))
 
 -- so steps that are taken in the banks leave what stands past it
-pub done_past : (steps done : List Step) (bytes image : List ℕ) (v : View) → view_of bytes ≡ Some v → MayTakeAll v.store.banks steps → HasDone steps done bytes v image → KeepsPast v.store.header bytes image
+pub done_past : (steps done : List BankStep) (bytes image : List ℕ) (v : View) → view_of bytes ≡ Some v → MayTakeAll v.store.banks steps → HasDone steps done bytes v image → KeepsPast v.store.header bytes image
 done_past steps done bytes image v is may has = record {
   size = has.size;
   past = λ i from below. has.same i below (past_banks steps v.store.banks i may (subst (λ n. image_size n ≤ i) (sym (all_banks bytes v is)) from));

@@ -7,7 +7,7 @@ use Rattle.edr_items.specs.declared.Item.{Item}
 use Rattle.edr_items.specs.Item.{mark_of, IsFeed, IsFeedAfter}
 use Rattle.edr_items.specs.SensorLists.{SensorLists, items_of, AreFeeds}
 use Rattle.edr_definitions.specs.Schedule.{BeginsWith}
-use Rattle.edr_capture.specs.Capture.{StandsFor}
+use Rattle.edr_capture.specs.Capture.{CaptureStandsFor}
 use Rattle.edr_capture.specs.SensorPart.{SensorPart, part, part_slots}
 use Rattle.edr_capture.proofs.PartLemmas.{part-later}
 use Rattle.edr_core.specs.declared.captures.Captures.{Captures}
@@ -30,8 +30,8 @@ part-begun s xs many p feed is reached =
     ∙ sym (ap (λ (q : SensorPart). q.slots) is)
 
 -- of a slow sensor all is left
-slow-begins : (s : Sensor) (xs ls given kept : List Item) → IsFeed s xs → ls ≡ past 0 xs → kept ≡ [] → (xs ≡ [] ++ ls) × StandsFor kept []
-slow-begins s xs ls given kept feed left none = (sym (left ∙ none_past s 0 xs feed), subst (λ (ks : List Item). StandsFor ks []) (sym none) (record { rises = tt; kept_is = refl }))
+slow-begins : (s : Sensor) (xs ls given kept : List Item) → IsFeed s xs → ls ≡ past 0 xs → kept ≡ [] → (xs ≡ [] ++ ls) × CaptureStandsFor kept []
+slow-begins s xs ls given kept feed left none = (sym (left ∙ none_past s 0 xs feed), subst (λ (ks : List Item). CaptureStandsFor ks []) (sym none) (record { rises = tt; kept_is = refl }))
 
 -- of a fast sensor what is past the last moment that the core was given is left, of a slow one all, and the captures are empty
 rests-begin : (lists given : SensorLists) (rest : Remaining) (a b e : ℕ) → AreFeeds lists → BeginsWith lists.along given.along → BeginsWith lists.across given.across → BeginsWith lists.restraint given.restraint

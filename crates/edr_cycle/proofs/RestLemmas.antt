@@ -13,7 +13,7 @@ use Rattle.edr_items.specs.SensorLists.{SensorLists, items_of, with_items}
 use Rattle.edr_items.proofs.FeedLemmas.{refusal_of-rises}
 use Rattle.edr_definitions.specs.Schedule.{Give, IsAllowed, with_item}
 use Rattle.edr_definitions.proofs.MarkLaws.{AreFeeds-each, feed-next, mark-push}
-use Rattle.edr_capture.specs.Capture.{StandsFor}
+use Rattle.edr_capture.specs.Capture.{CaptureStandsFor}
 use Rattle.edr_capture.proofs.CaptureLemmas.{stands-push}
 use Rattle.edr_core.specs.declared.captures.Captures.{Captures}
 use Rattle.edr_core.specs.Captures.{kept_lists, with_kept, IsLater}
@@ -22,7 +22,7 @@ use Rattle.edr_core.specs.SplitContents.{SplitContents}
 use Rattle.edr_core.specs.SplitStandsFor.{SplitCoreStandsFor}
 use Rattle.edr_core.proofs.CaptureLemmas.{mark-kept}
 use Rattle.edr_cycle.specs.declared.remaining.Remaining.{Remaining}
-use Rattle.edr_cycle.specs.Remaining.{Keeps, IsRest, RemainsAt, HasNext, IsAsked, SameAsk}
+use Rattle.edr_cycle.specs.Remaining.{KeepsGiven, IsRest, RemainsAt, HasNext, IsAsked, SameAsk}
 
 -- ---- a feed in two
 pub feed-front : (s : Sensor) (last : ℕ) (xs ys : List Item) → IsFeedAfter s last (xs ++ ys) → IsFeedAfter s last xs
@@ -49,7 +49,7 @@ pub whole-feed : (lists : SensorLists) (n : ℕ) (h : History) (c : SplitContent
 whole-feed lists n h c rest s at = subst (λ (xs : List Item). IsFeed s xs) (at.rests s).whole (AreFeeds-each lists at.feeds s)
 
 -- what is kept is no later than what is done
-kept-low : (s : Sensor) (c : Captures) (done given : List Item) → IsFeed s done → Keeps s done given (items_of s (kept_lists c)) → mark_of (items_of s (kept_lists c)) ≤ mark_of done
+kept-low : (s : Sensor) (c : Captures) (done given : List Item) → IsFeed s done → KeepsGiven s done given (items_of s (kept_lists c)) → mark_of (items_of s (kept_lists c)) ≤ mark_of done
 kept-low Along c done given feed keeps = omega arith
 kept-low Across c done given feed keeps = omega arith
 kept-low Speed c done given feed keeps = mark-kept Speed c.speed done feed keeps
@@ -59,7 +59,7 @@ kept-low Belt c done given feed keeps = mark-kept Belt c.belt done feed keeps
 kept-low Lamp c done given feed keeps = mark-kept Lamp c.lamp done feed keeps
 kept-low Restraint c done given feed keeps = omega arith
 
-pub stands-of : (s : Sensor) (done given kept : List Item) → IsSlow s → Keeps s done given kept → StandsFor kept done
+pub stands-of : (s : Sensor) (done given kept : List Item) → IsSlow s → KeepsGiven s done given kept → CaptureStandsFor kept done
 stands-of Along done given kept slow keeps = let low = slow.0 in absurd (omega (arith, low))
 stands-of Across done given kept slow keeps = let low = slow.0 in absurd (omega (arith, low))
 stands-of Speed done given kept slow keeps = keeps
@@ -70,7 +70,7 @@ stands-of Lamp done given kept slow keeps = keeps
 stands-of Restraint done given kept slow keeps = let high = slow.1 in absurd (omega (arith, high))
 
 -- one more item, which the core takes
-keeps-more : (s : Sensor) (x : Item) (c : Captures) (done given : List Item) → IsLater s x c → Keeps s done given (items_of s (kept_lists c)) → Keeps s (done ++ x ∷ []) (given ++ x ∷ []) (items_of s (kept_lists (with_kept s x c)))
+keeps-more : (s : Sensor) (x : Item) (c : Captures) (done given : List Item) → IsLater s x c → KeepsGiven s done given (items_of s (kept_lists c)) → KeepsGiven s (done ++ x ∷ []) (given ++ x ∷ []) (items_of s (kept_lists (with_kept s x c)))
 keeps-more Along x c done given later keeps = ap (λ xs. xs ++ x ∷ []) keeps
 keeps-more Across x c done given later keeps = ap (λ xs. xs ++ x ∷ []) keeps
 keeps-more Speed x c done given later keeps = stands-push c.speed done x later keeps
@@ -81,7 +81,7 @@ keeps-more Lamp x c done given later keeps = stands-push c.lamp done x later kee
 keeps-more Restraint x c done given later keeps = ap (λ xs. xs ++ x ∷ []) keeps
 
 -- one that it refuses
-keeps-refused : (s : Sensor) (x : Item) (c : Captures) (done given : List Item) → IsLater s x c → (given ≡ done → ⊥) → Keeps s done given (items_of s (kept_lists c)) → Keeps s (done ++ x ∷ []) given (items_of s (kept_lists (with_kept s x c)))
+keeps-refused : (s : Sensor) (x : Item) (c : Captures) (done given : List Item) → IsLater s x c → (given ≡ done → ⊥) → KeepsGiven s done given (items_of s (kept_lists c)) → KeepsGiven s (done ++ x ∷ []) given (items_of s (kept_lists (with_kept s x c)))
 keeps-refused Along x c done given later never keeps = absurd (never keeps)
 keeps-refused Across x c done given later never keeps = absurd (never keeps)
 keeps-refused Speed x c done given later never keeps = stands-push c.speed done x later keeps

@@ -11,7 +11,7 @@ use Rattle.edr_image.specs.Image.{View, view_of}
 use Rattle.edr_image.specs.Kept.{AreKept, IsKept}
 use Rattle.edr_image.specs.Reports.{StartStopped}
 use Rattle.edr_run.specs.Cycle.{start_counted, start_stopped}
-use Rattle.edr_cycle.specs.Counter.{IsCounted, SaysWith}
+use Rattle.edr_cycle.specs.Counter.{IsCountAfterStop, SaysWith}
 use Rattle.edr_cycle.specs.Ends.{ComesTo, IsFound, cycle_with}
 use Rattle.edr_cycle.specs.Starts.{MakesSix, MeetsStart}
 use Rattle.edr_cycle.proofs.Answered.{map_err}
@@ -24,15 +24,15 @@ kept_longer banks n m le h = record {
   keys = h.keys;
 }
 
-kept_counted : (r : ℕ) (bytes image : List ℕ) (v : View) → AreKept v.store.banks v.count → IsCounted r (v.count + 1) bytes v image → IsKept image
+kept_counted : (r : ℕ) (bytes image : List ℕ) (v : View) → AreKept v.store.banks v.count → IsCountAfterStop r (v.count + 1) bytes v image → IsKept image
 kept_counted r bytes image v h (inl same) = (record v { count = v.count }, same.view_is, h)
 kept_counted r bytes image v h (inr later) = (record v { count = v.count + 1 }, later.1.view_is, kept_longer v.store.banks v.count (v.count + 1) (omega arith) h)
 
-comes_counted : (r : ℕ) (f : SensorLists) (bytes image : List ℕ) (v : View) → 1 ≤ r → r ≤ 6 → IsCounted r (v.count + 1) bytes v image → ComesTo (cycle_with r f 0) v.store v.count (StartStopped r) image
+comes_counted : (r : ℕ) (f : SensorLists) (bytes image : List ℕ) (v : View) → 1 ≤ r → r ≤ 6 → IsCountAfterStop r (v.count + 1) bytes v image → ComesTo (cycle_with r f 0) v.store v.count (StartStopped r) image
 comes_counted r f bytes image v some few (inl same) = record { view = record v { count = v.count }; view_is = same.view_is; cycle = start_stopped some few refl }
 comes_counted r f bytes image v some few (inr later) = record { view = record v { count = v.count + 1 }; view_is = later.1.view_is; cycle = start_counted later.0 few refl }
 
-as_before : (r next : ℕ) (bytes image : List ℕ) (v : View) → view_of bytes ≡ Some v → image ≡ bytes → IsCounted r next bytes v image
+as_before : (r next : ℕ) (bytes image : List ℕ) (v : View) → view_of bytes ≡ Some v → image ≡ bytes → IsCountAfterStop r next bytes v image
 as_before r next bytes image v says same = inl (record {
   others = record { size = ap length same; same = λ i below out. ap (λ (xs : List ℕ). slice_index xs i) same };
   view_is = ap view_of same ∙ says;
@@ -42,8 +42,8 @@ module _ {D : Type 0} (content : D → Option (List ℕ)) (settled : D → ℕ �
     (only_now : (d : D) (image : List ℕ) → since d (clock d) image → MayLeave (content d) (settled d) image) (d d' : D) where
   -- what a crash at any moment leaves gives the rest
   from_moments : {T E : Type 0} (r : Result T E) → MakesSix (clock d) (clock d') (good d') r
-      → OnErr r (((bytes image : List ℕ) (v : View) → IsFound v (content d) (settled d) bytes → MayLeave (content d') (settled d') image → IsCounted (clock d' - clock d) (v.count + 1) bytes v image))
-      → ((bytes : List ℕ) (v : View) → IsFound v (content d) (settled d) bytes → Elapses (clock d) (since d) (since d') (IsCounted 6 (v.count + 1) bytes v))
+      → OnErr r (((bytes image : List ℕ) (v : View) → IsFound v (content d) (settled d) bytes → MayLeave (content d') (settled d') image → IsCountAfterStop (clock d' - clock d) (v.count + 1) bytes v image))
+      → ((bytes : List ℕ) (v : View) → IsFound v (content d) (settled d) bytes → Elapses (clock d) (since d) (since d') (IsCountAfterStop 6 (v.count + 1) bytes v))
       → MeetsStart content settled since clock good r d d'
   from_moments r time stopped moments = record {
     time = time;
@@ -54,14 +54,14 @@ module _ {D : Type 0} (content : D → Option (List ℕ)) (settled : D → ℕ �
     kept = λ bytes image quiet was had. kept_counted 6 bytes image was.0 was.2 (each bytes image was.0 (record { quiet = quiet; view_is = was.1 }) had);
   }
     where
-      each : (bytes image : List ℕ) (v : View) → IsFound v (content d) (settled d) bytes → since d' (clock d) image → IsCounted 6 (v.count + 1) bytes v image
+      each : (bytes image : List ℕ) (v : View) → IsFound v (content d) (settled d) bytes → since d' (clock d) image → IsCountAfterStop 6 (v.count + 1) bytes v image
       each bytes image v found had = ⊎_elim
           (λ (earlier : since d (clock d) image). as_before 6 (v.count + 1) bytes image v found.view_is (quiet_leaves bytes (content d) (settled d) image found.quiet (only_now d image earlier)))
-          (λ (c : IsCounted 6 (v.count + 1) bytes v image). c)
+          (λ (c : IsCountAfterStop 6 (v.count + 1) bytes v image). c)
           ((moments bytes v found).nothing_else (clock d) image (omega arith) had)
 
       cut_in : {T E : Type 0} (r : Result T E) → MakesSix (clock d) (clock d') (good d') r
-          → OnErr r (((bytes image : List ℕ) (v : View) → IsFound v (content d) (settled d) bytes → MayLeave (content d') (settled d') image → IsCounted (clock d' - clock d) (v.count + 1) bytes v image))
+          → OnErr r (((bytes image : List ℕ) (v : View) → IsFound v (content d) (settled d) bytes → MayLeave (content d') (settled d') image → IsCountAfterStop (clock d' - clock d) (v.count + 1) bytes v image))
           → OnErr r ((bytes image : List ℕ) (v : View) (f : SensorLists) → IsFound v (content d) (settled d) bytes → MayLeave (content d') (settled d') image → 1 ≤ clock d' - clock d → ComesTo (cycle_with (clock d' - clock d) f 0) v.store v.count (StartStopped (clock d' - clock d)) image)
       cut_in (Ok x) time stopped = tt
       cut_in (Err e) time stopped = λ bytes image v f found left some. let few = time.few in comes_counted (clock d' - clock d) f bytes image v some (omega (arith, few)) (stopped bytes image v found left)
@@ -82,18 +82,18 @@ module _ {D : Type 0} (content : D → Option (List ℕ)) (settled : D → ℕ �
   pub starts_counted : {T' E' : Type 0} (r' : Result T' E') (number : ℕ) (mid : D) → Stays (content d) (settled d) (since d) (content mid) (settled mid) (since mid) → clock mid ≡ clock d
       → ((bytes : List ℕ) (v : View) → content d ≡ Some bytes → view_of bytes ≡ Some v → number ≡ v.count + 1)
       → MakesSix (clock mid) (clock d') (good d') r'
-      → OnErr r' (((bytes image : List ℕ) (v : View) → IsFound v (content mid) (settled mid) bytes → v.count < number → MayLeave (content d') (settled d') image → IsCounted (clock d' - clock mid) number bytes v image))
-      → ((bytes : List ℕ) (v : View) → IsFound v (content mid) (settled mid) bytes → v.count < number → Elapses (clock mid) (since mid) (since d') (IsCounted 6 number bytes v))
+      → OnErr r' (((bytes image : List ℕ) (v : View) → IsFound v (content mid) (settled mid) bytes → v.count < number → MayLeave (content d') (settled d') image → IsCountAfterStop (clock d' - clock mid) number bytes v image))
+      → ((bytes : List ℕ) (v : View) → IsFound v (content mid) (settled mid) bytes → v.count < number → Elapses (clock mid) (since mid) (since d') (IsCountAfterStop 6 number bytes v))
       → MeetsStart content settled since clock good r' d d'
   starts_counted r' number mid stays same next time stopped moments =
       from_moments r' (rw same at time)
       (map_err r' stopped (λ stopped bytes image v found left.
       let n = next bytes v found.quiet.0 found.view_is in
-      subst (λ (t : ℕ). IsCounted (clock d' - t) (v.count + 1) bytes v image) same (subst (λ (m : ℕ). IsCounted (clock d' - clock mid) m bytes v image) n (stopped bytes image v (still bytes v found) (omega (arith, n)) left))))
+      subst (λ (t : ℕ). IsCountAfterStop (clock d' - t) (v.count + 1) bytes v image) same (subst (λ (m : ℕ). IsCountAfterStop (clock d' - clock mid) m bytes v image) n (stopped bytes image v (still bytes v found) (omega (arith, n)) left))))
       (λ bytes v found.
       let n = next bytes v found.quiet.0 found.view_is in
-      stays_elapse (content d) (content mid) (settled d) (settled mid) (since d) (since mid) (since d') (clock d) (clock mid) (IsCounted 6 (v.count + 1) bytes v) stays same
-      (subst (λ (m : ℕ). Elapses (clock mid) (since mid) (since d') (IsCounted 6 m bytes v)) n (moments bytes v (still bytes v found) (omega (arith, n)))))
+      stays_elapse (content d) (content mid) (settled d) (settled mid) (since d) (since mid) (since d') (clock d) (clock mid) (IsCountAfterStop 6 (v.count + 1) bytes v) stays same
+      (subst (λ (m : ℕ). Elapses (clock mid) (since mid) (since d') (IsCountAfterStop 6 m bytes v)) n (moments bytes v (still bytes v found) (omega (arith, n)))))
     where
       still : (bytes : List ℕ) (v : View) → IsFound v (content d) (settled d) bytes → IsFound v (content mid) (settled mid) bytes
       still bytes v found = found_stays v (content d) (content mid) (settled d) (settled mid) (since d) (since mid) bytes stays found

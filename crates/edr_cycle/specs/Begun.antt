@@ -5,13 +5,13 @@ use Rattle.edr_core.specs.Contents.{CoreContents}
 use Rattle.edr_core.specs.StandsFor.{CoreIsFor}
 use Rattle.edr_image.specs.Image.{View}
 use Rattle.edr_image.specs.Logged.{Logged}
-use Rattle.edr_banks.specs.Opened.{Opened}
+use Rattle.edr_banks.specs.Opened.{OpenedBanks}
 
 -- its number, up to how many ticks there is room in its log, the banks that were found, its core and its log
 pub record Begun : Type 0 where
   pub number : ℕ
   pub ticks : ℕ
-  pub banks : Opened
+  pub banks : OpenedBanks
   pub core : CoreContents
   pub log : Logged
 
@@ -23,8 +23,8 @@ abbrev pub view_begun : Begun → View
 view_begun s = record { store = s.banks.store; count = s.number }
 
 -- the core stands for the cycle of that number, to which nothing was given yet
-abbrev pub IsFresh : CoreContents → ℕ → Type 0
-IsFresh core number = CoreIsFor core number (record { given = no_items; closed = 0 })
+abbrev pub IsFreshCore : CoreContents → ℕ → Type 0
+IsFreshCore core number = CoreIsFor core number (record { given = no_items; closed = 0 })
 
 -- how many acknowledgements a cycle of this many ticks can have
 abbrev pub room_for : ℕ → ℕ
@@ -34,6 +34,6 @@ room_for ticks = 3 * (ticks / 51 + 1)
 pub record IsBegun (s : Begun) : Type 0 where
   pub none_held : s.banks.held ≡ None
   pub not_ended : s.banks.ended ≡ false
-  pub fresh : IsFresh s.core s.number
+  pub fresh : IsFreshCore s.core s.number
   pub empty : s.log.acks ≡ []
   pub room : room_for s.ticks ≤ s.log.spare

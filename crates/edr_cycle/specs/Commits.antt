@@ -13,8 +13,8 @@ use Rattle.edr_image.specs.Banks.{Store}
 use Rattle.edr_image.specs.Calls.{all_calls, IsStop}
 use Rattle.edr_image.specs.Image.{View, view_of}
 use Rattle.edr_image.specs.Logged.{Logged}
-use Rattle.edr_image.specs.Steps.{Step, State, Reply, after, replies}
-use Rattle.edr_banks.specs.Opened.{Opened, state_of}
+use Rattle.edr_image.specs.Steps.{BankStep, State, Reply, after, replies}
+use Rattle.edr_banks.specs.Opened.{OpenedBanks, state_of}
 use Rattle.edr_banks.specs.Applying.{opened_after}
 use Rattle.edr_run.specs.Cycle.{ack_of}
 use Rattle.edr_cycle.specs.Past.{KeepsPast}
@@ -30,7 +30,7 @@ abbrev pub replies_from : State → List Issue → List Reply
 replies_from s xs = replies s (map (λ i. i.command) xs)
 
 -- their steps
-abbrev pub steps_from : State → List Issue → List Step
+abbrev pub steps_from : State → List Issue → List BankStep
 steps_from s xs = flat_map (λ r. r.steps) (replies_from s xs)
 
 -- the commands with their answers
@@ -38,14 +38,14 @@ abbrev pub acks_from : State → List Issue → List Ack
 acks_from s xs = map (λ p. ack_of p.0 p.1) (zip xs (replies_from s xs))
 
 -- the steps of the first j of them
-abbrev pub first_steps : State → List Issue → ℕ → List Step
+abbrev pub first_steps : State → List Issue → ℕ → List BankStep
 first_steps s xs j = flat_map (λ r. r.steps) (take j (replies_from s xs))
 
 -- ---- banks, log and device
 
 -- where the device tells its bytes, all are settled, and they say these banks
-abbrev pub IsTold : Store → Option (List ℕ) → (ℕ → Bool) → Type 0
-IsTold store content settled = (bytes : List ℕ) → content ≡ Some bytes → IsSettled settled × (v : View) × (view_of bytes ≡ Some v) × (v.store ≡ store)
+abbrev pub TellsBanks : Store → Option (List ℕ) → (ℕ → Bool) → Type 0
+TellsBanks store content settled = (bytes : List ℕ) → content ≡ Some bytes → IsSettled settled × (v : View) × (view_of bytes ≡ Some v) × (v.store ≡ store)
 
 -- the device tells bytes that say these banks, and nothing is pending
 pub record IsReadyFor (store : Store) (content : Option (List ℕ)) (settled : ℕ → Bool) (bytes : List ℕ) (v : View) : Type 0 where
@@ -54,17 +54,17 @@ pub record IsReadyFor (store : Store) (content : Option (List ℕ)) (settled : �
   pub store_is : v.store ≡ store
 
 -- the image says what the bytes said, after these steps
-abbrev pub Says : View → List Step → List ℕ → Type 0
-Says v steps image = view_of image ≡ Some (record v { store = after v.store steps })
+abbrev pub SaysAfter : View → List BankStep → List ℕ → Type 0
+SaysAfter v steps image = view_of image ≡ Some (record v { store = after v.store steps })
 
 -- after the first p of these steps
-pub record IsAfterFirst (steps : List Step) (v : View) (image : List ℕ) : Type 0 where
+pub record IsAfterFirst (steps : List BankStep) (v : View) (image : List ℕ) : Type 0 where
   pub p : ℕ
   pub within : p ≤ length steps
-  pub says : Says v (take p steps) image
+  pub says : SaysAfter v (take p steps) image
 
 -- a stop in call k of these steps may leave these done; before the first call none is
-abbrev pub IsLeftBy : ℕ → List Step → List Step → Type 0
+abbrev pub IsLeftBy : ℕ → List BankStep → List BankStep → Type 0
 IsLeftBy k steps done = ((k ≡ 0) × (done ≡ [])) ⊎ IsStop steps k done
 
 -- command j was the one that failed, after k calls in all
@@ -75,10 +75,10 @@ pub record FailsAt (s : State) (xs : List Issue) (k j : ℕ) : Type 0 where
   pub within : k ≤ all_calls (first_steps s xs j) + all_calls reply.steps
 
 -- the steps before command j are done, and some of its own
-pub record IsCut (s : State) (xs : List Issue) (k j : ℕ) (own : List Step) (v : View) (image : List ℕ) : Type 0 where
-  pub part : List Step
+pub record IsCutInCommand (s : State) (xs : List Issue) (k j : ℕ) (own : List BankStep) (v : View) (image : List ℕ) : Type 0 where
+  pub part : List BankStep
   pub left : IsLeftBy (k - all_calls (first_steps s xs j)) own part
-  pub says : Says v (first_steps s xs j ++ part) image
+  pub says : SaysAfter v (first_steps s xs j ++ part) image
 
 -- The issued commands up to one that failed are in the log, and a crash leaves their steps done. Unless the clock stands at its last
 -- value, the call that failed is one of the failed command's.
@@ -87,20 +87,20 @@ pub record StopsAt (s : State) (xs : List Issue) (before now : ℕ) (content con
   pub fails : FailsAt s xs (now - before) j
   pub made : now ≢ last_number → all_calls (first_steps s xs j) < now - before
   pub log_is : l'.acks ≡ l.acks ++ take j (acks_from s xs)
-  pub cut : (bytes image : List ℕ) (v : View) → IsReadyFor s.store content settled bytes v → MayLeave content' settled' image → IsCut s xs (now - before) j fails.reply.steps v image
+  pub cut : (bytes image : List ℕ) (v : View) → IsReadyFor s.store content settled bytes v → MayLeave content' settled' image → IsCutInCommand s xs (now - before) j fails.reply.steps v image
 
 -- The issued commands are applied to the banks and logged, one after the other, up to one that fails. The words of the device come
 -- first, as functions of it.
-pub record Commits {D T E : Type 0} (content : D → Option (List ℕ)) (settled : D → ℕ → Bool) (since : D → ℕ → List ℕ → Type 0) (clock good : D → ℕ) (xs : List Issue) (result : Result T E) (b b' : Opened) (l l' : Logged) (d d' : D) : Type 0 where
+pub record Commits {D T E : Type 0} (content : D → Option (List ℕ)) (settled : D → ℕ → Bool) (since : D → ℕ → List ℕ → Type 0) (clock good : D → ℕ) (xs : List Issue) (result : Result T E) (b b' : OpenedBanks) (l l' : Logged) (d d' : D) : Type 0 where
   pub banks_are : OnOk result (b' ≡ opened_after b (steps_from (state_of b) xs))
   pub log_is : OnOk result (l' ≡ record { acks = l.acks ++ acks_from (state_of b) xs; spare = l.spare - length xs })
   pub time : Makes (all_calls (steps_from (state_of b) xs)) (clock d) (clock d') (good d) (good d') result
-  pub taken : OnOk result ((bytes : List ℕ) (v : View) → IsReadyFor b.store (content d) (settled d) bytes v → (now : List ℕ) × IsQuiet (content d') (settled d') now × Says v (steps_from (state_of b) xs) now × KeepsPast b.store.header bytes now)
+  pub taken : OnOk result ((bytes : List ℕ) (v : View) → IsReadyFor b.store (content d) (settled d) bytes v → (now : List ℕ) × IsQuiet (content d') (settled d') now × SaysAfter v (steps_from (state_of b) xs) now × KeepsPast b.store.header bytes now)
   pub stopped : OnErr result (StopsAt (state_of b) xs (clock d) (clock d') (content d) (content d') (settled d) (settled d') l l')
   pub any_moment : (bytes : List ℕ) (v : View) → IsReadyFor b.store (content d) (settled d) bytes v → Elapses (clock d) (since d) (since d') (IsAfterFirst (steps_from (state_of b) xs) v)
   -- and it leaves what stands past the image
   pub past : (bytes : List ℕ) (v : View) → IsReadyFor b.store (content d) (settled d) bytes v → Elapses (clock d) (since d) (since d') (KeepsPast b.store.header bytes)
 
 -- the same of a memory
-abbrev pub CommitsOn : {D T E : Type 0} → Ghosts D → List Issue → Result T E → Opened → Opened → Logged → Logged → D → D → Type 0
+abbrev pub CommitsOn : {D T E : Type 0} → Ghosts D → List Issue → Result T E → OpenedBanks → OpenedBanks → Logged → Logged → D → D → Type 0
 CommitsOn g xs result b b' l l' d d' = Commits g.content g.settled g.since g.clock g.last_good xs result b b' l l' d d'

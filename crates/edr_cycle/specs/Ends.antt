@@ -15,11 +15,11 @@ use Rattle.edr_image.specs.Calls.{all_calls}
 use Rattle.edr_image.specs.Image.{View, view_of}
 use Rattle.edr_image.specs.Kept.{AreKept}
 use Rattle.edr_image.specs.Reports.{Report, Ran}
-use Rattle.edr_image.specs.Steps.{Step, Reply}
+use Rattle.edr_image.specs.Steps.{BankStep, Reply}
 use Rattle.edr_spell.specs.declared.CycleInput.{CycleInput}
 use Rattle.edr_run.specs.Cycle.{IsCycle, acks_before, acks_in, issues_in, replies_in, steps_in}
 use Rattle.edr_run.specs.Own.{IsRecordOf}
-use Rattle.edr_cycle.specs.Commits.{IsAfterFirst, Says}
+use Rattle.edr_cycle.specs.Commits.{IsAfterFirst, SaysAfter}
 use Rattle.edr_cycle.specs.Past.{KeepsPast}
 
 -- the cycle over these feeds with a stop in call j of its start and one in call k of its commands; 0 is none
@@ -40,24 +40,24 @@ pub record IsFound (v : View) (content : Option (List ℕ)) (settled : ℕ → B
 -- ---- what is acknowledged
 
 -- the steps of the first j commands
-abbrev pub steps_before : List Reply → ℕ → List Step
+abbrev pub steps_before : List Reply → ℕ → List BankStep
 steps_before rs j = flat_map (λ r. r.steps) (take j rs)
 
 -- the steps of the command in place j, if there is one
-abbrev pub steps_at : List Reply → ℕ → List Step
+abbrev pub steps_at : List Reply → ℕ → List BankStep
 steps_at rs j = option_map_or (λ r. r.steps) (slice_get rs j) []
 
 -- the first j commands have all their steps, the next one has its first q steps, and no other has any
-pub record FirstSteps (rs : List Reply) (j : ℕ) (done : List Step) : Type 0 where
+pub record FirstSteps (rs : List Reply) (j : ℕ) (done : List BankStep) : Type 0 where
   pub q : ℕ
   pub within : q ≤ length (steps_at rs j)
   pub steps : done ≡ steps_before rs j ++ take q (steps_at rs j)
 
 -- the image has these steps
 pub record HasFirst (rs : List Reply) (j : ℕ) (v : View) (image : List ℕ) : Type 0 where
-  pub done : List Step
+  pub done : List BankStep
   pub first : FirstSteps rs j done
-  pub says : Says v done image
+  pub says : SaysAfter v done image
 
 -- ---- what stands in the banks
 
@@ -82,7 +82,7 @@ pub record MeetsCycle {D : Type 0} (content : D → Option (List ℕ)) (settled 
   pub good_at_end : failed ≡ false → 0 < all_calls (steps_in f n v) → good d' ≡ clock d'
   pub log_of_all : failed ≡ false → acks ≡ acks_in f n v
   -- nothing is pending then
-  pub quiet_at_end : failed ≡ false → (bytes : List ℕ) → IsFound (record { store = v; count = n }) (content d) (settled d) bytes → (now : List ℕ) × IsQuiet (content d') (settled d') now × Says (record { store = v; count = n }) (steps_in f n v) now
+  pub quiet_at_end : failed ≡ false → (bytes : List ℕ) → IsFound (record { store = v; count = n }) (content d) (settled d) bytes → (now : List ℕ) × IsQuiet (content d') (settled d') now × SaysAfter (record { store = v; count = n }) (steps_in f n v) now
   -- it came to an end of the cycle without a stop
   pub whole : failed ≡ false → (bytes image : List ℕ) → IsFound (record { store = v; count = n }) (content d) (settled d) bytes → MayLeave (content d') (settled d') image → ComesTo (cycle_with 0 f 0) v (n - 1) (Ran n None acks) image
   -- with a fault no call was made past it, and the log ends before the command that failed

@@ -8,7 +8,7 @@ use Rattle.edr_items.specs.Item.{mark_of}
 use Rattle.edr_items.specs.SensorLists.{SensorLists, AreFeeds, horizon_of, items_of}
 use Rattle.edr_definitions.specs.Commands.{issue_at, issues}
 use Rattle.edr_definitions.specs.Schedule.{BeginsWith}
-use Rattle.edr_capture.specs.Capture.{StandsFor}
+use Rattle.edr_capture.specs.Capture.{CaptureStandsFor}
 use Rattle.edr_core.specs.declared.Closing.{Closing}
 use Rattle.edr_core.specs.declared.Closing.TheVariants.{Waiting, Closed}
 use Rattle.edr_core.specs.declared.candidate.Issued.{Issued}
@@ -21,22 +21,22 @@ use Rattle.edr_core.specs.SplitStandsFor.{SplitCoreStandsFor}
 use Rattle.edr_cycle.specs.declared.remaining.Remaining.{Remaining}
 
 -- what is done of a fast sensor was given to the core; what is done of a slow one stands in its capture
-abbrev pub Keeps : Sensor → List Item → List Item → List Item → Type 0
-Keeps Along done given kept = given ≡ done
-Keeps Across done given kept = given ≡ done
-Keeps Speed done given kept = StandsFor kept done
-Keeps Throttle done given kept = StandsFor kept done
-Keeps Brake done given kept = StandsFor kept done
-Keeps Belt done given kept = StandsFor kept done
-Keeps Lamp done given kept = StandsFor kept done
-Keeps Restraint done given kept = given ≡ done
+abbrev pub KeepsGiven : Sensor → List Item → List Item → List Item → Type 0
+KeepsGiven Along done given kept = given ≡ done
+KeepsGiven Across done given kept = given ≡ done
+KeepsGiven Speed done given kept = CaptureStandsFor kept done
+KeepsGiven Throttle done given kept = CaptureStandsFor kept done
+KeepsGiven Brake done given kept = CaptureStandsFor kept done
+KeepsGiven Belt done given kept = CaptureStandsFor kept done
+KeepsGiven Lamp done given kept = CaptureStandsFor kept done
+KeepsGiven Restraint done given kept = given ≡ done
 
 -- a sensor's list is what is done and then what is left of it, and what the core was given reaches at least as far as what is done
 pub record IsRest (s : Sensor) (items given left kept : List Item) : Type 0 where
   pub done : List Item
   pub whole : items ≡ done ++ left
   pub reached : mark_of done ≤ mark_of given
-  pub keeps : Keeps s done given kept
+  pub keeps : KeepsGiven s done given kept
 
 -- the core of cycle n was told h, and this is left of its lists: each part that it took is that of the whole list
 pub record RemainsAt (lists : SensorLists) (n : ℕ) (h : History) (core : SplitContents) (rest : Remaining) : Type 0 where
@@ -101,9 +101,9 @@ count_left left =
     + (length left.brake + length left.belt + length left.lamp + length left.restraint)
 
 -- where an answer leads: to the next item of the sensor that is waited for, or past the next tick with its issues
-abbrev pub Leads : SensorLists → ℕ → History → Closing → Issued → SplitContents → Remaining → Type 0
-Leads lists n h (Waiting s) i core rest = (h' : History) × (h'.past.closed ≡ h.past.closed) × HasNext lists n h' core rest s
-Leads lists n h (Closed t some) i core rest =
+abbrev pub AnswerLeads : SensorLists → ℕ → History → Closing → Issued → SplitContents → Remaining → Type 0
+AnswerLeads lists n h (Waiting s) i core rest = (h' : History) × (h'.past.closed ≡ h.past.closed) × HasNext lists n h' core rest s
+AnswerLeads lists n h (Closed t some) i core rest =
     (h' : History) × (h'.past.closed ≡ t) × RemainsAt lists n h' core rest × (t ≡ h.past.closed + 1)
     × (issues lists n t ≡ issues lists n h.past.closed ++ map (issue_at t) (commands_put some i))
 

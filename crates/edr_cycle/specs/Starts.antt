@@ -9,7 +9,7 @@ use Rattle.edr_image.specs.Image.{View, view_of}
 use Rattle.edr_image.specs.Kept.{IsKept}
 use Rattle.edr_image.specs.Reports.{StartStopped}
 use Rattle.edr_run.specs.Cycle.{last_count}
-use Rattle.edr_cycle.specs.Counter.{IsCounted, SaysWith}
+use Rattle.edr_cycle.specs.Counter.{IsCountAfterStop, SaysWith}
 use Rattle.edr_cycle.specs.Ends.{ComesTo, IsFound, cycle_with}
 use Rattle.edr_image.specs.declared.OpenFault.TheVariants as open_fault
 use Rattle.edr_cycle.specs.declared.started.StartFault.{StartFault}
@@ -26,11 +26,11 @@ IsStoreFault StoreFault = Unit {0}
 IsStoreFault OutOfMemory = ⊥
 
 -- the banks were opened
-abbrev pub IsOpened : StartFault → Type 0
-IsOpened (Open o) = ⊥
-IsOpened Spent = Unit {0}
-IsOpened StoreFault = Unit {0}
-IsOpened OutOfMemory = Unit {0}
+abbrev pub HasOpened : StartFault → Type 0
+HasOpened (Open o) = ⊥
+HasOpened Spent = Unit {0}
+HasOpened StoreFault = Unit {0}
+HasOpened OutOfMemory = Unit {0}
 
 -- no changing call was made
 abbrev pub IsEarly : StartFault → Type 0
@@ -55,11 +55,11 @@ CountsTo g is next old new = (bytes : List ℕ) (v : View) → At g (IsFound v) 
 
 -- a crash after it leaves what a stop in its last call may leave
 abbrev pub LeavesCounted : {D : Type 0} → Ghosts D → (List ℕ → View → Type 0) → ℕ → D → D → Type 0
-LeavesCounted g is next old new = (bytes image : List ℕ) (v : View) → At g (IsFound v) old bytes → is bytes v → At g MayLeave new image → IsCounted (g.clock new - g.clock old) next bytes v image
+LeavesCounted g is next old new = (bytes image : List ℕ) (v : View) → At g (IsFound v) old bytes → is bytes v → At g MayLeave new image → IsCountAfterStop (g.clock new - g.clock old) next bytes v image
 
 -- a crash meanwhile leaves the count as it was, or this one
 abbrev pub MeanwhileCounted : {D : Type 0} → Ghosts D → (List ℕ → View → Type 0) → ℕ → D → D → Type 0
-MeanwhileCounted g is next old new = (bytes : List ℕ) (v : View) → At g (IsFound v) old bytes → is bytes v → Meanwhile g old new (IsCounted 6 next bytes v)
+MeanwhileCounted g is next old new = (bytes : List ℕ) (v : View) → At g (IsFound v) old bytes → is bytes v → Meanwhile g old new (IsCountAfterStop 6 next bytes v)
 
 -- ---- a start
 
@@ -84,13 +84,13 @@ pub record MakesSix {T E : Type 0} (before now good' : ℕ) (result : Result T E
 pub record MeetsStart {D T E : Type 0} (content : D → Option (List ℕ)) (settled : D → ℕ → Bool) (since : D → ℕ → List ℕ → Type 0) (clock good : D → ℕ) (result : Result T E) (d d' : D) : Type 0 where
   pub time : MakesSix (clock d) (clock d') (good d') result
   -- after a fault in call r a crash leaves what a stop in that call may leave
-  pub stopped : OnErr result ((bytes image : List ℕ) (v : View) → IsFound v (content d) (settled d) bytes → MayLeave (content d') (settled d') image → IsCounted (clock d' - clock d) (v.count + 1) bytes v image)
+  pub stopped : OnErr result ((bytes image : List ℕ) (v : View) → IsFound v (content d) (settled d) bytes → MayLeave (content d') (settled d') image → IsCountAfterStop (clock d' - clock d) (v.count + 1) bytes v image)
   -- an end of a cycle with that stop in its start
   pub cut : OnErr result ((bytes image : List ℕ) (v : View) (f : SensorLists) → IsFound v (content d) (settled d) bytes → MayLeave (content d') (settled d') image → 1 ≤ clock d' - clock d
       → ComesTo (cycle_with (clock d' - clock d) f 0) v.store v.count (StartStopped (clock d' - clock d)) image)
   -- a crash meanwhile leaves the banks, and the count or one more
-  pub any_moment : (bytes : List ℕ) (v : View) → IsFound v (content d) (settled d) bytes → Elapses (clock d) (since d) (since d') (IsCounted 6 (v.count + 1) bytes v)
-  pub each : (bytes image : List ℕ) (v : View) → IsFound v (content d) (settled d) bytes → since d' (clock d) image → IsCounted 6 (v.count + 1) bytes v image
+  pub any_moment : (bytes : List ℕ) (v : View) → IsFound v (content d) (settled d) bytes → Elapses (clock d) (since d) (since d') (IsCountAfterStop 6 (v.count + 1) bytes v)
+  pub each : (bytes image : List ℕ) (v : View) → IsFound v (content d) (settled d) bytes → since d' (clock d) image → IsCountAfterStop 6 (v.count + 1) bytes v image
   -- and what was kept stays so
   pub kept : (bytes image : List ℕ) → IsQuiet (content d) (settled d) bytes → IsKept bytes → since d' (clock d) image → IsKept image
 

@@ -3,7 +3,7 @@
 ghost use Rattle.std.specs.Prelude.{◌+◌, ◌≤◌, ◌<◌, OnOk, OnErr};
 ghost use Rattle.edr_device.specs.Lent.{Lent, MakesCalls};
 ghost use Rattle.edr_image.specs.declared.places.TheConstants.{FRONT_SIZE, SLOT_SIZE};
-ghost use Rattle.edr_cycle.specs.Counter.{IsNext};
+ghost use Rattle.edr_cycle.specs.Counter.{IsNextSlot};
 ghost use Rattle.edr_cycle.specs.Starts.{CountsTo, LeavesCounted, MakesSix, MeanwhileCounted};
 
 use edr_device::{Failed, Nvm, write_gated, write_settled};
@@ -21,10 +21,10 @@ pub(crate) fn count_up<N: Nvm>(
     requires { slot + SLOT_SIZE ≤ N.extent nvm.old }
     ensures lent { Lent N.Nvm nvm.old nvm.new result }
     ensures time { MakesCalls 6 N.Nvm nvm.old nvm.new result }
-    ensures made { OnOk result (CountsTo N.Nvm (IsNext slot is_open next) next nvm.old nvm.new) }
+    ensures made { OnOk result (CountsTo N.Nvm (IsNextSlot slot is_open next) next nvm.old nvm.new) }
     ensures stopped { OnErr result
-        (LeavesCounted N.Nvm (IsNext slot is_open next) next nvm.old nvm.new) }
-    ensures any_moment { MeanwhileCounted N.Nvm (IsNext slot is_open next) next nvm.old nvm.new }
+        (LeavesCounted N.Nvm (IsNextSlot slot is_open next) next nvm.old nvm.new) }
+    ensures any_moment { MeanwhileCounted N.Nvm (IsNextSlot slot is_open next) next nvm.old nvm.new }
 {
     let closing = closing_write(slot, is_open);
     write_settled(nvm, closing.at, &[closing.byte])?;

@@ -9,7 +9,7 @@ ghost use Rattle.edr_image.specs.Image.{image_size};
 ghost use Rattle.edr_core.specs.SplitHistory.{History, missing_part};
 ghost use Rattle.edr_cycle.specs.Begun.{room_for};
 ghost use Rattle.edr_cycle.specs.Commits.{CommitsOn};
-ghost use Rattle.edr_cycle.specs.Remaining.{HasNext, IsAsked, IsOpenAt, IsTakenOf, KeepsAsking, Leads, Remains, RemainsAt, SameAsk, count_left};
+ghost use Rattle.edr_cycle.specs.Remaining.{HasNext, IsAsked, IsOpenAt, IsTakenOf, KeepsAsking, AnswerLeads, Remains, RemainsAt, SameAsk, count_left};
 ghost use Rattle.edr_cycle.specs.Rest.{issues_past};
 
 use crate::left::Left;
@@ -119,7 +119,7 @@ fn close_asked(
 ) -> Closing
     requires { (f : SensorLists) × (n : ℕ) × (h : History) × IsAsked f n h core.old rest.old zero }
     ensures leads { (f : SensorLists) (n : ℕ) (h : History) → IsAsked f n h core.old rest.old zero
-        → Leads f n h result issued.new core.new rest.new }
+        → AnswerLeads f n h result issued.new core.new rest.new }
     ensures fewer { count_left rest.new.left ≤ count_left rest.old.left }
 {
     answer(rest, core, zero);
@@ -133,7 +133,7 @@ fn close_asked(
 fn close(rest: &mut Remaining<'_>, core: &mut SplitCore, issued: &mut Issued) -> Closing
     requires { (f : SensorLists) × (n : ℕ) × (h : History) × IsOpenAt f n h core.old rest.old }
     ensures leads { (f : SensorLists) (n : ℕ) (h : History) → IsOpenAt f n h core.old rest.old
-        → Leads f n h result issued.new core.new rest.new }
+        → AnswerLeads f n h result issued.new core.new rest.new }
     ensures fewer { count_left rest.new.left ≤ count_left rest.old.left }
 {
     match core.close(issued) {

@@ -1,7 +1,7 @@
 //! A cycle that was started, and how it ended.
 
 ghost use Rattle.std.specs.Prelude.{◌≡◌, ◌≤◌, [], None, false};
-ghost use Rattle.edr_cycle.specs.Begun.{IsFresh, room_for};
+ghost use Rattle.edr_cycle.specs.Begun.{IsFreshCore, room_for};
 
 use edr_banks::{Banks, Log, OpenFault};
 use edr_core::Core;
@@ -109,7 +109,7 @@ impl Started {
     pub fn parts(self) -> Parts
         ensures same { (result.banks ≡ self.banks) × (result.core ≡ self.core) × (result.log ≡ self.log) }
         ensures none_held { (result.banks.held ≡ None) × (result.banks.ended ≡ false) }
-        ensures fresh { IsFresh result.core self.number }
+        ensures fresh { IsFreshCore result.core self.number }
         ensures empty { result.log.acks ≡ [] }
         ensures room { room_for self.ticks ≤ result.log.spare }
     {

@@ -11,7 +11,7 @@ ghost use Rattle.edr_image.specs.Image.{image_size};
 ghost use Rattle.edr_banks.specs.Opening.{RefusesRightly, TellsView};
 ghost use Rattle.edr_run.specs.Cycle.{last_count};
 ghost use Rattle.edr_cycle.specs.Begun.{room_for, view_before, view_begun};
-ghost use Rattle.edr_cycle.specs.Starts.{CountsOne, IsEarly, IsOpened, IsSpentRightly, IsStoreFault, MeetsStartOn, StandsStill, TellsShort};
+ghost use Rattle.edr_cycle.specs.Starts.{CountsOne, IsEarly, HasOpened, IsSpentRightly, IsStoreFault, MeetsStartOn, StandsStill, TellsShort};
 ghost use Rattle.edr_cycle.specs.declared.started.StartFault.TheVariants.{Open};
 
 use crate::counter::count_cycle;
@@ -40,7 +40,7 @@ fn prepare<N: Nvm>(alloc: Global, nvm: &mut N, ticks: u32) -> Result<Started, St
     ensures short { N.extent nvm.old < FRONT_SIZE → result ≡ Err (Open (Short (N.extent nvm.old) FRONT_SIZE)) }
     ensures sizes { IfErr result (TellsShort (N.extent nvm.old)) }
     ensures spent { IfErr result (λ e.
-        IsOpened e → ForSome (N.content nvm.old) (IsSpentRightly e)) }
+        HasOpened e → ForSome (N.content nvm.old) (IsSpentRightly e)) }
     ensures early { IfErr result IsEarly }
     ensures fault { IfErr result (λ e. IsStoreFault e → Rose (N.faults nvm.old) (N.faults nvm.new)) }
     ensures later { N.faults nvm.old ≤ N.faults nvm.new }
@@ -77,7 +77,7 @@ pub fn start<N: Nvm>(alloc: Global, nvm: &mut N, ticks: u32) -> Result<Started, 
     ensures short { N.extent nvm.old < FRONT_SIZE → result ≡ Err (Open (Short (N.extent nvm.old) FRONT_SIZE)) }
     ensures sizes { IfErr result (TellsShort (N.extent nvm.old)) }
     ensures spent { IfErr result (λ e.
-        IsOpened e → ForSome (N.content nvm.old) (IsSpentRightly e)) }
+        HasOpened e → ForSome (N.content nvm.old) (IsSpentRightly e)) }
     ensures fault { IfErr result (λ e. IsStoreFault e → Rose (N.faults nvm.old) (N.faults nvm.new)) }
     ensures later { N.faults nvm.old ≤ N.faults nvm.new }
     // Any answer but a fault after the opening comes before the first changing call.

@@ -16,10 +16,10 @@ use Rattle.edr_definitions.specs.Signals.{Signals, signals_of}
 use Rattle.edr_definitions.specs.Selection.{Bounds, is_triggered, is_time_zero, is_end, end_of, Candidate, Event, candidate_at, bounds_after, event_of, close_of, at_start}
 use Rattle.edr_definitions.specs.Parts.{pre_part, crash_part}
 use Rattle.edr_definitions.specs.Commands.{is_locking, place_of, last_from, last_placed, zeros_by, commands}
-use Rattle.edr_definitions.specs.Facts.{IsCandidate, Leads}
+use Rattle.edr_definitions.specs.Facts.{IsCandidate, CandidatesLead}
 use Rattle.edr_definitions.specs.Search.{Phase, Searching, Open, Search, tick_if, past_end, next_open, next_from, next_search, PhaseIs, StandsFor, open_candidates}
 use Rattle.edr_definitions.specs.Change.{Change, is_at, is_confirmed_at, is_locked_at, closes_at, change_of_list}
-use Rattle.edr_definitions.specs.Core.{commands_of, when, CoreState, pre_after, core_after, issues_at, IsPreOf, IsTold, OpenIs, CoreStandsFor}
+use Rattle.edr_definitions.specs.Core.{commands_of, when, CoreState, pre_after, core_after, issues_at, IsPreOfZero, IsTold, OpenIs, CoreStandsFor}
 use Rattle.edr_definitions.proofs.TickLaws.{not_both, first_tick-some, first_tick-none, first_tick-is}
 use Rattle.edr_definitions.proofs.SelectionLaws.{candidate_at-is, bounds_after-later}
 use Rattle.edr_definitions.proofs.EventLaws.{zero-past, end-after_zero, end-by_reset}
@@ -113,13 +113,13 @@ module _ (f : SensorLists) (n t : ℕ) (last linked : Option (Place × ℕ)) (c 
   record Kept (v w : Bool) (r : Option ℕ) : Type 0 where
     pub take_same : v ≡ true → taken v linked x ≡ pre_part f n (place_of last c.zero_tick) c.zero_tick
     pub lock_same : w ≡ true → taken v linked x ≡ pre_part f n (place_of last c.zero_tick) c.zero_tick
-    pub frozen_same : IsPreOf f n c.zero_tick (taken v linked x)
+    pub frozen_same : IsPreOfZero f n c.zero_tick (taken v linked x)
     pub linked_same : linked_after v linked x ≡ last_from last (map (λ e. e.zero_tick) (filter_map (event_of (t + 1)) (c ∷ [])))
     pub placed_same : MatchOption r (Unit {0}) (λ _. linked_after v linked x ≡ Some ((taken v linked x).place, c.zero_tick))
     pub last_same : v ≡ true → linked ≡ last
 
   -- confirmed before
-  kept_before : (u : ℕ) (v w : Bool) → v ≡ is_confirmed_at (t + 1) c → c.confirmed ≡ Some u → u ≤ t → IsPreOf f n c.zero_tick x → linked ≡ Some (x.place, c.zero_tick) → linked ≡ Some (place_of last c.zero_tick, c.zero_tick) → Kept v w (Some u)
+  kept_before : (u : ℕ) (v w : Bool) → v ≡ is_confirmed_at (t + 1) c → c.confirmed ≡ Some u → u ≤ t → IsPreOfZero f n c.zero_tick x → linked ≡ Some (x.place, c.zero_tick) → linked ≡ Some (place_of last c.zero_tick, c.zero_tick) → Kept v w (Some u)
   kept_before u true w flag is near frozen link link' =
       let e : is_at c.confirmed (t + 1) ≡ false = ap (λ (r : Option ℕ). is_at r (t + 1)) is ∙ nat_eq-past u t near in absurd (not_both true (flag ∙ e) refl)
   kept_before u false w flag is near frozen link link' =
@@ -137,7 +137,7 @@ module _ (f : SensorLists) (n t : ℕ) (last linked : Option (Place × ℕ)) (c 
         first_of p q z h = ap place_in h
 
   -- confirmed at the next tick
-  kept_now : (v w : Bool) → v ≡ is_confirmed_at (t + 1) c → c.confirmed ≡ Some (t + 1) → IsPreOf f n c.zero_tick x → linked ≡ last → Kept v w (Some (t + 1))
+  kept_now : (v w : Bool) → v ≡ is_confirmed_at (t + 1) c → c.confirmed ≡ Some (t + 1) → IsPreOfZero f n c.zero_tick x → linked ≡ last → Kept v w (Some (t + 1))
   kept_now false w flag is frozen link =
       let e : is_at c.confirmed (t + 1) ≡ true = ap (λ (r : Option ℕ). is_at r (t + 1)) is ∙ nat_eq-same (t + 1) in absurd (not_both false refl (flag ∙ e))
   kept_now true w flag is frozen link =
@@ -157,7 +157,7 @@ module _ (f : SensorLists) (n t : ℕ) (last linked : Option (Place × ℕ)) (c 
       }
 
   -- not confirmed by the next tick
-  kept_not : (b : Bounds) (v w : Bool) → v ≡ is_confirmed_at (t + 1) c → w ≡ is_locked_at (signals_of f) (t + 1) c → IsCandidate (signals_of f) b c → ((u : ℕ) → u ≤ t + 1 → c.confirmed ≢ Some u) → IsPreOf f n c.zero_tick x → linked ≡ last → Kept v w None
+  kept_not : (b : Bounds) (v w : Bool) → v ≡ is_confirmed_at (t + 1) c → w ≡ is_locked_at (signals_of f) (t + 1) c → IsCandidate (signals_of f) b c → ((u : ℕ) → u ≤ t + 1 → c.confirmed ≢ Some u) → IsPreOfZero f n c.zero_tick x → linked ≡ last → Kept v w None
   kept_not b true w flag lock is never frozen link = absurd (not_both true (flag ∙ never-confirmed (t + 1) c.confirmed never) refl)
   kept_not b false w flag lock is never frozen link = record {
     take_same = λ h. cc;
@@ -199,7 +199,7 @@ module _ (f : SensorLists) (n t : ℕ) (b : Bounds) (last : Option (Place × ℕ
       (when_same (closes_at (t + 1) c) change.closed (crash_part m c.zero_tick c.end_tick) crash (sym closed) (λ v. sym (done (sym closed ∙ v))))
 
   -- what is kept of a candidate that was not confirmed by t
-  kept_fresh : (c : Candidate) → IsCandidate (signals_of f) b c → change.confirmed ≡ is_confirmed_at (t + 1) c → change.locked ≡ is_locked_at (signals_of f) (t + 1) c → c.confirmed ≡ first_tick (is_triggered (signals_of f) b.since) c.zero_tick (c.end_tick + 1) → c.zero_tick ≤ t + 1 → t + 1 ≤ c.end_tick → HoldsNowhere (is_triggered (signals_of f) b.since) c.zero_tick (t + 1) → IsPreOf f n c.zero_tick fresh → k.linked ≡ last → (w : Bool) → is_triggered (signals_of f) b.since (t + 1) ≡ w → Kept f n t last k.linked c fresh change.confirmed change.locked (tick_if w (t + 1))
+  kept_fresh : (c : Candidate) → IsCandidate (signals_of f) b c → change.confirmed ≡ is_confirmed_at (t + 1) c → change.locked ≡ is_locked_at (signals_of f) (t + 1) c → c.confirmed ≡ first_tick (is_triggered (signals_of f) b.since) c.zero_tick (c.end_tick + 1) → c.zero_tick ≤ t + 1 → t + 1 ≤ c.end_tick → HoldsNowhere (is_triggered (signals_of f) b.since) c.zero_tick (t + 1) → IsPreOfZero f n c.zero_tick fresh → k.linked ≡ last → (w : Bool) → is_triggered (signals_of f) b.since (t + 1) ≡ w → Kept f n t last k.linked c fresh change.confirmed change.locked (tick_if w (t + 1))
   kept_fresh c is confirmed locked found from near nowhere frozen link true here =
       kept_now f n t last k.linked c fresh change.confirmed change.locked confirmed (found ∙ first_tick-is (is_triggered (signals_of f) b.since) c.zero_tick (c.end_tick + 1) (t + 1) (record { from = from; holds = here; none_before = nowhere.none }) (omega arith)) frozen link
   kept_fresh c is confirmed locked found from near nowhere frozen link false here =
@@ -213,13 +213,13 @@ module _ (f : SensorLists) (n t : ℕ) (b : Bounds) (last : Option (Place × ℕ
               | inr late ↦ let e : t + 1 ≡ u = omega arith in not_both (p u) (subst (λ y. p y ≡ false) e here) first.0.holds
             ]
 
-  frozen_is : (y : PrePart) (z : ℕ) → fresh ≡ y → IsPreOf f n z y → IsPreOf f n z fresh
-  frozen_is y z same is = subst (λ (x : PrePart). IsPreOf f n z x) (sym same) is
+  frozen_is : (y : PrePart) (z : ℕ) → fresh ≡ y → IsPreOfZero f n z y → IsPreOfZero f n z fresh
+  frozen_is y z same is = subst (λ (x : PrePart). IsPreOfZero f n z x) (sym same) is
 
   -- ---- the phase after
   open_after : (z : ℕ) (r l e : Option ℕ) (c : Candidate) → c.zero_tick ≡ z → Kept f n t last k.linked c fresh change.confirmed change.locked r → MatchOption e (Unit {0}) (λ x. after.ended ≡ x) → OpenIs f n after (Open z r l e)
   open_after z r l e c zero kept ended = (
-    subst (λ (y : ℕ). IsPreOf f n y after.frozen) zero kept.frozen_same,
+    subst (λ (y : ℕ). IsPreOfZero f n y after.frozen) zero kept.frozen_same,
     subst (λ (y : ℕ). MatchOption r (Unit {0}) (λ _. after.linked ≡ Some (after.frozen.place, y))) zero kept.placed_same,
     ended,
   )
@@ -277,7 +277,7 @@ module _ (f : SensorLists) (n t : ℕ) (b : Bounds) (last : Option (Place × ℕ
   crash_same : (z z' e e' : ℕ) → z ≡ z' → e ≡ e' → crash ≡ crash_part (signals_of f) z e → crash ≡ crash_part (signals_of f) z' e'
   crash_same z z' e e' p q h = h ∙ ap (λ y. crash_part (signals_of f) y e) p ∙ ap (λ y. crash_part (signals_of f) z' y) q
 
-  module _ (begun_is : change.zero ≡ true → IsPreOf f n (t + 1) begun) (crash_is : change.closed ≡ true → crash ≡ crash_part (signals_of f) (pre_after change begun k).key.zero after.ended) where
+  module _ (begun_is : change.zero ≡ true → IsPreOfZero f n (t + 1) begun) (crash_is : change.closed ≡ true → crash ≡ crash_part (signals_of f) (pre_after change begun k).key.zero after.ended) where
     searching_step : HoldsNowhere (is_time_zero (signals_of f) b) 0 (t + 1) → k.linked ≡ last → (v : Bool) → is_time_zero (signals_of f) b (t + 1) ≡ v → change ≡ change_of_list (signals_of f) (t + 1) (cond v (candidate_at (signals_of f) b.since (t + 1) ∷ []) []) → (news f n t (filter_map (event_of (t + 1)) (cond v (candidate_at (signals_of f) b.since (t + 1) ∷ []) [])) last ≡ commands_of (issues_at change begun crash k)) × (after.linked ≡ last_from last (map (λ e. e.zero_tick) (filter_map (event_of (t + 1)) (cond v (candidate_at (signals_of f) b.since (t + 1) ∷ []) [])))) × OpenIs f n after (cond {A = Search} v (record { bounds = b; phase = Open (t + 1) (tick_if (is_triggered (signals_of f) b.since (t + 1)) (t + 1)) (tick_if (is_locking (signals_of f) (t + 1)) (t + 1)) None }) (record { bounds = b; phase = Searching })).phase × (change.closed ≡ true → CloseIs) × (change.confirmed ≡ true → PastIs)
     unfolding candidate_at
     searching_step nowhere link true here is =
@@ -339,7 +339,7 @@ module _ (f : SensorLists) (n t : ℕ) (b : Bounds) (last : Option (Place × ℕ
       ends : (v : Bool) → is_end (signals_of f) z (t + 1) ≡ v → change.ended ≡ v
       ends v here = ap (λ (x : Change). x.ended) is ∙ or_none (nat_eq (end_of (signals_of f) z) (t + 1)) ∙ end_now (signals_of f) z t h.1 h.2 v here
 
-      frozen : IsPreOf f n z fresh
+      frozen : IsPreOfZero f n z fresh
       frozen = frozen_is k.frozen z (fresh_now false zero) o.0
 
       shuts : closes_at (t + 1) (candidate_at (signals_of f) b.since z) ≡ true → after.ended ≡ end_of (signals_of f) z
@@ -398,7 +398,7 @@ module _ (f : SensorLists) (n t : ℕ) (b : Bounds) (last : Option (Place × ℕ
         let not_now : change.ended ≡ false = ap (λ (x : Change). x.ended) is ∙ or_none (nat_eq e (t + 1)) ∙ nat_eq-past e t ended in
         let end_kept : after.ended ≡ e = ended_now false not_now ∙ o.2 in
         let same : fresh ≡ k.frozen = fresh_now false zero in
-        let frozen : IsPreOf f n z fresh = frozen_is k.frozen z same o.0 in
+        let frozen : IsPreOfZero f n z fresh = frozen_is k.frozen z same o.0 in
         let linked' : k.linked ≡ Some (fresh.place, z) = subst (λ (x : PrePart). k.linked ≡ Some (x.place, z)) (sym same) o.1 in
         let to_last : k.linked ≡ Some (place_of last z, z) = link ∙ confirmed_last t last c u refl (omega arith) in
         let kept = kept_before f n t last k.linked c fresh u change.confirmed change.locked confirmed refl (omega arith) frozen linked' to_last in
@@ -457,7 +457,7 @@ BeginsBy-later n k None near h = h
 BeginsBy-later n k (Some l) near h = omega (arith, near, h)
 
 -- the events of candidates that leave the search at b begin by then
-last_begins : (w : ℕ) (m : Signals) (from b : Bounds) (cs : List Candidate) (s : Option (Place × ℕ)) → Leads m from cs b → BeginsBy from.after s → BeginsBy b.after (last_from s (map (λ e. e.zero_tick) (filter_map (event_of w) cs)))
+last_begins : (w : ℕ) (m : Signals) (from b : Bounds) (cs : List Candidate) (s : Option (Place × ℕ)) → CandidatesLead m from cs b → BeginsBy from.after s → BeginsBy b.after (last_from s (map (λ e. e.zero_tick) (filter_map (event_of w) cs)))
 last_begins w m from b [] s leads before = subst (λ (y : Bounds). BeginsBy y.after s) leads before
 last_begins w m from b (c ∷ cs) s leads before =
     let z = c.zero_tick in

@@ -14,7 +14,7 @@ use Rattle.edr_definitions.specs.Signals.{Signals, signals_of}
 use Rattle.edr_definitions.specs.Selection.{Bounds, is_triggered, Candidate, Event, bounds_after, event_of, close_of}
 use Rattle.edr_definitions.specs.Parts.{pre_part, crash_part}
 use Rattle.edr_definitions.specs.Commands.{Issue, locks_at, issues_of, is_locking, lock_of, place_of, places_from, last_from}
-use Rattle.edr_definitions.specs.Facts.{IsCandidate, Leads}
+use Rattle.edr_definitions.specs.Facts.{IsCandidate, CandidatesLead}
 use Rattle.edr_definitions.specs.Search.{AllClosed}
 use Rattle.edr_definitions.specs.Change.{is_at, is_confirmed_at, is_locked_at, closes_at}
 use Rattle.edr_definitions.specs.Core.{TickIssues, commands_of, when}
@@ -97,7 +97,7 @@ event_stays t z e (Some u) past =
       below : (u k : ℕ) → u ≤ k → nat_le u k ≡ true
       below u k h = grind arith
 
-pub closed-events : (m : Signals) (t : ℕ) (from b : Bounds) (cs : List Candidate) → Leads m from cs b → AllClosed t from cs → filter_map (event_of (t + 1)) cs ≡ filter_map (event_of t) cs
+pub closed-events : (m : Signals) (t : ℕ) (from b : Bounds) (cs : List Candidate) → CandidatesLead m from cs b → AllClosed t from cs → filter_map (event_of (t + 1)) cs ≡ filter_map (event_of t) cs
 closed-events m t from b [] leads closed = refl
 closed-events m t from b (c ∷ cs) leads closed =
     let past = closed_past m t from c leads.0 closed.0 in
@@ -161,7 +161,7 @@ module _ (f : SensorLists) (n t : ℕ) where
       ap (λ (o : Option Event). news (cons_option o (olds ++ rest)) s) x.1 ∙ more s
       ∙ ap (λ (o : Option Event). news rest (last_from s (zeros_of (cons_option o olds)))) (sym x.1)
 
-  pub news-closed : (from b : Bounds) (cs : List Candidate) (rest : List Event) → Leads (signals_of f) from cs b → AllClosed t from cs → (s : Option (Place × ℕ)) → news (filter_map (event_of (t + 1)) cs ++ rest) s ≡ news rest (last_from s (zeros_of (filter_map (event_of (t + 1)) cs)))
+  pub news-closed : (from b : Bounds) (cs : List Candidate) (rest : List Event) → CandidatesLead (signals_of f) from cs b → AllClosed t from cs → (s : Option (Place × ℕ)) → news (filter_map (event_of (t + 1)) cs ++ rest) s ≡ news rest (last_from s (zeros_of (filter_map (event_of (t + 1)) cs)))
   news-closed from b [] rest leads closed s = refl
   news-closed from b (c ∷ cs) rest leads closed s =
       by_cons (event_of (t + 1) c) ∙ closed_step c rest (filter_map (event_of (t + 1)) cs) s (closed_past (signals_of f) t from c leads.0 closed.0) (news-closed (bounds_after from c) b cs rest leads.1 closed.1) (confirmed_by (t + 1) c.zero_tick c.end_tick c.confirmed) where

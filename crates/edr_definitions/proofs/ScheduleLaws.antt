@@ -13,7 +13,7 @@ use Rattle.edr_items.proofs.PerSensorLemmas.{with_value-others, each_or_some, va
 use Rattle.edr_definitions.specs.Signals.{sample_at, signals_of}
 use Rattle.edr_definitions.specs.Facts.{AgreeUpTo}
 use Rattle.edr_definitions.proofs.LaterLaws.{sample_at-push}
-use Rattle.edr_definitions.specs.Schedule.{Progress, Step, Give, Close, with_item, MayGive, after_step, after_steps, given_by, items_given, BeginsWith, IsNext, IsUnderWay, GoesOn, IsOver}
+use Rattle.edr_definitions.specs.Schedule.{Progress, CoreMove, Give, Close, with_item, MayGive, after_step, after_steps, given_by, items_given, BeginsWith, IsNextItem, IsUnderWay, CanGoOn, IsOver}
 use Rattle.edr_definitions.proofs.MarkLaws.{with_items-each, mark-push, AreFeeds-each, mark-more, feed-next, horizon-least, horizon-above, horizon-more, horizon-with_item}
 
 -- ---- the order of arrival
@@ -27,17 +27,17 @@ items-with_item s r x f =
     eqb_same : (n : ℕ) → nat_eq n n ≡ true
     eqb_same n = search arith
 
-items-after_step : (s : Sensor) (p : Progress) (step : Step) → items_of s (after_step p step).given ≡ items_of s p.given ++ given_by s step
+items-after_step : (s : Sensor) (p : Progress) (step : CoreMove) → items_of s (after_step p step).given ≡ items_of s p.given ++ given_by s step
 items-after_step s p (Give r x) = items-with_item s r x p.given
 items-after_step s p Close = sym (append-nil (items_of s p.given))
 
 -- after steps each list has at its end what they gave of its sensor
-pub items-after_steps : (p : Progress) (steps : List Step) (s : Sensor) → items_of s (after_steps p steps).given ≡ items_of s p.given ++ items_given s steps
+pub items-after_steps : (p : Progress) (steps : List CoreMove) (s : Sensor) → items_of s (after_steps p steps).given ≡ items_of s p.given ++ items_given s steps
 items-after_steps p [] s = sym (append-nil (items_of s p.given))
 items-after_steps p (step ∷ steps) s =
     items-after_steps (after_step p step) steps s ∙ ap (λ xs. xs ++ items_given s steps) (items-after_step s p step) ∙ append_assoc (items_of s p.given) (given_by s step) (items_given s steps)
 
-pub steps-same : (p : Progress) (steps others : List Step) → ((s : Sensor) → items_given s steps ≡ items_given s others) → (after_steps p steps).given ≡ (after_steps p others).given
+pub steps-same : (p : Progress) (steps others : List CoreMove) → ((s : Sensor) → items_given s steps ≡ items_given s others) → (after_steps p steps).given ≡ (after_steps p others).given
 steps-same p steps others same =
     values-same (after_steps p steps).given (after_steps p others).given
     (λ s. items-after_steps p steps s ∙ ap (λ xs. items_of s p.given ++ xs) (same s) ∙ sym (items-after_steps p others s))
@@ -51,7 +51,7 @@ module _ (f : SensorLists) (p : Progress) (feeds : AreFeeds f) (level : IsLevel 
   feed_with s x rest e = subst (λ (xs : List Item). IsFeed s xs) (e ∙ append_assoc (items_of s p.given) (x ∷ []) rest) (AreFeeds-each f feeds s)
 
   -- the next item of a sensor that is waited for may be given, and any next item once the closed tick is the horizon
-  pub never_ahead : (s : Sensor) (x : Item) → IsNext f p s x → (mark_of (items_of s p.given) ≡ p.closed) ⊎ (p.closed ≡ horizon_of f) → MayGive s x p
+  pub never_ahead : (s : Sensor) (x : Item) → IsNextItem f p s x → (mark_of (items_of s p.given) ≡ p.closed) ⊎ (p.closed ≡ horizon_of f) → MayGive s x p
   never_ahead s x next why = (accepted.0, near why) where
     feed : IsFeed s (items_of s p.given ++ x ∷ next.0)
     feed = feed_with s x next.0 next.1
@@ -73,7 +73,7 @@ module _ (f : SensorLists) (p : Progress) (feeds : AreFeeds f) (level : IsLevel 
         let h = horizon-above f (mark_there s - LONGEST_GAP) (λ r. let l = level s r in omega (arith, l)) in
         let b = below in omega (arith, h, b, at_end)
 
-  gives : (s : Sensor) (x : Item) → IsNext f p s x → MayGive s x p → GoesOn f p
+  gives : (s : Sensor) (x : Item) → IsNextItem f p s x → MayGive s x p → CanGoOn f p
   gives s x next allowed = record {
     step = Give s x;
     allowed = allowed;
@@ -83,12 +83,12 @@ module _ (f : SensorLists) (p : Progress) (feeds : AreFeeds f) (level : IsLevel 
     };
   }
 
-  closes : p.closed < horizon_of p.given → GoesOn f p
+  closes : p.closed < horizon_of p.given → CanGoOn f p
   closes lt = record { step = Close; allowed = lt; leads = record { begun = on.begun; within = omega (arith, lt) } }
 
-  all_or_next : (s : Sensor) → (items_of s p.given ≡ items_of s f) ⊎ ((x : Item) × IsNext f p s x)
+  all_or_next : (s : Sensor) → (items_of s p.given ≡ items_of s f) ⊎ ((x : Item) × IsNextItem f p s x)
   all_or_next s = by_rest (on.begun s).0 (on.begun s).1 where
-    by_rest : (rest : List Item) → items_of s f ≡ items_of s p.given ++ rest → (items_of s p.given ≡ items_of s f) ⊎ ((x : Item) × IsNext f p s x)
+    by_rest : (rest : List Item) → items_of s f ≡ items_of s p.given ++ rest → (items_of s p.given ≡ items_of s f) ⊎ ((x : Item) × IsNextItem f p s x)
     by_rest [] e = inl (sym (e ∙ append-nil (items_of s p.given)))
     by_rest (x ∷ rest) e = inr (x, (rest, e ∙ sym (append_assoc (items_of s p.given) (x ∷ []) rest)))
 
@@ -100,14 +100,14 @@ module _ (f : SensorLists) (p : Progress) (feeds : AreFeeds f) (level : IsLevel 
       let e : mark_there s ≡ mark_of (items_of s p.given ++ (on.begun s).0) = ap mark_of (on.begun s).1 in
       omega (arith, more, e)
 
-  at_end : p.closed ≡ horizon_of f → GoesOn f p ⊎ IsOver f p
-  at_end e = elim (each_or_some (λ s. items_of s p.given ≡ items_of s f) (λ s. (x : Item) × IsNext f p s x) all_or_next) [
+  at_end : p.closed ≡ horizon_of f → CanGoOn f p ⊎ IsOver f p
+  at_end e = elim (each_or_some (λ s. items_of s p.given ≡ items_of s f) (λ s. (x : Item) × IsNextItem f p s x) all_or_next) [
     | inl all ↦ inr (record { all_given = values-same p.given f all; all_closed = e })
     | inr some ↦ inl (gives some.0 some.1.0 some.1.1 (never_ahead some.0 some.1.0 some.1.1 (inr e)))
   ]
 
   -- the sensor s is waited for
-  waiting : p.closed ≡ horizon_of p.given → (s : Sensor) → mark_of (items_of s p.given) ≡ p.closed → (items_of s p.given ≡ items_of s f) ⊎ ((x : Item) × IsNext f p s x) → GoesOn f p ⊎ IsOver f p
+  waiting : p.closed ≡ horizon_of p.given → (s : Sensor) → mark_of (items_of s p.given) ≡ p.closed → (items_of s p.given ≡ items_of s f) ⊎ ((x : Item) × IsNextItem f p s x) → CanGoOn f p ⊎ IsOver f p
   waiting e s waits (inr next) = inl (gives s next.0 next.1 (never_ahead s next.0 next.1 (inl waits)))
   waiting e s waits (inl all) =
       let there : mark_of (items_of s p.given) ≡ mark_there s = ap mark_of all in
@@ -116,7 +116,7 @@ module _ (f : SensorLists) (p : Progress) (feeds : AreFeeds f) (level : IsLevel 
       at_end (omega (arith, e, waits, there, low, up))
 
   -- until all items are given and the closed tick is the horizon, some step is allowed
-  pub never_stuck : GoesOn f p ⊎ IsOver f p
+  pub never_stuck : CanGoOn f p ⊎ IsOver f p
   never_stuck = elim (cases_lt p.closed (horizon_of p.given)) [
     | inl lt ↦ inl (closes lt)
     | inr past ↦

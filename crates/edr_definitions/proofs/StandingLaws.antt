@@ -3,7 +3,7 @@ use Rattle.std.proofs.Common.{arith, refl, ◌≡◌, ℕ, ◌<◌, ◌≤◌, i
 use Rattle.std.proofs.lemmas.Bool.{cases_lt}
 use Rattle.edr_definitions.specs.Signals.{Signals}
 use Rattle.edr_definitions.specs.Selection.{Bounds, is_end, end_of, close_of, Candidate, candidate_at, bounds_after, chain, at_start}
-use Rattle.edr_definitions.specs.Facts.{Leads, IsCandidate, IsChain}
+use Rattle.edr_definitions.specs.Facts.{CandidatesLead, IsCandidate, IsChain}
 use Rattle.edr_definitions.specs.Search.{Phase, Searching, Open, Search, AllClosed, PhaseIs, StandsFor, open_candidates}
 use Rattle.edr_definitions.proofs.TickLaws.{not_both}
 use Rattle.edr_definitions.proofs.SelectionLaws.{end_of-is_first, candidate_at-is}
@@ -11,7 +11,7 @@ use Rattle.edr_definitions.proofs.ChainLaws.{IsChain-is, IsChain-append, AllBegi
 use Rattle.edr_definitions.proofs.EventLaws.{after_end}
 use Rattle.edr_definitions.proofs.SearchLaws.{complete, nothing_yet}
 
-pub all_begin : (t : ℕ) (m : Signals) (from b : Bounds) (cs : List Candidate) → Leads m from cs b → AllClosed t from cs → AllBegin t cs
+pub all_begin : (t : ℕ) (m : Signals) (from b : Bounds) (cs : List Candidate) → CandidatesLead m from cs b → AllClosed t from cs → AllBegin t cs
 all_begin t m from b [] h closed = none
 all_begin t m from b (c ∷ cs) h closed =
     let ended = after_end from c in let order = h.0.end_is.from in

@@ -5,7 +5,7 @@ use Rattle.edr_definitions.specs.Signals.{Signals}
 use Rattle.edr_definitions.specs.Windows.{filled}
 use Rattle.edr_definitions.specs.Selection.{Bounds, is_triggered, is_time_zero, is_end, Candidate, bounds_after, at_start}
 use Rattle.edr_definitions.specs.Commands.{is_locking}
-use Rattle.edr_definitions.specs.Facts.{Leads, AgreeUpTo}
+use Rattle.edr_definitions.specs.Facts.{CandidatesLead, AgreeUpTo}
 use Rattle.edr_definitions.specs.Search.{Phase, Searching, Open, Search, AllClosed, PhaseIs, StandsFor}
 use Rattle.edr_definitions.specs.Change.{tick_change, stepped_change}
 use Rattle.edr_definitions.proofs.AgreeLaws.{first_tick-agree, IsFirst-agree, HoldsNowhere-agree, SameTests, SameTests-before, SameTests-then, SameTests-back, SameTests-agree, SameTests-filled, IsCandidate-tests}
@@ -14,7 +14,7 @@ use Rattle.edr_definitions.proofs.TickChangeLaws.{tick_change-is}
 
 -- ---- the search
 module _ (t : ℕ) (m n : Signals) (same : SameTests t m n) where
-  leads_same : (from b : Bounds) (cs : List Candidate) → AllClosed t from cs → Leads m from cs b → Leads n from cs b
+  leads_same : (from b : Bounds) (cs : List Candidate) → AllClosed t from cs → CandidatesLead m from cs b → CandidatesLead n from cs b
   leads_same from b [] closed h = h
   leads_same from b (c ∷ cs) closed h =
       let ended = after_end from c in

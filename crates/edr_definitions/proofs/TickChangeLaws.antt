@@ -7,7 +7,7 @@ use Rattle.std.proofs.lemmas.Bool.{cases_lt}
 use Rattle.edr_definitions.specs.Ticks.{first_tick, IsFirst, HoldsNowhere}
 use Rattle.edr_definitions.specs.Signals.{Signals}
 use Rattle.edr_definitions.specs.Selection.{Bounds, is_triggered, is_time_zero, is_end, end_of, close_of, Candidate, candidate_at, bounds_after, chain, at_start}
-use Rattle.edr_definitions.specs.Facts.{Leads, IsCandidate, IsChain}
+use Rattle.edr_definitions.specs.Facts.{CandidatesLead, IsCandidate, IsChain}
 use Rattle.edr_definitions.specs.Commands.{is_locking}
 use Rattle.edr_definitions.specs.Search.{Phase, Searching, Open, Search, tick_if, AllClosed, PhaseIs, StandsFor}
 use Rattle.edr_definitions.specs.Change.{Change, is_at, begins_at, is_confirmed_at, is_locked_at, ends_at, drops_at, closes_at, change_of_list, tick_change, stepped_change}
@@ -47,7 +47,7 @@ closed_past m t from c is closed =
     }
 
 -- a test that holds of no candidate that is all past
-any_closed : (m : Signals) (t : ℕ) (p : Candidate → Bool) → ((c : Candidate) → AllPast t c → p c ≡ false) → (from b : Bounds) (cs ds : List Candidate) → Leads m from cs b → AllClosed t from cs → list_any p (cs ++ ds) ≡ list_any p ds
+any_closed : (m : Signals) (t : ℕ) (p : Candidate → Bool) → ((c : Candidate) → AllPast t c → p c ≡ false) → (from b : Bounds) (cs ds : List Candidate) → CandidatesLead m from cs b → AllClosed t from cs → list_any p (cs ++ ds) ≡ list_any p ds
 any_closed m t p never from b [] ds leads closed = refl
 any_closed m t p never from b (c ∷ cs) ds leads closed =
     let here : p c ≡ false = never c (closed_past m t from c leads.0 closed.0) in

@@ -4,7 +4,7 @@ use Rattle.edr_definitions.specs.Ticks.{first_tick, IsFirst, HoldsNowhere}
 use Rattle.edr_definitions.specs.Signals.{Signals}
 use Rattle.edr_definitions.specs.Selection.{Bounds, is_triggered, is_time_zero, is_end, close_of, Candidate, bounds_after, at_start}
 use Rattle.edr_definitions.specs.Commands.{is_locking}
-use Rattle.edr_definitions.specs.Facts.{Leads, IsCandidate}
+use Rattle.edr_definitions.specs.Facts.{CandidatesLead, IsCandidate}
 use Rattle.edr_definitions.specs.Search.{Phase, Searching, Open, Search, AllClosed, PhaseIs, StandsFor}
 use Rattle.edr_definitions.proofs.TickLaws.{HoldsNowhere-no_first, IsFirst-unique, first_tick-some}
 use Rattle.edr_definitions.proofs.ChainLaws.{IsCandidate-unique}
@@ -71,7 +71,7 @@ module _ (m : Signals) (t : ℕ) (b : Bounds) where
       let close : (bounds_after b c).after ≡ close_of c.zero_tick c.end_tick = confirmed_close c.zero_tick c.end_tick c.confirmed some in
       let open_yet = h.5 in absurd (omega arith)
 
-search_unique : (m : Signals) (t : ℕ) (from b b' : Bounds) (p p' : Phase) (cs cs' : List Candidate) → Leads m from cs b → AllClosed t from cs → PhaseIs m t b p → Leads m from cs' b' → AllClosed t from cs' → PhaseIs m t b' p' → ◌≡◌ {A = Search} (record { bounds = b; phase = p }) (record { bounds = b'; phase = p' })
+search_unique : (m : Signals) (t : ℕ) (from b b' : Bounds) (p p' : Phase) (cs cs' : List Candidate) → CandidatesLead m from cs b → AllClosed t from cs → PhaseIs m t b p → CandidatesLead m from cs' b' → AllClosed t from cs' → PhaseIs m t b' p' → ◌≡◌ {A = Search} (record { bounds = b; phase = p }) (record { bounds = b'; phase = p' })
 search_unique m t from b b' p p' [] [] leads closed h leads' closed' h' =
     let e : from ≡ b = leads in
     let e' : from ≡ b' = leads' in
@@ -87,7 +87,7 @@ search_unique m t from b b' p p' (c ∷ cs) [] leads closed h leads' closed' h' 
     absurd (not_open m t from c leads.0 closed.0 p' (subst (λ (x : Bounds). PhaseIs m t x p') (sym e) h'))
 search_unique m t from b b' p p' (c ∷ cs) (d ∷ ds) leads closed h leads' closed' h' =
     let one : d ≡ c = IsCandidate-unique m from d c leads'.0 leads.0 in
-    search_unique m t (bounds_after from c) b b' p p' cs ds leads.1 closed.1 h (subst (λ (x : Candidate). Leads m (bounds_after from x) ds b') one leads'.1) (subst (λ (x : Candidate). AllClosed t (bounds_after from x) ds) one closed'.1) h'
+    search_unique m t (bounds_after from c) b b' p p' cs ds leads.1 closed.1 h (subst (λ (x : Candidate). CandidatesLead m (bounds_after from x) ds b') one leads'.1) (subst (λ (x : Candidate). AllClosed t (bounds_after from x) ds) one closed'.1) h'
 
 pub StandsFor-unique : (m : Signals) (t : ℕ) (s r : Search) → StandsFor m t s → StandsFor m t r → s ≡ r
 StandsFor-unique m t s r h k =

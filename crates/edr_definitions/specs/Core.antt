@@ -82,19 +82,19 @@ ring_lists n f = record f {
 }
 
 -- the pre part of the time zero z of cycle n, with any place
-abbrev pub IsPreOf : SensorLists → ℕ → ℕ → PrePart → Type 0
-IsPreOf f n z pre = pre ≡ pre_part f n pre.place z
+abbrev pub IsPreOfZero : SensorLists → ℕ → ℕ → PrePart → Type 0
+IsPreOfZero f n z pre = pre ≡ pre_part f n pre.place z
 
 -- the change is what stands at the tick t, and at a time zero `begun` is its pre part
 pub record IsTold (f : SensorLists) (n t : ℕ) (change : Change) (begun : PrePart) : Type 0 where
   pub change_is : change ≡ tick_change (signals_of f) t
-  pub begun_is : change.zero ≡ true → IsPreOf f n t begun
+  pub begun_is : change.zero ≡ true → IsPreOfZero f n t begun
 
 -- what the core keeps of an open candidate: its pre part, with its place once it is confirmed, and its end once that has come
 abbrev pub OpenIs : SensorLists → ℕ → CoreState → Phase → Type 0
 OpenIs f n k Searching = Unit {0}
 OpenIs f n k (Open z c l e) =
-    IsPreOf f n z k.frozen × MatchOption c (Unit {0}) (λ _. k.linked ≡ Some (k.frozen.place, z)) × MatchOption e (Unit {0}) (λ x. k.ended ≡ x)
+    IsPreOfZero f n z k.frozen × MatchOption c (Unit {0}) (λ _. k.linked ≡ Some (k.frozen.place, z)) × MatchOption e (Unit {0}) (λ x. k.ended ≡ x)
 
 -- the core of cycle n has closed the ticks up to t of these lists, and its search stands at s
 pub record CoreStandsFor (f : SensorLists) (n t : ℕ) (s : Search) (k : CoreState) : Type 0 where

@@ -51,9 +51,9 @@ IsChain m upto from [] = HoldsNowhere (is_time_zero m from) 0 (upto + 1)
 IsChain m upto from (c ∷ cs) = IsCandidate m from c × (c.zero_tick ≤ upto) × IsChain m upto (bounds_after from c) cs
 
 -- the candidates follow one another from the first bounds, and leave the search at b
-abbrev pub Leads : Signals → Bounds → List Candidate → Bounds → Type 0
-Leads m from [] b = from ≡ b
-Leads m from (c ∷ cs) b = IsCandidate m from c × Leads m (bounds_after from c) cs b
+abbrev pub CandidatesLead : Signals → Bounds → List Candidate → Bounds → Type 0
+CandidatesLead m from [] b = from ≡ b
+CandidatesLead m from (c ∷ cs) b = IsCandidate m from c × CandidatesLead m (bounds_after from c) cs b
 
 -- how the ticks of an event lie that is confirmed by `upto`: past the tick `after` its time zero, confirmation, end and close in this order, and its lock between
 pub record IsEventAfter (m : Signals) (upto after : ℕ) (e : Event) : Type 0 where

@@ -15,7 +15,7 @@ use Rattle.edr_definitions.specs.Facts.{AgreeUpTo}
 use Rattle.edr_definitions.specs.Search.{Search, StandsFor, open_candidates}
 use Rattle.edr_definitions.specs.OpenCrash.{OpenCrash, SameAfter, SameFrom, next_crash}
 use Rattle.edr_definitions.specs.Rings.{RisesFrom, samples}
-use Rattle.edr_definitions.specs.Schedule.{Progress, Step, items_given, IsNext, IsUnderWay}
+use Rattle.edr_definitions.specs.Schedule.{Progress, CoreMove, items_given, IsNextItem, IsUnderWay}
 
 -- ---- events and their commands
 -- the end of an event is 20 to 500 ms past its time zero
@@ -78,9 +78,9 @@ pub record AreLevelUnderWay (f : SensorLists) (p : Progress) : Type 0 where
 
 -- x is what the sensor gives next, and it is waited for: the sensor's mark is the closed tick, or the horizon is closed
 pub record IsAwaited (f : SensorLists) (p : Progress) (s : Sensor) (x : Item) : Type 0 where
-  pub next : IsNext f p s x
+  pub next : IsNextItem f p s x
   pub due : (mark_of (items_of s p.given) ≡ p.closed) ⊎ (p.closed ≡ horizon_of f)
 
 -- the steps give each sensor the same items
-abbrev pub GiveTheSameItems : List Step → List Step → Type 0
+abbrev pub GiveTheSameItems : List CoreMove → List CoreMove → Type 0
 GiveTheSameItems steps others = (s : Sensor) → items_given s steps ≡ items_given s others

@@ -13,9 +13,9 @@ pub record Progress : Type 0 where
   pub closed : ℕ
 
 -- one sensor gives one more item, or one more tick is closed
-pub data Step : Type 0 where
-  Give : Sensor → Item → Step
-  Close : Step
+pub data CoreMove : Type 0 where
+  Give : Sensor → Item → CoreMove
+  Close : CoreMove
 
 -- the lists with that item at the end of its sensor's
 abbrev pub with_item : Sensor → Item → SensorLists → SensorLists
@@ -26,27 +26,27 @@ abbrev pub MayGive : Sensor → Item → Progress → Type 0
 MayGive s x p = (refusal_of s (mark_of (items_of s p.given)) x ≡ None) × (x.moment ≤ p.closed + LONGEST_GAP)
 
 -- an item may be given by this rule; a tick may be closed where it is not past the horizon
-abbrev pub IsAllowed : Step → Progress → Type 0
+abbrev pub IsAllowed : CoreMove → Progress → Type 0
 IsAllowed (Give s x) p = MayGive s x p
 IsAllowed Close p = p.closed < horizon_of p.given
 
 -- where a step leads
-abbrev pub after_step : Progress → Step → Progress
+abbrev pub after_step : Progress → CoreMove → Progress
 after_step p (Give s x) = record { given = with_item s x p.given; closed = p.closed }
 after_step p Close = record { given = p.given; closed = p.closed + 1 }
 
 -- where steps lead that are taken one after the other
-abbrev pub after_steps : Progress → List Step → Progress
+abbrev pub after_steps : Progress → List CoreMove → Progress
 after_steps p [] = p
 after_steps p (s ∷ ss) = after_steps (after_step p s) ss
 
 -- what a step gives of the sensor
-abbrev pub given_by : Sensor → Step → List Item
+abbrev pub given_by : Sensor → CoreMove → List Item
 given_by s (Give r x) = if nat_eq (number_of r) (number_of s) then x ∷ [] else []
 given_by s Close = []
 
 -- what steps give of the sensor, in their order
-abbrev pub items_given : Sensor → List Step → List Item
+abbrev pub items_given : Sensor → List CoreMove → List Item
 items_given s steps = flat_map (given_by s) steps
 
 -- the list begins with the other one
@@ -54,8 +54,8 @@ abbrev pub BeginsWith : List Item → List Item → Type 0
 BeginsWith xs ys = (rest : List Item) × (xs ≡ ys ++ rest)
 
 -- x is the item of the feeds that the sensor gives next
-abbrev pub IsNext : SensorLists → Progress → Sensor → Item → Type 0
-IsNext f p s x = BeginsWith (items_of s f) (items_of s p.given ++ x ∷ [])
+abbrev pub IsNextItem : SensorLists → Progress → Sensor → Item → Type 0
+IsNextItem f p s x = BeginsWith (items_of s f) (items_of s p.given ++ x ∷ [])
 
 -- the feeds are being given: each list begins with what was given of it, and no tick past the horizon of that is closed
 pub record IsUnderWay (f : SensorLists) (p : Progress) : Type 0 where
@@ -63,8 +63,8 @@ pub record IsUnderWay (f : SensorLists) (p : Progress) : Type 0 where
   pub within : p.closed ≤ horizon_of p.given
 
 -- some step is allowed after which they still are
-pub record GoesOn (f : SensorLists) (p : Progress) : Type 0 where
-  pub step : Step
+pub record CanGoOn (f : SensorLists) (p : Progress) : Type 0 where
+  pub step : CoreMove
   pub allowed : IsAllowed step p
   pub leads : IsUnderWay f (after_step p step)
 

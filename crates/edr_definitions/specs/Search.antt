@@ -4,7 +4,7 @@ use Rattle.std.specs.Option.{option_or}
 use Rattle.edr_definitions.specs.Ticks.{first_tick, IsFirst, HoldsNowhere}
 use Rattle.edr_definitions.specs.Signals.{Signals}
 use Rattle.edr_definitions.specs.Selection.{Bounds, is_triggered, is_time_zero, is_end, close_of, Candidate, candidate_at, bounds_after, at_start}
-use Rattle.edr_definitions.specs.Facts.{Leads}
+use Rattle.edr_definitions.specs.Facts.{CandidatesLead}
 use Rattle.edr_definitions.specs.Commands.{is_locking}
 
 -- no candidate is open, or one with this time zero, and its confirmation, first locking firing and end as far as they have come
@@ -61,7 +61,7 @@ PhaseIs m t b (Open z c l (Some e)) =
 -- the search stands for the signals up to the tick t
 pub record StandsFor (m : Signals) (t : ℕ) (s : Search) : Type 0 where
   pub closed : List Candidate
-  pub leads : Leads m at_start closed s.bounds
+  pub leads : CandidatesLead m at_start closed s.bounds
   pub all_closed : AllClosed t at_start closed
   pub past : s.bounds.after ≤ t
   pub phase_is : PhaseIs m t s.bounds s.phase

@@ -19,7 +19,7 @@ ghost use Rattle.edr_definitions.specs.Commands.{place_of, places, last_placed, 
 ghost use Rattle.edr_definitions.specs.Facts.{Reaches, IsTriggered, IsTimeZero, IsEnd, IsCandidate, IsChain, AreEventsAfter, IsFirstGreatest, IsLatestSample, HasNoSample, IsInBounds, AgreeUpTo};
 ghost use Rattle.edr_definitions.specs.Search.{Search, next_search, StandsFor};
 ghost use Rattle.edr_definitions.specs.Change.{TellsEnd, change_of_list, tested_change, tick_change};
-ghost use Rattle.edr_definitions.specs.Schedule.{Progress, Step, Give, with_item, IsAllowed, after_steps, items_given, IsUnderWay, GoesOn, IsOver};
+ghost use Rattle.edr_definitions.specs.Schedule.{Progress, CoreMove, Give, with_item, IsAllowed, after_steps, items_given, IsUnderWay, CanGoOn, IsOver};
 ghost use Rattle.edr_definitions.specs.Premises.{EndsInTime, AreFeedsOf, commands_by, commands_at, AddsCommands, AddsIssues, ChangeAlikeUpTo, told_chain, AreLevelUnderWay, IsAwaited, GiveTheSameItems};
 ghost use Rattle.edr_definitions.specs.Streaming.{first_search};
 
@@ -175,7 +175,7 @@ pub fn one_search_stands()
 /// horizon. The next item of a sensor that is waited for is never too far ahead of the closed tick, nor is any
 /// once the horizon is closed: so a run that gives each item only then meets no refusal.
 pub fn a_run_is_never_stuck_and_never_ahead()
-    ensures stuck { (f : SensorLists) (p : Progress) → AreLevelUnderWay f p → GoesOn f p ⊎ IsOver f p }
+    ensures stuck { (f : SensorLists) (p : Progress) → AreLevelUnderWay f p → CanGoOn f p ⊎ IsOver f p }
     ensures ahead { (f : SensorLists) (p : Progress) (s : Sensor) (x : Item) → AreLevelUnderWay f p → IsAwaited f p s x
         → IsAllowed (Give s x) p }
 {}
@@ -183,9 +183,9 @@ pub fn a_run_is_never_stuck_and_never_ahead()
 /// What was given depends on no order but each sensor's own: steps that give each sensor the same items, in
 /// whatever order they come and wherever ticks are closed between them, lead to the same lists.
 pub fn arrival_order_is_free()
-    ensures lists { (p : Progress) (steps : List Step) (s : Sensor)
+    ensures lists { (p : Progress) (steps : List CoreMove) (s : Sensor)
         → items_of s (after_steps p steps).given ≡ items_of s p.given ++ items_given s steps }
-    ensures same { (p : Progress) (steps others : List Step) → GiveTheSameItems steps others
+    ensures same { (p : Progress) (steps others : List CoreMove) → GiveTheSameItems steps others
         → (after_steps p steps).given ≡ (after_steps p others).given }
 {}
 

@@ -24,36 +24,36 @@ use Rattle.edr_detect.specs.declared.windows.Windows.{Windows}
 use Rattle.edr_detect.specs.Latest.{LatestStandsFor}
 use Rattle.edr_detect.specs.Stages.{told_of, phase_of, is_event, stepped}
 use Rattle.edr_detect.specs.Standing.{SwingsStandFor, WindowsStandFor, HoldNothing, AreStill, BeginsAtRest, TestsAre, bounds_past}
-use Rattle.edr_detect.specs.Rows.{Row, row_at, signals_of_rows}
-use Rattle.edr_detect.specs.Detected.{DetectState, IsAtRest, KeepsPast, DetectStandsFor}
+use Rattle.edr_detect.specs.Rows.{SignalRow, row_at, signals_of_rows}
+use Rattle.edr_detect.specs.Detected.{DetectState, IsAtRest, KeepsRecent, DetectStandsFor}
 use Rattle.edr_detect.proofs.WindowLemmas.{AreStill-next, AreStill-agree}
 
 -- ---- rows
-slice_get-before : (rows : List Row) (r : Row) (k : ℕ) → k < length rows → slice_get rows k ≡ slice_get (rows ++ r ∷ []) k
+slice_get-before : (rows : List SignalRow) (r : SignalRow) (k : ℕ) → k < length rows → slice_get rows k ≡ slice_get (rows ++ r ∷ []) k
 slice_get-before [] r k h = absurd (omega arith)
 slice_get-before (x ∷ xs) r zero h = refl
 slice_get-before (x ∷ xs) r (suc k) h = slice_get-before xs r k (omega arith)
 
-slice_get-last : (rows : List Row) (r : Row) → slice_get (rows ++ r ∷ []) (length rows) ≡ Some r
+slice_get-last : (rows : List SignalRow) (r : SignalRow) → slice_get (rows ++ r ∷ []) (length rows) ≡ Some r
 slice_get-last [] r = refl
 slice_get-last (x ∷ xs) r = slice_get-last xs r
 
-row_at-before : (rows : List Row) (r : Row) (u : ℕ) → u ≤ length rows → row_at rows u ≡ row_at (rows ++ r ∷ []) u
+row_at-before : (rows : List SignalRow) (r : SignalRow) (u : ℕ) → u ≤ length rows → row_at rows u ≡ row_at (rows ++ r ∷ []) u
 row_at-before rows r zero h = refl
 row_at-before rows r (suc k) h = slice_get-before rows r k (omega arith)
 
-row_at-last : (rows : List Row) (r : Row) → row_at (rows ++ r ∷ []) (length rows + 1) ≡ Some r
+row_at-last : (rows : List SignalRow) (r : SignalRow) → row_at (rows ++ r ∷ []) (length rows + 1) ≡ Some r
 row_at-last rows r = rw add-one (slice_get-last rows r)
 
-rows-agree : (rows : List Row) (r : Row) → AgreeUpTo (length rows) (signals_of_rows rows) (signals_of_rows (rows ++ r ∷ []))
+rows-agree : (rows : List SignalRow) (r : SignalRow) → AgreeUpTo (length rows) (signals_of_rows rows) (signals_of_rows (rows ++ r ∷ []))
 rows-agree rows r = record {
-  along = λ u h. ap (λ (o : Option Row). option_map (λ (x : Row). x.along) o) (row_at-before rows r u h);
-  across = λ u h. ap (λ (o : Option Row). option_map (λ (x : Row). x.across) o) (row_at-before rows r u h);
-  fired = λ u h. ap (λ (o : Option Row). option_map_or (λ (x : Row). x.fired.0) o 0) (row_at-before rows r u h);
+  along = λ u h. ap (λ (o : Option SignalRow). option_map (λ (x : SignalRow). x.along) o) (row_at-before rows r u h);
+  across = λ u h. ap (λ (o : Option SignalRow). option_map (λ (x : SignalRow). x.across) o) (row_at-before rows r u h);
+  fired = λ u h. ap (λ (o : Option SignalRow). option_map_or (λ (x : SignalRow). x.fired.0) o 0) (row_at-before rows r u h);
 }
 
 -- no row is that of tick 0
-pub rows-begin : (rows : List Row) → BeginsAtRest (signals_of_rows rows)
+pub rows-begin : (rows : List SignalRow) → BeginsAtRest (signals_of_rows rows)
 rows-begin rows = record { along = refl; across = refl }
 
 -- ---- signals that agree up to a tick
@@ -84,8 +84,8 @@ windows-agree m n b p t w same h = record {
   latest_across = latest-agree m.across n.across t _ _ same.across h.latest_across;
 }
 
-keeps-agree : (m n : Signals) (b : Bounds) (t : ℕ) (d : DetectState) → AgreeUpTo t m n → KeepsPast m b t d → KeepsPast n b t d
-unfolding KeepsPast
+keeps-agree : (m n : Signals) (b : Bounds) (t : ℕ) (d : DetectState) → AgreeUpTo t m n → KeepsRecent m b t d → KeepsRecent n b t d
+unfolding KeepsRecent
 keeps-agree m n b t d same h = (
   windows-agree m n b (phase_of d.stage) t d.windows same h.0,
   λ told. let rest = h.1 told in record { searching = rest.searching; still = AreStill-agree m n b t same rest.still; nothing = rest.nothing },
@@ -185,16 +185,16 @@ tests-still m b s t searching fired h = record {
 }
 
 -- ---- one tick of the detector
-module _ (rows : List Row) (r : Row) (d e : DetectState) (u : ℕ) (a : Tests) (ans : Answer) (pushed : Windows)
+module _ (rows : List SignalRow) (r : SignalRow) (d e : DetectState) (u : ℕ) (a : Tests) (ans : Answer) (pushed : Windows)
     (h : DetectStandsFor d rows) (u_is : u ≡ d.tick + 1) (tick_is : e.tick ≡ u)
     (push : (m : Signals) (b : Bounds) (before : ℕ) → u ≡ before + 1 → b.after ≤ before → b.since ≤ before → BeginsAtRest m → change_at m.along u ≡ r.along → change_at m.across u ≡ r.across → WindowsStandFor m b (phase_of d.stage) before d.windows → WindowsStandFor m b (phase_of d.stage) u pushed)
-    (tests : (m : Signals) (b : Bounds) (before : ℕ) → u ≡ before + 1 → b.after ≤ before → b.since ≤ before → change_at m.along u ≡ r.along → change_at m.across u ≡ r.across → m.fired u ≡ r.fired.0 → KeepsPast m b before d → WindowsStandFor m b (phase_of d.stage) u pushed → TestsAre m b d.stage u a)
+    (tests : (m : Signals) (b : Bounds) (before : ℕ) → u ≡ before + 1 → b.after ≤ before → b.since ≤ before → change_at m.along u ≡ r.along → change_at m.across u ≡ r.across → m.fired u ≡ r.fired.0 → KeepsRecent m b before d → WindowsStandFor m b (phase_of d.stage) u pushed → TestsAre m b d.stage u a)
     (next : (b : Bounds) → phase_of e.stage ≡ (stepped u a b (phase_of d.stage)).phase)
     (told : told_of ans ≡ stepped_change u a.zero a.trigger a.locks a.ends (phase_of d.stage))
     (restart : (m : Signals) (b : Bounds) (k : ℕ) → (ans.closed ≡ false → is_event (phase_of e.stage) ≡ false → is_event (phase_of d.stage) ≡ false) → WindowsStandFor m b (phase_of d.stage) k pushed → WindowsStandFor m (bounds_past k ans b) (phase_of e.stage) k e.windows)
-    (rests : (m : Signals) (b : Bounds) (before : ℕ) → u ≡ before + 1 → b.after ≤ before → b.since ≤ before → change_at m.along u ≡ r.along → change_at m.across u ≡ r.across → KeepsPast m b before d → WindowsStandFor m b (phase_of d.stage) u pushed → IsTrue e.rests → IsAtRest m (bounds_past u ans b) u e) where
+    (rests : (m : Signals) (b : Bounds) (before : ℕ) → u ≡ before + 1 → b.after ≤ before → b.since ≤ before → change_at m.along u ≡ r.along → change_at m.across u ≡ r.across → KeepsRecent m b before d → WindowsStandFor m b (phase_of d.stage) u pushed → IsTrue e.rests → IsAtRest m (bounds_past u ans b) u e) where
   pub tick-stands : DetectStandsFor e (rows ++ r ∷ []) × (told_of ans ≡ tick_change (signals_of_rows (rows ++ r ∷ [])) (length rows + 1))
-  unfolding KeepsPast
+  unfolding KeepsRecent
   tick-stands =
       let t = length rows in
       let all = rows ++ r ∷ [] in
@@ -207,10 +207,10 @@ module _ (rows : List Row) (r : Row) (d e : DetectState) (u : ℕ) (a : Tests) (
       let len : u ≡ length all = let k = length-append rows (r ∷ []) in omega (arith, k, now) in
       let row : row_at all u ≡ Some r = ap (row_at all) now ∙ row_at-last rows r in
       let past : b.after ≤ t = h.search_is.past in
-      let old : KeepsPast n b t d = keeps-agree (signals_of_rows rows) n b t d agree h.kept_are in
-      let along = ap (λ (o : Option Row). unwrap_or (option_map (λ (x : Row). x.along) o) (pos 0)) row in
-      let across = ap (λ (o : Option Row). unwrap_or (option_map (λ (x : Row). x.across) o) (pos 0)) row in
-      let fired = ap (λ (o : Option Row). option_map_or (λ (x : Row). x.fired.0) o 0) row in
+      let old : KeepsRecent n b t d = keeps-agree (signals_of_rows rows) n b t d agree h.kept_are in
+      let along = ap (λ (o : Option SignalRow). unwrap_or (option_map (λ (x : SignalRow). x.along) o) (pos 0)) row in
+      let across = ap (λ (o : Option SignalRow). unwrap_or (option_map (λ (x : SignalRow). x.across) o) (pos 0)) row in
+      let fired = ap (λ (o : Option SignalRow). option_map_or (λ (x : SignalRow). x.fired.0) o 0) row in
       let here : WindowsStandFor n b p u pushed = push n b t now past h.since_past (rows-begin all) along across old.0 in
       let are : TestsAre n b d.stage u a = tests n b t now past h.since_past along across fired old here in
       let before : StandsFor n t s = StandsFor-agree t (signals_of_rows rows) n s agree h.search_is in
@@ -238,7 +238,7 @@ module _ (rows : List Row) (r : Row) (d e : DetectState) (u : ℕ) (a : Tests) (
           bounds = bounds_past u ans b;
           since_past = subst (λ (k : ℕ). (bounds_past u ans b).since ≤ k) len since;
           search_is = subst (λ (k : ℕ). StandsFor n k (record { bounds = bounds_past u ans b; phase = phase_of e.stage })) len stands;
-          kept_are = subst (λ (k : ℕ). KeepsPast n (bounds_past u ans b) k e) len (windows, rests n b t now past h.since_past along across old here);
+          kept_are = subst (λ (k : ℕ). KeepsRecent n (bounds_past u ans b) k e) len (windows, rests n b t now past h.since_past along across old here);
         },
         told ∙ same ∙ sym answer ∙ ap (tick_change n) now,
       )
@@ -248,7 +248,7 @@ abbrev pub nothing : Answer
 nothing = record { zero = false; confirmed = false; locked = false; ended = false; dropped = false; closed = false }
 
 -- a tick past which the search goes on as before
-module _ (rows : List Row) (r : Row) (d : DetectState) (u : ℕ) (pushed : Windows) (rests : Bool)
+module _ (rows : List SignalRow) (r : SignalRow) (d : DetectState) (u : ℕ) (pushed : Windows) (rests : Bool)
     (h : DetectStandsFor d rows) (u_is : u ≡ d.tick + 1) (searching : phase_of d.stage ≡ Searching)
     (push : (m : Signals) (b : Bounds) (before : ℕ) → u ≡ before + 1 → b.after ≤ before → b.since ≤ before → BeginsAtRest m → change_at m.along u ≡ r.along → change_at m.across u ≡ r.across → WindowsStandFor m b (phase_of d.stage) before d.windows → WindowsStandFor m b (phase_of d.stage) u pushed)
     (nothing_moves : IsTrue rests → HoldNothing pushed) where
@@ -256,8 +256,8 @@ module _ (rows : List Row) (r : Row) (d : DetectState) (u : ℕ) (pushed : Windo
   After = DetectStandsFor (record { tick = u; stage = d.stage; windows = pushed; rests = rests }) (rows ++ r ∷ []) × (told_of nothing ≡ tick_change (signals_of_rows (rows ++ r ∷ [])) (length rows + 1))
 
   goes-on : (a : Tests) → a.zero ≡ false →
-      ((m : Signals) (b : Bounds) (before : ℕ) → u ≡ before + 1 → b.after ≤ before → b.since ≤ before → change_at m.along u ≡ r.along → change_at m.across u ≡ r.across → m.fired u ≡ r.fired.0 → KeepsPast m b before d → WindowsStandFor m b (phase_of d.stage) u pushed → TestsAre m b d.stage u a) →
-      ((m : Signals) (b : Bounds) (before : ℕ) → u ≡ before + 1 → b.after ≤ before → b.since ≤ before → change_at m.along u ≡ r.along → change_at m.across u ≡ r.across → KeepsPast m b before d → WindowsStandFor m b (phase_of d.stage) u pushed → IsTrue rests → AreStill m b u) → After
+      ((m : Signals) (b : Bounds) (before : ℕ) → u ≡ before + 1 → b.after ≤ before → b.since ≤ before → change_at m.along u ≡ r.along → change_at m.across u ≡ r.across → m.fired u ≡ r.fired.0 → KeepsRecent m b before d → WindowsStandFor m b (phase_of d.stage) u pushed → TestsAre m b d.stage u a) →
+      ((m : Signals) (b : Bounds) (before : ℕ) → u ≡ before + 1 → b.after ≤ before → b.since ≤ before → change_at m.along u ≡ r.along → change_at m.across u ≡ r.across → KeepsRecent m b before d → WindowsStandFor m b (phase_of d.stage) u pushed → IsTrue rests → AreStill m b u) → After
   goes-on a none tests still =
       tick-stands rows r d (record { tick = u; stage = d.stage; windows = pushed; rests = rests }) u a nothing pushed h u_is refl push tests
       (λ b. rw (searching, none) refl) (rw (searching, none) refl) (λ m b k stay w. w)
@@ -273,9 +273,9 @@ module _ (rows : List Row) (r : Row) (d : DetectState) (u : ℕ) (pushed : Windo
 
   -- where nothing moves and nothing fires
   pub tick-quiet : r.along ≡ pos 0 → r.across ≡ pos 0 → r.fired.0 ≡ 0 → IsTrue d.rests → After
-  unfolding KeepsPast
+  unfolding KeepsRecent
   tick-quiet along across fired told =
-      let next_still = λ (m : Signals) (b : Bounds) (before : ℕ) (next : u ≡ before + 1) (after : b.after ≤ before) (since : b.since ≤ before) (here : change_at m.along u ≡ r.along) (side : change_at m.across u ≡ r.across) (old : KeepsPast m b before d).
+      let next_still = λ (m : Signals) (b : Bounds) (before : ℕ) (next : u ≡ before + 1) (after : b.after ≤ before) (since : b.since ≤ before) (here : change_at m.along u ≡ r.along) (side : change_at m.across u ≡ r.across) (old : KeepsRecent m b before d).
       AreStill-next m b before u next after since (here ∙ along) (side ∙ across) (old.1 told).still in
       goes-on no_tests refl
       (λ m b before next after since here side fires old now. tests-still m b d.stage u searching (fires ∙ fired) (next_still m b before next after since here side old))
@@ -286,13 +286,13 @@ pub never-rests : IsTrue false → ⊥
 never-rests told = cc
 
 -- what a detector that rests keeps
-pub at-rest : (d : DetectState) (rows : List Row) → DetectStandsFor d rows → IsTrue d.rests → (phase_of d.stage ≡ Searching) × HoldNothing d.windows
-unfolding KeepsPast
+pub at-rest : (d : DetectState) (rows : List SignalRow) → DetectStandsFor d rows → IsTrue d.rests → (phase_of d.stage ≡ Searching) × HoldNothing d.windows
+unfolding KeepsRecent
 at-rest d rows h told = let rest = h.kept_are.1 told in (rest.searching, rest.nothing)
 
 -- before the first tick
 pub start-stands : (d : DetectState) → d.tick ≡ 0 → phase_of d.stage ≡ Searching → d.rests ≡ false → ((m : Signals) → BeginsAtRest m → WindowsStandFor m at_start Searching 0 d.windows) → DetectStandsFor d []
-unfolding KeepsPast
+unfolding KeepsRecent
 start-stands d none searching moves windows = record {
   tick_is = none;
   bounds = at_start;

@@ -9,7 +9,7 @@ use Rattle.edr_detect.specs.declared.stage.Stage.{Stage}
 use Rattle.edr_detect.specs.declared.windows.Windows.{Windows}
 use Rattle.edr_detect.specs.Stages.{phase_of, told_of}
 use Rattle.edr_detect.specs.Standing.{WindowsStandFor, HoldNothing, AreStill}
-use Rattle.edr_detect.specs.Rows.{Row, signals_of_rows}
+use Rattle.edr_detect.specs.Rows.{SignalRow, signals_of_rows}
 
 -- the number of its ticks, how far an open candidate has come, what it keeps of the rows, and whether it rests
 pub record DetectState : Type 0 where
@@ -25,22 +25,22 @@ pub record IsAtRest (m : Signals) (b : Bounds) (t : ℕ) (d : DetectState) : Typ
   pub nothing : HoldNothing d.windows
 
 -- what the detector keeps of these signals up to t: the windows hold what the tests of its phase ask, and where it says that it rests it does
-unfoldable pub KeepsPast : Signals → Bounds → ℕ → DetectState → Type 0
-KeepsPast m b t d = WindowsStandFor m b (phase_of d.stage) t d.windows × (IsTrue d.rests → IsAtRest m b t d)
+unfoldable pub KeepsRecent : Signals → Bounds → ℕ → DetectState → Type 0
+KeepsRecent m b t d = WindowsStandFor m b (phase_of d.stage) t d.windows × (IsTrue d.rests → IsAtRest m b t d)
 
 -- the detector was given these rows, and no others: the search of the definitions stands at the last of them as the stage says, with bounds past which it keeps what the search needs
-pub record DetectStandsFor (d : DetectState) (rows : List Row) : Type 0 where
+pub record DetectStandsFor (d : DetectState) (rows : List SignalRow) : Type 0 where
   pub tick_is : d.tick ≡ length rows
   pub bounds : Bounds
   pub since_past : bounds.since ≤ length rows
   pub search_is : StandsFor (signals_of_rows rows) (length rows) (record { bounds = bounds; phase = phase_of d.stage })
-  pub kept_are : KeepsPast (signals_of_rows rows) bounds (length rows) d
+  pub kept_are : KeepsRecent (signals_of_rows rows) bounds (length rows) d
 
 -- whatever rows the detector was given, it was then given this one behind them
-abbrev pub DetectsNext : Row → DetectState → DetectState → Type 0
-DetectsNext row d next = (rows : List Row) → DetectStandsFor d rows → DetectStandsFor next (rows ++ row ∷ [])
+abbrev pub DetectsNext : SignalRow → DetectState → DetectState → Type 0
+DetectsNext row d next = (rows : List SignalRow) → DetectStandsFor d rows → DetectStandsFor next (rows ++ row ∷ [])
 
 -- whatever rows the detector was given, the answer is what stands at the tick of this one behind them
-abbrev pub TellsNext : Row → DetectState → Answer → Type 0
+abbrev pub TellsNext : SignalRow → DetectState → Answer → Type 0
 TellsNext row d answer =
-    (rows : List Row) → DetectStandsFor d rows → told_of answer ≡ tick_change (signals_of_rows (rows ++ row ∷ [])) (length rows + 1)
+    (rows : List SignalRow) → DetectStandsFor d rows → told_of answer ≡ tick_change (signals_of_rows (rows ++ row ∷ [])) (length rows + 1)

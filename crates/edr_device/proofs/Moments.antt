@@ -3,8 +3,8 @@ use Rattle.std.proofs.Common.{◌≡◌, ◌⊎◌, ◌≤◌, ◌<◌, ◌+◌,
 use Rattle.std.proofs.Math.Nat.{not-suc-le-zero, le_of_suc-le-suc, suc_inj}
 use Rattle.std.proofs.lemmas.Option.{slice_get_cases}
 use Rattle.edr_device.specs.Device.{Agrees, Comes, Elapses, IsSettled, Settles, Stays, Writes, is_in, outside}
-use Rattle.edr_device.specs.Past.{HadLeft, Left, LeftSince, settled_at}
-use Rattle.edr_device.specs.declared.moment.Moment.{Moment}
+use Rattle.edr_device.specs.Past.{HadLeft, MayBeLeft, MayBeLeftSince, settled_at}
+use Rattle.edr_device.specs.declared.moment.HeldBytes.{HeldBytes}
 use Rattle.edr_device.specs.declared.moment.Call.{Call}
 use Rattle.edr_device.specs.declared.mem_nvm.MemNvm.{MemNvm}
 use Rattle.edr_device.specs.Memory.{HasKept, Remembers}
@@ -14,7 +14,7 @@ use Rattle.edr_device.proofs.Draws.{came_agrees}
 use Rattle.edr_device.proofs.Ranges.{all_set, both_parts, outside_part, unset_range, written_size}
 
 abbrev AtCall : Call → List ℕ → Type 0
-AtCall c image = Left c.before.value image ⊎ Left c.after.value image
+AtCall c image = MayBeLeft c.before.value image ⊎ MayBeLeft c.after.value image
 
 had_more : (past : List Call) (c : Call) (t : ℕ) (image : List ℕ) → t ≤ length past → HadLeft (drop t (past ++ c ∷ [])) image → HadLeft (drop t past) image ⊎ AtCall c image
 had_more [] c zero image h (inl here) = inr here
@@ -38,10 +38,10 @@ had_last (p ∷ past) c zero image h left = inr (had_last past c zero image zero
 had_last (p ∷ past) c (suc t) image h left = had_last past c t image (le_of_suc-le-suc h) left
 
 -- a call that is kept counts since each moment up to it
-had_at : (past : List Call) (c : Call) (t k : ℕ) (image : List ℕ) → t ≤ k → slice_get past k ≡ Some c → Left c.after.value image → HadLeft (drop t past) image
+had_at : (past : List Call) (c : Call) (t k : ℕ) (image : List ℕ) → t ≤ k → slice_get past k ≡ Some c → MayBeLeft c.after.value image → HadLeft (drop t past) image
 had_at [] c t zero image h e left = absurd (cc)
 had_at [] c t (suc k) image h e left = absurd (cc)
-had_at (p ∷ past) c zero zero image h e left = inl (inr (subst (λ (x : Call). Left x.after.value image) (sym (some_is e)) left))
+had_at (p ∷ past) c zero zero image h e left = inl (inr (subst (λ (x : Call). MayBeLeft x.after.value image) (sym (some_is e)) left))
   where
     some_is : {A : Type 0} {x y : A} → Some x ≡ Some y → x ≡ y
     some_is e = cc
@@ -61,69 +61,69 @@ get_last (p ∷ past) c d zero same e = absurd (omega arith)
 get_last (p ∷ past) c d (suc k) same e = get_last past c d k (suc_inj same) e
 
 -- what a crash now may leave was there at the last good call: after a call that failed, and after one that did not
-pub covered_still : (past past' : List Call) (now : Moment) (c : Call) (good : ℕ) → past' ≡ past ++ c ∷ [] → good ≤ length past
-    → ((k : ℕ) (c : Call) (image : List ℕ) → good ≡ k + 1 → slice_get past k ≡ Some c → Left now image → Left c.after.value image)
-    → (k : ℕ) (d : Call) (image : List ℕ) → good ≡ k + 1 → slice_get past' k ≡ Some d → Left now image → Left d.after.value image
+pub covered_still : (past past' : List Call) (now : HeldBytes) (c : Call) (good : ℕ) → past' ≡ past ++ c ∷ [] → good ≤ length past
+    → ((k : ℕ) (c : Call) (image : List ℕ) → good ≡ k + 1 → slice_get past k ≡ Some c → MayBeLeft now image → MayBeLeft c.after.value image)
+    → (k : ℕ) (d : Call) (image : List ℕ) → good ≡ k + 1 → slice_get past' k ≡ Some d → MayBeLeft now image → MayBeLeft d.after.value image
 covered_still past past' now c good grown within had k d image is e left =
     had k d image is (get_before past c d k (omega arith) (subst (λ (p : List Call). slice_get p k ≡ Some d) grown e)) left
 
-pub covered_last : (past past' : List Call) (now : Moment) (c : Call) (good : ℕ) → past' ≡ past ++ c ∷ [] → good ≡ length past + 1 → c.after.value ≡ now
-    → (k : ℕ) (d : Call) (image : List ℕ) → good ≡ k + 1 → slice_get past' k ≡ Some d → Left now image → Left d.after.value image
+pub covered_last : (past past' : List Call) (now : HeldBytes) (c : Call) (good : ℕ) → past' ≡ past ++ c ∷ [] → good ≡ length past + 1 → c.after.value ≡ now
+    → (k : ℕ) (d : Call) (image : List ℕ) → good ≡ k + 1 → slice_get past' k ≡ Some d → MayBeLeft now image → MayBeLeft d.after.value image
 covered_last past past' now c good grown more is' k d image is e left =
     let same : c ≡ d = get_last past c d k (omega arith) (subst (λ (p : List Call). slice_get p k ≡ Some d) grown e) in
-    subst (λ (x : Call). Left x.after.value image) same (subst (λ (m : Moment). Left m image) (sym is') left)
+    subst (λ (x : Call). MayBeLeft x.after.value image) same (subst (λ (m : HeldBytes). MayBeLeft m image) (sym is') left)
 
 -- one moment more, which is kept
-pub kept_elapses : (past past' : List Call) (now now' : Moment) (c : Call) (clock : ℕ) (during : List ℕ → Type 0) → length past ≡ clock → c.before.value ≡ now → c.after.value ≡ now'
-    → past' ≡ past ++ c ∷ [] → ((image : List ℕ) → Left now' image → Left now image ⊎ during image) → Elapses clock (LeftSince past now) (LeftSince past' now') during
+pub kept_elapses : (past past' : List Call) (now now' : HeldBytes) (c : Call) (clock : ℕ) (during : List ℕ → Type 0) → length past ≡ clock → c.before.value ≡ now → c.after.value ≡ now'
+    → past' ≡ past ++ c ∷ [] → ((image : List ℕ) → MayBeLeft now' image → MayBeLeft now image ⊎ during image) → Elapses clock (MayBeLeftSince past now) (MayBeLeftSince past' now') during
 kept_elapses past past' now now' c clock during long is is' grown does = record {
   nothing_else = λ t image le left. ⊎_elim
-      (λ (here : Left now' image). side t image (does image here))
+      (λ (here : MayBeLeft now' image). side t image (does image here))
       (λ (had : HadLeft (drop t past') image). ⊎_elim
       (λ (x : HadLeft (drop t past) image). inl (inr x))
       (λ (y : AtCall c image). ⊎_elim
-      (λ (b : Left c.before.value image). inl (inl (subst (λ (m : Moment). Left m image) is b)))
-      (λ (a : Left c.after.value image). side t image (does image (subst (λ (m : Moment). Left m image) is' a)))
+      (λ (b : MayBeLeft c.before.value image). inl (inl (subst (λ (m : HeldBytes). MayBeLeft m image) is b)))
+      (λ (a : MayBeLeft c.after.value image). side t image (does image (subst (λ (m : HeldBytes). MayBeLeft m image) is' a)))
       y)
       (had_more past c t image (subst (λ (n : ℕ). t ≤ n) (sym long) le) (subst (λ (p : List Call). HadLeft (drop t p) image) grown had)))
       left;
   past_stays = λ t image le left. inr (subst (λ (p : List Call). HadLeft (drop t p) image) (sym grown) (⊎_elim
-      (λ (here : Left now image). had_last past c t image (subst (λ (n : ℕ). t ≤ n) (sym long) le) (inl (subst (λ (m : Moment). Left m image) (sym is) here)))
+      (λ (here : MayBeLeft now image). had_last past c t image (subst (λ (n : ℕ). t ≤ n) (sym long) le) (inl (subst (λ (m : HeldBytes). MayBeLeft m image) (sym is) here)))
       (λ (had : HadLeft (drop t past) image). had_still past c t image had)
       left));
 }
   where
-    side : (t : ℕ) (image : List ℕ) → Left now image ⊎ during image → LeftSince past now t image ⊎ during image
-    side t image x = ⊎_elim (λ (a : Left now image). inl (inl a)) (λ (d : during image). inr d) x
+    side : (t : ℕ) (image : List ℕ) → MayBeLeft now image ⊎ during image → MayBeLeftSince past now t image ⊎ during image
+    side t image x = ⊎_elim (λ (a : MayBeLeft now image). inl (inl a)) (λ (d : during image). inr d) x
 
 -- nothing kept, and nothing changed
-pub same_elapses : (past past' : List Call) (now now' : Moment) (clock : ℕ) (during : List ℕ → Type 0) → now' ≡ now → past' ≡ past → Elapses clock (LeftSince past now) (LeftSince past' now') during
+pub same_elapses : (past past' : List Call) (now now' : HeldBytes) (clock : ℕ) (during : List ℕ → Type 0) → now' ≡ now → past' ≡ past → Elapses clock (MayBeLeftSince past now) (MayBeLeftSince past' now') during
 same_elapses past past' now now' clock during same past_same = record {
   nothing_else = λ t image le left. inl (⊎_elim
-      (λ (here : Left now' image). inl (subst (λ (m : Moment). Left m image) same here))
+      (λ (here : MayBeLeft now' image). inl (subst (λ (m : HeldBytes). MayBeLeft m image) same here))
       (λ (had : HadLeft (drop t past') image). inr (subst (λ (p : List Call). HadLeft (drop t p) image) past_same had)) left);
   past_stays = λ t image le left. ⊎_elim
-      (λ (here : Left now image). inl (subst (λ (m : Moment). Left m image) (sym same) here))
+      (λ (here : MayBeLeft now image). inl (subst (λ (m : HeldBytes). MayBeLeft m image) (sym same) here))
       (λ (had : HadLeft (drop t past) image). inr (subst (λ (p : List Call). HadLeft (drop t p) image) (sym past_same) had)) left;
 }
 
 -- a call that failed
-pub refused_elapses : (old new : MemNvm) (during : List ℕ → Type 0) → Remembers old new → new.state ≡ old.state → Elapses old.clock (LeftSince old.past.items old.state) (LeftSince new.past.items new.state) during
+pub refused_elapses : (old new : MemNvm) (during : List ℕ → Type 0) → Remembers old new → new.state ≡ old.state → Elapses old.clock (MayBeLeftSince old.past.items old.state) (MayBeLeftSince new.past.items new.state) during
 refused_elapses old new during r same =
     ⊎_elim
-    (λ (k : HasKept old new). kept_elapses old.past.items new.past.items old.state new.state k.1 old.clock during k.0 k.2 k.3 k.4 (λ image left. inl (subst (λ (m : Moment). Left m image) same left)))
+    (λ (k : HasKept old new). kept_elapses old.past.items new.past.items old.state new.state k.1 old.clock during k.0 k.2 k.3 k.4 (λ image left. inl (subst (λ (m : HeldBytes). MayBeLeft m image) same left)))
     (λ (p : (new.past.items ≡ old.past.items) × (new.state ≡ old.state)). same_elapses old.past.items new.past.items old.state new.state old.clock during same p.0)
     r
 
-pub stays_same : (past past' : List Call) (now now' : Moment) → now' ≡ now → past' ≡ past → Stays (Some now.image.items) (settled_at now) (LeftSince past now) (Some now'.image.items) (settled_at now') (LeftSince past' now')
+pub stays_same : (past past' : List Call) (now now' : HeldBytes) → now' ≡ now → past' ≡ past → Stays (Some now.image.items) (settled_at now) (MayBeLeftSince past now) (Some now'.image.items) (settled_at now') (MayBeLeftSince past' now')
 stays_same past past' now now' same past_same = record {
-  same_content = ap (λ (m : Moment). Some m.image.items) same;
-  same_settled = λ i. ap (λ (m : Moment). settled_at m i) same;
+  same_content = ap (λ (m : HeldBytes). Some m.image.items) same;
+  same_settled = λ i. ap (λ (m : HeldBytes). settled_at m i) same;
   nothing_else = λ t image left. ⊎_elim
-      (λ (here : Left now' image). inl (subst (λ (m : Moment). Left m image) same here))
+      (λ (here : MayBeLeft now' image). inl (subst (λ (m : HeldBytes). MayBeLeft m image) same here))
       (λ (had : HadLeft (drop t past') image). inr (subst (λ (p : List Call). HadLeft (drop t p) image) past_same had)) left;
   past_stays = λ t image left. ⊎_elim
-      (λ (here : Left now image). inl (subst (λ (m : Moment). Left m image) (sym same) here))
+      (λ (here : MayBeLeft now image). inl (subst (λ (m : HeldBytes). MayBeLeft m image) (sym same) here))
       (λ (had : HadLeft (drop t past) image). inr (subst (λ (p : List Call). HadLeft (drop t p) image) (sym past_same) had)) left;
 }
 
@@ -137,9 +137,9 @@ comes_less settled settled' old new image c a = record {
 }
 
 -- what was left at the last good call stays
-pub cycle_stays : (past : List Call) (now : Moment) (good t : ℕ) (image : List ℕ) → good ≤ length past
-    → ((k : ℕ) (c : Call) (image : List ℕ) → good ≡ k + 1 → slice_get past k ≡ Some c → Left now image → Left c.after.value image)
-    → t < good → LeftSince past now t image → HadLeft (drop t past) image
+pub cycle_stays : (past : List Call) (now : HeldBytes) (good t : ℕ) (image : List ℕ) → good ≤ length past
+    → ((k : ℕ) (c : Call) (image : List ℕ) → good ≡ k + 1 → slice_get past k ≡ Some c → MayBeLeft now image → MayBeLeft c.after.value image)
+    → t < good → MayBeLeftSince past now t image → HadLeft (drop t past) image
 cycle_stays past now zero t image h covered below left = absurd (not-suc-le-zero below)
 cycle_stays past now (suc k) t image h covered below (inr had) = had
 cycle_stays past now (suc k) t image h covered below (inl here) = ⊎_elim
@@ -149,20 +149,20 @@ cycle_stays past now (suc k) t image h covered below (inl here) = ⊎_elim
 
 -- ---- the calls of the bytes, as those of a device
 
-pub moment_writes : (old new : Moment) (at : ℕ) (piece : List ℕ) → at + length piece ≤ length old.image.items → new.image.items ≡ put_at at piece old.image.items → new.settled.items ≡ put_at at (replicate (length piece) false) old.settled.items
+pub moment_writes : (old new : HeldBytes) (at : ℕ) (piece : List ℕ) → at + length piece ≤ length old.image.items → new.image.items ≡ put_at at piece old.image.items → new.settled.items ≡ put_at at (replicate (length piece) false) old.settled.items
     → Writes at piece (settled_at old) old.image.items new.image.items (settled_at new)
 moment_writes old new at piece fits image flags = record {
   bytes = image;
   unsettled = λ i. ap (λ (xs : List Bool). slice_index_or xs i true) flags ∙ unset_range old.settled.items at (length piece) i (subst (λ (n : ℕ). at + length piece ≤ n) (sym old.sizes.0) fits);
 }
 
-all_settled : (m : Moment) (n : ℕ) → m.settled.items ≡ replicate n true → IsSettled (settled_at m)
+all_settled : (m : HeldBytes) (n : ℕ) → m.settled.items ≡ replicate n true → IsSettled (settled_at m)
 all_settled m n flags i = ap (λ (xs : List Bool). slice_index_or xs i true) flags ∙ all_set n i
 
-pub moment_settles : (old new : Moment) (n : ℕ) → new.image.items ≡ old.image.items → new.settled.items ≡ replicate n true → Settles (settled_at new) old.image.items new.image.items
+pub moment_settles : (old new : HeldBytes) (n : ℕ) → new.image.items ≡ old.image.items → new.settled.items ≡ replicate n true → Settles (settled_at new) old.image.items new.image.items
 moment_settles old new n image flags = (image, all_settled new n flags)
 
-pub moment_comes_back : (m : MemNvm) (stored : List ℕ) (new : Moment) (n : ℕ) → stored ≡ m.stored.items → new.image.items ≡ image_after m.pick m.state.settled.items stored m.state.image.items → new.settled.items ≡ replicate n true
+pub moment_comes_back : (m : MemNvm) (stored : List ℕ) (new : HeldBytes) (n : ℕ) → stored ≡ m.stored.items → new.image.items ≡ image_after m.pick m.state.settled.items stored m.state.image.items → new.settled.items ≡ replicate n true
     → Comes (settled_at m.state) (settled_at new) m.state.image.items new.image.items
 moment_comes_back m stored new n same image flags = (
   came_agrees m.pick m.state.settled.items m.stored.items m.state.image.items new.image.items m.state.sizes.0 m.stored_size m.stored_is

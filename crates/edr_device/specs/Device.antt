@@ -42,7 +42,7 @@ pub record Writes (at : ℕ) (piece : List ℕ) (settled : ℕ → Bool) (old ne
   pub unsettled : (i : ℕ) → settled' i ≡ outside at (length piece) settled i
 
 -- outside the n offsets from `at` on each settled byte stays, and stays settled
-pub record Keeps (at n : ℕ) (settled : ℕ → Bool) (old new : List ℕ) (settled' : ℕ → Bool) : Type 0 where
+pub record KeepsOutside (at n : ℕ) (settled : ℕ → Bool) (old new : List ℕ) (settled' : ℕ → Bool) : Type 0 where
   pub size : length new ≡ length old
   pub same : (i : ℕ) → i < length old → settled i ≡ true → is_in at n i ≡ false → (slice_index new i ≡ slice_index old i) × (settled' i ≡ true)
 
@@ -67,12 +67,12 @@ pub record Stays (content : Option (List ℕ)) (settled : ℕ → Bool) (past : 
 abbrev pub Wrote : {T E : Type 0} → ℕ → List ℕ → Result T E → Option (List ℕ) → (ℕ → Bool) → Option (List ℕ) → (ℕ → Bool) → Type 0
 Wrote at piece result old settled new settled' = MatchResult result
     (λ _. Told (λ a b. Writes at piece settled a b settled') old new)
-    (λ _. Told (λ a b. Keeps at (length piece) settled a b settled') old new)
+    (λ _. Told (λ a b. KeepsOutside at (length piece) settled a b settled') old new)
 
 abbrev pub Synced : {T E : Type 0} → Result T E → Option (List ℕ) → (ℕ → Bool) → Option (List ℕ) → (ℕ → Bool) → Type 0
 Synced result old settled new settled' = MatchResult result
     (λ _. Told (Settles settled') old new)
-    (λ _. Told (λ a b. Keeps 0 0 settled a b settled') old new)
+    (λ _. Told (λ a b. KeepsOutside 0 0 settled a b settled') old new)
 
 abbrev pub Cycled : {T E : Type 0} → Result T E → Option (List ℕ) → (ℕ → Bool) → (ℕ → List ℕ → Type 0) → Option (List ℕ) → (ℕ → Bool) → (ℕ → List ℕ → Type 0) → Type 0
 Cycled result old settled past new settled' since = MatchResult result

@@ -6,7 +6,7 @@ use Rattle.std.specs.List.{Contains}
 use Rattle.edr_device.specs.Device.{Unchanged}
 use Rattle.edr_device.specs.Draw.{image_after}
 use Rattle.edr_device.specs.Faults.{next_number}
-use Rattle.edr_device.specs.Past.{LeftSince, settled_at}
+use Rattle.edr_device.specs.Past.{MayBeLeftSince, settled_at}
 use Rattle.edr_device.specs.Pieces.{put_at}
 use Rattle.edr_device.specs.declared.moment.Call.{Call}
 use Rattle.edr_device.specs.declared.mem_nvm.MemNvm.{MemNvm}
@@ -124,7 +124,7 @@ abbrev pub memory_settled : MemNvm → ℕ → Bool
 memory_settled m = settled_at m.state
 
 abbrev pub memory_since : MemNvm → ℕ → List ℕ → Type 0
-memory_since m = LeftSince m.past.items m.state
+memory_since m = MayBeLeftSince m.past.items m.state
 
 -- nothing of this is changed
 abbrev pub MemoryStays : MemNvm → MemNvm → Type 0

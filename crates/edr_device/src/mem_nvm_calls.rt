@@ -8,7 +8,7 @@ ghost use Rattle.edr_device.specs.declared.device.TheConstants.{LONGEST_WRITE};
 use crate::calls::is_numbered;
 use crate::device::Nvm;
 use crate::mem_nvm::MemNvm;
-use crate::moment::{Call, Moment};
+use crate::moment::{Call, HeldBytes};
 use crate::stream::Failed;
 use std::alloc::{AllocError as OutOfMemory, Global};
 use std::snapshot::Snapshot;
@@ -31,7 +31,7 @@ impl MemNvm {
         let settled = vec![in alloc; true; image.len()]?;
         let stored = image.to_vec(alloc)?;
         let past = Vec::with_capacity(alloc, calls as usize)?;
-        let state = Moment { image, settled };
+        let state = HeldBytes { image, settled };
         Ok(MemNvm {
             state,
             stored,

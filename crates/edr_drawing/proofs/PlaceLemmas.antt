@@ -3,7 +3,7 @@ use Rattle.std.proofs.Common.{arith, ◌≡◌, ℕ, ◌+◌, ◌*◌, ◌/◌, 
 use Rattle.std.proofs.Math.Nat.{div-mul-le_self, mul-le-mul_right}
 use Rattle.std.proofs.lemmas.Nat.{le-div}
 use Rattle.edr_drawing.specs.declared.changes.Scale.{Scale}
-use Rattle.edr_drawing.specs.declared.lanes.Lane.{Lane}
+use Rattle.edr_drawing.specs.declared.lanes.ChartLane.{ChartLane}
 use Rattle.edr_drawing.specs.Scales.{below_top}
 use Rattle.edr_drawing.specs.Lanes.{lane_y}
 use Rattle.edr_drawing.specs.Changes.{change_y}
@@ -12,7 +12,7 @@ use Rattle.edr_drawing.specs.Changes.{change_y}
 quotient_grows : (a b k : ℕ) → 1 ≤ k → a ≤ b → a / k ≤ b / k
 quotient_grows a b k some grows = le-div (a / k) b k (omega arith) (omega (arith, div-mul-le_self a k, grows))
 
-pub slot_lower : (l : Lane) (v w : ℕ) → 1 ≤ l.top → v ≤ w → lane_y l w ≤ lane_y l v
+pub slot_lower : (l : ChartLane) (v w : ℕ) → 1 ≤ l.top → v ≤ w → lane_y l w ≤ lane_y l v
 slot_lower l v w some grows =
     let products : v * l.rise ≤ w * l.rise = mul-le-mul_right l.rise grows in
     omega (arith, quotient_grows (v * l.rise) (w * l.rise) l.top some products)

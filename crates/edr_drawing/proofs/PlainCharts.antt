@@ -7,11 +7,11 @@ use Rattle.edr_record.specs.declared.Profile.{Profile}
 use Rattle.edr_record.specs.declared.Profile.TheVariants.{Short, Long}
 use Rattle.edr_drawing.specs.declared.texts.Class.{Class}
 use Rattle.edr_drawing.specs.declared.texts.Label.{Label}
-use Rattle.edr_drawing.specs.declared.elements.Words.{Words}
-use Rattle.edr_drawing.specs.declared.elements.Words.TheVariants as words
+use Rattle.edr_drawing.specs.declared.elements.TextWords.{TextWords}
+use Rattle.edr_drawing.specs.declared.elements.TextWords.TheVariants as words
 use Rattle.edr_drawing.specs.declared.elements.Element.{Element}
 use Rattle.edr_drawing.specs.declared.elements.Element.TheVariants as element
-use Rattle.edr_drawing.specs.declared.lanes.Lane.{Lane}
+use Rattle.edr_drawing.specs.declared.lanes.ChartLane.{ChartLane}
 use Rattle.edr_drawing.specs.declared.changes.Scale.{Scale}
 use Rattle.edr_drawing.specs.Scales.{slot_x}
 use Rattle.edr_drawing.specs.Elements.{words_bytes, element_bytes, drawn}
@@ -22,7 +22,7 @@ use Rattle.edr_drawing.specs.After.{past_window, time_line, time_lines, legend, 
 use Rattle.edr_drawing.specs.Rows.{timed_row, restraint_row, bag_rows, belt_rows, event_rows, rows_chart, after_head, without_part, after_chart}
 use Rattle.edr_drawing.proofs.PlainLemmas.{Plain, plain_nil, plain_append, plain_if, plain_flat_map, plain_counted, plain_pieces}
 
-plain_words : (w : Words) → Plain (words_bytes w)
+plain_words : (w : TextWords) → Plain (words_bytes w)
 plain_words (words.Label l) = search plain_pieces
 plain_words (words.Number n) = search plain_pieces
 plain_words (words.Below n) = search plain_pieces
@@ -46,37 +46,37 @@ pub plain_drawn : (es : List Element) → Plain (drawn es)
 plain_drawn es = plain_flat_map element_bytes plain_element es
 
 -- the chart before time zero
-plain_grid : (l : Lane) → Plain (grid l)
+plain_grid : (l : ChartLane) → Plain (grid l)
 plain_grid l = plain_counted (λ i. grid_line l (l.step * i)) (λ i. search (plain_pieces, plain_element)) (l.top / l.step + 1)
 
-plain_point : (f : Profile) (l : Lane) (k : ℕ) (before : Bool) (value : ℕ) → Plain (point f l k before value)
+plain_point : (f : Profile) (l : ChartLane) (k : ℕ) (before : Bool) (value : ℕ) → Plain (point f l k before value)
 unfolding point
 plain_point f l k before value = search plain_pieces
 
-plain_points : (f : Profile) (l : Lane) (k : ℕ) (before : Bool) (vs : List (Option ℕ)) → Plain (points f l k before vs)
+plain_points : (f : Profile) (l : ChartLane) (k : ℕ) (before : Bool) (vs : List (Option ℕ)) → Plain (points f l k before vs)
 plain_points f l k before [] = plain_nil
 plain_points f l k before (None ∷ vs) = plain_points f l (k + 1) false vs
 plain_points f l k before (Some v ∷ vs) = plain_append _ _ (plain_point f l k before v) (plain_points f l (k + 1) true vs)
 
-plain_cell : (l : Lane) (k : ℕ) (v : Option ℕ) → Plain (cell l k v)
+plain_cell : (l : ChartLane) (k : ℕ) (v : Option ℕ) → Plain (cell l k v)
 plain_cell l k None = search (plain_pieces, plain_element)
 plain_cell l k (Some v) = search (plain_pieces, plain_element)
 
-plain_cells : (l : Lane) (k : ℕ) (vs : List (Option ℕ)) → Plain (cells l k vs)
+plain_cells : (l : ChartLane) (k : ℕ) (vs : List (Option ℕ)) → Plain (cells l k vs)
 plain_cells l k [] = plain_nil
 plain_cells l k (v ∷ vs) = plain_append _ _ (plain_cell l k v) (plain_cells l (k + 1) vs)
 
-plain_long_cells : (l : Lane) (k n : ℕ) (vs : List (Option ℕ)) → Plain (long_cells l k n vs)
+plain_long_cells : (l : ChartLane) (k n : ℕ) (vs : List (Option ℕ)) → Plain (long_cells l k n vs)
 plain_long_cells l k n [] = plain_drawn (gap_elements l k n)
 plain_long_cells l k n (None ∷ vs) = plain_long_cells l k (n + 1) vs
 plain_long_cells l k n (Some v ∷ vs) =
     plain_append _ _ (plain_append _ _ (plain_drawn (gap_elements l k n)) (plain_drawn (element.Point (slot_x Long (k + n)) (lane_y l v) ∷ []))) (plain_long_cells l (k + n + 1) 0 vs)
 
-plain_cells_of : (f : Profile) (l : Lane) (vs : List (Option ℕ)) → Plain (cells_of f l vs)
+plain_cells_of : (f : Profile) (l : ChartLane) (vs : List (Option ℕ)) → Plain (cells_of f l vs)
 plain_cells_of Short l vs = plain_cells l 0 vs
 plain_cells_of Long l vs = plain_long_cells l 0 0 vs
 
-plain_lane : (l : Lane) (vs : List (Option ℕ)) → Plain (drawn_lane l vs)
+plain_lane : (l : ChartLane) (vs : List (Option ℕ)) → Plain (drawn_lane l vs)
 unfolding drawn_lane
 plain_lane l vs = search (plain_pieces, plain_grid, plain_points, plain_cells_of) depth 40
 
@@ -205,7 +205,7 @@ unfolding changes_chart
 plain_changes_chart s c = search (plain_pieces, plain_after_frame, plain_end_line, plain_curves, plain_maxima) depth 40
 
 -- the rows below it
-plain_timed_row : (s : Scale) (y : ℕ) (bold : Bool) (l : Label) (t : ℕ) (w : Words) → Plain (timed_row s y bold l t w)
+plain_timed_row : (s : Scale) (y : ℕ) (bold : Bool) (l : Label) (t : ℕ) (w : TextWords) → Plain (timed_row s y bold l t w)
 unfolding timed_row
 plain_timed_row s y bold l t w = search (plain_nil, plain_append, plain_element)
 

@@ -4,8 +4,8 @@ use Rattle.std.specs.List.{list_all}
 use Rattle.std.specs.Fmt.{signed_decimal, digits, digits_onto, digit_glyph}
 use Rattle.std.proofs.lemmas.List.Elements.{All-nil, All-cons, All-append}
 use Rattle.std.proofs.lemmas.Bool.{and_parts}
-use Rattle.edr_drawing.specs.declared.texts.Mark.{Mark}
-use Rattle.edr_drawing.specs.declared.texts.Mark.TheVariants as mark
+use Rattle.edr_drawing.specs.declared.texts.ChartText.{ChartText}
+use Rattle.edr_drawing.specs.declared.texts.ChartText.TheVariants as mark
 use Rattle.edr_drawing.specs.declared.texts.Class.{Class}
 use Rattle.edr_drawing.specs.declared.texts.Class.TheVariants as class
 use Rattle.edr_drawing.specs.declared.texts.Label.{Label}
@@ -75,7 +75,7 @@ plain_signed (pos n) = plain_decimal n
 plain_signed (negsuc n) = plain_cons 45 (decimal (suc n)) (omega arith) (plain_decimal (suc n))
 
 -- the fixed texts
-low_mark : (m : Mark) → all_low (mark_bytes m) ≡ true
+low_mark : (m : ChartText) → all_low (mark_bytes m) ≡ true
 unfolding mark_bytes
 low_mark mark.TextX = refl
 low_mark m = refl
@@ -95,7 +95,7 @@ unfolding tag_bytes
 low_tag tag.BeforeChart = refl
 low_tag t = refl
 
-pub plain_mark : (m : Mark) → Plain (mark_bytes m)
+pub plain_mark : (m : ChartText) → Plain (mark_bytes m)
 plain_mark m = plain_fixed (mark_bytes m) (low_mark m)
 
 pub plain_class : (c : Class) → Plain (class_bytes c)

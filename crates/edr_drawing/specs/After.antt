@@ -5,12 +5,12 @@ use Rattle.edr_record.specs.declared.Extreme.{Extreme}
 use Rattle.edr_record.specs.Parts.{CrashPart}
 use Rattle.edr_record.specs.Bounds.{point_count}
 use Rattle.edr_drawing.specs.declared.pieces.Piece.TheVariants as piece
-use Rattle.edr_drawing.specs.declared.texts.Mark.TheVariants as mark
+use Rattle.edr_drawing.specs.declared.texts.ChartText.TheVariants as mark
 use Rattle.edr_drawing.specs.declared.texts.Class.{Class}
 use Rattle.edr_drawing.specs.declared.texts.Class.TheVariants as class
 use Rattle.edr_drawing.specs.declared.texts.Label.{Label}
 use Rattle.edr_drawing.specs.declared.texts.Label.TheVariants as label
-use Rattle.edr_drawing.specs.declared.elements.Words.TheVariants as words
+use Rattle.edr_drawing.specs.declared.elements.TextWords.TheVariants as words
 use Rattle.edr_drawing.specs.declared.elements.Element.{Element}
 use Rattle.edr_drawing.specs.declared.elements.Element.TheVariants as element
 use Rattle.edr_drawing.specs.declared.changes.Scale.{Scale}

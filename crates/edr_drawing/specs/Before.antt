@@ -10,10 +10,10 @@ use Rattle.edr_drawing.specs.declared.texts.Label.{Label}
 use Rattle.edr_drawing.specs.declared.texts.Label.TheVariants as label
 use Rattle.edr_drawing.specs.declared.tags.Tag.{Tag}
 use Rattle.edr_drawing.specs.declared.tags.Tag.TheVariants as tag
-use Rattle.edr_drawing.specs.declared.elements.Words.TheVariants as words
+use Rattle.edr_drawing.specs.declared.elements.TextWords.TheVariants as words
 use Rattle.edr_drawing.specs.declared.elements.Element.{Element}
 use Rattle.edr_drawing.specs.declared.elements.Element.TheVariants as element
-use Rattle.edr_drawing.specs.declared.lanes.Lane.{Lane}
+use Rattle.edr_drawing.specs.declared.lanes.ChartLane.{ChartLane}
 use Rattle.edr_drawing.specs.Pieces.{pieces}
 use Rattle.edr_drawing.specs.Elements.{drawn}
 use Rattle.edr_drawing.specs.Scales.{time_at, slot_x, least_step, scale_top, counted}
@@ -33,7 +33,7 @@ greatest (None ∷ vs) = greatest vs
 greatest (Some v ∷ vs) = max v (greatest vs)
 
 -- the lane of speed: its top is at least 1 km/h, and it has at most four steps
-abbrev pub speed_scale : Profile → ℕ → Lane
+abbrev pub speed_scale : Profile → ℕ → ChartLane
 speed_scale f most = record {
   profile = f;
   foot = 220;
@@ -43,10 +43,10 @@ speed_scale f most = record {
   room = 170;
 }
 
-abbrev pub speed_lane : Profile → List (Option ℕ) → Lane
+abbrev pub speed_lane : Profile → List (Option ℕ) → ChartLane
 speed_lane f slots = speed_scale f (max (greatest slots) 1)
 
-abbrev pub throttle_lane : Profile → Lane
+abbrev pub throttle_lane : Profile → ChartLane
 throttle_lane f = record { profile = f; foot = 346; rise = 70; top = 100; step = 50; room = 96 }
 
 -- how long before time zero time k of eleven is, in tenths of a second

@@ -1,15 +1,15 @@
 -- The elements of a chart, each from whole numbers alone.
 use Rattle.std.specs.Prelude.{ℕ, ◌-◌, ◌/◌, ◌%◌, List, [], ◌∷◌, ◌++◌, flat_map}
 use Rattle.edr_drawing.specs.declared.pieces.Piece.TheVariants as piece
-use Rattle.edr_drawing.specs.declared.texts.Mark.TheVariants as mark
-use Rattle.edr_drawing.specs.declared.elements.Words.{Words}
-use Rattle.edr_drawing.specs.declared.elements.Words.TheVariants as words
+use Rattle.edr_drawing.specs.declared.texts.ChartText.TheVariants as mark
+use Rattle.edr_drawing.specs.declared.elements.TextWords.{TextWords}
+use Rattle.edr_drawing.specs.declared.elements.TextWords.TheVariants as words
 use Rattle.edr_drawing.specs.declared.elements.Element.{Element}
 use Rattle.edr_drawing.specs.declared.elements.Element.TheVariants as element
 use Rattle.edr_drawing.specs.Pieces.{pieces}
 
 -- the words of a text
-abbrev pub words_bytes : Words → List ℕ
+abbrev pub words_bytes : TextWords → List ℕ
 words_bytes (words.Label l) = pieces (piece.Label l ∷ [])
 words_bytes (words.Number n) = pieces (piece.Number n ∷ [])
 words_bytes (words.Below n) = pieces (piece.Mark mark.Minus ∷ piece.Number n ∷ [])

@@ -7,7 +7,7 @@ use Rattle.edr_image.specs.Reports.{Report}
 use Rattle.edr_report.specs.Lines.{Line}
 use Rattle.edr_drawing.specs.declared.elements.Element.{Element}
 use Rattle.edr_drawing.specs.declared.elements.Element.TheVariants as element
-use Rattle.edr_drawing.specs.declared.lanes.Lane.{Lane}
+use Rattle.edr_drawing.specs.declared.lanes.ChartLane.{ChartLane}
 use Rattle.edr_drawing.specs.declared.changes.Scale.{Scale}
 use Rattle.edr_drawing.specs.Elements.{drawn}
 use Rattle.edr_drawing.specs.Scales.{slot_x}
@@ -17,12 +17,12 @@ use Rattle.edr_drawing.specs.Page.{page_bytes}
 use Rattle.edr_drawing.specs.Tables.{row}
 
 -- the bytes stand in the others, in one piece
-abbrev pub IsPart : List ℕ → List ℕ → Type 0
-IsPart part whole = (front : List ℕ) × (back : List ℕ) × (whole ≡ front ++ part ++ back)
+abbrev pub IsInOnePiece : List ℕ → List ℕ → Type 0
+IsInOnePiece part whole = (front : List ℕ) × (back : List ℕ) × (whole ≡ front ++ part ++ back)
 
 -- each of the lines has its row there, word for word
 abbrev pub HasRows : List Line → List ℕ → Type 0
-HasRows lines page = (l : Line) → Contains lines l → IsPart (row l.name l.value) page
+HasRows lines page = (l : Line) → Contains lines l → IsInOnePiece (row l.name l.value) page
 
 -- of each page, with its reports, what it was found in and its digest, this is so
 abbrev pub OfPages : (List Report → List Found → List ℕ → List ℕ → Type 0) → Type 0
@@ -37,7 +37,7 @@ present k (None ∷ vs) = present (k + 1) vs
 present k (Some v ∷ vs) = (k, v) ∷ present (k + 1) vs
 
 -- the mark of a slot that is there
-abbrev pub mark_of : Profile → Lane → ℕ × ℕ → Element
+abbrev pub mark_of : Profile → ChartLane → ℕ × ℕ → Element
 mark_of Short l e = element.Dot (slot_x Short e.0) (lane_y l e.1)
 mark_of Long l e = element.Point (slot_x Long e.0) (lane_y l e.1)
 
@@ -52,11 +52,11 @@ is_mark (element.Diamond x y c) = false
 is_mark (element.Flag x y) = false
 
 -- the elements of the fields of slots, whose marks are those of the slots that are there, in order
-abbrev pub HasMarks : Profile → Lane → List (Option ℕ) → List ℕ → Type 0
+abbrev pub HasMarks : Profile → ChartLane → List (Option ℕ) → List ℕ → Type 0
 HasMarks f l vs bytes = (es : List Element) × (bytes ≡ drawn es) × (filter is_mark es ≡ map (mark_of f l) (present 0 vs))
 
 -- the points of a path, each joined to the one before or not, which are those of the slots that are there, in order
-abbrev pub HasPoints : Profile → Lane → List (Option ℕ) → List ℕ → Type 0
+abbrev pub HasPoints : Profile → ChartLane → List (Option ℕ) → List ℕ → Type 0
 HasPoints f l vs bytes =
     (ps : List (Bool × (ℕ × ℕ))) × (map (λ p. p.1) ps ≡ present 0 vs) × (bytes ≡ flat_map (λ p. point f l p.1.0 p.0 p.1.1) ps)
 

@@ -7,8 +7,8 @@ use Rattle.edr_drawing.specs.declared.texts.Class.TheVariants as class
 use Rattle.edr_drawing.specs.declared.texts.Label.{Label}
 use Rattle.edr_drawing.specs.declared.texts.Label.TheVariants as label
 use Rattle.edr_drawing.specs.declared.tags.Tag.TheVariants as tag
-use Rattle.edr_drawing.specs.declared.elements.Words.{Words}
-use Rattle.edr_drawing.specs.declared.elements.Words.TheVariants as words
+use Rattle.edr_drawing.specs.declared.elements.TextWords.{TextWords}
+use Rattle.edr_drawing.specs.declared.elements.TextWords.TheVariants as words
 use Rattle.edr_drawing.specs.declared.elements.Element.{Element}
 use Rattle.edr_drawing.specs.declared.elements.Element.TheVariants as element
 use Rattle.edr_drawing.specs.declared.changes.Scale.{Scale}
@@ -19,14 +19,14 @@ use Rattle.edr_drawing.specs.Changes.{scale_of, time_x}
 use Rattle.edr_drawing.specs.After.{text, changes_chart}
 
 -- words beside a flag: right of it, or left of it far to the right
-unfoldable pub beside : ℕ → ℕ → Bool → Words → Element
+unfoldable pub beside : ℕ → ℕ → Bool → TextWords → Element
 beside x y bold w =
     if nat_lt x 1_200
     then element.Text (x + 22) y (if bold then class.RightBold else class.Right) w
     else element.Text (x - 22) y (if bold then class.LeftBold else class.Left) w
 
 -- the row of something at a time
-unfoldable pub timed_row : Scale → ℕ → Bool → Label → ℕ → Words → List ℕ
+unfoldable pub timed_row : Scale → ℕ → Bool → Label → ℕ → TextWords → List ℕ
 timed_row s y bold l t w =
     drawn
     (name (y + 25) (if bold then class.Bold else class.Plain) l

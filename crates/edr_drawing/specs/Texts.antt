@@ -1,14 +1,14 @@
 -- The fixed texts of the elements of a chart, their classes and the words of the charts.
 use Rattle.std.specs.Prelude.{ℕ, List, codes}
-use Rattle.edr_drawing.specs.declared.texts.Mark.{Mark}
-use Rattle.edr_drawing.specs.declared.texts.Mark.TheVariants as mark
+use Rattle.edr_drawing.specs.declared.texts.ChartText.{ChartText}
+use Rattle.edr_drawing.specs.declared.texts.ChartText.TheVariants as mark
 use Rattle.edr_drawing.specs.declared.texts.Class.{Class}
 use Rattle.edr_drawing.specs.declared.texts.Class.TheVariants as class
 use Rattle.edr_drawing.specs.declared.texts.Label.{Label}
 use Rattle.edr_drawing.specs.declared.texts.Label.TheVariants as label
 
 -- the fixed texts of the elements of a chart
-unfoldable pub mark_bytes : Mark → List ℕ
+unfoldable pub mark_bytes : ChartText → List ℕ
 mark_bytes mark.TextX = codes "<text x=\""
 mark_bytes mark.Y = codes "\" y=\""
 mark_bytes mark.Class = codes "\" class=\""

@@ -7,11 +7,11 @@ ghost use Rattle.edr_drawing.specs.After.{past_window, time_line, time_lines, le
 
 use crate::before::name;
 use crate::changes::{Scale, window_of};
-use crate::elements::{Element, Words, draw};
+use crate::elements::{Element, TextWords, draw};
 use crate::pieces::{Piece, put};
 use crate::scales::{LEFT, RIGHT};
 use crate::tags::Tag;
-use crate::texts::{Class, Label, Mark};
+use crate::texts::{ChartText, Class, Label};
 use edr_record::{Crash, Extreme};
 use std::alloc::AllocError as OutOfMemory;
 
@@ -71,7 +71,7 @@ fn draw_time(out: &mut Vec<u8>, scale: &Scale, time: u16) -> Result<(), OutOfMem
                 x,
                 y: 522,
                 class,
-                words: Words::Number(u32::from(time)),
+                words: TextWords::Number(u32::from(time)),
             },
         ],
     )
@@ -102,7 +102,7 @@ fn draw_legend(out: &mut Vec<u8>) -> Result<(), OutOfMemory>
                 x: LEFT + 6,
                 y: 28,
                 class: Class::EndBold,
-                words: Words::Label(Label::TimeZero),
+                words: TextWords::Label(Label::TimeZero),
             },
             name(100, Class::Bold, Label::Change),
             name(132, Class::Plain, Label::ChangeOfSpeed),
@@ -126,13 +126,13 @@ fn draw_legend(out: &mut Vec<u8>) -> Result<(), OutOfMemory>
 
 /// A text of these words.
 pub fn text(x: u32, y: u32, class: Class, label: Label) -> Element
-    ensures { result ≡ Element.Text x y class (Words.Label label) }
+    ensures { result ≡ Element.Text x y class (TextWords.Label label) }
 {
     Element::Text {
         x,
         y,
         class,
-        words: Words::Label(label),
+        words: TextWords::Label(label),
     }
 }
 
@@ -163,9 +163,9 @@ fn draw_level(out: &mut Vec<u8>, scale: &Scale, above: u32) -> Result<(), OutOfM
         Class::Grid
     };
     let words = if above < bottom {
-        Words::Below(bottom - above)
+        TextWords::Below(bottom - above)
     } else {
-        Words::Number(above - bottom)
+        TextWords::Number(above - bottom)
     };
     draw(
         out,
@@ -260,13 +260,17 @@ fn put_point(out: &mut Vec<u8>, scale: &Scale, i: u16, change: i16) -> Result<()
     requires place { i ≤ 26 }
     ensures { OnOk result (out.new.items ≡ out.old.items ++ axis_point scale.now i change) }
 {
-    let join = if i == 0 { Mark::MoveTo } else { Mark::LineTo };
+    let join = if i == 0 {
+        ChartText::MoveTo
+    } else {
+        ChartText::LineTo
+    };
     put(
         out,
         &[
             Piece::Mark(join),
             Piece::Number(scale.x(10 * i)),
-            Piece::Mark(Mark::Space),
+            Piece::Mark(ChartText::Space),
             Piece::Number(scale.y(change)),
         ],
     )
@@ -323,13 +327,13 @@ fn draw_curve(
     put(
         out,
         &[
-            Piece::Mark(Mark::PathClass),
+            Piece::Mark(ChartText::PathClass),
             Piece::Class(class),
-            Piece::Mark(Mark::Points),
+            Piece::Mark(ChartText::Points),
         ],
     )?;
     put_points(out, scale, points)?;
-    put(out, &[Piece::Mark(Mark::Closed)])
+    put(out, &[Piece::Mark(ChartText::Closed)])
 }
 
 // Draws a dot at each point along.
@@ -370,7 +374,7 @@ fn draw_number(out: &mut Vec<u8>, x: u32, y: u32, class: Class, kmh: i16) -> Res
             x,
             y,
             class,
-            words: Words::Change(kmh),
+            words: TextWords::Change(kmh),
         }],
     )
 }

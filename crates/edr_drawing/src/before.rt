@@ -2,11 +2,11 @@
 
 ghost use Rattle.std.specs.Prelude.{◌≡◌, ◌++◌, ◌≤◌, ◌<◌, ◌+◌, None, OnOk, All, length, take};
 ghost use Rattle.edr_record.specs.Bounds.{IsUpTo, slots_in};
-ghost use Rattle.edr_drawing.specs.Lanes.{IsLane};
+ghost use Rattle.edr_drawing.specs.Lanes.{IsChartLane};
 ghost use Rattle.edr_drawing.specs.Before.{greatest, speed_lane, throttle_lane, tenths_before, second_line, second_lines, before_frame, before_speed, before_throttle, switch_field, switches, switch_run, are_same, switch_runs, brake_slots, second_x, before_brake, description, described, named_switch, before_switches, before_head, before_chart};
 
-use crate::elements::{Element, Words, draw};
-use crate::lanes::{Field, Lane, draw_lane, draw_run};
+use crate::elements::{Element, TextWords, draw};
+use crate::lanes::{ChartLane, RunField, draw_lane, draw_run};
 use crate::pieces::{Piece, put};
 use crate::scales::{LEFT, RIGHT, least_step, scale_top, slot_x, time_at};
 use crate::tags::Tag;
@@ -16,13 +16,13 @@ use std::alloc::AllocError as OutOfMemory;
 
 /// A text at the left of a chart.
 pub fn name(y: u32, class: Class, label: Label) -> Element
-    ensures { result ≡ Element.Text 0 y class (Words.Label label) }
+    ensures { result ≡ Element.Text 0 y class (TextWords.Label label) }
 {
     Element::Text {
         x: 0,
         y,
         class,
-        words: Words::Label(label),
+        words: TextWords::Label(label),
     }
 }
 
@@ -53,13 +53,13 @@ fn greatest(slots: &[Option<u16>]) -> u16
     most
 }
 
-fn speed_lane(profile: Profile, slots: &[Option<u16>]) -> Lane
+fn speed_lane(profile: Profile, slots: &[Option<u16>]) -> ChartLane
     ensures lane { result ≡ speed_lane profile slots.now }
-    ensures within { IsLane result }
+    ensures within { IsChartLane result }
 {
     let most = u32::from(greatest(slots).max(1));
     let step = least_step(&[10, 20, 50, 100], 100, 4, most, 0);
-    Lane {
+    ChartLane {
         profile,
         foot: 220,
         rise: 140,
@@ -69,11 +69,11 @@ fn speed_lane(profile: Profile, slots: &[Option<u16>]) -> Lane
     }
 }
 
-fn throttle_lane(profile: Profile) -> Lane
+fn throttle_lane(profile: Profile) -> ChartLane
     ensures lane { result ≡ throttle_lane profile }
-    ensures within { IsLane result }
+    ensures within { IsChartLane result }
 {
-    Lane {
+    ChartLane {
         profile,
         foot: 346,
         rise: 70,
@@ -104,10 +104,10 @@ fn draw_second_line(out: &mut Vec<u8>, profile: Profile, k: u32) -> Result<(), O
         (
             Class::Grid,
             Class::Centre,
-            Words::Before(tenths_before(profile, k)),
+            TextWords::Before(tenths_before(profile, k)),
         )
     } else {
-        (Class::Zero, Class::CentreBold, Words::Zero)
+        (Class::Zero, Class::CentreBold, TextWords::Zero)
     };
     draw(
         out,
@@ -163,7 +163,7 @@ fn draw_frame(out: &mut Vec<u8>, profile: Profile) -> Result<(), OutOfMemory>
                 x: time_at(10),
                 y: 26,
                 class: Class::CentreBold,
-                words: Words::Label(Label::TimeZero),
+                words: TextWords::Label(Label::TimeZero),
             },
         ],
     )
@@ -250,7 +250,7 @@ fn draw_switch(out: &mut Vec<u8>, x: u32, y: u32, switch: Option<bool>) -> Resul
                 x,
                 y: y + 26,
                 class,
-                words: Words::Label(label),
+                words: TextWords::Label(label),
             },
         ],
     )
@@ -285,7 +285,7 @@ fn draw_switch_run(
         Some(false) => (Class::Off, Class::Centre, Label::Off),
         None => (Class::Gap, Class::CentreGap, Label::None),
     };
-    let field = Field {
+    let field = RunField {
         y: 367,
         height: 34,
         class,

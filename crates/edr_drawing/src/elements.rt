@@ -4,12 +4,12 @@ ghost use Rattle.std.specs.Prelude.{◌≡◌, ◌++◌, OnOk};
 ghost use Rattle.edr_drawing.specs.Elements.{words_bytes, element_bytes, drawn};
 
 use crate::pieces::{Piece, put};
-use crate::texts::{Class, Label, Mark};
+use crate::texts::{ChartText, Class, Label};
 use std::alloc::AllocError as OutOfMemory;
 
 /// The words of a text.
 #[derive(Clone, Copy)]
-pub enum Words {
+pub enum TextWords {
     Label(Label),
     Number(u32),
     /// A number below 0, by its size.
@@ -31,7 +31,7 @@ pub enum Element {
         x: u32,
         y: u32,
         class: Class,
-        words: Words,
+        words: TextWords,
     },
     Line {
         x: u32,
@@ -72,35 +72,38 @@ pub enum Element {
 }
 
 // Appends the words of a text.
-fn put_words(out: &mut Vec<u8>, words: Words) -> Result<(), OutOfMemory>
+fn put_words(out: &mut Vec<u8>, words: TextWords) -> Result<(), OutOfMemory>
     ensures { OnOk result (out.new.items ≡ out.old.items ++ words_bytes words) }
 {
     match words {
-        Words::Label(label) => put(out, &[Piece::Label(label)]),
-        Words::Number(n) => put(out, &[Piece::Number(n)]),
-        Words::Below(n) => put(out, &[Piece::Mark(Mark::Minus), Piece::Number(n)]),
-        Words::Change(z) => put(out, &[Piece::Change(z)]),
-        Words::Before(tenths) => put(
+        TextWords::Label(label) => put(out, &[Piece::Label(label)]),
+        TextWords::Number(n) => put(out, &[Piece::Number(n)]),
+        TextWords::Below(n) => put(out, &[Piece::Mark(ChartText::Minus), Piece::Number(n)]),
+        TextWords::Change(z) => put(out, &[Piece::Change(z)]),
+        TextWords::Before(tenths) => put(
             out,
             &[
-                Piece::Mark(Mark::Minus),
+                Piece::Mark(ChartText::Minus),
                 Piece::Number(tenths / 10),
-                Piece::Mark(Mark::Tenth),
+                Piece::Mark(ChartText::Tenth),
                 Piece::Number(tenths % 10),
             ],
         ),
-        Words::Zero => put(out, &[Piece::Mark(Mark::ZeroSeconds)]),
-        Words::Milliseconds(t) => put(
+        TextWords::Zero => put(out, &[Piece::Mark(ChartText::ZeroSeconds)]),
+        TextWords::Milliseconds(t) => put(
             out,
-            &[Piece::Number(u32::from(t)), Piece::Mark(Mark::Milliseconds)],
+            &[
+                Piece::Number(u32::from(t)),
+                Piece::Mark(ChartText::Milliseconds),
+            ],
         ),
-        Words::Extreme { at, kmh } => put(
+        TextWords::Extreme { at, kmh } => put(
             out,
             &[
                 Piece::Number(u32::from(at)),
-                Piece::Mark(Mark::MillisecondsComma),
+                Piece::Mark(ChartText::MillisecondsComma),
                 Piece::Change(kmh),
-                Piece::Mark(Mark::Kmh),
+                Piece::Mark(ChartText::Kmh),
             ],
         ),
     }
@@ -112,24 +115,24 @@ fn put_text(
     x: u32,
     y: u32,
     class: Class,
-    words: Words,
+    words: TextWords,
 ) -> Result<(), OutOfMemory>
     ensures { OnOk result (out.new.items ≡ out.old.items ++ element_bytes (Element.Text x y class words)) }
 {
     put(
         out,
         &[
-            Piece::Mark(Mark::TextX),
+            Piece::Mark(ChartText::TextX),
             Piece::Number(x),
-            Piece::Mark(Mark::Y),
+            Piece::Mark(ChartText::Y),
             Piece::Number(y),
-            Piece::Mark(Mark::Class),
+            Piece::Mark(ChartText::Class),
             Piece::Class(class),
-            Piece::Mark(Mark::Inside),
+            Piece::Mark(ChartText::Inside),
         ],
     )?;
     put_words(out, words)?;
-    put(out, &[Piece::Mark(Mark::TextEnd)])
+    put(out, &[Piece::Mark(ChartText::TextEnd)])
 }
 
 // Appends a line.
@@ -144,18 +147,18 @@ fn put_line(
     put(
         out,
         &[
-            Piece::Mark(Mark::PathClass),
+            Piece::Mark(ChartText::PathClass),
             Piece::Class(class),
-            Piece::Mark(Mark::Points),
-            Piece::Mark(Mark::MoveTo),
+            Piece::Mark(ChartText::Points),
+            Piece::Mark(ChartText::MoveTo),
             Piece::Number(from.0),
-            Piece::Mark(Mark::Space),
+            Piece::Mark(ChartText::Space),
             Piece::Number(from.1),
-            Piece::Mark(Mark::LineTo),
+            Piece::Mark(ChartText::LineTo),
             Piece::Number(to.0),
-            Piece::Mark(Mark::Space),
+            Piece::Mark(ChartText::Space),
             Piece::Number(to.1),
-            Piece::Mark(Mark::Closed),
+            Piece::Mark(ChartText::Closed),
         ],
     )
 }
@@ -173,17 +176,17 @@ fn put_rect(
     put(
         out,
         &[
-            Piece::Mark(Mark::RectX),
+            Piece::Mark(ChartText::RectX),
             Piece::Number(at.0),
-            Piece::Mark(Mark::Y),
+            Piece::Mark(ChartText::Y),
             Piece::Number(at.1),
-            Piece::Mark(Mark::Width),
+            Piece::Mark(ChartText::Width),
             Piece::Number(width),
-            Piece::Mark(Mark::Height),
+            Piece::Mark(ChartText::Height),
             Piece::Number(height),
-            Piece::Mark(Mark::Class),
+            Piece::Mark(ChartText::Class),
             Piece::Class(class),
-            Piece::Mark(Mark::Closed),
+            Piece::Mark(ChartText::Closed),
         ],
     )
 }
@@ -195,11 +198,11 @@ fn put_dot(out: &mut Vec<u8>, x: u32, y: u32) -> Result<(), OutOfMemory>
     put(
         out,
         &[
-            Piece::Mark(Mark::DotX),
+            Piece::Mark(ChartText::DotX),
             Piece::Number(x),
-            Piece::Mark(Mark::DotY),
+            Piece::Mark(ChartText::DotY),
             Piece::Number(y),
-            Piece::Mark(Mark::DotEnd),
+            Piece::Mark(ChartText::DotEnd),
         ],
     )
 }
@@ -211,11 +214,11 @@ fn put_point(out: &mut Vec<u8>, x: u32, y: u32) -> Result<(), OutOfMemory>
     put(
         out,
         &[
-            Piece::Mark(Mark::DotX),
+            Piece::Mark(ChartText::DotX),
             Piece::Number(x),
-            Piece::Mark(Mark::DotY),
+            Piece::Mark(ChartText::DotY),
             Piece::Number(y),
-            Piece::Mark(Mark::PointEnd),
+            Piece::Mark(ChartText::PointEnd),
         ],
     )
 }
@@ -227,11 +230,11 @@ fn put_square(out: &mut Vec<u8>, x: u32, y: u32) -> Result<(), OutOfMemory>
     put(
         out,
         &[
-            Piece::Mark(Mark::RectX),
+            Piece::Mark(ChartText::RectX),
             Piece::Number(x.saturating_sub(8)),
-            Piece::Mark(Mark::Y),
+            Piece::Mark(ChartText::Y),
             Piece::Number(y.saturating_sub(8)),
-            Piece::Mark(Mark::SquareEnd),
+            Piece::Mark(ChartText::SquareEnd),
         ],
     )
 }
@@ -243,14 +246,14 @@ fn put_diamond(out: &mut Vec<u8>, x: u32, y: u32, class: Class) -> Result<(), Ou
     put(
         out,
         &[
-            Piece::Mark(Mark::PathClass),
+            Piece::Mark(ChartText::PathClass),
             Piece::Class(class),
-            Piece::Mark(Mark::Points),
-            Piece::Mark(Mark::MoveTo),
+            Piece::Mark(ChartText::Points),
+            Piece::Mark(ChartText::MoveTo),
             Piece::Number(x),
-            Piece::Mark(Mark::Space),
+            Piece::Mark(ChartText::Space),
             Piece::Number(y.saturating_sub(15)),
-            Piece::Mark(Mark::DiamondEnd),
+            Piece::Mark(ChartText::DiamondEnd),
         ],
     )
 }
@@ -262,11 +265,11 @@ fn put_flag(out: &mut Vec<u8>, x: u32, y: u32) -> Result<(), OutOfMemory>
     put(
         out,
         &[
-            Piece::Mark(Mark::FlagAt),
+            Piece::Mark(ChartText::FlagAt),
             Piece::Number(x),
-            Piece::Mark(Mark::Space),
+            Piece::Mark(ChartText::Space),
             Piece::Number(y),
-            Piece::Mark(Mark::FlagEnd),
+            Piece::Mark(ChartText::FlagEnd),
         ],
     )
 }

@@ -3,19 +3,19 @@
 ghost use Rattle.std.specs.Prelude.{◌≡◌, ◌++◌, ◌≤◌, ◌<◌, ◌+◌, ◌*◌, ◌-◌, ◌/◌, false, All, IfSome, OnOk, length};
 ghost use Rattle.edr_record.specs.Bounds.{slots_in};
 ghost use Rattle.edr_drawing.specs.Elements.{drawn};
-ghost use Rattle.edr_drawing.specs.Lanes.{IsLane, lane_y, grid, grid_line, point, points, none_field, cell, cells, field_elements, gap_elements, long_cells, cells_of, drawn_lane};
+ghost use Rattle.edr_drawing.specs.Lanes.{IsChartLane, lane_y, grid, grid_line, point, points, none_field, cell, cells, field_elements, gap_elements, long_cells, cells_of, drawn_lane};
 
-use crate::elements::{Element, Words, draw};
+use crate::elements::{Element, TextWords, draw};
 use crate::pieces::{Piece, put};
 use crate::scales::{LEFT, RIGHT, slot_x};
-use crate::texts::{Class, Label, Mark};
+use crate::texts::{ChartText, Class, Label};
 use edr_record::Profile;
 use std::alloc::AllocError as OutOfMemory;
 
 /// A lane: the profile of its slots, where its 0 stands, how far above that its top stands, which value that is, the step between its lines, and
 /// how much room it has above its foot.
 #[derive(Clone, Copy)]
-pub struct Lane {
+pub struct ChartLane {
     pub profile: Profile,
     pub foot: u32,
     pub rise: u32,
@@ -25,8 +25,8 @@ pub struct Lane {
 }
 
 /// Where a value stands up.
-fn lane_y(lane: &Lane, value: u32) -> u32
-    requires lane { IsLane lane.now }
+fn lane_y(lane: &ChartLane, value: u32) -> u32
+    requires lane { IsChartLane lane.now }
     requires value { value ≤ 100_000 }
     ensures place { result ≡ lane_y lane.now value }
     ensures range { result ≤ 1_000 }
@@ -35,8 +35,8 @@ fn lane_y(lane: &Lane, value: u32) -> u32
 }
 
 // Draws the line of a value, with its number.
-fn draw_line(out: &mut Vec<u8>, lane: &Lane, value: u32) -> Result<(), OutOfMemory>
-    requires lane { IsLane lane.now }
+fn draw_line(out: &mut Vec<u8>, lane: &ChartLane, value: u32) -> Result<(), OutOfMemory>
+    requires lane { IsChartLane lane.now }
     requires value { value ≤ 100_000 }
     ensures { OnOk result (out.new.items ≡ out.old.items ++ grid_line lane.now value) }
 {
@@ -55,15 +55,15 @@ fn draw_line(out: &mut Vec<u8>, lane: &Lane, value: u32) -> Result<(), OutOfMemo
                 x: LEFT - 14,
                 y: y + 9,
                 class: Class::Scale,
-                words: Words::Number(value),
+                words: TextWords::Number(value),
             },
         ],
     )
 }
 
 // Draws a line at each step.
-fn draw_grid(out: &mut Vec<u8>, lane: &Lane) -> Result<(), OutOfMemory>
-    requires { IsLane lane.now }
+fn draw_grid(out: &mut Vec<u8>, lane: &ChartLane) -> Result<(), OutOfMemory>
+    requires { IsChartLane lane.now }
     ensures { OnOk result (out.new.items ≡ out.old.items ++ grid lane.now) }
 {
     for i in 0..lane.top / lane.step + 1 {
@@ -76,31 +76,35 @@ fn draw_grid(out: &mut Vec<u8>, lane: &Lane) -> Result<(), OutOfMemory>
 #[tactic(auto, unfolding(crate::specs::Lanes::point))]
 fn put_point(
     out: &mut Vec<u8>,
-    lane: &Lane,
+    lane: &ChartLane,
     k: u32,
     before: bool,
     value: u16,
 ) -> Result<(), OutOfMemory>
-    requires lane { IsLane lane.now }
+    requires lane { IsChartLane lane.now }
     requires slot { k < 201 }
     ensures { OnOk result (out.new.items
         ≡ out.old.items ++ point lane.now.profile lane.now k before value) }
 {
-    let join = if before { Mark::LineTo } else { Mark::MoveTo };
+    let join = if before {
+        ChartText::LineTo
+    } else {
+        ChartText::MoveTo
+    };
     put(
         out,
         &[
             Piece::Mark(join),
             Piece::Number(slot_x(lane.profile, k)),
-            Piece::Mark(Mark::Space),
+            Piece::Mark(ChartText::Space),
             Piece::Number(lane_y(lane, u32::from(value))),
         ],
     )
 }
 
 // Appends the points of all slots that are there.
-fn put_points(out: &mut Vec<u8>, lane: &Lane, slots: &[Option<u16>]) -> Result<(), OutOfMemory>
-    requires lane { IsLane lane.now }
+fn put_points(out: &mut Vec<u8>, lane: &ChartLane, slots: &[Option<u16>]) -> Result<(), OutOfMemory>
+    requires lane { IsChartLane lane.now }
     requires slots { length slots.now ≤ 201 }
     ensures { OnOk result (out.new.items
         ≡ out.old.items ++ points lane.now.profile lane.now 0 false slots.now) }
@@ -141,15 +145,20 @@ fn draw_none(out: &mut Vec<u8>, k: u32, y: u32, height: u32) -> Result<(), OutOf
                 x,
                 y: y + height / 2 + 9,
                 class: Class::CentreGap,
-                words: Words::Label(Label::None),
+                words: TextWords::Label(Label::None),
             },
         ],
     )
 }
 
 // Draws what stands in the place of a slot of a short profile.
-fn draw_cell(out: &mut Vec<u8>, lane: &Lane, k: u32, slot: Option<u16>) -> Result<(), OutOfMemory>
-    requires lane { IsLane lane.now }
+fn draw_cell(
+    out: &mut Vec<u8>,
+    lane: &ChartLane,
+    k: u32,
+    slot: Option<u16>,
+) -> Result<(), OutOfMemory>
+    requires lane { IsChartLane lane.now }
     requires slot { k < 11 }
     ensures { OnOk result (out.new.items ≡ out.old.items ++ cell lane.now k slot) }
 {
@@ -166,15 +175,15 @@ fn draw_cell(out: &mut Vec<u8>, lane: &Lane, k: u32, slot: Option<u16>) -> Resul
                 x,
                 y: y.saturating_sub(17),
                 class: Class::CentreValue,
-                words: Words::Number(u32::from(value)),
+                words: TextWords::Number(u32::from(value)),
             },
         ],
     )
 }
 
 // Draws the mark or the field of each slot of a short profile.
-fn draw_short(out: &mut Vec<u8>, lane: &Lane, slots: &[Option<u16>]) -> Result<(), OutOfMemory>
-    requires lane { IsLane lane.now }
+fn draw_short(out: &mut Vec<u8>, lane: &ChartLane, slots: &[Option<u16>]) -> Result<(), OutOfMemory>
+    requires lane { IsChartLane lane.now }
     requires slots { length slots.now ≤ 11 }
     ensures { OnOk result (out.new.items ≡ out.old.items ++ cells lane.now 0 slots.now) }
 {
@@ -186,7 +195,7 @@ fn draw_short(out: &mut Vec<u8>, lane: &Lane, slots: &[Option<u16>]) -> Result<(
 
 /// The place and the looks of the fields of runs of slots.
 #[derive(Clone, Copy)]
-pub struct Field {
+pub struct RunField {
     pub y: u32,
     pub height: u32,
     pub class: Class,
@@ -195,7 +204,12 @@ pub struct Field {
 }
 
 /// Draws the field of a run of slots of a long profile.
-pub fn draw_run(out: &mut Vec<u8>, first: u32, count: u32, field: &Field) -> Result<(), OutOfMemory>
+pub fn draw_run(
+    out: &mut Vec<u8>,
+    first: u32,
+    count: u32,
+    field: &RunField,
+) -> Result<(), OutOfMemory>
     requires run { (1 ≤ count) × (first + count ≤ 201) }
     requires place { (field.now.y ≤ 1_000) × (field.now.height ≤ 1_000) }
     ensures { OnOk result (out.new.items ≡ out.old.items ++ drawn (field_elements first count field.now)) }
@@ -216,21 +230,21 @@ pub fn draw_run(out: &mut Vec<u8>, first: u32, count: u32, field: &Field) -> Res
         x: (x + to_x) / 2,
         y: field.y + field.height / 2 + 9,
         class: field.words,
-        words: Words::Label(field.label),
+        words: TextWords::Label(field.label),
     };
     draw(out, &[rect, text])
 }
 
 // Draws the field of absent slots, if there are any.
-fn draw_gap(out: &mut Vec<u8>, lane: &Lane, first: u32, count: u32) -> Result<(), OutOfMemory>
-    requires lane { IsLane lane.now }
+fn draw_gap(out: &mut Vec<u8>, lane: &ChartLane, first: u32, count: u32) -> Result<(), OutOfMemory>
+    requires lane { IsChartLane lane.now }
     requires run { first + count ≤ 201 }
     ensures { OnOk result (out.new.items ≡ out.old.items ++ drawn (gap_elements lane.now first count)) }
 {
     if count == 0 {
         return Ok(());
     }
-    let field = Field {
+    let field = RunField {
         y: lane.foot.saturating_sub(lane.room),
         height: lane.room,
         class: Class::Gap,
@@ -241,8 +255,8 @@ fn draw_gap(out: &mut Vec<u8>, lane: &Lane, first: u32, count: u32) -> Result<()
 }
 
 // Draws the marks of a long profile, and a field for each run of absent slots.
-fn draw_long(out: &mut Vec<u8>, lane: &Lane, slots: &[Option<u16>]) -> Result<(), OutOfMemory>
-    requires lane { IsLane lane.now }
+fn draw_long(out: &mut Vec<u8>, lane: &ChartLane, slots: &[Option<u16>]) -> Result<(), OutOfMemory>
+    requires lane { IsChartLane lane.now }
     requires slots { length slots.now ≤ 201 }
     ensures { OnOk result (out.new.items ≡ out.old.items ++ long_cells lane.now 0 0 slots.now) }
 {
@@ -265,8 +279,8 @@ fn draw_long(out: &mut Vec<u8>, lane: &Lane, slots: &[Option<u16>]) -> Result<()
 }
 
 // Draws the marks and fields of the slots.
-fn draw_cells(out: &mut Vec<u8>, lane: &Lane, slots: &[Option<u16>]) -> Result<(), OutOfMemory>
-    requires lane { IsLane lane.now }
+fn draw_cells(out: &mut Vec<u8>, lane: &ChartLane, slots: &[Option<u16>]) -> Result<(), OutOfMemory>
+    requires lane { IsChartLane lane.now }
     requires slots { length slots.now ≤ slots_in lane.now.profile }
     ensures { OnOk result (out.new.items
         ≡ out.old.items ++ cells_of lane.now.profile lane.now slots.now) }
@@ -279,8 +293,12 @@ fn draw_cells(out: &mut Vec<u8>, lane: &Lane, slots: &[Option<u16>]) -> Result<(
 
 /// Draws the lane of these slots.
 #[tactic(auto, using(crate::proofs::SlotLemmas::few_slots), unfolding(crate::specs::Lanes::drawn_lane))]
-pub fn draw_lane(out: &mut Vec<u8>, lane: &Lane, slots: &[Option<u16>]) -> Result<(), OutOfMemory>
-    requires lane { IsLane lane.now }
+pub fn draw_lane(
+    out: &mut Vec<u8>,
+    lane: &ChartLane,
+    slots: &[Option<u16>],
+) -> Result<(), OutOfMemory>
+    requires lane { IsChartLane lane.now }
     requires slots { length slots.now ≤ slots_in lane.now.profile }
     ensures { OnOk result (out.new.items ≡ out.old.items ++ drawn_lane lane.now slots.now) }
 {
@@ -288,12 +306,12 @@ pub fn draw_lane(out: &mut Vec<u8>, lane: &Lane, slots: &[Option<u16>]) -> Resul
     put(
         out,
         &[
-            Piece::Mark(Mark::PathClass),
+            Piece::Mark(ChartText::PathClass),
             Piece::Class(Class::Along),
-            Piece::Mark(Mark::Points),
+            Piece::Mark(ChartText::Points),
         ],
     )?;
     put_points(out, lane, slots)?;
-    put(out, &[Piece::Mark(Mark::Closed)])?;
+    put(out, &[Piece::Mark(ChartText::Closed)])?;
     draw_cells(out, lane, slots)
 }

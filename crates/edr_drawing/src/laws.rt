@@ -5,7 +5,7 @@ ghost use Rattle.edr_record.specs.Parts.{CrashPart};
 ghost use Rattle.edr_record.specs.declared.Profile.{Profile};
 ghost use Rattle.edr_report.specs.Report.{events_lines, found_records, run_lines};
 ghost use Rattle.edr_drawing.specs.declared.changes.Scale.{Scale};
-ghost use Rattle.edr_drawing.specs.declared.lanes.Lane.{Lane};
+ghost use Rattle.edr_drawing.specs.declared.lanes.ChartLane.{ChartLane};
 ghost use Rattle.edr_drawing.specs.Lanes.{lane_y, cells_of, points};
 ghost use Rattle.edr_drawing.specs.Changes.{change_y, scale_of, span_of, time_x};
 ghost use Rattle.edr_drawing.specs.Laws.{HasMarks, HasPoints, HasRows, OfPages, StandsIn};
@@ -18,13 +18,13 @@ pub fn each_line()
 
 /// The marks of a lane are those of the slots that are there, in order, and no other; and so are the points of its path.
 pub fn no_absent()
-    ensures marks { (f : Profile) (l : Lane) (vs : List (Option ℕ)) → HasMarks f l vs (cells_of f l vs) }
-    ensures path { (f : Profile) (l : Lane) (vs : List (Option ℕ)) → HasPoints f l vs (points f l 0 false vs) }
+    ensures marks { (f : Profile) (l : ChartLane) (vs : List (Option ℕ)) → HasMarks f l vs (cells_of f l vs) }
+    ensures path { (f : Profile) (l : ChartLane) (vs : List (Option ℕ)) → HasPoints f l vs (points f l 0 false vs) }
 {}
 
 /// A greater value never stands lower.
 pub fn one_place()
-    ensures slots { (l : Lane) (v w : ℕ) → 1 ≤ l.top → v ≤ w → lane_y l w ≤ lane_y l v }
+    ensures slots { (l : ChartLane) (v w : ℕ) → 1 ≤ l.top → v ≤ w → lane_y l w ≤ lane_y l v }
     ensures changes { (s : Scale) (v w : ℤ) → 1 ≤ s.top + s.bottom → int_le v w ≡ true → change_y s w ≤ change_y s v }
 {}
 

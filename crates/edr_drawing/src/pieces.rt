@@ -4,14 +4,14 @@ ghost use Rattle.std.specs.Prelude.{◌≡◌, ◌++◌, OnOk};
 ghost use Rattle.edr_drawing.specs.Pieces.{piece_bytes, pieces};
 
 use crate::tags::Tag;
-use crate::texts::{Class, Label, Mark};
+use crate::texts::{ChartText, Class, Label};
 use itoa::Buffer;
 use std::alloc::AllocError as OutOfMemory;
 
 /// A piece of a page.
 #[derive(Clone, Copy)]
 pub enum Piece {
-    Mark(Mark),
+    Mark(ChartText),
     Class(Class),
     Label(Label),
     Tag(Tag),

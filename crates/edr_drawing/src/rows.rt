@@ -6,7 +6,7 @@ ghost use Rattle.edr_drawing.specs.Rows.{beside, timed_row, restraint_row, bag_r
 use crate::after::{draw_changes, text};
 use crate::before::{name, rule};
 use crate::changes::Scale;
-use crate::elements::{Element, Words, draw};
+use crate::elements::{Element, TextWords, draw};
 use crate::pieces::{Piece, put};
 use crate::scales::LEFT;
 use crate::tags::Tag;
@@ -16,7 +16,7 @@ use std::alloc::AllocError as OutOfMemory;
 
 // Words beside a flag: right of it, or left of it far to the right.
 #[tactic(auto, unfolding(crate::specs::Rows::beside))]
-fn beside(x: u32, y: u32, bold: bool, words: Words) -> Element
+fn beside(x: u32, y: u32, bold: bool, words: TextWords) -> Element
     requires { x ≤ 1_000_000 }
     ensures { result ≡ beside x y bold words }
 {
@@ -48,7 +48,7 @@ fn draw_timed(
     bold: bool,
     label: Label,
     time: u16,
-    words: Words,
+    words: TextWords,
 ) -> Result<(), OutOfMemory>
     requires span { 300 ≤ scale.now.span }
     requires place { y ≤ 2_000 }
@@ -80,7 +80,15 @@ fn draw_restraint(
     ensures { OnOk result (out.new.items ≡ out.old.items ++ restraint_row scale.now y label fired) }
 {
     match fired {
-        Some(time) => draw_timed(out, scale, y, true, label, time, Words::Milliseconds(time)),
+        Some(time) => draw_timed(
+            out,
+            scale,
+            y,
+            true,
+            label,
+            time,
+            TextWords::Milliseconds(time),
+        ),
         None => draw(
             out,
             &[
@@ -128,7 +136,15 @@ fn draw_extreme(
     ensures { OnOk result (out.new.items ≡ out.old.items ++ extreme_row scale.now y label extreme) }
 {
     let Extreme { kmh, at } = extreme;
-    draw_timed(out, scale, y, false, label, at, Words::Extreme { at, kmh })
+    draw_timed(
+        out,
+        scale,
+        y,
+        false,
+        label,
+        at,
+        TextWords::Extreme { at, kmh },
+    )
 }
 
 // Draws the row of a time.
@@ -141,9 +157,17 @@ fn draw_time(
 ) -> Result<(), OutOfMemory>
     requires span { 300 ≤ scale.now.span }
     requires place { y ≤ 2_000 }
-    ensures { OnOk result (out.new.items ≡ out.old.items ++ timed_row scale.now y false label time (Words.Milliseconds time)) }
+    ensures { OnOk result (out.new.items ≡ out.old.items ++ timed_row scale.now y false label time (TextWords.Milliseconds time)) }
 {
-    draw_timed(out, scale, y, false, label, time, Words::Milliseconds(time))
+    draw_timed(
+        out,
+        scale,
+        y,
+        false,
+        label,
+        time,
+        TextWords::Milliseconds(time),
+    )
 }
 
 // Draws the rows of the end of the event and of the greatest changes.

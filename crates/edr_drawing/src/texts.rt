@@ -5,7 +5,7 @@ ghost use Rattle.edr_drawing.specs.Texts.{mark_bytes, class_bytes, label_bytes};
 
 /// The fixed texts of the elements of a chart.
 #[derive(Clone, Copy)]
-pub enum Mark {
+pub enum ChartText {
     TextX,
     Y,
     Class,
@@ -36,41 +36,41 @@ pub enum Mark {
     Kmh,
 }
 
-impl Mark {
+impl ChartText {
     /// The text.
     #[tactic(auto, unfolding(crate::specs::Texts::mark_bytes))]
     pub fn text(self) -> &'static str
         ensures { result.now ≡ mark_bytes self }
     {
         match self {
-            Mark::TextX => "<text x=\"",
-            Mark::Y => "\" y=\"",
-            Mark::Class => "\" class=\"",
-            Mark::Inside => "\">",
-            Mark::TextEnd => "</text>\n",
-            Mark::PathClass => "<path class=\"",
-            Mark::Points => "\" d=\"",
-            Mark::MoveTo => "M",
-            Mark::LineTo => "L",
-            Mark::Space => " ",
-            Mark::Closed => "\"/>\n",
-            Mark::RectX => "<rect x=\"",
-            Mark::Width => "\" width=\"",
-            Mark::Height => "\" height=\"",
-            Mark::DotX => "<circle cx=\"",
-            Mark::DotY => "\" cy=\"",
-            Mark::DotEnd => "\" r=\"9\" class=\"p1\"/>\n",
-            Mark::PointEnd => "\" r=\"3\" class=\"p1\"/>\n",
-            Mark::SquareEnd => "\" width=\"16\" height=\"16\" class=\"p2\"/>\n",
-            Mark::DiamondEnd => "l15 15l-15 15l-15 -15z\"/>\n",
-            Mark::FlagAt => "<path class=\"flag\" d=\"M",
-            Mark::FlagEnd => "l-13 -22l26 0z\"/>\n",
-            Mark::Minus => "-",
-            Mark::Tenth => ".",
-            Mark::ZeroSeconds => "0.0",
-            Mark::Milliseconds => " ms",
-            Mark::MillisecondsComma => " ms, ",
-            Mark::Kmh => " km/h",
+            ChartText::TextX => "<text x=\"",
+            ChartText::Y => "\" y=\"",
+            ChartText::Class => "\" class=\"",
+            ChartText::Inside => "\">",
+            ChartText::TextEnd => "</text>\n",
+            ChartText::PathClass => "<path class=\"",
+            ChartText::Points => "\" d=\"",
+            ChartText::MoveTo => "M",
+            ChartText::LineTo => "L",
+            ChartText::Space => " ",
+            ChartText::Closed => "\"/>\n",
+            ChartText::RectX => "<rect x=\"",
+            ChartText::Width => "\" width=\"",
+            ChartText::Height => "\" height=\"",
+            ChartText::DotX => "<circle cx=\"",
+            ChartText::DotY => "\" cy=\"",
+            ChartText::DotEnd => "\" r=\"9\" class=\"p1\"/>\n",
+            ChartText::PointEnd => "\" r=\"3\" class=\"p1\"/>\n",
+            ChartText::SquareEnd => "\" width=\"16\" height=\"16\" class=\"p2\"/>\n",
+            ChartText::DiamondEnd => "l15 15l-15 15l-15 -15z\"/>\n",
+            ChartText::FlagAt => "<path class=\"flag\" d=\"M",
+            ChartText::FlagEnd => "l-13 -22l26 0z\"/>\n",
+            ChartText::Minus => "-",
+            ChartText::Tenth => ".",
+            ChartText::ZeroSeconds => "0.0",
+            ChartText::Milliseconds => " ms",
+            ChartText::MillisecondsComma => " ms, ",
+            ChartText::Kmh => " km/h",
         }
     }
 }

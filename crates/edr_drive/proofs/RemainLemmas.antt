@@ -21,23 +21,23 @@ use Rattle.edr_loops.specs.declared.fast_inlets.FastInlets.{FastInlets}
 use Rattle.edr_loops.specs.declared.desk.Desk.{Desk}
 use Rattle.edr_loops.specs.FastInlets.{AreFastFeeds, HaveFast}
 use Rattle.edr_loops.specs.Held.{issues_out}
-use Rattle.edr_loops.specs.PartInlets.{IsTaken}
+use Rattle.edr_loops.specs.PartInlets.{IsTakenPart}
 use Rattle.edr_loops.specs.PartInlets.{parts_of as parts_of_inlets}
-use Rattle.edr_loops.specs.Lanes.{ArePartsOf, FastBegin, PartInlets, fast_taken, slow_taken}
-use Rattle.edr_loops.specs.SlowPlaces.{AreParts, IsPartOf}
+use Rattle.edr_loops.specs.Lanes.{AreTakenParts, FastBegin, PartInlets, fast_taken, slow_taken}
+use Rattle.edr_loops.specs.SlowPlaces.{AreParts, IsPartOfBeginning}
 use Rattle.edr_loops.specs.Desks.{DeskStands}
 
 -- ---- the parts
 in-list : (s : Sensor) (xs : List Item) (ps : List SensorPart) (q : SensorPart) → IsFeed s xs → AreParts s xs ps → Contains ps q → part_slots s xs q.zero ≡ q.slots
 in-list s xs ps q feed all inside =
-    let own : IsPartOf s xs q = subst (λ (p : SensorPart). IsPartOf s xs p) inside.2 (all inside.0 q inside.1) in
+    let own : IsPartOfBeginning s xs q = subst (λ (p : SensorPart). IsPartOfBeginning s xs p) inside.2 (all inside.0 q inside.1) in
     part-begun s xs own.many q feed own.is own.reached
 
 none-in : (q : SensorPart) → Contains [] q → ⊥
 none-in q inside = let low = inside.1 in omega (arith, low)
 
 -- each part that came out of its sensor's ring is that of the whole list
-part-whole : (f : SensorLists) (i : PartInlets) (q : SensorPart) → AreFeeds f → ArePartsOf f i → IsTaken (slow_taken i) q → parts_of f q.sensor q.zero ≡ q.slots
+part-whole : (f : SensorLists) (i : PartInlets) (q : SensorPart) → AreFeeds f → AreTakenParts f i → IsTakenPart (slow_taken i) q → parts_of f q.sensor q.zero ≡ q.slots
 part-whole f i q feeds are taken = by q.sensor taken where
   by : (s : Sensor) → Contains (parts_of_inlets s (slow_taken i)) q → part_slots s (items_of s f) q.zero ≡ q.slots
   by Along inside = absurd (none-in q inside)
@@ -49,7 +49,7 @@ part-whole f i q feeds are taken = by q.sensor taken where
   by Lamp inside = in-list Lamp f.lamp (slow_taken i).lamp q feeds.lamp are.lamp inside
   by Restraint inside = absurd (none-in q inside)
 
-parts-whole : (f : SensorLists) (i : PartInlets) (parts : List SensorPart) → AreFeeds f → ArePartsOf f i → All (IsTaken (slow_taken i)) parts → AreSlotsOf parts (parts_of f)
+parts-whole : (f : SensorLists) (i : PartInlets) (parts : List SensorPart) → AreFeeds f → AreTakenParts f i → All (IsTakenPart (slow_taken i)) parts → AreSlotsOf parts (parts_of f)
 parts-whole f i parts feeds are taken = λ k d lt. part-whole f i (get_or parts k d) feeds are (taken k d lt)
 
 -- ---- what the core was told
@@ -60,7 +60,7 @@ fast-feeds f i feeds begins = record {
   restraint = feed-front Restraint 0 (fast_taken i).restraint begins.restraint.0 (subst (λ (xs : List Item). IsFeed Restraint xs) begins.restraint.1 feeds.restraint);
 }
 
-pub desk-was-told : (f : SensorLists) (n : ℕ) (d : Desk) → AreFeeds f → FastBegin f d.fast → ArePartsOf f d.parts → (s : DeskStands n (horizon_of f) d) → WasTold f s.history d.core d.last.along d.last.across d.last.restraint
+pub desk-was-told : (f : SensorLists) (n : ℕ) (d : Desk) → AreFeeds f → FastBegin f d.fast → AreTakenParts f d.parts → (s : DeskStands n (horizon_of f) d) → WasTold f s.history d.core d.last.along d.last.across d.last.restraint
 desk-was-told f n d feeds begins are s =
     let have : HaveFast (fast_taken d.fast) s.history.past.given = s.told.taken_are (fast-feeds f d.fast feeds begins) in
     record {

@@ -6,14 +6,14 @@ use Rattle.edr_core.specs.SplitContents.{SplitContents}
 use Rattle.edr_core.specs.SplitHistory.{start_of}
 use Rattle.edr_core.specs.SplitStandsFor.{SplitCoreStandsFor}
 use Rattle.edr_core.specs.declared.captures.Captures.{Captures}
-use Rattle.edr_loops.specs.Orders.{AreOfOneRing, orders_sent, orders_taken}
+use Rattle.edr_loops.specs.Orders.{AreEndsOfOrders, orders_sent, orders_taken}
 use Rattle.edr_loops.specs.declared.orders.Orders.{Orders}
 use Rattle.edr_board.specs.FreezeSeats.{IsFreshAsker, freeze_of_asker}
 use Rattle.edr_board.specs.Seats.{closed_posted, gate_posted}
 use Rattle.edr_loops.specs.Lanes.{AreFastLanes, ArePartLanes, FastItems, fast_taken, no_fast_items, no_slow_parts, slow_taken}
 use Rattle.edr_loops.specs.Desks.{HasPosted, DeskStands}
 use Rattle.edr_drive.specs.declared.beginning.Beginning.{Beginning}
-use Rattle.edr_drive.specs.declared.beginning.Rings.{Rings}
+use Rattle.edr_drive.specs.declared.beginning.SensorRings.{SensorRings}
 use Rattle.edr_drive.specs.declared.beginning.Seats.{Seats}
 use Rattle.edr_drive.specs.Places.{HaveBegun}
 
@@ -22,7 +22,7 @@ abbrev pub fast_items_of : SensorLists → FastItems
 fast_items_of f = record { along = f.along; across = f.across; restraint = f.restraint }
 
 -- the places at one end of each ring and the inlets at the other, through which nothing went, and an asker that asked for nothing
-pub record AreFreshRings (r : Rings) : Type 0 where
+pub record AreFreshRings (r : SensorRings) : Type 0 where
   pub lanes : AreFastLanes r.places.fast r.fast
   pub part_lanes : ArePartLanes r.places.slow r.parts
   pub begun : (f : SensorLists) → HaveBegun f r.places
@@ -36,11 +36,11 @@ pub record HaveNotPosted (s : Seats) : Type 0 where
   pub closed : closed_posted s.recorder ≡ 0
 
 -- a core of cycle n that was told nothing, and rings, orders, captures and seats that are fresh
-pub record AreFreshParts (n : ℕ) (c : SplitContents) (captures : Captures) (r : Rings) (o : Orders) (s : Seats) : Type 0 where
+pub record AreFreshParts (n : ℕ) (c : SplitContents) (captures : Captures) (r : SensorRings) (o : Orders) (s : Seats) : Type 0 where
   pub core : SplitCoreStandsFor c (start_of n)
   pub captures_are : captures ≡ no_captures
   pub rings : AreFreshRings r
-  pub pair : AreOfOneRing o.outbox o.inbox
+  pub pair : AreEndsOfOrders o.outbox o.inbox
   pub sent : orders_sent o.outbox ≡ []
   pub taken : orders_taken o.inbox ≡ []
   pub seats : HaveNotPosted s
@@ -52,6 +52,6 @@ pub record IsBeginning (n : ℕ) (b : Beginning) : Type 0 where
   pub lanes : AreFastLanes b.places.fast b.desk.fast
   pub part_lanes : ArePartLanes b.places.slow b.desk.parts
   pub begun : (f : SensorLists) → HaveBegun f b.places
-  pub pair : AreOfOneRing b.desk.outbox b.inbox
+  pub pair : AreEndsOfOrders b.desk.outbox b.inbox
   pub fresh : orders_taken b.inbox ≡ []
   pub captures : b.captures ≡ no_captures

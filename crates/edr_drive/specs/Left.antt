@@ -7,7 +7,7 @@ use Rattle.edr_loops.specs.declared.orders.Inbox.{Inbox}
 use Rattle.edr_loops.specs.declared.desk.Desk.{Desk}
 use Rattle.edr_loops.specs.Desks.{DeskStands}
 use Rattle.edr_loops.specs.Held.{issues_held}
-use Rattle.edr_loops.specs.Lanes.{ArePartsOf, FastBegin}
+use Rattle.edr_loops.specs.Lanes.{AreTakenParts, FastBegin}
 use Rattle.edr_loops.specs.Orders.{issues_of, orders_known, orders_taken}
 
 -- what the committer took
@@ -20,4 +20,4 @@ issues_left f inbox desk = issues_of (orders_known inbox) ++ (issues_held desk.h
 
 -- this is so of a cycle of which the desk took first items and parts of these feeds
 abbrev pub WhereStands : SensorLists → Desk → (ℕ → Type 0) → Type 0
-WhereStands f desk says = (n : ℕ) → FastBegin f desk.fast → ArePartsOf f desk.parts → DeskStands n (horizon_of f) desk → says n
+WhereStands f desk says = (n : ℕ) → FastBegin f desk.fast → AreTakenParts f desk.parts → DeskStands n (horizon_of f) desk → says n

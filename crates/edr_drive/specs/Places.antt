@@ -1,12 +1,12 @@
 -- What the places of all eight sensors have sent and kept.
 use Rattle.edr_items.specs.SensorLists.{SensorLists}
 use Rattle.edr_drive.specs.declared.places.Places.{Places}
-use Rattle.edr_loops.specs.Stands.{AreFastBegun, AreFastDealt, AreKept, AreSlowDealt, FastGoOn, SlowKeepOn, either_fast, either_slow}
+use Rattle.edr_loops.specs.Stands.{AreFastBegun, AreFastDealt, ArePlacesKept, AreSlowDealt, FastGoOn, SlowKeepOn, either_fast, either_slow}
 
 -- each place has sent or kept first items of its list, and sent parts of beginnings of it
 pub record HaveBegun (f : SensorLists) (p : Places) : Type 0 where
   pub fast : AreFastBegun f p.fast
-  pub slow : AreKept f p.slow
+  pub slow : ArePlacesKept f p.slow
 
 -- the same places later
 pub record HaveGoneOn (f : SensorLists) (a b : Places) : Type 0 where

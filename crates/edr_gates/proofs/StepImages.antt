@@ -12,14 +12,14 @@ use Rattle.edr_image.specs.declared.BankView.{BankView}
 use Rattle.edr_image.specs.declared.BankView.TheVariants.{Void, Event}
 use Rattle.edr_image.specs.Banks.{bank_at, with_bank}
 use Rattle.edr_image.specs.Image.{View, open_gate, place_of, view_of, writes_of}
-use Rattle.edr_image.specs.Steps.{Step, Erase, Fill, Lock, Done, after, new_record, with_crash, with_lock}
-use Rattle.edr_gates.specs.Taken.{HasDone, Holds, IsUnwritten, MayTake, bank_of}
+use Rattle.edr_image.specs.Steps.{BankStep, Erase, Fill, Lock, Done, after, new_record, with_crash, with_lock}
+use Rattle.edr_gates.specs.Taken.{HasDone, BankHolds, IsUnwritten, MayTake, bank_of}
 use Rattle.edr_gates.proofs.BankBytes.{Shows}
 use Rattle.edr_gates.proofs.BankSteps.{IsEnding, IsFilling, done_either, done_front, done_made, erase_either, erase_made, fill_either, fill_front, fill_made, lock_either, lock_made}
 use Rattle.edr_gates.proofs.Views.{IsWhole, view_but, view_shows}
 
 -- the step is not done, or done
-abbrev pub Either : Step → List ℕ → View → List ℕ → Type 0
+abbrev pub Either : BankStep → List ℕ → View → List ℕ → Type 0
 Either s bytes v image = HasDone (s ∷ []) [] bytes v image ⊎ HasDone (s ∷ []) (s ∷ []) bytes v image
 
 -- ---- bytes
@@ -41,7 +41,7 @@ gated_in at k gate piece bytes image fits low high gate_low gate_high s =
 
 -- ---- bytes that a step doesn't write
 
-abbrev KeepsUnwritten : Step → List ℕ → List ℕ → Type 0
+abbrev KeepsUnwritten : BankStep → List ℕ → List ℕ → Type 0
 KeepsUnwritten s bytes image = (i : ℕ) → i < length bytes → IsUnwritten (s ∷ []) i → slice_index image i ≡ slice_index bytes i
 
 erase_keeps : (m : ℕ) (bytes image : List ℕ) → SameBut (place_of m) 1 bytes image → KeepsUnwritten (Erase m) bytes image
@@ -80,14 +80,14 @@ event_is_whole r o b l e = cc
 void_is_whole : IsWhole Void
 void_is_whole o b l e = cc
 
-set_same : (banks : List BankView) (m : ℕ) (view : BankView) → Holds banks m view → with_bank banks m view ≡ banks
+set_same : (banks : List BankView) (m : ℕ) (view : BankView) → BankHolds banks m view → with_bank banks m view ≡ banks
 set_same banks m view holds = ap (λ (x : BankView). slice_set banks (m - 1) x) (sym (get_or_from_slice_get banks (m - 1) view view holds.1)) ∙ set-get_or banks (m - 1) view
 
-bank_is : (banks : List BankView) (m : ℕ) (view : BankView) → Holds banks m view → bank_at banks m ≡ view
+bank_is : (banks : List BankView) (m : ℕ) (view : BankView) → BankHolds banks m view → bank_at banks m ≡ view
 bank_is banks m view holds = get_or_from_slice_get banks (m - 1) view Void holds.1
 
 -- the bank of the step says what it said
-not_done : (s : Step) (bytes image : List ℕ) (v : View) (old : BankView) → view_of bytes ≡ Some v → Holds v.store.banks (bank_of s) old → SameBut (place_of (bank_of s)) 1024 bytes image → KeepsUnwritten s bytes image → Shows image (place_of (bank_of s)) old → HasDone (s ∷ []) [] bytes v image
+not_done : (s : BankStep) (bytes image : List ℕ) (v : View) (old : BankView) → view_of bytes ≡ Some v → BankHolds v.store.banks (bank_of s) old → SameBut (place_of (bank_of s)) 1024 bytes image → KeepsUnwritten s bytes image → Shows image (place_of (bank_of s)) old → HasDone (s ∷ []) [] bytes v image
 not_done s bytes image v old e holds same keeps shows = record {
   size = same.size;
   same = λ i below aside. same.same i below aside.0;
@@ -96,7 +96,7 @@ not_done s bytes image v old e holds same keeps shows = record {
 }
 
 -- the bank of the step says what the step makes of it
-is_done : (s : Step) (bytes image : List ℕ) (v : View) (old new : BankView) → view_of bytes ≡ Some v → Holds v.store.banks (bank_of s) old → SameBut (place_of (bank_of s)) 1024 bytes image → KeepsUnwritten s bytes image → Shows image (place_of (bank_of s)) new
+is_done : (s : BankStep) (bytes image : List ℕ) (v : View) (old new : BankView) → view_of bytes ≡ Some v → BankHolds v.store.banks (bank_of s) old → SameBut (place_of (bank_of s)) 1024 bytes image → KeepsUnwritten s bytes image → Shows image (place_of (bank_of s)) new
     → with_bank v.store.banks (bank_of s) new ≡ (after v.store (s ∷ [])).banks → HasDone (s ∷ []) (s ∷ []) bytes v image
 is_done s bytes image v old new e holds same keeps shows makes = record {
   size = same.size;
@@ -105,10 +105,10 @@ is_done s bytes image v old new e holds same keeps shows makes = record {
   view = view_but bytes image v (bank_of s) old new e holds same shows ∙ ap (λ (banks : List BankView). Some (record v { store = record v.store { banks = banks } })) makes;
 }
 
-lock_makes : (banks : List BankView) (m : ℕ) (r : Record) → Holds banks m (Event r) → with_bank banks m (Event (record r { locked = true })) ≡ with_bank banks m (with_lock (bank_at banks m))
+lock_makes : (banks : List BankView) (m : ℕ) (r : Record) → BankHolds banks m (Event r) → with_bank banks m (Event (record r { locked = true })) ≡ with_bank banks m (with_lock (bank_at banks m))
 lock_makes banks m r holds = ap (λ (b : BankView). with_bank banks m (with_lock b)) (sym (bank_is banks m (Event r) holds))
 
-done_makes : (banks : List BankView) (m : ℕ) (r : Record) (crash : CrashPart) → Holds banks m (Event r) → with_bank banks m (Event (record r { crash = Some crash })) ≡ with_bank banks m (with_crash crash (bank_at banks m))
+done_makes : (banks : List BankView) (m : ℕ) (r : Record) (crash : CrashPart) → BankHolds banks m (Event r) → with_bank banks m (Event (record r { crash = Some crash })) ≡ with_bank banks m (with_crash crash (bank_at banks m))
 done_makes banks m r crash holds = ap (λ (b : BankView). with_bank banks m (with_crash crash b)) (sym (bank_is banks m (Event r) holds))
 
 -- ---- erase

@@ -11,42 +11,42 @@ use Rattle.edr_image.specs.declared.BankView.{BankView}
 use Rattle.edr_image.specs.Banks.{Store}
 use Rattle.edr_image.specs.Calls.{all_calls, calls_of, done_of_step, gate_call_of, stops}
 use Rattle.edr_image.specs.Image.{View, Write, image_after, view_of, writes_of, written}
-use Rattle.edr_image.specs.Steps.{Step, Erase, Fill, Lock, Done, after, banks_after}
+use Rattle.edr_image.specs.Steps.{BankStep, Erase, Fill, Lock, Done, after, banks_after}
 use Rattle.edr_image.proofs.StopLaws.{contains_cases, contains_here, contains_later, contains_map, contains_mapped, contains_none}
 use Rattle.edr_gates.specs.Taken.{AreStopped, AreTaken, EachIsPassed, HasDone, IsAside, IsPassed, IsReady, IsUnwritten, MayTakeAll, PassMeanwhile}
 
 -- ---- the words of one list
 
-aside_parts : (a b : List Step) (i : ℕ) → IsAside (a ++ b) i → IsAside a i × IsAside b i
+aside_parts : (a b : List BankStep) (i : ℕ) → IsAside (a ++ b) i → IsAside a i × IsAside b i
 aside_parts [] b i h = (tt, h)
 aside_parts (s ∷ a) b i h = let rest = aside_parts a b i h.1 in ((h.0, rest.0), rest.1)
 
-unwritten_parts : (a b : List Step) (i : ℕ) → IsUnwritten (a ++ b) i → IsUnwritten a i × IsUnwritten b i
+unwritten_parts : (a b : List BankStep) (i : ℕ) → IsUnwritten (a ++ b) i → IsUnwritten a i × IsUnwritten b i
 unwritten_parts [] b i h = (tt, h)
 unwritten_parts (s ∷ a) b i h = let rest = unwritten_parts a b i h.1 in ((h.0, rest.0), rest.1)
 
-may_parts : (a b : List Step) (banks : List BankView) → MayTakeAll banks (a ++ b) → MayTakeAll banks a × MayTakeAll (fold banks_after banks a) b
+may_parts : (a b : List BankStep) (banks : List BankView) → MayTakeAll banks (a ++ b) → MayTakeAll banks a × MayTakeAll (fold banks_after banks a) b
 may_parts [] b banks h = (tt, h)
 may_parts (s ∷ a) b banks h = let rest = may_parts a b (banks_after banks s) h.1 in ((h.0, rest.0), rest.1)
 
-after-append : (v : Store) (a b : List Step) → after v (a ++ b) ≡ after (after v a) b
+after-append : (v : Store) (a b : List BankStep) → after v (a ++ b) ≡ after (after v a) b
 after-append v a b = ap (λ (banks : List BankView). record v { banks = banks }) (fold-append banks_after v.banks a b)
 
-image_after-append : (bytes : List ℕ) (a b : List Step) → image_after bytes (a ++ b) ≡ image_after (image_after bytes a) b
+image_after-append : (bytes : List ℕ) (a b : List BankStep) → image_after bytes (a ++ b) ≡ image_after (image_after bytes a) b
 image_after-append bytes a b = ap (λ (writes : List Write). fold written bytes writes) (flat_map-append writes_of a b) ∙ fold-append written bytes (flat_map writes_of a) (flat_map writes_of b)
 
 -- the view after steps
-abbrev view_after : View → List Step → View
+abbrev view_after : View → List BankStep → View
 view_after v steps = record v { store = after v.store steps }
 
-ready_first : (a b : List Step) (content : Option (List ℕ)) (settled : ℕ → Bool) (bytes : List ℕ) (v : View) → IsReady (a ++ b) content settled bytes v → IsReady a content settled bytes v
+ready_first : (a b : List BankStep) (content : Option (List ℕ)) (settled : ℕ → Bool) (bytes : List ℕ) (v : View) → IsReady (a ++ b) content settled bytes v → IsReady a content settled bytes v
 ready_first a b content settled bytes v h = record { quiet = h.quiet; view = h.view; may = (may_parts a b v.store.banks h.may).0 }
 
-ready_rest : (a b : List Step) (content content' : Option (List ℕ)) (settled settled' : ℕ → Bool) (bytes now : List ℕ) (v : View) → IsReady (a ++ b) content settled bytes v → IsQuiet content' settled' now → HasDone a a bytes v now
+ready_rest : (a b : List BankStep) (content content' : Option (List ℕ)) (settled settled' : ℕ → Bool) (bytes now : List ℕ) (v : View) → IsReady (a ++ b) content settled bytes v → IsQuiet content' settled' now → HasDone a a bytes v now
     → IsReady b content' settled' now (view_after v a)
 ready_rest a b content content' settled settled' bytes now v h quiet done = record { quiet = quiet; view = done.view; may = (may_parts a b v.store.banks h.may).1 }
 
-done_first : (a b done : List Step) (bytes : List ℕ) (v : View) (image : List ℕ) → HasDone a done bytes v image → HasDone (a ++ b) done bytes v image
+done_first : (a b done : List BankStep) (bytes : List ℕ) (v : View) (image : List ℕ) → HasDone a done bytes v image → HasDone (a ++ b) done bytes v image
 done_first a b done bytes v image h = record {
   size = h.size;
   same = λ i below aside. h.same i below (aside_parts a b i aside).0;
@@ -54,7 +54,7 @@ done_first a b done bytes v image h = record {
   view = h.view;
 }
 
-done_rest : (a b done : List Step) (bytes now : List ℕ) (v : View) (image : List ℕ) → HasDone a a bytes v now → HasDone b done now (view_after v a) image → HasDone (a ++ b) (a ++ done) bytes v image
+done_rest : (a b done : List BankStep) (bytes now : List ℕ) (v : View) (image : List ℕ) → HasDone a a bytes v now → HasDone b done now (view_after v a) image → HasDone (a ++ b) (a ++ done) bytes v image
 done_rest a b done bytes now v image h g = record {
   size = g.size ∙ h.size;
   same = λ i below aside.
@@ -66,7 +66,7 @@ done_rest a b done bytes now v image h g = record {
 
 -- ---- stops
 
-calls_some : (s : Step) → (1 ≤ gate_call_of s) × (gate_call_of s ≤ calls_of s)
+calls_some : (s : BankStep) → (1 ≤ gate_call_of s) × (gate_call_of s ≤ calls_of s)
 calls_some (Erase m) = (omega arith, omega arith)
 calls_some (Fill m pre) = (omega arith, omega arith)
 calls_some (Lock m) = (omega arith, omega arith)
@@ -82,7 +82,7 @@ not_early : (a b : ℕ) → b ≤ a → nat_lt a b ≡ false
 not_early a b h = grind (arith, nat_tests)
 
 -- a stop in a call of the first step may leave nothing done
-pub stop_leaves_none : (s : Step) (steps : List Step) (k : ℕ) → k ≤ calls_of s → Contains (stops k (s ∷ steps)) []
+pub stop_leaves_none : (s : BankStep) (steps : List BankStep) (k : ℕ) → k ≤ calls_of s → Contains (stops k (s ∷ steps)) []
 unfolding stops
 stop_leaves_none s steps k few = rw (is_within k (calls_of s) few) (by_test (nat_lt k (gate_call_of s)))
   where
@@ -91,12 +91,12 @@ stop_leaves_none s steps k few = rw (is_within k (calls_of s) few) (by_test (nat
     by_test false = contains_here [] ((s ∷ []) ∷ [])
 
 -- and from its gate call on that step
-pub stop_leaves_first : (s : Step) (steps : List Step) (k : ℕ) → gate_call_of s ≤ k → k ≤ calls_of s → Contains (stops k (s ∷ steps)) (s ∷ [])
+pub stop_leaves_first : (s : BankStep) (steps : List BankStep) (k : ℕ) → gate_call_of s ≤ k → k ≤ calls_of s → Contains (stops k (s ∷ steps)) (s ∷ [])
 unfolding stops
 stop_leaves_first s steps k late few = rw (is_within k (calls_of s) few, not_early k (gate_call_of s) late) (contains_later [] ((s ∷ []) ∷ []) (s ∷ []) (contains_here (s ∷ []) []))
 
 -- a stop before the first call leaves nothing done
-stop_zero : (b done : List Step) → Contains (stops 0 b) done → done ≡ []
+stop_zero : (b done : List BankStep) → Contains (stops 0 b) done → done ≡ []
 unfolding stops
 stop_zero [] done h = contains_none done _ h
 stop_zero (s ∷ b) done h = let some = calls_some s in go (nat_le 0 (calls_of s)) (is_within 0 (calls_of s) (omega arith)) (nat_lt 0 (gate_call_of s)) (is_early (gate_call_of s) some.0) h
@@ -109,26 +109,26 @@ stop_zero (s ∷ b) done h = let some = calls_some s in go (nat_le 0 (calls_of s
     go true e false f h = absurd cc
     go true e true f h = ⊎_elim (λ (same : [] ≡ done). sym same) (λ (later : Contains [] done). contains_none done _ later) (contains_cases [] [] done h)
 
-pub stops_first : (a b : List Step) (k : ℕ) (done : List Step) → Contains (stops k a) done → Contains (stops k (a ++ b)) done
+pub stops_first : (a b : List BankStep) (k : ℕ) (done : List BankStep) → Contains (stops k a) done → Contains (stops k (a ++ b)) done
 unfolding stops
 stops_first [] b k done h = contains_none done _ h
 stops_first (s ∷ a) b k done h = go (nat_le k (calls_of s)) (λ d. stops_first a b (k - calls_of s) d) h
   where
-    go : (here : Bool) → ((d : List Step) → Contains (stops (k - calls_of s) a) d → Contains (stops (k - calls_of s) (a ++ b)) d)
+    go : (here : Bool) → ((d : List BankStep) → Contains (stops (k - calls_of s) a) d → Contains (stops (k - calls_of s) (a ++ b)) d)
         → Contains (cond here (done_of_step k s) (map (λ d. s ∷ d) (stops (k - calls_of s) a))) done
         → Contains (cond here (done_of_step k s) (map (λ d. s ∷ d) (stops (k - calls_of s) (a ++ b)))) done
     go true rest h = h
     go false rest h =
         let found = contains_map (λ d. s ∷ d) (stops (k - calls_of s) a) done h in
-        subst (λ (d : List Step). Contains (map (λ d. s ∷ d) (stops (k - calls_of s) (a ++ b))) d) found.2 (contains_mapped (λ d. s ∷ d) (stops (k - calls_of s) (a ++ b)) found.0 (rest found.0 found.1))
+        subst (λ (d : List BankStep). Contains (map (λ d. s ∷ d) (stops (k - calls_of s) (a ++ b))) d) found.2 (contains_mapped (λ d. s ∷ d) (stops (k - calls_of s) (a ++ b)) found.0 (rest found.0 found.1))
 
-no_calls : (a : List Step) → all_calls a ≡ 0 → a ≡ []
+no_calls : (a : List BankStep) → all_calls a ≡ 0 → a ≡ []
 no_calls [] e = refl
 no_calls (s ∷ a) e =
     let some = calls_some s in
     let cons : all_calls (s ∷ a) ≡ calls_of s + all_calls a = sum_by-cons calls_of s a in absurd (omega arith)
 
-pub stops_rest : (a b : List Step) (k : ℕ) (done : List Step) → Contains (stops k b) done → Contains (stops (all_calls a + k) (a ++ b)) (a ++ done)
+pub stops_rest : (a b : List BankStep) (k : ℕ) (done : List BankStep) → Contains (stops k b) done → Contains (stops (all_calls a + k) (a ++ b)) (a ++ done)
 unfolding stops
 stops_rest [] b k done h = let e : 0 + k ≡ k = omega arith in subst (λ (n : ℕ). Contains (stops n b) done) (sym e) h
 stops_rest (s ∷ a) b k done h = rw (sum_by-cons calls_of s a) (go (all_calls a + k) refl (stops_rest a b k done h))
@@ -149,26 +149,26 @@ stops_rest (s ∷ a) b k done h = rw (sum_by-cons calls_of s a) (go (all_calls a
 
 -- ---- some first steps
 
-passed_first : (a b : List Step) (bytes : List ℕ) (v : View) (image : List ℕ) → IsPassed a bytes v image → IsPassed (a ++ b) bytes v image
+passed_first : (a b : List BankStep) (bytes : List ℕ) (v : View) (image : List ℕ) → IsPassed a bytes v image → IsPassed (a ++ b) bytes v image
 passed_first a b bytes v image h = record {
   p = h.p;
   within = let within = h.within in omega (arith, length-append a b);
-  has = subst (λ (done : List Step). HasDone (a ++ b) done bytes v image) (sym (take-append-le h.p a b h.within)) (done_first a b (take h.p a) bytes v image h.has);
+  has = subst (λ (done : List BankStep). HasDone (a ++ b) done bytes v image) (sym (take-append-le h.p a b h.within)) (done_first a b (take h.p a) bytes v image h.has);
 }
 
-take_past : (a b : List Step) (p : ℕ) → take (length a + p) (a ++ b) ≡ a ++ take p b
+take_past : (a b : List BankStep) (p : ℕ) → take (length a + p) (a ++ b) ≡ a ++ take p b
 take_past [] b p = let e : 0 + p ≡ p = omega arith in rw e refl
-take_past (s ∷ a) b p = let e : length (s ∷ a) + p ≡ suc (length a + p) = omega arith in rw e (ap (λ (xs : List Step). s ∷ xs) (take_past a b p))
+take_past (s ∷ a) b p = let e : length (s ∷ a) + p ≡ suc (length a + p) = omega arith in rw e (ap (λ (xs : List BankStep). s ∷ xs) (take_past a b p))
 
-passed_rest : (a b : List Step) (bytes now : List ℕ) (v : View) (image : List ℕ) → HasDone a a bytes v now → IsPassed b now (view_after v a) image → IsPassed (a ++ b) bytes v image
+passed_rest : (a b : List BankStep) (bytes now : List ℕ) (v : View) (image : List ℕ) → HasDone a a bytes v now → IsPassed b now (view_after v a) image → IsPassed (a ++ b) bytes v image
 passed_rest a b bytes now v image done h = record {
   p = length a + h.p;
   within = let within = h.within in omega (arith, length-append a b);
-  has = subst (λ (d : List Step). HasDone (a ++ b) d bytes v image) (sym (take_past a b h.p)) (done_rest a b (take h.p b) bytes now v image done h.has);
+  has = subst (λ (d : List BankStep). HasDone (a ++ b) d bytes v image) (sym (take_past a b h.p)) (done_rest a b (take h.p b) bytes now v image done h.has);
 }
 
 -- nothing has happened yet
-passed_none : (steps : List Step) (bytes : List ℕ) (v : View) (image : List ℕ) → view_of bytes ≡ Some v → image ≡ bytes → IsPassed steps bytes v image
+passed_none : (steps : List BankStep) (bytes : List ℕ) (v : View) (image : List ℕ) → view_of bytes ≡ Some v → image ≡ bytes → IsPassed steps bytes v image
 passed_none steps bytes v image e same = record {
   p = 0;
   within = omega arith;
@@ -182,19 +182,19 @@ passed_none steps bytes v image e same = record {
 
 -- ---- clauses
 
-pub taken_again : (a b : List Step) (content between content' : Option (List ℕ)) (settled settled_between settled' : ℕ → Bool) → AreTaken a content settled between settled_between → AreTaken b between settled_between content' settled'
+pub taken_again : (a b : List BankStep) (content between content' : Option (List ℕ)) (settled settled_between settled' : ℕ → Bool) → AreTaken a content settled between settled_between → AreTaken b between settled_between content' settled'
     → AreTaken (a ++ b) content settled content' settled'
 taken_again a b content between content' settled settled_between settled' first second = λ bytes v ready.
     let mid = first bytes v (ready_first a b content settled bytes v ready) in
     let end = second mid.0 (view_after v a) (ready_rest a b content between settled settled_between bytes mid.0 v ready mid.1 mid.2) in
     (end.0, end.1, done_rest a b b bytes mid.0 v end.0 mid.2 end.2, end.3 ∙ ap (λ (image : List ℕ). image_after image b) mid.3 ∙ sym (image_after-append bytes a b))
 
-pub stopped_first : (a b : List Step) (r : ℕ) (content content' : Option (List ℕ)) (settled settled' : ℕ → Bool) → AreStopped a r content settled content' settled' → AreStopped (a ++ b) r content settled content' settled'
+pub stopped_first : (a b : List BankStep) (r : ℕ) (content content' : Option (List ℕ)) (settled settled' : ℕ → Bool) → AreStopped a r content settled content' settled' → AreStopped (a ++ b) r content settled content' settled'
 stopped_first a b r content content' settled settled' stopped = λ bytes image v ready left.
     let s = stopped bytes image v (ready_first a b content settled bytes v ready) left in
     record { done = s.done; left = stops_first a b r s.done s.left; has = done_first a b s.done bytes v image s.has }
 
-pub stopped_later : (a b : List Step) (old mid new : ℕ) (content between content' : Option (List ℕ)) (settled settled_between settled' : ℕ → Bool) → mid ≡ old + all_calls a → mid ≤ new → AreTaken a content settled between settled_between
+pub stopped_later : (a b : List BankStep) (old mid new : ℕ) (content between content' : Option (List ℕ)) (settled settled_between settled' : ℕ → Bool) → mid ≡ old + all_calls a → mid ≤ new → AreTaken a content settled between settled_between
     → AreStopped b (new - mid) between settled_between content' settled' → AreStopped (a ++ b) (new - old) content settled content' settled'
 stopped_later a b old mid new content between content' settled settled_between settled' calls later first stopped = λ bytes image v ready left.
     let now = first bytes v (ready_first a b content settled bytes v ready) in
@@ -202,11 +202,11 @@ stopped_later a b old mid new content between content' settled settled_between s
     let r : all_calls a + (new - mid) ≡ new - old = omega arith in
     record { done = a ++ s.done; left = subst (λ (k : ℕ). Contains (stops k (a ++ b)) (a ++ s.done)) r (stops_rest a b (new - mid) s.done s.left); has = done_rest a b s.done bytes now.0 v image now.2 s.has }
 
-pub pass_first : (a b : List Step) (content : Option (List ℕ)) (settled : ℕ → Bool) (c0 : ℕ) (s0 s1 : ℕ → List ℕ → Type 0) → PassMeanwhile a content settled c0 s0 s1 → PassMeanwhile (a ++ b) content settled c0 s0 s1
+pub pass_first : (a b : List BankStep) (content : Option (List ℕ)) (settled : ℕ → Bool) (c0 : ℕ) (s0 s1 : ℕ → List ℕ → Type 0) → PassMeanwhile a content settled c0 s0 s1 → PassMeanwhile (a ++ b) content settled c0 s0 s1
 pass_first a b content settled c0 s0 s1 pass = λ bytes v ready.
     elapses_more c0 s0 s1 (IsPassed a bytes v) (IsPassed (a ++ b) bytes v) (pass bytes v (ready_first a b content settled bytes v ready)) (λ image. passed_first a b bytes v image)
 
-pub pass_again : (a b : List Step) (content between : Option (List ℕ)) (settled settled_between : ℕ → Bool) (c0 c1 : ℕ) (s0 s1 s2 : ℕ → List ℕ → Type 0) → c0 ≤ c1 → AreTaken a content settled between settled_between
+pub pass_again : (a b : List BankStep) (content between : Option (List ℕ)) (settled settled_between : ℕ → Bool) (c0 c1 : ℕ) (s0 s1 s2 : ℕ → List ℕ → Type 0) → c0 ≤ c1 → AreTaken a content settled between settled_between
     → PassMeanwhile a content settled c0 s0 s1 → PassMeanwhile b between settled_between c1 s1 s2 → PassMeanwhile (a ++ b) content settled c0 s0 s2
 pass_again a b content between settled settled_between c0 c1 s0 s1 s2 later taken first second = λ bytes v ready.
     let ready_a = ready_first a b content settled bytes v ready in
@@ -215,7 +215,7 @@ pass_again a b content between settled settled_between c0 c1 s0 s1 s2 later take
     (second now.0 (view_after v a) (ready_rest a b content between settled settled_between bytes now.0 v ready now.1 now.2)) later
     (λ image. passed_first a b bytes v image) (λ image. passed_rest a b bytes now.0 v image now.2)
 
-pub each_passed : (steps : List Step) (content : Option (List ℕ)) (settled : ℕ → Bool) (c0 : ℕ) (s0 s1 : ℕ → List ℕ → Type 0) → ((image : List ℕ) → s0 c0 image → MayLeave content settled image) → PassMeanwhile steps content settled c0 s0 s1
+pub each_passed : (steps : List BankStep) (content : Option (List ℕ)) (settled : ℕ → Bool) (c0 : ℕ) (s0 s1 : ℕ → List ℕ → Type 0) → ((image : List ℕ) → s0 c0 image → MayLeave content settled image) → PassMeanwhile steps content settled c0 s0 s1
     → EachIsPassed steps content settled c0 s1
 each_passed steps content settled c0 s0 s1 only pass = λ bytes image v ready left. ⊎_elim
     (λ (before : s0 c0 image). passed_none steps bytes v image ready.view (quiet_leaves bytes content settled image ready.quiet (only image before)))

@@ -9,7 +9,7 @@ use Rattle.edr_device.specs.declared.device.Nvm.{Ghosts}
 use Rattle.edr_device.proofs.Lending.{lent_again, lent_failed, makes_again, makes_first, none_made, tells_self}
 use Rattle.edr_device.proofs.Settling.{map_err, map_ok}
 use Rattle.edr_image.specs.Calls.{all_calls, calls_of}
-use Rattle.edr_image.specs.Steps.{Step}
+use Rattle.edr_image.specs.Steps.{BankStep}
 use Rattle.edr_gates.specs.Taken.{PassMeanwhile, TakesSteps}
 use Rattle.edr_gates.proofs.StepLists.{each_passed, pass_again, pass_first, stopped_first, stopped_later, taken_again}
 
@@ -18,7 +18,7 @@ abbrev pub OnlyNow : {D : Type 0} → Ghosts D → D → Type 0
 OnlyNow g d = (image : List ℕ) → g.since d (g.clock d) image → MayLeave (g.content d) (g.settled d) image
 
 -- the first of two calls failed
-pub first_failed : {T U E F D : Type 0} {g : Ghosts D} (a b : List Step) (old new : D) (e : E) (r : Result U F) → IsErr r → OnlyNow g old
+pub first_failed : {T U E F D : Type 0} {g : Ghosts D} (a b : List BankStep) (old new : D) (e : E) (r : Result U F) → IsErr r → OnlyNow g old
     → TakesSteps {T = T} g a old new (Err e) → TakesSteps g (a ++ b) old new r
 first_failed a b old new e (Ok x) is only first = absurd (false≢true is)
 first_failed {U = U} {F = F} {g = g} a b old new e (Err f) is only first =
@@ -34,7 +34,7 @@ first_failed {U = U} {F = F} {g = g} a b old new e (Err f) is only first =
     }
 
 -- the first of two calls took its steps, and the second one came to this
-pub then_came : {T U E F D : Type 0} {g : Ghosts D} (a b : List Step) (old mid new : D) (x : T) (r : Result U F) → OnlyNow g old
+pub then_came : {T U E F D : Type 0} {g : Ghosts D} (a b : List BankStep) (old mid new : D) (x : T) (r : Result U F) → OnlyNow g old
     → (g.goes_on old mid → g.goes_on mid new → g.goes_on old new)
     → TakesSteps {E = E} g a old mid (Ok x) → TakesSteps g b mid new r → TakesSteps g (a ++ b) old new r
 then_came {g = g} a b old mid new x r only on first second = record {

@@ -16,7 +16,7 @@ use Rattle.edr_image.specs.declared.OpenFault.{OpenFault}
 use Rattle.edr_image.specs.Banks.{with_bank}
 use Rattle.edr_image.specs.PartBytes.{number_at}
 use Rattle.edr_image.specs.Image.{View, bank_view, count_of, header_of, header_refusal, image_refusal, image_size, magic, not_magic, place_of, slot_count, store_of, view_of, header_refusal_by, image_refusal_by, view_by}
-use Rattle.edr_gates.specs.Taken.{Holds}
+use Rattle.edr_gates.specs.Taken.{BankHolds}
 use Rattle.edr_gates.proofs.Matching.{Match, match_at, match_back}
 use Rattle.edr_gates.proofs.BankBytes.{both_none, Shows, bank_shows, shows_bank, shows_moves}
 use Rattle.edr_gates.proofs.BankSteps.{beside}
@@ -174,7 +174,7 @@ banks_but n m bytes image low high fits s =
 abbrev pub IsWhole : BankView → Type 0
 IsWhole view = (o b : ℕ) (l : Bool) → view ≡ Damaged o b l → ⊥
 
-pub view_shows : (bytes : List ℕ) (v : View) (m : ℕ) (view : BankView) → view_of bytes ≡ Some v → Holds v.store.banks m view → IsWhole view → (place_of m + 1024 ≤ length bytes) × Shows bytes (place_of m) view
+pub view_shows : (bytes : List ℕ) (v : View) (m : ℕ) (view : BankView) → view_of bytes ≡ Some v → BankHolds v.store.banks m view → IsWhole view → (place_of m + 1024 ≤ length bytes) × Shows bytes (place_of m) view
 view_shows bytes v m view e holds whole =
     let is = seen bytes v e in
     let n = slice_index bytes 10 in
@@ -187,7 +187,7 @@ view_shows bytes v m view e holds whole =
     let bank : bank_in bytes m ≡ view = subst (λ (k : ℕ). bank_in bytes k ≡ view) number (sym (banks_at n (m - 1) bytes view within) ∙ get_or_from_slice_get (banks_in n bytes) (m - 1) view view here) in
     (fits, shows_moves _ 0 bytes (place_of m) view (match_range bytes (place_of m) fits) (bank_shows _ view bank whole))
 
-pub view_but : (bytes image : List ℕ) (v : View) (m : ℕ) (old new : BankView) → view_of bytes ≡ Some v → Holds v.store.banks m old → SameBut (place_of m) 1024 bytes image → Shows image (place_of m) new
+pub view_but : (bytes image : List ℕ) (v : View) (m : ℕ) (old new : BankView) → view_of bytes ≡ Some v → BankHolds v.store.banks m old → SameBut (place_of m) 1024 bytes image → Shows image (place_of m) new
     → view_of image ≡ Some (record v { store = record v.store { banks = with_bank v.store.banks m new } })
 view_but bytes image v m old new e holds s shows =
     let is = seen bytes v e in

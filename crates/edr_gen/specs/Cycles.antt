@@ -63,5 +63,5 @@ samples_after impulses t zero = []
 samples_after impulses t (suc n) = samples_at impulses (t + 1) ++ samples_after impulses (t + 1) n
 
 -- feeds that samples gave have these more
-abbrev pub Gives : List Sample → SensorLists → SensorLists → Type 0
-Gives more old new = (xs : List Sample) → old ≡ feeds_given xs → new ≡ feeds_given (xs ++ more)
+abbrev pub GivesSamples : List Sample → SensorLists → SensorLists → Type 0
+GivesSamples more old new = (xs : List Sample) → old ≡ feeds_given xs → new ≡ feeds_given (xs ++ more)

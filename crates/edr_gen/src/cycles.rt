@@ -1,7 +1,7 @@
 //! The cycles of a generated trace, without its bytes.
 ghost use Rattle.std.specs.Prelude.{◌≡◌, ◌+◌, ◌%◌, ◌<◌, ◌==◌, ◌^◌, ◌∷◌, [], IfOk, None, Some, OnOk, pos};
 ghost use Rattle.edr_spell.specs.Samples.{feeds_given};
-ghost use Rattle.edr_gen.specs.Cycles.{Gives, crash_samples, restraint_samples, sample, samples_at, slow_samples};
+ghost use Rattle.edr_gen.specs.Cycles.{GivesSamples, crash_samples, restraint_samples, sample, samples_at, slow_samples};
 ghost use Rattle.edr_gen.specs.Draws.{plan_from, state_past};
 ghost use Rattle.edr_gen.specs.Traces.{cycle_of, samples_of};
 
@@ -19,7 +19,7 @@ fn give(
     moment: u32,
     value: Option<i32>,
 ) -> Result<(), OutOfMemory>
-    ensures { OnOk result (Gives (sample sensor moment value ∷ []) feeds.old feeds.new) }
+    ensures { OnOk result (GivesSamples (sample sensor moment value ∷ []) feeds.old feeds.new) }
 {
     match feeds.add(sensor, Item { moment, value }) {
         Ok(()) => Ok(()),
@@ -29,7 +29,7 @@ fn give(
 
 // Gives what the five slow sensors say at a tick.
 fn give_slow(feeds: &mut Feeds, tick: u32) -> Result<(), OutOfMemory>
-    ensures { OnOk result (Gives (slow_samples (tick % 100 == 0) tick) feeds.old feeds.new) }
+    ensures { OnOk result (GivesSamples (slow_samples (tick % 100 == 0) tick) feeds.old feeds.new) }
 {
     if tick % 100 == 0 {
         give(feeds, Sensor::Speed, tick, Some(60))?;
@@ -43,7 +43,7 @@ fn give_slow(feeds: &mut Feeds, tick: u32) -> Result<(), OutOfMemory>
 
 // Gives what the restraints say at a tick.
 fn give_restraint(feeds: &mut Feeds, tick: u32, fires: bool) -> Result<(), OutOfMemory>
-    ensures { OnOk result (Gives (restraint_samples fires (tick % 1000 == 0) tick) feeds.old feeds.new) }
+    ensures { OnOk result (GivesSamples (restraint_samples fires (tick % 1000 == 0) tick) feeds.old feeds.new) }
 {
     if fires {
         return give(feeds, Sensor::Restraint, tick, Some(1));
@@ -57,7 +57,7 @@ fn give_restraint(feeds: &mut Feeds, tick: u32, fires: bool) -> Result<(), OutOf
 // Gives what all sensors say at a tick.
 #[tactic(auto, unfolding(crate::specs::Cycles::samples_at))]
 fn give_tick(feeds: &mut Feeds, plan: &Plan, tick: u32) -> Result<(), OutOfMemory>
-    ensures { OnOk result (Gives (samples_at plan.now.impulses tick) feeds.old feeds.new) }
+    ensures { OnOk result (GivesSamples (samples_at plan.now.impulses tick) feeds.old feeds.new) }
 {
     let acting = plan.acting_at(tick);
     give(feeds, Sensor::Along, tick, Some(along_of(acting)))?;

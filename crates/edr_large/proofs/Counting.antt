@@ -17,7 +17,7 @@ use Rattle.edr_gen.specs.Traces.{cycle_of, generated_cycles, generated_rows, row
 use Rattle.edr_gen.proofs.FedLemmas.{AllFed, all-fed-after, all-fed-feeds, all-fed-level, all-fed-none}
 use Rattle.edr_gen.proofs.RangeLemmas.{impulses-range}
 use Rattle.edr_gen.proofs.SpelledLemmas.{generated-many, generated-spelled}
-use Rattle.edr_large.specs.Large.{HasCounted, HasRun, HasRunOn, IsCounted, acks_in, all_acks, new_store, unstopped}
+use Rattle.edr_large.specs.Large.{HasCounted, HasRunInMemory, HasRunOn, IsCounted, acks_in, all_acks, new_store, unstopped}
 use Rattle.edr_large.specs.declared.counts.Counts.{Counts}
 use Rattle.edr_large.specs.Counts.{counts_of}
 use Rattle.edr_large.specs.Rows.{items_in, most_items}
@@ -31,7 +31,7 @@ pub record Counted (number cycles k state rows : ℕ) (acks : List Ack) (image :
   pub passed : List CycleInput
   pub cycles_are : passed ++ generated_cycles state (cycles - k) ≡ generated_cycles number cycles
   pub rows_are : rows + length (generated_rows state (cycles - k)) ≡ length (generated_rows number cycles)
-  pub ran : HasRun passed acks image
+  pub ran : HasRunInMemory passed acks image
 
 -- at first none
 pub counted_none : (number cycles : ℕ) (acks : List Ack) (image : List ℕ) → length image ≡ IMAGE → acks ≡ [] → view_of image ≡ Some (record { store = new_store; count = 0 }) → Counted number cycles 0 number 0 acks image
@@ -73,8 +73,8 @@ acks_more : (reports : List Report) (r : Report) → all_acks (reports ++ r ∷ 
 acks_more reports r = flat_map-append acks_in reports (r ∷ []) ∙ ap (λ (xs : List Ack). all_acks reports ++ xs) (append-nil (acks_in r))
 
 -- one more cycle behind those that ran
-ran_more : (cs : List CycleInput) (c : CycleInput) (acks acks' : List Ack) (image image' : List ℕ) → c.start_stop ≡ 0 → (h : HasRun cs acks image) → HasRunOn c.feeds h.outcome.store h.outcome.count acks acks' image'
-    → HasRun (cs ++ c ∷ []) acks' image'
+ran_more : (cs : List CycleInput) (c : CycleInput) (acks acks' : List Ack) (image image' : List ℕ) → c.start_stop ≡ 0 → (h : HasRunInMemory cs acks image) → HasRunOn c.feeds h.outcome.store h.outcome.count acks acks' image'
+    → HasRunInMemory (cs ++ c ∷ []) acks' image'
 ran_more cs c acks acks' image image' begins h more = record {
   outcome = extended h.outcome more.end;
   run = subst (λ (ds : List CycleInput). IsRun ds new_store 0 (extended h.outcome more.end)) (sym (map-append unstopped cs (c ∷ [])))
@@ -125,7 +125,7 @@ counted_all number cycles k state rows acks image end h =
     let rows_none = ap (λ xs. length xs) (ap (generated_rows state) none ∙ no_rows state) in
     let are = h.rows_are in
     let same : h.passed ≡ generated_cycles number cycles = sym (append-nil h.passed) ∙ ap (λ (xs : List CycleInput). h.passed ++ xs) (sym cycles_none) ∙ h.cycles_are in
-    (omega (arith, rows_none, are), subst (λ (cs : List CycleInput). HasRun cs acks image) same h.ran)
+    (omega (arith, rows_none, are), subst (λ (cs : List CycleInput). HasRunInMemory cs acks image) same h.ran)
 
 -- and the counts of them
 pub counted_is : (number cycles rows : ℕ) (acks : List Ack) (image : List ℕ) (found : List Found) (counts : Counts) → HasCounted number cycles rows acks image

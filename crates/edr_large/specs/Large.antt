@@ -40,13 +40,13 @@ pub record IsCounted (number cycles : ℕ) (counts : Counts) : Type 0 where
   pub counts_are : counts ≡ counts_of (length spelled) (length (generated_rows number cycles)) (all_acks outcome.reports) (retrieved outcome.store.banks)
 
 -- the text is the lines of these counts
-abbrev pub IsTold : ℕ → ℕ → List ℕ → Type 0
-IsTold number cycles text = (counts : Counts) × IsCounted number cycles counts × (text ≡ counts_text counts)
+abbrev pub AreLinesOf : ℕ → ℕ → List ℕ → Type 0
+AreLinesOf number cycles text = (counts : Counts) × IsCounted number cycles counts × (text ≡ counts_text counts)
 
 -- ---- on the way
 
 -- these cycles ran: these commands were acknowledged, and the image says what they came to
-pub record HasRun (cs : List CycleInput) (acks : List Ack) (image : List ℕ) : Type 0 where
+pub record HasRunInMemory (cs : List CycleInput) (acks : List Ack) (image : List ℕ) : Type 0 where
   pub outcome : Outcome
   pub run : IsRun (map unstopped cs) new_store 0 outcome
   pub acks_are : acks ≡ all_acks outcome.reports
@@ -54,7 +54,7 @@ pub record HasRun (cs : List CycleInput) (acks : List Ack) (image : List ℕ) : 
 
 -- all cycles of the number ran, and these are their rows
 abbrev pub HasCounted : ℕ → ℕ → ℕ → List Ack → List ℕ → Type 0
-HasCounted number cycles rows acks image = (rows ≡ length (generated_rows number cycles)) × HasRun (generated_cycles number cycles) acks image
+HasCounted number cycles rows acks image = (rows ≡ length (generated_rows number cycles)) × HasRunInMemory (generated_cycles number cycles) acks image
 
 -- a cycle with these feeds ran from the banks v and the count n on
 pub record HasRunOn (f : SensorLists) (v : Store) (n : ℕ) (before acks : List Ack) (image : List ℕ) : Type 0 where

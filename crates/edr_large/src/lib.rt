@@ -8,7 +8,7 @@ mod rows;
 mod runs;
 
 ghost use Rattle.std.specs.Prelude.{IfOk};
-ghost use Rattle.edr_large.specs.Large.{IsCounted, IsTold};
+ghost use Rattle.edr_large.specs.Large.{IsCounted, AreLinesOf};
 
 pub use counts::Counts;
 use counts::counts_of;
@@ -27,7 +27,7 @@ pub fn count(alloc: Global, number: u64, cycles: u32) -> Result<Counts, OutOfMem
 
 /// Runs them so, and tells of the counts in eight lines.
 pub fn large_lines(alloc: Global, number: u64, cycles: u32) -> Result<Vec<u8>, OutOfMemory>
-    ensures { IfOk result (λ lines. IsTold number cycles lines.items) }
+    ensures { IfOk result (λ lines. AreLinesOf number cycles lines.items) }
 {
     let counts = count(alloc, number, cycles)?;
     text(alloc, &counts)

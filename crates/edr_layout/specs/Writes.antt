@@ -1,11 +1,11 @@
 -- The writes that data stands for, as the definitions have them.
 use Rattle.std.specs.Prelude.{ℕ, List, [], ◌∷◌}
 use Rattle.edr_image.specs.Image.{Write, open_gate}
-use Rattle.edr_layout.specs.declared.writes.Mark.{Mark}
+use Rattle.edr_layout.specs.declared.writes.ByteWrite.{ByteWrite}
 use Rattle.edr_layout.specs.declared.writes.Gated.{Gated}
 
 -- the one write of a mark
-abbrev pub mark_writes : Mark → List Write
+abbrev pub mark_writes : ByteWrite → List Write
 mark_writes m = record { at = m.at; bytes = m.byte ∷ [] } ∷ []
 
 -- the piece, and behind it its gate

@@ -21,7 +21,8 @@ pub use crate::front::{
     read_old_header,
 };
 pub use crate::writes::{
-    Gated, Mark, closing_write, count_writes, done_writes, erase_write, fill_writes, lock_write,
+    ByteWrite, Gated, closing_write, count_writes, done_writes, erase_write, fill_writes,
+    lock_write,
 };
 pub use edr_image::forms::OLD_BANK_SIZE;
 pub use edr_image::places::{BANK_SIZE, FEWEST_BANKS, FRONT_SIZE, MOST_BANKS, OPEN_GATE};

@@ -139,8 +139,8 @@ fn a_new_front_is_read_back(rt: HostRuntime) {
 
 #[test]
 fn marks_stand_on_the_gates_of_their_bank(rt: HostRuntime) {
-    assert_eq!(rt; erase_write(1), Mark { at: 96, byte: 0 });
-    let locked = Mark {
+    assert_eq!(rt; erase_write(1), ByteWrite { at: 96, byte: 0 });
+    let locked = ByteWrite {
         at: 1121,
         byte: OPEN_GATE,
     };
@@ -149,9 +149,9 @@ fn marks_stand_on_the_gates_of_their_bank(rt: HostRuntime) {
 
 #[test]
 fn a_count_is_written_behind_the_closed_gate_of_its_slot(rt: HostRuntime) {
-    assert_eq!(rt; closing_write(64, true), Mark { at: 64, byte: 0 });
+    assert_eq!(rt; closing_write(64, true), ByteWrite { at: 64, byte: 0 });
     // A torn write of a gate that is closed already could open it.
-    assert_eq!(rt; closing_write(64, false), Mark { at: 65, byte: 0 });
+    assert_eq!(rt; closing_write(64, false), ByteWrite { at: 65, byte: 0 });
     let count = Gated {
         at: 68,
         piece: [1, 2, 3, 4],

@@ -18,7 +18,7 @@ use edr_record::{Crash, Pre};
 
 /// One byte, and where it is written.
 #[derive(Clone, Copy, Debug, PartialEq, Eq)]
-pub struct Mark {
+pub struct ByteWrite {
     pub at: u32,
     pub byte: u8,
 }
@@ -36,14 +36,14 @@ const FILLING: usize = PRE_PART - LOCK_GATE + PRE_SIZE;
 
 /// The write that makes a bank void.
 #[tactic(auto, unfolding(edr_image::specs::Image::writes_of))]
-pub fn erase_write(bank: u8) -> Mark
+pub fn erase_write(bank: u8) -> ByteWrite
     requires from { 1 ≤ bank }
     requires to { bank ≤ MOST_BANKS }
     ensures at { result.at ≡ place_of bank }
     ensures byte { result.byte ≡ 0 }
     ensures step { mark_writes result ≡ writes_of (Erase bank) }
 {
-    Mark {
+    ByteWrite {
         at: place_of(bank),
         byte: 0,
     }
@@ -51,14 +51,14 @@ pub fn erase_write(bank: u8) -> Mark
 
 /// The write that locks the event of a bank.
 #[tactic(auto, unfolding(edr_image::specs::Image::writes_of))]
-pub fn lock_write(bank: u8) -> Mark
+pub fn lock_write(bank: u8) -> ByteWrite
     requires from { 1 ≤ bank }
     requires to { bank ≤ MOST_BANKS }
     ensures at { result.at ≡ place_of bank + LOCK_GATE }
     ensures byte { result.byte ≡ OPEN_GATE }
     ensures step { mark_writes result ≡ writes_of (Lock bank) }
 {
-    Mark {
+    ByteWrite {
         at: place_of(bank) + LOCK_GATE as u32,
         byte: OPEN_GATE,
     }
@@ -129,12 +129,12 @@ pub fn done_writes(bank: u8, crash: &Crash) -> Gated<CRASH_SIZE>
 
 /// The write that closes the slot that begins at a place. A torn write of a closed gate could open it, so the byte beside
 /// it is written then.
-pub fn closing_write(slot: u32, is_open: bool) -> Mark
+pub fn closing_write(slot: u32, is_open: bool) -> ByteWrite
     requires { slot + SLOT_SIZE < 2 ^ 32 }
     ensures at { result.at ≡ (if is_open then slot else slot + 1) }
     ensures byte { result.byte ≡ 0 }
 {
-    Mark {
+    ByteWrite {
         at: if is_open { slot } else { slot + 1 },
         byte: 0,
     }

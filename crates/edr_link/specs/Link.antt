@@ -5,8 +5,8 @@ use Rattle.edr_record.specs.declared.Place.{Place}
 use Rattle.edr_definitions.specs.Commands.{last_placed}
 
 -- the link holds the place and the time zero of the last of these events, if there is one
-abbrev pub StandsFor : Option (Place × ℕ) → List ℕ → Type 0
-StandsFor link zeros = link ≡ last_placed zeros
+abbrev pub LinkStandsFor : Option (Place × ℕ) → List ℕ → Type 0
+LinkStandsFor link zeros = link ≡ last_placed zeros
 
 -- the time zero z is past that of the last event, if there is one
 abbrev pub IsPast : Option (Place × ℕ) → ℕ → Type 0

@@ -4,7 +4,7 @@
 ghost use Rattle.std.specs.Prelude.{◌≡◌, ℕ, List, [], ◌∷◌, ◌++◌, Some};
 ghost use Rattle.edr_record.specs.Bounds.{IsPlace};
 ghost use Rattle.edr_definitions.specs.Commands.{place_of, places};
-ghost use Rattle.edr_link.specs.Link.{StandsFor, IsPast};
+ghost use Rattle.edr_link.specs.Link.{LinkStandsFor, IsPast};
 
 use edr_record::{LONGEST_PAIR, Place};
 use std::marker::Model;
@@ -28,7 +28,7 @@ impl Model for Link {
 impl Link {
     /// A link for a cycle that has had no event yet.
     pub fn new() -> Link
-        ensures { StandsFor result [] }
+        ensures { LinkStandsFor result [] }
     {
         Link { last: None }
     }
@@ -55,8 +55,8 @@ impl Link {
         ensures within { IsPlace result }
 
         // The same of all events of the cycle.
-        ensures stands { (zeros : List ℕ) → StandsFor self.old zeros → StandsFor self.new (zeros ++ zero ∷ []) }
-        ensures definition { (zeros : List ℕ) → StandsFor self.old zeros → places (zeros ++ zero ∷ []) ≡ places zeros ++ result ∷ [] }
+        ensures stands { (zeros : List ℕ) → LinkStandsFor self.old zeros → LinkStandsFor self.new (zeros ++ zero ∷ []) }
+        ensures definition { (zeros : List ℕ) → LinkStandsFor self.old zeros → places (zeros ++ zero ∷ []) ≡ places zeros ++ result ∷ [] }
     {
         let place = self.place(zero);
         self.last = Some((place, zero));

@@ -9,11 +9,11 @@ use Rattle.edr_definitions.specs.Commands.{Issue, issue_at}
 use Rattle.edr_definitions.specs.Schedule.{Progress, Close, after_step}
 use Rattle.edr_definitions.proofs.MarkLaws.{horizon-least}
 use Rattle.edr_board.specs.declared.freeze_seats.Asker.{Asker}
-use Rattle.edr_board.specs.FreezeSeats.{IsReached, SlowMarks, grant_posted, last_zero, marks_read, open_zero}
+use Rattle.edr_board.specs.FreezeSeats.{AllReach, SlowMarks, grant_posted, last_zero, marks_read, open_zero}
 use Rattle.edr_merge.specs.Answers.{is_waited_for, waited_for}
 use Rattle.edr_core.specs.declared.candidate.Issued.{Issued}
 use Rattle.edr_core.specs.Answers.{commands_put}
-use Rattle.edr_core.specs.Parts.{AreSlotsOf, Slots, commands_with, issues_with}
+use Rattle.edr_core.specs.Parts.{AreSlotsOf, PartSlots, commands_with, issues_with}
 use Rattle.edr_core.specs.SplitContents.{SplitContents}
 use Rattle.edr_core.specs.SplitHistory.{History, Answer, Waits, Asks, Lacks, Closes, due, is_zero_next, missing_part}
 use Rattle.edr_core.specs.SplitStandsFor.{SplitCoreStandsFor, merged}
@@ -26,7 +26,7 @@ use Rattle.edr_loops.specs.declared.orders.Outbox.{Outbox}
 use Rattle.edr_loops.specs.declared.desk.Desk.{Desk}
 use Rattle.edr_loops.specs.Held.{issues_held, issues_out}
 use Rattle.edr_loops.specs.Orders.{issues_of, orders_sent}
-use Rattle.edr_loops.specs.Desks.{HaveMarks, IsSettled, Later, DeskStands, zero_of}
+use Rattle.edr_loops.specs.Desks.{HaveMarks, IsAskerSettled, Later, DeskStands, zero_of}
 use Rattle.edr_loops.proofs.FastLemmas.{all-reached}
 use Rattle.edr_loops.proofs.LaterLemmas.{later-by}
 use Rattle.edr_loops.proofs.DeskLemmas.{closed-low}
@@ -124,7 +124,7 @@ module _ (n e z : ℕ) (d : Desk) (s : DeskStands n e d) (answer : Asks z ≡ du
   pub ask-later : last_zero d.asker < z
   ask-later = let last = s.told.agrees.last_to in let free = merged_free in let is = ask.tick in omega (arith, last, free, is)
 
-  pub ask-reached : IsReached z (marks_read d.asker)
+  pub ask-reached : AllReach z (marks_read d.asker)
   ask-reached = all-reached z h.past.given (marks_read d.asker) s.told.agrees.marks_are (λ r. let past = marks-past d.core h s.told.core_is ask.none r in let is = ask.tick in omega (arith, past, is))
 
   pub ask-near : grant_posted d.asker ≤ z + 1_000
@@ -195,9 +195,9 @@ module _ (n e : ℕ) (d : Desk) (c : SplitContents) (a : Asker) (k : Held) (v : 
     by false p = omega arith
 
   pub stands-closed : SplitCoreStandsFor c (record g { past = after_step g.past Close; asking = false }) → g.past.closed + 1 ≤ e
-      → IsSettled d.asker a → v ≡ false
+      → IsAskerSettled d.asker a → v ≡ false
       → issues_held d.held ≡ [] → issues_held k ≡ cs
-      → ((slots : Slots) → AreSlotsOf g.parts slots → issues_with slots g.past.given n (g.past.closed + 1) ≡ issues_with slots g.past.given n g.past.closed ++ cs)
+      → ((slots : PartSlots) → AreSlotsOf g.parts slots → issues_with slots g.past.given n (g.past.closed + 1) ≡ issues_with slots g.past.given n g.past.closed ++ cs)
       → DeskStands n e closed
   stands-closed stands within is free none held adds =
       let t = s.told in record {
@@ -226,9 +226,9 @@ module _ (n e : ℕ) (d : Desk) (c : SplitContents) (a : Asker) (k : Held) (v : 
       }
 
 -- the issues of a closed tick are at the next tick
-pub adds-here : (n e t : ℕ) (some : Bool) (i : Issued) (d : Desk) (slots : Slots) (s : DeskStands n e d) → AreSlotsOf s.history.parts slots
-    → ((h : History) (slots : Slots) → SplitCoreStandsFor d.core h → AreSlotsOf h.parts slots → (t ≡ h.past.closed + 1) × (commands_with slots h.past.given h.cycle t ≡ commands_with slots h.past.given h.cycle h.past.closed ++ commands_put some i))
-    → ((h : History) (slots : Slots) → SplitCoreStandsFor d.core h → AreSlotsOf h.parts slots → issues_with slots h.past.given h.cycle t ≡ issues_with slots h.past.given h.cycle h.past.closed ++ map (issue_at t) (commands_put some i))
+pub adds-here : (n e t : ℕ) (some : Bool) (i : Issued) (d : Desk) (slots : PartSlots) (s : DeskStands n e d) → AreSlotsOf s.history.parts slots
+    → ((h : History) (slots : PartSlots) → SplitCoreStandsFor d.core h → AreSlotsOf h.parts slots → (t ≡ h.past.closed + 1) × (commands_with slots h.past.given h.cycle t ≡ commands_with slots h.past.given h.cycle h.past.closed ++ commands_put some i))
+    → ((h : History) (slots : PartSlots) → SplitCoreStandsFor d.core h → AreSlotsOf h.parts slots → issues_with slots h.past.given h.cycle t ≡ issues_with slots h.past.given h.cycle h.past.closed ++ map (issue_at t) (commands_put some i))
     → issues_with slots s.history.past.given n (s.history.past.closed + 1) ≡ issues_with slots s.history.past.given n s.history.past.closed ++ map (issue_at t) (commands_put some i)
 adds-here n e t some i d slots s are commands ticks =
     let h = s.history in

@@ -11,13 +11,13 @@ use Rattle.edr_items.specs.Sensor.{IsSlow}
 use Rattle.edr_items.specs.SensorLists.{SensorLists, items_of}
 use Rattle.edr_definitions.specs.Schedule.{with_item}
 use Rattle.edr_definitions.proofs.MarkLaws.{feed-next, mark-push}
-use Rattle.edr_board.specs.FreezeSeats.{IsReached, SlowMarks, mark_in, with_mark_of}
+use Rattle.edr_board.specs.FreezeSeats.{AllReach, SlowMarks, mark_in, with_mark_of}
 use Rattle.edr_capture.specs.SensorPart.{SensorPart}
 use Rattle.edr_loops.specs.declared.fast_inlets.FastSensor.{FastSensor}
 use Rattle.edr_loops.specs.declared.fast_inlets.FastSensor.TheVariants.{Along, Across, Restraint}
 use Rattle.edr_loops.specs.FastInlets.{AreFastFeeds, HaveFast, fast_marks_of, list_of, sensor_of, with_fast, with_fast_mark}
 use Rattle.edr_loops.specs.Lanes.{FastItems, SlowParts}
-use Rattle.edr_loops.specs.PartInlets.{IsTaken, parts_of, with_part}
+use Rattle.edr_loops.specs.PartInlets.{IsTakenPart, parts_of, with_part}
 use Rattle.edr_loops.specs.Desks.{HaveMarks}
 
 -- ---- the front of a feed is one
@@ -101,7 +101,7 @@ fast-beside sensor.Lamp x f l slow h = record { along = h.along; across = h.acro
 fast-beside sensor.Restraint x f l slow h = absurd (omega (arith, slow))
 
 -- marks past a tick have reached the next one
-pub all-reached : (t : ℕ) (f : SensorLists) (m : SlowMarks) → HaveMarks m f → ((s : Sensor) → t ≤ mark_of (items_of s f)) → IsReached t m
+pub all-reached : (t : ℕ) (f : SensorLists) (m : SlowMarks) → HaveMarks m f → ((s : Sensor) → t ≤ mark_of (items_of s f)) → AllReach t m
 all-reached t f m h past = record {
   speed = let is = h.speed in let low = past sensor.Speed in omega (arith, is, low);
   throttle = let is = h.throttle in let low = past sensor.Throttle in omega (arith, is, low);
@@ -138,8 +138,8 @@ grown-at a b g sensor.Belt p h = g.belt p h
 grown-at a b g sensor.Lamp p h = g.lamp p h
 grown-at a b g sensor.Restraint p h = h
 
-pub all-taken : (s : Sensor) (q : SensorPart) (l : SlowParts) (ps : List SensorPart) → All (IsTaken l) ps → All (IsTaken (with_part s q l)) ps
-all-taken s q l ps h = All-weaker (IsTaken l) (IsTaken (with_part s q l)) (λ p has. grown-at l (with_part s q l) (grown-with s q l) p.sensor p has) ps h
+pub all-taken : (s : Sensor) (q : SensorPart) (l : SlowParts) (ps : List SensorPart) → All (IsTakenPart l) ps → All (IsTakenPart (with_part s q l)) ps
+all-taken s q l ps h = All-weaker (IsTakenPart l) (IsTakenPart (with_part s q l)) (λ p has. grown-at l (with_part s q l) (grown-with s q l) p.sensor p has) ps h
 
 own : (q : SensorPart) → Contains (q ∷ []) q
 own q = (0, omega arith, refl)
@@ -155,5 +155,5 @@ own-part sensor.Belt q l slow = Contains-append_right l.belt (q ∷ []) q (own q
 own-part sensor.Lamp q l slow = Contains-append_right l.lamp (q ∷ []) q (own q)
 own-part sensor.Restraint q l slow = absurd (omega (arith, slow))
 
-pub is-taken : (s : Sensor) (q : SensorPart) (l : SlowParts) → IsSlow q.sensor → q.sensor ≡ s → IsTaken (with_part s q l) q
+pub is-taken : (s : Sensor) (q : SensorPart) (l : SlowParts) → IsSlow q.sensor → q.sensor ≡ s → IsTakenPart (with_part s q l) q
 is-taken s q l slow is = subst (λ (r : Sensor). Contains (parts_of q.sensor (with_part r q l)) q) is (own-part q.sensor q l slow)

@@ -10,8 +10,8 @@ use Rattle.edr_capture.specs.SensorPart.{SensorPart, part}
 use Rattle.edr_seats.specs.Slow.{SameSlowSeat, SlowSeatIsFor, mark_kept, parts_sent, sensor_of_slow}
 use Rattle.edr_loops.specs.declared.slow_place.SlowPlace.{SlowPlace}
 use Rattle.edr_loops.specs.declared.stand.SlowPlaces.{SlowPlaces}
-use Rattle.edr_loops.specs.SlowPlaces.{AreParts, IsKeeping, IsKept, IsPartOf, KeepsOn}
-use Rattle.edr_loops.specs.Stands.{AreKept, SlowKeepOn}
+use Rattle.edr_loops.specs.SlowPlaces.{AreParts, IsKeeping, IsPlaceKept, IsPartOfBeginning, KeepsOn}
+use Rattle.edr_loops.specs.Stands.{ArePlacesKept, SlowKeepOn}
 
 -- the seat has kept one more item, the next of the list
 pub keeping-item : (s : Sensor) (xs : List Item) (x : Item) (a b : SlowPlace) → SameSlowSeat a.seat b.seat → take b.next xs ≡ take a.next xs ++ x ∷ []
@@ -21,7 +21,7 @@ keeping-item s xs x a b same more keeps h =
     let k = keeps (take a.next xs) (parts_sent a.seat) h.stands in record {
       sensor = same.sensor ∙ h.sensor;
       stands = subst (λ ys. SlowSeatIsFor b.seat ys (parts_sent b.seat)) (sym more) (subst (λ ps. SlowSeatIsFor b.seat (take a.next xs ++ x ∷ []) ps) (sym k.parts_are) k);
-      parts = subst (All (IsPartOf s xs)) (sym k.parts_are) h.parts;
+      parts = subst (All (IsPartOfBeginning s xs)) (sym k.parts_are) h.parts;
     }
 
 -- the seat has sent the part of a zero that its mark has reached
@@ -30,24 +30,24 @@ pub keeping-part : (s : Sensor) (xs : List Item) (z : ℕ) (a b : SlowPlace) →
     → IsKeeping s xs a → IsKeeping s xs b
 keeping-part s xs z a b same next reached sends h =
     let k = sends (take a.next xs) (parts_sent a.seat) h.stands in
-    let last : IsPartOf s xs (part (sensor_of_slow a.seat) (take a.next xs) z) = record {
+    let last : IsPartOfBeginning s xs (part (sensor_of_slow a.seat) (take a.next xs) z) = record {
       many = a.next;
       is = ap (λ r. part r (take a.next xs) z) h.sensor;
       reached = subst (λ n. z ≤ n) (sym h.stands.mark) reached;
     } in record {
       sensor = same.sensor ∙ h.sensor;
       stands = subst (λ n. SlowSeatIsFor b.seat (take n xs) (parts_sent b.seat)) (sym next) (subst (λ ps. SlowSeatIsFor b.seat (take a.next xs) ps) (sym k.parts_are) k);
-      parts = subst (All (IsPartOf s xs)) (sym k.parts_are) (All-push (IsPartOf s xs) (parts_sent a.seat) (part (sensor_of_slow a.seat) (take a.next xs) z) h.parts last);
+      parts = subst (All (IsPartOfBeginning s xs)) (sym k.parts_are) (All-push (IsPartOfBeginning s xs) (parts_sent a.seat) (part (sensor_of_slow a.seat) (take a.next xs) z) h.parts last);
     }
 
 -- ---- one place
-pub keeps-kept : (s : Sensor) (xs : List Item) (a b : Option SlowPlace) → KeepsOn s xs a b → IsKept s xs b
+pub keeps-kept : (s : Sensor) (xs : List Item) (a b : Option SlowPlace) → KeepsOn s xs a b → IsPlaceKept s xs b
 keeps-kept s xs None None h = tt
 keeps-kept s xs (Some a) (Some b) h = h.1
 keeps-kept s xs None (Some b) h = absurd h
 keeps-kept s xs (Some a) None h = absurd h
 
-keeps-self : (s : Sensor) (xs : List Item) (a : Option SlowPlace) → IsKept s xs a → KeepsOn s xs a a
+keeps-self : (s : Sensor) (xs : List Item) (a : Option SlowPlace) → IsPlaceKept s xs a → KeepsOn s xs a a
 keeps-self s xs None h = tt
 keeps-self s xs (Some a) h = (search, h)
 
@@ -60,10 +60,10 @@ keeps-again s xs a (Some b) None h k = absurd k
 keeps-again s xs a None (Some c) h k = absurd k
 
 -- ---- all places
-pub slow-kept : (f : SensorLists) (a b : SlowPlaces) → SlowKeepOn f a b → AreKept f b
+pub slow-kept : (f : SensorLists) (a b : SlowPlaces) → SlowKeepOn f a b → ArePlacesKept f b
 slow-kept f a b h = record { speed = keeps-kept Speed f.speed a.speed b.speed h.speed; throttle = keeps-kept Throttle f.throttle a.throttle b.throttle h.throttle; brake = keeps-kept Brake f.brake a.brake b.brake h.brake; belt = keeps-kept Belt f.belt a.belt b.belt h.belt; lamp = keeps-kept Lamp f.lamp a.lamp b.lamp h.lamp }
 
-pub slow-self : (f : SensorLists) (a : SlowPlaces) → AreKept f a → SlowKeepOn f a a
+pub slow-self : (f : SensorLists) (a : SlowPlaces) → ArePlacesKept f a → SlowKeepOn f a a
 slow-self f a h = record { speed = keeps-self Speed f.speed a.speed h.speed; throttle = keeps-self Throttle f.throttle a.throttle h.throttle; brake = keeps-self Brake f.brake a.brake h.brake; belt = keeps-self Belt f.belt a.belt h.belt; lamp = keeps-self Lamp f.lamp a.lamp h.lamp }
 
 pub slow-again : (f : SensorLists) (a b c : SlowPlaces) → SlowKeepOn f a b → SlowKeepOn f b c → SlowKeepOn f a c
@@ -71,5 +71,5 @@ slow-again f a b c h k = record { speed = keeps-again Speed f.speed a.speed b.sp
 
 -- ---- parts that were taken
 pub front-parts : (s : Sensor) (xs : List Item) (taken known : List SensorPart) → AreParts s xs (taken ++ known) → AreParts s xs taken
-front-parts s xs [] known all = All-nil (IsPartOf s xs)
-front-parts s xs (p ∷ ps) known all = All-cons (IsPartOf s xs) p ps (All-head (IsPartOf s xs) p (ps ++ known) all) (front-parts s xs ps known (All-tail (IsPartOf s xs) p (ps ++ known) all))
+front-parts s xs [] known all = All-nil (IsPartOfBeginning s xs)
+front-parts s xs (p ∷ ps) known all = All-cons (IsPartOfBeginning s xs) p ps (All-head (IsPartOfBeginning s xs) p (ps ++ known) all) (front-parts s xs ps known (All-tail (IsPartOfBeginning s xs) p (ps ++ known) all))

@@ -9,8 +9,8 @@ use Rattle.edr_loops.specs.declared.stand.Stand.{Stand}
 use Rattle.edr_loops.specs.declared.stand.SlowPlaces.{SlowPlaces}
 use Rattle.edr_loops.specs.declared.slow_place.SlowPlace.{SlowPlace}
 use Rattle.edr_loops.specs.Places.{IsDealt}
-use Rattle.edr_loops.specs.SlowPlaces.{IsKept, KeepsOn}
-use Rattle.edr_loops.specs.Stands.{AreFastBegun, AreFastDealt, AreKept, AreSlowDealt, FastGoOn, SlowKeepOn, either_fast, either_slow, either}
+use Rattle.edr_loops.specs.SlowPlaces.{IsPlaceKept, KeepsOn}
+use Rattle.edr_loops.specs.Stands.{AreFastBegun, AreFastDealt, ArePlacesKept, AreSlowDealt, FastGoOn, SlowKeepOn, either_fast, either_slow, either}
 use Rattle.edr_loops.proofs.PlaceLemmas.{dealt-begun, dealt-goes, goes-again, goes-begun, goes-self, none-or}
 
 -- ---- the places of fast sensors
@@ -57,9 +57,9 @@ fast_dealt-on f a m r m' r' d h k = record {
 }
 
 -- ---- one place of a slow sensor
-slow_dealt : (s : Sensor) (xs : List Item) (a m r : Option SlowPlace) → IsKept s xs a → IsDealt a m r → IsKept s xs m × IsKept s xs r
-slow_dealt s xs a m r h (inl d) = (subst (IsKept s xs) (sym d.0) h, subst (IsKept s xs) (sym d.1) tt)
-slow_dealt s xs a m r h (inr d) = (subst (IsKept s xs) (sym d.0) tt, subst (IsKept s xs) (sym d.1) h)
+slow_dealt : (s : Sensor) (xs : List Item) (a m r : Option SlowPlace) → IsPlaceKept s xs a → IsDealt a m r → IsPlaceKept s xs m × IsPlaceKept s xs r
+slow_dealt s xs a m r h (inl d) = (subst (IsPlaceKept s xs) (sym d.0) h, subst (IsPlaceKept s xs) (sym d.1) tt)
+slow_dealt s xs a m r h (inr d) = (subst (IsPlaceKept s xs) (sym d.0) tt, subst (IsPlaceKept s xs) (sym d.1) h)
 
 slow-left : (s : Sensor) (xs : List Item) (r : Option SlowPlace) → KeepsOn s xs None r → r ≡ None
 slow-left s xs None h = refl
@@ -74,7 +74,7 @@ slow_dealt-keeps s xs a m r m' r' (inr d) h k =
     subst (λ q. KeepsOn s xs a (either r' q)) (sym gone) (subst (λ q. KeepsOn s xs a q) (sym (none-or r')) (subst (λ q. KeepsOn s xs q r') d.1 k))
 
 -- ---- the places of slow sensors
-pub slow_dealt-mine : (f : SensorLists) (a m r : SlowPlaces) → AreKept f a → AreSlowDealt a m r → AreKept f m
+pub slow_dealt-mine : (f : SensorLists) (a m r : SlowPlaces) → ArePlacesKept f a → AreSlowDealt a m r → ArePlacesKept f m
 slow_dealt-mine f a m r h d = record {
   speed = (slow_dealt Speed f.speed a.speed m.speed r.speed h.speed d.speed).0;
   throttle = (slow_dealt Throttle f.throttle a.throttle m.throttle r.throttle h.throttle d.throttle).0;
@@ -83,7 +83,7 @@ slow_dealt-mine f a m r h d = record {
   lamp = (slow_dealt Lamp f.lamp a.lamp m.lamp r.lamp h.lamp d.lamp).0;
 }
 
-pub slow_dealt-rest : (f : SensorLists) (a m r : SlowPlaces) → AreKept f a → AreSlowDealt a m r → AreKept f r
+pub slow_dealt-rest : (f : SensorLists) (a m r : SlowPlaces) → ArePlacesKept f a → AreSlowDealt a m r → ArePlacesKept f r
 slow_dealt-rest f a m r h d = record {
   speed = (slow_dealt Speed f.speed a.speed m.speed r.speed h.speed d.speed).1;
   throttle = (slow_dealt Throttle f.throttle a.throttle m.throttle r.throttle h.throttle d.throttle).1;

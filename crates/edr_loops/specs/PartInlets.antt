@@ -15,5 +15,5 @@ abbrev pub with_part : Sensor → SensorPart → SlowParts → SlowParts
 with_part s q l = with_slow_value s (parts_of s l ++ q ∷ []) l
 
 -- the part is one of its sensor's
-abbrev pub IsTaken : SlowParts → SensorPart → Type 0
-IsTaken l q = Contains (parts_of q.sensor l) q
+abbrev pub IsTakenPart : SlowParts → SensorPart → Type 0
+IsTakenPart l q = Contains (parts_of q.sensor l) q

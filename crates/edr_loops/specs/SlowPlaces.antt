@@ -8,13 +8,13 @@ use Rattle.edr_seats.specs.Slow.{SameSlowSeat, SlowSeatIsFor, parts_sent, sensor
 use Rattle.edr_loops.specs.declared.slow_place.SlowPlace.{SlowPlace}
 
 -- the part is that of a beginning of the sensor's list, whose mark has reached the part's time zero
-pub record IsPartOf (s : Sensor) (xs : List Item) (p : SensorPart) : Type 0 where
+pub record IsPartOfBeginning (s : Sensor) (xs : List Item) (p : SensorPart) : Type 0 where
   pub many : ℕ
   pub is : p ≡ part s (take many xs) p.zero
   pub reached : p.zero ≤ mark_of (take many xs)
 
 abbrev pub AreParts : Sensor → List Item → List SensorPart → Type 0
-AreParts s xs ps = All (IsPartOf s xs) ps
+AreParts s xs ps = All (IsPartOfBeginning s xs) ps
 
 -- the place of this sensor has kept the first items of its list, as many as it says, and has sent parts of beginnings of it
 pub record IsKeeping (s : Sensor) (xs : List Item) (p : SlowPlace) : Type 0 where
@@ -23,9 +23,9 @@ pub record IsKeeping (s : Sensor) (xs : List Item) (p : SlowPlace) : Type 0 wher
   pub parts : AreParts s xs (parts_sent p.seat)
 
 -- the same of a place that may be at another worker
-abbrev pub IsKept : Sensor → List Item → Option SlowPlace → Type 0
-IsKept s xs None = Unit {0}
-IsKept s xs (Some p) = IsKeeping s xs p
+abbrev pub IsPlaceKept : Sensor → List Item → Option SlowPlace → Type 0
+IsPlaceKept s xs None = Unit {0}
+IsPlaceKept s xs (Some p) = IsKeeping s xs p
 
 -- the same place later
 abbrev pub KeepsOn : Sensor → List Item → Option SlowPlace → Option SlowPlace → Type 0

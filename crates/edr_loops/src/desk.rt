@@ -10,7 +10,7 @@ ghost use Rattle.edr_core.specs.Answers.{commands_put};
 ghost use Rattle.edr_core.specs.SplitHistory.{History, after_item};
 ghost use Rattle.edr_core.specs.SplitStandsFor.{SplitCoreStandsFor};
 ghost use Rattle.edr_loops.specs.Held.{issues_held};
-ghost use Rattle.edr_loops.specs.Desks.{Begins, HasPosted, IsRecording, IsSettled, Later, LaterUpTo, SeatStays, DeskStands};
+ghost use Rattle.edr_loops.specs.Desks.{IsFreshDesk, HasPosted, IsRecording, IsAskerSettled, Later, LaterUpTo, SeatStays, DeskStands};
 
 use crate::fast_inlets::{FastInlets, FastMarks, FastSensor};
 use crate::held::Held;
@@ -67,7 +67,7 @@ fn settle(asker: &mut Asker, asking: &mut bool)
     requires open { asking.old ≡ true → open_zero asker.old ≢ 0 }
     requires none { asking.old ≡ false → open_zero asker.old ≡ 0 }
     ensures asking { asking.new ≡ false }
-    ensures settled { IsSettled asker.old asker.new }
+    ensures settled { IsAskerSettled asker.old asker.new }
 {
     if *asking {
         asker.settle();
@@ -112,7 +112,7 @@ impl Desk {
         ensures core { result.core ≡ core }
         ensures rings { (result.fast ≡ fast) × (result.parts ≡ parts) × (result.outbox ≡ outbox) }
         ensures seats { (result.asker ≡ asker) × (result.seat ≡ seat) × (result.watch ≡ watch) }
-        ensures stands { (n horizon : ℕ) → Begins n core asker fast parts outbox → DeskStands n horizon result }
+        ensures stands { (n horizon : ℕ) → IsFreshDesk n core asker fast parts outbox → DeskStands n horizon result }
         ensures posted { closed_posted seat ≡ 0 → gate_posted seat ≤ 1 → HasPosted result }
     {
         Desk {

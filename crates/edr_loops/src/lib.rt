@@ -23,7 +23,7 @@ pub use crate::lanes::{
 };
 pub use crate::orders::{Inbox, Order, Orders, Outbox, make_orders};
 pub use crate::part_inlets::PartInlets;
-pub use crate::place::{Gate, Offered, Passage, Place};
+pub use crate::place::{Gate, Offered, Passage, SensorPlace};
 pub use crate::slow_place::SlowPlace;
 pub use crate::stand::{FastPlaces, SlowPlaces, Stand};
 pub use crate::threads::{Recording, Serving, start_recorder, start_worker};

@@ -3,7 +3,7 @@
 ghost use Rattle.std.specs.Prelude.{◌≡◌, ◌⊎◌, take};
 ghost use Rattle.edr_items.specs.SensorLists.{items_of};
 ghost use Rattle.edr_seats.specs.Seat.{SameSeat, items_sent};
-ghost use Rattle.edr_loops.specs.Places.{Goes, IsBegun};
+ghost use Rattle.edr_loops.specs.Places.{Goes, HasSentFirst};
 
 use edr_items::{Feeds, Item, Sensor};
 use edr_seats::{OfferRefused, SLOTS, Seat};
@@ -76,13 +76,13 @@ impl Passage {
 
 /// A sensor's seat, with how many items of its feed it has sent.
 #[derive(Drop)]
-pub struct Place {
+pub struct SensorPlace {
     pub seat: Seat,
     pub next: usize,
     pub passage: Passage,
 }
 
-impl Place {
+impl SensorPlace {
     // Offers the next item, which passes the gate before its first offer.
     fn offer_next<G: Gate>(&mut self, sensor: Sensor, items: &[Item], gate: &G) -> Offered
         requires { items_sent self.old.seat ≡ take self.old.next items.now }
@@ -126,12 +126,12 @@ impl Place {
 
 // The same of a sensor that may be at another worker.
 pub fn serve_some<G: Gate>(
-    place: &mut Option<Place>,
+    place: &mut Option<SensorPlace>,
     sensor: Sensor,
     feeds: &Feeds,
     gate: &G,
 ) -> Offered
-    requires { IsBegun (items_of sensor feeds.now) place.old }
+    requires { HasSentFirst (items_of sensor feeds.now) place.old }
     ensures { Goes (items_of sensor feeds.now) place.old place.new }
 {
     match place {

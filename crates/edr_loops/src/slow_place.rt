@@ -4,7 +4,7 @@ ghost use Rattle.std.specs.Prelude.{List};
 ghost use Rattle.edr_items.specs.declared.Item.{Item};
 ghost use Rattle.edr_items.specs.SensorLists.{items_of};
 ghost use Rattle.edr_seats.specs.Slow.{SameSlowSeat};
-ghost use Rattle.edr_loops.specs.SlowPlaces.{IsKeeping, IsKept, KeepsOn};
+ghost use Rattle.edr_loops.specs.SlowPlaces.{IsKeeping, IsPlaceKept, KeepsOn};
 
 use crate::place::{Gate, Offered, Passage};
 use edr_items::{Feeds, Item, Sensor};
@@ -83,7 +83,7 @@ pub fn serve_slow<G: Gate>(
     feeds: &Feeds,
     gate: &G,
 ) -> Offered
-    requires { IsKept sensor (items_of sensor feeds.now) place.old }
+    requires { IsPlaceKept sensor (items_of sensor feeds.now) place.old }
     ensures { KeepsOn sensor (items_of sensor feeds.now) place.old place.new }
 {
     match place {

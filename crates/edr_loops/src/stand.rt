@@ -2,9 +2,9 @@
 
 ghost use Rattle.std.specs.Prelude.{◌≡◌};
 ghost use Rattle.edr_board.specs.Seats.{board_of_watch};
-ghost use Rattle.edr_loops.specs.Stands.{AreFastBegun, AreKept, FastGoOn, SlowKeepOn};
+ghost use Rattle.edr_loops.specs.Stands.{AreFastBegun, ArePlacesKept, FastGoOn, SlowKeepOn};
 
-use crate::place::{Gate, Offered, Place, serve_some};
+use crate::place::{Gate, Offered, SensorPlace, serve_some};
 use crate::slow_place::{SlowPlace, serve_slow};
 use edr_board::Watch;
 use edr_items::{Feeds, Sensor};
@@ -14,9 +14,9 @@ use std::thread;
 /// The places of some of the sensors 1, 2 and 8, whose items go through rings.
 #[derive(Drop)]
 pub struct FastPlaces {
-    pub along: Option<Place>,
-    pub across: Option<Place>,
-    pub restraint: Option<Place>,
+    pub along: Option<SensorPlace>,
+    pub across: Option<SensorPlace>,
+    pub restraint: Option<SensorPlace>,
 }
 
 /// The places of some of the sensors 3 to 7, which keep their items and send parts alone.
@@ -59,7 +59,7 @@ impl SlowPlaces {
 
     // One round over the sensors. It answers what came of their offers, and of the parts that are asked for.
     fn round<G: Gate>(&mut self, feeds: &Feeds, gate: &G) -> Offered
-        requires { AreKept feeds.now self.old }
+        requires { ArePlacesKept feeds.now self.old }
         ensures { SlowKeepOn feeds.now self.old self.new }
     {
         let speed = serve_slow(&mut self.speed, Sensor::Speed, feeds, gate);
@@ -83,7 +83,7 @@ impl Stand {
     // Rounds, until the worker's own work is done, or the board says that the work goes on without it.
     fn work<R: Wait, G: Gate>(&mut self, rt: &R, feeds: &Feeds, gate: &G)
         requires fast { AreFastBegun feeds.now self.old.fast }
-        requires slow { AreKept feeds.now self.old.slow }
+        requires slow { ArePlacesKept feeds.now self.old.slow }
         ensures fast { FastGoOn feeds.now self.old.fast self.new.fast }
         ensures slow { SlowKeepOn feeds.now self.old.slow self.new.slow }
         ensures board { board_of_watch self.new.watch ≡ board_of_watch self.old.watch }
@@ -107,7 +107,7 @@ impl Stand {
     /// that the work goes on without it.
     pub fn serve<R: Wait, G: Gate>(self, rt: &R, feeds: &Feeds, gate: &G) -> Stand
         requires fast { AreFastBegun feeds.now self.fast }
-        requires slow { AreKept feeds.now self.slow }
+        requires slow { ArePlacesKept feeds.now self.slow }
         ensures fast { FastGoOn feeds.now self.fast result.fast }
         ensures slow { SlowKeepOn feeds.now self.slow result.slow }
         ensures board { board_of_watch result.watch ≡ board_of_watch self.watch }

@@ -40,9 +40,9 @@ abbrev pub next_of : Progress → Next
 next_of p = option_map_or Waiting (waited_for p) (row_at p (p.closed + 1))
 
 -- the answer is a row
-abbrev pub IsRow : Next → Type 0
-IsRow (Waiting s) = ⊥
-IsRow (Row t along across fired) = Unit {0}
+abbrev pub AnswersRow : Next → Type 0
+AnswersRow (Waiting s) = ⊥
+AnswersRow (Row t along across fired) = Unit {0}
 
 -- a row closes its tick
 abbrev pub after_next : Progress → Next → Progress

@@ -115,7 +115,7 @@ fn check_next(marks: &Marks, sensor: Sensor, item: &Item) -> Result<(), ItemRefu
 }
 
 impl Merge {
-    ghost use Rattle.edr_merge.specs.Answers.{give_refusal_of, next_of, IsRow, after_next};
+    ghost use Rattle.edr_merge.specs.Answers.{give_refusal_of, next_of, AnswersRow, after_next};
     ghost use Rattle.edr_merge.specs.StandsFor.{MergeStandsFor};
 
     /// A merge to which no sensor has given an item, and of which no tick is closed.
@@ -172,7 +172,7 @@ impl Merge {
         ensures stands { (p : Progress) → MergeStandsFor self.old p → MergeStandsFor self.new (after_next p result) }
 
         // A tick is closed exactly where the schedule allows it.
-        ensures allowed { (p : Progress) → MergeStandsFor self.old p → IsRow result ↔ IsAllowed Close p }
+        ensures allowed { (p : Progress) → MergeStandsFor self.old p → AnswersRow result ↔ IsAllowed Close p }
     {
         if let Some(sensor) = lagging(&self.marks, &mut self.slow, self.closed) {
             return Next::Waiting { sensor };

@@ -6,7 +6,7 @@ use Rattle.edr_image.specs.declared.Header.{Header}
 use Rattle.edr_image.specs.declared.OldRefused.{OldRefused}
 use Rattle.edr_image.specs.Image.{View, image_size, old_refusal, old_view_of, view_of}
 use Rattle.edr_image.specs.Kept.{AreKept, IsKept}
-use Rattle.edr_banks.specs.Laying.{IsOver, IsPartlyOver, LacksMagic, over}
+use Rattle.edr_banks.specs.Laying.{IsLaidOver, IsPartlyOver, LacksMagic, over}
 use Rattle.edr_migrate.specs.Migrated.{IsWhole}
 use Rattle.edr_migrate.specs.NewBytes.{IsMigrated, IsPartlyMigrated, image_of}
 use Rattle.edr_migrate.specs.OldImage.{IsOld, view_in}
@@ -25,9 +25,9 @@ part_migrated old v bytes image seen sound part = record {
   past = part.past;
   says = ⊎_elim
       (λ (same : image ≡ bytes). inl same)
-      (λ (other : LacksMagic image ⊎ IsOver (image_size v.store.header.banks) (image_of v) bytes image). inr (⊎_elim
+      (λ (other : LacksMagic image ⊎ IsLaidOver (image_size v.store.header.banks) (image_of v) bytes image). inr (⊎_elim
       (λ (none : LacksMagic image). inl none)
-      (λ (new : IsOver (image_size v.store.header.banks) (image_of v) bytes image). inr (new_migrated old v bytes image seen sound new))
+      (λ (new : IsLaidOver (image_size v.store.header.banks) (image_of v) bytes image). inr (new_migrated old v bytes image seen sound new))
       other))
       part.says;
 }

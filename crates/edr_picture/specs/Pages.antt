@@ -13,90 +13,90 @@ use Rattle.edr_image.specs.Reports.{Report}
 use Rattle.edr_reading.specs.Faults.{IsFault}
 use Rattle.edr_reading.specs.declared.faults.RowFault.{RowFault}
 use Rattle.edr_reading.specs.Reading.{IsReading, report_rows}
-use Rattle.edr_reading.specs.Run.{RecordsOf}
-use Rattle.edr_picture.specs.declared.faults.Fault.{Fault}
-use Rattle.edr_picture.specs.declared.faults.Fault.TheVariants as fault
+use Rattle.edr_spell.specs.Spell.{RecordsOf}
+use Rattle.edr_picture.specs.declared.faults.PageFault.{PageFault}
+use Rattle.edr_picture.specs.declared.faults.PageFault.TheVariants as fault
 use Rattle.edr_picture.specs.Faults.{fault_line}
-use Rattle.edr_picture.specs.declared.status.Status.{Status}
-use Rattle.edr_picture.specs.declared.status.Status.TheVariants as status
+use Rattle.edr_picture.specs.declared.status.PageStatus.{PageStatus}
+use Rattle.edr_picture.specs.declared.status.PageStatus.TheVariants as status
 
 -- the most bytes that a report may have
 abbrev pub largest_report : ℕ
 largest_report = 67_108_864
 
 -- the bytes are a report, which tells this
-pub record Tells (bytes : List ℕ) (run : List Report) (found : List Found) (count : ℕ) : Type 0 where
+pub record TellsReport (bytes : List ℕ) (run : List Report) (found : List Found) (count : ℕ) : Type 0 where
   pub within : length bytes ≤ largest_report
   pub reading : IsReading run found count
   pub rows : RecordsOf bytes (report_rows run found count)
 
 -- the text is the page of what the bytes tell, of their number and of their digest
 abbrev pub IsPage : List ℕ → List ℕ → Type 0
-IsPage bytes text = (run : List Report) × (found : List Found) × (count : ℕ) × Tells bytes run found count × (text ≡ page_bytes run found count (length bytes) (sha256 bytes))
+IsPage bytes text = (run : List Report) × (found : List Found) × (count : ℕ) × TellsReport bytes run found count × (text ≡ page_bytes run found count (length bytes) (sha256 bytes))
 
 -- the records of the bytes can be no report from this row on
-abbrev pub HasFault : List ℕ → ℕ → RowFault → Type 0
-HasFault bytes row f = (records : List (List (List ℕ))) × RecordsOf bytes records × IsFault records row f
+abbrev pub HasFaultFrom : List ℕ → ℕ → RowFault → Type 0
+HasFaultFrom bytes row f = (records : List (List (List ℕ))) × RecordsOf bytes records × IsFault records row f
 
 -- why bytes have no page
-abbrev pub IsWhy : List ℕ → Fault → Type 0
+abbrev pub IsWhy : List ℕ → PageFault → Type 0
 IsWhy bytes fault.Usage = ⊥
-IsWhy bytes (fault.Report row f) = HasFault bytes row f
+IsWhy bytes (fault.Report row f) = HasFaultFrom bytes row f
 IsWhy bytes fault.Read = ⊥
 IsWhy bytes fault.OutOfMemory = ⊤
 IsWhy bytes fault.TooLong = ⊥
 
 -- what a source tells at one moment: the bytes that are left, if it tells them, and its count of faults
-pub record Input : Type 0 where
+pub record PageInput : Type 0 where
   pub left : Option (List ℕ)
   pub faults : ℕ
 
-abbrev pub input : {S : Type 0} → (S → Option (List ℕ)) → (S → ℕ) → S → Input
+abbrev pub input : {S : Type 0} → (S → Option (List ℕ)) → (S → ℕ) → S → PageInput
 input left faults source = record { left = left source; faults = faults source }
 
 -- the source is at its end, if it tells
-abbrev pub IsAtEnd : Input → Type 0
-IsAtEnd i = IfSome i.left (λ bytes. bytes ≡ [])
+abbrev pub IsReadToEnd : PageInput → Type 0
+IsReadToEnd i = IfSome i.left (λ bytes. bytes ≡ [])
 
 -- the source gave the report of which this is the page, and is at its end
-abbrev pub PageIs : Input → Input → List ℕ → Type 0
-PageIs i i' text = IfSome i.left (λ bytes. IsPage bytes text) × IsAtEnd i'
+abbrev pub PageIs : PageInput → PageInput → List ℕ → Type 0
+PageIs i i' text = IfSome i.left (λ bytes. IsPage bytes text) × IsReadToEnd i'
 
 -- why there is no page
-abbrev pub IsCause : Bool → Input → Input → Fault → Type 0
-IsCause has_words i i' fault.Usage = (has_words ≡ true) × (i' ≡ i)
-IsCause has_words i i' (fault.Report row f) = (has_words ≡ false) × IfSome i.left (λ bytes. (length bytes ≤ largest_report) × HasFault bytes row f) × IsAtEnd i'
-IsCause has_words i i' fault.Read = (has_words ≡ false) × Rose i.faults i'.faults
-IsCause has_words i i' fault.OutOfMemory = has_words ≡ false
-IsCause has_words i i' fault.TooLong = (has_words ≡ false) × Told (GivesTooMany largest_report) i.left i'.left
+abbrev pub IsCauseOfNoPage : Bool → PageInput → PageInput → PageFault → Type 0
+IsCauseOfNoPage has_words i i' fault.Usage = (has_words ≡ true) × (i' ≡ i)
+IsCauseOfNoPage has_words i i' (fault.Report row f) = (has_words ≡ false) × IfSome i.left (λ bytes. (length bytes ≤ largest_report) × HasFaultFrom bytes row f) × IsReadToEnd i'
+IsCauseOfNoPage has_words i i' fault.Read = (has_words ≡ false) × Rose i.faults i'.faults
+IsCauseOfNoPage has_words i i' fault.OutOfMemory = has_words ≡ false
+IsCauseOfNoPage has_words i i' fault.TooLong = (has_words ≡ false) × Told (GivesTooMany largest_report) i.left i'.left
 
 -- a page, or the line of a fault that has its cause
-abbrev pub IsText : Bool → Input → Input → List ℕ → Type 0
-IsText has_words i i' text = PageIs i i' text ⊎ ((f : Fault) × IsCause has_words i i' f × (text ≡ fault_line f))
+abbrev pub IsText : Bool → PageInput → PageInput → List ℕ → Type 0
+IsText has_words i i' text = PageIs i i' text ⊎ ((f : PageFault) × IsCauseOfNoPage has_words i i' f × (text ≡ fault_line f))
 
 -- ---- the same of a source and a sink, before a call and after it
 
 -- of what the source tells
-abbrev pub OnInput : {S : Type 0} {X : Type 1} → stream.Ghosts S → (Input → Input → X) → S → S → X
+abbrev pub OnInput : {S : Type 0} {X : Type 1} → stream.Ghosts S → (PageInput → PageInput → X) → S → S → X
 OnInput s says old new = says (input s.left s.faults old) (input s.left s.faults new)
 
 -- whatever report the source gives, if it counts no fault, this is so
 abbrev pub OfReport : {S : Type 0} → stream.Ghosts S → S → S → Type 0 → Type 0
 OfReport s old new says =
-    (bytes : List ℕ) (run : List Report) (found : List Found) (count : ℕ) → s.left old ≡ Some bytes → Tells bytes run found count
+    (bytes : List ℕ) (run : List Report) (found : List Found) (count : ℕ) → s.left old ≡ Some bytes → TellsReport bytes run found count
     → ¬ Rose (s.faults old) (s.faults new) → says
 
 -- the sink gained the text
-abbrev pub Gains : {K : Type 0} → sink.Ghosts K → List ℕ → K → K → Type 0
-Gains k text old new = Told (Appends text) (k.content old) (k.content new)
+abbrev pub GainsText : {K : Type 0} → sink.Ghosts K → List ℕ → K → K → Type 0
+GainsText k text old new = Told (Appends text) (k.content old) (k.content new)
 
 -- it gained a part of it
 abbrev pub GainsPart : {K : Type 0} → sink.Ghosts K → List ℕ → K → K → Type 0
 GainsPart k text old new = Told (AppendsPart text) (k.content old) (k.content new)
 
 -- such a text, or a part of one
-abbrev pub Writes : {K : Type 0} → sink.Ghosts K → (List ℕ → Type 0) → K → K → Type 0
-Writes k is old new = (text : List ℕ) × is text × Gains k text old new
+abbrev pub WritesText : {K : Type 0} → sink.Ghosts K → (List ℕ → Type 0) → K → K → Type 0
+WritesText k is old new = (text : List ℕ) × is text × GainsText k text old new
 
 abbrev pub WritesPart : {K : Type 0} → sink.Ghosts K → (List ℕ → Type 0) → K → K → Type 0
 WritesPart k is old new = (text : List ℕ) × is text × GainsPart k text old new
@@ -106,5 +106,5 @@ abbrev pub Fails : {K : Type 0} → sink.Ghosts K → K → K → Type 0
 Fails k old new = Rose (k.faults old) (k.faults new)
 
 -- the page was drawn, unless memory ran out
-abbrev pub IsDrawn : Status → Type 0
+abbrev pub IsDrawn : PageStatus → Type 0
 IsDrawn s = (s ≡ status.Done) ⊎ (s ≡ status.Faulty fault.OutOfMemory)

@@ -5,10 +5,10 @@ ghost use Rattle.edr_image.specs.Reports.{Report};
 ghost use Rattle.edr_device.specs.Told.{Told};
 ghost use Rattle.edr_device.specs.Transfer.{GivesAtMost};
 ghost use Rattle.edr_picture.specs.Faults.{fault_line};
-ghost use Rattle.edr_picture.specs.Pages.{Fails, Gains, GainsPart, IsCause, IsDrawn, IsPage, IsText, IsWhy, OfReport, OnInput, PageIs, Tells, Writes, WritesPart, largest_report};
+ghost use Rattle.edr_picture.specs.Pages.{Fails, GainsText, GainsPart, IsCauseOfNoPage, IsDrawn, IsPage, IsText, IsWhy, OfReport, OnInput, PageIs, TellsReport, WritesText, WritesPart, largest_report};
 
-use crate::faults::Fault;
-use crate::status::Status;
+use crate::faults::PageFault;
+use crate::status::PageStatus;
 use edr_device::{Failed, Sink, Source, TakeFault, put_all, take_all};
 use edr_drawing::page;
 use edr_reading::{ReportRefused, read};
@@ -19,17 +19,17 @@ use std::alloc::{AllocError as OutOfMemory, Global};
 const LARGEST_REPORT: usize = 67_108_864;
 
 // The page of the bytes of a report, or why there is none.
-fn page_of(alloc: Global, bytes: &[u8]) -> Result<Vec<u8>, Fault>
+fn page_of(alloc: Global, bytes: &[u8]) -> Result<Vec<u8>, PageFault>
     requires { length bytes.now ≤ largest_report }
     ensures page { IfOk result (λ v. IsPage bytes.now v.items) }
     ensures refused { IfErr result (λ f. IsWhy bytes.now f) }
     ensures complete { (run : List Report) (found : List Found) (count : ℕ)
-        → Tells bytes.now run found count → IfErr result (λ f. f ≡ Fault.OutOfMemory) }
+        → TellsReport bytes.now run found count → IfErr result (λ f. f ≡ PageFault.OutOfMemory) }
 {
     let reading = match read(alloc, bytes) {
         Ok(reading) => reading,
-        Err(ReportRefused::Fault { row, fault }) => return Err(Fault::Report { row, fault }),
-        Err(ReportRefused::OutOfMemory) => return Err(Fault::OutOfMemory),
+        Err(ReportRefused::Fault { row, fault }) => return Err(PageFault::Report { row, fault }),
+        Err(ReportRefused::OutOfMemory) => return Err(PageFault::OutOfMemory),
     };
     let digest = Sha256::digest(bytes);
     let size = bytes.len() as u32;
@@ -42,39 +42,39 @@ fn page_of(alloc: Global, bytes: &[u8]) -> Result<Vec<u8>, Fault>
         &digest,
     ) {
         Ok(page) => Ok(page),
-        Err(OutOfMemory) => Err(Fault::OutOfMemory),
+        Err(OutOfMemory) => Err(PageFault::OutOfMemory),
     }
 }
 
 // The page of the report that the source gives up to its end, or why there is none.
-fn page_from<S: Source>(alloc: Global, source: &mut S) -> Result<Vec<u8>, Fault>
+fn page_from<S: Source>(alloc: Global, source: &mut S) -> Result<Vec<u8>, PageFault>
     ensures page { IfOk result (λ v. OnInput S.Source PageIs source.old source.new v.items) }
-    ensures cause { IfErr result (OnInput S.Source (IsCause false) source.old source.new) }
+    ensures cause { IfErr result (OnInput S.Source (IsCauseOfNoPage false) source.old source.new) }
     ensures complete { OfReport S.Source source.old source.new
-        (IfErr result (λ f. f ≡ Fault.OutOfMemory)) }
+        (IfErr result (λ f. f ≡ PageFault.OutOfMemory)) }
     ensures takes { Told (GivesAtMost (largest_report + 1)) (S.left source.old) (S.left source.new) }
     ensures later { S.faults source.old ≤ S.faults source.new }
 {
     match take_all(alloc, source, LARGEST_REPORT) {
         Ok(bytes) => page_of(alloc, &bytes),
-        Err(TakeFault::Failed) => Err(Fault::Read),
-        Err(TakeFault::TooLong) => Err(Fault::TooLong),
-        Err(TakeFault::OutOfMemory) => Err(Fault::OutOfMemory),
+        Err(TakeFault::Failed) => Err(PageFault::Read),
+        Err(TakeFault::TooLong) => Err(PageFault::TooLong),
+        Err(TakeFault::OutOfMemory) => Err(PageFault::OutOfMemory),
     }
 }
 
 // Writes the text with which a call ends so.
-fn write<K: Sink>(sink: &mut K, text: &[u8], status: Status) -> Status
-    ensures whole { result ≢ Status.WriteFault
-        → (result ≡ status) × Gains K.Sink text.now sink.old sink.new }
-    ensures part { status ≢ Status.WriteFault → result ≡ Status.WriteFault
+fn write<K: Sink>(sink: &mut K, text: &[u8], status: PageStatus) -> PageStatus
+    ensures whole { result ≢ PageStatus.WriteFault
+        → (result ≡ status) × GainsText K.Sink text.now sink.old sink.new }
+    ensures part { status ≢ PageStatus.WriteFault → result ≡ PageStatus.WriteFault
         → GainsPart K.Sink text.now sink.old sink.new × Fails K.Sink sink.old sink.new }
-    ensures answers { (result ≡ status) ⊎ (result ≡ Status.WriteFault) }
+    ensures answers { (result ≡ status) ⊎ (result ≡ PageStatus.WriteFault) }
     ensures later { K.faults sink.old ≤ K.faults sink.new }
 {
     match put_all(sink, text) {
         Ok(()) => status,
-        Err(Failed) => Status::WriteFault,
+        Err(Failed) => PageStatus::WriteFault,
     }
 }
 
@@ -85,16 +85,16 @@ pub fn draw<S: Source, K: Sink>(
     has_words: bool,
     source: &mut S,
     sink: &mut K,
-) -> Status
+) -> PageStatus
     // With Done the source is at its end, and the sink gained exactly the page of its bytes.
-    ensures done { result ≡ Status.Done → (has_words ≡ false)
-        × Writes K.Sink (OnInput S.Source PageIs source.old source.new) sink.old sink.new }
+    ensures done { result ≡ PageStatus.Done → (has_words ≡ false)
+        × WritesText K.Sink (OnInput S.Source PageIs source.old source.new) sink.old sink.new }
     // With a fault it gained exactly its line, and the fault has its cause.
-    ensures fault { (f : Fault) → result ≡ Status.Faulty f
-        → OnInput S.Source (IsCause has_words) source.old source.new f
-        × Gains K.Sink (fault_line f) sink.old sink.new }
+    ensures fault { (f : PageFault) → result ≡ PageStatus.Faulty f
+        → OnInput S.Source (IsCauseOfNoPage has_words) source.old source.new f
+        × GainsText K.Sink (fault_line f) sink.old sink.new }
     // Where a write failed it gained a part of one of these texts.
-    ensures part { result ≡ Status.WriteFault
+    ensures part { result ≡ PageStatus.WriteFault
         → Fails K.Sink sink.old sink.new
         × WritesPart K.Sink (OnInput S.Source (IsText has_words) source.old source.new)
         sink.old sink.new }
@@ -107,12 +107,12 @@ pub fn draw<S: Source, K: Sink>(
     if has_words {
         return write(
             sink,
-            Fault::Usage.line().as_bytes(),
-            Status::Faulty(Fault::Usage),
+            PageFault::Usage.line().as_bytes(),
+            PageStatus::Faulty(PageFault::Usage),
         );
     }
     match page_from(alloc, source) {
-        Ok(page) => write(sink, &page, Status::Done),
-        Err(fault) => write(sink, fault.line().as_bytes(), Status::Faulty(fault)),
+        Ok(page) => write(sink, &page, PageStatus::Done),
+        Err(fault) => write(sink, fault.line().as_bytes(), PageStatus::Faulty(fault)),
     }
 }

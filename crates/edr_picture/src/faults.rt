@@ -8,7 +8,7 @@ use edr_report::{Room, ShortLine, push_number};
 
 /// Why there is no page.
 #[derive(Clone, Copy, Debug, PartialEq, Eq)]
-pub enum Fault {
+pub enum PageFault {
     /// There are words on the command line.
     Usage,
     /// The bytes can be no report from this row on.
@@ -34,25 +34,25 @@ fn push_row_fault(line: &mut Room, fault: RowFault)
 }
 
 // Appends what went wrong.
-fn push_fault(line: &mut Room, fault: Fault)
+fn push_fault(line: &mut Room, fault: PageFault)
     requires { array_string_len line.old ≤ 7 }
     ensures bytes { line.new.bytes ≡ line.old.bytes ++ fault_words fault }
     ensures len { array_string_len line.new ≤ 70 }
 {
     match fault {
-        Fault::Usage => line.push_str("usage"),
-        Fault::Report { row, fault } => {
+        PageFault::Usage => line.push_str("usage"),
+        PageFault::Report { row, fault } => {
             push_number(line, "report row ", row);
             line.push_str(": ");
             push_row_fault(line, fault);
         }
-        Fault::Read => line.push_str("read fault"),
-        Fault::OutOfMemory => line.push_str("out of memory"),
-        Fault::TooLong => line.push_str("too long"),
+        PageFault::Read => line.push_str("read fault"),
+        PageFault::OutOfMemory => line.push_str("out of memory"),
+        PageFault::TooLong => line.push_str("too long"),
     }
 }
 
-impl Fault {
+impl PageFault {
     /// The line that tells of the fault. It takes no memory.
     pub fn line(self) -> ShortLine
         ensures { result ≡ fault_line self }

@@ -12,8 +12,8 @@ mod tests;
 
 use draws::draw;
 use edr_streams::Counted;
-use faults::Fault;
-use status::Status;
+use faults::PageFault;
+use status::PageStatus;
 use std::alloc::AllocError as OutOfMemory;
 use std::process::ExitCode;
 use std::rt::Env;
@@ -33,7 +33,7 @@ fn main(rt: HostRuntime) -> ExitCode {
     let mut output = Counted::new(rt.stdout());
     let status = match has_words(&rt) {
         Ok(has_words) => draw(rt.alloc(), has_words, &mut input, &mut output),
-        Err(OutOfMemory) => Status::Faulty(Fault::OutOfMemory),
+        Err(OutOfMemory) => PageStatus::Faulty(PageFault::OutOfMemory),
     };
     ExitCode::from(status.code())
 }

@@ -1,10 +1,10 @@
 //! Whole runs over sources and sinks in memory.
 
 use crate::draws::draw;
-use crate::faults::Fault;
+use crate::faults::PageFault;
 use crate::reports;
 use crate::reports::Known;
-use crate::status::Status;
+use crate::status::PageStatus;
 use edr_device::{MemSink, MemSource};
 use edr_reading::RowFault;
 use sha2::{Digest, Sha256};
@@ -22,12 +22,12 @@ struct Run<'a> {
     report: &'a [u8],
     source_fails: &'a [u32],
     sink_fails: &'a [u32],
-    status: Status,
+    status: PageStatus,
     code: u8,
 }
 
 // A run in which nothing fails.
-const fn sound<'a>(report: &'a [u8], status: Status, code: u8) -> Run<'a> {
+const fn sound<'a>(report: &'a [u8], status: PageStatus, code: u8) -> Run<'a> {
     Run {
         has_words: false,
         report,
@@ -57,10 +57,10 @@ fn check<R: Abort + AllocGlobal>(rt: &R, run: Run<'_>, output: &[u8]) -> Result<
 
 #[test]
 fn a_report_is_drawn_whole_or_in_part(rt: HostRuntime) -> Result<(), Fail> {
-    let page = output_of(&rt, sound(EMPTY, Status::Done, 0))?;
+    let page = output_of(&rt, sound(EMPTY, PageStatus::Done, 0))?;
     let cut = Run {
         sink_fails: &[3],
-        ..sound(EMPTY, Status::WriteFault, 5)
+        ..sound(EMPTY, PageStatus::WriteFault, 5)
     };
     match page.get(..128) {
         Some(part) => check(&rt, cut, part),
@@ -74,11 +74,11 @@ fn a_report_is_drawn_whole_or_in_part(rt: HostRuntime) -> Result<(), Fail> {
 #[test]
 fn what_is_no_report_is_told(rt: HostRuntime) -> Result<(), Fail> {
     let text = b"block,name,value\n0,\"ignition cycle, download\",03\n";
-    let told = Fault::Report {
+    let told = PageFault::Report {
         row: 2,
         fault: RowFault::Field(3),
     };
-    let run = sound(text, Status::Faulty(told), 3);
+    let run = sound(text, PageStatus::Faulty(told), 3);
     check(&rt, run, b"fault: report row 2: field 3\n")
 }
 
@@ -89,8 +89,8 @@ fn check_first_row<R: Abort + AllocGlobal>(
     fault: RowFault,
     line: &[u8],
 ) -> Result<(), Fail> {
-    let told = Fault::Report { row: 1, fault };
-    check(rt, sound(report, Status::Faulty(told), 3), line)
+    let told = PageFault::Report { row: 1, fault };
+    check(rt, sound(report, PageStatus::Faulty(told), 3), line)
 }
 
 #[test]
@@ -118,7 +118,7 @@ fn a_cut_report_is_told(rt: HostRuntime) -> Result<(), Fail> {
     let fault = RowFault::Unended;
     let run = sound(
         b"block,name,value\n",
-        Status::Faulty(Fault::Report { row: 2, fault }),
+        PageStatus::Faulty(PageFault::Report { row: 2, fault }),
         3,
     );
     check(&rt, run, b"fault: report row 2: unended\n")
@@ -129,7 +129,7 @@ fn words_are_told_and_nothing_is_read(rt: HostRuntime) -> Result<(), Fail> {
     let run = Run {
         has_words: true,
         source_fails: &[1],
-        ..sound(EMPTY, Status::Faulty(Fault::Usage), 2)
+        ..sound(EMPTY, PageStatus::Faulty(PageFault::Usage), 2)
     };
     check(&rt, run, b"fault: usage\n")
 }
@@ -138,7 +138,7 @@ fn words_are_told_and_nothing_is_read(rt: HostRuntime) -> Result<(), Fail> {
 fn a_source_that_fails_is_told(rt: HostRuntime) -> Result<(), Fail> {
     let run = Run {
         source_fails: &[2],
-        ..sound(EMPTY, Status::Faulty(Fault::Read), 4)
+        ..sound(EMPTY, PageStatus::Faulty(PageFault::Read), 4)
     };
     check(&rt, run, b"fault: read fault\n")
 }
@@ -147,14 +147,14 @@ fn a_source_that_fails_is_told(rt: HostRuntime) -> Result<(), Fail> {
 fn a_line_that_is_cut_short_is_a_write_fault(rt: HostRuntime) -> Result<(), Fail> {
     let run = Run {
         sink_fails: &[1],
-        ..sound(b"", Status::WriteFault, 5)
+        ..sound(b"", PageStatus::WriteFault, 5)
     };
     check(&rt, run, b"")
 }
 
 // The report's page is the known one.
 fn check_page<R: Abort + AllocGlobal>(rt: &R, report: &[u8], known: &Known) -> Result<(), Fail> {
-    let page = output_of(rt, sound(report, Status::Done, 0))?;
+    let page = output_of(rt, sound(report, PageStatus::Done, 0))?;
     let digest = Sha256::digest(page.as_slice());
     assert_eq!(rt; page.len(), known.len);
     assert!(rt; digest == known.digest);

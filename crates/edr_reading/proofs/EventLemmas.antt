@@ -10,7 +10,7 @@ use Rattle.edr_record.specs.Complete.{is_complete}
 use Rattle.edr_report.specs.Lines.{line}
 use Rattle.edr_report.specs.Report.{event_lines, pre_lines, crash_lines, crash_names, crash_words}
 use Rattle.edr_report.specs.Words.{yes_no}
-use Rattle.edr_reading.specs.declared.rows.Row.{Row}
+use Rattle.edr_reading.specs.declared.rows.ReportRow.{ReportRow}
 use Rattle.edr_reading.specs.Rows.{fields, line_fields, named_fields}
 use Rattle.edr_reading.proofs.PartLemmas.{crash-fields, crash-long}
 use Rattle.edr_reading.specs.Parts.{SlotsAre, IsRecord}
@@ -52,7 +52,7 @@ pub rows-joined : {X Y : Type 0} (f : X → Y) (rows front rest : List X) (n : �
 rows-joined f rows front rest n a b e g is this =
     ap (map f) (sym (take-append-drop n rows) ∙ ap (λ (x : List _). x ++ drop n rows) (sym e) ∙ ap (λ (x : List _). front ++ x) (sym g)) ∙ map-append f front rest ∙ ap (λ (x : List _). x ++ map f rest) is ∙ ap (λ (x : List _). a ++ x) this
 
-module _ (rows head rest pre rest2 crash last : List Row) (head-is : head ≡ take 2 rows) (rest-is : rest ≡ drop 2 rows) (pre-is : pre ≡ take 11 rest) (rest2-is : rest2 ≡ drop 11 rest) (crash-is : crash ≡ take 15 rest2) (last-is : last ≡ drop 15 rest2) where
+module _ (rows head rest pre rest2 crash last : List ReportRow) (head-is : head ≡ take 2 rows) (rest-is : rest ≡ drop 2 rows) (pre-is : pre ≡ take 11 rest) (rest2-is : rest2 ≡ drop 11 rest) (crash-is : crash ≡ take 15 rest2) (last-is : last ≡ drop 15 rest2) where
   pub event-parts : (b bank : ℕ) (r : Record) → IsRecord r → map fields rows ≡ map line_fields (event_lines b bank r)
       → (map fields head ≡ head_fields b bank) × (map fields pre ≡ map line_fields (pre_lines b r.pre r.locked)) × (map fields crash ≡ map line_fields (crash_lines b r.crash)) × (map fields last ≡ last_fields b (is_complete r))
   event-parts b bank r h is =

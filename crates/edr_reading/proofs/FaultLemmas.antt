@@ -5,7 +5,7 @@ use Rattle.edr_report.specs.Report.{report_lines}
 use Rattle.edr_reading.proofs.LastLemmas.{distinct-none}
 use Rattle.edr_reading.proofs.ReadingLemmas.{all-three}
 use Rattle.edr_reading.specs.Rows.{line_fields}
-use Rattle.edr_reading.specs.Faults.{AreReport, Opens, GoesOn, IsFault, IsWrong}
+use Rattle.edr_reading.specs.Faults.{AreReport, Opens, ReportGoesOn, IsFault, IsWrong}
 use Rattle.edr_reading.specs.declared.faults.RowFault.{RowFault}
 use Rattle.edr_reading.specs.declared.faults.RowFault.TheVariants.{Fields, Field, Unended}
 use Rattle.edr_reading.specs.Reading.{IsReading, head_row, report_rows}
@@ -24,24 +24,24 @@ pub opens-none : Opens []
 opens-none = (report_rows [] [] 0, ([], [], 0, reading-none, refl))
 
 -- the first row of a report begins with the first fields of the row that names the columns
-pub goes-on-head : (front back : List (List ℕ)) → front ++ back ≡ head_row → GoesOn [] front
+pub goes-on-head : (front back : List (List ℕ)) → front ++ back ≡ head_row → ReportGoesOn [] front
 goes-on-head front back e = (back, map line_fields (report_lines [] [] 0), ([], [], 0, reading-none, ap (λ (r : List (List ℕ)). r ∷ map line_fields (report_lines [] [] 0)) e))
 
 -- and with no others
-pub head-goes-on : (front : List (List ℕ)) → GoesOn [] front → (back : List (List ℕ)) × (front ++ back ≡ head_row)
+pub head-goes-on : (front : List (List ℕ)) → ReportGoesOn [] front → (back : List (List ℕ)) × (front ++ back ≡ head_row)
 head-goes-on front g = (g.0, ap (λ (rows : List (List (List ℕ))). get_or rows 0 []) g.2.4)
 
 -- a text without a row is no report
 pub none-is-none : ¬ AreReport []
 none-is-none a = let e = ap length a.4 in omega (arith, e)
 
-pub not-first : (a : List ℕ) → a ≢ codes "block" → ¬ GoesOn [] (a ∷ [])
+pub not-first : (a : List ℕ) → a ≢ codes "block" → ¬ ReportGoesOn [] (a ∷ [])
 not-first a n g = n (ap (λ (r : List (List ℕ)). get_or r 0 []) (head-goes-on (a ∷ []) g).1)
 
-pub not-second : (a b : List ℕ) → b ≢ codes "name" → ¬ GoesOn [] (a ∷ b ∷ [])
+pub not-second : (a b : List ℕ) → b ≢ codes "name" → ¬ ReportGoesOn [] (a ∷ b ∷ [])
 not-second a b n g = n (ap (λ (r : List (List ℕ)). get_or r 1 []) (head-goes-on (a ∷ b ∷ []) g).1)
 
-pub not-third : (a b c : List ℕ) → c ≢ codes "value" → ¬ GoesOn [] (a ∷ b ∷ c ∷ [])
+pub not-third : (a b c : List ℕ) → c ≢ codes "value" → ¬ ReportGoesOn [] (a ∷ b ∷ c ∷ [])
 not-third a b c n g = n (ap (λ (r : List (List ℕ)). get_or r 2 []) (head-goes-on (a ∷ b ∷ c ∷ []) g).1)
 
 pub fault-none : {X : Type 0} (f : X → List (List ℕ)) (xs : List X) → length xs ≡ 0 → IsFault (map f xs) 1 Unended
@@ -63,7 +63,7 @@ row-three xs r rs a =
     ap length (sym (row-at xs r rs) ∙ ap (λ (rows : List (List (List ℕ))). get_or rows (length xs) []) a.4) ∙ all-three a.0 a.1 a.2 (length xs) at
 
 -- a report that goes on with a row goes on with its first fields
-pub goes-on-front : (xs : List (List (List ℕ))) (r : List (List ℕ)) (rs : List (List (List ℕ))) (f : ℕ) → AreReport (xs ++ r ∷ rs) → GoesOn xs (take f r)
+pub goes-on-front : (xs : List (List (List ℕ))) (r : List (List ℕ)) (rs : List (List (List ℕ))) (f : ℕ) → AreReport (xs ++ r ∷ rs) → ReportGoesOn xs (take f r)
 goes-on-front xs r rs f a = (drop f r, rs, subst (λ (q : List (List ℕ)). AreReport (xs ++ q ∷ rs)) (sym (take-append-drop f r)) a)
 
 wrong-none : (xs ys : List (List (List ℕ))) (f : RowFault) → IsWrong xs ys f → AreReport (xs ++ ys) → ⊥

@@ -14,7 +14,7 @@ use Rattle.edr_report.specs.Report.{event_lines, events_lines, pre_lines, crash_
 use Rattle.edr_report.proofs.PrintedLemmas.{numbered-more}
 use Rattle.edr_record.specs.Complete.{is_complete}
 use Rattle.edr_reading.specs.Parts.{IsRecord}
-use Rattle.edr_reading.specs.declared.rows.Row.{Row}
+use Rattle.edr_reading.specs.declared.rows.ReportRow.{ReportRow}
 use Rattle.edr_reading.specs.Rows.{fields, line_fields}
 use Rattle.edr_reading.specs.Found.{IsEvent, events_fields, BeginsTold}
 use Rattle.edr_reading.proofs.EventLemmas.{event-fields, pre-long, crash-rows-long, head_fields, last_fields}
@@ -72,7 +72,7 @@ pub some-event : (k : ℕ) (es : List (ℕ × Record)) (more rows : List (List (
 some-event k [] more rows other told is = absurd (other (subst BeginsTold (sym is) told))
 some-event k (e ∷ es) more rows other told is = (e, es, refl, is ∙ first-behind k e es more)
 
-pub none-whole : (k : ℕ) (banks : List ℕ) (rows : List Row) (es : List (ℕ × Record)) (more : List (List (List ℕ))) → es ≡ [] → map fields rows ≡ events_fields k es ++ more
+pub none-whole : (k : ℕ) (banks : List ℕ) (rows : List ReportRow) (es : List (ℕ × Record)) (more : List (List (List ℕ))) → es ≡ [] → map fields rows ≡ events_fields k es ++ more
     → (banks ≡ banks ++ map (λ e. e.0) es) × (map fields (drop (29 * length es) rows) ≡ more)
 none-whole k banks rows [] more z is = (sym (append-nil banks), is)
 none-whole k banks rows (e ∷ es) more z is = cc
@@ -87,7 +87,7 @@ drop-both n m [] = drop-none [] (n + m) refl ∙ sym (ap (drop m) (drop-none [] 
 drop-both zero m (x ∷ xs) = let e : 0 + m ≡ m = omega arith in ap (λ (k : ℕ). drop k (x ∷ xs)) e
 drop-both (suc n) m (x ∷ xs) = let e : suc n + m ≡ suc (n + m) = omega arith in ap (λ (k : ℕ). drop k (x ∷ xs)) e ∙ drop-both n m xs
 
-pub rest-more : (rows rest : List Row) (e : ℕ × Record) (left : List (ℕ × Record)) → rest ≡ drop 29 rows → map fields (drop (29 * length (e ∷ left)) rows) ≡ map fields (drop (29 * length left) rest)
+pub rest-more : (rows rest : List ReportRow) (e : ℕ × Record) (left : List (ℕ × Record)) → rest ≡ drop 29 rows → map fields (drop (29 * length (e ∷ left)) rows) ≡ map fields (drop (29 * length left) rest)
 rest-more rows rest e left is =
     let n : 29 * length (e ∷ left) ≡ 29 + 29 * length left = omega arith in
     ap (map fields) (ap (λ (k : ℕ). drop k rows) n ∙ drop-both 29 (29 * length left) rows ∙ ap (drop (29 * length left)) (sym is))
@@ -98,14 +98,14 @@ banks-more old items new f e left es is same parts told =
     told ∙ ap (λ (x : List Found). map (λ g. g.bank) x ++ map (λ g. g.0) left) is ∙ ap (λ (x : List ℕ). x ++ map (λ g. g.0) left) (map-append (λ (g : Found). g.bank) old (f ∷ []))
     ∙ append_assoc (map (λ g. g.bank) old) (f.bank ∷ []) (map (λ g. g.0) left) ∙ ap (λ (b : ℕ). map (λ g. g.bank) old ++ b ∷ map (λ g. g.0) left) same ∙ ap (λ (x : List (ℕ × Record)). map (λ g. g.bank) old ++ map (λ g. g.0) x) (sym parts)
 
-pub read-events : (k : ℕ) (rows rest : List Row) (old items new : List Found) (e : ℕ × Record) → rest ≡ drop 29 rows → length rest + 29 ≡ length rows → items ≡ old ++ found_event e ∷ [] → IsEvent e → map fields rows ≡ map line_fields (event_lines k e.0 e.1) ++ map fields (drop 29 rows)
+pub read-events : (k : ℕ) (rows rest : List ReportRow) (old items new : List Found) (e : ℕ × Record) → rest ≡ drop 29 rows → length rest + 29 ≡ length rows → items ≡ old ++ found_event e ∷ [] → IsEvent e → map fields rows ≡ map line_fields (event_lines k e.0 e.1) ++ map fields (drop 29 rows)
     → (es : List (ℕ × Record)) × (new ≡ items ++ map found_event es) × All IsEvent es × (map fields rest ≡ events_fields (k + 1) es ++ map fields (drop (29 * length es) rest)) × (29 * length es ≤ length rest)
     → (es : List (ℕ × Record)) × (new ≡ old ++ map found_event es) × All IsEvent es × (map fields rows ≡ events_fields k es ++ map fields (drop (29 * length es) rows)) × (29 * length es ≤ length rows)
 read-events k rows rest old items new e r long i b is x = (
   e ∷ x.0,
   x.1 ∙ ap (λ (y : List Found). y ++ map found_event x.0) i ∙ append_assoc old (found_event e ∷ []) (map found_event x.0),
   All-cons IsEvent e x.0 b x.2,
-  is ∙ ap (λ (y : List Row). map line_fields (event_lines k e.0 e.1) ++ map fields y) (sym r) ∙ ap (λ (y : List (List (List ℕ))). map line_fields (event_lines k e.0 e.1) ++ y) x.3
+  is ∙ ap (λ (y : List ReportRow). map line_fields (event_lines k e.0 e.1) ++ map fields y) (sym r) ∙ ap (λ (y : List (List (List ℕ))). map line_fields (event_lines k e.0 e.1) ++ y) x.3
       ∙ sym (first-behind k e x.0 (map fields (drop (29 * length x.0) rest))) ∙ ap (λ (y : List (List (List ℕ))). events_fields k (e ∷ x.0) ++ y) (sym (rest-more rows rest e x.0 r)),
   omega (arith, long, x.4),
 )

@@ -4,10 +4,10 @@ use Rattle.std.proofs.lemmas.List.{drop_more}
 use Rattle.edr_reading.specs.Faults.{IsWrong}
 use Rattle.edr_reading.specs.Reading.{head_row}
 use Rattle.edr_reading.specs.declared.faults.RowFault.{RowFault}
-use Rattle.edr_reading.specs.declared.rows.Row.{Row}
+use Rattle.edr_reading.specs.declared.rows.ReportRow.{ReportRow}
 
 -- a row without a text
-abbrev pub no_row : Row
+abbrev pub no_row : ReportRow
 no_row = record { block = record { ref_ptr = (0, 0); now = [] }; name = record { ref_ptr = (0, 0); now = [] }; value = record { ref_ptr = (0, 0); now = [] } }
 
 pub take-front : {X : Type 0} (n k : ℕ) (xs : List X) → n ≤ k → take n (take k xs) ≡ take n xs

@@ -15,7 +15,7 @@ use Rattle.edr_report.specs.Words.{shown_count}
 use Rattle.edr_report.specs.Report.{report_lines, run_lines, events_lines, event_lines, found_record, found_records, damaged_lines}
 use Rattle.edr_reading.specs.Values.{IsDamagedView}
 use Rattle.edr_reading.specs.Found.{IsDamaged, events_fields, last_rows, damaged_fields, count_fields}
-use Rattle.edr_reading.specs.declared.rows.Row.{Row}
+use Rattle.edr_reading.specs.declared.rows.ReportRow.{ReportRow}
 use Rattle.edr_reading.specs.Rows.{fields, line_fields}
 use Rattle.edr_reading.specs.Run.{run_fields, BehindRun}
 use Rattle.edr_reading.specs.Reading.{head_row, report_rows}
@@ -92,5 +92,5 @@ pub no-other : (records : List (List (List ℕ))) (reports : List Report) (found
 no-other records reports found n k same h other = other (subst (λ (x : List (List (List ℕ))). length (get_or x k []) ≡ 3) (sym same) (all-three reports found n k (omega (arith, h, ap length same))))
 
 -- rows of as many records as there are are all of them
-pub all-rows : (rows : List Row) (records : List (List (List ℕ))) (k : ℕ) → map fields rows ≡ take k records → k ≡ length records → map fields rows ≡ records
+pub all-rows : (rows : List ReportRow) (records : List (List (List ℕ))) (k : ℕ) → map fields rows ≡ take k records → k ≡ length records → map fields rows ≡ records
 all-rows rows records k e long = e ∙ ap (λ (j : ℕ). take j records) long ∙ take-length records

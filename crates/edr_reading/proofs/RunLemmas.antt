@@ -13,7 +13,7 @@ use Rattle.edr_report.specs.Report.{ack_line, cycle_lines, run_lines}
 use Rattle.edr_report.proofs.PrintedLemmas.{numbered-more}
 use Rattle.edr_reading.specs.declared.told.CycleRow.{CycleRow}
 use Rattle.edr_reading.specs.declared.told.CycleRow.TheVariants as row
-use Rattle.edr_reading.specs.declared.rows.Row.{Row}
+use Rattle.edr_reading.specs.declared.rows.ReportRow.{ReportRow}
 use Rattle.edr_reading.specs.Rows.{fields, line_fields}
 use Rattle.edr_reading.specs.Told.{IsAck, IsCycleRow}
 use Rattle.edr_reading.specs.Run.{Others, ack_fields, cycle_fields, run_fields, row_of, acks_of, IsReport, BehindRun}
@@ -112,11 +112,11 @@ run-more rs r rows rest behind after place c at read this first acks =
     ∙ ap (λ (x : List (List (List ℕ))). x ++ after) (ap (λ (k : ℕ). run_fields 1 rs ++ map line_fields (cycle_lines k r)) at ∙ sym (run-last rs r))
 
 -- the rows of acknowledgements that were taken, and those that are left
-pub acks-read : (place : ℕ) (rows : List Row) (acks log : List Ack) → log ≡ acks → map fields (take (length acks) rows) ≡ map (ack_fields place) acks → map fields rows ≡ map (ack_fields place) log ++ map fields (drop (length acks) rows)
+pub acks-read : (place : ℕ) (rows : List ReportRow) (acks log : List Ack) → log ≡ acks → map fields (take (length acks) rows) ≡ map (ack_fields place) acks → map fields rows ≡ map (ack_fields place) log ++ map fields (drop (length acks) rows)
 acks-read place rows acks log same read =
     ap (map fields) (sym (take-append-drop (length acks) rows)) ∙ map-append fields (take (length acks) rows) (drop (length acks) rows)
     ∙ ap (λ (x : List (List (List ℕ))). x ++ map fields (drop (length acks) rows)) (read ∙ ap (map (ack_fields place)) (sym same))
 
 -- what is left behind the rows of a cycle
-pub drop-on : (rows split behind : List Row) (at taken : ℕ) → split ≡ drop at rows → behind ≡ drop 1 split → drop taken behind ≡ drop (at + (1 + taken)) rows
+pub drop-on : (rows split behind : List ReportRow) (at taken : ℕ) → split ≡ drop at rows → behind ≡ drop 1 split → drop taken behind ≡ drop (at + (1 + taken)) rows
 drop-on rows split behind at taken e f = ap (drop taken) (f ∙ ap (drop 1) e) ∙ sym (drop-both at (1 + taken) rows ∙ drop-both 1 taken (drop at rows))

@@ -8,7 +8,7 @@ use Rattle.csv.proofs.RoundTrip.{read-write-many}
 use Rattle.edr_report.specs.Lines.{Line, table_row, table_head, table_of}
 use Rattle.edr_reading.specs.Reading.{head_row}
 use Rattle.edr_reading.specs.Rows.{line_fields}
-use Rattle.edr_reading.specs.Run.{RecordsOf}
+use Rattle.edr_spell.specs.Spell.{RecordsOf}
 
 rows-read : (ls : List Line) → AreRecords default_config st.StartRecord (flat_map table_row ls) (map line_fields ls)
 unfolding Reached next_record

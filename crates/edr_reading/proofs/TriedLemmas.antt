@@ -20,7 +20,7 @@ use Rattle.edr_reading.specs.Parts.{IsRecord}
 use Rattle.edr_reading.specs.Told.{IsAck}
 use Rattle.edr_reading.specs.Run.{ack_fields, cycle_fields, IsReport}
 use Rattle.edr_reading.specs.Found.{IsEvent, IsDamaged, damaged_fields, count_fields}
-use Rattle.edr_reading.specs.Faults.{AreReport, Opens, GoesOn}
+use Rattle.edr_reading.specs.Faults.{AreReport, Opens, ReportGoesOn}
 use Rattle.std.proofs.lemmas.Fmt.{decimal_digit}
 use Rattle.edr_reading.specs.Plain.{event_names, event_words, block_fields, back_rows, NoneBehind, block_of, name_of, IsGuess}
 use Rattle.edr_reading.proofs.FoundLemmas.{event-long}
@@ -158,7 +158,7 @@ module _ (rows : Rows) (some : 0 < length rows) (b : List ℕ) where
   event-row n k e f o = subst (λ (r : List (List ℕ)). Opens (rows ++ r ∷ [])) (sym (ap₂ (λ (x y : List ℕ). x ∷ y ∷ x ∷ []) e f)) o
 
   -- no report goes on with this block
-  pub first-no : ¬ Opens (rows ++ count_of b (codes "ignition cycle, download") ∷ []) → ¬ Opens (rows ++ (b ∷ codes "event" ∷ b ∷ []) ∷ []) → Within rows b → ¬ GoesOn rows (b ∷ [])
+  pub first-no : ¬ Opens (rows ++ count_of b (codes "ignition cycle, download") ∷ []) → ¬ Opens (rows ++ (b ∷ codes "event" ∷ b ∷ []) ∷ []) → Within rows b → ¬ ReportGoesOn rows (b ∷ [])
   first-no no-count no-event inside g =
       let r : List (List ℕ) = b ∷ g.0 in
       let told : b ≡ decimal 0 → AreReport (rows ++ count_fields 0 ∷ []) → ⊥ = λ e a. no-count (count-row (codes "ignition cycle, download") e refl a) in
@@ -236,7 +236,7 @@ row-is rows b c n m v w e f g o = subst (λ (r : List (List ℕ)). Opens (rows +
 -- no report goes on with this block and this name
 pub second-no : (rows : Rows) → 0 < length rows → (b n : List ℕ) → ¬ Opens (rows ++ count_of b n ∷ []) → ¬ Opens (rows ++ (b ∷ n ∷ b ∷ []) ∷ [])
     → ¬ Opens (rows ++ (b ∷ n ∷ codes "start stopped in call 1" ∷ []) ∷ []) → ¬ Opens (rows ++ (b ∷ n ∷ codes "not kept" ∷ []) ∷ []) → ¬ Opens (rows ++ (b ∷ n ∷ codes "damaged at 0 found 0 locked no" ∷ []) ∷ [])
-    → WithinNamed rows b n → ¬ GoesOn rows (b ∷ n ∷ [])
+    → WithinNamed rows b n → ¬ ReportGoesOn rows (b ∷ n ∷ [])
 second-no rows some b n no-count no-event no-start no-ack no-damage inside g =
     let r : List (List ℕ) = b ∷ n ∷ g.0 in
     next ⊥ rows r g.1

@@ -8,7 +8,7 @@ use Rattle.edr_record.specs.declared.Profile.{Profile}
 use Rattle.edr_record.specs.declared.Profile.TheVariants.{Short, Long}
 use Rattle.edr_image.specs.declared.places.TheConstants.{MOST_BANKS}
 use Rattle.edr_report.specs.Words.{yes_no, profile_word, extreme_words, milliseconds}
-use Rattle.edr_reading.specs.Faults.{AreReport, Opens, GoesOn}
+use Rattle.edr_reading.specs.Faults.{AreReport, Opens, ReportGoesOn}
 use Rattle.edr_reading.specs.Found.{count_fields}
 use Rattle.edr_reading.specs.Plain.{no_extreme, event_names, plain_texts, absent_words, present_words, absent_texts, present_texts, no_numbers, no_switches, NoneAfter, back_rows, block_fields, block_of, value_of, IsGuess, ArePlain, SomeBehind, NoneBehind, IsInside}
 use Rattle.std.specs.Prelude.{is_some}
@@ -99,40 +99,40 @@ opens-none rows last some none no-count is whole = opens-no rows some none no-co
 
 -- ---- a row's first fields
 
-pub first-goes : (rows : List (List (List ℕ))) (b n v : List ℕ) → Opens (rows ++ (b ∷ n ∷ v ∷ []) ∷ []) → GoesOn rows (b ∷ [])
+pub first-goes : (rows : List (List (List ℕ))) (b n v : List ℕ) → Opens (rows ++ (b ∷ n ∷ v ∷ []) ∷ []) → ReportGoesOn rows (b ∷ [])
 first-goes rows b n v o = (n ∷ v ∷ [], o.0, subst AreReport (append_assoc rows ((b ∷ n ∷ v ∷ []) ∷ []) o.0) o.1)
 
-pub second-goes : (rows : List (List (List ℕ))) (b n v : List ℕ) → Opens (rows ++ (b ∷ n ∷ v ∷ []) ∷ []) → GoesOn rows (b ∷ n ∷ [])
+pub second-goes : (rows : List (List (List ℕ))) (b n v : List ℕ) → Opens (rows ++ (b ∷ n ∷ v ∷ []) ∷ []) → ReportGoesOn rows (b ∷ n ∷ [])
 second-goes rows b n v o = (v ∷ [], o.0, subst AreReport (append_assoc rows ((b ∷ n ∷ v ∷ []) ∷ []) o.0) o.1)
 
 back-first : (b : List ℕ) (p : ℕ) (v : List (List ℕ)) → p < 28 → length v ≡ 29 → back_rows b p v ≡ (b ∷ get_or event_names (p + 1) [] ∷ get_or v (p + 1) [] ∷ []) ∷ (block_fields b (drop (p + 1 + 1) event_names) (drop (p + 1 + 1) v) ++ count_fields 0 ∷ [])
 back-first b p v small long = ap₂ (λ (x y : List (List ℕ)). block_fields b x y ++ count_fields 0 ∷ []) (drop_more event_names (p + 1) [] (omega (arith, small))) (drop_more v (p + 1) [] (omega (arith, small, long)))
 
-pub inside-second : (rows : List (List (List ℕ))) (last : List (List ℕ)) (p : ℕ) (b n : List ℕ) → p < 28 → SomeBehind rows last p → b ≡ block_of last → n ≡ get_or event_names (p + 1) [] → GoesOn rows (b ∷ n ∷ [])
+pub inside-second : (rows : List (List (List ℕ))) (last : List (List ℕ)) (p : ℕ) (b n : List ℕ) → p < 28 → SomeBehind rows last p → b ≡ block_of last → n ≡ get_or event_names (p + 1) [] → ReportGoesOn rows (b ∷ n ∷ [])
 inside-second rows last p b n small s e f =
     let a = subst AreReport (ap (λ (x : List (List (List ℕ))). rows ++ x) (back-first (block_of last) p s.0 small s.1)) s.2 in
     let more = block_fields (block_of last) (drop (p + 1 + 1) event_names) (drop (p + 1 + 1) s.0) ++ count_fields 0 ∷ [] in
     (get_or s.0 (p + 1) [] ∷ [], more, subst (λ (r : List (List ℕ)). AreReport (rows ++ r ∷ more)) (sym (ap₂ (λ (x y : List ℕ). x ∷ y ∷ get_or s.0 (p + 1) [] ∷ []) e f)) a)
 
-pub inside-first : (rows : List (List (List ℕ))) (last : List (List ℕ)) (p : ℕ) (b : List ℕ) → p < 28 → SomeBehind rows last p → b ≡ block_of last → GoesOn rows (b ∷ [])
+pub inside-first : (rows : List (List (List ℕ))) (last : List (List ℕ)) (p : ℕ) (b : List ℕ) → p < 28 → SomeBehind rows last p → b ≡ block_of last → ReportGoesOn rows (b ∷ [])
 inside-first rows last p b small s e = let g = inside-second rows last p b (get_or event_names (p + 1) []) small s e refl in (get_or event_names (p + 1) [] ∷ g.0, g.1, g.2)
 
 abbrev pub Last : List (List (List ℕ)) → List (List ℕ)
 Last rows = get_or rows (length rows - 1) []
 
 pub no-block : (rows : List (List (List ℕ))) (last : List (List ℕ)) (o : Option ℕ) (b : List ℕ) → 0 < length rows → last ≡ Last rows → ¬ Opens (rows ++ (b ∷ codes "ignition cycle, download" ∷ codes "0" ∷ []) ∷ []) → ¬ Opens (rows ++ (b ∷ codes "event" ∷ b ∷ []) ∷ [])
-    → ((p : ℕ) → p < 28 → get_or last 1 [] ≡ get_or event_names p [] → b ≡ block_of last → NoneBehind rows last p) → ¬ GoesOn rows (b ∷ [])
+    → ((p : ℕ) → p < 28 → get_or last 1 [] ≡ get_or event_names p [] → b ≡ block_of last → NoneBehind rows last p) → ¬ ReportGoesOn rows (b ∷ [])
 no-block rows last o b some is no-count no-event none = first-no rows some b no-count no-event (λ p h e f.
     subst (λ (r : List (List ℕ)). NoneBehind rows r p) is (none p h (ap (λ (r : List (List ℕ)). get_or r 1 []) is ∙ e) (f ∙ sym (ap block_of is))))
 
 pub no-name : (rows : List (List (List ℕ))) (last : List (List ℕ)) (o : Option ℕ) (b n : List ℕ) → 0 < length rows → last ≡ Last rows → ¬ Opens (rows ++ (b ∷ n ∷ codes "0" ∷ []) ∷ []) → ¬ Opens (rows ++ (b ∷ n ∷ b ∷ []) ∷ [])
     → ¬ Opens (rows ++ (b ∷ n ∷ codes "start stopped in call 1" ∷ []) ∷ []) → ¬ Opens (rows ++ (b ∷ n ∷ codes "not kept" ∷ []) ∷ []) → ¬ Opens (rows ++ (b ∷ n ∷ codes "damaged at 0 found 0 locked no" ∷ []) ∷ [])
-    → ((p : ℕ) → p < 28 → get_or last 1 [] ≡ get_or event_names p [] → b ≡ block_of last → n ≡ get_or event_names (p + 1) [] → NoneBehind rows last p) → ¬ GoesOn rows (b ∷ n ∷ [])
+    → ((p : ℕ) → p < 28 → get_or last 1 [] ≡ get_or event_names p [] → b ≡ block_of last → n ≡ get_or event_names (p + 1) [] → NoneBehind rows last p) → ¬ ReportGoesOn rows (b ∷ n ∷ [])
 no-name rows last o b n some is n1 n2 n3 n4 n5 none = second-no rows some b n n1 n2 n3 n4 n5 (λ p h e f g.
     subst (λ (r : List (List ℕ)). NoneBehind rows r p) is (none p h (ap (λ (r : List (List ℕ)). get_or r 1 []) is ∙ e) (f ∙ sym (ap block_of is)) g))
 
 -- where all of its fields are at hand, no report goes on
-pub third-no : (rows : List (List (List ℕ))) (b n v : List ℕ) → ¬ Opens (rows ++ (b ∷ n ∷ v ∷ []) ∷ []) → ¬ GoesOn rows (b ∷ n ∷ v ∷ [])
+pub third-no : (rows : List (List (List ℕ))) (b n v : List ℕ) → ¬ Opens (rows ++ (b ∷ n ∷ v ∷ []) ∷ []) → ¬ ReportGoesOn rows (b ∷ n ∷ v ∷ [])
 third-no rows b n v stops g = by g.0 g.2
   where
     by : (back : List (List ℕ)) → AreReport (rows ++ ((b ∷ n ∷ v ∷ []) ++ back) ∷ g.1) → ⊥
@@ -148,7 +148,7 @@ match-both A B C D false f g m = g m
 
 pub name-match : (rows : List (List (List ℕ))) (last : List (List ℕ)) (p : ℕ) (b n : List ℕ) (x : Bool) → 0 < length rows → last ≡ Last rows → ¬ Opens (rows ++ (b ∷ n ∷ codes "0" ∷ []) ∷ []) → ¬ Opens (rows ++ (b ∷ n ∷ b ∷ []) ∷ [])
     → ¬ Opens (rows ++ (b ∷ n ∷ codes "start stopped in call 1" ∷ []) ∷ []) → ¬ Opens (rows ++ (b ∷ n ∷ codes "not kept" ∷ []) ∷ []) → ¬ Opens (rows ++ (b ∷ n ∷ codes "damaged at 0 found 0 locked no" ∷ []) ∷ [])
-    → IsInside rows last (Some p) → b ≡ block_of last → MatchBool x (n ≡ get_or event_names (p + 1) []) (n ≢ get_or event_names (p + 1) []) → MatchBool x (GoesOn rows (b ∷ n ∷ [])) (¬ GoesOn rows (b ∷ n ∷ []))
+    → IsInside rows last (Some p) → b ≡ block_of last → MatchBool x (n ≡ get_or event_names (p + 1) []) (n ≢ get_or event_names (p + 1) []) → MatchBool x (ReportGoesOn rows (b ∷ n ∷ [])) (¬ ReportGoesOn rows (b ∷ n ∷ []))
 name-match rows last p b n x some is n1 n2 n3 n4 n5 inside same m = match-both _ _ _ _ x
     (λ e. inside-second rows last p b n inside.0 inside.2 same e)
     (λ other. no-name rows last None b n some is n1 n2 n3 n4 n5 (λ q h e f g.
@@ -194,7 +194,7 @@ else-match A B C D true m e f = cc
 else-match A B C D false m e f = f m
 
 pub some-match : (rows : List (List (List ℕ))) (last : List (List ℕ)) (o : Option ℕ) (b : List ℕ) (x : Bool) → 0 < length rows → last ≡ Last rows → ¬ Opens (rows ++ (b ∷ codes "ignition cycle, download" ∷ codes "0" ∷ []) ∷ []) → ¬ Opens (rows ++ (b ∷ codes "event" ∷ b ∷ []) ∷ [])
-    → IsInside rows last o → b ≡ block_of last → x ≡ is_some o → MatchBool x (GoesOn rows (b ∷ [])) (¬ GoesOn rows (b ∷ []))
+    → IsInside rows last o → b ≡ block_of last → x ≡ is_some o → MatchBool x (ReportGoesOn rows (b ∷ [])) (¬ ReportGoesOn rows (b ∷ []))
 some-match rows last (Some p) b true some is n1 n2 inside e s = inside-first rows last p b inside.0 inside.2 e
 some-match rows last (Some p) b false some is n1 n2 inside e s = cc
 some-match rows last None b true some is n1 n2 inside e s = cc

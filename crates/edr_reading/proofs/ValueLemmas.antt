@@ -5,7 +5,7 @@ use Rattle.edr_record.specs.Bounds.{IsUpTo, IsChange}
 use Rattle.edr_image.specs.declared.BankView.{BankView}
 use Rattle.edr_image.specs.declared.BankView.TheVariants.{Void, Event, Damaged}
 use Rattle.edr_report.specs.Words.{firing_words, stop_words, missing_words, damage_words, yes_no}
-use Rattle.edr_reading.specs.Values.{IsStop, IsDamage, IsDamagedView}
+use Rattle.edr_reading.specs.Values.{IsStopCall, IsDamage, IsDamagedView}
 use Rattle.edr_reading.proofs.FrontLemmas.{not-number}
 
 -- `none` is no time
@@ -29,7 +29,7 @@ plus-change bytes more (pos n) h plain f = (n, refl, f, h)
 plus-change bytes more (negsuc k) h plain f = absurd (plain (decimal (suc k) ++ more) f)
 
 -- where the bytes are not those of a cycle that went on to its end, they tell of its stop
-pub stop-whole : (bytes : List ℕ) (r s : Option ℕ) → (bytes ≡ codes ", power off" → ⊥) → ((k : ℕ) → 1 ≤ k → k ≤ 4294967295 → bytes ≡ codes ", stopped in call " ++ decimal k → r ≡ Some k) → IsStop s → bytes ≡ codes ", " ++ stop_words s
+pub stop-whole : (bytes : List ℕ) (r s : Option ℕ) → (bytes ≡ codes ", power off" → ⊥) → ((k : ℕ) → 1 ≤ k → k ≤ 4294967295 → bytes ≡ codes ", stopped in call " ++ decimal k → r ≡ Some k) → IsStopCall s → bytes ≡ codes ", " ++ stop_words s
     → option_map Some r ≡ Some s
 stop-whole bytes r None other whole h is = absurd (other is)
 stop-whole bytes r (Some k) other whole h is = ap (option_map Some) (whole k h.0 h.1 is)

@@ -15,8 +15,8 @@ abbrev pub Opens : List (List (List ℕ)) → Type 0
 Opens rows = (more : List (List (List ℕ))) × AreReport (rows ++ more)
 
 -- a report begins with these rows, and its next row with these fields
-abbrev pub GoesOn : List (List (List ℕ)) → List (List ℕ) → Type 0
-GoesOn rows front = (back : List (List ℕ)) × (more : List (List (List ℕ))) × AreReport (rows ++ (front ++ back) ∷ more)
+abbrev pub ReportGoesOn : List (List (List ℕ)) → List (List ℕ) → Type 0
+ReportGoesOn rows front = (back : List (List ℕ)) × (more : List (List (List ℕ))) × AreReport (rows ++ (front ++ back) ∷ more)
 
 -- what is wrong with the first of these records, which stand behind rows with which a report begins: it has n fields in place of three, counted
 -- up to what a u32 holds; or its field f is the first with which no report goes on; or it is missing, and the rows are those of
@@ -24,7 +24,7 @@ GoesOn rows front = (back : List (List ℕ)) × (more : List (List (List ℕ))) 
 abbrev pub IsWrong : List (List (List ℕ)) → List (List (List ℕ)) → RowFault → Type 0
 IsWrong rows [] Unended = ¬ AreReport rows
 IsWrong rows (r ∷ records) (Fields n) = (n ≡ min (length r) 4_294_967_295) × (length r ≢ 3)
-IsWrong rows (r ∷ records) (Field f) = (length r ≡ 3) × (1 ≤ f) × (f ≤ 3) × (2 ≤ f → GoesOn rows (take (f - 1) r)) × ¬ GoesOn rows (take f r)
+IsWrong rows (r ∷ records) (Field f) = (length r ≡ 3) × (1 ≤ f) × (f ≤ 3) × (2 ≤ f → ReportGoesOn rows (take (f - 1) r)) × ¬ ReportGoesOn rows (take f r)
 IsWrong rows [] (Fields n) = ⊥
 IsWrong rows [] (Field f) = ⊥
 IsWrong rows (r ∷ records) Unended = ⊥

@@ -9,7 +9,7 @@ use Rattle.edr_report.specs.Lines.{line}
 use Rattle.edr_report.specs.Report.{events_lines}
 use Rattle.edr_report.specs.Words.{bank_words, shown_count}
 use Rattle.edr_reading.specs.Parts.{IsRecord}
-use Rattle.edr_reading.specs.declared.rows.Row.{Row}
+use Rattle.edr_reading.specs.declared.rows.ReportRow.{ReportRow}
 use Rattle.edr_reading.specs.Rows.{FieldRows, event_fields, fields, line_fields}
 use Rattle.edr_reading.specs.Values.{IsBank, IsDamagedView, view_words}
 
@@ -52,44 +52,44 @@ LacksBank bank found = AllByRecursion (λ b. eqb bank b ≡ false) (banks_in fou
 -- ---- what is read of rows
 
 -- this event is the first that the rows tell
-abbrev pub BeginsWith : ℕ → List Row → ℕ × Record → Type 0
-BeginsWith block rows e =
+abbrev pub BeginsWithEvent : ℕ → List ReportRow → ℕ × Record → Type 0
+BeginsWithEvent block rows e =
     IsEvent e × (29 ≤ length rows) × (map fields rows ≡ event_fields block e.0 e.1 ++ map fields (drop 29 rows))
 
 -- whatever event they begin with, this is so
-abbrev pub OfEvent : ℕ → List Row → (ℕ × Record → FieldRows → Type 0) → Type 0
+abbrev pub OfEvent : ℕ → List ReportRow → (ℕ × Record → FieldRows → Type 0) → Type 0
 OfEvent block rows says = (e : ℕ × Record) (more : FieldRows) → IsEvent e → map fields rows ≡ event_fields block e.0 e.1 ++ more → says e more
 
 -- an event in this bank, and more rows behind it
-abbrev pub GivesBank : {A : Type 0} → ℕ → FieldRows → List Row → Option (ℕ × A) → Type 0
+abbrev pub GivesBank : {A : Type 0} → ℕ → FieldRows → List ReportRow → Option (ℕ × A) → Type 0
 GivesBank b more rows read = MatchOption read ⊥ (λ f. (f.0 ≡ b) × (map fields (drop 29 rows) ≡ more))
 
 -- events that the rows begin with were added
-abbrev pub AddsEvents : ℕ → List Row → List Found → List Found → Type 0
+abbrev pub AddsEvents : ℕ → List ReportRow → List Found → List Found → Type 0
 AddsEvents block rows old new =
     (es : List (ℕ × Record)) × (new ≡ old ++ map found_event es) × All IsEvent es
     × (map fields rows ≡ events_fields block es ++ map fields (drop (29 * length es) rows)) × (29 * length es ≤ length rows)
 
 -- the banks of these events were added, and more rows are behind them
-abbrev pub AddsBanks : List Row → List Found → List Found → List (ℕ × Record) → FieldRows → Type 0
+abbrev pub AddsBanks : List ReportRow → List Found → List Found → List (ℕ × Record) → FieldRows → Type 0
 AddsBanks rows old new es more = (banks_in new ≡ banks_in old ++ map (λ e. e.0) es) × (map fields (drop (29 * length es) rows) ≡ more)
 
 -- whatever events the rows begin with, up to the first row of block 0 and no more than banks, this is so
-abbrev pub OfEvents : ℕ → List Row → (List (ℕ × Record) → FieldRows → Type 0) → Type 0
+abbrev pub OfEvents : ℕ → List ReportRow → (List (ℕ × Record) → FieldRows → Type 0) → Type 0
 OfEvents block rows says =
     (es : List (ℕ × Record)) (more : FieldRows) → All IsEvent es → length es + block ≤ MOST_BANKS + 1 → BeginsTold more
     → map fields rows ≡ events_fields block es ++ more → says es more
 
 -- the damaged banks and the count that the rows tell, where the banks were added
-abbrev pub AddsLast : List Row → ℕ → List Found → List Found → Type 0
+abbrev pub AddsLast : List ReportRow → ℕ → List Found → List Found → Type 0
 AddsLast rows n old new = (ds : List Found) × (new ≡ old ++ ds) × All IsDamaged ds × (map fields rows ≡ last_rows ds n)
 
 -- whatever damaged banks and count the rows tell, this is so
-abbrev pub OfLast : ℕ → List Row → (List Found → Type 0) → Type 0
+abbrev pub OfLast : ℕ → List ReportRow → (List Found → Type 0) → Type 0
 OfLast most rows says = (ds : List Found) (n : ℕ) → All IsDamaged ds → length ds ≤ most → map fields rows ≡ last_rows ds n → says ds
 
 -- the rows are those of what was found
-abbrev pub AreOfFound : List Row → List Found → ℕ → Type 0
+abbrev pub AreOfFound : List ReportRow → List Found → ℕ → Type 0
 AreOfFound rows found n =
     (es : List (ℕ × Record)) × (ds : List Found) × (found ≡ map found_event es ++ ds) × All IsEvent es × All IsDamaged ds
     × (map fields rows ≡ events_fields 1 es ++ last_rows ds n)

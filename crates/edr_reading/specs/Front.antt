@@ -2,7 +2,7 @@
 use Rattle.std.specs.Prelude.{◌≡◌, ◌≤◌, ℕ, false, ⊤, Option, List, [], ◌∷◌, ◌++◌, decimal}
 use denote.Ref.{Bor}
 use Rattle.edr_text.specs.Numbers.{is_digit}
-use Rattle.edr_reading.specs.Answers.{Gives}
+use Rattle.edr_reading.specs.Answers.{GivesValue}
 
 -- nothing, or bytes of which the first is no digit
 abbrev pub EndsNumber : List ℕ → Type 0
@@ -11,17 +11,17 @@ EndsNumber (b ∷ bs) = is_digit b ≡ false
 
 -- a value within bounds is read, where its words are in front of the bytes and no digit is behind them
 abbrev pub ReadsFront : {A : Type 0} → (A → List ℕ) → (A → Type 0) → List ℕ → Option (A × Bor (List ℕ)) → Type 0
-ReadsFront words ok bytes read = (x : _) (more : List ℕ) → ok x → EndsNumber more → bytes ≡ words x ++ more → Gives x more read
+ReadsFront words ok bytes read = (x : _) (more : List ℕ) → ok x → EndsNumber more → bytes ≡ words x ++ more → GivesValue x more read
 
 -- the same behind these bytes
 abbrev pub ReadsBehind : {A : Type 0} → List ℕ → (A → List ℕ) → (A → Type 0) → List ℕ → Option (A × Bor (List ℕ)) → Type 0
 ReadsBehind front words ok bytes read =
-    (x : _) (more : List ℕ) → ok x → EndsNumber more → bytes ≡ front ++ (words x ++ more) → Gives x more read
+    (x : _) (more : List ℕ) → ok x → EndsNumber more → bytes ≡ front ++ (words x ++ more) → GivesValue x more read
 
 -- the same of a number between these two
 abbrev pub ReadsBetween : ℕ → ℕ → List ℕ → List ℕ → Option (ℕ × Bor (List ℕ)) → Type 0
 ReadsBetween low high front bytes read =
-    (n : ℕ) (more : List ℕ) → low ≤ n → n ≤ high → EndsNumber more → bytes ≡ front ++ (decimal n ++ more) → Gives n more read
+    (n : ℕ) (more : List ℕ) → low ≤ n → n ≤ high → EndsNumber more → bytes ≡ front ++ (decimal n ++ more) → GivesValue n more read
 
 -- two numbers among other bytes
 abbrev pub two_numbers : List ℕ → ℕ → List ℕ → ℕ → List ℕ → List ℕ

@@ -14,7 +14,7 @@ use Rattle.edr_report.specs.Report.{crash_names, crash_words}
 use Rattle.edr_report.specs.Words.{yes_no, profile_word, none_word, number_or_none, switch_or_none, spaced, milliseconds, shown_count, time_between, points_words, extreme_words, missing_words}
 use Rattle.edr_reading.specs.Found.{count_fields}
 use Rattle.edr_reading.specs.Faults.{AreReport}
-use Rattle.edr_reading.specs.declared.rows.Row.{Row}
+use Rattle.edr_reading.specs.declared.rows.ReportRow.{ReportRow}
 use Rattle.edr_reading.specs.Rows.{fields, pre_names, pre_words, texts_in}
 use Rattle.edr_reading.specs.Values.{IsBank}
 
@@ -153,13 +153,13 @@ NoneBehind rows last place =
     × ((v : List (List ℕ)) → IsGuess (block_of last) other points v → ¬ AreReport (rows ++ back_rows (block_of last) place v))
 
 -- no plain values of an event in this bank do
-abbrev pub NoneInBank : List Row → Row → ℕ → List ℕ → Type 0
+abbrev pub NoneInBank : List ReportRow → ReportRow → ℕ → List ℕ → Type 0
 NoneInBank rows last place bank =
     (points : List ℕ) × ArePlain place last.value.now points
     × ((v : List (List ℕ)) → IsGuess last.block.now bank points v → ¬ AreReport (map fields rows ++ back_rows last.block.now place v))
 
 -- none does in any of these banks
-abbrev pub NoneInBanks : List Row → Row → ℕ → List (Bor (List ℕ)) → Type 0
+abbrev pub NoneInBanks : List ReportRow → ReportRow → ℕ → List (Bor (List ℕ)) → Type 0
 NoneInBanks rows last place banks = (k : ℕ) → k < length banks → NoneInBank rows last place (slice_index_or (texts_in banks) k [])
 
 -- it tells whether some values end a report, or no plain ones do

@@ -7,7 +7,7 @@ use Rattle.edr_image.specs.Banks.{found_event}
 use Rattle.edr_image.specs.Reports.{Report, report_of}
 use Rattle.edr_report.specs.Report.{report_lines}
 use Rattle.edr_reading.specs.declared.reading.Reading.{Reading}
-use Rattle.edr_reading.specs.declared.rows.Row.{Row}
+use Rattle.edr_reading.specs.declared.rows.ReportRow.{ReportRow}
 use Rattle.edr_reading.specs.Found.{IsEvent, IsDamaged, events_fields, last_rows}
 use Rattle.edr_reading.specs.Rows.{FieldRows, fields, line_fields}
 use Rattle.edr_reading.specs.Run.{IsReport}
@@ -29,7 +29,7 @@ abbrev pub BeginsWithHead : FieldRows → Type 0
 BeginsWithHead rows = (rest : FieldRows) × (rows ≡ head_row ∷ rest)
 
 -- it does, and the rest is behind it
-abbrev pub IsBehindHead : List Row → List Row → Type 0
+abbrev pub IsBehindHead : List ReportRow → List ReportRow → Type 0
 IsBehindHead rest rows = (length rest + 1 ≡ length rows) × (map fields rows ≡ head_row ∷ map fields rest)
 
 -- no bank is told twice
@@ -37,7 +37,7 @@ abbrev pub AreDistinct : List Found → Type 0
 AreDistinct found = IsDistinct eqb (map (λ f. f.bank) found)
 
 -- whatever was found that the rows tell, in different banks, this is so
-abbrev pub OfFound : List Row → Type 0 → Type 0
+abbrev pub OfFound : List ReportRow → Type 0 → Type 0
 OfFound rows says =
     (es : List (ℕ × Record)) (ds : List Found) (n : ℕ) → All IsEvent es → All IsDamaged ds → AreDistinct (map found_event es ++ ds)
     → map fields rows ≡ events_fields 1 es ++ last_rows ds n → says
@@ -51,5 +51,5 @@ pub record IsReading (reports : List Report) (banks : List Found) (n : ℕ) : Ty
   pub short : length (report_rows reports banks n) ≤ 4_294_967_294
 
 -- whatever report the rows are of, this is so
-abbrev pub OfReport : (FieldRows → Type 0) → Type 0 → Type 0
-OfReport are says = (reports : List Report) (found : List Found) (n : ℕ) → IsReading reports found n → are (report_rows reports found n) → says
+abbrev pub OfReportRows : (FieldRows → Type 0) → Type 0 → Type 0
+OfReportRows are says = (reports : List Report) (found : List Found) (n : ℕ) → IsReading reports found n → are (report_rows reports found n) → says

@@ -8,10 +8,10 @@ use Rattle.edr_report.specs.Report.{event_lines}
 use Rattle.edr_report.specs.Words.{yes_no, profile_word, number_or_none, switch_or_none, milliseconds, shown_count, events_in_crash, time_between, spaced}
 use Rattle.edr_reading.specs.declared.crash.CrashValues.{CrashValues}
 use Rattle.edr_reading.specs.declared.pre.PreValues.{PreValues}
-use Rattle.edr_reading.specs.declared.rows.Row.{Row}
+use Rattle.edr_reading.specs.declared.rows.ReportRow.{ReportRow}
 
 -- the fields of a row
-abbrev pub fields : Row → List (List ℕ)
+abbrev pub fields : ReportRow → List (List ℕ)
 fields r = r.block.now ∷ r.name.now ∷ r.value.now ∷ []
 
 -- rows by their fields
@@ -27,11 +27,11 @@ abbrev pub texts_in : {A : Type 0} → List (Bor A) → List A
 texts_in xs = map (λ x. x.now) xs
 
 -- rows with these fields were added
-abbrev pub AddsRows : FieldRows → List Row → List Row → Type 0
+abbrev pub AddsRows : FieldRows → List ReportRow → List ReportRow → Type 0
 AddsRows added old new = map fields new ≡ map fields old ++ added
 
 -- the rows begin with these, and the rest is behind them
-abbrev pub BeginWith : List Row → FieldRows → List Row → Type 0
+abbrev pub BeginWith : List ReportRow → FieldRows → List ReportRow → Type 0
 BeginWith rows first rest = map fields rows ≡ first ++ map fields rest
 
 -- the fields of the row of a line
@@ -55,7 +55,7 @@ named_fields block (n ∷ names) [] = []
 named_fields block (n ∷ names) (v ∷ values) = (decimal block ∷ n ∷ v ∷ []) ∷ named_fields block names values
 
 -- whatever values the rows of the block tell under these names, this is so
-abbrev pub OfNamed : ℕ → List (Bor (List ℕ)) → List Row → (Texts → Type 0) → Type 0
+abbrev pub OfNamed : ℕ → List (Bor (List ℕ)) → List ReportRow → (Texts → Type 0) → Type 0
 OfNamed block names rows says = (ws : Texts) → length ws ≡ length rows → map fields rows ≡ named_fields block (texts_in names) ws → says ws
 
 -- the names of the lines of what stood before time zero, and their values

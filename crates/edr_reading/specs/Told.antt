@@ -5,7 +5,7 @@ use Rattle.edr_report.specs.Lines.{Line, line}
 use Rattle.edr_report.specs.Words.{cycle_words, stop_words}
 use Rattle.edr_reading.specs.declared.told.CycleRow.{CycleRow}
 use Rattle.edr_reading.specs.declared.told.CycleRow.TheVariants.{StartStopped, Ran}
-use Rattle.edr_reading.specs.Values.{IsStop, IsTick, IsApplied}
+use Rattle.edr_reading.specs.Values.{IsStopCall, IsTick, IsApplied}
 
 -- the bounds of an acknowledged command
 abbrev pub IsAck : Ack → Type 0
@@ -18,4 +18,4 @@ cycle_line i (Ran n stop) = line 0 (cycle_words i) (codes "number " ++ decimal n
 
 abbrev pub IsCycleRow : CycleRow → Type 0
 IsCycleRow (StartStopped j) = (1 ≤ j) × (j ≤ 6)
-IsCycleRow (Ran n stop) = (1 ≤ n) × (n ≤ 4_294_967_295) × IsStop stop
+IsCycleRow (Ran n stop) = (1 ≤ n) × (n ≤ 4_294_967_295) × IsStopCall stop

@@ -14,8 +14,8 @@ abbrev pub IsBank : ℕ → Type 0
 IsBank b = (1 ≤ b) × (b ≤ MOST_BANKS)
 
 -- the changing call in which a cycle was stopped, if it was
-abbrev pub IsStop : Option ℕ → Type 0
-IsStop s = IfSome s (λ call. (1 ≤ call) × (call ≤ 4_294_967_295))
+abbrev pub IsStopCall : Option ℕ → Type 0
+IsStopCall s = IfSome s (λ call. (1 ≤ call) × (call ≤ 4_294_967_295))
 
 -- when a command was acknowledged
 abbrev pub IsTick : ℕ → Type 0

@@ -5,10 +5,10 @@ ghost use Rattle.edr_report.specs.Words.{points_words, profile_word};
 ghost use Rattle.edr_reading.specs.Cut.{cut_texts, IsNoneOf, cut_rows, rows_of, tried_texts};
 ghost use Rattle.edr_reading.specs.Plain.{event_names, ArePlain, absent_texts, no_numbers, no_switches};
 ghost use Rattle.edr_reading.specs.Rows.{AddsRows, texts_in};
-ghost use Rattle.edr_reading.specs.Answers.{Tells};
+ghost use Rattle.edr_reading.specs.Answers.{TellsWhether};
 
 use crate::front::is_word;
-use crate::rows::Row;
+use crate::rows::ReportRow;
 use crate::values::time;
 use edr_record::Profile;
 use std::alloc::AllocError as OutOfMemory;
@@ -51,7 +51,7 @@ const UNCHANGED: &[u8] = b"0 0 0 0 0 0 0 0 0 0 0 0 0 0 0 0 0 0 0 0 0 0 0 0 0 0";
 
 /// What differs in the plain values of events.
 #[derive(Clone, Copy)]
-pub(crate) struct Cut<'a> {
+pub(crate) struct PlainValues<'a> {
     pub block: &'a [u8],
     pub bank: &'a [u8],
     pub between: &'a [u8],
@@ -97,7 +97,7 @@ pub(crate) fn place_of(name: &[u8]) -> Option<usize>
 /// The name is that of the row of an event in this place.
 pub(crate) fn is_named(name: &[u8], place: usize) -> bool
     requires { place < 29 }
-    ensures { Tells result (name.now ≡ slice_index_or event_names place []) }
+    ensures { TellsWhether result (name.now ≡ slice_index_or event_names place []) }
 {
     match place_of(name) {
         Some(found) => found == place,
@@ -160,12 +160,12 @@ fn no_slots(profile: Profile) -> &'static [u8]
 }
 
 /// An event without a crash part.
-pub(crate) fn absent<'a>(guess: &Guess<'a>, between: &'a [u8]) -> Cut<'a>
+pub(crate) fn absent<'a>(guess: &Guess<'a>, between: &'a [u8]) -> PlainValues<'a>
     ensures block { result.block.now ≡ guess.now.block.now }
     ensures texts { cut_texts result
         ≡ absent_texts guess.now.block.now guess.now.bank.now between.now guess.now.profile }
 {
-    Cut {
+    PlainValues {
         block: guess.block,
         bank: guess.bank,
         between,
@@ -180,11 +180,11 @@ pub(crate) fn absent<'a>(guess: &Guess<'a>, between: &'a [u8]) -> Cut<'a>
 }
 
 /// An event in which nothing changed.
-pub(crate) fn present<'a>(guess: &Guess<'a>, complete: &'a [u8]) -> Cut<'a>
+pub(crate) fn present<'a>(guess: &Guess<'a>, complete: &'a [u8]) -> PlainValues<'a>
     ensures block { result.block.now ≡ guess.now.block.now }
     ensures texts { cut_texts result ≡ tried_texts guess.now complete.now }
 {
-    Cut {
+    PlainValues {
         block: guess.block,
         bank: guess.bank,
         between: b"none",
@@ -199,10 +199,10 @@ pub(crate) fn present<'a>(guess: &Guess<'a>, complete: &'a [u8]) -> Cut<'a>
 }
 
 // The values of all rows of an event.
-fn values_of<'a>(cut: &Cut<'a>) -> [&'a [u8]; 29]
+fn values_of<'a>(cut: &PlainValues<'a>) -> [&'a [u8]; 29]
     ensures { texts_in result ≡ cut_texts cut.now }
 {
-    let Cut {
+    let PlainValues {
         block,
         bank,
         slots,
@@ -244,7 +244,7 @@ fn values_of<'a>(cut: &Cut<'a>) -> [&'a [u8]; 29]
 
 // Adds rows of this block with these names and values.
 fn push_rows<'a>(
-    rows: &mut Vec<Row<'a>>,
+    rows: &mut Vec<ReportRow<'a>>,
     block: &'a [u8],
     names: &[&'static [u8]],
     values: &[&'a [u8]],
@@ -257,15 +257,15 @@ fn push_rows<'a>(
     let Some((value, values)) = values.split_first() else {
         return Ok(());
     };
-    rows.push(Row { block, name, value })?;
+    rows.push(ReportRow { block, name, value })?;
     push_rows(rows, block, names, values)
 }
 
 /// Adds the rows of an event behind the one in this place.
 pub(crate) fn push_event<'a>(
-    rows: &mut Vec<Row<'a>>,
+    rows: &mut Vec<ReportRow<'a>>,
     place: usize,
-    cut: &Cut<'a>,
+    cut: &PlainValues<'a>,
 ) -> Result<(), OutOfMemory>
     requires { place < 29 }
     ensures { OnOk result (AddsRows (cut_rows place cut.now) rows.old.items rows.new.items) }

@@ -3,14 +3,14 @@
 ghost use Rattle.std.specs.Prelude.{◌≡◌, ℕ, length, map, decimal, Some, IfSome, MatchOption};
 ghost use Rattle.edr_record.specs.declared.Record.{Record};
 ghost use Rattle.edr_report.specs.Words.{yes_no};
-ghost use Rattle.edr_reading.specs.Answers.{Tells};
+ghost use Rattle.edr_reading.specs.Answers.{TellsWhether};
 ghost use Rattle.edr_reading.specs.Rows.{event_end, event_fields, event_head, fields};
 ghost use Rattle.edr_reading.specs.Values.{IsBank};
 ghost use Rattle.edr_reading.specs.Parts.{IsRecord};
 
 use crate::front::{is_word, last_within};
 use crate::parts::{crash_rows, pre_rows};
-use crate::rows::{Row, put_values};
+use crate::rows::{ReportRow, put_values};
 use crate::values::bank_behind;
 use edr_record::Record;
 
@@ -18,7 +18,7 @@ use edr_record::Record;
 pub(crate) const EVENT_ROWS: usize = 29;
 
 // The bank of the event of this block, if these two rows begin it.
-fn head_rows(rows: &[Row<'_>], block: u32) -> Option<u8>
+fn head_rows(rows: &[ReportRow<'_>], block: u32) -> Option<u8>
     requires { length rows.now ≡ 2 }
     ensures read { IfSome result (λ b. IsBank b × (map fields rows.now ≡ event_head block b)) }
     ensures whole { (b : ℕ) → IsBank b → map fields rows.now ≡ event_head block b
@@ -44,9 +44,9 @@ fn bank_in(block: u32, event: &[u8], bank: &[u8]) -> Option<u8>
 }
 
 // This one row says whether the file is complete.
-fn ends_with(rows: &[Row<'_>], block: u32, complete: bool) -> bool
+fn ends_with(rows: &[ReportRow<'_>], block: u32, complete: bool) -> bool
     requires { length rows.now ≡ 1 }
-    ensures { Tells result (map fields rows.now ≡ event_end block complete) }
+    ensures { TellsWhether result (map fields rows.now ≡ event_end block complete) }
 {
     let mut values: [&[u8]; 1] = [b""; 1];
     if put_values(rows, block, &["complete file recorded"], &mut values) {
@@ -63,7 +63,7 @@ fn word_of(decision: bool) -> &'static [u8]
 }
 
 /// The event of this block and its bank, if these 29 rows show it.
-pub(crate) fn read_event(rows: &[Row<'_>], block: u32) -> Option<(u8, Record)>
+pub(crate) fn read_event(rows: &[ReportRow<'_>], block: u32) -> Option<(u8, Record)>
     requires { length rows.now ≡ 29 }
     ensures read { IfSome result (λ p. IsBank p.0 × IsRecord p.1 × (map fields rows.now ≡ event_fields block p.0 p.1)) }
     ensures whole { (b : ℕ) (r : Record) → IsBank b → IsRecord r → map fields rows.now ≡ event_fields block b r

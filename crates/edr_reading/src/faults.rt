@@ -8,7 +8,7 @@ ghost use Rattle.edr_reading.specs.Rows.{fields, FieldRows};
 
 use crate::front::is_word;
 use crate::records::row_of;
-use crate::rows::Row;
+use crate::rows::ReportRow;
 use csv::ByteRecord;
 
 /// What is wrong with the first row with which a text can be no report.
@@ -23,7 +23,7 @@ pub enum RowFault {
 }
 
 // The first field of the first row, if there is one, that isn't that of the row that names the columns.
-fn other_than_head(row: &Row<'_>) -> Option<RowFault>
+fn other_than_head(row: &ReportRow<'_>) -> Option<RowFault>
     ensures { MatchOption result (fields row.now ≡ head_row) (λ f. (rest : FieldRows) → IsFault (fields row.now ∷ rest) 1 f) }
 {
     if !is_word(row.block, b"block") {

@@ -3,12 +3,12 @@
 ghost use Rattle.std.specs.Prelude.{◌≡◌, ◌≤◌, ◌+◌, ◌*◌, ◌∷◌, ◌++◌, ℕ, [], false, IfOk, OnOk, IfErr, IfSome, IsSome, map};
 ghost use Rattle.std.specs.Bool.{MatchBool};
 ghost use Rattle.edr_reading.specs.Answers.{ReadsFirst};
-ghost use Rattle.edr_reading.specs.Found.{IsDamaged, damaged_fields, count_fields, BeginsTold, AddsBanks, AddsEvents, AddsLast, AreOfFound, GivesBank, LacksBank, OfEvents, OfLast, BeginsWith, OfEvent};
+ghost use Rattle.edr_reading.specs.Found.{IsDamaged, damaged_fields, count_fields, BeginsTold, AddsBanks, AddsEvents, AddsLast, AreOfFound, GivesBank, LacksBank, OfEvents, OfLast, BeginsWithEvent, OfEvent};
 ghost use Rattle.edr_reading.specs.Rows.{fields};
 ghost use Rattle.edr_reading.specs.Reading.{AreDistinct, OfFound};
 
 use crate::event::{EVENT_ROWS, read_event};
-use crate::rows::Row;
+use crate::rows::ReportRow;
 use crate::told::{is_told, read_count, read_damaged};
 use edr_image::places::MOST_BANKS;
 use edr_image::{BankView, Found};
@@ -24,7 +24,7 @@ pub(crate) enum Refused {
 }
 
 // The rows begin with one that isn't of block 0.
-fn begins_event(rows: &[Row<'_>]) -> bool
+fn begins_event(rows: &[ReportRow<'_>]) -> bool
     ensures { MatchBool result (BeginsTold (map fields rows.now) → ⊥) (BeginsTold (map fields rows.now)) }
 {
     match rows {
@@ -34,8 +34,8 @@ fn begins_event(rows: &[Row<'_>]) -> bool
 }
 
 // The event of this block that the rows begin with, and its bank.
-fn first_event(rows: &[Row<'_>], block: u32) -> Option<(u8, Record)>
-    ensures read { IfSome result (BeginsWith block rows.now) }
+fn first_event(rows: &[ReportRow<'_>], block: u32) -> Option<(u8, Record)>
+    ensures read { IfSome result (BeginsWithEvent block rows.now) }
     ensures whole { OfEvent block rows.now (λ e more. GivesBank e.0 more rows.now result) }
 {
     if rows.len() < EVENT_ROWS {
@@ -48,7 +48,7 @@ fn first_event(rows: &[Row<'_>], block: u32) -> Option<(u8, Record)>
 /// Adds the events that the rows begin with, up to the first row of block 0; the first of them has this number. There are
 /// no more of them than banks.
 pub(crate) fn take_events(
-    rows: &[Row<'_>],
+    rows: &[ReportRow<'_>],
     block: u32,
     found: &mut Vec<Found>,
 ) -> Result<(), Refused>
@@ -79,7 +79,7 @@ pub(crate) fn take_events(
 }
 
 // The damaged bank of which the first row tells, and the rows behind it, if it does.
-fn first_damaged<'r, 'a>(rows: &'r [Row<'a>]) -> Option<(Found, &'r [Row<'a>])>
+fn first_damaged<'r, 'a>(rows: &'r [ReportRow<'a>]) -> Option<(Found, &'r [ReportRow<'a>])>
     ensures read { IfSome result (λ p. IsDamaged p.0 × (map fields rows.now ≡ damaged_fields p.0 ∷ map fields p.1.now)) }
     ensures whole { ReadsFirst damaged_fields IsDamaged rows.now result }
 {
@@ -89,7 +89,7 @@ fn first_damaged<'r, 'a>(rows: &'r [Row<'a>]) -> Option<(Found, &'r [Row<'a>])>
 }
 
 // The count of ignition cycles that this one row shows.
-fn last_count(rows: &[Row<'_>]) -> Option<u32>
+fn last_count(rows: &[ReportRow<'_>]) -> Option<u32>
     ensures read { IfSome result (λ n. map fields rows.now ≡ count_fields n ∷ []) }
     ensures whole { (n : ℕ) → map fields rows.now ≡ count_fields n ∷ [] → IsSome result }
 {
@@ -102,7 +102,7 @@ fn last_count(rows: &[Row<'_>]) -> Option<u32>
 }
 
 // Adds the damaged banks of which the rows tell, `most` at most, and answers the count that the last row shows.
-fn take_damaged(rows: &[Row<'_>], most: u32, found: &mut Vec<Found>) -> Result<u32, Refused>
+fn take_damaged(rows: &[ReportRow<'_>], most: u32, found: &mut Vec<Found>) -> Result<u32, Refused>
     ensures read { OnOk result ((n : ℕ) × (result ≡ Ok n)
         × AddsLast rows.now n found.old.items found.new.items) }
     ensures whole { OnOk result
@@ -152,7 +152,7 @@ fn are_distinct(found: &[Found]) -> bool
 }
 
 /// What was found in the banks, each in another one, and the count of ignition cycles, by the rows behind a run.
-pub(crate) fn found_of(alloc: Global, rows: &[Row<'_>]) -> Result<(Vec<Found>, u32), Refused>
+pub(crate) fn found_of(alloc: Global, rows: &[ReportRow<'_>]) -> Result<(Vec<Found>, u32), Refused>
     ensures read { IfOk result (λ p. AreOfFound rows.now p.0.items p.1) }
     ensures distinct { IfOk result (λ p. AreDistinct p.0.items) }
     ensures refused { IfErr result (λ e. OfFound rows.now (e ≡ Refused.OutOfMemory)) }

@@ -1,8 +1,8 @@
 //! The first row behind the one that names the columns with which a text can be no report.
 
 ghost use Rattle.std.specs.Prelude.{◌≡◌, ◌<◌, ◌≤◌, ◌+◌, ◌-◌, ◌++◌, ◌∷◌, [], IfOk, map, take, length, slice_index_or};
-ghost use Rattle.edr_reading.specs.Answers.{Tells};
-ghost use Rattle.edr_reading.specs.Faults.{Opens, GoesOn, IsWrong};
+ghost use Rattle.edr_reading.specs.Answers.{TellsWhether};
+ghost use Rattle.edr_reading.specs.Faults.{Opens, ReportGoesOn, IsWrong};
 ghost use Rattle.edr_reading.specs.Plain.{IsInside};
 ghost use Rattle.edr_reading.specs.Reading.{head_row};
 ghost use Rattle.edr_reading.specs.Rows.{fields, FieldRows};
@@ -11,25 +11,29 @@ use crate::completion::{is_named, place_of};
 use crate::faults::RowFault;
 use crate::front::is_word;
 use crate::opens::{ends_inside, last_row, opens, with_row};
-use crate::rows::Row;
+use crate::rows::ReportRow;
 use std::alloc::{AllocError as OutOfMemory, Global};
 
 // A report begins with the rows and one more.
 fn opens_with<'a>(
     alloc: Global,
-    rows: &[Row<'a>],
+    rows: &[ReportRow<'a>],
     block: &'a [u8],
     name: &'a [u8],
     value: &'a [u8],
 ) -> Result<bool, OutOfMemory>
-    ensures { IfOk result (λ b. Tells b (Opens (map fields rows.now ++ (block.now ∷ name.now ∷ value.now ∷ []) ∷ []))) }
+    ensures { IfOk result (λ b. TellsWhether b (Opens (map fields rows.now ++ (block.now ∷ name.now ∷ value.now ∷ []) ∷ []))) }
 {
-    let row = Row { block, name, value };
+    let row = ReportRow { block, name, value };
     opens(alloc, &with_row(alloc, rows, row)?)
 }
 
 // The place in an event of the last of the rows, if the event goes on behind it.
-fn inside<'a>(alloc: Global, rows: &[Row<'a>], last: &Row<'a>) -> Result<Option<usize>, OutOfMemory>
+fn inside<'a>(
+    alloc: Global,
+    rows: &[ReportRow<'a>],
+    last: &ReportRow<'a>,
+) -> Result<Option<usize>, OutOfMemory>
     ensures { IfOk result (IsInside (map fields rows.now) (fields last.now)) }
 {
     let Some(place) = place_of(last.name) else {
@@ -45,15 +49,15 @@ fn inside<'a>(alloc: Global, rows: &[Row<'a>], last: &Row<'a>) -> Result<Option<
 // Some report goes on with this block.
 fn has_block<'a>(
     alloc: Global,
-    rows: &[Row<'a>],
-    last: &Row<'a>,
+    rows: &[ReportRow<'a>],
+    last: &ReportRow<'a>,
     inside: Option<usize>,
     block: &'a [u8],
 ) -> Result<bool, OutOfMemory>
     requires some { 0 < length rows.now }
     requires last { fields last.now ≡ slice_index_or (map fields rows.now) (length (map fields rows.now) - 1) [] }
     requires inside { IsInside (map fields rows.now) (fields last.now) inside }
-    ensures { IfOk result (λ b. Tells b (GoesOn (map fields rows.now) (block.now ∷ []))) }
+    ensures { IfOk result (λ b. TellsWhether b (ReportGoesOn (map fields rows.now) (block.now ∷ []))) }
 {
     let count: &'a [u8] = b"ignition cycle, download";
     if opens_with(alloc, rows, block, count, b"0")? {
@@ -70,8 +74,8 @@ fn has_block<'a>(
 // Some report goes on with this block and this name.
 fn has_name<'a>(
     alloc: Global,
-    rows: &[Row<'a>],
-    last: &Row<'a>,
+    rows: &[ReportRow<'a>],
+    last: &ReportRow<'a>,
     inside: Option<usize>,
     block: &'a [u8],
     name: &'a [u8],
@@ -79,7 +83,7 @@ fn has_name<'a>(
     requires some { 0 < length rows.now }
     requires last { fields last.now ≡ slice_index_or (map fields rows.now) (length (map fields rows.now) - 1) [] }
     requires inside { IsInside (map fields rows.now) (fields last.now) inside }
-    ensures { IfOk result (λ b. Tells b (GoesOn (map fields rows.now) (block.now ∷ name.now ∷ []))) }
+    ensures { IfOk result (λ b. TellsWhether b (ReportGoesOn (map fields rows.now) (block.now ∷ name.now ∷ []))) }
 {
     if opens_with(alloc, rows, block, name, b"0")? {
         return Ok(true);
@@ -109,8 +113,8 @@ fn has_name<'a>(
 /// What is wrong with the next row, behind rows with which a report begins and with which and it none does.
 pub(crate) fn field_fault<'a>(
     alloc: Global,
-    rows: &[Row<'a>],
-    next: &Row<'a>,
+    rows: &[ReportRow<'a>],
+    next: &ReportRow<'a>,
 ) -> Result<RowFault, OutOfMemory>
     requires some { 0 < length rows.now }
     requires stops { ¬ Opens (map fields rows.now ++ fields next.now ∷ []) }
@@ -128,15 +132,20 @@ pub(crate) fn field_fault<'a>(
 }
 
 // A report begins with so many of the rows.
-fn opens_front(alloc: Global, rows: &[Row<'_>], count: usize) -> Result<bool, OutOfMemory>
+fn opens_front(alloc: Global, rows: &[ReportRow<'_>], count: usize) -> Result<bool, OutOfMemory>
     requires { (0 < count) × (count ≤ length rows.now) }
-    ensures { IfOk result (λ b. Tells b (Opens (take count (map fields rows.now)))) }
+    ensures { IfOk result (λ b. TellsWhether b (Opens (take count (map fields rows.now)))) }
 {
     opens(alloc, rows.split_at(count).0)
 }
 
 // With how many of the rows a report begins, where one does with `low` of them and none does with `high`.
-fn search(alloc: Global, rows: &[Row<'_>], low: usize, high: usize) -> Result<usize, OutOfMemory>
+fn search(
+    alloc: Global,
+    rows: &[ReportRow<'_>],
+    low: usize,
+    high: usize,
+) -> Result<usize, OutOfMemory>
     requires some { 1 ≤ low }
     requires apart { low < high }
     requires within { high ≤ length rows.now }
@@ -158,7 +167,7 @@ fn search(alloc: Global, rows: &[Row<'_>], low: usize, high: usize) -> Result<us
 }
 
 /// With how many of the rows a report begins; the first names the columns.
-pub(crate) fn opening(alloc: Global, rows: &[Row<'_>]) -> Result<usize, OutOfMemory>
+pub(crate) fn opening(alloc: Global, rows: &[ReportRow<'_>]) -> Result<usize, OutOfMemory>
     requires { (rest : FieldRows) × (map fields rows.now ≡ head_row ∷ rest) }
     ensures within { IfOk result (λ n. (1 ≤ n) × (n ≤ length rows.now) × (n ≤ 4_294_967_294)) }
     ensures opens { IfOk result (λ n. Opens (take n (map fields rows.now))) }

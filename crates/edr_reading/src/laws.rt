@@ -8,7 +8,7 @@ ghost use Rattle.edr_report.specs.Report.{report_lines};
 ghost use Rattle.edr_reading.specs.declared.faults.RowFault.{RowFault};
 ghost use Rattle.edr_reading.specs.Faults.{AreReport, IsFault};
 ghost use Rattle.edr_reading.specs.Reading.{report_rows};
-ghost use Rattle.edr_reading.specs.Run.{RecordsOf};
+ghost use Rattle.edr_spell.specs.Spell.{RecordsOf};
 ghost use Rattle.edr_reading.specs.Rows.{FieldRows};
 
 /// The records of a report's table are the rows of the report.

@@ -1,17 +1,17 @@
 //! Whether a report begins with rows.
 
 ghost use Rattle.std.specs.Prelude.{◌≡◌, ◌<◌, ◌-◌, ◌++◌, ◌∷◌, [], true, false, IfOk, map, length, slice_index_or};
-ghost use Rattle.edr_reading.specs.Answers.{Tells};
+ghost use Rattle.edr_reading.specs.Answers.{TellsWhether};
 ghost use Rattle.edr_reading.specs.Cut.{EndsReport, NoneOf};
 ghost use Rattle.edr_reading.specs.Faults.{AreReport, Opens};
 ghost use Rattle.edr_reading.specs.Found.{count_fields};
 ghost use Rattle.edr_reading.specs.Plain.{SomeAfter, SomeBehind, NoneInBank, NoneInBanks, TellsBehind};
 ghost use Rattle.edr_reading.specs.Rows.{fields};
 
-use crate::completion::{Cut, Guess, absent, place_of, points_behind, present, push_event};
+use crate::completion::{Guess, PlainValues, absent, place_of, points_behind, present, push_event};
 use crate::found::Refused;
 use crate::reading::reading_of;
-use crate::rows::Row;
+use crate::rows::ReportRow;
 use edr_record::Profile;
 use std::alloc::{AllocError as OutOfMemory, Global};
 
@@ -21,8 +21,8 @@ const BANKS: [&[u8]; 16] = [
 ];
 
 // These are the rows of a report.
-fn is_report(alloc: Global, rows: &[Row<'_>]) -> Result<bool, OutOfMemory>
-    ensures { IfOk result (λ b. Tells b (AreReport (map fields rows.now))) }
+fn is_report(alloc: Global, rows: &[ReportRow<'_>]) -> Result<bool, OutOfMemory>
+    ensures { IfOk result (λ b. TellsWhether b (AreReport (map fields rows.now))) }
 {
     match reading_of(alloc, rows) {
         Ok(_) => Ok(true),
@@ -32,10 +32,10 @@ fn is_report(alloc: Global, rows: &[Row<'_>]) -> Result<bool, OutOfMemory>
 }
 
 // The row of a count of 0.
-fn count_row() -> Row<'static>
+fn count_row() -> ReportRow<'static>
     ensures { fields result ≡ count_fields 0 }
 {
-    Row {
+    ReportRow {
         block: b"0",
         name: b"ignition cycle, download",
         value: b"0",
@@ -45,9 +45,9 @@ fn count_row() -> Row<'static>
 /// These rows and one more.
 pub(crate) fn with_row<'a>(
     alloc: Global,
-    rows: &[Row<'a>],
-    row: Row<'a>,
-) -> Result<Vec<Row<'a>>, OutOfMemory>
+    rows: &[ReportRow<'a>],
+    row: ReportRow<'a>,
+) -> Result<Vec<ReportRow<'a>>, OutOfMemory>
     ensures { IfOk result (λ v. map fields v.items ≡ map fields rows.now ++ fields row.entry ∷ []) }
 {
     let mut all = Vec::with_capacity(alloc, rows.len())?;
@@ -59,12 +59,12 @@ pub(crate) fn with_row<'a>(
 // The rows, the rest of an event with these values and the count are those of a report.
 fn ends_by<'a>(
     alloc: Global,
-    rows: &[Row<'a>],
+    rows: &[ReportRow<'a>],
     place: usize,
-    cut: &Cut<'a>,
+    cut: &PlainValues<'a>,
 ) -> Result<bool, OutOfMemory>
     requires { place < 29 }
-    ensures { IfOk result (λ b. Tells b (EndsReport rows.now place cut.now)) }
+    ensures { IfOk result (λ b. TellsWhether b (EndsReport rows.now place cut.now)) }
 {
     let mut all = Vec::with_capacity(alloc, rows.len())?;
     all.extend_from_slice(rows)?;
@@ -76,7 +76,7 @@ fn ends_by<'a>(
 // The same for some plain values of an event, by this guess.
 fn ends_by_guess<'a>(
     alloc: Global,
-    rows: &[Row<'a>],
+    rows: &[ReportRow<'a>],
     place: usize,
     guess: &Guess<'a>,
 ) -> Result<bool, OutOfMemory>
@@ -100,8 +100,8 @@ fn ends_by_guess<'a>(
 // The same for an event in this bank, of either profile.
 fn ends_in_bank<'a>(
     alloc: Global,
-    rows: &[Row<'a>],
-    last: &Row<'a>,
+    rows: &[ReportRow<'a>],
+    last: &ReportRow<'a>,
     place: usize,
     bank: &'a [u8],
 ) -> Result<bool, OutOfMemory>
@@ -128,8 +128,8 @@ fn ends_in_bank<'a>(
 // The same in one of these banks.
 fn ends_in_some<'a>(
     alloc: Global,
-    rows: &[Row<'a>],
-    last: &Row<'a>,
+    rows: &[ReportRow<'a>],
+    last: &ReportRow<'a>,
     place: usize,
     banks: &[&'static [u8]],
 ) -> Result<bool, OutOfMemory>
@@ -148,8 +148,8 @@ fn ends_in_some<'a>(
 /// The same for some plain values of an event in any bank.
 pub(crate) fn ends_inside<'a>(
     alloc: Global,
-    rows: &[Row<'a>],
-    last: &Row<'a>,
+    rows: &[ReportRow<'a>],
+    last: &ReportRow<'a>,
     place: usize,
 ) -> Result<bool, OutOfMemory>
     requires { place < 29 }
@@ -163,7 +163,7 @@ pub(crate) fn ends_inside<'a>(
 }
 
 /// The last of these rows.
-pub(crate) fn last_row<'r, 'a>(rows: &'r [Row<'a>]) -> &'r Row<'a>
+pub(crate) fn last_row<'r, 'a>(rows: &'r [ReportRow<'a>]) -> &'r ReportRow<'a>
     requires { 0 < length rows.now }
     ensures { fields result.now ≡ slice_index_or (map fields rows.now) (length (map fields rows.now) - 1) [] }
 {
@@ -171,9 +171,9 @@ pub(crate) fn last_row<'r, 'a>(rows: &'r [Row<'a>]) -> &'r Row<'a>
 }
 
 /// A report begins with these rows, of which there are some.
-pub(crate) fn opens(alloc: Global, rows: &[Row<'_>]) -> Result<bool, OutOfMemory>
+pub(crate) fn opens(alloc: Global, rows: &[ReportRow<'_>]) -> Result<bool, OutOfMemory>
     requires { 0 < length rows.now }
-    ensures { IfOk result (λ b. Tells b (Opens (map fields rows.now))) }
+    ensures { IfOk result (λ b. TellsWhether b (Opens (map fields rows.now))) }
 {
     if is_report(alloc, rows)? {
         return Ok(true);

@@ -5,14 +5,14 @@ ghost use Rattle.edr_record.specs.Bounds.{IsPre, IsCrash};
 ghost use Rattle.edr_record.specs.Parts.{CrashPart};
 ghost use Rattle.edr_report.specs.Report.{pre_lines, crash_words, crash_lines};
 ghost use Rattle.edr_report.specs.Words.{none_word};
-ghost use Rattle.edr_reading.specs.Parts.{GivesPre, OfCrash, OfPre};
+ghost use Rattle.edr_reading.specs.Parts.{GivesPre, OfCrashRows, OfPre};
 ghost use Rattle.edr_reading.specs.Rows.{fields, line_fields, pre_list, crash_list, texts_in};
-ghost use Rattle.edr_reading.specs.Answers.{Tells};
+ghost use Rattle.edr_reading.specs.Answers.{TellsWhether};
 
 use crate::crash::{CrashValues, read_crash};
 use crate::front::is_word;
 use crate::pre::{PreValues, read_pre};
-use crate::rows::{Row, put_values};
+use crate::rows::{ReportRow, put_values};
 use edr_record::{Crash, Pre};
 
 /// The names of the rows of what stood before time zero.
@@ -69,7 +69,7 @@ fn pre_values<'a>(values: &[&'a [u8]; 11]) -> PreValues<'a>
 }
 
 /// What stood before time zero, and whether the record is locked, if these eleven rows of this block show them.
-pub(crate) fn pre_rows(rows: &[Row<'_>], block: u32) -> Option<(Pre, bool)>
+pub(crate) fn pre_rows(rows: &[ReportRow<'_>], block: u32) -> Option<(Pre, bool)>
     requires { length rows.now ≡ 11 }
     ensures read { IfSome result (λ q. map fields rows.now ≡ map line_fields (pre_lines block q.0 q.1)) }
     ensures bounds { IfSome result (λ q. IsPre q.0) }
@@ -104,7 +104,7 @@ fn crash_values<'a>(values: &[&'a [u8]; 15]) -> CrashValues<'a>
 
 // Each of the values is `none`.
 fn are_absent(values: &[&[u8]; 15]) -> bool
-    ensures { Tells result (texts_in values.now ≡ replicate 15 none_word) }
+    ensures { TellsWhether result (texts_in values.now ≡ replicate 15 none_word) }
 {
     for i in 0..15 {
         if !is_word(values[i], b"none") {
@@ -130,11 +130,11 @@ fn crash_or_none(values: &[&[u8]; 15]) -> Option<Option<Crash>>
 }
 
 /// What came after time zero, or that nothing did, if these fifteen rows of this block show it.
-pub(crate) fn crash_rows(rows: &[Row<'_>], block: u32) -> Option<Option<Crash>>
+pub(crate) fn crash_rows(rows: &[ReportRow<'_>], block: u32) -> Option<Option<Crash>>
     requires { length rows.now ≡ 15 }
     ensures read { IfSome result (λ c. map fields rows.now ≡ map line_fields (crash_lines block c)) }
     ensures bounds { IfSome result (λ c. IfSome c IsCrash) }
-    ensures whole { OfCrash block rows.now (λ c. result ≡ Some c) }
+    ensures whole { OfCrashRows block rows.now (λ c. result ≡ Some c) }
 {
     let mut values: [&[u8]; 15] = [b""; 15];
     if put_values(rows, block, &CRASH_NAMES, &mut values) {

@@ -6,9 +6,10 @@ ghost use Rattle.edr_image.specs.Reports.{report_of};
 ghost use Rattle.csv.specs.Records.{fields_of};
 ghost use Rattle.edr_reading.specs.Faults.{AreReport, IsFault};
 ghost use Rattle.edr_reading.specs.Rows.{fields, FieldRows};
-ghost use Rattle.edr_reading.specs.Run.{RecordsOf, StopsAt};
-ghost use Rattle.edr_reading.specs.Reading.{IsReading, head_row, OfReport, BeginsWithHead, IsBehindHead, rows_told};
-ghost use Rattle.edr_reading.specs.Refusals.{IsRefusal};
+ghost use Rattle.edr_reading.specs.Run.{StopsBehind};
+ghost use Rattle.edr_spell.specs.Spell.{RecordsOf};
+ghost use Rattle.edr_reading.specs.Reading.{IsReading, head_row, OfReportRows, BeginsWithHead, IsBehindHead, rows_told};
+ghost use Rattle.edr_reading.specs.Refusals.{IsRefusalOfRecords};
 ghost use Rattle.edr_reading.specs.Answers.{GivesRest};
 
 use crate::faults::{RowFault, head_fault};
@@ -16,7 +17,7 @@ use crate::found::{Refused, found_of};
 use crate::front::is_word;
 use crate::later::{field_fault, opening};
 use crate::records::{records, rows_of};
-use crate::rows::Row;
+use crate::rows::ReportRow;
 use crate::run::take_run;
 use csv::ByteRecord;
 use edr_image::{CycleReport, Found};
@@ -45,14 +46,14 @@ pub enum ReportRefused {
 }
 
 // The row names the columns.
-fn is_head(row: &Row<'_>) -> bool
+fn is_head(row: &ReportRow<'_>) -> bool
     ensures { MatchBool result (fields row.now ≡ head_row) (fields row.now ≢ head_row) }
 {
     is_word(row.block, b"block") && is_word(row.name, b"name") && is_word(row.value, b"value")
 }
 
 // The rows behind the one that names the columns, if that is the first.
-fn behind_head<'r, 'a>(rows: &'r [Row<'a>]) -> Option<&'r [Row<'a>]>
+fn behind_head<'r, 'a>(rows: &'r [ReportRow<'a>]) -> Option<&'r [ReportRow<'a>]>
     ensures read { IfSome result (λ rest. IsBehindHead rest.now rows.now) }
     ensures whole { (more : FieldRows) → map fields rows.now ≡ head_row ∷ more → GivesRest more result }
 {
@@ -61,11 +62,11 @@ fn behind_head<'r, 'a>(rows: &'r [Row<'a>]) -> Option<&'r [Row<'a>]>
 }
 
 // What the rows of a report tell.
-pub(crate) fn reading_of(alloc: Global, rows: &[Row<'_>]) -> Result<Reading, Refused>
+pub(crate) fn reading_of(alloc: Global, rows: &[ReportRow<'_>]) -> Result<Reading, Refused>
     ensures read { IfOk result (λ r. map fields rows.now ≡ rows_told r) }
     ensures told { IfOk result (λ r. IsReading (map report_of r.run.items) r.found.items r.count) }
     ensures refused { IfErr result (λ e.
-        OfReport (λ told. map fields rows.now ≡ told) (e ≡ Refused.OutOfMemory)) }
+        OfReportRows (λ told. map fields rows.now ≡ told) (e ≡ Refused.OutOfMemory)) }
 {
     if rows.len() > MOST_ROWS {
         return Err(Refused::NoReport);
@@ -84,11 +85,11 @@ pub(crate) fn reading_of(alloc: Global, rows: &[Row<'_>]) -> Result<Reading, Ref
 fn later_fault(
     alloc: Global,
     records: &[ByteRecord],
-    rows: &[Row<'_>],
+    rows: &[ReportRow<'_>],
 ) -> Result<(u32, RowFault), OutOfMemory>
     requires head { BeginsWithHead (map fields rows.now) }
     requires rows { map fields rows.now ≡ take (length rows.now) (map fields_of records.now) }
-    requires stops { StopsAt fields_of (length rows.now) records.now }
+    requires stops { StopsBehind fields_of (length rows.now) records.now }
     requires none { length records.now ≤ length rows.now → ¬ AreReport (map fields_of records.now) }
     ensures { IfOk result (λ p. IsFault (map fields_of records.now) p.0 p.1) }
 {
@@ -118,8 +119,8 @@ pub fn read(alloc: Global, bytes: &[u8]) -> Result<Reading, ReportRefused>
     ensures read { IfOk result (λ r. RecordsOf bytes.now (rows_told r)) }
     ensures told { IfOk result (λ r. IsReading (map report_of r.run.items) r.found.items r.count) }
     ensures refused { IfErr result (λ e.
-        OfReport (RecordsOf bytes.now) (e ≡ ReportRefused.OutOfMemory)) }
-    ensures fault { IfErr result (IsRefusal bytes.now) }
+        OfReportRows (RecordsOf bytes.now) (e ≡ ReportRefused.OutOfMemory)) }
+    ensures fault { IfErr result (IsRefusalOfRecords bytes.now) }
 {
     let Ok(records) = records(alloc, bytes) else {
         return Err(ReportRefused::OutOfMemory);

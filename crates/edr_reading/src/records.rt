@@ -3,9 +3,10 @@
 ghost use Rattle.std.specs.Prelude.{◌≡◌, ◌≢◌, ◌<◌, ◌≤◌, Some, IfOk, MatchOption, length, map, take};
 ghost use Rattle.csv.specs.Records.{fields_of, field_at};
 ghost use Rattle.edr_reading.specs.Rows.{fields};
-ghost use Rattle.edr_reading.specs.Run.{RecordsOf, StopsAt};
+ghost use Rattle.edr_reading.specs.Run.{StopsBehind};
+ghost use Rattle.edr_spell.specs.Spell.{RecordsOf};
 
-use crate::rows::Row;
+use crate::rows::ReportRow;
 use csv::{ByteRecord, ReaderBuilder};
 use std::alloc::{AllocError as OutOfMemory, Global};
 
@@ -38,13 +39,13 @@ fn field(fields: &ByteRecord, place: usize) -> &[u8]
 }
 
 /// The row of a record, if it has three fields.
-pub(crate) fn row_of(found: &ByteRecord) -> Option<Row<'_>>
+pub(crate) fn row_of(found: &ByteRecord) -> Option<ReportRow<'_>>
     ensures { MatchOption result (length (fields_of found.now) ≢ 3) (λ r. fields r ≡ fields_of found.now) }
 {
     if found.len() != 3 {
         return None;
     }
-    Some(Row {
+    Some(ReportRow {
         block: field(found, 0),
         name: field(found, 1),
         value: field(found, 2),
@@ -55,10 +56,10 @@ pub(crate) fn row_of(found: &ByteRecord) -> Option<Row<'_>>
 pub(crate) fn rows_of<'a>(
     alloc: Global,
     records: &'a [ByteRecord],
-) -> Result<Vec<Row<'a>>, OutOfMemory>
+) -> Result<Vec<ReportRow<'a>>, OutOfMemory>
     ensures within { IfOk result (λ rows. length rows.items ≤ length records.now) }
     ensures rows { IfOk result (λ rows. map fields rows.items ≡ take (length rows.items) (map fields_of records.now)) }
-    ensures stops { IfOk result (λ rows. StopsAt fields_of (length rows.items) records.now) }
+    ensures stops { IfOk result (λ rows. StopsBehind fields_of (length rows.items) records.now) }
 {
     let mut rows = Vec::new(alloc);
     for record in records {

@@ -8,14 +8,14 @@ use crate::front::{is_word, last_within};
 
 /// A row: the number of its block, a name and a value.
 #[derive(Clone, Copy)]
-pub(crate) struct Row<'a> {
+pub(crate) struct ReportRow<'a> {
     pub block: &'a [u8],
     pub name: &'a [u8],
     pub value: &'a [u8],
 }
 
 /// The value of a row that is to have this block and this name.
-pub(crate) fn value_in<'a>(row: &Row<'a>, block: u32, name: &str) -> Option<&'a [u8]>
+pub(crate) fn value_in<'a>(row: &ReportRow<'a>, block: u32, name: &str) -> Option<&'a [u8]>
     ensures read { IfSome result (λ v. fields row.now ≡ decimal block ∷ name.now ∷ v.now ∷ []) }
     ensures whole { (v : List ℕ) → fields row.now ≡ decimal block ∷ name.now ∷ v ∷ [] → GivesText v result }
 {
@@ -31,7 +31,7 @@ pub(crate) fn value_in<'a>(row: &Row<'a>, block: u32, name: &str) -> Option<&'a 
 
 /// Puts the values of rows that are to have this block and these names, and tells whether they have.
 pub(crate) fn put_values<'a>(
-    rows: &[Row<'a>],
+    rows: &[ReportRow<'a>],
     block: u32,
     names: &[&'static str],
     values: &mut [&'a [u8]],

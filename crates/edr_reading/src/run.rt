@@ -4,16 +4,16 @@ ghost use Rattle.std.specs.Prelude.{◌≡◌, ◌≤◌, ◌<◌, ◌^◌, ◌+
 ghost use Rattle.edr_image.specs.Reports.{report_of};
 ghost use Rattle.edr_reading.specs.Answers.{ReadsFirst};
 ghost use Rattle.edr_reading.specs.Rows.{fields, BeginWith};
-ghost use Rattle.edr_reading.specs.Run.{ack_fields, cycle_fields, run_fields, row_of, acks_of, IsReport, OfAcks, OfCycle, OfRun, BeginsCycle, GivesAcks, acks_fields};
+ghost use Rattle.edr_reading.specs.Run.{ack_fields, cycle_fields, run_fields, row_of, acks_of, IsReport, OfAcks, OfCycle, OfRunRows, BeginsCycle, GivesAcks, acks_fields};
 ghost use Rattle.edr_reading.specs.Told.{IsAck, IsCycleRow};
 
-use crate::rows::Row;
+use crate::rows::ReportRow;
 use crate::told::{CycleRow, read_ack, read_cycle};
 use edr_image::{Ack, CycleReport, Log};
 use std::alloc::{AllocError as OutOfMemory, Global};
 
 /// The acknowledged commands of the cycle in this place of which the first rows tell.
-fn take_acks(alloc: Global, rows: &[Row<'_>], place: u32) -> Result<Vec<Ack>, OutOfMemory>
+fn take_acks(alloc: Global, rows: &[ReportRow<'_>], place: u32) -> Result<Vec<Ack>, OutOfMemory>
     ensures within { IfOk result (λ v. length v.items ≤ length rows.now) }
     ensures bounds { IfOk result (λ v. All IsAck v.items) }
     ensures read { IfOk result (λ v. map fields (take (length v.items) rows.now) ≡ map (ack_fields place) v.items) }
@@ -42,7 +42,10 @@ fn log_of(alloc: Global, acks: &[Ack]) -> Result<Log, OutOfMemory>
 }
 
 // What the first row tells of the cycle in this place, and the rows behind it, if it does.
-fn first_cycle<'r, 'a>(rows: &'r [Row<'a>], place: u32) -> Option<(CycleRow, &'r [Row<'a>])>
+fn first_cycle<'r, 'a>(
+    rows: &'r [ReportRow<'a>],
+    place: u32,
+) -> Option<(CycleRow, &'r [ReportRow<'a>])>
     ensures read { IfSome result (BeginsCycle place rows.now) }
     ensures behind { IfSome result (λ p. p.1.now ≡ drop 1 rows.now) }
     ensures whole { ReadsFirst (cycle_fields place) IsCycleRow rows.now result }
@@ -56,7 +59,7 @@ fn first_cycle<'r, 'a>(rows: &'r [Row<'a>], place: u32) -> Option<(CycleRow, &'r
 fn cycle_of(
     alloc: Global,
     first: CycleRow,
-    rows: &[Row<'_>],
+    rows: &[ReportRow<'_>],
     place: u32,
 ) -> Result<(CycleReport, usize), OutOfMemory>
     requires { length rows.now < 2 ^ 32 }
@@ -85,12 +88,12 @@ fn cycle_of(
 /// The cycles of which the first rows tell, and the rows that are left.
 pub(crate) fn take_run<'r, 'a>(
     alloc: Global,
-    rows: &'r [Row<'a>],
-) -> Result<(Vec<CycleReport>, &'r [Row<'a>]), OutOfMemory>
+    rows: &'r [ReportRow<'a>],
+) -> Result<(Vec<CycleReport>, &'r [ReportRow<'a>]), OutOfMemory>
     requires { length rows.now + 1 < 2 ^ 32 }
     ensures bounds { IfOk result (λ p. All IsReport (map report_of p.0.items)) }
     ensures read { IfOk result (λ p. BeginWith rows.now (run_fields 1 (map report_of p.0.items)) p.1.now) }
-    ensures whole { IfOk result (λ p. OfRun rows.now (λ more. map fields p.1.now ≡ more)) }
+    ensures whole { IfOk result (λ p. OfRunRows rows.now (λ more. map fields p.1.now ≡ more)) }
 {
     let mut run = Vec::new(alloc);
     let mut at = 0;

@@ -9,7 +9,7 @@ use crate::front::{behind, within_behind};
 use crate::values::change_in_front;
 
 /// What stands in one slot of a list.
-pub(crate) trait Slot {
+pub(crate) trait SlotRead {
     ghost use Rattle.std.specs.Prelude.{ℕ, List};
 
     // How it is spelled, and which values it may have.
@@ -23,7 +23,7 @@ pub(crate) trait Slot {
         ensures whole { ReadsFront words is_slot bytes.now result };
 }
 
-impl Slot for i16 {
+impl SlotRead for i16 {
     ghost use Rattle.std.specs.Fmt.{signed_decimal};
     ghost use Rattle.edr_record.specs.Bounds.{IsChange};
 
@@ -36,7 +36,7 @@ impl Slot for i16 {
     }
 }
 
-impl Slot for Option<u16> {
+impl SlotRead for Option<u16> {
     ghost use Rattle.edr_report.specs.Words.{number_or_none};
     ghost use Rattle.edr_record.specs.Bounds.{IsUpTo};
 
@@ -55,7 +55,7 @@ impl Slot for Option<u16> {
     }
 }
 
-impl Slot for Option<u8> {
+impl SlotRead for Option<u8> {
     ghost use Rattle.edr_report.specs.Words.{number_or_none};
     ghost use Rattle.edr_record.specs.Bounds.{IsUpTo};
 
@@ -74,7 +74,7 @@ impl Slot for Option<u8> {
     }
 }
 
-impl Slot for Option<bool> {
+impl SlotRead for Option<bool> {
     ghost use Rattle.std.specs.Prelude.{⊤};
     ghost use Rattle.edr_report.specs.Words.{switch_or_none};
 
@@ -104,7 +104,7 @@ fn space_at(place: usize) -> &'static [u8]
 }
 
 // The slot behind these bytes, and what stands behind it.
-fn slot_behind<'a, S: Slot>(bytes: &'a [u8], front: &[u8]) -> Option<(S, &'a [u8])>
+fn slot_behind<'a, S: SlotRead>(bytes: &'a [u8], front: &[u8]) -> Option<(S, &'a [u8])>
     ensures read { IfSome result (λ p. (bytes.now ≡ front.now ++ (S.words p.0 ++ p.1.now)) × S.is_slot p.0) }
     ensures whole { ReadsBehind front.now S.words S.is_slot bytes.now result }
 {
@@ -115,7 +115,7 @@ fn slot_behind<'a, S: Slot>(bytes: &'a [u8], front: &[u8]) -> Option<(S, &'a [u8
 }
 
 /// Reads slots that are parted by one space, as many as there are; tells whether the bytes are such slots.
-pub(crate) fn read_slots<S: Slot + Copy>(bytes: &[u8], slots: &mut [S]) -> bool
+pub(crate) fn read_slots<S: SlotRead + Copy>(bytes: &[u8], slots: &mut [S]) -> bool
     ensures long { length slots.new ≡ length slots.old }
     ensures read { result ≡ true → (bytes.now ≡ spaced (map S.words slots.new)) × All S.is_slot slots.new }
     ensures whole { OfSpaced (length slots.old) S.words S.is_slot bytes.now (λ xs. (result ≡ true) × (slots.new ≡ xs)) }

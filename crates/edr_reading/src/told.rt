@@ -8,7 +8,7 @@ ghost use Rattle.edr_reading.specs.Rows.{fields, line_fields};
 ghost use Rattle.edr_reading.specs.Told.{IsAck, IsCycleRow, cycle_line};
 
 use crate::front::last_within;
-use crate::rows::{Row, value_in};
+use crate::rows::{ReportRow, value_in};
 use crate::values::{ack, applied, bank_behind, count, damage, ran, start_call};
 use edr_image::{Ack, Found};
 
@@ -22,7 +22,7 @@ pub(crate) enum CycleRow {
 }
 
 /// The row is one of block 0.
-pub(crate) fn is_told(row: &Row<'_>) -> bool
+pub(crate) fn is_told(row: &ReportRow<'_>) -> bool
     ensures { MatchBool result (row.now.block.now ≡ decimal 0) (row.now.block.now ≢ decimal 0) }
 {
     last_within(row.block, b"", 0, 0).is_some()
@@ -43,7 +43,7 @@ fn cycle_value(value: &[u8]) -> Option<CycleRow>
 }
 
 /// What the first row of the cycle in this place tells, if the row is one.
-pub(crate) fn read_cycle(row: &Row<'_>, place: u32) -> Option<CycleRow>
+pub(crate) fn read_cycle(row: &ReportRow<'_>, place: u32) -> Option<CycleRow>
     ensures read { IfSome result (λ r. IsCycleRow r × (fields row.now ≡ line_fields (cycle_line place r))) }
     ensures whole { (r : CycleRow) → IsCycleRow r → fields row.now ≡ line_fields (cycle_line place r) → result ≡ Some r }
 {
@@ -57,7 +57,7 @@ pub(crate) fn read_cycle(row: &Row<'_>, place: u32) -> Option<CycleRow>
 }
 
 /// The acknowledged command of the cycle in this place of which the row tells, if it does.
-pub(crate) fn read_ack(row: &Row<'_>, place: u32) -> Option<Ack>
+pub(crate) fn read_ack(row: &ReportRow<'_>, place: u32) -> Option<Ack>
     ensures read { IfSome result (λ a. IsAck a × (fields row.now ≡ line_fields (ack_line place a))) }
     ensures whole { (a : Ack) → IsAck a → fields row.now ≡ line_fields (ack_line place a) → result ≡ Some a }
 {
@@ -78,7 +78,7 @@ pub(crate) fn read_ack(row: &Row<'_>, place: u32) -> Option<Ack>
 }
 
 /// The damaged bank of which the row tells, if it does.
-pub(crate) fn read_damaged(row: &Row<'_>) -> Option<Found>
+pub(crate) fn read_damaged(row: &ReportRow<'_>) -> Option<Found>
     ensures read { IfSome result (λ f. IsDamaged f × (fields row.now ≡ damaged_fields f)) }
     ensures whole { (f : Found) → IsDamaged f → fields row.now ≡ damaged_fields f → result ≡ Some f }
 {
@@ -95,7 +95,7 @@ pub(crate) fn read_damaged(row: &Row<'_>) -> Option<Found>
 }
 
 /// The count of ignition cycles that the last row shows, if the row is one.
-pub(crate) fn read_count(row: &Row<'_>) -> Option<u32>
+pub(crate) fn read_count(row: &ReportRow<'_>) -> Option<u32>
     ensures read { IfSome result (λ n. fields row.now ≡ count_fields n) }
     ensures whole { (n : ℕ) → fields row.now ≡ count_fields n → IsSome result }
 {

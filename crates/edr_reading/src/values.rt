@@ -5,9 +5,9 @@ ghost use Rattle.std.specs.Fmt.{signed_decimal};
 ghost use Rattle.edr_record.specs.declared.Profile.{Profile};
 ghost use Rattle.edr_record.specs.Bounds.{IsChange, IsExtreme, IsPlace, IsUpTo};
 ghost use Rattle.edr_report.specs.Words.{bank_words, applied_words, stop_words, yes_no, profile_word, switch_or_none, milliseconds, firing_words, shown_count, events_in_crash, time_between, extreme_words, missing_words, damage_words, ack_words, seconds};
-ghost use Rattle.edr_reading.specs.Answers.{Gives};
+ghost use Rattle.edr_reading.specs.Answers.{GivesValue};
 ghost use Rattle.edr_reading.specs.Front.{EndsNumber, ReadsFront};
-ghost use Rattle.edr_reading.specs.Values.{IsBank, IsStop, IsApplied, IsDamagedView, IsTick, done_in, view_words, byte_words, command_words, ran_words};
+ghost use Rattle.edr_reading.specs.Values.{IsBank, IsStopCall, IsApplied, IsDamagedView, IsTick, done_in, view_words, byte_words, command_words, ran_words};
 
 use crate::front::{
     behind, is_word, last_within, number_behind, one_number, two_numbers, two_within, within_behind,
@@ -118,7 +118,7 @@ pub(crate) fn firing(bytes: &[u8], latest: u16) -> Option<Option<u16>>
 fn negative_in_front(bytes: &[u8]) -> Option<(i16, &[u8])>
     ensures read { IfSome result (λ p. (45 ∷ bytes.now ≡ signed_decimal p.0 ++ p.1.now) × IsChange p.0) }
     ensures whole { (k : ℕ) (more : List ℕ) → k + 1 ≤ 3_000 → EndsNumber more → bytes.now ≡ decimal (k + 1) ++ more
-        → Gives (negsuc k) more result }
+        → GivesValue (negsuc k) more result }
 {
     match within_behind(bytes, b"", 1, GREATEST_CHANGE) {
         Some((n, rest)) => Some((0 - n as i16, rest)),
@@ -130,7 +130,7 @@ fn negative_in_front(bytes: &[u8]) -> Option<(i16, &[u8])>
 fn positive_in_front(bytes: &[u8]) -> Option<(i16, &[u8])>
     ensures read { IfSome result (λ p. (bytes.now ≡ signed_decimal p.0 ++ p.1.now) × IsChange p.0) }
     ensures whole { (n : ℕ) (more : List ℕ) → n ≤ 3_000 → EndsNumber more → bytes.now ≡ decimal n ++ more
-        → Gives (pos n) more result }
+        → GivesValue (pos n) more result }
 {
     match within_behind(bytes, b"", 0, GREATEST_CHANGE) {
         Some((n, rest)) => Some((n as i16, rest)),
@@ -288,8 +288,8 @@ pub(crate) fn start_call(bytes: &[u8]) -> Option<u32>
 
 // How a cycle ended.
 fn stop(bytes: &[u8]) -> Option<Option<u32>>
-    ensures read { IfSome result (λ s. (bytes.now ≡ codes ", " ++ stop_words s) × IsStop s) }
-    ensures whole { (s : Option ℕ) → IsStop s → bytes.now ≡ codes ", " ++ stop_words s → result ≡ Some s }
+    ensures read { IfSome result (λ s. (bytes.now ≡ codes ", " ++ stop_words s) × IsStopCall s) }
+    ensures whole { (s : Option ℕ) → IsStopCall s → bytes.now ≡ codes ", " ++ stop_words s → result ≡ Some s }
 {
     if is_word(bytes, b", power off") {
         return Some(None);
@@ -302,8 +302,8 @@ fn stop(bytes: &[u8]) -> Option<Option<u32>>
 
 /// The number of a cycle that ran, and how it ended.
 pub(crate) fn ran(bytes: &[u8]) -> Option<(u32, Option<u32>)>
-    ensures read { IfSome result (λ p. (bytes.now ≡ ran_words p.0 p.1) × (1 ≤ p.0) × IsStop p.1) }
-    ensures whole { (n : ℕ) (s : Option ℕ) → 1 ≤ n → n < 2 ^ 32 → IsStop s → bytes.now ≡ ran_words n s → result ≡ Some (n, s) }
+    ensures read { IfSome result (λ p. (bytes.now ≡ ran_words p.0 p.1) × (1 ≤ p.0) × IsStopCall p.1) }
+    ensures whole { (n : ℕ) (s : Option ℕ) → 1 ≤ n → n < 2 ^ 32 → IsStopCall s → bytes.now ≡ ran_words n s → result ≡ Some (n, s) }
 {
     match within_behind(bytes, b"number ", 1, u32::MAX) {
         Some((number, rest)) => match stop(rest) {

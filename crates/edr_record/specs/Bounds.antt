@@ -24,7 +24,7 @@ slots_in Short = SHORT_SLOTS
 slots_in Long = LONG_SLOTS
 
 -- the bounds of a pre part with n slots in each list: km/h, per cent, ticks of 1 ms
-pub record IsPreOf (n : ℕ) (p : PrePart) : Type 0 where
+pub record IsPreWithSlots (n : ℕ) (p : PrePart) : Type 0 where
   pub cycle_from : 1 ≤ p.key.cycle
   pub cycle_to : p.key.cycle ≤ 4_294_967_295
   pub zero_from : 1 ≤ p.key.zero
@@ -38,7 +38,7 @@ pub record IsPreOf (n : ℕ) (p : PrePart) : Type 0 where
 
 -- the bounds of the pre part of a record
 abbrev pub IsPre : PrePart → Type 0
-IsPre p = IsPreOf (slots_in p.profile) p
+IsPre p = IsPreWithSlots (slots_in p.profile) p
 
 -- how long after time zero extremes and missing samples are looked for, from the time of the end (563.7 Table I, maximum delta-V)
 abbrev pub window_from_end : ℕ → ℕ

@@ -10,7 +10,7 @@ use Rattle.edr_cycle.specs.declared.started.StartFault.TheVariants as fault
 use Rattle.edr_image.specs.declared.OpenFault.TheVariants as open_fault
 use Rattle.edr_run.specs.Cycle.{End, IsCycle, start_stopped, start_counted, start_end, last_count}
 use Rattle.edr_cycle.specs.Ends.{cycle_with}
-use Rattle.edr_replay.specs.Replayed.{Holds, IsFault, IsRefusal, IsTrulySpent, IsTrulyRefused, IsTrulyShort, EndsSpent}
+use Rattle.edr_replay.specs.Replayed.{Holds, IsDeviceFault, IsStartRefusal, IsTrulySpent, IsTrulyRefused, IsTrulyShort, EndsSpent}
 use Rattle.edr_replay.specs.Phases.{RunsAs, RunsFrom}
 
 -- an end of the cycle that tells this report, and that the device holds
@@ -62,7 +62,7 @@ pub not_refused : (r : Result CycleReport StartFault) (a b : ℕ) (content : Opt
     → IfErr r (λ e. (e ≡ fault.StoreFault) × Rose a b) → IfErr r (IsTrulyRefused content settled)
 unfolding IsTrulyRefused
 not_refused (Ok x) a b content settled h = h
-not_refused (Err e) a b content settled h = λ refused. absurd (subst IsRefusal h.0 refused)
+not_refused (Err e) a b content settled h = λ refused. absurd (subst IsStartRefusal h.0 refused)
 
 -- not that the image is short
 pub not_short : (r : Result CycleReport StartFault) (a b extent : ℕ) → IfErr r (λ e. (e ≡ fault.StoreFault) × Rose a b) → IfErr r (IsTrulyShort extent)
@@ -73,7 +73,7 @@ not_short (Err e) a b extent h = λ size needed told. absurd (different size nee
   different size needed e = cc
 
 -- faults that rose in the commands rose in the whole cycle
-pub rose_later : (r : Result CycleReport StartFault) (a b c : ℕ) → a ≤ b → IfErr r (λ e. (e ≡ fault.StoreFault) × Rose b c) → IfErr r (λ e. IsFault e → Rose a c)
+pub rose_later : (r : Result CycleReport StartFault) (a b c : ℕ) → a ≤ b → IfErr r (λ e. (e ≡ fault.StoreFault) × Rose b c) → IfErr r (λ e. IsDeviceFault e → Rose a c)
 rose_later (Ok x) a b c le h = h
 rose_later (Err e) a b c le h = λ f. rose_again a b c le h.1 where
   rose_again : (a b c : ℕ) → a ≤ b → Rose b c → Rose a c

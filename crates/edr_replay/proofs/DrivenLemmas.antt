@@ -12,7 +12,7 @@ use Rattle.edr_cycle.specs.declared.started.StartFault.{StartFault}
 use Rattle.edr_cycle.specs.declared.started.StartFault.TheVariants as fault
 use Rattle.edr_replay.specs.Phases.{LeavesOfRun}
 use Rattle.edr_replay.specs.Reached.{between, counted, in_start_counted, untouched}
-use Rattle.edr_replay.specs.Replayed.{EndsCutShort, HasRun, Holds, IsDrivenFault, IsFault, IsLeftAlone, IsLeftOrCounted, IsMemory, IsTrulyRefused, IsTrulyShort, IsTrulySpent, LeavesPart}
+use Rattle.edr_replay.specs.Replayed.{EndsCutShort, HasRun, Holds, IsDrivenFault, IsDeviceFault, IsLeftAlone, IsLeftOrCounted, IsMemory, IsTrulyRefused, IsTrulyShort, IsTrulySpent, LeavesPart}
 use Rattle.edr_replay.proofs.CycleLemmas.{memory_refused, memory_short, memory_unspent, not_refused, not_short, not_spent, rose_later}
 use Rattle.edr_replay.proofs.Leaving.{none_first}
 
@@ -53,9 +53,9 @@ driven_short (Err e) a b extent (inl is) = subst (λ x. IsTrulyShort extent x) (
 driven_short (Err e) a b extent (inr h) = not_short (Err e) a b extent h
 
 -- faults that rose in them rose in the whole cycle
-pub driven_rose : (r : Result CycleReport StartFault) (a b c : ℕ) → a ≤ b → IfErr r (IsDrivenFault b c) → IfErr r (λ e. IsFault e → Rose a c)
+pub driven_rose : (r : Result CycleReport StartFault) (a b c : ℕ) → a ≤ b → IfErr r (IsDrivenFault b c) → IfErr r (λ e. IsDeviceFault e → Rose a c)
 driven_rose (Ok report) a b c le h = h
-driven_rose (Err e) a b c le (inl is) = λ f. absurd (subst IsFault is f)
+driven_rose (Err e) a b c le (inl is) = λ f. absurd (subst IsDeviceFault is f)
 driven_rose (Err e) a b c le (inr h) = rose_later (Err e) a b c le h
 
 -- for want of memory, which leaves what the start left

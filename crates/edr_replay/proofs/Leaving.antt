@@ -16,10 +16,10 @@ use Rattle.edr_spell.specs.declared.CycleInput.{CycleInput}
 use Rattle.edr_run.specs.Cycle.{End, IsCycle, start_stopped, start_counted, whole, cut, Outcome, IsRun, last_count, start_end, steps_in}
 use Rattle.edr_cycle.specs.declared.started.StartFault.{StartFault}
 use Rattle.edr_cycle.specs.declared.started.StartFault.TheVariants as fault
-use Rattle.edr_cycle.specs.Counter.{IsCounted, SaysWith}
+use Rattle.edr_cycle.specs.Counter.{IsCountAfterStop, SaysWith}
 use Rattle.edr_cycle.specs.Ends.{ComesTo, IsFound, cycle_with}
-use Rattle.edr_cycle.specs.Starts.{IsEarly, IsOpened}
-use Rattle.edr_replay.specs.Reached.{IsStopIn, in_start_counted, in_commands, IsPartOf, untouched, ended, stopped, RanFirst, IsReached, between, inside}
+use Rattle.edr_cycle.specs.Starts.{IsEarly, HasOpened}
+use Rattle.edr_replay.specs.Reached.{IsStopIn, in_start_counted, in_commands, IsLeftOfCycle, untouched, ended, stopped, RanFirst, IsReached, between, inside}
 use Rattle.edr_replay.specs.Replayed.{EndsShort, HasRun, Holds, IsLeftAlone, IsMemory, LeavesPart, LeavesReached}
 use Rattle.edr_replay.specs.Phases.{LeavesOfRun, LeavesOfStart}
 use Rattle.edr_replay.proofs.RunLemmas.{extended, run_more}
@@ -29,15 +29,15 @@ use Rattle.edr_replay.proofs.StartPhase.{SaysCount, count_left, found_held}
 -- ---- a start
 
 -- where one more was counted, numbers were left
-counted_left : (e : StartFault) (v : Store) (n before now : ℕ) (content : Option (List ℕ)) (settled : ℕ → Bool) → (IsOpened e → SaysCount content e) → (IsEarly e → now ≡ before) → 5 ≤ now - before → Holds content settled v n → n < last_count
+counted_left : (e : StartFault) (v : Store) (n before now : ℕ) (content : Option (List ℕ)) (settled : ℕ → Bool) → (HasOpened e → SaysCount content e) → (IsEarly e → now ≡ before) → 5 ≤ now - before → Holds content settled v n → n < last_count
 counted_left (fault.Open o) v n before now content settled counted early late h = let same = early tt in absurd (omega (arith, same, late))
 counted_left fault.Spent v n before now content settled counted early late h = let same = early tt in absurd (omega (arith, same, late))
 counted_left fault.StoreFault v n before now content settled counted early late h = count_left v n content settled (counted tt) h
 counted_left fault.OutOfMemory v n before now content settled counted early late h = let same = early tt in absurd (omega (arith, same, late))
 
 pub leaves_start : (e : StartFault) (before now : ℕ) (content : Option (List ℕ)) (settled : ℕ → Bool) (content' : Option (List ℕ)) (settled' : ℕ → Bool)
-    → (IsOpened e → SaysCount content e) → (IsEarly e → now ≡ before) → now ≤ before + 6
-    → ((bytes image : List ℕ) (v : View) → IsFound v content settled bytes → MayLeave content' settled' image → IsCounted (now - before) (v.count + 1) bytes v image)
+    → (HasOpened e → SaysCount content e) → (IsEarly e → now ≡ before) → now ≤ before + 6
+    → ((bytes image : List ℕ) (v : View) → IsFound v content settled bytes → MayLeave content' settled' image → IsCountAfterStop (now - before) (v.count + 1) bytes v image)
     → LeavesOfStart content settled content' settled'
 unfolding LeavesOfStart
 leaves_start e before now content settled content' settled' counted early few left = λ v n h image may.
@@ -108,7 +108,7 @@ part_of_start c content settled content' settled' left = λ v n h image may.
     by v n image (left v n h image may)
   where
     by : (v : Store) (n : ℕ) (image : List ℕ) → (view_of image ≡ Some (record { store = v; count = n })) ⊎ ((n < last_count) × (j : ℕ) × (5 ≤ j) × (j ≤ 6) × (view_of image ≡ Some (record { store = v; count = n + 1 })))
-        → (w : View) × (view_of image ≡ Some w) × IsPartOf c v n w.store w.count
+        → (w : View) × (view_of image ≡ Some w) × IsLeftOfCycle c v n w.store w.count
     by v n image (inl same) = (record { store = v; count = n }, same, untouched refl refl)
     by v n image (inr s) = (record { store = v; count = n + 1 }, s.4, stopped (start_end s.1 v (n + 1)) s.0 (in_start_counted s.1 s.2 s.3 refl) refl refl)
 
@@ -122,11 +122,11 @@ part_of_run c number store content settled content' settled' content'' settled''
     let there : Holds content' settled' store number = subst (λ (k : ℕ). Holds content' settled' store k) (sym f.2) (subst (λ (w : Store). Holds content' settled' w (n + 1)) (sym f.1) f.3) in
     let l = left n f.2 there image may in
     let same : ◌≡◌ {A = CycleInput} (cycle_with 0 c.feeds c.stop) c = ap {B = CycleInput} (λ (k : ℕ). cycle_with k c.feeds c.stop) (sym run) in
-    let part : IsPartOf c store n l.0.store l.0.count = ⊎_elim
+    let part : IsLeftOfCycle c store n l.0.store l.0.count = ⊎_elim
     (λ (s : IsStopIn (cycle_with 0 c.feeds c.stop) store n l.0). stopped l.0 f.0 (subst (λ (x : CycleInput). IsStopIn x store n l.0) same s) refl refl)
     (λ (s : IsCycle (cycle_with 0 c.feeds c.stop) store n l.0). ended l.0 f.0 (subst (λ (x : CycleInput). IsCycle x store n l.0) same s) refl refl)
     l.1 in
-    (record { store = l.0.store; count = l.0.count }, l.2, subst (λ (w : Store). IsPartOf c w n l.0.store l.0.count) f.1 part)
+    (record { store = l.0.store; count = l.0.count }, l.2, subst (λ (w : Store). IsLeftOfCycle c w n l.0.store l.0.count) f.1 part)
 
 -- commands that fail tell no want of memory
 pub not_memory : (r : Result CycleReport StartFault) (a b : ℕ) (content : Option (List ℕ)) (settled : ℕ → Bool) (content' : Option (List ℕ)) (settled' : ℕ → Bool)
@@ -152,7 +152,7 @@ unfolding EndsShort
 short_none cs content settled e = λ memory v n h. (0, record { reports = []; store = v; count = n }, none_first cs v n, h)
 
 -- what is left of a cycle after the first k is reached by the run of all
-part_reached : (cs : List CycleInput) (k : ℕ) (c : CycleInput) (v : Store) (n : ℕ) (o : Outcome) (w : Store) (m : ℕ) → k < length cs → c ≡ get_or cs k c → IsRun (take k cs) v n o → IsPartOf c o.store o.count w m → IsReached cs v n w m
+part_reached : (cs : List CycleInput) (k : ℕ) (c : CycleInput) (v : Store) (n : ℕ) (o : Outcome) (w : Store) (m : ℕ) → k < length cs → c ≡ get_or cs k c → IsRun (take k cs) v n o → IsLeftOfCycle c o.store o.count w m → IsReached cs v n w m
 part_reached cs k c v n o w m below is run (untouched a b) = between k o (record { within = omega (arith, below); run = run }) a b
 part_reached cs k c v n o w m below is run (ended e left cycle a b) =
     let first : take (k + 1) cs ≡ take k cs ++ c ∷ [] = rw (add-one k) (take-suc cs k c below ∙ ap (λ (x : CycleInput). take k cs ++ x ∷ []) (sym is)) in

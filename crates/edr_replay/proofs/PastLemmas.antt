@@ -11,7 +11,7 @@ use Rattle.edr_image.specs.Banks.{Store}
 use Rattle.edr_image.specs.Image.{View, image_size}
 use Rattle.edr_spell.specs.declared.CycleInput.{CycleInput}
 use Rattle.edr_run.specs.Cycle.{End, IsCycle, start_stopped, start_counted, whole, cut, Outcome, IsRun, last_count}
-use Rattle.edr_cycle.specs.Counter.{IsCounted, SaysWith}
+use Rattle.edr_cycle.specs.Counter.{IsCountAfterStop, SaysWith}
 use Rattle.edr_cycle.specs.Ends.{IsFound}
 use Rattle.edr_cycle.specs.Past.{KeepsPast}
 use Rattle.edr_cycle.proofs.PastLemmas.{past_again, past_same}
@@ -30,7 +30,7 @@ front_past h bytes image s = record { size = s.size; past = λ i from below. s.s
 
 -- a start changes the count alone
 pub start_past : (content : Option (List ℕ)) (settled : ℕ → Bool) (content' : Option (List ℕ)) (settled' : ℕ → Bool)
-    → ((bytes image : List ℕ) (v : View) → IsFound v content settled bytes → MayLeave content' settled' image → IsCounted 6 (v.count + 1) bytes v image) → LeavesPast content settled content' settled'
+    → ((bytes image : List ℕ) (v : View) → IsFound v content settled bytes → MayLeave content' settled' image → IsCountAfterStop 6 (v.count + 1) bytes v image) → LeavesPast content settled content' settled'
 start_past content settled content' settled' counted = record {
   keeps = λ v bytes image found may. ⊎_elim
       (λ (same : SaysWith v.count bytes v image). front_past v.store.header bytes image same.others)

@@ -10,9 +10,9 @@ use Rattle.edr_banks.specs.Opening.{IsRefusal as IsImageRefusal}
 use Rattle.edr_run.specs.Cycle.{last_count}
 use Rattle.edr_cycle.specs.declared.started.StartFault.{StartFault}
 use Rattle.edr_cycle.specs.declared.started.StartFault.TheVariants as fault
-use Rattle.edr_cycle.specs.Counter.{IsCounted, SaysWith}
+use Rattle.edr_cycle.specs.Counter.{IsCountAfterStop, SaysWith}
 use Rattle.edr_cycle.specs.Ends.{IsFound}
-use Rattle.edr_cycle.specs.Starts.{IsEarly, IsOpened}
+use Rattle.edr_cycle.specs.Starts.{IsEarly, HasOpened}
 use Rattle.edr_replay.specs.Replayed.{Holds, IsTrulyRefused, IsTrulyShort, IsTrulySpent}
 use Rattle.edr_replay.proofs.StopLemmas.{leaves_itself, told_some}
 
@@ -79,7 +79,7 @@ count_left v n content settled counted h =
 -- the device holds the same banks, with the count as before or from call 5 on perhaps one more
 pub begins_stopped : (stop before now : ℕ) (content : Option (List ℕ)) (settled : ℕ → Bool) (content' : Option (List ℕ)) (settled' : ℕ → Bool)
     → before ≡ 0 → now ≡ stop → StillTells content content' → ((bytes : List ℕ) → content' ≡ Some bytes → IsSettled settled') → SaysCount content fault.StoreFault
-    → ((bytes image : List ℕ) (v : View) → IsFound v content settled bytes → MayLeave content' settled' image → IsCounted (now - before) (v.count + 1) bytes v image)
+    → ((bytes image : List ℕ) (v : View) → IsFound v content settled bytes → MayLeave content' settled' image → IsCountAfterStop (now - before) (v.count + 1) bytes v image)
     → (v : Store) (n : ℕ) → Holds content settled v n → (n < last_count) × (Holds content' settled' v n ⊎ ((5 ≤ stop) × Holds content' settled' v (n + 1)))
 begins_stopped stop before now content settled content' settled' begins is tells settles counted stopped v n h =
     let told = told_some content content' h.bytes h.quiet.0 tells in
@@ -97,10 +97,10 @@ begins_stopped stop before now content settled content' settled' begins is tells
 
 -- no number is left, and nothing was changed
 pub truly_spent : (e : StartFault) (content : Option (List ℕ)) (settled : ℕ → Bool) (content' : Option (List ℕ)) (settled' : ℕ → Bool) (past since : ℕ → List ℕ → Type 0)
-    → (IsOpened e → SaysCount content e) → (IsEarly e → Stays content settled past content' settled' since) → IsTrulySpent content settled content' settled' e
+    → (HasOpened e → SaysCount content e) → (IsEarly e → Stays content settled past content' settled' since) → IsTrulySpent content settled content' settled' e
 unfolding IsTrulySpent
 truly_spent e content settled content' settled' past since counted early = λ spent v n h.
-    let w = counted (subst IsOpened (sym spent) tt) h.bytes h.quiet.0 in
+    let w = counted (subst HasOpened (sym spent) tt) h.bytes h.quiet.0 in
     let stays = early (subst IsEarly (sym spent) tt) in
     let count : n ≡ w.0.count = ap (λ (x : View). x.count) (some_view (sym h.says ∙ w.1)) in
     (count ∙ w.3.0 spent, record { bytes = h.bytes; quiet = (stays.same_content ∙ h.quiet.0, λ i. stays.same_settled i ∙ h.quiet.1 i); says = h.says })

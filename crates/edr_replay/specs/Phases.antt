@@ -8,14 +8,14 @@ use Rattle.edr_image.specs.declared.log.CycleReport.{CycleReport}
 use Rattle.edr_image.specs.Reports.{Report, report_of}
 use Rattle.edr_run.specs.Cycle.{End, IsCycle, last_count}
 use Rattle.edr_cycle.specs.Ends.{cycle_with}
-use Rattle.edr_replay.specs.declared.phases.Begun.{Begun}
-use Rattle.edr_replay.specs.declared.phases.Begun.TheVariants.{Started, Stopped}
+use Rattle.edr_replay.specs.declared.phases.StartedCycle.{StartedCycle}
+use Rattle.edr_replay.specs.declared.phases.StartedCycle.TheVariants.{Started, Stopped}
 use Rattle.edr_replay.specs.Reached.{IsStopIn}
 use Rattle.edr_replay.specs.Replayed.{Holds}
 
 -- a start with this planned stop, 0 for none, was done, with the banks as before and one more on the count; or it was stopped,
 -- and the count is as before, or from call 5 on perhaps one more
-abbrev pub BeginsAs : Begun → ℕ → ℕ → ℕ → Option (List ℕ) → (ℕ → Bool) → Option (List ℕ) → (ℕ → Bool) → Type 0
+abbrev pub BeginsAs : StartedCycle → ℕ → ℕ → ℕ → Option (List ℕ) → (ℕ → Bool) → Option (List ℕ) → (ℕ → Bool) → Type 0
 BeginsAs (Started s) stop ticks size content settled content' settled' =
     (stop ≡ 0) × (s.ticks ≡ ticks) × (image_size s.banks.store.header.banks ≤ size) × ((v : Store) (n : ℕ) → Holds content settled v n → (n < last_count) × (s.banks.store ≡ v) × (s.number ≡ n + 1) × Holds content' settled' v (n + 1))
 BeginsAs Stopped stop ticks size content settled content' settled' =

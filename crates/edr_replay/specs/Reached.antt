@@ -4,7 +4,7 @@ use Rattle.edr_record.specs.declared.Record.{Record}
 use Rattle.edr_image.specs.declared.BankView.{BankView}
 use Rattle.edr_image.specs.declared.BankView.TheVariants as bank
 use Rattle.edr_image.specs.Banks.{Store}
-use Rattle.edr_image.specs.Steps.{Step}
+use Rattle.edr_image.specs.Steps.{BankStep}
 use Rattle.edr_image.specs.Calls.{IsStop}
 use Rattle.edr_spell.specs.declared.CycleInput.{CycleInput}
 use Rattle.edr_run.specs.Cycle.{End, Outcome, IsCycle, IsRun, cut_end, last_count, start_end, steps_in}
@@ -14,13 +14,13 @@ use Rattle.edr_run.specs.Own.{IsRecordOf}
 pub data IsStopIn (c : CycleInput) (v : Store) (n : ℕ) (e : End) : Type 0 where
   in_start : (j : ℕ) → 1 ≤ j → j ≤ 6 → e ≡ start_end j v n → IsStopIn c v n e
   in_start_counted : (j : ℕ) → 5 ≤ j → j ≤ 6 → e ≡ start_end j v (n + 1) → IsStopIn c v n e
-  in_commands : (k : ℕ) (done : List Step) → IsStop (steps_in c.feeds (n + 1) v) k done → e ≡ cut_end c.feeds v (n + 1) k done → IsStopIn c v n e
+  in_commands : (k : ℕ) (done : List BankStep) → IsStop (steps_in c.feeds (n + 1) v) k done → e ≡ cut_end c.feeds v (n + 1) k done → IsStopIn c v n e
 
 -- what is left of a cycle that ended early: what was there, an end of it, or what a stop in it leaves
-pub data IsPartOf (c : CycleInput) (v : Store) (n : ℕ) (w : Store) (m : ℕ) : Type 0 where
-  untouched : w ≡ v → m ≡ n → IsPartOf c v n w m
-  ended : (e : End) → n < last_count → IsCycle c v n e → w ≡ e.store → m ≡ e.count → IsPartOf c v n w m
-  stopped : (e : End) → n < last_count → IsStopIn c v n e → w ≡ e.store → m ≡ e.count → IsPartOf c v n w m
+pub data IsLeftOfCycle (c : CycleInput) (v : Store) (n : ℕ) (w : Store) (m : ℕ) : Type 0 where
+  untouched : w ≡ v → m ≡ n → IsLeftOfCycle c v n w m
+  ended : (e : End) → n < last_count → IsCycle c v n e → w ≡ e.store → m ≡ e.count → IsLeftOfCycle c v n w m
+  stopped : (e : End) → n < last_count → IsStopIn c v n e → w ≡ e.store → m ≡ e.count → IsLeftOfCycle c v n w m
 
 -- the first p of the cycles ran to this outcome
 pub record RanFirst (cs : List CycleInput) (v : Store) (n p : ℕ) (o : Outcome) : Type 0 where

@@ -10,7 +10,7 @@ use Rattle.edr_image.specs.Banks.{Store}
 use Rattle.edr_image.specs.Image.{View, view_of}
 use Rattle.edr_spell.specs.declared.CycleInput.{CycleInput}
 use Rattle.edr_run.specs.Cycle.{End, Outcome, IsCycle, IsRun, last_count}
-use Rattle.edr_replay.specs.Reached.{IsCutShort, IsPartOf, IsReached, RanFirst}
+use Rattle.edr_replay.specs.Reached.{IsCutShort, IsLeftOfCycle, IsReached, RanFirst}
 use Rattle.edr_cycle.specs.declared.started.StartFault.{StartFault}
 use Rattle.edr_cycle.specs.declared.started.StartFault.TheVariants as fault
 
@@ -21,18 +21,18 @@ pub record Holds (content : Option (List ℕ)) (settled : ℕ → Bool) (store :
   pub says : view_of bytes ≡ Some (record { store = store; count = count })
 
 -- the device failed
-abbrev pub IsFault : StartFault → Type 0
-IsFault (fault.Open f) = f ≡ open_fault.StoreFault
-IsFault fault.Spent = ⊥
-IsFault fault.StoreFault = Unit {0}
-IsFault fault.OutOfMemory = ⊥
+abbrev pub IsDeviceFault : StartFault → Type 0
+IsDeviceFault (fault.Open f) = f ≡ open_fault.StoreFault
+IsDeviceFault fault.Spent = ⊥
+IsDeviceFault fault.StoreFault = Unit {0}
+IsDeviceFault fault.OutOfMemory = ⊥
 
 -- the image is refused by what it says
-abbrev pub IsRefusal : StartFault → Type 0
-IsRefusal (fault.Open f) = (f ≢ open_fault.StoreFault) × (f ≢ open_fault.OutOfMemory)
-IsRefusal fault.Spent = ⊥
-IsRefusal fault.StoreFault = ⊥
-IsRefusal fault.OutOfMemory = ⊥
+abbrev pub IsStartRefusal : StartFault → Type 0
+IsStartRefusal (fault.Open f) = (f ≢ open_fault.StoreFault) × (f ≢ open_fault.OutOfMemory)
+IsStartRefusal fault.Spent = ⊥
+IsStartRefusal fault.StoreFault = ⊥
+IsStartRefusal fault.OutOfMemory = ⊥
 
 -- a fault that says that no number is left says it truly, and the device holds what it held
 unfoldable pub IsTrulySpent : Option (List ℕ) → (ℕ → Bool) → Option (List ℕ) → (ℕ → Bool) → StartFault → Type 0
@@ -40,7 +40,7 @@ IsTrulySpent content settled content' settled' e = e ≡ fault.Spent → (v : St
 
 -- a device that holds banks and a count is not refused
 unfoldable pub IsTrulyRefused : Option (List ℕ) → (ℕ → Bool) → StartFault → Type 0
-IsTrulyRefused content settled e = IsRefusal e → (v : Store) (n : ℕ) → ¬ Holds content settled v n
+IsTrulyRefused content settled e = IsStartRefusal e → (v : Store) (n : ℕ) → ¬ Holds content settled v n
 
 -- a size that is told as too short is the device's, and less than what is needed: the front, or more for its banks
 abbrev pub IsShortOf : ℕ → ℕ → ℕ → Type 0
@@ -78,7 +78,7 @@ EndsSpent cs content settled content' settled' e =
 unfoldable pub LeavesPart : CycleInput → Option (List ℕ) → (ℕ → Bool) → Option (List ℕ) → (ℕ → Bool) → Type 0
 LeavesPart c content settled content' settled' =
     (v : Store) (n : ℕ) → Holds content settled v n → (image : List ℕ) → MayLeave content' settled' image
-    → (w : View) × (view_of image ≡ Some w) × IsPartOf c v n w.store w.count
+    → (w : View) × (view_of image ≡ Some w) × IsLeftOfCycle c v n w.store w.count
 
 -- each image that a crash may leave says banks and a count that a run of these cycles reaches
 unfoldable pub LeavesReached : List CycleInput → Option (List ℕ) → (ℕ → Bool) → Option (List ℕ) → (ℕ → Bool) → Type 0

@@ -7,13 +7,13 @@ ghost use Rattle.edr_device.specs.Faults.{Rose};
 ghost use Rattle.edr_device.specs.Lent.{At, Between, GoesOn};
 ghost use Rattle.edr_image.specs.Image.{image_size};
 ghost use Rattle.edr_items.specs.SensorLists.{AreFeeds, IsLevel, horizon_of};
-ghost use Rattle.edr_spell.specs.Spell.{IsCycle as IsSpelled};
+ghost use Rattle.edr_spell.specs.Spell.{IsCycleInput as IsSpelled};
 ghost use Rattle.edr_cycle.specs.Begun.{view_begun};
 ghost use Rattle.edr_replay.specs.Past.{LeavesPast, LeavesPastOf};
 ghost use Rattle.edr_replay.specs.Phases.{LeavesOfRun, RunsFrom};
-ghost use Rattle.edr_replay.specs.Replayed.{EndsCutShort, EndsSpent, HasRun, HasRunCycle, IsDrivenFault, IsFault, IsLeftOrCounted, IsTrulyRefused, IsTrulyShort, IsTrulySpent, LeavesPart, LeavesReached};
+ghost use Rattle.edr_replay.specs.Replayed.{EndsCutShort, EndsSpent, HasRun, HasRunCycle, IsDrivenFault, IsDeviceFault, IsLeftOrCounted, IsTrulyRefused, IsTrulyShort, IsTrulySpent, LeavesPart, LeavesReached};
 
-use crate::phases::{Begun, end_run, is_cut, start_until};
+use crate::phases::{StartedCycle, end_run, is_cut, start_until};
 use edr_cycle::{StartFault, Started};
 use edr_device::{Fused, Nvm};
 use edr_drive::{Gate, drive_cycle};
@@ -86,7 +86,7 @@ fn drive_one<
     ensures spent { IfErr result (Between N.Nvm IsTrulySpent nvm.old nvm.new) }
     ensures refused { IfErr result (At N.Nvm IsTrulyRefused nvm.old) }
     ensures short { IfErr result (IsTrulyShort (N.extent nvm.old)) }
-    ensures fault { IfErr result (λ e. IsFault e → Rose (N.faults nvm.old) (N.faults nvm.new)) }
+    ensures fault { IfErr result (λ e. IsDeviceFault e → Rose (N.faults nvm.old) (N.faults nvm.new)) }
     ensures left { IfErr result (λ _. Between N.Nvm (LeavesPart cycle) nvm.old nvm.new) }
     ensures memory { IfErr result (Between N.Nvm IsLeftOrCounted nvm.old nvm.new) }
     ensures past { Between N.Nvm LeavesPast nvm.old nvm.new }
@@ -101,8 +101,8 @@ fn drive_one<
         return Err(StartFault::OutOfMemory);
     };
     match start_until(alloc, nvm, start_stop, ticks)? {
-        Begun::Stopped => Ok(CycleReport::StartStopped { call: start_stop }),
-        Begun::Started(started) => {
+        StartedCycle::Stopped => Ok(CycleReport::StartStopped { call: start_stop }),
+        StartedCycle::Started(started) => {
             drive_until(rt, alloc, started, &feeds, workers, nvm, gate, stop)
         }
     }
@@ -132,7 +132,7 @@ pub fn replay_driven<
     ensures spent { IfErr result (Between N.Nvm (EndsSpent cycles.items) nvm.old nvm.new) }
     ensures refused { IfErr result (At N.Nvm IsTrulyRefused nvm.old) }
     ensures short { IfErr result (IsTrulyShort (N.extent nvm.old)) }
-    ensures fault { IfErr result (λ e. IsFault e → Rose (N.faults nvm.old) (N.faults nvm.new)) }
+    ensures fault { IfErr result (λ e. IsDeviceFault e → Rose (N.faults nvm.old) (N.faults nvm.new)) }
     ensures left { IfErr result (λ _. Between N.Nvm (LeavesReached cycles.items) nvm.old nvm.new) }
     ensures memory { IfErr result (Between N.Nvm (EndsCutShort cycles.items) nvm.old nvm.new) }
     ensures past { Between N.Nvm LeavesPast nvm.old nvm.new }

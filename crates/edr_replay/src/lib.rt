@@ -9,9 +9,9 @@ mod phases;
 ghost use Rattle.std.specs.Prelude.{◌<◌, ◌≤◌, IfOk, IfErr, All};
 ghost use Rattle.edr_device.specs.Faults.{Rose};
 ghost use Rattle.edr_device.specs.Lent.{At, Between, GoesOn};
-ghost use Rattle.edr_spell.specs.Spell.{IsCycle as IsSpelled};
+ghost use Rattle.edr_spell.specs.Spell.{IsCycleInput as IsSpelled};
 ghost use Rattle.edr_replay.specs.Past.{LeavesPast};
-ghost use Rattle.edr_replay.specs.Replayed.{EndsShort, EndsSpent, HasRun, HasRunCycle, IsFault, IsLeftAlone, IsTrulyRefused, IsTrulyShort, IsTrulySpent, LeavesPart, LeavesReached};
+ghost use Rattle.edr_replay.specs.Replayed.{EndsShort, EndsSpent, HasRun, HasRunCycle, IsDeviceFault, IsLeftAlone, IsTrulyRefused, IsTrulyShort, IsTrulySpent, LeavesPart, LeavesReached};
 
 pub use driven::replay_driven;
 pub use edr_cycle::StartFault;
@@ -19,7 +19,7 @@ use edr_device::Nvm;
 pub use edr_drive::Gate;
 use edr_image::CycleReport;
 use edr_spell::CycleInput;
-use phases::{Begun, run_until, start_until};
+use phases::{StartedCycle, run_until, start_until};
 use std::alloc::Global;
 
 /// Runs one cycle: its start and its commands, each up to its planned stop, and then the power goes off.
@@ -37,16 +37,16 @@ fn run_cycle<N: Nvm>(
     ensures spent { IfErr result (Between N.Nvm IsTrulySpent nvm.old nvm.new) }
     ensures refused { IfErr result (At N.Nvm IsTrulyRefused nvm.old) }
     ensures short { IfErr result (IsTrulyShort (N.extent nvm.old)) }
-    ensures fault { IfErr result (λ e. IsFault e → Rose (N.faults nvm.old) (N.faults nvm.new)) }
+    ensures fault { IfErr result (λ e. IsDeviceFault e → Rose (N.faults nvm.old) (N.faults nvm.new)) }
     ensures left { IfErr result (λ _. Between N.Nvm (LeavesPart cycle.now) nvm.old nvm.new) }
     ensures memory { IfErr result (Between N.Nvm IsLeftAlone nvm.old nvm.new) }
     ensures past { Between N.Nvm LeavesPast nvm.old nvm.new }
 {
     match start_until(alloc, nvm, cycle.start_stop, cycle.feeds.horizon())? {
-        Begun::Stopped => Ok(CycleReport::StartStopped {
+        StartedCycle::Stopped => Ok(CycleReport::StartStopped {
             call: cycle.start_stop,
         }),
-        Begun::Started(started) => run_until(started, &cycle.feeds, nvm, cycle.stop),
+        StartedCycle::Started(started) => run_until(started, &cycle.feeds, nvm, cycle.stop),
     }
 }
 
@@ -63,7 +63,7 @@ pub fn replay<N: Nvm>(
     ensures spent { IfErr result (Between N.Nvm (EndsSpent cycles.now) nvm.old nvm.new) }
     ensures refused { IfErr result (At N.Nvm IsTrulyRefused nvm.old) }
     ensures short { IfErr result (IsTrulyShort (N.extent nvm.old)) }
-    ensures fault { IfErr result (λ e. IsFault e → Rose (N.faults nvm.old) (N.faults nvm.new)) }
+    ensures fault { IfErr result (λ e. IsDeviceFault e → Rose (N.faults nvm.old) (N.faults nvm.new)) }
     ensures left { IfErr result (λ _. Between N.Nvm (LeavesReached cycles.now) nvm.old nvm.new) }
     ensures memory { IfErr result (Between N.Nvm (EndsShort cycles.now) nvm.old nvm.new) }
     ensures past { Between N.Nvm LeavesPast nvm.old nvm.new }

@@ -8,7 +8,7 @@ ghost use Rattle.edr_image.specs.Image.{image_size};
 ghost use Rattle.edr_image.specs.Reports.{Ran, report_of};
 ghost use Rattle.edr_items.specs.SensorLists.{AreFeeds, IsLevel, horizon_of};
 ghost use Rattle.edr_cycle.specs.Begun.{view_begun};
-ghost use Rattle.edr_replay.specs.Replayed.{IsFault, IsLeftAlone, IsTrulyRefused, IsTrulyShort, IsTrulySpent};
+ghost use Rattle.edr_replay.specs.Replayed.{IsDeviceFault, IsLeftAlone, IsTrulyRefused, IsTrulyShort, IsTrulySpent};
 ghost use Rattle.edr_replay.specs.Past.{LeavesPast, LeavesPastOf};
 ghost use Rattle.edr_replay.specs.Phases.{BeginsAs, LeavesOfRun, LeavesOfStart, RunsFrom};
 
@@ -20,7 +20,7 @@ use std::alloc::Global;
 
 /// What comes of a start.
 #[derive(Drop)]
-pub(crate) enum Begun {
+pub(crate) enum StartedCycle {
     Started(Started),
     /// It was stopped as planned.
     Stopped,
@@ -40,7 +40,7 @@ pub(crate) fn start_until<N: Nvm>(
     nvm: &mut N,
     stop: u32,
     ticks: u32,
-) -> Result<Begun, StartFault>
+) -> Result<StartedCycle, StartFault>
     requires { stop ≤ 6 }
     ensures lent { GoesOn N.Nvm nvm.old nvm.new }
     ensures later { N.faults nvm.old ≤ N.faults nvm.new }
@@ -48,7 +48,7 @@ pub(crate) fn start_until<N: Nvm>(
     ensures spent { IfErr result (Between N.Nvm IsTrulySpent nvm.old nvm.new) }
     ensures refused { IfErr result (At N.Nvm IsTrulyRefused nvm.old) }
     ensures short { IfErr result (IsTrulyShort (N.extent nvm.old)) }
-    ensures fault { IfErr result (λ e. IsFault e → Rose (N.faults nvm.old) (N.faults nvm.new)) }
+    ensures fault { IfErr result (λ e. IsDeviceFault e → Rose (N.faults nvm.old) (N.faults nvm.new)) }
     ensures left { IfErr result (λ _. Between N.Nvm LeavesOfStart nvm.old nvm.new) }
     ensures memory { IfErr result (Between N.Nvm IsLeftAlone nvm.old nvm.new) }
     ensures past { Between N.Nvm LeavesPast nvm.old nvm.new }
@@ -59,8 +59,8 @@ pub(crate) fn start_until<N: Nvm>(
     let cut = is_cut(&fuse);
     fuse.end();
     match begun {
-        Ok(started) => Ok(Begun::Started(started)),
-        Err(StartFault::StoreFault) if cut => Ok(Begun::Stopped),
+        Ok(started) => Ok(StartedCycle::Started(started)),
+        Err(StartFault::StoreFault) if cut => Ok(StartedCycle::Stopped),
         Err(fault) => Err(fault),
     }
 }

@@ -12,7 +12,7 @@ abbrev pub table_bytes : Table → List ℕ
 table_bytes t = (writer_under t.writer).items ++ writer_pending t.writer
 
 -- the writer writes in its default form, and stands before a record
-pub record IsReady (t : Table) : Type 0 where
+pub record IsReadyForRecord (t : Table) : Type 0 where
   pub setup : writer_setup t.writer ≡ default_writer
   pub fields : fields_written t.writer ≡ 0
   pub blank : has_written t.writer ≡ false

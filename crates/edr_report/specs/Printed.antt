@@ -9,12 +9,12 @@ use Rattle.edr_report.specs.Report.{named_lines}
 use Rattle.edr_report.specs.Values.{value_words}
 
 -- the form has these lines more
-abbrev pub Gains : {L : Type 0} → form.Ghosts L → L → L → List Line → Type 0
-Gains g old new lines = g.bytes new ≡ g.bytes old ++ flat_map g.form lines
+abbrev pub GainsLines : {L : Type 0} → form.Ghosts L → L → L → List Line → Type 0
+GainsLines g old new lines = g.bytes new ≡ g.bytes old ++ flat_map g.form lines
 
 -- the printer gave these lines to its form
-abbrev pub Gives : {L : Type 0} → form.Ghosts L → Printer L → Printer L → List Line → Type 0
-Gives g old new lines = Gains g old.lines new.lines lines
+abbrev pub GivesLines : {L : Type 0} → form.Ghosts L → Printer L → Printer L → List Line → Type 0
+GivesLines g old new lines = GainsLines g old.lines new.lines lines
 
 -- the printer gave this line to its form
 abbrev pub GivesLine : {L : Type 0} → form.Ghosts L → Printer L → Printer L → Line → Type 0

@@ -74,11 +74,11 @@ pub struct Table {
 }
 
 impl Table {
-    ghost use Rattle.edr_report.specs.Forms.{table_bytes, IsReady};
+    ghost use Rattle.edr_report.specs.Forms.{table_bytes, IsReadyForRecord};
 
     /// A report to be read by a spreadsheet, which has its row of headings alone.
     pub fn new(alloc: Global) -> Result<Table, OutOfMemory>
-        ensures ready { IfOk result IsReady }
+        ensures ready { IfOk result IsReadyForRecord }
         ensures head { IfOk result (λ t. table_bytes t ≡ table_head) }
     {
         let mut writer = WriterBuilder::new().from_writer(Vec::new(alloc));
@@ -97,9 +97,9 @@ impl Table {
 }
 
 impl Lines for Table {
-    ghost use Rattle.edr_report.specs.Forms.{table_bytes, IsReady};
+    ghost use Rattle.edr_report.specs.Forms.{table_bytes, IsReadyForRecord};
 
-    ghost ready = { IsReady };
+    ghost ready = { IsReadyForRecord };
 
     ghost bytes = { table_bytes };
 

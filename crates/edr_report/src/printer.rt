@@ -4,7 +4,7 @@ ghost use Rattle.std.specs.Prelude.{◌≡◌, ◌≤◌, IfOk, OnOk, length, ma
 ghost use Rattle.edr_image.specs.Reports.{report_of};
 ghost use Rattle.edr_report.specs.Lines.{line};
 ghost use Rattle.edr_report.specs.Words.{kind_word};
-ghost use Rattle.edr_report.specs.Printed.{Gains, Gives, GivesLine, entry_lines, named_line, value_lines};
+ghost use Rattle.edr_report.specs.Printed.{GainsLines, GivesLines, GivesLine, entry_lines, named_line, value_lines};
 ghost use Rattle.edr_report.specs.Values.{value_words};
 ghost use Rattle.edr_report.specs.Report.{ack_line, cycle_lines, run_lines, pre_lines, crash_words, crash_lines, event_lines, events_lines, found_records, damage_lines, damaged_lines, report_lines};
 
@@ -107,7 +107,7 @@ impl<L: Lines> Printer<L> {
     ) -> Result<(), OutOfMemory>
         requires { L.ready self.old.lines }
         ensures ready { OnOk result (L.ready self.new.lines) }
-        ensures bytes { OnOk result (Gives L.Lines self.old self.new (entry_lines block entries.now)) }
+        ensures bytes { OnOk result (GivesLines L.Lines self.old self.new (entry_lines block entries.now)) }
     {
         for (name, value) in entries {
             self.put(block, name, *value)?;
@@ -119,7 +119,7 @@ impl<L: Lines> Printer<L> {
     fn put_pre(&mut self, block: u64, pre: &Pre, locked: bool) -> Result<(), OutOfMemory>
         requires { L.ready self.old.lines }
         ensures ready { OnOk result (L.ready self.new.lines) }
-        ensures bytes { OnOk result (Gives L.Lines self.old self.new (pre_lines block pre.now locked)) }
+        ensures bytes { OnOk result (GivesLines L.Lines self.old self.new (pre_lines block pre.now locked)) }
     {
         let entries = [
             ("ignition cycle, crash", Value::Count(pre.key.cycle)),
@@ -150,7 +150,7 @@ impl<L: Lines> Printer<L> {
         requires ready { L.ready self.old.lines }
         requires named { length values.now ≤ length names.now }
         ensures ready { OnOk result (L.ready self.new.lines) }
-        ensures bytes { OnOk result (Gives L.Lines self.old self.new (value_lines block names.now values.now)) }
+        ensures bytes { OnOk result (GivesLines L.Lines self.old self.new (value_lines block names.now values.now)) }
     {
         for (i, value) in values.iter().enumerate() {
             self.put(block, names[i], *value)?;
@@ -163,7 +163,7 @@ impl<L: Lines> Printer<L> {
     fn put_crash(&mut self, block: u64, crash: &Option<Crash>) -> Result<(), OutOfMemory>
         requires { L.ready self.old.lines }
         ensures ready { OnOk result (L.ready self.new.lines) }
-        ensures bytes { OnOk result (Gives L.Lines self.old self.new (crash_lines block crash.now)) }
+        ensures bytes { OnOk result (GivesLines L.Lines self.old self.new (crash_lines block crash.now)) }
     {
         self.put_values(block, &CRASH_NAMES, &crash_values(crash))
     }
@@ -172,7 +172,7 @@ impl<L: Lines> Printer<L> {
     fn put_event(&mut self, block: u64, bank: u8, event: &Record) -> Result<(), OutOfMemory>
         requires { L.ready self.old.lines }
         ensures ready { OnOk result (L.ready self.new.lines) }
-        ensures bytes { OnOk result (Gives L.Lines self.old self.new (event_lines block bank event.now)) }
+        ensures bytes { OnOk result (GivesLines L.Lines self.old self.new (event_lines block bank event.now)) }
     {
         self.put(block, "event", Value::Number(block))?;
         self.put(block, "bank", Value::Number(u64::from(bank)))?;
@@ -214,7 +214,7 @@ impl<L: Lines> Printer<L> {
     fn put_acks(&mut self, place: u64, acks: &[Ack]) -> Result<(), OutOfMemory>
         requires { L.ready self.old.lines }
         ensures ready { OnOk result (L.ready self.new.lines) }
-        ensures bytes { OnOk result (Gives L.Lines self.old self.new (map (ack_line place) acks.now)) }
+        ensures bytes { OnOk result (GivesLines L.Lines self.old self.new (map (ack_line place) acks.now)) }
     {
         for ack in acks {
             self.put_ack(place, ack)?;
@@ -226,7 +226,7 @@ impl<L: Lines> Printer<L> {
     fn put_cycle(&mut self, place: u64, report: &CycleReport) -> Result<(), OutOfMemory>
         requires { L.ready self.old.lines }
         ensures ready { OnOk result (L.ready self.new.lines) }
-        ensures bytes { OnOk result (Gives L.Lines self.old self.new (cycle_lines place (report_of report.now))) }
+        ensures bytes { OnOk result (GivesLines L.Lines self.old self.new (cycle_lines place (report_of report.now))) }
     {
         self.name.clear();
         write!(self.name, "cycle {place}")?;
@@ -250,7 +250,7 @@ impl<L: Lines> Printer<L> {
     fn put_run(&mut self, run: &[CycleReport]) -> Result<(), OutOfMemory>
         requires { L.ready self.old.lines }
         ensures ready { OnOk result (L.ready self.new.lines) }
-        ensures bytes { OnOk result (Gives L.Lines self.old self.new (run_lines 1 (map report_of run.now))) }
+        ensures bytes { OnOk result (GivesLines L.Lines self.old self.new (run_lines 1 (map report_of run.now))) }
     {
         for (i, report) in run.iter().enumerate() {
             self.put_cycle(i as u64 + 1, report)?;
@@ -262,7 +262,7 @@ impl<L: Lines> Printer<L> {
     fn put_events(&mut self, found: &[Found]) -> Result<(), OutOfMemory>
         requires { L.ready self.old.lines }
         ensures ready { OnOk result (L.ready self.new.lines) }
-        ensures bytes { OnOk result (Gives L.Lines self.old self.new (events_lines 1 (found_records found.now))) }
+        ensures bytes { OnOk result (GivesLines L.Lines self.old self.new (events_lines 1 (found_records found.now))) }
     {
         let mut block = 0;
         for bank in found {
@@ -278,7 +278,7 @@ impl<L: Lines> Printer<L> {
     fn put_if_damaged(&mut self, bank: &Found) -> Result<(), OutOfMemory>
         requires { L.ready self.old.lines }
         ensures ready { OnOk result (L.ready self.new.lines) }
-        ensures bytes { OnOk result (Gives L.Lines self.old self.new (damaged_lines bank.now.bank bank.now.view)) }
+        ensures bytes { OnOk result (GivesLines L.Lines self.old self.new (damaged_lines bank.now.bank bank.now.view)) }
     {
         match bank.view {
             BankView::Damaged {
@@ -303,7 +303,7 @@ impl<L: Lines> Printer<L> {
     fn put_damaged(&mut self, found: &[Found]) -> Result<(), OutOfMemory>
         requires { L.ready self.old.lines }
         ensures ready { OnOk result (L.ready self.new.lines) }
-        ensures bytes { OnOk result (Gives L.Lines self.old self.new (damage_lines found.now)) }
+        ensures bytes { OnOk result (GivesLines L.Lines self.old self.new (damage_lines found.now)) }
     {
         for bank in found {
             self.put_if_damaged(bank)?;
@@ -320,7 +320,7 @@ impl<L: Lines> Printer<L> {
     ) -> Result<(), OutOfMemory>
         requires { L.ready self.old.lines }
         ensures ready { OnOk result (L.ready self.new.lines) }
-        ensures bytes { OnOk result (Gives L.Lines self.old self.new (report_lines (map report_of run.now) found.now count)) }
+        ensures bytes { OnOk result (GivesLines L.Lines self.old self.new (report_lines (map report_of run.now) found.now count)) }
     {
         self.put_run(run)?;
         self.put_events(found)?;
@@ -338,7 +338,7 @@ pub fn print<L: Lines + Drop>(
     count: u32,
 ) -> Result<L, OutOfMemory>
     requires { L.ready form }
-    ensures { IfOk result (λ out. Gains L.Lines form out (report_lines (map report_of run.now) found.now count)) }
+    ensures { IfOk result (λ out. GainsLines L.Lines form out (report_lines (map report_of run.now) found.now count)) }
 {
     let mut printer = Printer {
         lines: form,
@@ -356,7 +356,7 @@ pub fn print_run<L: Lines + Drop>(
     run: &[CycleReport],
 ) -> Result<L, OutOfMemory>
     requires { L.ready form }
-    ensures { IfOk result (λ out. Gains L.Lines form out (run_lines 1 (map report_of run.now))) }
+    ensures { IfOk result (λ out. GainsLines L.Lines form out (run_lines 1 (map report_of run.now))) }
 {
     let mut printer = Printer {
         lines: form,
@@ -376,7 +376,7 @@ pub fn print_event<L: Lines + Drop>(
     event: &Record,
 ) -> Result<L, OutOfMemory>
     requires { L.ready form }
-    ensures { IfOk result (λ out. Gains L.Lines form out (event_lines block bank event.now)) }
+    ensures { IfOk result (λ out. GainsLines L.Lines form out (event_lines block bank event.now)) }
 {
     let mut printer = Printer {
         lines: form,

@@ -58,7 +58,7 @@ pub enum Value<'a> {
 }
 
 /// What stands in one slot of a list.
-trait Slot {
+trait SlotText {
     ghost use Rattle.std.specs.Prelude.{ℕ, List};
 
     ghost words: { Self → List ℕ };
@@ -68,7 +68,7 @@ trait Slot {
         ensures { OnOk result (string_bytes out.new ≡ string_bytes out.old ++ words self.now) };
 }
 
-impl Slot for i16 {
+impl SlotText for i16 {
     ghost use Rattle.std.specs.Fmt.{signed_decimal};
 
     ghost words = { signed_decimal };
@@ -78,7 +78,7 @@ impl Slot for i16 {
     }
 }
 
-impl Slot for Option<u16> {
+impl SlotText for Option<u16> {
     ghost use Rattle.edr_report.specs.Words.{number_or_none};
 
     ghost words = { number_or_none };
@@ -91,7 +91,7 @@ impl Slot for Option<u16> {
     }
 }
 
-impl Slot for Option<u8> {
+impl SlotText for Option<u8> {
     ghost use Rattle.edr_report.specs.Words.{number_or_none};
 
     ghost words = { number_or_none };
@@ -104,7 +104,7 @@ impl Slot for Option<u8> {
     }
 }
 
-impl Slot for Option<bool> {
+impl SlotText for Option<bool> {
     ghost use Rattle.edr_report.specs.Words.{switch_or_none};
 
     ghost words = { switch_or_none };
@@ -140,7 +140,7 @@ fn profile_word(profile: Profile) -> &'static str
 }
 
 // Appends slots, parted by one space.
-fn put_spaced<S: Slot>(out: &mut String, slots: &[S]) -> Result<(), OutOfMemory>
+fn put_spaced<S: SlotText>(out: &mut String, slots: &[S]) -> Result<(), OutOfMemory>
     ensures { OnOk result (string_bytes out.new ≡ string_bytes out.old ++ spaced (map S.words slots.now)) }
 {
     for (i, slot) in slots.iter().enumerate() {

@@ -19,8 +19,8 @@ use Rattle.edr_definitions.proofs.LaterLaws.{commands-push}
 use Rattle.edr_definitions.proofs.MarkLaws.{AreFeeds-each, horizon-least, horizon-more, horizon-with_item, mark-more}
 use Rattle.edr_definitions.proofs.ScheduleLaws.{items-after_steps}
 use Rattle.edr_image.specs.Banks.{Store}
-use Rattle.edr_image.specs.Steps.{Step, State, after, at_rest, reply_to, state_after, steps_of}
-use Rattle.edr_run.specs.Schedule.{Moment, Begins, IsCut, IsNextApplied, IsStep, gives, closes, applies, Leads, all_commands, begun, issued_at, steps_of_first}
+use Rattle.edr_image.specs.Steps.{BankStep, State, after, at_rest, reply_to, state_after, steps_of}
+use Rattle.edr_run.specs.Schedule.{ScheduleState, Begins, IsCut, IsNextApplied, IsStep, gives, closes, applies, Leads, all_commands, begun, issued_at, steps_of_first}
 use Rattle.edr_run.specs.Cycle.{steps_in}
 use Rattle.edr_run.proofs.Issues.{issues-more, issues-under_way}
 use Rattle.edr_run.proofs.Replies.{after-append, get_first, one_reply, stop_first, stop_later, state_after-append, steps_of-more, take_one_more}
@@ -40,18 +40,18 @@ commands-later f n t k =
 begins-again : (xs ys zs : List Item) → BeginsWith ys xs → BeginsWith zs ys → BeginsWith zs xs
 begins-again xs ys zs a b = (a.0 ++ b.0, b.1 ∙ ap (λ l. l ++ b.0) a.1 ∙ append_assoc xs a.0 b.0)
 
-step-grows : (n : ℕ) (a b : Moment) → IsStep n a b → (s : Sensor) → BeginsWith (items_of s b.progress.given) (items_of s a.progress.given)
+step-grows : (n : ℕ) (a b : ScheduleState) → IsStep n a b → (s : Sensor) → BeginsWith (items_of s b.progress.given) (items_of s a.progress.given)
 step-grows n a b (gives r x may is) s =
-    (_, ap (λ (m : Moment). items_of s m.progress.given) is ∙ items-after_steps a.progress (Give r x ∷ []) s)
-step-grows n a b (closes may is) s = ([], ap (λ (m : Moment). items_of s m.progress.given) is ∙ sym (append-nil (items_of s a.progress.given)))
-step-grows n a b (applies c next is) s = ([], ap (λ (m : Moment). items_of s m.progress.given) is ∙ sym (append-nil (items_of s a.progress.given)))
+    (_, ap (λ (m : ScheduleState). items_of s m.progress.given) is ∙ items-after_steps a.progress (Give r x ∷ []) s)
+step-grows n a b (closes may is) s = ([], ap (λ (m : ScheduleState). items_of s m.progress.given) is ∙ sym (append-nil (items_of s a.progress.given)))
+step-grows n a b (applies c next is) s = ([], ap (λ (m : ScheduleState). items_of s m.progress.given) is ∙ sym (append-nil (items_of s a.progress.given)))
 
-leads-grows : (n : ℕ) (a : Moment) (ms : List Moment) (b : Moment) → Leads n a ms b → (s : Sensor) → BeginsWith (items_of s b.progress.given) (items_of s a.progress.given)
-leads-grows n a [] b is s = ([], ap (λ (m : Moment). items_of s m.progress.given) (sym is) ∙ sym (append-nil (items_of s a.progress.given)))
+leads-grows : (n : ℕ) (a : ScheduleState) (ms : List ScheduleState) (b : ScheduleState) → Leads n a ms b → (s : Sensor) → BeginsWith (items_of s b.progress.given) (items_of s a.progress.given)
+leads-grows n a [] b is s = ([], ap (λ (m : ScheduleState). items_of s m.progress.given) (sym is) ∙ sym (append-nil (items_of s a.progress.given)))
 leads-grows n a (m ∷ ms) b h s = begins-again (items_of s a.progress.given) (items_of s m.progress.given) (items_of s b.progress.given) (step-grows n a m h.0 s) (leads-grows n m ms b h.1 s)
 
 -- ---- what stands at each moment
-pub record Stands (f : SensorLists) (n : ℕ) (v : Store) (a : Moment) : Type 0 where
+pub record Stands (f : SensorLists) (n : ℕ) (v : Store) (a : ScheduleState) : Type 0 where
   pub within : a.progress.closed ≤ horizon_of a.progress.given
   pub issued_is : a.issued ≡ length (issued_at n a)
   pub few : a.applied ≤ a.issued
@@ -59,7 +59,7 @@ pub record Stands (f : SensorLists) (n : ℕ) (v : Store) (a : Moment) : Type 0 
 
 module _ (f : SensorLists) (n : ℕ) (v : Store) (feeds : AreFeeds f) where
   -- no more was given than there is
-  horizon-low : (a : Moment) → Begins f a → horizon_of a.progress.given ≤ horizon_of f
+  horizon-low : (a : ScheduleState) → Begins f a → horizon_of a.progress.given ≤ horizon_of f
   horizon-low a begun_ = horizon-more a.progress.given f (λ s.
       let whole : IsFeed s (items_of s a.progress.given ++ (begun_ s).0) = subst (λ (xs : List Item). IsFeed s xs) (begun_ s).1 (AreFeeds-each f feeds s) in
       let more = mark-more s 0 (items_of s a.progress.given) (begun_ s).0 whole in
@@ -67,7 +67,7 @@ module _ (f : SensorLists) (n : ℕ) (v : Store) (feeds : AreFeeds f) where
       omega (arith, more, e))
 
   -- what is issued is a beginning of the commands of the cycle
-  pub issued-first : (a : Moment) → Begins f a → a.progress.closed ≤ horizon_of a.progress.given → (more : List Command) × (all_commands f n ≡ issued_at n a ++ more)
+  pub issued-first : (a : ScheduleState) → Begins f a → a.progress.closed ≤ horizon_of a.progress.given → (more : List Command) × (all_commands f n ≡ issued_at n a ++ more)
   issued-first a begun_ within =
       let t = a.progress.closed in
       let high = horizon-low a begun_ in
@@ -76,7 +76,7 @@ module _ (f : SensorLists) (n : ℕ) (v : Store) (feeds : AreFeeds f) where
       (later.0, ap (commands f n) (sym whole) ∙ later.1 ∙ ap (λ cs. cs ++ later.0) (sym (commands-under_way f a.progress n t feeds (record { begun = begun_; within = within }) within)))
 
   -- the command that is applied next is the next one of the cycle
-  pub next-is : (a : Moment) (c : Command) → Begins f a → a.progress.closed ≤ horizon_of a.progress.given → IsNextApplied n a c → slice_get (all_commands f n) a.applied ≡ Some c
+  pub next-is : (a : ScheduleState) (c : Command) → Begins f a → a.progress.closed ≤ horizon_of a.progress.given → IsNextApplied n a c → slice_get (all_commands f n) a.applied ≡ Some c
   next-is a c begun_ within next =
       let first = issued-first a begun_ within in
       subst (λ cs. slice_get cs a.applied ≡ Some c) (sym first.1) (get_first (issued_at n a) first.0 a.applied c next.1)
@@ -87,7 +87,7 @@ module _ (f : SensorLists) (n : ℕ) (v : Store) (feeds : AreFeeds f) where
       let cs = take j (all_commands f n) in
       ap (steps_of v) (take_one_more (all_commands f n) j c at) ∙ steps_of-more v cs (c ∷ []) ∙ ap (λ zs. steps_of v cs ++ zs) (one_reply (state_after (at_rest v) (steps_of v cs)) c)
 
-  stands-gives : (a : Moment) (s : Sensor) (x : Item) → Stands f n v a → IsAllowed (Give s x) a.progress → Stands f n v (record { progress = after_step a.progress (Give s x); issued = a.issued; applied = a.applied; banks = a.banks })
+  stands-gives : (a : ScheduleState) (s : Sensor) (x : Item) → Stands f n v a → IsAllowed (Give s x) a.progress → Stands f n v (record { progress = after_step a.progress (Give s x); issued = a.issued; applied = a.applied; banks = a.banks })
   stands-gives a s x h may =
       let p = a.progress in
       let low = horizon-least p.given s in
@@ -100,7 +100,7 @@ module _ (f : SensorLists) (n : ℕ) (v : Store) (feeds : AreFeeds f) where
         banks_are = h.banks_are;
       }
 
-  stands-closes : (a : Moment) → Stands f n v a → IsAllowed Close a.progress → Stands f n v (record { progress = after_step a.progress Close; issued = length (commands a.progress.given n (a.progress.closed + 1)); applied = a.applied; banks = a.banks })
+  stands-closes : (a : ScheduleState) → Stands f n v a → IsAllowed Close a.progress → Stands f n v (record { progress = after_step a.progress Close; issued = length (commands a.progress.given n (a.progress.closed + 1)); applied = a.applied; banks = a.banks })
   stands-closes a h may =
       let p = a.progress in
       let more = commands-later p.given n p.closed 1 in
@@ -113,7 +113,7 @@ module _ (f : SensorLists) (n : ℕ) (v : Store) (feeds : AreFeeds f) where
         banks_are = h.banks_are;
       }
 
-  stands-applies : (a : Moment) (c : Command) → Begins f a → Stands f n v a → IsNextApplied n a c → Stands f n v (record { progress = a.progress; issued = a.issued; applied = a.applied + 1; banks = state_after a.banks (reply_to a.banks c).steps })
+  stands-applies : (a : ScheduleState) (c : Command) → Begins f a → Stands f n v a → IsNextApplied n a c → Stands f n v (record { progress = a.progress; issued = a.issued; applied = a.applied + 1; banks = state_after a.banks (reply_to a.banks c).steps })
   stands-applies a c begun_ h next =
       let j = a.applied in
       let s = state_after (at_rest v) (steps_of_first f n v j) in
@@ -127,13 +127,13 @@ module _ (f : SensorLists) (n : ℕ) (v : Store) (feeds : AreFeeds f) where
             ∙ ap (state_after (at_rest v)) (sym (steps-next j c (next-is a c begun_ h.within next)));
       }
 
-  stands-step : (a b : Moment) → Begins f a → Stands f n v a → IsStep n a b → Stands f n v b
-  stands-step a b begun_ h (gives s x may is) = subst (λ (m : Moment). Stands f n v m) (sym is) (stands-gives a s x h may)
-  stands-step a b begun_ h (closes may is) = subst (λ (m : Moment). Stands f n v m) (sym is) (stands-closes a h may)
-  stands-step a b begun_ h (applies c next is) = subst (λ (m : Moment). Stands f n v m) (sym is) (stands-applies a c begun_ h next)
+  stands-step : (a b : ScheduleState) → Begins f a → Stands f n v a → IsStep n a b → Stands f n v b
+  stands-step a b begun_ h (gives s x may is) = subst (λ (m : ScheduleState). Stands f n v m) (sym is) (stands-gives a s x h may)
+  stands-step a b begun_ h (closes may is) = subst (λ (m : ScheduleState). Stands f n v m) (sym is) (stands-closes a h may)
+  stands-step a b begun_ h (applies c next is) = subst (λ (m : ScheduleState). Stands f n v m) (sym is) (stands-applies a c begun_ h next)
 
-  pub stands-leads : (a : Moment) (ms : List Moment) (b : Moment) → Begins f b → Stands f n v a → Leads n a ms b → Stands f n v b
-  stands-leads a [] b begun_ h is = subst (λ (m : Moment). Stands f n v m) is h
+  pub stands-leads : (a : ScheduleState) (ms : List ScheduleState) (b : ScheduleState) → Begins f b → Stands f n v a → Leads n a ms b → Stands f n v b
+  stands-leads a [] b begun_ h is = subst (λ (m : ScheduleState). Stands f n v m) is h
   stands-leads a (m ∷ ms) b begun_ h (step, rest) =
       let there : Begins f m = λ s. begins-again (items_of s m.progress.given) (items_of s b.progress.given) (items_of s f) (leads-grows n m ms b rest s) (begun_ s) in
       let here : Begins f a = λ s. begins-again (items_of s a.progress.given) (items_of s m.progress.given) (items_of s f) (step-grows n a m step s) (there s) in
@@ -150,10 +150,10 @@ module _ (f : SensorLists) (n : ℕ) (v : Store) where
     banks_are = refl;
   }
 
-  pub stands-any : AreFeeds f → (ms : List Moment) (b : Moment) → Leads n (begun v) ms b → Begins f b → Stands f n v b
+  pub stands-any : AreFeeds f → (ms : List ScheduleState) (b : ScheduleState) → Leads n (begun v) ms b → Begins f b → Stands f n v b
   stands-any feeds ms b leads begun_ = stands-leads f n v feeds (begun v) ms b begun_ stands-begun leads
 
-pub banks-any : (f : SensorLists) (n : ℕ) (v : Store) (ms : List Moment) (b : Moment) → AreFeeds f → Leads n (begun v) ms b → Begins f b → b.banks ≡ state_after (at_rest v) (steps_of_first f n v b.applied)
+pub banks-any : (f : SensorLists) (n : ℕ) (v : Store) (ms : List ScheduleState) (b : ScheduleState) → AreFeeds f → Leads n (begun v) ms b → Begins f b → b.banks ≡ state_after (at_rest v) (steps_of_first f n v b.applied)
 banks-any f n v ms b feeds leads begun_ = (stands-any f n v feeds ms b leads begun_).banks_are
 
 -- all commands' steps are those of the cycle
@@ -162,14 +162,14 @@ unfolding commands steps_in
 all-steps f n v = refl
 
 -- the first of them come first
-first-steps : (f : SensorLists) (n : ℕ) (v : Store) (j : ℕ) → (more : List Step) × (steps_in f n v ≡ steps_of_first f n v j ++ more)
+first-steps : (f : SensorLists) (n : ℕ) (v : Store) (j : ℕ) → (more : List BankStep) × (steps_in f n v ≡ steps_of_first f n v j ++ more)
 first-steps f n v j =
     let cs = all_commands f n in
     (_, sym (all-steps f n v) ∙ ap (steps_of v) (sym (take-append-drop j cs)) ∙ steps_of-more v (take j cs) (drop j cs))
 
-pub cut-any : (f : SensorLists) (n : ℕ) (v : Store) (ms : List Moment) (b : Moment) (w : Store) → AreFeeds f → Leads n (begun v) ms b → Begins f b → IsCut n b w
+pub cut-any : (f : SensorLists) (n : ℕ) (v : Store) (ms : List ScheduleState) (b : ScheduleState) (w : Store) → AreFeeds f → Leads n (begun v) ms b → Begins f b → IsCut n b w
     → (w ≡ after v (steps_of_first f n v b.applied))
-    ⊎ ((k : ℕ) × (done : List Step) × IsStop (steps_in f n v) k done × (all_calls (steps_of_first f n v b.applied) < k) × (k ≤ all_calls (steps_of_first f n v (b.applied + 1))) × (w ≡ after v done))
+    ⊎ ((k : ℕ) × (done : List BankStep) × IsStop (steps_in f n v) k done × (all_calls (steps_of_first f n v b.applied) < k) × (k ≤ all_calls (steps_of_first f n v (b.applied + 1))) × (w ≡ after v done))
 cut-any f n v ms b w feeds leads begun_ (inl same) = inl (same ∙ ap (λ (s : State). s.store) (banks-any f n v ms b feeds leads begun_))
 cut-any f n v ms b w feeds leads begun_ (inr (c, k, done, next, stop, is)) =
     let j = b.applied in
@@ -193,7 +193,7 @@ cut-any f n v ms b w feeds leads begun_ (inr (c, k, done, next, stop, is)) =
       is ∙ ap (λ (t : State). after t.store done) h.banks_are ∙ after-append v first done,
     )
 
-pub whole-any : (f : SensorLists) (n : ℕ) (v : Store) (ms : List Moment) (b : Moment) → AreFeeds f → Leads n (begun v) ms b → b.progress.given ≡ f → b.progress.closed ≡ horizon_of f → b.applied ≡ b.issued → b.banks.store ≡ after v (steps_in f n v)
+pub whole-any : (f : SensorLists) (n : ℕ) (v : Store) (ms : List ScheduleState) (b : ScheduleState) → AreFeeds f → Leads n (begun v) ms b → b.progress.given ≡ f → b.progress.closed ≡ horizon_of f → b.applied ≡ b.issued → b.banks.store ≡ after v (steps_in f n v)
 whole-any f n v ms b feeds leads given closed applied =
     let begun_ : Begins f b = λ s. ([], ap (items_of s) (sym given) ∙ sym (append-nil (items_of s b.progress.given))) in
     let h = stands-any f n v feeds ms b leads begun_ in

@@ -3,7 +3,7 @@ use Rattle.std.proofs.Common.{◌≡◌, refl, ap, sym, subst, ◌∙◌, arith,
 use Rattle.std.proofs.lemmas.List.{append-nil}
 use Rattle.std.specs.Prelude.{Contains, flat_map, fold}
 use Rattle.edr_image.specs.Banks.{Store}
-use Rattle.edr_image.specs.Steps.{Step}
+use Rattle.edr_image.specs.Steps.{BankStep}
 use Rattle.edr_image.specs.Calls.{all_calls, stops, IsStop}
 use Rattle.edr_image.proofs.StopLaws.{contains_here, contains_later, contains_none, contains_map, contains_mapped, contains_cases, contains_append, contains_left, contains_right, stops-is, stops-has, stop-within}
 use Rattle.edr_spell.specs.declared.CycleInput.{CycleInput}
@@ -63,7 +63,7 @@ whole_has c v n false true z p h = contains_here (whole_end c.feeds v (n + 1)) [
 whole_has c v n false false z p (inl h) = absurd (grind (arith, z, h))
 whole_has c v n false false z p (inr h) = absurd (grind (arith, p, h))
 
-cut_has : (c : CycleInput) (v : Store) (n : ℕ) (done : List Step) (none past : Bool) → nat_eq c.stop 0 ≡ none → nat_lt (all_calls (steps_in c.feeds (n + 1) v)) c.stop ≡ past → IsStop (steps_in c.feeds (n + 1) v) c.stop done → Contains (cond (none || past) (whole_end c.feeds v (n + 1) ∷ []) (map (cut_end c.feeds v (n + 1) c.stop) (stops c.stop (steps_in c.feeds (n + 1) v)))) (cut_end c.feeds v (n + 1) c.stop done)
+cut_has : (c : CycleInput) (v : Store) (n : ℕ) (done : List BankStep) (none past : Bool) → nat_eq c.stop 0 ≡ none → nat_lt (all_calls (steps_in c.feeds (n + 1) v)) c.stop ≡ past → IsStop (steps_in c.feeds (n + 1) v) c.stop done → Contains (cond (none || past) (whole_end c.feeds v (n + 1) ∷ []) (map (cut_end c.feeds v (n + 1) c.stop) (stops c.stop (steps_in c.feeds (n + 1) v)))) (cut_end c.feeds v (n + 1) c.stop done)
 cut_has c v n done true past z p stop = absurd (let within = stop-within (steps_in c.feeds (n + 1) v) done c.stop stop in let low = within.0 in grind (arith, z, low))
 cut_has c v n done false true z p stop = absurd (let within = stop-within (steps_in c.feeds (n + 1) v) done c.stop stop in let high = within.1 in grind (arith, p, high))
 cut_has c v n done false false z p stop = contains_mapped (cut_end c.feeds v (n + 1) c.stop) (stops c.stop (steps_in c.feeds (n + 1) v)) done (stops-has (steps_in c.feeds (n + 1) v) c.stop done stop)

@@ -12,7 +12,7 @@ use Rattle.edr_image.specs.declared.Ack.{Ack}
 use Rattle.edr_image.specs.declared.Kind.TheVariants as kind
 use Rattle.edr_image.specs.declared.Applied.TheVariants as applied
 use Rattle.edr_image.specs.Banks.{Store}
-use Rattle.edr_image.specs.Steps.{Step, Reply, after}
+use Rattle.edr_image.specs.Steps.{BankStep, Reply, after}
 use Rattle.edr_image.specs.Calls.{IsStop, acknowledged}
 use Rattle.edr_image.specs.Answered.{IsAnswered, IsLockedIn, IsLockedWith}
 use Rattle.edr_image.proofs.StopLaws.{stop-prefix, stops-has, acknowledged-done}
@@ -20,7 +20,7 @@ use Rattle.edr_image.proofs.LockLaws.{AreOwn-any, lock-stays, done-follows}
 use Rattle.edr_spell.specs.declared.CycleInput.{CycleInput}
 use Rattle.edr_image.specs.Reports.{Report, StartStopped, Ran}
 use Rattle.edr_run.specs.Cycle.{End, IsCycle, start_stopped, start_counted, whole, cut, kind_of, ack_of, issues_in, replies_in, steps_in, acks_in, acks_before, Outcome, IsRun}
-use Rattle.edr_run.specs.Own.{IsPreOf, ArePartsOf}
+use Rattle.edr_run.specs.Own.{IsPreOfCycle, ArePartsOf}
 use Rattle.edr_run.specs.Logged.{IsLogged, NoTakeBetween}
 use Rattle.edr_run.proofs.OwnLaws.{issues-own}
 use Rattle.edr_run.proofs.OrderLaws.{run-locked}
@@ -105,7 +105,7 @@ lock_logged f n v j p m a h lock bank_is enough =
     let at : slice_get (commands_in f n) j ≡ Some (command.Lock is.0) = map_get (λ (i : Issue). i.command) (issues_in f n) j parts.0 parts.2 ∙ ap (λ (c : Command). Some c) is.1 in
     let answered : IsAnswered (commands_in f n) (replies_in f n v) j (command.Lock is.0) (applied.Locked m) =
     record { reply = parts.1; command = at; replied = parts.3; answer_is = ap (λ (x : Ack). x.applied) parts.4 ∙ bank_is } in
-    (is.0, record { issue = parts.0; at = parts.2; is = is.1 }, lock-stays v (commands_in f n) j p m is.0 (AreOwn-any (IsPreOf f n) (ArePartsOf f n) None (commands_in f n) (issues-own f n)) answered enough)
+    (is.0, record { issue = parts.0; at = parts.2; is = is.1 }, lock-stays v (commands_in f n) j p m is.0 (AreOwn-any (IsPreOfCycle f n) (ArePartsOf f n) None (commands_in f n) (issues-own f n)) answered enough)
 
 -- and the Done that is acknowledged next
 done_logged : (f : SensorLists) (n : ℕ) (v : Store) (j p m : ℕ) (a b : Ack) → slice_get (acks_in f n v) j ≡ Some a → a.kind ≡ kind.Lock → a.applied ≡ applied.Locked m → slice_get (acks_in f n v) (suc j) ≡ Some b → b.kind ≡ kind.Done → length (flat_map (λ r. r.steps) (take (suc (suc j)) (replies_in f n v))) ≤ p →
@@ -124,7 +124,7 @@ done_logged f n v j p m a b h lock bank_is next done enough =
       ends.0,
       record { issue = parts.0; at = parts.2; is = is.1 },
       record { issue = more.0; at = more.2; is = ends.1 },
-      done-follows v (commands_in f n) j p m is.0 ends.0 (AreOwn-any (IsPreOf f n) (ArePartsOf f n) None (commands_in f n) (issues-own f n)) answered follows enough,
+      done-follows v (commands_in f n) j p m is.0 ends.0 (AreOwn-any (IsPreOfCycle f n) (ArePartsOf f n) None (commands_in f n) (issues-own f n)) answered follows enough,
     )
 
 -- ---- at the end of a cycle
@@ -149,7 +149,7 @@ unfolding steps_in
 whole_took f n v =
     (length (steps_in f n v), ap (λ steps. after v steps) (sym (take-length (steps_in f n v))), λ j a h. (h, steps_within (replies_in f n v) (suc j)))
 
-cut_took : (f : SensorLists) (n k : ℕ) (v : Store) (done : List Step) → IsStop (steps_in f n v) k done → TookSteps f n v (after v done) (acks_before f n v k)
+cut_took : (f : SensorLists) (n k : ℕ) (v : Store) (done : List BankStep) → IsStop (steps_in f n v) k done → TookSteps f n v (after v done) (acks_before f n v k)
 unfolding steps_in acks_before
 cut_took f n k v done stop =
     let prefix = stop-prefix (steps_in f n v) done k stop in

@@ -23,7 +23,7 @@ use Rattle.edr_image.proofs.OwnLaws.{own-steps}
 use Rattle.edr_spell.specs.declared.CycleInput.{CycleInput}
 use Rattle.edr_image.specs.Reports.{Report, Ran}
 use Rattle.edr_run.specs.Cycle.{End, IsCycle, start_stopped, start_counted, whole, cut, steps_in, issues_in, acks_in, acks_before, Outcome, IsRun}
-use Rattle.edr_run.specs.Own.{IsPreOf, ArePartsOf, IsRecordOf, RanAs, IsInWindow}
+use Rattle.edr_run.specs.Own.{IsPreOfCycle, ArePartsOf, IsRecordOf, RanAs, IsInWindow}
 use Rattle.edr_run.proofs.ApartLaws.{PlacedApart, placed-apart, issued}
 use Rattle.edr_run.proofs.OrderLaws.{cycle-kept, key_cycle}
 
@@ -65,7 +65,7 @@ events_own f n t a all (e ∷ es) in_all h =
     (e, at, refl) (e, at, refl, refl) h.2 h.3 (events_own f n t (close_of z e.0.end_tick) all es (λ x g. in_all x (contains_later e es x g)) h.3)
 
 -- the commands of a cycle are those of its events
-pub issues-own : (f : SensorLists) (n : ℕ) → AreOwn (IsPreOf f n) (ArePartsOf f n) None (map (λ i. i.command) (issues_in f n))
+pub issues-own : (f : SensorLists) (n : ℕ) → AreOwn (IsPreOfCycle f n) (ArePartsOf f n) None (map (λ i. i.command) (issues_in f n))
 issues-own f n =
     let m = signals_of f in
     let t = horizon_of f in
@@ -75,7 +75,7 @@ issues-own f n =
 
 steps_own : (f : SensorLists) (v : Store) (n p i : ℕ) (r : Record) → slice_get (after v (take p (steps_in f n v))).banks i ≡ Some (bank.Event r) → (slice_get v.banks i ≡ Some (bank.Event r)) ⊎ IsRecordOf f n r
 unfolding steps_in
-steps_own f v n p i r h = (own-steps (IsPreOf f n) (ArePartsOf f n) v (map (λ i. i.command) (issues_in f n)) p (issues-own f n)).each i r h
+steps_own f v n p i r h = (own-steps (IsPreOfCycle f n) (ArePartsOf f n) v (map (λ i. i.command) (issues_in f n)) p (issues-own f n)).each i r h
 
 -- an own record of the cycle, and the report that tells its number
 abbrev IsToldOwn : CycleInput → ℕ → Report → Record → Type 0

@@ -9,7 +9,7 @@ use Rattle.std.proofs.lemmas.List.Sums.{fold-append, sum_by-append}
 use Rattle.std.proofs.lemmas.Grind.{flat_map-append}
 use Rattle.edr_record.specs.declared.Command.{Command}
 use Rattle.edr_image.specs.Banks.{Store}
-use Rattle.edr_image.specs.Steps.{Step, State, Reply, after, at_rest, banks_after, held_after, replies, reply_to, state_after, steps_of}
+use Rattle.edr_image.specs.Steps.{BankStep, State, Reply, after, at_rest, banks_after, held_after, replies, reply_to, state_after, steps_of}
 
 pub get_first : {X : Type 0} (xs ys : List X) (j : ℕ) (x : X) → slice_get xs j ≡ Some x → slice_get (xs ++ ys) j ≡ Some x
 get_first [] ys j x h = absurd cc
@@ -38,10 +38,10 @@ take_one_more xs j x h = ap (λ n. take n xs) (one_more j) ∙ take_suc xs j x h
     one_more : (j : ℕ) → j + 1 ≡ suc j
     one_more j = omega arith
 
-pub after-append : (v : Store) (a b : List Step) → after (after v a) b ≡ after v (a ++ b)
+pub after-append : (v : Store) (a b : List BankStep) → after (after v a) b ≡ after v (a ++ b)
 after-append v a b = ap (λ banks. record v { banks = banks }) (sym (fold-append banks_after v.banks a b))
 
-pub state_after-append : (s : State) (a b : List Step) → state_after (state_after s a) b ≡ state_after s (a ++ b)
+pub state_after-append : (s : State) (a b : List BankStep) → state_after (state_after s a) b ≡ state_after s (a ++ b)
 state_after-append s a b = rw (after-append s.store a b, ← fold-append held_after s.held a b) refl
 
 pub replies-append : (s : State) (cs ds : List Command) → replies s (cs ++ ds) ≡ replies s cs ++ replies (state_after s (flat_map (λ r. r.steps) (replies s cs))) ds
@@ -63,7 +63,7 @@ take_more : {X : Type 0} (xs ys : List X) (p : ℕ) → p ≤ length xs → take
 take_more xs ys p within = take-append-le p xs ys within
 
 -- a stop in the first of two lists
-pub stop_first : (a b done : List Step) (k : ℕ) → IsStop a k done → IsStop (a ++ b) k done
+pub stop_first : (a b done : List BankStep) (k : ℕ) → IsStop a k done → IsStop (a ++ b) k done
 stop_first a b done k stop =
     let within = slice_get_within a stop.p stop.step stop.falls.step in
     let same = take_more a b stop.p (omega arith) in
@@ -82,7 +82,7 @@ stop_first a b done k stop =
     }
 
 -- a stop in the second
-pub stop_later : (a b done : List Step) (k : ℕ) → IsStop b k done → IsStop (a ++ b) (all_calls a + k) (a ++ done)
+pub stop_later : (a b done : List BankStep) (k : ℕ) → IsStop b k done → IsStop (a ++ b) (all_calls a + k) (a ++ done)
 stop_later a b done k stop =
     let same = take-append-add a b stop.p in
     let more : take (length a + stop.p + 1) (a ++ b) ≡ a ++ take (stop.p + 1) b = ap (λ n. take n (a ++ b)) (place (length a) stop.p) ∙ take-append-add a b (stop.p + 1) in

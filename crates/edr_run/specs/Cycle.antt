@@ -9,7 +9,7 @@ use Rattle.edr_image.specs.declared.Kind.TheVariants.{Take, Lock, Done}
 use Rattle.edr_image.specs.declared.Ack.{Ack}
 use Rattle.edr_image.specs.Reports.{Report, StartStopped, Ran}
 use Rattle.edr_image.specs.Banks.{Store}
-use Rattle.edr_image.specs.Steps.{Step, Reply, replies, at_rest, after}
+use Rattle.edr_image.specs.Steps.{BankStep, Reply, replies, at_rest, after}
 use Rattle.edr_image.specs.Calls.{all_calls, stops, IsStop, acknowledged}
 use Rattle.edr_spell.specs.declared.CycleInput.{CycleInput}
 
@@ -30,7 +30,7 @@ abbrev pub replies_in : SensorLists → ℕ → Store → List Reply
 replies_in f n v = replies (at_rest v) (map (λ i. i.command) (issues_in f n))
 
 -- all steps of the cycle
-unfoldable pub steps_in : SensorLists → ℕ → Store → List Step
+unfoldable pub steps_in : SensorLists → ℕ → Store → List BankStep
 steps_in f n v = flat_map (λ r. r.steps) (replies_in f n v)
 
 -- all its commands with their answers
@@ -56,7 +56,7 @@ abbrev pub whole_end : SensorLists → Store → ℕ → End
 whole_end f v n = record { report = Ran n None (acks_in f n v); store = after v (steps_in f n v); count = n }
 
 -- it was stopped in call k and took these steps
-abbrev pub cut_end : SensorLists → Store → ℕ → ℕ → List Step → End
+abbrev pub cut_end : SensorLists → Store → ℕ → ℕ → List BankStep → End
 cut_end f v n k done = record { report = Ran n (Some k) (acks_before f n v k); store = after v done; count = n }
 
 -- a cycle over the banks v with the count n may come to this end
@@ -67,7 +67,7 @@ pub data IsCycle (c : CycleInput) (v : Store) (n : ℕ) (e : End) : Type 0 where
   -- no stop, or one past the last call
   whole : c.start_stop ≡ 0 → (c.stop ≡ 0) ⊎ (all_calls (steps_in c.feeds (n + 1) v) < c.stop) → e ≡ whole_end c.feeds v (n + 1) → IsCycle c v n e
   -- a stop in a call of a step
-  cut : (done : List Step) → c.start_stop ≡ 0 → IsStop (steps_in c.feeds (n + 1) v) c.stop done → e ≡ cut_end c.feeds v (n + 1) c.stop done → IsCycle c v n e
+  cut : (done : List BankStep) → c.start_stop ≡ 0 → IsStop (steps_in c.feeds (n + 1) v) c.stop done → e ≡ cut_end c.feeds v (n + 1) c.stop done → IsCycle c v n e
 
 -- the ends of the cycle with the number n whose commands are stopped in call k, or not
 unfoldable pub run_ends : SensorLists → ℕ → Store → ℕ → List End

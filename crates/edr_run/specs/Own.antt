@@ -20,8 +20,8 @@ abbrev pub events_in : SensorLists → List (Event × Place)
 events_in f = placed_events (signals_of f) (horizon_of f)
 
 -- the pre part is that of an event of the cycle with the number n
-abbrev pub IsPreOf : SensorLists → ℕ → PrePart → Type 0
-IsPreOf f n pre = (e : Event × Place) × Contains (events_in f) e × (pre ≡ pre_part f n e.1 e.0.zero_tick)
+abbrev pub IsPreOfCycle : SensorLists → ℕ → PrePart → Type 0
+IsPreOfCycle f n pre = (e : Event × Place) × Contains (events_in f) e × (pre ≡ pre_part f n e.1 e.0.zero_tick)
 
 -- both parts are those of one event of that cycle
 abbrev pub ArePartsOf : SensorLists → ℕ → PrePart → CrashPart → Type 0
@@ -30,7 +30,7 @@ ArePartsOf f n pre crash =
 
 -- the record is that of an event of that cycle: it has its pre part, and its crash part or none
 abbrev pub IsRecordOf : SensorLists → ℕ → Record → Type 0
-IsRecordOf f n r = IsOwn (IsPreOf f n) (ArePartsOf f n) r
+IsRecordOf f n r = IsOwn (IsPreOfCycle f n) (ArePartsOf f n) r
 
 -- the cycle c of the run had the number n
 abbrev pub RanAs : List CycleInput → List Report → ℕ → CycleInput → Type 0

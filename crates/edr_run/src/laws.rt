@@ -10,7 +10,7 @@ ghost use Rattle.edr_image.specs.Steps.{after, state_after, at_rest};
 ghost use Rattle.edr_spell.specs.declared.CycleInput.{CycleInput};
 ghost use Rattle.edr_run.specs.Keeps.{KeepsDone, KeepsLocked, LeavesLocked, StaysInWindow};
 ghost use Rattle.edr_run.specs.Cycle.{End, IsCycle, ends, Outcome, IsRun, outcomes, steps_in};
-ghost use Rattle.edr_run.specs.Schedule.{HasFinished, HasReached, IsCut, IsLeftAfter, Moment, steps_of_first};
+ghost use Rattle.edr_run.specs.Schedule.{HasFinished, HasReached, IsCut, IsLeftAfter, ScheduleState, steps_of_first};
 
 /// The listed ends are those to which a cycle may come.
 pub fn ends_are_listed()
@@ -53,18 +53,18 @@ pub fn runs_keep_what_they_locked()
 /// Whatever allowed steps of a cycle's schedule were taken, in whatever order, the banks are those after its first commands, as
 /// many as were applied.
 pub fn any_schedule()
-    ensures { (f : SensorLists) (n : ℕ) (v : Store) (b : Moment) → HasReached f n v b
+    ensures { (f : SensorLists) (n : ℕ) (v : Store) (b : ScheduleState) → HasReached f n v b
         → b.banks ≡ state_after (at_rest v) (steps_of_first f n v b.applied) }
 {}
 
 /// After a cut they are these, or those of a stop of the cycle in the next command.
 pub fn any_cut()
-    ensures { (f : SensorLists) (n : ℕ) (v : Store) (b : Moment) (w : Store) → HasReached f n v b → IsCut n b w
+    ensures { (f : SensorLists) (n : ℕ) (v : Store) (b : ScheduleState) (w : Store) → HasReached f n v b → IsCut n b w
         → IsLeftAfter f n v b.applied w }
 {}
 
 /// Where all is given and closed and every issued command applied, they are those after the whole cycle.
 pub fn whole_schedule()
-    ensures { (f : SensorLists) (n : ℕ) (v : Store) (b : Moment) → HasFinished f n v b
+    ensures { (f : SensorLists) (n : ℕ) (v : Store) (b : ScheduleState) → HasFinished f n v b
         → b.banks.store ≡ after v (steps_in f n v) }
 {}

@@ -7,7 +7,7 @@ use Rattle.edr_items.specs.declared.ItemRefused.{ItemRefused}
 use Rattle.edr_items.specs.Item.{mark_of}
 use Rattle.edr_board.specs.declared.freeze_seats.Keeper.{Keeper}
 use Rattle.edr_board.specs.FreezeSeats.{freeze_of_keeper, grant_read, asked_read}
-use Rattle.edr_capture.specs.Capture.{StandsFor}
+use Rattle.edr_capture.specs.Capture.{CaptureStandsFor}
 use Rattle.edr_capture.specs.SensorPart.{SensorPart, part}
 use Rattle.edr_seats.specs.Slots.{part_room}
 use Rattle.edr_seats.specs.declared.slow_seat.SlowRefused.{SlowRefused}
@@ -58,7 +58,7 @@ pub record SameButRoom (a b : SlowContents) : Type 0 where
 
 -- the seat was given these items, and has sent these parts
 pub record SlowSeatIsFor (s : SlowContents) (kept : List Item) (parts : List SensorPart) : Type 0 where
-  pub keeps : StandsFor s.kept kept
+  pub keeps : CaptureStandsFor s.kept kept
   pub mark : mark_of kept ≡ s.last
   pub parts_are : parts_sent s ≡ parts
 

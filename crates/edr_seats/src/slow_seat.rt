@@ -6,7 +6,7 @@ ghost use Rattle.edr_items.specs.declared.Item.{Item};
 ghost use Rattle.edr_items.specs.declared.ItemRefused.{ItemRefused};
 ghost use Rattle.edr_items.specs.Item.{refusal_of};
 ghost use Rattle.edr_board.specs.FreezeSeats.{mark_posted};
-ghost use Rattle.edr_capture.specs.Capture.{StandsFor};
+ghost use Rattle.edr_capture.specs.Capture.{CaptureStandsFor};
 ghost use Rattle.edr_items.specs.Sensor.{IsSlow};
 ghost use Rattle.edr_capture.specs.SensorPart.{SensorPart};
 ghost use Rattle.edr_seats.specs.Slots.{part_room};

@@ -16,7 +16,7 @@ use Rattle.edr_spell.specs.declared.Row.TheVariants as row
 use Rattle.edr_spell.specs.declared.TraceFault.{TraceFault}
 use Rattle.edr_spell.specs.Rows.{◌>>=◌, is_i32, in_i32, value_in, nothing_in, up_to, highest_u32, word_of, row_by, row_of, IsRow, AreRows}
 use Rattle.edr_spell.specs.Samples.{row_for}
-use Rattle.edr_spell.specs.Spell.{stopped_cycle, SpellsCycle, SpellCycles, Spell, IsCycle}
+use Rattle.edr_spell.specs.Spell.{stopped_cycle, SpellsCycle, SpellCycles, Spell, IsCycleInput}
 use Rattle.edr_spell.proofs.FeedsLemmas.{no_items-feeds}
 
 -- where two steps are right, the first one is
@@ -111,19 +111,19 @@ no_items-mark Restraint = refl
 no_items-level : IsLevel no_items
 no_items-level = λ s r. let a = no_items-mark s in omega (arith, a)
 
-stopped-is : (k : ℕ) → k ≤ 6 → IsCycle (stopped_cycle k)
+stopped-is : (k : ℕ) → k ≤ 6 → IsCycleInput (stopped_cycle k)
 stopped-is k h = record { start_stop = h; stop = omega arith; stopped = λ one. refl; feeds = no_items-feeds; level = no_items-level }
 
-cycle-is : (rows : List Row) (c : CycleInput) → AllByRecursion IsRow rows → SpellsCycle rows c → IsCycle c
+cycle-is : (rows : List Row) (c : CycleInput) → AllByRecursion IsRow rows → SpellsCycle rows c → IsCycleInput c
 cycle-is rows c are (inl h) =
     let on = subst (λ (x : List Row). AllByRecursion IsRow x) h.2 are in
-    subst IsCycle (sym h.3) (stopped-is h.0 on.0)
+    subst IsCycleInput (sym h.3) (stopped-is h.0 on.0)
 cycle-is rows c are (inr h) =
     let all = subst (λ (x : List Row). AllByRecursion IsRow x) h.2 are in
     let cut = all-back (map row_for h.0) (row.Cut h.1 ∷ []) all.1 in
-    subst IsCycle (sym h.5) (record { start_stop = omega arith; stop = cut.0; stopped = λ one. absurd (omega (arith, one)); feeds = h.3; level = h.4 })
+    subst IsCycleInput (sym h.5) (record { start_stop = omega arith; stop = cut.0; stopped = λ one. absurd (omega (arith, one)); feeds = h.3; level = h.4 })
 
-cycles-are : (rows : List Row) (cs : List CycleInput) → AllByRecursion IsRow rows → SpellCycles rows cs → AllByRecursion IsCycle cs
+cycles-are : (rows : List Row) (cs : List CycleInput) → AllByRecursion IsRow rows → SpellCycles rows cs → AllByRecursion IsCycleInput cs
 unfolding SpellCycles
 cycles-are rows [] are h = tt
 cycles-are rows (c ∷ cs) are h =
@@ -131,5 +131,5 @@ cycles-are rows (c ∷ cs) are h =
     (cycle-is h.0 c (all-front h.0 h.1 all) h.3, cycles-are h.1 cs (all-back h.0 h.1 all) h.4)
 
 -- so are the cycles that are spelled
-pub spelled-cycles : (bytes : List ℕ) (cycles : List CycleInput) → Spell bytes cycles → AllByRecursion IsCycle cycles
+pub spelled-cycles : (bytes : List ℕ) (cycles : List CycleInput) → Spell bytes cycles → AllByRecursion IsCycleInput cycles
 spelled-cycles bytes cycles h = cycles-are h.rows cycles (rows-bounds h.records h.rows h.meant) h.spelled

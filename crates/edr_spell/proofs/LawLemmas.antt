@@ -19,7 +19,7 @@ use Rattle.edr_spell.specs.declared.TraceRefused.{TraceRefused}
 use Rattle.edr_spell.specs.Rows.{row_of, AreRows}
 use Rattle.edr_spell.specs.Samples.{Sample, row_for, is_of, items_given, feeds_given}
 use Rattle.edr_spell.specs.Spell.{stopped_cycle, whole_cycle, SpellsCycle, SpellCycles, Spell}
-use Rattle.edr_spell.specs.Fault.{opened, open_after, item_fault, fault_in, fault_of, feeds_after, fault_at, fault_at_end, AreFaultless, HasFault, Fault}
+use Rattle.edr_spell.specs.Fault.{opened, open_after, item_fault, fault_in, fault_of, feeds_after, fault_at, fault_at_end, AreFaultless, HasFault, FirstFault}
 use Rattle.edr_spell.specs.Steps.{cycles_next}
 use Rattle.edr_spell.proofs.FeedsLemmas.{items_given-append, items_of-given, IsFeed-of, IsFeedAfter-within}
 use Rattle.edr_spell.proofs.CsvLemmas.{records-are, same_records}
@@ -157,7 +157,7 @@ fault-not records rows cs t meant spelled h =
     by [] (q ∷ after) e m here right shut = cc m
     by (r ∷ rest) after e m here right shut = next-right rows h.before r rest after t.fault right e m here
 
-pub spell-not_fault : (bytes : List ℕ) (cs : List CycleInput) (t : TraceRefused) → Spell bytes cs → Fault bytes t → ⊥
+pub spell-not_fault : (bytes : List ℕ) (cs : List CycleInput) (t : TraceRefused) → Spell bytes cs → FirstFault bytes t → ⊥
 spell-not_fault bytes cs t h k =
     let same = same_records default_config st.StartRecord (strip_bom bytes) k.records h.records k.read h.read in
     fault-not h.records h.rows cs t h.meant h.spelled (subst (λ (x : List (List (List ℕ))). HasFault x t) same k.first)
@@ -213,7 +213,7 @@ same-fault records t u h k = by (meet h.front h.rest k.front k.rest (sym h.whole
     by (inr (inl w)) = absurd (not-ahead records t u h k w)
     by (inr (inr w)) = absurd (not-ahead records u t k h w)
 
-pub fault-one : (bytes : List ℕ) (t u : TraceRefused) → Fault bytes t → Fault bytes u → t ≡ u
+pub fault-one : (bytes : List ℕ) (t u : TraceRefused) → FirstFault bytes t → FirstFault bytes u → t ≡ u
 fault-one bytes t u h k =
     let same = same_records default_config st.StartRecord (strip_bom bytes) h.records k.records h.read k.read in
     same-fault k.records t u (subst (λ (x : List (List (List ℕ))). HasFault x t) same h.first) k.first
@@ -255,11 +255,11 @@ walk (r ∷ left) front rows cs o meant stands = by (row_of r) refl (λ (q : Row
     by (Err fault) e go = wrong-here front (r ∷ left) rows cs o fault meant stands (ap₂ fault_of kept e)
     by (Ok q) e go = on q e (fault_in (feeds_in o) q) refl (go q)
 
-pub spell-or_fault : (bytes : List ℕ) → ((cs : List CycleInput) × Spell bytes cs) ⊎ ((t : TraceRefused) × Fault bytes t)
+pub spell-or_fault : (bytes : List ℕ) → ((cs : List CycleInput) × Spell bytes cs) ⊎ ((t : TraceRefused) × FirstFault bytes t)
 spell-or_fault bytes =
     let all = records-are default_config (length (strip_bom bytes)) st.StartRecord (strip_bom bytes) (omega arith) refl in
     by all.0 all.1 (walk all.0 [] [] [] None refl stands-none)
   where
-    by : (records : List (List (List ℕ))) → AreRecords default_config st.StartRecord (strip_bom bytes) records → Either records → ((cs : List CycleInput) × Spell bytes cs) ⊎ ((t : TraceRefused) × Fault bytes t)
+    by : (records : List (List (List ℕ))) → AreRecords default_config st.StartRecord (strip_bom bytes) records → Either records → ((cs : List CycleInput) × Spell bytes cs) ⊎ ((t : TraceRefused) × FirstFault bytes t)
     by records read (inl h) = inl (h.1, record { records = records; rows = h.0; read = read; meant = h.2; spelled = h.3 })
     by records read (inr h) = inr (h.0, record { records = records; read = read; first = h.1 })

@@ -9,7 +9,7 @@ use Rattle.csv.specs.Writing.{needs_byte, row_text, default_writer, fields_text,
 use Rattle.csv.specs.declared.parser.State.TheVariants as st
 use Rattle.csv.proofs.RoundTrip.{read-write-many}
 use Rattle.edr_spell.specs.Spell.{RecordsOf}
-use Rattle.edr_spell.specs.Lines.{Line, fields_in, line_text, is_special, IsPlain}
+use Rattle.edr_spell.specs.Lines.{TraceLine, fields_in, line_text, is_special, IsPlain}
 
 needs-special : (b : ℕ) → needs_byte default_writer b ≡ is_special b
 needs-special b = by (eqb b 44) (eqb b 34) (eqb b 13) (eqb b 10)
@@ -34,15 +34,15 @@ plain-needs (b ∷ f) h =
 regroup : (a b c : List ℕ) → (a ++ 44 ∷ (b ++ 44 ∷ (c ++ []))) ++ 10 ∷ [] ≡ a ++ 44 ∷ (b ++ 44 ∷ (c ++ 10 ∷ []))
 regroup a b c = simp (append-nil, append_assoc)
 
-plain-text : (l : Line) → IsPlain l → row_text default_writer (fields_in l) ≡ line_text l
+plain-text : (l : TraceLine) → IsPlain l → row_text default_writer (fields_in l) ≡ line_text l
 unfolding fields_text is_blank
 plain-text l h = rw (plain-needs l.first h.0, plain-needs l.second h.1, plain-needs l.third h.2) (regroup l.first l.second l.third)
 
 -- a line without special bytes is the next record
-pub line-read : (l : Line) (rest : List ℕ) → IsPlain l → next_record default_config st.StartRecord [] [] (line_text l ++ rest) ≡ Some (fields_in l, st.StartRecord, rest)
+pub line-read : (l : TraceLine) (rest : List ℕ) → IsPlain l → next_record default_config st.StartRecord [] [] (line_text l ++ rest) ≡ Some (fields_in l, st.StartRecord, rest)
 line-read l rest h = ap (λ (x : List ℕ). next_record default_config st.StartRecord [] [] (x ++ rest)) (sym (plain-text l h)) ∙ read-write-many l.first l.second (l.third ∷ []) rest
 
-lines-read : (ls : List Line) → AllByRecursion IsPlain ls → AreRecords default_config st.StartRecord (flat_map line_text ls) (map fields_in ls)
+lines-read : (ls : List TraceLine) → AllByRecursion IsPlain ls → AreRecords default_config st.StartRecord (flat_map line_text ls) (map fields_in ls)
 unfolding Reached next_record
 lines-read [] h = (st.StartRecord, [], (refl, refl), refl)
 lines-read (l ∷ ls) h =
@@ -61,5 +61,5 @@ no-mark (a ∷ b ∷ c ∷ rest) h = rw (other a h) refl
     other n k = grind (arith, nat_tests)
 
 -- these lines have these records
-pub lines-records : (ls : List Line) → AllByRecursion IsPlain ls → get_or (flat_map line_text ls) 0 0 ≢ 239 → RecordsOf (flat_map line_text ls) (map fields_in ls)
+pub lines-records : (ls : List TraceLine) → AllByRecursion IsPlain ls → get_or (flat_map line_text ls) 0 0 ≢ 239 → RecordsOf (flat_map line_text ls) (map fields_in ls)
 lines-records ls h first = subst (λ (x : List ℕ). AreRecords default_config st.StartRecord x (map fields_in ls)) (sym (no-mark (flat_map line_text ls) first)) (lines-read ls h)

@@ -79,7 +79,7 @@ pub record HasFault (records : List (List (List ℕ))) (t : TraceRefused) : Type
   pub number : t.row ≡ length before + 1
 
 -- the first row of the bytes that has a fault, and its fault
-pub record Fault (bytes : List ℕ) (t : TraceRefused) : Type 0 where
+pub record FirstFault (bytes : List ℕ) (t : TraceRefused) : Type 0 where
   pub records : List (List (List ℕ))
   pub read : RecordsOf bytes records
   pub first : HasFault records t

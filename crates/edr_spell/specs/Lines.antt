@@ -8,17 +8,17 @@ use Rattle.edr_spell.specs.declared.Row.TheVariants as row
 use Rattle.edr_spell.specs.Rows.{spelling_of}
 
 -- the three fields of a line
-pub record Line : Type 0 where
+pub record TraceLine : Type 0 where
   pub first : List ℕ
   pub second : List ℕ
   pub third : List ℕ
 
 -- its fields, in order
-abbrev pub fields_in : Line → List (List ℕ)
+abbrev pub fields_in : TraceLine → List (List ℕ)
 fields_in l = l.first ∷ l.second ∷ l.third ∷ []
 
 -- the line with its commas and its line feed
-abbrev pub line_text : Line → List ℕ
+abbrev pub line_text : TraceLine → List ℕ
 line_text l = l.first ++ 44 ∷ (l.second ++ 44 ∷ (l.third ++ 10 ∷ []))
 
 -- a comma, a quote, a carriage return or a line feed
@@ -26,7 +26,7 @@ abbrev pub is_special : ℕ → Bool
 is_special b = (b == 44) || (b == 34) || (b == 13) || (b == 10)
 
 -- none of the fields has such a byte
-abbrev pub IsPlain : Line → Type 0
+abbrev pub IsPlain : TraceLine → Type 0
 IsPlain l = (list_any is_special l.first ≡ false) × (list_any is_special l.second ≡ false) × (list_any is_special l.third ≡ false)
 
 -- how a value, or none, is spelled
@@ -35,7 +35,7 @@ value_text None = []
 value_text (Some z) = signed_numeral z
 
 -- the line that spells a row
-abbrev pub line_for : Row → Line
+abbrev pub line_for : Row → TraceLine
 line_for (row.On k) = record { first = spelling_of w.On; second = numeral k; third = [] }
 line_for (row.Sample s x) = record { first = spelling_of (w.Of s); second = numeral x.moment; third = value_text x.value }
 line_for (row.Cut k) = record { first = spelling_of w.Cut; second = numeral k; third = [] }

@@ -22,17 +22,17 @@ abbrev pub whole_cycle : List Sample → ℕ → CycleInput
 whole_cycle xs k = record { start_stop = 0; feeds = feeds_given xs; stop = k }
 
 -- the rows are the one of a cycle whose start is stopped
-abbrev pub IsStopped : List Row → CycleInput → Type 0
-IsStopped rows c = (k : ℕ) × (1 ≤ k) × (rows ≡ row.On k ∷ []) × (c ≡ stopped_cycle k)
+abbrev pub IsStoppedStart : List Row → CycleInput → Type 0
+IsStoppedStart rows c = (k : ℕ) × (1 ≤ k) × (rows ≡ row.On k ∷ []) × (c ≡ stopped_cycle k)
 
 -- the rows are `on,0,`, sensor rows and a cut, and what they give is level feeds
-abbrev pub IsWhole : List Row → CycleInput → Type 0
-IsWhole rows c = (xs : List Sample) × (k : ℕ) × (rows ≡ row.On 0 ∷ map row_for xs ++ row.Cut k ∷ [])
+abbrev pub IsWholeCycle : List Row → CycleInput → Type 0
+IsWholeCycle rows c = (xs : List Sample) × (k : ℕ) × (rows ≡ row.On 0 ∷ map row_for xs ++ row.Cut k ∷ [])
     × AreFeeds (feeds_given xs) × IsLevel (feeds_given xs) × (c ≡ whole_cycle xs k)
 
 -- the rows are those of this one cycle
 abbrev pub SpellsCycle : List Row → CycleInput → Type 0
-SpellsCycle rows c = IsStopped rows c ⊎ IsWhole rows c
+SpellsCycle rows c = IsStoppedStart rows c ⊎ IsWholeCycle rows c
 
 -- the rows are those of these cycles, one after the other
 unfoldable pub SpellCycles : List Row → List CycleInput → Type 0
@@ -52,7 +52,7 @@ pub record Spell (bytes : List ℕ) (cycles : List CycleInput) : Type 0 where
   pub spelled : SpellCycles rows cycles
 
 -- the numbers of the cycle are in their bounds, what its sensors gave is level feeds, and a stopped start has nothing else
-pub record IsCycle (c : CycleInput) : Type 0 where
+pub record IsCycleInput (c : CycleInput) : Type 0 where
   pub start_stop : c.start_stop ≤ 6
   pub stop : c.stop ≤ highest_u32
   pub stopped : 1 ≤ c.start_stop → c ≡ stopped_cycle c.start_stop

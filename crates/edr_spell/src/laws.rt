@@ -8,27 +8,27 @@ ghost use Rattle.edr_spell.specs.declared.Row.TheVariants as row;
 ghost use Rattle.edr_spell.specs.declared.TraceRefused.{TraceRefused};
 ghost use Rattle.edr_spell.specs.Rows.{row_of, IsRow};
 ghost use Rattle.edr_spell.specs.Samples.{Sample, row_for};
-ghost use Rattle.edr_spell.specs.Spell.{RecordsOf, SpellCycles, Spell, IsCycle};
-ghost use Rattle.edr_spell.specs.Fault.{open_after, Fault};
-ghost use Rattle.edr_spell.specs.Lines.{Line, IsPlain, line_text, fields_in, line_for, text_of};
+ghost use Rattle.edr_spell.specs.Spell.{RecordsOf, SpellCycles, Spell, IsCycleInput};
+ghost use Rattle.edr_spell.specs.Fault.{open_after, FirstFault};
+ghost use Rattle.edr_spell.specs.Lines.{TraceLine, IsPlain, line_text, fields_in, line_for, text_of};
 
 /// All bytes spell one list of cycles, or have one first fault, and never both.
 pub fn spelled_or_refused()
-    ensures either { (bytes : List ℕ) → ((cycles : List CycleInput) × Spell bytes cycles) ⊎ ((t : TraceRefused) × Fault bytes t) }
-    ensures apart { (bytes : List ℕ) (cycles : List CycleInput) (t : TraceRefused) → Spell bytes cycles → Fault bytes t → ⊥ }
+    ensures either { (bytes : List ℕ) → ((cycles : List CycleInput) × Spell bytes cycles) ⊎ ((t : TraceRefused) × FirstFault bytes t) }
+    ensures apart { (bytes : List ℕ) (cycles : List CycleInput) (t : TraceRefused) → Spell bytes cycles → FirstFault bytes t → ⊥ }
     ensures one_spelled { (bytes : List ℕ) (a b : List CycleInput) → Spell bytes a → Spell bytes b → a ≡ b }
-    ensures one_fault { (bytes : List ℕ) (t u : TraceRefused) → Fault bytes t → Fault bytes u → t ≡ u }
+    ensures one_fault { (bytes : List ℕ) (t u : TraceRefused) → FirstFault bytes t → FirstFault bytes u → t ≡ u }
 {}
 
 /// Of each cycle that is spelled the feeds are such as sensors may give, and level, and the numbers are in their bounds. A
 /// cycle whose start is stopped has no items.
 pub fn spelled_cycles_are_level()
-    ensures { (bytes : List ℕ) (cycles : List CycleInput) → Spell bytes cycles → AllByRecursion IsCycle cycles }
+    ensures { (bytes : List ℕ) (cycles : List CycleInput) → Spell bytes cycles → AllByRecursion IsCycleInput cycles }
 {}
 
 /// Lines without quotes are read as their fields, if no byte order mark stands at the front.
 pub fn lines_are_records()
-    ensures { (lines : List Line) → AllByRecursion IsPlain lines → slice_index (flat_map line_text lines) 0 ≢ 239 → RecordsOf (flat_map line_text lines) (map fields_in lines) }
+    ensures { (lines : List TraceLine) → AllByRecursion IsPlain lines → slice_index (flat_map line_text lines) 0 ≢ 239 → RecordsOf (flat_map line_text lines) (map fields_in lines) }
 {}
 
 /// The line of a row is read as that row, and only rows with numbers in their bounds are read.

@@ -3,7 +3,7 @@
 ghost use Rattle.std.specs.Prelude.{◌≡◌, IfOk};
 ghost use Rattle.std.specs.Arc.{arc_value};
 ghost use Rattle.edr_items.specs.SensorLists.{SensorLists};
-ghost use Rattle.edr_loops.specs.Stands.{AreFastBegun, AreKept};
+ghost use Rattle.edr_loops.specs.Stands.{AreFastBegun, ArePlacesKept};
 ghost use Rattle.edr_loops.specs.Desks.{HasPosted, IsRecording};
 
 use crate::dealt_sensors::fired_feeds;
@@ -41,7 +41,7 @@ struct Bench {
 
 fn open_bench(alloc: Global) -> Result<Bench, Fail>
     ensures begun { (f : SensorLists) → IfOk result (λ b. AreFastBegun f b.stand.fast) }
-    ensures kept { (f : SensorLists) → IfOk result (λ b. AreKept f b.stand.slow) }
+    ensures kept { (f : SensorLists) → IfOk result (λ b. ArePlacesKept f b.stand.slow) }
     ensures recording { IfOk result (λ b. IsRecording b.desk) }
     ensures posted { IfOk result (λ b. HasPosted b.desk) }
 {
@@ -93,7 +93,7 @@ fn record_beside<R: Threads + Wait + Copy + Send + 'static>(
     gate: &Arc<Telling>,
 ) -> Option<Desk>
     requires begun { AreFastBegun (arc_value feeds.now) stand.fast }
-    requires kept { AreKept (arc_value feeds.now) stand.slow }
+    requires kept { ArePlacesKept (arc_value feeds.now) stand.slow }
     requires recording { IsRecording desk }
     requires posted { HasPosted desk }
 {

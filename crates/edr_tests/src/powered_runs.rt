@@ -1,6 +1,6 @@
 //! The power goes off behind each cycle. Where nothing is pending no clause can tell, so a device that counts it does.
 ghost use Rattle.std.specs.Prelude.{IfOk};
-ghost use Rattle.edr_spell.specs.Spell.{IsCycle};
+ghost use Rattle.edr_spell.specs.Spell.{IsCycleInput};
 
 use crate::runs::{fired, formatted, stopped};
 use edr_device::{Failed, Nvm};

@@ -1,7 +1,7 @@
 //! Runs of cycles over a memory in memory.
 ghost use Rattle.std.specs.Prelude.{◌≤◌, IfOk};
 ghost use Rattle.edr_items.specs.SensorLists.{IsLevel};
-ghost use Rattle.edr_spell.specs.Spell.{IsCycle};
+ghost use Rattle.edr_spell.specs.Spell.{IsCycleInput};
 
 use edr_banks::{Ack, Applied, BankView, Banks, Choice, Kind};
 use edr_device::MemNvm;
@@ -55,7 +55,7 @@ fn assert_level(rt: &impl Abort, feeds: &Feeds)
 // A cycle whose start is stopped in this call.
 pub(crate) fn stopped(rt: &impl Abort, alloc: Global, call: u32) -> CycleInput
     requires { call ≤ 6 }
-    ensures { IsCycle result }
+    ensures { IsCycleInput result }
 {
     let feeds = Feeds::new(alloc);
     assert_level(rt, &feeds);
@@ -68,7 +68,7 @@ pub(crate) fn stopped(rt: &impl Abort, alloc: Global, call: u32) -> CycleInput
 
 // A cycle with an event that is taken, locked and done, stopped in this call.
 pub(crate) fn fired(rt: &impl Abort, alloc: Global, stop: u32) -> Result<CycleInput, Fail>
-    ensures { IfOk result IsCycle }
+    ensures { IfOk result IsCycleInput }
 {
     let feeds = fired_feeds(alloc)?;
     assert_level(rt, &feeds);

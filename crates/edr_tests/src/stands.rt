@@ -1,10 +1,10 @@
 //! A worker in a thread of its own, beside a recorder that is played here.
 ghost use Rattle.std.specs.Prelude.{◌≡◌, ◌≤◌, ◌<◌, ◌+◌, IfOk, IsTrue};
 ghost use Rattle.std.specs.Arc.{arc_value};
-ghost use Rattle.edr_board.specs.FreezeSeats.{IsReached, SameAsker, grant_posted, last_zero, marks_read, open_zero};
+ghost use Rattle.edr_board.specs.FreezeSeats.{AllReach, SameAsker, grant_posted, last_zero, marks_read, open_zero};
 ghost use Rattle.edr_board.specs.Seats.{closed_posted, gate_posted};
 ghost use Rattle.edr_items.specs.SensorLists.{SensorLists};
-ghost use Rattle.edr_loops.specs.Stands.{AreFastBegun, AreKept};
+ghost use Rattle.edr_loops.specs.Stands.{AreFastBegun, ArePlacesKept};
 
 use crate::dealt_sensors::fired_feeds;
 use edr_board::{Asker, Board, CommitterSeat, Freeze, FreezeOpened, Opened, RecorderSeat};
@@ -59,7 +59,7 @@ struct Played {
 
 fn open_stand(alloc: Global) -> Result<Played, Fail>
     ensures fast { (f : SensorLists) → IfOk result (λ p. AreFastBegun f p.stand.fast) }
-    ensures slow { (f : SensorLists) → IfOk result (λ p. AreKept f p.stand.slow) }
+    ensures slow { (f : SensorLists) → IfOk result (λ p. ArePlacesKept f p.stand.slow) }
     ensures asks { IfOk result (λ p. (open_zero p.asker ≡ 0) × (last_zero p.asker ≡ 0) × (grant_posted p.asker ≡ 1000)) }
     ensures posted { IfOk result (λ p. (gate_posted p.recorder ≡ 0) × (closed_posted p.recorder ≡ 0)) }
 {
@@ -93,7 +93,7 @@ fn open_stand(alloc: Global) -> Result<Played, Fail>
 // Loads the marks, and tells whether all have reached this zero.
 fn is_reached(asker: &mut Asker, zero: u32) -> bool
     ensures same { SameAsker asker.old asker.new }
-    ensures reached { IsTrue result → IsReached zero (marks_read asker.new) }
+    ensures reached { IsTrue result → AllReach zero (marks_read asker.new) }
 {
     let speed = asker.mark(Sensor::Speed);
     let throttle = asker.mark(Sensor::Throttle);
@@ -151,7 +151,7 @@ fn play<R: Threads + Wait + Copy + Send + 'static>(
     gate: &Arc<Telling>,
 ) -> Option<[(u32, Option<i32>); 5]>
     requires fast { AreFastBegun (arc_value feeds.now) played.stand.fast }
-    requires slow { AreKept (arc_value feeds.now) played.stand.slow }
+    requires slow { ArePlacesKept (arc_value feeds.now) played.stand.slow }
     requires asks { (open_zero played.asker ≡ 0) × (last_zero played.asker ≡ 0) × (grant_posted played.asker ≡ 1000) }
     requires posted { (gate_posted played.recorder ≡ 0) × (closed_posted played.recorder ≡ 0) }
 {

@@ -6,7 +6,7 @@ use Rattle.edr_trace.specs.declared.ReadRefused.{ReadRefused}
 use Rattle.edr_trace.specs.declared.reading.Way.{Way}
 use Rattle.edr_trace.specs.declared.steps.Trace.{Trace}
 use Rattle.edr_trace.specs.SoFar.{SoFar, unread}
-use Rattle.edr_trace.specs.Told.{Tells}
+use Rattle.edr_trace.specs.Told.{TellsRefusal}
 use Rattle.edr_trace.specs.Given.{AreReadBut, AreReadBy}
 
 -- the way is this one
@@ -25,8 +25,8 @@ front-taken bytes front left parts =
     ap (take n) parts ∙ take_at front left n (omega (arith, whole))
 
 -- a fault stays the same, whatever follows
-pub told-still : (before piece : List ℕ) (e : ReadRefused) → ((more : List ℕ) → Tells (before ++ more) e) → (more : List ℕ) → Tells ((before ++ piece) ++ more) e
-told-still before piece e h more = subst (λ (x : List ℕ). Tells x e) (sym (append_assoc before piece more)) (h (piece ++ more))
+pub told-still : (before piece : List ℕ) (e : ReadRefused) → ((more : List ℕ) → TellsRefusal (before ++ more) e) → (more : List ℕ) → TellsRefusal ((before ++ piece) ++ more) e
+told-still before piece e h more = subst (λ (x : List ℕ). TellsRefusal x e) (sym (append_assoc before piece more)) (h (piece ++ more))
 
 -- what a call of take_plain says of the bytes in front
 abbrev pub Takes : List ℕ → Trace → ℕ → Trace → ℕ → Type 0
@@ -61,6 +61,6 @@ rest-kept before bytes front left old new rows rows' h parts count takes =
 
 -- a fault in these bytes is one of all, whatever follows
 pub told-behind : (before bytes : List ℕ) (trace : Trace) (rows : ℕ) (e : ReadRefused) → AreReadBut [] before trace rows
-    → ((whole more : List ℕ) → SoFar whole st.StartRecord (unread rows (bytes ++ more)) trace.cycles.items trace.inside rows → Tells whole e)
-    → (more : List ℕ) → Tells ((before ++ bytes) ++ more) e
-told-behind before bytes trace rows e h told more = subst (λ (x : List ℕ). Tells x e) (sym (append_assoc before bytes more)) (told (before ++ (bytes ++ more)) more (h.1 (bytes ++ more)))
+    → ((whole more : List ℕ) → SoFar whole st.StartRecord (unread rows (bytes ++ more)) trace.cycles.items trace.inside rows → TellsRefusal whole e)
+    → (more : List ℕ) → TellsRefusal ((before ++ bytes) ++ more) e
+told-behind before bytes trace rows e h told more = subst (λ (x : List ℕ). TellsRefusal x e) (sym (append_assoc before bytes more)) (told (before ++ (bytes ++ more)) more (h.1 (bytes ++ more)))

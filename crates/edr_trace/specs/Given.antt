@@ -1,12 +1,12 @@
 -- What a reading stands for.
 use Rattle.std.specs.Prelude.{ℕ, ◌+◌, ◌≤◌, List, [], ◌++◌, length}
 use Rattle.edr_trace.specs.declared.ReadRefused.{ReadRefused}
-use Rattle.edr_trace.specs.declared.reading.Reading.{Reading}
+use Rattle.edr_trace.specs.declared.reading.TraceReading.{TraceReading}
 use Rattle.edr_trace.specs.declared.reading.Way.{Way}
 use Rattle.edr_trace.specs.declared.reading.Way.TheVariants as way
 use Rattle.edr_trace.specs.declared.steps.Trace.{Trace}
 use Rattle.edr_trace.specs.SoFar.{IsLeft}
-use Rattle.edr_trace.specs.Told.{Tells}
+use Rattle.edr_trace.specs.Told.{TellsRefusal}
 
 -- so many rows of the bytes were read, and what is left of them is this, whatever follows
 abbrev pub AreReadBut : List ℕ → List ℕ → Trace → ℕ → Type 0
@@ -17,16 +17,16 @@ AreReadBut left bytes trace rows = (rows + length left ≤ length bytes)
 abbrev pub AreReadBy : Way → List ℕ → Trace → ℕ → Type 0
 AreReadBy way.Plain bytes trace rows = AreReadBut [] bytes trace rows
 AreReadBy (way.Csv left) bytes trace rows = AreReadBut left bytes trace rows
-AreReadBy (way.Refused e) bytes trace rows = (more : List ℕ) → Tells (bytes ++ more) e
+AreReadBy (way.Refused e) bytes trace rows = (more : List ℕ) → TellsRefusal (bytes ++ more) e
 
 -- these bytes were given to the reading, and it took them
-pub record Given (bytes : List ℕ) (r : Reading) : Type 0 where
+pub record Given (bytes : List ℕ) (r : TraceReading) : Type 0 where
   pub are_read : AreReadBy r.way bytes r.trace r.rows
 
 -- the reading took these bytes more
-abbrev pub Takes : List ℕ → Reading → Reading → Type 0
-Takes bytes old new = (before : List ℕ) → Given before old → Given (before ++ bytes) new
+abbrev pub TakesBytes : List ℕ → TraceReading → TraceReading → Type 0
+TakesBytes bytes old new = (before : List ℕ) → Given before old → Given (before ++ bytes) new
 
 -- a refusal of these bytes tells of the trace's fault, whatever follows
-abbrev pub TellsOfMore : List ℕ → Reading → ReadRefused → Type 0
-TellsOfMore bytes r e = (before more : List ℕ) → Given before r → Tells ((before ++ bytes) ++ more) e
+abbrev pub TellsOfMore : List ℕ → TraceReading → ReadRefused → Type 0
+TellsOfMore bytes r e = (before more : List ℕ) → Given before r → TellsRefusal ((before ++ bytes) ++ more) e

@@ -10,7 +10,7 @@ use Rattle.edr_trace.specs.declared.steps.RowRefused.{RowRefused}
 use Rattle.edr_trace.specs.declared.steps.Trace.{Trace}
 
 -- the line of a row is in front of the bytes, and the row is taken
-pub record IsTaken (old new : Trace) (bytes rest : List ℕ) : Type 0 where
+pub record IsRowTaken (old new : Trace) (bytes rest : List ℕ) : Type 0 where
   pub row : Row
   pub is_row : IsRow row
   pub line : bytes ≡ line_text (line_for row) ++ rest
@@ -19,7 +19,7 @@ pub record IsTaken (old new : Trace) (bytes rest : List ℕ) : Type 0 where
   pub cycles : new.cycles.items ≡ old.cycles.items ++ cycles_next old.inside row
 
 -- the line of a row is in front of the bytes, and the row isn't taken
-pub record IsRefused (old : Trace) (bytes : List ℕ) (e : RowRefused) : Type 0 where
+pub record IsRowRefused (old : Trace) (bytes : List ℕ) (e : RowRefused) : Type 0 where
   pub row : Row
   pub rest : List ℕ
   pub is_row : IsRow row

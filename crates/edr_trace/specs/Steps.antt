@@ -8,10 +8,10 @@ use Rattle.edr_spell.specs.Steps.{feeds_next, cycles_next}
 use Rattle.edr_trace.specs.declared.steps.Trace.{Trace}
 
 -- the trace has these cycles more
-abbrev pub Gains : List CycleInput → Trace → Trace → Type 0
-Gains cycles old new = new.cycles.items ≡ old.cycles.items ++ cycles
+abbrev pub GainsCycles : List CycleInput → Trace → Trace → Type 0
+GainsCycles cycles old new = new.cycles.items ≡ old.cycles.items ++ cycles
 
 -- the fields are a row that has no fault there, and the row is taken
 abbrev pub TakesFields : List (List ℕ) → Trace → Trace → Type 0
 TakesFields fields old new = (row : Row) × (row_of fields ≡ Ok row) × (fault_in old.inside row ≡ None)
-    × (new.inside ≡ feeds_next old.inside row) × Gains (cycles_next old.inside row) old new
+    × (new.inside ≡ feeds_next old.inside row) × GainsCycles (cycles_next old.inside row) old new

@@ -124,7 +124,7 @@ pub(super) fn read_in_parts(
     requires few { length bytes.now ≤ 1_000_000 }
     requires some { 0 < part }
 {
-    let mut reading = Reading::new(rt.alloc());
+    let mut reading = TraceReading::new(rt.alloc());
     let mut end = first.min(bytes.len());
     let mut taken = reading.take_rows(&bytes[..end]);
     while end < bytes.len() {

@@ -9,16 +9,16 @@ mod reading;
 mod steps;
 
 ghost use Rattle.std.specs.Prelude.{◌≡◌, ◌≤◌, ◌<◌, ◌+◌, ◌^◌, ℕ, List, Some, None, length, IfOk, IfErr, IfSome, All};
-ghost use Rattle.edr_spell.specs.Spell.{Spell, IsCycle, largest_trace};
-ghost use Rattle.edr_spell.specs.Fault.{Fault};
-ghost use Rattle.edr_trace.specs.Told.{GivesCycles, GivesFault, Tells, TellsOf};
+ghost use Rattle.edr_spell.specs.Spell.{Spell, IsCycleInput, largest_trace};
+ghost use Rattle.edr_spell.specs.Fault.{FirstFault};
+ghost use Rattle.edr_trace.specs.Told.{GivesCycles, GivesFault, TellsRefusal, TellsOf};
 ghost use Rattle.edr_trace.specs.SoFar.{LeadsTo, OfWhole};
-ghost use Rattle.edr_trace.specs.Plain.{IsTaken, IsRefused};
+ghost use Rattle.edr_trace.specs.Plain.{IsRowTaken, IsRowRefused};
 
 use csv::{ByteRecord, ReaderBuilder};
 pub use edr_spell::{CycleInput, Row, TraceFault, TraceRefused, Word};
 use plain::{across_row, along_row, any_row};
-pub use reading::{LONGEST_ROW, Reading};
+pub use reading::{LONGEST_ROW, TraceReading};
 use std::alloc::{AllocError, Global};
 use std::io::Read;
 use steps::{RowRefused, Trace, at_row};
@@ -58,14 +58,14 @@ impl From<AllocError> for ReadRefused {
 pub fn read(alloc: Global, bytes: &[u8]) -> Result<Vec<CycleInput>, ReadRefused>
     requires { length bytes.now ≤ largest_trace }
     ensures spelled { IfOk result (λ v. Spell bytes.now v.items) }
-    ensures refused { IfErr result (λ e. Tells bytes.now e) }
-    ensures cycles { IfOk result (λ v. All IsCycle v.items) }
+    ensures refused { IfErr result (λ e. TellsRefusal bytes.now e) }
+    ensures cycles { IfOk result (λ v. All IsCycleInput v.items) }
 
     // What is spelled is read, and a fault is told, unless memory runs out.
     ensures only_spelled { (cycles : List CycleInput) → Spell bytes.now cycles → GivesCycles cycles result }
-    ensures only_refused { (t : TraceRefused) → Fault bytes.now t → GivesFault t result }
+    ensures only_refused { (t : TraceRefused) → FirstFault bytes.now t → GivesFault t result }
 {
-    let mut reading = Reading::new(alloc);
+    let mut reading = TraceReading::new(alloc);
     let taken = reading.take_rows(bytes);
     reading.finish(&bytes[taken..])
 }
@@ -77,9 +77,9 @@ fn take_any<'a>(
     trace: &mut Trace,
     bytes: &'a [u8],
 ) -> Result<Option<&'a [u8]>, RowRefused>
-    ensures taken { IfOk result (λ o. IfSome o (λ rest. IsTaken trace.old trace.new bytes.now rest.now)) }
+    ensures taken { IfOk result (λ o. IfSome o (λ rest. IsRowTaken trace.old trace.new bytes.now rest.now)) }
     ensures none { IfOk result (λ o. o ≡ None → trace.new ≡ trace.old) }
-    ensures refused { IfErr result (IsRefused trace.old bytes.now) }
+    ensures refused { IfErr result (IsRowRefused trace.old bytes.now) }
 {
     let Some((row, behind)) = any_row(bytes) else {
         return Ok(None);
@@ -95,9 +95,9 @@ fn take_next<'a>(
     trace: &mut Trace,
     bytes: &'a [u8],
 ) -> Result<Option<&'a [u8]>, RowRefused>
-    ensures taken { IfOk result (λ o. IfSome o (λ rest. IsTaken trace.old trace.new bytes.now rest.now)) }
+    ensures taken { IfOk result (λ o. IfSome o (λ rest. IsRowTaken trace.old trace.new bytes.now rest.now)) }
     ensures none { IfOk result (λ o. o ≡ None → trace.new ≡ trace.old) }
-    ensures refused { IfErr result (IsRefused trace.old bytes.now) }
+    ensures refused { IfErr result (IsRowRefused trace.old bytes.now) }
 {
     if let Some((row, behind)) = along_row(bytes) {
         trace.take_row(alloc, row)?;
@@ -144,7 +144,7 @@ fn read_rest<R: Read + Drop>(
 ) -> Result<Vec<CycleInput>, ReadRefused>
     requires { (bytes : List ℕ) × (R.remaining source ≡ Some bytes) × (rows + length bytes ≤ largest_trace) }
     ensures spelled { IfOk result (λ v. OfWhole (R.remaining source) trace rows (λ whole. Spell whole v.items)) }
-    ensures refused { IfErr result (λ e. OfWhole (R.remaining source) trace rows (λ whole. Tells whole e)) }
+    ensures refused { IfErr result (λ e. OfWhole (R.remaining source) trace rows (λ whole. TellsRefusal whole e)) }
 {
     let mut trace = trace;
     // A byte order mark is one at the front of a trace alone. A blank line is no record.

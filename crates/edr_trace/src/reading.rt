@@ -2,8 +2,8 @@
 
 ghost use Rattle.std.specs.Prelude.{◌≤◌, ◌<◌, ◌+◌, ◌^◌, ◌++◌, ℕ, List, [], length, take, IfOk, IfErr};
 ghost use Rattle.edr_spell.specs.Spell.{Spell, largest_trace};
-ghost use Rattle.edr_trace.specs.Told.{Tells};
-ghost use Rattle.edr_trace.specs.Given.{Given, Takes, TellsOfMore};
+ghost use Rattle.edr_trace.specs.Told.{TellsRefusal};
+ghost use Rattle.edr_trace.specs.Given.{Given, TakesBytes, TellsOfMore};
 
 use crate::pieces::Pieces;
 use crate::steps::Trace;
@@ -30,14 +30,14 @@ enum Way {
 /// aren't kept; from the first other row on all bytes are kept up to the end. Behind a row with a fault no byte is kept.
 ///
 /// ```
-/// let mut reading = Reading::new(alloc);
+/// let mut reading = TraceReading::new(alloc);
 /// let taken = reading.take_rows(b"on,0,\ncut");
 /// assert_eq!(taken, 6);
 /// assert_eq!(reading.take_rows(b"cut,0,\n"), 7);
 /// let cycles = reading.finish(b"")?;
 /// ```
 #[derive(Drop)]
-pub struct Reading {
+pub struct TraceReading {
     alloc: Global,
     trace: Trace,
     // How many rows were taken.
@@ -45,12 +45,12 @@ pub struct Reading {
     way: Way,
 }
 
-impl Reading {
+impl TraceReading {
     /// Nothing was read yet.
-    pub fn new(alloc: Global) -> Reading
+    pub fn new(alloc: Global) -> TraceReading
         ensures { Given [] result }
     {
-        Reading {
+        TraceReading {
             alloc,
             trace: Trace::new(alloc),
             rows: 0,
@@ -64,7 +64,7 @@ impl Reading {
         requires { (before : List ℕ) × Given before self.old × (length before + length bytes.now < 2 ^ 32) }
         ensures within { result ≤ length bytes.now }
         ensures left { length bytes.now ≤ result + 64 }
-        ensures given { Takes (take result bytes.now) self.old self.new }
+        ensures given { TakesBytes (take result bytes.now) self.old self.new }
     {
         match self.take_front(bytes) {
             Ok(taken) => taken,
@@ -80,7 +80,7 @@ impl Reading {
         requires { (before : List ℕ) × Given before self.old × (length before + length bytes.now < 2 ^ 32) }
         ensures within { IfOk result (λ n. n ≤ length bytes.now) }
         ensures left { IfOk result (λ n. length bytes.now ≤ n + LONGEST_ROW) }
-        ensures given { IfOk result (λ n. Takes (take n bytes.now) self.old self.new) }
+        ensures given { IfOk result (λ n. TakesBytes (take n bytes.now) self.old self.new) }
         ensures refused { IfErr result (TellsOfMore bytes.now self.old) }
     {
         match &mut self.way {
@@ -108,9 +108,9 @@ impl Reading {
         ensures spelled { IfOk result (λ v. (before : List ℕ) → Given before self
             → Spell (before ++ left.now) v.items) }
         ensures refused { IfErr result (λ e. (before : List ℕ) → Given before self
-            → Tells (before ++ left.now) e) }
+            → TellsRefusal (before ++ left.now) e) }
     {
-        let Reading {
+        let TraceReading {
             alloc,
             trace,
             rows,

@@ -42,14 +42,14 @@ pub struct Swing<const K: usize> {
 }
 
 impl<const K: usize> Model for Swing<K> {
-    ghost use Rattle.edr_window.specs.Swing.{SwingState, Holds};
+    ghost use Rattle.edr_window.specs.Swing.{SwingState, FieldsHold};
     ghost use Rattle.std.specs.Prelude.{◌-◌};
 
     ghost Value = { SwingState };
 
     ghost view = { λ s. record { pushes = s.pushes; rest = s.pushes - s.places; sum = s.sum; high = s.high; low = s.low } };
 
-    ghost invariant = { λ s. Holds K s.pushes s.places s.sum s.high s.low s.rests };
+    ghost invariant = { λ s. FieldsHold K s.pushes s.places s.sum s.high s.low s.rests };
 }
 
 impl<const K: usize> Swing<K> {

@@ -9,57 +9,57 @@ use Rattle.clap.specs.Walk.{Rule, rows_of}
 use Rattle.clap.specs.declared.parser.matches.ArgMatches.{ArgMatches}
 use Rattle.clap.specs.declared.parser.matches.Found.{Found}
 
-abbrev pub Word : Type 0
-Word = List ℕ
+abbrev pub PlainText : Type 0
+PlainText = List ℕ
 
-abbrev pub words_of : List (String Global) → List Word
+abbrev pub words_of : List (String Global) → List PlainText
 words_of arguments = map string_bytes arguments
 
 -- a word, and a second if there is one, behind references
-abbrev pub words_in : Bor Word × Option (Bor Word) → Word × Option Word
+abbrev pub words_in : Bor PlainText × Option (Bor PlainText) → PlainText × Option PlainText
 words_in p = (p.0.now, option_map (λ s. s.now) p.1)
 
 -- the word doesn't begin with `-`
-abbrev pub is_plain : Word → Bool
+abbrev pub is_plain : PlainText → Bool
 is_plain [] = true
 is_plain (x ∷ xs) = not (x == 45)
 
 -- ---- how many arguments there are
 
 -- two
-abbrev pub two : List Word → Option (Word × Word)
+abbrev pub two : List PlainText → Option (PlainText × PlainText)
 two [] = None
 two (a ∷ []) = None
 two (a ∷ b ∷ []) = Some (a, b)
 two (a ∷ b ∷ c ∷ more) = None
 
 -- none or one
-abbrev pub at_most_one : List Word → Option (Option Word)
+abbrev pub at_most_one : List PlainText → Option (Option PlainText)
 at_most_one [] = Some None
 at_most_one (a ∷ []) = Some (Some a)
 at_most_one (a ∷ b ∷ more) = None
 
 -- one or two
-abbrev pub one_or_two : List Word → Option (Word × Option Word)
+abbrev pub one_or_two : List PlainText → Option (PlainText × Option PlainText)
 one_or_two [] = None
 one_or_two (a ∷ []) = Some (a, None)
 one_or_two (a ∷ b ∷ []) = Some (a, Some b)
 one_or_two (a ∷ b ∷ c ∷ more) = None
 
 -- the first, with the second if there is one
-abbrev pub with_second : Option Word → Option Word → Option (Word × Option Word)
+abbrev pub with_second : Option PlainText → Option PlainText → Option (PlainText × Option PlainText)
 with_second None second = None
 with_second (Some first) second = Some (first, second)
 
 -- what was matched as `first`, with `second` if there is one
-abbrev pub first_and_second : Found → Option (Word × Option Word)
+abbrev pub first_and_second : Found → Option (PlainText × Option PlainText)
 first_and_second found = with_second (first_value found (codes "first")) (first_value found (codes "second"))
 
 -- ---- the commands
 
 -- a command takes the words without a fault, and these are its matches
-abbrev pub Takes : App → List Word → ArgMatches → Type 0
-Takes app words matches = (fault_of app words ≡ []) × (rows_of (found_of matches) ≡ matches_of app words)
+abbrev pub TakesWords : App → List PlainText → ArgMatches → Type 0
+TakesWords app words matches = (fault_of app words ≡ []) × (rows_of (found_of matches) ≡ matches_of app words)
 
 abbrev pub first : Rule
 first = new_rule (codes "first")
@@ -72,14 +72,14 @@ abbrev pub wanted : Rule → Rule
 wanted r = record r { required = true }
 
 -- a command without `--help`, all of whose words are arguments
-abbrev pub bare : Word → App
+abbrev pub bare : PlainText → App
 bare name = on_top (λ s. record s { no_binary_name = true; disable_help_flag = true }) (new_app name)
 
-abbrev pub needs_two : Word → App
+abbrev pub needs_two : PlainText → App
 needs_two name = with_rule (with_rule (bare name) (wanted first)) (wanted second)
 
-abbrev pub may_have_one : Word → App
+abbrev pub may_have_one : PlainText → App
 may_have_one name = with_rule (bare name) first
 
-abbrev pub may_have_two : Word → App
+abbrev pub may_have_two : PlainText → App
 may_have_two name = with_rule (with_rule (bare name) (wanted first)) second

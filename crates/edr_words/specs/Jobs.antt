@@ -9,19 +9,19 @@ use Rattle.edr_words.specs.declared.Form.{Form}
 use Rattle.edr_words.specs.declared.Form.TheVariants.{Text, Table}
 use Rattle.edr_words.specs.declared.Job.{Job}
 use Rattle.edr_words.specs.declared.Job.TheVariants.{Format, Replay, Report, Drive, Generate, Large, Migrate}
-use Rattle.edr_words.specs.Arguments.{Word, at_most_one, is_plain, one_or_two, two}
+use Rattle.edr_words.specs.Arguments.{PlainText, at_most_one, is_plain, one_or_two, two}
 
 -- ---- what a word stands for
 
 -- a form
-unfoldable pub form_in : Word → Option Form
+unfoldable pub form_in : PlainText → Option Form
 form_in word =
     if bytes_eq word (codes "text") then Some Text
     else if bytes_eq word (codes "csv") then Some Table
     else None
 
 -- a choice
-unfoldable pub choice_in : Word → Option Choice
+unfoldable pub choice_in : PlainText → Option Choice
 choice_in word =
     if bytes_eq word (codes "keep") then Some Keep
     else if bytes_eq word (codes "overwrite") then Some Overwrite
@@ -32,11 +32,11 @@ abbrev pub bounded : ℕ → ℕ → Option ℕ → Option ℕ
 bounded least most None = None
 bounded least most (Some n) = if nat_le least n && nat_le n most then Some n else None
 
-unfoldable pub within : ℕ → ℕ → Word → Option ℕ
+unfoldable pub within : ℕ → ℕ → PlainText → Option ℕ
 within least most word = bounded least most (natural_in word)
 
 -- the number of a trace, which is below 2 ^ 64
-unfoldable pub number_in : Word → Option ℕ
+unfoldable pub number_in : PlainText → Option ℕ
 number_in word = option_and_then fitting (natural_in word)
 
 -- ---- the arguments of the words
@@ -47,20 +47,20 @@ format_with None choice = None
 format_with (Some banks) None = None
 format_with (Some banks) (Some choice) = Some (Format (record { banks = banks; choice = choice }))
 
-abbrev pub format_job : Option (Word × Word) → Option Job
+abbrev pub format_job : Option (PlainText × PlainText) → Option Job
 format_job None = None
 format_job (Some p) = format_with (within FEWEST_BANKS MOST_BANKS p.0) (choice_in p.1)
 
 -- [F]: without it the form is the text
-abbrev pub form_of : Option (Option Word) → Option Form
+abbrev pub form_of : Option (Option PlainText) → Option Form
 form_of None = None
 form_of (Some None) = Some Text
 form_of (Some (Some word)) = form_in word
 
-abbrev pub replay_job : Option (Option Word) → Option Job
+abbrev pub replay_job : Option (Option PlainText) → Option Job
 replay_job form = option_map (λ f. Replay f) (form_of form)
 
-abbrev pub report_job : Option (Option Word) → Option Job
+abbrev pub report_job : Option (Option PlainText) → Option Job
 report_job form = option_map (λ f. Report f) (form_of form)
 
 -- W [F]: there are 1 to 8 workers
@@ -69,7 +69,7 @@ drive_with None form = None
 drive_with (Some workers) None = None
 drive_with (Some workers) (Some form) = Some (Drive workers form)
 
-abbrev pub drive_job : Option (Word × Option Word) → Option Job
+abbrev pub drive_job : Option (PlainText × Option PlainText) → Option Job
 drive_job None = None
 drive_job (Some p) = drive_with (within 1 8 p.0) (form_of (Some p.1))
 
@@ -79,24 +79,24 @@ both None cycles = None
 both (Some number) None = None
 both (Some number) (Some cycles) = Some (number, cycles)
 
-abbrev pub trace_of : Option (Word × Word) → Option (ℕ × ℕ)
+abbrev pub trace_of : Option (PlainText × PlainText) → Option (ℕ × ℕ)
 trace_of None = None
 trace_of (Some p) = both (number_in p.0) (within 1 60 p.1)
 
-abbrev pub generate_job : Option (Word × Word) → Option Job
+abbrev pub generate_job : Option (PlainText × PlainText) → Option Job
 generate_job arguments = option_map (λ t. Generate t.0 t.1) (trace_of arguments)
 
-abbrev pub large_job : Option (Word × Word) → Option Job
+abbrev pub large_job : Option (PlainText × PlainText) → Option Job
 large_job arguments = option_map (λ t. Large t.0 t.1) (trace_of arguments)
 
 -- no argument
-abbrev pub migrate_job : List Word → Option Job
+abbrev pub migrate_job : List PlainText → Option Job
 migrate_job [] = Some Migrate
 migrate_job (argument ∷ more) = None
 
 -- ---- the table of words
 
-abbrev pub job_after : Word → List Word → Option Job
+abbrev pub job_after : PlainText → List PlainText → Option Job
 job_after word arguments =
     if bytes_eq word (codes "format") then format_job (two arguments)
     else if bytes_eq word (codes "replay") then replay_job (at_most_one arguments)
@@ -108,7 +108,7 @@ job_after word arguments =
     else None
 
 -- the job that a list of words names, if it names one; a word that begins with `-` is in no line of the table
-abbrev pub job_of : List Word → Option Job
+abbrev pub job_of : List PlainText → Option Job
 job_of [] = None
 job_of (word ∷ arguments) = if list_all is_plain arguments then job_after word arguments else None
 

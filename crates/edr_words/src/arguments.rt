@@ -4,7 +4,7 @@ ghost use Rattle.std.specs.List.{list_all};
 ghost use Rattle.clap.specs.Faults.{fault_of, is_simple_and_free};
 ghost use Rattle.clap.specs.Matches.{found_of};
 ghost use Rattle.clap.specs.Simple.{app_of};
-ghost use Rattle.edr_words.specs.Arguments.{Takes, at_most_one, bare, first_and_second, is_plain, may_have_one, may_have_two, needs_two, one_or_two, two, words_in, words_of};
+ghost use Rattle.edr_words.specs.Arguments.{TakesWords, at_most_one, bare, first_and_second, is_plain, may_have_one, may_have_two, needs_two, one_or_two, two, words_in, words_of};
 
 use clap::error::ErrorKind;
 use clap::{Arg, ArgMatches, Command};
@@ -63,7 +63,7 @@ fn parsed<'a>(
     arguments: &'a [String],
 ) -> Result<Option<ArgMatches<'a>>, OutOfMemory>
     requires { is_simple_and_free (app_of command) ≡ true }
-    ensures taken { IfOk result (λ r. IfSome r (Takes (app_of command.entry) (words_of arguments.entry.now))) }
+    ensures taken { IfOk result (λ r. IfSome r (TakesWords (app_of command.entry) (words_of arguments.entry.now))) }
     ensures refused { IfOk result (λ r. r ≡ None → fault_of (app_of command.entry) (words_of arguments.entry.now) ≢ []) }
 {
     match command.try_get_matches_from(arguments) {

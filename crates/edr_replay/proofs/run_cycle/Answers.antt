@@ -1,5 +1,5 @@
 use Rattle.std.proofs.Common.{rules, subst}
-use Rattle.edr_replay.specs.declared.phases.Begun.{Begun}
+use Rattle.edr_replay.specs.declared.phases.StartedCycle.{StartedCycle}
 use Rattle.edr_replay.specs.Phases.{BeginsAs}
 use Rattle.edr_replay.proofs.CycleLemmas.{stopped_ends, begun_ran, not_short, not_spent, not_refused, rose_later}
 use Rattle.edr_replay.proofs.Leaving.{part_of_start, part_of_run, not_memory}
@@ -11,7 +11,7 @@ returns-in-Stopped-clause-ran g c = λ v n holds.
     let D = g.N.Nvm in
     let old = c.args.nvm.now in
     let new = c.start_until.new.nvm in
-    let begun = subst (λ (b : Begun). BeginsAs b c.args.cycle.now.start_stop c.horizon.result (D.extent old) (D.content old) (D.settled old) (D.content new) (D.settled new)) c.in-Stopped.is c.in_ok-start_until.ensures.begun in
+    let begun = subst (λ (b : StartedCycle). BeginsAs b c.args.cycle.now.start_stop c.horizon.result (D.extent old) (D.content old) (D.settled old) (D.content new) (D.settled new)) c.in-Stopped.is c.in_ok-start_until.ensures.begun in
     stopped_ends c.args.cycle.now v n (D.content new) (D.settled new) begun.0 c.requires.start_stop (begun.1 v n holds).0 (begun.1 v n holds).1
 
 pub returns-in-Started-clause-ran : goal.returns-in-Started-clause-ran
@@ -20,7 +20,7 @@ returns-in-Started-clause-ran g c =
     let old = c.args.nvm.now in
     let mid = c.start_until.new.nvm in
     let new = c.run_until.new.nvm in
-    let begun = subst (λ (b : Begun). BeginsAs b c.args.cycle.now.start_stop c.horizon.result (D.extent old) (D.content old) (D.settled old) (D.content mid) (D.settled mid)) c.in-Started.is c.in_ok-start_until.ensures.begun in
+    let begun = subst (λ (b : StartedCycle). BeginsAs b c.args.cycle.now.start_stop c.horizon.result (D.extent old) (D.content old) (D.settled old) (D.content mid) (D.settled mid)) c.in-Started.is c.in_ok-start_until.ensures.begun in
     begun_ran c.args.cycle.now c.in-Started.started.number c.in-Started.started.banks.store (D.content old) (D.settled old) (D.content mid) (D.settled mid) (D.content new) (D.settled new) c.run_until.result begun.0 begun.3 c.run_until.ensures.ran
 
 pub returns-in-Started-clause-spent : goal.returns-in-Started-clause-spent
@@ -50,7 +50,7 @@ returns-in-Started-clause-left g c =
     let old = c.args.nvm.now in
     let mid = c.start_until.new.nvm in
     let new = c.run_until.new.nvm in
-    let begun = subst (λ (b : Begun). BeginsAs b c.args.cycle.now.start_stop c.horizon.result (D.extent old) (D.content old) (D.settled old) (D.content mid) (D.settled mid)) c.in-Started.is c.in_ok-start_until.ensures.begun in
+    let begun = subst (λ (b : StartedCycle). BeginsAs b c.args.cycle.now.start_stop c.horizon.result (D.extent old) (D.content old) (D.settled old) (D.content mid) (D.settled mid)) c.in-Started.is c.in_ok-start_until.ensures.begun in
     part_of_run c.args.cycle.now c.in-Started.started.number c.in-Started.started.banks.store (D.content old) (D.settled old) (D.content mid) (D.settled mid) (D.content new) (D.settled new) c.run_until.result begun.0 begun.3 c.run_until.ensures.left
 
 pub returns-in-Started-clause-memory : goal.returns-in-Started-clause-memory
@@ -64,7 +64,7 @@ returns-in-Started-clause-past g c =
     let old = c.args.nvm.now in
     let mid = c.start_until.new.nvm in
     let new = c.run_until.new.nvm in
-    let begun = subst (λ (b : Begun). BeginsAs b c.args.cycle.now.start_stop c.horizon.result (D.extent old) (D.content old) (D.settled old) (D.content mid) (D.settled mid)) c.in-Started.is c.in_ok-start_until.ensures.begun in
+    let begun = subst (λ (b : StartedCycle). BeginsAs b c.args.cycle.now.start_stop c.horizon.result (D.extent old) (D.content old) (D.settled old) (D.content mid) (D.settled mid)) c.in-Started.is c.in_ok-start_until.ensures.begun in
     begun_past c.in-Started.started.number c.in-Started.started.banks.store (D.content old) (D.content mid) (D.content new) (D.settled old) (D.settled mid) (D.settled new) c.start_until.ensures.past begun.3 c.run_until.ensures.past
 
 pub returns-in-Started-clause-short : goal.returns-in-Started-clause-short

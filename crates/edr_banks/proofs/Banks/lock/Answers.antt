@@ -7,14 +7,14 @@ use Rattle.edr_image.specs.declared.BankView.TheVariants.{Void}
 use Rattle.edr_image.specs.Banks.{bank_at}
 use Rattle.edr_image.specs.Steps.{with_lock}
 use Rattle.edr_banks.specs.Fields.{opened_of}
-use Rattle.edr_banks.specs.Opened.{IsOpened, Opened}
+use Rattle.edr_banks.specs.Opened.{IsOpened, OpenedBanks}
 use Rattle.edr_banks.proofs.TaskLemmas.{lock_still}
 use Rattle.edr_banks.proofs.Banks.lock.Goals as goal
 
 pub invariant_of-self : goal.invariant_of-self
 invariant_of-self c =
     let o = opened_of c.self.inside in
-    let number : c.self.inside.header.banks ≡ c.args.self.now.store.header.banks = ap (λ (o : Opened). o.store.header.banks) c.self.view_is in
+    let number : c.self.inside.header.banks ≡ c.args.self.now.store.header.banks = ap (λ (o : OpenedBanks). o.store.header.banks) c.self.view_is in
     let below : c.args.bank - 1 < length c.self.inside.banks.items = omega (arith, number, c.requires.from, c.requires.to, c.self.invariant.all) in
     let there = get_or_read c.self.inside.banks.items (c.args.bank - 1) c.index.result.now below c.index.ensures Void in
     let is : c.with_lock.result ≡ with_lock (bank_at c.self.inside.banks.items c.args.bank) = c.with_lock.ensures ∙ ap with_lock there in

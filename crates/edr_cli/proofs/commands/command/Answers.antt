@@ -1,12 +1,12 @@
 use Rattle.std.proofs.Common.{◌≡◌, rules, inl, inr, refl, ℕ}
 use Rattle.edr_gen.specs.Traces.{generated_trace}
 use Rattle.edr_image.specs.declared.Header.{Header}
-use Rattle.edr_large.specs.Large.{IsTold}
+use Rattle.edr_large.specs.Large.{AreLinesOf}
 use Rattle.edr_words.specs.declared.Form.{Form}
 use Rattle.edr_cli.specs.declared.fault.Fault.TheVariants as fault
 use Rattle.edr_cli.specs.Causes.{IsNumberCause, IsReplayCause, IsUsageCause}
-use Rattle.edr_cli.specs.Outcomes.{Formats, Makes, Runs, Shows}
-use Rattle.edr_cli.specs.Words.{AreFormat, AreGenerate, AreLarge, AreReplay, AreReport}
+use Rattle.edr_cli.specs.Outcomes.{Formats, MakesText, Runs, ShowsReport}
+use Rattle.edr_cli.specs.Words.{AreFormatWords, AreGenerateWords, AreLargeWords, AreReplayWords, AreReportWords}
 use Rattle.edr_cli.proofs.Dispatch.{as_format, as_generate, as_large, as_replay, as_report}
 use Rattle.edr_cli.proofs.EndingLemmas.{ends_text, served_text, tells_fault, tells_fault_part}
 use Rattle.edr_cli.proofs.OutcomeLemmas.{formats_short, makes_short, migrates_short, runs_short, shows_short}
@@ -36,45 +36,45 @@ pub returns-in-Err-clause-generate : goal.returns-in-Err-clause-generate
 returns-in-Err-clause-generate g c = λ number cycles asked. makes_short g.K.Sink (λ text. text ≡ generated_trace number cycles) c.tell.result c.args.sink.now c.tell.new.sink c.tell.ensures.gains
 
 pub returns-in-Err-clause-large : goal.returns-in-Err-clause-large
-returns-in-Err-clause-large g c = λ number cycles asked. makes_short g.K.Sink (IsTold number cycles) c.tell.result c.args.sink.now c.tell.new.sink c.tell.ensures.gains
+returns-in-Err-clause-large g c = λ number cycles asked. makes_short g.K.Sink (AreLinesOf number cycles) c.tell.result c.args.sink.now c.tell.new.sink c.tell.ensures.gains
 
 -- ---- each word
 
 pub returns-in-Some-Replay-clause-replay : goal.returns-in-Some-Replay-clause-replay
 returns-in-Some-Replay-clause-replay g c = λ form asked.
     let f = c.in-Some-Replay.form in
-    let is : AreReplay f c.args.words.now = search rules in
+    let is : AreReplayWords f c.args.words.now = search rules in
     as_replay (λ (x : Form). Runs g.S.Source g.K.Sink g.N.Nvm IsReplayCause x c.serve_replay.result c.args.source.now c.serve_replay.new.source c.args.sink.now c.serve_replay.new.sink c.args.nvm.now c.serve_replay.new.nvm) c.args.words.now f form is c.serve_replay.ensures.runs asked
 
 pub returns-in-Some-Report-clause-report : goal.returns-in-Some-Report-clause-report
 returns-in-Some-Report-clause-report g c = λ form asked.
     let f = c.in-Some-Report.form in
-    let is : AreReport f c.args.words.now = search rules in
-    as_report (λ (x : Form). Shows g.K.Sink g.N.Nvm x c.serve_report.result c.args.sink.now c.serve_report.new.sink c.args.nvm.now c.serve_report.new.nvm) c.args.words.now f form is c.serve_report.ensures.shows asked
+    let is : AreReportWords f c.args.words.now = search rules in
+    as_report (λ (x : Form). ShowsReport g.K.Sink g.N.Nvm x c.serve_report.result c.args.sink.now c.serve_report.new.sink c.args.nvm.now c.serve_report.new.nvm) c.args.words.now f form is c.serve_report.ensures.shows asked
 
 pub returns-in-Some-Format-clause-format : goal.returns-in-Some-Format-clause-format
 returns-in-Some-Format-clause-format g c = λ h asked.
     let f = c.in-Some-Format.header in
-    let is : AreFormat f c.args.words.now = search rules in
+    let is : AreFormatWords f c.args.words.now = search rules in
     as_format (λ (x : Header). Formats g.K.Sink g.N.Nvm x c.serve_format.result c.args.sink.now c.serve_format.new.sink c.args.nvm.now c.serve_format.new.nvm) c.args.words.now f h is c.serve_format.ensures.formats asked
 
 pub returns-in-Some-Generate-clause-generate : goal.returns-in-Some-Generate-clause-generate
 returns-in-Some-Generate-clause-generate g c = λ number cycles asked.
     let n = c.in-Some-Generate.number in
     let k = c.in-Some-Generate.cycles in
-    let is : AreGenerate n k c.args.words.now = search rules in
-    let made : Makes g.K.Sink (λ text. text ≡ generated_trace n k) c.serve_generate.result c.args.sink.now c.serve_generate.new.sink = record {
+    let is : AreGenerateWords n k c.args.words.now = search rules in
+    let made : MakesText g.K.Sink (λ text. text ≡ generated_trace n k) c.serve_generate.result c.args.sink.now c.serve_generate.new.sink = record {
       ends = ends_text g.K.Sink (λ text. text ≡ generated_trace n k) IsNumberCause (generated_trace n k) c.serve_generate.result c.args.sink.now c.serve_generate.new.sink refl c.serve_generate.ensures.gains;
       complete = λ quiet. served_text g.K.Sink (generated_trace n k) c.serve_generate.result c.args.sink.now c.serve_generate.new.sink c.serve_generate.ensures.gains quiet;
     } in
-    as_generate (λ (x y : ℕ). Makes g.K.Sink (λ text. text ≡ generated_trace x y) c.serve_generate.result c.args.sink.now c.serve_generate.new.sink) c.args.words.now n number k cycles is made asked
+    as_generate (λ (x y : ℕ). MakesText g.K.Sink (λ text. text ≡ generated_trace x y) c.serve_generate.result c.args.sink.now c.serve_generate.new.sink) c.args.words.now n number k cycles is made asked
 
 pub returns-in-Some-Large-clause-large : goal.returns-in-Some-Large-clause-large
 returns-in-Some-Large-clause-large g c = λ number cycles asked.
     let n = c.in-Some-Large.number in
     let k = c.in-Some-Large.cycles in
-    let is : AreLarge n k c.args.words.now = search rules in
-    as_large (λ (x y : ℕ). Makes g.K.Sink (IsTold x y) c.serve_large.result c.args.sink.now c.serve_large.new.sink) c.args.words.now n number k cycles is c.serve_large.ensures.makes asked
+    let is : AreLargeWords n k c.args.words.now = search rules in
+    as_large (λ (x y : ℕ). MakesText g.K.Sink (AreLinesOf x y) c.serve_large.result c.args.sink.now c.serve_large.new.sink) c.args.words.now n number k cycles is c.serve_large.ensures.makes asked
 
 -- ---- other words
 

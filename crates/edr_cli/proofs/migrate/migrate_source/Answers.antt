@@ -4,7 +4,7 @@ use Rattle.edr_spell.specs.Spell.{largest_trace}
 use Rattle.edr_cli.specs.Causes.{IsMigrateCause, IsTakingCause}
 use Rattle.edr_cli.specs.Migrations.{IsPartlyTaken, MigrateIs, TookOver}
 use Rattle.edr_cli.specs.Outside.{input, memory}
-use Rattle.edr_cli.specs.Steps.{IsTaken}
+use Rattle.edr_cli.specs.Steps.{IsTakenOver}
 use Rattle.edr_cli.proofs.ImageLemmas.{err_map, if_each, ok_map}
 use Rattle.edr_cli.proofs.MigrationLemmas.{gave_all, migrate_cause, of_given}
 use Rattle.edr_cli.proofs.TakingLemmas.{all_most}
@@ -25,9 +25,9 @@ returns-clause-text g c =
     let new = memory D c.take_over.new.nvm in
     let taken = c.in_ok-old.old.items in
     let gave = gave_all taken (left c.args.source.now) (left c.take_all.new.source) c.in_ok-old.ensures.all in
-    ok_map c.take_over.result (λ line. IsTaken c.deref.result.now old new line) (λ line. MigrateIs (input g.S.Source c.args.source.now) old new line)
+    ok_map c.take_over.result (λ line. IsTakenOver c.deref.result.now old new line) (λ line. MigrateIs (input g.S.Source c.args.source.now) old new line)
     (λ line is. of_given (λ (image : List ℕ). IfSome old.content (λ bytes. TookOver image bytes new line)) (left c.args.source.now) taken gave.0
-    (subst (λ (image : List ℕ). IsTaken image old new line) c.deref.ensures.value is)) c.take_over.ensures.taken
+    (subst (λ (image : List ℕ). IsTakenOver image old new line) c.deref.ensures.value is)) c.take_over.ensures.taken
 
 pub returns-clause-cause : goal.returns-clause-cause
 returns-clause-cause g c =

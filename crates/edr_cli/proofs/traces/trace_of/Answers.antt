@@ -4,7 +4,7 @@ use Rattle.std.proofs.lemmas.List.Elements.{All-from_recursion}
 use Rattle.edr_device.specs.Told.{Told}
 use Rattle.edr_device.specs.Transfer.{GivesAll}
 use Rattle.edr_spell.specs.declared.CycleInput.{CycleInput}
-use Rattle.edr_spell.specs.Spell.{Spell, IsCycle, largest_trace}
+use Rattle.edr_spell.specs.Spell.{Spell, IsCycleInput, largest_trace}
 use Rattle.edr_spell.proofs.CycleLemmas.{spelled-cycles}
 use Rattle.edr_cli.specs.Runs.{IsTraceOf}
 use Rattle.edr_cli.proofs.traces.trace_of.Goals as goal
@@ -28,4 +28,4 @@ pub returns-clause-cycles : goal.returns-clause-cycles
 returns-clause-cycles g c =
     let all = c.in_ok-reading.ensures.all in
     let cycles = c.in_ok-finish.field-0.items in
-    All-from_recursion IsCycle cycles (spelled-cycles (all.0 ++ c.deref.result.now) cycles (c.in_ok-finish.ensures.spelled all.0 all.1))
+    All-from_recursion IsCycleInput cycles (spelled-cycles (all.0 ++ c.deref.result.now) cycles (c.in_ok-finish.ensures.spelled all.0 all.1))

@@ -2,7 +2,7 @@ use Rattle.std.proofs.Common.{◌≡◌, ◌∷◌, ◌++◌, ◌-◌, [], ap}
 use Rattle.edr_device.proofs.Lending.{makes_err, makes_ok}
 use Rattle.edr_image.specs.Calls.{all_calls}
 use Rattle.edr_image.specs.Steps.{reply_to}
-use Rattle.edr_banks.specs.Opened.{Opened, state_of}
+use Rattle.edr_banks.specs.Opened.{OpenedBanks, state_of}
 use Rattle.edr_definitions.specs.Commands.{issue_at}
 use Rattle.edr_cycle.proofs.Applied.{pass_keeps, pass_says, stopped_cuts, taken_says}
 use Rattle.edr_cycle.proofs.Committed.{one_applied, one_failed}
@@ -22,7 +22,7 @@ returns-in-Ok-clause-commits g c =
     let e : c.kind_of.result ≡ _ = c.kind_of.ensures in
     let f : c.in-Ok.applied ≡ r.answer = a.answer.1 in
     one_applied N.content N.settled N.since N.clock N.last_good tt i b c.apply.new.self l c.push.new.self d d'
-    (rw (e, f) at ack) (ap state_of a.next) (ap (λ (o : Opened). o.count) a.next) (ap (λ (o : Opened). o.ended) a.next)
+    (rw (e, f) at ack) (ap state_of a.next) (ap (λ (o : OpenedBanks). o.count) a.next) (ap (λ (o : OpenedBanks). o.ended) a.next)
     (makes_ok (all_calls r.steps) _ _ _ _ c.in-Ok.applied tt (a.time c.requires.live))
     (taken_says N.content N.settled N.since N.clock N.last_good r.steps b.store a.may d d' a.taken)
     (pass_says N.content N.settled N.since N.clock N.last_good r.steps b.store a.may d d' a.any_moment)

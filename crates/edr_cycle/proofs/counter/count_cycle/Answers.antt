@@ -2,7 +2,7 @@ use Rattle.std.proofs.Common.{arith, ap, sym, subst, ◌≡◌, ◌-◌, ◌∙�
 use Rattle.edr_cycle.proofs.Answered.{map_err, map_ok}
 use Rattle.edr_cycle.proofs.FirstBytes.{found_stays, next_found, slot_within, stays_elapse}
 use Rattle.edr_image.specs.Image.{place_of_slot}
-use Rattle.edr_cycle.specs.Counter.{IsCounted}
+use Rattle.edr_cycle.specs.Counter.{IsCountAfterStop}
 use Rattle.edr_cycle.proofs.counter.count_cycle.Goals as goal
 
 pub place_of_slot-slot-requires : goal.place_of_slot-slot-requires
@@ -34,7 +34,7 @@ returns-clause-stopped g c =
     let place = c.place_of_slot-slot.ensures ∙ ap place_of_slot c.older_slot.ensures in
     map_err c.count_up.result c.count_up.ensures.stopped (λ stopped bytes image v found more left.
     let still = found_stays v (N.content d) (N.content e) (N.settled d) (N.settled e) (N.since d) (N.since e) bytes c.read.ensures.stays found in
-    subst (λ (t : ℕ). IsCounted (N.clock c.count_up.new.nvm - t) c.args.number bytes v image) c.read.ensures.clock
+    subst (λ (t : ℕ). IsCountAfterStop (N.clock c.count_up.new.nvm - t) c.args.number bytes v image) c.read.ensures.clock
     (stopped bytes image v still (next_found c.read.new.into c.place_of_slot-slot.result c.args.number _ v (N.content d) (N.settled d) bytes size c.in_ok-read.ensures.bytes place (sym c.is_open-opened.ensures) found more) left))
 
 pub returns-clause-any_moment : goal.returns-clause-any_moment
@@ -45,5 +45,5 @@ returns-clause-any_moment g c = λ bytes v found more.
     let size : length c.read.new.into ≡ 96 = omega arith in
     let place = c.place_of_slot-slot.ensures ∙ ap place_of_slot c.older_slot.ensures in
     let still = found_stays v (N.content d) (N.content e) (N.settled d) (N.settled e) (N.since d) (N.since e) bytes c.read.ensures.stays found in
-    stays_elapse (N.content d) (N.content e) (N.settled d) (N.settled e) (N.since d) (N.since e) (N.since c.count_up.new.nvm) (N.clock d) (N.clock e) (IsCounted 6 c.args.number bytes v) c.read.ensures.stays c.read.ensures.clock
+    stays_elapse (N.content d) (N.content e) (N.settled d) (N.settled e) (N.since d) (N.since e) (N.since c.count_up.new.nvm) (N.clock d) (N.clock e) (IsCountAfterStop 6 c.args.number bytes v) c.read.ensures.stays c.read.ensures.clock
     (c.count_up.ensures.any_moment bytes v still (next_found c.read.new.into c.place_of_slot-slot.result c.args.number _ v (N.content d) (N.settled d) bytes size c.in_ok-read.ensures.bytes place (sym c.is_open-opened.ensures) found more))

@@ -3,7 +3,7 @@ use Rattle.edr_device.specs.Device.{MayLeave}
 use Rattle.edr_device.specs.Pieces.{IsGatedStop, SameBut, put_at}
 use Rattle.edr_device.proofs.Settling.{elapses_again, elapses_more, on_err}
 use Rattle.edr_image.specs.Image.{View}
-use Rattle.edr_cycle.specs.Counter.{IsCounted, IsNext}
+use Rattle.edr_cycle.specs.Counter.{IsCountAfterStop, IsNextSlot}
 use Rattle.edr_cycle.specs.Ends.{IsFound}
 use Rattle.edr_cycle.proofs.Slots.{close_at, open_after, open_made}
 use Rattle.edr_cycle.proofs.Front.{fits_next, says_counted, says_later, says_made}
@@ -15,8 +15,8 @@ returns-in_err-write_settled-clause-stopped g c =
     let D = g.N.Nvm in
     let nvm = c.args.nvm.now in
     let mid = c.write_settled.new.nvm in
-    let f : (bytes image : List ℕ) (v : View) → IsFound v (D.content nvm) (D.settled nvm) bytes → IsNext c.args.slot c.args.is_open c.args.next bytes v → MayLeave (D.content mid) (D.settled mid) image
-    → IsCounted (D.clock mid - D.clock nvm) c.args.next bytes v image =
+    let f : (bytes image : List ℕ) (v : View) → IsFound v (D.content nvm) (D.settled nvm) bytes → IsNextSlot c.args.slot c.args.is_open c.args.next bytes v → MayLeave (D.content mid) (D.settled mid) image
+    → IsCountAfterStop (D.clock mid - D.clock nvm) c.args.next bytes v image =
     λ bytes image v found h left.
     let fits = fits_next c.args.slot c.args.is_open c.args.next bytes v h in
     says_counted c.args.slot c.args.is_open (D.clock mid - D.clock nvm) c.args.next bytes image v h fits
@@ -30,7 +30,7 @@ returns-in_err-write_settled-clause-any_moment g c = λ bytes v found h.
     let nvm = c.args.nvm.now in
     let mid = c.write_settled.new.nvm in
     let fits = fits_next c.args.slot c.args.is_open c.args.next bytes v h in
-    elapses_more (D.clock nvm) (D.since nvm) (D.since mid) (SameBut c.closing_write-closing.result.at 1 bytes) (IsCounted 6 c.args.next bytes v) (c.write_settled.ensures.any_moment bytes found.quiet)
+    elapses_more (D.clock nvm) (D.since nvm) (D.since mid) (SameBut c.closing_write-closing.result.at 1 bytes) (IsCountAfterStop 6 c.args.next bytes v) (c.write_settled.ensures.any_moment bytes found.quiet)
     (λ image s. says_counted c.args.slot c.args.is_open 6 c.args.next bytes image v h fits
     (close_at c.args.slot fits.other c.args.is_open c.args.next 6 c.closing_write-closing.result.at bytes image (subst (λ (n : ℕ). c.args.slot + 32 ≤ n) (sym (g.met.N.Nvm.told_size nvm bytes found.quiet.0)) c.requires) fits.older c.closing_write-closing.ensures.at s))
 
@@ -61,7 +61,7 @@ returns-clause-any_moment g c = λ bytes v found h.
     let fits = fits_next c.args.slot c.args.is_open c.args.next bytes v h in
     let long = subst (λ (n : ℕ). c.args.slot + 32 ≤ n) (sym (g.met.N.Nvm.told_size nvm bytes found.quiet.0)) c.requires in
     elapses_again (D.clock nvm) (D.clock mid) (D.since nvm) (D.since mid) (D.since c.write_gated.new.nvm) (SameBut c.closing_write-closing.result.at 1 bytes)
-    (IsGatedStop 3 (c.args.slot + 4) c.count_writes-count.result.piece c.args.slot (put_at c.closing_write-closing.result.at (0 ∷ []) bytes)) (IsCounted 6 c.args.next bytes v)
+    (IsGatedStop 3 (c.args.slot + 4) c.count_writes-count.result.piece c.args.slot (put_at c.closing_write-closing.result.at (0 ∷ []) bytes)) (IsCountAfterStop 6 c.args.next bytes v)
     (c.write_settled.ensures.any_moment bytes found.quiet) (gated (put_at c.closing_write-closing.result.at (0 ∷ []) bytes) (closed bytes found.quiet)) c.write_settled.ensures.time.later
     (λ image s. says_counted c.args.slot c.args.is_open 6 c.args.next bytes image v h fits (close_at c.args.slot fits.other c.args.is_open c.args.next 6 c.closing_write-closing.result.at bytes image long fits.older c.closing_write-closing.ensures.at s))
     (λ image s. says_later c.args.slot c.args.is_open c.args.next bytes image v h fits

@@ -1,7 +1,7 @@
 use Rattle.std.proofs.Common.{arith, sym, subst}
 use Rattle.edr_loops.specs.declared.fast_inlets.FastInlets.{FastInlets}
 use Rattle.edr_loops.specs.declared.orders.Outbox.{Outbox}
-use Rattle.edr_loops.specs.Orders.{AreOfOneRing}
+use Rattle.edr_loops.specs.Orders.{AreEndsOfOrders}
 use Rattle.edr_loops.specs.Lanes.{AreFastLanes, ArePartLanes, PartInlets}
 use Rattle.edr_drive.proofs.beginning.seat_desk.Goals as goal
 
@@ -22,7 +22,7 @@ returns c = λ n fresh.
       lanes = subst (λ (i : FastInlets). AreFastLanes c.args.rings.places.fast i) (sym desk.rings.0) rings.lanes;
       part_lanes = subst (λ (i : PartInlets). ArePartLanes c.args.rings.places.slow i) (sym desk.rings.1) rings.part_lanes;
       begun = rings.begun;
-      pair = subst (λ (o : Outbox). AreOfOneRing o c.args.orders.inbox) (sym desk.rings.2) fresh.pair;
+      pair = subst (λ (o : Outbox). AreEndsOfOrders o c.args.orders.inbox) (sym desk.rings.2) fresh.pair;
       fresh = fresh.taken;
       captures = fresh.captures_are;
     }

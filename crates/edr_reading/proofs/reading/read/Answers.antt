@@ -6,7 +6,7 @@ use Rattle.csv.specs.declared.parser.State.TheVariants as st
 use Rattle.edr_spell.proofs.CsvLemmas.{same_records}
 use Rattle.edr_reading.specs.Reading.{report_rows}
 use Rattle.edr_reading.specs.Rows.{fields}
-use Rattle.edr_reading.specs.Run.{RecordsOf}
+use Rattle.edr_spell.specs.Spell.{RecordsOf}
 use Rattle.edr_reading.proofs.FaultLemmas.{fault-is-none}
 use Rattle.edr_reading.proofs.LaterLemmas.{head-first}
 use Rattle.edr_reading.proofs.reading.read.Goals as goal

@@ -1,7 +1,7 @@
 use Rattle.std.proofs.Common.{arith, ◌∙◌, sym, ap, subst, ◌+◌, ◌++◌, [], ◌∷◌, List, map, drop, length-append}
 use Rattle.std.proofs.lemmas.List.{map-append}
 use Rattle.edr_image.specs.Reports.{report_of}
-use Rattle.edr_reading.specs.declared.rows.Row.{Row}
+use Rattle.edr_reading.specs.declared.rows.ReportRow.{ReportRow}
 use Rattle.edr_reading.specs.Rows.{fields}
 use Rattle.edr_reading.specs.Run.{ack_fields, acks_of, IsReport}
 use Rattle.edr_reading.specs.Told.{IsCycleRow}
@@ -29,7 +29,7 @@ loop-first-preserved c =
       count = let n = length-append rs (r ∷ []) in omega (arith, n, inv.count);
       bounds = all-more IsReport rs r inv.bounds (subst IsCycleRow (sym told.first) read.0, told.bounds);
       read = run-more rs r (map fields rows) (map fields (drop at.at rows)) (map fields c.in-Some.behind.now) (map fields (drop (at.at + (1 + taken)) rows)) at.place c.in-Some.first inv.count inv.read this told.first
-          (told.read ∙ ap (λ (x : List Row). map (ack_fields at.place) (acks_of r) ++ map fields x) on);
+          (told.read ∙ ap (λ (x : List ReportRow). map (ack_fields at.place) (acks_of r) ++ map fields x) on);
       whole = run-step (map fields rows) (map fields (drop at.at rows)) (map fields c.in-Some.behind.now) (map fields (drop (at.at + (1 + taken)) rows)) at.place c.in-Some.first (omega (arith, inv.room, inv.within, c.requires)) this
           (λ d more h e. c.in-Some.ensures.whole d more h (ap (map fields) back ∙ e)) (λ q more f a o e. ap (map fields) (sym on) ∙ told.whole q more f a o e) inv.whole;
     })

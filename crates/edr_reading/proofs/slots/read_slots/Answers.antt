@@ -14,27 +14,27 @@ loop-i-init g c = record {
 pub returns-in-None-clause-whole : goal.returns-in-None-clause-whole
 returns-in-None-clause-whole g c xs long ok is =
     let at = c.loop-i in
-    let words = g.S.Slot.words in
+    let words = g.S.SlotRead.words in
     let h : at.i < length xs = omega (arith, long, c.loop-i-test.true) in
     let d = some-in xs at.i h in
     let w = at.invariant.whole xs long ok is in
-    absurd (c.in-None.ensures.whole (get_or xs at.i d) (spaced_behind (at.i + 1) (map words (drop (at.i + 1) xs))) (All-get_or g.S.Slot.is_slot xs at.i d h ok) (ends-more at.i _)
+    absurd (c.in-None.ensures.whole (get_or xs at.i d) (spaced_behind (at.i + 1) (map words (drop (at.i + 1) xs))) (All-get_or g.S.SlotRead.is_slot xs at.i d h ok) (ends-more at.i _)
     (left-one words xs at.rest.now c.space_at.result.now at.i d h w.1 c.space_at.ensures))
 
 pub loop-i-preserved : goal.loop-i-preserved
 loop-i-preserved g c =
     let at = c.loop-i in
-    let words = g.S.Slot.words in
+    let words = g.S.SlotRead.words in
     let inside : at.i < length at.slots = omega (arith, at.auto.slots, c.loop-i-test.true) in
     let read = c.in-Some.ensures.read in
     record {
       read = taken-more words c.args.bytes.now at.rest.now c.in-Some.next.1.now c.space_at.result.now at.slots at.i c.in-Some.next.0 inside at.invariant.read c.space_at.ensures read.0;
-      slots = are-more g.S.Slot.is_slot at.slots at.i c.in-Some.next.0 inside at.invariant.slots read.1;
+      slots = are-more g.S.SlotRead.is_slot at.slots at.i c.in-Some.next.0 inside at.invariant.slots read.1;
       whole = λ xs long ok is.
           let h : at.i < length xs = omega (arith, long, c.loop-i-test.true) in
           let d = c.in-Some.next.0 in
           let w = at.invariant.whole xs long ok is in
-          let n = c.in-Some.ensures.whole (get_or xs at.i d) (spaced_behind (at.i + 1) (map words (drop (at.i + 1) xs))) (All-get_or g.S.Slot.is_slot xs at.i d h ok) (ends-more at.i _)
+          let n = c.in-Some.ensures.whole (get_or xs at.i d) (spaced_behind (at.i + 1) (map words (drop (at.i + 1) xs))) (All-get_or g.S.SlotRead.is_slot xs at.i d h ok) (ends-more at.i _)
           (left-one words xs at.rest.now c.space_at.result.now at.i d h w.1 c.space_at.ensures) in
           (same-more at.slots xs at.i c.in-Some.next.0 d inside h w.0 n.0, n.1);
     }
@@ -43,12 +43,12 @@ pub returns-clause-read : goal.returns-clause-read
 returns-clause-read g c e =
     let at = c.loop-i in
     let all : at.i ≡ length at.slots = omega (arith, at.auto.slots, at.auto.i-end, c.loop-i-test.false) in
-    read-all g.S.Slot.words g.S.Slot.is_slot c.args.bytes.now at.rest.now at.slots at.i all (none-left at.rest.now (sym c.is_empty.ensures ∙ e)) at.invariant.read at.invariant.slots
+    read-all g.S.SlotRead.words g.S.SlotRead.is_slot c.args.bytes.now at.rest.now at.slots at.i all (none-left at.rest.now (sym c.is_empty.ensures ∙ e)) at.invariant.read at.invariant.slots
 
 pub returns-clause-whole : goal.returns-clause-whole
 returns-clause-whole g c xs long ok is =
     let at = c.loop-i in
     let w = at.invariant.whole xs long ok is in
     let all : at.i ≡ length at.slots = omega (arith, at.auto.slots, at.auto.i-end, c.loop-i-test.false) in
-    let done = whole-all g.S.Slot.words at.rest.now at.slots xs at.i all (omega (arith, long, at.auto.slots)) w.0 w.1 in
+    let done = whole-all g.S.SlotRead.words at.rest.now at.slots xs at.i all (omega (arith, long, at.auto.slots)) w.0 w.1 in
     (c.is_empty.ensures ∙ ap (λ (a : List ℕ). nat_eq (length a) 0) done.1, done.0)

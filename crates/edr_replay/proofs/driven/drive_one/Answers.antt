@@ -2,7 +2,7 @@ use Rattle.std.proofs.Common.{rules, subst}
 use Rattle.std.specs.Prelude.{IfErr, IfOk}
 use Rattle.edr_items.specs.SensorLists.{SensorLists}
 use Rattle.edr_cycle.specs.declared.started.StartFault.TheVariants as fault
-use Rattle.edr_replay.specs.declared.phases.Begun.{Begun}
+use Rattle.edr_replay.specs.declared.phases.StartedCycle.{StartedCycle}
 use Rattle.edr_replay.specs.Phases.{BeginsAs, LeavesOfRun, RunsFrom}
 use Rattle.edr_replay.proofs.CycleLemmas.{begun_ran, memory_refused, memory_short, memory_unspent, stopped_ends}
 use Rattle.edr_replay.proofs.DrivenLemmas.{alone_left, driven_memory, driven_refused, driven_rose, driven_short, driven_spent, left_none, part_none}
@@ -42,7 +42,7 @@ returns-in-Stopped-clause-ran g c = λ v n holds.
     let D = g.N.Nvm in
     let old = c.args.nvm.now in
     let new = c.start_until.new.nvm in
-    let begun = subst (λ (b : Begun). BeginsAs b c.args.cycle.start_stop c.horizon-ticks.result (D.extent old) (D.content old) (D.settled old) (D.content new) (D.settled new)) c.in-Stopped.is c.in_ok-start_until.ensures.begun in
+    let begun = subst (λ (b : StartedCycle). BeginsAs b c.args.cycle.start_stop c.horizon-ticks.result (D.extent old) (D.content old) (D.settled old) (D.content new) (D.settled new)) c.in-Stopped.is c.in_ok-start_until.ensures.begun in
     stopped_ends c.args.cycle v n (D.content new) (D.settled new) begun.0 c.requires.cycle.start_stop (begun.1 v n holds).0 (begun.1 v n holds).1
 
 pub returns-clause-ran : goal.returns-clause-ran
@@ -53,7 +53,7 @@ returns-clause-ran g c =
     let new = c.drive_until.new.nvm in
     let number = c.in-Started.started.number in
     let store = c.in-Started.started.banks.store in
-    let begun = subst (λ (b : Begun). BeginsAs b c.args.cycle.start_stop c.horizon-ticks.result (D.extent old) (D.content old) (D.settled old) (D.content mid) (D.settled mid)) c.in-Started.is c.in_ok-start_until.ensures.begun in
+    let begun = subst (λ (b : StartedCycle). BeginsAs b c.args.cycle.start_stop c.horizon-ticks.result (D.extent old) (D.content old) (D.settled old) (D.content mid) (D.settled mid)) c.in-Started.is c.in_ok-start_until.ensures.begun in
     begun_ran c.args.cycle number store (D.content old) (D.settled old) (D.content mid) (D.settled mid) (D.content new) (D.settled new) c.drive_until.result begun.0 begun.3
     (subst (λ (f : SensorLists). IfOk c.drive_until.result (RunsFrom f c.args.cycle.stop number store (D.content mid) (D.settled mid) (D.content new) (D.settled new))) c.in-Ok.ensures.ok c.drive_until.ensures.ran)
 
@@ -85,7 +85,7 @@ returns-clause-left g c =
     let new = c.drive_until.new.nvm in
     let number = c.in-Started.started.number in
     let store = c.in-Started.started.banks.store in
-    let begun = subst (λ (b : Begun). BeginsAs b c.args.cycle.start_stop c.horizon-ticks.result (D.extent old) (D.content old) (D.settled old) (D.content mid) (D.settled mid)) c.in-Started.is c.in_ok-start_until.ensures.begun in
+    let begun = subst (λ (b : StartedCycle). BeginsAs b c.args.cycle.start_stop c.horizon-ticks.result (D.extent old) (D.content old) (D.settled old) (D.content mid) (D.settled mid)) c.in-Started.is c.in_ok-start_until.ensures.begun in
     part_of_run c.args.cycle number store (D.content old) (D.settled old) (D.content mid) (D.settled mid) (D.content new) (D.settled new) c.drive_until.result begun.0 begun.3
     (subst (λ (f : SensorLists). IfErr c.drive_until.result (λ _. LeavesOfRun f c.args.cycle.stop number store (D.content mid) (D.settled mid) (D.content new) (D.settled new))) c.in-Ok.ensures.ok c.drive_until.ensures.left)
 
@@ -95,7 +95,7 @@ returns-clause-memory g c =
     let old = c.args.nvm.now in
     let mid = c.start_until.new.nvm in
     let new = c.drive_until.new.nvm in
-    let begun = subst (λ (b : Begun). BeginsAs b c.args.cycle.start_stop c.horizon-ticks.result (D.extent old) (D.content old) (D.settled old) (D.content mid) (D.settled mid)) c.in-Started.is c.in_ok-start_until.ensures.begun in
+    let begun = subst (λ (b : StartedCycle). BeginsAs b c.args.cycle.start_stop c.horizon-ticks.result (D.extent old) (D.content old) (D.settled old) (D.content mid) (D.settled mid)) c.in-Started.is c.in_ok-start_until.ensures.begun in
     driven_memory D.content D.settled c.in-Started.started.number c.in-Started.started.banks.store (D.content old) (D.settled old) mid new _ _ c.drive_until.result begun.3 c.drive_until.ensures.fault c.drive_until.ensures.nothing
 
 pub returns-clause-past : goal.returns-clause-past
@@ -104,5 +104,5 @@ returns-clause-past g c =
     let old = c.args.nvm.now in
     let mid = c.start_until.new.nvm in
     let new = c.drive_until.new.nvm in
-    let begun = subst (λ (b : Begun). BeginsAs b c.args.cycle.start_stop c.horizon-ticks.result (D.extent old) (D.content old) (D.settled old) (D.content mid) (D.settled mid)) c.in-Started.is c.in_ok-start_until.ensures.begun in
+    let begun = subst (λ (b : StartedCycle). BeginsAs b c.args.cycle.start_stop c.horizon-ticks.result (D.extent old) (D.content old) (D.settled old) (D.content mid) (D.settled mid)) c.in-Started.is c.in_ok-start_until.ensures.begun in
     begun_past c.in-Started.started.number c.in-Started.started.banks.store (D.content old) (D.content mid) (D.content new) (D.settled old) (D.settled mid) (D.settled new) c.start_until.ensures.past begun.3 c.drive_until.ensures.past

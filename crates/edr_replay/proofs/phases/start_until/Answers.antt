@@ -1,6 +1,6 @@
 use Rattle.std.proofs.Common.{rules, arith, ◌≡◌, ◌⊎◌, ◌+◌, ◌∙◌, ℕ, Err, subst}
 use Rattle.edr_cycle.specs.declared.started.StartFault.TheVariants as fault
-use Rattle.edr_replay.specs.declared.phases.Begun.TheVariants.{Started, Stopped}
+use Rattle.edr_replay.specs.declared.phases.StartedCycle.TheVariants.{Started, Stopped}
 use Rattle.edr_device.specs.FuseLaws.{fuse_counts_now}
 use Rattle.edr_replay.specs.Past.{LeavesPast}
 use Rattle.edr_replay.specs.Phases.{BeginsAs, LeavesOfStart}

@@ -2,7 +2,7 @@ use Rattle.std.proofs.Common.{rules, sym, subst, ap, ◌≡◌, ◌∙◌, ◌�
 use Rattle.std.specs.Prelude.{is_some}
 use Rattle.std.proofs.lemmas.Int.{to_z-of_z}
 use Rattle.edr_definitions.specs.Schedule.{Close, after_step}
-use Rattle.edr_core.specs.declared.ask.Ask.{Ask}
+use Rattle.edr_core.specs.declared.ask.OpenAsk.{OpenAsk}
 use Rattle.edr_core.specs.Candidate.{no_issues}
 use Rattle.edr_core.specs.SplitContents.{SplitContents}
 use Rattle.edr_core.specs.SplitFields.{split_contents}
@@ -98,7 +98,7 @@ invariant_of-self-then-change c =
           c.tick-change.result c.tick-change.new.self (to_z w32 (of_z w32 c.unwrap_or.result)) (to_z w32 (of_z w32 c.unwrap_or-2.result))
           (to_z-of_z w32 c.unwrap_or.result along_fits ∙ c.unwrap_or.ensures) (to_z-of_z w32 c.unwrap_or-2.result across_fits ∙ c.unwrap_or-2.ensures) c.tick-change.ensures.stands c.tick-change.ensures.answer
           c.next.new.self (c.in-Row.ensures.stands w.past merge) c.if-change.true c.open.new.ask c.open.ensures;
-      asking_is = sym (ap (λ (a : Option Ask). is_some a) c.open.ensures);
+      asking_is = sym (ap (λ (a : Option OpenAsk). is_some a) c.open.ensures);
     }
 
 pub returns-then-change-clause-stands : goal.returns-then-change-clause-stands

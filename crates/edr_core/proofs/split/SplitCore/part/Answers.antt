@@ -1,7 +1,7 @@
 use Rattle.std.proofs.Common.{arith, ap, sym, subst, ◌∙◌, ◌+◌, Some, Option}
 use Rattle.std.specs.Prelude.{is_some}
 use Rattle.edr_capture.specs.SensorPart.{SensorPart}
-use Rattle.edr_core.specs.declared.ask.Ask.{Ask}
+use Rattle.edr_core.specs.declared.ask.OpenAsk.{OpenAsk}
 use Rattle.edr_core.specs.declared.ask.Parts.{Parts}
 use Rattle.edr_core.specs.SplitHistory.{after_part}
 use Rattle.edr_core.specs.SplitContents.{SplitContents}
@@ -21,7 +21,7 @@ invariant_of-self c =
       history = after_part c.args.part i.history;
       stands = subst (λ (ps : Parts). SplitCoreStandsFor (record (split_contents c.self.inside) { ask = Some (record c.in-Some.ask { parts = ps }) }) (after_part c.args.part i.history)) (sym c.in_ok-put.ensures.ok.1)
           (split-takes (split_contents c.self.inside) i.history c.in-Some.ask c.args.part i.stands c.in-Some.is zero);
-      asking_is = i.asking_is ∙ ap (λ (a : Option Ask). is_some a) c.in-Some.is;
+      asking_is = i.asking_is ∙ ap (λ (a : Option OpenAsk). is_some a) c.in-Some.is;
     }
 
 pub returns-clause-ok : goal.returns-clause-ok

@@ -3,20 +3,20 @@ use Rattle.std.proofs.lemmas.Int.{to_z-of_z}
 use Rattle.std.proofs.lemmas.Bool.{not-true}
 use Rattle.edr_definitions.specs.Change.{tick_change}
 use Rattle.edr_detect.specs.Detected.{DetectState, DetectStandsFor}
-use Rattle.edr_detect.specs.Rows.{Row, signals_of_rows}
+use Rattle.edr_detect.specs.Rows.{SignalRow, signals_of_rows}
 use Rattle.edr_detect.specs.Stages.{told_of, phase_of}
 use Rattle.edr_detect.proofs.RowLemmas.{nothing, tick-stands, tick-still, never-rests}
 use Rattle.edr_detect.proofs.detector.Detect.full_tick.Goals as goal
 
 pub returns-then-not-tests : goal.returns-then-not-tests
 returns-then-not-tests c =
-    let r : Row = record { along = c.args.along; across = c.args.across; fired = c.args.fired } in
+    let r : SignalRow = record { along = c.args.along; across = c.args.across; fired = c.args.fired } in
     let still : DetectState = record { tick = c.self.inside.tick + 1; stage = c.self.inside.stage; windows = c.push.new.self; rests = c.are_at_rest-self-inside.result } in
     let rest = c.are_at_rest-self-inside.ensures in
     let along_fits : FitsSigned w32 c.args.along = search rules in
     let across_fits : FitsSigned w32 c.args.across = search rules in
     let push = simp (to_z-of_z w32 c.args.along along_fits, to_z-of_z w32 c.args.across across_fits) at c.push.ensures.stands in
-    let both : (rows : List Row) → DetectStandsFor c.args.self.now rows → DetectStandsFor still (rows ++ r ∷ []) × (told_of nothing ≡ tick_change (signals_of_rows (rows ++ r ∷ [])) (length rows + 1)) =
+    let both : (rows : List SignalRow) → DetectStandsFor c.args.self.now rows → DetectStandsFor still (rows ++ r ∷ []) × (told_of nothing ≡ tick_change (signals_of_rows (rows ++ r ∷ [])) (length rows + 1)) =
     λ rows h. tick-still rows r (record { tick = c.self.inside.tick; stage = c.self.inside.stage; windows = c.self.inside.windows; rests = c.self.inside.rests })
     (c.self.inside.tick + 1) c.push.new.self c.are_at_rest-self-inside.result
     (subst (λ (d : DetectState). DetectStandsFor d rows) (sym c.self.view_is) h) refl (c.is_searching.ensures c.if-is_searching.true)
@@ -33,12 +33,12 @@ invariant_of-self-2 c = c.restart.ensures.pushed (c.self.inside.tick + 1) (c.pus
 
 pub returns : goal.returns
 returns c =
-    let r : Row = record { along = c.args.along; across = c.args.across; fired = c.args.fired } in
+    let r : SignalRow = record { along = c.args.along; across = c.args.across; fired = c.args.fired } in
     let after : DetectState = record { tick = c.self.inside.tick + 1; stage = c.next-self-inside.result; windows = c.restart.new.self; rests = false } in
     let along_fits : FitsSigned w32 c.args.along = search rules in
     let across_fits : FitsSigned w32 c.args.across = search rules in
     let push = simp (to_z-of_z w32 c.args.along along_fits, to_z-of_z w32 c.args.across across_fits) at c.push.ensures.stands in
-    let both : (rows : List Row) → DetectStandsFor c.args.self.now rows → DetectStandsFor after (rows ++ r ∷ []) × (told_of c.change_at-change.result ≡ tick_change (signals_of_rows (rows ++ r ∷ [])) (length rows + 1)) =
+    let both : (rows : List SignalRow) → DetectStandsFor c.args.self.now rows → DetectStandsFor after (rows ++ r ∷ []) × (told_of c.change_at-change.result ≡ tick_change (signals_of_rows (rows ++ r ∷ [])) (length rows + 1)) =
     λ rows h. tick-stands rows r (record { tick = c.self.inside.tick; stage = c.self.inside.stage; windows = c.self.inside.windows; rests = c.self.inside.rests }) after
     (c.self.inside.tick + 1) c.tests-tests.result c.change_at-change.result c.push.new.self
     (subst (λ (d : DetectState). DetectStandsFor d rows) (sym c.self.view_is) h) refl refl

@@ -2,7 +2,7 @@ use Rattle.std.proofs.Common.{refl, ap, sym, subst, ◌≡◌, ◌∙◌, ◌+�
 use Rattle.std.proofs.lemmas.Int.{to_z-of_z}
 use Rattle.edr_definitions.specs.Change.{tick_change}
 use Rattle.edr_detect.specs.Detected.{DetectState, DetectStandsFor}
-use Rattle.edr_detect.specs.Rows.{Row, signals_of_rows}
+use Rattle.edr_detect.specs.Rows.{SignalRow, signals_of_rows}
 use Rattle.edr_detect.specs.Stages.{told_of, phase_of}
 use Rattle.edr_detect.proofs.RowLemmas.{nothing, at-rest, tick-quiet}
 use Rattle.edr_detect.proofs.detector.Detect.tick.Goals as goal
@@ -12,14 +12,14 @@ invariant_of-self c = c.rest.ensures.pushed c.self.inside.tick c.self.invariant
 
 pub returns-then-self : goal.returns-then-self
 returns-then-self c =
-    let r : Row = record { along = c.args.along; across = c.args.across; fired = c.args.fired } in
+    let r : SignalRow = record { along = c.args.along; across = c.args.across; fired = c.args.fired } in
     let before : DetectState = record { tick = c.self.inside.tick; stage = c.self.inside.stage; windows = c.self.inside.windows; rests = c.self.inside.rests } in
     let after : DetectState = record { tick = c.self.inside.tick + 1; stage = c.self.inside.stage; windows = c.rest.new.self; rests = c.self.inside.rests } in
     let along_fits : FitsSigned w32 c.args.along = search rules in
     let across_fits : FitsSigned w32 c.args.across = search rules in
     let along = sym (to_z-of_z w32 c.args.along along_fits) ∙ ap (to_z w32) c.if-along-eq0.true in
     let across = sym (to_z-of_z w32 c.args.across across_fits) ∙ ap (to_z w32) c.if-across-eq0.true in
-    let both : (rows : List Row) → DetectStandsFor c.args.self.now rows → DetectStandsFor after (rows ++ r ∷ []) × (told_of nothing ≡ tick_change (signals_of_rows (rows ++ r ∷ [])) (length rows + 1)) =
+    let both : (rows : List SignalRow) → DetectStandsFor c.args.self.now rows → DetectStandsFor after (rows ++ r ∷ []) × (told_of nothing ≡ tick_change (signals_of_rows (rows ++ r ∷ [])) (length rows + 1)) =
     λ rows stands.
     let h : DetectStandsFor before rows = subst (λ (d : DetectState). DetectStandsFor d rows) (sym c.self.view_is) stands in
     let rest = at-rest before rows h c.if-self.true in

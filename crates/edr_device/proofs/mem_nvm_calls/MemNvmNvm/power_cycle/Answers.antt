@@ -1,5 +1,5 @@
 use Rattle.std.proofs.Common.{◌∙◌, sym, ap, ⊎_elim, inl, inr, length, drop}
-use Rattle.edr_device.specs.Past.{HadLeft, Left, settled_at}
+use Rattle.edr_device.specs.Past.{HadLeft, MayBeLeft, settled_at}
 use Rattle.edr_device.proofs.Moments.{moment_comes_back, comes_less, cycle_stays}
 use Rattle.edr_device.proofs.mem_nvm_calls.MemNvmNvm.power_cycle.Goals as goal
 
@@ -19,7 +19,7 @@ returns-clause-no_more c =
     let m = c.args.self.now in
     let comes = moment_comes_back m _ c.come_back.new.self _ c.deref.ensures.value c.come_back.ensures.image c.come_back.ensures.settled in
     λ t image le left. ⊎_elim
-    (λ (here : Left c.come_back.new.self image). inl (comes_less (settled_at m.state) (settled_at c.come_back.new.self) m.state.image.items c.come_back.new.self.image.items image comes here))
+    (λ (here : MayBeLeft c.come_back.new.self image). inl (comes_less (settled_at m.state) (settled_at c.come_back.new.self) m.state.image.items c.come_back.new.self.image.items image comes here))
     (λ (had : HadLeft (drop t m.past.items) image). inr had)
     left
 

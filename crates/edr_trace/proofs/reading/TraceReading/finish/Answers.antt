@@ -1,6 +1,6 @@
 use Rattle.edr_trace.specs.declared.reading.Way.TheVariants as way
 use Rattle.edr_trace.proofs.ReadingLemmas.{by-way}
-use Rattle.edr_trace.proofs.reading.Reading.finish.Goals as goal
+use Rattle.edr_trace.proofs.reading.TraceReading.finish.Goals as goal
 
 pub returns-in-Refused-clause-refused : goal.returns-in-Refused-clause-refused
 returns-in-Refused-clause-refused c = λ before h.

@@ -1,6 +1,6 @@
 use Rattle.std.proofs.Common.{arith}
 use Rattle.edr_trace.proofs.ReadLemmas.{so-far-start}
-use Rattle.edr_trace.proofs.reading.Reading.new.Goals as goal
+use Rattle.edr_trace.proofs.reading.TraceReading.new.Goals as goal
 
 pub returns : goal.returns
 returns c =

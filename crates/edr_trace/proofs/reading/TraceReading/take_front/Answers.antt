@@ -1,9 +1,9 @@
 use Rattle.std.proofs.Common.{arith, rules, sym, subst, ℕ, List, [], ◌++◌}
 use Rattle.edr_trace.specs.declared.reading.Way.TheVariants as way
-use Rattle.edr_trace.specs.Told.{Tells}
+use Rattle.edr_trace.specs.Told.{TellsRefusal}
 use Rattle.edr_trace.specs.Given.{Given, AreReadBut, AreReadBy}
 use Rattle.edr_trace.proofs.ReadingLemmas.{by-way, all-taken, front-taken, told-still, rows-taken, bytes-kept, rest-kept, told-behind}
-use Rattle.edr_trace.proofs.reading.Reading.take_front.Goals as goal
+use Rattle.edr_trace.proofs.reading.TraceReading.take_front.Goals as goal
 
 pub returns-in-Csv-clause-given : goal.returns-in-Csv-clause-given
 returns-in-Csv-clause-given c = λ before h.
@@ -33,7 +33,7 @@ returns-in_err-left-clause-refused c =
     let self = c.args.self.now in
     let bytes = c.args.bytes.now in
     let e = c.in_err-left.field-0.0 in
-    let told : (before more : List ℕ) → Given before self → Tells ((before ++ bytes) ++ more) e =
+    let told : (before more : List ℕ) → Given before self → TellsRefusal ((before ++ bytes) ++ more) e =
     λ before more h. told-behind before bytes self.trace self.rows e (by-way self.way way.Plain before self.trace self.rows c.in-Plain.is h.are_read) c.in_err-left.ensures.refused more in
     search rules
 
