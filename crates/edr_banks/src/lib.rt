@@ -6,18 +6,18 @@ ghost use Rattle.std.specs.Prelude.{◌≡◌};
 
 use std::marker::Model;
 
-mod applying;
-mod choosing;
-mod formatting;
+mod bank_choice;
+mod commands;
+mod events;
 mod image;
-mod laying;
-mod opening;
-mod retrieving;
-mod taking;
+mod image_reader;
+mod new_image;
+mod overlay;
+mod task_steps;
 mod tasks;
 
 pub use crate::image::Image;
-pub use crate::laying::lay;
+pub use crate::overlay::lay;
 pub use edr_image::{
     Ack, Applied, BankView, Choice, CycleReport, Found, Header, HeaderRefused, Kind, Log, OpenFault,
 };

@@ -7,7 +7,7 @@ ghost use Rattle.edr_gates.specs.Taken.{MayTakeAll};
 ghost use Rattle.edr_banks.specs.Applying.{holding, opened_after, reply_of};
 ghost use Rattle.edr_banks.specs.Tasks.{IsBankWithin, reply_for, steps_of};
 
-use crate::choosing::{least_unlocked, lowest_void};
+use crate::bank_choice::{least_unlocked, lowest_void};
 use crate::{Applied, BankView, Banks, Choice, Command};
 use edr_record::{Crash, Pre, Record};
 

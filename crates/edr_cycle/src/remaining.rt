@@ -12,8 +12,8 @@ ghost use Rattle.edr_cycle.specs.Commits.{CommitsOn};
 ghost use Rattle.edr_cycle.specs.Remaining.{HasNext, IsAsked, IsOpenAt, IsTakenOf, KeepsAsking, AnswerLeads, Remains, RemainsAt, SameAsk, count_left};
 ghost use Rattle.edr_cycle.specs.Rest.{issues_past};
 
+use crate::cycle_run::commit_closed;
 use crate::left::Left;
-use crate::running::commit_closed;
 use edr_banks::{Banks, Log};
 use edr_core::{Captures, Closing, Issued, SplitClosing, SplitCore};
 use edr_device::{Failed, Nvm};

@@ -1,0 +1,6 @@
+-- The bytes behind the front are zeros.
+use Rattle.edr_banks.proofs.NewImage.{bank_zeros}
+use Rattle.edr_banks.proofs.new_image.NewImageImage.bank.Goals as goal
+
+pub returns : goal.returns
+returns c = bank_zeros c.args.self.now.header c.args.arg2 c.requires.from c.requires.to

@@ -1,0 +1,107 @@
+//! A cycle that runs by itself: its items go through the core, and each tick's commands to the banks.
+
+ghost use Rattle.std.specs.Prelude.{◌≡◌, ◌+◌, ◌≤◌, false, length, map};
+ghost use Rattle.edr_device.specs.Lent.{Lent};
+ghost use Rattle.edr_items.specs.SensorLists.{AreFeeds, IsLevel, horizon_of, no_items};
+ghost use Rattle.edr_definitions.specs.Commands.{issue_at, issues};
+ghost use Rattle.edr_core.specs.Answers.{commands_put};
+ghost use Rattle.edr_core.specs.StandsFor.{CoreIsFor};
+ghost use Rattle.edr_image.specs.Image.{image_size};
+ghost use Rattle.edr_run.specs.Cycle.{issues_in};
+ghost use Rattle.edr_cycle.specs.Begun.{room_for};
+ghost use Rattle.edr_cycle.specs.Commits.{CommitsOn};
+ghost use Rattle.edr_cycle.specs.Rest.{IsGiven, issues_past};
+
+use crate::commits::commit_tick;
+use crate::left::Left;
+use edr_banks::{Banks, Log};
+use edr_core::{Closing, Core, Issued};
+use edr_device::{Failed, Nvm};
+use edr_items::Feeds;
+
+// Commits what a closed tick issues, if it issues anything.
+pub(crate) fn commit_closed<N: Nvm>(
+    banks: &mut Banks,
+    nvm: &mut N,
+    log: &mut Log,
+    tick: u32,
+    issues: bool,
+    issued: &Issued,
+) -> Result<(), Failed>
+    requires live { banks.old.ended ≡ false }
+    requires size { image_size banks.old.store.header.banks ≤ N.extent nvm.old }
+    requires room { length (commands_put issues issued.now) ≤ log.old.spare }
+    ensures lent { Lent N.Nvm nvm.old nvm.new result }
+    ensures commits { CommitsOn N.Nvm (map (issue_at tick) (commands_put issues issued.now))
+        result banks.old banks.new log.old log.new nvm.old nvm.new }
+{
+    if issues {
+        commit_tick(banks, nvm, log, tick, issued.take, issued.lock, issued.done)
+    } else {
+        Ok(())
+    }
+}
+
+/// Gives what is left of the feeds to the core of a cycle, and commits what it issues past the ticks that it has closed, up to the
+/// horizon or to a command that fails.
+///
+/// A sensor's next item is given when the core waits for that sensor, so none is refused. Where nothing is left of it, the
+/// horizon is closed.
+pub fn run_on<N: Nvm>(
+    core: Core,
+    feeds: &Feeds,
+    left: Left<'_>,
+    banks: &mut Banks,
+    nvm: &mut N,
+    log: &mut Log,
+) -> Result<(), Failed>
+    requires given { IsGiven feeds.now core.cycle core left }
+    requires feeds { AreFeeds feeds.now }
+    requires level { IsLevel feeds.now }
+    requires live { banks.old.ended ≡ false }
+    requires size { image_size banks.old.store.header.banks ≤ N.extent nvm.old }
+    requires room { room_for (horizon_of feeds.now)
+        ≤ log.old.spare + length (issues feeds.now core.cycle core.closed) }
+    ensures lent { Lent N.Nvm nvm.old nvm.new result }
+    ensures commits { CommitsOn N.Nvm (issues_past feeds.now core.cycle core.closed)
+        result banks.old banks.new log.old log.new nvm.old nvm.new }
+{
+    let mut core = core;
+    let mut left = left;
+    let mut issued = Issued::none();
+    loop {
+        match core.close(&mut issued) {
+            Closing::Closed { tick, issues } => {
+                commit_closed(banks, nvm, log, tick, issues, &issued)?
+            }
+            Closing::Waiting { sensor } => {
+                let Some(item) = left.next(sensor) else {
+                    return Ok(());
+                };
+                core.accept(sensor, item).unwrap();
+            }
+        }
+    }
+}
+
+/// Gives the items of the feeds to the core of a cycle, and commits what it issues, up to the horizon or to a command that
+/// fails.
+pub(crate) fn run<N: Nvm>(
+    core: Core,
+    feeds: &Feeds,
+    banks: &mut Banks,
+    nvm: &mut N,
+    log: &mut Log,
+) -> Result<(), Failed>
+    requires begun { CoreIsFor core core.cycle (record { given = no_items; closed = 0 }) }
+    requires level { IsLevel feeds.now }
+    requires live { banks.old.ended ≡ false }
+    requires size { image_size banks.old.store.header.banks ≤ N.extent nvm.old }
+    requires room { room_for (horizon_of feeds.now) ≤ log.old.spare }
+    ensures lent { Lent N.Nvm nvm.old nvm.new result }
+    ensures commits { CommitsOn N.Nvm (issues_in feeds.now core.cycle)
+        result banks.old banks.new log.old log.new nvm.old nvm.new }
+{
+    let left = Left::all_of(feeds);
+    run_on(core, feeds, left, banks, nvm, log)
+}
