@@ -25,7 +25,7 @@ fn first_void(banks: &[BankView]) -> Option<usize>
 }
 
 /// The lowest void bank.
-#[tactic(auto, using(crate::proofs::KeyOrder::lowest_void_is), unfolding(edr_image::specs::Banks::lowest_void))]
+#[tactic(auto, using(crate::proofs::KeyOrderLemmas::lowest_void_is), unfolding(edr_image::specs::Banks::lowest_void))]
 pub(crate) fn lowest_void(banks: &[BankView]) -> Option<u8>
     requires { length banks.now ≤ MOST_BANKS }
     ensures { result ≡ lowest_void banks.now }
@@ -41,7 +41,7 @@ fn is_lesser(bank: u8, event: &Record, other: Option<(u8, &Record)>) -> bool
 }
 
 /// The unlocked event bank of least key.
-#[tactic(auto, using(crate::proofs::LeastKey::least_more), unfolding(edr_image::specs::Banks::least_unlocked, edr_image::specs::Banks::events))]
+#[tactic(auto, using(crate::proofs::LeastKeyLemmas::least_more), unfolding(edr_image::specs::Banks::least_unlocked, edr_image::specs::Banks::events))]
 pub(crate) fn least_unlocked(banks: &[BankView]) -> Option<u8>
     requires { length banks.now ≤ MOST_BANKS }
     ensures { result ≡ least_unlocked banks.now }

@@ -18,7 +18,7 @@ use Rattle.edr_cli.specs.Reports.{Says}
 use Rattle.edr_cli.specs.Runs.{IsTraceOf}
 use Rattle.edr_cli.specs.Faults.{fault_of_start}
 use Rattle.edr_cli.specs.Steps.{IsDrivenCause}
-use Rattle.edr_cli.proofs.Completeness.{only_memory}
+use Rattle.edr_cli.proofs.CompletenessLemmas.{only_memory}
 use Rattle.edr_cli.proofs.ReplayLemmas.{Settled, run_replay, start_cause}
 
 -- memory didn't run out

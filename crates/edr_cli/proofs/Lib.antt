@@ -1,13 +1,13 @@
-pub mod Barrier
+pub mod BarrierLemmas
 pub mod EndingLemmas
 pub mod OutcomeLemmas
 pub mod ImageLemmas
 pub mod RunLaws
 pub mod PastLemmas
 pub mod ReplayLemmas
-pub mod Completeness
+pub mod CompletenessLemmas
 pub mod DriveLemmas
-pub mod Dispatch
+pub mod DispatchLemmas
 pub mod TakingLemmas
 pub mod MigrationLemmas
 mod FaultVectors

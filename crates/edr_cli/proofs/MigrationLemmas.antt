@@ -12,7 +12,7 @@ use Rattle.edr_migrate.specs.Causes.{IsCause}
 use Rattle.edr_migrate.specs.Migrated.{IsWhole}
 use Rattle.edr_migrate.specs.declared.MigrateFault.{MigrateFault}
 use Rattle.edr_migrate.specs.declared.MigrateFault.TheVariants as migrate
-use Rattle.edr_migrate.proofs.Outcomes.{refused_not_whole}
+use Rattle.edr_migrate.proofs.OutcomeLemmas.{refused_not_whole}
 use Rattle.edr_spell.specs.Spell.{largest_trace}
 use Rattle.edr_cli.specs.declared.fault.Fault.{Fault}
 use Rattle.edr_cli.specs.declared.fault.Fault.TheVariants as fault

@@ -3,7 +3,7 @@ use Rattle.std.proofs.Common.{refl, inl, ℕ, List}
 use Rattle.edr_device.specs.declared.device.Nvm as device
 use Rattle.edr_device.specs.declared.stream.Sink as sink
 use Rattle.edr_device.specs.declared.stream.Source as stream
-use Rattle.edr_device.proofs.Settling.{quiet_leaves}
+use Rattle.edr_device.proofs.SettlingLemmas.{quiet_leaves}
 use Rattle.edr_image.specs.declared.Header.{Header}
 use Rattle.edr_banks.specs.Formatting.{LacksMagic}
 use Rattle.edr_replay.proofs.PastLemmas.{past_none}

@@ -3,7 +3,7 @@ use Rattle.std.proofs.Common.{◌≡◌, ◌∙◌, refl, sym, subst, ap, inl, i
 use Rattle.std.proofs.lemmas.List.{take_all}
 use Rattle.edr_device.specs.Device.{IsQuiet, MayLeave, StillTells}
 use Rattle.edr_device.specs.Faults.{Rose}
-use Rattle.edr_device.proofs.Settling.{quiet_leaves}
+use Rattle.edr_device.proofs.SettlingLemmas.{quiet_leaves}
 use Rattle.edr_image.specs.declared.OpenFault.{OpenFault}
 use Rattle.edr_image.specs.declared.OpenFault.TheVariants as open_fault
 use Rattle.edr_image.specs.declared.log.CycleReport.{CycleReport}

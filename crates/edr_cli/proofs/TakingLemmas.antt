@@ -6,8 +6,8 @@ use Rattle.std.proofs.Math.Seq.{drop-append_seam, drop-length, paste, take-add, 
 use Rattle.edr_device.specs.Stream.{Moves}
 use Rattle.edr_device.specs.Told.{Told}
 use Rattle.edr_device.specs.Transfer.{Carries, GivesAll, GivesAtMost, GivesTooMany}
-use Rattle.edr_device.proofs.Telling.{told_again}
-use Rattle.edr_device.proofs.Transfers.{Gives}
+use Rattle.edr_device.proofs.TellingLemmas.{told_again}
+use Rattle.edr_device.proofs.TransferLemmas.{Gives}
 
 -- what holds of the bytes that are told follows from what is known of them
 told_so : (P Q : List ℕ → List ℕ → Type 0) → ((a b : List ℕ) → P a b → Q a b) → (x y : Option (List ℕ)) → Told P x y → Told Q x y

@@ -37,7 +37,7 @@ use Rattle.edr_core.proofs.GiveLemmas.{within-merged}
 use Rattle.edr_core.proofs.OwnLemmas.{refused-not}
 use Rattle.edr_core.proofs.PartsLaws.{issues-with}
 use Rattle.edr_core.proofs.TakenLemmas.{eqb_same, taken}
-use Rattle.edr_run.proofs.Issues.{issues-under_way}
+use Rattle.edr_run.proofs.IssueLemmas.{issues-under_way}
 use Rattle.edr_cycle.specs.declared.remaining.Remaining.{Remaining}
 use Rattle.edr_cycle.specs.Remaining.{IsRest, RemainsAt, HasNext, IsOpenAt, IsAsked, SameAsk, IsTakenOf, AnswerLeads}
 use Rattle.edr_cycle.proofs.RestLemmas.{feed-front, whole-feed, stands-of}

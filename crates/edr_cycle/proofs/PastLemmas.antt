@@ -12,7 +12,7 @@ use Rattle.edr_image.specs.declared.Header.{Header}
 use Rattle.edr_image.specs.Image.{View, image_size, place_of, view_of}
 use Rattle.edr_image.specs.Steps.{BankStep, Erase, Fill, Lock, Done, banks_after}
 use Rattle.edr_gates.specs.Taken.{HasDone, BankHolds, IsAside, MayTake, MayTakeAll, bank_of}
-use Rattle.edr_gates.proofs.Views.{seen}
+use Rattle.edr_gates.proofs.ViewLemmas.{seen}
 use Rattle.edr_cycle.specs.Past.{KeepsPast}
 
 pub past_same : (h : Header) (bytes image : List ℕ) → image ≡ bytes → KeepsPast h bytes image

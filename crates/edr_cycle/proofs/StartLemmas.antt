@@ -4,7 +4,7 @@ use Rattle.std.specs.Prelude.{IsErr}
 use Rattle.std.proofs.lemmas.Bool.{false≢true}
 use Rattle.edr_items.specs.SensorLists.{SensorLists}
 use Rattle.edr_device.specs.Device.{Elapses, IsQuiet, MayLeave, Stays}
-use Rattle.edr_device.proofs.Settling.{quiet_leaves}
+use Rattle.edr_device.proofs.SettlingLemmas.{quiet_leaves}
 use Rattle.edr_image.specs.Banks.{Store}
 use Rattle.edr_image.specs.declared.BankView.{BankView}
 use Rattle.edr_image.specs.Image.{View, view_of}
@@ -14,8 +14,8 @@ use Rattle.edr_run.specs.Cycle.{start_counted, start_stopped}
 use Rattle.edr_cycle.specs.Counter.{IsCountAfterStop, SaysWith}
 use Rattle.edr_cycle.specs.Ends.{ComesTo, IsFound, cycle_with}
 use Rattle.edr_cycle.specs.Starts.{MakesSix, MeetsStart}
-use Rattle.edr_cycle.proofs.Answered.{map_err}
-use Rattle.edr_cycle.proofs.FirstBytes.{found_stays, stays_elapse}
+use Rattle.edr_cycle.proofs.AnsweredLemmas.{map_err}
+use Rattle.edr_cycle.proofs.FirstByteLemmas.{found_stays, stays_elapse}
 
 kept_longer : (banks : List BankView) (n m : ℕ) → n ≤ m → AreKept banks n → AreKept banks m
 kept_longer banks n m le h = record {

@@ -1,4 +1,4 @@
-mod Pulses
+mod VectorPulses
 mod VectorsWindows
 mod VectorsSelection
 mod VectorsChain

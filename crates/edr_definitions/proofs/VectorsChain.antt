@@ -4,7 +4,7 @@ use Rattle.edr_definitions.specs.Ticks.{first_tick, greatest}
 use Rattle.edr_definitions.specs.Signals.{Signals}
 use Rattle.edr_definitions.specs.Windows.{delta_v, largest_change, swing}
 use Rattle.edr_definitions.specs.Selection.{is_triggered, is_time_zero, is_end, end_of, candidate_at, bounds_after, chain_from, chain, events}
-use Rattle.edr_definitions.proofs.Pulses.{pulse, both, nothing, firing, only_along, only_fired}
+use Rattle.edr_definitions.proofs.VectorPulses.{pulse, both, nothing, firing, only_along, only_fired}
 
 -- past a confirmed candidate both bounds are its close, 50 ms past a time zero whose end is 20 ms past it
 after_event : bounds_after (record { after = 0; since = 0 }) (record { zero_tick = 2; end_tick = 22; confirmed = Some 2 }) ≡ record { after = 52; since = 52 }

@@ -4,7 +4,7 @@ use Rattle.edr_definitions.specs.Ticks.{first_tick, greatest}
 use Rattle.edr_definitions.specs.Windows.{delta_v, largest_change, swing}
 use Rattle.edr_definitions.specs.Selection.{is_triggered, is_time_zero, is_end, end_of, candidate_at, chain_from}
 use Rattle.edr_definitions.specs.Change.{Change, tick_change}
-use Rattle.edr_definitions.proofs.Pulses.{pulse, firing, only_along, only_fired}
+use Rattle.edr_definitions.proofs.VectorPulses.{pulse, firing, only_along, only_fired}
 
 -- nothing
 abbrev none : Change

@@ -9,7 +9,7 @@ use Rattle.edr_definitions.specs.Windows.{delta_v, largest_change, swing}
 use Rattle.edr_definitions.specs.Selection.{is_triggered, is_time_zero, is_end, end_of, candidate_at, chain_from}
 use Rattle.edr_definitions.specs.Parts.{pre_part, crash_part, points, extreme, missing, firings, result_at, first_firing, first_greatest, slots_before, slot}
 use Rattle.edr_definitions.specs.Commands.{places, last_placed, is_locking, lock_of, issues_of, issues, commands, rank_of}
-use Rattle.edr_definitions.proofs.Pulses.{sample, firing, only_fired}
+use Rattle.edr_definitions.proofs.VectorPulses.{sample, firing, only_fired}
 
 -- ---- places
 -- the second is within 5 s of the first, the third within 5 s of the second, which is no first

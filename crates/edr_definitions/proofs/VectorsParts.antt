@@ -8,7 +8,7 @@ use Rattle.edr_record.specs.declared.Profile.TheVariants.{Long}
 use Rattle.edr_definitions.specs.Ticks.{first_tick, greatest}
 use Rattle.edr_definitions.specs.Windows.{delta_v}
 use Rattle.edr_definitions.specs.Parts.{slot, slots_before, numbers, switch, pre_part, kmh_of, first_greatest, points, extreme, result_at, missing, first_firing, firings, crash_part}
-use Rattle.edr_definitions.proofs.Pulses.{pulse, both, nothing, firing, only_along, only_fired, no_firing, sample, silence, each_100}
+use Rattle.edr_definitions.proofs.VectorPulses.{pulse, both, nothing, firing, only_along, only_fired, no_firing, sample, silence, each_100}
 
 -- ---- slots
 -- a sample serves the 100 ms from its moment on

@@ -3,7 +3,7 @@ use Rattle.std.proofs.Common.{refl, ◌≡◌, pos, negsuc, true, false}
 use Rattle.edr_definitions.specs.Ticks.{first_tick, greatest}
 use Rattle.edr_definitions.specs.Windows.{delta_v, largest_change, swing}
 use Rattle.edr_definitions.specs.Selection.{is_triggered, is_time_zero, is_end, end_of, window_of, close_of}
-use Rattle.edr_definitions.proofs.Pulses.{pulse, both, firing, only_along, only_across, only_fired}
+use Rattle.edr_definitions.proofs.VectorPulses.{pulse, both, firing, only_along, only_across, only_fired}
 
 -- ---- the trigger
 -- two samples of 40,000 trigger, on either axis and either way

@@ -3,7 +3,7 @@ use Rattle.std.proofs.Common.{refl, ◌≡◌, pos, negsuc, true, false, [], ◌
 use Rattle.edr_definitions.specs.Ticks.{greatest}
 use Rattle.edr_definitions.specs.Signals.{sample_at}
 use Rattle.edr_definitions.specs.Windows.{delta_v, sum_between, largest_change, swing, is_over, meets_trigger, is_quiet}
-use Rattle.edr_definitions.proofs.Pulses.{pulse, both, sample, silence}
+use Rattle.edr_definitions.proofs.VectorPulses.{pulse, both, sample, silence}
 
 -- delta-V counts the ticks after its beginning and up to its end: 4, 5 and 6 of 1 to 9
 interval : delta_v (pulse 1 9 (pos 1000)) 3 6 ≡ pos 3000

@@ -1,8 +1,8 @@
-pub mod Telling
-pub mod Transfers
-pub mod Ranges
-pub mod Settling
-pub mod Lending
-pub mod Draws
-pub mod Moments
-pub mod Fuses
+pub mod TellingLemmas
+pub mod TransferLemmas
+pub mod RangeLemmas
+pub mod SettlingLemmas
+pub mod LendingLemmas
+pub mod DrawLemmas
+pub mod MomentLemmas
+pub mod FuseLemmas

@@ -4,7 +4,7 @@ pub mod PartLemmas
 pub mod PresentLemmas
 pub mod PlotLemmas
 pub mod PlainLemmas
-pub mod PlainCharts
-pub mod PlainLines
-pub mod PlainSheets
+pub mod PlainChartLemmas
+pub mod PlainLineLemmas
+pub mod PlainSheetLemmas
 pub mod SlotLemmas

@@ -15,7 +15,7 @@ use Rattle.edr_core.specs.SplitContents.{SplitContents}
 use Rattle.edr_cycle.specs.declared.remaining.Remaining.{Remaining}
 use Rattle.edr_cycle.specs.Remaining.{Remains, RemainsAt, WasTold}
 use Rattle.edr_cycle.proofs.AnswerLemmas.{issued-now}
-use Rattle.edr_cycle.proofs.RestBegins.{part-begun}
+use Rattle.edr_cycle.proofs.RestBeginLemmas.{part-begun}
 use Rattle.edr_cycle.proofs.RestLemmas.{feed-front}
 use Rattle.edr_loops.specs.declared.fast_inlets.FastInlets.{FastInlets}
 use Rattle.edr_loops.specs.declared.desk.Desk.{Desk}

@@ -4,9 +4,9 @@ use Rattle.std.proofs.lemmas.List.{length-append, length-map, map-append}
 use Rattle.edr_items.specs.SensorLists.{SensorLists, horizon_of}
 use Rattle.edr_definitions.specs.Commands.{issues}
 use Rattle.edr_run.specs.Cycle.{issues_in}
-use Rattle.edr_run.proofs.Issues.{issues-few}
+use Rattle.edr_run.proofs.IssueLemmas.{issues-few}
 use Rattle.edr_cycle.specs.Rest.{issues_past}
-use Rattle.edr_cycle.proofs.RunSteps.{between-whole}
+use Rattle.edr_cycle.proofs.RunStepLemmas.{between-whole}
 use Rattle.edr_loops.specs.declared.fast_inlets.FastInlets.{FastInlets}
 use Rattle.edr_loops.specs.declared.orders.Order.{Order}
 use Rattle.edr_loops.specs.declared.orders.Outbox.{Outbox}

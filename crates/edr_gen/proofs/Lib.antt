@@ -1,5 +1,5 @@
 pub mod DrawLemmas
-pub mod Putting
+pub mod PuttingLemmas
 pub mod TextLemmas
 pub mod TraceLemmas
 pub mod RangeLemmas

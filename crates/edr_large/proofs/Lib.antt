@@ -1,3 +1,3 @@
 pub mod RowLemmas
 pub mod MemoryLemmas
-pub mod Counting
+pub mod CountingLemmas

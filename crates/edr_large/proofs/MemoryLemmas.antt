@@ -9,7 +9,7 @@ use Rattle.edr_device.specs.Memory.{MemoryState, SameChoices, same_choices_again
 use Rattle.edr_device.specs.Numbers.{NoneYet}
 use Rattle.edr_device.specs.Told.{Told}
 use Rattle.edr_device.specs.declared.mem_nvm.MemNvm.{MemNvm}
-use Rattle.edr_device.proofs.Moments.{moment_settles}
+use Rattle.edr_device.proofs.MomentLemmas.{moment_settles}
 use Rattle.edr_image.specs.declared.Ack.{Ack}
 use Rattle.edr_image.specs.Banks.{Store}
 use Rattle.edr_image.specs.Image.{view_of}
@@ -18,8 +18,8 @@ use Rattle.edr_image.proofs.StopLaws.{contains_none}
 use Rattle.edr_run.specs.Cycle.{IsCycle, last_count}
 use Rattle.edr_cycle.specs.Ends.{MeetsCycle, cycle_with}
 use Rattle.edr_replay.specs.Replayed.{Holds}
-use Rattle.edr_replay.proofs.FewCalls.{calls_least}
-use Rattle.edr_replay.proofs.RunPhase.{runs_whole}
+use Rattle.edr_replay.proofs.FewCallLemmas.{calls_least}
+use Rattle.edr_replay.proofs.RunPhaseLemmas.{runs_whole}
 use Rattle.edr_large.specs.declared.runs.TheConstants.{CALLS}
 use Rattle.edr_large.specs.Large.{HasRunOn, acks_in}
 

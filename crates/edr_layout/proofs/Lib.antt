@@ -1,3 +1,3 @@
-pub mod NewFront
-pub mod PartPlaces
-pub mod Readable
+pub mod NewFrontLemmas
+pub mod PartPlaceLemmas
+pub mod ReadableLemmas

@@ -89,7 +89,7 @@ fn bank_view_by(bank: &[u8], layout: &Layout) -> BankView
 }
 
 /// What a bank holds.
-#[tactic(auto, using(crate::proofs::Readable::version_2_is_readable))]
+#[tactic(auto, using(crate::proofs::ReadableLemmas::version_2_is_readable))]
 pub fn bank_view(bank: &[u8; BANK_SIZE]) -> BankView
     ensures { result ≡ bank_view bank.now }
 {
@@ -97,7 +97,7 @@ pub fn bank_view(bank: &[u8; BANK_SIZE]) -> BankView
 }
 
 /// What a bank of version 1 holds.
-#[tactic(auto, using(crate::proofs::Readable::version_1_is_readable))]
+#[tactic(auto, using(crate::proofs::ReadableLemmas::version_1_is_readable))]
 pub fn old_bank_view(bank: &[u8; OLD_BANK_SIZE]) -> BankView
     ensures { result ≡ old_bank_view bank.now }
 {

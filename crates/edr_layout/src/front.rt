@@ -94,7 +94,7 @@ fn choice_byte(choice: Choice) -> u8
 }
 
 /// The front of a new image.
-#[tactic(auto, using(crate::proofs::NewFront::front_is))]
+#[tactic(auto, using(crate::proofs::NewFrontLemmas::front_is))]
 pub fn new_front(header: Header) -> [u8; FRONT_SIZE]
     ensures { result ≡ take FRONT_SIZE (new_image header) }
 {

@@ -1,7 +1,7 @@
-pub mod OldBanks
-pub mod OldReading
-pub mod EventBytes
-pub mod ImageBytes
-pub mod ImageView
-pub mod ShortEvents
-pub mod Outcomes
+pub mod OldBankLemmas
+pub mod OldReadingLemmas
+pub mod EventByteLemmas
+pub mod ImageByteLemmas
+pub mod ImageViewLemmas
+pub mod ShortEventLemmas
+pub mod OutcomeLemmas

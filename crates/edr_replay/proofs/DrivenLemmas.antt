@@ -2,7 +2,7 @@
 use Rattle.std.proofs.Common.{◌≡◌, ◌≤◌, ◌<◌, ◌+◌, ◌∙◌, ℕ, Bool, List, [], ◌∷◌, ◌++◌, length, length-append, take, Option, Some, Result, Ok, Err, IfErr, refl, sym, ap, subst, inl, inr, ⊎_elim, arith}
 use Rattle.edr_items.specs.SensorLists.{SensorLists}
 use Rattle.edr_device.specs.Faults.{Rose}
-use Rattle.edr_device.proofs.Settling.{quiet_leaves}
+use Rattle.edr_device.proofs.SettlingLemmas.{quiet_leaves}
 use Rattle.edr_image.specs.Banks.{Store}
 use Rattle.edr_image.specs.Image.{view_of}
 use Rattle.edr_image.specs.declared.log.CycleReport.{CycleReport}
@@ -14,7 +14,7 @@ use Rattle.edr_replay.specs.Phases.{LeavesOfRun}
 use Rattle.edr_replay.specs.Reached.{between, counted, in_start_counted, untouched}
 use Rattle.edr_replay.specs.Replayed.{EndsCutShort, HasRun, Holds, IsDrivenFault, IsDeviceFault, IsLeftAlone, IsLeftOrCounted, IsMemory, IsTrulyRefused, IsTrulyShort, IsTrulySpent, LeavesPart}
 use Rattle.edr_replay.proofs.CycleLemmas.{memory_refused, memory_short, memory_unspent, not_refused, not_short, not_spent, rose_later}
-use Rattle.edr_replay.proofs.Leaving.{none_first}
+use Rattle.edr_replay.proofs.LeavingLemmas.{none_first}
 
 -- ---- the commands
 

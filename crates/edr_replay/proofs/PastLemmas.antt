@@ -5,7 +5,7 @@ use Rattle.std.proofs.lemmas.Bool.Decides.{nat_tests}
 use Rattle.edr_device.specs.Device.{Comes, MayLeave, Stays, is_in}
 use Rattle.edr_device.specs.Pieces.{SameBut}
 use Rattle.edr_device.specs.Told.{Told}
-use Rattle.edr_device.proofs.Settling.{quiet_leaves}
+use Rattle.edr_device.proofs.SettlingLemmas.{quiet_leaves}
 use Rattle.edr_image.specs.declared.Header.{Header}
 use Rattle.edr_image.specs.Banks.{Store}
 use Rattle.edr_image.specs.Image.{View, image_size}
@@ -17,7 +17,7 @@ use Rattle.edr_cycle.specs.Past.{KeepsPast}
 use Rattle.edr_cycle.proofs.PastLemmas.{past_again, past_same}
 use Rattle.edr_replay.specs.Past.{LeavesPast, LeavesPastOf}
 use Rattle.edr_replay.specs.Replayed.{Holds}
-use Rattle.edr_replay.proofs.StartPhase.{found_held}
+use Rattle.edr_replay.proofs.StartPhaseLemmas.{found_held}
 use Rattle.edr_replay.proofs.StopLemmas.{leaves_itself}
 
 -- ---- one phase

@@ -5,6 +5,6 @@ pub mod OrderLaws
 pub mod OwnLaws
 pub mod LoggedLaws
 pub mod NextLaws
-pub mod Issues
-pub mod Replies
-pub mod AnySchedule
+pub mod IssueLemmas
+pub mod ReplyLemmas
+pub mod AnyScheduleLaws

@@ -1,6 +1,6 @@
 use Rattle.std.proofs.Common.{rules, ◌≡◌}
 use Rattle.edr_large.specs.Counts.{counts_of}
-use Rattle.edr_large.proofs.Counting.{counted_is}
+use Rattle.edr_large.proofs.CountingLemmas.{counted_is}
 use Rattle.edr_large.proofs.count.Goals as goal
 
 pub returns : goal.returns

@@ -1,5 +1,5 @@
 -- An image that is refused isn't whole.
-use Rattle.edr_migrate.proofs.Outcomes.{refused_not_whole}
+use Rattle.edr_migrate.proofs.OutcomeLemmas.{refused_not_whole}
 use Rattle.edr_migrate.proofs.check.Goals as goal
 
 pub returns-in-Err-clause-whole : goal.returns-in-Err-clause-whole

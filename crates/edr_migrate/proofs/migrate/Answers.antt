@@ -1,12 +1,12 @@
 -- A refusal leaves all as it was; else the image that was read is laid.
 use Rattle.std.proofs.Common.{◌≡◌, Some, subst, sym, List, ℕ}
-use Rattle.edr_device.proofs.Settling.{elapses_more}
+use Rattle.edr_device.proofs.SettlingLemmas.{elapses_more}
 use Rattle.edr_image.specs.Image.{image_size, old_refusal, old_view_of}
 use Rattle.edr_banks.specs.Laying.{IsPartlyOver, over}
 use Rattle.edr_migrate.specs.NewBytes.{IsPartlyMigrated, image_of}
 use Rattle.edr_migrate.specs.OldImage.{view_in}
-use Rattle.edr_migrate.proofs.ImageView.{old_view_sound, view_whole}
-use Rattle.edr_migrate.proofs.Outcomes.{old_over, old_part, part_kept, refused_not_whole, same_part}
+use Rattle.edr_migrate.proofs.ImageViewLemmas.{old_view_sound, view_whole}
+use Rattle.edr_migrate.proofs.OutcomeLemmas.{old_over, old_part, part_kept, refused_not_whole, same_part}
 use Rattle.edr_migrate.proofs.migrate.Goals as goal
 
 pub returns-in-Err-clause-short : goal.returns-in-Err-clause-short

@@ -3,8 +3,8 @@ use Rattle.std.proofs.lemmas.Result.{err_from_is_err_and}
 use Rattle.edr_cycle.specs.declared.started.StartFault.TheVariants as fault
 use Rattle.edr_replay.proofs.CycleLemmas.{memory_short, memory_spent, memory_refused}
 use Rattle.edr_replay.proofs.PastLemmas.{past_none}
-use Rattle.edr_replay.proofs.Running.{running_first, running_more, ends_spent, ends_refused, past_ran}
-use Rattle.edr_replay.proofs.Leaving.{reached_none, reached_more, short_none, short_more}
+use Rattle.edr_replay.proofs.RunningLemmas.{running_first, running_more, ends_spent, ends_refused, past_ran}
+use Rattle.edr_replay.proofs.LeavingLemmas.{reached_none, reached_more, short_none, short_more}
 use Rattle.edr_replay.proofs.replay.Goals as goal
 
 pub returns-in_err-reports-clause-spent : goal.returns-in_err-reports-clause-spent

@@ -1,5 +1,5 @@
 use Rattle.std.proofs.Common.{vec_capacity}
-use Rattle.edr_replay.proofs.Running.{Running}
+use Rattle.edr_replay.proofs.RunningLemmas.{Running}
 use Rattle.edr_replay.proofs.replay.Given as goal
 
 abbrev pub invariant-loop-cycle : goal.invariant-loop-cycle

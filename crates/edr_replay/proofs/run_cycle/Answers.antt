@@ -2,7 +2,7 @@ use Rattle.std.proofs.Common.{rules, subst}
 use Rattle.edr_replay.specs.declared.phases.StartedCycle.{StartedCycle}
 use Rattle.edr_replay.specs.Phases.{BeginsAs}
 use Rattle.edr_replay.proofs.CycleLemmas.{stopped_ends, begun_ran, not_short, not_spent, not_refused, rose_later}
-use Rattle.edr_replay.proofs.Leaving.{part_of_start, part_of_run, not_memory}
+use Rattle.edr_replay.proofs.LeavingLemmas.{part_of_start, part_of_run, not_memory}
 use Rattle.edr_replay.proofs.PastLemmas.{begun_past}
 use Rattle.edr_replay.proofs.run_cycle.Goals as goal
 

@@ -2,7 +2,7 @@
 use Rattle.std.proofs.Common.{inl, subst}
 use Rattle.edr_image.specs.Steps.{Reply}
 use Rattle.edr_gates.specs.Taken.{EachIsPassed}
-use Rattle.edr_gates.proofs.StepLists.{each_passed}
+use Rattle.edr_gates.proofs.StepListLemmas.{each_passed}
 use Rattle.edr_banks.specs.Applying.{steps_for}
 use Rattle.edr_banks.specs.Opened.{IsOpened, OpenedBanks}
 use Rattle.edr_banks.proofs.PassedLemmas.{crash_passed, locked_passed}

@@ -1,13 +1,13 @@
 -- What a laying of a new image leaves.
 use Rattle.std.proofs.Common.{refl, arith, length, ◌≤◌}
-use Rattle.edr_device.proofs.Settling.{elapses_more}
+use Rattle.edr_device.proofs.SettlingLemmas.{elapses_more}
 use Rattle.edr_image.specs.declared.Header.{Header}
 use Rattle.edr_image.specs.Image.{image_size, new_image}
 use Rattle.edr_banks.specs.Formatting.{IsPartlyFormatted, formatted}
 use Rattle.edr_banks.specs.Laying.{IsPartlyOver}
-use Rattle.edr_banks.proofs.KeptNew.{kept_part}
-use Rattle.edr_banks.proofs.NewImage.{new_image_whole}
-use Rattle.edr_banks.proofs.NewView.{formatted_new, formatted_part, room_done}
+use Rattle.edr_banks.proofs.KeptNewLemmas.{kept_part}
+use Rattle.edr_banks.proofs.NewImageLemmas.{new_image_whole}
+use Rattle.edr_banks.proofs.NewViewLemmas.{formatted_new, formatted_part, room_done}
 use Rattle.edr_banks.proofs.Banks.format.Goals as goal
 
 pub lay-requires-clause-whole : goal.lay-requires-clause-whole

@@ -4,8 +4,8 @@ use Rattle.std.proofs.lemmas.Result.{err_from_is_err_and}
 use Rattle.edr_image.specs.declared.OpenFault.TheVariants as open_fault
 use Rattle.edr_image.specs.Image.{image_refusal}
 use Rattle.edr_banks.specs.Opening.{IsRefusal}
-use Rattle.edr_banks.proofs.FirstBytes.{shown_first, where_ok}
-use Rattle.edr_banks.proofs.HeaderBytes.{IsFront, refused_by_first, refused_short, view_read}
+use Rattle.edr_banks.proofs.FirstByteLemmas.{shown_first, where_ok}
+use Rattle.edr_banks.proofs.HeaderByteLemmas.{IsFront, refused_by_first, refused_short, view_read}
 use Rattle.edr_banks.proofs.Banks.open.Goals as goal
 
 pub returns-then-size-least-clause-refused : goal.returns-then-size-least-clause-refused

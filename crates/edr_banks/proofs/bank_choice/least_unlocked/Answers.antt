@@ -1,7 +1,7 @@
 -- The event of one more bank is taken where it is the lesser.
 use Rattle.std.proofs.Common.{◌∙◌, sym, arith}
 use Rattle.edr_banks.specs.Lesser.{referred}
-use Rattle.edr_banks.proofs.LeastKey.{least_left, least_taken}
+use Rattle.edr_banks.proofs.LeastKeyLemmas.{least_left, least_taken}
 use Rattle.edr_banks.proofs.bank_choice.least_unlocked.Goals as goal
 
 pub loop-k-preserved-then-is_lesser : goal.loop-k-preserved-then-is_lesser

@@ -1,6 +1,6 @@
 use Rattle.std.proofs.Common.{◌≡◌, ◌+◌, drop}
 use Rattle.edr_banks.specs.Lesser.{referred}
-use Rattle.edr_banks.proofs.LeastKey.{least_free}
+use Rattle.edr_banks.proofs.LeastKeyLemmas.{least_free}
 use Rattle.edr_banks.proofs.bank_choice.least_unlocked.Given as goal
 
 -- the least of the banks from the place k on

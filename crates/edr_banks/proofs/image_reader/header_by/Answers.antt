@@ -1,6 +1,6 @@
 -- The number of banks was looked at.
 use Rattle.edr_image.specs.declared.forms.TheConstants.{VERSION_2}
-use Rattle.edr_banks.proofs.HeaderBytes.{header_within}
+use Rattle.edr_banks.proofs.HeaderByteLemmas.{header_within}
 use Rattle.edr_banks.proofs.image_reader.header_by.Goals as goal
 
 pub returns-clause-within : goal.returns-clause-within

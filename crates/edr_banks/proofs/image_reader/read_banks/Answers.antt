@@ -1,7 +1,7 @@
 -- One bank more was read, and nothing was changed.
 use Rattle.std.proofs.Common.{◌∙◌, arith}
 use Rattle.std.proofs.lemmas.Grind.{common_steps}
-use Rattle.edr_banks.proofs.HeaderBytes.{banks_more, stays_again}
+use Rattle.edr_banks.proofs.HeaderByteLemmas.{banks_more, stays_again}
 use Rattle.edr_banks.proofs.image_reader.read_banks.Goals as goal
 
 pub loop-k-preserved : goal.loop-k-preserved

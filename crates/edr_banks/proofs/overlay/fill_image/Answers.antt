@@ -2,7 +2,7 @@
 use Rattle.std.proofs.Common.{◌≤◌, arith, length, List, ℕ}
 use Rattle.edr_image.specs.Image.{image_size}
 use Rattle.edr_banks.specs.Laying.{IsBare}
-use Rattle.edr_banks.proofs.LaidPieces.{filled_if}
+use Rattle.edr_banks.proofs.LaidPieceLemmas.{filled_if}
 use Rattle.edr_banks.proofs.overlay.fill_image.Goals as goal
 
 pub returns-clause-filled : goal.returns-clause-filled

@@ -1,10 +1,10 @@
 -- A refusal leaves all as it was; else the image is written over what was read.
 use Rattle.std.proofs.Common.{sym, arith, ⊎_elim}
-use Rattle.edr_device.proofs.Settling.{stays_quiet}
+use Rattle.edr_device.proofs.SettlingLemmas.{stays_quiet}
 use Rattle.edr_image.specs.Image.{image_size}
 use Rattle.edr_banks.specs.Laying.{IsPartlyOver}
-use Rattle.edr_banks.proofs.FirstBytes.{elapses_after, not_read, shown_first, where_ok}
-use Rattle.edr_banks.proofs.Marking.{left_part}
+use Rattle.edr_banks.proofs.FirstByteLemmas.{elapses_after, not_read, shown_first, where_ok}
+use Rattle.edr_banks.proofs.MarkingLemmas.{left_part}
 use Rattle.edr_banks.proofs.overlay.lay.Goals as goal
 
 pub returns-then-size-needed-clause-each : goal.returns-then-size-needed-clause-each

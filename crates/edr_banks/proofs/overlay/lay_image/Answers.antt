@@ -3,10 +3,10 @@ use Rattle.std.proofs.Common.{◌≡◌, ◌≤◌, ◌+◌, arith, rules, subst
 use Rattle.edr_device.specs.Device.{MayLeave, outside}
 use Rattle.edr_image.specs.declared.places.TheConstants.{BANK_SIZE}
 use Rattle.edr_image.specs.Image.{image_size, place_of}
-use Rattle.edr_device.proofs.Settling.{elapses_again, elapses_more, on_err, told_tells, tells_again, wrote_tells}
+use Rattle.edr_device.proofs.SettlingLemmas.{elapses_again, elapses_more, on_err, told_tells, tells_again, wrote_tells}
 use Rattle.edr_banks.specs.Laying.{IsUnmarked, Laid}
-use Rattle.edr_banks.proofs.LaidPieces.{IsPieceOf, bare_during, laid_during, laid_first, laid_more}
-use Rattle.edr_banks.proofs.Pieces.{bank_piece, head_piece, head_size, piece_size}
+use Rattle.edr_banks.proofs.LaidPieceLemmas.{IsPieceOf, bare_during, laid_during, laid_first, laid_more}
+use Rattle.edr_banks.proofs.PieceLemmas.{bank_piece, head_piece, head_size, piece_size}
 use Rattle.edr_banks.proofs.overlay.lay_image.Goals as goal
 
 pub loop-bank-init : goal.loop-bank-init

@@ -2,10 +2,10 @@
 use Rattle.std.proofs.Common.{◌≤◌, arith, length, subst, List, ℕ}
 use Rattle.edr_device.specs.Device.{IsQuiet}
 use Rattle.edr_device.specs.Pieces.{SameBut}
-use Rattle.edr_device.proofs.Settling.{elapses_again, map_ok}
+use Rattle.edr_device.proofs.SettlingLemmas.{elapses_again, map_ok}
 use Rattle.edr_image.specs.Image.{image_size}
 use Rattle.edr_banks.specs.Laying.{IsPartlyOver, IsUnmarked}
-use Rattle.edr_banks.proofs.Marking.{filled_part, filled_put, unmarked_part}
+use Rattle.edr_banks.proofs.MarkingLemmas.{filled_part, filled_put, unmarked_part}
 use Rattle.edr_banks.proofs.overlay.put_image.Goals as goal
 
 pub returns-clause-done : goal.returns-clause-done

@@ -1,9 +1,9 @@
 -- Either byte 0 is not that of the magic, or it alone may have changed.
 use Rattle.std.proofs.Common.{◌∙◌}
 use Rattle.edr_device.specs.Pieces.{SameBut}
-use Rattle.edr_device.proofs.Settling.{elapses_more}
+use Rattle.edr_device.proofs.SettlingLemmas.{elapses_more}
 use Rattle.edr_banks.specs.Laying.{IsUnmarking}
-use Rattle.edr_banks.proofs.Marking.{unmarking_marked}
+use Rattle.edr_banks.proofs.MarkingLemmas.{unmarking_marked}
 use Rattle.edr_banks.proofs.overlay.unmark.Goals as goal
 
 pub returns-then-first-clause-any_moment : goal.returns-then-first-clause-any_moment

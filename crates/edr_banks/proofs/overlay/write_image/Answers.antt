@@ -1,10 +1,10 @@
 -- What is put over the bytes without the magic is what is put over them.
 use Rattle.std.proofs.Common.{subst, arith, List, ℕ}
 use Rattle.edr_device.specs.Device.{IsQuiet}
-use Rattle.edr_device.proofs.Settling.{elapses_again, map_ok}
+use Rattle.edr_device.proofs.SettlingLemmas.{elapses_again, map_ok}
 use Rattle.edr_image.specs.Image.{image_size}
 use Rattle.edr_banks.specs.Laying.{IsPartlyOver, IsUnmarking}
-use Rattle.edr_banks.proofs.Marking.{over_same, part_before, unmarking_part}
+use Rattle.edr_banks.proofs.MarkingLemmas.{over_same, part_before, unmarking_part}
 use Rattle.edr_banks.proofs.overlay.write_image.Goals as goal
 
 pub returns-clause-done : goal.returns-clause-done

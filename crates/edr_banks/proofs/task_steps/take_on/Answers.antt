@@ -1,4 +1,4 @@
-use Rattle.edr_gates.proofs.TakenSteps.{takes_none}
+use Rattle.edr_gates.proofs.TakenStepLemmas.{takes_none}
 use Rattle.edr_banks.proofs.task_steps.take_on.Goals as goal
 
 pub returns-in-Nothing-clause-steps : goal.returns-in-Nothing-clause-steps

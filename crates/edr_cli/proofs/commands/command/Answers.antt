@@ -7,7 +7,7 @@ use Rattle.edr_cli.specs.declared.fault.Fault.TheVariants as fault
 use Rattle.edr_cli.specs.Causes.{IsNumberCause, IsReplayCause, IsUsageCause}
 use Rattle.edr_cli.specs.Outcomes.{Formats, MakesText, Runs, ShowsReport}
 use Rattle.edr_cli.specs.Words.{AreFormatWords, AreGenerateWords, AreLargeWords, AreReplayWords, AreReportWords}
-use Rattle.edr_cli.proofs.Dispatch.{as_format, as_generate, as_large, as_replay, as_report}
+use Rattle.edr_cli.proofs.DispatchLemmas.{as_format, as_generate, as_large, as_replay, as_report}
 use Rattle.edr_cli.proofs.EndingLemmas.{ends_text, served_text, tells_fault, tells_fault_part}
 use Rattle.edr_cli.proofs.OutcomeLemmas.{formats_short, makes_short, migrates_short, runs_short, shows_short}
 use Rattle.edr_cli.proofs.commands.command.Goals as goal

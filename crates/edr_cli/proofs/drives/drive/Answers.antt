@@ -6,7 +6,7 @@ use Rattle.edr_cli.specs.Outcomes.{Runs}
 use Rattle.edr_cli.specs.Outside.{input, memory}
 use Rattle.edr_cli.specs.Runs.{RunIs}
 use Rattle.edr_cli.specs.Words.{AreDrive}
-use Rattle.edr_cli.proofs.Dispatch.{as_drive}
+use Rattle.edr_cli.proofs.DispatchLemmas.{as_drive}
 use Rattle.edr_cli.proofs.DriveLemmas.{driven_only_memory}
 use Rattle.edr_cli.proofs.EndingLemmas.{ends, served, tells_fault, tells_fault_part, when_ok}
 use Rattle.edr_cli.proofs.ImageLemmas.{err_map}

@@ -9,7 +9,7 @@ use Rattle.edr_cli.proofs.ImageLemmas.{ok_map, err_map}
 use Rattle.edr_replay.proofs.PastLemmas.{past_none}
 use Rattle.edr_cli.proofs.PastLemmas.{past_looked, past_opened}
 use Rattle.edr_cli.proofs.ReplayLemmas.{leaves_none, look_cause, replayed}
-use Rattle.edr_device.proofs.Settling.{tells_again}
+use Rattle.edr_device.proofs.SettlingLemmas.{tells_again}
 use Rattle.edr_cli.proofs.drives.drive_source.Goals as goal
 
 pub returns-clause-text : goal.returns-clause-text

@@ -1,9 +1,9 @@
 use Rattle.std.proofs.Common.{ap, List, ℕ}
 use Rattle.std.specs.Result.{is_err}
 use Rattle.edr_device.specs.Device.{IsQuiet}
-use Rattle.edr_device.proofs.Settling.{quiet_leaves, stays_quiet}
+use Rattle.edr_device.proofs.SettlingLemmas.{quiet_leaves, stays_quiet}
 use Rattle.edr_banks.specs.Formatting.{IsNew, LacksMagic}
-use Rattle.edr_cli.proofs.Barrier.{sync_settles, sync_leaves}
+use Rattle.edr_cli.proofs.BarrierLemmas.{sync_settles, sync_leaves}
 use Rattle.edr_cli.proofs.ImageLemmas.{if_each, still_there}
 use Rattle.edr_cli.proofs.format.make_image.Goals as goal
 

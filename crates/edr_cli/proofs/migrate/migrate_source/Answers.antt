@@ -1,5 +1,5 @@
 use Rattle.std.proofs.Common.{arith, subst, inl, ◌+◌, ◌≤◌, List, length, ℕ, IfSome}
-use Rattle.edr_device.proofs.Settling.{quiet_leaves}
+use Rattle.edr_device.proofs.SettlingLemmas.{quiet_leaves}
 use Rattle.edr_spell.specs.Spell.{largest_trace}
 use Rattle.edr_cli.specs.Causes.{IsMigrateCause, IsTakingCause}
 use Rattle.edr_cli.specs.Migrations.{IsPartlyTaken, MigrateIs, TookOver}

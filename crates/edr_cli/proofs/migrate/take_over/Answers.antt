@@ -1,12 +1,12 @@
 use Rattle.std.proofs.Common.{◌≡◌, ◌∙◌, ap, sym, inl, inr, List, ℕ}
 use Rattle.std.proofs.lemmas.Result.{err_from_is_err_and}
 use Rattle.std.specs.Result.{is_err}
-use Rattle.edr_device.proofs.Settling.{quiet_leaves, stays_quiet}
+use Rattle.edr_device.proofs.SettlingLemmas.{quiet_leaves, stays_quiet}
 use Rattle.edr_migrate.specs.declared.Migrated.{Migrated}
 use Rattle.edr_report.specs.Format.{migrate_line}
 use Rattle.edr_cli.specs.Migrations.{TookOver}
 use Rattle.edr_cli.specs.Outside.{memory}
-use Rattle.edr_cli.proofs.Barrier.{sync_leaves, sync_settles, sync_stays}
+use Rattle.edr_cli.proofs.BarrierLemmas.{sync_leaves, sync_settles, sync_stays}
 use Rattle.edr_cli.proofs.ImageLemmas.{if_each}
 use Rattle.edr_cli.proofs.MigrationLemmas.{taking_cause}
 use Rattle.edr_cli.proofs.migrate.take_over.Goals as goal

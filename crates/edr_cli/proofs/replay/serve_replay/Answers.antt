@@ -1,7 +1,7 @@
 use Rattle.edr_cli.specs.Causes.{IsReplayCause}
 use Rattle.edr_cli.specs.Outside.{input, memory}
 use Rattle.edr_cli.specs.Runs.{RunIs}
-use Rattle.edr_cli.proofs.Completeness.{only_memory}
+use Rattle.edr_cli.proofs.CompletenessLemmas.{only_memory}
 use Rattle.edr_cli.proofs.EndingLemmas.{ends, served, when_ok}
 use Rattle.edr_cli.proofs.ImageLemmas.{err_map}
 use Rattle.edr_cli.proofs.replay.serve_replay.Goals as goal

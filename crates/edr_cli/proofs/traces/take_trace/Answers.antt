@@ -1,7 +1,7 @@
 use Rattle.std.proofs.Common.{arith, ◌≡◌, ◌∙◌, sym, ap, subst, ℕ, ◌+◌, ◌-◌, ◌≤◌, List, [], ◌++◌, length, take, length-append, length-take-le, vec_len}
 use Rattle.edr_device.specs.Told.{Told}
 use Rattle.edr_device.specs.Transfer.{Carries, GivesAll}
-use Rattle.edr_device.proofs.Transfers.{Gives, gives_at_most}
+use Rattle.edr_device.proofs.TransferLemmas.{Gives, gives_at_most}
 use Rattle.edr_cli.proofs.TakingLemmas.{all_most, gives_end, gives_more, gives_most, gives_none, gives_too_many, restored}
 use Rattle.edr_cli.proofs.traces.take_trace.Given.{Over}
 use Rattle.edr_cli.proofs.traces.take_trace.Goals as goal

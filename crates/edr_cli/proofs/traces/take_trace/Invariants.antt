@@ -1,6 +1,6 @@
 use Rattle.std.proofs.Common.{◌≡◌, ◌≤◌, ◌+◌, ◌-◌, ℕ, List, ◌++◌, length, take, vec_len}
 use Rattle.edr_device.specs.Told.{Told}
-use Rattle.edr_device.proofs.Transfers.{Gives}
+use Rattle.edr_device.proofs.TransferLemmas.{Gives}
 use Rattle.edr_trace.specs.Given.{Given}
 use Rattle.edr_cli.proofs.traces.take_trace.Given as goal
 

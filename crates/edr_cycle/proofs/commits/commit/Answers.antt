@@ -1,11 +1,11 @@
 use Rattle.std.proofs.Common.{◌≡◌, ◌∷◌, ◌++◌, ◌-◌, [], ap}
-use Rattle.edr_device.proofs.Lending.{makes_err, makes_ok}
+use Rattle.edr_device.proofs.LendingLemmas.{makes_err, makes_ok}
 use Rattle.edr_image.specs.Calls.{all_calls}
 use Rattle.edr_image.specs.Steps.{reply_to}
 use Rattle.edr_banks.specs.Opened.{OpenedBanks, state_of}
 use Rattle.edr_definitions.specs.Commands.{issue_at}
-use Rattle.edr_cycle.proofs.Applied.{pass_keeps, pass_says, stopped_cuts, taken_says}
-use Rattle.edr_cycle.proofs.Committed.{one_applied, one_failed}
+use Rattle.edr_cycle.proofs.AppliedLemmas.{pass_keeps, pass_says, stopped_cuts, taken_says}
+use Rattle.edr_cycle.proofs.CommittedLemmas.{one_applied, one_failed}
 use Rattle.edr_cycle.proofs.commits.commit.Goals as goal
 
 pub returns-in-Ok-clause-commits : goal.returns-in-Ok-clause-commits

@@ -3,7 +3,7 @@ use Rattle.std.proofs.lemmas.List.{map-append}
 use Rattle.std.specs.Option.{option_to_list}
 use Rattle.edr_record.specs.declared.Command.TheVariants.{Take, Lock, Done}
 use Rattle.edr_definitions.specs.Commands.{issue_at}
-use Rattle.edr_cycle.proofs.Committed.{commits_failed, commits_then}
+use Rattle.edr_cycle.proofs.CommittedLemmas.{commits_failed, commits_then}
 use Rattle.edr_cycle.proofs.commits.commit_tick.Goals as goal
 
 pub returns-in_err-commit_some-clause-commits : goal.returns-in_err-commit_some-clause-commits

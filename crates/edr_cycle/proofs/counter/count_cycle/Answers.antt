@@ -1,6 +1,6 @@
 use Rattle.std.proofs.Common.{arith, ap, sym, subst, ◌≡◌, ◌-◌, ◌∙◌, ℕ, length}
-use Rattle.edr_cycle.proofs.Answered.{map_err, map_ok}
-use Rattle.edr_cycle.proofs.FirstBytes.{found_stays, next_found, slot_within, stays_elapse}
+use Rattle.edr_cycle.proofs.AnsweredLemmas.{map_err, map_ok}
+use Rattle.edr_cycle.proofs.FirstByteLemmas.{found_stays, next_found, slot_within, stays_elapse}
 use Rattle.edr_image.specs.Image.{place_of_slot}
 use Rattle.edr_cycle.specs.Counter.{IsCountAfterStop}
 use Rattle.edr_cycle.proofs.counter.count_cycle.Goals as goal

@@ -1,13 +1,13 @@
 use Rattle.std.proofs.Common.{◌≤◌, ◌+◌, ◌-◌, ◌∷◌, [], List, ℕ, subst, sym, arith}
 use Rattle.edr_device.specs.Device.{MayLeave}
 use Rattle.edr_device.specs.Pieces.{IsGatedStop, SameBut, put_at}
-use Rattle.edr_device.proofs.Settling.{elapses_again, elapses_more, on_err}
+use Rattle.edr_device.proofs.SettlingLemmas.{elapses_again, elapses_more, on_err}
 use Rattle.edr_image.specs.Image.{View}
 use Rattle.edr_cycle.specs.Counter.{IsCountAfterStop, IsNextSlot}
 use Rattle.edr_cycle.specs.Ends.{IsFound}
-use Rattle.edr_cycle.proofs.Slots.{close_at, open_after, open_made}
-use Rattle.edr_cycle.proofs.Front.{fits_next, says_counted, says_later, says_made}
-use Rattle.edr_cycle.proofs.Answered.{map_err, map_ok}
+use Rattle.edr_cycle.proofs.SlotLemmas.{close_at, open_after, open_made}
+use Rattle.edr_cycle.proofs.FrontLemmas.{fits_next, says_counted, says_later, says_made}
+use Rattle.edr_cycle.proofs.AnsweredLemmas.{map_err, map_ok}
 use Rattle.edr_cycle.proofs.counter.count_up.Goals as goal
 
 pub returns-in_err-write_settled-clause-stopped : goal.returns-in_err-write_settled-clause-stopped

@@ -2,7 +2,7 @@ use Rattle.std.proofs.Common.{arith, ap, refl, sym, subst, ◌∙◌, ℕ, List,
 use Rattle.edr_definitions.specs.Commands.{Issue}
 use Rattle.edr_cycle.specs.Commits.{Commits}
 use Rattle.edr_cycle.specs.Rest.{issues_past}
-use Rattle.edr_cycle.proofs.RunSteps.{given-none, issues-start, past-start}
+use Rattle.edr_cycle.proofs.RunStepLemmas.{given-none, issues-start, past-start}
 use Rattle.edr_cycle.proofs.cycle_run.run.Goals as goal
 
 pub run_on-requires-clause-given : goal.run_on-requires-clause-given

@@ -2,9 +2,9 @@ use Rattle.std.proofs.Common.{arith, ap, refl, ◌∙◌}
 use Rattle.edr_items.specs.SensorLists.{items_of}
 use Rattle.edr_core.specs.Answers.{commands_put}
 use Rattle.edr_device.specs.Faults.{Rose}
-use Rattle.edr_device.proofs.Settling.{on_err, tells_again}
-use Rattle.edr_cycle.proofs.Answered.{tells_self}
-use Rattle.edr_cycle.proofs.RunSteps.{closes-below, give-allowed, left_count, left_count-less, on_ok, room-left, run-begins, run-closes, run-fails, run-gives, run-over}
+use Rattle.edr_device.proofs.SettlingLemmas.{on_err, tells_again}
+use Rattle.edr_cycle.proofs.AnsweredLemmas.{tells_self}
+use Rattle.edr_cycle.proofs.RunStepLemmas.{closes-below, give-allowed, left_count, left_count-less, on_ok, room-left, run-begins, run-closes, run-fails, run-gives, run-over}
 use Rattle.edr_cycle.proofs.cycle_run.run_on.Goals as goal
 
 -- at first nothing was given

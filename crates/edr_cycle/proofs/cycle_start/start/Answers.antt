@@ -1,7 +1,7 @@
 use Rattle.std.proofs.Common.{rules, arith, ap, sym, ◌∙◌}
 use Rattle.std.proofs.lemmas.Result.{err_from_is_err_and}
 use Rattle.edr_image.specs.Image.{View, view_of}
-use Rattle.edr_cycle.proofs.FirstBytes.{found_stays}
+use Rattle.edr_cycle.proofs.FirstByteLemmas.{found_stays}
 use Rattle.edr_cycle.proofs.StartLemmas.{made_found, number_next, six_err, six_ok, some_view, starts_counted, starts_early}
 use Rattle.edr_cycle.proofs.cycle_start.start.Goals as goal
 

@@ -1,4 +1,4 @@
-use Rattle.edr_cycle.proofs.Keeping.{first_steps-keep}
+use Rattle.edr_cycle.proofs.KeepingLemmas.{first_steps-keep}
 use Rattle.edr_cycle.proofs.laws.first_steps_keep_events.Goals as goal
 
 pub returns : goal.returns

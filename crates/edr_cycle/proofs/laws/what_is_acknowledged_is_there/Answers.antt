@@ -1,4 +1,4 @@
-use Rattle.edr_cycle.proofs.Acknowledging.{stop-acknowledged}
+use Rattle.edr_cycle.proofs.AcknowledgingLemmas.{stop-acknowledged}
 use Rattle.edr_cycle.proofs.laws.what_is_acknowledged_is_there.Goals as goal
 
 pub returns : goal.returns

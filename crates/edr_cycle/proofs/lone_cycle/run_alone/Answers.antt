@@ -3,7 +3,7 @@ use Rattle.edr_banks.specs.Opened.{OpenedBanks}
 use Rattle.edr_run.specs.Cycle.{issues_in}
 use Rattle.edr_cycle.specs.Commits.{Commits}
 use Rattle.edr_cycle.specs.Ends.{MeetsCycle}
-use Rattle.edr_cycle.proofs.Ending.{meets}
+use Rattle.edr_cycle.proofs.EndingLemmas.{meets}
 use Rattle.edr_cycle.proofs.lone_cycle.run_alone.Goals as goal
 
 pub returns-clause-cycle : goal.returns-clause-cycle

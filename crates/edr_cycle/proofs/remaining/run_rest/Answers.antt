@@ -4,11 +4,11 @@ use Rattle.edr_core.specs.Answers.{commands_put}
 use Rattle.edr_core.specs.SplitHistory.{History}
 use Rattle.edr_core.specs.SplitContents.{SplitContents}
 use Rattle.edr_device.specs.Faults.{Rose}
-use Rattle.edr_device.proofs.Settling.{on_err, tells_again}
+use Rattle.edr_device.proofs.SettlingLemmas.{on_err, tells_again}
 use Rattle.edr_cycle.specs.Remaining.{IsOpenAt, RemainsAt}
 use Rattle.edr_cycle.specs.declared.remaining.Remaining.{Remaining}
-use Rattle.edr_cycle.proofs.Answered.{tells_self}
-use Rattle.edr_cycle.proofs.RestRuns.{rest-begins, rest-closes, rest-fails, rest-goes, rest-over, rest-room}
+use Rattle.edr_cycle.proofs.AnsweredLemmas.{tells_self}
+use Rattle.edr_cycle.proofs.RestRunLemmas.{rest-begins, rest-closes, rest-fails, rest-goes, rest-over, rest-room}
 use Rattle.edr_cycle.proofs.remaining.run_rest.Goals as goal
 
 -- where the loop goes on, some tick is still to be closed

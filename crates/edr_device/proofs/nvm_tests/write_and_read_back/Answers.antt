@@ -1,6 +1,6 @@
 use Rattle.std.proofs.Common.{arith, ◌≡◌, ◌≤◌, ◌+◌, ℕ, length, subst, sym, ⊎_elim}
 use Rattle.edr_device.specs.Device.{MayLeave}
-use Rattle.edr_device.proofs.Settling.{near_leaves, near_write, quiet_leaves, quiet_written, rose_of}
+use Rattle.edr_device.proofs.SettlingLemmas.{near_leaves, near_write, quiet_leaves, quiet_written, rose_of}
 use Rattle.edr_device.proofs.nvm_tests.write_and_read_back.Goals as goal
 
 pub returns-clause-after_write : goal.returns-clause-after_write

@@ -1,6 +1,6 @@
 use Rattle.std.proofs.Common.{ℕ, arith, length-drop}
 use Rattle.std.proofs.lemmas.List.{take_rest}
-use Rattle.edr_device.proofs.Transfers.{appends_more}
+use Rattle.edr_device.proofs.TransferLemmas.{appends_more}
 use Rattle.edr_device.proofs.transfer.put_all.Goals as goal
 
 pub loop-at-preserved : goal.loop-at-preserved

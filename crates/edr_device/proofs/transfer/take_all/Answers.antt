@@ -1,6 +1,6 @@
 use Rattle.std.proofs.Common.{◌+◌, ℕ, arith, length-take}
 use Rattle.std.proofs.lemmas.Result.{err_from_is_err_and}
-use Rattle.edr_device.proofs.Transfers.{gives_at_most}
+use Rattle.edr_device.proofs.TransferLemmas.{gives_at_most}
 use Rattle.edr_device.proofs.transfer.take_all.Goals as goal
 
 pub returns-in_err-take_more-clause-err : goal.returns-in_err-take_more-clause-err

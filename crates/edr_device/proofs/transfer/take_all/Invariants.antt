@@ -1,6 +1,6 @@
 use Rattle.std.proofs.Common.{◌≤◌, ◌+◌, ◌-◌, vec_len}
 use Rattle.edr_device.specs.Told.{Told}
-use Rattle.edr_device.proofs.Transfers.{Gives}
+use Rattle.edr_device.proofs.TransferLemmas.{Gives}
 use Rattle.edr_device.proofs.transfer.take_all.Given as goal
 
 abbrev pub invariant-loop-buffer : goal.invariant-loop-buffer

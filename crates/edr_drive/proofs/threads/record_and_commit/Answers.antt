@@ -1,5 +1,5 @@
 use Rattle.std.proofs.Common.{arith, refl}
-use Rattle.edr_device.proofs.Lending.{tells_self}
+use Rattle.edr_device.proofs.LendingLemmas.{tells_self}
 use Rattle.edr_loops.specs.Orders.{orders_taken}
 use Rattle.edr_drive.proofs.TakenLemmas.{none-committed}
 use Rattle.edr_drive.proofs.threads.record_and_commit.Goals as goal

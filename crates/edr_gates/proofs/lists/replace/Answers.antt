@@ -1,6 +1,6 @@
 use Rattle.std.proofs.Common.{◌∷◌, []}
 use Rattle.edr_image.specs.Steps.{Erase, Fill}
-use Rattle.edr_gates.proofs.TakenSteps.{first_failed, then_came}
+use Rattle.edr_gates.proofs.TakenStepLemmas.{first_failed, then_came}
 use Rattle.edr_gates.proofs.lists.replace.Goals as goal
 
 pub returns-in_err-erase : goal.returns-in_err-erase

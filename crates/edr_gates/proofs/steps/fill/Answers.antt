@@ -2,10 +2,10 @@ use Rattle.std.proofs.Common.{ℕ, List, ◌+◌, ◌-◌, ◌∷◌, [], refl}
 use Rattle.edr_device.specs.Pieces.{IsGatedStop, put_at}
 use Rattle.edr_image.specs.Image.{place_of}
 use Rattle.edr_image.specs.Steps.{Fill}
-use Rattle.edr_gates.proofs.PartsBack.{filling_back}
-use Rattle.edr_gates.proofs.StepLists.{each_passed}
-use Rattle.edr_gates.proofs.StepImages.{fill_before, fill_image, fill_whole}
-use Rattle.edr_gates.proofs.Writes.{fill_writes, gated_either, gated_stop, step_passes, step_stopped, step_taken}
+use Rattle.edr_gates.proofs.PartsBackLemmas.{filling_back}
+use Rattle.edr_gates.proofs.StepListLemmas.{each_passed}
+use Rattle.edr_gates.proofs.StepImageLemmas.{fill_before, fill_image, fill_whole}
+use Rattle.edr_gates.proofs.WriteLemmas.{fill_writes, gated_either, gated_stop, step_passes, step_stopped, step_taken}
 use Rattle.edr_gates.proofs.steps.fill.Goals as goal
 
 pub returns : goal.returns

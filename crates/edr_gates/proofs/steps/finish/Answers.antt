@@ -2,10 +2,10 @@ use Rattle.std.proofs.Common.{ℕ, List, ◌+◌, ◌-◌, ◌∷◌, [], refl}
 use Rattle.edr_device.specs.Pieces.{IsGatedStop, put_at}
 use Rattle.edr_image.specs.Image.{place_of}
 use Rattle.edr_image.specs.Steps.{Done}
-use Rattle.edr_gates.proofs.PartsBack.{ending_back}
-use Rattle.edr_gates.proofs.StepLists.{each_passed}
-use Rattle.edr_gates.proofs.StepImages.{done_before, done_image, done_whole}
-use Rattle.edr_gates.proofs.Writes.{done_writes, gated_either, gated_stop, step_passes, step_stopped, step_taken}
+use Rattle.edr_gates.proofs.PartsBackLemmas.{ending_back}
+use Rattle.edr_gates.proofs.StepListLemmas.{each_passed}
+use Rattle.edr_gates.proofs.StepImageLemmas.{done_before, done_image, done_whole}
+use Rattle.edr_gates.proofs.WriteLemmas.{done_writes, gated_either, gated_stop, step_passes, step_stopped, step_taken}
 use Rattle.edr_gates.proofs.steps.finish.Goals as goal
 
 pub returns : goal.returns

@@ -2,9 +2,9 @@ use Rattle.std.proofs.Common.{◌∷◌, [], ◌+◌, refl}
 use Rattle.edr_device.specs.Pieces.{SameBut, put_at}
 use Rattle.edr_image.specs.Image.{place_of}
 use Rattle.edr_image.specs.Steps.{Lock}
-use Rattle.edr_gates.proofs.StepLists.{each_passed}
-use Rattle.edr_gates.proofs.StepImages.{lock_image, lock_whole}
-use Rattle.edr_gates.proofs.Writes.{OnceLeaves, lock_writes, once_stop, step_passes, step_stopped, step_taken}
+use Rattle.edr_gates.proofs.StepListLemmas.{each_passed}
+use Rattle.edr_gates.proofs.StepImageLemmas.{lock_image, lock_whole}
+use Rattle.edr_gates.proofs.WriteLemmas.{OnceLeaves, lock_writes, once_stop, step_passes, step_stopped, step_taken}
 use Rattle.edr_gates.proofs.steps.lock.Goals as goal
 
 pub returns : goal.returns

@@ -4,7 +4,7 @@ use Rattle.edr_spell.specs.Lines.{text_of}
 use Rattle.edr_device.specs.Told.{Told}
 use Rattle.edr_gen.specs.Traces.{generated_trace, rows_of}
 use Rattle.edr_gen.specs.Draws.{state_past}
-use Rattle.edr_gen.proofs.Putting.{IsPutBut, put-all, put-more, put-part}
+use Rattle.edr_gen.proofs.PuttingLemmas.{IsPutBut, put-all, put-more, put-part}
 use Rattle.edr_gen.proofs.TraceLemmas.{no-trace, trace-next}
 use Rattle.edr_gen.proofs.traces.generate.Goals as goal
 

@@ -1,7 +1,7 @@
 use Rattle.std.proofs.Common.{◌-◌, ◌≤◌}
 use Rattle.edr_device.specs.Told.{Told}
 use Rattle.edr_gen.specs.Traces.{generated_trace}
-use Rattle.edr_gen.proofs.Putting.{IsPutBut}
+use Rattle.edr_gen.proofs.PuttingLemmas.{IsPutBut}
 use Rattle.edr_gen.proofs.traces.generate.Given as goal
 
 abbrev pub invariant-loop-done : goal.invariant-loop-done

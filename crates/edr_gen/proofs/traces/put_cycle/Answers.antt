@@ -9,7 +9,7 @@ use Rattle.edr_gen.specs.Draws.{Planned}
 use Rattle.edr_gen.specs.Cycles.{samples_after}
 use Rattle.edr_gen.specs.Texts.{samples_text}
 use Rattle.edr_gen.specs.Traces.{rows_of}
-use Rattle.edr_gen.proofs.Putting.{IsPutBut, put-all, put-more, put-part}
+use Rattle.edr_gen.proofs.PuttingLemmas.{IsPutBut, put-all, put-more, put-part}
 use Rattle.edr_gen.proofs.TextLemmas.{no-samples, page-next, pages-next, page-done}
 use Rattle.edr_gen.proofs.traces.put_cycle.Goals as goal
 

@@ -6,7 +6,7 @@ use Rattle.edr_device.specs.Told.{Told}
 use Rattle.edr_gen.specs.Cycles.{samples_after}
 use Rattle.edr_gen.specs.Texts.{samples_text}
 use Rattle.edr_gen.specs.Traces.{rows_of}
-use Rattle.edr_gen.proofs.Putting.{IsPutBut}
+use Rattle.edr_gen.proofs.PuttingLemmas.{IsPutBut}
 use Rattle.edr_gen.proofs.traces.put_cycle.Given as goal
 
 -- the page and the rows of the ticks that follow, with the cut, are left to put

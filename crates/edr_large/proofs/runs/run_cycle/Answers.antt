@@ -4,7 +4,7 @@ use Rattle.edr_device.specs.Memory.{MemoryState, memory_content, memory_image, m
 use Rattle.edr_device.specs.Told.{Told}
 use Rattle.edr_image.specs.Banks.{Store}
 use Rattle.edr_image.specs.Image.{view_of}
-use Rattle.edr_replay.proofs.StartPhase.{begins_started}
+use Rattle.edr_replay.proofs.StartPhaseLemmas.{begins_started}
 use Rattle.edr_large.specs.Large.{HasRunOn}
 use Rattle.edr_large.proofs.MemoryLemmas.{cycle_ran, not_failed, of_ok, ok_map}
 use Rattle.edr_large.proofs.runs.run_cycle.Goals as goal

@@ -1,5 +1,5 @@
 use Rattle.std.proofs.Common.{arith, ◌+◌, ap, ℕ}
-use Rattle.edr_large.proofs.Counting.{counted_all, counted_more, plan_few, plan_level}
+use Rattle.edr_large.proofs.CountingLemmas.{counted_all, counted_more, plan_few, plan_level}
 use Rattle.edr_large.proofs.runs.run_cycles.Goals as goal
 
 pub rows_of-rows-requires : goal.rows_of-rows-requires

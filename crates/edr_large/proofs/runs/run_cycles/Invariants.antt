@@ -1,4 +1,4 @@
-use Rattle.edr_large.proofs.Counting.{Counted}
+use Rattle.edr_large.proofs.CountingLemmas.{Counted}
 use Rattle.edr_large.proofs.runs.run_cycles.Given as goal
 
 abbrev pub invariant-loop-done : goal.invariant-loop-done

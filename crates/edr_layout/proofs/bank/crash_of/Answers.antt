@@ -2,7 +2,7 @@
 use Rattle.std.proofs.Common.{◌≡◌, ◌+◌, ◌∙◌, Some, None, slice_range, sym, ap, arith, ℕ, List}
 use Rattle.edr_image.specs.PartBytes.{crash_at, crash_damage_by, crash_size}
 use Rattle.edr_codec.proofs.GrammarLaws.{crash_damage-within}
-use Rattle.edr_layout.proofs.PartPlaces.{byte_found, crash_damaged, crash_read}
+use Rattle.edr_layout.proofs.PartPlaceLemmas.{byte_found, crash_damaged, crash_read}
 use Rattle.edr_layout.proofs.bank.crash_of.Goals as goal
 
 -- the bytes of the part

@@ -2,7 +2,7 @@
 use Rattle.std.proofs.Common.{◌≡◌, ◌+◌, Some, None, slice_range, ap, arith, ℕ, List}
 use Rattle.edr_image.specs.PartBytes.{pre_size}
 use Rattle.edr_codec.proofs.GrammarLaws.{pre_damage-within}
-use Rattle.edr_layout.proofs.PartPlaces.{byte_found, pre_damaged, pre_read}
+use Rattle.edr_layout.proofs.PartPlaceLemmas.{byte_found, pre_damaged, pre_read}
 use Rattle.edr_layout.proofs.bank.pre_of.Goals as goal
 
 -- the bytes up to the crash part are those of the pre part

@@ -1,4 +1,4 @@
-use Rattle.edr_migrate.proofs.ShortEvents.{migrated_is, migrated_short, old_view_short}
+use Rattle.edr_migrate.proofs.ShortEventLemmas.{migrated_is, migrated_short, old_view_short}
 use Rattle.edr_migrate.proofs.laws.migrated_events_are_short.Goals as goal
 
 pub returns-clause-migrated : goal.returns-clause-migrated

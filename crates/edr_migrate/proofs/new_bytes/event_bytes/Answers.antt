@@ -1,7 +1,7 @@
 -- Both parts are put behind the gates.
 use Rattle.std.proofs.Common.{◌∙◌, ap, arith}
 use Rattle.edr_migrate.specs.NewBytes.{gate_byte}
-use Rattle.edr_migrate.proofs.ImageBytes.{event_put}
+use Rattle.edr_migrate.proofs.ImageByteLemmas.{event_put}
 use Rattle.edr_migrate.proofs.new_bytes.event_bytes.Goals as goal
 
 pub returns : goal.returns

@@ -1,6 +1,6 @@
 -- The count is put into the front of a new image.
 use Rattle.std.proofs.Common.{◌∙◌}
-use Rattle.edr_migrate.proofs.ImageBytes.{front_put}
+use Rattle.edr_migrate.proofs.ImageByteLemmas.{front_put}
 use Rattle.edr_migrate.proofs.new_bytes.front_bytes.Goals as goal
 
 pub returns : goal.returns

@@ -1,7 +1,7 @@
 -- One bank more.
 use Rattle.std.proofs.Common.{◌+◌, ◌∙◌, ap, sym, arith}
 use Rattle.edr_image.specs.Image.{old_bank_refusal}
-use Rattle.edr_migrate.proofs.OldBanks.{counts_none, counts_one, refusal_more, refused_at}
+use Rattle.edr_migrate.proofs.OldBankLemmas.{counts_none, counts_one, refusal_more, refused_at}
 use Rattle.edr_migrate.proofs.old_image.count_events.Goals as goal
 use Rattle.edr_migrate.proofs.old_image.count_events.Goals.{in-Void, in-Event}
 

@@ -3,8 +3,8 @@ use Rattle.std.proofs.Common.{◌≡◌, Some, arith, refl}
 use Rattle.std.proofs.lemmas.Result.{err_from_is_err_and}
 use Rattle.edr_image.specs.declared.forms.TheConstants.{VERSION_1}
 use Rattle.edr_image.specs.Image.{old_refusal}
-use Rattle.edr_banks.proofs.HeaderBytes.{header_within}
-use Rattle.edr_migrate.proofs.OldReading.{front_of, read_is, refused_by_bank, refused_by_front, refused_by_size, refused_short}
+use Rattle.edr_banks.proofs.HeaderByteLemmas.{header_within}
+use Rattle.edr_migrate.proofs.OldReadingLemmas.{front_of, read_is, refused_by_bank, refused_by_front, refused_by_size, refused_short}
 use Rattle.edr_migrate.proofs.old_image.read_old.Goals as goal
 
 pub returns-then-size-clause-refused : goal.returns-then-size-clause-refused

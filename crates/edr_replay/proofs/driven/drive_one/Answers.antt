@@ -6,7 +6,7 @@ use Rattle.edr_replay.specs.declared.phases.StartedCycle.{StartedCycle}
 use Rattle.edr_replay.specs.Phases.{BeginsAs, LeavesOfRun, RunsFrom}
 use Rattle.edr_replay.proofs.CycleLemmas.{begun_ran, memory_refused, memory_short, memory_unspent, stopped_ends}
 use Rattle.edr_replay.proofs.DrivenLemmas.{alone_left, driven_memory, driven_refused, driven_rose, driven_short, driven_spent, left_none, part_none}
-use Rattle.edr_replay.proofs.Leaving.{part_of_run, part_of_start}
+use Rattle.edr_replay.proofs.LeavingLemmas.{part_of_run, part_of_start}
 use Rattle.edr_replay.proofs.PastLemmas.{begun_past}
 use Rattle.edr_replay.proofs.driven.drive_one.Goals as goal
 

@@ -2,14 +2,14 @@ use Rattle.std.proofs.Common.{rules, ◌∙◌, subst}
 use Rattle.std.proofs.lemmas.Result.{err_from_is_err_and}
 use Rattle.std.specs.Arc.{arc_value}
 use Rattle.edr_device.specs.Device.{StillTells}
-use Rattle.edr_device.proofs.Settling.{tells_again}
+use Rattle.edr_device.proofs.SettlingLemmas.{tells_again}
 use Rattle.edr_replay.specs.Past.{LeavesPastOf}
 use Rattle.edr_replay.specs.Phases.{LeavesOfRun, RunsFrom}
 use Rattle.edr_replay.specs.Replayed.{IsDrivenFault}
 use Rattle.std.specs.Prelude.{IfErr, IfOk}
 use Rattle.edr_replay.proofs.DrivenLemmas.{driven_fault, leaves_counted}
 use Rattle.edr_replay.proofs.StopLemmas.{lent}
-use Rattle.edr_replay.proofs.EndPhase.{EndsRun, RanFused, ended, fused_fault, fused_left, fused_past, fused_ran, ran_fused}
+use Rattle.edr_replay.proofs.EndPhaseLemmas.{EndsRun, RanFused, ended, fused_fault, fused_left, fused_past, fused_ran, ran_fused}
 use Rattle.edr_replay.proofs.PastLemmas.{past_none}
 use Rattle.edr_replay.proofs.driven.drive_until.Given.{Over}
 use Rattle.edr_replay.proofs.driven.drive_until.Goals as goal

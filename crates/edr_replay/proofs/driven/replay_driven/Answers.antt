@@ -6,8 +6,8 @@ use Rattle.std.specs.Prelude.{length, vec_capacity}
 use Rattle.edr_cycle.specs.declared.started.StartFault.TheVariants as fault
 use Rattle.edr_replay.proofs.CycleLemmas.{memory_short, memory_spent, memory_refused}
 use Rattle.edr_replay.proofs.DrivenLemmas.{cut_short_more, cut_short_none, one_more}
-use Rattle.edr_replay.proofs.Leaving.{reached_none, reached_more}
-use Rattle.edr_replay.proofs.Running.{Running, running_first, running_more, ends_spent, ends_refused, past_ran}
+use Rattle.edr_replay.proofs.LeavingLemmas.{reached_none, reached_more}
+use Rattle.edr_replay.proofs.RunningLemmas.{Running, running_first, running_more, ends_spent, ends_refused, past_ran}
 use Rattle.edr_replay.proofs.driven.replay_driven.Goals as goal
 
 pub returns-in_err-reports-clause-spent : goal.returns-in_err-reports-clause-spent

@@ -1,5 +1,5 @@
 use Rattle.std.proofs.Common.{length, vec_capacity}
-use Rattle.edr_replay.proofs.Running.{Running}
+use Rattle.edr_replay.proofs.RunningLemmas.{Running}
 use Rattle.edr_replay.proofs.driven.replay_driven.Given as goal
 
 abbrev pub invariant-loop-cycle : goal.invariant-loop-cycle

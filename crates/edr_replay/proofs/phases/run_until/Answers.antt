@@ -4,9 +4,9 @@ use Rattle.edr_replay.specs.Phases.{LeavesOfRun, RunsFrom}
 use Rattle.edr_device.specs.Faults.{Rose}
 use Rattle.std.specs.Prelude.{IfErr, IfOk, ◌≡◌}
 use Rattle.edr_cycle.specs.declared.started.StartFault.TheVariants as fault
-use Rattle.edr_replay.proofs.EndPhase.{EndsRun, RanFused, ended, fused_fault, fused_left, fused_past, fused_ran, ran_fused}
+use Rattle.edr_replay.proofs.EndPhaseLemmas.{EndsRun, RanFused, ended, fused_fault, fused_left, fused_past, fused_ran, ran_fused}
 use Rattle.edr_device.specs.Device.{StillTells}
-use Rattle.edr_device.proofs.Settling.{tells_again}
+use Rattle.edr_device.proofs.SettlingLemmas.{tells_again}
 use Rattle.edr_replay.proofs.phases.run_until.Given.{Over}
 use Rattle.edr_replay.proofs.phases.run_until.Goals as goal
 

@@ -5,9 +5,9 @@ use Rattle.edr_device.specs.FuseLaws.{fuse_counts_now}
 use Rattle.edr_replay.specs.Past.{LeavesPast}
 use Rattle.edr_replay.specs.Phases.{BeginsAs, LeavesOfStart}
 use Rattle.edr_replay.specs.Replayed.{IsLeftAlone, IsTrulyRefused, IsTrulyShort, IsTrulySpent}
-use Rattle.edr_replay.proofs.Leaving.{leaves_start, left_alone}
+use Rattle.edr_replay.proofs.LeavingLemmas.{leaves_start, left_alone}
 use Rattle.edr_replay.proofs.PastLemmas.{start_past}
-use Rattle.edr_replay.proofs.StartPhase.{at_err, begins_started, begins_stopped, none_planned, on_err_at, truly_refused, truly_short, truly_spent}
+use Rattle.edr_replay.proofs.StartPhaseLemmas.{at_err, begins_started, begins_stopped, none_planned, on_err_at, truly_refused, truly_short, truly_spent}
 use Rattle.edr_replay.proofs.StopLemmas.{fuse_begins, fuse_planned, lent, not_reached, some_call, stop_is}
 use Rattle.edr_replay.proofs.phases.start_until.Goals as goal
 

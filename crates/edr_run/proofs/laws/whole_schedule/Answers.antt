@@ -1,4 +1,4 @@
-use Rattle.edr_run.proofs.AnySchedule.{whole-any}
+use Rattle.edr_run.proofs.AnyScheduleLaws.{whole-any}
 use Rattle.edr_run.proofs.laws.whole_schedule.Goals as goal
 
 pub returns : goal.returns

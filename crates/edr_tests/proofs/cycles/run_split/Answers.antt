@@ -1,4 +1,4 @@
-use Rattle.edr_cycle.proofs.FreshRest.{fresh-remains}
+use Rattle.edr_cycle.proofs.FreshRestLemmas.{fresh-remains}
 use Rattle.edr_tests.proofs.cycles.run_split.Goals as goal
 
 pub run_rest-requires-clause-remains : goal.run_rest-requires-clause-remains

@@ -6,7 +6,7 @@ use Rattle.clap.specs.Walk.{Row, Text, first_of, rows_of}
 use Rattle.clap.specs.declared.parser.matches.ArgMatches.{ArgMatches}
 use Rattle.clap.proofs.WalkLemmas.{first_value-rows}
 use Rattle.edr_words.specs.Arguments.{with_second, may_have_two}
-use Rattle.edr_words.proofs.Parsed.{may_have_two-taken, may_have_two-refused, some_is}
+use Rattle.edr_words.proofs.ParsedLemmas.{may_have_two-taken, may_have_two-refused, some_is}
 use Rattle.edr_words.proofs.arguments.one_or_two.Goals as goal
 
 pub returns-in-None : goal.returns-in-None

@@ -1,4 +1,4 @@
-use Rattle.edr_words.proofs.Parsed.{left}
+use Rattle.edr_words.proofs.ParsedLemmas.{left}
 use Rattle.edr_words.proofs.arguments.parsed.Goals as goal
 
 pub returns-in-Ok-clause-taken : goal.returns-in-Ok-clause-taken

@@ -7,7 +7,7 @@ use Rattle.clap.specs.Walk.{Row, Text, first_of, rows_of}
 use Rattle.clap.specs.declared.parser.matches.ArgMatches.{ArgMatches}
 use Rattle.clap.proofs.WalkLemmas.{first_value-rows}
 use Rattle.edr_words.specs.Arguments.{needs_two}
-use Rattle.edr_words.proofs.Parsed.{needs_two-taken, needs_two-refused, some_is, zip_now}
+use Rattle.edr_words.proofs.ParsedLemmas.{needs_two-taken, needs_two-refused, some_is, zip_now}
 use Rattle.edr_words.proofs.arguments.two.Goals as goal
 
 pub returns-in-None : goal.returns-in-None

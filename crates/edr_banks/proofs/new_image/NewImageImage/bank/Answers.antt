@@ -1,5 +1,5 @@
 -- The bytes behind the front are zeros.
-use Rattle.edr_banks.proofs.NewImage.{bank_zeros}
+use Rattle.edr_banks.proofs.NewImageLemmas.{bank_zeros}
 use Rattle.edr_banks.proofs.new_image.NewImageImage.bank.Goals as goal
 
 pub returns : goal.returns

@@ -1,4 +1,4 @@
-use Rattle.edr_cycle.proofs.RestBegins.{remains-after}
+use Rattle.edr_cycle.proofs.RestBeginLemmas.{remains-after}
 use Rattle.edr_cycle.proofs.remaining.Remaining.after.Goals as goal
 
 pub returns-clause-remains : goal.returns-clause-remains

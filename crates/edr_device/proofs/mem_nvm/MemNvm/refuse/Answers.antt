@@ -1,6 +1,6 @@
 use Rattle.std.proofs.Common.{◌≤◌, ◌+◌, ⊎_elim, inl, arith}
 use Rattle.std.specs.List.{Contains}
-use Rattle.edr_device.proofs.Moments.{covered_still}
+use Rattle.edr_device.proofs.MomentLemmas.{covered_still}
 use Rattle.edr_device.proofs.mem_nvm.MemNvm.refuse.Goals as goal
 
 pub invariant_of-self-2-clause-covered : goal.invariant_of-self-2-clause-covered

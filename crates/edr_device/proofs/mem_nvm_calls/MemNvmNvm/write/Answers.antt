@@ -1,6 +1,6 @@
 use Rattle.std.proofs.Common.{inr, rules, arith}
 use Rattle.edr_device.specs.Past.{settled_at}
-use Rattle.edr_device.proofs.Moments.{covered_last, kept_elapses, moment_writes, refused_elapses, stored_after, written_during}
+use Rattle.edr_device.proofs.MomentLemmas.{covered_last, kept_elapses, moment_writes, refused_elapses, stored_after, written_during}
 use Rattle.edr_device.proofs.mem_nvm_calls.MemNvmNvm.write.Goals as goal
 
 pub returns-then-not-takes_call-clause-crash : goal.returns-then-not-takes_call-clause-crash

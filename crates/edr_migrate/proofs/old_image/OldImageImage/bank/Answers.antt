@@ -1,5 +1,5 @@
 -- The bank is that of the image.
-use Rattle.edr_migrate.proofs.ImageView.{old_bank_range}
+use Rattle.edr_migrate.proofs.ImageViewLemmas.{old_bank_range}
 use Rattle.edr_migrate.proofs.old_image.OldImageImage.bank.Goals as goal
 
 pub returns : goal.returns

@@ -1,7 +1,7 @@
 -- The front is that of the image.
 use Rattle.std.proofs.Common.{◌∙◌}
 use Rattle.edr_migrate.specs.OldImage.{view_in}
-use Rattle.edr_migrate.proofs.ImageBytes.{image_front}
+use Rattle.edr_migrate.proofs.ImageByteLemmas.{image_front}
 use Rattle.edr_migrate.proofs.old_image.OldImageImage.front.Goals as goal
 
 pub returns : goal.returns
