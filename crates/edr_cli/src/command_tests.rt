@@ -24,7 +24,7 @@ use std::test::Fail;
 
 // A run: what it is given beside the memory, and what it is to answer.
 #[derive(Clone, Copy)]
-struct Run<'a> {
+struct CommandRun<'a> {
     words: &'a [&'a str],
     trace: &'a [u8],
     status: Status,
@@ -50,8 +50,8 @@ const SOUND: Streams<'static> = Streams {
 };
 
 // A replay that ends with Ok and this report.
-const fn replayed<'a>(trace: &'a str, output: &'a str) -> Run<'a> {
-    Run {
+const fn replayed<'a>(trace: &'a str, output: &'a str) -> CommandRun<'a> {
+    CommandRun {
         words: &["replay"],
         trace: trace.as_bytes(),
         status: Status::Ok,
@@ -60,8 +60,8 @@ const fn replayed<'a>(trace: &'a str, output: &'a str) -> Run<'a> {
 }
 
 // A run without a trace.
-const fn run_of<'a>(words: &'a [&'a str], status: Status, output: &'a str) -> Run<'a> {
-    Run {
+const fn run_of<'a>(words: &'a [&'a str], status: Status, output: &'a str) -> CommandRun<'a> {
+    CommandRun {
         words,
         trace: b"",
         status,
@@ -128,7 +128,7 @@ fn words_of(alloc: Global, texts: &[&str]) -> Result<Words, AllocError> {
 // A call answers as it is to, over such streams.
 fn check_streams<R: Abort + AllocGlobal>(
     rt: &R,
-    run: Run<'_>,
+    run: CommandRun<'_>,
     streams: Streams<'_>,
     memory: &mut MemNvm,
 ) -> Result<(), Fail> {
@@ -149,7 +149,7 @@ fn check_streams<R: Abort + AllocGlobal>(
 // A call answers as it is to, over streams without faults.
 fn check_run<R: Abort + AllocGlobal>(
     rt: &R,
-    run: Run<'_>,
+    run: CommandRun<'_>,
     memory: &mut MemNvm,
 ) -> Result<(), Fail> {
     check_streams(rt, run, SOUND, memory)

@@ -11,7 +11,7 @@ use Rattle.edr_record.specs.declared.Key.{Key}
 use Rattle.edr_record.specs.declared.Place.TheVariants.{First}
 use Rattle.edr_definitions.specs.Parts.{pre_part}
 use Rattle.edr_capture.specs.SensorPart.{SensorPart}
-use Rattle.edr_core.specs.declared.ask.Parts.{Parts}
+use Rattle.edr_core.specs.declared.ask.TakenParts.{TakenParts}
 use Rattle.edr_core.specs.declared.ask.AllParts.{AllParts}
 use Rattle.edr_core.specs.Parts.{PartSlots, AreSlotsOf, is_part_of, part_in}
 use Rattle.edr_core.specs.Ask.{no_parts, part_at, with_part_of, in_places, missing_in, AreOfTheirSensors, pre_of}
@@ -107,7 +107,7 @@ pub taken : (q : SensorPart) (parts : List SensorPart) (z : ℕ) → q.zero ≡ 
 taken q parts z zero r s b is sensor = found q parts s z b (is_of q r s z sensor zero ∙ is)
 
 -- one more part stands in its sensor's place
-pub one-taken : (ps : Parts) (parts : List SensorPart) (q : SensorPart) (z : ℕ) → q.zero ≡ z → PartsAre ps parts z → (r : Sensor) → q.sensor ≡ r → PartsAre (with_part_of r q ps) (q ∷ parts) z
+pub one-taken : (ps : TakenParts) (parts : List SensorPart) (q : SensorPart) (z : ℕ) → q.zero ≡ z → PartsAre ps parts z → (r : Sensor) → q.sensor ≡ r → PartsAre (with_part_of r q ps) (q ∷ parts) z
 one-taken ps parts q z zero h Along sensor = record { speed = h.speed ∙ sym (taken q parts z zero Along Speed false refl sensor); throttle = h.throttle ∙ sym (taken q parts z zero Along Throttle false refl sensor); brake = h.brake ∙ sym (taken q parts z zero Along Brake false refl sensor); belt = h.belt ∙ sym (taken q parts z zero Along Belt false refl sensor); lamp = h.lamp ∙ sym (taken q parts z zero Along Lamp false refl sensor) }
 one-taken ps parts q z zero h Across sensor = record { speed = h.speed ∙ sym (taken q parts z zero Across Speed false refl sensor); throttle = h.throttle ∙ sym (taken q parts z zero Across Throttle false refl sensor); brake = h.brake ∙ sym (taken q parts z zero Across Brake false refl sensor); belt = h.belt ∙ sym (taken q parts z zero Across Belt false refl sensor); lamp = h.lamp ∙ sym (taken q parts z zero Across Lamp false refl sensor) }
 one-taken ps parts q z zero h Speed sensor = record { speed = sym (taken q parts z zero Speed Speed true refl sensor); throttle = h.throttle ∙ sym (taken q parts z zero Speed Throttle false refl sensor); brake = h.brake ∙ sym (taken q parts z zero Speed Brake false refl sensor); belt = h.belt ∙ sym (taken q parts z zero Speed Belt false refl sensor); lamp = h.lamp ∙ sym (taken q parts z zero Speed Lamp false refl sensor) }
@@ -118,21 +118,21 @@ one-taken ps parts q z zero h Lamp sensor = record { speed = h.speed ∙ sym (ta
 one-taken ps parts q z zero h Restraint sensor = record { speed = h.speed ∙ sym (taken q parts z zero Restraint Speed false refl sensor); throttle = h.throttle ∙ sym (taken q parts z zero Restraint Throttle false refl sensor); brake = h.brake ∙ sym (taken q parts z zero Restraint Brake false refl sensor); belt = h.belt ∙ sym (taken q parts z zero Restraint Belt false refl sensor); lamp = h.lamp ∙ sym (taken q parts z zero Restraint Lamp false refl sensor) }
 
 -- ---- all five
-module _ (ps : Parts) (parts : List SensorPart) (z : ℕ) (a : AllParts) (h : PartsAre ps parts z) (all : ps ≡ in_places a) where
+module _ (ps : TakenParts) (parts : List SensorPart) (z : ℕ) (a : AllParts) (h : PartsAre ps parts z) (all : ps ≡ in_places a) where
   speed_in : part_in parts Speed z ≡ Some a.speed
-  speed_in = sym h.speed ∙ ap (λ (x : Parts). x.speed) all
+  speed_in = sym h.speed ∙ ap (λ (x : TakenParts). x.speed) all
 
   throttle_in : part_in parts Throttle z ≡ Some a.throttle
-  throttle_in = sym h.throttle ∙ ap (λ (x : Parts). x.throttle) all
+  throttle_in = sym h.throttle ∙ ap (λ (x : TakenParts). x.throttle) all
 
   brake_in : part_in parts Brake z ≡ Some a.brake
-  brake_in = sym h.brake ∙ ap (λ (x : Parts). x.brake) all
+  brake_in = sym h.brake ∙ ap (λ (x : TakenParts). x.brake) all
 
   belt_in : part_in parts Belt z ≡ Some a.belt
-  belt_in = sym h.belt ∙ ap (λ (x : Parts). x.belt) all
+  belt_in = sym h.belt ∙ ap (λ (x : TakenParts). x.belt) all
 
   lamp_in : part_in parts Lamp z ≡ Some a.lamp
-  lamp_in = sym h.lamp ∙ ap (λ (x : Parts). x.lamp) all
+  lamp_in = sym h.lamp ∙ ap (λ (x : TakenParts). x.lamp) all
 
   pub of-sensors : AreOfTheirSensors a
   of-sensors = record {
@@ -159,7 +159,7 @@ module _ (ps : Parts) (parts : List SensorPart) (z : ℕ) (a : AllParts) (h : Pa
   }
 
 -- ---- what is missing
-pub missing-is : (h : History) (ps : Parts) → PartsAre ps h.parts (h.past.closed + 1) → missing_in ps ≡ missing_part h
+pub missing-is : (h : History) (ps : TakenParts) → PartsAre ps h.parts (h.past.closed + 1) → missing_in ps ≡ missing_part h
 unfolding missing_in missing_part
 missing-is h ps are = let a = are.speed in let b = are.throttle in let d = are.brake in let e = are.belt in let g = are.lamp in rw (a, b, d, e, g) refl
 
@@ -168,7 +168,7 @@ unfolding missing_in
 none-missing a = refl
 
 -- a place is filled where the part was taken
-pub at-taken : (ps : Parts) (parts : List SensorPart) (z : ℕ) (s : Sensor) → IsSlow s → PartsAre ps parts z → part_at s ps ≡ part_in parts s z
+pub at-taken : (ps : TakenParts) (parts : List SensorPart) (z : ℕ) (s : Sensor) → IsSlow s → PartsAre ps parts z → part_at s ps ≡ part_in parts s z
 at-taken ps parts z Along slow h = let low = slow.0 in absurd (omega (arith, low))
 at-taken ps parts z Across slow h = let low = slow.0 in absurd (omega (arith, low))
 at-taken ps parts z Speed slow h = h.speed

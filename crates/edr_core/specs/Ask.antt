@@ -8,7 +8,7 @@ use Rattle.edr_record.specs.declared.Profile.TheVariants.{Long}
 use Rattle.edr_record.specs.Parts.{PrePart}
 use Rattle.edr_definitions.specs.Parts.{numbers, switch, switches}
 use Rattle.edr_capture.specs.SensorPart.{SensorPart}
-use Rattle.edr_core.specs.declared.ask.Parts.{Parts}
+use Rattle.edr_core.specs.declared.ask.TakenParts.{TakenParts}
 use Rattle.edr_core.specs.declared.ask.AllParts.{AllParts}
 use Rattle.edr_core.specs.declared.ask.PartRefused.{PartRefused}
 use Rattle.edr_core.specs.declared.ask.PartRefused.TheVariants.{Twice}
@@ -16,11 +16,11 @@ use Rattle.edr_core.specs.Parts.{first_slot}
 use Rattle.edr_core.specs.SplitHistory.{slow_sensors}
 
 -- none was taken
-abbrev pub no_parts : Parts
+abbrev pub no_parts : TakenParts
 no_parts = record { speed = None; throttle = None; brake = None; belt = None; lamp = None }
 
 -- the part of one sensor
-abbrev pub part_at : Sensor → Parts → Option SensorPart
+abbrev pub part_at : Sensor → TakenParts → Option SensorPart
 part_at Along ps = None
 part_at Across ps = None
 part_at Speed ps = ps.speed
@@ -31,7 +31,7 @@ part_at Lamp ps = ps.lamp
 part_at Restraint ps = None
 
 -- one more part, in its sensor's place
-abbrev pub with_part_of : Sensor → SensorPart → Parts → Parts
+abbrev pub with_part_of : Sensor → SensorPart → TakenParts → TakenParts
 with_part_of Along q ps = ps
 with_part_of Across q ps = ps
 with_part_of Speed q ps = record ps { speed = Some q }
@@ -41,7 +41,7 @@ with_part_of Belt q ps = record ps { belt = Some q }
 with_part_of Lamp q ps = record ps { lamp = Some q }
 with_part_of Restraint q ps = ps
 
-abbrev pub with_part : SensorPart → Parts → Parts
+abbrev pub with_part : SensorPart → TakenParts → TakenParts
 with_part q ps = with_part_of q.sensor q ps
 
 -- a part of that sensor was taken before
@@ -49,11 +49,11 @@ abbrev pub IsTwice : PartRefused → Type 0
 IsTwice e = e ≡ Twice
 
 -- all five were taken
-abbrev pub in_places : AllParts → Parts
+abbrev pub in_places : AllParts → TakenParts
 in_places a = record { speed = Some a.speed; throttle = Some a.throttle; brake = Some a.brake; belt = Some a.belt; lamp = Some a.lamp }
 
 -- the lowest-numbered sensor of which none was taken
-unfoldable pub missing_in : Parts → Option Sensor
+unfoldable pub missing_in : TakenParts → Option Sensor
 missing_in ps = find (λ s. is_none (part_at s ps)) slow_sensors
 
 -- each stands in its sensor's place

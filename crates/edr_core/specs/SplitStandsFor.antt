@@ -18,7 +18,7 @@ use Rattle.edr_detect.specs.Stages.{told_of}
 use Rattle.edr_detect.specs.Detected.{DetectStandsFor}
 use Rattle.edr_core.specs.declared.candidate.Candidate.{Candidate}
 use Rattle.edr_core.specs.declared.ask.OpenAsk.{OpenAsk}
-use Rattle.edr_core.specs.declared.ask.Parts.{Parts}
+use Rattle.edr_core.specs.declared.ask.TakenParts.{TakenParts}
 use Rattle.edr_core.specs.Rows.{RowIs, rows_of}
 use Rattle.edr_core.specs.Parts.{PartSlots, AreSlotsOf, with_parts, part_in}
 use Rattle.edr_core.specs.SplitHistory.{History}
@@ -36,7 +36,7 @@ HoldsCandidateWith parts None k crash = Unit {0}
 HoldsCandidateWith parts (Some o) k crash = IsMadeOf parts k.frozen o.pre × (o.end ≡ k.ended) × (o.crash ≡ crash)
 
 -- the parts of the time zero z are those that were taken
-pub record PartsAre (ps : Parts) (taken : List SensorPart) (z : ℕ) : Type 0 where
+pub record PartsAre (ps : TakenParts) (taken : List SensorPart) (z : ℕ) : Type 0 where
   pub speed : ps.speed ≡ part_in taken Speed z
   pub throttle : ps.throttle ≡ part_in taken Throttle z
   pub brake : ps.brake ≡ part_in taken Brake z

@@ -26,7 +26,7 @@ pub enum PartRefused {
 
 // The parts of a time zero that were taken.
 #[derive(Clone, Copy)]
-pub struct Parts {
+pub struct TakenParts {
     pub speed: Option<Part>,
     pub throttle: Option<Part>,
     pub brake: Option<Part>,
@@ -49,17 +49,17 @@ pub struct AllParts {
 pub struct OpenAsk {
     pub row: TickRow,
     pub change: Change,
-    pub parts: Parts,
+    pub parts: TakenParts,
 }
 
-impl Parts {
+impl TakenParts {
     ghost use Rattle.edr_core.specs.Ask.{no_parts, part_at, with_part, IsTwice, in_places, missing_in};
 
     // None was taken.
-    fn none() -> Parts
+    fn none() -> TakenParts
         ensures { result ≡ no_parts }
     {
-        Parts {
+        TakenParts {
             speed: None,
             throttle: None,
             brake: None,
@@ -192,7 +192,7 @@ impl OpenAsk {
         *ask = Some(OpenAsk {
             row,
             change,
-            parts: Parts::none(),
+            parts: TakenParts::none(),
         });
     }
 }

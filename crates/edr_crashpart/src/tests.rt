@@ -6,7 +6,7 @@ use edr_record::Extreme;
 
 // What an axis gives: this value at each of the ticks, 0 at the others, and no sample at the tick `missing`.
 #[derive(Clone, Copy)]
-struct Pulse {
+struct AxisPulse {
     first: u32,
     last: u32,
     value: i32,
@@ -14,7 +14,7 @@ struct Pulse {
     ghost in_range: { unsigned_abs value ≤ 100_000 },
 }
 
-const QUIET: Pulse = Pulse {
+const QUIET: AxisPulse = AxisPulse {
     first: 1,
     last: 0,
     value: 0,
@@ -22,14 +22,14 @@ const QUIET: Pulse = Pulse {
 };
 
 // The change of 97 ticks past a time zero at 6003.
-const BLOW: Pulse = Pulse {
+const BLOW: AxisPulse = AxisPulse {
     first: 6001,
     last: 6100,
     value: -4000,
     missing: 0,
 };
 
-fn sample_at(pulse: Pulse, t: u32) -> Option<i32>
+fn sample_at(pulse: AxisPulse, t: u32) -> Option<i32>
     ensures { IsInRange result }
 {
     if t == pulse.missing {
@@ -42,7 +42,7 @@ fn sample_at(pulse: Pulse, t: u32) -> Option<i32>
 }
 
 // The crash part of a time zero after that many ticks, where restraints fire at time zero alone.
-fn part_after(zero: u32, ticks: u16, fired: u8, along: Pulse, across: Pulse) -> OpenCrash
+fn part_after(zero: u32, ticks: u16, fired: u8, along: AxisPulse, across: AxisPulse) -> OpenCrash
     requires zero { zero + 500 < 2 ^ 32 }
     requires ticks { ticks ≤ 500 }
     ensures zero { result.zero ≡ zero }
@@ -77,7 +77,7 @@ fn a_blow_has_points_up_to_its_close(rt: HostRuntime) {
 
 #[test]
 fn a_gap_counts_and_adds_nothing(rt: HostRuntime) {
-    let with_gap = Pulse {
+    let with_gap = AxisPulse {
         first: 6001,
         last: 6100,
         value: -4000,
@@ -106,7 +106,7 @@ fn a_deployment_alone_ends_after_twenty_ticks(rt: HostRuntime) {
 
 #[test]
 fn a_long_lateral_push_has_all_points(rt: HostRuntime) {
-    let push = Pulse {
+    let push = AxisPulse {
         first: 6001,
         last: 6400,
         value: 540,
@@ -124,7 +124,7 @@ fn a_long_lateral_push_has_all_points(rt: HostRuntime) {
 
 #[test]
 fn a_short_pulse_keeps_its_last_change(rt: HostRuntime) {
-    let pulse = Pulse {
+    let pulse = AxisPulse {
         first: 6071,
         last: 6080,
         value: 5000,

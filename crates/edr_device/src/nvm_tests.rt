@@ -80,29 +80,29 @@ fn eight_bytes(
 }
 
 #[derive(Clone, Copy)]
-enum Step {
+enum NvmCall {
     Write(u32, [u8; 2]),
     Sync,
     Cut,
 }
 
 // One call, whether it fails or not; a write past the end is none.
-fn make<N: Nvm>(nvm: &mut N, step: Step) -> Result<(), Failed> {
+fn make<N: Nvm>(nvm: &mut N, step: NvmCall) -> Result<(), Failed> {
     match step {
-        Step::Write(at, bytes) => {
+        NvmCall::Write(at, bytes) => {
             if u64::from(at) + 2 > u64::from(nvm.size()) {
                 return Ok(());
             }
             nvm.write(at, &bytes)
         }
-        Step::Sync => nvm.sync(),
-        Step::Cut => nvm.power_cycle(),
+        NvmCall::Sync => nvm.sync(),
+        NvmCall::Cut => nvm.power_cycle(),
     }
 }
 
 // An adapter that tells nothing of its bytes, and whose power can't be cut.
 #[derive(Drop)]
-struct Adapter {
+struct SilentNvm {
     size: u32,
     clock: u64,
     last_good: u64,
@@ -113,7 +113,7 @@ struct Adapter {
     ghost faults_within: { faults ≤ last_number },
 }
 
-impl Adapter {
+impl SilentNvm {
     fn fail(&mut self) -> Result<(), Failed>
         ensures fails { IsErr result }
         ensures counts { self.new.faults ≡ next_number self.old.faults }
@@ -138,7 +138,7 @@ impl Adapter {
     }
 }
 
-impl Nvm for Adapter {
+impl Nvm for SilentNvm {
     ghost use Rattle.std.specs.Prelude.{None, ⊤, true};
     ghost use Rattle.std.proofs.lemmas.Option.{none-some};
 
@@ -200,7 +200,7 @@ impl Nvm for Adapter {
 }
 
 // The memory after these steps and a power cut, by that pick.
-fn cut_after(alloc: Global, steps: &[Step], fails: &[u32], pick: u64) -> Result<MemNvm, Fail> {
+fn cut_after(alloc: Global, steps: &[NvmCall], fails: &[u32], pick: u64) -> Result<MemNvm, Fail> {
     let mut memory = eight_bytes(alloc, fails, &[], pick)?;
     for &step in steps {
         let _ = make(&mut memory, step);
@@ -213,7 +213,7 @@ fn cut_after(alloc: Global, steps: &[Step], fails: &[u32], pick: u64) -> Result<
 fn check_images(
     rt: &impl Abort,
     alloc: Global,
-    steps: &[Step],
+    steps: &[NvmCall],
     fails: &[u32],
     images: [[u8; 8]; 3],
 ) -> Result<(), Fail> {
@@ -226,9 +226,9 @@ fn check_images(
 
 const BEGIN: [u8; 8] = [10, 11, 12, 13, 14, 15, 16, 17];
 
-const FIRST: Step = Step::Write(2, [101, 102]);
+const FIRST: NvmCall = NvmCall::Write(2, [101, 102]);
 
-const SECOND: Step = Step::Write(3, [111, 112]);
+const SECOND: NvmCall = NvmCall::Write(3, [111, 112]);
 
 // Draws from state 7 give 94, 63, 49 and 145, in the order of the offsets.
 #[test]
@@ -247,7 +247,7 @@ fn pick_gives_each_byte_that_is_not_settled(rt: HostRuntime) -> Result<(), Fail>
         [10, 11, 94, 63, 49, 15, 16, 17],
     ];
     check_images(&rt, alloc, &[FIRST, SECOND], &[], two)?;
-    let last_and_first = [Step::Write(6, [101, 102]), Step::Write(0, [111, 112])];
+    let last_and_first = [NvmCall::Write(6, [101, 102]), NvmCall::Write(0, [111, 112])];
     let apart = [
         BEGIN,
         [111, 112, 12, 13, 14, 15, 101, 102],
@@ -260,21 +260,27 @@ fn pick_gives_each_byte_that_is_not_settled(rt: HostRuntime) -> Result<(), Fail>
 fn sync_and_power_cut_settle_all(rt: HostRuntime) -> Result<(), Fail> {
     let alloc = rt.alloc();
     let written = [10, 11, 101, 102, 14, 15, 16, 17];
-    check_images(&rt, alloc, &[FIRST, Step::Sync], &[], [written; 3])?;
+    check_images(&rt, alloc, &[FIRST, NvmCall::Sync], &[], [written; 3])?;
     let over = [
         written,
         [10, 11, 101, 111, 112, 15, 16, 17],
         [10, 11, 101, 94, 63, 15, 16, 17],
     ];
-    check_images(&rt, alloc, &[FIRST, Step::Sync, SECOND], &[], over)?;
+    check_images(&rt, alloc, &[FIRST, NvmCall::Sync, SECOND], &[], over)?;
     let cut = [BEGIN, written, [10, 11, 94, 63, 14, 15, 16, 17]];
-    check_images(&rt, alloc, &[FIRST, Step::Cut], &[], cut)?;
+    check_images(&rt, alloc, &[FIRST, NvmCall::Cut], &[], cut)?;
     let over_the_cut = [
         BEGIN,
         [10, 11, 101, 111, 112, 15, 16, 17],
         [10, 11, 94, 94, 63, 15, 16, 17],
     ];
-    check_images(&rt, alloc, &[FIRST, Step::Cut, SECOND], &[], over_the_cut)
+    check_images(
+        &rt,
+        alloc,
+        &[FIRST, NvmCall::Cut, SECOND],
+        &[],
+        over_the_cut,
+    )
 }
 
 #[test]
@@ -285,9 +291,9 @@ fn failed_call_changes_nothing(rt: HostRuntime) -> Result<(), Fail> {
         [10, 11, 101, 102, 14, 15, 16, 17],
         [10, 11, 94, 63, 14, 15, 16, 17],
     ];
-    check_images(&rt, alloc, &[FIRST, Step::Sync], &[2], one)?;
+    check_images(&rt, alloc, &[FIRST, NvmCall::Sync], &[2], one)?;
     check_images(&rt, alloc, &[FIRST, SECOND], &[2], one)?;
-    check_images(&rt, alloc, &[FIRST, Step::Sync], &[1], [BEGIN; 3])
+    check_images(&rt, alloc, &[FIRST, NvmCall::Sync], &[1], [BEGIN; 3])
 }
 
 #[test]
@@ -306,7 +312,10 @@ fn reads_fail_by_their_numbers(rt: HostRuntime) -> Result<(), Fail> {
 fn calls_fail_by_their_numbers_and_past_the_last(rt: HostRuntime) -> Result<(), Fail> {
     let mut memory = eight_bytes(rt.alloc(), &[2], &[], 0)?;
     for call in 1..25u32 {
-        let made = make(&mut memory, if call % 2 == 0 { Step::Sync } else { FIRST });
+        let made = make(
+            &mut memory,
+            if call % 2 == 0 { NvmCall::Sync } else { FIRST },
+        );
         assert_eq!(rt; made.is_ok(), call != 2 && call <= 20, "call {call}");
     }
     assert_eq!(rt; memory.size(), 8);
@@ -376,8 +385,8 @@ fn spent_fuse_refuses_until_it_is_lifted(rt: HostRuntime) -> Result<(), Fail> {
         (FIRST, true),
         (SECOND, false),
         (FIRST, false),
-        (Step::Sync, false),
-        (Step::Cut, false),
+        (NvmCall::Sync, false),
+        (NvmCall::Cut, false),
     ] {
         assert_eq!(rt; make(&mut fused, step).is_ok(), made);
     }
@@ -412,7 +421,7 @@ fn fuse_is_broken_where_the_device_failed(rt: HostRuntime) -> Result<(), Fail> {
     for (fails, steps, broken) in [
         ([1], [FIRST, FIRST], true),
         ([2], [FIRST, FIRST], true),
-        ([2], [FIRST, Step::Sync], false),
+        ([2], [FIRST, NvmCall::Sync], false),
         ([3], [FIRST, FIRST], false),
     ] {
         let mut memory = eight_bytes(rt.alloc(), &fails, &[1], 0)?;
@@ -434,7 +443,7 @@ fn fuse_is_broken_where_the_device_failed(rt: HostRuntime) -> Result<(), Fail> {
 #[test]
 fn fuse_is_broken_where_the_power_was_not_cut(rt: HostRuntime) {
     for stop in [1, 2] {
-        let mut adapter = Adapter {
+        let mut adapter = SilentNvm {
             size: 8,
             clock: 0,
             last_good: 0,

@@ -17,7 +17,7 @@ const EMPTY: &[u8] = b"block,name,value\n0,\"ignition cycle, download\",3\n";
 
 // What a run is given, how source and sink fail, and what is to come of it.
 #[derive(Clone, Copy)]
-struct Run<'a> {
+struct PageRun<'a> {
     has_words: bool,
     report: &'a [u8],
     source_fails: &'a [u32],
@@ -27,8 +27,8 @@ struct Run<'a> {
 }
 
 // A run in which nothing fails.
-const fn sound<'a>(report: &'a [u8], status: PageStatus, code: u8) -> Run<'a> {
-    Run {
+const fn sound<'a>(report: &'a [u8], status: PageStatus, code: u8) -> PageRun<'a> {
+    PageRun {
         has_words: false,
         report,
         source_fails: &[],
@@ -39,7 +39,7 @@ const fn sound<'a>(report: &'a [u8], status: PageStatus, code: u8) -> Run<'a> {
 }
 
 // Runs it over a source that gives 20 bytes at once, and answers what the sink has then.
-fn output_of<R: Abort + AllocGlobal>(rt: &R, run: Run<'_>) -> Result<Vec<u8>, Fail> {
+fn output_of<R: Abort + AllocGlobal>(rt: &R, run: PageRun<'_>) -> Result<Vec<u8>, Fail> {
     let alloc = rt.alloc();
     let fails = run.source_fails.to_vec(alloc)?;
     let mut source = MemSource::new(run.report.to_vec(alloc)?, 20, fails);
@@ -50,7 +50,7 @@ fn output_of<R: Abort + AllocGlobal>(rt: &R, run: Run<'_>) -> Result<Vec<u8>, Fa
     Ok(sink.bytes().to_vec(alloc)?)
 }
 
-fn check<R: Abort + AllocGlobal>(rt: &R, run: Run<'_>, output: &[u8]) -> Result<(), Fail> {
+fn check<R: Abort + AllocGlobal>(rt: &R, run: PageRun<'_>, output: &[u8]) -> Result<(), Fail> {
     assert!(rt; output_of(rt, run)?.as_slice() == output);
     Ok(())
 }
@@ -58,7 +58,7 @@ fn check<R: Abort + AllocGlobal>(rt: &R, run: Run<'_>, output: &[u8]) -> Result<
 #[test]
 fn a_report_is_drawn_whole_or_in_part(rt: HostRuntime) -> Result<(), Fail> {
     let page = output_of(&rt, sound(EMPTY, PageStatus::Done, 0))?;
-    let cut = Run {
+    let cut = PageRun {
         sink_fails: &[3],
         ..sound(EMPTY, PageStatus::WriteFault, 5)
     };
@@ -126,7 +126,7 @@ fn a_cut_report_is_told(rt: HostRuntime) -> Result<(), Fail> {
 
 #[test]
 fn words_are_told_and_nothing_is_read(rt: HostRuntime) -> Result<(), Fail> {
-    let run = Run {
+    let run = PageRun {
         has_words: true,
         source_fails: &[1],
         ..sound(EMPTY, PageStatus::Faulty(PageFault::Usage), 2)
@@ -136,7 +136,7 @@ fn words_are_told_and_nothing_is_read(rt: HostRuntime) -> Result<(), Fail> {
 
 #[test]
 fn a_source_that_fails_is_told(rt: HostRuntime) -> Result<(), Fail> {
-    let run = Run {
+    let run = PageRun {
         source_fails: &[2],
         ..sound(EMPTY, PageStatus::Faulty(PageFault::Read), 4)
     };
@@ -145,7 +145,7 @@ fn a_source_that_fails_is_told(rt: HostRuntime) -> Result<(), Fail> {
 
 #[test]
 fn a_line_that_is_cut_short_is_a_write_fault(rt: HostRuntime) -> Result<(), Fail> {
-    let run = Run {
+    let run = PageRun {
         sink_fails: &[1],
         ..sound(b"", PageStatus::WriteFault, 5)
     };

@@ -304,9 +304,9 @@ fn stopped(alloc: Global, call: u32, pick: u64) -> Result<Vec<Found>, Fail> {
 }
 
 // Of the event in a bank: its cycle, whether it is locked, and whether it is done.
-type State = Option<(u32, bool, bool)>;
+type EventState = Option<(u32, bool, bool)>;
 
-fn state_in(found: &[Found], bank: u8) -> State {
+fn state_in(found: &[Found], bank: u8) -> EventState {
     for entry in found {
         if let BankView::Event(record) = &entry.view {
             if entry.bank == bank {
@@ -318,7 +318,11 @@ fn state_in(found: &[Found], bank: u8) -> State {
 }
 
 // Picks 0, 1 and 7 leave this in bank 1 after a stop in a call, and bank 2 as it was.
-fn assert_left<R: Abort + AllocGlobal>(rt: &R, call: u32, left: [State; 3]) -> Result<(), Fail> {
+fn assert_left<R: Abort + AllocGlobal>(
+    rt: &R,
+    call: u32,
+    left: [EventState; 3],
+) -> Result<(), Fail> {
     for (i, pick) in [0u64, 1, 7].into_iter().enumerate() {
         let found = stopped(rt.alloc(), call, pick)?;
         assert_eq!(rt; state_in(&found, 1), left[i], "call {call}, pick {pick}");
@@ -331,13 +335,13 @@ fn assert_left<R: Abort + AllocGlobal>(rt: &R, call: u32, left: [State; 3]) -> R
     Ok(())
 }
 
-const OLD: State = Some((1, false, true));
+const OLD: EventState = Some((1, false, true));
 
-const TAKEN: State = Some((3, false, false));
+const TAKEN: EventState = Some((3, false, false));
 
-const LOCKED: State = Some((3, true, false));
+const LOCKED: EventState = Some((3, true, false));
 
-const WHOLE: State = Some((3, true, true));
+const WHOLE: EventState = Some((3, true, true));
 
 #[test]
 fn stop_in_each_call_leaves_first_steps(rt: HostRuntime) -> Result<(), Fail> {

@@ -7,7 +7,7 @@ use std::alloc::{AllocError as OutOfMemory, Global};
 use std::ops::Range;
 use std::process::Abort;
 use std::test::Fail;
-use traces::{Pulse, Trace};
+use traces::{CoreTrace, Pulse};
 
 // What a core issued, each with its tick.
 #[derive(Drop)]
@@ -69,7 +69,7 @@ const ARRIVALS: [Arrival; 3] = [
 // Gives a core what a sensor of the trace has from one moment up to another.
 fn give_items(
     core: &mut Core,
-    trace: &Trace,
+    trace: &CoreTrace,
     sensor: Sensor,
     moments: Range<u32>,
 ) -> Result<(), Fail> {
@@ -82,7 +82,12 @@ fn give_items(
 }
 
 // Gives a core the ticks of a round, of one sensor after the other.
-fn give_round(core: &mut Core, trace: &Trace, arrival: Arrival, first: u32) -> Result<(), Fail> {
+fn give_round(
+    core: &mut Core,
+    trace: &CoreTrace,
+    arrival: Arrival,
+    first: u32,
+) -> Result<(), Fail> {
     let past = first
         .saturating_add(arrival.ticks)
         .min(trace.end.saturating_add(1));
@@ -97,7 +102,7 @@ fn give_round(core: &mut Core, trace: &Trace, arrival: Arrival, first: u32) -> R
 fn issue_all(
     alloc: Global,
     core: &mut Core,
-    trace: &Trace,
+    trace: &CoreTrace,
     arrival: Arrival,
 ) -> Result<Issues, Fail> {
     let mut issues = Issues {
@@ -117,7 +122,7 @@ fn issue_all(
 }
 
 // What a core issues of the trace, all of whose ticks it closes.
-fn issues_of(alloc: Global, trace: &Trace, arrival: Arrival) -> Result<Issues, Fail> {
+fn issues_of(alloc: Global, trace: &CoreTrace, arrival: Arrival) -> Result<Issues, Fail> {
     let mut core = Core::open(alloc, 1)?;
     let issues = issue_all(alloc, &mut core, trace, arrival)?;
     if core.closed() != trace.end {
@@ -139,7 +144,7 @@ fn points(given: &[i16]) -> [i16; 26] {
 fn check_event(
     rt: &impl Abort,
     alloc: Global,
-    trace: &Trace,
+    trace: &CoreTrace,
     zero: u32,
     take: u32,
     lock: Option<u32>,
@@ -192,7 +197,7 @@ fn crash_with_tie(rt: HostRuntime) -> Result<(), Fail> {
     let (pre, crash) = check_event(
         &rt,
         rt.alloc(),
-        &Trace::crash(27_000),
+        &CoreTrace::crash(27_000),
         26_003,
         26_020,
         None,
@@ -211,7 +216,7 @@ fn crash_with_tie(rt: HostRuntime) -> Result<(), Fail> {
 
 #[test]
 fn any_interleaving_freezes_the_same_speeds(rt: HostRuntime) -> Result<(), Fail> {
-    let mut trace = Trace::crash(27_000);
+    let mut trace = CoreTrace::crash(27_000);
     trace.speeds_up = true;
     let (pre, _) = check_event(&rt, rt.alloc(), &trace, 26_003, 26_020, None, 26_148)?;
     for k in 0..LONG_SLOTS {
@@ -223,7 +228,7 @@ fn any_interleaving_freezes_the_same_speeds(rt: HostRuntime) -> Result<(), Fail>
 
 // A deployment with no change of speed: the restraint of that bit alone.
 fn check_deployment(rt: &impl Abort, alloc: Global, bits: i32, place: usize) -> Result<(), Fail> {
-    let trace = Trace::firing(28_000, bits, [27_000, 0, 0]);
+    let trace = CoreTrace::firing(28_000, bits, [27_000, 0, 0]);
     let (pre, crash) = check_event(rt, alloc, &trace, 27_000, 27_000, Some(27_000), 27_050)?;
     check_drive(rt, &pre);
     assert_eq!(rt; crash.end, 20);
@@ -249,7 +254,7 @@ fn side_air_bag_locks(rt: HostRuntime) -> Result<(), Fail> {
 
 #[test]
 fn lateral_trigger(rt: HostRuntime) -> Result<(), Fail> {
-    let mut trace = Trace::still(27_000);
+    let mut trace = CoreTrace::still(27_000);
     trace.across = Pulse {
         first: 26_001,
         last: 26_400,
@@ -270,7 +275,7 @@ fn lateral_trigger(rt: HostRuntime) -> Result<(), Fail> {
 
 #[test]
 fn trigger_reaches_back(rt: HostRuntime) -> Result<(), Fail> {
-    let mut trace = Trace::still(27_000);
+    let mut trace = CoreTrace::still(27_000);
     trace.along = [
         Pulse {
             first: 26_001,
@@ -294,7 +299,7 @@ fn trigger_reaches_back(rt: HostRuntime) -> Result<(), Fail> {
 
 #[test]
 fn turned_impulse(rt: HostRuntime) -> Result<(), Fail> {
-    let mut trace = Trace::still(27_000);
+    let mut trace = CoreTrace::still(27_000);
     trace.along = [
         Pulse {
             first: 26_001,
@@ -317,7 +322,7 @@ fn turned_impulse(rt: HostRuntime) -> Result<(), Fail> {
 
 #[test]
 fn before_power_on(rt: HostRuntime) -> Result<(), Fail> {
-    let trace = Trace::firing(4000, 1, [3000, 0, 0]);
+    let trace = CoreTrace::firing(4000, 1, [3000, 0, 0]);
     let (pre, _) = check_event(&rt, rt.alloc(), &trace, 3000, 3000, Some(3000), 3050)?;
     for k in 0..LONG_SLOTS {
         let powered = k > 170;
@@ -354,7 +359,7 @@ fn pairs(rt: HostRuntime) -> Result<(), Fail> {
             [Some(Place::First), Some(Place::First), None],
         ),
     ] {
-        let trace = Trace::firing(33_000, 64, moments);
+        let trace = CoreTrace::firing(33_000, 64, moments);
         for arrival in ARRIVALS {
             let issues = issues_of(rt.alloc(), &trace, arrival)?;
             for (k, place) in places.iter().enumerate() {
@@ -371,7 +376,7 @@ fn pairs(rt: HostRuntime) -> Result<(), Fail> {
 #[test]
 fn cut_short(rt: HostRuntime) -> Result<(), Fail> {
     for arrival in ARRIVALS {
-        let issues = issues_of(rt.alloc(), &Trace::crash(26_100), arrival)?;
+        let issues = issues_of(rt.alloc(), &CoreTrace::crash(26_100), arrival)?;
         assert_eq!(rt; issues.takes.len(), 1);
         let (tick, pre) = *issues.takes.first().ok_or("a take")?;
         assert_eq!(rt; tick, 26_020);
@@ -384,7 +389,7 @@ fn cut_short(rt: HostRuntime) -> Result<(), Fail> {
 
 #[test]
 fn gap_in_samples(rt: HostRuntime) -> Result<(), Fail> {
-    let mut trace = Trace::crash(27_000);
+    let mut trace = CoreTrace::crash(27_000);
     trace.gap = 26_033;
     let (pre, crash) = check_event(&rt, rt.alloc(), &trace, 26_003, 26_020, None, 26_148)?;
     check_drive(&rt, &pre);

@@ -7,17 +7,17 @@ use std::test::Fail;
 
 // A sample of this value at each of the ticks.
 #[derive(Clone, Copy)]
-struct Stretch {
+struct SampledStretch {
     first: u32,
     last: u32,
     value: i32,
 }
 
-const fn steady(first: u32, last: u32, value: i32) -> Stretch {
-    Stretch { first, last, value }
+const fn steady(first: u32, last: u32, value: i32) -> SampledStretch {
+    SampledStretch { first, last, value }
 }
 
-fn value_at(stretches: &[Stretch], t: u32) -> i32 {
+fn value_at(stretches: &[SampledStretch], t: u32) -> i32 {
     for s in stretches {
         if s.first <= t && t <= s.last {
             return s.value;
@@ -28,15 +28,15 @@ fn value_at(stretches: &[Stretch], t: u32) -> i32 {
 
 // An event, in ticks of the cycle.
 #[derive(Clone, Copy, Debug, PartialEq, Eq)]
-struct Found {
+struct FoundEvent {
     zero: u32,
     confirmed: u32,
     end: u32,
     close: u32,
 }
 
-const fn event(zero: u32, confirmed: u32, end: u32, close: u32) -> Found {
-    Found {
+const fn event(zero: u32, confirmed: u32, end: u32, close: u32) -> FoundEvent {
+    FoundEvent {
         zero,
         confirmed,
         end,
@@ -46,12 +46,12 @@ const fn event(zero: u32, confirmed: u32, end: u32, close: u32) -> Found {
 
 // What the detector tells of a cycle: its events, and of the candidates that it drops time zero and end.
 #[derive(Drop)]
-struct Told {
-    events: Vec<Found>,
+struct ToldEvents {
+    events: Vec<FoundEvent>,
     dropped: Vec<(u32, u32)>,
 }
 
-fn change_in_range(stretches: &[Stretch], t: u32) -> i32
+fn change_in_range(stretches: &[SampledStretch], t: u32) -> i32
     ensures { unsigned_abs result ≤ 100_000 }
 {
     let value = value_at(stretches, t);
@@ -65,13 +65,13 @@ fn change_in_range(stretches: &[Stretch], t: u32) -> i32
 fn tell(
     alloc: Global,
     last: u32,
-    along: &[Stretch],
-    across: &[Stretch],
+    along: &[SampledStretch],
+    across: &[SampledStretch],
     fired: &[u32],
-) -> Result<Told, OutOfMemory>
+) -> Result<ToldEvents, OutOfMemory>
     requires { last ≤ 86_400_000 }
 {
-    let mut told = Told {
+    let mut told = ToldEvents {
         events: Vec::new(alloc),
         dropped: Vec::new(alloc),
     };
@@ -96,7 +96,7 @@ fn tell(
 }
 
 // The open candidate with what stands at the tick t.
-fn follow(begun: Found, change: Change, t: u32) -> Found {
+fn follow(begun: FoundEvent, change: Change, t: u32) -> FoundEvent {
     let mut next = begun;
     if change.zero {
         next.zero = t;
@@ -123,7 +123,7 @@ fn the_detector_tells_the_worked_events(rt: HostRuntime) -> Result<(), Fail> {
     let apart = [steady(6001, 6010, 5000), steady(6071, 6080, 5000)];
     let turned = [steady(6001, 6010, 3000), steady(6011, 6030, -4000)];
     let push = [steady(6001, 6400, 540)];
-    let none: &[Stretch] = &[];
+    let none: &[SampledStretch] = &[];
     for (along, across, found) in [
         (blow.as_slice(), none, event(6003, 6020, 6118, 6148)),
         (apart.as_slice(), none, event(6072, 6076, 6099, 6129)),

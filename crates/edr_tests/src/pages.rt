@@ -104,7 +104,7 @@ fn ack(tick: u32, kind: Kind, applied: Applied) -> Ack {
 }
 
 // What is known of a page and of the report that it is made from.
-struct Known {
+struct KnownPage {
     size: u32,
     report: [u8; 32],
     len: usize,
@@ -117,7 +117,7 @@ fn is_known(
     run: &[CycleReport],
     found: &[Found],
     count: u32,
-    known: &Known,
+    known: &KnownPage,
 ) -> Result<bool, AllocError> {
     let bytes = page(alloc, run, found, count, known.size, &known.report)?;
     let mut hasher = Sha256::new();
@@ -126,7 +126,7 @@ fn is_known(
     Ok(bytes.len() == known.len && digest == known.page)
 }
 
-const POWER_CUT: Known = Known {
+const POWER_CUT: KnownPage = KnownPage {
     size: 1072,
     report: [
         0xb1, 0xb8, 0xc2, 0x07, 0xe8, 0x2a, 0xd7, 0xd0, 0x56, 0xfc, 0x12, 0x94, 0x72, 0x0b, 0xca,
@@ -141,7 +141,7 @@ const POWER_CUT: Known = Known {
     ],
 };
 
-const LONG: Known = Known {
+const LONG: KnownPage = KnownPage {
     size: 3127,
     report: [
         0x2c, 0xc0, 0x56, 0x55, 0xd0, 0xf3, 0xe6, 0x89, 0xc8, 0xc8, 0xe3, 0xf5, 0x19, 0xf0, 0xbc,

@@ -8,11 +8,11 @@ use std::test::Fail;
 
 // Numbers one after the other, drawn from a seed.
 #[derive(Drop)]
-struct Draws {
+struct DrawnNumbers {
     state: u32,
 }
 
-impl Draws {
+impl DrawnNumbers {
     // A number below that one.
     fn below(&mut self, limit: u32) -> u32
         requires { 0 < limit }
@@ -48,7 +48,7 @@ impl Draws {
 }
 
 // A cycle or two of plain rows, or with a row of quotes now and then.
-fn drawn_trace(rt: &HostRuntime, draws: &mut Draws, plain: bool) -> Result<String, Fail> {
+fn drawn_trace(rt: &HostRuntime, draws: &mut DrawnNumbers, plain: bool) -> Result<String, Fail> {
     let mut text = String::new(rt.alloc());
     for _ in 0..draws.below(2) + 1 {
         write!(text, "on,0,\n")?;
@@ -67,7 +67,7 @@ fn drawn_trace(rt: &HostRuntime, draws: &mut Draws, plain: bool) -> Result<Strin
 }
 
 // At a place some bytes are left out, and others are put in.
-fn damaged(rt: &HostRuntime, bytes: &[u8], draws: &mut Draws) -> Result<Vec<u8>, Fail> {
+fn damaged(rt: &HostRuntime, bytes: &[u8], draws: &mut DrawnNumbers) -> Result<Vec<u8>, Fail> {
     let put_in: [&[u8]; 13] = [
         b"",
         b"",
@@ -157,7 +157,7 @@ fn both_ways(rt: &HostRuntime, bytes: &[u8], first: usize, part: usize) -> Optio
 
 #[test]
 fn plain_rows_are_read_as_csv_reads_them(rt: HostRuntime) -> Result<(), Fail> {
-    let mut draws = Draws { state: 1 };
+    let mut draws = DrawnNumbers { state: 1 };
     let (mut right, mut faulty) = (0u32, 0u32);
     for _ in 0..2_000u32 {
         let text = drawn_trace(&rt, &mut draws, false)?;
@@ -183,7 +183,7 @@ fn plain_rows_are_read_as_csv_reads_them(rt: HostRuntime) -> Result<(), Fail> {
 // Of drawn plain rows the end comes later, from each of the last places on.
 #[test]
 fn rows_may_be_cut_anywhere(rt: HostRuntime) -> Result<(), Fail> {
-    let mut draws = Draws { state: 2 };
+    let mut draws = DrawnNumbers { state: 2 };
     for _ in 0..100u32 {
         let text = drawn_trace(&rt, &mut draws, true)?;
         let bytes = text.as_bytes();

@@ -4,7 +4,9 @@ use super::drives::{Drive, blow, gap, quiet, struck, trace_of};
 use super::expected::{
     COUNTED_ONE, STRUCK_CYCLE, changed, joined, slots, struck_event, struck_report,
 };
-use super::{KEEP, Run, SIZE, check_run, kept_memory, memory_of, new_image, put, replayed, run_of};
+use super::{
+    CommandRun, KEEP, SIZE, check_run, kept_memory, memory_of, new_image, put, replayed, run_of,
+};
 use crate::Status;
 use std::alloc::{AllocError, Global};
 use std::process::Abort;
@@ -93,7 +95,7 @@ fn a_crash_is_told_as_text_and_as_a_table(rt: HostRuntime) -> Result<(), Fail> {
     let alloc = rt.alloc();
     let trace = trace_of(alloc, &[struck(27_000)])?;
     let text = struck_report(alloc)?;
-    let run = Run {
+    let run = CommandRun {
         words: &["replay", "text"],
         ..replayed(&trace, &text)
     };
@@ -101,7 +103,7 @@ fn a_crash_is_told_as_text_and_as_a_table(rt: HostRuntime) -> Result<(), Fail> {
     let mut memory = kept_memory(alloc)?;
     let struck = struck_table(alloc)?;
     let table = joined(alloc, &[TABLE_HEAD, STRUCK_CYCLE_TABLE, &struck])?;
-    let run = Run {
+    let run = CommandRun {
         words: &["replay", "csv"],
         ..replayed(&trace, &table)
     };

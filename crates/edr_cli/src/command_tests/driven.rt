@@ -16,9 +16,9 @@ use std::thread::Threads;
 
 // A gate that lets every item pass.
 #[derive(Drop)]
-struct Open {}
+struct AlwaysOpen {}
 
-impl Gate for Open {
+impl Gate for AlwaysOpen {
     fn pass(&self, _sensor: u8, _nth: u32) {}
 }
 
@@ -35,7 +35,7 @@ struct Case<'a> {
 
 // What a run comes to: its status, its text, and the bytes of its memory.
 #[derive(Drop)]
-struct Outcome {
+struct RunOutcome {
     status: Status,
     text: Vec<u8>,
     image: Vec<u8>,
@@ -62,7 +62,7 @@ fn run_case<R: Threads + Wait + Copy + Send + Sync + 'static>(
     case: Case<'_>,
     workers: Option<&str>,
     form: &str,
-) -> Result<Outcome, Fail> {
+) -> Result<RunOutcome, Fail> {
     let words = words_in(alloc, workers, form)?;
     let fails = case.source_fails.to_vec(alloc)?;
     let mut source = MemSource::new(case.trace.to_vec(alloc)?, 1_000, fails);
@@ -70,7 +70,7 @@ fn run_case<R: Threads + Wait + Copy + Send + Sync + 'static>(
     let image = case.image;
     let mut memory = memory_of(alloc, image, case.memory_fails, 0)?;
     let status = if workers.is_some() {
-        let gate = Arc::new(alloc, Open {})?;
+        let gate = Arc::new(alloc, AlwaysOpen {})?;
         drive(
             rt,
             alloc,
@@ -83,7 +83,7 @@ fn run_case<R: Threads + Wait + Copy + Send + Sync + 'static>(
     } else {
         command(alloc, &words, &mut source, &mut sink, &mut memory)
     };
-    Ok(Outcome {
+    Ok(RunOutcome {
         status,
         text: sink.bytes().to_vec(alloc)?,
         image: memory.image().to_vec(alloc)?,
@@ -243,7 +243,7 @@ fn second_sensor_passes(rt: HostRuntime) -> Result<(), Fail> {
 
 // A gate that counts the parts that each sensor has sent of the time zero at 26.003 s, and those of other times zero.
 #[derive(Drop)]
-struct Served {
+struct ServedParts {
     speed: AtomicU64,
     throttle: AtomicU64,
     brake: AtomicU64,
@@ -252,7 +252,7 @@ struct Served {
     others: AtomicU64,
 }
 
-impl Gate for Served {
+impl Gate for ServedParts {
     fn pass(&self, _sensor: u8, _nth: u32) {}
 
     fn served(&self, sensor: u8, zero: u32) {
@@ -272,7 +272,7 @@ impl Gate for Served {
 #[test]
 fn parts_are_served(rt: HostRuntime) -> Result<(), Fail> {
     let alloc = rt.alloc();
-    let gate = Served {
+    let gate = ServedParts {
         speed: AtomicU64::new(0),
         throttle: AtomicU64::new(0),
         brake: AtomicU64::new(0),

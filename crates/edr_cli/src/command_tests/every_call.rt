@@ -3,7 +3,7 @@
 use super::drives::{DEPLOYED, trace_of};
 use super::expected::{COUNTED_ONE, DEPLOYED_CYCLE, NOT_DONE, bag_event, changed, joined};
 use super::{
-    KEEP, Run, SOUND, Streams, check_run, check_streams, kept_memory, memory_of, new_image,
+    CommandRun, KEEP, SOUND, Streams, check_run, check_streams, kept_memory, memory_of, new_image,
     replayed, run_of,
 };
 use crate::Status;
@@ -18,8 +18,8 @@ fn whole_report(alloc: Global) -> Result<String, AllocError> {
 }
 
 // A replay of the trace that ends with this fault.
-fn faulty<'a>(trace: &'a str, status: Status, line: &'a str) -> Run<'a> {
-    Run {
+fn faulty<'a>(trace: &'a str, status: Status, line: &'a str) -> CommandRun<'a> {
+    CommandRun {
         status,
         ..replayed(trace, line)
     }

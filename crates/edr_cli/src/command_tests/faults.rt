@@ -5,7 +5,7 @@ ghost use Rattle.edr_device.specs.Faults.{last_number};
 use super::drives::{struck, trace_of};
 use super::expected::{NOT_DONE, changed, struck_event, struck_report};
 use super::{
-    KEEP, Run, SOUND, Streams, check_run, check_streams, kept_memory, memory_of, new_image,
+    CommandRun, KEEP, SOUND, Streams, check_run, check_streams, kept_memory, memory_of, new_image,
     replayed, run_of, words_of,
 };
 use crate::{Status, command};
@@ -31,7 +31,11 @@ fn pieces_make_no_difference(rt: HostRuntime) -> Result<(), Fail> {
 }
 
 // A replay whose source fails at this call, over pieces of 7 bytes.
-fn check_source<R: Abort + AllocGlobal>(rt: &R, fails: u32, run: Run<'_>) -> Result<MemNvm, Fail> {
+fn check_source<R: Abort + AllocGlobal>(
+    rt: &R,
+    fails: u32,
+    run: CommandRun<'_>,
+) -> Result<MemNvm, Fail> {
     let streams = Streams {
         source_piece: 7,
         source_fails: &[fails],
@@ -81,14 +85,14 @@ fn a_sink_that_is_full_has_the_first_bytes(rt: HostRuntime) -> Result<(), Fail> 
 }
 
 // Each call takes one byte.
-fn check_sink<R: Abort + AllocGlobal>(rt: &R, run: Run<'_>, text: &str) -> Result<(), Fail> {
+fn check_sink<R: Abort + AllocGlobal>(rt: &R, run: CommandRun<'_>, text: &str) -> Result<(), Fail> {
     for (fails, (before, _)) in (1..1000u32).zip(text.char_indices()) {
         let streams = Streams {
             sink_piece: 1,
             sink_fails: &[fails],
             ..SOUND
         };
-        let part = Run {
+        let part = CommandRun {
             status: Status::WriteFault,
             output: text.get(..before).unwrap_or(""),
             ..run

@@ -1,7 +1,8 @@
 //! `format` over new, formatted, short and failing memories.
 
 use super::{
-    KEEP, OVERWRITE, Run, SIZE, SOUND, check_run, check_streams, memory_of, new_image, run_of,
+    CommandRun, KEEP, OVERWRITE, SIZE, SOUND, check_run, check_streams, memory_of, new_image,
+    run_of,
 };
 use crate::Status;
 use std::process::Abort;
@@ -9,7 +10,7 @@ use std::test::Fail;
 
 const FORMATTED: &str = "formatted: 2 banks, keep\n";
 
-const FORMAT: Run<'static> = Run {
+const FORMAT: CommandRun<'static> = CommandRun {
     words: &["format", "2", "keep"],
     trace: b"",
     status: Status::Ok,

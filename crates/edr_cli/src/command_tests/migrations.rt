@@ -2,7 +2,7 @@
 
 use super::crashes::image_with;
 use super::expected::{COUNTED_ONE, OLD_EVENT, joined};
-use super::{KEEP, Run, SIZE, check_run, memory_of, new_image, run_of};
+use super::{CommandRun, KEEP, SIZE, check_run, memory_of, new_image, run_of};
 use crate::Status;
 use edr_device::Nvm;
 use std::process::Abort;
@@ -49,8 +49,8 @@ fn old_image() -> [u8; 1_120] {
 }
 
 // A migration of these bytes, and what it is to answer.
-const fn migrated<'a>(old: &'a [u8], status: Status, output: &'a str) -> Run<'a> {
-    Run {
+const fn migrated<'a>(old: &'a [u8], status: Status, output: &'a str) -> CommandRun<'a> {
+    CommandRun {
         words: &["migrate"],
         trace: old,
         status,

@@ -1,13 +1,13 @@
 //! Words and traces that are refused, and traces with quotes and blank lines.
 
-use super::{KEEP, Run, check_run, kept_memory, new_image, replayed, run_of};
+use super::{CommandRun, KEEP, check_run, kept_memory, new_image, replayed, run_of};
 use crate::Status;
 use std::process::Abort;
 use std::test::Fail;
 
 // A trace is refused with this line, and the memory stays.
 fn check_refused<R: Abort + AllocGlobal>(rt: &R, trace: &[u8], line: &str) -> Result<(), Fail> {
-    let run = Run {
+    let run = CommandRun {
         words: &["replay"],
         trace,
         status: Status::Trace,
@@ -163,7 +163,7 @@ fn other_words_are_a_fault_of_usage(rt: HostRuntime) -> Result<(), Fail> {
     ];
     let mut memory = kept_memory(rt.alloc())?;
     for words in words {
-        let run = Run {
+        let run = CommandRun {
             words,
             trace: b"on,0,\ncut,0,\n",
             status: Status::Usage,

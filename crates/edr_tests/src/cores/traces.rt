@@ -19,7 +19,7 @@ pub struct Firing {
 
 // A cycle up to the tick `end` in which the car stands still in gear, but for what is told here.
 #[derive(Clone, Copy)]
-pub struct Trace {
+pub struct CoreTrace {
     pub end: u32,
     pub along: [Pulse; 2],
     pub across: Pulse,
@@ -50,10 +50,10 @@ impl Firing {
     pub const NONE: Firing = Firing { moment: 0, bits: 0 };
 }
 
-impl Trace {
+impl CoreTrace {
     // Nothing happens.
-    pub fn still(end: u32) -> Trace {
-        Trace {
+    pub fn still(end: u32) -> CoreTrace {
+        CoreTrace {
             end,
             along: [Pulse::NONE; 2],
             across: Pulse::NONE,
@@ -64,8 +64,8 @@ impl Trace {
     }
 
     // The car loses 40 km/h in 100 ms.
-    pub fn crash(end: u32) -> Trace {
-        let mut trace = Trace::still(end);
+    pub fn crash(end: u32) -> CoreTrace {
+        let mut trace = CoreTrace::still(end);
         trace.along[0] = Pulse {
             first: 26_001,
             last: 26_100,
@@ -75,8 +75,8 @@ impl Trace {
     }
 
     // The restraints of these bits fire at these moments; 0 is none.
-    pub fn firing(end: u32, bits: i32, moments: [u32; 3]) -> Trace {
-        let mut trace = Trace::still(end);
+    pub fn firing(end: u32, bits: i32, moments: [u32; 3]) -> CoreTrace {
+        let mut trace = CoreTrace::still(end);
         trace.firings = moments.map(|moment| Firing { moment, bits });
         trace
     }
