@@ -53,6 +53,10 @@ pub record FirstSteps (rs : List Reply) (j : ℕ) (done : List BankStep) : Type 
   pub within : q ≤ length (steps_at rs j)
   pub steps : done ≡ steps_before rs j ++ take q (steps_at rs j)
 
+-- the steps are those of all commands that are acknowledged by changing call k of the cycle, with first ones of the next
+abbrev pub AreDoneByCall : SensorLists → ℕ → Store → ℕ → List BankStep → Type 0
+AreDoneByCall f n v k done = FirstSteps (replies_in f n v) (length (acks_before f n v k)) done
+
 -- the image has these steps
 pub record HasFirst (rs : List Reply) (j : ℕ) (v : View) (image : List ℕ) : Type 0 where
   pub done : List BankStep

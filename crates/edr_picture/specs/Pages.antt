@@ -80,6 +80,14 @@ IsText has_words i i' text = PageIs i i' text ⊎ ((f : PageFault) × IsCauseOfN
 abbrev pub OnInput : {S : Type 0} {X : Type 1} → stream.Ghosts S → (PageInput → PageInput → X) → S → S → X
 OnInput s says old new = says (input s.left s.faults old) (input s.left s.faults new)
 
+-- there is no page of what the source gives, for this cause
+abbrev pub HasNoPage : {S : Type 0} → stream.Ghosts S → Bool → S → S → PageFault → Type 0
+HasNoPage s has_words old new f = OnInput s (IsCauseOfNoPage has_words) old new f
+
+-- the text is one that may be written for what it gives
+abbrev pub IsTextFor : {S : Type 0} → stream.Ghosts S → Bool → S → S → List ℕ → Type 0
+IsTextFor s has_words old new text = OnInput s (IsText has_words) old new text
+
 -- whatever report the source gives, if it counts no fault, this is so
 abbrev pub OfReport : {S : Type 0} → stream.Ghosts S → S → S → Type 0 → Type 0
 OfReport s old new says =

@@ -5,7 +5,7 @@ ghost use Rattle.edr_image.specs.Reports.{Report};
 ghost use Rattle.edr_device.specs.Told.{Told};
 ghost use Rattle.edr_device.specs.Transfer.{GivesAtMost};
 ghost use Rattle.edr_picture.specs.Faults.{fault_line};
-ghost use Rattle.edr_picture.specs.Pages.{Fails, GainsText, GainsPart, IsCauseOfNoPage, IsDrawn, IsPage, IsText, IsWhy, OfReport, OnInput, PageIs, TellsReport, WritesText, WritesPart, largest_report};
+ghost use Rattle.edr_picture.specs.Pages.{Fails, GainsText, GainsPart, HasNoPage, IsDrawn, IsPage, IsTextFor, IsWhy, OfReport, OnInput, PageIs, TellsReport, WritesText, WritesPart, largest_report};
 
 use crate::faults::PageFault;
 use crate::status::PageStatus;
@@ -49,7 +49,7 @@ fn page_of(alloc: Global, bytes: &[u8]) -> Result<Vec<u8>, PageFault>
 // The page of the report that the source gives up to its end, or why there is none.
 fn page_from<S: Source>(alloc: Global, source: &mut S) -> Result<Vec<u8>, PageFault>
     ensures page { IfOk result (λ v. OnInput S.Source PageIs source.old source.new v.items) }
-    ensures cause { IfErr result (OnInput S.Source (IsCauseOfNoPage false) source.old source.new) }
+    ensures cause { IfErr result (HasNoPage S.Source false source.old source.new) }
     ensures complete { OfReport S.Source source.old source.new
         (IfErr result (λ f. f ≡ PageFault.OutOfMemory)) }
     ensures takes { Told (GivesAtMost (largest_report + 1)) (S.left source.old) (S.left source.new) }
@@ -91,13 +91,12 @@ pub fn draw<S: Source, K: Sink>(
         × WritesText K.Sink (OnInput S.Source PageIs source.old source.new) sink.old sink.new }
     // With a fault it gained exactly its line, and the fault has its cause.
     ensures fault { (f : PageFault) → result ≡ PageStatus.Faulty f
-        → OnInput S.Source (IsCauseOfNoPage has_words) source.old source.new f
+        → HasNoPage S.Source has_words source.old source.new f
         × GainsText K.Sink (fault_line f) sink.old sink.new }
     // Where a write failed it gained a part of one of these texts.
     ensures part { result ≡ PageStatus.WriteFault
         → Fails K.Sink sink.old sink.new
-        × WritesPart K.Sink (OnInput S.Source (IsText has_words) source.old source.new)
-        sink.old sink.new }
+        × WritesPart K.Sink (IsTextFor S.Source has_words source.old source.new) sink.old sink.new }
     // Where neither source nor sink counts a fault, a report is drawn, unless memory runs out.
     ensures complete { has_words ≡ false → ¬ Fails K.Sink sink.old sink.new
         → OfReport S.Source source.old source.new (IsDrawn result) }

@@ -1,5 +1,5 @@
 -- Traces that are written line by line, with no quotes.
-use Rattle.std.specs.Prelude.{◌≡◌, ℕ, ℤ, Bool, false, ◌==◌, ◌||◌, ◌++◌, Option, Some, None, List, [], ◌∷◌, map, flat_map}
+use Rattle.std.specs.Prelude.{◌≡◌, ◌≢◌, ℕ, ℤ, Bool, false, ◌==◌, ◌||◌, ◌++◌, Option, Some, None, List, [], ◌∷◌, map, flat_map, slice_index}
 use Rattle.std.specs.List.{list_any}
 use Rattle.edr_text.specs.Numbers.{numeral, signed_numeral}
 use Rattle.edr_spell.specs.declared.Word.TheVariants as w
@@ -20,6 +20,14 @@ fields_in l = l.first ∷ l.second ∷ l.third ∷ []
 -- the line with its commas and its line feed
 abbrev pub line_text : TraceLine → List ℕ
 line_text l = l.first ++ 44 ∷ (l.second ++ 44 ∷ (l.third ++ 10 ∷ []))
+
+-- the lines one after the other
+abbrev pub lines_text : List TraceLine → List ℕ
+lines_text lines = flat_map line_text lines
+
+-- no byte order mark stands at the front
+abbrev pub HasNoMark : List ℕ → Type 0
+HasNoMark bytes = slice_index bytes 0 ≢ 239
 
 -- a comma, a quote, a carriage return or a line feed
 abbrev pub is_special : ℕ → Bool
@@ -42,4 +50,4 @@ line_for (row.Cut k) = record { first = spelling_of w.Cut; second = numeral k; t
 
 -- the text of these rows, a line for each
 abbrev pub text_of : List Row → List ℕ
-text_of rows = flat_map line_text (map line_for rows)
+text_of rows = lines_text (map line_for rows)

@@ -1,6 +1,6 @@
 //! Laws of the definitions, each the contract of a function that does nothing.
 
-ghost use Rattle.std.specs.Prelude.{◌≡◌, ◌≢◌, ℕ, ◌⊎◌, ◌↔◌, List, ◌++◌, [], ◌∷◌, Some, Ok, map, flat_map, slice_index};
+ghost use Rattle.std.specs.Prelude.{◌≡◌, ℕ, ◌⊎◌, ◌↔◌, List, ◌++◌, [], ◌∷◌, Some, Ok, map};
 ghost use Rattle.std.specs.List.{AllByRecursion};
 ghost use Rattle.edr_spell.specs.declared.CycleInput.{CycleInput};
 ghost use Rattle.edr_spell.specs.declared.Row.{Row};
@@ -10,7 +10,7 @@ ghost use Rattle.edr_spell.specs.Rows.{row_of, IsRow};
 ghost use Rattle.edr_spell.specs.Samples.{Sample, row_for};
 ghost use Rattle.edr_spell.specs.Spell.{RecordsOf, SpellCycles, Spell, IsCycleInput};
 ghost use Rattle.edr_spell.specs.Fault.{open_after, FirstFault};
-ghost use Rattle.edr_spell.specs.Lines.{TraceLine, IsPlain, line_text, fields_in, line_for, text_of};
+ghost use Rattle.edr_spell.specs.Lines.{HasNoMark, IsPlain, TraceLine, fields_in, line_for, lines_text, text_of};
 
 /// All bytes spell one list of cycles, or have one first fault, and never both.
 pub fn spelled_or_refused()
@@ -28,7 +28,8 @@ pub fn spelled_cycles_are_level()
 
 /// Lines without quotes are read as their fields, if no byte order mark stands at the front.
 pub fn lines_are_records()
-    ensures { (lines : List TraceLine) → AllByRecursion IsPlain lines → slice_index (flat_map line_text lines) 0 ≢ 239 → RecordsOf (flat_map line_text lines) (map fields_in lines) }
+    ensures { (lines : List TraceLine) → AllByRecursion IsPlain lines
+        → HasNoMark (lines_text lines) → RecordsOf (lines_text lines) (map fields_in lines) }
 {}
 
 /// The line of a row is read as that row, and only rows with numbers in their bounds are read.
