@@ -16,7 +16,8 @@ const NAME: &str = "edr.nvm";
 /// The folder in which it has that name.
 const FOLDER: &str = ".";
 
-/// As many bytes as a file has that is made.
+/// As many bytes as a file has that is made: those of an image of 16 banks, the most that there may be, so that each `format` has
+/// room.
 const NEW_SIZE: usize = 16_480;
 
 /// The highest number of a standard stream.

@@ -130,6 +130,7 @@ impl Banks {
         ensures within { IsBankWithin self.now.store.header.banks result }
         ensures few { self.now.store.header.banks ≤ MOST_BANKS }
     {
+        // The proof learns here how many banks there may be, and that the held one is among them.
         let _ = &self.held;
         self.task_of(command)
     }

@@ -102,6 +102,7 @@ fn ending(crash: &Crash) -> [u8; CRASH_SIZE]
     ensures bytes { result ≡ crash_bytes crash.now }
     ensures within { IsCrash crash.now }
 {
+    // The proof learns here that the part is within its bounds, so that its bytes read back.
     let _ = &crash.end;
     let mut part = [0; CRASH_SIZE];
     put_crash(crash, &mut part);
