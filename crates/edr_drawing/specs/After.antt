@@ -20,6 +20,8 @@ use Rattle.edr_drawing.specs.Scales.{counted}
 use Rattle.edr_drawing.specs.Before.{name}
 use Rattle.edr_drawing.specs.Changes.{change_y, time_x, window_of}
 
+-- ---- the frame
+
 -- the field past the window, where the chart reaches there
 unfoldable pub past_window : Scale → ℕ → List ℕ
 past_window s w =
@@ -90,6 +92,8 @@ unfoldable pub after_frame : Scale → ℕ → List ℕ
 after_frame s w =
     drawn (element.Rect 330 40 1_500 450 class.Plot ∷ []) ++ past_window s w ++ time_lines s ++ legend ++ levels s
 
+-- ---- the end of the event
+
 -- the line at the end of the event, and the words where nothing is recorded, if there is room for them
 unfoldable pub end_line : Scale → ℕ → ℕ → List ℕ
 end_line s end w =
@@ -100,6 +104,8 @@ end_line s end w =
     ++ (if nat_le (time_x s w + 200) 1_830
     then drawn (text ((time_x s w + 1_830) / 2) 478 class.CentreGap label.NotRecorded ∷ [])
     else [])
+
+-- ---- the curves
 
 -- the points of an axis, the first of which is that of i times 10 ms
 unfoldable pub axis_point : Scale → ℕ → ℤ → List ℕ
@@ -143,6 +149,8 @@ curves s c =
     ++ curve s class.Along (take (point_count c.end) c.along)
     ++ dots s 0 (take (point_count c.end) c.along)
 
+-- ---- the greatest changes
+
 -- the number of a greatest change, unless it is 0
 unfoldable pub maximum_number : ℕ → ℕ → Class → ℤ → List ℕ
 maximum_number x y c v = if int_eq v (pos 0) then [] else drawn (element.Text x y c (words.Change v) ∷ [])
@@ -163,6 +171,8 @@ maxima s along across =
     ++ diamond s along class.DiamondAlong
     ++ across_number s across
     ++ along_number s along
+
+-- ---- the whole chart
 
 unfoldable pub changes_chart : Scale → CrashPart → List ℕ
 changes_chart s c =

@@ -26,6 +26,8 @@ name y c l = element.Text 0 y c (words.Label l)
 abbrev pub rule : ℕ → Element
 rule y = element.Line 0 y 1_830 y class.Part
 
+-- ---- the lanes of speed and throttle
+
 -- the greatest value that is there, or 0
 abbrev pub greatest : List (Option ℕ) → ℕ
 greatest [] = 0
@@ -48,6 +50,8 @@ speed_lane f slots = speed_scale f (max (greatest slots) 1)
 
 abbrev pub throttle_lane : Profile → ChartLane
 throttle_lane f = record { profile = f; foot = 346; rise = 70; top = 100; step = 50; room = 96 }
+
+-- ---- the lines of the times
 
 -- how long before time zero time k of eleven is, in tenths of a second
 abbrev pub tenths_before : Profile → ℕ → ℕ
@@ -79,6 +83,8 @@ before_frame f =
     ∷ element.Text (time_at 10) 26 class.CentreBold (words.Label label.TimeZero)
     ∷ [])
 
+-- ---- the parts of speed and throttle
+
 unfoldable pub before_speed : Profile → List (Option ℕ) → List ℕ
 before_speed f slots =
     drawn (name 120 class.Bold label.Speed ∷ name 152 class.Plain label.Kmh ∷ []) ++ drawn_lane (speed_lane f slots) slots
@@ -87,6 +93,8 @@ unfoldable pub before_throttle : Profile → List (Option ℕ) → List ℕ
 before_throttle f slots =
     drawn (rule 236 ∷ name 290 class.Bold label.Throttle ∷ name 322 class.Plain label.OfFull ∷ [])
     ++ drawn_lane (throttle_lane f) slots
+
+-- ---- the part of the service brake
 
 -- the field of a switch
 abbrev pub switch_with : ℕ → ℕ → Class → Class → Label → List ℕ
@@ -132,6 +140,11 @@ abbrev pub brake_slots : Profile → List (Option Bool) → List ℕ
 brake_slots Short vs = switches 0 vs
 brake_slots Long vs = switch_runs 0 0 None vs
 
+unfoldable pub before_brake : Profile → List (Option Bool) → List ℕ
+before_brake f slots = drawn (rule 362 ∷ name 393 class.Bold label.ServiceBrake ∷ []) ++ brake_slots f slots
+
+-- ---- belt and lamp
+
 -- across: 1 s before time zero
 abbrev pub second_x : Profile → ℕ
 second_x Short = slot_x Short 8
@@ -141,12 +154,11 @@ second_x Long = slot_x Long 190
 abbrev pub named_switch : Profile → ℕ → Label → Option Bool → List ℕ
 named_switch f y l v = drawn (name (y + 26) class.Bold l ∷ []) ++ switch_field (second_x f) y v
 
-unfoldable pub before_brake : Profile → List (Option Bool) → List ℕ
-before_brake f slots = drawn (rule 362 ∷ name 393 class.Bold label.ServiceBrake ∷ []) ++ brake_slots f slots
-
 unfoldable pub before_switches : Profile → Option Bool → Option Bool → List ℕ
 before_switches f belt lamp =
     named_switch f 409 label.DriverBelt belt ++ named_switch f 451 label.AirBagLamp lamp ++ drawn (rule 490 ∷ [])
+
+-- ---- the whole chart
 
 -- what a chart says of its times
 abbrev pub description : Profile → Tag

@@ -28,6 +28,8 @@ abbrev pub damaged_in : List Found → ℕ
 damaged_in [] = 0
 damaged_in (f ∷ fs) = is_damaged f.view + damaged_in fs
 
+-- ---- the table of events
+
 -- the cells of the greatest changes, or that there are none
 unfoldable pub extreme_cells : Option CrashPart → List ℕ
 extreme_cells None =
@@ -82,6 +84,8 @@ events_table found =
     then []
     else pieces (piece.Tag tag.EventsStart ∷ []) ++ event_rows 1 found ++ pieces (piece.Tag tag.TableEnd ∷ [])
 
+-- ---- the list of damaged banks
+
 -- the item of a bank, if it is damaged
 abbrev pub damaged_item : ℕ → BankView → List ℕ
 damaged_item bank Void = []
@@ -107,6 +111,8 @@ damaged_list found =
     if nat_eq (damaged_in found) 0
     then []
     else pieces (piece.Tag tag.DamagedStart ∷ []) ++ damaged_items found ++ pieces (piece.Tag tag.ReasonsEnd ∷ [])
+
+-- ---- the whole sheet
 
 unfoldable pub cover_head : List Found → ℕ → List ℕ
 cover_head found count =

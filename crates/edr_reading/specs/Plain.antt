@@ -93,6 +93,8 @@ present_texts block bank f points complete =
     plain_texts block bank (codes "none") (profile_word f) (no_numbers f) (no_switches f)
     points (codes "0 km/h at 0 ms") (codes "0 ms") (codes "0 longitudinal, 0 lateral") complete
 
+-- ---- what is tried behind a row
+
 -- the values of a profile that are tried behind a row
 abbrev pub IsGuessOf : Profile → List ℕ → List ℕ → List ℕ → List (List ℕ) → Type 0
 IsGuessOf f block bank points v =
@@ -109,6 +111,8 @@ abbrev pub ArePlain : ℕ → List ℕ → List ℕ → Type 0
 ArePlain place value points =
     ((end : ℕ) → place ≡ 13 → 20 ≤ end → end ≤ 500 → value ≡ milliseconds end → points ≡ points_words end (replicate 26 (pos 0)))
     × (place ≡ 14 → points ≡ value)
+
+-- ---- the rows behind
 
 -- rows of a block with these names and values
 abbrev pub block_fields : List ℕ → List (List ℕ) → List (List ℕ) → List (List (List ℕ))
@@ -132,6 +136,8 @@ name_of row = slice_index_or row 1 []
 
 abbrev pub value_of : List (List ℕ) → List ℕ
 value_of row = slice_index_or row 2 []
+
+-- ---- whether a report goes on
 
 -- behind rows, the last of which is of this block and in this place of an event, some values end a report
 abbrev pub SomeAfter : List (List (List ℕ)) → List ℕ → ℕ → Type 0
