@@ -306,8 +306,8 @@ fn put_points(out: &mut Vec<u8>, scale: &Scale, points: &[i16]) -> Result<(), Ou
     requires count { length points.now ≤ 26 }
     ensures { OnOk result (out.new.items ≡ out.old.items ++ axis_points scale.now 0 points.now) }
 {
-    for (i, point) in points.iter().enumerate() {
-        put_point(out, scale, i as u16, *point)?;
+    for i in 0..points.len() {
+        put_point(out, scale, i as u16, points[i])?;
     }
     Ok(())
 }
@@ -342,8 +342,8 @@ fn draw_dots(out: &mut Vec<u8>, scale: &Scale, points: &[i16]) -> Result<(), Out
     requires count { length points.now ≤ 26 }
     ensures { OnOk result (out.new.items ≡ out.old.items ++ dots scale.now 0 points.now) }
 {
-    for (i, point) in points.iter().enumerate() {
-        draw_dot(out, scale, i as u16, *point)?;
+    for i in 0..points.len() {
+        draw_dot(out, scale, i as u16, points[i])?;
     }
     Ok(())
 }
@@ -354,8 +354,8 @@ fn draw_squares(out: &mut Vec<u8>, scale: &Scale, points: &[i16]) -> Result<(), 
     requires count { length points.now ≤ 26 }
     ensures { OnOk result (out.new.items ≡ out.old.items ++ squares scale.now 0 points.now) }
 {
-    for (i, point) in points.iter().enumerate() {
-        draw_square(out, scale, i as u16, *point)?;
+    for i in 0..points.len() {
+        draw_square(out, scale, i as u16, points[i])?;
     }
     Ok(())
 }
