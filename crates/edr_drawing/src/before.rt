@@ -7,7 +7,7 @@ ghost use Rattle.edr_drawing.specs.Before.{greatest, speed_lane, throttle_lane, 
 
 use crate::elements::{Element, TextWords, draw};
 use crate::lanes::{ChartLane, RunField, draw_lane, draw_run};
-use crate::pieces::{Piece, put};
+use crate::pieces::{Piece, put, put_tag};
 use crate::scales::{LEFT, RIGHT, least_step, scale_top, slot_x, time_at};
 use crate::tags::Tag;
 use crate::texts::{Class, Label};
@@ -445,5 +445,5 @@ pub fn draw_before(out: &mut Vec<u8>, number: u64, pre: &Pre) -> Result<(), OutO
     draw_throttle(out, profile, pre.throttle())?;
     draw_brake(out, profile, pre.brake())?;
     draw_switches(out, profile, belt, lamp)?;
-    put(out, &[Piece::Tag(Tag::ChartEnd)])
+    put_tag(out, Tag::ChartEnd)
 }

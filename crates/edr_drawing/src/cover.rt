@@ -5,7 +5,7 @@ ghost use Rattle.edr_image.specs.Reports.{report_of};
 ghost use Rattle.edr_drawing.specs.Cover.{events_in, damaged_in, is_damaged, extreme_cells, event_row, event_row_if, event_rows, events_table, damaged_item, damaged_items, damaged_list, cover_head, cover_foot, cover};
 
 use crate::long;
-use crate::pieces::{Piece, put};
+use crate::pieces::{Piece, put, put_tag};
 use crate::sheets::{count_if, put_digest, put_place, shown, yes_no};
 use crate::tables::put_run;
 use crate::tags::Tag;
@@ -153,9 +153,9 @@ fn put_events(out: &mut Vec<u8>, found: &[Found]) -> Result<(), OutOfMemory>
     if events_in(found) == 0 {
         return Ok(());
     }
-    put(out, &[Piece::Tag(Tag::EventsStart)])?;
+    put_tag(out, Tag::EventsStart)?;
     put_event_rows(out, found)?;
-    put(out, &[Piece::Tag(Tag::TableEnd)])
+    put_tag(out, Tag::TableEnd)
 }
 
 // Appends the item of a bank, if it is damaged.
@@ -205,9 +205,9 @@ fn put_damaged(out: &mut Vec<u8>, found: &[Found]) -> Result<(), OutOfMemory>
     if damaged_in(found) == 0 {
         return Ok(());
     }
-    put(out, &[Piece::Tag(Tag::DamagedStart)])?;
+    put_tag(out, Tag::DamagedStart)?;
     put_damaged_items(out, found)?;
-    put(out, &[Piece::Tag(Tag::ReasonsEnd)])
+    put_tag(out, Tag::ReasonsEnd)
 }
 
 #[tactic(auto, unfolding(crate::specs::Cover::cover_head))]
@@ -241,7 +241,7 @@ fn put_foot(out: &mut Vec<u8>, size: u32, digest: &[u8; 32]) -> Result<(), OutOf
         ],
     )?;
     put_digest(out, digest)?;
-    put(out, &[Piece::Tag(Tag::FootEnd)])
+    put_tag(out, Tag::FootEnd)
 }
 
 /// Appends the first sheet.

@@ -25,7 +25,7 @@ ghost use Rattle.edr_drawing.specs.Page.{page_bytes};
 
 use cover::put_cover;
 use edr_image::{CycleReport, Found};
-use pieces::{Piece, put};
+use pieces::put_tag;
 use sheets::put_sheets;
 use std::alloc::{AllocError as OutOfMemory, Global};
 use tags::Tag;
@@ -56,6 +56,6 @@ pub fn page(
     put_front(&mut out)?;
     put_cover(&mut out, alloc, run, found, count, size, digest)?;
     put_sheets(&mut out, alloc, found, digest)?;
-    put(&mut out, &[Piece::Tag(Tag::PageEnd)])?;
+    put_tag(&mut out, Tag::PageEnd)?;
     Ok(out)
 }

@@ -1,6 +1,6 @@
 //! The pieces of a page: fixed texts and numbers.
 
-ghost use Rattle.std.specs.Prelude.{◌≡◌, ◌++◌, OnOk};
+ghost use Rattle.std.specs.Prelude.{◌≡◌, [], ◌∷◌, ◌++◌, OnOk};
 ghost use Rattle.edr_drawing.specs.Pieces.{piece_bytes, pieces};
 
 use crate::tags::Tag;
@@ -56,4 +56,11 @@ pub fn put(out: &mut Vec<u8>, given: &[Piece]) -> Result<(), OutOfMemory>
         put_piece(out, *piece)?;
     }
     Ok(())
+}
+
+/// Appends the text of a tag.
+pub fn put_tag(out: &mut Vec<u8>, tag: Tag) -> Result<(), OutOfMemory>
+    ensures { OnOk result (out.new.items ≡ out.old.items ++ pieces (Piece.Tag tag ∷ [])) }
+{
+    put(out, &[Piece::Tag(tag)])
 }

@@ -5,7 +5,7 @@ ghost use Rattle.edr_record.specs.Bounds.{slots_in};
 ghost use Rattle.edr_drawing.specs.Reasons.{absent_count, slots_reason, switch_reason, ticks_reason, pre_reasons, crash_reasons, reasons};
 
 use crate::changes::window_of;
-use crate::pieces::{Piece, put};
+use crate::pieces::{Piece, put, put_tag};
 use crate::tags::Tag;
 use edr_record::{Crash, Pre, Profile, Record};
 use std::alloc::AllocError as OutOfMemory;
@@ -118,7 +118,7 @@ fn put_crash_reasons(out: &mut Vec<u8>, crash: &Option<Crash>) -> Result<(), Out
             put_ticks_reason(out, Tag::AlongReason, crash.missing_along, window)?;
             put_ticks_reason(out, Tag::AcrossReason, crash.missing_across, window)
         }
-        None => put(out, &[Piece::Tag(Tag::PartAbsent)]),
+        None => put_tag(out, Tag::PartAbsent),
     }
 }
 
@@ -130,8 +130,8 @@ pub fn put_reasons(out: &mut Vec<u8>, event: &Record) -> Result<(), OutOfMemory>
     if event.complete() {
         return Ok(());
     }
-    put(out, &[Piece::Tag(Tag::ReasonsStart)])?;
+    put_tag(out, Tag::ReasonsStart)?;
     put_pre_reasons(out, &event.pre)?;
     put_crash_reasons(out, &event.crash)?;
-    put(out, &[Piece::Tag(Tag::ReasonsEnd)])
+    put_tag(out, Tag::ReasonsEnd)
 }

@@ -1,13 +1,15 @@
 //! The rows below the changes of speed: what happened when, each in a row of its own.
 
-ghost use Rattle.std.specs.Prelude.{◌≡◌, ◌++◌, ◌≤◌, false, OnOk};
+ghost use Rattle.std.specs.Prelude.{◌≡◌, [], ◌∷◌, ◌++◌, ◌≤◌, false, OnOk};
+ghost use Rattle.edr_drawing.specs.Before.{rule};
+ghost use Rattle.edr_drawing.specs.Elements.{drawn};
 ghost use Rattle.edr_drawing.specs.Rows.{beside, timed_row, restraint_row, bag_rows, belt_rows, extreme_row, event_rows, rows_chart, after_head, without_part, after_chart};
 
 use crate::after::{draw_changes, text};
 use crate::before::{name, rule};
 use crate::changes::Scale;
 use crate::elements::{Element, TextWords, draw};
-use crate::pieces::{Piece, put};
+use crate::pieces::{Piece, put, put_tag};
 use crate::scales::LEFT;
 use crate::tags::Tag;
 use crate::texts::{Class, Label};
@@ -182,18 +184,25 @@ fn draw_events(out: &mut Vec<u8>, scale: &Scale, crash: &Crash) -> Result<(), Ou
     draw_time(out, scale, 635, Label::MaxResultant, crash.result_at)
 }
 
+// Draws a line across the chart.
+fn draw_rule(out: &mut Vec<u8>, y: u32) -> Result<(), OutOfMemory>
+    ensures { OnOk result (out.new.items ≡ out.old.items ++ drawn (rule y ∷ [])) }
+{
+    draw(out, &[rule(y)])
+}
+
 // Draws all rows.
 #[tactic(auto, unfolding(crate::specs::Rows::rows_chart))]
 fn draw_rows(out: &mut Vec<u8>, scale: &Scale, crash: &Crash) -> Result<(), OutOfMemory>
     requires { 300 ≤ scale.now.span }
     ensures { OnOk result (out.new.items ≡ out.old.items ++ rows_chart scale.now crash.now) }
 {
-    draw(out, &[rule(536)])?;
+    draw_rule(out, 536)?;
     draw_events(out, scale, crash)?;
-    draw(out, &[rule(668)])?;
+    draw_rule(out, 668)?;
     draw_bags(out, scale, &crash.fired)?;
     draw_belts(out, scale, &crash.fired)?;
-    draw(out, &[rule(932)])
+    draw_rule(out, 932)
 }
 
 #[tactic(auto, unfolding(crate::specs::Rows::after_head))]
@@ -266,7 +275,7 @@ fn draw_without(out: &mut Vec<u8>, number: u64) -> Result<(), OutOfMemory>
             text(1_050, 126, Class::Centre, Label::WithoutPart),
         ],
     )?;
-    put(out, &[Piece::Tag(Tag::ChartEnd)])
+    put_tag(out, Tag::ChartEnd)
 }
 
 /// Draws the chart of the event with this number.
@@ -281,5 +290,5 @@ pub fn draw_after(out: &mut Vec<u8>, number: u64, crash: &Option<Crash>) -> Resu
     put_head(out, number, crash)?;
     draw_changes(out, &scale, crash)?;
     draw_rows(out, &scale, crash)?;
-    put(out, &[Piece::Tag(Tag::ChartEnd)])
+    put_tag(out, Tag::ChartEnd)
 }

@@ -4,7 +4,7 @@ ghost use Rattle.std.specs.Prelude.{◌≡◌, ◌++◌, ◌≤◌, ◌+◌, ◌
 ghost use Rattle.edr_drawing.specs.Sheets.{yes_no, profile_tag, shown, place_words, hex_digit, hex_byte, digest_hex, sheet_head, facts, sheet_foot, sheet, sheet_if, count_if, sheets};
 
 use crate::before::draw_before;
-use crate::pieces::{Piece, put};
+use crate::pieces::{Piece, put, put_tag};
 use crate::reasons::put_reasons;
 use crate::rows::draw_after;
 use crate::tables::{put_elements, put_points_table};
@@ -31,7 +31,7 @@ pub fn put_place(out: &mut Vec<u8>, place: Place) -> Result<(), OutOfMemory>
     ensures { OnOk result (out.new.items ≡ out.old.items ++ place_words place) }
 {
     match place {
-        Place::First => put(out, &[Piece::Tag(Tag::First)]),
+        Place::First => put_tag(out, Tag::First),
         Place::Second { after } => {
             let tenths = (u64::from(after) + 50) / 100;
             put(
@@ -130,7 +130,7 @@ fn put_facts(
         ],
     )?;
     put_place(out, place)?;
-    put(out, &[Piece::Tag(Tag::FactsEnd)])
+    put_tag(out, Tag::FactsEnd)
 }
 
 #[tactic(auto, unfolding(crate::specs::Sheets::sheet_foot))]
@@ -146,7 +146,7 @@ fn put_foot(out: &mut Vec<u8>, number: u64, digest: &[u8; 32]) -> Result<(), Out
         ],
     )?;
     put_digest(out, digest)?;
-    put(out, &[Piece::Tag(Tag::FootEnd)])
+    put_tag(out, Tag::FootEnd)
 }
 
 // Appends the sheet of the event with this number.

@@ -7,7 +7,7 @@ ghost use Rattle.edr_report.specs.Report.{event_lines, run_lines};
 ghost use Rattle.edr_drawing.specs.Tables.{row, time_cells, change_cell, change_row, points_table, line_row, rows_bytes, elements_table, run_table};
 
 use crate::after::points_of;
-use crate::pieces::{Piece, put};
+use crate::pieces::{Piece, put, put_tag};
 use crate::tags::Tag;
 use edr_image::CycleReport;
 use edr_record::{Crash, Record};
@@ -34,7 +34,7 @@ impl Lines for Rows {
 
     fn line(&mut self, _block: u64, name: &[u8], value: &[u8]) -> Result<(), OutOfMemory> {
         if name == SECOND_TABLE {
-            put(&mut self.bytes, &[Piece::Tag(Tag::NextTable)])?;
+            put_tag(&mut self.bytes, Tag::NextTable)?;
         }
         put_row(&mut self.bytes, name, value)
     }
@@ -44,11 +44,11 @@ impl Lines for Rows {
 fn put_row(out: &mut Vec<u8>, name: &[u8], value: &[u8]) -> Result<(), OutOfMemory>
     ensures { OnOk result (out.new.items ≡ out.old.items ++ row name.now value.now) }
 {
-    put(out, &[Piece::Tag(Tag::LineName)])?;
+    put_tag(out, Tag::LineName)?;
     out.extend_from_slice(name)?;
-    put(out, &[Piece::Tag(Tag::LineValue)])?;
+    put_tag(out, Tag::LineValue)?;
     out.extend_from_slice(value)?;
-    put(out, &[Piece::Tag(Tag::LineEnd)])
+    put_tag(out, Tag::LineEnd)
 }
 
 // Appends the time of each point.
@@ -92,7 +92,7 @@ fn put_axis(out: &mut Vec<u8>, tag: Tag, points: &[i16]) -> Result<(), OutOfMemo
 {
     put(out, &[Piece::Tag(tag)])?;
     put_cells(out, points)?;
-    put(out, &[Piece::Tag(Tag::RowEnd)])
+    put_tag(out, Tag::RowEnd)
 }
 
 /// Appends the table of the changes of speed, if they are there.
@@ -103,12 +103,12 @@ pub fn put_points_table(out: &mut Vec<u8>, crash: &Option<Crash>) -> Result<(), 
     let Some(crash) = crash else {
         return Ok(());
     };
-    put(out, &[Piece::Tag(Tag::PointsStart)])?;
+    put_tag(out, Tag::PointsStart)?;
     put_times(out, 250.min(u32::from(crash.end) + 30) / 10 + 1)?;
-    put(out, &[Piece::Tag(Tag::PointsBody)])?;
+    put_tag(out, Tag::PointsBody)?;
     put_axis(out, Tag::AlongRow, points_of(crash.end, &crash.along))?;
     put_axis(out, Tag::AcrossRow, points_of(crash.end, &crash.across))?;
-    put(out, &[Piece::Tag(Tag::TableEnd)])
+    put_tag(out, Tag::TableEnd)
 }
 
 /// Appends the tables of all lines of an event.
@@ -126,9 +126,9 @@ pub fn put_elements(
         bytes: Vec::new(alloc),
     };
     let rows = print_event(alloc, empty, number, bank, event)?;
-    put(out, &[Piece::Tag(Tag::ElementsStart)])?;
+    put_tag(out, Tag::ElementsStart)?;
     out.extend_from_slice(&rows.bytes)?;
-    put(out, &[Piece::Tag(Tag::ElementsEnd)])
+    put_tag(out, Tag::ElementsEnd)
 }
 
 /// Appends the table of the cycles of a run, if there are any.
@@ -143,7 +143,7 @@ pub fn put_run(out: &mut Vec<u8>, alloc: Global, run: &[CycleReport]) -> Result<
         bytes: Vec::new(alloc),
     };
     let rows = print_run(alloc, empty, run)?;
-    put(out, &[Piece::Tag(Tag::RunStart)])?;
+    put_tag(out, Tag::RunStart)?;
     out.extend_from_slice(&rows.bytes)?;
-    put(out, &[Piece::Tag(Tag::TableEnd)])
+    put_tag(out, Tag::TableEnd)
 }
