@@ -1,6 +1,6 @@
 -- The first of the records with which no report goes on.
-use Rattle.std.proofs.Common.{arith, ◌≡◌, ◌≢◌, ◌∙◌, sym, ap, subst, refl, ℕ, zero, suc, ◌<◌, ◌≤◌, ◌+◌, List, [], ◌∷◌, take, drop, length, get_or}
-use Rattle.std.proofs.lemmas.List.{drop_more}
+use Rattle.std.proofs.Common.{arith, ◌≡◌, ◌≢◌, ◌∙◌, sym, ap, subst, refl, ℕ, zero, suc, ◌<◌, ◌≤◌, ◌+◌, List, [], ◌∷◌, ◌++◌, map, take, drop, length, get_or}
+use Rattle.std.proofs.lemmas.List.{drop_more, map-append, take_more}
 use Rattle.edr_reading.specs.Faults.{IsWrong}
 use Rattle.edr_reading.specs.Reading.{head_row}
 use Rattle.edr_reading.specs.declared.faults.RowFault.{RowFault}
@@ -37,3 +37,12 @@ wrong-next records rows k n r front f e less within parted at wrong =
 pub head-first : (records rows rest : List (List (List ℕ))) (k : ℕ) → rows ≡ take k records → records ≡ head_row ∷ rest → (k < length records → length (get_or records k []) ≢ 3) → (more : List (List (List ℕ))) × (rows ≡ head_row ∷ more)
 head-first records rows rest zero e h other = absurd (other (omega (arith, ap length h)) (ap (λ (x : List (List (List ℕ))). length (get_or x 0 [])) h))
 head-first records rows rest (suc k) e h other = (take k rest, e ∙ ap (take (suc k)) h)
+
+-- one more record becomes a row, behind the rows of those before it
+pub row-pushed : {R Q X : Type 0} (f : R → X) (g : Q → X) (rows new : List R) (row : R) (records : List Q) (i : ℕ) (found : Q) → i < length records → new ≡ rows ++ row ∷ [] → f row ≡ g found → found ≡ get_or records i found
+    → map f rows ≡ map g (take i records) → map f new ≡ map g (take (i + 1) records)
+row-pushed f g rows new row records i found within grown same at so =
+    let left : map f new ≡ map f rows ++ f row ∷ [] = ap (map f) grown ∙ map-append f rows (row ∷ []) in
+    let right : map g (take (i + 1) records) ≡ map g (take i records) ++ g (get_or records i found) ∷ [] = ap (map g) (take_more records i found within) ∙ map-append g (take i records) (get_or records i found ∷ []) in
+    let one : f row ≡ g (get_or records i found) = same ∙ ap g at in
+    cc

@@ -4,12 +4,12 @@ use Rattle.std.proofs.lemmas.List.{length-map}
 use Rattle.std.specs.Option.{IfSome}
 use Rattle.std.proofs.lemmas.List.FromFn.{fill_by_all}
 use Rattle.edr_record.specs.Parts.{PrePart, CrashPart}
-use Rattle.edr_record.specs.Bounds.{IsCrash}
+use Rattle.edr_record.specs.Bounds.{IsPre, IsCrash}
 use Rattle.edr_reading.proofs.FrontLemmas.{not-number}
 use Rattle.edr_report.specs.Report.{pre_lines, crash_lines, crash_names, crash_words, named_lines}
 use Rattle.edr_report.specs.Words.{none_word, milliseconds, firing_words}
 use Rattle.edr_reading.specs.declared.pre.PreValues.{PreValues}
-use Rattle.edr_reading.specs.Parts.{ShowsPre}
+use Rattle.edr_reading.specs.Parts.{ShowsPre, ShowsLists}
 use Rattle.edr_reading.specs.Rows.{line_fields, named_fields, pre_names, pre_words, pre_list}
 
 pub if-some : {X : Type 0} (o : Option X) (P Q : X → Type 0) → ((x : X) → P x → Q x) → IfSome o P → IfSome o Q
@@ -103,3 +103,16 @@ none-at [] (suc n) i d h is = cc
 none-at (v ∷ values) zero i d h is = absurd (omega (arith, h))
 none-at (v ∷ values) (suc n) zero d h is = ap (λ (x : List (List ℕ)). get_or x 0 []) is
 none-at (v ∷ values) (suc n) (suc i) d h is = none-at values n i d (omega (arith, h)) (ap (λ (x : List (List ℕ)). drop 1 x) is)
+
+-- values that show a part show its lists, as those of its profile
+pub lists-shown : (v : PreValues) (p : PrePart) (l : Bool) → IsPre p → ShowsPre v p l → ShowsLists v p.profile p.speed p.throttle p.brake
+lists-shown v p l is shows = record {
+  speeds = is.speeds;
+  speed_range = is.speed;
+  speed = shows.speed;
+  throttles = is.throttles;
+  throttle_range = is.throttle;
+  throttle = shows.throttle;
+  brakes = is.brakes;
+  brake = shows.brake;
+}

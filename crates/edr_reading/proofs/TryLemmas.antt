@@ -85,6 +85,12 @@ pub true-of : (A B : Type 0) (b : Bool) → MatchBool b A B → b ≡ true → A
 true-of A B true m e = m
 true-of A B false m e = cc
 
+-- where a report begins with the rows and a row that has this front, one goes on so
+pub goes-on-by : (rows : List (List (List ℕ))) (front back : List (List ℕ)) (x : Bool) → MatchBool x (Opens (rows ++ (front ++ back) ∷ [])) (¬ Opens (rows ++ (front ++ back) ∷ [])) → x ≡ true → ReportGoesOn rows front
+goes-on-by rows front back x told e =
+    let opens = true-of _ _ x told e in
+    (back, opens.0, subst AreReport (append_assoc rows ((front ++ back) ∷ []) opens.0) opens.1)
+
 pub opens-match : (rows : List (List (List ℕ))) (last : List (List ℕ)) (p : ℕ) (b : Bool) → 0 < length rows → ¬ AreReport rows → ¬ AreReport (rows ++ count_fields 0 ∷ []) → last ≡ get_or rows (length rows - 1) []
     → ((k : ℕ) → k < 29 → get_or last 1 [] ≡ get_or event_names k [] → Some p ≡ Some k) → MatchBool b (SomeBehind rows last p) (NoneBehind rows last p) → MatchBool b (Opens rows) (¬ Opens rows)
 opens-match rows last p true some none no-count is whole m = (back_rows (block_of last) p m.0, m.2)

@@ -1,6 +1,6 @@
 //! A report's table, read back.
 
-ghost use Rattle.std.specs.Prelude.{◌≡◌, ◌≢◌, ◌<◌, ◌≤◌, ◌+◌, ◌∷◌, IfOk, IfErr, IfSome, length, map, take};
+ghost use Rattle.std.specs.Prelude.{◌≡◌, ◌≢◌, ◌<◌, ◌≤◌, ◌+◌, [], ◌∷◌, IfOk, IfErr, IfSome, length, map, min, slice_index_or, take};
 ghost use Rattle.std.specs.Bool.{MatchBool};
 ghost use Rattle.edr_image.specs.Reports.{report_of};
 ghost use Rattle.csv.specs.Records.{fields_of};
@@ -81,6 +81,18 @@ pub(crate) fn reading_of(alloc: Global, rows: &[ReportRow<'_>]) -> Result<Readin
     Ok(Reading { run, found, count })
 }
 
+// What is wrong with the record in this place, which hasn't three fields, or with its lack.
+fn length_fault(records: &[ByteRecord], place: usize) -> RowFault
+    ensures some { place < length records.now → result
+        ≡ RowFault.Fields (min (length (slice_index_or (map fields_of records.now) place [])) 4_294_967_295) }
+    ensures none { length records.now ≤ place → result ≡ RowFault.Unended }
+{
+    match records.get(place) {
+        Some(record) => RowFault::Fields(record.len().min(u32::MAX as usize) as u32),
+        None => RowFault::Unended,
+    }
+}
+
 // What is wrong with records that are those of no report, of which these are the rows up to the first of another length.
 fn later_fault(
     alloc: Global,
@@ -99,11 +111,7 @@ fn later_fault(
         let fault = field_fault(alloc, rows.split_at(opening).0, &rows[opening])?;
         return Ok((row, fault));
     }
-    let fault = match records.get(opening) {
-        Some(record) => RowFault::Fields(record.len().min(u32::MAX as usize) as u32),
-        None => RowFault::Unended,
-    };
-    Ok((row, fault))
+    Ok((row, length_fault(records, opening)))
 }
 
 /// Reads the table of a report back. What is read has exactly the rows that the text has: the cycles, each event with all

@@ -1,8 +1,8 @@
-use Rattle.std.proofs.Common.{arith, ◌≡◌, ◌<◌, ◌≤◌, ◌∙◌, sym, ap, subst, ℕ, List, [], ◌∷◌, ◌++◌, ◌+◌, map, take, length, min, get_or}
-use Rattle.std.proofs.lemmas.Bool.{ltb-true, ltb-false}
+use Rattle.std.proofs.Common.{arith, ◌≡◌, ◌⊎◌, ⊎_elim, refl, ◌<◌, ◌≤◌, ◌∙◌, sym, ap, subst, ℕ, List, [], ◌∷◌, ◌++◌, ◌+◌, map, take, drop, length, get_or}
 use Rattle.std.proofs.lemmas.List.{length-map, take-map, map_more}
 use Rattle.csv.specs.Records.{fields_of}
-use Rattle.edr_reading.specs.Faults.{Opens}
+use Rattle.edr_reading.specs.declared.faults.RowFault.{RowFault}
+use Rattle.edr_reading.specs.Faults.{Opens, IsWrong}
 use Rattle.edr_reading.specs.Rows.{fields}
 use Rattle.edr_reading.proofs.FaultLemmas.{fault-behind, wrong-fields, wrong-end, at-map, no-more}
 use Rattle.edr_reading.proofs.LaterLemmas.{no_row, take-front, wrong-next}
@@ -27,8 +27,8 @@ returns-then-opening-rows c =
     fault-behind records n c.in_ok-fault.fault (omega (arith, less, within)) (subst Opens front c.in_ok-opening.ensures.opens)
     (wrong-next records (map fields rows) (length rows) n (fields (get_or rows n _)) (map fields c.split_at.result.0.now) c.in_ok-fault.fault c.requires.rows less within parted (at-map fields rows n _ less) c.in_ok-fault.ensures)
 
-pub returns-in-Some : goal.returns-in-Some
-returns-in-Some c =
+pub returns : goal.returns
+returns c =
     let rows = c.args.rows.now in
     let records = map fields_of c.args.records.now in
     let n = c.in_ok-opening.opening in
@@ -36,22 +36,14 @@ returns-in-Some c =
     let long = length-map c.args.records.now fields_of in
     let within = no-more fields rows records c.requires.rows in
     let front : take n (map fields rows) ≡ take n records = ap (take n) c.requires.rows ∙ take-front n (length rows) records (omega (arith, all)) in
-    let l = c.in-Some.ensures.lookup in
-    let less : n < length c.args.records.now = ltb-true n (length c.args.records.now) (sym l.0) in
-    let same : get_or records n [] ≡ fields_of c.in-Some.record.now = at-map fields_of c.args.records.now n c.in-Some.record.now less ∙ ap fields_of (sym l.1) in
-    let count : c.min.result ≡ min (length (get_or records n [])) 4_294_967_295 = c.min.ensures ∙ ap (λ (k : ℕ). min k 4_294_967_295) (c.len.ensures ∙ ap length (sym same)) in
+    let Wrong : RowFault → Type 0 = λ f. IsWrong (take n records) (drop n records) f in
     fault-behind records n _ (omega (arith, all, within)) (subst Opens front c.in_ok-opening.ensures.opens)
-    (wrong-fields (take n records) records n c.min.result (omega (arith, less, long)) count (λ e. c.requires.stops (omega (arith, all, less)) (ap (λ (k : ℕ). length (get_or records k [])) all ∙ e)))
-
-pub returns-in-None : goal.returns-in-None
-returns-in-None c =
-    let rows = c.args.rows.now in
-    let records = map fields_of c.args.records.now in
-    let n = c.in_ok-opening.opening in
-    let all : length rows ≡ n = omega (arith, c.if-opening-rows.false, c.in_ok-opening.ensures.within.1) in
-    let long = length-map c.args.records.now fields_of in
-    let within = no-more fields rows records c.requires.rows in
-    let front : take n (map fields rows) ≡ take n records = ap (take n) c.requires.rows ∙ take-front n (length rows) records (omega (arith, all)) in
-    let l = c.in-None.ensures.lookup in
-    let past : length c.args.records.now ≤ n = ltb-false n (length c.args.records.now) (sym l.0) in
-    fault-behind records n _ (omega (arith, all, within)) (subst Opens front c.in_ok-opening.ensures.opens) (wrong-end records n (omega (arith, past, long)) (c.requires.none (omega (arith, past, all))))
+    (⊎_elim
+    (λ (less : n < length c.args.records.now). subst Wrong (sym (c.length_fault.ensures.some less))
+    (wrong-fields (take n records) records n _ (omega (arith, less, long)) refl (λ e. c.requires.stops (omega (arith, all, less)) (ap (λ (k : ℕ). length (get_or records k [])) all ∙ e))))
+    (λ (past : length c.args.records.now ≤ n). subst Wrong (sym (c.length_fault.ensures.none past))
+    (wrong-end records n (omega (arith, past, long)) (c.requires.none (omega (arith, past, all)))))
+    (split n (length c.args.records.now)))
+  where
+    split : (a b : ℕ) → (a < b) ⊎ (b ≤ a)
+    split a b = grind arith
