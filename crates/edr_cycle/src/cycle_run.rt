@@ -42,15 +42,51 @@ pub(crate) fn commit_closed<N: Nvm>(
     }
 }
 
+// Gives what is left of the feeds to a core that is lent, and commits what it issues.
+fn give_on<N: Nvm>(
+    core: &mut Core,
+    feeds: &Feeds,
+    left: &mut Left<'_>,
+    banks: &mut Banks,
+    nvm: &mut N,
+    log: &mut Log,
+) -> Result<(), Failed>
+    requires given { IsGiven feeds.now core.old.cycle core.old left.old }
+    requires feeds { AreFeeds feeds.now }
+    requires level { IsLevel feeds.now }
+    requires live { banks.old.ended ≡ false }
+    requires size { image_size banks.old.store.header.banks ≤ N.extent nvm.old }
+    requires room { room_for (horizon_of feeds.now)
+        ≤ log.old.spare + length (issues feeds.now core.old.cycle core.old.closed) }
+    ensures lent { Lent N.Nvm nvm.old nvm.new result }
+    ensures commits { CommitsOn N.Nvm (issues_past feeds.now core.old.cycle core.old.closed)
+        result banks.old banks.new log.old log.new nvm.old nvm.new }
+{
+    let mut issued = Issued::none();
+    loop {
+        match core.close(&mut issued) {
+            Closing::Closed { tick, issues } => {
+                commit_closed(banks, nvm, log, tick, issues, &issued)?
+            }
+            Closing::Waiting { sensor } => {
+                let Some(item) = left.next(sensor) else {
+                    return Ok(());
+                };
+                core.accept(sensor, item).unwrap();
+            }
+        }
+    }
+}
+
 /// Gives what is left of the feeds to the core of a cycle, and commits what it issues past the ticks that it has closed, up to the
 /// horizon or to a command that fails.
 ///
 /// A sensor's next item is given when the core waits for that sensor, so none is refused. Where nothing is left of it, the
 /// horizon is closed.
 pub fn run_on<N: Nvm>(
-    core: Core,
+    mut core: Core,
     feeds: &Feeds,
-    left: Left<'_>,
+    mut left: Left<'_>,
     banks: &mut Banks,
     nvm: &mut N,
     log: &mut Log,
@@ -66,22 +102,7 @@ pub fn run_on<N: Nvm>(
     ensures commits { CommitsOn N.Nvm (issues_past feeds.now core.cycle core.closed)
         result banks.old banks.new log.old log.new nvm.old nvm.new }
 {
-    let mut core = core;
-    let mut left = left;
-    let mut issued = Issued::none();
-    loop {
-        match core.close(&mut issued) {
-            Closing::Closed { tick, issues } => {
-                commit_closed(banks, nvm, log, tick, issues, &issued)?
-            }
-            Closing::Waiting { sensor } => {
-                let Some(item) = left.next(sensor) else {
-                    return Ok(());
-                };
-                core.accept(sensor, item).unwrap();
-            }
-        }
-    }
+    give_on(&mut core, feeds, &mut left, banks, nvm, log)
 }
 
 /// Gives the items of the feeds to the core of a cycle, and commits what it issues, up to the horizon or to a command that

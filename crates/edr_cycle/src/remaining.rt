@@ -147,12 +147,43 @@ fn close(rest: &mut Remaining<'_>, core: &mut SplitCore, issued: &mut Issued) ->
     }
 }
 
+// Gives what is left to a core that is lent, and commits what it issues.
+fn give_rest<N: Nvm>(
+    core: &mut SplitCore,
+    feeds: &Feeds,
+    rest: &mut Remaining<'_>,
+    banks: &mut Banks,
+    nvm: &mut N,
+    log: &mut Log,
+) -> Result<(), Failed>
+    requires remains { Remains feeds.now core.old.cycle core.old rest.old }
+    requires live { banks.old.ended ≡ false }
+    requires size { image_size banks.old.store.header.banks ≤ N.extent nvm.old }
+    requires room { room_for (horizon_of feeds.now)
+        ≤ log.old.spare + length (issues feeds.now core.old.cycle core.old.closed) }
+    ensures lent { Lent N.Nvm nvm.old nvm.new result }
+    ensures commits { CommitsOn N.Nvm (issues_past feeds.now core.old.cycle core.old.closed)
+        result banks.old banks.new log.old log.new nvm.old nvm.new }
+{
+    let mut issued = Issued::none();
+    let horizon = feeds.horizon();
+    while core.closed() < horizon {
+        match close(rest, core, &mut issued) {
+            Closing::Closed { tick, issues } => {
+                commit_closed(banks, nvm, log, tick, issues, &issued)?
+            }
+            Closing::Waiting { sensor } => give(rest, core, sensor),
+        }
+    }
+    Ok(())
+}
+
 /// Gives what is left of the feeds to the core of a cycle and to the captures, answers from these what the core asks for, and
 /// commits what it issues past the ticks that it has closed, up to the horizon or to a command that fails.
 pub fn run_rest<N: Nvm>(
-    core: SplitCore,
+    mut core: SplitCore,
     feeds: &Feeds,
-    rest: Remaining<'_>,
+    mut rest: Remaining<'_>,
     banks: &mut Banks,
     nvm: &mut N,
     log: &mut Log,
@@ -166,17 +197,5 @@ pub fn run_rest<N: Nvm>(
     ensures commits { CommitsOn N.Nvm (issues_past feeds.now core.cycle core.closed)
         result banks.old banks.new log.old log.new nvm.old nvm.new }
 {
-    let mut core = core;
-    let mut rest = rest;
-    let mut issued = Issued::none();
-    let horizon = feeds.horizon();
-    while core.closed() < horizon {
-        match close(&mut rest, &mut core, &mut issued) {
-            Closing::Closed { tick, issues } => {
-                commit_closed(banks, nvm, log, tick, issues, &issued)?
-            }
-            Closing::Waiting { sensor } => give(&mut rest, &mut core, sensor),
-        }
-    }
-    Ok(())
+    give_rest(&mut core, feeds, &mut rest, banks, nvm, log)
 }

@@ -2,7 +2,7 @@ use Rattle.std.specs.Prelude.{◌≡◌, ◌+◌, ◌-◌, ◌≤◌}
 use Rattle.edr_items.specs.SensorLists.{horizon_of}
 use Rattle.edr_device.specs.Device.{StillTells}
 use Rattle.edr_cycle.proofs.RunStepLemmas.{Runs, left_count}
-use Rattle.edr_cycle.proofs.cycle_run.run_on.Given as goal
+use Rattle.edr_cycle.proofs.cycle_run.give_on.Given as goal
 
 abbrev pub invariant-loop-tick : goal.invariant-loop-tick
 invariant-loop-tick g l =

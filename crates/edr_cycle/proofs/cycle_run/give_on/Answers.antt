@@ -5,14 +5,14 @@ use Rattle.edr_device.specs.Faults.{Rose}
 use Rattle.edr_device.proofs.SettlingLemmas.{on_err, tells_again}
 use Rattle.edr_cycle.proofs.AnsweredLemmas.{tells_self}
 use Rattle.edr_cycle.proofs.RunStepLemmas.{closes-below, give-allowed, left_count, left_count-less, on_ok, room-left, run-begins, run-closes, run-fails, run-gives, run-over}
-use Rattle.edr_cycle.proofs.cycle_run.run_on.Goals as goal
+use Rattle.edr_cycle.proofs.cycle_run.give_on.Goals as goal
 
 -- at first nothing was given
 pub loop-tick-init : goal.loop-tick-init
 loop-tick-init g c =
     let N = g.N.Nvm in
     record {
-      runs = run-begins N.content N.settled N.since N.clock N.last_good c.args.feeds.now c.args.core.cycle c.args.core.closed c.args.banks.now c.args.log.now c.args.nvm.now c.args.core c.args.left c.requires.given refl;
+      runs = run-begins N.content N.settled N.since N.clock N.last_good c.args.feeds.now c.args.core.now.cycle c.args.core.now.closed c.args.banks.now c.args.log.now c.args.nvm.now c.args.core.now c.args.left.now c.requires.given refl;
       size = refl;
       later = omega arith;
       device = g.met.N.Nvm.goes_on_self c.args.nvm.now;
@@ -23,23 +23,23 @@ loop-tick-init g c =
 pub commit_closed-requires-clause-room : goal.commit_closed-requires-clause-room
 commit_closed-requires-clause-room g c =
     let N = g.N.Nvm in
-    let n = c.args.core.cycle in
+    let n = c.args.core.now.cycle in
     let run = c.loop-tick.invariant.runs in
     let p = run.given.progress in
     let step = c.in-Closed.ensures in
-    room-left N.content N.settled N.since N.clock N.last_good c.args.feeds.now n c.args.core.closed c.args.banks.now c.args.log.now c.args.nvm.now c.requires.feeds c.requires.level
+    room-left N.content N.settled N.since N.clock N.last_good c.args.feeds.now n c.args.core.now.closed c.args.banks.now c.args.log.now c.args.nvm.now c.requires.feeds c.requires.level
     c.loop-tick.core c.loop-tick.left c.loop-tick.banks c.loop-tick.log c.loop-tick.nvm c.in-Closed.tick (commands_put c.in-Closed.issues c.close.new.issued) run
     ((step.allowed n p run.given.core_is).0 tt) (step.commands n p run.given.core_is).0 (step.ticks n p run.given.core_is) c.requires.room
 
 pub loop-tick-smaller-in-Continue-1 : goal.loop-tick-smaller-in-Continue-1
 loop-tick-smaller-in-Continue-1 g c =
     let N = g.N.Nvm in
-    let n = c.args.core.cycle in
+    let n = c.args.core.now.cycle in
     let run = c.loop-tick.invariant.runs in
     let p = run.given.progress in
     let step = c.in-Closed.ensures in
     let may = (step.allowed n p run.given.core_is).0 tt in
-    let below = closes-below N.content N.settled N.since N.clock N.last_good c.args.feeds.now n c.args.core.closed c.args.banks.now c.args.log.now c.args.nvm.now c.requires.feeds c.requires.level c.loop-tick.core c.loop-tick.left run.given may in
+    let below = closes-below N.content N.settled N.since N.clock N.last_good c.args.feeds.now n c.args.core.now.closed c.args.banks.now c.args.log.now c.args.nvm.now c.requires.feeds c.requires.level c.loop-tick.core c.loop-tick.left run.given may in
     let before = run.given.core_is.closed_is in
     let after = (step.stands n p run.given.core_is).closed_is in
     omega (arith, below, before, after)
@@ -47,7 +47,7 @@ loop-tick-smaller-in-Continue-1 g c =
 pub loop-tick-preserved-in-Continue-1 : goal.loop-tick-preserved-in-Continue-1
 loop-tick-preserved-in-Continue-1 g c =
     let N = g.N.Nvm in
-    let n = c.args.core.cycle in
+    let n = c.args.core.now.cycle in
     let kept = c.loop-tick.invariant in
     let run = kept.runs in
     let p = run.given.progress in
@@ -55,7 +55,7 @@ loop-tick-preserved-in-Continue-1 g c =
     let cause = c.commit_closed.ensures.lent.cause.later in
     let later = kept.later in
     record {
-      runs = run-closes N.content N.settled N.since N.clock N.last_good c.args.feeds.now n c.args.core.closed c.args.banks.now c.args.log.now c.args.nvm.now
+      runs = run-closes N.content N.settled N.since N.clock N.last_good c.args.feeds.now n c.args.core.now.closed c.args.banks.now c.args.log.now c.args.nvm.now
           c.loop-tick.core c.close.new.self c.loop-tick.left c.loop-tick.banks c.commit_closed.new.banks c.loop-tick.log c.commit_closed.new.log c.loop-tick.nvm c.commit_closed.new.nvm c.in-Closed.tick
           (commands_put c.in-Closed.issues c.close.new.issued) c.commit_closed.result _ run
           (step.stands n p run.given.core_is) ((step.allowed n p run.given.core_is).0 tt) (step.commands n p run.given.core_is).0 (step.ticks n p run.given.core_is) c.in_ok-commit_closed-in-Closed.was c.commit_closed.ensures.commits;
@@ -81,11 +81,11 @@ returns-in_err-commit_closed-in-Closed-clause-lent g c =
 pub returns-in_err-commit_closed-in-Closed-clause-commits : goal.returns-in_err-commit_closed-in-Closed-clause-commits
 returns-in_err-commit_closed-in-Closed-clause-commits g c =
     let N = g.N.Nvm in
-    let n = c.args.core.cycle in
+    let n = c.args.core.now.cycle in
     let run = c.loop-tick.invariant.runs in
     let p = run.given.progress in
     let step = c.in-Closed.ensures in
-    run-fails N.content N.settled N.since N.clock N.last_good c.args.feeds.now n c.args.core.closed c.args.banks.now c.args.log.now c.args.nvm.now c.requires.feeds c.requires.level
+    run-fails N.content N.settled N.since N.clock N.last_good c.args.feeds.now n c.args.core.now.closed c.args.banks.now c.args.log.now c.args.nvm.now c.requires.feeds c.requires.level
     c.loop-tick.core c.loop-tick.left c.loop-tick.banks c.commit_closed.new.banks c.loop-tick.log c.commit_closed.new.log c.loop-tick.nvm c.commit_closed.new.nvm c.in-Closed.tick
     (commands_put c.in-Closed.issues c.close.new.issued) c.commit_closed.result c.from_residual.result _ run
     ((step.allowed n p run.given.core_is).0 tt) (step.commands n p run.given.core_is).0 (step.ticks n p run.given.core_is) c.in_err-commit_closed-in-Closed.was c.from_residual.ensures.0 c.commit_closed.ensures.commits
@@ -94,24 +94,24 @@ returns-in_err-commit_closed-in-Closed-clause-commits g c =
 pub returns-in_default-clause-commits : goal.returns-in_default-clause-commits
 returns-in_default-clause-commits g c =
     let N = g.N.Nvm in
-    let n = c.args.core.cycle in
+    let n = c.args.core.now.cycle in
     let run = c.loop-tick.invariant.runs in
-    run-over N.content N.settled N.since N.clock N.last_good c.args.feeds.now n c.args.core.closed c.args.banks.now c.args.log.now c.args.nvm.now c.requires.feeds c.requires.level tt
+    run-over N.content N.settled N.since N.clock N.last_good c.args.feeds.now n c.args.core.now.closed c.args.banks.now c.args.log.now c.args.nvm.now c.requires.feeds c.requires.level tt
     c.loop-tick.core c.loop-tick.left c.loop-tick.banks c.loop-tick.log c.loop-tick.nvm c.in-Waiting.sensor run (c.in-Waiting.ensures.waits n run.given.progress run.given.core_is) c.in_default.ensures.item
 
 -- an item is given
 pub unwrap-requires : goal.unwrap-requires
 unwrap-requires g c =
     let N = g.N.Nvm in
-    let n = c.args.core.cycle in
+    let n = c.args.core.now.cycle in
     let run = c.loop-tick.invariant.runs in
-    let may = give-allowed N.content N.settled N.since N.clock N.last_good c.args.feeds.now n c.args.core.closed c.args.banks.now c.args.log.now c.args.nvm.now c.requires.feeds c.requires.level
+    let may = give-allowed N.content N.settled N.since N.clock N.last_good c.args.feeds.now n c.args.core.now.closed c.args.banks.now c.args.log.now c.args.nvm.now c.requires.feeds c.requires.level
     c.loop-tick.core c.loop-tick.left run.given c.in-Waiting.sensor c.in-Some.item _ (c.in-Waiting.ensures.waits n run.given.progress run.given.core_is) c.in-Some.ensures.item in
     (c.accept.ensures.allowed n run.given.progress (c.in-Waiting.ensures.stands n run.given.progress run.given.core_is)).1 may
 
 pub loop-tick-smaller : goal.loop-tick-smaller
 loop-tick-smaller g c =
-    let n = c.args.core.cycle in
+    let n = c.args.core.now.cycle in
     let run = c.loop-tick.invariant.runs in
     let before = run.given.core_is.closed_is in
     let after = (on_ok c.accept.result c.unwrap.result c.unwrap.ensures c.accept.ensures.ok n run.given.progress (c.in-Waiting.ensures.stands n run.given.progress run.given.core_is)).closed_is in
@@ -122,15 +122,15 @@ loop-tick-smaller g c =
 pub loop-tick-preserved : goal.loop-tick-preserved
 loop-tick-preserved g c =
     let N = g.N.Nvm in
-    let n = c.args.core.cycle in
+    let n = c.args.core.now.cycle in
     let kept = c.loop-tick.invariant in
     let run = kept.runs in
     let p = run.given.progress in
-    let may = give-allowed N.content N.settled N.since N.clock N.last_good c.args.feeds.now n c.args.core.closed c.args.banks.now c.args.log.now c.args.nvm.now c.requires.feeds c.requires.level
+    let may = give-allowed N.content N.settled N.since N.clock N.last_good c.args.feeds.now n c.args.core.now.closed c.args.banks.now c.args.log.now c.args.nvm.now c.requires.feeds c.requires.level
     c.loop-tick.core c.loop-tick.left run.given c.in-Waiting.sensor c.in-Some.item _ (c.in-Waiting.ensures.waits n p run.given.core_is) c.in-Some.ensures.item in
     let stands = on_ok c.accept.result c.unwrap.result c.unwrap.ensures c.accept.ensures.ok n p (c.in-Waiting.ensures.stands n p run.given.core_is) in
     record {
-      runs = run-gives N.content N.settled N.since N.clock N.last_good c.args.feeds.now n c.args.core.closed c.args.banks.now c.args.log.now c.args.nvm.now
+      runs = run-gives N.content N.settled N.since N.clock N.last_good c.args.feeds.now n c.args.core.now.closed c.args.banks.now c.args.log.now c.args.nvm.now
           c.loop-tick.core c.accept.new.self c.loop-tick.left c.next.new.self c.loop-tick.banks c.loop-tick.log c.loop-tick.nvm c.in-Waiting.sensor c.in-Some.item run stands may c.in-Some.ensures.item c.in-Some.ensures.others;
       size = kept.size;
       later = kept.later;

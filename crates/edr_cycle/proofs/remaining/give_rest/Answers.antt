@@ -9,7 +9,7 @@ use Rattle.edr_cycle.specs.Remaining.{IsOpenAt, RemainsAt}
 use Rattle.edr_cycle.specs.declared.remaining.Remaining.{Remaining}
 use Rattle.edr_cycle.proofs.AnsweredLemmas.{tells_self}
 use Rattle.edr_cycle.proofs.RestRunLemmas.{rest-begins, rest-closes, rest-fails, rest-goes, rest-over, rest-room}
-use Rattle.edr_cycle.proofs.remaining.run_rest.Goals as goal
+use Rattle.edr_cycle.proofs.remaining.give_rest.Goals as goal
 
 -- where the loop goes on, some tick is still to be closed
 still-open : (f : SensorLists) (n : ℕ) (h : History) (core : SplitContents) (rest : Remaining) (closed horizon : ℕ) → RemainsAt f n h core rest → closed ≡ h.past.closed → horizon ≡ horizon_of f → closed < horizon → IsOpenAt f n h core rest
@@ -20,7 +20,7 @@ pub loop-issued-init : goal.loop-issued-init
 loop-issued-init g c =
     let N = g.N.Nvm in
     record {
-      runs = rest-begins N.content N.settled N.since N.clock N.last_good c.args.feeds.now c.args.core.cycle c.args.core.closed c.args.banks.now c.args.log.now c.args.nvm.now c.args.core c.args.rest c.requires.remains refl;
+      runs = rest-begins N.content N.settled N.since N.clock N.last_good c.args.feeds.now c.args.core.now.cycle c.args.core.now.closed c.args.banks.now c.args.log.now c.args.nvm.now c.args.core.now c.args.rest.now c.requires.remains refl;
       size = refl;
       later = omega arith;
       device = g.met.N.Nvm.goes_on_self c.args.nvm.now;
@@ -31,7 +31,7 @@ pub close-requires : goal.close-requires
 close-requires g c =
     let run = c.loop-issued.invariant.runs in
     let f = c.args.feeds.now in
-    let n = c.args.core.cycle in
+    let n = c.args.core.now.cycle in
     let h = run.history in
     (f, n, h, still-open f n h c.loop-issued.core c.loop-issued.rest c.closed.result c.horizon-horizon.result run.remains (c.closed.ensures h run.remains.core_is) c.horizon-horizon.ensures c.loop-issued-test.true)
 
@@ -41,13 +41,13 @@ commit_closed-requires-clause-room g c =
     let N = g.N.Nvm in
     let run = c.loop-issued.invariant.runs in
     let f = c.args.feeds.now in
-    let n = c.args.core.cycle in
+    let n = c.args.core.now.cycle in
     let h = run.history in
     let at = still-open f n h c.loop-issued.core c.loop-issued.rest c.closed.result c.horizon-horizon.result run.remains (c.closed.ensures h run.remains.core_is) c.horizon-horizon.ensures c.loop-issued-test.true in
     let leads = c.in-Closed.ensures.leads f n h at in
     let below = at.below in
     let next = leads.3 in
-    rest-room N.content N.settled N.since N.clock N.last_good f n c.args.core.closed c.args.banks.now c.args.log.now c.args.nvm.now
+    rest-room N.content N.settled N.since N.clock N.last_good f n c.args.core.now.closed c.args.banks.now c.args.log.now c.args.nvm.now
     c.loop-issued.core c.loop-issued.rest c.loop-issued.banks c.loop-issued.log c.loop-issued.nvm run c.in-Closed.tick (commands_put c.in-Closed.issues c.close.new.issued) next leads.4
     (omega (arith, below, next)) c.requires.room
 
@@ -55,7 +55,7 @@ pub loop-issued-smaller-in-Continue-1 : goal.loop-issued-smaller-in-Continue-1
 loop-issued-smaller-in-Continue-1 g c =
     let run = c.loop-issued.invariant.runs in
     let f = c.args.feeds.now in
-    let n = c.args.core.cycle in
+    let n = c.args.core.now.cycle in
     let h = run.history in
     let at = still-open f n h c.loop-issued.core c.loop-issued.rest c.closed.result c.horizon-horizon.result run.remains (c.closed.ensures h run.remains.core_is) c.horizon-horizon.ensures c.loop-issued-test.true in
     let leads = c.in-Closed.ensures.leads f n h at in
@@ -74,14 +74,14 @@ loop-issued-preserved-in-Continue-1 g c =
     let kept = c.loop-issued.invariant in
     let run = kept.runs in
     let f = c.args.feeds.now in
-    let n = c.args.core.cycle in
+    let n = c.args.core.now.cycle in
     let h = run.history in
     let at = still-open f n h c.loop-issued.core c.loop-issued.rest c.closed.result c.horizon-horizon.result run.remains (c.closed.ensures h run.remains.core_is) c.horizon-horizon.ensures c.loop-issued-test.true in
     let leads = c.in-Closed.ensures.leads f n h at in
     let cause = c.commit_closed.ensures.lent.cause.later in
     let later = kept.later in
     record {
-      runs = rest-closes N.content N.settled N.since N.clock N.last_good f n c.args.core.closed c.args.banks.now c.args.log.now c.args.nvm.now
+      runs = rest-closes N.content N.settled N.since N.clock N.last_good f n c.args.core.now.closed c.args.banks.now c.args.log.now c.args.nvm.now
           c.loop-issued.core c.loop-issued.rest c.loop-issued.banks c.loop-issued.log c.loop-issued.nvm run c.in-Closed.tick (commands_put c.in-Closed.issues c.close.new.issued) leads.3 leads.4
           c.close.new.core c.close.new.rest c.commit_closed.new.banks c.commit_closed.new.log c.commit_closed.new.nvm c.commit_closed.result _ leads.0 leads.1 leads.2 c.in_ok-commit_closed-in-Closed.was c.commit_closed.ensures.commits;
       size = c.commit_closed.ensures.lent.size ∙ kept.size;
@@ -108,13 +108,13 @@ returns-in_err-commit_closed-in-Closed-clause-commits g c =
     let N = g.N.Nvm in
     let run = c.loop-issued.invariant.runs in
     let f = c.args.feeds.now in
-    let n = c.args.core.cycle in
+    let n = c.args.core.now.cycle in
     let h = run.history in
     let at = still-open f n h c.loop-issued.core c.loop-issued.rest c.closed.result c.horizon-horizon.result run.remains (c.closed.ensures h run.remains.core_is) c.horizon-horizon.ensures c.loop-issued-test.true in
     let leads = c.in-Closed.ensures.leads f n h at in
     let below = at.below in
     let next = leads.3 in
-    rest-fails N.content N.settled N.since N.clock N.last_good f n c.args.core.closed c.args.banks.now c.args.log.now c.args.nvm.now
+    rest-fails N.content N.settled N.since N.clock N.last_good f n c.args.core.now.closed c.args.banks.now c.args.log.now c.args.nvm.now
     c.loop-issued.core c.loop-issued.rest c.loop-issued.banks c.loop-issued.log c.loop-issued.nvm run c.in-Closed.tick (commands_put c.in-Closed.issues c.close.new.issued) next leads.4
     c.commit_closed.new.banks c.commit_closed.new.log c.commit_closed.new.nvm c.commit_closed.result c.from_residual.result _ (omega (arith, below, next)) c.in_err-commit_closed-in-Closed.was c.from_residual.ensures.0 c.commit_closed.ensures.commits
 
@@ -123,7 +123,7 @@ pub give-requires : goal.give-requires
 give-requires g c =
     let run = c.loop-issued.invariant.runs in
     let f = c.args.feeds.now in
-    let n = c.args.core.cycle in
+    let n = c.args.core.now.cycle in
     let h = run.history in
     let at = still-open f n h c.loop-issued.core c.loop-issued.rest c.closed.result c.horizon-horizon.result run.remains (c.closed.ensures h run.remains.core_is) c.horizon-horizon.ensures c.loop-issued-test.true in
     let leads = c.in-Waiting.ensures.leads f n h at in
@@ -133,7 +133,7 @@ pub loop-issued-smaller : goal.loop-issued-smaller
 loop-issued-smaller g c =
     let run = c.loop-issued.invariant.runs in
     let f = c.args.feeds.now in
-    let n = c.args.core.cycle in
+    let n = c.args.core.now.cycle in
     let h = run.history in
     let at = still-open f n h c.loop-issued.core c.loop-issued.rest c.closed.result c.horizon-horizon.result run.remains (c.closed.ensures h run.remains.core_is) c.horizon-horizon.ensures c.loop-issued-test.true in
     let leads = c.in-Waiting.ensures.leads f n h at in
@@ -152,13 +152,13 @@ loop-issued-preserved g c =
     let kept = c.loop-issued.invariant in
     let run = kept.runs in
     let f = c.args.feeds.now in
-    let n = c.args.core.cycle in
+    let n = c.args.core.now.cycle in
     let h = run.history in
     let at = still-open f n h c.loop-issued.core c.loop-issued.rest c.closed.result c.horizon-horizon.result run.remains (c.closed.ensures h run.remains.core_is) c.horizon-horizon.ensures c.loop-issued-test.true in
     let leads = c.in-Waiting.ensures.leads f n h at in
     let went = c.give.ensures.goes f n leads.0 leads.2 in
     record {
-      runs = rest-goes N.content N.settled N.since N.clock N.last_good f n c.args.core.closed c.args.banks.now c.args.log.now c.args.nvm.now
+      runs = rest-goes N.content N.settled N.since N.clock N.last_good f n c.args.core.now.closed c.args.banks.now c.args.log.now c.args.nvm.now
           c.loop-issued.core c.give.new.core c.loop-issued.rest c.give.new.rest c.loop-issued.banks c.loop-issued.log c.loop-issued.nvm run went.0 (went.2.closed ∙ leads.1) went.1;
       size = kept.size;
       later = kept.later;
@@ -174,5 +174,5 @@ returns-clause-commits g c =
     let is = c.closed.ensures run.history run.remains.core_is in
     let end = c.horizon-horizon.ensures in
     let past = c.loop-issued-test.false in
-    rest-over N.content N.settled N.since N.clock N.last_good c.args.feeds.now c.args.core.cycle c.args.core.closed c.args.banks.now c.args.log.now c.args.nvm.now tt
+    rest-over N.content N.settled N.since N.clock N.last_good c.args.feeds.now c.args.core.now.cycle c.args.core.now.closed c.args.banks.now c.args.log.now c.args.nvm.now tt
     c.loop-issued.core c.loop-issued.rest c.loop-issued.banks c.loop-issued.log c.loop-issued.nvm run (omega (arith, is, end, past))

@@ -2,7 +2,7 @@ use Rattle.std.specs.Prelude.{◌≡◌, ◌+◌, ◌-◌, ◌≤◌}
 use Rattle.edr_device.specs.Device.{StillTells}
 use Rattle.edr_cycle.specs.Remaining.{count_left}
 use Rattle.edr_cycle.proofs.RestRunLemmas.{RunsRest}
-use Rattle.edr_cycle.proofs.remaining.run_rest.Given as goal
+use Rattle.edr_cycle.proofs.remaining.give_rest.Given as goal
 
 abbrev pub invariant-loop-issued : goal.invariant-loop-issued
 invariant-loop-issued g l =
