@@ -12,6 +12,7 @@ use Rattle.edr_image.specs.declared.forms.TheConstants.{VERSION_2}
 use Rattle.edr_image.specs.declared.HeaderRefused.TheVariants as refused
 use Rattle.edr_image.specs.declared.OpenFault.TheVariants as open_fault
 use Rattle.edr_image.specs.declared.BankView.{BankView}
+use Rattle.edr_image.specs.declared.places.TheConstants.{FEWEST_BANKS, MOST_BANKS}
 use Rattle.edr_image.specs.PartBytes.{number_at}
 use Rattle.edr_image.specs.Image.{View, bank_view, banks_of, count_of, header_of, image_refusal, magic, not_magic, place_of, slot_count, store_of, view_of, header_refusal_by, image_refusal_by, view_by}
 use Rattle.edr_gates.proofs.MatchingLemmas.{Match, match_at}
@@ -110,19 +111,19 @@ accepted_banks None false true choice x y z e = absurd cc
 accepted_banks None false false choice x y z e = refl
 accepted_banks (Some w) version banks choice x y z e = absurd cc
 
-between : (n : ℕ) → (nat_lt n 2 || nat_lt 16 n) ≡ false → (2 ≤ n) × (n ≤ 16)
+between : (n : ℕ) → (nat_lt n FEWEST_BANKS || nat_lt MOST_BANKS n) ≡ false → (FEWEST_BANKS ≤ n) × (n ≤ MOST_BANKS)
 between n e = (grind (arith, nat_tests), grind (arith, nat_tests))
 
 first_none : {X Y : Type 0} (f : X → Y) (o : Option X) (p : Option Y) → option_or (option_map f o) p ≡ None → o ≡ None
 first_none f None p e = refl
 first_none f (Some x) p e = absurd cc
 
--- a header that isn't refused has 2 to 16 banks
-accepted_within : (layout : Layout) (first : List ℕ) → header_refusal_by layout first ≡ None → (2 ≤ slice_index first 10) × (slice_index first 10 ≤ 16)
+-- a header that isn't refused has as many banks as an image may have
+accepted_within : (layout : Layout) (first : List ℕ) → header_refusal_by layout first ≡ None → (FEWEST_BANKS ≤ slice_index first 10) × (slice_index first 10 ≤ MOST_BANKS)
 unfolding header_refusal_by
 accepted_within layout first none = between (slice_index first 10) (accepted_banks _ _ _ _ _ _ _ none)
 
-pub header_within : (layout : Layout) (first : List ℕ) (h : Header) → header_refusal_by layout first ≡ None → h ≡ header_of first → (2 ≤ h.banks) × (h.banks ≤ 16)
+pub header_within : (layout : Layout) (first : List ℕ) (h : Header) → header_refusal_by layout first ≡ None → h ≡ header_of first → (FEWEST_BANKS ≤ h.banks) × (h.banks ≤ MOST_BANKS)
 header_within layout first h none is = let number : h.banks ≡ slice_index first 10 = ap (λ (x : Header). x.banks) is in rw number (accepted_within layout first none)
 
 -- ---- banks that were read one after the other

@@ -9,7 +9,7 @@ use Rattle.edr_image.specs.declared.Choice.TheVariants.{Keep, Overwrite}
 use Rattle.edr_image.specs.declared.Header.{Header}
 use Rattle.edr_image.specs.declared.BankView.{BankView}
 use Rattle.edr_image.specs.declared.BankView.TheVariants.{Void}
-use Rattle.edr_image.specs.declared.places.TheConstants.{BANK_SIZE}
+use Rattle.edr_image.specs.declared.places.TheConstants.{BANK_SIZE, FEWEST_BANKS, MOST_BANKS}
 use Rattle.edr_image.specs.Image.{View, bank_view, choice_byte, count_of, header_of, header_refusal, image_refusal, image_size, new_image, place_of, view_of, bank_view_by, header_refusal_by, image_refusal_by, view_by}
 use Rattle.edr_banks.specs.Formatting.{IsNew, IsPartlyFormatted, formatted, new_view}
 use Rattle.edr_banks.proofs.NewImageLemmas.{new_image_size, zeros_behind}
@@ -17,14 +17,14 @@ use Rattle.edr_layout.proofs.NewFrontLemmas.{front, new_image_is}
 use Rattle.edr_banks.proofs.LaidPieceLemmas.{over_size, over_there}
 use Rattle.edr_banks.specs.Laying.{IsLaidOver, IsPartlyOver, LacksMagic, over}
 
-few_banks : (n : ℕ) → 2 ≤ n → n ≤ 16 → (nat_lt n 2 || nat_lt 16 n) ≡ false
+few_banks : (n : ℕ) → FEWEST_BANKS ≤ n → n ≤ MOST_BANKS → (nat_lt n FEWEST_BANKS || nat_lt MOST_BANKS n) ≡ false
 few_banks n low high = grind (arith, nat_tests)
 
 a_choice : (c : Choice) → nat_lt 1 (choice_byte c) ≡ false
 a_choice Keep = refl
 a_choice Overwrite = refl
 
-pub header_stands : (h : Header) (rest : List ℕ) → 2 ≤ h.banks → h.banks ≤ 16 → header_refusal (front h ++ rest) ≡ None
+pub header_stands : (h : Header) (rest : List ℕ) → FEWEST_BANKS ≤ h.banks → h.banks ≤ MOST_BANKS → header_refusal (front h ++ rest) ≡ None
 unfolding header_refusal_by
 header_stands h rest low high = rw (few_banks h.banks low high, a_choice h.choice) refl
 
@@ -61,7 +61,7 @@ banks_void : (h : Header) (bytes : List ℕ) → IsZero h bytes → map (λ m. b
 banks_void h bytes new =
     all_void (λ m. bank_view (slice_range bytes (place_of m) (place_of m + BANK_SIZE))) 1 h.banks (λ m low high. void_there bytes (place_of m) (new (place_of m) (omega arith) (omega arith)))
 
-pub not_refused : (h : Header) (rest : List ℕ) → 2 ≤ h.banks → h.banks ≤ 16 → image_size h.banks ≤ length (front h ++ rest) → image_refusal (front h ++ rest) ≡ None
+pub not_refused : (h : Header) (rest : List ℕ) → FEWEST_BANKS ≤ h.banks → h.banks ≤ MOST_BANKS → image_size h.banks ≤ length (front h ++ rest) → image_refusal (front h ++ rest) ≡ None
 unfolding image_refusal_by
 not_refused h rest low high long =
     let first : nat_lt (length (front h ++ rest)) 96 ≡ false = at_least (length (front h ++ rest)) 96 (omega arith) in
@@ -73,7 +73,7 @@ not_refused h rest low high long =
 pub same_view : (a b : Header) (xs ys : List BankView) (m n : ℕ) → a ≡ b → xs ≡ ys → m ≡ n → (let v : View = record { store = record { header = a; banks = xs }; count = m } in Some v) ≡ Some (record { store = record { header = b; banks = ys }; count = n })
 same_view a b xs ys m n p q r = cc
 
-view_is : (h : Header) (rest : List ℕ) → 2 ≤ h.banks → h.banks ≤ 16 → image_size h.banks ≤ length (front h ++ rest) → IsZero h (front h ++ rest) → view_of (front h ++ rest) ≡ Some (new_view h)
+view_is : (h : Header) (rest : List ℕ) → FEWEST_BANKS ≤ h.banks → h.banks ≤ MOST_BANKS → image_size h.banks ≤ length (front h ++ rest) → IsZero h (front h ++ rest) → view_of (front h ++ rest) ≡ Some (new_view h)
 unfolding view_by
 view_is h rest low high long new =
     let bytes = front h ++ rest in
@@ -82,7 +82,7 @@ view_is h rest low high long new =
     rw (not_refused h rest low high long) (same_view (header_of bytes) h _ (replicate h.banks Void) (count_of bytes) 0 (header_is h rest) banks count)
 
 -- a formatted image has void banks, and its count is 0
-formatted-view : (h : Header) (bytes : List ℕ) → 2 ≤ h.banks → h.banks ≤ 16 → image_size h.banks ≤ length bytes → view_of (formatted h bytes) ≡ Some (new_view h)
+formatted-view : (h : Header) (bytes : List ℕ) → FEWEST_BANKS ≤ h.banks → h.banks ≤ MOST_BANKS → image_size h.banks ≤ length bytes → view_of (formatted h bytes) ≡ Some (new_view h)
 formatted-view h bytes low high wide =
     let rest = replicate (image_size h.banks - 12) 0 ++ drop (image_size h.banks) bytes in
     let is : formatted h bytes ≡ front h ++ rest = ap (λ (xs : List ℕ). xs ++ drop (image_size h.banks) bytes) (new_image_is h) in
@@ -90,7 +90,7 @@ formatted-view h bytes low high wide =
     let new : IsZero h (front h ++ rest) = λ i from to. ap (λ (xs : List ℕ). slice_index xs i) (sym is) ∙ over_there (image_size h.banks) (new_image h) bytes i (new_image_size h) wide to ∙ zeros_behind h i from in
     ap view_of is ∙ view_is h rest low high long new
 
-pub formatted_new : (h : Header) (bytes image : List ℕ) → 2 ≤ h.banks → h.banks ≤ 16 → image_size h.banks ≤ length bytes → image ≡ formatted h bytes → IsNew h bytes image
+pub formatted_new : (h : Header) (bytes image : List ℕ) → FEWEST_BANKS ≤ h.banks → h.banks ≤ MOST_BANKS → image_size h.banks ≤ length bytes → image ≡ formatted h bytes → IsNew h bytes image
 formatted_new h bytes image low high wide same = record { same = same; view = ap view_of same ∙ formatted-view h bytes low high wide }
 
 -- what is laid is as long as what it is laid over, so the image has room
@@ -99,7 +99,7 @@ laid_wide full target bytes image long is size =
     let sum : length image ≡ full + (length bytes - full) = ap length is ∙ length-append target (drop full bytes) ∙ grind (arith, common_steps) in omega arith
 
 -- what a laying of a new image may leave, formatting may leave
-pub formatted_part : (h : Header) (bytes image : List ℕ) → 2 ≤ h.banks → h.banks ≤ 16 → IsPartlyOver (image_size h.banks) (new_image h) bytes image → IsPartlyFormatted h bytes image
+pub formatted_part : (h : Header) (bytes image : List ℕ) → FEWEST_BANKS ≤ h.banks → h.banks ≤ MOST_BANKS → IsPartlyOver (image_size h.banks) (new_image h) bytes image → IsPartlyFormatted h bytes image
 formatted_part h bytes image low high part = record {
   size = part.size;
   past = part.past;

@@ -9,7 +9,7 @@ use Rattle.byteorder.specs.Endian.{big_bytes}
 use Rattle.edr_image.specs.declared.BankView.{BankView}
 use Rattle.edr_image.specs.declared.BankView.TheVariants.{Void}
 use Rattle.edr_image.specs.declared.Header.{Header}
-use Rattle.edr_image.specs.declared.places.TheConstants.{BANK_SIZE}
+use Rattle.edr_image.specs.declared.places.TheConstants.{BANK_SIZE, FEWEST_BANKS, MOST_BANKS}
 use Rattle.edr_image.specs.Image.{View, bank_view, banks_of, count_of, header_of, image_size, place_of, slot_count, view_by, view_of}
 use Rattle.edr_image.specs.PartBytes.{number_at}
 use Rattle.edr_codec.proofs.NumberLemmas.{number-put}
@@ -65,7 +65,7 @@ banks_are v rest sound =
 
 -- ---- the image
 
-view_front : (h : Header) (rest : List ℕ) (banks : List BankView) (n : ℕ) → 2 ≤ h.banks → h.banks ≤ 16 → image_size h.banks ≤ length (front h ++ rest) → count_of (front h ++ rest) ≡ n → banks_of h.banks (front h ++ rest) ≡ banks
+view_front : (h : Header) (rest : List ℕ) (banks : List BankView) (n : ℕ) → FEWEST_BANKS ≤ h.banks → h.banks ≤ MOST_BANKS → image_size h.banks ≤ length (front h ++ rest) → count_of (front h ++ rest) ≡ n → banks_of h.banks (front h ++ rest) ≡ banks
     → view_of (front h ++ rest) ≡ Some (record { store = record { header = h; banks = banks }; count = n })
 unfolding view_by
 view_front h rest banks n low high long count are =
@@ -76,8 +76,8 @@ view_front h rest banks n low high long count are =
 pub record IsSoundView (v : View) : Type 0 where
   pub banks : AreSound v.store.banks
   pub many : length v.store.banks ≡ v.store.header.banks
-  pub from : 2 ≤ v.store.header.banks
-  pub to : v.store.header.banks ≤ 16
+  pub from : FEWEST_BANKS ≤ v.store.header.banks
+  pub to : v.store.header.banks ≤ MOST_BANKS
   pub small : v.count < 2 ^ 32
 
 pub view_is : (v : View) (rest : List ℕ) → IsSoundView v → view_of (image_of v ++ rest) ≡ Some v
