@@ -1,11 +1,12 @@
 -- How many slots the lists of a pre part have.
 use Rattle.std.proofs.Common.{arith, ◌≡◌, ◌∙◌, sym, ap, subst, ℕ, ◌≤◌, Bool, List, Option, length}
+use Rattle.edr_record.specs.declared.TheConstants.{LONG_SLOTS}
 use Rattle.edr_record.specs.declared.Profile.{Profile}
 use Rattle.edr_record.specs.declared.Profile.TheVariants.{Short, Long}
 use Rattle.edr_record.specs.Bounds.{IsPre, slots_in}
 use Rattle.edr_record.specs.Parts.{PrePart}
 
-pub few_slots : (f : Profile) → slots_in f ≤ 201
+pub few_slots : (f : Profile) → slots_in f ≤ LONG_SLOTS
 few_slots Short = omega arith
 few_slots Long = omega arith
 

@@ -1,6 +1,7 @@
 //! The chart of the seconds before time zero, five of a short profile and twenty of a long one.
 
 ghost use Rattle.std.specs.Prelude.{◌≡◌, ◌++◌, ◌≤◌, ◌<◌, ◌+◌, None, OnOk, All, length, take};
+ghost use Rattle.edr_record.specs.declared.TheConstants.{LONG_SLOTS};
 ghost use Rattle.edr_record.specs.Bounds.{IsUpTo, slots_in};
 ghost use Rattle.edr_drawing.specs.Lanes.{IsChartLane};
 ghost use Rattle.edr_drawing.specs.Before.{greatest, speed_lane, throttle_lane, tenths_before, second_line, second_lines, before_frame, before_speed, before_throttle, switch_field, switches, switch_run, are_same, switch_runs, brake_slots, second_x, before_brake, description, described, named_switch, before_switches, before_head, before_chart};
@@ -195,7 +196,7 @@ fn wide(slot: Option<u8>) -> Option<u16>
 
 // The same slots as wider numbers, and absent ones behind them.
 fn widened(slots: &[Option<u8>]) -> [Option<u16>; LONG_SLOTS]
-    requires { length slots.now ≤ 201 }
+    requires { length slots.now ≤ LONG_SLOTS }
     ensures { take (length slots.now) result ≡ slots.now }
 {
     let mut wider = [None; LONG_SLOTS];
@@ -274,7 +275,7 @@ fn draw_switch_run(
     count: u32,
     switch: Option<bool>,
 ) -> Result<(), OutOfMemory>
-    requires { first + count ≤ 201 }
+    requires { first + count ≤ LONG_SLOTS }
     ensures { OnOk result (out.new.items ≡ out.old.items ++ switch_run first count switch) }
 {
     if count == 0 {
@@ -308,7 +309,7 @@ fn are_same(one: Option<bool>, other: Option<bool>) -> bool
 
 // Draws a field for each run of slots of a long profile that are the same.
 fn draw_long_brake(out: &mut Vec<u8>, slots: &[Option<bool>]) -> Result<(), OutOfMemory>
-    requires { length slots.now ≤ 201 }
+    requires { length slots.now ≤ LONG_SLOTS }
     ensures { OnOk result (out.new.items ≡ out.old.items ++ switch_runs 0 0 None slots.now) }
 {
     let mut first = 0;

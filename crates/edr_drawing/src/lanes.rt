@@ -1,6 +1,7 @@
 //! A lane of slots: a path through those that are there, their marks, and fields in the place of those that are absent.
 
 ghost use Rattle.std.specs.Prelude.{◌≡◌, ◌++◌, ◌≤◌, ◌<◌, ◌+◌, ◌*◌, ◌-◌, ◌/◌, false, All, IfSome, OnOk, length};
+ghost use Rattle.edr_record.specs.declared.TheConstants.{LONG_SLOTS};
 ghost use Rattle.edr_record.specs.Bounds.{slots_in};
 ghost use Rattle.edr_drawing.specs.Elements.{drawn};
 ghost use Rattle.edr_drawing.specs.Lanes.{IsChartLane, lane_y, grid, grid_line, point, points, none_field, cell, cells, field_elements, gap_elements, long_cells, cells_of, drawn_lane};
@@ -82,7 +83,7 @@ fn put_point(
     value: u16,
 ) -> Result<(), OutOfMemory>
     requires lane { IsChartLane lane.now }
-    requires slot { k < 201 }
+    requires slot { k < LONG_SLOTS }
     ensures { OnOk result (out.new.items
         ≡ out.old.items ++ point lane.now.profile lane.now k before value) }
 {
@@ -105,7 +106,7 @@ fn put_point(
 // Appends the points of all slots that are there.
 fn put_points(out: &mut Vec<u8>, lane: &ChartLane, slots: &[Option<u16>]) -> Result<(), OutOfMemory>
     requires lane { IsChartLane lane.now }
-    requires slots { length slots.now ≤ 201 }
+    requires slots { length slots.now ≤ LONG_SLOTS }
     ensures { OnOk result (out.new.items
         ≡ out.old.items ++ points lane.now.profile lane.now 0 false slots.now) }
 {
@@ -210,7 +211,7 @@ pub fn draw_run(
     count: u32,
     field: &RunField,
 ) -> Result<(), OutOfMemory>
-    requires run { (1 ≤ count) × (first + count ≤ 201) }
+    requires run { (1 ≤ count) × (first + count ≤ LONG_SLOTS) }
     requires place { (field.now.y ≤ 1_000) × (field.now.height ≤ 1_000) }
     ensures { OnOk result (out.new.items ≡ out.old.items ++ drawn (field_elements first count field.now)) }
 {
@@ -238,7 +239,7 @@ pub fn draw_run(
 // Draws the field of absent slots, if there are any.
 fn draw_gap(out: &mut Vec<u8>, lane: &ChartLane, first: u32, count: u32) -> Result<(), OutOfMemory>
     requires lane { IsChartLane lane.now }
-    requires run { first + count ≤ 201 }
+    requires run { first + count ≤ LONG_SLOTS }
     ensures { OnOk result (out.new.items ≡ out.old.items ++ drawn (gap_elements lane.now first count)) }
 {
     if count == 0 {
@@ -257,7 +258,7 @@ fn draw_gap(out: &mut Vec<u8>, lane: &ChartLane, first: u32, count: u32) -> Resu
 // Draws the marks of a long profile, and a field for each run of absent slots.
 fn draw_long(out: &mut Vec<u8>, lane: &ChartLane, slots: &[Option<u16>]) -> Result<(), OutOfMemory>
     requires lane { IsChartLane lane.now }
-    requires slots { length slots.now ≤ 201 }
+    requires slots { length slots.now ≤ LONG_SLOTS }
     ensures { OnOk result (out.new.items ≡ out.old.items ++ long_cells lane.now 0 0 slots.now) }
 {
     let mut first = 0;

@@ -1,18 +1,19 @@
 //! Why a record isn't complete.
 
 ghost use Rattle.std.specs.Prelude.{◌≡◌, ◌++◌, ◌≤◌, ◌+◌, OnOk, length};
+ghost use Rattle.edr_record.specs.declared.TheConstants.{LONG_SLOTS};
 ghost use Rattle.edr_record.specs.Bounds.{slots_in};
 ghost use Rattle.edr_drawing.specs.Reasons.{absent_count, slots_reason, switch_reason, ticks_reason, pre_reasons, crash_reasons, reasons};
 
 use crate::changes::window_of;
 use crate::pieces::{Piece, put, put_tag};
 use crate::tags::Tag;
-use edr_record::{Crash, Pre, Profile, Record};
+use edr_record::{Crash, LONG_SLOTS, Pre, Profile, Record, SHORT_SLOTS};
 use std::alloc::AllocError as OutOfMemory;
 
 // How many slots are absent.
 fn absent_count<T>(slots: &[Option<T>]) -> u32
-    requires { length slots.now ≤ 201 }
+    requires { length slots.now ≤ LONG_SLOTS }
     ensures { result ≡ absent_count slots.now }
 {
     let mut absent = 0;
@@ -29,8 +30,8 @@ fn slots_in(profile: Profile) -> u32
     ensures { result ≡ slots_in profile }
 {
     match profile {
-        Profile::Short => 11,
-        Profile::Long => 201,
+        Profile::Short => SHORT_SLOTS as u32,
+        Profile::Long => LONG_SLOTS as u32,
     }
 }
 

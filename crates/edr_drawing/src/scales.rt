@@ -1,6 +1,7 @@
 //! Where values stand in a chart.
 
 ghost use Rattle.std.specs.Prelude.{◌≡◌, ◌≤◌, ◌<◌, ◌+◌, ◌*◌, All, max, unsigned_abs};
+ghost use Rattle.edr_record.specs.declared.TheConstants.{LONG_SLOTS};
 ghost use Rattle.edr_drawing.specs.Scales.{time_at, slot_x, intervals, least_step, scale_top, rise_of, fall_of, below_top};
 
 use edr_record::Profile;
@@ -20,7 +21,7 @@ pub fn time_at(k: u32) -> u32
 
 /// Where a slot stands across, the newest of which is at time zero.
 pub fn slot_x(profile: Profile, k: u32) -> u32
-    requires { k < 201 }
+    requires { k < LONG_SLOTS }
     ensures place { result ≡ slot_x profile k }
     ensures range { (400 ≤ result) × (result ≤ 30_000) }
 {
