@@ -11,21 +11,9 @@ ghost use Rattle.edr_cli.specs.Runs.{IsTraceOf};
 ghost use Rattle.edr_cli.specs.Traces.{HasAll};
 
 use crate::fault::Fault;
-use edr_device::{Source, TakeFault};
+use edr_device::{Source, TakeFault, piece_len};
 use edr_trace::{CycleInput, LARGEST_TRACE, LONGEST_ROW, TraceReading};
 use std::alloc::Global;
-
-// The most bytes that are asked for at once.
-const LONGEST_PIECE: usize = 65_536;
-
-// How many bytes to ask for at once, where so many are wanted in all.
-fn piece_len(wanted: usize) -> usize
-    requires { 1 ≤ wanted }
-    ensures some { 1 ≤ result }
-    ensures within { result ≤ wanted }
-{
-    wanted.min(LONGEST_PIECE)
-}
 
 // Takes at most so many bytes of the source, puts them behind the first `kept` of the buffer, and answers how many.
 fn take_behind<S: Source>(

@@ -26,4 +26,4 @@ pub use crate::mem_sink::MemSink;
 pub use crate::mem_source::MemSource;
 pub use crate::pieces::{write_gated, write_settled};
 pub use crate::stream::{Failed, Sink, Source};
-pub use crate::transfer::{TakeFault, put_all, take_all};
+pub use crate::transfer::{TakeFault, piece_len, put_all, take_all};

@@ -42,8 +42,8 @@ impl From<AllocError> for TakeFault {
 // The most bytes that are asked for at once.
 const LONGEST_PIECE: usize = 65_536;
 
-// How long a piece to ask for, where so many bytes are wanted in all.
-fn piece_len(wanted: usize) -> usize
+/// How long a piece to ask a source for, where so many bytes are wanted in all: as many, or 65,536.
+pub fn piece_len(wanted: usize) -> usize
     requires { 1 ≤ wanted }
     ensures some { 1 ≤ result }
     ensures within { result ≤ wanted }
