@@ -41,3 +41,16 @@ map_values h p = record {
   lamp = h p.lamp;
   restraint = h p.restraint;
 }
+
+-- the values that a function gives for the sensors
+abbrev pub values_by : {A : Type 0} → (Sensor → A) → PerSensor A
+values_by h = record {
+  along = h Along;
+  across = h Across;
+  speed = h Speed;
+  throttle = h Throttle;
+  brake = h Brake;
+  belt = h Belt;
+  lamp = h Lamp;
+  restraint = h Restraint;
+}

@@ -1,8 +1,10 @@
 -- One value for each of the five slow sensors.
-use Rattle.std.specs.Prelude.{Option, Some, None}
+use Rattle.std.specs.Prelude.{Option, Some, None, List, [], ◌∷◌}
 use Rattle.edr_items.specs.declared.Sensor.{Sensor}
 use Rattle.edr_items.specs.declared.Sensor.TheVariants.{Along, Across, Speed, Throttle, Brake, Belt, Lamp, Restraint}
+use Rattle.edr_items.specs.declared.per_sensor.PerSensor.{PerSensor}
 use Rattle.edr_items.specs.declared.per_slow_sensor.PerSlowSensor.{PerSlowSensor}
+use Rattle.edr_items.specs.Sensor.{IsSlow}
 
 -- the value of one sensor; the other three have none
 abbrev pub slow_value_of : {A : Type 0} → Sensor → PerSlowSensor A → Option A
@@ -33,3 +35,34 @@ each_slow_value x = record { speed = x; throttle = x; brake = x; belt = x; lamp 
 -- the values that a function gives for those
 abbrev pub map_slow_values : {A B : Type 0} → (A → B) → PerSlowSensor A → PerSlowSensor B
 map_slow_values h p = record { speed = h p.speed; throttle = h p.throttle; brake = h p.brake; belt = h p.belt; lamp = h p.lamp }
+
+-- the slow sensors in the order of their numbers
+abbrev pub slow_sensors : List Sensor
+slow_sensors = Speed ∷ Throttle ∷ Brake ∷ Belt ∷ Lamp ∷ []
+
+-- what holds of each slow sensor
+abbrev pub EachSlow : (Sensor → Type 0) → Type 0
+EachSlow P = (s : Sensor) → IsSlow s → P s
+
+-- the value of one slow sensor; the other three have that of the first
+abbrev pub slow_at : {A : Type 0} → Sensor → PerSlowSensor A → A
+slow_at Along p = p.speed
+slow_at Across p = p.speed
+slow_at Speed p = p.speed
+slow_at Throttle p = p.throttle
+slow_at Brake p = p.brake
+slow_at Belt p = p.belt
+slow_at Lamp p = p.lamp
+slow_at Restraint p = p.speed
+
+-- the values that a function gives for the sensors
+abbrev pub slow_values_by : {A : Type 0} → (Sensor → A) → PerSlowSensor A
+slow_values_by h = record { speed = h Speed; throttle = h Throttle; brake = h Brake; belt = h Belt; lamp = h Lamp }
+
+-- those of the slow sensors among the values of all eight
+abbrev pub slow_values : {A : Type 0} → PerSensor A → PerSlowSensor A
+slow_values p = record { speed = p.speed; throttle = p.throttle; brake = p.brake; belt = p.belt; lamp = p.lamp }
+
+-- values of all eight, of which the other three have this one
+abbrev pub with_slow_values : {A : Type 0} → A → PerSlowSensor A → PerSensor A
+with_slow_values x p = record { along = x; across = x; speed = p.speed; throttle = p.throttle; brake = p.brake; belt = p.belt; lamp = p.lamp; restraint = x }
