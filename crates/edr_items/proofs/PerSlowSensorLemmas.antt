@@ -1,12 +1,13 @@
 -- Laws of values of the five slow sensors.
-use Rattle.std.proofs.Common.{arith, refl, ◌≡◌, ◌⊎◌, inl, inr, Some, None}
+use Rattle.std.proofs.Common.{arith, refl, ◌≡◌, ◌∙◌, ◌⊎◌, inl, inr, Bool, false, nat_eq, Some, None}
+use Rattle.std.specs.Prelude.{find}
 use Rattle.edr_items.specs.declared.Sensor.{Sensor}
 use Rattle.edr_items.specs.declared.Sensor.TheVariants.{Along, Across, Speed, Throttle, Brake, Belt, Lamp, Restraint}
 use Rattle.edr_items.specs.declared.per_sensor.PerSensor.{PerSensor}
 use Rattle.edr_items.specs.declared.per_slow_sensor.PerSlowSensor.{PerSlowSensor}
-use Rattle.edr_items.specs.Sensor.{IsSlow}
+use Rattle.edr_items.specs.Sensor.{number_of, IsSlow}
 use Rattle.edr_items.specs.PerSensor.{value_of, with_value}
-use Rattle.edr_items.specs.PerSlowSensor.{slow_value_of, with_slow_value, each_slow_value, map_slow_values, EachSlow, slow_at, slow_values_by, slow_values, with_slow_values}
+use Rattle.edr_items.specs.PerSlowSensor.{slow_value_of, with_slow_value, each_slow_value, map_slow_values, slow_sensors, EachSlow, slow_at, slow_values_by, slow_values, with_slow_values}
 
 -- ---- what holds of each slow sensor
 -- a sensor is slow, or it is not
@@ -46,6 +47,16 @@ belt-slow P h = h Belt (omega arith, omega arith)
 
 pub lamp-slow : (P : Sensor → Type 0) → EachSlow P → P Lamp
 lamp-slow P h = h Lamp (omega arith, omega arith)
+
+-- the first of which something holds
+pub slow-first : (f g : Sensor → Bool) → EachSlow (λ s. f s ≡ g s) → find f slow_sensors ≡ find g slow_sensors
+slow-first f g h =
+    let a = speed-slow (λ s. f s ≡ g s) h in
+    let b = throttle-slow (λ s. f s ≡ g s) h in
+    let c = brake-slow (λ s. f s ≡ g s) h in
+    let d = belt-slow (λ s. f s ≡ g s) h in
+    let e = lamp-slow (λ s. f s ≡ g s) h in
+    rw (a, b, c, d, e) refl
 
 -- ---- the value of a slow sensor
 -- it has one
@@ -94,6 +105,20 @@ slow_at-values p = each-slow (λ s. slow_at s (slow_values p) ≡ value_of s p) 
 pub value_of-slow : {A : Type 0} (x : A) (p : PerSlowSensor A) → EachSlow (λ s. value_of s (with_slow_values x p) ≡ slow_at s p)
 value_of-slow x p = each-slow (λ s. value_of s (with_slow_values x p) ≡ slow_at s p) refl refl refl refl refl
 
+pub value_of-fast : {A : Type 0} (s : Sensor) (x : A) (p : PerSlowSensor A) → (¬ IsSlow s) → value_of s (with_slow_values x p) ≡ x
+value_of-fast Along x p fast = refl
+value_of-fast Across x p fast = refl
+value_of-fast Speed x p fast = absurd (fast (omega arith, omega arith))
+value_of-fast Throttle x p fast = absurd (fast (omega arith, omega arith))
+value_of-fast Brake x p fast = absurd (fast (omega arith, omega arith))
+value_of-fast Belt x p fast = absurd (fast (omega arith, omega arith))
+value_of-fast Lamp x p fast = absurd (fast (omega arith, omega arith))
+value_of-fast Restraint x p fast = refl
+
+-- what the value of a sensor is among those of all eight
+pub value_of-some : {A : Type 0} (s : Sensor) (e : A) (p : PerSlowSensor A) (x : A) → slow_value_of s p ≡ Some x → value_of s (with_slow_values e p) ≡ x
+value_of-some s e p x h = let is = slow_value_of-some s p x h in value_of-slow e p s is.0 ∙ is.1
+
 -- ---- another value of a slow sensor
 -- the sensor has it
 pub with_slow_value-own : {A : Type 0} (x : A) (p : PerSlowSensor A) → EachSlow (λ s. slow_at s (with_slow_value s x p) ≡ x)
@@ -116,6 +141,34 @@ with_slow_value-both P s x y p q here rest r slow = both s r here (rest r slow) 
 -- the same of one new value and of each old one
 pub with_slow_value-each : {A : Type 0} (P : Sensor → A → Type 0) (s : Sensor) (x : A) (p : PerSlowSensor A) → P s x → EachSlow (λ r. P r (slow_at r p)) → EachSlow (λ r. P r (slow_at r (with_slow_value s x p)))
 with_slow_value-each P s x p here rest = with_slow_value-both (λ r x _. P r x) s x x p p here rest
+
+-- what holds of a sensor's new value and of the old ones of the others holds of each value after that
+pub with_slow_value-others : {A : Type 0} (P : Sensor → A → Type 0) (s : Sensor) (x : A) (p : PerSlowSensor A) → P s x → ((r : Sensor) → IsSlow r → nat_eq (number_of s) (number_of r) ≡ false → P r (slow_at r p)) → EachSlow (λ r. P r (slow_at r (with_slow_value s x p)))
+with_slow_value-others P s x p here rest r slow = others s r here (rest r slow) slow where
+  others : (t u : Sensor) → P t x → (nat_eq (number_of t) (number_of u) ≡ false → P u (slow_at u p)) → IsSlow u → P u (slow_at u (with_slow_value t x p))
+  others Speed Speed own old slow = own
+  others Throttle Throttle own old slow = own
+  others Brake Brake own old slow = own
+  others Belt Belt own old slow = own
+  others Lamp Lamp own old slow = own
+  others t Along own old slow = absurd (omega arith)
+  others t Across own old slow = absurd (omega arith)
+  others t Restraint own old slow = absurd (omega arith)
+  others t u own old slow = old refl
+
+-- what holds of each slow sensor's value and of its value among those of all eight still does with two new ones
+pub with_slow_value-beside : {A B : Type 0} (P : Sensor → A → B → Type 0) (s : Sensor) (x : A) (y : B) (p : PerSlowSensor A) (q : PerSensor B) → (IsSlow s → P s x y) → EachSlow (λ r. P r (slow_at r p) (value_of r q)) → EachSlow (λ r. P r (slow_at r (with_slow_value s x p)) (value_of r (with_value s y q)))
+with_slow_value-beside P s x y p q here rest r slow = beside s r here (rest r slow) slow where
+  beside : (t u : Sensor) → (IsSlow t → P t x y) → P u (slow_at u p) (value_of u q) → IsSlow u → P u (slow_at u (with_slow_value t x p)) (value_of u (with_value t y q))
+  beside Speed Speed own old slow = own slow
+  beside Throttle Throttle own old slow = own slow
+  beside Brake Brake own old slow = own slow
+  beside Belt Belt own old slow = own slow
+  beside Lamp Lamp own old slow = own slow
+  beside t Along own old slow = absurd (omega arith)
+  beside t Across own old slow = absurd (omega arith)
+  beside t Restraint own old slow = absurd (omega arith)
+  beside t u own old slow = old
 
 -- what was replaced leaves no trace
 pub with_slow_value-again : {A : Type 0} (s : Sensor) (x y : A) (p : PerSlowSensor A) → with_slow_value s x (with_slow_value s y p) ≡ with_slow_value s x p

@@ -1,5 +1,5 @@
 -- One value for each of the five slow sensors.
-use Rattle.std.specs.Prelude.{Option, Some, None, List, [], ◌∷◌}
+use Rattle.std.specs.Prelude.{is_none, find, Option, Some, None, List, [], ◌∷◌}
 use Rattle.edr_items.specs.declared.Sensor.{Sensor}
 use Rattle.edr_items.specs.declared.Sensor.TheVariants.{Along, Across, Speed, Throttle, Brake, Belt, Lamp, Restraint}
 use Rattle.edr_items.specs.declared.per_sensor.PerSensor.{PerSensor}
@@ -66,3 +66,7 @@ slow_values p = record { speed = p.speed; throttle = p.throttle; brake = p.brake
 -- values of all eight, of which the other three have this one
 abbrev pub with_slow_values : {A : Type 0} → A → PerSlowSensor A → PerSensor A
 with_slow_values x p = record { along = x; across = x; speed = p.speed; throttle = p.throttle; brake = p.brake; belt = p.belt; lamp = p.lamp; restraint = x }
+
+-- the lowest-numbered slow sensor that has no value
+unfoldable pub first_without : {A : Type 0} → PerSlowSensor (Option A) → Option Sensor
+first_without p = find (λ s. is_none (slow_at s p)) slow_sensors

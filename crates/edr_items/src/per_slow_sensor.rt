@@ -1,8 +1,8 @@
 //! One value for each of the five slow sensors.
 
-ghost use Rattle.std.specs.Prelude.{◌≡◌, Some, None, MatchOption};
+ghost use Rattle.std.specs.Prelude.{◌≡◌, Some, None, Ok, IfOk, IfErr, MatchOption};
 ghost use Rattle.std.specs.Borrow.{sem};
-ghost use Rattle.edr_items.specs.PerSlowSensor.{slow_value_of, with_slow_value};
+ghost use Rattle.edr_items.specs.PerSlowSensor.{slow_value_of, with_slow_value, each_slow_value, map_slow_values, EachSlow, slow_at, first_without};
 ghost use Rattle.edr_items.specs.LendsValue.{LendsSlowValue};
 
 use crate::Sensor;
@@ -15,6 +15,56 @@ pub struct PerSlowSensor<T> {
     pub brake: T,
     pub belt: T,
     pub lamp: T,
+}
+
+impl<T: Copy> PerSlowSensor<T> {
+    /// The same value for each slow sensor.
+    #[inline(always)]
+    pub fn each(value: T) -> PerSlowSensor<T>
+        ensures { result ≡ each_slow_value value }
+    {
+        PerSlowSensor {
+            speed: value,
+            throttle: value,
+            brake: value,
+            belt: value,
+            lamp: value,
+        }
+    }
+}
+
+impl<T: Copy> PerSlowSensor<Option<T>> {
+    #[tactic(auto, unfolding(crate::specs::PerSlowSensor::first_without))]
+    /// The values, if each sensor has one; else the first sensor, by its number, that has none.
+    pub fn all(&self) -> Result<PerSlowSensor<T>, Sensor>
+        ensures all { IfOk result (λ values. self.now ≡ map_slow_values Some values) }
+        ensures missing { IfErr result (λ sensor. first_without self.now ≡ Some sensor) }
+    {
+        Ok(PerSlowSensor {
+            speed: self.speed.ok_or(Sensor::Speed)?,
+            throttle: self.throttle.ok_or(Sensor::Throttle)?,
+            brake: self.brake.ok_or(Sensor::Brake)?,
+            belt: self.belt.ok_or(Sensor::Belt)?,
+            lamp: self.lamp.ok_or(Sensor::Lamp)?,
+        })
+    }
+}
+
+impl<T: Drop> PerSlowSensor<T> {
+    /// The values that a function gives for the sensors, or its first error.
+    #[inline(always)]
+    pub fn try_from_fn<E, F: Fn(Sensor) -> Result<T, E> + Drop>(f: F) -> Result<PerSlowSensor<T>, E>
+        requires { EachSlow (λ sensor. F.pre f sensor) }
+        ensures { IfOk result (λ values. EachSlow (λ sensor. F.post f sensor (Ok (slow_at sensor values)))) }
+    {
+        Ok(PerSlowSensor {
+            speed: f(Sensor::Speed)?,
+            throttle: f(Sensor::Throttle)?,
+            brake: f(Sensor::Brake)?,
+            belt: f(Sensor::Belt)?,
+            lamp: f(Sensor::Lamp)?,
+        })
+    }
 }
 
 impl<T> PerSlowSensor<T> {
@@ -72,5 +122,28 @@ mod tests {
         assert_eq!(rt; numbers.of(Sensor::Belt), Some(&20));
         assert_eq!(rt; numbers.of(Sensor::Lamp), Some(&7));
         assert_eq!(rt; numbers.of(Sensor::Restraint), None);
+    }
+
+    #[test]
+    fn all_are_there_once_each_has_one(rt: HostRuntime) {
+        let numbers = PerSlowSensor::try_from_fn(|sensor: Sensor| -> Result<Option<u8>, Sensor> {
+            Ok(Some(sensor.number()))
+        });
+        let Ok(mut numbers) = numbers else {
+            return;
+        };
+        assert_eq!(rt;
+            numbers
+                .all()
+                .ok()
+                .and_then(|all| all.of(Sensor::Lamp).copied()),
+            Some(7)
+        );
+        numbers.belt = None;
+        assert_eq!(rt; numbers.all().err(), Some(Sensor::Belt));
+        assert_eq!(rt;
+            PerSlowSensor::each(None::<u8>).all().err(),
+            Some(Sensor::Speed)
+        );
     }
 }
