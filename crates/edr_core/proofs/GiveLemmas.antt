@@ -226,7 +226,7 @@ split-takes c w a q h is zero =
         row = asked.row;
         change = asked.change;
         zero = asked.zero;
-        parts = one-taken a.parts w.parts q (w.past.closed + 1) zero asked.parts q.sensor refl;
+        parts = one-taken a.parts w.parts q (w.past.closed + 1) zero asked.parts;
       };
       early = All-cons (λ y. y.zero ≤ (merged w).closed) q w.parts (omega (arith, zero, closed)) h.early;
     }

@@ -5,6 +5,7 @@ use Rattle.std.specs.Option.{option_map_or}
 use Rattle.edr_items.specs.declared.Sensor.{Sensor}
 use Rattle.edr_items.specs.declared.Sensor.TheVariants.{Along}
 use Rattle.edr_items.specs.declared.Restraints.{Restraints}
+use Rattle.edr_items.specs.PerSlowSensor.{first_without}
 use Rattle.edr_items.specs.SensorLists.{horizon_of}
 use Rattle.edr_items.proofs.FeedLemmas.{IsFeedAfter-within}
 use Rattle.edr_record.specs.declared.Key.{Key}
@@ -29,13 +30,12 @@ use Rattle.edr_detect.specs.Stages.{told_of}
 use Rattle.edr_detect.specs.Rows.{SignalRow as Changes, signals_of_rows}
 use Rattle.edr_detect.specs.Detected.{DetectState, DetectStandsFor}
 use Rattle.edr_core.specs.declared.ask.OpenAsk.{OpenAsk}
-use Rattle.edr_core.specs.declared.ask.AllParts.{AllParts}
 use Rattle.edr_core.specs.declared.candidate.Candidate.{Candidate}
 use Rattle.edr_core.specs.declared.candidate.Issued.{Issued}
 use Rattle.edr_core.specs.declared.candidate.TickRow.{TickRow as Given}
 use Rattle.edr_core.specs.Candidate.{IsRowInRange, IsShort, CanBeTold, begun, grown, grown_or_begun, no_issues, candidate_after, link_after, issued_after, issues_in}
 use Rattle.edr_core.specs.Answers.{put}
-use Rattle.edr_core.specs.Ask.{no_parts, in_places, missing_in, IsKey, pre_of}
+use Rattle.edr_core.specs.Ask.{AllParts, no_parts, in_places, IsKey, pre_of}
 use Rattle.edr_core.specs.Parts.{PartSlots, AreSlotsOf, commands_with, issues_with}
 use Rattle.edr_core.specs.Rows.{RowIs, row_of, rows_of}
 use Rattle.edr_core.specs.SplitHistory.{History, Answer, Waits, Asks, Lacks, Closes, is_zero_next, missing_part, due}
@@ -260,7 +260,7 @@ module _ (c : SplitContents) (w : History) (h : SplitCoreStandsFor c w) (free : 
 
 -- ---- a tick whose parts are asked for
 -- a part is missing
-pub lacks-due : (c : SplitContents) (w : History) (a : OpenAsk) (s : Sensor) → SplitCoreStandsFor c w → c.ask ≡ Some a → missing_in a.parts ≡ Some s → Lacks s ≡ due w
+pub lacks-due : (c : SplitContents) (w : History) (a : OpenAsk) (s : Sensor) → SplitCoreStandsFor c w → c.ask ≡ Some a → first_without a.parts ≡ Some s → Lacks s ≡ due w
 lacks-due c w a s h is missing =
     let asked = asked-is c w a h is in
     ap (λ (o : Option Sensor). option_map_or Lacks o (Closes (w.past.closed + 1))) (sym missing ∙ missing-is w a.parts asked.parts)
@@ -308,7 +308,7 @@ module _ (c : SplitContents) (w : History) (h : SplitCoreStandsFor c w) (a : Ope
   pub asked-due : Closes (c.closed + 1) ≡ due w
   asked-due =
       ap Closes tick-is
-      ∙ ap (λ (o : Option Sensor). option_map_or Lacks o (Closes (w.past.closed + 1))) (sym (none-missing all) ∙ ap missing_in (sym all_is) ∙ missing-is w a.parts asked_now.parts)
+      ∙ ap (λ (o : Option Sensor). option_map_or Lacks o (Closes (w.past.closed + 1))) (sym (none-missing all) ∙ ap first_without (sym all_is) ∙ missing-is w a.parts asked_now.parts)
       ∙ sym (due-asked w asked_now.asking)
 
   pub asked-tell : (b : Candidate) → b ≡ begun made a.row → CanBeTold (c.closed + 1) (told_of a.change) c.link b

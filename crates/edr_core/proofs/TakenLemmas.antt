@@ -1,21 +1,21 @@
 -- The parts that were taken, and the pre part of a time zero that they make.
 use Rattle.std.proofs.Common.{arith, refl, ap, sym, subst, ◌≡◌, ◌∙◌, ℕ, ◌+◌, ◌<◌, ◌≤◌, Bool, true, false, cond, ◌&&◌, nat_eq, Some, None, Option, List, [], ◌∷◌}
-use Rattle.std.specs.Prelude.{find, All}
+use Rattle.std.specs.Prelude.{find, is_none, option_and_then, All}
 use Rattle.std.proofs.lemmas.Bool.{eqb-true}
 use Rattle.std.proofs.lemmas.List.Elements.{All-head, All-tail, All-weaker}
 use Rattle.edr_items.specs.declared.Sensor.{Sensor}
 use Rattle.edr_items.specs.declared.Sensor.TheVariants.{Along, Across, Speed, Throttle, Brake, Belt, Lamp, Restraint}
 use Rattle.edr_items.specs.Sensor.{number_of, IsSlow}
+use Rattle.edr_items.specs.PerSlowSensor.{EachSlow, slow_at, first_without}
 use Rattle.edr_items.specs.SensorLists.{SensorLists}
+use Rattle.edr_items.proofs.PerSlowSensorLemmas.{speed-slow, throttle-slow, brake-slow, belt-slow, lamp-slow, slow-first, slow_value_of-slow, slow_at-each, slow_at-map, with_slow_value-others}
 use Rattle.edr_record.specs.declared.Key.{Key}
 use Rattle.edr_record.specs.declared.Place.TheVariants.{First}
 use Rattle.edr_definitions.specs.Parts.{pre_part}
 use Rattle.edr_capture.specs.SensorPart.{SensorPart}
-use Rattle.edr_core.specs.declared.ask.TakenParts.{TakenParts}
-use Rattle.edr_core.specs.declared.ask.AllParts.{AllParts}
 use Rattle.edr_core.specs.Parts.{PartSlots, AreSlotsOf, is_part_of, part_in}
-use Rattle.edr_core.specs.Ask.{no_parts, part_at, with_part_of, in_places, missing_in, AreOfTheirSensors, pre_of}
-use Rattle.edr_core.specs.SplitHistory.{History, missing_part}
+use Rattle.edr_core.specs.Ask.{TakenParts, AllParts, no_parts, part_at, with_part, in_places, AreOfTheirSensors, pre_of}
+use Rattle.edr_core.specs.SplitHistory.{History, is_missing, missing_part}
 use Rattle.edr_core.specs.SplitStandsFor.{IsMadeOf, PartsAre}
 
 -- ---- one part
@@ -81,13 +81,7 @@ early-later parts a b up early = All-weaker (λ q. q.zero ≤ a) (λ q. q.zero �
 -- ---- the parts of an ask
 -- none was taken of a tick past those of all
 pub none-taken : (parts : List SensorPart) (z t : ℕ) → t < z → All (λ q. q.zero ≤ t) parts → PartsAre no_parts parts z
-none-taken parts z t late early = record {
-  speed = sym (part_in-early parts Speed z t late early);
-  throttle = sym (part_in-early parts Throttle z t late early);
-  brake = sym (part_in-early parts Brake z t late early);
-  belt = sym (part_in-early parts Belt z t late early);
-  lamp = sym (part_in-early parts Lamp z t late early);
-}
+none-taken parts z t late early = record { each = λ s slow. slow_at-each {A = Option SensorPart} None s ∙ sym (part_in-early parts s z t late early) }
 
 found : (q : SensorPart) (parts : List SensorPart) (s : Sensor) (z : ℕ) (b : Bool) → is_part_of s z q ≡ b → part_in (q ∷ parts) s z ≡ cond {A = Option SensorPart} b (Some q) (part_in parts s z)
 unfolding part_in
@@ -102,46 +96,31 @@ is_of q r s z sensor zero =
     ∙ ap (λ u. nat_eq (number_of r) (number_of s) && nat_eq u z) zero
     ∙ ap (λ (v : Bool). nat_eq (number_of r) (number_of s) && v) (eqb_same z)
 
--- what is found once the part of the sensor r was taken
-pub taken : (q : SensorPart) (parts : List SensorPart) (z : ℕ) → q.zero ≡ z → (r s : Sensor) (b : Bool) → (nat_eq (number_of r) (number_of s) && true) ≡ b → q.sensor ≡ r → part_in (q ∷ parts) s z ≡ cond {A = Option SensorPart} b (Some q) (part_in parts s z)
-taken q parts z zero r s b is sensor = found q parts s z b (is_of q r s z sensor zero ∙ is)
+and_true : (b : Bool) → (b && true) ≡ b
+and_true b = elim b as (λ v. (v && true) ≡ v) [ true ↦ refl | false ↦ refl ]
+
+-- what is found once a part was taken
+taken : (q : SensorPart) (parts : List SensorPart) (z : ℕ) → q.zero ≡ z → (s : Sensor) (b : Bool) → nat_eq (number_of q.sensor) (number_of s) ≡ b → part_in (q ∷ parts) s z ≡ cond {A = Option SensorPart} b (Some q) (part_in parts s z)
+taken q parts z zero s b same = found q parts s z b (is_of q q.sensor s z refl zero ∙ ap (λ v. v && true) same ∙ and_true b)
 
 -- one more part stands in its sensor's place
-pub one-taken : (ps : TakenParts) (parts : List SensorPart) (q : SensorPart) (z : ℕ) → q.zero ≡ z → PartsAre ps parts z → (r : Sensor) → q.sensor ≡ r → PartsAre (with_part_of r q ps) (q ∷ parts) z
-one-taken ps parts q z zero h Along sensor = record { speed = h.speed ∙ sym (taken q parts z zero Along Speed false refl sensor); throttle = h.throttle ∙ sym (taken q parts z zero Along Throttle false refl sensor); brake = h.brake ∙ sym (taken q parts z zero Along Brake false refl sensor); belt = h.belt ∙ sym (taken q parts z zero Along Belt false refl sensor); lamp = h.lamp ∙ sym (taken q parts z zero Along Lamp false refl sensor) }
-one-taken ps parts q z zero h Across sensor = record { speed = h.speed ∙ sym (taken q parts z zero Across Speed false refl sensor); throttle = h.throttle ∙ sym (taken q parts z zero Across Throttle false refl sensor); brake = h.brake ∙ sym (taken q parts z zero Across Brake false refl sensor); belt = h.belt ∙ sym (taken q parts z zero Across Belt false refl sensor); lamp = h.lamp ∙ sym (taken q parts z zero Across Lamp false refl sensor) }
-one-taken ps parts q z zero h Speed sensor = record { speed = sym (taken q parts z zero Speed Speed true refl sensor); throttle = h.throttle ∙ sym (taken q parts z zero Speed Throttle false refl sensor); brake = h.brake ∙ sym (taken q parts z zero Speed Brake false refl sensor); belt = h.belt ∙ sym (taken q parts z zero Speed Belt false refl sensor); lamp = h.lamp ∙ sym (taken q parts z zero Speed Lamp false refl sensor) }
-one-taken ps parts q z zero h Throttle sensor = record { speed = h.speed ∙ sym (taken q parts z zero Throttle Speed false refl sensor); throttle = sym (taken q parts z zero Throttle Throttle true refl sensor); brake = h.brake ∙ sym (taken q parts z zero Throttle Brake false refl sensor); belt = h.belt ∙ sym (taken q parts z zero Throttle Belt false refl sensor); lamp = h.lamp ∙ sym (taken q parts z zero Throttle Lamp false refl sensor) }
-one-taken ps parts q z zero h Brake sensor = record { speed = h.speed ∙ sym (taken q parts z zero Brake Speed false refl sensor); throttle = h.throttle ∙ sym (taken q parts z zero Brake Throttle false refl sensor); brake = sym (taken q parts z zero Brake Brake true refl sensor); belt = h.belt ∙ sym (taken q parts z zero Brake Belt false refl sensor); lamp = h.lamp ∙ sym (taken q parts z zero Brake Lamp false refl sensor) }
-one-taken ps parts q z zero h Belt sensor = record { speed = h.speed ∙ sym (taken q parts z zero Belt Speed false refl sensor); throttle = h.throttle ∙ sym (taken q parts z zero Belt Throttle false refl sensor); brake = h.brake ∙ sym (taken q parts z zero Belt Brake false refl sensor); belt = sym (taken q parts z zero Belt Belt true refl sensor); lamp = h.lamp ∙ sym (taken q parts z zero Belt Lamp false refl sensor) }
-one-taken ps parts q z zero h Lamp sensor = record { speed = h.speed ∙ sym (taken q parts z zero Lamp Speed false refl sensor); throttle = h.throttle ∙ sym (taken q parts z zero Lamp Throttle false refl sensor); brake = h.brake ∙ sym (taken q parts z zero Lamp Brake false refl sensor); belt = h.belt ∙ sym (taken q parts z zero Lamp Belt false refl sensor); lamp = sym (taken q parts z zero Lamp Lamp true refl sensor) }
-one-taken ps parts q z zero h Restraint sensor = record { speed = h.speed ∙ sym (taken q parts z zero Restraint Speed false refl sensor); throttle = h.throttle ∙ sym (taken q parts z zero Restraint Throttle false refl sensor); brake = h.brake ∙ sym (taken q parts z zero Restraint Brake false refl sensor); belt = h.belt ∙ sym (taken q parts z zero Restraint Belt false refl sensor); lamp = h.lamp ∙ sym (taken q parts z zero Restraint Lamp false refl sensor) }
+pub one-taken : (ps : TakenParts) (parts : List SensorPart) (q : SensorPart) (z : ℕ) → q.zero ≡ z → PartsAre ps parts z → PartsAre (with_part q ps) (q ∷ parts) z
+one-taken ps parts q z zero h = record {
+  each = with_slow_value-others (λ s o. o ≡ part_in (q ∷ parts) s z) q.sensor (Some q) ps
+      (sym (taken q parts z zero q.sensor true (eqb_same (number_of q.sensor))))
+      (λ s slow apart. h.each s slow ∙ sym (taken q parts z zero s false apart));
+}
 
 -- ---- all five
 module _ (ps : TakenParts) (parts : List SensorPart) (z : ℕ) (a : AllParts) (h : PartsAre ps parts z) (all : ps ≡ in_places a) where
-  speed_in : part_in parts Speed z ≡ Some a.speed
-  speed_in = sym h.speed ∙ ap (λ (x : TakenParts). x.speed) all
-
-  throttle_in : part_in parts Throttle z ≡ Some a.throttle
-  throttle_in = sym h.throttle ∙ ap (λ (x : TakenParts). x.throttle) all
-
-  brake_in : part_in parts Brake z ≡ Some a.brake
-  brake_in = sym h.brake ∙ ap (λ (x : TakenParts). x.brake) all
-
-  belt_in : part_in parts Belt z ≡ Some a.belt
-  belt_in = sym h.belt ∙ ap (λ (x : TakenParts). x.belt) all
-
-  lamp_in : part_in parts Lamp z ≡ Some a.lamp
-  lamp_in = sym h.lamp ∙ ap (λ (x : TakenParts). x.lamp) all
+  in-parts : EachSlow (λ s. part_in parts s z ≡ Some (slow_at s a))
+  in-parts s slow = sym (h.each s slow) ∙ ap (λ (x : TakenParts). slow_at s x) all ∙ slow_at-map Some s a
 
   pub of-sensors : AreOfTheirSensors a
-  of-sensors = record {
-    speed = (part_in-is parts Speed z a.speed speed_in).0;
-    throttle = (part_in-is parts Throttle z a.throttle throttle_in).0;
-    brake = (part_in-is parts Brake z a.brake brake_in).0;
-    belt = (part_in-is parts Belt z a.belt belt_in).0;
-    lamp = (part_in-is parts Lamp z a.lamp lamp_in).0;
-  }
+  of-sensors = record { each = λ s slow. (part_in-is parts s z (slow_at s a) (in-parts s slow)).0 }
+
+  slots-in : (slots : PartSlots) → AreSlotsOf parts slots → EachSlow (λ s. slots s z ≡ (slow_at s a).slots)
+  slots-in slots are s slow = part_in-slots parts slots s z (slow_at s a) are (in-parts s slow)
 
   -- they make the pre part
   pub pre-made : (f : SensorLists) (n : ℕ) (key : Key) → key ≡ record { cycle = n; zero = z } → IsMadeOf parts (pre_part f n First z) (pre_of a key)
@@ -150,30 +129,24 @@ module _ (ps : TakenParts) (parts : List SensorPart) (z : ℕ) (a : AllParts) (h
     key_is = is;
     place_is = refl;
     made = λ slots are.
-        let b = part_in-slots parts slots Speed z a.speed are speed_in in
-        let d = part_in-slots parts slots Throttle z a.throttle are throttle_in in
-        let e = part_in-slots parts slots Brake z a.brake are brake_in in
-        let g = part_in-slots parts slots Belt z a.belt are belt_in in
-        let k = part_in-slots parts slots Lamp z a.lamp are lamp_in in
+        let is_in = slots-in slots are in
+        let b = speed-slow (λ s. slots s z ≡ (slow_at s a).slots) is_in in
+        let d = throttle-slow (λ s. slots s z ≡ (slow_at s a).slots) is_in in
+        let e = brake-slow (λ s. slots s z ≡ (slow_at s a).slots) is_in in
+        let g = belt-slow (λ s. slots s z ≡ (slow_at s a).slots) is_in in
+        let k = lamp-slow (λ s. slots s z ≡ (slow_at s a).slots) is_in in
         rw (is, b, d, e, g, k) refl;
   }
 
 -- ---- what is missing
-pub missing-is : (h : History) (ps : TakenParts) → PartsAre ps h.parts (h.past.closed + 1) → missing_in ps ≡ missing_part h
-unfolding missing_in missing_part
-missing-is h ps are = let a = are.speed in let b = are.throttle in let d = are.brake in let e = are.belt in let g = are.lamp in rw (a, b, d, e, g) refl
+pub missing-is : (h : History) (ps : TakenParts) → PartsAre ps h.parts (h.past.closed + 1) → first_without ps ≡ missing_part h
+unfolding first_without missing_part
+missing-is h ps are = slow-first (λ s. is_none (slow_at s ps)) (is_missing h) (λ s slow. ap (λ (o : Option SensorPart). is_none o) (are.each s slow))
 
-pub none-missing : (a : AllParts) → missing_in (in_places a) ≡ None
-unfolding missing_in
+pub none-missing : (a : AllParts) → first_without (in_places a) ≡ None
+unfolding first_without
 none-missing a = refl
 
 -- a place is filled where the part was taken
 pub at-taken : (ps : TakenParts) (parts : List SensorPart) (z : ℕ) (s : Sensor) → IsSlow s → PartsAre ps parts z → part_at s ps ≡ part_in parts s z
-at-taken ps parts z Along slow h = let low = slow.0 in absurd (omega (arith, low))
-at-taken ps parts z Across slow h = let low = slow.0 in absurd (omega (arith, low))
-at-taken ps parts z Speed slow h = h.speed
-at-taken ps parts z Throttle slow h = h.throttle
-at-taken ps parts z Brake slow h = h.brake
-at-taken ps parts z Belt slow h = h.belt
-at-taken ps parts z Lamp slow h = h.lamp
-at-taken ps parts z Restraint slow h = let high = slow.1 in absurd (omega (arith, high))
+at-taken ps parts z s slow h = ap (option_and_then (λ (o : Option SensorPart). o)) (slow_value_of-slow ps s slow) ∙ h.each s slow

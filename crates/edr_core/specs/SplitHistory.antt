@@ -2,8 +2,8 @@
 use Rattle.std.specs.Prelude.{ℕ, ◌+◌, Bool, false, if◌then◌else◌, Option, is_none, List, [], ◌∷◌, find}
 use Rattle.std.specs.Option.{option_map_or}
 use Rattle.edr_items.specs.declared.Sensor.{Sensor}
-use Rattle.edr_items.specs.declared.Sensor.TheVariants.{Speed, Throttle, Brake, Belt, Lamp}
 use Rattle.edr_items.specs.declared.Item.{Item}
+use Rattle.edr_items.specs.PerSlowSensor.{slow_sensors}
 use Rattle.edr_items.specs.SensorLists.{no_items}
 use Rattle.edr_definitions.specs.Signals.{signals_of}
 use Rattle.edr_definitions.specs.Change.{tick_change}
@@ -31,10 +31,6 @@ after_item s x h = record h { past = after_step h.past (Give s x) }
 -- one more part
 abbrev pub after_part : SensorPart → History → History
 after_part q h = record h { parts = q ∷ h.parts }
-
--- the sensors that a pre part has parts of, in the order of their numbers
-abbrev pub slow_sensors : List Sensor
-slow_sensors = Speed ∷ Throttle ∷ Brake ∷ Belt ∷ Lamp ∷ []
 
 -- the part of that sensor and of the tick past the closed one wasn't taken
 abbrev pub is_missing : History → Sensor → Bool

@@ -2,8 +2,8 @@
 use Rattle.std.specs.Prelude.{◌≡◌, ℕ, ◌+◌, ◌≤◌, true, false, if◌then◌else◌, Option, Some, None, is_some, List, All}
 use Rattle.edr_items.specs.declared.TheConstants.{LONGEST_GAP}
 use Rattle.edr_items.specs.declared.Sensor.{Sensor}
-use Rattle.edr_items.specs.declared.Sensor.TheVariants.{Speed, Throttle, Brake, Belt, Lamp}
 use Rattle.edr_items.specs.Item.{mark_of}
+use Rattle.edr_items.specs.PerSlowSensor.{EachSlow, slow_at}
 use Rattle.edr_items.specs.SensorLists.{items_of}
 use Rattle.edr_record.specs.Parts.{PrePart}
 use Rattle.edr_definitions.specs.Signals.{signals_of}
@@ -18,7 +18,7 @@ use Rattle.edr_detect.specs.Stages.{told_of}
 use Rattle.edr_detect.specs.Detected.{DetectStandsFor}
 use Rattle.edr_core.specs.declared.candidate.Candidate.{Candidate}
 use Rattle.edr_core.specs.declared.ask.OpenAsk.{OpenAsk}
-use Rattle.edr_core.specs.declared.ask.TakenParts.{TakenParts}
+use Rattle.edr_core.specs.Ask.{TakenParts}
 use Rattle.edr_core.specs.Rows.{RowIs, rows_of}
 use Rattle.edr_core.specs.Parts.{PartSlots, AreSlotsOf, with_parts, part_in}
 use Rattle.edr_core.specs.SplitHistory.{History}
@@ -37,11 +37,7 @@ HoldsCandidateWith parts (Some o) k crash = IsMadeOf parts k.frozen o.pre × (o.
 
 -- the parts of the time zero z are those that were taken
 pub record PartsAre (ps : TakenParts) (taken : List SensorPart) (z : ℕ) : Type 0 where
-  pub speed : ps.speed ≡ part_in taken Speed z
-  pub throttle : ps.throttle ≡ part_in taken Throttle z
-  pub brake : ps.brake ≡ part_in taken Brake z
-  pub belt : ps.belt ≡ part_in taken Belt z
-  pub lamp : ps.lamp ≡ part_in taken Lamp z
+  pub each : EachSlow (λ s. slow_at s ps ≡ part_in taken s z)
 
 -- the next tick is a time zero, and this is what was given of it, what stands there, and its parts as far as they were taken
 pub record AskIs (a : OpenAsk) (h : History) : Type 0 where

@@ -3,7 +3,7 @@
 ghost use Rattle.std.specs.Prelude.{◌≡◌, ◌↔◌, ◌+◌, ◌≤◌, ◌<◌, true, false, Some, None, is_some, IfOk, IfErr, IsOk, IsSome, OnOk, OnErr};
 ghost use Rattle.edr_definitions.specs.Schedule.{Give, IsAllowed};
 
-use crate::ask::{OpenAsk, PartRefused};
+use crate::ask::{OpenAsk, PartRefused, pre_of, put};
 use crate::candidate::{Candidate, Issued, TickRow, grow, issue, passes_by};
 use edr_capture::Part;
 use edr_detect::Detect;
@@ -267,7 +267,7 @@ impl SplitCore {
             zero: tick,
         };
         let change = ask.change;
-        self.candidate = Some(Candidate::begin(parts.pre(key), ask.row));
+        self.candidate = Some(Candidate::begin(pre_of(&parts, key), ask.row));
         self.asking = false;
         self.ask = None;
         self.closed = tick;
@@ -291,7 +291,7 @@ impl SplitCore {
         if part.zero != asked {
             return Err(PartRefused::Zero { asked });
         }
-        ask.parts.put(part)?;
+        put(&mut ask.parts, part)?;
         self.ask = Some(ask);
         Ok(())
     }

@@ -2,7 +2,7 @@ use Rattle.std.proofs.Common.{arith, ap, sym, subst, ◌∙◌, ◌+◌, Some, O
 use Rattle.std.specs.Prelude.{is_some}
 use Rattle.edr_capture.specs.SensorPart.{SensorPart}
 use Rattle.edr_core.specs.declared.ask.OpenAsk.{OpenAsk}
-use Rattle.edr_core.specs.declared.ask.TakenParts.{TakenParts}
+use Rattle.edr_core.specs.Ask.{TakenParts}
 use Rattle.edr_core.specs.SplitHistory.{after_part}
 use Rattle.edr_core.specs.SplitContents.{SplitContents}
 use Rattle.edr_core.specs.SplitFields.{split_contents}
