@@ -1,10 +1,10 @@
 -- Laws of values of the eight sensors.
-use Rattle.std.proofs.Common.{◌≡◌, ◌∙◌, refl, ◌⊎◌, inl, inr, false, nat_eq}
+use Rattle.std.proofs.Common.{arith, ◌≡◌, ◌∙◌, ℕ, ◌+◌, refl, ◌⊎◌, inl, inr, false, nat_eq}
 use Rattle.edr_items.specs.declared.Sensor.{Sensor}
 use Rattle.edr_items.specs.declared.Sensor.TheVariants.{Along, Across, Speed, Throttle, Brake, Belt, Lamp, Restraint}
 use Rattle.edr_items.specs.declared.per_sensor.PerSensor.{PerSensor}
 use Rattle.edr_items.specs.Sensor.{number_of}
-use Rattle.edr_items.specs.PerSensor.{value_of, with_value, each_value, map_values}
+use Rattle.edr_items.specs.PerSensor.{value_of, with_value, each_value, map_values, values_by, total_of}
 
 -- values that are the same for each sensor are the same
 pub values-same : {A : Type 0} (p q : PerSensor A) → ((s : Sensor) → value_of s p ≡ value_of s q) → p ≡ q
@@ -26,9 +26,25 @@ with_value-both P Lamp x y p q here rest Lamp = here
 with_value-both P Restraint x y p q here rest Restraint = here
 with_value-both P s x y p q here rest r = rest r
 
+-- the same of three values
+pub with_value-three : {A B C : Type 0} (P : Sensor → A → B → C → Type 0) (s : Sensor) (x : A) (y : B) (z : C) (p : PerSensor A) (q : PerSensor B) (k : PerSensor C) → P s x y z → ((r : Sensor) → P r (value_of r p) (value_of r q) (value_of r k)) → (r : Sensor) → P r (value_of r (with_value s x p)) (value_of r (with_value s y q)) (value_of r (with_value s z k))
+with_value-three P Along x y z p q k here rest Along = here
+with_value-three P Across x y z p q k here rest Across = here
+with_value-three P Speed x y z p q k here rest Speed = here
+with_value-three P Throttle x y z p q k here rest Throttle = here
+with_value-three P Brake x y z p q k here rest Brake = here
+with_value-three P Belt x y z p q k here rest Belt = here
+with_value-three P Lamp x y z p q k here rest Lamp = here
+with_value-three P Restraint x y z p q k here rest Restraint = here
+with_value-three P s x y z p q k here rest r = rest r
+
 -- the same of one new value and of each old one
 pub with_value-each : {A : Type 0} (P : Sensor → A → Type 0) (s : Sensor) (x : A) (p : PerSensor A) → P s x → ((r : Sensor) → P r (value_of r p)) → (r : Sensor) → P r (value_of r (with_value s x p))
 with_value-each P s x p here rest = with_value-both (λ r x _. P r x) s x x p p here rest
+
+-- each sensor has the value that a function gives for it
+pub value_of-by : {A : Type 0} (h : Sensor → A) (s : Sensor) → value_of s (values_by h) ≡ h s
+value_of-by h s = elim s as (λ t. value_of t (values_by h) ≡ h t) [ Along ↦ refl | Across ↦ refl | Speed ↦ refl | Throttle ↦ refl | Brake ↦ refl | Belt ↦ refl | Lamp ↦ refl | Restraint ↦ refl ]
 
 -- each sensor has the value that all have
 pub value_of-each : {A : Type 0} (x : A) (s : Sensor) → value_of s (each_value x) ≡ x
@@ -82,3 +98,14 @@ one-by-one g p q h =
     let six = with_value Belt q.belt five in
     let seven = with_value Lamp q.lamp six in
     h Along p refl ∙ h Across one refl ∙ h Speed two refl ∙ h Throttle three refl ∙ h Brake four refl ∙ h Belt five refl ∙ h Lamp six refl ∙ h Restraint seven refl
+
+-- a sum with another value
+pub total-with : {A : Type 0} (h : A → ℕ) (s : Sensor) (x : A) (p : PerSensor A) → total_of h (with_value s x p) + h (value_of s p) ≡ total_of h p + h x
+total-with h Along x p = omega arith
+total-with h Across x p = omega arith
+total-with h Speed x p = omega arith
+total-with h Throttle x p = omega arith
+total-with h Brake x p = omega arith
+total-with h Belt x p = omega arith
+total-with h Lamp x p = omega arith
+total-with h Restraint x p = omega arith

@@ -1,6 +1,7 @@
 -- Laws of values of the five slow sensors.
-use Rattle.std.proofs.Common.{arith, refl, ◌≡◌, ◌∙◌, ◌⊎◌, inl, inr, Bool, false, nat_eq, Some, None}
-use Rattle.std.specs.Prelude.{find}
+use Rattle.std.proofs.Common.{arith, refl, ◌≡◌, ◌∙◌, ◌⊎◌, inl, inr, Bool, true, false, not, ◌&&◌, nat_eq, Some, None, List, [], ◌∷◌}
+use Rattle.std.specs.Prelude.{find, All}
+use Rattle.std.proofs.lemmas.List.Elements.{All-nil, All-cons}
 use Rattle.edr_items.specs.declared.Sensor.{Sensor}
 use Rattle.edr_items.specs.declared.Sensor.TheVariants.{Along, Across, Speed, Throttle, Brake, Belt, Lamp, Restraint}
 use Rattle.edr_items.specs.declared.per_sensor.PerSensor.{PerSensor}
@@ -47,6 +48,47 @@ belt-slow P h = h Belt (omega arith, omega arith)
 
 pub lamp-slow : (P : Sensor → Type 0) → EachSlow P → P Lamp
 lamp-slow P h = h Lamp (omega arith, omega arith)
+
+-- what holds of each holds of all in the list, and back; no two of these are the same
+pub slow-listed : (P : Sensor → Type 0) → EachSlow P → All P slow_sensors
+slow-listed P h =
+    All-cons P Speed (Throttle ∷ Brake ∷ Belt ∷ Lamp ∷ []) (speed-slow P h)
+    (All-cons P Throttle (Brake ∷ Belt ∷ Lamp ∷ []) (throttle-slow P h)
+    (All-cons P Brake (Belt ∷ Lamp ∷ []) (brake-slow P h)
+    (All-cons P Belt (Lamp ∷ []) (belt-slow P h)
+    (All-cons P Lamp [] (lamp-slow P h) (All-nil P)))))
+
+pub listed-slow : (P : Sensor → Type 0) → All P slow_sensors → EachSlow P
+listed-slow P h = each-slow P (h 0 Speed (omega arith)) (h 1 Speed (omega arith)) (h 2 Speed (omega arith)) (h 3 Speed (omega arith)) (h 4 Speed (omega arith))
+
+abbrev pub AreApart : List Sensor → Type 0
+AreApart [] = Unit {0}
+AreApart (s ∷ ss) = All (λ r. nat_eq (number_of s) (number_of r) ≡ false) ss × AreApart ss
+
+abbrev is_apart : Sensor → List Sensor → Bool
+is_apart s [] = true
+is_apart s (r ∷ rs) = not (nat_eq (number_of s) (number_of r)) && is_apart s rs
+
+apart-all : (s : Sensor) (ss : List Sensor) → is_apart s ss ≡ true → All (λ r. nat_eq (number_of s) (number_of r) ≡ false) ss
+apart-all s [] h = All-nil (λ r. nat_eq (number_of s) (number_of r) ≡ false)
+apart-all s (r ∷ rs) h = by (nat_eq (number_of s) (number_of r)) refl (apart-all s rs) h where
+  by : (b : Bool) → nat_eq (number_of s) (number_of r) ≡ b → (is_apart s rs ≡ true → All (λ q. nat_eq (number_of s) (number_of q) ≡ false) rs) → (not b && is_apart s rs) ≡ true → All (λ q. nat_eq (number_of s) (number_of q) ≡ false) (r ∷ rs)
+  by true is rest e = cc
+  by false is rest e = All-cons (λ q. nat_eq (number_of s) (number_of q) ≡ false) r rs is (rest e)
+
+abbrev all_apart : List Sensor → Bool
+all_apart [] = true
+all_apart (s ∷ ss) = is_apart s ss && all_apart ss
+
+are-apart : (ss : List Sensor) → all_apart ss ≡ true → AreApart ss
+are-apart [] h = tt
+are-apart (s ∷ ss) h = by (is_apart s ss) refl (are-apart ss) h where
+  by : (b : Bool) → is_apart s ss ≡ b → (all_apart ss ≡ true → AreApart ss) → (b && all_apart ss) ≡ true → AreApart (s ∷ ss)
+  by true is rest e = (apart-all s ss is, rest e)
+  by false is rest e = cc
+
+pub slow-apart : AreApart slow_sensors
+slow-apart = are-apart slow_sensors refl
 
 -- the first of which something holds
 pub slow-first : (f g : Sensor → Bool) → EachSlow (λ s. f s ≡ g s) → find f slow_sensors ≡ find g slow_sensors
@@ -173,6 +215,10 @@ with_slow_value-beside P s x y p q here rest r slow = beside s r here (rest r sl
 -- what was replaced leaves no trace
 pub with_slow_value-again : {A : Type 0} (s : Sensor) (x y : A) (p : PerSlowSensor A) → with_slow_value s x (with_slow_value s y p) ≡ with_slow_value s x p
 with_slow_value-again s x y p = elim s as (λ t. with_slow_value t x (with_slow_value t y p) ≡ with_slow_value t x p) [ Along ↦ refl | Across ↦ refl | Speed ↦ refl | Throttle ↦ refl | Brake ↦ refl | Belt ↦ refl | Lamp ↦ refl | Restraint ↦ refl ]
+
+-- among those of all eight it is another value of the same sensor, or nothing
+pub with_slow_values-with : {A : Type 0} (s : Sensor) (e x : A) (p : PerSlowSensor A) → with_slow_values e (with_slow_value s x p) ≡ with_value s (value_of s (with_slow_values e (with_slow_value s x p))) (with_slow_values e p)
+with_slow_values-with s e x p = elim s as (λ t. with_slow_values e (with_slow_value t x p) ≡ with_value t (value_of t (with_slow_values e (with_slow_value t x p))) (with_slow_values e p)) [ Along ↦ refl | Across ↦ refl | Speed ↦ refl | Throttle ↦ refl | Brake ↦ refl | Belt ↦ refl | Lamp ↦ refl | Restraint ↦ refl ]
 
 -- a value that is replaced by itself
 pub with_slow_value-same : {A : Type 0} (s : Sensor) (p : PerSlowSensor A) → with_slow_value s (slow_at s p) p ≡ p

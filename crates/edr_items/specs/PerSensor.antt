@@ -1,4 +1,5 @@
 -- One value for each of the eight sensors.
+use Rattle.std.specs.Prelude.{ℕ, ◌+◌}
 use Rattle.edr_items.specs.declared.Sensor.{Sensor}
 use Rattle.edr_items.specs.declared.Sensor.TheVariants.{Along, Across, Speed, Throttle, Brake, Belt, Lamp, Restraint}
 use Rattle.edr_items.specs.declared.per_sensor.PerSensor.{PerSensor}
@@ -54,3 +55,9 @@ values_by h = record {
   lamp = h Lamp;
   restraint = h Restraint;
 }
+
+-- the sum of a number of each value
+abbrev pub total_of : {A : Type 0} → (A → ℕ) → PerSensor A → ℕ
+total_of h p =
+    h p.along + h p.across + h p.speed + h p.throttle
+    + (h p.brake + h p.belt + h p.lamp + h p.restraint)
