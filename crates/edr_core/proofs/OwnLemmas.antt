@@ -2,19 +2,21 @@
 use Rattle.std.proofs.Common.{arith, refl, ap, sym, subst, ◌≡◌, ◌∙◌, ℕ, ◌+◌, ◌<◌, ◌≤◌, Bool, true, false, cond, not, nat_eq, Some, None, Option, Ok, Err, List, [], ◌∷◌, ◌++◌, map, get_or, ◌↔◌}
 use Rattle.std.specs.Prelude.{is_some, IsSome, IsOk, OnOk, All, Result}
 use Rattle.std.specs.Option.{option_map_or}
-use Rattle.std.proofs.lemmas.List.Elements.{All-nil, All-cons}
+use Rattle.std.proofs.lemmas.List.Elements.{All-nil, All-cons, All-head, All-tail}
 use Rattle.edr_items.specs.declared.Sensor.{Sensor}
-use Rattle.edr_items.specs.declared.Sensor.TheVariants.{Speed, Throttle, Brake, Belt, Lamp}
 use Rattle.edr_items.specs.declared.Item.{Item}
-use Rattle.edr_items.specs.Item.{mark_of, IsFeed}
+use Rattle.edr_items.specs.Item.{mark_of}
+use Rattle.edr_items.specs.Sensor.{IsSlow}
+use Rattle.edr_items.specs.PerSlowSensor.{slow_sensors, slow_at}
 use Rattle.edr_items.specs.SensorLists.{SensorLists, no_items, items_of}
+use Rattle.edr_items.proofs.PerSlowSensorLemmas.{AreApart, slow-apart, each-slow, value_of-slow}
 use Rattle.edr_record.specs.declared.Command.{Command}
 use Rattle.edr_definitions.specs.Commands.{issue_at, issues, commands}
 use Rattle.edr_definitions.specs.Schedule.{Progress, Give, Close, IsAllowed, after_step, with_item}
 use Rattle.edr_definitions.proofs.KeepLaws.{accepted-later}
 use Rattle.edr_definitions.proofs.MarkLaws.{with_items-each, AreFeeds-each}
 use Rattle.edr_capture.specs.Capture.{CaptureStandsFor}
-use Rattle.edr_capture.specs.SensorPart.{SensorPart, part, part_slots}
+use Rattle.edr_capture.specs.SensorPart.{SensorPart, IsOfSensor, part, part_slots}
 use Rattle.edr_capture.proofs.PartLemmas.{part-later}
 use Rattle.edr_merge.specs.Answers.{waited_for}
 use Rattle.edr_merge.proofs.StandsLemmas.{first_at-is, row-allowed, waiting-not_allowed}
@@ -24,7 +26,7 @@ use Rattle.edr_core.specs.declared.candidate.Issued.{Issued}
 use Rattle.edr_core.specs.declared.split.SplitClosing.{SplitClosing}
 use Rattle.edr_core.specs.declared.split.SplitClosing.TheVariants.{Waiting, Ask, Parts, Closed}
 use Rattle.edr_core.specs.declared.captures.Captures.{Captures}
-use Rattle.edr_core.specs.Captures.{no_captures, with_kept, IsLater, CapturesStandFor}
+use Rattle.edr_core.specs.Captures.{no_captures, kept_lists, with_kept, IsLater, CapturesStandFor}
 use Rattle.edr_core.specs.Contents.{CoreContents}
 use Rattle.edr_core.specs.StandsFor.{CoreIsFor}
 use Rattle.edr_core.specs.Parts.{AreSlotsOf, parts_of, part_in, commands_with, issues_with, HaveTheFastItems}
@@ -32,11 +34,11 @@ use Rattle.edr_core.specs.SplitHistory.{History, start_of, after_item, after_par
 use Rattle.edr_core.specs.SplitContents.{SplitContents}
 use Rattle.edr_core.specs.SplitStandsFor.{HoldsAsk, SplitCoreStandsFor}
 use Rattle.edr_core.specs.SplitAnswers.{answer_of, split_step_of, part_refusal_of}
-use Rattle.edr_core.specs.OwnParts.{resting, own_parts, with_own_parts, AsksFor}
+use Rattle.edr_core.specs.OwnParts.{resting, parts_after, own_parts, with_own_parts, AsksFor}
 use Rattle.edr_core.specs.declared.ask.OpenAsk.{OpenAsk as OpenAsk}
-use Rattle.edr_core.proofs.TakenLemmas.{part_in-early, eqb_same}
+use Rattle.edr_core.proofs.TakenLemmas.{part_in-early, eqb_same, taken}
 use Rattle.edr_core.proofs.GiveLemmas.{feeds-of}
-use Rattle.edr_core.proofs.CaptureLemmas.{mark-kept, captures-push, later-accepted}
+use Rattle.edr_core.proofs.CaptureLemmas.{mark-kept, range-kept, captures-push, later-accepted}
 use Rattle.edr_core.proofs.PartsLaws.{commands-with, issues-with}
 
 -- ---- the five parts are taken
@@ -72,76 +74,56 @@ part-taken r a b q own same ok allowed =
     subst (λ x. Takes a b x) same
     (λ v stands none. taken-by r ((u : History) → SplitCoreStandsFor a u → SplitCoreStandsFor b (after_part q u)) (part_refusal_of q v ≡ None) (allowed v stands) none ok v stands)
 
--- so the five are, one after the other
-module _ (c0 c1 c2 c3 c4 c5 : SplitContents) (captures : Captures) (w : History) (z : ℕ) (h : AsksFor c0 captures w z) where
-  abbrev f : SensorLists
-  f = w.past.given
+-- these sensors' parts of the next tick are still to be taken, and then the five are
+pub record AreToTake (c : SplitContents) (w : History) (rest : List Sensor) : Type 0 where
+  pub parts : List SensorPart
+  pub stands : SplitCoreStandsFor c (record w { parts = parts })
+  pub lead : parts_after rest w.past.given (w.past.closed + 1) parts ≡ own_parts w.past.given (w.past.closed + 1) w.parts
+  pub missing : All (λ s. part_in parts s (w.past.closed + 1) ≡ None) rest
+  pub apart : AreApart rest
 
-  abbrev t : ℕ
-  t = w.past.closed + 1
+pub all-to-take : (c : SplitContents) (captures : Captures) (w : History) (z : ℕ) → AsksFor c captures w z → AreToTake c w slow_sensors
+all-to-take c captures w z h = record {
+  parts = w.parts;
+  stands = h.stands;
+  lead = refl;
+  missing = λ k d lt. part_in-early w.parts (get_or slow_sensors k d) (w.past.closed + 1) w.past.closed (omega arith) h.before;
+  apart = slow-apart;
+}
 
-  abbrev ones : List SensorPart
-  ones = part Speed f.speed t ∷ w.parts
+pub next-taken : (c c' : SplitContents) (w : History) (s : Sensor) (rest : List Sensor) → w.asking ≡ true → Takes c c' (part s (items_of s w.past.given) (w.past.closed + 1)) → AreToTake c w (s ∷ rest) → AreToTake c' w rest
+next-taken c c' w s rest asking takes h =
+    let t = w.past.closed + 1 in
+    let q = part s (items_of s w.past.given) t in
+    let v : History = record w { parts = h.parts } in
+    record {
+      parts = q ∷ h.parts;
+      stands = takes v h.stands (refused-not q v asking refl (All-head (λ r. part_in h.parts r t ≡ None) s rest h.missing));
+      lead = h.lead;
+      missing = λ k d lt. taken q h.parts t refl (get_or rest k d) false (h.apart.0 k d lt) ∙ All-tail (λ r. part_in h.parts r t ≡ None) s rest h.missing k d lt;
+      apart = h.apart.1;
+    }
 
-  abbrev twos : List SensorPart
-  twos = part Throttle f.throttle t ∷ ones
+pub none-to-take : (c : SplitContents) (w : History) → AreToTake c w [] → SplitCoreStandsFor c (with_own_parts w)
+none-to-take c w h = subst (λ (parts : List SensorPart). SplitCoreStandsFor c (record w { parts = parts })) h.lead h.stands
 
-  abbrev threes : List SensorPart
-  threes = part Brake f.brake t ∷ twos
+-- what a capture is asked for
+module _ (c : SplitContents) (captures : Captures) (w : History) (z : ℕ) (h : AsksFor c captures w z) (s : Sensor) (slow : IsSlow s) where
+  pub kept-range : All (IsOfSensor s) (items_of s (kept_lists captures))
+  kept-range =
+      subst (λ (xs : List Item). All (IsOfSensor s) xs) (sym (value_of-slow [] captures.kept s slow))
+      (range-kept s (slow_at s captures.kept) (items_of s w.past.given) (AreFeeds-each w.past.given (feeds-of c w h.stands) s) (h.captures_are.each s slow))
 
-  abbrev fours : List SensorPart
-  fours = part Belt f.belt t ∷ threes
-
-  none-of : (s : Sensor) → part_in w.parts s t ≡ None
-  none-of s = part_in-early w.parts s t w.past.closed (omega arith) h.before
-
-  none-two : part_in ones Throttle t ≡ None
-  unfolding part_in
-  none-two = none-of Throttle
-
-  none-three : part_in twos Brake t ≡ None
-  unfolding part_in
-  none-three = none-of Brake
-
-  none-four : part_in threes Belt t ≡ None
-  unfolding part_in
-  none-four = none-of Belt
-
-  none-five : part_in fours Lamp t ≡ None
-  unfolding part_in
-  none-five = none-of Lamp
-
-  pub five-taken : Takes c0 c1 (part Speed f.speed z) → Takes c1 c2 (part Throttle f.throttle z) → Takes c2 c3 (part Brake f.brake z) → Takes c3 c4 (part Belt f.belt z) → Takes c4 c5 (part Lamp f.lamp z) → SplitCoreStandsFor c5 (with_own_parts w)
-  five-taken one two three four five =
+  pub kept-near : mark_of (items_of s (kept_lists captures)) ≤ z + 1000
+  kept-near =
+      let low = mark-kept s (slow_at s captures.kept) (items_of s w.past.given) (AreFeeds-each w.past.given (feeds-of c w h.stands) s) (h.captures_are.each s slow) in
+      let same = ap (λ (xs : List Item). mark_of xs) (value_of-slow [] captures.kept s slow) in
+      let near = h.stands.near s in
       let is = h.zero_is in
-      let a = subst (λ u. Takes c0 c1 (part Speed f.speed u)) is one w h.stands (refused-not (part Speed f.speed t) w h.asking refl (none-of Speed)) in
-      let wa : History = record w { parts = ones } in
-      let b = subst (λ u. Takes c1 c2 (part Throttle f.throttle u)) is two wa a (refused-not (part Throttle f.throttle t) wa h.asking refl none-two) in
-      let wb : History = record w { parts = twos } in
-      let d = subst (λ u. Takes c2 c3 (part Brake f.brake u)) is three wb b (refused-not (part Brake f.brake t) wb h.asking refl none-three) in
-      let wd : History = record w { parts = threes } in
-      let e = subst (λ u. Takes c3 c4 (part Belt f.belt u)) is four wd d (refused-not (part Belt f.belt t) wd h.asking refl none-four) in
-      let we : History = record w { parts = fours } in
-      subst (λ u. Takes c4 c5 (part Lamp f.lamp u)) is five we e (refused-not (part Lamp f.lamp t) we h.asking refl none-five)
+      omega (arith, low, same, near, is)
 
-  -- what the captures are asked for
-  near-of : (s : Sensor) (kept given : List Item) → IsFeed s given → CaptureStandsFor kept given → mark_of given ≤ w.past.closed + 1000 → mark_of kept ≤ z + 1000
-  near-of s kept given feed stands near = let low = mark-kept s kept given feed stands in let is = h.zero_is in omega (arith, low, near, is)
-
-  pub speed-near : mark_of captures.speed ≤ z + 1000
-  speed-near = near-of Speed captures.speed f.speed (feeds-of c0 w h.stands).speed h.captures_are.speed (h.stands.near Speed)
-
-  pub throttle-near : mark_of captures.throttle ≤ z + 1000
-  throttle-near = near-of Throttle captures.throttle f.throttle (feeds-of c0 w h.stands).throttle h.captures_are.throttle (h.stands.near Throttle)
-
-  pub brake-near : mark_of captures.brake ≤ z + 1000
-  brake-near = near-of Brake captures.brake f.brake (feeds-of c0 w h.stands).brake h.captures_are.brake (h.stands.near Brake)
-
-  pub belt-near : mark_of captures.belt ≤ z + 1000
-  belt-near = near-of Belt captures.belt f.belt (feeds-of c0 w h.stands).belt h.captures_are.belt (h.stands.near Belt)
-
-  pub lamp-near : mark_of captures.lamp ≤ z + 1000
-  lamp-near = near-of Lamp captures.lamp f.lamp (feeds-of c0 w h.stands).lamp h.captures_are.lamp (h.stands.near Lamp)
+  pub kept-stands : CaptureStandsFor (items_of s (kept_lists captures)) (items_of s w.past.given)
+  kept-stands = subst (λ (xs : List Item). CaptureStandsFor xs (items_of s w.past.given)) (sym (value_of-slow [] captures.kept s slow)) (h.captures_are.each s slow)
 
 -- the lists that differ in items of a sensor past a tick have the same parts up to there
 parts-push : (s : Sensor) (x : Item) (f : SensorLists) (z : ℕ) → z < x.moment → (r : Sensor) → parts_of (with_item s x f) r z ≡ parts_of f r z
@@ -156,18 +138,10 @@ own-later s x f t parts late early are = λ k d lt. one (get_or parts k d) (earl
   one q low is = parts-push s x f q.zero (omega (arith, low, late)) q.sensor ∙ is
 
 pub own-are : (f : SensorLists) (z : ℕ) (parts : List SensorPart) → AreSlotsOf parts (parts_of f) → AreSlotsOf (own_parts f z parts) (parts_of f)
-own-are f z parts are =
-    let P = λ (q : SensorPart). parts_of f q.sensor q.zero ≡ q.slots in
-    let speed = part Speed f.speed z in
-    let throttle = part Throttle f.throttle z in
-    let brake = part Brake f.brake z in
-    let belt = part Belt f.belt z in
-    let lamp = part Lamp f.lamp z in
-    All-cons P lamp (belt ∷ brake ∷ throttle ∷ speed ∷ parts) refl
-    (All-cons P belt (brake ∷ throttle ∷ speed ∷ parts) refl
-    (All-cons P brake (throttle ∷ speed ∷ parts) refl
-    (All-cons P throttle (speed ∷ parts) refl
-    (All-cons P speed parts refl are))))
+own-are f z parts are = after slow_sensors parts are where
+  after : (ss : List Sensor) (ps : List SensorPart) → AreSlotsOf ps (parts_of f) → AreSlotsOf (parts_after ss f z ps) (parts_of f)
+  after [] ps h = h
+  after (s ∷ ss) ps h = after ss (part s (items_of s f) z ∷ ps) (All-cons (λ q. parts_of f q.sensor q.zero ≡ q.slots) (part s (items_of s f) z) ps refl h)
 
 -- then none is missing
 pub none-missing-own : (w : History) → missing_part (with_own_parts w) ≡ None
@@ -186,7 +160,7 @@ core-starts n c k from to split captures =
       parts = [];
       split_is = split;
       parts_are = All-nil (λ q. parts_of no_items q.sensor q.zero ≡ q.slots);
-      captures_are = subst (λ (y : Captures). CapturesStandFor y no_items) (sym captures) (record { speed = empty; throttle = empty; brake = empty; belt = empty; lamp = empty });
+      captures_are = subst (λ (y : Captures). CapturesStandFor y no_items) (sym captures) (record { each = each-slow (λ s. CaptureStandsFor (slow_at s no_captures.kept) (items_of s no_items)) empty empty empty empty empty });
     }
 
 -- the captures can take an item that is allowed

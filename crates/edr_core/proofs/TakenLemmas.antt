@@ -100,7 +100,7 @@ and_true : (b : Bool) → (b && true) ≡ b
 and_true b = elim b as (λ v. (v && true) ≡ v) [ true ↦ refl | false ↦ refl ]
 
 -- what is found once a part was taken
-taken : (q : SensorPart) (parts : List SensorPart) (z : ℕ) → q.zero ≡ z → (s : Sensor) (b : Bool) → nat_eq (number_of q.sensor) (number_of s) ≡ b → part_in (q ∷ parts) s z ≡ cond {A = Option SensorPart} b (Some q) (part_in parts s z)
+pub taken : (q : SensorPart) (parts : List SensorPart) (z : ℕ) → q.zero ≡ z → (s : Sensor) (b : Bool) → nat_eq (number_of q.sensor) (number_of s) ≡ b → part_in (q ∷ parts) s z ≡ cond {A = Option SensorPart} b (Some q) (part_in parts s z)
 taken q parts z zero s b same = found q parts s z b (is_of q q.sensor s z refl zero ∙ ap (λ v. v && true) same ∙ and_true b)
 
 -- one more part stands in its sensor's place

@@ -1,7 +1,8 @@
 -- The parts that a core has of its own for the time zeros that it comes to.
-use Rattle.std.specs.Prelude.{◌≡◌, ℕ, ◌+◌, ◌≤◌, true, false, List, ◌∷◌, All}
-use Rattle.edr_items.specs.declared.Sensor.TheVariants.{Speed, Throttle, Brake, Belt, Lamp}
-use Rattle.edr_items.specs.SensorLists.{SensorLists}
+use Rattle.std.specs.Prelude.{◌≡◌, ℕ, ◌+◌, ◌≤◌, true, false, List, [], ◌∷◌, All}
+use Rattle.edr_items.specs.declared.Sensor.{Sensor}
+use Rattle.edr_items.specs.PerSlowSensor.{slow_sensors}
+use Rattle.edr_items.specs.SensorLists.{SensorLists, items_of}
 use Rattle.edr_definitions.specs.Schedule.{Progress}
 use Rattle.edr_capture.specs.SensorPart.{SensorPart, part}
 use Rattle.edr_core.specs.declared.captures.Captures.{Captures}
@@ -14,9 +15,14 @@ use Rattle.edr_core.specs.SplitStandsFor.{SplitCoreStandsFor}
 abbrev pub resting : ℕ → Progress → List SensorPart → History
 resting n p parts = record { cycle = n; past = p; asking = false; parts = parts }
 
--- the five parts of the time zero z that the lists give, before those that were taken
+-- the parts of these sensors and of the time zero z that the lists give, once they are taken one after the other
+abbrev pub parts_after : List Sensor → SensorLists → ℕ → List SensorPart → List SensorPart
+parts_after [] f z parts = parts
+parts_after (s ∷ ss) f z parts = parts_after ss f z (part s (items_of s f) z ∷ parts)
+
+-- the five parts
 abbrev pub own_parts : SensorLists → ℕ → List SensorPart → List SensorPart
-own_parts f z parts = part Lamp f.lamp z ∷ part Belt f.belt z ∷ part Brake f.brake z ∷ part Throttle f.throttle z ∷ part Speed f.speed z ∷ parts
+own_parts f z parts = parts_after slow_sensors f z parts
 
 -- they were taken of the tick past the closed one
 abbrev pub with_own_parts : History → History

@@ -9,17 +9,13 @@ ghost use Rattle.edr_items.specs.SensorLists.{items_of};
 
 use crate::split::SplitCore;
 use edr_capture::{Capture, Part};
-use edr_items::{Item, Sensor};
+use edr_items::{Item, PerSlowSensor, SLOW_SENSORS, Sensor};
 use std::alloc::{AllocError as OutOfMemory, Global};
 
 /// What the five slow sensors gave, as far as a part can look back.
 #[derive(Drop)]
 pub struct Captures {
-    pub speed: Capture,
-    pub throttle: Capture,
-    pub brake: Capture,
-    pub belt: Capture,
-    pub lamp: Capture,
+    pub kept: PerSlowSensor<Capture>,
 }
 
 impl Captures {
@@ -35,11 +31,9 @@ impl Captures {
         ensures { IfOk result (λ c. c ≡ no_captures) }
     {
         Ok(Captures {
-            speed: Capture::new(alloc)?,
-            throttle: Capture::new(alloc)?,
-            brake: Capture::new(alloc)?,
-            belt: Capture::new(alloc)?,
-            lamp: Capture::new(alloc)?,
+            kept: PerSlowSensor::try_from_fn(|_: Sensor| -> Result<Capture, OutOfMemory> {
+                Capture::new(alloc)
+            })?,
         })
     }
 
@@ -48,13 +42,8 @@ impl Captures {
         requires later { IsLater sensor item self.old }
         ensures { self.new ≡ with_kept sensor item self.old }
     {
-        match sensor {
-            Sensor::Speed => self.speed.push(item),
-            Sensor::Throttle => self.throttle.push(item),
-            Sensor::Brake => self.brake.push(item),
-            Sensor::Belt => self.belt.push(item),
-            Sensor::Lamp => self.lamp.push(item),
-            _ => {}
+        if let Some(capture) = self.kept.of_mut(sensor) {
+            capture.push(item);
         }
     }
 
@@ -68,13 +57,9 @@ impl Captures {
         // The same of all items of the sensor, though the oldest of them are not kept.
         ensures definition { (given : List Item) → CaptureStandsFor (items_of sensor (kept_lists self.now)) given → result ≡ part sensor given zero }
     {
-        match sensor {
-            Sensor::Speed => self.speed.part(sensor, zero),
-            Sensor::Throttle => self.throttle.part(sensor, zero),
-            Sensor::Brake => self.brake.part(sensor, zero),
-            Sensor::Belt => self.belt.part(sensor, zero),
-            Sensor::Lamp => self.lamp.part(sensor, zero),
-            Sensor::Along | Sensor::Across | Sensor::Restraint => unreachable!(),
+        match self.kept.of(sensor) {
+            Some(capture) => capture.part(sensor, zero),
+            None => unreachable!(),
         }
     }
 
@@ -86,10 +71,8 @@ impl Captures {
         ensures { (h : History) → AsksFor split.old self.now h zero → SplitCoreStandsFor split.new (with_own_parts h) }
     {
         // It takes each: they are of its time zero, and it took none of them.
-        let _ = split.part(self.speed.part(Sensor::Speed, zero));
-        let _ = split.part(self.throttle.part(Sensor::Throttle, zero));
-        let _ = split.part(self.brake.part(Sensor::Brake, zero));
-        let _ = split.part(self.belt.part(Sensor::Belt, zero));
-        let _ = split.part(self.lamp.part(Sensor::Lamp, zero));
+        for sensor in SLOW_SENSORS {
+            let _ = split.part(self.part(sensor, zero));
+        }
     }
 }

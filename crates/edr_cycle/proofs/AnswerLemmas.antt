@@ -1,16 +1,18 @@
 -- The parts that a split core asks for, given from captures, and the ticks that it closes.
-use Rattle.std.proofs.Common.{arith, refl, ap, sym, subst, ◌≡◌, ◌∙◌, ℕ, ◌+◌, ◌<◌, ◌≤◌, Bool, true, false, cond, ◌&&◌, Some, None, Option, Ok, Err, Result, List, [], ◌∷◌, ◌++◌, map, append-nil}
+use Rattle.std.proofs.Common.{arith, refl, ap, sym, subst, ◌≡◌, ◌∙◌, ℕ, ◌+◌, ◌<◌, ◌≤◌, Bool, true, false, cond, nat_eq, Some, None, Option, Ok, Err, Result, List, [], ◌∷◌, ◌++◌, map, append-nil}
 use Rattle.std.specs.Prelude.{is_some, is_none, IsSome, OnOk, OnErr, IfErr, All, find}
 use Rattle.std.specs.Option.{option_map_or}
 use Rattle.std.proofs.lemmas.Bool.{eqb-true}
 use Rattle.std.proofs.lemmas.List.Elements.{All-cons}
 use Rattle.edr_items.specs.declared.TheConstants.{LONGEST_GAP}
 use Rattle.edr_items.specs.declared.Sensor.{Sensor}
-use Rattle.edr_items.specs.declared.Sensor.TheVariants.{Along, Across, Speed, Throttle, Brake, Belt, Lamp, Restraint}
+use Rattle.edr_items.specs.declared.Sensor.TheVariants.{Along, Across, Restraint}
 use Rattle.edr_items.specs.declared.Item.{Item}
 use Rattle.edr_items.specs.Sensor.{number_of, IsSlow}
 use Rattle.edr_items.specs.Item.{mark_of, IsFeed}
+use Rattle.edr_items.specs.PerSlowSensor.{EachSlow}
 use Rattle.edr_items.specs.SensorLists.{SensorLists, items_of, horizon_of, sensors}
+use Rattle.edr_items.proofs.PerSlowSensorLemmas.{slow-first}
 use Rattle.edr_record.specs.declared.Command.{Command}
 use Rattle.edr_record.specs.declared.Command.TheVariants.{Take, Lock, Done}
 use Rattle.edr_definitions.specs.Commands.{Issue, issue_at, issues}
@@ -40,7 +42,7 @@ use Rattle.edr_core.proofs.TakenLemmas.{eqb_same, taken}
 use Rattle.edr_run.proofs.IssueLemmas.{issues-under_way}
 use Rattle.edr_cycle.specs.declared.remaining.Remaining.{Remaining}
 use Rattle.edr_cycle.specs.Remaining.{IsRest, RemainsAt, HasNext, IsOpenAt, IsAsked, SameAsk, IsTakenOf, AnswerLeads}
-use Rattle.edr_cycle.proofs.RestLemmas.{feed-front, whole-feed, stands-of}
+use Rattle.edr_cycle.proofs.RestLemmas.{feed-front, whole-feed}
 
 -- ---- one part
 some-more : (q : SensorPart) (parts : List SensorPart) (r : Sensor) (z : ℕ) → IsSome (part_in parts r z) → IsSome (part_in (q ∷ parts) r z)
@@ -51,7 +53,7 @@ some-more q parts r z has = by (is_part_of r z q) has where
   by false has = has
 
 some-own : (q : SensorPart) (parts : List SensorPart) (s : Sensor) (z : ℕ) → q.sensor ≡ s → q.zero ≡ z → IsSome (part_in (q ∷ parts) s z)
-some-own q parts s z sensor zero = ap (λ (o : Option SensorPart). is_some o) (taken q parts z zero s s true (ap (λ b. b && true) (eqb_same (number_of s))) sensor)
+some-own q parts s z sensor zero = ap (λ (o : Option SensorPart). is_some o) (taken q parts z zero s true (ap (λ (r : Sensor). nat_eq (number_of r) (number_of s)) sensor ∙ eqb_same (number_of s)))
 
 -- a part of the time zero that is refused was taken before
 refused-twice : (q : SensorPart) (w : History) (e : PartRefused) → w.asking ≡ true → q.zero ≡ w.past.closed + 1 → part_refusal_of q w ≡ Some e → IsSome (part_in w.parts q.sensor (w.past.closed + 1))
@@ -71,7 +73,7 @@ module _ (lists : SensorLists) (n : ℕ) (h : History) (c : SplitContents) (rest
   kept = items_of s (kept_lists rest.captures)
 
   pub kept-stands : CaptureStandsFor kept done
-  kept-stands = stands-of s done (items_of s h.past.given) kept slow (at.rests s).keeps
+  kept-stands = (at.rests s).keeps.slow slow
 
   done-feed : IsFeed s done
   done-feed = feed-front s 0 done (items_of s rest.left) (whole-feed lists n h c rest s at)
@@ -140,30 +142,12 @@ some-none : (o : Option SensorPart) → IsSome o → is_none o ≡ false
 some-none None has = cc
 some-none (Some x) has = refl
 
-missing-none : (h : History) → ((s : Sensor) → IsSlow s → is_missing h s ≡ false) → missing_part h ≡ None
+missing-none : (h : History) → EachSlow (λ s. is_missing h s ≡ false) → missing_part h ≡ None
 unfolding missing_part
-missing-none h all =
-    let a = all Speed (omega arith, omega arith) in
-    let b = all Throttle (omega arith, omega arith) in
-    let d = all Brake (omega arith, omega arith) in
-    let e = all Belt (omega arith, omega arith) in
-    let g = all Lamp (omega arith, omega arith) in
-    rw (a, b, d, e, g) refl
+missing-none h all = slow-first (is_missing h) (λ _. false) all
 
-pub five-taken : (z : ℕ) (h0 h1 h2 h3 h4 h5 : History) → z ≡ h5.past.closed + 1 → IsTakenOf Speed z h0 h1 → IsTakenOf Throttle z h1 h2 → IsTakenOf Brake z h2 h3 → IsTakenOf Belt z h3 h4 → IsTakenOf Lamp z h4 h5 → missing_part h5 ≡ None
-five-taken z h0 h1 h2 h3 h4 h5 zero a b d e g = missing-none h5 all where
-  has : (s : Sensor) → IsSlow s → IsSome (part_in h5.parts s z)
-  has Along slow = let low = slow.0 in absurd (omega (arith, low))
-  has Across slow = let low = slow.0 in absurd (omega (arith, low))
-  has Speed slow = g.others Speed (e.others Speed (d.others Speed (b.others Speed a.taken)))
-  has Throttle slow = g.others Throttle (e.others Throttle (d.others Throttle b.taken))
-  has Brake slow = g.others Brake (e.others Brake d.taken)
-  has Belt slow = g.others Belt e.taken
-  has Lamp slow = g.taken
-  has Restraint slow = let high = slow.1 in absurd (omega (arith, high))
-
-  all : (s : Sensor) → IsSlow s → is_missing h5 s ≡ false
-  all s slow = some-none (part_in h5.parts s (h5.past.closed + 1)) (subst (λ (u : ℕ). IsSome (part_in h5.parts s u)) zero (has s slow))
+pub all-taken : (z : ℕ) (h : History) → z ≡ h.past.closed + 1 → EachSlow (λ s. IsSome (part_in h.parts s z)) → missing_part h ≡ None
+all-taken z h zero has = missing-none h (λ s slow. some-none (part_in h.parts s (h.past.closed + 1)) (subst (λ (u : ℕ). IsSome (part_in h.parts s u)) zero (has s slow)))
 
 -- ---- what a step answers
 abbrev due_by : History → Bool → Answer
@@ -225,22 +209,14 @@ module _ (lists : SensorLists) (n : ℕ) (h : History) (c : SplitContents) (rest
   reaches : (s : Sensor) → u ≤ mark_of (items_of s mid)
   reaches Along = let a = horizon-least g Along in omega (arith, a, reach)
   reaches Across = let a = horizon-least g Across in omega (arith, a, reach)
-  reaches Speed = let a = horizon-least lists Speed in omega (arith, a, below)
-  reaches Throttle = let a = horizon-least lists Throttle in omega (arith, a, below)
-  reaches Brake = let a = horizon-least lists Brake in omega (arith, a, below)
-  reaches Belt = let a = horizon-least lists Belt in omega (arith, a, below)
-  reaches Lamp = let a = horizon-least lists Lamp in omega (arith, a, below)
   reaches Restraint = let a = horizon-least g Restraint in omega (arith, a, reach)
+  reaches s = let a = horizon-least lists s in omega (arith, a, below)
 
   begins : (s : Sensor) → BeginsWith (items_of s lists) (items_of s mid)
-  begins Along = let r = at.rests Along in (rest.left.along, r.whole ∙ ap (λ xs. xs ++ rest.left.along) (sym r.keeps))
-  begins Across = let r = at.rests Across in (rest.left.across, r.whole ∙ ap (λ xs. xs ++ rest.left.across) (sym r.keeps))
-  begins Speed = ([], sym (append-nil lists.speed))
-  begins Throttle = ([], sym (append-nil lists.throttle))
-  begins Brake = ([], sym (append-nil lists.brake))
-  begins Belt = ([], sym (append-nil lists.belt))
-  begins Lamp = ([], sym (append-nil lists.lamp))
-  begins Restraint = let r = at.rests Restraint in (rest.left.restraint, r.whole ∙ ap (λ xs. xs ++ rest.left.restraint) (sym r.keeps))
+  begins Along = let r = at.rests Along in (rest.left.along, r.whole ∙ ap (λ xs. xs ++ rest.left.along) (sym (r.keeps.fast (λ slow. omega arith))))
+  begins Across = let r = at.rests Across in (rest.left.across, r.whole ∙ ap (λ xs. xs ++ rest.left.across) (sym (r.keeps.fast (λ slow. omega arith))))
+  begins Restraint = let r = at.rests Restraint in (rest.left.restraint, r.whole ∙ ap (λ xs. xs ++ rest.left.restraint) (sym (r.keeps.fast (λ slow. omega arith))))
+  begins s = ([], sym (append-nil (items_of s lists)))
 
   issued : (t : ℕ) → t ≤ u → issues_with (parts_of lists) g n t ≡ issues lists n t
   issued t upto =

@@ -1,26 +1,28 @@
 -- What is left of a cycle, as items of it are given and its parts are answered.
-use Rattle.std.proofs.Common.{arith, refl, ap, sym, subst, ◌≡◌, ◌∙◌, ℕ, ◌+◌, ◌<◌, ◌≤◌, inl, inr, None, Ok, Err, Result, List, [], ◌∷◌, ◌++◌, append_assoc, ◌↔◌}
+use Rattle.std.proofs.Common.{arith, refl, ap, sym, subst, ◌≡◌, ◌∙◌, ℕ, ◌+◌, ◌<◌, ◌≤◌, ◌⊎◌, inl, inr, None, Ok, Err, Result, List, [], ◌∷◌, ◌++◌, append_assoc, ◌↔◌}
 use Rattle.std.specs.Prelude.{IsOk, OnOk, OnErr, All}
 use Rattle.std.proofs.lemmas.Bool.{cases_lt}
 use Rattle.std.proofs.lemmas.List.Elements.{All-nil, All-cons}
 use Rattle.edr_items.specs.declared.TheConstants.{LONGEST_GAP}
 use Rattle.edr_items.specs.declared.Sensor.{Sensor}
-use Rattle.edr_items.specs.declared.Sensor.TheVariants.{Along, Across, Speed, Throttle, Brake, Belt, Lamp, Restraint}
 use Rattle.edr_items.specs.declared.Item.{Item}
 use Rattle.edr_items.specs.Sensor.{IsSlow}
 use Rattle.edr_items.specs.Item.{refusal_of, mark_of, mark_from, IsFeed, IsFeedAfter}
+use Rattle.edr_items.specs.PerSlowSensor.{slow_at}
 use Rattle.edr_items.specs.SensorLists.{SensorLists, items_of, with_items}
 use Rattle.edr_items.proofs.FeedLemmas.{refusal_of-rises}
+use Rattle.edr_items.proofs.PerSensorLemmas.{with_value-both, with_value-three}
+use Rattle.edr_items.proofs.PerSlowSensorLemmas.{slow-or-not, with_slow_values-with}
 use Rattle.edr_definitions.specs.Schedule.{Give, IsAllowed, with_item}
 use Rattle.edr_definitions.proofs.MarkLaws.{AreFeeds-each, feed-next, mark-push}
-use Rattle.edr_capture.specs.Capture.{CaptureStandsFor}
+use Rattle.edr_capture.specs.Capture.{CaptureStandsFor, kept_after}
 use Rattle.edr_capture.proofs.CaptureLemmas.{stands-push}
 use Rattle.edr_core.specs.declared.captures.Captures.{Captures}
 use Rattle.edr_core.specs.Captures.{kept_lists, with_kept, IsLater}
 use Rattle.edr_core.specs.SplitHistory.{History, after_item}
 use Rattle.edr_core.specs.SplitContents.{SplitContents}
 use Rattle.edr_core.specs.SplitStandsFor.{SplitCoreStandsFor}
-use Rattle.edr_core.proofs.CaptureLemmas.{mark-kept}
+use Rattle.edr_core.proofs.CaptureLemmas.{mark-kept, kept-more, kept-none}
 use Rattle.edr_cycle.specs.declared.remaining.Remaining.{Remaining}
 use Rattle.edr_cycle.specs.Remaining.{KeepsGiven, IsRest, RemainsAt, HasNext, IsAsked, SameAsk}
 
@@ -50,74 +52,42 @@ whole-feed lists n h c rest s at = subst (λ (xs : List Item). IsFeed s xs) (at.
 
 -- what is kept is no later than what is done
 kept-low : (s : Sensor) (c : Captures) (done given : List Item) → IsFeed s done → KeepsGiven s done given (items_of s (kept_lists c)) → mark_of (items_of s (kept_lists c)) ≤ mark_of done
-kept-low Along c done given feed keeps = omega arith
-kept-low Across c done given feed keeps = omega arith
-kept-low Speed c done given feed keeps = mark-kept Speed c.speed done feed keeps
-kept-low Throttle c done given feed keeps = mark-kept Throttle c.throttle done feed keeps
-kept-low Brake c done given feed keeps = mark-kept Brake c.brake done feed keeps
-kept-low Belt c done given feed keeps = mark-kept Belt c.belt done feed keeps
-kept-low Lamp c done given feed keeps = mark-kept Lamp c.lamp done feed keeps
-kept-low Restraint c done given feed keeps = omega arith
-
-pub stands-of : (s : Sensor) (done given kept : List Item) → IsSlow s → KeepsGiven s done given kept → CaptureStandsFor kept done
-stands-of Along done given kept slow keeps = let low = slow.0 in absurd (omega (arith, low))
-stands-of Across done given kept slow keeps = let low = slow.0 in absurd (omega (arith, low))
-stands-of Speed done given kept slow keeps = keeps
-stands-of Throttle done given kept slow keeps = keeps
-stands-of Brake done given kept slow keeps = keeps
-stands-of Belt done given kept slow keeps = keeps
-stands-of Lamp done given kept slow keeps = keeps
-stands-of Restraint done given kept slow keeps = let high = slow.1 in absurd (omega (arith, high))
+kept-low s c done given feed keeps = by (slow-or-not s) where
+  by : IsSlow s ⊎ (¬ IsSlow s) → mark_of (items_of s (kept_lists c)) ≤ mark_of done
+  by (inl slow) = mark-kept s (items_of s (kept_lists c)) done feed (keeps.slow slow)
+  by (inr fast) = subst (λ (xs : List Item). mark_of xs ≤ mark_of done) (sym (kept-none c s fast)) (omega arith)
 
 -- one more item, which the core takes
 keeps-more : (s : Sensor) (x : Item) (c : Captures) (done given : List Item) → IsLater s x c → KeepsGiven s done given (items_of s (kept_lists c)) → KeepsGiven s (done ++ x ∷ []) (given ++ x ∷ []) (items_of s (kept_lists (with_kept s x c)))
-keeps-more Along x c done given later keeps = ap (λ xs. xs ++ x ∷ []) keeps
-keeps-more Across x c done given later keeps = ap (λ xs. xs ++ x ∷ []) keeps
-keeps-more Speed x c done given later keeps = stands-push c.speed done x later keeps
-keeps-more Throttle x c done given later keeps = stands-push c.throttle done x later keeps
-keeps-more Brake x c done given later keeps = stands-push c.brake done x later keeps
-keeps-more Belt x c done given later keeps = stands-push c.belt done x later keeps
-keeps-more Lamp x c done given later keeps = stands-push c.lamp done x later keeps
-keeps-more Restraint x c done given later keeps = ap (λ xs. xs ++ x ∷ []) keeps
+keeps-more s x c done given later keeps = record {
+  slow = λ slow. subst (λ (xs : List Item). CaptureStandsFor xs (done ++ x ∷ [])) (sym (kept-more x c s slow)) (stands-push (items_of s (kept_lists c)) done x later (keeps.slow slow));
+  fast = λ fast. ap (λ xs. xs ++ x ∷ []) (keeps.fast fast);
+}
 
 -- one that it refuses
 keeps-refused : (s : Sensor) (x : Item) (c : Captures) (done given : List Item) → IsLater s x c → (given ≡ done → ⊥) → KeepsGiven s done given (items_of s (kept_lists c)) → KeepsGiven s (done ++ x ∷ []) given (items_of s (kept_lists (with_kept s x c)))
-keeps-refused Along x c done given later never keeps = absurd (never keeps)
-keeps-refused Across x c done given later never keeps = absurd (never keeps)
-keeps-refused Speed x c done given later never keeps = stands-push c.speed done x later keeps
-keeps-refused Throttle x c done given later never keeps = stands-push c.throttle done x later keeps
-keeps-refused Brake x c done given later never keeps = stands-push c.brake done x later keeps
-keeps-refused Belt x c done given later never keeps = stands-push c.belt done x later keeps
-keeps-refused Lamp x c done given later never keeps = stands-push c.lamp done x later keeps
-keeps-refused Restraint x c done given later never keeps = absurd (never keeps)
+keeps-refused s x c done given later never keeps = record {
+  slow = λ slow. subst (λ (xs : List Item). CaptureStandsFor xs (done ++ x ∷ [])) (sym (kept-more x c s slow)) (stands-push (items_of s (kept_lists c)) done x later (keeps.slow slow));
+  fast = λ fast. absurd (never (keeps.fast fast));
+}
 
 -- ---- of the eight sensors
 -- what holds of the sensor's new lists and of all old ones holds of all after that
 each-given : (P : Sensor → List Item → List Item → List Item → Type 0) (s : Sensor) (x : Item) (gs ls : List Item) (g l : SensorLists) (c : Captures) → P s gs ls (items_of s (kept_lists (with_kept s x c)))
     → ((r : Sensor) → P r (items_of r g) (items_of r l) (items_of r (kept_lists c)))
     → (r : Sensor) → P r (items_of r (with_items s gs g)) (items_of r (with_items s ls l)) (items_of r (kept_lists (with_kept s x c)))
-each-given P Along x gs ls g l c here all Along = here
-each-given P Across x gs ls g l c here all Across = here
-each-given P Speed x gs ls g l c here all Speed = here
-each-given P Throttle x gs ls g l c here all Throttle = here
-each-given P Brake x gs ls g l c here all Brake = here
-each-given P Belt x gs ls g l c here all Belt = here
-each-given P Lamp x gs ls g l c here all Lamp = here
-each-given P Restraint x gs ls g l c here all Restraint = here
-each-given P s x gs ls g l c here all r = all r
+each-given P s x gs ls g l c here all r =
+    let kept = items_of s (kept_lists (with_kept s x c)) in
+    subst (λ (k : SensorLists). P r (items_of r (with_items s gs g)) (items_of r (with_items s ls l)) (items_of r k)) (sym (with_slow_values-with s [] (kept_after (slow_at s c.kept) x) c.kept))
+    (with_value-three P s gs ls kept g l (kept_lists c) here all r)
 
 each-kept : (P : Sensor → List Item → List Item → Type 0) (s : Sensor) (x : Item) (ls : List Item) (l : SensorLists) (c : Captures) → P s ls (items_of s (kept_lists (with_kept s x c)))
     → ((r : Sensor) → P r (items_of r l) (items_of r (kept_lists c)))
     → (r : Sensor) → P r (items_of r (with_items s ls l)) (items_of r (kept_lists (with_kept s x c)))
-each-kept P Along x ls l c here all Along = here
-each-kept P Across x ls l c here all Across = here
-each-kept P Speed x ls l c here all Speed = here
-each-kept P Throttle x ls l c here all Throttle = here
-each-kept P Brake x ls l c here all Brake = here
-each-kept P Belt x ls l c here all Belt = here
-each-kept P Lamp x ls l c here all Lamp = here
-each-kept P Restraint x ls l c here all Restraint = here
-each-kept P s x ls l c here all r = all r
+each-kept P s x ls l c here all r =
+    let kept = items_of s (kept_lists (with_kept s x c)) in
+    subst (λ (k : SensorLists). P r (items_of r (with_items s ls l)) (items_of r k)) (sym (with_slow_values-with s [] (kept_after (slow_at s c.kept) x) c.kept))
+    (with_value-both P s ls kept l (kept_lists c) here all r)
 
 -- ---- an item is given
 module _ (lists : SensorLists) (n : ℕ) (h : History) (c : SplitContents) (rest : Remaining) (s : Sensor) (x : Item) (left' : SensorLists) (at : RemainsAt lists n h c rest)

@@ -5,11 +5,12 @@ use Rattle.std.proofs.Math.Seq.{drop-append_seam}
 use Rattle.std.proofs.lemmas.Bool.{eqb-true}
 use Rattle.std.proofs.lemmas.List.{length-append, length-map}
 use Rattle.edr_items.specs.declared.Sensor.{Sensor}
-use Rattle.edr_items.specs.declared.Sensor.TheVariants.{Along, Across, Speed, Throttle, Brake, Belt, Lamp, Restraint}
 use Rattle.edr_items.specs.declared.Item.{Item}
 use Rattle.edr_items.specs.Item.{mark_of, IsFeed}
+use Rattle.edr_items.specs.PerSensor.{total_of}
 use Rattle.edr_items.specs.SensorLists.{SensorLists, no_items, items_of, with_items, horizon_of, AreFeeds, IsLevel, sensors}
 use Rattle.edr_items.proofs.FeedLemmas.{refusal_of-rises}
+use Rattle.edr_items.proofs.PerSensorLemmas.{with_value-both, value_of-each, total-with}
 use Rattle.edr_definitions.specs.Commands.{Issue, commands, issue_at, issues}
 use Rattle.edr_definitions.specs.Schedule.{Progress, Give, Close, IsAllowed, after_step, with_item, IsUnderWay}
 use Rattle.edr_definitions.proofs.KeepLaws.{commands-start}
@@ -31,9 +32,7 @@ use Rattle.edr_run.proofs.IssueLemmas.{issues-few, issues-more, issues-under_way
 
 -- how many items are left
 abbrev pub left_count : SensorLists → ℕ
-left_count left =
-    length left.along + length left.across + length left.speed + length left.throttle
-    + (length left.brake + length left.belt + length left.lamp + length left.restraint)
+left_count left = total_of length left
 
 -- what it issued is committed
 pub record Runs {D : Type 0} (content : D → Option (List ℕ)) (settled : D → ℕ → Bool) (since : D → ℕ → List ℕ → Type 0) (clock good : D → ℕ) (lists : SensorLists) (n : ℕ) (base : ℕ) (core : CoreContents) (left : SensorLists) (b b' : OpenedBanks) (l l' : Logged) (d d' : D) : Type 0 where
@@ -72,29 +71,19 @@ between-same f g n a t first second = ap (λ xs. drop (length xs) (issues f n t)
 
 -- ---- what is left
 rest_gives : (s r : Sensor) (x : Item) (ys : List Item) (lists given left : SensorLists) → ((q : Sensor) → items_of q lists ≡ items_of q given ++ items_of q left) → items_of s left ≡ x ∷ ys → items_of r lists ≡ items_of r (with_item s x given) ++ items_of r (with_items s ys left)
-rest_gives Along Along x ys lists given left h is = h Along ∙ ap (λ xs. given.along ++ xs) is ∙ sym (append_assoc given.along (x ∷ []) ys)
-rest_gives Across Across x ys lists given left h is = h Across ∙ ap (λ xs. given.across ++ xs) is ∙ sym (append_assoc given.across (x ∷ []) ys)
-rest_gives Speed Speed x ys lists given left h is = h Speed ∙ ap (λ xs. given.speed ++ xs) is ∙ sym (append_assoc given.speed (x ∷ []) ys)
-rest_gives Throttle Throttle x ys lists given left h is = h Throttle ∙ ap (λ xs. given.throttle ++ xs) is ∙ sym (append_assoc given.throttle (x ∷ []) ys)
-rest_gives Brake Brake x ys lists given left h is = h Brake ∙ ap (λ xs. given.brake ++ xs) is ∙ sym (append_assoc given.brake (x ∷ []) ys)
-rest_gives Belt Belt x ys lists given left h is = h Belt ∙ ap (λ xs. given.belt ++ xs) is ∙ sym (append_assoc given.belt (x ∷ []) ys)
-rest_gives Lamp Lamp x ys lists given left h is = h Lamp ∙ ap (λ xs. given.lamp ++ xs) is ∙ sym (append_assoc given.lamp (x ∷ []) ys)
-rest_gives Restraint Restraint x ys lists given left h is = h Restraint ∙ ap (λ xs. given.restraint ++ xs) is ∙ sym (append_assoc given.restraint (x ∷ []) ys)
-rest_gives s r x ys lists given left h is = h r
+rest_gives s r x ys lists given left h is =
+    with_value-both (λ q front back. items_of q lists ≡ front ++ back) s (items_of s given ++ x ∷ []) ys given left
+    (h s ∙ ap (λ xs. items_of s given ++ xs) is ∙ sym (append_assoc (items_of s given) (x ∷ []) ys)) h r
 
 -- one item fewer is left
 pub left_count-less : (s : Sensor) (x : Item) (ys : List Item) (left : SensorLists) → items_of s left ≡ x ∷ ys → left_count (with_items s ys left) + 1 ≡ left_count left
-left_count-less Along x ys left is = let n = ap length is in omega (arith, n)
-left_count-less Across x ys left is = let n = ap length is in omega (arith, n)
-left_count-less Speed x ys left is = let n = ap length is in omega (arith, n)
-left_count-less Throttle x ys left is = let n = ap length is in omega (arith, n)
-left_count-less Brake x ys left is = let n = ap length is in omega (arith, n)
-left_count-less Belt x ys left is = let n = ap length is in omega (arith, n)
-left_count-less Lamp x ys left is = let n = ap length is in omega (arith, n)
-left_count-less Restraint x ys left is = let n = ap length is in omega (arith, n)
+left_count-less s x ys left is =
+    let n = ap length is in
+    let all = total-with length s ys left in
+    omega (arith, n, all)
 
 pub nothing_given : (s : Sensor) (xs : List Item) → xs ≡ items_of s no_items ++ xs
-nothing_given s xs = elim s as (λ r. xs ≡ items_of r no_items ++ xs) [ Along ↦ refl | Across ↦ refl | Speed ↦ refl | Throttle ↦ refl | Brake ↦ refl | Belt ↦ refl | Lamp ↦ refl | Restraint ↦ refl ]
+nothing_given s xs = ap (λ (ys : List Item). ys ++ xs) (sym (value_of-each {A = List Item} [] s))
 
 -- nothing is issued at first
 pub nothing_issued : (n : ℕ) → issues no_items n 0 ≡ []

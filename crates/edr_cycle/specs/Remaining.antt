@@ -2,9 +2,10 @@
 use Rattle.std.specs.Prelude.{◌≡◌, ◌+◌, ◌<◌, ◌≤◌, ◌++◌, ℕ, true, List, ◌∷◌, length, map, IsSome}
 use Rattle.edr_items.specs.declared.TheConstants.{LONGEST_GAP}
 use Rattle.edr_items.specs.declared.Sensor.{Sensor}
-use Rattle.edr_items.specs.declared.Sensor.TheVariants.{Along, Across, Speed, Throttle, Brake, Belt, Lamp, Restraint}
 use Rattle.edr_items.specs.declared.Item.{Item}
 use Rattle.edr_items.specs.Item.{mark_of}
+use Rattle.edr_items.specs.Sensor.{IsSlow}
+use Rattle.edr_items.specs.PerSensor.{total_of}
 use Rattle.edr_items.specs.SensorLists.{SensorLists, AreFeeds, horizon_of, items_of}
 use Rattle.edr_definitions.specs.Commands.{issue_at, issues}
 use Rattle.edr_definitions.specs.Schedule.{BeginsWith}
@@ -20,16 +21,10 @@ use Rattle.edr_core.specs.SplitContents.{SplitContents}
 use Rattle.edr_core.specs.SplitStandsFor.{SplitCoreStandsFor}
 use Rattle.edr_cycle.specs.declared.remaining.Remaining.{Remaining}
 
--- what is done of a fast sensor was given to the core; what is done of a slow one stands in its capture
-abbrev pub KeepsGiven : Sensor → List Item → List Item → List Item → Type 0
-KeepsGiven Along done given kept = given ≡ done
-KeepsGiven Across done given kept = given ≡ done
-KeepsGiven Speed done given kept = CaptureStandsFor kept done
-KeepsGiven Throttle done given kept = CaptureStandsFor kept done
-KeepsGiven Brake done given kept = CaptureStandsFor kept done
-KeepsGiven Belt done given kept = CaptureStandsFor kept done
-KeepsGiven Lamp done given kept = CaptureStandsFor kept done
-KeepsGiven Restraint done given kept = given ≡ done
+-- what is done of a slow sensor stands in its capture; what is done of a fast one was given to the core
+pub record KeepsGiven (s : Sensor) (done given kept : List Item) : Type 0 where
+  pub slow : IsSlow s → CaptureStandsFor kept done
+  pub fast : (¬ IsSlow s) → given ≡ done
 
 -- a sensor's list is what is done and then what is left of it, and what the core was given reaches at least as far as what is done
 pub record IsRest (s : Sensor) (items given left kept : List Item) : Type 0 where
@@ -96,9 +91,7 @@ pub record IsTakenOf (s : Sensor) (zero : ℕ) (h h' : History) : Type 0 where
 
 -- how many items are left
 abbrev pub count_left : SensorLists → ℕ
-count_left left =
-    length left.along + length left.across + length left.speed + length left.throttle
-    + (length left.brake + length left.belt + length left.lamp + length left.restraint)
+count_left left = total_of length left
 
 -- where an answer leads: to the next item of the sensor that is waited for, or past the next tick with its issues
 abbrev pub AnswerLeads : SensorLists → ℕ → History → Closing → Issued → SplitContents → Remaining → Type 0

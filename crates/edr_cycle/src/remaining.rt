@@ -17,7 +17,7 @@ use crate::left::Left;
 use edr_banks::{Banks, Log};
 use edr_core::{Captures, Closing, Issued, SplitClosing, SplitCore};
 use edr_device::{Failed, Nvm};
-use edr_items::{Feeds, Sensor};
+use edr_items::{Feeds, SLOW_SENSORS, Sensor};
 
 /// What is left of the lists of a cycle, and captures of what is no longer left of the slow sensors.
 ///
@@ -103,11 +103,9 @@ fn answer(rest: &mut Remaining<'_>, core: &mut SplitCore, zero: u32)
         core.old core.new rest.old rest.new }
     ensures fewer { count_left rest.new.left ≤ count_left rest.old.left }
 {
-    put(rest, core, Sensor::Speed, zero);
-    put(rest, core, Sensor::Throttle, zero);
-    put(rest, core, Sensor::Brake, zero);
-    put(rest, core, Sensor::Belt, zero);
-    put(rest, core, Sensor::Lamp, zero);
+    for sensor in SLOW_SENSORS {
+        put(rest, core, sensor, zero);
+    }
 }
 
 // Closes the time zero that is asked for, once its parts are given.

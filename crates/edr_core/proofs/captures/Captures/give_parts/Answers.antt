@@ -1,47 +1,49 @@
-use Rattle.edr_items.specs.declared.Sensor.TheVariants.{Speed, Throttle, Brake, Belt, Lamp}
+use Rattle.std.proofs.Common.{arith, sym, subst, ◌<◌, ℕ, suc, List, length, drop, slice_index_or, add-one}
+use Rattle.std.proofs.Math.Seq.{drop-cons}
+use Rattle.std.proofs.lemmas.List.{drop_all}
+use Rattle.edr_items.specs.declared.Sensor.{Sensor}
+use Rattle.edr_items.specs.declared.Sensor.TheVariants.{Along}
+use Rattle.edr_items.specs.Sensor.{IsSlow}
+use Rattle.edr_items.specs.PerSlowSensor.{slow_sensors}
+use Rattle.edr_items.specs.SensorLists.{items_of}
+use Rattle.edr_items.proofs.PerSlowSensorLemmas.{slow-listed}
 use Rattle.edr_capture.specs.SensorPart.{part}
-use Rattle.edr_core.proofs.GiveLemmas.{feeds-of}
-use Rattle.edr_core.proofs.CaptureLemmas.{range-kept}
-use Rattle.edr_core.proofs.OwnLemmas.{part-taken, five-taken, speed-near, throttle-near, brake-near, belt-near, lamp-near}
+use Rattle.edr_core.proofs.OwnLemmas.{Takes, part-taken, AreToTake, all-to-take, next-taken, none-to-take, kept-range, kept-near, kept-stands}
 use Rattle.edr_core.proofs.captures.Captures.give_parts.Goals as goal
 
+abbrev sensor : ℕ → Sensor
+sensor k = slice_index_or slow_sensors k Along
+
+is-slow : (k : ℕ) → k < length slow_sensors → IsSlow (sensor k)
+is-slow k lt = slow-listed IsSlow (λ s slow. slow) k Along lt
+
+pub loop-sensor-init : goal.loop-sensor-init
+loop-sensor-init c = λ w h. all-to-take c.args.split.now c.args.self.now w c.args.zero h
+
 pub part-requires-clause-range : goal.part-requires-clause-range
-part-requires-clause-range c = let r = c.requires in range-kept Speed c.args.self.now.speed r.0.past.given.speed (feeds-of c.args.split.now r.0 r.1.stands).speed r.1.captures_are.speed
+part-requires-clause-range c =
+    let k = c.loop-sensor.sensor-index in
+    kept-range c.args.split.now c.args.self.now c.requires.0 c.args.zero c.requires.1 (sensor k) (is-slow k c.loop-sensor-test.true)
 
 pub part-requires-clause-near : goal.part-requires-clause-near
-part-requires-clause-near c = let r = c.requires in let s = c.args.split.now in speed-near s s s s s s c.args.self.now r.0 c.args.zero r.1
+part-requires-clause-near c =
+    let k = c.loop-sensor.sensor-index in
+    kept-near c.args.split.now c.args.self.now c.requires.0 c.args.zero c.requires.1 (sensor k) (is-slow k c.loop-sensor-test.true)
 
-pub part-requires-3-clause-range : goal.part-requires-3-clause-range
-part-requires-3-clause-range c = let r = c.requires in range-kept Throttle c.args.self.now.throttle r.0.past.given.throttle (feeds-of c.args.split.now r.0 r.1.stands).throttle r.1.captures_are.throttle
-
-pub part-requires-3-clause-near : goal.part-requires-3-clause-near
-part-requires-3-clause-near c = let r = c.requires in let s = c.args.split.now in throttle-near s s s s s s c.args.self.now r.0 c.args.zero r.1
-
-pub part-requires-5-clause-range : goal.part-requires-5-clause-range
-part-requires-5-clause-range c = let r = c.requires in range-kept Brake c.args.self.now.brake r.0.past.given.brake (feeds-of c.args.split.now r.0 r.1.stands).brake r.1.captures_are.brake
-
-pub part-requires-5-clause-near : goal.part-requires-5-clause-near
-part-requires-5-clause-near c = let r = c.requires in let s = c.args.split.now in brake-near s s s s s s c.args.self.now r.0 c.args.zero r.1
-
-pub part-requires-7-clause-range : goal.part-requires-7-clause-range
-part-requires-7-clause-range c = let r = c.requires in range-kept Belt c.args.self.now.belt r.0.past.given.belt (feeds-of c.args.split.now r.0 r.1.stands).belt r.1.captures_are.belt
-
-pub part-requires-7-clause-near : goal.part-requires-7-clause-near
-part-requires-7-clause-near c = let r = c.requires in let s = c.args.split.now in belt-near s s s s s s c.args.self.now r.0 c.args.zero r.1
-
-pub part-requires-9-clause-range : goal.part-requires-9-clause-range
-part-requires-9-clause-range c = let r = c.requires in range-kept Lamp c.args.self.now.lamp r.0.past.given.lamp (feeds-of c.args.split.now r.0 r.1.stands).lamp r.1.captures_are.lamp
-
-pub part-requires-9-clause-near : goal.part-requires-9-clause-near
-part-requires-9-clause-near c = let r = c.requires in let s = c.args.split.now in lamp-near s s s s s s c.args.self.now r.0 c.args.zero r.1
+pub loop-sensor-preserved : goal.loop-sensor-preserved
+loop-sensor-preserved c = λ w h.
+    let k = c.loop-sensor.sensor-index in
+    let s = sensor k in
+    let given = items_of s w.past.given in
+    let before = c.loop-sensor.split in
+    let after = c.part-in-loop-sensor.new.self in
+    let stands = kept-stands c.args.split.now c.args.self.now w c.args.zero h s (is-slow k c.loop-sensor-test.true) in
+    let takes = part-taken c.part-in-loop-sensor.result before after c.part.result (part s given c.args.zero) (c.part.ensures.definition given stands) c.part-in-loop-sensor.ensures.ok c.part-in-loop-sensor.ensures.allowed in
+    let left = subst (AreToTake before w) (drop-cons slow_sensors k Along c.loop-sensor-test.true) (c.loop-sensor.invariant w h) in
+    subst (λ (j : ℕ). AreToTake after w (drop j slow_sensors)) (sym (add-one k))
+    (next-taken before after w s (drop (suc k) slow_sensors) h.asking (subst (λ (z : ℕ). Takes before after (part s given z)) h.zero_is takes) left)
 
 pub returns : goal.returns
 returns c = λ w h.
-    let f = w.past.given in
-    let z = c.args.zero in
-    five-taken c.args.split.now c.part-2.new.self c.part-4.new.self c.part-6.new.self c.part-8.new.self c.part-10.new.self c.args.self.now w z h
-    (part-taken c.part-2.result c.args.split.now c.part-2.new.self c.part.result (part Speed f.speed z) (c.part.ensures.definition f.speed h.captures_are.speed) c.part-2.ensures.ok c.part-2.ensures.allowed)
-    (part-taken c.part-4.result c.part-2.new.self c.part-4.new.self c.part-3.result (part Throttle f.throttle z) (c.part-3.ensures.definition f.throttle h.captures_are.throttle) c.part-4.ensures.ok c.part-4.ensures.allowed)
-    (part-taken c.part-6.result c.part-4.new.self c.part-6.new.self c.part-5.result (part Brake f.brake z) (c.part-5.ensures.definition f.brake h.captures_are.brake) c.part-6.ensures.ok c.part-6.ensures.allowed)
-    (part-taken c.part-8.result c.part-6.new.self c.part-8.new.self c.part-7.result (part Belt f.belt z) (c.part-7.ensures.definition f.belt h.captures_are.belt) c.part-8.ensures.ok c.part-8.ensures.allowed)
-    (part-taken c.part-10.result c.part-8.new.self c.part-10.new.self c.part-9.result (part Lamp f.lamp z) (c.part-9.ensures.definition f.lamp h.captures_are.lamp) c.part-10.ensures.ok c.part-10.ensures.allowed)
+    let k = c.loop-sensor.sensor-index in
+    none-to-take c.loop-sensor.split w (subst (λ (ss : List Sensor). AreToTake c.loop-sensor.split w ss) (drop_all k slow_sensors (omega arith)) (c.loop-sensor.invariant w h))
