@@ -1,14 +1,18 @@
 -- What a desk that asks for parts leaves to the closing path.
-use Rattle.std.proofs.Common.{arith, ◌≡◌, ◌∙◌, ◌≤◌, ℕ, List, [], get_or, sym, ap, subst}
+use Rattle.std.proofs.Common.{arith, ◌≡◌, ◌∙◌, ◌≤◌, ◌⊎◌, ℕ, List, get_or, inl, inr, sym, ap, subst}
 use Rattle.std.specs.Prelude.{All}
 use Rattle.std.specs.List.{Contains}
 use Rattle.edr_items.specs.declared.Sensor.{Sensor}
-use Rattle.edr_items.specs.declared.Sensor.TheVariants.{Along, Across, Speed, Throttle, Brake, Belt, Lamp, Restraint}
+use Rattle.edr_items.specs.declared.Sensor.TheVariants.{Along, Across, Restraint}
 use Rattle.edr_items.specs.declared.Item.{Item}
 use Rattle.edr_items.specs.Item.{IsFeed, mark_of}
+use Rattle.edr_items.specs.PerSlowSensor.{slow_at}
+use Rattle.edr_items.specs.Sensor.{IsSlow}
 use Rattle.edr_items.specs.SensorLists.{SensorLists, AreFeeds, horizon_of, items_of}
+use Rattle.edr_items.proofs.PerSlowSensorLemmas.{slow-or-not, slow_at-map}
 use Rattle.edr_definitions.specs.Commands.{issues}
 use Rattle.edr_definitions.specs.Schedule.{BeginsWith}
+use Rattle.edr_definitions.proofs.MarkLaws.{AreFeeds-each}
 use Rattle.edr_capture.specs.SensorPart.{SensorPart, part_slots}
 use Rattle.edr_core.specs.Parts.{AreSlotsOf, parts_of}
 use Rattle.edr_core.specs.SplitContents.{SplitContents}
@@ -22,10 +26,11 @@ use Rattle.edr_loops.specs.declared.desk.Desk.{Desk}
 use Rattle.edr_loops.specs.FastInlets.{AreFastFeeds, HaveFast}
 use Rattle.edr_loops.specs.Held.{issues_out}
 use Rattle.edr_loops.specs.PartInlets.{IsTakenPart}
-use Rattle.edr_loops.specs.PartInlets.{parts_of as parts_of_inlets}
 use Rattle.edr_loops.specs.Lanes.{AreTakenParts, FastBegin, PartInlets, fast_taken, slow_taken}
 use Rattle.edr_loops.specs.SlowPlaces.{AreParts, IsPartOfBeginning}
 use Rattle.edr_loops.specs.Desks.{DeskStands}
+use Rattle.edr_loops.proofs.FastLemmas.{none-in, parts_of-fast, parts_of-slow}
+use Rattle.edr_seats.specs.PartInlet.{parts_taken}
 
 -- ---- the parts
 in-list : (s : Sensor) (xs : List Item) (ps : List SensorPart) (q : SensorPart) → IsFeed s xs → AreParts s xs ps → Contains ps q → part_slots s xs q.zero ≡ q.slots
@@ -33,21 +38,15 @@ in-list s xs ps q feed all inside =
     let own : IsPartOfBeginning s xs q = subst (λ (p : SensorPart). IsPartOfBeginning s xs p) inside.2 (all inside.0 q inside.1) in
     part-begun s xs own.many q feed own.is own.reached
 
-none-in : (q : SensorPart) → Contains [] q → ⊥
-none-in q inside = let low = inside.1 in omega (arith, low)
-
 -- each part that came out of its sensor's ring is that of the whole list
 part-whole : (f : SensorLists) (i : PartInlets) (q : SensorPart) → AreFeeds f → AreTakenParts f i → IsTakenPart (slow_taken i) q → parts_of f q.sensor q.zero ≡ q.slots
-part-whole f i q feeds are taken = by q.sensor taken where
-  by : (s : Sensor) → Contains (parts_of_inlets s (slow_taken i)) q → part_slots s (items_of s f) q.zero ≡ q.slots
-  by Along inside = absurd (none-in q inside)
-  by Across inside = absurd (none-in q inside)
-  by Speed inside = in-list Speed f.speed (slow_taken i).speed q feeds.speed are.speed inside
-  by Throttle inside = in-list Throttle f.throttle (slow_taken i).throttle q feeds.throttle are.throttle inside
-  by Brake inside = in-list Brake f.brake (slow_taken i).brake q feeds.brake are.brake inside
-  by Belt inside = in-list Belt f.belt (slow_taken i).belt q feeds.belt are.belt inside
-  by Lamp inside = in-list Lamp f.lamp (slow_taken i).lamp q feeds.lamp are.lamp inside
-  by Restraint inside = absurd (none-in q inside)
+part-whole f i q feeds are taken = by (slow-or-not q.sensor) where
+  by : IsSlow q.sensor ⊎ (¬ IsSlow q.sensor) → parts_of f q.sensor q.zero ≡ q.slots
+  by (inl slow) =
+      let s = q.sensor in
+      let own = parts_of-slow s (slow_taken i) slow ∙ slow_at-map parts_taken s i in
+      in-list s (items_of s f) (parts_taken (slow_at s i)) q (AreFeeds-each f feeds s) (are s slow) (subst (λ (ps : List SensorPart). Contains ps q) own taken)
+  by (inr fast) = absurd (none-in q (subst (λ (ps : List SensorPart). Contains ps q) (parts_of-fast q.sensor (slow_taken i) fast) taken))
 
 parts-whole : (f : SensorLists) (i : PartInlets) (parts : List SensorPart) → AreFeeds f → AreTakenParts f i → All (IsTakenPart (slow_taken i)) parts → AreSlotsOf parts (parts_of f)
 parts-whole f i parts feeds are taken = λ k d lt. part-whole f i (get_or parts k d) feeds are (taken k d lt)

@@ -1,10 +1,10 @@
 -- What a desk stands for after a step of its core.
-use Rattle.std.proofs.Common.{arith, ◌≡◌, ◌≢◌, ◌∙◌, ◌≤◌, ◌<◌, ◌+◌, ℕ, Bool, true, false, cond, Option, Some, None, List, [], ◌∷◌, ◌++◌, map, refl, sym, ap, subst, append-nil, nat_eq, find}
+use Rattle.std.proofs.Common.{arith, ◌≡◌, ◌≢◌, ◌∙◌, ◌≤◌, ◌<◌, ◌+◌, ℕ, Bool, true, false, cond, Option, Some, None, List, [], ◌++◌, map, refl, sym, ap, subst, append-nil, nat_eq}
 use Rattle.std.specs.Option.{option_map_or}
 use Rattle.edr_items.specs.declared.Sensor.{Sensor}
-use Rattle.edr_items.specs.declared.Sensor.TheVariants.{Along, Across, Speed, Throttle, Brake, Belt, Lamp, Restraint}
 use Rattle.edr_items.specs.Item.{mark_of}
 use Rattle.edr_items.specs.SensorLists.{items_of}
+use Rattle.edr_items.proofs.LevelLemmas.{none-found}
 use Rattle.edr_definitions.specs.Commands.{Issue, issue_at}
 use Rattle.edr_definitions.specs.Schedule.{Progress, Close, after_step}
 use Rattle.edr_definitions.proofs.MarkLaws.{horizon-least}
@@ -65,37 +65,12 @@ pub close-is : (h : History) (u : ℕ) → Closes u ≡ due h → u ≡ h.past.c
 close-is h u e = closes_by h.asking (missing_part h) (waited_for h.past) (is_zero_next h.past) (h.past.closed + 1) u e
 
 -- ---- where no sensor is waited for, each mark is past the closed tick
-none_by : (p : Sensor → Bool) (s : Sensor) (ss : List Sensor) → find p (s ∷ ss) ≡ None → (p s ≡ false) × (find p ss ≡ None)
-none_by p s ss e = by (p s) refl e where
-  by : (b : Bool) → p s ≡ b → cond {A = Option Sensor} b (Some s) (find p ss) ≡ None → (p s ≡ false) × (find p ss ≡ None)
-  by true is e = cc
-  by false is e = (is, e)
-
 past_by : (n t : ℕ) → nat_eq n t ≡ false → t ≤ n → t + 1 ≤ n
 past_by n t e low = grind arith
 
 none-waited : (p : Progress) → waited_for p ≡ None → (s : Sensor) → is_waited_for p s ≡ false
 unfolding waited_for
-none-waited p e =
-    let a = none_by (is_waited_for p) Along (Across ∷ Speed ∷ Throttle ∷ Brake ∷ Belt ∷ Lamp ∷ Restraint ∷ []) e in
-    let b = none_by (is_waited_for p) Across (Speed ∷ Throttle ∷ Brake ∷ Belt ∷ Lamp ∷ Restraint ∷ []) a.1 in
-    let c = none_by (is_waited_for p) Speed (Throttle ∷ Brake ∷ Belt ∷ Lamp ∷ Restraint ∷ []) b.1 in
-    let d = none_by (is_waited_for p) Throttle (Brake ∷ Belt ∷ Lamp ∷ Restraint ∷ []) c.1 in
-    let f = none_by (is_waited_for p) Brake (Belt ∷ Lamp ∷ Restraint ∷ []) d.1 in
-    let g = none_by (is_waited_for p) Belt (Lamp ∷ Restraint ∷ []) f.1 in
-    let h = none_by (is_waited_for p) Lamp (Restraint ∷ []) g.1 in
-    let i = none_by (is_waited_for p) Restraint [] h.1 in
-    λ s. by s a.0 b.0 c.0 d.0 f.0 g.0 h.0 i.0
-  where
-    by : (s : Sensor) → is_waited_for p Along ≡ false → is_waited_for p Across ≡ false → is_waited_for p Speed ≡ false → is_waited_for p Throttle ≡ false → is_waited_for p Brake ≡ false → is_waited_for p Belt ≡ false → is_waited_for p Lamp ≡ false → is_waited_for p Restraint ≡ false → is_waited_for p s ≡ false
-    by Along a b c d e f g h = a
-    by Across a b c d e f g h = b
-    by Speed a b c d e f g h = c
-    by Throttle a b c d e f g h = d
-    by Brake a b c d e f g h = e
-    by Belt a b c d e f g h = f
-    by Lamp a b c d e f g h = g
-    by Restraint a b c d e f g h = h
+none-waited p e = none-found (is_waited_for p) e
 
 marks-past : (c : SplitContents) (h : History) → SplitCoreStandsFor c h → waited_for h.past ≡ None → (s : Sensor) → h.past.closed + 1 ≤ mark_of (items_of s h.past.given)
 marks-past c h is none s =

@@ -1,6 +1,6 @@
 -- One more item of a fast sensor, one more mark of a slow one, and one more part.
-use Rattle.std.proofs.Common.{arith, ◌≡◌, ◌≤◌, ℕ, List, [], ◌∷◌, ◌++◌, refl, sym, ap, subst, None}
-use Rattle.std.specs.Prelude.{All}
+use Rattle.std.proofs.Common.{arith, ◌≡◌, ◌∙◌, ◌≤◌, ◌⊎◌, ℕ, List, [], ◌∷◌, ◌++◌, inl, inr, refl, sym, ap, subst, None}
+use Rattle.std.specs.Prelude.{All, unwrap_or}
 use Rattle.std.specs.List.{Contains}
 use Rattle.std.proofs.lemmas.List.Elements.{All-weaker, Contains-append_left, Contains-append_right}
 use Rattle.edr_items.specs.declared.Sensor.{Sensor}
@@ -8,7 +8,11 @@ use Rattle.edr_items.specs.declared.Sensor.TheVariants as sensor
 use Rattle.edr_items.specs.declared.Item.{Item}
 use Rattle.edr_items.specs.Item.{IsFeedAfter, mark_of, refusal_of}
 use Rattle.edr_items.specs.Sensor.{IsSlow}
+use Rattle.edr_items.specs.PerSensor.{with_value}
+use Rattle.edr_items.specs.PerSlowSensor.{EachSlow, slow_at, slow_values, with_slow_value}
 use Rattle.edr_items.specs.SensorLists.{SensorLists, items_of}
+use Rattle.edr_items.proofs.PerSensorLemmas.{with_value-each}
+use Rattle.edr_items.proofs.PerSlowSensorLemmas.{belt-slow, brake-slow, lamp-slow, slow-or-not, slow_at-values, slow_value_of-slow, slow_values-with, speed-slow, throttle-slow, with_slow_value-both, with_slow_value-each, with_slow_value-own, with_slow_value-same}
 use Rattle.edr_definitions.specs.Schedule.{with_item}
 use Rattle.edr_definitions.proofs.MarkLaws.{feed-next, mark-push}
 use Rattle.edr_board.specs.FreezeSeats.{AllReach, SlowMarks, mark_in, with_mark_of}
@@ -51,109 +55,88 @@ have-list Along l f h = h.along
 have-list Across l f h = h.across
 have-list Restraint l f h = h.restraint
 
+-- a fast sensor is none of the slow ones
+fast-not-slow : (k : FastSensor) → ¬ IsSlow (sensor_of k)
+fast-not-slow Along slow = omega arith
+fast-not-slow Across slow = omega arith
+fast-not-slow Restraint slow = omega arith
+
 -- the marks of the slow sensors stay
 pub marks-beside : (k : FastSensor) (x : Item) (f : SensorLists) (m : SlowMarks) → HaveMarks m f → HaveMarks m (with_item (sensor_of k) x f)
-marks-beside Along x f m h = record { speed = h.speed; throttle = h.throttle; brake = h.brake; belt = h.belt; lamp = h.lamp }
-marks-beside Across x f m h = record { speed = h.speed; throttle = h.throttle; brake = h.brake; belt = h.belt; lamp = h.lamp }
-marks-beside Restraint x f m h = record { speed = h.speed; throttle = h.throttle; brake = h.brake; belt = h.belt; lamp = h.lamp }
+marks-beside k x f m h = with_value-each (λ r xs. IsSlow r → mark_of xs ≡ slow_at r m) (sensor_of k) (items_of (sensor_of k) f ++ x ∷ []) f (λ slow. absurd (fast-not-slow k slow)) h
 
 -- ---- one more mark of a slow sensor
-pub mark-is : (s : Sensor) (f : SensorLists) (m : SlowMarks) → IsSlow s → HaveMarks m f → mark_of (items_of s f) ≡ mark_in s m
-mark-is sensor.Along f m slow h = absurd (omega (arith, slow))
-mark-is sensor.Across f m slow h = absurd (omega (arith, slow))
-mark-is sensor.Speed f m slow h = h.speed
-mark-is sensor.Throttle f m slow h = h.throttle
-mark-is sensor.Brake f m slow h = h.brake
-mark-is sensor.Belt f m slow h = h.belt
-mark-is sensor.Lamp f m slow h = h.lamp
-mark-is sensor.Restraint f m slow h = absurd (omega (arith, slow))
+mark_in-slow : (s : Sensor) (m : SlowMarks) → IsSlow s → mark_in s m ≡ slow_at s m
+mark_in-slow s m slow = ap (λ o. unwrap_or o 0) (slow_value_of-slow m s slow)
 
-pub marks-with_item : (s : Sensor) (x : Item) (f : SensorLists) (m : SlowMarks) → IsSlow s → HaveMarks m f → HaveMarks (with_mark_of s x.moment m) (with_item s x f)
-marks-with_item sensor.Along x f m slow h = absurd (omega (arith, slow))
-marks-with_item sensor.Across x f m slow h = absurd (omega (arith, slow))
-marks-with_item sensor.Speed x f m slow h = record { speed = mark-push 0 f.speed x; throttle = h.throttle; brake = h.brake; belt = h.belt; lamp = h.lamp }
-marks-with_item sensor.Throttle x f m slow h = record { speed = h.speed; throttle = mark-push 0 f.throttle x; brake = h.brake; belt = h.belt; lamp = h.lamp }
-marks-with_item sensor.Brake x f m slow h = record { speed = h.speed; throttle = h.throttle; brake = mark-push 0 f.brake x; belt = h.belt; lamp = h.lamp }
-marks-with_item sensor.Belt x f m slow h = record { speed = h.speed; throttle = h.throttle; brake = h.brake; belt = mark-push 0 f.belt x; lamp = h.lamp }
-marks-with_item sensor.Lamp x f m slow h = record { speed = h.speed; throttle = h.throttle; brake = h.brake; belt = h.belt; lamp = mark-push 0 f.lamp x }
-marks-with_item sensor.Restraint x f m slow h = absurd (omega (arith, slow))
+pub mark-is : (s : Sensor) (f : SensorLists) (m : SlowMarks) → IsSlow s → HaveMarks m f → mark_of (items_of s f) ≡ mark_in s m
+mark-is s f m slow h = h s slow ∙ sym (mark_in-slow s m slow)
+
+pub marks-with_item : (s : Sensor) (x : Item) (f : SensorLists) (m : SlowMarks) → HaveMarks m f → HaveMarks (with_mark_of s x.moment m) (with_item s x f)
+marks-with_item s x f m h = λ r slow.
+    let xs = items_of s f ++ x ∷ [] in
+    let both = with_slow_value-both (λ q ys n. mark_of ys ≡ n) s xs x.moment (slow_values f) m (mark-push 0 (items_of s f) x) (λ q here. ap mark_of (slow_at-values f q here) ∙ h q here) r slow in
+    ap mark_of (sym (slow_at-values (with_value s xs f) r slow)) ∙ ap (λ p. mark_of (slow_at r p)) (slow_values-with s xs f) ∙ both
 
 -- one that hasn't risen leaves them
-pub marks-same : (s : Sensor) (n : ℕ) (m : SlowMarks) → mark_in s m ≡ n → with_mark_of s n m ≡ m
-marks-same sensor.Along n m is = refl
-marks-same sensor.Across n m is = refl
-marks-same sensor.Speed n m is = ap (λ k. record m { speed = k }) (sym is)
-marks-same sensor.Throttle n m is = ap (λ k. record m { throttle = k }) (sym is)
-marks-same sensor.Brake n m is = ap (λ k. record m { brake = k }) (sym is)
-marks-same sensor.Belt n m is = ap (λ k. record m { belt = k }) (sym is)
-marks-same sensor.Lamp n m is = ap (λ k. record m { lamp = k }) (sym is)
-marks-same sensor.Restraint n m is = refl
+pub marks-same : (s : Sensor) (n : ℕ) (m : SlowMarks) → IsSlow s → mark_in s m ≡ n → with_mark_of s n m ≡ m
+marks-same s n m slow is = ap (λ k. with_slow_value s k m) (sym is ∙ mark_in-slow s m slow) ∙ with_slow_value-same s m
 
 -- the fast sensors keep what they have
 pub fast-beside : (s : Sensor) (x : Item) (f : SensorLists) (l : FastItems) → IsSlow s → HaveFast l f → HaveFast l (with_item s x f)
-fast-beside sensor.Along x f l slow h = absurd (omega (arith, slow))
-fast-beside sensor.Across x f l slow h = absurd (omega (arith, slow))
-fast-beside sensor.Speed x f l slow h = record { along = h.along; across = h.across; restraint = h.restraint }
-fast-beside sensor.Throttle x f l slow h = record { along = h.along; across = h.across; restraint = h.restraint }
-fast-beside sensor.Brake x f l slow h = record { along = h.along; across = h.across; restraint = h.restraint }
-fast-beside sensor.Belt x f l slow h = record { along = h.along; across = h.across; restraint = h.restraint }
-fast-beside sensor.Lamp x f l slow h = record { along = h.along; across = h.across; restraint = h.restraint }
-fast-beside sensor.Restraint x f l slow h = absurd (omega (arith, slow))
+fast-beside s x f l slow h =
+    let xs = items_of s f ++ x ∷ [] in
+    let other : (k : FastSensor) → items_of (sensor_of k) (with_item s x f) ≡ items_of (sensor_of k) f =
+    λ k. with_value-each (λ r ys. (¬ IsSlow r) → ys ≡ items_of r f) s xs f (λ fast. absurd (fast slow)) (λ r fast. refl) (sensor_of k) (fast-not-slow k) in
+    record { along = other Along ∙ h.along; across = other Across ∙ h.across; restraint = other Restraint ∙ h.restraint }
 
 -- marks past a tick have reached the next one
 pub all-reached : (t : ℕ) (f : SensorLists) (m : SlowMarks) → HaveMarks m f → ((s : Sensor) → t ≤ mark_of (items_of s f)) → AllReach t m
-all-reached t f m h past = record {
-  speed = let is = h.speed in let low = past sensor.Speed in omega (arith, is, low);
-  throttle = let is = h.throttle in let low = past sensor.Throttle in omega (arith, is, low);
-  brake = let is = h.brake in let low = past sensor.Brake in omega (arith, is, low);
-  belt = let is = h.belt in let low = past sensor.Belt in omega (arith, is, low);
-  lamp = let is = h.lamp in let low = past sensor.Lamp in omega (arith, is, low);
-}
+all-reached t f m h past =
+    let reached : EachSlow (λ s. t ≤ slow_at s m) = λ s slow. subst (λ n. t ≤ n) (h s slow) (past s) in
+    record {
+      speed = speed-slow (λ s. t ≤ slow_at s m) reached;
+      throttle = throttle-slow (λ s. t ≤ slow_at s m) reached;
+      brake = brake-slow (λ s. t ≤ slow_at s m) reached;
+      belt = belt-slow (λ s. t ≤ slow_at s m) reached;
+      lamp = lamp-slow (λ s. t ≤ slow_at s m) reached;
+    }
 
 -- ---- one more part
-record Grown (a b : SlowParts) : Type 0 where
-  pub speed : (p : SensorPart) → Contains a.speed p → Contains b.speed p
-  pub throttle : (p : SensorPart) → Contains a.throttle p → Contains b.throttle p
-  pub brake : (p : SensorPart) → Contains a.brake p → Contains b.brake p
-  pub belt : (p : SensorPart) → Contains a.belt p → Contains b.belt p
-  pub lamp : (p : SensorPart) → Contains a.lamp p → Contains b.lamp p
+pub parts_of-slow : (s : Sensor) (l : SlowParts) → IsSlow s → parts_of s l ≡ slow_at s l
+parts_of-slow s l slow = ap (λ o. unwrap_or o []) (slow_value_of-slow l s slow)
 
-grown-with : (s : Sensor) (q : SensorPart) (l : SlowParts) → Grown l (with_part s q l)
-grown-with sensor.Along q l = record { speed = λ p h. h; throttle = λ p h. h; brake = λ p h. h; belt = λ p h. h; lamp = λ p h. h }
-grown-with sensor.Across q l = record { speed = λ p h. h; throttle = λ p h. h; brake = λ p h. h; belt = λ p h. h; lamp = λ p h. h }
-grown-with sensor.Speed q l = record { speed = λ p h. Contains-append_left l.speed (q ∷ []) p h; throttle = λ p h. h; brake = λ p h. h; belt = λ p h. h; lamp = λ p h. h }
-grown-with sensor.Throttle q l = record { speed = λ p h. h; throttle = λ p h. Contains-append_left l.throttle (q ∷ []) p h; brake = λ p h. h; belt = λ p h. h; lamp = λ p h. h }
-grown-with sensor.Brake q l = record { speed = λ p h. h; throttle = λ p h. h; brake = λ p h. Contains-append_left l.brake (q ∷ []) p h; belt = λ p h. h; lamp = λ p h. h }
-grown-with sensor.Belt q l = record { speed = λ p h. h; throttle = λ p h. h; brake = λ p h. h; belt = λ p h. Contains-append_left l.belt (q ∷ []) p h; lamp = λ p h. h }
-grown-with sensor.Lamp q l = record { speed = λ p h. h; throttle = λ p h. h; brake = λ p h. h; belt = λ p h. h; lamp = λ p h. Contains-append_left l.lamp (q ∷ []) p h }
-grown-with sensor.Restraint q l = record { speed = λ p h. h; throttle = λ p h. h; brake = λ p h. h; belt = λ p h. h; lamp = λ p h. h }
+pub parts_of-fast : (s : Sensor) (l : SlowParts) → (¬ IsSlow s) → parts_of s l ≡ []
+parts_of-fast sensor.Along l fast = refl
+parts_of-fast sensor.Across l fast = refl
+parts_of-fast sensor.Restraint l fast = refl
+parts_of-fast s l fast = absurd (fast (omega arith, omega arith))
 
-grown-at : (a b : SlowParts) → Grown a b → (r : Sensor) (p : SensorPart) → Contains (parts_of r a) p → Contains (parts_of r b) p
-grown-at a b g sensor.Along p h = h
-grown-at a b g sensor.Across p h = h
-grown-at a b g sensor.Speed p h = g.speed p h
-grown-at a b g sensor.Throttle p h = g.throttle p h
-grown-at a b g sensor.Brake p h = g.brake p h
-grown-at a b g sensor.Belt p h = g.belt p h
-grown-at a b g sensor.Lamp p h = g.lamp p h
-grown-at a b g sensor.Restraint p h = h
+-- a slow sensor has the parts that it had
+grown-slow : (s : Sensor) (q : SensorPart) (l : SlowParts) → EachSlow (λ r. (p : SensorPart) → Contains (parts_of r l) p → Contains (slow_at r (with_part s q l)) p)
+grown-slow s q l =
+    with_slow_value-each (λ r ps. (p : SensorPart) → Contains (parts_of r l) p → Contains ps p) s (parts_of s l ++ q ∷ []) l
+    (λ p h. Contains-append_left (parts_of s l) (q ∷ []) p h) (λ r slow p h. subst (λ ps. Contains ps p) (parts_of-slow r l slow) h)
+
+-- no part is in no parts
+pub none-in : (q : SensorPart) → Contains [] q → ⊥
+none-in q inside = let low = inside.1 in omega (arith, low)
+
+grown : (s : Sensor) (q : SensorPart) (l : SlowParts) (r : Sensor) (p : SensorPart) → IsSlow r ⊎ (¬ IsSlow r) → Contains (parts_of r l) p → Contains (parts_of r (with_part s q l)) p
+grown s q l r p (inl slow) h = subst (λ ps. Contains ps p) (sym (parts_of-slow r (with_part s q l) slow)) (grown-slow s q l r slow p h)
+grown s q l r p (inr fast) h = absurd (none-in p (subst (λ ps. Contains ps p) (parts_of-fast r l fast) h))
 
 pub all-taken : (s : Sensor) (q : SensorPart) (l : SlowParts) (ps : List SensorPart) → All (IsTakenPart l) ps → All (IsTakenPart (with_part s q l)) ps
-all-taken s q l ps h = All-weaker (IsTakenPart l) (IsTakenPart (with_part s q l)) (λ p has. grown-at l (with_part s q l) (grown-with s q l) p.sensor p has) ps h
+all-taken s q l ps h = All-weaker (IsTakenPart l) (IsTakenPart (with_part s q l)) (λ p has. grown s q l p.sensor p (slow-or-not p.sensor) has) ps h
 
 own : (q : SensorPart) → Contains (q ∷ []) q
 own q = (0, omega arith, refl)
 
 -- the new one is its sensor's
 own-part : (s : Sensor) (q : SensorPart) (l : SlowParts) → IsSlow s → Contains (parts_of s (with_part s q l)) q
-own-part sensor.Along q l slow = absurd (omega (arith, slow))
-own-part sensor.Across q l slow = absurd (omega (arith, slow))
-own-part sensor.Speed q l slow = Contains-append_right l.speed (q ∷ []) q (own q)
-own-part sensor.Throttle q l slow = Contains-append_right l.throttle (q ∷ []) q (own q)
-own-part sensor.Brake q l slow = Contains-append_right l.brake (q ∷ []) q (own q)
-own-part sensor.Belt q l slow = Contains-append_right l.belt (q ∷ []) q (own q)
-own-part sensor.Lamp q l slow = Contains-append_right l.lamp (q ∷ []) q (own q)
-own-part sensor.Restraint q l slow = absurd (omega (arith, slow))
+own-part s q l slow =
+    let ps = parts_of s l ++ q ∷ [] in
+    subst (λ qs. Contains qs q) (sym (parts_of-slow s (with_part s q l) slow ∙ with_slow_value-own ps l s slow)) (Contains-append_right (parts_of s l) (q ∷ []) q (own q))
 
 pub is-taken : (s : Sensor) (q : SensorPart) (l : SlowParts) → IsSlow q.sensor → q.sensor ≡ s → IsTakenPart (with_part s q l) q
 is-taken s q l slow is = subst (λ (r : Sensor). Contains (parts_of q.sensor (with_part r q l)) q) is (own-part q.sensor q l slow)

@@ -2,6 +2,7 @@
 use Rattle.std.proofs.Common.{arith, ◌≡◌, ◌∙◌, ◌≤◌, ℕ, max, refl, sym, subst}
 use Rattle.edr_board.specs.Seats.{board_of_recorder, board_of_watch}
 use Rattle.edr_board.specs.FreezeSeats.{freeze_of_asker}
+use Rattle.edr_items.specs.PerSlowSensor.{slow_at}
 use Rattle.edr_seats.specs.declared.part_inlet.PartInlet.{PartInlet}
 use Rattle.edr_seats.specs.PartInlet.{SamePartInlet}
 use Rattle.edr_core.specs.SplitContents.{SplitContents}
@@ -42,16 +43,10 @@ part-again : (a b c : PartInlet) → SamePartInlet a b → SamePartInlet b c →
 part-again a b c h k = ((k.0.0 ∙ h.0.0, k.0.1 ∙ h.0.1, k.0.2 ∙ h.0.2, k.0.3 ∙ h.0.3), k.1 ∙ h.1)
 
 pub parts-self : (a : PartInlets) → SamePartInlets a a
-parts-self a = record { speed = part-self a.speed; throttle = part-self a.throttle; brake = part-self a.brake; belt = part-self a.belt; lamp = part-self a.lamp }
+parts-self a = λ s slow. part-self (slow_at s a)
 
 parts-again : (a b c : PartInlets) → SamePartInlets a b → SamePartInlets b c → SamePartInlets a c
-parts-again a b c h k = record {
-  speed = part-again a.speed b.speed c.speed h.speed k.speed;
-  throttle = part-again a.throttle b.throttle c.throttle h.throttle k.throttle;
-  brake = part-again a.brake b.brake c.brake h.brake k.brake;
-  belt = part-again a.belt b.belt c.belt h.belt k.belt;
-  lamp = part-again a.lamp b.lamp c.lamp h.lamp k.lamp;
-}
+parts-again a b c h k = λ s slow. part-again (slow_at s a) (slow_at s b) (slow_at s c) (h s slow) (k s slow)
 
 -- ---- the same desk
 pub desk-self : (a : Desk) → SameDesk a a

@@ -3,9 +3,9 @@ use Rattle.std.proofs.Common.{◌≡◌, ◌∙◌, ℕ, ◌≤◌, List, [], �
 use Rattle.std.specs.Prelude.{All}
 use Rattle.std.proofs.lemmas.List.Elements.{All-cons, All-head, All-nil, All-push, All-tail}
 use Rattle.edr_items.specs.declared.Sensor.{Sensor}
-use Rattle.edr_items.specs.declared.Sensor.TheVariants.{Speed, Throttle, Brake, Belt, Lamp}
 use Rattle.edr_items.specs.declared.Item.{Item}
-use Rattle.edr_items.specs.SensorLists.{SensorLists}
+use Rattle.edr_items.specs.PerSlowSensor.{slow_at}
+use Rattle.edr_items.specs.SensorLists.{SensorLists, items_of}
 use Rattle.edr_capture.specs.SensorPart.{SensorPart, part}
 use Rattle.edr_seats.specs.Slow.{SameSlowSeat, SlowSeatIsFor, mark_kept, parts_sent, sensor_of_slow}
 use Rattle.edr_loops.specs.declared.slow_place.SlowPlace.{SlowPlace}
@@ -61,13 +61,13 @@ keeps-again s xs a None (Some c) h k = absurd k
 
 -- ---- all places
 pub slow-kept : (f : SensorLists) (a b : SlowPlaces) → SlowKeepOn f a b → ArePlacesKept f b
-slow-kept f a b h = record { speed = keeps-kept Speed f.speed a.speed b.speed h.speed; throttle = keeps-kept Throttle f.throttle a.throttle b.throttle h.throttle; brake = keeps-kept Brake f.brake a.brake b.brake h.brake; belt = keeps-kept Belt f.belt a.belt b.belt h.belt; lamp = keeps-kept Lamp f.lamp a.lamp b.lamp h.lamp }
+slow-kept f a b h = λ s slow. keeps-kept s (items_of s f) (slow_at s a.each) (slow_at s b.each) (h s slow)
 
 pub slow-self : (f : SensorLists) (a : SlowPlaces) → ArePlacesKept f a → SlowKeepOn f a a
-slow-self f a h = record { speed = keeps-self Speed f.speed a.speed h.speed; throttle = keeps-self Throttle f.throttle a.throttle h.throttle; brake = keeps-self Brake f.brake a.brake h.brake; belt = keeps-self Belt f.belt a.belt h.belt; lamp = keeps-self Lamp f.lamp a.lamp h.lamp }
+slow-self f a h = λ s slow. keeps-self s (items_of s f) (slow_at s a.each) (h s slow)
 
 pub slow-again : (f : SensorLists) (a b c : SlowPlaces) → SlowKeepOn f a b → SlowKeepOn f b c → SlowKeepOn f a c
-slow-again f a b c h k = record { speed = keeps-again Speed f.speed a.speed b.speed c.speed h.speed k.speed; throttle = keeps-again Throttle f.throttle a.throttle b.throttle c.throttle h.throttle k.throttle; brake = keeps-again Brake f.brake a.brake b.brake c.brake h.brake k.brake; belt = keeps-again Belt f.belt a.belt b.belt c.belt h.belt k.belt; lamp = keeps-again Lamp f.lamp a.lamp b.lamp c.lamp h.lamp k.lamp }
+slow-again f a b c h k = λ s slow. keeps-again s (items_of s f) (slow_at s a.each) (slow_at s b.each) (slow_at s c.each) (h s slow) (k s slow)
 
 -- ---- parts that were taken
 pub front-parts : (s : Sensor) (xs : List Item) (taken known : List SensorPart) → AreParts s xs (taken ++ known) → AreParts s xs taken

@@ -1,9 +1,10 @@
 -- The places of a worker that go on, and how they are dealt.
 use Rattle.std.proofs.Common.{◌≡◌, List, Option, Some, None, refl, sym, subst, inl, inr}
 use Rattle.edr_items.specs.declared.Sensor.{Sensor}
-use Rattle.edr_items.specs.declared.Sensor.TheVariants.{Speed, Throttle, Brake, Belt, Lamp}
 use Rattle.edr_items.specs.declared.Item.{Item}
-use Rattle.edr_items.specs.SensorLists.{SensorLists}
+use Rattle.edr_items.specs.PerSlowSensor.{slow_at}
+use Rattle.edr_items.specs.SensorLists.{SensorLists, items_of}
+use Rattle.edr_items.proofs.PerSlowSensorLemmas.{slow_at-by}
 use Rattle.edr_loops.specs.declared.stand.FastPlaces.{FastPlaces}
 use Rattle.edr_loops.specs.declared.stand.Stand.{Stand}
 use Rattle.edr_loops.specs.declared.stand.SlowPlaces.{SlowPlaces}
@@ -75,31 +76,15 @@ slow_dealt-keeps s xs a m r m' r' (inr d) h k =
 
 -- ---- the places of slow sensors
 pub slow_dealt-mine : (f : SensorLists) (a m r : SlowPlaces) → ArePlacesKept f a → AreSlowDealt a m r → ArePlacesKept f m
-slow_dealt-mine f a m r h d = record {
-  speed = (slow_dealt Speed f.speed a.speed m.speed r.speed h.speed d.speed).0;
-  throttle = (slow_dealt Throttle f.throttle a.throttle m.throttle r.throttle h.throttle d.throttle).0;
-  brake = (slow_dealt Brake f.brake a.brake m.brake r.brake h.brake d.brake).0;
-  belt = (slow_dealt Belt f.belt a.belt m.belt r.belt h.belt d.belt).0;
-  lamp = (slow_dealt Lamp f.lamp a.lamp m.lamp r.lamp h.lamp d.lamp).0;
-}
+slow_dealt-mine f a m r h d = λ s slow. (slow_dealt s (items_of s f) (slow_at s a.each) (slow_at s m.each) (slow_at s r.each) (h s slow) (d s slow)).0
 
 pub slow_dealt-rest : (f : SensorLists) (a m r : SlowPlaces) → ArePlacesKept f a → AreSlowDealt a m r → ArePlacesKept f r
-slow_dealt-rest f a m r h d = record {
-  speed = (slow_dealt Speed f.speed a.speed m.speed r.speed h.speed d.speed).1;
-  throttle = (slow_dealt Throttle f.throttle a.throttle m.throttle r.throttle h.throttle d.throttle).1;
-  brake = (slow_dealt Brake f.brake a.brake m.brake r.brake h.brake d.brake).1;
-  belt = (slow_dealt Belt f.belt a.belt m.belt r.belt h.belt d.belt).1;
-  lamp = (slow_dealt Lamp f.lamp a.lamp m.lamp r.lamp h.lamp d.lamp).1;
-}
+slow_dealt-rest f a m r h d = λ s slow. (slow_dealt s (items_of s f) (slow_at s a.each) (slow_at s m.each) (slow_at s r.each) (h s slow) (d s slow)).1
 
 pub slow_dealt-on : (f : SensorLists) (a m r m' r' : SlowPlaces) → AreSlowDealt a m r → SlowKeepOn f m m' → SlowKeepOn f r r' → SlowKeepOn f a (either_slow r' m')
-slow_dealt-on f a m r m' r' d h k = record {
-  speed = slow_dealt-keeps Speed f.speed a.speed m.speed r.speed m'.speed r'.speed d.speed h.speed k.speed;
-  throttle = slow_dealt-keeps Throttle f.throttle a.throttle m.throttle r.throttle m'.throttle r'.throttle d.throttle h.throttle k.throttle;
-  brake = slow_dealt-keeps Brake f.brake a.brake m.brake r.brake m'.brake r'.brake d.brake h.brake k.brake;
-  belt = slow_dealt-keeps Belt f.belt a.belt m.belt r.belt m'.belt r'.belt d.belt h.belt k.belt;
-  lamp = slow_dealt-keeps Lamp f.lamp a.lamp m.lamp r.lamp m'.lamp r'.lamp d.lamp h.lamp k.lamp;
-}
+slow_dealt-on f a m r m' r' d h k = λ s slow.
+    subst (KeepsOn s (items_of s f) (slow_at s a.each)) (sym (slow_at-by (λ q. either (slow_at q r'.each) (slow_at q m'.each)) s slow))
+    (slow_dealt-keeps s (items_of s f) (slow_at s a.each) (slow_at s m.each) (slow_at s r.each) (slow_at s m'.each) (slow_at s r'.each) (d s slow) (h s slow) (k s slow))
 
 -- ---- what a worker's handle promises, of the places that went in
 pub back-fast_on : (f f' : SensorLists) (stand before back : Stand) → FastGoOn f' before.fast back.fast → before ≡ stand → f' ≡ f → FastGoOn f stand.fast back.fast

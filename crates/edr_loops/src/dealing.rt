@@ -5,7 +5,7 @@ ghost use Rattle.edr_loops.specs.Places.{IsDealt};
 ghost use Rattle.edr_loops.specs.Stands.{AreFastDealt, AreSlowDealt, either_fast, either_slow};
 
 use crate::stand::{FastPlaces, SlowPlaces};
-use edr_items::Sensor;
+use edr_items::{PerSlowSensor, Sensor};
 
 // Deals a place to this hand, or leaves it.
 pub(crate) fn deal_one<T>(place: &mut Option<T>, mine: bool) -> Option<T>
@@ -52,28 +52,33 @@ impl SlowPlaces {
     pub fn deal(&mut self, w: u32, workers: u32) -> SlowPlaces
         ensures { AreSlowDealt self.old result self.new }
     {
-        SlowPlaces {
-            speed: deal_one(&mut self.speed, is_served_by(Sensor::Speed, w, workers)),
+        let all = &mut self.each;
+        let each = PerSlowSensor {
+            speed: deal_one(&mut all.speed, is_served_by(Sensor::Speed, w, workers)),
             throttle: deal_one(
-                &mut self.throttle,
+                &mut all.throttle,
                 is_served_by(Sensor::Throttle, w, workers),
             ),
-            brake: deal_one(&mut self.brake, is_served_by(Sensor::Brake, w, workers)),
-            belt: deal_one(&mut self.belt, is_served_by(Sensor::Belt, w, workers)),
-            lamp: deal_one(&mut self.lamp, is_served_by(Sensor::Lamp, w, workers)),
-        }
+            brake: deal_one(&mut all.brake, is_served_by(Sensor::Brake, w, workers)),
+            belt: deal_one(&mut all.belt, is_served_by(Sensor::Belt, w, workers)),
+            lamp: deal_one(&mut all.lamp, is_served_by(Sensor::Lamp, w, workers)),
+        };
+        SlowPlaces { each }
     }
 
     /// These places and the others.
     pub fn and(self, other: SlowPlaces) -> SlowPlaces
         ensures { result ≡ either_slow self other }
     {
-        SlowPlaces {
-            speed: self.speed.or(other.speed),
-            throttle: self.throttle.or(other.throttle),
-            brake: self.brake.or(other.brake),
-            belt: self.belt.or(other.belt),
-            lamp: self.lamp.or(other.lamp),
-        }
+        let mine = self.each;
+        let others = other.each;
+        let each = PerSlowSensor {
+            speed: mine.speed.or(others.speed),
+            throttle: mine.throttle.or(others.throttle),
+            brake: mine.brake.or(others.brake),
+            belt: mine.belt.or(others.belt),
+            lamp: mine.lamp.or(others.lamp),
+        };
+        SlowPlaces { each }
     }
 }

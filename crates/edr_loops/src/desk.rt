@@ -75,18 +75,20 @@ fn settle(asker: &mut Asker, asking: &mut bool)
     }
 }
 
+// Whether it is one of the five slow sensors.
+#[inline(always)]
+fn is_slow(sensor: Sensor) -> bool
+    ensures { result ≡ true → IsSlow sensor }
+{
+    let number = sensor.number();
+    3 <= number && number <= 7
+}
+
 // Whether the part is one of that slow sensor.
 fn is_of(part: &Part, sensor: Sensor) -> bool
     ensures { result ≡ true → IsSlow part.now.sensor × (part.now.sensor ≡ sensor) }
 {
-    match (part.sensor, sensor) {
-        (Sensor::Speed, Sensor::Speed) => true,
-        (Sensor::Throttle, Sensor::Throttle) => true,
-        (Sensor::Brake, Sensor::Brake) => true,
-        (Sensor::Belt, Sensor::Belt) => true,
-        (Sensor::Lamp, Sensor::Lamp) => true,
-        _ => false,
-    }
+    part.sensor == sensor && is_slow(sensor)
 }
 
 // Gives an item to the core. It answers whether it was taken, as one that the schedule allows is.
@@ -153,15 +155,17 @@ impl Desk {
         true
     }
 
-    // Reads the mark of a slow sensor, and gives it to the core where it has risen.
+    // Reads the mark of a slow sensor, and gives it to the core where it has risen. Of the other three nothing is read.
     pub(crate) fn load_mark(&mut self, sensor: Sensor) -> bool
-        requires slow { IsSlow sensor }
-        requires stands { IsRecording self.old }
+        requires { IsRecording self.old }
         ensures later { Later self.old self.new }
         ensures stands { IsRecording self.new }
         ensures seat { SeatStays self.old self.new }
         ensures held { self.new.held ≡ self.old.held }
     {
+        if !is_slow(sensor) {
+            return false;
+        }
         let mark = self.asker.mark(sensor);
         let item = Item {
             moment: mark,

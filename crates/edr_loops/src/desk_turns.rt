@@ -8,7 +8,7 @@ ghost use Rattle.edr_loops.specs.Desks.{HasPosted, IsRecording, Later, LaterUpTo
 use crate::desk::Desk;
 use crate::fast_inlets::{FastMarks, FastSensor};
 use edr_core::Issued;
-use edr_items::{LATEST_MOMENT, LONGEST_GAP, Sensor};
+use edr_items::{LATEST_MOMENT, LONGEST_GAP, SENSORS};
 use edr_seats::SLOTS;
 use std::sync::Wait;
 use std::thread;
@@ -55,12 +55,11 @@ impl Desk {
         ensures seat { SeatStays self.old self.new }
         ensures held { self.new.held ≡ self.old.held }
     {
-        let speed = self.load_mark(Sensor::Speed);
-        let throttle = self.load_mark(Sensor::Throttle);
-        let brake = self.load_mark(Sensor::Brake);
-        let belt = self.load_mark(Sensor::Belt);
-        let lamp = self.load_mark(Sensor::Lamp);
-        speed | throttle | brake | belt | lamp
+        let mut moved = false;
+        for sensor in SENSORS {
+            moved |= self.load_mark(sensor);
+        }
+        moved
     }
 
     // Takes a part of each slow sensor, while parts are asked for.
@@ -74,12 +73,11 @@ impl Desk {
         if !self.asking {
             return false;
         }
-        let speed = self.take_part(Sensor::Speed);
-        let throttle = self.take_part(Sensor::Throttle);
-        let brake = self.take_part(Sensor::Brake);
-        let belt = self.take_part(Sensor::Belt);
-        let lamp = self.take_part(Sensor::Lamp);
-        speed | throttle | brake | belt | lamp
+        let mut moved = false;
+        for sensor in SENSORS {
+            moved |= self.take_part(sensor);
+        }
+        moved
     }
 
     // Closes ticks up to one that issues something, or that waits for a sensor or a part, or the horizon.

@@ -7,7 +7,7 @@ ghost use Rattle.edr_loops.specs.Stands.{AreFastBegun, ArePlacesKept, FastGoOn, 
 use crate::place::{Gate, Offered, SensorPlace, serve_some};
 use crate::slow_place::{SlowPlace, serve_slow};
 use edr_board::Watch;
-use edr_items::{Feeds, Sensor};
+use edr_items::{Feeds, PerSlowSensor, SENSORS, Sensor};
 use std::sync::Wait;
 use std::thread;
 
@@ -22,11 +22,7 @@ pub struct FastPlaces {
 /// The places of some of the sensors 3 to 7, which keep their items and send parts alone.
 #[derive(Drop)]
 pub struct SlowPlaces {
-    pub speed: Option<SlowPlace>,
-    pub throttle: Option<SlowPlace>,
-    pub brake: Option<SlowPlace>,
-    pub belt: Option<SlowPlace>,
-    pub lamp: Option<SlowPlace>,
+    pub each: PerSlowSensor<Option<SlowPlace>>,
 }
 
 /// What a worker owns, and hands back at its join.
@@ -53,8 +49,24 @@ impl FastPlaces {
 impl SlowPlaces {
     // Whether no slow sensor is served here.
     fn is_empty(&self) -> bool {
-        let pedals = self.speed.is_none() && self.throttle.is_none() && self.brake.is_none();
-        pedals && self.belt.is_none() && self.lamp.is_none()
+        for sensor in SENSORS {
+            if let Some(Some(_)) = self.each.of(sensor) {
+                return false;
+            }
+        }
+        true
+    }
+
+    // Serves one sensor, if it is served here.
+    #[inline(always)]
+    fn serve<G: Gate>(&mut self, sensor: Sensor, feeds: &Feeds, gate: &G) -> Offered
+        requires { ArePlacesKept feeds.now self.old }
+        ensures { SlowKeepOn feeds.now self.old self.new }
+    {
+        match self.each.of_mut(sensor) {
+            Some(place) => serve_slow(place, sensor, feeds, gate),
+            None => Offered::Over,
+        }
     }
 
     // One round over the sensors. It answers what came of their offers, and of the parts that are asked for.
@@ -62,14 +74,12 @@ impl SlowPlaces {
         requires { ArePlacesKept feeds.now self.old }
         ensures { SlowKeepOn feeds.now self.old self.new }
     {
-        let speed = serve_slow(&mut self.speed, Sensor::Speed, feeds, gate);
-        let throttle = serve_slow(&mut self.throttle, Sensor::Throttle, feeds, gate);
-        let brake = serve_slow(&mut self.brake, Sensor::Brake, feeds, gate);
-        let belt = serve_slow(&mut self.belt, Sensor::Belt, feeds, gate);
-        let lamp = serve_slow(&mut self.lamp, Sensor::Lamp, feeds, gate);
-        let driver = speed.and(throttle).and(brake);
-        let seats = belt.and(lamp);
-        driver.and(seats)
+        let mut offered = Offered::Over;
+        for sensor in SENSORS {
+            let came = self.serve(sensor, feeds, gate);
+            offered = offered.and(came);
+        }
+        offered
     }
 }
 

@@ -34,11 +34,11 @@ fn are_served(fast: &FastPlaces, slow: &SlowPlaces) -> [bool; 8] {
     [
         fast.along.is_some(),
         fast.across.is_some(),
-        slow.speed.is_some(),
-        slow.throttle.is_some(),
-        slow.brake.is_some(),
-        slow.belt.is_some(),
-        slow.lamp.is_some(),
+        slow.each.speed.is_some(),
+        slow.each.throttle.is_some(),
+        slow.each.brake.is_some(),
+        slow.each.belt.is_some(),
+        slow.each.lamp.is_some(),
         fast.restraint.is_some(),
     ]
 }

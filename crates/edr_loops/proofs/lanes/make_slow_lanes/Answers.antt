@@ -1,10 +1,11 @@
+use Rattle.edr_loops.proofs.LaneLemmas.{sides-fresh, sides-kept, sides-lanes}
 use Rattle.edr_loops.proofs.lanes.make_slow_lanes.Goals as goal
 
+pub returns-clause-lanes : goal.returns-clause-lanes
+returns-clause-lanes c = sides-lanes c.in_ok-sides.sides c.lanes_of.result.places c.lanes_of.result.inlets c.in_ok-sides.ensures c.lanes_of.ensures.places c.lanes_of.ensures.inlets
+
+pub returns-clause-fresh : goal.returns-clause-fresh
+returns-clause-fresh c = sides-fresh c.in_ok-sides.sides c.lanes_of.result.places c.lanes_of.result.inlets c.in_ok-sides.ensures c.lanes_of.ensures.places c.lanes_of.ensures.inlets
+
 pub returns-clause-kept : goal.returns-clause-kept
-returns-clause-kept c = λ f. record {
-  speed = c.in_ok-speed.ensures.kept f.speed;
-  throttle = c.in_ok-throttle.ensures.kept f.throttle;
-  brake = c.in_ok-brake.ensures.kept f.brake;
-  belt = c.in_ok-belt.ensures.kept f.belt;
-  lamp = c.in_ok-lamp.ensures.kept f.lamp;
-}
+returns-clause-kept c = sides-kept c.in_ok-sides.sides c.lanes_of.result.places c.lanes_of.result.inlets c.in_ok-sides.ensures c.lanes_of.ensures.places c.lanes_of.ensures.inlets

@@ -1,5 +1,11 @@
+use Rattle.std.proofs.Common.{◌∙◌}
 use Rattle.edr_loops.proofs.LaterLemmas.{later-twice}
 use Rattle.edr_loops.proofs.desk.Desk.load_marks.Goals as goal
 
-pub returns-clause-later : goal.returns-clause-later
-returns-clause-later c = later-twice _ _ _ c.load_mark-speed.ensures.later (later-twice _ _ _ c.load_mark-throttle.ensures.later (later-twice _ _ _ c.load_mark-brake.ensures.later (later-twice _ _ _ c.load_mark-belt.ensures.later (c.load_mark-lamp.ensures.later))))
+pub loop-sensor-preserved : goal.loop-sensor-preserved
+loop-sensor-preserved c = (
+  later-twice _ _ _ c.loop-sensor.invariant.0 c.load_mark-moved.ensures.later,
+  c.load_mark-moved.ensures.stands,
+  (c.load_mark-moved.ensures.seat.0 ∙ c.loop-sensor.invariant.2.0, c.load_mark-moved.ensures.seat.1 ∙ c.loop-sensor.invariant.2.1),
+  c.load_mark-moved.ensures.held ∙ c.loop-sensor.invariant.3,
+)

@@ -1,5 +1,11 @@
+use Rattle.std.proofs.Common.{◌∙◌}
 use Rattle.edr_loops.proofs.LaterLemmas.{later-twice}
 use Rattle.edr_loops.proofs.desk.Desk.take_parts.Goals as goal
 
-pub returns-clause-later : goal.returns-clause-later
-returns-clause-later c = later-twice _ _ _ c.take_part-speed.ensures.later (later-twice _ _ _ c.take_part-throttle.ensures.later (later-twice _ _ _ c.take_part-brake.ensures.later (later-twice _ _ _ c.take_part-belt.ensures.later (c.take_part-lamp.ensures.later))))
+pub loop-sensor-preserved : goal.loop-sensor-preserved
+loop-sensor-preserved c = (
+  later-twice _ _ _ c.loop-sensor.invariant.0 c.take_part-moved.ensures.later,
+  c.take_part-moved.ensures.stands,
+  (c.take_part-moved.ensures.seat.0 ∙ c.loop-sensor.invariant.2.0, c.take_part-moved.ensures.seat.1 ∙ c.loop-sensor.invariant.2.1),
+  c.take_part-moved.ensures.held ∙ c.loop-sensor.invariant.3,
+)
