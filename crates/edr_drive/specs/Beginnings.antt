@@ -2,18 +2,17 @@
 use Rattle.std.specs.Prelude.{◌≡◌, ℕ, []}
 use Rattle.edr_items.specs.SensorLists.{SensorLists}
 use Rattle.edr_core.specs.Captures.{no_captures}
-use Rattle.edr_core.specs.SplitContents.{SplitContents}
 use Rattle.edr_core.specs.SplitHistory.{start_of}
 use Rattle.edr_core.specs.SplitStandsFor.{SplitCoreStandsFor}
-use Rattle.edr_core.specs.declared.captures.Captures.{Captures}
 use Rattle.edr_loops.specs.Orders.{AreEndsOfOrders, orders_sent, orders_taken}
-use Rattle.edr_loops.specs.declared.orders.Orders.{Orders}
 use Rattle.edr_board.specs.FreezeSeats.{IsFreshAsker, freeze_of_asker}
 use Rattle.edr_board.specs.Seats.{closed_posted, gate_posted}
 use Rattle.edr_loops.specs.Lanes.{AreFastLanes, ArePartLanes, FastItems, fast_taken, no_fast_items, no_slow_parts, slow_taken}
 use Rattle.edr_loops.specs.Desks.{HasPosted, DeskStands}
 use Rattle.edr_drive.specs.declared.beginning.Beginning.{Beginning}
 use Rattle.edr_drive.specs.declared.beginning.SensorRings.{SensorRings}
+use Rattle.edr_drive.specs.declared.beginning.Cores.{Cores}
+use Rattle.edr_drive.specs.declared.beginning.Crossings.{Crossings}
 use Rattle.edr_drive.specs.declared.beginning.Seats.{Seats}
 use Rattle.edr_drive.specs.Places.{HaveBegun}
 
@@ -35,15 +34,18 @@ pub record HaveNotPosted (s : Seats) : Type 0 where
   pub gate : gate_posted s.recorder ≡ 0
   pub closed : closed_posted s.recorder ≡ 0
 
--- a core of cycle n that was told nothing, and rings, orders, captures and seats that are fresh
-pub record AreFreshParts (n : ℕ) (c : SplitContents) (captures : Captures) (r : SensorRings) (o : Orders) (s : Seats) : Type 0 where
-  pub core : SplitCoreStandsFor c (start_of n)
-  pub captures_are : captures ≡ no_captures
-  pub rings : AreFreshRings r
-  pub pair : AreEndsOfOrders o.outbox o.inbox
-  pub sent : orders_sent o.outbox ≡ []
-  pub taken : orders_taken o.inbox ≡ []
-  pub seats : HaveNotPosted s
+-- a core of cycle n that was told nothing, and captures that keep nothing
+pub record AreFreshCores (n : ℕ) (c : Cores) : Type 0 where
+  pub core : SplitCoreStandsFor c.core (start_of n)
+  pub captures_are : c.captures ≡ no_captures
+
+-- rings, orders and seats that are fresh
+pub record AreFreshCrossings (c : Crossings) : Type 0 where
+  pub rings : AreFreshRings c.rings
+  pub pair : AreEndsOfOrders c.orders.outbox c.orders.inbox
+  pub sent : orders_sent c.orders.outbox ≡ []
+  pub taken : orders_taken c.orders.inbox ≡ []
+  pub seats : HaveNotPosted c.seats
 
 -- a desk of cycle n to which nothing was given, at one end of each ring, and the places and the inbox at the other
 pub record IsBeginning (n : ℕ) (b : Beginning) : Type 0 where

@@ -6,23 +6,23 @@ use Rattle.edr_loops.specs.Lanes.{AreFastLanes, ArePartLanes, PartInlets}
 use Rattle.edr_drive.proofs.beginning.seat_desk.Goals as goal
 
 pub returns : goal.returns
-returns c = λ n fresh.
+returns c = λ n cores crossings.
     let desk = c.new-desk.ensures in
-    let rings = fresh.rings in
-    let gate = fresh.seats.gate in
+    let rings = crossings.rings in
+    let gate = crossings.seats.gate in
     record {
       stands = λ horizon. desk.stands n horizon (record {
-        core_is = fresh.core;
+        core_is = cores.core;
         asker_is = rings.asker_is;
         fast_is = rings.fast_taken_is;
         parts_are = rings.parts_taken_are;
-        sent_is = fresh.sent;
+        sent_is = crossings.sent;
       });
-      posted = desk.posted fresh.seats.closed (omega (arith, gate));
-      lanes = subst (λ (i : FastInlets). AreFastLanes c.args.rings.places.fast i) (sym desk.rings.0) rings.lanes;
-      part_lanes = subst (λ (i : PartInlets). ArePartLanes c.args.rings.places.slow i) (sym desk.rings.1) rings.part_lanes;
+      posted = desk.posted crossings.seats.closed (omega (arith, gate));
+      lanes = subst (λ (i : FastInlets). AreFastLanes c.args.crossings.rings.places.fast i) (sym desk.rings.0) rings.lanes;
+      part_lanes = subst (λ (i : PartInlets). ArePartLanes c.args.crossings.rings.places.slow i) (sym desk.rings.1) rings.part_lanes;
       begun = rings.begun;
-      pair = subst (λ (o : Outbox). AreEndsOfOrders o c.args.orders.inbox) (sym desk.rings.2) fresh.pair;
-      fresh = fresh.taken;
-      captures = fresh.captures_are;
+      pair = subst (λ (o : Outbox). AreEndsOfOrders o c.args.crossings.orders.inbox) (sym desk.rings.2) crossings.pair;
+      fresh = crossings.taken;
+      captures = cores.captures_are;
     }
