@@ -62,6 +62,13 @@ refused-not q w asking zero none =
     ∙ ap (λ (v : Bool). cond {A = Option PartRefused} (not v) (Some (refused.Zero (w.past.closed + 1))) (cond {A = Option PartRefused} (is_some (part_in w.parts q.sensor (w.past.closed + 1))) (Some refused.Twice) None)) (ap (λ z. nat_eq z (w.past.closed + 1)) zero ∙ eqb_same (w.past.closed + 1))
     ∙ ap (λ (o : Option SensorPart). cond {A = Option PartRefused} (is_some o) (Some refused.Twice) None) none
 
+-- it is refused, if its sensor's was
+pub refused-again : (q : SensorPart) (w : History) → w.asking ≡ true → q.zero ≡ w.past.closed + 1 → IsSome (part_in w.parts q.sensor (w.past.closed + 1)) → part_refusal_of q w ≡ Some refused.Twice
+refused-again q w asking zero some =
+    ap (λ (v : Bool). cond {A = Option PartRefused} (not v) (Some refused.NotAsked) (cond {A = Option PartRefused} (not (nat_eq q.zero (w.past.closed + 1))) (Some (refused.Zero (w.past.closed + 1))) (cond {A = Option PartRefused} (is_some (part_in w.parts q.sensor (w.past.closed + 1))) (Some refused.Twice) None))) asking
+    ∙ ap (λ (v : Bool). cond {A = Option PartRefused} (not v) (Some (refused.Zero (w.past.closed + 1))) (cond {A = Option PartRefused} (is_some (part_in w.parts q.sensor (w.past.closed + 1))) (Some refused.Twice) None)) (ap (λ z. nat_eq z (w.past.closed + 1)) zero ∙ eqb_same (w.past.closed + 1))
+    ∙ ap (λ (v : Bool). cond {A = Option PartRefused} v (Some refused.Twice) None) some
+
 taken-by : {E : Type 0} (r : Result (Unit {0}) E) (A B : Type 0) → (IsOk r ↔ B) → B → OnOk r A → A
 taken-by (Ok v) A B both b on = on
 taken-by (Err e) A B both b on = let ok = both.1 b in cc
