@@ -10,7 +10,7 @@ use Rattle.edr_definitions.specs.declared.limits.TheConstants.{LONGEST_AGE}
 use Rattle.edr_items.specs.declared.TheConstants.{LONGEST_GAP}
 use Rattle.edr_record.specs.declared.TheConstants.{LONG_SLOTS, SINGLE_REACH, SLOT_REACH, SLOT_STEP}
 use Rattle.edr_items.specs.declared.Sensor.{Sensor}
-use Rattle.edr_items.specs.declared.Sensor.TheVariants.{Along, Across, Speed, Throttle, Brake, Belt, Lamp, Restraint}
+use Rattle.edr_items.specs.declared.Sensor.TheVariants.{Belt, Lamp}
 use Rattle.edr_items.specs.declared.Item.{Item}
 use Rattle.edr_items.specs.Item.{mark_of}
 use Rattle.edr_items.specs.Sensor.{is_in_range, IsSlow}
@@ -46,12 +46,7 @@ slots-later z xs later all =
 part_slots-later : (s : Sensor) (xs later : List Item) (z : ℕ) → All (λ x. z < x.moment) later → part_slots s (xs ++ later) z ≡ part_slots s xs z
 part_slots-later Belt xs later z all = ap (λ o. o ∷ replicate (LONG_SLOTS - 1) None) (slot-later (z - SINGLE_REACH) z xs later (omega arith) all)
 part_slots-later Lamp xs later z all = ap (λ o. o ∷ replicate (LONG_SLOTS - 1) None) (slot-later (z - SINGLE_REACH) z xs later (omega arith) all)
-part_slots-later Along xs later z all = slots-later z xs later all
-part_slots-later Across xs later z all = slots-later z xs later all
-part_slots-later Speed xs later z all = slots-later z xs later all
-part_slots-later Throttle xs later z all = slots-later z xs later all
-part_slots-later Brake xs later z all = slots-later z xs later all
-part_slots-later Restraint xs later z all = slots-later z xs later all
+part_slots-later s xs later z all = slots-later z xs later all
 
 pub part-later : (s : Sensor) (xs later : List Item) (z : ℕ) → All (λ x. z < x.moment) later → part s (xs ++ later) z ≡ part s xs z
 part-later s xs later z all = ap (λ slots. record { sensor = s; zero = z; slots = slots }) (part_slots-later s xs later z all)
@@ -68,12 +63,7 @@ slots-given kept given z near is =
 part_slots-given : (s : Sensor) (kept given : List Item) (z : ℕ) → mark_of kept ≤ z + LONGEST_GAP → CaptureStandsFor kept given → part_slots s kept z ≡ part_slots s given z
 part_slots-given Belt kept given z near is = ap (λ o. o ∷ replicate (LONG_SLOTS - 1) None) (slot-given kept given z (z - SINGLE_REACH) near (omega arith) is)
 part_slots-given Lamp kept given z near is = ap (λ o. o ∷ replicate (LONG_SLOTS - 1) None) (slot-given kept given z (z - SINGLE_REACH) near (omega arith) is)
-part_slots-given Along kept given z near is = slots-given kept given z near is
-part_slots-given Across kept given z near is = slots-given kept given z near is
-part_slots-given Speed kept given z near is = slots-given kept given z near is
-part_slots-given Throttle kept given z near is = slots-given kept given z near is
-part_slots-given Brake kept given z near is = slots-given kept given z near is
-part_slots-given Restraint kept given z near is = slots-given kept given z near is
+part_slots-given s kept given z near is = slots-given kept given z near is
 
 pub part-given : (s : Sensor) (kept given : List Item) (z : ℕ) → mark_of kept ≤ z + LONGEST_GAP → CaptureStandsFor kept given → part s kept z ≡ part s given z
 part-given s kept given z near is = ap (λ slots. record { sensor = s; zero = z; slots = slots }) (part_slots-given s kept given z near is)
@@ -109,9 +99,4 @@ one_slot s o is = All-cons (IsSlotOf s) o (replicate (LONG_SLOTS - 1) None) is (
 pub part-is : (s : Sensor) (xs : List Item) (z : ℕ) → IsSlow s → All (IsOfSensor s) xs → IsPart (part s xs z)
 part-is Belt xs z slow all = record { slow = slow; long = refl; range = one_slot Belt (slot xs (z - SINGLE_REACH)) (slot_is Belt xs (z - SINGLE_REACH) all); its = refl }
 part-is Lamp xs z slow all = record { slow = slow; long = refl; range = one_slot Lamp (slot xs (z - SINGLE_REACH)) (slot_is Lamp xs (z - SINGLE_REACH) all); its = refl }
-part-is Speed xs z slow all = let r = slots_are Speed xs z all in record { slow = slow; long = r.1; range = r.0; its = tt }
-part-is Throttle xs z slow all = let r = slots_are Throttle xs z all in record { slow = slow; long = r.1; range = r.0; its = tt }
-part-is Brake xs z slow all = let r = slots_are Brake xs z all in record { slow = slow; long = r.1; range = r.0; its = tt }
-part-is Along xs z slow all = let r = slots_are Along xs z all in record { slow = slow; long = r.1; range = r.0; its = tt }
-part-is Across xs z slow all = let r = slots_are Across xs z all in record { slow = slow; long = r.1; range = r.0; its = tt }
-part-is Restraint xs z slow all = let r = slots_are Restraint xs z all in record { slow = slow; long = r.1; range = r.0; its = tt }
+part-is s xs z slow all = let r = slots_are s xs z all in record { slow = slow; long = r.1; range = r.0; its = tt }

@@ -2,7 +2,7 @@
 use Rattle.std.specs.Prelude.{◌≡◌, ◌-◌, ℕ, ℤ, true, Option, None, IfSome, List, ◌∷◌, length, replicate, drop, All}
 use Rattle.edr_record.specs.declared.TheConstants.{LONG_SLOTS, SINGLE_REACH}
 use Rattle.edr_items.specs.declared.Sensor.{Sensor}
-use Rattle.edr_items.specs.declared.Sensor.TheVariants.{Along, Across, Speed, Throttle, Brake, Belt, Lamp, Restraint}
+use Rattle.edr_items.specs.declared.Sensor.TheVariants.{Belt, Lamp}
 use Rattle.edr_items.specs.declared.Item.{Item}
 use Rattle.edr_items.specs.Sensor.{is_in_range, IsSlow}
 use Rattle.edr_items.specs.Item.{has_value_in_range}
@@ -22,12 +22,7 @@ pub record SensorPart : Type 0 where
 abbrev pub part_slots : Sensor → List Item → ℕ → List (Option ℤ)
 part_slots Belt xs z = slot xs (z - SINGLE_REACH) ∷ replicate (LONG_SLOTS - 1) None
 part_slots Lamp xs z = slot xs (z - SINGLE_REACH) ∷ replicate (LONG_SLOTS - 1) None
-part_slots Along xs z = slots_before xs z
-part_slots Across xs z = slots_before xs z
-part_slots Speed xs z = slots_before xs z
-part_slots Throttle xs z = slots_before xs z
-part_slots Brake xs z = slots_before xs z
-part_slots Restraint xs z = slots_before xs z
+part_slots s xs z = slots_before xs z
 
 -- the part of the time zero z
 abbrev pub part : Sensor → List Item → ℕ → SensorPart
@@ -37,12 +32,7 @@ part s xs z = record { sensor = s; zero = z; slots = part_slots s xs z }
 abbrev pub HasItsSlots : Sensor → List (Option ℤ) → Type 0
 HasItsSlots Belt slots = drop 1 slots ≡ replicate (LONG_SLOTS - 1) None
 HasItsSlots Lamp slots = drop 1 slots ≡ replicate (LONG_SLOTS - 1) None
-HasItsSlots Along slots = Unit {0}
-HasItsSlots Across slots = Unit {0}
-HasItsSlots Speed slots = Unit {0}
-HasItsSlots Throttle slots = Unit {0}
-HasItsSlots Brake slots = Unit {0}
-HasItsSlots Restraint slots = Unit {0}
+HasItsSlots s slots = Unit {0}
 
 -- the bounds of a part
 pub record IsPart (p : SensorPart) : Type 0 where

@@ -2,11 +2,10 @@
 use Rattle.std.proofs.Common.{arith, refl, ◌≡◌, ℕ, ◌+◌, ◌≤◌, None, List, [], ◌∷◌, ◌++◌}
 use Rattle.edr_items.specs.declared.TheConstants.{LONGEST_GAP}
 use Rattle.edr_items.specs.declared.Sensor.{Sensor}
-use Rattle.edr_items.specs.declared.Sensor.TheVariants.{Along, Across, Speed, Throttle, Brake, Belt, Lamp, Restraint}
 use Rattle.edr_items.specs.declared.Item.{Item}
 use Rattle.edr_items.specs.Item.{refusal_of, mark_from, mark_of, IsFeedAfter, IsFeed}
 use Rattle.edr_items.specs.SensorLists.{SensorLists, items_of, with_items, AreFeeds, horizon_of}
-use Rattle.edr_items.proofs.FeedLemmas.{refusal_of-rises}
+use Rattle.edr_items.proofs.FeedLemmas.{refusal_of-rises, feeds-each, each-feeds}
 pub use Rattle.edr_items.proofs.LevelLemmas.{horizon-least, horizon-above}
 use Rattle.edr_items.proofs.PerSensorLemmas.{with_value-each}
 use Rattle.edr_definitions.specs.Schedule.{with_item}
@@ -18,26 +17,10 @@ with_items-each P s xs f here rest = with_value-each P s xs f here rest
 
 -- feeds are a feed of each sensor
 pub AreFeeds-each : (f : SensorLists) → AreFeeds f → (s : Sensor) → IsFeed s (items_of s f)
-AreFeeds-each f h Along = h.along
-AreFeeds-each f h Across = h.across
-AreFeeds-each f h Speed = h.speed
-AreFeeds-each f h Throttle = h.throttle
-AreFeeds-each f h Brake = h.brake
-AreFeeds-each f h Belt = h.belt
-AreFeeds-each f h Lamp = h.lamp
-AreFeeds-each f h Restraint = h.restraint
+AreFeeds-each f h = feeds-each f h
 
 pub each-AreFeeds : (f : SensorLists) → ((s : Sensor) → IsFeed s (items_of s f)) → AreFeeds f
-each-AreFeeds f h = record {
-  along = h Along;
-  across = h Across;
-  speed = h Speed;
-  throttle = h Throttle;
-  brake = h Brake;
-  belt = h Belt;
-  lamp = h Lamp;
-  restraint = h Restraint;
-}
+each-AreFeeds f h = each-feeds f h
 
 -- ---- marks
 -- the mark of a list is the moment of its last item

@@ -1,7 +1,8 @@
 -- The definitions once more as facts: laws say that the tests, searches and slots mean these.
 use Rattle.std.specs.Prelude.{◌≡◌, ◌≢◌, ℕ, ◌+◌, ◌-◌, ◌<◌, ◌≤◌, max, ◌⊎◌, Option, Some, None, ℤ, MatchOption, List, [], ◌∷◌, Contains}
 use Rattle.edr_items.specs.declared.Item.{Item}
-use Rattle.edr_items.specs.SensorLists.{SensorLists}
+use Rattle.edr_items.specs.PerSlowSensor.{EachSlow}
+use Rattle.edr_items.specs.SensorLists.{SensorLists, items_of}
 use Rattle.edr_record.specs.declared.Command.{Command}
 use Rattle.edr_record.specs.declared.Command.TheVariants.{Take, Lock, Done}
 use Rattle.edr_record.specs.Bounds.{IsPre, IsCrash}
@@ -110,8 +111,4 @@ pub record AgreeUpTo (t : ℕ) (m n : Signals) : Type 0 where
 -- up to the tick t the lists give the same signals, and each slow sensor the same slots
 pub record GiveTheSameUpTo (t : ℕ) (f g : SensorLists) : Type 0 where
   pub signals : AgreeUpTo t (signals_of f) (signals_of g)
-  pub speed : (u : ℕ) → u ≤ t → slot f.speed u ≡ slot g.speed u
-  pub throttle : (u : ℕ) → u ≤ t → slot f.throttle u ≡ slot g.throttle u
-  pub brake : (u : ℕ) → u ≤ t → slot f.brake u ≡ slot g.brake u
-  pub belt : (u : ℕ) → u ≤ t → slot f.belt u ≡ slot g.belt u
-  pub lamp : (u : ℕ) → u ≤ t → slot f.lamp u ≡ slot g.lamp u
+  pub slots : EachSlow (λ s. (u : ℕ) → u ≤ t → slot (items_of s f) u ≡ slot (items_of s g) u)

@@ -2,10 +2,13 @@
 use Rattle.std.proofs.Common.{arith, ◌≡◌, ◌∙◌, ap, refl, ℕ, zero, suc, ◌+◌, ◌*◌, ◌≤◌, ◌%◌, ◌==◌, ℤ, Bool, true, false, List, [], ◌∷◌, ◌++◌, map, length, length-append}
 use Rattle.std.proofs.lemmas.List.{length-map}
 use Rattle.edr_items.specs.declared.Sensor.{Sensor}
-use Rattle.edr_items.specs.declared.Sensor.TheVariants.{Along, Across, Speed, Throttle, Brake, Belt, Lamp, Restraint}
 use Rattle.edr_items.specs.declared.Item.{Item}
+use Rattle.edr_items.specs.PerSensor.{total_of}
+use Rattle.edr_items.specs.SensorLists.{items_of}
+use Rattle.edr_items.proofs.PerSensorLemmas.{total-with}
 use Rattle.edr_spell.specs.declared.Row.TheVariants as row
 use Rattle.edr_spell.specs.Samples.{Sample, feeds_given, row_for}
+use Rattle.edr_spell.proofs.FeedsLemmas.{feeds_given-next}
 use Rattle.edr_gen.specs.declared.plan.TheConstants.{TICKS}
 use Rattle.edr_gen.specs.Cycles.{acting_at, along_of, across_of, crash_samples, has_firing, restraint_samples, samples_after, samples_at, slow_samples}
 use Rattle.edr_gen.specs.Draws.{Planned}
@@ -14,15 +17,11 @@ use Rattle.edr_large.specs.Rows.{items_in, most_items}
 
 -- one more sample is one more item
 one_more : (s : Sensor) (i : Item) (xs : List Sample) → items_in (feeds_given (record { sensor = s; item = i } ∷ xs)) ≡ suc (items_in (feeds_given xs))
-unfolding feeds_given
-one_more Along i xs = omega arith
-one_more Across i xs = omega arith
-one_more Speed i xs = omega arith
-one_more Throttle i xs = omega arith
-one_more Brake i xs = omega arith
-one_more Belt i xs = omega arith
-one_more Lamp i xs = omega arith
-one_more Restraint i xs = omega arith
+one_more s i xs =
+    let f = feeds_given xs in
+    let next = ap (total_of length) (feeds_given-next s i xs) in
+    let all = total-with length s (i ∷ items_of s f) f in
+    omega (arith, next, all)
 
 -- the samples are the items
 given_all : (xs : List Sample) → items_in (feeds_given xs) ≡ length xs

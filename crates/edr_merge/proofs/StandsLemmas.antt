@@ -10,7 +10,7 @@ use Rattle.edr_items.specs.declared.Item.{Item}
 use Rattle.edr_items.specs.declared.Restraints.{Restraints}
 use Rattle.edr_items.specs.Item.{refusal_of, mark_of, IsFeed}
 use Rattle.edr_items.specs.SensorLists.{no_items, SensorLists, items_of, sensors}
-use Rattle.edr_items.proofs.FeedLemmas.{refusal_of-rises, IsFeedAfter-push}
+use Rattle.edr_items.proofs.FeedLemmas.{refusal_of-rises, IsFeedAfter-push, no_items-feeds}
 use Rattle.edr_definitions.specs.Signals.{sample_at}
 use Rattle.edr_definitions.specs.Schedule.{Progress, Give, Close, IsAllowed, with_item, after_step}
 use Rattle.edr_definitions.proofs.MarkLaws.{with_items-each, AreFeeds-each, each-AreFeeds, mark-push, horizon-least, horizon-above, horizon-with_item}
@@ -121,7 +121,7 @@ find-holds p (x ∷ xs) s h = by_test (find-holds p xs s) (p x) refl h where
 pub stands-new : (m : Marks) (r : Rings) → m ≡ no_marks → r ≡ no_samples → MergeStandsFor (record { closed = 0; marks = m; rings = r }) (record { given = no_items; closed = 0 })
 unfolding waiting
 stands-new m r is_m is_r = rw (is_m, is_r) (record {
-  feeds = record { along = tt; across = tt; speed = tt; throttle = tt; brake = tt; belt = tt; lamp = tt; restraint = tt };
+  feeds = no_items-feeds;
   within = omega arith;
   near = λ s. rw (value_of-each {A = List Item} [] s) (omega arith);
   closed_is = refl;

@@ -1,7 +1,7 @@
 -- The samples that wait of the three sensors that a row is made of.
 use Rattle.std.specs.Prelude.{[]}
 use Rattle.edr_items.specs.declared.Sensor.{Sensor}
-use Rattle.edr_items.specs.declared.Sensor.TheVariants.{Along, Across, Speed, Throttle, Brake, Belt, Lamp, Restraint}
+use Rattle.edr_items.specs.declared.Sensor.TheVariants.{Along, Across, Restraint}
 use Rattle.edr_items.specs.declared.Item.{Item}
 use Rattle.edr_merge.specs.declared.rings.Rings.{Rings}
 use Rattle.edr_merge.specs.Samples.{kept}
@@ -14,9 +14,5 @@ no_samples = record { along = []; across = []; restraint = [] }
 abbrev pub with_kept : Sensor → Item → Rings → Rings
 with_kept Along x r = record r { along = kept x r.along }
 with_kept Across x r = record r { across = kept x r.across }
-with_kept Speed x r = r
-with_kept Throttle x r = r
-with_kept Brake x r = r
-with_kept Belt x r = r
-with_kept Lamp x r = r
 with_kept Restraint x r = record r { restraint = kept x r.restraint }
+with_kept s x r = r

@@ -1,12 +1,14 @@
 -- The bounds of what is read: of the rows, and of the cycles that they spell.
-use Rattle.std.proofs.Common.{arith, ◌≡◌, subst, sym, refl, ℕ, ◌≤◌, ℤ, Bool, true, false, nat_le, Option, Some, None, Result, Ok, Err, List, [], ◌∷◌, ◌++◌, map, inl, inr}
+use Rattle.std.proofs.Common.{arith, ◌≡◌, ap, subst, sym, refl, ℕ, ◌≤◌, ℤ, Bool, true, false, nat_le, Option, Some, None, Result, Ok, Err, List, [], ◌∷◌, ◌++◌, map, inl, inr}
 use Rattle.std.proofs.lemmas.Bool.Decides.{nat_tests}
 use Rattle.std.specs.List.{AllByRecursion}
 use Rattle.std.specs.Option.{option_map_or}
 use Rattle.edr_items.specs.declared.Sensor.{Sensor}
-use Rattle.edr_items.specs.declared.Sensor.TheVariants.{Along, Across, Speed, Throttle, Brake, Belt, Lamp, Restraint}
+use Rattle.edr_items.specs.declared.Item.{Item}
 use Rattle.edr_items.specs.Item.{mark_of}
 use Rattle.edr_items.specs.SensorLists.{items_of, no_items, IsLevel}
+use Rattle.edr_items.proofs.FeedLemmas.{no_items-feeds}
+use Rattle.edr_items.proofs.PerSensorLemmas.{value_of-each}
 use Rattle.edr_text.specs.Numbers.{natural_in, integer_in}
 use Rattle.edr_spell.specs.declared.CycleInput.{CycleInput}
 use Rattle.edr_spell.specs.declared.Word.{Word}
@@ -17,7 +19,6 @@ use Rattle.edr_spell.specs.declared.TraceFault.{TraceFault}
 use Rattle.edr_spell.specs.Rows.{◌>>=◌, is_i32, in_i32, value_in, nothing_in, up_to, highest_u32, word_of, row_by, row_of, IsRow, AreRows}
 use Rattle.edr_spell.specs.Samples.{row_for}
 use Rattle.edr_spell.specs.Spell.{stopped_cycle, SpellsCycle, SpellCycles, Spell, IsCycleInput}
-use Rattle.edr_spell.proofs.FeedsLemmas.{no_items-feeds}
 
 -- where two steps are right, the first one is
 first-right : {A B : Type 0} (x : Result A TraceFault) (next : A → Result B TraceFault) (r : B) → (x >>= next) ≡ Ok r → (a : A) × (x ≡ Ok a) × (next a ≡ Ok r)
@@ -99,14 +100,7 @@ all-back [] b h = h
 all-back (r ∷ a) b h = all-back a b h.1
 
 no_items-mark : (s : Sensor) → mark_of (items_of s no_items) ≡ 0
-no_items-mark Along = refl
-no_items-mark Across = refl
-no_items-mark Speed = refl
-no_items-mark Throttle = refl
-no_items-mark Brake = refl
-no_items-mark Belt = refl
-no_items-mark Lamp = refl
-no_items-mark Restraint = refl
+no_items-mark s = ap (λ (xs : List Item). mark_of xs) (value_of-each {A = List Item} [] s)
 
 no_items-level : IsLevel no_items
 no_items-level = λ s r. let a = no_items-mark s in omega (arith, a)

@@ -4,13 +4,12 @@ use Rattle.std.specs.List.{filter}
 use Rattle.std.proofs.lemmas.List.{append-nil, map-append}
 use Rattle.std.proofs.lemmas.List.Elements.{filter-append}
 use Rattle.edr_items.specs.declared.Sensor.{Sensor}
-use Rattle.edr_items.specs.declared.Sensor.TheVariants.{Along, Across, Speed, Throttle, Brake, Belt, Lamp, Restraint}
 use Rattle.edr_items.specs.declared.Item.{Item}
 use Rattle.edr_items.specs.Sensor.{number_of}
 use Rattle.edr_items.specs.Item.{mark_from, mark_of, IsFeedAfter, IsFeed}
 use Rattle.edr_items.specs.SensorLists.{SensorLists, items_of, with_items, AreFeeds, no_items}
-use Rattle.edr_items.proofs.FeedLemmas.{IsFeedAfter-push}
-use Rattle.edr_items.proofs.PerSensorLemmas.{values-same, with_value-each, with_value-others}
+use Rattle.edr_items.proofs.FeedLemmas.{IsFeedAfter-push, feeds-each, each-feeds}
+use Rattle.edr_items.proofs.PerSensorLemmas.{values-same, value_of-by, with_value-each, with_value-others}
 use Rattle.edr_spell.specs.Samples.{Sample, is_of, items_given, feeds_given}
 use Rattle.edr_spell.specs.Fault.{item_fault}
 use Rattle.edr_spell.proofs.ItemLemmas.{item_fault-accepts, accepted-item_fault}
@@ -25,14 +24,7 @@ feeds_given-nil = refl
 
 pub items_of-given : (s : Sensor) (xs : List Sample) → items_of s (feeds_given xs) ≡ items_given s xs
 unfolding feeds_given
-items_of-given Along xs = refl
-items_of-given Across xs = refl
-items_of-given Speed xs = refl
-items_of-given Throttle xs = refl
-items_of-given Brake xs = refl
-items_of-given Belt xs = refl
-items_of-given Lamp xs = refl
-items_of-given Restraint xs = refl
+items_of-given s xs = value_of-by (λ r. items_given r xs) s
 
 eqb_same : (n : ℕ) → nat_eq n n ≡ true
 eqb_same n = search arith
@@ -53,28 +45,28 @@ feeds_given-push xs s x =
     (λ r other. given-other r xs z other ∙ sym (items_of-given r xs)) in
     values-same (feeds_given (xs ++ z ∷ [])) (with_items s (items_of s f ++ x ∷ []) f) (λ r. items_of-given r (xs ++ z ∷ []) ∙ more r)
 
+-- a row of a sensor before others gives that sensor an item before those
+first-same : (s : Sensor) (x : Sample) (xs : List Sample) → is_of s x ≡ true → items_given s (x ∷ xs) ≡ x.item ∷ items_given s xs
+first-same s x xs e = rw e refl
+
+first-other : (s : Sensor) (x : Sample) (xs : List Sample) → is_of s x ≡ false → items_given s (x ∷ xs) ≡ items_given s xs
+first-other s x xs e = rw e refl
+
+pub feeds_given-next : (s : Sensor) (x : Item) (xs : List Sample) → feeds_given (record { sensor = s; item = x } ∷ xs) ≡ with_items s (x ∷ items_of s (feeds_given xs)) (feeds_given xs)
+feeds_given-next s x xs =
+    let z : Sample = record { sensor = s; item = x } in
+    let f = feeds_given xs in
+    let more = with_value-others (λ r (ys : List Item). items_given r (z ∷ xs) ≡ ys) s (x ∷ items_of s f) f
+    (first-same s z xs (eqb_same (number_of s)) ∙ ap (λ (ys : List Item). x ∷ ys) (sym (items_of-given s xs)))
+    (λ r other. first-other r z xs other ∙ sym (items_of-given r xs)) in
+    values-same (feeds_given (z ∷ xs)) (with_items s (x ∷ items_of s f) f) (λ r. items_of-given r (z ∷ xs) ∙ more r)
+
 pub IsFeed-of : (s : Sensor) (f : SensorLists) → AreFeeds f → IsFeed s (items_of s f)
-IsFeed-of Along f fed = fed.along
-IsFeed-of Across f fed = fed.across
-IsFeed-of Speed f fed = fed.speed
-IsFeed-of Throttle f fed = fed.throttle
-IsFeed-of Brake f fed = fed.brake
-IsFeed-of Belt f fed = fed.belt
-IsFeed-of Lamp f fed = fed.lamp
-IsFeed-of Restraint f fed = fed.restraint
+IsFeed-of s f fed = feeds-each f fed s
 
 -- feeds with one more item that has no fault are feeds
 pub AreFeeds-push : (f : SensorLists) (s : Sensor) (x : Item) → AreFeeds f → item_fault s (mark_of (items_of s f)) x ≡ None → AreFeeds (with_items s (items_of s f ++ x ∷ []) f)
-AreFeeds-push f s x fed h = record {
-  along = feed Along;
-  across = feed Across;
-  speed = feed Speed;
-  throttle = feed Throttle;
-  brake = feed Brake;
-  belt = feed Belt;
-  lamp = feed Lamp;
-  restraint = feed Restraint;
-} where
+AreFeeds-push f s x fed h = each-feeds (with_items s (items_of s f ++ x ∷ []) f) feed where
   feed : (r : Sensor) → IsFeed r (items_of r (with_items s (items_of s f ++ x ∷ []) f))
   feed =
       let ok = item_fault-accepts s (mark_of (items_of s f)) x h in
@@ -84,6 +76,3 @@ AreFeeds-push f s x fed h = record {
 pub IsFeedAfter-within : (s : Sensor) (last : ℕ) (xs ys : List Item) (x : Item) → IsFeedAfter s last (xs ++ x ∷ ys) → item_fault s (mark_from last xs) x ≡ None
 IsFeedAfter-within s last [] ys x fed = accepted-item_fault s last x fed.0 fed.1
 IsFeedAfter-within s last (y ∷ xs) ys x fed = IsFeedAfter-within s y.moment xs ys x fed.2
-
-pub no_items-feeds : AreFeeds no_items
-no_items-feeds = record { along = tt; across = tt; speed = tt; throttle = tt; brake = tt; belt = tt; lamp = tt; restraint = tt }

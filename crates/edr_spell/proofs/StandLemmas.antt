@@ -3,6 +3,7 @@ use Rattle.std.proofs.Common.{arith, ◌≡◌, ◌∙◌, sym, ap, ap₂, subst
 use Rattle.std.proofs.lemmas.List.{append-nil, map-append}
 use Rattle.edr_items.specs.declared.Sensor.{Sensor}
 use Rattle.edr_items.specs.SensorLists.{SensorLists, AreFeeds, IsLevel, lagging_of}
+use Rattle.edr_items.proofs.FeedLemmas.{no_items-feeds}
 use Rattle.edr_items.proofs.LevelLemmas.{IsLevel-from_lagging}
 use Rattle.edr_spell.specs.declared.CycleInput.{CycleInput}
 use Rattle.edr_spell.specs.declared.Row.{Row}
@@ -14,7 +15,7 @@ use Rattle.edr_spell.specs.Samples.{Sample, row_for, feeds_given}
 use Rattle.edr_spell.specs.Spell.{stopped_cycle, whole_cycle, SpellsCycle, SpellCycles}
 use Rattle.edr_spell.specs.Fault.{opened, open_after, fault_in, AreFaultless}
 use Rattle.edr_spell.specs.Steps.{feeds_next, cycles_next}
-use Rattle.edr_spell.proofs.FeedsLemmas.{feeds_given-nil, feeds_given-push, AreFeeds-push, no_items-feeds}
+use Rattle.edr_spell.proofs.FeedsLemmas.{feeds_given-nil, feeds_given-push, AreFeeds-push}
 
 -- one record more is one row more
 pub are_rows-push : (records : List (List (List ℕ))) (rows : List Row) (r : List (List ℕ)) (q : Row) → AreRows records rows → row_of r ≡ Ok q → AreRows (records ++ r ∷ []) (rows ++ q ∷ [])

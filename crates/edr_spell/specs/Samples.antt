@@ -1,9 +1,9 @@
 -- What the sensor rows of a cycle give each sensor.
 use Rattle.std.specs.Prelude.{Bool, ◌==◌, List, map, filter}
 use Rattle.edr_items.specs.declared.Sensor.{Sensor}
-use Rattle.edr_items.specs.declared.Sensor.TheVariants.{Along, Across, Speed, Throttle, Brake, Belt, Lamp, Restraint}
 use Rattle.edr_items.specs.declared.Item.{Item}
 use Rattle.edr_items.specs.Sensor.{number_of}
+use Rattle.edr_items.specs.PerSensor.{values_by}
 use Rattle.edr_items.specs.SensorLists.{SensorLists}
 use Rattle.edr_spell.specs.declared.Row.{Row}
 use Rattle.edr_spell.specs.declared.Row.TheVariants as row
@@ -27,13 +27,4 @@ items_given s xs = map (λ x. x.item) (filter (is_of s) xs)
 
 -- the items of each
 unfoldable pub feeds_given : List Sample → SensorLists
-feeds_given xs = record {
-  along = items_given Along xs;
-  across = items_given Across xs;
-  speed = items_given Speed xs;
-  throttle = items_given Throttle xs;
-  brake = items_given Brake xs;
-  belt = items_given Belt xs;
-  lamp = items_given Lamp xs;
-  restraint = items_given Restraint xs;
-}
+feeds_given xs = values_by (λ s. items_given s xs)
