@@ -6,3 +6,4 @@ pub mod LendingLemmas
 pub mod DrawLemmas
 pub mod MomentLemmas
 pub mod FuseLemmas
+pub mod StopLemmas

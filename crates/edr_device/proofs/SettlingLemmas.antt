@@ -21,7 +21,7 @@ near_leaves at n bytes (Some now) settled image near left = record {
   same = λ i below out. let k = near.1 i below out in left.same i (subst (λ m. i < m) (sym near.0) below) k.1 ∙ k.0;
 }
 
-both : (a b : Bool) → a ≡ true → b ≡ false → (a && not b) ≡ true
+pub both : (a b : Bool) → a ≡ true → b ≡ false → (a && not b) ≡ true
 both a b e f = grind arith
 
 -- a write from a state where nothing is pending
@@ -45,7 +45,7 @@ during_write at n bytes old settled image q left = go (subst (λ (c : Option (Li
     go : Agrees (outside at n settled) bytes image → SameBut at n bytes image
     go a = record { size = a.size; same = λ i below out. a.same i below (both (settled i) (is_in at n i) (q.1 i) out) }
 
-in_nothing : (i : ℕ) → is_in 0 0 i ≡ false
+pub in_nothing : (i : ℕ) → is_in 0 0 i ≡ false
 in_nothing i = grind (arith, nat_tests)
 
 -- a sync keeps what is near
@@ -172,3 +172,12 @@ wrote_tells at piece (Err x) old new settled settled' w = told_tells _ old new w
 pub synced_tells : {T E : Type 0} (r : Result T E) (old new : Option (List ℕ)) (settled settled' : ℕ → Bool) → Synced r old settled new settled' → StillTells old new
 synced_tells (Ok x) old new settled settled' w = told_tells _ old new w
 synced_tells (Err x) old new settled settled' w = told_tells _ old new w
+
+-- at each moment of a write and a sync behind it, a crash leaves what was there but for the piece's place
+pub write_then_sync : {T E : Type 0} (before mid : ℕ) (past between since : ℕ → List ℕ → Type 0) (at : ℕ) (piece bytes : List ℕ) (r : Result T E) (old middle : Option (List ℕ)) (settled settled' : ℕ → Bool) → at + length piece ≤ length bytes
+    → IsQuiet old settled bytes → before ≤ mid → Wrote at piece r old settled middle settled' → Elapses before past between (MayLeave old (outside at (length piece) settled)) → Elapses mid between since (MayLeave middle settled')
+    → Elapses before past since (SameBut at (length piece) bytes)
+write_then_sync before mid past between since at piece bytes r old middle settled settled' fits quiet later w first second =
+    elapses_again before mid past between since (MayLeave old (outside at (length piece) settled)) (MayLeave middle settled') (SameBut at (length piece) bytes) first second later
+    (λ image left. during_write at (length piece) bytes old settled image quiet left)
+    (λ image left. near_leaves at (length piece) bytes middle settled' image (near_write at piece bytes r old middle settled settled' fits quiet w) left)
