@@ -47,3 +47,35 @@ returns-clause-stands g c = λ values h.
     c.give.ensures.recent c.give-2.ensures.recent c.give.ensures.some c.give-2.ensures.some
     (λ given rest a is. c.give.ensures.candidates given rest a (is ∙ sym e))
     (λ given rest a is. c.give-2.ensures.candidates given rest a (is ∙ omega (arith, ints, f, e)))
+
+pub overflow_sub-self-inside : goal.overflow_sub-self-inside
+overflow_sub-self-inside g c =
+    let q = c.self.inside in
+    let small = c.self.invariant.small in
+    let fewer = c.self.invariant.fewer in
+    let room = c.self.invariant.room in
+    let e = back-small q.sum (omega arith) in
+    omega (arith, ints, e, small)
+
+pub overflow_add-self-3 : goal.overflow_add-self-3
+overflow_add-self-3 g c =
+    let q = c.self.inside in
+    let small = c.self.invariant.small in
+    let fewer = c.self.invariant.fewer in
+    let room = c.self.invariant.room in
+    let small_v = c.requires.small in
+    let e = back-small q.sum (omega arith) in
+    let v_is = back-small c.args.v (omega arith) in
+    omega (arith, ints, e, v_is, small, small_v)
+
+pub are_at_rest-self-inside-requires : goal.are_at_rest-self-inside-requires
+are_at_rest-self-inside-requires g c =
+    let q = c.self.inside in
+    let inv = c.self.invariant in
+    let room = inv.room in let fewer = inv.fewer in let small = inv.small in let small_v = c.requires.small in
+    let e = back-small q.sum (omega arith) in
+    let v_is = back-small c.args.v (omega arith) in
+    let more_is = back-small (to_z w64 (of_z w64 q.sum) +ℤ to_z w64 (of_z w64 c.args.v)) (omega (arith, ints, e, v_is, small, small_v)) in
+    let again = ap (λ z. to_z w64 (of_z w64 z)) more_is in
+    let before : q.pushes < LATEST_MOMENT = let r = c.requires.room in let p = ap (λ (s : SwingState). s.pushes) c.self.view_is in omega arith in
+    omega (arith, ints, e, v_is, more_is, again, small, small_v)
