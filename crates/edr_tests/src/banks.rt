@@ -36,12 +36,16 @@ fn pre(cycle: u32) -> Pre
     }
 }
 
-// A crash part that ends at 20 ms, without any change of speed.
-fn crash() -> Result<Crash, Fail> {
+// The bytes of a crash part that ends at 20 ms, without any change of speed.
+fn crash_bytes() -> [u8; 160] {
     let mut bytes = [0; 160];
     bytes[1] = 20;
     bytes[120..136].copy_from_slice(&[0xff; 16]);
-    Ok(read_crash(&bytes)?)
+    bytes
+}
+
+fn crash() -> Result<Crash, Fail> {
+    Ok(read_crash(&crash_bytes())?)
 }
 
 // A memory of zeros that takes 60 writes and syncs.
@@ -166,6 +170,18 @@ fn keep_event<N: Nvm>(
     Ok(())
 }
 
+// The events of the first two cycles are done, of which the first is locked or not.
+fn keep_two(banks: &mut Banks, memory: &mut MemNvm, locks: bool) -> Result<(), Fail>
+    requires room { image_size banks.old.store.header.banks ≤ length (memory_image memory.old) }
+    ensures header { banks.new.store.header ≡ banks.old.store.header }
+    ensures size { length (memory_image memory.new) ≡ length (memory_image memory.old) }
+{
+    let crash = crash()?;
+    keep_event(banks, memory, 1, locks, crash)?;
+    keep_event(banks, memory, 2, false, crash)?;
+    Ok(())
+}
+
 // A bank that holds the event of a cycle.
 fn event(bank: u8, cycle: u32, locked: bool, crash: Option<Crash>) -> Found
     requires from { 1 ≤ cycle }
@@ -183,8 +199,7 @@ fn event(bank: u8, cycle: u32, locked: bool, crash: Option<Crash>) -> Found
 fn locked_bank_stays(rt: HostRuntime) -> Result<(), Fail> {
     let mut memory = formatted(rt.alloc(), Choice::Overwrite, &[], 0)?;
     let mut banks = Banks::open(rt.alloc(), &mut memory)?;
-    keep_event(&mut banks, &mut memory, 1, true, crash()?)?;
-    keep_event(&mut banks, &mut memory, 2, false, crash()?)?;
+    keep_two(&mut banks, &mut memory, true)?;
     let third = Command::Take { pre: pre(3) };
     assert_eq!(rt;
         banks.apply(&mut memory, &third),
@@ -201,8 +216,7 @@ fn locked_bank_stays(rt: HostRuntime) -> Result<(), Fail> {
 fn older_event_gives_way_and_the_newer_stands_last(rt: HostRuntime) -> Result<(), Fail> {
     let mut memory = formatted(rt.alloc(), Choice::Overwrite, &[], 0)?;
     let mut banks = Banks::open(rt.alloc(), &mut memory)?;
-    keep_event(&mut banks, &mut memory, 1, false, crash()?)?;
-    keep_event(&mut banks, &mut memory, 2, false, crash()?)?;
+    keep_two(&mut banks, &mut memory, false)?;
     keep_event(&mut banks, &mut memory, 3, false, crash()?)?;
     let want = [
         event(2, 2, false, Some(crash()?)),
@@ -225,8 +239,7 @@ fn answer<N: Nvm>(banks: &mut Banks, nvm: &mut N, command: &Command) -> Result<A
 fn late_lock_under_keep(rt: HostRuntime) -> Result<(), Fail> {
     let mut memory = formatted(rt.alloc(), Choice::Keep, &[], 0)?;
     let mut banks = Banks::open(rt.alloc(), &mut memory)?;
-    keep_event(&mut banks, &mut memory, 1, false, crash()?)?;
-    keep_event(&mut banks, &mut memory, 2, false, crash()?)?;
+    keep_two(&mut banks, &mut memory, false)?;
     let take = Command::Take { pre: pre(3) };
     assert_eq!(rt;
         answer(&mut banks, &mut memory, &take),
@@ -251,31 +264,33 @@ fn commands_make_no_read(rt: HostRuntime) -> Result<(), Fail> {
     let mut memory = zeros(rt.alloc(), 2_144, &[], &[5, 6, 7, 8, 9, 10], 0)?;
     Banks::format(&mut memory, 2, Choice::Overwrite)?;
     let mut banks = Banks::open(rt.alloc(), &mut memory)?;
-    keep_event(&mut banks, &mut memory, 1, true, crash()?)?;
-    keep_event(&mut banks, &mut memory, 2, false, crash()?)?;
+    keep_two(&mut banks, &mut memory, true)?;
     keep_event(&mut banks, &mut memory, 3, true, crash()?)?;
     let unread = Banks::open(rt.alloc(), &mut memory).err();
     assert_eq!(rt; unread, Some(OpenFault::StoreFault));
     Ok(())
 }
 
-#[test]
-fn damaged_bank_is_told_with_its_lock_and_never_taken(rt: HostRuntime) -> Result<(), Fail> {
-    let mut image = formatted(rt.alloc(), Choice::Overwrite, &[], 0)?
+// A memory whose second bank is open and locked, and its cycle is 0. Slot 1 of the count says 3.
+fn half_damaged(alloc: Global) -> Result<MemNvm, Fail> {
+    let mut image = formatted(alloc, Choice::Overwrite, &[], 0)?
         .image()
-        .to_vec(rt.alloc())?;
-    // The second bank is open and locked, and its cycle is 0. Slot 1 of the count says 3.
+        .to_vec(alloc)?;
     for place in [1120, 1121, 64] {
         image[place] = OPEN_GATE;
     }
     image[71] = 3;
-    let fails = Vec::new(rt.alloc());
-    let read_fails = Vec::new(rt.alloc());
-    let mut memory = MemNvm::new(rt.alloc(), image, 60, fails, read_fails, 0)?;
+    let fails = Vec::new(alloc);
+    let read_fails = Vec::new(alloc);
+    Ok(MemNvm::new(alloc, image, 60, fails, read_fails, 0)?)
+}
+
+#[test]
+fn damaged_bank_is_told_with_its_lock_and_never_taken(rt: HostRuntime) -> Result<(), Fail> {
+    let mut memory = half_damaged(rt.alloc())?;
     let mut banks = Banks::open(rt.alloc(), &mut memory)?;
     assert_eq!(rt; banks.count(), 3);
-    keep_event(&mut banks, &mut memory, 1, false, crash()?)?;
-    keep_event(&mut banks, &mut memory, 2, false, crash()?)?;
+    keep_two(&mut banks, &mut memory, false)?;
     let damaged = Found {
         bank: 2,
         view: BankView::Damaged {
@@ -293,8 +308,7 @@ fn damaged_bank_is_told_with_its_lock_and_never_taken(rt: HostRuntime) -> Result
 fn stopped(alloc: Global, call: u32, pick: u64) -> Result<Vec<Found>, Fail> {
     let mut memory = formatted(alloc, Choice::Overwrite, &[], pick)?;
     let mut banks = Banks::open(alloc, &mut memory)?;
-    keep_event(&mut banks, &mut memory, 1, false, crash()?)?;
-    keep_event(&mut banks, &mut memory, 2, false, crash()?)?;
+    keep_two(&mut banks, &mut memory, false)?;
     let third = crash()?;
     let mut fuse = Fused::new(&mut memory);
     fuse.arm(call);

@@ -121,14 +121,24 @@ fn issue_all(
     Ok(issues)
 }
 
-// What a core issues of the trace, all of whose ticks it closes.
-fn issues_of(alloc: Global, trace: &CoreTrace, arrival: Arrival) -> Result<Issues, Fail> {
-    let mut core = Core::open(alloc, 1)?;
-    let issues = issue_all(alloc, &mut core, trace, arrival)?;
+// The same, where it closes all ticks.
+fn issue_closed(
+    alloc: Global,
+    core: &mut Core,
+    trace: &CoreTrace,
+    arrival: Arrival,
+) -> Result<Issues, Fail> {
+    let issues = issue_all(alloc, core, trace, arrival)?;
     if core.closed() != trace.end {
         return Err("all ticks closed".into());
     }
     Ok(issues)
+}
+
+// What a core issues of the trace, all of whose ticks it closes.
+fn issues_of(alloc: Global, trace: &CoreTrace, arrival: Arrival) -> Result<Issues, Fail> {
+    let mut core = Core::open(alloc, 1)?;
+    issue_closed(alloc, &mut core, trace, arrival)
 }
 
 // The points of a crash part, with 0 past them.
@@ -138,6 +148,24 @@ fn points(given: &[i16]) -> [i16; 26] {
         *point = *value;
     }
     points
+}
+
+// What was issued of a single event, at these ticks.
+fn only_event(
+    rt: &impl Abort,
+    issues: &Issues,
+    take: u32,
+    lock: Option<u32>,
+    done: u32,
+) -> Result<(Pre, Crash), Fail> {
+    assert_eq!(rt; issues.takes.len(), 1);
+    assert_eq!(rt; issues.dones.len(), 1);
+    let (take_tick, pre) = *issues.takes.first().ok_or("a take")?;
+    let (done_tick, crash) = *issues.dones.first().ok_or("a done")?;
+    assert_eq!(rt; take_tick, take);
+    assert_eq!(rt; done_tick, done);
+    assert_eq!(rt; issues.locks.first().copied(), lock.map(|tick| (tick, pre)));
+    Ok((pre, crash))
 }
 
 // The single event of a trace, as every arrival tells it.
@@ -153,13 +181,7 @@ fn check_event(
     let mut told = None;
     for arrival in ARRIVALS {
         let issues = issues_of(alloc, trace, arrival)?;
-        assert_eq!(rt; issues.takes.len(), 1);
-        assert_eq!(rt; issues.dones.len(), 1);
-        let (take_tick, pre) = *issues.takes.first().ok_or("a take")?;
-        let (done_tick, crash) = *issues.dones.first().ok_or("a done")?;
-        assert_eq!(rt; take_tick, take);
-        assert_eq!(rt; done_tick, done);
-        assert_eq!(rt; issues.locks.first().copied(), lock.map(|tick| (tick, pre)));
+        let (pre, crash) = only_event(rt, &issues, take, lock, done)?;
         assert_eq!(rt; pre.key, Key { cycle: 1, zero });
         if let Some(before) = told {
             assert_eq!(rt; before, (pre, crash));

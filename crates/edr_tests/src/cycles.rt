@@ -2,6 +2,7 @@
 ghost use Rattle.std.specs.Prelude.{◌≡◌, ◌≤◌, ◌<◌, ◌^◌, ◌+◌, ◌*◌, ℕ, IfOk, length};
 ghost use Rattle.edr_device.specs.Memory.{memory_image};
 ghost use Rattle.edr_items.specs.SensorLists.{IsLevel};
+ghost use Rattle.edr_cycle.specs.Remaining.{Remains};
 
 use edr_banks::{Ack, Applied, BankView, Banks, Choice, CycleReport, Found, Kind, Log};
 use edr_core::{Captures, SplitCore};
@@ -257,13 +258,19 @@ fn image_with_count(alloc: Global, count: u32) -> Result<Vec<u8>, Fail>
     Ok(image)
 }
 
+// A cycle past 60,000 has its number, and so has its event.
+fn check_past_60000(rt: &impl Abort, alloc: Global) -> Result<(), Fail> {
+    let mut memory = memory_of(alloc, &image_with_count(alloc, 60_001)?, 0)?;
+    let report = run_whole(rt, alloc, &mut memory, struck(27_000))?;
+    assert_ran(rt, &report, 60_002, None, &crash_acks(1));
+    assert_found(rt, &retrieved(alloc, &mut memory)?, &[(1, 60_002)]);
+    Ok(())
+}
+
 #[test]
 fn counter_limits(rt: HostRuntime) -> Result<(), Fail> {
     let alloc = rt.alloc();
-    let mut memory = memory_of(alloc, &image_with_count(alloc, 60_001)?, 0)?;
-    let report = run_whole(&rt, alloc, &mut memory, struck(27_000))?;
-    assert_ran(&rt, &report, 60_002, None, &crash_acks(1));
-    assert_found(&rt, &retrieved(alloc, &mut memory)?, &[(1, 60_002)]);
+    check_past_60000(&rt, alloc)?;
     let mut last = memory_of(alloc, &image_with_count(alloc, 4_294_967_294)?, 0)?;
     let report = run_whole(&rt, alloc, &mut last, driven(0))?;
     assert_ran(&rt, &report, 4_294_967_295, None, &[]);
@@ -286,17 +293,26 @@ fn cut_short(rt: HostRuntime) -> Result<(), Fail> {
     Ok(())
 }
 
+// A split core of the cycle with this number, and what is left of the feeds before the first of them is given: all.
+fn all_left(alloc: Global, feeds: &Feeds, number: u32) -> Result<(SplitCore, Remaining<'_>), Fail>
+    requires { 1 ≤ number }
+    ensures { IfOk result (λ r. Remains feeds.now r.0.cycle r.0 r.1) }
+{
+    let core = SplitCore::open(alloc, number)?;
+    let captures = Captures::new(alloc)?;
+    let rest = Remaining::after(feeds, 0, 0, 0, captures);
+    Ok((core, rest))
+}
+
 // Runs a whole cycle over a split core, and answers its asks from captures.
 fn run_split(alloc: Global, memory: &mut MemNvm, feeds: &Feeds) -> Result<Log, Fail> {
     let started = start(alloc, memory, feeds.horizon())?;
-    let core = SplitCore::open(alloc, started.number())?;
-    let captures = Captures::new(alloc)?;
+    let (core, rest) = all_left(alloc, feeds, started.number())?;
     let Parts {
         mut banks,
         mut log,
         ..
     } = started.parts();
-    let rest = Remaining::after(feeds, 0, 0, 0, captures);
     run_rest(core, feeds, rest, &mut banks, memory, &mut log)?;
     Ok(log)
 }
@@ -319,13 +335,18 @@ fn asks_are_answered(rt: HostRuntime) -> Result<(), Fail> {
     Ok(())
 }
 
+// A formatted memory, in which this changing call fails.
+fn failing(alloc: Global, call: u32) -> Result<MemNvm, Fail> {
+    let image = formatted(alloc, 2, Choice::Keep, 0)?.image().to_vec(alloc)?;
+    let fails = [call].to_vec(alloc)?;
+    Ok(MemNvm::new(alloc, image, 400, fails, Vec::new(alloc), 0)?)
+}
+
 // A device that fails for good ends the cycle at the command, and the power is not cut.
 #[test]
 fn fault_of_the_device(rt: HostRuntime) -> Result<(), Fail> {
     let alloc = rt.alloc();
-    let image = formatted(alloc, 2, Choice::Keep, 0)?.image().to_vec(alloc)?;
-    let fails = [11u32].to_vec(alloc)?;
-    let mut memory = MemNvm::new(alloc, image, 400, fails, Vec::new(alloc), 0)?;
+    let mut memory = failing(alloc, 11)?;
     let feeds = level_feeds(&rt, alloc, struck(27_000))?;
     let started = start(alloc, &mut memory, feeds.horizon())?;
     assert_eq!(rt; started.number(), 1);
