@@ -10,32 +10,32 @@ from typing import NamedTuple
 
 TOP = os.path.join(os.path.dirname(os.path.abspath(__file__)), '..', '..')
 SECONDS = 120
-CLI, TESTS = 'crates/edr_cli/src/command_tests.rt', 'crates/edr_tests/src/lib.rt'
-# The modules of the top call's tests that replay once or twice, those that let each call fail in turn, and the others of many replays.
+BASE, TESTS = 'crates/edr_base_tests/src/lib.rt', 'crates/edr_tests/src/lib.rt'
+COMMANDS = 'crates/edr_cli/src/command_tests.rt'
+# What the tests of the top call share; their modules that replay once or twice, those that let each call fail in turn, and the
+# others of many replays.
+SHARED = ('drives', 'expected')
 ONCE = ('crashes', 'events', 'formats', 'images', 'migrations', 'refusals')
 FAILING = ('every_call', 'faults')
 MANY = ('cuts', 'driven', 'generated', 'orders')
 
 
 class Copy(NamedTuple):
-    """A copy's name, its crate, the least number of different images that it must tell, and in this file the modules that it lacks."""
+    """A copy's name, its crate, the least number of different images that it must tell, and in some files the modules that it has."""
 
     name: str
     crate: str
     least: int
-    root: str = ''
-    lacks: tuple = ()
+    has: dict = {}
 
 
 COPIES = (
-    Copy('edr_cli, many replays', 'edr_cli', 15, CLI, ONCE + FAILING),
-    Copy('edr_cli, failing calls', 'edr_cli', 10, CLI, ONCE + MANY),
-    Copy('edr_cli, one replay', 'edr_cli', 70, CLI, FAILING + MANY),
-    # The others of these modules have no image, but for `large_runs`, whose banks nobody reads.
-    Copy('edr_tests', 'edr_tests', 36, TESTS, (
-        'boards', 'cores', 'dealt_sensors', 'desks', 'detectors', 'freezes', 'generators', 'large_runs', 'logs', 'pages', 'readings',
-        'split_cores', 'stands', 'windows', 'words')),
-    Copy('edr_gates', 'edr_gates', 10),
+    Copy('edr_cli, many replays', 'edr_cli', 15, {COMMANDS: SHARED + MANY}),
+    Copy('edr_cli, failing calls', 'edr_cli', 10, {COMMANDS: SHARED + FAILING}),
+    Copy('edr_cli, one replay', 'edr_cli', 70, {COMMANDS: SHARED + ONCE}),
+    # The other modules have no image, but for `large_runs`, whose banks nobody reads, and `memories`, whose bytes are too few.
+    Copy('edr_tests', 'edr_tests', 36, {TESTS: ('banks', 'cycles', 'migrations', 'powered_runs', 'runs')}),
+    Copy('edr_base_tests', 'edr_base_tests', 10, {BASE: ('gates',)}),
     Copy('edr_drive', 'edr_drive', 5),
 )
 # Tests that take long and have no other image than a new one. A copy has none of them.
@@ -88,17 +88,22 @@ def patch(folder, path, changes):
         file.write(text)
 
 
-def leave_out(folder, root, modules):
-    """Takes modules of tests out of the copy, and the long tests out of the others."""
+def leave_out(folder, root, has):
+    """Leaves these modules of tests alone in the copy, without the long tests of them."""
     own = os.path.join(folder, root.removesuffix('/lib.rt').removesuffix('.rt'))
     mark = '#[cfg(test)]\n' if root.endswith('/lib.rt') else ''
-    patch(folder, root, {f'{mark}mod {name};\n': '' for name in modules})
-    for name in modules:
+    with open(os.path.join(folder, root), encoding='utf-8') as file:
+        there = re.findall(r'^mod (\w+);$', file.read(), re.M)
+    if not set(has) <= set(there):
+        sys.exit(f'{root}: its modules are {", ".join(there)}')
+    lacks = [name for name in there if name not in has]
+    patch(folder, root, {f'{mark}mod {name};\n': '' for name in lacks})
+    for name in lacks:
         os.remove(os.path.join(own, f'{name}.rt'))
         shutil.rmtree(os.path.join(own, name), ignore_errors=True)
     for name, tests in LONG.items():
         path = os.path.join(own, f'{name}.rt')
-        for test in tests if name not in modules and root == CLI else ():
+        for test in tests if name in has and root == COMMANDS else ():
             with open(path, encoding='utf-8') as file:
                 found = re.search(rf'#\[test\]\nfn {test}\(.*?^}}\n', file.read(), re.S | re.M)
             if found is None:
@@ -112,8 +117,8 @@ def make_copy(copy, folder, told):
     for name in ('crates.txt', 'HANDLES'):
         shutil.copy(os.path.join(TOP, name), folder)
     patch(folder, 'crates/edr_device/src/mem_nvm_calls.rt', TELLING)
-    if copy.root:
-        leave_out(folder, copy.root, copy.lacks)
+    for root, has in copy.has.items():
+        leave_out(folder, root, has)
     os.mkdir(os.path.join(folder, 'crates', 'edr_device', 'c'))
     with open(os.path.join(folder, 'crates', 'edr_device', 'c', 'tell_image.c'), 'w') as file:
         file.write(f'#define FILE "{told}"\n#define MOST {MOST}\n{TELL_IMAGE}')

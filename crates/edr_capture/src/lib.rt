@@ -212,6 +212,3 @@ fn slot_of(ring: &HeapCircularBuffer<Item>, at: i64) -> Option<i32>
         None
     }
 }
-
-#[cfg(test)]
-mod tests;

@@ -19,6 +19,3 @@ pub struct Damaged {
     /// The byte that stands there.
     pub found: u8,
 }
-
-#[cfg(test)]
-mod tests;

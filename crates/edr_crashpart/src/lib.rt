@@ -180,6 +180,3 @@ impl OpenCrash {
         }
     }
 }
-
-#[cfg(test)]
-mod tests;

@@ -11,12 +11,8 @@ mod mem_sink;
 mod mem_source;
 mod moment;
 mod moment_calls;
-#[cfg(test)]
-mod nvm_tests;
 mod pieces;
 mod stream;
-#[cfg(test)]
-mod tests;
 mod transfer;
 
 pub use crate::device::{LONGEST_WRITE, Nvm, a_write_is_short};

@@ -10,8 +10,6 @@
 
 mod lists;
 mod steps;
-#[cfg(test)]
-mod tests;
 
 pub use crate::lists::{replace, replace_locked};
 pub use crate::steps::{fill, finish, lock};

@@ -112,25 +112,3 @@ impl<T: Drop> PerSensor<T> {
         }
     }
 }
-
-#[cfg(test)]
-mod tests {
-    use super::*;
-
-    #[test]
-    fn each_sensor_has_its_own_value(rt: HostRuntime) {
-        let mut numbers = PerSensor::from_fn(|sensor: Sensor| -> u8 { sensor.number() });
-        numbers.set(Sensor::Belt, 20);
-        *numbers.of_mut(Sensor::Lamp) = 37;
-        for (sensor, number) in [
-            (Sensor::Along, 1),
-            (Sensor::Brake, 5),
-            (Sensor::Belt, 20),
-            (Sensor::Lamp, 37),
-            (Sensor::Restraint, 8),
-        ] {
-            assert_eq!(rt; *numbers.of(sensor), number);
-        }
-        assert_eq!(rt; *PerSensor::each(3u8).of(Sensor::Across), 3);
-    }
-}

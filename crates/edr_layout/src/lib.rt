@@ -11,8 +11,6 @@ use edr_image::forms::{Layout, VERSION_1, VERSION_2};
 
 mod bank;
 mod front;
-#[cfg(test)]
-mod tests;
 mod writes;
 
 pub use crate::bank::{bank_view, old_bank_view};

@@ -186,6 +186,3 @@ impl Merge {
         }
     }
 }
-
-#[cfg(test)]
-mod tests;

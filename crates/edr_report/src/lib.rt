@@ -50,8 +50,3 @@ pub fn table(
     let printed = print(alloc, Table::new(alloc)?, run, found, count)?;
     printed.into_bytes()
 }
-
-#[cfg(test)]
-mod tests;
-#[cfg(test)]
-mod texts;

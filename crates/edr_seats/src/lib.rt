@@ -92,8 +92,3 @@ pub fn slow(alloc: Global, sensor: Sensor, keeper: Keeper) -> Result<SlowLane, O
         inlet: PartInlet { ring: consumer },
     })
 }
-
-#[cfg(test)]
-mod slow_tests;
-#[cfg(test)]
-mod tests;

@@ -168,8 +168,3 @@ fn read_rest<R: Read + Drop>(
     // There are no more records than bytes.
     unreachable!()
 }
-
-#[cfg(test)]
-mod drawn_tests;
-#[cfg(test)]
-mod tests;

@@ -37,6 +37,3 @@ pub fn kmh(change: i64) -> i64
     let size = ((change.unsigned_abs() + STEPS_OF_KMH / 2) / STEPS_OF_KMH) as i64;
     if change < 0 { -size } else { size }
 }
-
-#[cfg(test)]
-mod tests;

@@ -1,0 +1,26 @@
+use Rattle.std.proofs.Common.{arith, refl, pos, Some, None}
+use Rattle.std.specs.Prelude.{replicate}
+use Rattle.std.proofs.lemmas.List.Elements.{All-cons, All-replicate}
+use Rattle.edr_record.specs.Bounds.{IsUpTo, IsChange, ArePoints, IsExtreme}
+use Rattle.edr_base_tests.proofs.reports.short_crash.Goals as goal
+
+no_points : ArePoints 6 (replicate 26 (pos 0))
+no_points = record { room = refl; first = refl; changes = All-replicate IsChange 26 (pos 0) (omega arith); past = refl }
+
+no_change : IsExtreme 50 (record { kmh = pos 0; at = 0 })
+no_change = record { change = omega arith; time = omega arith }
+
+pub invariant_of-result : goal.invariant_of-result
+invariant_of-result c = record {
+  end_from = omega arith;
+  end_to = omega arith;
+  along = no_points;
+  across = no_points;
+  max_along = no_change;
+  max_across = no_change;
+  result_at = omega arith;
+  missing_along = omega arith;
+  missing_across = omega arith;
+  restraints = refl;
+  fired = All-cons (IsUpTo 50) (Some 0) (replicate 7 None) (omega arith) (All-replicate (IsUpTo 50) 7 None tt);
+}

@@ -1,0 +1,240 @@
+//! The ring between a sensor and the recorder.
+ghost use Rattle.std.specs.Prelude.{◌≡◌, ◌+◌, ◌*◌, ◌^◌, ◌<◌, [], ◌∷◌, ◌++◌, length, IfSome};
+ghost use Rattle.std.specs.Arc.{arc_value};
+ghost use Rattle.edr_seats.specs.Seat.{items_sent, SameSeat};
+ghost use Rattle.edr_seats.specs.Inlet.{items_taken, AreOfOneRing, SameInlet};
+
+use edr_items::{Item, ItemRefused, Sensor};
+use edr_seats::{Inlet, Lane, OfferRefused, Seat, ring};
+use std::snapshot::Snapshot;
+use std::sync::{Arc, Wait};
+use std::test::Fail;
+use std::thread;
+use std::thread::{Promise, Threads};
+
+fn sample(moment: u32, value: i32) -> Item {
+    Item {
+        moment,
+        value: Some(value),
+    }
+}
+
+// Takes what is left in a ring whose ends are in one thread again. Then all that was sent is taken.
+fn take_rest(inlet: &mut Inlet, seat: &mut Seat)
+    requires { AreOfOneRing seat.old inlet.old }
+    ensures sent { items_sent seat.new ≡ items_sent seat.old }
+    ensures all { items_taken inlet.new ≡ items_sent seat.new }
+{
+    let left = inlet.beside(seat);
+    for _ in 0..left {
+        let _ = inlet.take();
+    }
+}
+
+// Offers 256 items, one each so many ticks, and tells how many of them were sent.
+fn fill(seat: &mut Seat, gap: u32, value: i32) -> u32
+    requires { gap < 2 ^ 16 }
+    ensures { SameSeat seat.old seat.new }
+{
+    let mut sent = 0;
+    for n in 1..257u32 {
+        if seat.offer(sample(gap * n, value)).is_ok() {
+            sent = n;
+        }
+    }
+    sent
+}
+
+#[test]
+fn ring_full(rt: HostRuntime) -> Result<(), Fail> {
+    let Lane {
+        mut seat,
+        mut inlet,
+    } = ring(rt.alloc(), Sensor::Speed)?;
+    assert_eq!(rt; fill(&mut seat, 1, 50), 256);
+    let full = OfferRefused::Full { ahead: 256 };
+    assert_eq!(rt; seat.offer(sample(257, 50)), Err(full));
+    assert_eq!(rt; inlet.beside(&mut seat), 256);
+    for moment in 1..257u32 {
+        assert_eq!(rt; inlet.peek(), Some(sample(moment, 50)));
+        assert_eq!(rt; inlet.take(), Some(sample(moment, 50)));
+    }
+    assert_eq!(rt; inlet.peek(), None);
+    assert_eq!(rt; inlet.take(), None);
+    assert_eq!(rt; seat.offer(sample(257, 50)), Ok(()));
+    Ok(())
+}
+
+// What the sensor may not give is told by its cause, also where the ring is full, and is not sent.
+#[test]
+fn the_cause_of_a_refusal_is_told(rt: HostRuntime) -> Result<(), Fail> {
+    let Lane {
+        mut seat,
+        mut inlet,
+    } = ring(rt.alloc(), Sensor::Belt)?;
+    assert_eq!(rt; fill(&mut seat, 10, 1), 256);
+    let order = OfferRefused::Item(ItemRefused::Order { last: 2560 });
+    assert_eq!(rt; seat.offer(sample(2560, 2)), Err(order));
+    let moment = OfferRefused::Item(ItemRefused::Moment { limit: 86_400_000 });
+    assert_eq!(rt; seat.offer(sample(86_400_001, 2)), Err(moment));
+    let range = OfferRefused::Item(ItemRefused::Range { low: 0, high: 1 });
+    assert_eq!(rt; seat.offer(sample(86_400_000, 2)), Err(range));
+    assert_eq!(rt; inlet.beside(&mut seat), 256);
+    take_rest(&mut inlet, &mut seat);
+    assert_eq!(rt; inlet.take(), None);
+    Ok(())
+}
+
+// Many items are taken by one call, and all their slots are free then.
+#[test]
+fn many_are_taken_at_once(rt: HostRuntime) -> Result<(), Fail> {
+    let Lane {
+        mut seat,
+        mut inlet,
+    } = ring(rt.alloc(), Sensor::Speed)?;
+    let mut into = [sample(0, 0); 8];
+    assert_eq!(rt; inlet.take_some(&mut into), 0);
+    assert_eq!(rt; fill(&mut seat, 1, 50), 256);
+    assert_eq!(rt; inlet.take_some(&mut into), 8);
+    assert_eq!(rt; into[0], sample(1, 50));
+    assert_eq!(rt; into[7], sample(8, 50));
+    assert_eq!(rt; inlet.peek(), Some(sample(9, 50)));
+    for moment in 257..265u32 {
+        assert_eq!(rt; seat.offer(sample(moment, 50)), Ok(()));
+    }
+    for moment in 9..259u32 {
+        assert_eq!(rt; inlet.take(), Some(sample(moment, 50)));
+    }
+    let mut rest = [sample(0, 0); 8];
+    assert_eq!(rt; inlet.take_some(&mut rest), 6);
+    assert_eq!(rt; rest[5], sample(264, 50));
+    assert_eq!(rt; rest[6], sample(0, 0));
+    assert_eq!(rt; inlet.take_some(&mut rest), 0);
+    Ok(())
+}
+
+// ---- two threads
+
+type Feed = Arc<Vec<Item>>;
+
+// Offers the item until it is sent.
+fn send<R: Wait>(rt: &R, seat: &mut Seat, item: Item)
+    ensures ring { SameSeat seat.old seat.new }
+    ensures sent { items_sent seat.new ≡ items_sent seat.old ++ item ∷ [] }
+{
+    for _ in rt.forever() {
+        if seat.offer(item).is_ok() {
+            return;
+        }
+        thread::yield_now();
+    }
+    unreachable!()
+}
+
+// Sends all of a feed from a fresh seat.
+fn send_all<R: Wait>(rt: &R, seat: Seat, items: &[Item]) -> Seat
+    requires { items_sent seat ≡ [] }
+    ensures ring { SameSeat seat result }
+    ensures sent { items_sent result ≡ items.now }
+{
+    let mut seat = seat;
+    for i in 0..items.len() {
+        send(rt, &mut seat, items[i]);
+    }
+    seat
+}
+
+// Takes an item as soon as there is one.
+fn next<R: Wait>(rt: &R, inlet: &mut Inlet) -> Item
+    ensures ring { SameInlet inlet.old inlet.new }
+    ensures taken { items_taken inlet.new ≡ items_taken inlet.old ++ result ∷ [] }
+{
+    for _ in rt.forever() {
+        if let Some(item) = inlet.take() {
+            return item;
+        }
+        thread::yield_now();
+    }
+    unreachable!()
+}
+
+// Takes as many items as there are in `items`, and counts those that are the same.
+fn take_all<R: Wait>(rt: &R, inlet: &mut Inlet, items: &[Item]) -> usize
+    ensures ring { SameInlet inlet.old inlet.new }
+    ensures taken { length (items_taken inlet.new) ≡ length (items_taken inlet.old) + length items.now }
+{
+    let mut same = 0;
+    for i in 0..items.len() {
+        if next(rt, inlet) == items[i] {
+            same += 1;
+        }
+    }
+    same
+}
+
+// What a sensor's thread promises: it hands back its own seat, which has sent the whole feed.
+#[derive(Drop)]
+struct AllSent {
+    seat: Snapshot<Seat>,
+    feed: Snapshot<Feed>,
+}
+
+impl Promise<Seat> for AllSent {
+    ghost use Rattle.std.specs.Prelude.{◌≡◌};
+    ghost use Rattle.std.specs.Arc.{arc_value};
+    ghost use Rattle.edr_seats.specs.Seat.{SameSeat, items_sent};
+
+    ghost kept_by = { λ p seat. SameSeat p.seat.value seat × (items_sent seat ≡ (arc_value p.feed.value).items) };
+}
+
+// Sends a feed from a thread of its own, takes it here, and counts the items that came as they were sent. None where
+// no thread could be started.
+fn pass_through<R: Threads + Wait + Copy + Send + 'static>(
+    rt: &R,
+    lane: Lane,
+    feed: Feed,
+) -> Option<(Inlet, usize)>
+    requires ring { AreOfOneRing lane.seat lane.inlet }
+    requires fresh { (items_sent lane.seat ≡ []) × (items_taken lane.inlet ≡ []) }
+    ensures all { IfSome result (λ r. items_taken r.0 ≡ (arc_value feed).items) }
+{
+    let Lane { seat, mut inlet } = lane;
+    let inner = *rt;
+    let sent = Arc::try_clone(&feed).ok()?;
+    let promise = AllSent {
+        seat: Snapshot::of(&seat),
+        feed: Snapshot::of(&sent),
+    };
+    let child = thread::spawn_with(
+        rt,
+        promise,
+        move || -> Seat
+            requires { items_sent seat ≡ [] }
+            ensures ring { SameSeat seat result }
+            ensures sent { items_sent result ≡ (arc_value sent).items }
+        {
+            let seat = seat;
+            send_all(&inner, seat, &sent)
+        },
+    )
+    .ok()?;
+    let same = take_all(rt, &mut inlet, &feed);
+    let mut seat = child.join(rt);
+    take_rest(&mut inlet, &mut seat);
+    Some((inlet, same))
+}
+
+#[test]
+fn a_feed_goes_through_two_threads_whole_and_in_order(rt: HostRuntime) -> Result<(), Fail> {
+    let count = 100_000u32;
+    let mut items = Vec::with_capacity(rt.alloc(), count as usize)?;
+    for moment in 1..count + 1 {
+        items.push(sample(moment, moment as i32 % 1_999 - 999))?;
+    }
+    let feed = Arc::new(rt.alloc(), items)?;
+    let lane = ring(rt.alloc(), Sensor::Along)?;
+    let (mut inlet, same) = pass_through(&rt, lane, feed).ok_or("no thread was started")?;
+    assert_eq!(rt; same, count as usize);
+    assert_eq!(rt; inlet.take(), None);
+    Ok(())
+}

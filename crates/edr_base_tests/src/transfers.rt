@@ -1,0 +1,188 @@
+//! Whole transfers over objects in memory, and over objects that tell nothing.
+ghost use Rattle.std.specs.Prelude.{◌≤◌};
+ghost use Rattle.edr_device.specs.Faults.{last_number};
+
+use edr_device::{Failed, MemSink, MemSource, Sink, Source, TakeFault, put_all, take_all};
+use std::alloc::{AllocError, Global};
+use std::io::{Read, Write};
+use std::test::Fail;
+
+// An adapter over a reader or a writer. It counts what fails, and tells nothing.
+#[derive(Drop)]
+struct Adapter<T> {
+    inner: T,
+    faults: u64,
+    ghost faults_within: { faults ≤ last_number },
+}
+
+impl<R: Read> Source for Adapter<R> {
+    ghost use Rattle.std.specs.Prelude.{None};
+
+    ghost left = { λ a. None };
+
+    ghost faults = { λ a. a.faults };
+
+    ghost faults_fit = { λ a. a.faults_within };
+
+    fn take(&mut self, into: &mut [u8]) -> Result<usize, Failed> {
+        match self.inner.read(into) {
+            Ok(n) => Ok(n),
+            Err(_) => {
+                self.faults = self.faults.saturating_add(1);
+                Err(Failed)
+            }
+        }
+    }
+}
+
+impl<W: Write> Sink for Adapter<W> {
+    ghost use Rattle.std.specs.Prelude.{None};
+
+    ghost content = { λ a. None };
+
+    ghost faults = { λ a. a.faults };
+
+    ghost faults_fit = { λ a. a.faults_within };
+
+    fn put(&mut self, piece: &[u8]) -> Result<usize, Failed> {
+        match self.inner.write(piece) {
+            Ok(n) if n > 0 => Ok(n),
+            _ => {
+                self.faults = self.faults.saturating_add(1);
+                Err(Failed)
+            }
+        }
+    }
+}
+
+// So many bytes, each unlike its neighbours.
+fn some_bytes(alloc: Global, count: u32) -> Result<Vec<u8>, AllocError> {
+    let mut bytes = Vec::new(alloc);
+    for i in 0..count {
+        bytes.push((i % 251) as u8)?;
+    }
+    Ok(bytes)
+}
+
+#[test]
+fn carries_all_in_pieces(rt: HostRuntime) -> Result<(), Fail> {
+    for piece in [1usize, 2, 7, 1000] {
+        assert!(rt; piece > 0);
+        let bytes = some_bytes(rt.alloc(), 70_000)?;
+        let mut source = MemSource::new(bytes, piece, Vec::new(rt.alloc()));
+        let taken = take_all(rt.alloc(), &mut source, 70_000)?;
+        assert_eq!(rt;
+            taken,
+            some_bytes(rt.alloc(), 70_000)?,
+            "in pieces of {piece}"
+        );
+        let mut sink = MemSink::new(rt.alloc(), 70_000, piece, Vec::new(rt.alloc()))?;
+        assert_eq!(rt; put_all(&mut sink, &taken), Ok(()));
+        assert_eq!(rt; sink.bytes(), taken.as_slice(), "in pieces of {piece}");
+    }
+    Ok(())
+}
+
+#[test]
+fn stops_one_past_the_limit(rt: HostRuntime) -> Result<(), Fail> {
+    for (limit, want) in [(34, false), (35, true), (36, true), (0, false)] {
+        assert!(rt; limit < 100);
+        let mut source = MemSource::new(some_bytes(rt.alloc(), 35)?, 10, Vec::new(rt.alloc()));
+        match take_all(rt.alloc(), &mut source, limit) {
+            Ok(bytes) => {
+                assert!(rt; want);
+                assert_eq!(rt; bytes, some_bytes(rt.alloc(), 35)?);
+            }
+            Err(e) => {
+                assert!(rt; !want);
+                assert_eq!(rt; e, TakeFault::TooLong);
+            }
+        }
+    }
+    let mut source = MemSource::new(some_bytes(rt.alloc(), 35)?, 10, Vec::new(rt.alloc()));
+    assert_eq!(rt;
+        take_all(rt.alloc(), &mut source, 12).err(),
+        Some(TakeFault::TooLong)
+    );
+    let mut next = [0u8; 1];
+    assert_eq!(rt; source.take(&mut next), Ok(1));
+    assert_eq!(rt; next, [13]);
+    Ok(())
+}
+
+// 35 bytes in pieces of 10 are four calls, and a fifth finds the end.
+#[test]
+fn source_fails_at_each_call(rt: HostRuntime) -> Result<(), Fail> {
+    for call in 0..8u32 {
+        let fails = [call, call].to_vec(rt.alloc())?;
+        let mut source = MemSource::new(some_bytes(rt.alloc(), 35)?, 10, fails);
+        match take_all(rt.alloc(), &mut source, 1000) {
+            Ok(bytes) => {
+                assert!(rt; call == 0 || call > 5, "call {call}");
+                assert_eq!(rt; bytes, some_bytes(rt.alloc(), 35)?);
+            }
+            Err(e) => {
+                assert!(rt; call >= 1 && call <= 5, "call {call}");
+                assert_eq!(rt; e, TakeFault::Failed);
+            }
+        }
+    }
+    Ok(())
+}
+
+// What a sink whose call of that number fails gained of 35 bytes, ten at a time.
+fn put_until(
+    alloc: Global,
+    bytes: &[u8],
+    call: u32,
+) -> Result<(Result<(), Failed>, MemSink), Fail> {
+    let fails = [call].to_vec(alloc)?;
+    let mut sink = MemSink::new(alloc, 100, 10, fails)?;
+    let put = put_all(&mut sink, bytes);
+    Ok((put, sink))
+}
+
+#[test]
+fn sink_fails_at_each_call(rt: HostRuntime) -> Result<(), Fail> {
+    let bytes = some_bytes(rt.alloc(), 35)?;
+    for call in 1..6u32 {
+        let (put, sink) = put_until(rt.alloc(), &bytes, call)?;
+        assert_eq!(rt; put.is_ok(), call == 5, "call {call}");
+        let gained = some_bytes(rt.alloc(), if call < 5 { 10 * (call - 1) } else { 35 })?;
+        assert_eq!(rt; sink.bytes(), gained.as_slice(), "call {call}");
+    }
+    Ok(())
+}
+
+#[test]
+fn sink_fails_where_its_room_ends(rt: HostRuntime) -> Result<(), Fail> {
+    let bytes = some_bytes(rt.alloc(), 35)?;
+    for room in [0usize, 1, 10, 34, 35] {
+        let mut sink = MemSink::new(rt.alloc(), room, 10, Vec::new(rt.alloc()))?;
+        assert_eq!(rt;
+            put_all(&mut sink, &bytes).is_ok(),
+            room == 35,
+            "room {room}"
+        );
+        assert_eq!(rt; sink.bytes().len(), room);
+    }
+    Ok(())
+}
+
+#[test]
+fn adapters_tell_nothing(rt: HostRuntime) -> Result<(), Fail> {
+    let bytes = some_bytes(rt.alloc(), 35)?;
+    let mut source = Adapter {
+        inner: bytes.as_slice(),
+        faults: 0,
+    };
+    let taken = take_all(rt.alloc(), &mut source, 35)?;
+    assert_eq!(rt; taken, bytes);
+    let mut sink = Adapter {
+        inner: Vec::new(rt.alloc()),
+        faults: 0,
+    };
+    assert_eq!(rt; put_all(&mut sink, &taken), Ok(()));
+    assert_eq!(rt; sink.inner, bytes);
+    Ok(())
+}
