@@ -1,5 +1,5 @@
 -- One value for each of the five slow sensors.
-use Rattle.std.specs.Prelude.{is_none, find, Option, Some, None, List, [], ◌∷◌}
+use Rattle.std.specs.Prelude.{is_none, find, Option, Some, None, Result, Ok, Err, List, [], ◌∷◌, ◌⊎◌}
 use Rattle.edr_items.specs.declared.Sensor.{Sensor}
 use Rattle.edr_items.specs.declared.Sensor.TheVariants.{Along, Across, Speed, Throttle, Brake, Belt, Lamp, Restraint}
 use Rattle.edr_items.specs.declared.per_sensor.PerSensor.{PerSensor}
@@ -70,3 +70,8 @@ with_slow_values x p = record { along = x; across = x; speed = p.speed; throttle
 -- the lowest-numbered slow sensor that has no value
 unfoldable pub first_without : {A : Type 0} → PerSlowSensor (Option A) → Option Sensor
 first_without p = find (λ s. is_none (slow_at s p)) slow_sensors
+
+-- of these sensors a function gives a value for each up to one, and for that one this error
+abbrev pub FailsFirst : {T E : Type 0} → (Sensor → Result T E → Type 0) → E → List Sensor → Type 0
+FailsFirst gives error [] = ⊥
+FailsFirst gives error (s ∷ rest) = gives s (Err error) ⊎ ((value : _) × gives s (Ok value) × FailsFirst gives error rest)

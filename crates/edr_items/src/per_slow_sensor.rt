@@ -2,7 +2,7 @@
 
 ghost use Rattle.std.specs.Prelude.{◌≡◌, Some, None, Ok, IfOk, IfErr, MatchOption};
 ghost use Rattle.std.specs.Borrow.{sem};
-ghost use Rattle.edr_items.specs.PerSlowSensor.{slow_value_of, with_slow_value, each_slow_value, map_slow_values, EachSlow, slow_at, first_without};
+ghost use Rattle.edr_items.specs.PerSlowSensor.{slow_value_of, with_slow_value, each_slow_value, map_slow_values, EachSlow, FailsFirst, slow_at, slow_sensors, first_without};
 ghost use Rattle.edr_items.specs.LendsValue.{LendsSlowValue};
 
 use crate::Sensor;
@@ -51,11 +51,12 @@ impl<T: Copy> PerSlowSensor<Option<T>> {
 }
 
 impl<T: Drop> PerSlowSensor<T> {
-    /// The values that a function gives for the sensors, or its first error.
+    /// The values that a function gives for the sensors, in the order of their numbers, or its first error.
     #[inline(always)]
     pub fn try_from_fn<E, F: Fn(Sensor) -> Result<T, E> + Drop>(f: F) -> Result<PerSlowSensor<T>, E>
         requires { EachSlow (λ sensor. F.pre f sensor) }
-        ensures { IfOk result (λ values. EachSlow (λ sensor. F.post f sensor (Ok (slow_at sensor values)))) }
+        ensures values { IfOk result (λ values. EachSlow (λ sensor. F.post f sensor (Ok (slow_at sensor values)))) }
+        ensures error { IfErr result (λ error. FailsFirst (F.post f) error slow_sensors) }
     {
         Ok(PerSlowSensor {
             speed: f(Sensor::Speed)?,

@@ -12,7 +12,7 @@ abbrev of_kept : PerSlowSensor (List Item) → Captures
 of_kept kept = record { kept = kept }
 
 empty : (c : goal.In_ok-try_from_fn) (s : Sensor) → IsSlow s → slow_at s c.in_ok-try_from_fn.field-0 ≡ []
-empty c s slow = let h = c.in_ok-try_from_fn.ensures s slow in search rules
+empty c s slow = let h = c.in_ok-try_from_fn.ensures.values s slow in search rules
 
 pub returns : goal.returns
 returns c = ap (λ (kept : PerSlowSensor (List Item)). of_kept kept) (slow_values-same c.in_ok-try_from_fn.field-0 (each_slow_value []) (λ s slow. empty c s slow ∙ sym (slow_at-each [] s)))
