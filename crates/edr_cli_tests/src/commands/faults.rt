@@ -8,7 +8,7 @@ use super::{
     CommandRun, KEEP, SOUND, Streams, check_run, check_streams, kept_memory, memory_of, new_image,
     replayed, run_of, words_of,
 };
-use crate::{Status, command};
+use edr_cli::{Status, command};
 use edr_device::{Failed, MemNvm, MemSink, Nvm, Source};
 use std::alloc::{AllocError, Global};
 use std::process::Abort;

@@ -6,7 +6,7 @@ use super::{
     CommandRun, KEEP, SOUND, Streams, check_run, check_streams, kept_memory, memory_of, new_image,
     replayed, run_of,
 };
-use crate::Status;
+use edr_cli::Status;
 use edr_device::{MemNvm, Nvm};
 use std::alloc::{AllocError, Global};
 use std::test::Fail;

@@ -7,7 +7,7 @@ use super::expected::{
 use super::{
     CommandRun, KEEP, SIZE, check_run, kept_memory, memory_of, new_image, put, replayed, run_of,
 };
-use crate::Status;
+use edr_cli::Status;
 use std::alloc::{AllocError, Global};
 use std::process::Abort;
 use std::test::Fail;

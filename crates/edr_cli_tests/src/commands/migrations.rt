@@ -3,7 +3,7 @@
 use super::crashes::image_with;
 use super::expected::{COUNTED_ONE, OLD_EVENT, joined};
 use super::{CommandRun, KEEP, SIZE, check_run, memory_of, new_image, run_of};
-use crate::Status;
+use edr_cli::Status;
 use edr_device::Nvm;
 use std::process::Abort;
 use std::test::Fail;

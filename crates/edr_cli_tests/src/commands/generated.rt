@@ -1,7 +1,7 @@
 //! Traces that are made from a number, and what a run of their cycles comes to.
 
 use super::{KEEP, check_run, kept_memory, new_image, run_of, words_of};
-use crate::{Status, command};
+use edr_cli::{Status, command};
 use edr_device::{MemNvm, MemSink, MemSource};
 use std::alloc::Global;
 use std::process::Abort;

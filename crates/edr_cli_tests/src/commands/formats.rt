@@ -4,7 +4,7 @@ use super::{
     CommandRun, KEEP, OVERWRITE, SIZE, SOUND, check_run, check_streams, memory_of, new_image,
     run_of,
 };
-use crate::Status;
+use edr_cli::Status;
 use std::process::Abort;
 use std::test::Fail;
 

@@ -1,7 +1,7 @@
 //! Words and traces that are refused, and traces with quotes and blank lines.
 
 use super::{CommandRun, KEEP, check_run, kept_memory, new_image, replayed, run_of};
-use crate::Status;
+use edr_cli::Status;
 use std::process::Abort;
 use std::test::Fail;
 

@@ -3,7 +3,7 @@
 
 use super::drives::{Drive, quiet, struck, trace_of};
 use super::{KEEP, SIZE, memory_of, new_image, words_of};
-use crate::{Status, Words, command, drive};
+use edr_cli::{Status, Words, command, drive};
 use edr_device::{MemSink, MemSource};
 use edr_drive::Gate;
 use std::alloc::{AllocError, Global};

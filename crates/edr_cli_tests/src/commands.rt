@@ -16,7 +16,7 @@ mod migrations;
 mod orders;
 mod refusals;
 
-use crate::{Status, Words, command};
+use edr_cli::{Status, Words, command};
 use edr_device::{MemNvm, MemSink, MemSource};
 use std::alloc::{AllocError, Global};
 use std::process::Abort;

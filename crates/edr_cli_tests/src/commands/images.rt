@@ -4,7 +4,7 @@ ghost use Rattle.std.specs.Prelude.{◌≤◌};
 use super::drives::{DEPLOYED, struck, trace_of};
 use super::expected::{COUNTED_ONE, STRUCK_CYCLE, changed, joined, struck_event, struck_report};
 use super::{KEEP, SIZE, check_run, image_of, kept_memory, memory_of, new_image, replayed, run_of};
-use crate::Status;
+use edr_cli::Status;
 use std::process::Abort;
 use std::test::Fail;
 
