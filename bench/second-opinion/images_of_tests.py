@@ -33,8 +33,9 @@ COPIES = (
     Copy('edr_cli_tests, many replays', 'edr_cli_tests', 15, {COMMANDS: SHARED + MANY}),
     Copy('edr_cli_tests, failing calls', 'edr_cli_tests', 10, {COMMANDS: SHARED + FAILING}),
     Copy('edr_cli_tests, one replay', 'edr_cli_tests', 70, {COMMANDS: SHARED + ONCE}),
-    # The other modules have no image, but for `large_runs`, whose banks nobody reads, and `memories`, whose bytes are too few.
-    Copy('edr_tests', 'edr_tests', 36, {TESTS: ('banks', 'cycles', 'migrations', 'powered_runs', 'runs')}),
+    # The other modules have no image, but for `large_runs`, whose banks nobody reads, and `memories`, whose bytes are too few. Nor
+    # has `dealt_sensors`, whose feeds others use.
+    Copy('edr_tests', 'edr_tests', 36, {TESTS: ('banks', 'cycles', 'dealt_sensors', 'migrations', 'powered_runs', 'runs')}),
     Copy('edr_base_tests', 'edr_base_tests', 10, {BASE: ('gates',)}),
     Copy('edr_drive', 'edr_drive', 5),
 )
