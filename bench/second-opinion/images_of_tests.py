@@ -11,7 +11,7 @@ from typing import NamedTuple
 TOP = os.path.join(os.path.dirname(os.path.abspath(__file__)), '..', '..')
 SECONDS = 120
 BASE, TESTS = 'crates/edr_base_tests/src/lib.rt', 'crates/edr_tests/src/lib.rt'
-COMMANDS = 'crates/edr_cli/src/command_tests.rt'
+COMMANDS = 'crates/edr_cli_tests/src/commands.rt'
 # What the tests of the top call share; their modules that replay once or twice, those that let each call fail in turn, and the
 # others of many replays.
 SHARED = ('drives', 'expected')
@@ -30,11 +30,12 @@ class Copy(NamedTuple):
 
 
 COPIES = (
-    Copy('edr_cli, many replays', 'edr_cli', 15, {COMMANDS: SHARED + MANY}),
-    Copy('edr_cli, failing calls', 'edr_cli', 10, {COMMANDS: SHARED + FAILING}),
-    Copy('edr_cli, one replay', 'edr_cli', 70, {COMMANDS: SHARED + ONCE}),
-    # The other modules have no image, but for `large_runs`, whose banks nobody reads, and `memories`, whose bytes are too few.
-    Copy('edr_tests', 'edr_tests', 36, {TESTS: ('banks', 'cycles', 'migrations', 'powered_runs', 'runs')}),
+    Copy('edr_cli_tests, many replays', 'edr_cli_tests', 15, {COMMANDS: SHARED + MANY}),
+    Copy('edr_cli_tests, failing calls', 'edr_cli_tests', 10, {COMMANDS: SHARED + FAILING}),
+    Copy('edr_cli_tests, one replay', 'edr_cli_tests', 70, {COMMANDS: SHARED + ONCE}),
+    # The other modules have no image, but for `large_runs`, whose banks nobody reads, and `memories`, whose bytes are too few. Nor
+    # has `dealt_sensors`, whose feeds others use.
+    Copy('edr_tests', 'edr_tests', 36, {TESTS: ('banks', 'cycles', 'dealt_sensors', 'migrations', 'powered_runs', 'runs')}),
     Copy('edr_base_tests', 'edr_base_tests', 10, {BASE: ('gates',)}),
     Copy('edr_drive', 'edr_drive', 5),
 )

@@ -4,6 +4,7 @@ ghost use Rattle.std.specs.Prelude.{◌≤◌, ◌<◌, length};
 
 use edr_items::Sensor;
 use edr_trace::{CycleInput, ReadRefused, TraceReading};
+use std::alloc::AllocError;
 use std::test::Fail;
 
 // Numbers one after the other, drawn from a seed.
@@ -47,21 +48,47 @@ impl DrawnNumbers {
     }
 }
 
+// A plain row of a sensor, and how it ends.
+fn push_row(
+    text: &mut String,
+    sensor: &str,
+    tick: u32,
+    value: i64,
+    end: &str,
+) -> Result<(), AllocError> {
+    write!(text, "{sensor},{tick},{value}{end}")
+}
+
+// The rows of a tick, one of them with quotes now and then where they are not to be plain.
+fn push_tick(
+    text: &mut String,
+    draws: &mut DrawnNumbers,
+    plain: bool,
+    tick: u32,
+) -> Result<(), AllocError> {
+    let value = i64::from(draws.below(200_001)) - 100_000;
+    push_row(text, "along", tick, value, draws.row_end(plain))?;
+    match draws.below(12) {
+        0 if !plain => write!(text, "\"across\",{tick},\"{value}\"\n"),
+        1 => write!(text, "across,{tick},\nlamp,{tick},1\n"),
+        _ => push_row(text, "across", tick, value, draws.row_end(plain)),
+    }
+}
+
+// A cycle of up to 31 ticks.
+fn push_cycle(text: &mut String, draws: &mut DrawnNumbers, plain: bool) -> Result<(), AllocError> {
+    text.push_str("on,0,\n")?;
+    for tick in 1..draws.below(30) + 2 {
+        push_tick(text, draws, plain, tick)?;
+    }
+    write!(text, "cut,{},{}", draws.below(3), draws.row_end(plain))
+}
+
 // A cycle or two of plain rows, or with a row of quotes now and then.
 fn drawn_trace(rt: &HostRuntime, draws: &mut DrawnNumbers, plain: bool) -> Result<String, Fail> {
     let mut text = String::new(rt.alloc());
     for _ in 0..draws.below(2) + 1 {
-        write!(text, "on,0,\n")?;
-        for tick in 1..draws.below(30) + 2 {
-            let value = i64::from(draws.below(200_001)) - 100_000;
-            write!(text, "along,{tick},{value}{}", draws.row_end(plain))?;
-            match draws.below(12) {
-                0 if !plain => write!(text, "\"across\",{tick},\"{value}\"\n")?,
-                1 => write!(text, "across,{tick},\nlamp,{tick},1\n")?,
-                _ => write!(text, "across,{tick},{value}{}", draws.row_end(plain))?,
-            }
-        }
-        write!(text, "cut,{},{}", draws.below(3), draws.row_end(plain))?;
+        push_cycle(&mut text, draws, plain)?;
     }
     Ok(text)
 }

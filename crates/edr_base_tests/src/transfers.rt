@@ -5,6 +5,7 @@ ghost use Rattle.edr_device.specs.Faults.{last_number};
 use edr_device::{Failed, MemSink, MemSource, Sink, Source, TakeFault, put_all, take_all};
 use std::alloc::{AllocError, Global};
 use std::io::{Read, Write};
+use std::process::Abort;
 use std::test::Fail;
 
 // An adapter over a reader or a writer. It counts what fails, and tells nothing.
@@ -64,42 +65,78 @@ fn some_bytes(alloc: Global, count: u32) -> Result<Vec<u8>, AllocError> {
     Ok(bytes)
 }
 
+// 70,000 bytes come out of a source in pieces of so many.
+fn check_taken<R: Abort + AllocGlobal>(rt: &R, piece: usize) -> Result<Vec<u8>, Fail>
+    requires { 1 ≤ piece }
+{
+    let bytes = some_bytes(rt.alloc(), 70_000)?;
+    let mut source = MemSource::new(bytes, piece, Vec::new(rt.alloc()));
+    let taken = take_all(rt.alloc(), &mut source, 70_000)?;
+    let wanted = some_bytes(rt.alloc(), 70_000)?;
+    assert_eq!(rt; taken, wanted, "in pieces of {piece}");
+    Ok(taken)
+}
+
+// They go into a sink in pieces of so many.
+fn check_put<R: Abort + AllocGlobal>(rt: &R, taken: &[u8], piece: usize) -> Result<(), Fail>
+    requires { 1 ≤ piece }
+{
+    let mut sink = MemSink::new(rt.alloc(), 70_000, piece, Vec::new(rt.alloc()))?;
+    assert_eq!(rt; put_all(&mut sink, taken), Ok(()));
+    assert_eq!(rt; sink.bytes(), taken, "in pieces of {piece}");
+    Ok(())
+}
+
 #[test]
 fn carries_all_in_pieces(rt: HostRuntime) -> Result<(), Fail> {
     for piece in [1usize, 2, 7, 1000] {
         assert!(rt; piece > 0);
-        let bytes = some_bytes(rt.alloc(), 70_000)?;
-        let mut source = MemSource::new(bytes, piece, Vec::new(rt.alloc()));
-        let taken = take_all(rt.alloc(), &mut source, 70_000)?;
-        assert_eq!(rt;
-            taken,
-            some_bytes(rt.alloc(), 70_000)?,
-            "in pieces of {piece}"
-        );
-        let mut sink = MemSink::new(rt.alloc(), 70_000, piece, Vec::new(rt.alloc()))?;
-        assert_eq!(rt; put_all(&mut sink, &taken), Ok(()));
-        assert_eq!(rt; sink.bytes(), taken.as_slice(), "in pieces of {piece}");
+        let taken = check_taken(&rt, piece)?;
+        check_put(&rt, &taken, piece)?;
+    }
+    Ok(())
+}
+
+// A source of 35 bytes, ten at a time, in which these calls fail.
+fn short_source(alloc: Global, fails: &[u32]) -> Result<MemSource, AllocError> {
+    let bytes = some_bytes(alloc, 35)?;
+    let fails = fails.to_vec(alloc)?;
+    Ok(MemSource::new(bytes, 10, fails))
+}
+
+// What was taken of such a source is all of it, where nothing is to fail, or else this.
+fn check_short<R: Abort + AllocGlobal>(
+    rt: &R,
+    case: usize,
+    taken: Result<Vec<u8>, TakeFault>,
+    fails: Option<TakeFault>,
+) -> Result<(), Fail> {
+    match taken {
+        Ok(bytes) => {
+            let wanted = some_bytes(rt.alloc(), 35)?;
+            assert_eq!(rt; fails, None, "at {case}");
+            assert_eq!(rt; bytes, wanted);
+        }
+        Err(e) => assert_eq!(rt; Some(e), fails, "at {case}"),
     }
     Ok(())
 }
 
 #[test]
 fn stops_one_past_the_limit(rt: HostRuntime) -> Result<(), Fail> {
-    for (limit, want) in [(34, false), (35, true), (36, true), (0, false)] {
+    let long = Some(TakeFault::TooLong);
+    for (limit, fails) in [(34, long), (35, None), (36, None), (0, long)] {
         assert!(rt; limit < 100);
-        let mut source = MemSource::new(some_bytes(rt.alloc(), 35)?, 10, Vec::new(rt.alloc()));
-        match take_all(rt.alloc(), &mut source, limit) {
-            Ok(bytes) => {
-                assert!(rt; want);
-                assert_eq!(rt; bytes, some_bytes(rt.alloc(), 35)?);
-            }
-            Err(e) => {
-                assert!(rt; !want);
-                assert_eq!(rt; e, TakeFault::TooLong);
-            }
-        }
+        let mut source = short_source(rt.alloc(), &[])?;
+        let taken = take_all(rt.alloc(), &mut source, limit);
+        check_short(&rt, limit, taken, fails)?;
     }
-    let mut source = MemSource::new(some_bytes(rt.alloc(), 35)?, 10, Vec::new(rt.alloc()));
+    Ok(())
+}
+
+#[test]
+fn one_byte_past_the_limit_is_taken(rt: HostRuntime) -> Result<(), Fail> {
+    let mut source = short_source(rt.alloc(), &[])?;
     assert_eq!(rt;
         take_all(rt.alloc(), &mut source, 12).err(),
         Some(TakeFault::TooLong)
@@ -114,18 +151,15 @@ fn stops_one_past_the_limit(rt: HostRuntime) -> Result<(), Fail> {
 #[test]
 fn source_fails_at_each_call(rt: HostRuntime) -> Result<(), Fail> {
     for call in 0..8u32 {
-        let fails = [call, call].to_vec(rt.alloc())?;
-        let mut source = MemSource::new(some_bytes(rt.alloc(), 35)?, 10, fails);
-        match take_all(rt.alloc(), &mut source, 1000) {
-            Ok(bytes) => {
-                assert!(rt; call == 0 || call > 5, "call {call}");
-                assert_eq!(rt; bytes, some_bytes(rt.alloc(), 35)?);
-            }
-            Err(e) => {
-                assert!(rt; call >= 1 && call <= 5, "call {call}");
-                assert_eq!(rt; e, TakeFault::Failed);
-            }
-        }
+        let mut source = short_source(rt.alloc(), &[call, call])?;
+        let is_told = call >= 1 && call <= 5;
+        let fails = if is_told {
+            Some(TakeFault::Failed)
+        } else {
+            None
+        };
+        let taken = take_all(rt.alloc(), &mut source, 1000);
+        check_short(&rt, call as usize, taken, fails)?;
     }
     Ok(())
 }

@@ -21,8 +21,3 @@ pub use drives::drive;
 pub use edr_words::Words;
 pub use fault::Fault;
 pub use status::Status;
-
-#[cfg(test)]
-mod command_tests;
-#[cfg(test)]
-mod fault_tests;

@@ -4,11 +4,12 @@ ghost use Rattle.edr_device.specs.Memory.{memory_image};
 ghost use Rattle.edr_items.specs.SensorLists.{IsLevel};
 ghost use Rattle.edr_cycle.specs.Remaining.{Remains};
 
+use crate::dealt_sensors::{give, give_slow};
 use edr_banks::{Ack, Applied, BankView, Banks, Choice, CycleReport, Found, Kind, Log};
 use edr_core::{Captures, SplitCore};
 use edr_cycle::{Parts, Remaining, StartFault, run_alone, run_rest, start};
 use edr_device::{Fused, MemNvm, Nvm};
-use edr_items::{Feeds, Item, Sensor, level_is_none_lagging};
+use edr_items::{Feeds, Sensor, level_is_none_lagging};
 use edr_layout::OPEN_GATE;
 use edr_record::Record;
 use std::alloc::Global;
@@ -22,32 +23,26 @@ struct Happens {
     struck: bool,
 }
 
-fn give(feeds: &mut Feeds, sensor: Sensor, moment: u32, value: Option<i32>) -> Result<(), Fail> {
-    Ok(feeds.add(sensor, Item { moment, value })?)
+// What is sampled at this tick.
+fn give_tick(feeds: &mut Feeds, happens: Happens, tick: u32) -> Result<(), Fail> {
+    let is_struck = happens.struck && 26_000 < tick && tick <= 26_100;
+    let along = if is_struck { -4000 } else { 0 };
+    give(feeds, Sensor::Along, tick, Some(along))?;
+    give(feeds, Sensor::Across, tick, Some(0))?;
+    if tick % 1000 == 0 || tick == happens.ticks {
+        give(feeds, Sensor::Restraint, tick, None)?;
+    }
+    if tick % 100 == 0 {
+        give_slow(feeds, tick)?;
+    }
+    Ok(())
 }
 
 // A car that drives at 50 km/h, with a sample in each millisecond.
 fn feeds_of(alloc: Global, happens: Happens) -> Result<Feeds, Fail> {
     let mut feeds = Feeds::new(alloc);
     for tick in 1..=happens.ticks {
-        let is_struck = happens.struck && 26_000 < tick && tick <= 26_100;
-        give(
-            &mut feeds,
-            Sensor::Along,
-            tick,
-            Some(if is_struck { -4000 } else { 0 }),
-        )?;
-        give(&mut feeds, Sensor::Across, tick, Some(0))?;
-        if tick % 1000 == 0 || tick == happens.ticks {
-            give(&mut feeds, Sensor::Restraint, tick, None)?;
-        }
-        if tick % 100 == 0 {
-            give(&mut feeds, Sensor::Speed, tick, Some(50))?;
-            give(&mut feeds, Sensor::Throttle, tick, Some(20))?;
-            give(&mut feeds, Sensor::Brake, tick, Some(0))?;
-            give(&mut feeds, Sensor::Belt, tick, Some(1))?;
-            give(&mut feeds, Sensor::Lamp, tick, Some(0))?;
-        }
+        give_tick(&mut feeds, happens, tick)?;
     }
     Ok(feeds)
 }

@@ -6,24 +6,39 @@ use edr_loops::{FastLanes, FastPlaces, SlowLanes, SlowPlaces, make_fast_lanes, m
 use std::alloc::Global;
 use std::test::Fail;
 
-fn give(feeds: &mut Feeds, sensor: Sensor, moment: u32, value: Option<i32>) -> Result<(), Fail> {
+pub(crate) fn give(
+    feeds: &mut Feeds,
+    sensor: Sensor,
+    moment: u32,
+    value: Option<i32>,
+) -> Result<(), Fail> {
     Ok(feeds.add(sensor, Item { moment, value })?)
+}
+
+// What the slow sensors sample at 50 km/h.
+pub(crate) fn give_slow(feeds: &mut Feeds, tick: u32) -> Result<(), Fail> {
+    give(feeds, Sensor::Speed, tick, Some(50))?;
+    give(feeds, Sensor::Throttle, tick, Some(20))?;
+    give(feeds, Sensor::Brake, tick, Some(0))?;
+    give(feeds, Sensor::Belt, tick, Some(1))?;
+    give(feeds, Sensor::Lamp, tick, Some(0))
+}
+
+// Axes that nothing strikes.
+fn give_axes(feeds: &mut Feeds, ticks: u32) -> Result<(), Fail> {
+    for tick in 1..=ticks {
+        give(feeds, Sensor::Along, tick, Some(0))?;
+        give(feeds, Sensor::Across, tick, Some(0))?;
+    }
+    Ok(())
 }
 
 // A car that drives for 200 ms, and whose air bag fires at 100 ms: 412 items.
 pub(crate) fn fired_feeds(alloc: Global) -> Result<Feeds, Fail> {
     let mut feeds = Feeds::new(alloc);
-    for tick in 1..=200u32 {
-        give(&mut feeds, Sensor::Along, tick, Some(0))?;
-        give(&mut feeds, Sensor::Across, tick, Some(0))?;
-    }
-    for tick in [100u32, 200] {
-        give(&mut feeds, Sensor::Speed, tick, Some(50))?;
-        give(&mut feeds, Sensor::Throttle, tick, Some(20))?;
-        give(&mut feeds, Sensor::Brake, tick, Some(0))?;
-        give(&mut feeds, Sensor::Belt, tick, Some(1))?;
-        give(&mut feeds, Sensor::Lamp, tick, Some(0))?;
-    }
+    give_axes(&mut feeds, 200)?;
+    give_slow(&mut feeds, 100)?;
+    give_slow(&mut feeds, 200)?;
     give(&mut feeds, Sensor::Restraint, 100, Some(1))?;
     give(&mut feeds, Sensor::Restraint, 200, None)?;
     Ok(feeds)

@@ -3,10 +3,11 @@ ghost use Rattle.std.specs.Prelude.{◌≤◌, IfOk};
 ghost use Rattle.edr_items.specs.SensorLists.{IsLevel};
 ghost use Rattle.edr_spell.specs.Spell.{IsCycleInput};
 
+use crate::dealt_sensors::fired_feeds;
 use edr_banks::{Ack, Applied, BankView, Banks, Choice, Kind};
 use edr_device::MemNvm;
 use edr_image::CycleReport;
-use edr_items::{Feeds, Item, Sensor, level_is_none_lagging};
+use edr_items::{Feeds, level_is_none_lagging};
 use edr_record::Record;
 use edr_replay::replay;
 use edr_spell::CycleInput;
@@ -20,29 +21,6 @@ pub(crate) fn formatted(alloc: Global, pick: u64) -> Result<MemNvm, Fail> {
     let mut memory = MemNvm::new(alloc, image, 100, Vec::new(alloc), Vec::new(alloc), pick)?;
     Banks::format(&mut memory, 2, Choice::Keep)?;
     Ok(memory)
-}
-
-fn give(feeds: &mut Feeds, sensor: Sensor, moment: u32, value: Option<i32>) -> Result<(), Fail> {
-    Ok(feeds.add(sensor, Item { moment, value })?)
-}
-
-// A car that drives for 200 ms, and whose airbag fires at 100 ms.
-fn fired_feeds(alloc: Global) -> Result<Feeds, Fail> {
-    let mut feeds = Feeds::new(alloc);
-    for tick in 1..=200u32 {
-        give(&mut feeds, Sensor::Along, tick, Some(0))?;
-        give(&mut feeds, Sensor::Across, tick, Some(0))?;
-    }
-    for tick in [100u32, 200] {
-        give(&mut feeds, Sensor::Speed, tick, Some(50))?;
-        give(&mut feeds, Sensor::Throttle, tick, Some(20))?;
-        give(&mut feeds, Sensor::Brake, tick, Some(0))?;
-        give(&mut feeds, Sensor::Belt, tick, Some(1))?;
-        give(&mut feeds, Sensor::Lamp, tick, Some(0))?;
-    }
-    give(&mut feeds, Sensor::Restraint, 100, Some(1))?;
-    give(&mut feeds, Sensor::Restraint, 200, None)?;
-    Ok(feeds)
 }
 
 fn assert_level(rt: &impl Abort, feeds: &Feeds)

@@ -2,9 +2,11 @@
 //! that the slow sensors are asked for their parts.
 
 use super::drives::{Drive, quiet, struck, trace_of};
-use super::{KEEP, SIZE, memory_of, new_image, words_of};
-use crate::{Status, Words, command, drive};
-use edr_device::{MemSink, MemSource};
+use super::{
+    KEEP, SIZE, SOUND, Streams, kept_memory, memory_of, new_image, sink_of, source_of, words_of,
+};
+use edr_cli::{Status, Words, command, drive};
+use edr_device::{MemNvm, MemSink, MemSource};
 use edr_drive::Gate;
 use std::alloc::{AllocError, Global};
 use std::process::Abort;
@@ -43,16 +45,43 @@ struct RunOutcome {
 
 // The words of a run in this form: by so many workers, or on one thread.
 fn words_in(alloc: Global, workers: Option<&str>, form: &str) -> Result<Words, AllocError> {
-    let mut words = Words::new(alloc);
     match workers {
-        Some(workers) => {
-            words.push("drive")?;
-            words.push(workers)?;
-        }
-        None => words.push("replay")?,
+        Some(workers) => words_of(alloc, &["drive", workers, form]),
+        None => words_of(alloc, &["replay", form]),
     }
-    words.push(form)?;
-    Ok(words)
+}
+
+// Runs by threads or on one, and gives the status.
+fn serve<R: Threads + Wait + Copy + Send + Sync + 'static>(
+    rt: &R,
+    alloc: Global,
+    is_driven: bool,
+    words: &Words,
+    source: &mut MemSource,
+    sink: &mut MemSink,
+    memory: &mut MemNvm,
+) -> Result<Status, Fail> {
+    if !is_driven {
+        return Ok(command(alloc, words, source, sink, memory));
+    }
+    let gate = Arc::new(alloc, AlwaysOpen {})?;
+    Ok(drive(rt, alloc, words, source, sink, memory, &gate))
+}
+
+// What stands in sink and memory behind a run.
+fn outcome_of(
+    alloc: Global,
+    status: Status,
+    sink: &MemSink,
+    memory: &MemNvm,
+) -> Result<RunOutcome, AllocError> {
+    let text = sink.bytes().to_vec(alloc)?;
+    let image = memory.image().to_vec(alloc)?;
+    Ok(RunOutcome {
+        status,
+        text,
+        image,
+    })
 }
 
 // The case in this form: by so many workers, or on one thread.
@@ -64,30 +93,32 @@ fn run_case<R: Threads + Wait + Copy + Send + Sync + 'static>(
     form: &str,
 ) -> Result<RunOutcome, Fail> {
     let words = words_in(alloc, workers, form)?;
-    let fails = case.source_fails.to_vec(alloc)?;
-    let mut source = MemSource::new(case.trace.to_vec(alloc)?, 1_000, fails);
-    let mut sink = MemSink::new(alloc, 20_000, 20_000, Vec::new(alloc))?;
+    let streams = Streams {
+        source_piece: 1_000,
+        source_fails: case.source_fails,
+        ..SOUND
+    };
+    let mut source = source_of(alloc, case.trace, streams)?;
+    let mut sink = sink_of(alloc, streams)?;
     let image = case.image;
     let mut memory = memory_of(alloc, image, case.memory_fails, 0)?;
-    let status = if workers.is_some() {
-        let gate = Arc::new(alloc, AlwaysOpen {})?;
-        drive(
-            rt,
-            alloc,
-            &words,
-            &mut source,
-            &mut sink,
-            &mut memory,
-            &gate,
-        )
-    } else {
-        command(alloc, &words, &mut source, &mut sink, &mut memory)
-    };
-    Ok(RunOutcome {
-        status,
-        text: sink.bytes().to_vec(alloc)?,
-        image: memory.image().to_vec(alloc)?,
-    })
+    let is_driven = workers.is_some();
+    let status = serve(
+        rt,
+        alloc,
+        is_driven,
+        &words,
+        &mut source,
+        &mut sink,
+        &mut memory,
+    )?;
+    Ok(outcome_of(alloc, status, &sink, &memory)?)
+}
+
+fn check_same(rt: &impl Abort, driven: &RunOutcome, alone: &RunOutcome) {
+    assert_eq!(rt; driven.status, alone.status);
+    assert_eq!(rt; driven.text.as_slice(), alone.text.as_slice());
+    assert_eq!(rt; driven.image.as_slice(), alone.image.as_slice());
 }
 
 // The case in this form comes by 1 worker and by 8 to what it comes to on one thread.
@@ -101,9 +132,7 @@ fn check_driven<R: Threads + Wait + Abort + Copy + Send + Sync + 'static>(
     assert_eq!(rt; alone.status, case.status);
     for workers in ["1", "8"] {
         let driven = run_case(rt, alloc, case, Some(workers), form)?;
-        assert_eq!(rt; driven.status, alone.status);
-        assert_eq!(rt; driven.text.as_slice(), alone.text.as_slice());
-        assert_eq!(rt; driven.image.as_slice(), alone.image.as_slice());
+        check_same(rt, &driven, &alone);
     }
     Ok(())
 }
@@ -212,16 +241,21 @@ impl Gate for Meeting {
     }
 }
 
+// A source that gives the trace of the struck car.
+fn struck_source(alloc: Global) -> Result<MemSource, AllocError> {
+    let trace = trace_of(alloc, &[struck(27_000)])?;
+    source_of(alloc, trace.as_bytes(), SOUND)
+}
+
 // A run of a crash by eight workers, at this gate.
 fn drive_struck<
     R: Threads + Wait + Abort + Copy + Send + Sync + 'static,
     G: Gate + Drop + Send + Sync + 'static,
 >(rt: &R, alloc: Global, gate: &Arc<G>) -> Result<(), Fail> {
     let words = words_of(alloc, &["drive", "8"])?;
-    let trace = trace_of(alloc, &[struck(27_000)])?;
-    let mut source = MemSource::new(trace.as_bytes().to_vec(alloc)?, 10_000, Vec::new(alloc));
-    let mut sink = MemSink::new(alloc, 20_000, 20_000, Vec::new(alloc))?;
-    let mut memory = memory_of(alloc, &new_image(2, KEEP), &[], 0)?;
+    let mut source = struck_source(alloc)?;
+    let mut sink = sink_of(alloc, SOUND)?;
+    let mut memory = kept_memory(alloc)?;
     let status = drive(rt, alloc, &words, &mut source, &mut sink, &mut memory, gate);
     assert_eq!(rt; status, Status::Ok);
     Ok(())

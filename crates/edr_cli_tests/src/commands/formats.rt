@@ -1,10 +1,11 @@
 //! `format` over new, formatted, short and failing memories.
 
 use super::{
-    CommandRun, KEEP, OVERWRITE, SIZE, SOUND, check_run, check_streams, memory_of, new_image,
-    run_of,
+    CommandRun, KEEP, OVERWRITE, SIZE, SOUND, check_report, check_run, check_streams, memory_of,
+    new_image, run_of,
 };
-use crate::Status;
+use edr_cli::Status;
+use edr_device::MemNvm;
 use std::process::Abort;
 use std::test::Fail;
 
@@ -17,19 +18,19 @@ const FORMAT: CommandRun<'static> = CommandRun {
     output: FORMATTED,
 };
 
+// A memory without a cycle is reported so, in both forms.
+fn check_empty<R: Abort + AllocGlobal>(rt: &R, memory: &mut MemNvm) -> Result<(), Fail> {
+    check_report(rt, "ignition cycle, download: 0\n", memory)?;
+    let table = "block,name,value\n0,\"ignition cycle, download\",0\n";
+    check_run(rt, run_of(&["report", "csv"], Status::Ok, table), memory)
+}
+
 #[test]
 fn a_memory_of_zeros_is_formatted_once(rt: HostRuntime) -> Result<(), Fail> {
     let mut memory = memory_of(rt.alloc(), &[0; SIZE], &[], 0)?;
     check_run(&rt, FORMAT, &mut memory)?;
     assert_eq!(rt; memory.image(), new_image(2, KEEP).as_slice());
-    let report = "ignition cycle, download: 0\n";
-    check_run(&rt, run_of(&["report"], Status::Ok, report), &mut memory)?;
-    let table = "block,name,value\n0,\"ignition cycle, download\",0\n";
-    check_run(
-        &rt,
-        run_of(&["report", "csv"], Status::Ok, table),
-        &mut memory,
-    )?;
+    check_empty(&rt, &mut memory)?;
     let twice = run_of(
         &["format", "3", "overwrite"],
         Status::Image,
@@ -40,14 +41,19 @@ fn a_memory_of_zeros_is_formatted_once(rt: HostRuntime) -> Result<(), Fail> {
     Ok(())
 }
 
-// What stands past the image stays, and so does a memory that is too short.
 #[test]
-fn a_memory_needs_room_for_its_banks(rt: HostRuntime) -> Result<(), Fail> {
+fn what_stands_past_the_image_stays(rt: HostRuntime) -> Result<(), Fail> {
     let mut memory = memory_of(rt.alloc(), &[0x45; SIZE], &[], 0)?;
     check_run(&rt, FORMAT, &mut memory)?;
     let mut image = new_image(2, KEEP);
     image[2_144..].copy_from_slice(&[0x45; 1_024]);
     assert_eq!(rt; memory.image(), image.as_slice());
+    Ok(())
+}
+
+// One that is too short stays.
+#[test]
+fn a_memory_needs_room_for_its_banks(rt: HostRuntime) -> Result<(), Fail> {
     let needed = [
         (&["format", "2", "keep"], "fault: image short 95 of 2144\n"),
         (
@@ -74,8 +80,7 @@ fn the_line_tells_of_the_new_image(rt: HostRuntime) -> Result<(), Fail> {
     let words = ["format", "16", "keep"];
     let line = "formatted: 16 banks, keep\n";
     check_run(&rt, run_of(&words, Status::Ok, line), &mut memory)?;
-    let report = "ignition cycle, download: 0\n";
-    check_run(&rt, run_of(&["report"], Status::Ok, report), &mut memory)
+    check_report(&rt, "ignition cycle, download: 0\n", &mut memory)
 }
 
 // The barrier is changing call 1; then come three writes and a sync, and byte 0 with its sync.

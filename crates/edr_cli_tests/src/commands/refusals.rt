@@ -1,7 +1,7 @@
 //! Words and traces that are refused, and traces with quotes and blank lines.
 
-use super::{CommandRun, KEEP, check_run, kept_memory, new_image, replayed, run_of};
-use crate::Status;
+use super::{CommandRun, KEEP, check_new, check_run, kept_memory, new_image, replayed, run_of};
+use edr_cli::Status;
 use std::process::Abort;
 use std::test::Fail;
 
@@ -117,7 +117,7 @@ fn a_trace_that_is_cut_off_anywhere_is_told(rt: HostRuntime) -> Result<(), Fail>
     let one = "cycle 1: number 1, power off\nignition cycle, download: 1\n";
     for (end, report) in [(0usize, none), (22, one), (23, one)] {
         let trace = trace.get(..end).unwrap_or("");
-        check_run(&rt, replayed(trace, report), &mut kept_memory(rt.alloc())?)?;
+        check_new(&rt, replayed(trace, report))?;
     }
     Ok(())
 }
@@ -133,7 +133,7 @@ fn quotes_blank_lines_and_a_mark_make_no_difference(rt: HostRuntime) -> Result<(
         "on,0,\n\"along\",\"1\",\"0\"\nacross,1,0\n\ncut,0,\n",
     ];
     for trace in traces {
-        check_run(&rt, replayed(trace, report), &mut kept_memory(rt.alloc())?)?;
+        check_new(&rt, replayed(trace, report))?;
     }
     Ok(())
 }

@@ -100,6 +100,10 @@ pub(crate) const DEPLOYED: Drive<'static> = Drive {
     stop: 0,
 };
 
+fn push_row(trace: &mut String, sensor: &str, tick: u32, value: i64) -> Result<(), AllocError> {
+    write!(trace, "{sensor},{tick},{value}\n")
+}
+
 fn push_axis(
     trace: &mut String,
     axis: &str,
@@ -111,38 +115,46 @@ fn push_axis(
         Some(stretch) => stretch.value,
         None => Some(0),
     };
-    if let Some(value) = value {
-        write!(trace, "{axis},{tick},{value}\n")?;
+    match value {
+        Some(value) => push_row(trace, axis, tick, i64::from(value)),
+        None => Ok(()),
     }
-    Ok(())
 }
 
 // What is sampled ten times a second.
 fn push_slow(trace: &mut String, tick: u32, speed: u32) -> Result<(), AllocError> {
-    write!(trace, "speed,{tick},{speed}\nthrottle,{tick},20\n")?;
-    write!(trace, "brake,{tick},0\nbelt,{tick},1\nlamp,{tick},0\n")
+    push_row(trace, "speed", tick, i64::from(speed))?;
+    push_row(trace, "throttle", tick, 20)?;
+    push_row(trace, "brake", tick, 0)?;
+    push_row(trace, "belt", tick, 1)?;
+    push_row(trace, "lamp", tick, 0)
 }
 
 // A firing, or a silent row each second and at the end.
 fn push_restraint(trace: &mut String, drive: Drive<'_>, tick: u32) -> Result<(), AllocError> {
     match drive.fired.iter().find(|f| f.0 == tick) {
-        Some((_, bits)) => write!(trace, "restraint,{tick},{bits}\n"),
+        Some((_, bits)) => push_row(trace, "restraint", tick, i64::from(*bits)),
         None if tick % 1000 == 0 || tick == drive.ticks => write!(trace, "restraint,{tick},\n"),
         None => Ok(()),
     }
+}
+
+// The rows of a tick, by sensor.
+fn push_tick(trace: &mut String, drive: Drive<'_>, tick: u32) -> Result<(), AllocError> {
+    push_axis(trace, "along", drive.along, tick)?;
+    push_axis(trace, "across", drive.across, tick)?;
+    if tick % 100 == 0 {
+        let speed = if drive.speeds_up { tick / 100 } else { 50 };
+        push_slow(trace, tick, speed)?;
+    }
+    push_restraint(trace, drive, tick)
 }
 
 /// Appends the rows of an ignition cycle, by tick and then by sensor.
 pub(crate) fn push_drive(trace: &mut String, drive: Drive<'_>) -> Result<(), AllocError> {
     trace.push_str("on,0,\n")?;
     for tick in 1..=drive.ticks {
-        push_axis(trace, "along", drive.along, tick)?;
-        push_axis(trace, "across", drive.across, tick)?;
-        if tick % 100 == 0 {
-            let speed = if drive.speeds_up { tick / 100 } else { 50 };
-            push_slow(trace, tick, speed)?;
-        }
-        push_restraint(trace, drive, tick)?;
+        push_tick(trace, drive, tick)?;
     }
     write!(trace, "cut,{},\n", drive.stop)
 }

@@ -4,7 +4,7 @@ use super::drives::{TENSED, push_drive, quiet, struck, trace_of};
 use super::expected::{
     COUNTED_ONE, NOT_DONE, TENSED_TWICE, changed, joined, struck_event, tensed_event,
 };
-use super::{KEEP, OVERWRITE, check_run, kept_memory, memory_of, new_image, replayed};
+use super::{KEEP, OVERWRITE, check_new, check_run, memory_of, new_image, replayed};
 use std::alloc::{AllocError, Global};
 use std::process::Abort;
 use std::test::Fail;
@@ -16,7 +16,7 @@ fn a_drive_that_ends_within_its_event_leaves_no_crash_part(rt: HostRuntime) -> R
     const CYCLE: &str = "cycle 1: number 1, power off\ncycle 1 take at 26020: bank 1\n";
     let event = changed(alloc, &struck_event(alloc)?, &NOT_DONE)?;
     let report = joined(alloc, &[CYCLE, &event, COUNTED_ONE])?;
-    check_run(&rt, replayed(&trace, &report), &mut kept_memory(alloc)?)
+    check_new(&rt, replayed(&trace, &report))
 }
 
 // The number of the next CYCLE, where a start was stopped in this call. The fifth call opens the slot of the new count.
@@ -24,18 +24,28 @@ fn number_after(call: u32, pick: u64) -> u32 {
     if call >= 5 && pick == 1 { 2 } else { 1 }
 }
 
+// The report of a start that was stopped in this call, and of the next cycle with this number.
+fn start_report(alloc: Global, call: u32, number: u32) -> Result<String, AllocError> {
+    let mut report = format!(in alloc; "cycle 1: start stopped in call {call}\n")?;
+    write!(report, "cycle 2: number {number}, power off\n")?;
+    write!(report, "ignition cycle, download: {number}\n")?;
+    Ok(report)
+}
+
+// A start that is stopped in this call, with this pick.
+fn check_start<R: Abort + AllocGlobal>(rt: &R, call: u32, pick: u64) -> Result<(), Fail> {
+    let alloc = rt.alloc();
+    let trace = format!(in alloc; "on,{call},\non,0,\ncut,0,\n")?;
+    let report = start_report(alloc, call, number_after(call, pick))?;
+    let mut memory = memory_of(alloc, &new_image(2, KEEP), &[], pick)?;
+    check_run(rt, replayed(&trace, &report), &mut memory)
+}
+
 #[test]
 fn a_start_that_is_cut_counts_by_its_pick(rt: HostRuntime) -> Result<(), Fail> {
-    let alloc = rt.alloc();
     for pick in [0u64, 1, 7] {
         for call in 1..=6u32 {
-            let trace = format!(in alloc; "on,{call},\non,0,\ncut,0,\n")?;
-            let number = number_after(call, pick);
-            let mut report = format!(in alloc; "cycle 1: start stopped in call {call}\n")?;
-            write!(report, "cycle 2: number {number}, power off\n")?;
-            write!(report, "ignition cycle, download: {number}\n")?;
-            let mut memory = memory_of(alloc, &new_image(2, KEEP), &[], pick)?;
-            check_run(&rt, replayed(&trace, &report), &mut memory)?;
+            check_start(&rt, call, pick)?;
         }
     }
     Ok(())
@@ -112,22 +122,51 @@ fn second_event(alloc: Global, place: &str) -> Result<String, AllocError> {
     tensed_event(alloc, &changes)
 }
 
+// The record of cycle 3, complete.
+fn third_event(alloc: Global) -> Result<String, AllocError> {
+    let changes = [("event", "2"), ("ignition cycle, crash", "3")];
+    changed(alloc, &struck_event(alloc)?, &changes)
+}
+
+// The records of the cycles 1 and 2.
+fn first_two(alloc: Global) -> Result<String, AllocError> {
+    let first = tensed_event(alloc, &[])?;
+    let second = second_event(alloc, "2")?;
+    joined(alloc, &[&first, &second])
+}
+
+// The records of cycle 2 and of cycle 3, the last with these changes.
+fn last_two(alloc: Global, changes: &[(&str, &str)]) -> Result<String, AllocError> {
+    let second = second_event(alloc, "1")?;
+    let third = changed(alloc, &third_event(alloc)?, changes)?;
+    joined(alloc, &[&second, &third])
+}
+
 // All records, by cycle.
 fn events(alloc: Global, bank: Bank) -> Result<String, AllocError> {
-    let third = [("event", "2"), ("ignition cycle, crash", "3")];
-    let complete = changed(alloc, &struck_event(alloc)?, &third)?;
-    let taken = changed(alloc, &complete, &NOT_DONE)?;
-    let second = second_event(alloc, "1")?;
     match bank {
-        Bank::First => {
-            let first = tensed_event(alloc, &[])?;
-            let behind = second_event(alloc, "2")?;
-            joined(alloc, &[&first, &behind])
-        }
-        Bank::Void => Ok(second),
-        Bank::Taken => joined(alloc, &[&second, &taken]),
-        Bank::Complete => joined(alloc, &[&second, &complete]),
+        Bank::First => first_two(alloc),
+        Bank::Void => second_event(alloc, "1"),
+        Bank::Taken => last_two(alloc, &NOT_DONE),
+        Bank::Complete => last_two(alloc, &[]),
     }
+}
+
+// The trace of the drives before, and of one with this cut.
+fn cut_trace(alloc: Global, before: &str, cut: Cut) -> Result<String, AllocError> {
+    let mut drive = struck(27_000);
+    drive.stop = cut.call;
+    let mut trace = String::from_str(alloc, before)?;
+    push_drive(&mut trace, drive)?;
+    Ok(trace)
+}
+
+// What is reported of all three drives.
+fn cut_report(alloc: Global, cut: Cut, bank: Bank) -> Result<String, AllocError> {
+    const LAST: &str = "ignition cycle, download: 3\n";
+    let events = events(alloc, bank)?;
+    let cycle = cycle_lines(alloc, cut)?;
+    joined(alloc, &[TENSED_TWICE, &cycle, &events, LAST])
 }
 
 // The trace of three drives, the last with this cut, leaves this in bank 1 with this pick.
@@ -139,14 +178,8 @@ fn check_cut<R: Abort + AllocGlobal>(
     bank: Bank,
 ) -> Result<(), Fail> {
     let alloc = rt.alloc();
-    let mut drive = struck(27_000);
-    drive.stop = cut.call;
-    let mut trace = String::from_str(alloc, before)?;
-    push_drive(&mut trace, drive)?;
-    let events = events(alloc, bank)?;
-    let cycle = cycle_lines(alloc, cut)?;
-    const LAST: &str = "ignition cycle, download: 3\n";
-    let report = joined(alloc, &[TENSED_TWICE, &cycle, &events, LAST])?;
+    let trace = cut_trace(alloc, before, cut)?;
+    let report = cut_report(alloc, cut, bank)?;
     let mut memory = memory_of(alloc, &new_image(2, OVERWRITE), &[], pick)?;
     check_run(rt, replayed(&trace, &report), &mut memory)
 }
@@ -174,5 +207,5 @@ fn a_cut_that_no_call_reaches_is_a_power_off(rt: HostRuntime) -> Result<(), Fail
     let trace = trace_of(alloc, &[drive, quiet(100)])?;
     let report =
         "cycle 1: number 1, power off\ncycle 2: number 2, power off\nignition cycle, download: 2\n";
-    check_run(&rt, replayed(&trace, report), &mut kept_memory(alloc)?)
+    check_new(&rt, replayed(&trace, report))
 }

@@ -5,8 +5,7 @@ use super::expected::{
     COUNTED_ONE, DEPLOYED_CYCLE, TENSED_TWICE, bag_event, changed, joined, slots, struck_event,
     tensed_event,
 };
-use super::{KEEP, OVERWRITE, check_run, memory_of, new_image, replayed};
-use edr_device::MemNvm;
+use super::{KEEP, OVERWRITE, SIZE, check_run, memory_of, new_image, replayed};
 use std::alloc::{AllocError, Global};
 use std::process::Abort;
 use std::test::Fail;
@@ -21,33 +20,28 @@ fn tensed_in(alloc: Global, place: &str, bank: &str, cycle: &str) -> Result<Stri
     tensed_event(alloc, &changes)
 }
 
+// The drives over a new memory come to this report.
 fn check_drives<R: Abort + AllocGlobal>(
     rt: &R,
     drives: &[Drive<'_>],
-    memory: &mut MemNvm,
+    image: &[u8; SIZE],
     report: &[&str],
 ) -> Result<(), Fail> {
     let trace = trace_of(rt.alloc(), drives)?;
     let report = joined(rt.alloc(), report)?;
-    check_run(rt, replayed(&trace, &report), memory)
+    let mut memory = memory_of(rt.alloc(), image, &[], 0)?;
+    check_run(rt, replayed(&trace, &report), &mut memory)
 }
 
 #[test]
 fn an_air_bag_alone_locks_its_event(rt: HostRuntime) -> Result<(), Fail> {
     let event = bag_event(rt.alloc(), "1")?;
-    let mut memory = memory_of(rt.alloc(), &new_image(2, KEEP), &[], 0)?;
     let report = [DEPLOYED_CYCLE, &event, COUNTED_ONE];
-    check_drives(&rt, &[DEPLOYED], &mut memory, &report)
+    check_drives(&rt, &[DEPLOYED], &new_image(2, KEEP), &report)
 }
 
-#[test]
-fn slots_before_power_on_are_absent(rt: HostRuntime) -> Result<(), Fail> {
-    const CYCLE: &str = "cycle 1: number 1, power off
-cycle 1 take at 3000: bank 1
-cycle 1 lock at 3000: bank 1
-cycle 1 done at 3050: bank 1
-";
-    let alloc = rt.alloc();
+// The record of the air bag at 3 s.
+fn early_event(alloc: Global) -> Result<String, AllocError> {
     let speed = slots(alloc, 171, "50")?;
     let throttle = slots(alloc, 171, "20")?;
     let brake = slots(alloc, 171, "off")?;
@@ -58,10 +52,20 @@ cycle 1 done at 3050: bank 1
         ("service brake", &brake),
         ("complete file recorded", "no"),
     ];
-    let event = changed(alloc, &bag_event(alloc, "1")?, &changes)?;
-    let mut memory = memory_of(alloc, &new_image(2, KEEP), &[], 0)?;
+    changed(alloc, &bag_event(alloc, "1")?, &changes)
+}
+
+#[test]
+fn slots_before_power_on_are_absent(rt: HostRuntime) -> Result<(), Fail> {
+    const CYCLE: &str = "cycle 1: number 1, power off
+cycle 1 take at 3000: bank 1
+cycle 1 lock at 3000: bank 1
+cycle 1 done at 3050: bank 1
+";
+    let event = early_event(rt.alloc())?;
     let drive = fired(4000, &[(3000, 1)]);
-    check_drives(&rt, &[drive], &mut memory, &[CYCLE, &event, COUNTED_ONE])
+    let report = [CYCLE, &event, COUNTED_ONE];
+    check_drives(&rt, &[drive], &new_image(2, KEEP), &report)
 }
 
 const LOCKED_TWICE: &str = "cycle 1: number 1, power off
@@ -80,7 +84,6 @@ fn locked_events_leave_no_bank_for_a_third(rt: HostRuntime) -> Result<(), Fail> 
     let first = bag_event(rt.alloc(), "1")?;
     let second = bag_event(rt.alloc(), "2")?;
     for choice in [KEEP, OVERWRITE] {
-        let mut memory = memory_of(rt.alloc(), &new_image(2, choice), &[], 0)?;
         let third = "cycle 3: number 3, power off
 cycle 3 take at 27000: not kept
 cycle 3 lock at 27000: not kept
@@ -93,7 +96,7 @@ cycle 3 done at 27050: not kept
             &second,
             "ignition cycle, download: 3\n",
         ];
-        check_drives(&rt, &[DEPLOYED; 3], &mut memory, &report)?;
+        check_drives(&rt, &[DEPLOYED; 3], &new_image(2, choice), &report)?;
     }
     Ok(())
 }
@@ -103,12 +106,16 @@ cycle 3 take at 27000: bank 1
 cycle 3 done at 27050: bank 1
 ";
 
+const TENSED_FOUR_TIMES: &str = "cycle 4: number 4, power off
+cycle 4 take at 27000: bank 2
+cycle 4 done at 27050: bank 2
+";
+
+// By the third event, the first one.
 #[test]
 fn the_oldest_pretensioner_event_is_overwritten(rt: HostRuntime) -> Result<(), Fail> {
-    let alloc = rt.alloc();
-    let mut memory = memory_of(alloc, &new_image(2, OVERWRITE), &[], 0)?;
-    let second = tensed_in(alloc, "1", "2", "2")?;
-    let third = tensed_in(alloc, "2", "1", "3")?;
+    let second = tensed_in(rt.alloc(), "1", "2", "2")?;
+    let third = tensed_in(rt.alloc(), "2", "1", "3")?;
     let report = [
         TENSED_TWICE,
         TENSED_AGAIN,
@@ -116,24 +123,34 @@ fn the_oldest_pretensioner_event_is_overwritten(rt: HostRuntime) -> Result<(), F
         &third,
         "ignition cycle, download: 3\n",
     ];
-    check_drives(&rt, &[TENSED; 3], &mut memory, &report)?;
+    check_drives(&rt, &[TENSED; 3], &new_image(2, OVERWRITE), &report)
+}
 
-    let mut memory = memory_of(alloc, &new_image(2, OVERWRITE), &[], 0)?;
-    const FOURTH_CYCLE: &str = "cycle 4: number 4, power off
-cycle 4 take at 27000: bank 2
-cycle 4 done at 27050: bank 2
-";
-    let third = tensed_in(alloc, "1", "1", "3")?;
-    let fourth = tensed_in(alloc, "2", "2", "4")?;
+// By the fourth event, the second one.
+#[test]
+fn the_next_oldest_pretensioner_event_is_overwritten(rt: HostRuntime) -> Result<(), Fail> {
+    let third = tensed_in(rt.alloc(), "1", "1", "3")?;
+    let fourth = tensed_in(rt.alloc(), "2", "2", "4")?;
     let report = [
         TENSED_TWICE,
         TENSED_AGAIN,
-        FOURTH_CYCLE,
+        TENSED_FOUR_TIMES,
         &third,
         &fourth,
         "ignition cycle, download: 4\n",
     ];
-    check_drives(&rt, &[TENSED; 4], &mut memory, &report)
+    check_drives(&rt, &[TENSED; 4], &new_image(2, OVERWRITE), &report)
+}
+
+// The record of the struck car whose air bag fires at 26.030 s, of the third cycle.
+fn locked_late(alloc: Global) -> Result<String, AllocError> {
+    let changes = [
+        ("event", "2"),
+        ("ignition cycle, crash", "3"),
+        ("deployment event", "yes"),
+        ("driver frontal deployment", "27 ms"),
+    ];
+    changed(alloc, &struck_event(alloc)?, &changes)
 }
 
 #[test]
@@ -149,14 +166,7 @@ cycle 3 lock at 26030: bank 1
 cycle 3 done at 26148: bank 1
 ";
     let second = tensed_in(alloc, "1", "2", "2")?;
-    let changes = [
-        ("event", "2"),
-        ("ignition cycle, crash", "3"),
-        ("deployment event", "yes"),
-        ("driver frontal deployment", "27 ms"),
-    ];
-    let third = changed(alloc, &struck_event(alloc)?, &changes)?;
-    let mut memory = memory_of(alloc, &new_image(2, KEEP), &[], 0)?;
+    let third = locked_late(alloc)?;
     let report = [
         TENSED_TWICE,
         THIRD_CYCLE,
@@ -164,7 +174,8 @@ cycle 3 done at 26148: bank 1
         &third,
         "ignition cycle, download: 3\n",
     ];
-    check_drives(&rt, &[TENSED, TENSED, drive], &mut memory, &report)
+    let drives = [TENSED, TENSED, drive];
+    check_drives(&rt, &drives, &new_image(2, KEEP), &report)
 }
 
 // The record of a pretensioner in the first CYCLE, in the bank with the number of its place.
@@ -200,36 +211,36 @@ cycle 1 done at 32050: bank 3
     let first = event_at(alloc, "1", "26000 ms", "1", "none")?;
     let second = event_at(alloc, "2", "29000 ms", "2", "3.0 s")?;
     let third = event_at(alloc, "3", "32000 ms", "1", "none")?;
-    let mut memory = memory_of(alloc, &new_image(3, KEEP), &[], 0)?;
     let report = [CYCLE, &first, &second, &third, COUNTED_ONE];
-    check_drives(&rt, &[drive], &mut memory, &report)
+    check_drives(&rt, &[drive], &new_image(3, KEEP), &report)
 }
 
 #[test]
-fn events_up_to_five_seconds_apart_are_a_pair(rt: HostRuntime) -> Result<(), Fail> {
-    let alloc = rt.alloc();
-    let first = event_at(alloc, "1", "26000 ms", "1", "none")?;
-    const NEAR_CYCLE: &str = "cycle 1: number 1, power off
+fn events_five_seconds_apart_are_a_pair(rt: HostRuntime) -> Result<(), Fail> {
+    const CYCLE: &str = "cycle 1: number 1, power off
 cycle 1 take at 26000: bank 1
 cycle 1 done at 26050: bank 1
 cycle 1 take at 31000: bank 2
 cycle 1 done at 31050: bank 2
 ";
-    let near = event_at(alloc, "2", "31000 ms", "2", "5.0 s")?;
-    let mut memory = memory_of(alloc, &new_image(3, KEEP), &[], 0)?;
+    let first = event_at(rt.alloc(), "1", "26000 ms", "1", "none")?;
+    let near = event_at(rt.alloc(), "2", "31000 ms", "2", "5.0 s")?;
     let drive = fired(33_000, &[(26_000, 64), (31_000, 64)]);
-    let report = [NEAR_CYCLE, &first, &near, COUNTED_ONE];
-    check_drives(&rt, &[drive], &mut memory, &report)?;
+    let report = [CYCLE, &first, &near, COUNTED_ONE];
+    check_drives(&rt, &[drive], &new_image(3, KEEP), &report)
+}
 
-    const FAR_CYCLE: &str = "cycle 1: number 1, power off
+#[test]
+fn events_more_than_five_seconds_apart_are_no_pair(rt: HostRuntime) -> Result<(), Fail> {
+    const CYCLE: &str = "cycle 1: number 1, power off
 cycle 1 take at 26000: bank 1
 cycle 1 done at 26050: bank 1
 cycle 1 take at 31001: bank 2
 cycle 1 done at 31051: bank 2
 ";
-    let far = event_at(alloc, "2", "31001 ms", "1", "none")?;
-    let mut memory = memory_of(alloc, &new_image(3, KEEP), &[], 0)?;
+    let first = event_at(rt.alloc(), "1", "26000 ms", "1", "none")?;
+    let far = event_at(rt.alloc(), "2", "31001 ms", "1", "none")?;
     let drive = fired(33_000, &[(26_000, 64), (31_001, 64)]);
-    let report = [FAR_CYCLE, &first, &far, COUNTED_ONE];
-    check_drives(&rt, &[drive], &mut memory, &report)
+    let report = [CYCLE, &first, &far, COUNTED_ONE];
+    check_drives(&rt, &[drive], &new_image(3, KEEP), &report)
 }

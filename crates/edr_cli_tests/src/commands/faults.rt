@@ -5,10 +5,10 @@ ghost use Rattle.edr_device.specs.Faults.{last_number};
 use super::drives::{struck, trace_of};
 use super::expected::{NOT_DONE, changed, struck_event, struck_report};
 use super::{
-    CommandRun, KEEP, SOUND, Streams, check_run, check_streams, kept_memory, memory_of, new_image,
-    replayed, run_of, words_of,
+    CommandRun, KEEP, SOUND, Streams, check_report, check_run, check_streams, kept_memory,
+    memory_of, new_image, replayed, run_of, unread_memory, words_of,
 };
-use crate::{Status, command};
+use edr_cli::{Status, command};
 use edr_device::{Failed, MemNvm, MemSink, Nvm, Source};
 use std::alloc::{AllocError, Global};
 use std::process::Abort;
@@ -126,48 +126,51 @@ fn left(alloc: Global, fails: u32, pick: u32) -> Result<String, AllocError> {
     format!(in alloc; "{event}ignition cycle, download: {count}\n")
 }
 
+// A replay in which this changing call fails is told, and leaves what it is to behind a power cut.
+fn check_call<R: Abort + AllocGlobal>(
+    rt: &R,
+    trace: &str,
+    fails: u32,
+    pick: u32,
+) -> Result<(), Fail> {
+    let mut fault = replayed(trace, "fault: store fault\n");
+    fault.status = Status::StoreFault;
+    let mut memory = memory_of(rt.alloc(), &new_image(2, KEEP), &[fails], u64::from(pick))?;
+    check_run(rt, fault, &mut memory)?;
+    memory.power_cycle()?;
+    check_report(rt, &left(rt.alloc(), fails, pick)?, &mut memory)
+}
+
 #[test]
 fn a_memory_that_fails_at_any_call_of_a_crash_is_told(rt: HostRuntime) -> Result<(), Fail> {
-    let alloc = rt.alloc();
-    let trace = trace_of(alloc, &[struck(27_000)])?;
-    let mut fault = replayed(&trace, "fault: store fault\n");
-    fault.status = Status::StoreFault;
-    for pick in [0u32, 1] {
-        for fails in 1..=15u32 {
-            let image = new_image(2, KEEP);
-            let mut memory = memory_of(alloc, &image, &[fails], u64::from(pick))?;
-            check_run(&rt, fault, &mut memory)?;
-            memory.power_cycle()?;
-            let report = left(alloc, fails, pick)?;
-            check_run(&rt, run_of(&["report"], Status::Ok, &report), &mut memory)?;
-        }
+    let trace = trace_of(rt.alloc(), &[struck(27_000)])?;
+    for fails in 1..=15u32 {
+        check_call(&rt, &trace, fails, 0)?;
+        check_call(&rt, &trace, fails, 1)?;
     }
-    let report = struck_report(alloc)?;
-    let mut memory = memory_of(alloc, &new_image(2, KEEP), &[16], 0)?;
+    let report = struck_report(rt.alloc())?;
+    let mut memory = memory_of(rt.alloc(), &new_image(2, KEEP), &[16], 0)?;
     check_run(&rt, replayed(&trace, &report), &mut memory)
+}
+
+// The first report fails, and the second has no event.
+fn check_fault_of_report<R: Abort + AllocGlobal>(rt: &R, memory: &mut MemNvm) -> Result<(), Fail> {
+    let fault = run_of(&["report"], Status::StoreFault, "fault: store fault\n");
+    check_run(rt, fault, memory)?;
+    check_report(rt, "ignition cycle, download: 0\n", memory)
 }
 
 #[test]
 fn a_barrier_that_fails_is_told_by_a_report(rt: HostRuntime) -> Result<(), Fail> {
     let mut memory = memory_of(rt.alloc(), &new_image(2, KEEP), &[1], 0)?;
-    let fault = run_of(&["report"], Status::StoreFault, "fault: store fault\n");
-    check_run(&rt, fault, &mut memory)?;
-    let none = run_of(&["report"], Status::Ok, "ignition cycle, download: 0\n");
-    check_run(&rt, none, &mut memory)
+    check_fault_of_report(&rt, &mut memory)
 }
 
 // The front of the image and each of its two banks is read in a call of its own.
 #[test]
 fn a_read_that_fails_is_told(rt: HostRuntime) -> Result<(), Fail> {
-    let alloc = rt.alloc();
     for fails in 1..=3u32 {
-        let image = new_image(2, KEEP).to_vec(alloc)?;
-        let reads = [fails].to_vec(alloc)?;
-        let mut memory = MemNvm::new(alloc, image, 100, Vec::new(alloc), reads, 0)?;
-        let fault = run_of(&["report"], Status::StoreFault, "fault: store fault\n");
-        check_run(&rt, fault, &mut memory)?;
-        let none = run_of(&["report"], Status::Ok, "ignition cycle, download: 0\n");
-        check_run(&rt, none, &mut memory)?;
+        check_fault_of_report(&rt, &mut unread_memory(rt.alloc(), fails)?)?;
     }
     Ok(())
 }

@@ -1,11 +1,22 @@
 //! Traces that are made from a number, and what a run of their cycles comes to.
 
-use super::{KEEP, check_run, kept_memory, new_image, run_of, words_of};
-use crate::{Status, command};
-use edr_device::{MemNvm, MemSink, MemSource};
+use super::{
+    KEEP, Streams, check_run, kept_memory, new_image, run_of, sink_of, source_of, words_of,
+};
+use edr_cli::{Status, command};
+use edr_device::MemNvm;
 use std::alloc::Global;
 use std::process::Abort;
 use std::test::Fail;
+
+// Streams with room for a generated trace.
+const WIDE: Streams<'static> = Streams {
+    source_piece: 65_536,
+    source_fails: &[],
+    sink_room: 1_000_000,
+    sink_piece: 65_536,
+    sink_fails: &[],
+};
 
 // What a call with these words writes over this trace, with Ok.
 fn written<R: Abort + AllocGlobal>(
@@ -16,8 +27,8 @@ fn written<R: Abort + AllocGlobal>(
 ) -> Result<Vec<u8>, Fail> {
     let alloc: Global = rt.alloc();
     let words = words_of(alloc, words)?;
-    let mut source = MemSource::new(trace.to_vec(alloc)?, 65_536, Vec::new(alloc));
-    let mut sink = MemSink::new(alloc, 1_000_000, 65_536, Vec::new(alloc))?;
+    let mut source = source_of(alloc, trace, WIDE)?;
+    let mut sink = sink_of(alloc, WIDE)?;
     let status = command(alloc, &words, &mut source, &mut sink, memory);
     assert_eq!(rt; status, Status::Ok);
     Ok(sink.bytes().to_vec(alloc)?)
@@ -35,13 +46,8 @@ cycle 1 done at 14882: bank 1
 event: 1
 ";
 
-#[test]
-fn a_generated_trace_replays(rt: HostRuntime) -> Result<(), Fail> {
-    let mut memory = kept_memory(rt.alloc())?;
-    let trace = written(&rt, &["generate", "1", "1"], b"", &mut memory)?;
-    assert_eq!(rt; memory.image(), new_image(2, KEEP).as_slice());
-    assert_eq!(rt; trace.len(), 513_864);
-    let report = written(&rt, &["replay"], &trace, &mut memory)?;
+// The report of the number 1 begins so, and ends with its count.
+fn check_three_impulses(rt: &impl Abort, report: &[u8]) {
     assert_eq!(rt;
         report.get(..THREE_IMPULSES.len()),
         Some(THREE_IMPULSES.as_bytes())
@@ -50,6 +56,16 @@ fn a_generated_trace_replays(rt: HostRuntime) -> Result<(), Fail> {
         report.ends_with(b"ignition cycle, download: 1\n".as_slice()),
         true
     );
+}
+
+#[test]
+fn a_generated_trace_replays(rt: HostRuntime) -> Result<(), Fail> {
+    let mut memory = kept_memory(rt.alloc())?;
+    let trace = written(&rt, &["generate", "1", "1"], b"", &mut memory)?;
+    assert_eq!(rt; memory.image(), new_image(2, KEEP).as_slice());
+    assert_eq!(rt; trace.len(), 513_864);
+    let report = written(&rt, &["replay"], &trace, &mut memory)?;
+    check_three_impulses(&rt, &report);
     Ok(())
 }
 

@@ -1,6 +1,6 @@
 //! Each fault has its line.
 
-use crate::Fault;
+use edr_cli::Fault;
 use edr_image::{HeaderRefused, OldRefused};
 use edr_items::Sensor;
 use edr_spell::{TraceFault, TraceRefused};

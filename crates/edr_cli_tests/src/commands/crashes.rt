@@ -5,9 +5,11 @@ use super::expected::{
     COUNTED_ONE, STRUCK_CYCLE, changed, joined, slots, struck_event, struck_report,
 };
 use super::{
-    CommandRun, KEEP, SIZE, check_run, kept_memory, memory_of, new_image, put, replayed, run_of,
+    CommandRun, KEEP, SIZE, check_new, check_report, check_run, kept_memory, memory_of, new_image,
+    put, replayed, run_of,
 };
-use crate::Status;
+use edr_cli::Status;
+use edr_device::MemNvm;
 use std::alloc::{AllocError, Global};
 use std::process::Abort;
 use std::test::Fail;
@@ -23,7 +25,7 @@ fn check_crash<R: Abort + AllocGlobal>(
     let trace = trace_of(alloc, &[drive])?;
     let event = changed(alloc, &struck_event(alloc)?, changes)?;
     let report = joined(alloc, &[cycle, &event, COUNTED_ONE])?;
-    check_run(rt, replayed(&trace, &report), &mut kept_memory(alloc)?)
+    check_new(rt, replayed(&trace, &report))
 }
 
 // The record of the struck car as a table, up to its lists of slots.
@@ -90,38 +92,54 @@ fn a_crash_is_taken_at_its_trigger_and_done_at_its_end(rt: HostRuntime) -> Resul
     check_crash(&rt, struck(27_000), STRUCK_CYCLE, &[])
 }
 
+// The struck car is replayed so by these words.
+fn check_struck<'a, R: Abort + AllocGlobal>(
+    rt: &R,
+    words: &'a [&'a str],
+    report: &'a str,
+    memory: &mut MemNvm,
+) -> Result<(), Fail> {
+    let trace = trace_of(rt.alloc(), &[struck(27_000)])?;
+    let run = CommandRun {
+        words,
+        ..replayed(&trace, report)
+    };
+    check_run(rt, run, memory)
+}
+
 #[test]
-fn a_crash_is_told_as_text_and_as_a_table(rt: HostRuntime) -> Result<(), Fail> {
-    let alloc = rt.alloc();
-    let trace = trace_of(alloc, &[struck(27_000)])?;
-    let text = struck_report(alloc)?;
-    let run = CommandRun {
-        words: &["replay", "text"],
-        ..replayed(&trace, &text)
-    };
-    check_run(&rt, run, &mut kept_memory(alloc)?)?;
-    let mut memory = kept_memory(alloc)?;
-    let struck = struck_table(alloc)?;
-    let table = joined(alloc, &[TABLE_HEAD, STRUCK_CYCLE_TABLE, &struck])?;
-    let run = CommandRun {
-        words: &["replay", "csv"],
-        ..replayed(&trace, &table)
-    };
-    check_run(&rt, run, &mut memory)?;
-    let event = struck_event(alloc)?;
-    let report = joined(alloc, &[&event, COUNTED_ONE])?;
-    check_run(&rt, run_of(&["report"], Status::Ok, &report), &mut memory)?;
-    check_run(
-        &rt,
-        run_of(&["report", "text"], Status::Ok, &report),
-        &mut memory,
-    )?;
-    let table = joined(alloc, &[TABLE_HEAD, &struck])?;
-    check_run(
-        &rt,
-        run_of(&["report", "csv"], Status::Ok, &table),
-        &mut memory,
-    )
+fn a_crash_is_told_as_text(rt: HostRuntime) -> Result<(), Fail> {
+    let text = struck_report(rt.alloc())?;
+    let mut memory = kept_memory(rt.alloc())?;
+    check_struck(&rt, &["replay", "text"], &text, &mut memory)
+}
+
+// The memory of the struck car is reported in text by both forms of the words.
+fn check_texts<R: Abort + AllocGlobal>(rt: &R, memory: &mut MemNvm) -> Result<(), Fail> {
+    let event = struck_event(rt.alloc())?;
+    let report = joined(rt.alloc(), &[&event, COUNTED_ONE])?;
+    check_report(rt, &report, memory)?;
+    check_run(rt, run_of(&["report", "text"], Status::Ok, &report), memory)
+}
+
+// The memory of the struck car is reported as this table.
+fn check_table<R: Abort + AllocGlobal>(
+    rt: &R,
+    struck: &str,
+    memory: &mut MemNvm,
+) -> Result<(), Fail> {
+    let table = joined(rt.alloc(), &[TABLE_HEAD, struck])?;
+    check_run(rt, run_of(&["report", "csv"], Status::Ok, &table), memory)
+}
+
+#[test]
+fn a_crash_is_told_as_a_table(rt: HostRuntime) -> Result<(), Fail> {
+    let mut memory = kept_memory(rt.alloc())?;
+    let struck = struck_table(rt.alloc())?;
+    let table = joined(rt.alloc(), &[TABLE_HEAD, STRUCK_CYCLE_TABLE, &struck])?;
+    check_struck(&rt, &["replay", "csv"], &table, &mut memory)?;
+    check_texts(&rt, &mut memory)?;
+    check_table(&rt, &struck, &mut memory)
 }
 
 // The bytes of a memory that has the record, with this time zero and a count of slots in each list of this profile: the cycle is
@@ -160,11 +178,9 @@ fn struck_image() -> [u8; SIZE] {
 
 #[test]
 fn a_crash_is_stored_as_these_bytes(rt: HostRuntime) -> Result<(), Fail> {
-    let alloc = rt.alloc();
-    let trace = trace_of(alloc, &[struck(27_000)])?;
-    let report = struck_report(alloc)?;
-    let mut memory = kept_memory(alloc)?;
-    check_run(&rt, replayed(&trace, &report), &mut memory)?;
+    let report = struck_report(rt.alloc())?;
+    let mut memory = kept_memory(rt.alloc())?;
+    check_struck(&rt, &["replay"], &report, &mut memory)?;
     assert_eq!(rt; memory.image(), struck_image().as_slice());
     Ok(())
 }
@@ -175,7 +191,7 @@ fn these_bytes_are_reported_as_a_crash(rt: HostRuntime) -> Result<(), Fail> {
     let mut memory = memory_of(alloc, &struck_image(), &[], 0)?;
     let event = struck_event(alloc)?;
     let report = joined(alloc, &[&event, COUNTED_ONE])?;
-    check_run(&rt, run_of(&["report"], Status::Ok, &report), &mut memory)
+    check_report(&rt, &report, &mut memory)
 }
 
 #[test]
@@ -208,15 +224,21 @@ fn push_silence(trace: &mut String, moment: u32) -> Result<(), AllocError> {
     Ok(())
 }
 
+// The same each second of an hour.
+fn push_silences(trace: &mut String) -> Result<(), AllocError> {
+    for second in 1..=3600u32 {
+        push_silence(trace, 1000 * second)?;
+    }
+    Ok(())
+}
+
 #[test]
 fn an_hour_of_silence_is_counted(rt: HostRuntime) -> Result<(), Fail> {
     let mut trace = String::from_str(rt.alloc(), "on,0,\n")?;
-    for second in 1..=3600u32 {
-        push_silence(&mut trace, 1000 * second)?;
-    }
+    push_silences(&mut trace)?;
     trace.push_str("cut,0,\n")?;
     let one = "cycle 1: number 1, power off\nignition cycle, download: 1\n";
-    check_run(&rt, replayed(&trace, one), &mut kept_memory(rt.alloc())?)
+    check_new(&rt, replayed(&trace, one))
 }
 
 #[test]
@@ -239,7 +261,7 @@ fn a_long_push_is_no_event(rt: HostRuntime) -> Result<(), Fail> {
             ..quiet(3000)
         };
         let trace = trace_of(rt.alloc(), &[drive])?;
-        check_run(&rt, replayed(&trace, report), &mut kept_memory(rt.alloc())?)?;
+        check_new(&rt, replayed(&trace, report))?;
     }
     Ok(())
 }
@@ -334,21 +356,31 @@ fn a_missing_sample_is_counted_and_leaves_the_record_incomplete(
     check_crash(&rt, drive, STRUCK_CYCLE, &changes)
 }
 
+// The trace of the struck car without the speed of 6 s.
+fn trace_without_speed(alloc: Global) -> Result<String, Fail> {
+    let trace = trace_of(alloc, &[struck(27_000)])?;
+    let (before, behind) = trace.split_once("speed,6000,50\n").ok_or("a speed")?;
+    Ok(joined(alloc, &[before, behind])?)
+}
+
+// The record of the struck car without its first slot of the speed.
+fn event_without_speed(alloc: Global) -> Result<String, AllocError> {
+    let speed = slots(alloc, 1, "50")?;
+    let changes = [
+        ("speed, km/h", speed.as_str()),
+        ("complete file recorded", "no"),
+    ];
+    changed(alloc, &struck_event(alloc)?, &changes)
+}
+
 // The first slot lies at 6.003 s, and a sample of it from 5.903 s on.
 #[test]
 fn a_slot_without_a_sample_is_absent_and_leaves_the_record_incomplete(
     rt: HostRuntime,
 ) -> Result<(), Fail> {
     let alloc = rt.alloc();
-    let trace = trace_of(alloc, &[struck(27_000)])?;
-    let (before, behind) = trace.split_once("speed,6000,50\n").ok_or("a speed")?;
-    let trace = joined(alloc, &[before, behind])?;
-    let speed = slots(alloc, 1, "50")?;
-    let changes = [
-        ("speed, km/h", speed.as_str()),
-        ("complete file recorded", "no"),
-    ];
-    let event = changed(alloc, &struck_event(alloc)?, &changes)?;
+    let trace = trace_without_speed(alloc)?;
+    let event = event_without_speed(alloc)?;
     let report = joined(alloc, &[STRUCK_CYCLE, &event, COUNTED_ONE])?;
-    check_run(&rt, replayed(&trace, &report), &mut kept_memory(alloc)?)
+    check_new(&rt, replayed(&trace, &report))
 }

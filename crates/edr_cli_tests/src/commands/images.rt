@@ -3,8 +3,13 @@ ghost use Rattle.std.specs.Prelude.{◌≤◌};
 
 use super::drives::{DEPLOYED, struck, trace_of};
 use super::expected::{COUNTED_ONE, STRUCK_CYCLE, changed, joined, struck_event, struck_report};
-use super::{KEEP, SIZE, check_run, image_of, kept_memory, memory_of, new_image, replayed, run_of};
-use crate::Status;
+use super::{
+    KEEP, SIZE, check_report, check_run, image_of, kept_memory, memory_of, new_image, replayed,
+    run_of,
+};
+use edr_cli::Status;
+use edr_device::MemNvm;
+use std::alloc::{AllocError, Global};
 use std::process::Abort;
 use std::test::Fail;
 
@@ -121,26 +126,34 @@ fn with_byte(image: [u8; SIZE], at: usize, byte: u8) -> [u8; SIZE] {
 }
 
 // An image is reported so.
-fn check_report<R: Abort + AllocGlobal>(
+fn check_image<R: Abort + AllocGlobal>(
     rt: &R,
     image: &[u8; SIZE],
     report: &str,
 ) -> Result<(), Fail> {
     let mut memory = memory_of(rt.alloc(), image, &[], 0)?;
-    check_run(rt, run_of(&["report"], Status::Ok, report), &mut memory)
+    check_report(rt, report, &mut memory)
+}
+
+// An image with this damage in bank 1, which isn't locked and then is, is reported so.
+fn check_damaged<R: Abort + AllocGlobal>(
+    rt: &R,
+    damaged: [u8; SIZE],
+    told: &str,
+) -> Result<(), Fail> {
+    let alloc = rt.alloc();
+    let report = format!(in alloc; "bank 1: {told} no\n{COUNTED_ONE}")?;
+    check_image(rt, &damaged, &report)?;
+    let locked = with_byte(damaged, 97, 0xa5);
+    let report = format!(in alloc; "bank 1: {told} yes\n{COUNTED_ONE}")?;
+    check_image(rt, &locked, &report)
 }
 
 #[test]
 fn a_damaged_record_is_told_with_its_place_and_lock(rt: HostRuntime) -> Result<(), Fail> {
-    let alloc = rt.alloc();
     let image = struck_image(&rt)?;
     for (offset, byte, told) in DAMAGES {
-        let damaged = with_byte(image, 96 + offset, byte);
-        let report = format!(in alloc; "bank 1: {told} no\n{COUNTED_ONE}")?;
-        check_report(&rt, &damaged, &report)?;
-        let locked = with_byte(damaged, 97, 0xa5);
-        let report = format!(in alloc; "bank 1: {told} yes\n{COUNTED_ONE}")?;
-        check_report(&rt, &locked, &report)?;
+        check_damaged(&rt, with_byte(image, 96 + offset, byte), told)?;
     }
     Ok(())
 }
@@ -161,8 +174,7 @@ fn a_damaged_bank_stands_behind_the_events(rt: HostRuntime) -> Result<(), Fail> 
     let alloc = rt.alloc();
     let event = changed(alloc, &struck_event(alloc)?, &[("bank", "2")])?;
     let report = joined(alloc, &[&event, DAMAGE, COUNTED_ONE])?;
-    let mut memory = memory_of(alloc, &half_damaged_image(&rt)?, &[], 0)?;
-    check_run(&rt, run_of(&["report"], Status::Ok, &report), &mut memory)
+    check_image(&rt, &half_damaged_image(&rt)?, &report)
 }
 
 #[test]
@@ -217,10 +229,8 @@ fn counted_image(count: u32) -> [u8; SIZE] {
     image
 }
 
-#[test]
-fn a_count_past_60000_is_told_as_60000(rt: HostRuntime) -> Result<(), Fail> {
-    let alloc = rt.alloc();
-    let trace = trace_of(alloc, &[struck(27_000)])?;
+// The report of the struck car in the cycle 60,002.
+fn counted_report(alloc: Global) -> Result<String, AllocError> {
     let cycle = changed(
         alloc,
         STRUCK_CYCLE,
@@ -229,25 +239,41 @@ fn a_count_past_60000_is_told_as_60000(rt: HostRuntime) -> Result<(), Fail> {
     let changes = [("ignition cycle, crash", "60000")];
     let event = changed(alloc, &struck_event(alloc)?, &changes)?;
     const LAST: &str = "ignition cycle, download: 60000\n";
-    let report = joined(alloc, &[&cycle, &event, LAST])?;
+    joined(alloc, &[&cycle, &event, LAST])
+}
+
+#[test]
+fn a_count_past_60000_is_told_as_60000(rt: HostRuntime) -> Result<(), Fail> {
+    let alloc = rt.alloc();
+    let trace = trace_of(alloc, &[struck(27_000)])?;
+    let report = counted_report(alloc)?;
     let mut memory = memory_of(alloc, &counted_image(60_001), &[], 0)?;
     check_run(&rt, replayed(&trace, &report), &mut memory)
 }
 
-#[test]
-fn the_last_number_is_given_once(rt: HostRuntime) -> Result<(), Fail> {
-    let alloc = rt.alloc();
-    let trace = trace_of(alloc, &[struck(27_000)])?;
-    let image = counted_image(4_294_967_295);
-    let mut memory = memory_of(alloc, &image, &[], 0)?;
+// The struck car over this memory finds no number left.
+fn check_spent<R: Abort + AllocGlobal>(rt: &R, memory: &mut MemNvm) -> Result<(), Fail> {
+    let trace = trace_of(rt.alloc(), &[struck(27_000)])?;
     let mut spent = replayed(&trace, "fault: spent\n");
     spent.status = Status::Spent;
-    check_run(&rt, spent, &mut memory)?;
+    check_run(rt, spent, memory)
+}
+
+#[test]
+fn a_spent_count_stays(rt: HostRuntime) -> Result<(), Fail> {
+    let image = counted_image(4_294_967_295);
+    let mut memory = memory_of(rt.alloc(), &image, &[], 0)?;
+    check_spent(&rt, &mut memory)?;
     assert_eq!(rt; memory.image(), image.as_slice());
-    let mut memory = memory_of(alloc, &counted_image(4_294_967_294), &[], 0)?;
+    Ok(())
+}
+
+#[test]
+fn the_last_number_is_given_once(rt: HostRuntime) -> Result<(), Fail> {
+    let mut memory = memory_of(rt.alloc(), &counted_image(4_294_967_294), &[], 0)?;
     const LAST: &str = "cycle 1: number 4294967295, power off\nignition cycle, download: 60000\n";
     check_run(&rt, replayed("on,0,\ncut,0,\n", LAST), &mut memory)?;
-    check_run(&rt, spent, &mut memory)
+    check_spent(&rt, &mut memory)
 }
 
 // The count is the greatest of the open slots.

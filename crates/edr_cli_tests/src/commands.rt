@@ -16,7 +16,7 @@ mod migrations;
 mod orders;
 mod refusals;
 
-use crate::{Status, Words, command};
+use edr_cli::{Status, Words, command};
 use edr_device::{MemNvm, MemSink, MemSource};
 use std::alloc::{AllocError, Global};
 use std::process::Abort;
@@ -117,12 +117,32 @@ fn kept_memory(alloc: Global) -> Result<MemNvm, AllocError> {
     memory_of(alloc, &new_image(2, KEEP), &[], 0)
 }
 
+// A new memory with two banks that keep, in which this read fails.
+fn unread_memory(alloc: Global, read: u32) -> Result<MemNvm, AllocError> {
+    let image = new_image(2, KEEP).to_vec(alloc)?;
+    let reads = [read].to_vec(alloc)?;
+    MemNvm::new(alloc, image, 100, Vec::new(alloc), reads, 0)
+}
+
 fn words_of(alloc: Global, texts: &[&str]) -> Result<Words, AllocError> {
     let mut words = Words::new(alloc);
     for text in texts {
         words.push(text)?;
     }
     Ok(words)
+}
+
+// A source that gives this trace.
+fn source_of(alloc: Global, trace: &[u8], streams: Streams<'_>) -> Result<MemSource, AllocError> {
+    let fails = streams.source_fails.to_vec(alloc)?;
+    let trace = trace.to_vec(alloc)?;
+    Ok(MemSource::new(trace, streams.source_piece.max(1), fails))
+}
+
+// A sink that has no bytes yet.
+fn sink_of(alloc: Global, streams: Streams<'_>) -> Result<MemSink, AllocError> {
+    let fails = streams.sink_fails.to_vec(alloc)?;
+    MemSink::new(alloc, streams.sink_room, streams.sink_piece.max(1), fails)
 }
 
 // A call answers as it is to, over such streams.
@@ -134,12 +154,8 @@ fn check_streams<R: Abort + AllocGlobal>(
 ) -> Result<(), Fail> {
     let alloc = rt.alloc();
     let words = words_of(alloc, run.words)?;
-    let fails = streams.source_fails.to_vec(alloc)?;
-    let piece = streams.source_piece.max(1);
-    let mut source = MemSource::new(run.trace.to_vec(alloc)?, piece, fails);
-    let fails = streams.sink_fails.to_vec(alloc)?;
-    let piece = streams.sink_piece.max(1);
-    let mut sink = MemSink::new(alloc, streams.sink_room, piece, fails)?;
+    let mut source = source_of(alloc, run.trace, streams)?;
+    let mut sink = sink_of(alloc, streams)?;
     let status = command(alloc, &words, &mut source, &mut sink, memory);
     assert_eq!(rt; str::from_utf8(sink.bytes()), Ok(run.output));
     assert_eq!(rt; status, run.status);
@@ -153,6 +169,20 @@ fn check_run<R: Abort + AllocGlobal>(
     memory: &mut MemNvm,
 ) -> Result<(), Fail> {
     check_streams(rt, run, SOUND, memory)
+}
+
+// A call answers as it is to, over a new memory with two banks that keep.
+fn check_new<R: Abort + AllocGlobal>(rt: &R, run: CommandRun<'_>) -> Result<(), Fail> {
+    check_run(rt, run, &mut kept_memory(rt.alloc())?)
+}
+
+// A memory is reported so.
+fn check_report<R: Abort + AllocGlobal>(
+    rt: &R,
+    report: &str,
+    memory: &mut MemNvm,
+) -> Result<(), Fail> {
+    check_run(rt, run_of(&["report"], Status::Ok, report), memory)
 }
 
 #[test]

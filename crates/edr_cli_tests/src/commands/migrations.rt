@@ -2,8 +2,8 @@
 
 use super::crashes::image_with;
 use super::expected::{COUNTED_ONE, OLD_EVENT, joined};
-use super::{CommandRun, KEEP, SIZE, check_run, memory_of, new_image, run_of};
-use crate::Status;
+use super::{CommandRun, KEEP, SIZE, check_report, check_run, memory_of, new_image};
+use edr_cli::Status;
 use edr_device::Nvm;
 use std::process::Abort;
 use std::test::Fail;
@@ -66,7 +66,7 @@ fn an_old_image_is_migrated_once(rt: HostRuntime) -> Result<(), Fail> {
     check_run(&rt, run, &mut memory)?;
     assert_eq!(rt; memory.image(), image_with(6003, 1, 11).as_slice());
     let report = joined(rt.alloc(), &[OLD_EVENT, COUNTED_ONE])?;
-    check_run(&rt, run_of(&["report"], Status::Ok, &report), &mut memory)?;
+    check_report(&rt, &report, &mut memory)?;
     let run = migrated(&old, Status::Image, "fault: image formatted\n");
     check_run(&rt, run, &mut memory)
 }
