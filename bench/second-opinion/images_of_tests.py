@@ -59,7 +59,7 @@ TELL_IMAGE = """
 #include <stddef.h>
 #include <unistd.h>
 
-/* Appends a line of digits between < and > to the file FILE. Longer memories are no images. */
+/* Appends a line of digits between < and > to the file FILE. No test has an image in a longer memory. */
 void tell_image(const unsigned char *bytes, size_t size) {
     char line[2 * MOST + 3];
     int file;

@@ -2,6 +2,7 @@
 //! program at a time holds it.
 ghost use Rattle.std.specs.Prelude.{◌≡◌};
 
+use edr_image::places::{BANK_SIZE, FRONT_SIZE, MOST_BANKS};
 use std::fs::{File, Files, Metadata, OpenOptions, TryLockError};
 use std::io::{Error as IoError, ErrorKind, Result as IoResult};
 use std::os::fd::AsRawFd;
@@ -16,9 +17,8 @@ const NAME: &str = "edr.nvm";
 /// The folder in which it has that name.
 const FOLDER: &str = ".";
 
-/// As many bytes as a file has that is made: those of an image of 16 banks, the most that there may be, so that each `format` has
-/// room.
-const NEW_SIZE: usize = 16_480;
+/// As many bytes as a file has that is made: those of an image of the most banks that there may be, so that each `format` has room.
+const NEW_SIZE: usize = FRONT_SIZE + BANK_SIZE * MOST_BANKS as usize;
 
 /// The highest number of a standard stream.
 const LAST_STREAM: i32 = 2;

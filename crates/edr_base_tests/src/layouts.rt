@@ -5,9 +5,10 @@ use byteorder::{BigEndian, ByteOrder};
 use edr_image::BankView;
 use edr_image::places::{FIRST_SLOT, SECOND_SLOT};
 use edr_layout::{
-    ByteWrite, Choice, Gated, Header, HeaderRefused, MAGIC, OPEN_GATE, closing_write, count_writes,
-    erase_write, image_size, lock_write, new_front, old_bank_view, old_image_size, old_place_of,
-    older_slot, place_of, place_of_slot, read_count, read_header, read_old_header,
+    ByteWrite, Choice, FEWEST_BANKS, Gated, Header, HeaderRefused, MAGIC, MOST_BANKS, OPEN_GATE,
+    closing_write, count_writes, erase_write, image_size, lock_write, new_front, old_bank_view,
+    old_image_size, old_place_of, older_slot, place_of, place_of_slot, read_count, read_header,
+    read_old_header,
 };
 use edr_record::{Key, Place, Pre, Record, SHORT_SLOTS, Slots};
 
@@ -54,8 +55,9 @@ fn a_header_is_read_or_refused_by_its_first_fault(rt: HostRuntime) {
         choice: Choice::Overwrite,
     };
     assert_eq!(rt; header_with(11, 1), Ok(overwrites));
-    assert_eq!(rt; header_with(10, 2).map(|h| h.banks), Ok(2));
-    assert_eq!(rt; header_with(10, 16).map(|h| h.banks), Ok(16));
+    for banks in [FEWEST_BANKS, MOST_BANKS] {
+        assert_eq!(rt; header_with(10, banks).map(|h| h.banks), Ok(banks));
+    }
     // What stands past the choice is not read.
     assert_eq!(rt; header_with(12, 255), Ok(read));
     assert_eq!(rt; header_with(0, 0), not_formatted(0, 0));
@@ -65,11 +67,9 @@ fn a_header_is_read_or_refused_by_its_first_fault(rt: HostRuntime) {
         header_with(8, 1),
         Err(HeaderRefused::Version { found: 258 })
     );
-    assert_eq!(rt; header_with(10, 1), Err(HeaderRefused::Banks { found: 1 }));
-    assert_eq!(rt;
-        header_with(10, 17),
-        Err(HeaderRefused::Banks { found: 17 })
-    );
+    for found in [FEWEST_BANKS - 1, MOST_BANKS + 1] {
+        assert_eq!(rt; header_with(10, found), Err(HeaderRefused::Banks { found }));
+    }
     assert_eq!(rt; header_with(11, 2), Err(HeaderRefused::Choice { found: 2 }));
 }
 
@@ -180,10 +180,11 @@ fn the_header_of_an_old_image_is_read(rt: HostRuntime) {
         choice: Choice::Keep,
     };
     assert_eq!(rt; read_old_header(&bytes), Ok(read));
-    bytes[10] = 17;
+    let found = MOST_BANKS + 1;
+    bytes[10] = found;
     assert_eq!(rt;
         read_old_header(&bytes),
-        Err(HeaderRefused::Banks { found: 17 })
+        Err(HeaderRefused::Banks { found })
     );
 }
 

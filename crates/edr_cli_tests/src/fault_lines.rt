@@ -33,8 +33,8 @@ fn each_fault_has_its_line(rt: HostRuntime) {
             "fault: image version 2\n",
         ),
         (
-            Fault::Header(HeaderRefused::Banks { found: 17 }),
-            "fault: image banks 17\n",
+            Fault::Header(HeaderRefused::Banks { found: 255 }),
+            "fault: image banks 255\n",
         ),
         (
             Fault::Header(HeaderRefused::Choice { found: 2 }),

@@ -1,5 +1,5 @@
 -- Signals and lists for vectors.
-use Rattle.std.specs.Prelude.{ℕ, ℤ, ◌*◌, ◌&&◌, nat_le, if◌then◌else◌, Option, Some, None, List, map}
+use Rattle.std.specs.Prelude.{ℕ, ℤ, ◌+◌, ◌-◌, ◌*◌, ◌/◌, ◌&&◌, nat_le, if◌then◌else◌, Option, Some, None, List, map}
 use Rattle.std.specs.Option.{option_or}
 use Rattle.std.specs.List.{range_with_len}
 use Rattle.edr_items.specs.declared.Item.{Item}
@@ -12,6 +12,10 @@ pulse a b v t = if nat_le a t && nat_le t b then Some v else None
 -- the samples of two pulses
 abbrev pub both : (ℕ → Option ℤ) → (ℕ → Option ℤ) → ℕ → Option ℤ
 both f g t = option_or (f t) (g t)
+
+-- a size by a number of ticks or samples, rounded up
+abbrev pub divided_up : ℕ → ℕ → ℕ
+divided_up size n = (size + n - 1) / n
 
 -- no sample
 abbrev pub nothing : ℕ → Option ℤ

@@ -1,10 +1,11 @@
 -- Candidates, dropped and confirmed, and where the search goes on after each.
-use Rattle.std.proofs.Common.{refl, ◌≡◌, ℕ, pos, negsuc, ◌+◌, Some, None, [], ◌∷◌}
+use Rattle.std.proofs.Common.{refl, ◌≡◌, ℕ, pos, negsuc, ◌+◌, ◌-◌, Some, None, [], ◌∷◌}
+use Rattle.edr_definitions.specs.declared.limits.TheConstants.{TRIGGER}
 use Rattle.edr_definitions.specs.Ticks.{first_tick, greatest}
 use Rattle.edr_definitions.specs.Signals.{Signals}
 use Rattle.edr_definitions.specs.Windows.{delta_v, largest_change, swing}
 use Rattle.edr_definitions.specs.Selection.{is_triggered, is_time_zero, is_end, end_of, candidate_at, bounds_after, chain_from, chain, events}
-use Rattle.edr_definitions.proofs.VectorPulses.{pulse, both, nothing, firing, only_along, only_fired}
+use Rattle.edr_definitions.proofs.VectorPulses.{pulse, both, divided_up, nothing, firing, only_along, only_fired}
 
 -- past a confirmed candidate both bounds are its close, 50 ms past a time zero whose end is 20 ms past it
 after_event : bounds_after (record { after = 0; since = 0 }) (record { zero_tick = 2; end_tick = 22; confirmed = Some 2 }) ≡ record { after = 52; since = 52 }
@@ -27,33 +28,43 @@ no_event : events (only_along (pulse 1 1 (pos 9000))) 30 ≡ []
 unfolding chain_from candidate_at end_of is_end is_time_zero is_triggered first_tick swing largest_change greatest delta_v
 no_event = refl
 
--- 4 km/h at tick 1 and again at tick 2: time zero is the first, the confirmation the second
-blow : events (only_along (pulse 1 2 (pos 40000))) 25 ≡ record { zero_tick = 1; confirmed_tick = 2; end_tick = 22 } ∷ []
+-- half of the trigger threshold at tick 1 and again at tick 2: time zero is the first, the confirmation the second
+abbrev halves : Signals
+halves = only_along (pulse 1 2 (pos (divided_up TRIGGER 2)))
+
+blow : events halves 25 ≡ record { zero_tick = 1; confirmed_tick = 2; end_tick = 22 } ∷ []
 unfolding chain_from candidate_at end_of is_end is_time_zero is_triggered first_tick swing largest_change greatest delta_v
 blow = refl
 
 -- an event counts from its confirmation on
-not_confirmed_yet : events (only_along (pulse 1 2 (pos 40000))) 1 ≡ []
+not_confirmed_yet : events halves 1 ≡ []
 unfolding chain_from candidate_at end_of is_end is_time_zero is_triggered first_tick swing largest_change greatest delta_v
 not_confirmed_yet = refl
 
--- a crash of 0.4 km/h a tick: 8,000 at tick 2 isn't over, the trigger is met exactly at tick 20, the last 20 ticks hold 8,000 at tick 118
-crash : events (only_along (pulse 1 100 (negsuc 3999))) 20 ≡ record { zero_tick = 3; confirmed_tick = 20; end_tick = 118 } ∷ []
+-- as many ticks of 0.4 km/h as meet the trigger threshold, exactly
+abbrev met : ℕ
+met = divided_up TRIGGER 4000
+
+-- a crash of 0.4 km/h a tick: 8,000 at tick 2 isn't over, the trigger is met by its last tick, the last 20 ticks hold 8,000 at tick 118
+crash : events (only_along (pulse 1 100 (negsuc 3999))) met ≡ record { zero_tick = 3; confirmed_tick = met; end_tick = 118 } ∷ []
 unfolding chain_from candidate_at end_of is_end is_time_zero is_triggered first_tick swing largest_change greatest delta_v
 crash = refl
 
--- a turned impulse: -80,000 over 20 ticks at tick 30, while all 30 sum to -50,000
-turned_impulse : events (only_along (both (pulse 1 10 (pos 3000)) (pulse 11 30 (negsuc 3999)))) 30 ≡ record { zero_tick = 3; confirmed_tick = 30; end_tick = 48 } ∷ []
+-- a turned impulse: the trigger threshold backwards from tick 11 on, while all ticks sum to 30,000 less
+turned_impulse : events (only_along (both (pulse 1 10 (pos 3000)) (pulse 11 (10 + met) (negsuc 3999)))) (10 + met) ≡ record { zero_tick = 3; confirmed_tick = 10 + met; end_tick = 28 + met } ∷ []
 unfolding chain_from candidate_at end_of is_end is_time_zero is_triggered first_tick swing largest_change greatest delta_v
 turned_impulse = refl
 
--- a trigger that reaches back past a dropped candidate: 50,000 before it and 30,000 after make 80,000 over 76 ticks
-reaches_back : chain (only_along (both (pulse 1 10 (pos 5000)) (pulse 71 80 (pos 5000)))) 76 ≡ record { zero_tick = 2; end_tick = 29; confirmed = None } ∷ record { zero_tick = 72; end_tick = 99; confirmed = Some 76 } ∷ []
+-- a trigger that reaches back past a dropped candidate: 50,000 up to it and 5,000 a tick after it make the threshold up within 150 ticks
+abbrev made_up : ℕ
+made_up = 70 + divided_up (TRIGGER - 50000) 5000
+
+reaches_back : chain (only_along (both (pulse 1 10 (pos 5000)) (pulse 71 80 (pos 5000)))) made_up ≡ record { zero_tick = 2; end_tick = 29; confirmed = None } ∷ record { zero_tick = 72; end_tick = 99; confirmed = Some made_up } ∷ []
 unfolding chain_from candidate_at end_of is_end is_time_zero is_triggered first_tick swing largest_change greatest delta_v
 reaches_back = refl
 
--- past an event it doesn't: the 80,000 of the event at tick 1 and 79,999 past its close give a second candidate, which is dropped
-starts_anew : chain (only_along (both (pulse 1 1 (pos 80000)) (pulse 52 52 (pos 79999)))) 60 ≡ record { zero_tick = 1; end_tick = 21; confirmed = Some 1 } ∷ record { zero_tick = 52; end_tick = 72; confirmed = None } ∷ []
+-- past an event it doesn't: the threshold at tick 1 is an event, and one step less past its close gives a second candidate, which is dropped
+starts_anew : chain (only_along (both (pulse 1 1 (pos TRIGGER)) (pulse 52 52 (pos (TRIGGER - 1))))) 60 ≡ record { zero_tick = 1; end_tick = 21; confirmed = Some 1 } ∷ record { zero_tick = 52; end_tick = 72; confirmed = None } ∷ []
 unfolding chain_from candidate_at end_of is_end is_time_zero is_triggered first_tick swing largest_change greatest delta_v
 starts_anew = refl
 

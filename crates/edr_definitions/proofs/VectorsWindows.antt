@@ -1,5 +1,6 @@
 -- Sums and windows at their edges.
-use Rattle.std.proofs.Common.{refl, ◌≡◌, pos, negsuc, true, false, [], ◌∷◌}
+use Rattle.std.proofs.Common.{refl, ◌≡◌, ◌-◌, pos, negsuc, true, false, [], ◌∷◌}
+use Rattle.edr_definitions.specs.declared.limits.TheConstants.{TRIGGER}
 use Rattle.edr_definitions.specs.Ticks.{greatest}
 use Rattle.edr_definitions.specs.Signals.{sample_at}
 use Rattle.edr_definitions.specs.Windows.{delta_v, sum_between, largest_change, swing, is_over, meets_trigger, is_quiet}
@@ -44,11 +45,11 @@ unfolding swing largest_change greatest delta_v
 five_out = refl
 
 -- within 150 ms
-hundred_fifty_in : swing (pulse 1 1 (pos 80000)) 150 0 150 ≡ 80000
+hundred_fifty_in : swing (pulse 1 1 (pos 9000)) 150 0 150 ≡ 9000
 unfolding swing largest_change greatest delta_v
 hundred_fifty_in = refl
 
-hundred_fifty_out : swing (pulse 1 1 (pos 80000)) 150 0 151 ≡ 0
+hundred_fifty_out : swing (pulse 1 1 (pos 9000)) 150 0 151 ≡ 0
 unfolding swing largest_change greatest delta_v
 hundred_fifty_out = refl
 
@@ -78,12 +79,12 @@ over_8000 = refl
 over_8001 : is_over 8_001 ≡ true
 over_8001 = refl
 
--- 8 km/h itself is the trigger
-trigger_79999 : meets_trigger 79_999 ≡ false
-trigger_79999 = refl
+-- the trigger threshold itself is met
+trigger_below_limit : meets_trigger (TRIGGER - 1) ≡ false
+trigger_below_limit = refl
 
-trigger_80000 : meets_trigger 80_000 ≡ true
-trigger_80000 = refl
+trigger_at_limit : meets_trigger TRIGGER ≡ true
+trigger_at_limit = refl
 
 -- a resultant of 0.8 km/h itself is quiet: squares of 64,000,000, and 64,000,001
 quiet_at_limit : is_quiet (negsuc 7999) (pos 0) ≡ true

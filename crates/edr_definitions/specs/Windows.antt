@@ -34,7 +34,7 @@ swing axis k from t = largest_change axis (max from (t - k)) t
 abbrev pub is_over : ℕ → Bool
 is_over size = nat_lt OVER size
 
--- a change of at least 8 km/h (563.5, trigger threshold)
+-- a change that meets the trigger threshold (563.5)
 abbrev pub meets_trigger : ℕ → Bool
 meets_trigger size = nat_le TRIGGER size
 

@@ -1,29 +1,11 @@
--- The banks, the names of rows and the plain values, as they are spelled.
-use Rattle.std.proofs.Common.{arith, ◌≡◌, ◌∙◌, sym, ap, ap₂, subst, refl, ℕ, zero, suc, ◌+◌, ◌*◌, ◌-◌, ◌/◌, ◌%◌, ◌<◌, ◌≤◌, nat_eq, if◌then◌else◌, List, [], ◌∷◌, ◌++◌, map, length, take, get_or, replicate, codes, decimal, pos, Bor}
+-- The names of rows and the plain values, as they are spelled.
+use Rattle.std.proofs.Common.{arith, ◌≡◌, ◌∙◌, sym, ap, ap₂, subst, refl, ℕ, zero, suc, ◌+◌, ◌*◌, ◌-◌, ◌/◌, ◌<◌, ◌≤◌, nat_eq, if◌then◌else◌, List, [], ◌∷◌, ◌++◌, map, length, take, get_or, replicate, codes, decimal, pos, Bor}
 use Rattle.std.specs.Fmt.{signed_decimal}
-use Rattle.std.proofs.lemmas.Fmt.{decimal_digit, decimal_step}
+use Rattle.std.proofs.lemmas.Fmt.{decimal_digit}
 use Rattle.edr_record.specs.declared.Place.TheVariants.{Second}
 use Rattle.edr_report.specs.Words.{spaced, milliseconds, shown_count, time_between, extreme_words, missing_words}
 use Rattle.edr_reading.specs.Plain.{event_names, no_extreme}
-use Rattle.edr_reading.specs.Values.{IsBank}
 use Rattle.edr_reading.proofs.PlainLemmas.{Below, below-at}
-
-abbrev pub banks : List (List ℕ)
-banks = codes "1" ∷ codes "2" ∷ codes "3" ∷ codes "4" ∷ codes "5" ∷ codes "6" ∷ codes "7" ∷ codes "8" ∷ codes "9" ∷ codes "10" ∷ codes "11" ∷ codes "12" ∷ codes "13" ∷ codes "14" ∷ codes "15" ∷ codes "16" ∷ []
-
-two-digits : (n d : ℕ) → 10 ≤ n → n < 100 → n / 10 ≡ 1 → n % 10 ≡ d → decimal n ≡ 49 ∷ (48 + d) ∷ []
-two-digits n d h k q r = decimal_step n h (omega (arith, k)) ∙ ap₂ (λ (x y : ℕ). decimal x ++ (48 + y) ∷ []) q r ∙ ap (λ (x : List ℕ). x ++ (48 + d) ∷ []) (decimal_digit 1 (omega arith))
-
-abbrev Spelled : ℕ → Type 0
-Spelled k = decimal (k + 1) ≡ get_or banks k []
-
-spelled : Below 16 Spelled
-spelled = (decimal_digit 1 (omega arith), (decimal_digit 2 (omega arith), (decimal_digit 3 (omega arith), (decimal_digit 4 (omega arith), (decimal_digit 5 (omega arith), (decimal_digit 6 (omega arith), (decimal_digit 7 (omega arith), (decimal_digit 8 (omega arith), (decimal_digit 9 (omega arith), (two-digits 10 0 (omega arith) (omega arith) refl refl, (two-digits 11 1 (omega arith) (omega arith) refl refl, (two-digits 12 2 (omega arith) (omega arith) refl refl, (two-digits 13 3 (omega arith) (omega arith) refl refl, (two-digits 14 4 (omega arith) (omega arith) refl refl, (two-digits 15 5 (omega arith) (omega arith) refl refl, (two-digits 16 6 (omega arith) (omega arith) refl refl, tt))))))))))))))))
-
-pub bank-spelled : (bank : ℕ) → IsBank bank → decimal bank ≡ get_or banks (bank - 1) []
-bank-spelled bank h =
-    let e : bank ≡ bank - 1 + 1 = omega (arith, h.0) in
-    ap decimal e ∙ below-at 16 Spelled spelled (bank - 1) (omega (arith, h.0, h.1))
 
 -- ---- a name of a row has one place
 

@@ -1,12 +1,11 @@
 -- What is tried behind rows, as code tells of it.
-use Rattle.std.proofs.Common.{arith, ◌≡◌, ◌≢◌, ◌∙◌, sym, ap, ap₂, subst, refl, ℕ, ◌<◌, ◌≤◌, ◌+◌, ◌-◌, Bool, true, false, List, [], ◌∷◌, ◌++◌, map, length, take, drop, length-append, append_assoc, get_or, Option, None, Some, Result, Ok, Err, codes, ⊎_elim, MatchBool}
+use Rattle.std.proofs.Common.{arith, ◌≡◌, ◌≢◌, ◌∙◌, sym, ap, ap₂, subst, refl, ℕ, ◌<◌, ◌≤◌, ◌+◌, ◌-◌, Bool, true, false, List, [], ◌∷◌, ◌++◌, map, length, take, drop, length-append, append_assoc, get_or, Option, None, Some, Result, Ok, Err, codes, decimal, ⊎_elim, MatchBool}
 use Rattle.std.specs.Option.{IfSome, MatchOption}
 use Rattle.std.specs.Prelude.{⊤}
 use Rattle.std.specs.Result.{IfOk}
 use Rattle.edr_record.specs.declared.Place.TheVariants.{First, Second}
 use Rattle.edr_record.specs.declared.Profile.{Profile}
 use Rattle.edr_record.specs.declared.Profile.TheVariants.{Short, Long}
-use Rattle.edr_image.specs.declared.places.TheConstants.{MOST_BANKS}
 use Rattle.edr_report.specs.Words.{yes_no, profile_word, extreme_words, milliseconds}
 use Rattle.edr_reading.specs.Faults.{AreReport, Opens, ReportGoesOn}
 use Rattle.edr_reading.specs.Found.{count_fields}
@@ -19,9 +18,10 @@ use Rattle.std.proofs.lemmas.List.{drop_more}
 use Rattle.edr_reading.proofs.FaultLemmas.{row-three, reading-none}
 use Rattle.edr_report.specs.Report.{report_lines}
 use Rattle.edr_reading.specs.Reading.{head_row}
+use Rattle.edr_reading.specs.Values.{IsBank}
 use Rattle.edr_reading.specs.Rows.{line_fields}
 use Rattle.edr_reading.proofs.TriedLemmas.{opens-no, first-no, second-no}
-use Rattle.edr_reading.proofs.BankLemmas.{name-once, banks, bank-spelled, second-is, zero-ms, extreme-is, missing-is}
+use Rattle.edr_reading.proofs.BankLemmas.{name-once, second-is, zero-ms, extreme-is, missing-is}
 
 pub placed-whole : (o : Option ℕ) (name : List ℕ) (p : ℕ) → p < 29 → name ≡ get_or event_names p [] → IfSome o (λ i. (i < 29) × (name ≡ get_or event_names i [])) → MatchOption o ((i : ℕ) → i < 29 → name ≢ get_or event_names i []) (λ i. ⊤) → o ≡ Some p
 placed-whole None name p h e read none = absurd (none p h e)
@@ -69,13 +69,13 @@ both-tried rows block bank points p short long v g = ⊎_elim (short v) (long v)
 abbrev pub NoneIn : List (List (List ℕ)) → List (List ℕ) → ℕ → List ℕ → Type 0
 NoneIn rows last p bank = (points : List ℕ) × ArePlain p (value_of last) points × ((v : List (List ℕ)) → IsGuess (block_of last) bank points v → ¬ AreReport (rows ++ back_rows (block_of last) p v))
 
-pub none-later : (rows : List (List (List ℕ))) (last : List (List ℕ)) (p : ℕ) (b : Bool) → 0 < p → (b ≡ true → SomeBehind rows last p) → (b ≡ false → NoneIn rows last p (codes "1")) → MatchBool b (SomeBehind rows last p) (NoneBehind rows last p)
+pub none-later : (rows : List (List (List ℕ))) (last : List (List ℕ)) (p : ℕ) (b : Bool) → 0 < p → (b ≡ true → SomeBehind rows last p) → (b ≡ false → NoneIn rows last p (decimal 1)) → MatchBool b (SomeBehind rows last p) (NoneBehind rows last p)
 none-later rows last p true h s n = s refl
-none-later rows last p false h s n = λ bank k. let m = n refl in (codes "1", m.0, (λ z. absurd (omega (arith, h, z))), m.1, m.2)
+none-later rows last p false h s n = λ bank k. let m = n refl in (decimal 1, m.0, (λ z. absurd (omega (arith, h, z))), m.1, m.2)
 
-pub none-first : (rows : List (List (List ℕ))) (last : List (List ℕ)) (p : ℕ) (b : Bool) → (b ≡ true → SomeBehind rows last p) → (b ≡ false → (k : ℕ) → k < MOST_BANKS → NoneIn rows last p (get_or banks k [])) → MatchBool b (SomeBehind rows last p) (NoneBehind rows last p)
+pub none-first : (rows : List (List (List ℕ))) (last : List (List ℕ)) (p : ℕ) (b : Bool) → (b ≡ true → SomeBehind rows last p) → (b ≡ false → (bank : ℕ) → IsBank bank → NoneIn rows last p (decimal bank)) → MatchBool b (SomeBehind rows last p) (NoneBehind rows last p)
 none-first rows last p true s n = s refl
-none-first rows last p false s n = λ bank k. let m = n refl (bank - 1) (omega (arith, k.0, k.1)) in (get_or banks (bank - 1) [], m.0, (λ z. bank-spelled bank k), m.1, m.2)
+none-first rows last p false s n = λ bank k. let m = n refl bank k in (decimal bank, m.0, (λ z. refl), m.1, m.2)
 
 pub false-of : (A B : Type 0) (b : Bool) → MatchBool b A B → b ≡ false → B
 false-of A B true m e = cc

@@ -1,7 +1,6 @@
 -- The rows of an event behind one of them, by plain values.
 use Rattle.std.specs.Prelude.{◌<◌, Option, Some, None, ◌≡◌, ◌≤◌, ◌+◌, ◌⊎◌, ℕ, Bool, true, false, pos, List, [], ◌∷◌, ◌++◌, drop, replicate, length, map, codes, decimal, slice_index_or}
 use Rattle.std.specs.Bool.{MatchBool}
-use denote.Ref.{Bor}
 use Rattle.edr_record.specs.declared.Extreme.{Extreme}
 use Rattle.edr_record.specs.declared.Place.{Place}
 use Rattle.edr_record.specs.declared.Place.TheVariants.{First, Second}
@@ -15,7 +14,7 @@ use Rattle.edr_report.specs.Words.{yes_no, profile_word, none_word, number_or_no
 use Rattle.edr_reading.specs.Found.{count_fields}
 use Rattle.edr_reading.specs.Faults.{AreReport}
 use Rattle.edr_reading.specs.declared.rows.ReportRow.{ReportRow}
-use Rattle.edr_reading.specs.Rows.{fields, pre_names, pre_words, texts_in}
+use Rattle.edr_reading.specs.Rows.{fields, pre_names, pre_words}
 use Rattle.edr_reading.specs.Values.{IsBank}
 
 -- the names of the rows of an event
@@ -164,9 +163,9 @@ NoneInBank rows last place bank =
     (points : List ℕ) × ArePlain place last.value.now points
     × ((v : List (List ℕ)) → IsGuess last.block.now bank points v → ¬ AreReport (map fields rows ++ back_rows last.block.now place v))
 
--- none does in any of these banks
-abbrev pub NoneInBanks : List ReportRow → ReportRow → ℕ → List (Bor (List ℕ)) → Type 0
-NoneInBanks rows last place banks = (k : ℕ) → k < length banks → NoneInBank rows last place (slice_index_or (texts_in banks) k [])
+-- none does in any bank
+abbrev pub NoneInBanks : List ReportRow → ReportRow → ℕ → Type 0
+NoneInBanks rows last place = (bank : ℕ) → IsBank bank → NoneInBank rows last place (decimal bank)
 
 -- it tells whether some values end a report, or no plain ones do
 abbrev pub TellsBehind : Bool → List (List (List ℕ)) → List (List ℕ) → ℕ → Type 0

@@ -1,6 +1,6 @@
 //! Whether a report begins with rows.
 
-ghost use Rattle.std.specs.Prelude.{◌≡◌, ◌<◌, ◌-◌, ◌++◌, ◌∷◌, [], true, false, IfOk, map, length, slice_index_or};
+ghost use Rattle.std.specs.Prelude.{◌≡◌, ◌<◌, ◌-◌, ◌++◌, ◌∷◌, [], true, false, IfOk, map, length, slice_index_or, decimal};
 ghost use Rattle.edr_reading.specs.Answers.{TellsWhether};
 ghost use Rattle.edr_reading.specs.Cut.{EndsReport, NoneOf};
 ghost use Rattle.edr_reading.specs.Faults.{AreReport, Opens};
@@ -12,13 +12,9 @@ use crate::completion::{Guess, PlainValues, absent, place_of, points_behind, pre
 use crate::found::Refused;
 use crate::reading::reading_of;
 use crate::rows::ReportRow;
+use edr_image::places::MOST_BANKS;
 use edr_record::Profile;
 use std::alloc::{AllocError as OutOfMemory, Global};
-
-const BANKS: [&[u8]; 16] = [
-    b"1", b"2", b"3", b"4", b"5", b"6", b"7", b"8", b"9", b"10", b"11", b"12", b"13", b"14", b"15",
-    b"16",
-];
 
 // These are the rows of a report.
 fn is_report(alloc: Global, rows: &[ReportRow<'_>]) -> Result<bool, OutOfMemory>
@@ -97,13 +93,13 @@ fn ends_by_guess<'a>(
     ends_by(alloc, rows, place, &present(guess, b"no"))
 }
 
-// The same for an event in this bank, of either profile.
-fn ends_in_bank<'a>(
+// The same for an event in the bank that is spelled so, of either profile.
+fn ends_in_bank<'b, 'a: 'b>(
     alloc: Global,
     rows: &[ReportRow<'a>],
     last: &ReportRow<'a>,
     place: usize,
-    bank: &'a [u8],
+    bank: &'b [u8],
 ) -> Result<bool, OutOfMemory>
     requires { place < 29 }
     ensures some { IfOk result (λ b. b ≡ true → SomeBehind (map fields rows.now) (fields last.now) place) }
@@ -125,20 +121,35 @@ fn ends_in_bank<'a>(
     ends_by_guess(alloc, rows, place, &long)
 }
 
-// The same in one of these banks.
-fn ends_in_some<'a>(
+// The same in the bank of this number.
+fn ends_in_numbered(
     alloc: Global,
-    rows: &[ReportRow<'a>],
-    last: &ReportRow<'a>,
+    rows: &[ReportRow<'_>],
+    last: &ReportRow<'_>,
     place: usize,
-    banks: &[&'static [u8]],
+    bank: u8,
 ) -> Result<bool, OutOfMemory>
     requires { place < 29 }
     ensures some { IfOk result (λ b. b ≡ true → SomeBehind (map fields rows.now) (fields last.now) place) }
-    ensures none { IfOk result (λ b. b ≡ false → NoneInBanks rows.now last.now place banks.now) }
+    ensures none { IfOk result (λ b. b ≡ false → NoneInBank rows.now last.now place (decimal bank)) }
 {
-    for i in 0..banks.len() {
-        if ends_in_bank(alloc, rows, last, place, banks[i])? {
+    let spelled = format!(in alloc; "{bank}")?;
+    ends_in_bank(alloc, rows, last, place, spelled.as_bytes())
+}
+
+// The same in some bank.
+fn ends_in_some(
+    alloc: Global,
+    rows: &[ReportRow<'_>],
+    last: &ReportRow<'_>,
+    place: usize,
+) -> Result<bool, OutOfMemory>
+    requires { place < 29 }
+    ensures some { IfOk result (λ b. b ≡ true → SomeBehind (map fields rows.now) (fields last.now) place) }
+    ensures none { IfOk result (λ b. b ≡ false → NoneInBanks rows.now last.now place) }
+{
+    for bank in 1..MOST_BANKS + 1 {
+        if ends_in_numbered(alloc, rows, last, place, bank)? {
             return Ok(true);
         }
     }
@@ -156,9 +167,9 @@ pub(crate) fn ends_inside<'a>(
     ensures { IfOk result (λ b. TellsBehind b (map fields rows.now) (fields last.now) place) }
 {
     if place > 0 {
-        ends_in_bank(alloc, rows, last, place, b"1")
+        ends_in_numbered(alloc, rows, last, place, 1)
     } else {
-        ends_in_some(alloc, rows, last, place, &BANKS)
+        ends_in_some(alloc, rows, last, place)
     }
 }
 

@@ -1,5 +1,6 @@
 ghost use Rattle.std.specs.Prelude.{◌≤◌, unsigned_abs};
 
+use edr_definitions::limits::TRIGGER;
 use edr_detect::{Change, Detect};
 use edr_items::Restraints;
 use std::alloc::{AllocError as OutOfMemory, Global};
@@ -113,22 +114,39 @@ fn follow(begun: FoundEvent, change: Change, t: u32) -> FoundEvent {
     next
 }
 
-// A tie: 8,000 steps at 6002 are not over, and 80,000 at 6020 meet the trigger threshold. A reach back: the candidate at
-// 6002 is dropped at 6029, and the trigger still counts from the start of the cycle. A turn: 80,000 steps backwards over
-// 20 ticks confirm, while the last 150 ticks come to 50,000. A lateral trigger: five ticks of 540 steps are never over,
-// and 149 of them meet the threshold.
+// As many ticks of 4,000 steps as meet the trigger threshold, exactly, and of 5,000 where there were 50,000 before.
+const MET: u32 = (TRIGGER as u32 + 3_999) / 4_000;
+
+const MET_LATE: u32 = (TRIGGER as u32 - 45_001) / 5_000;
+
+// As many steps as meet it in 149 ticks, and the tick at which it is quiet behind them.
+const SLOW: i32 = (TRIGGER as i32 + 148) / 149;
+
+const QUIET: u32 = 6_420 - 8_000 / SLOW as u32;
+
+// A tie: 8,000 steps at 6002 are not over, and the trigger threshold is met exactly. A reach back: the candidate at 6002 is
+// dropped at 6029, and the trigger still counts from the start of the cycle. A turn: the threshold is met backwards, while
+// the last 150 ticks come to 30,000 less. A lateral trigger: five ticks are never over, and 149 of them meet the threshold.
 #[test]
 fn the_detector_tells_the_worked_events(rt: HostRuntime) -> Result<(), Fail> {
     let blow = [steady(6001, 6100, -4000)];
     let apart = [steady(6001, 6010, 5000), steady(6071, 6080, 5000)];
-    let turned = [steady(6001, 6010, 3000), steady(6011, 6030, -4000)];
-    let push = [steady(6001, 6400, 540)];
+    let turned = [steady(6001, 6010, 3000), steady(6011, 6010 + MET, -4000)];
+    let push = [steady(6001, 6400, SLOW)];
     let none: &[SampledStretch] = &[];
     for (along, across, found) in [
-        (blow.as_slice(), none, event(6003, 6020, 6118, 6148)),
-        (apart.as_slice(), none, event(6072, 6076, 6099, 6129)),
-        (turned.as_slice(), none, event(6003, 6030, 6048, 6078)),
-        (none, push.as_slice(), event(6149, 6149, 6406, 6436)),
+        (blow.as_slice(), none, event(6003, 6000 + MET, 6118, 6148)),
+        (
+            apart.as_slice(),
+            none,
+            event(6072, 6070 + MET_LATE, 6099, 6129),
+        ),
+        (
+            turned.as_slice(),
+            none,
+            event(6003, 6010 + MET, 6028 + MET, 6058 + MET),
+        ),
+        (none, push.as_slice(), event(6149, 6149, QUIET, QUIET + 30)),
     ] {
         let told = tell(rt.alloc(), 7000, along, across, &[])?;
         assert_eq!(rt; told.events.as_slice(), [found].as_slice());

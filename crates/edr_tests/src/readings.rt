@@ -296,7 +296,7 @@ fn a_damaged_row_is_told(rt: HostRuntime) {
     );
     check_fault(
         &rt,
-        b"block,name,value\n0,bank 17,damaged at 25 found 1 locked no\n",
+        b"block,name,value\n0,bank 255,damaged at 25 found 1 locked no\n",
         2,
         RowFault::Field(2),
     );

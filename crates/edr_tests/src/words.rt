@@ -90,7 +90,7 @@ fn other_words_name_no_job(rt: HostRuntime) -> Result<(), Fail> {
         "format",
         "format 2",
         "format 1 keep",
-        "format 17 keep",
+        "format 255 keep",
         "format 02 keep",
         "format +2 keep",
         "format 2 Keep",

@@ -14,7 +14,7 @@ pub fn over(change: i64) -> bool
     change.unsigned_abs() > OVER
 }
 
-/// Whether a change of speed, either way, meets the trigger threshold of 8 km/h.
+/// Whether a change of speed, either way, meets the trigger threshold.
 pub fn trigger(change: i64) -> bool
     ensures { result ≡ meets_trigger (unsigned_abs change) }
 {

@@ -20,7 +20,7 @@ pub enum Form {
 /// What the program is asked to do.
 #[derive(Clone, Copy, Debug, PartialEq, Eq)]
 pub enum Job {
-    /// `format B C`: writes an empty image of so many banks, 2 to 16.
+    /// `format B C`: writes an empty image of so many banks, `FEWEST_BANKS` to `MOST_BANKS`.
     Format { header: Header },
     /// `replay [text|csv]`: runs a trace over the image, and reports.
     Replay { form: Form },

@@ -43,7 +43,7 @@ fn each_refusal_of_an_image_has_its_line(rt: HostRuntime) -> Result<(), Fail> {
         (8, 1, "fault: image version 258\n"),
         (9, 1, "fault: image version 1\n"),
         (10, 1, "fault: image banks 1\n"),
-        (10, 17, "fault: image banks 17\n"),
+        (10, 255, "fault: image banks 255\n"),
         (11, 2, "fault: image choice 2\n"),
     ];
     for (offset, byte, line) in refused {

@@ -143,7 +143,7 @@ fn other_words_are_a_fault_of_usage(rt: HostRuntime) -> Result<(), Fail> {
     let words: [&[&str]; 19] = [
         &[],
         &["report", "--csv"],
-        &["format", "17", "keep"],
+        &["format", "255", "keep"],
         &["drive", "0"],
         &["drive", "1"],
         &["drive", "8", "csv"],
