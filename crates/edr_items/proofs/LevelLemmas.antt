@@ -10,13 +10,7 @@ use Rattle.edr_items.specs.SensorLists.{SensorLists, items_of, horizon_of, great
 -- each mark is at most the greatest
 pub mark-le_greatest : (f : SensorLists) (r : Sensor) → mark_of (items_of r f) ≤ greatest_mark f
 mark-le_greatest f Along = omega arith
-mark-le_greatest f Across = omega arith
-mark-le_greatest f Speed = omega arith
-mark-le_greatest f Throttle = omega arith
-mark-le_greatest f Brake = omega arith
-mark-le_greatest f Belt = omega arith
-mark-le_greatest f Lamp = omega arith
-mark-le_greatest f Restraint = omega arith
+mark-le_greatest f r = omega arith
 
 -- what all marks are below, the greatest is
 greatest-below : (f : SensorLists) (n : ℕ) → ((r : Sensor) → mark_of (items_of r f) ≤ n) → greatest_mark f ≤ n
@@ -34,13 +28,7 @@ greatest-below f n h =
 -- no mark is below the horizon
 pub horizon-least : (f : SensorLists) (s : Sensor) → horizon_of f ≤ mark_of (items_of s f)
 horizon-least f Along = omega arith
-horizon-least f Across = omega arith
-horizon-least f Speed = omega arith
-horizon-least f Throttle = omega arith
-horizon-least f Brake = omega arith
-horizon-least f Belt = omega arith
-horizon-least f Lamp = omega arith
-horizon-least f Restraint = omega arith
+horizon-least f s = omega arith
 
 -- what no mark is below, the horizon isn't below
 pub horizon-above : (f : SensorLists) (n : ℕ) → ((s : Sensor) → n ≤ mark_of (items_of s f)) → n ≤ horizon_of f
