@@ -3,8 +3,9 @@ use Rattle.std.specs.Prelude.{◌≡◌, ◌-◌, ◌≤◌, ℕ, Option, Some, 
 use Rattle.std.specs.Arc.{arc_value}
 use Rattle.atomic_table.specs.Seated.{TableId}
 use Rattle.edr_items.specs.declared.Sensor.{Sensor}
+use Rattle.edr_items.specs.declared.Sensor.TheVariants.{Speed, Throttle, Brake, Belt, Lamp}
 use Rattle.edr_items.specs.declared.per_slow_sensor.PerSlowSensor.{PerSlowSensor}
-use Rattle.edr_items.specs.PerSlowSensor.{slow_value_of, with_slow_value, each_slow_value, EachSlow, slow_at, slow_values_by}
+use Rattle.edr_items.specs.PerSlowSensor.{slow_value_of, with_slow_value, each_slow_value, slow_values_by}
 use Rattle.edr_items.specs.Sensor.{number_of}
 use Rattle.edr_board.specs.declared.freeze_seats.Freeze.{Freeze}
 use Rattle.edr_board.specs.declared.freeze_seats.Asker.{Asker}
@@ -93,7 +94,11 @@ pub record SameKeeper (a b : Keeper) : Type 0 where
 
 -- each of these marks has reached the zero
 pub record AllReach (z : ℕ) (m : SlowMarks) : Type 0 where
-  pub each : EachSlow (λ s. z ≤ slow_at s m)
+  pub speed : z ≤ m.speed
+  pub throttle : z ≤ m.throttle
+  pub brake : z ≤ m.brake
+  pub belt : z ≤ m.belt
+  pub lamp : z ≤ m.lamp
 
 -- an asker of this freeze that has granted what is granted at first, asked for nothing and read no mark
 pub record IsFreshAsker (id : TableId) (a : Asker) : Type 0 where
@@ -112,4 +117,8 @@ pub record IsFreshKeeper (id : TableId) (s : Sensor) (k : Keeper) : Type 0 where
 
 -- the keepers of this freeze, none of which has posted a mark
 pub record AreFresh (id : TableId) (k : PerSlowSensor Keeper) : Type 0 where
-  pub each : EachSlow (λ s. IsFreshKeeper id s (slow_at s k))
+  pub speed : IsFreshKeeper id Speed k.speed
+  pub throttle : IsFreshKeeper id Throttle k.throttle
+  pub brake : IsFreshKeeper id Brake k.brake
+  pub belt : IsFreshKeeper id Belt k.belt
+  pub lamp : IsFreshKeeper id Lamp k.lamp
