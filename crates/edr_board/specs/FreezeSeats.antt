@@ -5,7 +5,7 @@ use Rattle.atomic_table.specs.Seated.{TableId}
 use Rattle.edr_items.specs.declared.Sensor.{Sensor}
 use Rattle.edr_items.specs.declared.Sensor.TheVariants.{Speed, Throttle, Brake, Belt, Lamp}
 use Rattle.edr_items.specs.declared.per_slow_sensor.PerSlowSensor.{PerSlowSensor}
-use Rattle.edr_items.specs.PerSlowSensor.{slow_value_of, with_slow_value, each_slow_value}
+use Rattle.edr_items.specs.PerSlowSensor.{slow_value_of, with_slow_value, each_slow_value, slow_values_by}
 use Rattle.edr_items.specs.Sensor.{number_of}
 use Rattle.edr_board.specs.declared.freeze_seats.Freeze.{Freeze}
 use Rattle.edr_board.specs.declared.freeze_seats.Asker.{Asker}
@@ -55,13 +55,7 @@ with_mark_of s n m = with_slow_value s n m
 
 -- the marks as the words have them
 abbrev pub marks_from : List ℕ → SlowMarks
-marks_from words = record {
-  speed = slice_index words 2;
-  throttle = slice_index words 3;
-  brake = slice_index words 4;
-  belt = slice_index words 5;
-  lamp = slice_index words 6;
-}
+marks_from words = slow_values_by (λ s. slice_index words (place_of s))
 
 -- what the asker has read of the marks, 0 before its first load of one
 abbrev pub marks_read : Asker → SlowMarks

@@ -10,7 +10,7 @@ use crate::freeze_rule::{
     Ask, Grant, LoadAsked, LoadGranted, LoadMark, MarksWithinGrants, PostMark, Settle, ToKeeper,
 };
 use crate::freeze_seats::{Asker, Freeze, FreezeOpened, FreezeWords, Keeper, Keepers};
-use crate::freeze_view::FreezeView;
+use crate::freeze_view::{FREEZE_WORDS, FreezeView};
 use atomic_table::{Seat, Table};
 use edr_items::Sensor;
 use std::alloc::{AllocError as OutOfMemory, Global};
@@ -30,9 +30,11 @@ impl Freeze {
         ensures asker { IfOk result (λ o. IsFreshAsker (freeze_id o.freeze) o.asker) }
         ensures keepers { IfOk result (λ o. AreFresh (freeze_id o.freeze) o.keepers) }
     {
+        let mut words = [0; FREEZE_WORDS];
+        words[GRANTED] = FIRST_GRANT;
         let (table, mut asker) = Table::<u8, FreezeView, (), MarksWithinGrants, Global>::of_words(
             alloc,
-            &[FIRST_GRANT, 0, 0, 0, 0, 0, 0],
+            &words,
             &(),
         )?;
         let speed = table.shared.split_seat::<ToKeeper>(&mut asker);

@@ -4,10 +4,11 @@ use Rattle.std.specs.Prelude.{find, is_none, option_and_then, All}
 use Rattle.std.proofs.lemmas.Bool.{eqb-true}
 use Rattle.std.proofs.lemmas.List.Elements.{All-head, All-tail, All-weaker}
 use Rattle.edr_items.specs.declared.Sensor.{Sensor}
-use Rattle.edr_items.specs.declared.Sensor.TheVariants.{Along, Across, Speed, Throttle, Brake, Belt, Lamp, Restraint}
 use Rattle.edr_items.specs.Sensor.{number_of, IsSlow}
+use Rattle.edr_items.specs.PerSensor.{each_value}
 use Rattle.edr_items.specs.PerSlowSensor.{EachSlow, slow_at, first_without}
 use Rattle.edr_items.specs.SensorLists.{SensorLists}
+use Rattle.edr_items.proofs.PerSensorLemmas.{with_value-others}
 use Rattle.edr_items.proofs.PerSlowSensorLemmas.{speed-slow, throttle-slow, brake-slow, belt-slow, lamp-slow, slow-first, slow_value_of-slow, slow_at-each, slow_at-map, with_slow_value-others}
 use Rattle.edr_record.specs.declared.Key.{Key}
 use Rattle.edr_record.specs.declared.Place.TheVariants.{First}
@@ -25,15 +26,10 @@ both-true true false e = cc
 both-true false b e = cc
 
 same_number : (s r : Sensor) → number_of s ≡ number_of r → s ≡ r
-same_number Along Along e = refl
-same_number Across Across e = refl
-same_number Speed Speed e = refl
-same_number Throttle Throttle e = refl
-same_number Brake Brake e = refl
-same_number Belt Belt e = refl
-same_number Lamp Lamp e = refl
-same_number Restraint Restraint e = refl
-same_number s r e = absurd (omega (arith, e))
+same_number s r e =
+    with_value-others (λ q (_ : ℕ). number_of s ≡ number_of q → s ≡ q) s 0 (each_value 0) (λ _. refl) (λ q apart same. absurd (differ (number_of s) (number_of q) apart same)) r e where
+      differ : (m n : ℕ) → nat_eq m n ≡ false → m ≡ n → ⊥
+      differ m n apart same = grind arith
 
 -- the part that is found is that of the sensor and the time zero
 pub part_in-is : (parts : List SensorPart) (s : Sensor) (z : ℕ) (q : SensorPart) → part_in parts s z ≡ Some q → (q.sensor ≡ s) × (q.zero ≡ z)

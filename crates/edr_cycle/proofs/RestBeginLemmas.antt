@@ -6,6 +6,8 @@ use Rattle.edr_items.specs.declared.Sensor.TheVariants.{Along, Across, Restraint
 use Rattle.edr_items.specs.declared.Item.{Item}
 use Rattle.edr_items.specs.Item.{mark_of, IsFeed, IsFeedAfter}
 use Rattle.edr_items.specs.Sensor.{IsSlow}
+use Rattle.edr_items.specs.declared.per_sensor.PerSensor.{PerSensor}
+use Rattle.edr_items.specs.PerSensor.{each_value}
 use Rattle.edr_items.specs.SensorLists.{SensorLists, items_of, AreFeeds}
 use Rattle.edr_items.proofs.FeedLemmas.{feeds-each}
 use Rattle.edr_definitions.specs.Schedule.{BeginsWith}
@@ -32,8 +34,8 @@ part-begun s xs many p feed is reached =
     ∙ sym (ap (λ (q : SensorPart). q.slots) is)
 
 -- the last moments of the fast sensors, and none of a slow one
-abbrev pub fast_lasts : ℕ → ℕ → ℕ → List ℕ
-fast_lasts a b e = a ∷ b ∷ 0 ∷ 0 ∷ 0 ∷ 0 ∷ 0 ∷ e ∷ []
+abbrev pub fast_lasts : ℕ → ℕ → ℕ → PerSensor ℕ
+fast_lasts a b e = record (each_value 0) { along = a; across = b; restraint = e }
 
 -- of a fast sensor what is past the last moment that the core was given is left
 fast-begins : (s : Sensor) (xs ls given kept : List Item) (last : ℕ) → (¬ IsSlow s) → IsFeed s xs → BeginsWith xs given → last ≡ mark_of given → ls ≡ past last xs → IsRest s xs given ls kept

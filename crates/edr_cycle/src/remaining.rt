@@ -17,7 +17,7 @@ use crate::left::Left;
 use edr_banks::{Banks, Log};
 use edr_core::{Captures, Closing, Issued, SplitClosing, SplitCore};
 use edr_device::{Failed, Nvm};
-use edr_items::{Feeds, SLOW_SENSORS, Sensor};
+use edr_items::{Feeds, PerSensor, SLOW_SENSORS, Sensor};
 
 /// What is left of the lists of a cycle, and captures of what is no longer left of the slow sensors.
 ///
@@ -48,8 +48,12 @@ impl<'a> Remaining<'a> {
             → WasTold feeds.now h core along across restraint
             → RemainsAt feeds.now h.cycle h core result }
     {
+        let mut last = PerSensor::each(0);
+        last.along = along;
+        last.across = across;
+        last.restraint = restraint;
         Remaining {
-            left: Left::after(feeds, &[along, across, 0, 0, 0, 0, 0, restraint]),
+            left: Left::after(feeds, &last),
             captures,
         }
     }

@@ -5,13 +5,16 @@ use Rattle.std.proofs.lemmas.List.{append-nil}
 use Rattle.std.proofs.lemmas.Bool.Decides.{nat_tests}
 use Rattle.edr_items.specs.declared.TheConstants.{LATEST_MOMENT}
 use Rattle.edr_items.specs.declared.Sensor.{Sensor}
-use Rattle.edr_items.specs.declared.Sensor.TheVariants.{Along, Across, Speed, Throttle, Brake, Belt, Lamp, Restraint}
+use Rattle.edr_items.specs.declared.Sensor.TheVariants.{Along, Across, Restraint}
 use Rattle.edr_items.specs.declared.Item.{Item}
 use Rattle.edr_items.specs.Item.{IsFeed, has_value_in_range, mark_from, mark_of, refusal_of}
+use Rattle.edr_items.specs.Sensor.{is_in_range}
+use Rattle.edr_items.specs.PerSlowSensor.{slow_value_of}
 use Rattle.edr_items.specs.SensorLists.{AreFeeds, IsLevel}
-use Rattle.edr_items.proofs.FeedLemmas.{IsFeedAfter-push}
+use Rattle.edr_items.proofs.FeedLemmas.{IsFeedAfter-push, each-feeds}
 use Rattle.edr_spell.specs.Samples.{Sample, feeds_given, items_given}
 use Rattle.edr_spell.proofs.FeedsLemmas.{items_given-append, items_of-given}
+use Rattle.edr_gen.specs.declared.plan.TheConstants.{SLOW_SAID}
 use Rattle.edr_gen.specs.declared.plan.Impulse.{Impulse}
 use Rattle.edr_gen.specs.Cycles.{acting_at, along_of, across_of, crash_samples, has_firing, restraint_samples, samples_after, samples_at, slow_samples}
 use Rattle.edr_gen.proofs.RangeLemmas.{IsInRange, acting-range}
@@ -58,13 +61,13 @@ is-zero : (n : ℕ) → (n == 0) ≡ false → 1 ≤ n
 is-zero n h = grind (arith, nat_tests)
 
 -- a slow sensor
-abbrev slow_items : Bool → ℕ → ℤ → List Item
-slow_items true t v = item_at t (Some v) ∷ []
+abbrev slow_items : Bool → ℕ → Option ℤ → List Item
+slow_items true t v = item_at t v ∷ []
 slow_items false t v = []
 
-fed-slow : (s : Sensor) (t : ℕ) (v : ℤ) (b : Bool) (xs : List Item) → ((t + 1) % 100 == 0) ≡ b → has_value_in_range s (item_at (t + 1) (Some v)) ≡ true → t + 1 ≤ LATEST_MOMENT
+fed-slow : (s : Sensor) (t : ℕ) (v : Option ℤ) (b : Bool) (xs : List Item) → ((t + 1) % 100 == 0) ≡ b → has_value_in_range s (item_at (t + 1) v) ≡ true → t + 1 ≤ LATEST_MOMENT
     → Fed s t (t % 100) xs → Fed s (t + 1) ((t + 1) % 100) (xs ++ slow_items b (t + 1) v)
-fed-slow s t v true xs e r within h = fed-more s (t + 1) 0 ((t + 1) % 100) (xs ++ item_at (t + 1) (Some v) ∷ []) (omega arith) (fed-give s t (t % 100) (Some v) xs r (omega arith) within h)
+fed-slow s t v true xs e r within h = fed-more s (t + 1) 0 ((t + 1) % 100) (xs ++ item_at (t + 1) v ∷ []) (omega arith) (fed-give s t (t % 100) v xs r (omega arith) within h)
 fed-slow s t v false xs e r within h =
     let past : 1 ≤ (t + 1) % 100 = is-zero ((t + 1) % 100) e in
     subst (λ (ys : List Item). Fed s (t + 1) ((t + 1) % 100) ys) (sym (append-nil xs)) (fed-wait s t (t % 100) ((t + 1) % 100) xs (omega (arith, past)) h)
@@ -89,40 +92,54 @@ fed-restraint t false false xs e within h =
 abbrev samples_by : ℤ → ℤ → ℕ → Bool → Bool → Bool → List Sample
 samples_by a c t b f q = crash_samples a c t ++ slow_samples b t ++ restraint_samples f q t
 
-record Said (a c : ℤ) (t : ℕ) (b f q : Bool) (xs : List Sample) : Type 0 where
-  along : items_given Along xs ≡ item_at t (Some a) ∷ []
-  across : items_given Across xs ≡ item_at t (Some c) ∷ []
-  speed : items_given Speed xs ≡ slow_items b t (pos 60)
-  throttle : items_given Throttle xs ≡ slow_items b t (pos 20)
-  brake : items_given Brake xs ≡ slow_items b t (pos 0)
-  belt : items_given Belt xs ≡ slow_items b t (pos 1)
-  lamp : items_given Lamp xs ≡ slow_items b t (pos 0)
-  restraint : items_given Restraint xs ≡ restraint_items f q t
+abbrev items_by : Sensor → ℤ → ℤ → ℕ → Bool → Bool → Bool → List Item
+items_by Along a c t b f q = item_at t (Some a) ∷ []
+items_by Across a c t b f q = item_at t (Some c) ∷ []
+items_by Restraint a c t b f q = restraint_items f q t
+items_by s a c t b f q = slow_items b t (slow_value_of s SLOW_SAID)
 
-said : (a c : ℤ) (t : ℕ) (b f q : Bool) → Said a c t b f q (samples_by a c t b f q)
-said a c t true true q = record { along = refl; across = refl; speed = refl; throttle = refl; brake = refl; belt = refl; lamp = refl; restraint = refl }
-said a c t true false true = record { along = refl; across = refl; speed = refl; throttle = refl; brake = refl; belt = refl; lamp = refl; restraint = refl }
-said a c t true false false = record { along = refl; across = refl; speed = refl; throttle = refl; brake = refl; belt = refl; lamp = refl; restraint = refl }
-said a c t false true q = record { along = refl; across = refl; speed = refl; throttle = refl; brake = refl; belt = refl; lamp = refl; restraint = refl }
-said a c t false false true = record { along = refl; across = refl; speed = refl; throttle = refl; brake = refl; belt = refl; lamp = refl; restraint = refl }
-said a c t false false false = record { along = refl; across = refl; speed = refl; throttle = refl; brake = refl; belt = refl; lamp = refl; restraint = refl }
+said : (s : Sensor) (a c : ℤ) (t : ℕ) (b f q : Bool) → items_given s (samples_by a c t b f q) ≡ items_by s a c t b f q
+said Along a c t true true q = refl
+said s a c t true true q = refl
+said Along a c t true false true = refl
+said s a c t true false true = refl
+said Along a c t true false false = refl
+said s a c t true false false = refl
+said Along a c t false true q = refl
+said s a c t false true q = refl
+said Along a c t false false true = refl
+said s a c t false false true = refl
+said Along a c t false false false = refl
+said s a c t false false false = refl
+
+-- at the tick t the last item of a sensor is at most so many ticks ago
+abbrev since : Sensor → ℕ → ℕ
+since Along t = 0
+since Across t = 0
+since Restraint t = t % 1000
+since s t = t % 100
+
+since-few : (s : Sensor) (t : ℕ) → since s t ≤ 1000
+since-few Along t = omega arith
+since-few s t = omega arith
 
 -- up to the tick t the sensors may give these samples, each as often as it is to
 pub record AllFed (t : ℕ) (xs : List Sample) : Type 0 where
-  along : Fed Along t 0 (items_given Along xs)
-  across : Fed Across t 0 (items_given Across xs)
-  speed : Fed Speed t (t % 100) (items_given Speed xs)
-  throttle : Fed Throttle t (t % 100) (items_given Throttle xs)
-  brake : Fed Brake t (t % 100) (items_given Brake xs)
-  belt : Fed Belt t (t % 100) (items_given Belt xs)
-  lamp : Fed Lamp t (t % 100) (items_given Lamp xs)
-  restraint : Fed Restraint t (t % 1000) (items_given Restraint xs)
+  each : (s : Sensor) → Fed s t (since s t) (items_given s xs)
 
-none-fed : (s : Sensor) → Fed s 0 0 []
-none-fed s = record { feed = tt; below = omega arith; near = omega arith }
+none-fed : (s : Sensor) (k : ℕ) → Fed s 0 k []
+none-fed s k = record { feed = tt; below = omega arith; near = omega arith }
 
 pub all-fed-none : AllFed 0 []
-all-fed-none = record { along = none-fed Along; across = none-fed Across; speed = none-fed Speed; throttle = none-fed Throttle; brake = none-fed Brake; belt = none-fed Belt; lamp = none-fed Lamp; restraint = none-fed Restraint }
+all-fed-none = record { each = λ s. none-fed s (since s 0) }
+
+-- the next items of a sensor
+fed-next : (s : Sensor) (a c : ℤ) (t : ℕ) (b f q : Bool) (xs : List Item) → ((t + 1) % 100 == 0) ≡ b → ((t + 1) % 1000 == 0) ≡ q → is_in_range Along a ≡ true → is_in_range Across c ≡ true → t + 1 ≤ LATEST_MOMENT
+    → Fed s t (since s t) xs → Fed s (t + 1) (since s (t + 1)) (xs ++ items_by s a c (t + 1) b f q)
+fed-next Along a c t b f q xs slow quiet along across within h = fed-give Along t 0 (Some a) xs along (omega arith) within h
+fed-next Across a c t b f q xs slow quiet along across within h = fed-give Across t 0 (Some c) xs across (omega arith) within h
+fed-next Restraint a c t b f q xs slow quiet along across within h = fed-restraint t f q xs quiet within h
+fed-next s a c t b f q xs slow quiet along across within h = fed-slow s t (slow_value_of s SLOW_SAID) b xs slow refl within h
 
 -- the items of a sensor, with those of one more list of samples
 joined : (s : Sensor) (t k : ℕ) (xs ys : List Sample) (items : List Item) → items_given s ys ≡ items → Fed s t k (items_given s xs ++ items) → Fed s t k (items_given s (xs ++ ys))
@@ -139,31 +156,13 @@ all-fed-next impulses t xs are within h =
     let c : ℤ = across_of (acting_at impulses u) in
     let range = acting-range impulses u are in
     let ys : List Sample = samples_by a c u b f q in
-    let gives = said a c u b f q in
-    record {
-      along = joined Along u 0 xs ys (item_at u (Some a) ∷ []) gives.along (fed-give Along t 0 (Some a) (items_given Along xs) range.0 (omega arith) within h.along);
-      across = joined Across u 0 xs ys (item_at u (Some c) ∷ []) gives.across (fed-give Across t 0 (Some c) (items_given Across xs) range.1 (omega arith) within h.across);
-      speed = joined Speed u (u % 100) xs ys (slow_items b u (pos 60)) gives.speed (fed-slow Speed t (pos 60) b (items_given Speed xs) refl refl within h.speed);
-      throttle = joined Throttle u (u % 100) xs ys (slow_items b u (pos 20)) gives.throttle (fed-slow Throttle t (pos 20) b (items_given Throttle xs) refl refl within h.throttle);
-      brake = joined Brake u (u % 100) xs ys (slow_items b u (pos 0)) gives.brake (fed-slow Brake t (pos 0) b (items_given Brake xs) refl refl within h.brake);
-      belt = joined Belt u (u % 100) xs ys (slow_items b u (pos 1)) gives.belt (fed-slow Belt t (pos 1) b (items_given Belt xs) refl refl within h.belt);
-      lamp = joined Lamp u (u % 100) xs ys (slow_items b u (pos 0)) gives.lamp (fed-slow Lamp t (pos 0) b (items_given Lamp xs) refl refl within h.lamp);
-      restraint = joined Restraint u (u % 1000) xs ys (restraint_items f q u) gives.restraint (fed-restraint t f q (items_given Restraint xs) refl within h.restraint);
-    }
+    record { each = λ s. joined s u (since s u) xs ys (items_by s a c u b f q) (said s a c u b f q) (fed-next s a c t b f q (items_given s xs) refl refl range.0 range.1 within (h.each s)) }
 
 pub all-fed-feeds : (t : ℕ) (xs : List Sample) → AllFed t xs → AreFeeds (feeds_given xs)
-unfolding feeds_given
-all-fed-feeds t xs h = record { along = h.along.feed; across = h.across.feed; speed = h.speed.feed; throttle = h.throttle.feed; brake = h.brake.feed; belt = h.belt.feed; lamp = h.lamp.feed; restraint = h.restraint.feed }
+all-fed-feeds t xs h = each-feeds (feeds_given xs) (λ s. subst (IsFeed s) (sym (items_of-given s xs)) (h.each s).feed)
 
 near : (t : ℕ) (xs : List Sample) → AllFed t xs → (s : Sensor) → (mark_of (items_given s xs) ≤ t) × (t ≤ mark_of (items_given s xs) + 1000)
-near t xs h Along = (h.along.below, omega (arith, h.along.near))
-near t xs h Across = (h.across.below, omega (arith, h.across.near))
-near t xs h Speed = (h.speed.below, omega (arith, h.speed.near))
-near t xs h Throttle = (h.throttle.below, omega (arith, h.throttle.near))
-near t xs h Brake = (h.brake.below, omega (arith, h.brake.near))
-near t xs h Belt = (h.belt.below, omega (arith, h.belt.near))
-near t xs h Lamp = (h.lamp.below, omega (arith, h.lamp.near))
-near t xs h Restraint = (h.restraint.below, omega (arith, h.restraint.near))
+near t xs h s = let fed = h.each s in let few = since-few s t in (fed.below, omega (arith, fed.near, few))
 
 pub all-fed-level : (t : ℕ) (xs : List Sample) → AllFed t xs → IsLevel (feeds_given xs)
 all-fed-level t xs h = λ s r. rw (items_of-given s xs, items_of-given r xs) (omega (arith, (near t xs h s).0, (near t xs h r).1))

@@ -3,17 +3,20 @@ use Rattle.std.proofs.Common.{arith, ◌≡◌, ap, refl, ℕ, zero, suc, ◌+�
 use Rattle.std.specs.List.{AllByRecursion}
 use Rattle.std.proofs.lemmas.List.{map-append}
 use Rattle.std.proofs.lemmas.Bool.Decides.{nat_tests}
+use Rattle.std.specs.Option.{option_map_or}
+use Rattle.edr_items.specs.declared.Sensor.{Sensor}
 use Rattle.edr_items.specs.declared.Sensor.TheVariants.{Along}
 use Rattle.edr_items.specs.Sensor.{is_in_range}
+use Rattle.edr_items.specs.PerSlowSensor.{slow_sensors, slow_value_of}
 use Rattle.edr_spell.specs.declared.Row.TheVariants as row
 use Rattle.edr_spell.specs.Rows.{IsRow, highest_u32, is_i32}
 use Rattle.edr_spell.specs.Samples.{row_for}
 use Rattle.edr_spell.specs.Spell.{Spell, SpellCycles, SpellsCycle}
 use Rattle.edr_spell.proofs.WrittenLemmas.{written-spelled}
-use Rattle.edr_gen.specs.declared.plan.TheConstants.{TICKS}
+use Rattle.edr_gen.specs.declared.plan.TheConstants.{SLOW_SAID, TICKS}
 use Rattle.edr_gen.specs.declared.plan.Impulse.{Impulse}
 use Rattle.edr_gen.specs.Draws.{Planned, draw, impulse_count, plan_from, state_past, stop_by}
-use Rattle.edr_gen.specs.Cycles.{acting_at, along_of, across_of, crash_samples, has_firing, restraint_samples, samples_after, samples_at, slow_samples}
+use Rattle.edr_gen.specs.Cycles.{acting_at, along_of, across_of, crash_samples, has_firing, restraint_samples, samples_after, samples_at, slow_sample, slow_samples}
 use Rattle.edr_gen.specs.Traces.{cycle_of, generated_cycles, generated_rows, generated_trace, rows_of, samples_of}
 use Rattle.edr_gen.proofs.RangeLemmas.{IsInRange, acting-range, all-append, impulses-range, leq}
 use Rattle.edr_gen.proofs.FedLemmas.{AllFed, all-fed-after, all-fed-feeds, all-fed-level, all-fed-none}
@@ -31,13 +34,27 @@ range-i32 : (v : ℤ) → is_in_range Along v ≡ true → is_i32 v ≡ true
 range-i32 (pos n) h = leq n 2147483647 (omega (arith, up-to n 100000 h))
 range-i32 (negsuc n) h = rw (leq n 2147483647 (omega (arith, up-to n 99999 (first (nat_le n 99999) true h)))) refl
 
+said-i32 : (s : Sensor) → option_map_or is_i32 (slow_value_of s SLOW_SAID) true ≡ true
+said-i32 Along = refl
+said-i32 s = refl
+
+rows-slow : (ss : List Sensor) (t : ℕ) → t ≤ highest_u32 → AllByRecursion IsRow (map row_for (map (slow_sample t) ss))
+rows-slow [] t h = tt
+rows-slow (s ∷ ss) t h = ((h, said-i32 s), rows-slow ss t h)
+
+rows-sampled : (b : Bool) (t : ℕ) → t ≤ highest_u32 → AllByRecursion IsRow (map row_for (slow_samples b t))
+rows-sampled true t h = rows-slow slow_sensors t h
+rows-sampled false t h = tt
+
+rows-restraint : (f q : Bool) (t : ℕ) → t ≤ highest_u32 → AllByRecursion IsRow (map row_for (restraint_samples f q t))
+rows-restraint true q t h = ((h, refl), tt)
+rows-restraint false true t h = ((h, refl), tt)
+rows-restraint false false t h = tt
+
 rows-by : (a c : ℤ) (t : ℕ) (b f q : Bool) → is_i32 a ≡ true → is_i32 c ≡ true → t ≤ highest_u32 → AllByRecursion IsRow (map row_for (crash_samples a c t ++ slow_samples b t ++ restraint_samples f q t))
-rows-by a c t true true q r s h = ((h, r), ((h, s), ((h, refl), ((h, refl), ((h, refl), ((h, refl), ((h, refl), ((h, refl), tt))))))))
-rows-by a c t true false true r s h = ((h, r), ((h, s), ((h, refl), ((h, refl), ((h, refl), ((h, refl), ((h, refl), ((h, refl), tt))))))))
-rows-by a c t true false false r s h = ((h, r), ((h, s), ((h, refl), ((h, refl), ((h, refl), ((h, refl), ((h, refl), tt)))))))
-rows-by a c t false true q r s h = ((h, r), ((h, s), ((h, refl), tt)))
-rows-by a c t false false true r s h = ((h, r), ((h, s), ((h, refl), tt)))
-rows-by a c t false false false r s h = ((h, r), ((h, s), tt))
+rows-by a c t b f q r s h =
+    let rest = all-append IsRow (map row_for (slow_samples b t)) (map row_for (restraint_samples f q t)) (rows-sampled b t h) (rows-restraint f q t h) in
+    ((h, r), ((h, s), rw (map-append row_for (slow_samples b t) (restraint_samples f q t)) rest))
 
 rows-at : (impulses : List Impulse) (t : ℕ) → AllByRecursion IsInRange impulses → t ≤ highest_u32 → AllByRecursion IsRow (map row_for (samples_at impulses t))
 unfolding samples_at

@@ -1,10 +1,12 @@
 -- What the sensors give in a planned cycle.
-use Rattle.std.specs.Prelude.{◌≡◌, ◌+◌, ◌%◌, ◌==◌, ◌&&◌, nat_lt, nat_le, ℕ, zero, suc, ℤ, pos, Bool, true, false, Option, Some, None, find, List, [], ◌∷◌, ◌++◌}
+use Rattle.std.specs.Prelude.{◌≡◌, ◌+◌, ◌%◌, ◌==◌, ◌&&◌, nat_lt, nat_le, ℕ, zero, suc, ℤ, pos, Bool, true, false, Option, Some, None, find, List, [], ◌∷◌, ◌++◌, map}
 use Rattle.std.specs.List.{list_any}
 use Rattle.edr_items.specs.declared.Sensor.{Sensor}
-use Rattle.edr_items.specs.declared.Sensor.TheVariants.{Along, Across, Speed, Throttle, Brake, Belt, Lamp, Restraint}
+use Rattle.edr_items.specs.declared.Sensor.TheVariants.{Along, Across, Restraint}
+use Rattle.edr_items.specs.PerSlowSensor.{slow_sensors, slow_value_of}
 use Rattle.edr_items.specs.SensorLists.{SensorLists}
 use Rattle.edr_spell.specs.Samples.{Sample, feeds_given}
+use Rattle.edr_gen.specs.declared.plan.TheConstants.{SLOW_SAID}
 use Rattle.edr_gen.specs.declared.plan.Impulse.{Impulse}
 
 -- the impulse acts at the tick
@@ -39,9 +41,12 @@ sample s t value = record { sensor = s; item = record { moment = t; value = valu
 abbrev pub crash_samples : ℤ → ℤ → ℕ → List Sample
 crash_samples along across t = sample Along t (Some along) ∷ sample Across t (Some across) ∷ []
 
--- the five slow sensors sample together, or don't
+-- the slow sensors sample together, or don't
+abbrev pub slow_sample : ℕ → Sensor → Sample
+slow_sample t s = sample s t (slow_value_of s SLOW_SAID)
+
 abbrev pub slow_samples : Bool → ℕ → List Sample
-slow_samples true t = sample Speed t (Some (pos 60)) ∷ sample Throttle t (Some (pos 20)) ∷ sample Brake t (Some (pos 0)) ∷ sample Belt t (Some (pos 1)) ∷ sample Lamp t (Some (pos 0)) ∷ []
+slow_samples true t = map (slow_sample t) slow_sensors
 slow_samples false t = []
 
 -- the driver's frontal air bag fires, or the restraints say that they were silent, or nothing

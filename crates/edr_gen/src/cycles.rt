@@ -1,13 +1,14 @@
 //! The cycles of a generated trace, without its bytes.
 ghost use Rattle.std.specs.Prelude.{◌≡◌, ◌+◌, ◌%◌, ◌<◌, ◌==◌, ◌^◌, ◌∷◌, [], IfOk, None, Some, OnOk, pos};
+ghost use Rattle.edr_items.specs.PerSlowSensor.{slow_value_of};
 ghost use Rattle.edr_spell.specs.Samples.{feeds_given};
 ghost use Rattle.edr_gen.specs.Cycles.{GivesSamples, crash_samples, restraint_samples, sample, samples_at, slow_samples};
 ghost use Rattle.edr_gen.specs.Draws.{plan_from, state_past};
 ghost use Rattle.edr_gen.specs.Traces.{cycle_of, samples_of};
 
 use crate::draws::Draws;
-use crate::plan::{Plan, TICKS, across_of, along_of};
-use edr_items::{Feeds, Item, Sensor};
+use crate::plan::{Plan, SLOW_SAID, TICKS, across_of, along_of};
+use edr_items::{Feeds, Item, SLOW_SENSORS, Sensor};
 use edr_spell::CycleInput;
 use std::alloc::{AllocError as OutOfMemory, Global};
 use std::marker::Model;
@@ -27,16 +28,21 @@ fn give(
     }
 }
 
-// Gives what the five slow sensors say at a tick.
+// What a slow sensor says, whenever it says something.
+fn slow_said(sensor: Sensor) -> Option<i32>
+    ensures { result ≡ slow_value_of sensor SLOW_SAID }
+{
+    SLOW_SAID.of(sensor).copied()
+}
+
+// Gives what the slow sensors say at a tick.
 fn give_slow(feeds: &mut Feeds, tick: u32) -> Result<(), OutOfMemory>
     ensures { OnOk result (GivesSamples (slow_samples (tick % 100 == 0) tick) feeds.old feeds.new) }
 {
     if tick % 100 == 0 {
-        give(feeds, Sensor::Speed, tick, Some(60))?;
-        give(feeds, Sensor::Throttle, tick, Some(20))?;
-        give(feeds, Sensor::Brake, tick, Some(0))?;
-        give(feeds, Sensor::Belt, tick, Some(1))?;
-        give(feeds, Sensor::Lamp, tick, Some(0))?;
+        for sensor in SLOW_SENSORS {
+            give(feeds, sensor, tick, slow_said(sensor))?;
+        }
     }
     Ok(())
 }

@@ -3,10 +3,20 @@ ghost use Rattle.std.specs.Prelude.{◌≡◌};
 ghost use Rattle.edr_gen.specs.Cycles.{acts_at, fires_at, acting_at, has_firing, along_of, across_of};
 
 use arrayvec::ArrayVec;
+use edr_items::PerSlowSensor;
 use std::marker::Model;
 
 /// How many ticks of 1 ms a generated cycle has.
 pub const TICKS: u32 = 18_000;
+
+/// What each slow sensor says at every 100th tick.
+pub(crate) const SLOW_SAID: PerSlowSensor<i32> = PerSlowSensor {
+    speed: 60,
+    throttle: 20,
+    brake: 0,
+    belt: 1,
+    lamp: 0,
+};
 
 /// How long after the start of an impulse an air bag fires, in ticks.
 const FIRING: u32 = 30;

@@ -1,66 +1,42 @@
 -- Marks and the horizon; feeds are level exactly where no sensor lags.
-use Rattle.std.proofs.Common.{arith, ap, sym, ◌≡◌, ◌∙◌, refl, ℕ, suc, ◌+◌, ◌<◌, ◌≤◌, Bool, true, false, cond, nat_lt, Some, None, List, [], ◌∷◌, length, drop, slice_index_or, drop-cons, add-one}
+use Rattle.std.proofs.Common.{arith, ap, subst, sym, ◌≡◌, ◌∙◌, refl, ℕ, zero, suc, ◌+◌, ◌-◌, ◌<◌, ◌≤◌, Bool, true, false, cond, nat_lt, Some, None, List, [], ◌∷◌, length, drop, slice_index_or, drop-cons, add-one}
 use Rattle.std.proofs.lemmas.Bool.Decides.{nat_tests}
 use Rattle.std.specs.List.{find}
 use Rattle.edr_items.specs.declared.Sensor.{Sensor}
-use Rattle.edr_items.specs.declared.Sensor.TheVariants.{Along, Across, Speed, Throttle, Brake, Belt, Lamp, Restraint}
+use Rattle.edr_items.specs.declared.Sensor.TheVariants.{Along}
+use Rattle.edr_items.specs.Sensor.{number_of}
+use Rattle.edr_items.specs.PerSensor.{map_values}
 use Rattle.edr_items.specs.Item.{mark_of}
 use Rattle.edr_items.specs.SensorLists.{SensorLists, items_of, horizon_of, greatest_mark, sensors, is_behind, lagging_of, IsLevel}
+use Rattle.edr_items.proofs.PerSensorLemmas.{value_of-map, least-above, most-below}
 
 -- each mark is at most the greatest
 pub mark-le_greatest : (f : SensorLists) (r : Sensor) → mark_of (items_of r f) ≤ greatest_mark f
 mark-le_greatest f Along = omega arith
-mark-le_greatest f Across = omega arith
-mark-le_greatest f Speed = omega arith
-mark-le_greatest f Throttle = omega arith
-mark-le_greatest f Brake = omega arith
-mark-le_greatest f Belt = omega arith
-mark-le_greatest f Lamp = omega arith
-mark-le_greatest f Restraint = omega arith
+mark-le_greatest f r = omega arith
 
 -- what all marks are below, the greatest is
 greatest-below : (f : SensorLists) (n : ℕ) → ((r : Sensor) → mark_of (items_of r f) ≤ n) → greatest_mark f ≤ n
-greatest-below f n h =
-    let a = h Along in
-    let b = h Across in
-    let c = h Speed in
-    let d = h Throttle in
-    let e = h Brake in
-    let g = h Belt in
-    let i = h Lamp in
-    let j = h Restraint in
-    omega arith
+greatest-below f n h = most-below (map_values mark_of f) n (λ s. subst (λ m. m ≤ n) (sym (value_of-map mark_of s f)) (h s))
 
 -- no mark is below the horizon
 pub horizon-least : (f : SensorLists) (s : Sensor) → horizon_of f ≤ mark_of (items_of s f)
 horizon-least f Along = omega arith
-horizon-least f Across = omega arith
-horizon-least f Speed = omega arith
-horizon-least f Throttle = omega arith
-horizon-least f Brake = omega arith
-horizon-least f Belt = omega arith
-horizon-least f Lamp = omega arith
-horizon-least f Restraint = omega arith
+horizon-least f s = omega arith
 
 -- what no mark is below, the horizon isn't below
 pub horizon-above : (f : SensorLists) (n : ℕ) → ((s : Sensor) → n ≤ mark_of (items_of s f)) → n ≤ horizon_of f
-horizon-above f n h =
-    let a = h Along in
-    let b = h Across in
-    let c = h Speed in
-    let d = h Throttle in
-    let e = h Brake in
-    let g = h Belt in
-    let i = h Lamp in
-    let j = h Restraint in
-    omega arith
+horizon-above f n h = least-above (map_values mark_of f) n (λ s. subst (λ m. n ≤ m) (sym (value_of-map mark_of s f)) (h s))
 
-find-cons : (p : Sensor → Bool) (x : Sensor) (xs : List Sensor) → find p (x ∷ xs) ≡ None → (p x ≡ false) × (find p xs ≡ None)
-find-cons p x xs h = by (p x) refl h
+find-fails : (p : Sensor → Bool) (xs : List Sensor) → find p xs ≡ None → (k : ℕ) (d : Sensor) → k < length xs → p (slice_index_or xs k d) ≡ false
+find-fails p [] h k d lt = absurd (omega arith)
+find-fails p (x ∷ xs) h k d lt = by (p x) refl h (λ none j in_list. find-fails p xs none j d in_list) k lt
   where
-    by : (b : Bool) → p x ≡ b → cond b (Some x) (find p xs) ≡ None → (p x ≡ false) × (find p xs ≡ None)
-    by true e k = cc
-    by false e k = (e, k)
+    by : (b : Bool) → p x ≡ b → cond b (Some x) (find p xs) ≡ None → (find p xs ≡ None → (j : ℕ) → j < length xs → p (slice_index_or xs j d) ≡ false)
+        → (j : ℕ) → j < length (x ∷ xs) → p (slice_index_or (x ∷ xs) j d) ≡ false
+    by true e none rest j in_list = cc
+    by false e none rest zero in_list = e
+    by false e none rest (suc j) in_list = rest none j (omega arith)
 
 pub find-none : (p : Sensor → Bool) (xs : List Sensor) → ((x : Sensor) → p x ≡ false) → find p xs ≡ None
 find-none p [] h = refl
@@ -68,16 +44,11 @@ find-none p (x ∷ xs) h = rw (h x) (find-none p xs h)
 
 -- a test that finds none of the sensors fails at each
 pub none-found : (p : Sensor → Bool) → find p sensors ≡ None → (s : Sensor) → p s ≡ false
-none-found p h s =
-    let a = find-cons p Along (Across ∷ Speed ∷ Throttle ∷ Brake ∷ Belt ∷ Lamp ∷ Restraint ∷ []) h in
-    let b = find-cons p Across (Speed ∷ Throttle ∷ Brake ∷ Belt ∷ Lamp ∷ Restraint ∷ []) a.1 in
-    let c = find-cons p Speed (Throttle ∷ Brake ∷ Belt ∷ Lamp ∷ Restraint ∷ []) b.1 in
-    let d = find-cons p Throttle (Brake ∷ Belt ∷ Lamp ∷ Restraint ∷ []) c.1 in
-    let e = find-cons p Brake (Belt ∷ Lamp ∷ Restraint ∷ []) d.1 in
-    let g = find-cons p Belt (Lamp ∷ Restraint ∷ []) e.1 in
-    let i = find-cons p Lamp (Restraint ∷ []) g.1 in
-    let j = find-cons p Restraint ([]) i.1 in
-    elim s as (λ t. p t ≡ false) [ Along ↦ a.0 | Across ↦ b.0 | Speed ↦ c.0 | Throttle ↦ d.0 | Brake ↦ e.0 | Belt ↦ g.0 | Lamp ↦ i.0 | Restraint ↦ j.0 ]
+none-found p h s = subst (λ r. p r ≡ false) (listed s).1 (find-fails p sensors h (number_of s - 1) Along (listed s).0)
+  where
+    listed : (r : Sensor) → (number_of r - 1 < length sensors) × (slice_index_or sensors (number_of r - 1) Along ≡ r)
+    listed Along = (omega arith, refl)
+    listed r = (omega arith, refl)
 
 lt-false : (m n : ℕ) → nat_lt m n ≡ false → n ≤ m
 lt-false m n h = grind (arith, nat_tests)

@@ -1,5 +1,5 @@
 -- Laws of values of the eight sensors.
-use Rattle.std.proofs.Common.{arith, ◌≡◌, ◌∙◌, ℕ, ◌+◌, refl, ◌⊎◌, inl, inr, false, nat_eq}
+use Rattle.std.proofs.Common.{arith, ◌≡◌, ◌∙◌, ℕ, ◌+◌, ◌≤◌, min, max, refl, ◌⊎◌, inl, inr, false, nat_eq}
 use Rattle.edr_items.specs.declared.Sensor.{Sensor}
 use Rattle.edr_items.specs.declared.Sensor.TheVariants.{Along, Across, Speed, Throttle, Brake, Belt, Lamp, Restraint}
 use Rattle.edr_items.specs.declared.per_sensor.PerSensor.{PerSensor}
@@ -109,3 +109,30 @@ total-with h Brake x p = omega arith
 total-with h Belt x p = omega arith
 total-with h Lamp x p = omega arith
 total-with h Restraint x p = omega arith
+
+-- what no value is below, the least isn't below, and what none is above, the greatest isn't
+pub least-above : (p : PerSensor ℕ) (n : ℕ) → ((s : Sensor) → n ≤ value_of s p)
+    → n ≤ min (min (min p.along p.across) (min p.speed p.throttle)) (min (min p.brake p.belt) (min p.lamp p.restraint))
+least-above p n h =
+    let a = h Along in
+    let b = h Across in
+    let c = h Speed in
+    let d = h Throttle in
+    let e = h Brake in
+    let g = h Belt in
+    let i = h Lamp in
+    let j = h Restraint in
+    omega arith
+
+pub most-below : (p : PerSensor ℕ) (n : ℕ) → ((s : Sensor) → value_of s p ≤ n)
+    → max (max (max p.along p.across) (max p.speed p.throttle)) (max (max p.brake p.belt) (max p.lamp p.restraint)) ≤ n
+most-below p n h =
+    let a = h Along in
+    let b = h Across in
+    let c = h Speed in
+    let d = h Throttle in
+    let e = h Brake in
+    let g = h Belt in
+    let i = h Lamp in
+    let j = h Restraint in
+    omega arith

@@ -48,13 +48,7 @@ value-plain (Some (negsuc n)) = numeral-plain (suc n)
 
 sensor-plain : (x : Sensor) → list_any is_special (spelling_of (w.Of x)) ≡ false
 sensor-plain s.Along = refl
-sensor-plain s.Across = refl
-sensor-plain s.Speed = refl
-sensor-plain s.Throttle = refl
-sensor-plain s.Brake = refl
-sensor-plain s.Belt = refl
-sensor-plain s.Lamp = refl
-sensor-plain s.Restraint = refl
+sensor-plain x = refl
 
 -- the line of a row has no special byte
 pub line_for-plain : (r : Row) → IsPlain (line_for r)
@@ -65,13 +59,7 @@ line_for-plain (row.Cut k) = (refl, numeral-plain k, refl)
 word_of-sensor : (x : Sensor) → word_of (spelling_of (w.Of x)) ≡ Some (w.Of x)
 unfolding word_of
 word_of-sensor s.Along = refl
-word_of-sensor s.Across = refl
-word_of-sensor s.Speed = refl
-word_of-sensor s.Throttle = refl
-word_of-sensor s.Brake = refl
-word_of-sensor s.Belt = refl
-word_of-sensor s.Lamp = refl
-word_of-sensor s.Restraint = refl
+word_of-sensor x = refl
 
 within : (n limit : ℕ) → n ≤ limit → up_to limit (natural_in (numeral n)) ≡ Ok n
 within n limit h = ap (up_to limit) (natural_in-numeral n) ∙ rw (le n limit h) refl
@@ -105,16 +93,8 @@ lines-plain (r ∷ rows) = (line_for-plain r, lines-plain rows)
 
 no-mark : (rows : List Row) → get_or (text_of rows) 0 0 ≢ 239
 no-mark [] = λ e. omega (arith, e)
-no-mark (row.On k ∷ rows) = λ e. omega (arith, e)
 no-mark (row.Sample s.Along i ∷ rows) = λ e. omega (arith, e)
-no-mark (row.Sample s.Across i ∷ rows) = λ e. omega (arith, e)
-no-mark (row.Sample s.Speed i ∷ rows) = λ e. omega (arith, e)
-no-mark (row.Sample s.Throttle i ∷ rows) = λ e. omega (arith, e)
-no-mark (row.Sample s.Brake i ∷ rows) = λ e. omega (arith, e)
-no-mark (row.Sample s.Belt i ∷ rows) = λ e. omega (arith, e)
-no-mark (row.Sample s.Lamp i ∷ rows) = λ e. omega (arith, e)
-no-mark (row.Sample s.Restraint i ∷ rows) = λ e. omega (arith, e)
-no-mark (row.Cut k ∷ rows) = λ e. omega (arith, e)
+no-mark (r ∷ rows) = λ e. omega (arith, e)
 
 pub written-spelled : (rows : List Row) (cycles : List CycleInput) → AllByRecursion IsRow rows → SpellCycles rows cycles → Spell (text_of rows) cycles
 written-spelled rows cycles are spelled = record {

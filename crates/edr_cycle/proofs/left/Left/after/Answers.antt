@@ -1,7 +1,5 @@
-use Rattle.std.proofs.Common.{rules, sym, ◌∙◌, ◌-◌}
-use Rattle.std.specs.Prelude.{slice_index}
-use Rattle.edr_items.specs.Sensor.{number_of}
-use Rattle.edr_items.specs.PerSensor.{map_values}
+use Rattle.std.proofs.Common.{rules, sym, ◌∙◌}
+use Rattle.edr_items.specs.PerSensor.{map_values, value_of}
 use Rattle.edr_items.specs.SensorLists.{items_of}
 use Rattle.edr_items.proofs.PerSensorLemmas.{values-same, value_of-map, value_of-by}
 use Rattle.edr_items.proofs.FeedLemmas.{each-feeds}
@@ -12,7 +10,7 @@ pub returns-clause-left : goal.returns-clause-left
 returns-clause-left c =
     values-same (map_values (λ l. l.now) c.from_fn.result) (lists_past c.args.last.now c.args.feeds.now)
     (λ s. value_of-map (λ l. l.now) s c.from_fn.result ∙ (let h = c.from_fn.ensures s in search rules)
-    ∙ sym (value_of-by (λ r. past (slice_index c.args.last.now (number_of r - 1)) (items_of r c.args.feeds.now)) s))
+    ∙ sym (value_of-by (λ r. past (value_of r c.args.last.now) (items_of r c.args.feeds.now)) s))
 
 pub returns-clause-feeds : goal.returns-clause-feeds
 returns-clause-feeds c = each-feeds c.args.feeds.now (λ s. let h = c.from_fn.ensures s in search rules)
