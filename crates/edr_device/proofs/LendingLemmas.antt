@@ -1,12 +1,12 @@
 -- A memory that is lent to one call after another, and the time that they take.
-use Rattle.std.proofs.Common.{◌≡◌, ◌⊎◌, ◌+◌, ◌≤◌, ◌<◌, ◌∙◌, ℕ, Result, Ok, Err, List, Option, Some, None, inl, inr, ⊎_elim, refl, arith}
+use Rattle.std.proofs.Common.{◌≡◌, ◌⊎◌, ◌+◌, ◌≤◌, ◌<◌, ◌∙◌, ℕ, Result, Ok, Err, IsErr, List, Option, Some, None, inl, inr, ⊎_elim, refl, arith}
 use Rattle.std.proofs.Math.Nat.{le_trans}
-use Rattle.edr_device.specs.Device.{StillTells}
-use Rattle.edr_device.specs.Faults.{HasCause}
+use Rattle.edr_device.specs.Device.{StillTells, Ticks}
+use Rattle.edr_device.specs.Faults.{HasCause, last_number}
 use Rattle.edr_device.specs.Lent.{Lent}
 use Rattle.edr_device.specs.Pieces.{Makes}
 use Rattle.edr_device.specs.declared.device.Nvm.{Ghosts}
-use Rattle.edr_device.proofs.SettlingLemmas.{tells_again}
+use Rattle.edr_device.proofs.SettlingLemmas.{rose_of, tells_again}
 
 pub tells_self : (content : Option (List ℕ)) → StillTells content content
 tells_self None = tt
@@ -21,7 +21,7 @@ lent_failed old new e f lent = record {
   cause = record { later = lent.cause.later; failed = lent.cause.failed };
 }
 
-cause_again : {U F : Type 0} (a b c : ℕ) (r : Result U F) → a ≤ b → HasCause b c r → HasCause a c r
+pub cause_again : {U F : Type 0} (a b c : ℕ) (r : Result U F) → a ≤ b → HasCause b c r → HasCause a c r
 cause_again a b c (Ok x) before cause = record { later = le_trans before cause.later; failed = tt }
 cause_again a b c (Err e) before cause = record {
   later = le_trans before cause.later;
@@ -41,6 +41,16 @@ lent_again {g = g} old mid new x r on first second = record {
 
 pub none_made : {T E : Type 0} (before good : ℕ) (x : T) → Makes {T = T} {E = E} 0 before before good good (Ok x)
 none_made before good x = record { later = omega arith; ok = omega arith; good_is = (λ some. absurd (omega arith), λ none. refl); few = tt; made = tt; last = tt }
+
+-- one write or sync
+pub makes_one : {T E A : Type 0} (before now good good' : ℕ) (r : Result T E) → before ≤ last_number → Ticks before now good good' r → (before ≡ last_number → IsErr r × A) → Makes 1 before now good good' r
+makes_one before now good good' (Ok x) fits t full =
+    let clock = t.clock in
+    let rose = rose_of before now clock fits full in
+    record { later = t.later; ok = omega (arith, clock, rose); good_is = (λ some. t.ok, λ none. absurd (omega (arith, none))); few = tt; made = tt; last = tt }
+makes_one before now good good' (Err e) fits t full =
+    let clock = t.clock in
+    record { later = t.later; ok = tt; good_is = tt; few = omega (arith, clock); made = λ room. omega (arith, clock, room, fits); last = λ room. inl (omega (arith, clock, room, fits), t.err) }
 
 -- a run of calls that failed, and would have been longer
 pub makes_first : {T E U F : Type 0} (n m before now good good' : ℕ) (e : E) (f : F) → Makes {T = T} n before now good good' (Err e) → Makes {T = U} (n + m) before now good good' (Err f)

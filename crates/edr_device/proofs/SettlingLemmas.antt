@@ -72,6 +72,12 @@ quiet_written at piece bytes old mid new settled settled' settled'' q w s = go m
     go (Some now) None w s = absurd s
     go (Some now) (Some after) w s = (ap Some (s.0 ∙ w.bytes), s.1)
 
+-- a good write, and a sync that may have been good
+pub written_if_synced : {T E : Type 0} (at : ℕ) (piece : List ℕ) (r : Result T E) (old mid new : Option (List ℕ)) (settled settled' settled'' : ℕ → Bool)
+    → Told (λ a b. Writes at piece settled a b settled') old mid → Synced r mid settled' new settled'' → OnOk r ((bytes : List ℕ) → IsQuiet old settled bytes → IsQuiet new settled'' (put_at at piece bytes))
+written_if_synced at piece (Ok x) old mid new settled settled' settled'' w s = λ bytes q. quiet_written at piece bytes old mid new settled settled' settled'' q w s
+written_if_synced at piece (Err e) old mid new settled settled' settled'' w s = tt
+
 -- where nothing is pending, a crash leaves just the bytes
 pub quiet_leaves : (bytes : List ℕ) (content : Option (List ℕ)) (settled : ℕ → Bool) (image : List ℕ) → IsQuiet content settled bytes → MayLeave content settled image → image ≡ bytes
 quiet_leaves bytes content settled image q left = go (subst (λ (c : Option (List ℕ)). MayLeave c settled image) q.0 left)

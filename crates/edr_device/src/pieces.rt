@@ -22,8 +22,7 @@ pub fn write_settled<N: Nvm>(nvm: &mut N, at: u32, piece: &[u8]) -> Result<(), F
     ensures any_moment { LeavesMeanwhile N.Nvm (SameBut at (length piece.now)) nvm.old nvm.new }
 {
     nvm.write(at, piece)?;
-    nvm.sync()?;
-    Ok(())
+    nvm.sync()
 }
 
 /// Writes a piece of 1 to [`LONGEST_WRITE`] bytes and settles it, and then writes a gate byte and settles it: four changing calls. Its
@@ -50,6 +49,5 @@ pub fn write_gated<N: Nvm>(
         (IsGatedStop 3 at piece.now gate_at) nvm.old nvm.new }
 {
     write_settled(nvm, at, piece)?;
-    write_settled(nvm, gate_at, &[gate])?;
-    Ok(())
+    write_settled(nvm, gate_at, &[gate])
 }

@@ -11,7 +11,7 @@ use Rattle.edr_loops.specs.Lanes.{AreFastLanes, ArePartLanes, FastItems, fast_ta
 use Rattle.edr_loops.specs.Desks.{HasPosted, DeskStands}
 use Rattle.edr_drive.specs.declared.beginning.Beginning.{Beginning}
 use Rattle.edr_drive.specs.declared.beginning.SensorRings.{SensorRings}
-use Rattle.edr_drive.specs.declared.beginning.Cores.{Cores}
+use Rattle.edr_drive.specs.declared.beginning.CoreAndCaptures.{CoreAndCaptures}
 use Rattle.edr_drive.specs.declared.beginning.Crossings.{Crossings}
 use Rattle.edr_drive.specs.declared.beginning.Seats.{Seats}
 use Rattle.edr_drive.specs.Places.{HaveBegun}
@@ -35,7 +35,7 @@ pub record HaveNotPosted (s : Seats) : Type 0 where
   pub closed : closed_posted s.recorder ≡ 0
 
 -- a core of cycle n that was told nothing, and captures that keep nothing
-pub record AreFreshCores (n : ℕ) (c : Cores) : Type 0 where
+pub record AreFreshCoreAndCaptures (n : ℕ) (c : CoreAndCaptures) : Type 0 where
   pub core : SplitCoreStandsFor c.core (start_of n)
   pub captures_are : c.captures ≡ no_captures
 

@@ -2,3 +2,4 @@ pub mod Places
 pub mod Beginnings
 pub mod Desks
 pub mod Left
+pub mod Ended

@@ -1,6 +1,6 @@
 //! The recorder's desk: what its thread owns, and its steps. It asks the slow sensors for their parts of a time zero.
 
-ghost use Rattle.std.specs.Prelude.{◌≡◌, ◌≢◌, ◌≤◌, ◌+◌, ℕ, [], true, false, map};
+ghost use Rattle.std.specs.Prelude.{◌≡◌, ◌≢◌, ◌↔◌, ◌≤◌, ◌+◌, ℕ, [], true, false, map};
 ghost use Rattle.edr_items.specs.Sensor.{IsSlow};
 ghost use Rattle.edr_definitions.specs.Commands.{issue_at};
 ghost use Rattle.edr_definitions.specs.Schedule.{Give, IsAllowed};
@@ -78,7 +78,7 @@ fn settle(asker: &mut Asker, asking: &mut bool)
 // Whether it is one of the five slow sensors.
 #[inline(always)]
 fn is_slow(sensor: Sensor) -> bool
-    ensures { result ≡ true → IsSlow sensor }
+    ensures { (result ≡ true) ↔ IsSlow sensor }
 {
     let number = sensor.number();
     3 <= number && number <= 7

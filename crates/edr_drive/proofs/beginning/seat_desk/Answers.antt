@@ -6,13 +6,13 @@ use Rattle.edr_loops.specs.Lanes.{AreFastLanes, ArePartLanes, PartInlets}
 use Rattle.edr_drive.proofs.beginning.seat_desk.Goals as goal
 
 pub returns : goal.returns
-returns c = λ n cores crossings.
+returns c = λ n opened crossings.
     let desk = c.new-desk.ensures in
     let rings = crossings.rings in
     let gate = crossings.seats.gate in
     record {
       stands = λ horizon. desk.stands n horizon (record {
-        core_is = cores.core;
+        core_is = opened.core;
         asker_is = rings.asker_is;
         fast_is = rings.fast_taken_is;
         parts_are = rings.parts_taken_are;
@@ -24,5 +24,5 @@ returns c = λ n cores crossings.
       begun = rings.begun;
       pair = subst (λ (o : Outbox). AreEndsOfOrders o c.args.crossings.orders.inbox) (sym desk.rings.2) crossings.pair;
       fresh = crossings.taken;
-      captures = cores.captures_are;
+      captures = opened.captures_are;
     }

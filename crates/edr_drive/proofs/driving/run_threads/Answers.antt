@@ -1,0 +1,30 @@
+use Rattle.std.specs.Arc.{arc_value}
+use Rattle.edr_items.specs.SensorLists.{horizon_of}
+use Rattle.edr_loops.proofs.LaneLemmas.{fast_lanes-later, part_lanes-later}
+use Rattle.edr_drive.proofs.DrivenLemmas.{orders-later}
+use Rattle.edr_drive.proofs.LentLemmas.{lent-back, lent-stands}
+use Rattle.edr_drive.proofs.PlaceLemmas.{all-begun}
+use Rattle.edr_drive.proofs.driving.run_threads.Goals as goal
+
+pub with_workers-back-requires-clause-begun : goal.with_workers-back-requires-clause-begun
+with_workers-back-requires-clause-begun g c = λ κs h. c.requires.beginning.begun (arc_value c.args.feeds.now)
+
+pub with_workers-back-requires-clause-recording : goal.with_workers-back-requires-clause-recording
+with_workers-back-requires-clause-recording g c = λ κs h. (c.args.beginning.desk.core.cycle, 0, c.requires.beginning.stands 0)
+
+pub returns-clause-ended : goal.returns-clause-ended
+returns-clause-ended g c =
+    let f = arc_value c.args.feeds.now in
+    let b = c.args.beginning in
+    let begins = c.requires.beginning in
+    let back = c.with_workers-back in
+    let d = c.in-Some.desk in
+    let same = (lent-back (horizon_of f) b.desk d back.new.desk c.in-Some.is back.ensures.later).same in
+    record {
+      stands = lent-stands b.desk.core.cycle (horizon_of f) b.desk d back.new.desk c.in-Some.is back.ensures.later (begins.stands (horizon_of f));
+      lanes = fast_lanes-later f b.places.fast back.result.places.fast b.desk.fast d.fast begins.lanes back.ensures.places.fast same.fast;
+      part_lanes = part_lanes-later f b.places.slow back.result.places.slow b.desk.parts d.parts begins.part_lanes back.ensures.places.slow same.parts;
+      begun = all-begun f b.places back.result.places back.ensures.places;
+      pair = orders-later b.desk.outbox d.outbox b.inbox back.new.inbox begins.pair same.outbox back.ensures.ring;
+      captures = begins.captures;
+    }
