@@ -1,8 +1,6 @@
 //! Why a call ends without what was asked of it: the line that tells it, and the status.
 ghost use Rattle.std.specs.Prelude.{◌≡◌, ◌+◌, ◌≤◌, ◌++◌, length};
 ghost use Rattle.arrayvec.specs.ArrayString.{array_string_len};
-ghost use Rattle.edr_spell.specs.declared.Word.TheVariants.{Of};
-ghost use Rattle.edr_spell.specs.Rows.{spelling_of};
 ghost use Rattle.edr_cli.specs.Faults.{trace_words, header_words, old_words, fault_words, fault_line, status_of};
 
 use crate::status::Status;
@@ -10,10 +8,9 @@ use edr_banks::{FormatFault, OpenFault};
 use edr_cycle::StartFault;
 use edr_device::{Failed, TakeFault};
 use edr_image::{HeaderRefused, OldRefused};
-use edr_items::Sensor;
 use edr_migrate::MigrateFault;
 use edr_report::{Room, ShortLine, push_number, push_signed};
-use edr_spell::{TraceFault, TraceRefused};
+use edr_spell::{TraceFault, TraceRefused, Word};
 use edr_trace::ReadRefused;
 use std::alloc::AllocError;
 
@@ -43,22 +40,6 @@ pub enum Fault {
     Old(OldRefused),
 }
 
-fn sensor_word(sensor: Sensor) -> &'static str
-    ensures word { result.now ≡ spelling_of (Of sensor) }
-    ensures short { length result.now ≤ 9 }
-{
-    match sensor {
-        Sensor::Along => "along",
-        Sensor::Across => "across",
-        Sensor::Speed => "speed",
-        Sensor::Throttle => "throttle",
-        Sensor::Brake => "brake",
-        Sensor::Belt => "belt",
-        Sensor::Lamp => "lamp",
-        Sensor::Restraint => "restraint",
-    }
-}
-
 // Appends what is wrong with a row.
 fn push_trace_fault(line: &mut Room, fault: TraceFault)
     requires { array_string_len line.old ≤ 40 }
@@ -79,7 +60,7 @@ fn push_trace_fault(line: &mut Room, fault: TraceFault)
         TraceFault::Gap { last } => push_number(line, "gap after ", last),
         TraceFault::Skew { sensor } => {
             line.push_str("skew of ");
-            line.push_str(sensor_word(sensor));
+            line.push_str(Word::Of(sensor).spelling());
         }
         TraceFault::Unended => line.push_str("unended"),
     }

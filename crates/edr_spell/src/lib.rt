@@ -6,6 +6,9 @@
 //! reader is a crate above.
 #![tactic(auto)]
 
+ghost use Rattle.std.specs.Prelude.{◌≡◌, ◌≤◌, length};
+ghost use Rattle.edr_spell.specs.Rows.{spelling_of};
+
 pub mod laws;
 
 use edr_items::{Feeds, Item, Sensor};
@@ -34,6 +37,41 @@ pub enum Word {
     Cut,
     /// A sensor says something.
     Of(Sensor),
+}
+
+/// The words that a row may begin with.
+pub const WORDS: [Word; 10] = [
+    Word::On,
+    Word::Cut,
+    Word::Of(Sensor::Along),
+    Word::Of(Sensor::Across),
+    Word::Of(Sensor::Speed),
+    Word::Of(Sensor::Throttle),
+    Word::Of(Sensor::Brake),
+    Word::Of(Sensor::Belt),
+    Word::Of(Sensor::Lamp),
+    Word::Of(Sensor::Restraint),
+];
+
+impl Word {
+    /// How a trace spells it.
+    pub fn spelling(&self) -> &'static str
+        ensures word { result.now ≡ spelling_of self.now }
+        ensures short { length result.now ≤ 9 }
+    {
+        match self {
+            Word::On => "on",
+            Word::Cut => "cut",
+            Word::Of(Sensor::Along) => "along",
+            Word::Of(Sensor::Across) => "across",
+            Word::Of(Sensor::Speed) => "speed",
+            Word::Of(Sensor::Throttle) => "throttle",
+            Word::Of(Sensor::Brake) => "brake",
+            Word::Of(Sensor::Belt) => "belt",
+            Word::Of(Sensor::Lamp) => "lamp",
+            Word::Of(Sensor::Restraint) => "restraint",
+        }
+    }
 }
 
 /// A row of a trace.
