@@ -36,8 +36,8 @@ COPIES = (
     # The other modules have no image, but for `large_runs`, whose banks nobody reads, and `memories`, whose bytes are too few. Nor
     # has `dealt_sensors`, whose feeds others use.
     Copy('edr_tests', 'edr_tests', 36, {TESTS: ('banks', 'cycles', 'dealt_sensors', 'migrations', 'powered_runs', 'runs')}),
+    Copy('edr_tests, by threads', 'edr_tests', 5, {TESTS: ('drives',)}),
     Copy('edr_base_tests', 'edr_base_tests', 10, {BASE: ('gates',)}),
-    Copy('edr_drive', 'edr_drive', 5),
 )
 # Tests that take long and have no other image than a new one. A copy has none of them.
 LONG = {

@@ -17,6 +17,8 @@ mod desks;
 #[cfg(test)]
 mod detectors;
 #[cfg(test)]
+mod drives;
+#[cfg(test)]
 mod freezes;
 #[cfg(test)]
 mod generators;

@@ -5,12 +5,12 @@ ghost use Rattle.std.specs.Arc.{arc_value};
 ghost use Rattle.edr_device.specs.Memory.{memory_image};
 ghost use Rattle.edr_items.specs.SensorLists.{IsLevel};
 
-use crate::beginning::{Beginning, begin, ends_of};
-use crate::drive_cycle;
-use crate::threads::with_workers;
 use edr_banks::{Banks, Choice};
 use edr_cycle::{CycleEnd, Parts, run_alone, start};
 use edr_device::{Fused, MemNvm};
+use edr_drive::beginning::{Beginning, begin, ends_of};
+use edr_drive::drive_cycle;
+use edr_drive::threads::with_workers;
 use edr_items::{Feeds, Item, Sensor, level_is_none_lagging};
 use edr_loops::Gate;
 use std::alloc::Global;

@@ -1,5 +1,5 @@
 use Rattle.std.specs.Arc.{arc_value}
-use Rattle.edr_drive.proofs.tests.check_threads.Goals as goal
+use Rattle.edr_tests.proofs.drives.check_threads.Goals as goal
 
 pub with_workers-back-requires-clause-begun : goal.with_workers-back-requires-clause-begun
 with_workers-back-requires-clause-begun g c κs within = c.in_ok-places.ensures.begun (arc_value c.args.feeds.now)
