@@ -75,20 +75,11 @@ fn settle(asker: &mut Asker, asking: &mut bool)
     }
 }
 
-// Whether it is one of the five slow sensors.
-#[inline(always)]
-fn is_slow(sensor: Sensor) -> bool
-    ensures { (result ≡ true) ↔ IsSlow sensor }
-{
-    let number = sensor.number();
-    3 <= number && number <= 7
-}
-
 // Whether the part is one of that slow sensor.
 fn is_of(part: &Part, sensor: Sensor) -> bool
-    ensures { result ≡ true → IsSlow part.now.sensor × (part.now.sensor ≡ sensor) }
+    ensures { (result ≡ true) ↔ (IsSlow sensor × (part.now.sensor ≡ sensor)) }
 {
-    part.sensor == sensor && is_slow(sensor)
+    part.sensor == sensor && sensor.is_slow()
 }
 
 // Gives an item to the core. It answers whether it was taken, as one that the schedule allows is.
@@ -163,7 +154,7 @@ impl Desk {
         ensures seat { SeatStays self.old self.new }
         ensures held { self.new.held ≡ self.old.held }
     {
-        if !is_slow(sensor) {
+        if !sensor.is_slow() {
             return false;
         }
         let mark = self.asker.mark(sensor);

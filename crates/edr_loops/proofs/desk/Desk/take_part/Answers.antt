@@ -1,4 +1,5 @@
-use Rattle.std.proofs.Common.{refl}
+use Rattle.std.proofs.Common.{refl, subst, sym}
+use Rattle.edr_items.specs.Sensor.{IsSlow}
 use Rattle.edr_loops.proofs.LaterLemmas.{same-taken_part, recording-later}
 use Rattle.edr_loops.proofs.DeskLemmas.{stands-aside, stands-none, stands-part_or}
 use Rattle.edr_loops.proofs.desk.Desk.take_part.Goals as goal
@@ -13,8 +14,9 @@ pub returns-then-is_of-clause-later : goal.returns-then-is_of-clause-later
 returns-then-is_of-clause-later c = record {
   same = same-taken_part c.args.self.now c.part.new.self c.take.new.inlets c.in-Some.ensures.rings;
   stands = λ n e low s.
+      let is = c.is_of.ensures.0 c.if-is_of.true in
       stands-part_or n e c.args.sensor c.in-Some.own c.args.self.now c.part.new.self c.take.new.inlets c.in-Some.ensures.taken s
-      (c.is_of.ensures c.if-is_of.true).0 (c.is_of.ensures c.if-is_of.true).1 c.part.result c.part.ensures.ok c.part.ensures.err;
+      (subst IsSlow (sym is.1) is.0) is.1 c.part.result c.part.ensures.ok c.part.ensures.err;
 }
 
 pub returns-else-is_of-clause-later : goal.returns-else-is_of-clause-later
