@@ -5,7 +5,7 @@ use Rattle.atomic_table.specs.Seated.{TableId}
 use Rattle.edr_items.specs.declared.Sensor.{Sensor}
 use Rattle.edr_items.specs.declared.Sensor.TheVariants.{Speed, Throttle, Brake, Belt, Lamp}
 use Rattle.edr_items.specs.declared.per_slow_sensor.PerSlowSensor.{PerSlowSensor}
-use Rattle.edr_items.specs.PerSlowSensor.{slow_value_of, with_slow_value, each_slow_value, slow_values_by}
+use Rattle.edr_items.specs.PerSlowSensor.{EachSlow, slow_at, slow_value_of, with_slow_value, each_slow_value, slow_values_by}
 use Rattle.edr_items.specs.Sensor.{number_of}
 use Rattle.edr_board.specs.declared.freeze_seats.Freeze.{Freeze}
 use Rattle.edr_board.specs.declared.freeze_seats.Asker.{Asker}
@@ -93,12 +93,8 @@ pub record SameKeeper (a b : Keeper) : Type 0 where
   pub place : b.place ≡ a.place
 
 -- each of these marks has reached the zero
-pub record AllReach (z : ℕ) (m : SlowMarks) : Type 0 where
-  pub speed : z ≤ m.speed
-  pub throttle : z ≤ m.throttle
-  pub brake : z ≤ m.brake
-  pub belt : z ≤ m.belt
-  pub lamp : z ≤ m.lamp
+abbrev pub AllReach : ℕ → SlowMarks → Type 0
+AllReach z m = EachSlow (λ s. z ≤ slow_at s m)
 
 -- an asker of this freeze that has granted what is granted at first, asked for nothing and read no mark
 pub record IsFreshAsker (id : TableId) (a : Asker) : Type 0 where

@@ -73,7 +73,7 @@ within-merged c w h = subst (λ f. (merged w).closed ≤ horizon_of f) (merged-g
 pub closed-early : (c : SplitContents) (w : History) → SplitCoreStandsFor c w → c.closed ≤ 86_400_000
 closed-early c w h =
     let low = horizon-least w.past.given Along in
-    let high = IsFeedAfter-within Along 0 w.past.given.along (omega arith) (feeds-of c w h).along in
+    let high = IsFeedAfter-within Along 0 w.past.given.along (omega arith) (feeds-of c w h Along) in
     let is = h.closed_is in
     let within = h.whole_is.core_is.within in
     omega (arith, low, high, is, within)

@@ -9,12 +9,13 @@ use Rattle.edr_items.specs.Item.{mark_of}
 use Rattle.edr_items.specs.Sensor.{IsSlow}
 use Rattle.edr_items.specs.PerSlowSensor.{slow_sensors, slow_at}
 use Rattle.edr_items.specs.SensorLists.{SensorLists, no_items, items_of}
-use Rattle.edr_items.proofs.PerSlowSensorLemmas.{AreApart, slow-apart, each-slow, value_of-slow}
+use Rattle.edr_items.proofs.PerSensorLemmas.{value_of-each}
+use Rattle.edr_items.proofs.PerSlowSensorLemmas.{AreApart, slow-apart, value_of-slow, slow_at-each}
 use Rattle.edr_record.specs.declared.Command.{Command}
 use Rattle.edr_definitions.specs.Commands.{issue_at, issues, commands}
 use Rattle.edr_definitions.specs.Schedule.{Progress, Give, Close, IsAllowed, after_step, with_item}
 use Rattle.edr_definitions.proofs.KeepLaws.{accepted-later}
-use Rattle.edr_definitions.proofs.MarkLaws.{with_items-each, AreFeeds-each}
+use Rattle.edr_definitions.proofs.MarkLaws.{with_items-each}
 use Rattle.edr_capture.specs.Capture.{CaptureStandsFor}
 use Rattle.edr_capture.specs.SensorPart.{SensorPart, IsOfSensor, part, part_slots}
 use Rattle.edr_capture.proofs.PartLemmas.{part-later}
@@ -41,7 +42,7 @@ use Rattle.edr_core.proofs.GiveLemmas.{feeds-of}
 use Rattle.edr_core.proofs.CaptureLemmas.{mark-kept, range-kept, captures-push, later-accepted}
 use Rattle.edr_core.proofs.PartsLaws.{commands-with, issues-with}
 
--- ---- the five parts are taken
+-- ---- the parts are taken
 pub asks : (c : SplitContents) (w : History) → SplitCoreStandsFor c w → w.asking ≡ true → IsSome c.ask
 asks c w h asking = by c.ask h.ask_is where
   by : (o : Option OpenAsk) → HoldsAsk o w → IsSome o
@@ -81,7 +82,7 @@ part-taken r a b q own same ok allowed =
     subst (λ x. Takes a b x) same
     (λ v stands none. taken-by r ((u : History) → SplitCoreStandsFor a u → SplitCoreStandsFor b (after_part q u)) (part_refusal_of q v ≡ None) (allowed v stands) none ok v stands)
 
--- these sensors' parts of the next tick are still to be taken, and then the five are
+-- these sensors' parts of the next tick are still to be taken, and then all are
 pub record AreToTake (c : SplitContents) (w : History) (rest : List Sensor) : Type 0 where
   pub parts : List SensorPart
   pub stands : SplitCoreStandsFor c (record w { parts = parts })
@@ -119,11 +120,11 @@ module _ (c : SplitContents) (captures : Captures) (w : History) (z : ℕ) (h : 
   pub kept-range : All (IsOfSensor s) (items_of s (kept_lists captures))
   kept-range =
       subst (λ (xs : List Item). All (IsOfSensor s) xs) (sym (value_of-slow [] captures.kept s slow))
-      (range-kept s (slow_at s captures.kept) (items_of s w.past.given) (AreFeeds-each w.past.given (feeds-of c w h.stands) s) (h.captures_are.each s slow))
+      (range-kept s (slow_at s captures.kept) (items_of s w.past.given) (feeds-of c w h.stands s) (h.captures_are.each s slow))
 
   pub kept-near : mark_of (items_of s (kept_lists captures)) ≤ z + 1000
   kept-near =
-      let low = mark-kept s (slow_at s captures.kept) (items_of s w.past.given) (AreFeeds-each w.past.given (feeds-of c w h.stands) s) (h.captures_are.each s slow) in
+      let low = mark-kept s (slow_at s captures.kept) (items_of s w.past.given) (feeds-of c w h.stands s) (h.captures_are.each s slow) in
       let same = ap (λ (xs : List Item). mark_of xs) (value_of-slow [] captures.kept s slow) in
       let near = h.stands.near s in
       let is = h.zero_is in
@@ -167,12 +168,15 @@ core-starts n c k from to split captures =
       parts = [];
       split_is = split;
       parts_are = All-nil (λ q. parts_of no_items q.sensor q.zero ≡ q.slots);
-      captures_are = subst (λ (y : Captures). CapturesStandFor y no_items) (sym captures) (record { each = each-slow (λ s. CaptureStandsFor (slow_at s no_captures.kept) (items_of s no_items)) empty empty empty empty empty });
+      captures_are = subst (λ (y : Captures). CapturesStandFor y no_items) (sym captures) (record {
+        each = λ s slow. subst (λ xs. CaptureStandsFor xs (items_of s no_items)) (sym (slow_at-each {A = List Item} [] s))
+            (subst (λ xs. CaptureStandsFor [] xs) (sym (value_of-each {A = List Item} [] s)) empty);
+      });
     }
 
 -- the captures can take an item that is allowed
 pub later-allowed : (c : CoreContents) (n : ℕ) (p : Progress) (s : Sensor) (x : Item) → CoreIsFor c n p → IsAllowed (Give s x) p → IsLater s x c.captures
-later-allowed c n p s x h allowed = later-accepted s x c.captures p.given (AreFeeds-each p.given h.split_is.merge_is.feeds) h.captures_are allowed.0
+later-allowed c n p s x h allowed = later-accepted s x c.captures p.given h.split_is.merge_is.feeds h.captures_are allowed.0
 
 -- with an item that is allowed the core stands for the longer lists
 pub core-gives : (c : CoreContents) (n : ℕ) (p : Progress) (s : Sensor) (x : Item) (split : SplitContents) (captures : Captures) → (h : CoreIsFor c n p) → IsAllowed (Give s x) p → SplitCoreStandsFor split (after_item s x (resting n p h.parts)) → captures ≡ with_kept s x c.captures → CoreIsFor (record { cycle = split.cycle; closed = split.closed; split = split; captures = captures }) n (after_step p (Give s x))

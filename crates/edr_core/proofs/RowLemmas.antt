@@ -83,7 +83,7 @@ sample_at-early last (x ∷ xs) u rises early =
 
 pub silent-feeds : (f : SensorLists) → AreFeeds f → IsSilentBefore (signals_of f)
 silent-feeds f feeds = record {
-  along = sample_at-early 0 f.along 0 (IsFeedAfter-rises_from Along 0 f.along feeds.along) (omega arith);
-  across = sample_at-early 0 f.across 0 (IsFeedAfter-rises_from Across 0 f.across feeds.across) (omega arith);
-  fired = ap (λ (o : Option ℤ). unsigned_abs (unwrap_or o (pos 0))) (sample_at-early 0 f.restraint 0 (IsFeedAfter-rises_from Restraint 0 f.restraint feeds.restraint) (omega arith));
+  along = sample_at-early 0 f.along 0 (IsFeedAfter-rises_from Along 0 f.along (feeds Along)) (omega arith);
+  across = sample_at-early 0 f.across 0 (IsFeedAfter-rises_from Across 0 f.across (feeds Across)) (omega arith);
+  fired = ap (λ (o : Option ℤ). unsigned_abs (unwrap_or o (pos 0))) (sample_at-early 0 f.restraint 0 (IsFeedAfter-rises_from Restraint 0 f.restraint (feeds Restraint)) (omega arith));
 }

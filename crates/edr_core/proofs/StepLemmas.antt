@@ -3,7 +3,7 @@ use Rattle.std.proofs.Common.{arith, refl, ap, sym, subst, ◌≡◌, ◌∙◌,
 use Rattle.std.specs.Prelude.{IfSome, option_map, All}
 use Rattle.std.specs.Option.{option_map_or}
 use Rattle.edr_items.specs.declared.Sensor.{Sensor}
-use Rattle.edr_items.specs.declared.Sensor.TheVariants.{Along}
+use Rattle.edr_items.specs.declared.Sensor.TheVariants.{Along, Across}
 use Rattle.edr_items.specs.declared.Restraints.{Restraints}
 use Rattle.edr_items.specs.PerSlowSensor.{first_without}
 use Rattle.edr_items.specs.SensorLists.{horizon_of}
@@ -128,7 +128,7 @@ module _ (c : SplitContents) (w : History) (h : SplitCoreStandsFor c w) (free : 
   late : w.past.closed < 86_400_000
   late =
       let low = horizon-least w.past.given Along in
-      let high = IsFeedAfter-within Along 0 w.past.given.along (omega arith) (feeds-of c w h).along in
+      let high = IsFeedAfter-within Along 0 w.past.given.along (omega arith) (feeds-of c w h Along) in
       omega (arith, low, high, within)
 
   detect_free : DetectStandsFor c.detect (rows_of (signals_of w.past.given) w.past.closed)
@@ -139,15 +139,15 @@ module _ (c : SplitContents) (w : History) (h : SplitCoreStandsFor c w) (free : 
   room = let is = detect_free.tick_is in let long = length-rows_of (signals_of w.past.given) w.past.closed in let early = late in omega (arith, is, long, early)
 
   pub small-along : unsigned_abs (unwrap_or r.along (pos 0)) ≤ 100_000
-  small-along = small_is r.along (sample_at w.past.given.along (w.past.closed + 1)) next.row.along ((along-small w.past.given.along (feeds-of c w h).along).small (w.past.closed + 1))
+  small-along = small_is r.along (sample_at w.past.given.along (w.past.closed + 1)) next.row.along ((along-small w.past.given.along (feeds-of c w h Along)).small (w.past.closed + 1))
 
   pub small-across : unsigned_abs (unwrap_or r.across (pos 0)) ≤ 100_000
-  small-across = small_is r.across (sample_at w.past.given.across (w.past.closed + 1)) next.row.across ((across-small w.past.given.across (feeds-of c w h).across).small (w.past.closed + 1))
+  small-across = small_is r.across (sample_at w.past.given.across (w.past.closed + 1)) next.row.across ((across-small w.past.given.across (feeds-of c w h Across)).small (w.past.closed + 1))
 
   pub row-in_range : IsRowInRange r
   row-in_range = record {
-    along = in_range_by r.along (sample_at w.past.given.along (w.past.closed + 1)) next.row.along ((along-small w.past.given.along (feeds-of c w h).along).small (w.past.closed + 1));
-    across = in_range_by r.across (sample_at w.past.given.across (w.past.closed + 1)) next.row.across ((across-small w.past.given.across (feeds-of c w h).across).small (w.past.closed + 1));
+    along = in_range_by r.along (sample_at w.past.given.along (w.past.closed + 1)) next.row.along ((along-small w.past.given.along (feeds-of c w h Along)).small (w.past.closed + 1));
+    across = in_range_by r.across (sample_at w.past.given.across (w.past.closed + 1)) next.row.across ((across-small w.past.given.across (feeds-of c w h Across)).small (w.past.closed + 1));
   }
 
   pub all-short : IfSome c.candidate IsShort
@@ -284,7 +284,7 @@ module _ (c : SplitContents) (w : History) (h : SplitCoreStandsFor c w) (a : Ope
   pub key-fits : IsKey key
   key-fits =
       let low = horizon-least w.past.given Along in
-      let high = IsFeedAfter-within Along 0 w.past.given.along (omega arith) (feeds-of c w h).along in
+      let high = IsFeedAfter-within Along 0 w.past.given.along (omega arith) (feeds-of c w h Along) in
       let within = within-merged c w h in
       let closed : (merged w).closed ≡ w.past.closed + 1 = ap (λ (p : Progress). p.closed) (merged-asking w asked_now.asking) in
       let tick = tick-is in

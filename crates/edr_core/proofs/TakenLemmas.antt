@@ -107,7 +107,7 @@ one-taken ps parts q z zero h = record {
       (λ s slow apart. h.each s slow ∙ sym (taken q parts z zero s false apart));
 }
 
--- ---- all five
+-- ---- all parts
 module _ (ps : TakenParts) (parts : List SensorPart) (z : ℕ) (a : AllParts) (h : PartsAre ps parts z) (all : ps ≡ in_places a) where
   in-parts : EachSlow (λ s. part_in parts s z ≡ Some (slow_at s a))
   in-parts s slow = sym (h.each s slow) ∙ ap (λ (x : TakenParts). slow_at s x) all ∙ slow_at-map Some s a

@@ -137,7 +137,7 @@ module _ (lists : SensorLists) (n : ℕ) (h : History) (c : SplitContents) (rest
       let both = put-before c' q e same err (why h at.core_is) in
       (h, both.0, record { taken = both.1.taken; others = λ r has. subst (λ (ps : List SensorPart). IsSome (part_in ps r z)) (sym before.parts) has })
 
--- ---- all five
+-- ---- all parts
 some-none : (o : Option SensorPart) → IsSome o → is_none o ≡ false
 some-none None has = cc
 some-none (Some x) has = refl

@@ -14,7 +14,7 @@ use Rattle.edr_items.proofs.FeedLemmas.{refusal_of-rises}
 use Rattle.edr_items.proofs.PerSensorLemmas.{with_value-both, with_value-three}
 use Rattle.edr_items.proofs.PerSlowSensorLemmas.{slow-or-not, with_slow_values-with}
 use Rattle.edr_definitions.specs.Schedule.{Give, IsAllowed, with_item}
-use Rattle.edr_definitions.proofs.MarkLaws.{AreFeeds-each, feed-next, mark-push}
+use Rattle.edr_definitions.proofs.MarkLaws.{feed-next, mark-push}
 use Rattle.edr_capture.specs.Capture.{CaptureStandsFor, kept_after}
 use Rattle.edr_capture.proofs.CaptureLemmas.{stands-push}
 use Rattle.edr_core.specs.declared.captures.Captures.{Captures}
@@ -48,7 +48,7 @@ accepted-after s a b x h before = grind arith
 
 -- ---- one sensor
 pub whole-feed : (lists : SensorLists) (n : ℕ) (h : History) (c : SplitContents) (rest : Remaining) (s : Sensor) → (at : RemainsAt lists n h c rest) → IsFeed s ((at.rests s).done ++ items_of s rest.left)
-whole-feed lists n h c rest s at = subst (λ (xs : List Item). IsFeed s xs) (at.rests s).whole (AreFeeds-each lists at.feeds s)
+whole-feed lists n h c rest s at = subst (λ (xs : List Item). IsFeed s xs) (at.rests s).whole (at.feeds s)
 
 -- what is kept is no later than what is done
 kept-low : (s : Sensor) (c : Captures) (done given : List Item) → IsFeed s done → KeepsGiven s done given (items_of s (kept_lists c)) → mark_of (items_of s (kept_lists c)) ≤ mark_of done
@@ -71,7 +71,7 @@ keeps-refused s x c done given later never keeps = record {
   fast = λ fast. absurd (never (keeps.fast fast));
 }
 
--- ---- of the eight sensors
+-- ---- of the sensors
 -- what holds of the sensor's new lists and of all old ones holds of all after that
 each-given : (P : Sensor → List Item → List Item → List Item → Type 0) (s : Sensor) (x : Item) (gs ls : List Item) (g l : SensorLists) (c : Captures) → P s gs ls (items_of s (kept_lists (with_kept s x c)))
     → ((r : Sensor) → P r (items_of r g) (items_of r l) (items_of r (kept_lists c)))

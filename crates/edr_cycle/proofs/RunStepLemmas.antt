@@ -15,7 +15,7 @@ use Rattle.edr_definitions.specs.Commands.{Issue, commands, issue_at, issues}
 use Rattle.edr_definitions.specs.Schedule.{Progress, Give, Close, IsAllowed, after_step, with_item, IsUnderWay}
 use Rattle.edr_definitions.proofs.KeepLaws.{commands-start}
 use Rattle.edr_definitions.proofs.LaterLaws.{issues-push}
-use Rattle.edr_definitions.proofs.MarkLaws.{AreFeeds-each, mark-more, horizon-least, horizon-more, horizon-with_item}
+use Rattle.edr_definitions.proofs.MarkLaws.{mark-more, horizon-least, horizon-more, horizon-with_item}
 use Rattle.edr_definitions.proofs.ScheduleLaws.{never_ahead}
 use Rattle.edr_core.specs.Contents.{CoreContents}
 use Rattle.edr_core.specs.StandsFor.{CoreIsFor}
@@ -159,7 +159,7 @@ module _ {D : Type 0} (content : D → Option (List ℕ)) (settled : D → ℕ �
     -- no more was given than there is
     horizon-low : (p : Progress) → IsUnderWay lists p → horizon_of p.given ≤ horizon_of lists
     horizon-low p on = horizon-more p.given lists (λ s.
-        let whole : IsFeed s (items_of s p.given ++ (on.begun s).0) = subst (λ (xs : List Item). IsFeed s xs) (on.begun s).1 (AreFeeds-each lists feeds s) in
+        let whole : IsFeed s (items_of s p.given ++ (on.begun s).0) = subst (λ (xs : List Item). IsFeed s xs) (on.begun s).1 (feeds s) in
         let more = mark-more s 0 (items_of s p.given) (on.begun s).0 whole in
         let e : mark_of (items_of s lists) ≡ mark_of (items_of s p.given ++ (on.begun s).0) = ap mark_of (on.begun s).1 in
         omega (arith, more, e))

@@ -107,9 +107,9 @@ pre_part-is f n z place feeds low high from to is = record {
   zero_to = to;
   place = is;
   speeds = length-map (slots_before f.speed z) (λ s. option_map unsigned_abs s) ∙ all_slots f.speed z;
-  speed = speeds_up_to f.speed z feeds.speed;
+  speed = speeds_up_to f.speed z (feeds Speed);
   throttles = length-map (slots_before f.throttle z) (λ s. option_map unsigned_abs s) ∙ all_slots f.throttle z;
-  throttle = throttles_up_to f.throttle z feeds.throttle;
+  throttle = throttles_up_to f.throttle z (feeds Throttle);
   brakes = length-map (slots_before f.brake z) switch ∙ all_slots f.brake z;
 }
 
@@ -265,7 +265,7 @@ across-small xs feed = record { small = λ t v h. size_in_range v (sample_in_ran
 
 -- the crash part of an event of feeds
 pub crash_part-in_feeds : (f : SensorLists) (z e : ℕ) → AreFeeds f → z + 20 ≤ e → e ≤ z + RESET → IsCrash (crash_part (signals_of f) z e)
-crash_part-in_feeds f z e feeds late reset = crash_part-is (signals_of f) z e (along-small f.along feeds.along) (across-small f.across feeds.across) late reset
+crash_part-in_feeds f z e feeds late reset = crash_part-is (signals_of f) z e (along-small f.along (feeds Along)) (across-small f.across (feeds Across)) late reset
 
 -- ---- of commands
 -- the event before one that is past the tick `after`, if there is one, has its time zero by then

@@ -33,9 +33,9 @@ slots_before-frozen s n z xs room feed near =
 pub pre_part-frozen : (room : ℕ) (f : SensorLists) (n z : ℕ) (place : Place) → SLOT_REACH + LONGEST_GAP + LONGEST_AGE < room → AreFeeds f → ((s : Sensor) → mark_of (items_of s f) ≤ z + LONGEST_GAP) → pre_part (ring_lists room f) n place z ≡ pre_part f n place z
 unfolding pre_part
 pre_part-frozen room f n z place enough feeds near =
-    let speed = slots_before-frozen Speed room z f.speed enough feeds.speed (near Speed) in
-    let throttle = slots_before-frozen Throttle room z f.throttle enough feeds.throttle (near Throttle) in
-    let brake = slots_before-frozen Brake room z f.brake enough feeds.brake (near Brake) in
-    let belt = slot-frozen Belt room z (z - SINGLE_REACH) f.belt enough feeds.belt (near Belt) (omega arith) in
-    let lamp = slot-frozen Lamp room z (z - SINGLE_REACH) f.lamp enough feeds.lamp (near Lamp) (omega arith) in
+    let speed = slots_before-frozen Speed room z f.speed enough (feeds Speed) (near Speed) in
+    let throttle = slots_before-frozen Throttle room z f.throttle enough (feeds Throttle) (near Throttle) in
+    let brake = slots_before-frozen Brake room z f.brake enough (feeds Brake) (near Brake) in
+    let belt = slot-frozen Belt room z (z - SINGLE_REACH) f.belt enough (feeds Belt) (near Belt) (omega arith) in
+    let lamp = slot-frozen Lamp room z (z - SINGLE_REACH) f.lamp enough (feeds Lamp) (near Lamp) (omega arith) in
     rw (speed, throttle, brake, belt, lamp) refl

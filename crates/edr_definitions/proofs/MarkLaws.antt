@@ -3,24 +3,17 @@ use Rattle.std.proofs.Common.{arith, refl, ◌≡◌, ℕ, ◌+◌, ◌≤◌, N
 use Rattle.edr_items.specs.declared.TheConstants.{LONGEST_GAP}
 use Rattle.edr_items.specs.declared.Sensor.{Sensor}
 use Rattle.edr_items.specs.declared.Item.{Item}
-use Rattle.edr_items.specs.Item.{refusal_of, mark_from, mark_of, IsFeedAfter, IsFeed}
-use Rattle.edr_items.specs.SensorLists.{SensorLists, items_of, with_items, AreFeeds, horizon_of}
-use Rattle.edr_items.proofs.FeedLemmas.{refusal_of-rises, feeds-each, each-feeds}
+use Rattle.edr_items.specs.Item.{refusal_of, mark_from, mark_of, IsFeedAfter}
+use Rattle.edr_items.specs.SensorLists.{SensorLists, items_of, with_items, horizon_of}
+use Rattle.edr_items.proofs.FeedLemmas.{refusal_of-rises}
 pub use Rattle.edr_items.proofs.LevelLemmas.{horizon-least, horizon-above}
 use Rattle.edr_items.proofs.PerSensorLemmas.{with_value-each}
 use Rattle.edr_definitions.specs.Schedule.{with_item}
 
--- ---- the eight sensors
+-- ---- the sensors
 -- what holds of a sensor's new list and of each old one holds of each list after that
 pub with_items-each : (P : Sensor → List Item → Type 0) (s : Sensor) (xs : List Item) (f : SensorLists) → P s xs → ((r : Sensor) → P r (items_of r f)) → (r : Sensor) → P r (items_of r (with_items s xs f))
 with_items-each P s xs f here rest = with_value-each P s xs f here rest
-
--- feeds are a feed of each sensor
-pub AreFeeds-each : (f : SensorLists) → AreFeeds f → (s : Sensor) → IsFeed s (items_of s f)
-AreFeeds-each f h = feeds-each f h
-
-pub each-AreFeeds : (f : SensorLists) → ((s : Sensor) → IsFeed s (items_of s f)) → AreFeeds f
-each-AreFeeds f h = each-feeds f h
 
 -- ---- marks
 -- the mark of a list is the moment of its last item

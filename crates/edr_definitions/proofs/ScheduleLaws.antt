@@ -14,7 +14,7 @@ use Rattle.edr_definitions.specs.Signals.{sample_at, signals_of}
 use Rattle.edr_definitions.specs.Facts.{AgreeUpTo}
 use Rattle.edr_definitions.proofs.LaterLaws.{sample_at-push}
 use Rattle.edr_definitions.specs.Schedule.{Progress, CoreMove, Give, Close, with_item, MayGive, after_step, after_steps, given_by, items_given, BeginsWith, IsNextItem, IsUnderWay, CanGoOn, IsOver}
-use Rattle.edr_definitions.proofs.MarkLaws.{with_items-each, mark-push, AreFeeds-each, mark-more, feed-next, horizon-least, horizon-above, horizon-more, horizon-with_item}
+use Rattle.edr_definitions.proofs.MarkLaws.{with_items-each, mark-push, mark-more, feed-next, horizon-least, horizon-above, horizon-more, horizon-with_item}
 
 -- ---- the order of arrival
 -- one more item of a sensor is at the end of its list, and in no other
@@ -48,7 +48,7 @@ module _ (f : SensorLists) (p : Progress) (feeds : AreFeeds f) (level : IsLevel 
   mark_there s = mark_of (items_of s f)
 
   feed_with : (s : Sensor) (x : Item) (rest : List Item) → items_of s f ≡ (items_of s p.given ++ x ∷ []) ++ rest → IsFeed s (items_of s p.given ++ x ∷ rest)
-  feed_with s x rest e = subst (λ (xs : List Item). IsFeed s xs) (e ∙ append_assoc (items_of s p.given) (x ∷ []) rest) (AreFeeds-each f feeds s)
+  feed_with s x rest e = subst (λ (xs : List Item). IsFeed s xs) (e ∙ append_assoc (items_of s p.given) (x ∷ []) rest) (feeds s)
 
   -- the next item of a sensor that is waited for may be given, and any next item once the closed tick is the horizon
   pub never_ahead : (s : Sensor) (x : Item) → IsNextItem f p s x → (mark_of (items_of s p.given) ≡ p.closed) ⊎ (p.closed ≡ horizon_of f) → MayGive s x p
@@ -61,7 +61,7 @@ module _ (f : SensorLists) (p : Progress) (feeds : AreFeeds f) (level : IsLevel 
 
     below : x.moment ≤ mark_there s
     below =
-        let whole : IsFeed s ((items_of s p.given ++ x ∷ []) ++ next.0) = subst (λ (xs : List Item). IsFeed s xs) next.1 (AreFeeds-each f feeds s) in
+        let whole : IsFeed s ((items_of s p.given ++ x ∷ []) ++ next.0) = subst (λ (xs : List Item). IsFeed s xs) next.1 (feeds s) in
         let more = mark-more s 0 (items_of s p.given ++ x ∷ []) next.0 whole in
         let last = mark-push 0 (items_of s p.given) x in
         let e : mark_there s ≡ mark_of ((items_of s p.given ++ x ∷ []) ++ next.0) = ap mark_of next.1 in
@@ -95,7 +95,7 @@ module _ (f : SensorLists) (p : Progress) (feeds : AreFeeds f) (level : IsLevel 
   -- the marks of what was given are no higher than those of the feeds
   marks_below : (s : Sensor) → mark_of (items_of s p.given) ≤ mark_there s
   marks_below s =
-      let whole : IsFeed s (items_of s p.given ++ (on.begun s).0) = subst (λ (xs : List Item). IsFeed s xs) (on.begun s).1 (AreFeeds-each f feeds s) in
+      let whole : IsFeed s (items_of s p.given ++ (on.begun s).0) = subst (λ (xs : List Item). IsFeed s xs) (on.begun s).1 (feeds s) in
       let more = mark-more s 0 (items_of s p.given) (on.begun s).0 whole in
       let e : mark_there s ≡ mark_of (items_of s p.given ++ (on.begun s).0) = ap mark_of (on.begun s).1 in
       omega (arith, more, e)
@@ -154,5 +154,5 @@ signals-under_way f p t feeds on upto = record {
   same s u h =
       let low = horizon-least p.given s in
       let begun = on.begun s in
-      sample_at-more s (items_of s p.given) begun.0 u (subst (λ (zs : List Item). IsFeed s zs) begun.1 (AreFeeds-each f feeds s)) (omega (arith, low, h, upto))
+      sample_at-more s (items_of s p.given) begun.0 u (subst (λ (zs : List Item). IsFeed s zs) begun.1 (feeds s)) (omega (arith, low, h, upto))
       ∙ ap (λ zs. sample_at zs u) (sym begun.1)

@@ -12,7 +12,6 @@ use Rattle.edr_items.specs.SensorLists.{SensorLists, AreFeeds, horizon_of, items
 use Rattle.edr_items.proofs.PerSlowSensorLemmas.{slow-or-not, slow_at-map}
 use Rattle.edr_definitions.specs.Commands.{issues}
 use Rattle.edr_definitions.specs.Schedule.{BeginsWith}
-use Rattle.edr_definitions.proofs.MarkLaws.{AreFeeds-each}
 use Rattle.edr_capture.specs.SensorPart.{SensorPart, part_slots}
 use Rattle.edr_core.specs.Parts.{AreSlotsOf, parts_of}
 use Rattle.edr_core.specs.SplitContents.{SplitContents}
@@ -45,7 +44,7 @@ part-whole f i q feeds are taken = by (slow-or-not q.sensor) where
   by (inl slow) =
       let s = q.sensor in
       let own = parts_of-slow s (slow_taken i) slow ∙ slow_at-map parts_taken s i in
-      in-list s (items_of s f) (parts_taken (slow_at s i)) q (AreFeeds-each f feeds s) (are s slow) (subst (λ (ps : List SensorPart). Contains ps q) own taken)
+      in-list s (items_of s f) (parts_taken (slow_at s i)) q (feeds s) (are s slow) (subst (λ (ps : List SensorPart). Contains ps q) own taken)
   by (inr fast) = absurd (none-in q (subst (λ (ps : List SensorPart). Contains ps q) (parts_of-fast q.sensor (slow_taken i) fast) taken))
 
 parts-whole : (f : SensorLists) (i : PartInlets) (parts : List SensorPart) → AreFeeds f → AreTakenParts f i → All (IsTakenPart (slow_taken i)) parts → AreSlotsOf parts (parts_of f)
@@ -54,9 +53,9 @@ parts-whole f i parts feeds are taken = λ k d lt. part-whole f i (get_or parts 
 -- ---- what the core was told
 fast-feeds : (f : SensorLists) (i : FastInlets) → AreFeeds f → FastBegin f i → AreFastFeeds (fast_taken i)
 fast-feeds f i feeds begins = record {
-  along = feed-front Along 0 (fast_taken i).along begins.along.0 (subst (λ (xs : List Item). IsFeed Along xs) begins.along.1 feeds.along);
-  across = feed-front Across 0 (fast_taken i).across begins.across.0 (subst (λ (xs : List Item). IsFeed Across xs) begins.across.1 feeds.across);
-  restraint = feed-front Restraint 0 (fast_taken i).restraint begins.restraint.0 (subst (λ (xs : List Item). IsFeed Restraint xs) begins.restraint.1 feeds.restraint);
+  along = feed-front Along 0 (fast_taken i).along begins.along.0 (subst (λ (xs : List Item). IsFeed Along xs) begins.along.1 (feeds Along));
+  across = feed-front Across 0 (fast_taken i).across begins.across.0 (subst (λ (xs : List Item). IsFeed Across xs) begins.across.1 (feeds Across));
+  restraint = feed-front Restraint 0 (fast_taken i).restraint begins.restraint.0 (subst (λ (xs : List Item). IsFeed Restraint xs) begins.restraint.1 (feeds Restraint));
 }
 
 pub desk-was-told : (f : SensorLists) (n : ℕ) (d : Desk) → AreFeeds f → FastBegin f d.fast → AreTakenParts f d.parts → (s : DeskStands n (horizon_of f) d) → WasTold f s.history d.core d.last.along d.last.across d.last.restraint

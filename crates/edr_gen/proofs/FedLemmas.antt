@@ -11,7 +11,7 @@ use Rattle.edr_items.specs.Item.{IsFeed, has_value_in_range, mark_from, mark_of,
 use Rattle.edr_items.specs.Sensor.{is_in_range}
 use Rattle.edr_items.specs.PerSlowSensor.{slow_value_of}
 use Rattle.edr_items.specs.SensorLists.{AreFeeds, IsLevel}
-use Rattle.edr_items.proofs.FeedLemmas.{IsFeedAfter-push, each-feeds}
+use Rattle.edr_items.proofs.FeedLemmas.{IsFeedAfter-push}
 use Rattle.edr_spell.specs.Samples.{Sample, feeds_given, items_given}
 use Rattle.edr_spell.proofs.FeedsLemmas.{items_given-append, items_of-given}
 use Rattle.edr_gen.specs.declared.plan.TheConstants.{SLOW_SAID}
@@ -159,7 +159,7 @@ all-fed-next impulses t xs are within h =
     record { each = λ s. joined s u (since s u) xs ys (items_by s a c u b f q) (said s a c u b f q) (fed-next s a c t b f q (items_given s xs) refl refl range.0 range.1 within (h.each s)) }
 
 pub all-fed-feeds : (t : ℕ) (xs : List Sample) → AllFed t xs → AreFeeds (feeds_given xs)
-all-fed-feeds t xs h = each-feeds (feeds_given xs) (λ s. subst (IsFeed s) (sym (items_of-given s xs)) (h.each s).feed)
+all-fed-feeds t xs h = λ s. subst (IsFeed s) (sym (items_of-given s xs)) (h.each s).feed
 
 near : (t : ℕ) (xs : List Sample) → AllFed t xs → (s : Sensor) → (mark_of (items_given s xs) ≤ t) × (t ≤ mark_of (items_given s xs) + 1000)
 near t xs h s = let fed = h.each s in let few = since-few s t in (fed.below, omega (arith, fed.near, few))

@@ -1,4 +1,4 @@
--- Laws of values of the eight sensors.
+-- Laws of values of the sensors.
 use Rattle.std.proofs.Common.{arith, ◌≡◌, ◌∙◌, ℕ, ◌+◌, ◌≤◌, min, max, refl, ◌⊎◌, inl, inr, false, nat_eq}
 use Rattle.edr_items.specs.declared.Sensor.{Sensor}
 use Rattle.edr_items.specs.declared.Sensor.TheVariants.{Along, Across, Speed, Throttle, Brake, Belt, Lamp, Restraint}

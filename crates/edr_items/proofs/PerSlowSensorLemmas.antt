@@ -1,4 +1,4 @@
--- Laws of values of the five slow sensors.
+-- Laws of values of the slow sensors.
 use Rattle.std.proofs.Common.{arith, refl, ◌≡◌, ◌∙◌, ◌⊎◌, inl, inr, Bool, true, false, not, ◌&&◌, nat_eq, Some, None, List, [], ◌∷◌}
 use Rattle.std.specs.Prelude.{find, All}
 use Rattle.std.proofs.lemmas.List.Elements.{All-nil, All-cons}
@@ -22,7 +22,7 @@ slow-or-not Belt = inl (omega arith, omega arith)
 slow-or-not Lamp = inl (omega arith, omega arith)
 slow-or-not Restraint = inr (λ slow. omega arith)
 
--- what holds of the five holds of each
+-- what holds of these holds of each
 pub each-slow : (P : Sensor → Type 0) → P Speed → P Throttle → P Brake → P Belt → P Lamp → EachSlow P
 each-slow P a b c d e Along slow = absurd (omega arith)
 each-slow P a b c d e Across slow = absurd (omega arith)
@@ -140,7 +140,7 @@ slow_at-map h s p = elim s as (λ t. slow_at t (map_slow_values h p) ≡ h (slow
 pub slow_at-by : {A : Type 0} (h : Sensor → A) → EachSlow (λ s. slow_at s (slow_values_by h) ≡ h s)
 slow_at-by h = each-slow (λ s. slow_at s (slow_values_by h) ≡ h s) refl refl refl refl refl
 
--- the value among those of all eight
+-- the value among those of all sensors
 pub slow_at-values : {A : Type 0} (p : PerSensor A) → EachSlow (λ s. slow_at s (slow_values p) ≡ value_of s p)
 slow_at-values p = each-slow (λ s. slow_at s (slow_values p) ≡ value_of s p) refl refl refl refl refl
 
@@ -157,7 +157,7 @@ value_of-fast Belt x p fast = absurd (fast (omega arith, omega arith))
 value_of-fast Lamp x p fast = absurd (fast (omega arith, omega arith))
 value_of-fast Restraint x p fast = refl
 
--- what the value of a sensor is among those of all eight
+-- what the value of a sensor is among those of all sensors
 pub value_of-some : {A : Type 0} (s : Sensor) (e : A) (p : PerSlowSensor A) (x : A) → slow_value_of s p ≡ Some x → value_of s (with_slow_values e p) ≡ x
 value_of-some s e p x h = let is = slow_value_of-some s p x h in value_of-slow e p s is.0 ∙ is.1
 
@@ -198,7 +198,7 @@ with_slow_value-others P s x p here rest r slow = others s r here (rest r slow) 
   others t Restraint own old slow = absurd (omega arith)
   others t u own old slow = old refl
 
--- what holds of each slow sensor's value and of its value among those of all eight still does with two new ones
+-- what holds of each slow sensor's value and of its value among those of all sensors still does with two new ones
 pub with_slow_value-beside : {A B : Type 0} (P : Sensor → A → B → Type 0) (s : Sensor) (x : A) (y : B) (p : PerSlowSensor A) (q : PerSensor B) → (IsSlow s → P s x y) → EachSlow (λ r. P r (slow_at r p) (value_of r q)) → EachSlow (λ r. P r (slow_at r (with_slow_value s x p)) (value_of r (with_value s y q)))
 with_slow_value-beside P s x y p q here rest r slow = beside s r here (rest r slow) slow where
   beside : (t u : Sensor) → (IsSlow t → P t x y) → P u (slow_at u p) (value_of u q) → IsSlow u → P u (slow_at u (with_slow_value t x p)) (value_of u (with_value t y q))
@@ -216,7 +216,7 @@ with_slow_value-beside P s x y p q here rest r slow = beside s r here (rest r sl
 pub with_slow_value-again : {A : Type 0} (s : Sensor) (x y : A) (p : PerSlowSensor A) → with_slow_value s x (with_slow_value s y p) ≡ with_slow_value s x p
 with_slow_value-again s x y p = elim s as (λ t. with_slow_value t x (with_slow_value t y p) ≡ with_slow_value t x p) [ Along ↦ refl | Across ↦ refl | Speed ↦ refl | Throttle ↦ refl | Brake ↦ refl | Belt ↦ refl | Lamp ↦ refl | Restraint ↦ refl ]
 
--- among those of all eight it is another value of the same sensor, or nothing
+-- among those of all sensors it is another value of the same sensor, or nothing
 pub with_slow_values-with : {A : Type 0} (s : Sensor) (e x : A) (p : PerSlowSensor A) → with_slow_values e (with_slow_value s x p) ≡ with_value s (value_of s (with_slow_values e (with_slow_value s x p))) (with_slow_values e p)
 with_slow_values-with s e x p = elim s as (λ t. with_slow_values e (with_slow_value t x p) ≡ with_value t (value_of t (with_slow_values e (with_slow_value t x p))) (with_slow_values e p)) [ Along ↦ refl | Across ↦ refl | Speed ↦ refl | Throttle ↦ refl | Brake ↦ refl | Belt ↦ refl | Lamp ↦ refl | Restraint ↦ refl ]
 
@@ -235,6 +235,6 @@ with_slow_value-none Belt x p fast = absurd (fast (omega arith, omega arith))
 with_slow_value-none Lamp x p fast = absurd (fast (omega arith, omega arith))
 with_slow_value-none Restraint x p fast = refl
 
--- another value among those of all eight
+-- another value among those of all sensors
 pub slow_values-with : {A : Type 0} (s : Sensor) (x : A) (p : PerSensor A) → slow_values (with_value s x p) ≡ with_slow_value s x (slow_values p)
 slow_values-with s x p = elim s as (λ t. slow_values (with_value t x p) ≡ with_slow_value t x (slow_values p)) [ Along ↦ refl | Across ↦ refl | Speed ↦ refl | Throttle ↦ refl | Brake ↦ refl | Belt ↦ refl | Lamp ↦ refl | Restraint ↦ refl ]

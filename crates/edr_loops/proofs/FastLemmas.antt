@@ -12,7 +12,7 @@ use Rattle.edr_items.specs.PerSensor.{with_value}
 use Rattle.edr_items.specs.PerSlowSensor.{EachSlow, slow_at, slow_values, with_slow_value}
 use Rattle.edr_items.specs.SensorLists.{SensorLists, items_of}
 use Rattle.edr_items.proofs.PerSensorLemmas.{with_value-each}
-use Rattle.edr_items.proofs.PerSlowSensorLemmas.{belt-slow, brake-slow, lamp-slow, slow-or-not, slow_at-values, slow_value_of-slow, slow_values-with, speed-slow, throttle-slow, with_slow_value-both, with_slow_value-each, with_slow_value-own, with_slow_value-same}
+use Rattle.edr_items.proofs.PerSlowSensorLemmas.{slow-or-not, slow_at-values, slow_value_of-slow, slow_values-with, with_slow_value-both, with_slow_value-each, with_slow_value-own, with_slow_value-same}
 use Rattle.edr_definitions.specs.Schedule.{with_item}
 use Rattle.edr_definitions.proofs.MarkLaws.{feed-next, mark-push}
 use Rattle.edr_board.specs.FreezeSeats.{AllReach, SlowMarks, mark_in, with_mark_of}
@@ -92,15 +92,7 @@ fast-beside s x f l slow h =
 
 -- marks past a tick have reached the next one
 pub all-reached : (t : ℕ) (f : SensorLists) (m : SlowMarks) → HaveMarks m f → ((s : Sensor) → t ≤ mark_of (items_of s f)) → AllReach t m
-all-reached t f m h past =
-    let reached : EachSlow (λ s. t ≤ slow_at s m) = λ s slow. subst (λ n. t ≤ n) (h s slow) (past s) in
-    record {
-      speed = speed-slow (λ s. t ≤ slow_at s m) reached;
-      throttle = throttle-slow (λ s. t ≤ slow_at s m) reached;
-      brake = brake-slow (λ s. t ≤ slow_at s m) reached;
-      belt = belt-slow (λ s. t ≤ slow_at s m) reached;
-      lamp = lamp-slow (λ s. t ≤ slow_at s m) reached;
-    }
+all-reached t f m h past = λ s slow. subst (λ n. t ≤ n) (h s slow) (past s)
 
 -- ---- one more part
 pub parts_of-slow : (s : Sensor) (l : SlowParts) → IsSlow s → parts_of s l ≡ slow_at s l

@@ -13,7 +13,7 @@ use Rattle.edr_items.specs.SensorLists.{no_items, SensorLists, items_of, sensors
 use Rattle.edr_items.proofs.FeedLemmas.{refusal_of-rises, IsFeedAfter-push, no_items-feeds}
 use Rattle.edr_definitions.specs.Signals.{sample_at}
 use Rattle.edr_definitions.specs.Schedule.{Progress, Give, Close, IsAllowed, with_item, after_step}
-use Rattle.edr_definitions.proofs.MarkLaws.{with_items-each, AreFeeds-each, each-AreFeeds, mark-push, horizon-least, horizon-above, horizon-with_item}
+use Rattle.edr_definitions.proofs.MarkLaws.{with_items-each, mark-push, horizon-least, horizon-above, horizon-with_item}
 use Rattle.edr_merge.specs.declared.Next.TheVariants.{Waiting, Row}
 use Rattle.edr_merge.specs.declared.rings.Rings.{Rings}
 use Rattle.edr_items.proofs.LevelLemmas.{none-found}
@@ -36,7 +36,7 @@ feed-with_item m p s x h allowed =
     let low = horizon-least p.given s in
     let near = allowed.1 in
     let within = h.within in
-    IsFeedAfter-push s 0 (items_of s p.given) x (AreFeeds-each p.given h.feeds s) allowed.0 (omega (arith, low, within, near))
+    IsFeedAfter-push s 0 (items_of s p.given) x (h.feeds s) allowed.0 (omega (arith, low, within, near))
 
 -- what is kept of a sensor is what waits of its list with the item
 kept-is : (m : MergeState) (p : Progress) (s : Sensor) (x : Item) (ys : List Item) → MergeStandsFor m p → IsAllowed (Give s x) p → ys ≡ waiting p.closed (items_of s p.given) → kept x ys ≡ waiting p.closed (items_of s p.given ++ x ∷ [])
@@ -55,7 +55,7 @@ waits-with_item m p s x h allowed = record { along_is = h.waits.along_is; across
 -- a merge that takes an allowed item stands for the longer lists
 pub stands-given : (m : MergeState) (p : Progress) (s : Sensor) (x : Item) → MergeStandsFor m p → IsAllowed (Give s x) p → MergeStandsFor (record { closed = m.closed; marks = with_mark s x.moment m.marks; rings = with_kept s x m.rings }) (after_step p (Give s x))
 stands-given m p s x h allowed = record {
-  feeds = each-AreFeeds (with_item s x p.given) (with_items-each IsFeed s (items_of s p.given ++ x ∷ []) p.given (feed-with_item m p s x h allowed) (AreFeeds-each p.given h.feeds));
+  feeds = with_items-each IsFeed s (items_of s p.given ++ x ∷ []) p.given (feed-with_item m p s x h allowed) h.feeds;
   within = let up = horizon-with_item s x p.given allowed.0 in let within = h.within in omega (arith, up, within);
   near = with_items-each (λ r (xs : List Item). mark_of xs ≤ p.closed + LONGEST_GAP) s (items_of s p.given ++ x ∷ []) p.given
       (let last = mark-push 0 (items_of s p.given) x in let near = allowed.1 in omega (arith, last, near)) h.near;
@@ -87,12 +87,12 @@ stands-closed m p h allowed =
   where
     past : (s : Sensor) (xs : List Item) → xs ≡ waiting p.closed (items_of s p.given) → past_first (m.closed + 1) xs ≡ waiting (p.closed + 1) (items_of s p.given)
     past s xs is =
-        ap (λ n. past_first (n + 1) xs) h.closed_is ∙ ap (past_first (p.closed + 1)) is ∙ (tick-taken s p.closed 0 (items_of s p.given) (AreFeeds-each p.given h.feeds s)).1
+        ap (λ n. past_first (n + 1) xs) h.closed_is ∙ ap (past_first (p.closed + 1)) is ∙ (tick-taken s p.closed 0 (items_of s p.given) (h.feeds s)).1
 
 -- what the rings give of the next tick are its samples
 pub sample-taken : (m : MergeState) (p : Progress) → MergeStandsFor m p → (s : Sensor) (xs : List Item) → xs ≡ waiting p.closed (items_of s p.given) → first_value (m.closed + 1) xs ≡ sample_at (items_of s p.given) (p.closed + 1)
 sample-taken m p h s xs is =
-    ap (λ n. first_value (n + 1) xs) h.closed_is ∙ ap (first_value (p.closed + 1)) is ∙ (tick-taken s p.closed 0 (items_of s p.given) (AreFeeds-each p.given h.feeds s)).0
+    ap (λ n. first_value (n + 1) xs) h.closed_is ∙ ap (first_value (p.closed + 1)) is ∙ (tick-taken s p.closed 0 (items_of s p.given) (h.feeds s)).0
 
 -- ---- the sensor that is waited for
 -- the lowest-numbered sensor whose mark is the closed tick is the one that is waited for

@@ -67,7 +67,7 @@ replies_calls s (c ∷ cs) =
 -- a cycle's horizon is within a day
 horizon_low : (f : SensorLists) → AreFeeds f → horizon_of f ≤ LATEST_MOMENT
 horizon_low f feeds =
-    let low = IsFeedAfter-within Along 0 f.along (omega arith) feeds.along in
+    let low = IsFeedAfter-within Along 0 f.along (omega arith) (feeds Along) in
     let least = horizon-least f Along in
     omega (arith, low, least)
 

@@ -16,7 +16,7 @@ use Rattle.edr_record.specs.declared.Command.{Command}
 use Rattle.edr_definitions.specs.Commands.{Issue, commands, issues}
 use Rattle.edr_definitions.specs.Schedule.{Progress, Give, Close, BeginsWith, IsAllowed, IsUnderWay, after_step}
 use Rattle.edr_definitions.proofs.LaterLaws.{commands-push}
-use Rattle.edr_definitions.proofs.MarkLaws.{AreFeeds-each, horizon-least, horizon-more, horizon-with_item, mark-more}
+use Rattle.edr_definitions.proofs.MarkLaws.{horizon-least, horizon-more, horizon-with_item, mark-more}
 use Rattle.edr_definitions.proofs.ScheduleLaws.{items-after_steps}
 use Rattle.edr_image.specs.Banks.{Store}
 use Rattle.edr_image.specs.Steps.{BankStep, State, after, at_rest, reply_to, state_after, steps_of}
@@ -61,7 +61,7 @@ module _ (f : SensorLists) (n : ℕ) (v : Store) (feeds : AreFeeds f) where
   -- no more was given than there is
   horizon-low : (a : ScheduleState) → Begins f a → horizon_of a.progress.given ≤ horizon_of f
   horizon-low a begun_ = horizon-more a.progress.given f (λ s.
-      let whole : IsFeed s (items_of s a.progress.given ++ (begun_ s).0) = subst (λ (xs : List Item). IsFeed s xs) (begun_ s).1 (AreFeeds-each f feeds s) in
+      let whole : IsFeed s (items_of s a.progress.given ++ (begun_ s).0) = subst (λ (xs : List Item). IsFeed s xs) (begun_ s).1 (feeds s) in
       let more = mark-more s 0 (items_of s a.progress.given) (begun_ s).0 whole in
       let e : mark_of (items_of s f) ≡ mark_of (items_of s a.progress.given ++ (begun_ s).0) = ap mark_of (begun_ s).1 in
       omega (arith, more, e))

@@ -8,7 +8,7 @@ use Rattle.edr_items.specs.declared.Item.{Item}
 use Rattle.edr_items.specs.Sensor.{number_of}
 use Rattle.edr_items.specs.Item.{mark_from, mark_of, IsFeedAfter, IsFeed}
 use Rattle.edr_items.specs.SensorLists.{SensorLists, items_of, with_items, AreFeeds, no_items}
-use Rattle.edr_items.proofs.FeedLemmas.{IsFeedAfter-push, feeds-each, each-feeds}
+use Rattle.edr_items.proofs.FeedLemmas.{IsFeedAfter-push}
 use Rattle.edr_items.proofs.PerSensorLemmas.{values-same, value_of-by, with_value-each, with_value-others}
 use Rattle.edr_spell.specs.Samples.{Sample, is_of, items_given, feeds_given}
 use Rattle.edr_spell.specs.Fault.{item_fault}
@@ -61,16 +61,11 @@ feeds_given-next s x xs =
     (λ r other. first-other r z xs other ∙ sym (items_of-given r xs)) in
     values-same (feeds_given (z ∷ xs)) (with_items s (x ∷ items_of s f) f) (λ r. items_of-given r (z ∷ xs) ∙ more r)
 
-pub IsFeed-of : (s : Sensor) (f : SensorLists) → AreFeeds f → IsFeed s (items_of s f)
-IsFeed-of s f fed = feeds-each f fed s
-
 -- feeds with one more item that has no fault are feeds
 pub AreFeeds-push : (f : SensorLists) (s : Sensor) (x : Item) → AreFeeds f → item_fault s (mark_of (items_of s f)) x ≡ None → AreFeeds (with_items s (items_of s f ++ x ∷ []) f)
-AreFeeds-push f s x fed h = each-feeds (with_items s (items_of s f ++ x ∷ []) f) feed where
-  feed : (r : Sensor) → IsFeed r (items_of r (with_items s (items_of s f ++ x ∷ []) f))
-  feed =
-      let ok = item_fault-accepts s (mark_of (items_of s f)) x h in
-      with_value-each IsFeed s (items_of s f ++ x ∷ []) f (IsFeedAfter-push s 0 (items_of s f) x (IsFeed-of s f fed) ok.0 ok.1) (λ r. IsFeed-of r f fed)
+AreFeeds-push f s x fed h =
+    let ok = item_fault-accepts s (mark_of (items_of s f)) x h in
+    with_value-each IsFeed s (items_of s f ++ x ∷ []) f (IsFeedAfter-push s 0 (items_of s f) x (fed s) ok.0 ok.1) fed
 
 -- what stands within a feed is accepted after what is before it
 pub IsFeedAfter-within : (s : Sensor) (last : ℕ) (xs ys : List Item) (x : Item) → IsFeedAfter s last (xs ++ x ∷ ys) → item_fault s (mark_from last xs) x ≡ None

@@ -21,7 +21,7 @@ use Rattle.edr_spell.specs.Samples.{Sample, row_for, is_of, items_given, feeds_g
 use Rattle.edr_spell.specs.Spell.{stopped_cycle, whole_cycle, SpellsCycle, SpellCycles, Spell}
 use Rattle.edr_spell.specs.Fault.{opened, open_after, item_fault, fault_in, fault_of, feeds_after, fault_at, fault_at_end, AreFaultless, HasFault, FirstFault}
 use Rattle.edr_spell.specs.Steps.{cycles_next}
-use Rattle.edr_spell.proofs.FeedsLemmas.{items_given-append, items_of-given, IsFeed-of, IsFeedAfter-within}
+use Rattle.edr_spell.proofs.FeedsLemmas.{items_given-append, items_of-given, IsFeedAfter-within}
 use Rattle.edr_spell.proofs.CsvLemmas.{records-are, same_records}
 use Rattle.edr_spell.proofs.StandLemmas.{are_rows-push, Stands, feeds_in, RightFrom, fold-append, right-append, faultless-right, stands-none, stands-next, stands-spelled}
 
@@ -61,7 +61,7 @@ sample-right : (done xs : List Sample) (s : Sensor) (x : Item) → AreFeeds (fee
 sample-right done xs s x fed =
     let z : Sample = record { sensor = s; item = x } in
     let all = items_of-given s (done ++ z ∷ xs) ∙ items_given-append s done (z ∷ xs) ∙ ap (λ (y : List Item). items_given s done ++ y) (given-cons s x xs) in
-    let of_s : IsFeed s (items_given s done ++ x ∷ items_given s xs) = subst (λ (y : List Item). IsFeed s y) all (IsFeed-of s (feeds_given (done ++ z ∷ xs)) fed) in
+    let of_s : IsFeed s (items_given s done ++ x ∷ items_given s xs) = subst (λ (y : List Item). IsFeed s y) all (fed s) in
     subst (λ (y : List Item). item_fault s (mark_of y) x ≡ None) (sym (items_of-given s done)) (IsFeedAfter-within s 0 (items_given s done) (items_given s xs) x of_s)
 
 samples-ran : (done xs : List Sample) → AreFeeds (feeds_given (done ++ xs)) → Ran (Some done) (map row_for xs) (Some (done ++ xs)) []
