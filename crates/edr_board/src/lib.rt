@@ -3,7 +3,7 @@
 //! The board has three. The recorder posts the gate and the last closed tick, the committer posts that it has stopped, and
 //! any number of watches read. No word ever falls.
 //!
-//! The [`Freeze`] has more, by which the recorder and the five slow sensors agree on one time zero. The recorder grants the
+//! The [`Freeze`] has more, by which the recorder and the slow sensors agree on one time zero. The recorder grants the
 //! moments up to which a sensor may keep items, and asks for the parts of a time zero; each sensor marks up to which moment
 //! it has kept. While an ask is open, each mark has reached its zero, and no sensor keeps an item that is more than 1 s past
 //! it. Neither what is granted nor a mark ever falls.

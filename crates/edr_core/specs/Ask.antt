@@ -13,7 +13,7 @@ use Rattle.edr_core.specs.declared.ask.PartRefused.{PartRefused}
 use Rattle.edr_core.specs.declared.ask.PartRefused.TheVariants.{Twice}
 use Rattle.edr_core.specs.Parts.{first_slot}
 
--- the parts that were taken, and all five
+-- the parts that were taken, and all of them
 abbrev pub TakenParts : Type 0
 TakenParts = PerSlowSensor (Option SensorPart)
 
@@ -36,7 +36,7 @@ with_part q ps = with_slow_value q.sensor (Some q) ps
 abbrev pub IsTwice : PartRefused → Type 0
 IsTwice e = e ≡ Twice
 
--- all five were taken
+-- all were taken
 abbrev pub in_places : AllParts → TakenParts
 in_places a = map_slow_values Some a
 

@@ -1,4 +1,4 @@
--- What the five captures stand for.
+-- What the captures stand for.
 use Rattle.std.specs.Prelude.{◌<◌, []}
 use Rattle.edr_items.specs.declared.Sensor.{Sensor}
 use Rattle.edr_items.specs.declared.Item.{Item}

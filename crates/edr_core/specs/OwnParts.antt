@@ -20,7 +20,7 @@ abbrev pub parts_after : List Sensor → SensorLists → ℕ → List SensorPart
 parts_after [] f z parts = parts
 parts_after (s ∷ ss) f z parts = parts_after ss f z (part s (items_of s f) z ∷ parts)
 
--- the five parts
+-- the parts
 abbrev pub own_parts : SensorLists → ℕ → List SensorPart → List SensorPart
 own_parts f z parts = parts_after slow_sensors f z parts
 

@@ -1,4 +1,4 @@
--- Pre parts that are made of the five parts of their time zero.
+-- Pre parts that are made of the parts of their time zero.
 use Rattle.std.specs.Prelude.{◌≡◌, ℕ, ℤ, Bool, ◌&&◌, nat_eq, Option, None, List, [], ◌∷◌, map, find, All}
 use Rattle.edr_items.specs.declared.Sensor.{Sensor}
 use Rattle.edr_items.specs.declared.Sensor.TheVariants.{Speed, Throttle, Brake, Belt, Lamp}

@@ -28,7 +28,7 @@ pub enum PartRefused {
 // The parts of a time zero that were taken.
 pub type TakenParts = PerSlowSensor<Option<Part>>;
 
-// All five parts of a time zero.
+// All parts of a time zero.
 pub type AllParts = PerSlowSensor<Part>;
 
 // What was given of a time zero, what stands there, and its parts as far as they were taken.

@@ -1,4 +1,4 @@
-//! The rings of the five sensors of which a pre part tells.
+//! The rings of the sensors of which a pre part tells.
 
 ghost use Rattle.std.specs.Prelude.{◌≡◌, ◌+◌, ◌≤◌, IfOk, List, All};
 ghost use Rattle.edr_items.specs.declared.TheConstants.{LONGEST_GAP};
@@ -12,7 +12,7 @@ use edr_capture::{Capture, Part};
 use edr_items::{Item, PerSlowSensor, SLOW_SENSORS, Sensor};
 use std::alloc::{AllocError as OutOfMemory, Global};
 
-/// What the five slow sensors gave, as far as a part can look back.
+/// What the slow sensors gave, as far as a part can look back.
 #[derive(Drop)]
 pub struct Captures {
     pub kept: PerSlowSensor<Capture>,
@@ -63,7 +63,7 @@ impl Captures {
         }
     }
 
-    // Gives the split core the five parts that it asks for. It stands apart, since few ticks are a time zero, and the places of the
+    // Gives the split core the parts that it asks for. It stands apart, since few ticks are a time zero, and the places of the
     // parts are large.
     #[inline(never)]
     pub(crate) fn give_parts(&self, split: &mut SplitCore, zero: u32)

@@ -1,4 +1,4 @@
-//! The core of the recorder: it takes items of the eight sensors in any order of sensors, closes one tick after the other,
+//! The core of the recorder: it takes items of the sensors in any order of sensors, closes one tick after the other,
 //! and issues the commands of each tick.
 #![tactic(auto)]
 

@@ -1,4 +1,4 @@
-//! The core that is told no value of a slow sensor: it asks for the five parts of each time zero.
+//! The core that is told no value of a slow sensor: it asks for the parts of each time zero.
 
 ghost use Rattle.std.specs.Prelude.{◌≡◌, ◌↔◌, ◌+◌, ◌≤◌, ◌<◌, true, false, Some, None, is_some, IfOk, IfErr, IsOk, IsSome, OnOk, OnErr};
 ghost use Rattle.edr_definitions.specs.Schedule.{Give, IsAllowed};
@@ -156,7 +156,7 @@ impl SplitCore {
     }
 
     /// Closes the next tick and gives what it issues, if no sensor can give an item of it any more. Where it is a time zero, it
-    /// first asks for the five parts of it, and closes it once they are taken.
+    /// first asks for the parts of it, and closes it once they are taken.
     pub fn step(&mut self) -> SplitStep
         // A tick that is closed is the next one, and the commands up to it are those before it and then the ones that it carries,
         // where each pre part has the slots of the parts that were taken for its time zero.

@@ -1,4 +1,4 @@
--- What the places of all eight sensors have sent and kept.
+-- What the places of all sensors have sent and kept.
 use Rattle.edr_items.specs.SensorLists.{SensorLists}
 use Rattle.edr_drive.specs.declared.places.Places.{Places}
 use Rattle.edr_loops.specs.Stands.{AreFastBegun, AreFastDealt, ArePlacesKept, AreSlowDealt, FastGoOn, SlowKeepOn, either_fast, either_slow}

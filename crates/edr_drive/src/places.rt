@@ -1,4 +1,4 @@
-//! The places of all eight sensors, as they are dealt to the workers and put together again.
+//! The places of all sensors, as they are dealt to the workers and put together again.
 
 ghost use Rattle.edr_drive.specs.Places.{AreAllDealt, either_all};
 ghost use Rattle.std.specs.Prelude.{◌≡◌};

@@ -55,7 +55,7 @@ fn push_crash(page: &mut Page, moment: &str, tick: u32, along: i32, across: i32)
     page.push_str("\n");
 }
 
-// The rows of the five slow sensors, at every 100th tick.
+// The rows of the slow sensors, at every 100th tick.
 fn push_slow(page: &mut Page, moment: &str, tick: u32)
     requires room { array_string_len page.old + 98 ≤ PAGE }
     requires short { length moment.now ≤ 10 }

@@ -1,4 +1,4 @@
--- One value for each of the eight sensors.
+-- One value for each sensor.
 use Rattle.std.specs.Prelude.{ℕ, ◌+◌}
 use Rattle.edr_items.specs.declared.Sensor.{Sensor}
 use Rattle.edr_items.specs.declared.Sensor.TheVariants.{Along, Across, Speed, Throttle, Brake, Belt, Lamp, Restraint}

@@ -1,4 +1,4 @@
--- One value for each of the five slow sensors.
+-- One value for each slow sensor.
 use Rattle.std.specs.Prelude.{is_none, find, Option, Some, None, Result, Ok, Err, List, [], ◌∷◌, ◌⊎◌}
 use Rattle.edr_items.specs.declared.Sensor.{Sensor}
 use Rattle.edr_items.specs.declared.Sensor.TheVariants.{Along, Across, Speed, Throttle, Brake, Belt, Lamp, Restraint}
@@ -59,11 +59,11 @@ slow_at Restraint p = p.speed
 abbrev pub slow_values_by : {A : Type 0} → (Sensor → A) → PerSlowSensor A
 slow_values_by h = record { speed = h Speed; throttle = h Throttle; brake = h Brake; belt = h Belt; lamp = h Lamp }
 
--- those of the slow sensors among the values of all eight
+-- those of the slow sensors among the values of all sensors
 abbrev pub slow_values : {A : Type 0} → PerSensor A → PerSlowSensor A
 slow_values p = record { speed = p.speed; throttle = p.throttle; brake = p.brake; belt = p.belt; lamp = p.lamp }
 
--- values of all eight, of which the other three have this one
+-- values of all sensors, of which the other three have this one
 abbrev pub with_slow_values : {A : Type 0} → A → PerSlowSensor A → PerSensor A
 with_slow_values x p = record { along = x; across = x; speed = p.speed; throttle = p.throttle; brake = p.brake; belt = p.belt; lamp = p.lamp; restraint = x }
 

@@ -1,4 +1,4 @@
-//! One value for each of the eight sensors.
+//! One value for each sensor.
 
 ghost use Rattle.std.specs.Prelude.{◌≡◌};
 ghost use Rattle.std.specs.Borrow.{sem};
@@ -7,7 +7,7 @@ ghost use Rattle.edr_items.specs.LendsValue.{LendsValue};
 
 use crate::Sensor;
 
-/// One value for each of the eight sensors.
+/// One value for each sensor.
 #[derive(Clone, Copy, Drop)]
 pub struct PerSensor<T> {
     pub along: T,

@@ -1,4 +1,4 @@
-//! One value for each of the five slow sensors.
+//! One value for each slow sensor.
 
 ghost use Rattle.std.specs.Prelude.{◌≡◌, Some, None, Ok, IfOk, IfErr, MatchOption};
 ghost use Rattle.std.specs.Borrow.{sem};
@@ -7,7 +7,7 @@ ghost use Rattle.edr_items.specs.LendsValue.{LendsSlowValue};
 
 use crate::Sensor;
 
-/// One value for each of the five slow sensors.
+/// One value for each slow sensor.
 #[derive(Clone, Copy, Drop)]
 pub struct PerSlowSensor<T> {
     pub speed: T,

@@ -32,7 +32,7 @@ pub record AreFastFeeds (l : FastItems) : Type 0 where
   pub across : IsFeed sensor.Across l.across
   pub restraint : IsFeed sensor.Restraint l.restraint
 
--- of these sensors the lists of all eight have these items
+-- of these sensors the lists of all sensors have these items
 pub record HaveFast (l : FastItems) (f : SensorLists) : Type 0 where
   pub along : f.along ≡ l.along
   pub across : f.across ≡ l.across

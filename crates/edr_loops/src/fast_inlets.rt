@@ -17,7 +17,7 @@ pub enum FastSensor {
 }
 
 impl FastSensor {
-    /// The same as one of the eight.
+    /// The same as one of all sensors.
     #[inline(always)]
     pub fn sensor(&self) -> Sensor
         ensures { result ≡ sensor_of self.now }

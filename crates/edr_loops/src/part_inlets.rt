@@ -8,7 +8,7 @@ use edr_capture::Part;
 use edr_items::{PerSlowSensor, Sensor};
 use edr_seats::PartInlet;
 
-/// The inlets of the five slow sensors.
+/// The inlets of the slow sensors.
 pub type PartInlets = PerSlowSensor<PartInlet>;
 
 // Takes the oldest part of that sensor, if there is one. The other three sensors give none.

@@ -19,7 +19,7 @@ pub struct FastPlaces {
     pub restraint: Option<SensorPlace>,
 }
 
-/// The places of some of the sensors 3 to 7, which keep their items and send parts alone.
+/// The places of some of the slow sensors, which keep their items and send parts alone.
 #[derive(Drop)]
 pub struct SlowPlaces {
     pub each: PerSlowSensor<Option<SlowPlace>>,

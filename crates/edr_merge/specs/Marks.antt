@@ -1,4 +1,4 @@
--- The last moments of the eight sensors.
+-- The last moments of the sensors.
 use Rattle.std.specs.Prelude.{ℕ, Bool, nat_eq, Option, find}
 use Rattle.edr_items.specs.declared.Sensor.{Sensor}
 use Rattle.edr_items.specs.declared.per_sensor.PerSensor.{PerSensor}

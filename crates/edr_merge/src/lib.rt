@@ -1,4 +1,4 @@
-//! The merge of the eight sensors: items that come in any order of sensors go in, and the rows of one tick after the
+//! The merge of the sensors: items that come in any order of sensors go in, and the rows of one tick after the
 //! other come out.
 #![tactic(auto)]
 
@@ -45,7 +45,7 @@ pub enum Next {
 }
 
 /// The items of a cycle's sensors on their way to rows. Each sensor gives its own items in their order; how those of
-/// the eight come between one another is free.
+/// several come between one another is free.
 ///
 /// All memory is taken when it is made. A call takes none and has a bounded number of steps.
 #[derive(Drop)]

@@ -1,4 +1,4 @@
-//! The last moments of the eight sensors.
+//! The last moments of the sensors.
 ghost use Rattle.std.specs.Prelude.{◌≡◌};
 ghost use Rattle.edr_merge.specs.Marks.{first_at};
 ghost use Rattle.edr_merge.specs.Lag.{IsBelowSlow};
