@@ -87,7 +87,7 @@ fn drive_source<
     run_driven(rt, alloc, nvm, cycles, workers, form, gate)
 }
 
-/// Serves the words `drive W [text|csv]`: `replay` with W workers, 1 to 8, for the eight sensors, and a recorder beside them. The
+/// Serves the words `drive W [text|csv]`: `replay` with W workers, 1 to 8, for the sensors, and a recorder beside them. The
 /// caller's thread writes the records, so the device crosses no thread.
 ///
 /// What it writes, what the device then holds and what each status says are those of `replay`, whatever the schedule of the

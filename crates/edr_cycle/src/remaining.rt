@@ -34,7 +34,7 @@ impl<'a> Remaining<'a> {
     ghost use Rattle.edr_core.specs.SplitContents.{SplitContents};
     ghost use Rattle.edr_cycle.specs.Remaining.{WasTold};
 
-    /// What is left past these last moments of the sensors 1, 2 and 8, and all of the slow sensors.
+    /// What is left past these last moments of the fast sensors, and all of the slow ones.
     pub fn after(
         feeds: &'a Feeds,
         along: u32,

@@ -16,7 +16,7 @@ use Rattle.edr_drive.specs.declared.beginning.Crossings.{Crossings}
 use Rattle.edr_drive.specs.declared.beginning.Seats.{Seats}
 use Rattle.edr_drive.specs.Places.{HaveBegun}
 
--- the lists of the sensors 1, 2 and 8
+-- the lists of the fast sensors
 abbrev pub fast_items_of : SensorLists → FastItems
 fast_items_of f = record { along = f.along; across = f.across; restraint = f.restraint }
 

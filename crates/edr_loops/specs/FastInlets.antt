@@ -1,4 +1,4 @@
--- What a contract sees of the inlets of the sensors 1, 2 and 8.
+-- What a contract sees of the inlets of the fast sensors.
 use Rattle.std.specs.Prelude.{◌≡◌, ℕ, List, [], ◌∷◌, ◌++◌}
 use Rattle.edr_items.specs.declared.Sensor.{Sensor}
 use Rattle.edr_items.specs.declared.Sensor.TheVariants as sensor

@@ -193,7 +193,7 @@ impl Desk {
     }
 
     /// The recorder's loop. Where the committer has stopped, the gate is posted 2 and nothing is done. `ends` are the last moments of
-    /// the feeds of the sensors 1, 2 and 8, and the loop ends once it has taken every item of these and closed the horizon.
+    /// the feeds of the fast sensors, and the loop ends once it has taken every item of these and closed the horizon.
     pub fn record<R: Wait>(self, rt: &R, horizon: u32, ends: FastMarks) -> Desk
         requires stands { IsRecording self }
         requires posted { HasPosted self }

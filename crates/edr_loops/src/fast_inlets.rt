@@ -1,4 +1,4 @@
-//! The recorder's ends of the rings of the sensors 1, 2 and 8, of which each item reaches the recorder.
+//! The recorder's ends of the rings of the fast sensors, of which each item reaches the recorder.
 
 ghost use Rattle.std.specs.Prelude.{◌≡◌, ◌≤◌};
 ghost use Rattle.edr_loops.specs.FastInlets.{fast_mark, sensor_of, with_fast, with_fast_mark};

@@ -11,7 +11,7 @@ use edr_items::{Feeds, PerSlowSensor, SENSORS, Sensor};
 use std::sync::Wait;
 use std::thread;
 
-/// The places of some of the sensors 1, 2 and 8, whose items go through rings.
+/// The places of some of the fast sensors, whose items go through rings.
 #[derive(Drop)]
 pub struct FastPlaces {
     pub along: Option<SensorPlace>,
