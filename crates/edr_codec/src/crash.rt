@@ -10,10 +10,7 @@ use crate::Damaged;
 use crate::pieces::{PartValue, put_all, put_zeros, read_all};
 use crate::rows::{FieldRow, check_rows};
 use edr_image::forms::{CrashForm, VERSION_1, VERSION_2};
-use edr_record::{Crash, Extreme};
-
-// How many points an axis has room for.
-const POINTS: usize = 26;
+use edr_record::{Crash, Extreme, POINTS};
 
 // How many points an axis has, from the time of the end.
 fn point_count(end: u16) -> usize

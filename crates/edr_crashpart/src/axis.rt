@@ -6,7 +6,7 @@ ghost use Rattle.edr_crashpart.specs.Bounds.{IsInRange};
 ghost use Rattle.edr_crashpart.specs.Fields.{axis_of, peak_of};
 
 use crate::WINDOW;
-use edr_record::Extreme;
+use edr_record::{Extreme, POINTS};
 use edr_units::kmh;
 
 // A change of speed since time zero, and its time from there.
@@ -21,7 +21,7 @@ pub struct Peak {
 pub struct Axis {
     // The change since time zero.
     pub sum: i64,
-    pub points: [i16; 26],
+    pub points: [i16; POINTS],
     // The change of the greatest size, and its first time.
     pub peak: Peak,
     // How many ticks had no sample.
@@ -47,7 +47,7 @@ fn next_sum(sum: i64, sample: Option<i32>, at: u16) -> i64
 }
 
 // Notes the change at each tenth tick up to 250 ms.
-fn note_point(points: &mut [i16; 26], sum: i64, at: u16)
+fn note_point(points: &mut [i16; POINTS], sum: i64, at: u16)
     requires { unsigned_abs sum ≤ 100_000 * at }
     ensures { points.new ≡ next_points points.old sum at }
 {
@@ -76,7 +76,7 @@ impl Axis {
     {
         Axis {
             sum: 0,
-            points: [0; 26],
+            points: [0; POINTS],
             peak: Peak { value: 0, at: 0 },
             missing: 0,
         }

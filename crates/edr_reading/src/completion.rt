@@ -1,6 +1,7 @@
 //! Plain rows that may follow those of a report that was cut.
 
 ghost use Rattle.std.specs.Prelude.{◌≡◌, ◌<◌, ◌≤◌, ◌+◌, ℕ, ⊤, pos, Some, IfSome, MatchOption, OnOk, length, replicate, slice_index_or, []};
+ghost use Rattle.edr_record.specs.Bounds.{most_points};
 ghost use Rattle.edr_report.specs.Words.{points_words, profile_word};
 ghost use Rattle.edr_reading.specs.Cut.{cut_texts, IsNoneOf, cut_rows, rows_of, tried_texts};
 ghost use Rattle.edr_reading.specs.Plain.{event_names, ArePlain, absent_texts, no_numbers, no_switches};
@@ -108,7 +109,7 @@ pub(crate) fn is_named(name: &[u8], place: usize) -> bool
 // Points of an axis that has no change, up to this end.
 fn unchanged(end: u32) -> &'static [u8]
     requires { end ≤ 500 }
-    ensures { result.now ≡ points_words end (replicate 26 (pos 0)) }
+    ensures { result.now ≡ points_words end (replicate most_points (pos 0)) }
 {
     let count = (end + 30).min(250) / 10 + 1;
     UNCHANGED.split_at(2 * count as usize - 1).0

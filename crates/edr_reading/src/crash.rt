@@ -2,6 +2,7 @@
 
 ghost use Rattle.std.specs.Prelude.{◌≡◌, ◌≤◌, ℤ, List, Option, All, map, Some, IfSome, pos, ◌≢◌};
 ghost use Rattle.std.specs.Bool.{MatchBool};
+ghost use Rattle.edr_record.specs.declared.TheConstants.{POINTS};
 ghost use Rattle.edr_record.specs.Bounds.{ArePoints, IsChange, IsCrash, IsUpTo, point_count, window_from_end};
 ghost use Rattle.edr_record.specs.Parts.{CrashPart};
 ghost use Rattle.edr_report.specs.Words.{points_words, firing_words};
@@ -12,7 +13,7 @@ ghost use Rattle.edr_reading.specs.Rows.{texts_in};
 
 use crate::slots::read_slots;
 use crate::values::{extreme, firing, missing, time};
-use edr_record::Crash;
+use edr_record::{Crash, POINTS};
 
 /// The values of the lines of what came after time zero, in their order.
 #[derive(Clone, Copy)]
@@ -44,12 +45,12 @@ fn count_from(end: u16) -> usize
 }
 
 // So many points, with zeros behind them.
-fn some_points(bytes: &[u8], count: usize) -> Option<[i16; 26]>
-    requires { count ≤ 26 }
+fn some_points(bytes: &[u8], count: usize) -> Option<[i16; POINTS]>
+    requires { count ≤ POINTS }
     ensures read { IfSome result (AreShown count bytes.now) }
     ensures whole { OfSpaced count signed_decimal IsChange bytes.now (λ front. result ≡ Some (with_zeros count front)) }
 {
-    let mut points = [0; 26];
+    let mut points = [0; POINTS];
     if read_slots(bytes, &mut points[..count]) {
         Some(points)
     } else {
@@ -64,7 +65,7 @@ fn is_zero(change: i16) -> bool
 }
 
 // The points of an axis that the end allows.
-fn points(bytes: &[u8], end: u16) -> Option<[i16; 26]>
+fn points(bytes: &[u8], end: u16) -> Option<[i16; POINTS]>
     requires { end ≤ 500 }
     ensures read { IfSome result (λ ps. (bytes.now ≡ points_words end ps) × ArePoints (point_count end) ps) }
     ensures whole { (ps : List ℤ) → ArePoints (point_count end) ps → bytes.now ≡ points_words end ps → result ≡ Some ps }

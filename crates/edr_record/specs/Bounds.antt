@@ -1,7 +1,7 @@
 -- Which values the fields of a record may have.
 use Rattle.std.specs.Prelude.{◌≡◌, ℕ, ◌+◌, ◌-◌, ◌/◌, ◌≤◌, min, max, ℤ, pos, unsigned_abs, Option, Some, IfSome, List, length, drop, replicate, slice_get, All}
 use Rattle.edr_items.specs.declared.TheConstants.{LATEST_MOMENT}
-use Rattle.edr_record.specs.declared.TheConstants.{LONG_SLOTS, LONGEST_PAIR, RESET, SHORT_SLOTS}
+use Rattle.edr_record.specs.declared.TheConstants.{LONG_SLOTS, LONGEST_PAIR, POINTS, RESET, SHORT_SLOTS}
 use Rattle.edr_record.specs.declared.Place.{Place}
 use Rattle.edr_record.specs.declared.Place.TheVariants.{First, Second}
 use Rattle.edr_record.specs.declared.Extreme.{Extreme}
@@ -50,7 +50,7 @@ point_count end = min 250 (end + 30) / 10 + 1
 
 -- how many points a crash part has room for
 abbrev pub most_points : ℕ
-most_points = 26
+most_points = POINTS
 
 -- a change of speed in whole km/h that samples in range can give
 abbrev pub IsChange : ℤ → Type 0

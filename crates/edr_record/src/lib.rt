@@ -27,6 +27,9 @@ pub const LONGEST_PAIR: u32 = 5_000;
 /// How long after time zero an event ends at the latest, in milliseconds: the search for one is reset there.
 pub const RESET: u16 = 500;
 
+/// How many points an axis of a crash part has room for.
+pub const POINTS: usize = 26;
+
 /// Names an event: the ignition cycle, and its time zero there in milliseconds.
 #[derive(Clone, Copy, Debug, PartialEq, Eq)]
 pub struct Key {
@@ -104,8 +107,8 @@ pub struct Extreme {
 #[derive(Clone, Copy, Debug, PartialEq, Eq)]
 pub struct Crash {
     pub end: u16,
-    pub along: [i16; 26],
-    pub across: [i16; 26],
+    pub along: [i16; POINTS],
+    pub across: [i16; POINTS],
     pub max_along: Extreme,
     pub max_across: Extreme,
     pub result_at: u16,
@@ -234,7 +237,8 @@ pub enum Command {
 }
 
 /// Lists have eleven slots, or 201, at each tenth of a second from 20 s before time zero on; belt and lamp have one, 1 s
-/// before it. The two events of a pair begin at most 5 s apart, and each ends at most half a second past its time zero.
+/// before it. The two events of a pair begin at most 5 s apart, and each ends at most half a second past its time zero. An
+/// axis has room for 26 points.
 pub fn times_are_those_of_a_record()
     ensures short { SHORT_SLOTS ≡ 11 }
     ensures long { LONG_SLOTS ≡ 201 }
@@ -243,4 +247,5 @@ pub fn times_are_those_of_a_record()
     ensures single { SINGLE_REACH ≡ 1_000 }
     ensures pair { LONGEST_PAIR ≡ 5_000 }
     ensures reset { RESET ≡ 500 }
+    ensures points { POINTS ≡ 26 }
 {}

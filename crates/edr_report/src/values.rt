@@ -5,7 +5,7 @@ ghost use Rattle.edr_report.specs.Words.{spaced, yes_no, profile_word, switch_or
 ghost use Rattle.edr_report.specs.Values.{value_words};
 
 use edr_image::Applied;
-use edr_record::{Extreme, Place, Profile};
+use edr_record::{Extreme, POINTS, Place, Profile};
 use std::alloc::AllocError as OutOfMemory;
 
 /// Counts of ignition cycles are shown up to this number.
@@ -44,7 +44,7 @@ pub enum Value<'a> {
     /// The points of an axis that this end allows.
     Points {
         end: u16,
-        points: [i16; 26],
+        points: [i16; POINTS],
     },
     Extreme(Extreme),
     /// How many ticks have no sample.
@@ -196,7 +196,7 @@ fn put_time_between(out: &mut String, place: Place) -> Result<(), OutOfMemory>
 }
 
 // Appends the points of an axis that the end allows.
-fn put_points(out: &mut String, end: u16, points: [i16; 26]) -> Result<(), OutOfMemory>
+fn put_points(out: &mut String, end: u16, points: [i16; POINTS]) -> Result<(), OutOfMemory>
     ensures { OnOk result (string_bytes out.new ≡ string_bytes out.old ++ points_words end points) }
 {
     let count = 250.min(usize::from(end) + 30) / 10 + 1;
