@@ -7,13 +7,13 @@ ghost use Rattle.edr_drawing.specs.Changes.{IsScale};
 ghost use Rattle.edr_drawing.specs.After.{past_window, time_line, time_lines, legend, level, levels, after_frame, end_line, axis_point, axis_points, curve, dot, dots, square, squares, maximum_number, diamond, across_number, along_number, maxima, curves, changes_chart};
 
 use crate::before::name;
-use crate::changes::{Scale, window_of};
+use crate::changes::Scale;
 use crate::elements::{Element, TextWords, draw};
 use crate::pieces::{Piece, put};
 use crate::scales::{LEFT, RIGHT};
 use crate::tags::Tag;
 use crate::texts::{ChartText, Class, Label};
-use edr_record::{Crash, Extreme, POINTS};
+use edr_record::{Crash, Extreme, POINTS, point_count, window_from_end};
 use std::alloc::AllocError as OutOfMemory;
 
 // Draws the field past the window, if the chart reaches there.
@@ -451,8 +451,7 @@ pub fn points_of(end: u16, points: &[i16; POINTS]) -> &[i16]
     ensures points { result.now ≡ take (point_count end) points.now }
     ensures count { length result.now ≤ POINTS }
 {
-    let count = 250.min(usize::from(end) + 30) / 10 + 1;
-    &points[..count]
+    &points[..point_count(end)]
 }
 
 // Draws the part of the chart that shows changes of speed.
@@ -461,7 +460,7 @@ pub fn draw_changes(out: &mut Vec<u8>, scale: &Scale, crash: &Crash) -> Result<(
     requires { IsScale scale.now }
     ensures { OnOk result (out.new.items ≡ out.old.items ++ changes_chart scale.now crash.now) }
 {
-    let window = window_of(crash.end);
+    let window = window_from_end(crash.end);
     draw_frame(out, scale, window)?;
     draw_end(out, scale, crash.end, window)?;
     draw_curves(out, scale, crash)?;

@@ -2,7 +2,7 @@
 
 ghost use Rattle.std.specs.Prelude.{◌≡◌, ◌≤◌, ◌<◌, ◌+◌, ◌-◌, ◌*◌, max};
 ghost use Rattle.std.specs.List.{list_all};
-ghost use Rattle.edr_drawing.specs.Changes.{IsScale, highest, lowest, reach_up, reach_down, is_early, span_of, scale_of, change_y, time_x, window_of};
+ghost use Rattle.edr_drawing.specs.Changes.{IsScale, highest, lowest, reach_up, reach_down, is_early, span_of, scale_of, change_y, time_x};
 
 use crate::scales::{LEFT, below_top, fall_of, least_step, rise_of, scale_top};
 use edr_record::{Crash, POINTS};
@@ -123,12 +123,4 @@ impl Scale {
     {
         LEFT + u32::from(time) * (1_500 / self.span)
     }
-}
-
-/// How long after time zero extremes are looked for.
-pub fn window_of(end: u16) -> u16
-    ensures window { result ≡ window_of end }
-    ensures range { result ≤ 300 }
-{
-    if end < 270 { end + 30 } else { 300 }
 }

@@ -11,7 +11,7 @@ ghost use Rattle.edr_reading.specs.Answers.{TellsWhether};
 use crate::front::is_word;
 use crate::rows::ReportRow;
 use crate::values::time;
-use edr_record::Profile;
+use edr_record::{Profile, point_count};
 use std::alloc::AllocError as OutOfMemory;
 
 // The names of the rows of an event.
@@ -107,12 +107,10 @@ pub(crate) fn is_named(name: &[u8], place: usize) -> bool
 }
 
 // Points of an axis that has no change, up to this end.
-fn unchanged(end: u32) -> &'static [u8]
-    requires { end ≤ 500 }
+fn unchanged(end: u16) -> &'static [u8]
     ensures { result.now ≡ points_words end (replicate most_points (pos 0)) }
 {
-    let count = (end + 30).min(250) / 10 + 1;
-    UNCHANGED.split_at(2 * count as usize - 1).0
+    UNCHANGED.split_at(2 * point_count(end) - 1).0
 }
 
 /// Points that may stand behind the row in this place, which has this value.
@@ -123,7 +121,7 @@ pub(crate) fn points_behind<'a>(place: usize, value: &'a [u8]) -> &'a [u8]
         return value;
     }
     match time(value, 20, 500) {
-        Some(end) => unchanged(end),
+        Some(end) => unchanged(end as u16),
         None => value,
     }
 }

@@ -3,7 +3,7 @@
 ghost use Rattle.std.specs.Prelude.{◌≡◌, ◌≤◌, ℤ, List, Option, All, map, Some, IfSome, pos, ◌≢◌};
 ghost use Rattle.std.specs.Bool.{MatchBool};
 ghost use Rattle.edr_record.specs.declared.TheConstants.{POINTS};
-ghost use Rattle.edr_record.specs.Bounds.{ArePoints, IsChange, IsCrash, IsUpTo, point_count, window_from_end};
+ghost use Rattle.edr_record.specs.Bounds.{ArePoints, IsChange, IsCrash, IsUpTo, point_count};
 ghost use Rattle.edr_record.specs.Parts.{CrashPart};
 ghost use Rattle.edr_report.specs.Words.{points_words, firing_words};
 ghost use Rattle.edr_reading.specs.Parts.{ShowsCrash, OfFirings};
@@ -13,7 +13,7 @@ ghost use Rattle.edr_reading.specs.Rows.{texts_in};
 
 use crate::slots::read_slots;
 use crate::values::{extreme, firing, missing, time};
-use edr_record::{Crash, POINTS};
+use edr_record::{Crash, POINTS, point_count, window_from_end};
 
 /// The values of the lines of what came after time zero, in their order.
 #[derive(Clone, Copy)]
@@ -26,22 +26,6 @@ pub(crate) struct CrashValues<'a> {
     pub result_at: &'a [u8],
     pub missing: &'a [u8],
     pub fired: [&'a [u8]; 8],
-}
-
-// How long after time zero extremes and missing samples are looked for.
-fn window(end: u16) -> u16
-    requires { end ≤ 500 }
-    ensures { result ≡ window_from_end end }
-{
-    300.min(end + 30)
-}
-
-// How many points the end allows.
-fn count_from(end: u16) -> usize
-    requires { end ≤ 500 }
-    ensures { result ≡ point_count end }
-{
-    (usize::from(end) + 30).min(250) / 10 + 1
 }
 
 // So many points, with zeros behind them.
@@ -66,11 +50,10 @@ fn is_zero(change: i16) -> bool
 
 // The points of an axis that the end allows.
 fn points(bytes: &[u8], end: u16) -> Option<[i16; POINTS]>
-    requires { end ≤ 500 }
     ensures read { IfSome result (λ ps. (bytes.now ≡ points_words end ps) × ArePoints (point_count end) ps) }
     ensures whole { (ps : List ℤ) → ArePoints (point_count end) ps → bytes.now ≡ points_words end ps → result ≡ Some ps }
 {
-    match some_points(bytes, count_from(end)) {
+    match some_points(bytes, point_count(end)) {
         Some(points) if is_zero(points[0]) => Some(points),
         _ => None,
     }
@@ -95,7 +78,7 @@ pub(crate) fn read_crash(values: &CrashValues<'_>) -> Option<Crash>
     ensures whole { (c : CrashPart) → IsCrash c → ShowsCrash values.now c → result ≡ Some c }
 {
     let end = time(values.end, 20, 500)? as u16;
-    let window = window(end);
+    let window = window_from_end(end);
     let along = points(values.along, end)?;
     let across = points(values.across, end)?;
     let max_along = extreme(values.max_along, window)?;

@@ -3,6 +3,7 @@
 
 ghost use Rattle.std.specs.Prelude.{◌≡◌, is_some};
 ghost use Rattle.std.specs.List.{list_all};
+ghost use Rattle.edr_record.specs.Bounds.{point_count, window_from_end};
 
 use std::marker::Model;
 
@@ -138,6 +139,23 @@ pub struct Record {
     pub pre: Pre,
     pub locked: bool,
     pub crash: Option<Crash>,
+}
+
+/// How many points an axis has, by the time of the end: one at time zero and at each 10 ms after it, up to 30 ms past the
+/// end and to 250 ms.
+#[inline]
+pub fn point_count(end: u16) -> usize
+    ensures { result ≡ point_count end }
+{
+    (usize::from(end) + 30).min(250) / 10 + 1
+}
+
+/// How long after time zero extremes and missing samples are looked for, by the time of the end, in milliseconds.
+#[inline]
+pub fn window_from_end(end: u16) -> u16
+    ensures { result ≡ window_from_end end }
+{
+    end.saturating_add(30).min(300)
 }
 
 // Each slot has a value.

@@ -5,7 +5,7 @@ ghost use Rattle.edr_report.specs.Words.{spaced, yes_no, profile_word, switch_or
 ghost use Rattle.edr_report.specs.Values.{value_words};
 
 use edr_image::Applied;
-use edr_record::{Extreme, POINTS, Place, Profile};
+use edr_record::{Extreme, POINTS, Place, Profile, point_count};
 use std::alloc::AllocError as OutOfMemory;
 
 /// Counts of ignition cycles are shown up to this number.
@@ -199,8 +199,7 @@ fn put_time_between(out: &mut String, place: Place) -> Result<(), OutOfMemory>
 fn put_points(out: &mut String, end: u16, points: [i16; POINTS]) -> Result<(), OutOfMemory>
     ensures { OnOk result (string_bytes out.new ≡ string_bytes out.old ++ points_words end points) }
 {
-    let count = 250.min(usize::from(end) + 30) / 10 + 1;
-    put_spaced(out, &points[..count])
+    put_spaced(out, &points[..point_count(end)])
 }
 
 fn put_extreme(out: &mut String, extreme: Extreme) -> Result<(), OutOfMemory>
