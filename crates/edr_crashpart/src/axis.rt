@@ -5,8 +5,7 @@ ghost use Rattle.edr_definitions.specs.OpenCrash.{begin_axis, next_axis, next_po
 ghost use Rattle.edr_crashpart.specs.Bounds.{IsInRange};
 ghost use Rattle.edr_crashpart.specs.Fields.{axis_of, peak_of};
 
-use crate::WINDOW;
-use edr_record::{Extreme, POINTS};
+use edr_record::{Extreme, LONGEST_WINDOW, POINTS};
 use edr_units::kmh;
 
 // A change of speed since time zero, and its time from there.
@@ -94,7 +93,7 @@ impl Axis {
         let sum = next_sum(self.sum, sample, at);
         self.sum = sum;
         note_point(&mut self.points, sum, at);
-        if at <= WINDOW {
+        if at <= LONGEST_WINDOW {
             self.peak = self.peak.or_higher(sum, at);
             self.missing += u16::from(sample.is_none());
         }

@@ -16,11 +16,8 @@ mod axis;
 
 use axis::Axis;
 use edr_items::Restraints;
-use edr_record::Crash;
+use edr_record::{Crash, LONGEST_WINDOW};
 use std::marker::Model;
-
-// How long after time zero extremes and ticks without a sample count, in milliseconds.
-const WINDOW: u16 = 300;
 
 // The sum of the squares of two changes.
 fn sum_of_squares(along: i64, across: i64) -> u64
@@ -58,7 +55,7 @@ impl ResultPeak {
         requires across { unsigned_abs across.now.sum ≤ 50_000_000 }
         ensures { result_of result ≡ next_result (result_of self) along.now.sum across.now.sum at }
     {
-        if at <= WINDOW {
+        if at <= LONGEST_WINDOW {
             self.or_higher(sum_of_squares(along.sum, across.sum), at)
         } else {
             self

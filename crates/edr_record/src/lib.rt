@@ -28,6 +28,9 @@ pub const LONGEST_PAIR: u32 = 5_000;
 /// How long after time zero an event ends at the latest, in milliseconds: the search for one is reset there.
 pub const RESET: u16 = 500;
 
+/// How long after time zero extremes and missing samples are looked for at the most, in milliseconds.
+pub const LONGEST_WINDOW: u16 = 300;
+
 /// How many points an axis of a crash part has room for.
 pub const POINTS: usize = 26;
 
@@ -155,7 +158,7 @@ pub fn point_count(end: u16) -> usize
 pub fn window_from_end(end: u16) -> u16
     ensures { result ≡ window_from_end end }
 {
-    end.saturating_add(30).min(300)
+    end.saturating_add(30).min(LONGEST_WINDOW)
 }
 
 // Each slot has a value.
@@ -256,7 +259,7 @@ pub enum Command {
 
 /// Lists have eleven slots, or 201, at each tenth of a second from 20 s before time zero on; belt and lamp have one, 1 s
 /// before it. The two events of a pair begin at most 5 s apart, and each ends at most half a second past its time zero. An
-/// axis has room for 26 points.
+/// axis has room for 26 points, and extremes are looked for 300 ms at the most.
 pub fn times_are_those_of_a_record()
     ensures short { SHORT_SLOTS ≡ 11 }
     ensures long { LONG_SLOTS ≡ 201 }
@@ -265,5 +268,6 @@ pub fn times_are_those_of_a_record()
     ensures single { SINGLE_REACH ≡ 1_000 }
     ensures pair { LONGEST_PAIR ≡ 5_000 }
     ensures reset { RESET ≡ 500 }
+    ensures window { LONGEST_WINDOW ≡ 300 }
     ensures points { POINTS ≡ 26 }
 {}
