@@ -10,7 +10,9 @@ use crate::Damaged;
 use crate::pieces::{PartValue, put_all, put_zeros, read_all};
 use crate::rows::{FieldRow, check_rows};
 use edr_image::forms::{CrashForm, VERSION_1, VERSION_2};
-use edr_record::{Crash, Extreme, POINTS, point_count, window_from_end};
+use edr_record::{
+    Crash, EARLIEST_END, Extreme, POINTS, RESET, point_count, window_from_end,
+};
 
 // The fields of a crash part with this end.
 fn crash_rows(end: u16, form: &CrashForm) -> [FieldRow; 13]
@@ -27,7 +29,7 @@ fn crash_rows(end: u16, form: &CrashForm) -> [FieldRow; 13]
     let first = FieldRow::of(1, 2, (0, 0));
     let time = FieldRow::of(1, 2, (0, window));
     [
-        FieldRow::of(1, 2, (20, 500)),
+        FieldRow::of(1, 2, (u32::from(EARLIEST_END), u32::from(RESET))),
         first,
         changes,
         past,

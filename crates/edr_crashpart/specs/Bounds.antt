@@ -17,7 +17,7 @@ pub record IsOpenAxis (elapsed : ℕ) (a : OpenAxis) : Type 0 where
   pub peak_at : a.peak.at ≤ min LONGEST_WINDOW elapsed
   pub missing : a.missing ≤ min LONGEST_WINDOW elapsed
 
--- a crash part that is open for at most 500 ms
+-- a crash part that is open up to the reset at most
 pub record IsOpen (p : OpenCrash) : Type 0 where
   pub elapsed : p.elapsed ≤ RESET
   pub along : IsOpenAxis p.elapsed p.along

@@ -3,7 +3,7 @@
 
 ghost use Rattle.std.specs.Prelude.{◌≡◌, unsigned_abs, if◌then◌else◌, ◌+◌, ◌<◌, ◌≤◌, []};
 ghost use Rattle.std.specs.Option.{option_or};
-ghost use Rattle.edr_record.specs.declared.TheConstants.{RESET};
+ghost use Rattle.edr_record.specs.declared.TheConstants.{EARLIEST_END, RESET};
 ghost use Rattle.edr_definitions.specs.Search.{tick_if};
 ghost use Rattle.edr_definitions.specs.Windows.{squares};
 ghost use Rattle.edr_definitions.specs.Selection.{close_of};
@@ -156,7 +156,7 @@ impl OpenCrash {
     /// The crash part of the event whose end is that tick of the cycle, once its close has come: the end, or the tick up to
     /// which extremes count if that is later.
     pub fn finish(&self, end: u32) -> Crash
-        requires from { self.now.zero + 20 ≤ end }
+        requires from { self.now.zero + EARLIEST_END ≤ end }
         requires to { end ≤ self.now.zero + RESET }
         requires closed { self.now.zero + self.now.elapsed ≡ close_of self.now.zero end }
         ensures part { result ≡ finish_crash self.now end }

@@ -1,6 +1,7 @@
 -- The rows of an event behind one of them, by plain values.
 use Rattle.std.specs.Prelude.{◌<◌, Option, Some, None, ◌≡◌, ◌≤◌, ◌+◌, ◌⊎◌, ℕ, Bool, true, false, pos, List, [], ◌∷◌, ◌++◌, drop, replicate, length, map, codes, decimal, slice_index_or}
 use Rattle.std.specs.Bool.{MatchBool}
+use Rattle.edr_record.specs.declared.TheConstants.{EARLIEST_END, RESET}
 use Rattle.edr_record.specs.declared.Extreme.{Extreme}
 use Rattle.edr_record.specs.declared.Place.{Place}
 use Rattle.edr_record.specs.declared.Place.TheVariants.{First, Second}
@@ -108,7 +109,7 @@ IsGuess block bank points v = IsGuessOf Short block bank points v ⊎ IsGuessOf 
 -- what is tried as the points of both axes behind the end of an event, which this value tells, and behind its points along
 abbrev pub ArePlain : ℕ → List ℕ → List ℕ → Type 0
 ArePlain place value points =
-    ((end : ℕ) → place ≡ 13 → 20 ≤ end → end ≤ 500 → value ≡ milliseconds end → points ≡ points_words end (replicate most_points (pos 0)))
+    ((end : ℕ) → place ≡ 13 → EARLIEST_END ≤ end → end ≤ RESET → value ≡ milliseconds end → points ≡ points_words end (replicate most_points (pos 0)))
     × (place ≡ 14 → points ≡ value)
 
 -- ---- the rows behind

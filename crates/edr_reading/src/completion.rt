@@ -10,7 +10,7 @@ ghost use Rattle.edr_reading.specs.Answers.{TellsWhether};
 
 use crate::front::is_word;
 use crate::rows::ReportRow;
-use crate::values::time;
+use crate::values::end_time;
 use edr_record::{Profile, point_count};
 use std::alloc::AllocError as OutOfMemory;
 
@@ -120,8 +120,8 @@ pub(crate) fn points_behind<'a>(place: usize, value: &'a [u8]) -> &'a [u8]
     if place != 13 {
         return value;
     }
-    match time(value, 20, 500) {
-        Some(end) => unchanged(end as u16),
+    match end_time(value) {
+        Some(end) => unchanged(end),
         None => value,
     }
 }

@@ -12,7 +12,7 @@ ghost use Rattle.std.specs.Fmt.{signed_decimal};
 ghost use Rattle.edr_reading.specs.Rows.{texts_in};
 
 use crate::slots::read_slots;
-use crate::values::{extreme, firing, missing, time};
+use crate::values::{end_time, extreme, firing, missing, time};
 use edr_record::{Crash, POINTS, point_count, window_from_end};
 
 /// The values of the lines of what came after time zero, in their order.
@@ -77,7 +77,7 @@ pub(crate) fn read_crash(values: &CrashValues<'_>) -> Option<Crash>
     ensures bounds { IfSome result IsCrash }
     ensures whole { (c : CrashPart) → IsCrash c → ShowsCrash values.now c → result ≡ Some c }
 {
-    let end = time(values.end, 20, 500)? as u16;
+    let end = end_time(values.end)?;
     let window = window_from_end(end);
     let along = points(values.along, end)?;
     let across = points(values.across, end)?;

@@ -2,6 +2,7 @@
 
 ghost use Rattle.std.specs.Prelude.{◌≡◌, ◌≤◌, ◌<◌, ◌^◌, ◌++◌, ◌∷◌, ◌+◌, negsuc, pos, true, Bool, IsSome, ⊤, ℕ, List, min, decimal, codes, Some, None, Option, IfSome, MatchOption, ◌/◌, ◌≢◌};
 ghost use Rattle.std.specs.Fmt.{signed_decimal};
+ghost use Rattle.edr_record.specs.declared.TheConstants.{EARLIEST_END, RESET};
 ghost use Rattle.edr_record.specs.declared.Profile.{Profile};
 ghost use Rattle.edr_record.specs.Bounds.{IsChange, IsExtreme, IsPlace, IsUpTo};
 ghost use Rattle.edr_report.specs.Words.{bank_words, applied_words, stop_words, yes_no, profile_word, switch_or_none, milliseconds, firing_words, shown_count, events_in_crash, time_between, extreme_words, missing_words, damage_words, ack_words, seconds};
@@ -14,7 +15,7 @@ use crate::front::{
 };
 use edr_image::places::MOST_BANKS;
 use edr_image::{Applied, BankView, Kind};
-use edr_record::{Extreme, Place, Profile};
+use edr_record::{EARLIEST_END, Extreme, Place, Profile, RESET};
 
 // Counts of ignition cycles are shown up to this number.
 const LARGEST_SHOWN_COUNT: u32 = 60_000;
@@ -53,6 +54,17 @@ pub(crate) fn time(bytes: &[u8], low: u32, high: u32) -> Option<u32>
     match one_number(bytes, b"", b" ms") {
         Some(t) if low <= t && t <= high => Some(t),
         _ => None,
+    }
+}
+
+/// How long after its time zero an event ended.
+pub(crate) fn end_time(bytes: &[u8]) -> Option<u16>
+    ensures read { IfSome result (λ t. (bytes.now ≡ milliseconds t) × (EARLIEST_END ≤ t) × (t ≤ RESET)) }
+    ensures whole { (t : ℕ) → EARLIEST_END ≤ t → t ≤ RESET → bytes.now ≡ milliseconds t → result ≡ Some t }
+{
+    match time(bytes, u32::from(EARLIEST_END), u32::from(RESET)) {
+        Some(end) => Some(end as u16),
+        None => None,
     }
 }
 

@@ -1,7 +1,7 @@
 -- Which values the fields of a record may have.
 use Rattle.std.specs.Prelude.{◌≡◌, ℕ, ◌+◌, ◌-◌, ◌/◌, ◌≤◌, min, max, ℤ, pos, unsigned_abs, Option, Some, IfSome, List, length, drop, replicate, slice_get, All}
 use Rattle.edr_items.specs.declared.TheConstants.{LATEST_MOMENT}
-use Rattle.edr_record.specs.declared.TheConstants.{LONG_SLOTS, LONGEST_PAIR, LONGEST_WINDOW, POINTS, RESET, SHORT_SLOTS}
+use Rattle.edr_record.specs.declared.TheConstants.{EARLIEST_END, LONG_SLOTS, LONGEST_PAIR, LONGEST_WINDOW, POINTS, RESET, SHORT_SLOTS}
 use Rattle.edr_record.specs.declared.Place.{Place}
 use Rattle.edr_record.specs.declared.Place.TheVariants.{First, Second}
 use Rattle.edr_record.specs.declared.Extreme.{Extreme}
@@ -70,7 +70,7 @@ pub record IsExtreme (window : ℕ) (x : Extreme) : Type 0 where
 
 -- the bounds of a crash part: each follows from its end
 pub record IsCrash (c : CrashPart) : Type 0 where
-  pub end_from : 20 ≤ c.end
+  pub end_from : EARLIEST_END ≤ c.end
   pub end_to : c.end ≤ RESET
   pub along : ArePoints (point_count c.end) c.along
   pub across : ArePoints (point_count c.end) c.across

@@ -25,6 +25,9 @@ pub const SINGLE_REACH: u32 = 1_000;
 /// How far apart the time zeros of a pair of events may be, in milliseconds.
 pub const LONGEST_PAIR: u32 = 5_000;
 
+/// How long after time zero an event ends at the earliest, in milliseconds.
+pub const EARLIEST_END: u16 = 20;
+
 /// How long after time zero an event ends at the latest, in milliseconds: the search for one is reset there.
 pub const RESET: u16 = 500;
 
@@ -258,7 +261,7 @@ pub enum Command {
 }
 
 /// Lists have eleven slots, or 201, at each tenth of a second from 20 s before time zero on; belt and lamp have one, 1 s
-/// before it. The two events of a pair begin at most 5 s apart, and each ends at most half a second past its time zero. An
+/// before it. The two events of a pair begin at most 5 s apart, and each ends 20 to 500 ms past its time zero. An
 /// axis has room for 26 points, and extremes are looked for 300 ms at the most.
 pub fn times_are_those_of_a_record()
     ensures short { SHORT_SLOTS ≡ 11 }
@@ -267,6 +270,7 @@ pub fn times_are_those_of_a_record()
     ensures reach { SLOT_REACH ≡ 20_000 }
     ensures single { SINGLE_REACH ≡ 1_000 }
     ensures pair { LONGEST_PAIR ≡ 5_000 }
+    ensures end { EARLIEST_END ≡ 20 }
     ensures reset { RESET ≡ 500 }
     ensures window { LONGEST_WINDOW ≡ 300 }
     ensures points { POINTS ≡ 26 }
