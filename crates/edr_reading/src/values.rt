@@ -1,11 +1,12 @@
 //! The values of a report, read back.
 
-ghost use Rattle.std.specs.Prelude.{◌≡◌, ◌≤◌, ◌<◌, ◌^◌, ◌++◌, ◌∷◌, ◌+◌, negsuc, pos, true, Bool, IsSome, ⊤, ℕ, List, min, decimal, codes, Some, None, Option, IfSome, MatchOption, ◌/◌, ◌≢◌};
+ghost use Rattle.std.specs.Prelude.{◌≡◌, ◌≤◌, ◌<◌, ◌^◌, ◌++◌, ◌∷◌, ◌+◌, negsuc, pos, true, Bool, IsSome, ⊤, ℕ, List, decimal, codes, Some, None, Option, IfSome, MatchOption, ◌/◌, ◌≢◌};
 ghost use Rattle.std.specs.Fmt.{signed_decimal};
 ghost use Rattle.edr_record.specs.declared.TheConstants.{EARLIEST_END, RESET};
 ghost use Rattle.edr_record.specs.declared.Profile.{Profile};
 ghost use Rattle.edr_record.specs.Bounds.{IsChange, IsExtreme, IsPlace, IsUpTo};
-ghost use Rattle.edr_report.specs.Words.{bank_words, applied_words, stop_words, yes_no, profile_word, switch_or_none, milliseconds, firing_words, shown_count, events_in_crash, time_between, extreme_words, missing_words, damage_words, ack_words, seconds};
+ghost use Rattle.edr_report.specs.declared.TheConstants.{LARGEST_SHOWN_COUNT};
+ghost use Rattle.edr_report.specs.Words.{bank_words, applied_words, stop_words, yes_no, profile_word, switch_or_none, milliseconds, firing_words, shown, shown_count, events_in_crash, time_between, extreme_words, missing_words, damage_words, ack_words, seconds};
 ghost use Rattle.edr_reading.specs.Answers.{GivesValue};
 ghost use Rattle.edr_reading.specs.Front.{EndsNumber, ReadsFront};
 ghost use Rattle.edr_reading.specs.Values.{IsBank, IsStopCall, IsApplied, IsDamagedView, IsTick, done_in, view_words, byte_words, command_words, ran_words};
@@ -16,9 +17,7 @@ use crate::front::{
 use edr_image::places::MOST_BANKS;
 use edr_image::{Applied, BankView, Kind};
 use edr_record::{EARLIEST_END, Extreme, Place, Profile, RESET};
-
-// Counts of ignition cycles are shown up to this number.
-const LARGEST_SHOWN_COUNT: u32 = 60_000;
+use edr_report::LARGEST_SHOWN_COUNT;
 
 // The last millisecond of an ignition cycle.
 const LATEST_TICK: u32 = 86_400_000;
@@ -39,9 +38,9 @@ pub(crate) fn bank_behind(bytes: &[u8], front: &[u8]) -> Option<u8>
 
 /// A count of ignition cycles, as it is shown, which is at least `low`.
 pub(crate) fn count(bytes: &[u8], low: u32) -> Option<u32>
-    requires { low ≤ 60_000 }
-    ensures read { IfSome result (λ n. (bytes.now ≡ shown_count n) × (low ≤ n) × (n ≤ 60_000)) }
-    ensures whole { (n : ℕ) → low ≤ n → bytes.now ≡ shown_count n → result ≡ Some (min n 60_000) }
+    requires { low ≤ LARGEST_SHOWN_COUNT }
+    ensures read { IfSome result (λ n. (bytes.now ≡ shown_count n) × (low ≤ n) × (n ≤ LARGEST_SHOWN_COUNT)) }
+    ensures whole { (n : ℕ) → low ≤ n → bytes.now ≡ shown_count n → result ≡ Some (shown n) }
 {
     last_within(bytes, b"", low, LARGEST_SHOWN_COUNT)
 }

@@ -4,12 +4,10 @@ ghost use Rattle.std.specs.Prelude.{◌≡◌, ◌++◌, OnOk, string_bytes, map
 ghost use Rattle.edr_report.specs.Words.{spaced, yes_no, profile_word, switch_or_none, firing_words, applied_words, stop_words, events_in_crash, time_between, points_words, extreme_words};
 ghost use Rattle.edr_report.specs.Values.{value_words};
 
+use crate::shown;
 use edr_image::Applied;
 use edr_record::{Extreme, POINTS, Place, Profile, point_count};
 use std::alloc::AllocError as OutOfMemory;
-
-/// Counts of ignition cycles are shown up to this number.
-pub const LARGEST_SHOWN_COUNT: u32 = 60_000;
 
 /// What stands in a line of a report behind its name.
 #[derive(Clone, Copy)]
@@ -231,7 +229,7 @@ impl<'a> Value<'a> {
             }
             Value::Number(n) => write!(out, "{n}"),
             Value::Count(n) => {
-                let shown = n.min(LARGEST_SHOWN_COUNT);
+                let shown = shown(n);
                 write!(out, "{shown}")
             }
             Value::Milliseconds(t) => write!(out, "{t} ms"),
