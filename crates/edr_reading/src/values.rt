@@ -16,11 +16,9 @@ use crate::front::{
 };
 use edr_image::places::MOST_BANKS;
 use edr_image::{Applied, BankView, Kind};
+use edr_items::LATEST_MOMENT;
 use edr_record::{EARLIEST_END, Extreme, Place, Profile, RESET};
 use edr_report::LARGEST_SHOWN_COUNT;
-
-// The last millisecond of an ignition cycle.
-const LATEST_TICK: u32 = 86_400_000;
 
 // The greatest change of speed that a record has, in km/h.
 const GREATEST_CHANGE: u32 = 3_000;
@@ -355,7 +353,7 @@ fn tick_behind(bytes: &[u8], front: &[u8]) -> Option<u32>
     ensures read { IfSome result (λ t. (bytes.now ≡ front.now ++ decimal t) × IsTick t) }
     ensures whole { (t : ℕ) → IsTick t → bytes.now ≡ front.now ++ decimal t → result ≡ Some t }
 {
-    last_within(bytes, front, 1, LATEST_TICK)
+    last_within(bytes, front, 1, LATEST_MOMENT)
 }
 
 // Which command was acknowledged, and when.
