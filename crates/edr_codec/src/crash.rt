@@ -11,7 +11,7 @@ use crate::pieces::{PartValue, put_all, put_zeros, read_all};
 use crate::rows::{FieldRow, check_rows};
 use edr_image::forms::{CrashForm, VERSION_1, VERSION_2};
 use edr_record::{
-    Crash, EARLIEST_END, Extreme, POINTS, RESET, point_count, window_from_end,
+    Crash, EARLIEST_END, Extreme, GREATEST_CHANGE, POINTS, RESET, point_count, window_from_end,
 };
 
 // The fields of a crash part with this end.
@@ -23,8 +23,10 @@ fn crash_rows(end: u16, form: &CrashForm) -> [FieldRow; 13]
     let count = point_count(end);
     let window = u32::from(window_from_end(end));
     let last = u32::from(end).max(window);
-    let changes = FieldRow::either(count - 1, 2, (0, 3000), (62_536, 65_535));
-    let change = FieldRow::either(1, 2, (0, 3000), (62_536, 65_535));
+    let rise = (0, GREATEST_CHANGE);
+    let fall = (65_536 - GREATEST_CHANGE, 65_535);
+    let changes = FieldRow::either(count - 1, 2, rise, fall);
+    let change = FieldRow::either(1, 2, rise, fall);
     let past = FieldRow::of(POINTS - count, 2, (0, 0));
     let first = FieldRow::of(1, 2, (0, 0));
     let time = FieldRow::of(1, 2, (0, window));

@@ -2,7 +2,7 @@
 
 ghost use Rattle.std.specs.Prelude.{◌≡◌, ◌≤◌, ◌<◌, ◌^◌, ◌++◌, ◌∷◌, ◌+◌, negsuc, pos, true, Bool, IsSome, ⊤, ℕ, List, decimal, codes, Some, None, Option, IfSome, MatchOption, ◌/◌, ◌≢◌};
 ghost use Rattle.std.specs.Fmt.{signed_decimal};
-ghost use Rattle.edr_record.specs.declared.TheConstants.{EARLIEST_END, RESET};
+ghost use Rattle.edr_record.specs.declared.TheConstants.{EARLIEST_END, GREATEST_CHANGE, RESET};
 ghost use Rattle.edr_record.specs.declared.Profile.{Profile};
 ghost use Rattle.edr_record.specs.Bounds.{IsChange, IsExtreme, IsPlace, IsUpTo};
 ghost use Rattle.edr_report.specs.declared.TheConstants.{LARGEST_SHOWN_COUNT};
@@ -17,11 +17,8 @@ use crate::front::{
 use edr_image::places::MOST_BANKS;
 use edr_image::{Applied, BankView, Kind};
 use edr_items::LATEST_MOMENT;
-use edr_record::{EARLIEST_END, Extreme, Place, Profile, RESET};
+use edr_record::{EARLIEST_END, Extreme, GREATEST_CHANGE, Place, Profile, RESET};
 use edr_report::LARGEST_SHOWN_COUNT;
-
-// The greatest change of speed that a record has, in km/h.
-const GREATEST_CHANGE: u32 = 3_000;
 
 /// The number of a bank behind these bytes.
 pub(crate) fn bank_behind(bytes: &[u8], front: &[u8]) -> Option<u8>
@@ -37,7 +34,8 @@ pub(crate) fn bank_behind(bytes: &[u8], front: &[u8]) -> Option<u8>
 /// A count of ignition cycles, as it is shown, which is at least `low`.
 pub(crate) fn count(bytes: &[u8], low: u32) -> Option<u32>
     requires { low ≤ LARGEST_SHOWN_COUNT }
-    ensures read { IfSome result (λ n. (bytes.now ≡ shown_count n) × (low ≤ n) × (n ≤ LARGEST_SHOWN_COUNT)) }
+    ensures read { IfSome result (λ n. bytes.now ≡ shown_count n) }
+    ensures range { IfSome result (λ n. (low ≤ n) × (n ≤ LARGEST_SHOWN_COUNT)) }
     ensures whole { (n : ℕ) → low ≤ n → bytes.now ≡ shown_count n → result ≡ Some (shown n) }
 {
     last_within(bytes, b"", low, LARGEST_SHOWN_COUNT)
@@ -126,8 +124,8 @@ pub(crate) fn firing(bytes: &[u8], latest: u16) -> Option<Option<u16>>
 // The number in front of the bytes with `-` before it, and what stands behind it.
 fn negative_in_front(bytes: &[u8]) -> Option<(i16, &[u8])>
     ensures read { IfSome result (λ p. (45 ∷ bytes.now ≡ signed_decimal p.0 ++ p.1.now) × IsChange p.0) }
-    ensures whole { (k : ℕ) (more : List ℕ) → k + 1 ≤ 3_000 → EndsNumber more → bytes.now ≡ decimal (k + 1) ++ more
-        → GivesValue (negsuc k) more result }
+    ensures whole { (k : ℕ) (more : List ℕ) → k + 1 ≤ GREATEST_CHANGE → EndsNumber more
+        → bytes.now ≡ decimal (k + 1) ++ more → GivesValue (negsuc k) more result }
 {
     match within_behind(bytes, b"", 1, GREATEST_CHANGE) {
         Some((n, rest)) => Some((0 - n as i16, rest)),
@@ -138,8 +136,8 @@ fn negative_in_front(bytes: &[u8]) -> Option<(i16, &[u8])>
 // The number in front of the bytes, and what stands behind it.
 fn positive_in_front(bytes: &[u8]) -> Option<(i16, &[u8])>
     ensures read { IfSome result (λ p. (bytes.now ≡ signed_decimal p.0 ++ p.1.now) × IsChange p.0) }
-    ensures whole { (n : ℕ) (more : List ℕ) → n ≤ 3_000 → EndsNumber more → bytes.now ≡ decimal n ++ more
-        → GivesValue (pos n) more result }
+    ensures whole { (n : ℕ) (more : List ℕ) → n ≤ GREATEST_CHANGE → EndsNumber more
+        → bytes.now ≡ decimal n ++ more → GivesValue (pos n) more result }
 {
     match within_behind(bytes, b"", 0, GREATEST_CHANGE) {
         Some((n, rest)) => Some((n as i16, rest)),

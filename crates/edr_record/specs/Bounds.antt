@@ -1,7 +1,7 @@
 -- Which values the fields of a record may have.
 use Rattle.std.specs.Prelude.{◌≡◌, ℕ, ◌+◌, ◌-◌, ◌/◌, ◌≤◌, min, max, ℤ, pos, unsigned_abs, Option, Some, IfSome, List, length, drop, replicate, slice_get, All}
 use Rattle.edr_items.specs.declared.TheConstants.{LATEST_MOMENT}
-use Rattle.edr_record.specs.declared.TheConstants.{EARLIEST_END, LONG_SLOTS, LONGEST_PAIR, LONGEST_WINDOW, POINTS, RESET, SHORT_SLOTS}
+use Rattle.edr_record.specs.declared.TheConstants.{EARLIEST_END, GREATEST_CHANGE, LONG_SLOTS, LONGEST_PAIR, LONGEST_WINDOW, POINTS, RESET, SHORT_SLOTS}
 use Rattle.edr_record.specs.declared.Place.{Place}
 use Rattle.edr_record.specs.declared.Place.TheVariants.{First, Second}
 use Rattle.edr_record.specs.declared.Extreme.{Extreme}
@@ -54,7 +54,7 @@ most_points = POINTS
 
 -- a change of speed in whole km/h that samples in range can give
 abbrev pub IsChange : ℤ → Type 0
-IsChange z = unsigned_abs z ≤ 3_000
+IsChange z = unsigned_abs z ≤ GREATEST_CHANGE
 
 -- the points of an axis: 0 at time zero, changes, and 0 past the number of points
 pub record ArePoints (count : ℕ) (points : List ℤ) : Type 0 where

@@ -34,6 +34,9 @@ pub const RESET: u16 = 500;
 /// How long after time zero extremes and missing samples are looked for at the most, in milliseconds.
 pub const LONGEST_WINDOW: u16 = 300;
 
+/// The greatest change of speed that samples in range can give, in km/h.
+pub const GREATEST_CHANGE: u32 = 3_000;
+
 /// How many points an axis of a crash part has room for.
 pub const POINTS: usize = 26;
 
@@ -262,7 +265,7 @@ pub enum Command {
 
 /// Lists have eleven slots, or 201, at each tenth of a second from 20 s before time zero on; belt and lamp have one, 1 s
 /// before it. The two events of a pair begin at most 5 s apart, and each ends 20 to 500 ms past its time zero. An
-/// axis has room for 26 points, and extremes are looked for 300 ms at the most.
+/// axis has room for 26 points, of at most 3,000 km/h, and extremes are looked for 300 ms at the most.
 pub fn times_are_those_of_a_record()
     ensures short { SHORT_SLOTS ≡ 11 }
     ensures long { LONG_SLOTS ≡ 201 }
@@ -273,5 +276,6 @@ pub fn times_are_those_of_a_record()
     ensures end { EARLIEST_END ≡ 20 }
     ensures reset { RESET ≡ 500 }
     ensures window { LONGEST_WINDOW ≡ 300 }
+    ensures change { GREATEST_CHANGE ≡ 3_000 }
     ensures points { POINTS ≡ 26 }
 {}
