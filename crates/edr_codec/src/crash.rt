@@ -2,7 +2,7 @@
 
 ghost use Rattle.std.specs.Prelude.{◌≡◌, ◌+◌, ◌*◌, ◌^◌, ◌<◌, ◌≤◌, ◌++◌, None, Some, IfOk, IfErr, OnOk, All, length, take, max, slice_index, sum_by};
 ghost use Rattle.std.specs.List.{flat_map};
-ghost use Rattle.edr_record.specs.Bounds.{IsCrash, window_from_end, point_count};
+ghost use Rattle.edr_record.specs.Bounds.{IsCrash};
 ghost use Rattle.edr_image.specs.PartBytes.{crash_fields_by, crash_size, crash_damage, crash_damage_by, crash_at, crash_bytes, crash_bytes_by, old_crash_damage, extreme_at, extreme_bytes};
 ghost use Rattle.edr_codec.specs.Rows.{fields_of, row_size};
 
@@ -10,26 +10,9 @@ use crate::Damaged;
 use crate::pieces::{PartValue, put_all, put_zeros, read_all};
 use crate::rows::{FieldRow, check_rows};
 use edr_image::forms::{CrashForm, VERSION_1, VERSION_2};
-use edr_record::{Crash, Extreme};
-
-// How many points an axis has room for.
-const POINTS: usize = 26;
-
-// How many points an axis has, from the time of the end.
-fn point_count(end: u16) -> usize
-    ensures count { result ≡ point_count end }
-    ensures some { 1 ≤ result }
-    ensures most { result ≤ 26 }
-{
-    usize::from(end.min(220) + 30) / 10 + 1
-}
-
-// How long after time zero extremes and missing samples are looked for, from the time of the end.
-fn window_from_end(end: u16) -> u32
-    ensures { result ≡ window_from_end end }
-{
-    u32::from(end.min(270)) + 30
-}
+use edr_record::{
+    Crash, EARLIEST_END, Extreme, GREATEST_CHANGE, POINTS, RESET, point_count, window_from_end,
+};
 
 // The fields of a crash part with this end.
 fn crash_rows(end: u16, form: &CrashForm) -> [FieldRow; 13]
@@ -38,15 +21,17 @@ fn crash_rows(end: u16, form: &CrashForm) -> [FieldRow; 13]
     ensures room { sum_by row_size result ≡ crash_size form.now }
 {
     let count = point_count(end);
-    let window = window_from_end(end);
+    let window = u32::from(window_from_end(end));
     let last = u32::from(end).max(window);
-    let changes = FieldRow::either(count - 1, 2, (0, 3000), (62_536, 65_535));
-    let change = FieldRow::either(1, 2, (0, 3000), (62_536, 65_535));
+    let rise = (0, GREATEST_CHANGE);
+    let fall = (65_536 - GREATEST_CHANGE, 65_535);
+    let changes = FieldRow::either(count - 1, 2, rise, fall);
+    let change = FieldRow::either(1, 2, rise, fall);
     let past = FieldRow::of(POINTS - count, 2, (0, 0));
     let first = FieldRow::of(1, 2, (0, 0));
     let time = FieldRow::of(1, 2, (0, window));
     [
-        FieldRow::of(1, 2, (20, 500)),
+        FieldRow::of(1, 2, (u32::from(EARLIEST_END), u32::from(RESET))),
         first,
         changes,
         past,

@@ -13,7 +13,8 @@ use crate::pieces::{PartValue, put_all, put_bytes, put_zeros, read_all};
 use crate::rows::{FieldRow, check_rows};
 use byteorder::{BigEndian, ByteOrder};
 use edr_image::forms::{PreForm, VERSION_1, VERSION_2};
-use edr_record::{Key, Place, Pre, Profile, Slots};
+use edr_items::LATEST_MOMENT;
+use edr_record::{Key, LONGEST_PAIR, Place, Pre, Profile, Slots};
 
 // Where the speeds begin.
 const SPEED: usize = 12;
@@ -101,11 +102,15 @@ fn pre_rows(place: u8, profile: u8, form: &PreForm) -> [FieldRow; 13]
     let slots = slots_of(form, profile);
     let rest = form.room - slots;
     let profiles = (u32::from(form.profiles.0), u32::from(form.profiles.1));
-    let after = if place == 1 { (0, 0) } else { (1, 5000) };
+    let after = if place == 1 {
+        (0, 0)
+    } else {
+        (1, LONGEST_PAIR)
+    };
     let past = FieldRow::of(rest, 1, (0, 0));
     [
         FieldRow::of(1, 4, (1, u32::MAX)),
-        FieldRow::of(1, 4, (1, 86_400_000)),
+        FieldRow::of(1, 4, (1, LATEST_MOMENT)),
         FieldRow::of(1, 1, (1, 2)),
         FieldRow::of(1, 1, profiles),
         FieldRow::of(1, 2, after),

@@ -1,5 +1,6 @@
 -- The parts of a time zero as they are taken, and the pre part that they make.
 use Rattle.std.specs.Prelude.{◌≡◌, ◌≤◌, Option, Some, None, option_and_then}
+use Rattle.edr_items.specs.declared.TheConstants.{LATEST_MOMENT}
 use Rattle.edr_items.specs.declared.Sensor.{Sensor}
 use Rattle.edr_items.specs.declared.per_slow_sensor.PerSlowSensor.{PerSlowSensor}
 use Rattle.edr_items.specs.PerSlowSensor.{slow_value_of, with_slow_value, each_slow_value, map_slow_values, EachSlow, slow_at}
@@ -49,7 +50,7 @@ pub record IsKey (k : Key) : Type 0 where
   pub cycle_from : 1 ≤ k.cycle
   pub cycle_to : k.cycle ≤ 4_294_967_295
   pub zero_from : 1 ≤ k.zero
-  pub zero_to : k.zero ≤ 86_400_000
+  pub zero_to : k.zero ≤ LATEST_MOMENT
 
 -- the long pre part of these parts, as that of a first event
 abbrev pub pre_of : AllParts → Key → PrePart

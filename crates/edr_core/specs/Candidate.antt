@@ -1,5 +1,6 @@
 -- What a tick does with the open candidate, and what it issues.
 use Rattle.std.specs.Prelude.{◌≡◌, ℕ, ◌+◌, ◌<◌, ◌≤◌, true, ◌||◌, if◌then◌else◌, Option, Some, None, option_map}
+use Rattle.edr_record.specs.declared.TheConstants.{EARLIEST_END, RESET}
 use Rattle.edr_record.specs.declared.Place.{Place}
 use Rattle.edr_record.specs.Parts.{PrePart}
 use Rattle.edr_definitions.specs.Selection.{close_of}
@@ -79,10 +80,10 @@ issues_in i = record { take = i.take; lock = i.lock; done = i.done }
 -- what stands at the tick t can stand there of the candidate: an event is past the last one, and a close is the one that the end gives
 pub record CanBeTold (t : ℕ) (change : Change) (link : Option (Place × ℕ)) (o : Candidate) : Type 0 where
   pub past : change.confirmed ≡ true → IsPast link o.pre.key.zero
-  pub end_from : change.closed ≡ true → o.crash.zero + 20 ≤ (if change.ended then t else o.end)
-  pub end_to : change.closed ≡ true → (if change.ended then t else o.end) ≤ o.crash.zero + 500
+  pub end_from : change.closed ≡ true → o.crash.zero + EARLIEST_END ≤ (if change.ended then t else o.end)
+  pub end_to : change.closed ≡ true → (if change.ended then t else o.end) ≤ o.crash.zero + RESET
   pub closes : change.closed ≡ true → o.crash.zero + o.crash.elapsed ≡ close_of o.crash.zero (if change.ended then t else o.end)
 
 -- a candidate that takes one more tick
 abbrev pub IsShort : Candidate → Type 0
-IsShort o = o.crash.elapsed < 500
+IsShort o = o.crash.elapsed < RESET

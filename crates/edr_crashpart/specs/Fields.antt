@@ -1,5 +1,6 @@
 -- What the fields of an open crash part mean in the definitions.
 use Rattle.std.specs.Prelude.{ℕ, ℤ, nat_le, if◌then◌else◌}
+use Rattle.edr_record.specs.declared.TheConstants.{LONGEST_WINDOW}
 use Rattle.edr_definitions.specs.Windows.{squares}
 use Rattle.edr_definitions.specs.OpenCrash as meant
 use Rattle.edr_crashpart.specs.declared.axis.Axis.{Axis}
@@ -18,7 +19,7 @@ result_of r = record { size = r.size; at = r.at }
 
 -- the greatest sum of squares with one tick more, d ticks past time zero, at which these are the changes
 abbrev pub next_result : meant.ResultPeak → ℤ → ℤ → ℕ → meant.ResultPeak
-next_result p x y d = if nat_le d 300 then meant.higher_result p (squares x y) d else p
+next_result p x y d = if nat_le d LONGEST_WINDOW then meant.higher_result p (squares x y) d else p
 
 abbrev pub part_of : Inside → meant.OpenCrash
 part_of p = record {

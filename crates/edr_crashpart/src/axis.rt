@@ -5,8 +5,7 @@ ghost use Rattle.edr_definitions.specs.OpenCrash.{begin_axis, next_axis, next_po
 ghost use Rattle.edr_crashpart.specs.Bounds.{IsInRange};
 ghost use Rattle.edr_crashpart.specs.Fields.{axis_of, peak_of};
 
-use crate::WINDOW;
-use edr_record::Extreme;
+use edr_record::{Extreme, LONGEST_WINDOW, POINTS};
 use edr_units::kmh;
 
 // A change of speed since time zero, and its time from there.
@@ -21,7 +20,7 @@ pub struct Peak {
 pub struct Axis {
     // The change since time zero.
     pub sum: i64,
-    pub points: [i16; 26],
+    pub points: [i16; POINTS],
     // The change of the greatest size, and its first time.
     pub peak: Peak,
     // How many ticks had no sample.
@@ -47,7 +46,7 @@ fn next_sum(sum: i64, sample: Option<i32>, at: u16) -> i64
 }
 
 // Notes the change at each tenth tick up to 250 ms.
-fn note_point(points: &mut [i16; 26], sum: i64, at: u16)
+fn note_point(points: &mut [i16; POINTS], sum: i64, at: u16)
     requires { unsigned_abs sum ≤ 100_000 * at }
     ensures { points.new ≡ next_points points.old sum at }
 {
@@ -76,7 +75,7 @@ impl Axis {
     {
         Axis {
             sum: 0,
-            points: [0; 26],
+            points: [0; POINTS],
             peak: Peak { value: 0, at: 0 },
             missing: 0,
         }
@@ -94,7 +93,7 @@ impl Axis {
         let sum = next_sum(self.sum, sample, at);
         self.sum = sum;
         note_point(&mut self.points, sum, at);
-        if at <= WINDOW {
+        if at <= LONGEST_WINDOW {
             self.peak = self.peak.or_higher(sum, at);
             self.missing += u16::from(sample.is_none());
         }

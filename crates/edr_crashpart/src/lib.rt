@@ -3,7 +3,7 @@
 
 ghost use Rattle.std.specs.Prelude.{◌≡◌, unsigned_abs, if◌then◌else◌, ◌+◌, ◌<◌, ◌≤◌, []};
 ghost use Rattle.std.specs.Option.{option_or};
-ghost use Rattle.edr_record.specs.declared.TheConstants.{RESET};
+ghost use Rattle.edr_record.specs.declared.TheConstants.{EARLIEST_END, RESET};
 ghost use Rattle.edr_definitions.specs.Search.{tick_if};
 ghost use Rattle.edr_definitions.specs.Windows.{squares};
 ghost use Rattle.edr_definitions.specs.Selection.{close_of};
@@ -16,11 +16,8 @@ mod axis;
 
 use axis::Axis;
 use edr_items::Restraints;
-use edr_record::Crash;
+use edr_record::{Crash, LONGEST_WINDOW};
 use std::marker::Model;
-
-// How long after time zero extremes and ticks without a sample count, in milliseconds.
-const WINDOW: u16 = 300;
 
 // The sum of the squares of two changes.
 fn sum_of_squares(along: i64, across: i64) -> u64
@@ -58,7 +55,7 @@ impl ResultPeak {
         requires across { unsigned_abs across.now.sum ≤ 50_000_000 }
         ensures { result_of result ≡ next_result (result_of self) along.now.sum across.now.sum at }
     {
-        if at <= WINDOW {
+        if at <= LONGEST_WINDOW {
             self.or_higher(sum_of_squares(along.sum, across.sum), at)
         } else {
             self
@@ -159,7 +156,7 @@ impl OpenCrash {
     /// The crash part of the event whose end is that tick of the cycle, once its close has come: the end, or the tick up to
     /// which extremes count if that is later.
     pub fn finish(&self, end: u32) -> Crash
-        requires from { self.now.zero + 20 ≤ end }
+        requires from { self.now.zero + EARLIEST_END ≤ end }
         requires to { end ≤ self.now.zero + RESET }
         requires closed { self.now.zero + self.now.elapsed ≡ close_of self.now.zero end }
         ensures part { result ≡ finish_crash self.now end }

@@ -6,7 +6,7 @@ use Rattle.edr_items.specs.SensorLists.{SensorLists, items_of}
 use Rattle.edr_record.specs.declared.Command.{Command}
 use Rattle.edr_record.specs.declared.Command.TheVariants.{Take, Lock, Done}
 use Rattle.edr_record.specs.Bounds.{IsPre, IsCrash}
-use Rattle.edr_record.specs.declared.TheConstants.{RESET}
+use Rattle.edr_record.specs.declared.TheConstants.{EARLIEST_END, RESET}
 use Rattle.edr_definitions.specs.declared.limits.TheConstants.{LONGEST_AGE, OVER, TRIGGER, QUIET_SQUARES}
 use Rattle.edr_definitions.specs.Ticks.{IsFirst, HoldsNowhere}
 use Rattle.edr_definitions.specs.Signals.{Signals, signals_of}
@@ -62,7 +62,7 @@ pub record IsEventAfter (m : Signals) (upto after : ℕ) (e : Event) : Type 0 wh
   pub confirmed_from_zero : e.zero_tick ≤ e.confirmed_tick
   pub confirmed_in_time : e.confirmed_tick ≤ upto
   pub confirmed_by_end : e.confirmed_tick ≤ e.end_tick
-  pub ends_late : e.zero_tick + 20 ≤ e.end_tick
+  pub ends_late : e.zero_tick + EARLIEST_END ≤ e.end_tick
   pub ends_by_reset : e.end_tick ≤ e.zero_tick + RESET
   pub closes_late : e.zero_tick + 50 ≤ close_of e.zero_tick e.end_tick
   pub closes_past_end : e.end_tick ≤ close_of e.zero_tick e.end_tick

@@ -4,6 +4,7 @@ use Rattle.std.specs.Option.{option_or}
 use Rattle.std.specs.Int.{bit_at}
 use Rattle.std.specs.List.{range_with_len}
 use Rattle.edr_record.specs.Parts.{CrashPart}
+use Rattle.edr_record.specs.declared.TheConstants.{LONGEST_WINDOW}
 use Rattle.edr_record.specs.Bounds.{most_points}
 use Rattle.edr_definitions.specs.Signals.{Signals}
 use Rattle.edr_definitions.specs.Windows.{delta_v, size_of_change, squares}
@@ -39,7 +40,7 @@ pub record OpenCrash : Type 0 where
 -- ---- what it is, of signals
 -- the end of the ticks that count for extremes and missing samples: up to 300 ms past z
 abbrev pub edge : ℕ → ℕ → ℕ
-edge z t = z + min 300 (t - z) + 1
+edge z t = z + min LONGEST_WINDOW (t - z) + 1
 
 -- how many points there are d ticks past time zero
 abbrev pub points_by : ℕ → ℕ
@@ -129,8 +130,8 @@ next_axis a sample d =
     record {
       sum = x;
       points = next_points a.points x d;
-      peak = if nat_le d 300 then higher a.peak x d else a.peak;
-      missing = if nat_le d 300 then a.missing + (if is_none sample then 1 else 0) else a.missing;
+      peak = if nat_le d LONGEST_WINDOW then higher a.peak x d else a.peak;
+      missing = if nat_le d LONGEST_WINDOW then a.missing + (if is_none sample then 1 else 0) else a.missing;
     }
 
 -- one tick more, with its samples and the restraints that fire
@@ -144,7 +145,7 @@ next_crash p along across fired =
       elapsed = d;
       along = x;
       across = y;
-      result = if nat_le d 300 then higher_result p.result (squares x.sum y.sum) d else p.result;
+      result = if nat_le d LONGEST_WINDOW then higher_result p.result (squares x.sum y.sum) d else p.result;
       fired = next_firings p.fired fired d;
     }
 

@@ -4,7 +4,7 @@ use Rattle.edr_items.specs.declared.Sensor.{Sensor}
 use Rattle.edr_items.specs.declared.Item.{Item}
 use Rattle.edr_items.specs.Item.{mark_of}
 use Rattle.edr_items.specs.SensorLists.{SensorLists, items_of, AreFeeds, horizon_of, IsLevel}
-use Rattle.edr_record.specs.declared.TheConstants.{RESET}
+use Rattle.edr_record.specs.declared.TheConstants.{EARLIEST_END, RESET}
 use Rattle.edr_record.specs.declared.Command.{Command}
 use Rattle.edr_definitions.specs.declared.limits.TheConstants.{LONGEST_AGE}
 use Rattle.edr_definitions.specs.Signals.{Signals}
@@ -20,7 +20,7 @@ use Rattle.edr_definitions.specs.Schedule.{Progress, CoreMove, items_given, IsNe
 -- ---- events and their commands
 -- the end of an event is 20 to 500 ms past its time zero
 abbrev pub EndsInTime : ℕ → ℕ → Type 0
-EndsInTime z e = (z + 20 ≤ e) × (e ≤ z + RESET)
+EndsInTime z e = (z + EARLIEST_END ≤ e) × (e ≤ z + RESET)
 
 -- the lists are feeds, and the cycle has a number that a counter of 32 bits reaches
 pub record AreFeedsOf (n : ℕ) (f : SensorLists) : Type 0 where

@@ -1,7 +1,8 @@
 -- Which events the recorder selects from the signals of a cycle.
-use Rattle.std.specs.Prelude.{ℕ, zero, suc, ◌+◌, ◌-◌, min, max, Bool, not, ◌&&◌, ◌||◌, nat_eq, nat_lt, nat_le, if◌then◌else◌, Option, Some, None, unwrap_or, List, [], ◌∷◌, filter_map}
+use Rattle.std.specs.Prelude.{ℕ, zero, suc, ◌+◌, ◌-◌, max, Bool, not, ◌&&◌, ◌||◌, nat_eq, nat_lt, nat_le, if◌then◌else◌, Option, Some, None, unwrap_or, List, [], ◌∷◌, filter_map}
 use Rattle.std.specs.Option.{option_map_or}
 use Rattle.edr_record.specs.declared.TheConstants.{RESET}
+use Rattle.edr_record.specs.Bounds.{window_from_end}
 use Rattle.edr_definitions.specs.Ticks.{first_tick}
 use Rattle.edr_definitions.specs.Signals.{Signals}
 use Rattle.edr_definitions.specs.Windows.{delta_v, swing, is_over, meets_trigger, is_quiet}
@@ -30,9 +31,9 @@ is_end m z t =
 unfoldable pub end_of : Signals → ℕ → ℕ
 end_of m z = unwrap_or (first_tick (is_end m z) z (z + RESET + 1)) (z + RESET)
 
--- how far past time zero extremes are looked for: 300 ms, or 30 ms past the end if that is shorter (563.7 Table I, maximum delta-V)
+-- how far past time zero extremes are looked for (563.7 Table I, maximum delta-V)
 abbrev pub window_of : ℕ → ℕ → ℕ
-window_of z e = min 300 (e - z + 30)
+window_of z e = window_from_end (e - z)
 
 -- the close of an event: its end, or the end of that window if that is later
 abbrev pub close_of : ℕ → ℕ → ℕ

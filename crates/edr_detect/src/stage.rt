@@ -7,6 +7,8 @@ ghost use Rattle.edr_definitions.specs.Change.{stepped_change};
 ghost use Rattle.edr_definitions.specs.Search.{Searching, past_end, tick_if};
 ghost use Rattle.edr_detect.specs.Stages.{phase_of, is_event, told_of, stepped};
 
+use edr_record::{RESET, window_from_end};
+
 /// What stands at a tick. Several things may stand at one.
 #[derive(Clone, Copy, Debug, PartialEq, Eq)]
 pub struct Change {
@@ -60,8 +62,8 @@ pub struct Tests {
 fn close_tick(zero: u32, end: u32) -> u64
     ensures { result ≡ close_of zero end }
 {
-    let wait = (u64::from(end.saturating_sub(zero)) + 30).min(300);
-    u64::from(end).max(u64::from(zero) + wait)
+    let lasted = end.saturating_sub(zero).min(u32::from(RESET)) as u16;
+    u64::from(end).max(u64::from(zero) + u64::from(window_from_end(lasted)))
 }
 
 // The tick that was found so far, or this one.

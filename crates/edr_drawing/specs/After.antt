@@ -3,7 +3,7 @@ use Rattle.std.specs.Prelude.{ℕ, ◌+◌, ◌-◌, ◌*◌, ◌/◌, ℤ, pos,
 use Rattle.std.specs.Ordering.{int_eq}
 use Rattle.edr_record.specs.declared.Extreme.{Extreme}
 use Rattle.edr_record.specs.Parts.{CrashPart}
-use Rattle.edr_record.specs.Bounds.{point_count}
+use Rattle.edr_record.specs.Bounds.{point_count, window_from_end}
 use Rattle.edr_drawing.specs.declared.pieces.Piece.TheVariants as piece
 use Rattle.edr_drawing.specs.declared.texts.ChartText.TheVariants as mark
 use Rattle.edr_drawing.specs.declared.texts.Class.{Class}
@@ -18,7 +18,7 @@ use Rattle.edr_drawing.specs.Pieces.{pieces}
 use Rattle.edr_drawing.specs.Elements.{drawn}
 use Rattle.edr_drawing.specs.Scales.{counted}
 use Rattle.edr_drawing.specs.Before.{name}
-use Rattle.edr_drawing.specs.Changes.{change_y, time_x, window_of}
+use Rattle.edr_drawing.specs.Changes.{change_y, time_x}
 
 -- ---- the frame
 
@@ -176,7 +176,7 @@ maxima s along across =
 
 unfoldable pub changes_chart : Scale → CrashPart → List ℕ
 changes_chart s c =
-    after_frame s (window_of c.end)
-    ++ end_line s c.end (window_of c.end)
+    after_frame s (window_from_end c.end)
+    ++ end_line s c.end (window_from_end c.end)
     ++ curves s c
     ++ maxima s c.max_along c.max_across

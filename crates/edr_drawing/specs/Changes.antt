@@ -2,7 +2,6 @@
 use Rattle.std.specs.Prelude.{◌≤◌, ℕ, ◌+◌, ◌*◌, ◌/◌, max, ℤ, Bool, true, ◌&&◌, if◌then◌else◌, nat_le, nat_eq, Option, Some, None, List, [], ◌∷◌}
 use Rattle.std.specs.List.{list_all}
 use Rattle.edr_record.specs.Parts.{CrashPart}
-use Rattle.edr_record.specs.Bounds.{window_from_end}
 use Rattle.edr_drawing.specs.declared.changes.Scale.{Scale}
 use Rattle.edr_drawing.specs.Scales.{rise_of, fall_of, below_top, least_step, scale_top}
 
@@ -56,10 +55,6 @@ change_y s v = 80 + below_top s.top v * 370 / (s.top + s.bottom)
 -- across: a time in milliseconds
 abbrev pub time_x : Scale → ℕ → ℕ
 time_x s t = 330 + t * (1_500 / s.span)
-
--- how long after time zero extremes are looked for
-abbrev pub window_of : ℕ → ℕ
-window_of end = window_from_end end
 
 -- what the scale of a crash part keeps to: a step, no reach that a chart can't have, some room up, and a span across
 pub record IsScale (s : Scale) : Type 0 where

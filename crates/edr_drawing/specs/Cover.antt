@@ -7,11 +7,12 @@ use Rattle.edr_image.specs.declared.BankView.{BankView}
 use Rattle.edr_image.specs.declared.BankView.TheVariants.{Void, Event, Damaged}
 use Rattle.edr_image.specs.declared.Found.{Found}
 use Rattle.edr_image.specs.Reports.{Report}
+use Rattle.edr_report.specs.Words.{shown}
 use Rattle.edr_drawing.specs.declared.pieces.Piece.TheVariants as piece
 use Rattle.edr_drawing.specs.declared.tags.Tag.TheVariants as tag
 use Rattle.edr_drawing.specs.Pieces.{pieces}
 use Rattle.edr_drawing.specs.Long.{notes_text, form_text}
-use Rattle.edr_drawing.specs.Sheets.{yes_no, shown, place_words, digest_hex, count_if}
+use Rattle.edr_drawing.specs.Sheets.{yes_no, place_words, digest_hex, count_if}
 use Rattle.edr_drawing.specs.Tables.{run_table}
 
 -- how many events were found, and how many damaged banks

@@ -2,13 +2,12 @@
 use Rattle.std.specs.Prelude.{ℕ, ◌+◌, Bool, if◌then◌else◌, nat_eq, Option, Some, None, List, [], ◌∷◌, ◌++◌}
 use Rattle.edr_record.specs.declared.Record.{Record}
 use Rattle.edr_record.specs.Parts.{PrePart, CrashPart}
-use Rattle.edr_record.specs.Bounds.{slots_in}
+use Rattle.edr_record.specs.Bounds.{slots_in, window_from_end}
 use Rattle.edr_record.specs.Complete.{is_complete}
 use Rattle.edr_drawing.specs.declared.pieces.Piece.TheVariants as piece
 use Rattle.edr_drawing.specs.declared.tags.Tag.{Tag}
 use Rattle.edr_drawing.specs.declared.tags.Tag.TheVariants as tag
 use Rattle.edr_drawing.specs.Pieces.{pieces}
-use Rattle.edr_drawing.specs.Changes.{window_of}
 
 -- how many slots are absent
 abbrev pub absent_count : {T : Type 0} → List (Option T) → ℕ
@@ -52,8 +51,8 @@ ticks_reason t missing w =
 unfoldable pub crash_reasons : Option CrashPart → List ℕ
 crash_reasons None = pieces (piece.Tag tag.PartAbsent ∷ [])
 crash_reasons (Some c) =
-    ticks_reason tag.AlongReason c.missing_along (window_of c.end)
-    ++ ticks_reason tag.AcrossReason c.missing_across (window_of c.end)
+    ticks_reason tag.AlongReason c.missing_along (window_from_end c.end)
+    ++ ticks_reason tag.AcrossReason c.missing_across (window_from_end c.end)
 
 -- why a record isn't complete, if it isn't
 unfoldable pub reasons : Record → List ℕ

@@ -1,5 +1,5 @@
 -- The sheet of an event.
-use Rattle.std.specs.Prelude.{ℕ, ◌+◌, ◌-◌, ◌/◌, ◌%◌, min, Bool, if◌then◌else◌, nat_lt, List, [], ◌∷◌, ◌++◌, flat_map}
+use Rattle.std.specs.Prelude.{ℕ, ◌+◌, ◌-◌, ◌/◌, ◌%◌, Bool, if◌then◌else◌, nat_lt, List, [], ◌∷◌, ◌++◌, flat_map}
 use Rattle.edr_record.specs.declared.Key.{Key}
 use Rattle.edr_record.specs.declared.Place.{Place}
 use Rattle.edr_record.specs.declared.Place.TheVariants.{First, Second}
@@ -10,6 +10,7 @@ use Rattle.edr_record.specs.Complete.{is_complete}
 use Rattle.edr_image.specs.declared.BankView.{BankView}
 use Rattle.edr_image.specs.declared.BankView.TheVariants.{Void, Event, Damaged}
 use Rattle.edr_image.specs.declared.Found.{Found}
+use Rattle.edr_report.specs.Words.{shown}
 use Rattle.edr_drawing.specs.declared.pieces.Piece.TheVariants as piece
 use Rattle.edr_drawing.specs.declared.tags.Tag.{Tag}
 use Rattle.edr_drawing.specs.declared.tags.Tag.TheVariants as tag
@@ -21,10 +22,6 @@ use Rattle.edr_drawing.specs.Tables.{points_table, elements_table}
 
 abbrev pub yes_no : Bool → Tag
 yes_no b = if b then tag.Yes else tag.No
-
--- counts of ignition cycles are shown up to 60000
-abbrev pub shown : ℕ → ℕ
-shown count = min count 60_000
 
 -- the place of an event in its crash, with the time from the first event in tenths of a second, rounded half up
 abbrev pub second_words : ℕ → List ℕ

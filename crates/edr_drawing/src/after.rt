@@ -1,18 +1,19 @@
 //! The chart of the time after time zero: changes of speed, and on the same time axis what happened.
 
 ghost use Rattle.std.specs.Prelude.{◌≡◌, ◌++◌, ◌≤◌, ◌<◌, ◌+◌, ◌-◌, ◌*◌, ◌/◌, OnOk, length, take};
+ghost use Rattle.edr_record.specs.declared.TheConstants.{POINTS};
 ghost use Rattle.edr_record.specs.Bounds.{point_count, window_from_end};
 ghost use Rattle.edr_drawing.specs.Changes.{IsScale};
 ghost use Rattle.edr_drawing.specs.After.{past_window, time_line, time_lines, legend, level, levels, after_frame, end_line, axis_point, axis_points, curve, dot, dots, square, squares, maximum_number, diamond, across_number, along_number, maxima, curves, changes_chart};
 
 use crate::before::name;
-use crate::changes::{Scale, window_of};
+use crate::changes::Scale;
 use crate::elements::{Element, TextWords, draw};
 use crate::pieces::{Piece, put};
 use crate::scales::{LEFT, RIGHT};
 use crate::tags::Tag;
 use crate::texts::{ChartText, Class, Label};
-use edr_record::{Crash, Extreme};
+use edr_record::{Crash, Extreme, POINTS, point_count, window_from_end};
 use std::alloc::AllocError as OutOfMemory;
 
 // Draws the field past the window, if the chart reaches there.
@@ -257,7 +258,7 @@ fn draw_end(out: &mut Vec<u8>, scale: &Scale, end: u16, window: u16) -> Result<(
 #[tactic(auto, unfolding(crate::specs::After::axis_point))]
 fn put_point(out: &mut Vec<u8>, scale: &Scale, i: u16, change: i16) -> Result<(), OutOfMemory>
     requires scale { IsScale scale.now }
-    requires place { i ≤ 26 }
+    requires place { i ≤ POINTS }
     ensures { OnOk result (out.new.items ≡ out.old.items ++ axis_point scale.now i change) }
 {
     let join = if i == 0 {
@@ -280,7 +281,7 @@ fn put_point(out: &mut Vec<u8>, scale: &Scale, i: u16, change: i16) -> Result<()
 #[tactic(auto, unfolding(crate::specs::After::dot))]
 fn draw_dot(out: &mut Vec<u8>, scale: &Scale, i: u16, change: i16) -> Result<(), OutOfMemory>
     requires scale { IsScale scale.now }
-    requires place { i ≤ 26 }
+    requires place { i ≤ POINTS }
     ensures { OnOk result (out.new.items ≡ out.old.items ++ dot scale.now i change) }
 {
     let x = scale.x(10 * i);
@@ -292,7 +293,7 @@ fn draw_dot(out: &mut Vec<u8>, scale: &Scale, i: u16, change: i16) -> Result<(),
 #[tactic(auto, unfolding(crate::specs::After::square))]
 fn draw_square(out: &mut Vec<u8>, scale: &Scale, i: u16, change: i16) -> Result<(), OutOfMemory>
     requires scale { IsScale scale.now }
-    requires place { i ≤ 26 }
+    requires place { i ≤ POINTS }
     ensures { OnOk result (out.new.items ≡ out.old.items ++ square scale.now i change) }
 {
     let x = scale.x(10 * i);
@@ -303,7 +304,7 @@ fn draw_square(out: &mut Vec<u8>, scale: &Scale, i: u16, change: i16) -> Result<
 // Appends the points of an axis, one at each 10 ms.
 fn put_points(out: &mut Vec<u8>, scale: &Scale, points: &[i16]) -> Result<(), OutOfMemory>
     requires scale { IsScale scale.now }
-    requires count { length points.now ≤ 26 }
+    requires count { length points.now ≤ POINTS }
     ensures { OnOk result (out.new.items ≡ out.old.items ++ axis_points scale.now 0 points.now) }
 {
     for i in 0..points.len() {
@@ -321,7 +322,7 @@ fn draw_curve(
     class: Class,
 ) -> Result<(), OutOfMemory>
     requires scale { IsScale scale.now }
-    requires count { length points.now ≤ 26 }
+    requires count { length points.now ≤ POINTS }
     ensures { OnOk result (out.new.items ≡ out.old.items ++ curve scale.now class points.now) }
 {
     put(
@@ -339,7 +340,7 @@ fn draw_curve(
 // Draws a dot at each point along.
 fn draw_dots(out: &mut Vec<u8>, scale: &Scale, points: &[i16]) -> Result<(), OutOfMemory>
     requires scale { IsScale scale.now }
-    requires count { length points.now ≤ 26 }
+    requires count { length points.now ≤ POINTS }
     ensures { OnOk result (out.new.items ≡ out.old.items ++ dots scale.now 0 points.now) }
 {
     for i in 0..points.len() {
@@ -351,7 +352,7 @@ fn draw_dots(out: &mut Vec<u8>, scale: &Scale, points: &[i16]) -> Result<(), Out
 // Draws a square at each point across.
 fn draw_squares(out: &mut Vec<u8>, scale: &Scale, points: &[i16]) -> Result<(), OutOfMemory>
     requires scale { IsScale scale.now }
-    requires count { length points.now ≤ 26 }
+    requires count { length points.now ≤ POINTS }
     ensures { OnOk result (out.new.items ≡ out.old.items ++ squares scale.now 0 points.now) }
 {
     for i in 0..points.len() {
@@ -446,12 +447,11 @@ fn draw_curves(out: &mut Vec<u8>, scale: &Scale, crash: &Crash) -> Result<(), Ou
 }
 
 /// The points that the end of an event allows.
-pub fn points_of(end: u16, points: &[i16; 26]) -> &[i16]
+pub fn points_of(end: u16, points: &[i16; POINTS]) -> &[i16]
     ensures points { result.now ≡ take (point_count end) points.now }
-    ensures count { length result.now ≤ 26 }
+    ensures count { length result.now ≤ POINTS }
 {
-    let count = 250.min(usize::from(end) + 30) / 10 + 1;
-    &points[..count]
+    &points[..point_count(end)]
 }
 
 // Draws the part of the chart that shows changes of speed.
@@ -460,7 +460,7 @@ pub fn draw_changes(out: &mut Vec<u8>, scale: &Scale, crash: &Crash) -> Result<(
     requires { IsScale scale.now }
     ensures { OnOk result (out.new.items ≡ out.old.items ++ changes_chart scale.now crash.now) }
 {
-    let window = window_of(crash.end);
+    let window = window_from_end(crash.end);
     draw_frame(out, scale, window)?;
     draw_end(out, scale, crash.end, window)?;
     draw_curves(out, scale, crash)?;

@@ -2,10 +2,10 @@
 
 ghost use Rattle.std.specs.Prelude.{◌≡◌, ◌≤◌, ◌<◌, ◌+◌, ◌-◌, ◌*◌, max};
 ghost use Rattle.std.specs.List.{list_all};
-ghost use Rattle.edr_drawing.specs.Changes.{IsScale, highest, lowest, reach_up, reach_down, is_early, span_of, scale_of, change_y, time_x, window_of};
+ghost use Rattle.edr_drawing.specs.Changes.{IsScale, highest, lowest, reach_up, reach_down, is_early, span_of, scale_of, change_y, time_x};
 
 use crate::scales::{LEFT, below_top, fall_of, least_step, rise_of, scale_top};
-use edr_record::Crash;
+use edr_record::{Crash, POINTS};
 
 /// A scale: the greatest change of speed above 0 and below it, the step between lines, and the last time across, in
 /// milliseconds.
@@ -18,7 +18,7 @@ pub struct Scale {
 }
 
 // How far these points reach above 0.
-fn highest(points: &[i16; 26]) -> u32
+fn highest(points: &[i16; POINTS]) -> u32
     ensures reach { result ≡ highest points.now }
     ensures range { result ≤ 32_768 }
 {
@@ -30,7 +30,7 @@ fn highest(points: &[i16; 26]) -> u32
 }
 
 // How far these points reach below 0.
-fn lowest(points: &[i16; 26]) -> u32
+fn lowest(points: &[i16; POINTS]) -> u32
     ensures reach { result ≡ lowest points.now }
     ensures range { result ≤ 32_768 }
 {
@@ -123,12 +123,4 @@ impl Scale {
     {
         LEFT + u32::from(time) * (1_500 / self.span)
     }
-}
-
-/// How long after time zero extremes are looked for.
-pub fn window_of(end: u16) -> u16
-    ensures window { result ≡ window_of end }
-    ensures range { result ≤ 300 }
-{
-    if end < 270 { end + 30 } else { 300 }
 }

@@ -6,11 +6,12 @@ ghost use Rattle.edr_drawing.specs.Cover.{events_in, damaged_in, is_damaged, ext
 
 use crate::long;
 use crate::pieces::{Piece, put, put_tag};
-use crate::sheets::{count_if, put_digest, put_place, shown, yes_no};
+use crate::sheets::{count_if, put_digest, put_place, yes_no};
 use crate::tables::put_run;
 use crate::tags::Tag;
 use edr_image::{BankView, CycleReport, Found};
 use edr_record::{Crash, Record};
+use edr_report::shown;
 use std::alloc::{AllocError as OutOfMemory, Global};
 
 // How many events were found.

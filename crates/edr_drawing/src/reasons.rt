@@ -5,10 +5,9 @@ ghost use Rattle.edr_record.specs.declared.TheConstants.{LONG_SLOTS};
 ghost use Rattle.edr_record.specs.Bounds.{slots_in};
 ghost use Rattle.edr_drawing.specs.Reasons.{absent_count, slots_reason, switch_reason, ticks_reason, pre_reasons, crash_reasons, reasons};
 
-use crate::changes::window_of;
 use crate::pieces::{Piece, put, put_tag};
 use crate::tags::Tag;
-use edr_record::{Crash, LONG_SLOTS, Pre, Profile, Record, SHORT_SLOTS};
+use edr_record::{Crash, LONG_SLOTS, Pre, Profile, Record, SHORT_SLOTS, window_from_end};
 use std::alloc::AllocError as OutOfMemory;
 
 // How many slots are absent.
@@ -115,7 +114,7 @@ fn put_crash_reasons(out: &mut Vec<u8>, crash: &Option<Crash>) -> Result<(), Out
 {
     match crash {
         Some(crash) => {
-            let window = window_of(crash.end);
+            let window = window_from_end(crash.end);
             put_ticks_reason(out, Tag::AlongReason, crash.missing_along, window)?;
             put_ticks_reason(out, Tag::AcrossReason, crash.missing_across, window)
         }

@@ -1,7 +1,7 @@
 //! The sheet of an event.
 
 ghost use Rattle.std.specs.Prelude.{◌≡◌, ◌++◌, ◌≤◌, ◌+◌, ◌/◌, OnOk, flat_map};
-ghost use Rattle.edr_drawing.specs.Sheets.{yes_no, profile_tag, shown, place_words, hex_digit, hex_byte, digest_hex, sheet_head, facts, sheet_foot, sheet, sheet_if, count_if, sheets};
+ghost use Rattle.edr_drawing.specs.Sheets.{yes_no, profile_tag, place_words, hex_digit, hex_byte, digest_hex, sheet_head, facts, sheet_foot, sheet, sheet_if, count_if, sheets};
 
 use crate::before::draw_before;
 use crate::pieces::{Piece, put, put_tag};
@@ -11,19 +11,13 @@ use crate::tables::{put_elements, put_points_table};
 use crate::tags::Tag;
 use edr_image::{BankView, Found};
 use edr_record::{Key, Place, Profile, Record};
+use edr_report::shown;
 use std::alloc::{AllocError as OutOfMemory, Global};
 
 pub fn yes_no(b: bool) -> Tag
     ensures { result ≡ yes_no b }
 {
     if b { Tag::Yes } else { Tag::No }
-}
-
-/// A count of ignition cycles as it is shown.
-pub fn shown(count: u32) -> u32
-    ensures { result ≡ shown count }
-{
-    count.min(60_000)
 }
 
 /// Appends the place of an event in its crash.

@@ -1,7 +1,6 @@
 //! The tables of a page.
 
 ghost use Rattle.std.specs.Prelude.{◌≡◌, ◌++◌, ◌≤◌, ◌<◌, ◌+◌, ◌*◌, [], OnOk, IfOk, length, flat_map, map};
-ghost use Rattle.edr_record.specs.Bounds.{point_count};
 ghost use Rattle.edr_image.specs.Reports.{report_of};
 ghost use Rattle.edr_report.specs.Report.{event_lines, run_lines};
 ghost use Rattle.edr_drawing.specs.Tables.{row, time_cells, change_cell, change_row, points_table, line_row, rows_bytes, elements_table, run_table};
@@ -10,7 +9,7 @@ use crate::after::points_of;
 use crate::pieces::{Piece, put, put_tag};
 use crate::tags::Tag;
 use edr_image::CycleReport;
-use edr_record::{Crash, Record};
+use edr_record::{Crash, Record, point_count};
 use edr_report::{Lines, print_event, print_run};
 use std::alloc::{AllocError as OutOfMemory, Global};
 
@@ -104,7 +103,7 @@ pub fn put_points_table(out: &mut Vec<u8>, crash: &Option<Crash>) -> Result<(), 
         return Ok(());
     };
     put_tag(out, Tag::PointsStart)?;
-    put_times(out, 250.min(u32::from(crash.end) + 30) / 10 + 1)?;
+    put_times(out, point_count(crash.end) as u32)?;
     put_tag(out, Tag::PointsBody)?;
     put_axis(out, Tag::AlongRow, points_of(crash.end, &crash.along))?;
     put_axis(out, Tag::AcrossRow, points_of(crash.end, &crash.across))?;

@@ -1,13 +1,14 @@
 -- The rows of an event behind one of them, by plain values.
 use Rattle.std.specs.Prelude.{◌<◌, Option, Some, None, ◌≡◌, ◌≤◌, ◌+◌, ◌⊎◌, ℕ, Bool, true, false, pos, List, [], ◌∷◌, ◌++◌, drop, replicate, length, map, codes, decimal, slice_index_or}
 use Rattle.std.specs.Bool.{MatchBool}
+use Rattle.edr_record.specs.declared.TheConstants.{EARLIEST_END, RESET}
 use Rattle.edr_record.specs.declared.Extreme.{Extreme}
 use Rattle.edr_record.specs.declared.Place.{Place}
 use Rattle.edr_record.specs.declared.Place.TheVariants.{First, Second}
 use Rattle.edr_record.specs.declared.Profile.{Profile}
 use Rattle.edr_record.specs.declared.Profile.TheVariants.{Short, Long}
 use Rattle.edr_record.specs.declared.Record.{Record}
-use Rattle.edr_record.specs.Bounds.{slots_in}
+use Rattle.edr_record.specs.Bounds.{most_points, slots_in}
 use Rattle.edr_record.specs.Complete.{is_complete}
 use Rattle.edr_report.specs.Report.{crash_names, crash_words}
 use Rattle.edr_report.specs.Words.{yes_no, profile_word, none_word, number_or_none, switch_or_none, spaced, milliseconds, shown_count, time_between, points_words, extreme_words, missing_words}
@@ -108,7 +109,7 @@ IsGuess block bank points v = IsGuessOf Short block bank points v ⊎ IsGuessOf 
 -- what is tried as the points of both axes behind the end of an event, which this value tells, and behind its points along
 abbrev pub ArePlain : ℕ → List ℕ → List ℕ → Type 0
 ArePlain place value points =
-    ((end : ℕ) → place ≡ 13 → 20 ≤ end → end ≤ 500 → value ≡ milliseconds end → points ≡ points_words end (replicate 26 (pos 0)))
+    ((end : ℕ) → place ≡ 13 → EARLIEST_END ≤ end → end ≤ RESET → value ≡ milliseconds end → points ≡ points_words end (replicate most_points (pos 0)))
     × (place ≡ 14 → points ≡ value)
 
 -- ---- the rows behind

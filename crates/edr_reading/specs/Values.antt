@@ -1,5 +1,6 @@
 -- Which values a report may show, where the parts of a record don't say it.
 use Rattle.std.specs.Prelude.{ℕ, ◌≡◌, ◌≤◌, ◌⊎◌, Bool, Option, IfSome, List, [], ◌++◌, codes, decimal}
+use Rattle.edr_items.specs.declared.TheConstants.{LATEST_MOMENT}
 use Rattle.edr_image.specs.declared.places.TheConstants.{MOST_BANKS}
 use Rattle.edr_image.specs.declared.BankView.{BankView}
 use Rattle.edr_image.specs.declared.BankView.TheVariants.{Void, Event, Damaged}
@@ -19,7 +20,7 @@ IsStopCall s = IfSome s (λ call. (1 ≤ call) × (call ≤ 4_294_967_295))
 
 -- when a command was acknowledged
 abbrev pub IsTick : ℕ → Type 0
-IsTick t = (1 ≤ t) × (t ≤ 86_400_000)
+IsTick t = (1 ≤ t) × (t ≤ LATEST_MOMENT)
 
 -- a place in the two parts of a record, and a byte
 abbrev pub IsDamage : ℕ → ℕ → Type 0

@@ -1,6 +1,7 @@
 //! Plain rows that may follow those of a report that was cut.
 
 ghost use Rattle.std.specs.Prelude.{◌≡◌, ◌<◌, ◌≤◌, ◌+◌, ℕ, ⊤, pos, Some, IfSome, MatchOption, OnOk, length, replicate, slice_index_or, []};
+ghost use Rattle.edr_record.specs.Bounds.{most_points};
 ghost use Rattle.edr_report.specs.Words.{points_words, profile_word};
 ghost use Rattle.edr_reading.specs.Cut.{cut_texts, IsNoneOf, cut_rows, rows_of, tried_texts};
 ghost use Rattle.edr_reading.specs.Plain.{event_names, ArePlain, absent_texts, no_numbers, no_switches};
@@ -9,8 +10,8 @@ ghost use Rattle.edr_reading.specs.Answers.{TellsWhether};
 
 use crate::front::is_word;
 use crate::rows::ReportRow;
-use crate::values::time;
-use edr_record::Profile;
+use crate::values::end_time;
+use edr_record::{Profile, point_count};
 use std::alloc::AllocError as OutOfMemory;
 
 // The names of the rows of an event.
@@ -106,12 +107,10 @@ pub(crate) fn is_named(name: &[u8], place: usize) -> bool
 }
 
 // Points of an axis that has no change, up to this end.
-fn unchanged(end: u32) -> &'static [u8]
-    requires { end ≤ 500 }
-    ensures { result.now ≡ points_words end (replicate 26 (pos 0)) }
+fn unchanged(end: u16) -> &'static [u8]
+    ensures { result.now ≡ points_words end (replicate most_points (pos 0)) }
 {
-    let count = (end + 30).min(250) / 10 + 1;
-    UNCHANGED.split_at(2 * count as usize - 1).0
+    UNCHANGED.split_at(2 * point_count(end) - 1).0
 }
 
 /// Points that may stand behind the row in this place, which has this value.
@@ -121,7 +120,7 @@ pub(crate) fn points_behind<'a>(place: usize, value: &'a [u8]) -> &'a [u8]
     if place != 13 {
         return value;
     }
-    match time(value, 20, 500) {
+    match end_time(value) {
         Some(end) => unchanged(end),
         None => value,
     }

@@ -2,7 +2,8 @@
 
 ghost use Rattle.std.specs.Prelude.{◌≡◌, ◌≤◌, ℤ, List, Option, All, map, Some, IfSome, pos, ◌≢◌};
 ghost use Rattle.std.specs.Bool.{MatchBool};
-ghost use Rattle.edr_record.specs.Bounds.{ArePoints, IsChange, IsCrash, IsUpTo, point_count, window_from_end};
+ghost use Rattle.edr_record.specs.declared.TheConstants.{POINTS};
+ghost use Rattle.edr_record.specs.Bounds.{ArePoints, IsChange, IsCrash, IsUpTo, point_count};
 ghost use Rattle.edr_record.specs.Parts.{CrashPart};
 ghost use Rattle.edr_report.specs.Words.{points_words, firing_words};
 ghost use Rattle.edr_reading.specs.Parts.{ShowsCrash, OfFirings};
@@ -11,8 +12,8 @@ ghost use Rattle.std.specs.Fmt.{signed_decimal};
 ghost use Rattle.edr_reading.specs.Rows.{texts_in};
 
 use crate::slots::read_slots;
-use crate::values::{extreme, firing, missing, time};
-use edr_record::Crash;
+use crate::values::{end_time, extreme, firing, missing, time};
+use edr_record::{Crash, POINTS, point_count, window_from_end};
 
 /// The values of the lines of what came after time zero, in their order.
 #[derive(Clone, Copy)]
@@ -27,29 +28,13 @@ pub(crate) struct CrashValues<'a> {
     pub fired: [&'a [u8]; 8],
 }
 
-// How long after time zero extremes and missing samples are looked for.
-fn window(end: u16) -> u16
-    requires { end ≤ 500 }
-    ensures { result ≡ window_from_end end }
-{
-    300.min(end + 30)
-}
-
-// How many points the end allows.
-fn count_from(end: u16) -> usize
-    requires { end ≤ 500 }
-    ensures { result ≡ point_count end }
-{
-    (usize::from(end) + 30).min(250) / 10 + 1
-}
-
 // So many points, with zeros behind them.
-fn some_points(bytes: &[u8], count: usize) -> Option<[i16; 26]>
-    requires { count ≤ 26 }
+fn some_points(bytes: &[u8], count: usize) -> Option<[i16; POINTS]>
+    requires { count ≤ POINTS }
     ensures read { IfSome result (AreShown count bytes.now) }
     ensures whole { OfSpaced count signed_decimal IsChange bytes.now (λ front. result ≡ Some (with_zeros count front)) }
 {
-    let mut points = [0; 26];
+    let mut points = [0; POINTS];
     if read_slots(bytes, &mut points[..count]) {
         Some(points)
     } else {
@@ -64,12 +49,11 @@ fn is_zero(change: i16) -> bool
 }
 
 // The points of an axis that the end allows.
-fn points(bytes: &[u8], end: u16) -> Option<[i16; 26]>
-    requires { end ≤ 500 }
+fn points(bytes: &[u8], end: u16) -> Option<[i16; POINTS]>
     ensures read { IfSome result (λ ps. (bytes.now ≡ points_words end ps) × ArePoints (point_count end) ps) }
     ensures whole { (ps : List ℤ) → ArePoints (point_count end) ps → bytes.now ≡ points_words end ps → result ≡ Some ps }
 {
-    match some_points(bytes, count_from(end)) {
+    match some_points(bytes, point_count(end)) {
         Some(points) if is_zero(points[0]) => Some(points),
         _ => None,
     }
@@ -93,8 +77,8 @@ pub(crate) fn read_crash(values: &CrashValues<'_>) -> Option<Crash>
     ensures bounds { IfSome result IsCrash }
     ensures whole { (c : CrashPart) → IsCrash c → ShowsCrash values.now c → result ≡ Some c }
 {
-    let end = time(values.end, 20, 500)? as u16;
-    let window = window(end);
+    let end = end_time(values.end)?;
+    let window = window_from_end(end);
     let along = points(values.along, end)?;
     let across = points(values.across, end)?;
     let max_along = extreme(values.max_along, window)?;

@@ -11,6 +11,7 @@ ghost use Rattle.edr_reading.specs.Parts.{ShowsPre, ShowsSlots, GivesPre, ReadsL
 
 use crate::slots::read_slots;
 use crate::values::{count, decision, place, profile, switch, time};
+use edr_items::LATEST_MOMENT;
 use edr_record::{Key, LONG_SLOTS, Pre, Profile, SHORT_SLOTS, Slots};
 
 /// The values of the lines of what stood before time zero, in their order.
@@ -98,7 +99,7 @@ pub(crate) fn read_pre(values: &PreValues<'_>) -> Option<(Pre, bool)>
         → GivesPre p locked result }
 {
     let cycle = count(values.cycle, 1)?;
-    let zero = time(values.zero, 1, 86_400_000)?;
+    let zero = time(values.zero, 1, LATEST_MOMENT)?;
     let place = place(values.events, values.between)?;
     let locked = decision(values.locked)?;
     let slots = slots(values)?;

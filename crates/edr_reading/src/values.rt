@@ -1,10 +1,12 @@
 //! The values of a report, read back.
 
-ghost use Rattle.std.specs.Prelude.{◌≡◌, ◌≤◌, ◌<◌, ◌^◌, ◌++◌, ◌∷◌, ◌+◌, negsuc, pos, true, Bool, IsSome, ⊤, ℕ, List, min, decimal, codes, Some, None, Option, IfSome, MatchOption, ◌/◌, ◌≢◌};
+ghost use Rattle.std.specs.Prelude.{◌≡◌, ◌≤◌, ◌<◌, ◌^◌, ◌++◌, ◌∷◌, ◌+◌, negsuc, pos, true, Bool, IsSome, ⊤, ℕ, List, decimal, codes, Some, None, Option, IfSome, MatchOption, ◌/◌, ◌≢◌};
 ghost use Rattle.std.specs.Fmt.{signed_decimal};
+ghost use Rattle.edr_record.specs.declared.TheConstants.{EARLIEST_END, GREATEST_CHANGE, RESET};
 ghost use Rattle.edr_record.specs.declared.Profile.{Profile};
 ghost use Rattle.edr_record.specs.Bounds.{IsChange, IsExtreme, IsPlace, IsUpTo};
-ghost use Rattle.edr_report.specs.Words.{bank_words, applied_words, stop_words, yes_no, profile_word, switch_or_none, milliseconds, firing_words, shown_count, events_in_crash, time_between, extreme_words, missing_words, damage_words, ack_words, seconds};
+ghost use Rattle.edr_report.specs.declared.TheConstants.{LARGEST_SHOWN_COUNT};
+ghost use Rattle.edr_report.specs.Words.{bank_words, applied_words, stop_words, yes_no, profile_word, switch_or_none, milliseconds, firing_words, shown, shown_count, events_in_crash, time_between, extreme_words, missing_words, damage_words, ack_words, seconds};
 ghost use Rattle.edr_reading.specs.Answers.{GivesValue};
 ghost use Rattle.edr_reading.specs.Front.{EndsNumber, ReadsFront};
 ghost use Rattle.edr_reading.specs.Values.{IsBank, IsStopCall, IsApplied, IsDamagedView, IsTick, done_in, view_words, byte_words, command_words, ran_words};
@@ -14,16 +16,9 @@ use crate::front::{
 };
 use edr_image::places::MOST_BANKS;
 use edr_image::{Applied, BankView, Kind};
-use edr_record::{Extreme, Place, Profile};
-
-// Counts of ignition cycles are shown up to this number.
-const LARGEST_SHOWN_COUNT: u32 = 60_000;
-
-// The last millisecond of an ignition cycle.
-const LATEST_TICK: u32 = 86_400_000;
-
-// The greatest change of speed that a record has, in km/h.
-const GREATEST_CHANGE: u32 = 3_000;
+use edr_items::LATEST_MOMENT;
+use edr_record::{EARLIEST_END, Extreme, GREATEST_CHANGE, Place, Profile, RESET};
+use edr_report::LARGEST_SHOWN_COUNT;
 
 /// The number of a bank behind these bytes.
 pub(crate) fn bank_behind(bytes: &[u8], front: &[u8]) -> Option<u8>
@@ -38,9 +33,10 @@ pub(crate) fn bank_behind(bytes: &[u8], front: &[u8]) -> Option<u8>
 
 /// A count of ignition cycles, as it is shown, which is at least `low`.
 pub(crate) fn count(bytes: &[u8], low: u32) -> Option<u32>
-    requires { low ≤ 60_000 }
-    ensures read { IfSome result (λ n. (bytes.now ≡ shown_count n) × (low ≤ n) × (n ≤ 60_000)) }
-    ensures whole { (n : ℕ) → low ≤ n → bytes.now ≡ shown_count n → result ≡ Some (min n 60_000) }
+    requires { low ≤ LARGEST_SHOWN_COUNT }
+    ensures read { IfSome result (λ n. bytes.now ≡ shown_count n) }
+    ensures range { IfSome result (λ n. (low ≤ n) × (n ≤ LARGEST_SHOWN_COUNT)) }
+    ensures whole { (n : ℕ) → low ≤ n → bytes.now ≡ shown_count n → result ≡ Some (shown n) }
 {
     last_within(bytes, b"", low, LARGEST_SHOWN_COUNT)
 }
@@ -53,6 +49,17 @@ pub(crate) fn time(bytes: &[u8], low: u32, high: u32) -> Option<u32>
     match one_number(bytes, b"", b" ms") {
         Some(t) if low <= t && t <= high => Some(t),
         _ => None,
+    }
+}
+
+/// How long after its time zero an event ended.
+pub(crate) fn end_time(bytes: &[u8]) -> Option<u16>
+    ensures read { IfSome result (λ t. (bytes.now ≡ milliseconds t) × (EARLIEST_END ≤ t) × (t ≤ RESET)) }
+    ensures whole { (t : ℕ) → EARLIEST_END ≤ t → t ≤ RESET → bytes.now ≡ milliseconds t → result ≡ Some t }
+{
+    match time(bytes, u32::from(EARLIEST_END), u32::from(RESET)) {
+        Some(end) => Some(end as u16),
+        None => None,
     }
 }
 
@@ -117,8 +124,8 @@ pub(crate) fn firing(bytes: &[u8], latest: u16) -> Option<Option<u16>>
 // The number in front of the bytes with `-` before it, and what stands behind it.
 fn negative_in_front(bytes: &[u8]) -> Option<(i16, &[u8])>
     ensures read { IfSome result (λ p. (45 ∷ bytes.now ≡ signed_decimal p.0 ++ p.1.now) × IsChange p.0) }
-    ensures whole { (k : ℕ) (more : List ℕ) → k + 1 ≤ 3_000 → EndsNumber more → bytes.now ≡ decimal (k + 1) ++ more
-        → GivesValue (negsuc k) more result }
+    ensures whole { (k : ℕ) (more : List ℕ) → k + 1 ≤ GREATEST_CHANGE → EndsNumber more
+        → bytes.now ≡ decimal (k + 1) ++ more → GivesValue (negsuc k) more result }
 {
     match within_behind(bytes, b"", 1, GREATEST_CHANGE) {
         Some((n, rest)) => Some((0 - n as i16, rest)),
@@ -129,8 +136,8 @@ fn negative_in_front(bytes: &[u8]) -> Option<(i16, &[u8])>
 // The number in front of the bytes, and what stands behind it.
 fn positive_in_front(bytes: &[u8]) -> Option<(i16, &[u8])>
     ensures read { IfSome result (λ p. (bytes.now ≡ signed_decimal p.0 ++ p.1.now) × IsChange p.0) }
-    ensures whole { (n : ℕ) (more : List ℕ) → n ≤ 3_000 → EndsNumber more → bytes.now ≡ decimal n ++ more
-        → GivesValue (pos n) more result }
+    ensures whole { (n : ℕ) (more : List ℕ) → n ≤ GREATEST_CHANGE → EndsNumber more
+        → bytes.now ≡ decimal n ++ more → GivesValue (pos n) more result }
 {
     match within_behind(bytes, b"", 0, GREATEST_CHANGE) {
         Some((n, rest)) => Some((n as i16, rest)),
@@ -344,7 +351,7 @@ fn tick_behind(bytes: &[u8], front: &[u8]) -> Option<u32>
     ensures read { IfSome result (λ t. (bytes.now ≡ front.now ++ decimal t) × IsTick t) }
     ensures whole { (t : ℕ) → IsTick t → bytes.now ≡ front.now ++ decimal t → result ≡ Some t }
 {
-    last_within(bytes, front, 1, LATEST_TICK)
+    last_within(bytes, front, 1, LATEST_MOMENT)
 }
 
 // Which command was acknowledged, and when.

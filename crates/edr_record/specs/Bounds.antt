@@ -1,7 +1,7 @@
 -- Which values the fields of a record may have.
 use Rattle.std.specs.Prelude.{◌≡◌, ℕ, ◌+◌, ◌-◌, ◌/◌, ◌≤◌, min, max, ℤ, pos, unsigned_abs, Option, Some, IfSome, List, length, drop, replicate, slice_get, All}
 use Rattle.edr_items.specs.declared.TheConstants.{LATEST_MOMENT}
-use Rattle.edr_record.specs.declared.TheConstants.{LONG_SLOTS, LONGEST_PAIR, RESET, SHORT_SLOTS}
+use Rattle.edr_record.specs.declared.TheConstants.{EARLIEST_END, GREATEST_CHANGE, LONG_SLOTS, LONGEST_PAIR, LONGEST_WINDOW, POINTS, RESET, SHORT_SLOTS}
 use Rattle.edr_record.specs.declared.Place.{Place}
 use Rattle.edr_record.specs.declared.Place.TheVariants.{First, Second}
 use Rattle.edr_record.specs.declared.Extreme.{Extreme}
@@ -40,9 +40,9 @@ pub record IsPreWithSlots (n : ℕ) (p : PrePart) : Type 0 where
 abbrev pub IsPre : PrePart → Type 0
 IsPre p = IsPreWithSlots (slots_in p.profile) p
 
--- how long after time zero extremes and missing samples are looked for, from the time of the end (563.7 Table I, maximum delta-V)
+-- how long after time zero extremes and missing samples are looked for: 300 ms, or 30 ms past the end if that is shorter (563.7 Table I, maximum delta-V)
 abbrev pub window_from_end : ℕ → ℕ
-window_from_end end = min 300 (end + 30)
+window_from_end end = min LONGEST_WINDOW (end + 30)
 
 -- how many points a crash part has: one at time zero and at each tenth tick after it (563.7 Table I, delta-V)
 abbrev pub point_count : ℕ → ℕ
@@ -50,11 +50,11 @@ point_count end = min 250 (end + 30) / 10 + 1
 
 -- how many points a crash part has room for
 abbrev pub most_points : ℕ
-most_points = 26
+most_points = POINTS
 
 -- a change of speed in whole km/h that samples in range can give
 abbrev pub IsChange : ℤ → Type 0
-IsChange z = unsigned_abs z ≤ 3_000
+IsChange z = unsigned_abs z ≤ GREATEST_CHANGE
 
 -- the points of an axis: 0 at time zero, changes, and 0 past the number of points
 pub record ArePoints (count : ℕ) (points : List ℤ) : Type 0 where
@@ -70,7 +70,7 @@ pub record IsExtreme (window : ℕ) (x : Extreme) : Type 0 where
 
 -- the bounds of a crash part: each follows from its end
 pub record IsCrash (c : CrashPart) : Type 0 where
-  pub end_from : 20 ≤ c.end
+  pub end_from : EARLIEST_END ≤ c.end
   pub end_to : c.end ≤ RESET
   pub along : ArePoints (point_count c.end) c.along
   pub across : ArePoints (point_count c.end) c.across

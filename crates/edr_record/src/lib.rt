@@ -3,6 +3,7 @@
 
 ghost use Rattle.std.specs.Prelude.{◌≡◌, is_some};
 ghost use Rattle.std.specs.List.{list_all};
+ghost use Rattle.edr_record.specs.Bounds.{point_count, window_from_end};
 
 use std::marker::Model;
 
@@ -24,8 +25,20 @@ pub const SINGLE_REACH: u32 = 1_000;
 /// How far apart the time zeros of a pair of events may be, in milliseconds.
 pub const LONGEST_PAIR: u32 = 5_000;
 
+/// How long after time zero an event ends at the earliest, in milliseconds.
+pub const EARLIEST_END: u16 = 20;
+
 /// How long after time zero an event ends at the latest, in milliseconds: the search for one is reset there.
 pub const RESET: u16 = 500;
+
+/// How long after time zero extremes and missing samples are looked for at the most, in milliseconds.
+pub const LONGEST_WINDOW: u16 = 300;
+
+/// The greatest change of speed that samples in range can give, in km/h.
+pub const GREATEST_CHANGE: u32 = 3_000;
+
+/// How many points an axis of a crash part has room for.
+pub const POINTS: usize = 26;
 
 /// Names an event: the ignition cycle, and its time zero there in milliseconds.
 #[derive(Clone, Copy, Debug, PartialEq, Eq)]
@@ -104,8 +117,8 @@ pub struct Extreme {
 #[derive(Clone, Copy, Debug, PartialEq, Eq)]
 pub struct Crash {
     pub end: u16,
-    pub along: [i16; 26],
-    pub across: [i16; 26],
+    pub along: [i16; POINTS],
+    pub across: [i16; POINTS],
     pub max_along: Extreme,
     pub max_across: Extreme,
     pub result_at: u16,
@@ -135,6 +148,23 @@ pub struct Record {
     pub pre: Pre,
     pub locked: bool,
     pub crash: Option<Crash>,
+}
+
+/// How many points an axis has, by the time of the end: one at time zero and at each 10 ms after it, up to 30 ms past the
+/// end and to 250 ms.
+#[inline]
+pub fn point_count(end: u16) -> usize
+    ensures { result ≡ point_count end }
+{
+    (usize::from(end) + 30).min(250) / 10 + 1
+}
+
+/// How long after time zero extremes and missing samples are looked for, by the time of the end, in milliseconds.
+#[inline]
+pub fn window_from_end(end: u16) -> u16
+    ensures { result ≡ window_from_end end }
+{
+    end.saturating_add(30).min(LONGEST_WINDOW)
 }
 
 // Each slot has a value.
@@ -234,7 +264,8 @@ pub enum Command {
 }
 
 /// Lists have eleven slots, or 201, at each tenth of a second from 20 s before time zero on; belt and lamp have one, 1 s
-/// before it. The two events of a pair begin at most 5 s apart, and each ends at most half a second past its time zero.
+/// before it. The two events of a pair begin at most 5 s apart, and each ends 20 to 500 ms past its time zero. An
+/// axis has room for 26 points, of at most 3,000 km/h, and extremes are looked for 300 ms at the most.
 pub fn times_are_those_of_a_record()
     ensures short { SHORT_SLOTS ≡ 11 }
     ensures long { LONG_SLOTS ≡ 201 }
@@ -242,5 +273,9 @@ pub fn times_are_those_of_a_record()
     ensures reach { SLOT_REACH ≡ 20_000 }
     ensures single { SINGLE_REACH ≡ 1_000 }
     ensures pair { LONGEST_PAIR ≡ 5_000 }
+    ensures end { EARLIEST_END ≡ 20 }
     ensures reset { RESET ≡ 500 }
+    ensures window { LONGEST_WINDOW ≡ 300 }
+    ensures change { GREATEST_CHANGE ≡ 3_000 }
+    ensures points { POINTS ≡ 26 }
 {}

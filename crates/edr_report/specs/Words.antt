@@ -13,6 +13,7 @@ use Rattle.edr_image.specs.declared.Kind.{Kind}
 use Rattle.edr_image.specs.declared.Kind.TheVariants as kind
 use Rattle.edr_image.specs.declared.Applied.{Applied}
 use Rattle.edr_image.specs.declared.Applied.TheVariants.{Kept, Locked, Done, NotKept}
+use Rattle.edr_report.specs.declared.TheConstants.{LARGEST_SHOWN_COUNT}
 
 -- ---- of cycles and banks
 
@@ -66,9 +67,12 @@ milliseconds t = decimal t ++ codes " ms"
 abbrev pub firing_words : Option ℕ → List ℕ
 firing_words t = option_map_or milliseconds t none_word
 
--- counts of ignition cycles are shown up to 60000 (563.8, reporting range of ignition cycles)
+-- a count of ignition cycles as it is shown: up to 60000 (563.8, reporting range of ignition cycles)
+abbrev pub shown : ℕ → ℕ
+shown count = min count LARGEST_SHOWN_COUNT
+
 abbrev pub shown_count : ℕ → List ℕ
-shown_count n = decimal (min n 60_000)
+shown_count n = decimal (shown n)
 
 -- ---- of an event
 

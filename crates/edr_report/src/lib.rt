@@ -14,6 +14,7 @@ ghost use Rattle.std.specs.Prelude.{◌≡◌, IfOk, map};
 ghost use Rattle.edr_image.specs.Reports.{report_of};
 ghost use Rattle.edr_report.specs.Lines.{text_of, table_of};
 ghost use Rattle.edr_report.specs.Report.{report_lines};
+ghost use Rattle.edr_report.specs.Words.{shown};
 
 use edr_image::{CycleReport, Found};
 pub use forms::Lines;
@@ -22,6 +23,22 @@ use printer::print;
 pub use printer::{print_event, print_run};
 pub use short_lines::{Room, ShortLine, format_line, migrate_line, push_number, push_signed};
 use std::alloc::{AllocError as OutOfMemory, Global};
+
+/// Counts of ignition cycles are shown up to this number.
+pub const LARGEST_SHOWN_COUNT: u32 = 60_000;
+
+/// A count of ignition cycles as it is shown.
+#[inline]
+pub fn shown(count: u32) -> u32
+    ensures { result ≡ shown count }
+{
+    count.min(LARGEST_SHOWN_COUNT)
+}
+
+/// A count of ignition cycles is shown up to 60,000.
+pub fn counts_are_shown_up_to_60000()
+    ensures { LARGEST_SHOWN_COUNT ≡ 60_000 }
+{}
 
 /// The report of the cycles of a run, of what was found in the banks in this order, and of the count of ignition
 /// cycles, as text: `name: value` and a line feed for each line.

@@ -4,12 +4,10 @@ ghost use Rattle.std.specs.Prelude.{◌≡◌, ◌++◌, OnOk, string_bytes, map
 ghost use Rattle.edr_report.specs.Words.{spaced, yes_no, profile_word, switch_or_none, firing_words, applied_words, stop_words, events_in_crash, time_between, points_words, extreme_words};
 ghost use Rattle.edr_report.specs.Values.{value_words};
 
+use crate::shown;
 use edr_image::Applied;
-use edr_record::{Extreme, Place, Profile};
+use edr_record::{Extreme, POINTS, Place, Profile, point_count};
 use std::alloc::AllocError as OutOfMemory;
-
-/// Counts of ignition cycles are shown up to this number.
-pub const LARGEST_SHOWN_COUNT: u32 = 60_000;
 
 /// What stands in a line of a report behind its name.
 #[derive(Clone, Copy)]
@@ -44,7 +42,7 @@ pub enum Value<'a> {
     /// The points of an axis that this end allows.
     Points {
         end: u16,
-        points: [i16; 26],
+        points: [i16; POINTS],
     },
     Extreme(Extreme),
     /// How many ticks have no sample.
@@ -196,11 +194,10 @@ fn put_time_between(out: &mut String, place: Place) -> Result<(), OutOfMemory>
 }
 
 // Appends the points of an axis that the end allows.
-fn put_points(out: &mut String, end: u16, points: [i16; 26]) -> Result<(), OutOfMemory>
+fn put_points(out: &mut String, end: u16, points: [i16; POINTS]) -> Result<(), OutOfMemory>
     ensures { OnOk result (string_bytes out.new ≡ string_bytes out.old ++ points_words end points) }
 {
-    let count = 250.min(usize::from(end) + 30) / 10 + 1;
-    put_spaced(out, &points[..count])
+    put_spaced(out, &points[..point_count(end)])
 }
 
 fn put_extreme(out: &mut String, extreme: Extreme) -> Result<(), OutOfMemory>
@@ -232,7 +229,7 @@ impl<'a> Value<'a> {
             }
             Value::Number(n) => write!(out, "{n}"),
             Value::Count(n) => {
-                let shown = n.min(LARGEST_SHOWN_COUNT);
+                let shown = shown(n);
                 write!(out, "{shown}")
             }
             Value::Milliseconds(t) => write!(out, "{t} ms"),
