@@ -2,20 +2,23 @@
 
 ghost use Rattle.std.specs.Prelude.{◌≡◌};
 ghost use Rattle.edr_loops.specs.Places.{IsDealt};
-ghost use Rattle.edr_loops.specs.Stands.{AreFastDealt, AreSlowDealt, either_fast, either_slow};
+ghost use Rattle.edr_loops.specs.Stands.{AreFastDealt, AreSlowDealt, either_fast, either_slow, fast_of_worker, is_served_by, place_if, slow_of_worker};
 
 use crate::stand::{FastPlaces, SlowPlaces};
 use edr_items::{PerSlowSensor, Sensor};
 
 // Deals a place to this hand, or leaves it.
 pub(crate) fn deal_one<T>(place: &mut Option<T>, mine: bool) -> Option<T>
-    ensures { IsDealt place.old result place.new }
+    ensures dealt { IsDealt place.old result place.new }
+    ensures mine { result ≡ place_if mine place.old }
 {
     if mine { place.take() } else { None }
 }
 
 // Worker w serves the sensors i with (i - 1) mod workers = w.
-pub(crate) fn is_served_by(sensor: Sensor, w: u32, workers: u32) -> bool {
+pub(crate) fn is_served_by(sensor: Sensor, w: u32, workers: u32) -> bool
+    ensures { result ≡ is_served_by w workers sensor }
+{
     let place = u32::from(sensor.number() - 1);
     place.checked_rem(workers) == Some(w)
 }
@@ -23,7 +26,8 @@ pub(crate) fn is_served_by(sensor: Sensor, w: u32, workers: u32) -> bool {
 impl FastPlaces {
     /// Deals the places of this worker: that of sensor number i is at the worker (i - 1) mod `workers`.
     pub fn deal(&mut self, w: u32, workers: u32) -> FastPlaces
-        ensures { AreFastDealt self.old result self.new }
+        ensures dealt { AreFastDealt self.old result self.new }
+        ensures mine { result ≡ fast_of_worker w workers self.old }
     {
         FastPlaces {
             along: deal_one(&mut self.along, is_served_by(Sensor::Along, w, workers)),
@@ -50,7 +54,8 @@ impl FastPlaces {
 impl SlowPlaces {
     /// Deals the places of this worker: that of sensor number i is at the worker (i - 1) mod `workers`.
     pub fn deal(&mut self, w: u32, workers: u32) -> SlowPlaces
-        ensures { AreSlowDealt self.old result self.new }
+        ensures dealt { AreSlowDealt self.old result self.new }
+        ensures mine { result ≡ slow_of_worker w workers self.old }
     {
         let all = &mut self.each;
         let each = PerSlowSensor {

@@ -1,9 +1,10 @@
 //! The commands of one tick that were issued and not yet sent.
 
-ghost use Rattle.std.specs.Prelude.{◌≡◌, [], ◌++◌, true, map, None};
+ghost use Rattle.std.specs.Prelude.{◌≡◌, ◌+◌, ◌↔◌, [], ◌++◌, length, true, false, map, None};
 ghost use Rattle.edr_definitions.specs.Commands.{issue_at};
 ghost use Rattle.edr_core.specs.Answers.{commands_put};
-ghost use Rattle.edr_loops.specs.Orders.{SameOutbox};
+ghost use Rattle.edr_loops.specs.Room.{order_room};
+ghost use Rattle.edr_loops.specs.Orders.{SameOutbox, orders_known_taken, orders_sent};
 ghost use Rattle.edr_loops.specs.Held.{issues_held, issues_out, issues_out_one};
 
 use crate::orders::{Order, Outbox};
@@ -23,7 +24,8 @@ pub struct Held {
 fn send_first(outbox: &mut Outbox, order: &mut Option<Order>) -> bool
     ensures ring { SameOutbox outbox.old outbox.new }
     ensures same { issues_out_one outbox.new order.new ≡ issues_out_one outbox.old order.old }
-    ensures all { result ≡ true → order.new ≡ None }
+    ensures all { (result ≡ true) ↔ (order.new ≡ None) }
+    ensures full { result ≡ false → length (orders_sent outbox.new) ≡ orders_known_taken outbox.new + order_room }
 {
     let Some(first) = order.take() else {
         return true;
@@ -42,7 +44,8 @@ fn send_first(outbox: &mut Outbox, order: &mut Option<Order>) -> bool
 fn send_one(outbox: &mut Outbox, order: &mut Option<Order>) -> bool
     ensures ring { SameOutbox outbox.old outbox.new }
     ensures same { issues_out_one outbox.new order.new ≡ issues_out_one outbox.old order.old }
-    ensures all { result ≡ true → order.new ≡ None }
+    ensures all { (result ≡ true) ↔ (order.new ≡ None) }
+    ensures full { result ≡ false → length (orders_sent outbox.new) ≡ orders_known_taken outbox.new + order_room }
 {
     if order.is_none() {
         return true;
@@ -87,7 +90,7 @@ impl Held {
 
     /// Whether there is none.
     pub fn is_none(&self) -> bool
-        ensures { result ≡ true → issues_held self.now ≡ [] }
+        ensures { (result ≡ true) ↔ (issues_held self.now ≡ []) }
     {
         self.take.is_none() && self.lock.is_none() && self.done.is_none()
     }
@@ -96,7 +99,10 @@ impl Held {
     pub fn send(&mut self, outbox: &mut Outbox) -> bool
         ensures ring { SameOutbox outbox.old outbox.new }
         ensures same { issues_out outbox.new self.new ≡ issues_out outbox.old self.old }
-        ensures all { result ≡ true → issues_held self.new ≡ [] }
+        ensures all { (result ≡ true) ↔ (issues_held self.new ≡ []) }
+
+        // One is left only where as many as there are slots were sent past the last that the outbox knows taken.
+        ensures full { result ≡ false → length (orders_sent outbox.new) ≡ orders_known_taken outbox.new + order_room }
     {
         if !send_one(outbox, &mut self.take) {
             return false;

@@ -1,6 +1,7 @@
 //! The loops of the threads of a recorder, and what crosses between them.
 #![tactic(auto)]
 
+mod command_ring;
 mod dealing;
 mod desk;
 mod desk_turns;
@@ -15,13 +16,14 @@ mod stand;
 mod threads;
 mod tray;
 
+pub use crate::command_ring::{Orders, make_orders};
 pub use crate::desk::Desk;
 pub use crate::fast_inlets::{FastInlets, FastMarks, FastSensor};
 pub use crate::held::Held;
 pub use crate::lanes::{
     FastLanes, SlowLanes, make_fast_lanes, make_slow_lanes, settle_fast, settle_parts,
 };
-pub use crate::orders::{Inbox, Order, Orders, Outbox, make_orders};
+pub use crate::orders::{Inbox, Order, Outbox};
 pub use crate::part_inlets::PartInlets;
 pub use crate::place::{Gate, Offered, Passage, SensorPlace};
 pub use crate::slow_place::SlowPlace;
