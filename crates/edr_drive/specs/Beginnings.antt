@@ -4,12 +4,13 @@ use Rattle.edr_items.specs.SensorLists.{SensorLists}
 use Rattle.edr_core.specs.Captures.{no_captures}
 use Rattle.edr_core.specs.SplitHistory.{start_of}
 use Rattle.edr_core.specs.SplitStandsFor.{SplitCoreStandsFor}
+use Rattle.edr_loops.specs.declared.orders.Inbox.{Inbox}
 use Rattle.edr_loops.specs.Orders.{AreEndsOfOrders, orders_sent, orders_taken}
 use Rattle.edr_board.specs.FreezeSeats.{IsFreshAsker, freeze_of_asker}
 use Rattle.edr_board.specs.Seats.{closed_posted, gate_posted}
 use Rattle.edr_loops.specs.Lanes.{AreFastLanes, ArePartLanes, FastItems, fast_taken, no_fast_items, no_slow_parts, slow_taken}
 use Rattle.edr_loops.specs.Desks.{HasPosted, DeskStands}
-use Rattle.edr_drive.specs.declared.beginning.Beginning.{Beginning}
+use Rattle.edr_drive.specs.declared.beginning.Recording.{Recording}
 use Rattle.edr_drive.specs.declared.beginning.SensorRings.{SensorRings}
 use Rattle.edr_drive.specs.declared.beginning.CoreAndCaptures.{CoreAndCaptures}
 use Rattle.edr_drive.specs.declared.beginning.Crossings.{Crossings}
@@ -48,12 +49,12 @@ pub record AreFreshCrossings (c : Crossings) : Type 0 where
   pub seats : HaveNotPosted c.seats
 
 -- a desk of cycle n to which nothing was given, at one end of each ring, and the places and the inbox at the other
-pub record IsBeginning (n : ℕ) (b : Beginning) : Type 0 where
-  pub stands : (horizon : ℕ) → DeskStands n horizon b.desk
-  pub posted : HasPosted b.desk
-  pub lanes : AreFastLanes b.places.fast b.desk.fast
-  pub part_lanes : ArePartLanes b.places.slow b.desk.parts
-  pub begun : (f : SensorLists) → HaveBegun f b.places
-  pub pair : AreEndsOfOrders b.desk.outbox b.inbox
-  pub fresh : orders_taken b.inbox ≡ []
-  pub captures : b.captures ≡ no_captures
+pub record IsBeginning (n : ℕ) (r : Recording) (inbox : Inbox) : Type 0 where
+  pub stands : (horizon : ℕ) → DeskStands n horizon r.desk
+  pub posted : HasPosted r.desk
+  pub lanes : AreFastLanes r.places.fast r.desk.fast
+  pub part_lanes : ArePartLanes r.places.slow r.desk.parts
+  pub begun : (f : SensorLists) → HaveBegun f r.places
+  pub pair : AreEndsOfOrders r.desk.outbox inbox
+  pub fresh : orders_taken inbox ≡ []
+  pub captures : r.captures ≡ no_captures

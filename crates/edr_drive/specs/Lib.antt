@@ -2,4 +2,5 @@ pub mod Places
 pub mod Beginnings
 pub mod Desks
 pub mod Left
+pub mod CommitterDesks
 pub mod Ended

@@ -6,7 +6,7 @@ ghost use Rattle.edr_device.specs.Memory.{memory_image};
 ghost use Rattle.edr_items.specs.SensorLists.{IsLevel};
 
 use edr_banks::{Banks, Choice};
-use edr_cycle::{CycleEnd, Parts, run_alone, start};
+use edr_cycle::{CycleEnd, run_alone, start};
 use edr_device::{Fused, MemNvm};
 use edr_drive::beginning::{Beginning, begin, ends_of};
 use edr_drive::drive_cycle;
@@ -212,46 +212,30 @@ fn check_threads<R: Threads + Wait + Abort + Copy + Send + 'static>(
     let mut memory = formatted(alloc)?;
     let gate = new_gate(alloc)?;
     let started = start(alloc, &mut memory, feeds.horizon())?;
-    let number = started.number();
-    let Parts {
-        mut banks,
-        core: _,
-        mut log,
-    } = started.parts();
     let Beginning {
-        places,
-        desk,
-        captures: _,
-        mut inbox,
-        mut watch,
+        recording,
         mut committer,
-    } = begin(alloc, number)?;
-    let ends = ends_of(feeds);
-    let mut desk = Some(desk);
+    } = begin(alloc, started)?;
+    let mut desk = Some(recording.desk);
     let back = with_workers(
         rt,
         0,
         workers,
-        places,
+        recording.places,
         &mut desk,
         feeds,
         &gate,
-        ends,
-        &mut watch,
         &mut committer,
-        &mut inbox,
-        &mut banks,
         &mut memory,
-        &mut log,
     );
     assert_eq!(rt; gate.passed.load(Ordering::SeqCst), items_in(7000));
     let desk = desk.ok_or("the desk came back")?;
-    assert_eq!(rt; desk.last, ends);
+    assert_eq!(rt; desk.last, ends_of(feeds));
     assert_eq!(rt; desk.core.closed(), 7000);
     assert_eq!(rt; desk.posted, 7000);
-    assert!(rt; inbox.take().is_none());
+    assert!(rt; committer.inbox.take().is_none());
     assert!(rt; back.committed.is_ok());
-    assert_eq!(rt; log.acks().len(), 3);
+    assert_eq!(rt; committer.log.acks().len(), 3);
     Ok(())
 }
 

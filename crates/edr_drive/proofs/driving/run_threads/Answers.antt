@@ -10,12 +10,12 @@ pub with_workers-back-requires-clause-begun : goal.with_workers-back-requires-cl
 with_workers-back-requires-clause-begun g c = λ κs h. c.requires.beginning.begun (arc_value c.args.feeds.now)
 
 pub with_workers-back-requires-clause-recording : goal.with_workers-back-requires-clause-recording
-with_workers-back-requires-clause-recording g c = λ κs h. (c.args.beginning.desk.core.cycle, 0, c.requires.beginning.stands 0)
+with_workers-back-requires-clause-recording g c = λ κs h. (c.args.recording.desk.core.cycle, 0, c.requires.beginning.stands 0)
 
 pub returns-clause-ended : goal.returns-clause-ended
 returns-clause-ended g c =
     let f = arc_value c.args.feeds.now in
-    let b = c.args.beginning in
+    let b = c.args.recording in
     let begins = c.requires.beginning in
     let back = c.with_workers-back in
     let d = c.in-Some.desk in
@@ -25,6 +25,6 @@ returns-clause-ended g c =
       lanes = fast_lanes-later f b.places.fast back.result.places.fast b.desk.fast d.fast begins.lanes back.ensures.places.fast same.fast;
       part_lanes = part_lanes-later f b.places.slow back.result.places.slow b.desk.parts d.parts begins.part_lanes back.ensures.places.slow same.parts;
       begun = all-begun f b.places back.result.places back.ensures.places;
-      pair = orders-later b.desk.outbox d.outbox b.inbox back.new.inbox begins.pair same.outbox back.ensures.ring;
+      pair = orders-later b.desk.outbox d.outbox c.args.committer.now.inbox back.new.committer.inbox begins.pair same.outbox back.ensures.posts.ring;
       captures = begins.captures;
     }

@@ -3,10 +3,10 @@ use Rattle.edr_loops.specs.declared.fast_inlets.FastInlets.{FastInlets}
 use Rattle.edr_loops.specs.declared.orders.Outbox.{Outbox}
 use Rattle.edr_loops.specs.Orders.{AreEndsOfOrders}
 use Rattle.edr_loops.specs.Lanes.{AreFastLanes, ArePartLanes, PartInlets}
-use Rattle.edr_drive.proofs.beginning.seat_desk.Goals as goal
+use Rattle.edr_drive.proofs.beginning.seat_desks.Goals as goal
 
-pub returns : goal.returns
-returns c = λ n opened crossings.
+pub returns-clause-begins : goal.returns-clause-begins
+returns-clause-begins c = λ n opened crossings.
     let desk = c.new-desk.ensures in
     let rings = crossings.rings in
     let gate = crossings.seats.gate in
