@@ -10,7 +10,7 @@ use Rattle.edr_board.specs.FreezeSeats.{IsFreshAsker, freeze_of_asker}
 use Rattle.edr_board.specs.Seats.{closed_posted, gate_posted}
 use Rattle.edr_loops.specs.Lanes.{AreFastLanes, ArePartLanes, FastItems, fast_taken, no_fast_items, no_slow_parts, slow_taken}
 use Rattle.edr_loops.specs.Desks.{HasPosted, DeskStands}
-use Rattle.edr_drive.specs.declared.beginning.Recording.{Recording}
+use Rattle.edr_drive.specs.declared.beginning.RecorderSide.{RecorderSide}
 use Rattle.edr_drive.specs.declared.beginning.SensorRings.{SensorRings}
 use Rattle.edr_drive.specs.declared.beginning.CoreAndCaptures.{CoreAndCaptures}
 use Rattle.edr_drive.specs.declared.beginning.Crossings.{Crossings}
@@ -49,7 +49,7 @@ pub record AreFreshCrossings (c : Crossings) : Type 0 where
   pub seats : HaveNotPosted c.seats
 
 -- a desk of cycle n to which nothing was given, at one end of each ring, and the places and the inbox at the other
-pub record IsBeginning (n : ℕ) (r : Recording) (inbox : Inbox) : Type 0 where
+pub record IsBeginning (n : ℕ) (r : RecorderSide) (inbox : Inbox) : Type 0 where
   pub stands : (horizon : ℕ) → DeskStands n horizon r.desk
   pub posted : HasPosted r.desk
   pub lanes : AreFastLanes r.places.fast r.desk.fast

@@ -25,7 +25,7 @@ pub record CanCommit (size : ℕ) (c : CommitterDesk) : Type 0 where
   pub holds : image_size c.banks.store.header.banks ≤ size
 
 -- it can commit, and took no order yet
-pub record IsReady (size : ℕ) (c : CommitterDesk) : Type 0 where
+pub record AwaitsOrders (size : ℕ) (c : CommitterDesk) : Type 0 where
   pub can : CanCommit size c
   pub fresh : orders_taken c.inbox ≡ []
 
