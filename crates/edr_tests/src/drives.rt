@@ -8,7 +8,7 @@ ghost use Rattle.edr_items.specs.SensorLists.{IsLevel};
 use edr_banks::{Banks, Choice};
 use edr_cycle::{CycleEnd, run_alone, start};
 use edr_device::{Fused, MemNvm};
-use edr_drive::beginning::{Beginning, begin, ends_of};
+use edr_drive::beginning::{begin, ends_of};
 use edr_drive::drive_cycle;
 use edr_drive::threads::with_workers;
 use edr_items::{Feeds, Item, Sensor, level_is_none_lagging};
@@ -212,10 +212,9 @@ fn check_threads<R: Threads + Wait + Abort + Copy + Send + 'static>(
     let mut memory = formatted(alloc)?;
     let gate = new_gate(alloc)?;
     let started = start(alloc, &mut memory, feeds.horizon())?;
-    let Beginning {
-        recording,
-        mut committer,
-    } = begin(alloc, started)?;
+    let beginning = begin(alloc, started)?;
+    let mut committer = beginning.committer;
+    let recording = beginning.recording;
     let mut desk = Some(recording.desk);
     let back = with_workers(
         rt,
