@@ -2,6 +2,8 @@
 use Rattle.std.proofs.Common.{◌≡◌, ◌∙◌, ◌<◌, ◌≤◌, ◌+◌, ◌-◌, ℕ, List, [], ◌∷◌, ◌++◌, length, take, sym, ap, arith, append_assoc, length-append, length-drop, length-take-le, take_all}
 use Rattle.std.specs.Prelude.{get_or}
 use Rattle.std.proofs.lemmas.List.{take-append-le, get_or-take, drop_more}
+use Rattle.edr_items.specs.declared.Item.{Item}
+use Rattle.edr_definitions.specs.Schedule.{BeginsWith}
 use Rattle.edr_loops.specs.Slices.{between, but_last}
 
 module _ {A : Type 0} where
@@ -37,3 +39,12 @@ module _ {A : Type 0} where
       → all ≡ but_last (end - (next + 1)) all ++ between (next + 1) end xs
   next_lie all xs next end d lt le lie =
       next-split all xs next end d lt le lie ∙ ap (λ ys. ys ++ between (next + 1) end xs) (sym (next_taken all xs next end d lt le lie))
+
+  -- where nothing lies in the tray, all that came out of the ring is taken
+  pub none_lie : (all : List A) (next end : ℕ) → next ≡ end → but_last (end - next) all ≡ all
+  none_lie all next end is = take_all (length all - (end - next)) all (omega (arith, is))
+
+-- the next one stands behind what is taken
+pub next_begins : (all xs : List Item) (next end : ℕ) (d : Item) → next < end → end ≤ length xs → all ≡ but_last (end - next) all ++ between next end xs
+    → BeginsWith all (but_last (end - next) all ++ get_or xs next d ∷ [])
+next_begins all xs next end d lt le lie = (between (next + 1) end xs, next-split all xs next end d lt le lie)

@@ -1,7 +1,8 @@
 -- What a contract sees of a tray.
-use Rattle.std.specs.Prelude.{◌≡◌, ◌-◌, ◌≤◌, ◌++◌, ◌∷◌, [], ℕ, List, Option, MatchOption}
+use Rattle.std.specs.Prelude.{◌≡◌, ◌-◌, ◌<◌, ◌≤◌, ◌⊎◌, ◌++◌, ◌∷◌, [], ℕ, List, Option, MatchOption}
 use Rattle.edr_items.specs.declared.Item.{Item}
-use Rattle.edr_seats.specs.Inlet.{SameInlet, items_taken}
+use Rattle.edr_definitions.specs.Schedule.{BeginsWith}
+use Rattle.edr_seats.specs.Inlet.{SameInlet, items_known, items_taken}
 use Rattle.edr_loops.specs.Slices.{but_last}
 use Rattle.edr_loops.specs.declared.tray.Tray.{Tray}
 
@@ -16,6 +17,12 @@ TakesUpTo upto grown taken old new = MatchOption taken (new ≡ old) (λ item. (
 -- the items with one more at their end
 abbrev pub with_last : Item → List Item → List Item
 with_last item items = items ++ item ∷ []
+
+-- no item up to that moment is known: the inlet knows of none beside those that were taken, or the next one is past it
+abbrev pub KnowsNoneUpTo : ℕ → Tray → Type 0
+KnowsNoneUpTo upto t =
+    ((taken_of t ≡ items_taken t.inlet) × (items_known t.inlet ≡ []))
+    ⊎ ((x : Item) × BeginsWith (items_taken t.inlet) (with_last x (taken_of t)) × (upto < x.moment))
 
 -- the tray of the same ring
 abbrev pub SameTray : Tray → Tray → Type 0

@@ -3,7 +3,7 @@
 
 ghost use Rattle.std.specs.Prelude.{◌≡◌, ◌≤◌, [], true};
 ghost use Rattle.edr_loops.specs.Held.{issues_held};
-ghost use Rattle.edr_loops.specs.Desks.{HasPosted, IsRecording, Later, LaterUpTo, SeatStays};
+ghost use Rattle.edr_loops.specs.Desks.{HasEnded, HasPosted, IsDone, IsRecording, Later, LaterUpTo, SeatStays};
 
 use crate::desk::Desk;
 use crate::fast_inlets::{FastMarks, FastSensor};
@@ -167,7 +167,11 @@ impl Desk {
 
     // Whether all is done: each item of the fast sensors is taken, the horizon is closed, and what the slow sensors may still keep past it
     // is granted.
-    fn is_done(&self, horizon: u32, ends: FastMarks) -> bool {
+    fn is_done(&self, horizon: u32, ends: FastMarks) -> bool
+        requires stands { IsRecording self.now }
+        requires posted { HasPosted self.now }
+        ensures { result ≡ true → IsDone horizon ends self.now }
+    {
         let upto = horizon.saturating_add(LONGEST_GAP).min(LATEST_MOMENT);
         self.posted >= horizon && self.granted >= upto && self.last == ends
     }
@@ -177,19 +181,21 @@ impl Desk {
         requires stands { IsRecording self.old }
         requires posted { HasPosted self.old }
         ensures later { LaterUpTo horizon self.old self.new }
+        ensures ends { HasEnded horizon ends self.new }
     {
         for _ in rt.forever() {
             let moved = self.turn(horizon);
             if self.is_done(horizon, ends) {
-                break;
+                return;
             }
             if self.watch.read().stopped {
-                break;
+                return;
             }
             if !moved {
                 thread::yield_now();
             }
         }
+        unreachable!()
     }
 
     /// The recorder's loop. Where the committer has stopped, the gate is posted 2 and nothing is done. `ends` are the last moments of
@@ -198,6 +204,7 @@ impl Desk {
         requires stands { IsRecording self }
         requires posted { HasPosted self }
         ensures later { LaterUpTo horizon self result }
+        ensures ends { HasEnded horizon ends result }
     {
         let mut desk = self;
         if desk.watch.read().stopped {

@@ -26,11 +26,11 @@ pub struct Tray {
 }
 
 impl Tray {
-    ghost use Rattle.std.specs.Prelude.{[]};
+    ghost use Rattle.std.specs.Prelude.{[], IsNone};
     ghost use Rattle.edr_definitions.specs.Schedule.{BeginsWith};
-    ghost use Rattle.edr_seats.specs.Inlet.{AreOfOneRing};
+    ghost use Rattle.edr_seats.specs.Inlet.{AreOfOneRing, items_known};
     ghost use Rattle.edr_seats.specs.Seat.{items_sent};
-    ghost use Rattle.edr_loops.specs.Trays.{SameTray, TakesUpTo, taken_of, with_last};
+    ghost use Rattle.edr_loops.specs.Trays.{KnowsNoneUpTo, SameTray, TakesUpTo, taken_of, with_last};
 
     /// A tray in which nothing lies.
     pub fn new(inlet: Inlet) -> Tray
@@ -54,6 +54,7 @@ impl Tray {
         requires { self.old.next ≡ self.old.end }
         ensures ring { SameTray self.old self.new }
         ensures taken { taken_of self.new ≡ taken_of self.old }
+        ensures empty { self.new.next ≡ self.new.end → items_known self.new.inlet ≡ [] }
     {
         self.end = self.inlet.take_some(&mut self.items);
         self.next = 0;
@@ -65,11 +66,15 @@ impl Tray {
     pub fn take_upto(&mut self, upto: u32) -> Option<Item>
         ensures ring { SameTray self.old self.new }
         ensures taken { TakesUpTo upto with_last result (taken_of self.old) (taken_of self.new) }
+        ensures none { IsNone result → KnowsNoneUpTo upto self.new }
     {
         if self.next == self.end {
             self.fill();
+            if self.next == self.end {
+                return None;
+            }
         }
-        if self.next == self.end || upto < self.items[self.next].moment {
+        if upto < self.items[self.next].moment {
             return None;
         }
         let item = self.items[self.next];
