@@ -1,6 +1,6 @@
 //! The stages of the streaming search, and what stands at a tick.
 
-ghost use Rattle.std.specs.Prelude.{◌≡◌, IsTrue};
+ghost use Rattle.std.specs.Prelude.{◌≡◌, ◌↔◌, IsTrue};
 ghost use Rattle.std.specs.Option.{option_or};
 ghost use Rattle.edr_definitions.specs.Selection.{Bounds, close_of};
 ghost use Rattle.edr_definitions.specs.Change.{stepped_change};
@@ -94,7 +94,7 @@ fn past(t: u32, zero: u32, confirmed: Option<u32>, locked: Option<u32>, end: u32
 impl Stage {
     /// No candidate is open, so that a tick is looked at for a time zero.
     pub fn is_searching(self) -> bool
-        ensures { IsTrue result → phase_of self ≡ Searching }
+        ensures { IsTrue result ↔ (phase_of self ≡ Searching) }
     {
         matches!(self, Stage::Searching)
     }

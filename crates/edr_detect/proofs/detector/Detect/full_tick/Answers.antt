@@ -19,7 +19,7 @@ returns-then-not-tests c =
     let both : (rows : List SignalRow) → DetectStandsFor c.args.self.now rows → DetectStandsFor still (rows ++ r ∷ []) × (told_of nothing ≡ tick_change (signals_of_rows (rows ++ r ∷ [])) (length rows + 1)) =
     λ rows h. tick-still rows r (record { tick = c.self.inside.tick; stage = c.self.inside.stage; windows = c.self.inside.windows; rests = c.self.inside.rests })
     (c.self.inside.tick + 1) c.push.new.self c.are_at_rest-self-inside.result
-    (subst (λ (d : DetectState). DetectStandsFor d rows) (sym c.self.view_is) h) refl (c.is_searching.ensures c.if-is_searching.true)
+    (subst (λ (d : DetectState). DetectStandsFor d rows) (sym c.self.view_is) h) refl (c.is_searching.ensures.0 c.if-is_searching.true)
     push rest.nothing c.tests-tests.result (not-true c.tests-tests.result.zero c.if-not-tests.true) (λ m b before next after fires w. c.tests-tests.ensures m b w (omega arith) fires)
     rest.still in
     record {
