@@ -1,5 +1,5 @@
 //! Whole transfers: all bytes of a source, and all bytes into a sink.
-ghost use Rattle.std.specs.Prelude.{◌≡◌, ◌≢◌, ◌+◌, ◌≤◌, ◌<◌, ◌^◌, ℕ, List, [], Some, length, vec_len, IfOk, IsOk, OnErr, OnOk};
+ghost use Rattle.std.specs.Prelude.{◌≡◌, ◌≢◌, ◌+◌, ◌≤◌, ◌<◌, ◌^◌, ℕ, List, [], Some, length, min, vec_len, IfOk, IsOk, OnErr, OnOk};
 ghost use Rattle.std.specs.Option.{ForSome};
 ghost use Rattle.edr_device.specs.Faults.{HasCause, Rose};
 ghost use Rattle.edr_device.specs.Stream.{Appends};
@@ -45,6 +45,7 @@ const LONGEST_PIECE: usize = 65_536;
 /// How long a piece to ask a source for, where so many bytes are wanted in all: as many, or 65,536.
 pub fn piece_len(wanted: usize) -> usize
     requires { 1 ≤ wanted }
+    ensures value { result ≡ min wanted 65_536 }
     ensures some { 1 ≤ result }
     ensures within { result ≤ wanted }
 {
