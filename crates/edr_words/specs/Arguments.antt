@@ -67,6 +67,10 @@ first = new_rule (codes "first")
 abbrev pub second : Rule
 second = new_rule (codes "second")
 
+-- an argument of that name, which must be given or may be
+abbrev pub argument_rule : PlainText → Bool → Rule
+argument_rule name is_required = record (new_rule name) { required = is_required }
+
 -- it must be given
 abbrev pub wanted : Rule → Rule
 wanted r = record r { required = true }

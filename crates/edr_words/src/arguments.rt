@@ -3,8 +3,8 @@ ghost use Rattle.std.specs.Prelude.{◌≡◌, ◌≢◌, true, [], None, option
 ghost use Rattle.std.specs.List.{list_all};
 ghost use Rattle.clap.specs.Faults.{fault_of, is_simple_and_free};
 ghost use Rattle.clap.specs.Matches.{found_of};
-ghost use Rattle.clap.specs.Simple.{app_of};
-ghost use Rattle.edr_words.specs.Arguments.{TakesWords, at_most_one, bare, first_and_second, is_plain, may_have_one, may_have_two, needs_two, one_or_two, two, words_in, words_of};
+ghost use Rattle.clap.specs.Simple.{app_of, with_rule};
+ghost use Rattle.edr_words.specs.Arguments.{TakesWords, argument_rule, at_most_one, bare, first_and_second, is_plain, may_have_one, may_have_two, needs_two, one_or_two, two, words_in, words_of};
 
 use clap::error::ErrorKind;
 use clap::{Arg, ArgMatches, Command};
@@ -33,28 +33,39 @@ fn bare<'a>(alloc: Global, name: &'a str) -> Command<'a>
         .disable_help_flag(true)
 }
 
+// The command with one more argument, which must be given or may be.
+fn with_argument<'a>(
+    alloc: Global,
+    command: Command<'a>,
+    id: &'a str,
+    is_required: bool,
+) -> Result<Command<'a>, OutOfMemory>
+    ensures { IfOk result (λ c. app_of c ≡ with_rule (app_of command.entry) (argument_rule id.entry.now is_required)) }
+{
+    command.arg(Arg::new(alloc, id).required(is_required))
+}
+
 // A command that needs two arguments.
 fn needs_two<'a>(alloc: Global, name: &'a str) -> Result<Command<'a>, OutOfMemory>
     ensures { IfOk result (λ c. app_of c ≡ needs_two name.entry.now) }
 {
-    let first = Arg::new(alloc, "first").required(true);
-    let second = Arg::new(alloc, "second").required(true);
-    bare(alloc, name).arg(first)?.arg(second)
+    let with_first = with_argument(alloc, bare(alloc, name), "first", true)?;
+    with_argument(alloc, with_first, "second", true)
 }
 
 // A command that may have one argument.
 fn may_have_one<'a>(alloc: Global, name: &'a str) -> Result<Command<'a>, OutOfMemory>
     ensures { IfOk result (λ c. app_of c ≡ may_have_one name.entry.now) }
 {
-    bare(alloc, name).arg(Arg::new(alloc, "first"))
+    with_argument(alloc, bare(alloc, name), "first", false)
 }
 
 // A command that needs one argument, and may have a second.
 fn may_have_two<'a>(alloc: Global, name: &'a str) -> Result<Command<'a>, OutOfMemory>
     ensures { IfOk result (λ c. app_of c ≡ may_have_two name.entry.now) }
 {
-    let first = Arg::new(alloc, "first").required(true);
-    bare(alloc, name).arg(first)?.arg(Arg::new(alloc, "second"))
+    let with_first = with_argument(alloc, bare(alloc, name), "first", true)?;
+    with_argument(alloc, with_first, "second", false)
 }
 
 // What the arguments are to the command. None where it doesn't take them.
