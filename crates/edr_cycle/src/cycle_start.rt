@@ -1,6 +1,6 @@
 //! The start of a cycle, which counts it.
 
-ghost use Rattle.std.specs.Prelude.{◌≡◌, ◌+◌, ◌≤◌, ◌<◌, Err, IfOk, IfErr};
+ghost use Rattle.std.specs.Prelude.{◌≡◌, ◌+◌, ◌≤◌, ◌<◌, [], Err, IfOk, IfErr};
 ghost use Rattle.std.specs.Option.{ForSome};
 ghost use Rattle.edr_device.specs.Faults.{Rose};
 ghost use Rattle.edr_device.specs.Lent.{GoesOn, OnlyRead};
@@ -10,7 +10,7 @@ ghost use Rattle.edr_image.specs.declared.places.TheConstants.{FRONT_SIZE};
 ghost use Rattle.edr_image.specs.Image.{image_size};
 ghost use Rattle.edr_banks.specs.Opening.{RefusesRightly, TellsView};
 ghost use Rattle.edr_run.specs.Cycle.{last_count};
-ghost use Rattle.edr_cycle.specs.Begun.{room_for, view_before, view_begun};
+ghost use Rattle.edr_cycle.specs.Begun.{IsFreshCore, room_for, view_before, view_begun};
 ghost use Rattle.edr_cycle.specs.Starts.{CountsOne, IsEarly, HasOpened, IsSpentRightly, IsStoreFault, MeetsStartOn, StandsStill, TellsShort};
 ghost use Rattle.edr_cycle.specs.declared.started.StartFault.TheVariants.{Open};
 
@@ -19,7 +19,7 @@ use crate::started::{StartFault, Started};
 use edr_banks::{Banks, Log};
 use edr_core::Core;
 use edr_device::Nvm;
-use std::alloc::Global;
+use std::alloc::{AllocError as OutOfMemory, Global};
 
 // How many acknowledgements a cycle of this many ticks can have: events are at least 51 ticks apart, and each issues at
 // most three commands.
@@ -27,6 +27,17 @@ fn room_for(ticks: u32) -> u32
     ensures { result ≡ room_for ticks }
 {
     3 * (ticks / 51 + 1)
+}
+
+// The core and the log of the cycle of this number. The core is the most to drop where a later step fails, so it is made last.
+fn take_memory(alloc: Global, number: u32, ticks: u32) -> Result<(Core, Log), OutOfMemory>
+    requires { 1 ≤ number }
+    ensures core { IfOk result (λ m. IsFreshCore m.0 number) }
+    ensures log { IfOk result (λ m. (m.1.acks ≡ []) × (room_for ticks ≤ m.1.spare)) }
+{
+    let log = Log::with_room(alloc, room_for(ticks))?;
+    let core = Core::open(alloc, number)?;
+    Ok((core, log))
 }
 
 // All of a start but its changing calls: the banks are opened, and all memory is taken.
@@ -50,8 +61,7 @@ fn prepare<N: Nvm>(alloc: Global, nvm: &mut N, ticks: u32) -> Result<Started, St
     let Some(number) = banks.count().checked_add(1) else {
         return Err(StartFault::Spent);
     };
-    let core = Core::open(alloc, number)?;
-    let log = Log::with_room(alloc, room_for(ticks))?;
+    let (core, log) = take_memory(alloc, number, ticks)?;
     Ok(Started {
         number,
         ticks,

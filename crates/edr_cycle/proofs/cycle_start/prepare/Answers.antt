@@ -20,10 +20,3 @@ returns-in_err-core-clause-spent g c =
     let room = rw c.in-Some.is at c.checked_add.ensures in
     rw (p.1, p.2) (λ opened bytes told.
     (_, c.in_ok-banks.ensures.view bytes told, omega (arith, room), ((λ e. absurd cc), (λ e. absurd (omega (arith, room, e))))))
-
-pub returns-in_err-log-clause-spent : goal.returns-in_err-log-clause-spent
-returns-in_err-log-clause-spent g c =
-    let p = err_from_is_err_and c.from_residual-in_err-log.result c.from_residual-in_err-log.ensures.1 in
-    let room = rw c.in-Some.is at c.checked_add.ensures in
-    rw (p.1, p.2) (λ opened bytes told.
-    (_, c.in_ok-banks.ensures.view bytes told, omega (arith, room), ((λ e. absurd cc), (λ e. absurd (omega (arith, room, e))))))
