@@ -561,26 +561,26 @@ fn fuse_is_broken_where_the_power_was_not_cut(rt: HostRuntime) {
     }
 }
 
+// What is read back of two bytes that were written and settled, if no call fails.
+fn read_back<N: Nvm>(nvm: &mut N, at: u32, piece: [u8; 2]) -> Option<[u8; 2]>
+    requires { at + 2 ≤ N.extent nvm.old }
+    ensures { N.extent nvm.new ≡ N.extent nvm.old }
+{
+    let mut into = [0; 2];
+    match write_and_read_back(nvm, at, &piece, &mut into) {
+        Ok(()) => Some(into),
+        Err(Failed) => None,
+    }
+}
+
 #[test]
 fn piece_is_read_back_over_memory_and_fuse(rt: HostRuntime) -> Result<(), Fail> {
-    let mut into = [0u8; 2];
     let mut memory = eight_bytes(rt.alloc(), &[], &[], 7)?;
-    assert_eq!(rt;
-        write_and_read_back(&mut memory, 5, &[21, 22], &mut into),
-        Ok(())
-    );
-    assert_eq!(rt; into, [21, 22]);
+    assert_eq!(rt; read_back(&mut memory, 5, [21, 22]), Some([21, 22]));
     let mut fused = Fused::new(&mut memory);
-    assert_eq!(rt;
-        write_and_read_back(&mut fused, 6, &[31, 32], &mut into),
-        Ok(())
-    );
-    assert_eq!(rt; into, [31, 32]);
+    assert_eq!(rt; read_back(&mut fused, 6, [31, 32]), Some([31, 32]));
     fused.arm(2);
-    assert_eq!(rt;
-        write_and_read_back(&mut fused, 0, &[41, 42], &mut into),
-        Err(Failed)
-    );
+    assert_eq!(rt; read_back(&mut fused, 0, [41, 42]), None);
     fused.end();
     assert_eq!(rt; memory.image(), [94, 63, 12, 13, 14, 21, 31, 32].as_slice());
     Ok(())

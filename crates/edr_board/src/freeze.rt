@@ -21,8 +21,8 @@ const GRANTED: usize = 0;
 
 const ASKED: usize = 1;
 
-// The moment up to which is granted before the first grant.
-const FIRST_GRANT: u64 = 1000;
+/// The moment up to which is granted before the first grant.
+pub const FIRST_GRANT: u32 = 1_000;
 
 impl Freeze {
     /// A freeze in which moments up to 1000 are granted and nothing is asked, with its seats.
@@ -31,7 +31,7 @@ impl Freeze {
         ensures keepers { IfOk result (λ o. AreFresh (freeze_id o.freeze) o.keepers) }
     {
         let mut words = [0; FREEZE_WORDS];
-        words[GRANTED] = FIRST_GRANT;
+        words[GRANTED] = FIRST_GRANT as u64;
         let (table, mut asker) = Table::<u8, FreezeView, (), MarksWithinGrants, Global>::of_words(
             alloc,
             &words,

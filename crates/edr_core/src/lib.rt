@@ -51,7 +51,7 @@ pub enum Closing {
     Closed { tick: u32, issues: bool },
 }
 
-/// The core of the recorder in one ignition cycle. It keeps what later ticks can still need: some seconds of each slow
+/// The core of the recorder in one ignition cycle. It keeps what later ticks can still need: the last 21 s of each slow
 /// sensor, the sums of the search, and one open candidate.
 ///
 /// All memory is taken when it is opened. A call takes none and has a bounded number of steps.

@@ -1,12 +1,12 @@
 -- The committer's desk, before the threads run and after them.
-use Rattle.std.specs.Prelude.{◌≡◌, ◌≤◌, ℕ, List, [], false, None, Result}
-use Rattle.edr_board.specs.Seats.{board_of_committer, board_of_watch}
+use Rattle.std.specs.Prelude.{◌≡◌, ◌≤◌, ◌⊎◌, ℕ, List, [], false, None, Result}
+use Rattle.edr_board.specs.Seats.{board_of_committer, board_of_watch, seen}
 use Rattle.edr_definitions.specs.Commands.{Issue}
 use Rattle.edr_device.specs.declared.device.Nvm.{Ghosts}
 use Rattle.edr_image.specs.Image.{image_size}
 use Rattle.edr_cycle.specs.Begun.{Begun, room_for}
 use Rattle.edr_cycle.specs.Commits.{CommitsOn}
-use Rattle.edr_loops.specs.Orders.{SameInbox, orders_taken}
+use Rattle.edr_loops.specs.Orders.{SameInbox, orders_known, orders_taken}
 use Rattle.edr_drive.specs.declared.committer.CommitterDesk.{CommitterDesk}
 use Rattle.edr_drive.specs.Left.{issues_taken}
 
@@ -34,6 +34,11 @@ pub record SamePosts (a b : CommitterDesk) : Type 0 where
   pub ring : SameInbox a.inbox b.inbox
   pub watch : board_of_watch b.watch ≡ board_of_watch a.watch
   pub seat : board_of_committer b.seat ≡ board_of_committer a.seat
+
+-- it has read that the horizon is closed, and then knew of no order in the ring, or had no room in its log
+pub record HasNoOrder (horizon : ℕ) (c : CommitterDesk) : Type 0 where
+  pub closed : horizon ≤ (seen c.watch).closed
+  pub none : (c.log.spare ≡ 0) ⊎ (orders_known c.inbox ≡ [])
 
 -- these are committed, up to a command that failed
 abbrev pub CommitsAt : {D T E : Type 0} → Ghosts D → List Issue → Result T E → CommitterDesk → CommitterDesk → D → D → Type 0

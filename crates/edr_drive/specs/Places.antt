@@ -1,7 +1,8 @@
 -- What the places of all sensors have sent and kept.
+use Rattle.std.specs.Prelude.{ℕ}
 use Rattle.edr_items.specs.SensorLists.{SensorLists}
 use Rattle.edr_drive.specs.declared.places.Places.{Places}
-use Rattle.edr_loops.specs.Stands.{AreFastBegun, AreFastDealt, ArePlacesKept, AreSlowDealt, FastGoOn, SlowKeepOn, either_fast, either_slow}
+use Rattle.edr_loops.specs.Stands.{AreFastBegun, AreFastDealt, ArePlacesKept, AreSlowDealt, FastGoOn, SlowKeepOn, either_fast, either_slow, fast_of_worker, slow_of_worker}
 
 -- each place has sent or kept first items of its list, and sent parts of beginnings of it
 pub record HaveBegun (f : SensorLists) (p : Places) : Type 0 where
@@ -17,6 +18,10 @@ pub record HaveGoneOn (f : SensorLists) (a b : Places) : Type 0 where
 pub record AreAllDealt (old mine rest : Places) : Type 0 where
   pub fast : AreFastDealt old.fast mine.fast rest.fast
   pub slow : AreSlowDealt old.slow mine.slow rest.slow
+
+-- the places of worker w of so many
+abbrev pub all_of_worker : ℕ → ℕ → Places → Places
+all_of_worker w workers p = record { fast = fast_of_worker w workers p.fast; slow = slow_of_worker w workers p.slow }
 
 abbrev pub either_all : Places → Places → Places
 either_all a b = record { fast = either_fast a.fast b.fast; slow = either_slow a.slow b.slow }

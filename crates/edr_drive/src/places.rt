@@ -1,6 +1,6 @@
 //! The places of all sensors, as they are dealt to the workers and put together again.
 
-ghost use Rattle.edr_drive.specs.Places.{AreAllDealt, either_all};
+ghost use Rattle.edr_drive.specs.Places.{AreAllDealt, all_of_worker, either_all};
 ghost use Rattle.std.specs.Prelude.{◌≡◌};
 
 use edr_loops::{FastPlaces, SlowPlaces};
@@ -15,7 +15,8 @@ pub struct Places {
 impl Places {
     /// Deals the places of worker w, which serves the sensors i with (i - 1) mod workers = w.
     pub fn deal(&mut self, w: u32, workers: u32) -> Places
-        ensures { AreAllDealt self.old result self.new }
+        ensures dealt { AreAllDealt self.old result self.new }
+        ensures mine { result ≡ all_of_worker w workers self.old }
     {
         Places {
             fast: self.fast.deal(w, workers),

@@ -1,9 +1,11 @@
 -- The places of a worker that go on, and how they are dealt.
-use Rattle.std.proofs.Common.{◌≡◌, List, Option, Some, None, refl, sym, subst, inl, inr}
+use Rattle.std.proofs.Common.{◌≡◌, ◌⊎◌, ◌≤◌, ℕ, List, Option, Some, None, refl, sym, subst, inl, inr, true}
 use Rattle.edr_items.specs.declared.Sensor.{Sensor}
 use Rattle.edr_items.specs.declared.Item.{Item}
 use Rattle.edr_items.specs.PerSlowSensor.{slow_at}
-use Rattle.edr_items.specs.SensorLists.{SensorLists, items_of}
+use Rattle.edr_items.specs.SensorLists.{SensorLists, horizon_of, items_of}
+use Rattle.edr_board.specs.declared.status.BoardStatus.{BoardStatus}
+use Rattle.edr_board.specs.Seats.{seen}
 use Rattle.edr_items.proofs.PerSlowSensorLemmas.{slow_at-by}
 use Rattle.edr_loops.specs.declared.stand.FastPlaces.{FastPlaces}
 use Rattle.edr_loops.specs.declared.stand.Stand.{Stand}
@@ -11,7 +13,7 @@ use Rattle.edr_loops.specs.declared.stand.SlowPlaces.{SlowPlaces}
 use Rattle.edr_loops.specs.declared.slow_place.SlowPlace.{SlowPlace}
 use Rattle.edr_loops.specs.Places.{IsDealt}
 use Rattle.edr_loops.specs.SlowPlaces.{IsPlaceKept, KeepsOn}
-use Rattle.edr_loops.specs.Stands.{AreFastBegun, AreFastDealt, ArePlacesKept, AreSlowDealt, FastGoOn, SlowKeepOn, either_fast, either_slow, either}
+use Rattle.edr_loops.specs.Stands.{AreFastBegun, AreFastDealt, ArePlacesKept, AreSlowDealt, FastGoOn, HaveNoneLeft, SlowKeepOn, WorkerHasEnded, either_fast, either_slow, either, has_no_place}
 use Rattle.edr_loops.proofs.PlaceLemmas.{dealt-begun, dealt-goes, goes-again, goes-begun, goes-self, none-or}
 
 -- ---- the places of fast sensors
@@ -94,3 +96,16 @@ back-fast_on f f' stand before back h was same =
 pub back-slow_on : (f f' : SensorLists) (stand before back : Stand) → SlowKeepOn f' before.slow back.slow → before ≡ stand → f' ≡ f → SlowKeepOn f stand.slow back.slow
 back-slow_on f f' stand before back h was same =
     subst (λ (l : SensorLists). SlowKeepOn l stand.slow back.slow) same (subst (λ (s : Stand). SlowKeepOn f' s.slow back.slow) was h)
+
+-- ---- a worker's loop that has ended, by the status that it read
+pub ended-stopped : (f : SensorLists) (s : Stand) (status : BoardStatus) → seen s.watch ≡ status → status.stopped ≡ true → WorkerHasEnded f s
+ended-stopped f s status read stopped = inl (subst (λ (b : BoardStatus). b.stopped ≡ true) (sym read) stopped)
+
+pub ended-gate : (f : SensorLists) (s : Stand) (status : BoardStatus) → seen s.watch ≡ status → status.gate ≡ 2 → WorkerHasEnded f s
+ended-gate f s status read gate = inr (inl (subst (λ (b : BoardStatus). b.gate ≡ 2) (sym read) gate))
+
+pub ended-done : (f : SensorLists) (s : Stand) (status : BoardStatus) (horizon : ℕ) → seen s.watch ≡ status → horizon ≡ horizon_of f → HaveNoneLeft f s.fast
+    → (has_no_place s.slow ≡ true) ⊎ (horizon ≤ status.closed) → WorkerHasEnded f s
+ended-done f s status horizon read is none (inl empty) = inr (inr (none, inl empty))
+ended-done f s status horizon read is none (inr closed) =
+    inr (inr (none, inr (subst (λ (b : BoardStatus). horizon_of f ≤ b.closed) (sym read) (subst (λ h. h ≤ status.closed) is closed))))

@@ -1,10 +1,14 @@
 -- What a slow sensor's place at a worker has kept and sent.
-use Rattle.std.specs.Prelude.{◌≡◌, ◌≤◌, ℕ, List, Option, Some, None, take, All}
+use Rattle.std.specs.Prelude.{◌≡◌, ◌⊎◌, ◌+◌, ◌<◌, ◌≤◌, ℕ, List, [], ◌∷◌, ◌++◌, Option, Some, None, length, take, All}
 use Rattle.edr_items.specs.declared.Sensor.{Sensor}
 use Rattle.edr_items.specs.declared.Item.{Item}
-use Rattle.edr_items.specs.Item.{mark_of}
+use Rattle.edr_items.specs.Item.{IsFeed, mark_of}
 use Rattle.edr_capture.specs.SensorPart.{SensorPart, part}
-use Rattle.edr_seats.specs.Slow.{SameSlowSeat, SlowSeatIsFor, parts_sent, sensor_of_slow}
+use Rattle.edr_seats.specs.Slots.{part_room}
+use Rattle.edr_seats.specs.Slow.{SameSlowSeat, SlowSeatIsFor, asked_known, grant_known, parts_known_taken, parts_sent, sensor_of_slow, zero_served}
+use Rattle.edr_seats.specs.SlowContents.{SlowContents}
+use Rattle.edr_loops.specs.declared.place.Offered.{Offered}
+use Rattle.edr_loops.specs.declared.place.Offered.TheVariants.{Sent, Full, Over}
 use Rattle.edr_loops.specs.declared.slow_place.SlowPlace.{SlowPlace}
 
 -- the part is that of a beginning of the sensor's list, whose mark has reached the part's time zero
@@ -33,3 +37,33 @@ KeepsOn s xs None None = Unit {0}
 KeepsOn s xs (Some a) (Some b) = SameSlowSeat a.seat b.seat × IsKeeping s xs b
 KeepsOn s xs None (Some b) = ⊥
 KeepsOn s xs (Some a) None = ⊥
+
+-- the next item of the list is past what the seat loaded of granted
+abbrev pub IsUngranted : List Item → SlowPlace → Type 0
+IsUngranted xs p = (x : Item) × (take (p.next + 1) xs ≡ take p.next xs ++ x ∷ []) × (grant_known p.seat < x.moment)
+
+-- what came of offers: items were kept; none was, since the next one isn't granted; or none, since all are kept, if they are a feed
+abbrev pub CameOfKept : Sensor → List Item → SlowPlace → SlowPlace → Offered → Type 0
+CameOfKept s xs a b Sent = a.next < b.next
+CameOfKept s xs a b Full = (b.next ≡ a.next) × IsUngranted xs b
+CameOfKept s xs a b Over = (b.next ≡ a.next) × (IsFeed s xs → length xs ≤ b.next)
+
+-- as many parts as there are slots were sent past the last that the seat knows taken
+abbrev pub KnowsNoPartSlot : SlowContents → Type 0
+KnowsNoPartSlot s = length (parts_sent s) ≡ parts_known_taken s + part_room
+
+-- no part is asked for that wasn't sent, by what the seat loaded
+abbrev pub HasNoneToSend : SlowContents → Type 0
+HasNoneToSend s = (asked_known s ≡ 0) ⊎ (asked_known s ≡ zero_served s)
+
+-- what came of a look at what is asked: a part was sent; none was, since no slot is known to be free; or none is to be sent
+abbrev pub CameOfPart : SlowPlace → SlowPlace → Offered → Type 0
+CameOfPart a b Sent = length (parts_sent a.seat) < length (parts_sent b.seat)
+CameOfPart a b Full = (parts_sent b.seat ≡ parts_sent a.seat) × KnowsNoPartSlot b.seat
+CameOfPart a b Over = (parts_sent b.seat ≡ parts_sent a.seat) × HasNoneToSend b.seat
+
+-- what came of both: an item was kept or a part was sent; neither was, and something is left; or nothing is left of either
+abbrev pub CameOfSlow : Sensor → List Item → SlowPlace → SlowPlace → Offered → Type 0
+CameOfSlow s xs a b Sent = (a.next < b.next) ⊎ (length (parts_sent a.seat) < length (parts_sent b.seat))
+CameOfSlow s xs a b Full = (b.next ≡ a.next) × (parts_sent b.seat ≡ parts_sent a.seat) × (IsUngranted xs b ⊎ KnowsNoPartSlot b.seat)
+CameOfSlow s xs a b Over = (b.next ≡ a.next) × (parts_sent b.seat ≡ parts_sent a.seat) × (IsFeed s xs → length xs ≤ b.next) × HasNoneToSend b.seat

@@ -16,13 +16,10 @@ use crate::fast_inlets::{FastInlets, FastMarks, FastSensor};
 use crate::held::Held;
 use crate::orders::Outbox;
 use crate::part_inlets::{self, PartInlets};
-use edr_board::{Asker, RecorderSeat, Watch};
+use edr_board::{Asker, FIRST_GRANT, RecorderSeat, Watch};
 use edr_capture::Part;
 use edr_core::{Issued, SplitClosing, SplitCore};
 use edr_items::{Item, LATEST_MOMENT, LONGEST_GAP, Sensor};
-
-// What is granted as a freeze is opened.
-const FIRST_GRANT: u32 = 1_000;
 
 /// What the recorder's thread owns, and hands back at its join.
 #[derive(Drop)]

@@ -1,9 +1,9 @@
 //! A sensor's place at a worker.
 
-ghost use Rattle.std.specs.Prelude.{◌≡◌, ◌⊎◌, take};
+ghost use Rattle.std.specs.Prelude.{◌≡◌, ◌≤◌, take};
 ghost use Rattle.edr_items.specs.SensorLists.{items_of};
 ghost use Rattle.edr_seats.specs.Seat.{SameSeat, items_sent};
-ghost use Rattle.edr_loops.specs.Places.{Goes, HasSentFirst};
+ghost use Rattle.edr_loops.specs.Places.{CameOfItems, CameOfPlace, Goes, HasSentFirst, came_of_both};
 
 use edr_items::{Feeds, Item, Sensor};
 use edr_seats::{OfferRefused, SLOTS, Seat};
@@ -22,17 +22,16 @@ pub trait Gate {
 pub enum Offered {
     /// An item was sent, and there may be more.
     Sent,
-    /// The ring was full.
+    /// None was sent: the ring was full, or the next one isn't granted.
     Full,
-    /// Nothing is left to offer.
+    /// Nothing was left to offer.
     Over,
 }
 
 impl Offered {
     // What came of these and of others.
     pub(crate) fn and(self, other: Offered) -> Offered
-        ensures over { result ≡ Offered.Over → (self ≡ Offered.Over) × (other ≡ Offered.Over) }
-        ensures full { result ≡ Offered.Full → (self ≡ Offered.Full) ⊎ (other ≡ Offered.Full) }
+        ensures { result ≡ came_of_both self other }
     {
         match (self, other) {
             (Offered::Sent, _) | (_, Offered::Sent) => Offered::Sent,
@@ -88,6 +87,8 @@ impl SensorPlace {
         requires { items_sent self.old.seat ≡ take self.old.next items.now }
         ensures seat { SameSeat self.old.seat self.new.seat }
         ensures sent { items_sent self.new.seat ≡ take self.new.next items.now }
+        ensures came { CameOfItems sensor items.now self.old self.new result }
+        ensures on { self.old.next ≤ self.new.next }
     {
         if self.next >= items.len() {
             return Offered::Over;
@@ -105,22 +106,32 @@ impl SensorPlace {
         }
     }
 
+    // Offers items up to one that isn't sent, at most as many as a ring has room for beside one.
+    fn offer_more<G: Gate>(&mut self, sensor: Sensor, items: &[Item], gate: &G)
+        requires { items_sent self.old.seat ≡ take self.old.next items.now }
+        ensures seat { SameSeat self.old.seat self.new.seat }
+        ensures sent { items_sent self.new.seat ≡ take self.new.next items.now }
+        ensures on { self.old.next ≤ self.new.next }
+    {
+        for _ in 1..SLOTS {
+            if self.offer_next(sensor, items, gate) != Offered::Sent {
+                break;
+            }
+        }
+    }
+
     /// Offers items up to one for which there is no room, and at most as many as a ring has room for.
     pub fn serve<G: Gate>(&mut self, sensor: Sensor, items: &[Item], gate: &G) -> Offered
         requires { items_sent self.old.seat ≡ take self.old.next items.now }
         ensures seat { SameSeat self.old.seat self.new.seat }
         ensures sent { items_sent self.new.seat ≡ take self.new.next items.now }
+        ensures came { CameOfItems sensor items.now self.old self.new result }
     {
-        let from = self.next;
-        for _ in 0..SLOTS {
-            match self.offer_next(sensor, items, gate) {
-                Offered::Sent => {}
-                Offered::Full if from == self.next => return Offered::Full,
-                Offered::Full => return Offered::Sent,
-                Offered::Over => return Offered::Over,
-            }
+        let offered = self.offer_next(sensor, items, gate);
+        if offered == Offered::Sent {
+            self.offer_more(sensor, items, gate);
         }
-        Offered::Sent
+        offered
     }
 }
 
@@ -132,7 +143,8 @@ pub fn serve_some<G: Gate>(
     gate: &G,
 ) -> Offered
     requires { HasSentFirst (items_of sensor feeds.now) place.old }
-    ensures { Goes (items_of sensor feeds.now) place.old place.new }
+    ensures goes { Goes (items_of sensor feeds.now) place.old place.new }
+    ensures came { CameOfPlace sensor (items_of sensor feeds.now) place.old place.new result }
 {
     match place {
         Some(place) => place.serve(sensor, feeds.of(sensor), gate),

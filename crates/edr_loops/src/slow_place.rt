@@ -1,10 +1,10 @@
 //! A slow sensor's place at a worker: it keeps the sensor's items, and sends the parts that are asked for.
 
-ghost use Rattle.std.specs.Prelude.{List};
+ghost use Rattle.std.specs.Prelude.{◌≡◌, ◌≤◌, List};
 ghost use Rattle.edr_items.specs.declared.Item.{Item};
 ghost use Rattle.edr_items.specs.SensorLists.{items_of};
-ghost use Rattle.edr_seats.specs.Slow.{SameSlowSeat};
-ghost use Rattle.edr_loops.specs.SlowPlaces.{IsKeeping, IsPlaceKept, KeepsOn};
+ghost use Rattle.edr_seats.specs.Slow.{SameSlowSeat, grant_known, parts_sent};
+ghost use Rattle.edr_loops.specs.SlowPlaces.{CameOfKept, CameOfPart, CameOfSlow, IsKeeping, IsPlaceKept, KeepsOn};
 
 use crate::place::{Gate, Offered, Passage};
 use edr_items::{Feeds, Item, Sensor};
@@ -24,6 +24,8 @@ impl SlowPlace {
         requires { IsKeeping sensor items.now self.old }
         ensures seat { SameSlowSeat self.old.seat self.new.seat }
         ensures keeping { IsKeeping sensor items.now self.new }
+        ensures came { CameOfKept sensor items.now self.old self.new result }
+        ensures on { (self.old.next ≤ self.new.next) × (parts_sent self.new.seat ≡ parts_sent self.old.seat) }
     {
         if self.next >= items.len() {
             return Offered::Over;
@@ -45,6 +47,8 @@ impl SlowPlace {
     fn send_part<G: Gate>(&mut self, sensor: Sensor, gate: &G) -> Offered
         ensures seat { SameSlowSeat self.old.seat self.new.seat }
         ensures keeping { (xs : List Item) → IsKeeping sensor xs self.old → IsKeeping sensor xs self.new }
+        ensures came { (xs : List Item) → IsKeeping sensor xs self.old → CameOfPart self.old self.new result }
+        ensures same { (self.new.next ≡ self.old.next) × (grant_known self.new.seat ≡ grant_known self.old.seat) }
     {
         match self.seat.serve() {
             Served::Nothing => Offered::Over,
@@ -56,21 +60,44 @@ impl SlowPlace {
         }
     }
 
+    // Offers items up to one that isn't kept, at most as many as the ring of a fast sensor has room for beside one.
+    fn offer_more<G: Gate>(&mut self, sensor: Sensor, items: &[Item], gate: &G)
+        requires { IsKeeping sensor items.now self.old }
+        ensures seat { SameSlowSeat self.old.seat self.new.seat }
+        ensures keeping { IsKeeping sensor items.now self.new }
+        ensures on { (self.old.next ≤ self.new.next) × (parts_sent self.new.seat ≡ parts_sent self.old.seat) }
+    {
+        for _ in 1..SLOTS {
+            if self.offer_next(sensor, items, gate) != Offered::Sent {
+                break;
+            }
+        }
+    }
+
+    // Offers items up to one that isn't granted, at most as many as the ring of a fast sensor has room for.
+    fn offer_some<G: Gate>(&mut self, sensor: Sensor, items: &[Item], gate: &G) -> Offered
+        requires { IsKeeping sensor items.now self.old }
+        ensures seat { SameSlowSeat self.old.seat self.new.seat }
+        ensures keeping { IsKeeping sensor items.now self.new }
+        ensures came { CameOfKept sensor items.now self.old self.new result }
+        ensures on { (self.old.next ≤ self.new.next) × (parts_sent self.new.seat ≡ parts_sent self.old.seat) }
+    {
+        let offered = self.offer_next(sensor, items, gate);
+        if offered == Offered::Sent {
+            self.offer_more(sensor, items, gate);
+        }
+        offered
+    }
+
     /// Offers items up to one that isn't granted, at most as many as the ring of a fast sensor has room for, and then looks
     /// whether the sensor's part is asked for.
     pub fn serve<G: Gate>(&mut self, sensor: Sensor, items: &[Item], gate: &G) -> Offered
         requires { IsKeeping sensor items.now self.old }
         ensures seat { SameSlowSeat self.old.seat self.new.seat }
         ensures keeping { IsKeeping sensor items.now self.new }
+        ensures came { CameOfSlow sensor items.now self.old self.new result }
     {
-        let mut kept = Offered::Over;
-        for _ in 0..SLOTS {
-            let offered = self.offer_next(sensor, items, gate);
-            kept = kept.and(offered);
-            if offered != Offered::Sent {
-                break;
-            }
-        }
+        let kept = self.offer_some(sensor, items, gate);
         let part = self.send_part(sensor, gate);
         kept.and(part)
     }

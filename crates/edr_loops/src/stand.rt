@@ -1,8 +1,8 @@
 //! A worker's stand: the sensors that it serves, of which the slow ones keep their own items, and its loop.
 
-ghost use Rattle.std.specs.Prelude.{◌≡◌};
+ghost use Rattle.std.specs.Prelude.{◌≡◌, ◌≤◌, ◌⊎◌, true};
 ghost use Rattle.edr_board.specs.Seats.{board_of_watch};
-ghost use Rattle.edr_loops.specs.Stands.{AreFastBegun, ArePlacesKept, FastGoOn, SlowKeepOn};
+ghost use Rattle.edr_loops.specs.Stands.{AreFastBegun, ArePlacesKept, FastGoOn, HaveNoneLeft, SlowKeepOn, WorkerHasEnded, has_no_place};
 
 use crate::place::{Gate, Offered, SensorPlace, serve_some};
 use crate::slow_place::{SlowPlace, serve_slow};
@@ -37,7 +37,8 @@ impl FastPlaces {
     // One round over the sensors. It answers what came of their offers.
     fn round<G: Gate>(&mut self, feeds: &Feeds, gate: &G) -> Offered
         requires { AreFastBegun feeds.now self.old }
-        ensures { FastGoOn feeds.now self.old self.new }
+        ensures on { FastGoOn feeds.now self.old self.new }
+        ensures over { result ≡ Offered.Over → HaveNoneLeft feeds.now self.new }
     {
         let along = serve_some(&mut self.along, Sensor::Along, feeds, gate);
         let across = serve_some(&mut self.across, Sensor::Across, feeds, gate);
@@ -48,7 +49,9 @@ impl FastPlaces {
 
 impl SlowPlaces {
     // Whether no slow sensor is served here.
-    fn is_empty(&self) -> bool {
+    fn is_empty(&self) -> bool
+        ensures { result ≡ has_no_place self.now }
+    {
         for sensor in SENSORS {
             if let Some(Some(_)) = self.each.of(sensor) {
                 return false;
@@ -86,7 +89,10 @@ impl SlowPlaces {
 impl Stand {
     // Whether the worker's own work is done, once its fast sensors have given this. A slow sensor may be asked for a part until
     // the horizon is closed.
-    fn is_done(&self, fast: Offered, closed: u32, horizon: u32) -> bool {
+    fn is_done(&self, fast: Offered, closed: u32, horizon: u32) -> bool
+        ensures over { result ≡ true → fast ≡ Offered.Over }
+        ensures slow { result ≡ true → (has_no_place self.now.slow ≡ true) ⊎ (horizon ≤ closed) }
+    {
         fast == Offered::Over && (self.slow.is_empty() || horizon <= closed)
     }
 
@@ -97,6 +103,7 @@ impl Stand {
         ensures fast { FastGoOn feeds.now self.old.fast self.new.fast }
         ensures slow { SlowKeepOn feeds.now self.old.slow self.new.slow }
         ensures board { board_of_watch self.new.watch ≡ board_of_watch self.old.watch }
+        ensures ends { WorkerHasEnded feeds.now self.new }
     {
         let horizon = feeds.horizon();
         for _ in rt.forever() {
@@ -104,12 +111,13 @@ impl Stand {
             let slow = self.slow.round(feeds, gate);
             let status = self.watch.read();
             if status.stopped || status.gate == 2 || self.is_done(fast, status.closed, horizon) {
-                break;
+                return;
             }
             if fast.and(slow) != Offered::Sent {
                 thread::yield_now();
             }
         }
+        unreachable!()
     }
 
     /// Serves its sensors once the gate isn't 0. Without slow sensors it goes on until all items are offered; with some of them
@@ -121,6 +129,7 @@ impl Stand {
         ensures fast { FastGoOn feeds.now self.fast result.fast }
         ensures slow { SlowKeepOn feeds.now self.slow result.slow }
         ensures board { board_of_watch result.watch ≡ board_of_watch self.watch }
+        ensures ends { WorkerHasEnded feeds.now result }
     {
         let mut stand = self;
         if stand.watch.wait_gate(rt) != 2 {

@@ -122,6 +122,7 @@ impl SlowSeat {
             (λ kept parts. parts_after (sensor_of_slow self.old) kept parts result)
             self.old self.new }
         ensures known { parts_known_taken self.old ≤ parts_known_taken self.new }
+        ensures granted { grant_known self.new ≡ grant_known self.old }
     {
         let Some(zero) = self.keeper.asked() else {
             return Served::Nothing;

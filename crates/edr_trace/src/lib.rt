@@ -49,7 +49,7 @@ impl From<AllocError> for ReadRefused {
 ///
 /// The bytes are records of fields between commas, as `csv` reads them: quotes as usual, no header, nothing trimmed; a
 /// carriage return, a line feed or both end a record, a byte order mark at the front is dropped, and a blank line is no
-/// record. The bytes are gone through once.
+/// record. The bytes are gone through once, but for the first row that isn't spelled plainly, which is read twice.
 ///
 /// ```
 /// let cycles = read(alloc, b"on,0,\nalong,1,-4000\ncut,0,\n")?;
