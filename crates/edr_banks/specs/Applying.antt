@@ -14,6 +14,8 @@ use Rattle.edr_gates.specs.Taken.{IsReady}
 use Rattle.edr_image.specs.Steps.{BankStep, Reply, after, held_after, reply_to}
 use Rattle.edr_banks.specs.Opened.{OpenedBanks, state_of}
 
+-- ---- the banks after a command
+
 -- the steps of a command, and its answer
 abbrev pub reply_of : OpenedBanks → Command → Reply
 reply_of o c = reply_to (state_of o) c
@@ -35,6 +37,8 @@ holding bank pre locked o = record o {
 -- no command is taken any more
 abbrev pub ended_after : OpenedBanks → OpenedBanks
 ended_after o = record o { ended = true }
+
+-- ---- what a crash in or behind it may leave
 
 -- the event at place i of the image is this one, or a Done of the bank that is held has given it its crash part
 abbrev pub IsSameOrDone : Command → Option ℕ → ℕ → Record → List BankView → Type 0

@@ -1,5 +1,8 @@
 //! The banks of a recorder: they are formatted, opened, retrieved, and changed by commands so that a stop in any write
 //! leaves each bank as it was or as it becomes.
+//!
+//! The calls of [`Banks`] stand in files of their own by subject: `new_image.rt` formats, `image_reader.rt` opens,
+//! `events.rt` retrieves, and `commands.rt` applies a command, whose effect on the banks `tasks.rt` works out.
 #![tactic(auto)]
 
 ghost use Rattle.std.specs.Prelude.{◌≡◌};

@@ -25,6 +25,8 @@ freeze_of_keeper k = k.seat.table_id
 abbrev pub place_of : Sensor → ℕ
 place_of s = number_of s - 1
 
+-- ---- what the asker has granted and asked for
+
 -- the last grant, 1000 before the first
 abbrev pub grant_posted : Asker → ℕ
 grant_posted a = a.seat.me.0.granted
@@ -36,6 +38,8 @@ open_zero a = a.seat.me.0.asked
 -- the last zero that was asked for, 0 before the first
 abbrev pub last_zero : Asker → ℕ
 last_zero a = a.seat.me.0.last
+
+-- ---- marks
 
 -- the marks of the slow sensors
 abbrev pub SlowMarks : Type 0
@@ -61,6 +65,8 @@ marks_from words = slow_values_by (λ s. slice_index words (place_of s))
 abbrev pub marks_read : Asker → SlowMarks
 marks_read a = marks_from a.seat.me.0.read
 
+-- ---- what a keeper has read and posted
+
 -- of which sensor a keeper is
 abbrev pub IsKeeperOf : Sensor → Keeper → Type 0
 IsKeeperOf s k = k.place ≡ place_of s
@@ -81,6 +87,8 @@ asked_read k = k.seat.me.0.asked
 abbrev pub zero_in : ℕ → Option ℕ
 zero_in n = if nat_eq n 0 then None else Some n
 
+-- ---- what a call needs and leaves
+
 -- the rest of an asker, and of a keeper, is as before
 pub record SameAsker (a b : Asker) : Type 0 where
   pub freeze : freeze_of_asker b ≡ freeze_of_asker a
@@ -95,6 +103,8 @@ pub record SameKeeper (a b : Keeper) : Type 0 where
 -- each of these marks has reached the zero
 abbrev pub AllReach : ℕ → SlowMarks → Type 0
 AllReach z m = EachSlow (λ s. z ≤ slow_at s m)
+
+-- ---- fresh seats
 
 -- an asker of this freeze that has granted what is granted at first, asked for nothing and read no mark
 pub record IsFreshAsker (id : TableId) (a : Asker) : Type 0 where

@@ -1,4 +1,5 @@
-//! The calls of a freeze and its seats.
+//! The calls of the freeze and the seats of `freeze_seats.rt`. They stand apart, since a struct with ghost fields imports
+//! each `ghost use` of its file: the specs that these contracts use speak of the structs, and would be imported in a circle.
 
 ghost use Rattle.std.specs.Prelude.{◌≡◌, ◌≢◌, ◌+◌, ◌≤◌, ◌<◌, ◌^◌, List, IfOk, IfSome, IfNone, Some, None};
 ghost use Rattle.edr_items.specs.Sensor.{IsSlow};

@@ -16,6 +16,8 @@ use Rattle.edr_cli.specs.Reports.{Says, report_in}
 abbrev pub HasOwnWindow : List CycleInput → Store → ℕ → Outcome → Type 0
 HasOwnWindow cycles v n o = AreKept v.banks n → AreKept o.store.banks o.count × StaysInWindow cycles v n o
 
+-- ---- the trace
+
 -- a trace may have so many bytes, and they spell these cycles
 abbrev pub IsTraceOf : List CycleInput → List ℕ → Type 0
 IsTraceOf cycles bytes = (length bytes ≤ largest_trace) × Spell bytes cycles
@@ -23,6 +25,8 @@ IsTraceOf cycles bytes = (length bytes ≤ largest_trace) × Spell bytes cycles
 -- a source told the bytes of a trace of these cycles
 abbrev pub ToldTraceOf : List CycleInput → Input → Type 0
 ToldTraceOf cycles i = (bytes : List ℕ) × (i.left ≡ Some bytes) × IsTraceOf cycles bytes
+
+-- ---- the run and its report
 
 -- the run of the trace of these bytes over this image, with its report
 pub record TheRun (form : Form) (bytes image : List ℕ) (new : Memory) (text : List ℕ) : Type 0 where
@@ -52,6 +56,8 @@ IfTold i m says = IfSome i.left (λ bytes. IfSome m.content (λ image. says byte
 abbrev pub RunIs : Form → Input → Memory → Memory → List ℕ → Type 0
 RunIs form i old new text = IfTold i old (λ bytes image. TheRun form bytes image new text)
 
+-- ---- what a run needs
+
 -- what a run needs but memory: bytes that spell cycles, an image that isn't refused, and numbers for them all
 pub record CanRun (i : Input) (m : Memory) : Type 0 where
   pub bytes : List ℕ
@@ -64,6 +70,8 @@ pub record CanRun (i : Input) (m : Memory) : Type 0 where
   pub told : m.content ≡ Some image
   pub says : Says image store count
   pub room : count + length cycles ≤ last_count
+
+-- ---- what the laws of runs say
 
 -- no stop is planned in the cycle
 abbrev pub IsPowered : CycleInput → Type 0

@@ -14,6 +14,8 @@ use Rattle.edr_core.specs.declared.candidate.Candidate.{Candidate}
 use Rattle.edr_core.specs.declared.candidate.Issued.{Issued}
 use Rattle.edr_core.specs.declared.candidate.TickRow.{TickRow}
 
+-- ---- one tick more
+
 -- the samples of a row lie in the range of the acceleration sensors
 pub record IsRowInRange (r : TickRow) : Type 0 where
   pub along : IsInRange r.along
@@ -30,6 +32,8 @@ grown r o = record o { crash = next_crash o.crash r.along r.across r.fired.0 }
 -- the open candidate at the next tick, with what stands there: a time zero begins one
 abbrev pub grown_or_begun : Change → PrePart → TickRow → Option Candidate → Option Candidate
 grown_or_begun change pre r o = if change.zero then Some (begun pre r) else option_map {T = Candidate} {U = Candidate} (grown r) o
+
+-- ---- what stands at a tick
 
 -- a confirmation puts in the place, an end is kept
 abbrev pub told : ℕ → Change → Option (Place × ℕ) → Candidate → Candidate
@@ -55,6 +59,8 @@ issued change o = record { take = when change.confirmed o.pre; lock = when chang
 abbrev pub no_issues : Issued
 no_issues = record { take = None; lock = None; done = None }
 
+-- ---- past the tick
+
 -- the open candidate, the last event and what is issued past the tick t, where `change` stands there
 abbrev pub candidate_after : ℕ → Change → Option (Place × ℕ) → Option Candidate → Option Candidate
 candidate_after t change link None = None
@@ -76,6 +82,8 @@ PassesBy change o =
 -- the issues in the words of the definitions
 abbrev pub issues_in : Issued → TickIssues
 issues_in i = record { take = i.take; lock = i.lock; done = i.done }
+
+-- ---- which ticks it can take
 
 -- what stands at the tick t can stand there of the candidate: an event is past the last one, and a close is the one that the end gives
 pub record CanBeTold (t : ℕ) (change : Change) (link : Option (Place × ℕ)) (o : Candidate) : Type 0 where

@@ -24,6 +24,8 @@ use Rattle.edr_core.specs.Parts.{PartSlots, AreSlotsOf, with_parts, part_in}
 use Rattle.edr_core.specs.SplitHistory.{History}
 use Rattle.edr_core.specs.SplitContents.{SplitContents}
 
+-- ---- the open candidate
+
 -- q is the pre part p with the slots that were taken
 pub record IsMadeOf (parts : List SensorPart) (p q : PrePart) : Type 0 where
   pub key_is : q.key ≡ p.key
@@ -34,6 +36,8 @@ pub record IsMadeOf (parts : List SensorPart) (p q : PrePart) : Type 0 where
 abbrev pub HoldsCandidateWith : List SensorPart → Option Candidate → CoreState → OpenCrash → Type 0
 HoldsCandidateWith parts None k crash = Unit {0}
 HoldsCandidateWith parts (Some o) k crash = IsMadeOf parts k.frozen o.pre × (o.end ≡ k.ended) × (o.crash ≡ crash)
+
+-- ---- the open ask
 
 -- the parts of the time zero z are those that were taken
 pub record PartsAre (ps : TakenParts) (taken : List SensorPart) (z : ℕ) : Type 0 where
@@ -51,6 +55,8 @@ pub record AskIs (a : OpenAsk) (h : History) : Type 0 where
 abbrev pub HoldsAsk : Option OpenAsk → History → Type 0
 HoldsAsk None h = h.asking ≡ false
 HoldsAsk (Some a) h = AskIs a h
+
+-- ---- the whole of it
 
 -- how far the merge has come: the tick of an open ask is merged
 abbrev pub merged : History → Progress

@@ -21,6 +21,8 @@ use Rattle.edr_core.specs.SplitContents.{SplitContents}
 use Rattle.edr_core.specs.SplitStandsFor.{SplitCoreStandsFor}
 use Rattle.edr_cycle.specs.declared.remaining.Remaining.{Remaining}
 
+-- ---- what was told, and what is left
+
 -- what is done of a slow sensor stands in its capture; what is done of a fast one was given to the core
 pub record KeepsGiven (s : Sensor) (done given kept : List Item) : Type 0 where
   pub slow : IsSlow s → CaptureStandsFor kept done
@@ -59,6 +61,8 @@ pub record Remains (lists : SensorLists) (n : ℕ) (core : SplitContents) (rest 
   pub history : History
   pub remains : RemainsAt lists n history core rest
 
+-- ---- what the next tick waits for
+
 -- some tick is still to be closed
 pub record IsOpenAt (lists : SensorLists) (n : ℕ) (h : History) (core : SplitContents) (rest : Remaining) : Type 0 where
   pub remains : RemainsAt lists n h core rest
@@ -88,6 +92,8 @@ pub record SameAsk (h h' : History) : Type 0 where
 pub record IsTakenOf (s : Sensor) (zero : ℕ) (h h' : History) : Type 0 where
   pub taken : IsSome (part_in h'.parts s zero)
   pub others : (r : Sensor) → IsSome (part_in h.parts r zero) → IsSome (part_in h'.parts r zero)
+
+-- ---- how it goes on
 
 -- how many items are left
 abbrev pub count_left : SensorLists → ℕ

@@ -69,6 +69,7 @@ fn give(rest: &mut Remaining<'_>, core: &mut SplitCore, sensor: Sensor)
     let Some(item) = rest.left.next(sensor) else {
         unreachable!();
     };
+    // What it refuses is an item of a slow sensor whose moment it knows: the captures keep that one all the same.
     let _ = core.accept(sensor, item);
     rest.captures.push(sensor, item);
 }
@@ -97,6 +98,7 @@ fn put(rest: &mut Remaining<'_>, core: &mut SplitCore, sensor: Sensor, zero: u32
     ensures fewer { count_left rest.new.left ≤ count_left rest.old.left }
 {
     fill(rest, core, sensor, zero);
+    // The part is one that is asked for: it is refused only where the core took it before.
     let _ = core.part(rest.captures.part(sensor, zero));
 }
 

@@ -16,6 +16,8 @@ pub record Change : Type 0 where
   pub dropped : Bool
   pub closed : Bool
 
+-- ---- by the candidates
+
 -- there is a tick, and it is t
 abbrev pub is_at : Option ℕ → ℕ → Bool
 is_at None t = false
@@ -59,6 +61,8 @@ change_of_list m t cs = record {
 -- what stands at the tick t
 abbrev pub tick_change : Signals → ℕ → Change
 tick_change m t = change_of_list m t (chain m t)
+
+-- ---- by the tests
 
 -- the change at the tick t by the answers of the four tests, from the phase before it
 abbrev pub stepped_change : ℕ → Bool → Bool → Bool → Bool → Phase → Change

@@ -12,6 +12,8 @@ use Rattle.edr_definitions.specs.Signals.{Signals, signals_of}
 use Rattle.edr_definitions.specs.Selection.{Event, events, close_of}
 use Rattle.edr_definitions.specs.Parts.{pre_part, crash_part}
 
+-- ---- the place of an event in its crash
+
 -- second after a first event whose time zero is at most 5 s before it, else first (563.5, multi-event crash)
 abbrev pub place_after : Place → ℕ → ℕ → Place
 place_after First before z = if nat_le (z - before) LONGEST_PAIR then Second (z - before) else First
@@ -40,6 +42,8 @@ last_from s (z ∷ zs) = last_from (Some (place_of s z, z)) zs
 abbrev pub last_placed : List ℕ → Option (Place × ℕ)
 last_placed zs = last_from None zs
 
+-- ---- the lock of an event
+
 -- a restraint fires at t that locks the record: any but the two pretensioners (563.9, locked memory)
 abbrev pub is_locking : Signals → ℕ → Bool
 is_locking m t = not (nat_eq (m.fired t % 64) 0)
@@ -47,6 +51,8 @@ is_locking m t = not (nat_eq (m.fired t % 64) 0)
 -- the tick at which the event with time zero z and end e is locked: the first such tick up to its close, if there is one
 abbrev pub lock_of : Signals → ℕ → ℕ → Option ℕ
 lock_of m z e = first_tick (is_locking m) z (close_of z e + 1)
+
+-- ---- the commands of one event
 
 -- a command, and the tick at which it is issued
 pub record Issue : Type 0 where
@@ -73,6 +79,8 @@ issues_of f n e =
     ++ record { tick = close_of z e.0.end_tick; command = Done (crash_part m z e.0.end_tick) }
     ∷ []
 
+-- ---- the commands of a cycle
+
 -- the time zeros of the events that are confirmed by the tick t
 abbrev pub zeros_by : Signals → ℕ → List ℕ
 zeros_by m t = map (λ e. e.zero_tick) (events m t)
@@ -92,6 +100,8 @@ issues f n t = filter (λ i. nat_le i.tick t) (all_issues f n t)
 -- the commands of cycle n that are issued up to the tick t, in order
 unfoldable pub commands : SensorLists → ℕ → ℕ → List Command
 commands f n t = map (λ i. i.command) (issues f n t)
+
+-- ---- their order
 
 -- at one tick Take stands first and Done last
 abbrev pub rank_of : Command → ℕ

@@ -15,6 +15,8 @@ use Rattle.edr_definitions.specs.Selection.{Bounds, is_triggered, is_time_zero, 
 use Rattle.edr_definitions.specs.Parts.{slot}
 use Rattle.edr_definitions.specs.Commands.{lock_of}
 
+-- ---- the tests at a tick
+
 -- some change up to t that begins at most k ticks before it, and not before `from`, has at least that size
 pub record Reaches (axis : ℕ → Option ℤ) (k from t size : ℕ) : Type 0 where
   pub start : ℕ
@@ -37,6 +39,8 @@ abbrev pub IsEnd : Signals → ℕ → ℕ → Type 0
 IsEnd m z t =
     (t ≡ z + RESET) ⊎ ((z + 20 ≤ t) × (squares (delta_v m.along (t - 20) t) (delta_v m.across (t - 20) t) ≤ QUIET_SQUARES))
 
+-- ---- candidates
+
 -- c is the candidate that the search finds from there on
 pub record IsCandidate (m : Signals) (from : Bounds) (c : Candidate) : Type 0 where
   pub zero_is : IsFirst (is_time_zero m from) 0 c.zero_tick
@@ -55,6 +59,8 @@ IsChain m upto from (c ∷ cs) = IsCandidate m from c × (c.zero_tick ≤ upto) 
 abbrev pub CandidatesLead : Signals → Bounds → List Candidate → Bounds → Type 0
 CandidatesLead m from [] b = from ≡ b
 CandidatesLead m from (c ∷ cs) b = IsCandidate m from c × CandidatesLead m (bounds_after from c) cs b
+
+-- ---- events and their commands
 
 -- how the ticks of an event lie that is confirmed by `upto`: past the tick `after` its time zero, confirmation, end and close in this order, and its lock between
 pub record IsEventAfter (m : Signals) (upto after : ℕ) (e : Event) : Type 0 where
@@ -79,6 +85,8 @@ IsInBounds (Take pre) = IsPre pre
 IsInBounds (Lock pre) = IsPre pre
 IsInBounds (Done crash) = IsCrash crash
 
+-- ---- greatest values and slots
+
 -- t is the earliest of the ticks `a..b` at which f is greatest
 pub record IsFirstGreatest (f : ℕ → ℕ) (a b t : ℕ) : Type 0 where
   pub from : a ≤ t
@@ -101,6 +109,8 @@ pub record IsLatestSample (xs : List Item) (t : ℕ) (v : ℤ) : Type 0 where
 -- no item of the list in the 100 ms up to t has a value
 pub record HasNoSample (xs : List Item) (t : ℕ) : Type 0 where
   pub none : (x : Item) → Contains xs x → IsRecent t x → x.value ≡ None
+
+-- ---- signals and lists that are alike
 
 -- up to the tick t the signals are the same
 pub record AgreeUpTo (t : ℕ) (m n : Signals) : Type 0 where

@@ -17,6 +17,8 @@ use Rattle.edr_definitions.specs.Signals.{Signals}
 use Rattle.edr_definitions.specs.Windows.{delta_v, size_of_change, squares}
 use Rattle.edr_definitions.specs.Selection.{window_of, close_of}
 
+-- ---- slots
+
 -- the value of the last item that has one
 abbrev pub latest_value : List Item → Option ℤ
 latest_value [] = None
@@ -42,6 +44,8 @@ switch s = option_map (λ v. nat_eq (unsigned_abs v) 1) s
 abbrev pub switches : List (Option ℤ) → List (Option Bool)
 switches slots = map switch slots
 
+-- ---- the pre part
+
 -- the long pre part of the event with time zero z of cycle n; belt and lamp are those of 1 s before z (563.7 Table I)
 unfoldable pub pre_part : SensorLists → ℕ → Place → ℕ → PrePart
 pre_part f n place z = record {
@@ -54,6 +58,8 @@ pre_part f n place z = record {
   belt = switch (slot f.belt (z - SINGLE_REACH));
   lamp = switch (slot f.lamp (z - SINGLE_REACH));
 }
+
+-- ---- changes of speed
 
 -- steps of 0.0001 km/h in whole km/h, rounded half away from zero (563.8, resolution of delta-V)
 abbrev pub kmh_of : ℤ → ℤ
@@ -82,6 +88,8 @@ extreme axis z b =
 unfoldable pub result_at : Signals → ℕ → ℕ → ℕ
 result_at m z b = first_greatest (λ t. squares (delta_v m.along z t) (delta_v m.across z t)) z b - z
 
+-- ---- missing samples and firings
+
 -- how many of the ticks `a..b` have no sample
 unfoldable pub missing : (ℕ → Option ℤ) → ℕ → ℕ → ℕ
 missing axis a b = count_by (λ t. is_none (axis t)) (ticks a b)
@@ -93,6 +101,8 @@ first_firing m z b bit = option_map (λ t. t - z) (first_tick (λ t. nat_eq (bit
 -- when each of the eight restraints first fires in those ticks
 unfoldable pub firings : Signals → ℕ → ℕ → List (Option ℕ)
 firings m z b = map (first_firing m z b) (range_with_len 0 8)
+
+-- ---- the crash part
 
 -- the crash part of the event with time zero z and end e: extremes and missing ticks up to the end of the window, firings up to the close
 unfoldable pub crash_part : Signals → ℕ → ℕ → CrashPart

@@ -7,6 +7,8 @@ use Rattle.edr_items.specs.Sensor.{number_of}
 use Rattle.edr_items.specs.Item.{refusal_of, mark_of}
 use Rattle.edr_items.specs.SensorLists.{SensorLists, items_of, with_items, horizon_of}
 
+-- ---- one step
+
 -- what was given of each sensor, and the tick up to which all are closed
 pub record Progress : Type 0 where
   pub given : SensorLists
@@ -35,6 +37,8 @@ abbrev pub after_step : Progress → CoreMove → Progress
 after_step p (Give s x) = record { given = with_item s x p.given; closed = p.closed }
 after_step p Close = record { given = p.given; closed = p.closed + 1 }
 
+-- ---- steps one after the other
+
 -- where steps lead that are taken one after the other
 abbrev pub after_steps : Progress → List CoreMove → Progress
 after_steps p [] = p
@@ -48,6 +52,8 @@ given_by s Close = []
 -- what steps give of the sensor, in their order
 abbrev pub items_given : Sensor → List CoreMove → List Item
 items_given s steps = flat_map (given_by s) steps
+
+-- ---- feeds that are being given
 
 -- the list begins with the other one
 abbrev pub BeginsWith : List Item → List Item → Type 0

@@ -7,6 +7,8 @@ use Rattle.edr_definitions.specs.Selection.{Bounds, is_triggered, is_time_zero, 
 use Rattle.edr_definitions.specs.Facts.{CandidatesLead}
 use Rattle.edr_definitions.specs.Commands.{is_locking}
 
+-- ---- where the search stands
+
 -- no candidate is open, or one with this time zero, and its confirmation, first locking firing and end as far as they have come
 pub data Phase : Type 0 where
   Searching : Phase
@@ -16,6 +18,8 @@ pub data Phase : Type 0 where
 pub record Search : Type 0 where
   pub bounds : Bounds
   pub phase : Phase
+
+-- ---- the next tick
 
 -- this tick, if the test holds
 abbrev pub tick_if : Bool → ℕ → Option ℕ
@@ -44,6 +48,8 @@ next_from m t b (Open z c l (Some e)) = past_end t b z c (option_or l (tick_if (
 -- the search past the tick t, from where it stood before it
 abbrev pub next_search : Signals → ℕ → Search → Search
 next_search m t s = next_from m t s.bounds s.phase
+
+-- ---- what it says of the chain
 
 -- where each candidate of the list leaves the search, it is at most t
 abbrev pub AllClosed : ℕ → Bounds → List Candidate → Type 0

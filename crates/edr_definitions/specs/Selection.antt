@@ -12,6 +12,8 @@ pub record Bounds : Type 0 where
   pub after : ℕ
   pub since : ℕ
 
+-- ---- the tests at a tick
+
 -- a restraint fires at t, or a change within 150 ms on either axis meets the trigger threshold (563.5, event)
 unfoldable pub is_triggered : Signals → ℕ → ℕ → Bool
 is_triggered m since t =
@@ -27,6 +29,8 @@ unfoldable pub is_end : Signals → ℕ → ℕ → Bool
 is_end m z t =
     nat_eq t (z + RESET) || (nat_le (z + 20) t && is_quiet (delta_v m.along (t - 20) t) (delta_v m.across (t - 20) t))
 
+-- ---- end and close
+
 -- the end of the time zero z: the first such tick from z on
 unfoldable pub end_of : Signals → ℕ → ℕ
 end_of m z = unwrap_or (first_tick (is_end m z) z (z + RESET + 1)) (z + RESET)
@@ -38,6 +42,8 @@ window_of z e = window_from_end (e - z)
 -- the close of an event: its end, or the end of that window if that is later
 abbrev pub close_of : ℕ → ℕ → ℕ
 close_of z e = max e (z + window_of z e)
+
+-- ---- candidates
 
 -- a candidate for an event: its time zero, its end, and the tick of its confirmation if there is one
 pub record Candidate : Type 0 where
@@ -74,6 +80,8 @@ at_start = record { after = 0; since = 0 }
 -- all candidates with a time zero up to `upto`: each is past the one before it, so there are at most `upto`
 abbrev pub chain : Signals → ℕ → List Candidate
 chain m upto = chain_from m upto upto at_start
+
+-- ---- events
 
 -- an event: a candidate that is confirmed (563.5, event)
 pub record Event : Type 0 where

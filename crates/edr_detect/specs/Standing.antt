@@ -15,6 +15,8 @@ use Rattle.edr_detect.specs.declared.windows.Windows.{Windows}
 use Rattle.edr_detect.specs.Latest.{AreZeros, LatestStandsFor}
 use Rattle.edr_detect.specs.Stages.{phase_of, is_event}
 
+-- ---- what they hold at a tick
+
 -- at the tick t, in a search with these bounds, the swings hold the changes past the bounds
 pub record SwingsStandFor (m : Signals) (b : Bounds) (t : ℕ) (w : Windows) : Type 0 where
   pub zero_along : SwingStandsFor 20 w.zero_along (changes m.along b.after t)
@@ -33,6 +35,8 @@ abbrev pub SwingsTake : ℤ → ℤ → Windows → Windows → Type 0
 SwingsTake along across w next =
     (m : Signals) (b : Bounds) (before t : ℕ) → t ≡ before + 1 → b.after ≤ before → b.since ≤ before
     → change_at m.along t ≡ along → change_at m.across t ≡ across → SwingsStandFor m b before w → SwingsStandFor m b t next
+
+-- ---- at rest, and since the beginning
 
 -- no change of the last 20 ticks of either axis differs from 0
 pub record HoldNothing (w : Windows) : Type 0 where
@@ -58,6 +62,8 @@ pub record BeginsAtRest (m : Signals) : Type 0 where
   pub along : change_at m.along 0 ≡ pos 0
   pub across : change_at m.across 0 ≡ pos 0
 
+-- ---- one tick more, and what is asked of a swing
+
 -- windows that hold up to a tick, at which the bounds have come, what the tests of a phase ask hold it up to t with these changes of t, where that is the next tick
 abbrev pub WindowsTake : Phase → ℕ → ℤ → ℤ → Windows → Windows → Type 0
 WindowsTake p t along across w next =
@@ -72,6 +78,8 @@ IsSizeOfSwing k s size =
 -- any changes that the sums stand for have no swing
 abbrev pub HasNoSwing : ℕ → SwingState → Type 0
 HasNoSwing k s = (axis : ℕ → Option ℤ) (from t : ℕ) → SwingStandsFor k s (changes axis from t) → swing axis k from t ≡ 0
+
+-- ---- the tests at a tick, and the restart past it
 
 -- where the open candidate has not ended, this is whether it does at the tick t
 abbrev pub EndIs : Signals → Stage → ℕ → Bool → Type 0

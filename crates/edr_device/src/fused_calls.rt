@@ -1,4 +1,5 @@
-//! The calls of a fuse.
+//! The calls of the fuse of `fused.rt`. They stand apart, since a struct with ghost fields imports each `ghost use` of its
+//! file: the specs that these contracts use speak of the struct, and would be imported in a circle.
 ghost use Rattle.std.specs.Prelude.{◌≡◌, ◌≢◌, ◌⊎◌, ◌+◌, ◌-◌, ◌≤◌, ◌<◌, ℕ, List, true, false, is_ok, length, IsTrue, IsErr, OnOk, OnErr};
 ghost use Rattle.edr_device.specs.Device.{Across, CrashInSync, CrashInWrite, Repowered, Shows, Synced, Ticks, Wrote};
 ghost use Rattle.edr_device.specs.Faults.{HasCause, Rose, last_number};

@@ -1,4 +1,5 @@
-//! The calls of a memory in memory.
+//! The calls of the memory in memory of `mem_nvm.rt`. They stand apart, since a struct with ghost fields imports each
+//! `ghost use` of its file: the specs that these contracts use speak of the struct, and would be imported in a circle.
 ghost use Rattle.std.specs.Prelude.{◌≡◌, ◌+◌, ◌≤◌, ◌<◌, ◌^◌, ℕ, List, false, is_ok, length, IsOk, IsErr, OnOk, OnErr, IfOk, IsTrue};
 ghost use Rattle.edr_device.specs.Device.{Across, CrashInSync, CrashInWrite, Repowered, Shows, Synced, Ticks, Wrote};
 ghost use Rattle.edr_device.specs.Faults.{HasCause, last_number};

@@ -18,6 +18,8 @@ use Rattle.edr_drawing.specs.Before.{name, rule}
 use Rattle.edr_drawing.specs.Changes.{scale_of, time_x}
 use Rattle.edr_drawing.specs.After.{text, changes_chart}
 
+-- ---- one row
+
 -- words beside a flag: right of it, or left of it far to the right
 unfoldable pub beside : ℕ → ℕ → Bool → TextWords → Element
 beside x y bold w =
@@ -38,6 +40,8 @@ unfoldable pub restraint_row : Scale → ℕ → Label → Option ℕ → List �
 restraint_row s y l (Some t) = timed_row s y true l t (words.Milliseconds t)
 restraint_row s y l None = drawn (name (y + 25) class.Grey l ∷ text 352 (y + 25) class.Grey label.None ∷ [])
 
+-- ---- the restraints
+
 -- the rows of the restraints, in the order of a record
 abbrev pub fired_at : List (Option ℕ) → ℕ → Option ℕ
 fired_at fired i = get_or fired i None
@@ -56,6 +60,8 @@ belt_rows s fired =
     ++ restraint_row s 866 label.DriverPretensioner (fired_at fired 6)
     ++ restraint_row s 899 label.PassengerPretensioner (fired_at fired 7)
 
+-- ---- the end of the event and the greatest changes
+
 -- the row of a greatest change
 abbrev pub extreme_row : Scale → ℕ → Label → Extreme → List ℕ
 extreme_row s y l x = timed_row s y false l x.at (words.Extreme x.at x.kmh)
@@ -67,6 +73,8 @@ event_rows s c =
     ++ extreme_row s 569 label.MaxLongitudinal c.max_along
     ++ extreme_row s 602 label.MaxLateral c.max_across
     ++ timed_row s 635 false label.MaxResultant c.result_at (words.Milliseconds c.result_at)
+
+-- ---- the whole chart
 
 unfoldable pub rows_chart : Scale → CrashPart → List ℕ
 rows_chart s c =

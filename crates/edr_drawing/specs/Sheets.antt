@@ -20,6 +20,8 @@ use Rattle.edr_drawing.specs.Before.{before_chart}
 use Rattle.edr_drawing.specs.Rows.{after_chart}
 use Rattle.edr_drawing.specs.Tables.{points_table, elements_table}
 
+-- ---- words, places and digests
+
 abbrev pub yes_no : Bool → Tag
 yes_no b = if b then tag.Yes else tag.No
 
@@ -47,6 +49,8 @@ hex_byte b = hex_digit (b / 16) ∷ hex_digit (b % 16) ∷ []
 
 abbrev pub digest_hex : List ℕ → List ℕ
 digest_hex digest = flat_map hex_byte digest
+
+-- ---- head, facts and foot
 
 unfoldable pub sheet_head : ℕ → Bool → List ℕ
 sheet_head n complete =
@@ -93,6 +97,8 @@ sheet_foot n digest =
     ++ digest_hex digest
     ++ pieces (piece.Tag tag.FootEnd ∷ [])
 
+-- ---- the whole sheet
+
 -- the sheet of event n, which this bank holds
 unfoldable pub sheet : ℕ → ℕ → Record → List ℕ → List ℕ
 sheet n bank r digest =
@@ -104,6 +110,8 @@ sheet n bank r digest =
     ++ points_table r.crash
     ++ elements_table n bank r
     ++ sheet_foot n digest
+
+-- ---- the sheets of a page
 
 -- the sheet of a bank, if it has an event; and how many it has
 abbrev pub sheet_if : ℕ → ℕ → BankView → List ℕ → List ℕ

@@ -14,6 +14,8 @@ use Rattle.edr_drawing.specs.declared.tables.Rows.{Rows}
 use Rattle.edr_drawing.specs.Pieces.{pieces}
 use Rattle.edr_drawing.specs.Scales.{counted}
 
+-- ---- rows of names and values
+
 -- the row of a name and a value
 abbrev pub row : List ℕ → List ℕ → List ℕ
 row name value =
@@ -33,6 +35,8 @@ line_row l = (if begins_table l.name then pieces (piece.Tag tag.NextTable ∷ []
 -- what the rows so far are
 abbrev pub rows_bytes : Rows → List ℕ
 rows_bytes r = r.bytes.items
+
+-- ---- the changes of speed
 
 -- the times of the first points, in milliseconds
 abbrev pub time_cell : ℕ → List ℕ
@@ -58,6 +62,8 @@ points_table (Some c) =
     ++ change_row tag.AlongRow (take (point_count c.end) c.along)
     ++ change_row tag.AcrossRow (take (point_count c.end) c.across)
     ++ pieces (piece.Tag tag.TableEnd ∷ [])
+
+-- ---- the lines of a report
 
 -- all lines of an event, word for word
 unfoldable pub elements_table : ℕ → ℕ → Record → List ℕ

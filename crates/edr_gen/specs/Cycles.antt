@@ -9,6 +9,8 @@ use Rattle.edr_spell.specs.Samples.{Sample, feeds_given}
 use Rattle.edr_gen.specs.declared.plan.TheConstants.{SLOW_SAID}
 use Rattle.edr_gen.specs.declared.plan.Impulse.{Impulse}
 
+-- ---- impulses
+
 -- the impulse acts at the tick
 abbrev pub acts_at : ℕ → Impulse → Bool
 acts_at t i = nat_lt i.start t && nat_le t (i.start + i.len)
@@ -33,6 +35,8 @@ across_of (Some i) = i.across
 -- an air bag fires at the tick
 unfoldable pub has_firing : List Impulse → ℕ → Bool
 has_firing impulses t = list_any (fires_at t) impulses
+
+-- ---- the samples of one tick
 
 abbrev pub sample : Sensor → ℕ → Option ℤ → Sample
 sample s t value = record { sensor = s; item = record { moment = t; value = value } }
@@ -61,6 +65,8 @@ samples_at impulses t =
     crash_samples (along_of (acting_at impulses t)) (across_of (acting_at impulses t)) t
     ++ slow_samples (t % 100 == 0) t
     ++ restraint_samples (has_firing impulses t) (t % 1000 == 0) t
+
+-- ---- ticks one after the other
 
 -- what they give in the n ticks behind tick t
 unfoldable pub samples_after : List Impulse → ℕ → ℕ → List Sample

@@ -36,6 +36,8 @@ each_slow_value x = record { speed = x; throttle = x; brake = x; belt = x; lamp 
 abbrev pub map_slow_values : {A B : Type 0} → (A → B) → PerSlowSensor A → PerSlowSensor B
 map_slow_values h p = record { speed = h p.speed; throttle = h p.throttle; brake = h p.brake; belt = h p.belt; lamp = h p.lamp }
 
+-- ---- each slow sensor
+
 -- the slow sensors in the order of their numbers
 abbrev pub slow_sensors : List Sensor
 slow_sensors = Speed ∷ Throttle ∷ Brake ∷ Belt ∷ Lamp ∷ []
@@ -59,6 +61,8 @@ slow_at Restraint p = p.speed
 abbrev pub slow_values_by : {A : Type 0} → (Sensor → A) → PerSlowSensor A
 slow_values_by h = record { speed = h Speed; throttle = h Throttle; brake = h Brake; belt = h Belt; lamp = h Lamp }
 
+-- ---- among all sensors
+
 -- those of the slow sensors among the values of all sensors
 abbrev pub slow_values : {A : Type 0} → PerSensor A → PerSlowSensor A
 slow_values p = record { speed = p.speed; throttle = p.throttle; brake = p.brake; belt = p.belt; lamp = p.lamp }
@@ -66,6 +70,8 @@ slow_values p = record { speed = p.speed; throttle = p.throttle; brake = p.brake
 -- values of all sensors, of which the other three have this one
 abbrev pub with_slow_values : {A : Type 0} → A → PerSlowSensor A → PerSensor A
 with_slow_values x p = record { along = x; across = x; speed = p.speed; throttle = p.throttle; brake = p.brake; belt = p.belt; lamp = p.lamp; restraint = x }
+
+-- ---- the first sensor without a value
 
 -- the lowest-numbered slow sensor that has no value
 unfoldable pub first_without : {A : Type 0} → PerSlowSensor (Option A) → Option Sensor

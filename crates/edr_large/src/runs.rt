@@ -66,6 +66,7 @@ fn run_cycle(
         return Err(OutOfMemory);
     };
     let end = run_alone(started, feeds, &mut memory);
+    // A power cycle of a memory in memory never fails.
     let _off = memory.power_cycle();
     acks.extend_from_slice(end.log.acks())?;
     image_of(alloc, &memory)

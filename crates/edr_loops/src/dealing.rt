@@ -1,4 +1,5 @@
-//! The sensors of a cycle are dealt to its workers, and what the workers hand back is put together again.
+//! The sensors of a cycle are dealt to its workers, and what the workers hand back is put together again. It stands apart from the
+//! places in `stand.rt` by subject: there is what a worker does with them, here what is done before it starts and after it ends.
 
 ghost use Rattle.std.specs.Prelude.{◌≡◌};
 ghost use Rattle.edr_loops.specs.Places.{IsDealt};

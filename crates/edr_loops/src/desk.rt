@@ -193,6 +193,7 @@ impl Desk {
             return false;
         };
         if is_of(&own, sensor) {
+            // One that isn't asked for, or that the core took before, is refused and changes nothing.
             let _ = self.core.part(own);
         }
         true

@@ -14,6 +14,8 @@ use Rattle.edr_reading.specs.declared.rows.ReportRow.{ReportRow}
 use Rattle.edr_reading.specs.declared.pre.PreValues.{PreValues}
 use Rattle.edr_reading.specs.declared.crash.CrashValues.{CrashValues}
 
+-- ---- before time zero
+
 -- the values of the lines of what stood before time zero
 pub record ShowsPre (v : PreValues) (p : PrePart) (is_locked : Bool) : Type 0 where
   pub cycle : v.cycle.now ≡ shown_count p.key.cycle
@@ -59,6 +61,8 @@ ReadsToldLists v read =
     (f : Profile) (speed throttle : List (Option ℕ)) (brake : List (Option Bool)) → v.profile.now ≡ profile_word f
     → ShowsLists v f speed throttle brake → GivesLists speed throttle brake read
 
+-- ---- after time zero
+
 -- whatever eight firings, of which none is later, the values tell, this is so
 abbrev pub OfFirings : ℕ → List (Bor (List ℕ)) → (List (Option ℕ) → Type 0) → Type 0
 OfFirings latest values says =
@@ -74,6 +78,8 @@ pub record ShowsCrash (v : CrashValues) (c : CrashPart) : Type 0 where
   pub result_at : v.result_at.now ≡ milliseconds c.result_at
   pub missing : v.missing.now ≡ missing_words c.missing_along c.missing_across
   pub fired : map (λ f. f.now) v.fired ≡ map firing_words c.fired
+
+-- ---- the record that rows tell
 
 -- the parts that are told of a record determine whether it is complete
 pub record SlotsAre (p q : PrePart) : Type 0 where

@@ -10,6 +10,8 @@ use Rattle.edr_reading.specs.declared.crash.CrashValues.{CrashValues}
 use Rattle.edr_reading.specs.declared.pre.PreValues.{PreValues}
 use Rattle.edr_reading.specs.declared.rows.ReportRow.{ReportRow}
 
+-- ---- rows and texts
+
 -- the fields of a row
 abbrev pub fields : ReportRow → List (List ℕ)
 fields r = r.block.now ∷ r.name.now ∷ r.value.now ∷ []
@@ -34,6 +36,8 @@ AddsRows added old new = map fields new ≡ map fields old ++ added
 abbrev pub BeginWith : List ReportRow → FieldRows → List ReportRow → Type 0
 BeginWith rows first rest = map fields rows ≡ first ++ map fields rest
 
+-- ---- the rows of an event
+
 -- the fields of the row of a line
 abbrev pub line_fields : Line → List (List ℕ)
 line_fields l = decimal l.block ∷ l.name ∷ l.value ∷ []
@@ -48,6 +52,8 @@ event_head block b = map line_fields (line block (codes "event") (decimal block)
 abbrev pub event_end : ℕ → Bool → List (List (List ℕ))
 event_end block complete = map line_fields (line block (codes "complete file recorded") (yes_no complete) ∷ [])
 
+-- ---- names and values
+
 -- the fields of rows of a block with these names and values
 abbrev pub named_fields : ℕ → List (List ℕ) → List (List ℕ) → List (List (List ℕ))
 named_fields block [] values = []
@@ -57,6 +63,8 @@ named_fields block (n ∷ names) (v ∷ values) = (decimal block ∷ n ∷ v ∷
 -- whatever values the rows of the block tell under these names, this is so
 abbrev pub OfNamed : ℕ → List (Bor (List ℕ)) → List ReportRow → (Texts → Type 0) → Type 0
 OfNamed block names rows says = (ws : Texts) → length ws ≡ length rows → map fields rows ≡ named_fields block (texts_in names) ws → says ws
+
+-- ---- the names and values of the two parts
 
 -- the names of the lines of what stood before time zero, and their values
 abbrev pub pre_names : List (List ℕ)

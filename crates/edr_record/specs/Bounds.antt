@@ -9,6 +9,8 @@ use Rattle.edr_record.specs.declared.Profile.{Profile}
 use Rattle.edr_record.specs.declared.Profile.TheVariants.{Short, Long}
 use Rattle.edr_record.specs.Parts.{PrePart, CrashPart}
 
+-- ---- the pre part
+
 -- a second event begins at most five seconds after the first (563.5, multi-event crash)
 abbrev pub IsPlace : Place → Type 0
 IsPlace First = Unit {0}
@@ -40,6 +42,8 @@ pub record IsPreWithSlots (n : ℕ) (p : PrePart) : Type 0 where
 abbrev pub IsPre : PrePart → Type 0
 IsPre p = IsPreWithSlots (slots_in p.profile) p
 
+-- ---- the window and the points
+
 -- how long after time zero extremes and missing samples are looked for: 300 ms, or 30 ms past the end if that is shorter (563.7 Table I, maximum delta-V)
 abbrev pub window_from_end : ℕ → ℕ
 window_from_end end = min LONGEST_WINDOW (end + 30)
@@ -51,6 +55,8 @@ point_count end = min 250 (end + 30) / 10 + 1
 -- how many points a crash part has room for
 abbrev pub most_points : ℕ
 most_points = POINTS
+
+-- ---- the crash part
 
 -- a change of speed in whole km/h that samples in range can give
 abbrev pub IsChange : ℤ → Type 0

@@ -13,6 +13,8 @@ use Rattle.edr_image.specs.Steps.{BankStep, Reply, replies, at_rest, after}
 use Rattle.edr_image.specs.Calls.{all_calls, stops, IsStop, acknowledged}
 use Rattle.edr_spell.specs.declared.CycleInput.{CycleInput}
 
+-- ---- what is issued, and the replies
+
 abbrev pub kind_of : Command → Kind
 kind_of (command.Take pre) = Take
 kind_of (command.Lock pre) = Lock
@@ -40,6 +42,8 @@ acks_in f n v = map (λ p. ack_of p.0 p.1) (zip (issues_in f n) (replies_in f n 
 -- those before the one in which call k falls
 unfoldable pub acks_before : SensorLists → ℕ → Store → ℕ → List Ack
 acks_before f n v k = take (acknowledged k (replies_in f n v)) (acks_in f n v)
+
+-- ---- the ends of a cycle
 
 -- what a cycle comes to: its report, the banks and the count
 pub record End : Type 0 where
@@ -69,6 +73,8 @@ pub data IsCycle (c : CycleInput) (v : Store) (n : ℕ) (e : End) : Type 0 where
   -- a stop in a call of a step
   cut : (done : List BankStep) → c.start_stop ≡ 0 → IsStop (steps_in c.feeds (n + 1) v) c.stop done → e ≡ cut_end c.feeds v (n + 1) c.stop done → IsCycle c v n e
 
+-- ---- the ends as a list
+
 -- the ends of the cycle with the number n whose commands are stopped in call k, or not
 unfoldable pub run_ends : SensorLists → ℕ → Store → ℕ → List End
 run_ends f k v n =
@@ -85,6 +91,8 @@ start_ends j v n =
 -- the same as a list: the ends to which the cycle may come, the one with fewer steps or the lower count first
 unfoldable pub ends : CycleInput → Store → ℕ → List End
 ends c v n = if nat_eq c.start_stop 0 then run_ends c.feeds c.stop v (n + 1) else start_ends c.start_stop v n
+
+-- ---- runs of several cycles
 
 -- the last number that a cycle can have
 abbrev pub last_count : ℕ

@@ -11,6 +11,8 @@ use Rattle.edr_image.specs.Calls.{IsStop, all_calls}
 use Rattle.edr_image.specs.Steps.{State, BankStep, at_rest, after, reply_to, state_after, steps_of}
 use Rattle.edr_run.specs.Cycle.{steps_in}
 
+-- ---- where a cycle stands
+
 -- what was given and closed, how many commands were issued and how many applied, and the banks
 pub record ScheduleState : Type 0 where
   pub progress : Progress
@@ -29,6 +31,8 @@ issued_at n a = commands a.progress.given n a.progress.closed
 -- c is the command that is applied next
 abbrev pub IsNextApplied : ℕ → ScheduleState → Command → Type 0
 IsNextApplied n a c = (a.applied < a.issued) × (slice_get (issued_at n a) a.applied ≡ Some c)
+
+-- ---- steps and cuts
 
 -- one step of cycle n
 pub data IsStep (n : ℕ) (a b : ScheduleState) : Type 0 where
@@ -52,6 +56,8 @@ abbrev pub IsCut : ℕ → ScheduleState → Store → Type 0
 IsCut n a w =
     (w ≡ a.banks.store)
     ⊎ ((c : Command) × (k : ℕ) × (done : List BankStep) × IsNextApplied n a c × IsStop (reply_to a.banks c).steps k done × (w ≡ after a.banks.store done))
+
+-- ---- over the feeds of a cycle
 
 -- what was given is a beginning of the lists f
 abbrev pub Begins : SensorLists → ScheduleState → Type 0

@@ -16,6 +16,8 @@ use Rattle.edr_seats.specs.declared.slow_seat.Served.{Served}
 use Rattle.edr_seats.specs.declared.slow_seat.Served.TheVariants.{Nothing, Sent, Full}
 use Rattle.edr_seats.specs.SlowContents.{SlowContents}
 
+-- ---- what is seen of the seat
+
 -- the sensor, the mark of what was kept, and the parts that were sent
 abbrev pub sensor_of_slow : SlowContents → Sensor
 sensor_of_slow s = s.sensor
@@ -40,6 +42,8 @@ asked_known s = asked_read s.keeper
 abbrev pub zero_served : SlowContents → ℕ
 zero_served s = s.served
 
+-- ---- the same seat later
+
 -- the same sensor's end of the same ring, at the same freeze
 pub record SameSlowSeat (a b : SlowContents) : Type 0 where
   pub ring : SameProducer a.ring b.ring
@@ -55,6 +59,8 @@ pub record SameButRoom (a b : SlowContents) : Type 0 where
   pub sensor : b.sensor ≡ a.sensor
   pub last : b.last ≡ a.last
   pub served : b.served ≡ a.served
+
+-- ---- what it was given and has sent
 
 -- the seat was given these items, and has sent these parts
 pub record SlowSeatIsFor (s : SlowContents) (kept : List Item) (parts : List SensorPart) : Type 0 where
@@ -73,6 +79,8 @@ pub record IsFreshSeat (sensor : Sensor) (keeper : Keeper) (s : SlowContents) : 
   pub freeze : freeze_of_keeper s.keeper ≡ freeze_of_keeper keeper
   pub served : zero_served s ≡ 0
   pub taken : parts_known_taken s ≡ 0
+
+-- ---- its answers
 
 -- by what speaks against the item, and else because its moment is past what the seat, as it is after the offer, loaded of granted
 abbrev pub ExplainsSlow : Option ItemRefused → Item → SlowContents → SlowRefused → Type 0

@@ -15,6 +15,8 @@ use Rattle.edr_spell.specs.Rows.{row_of, AreRows}
 use Rattle.edr_spell.specs.Samples.{Sample, feeds_given}
 use Rattle.edr_spell.specs.Spell.{RecordsOf}
 
+-- ---- the open cycle
+
 -- the sensor rows of the cycle that is open, one row later: `on,0,` opens one, a stopped start and a cut close it
 abbrev pub opened : Option (List Sample) → Row → Option (List Sample)
 opened open_rows (row.On zero) = Some []
@@ -26,6 +28,8 @@ opened open_rows (row.Cut k) = None
 -- the sensor rows of the cycle that is open after these rows, if one is
 unfoldable pub open_after : List Row → Option (List Sample)
 open_after rows = fold opened None rows
+
+-- ---- what one row has wrong
 
 -- what a sensor row has wrong after this last moment
 unfoldable pub item_fault : Sensor → ℕ → Item → Option TraceFault
@@ -48,6 +52,8 @@ fault_in (Some feeds) (row.Cut k) = option_map (λ s. f.Skew s) (lagging_of feed
 abbrev pub fault_of : Option SensorLists → Result Row TraceFault → Option TraceFault
 fault_of feeds (Err fault) = Some fault
 fault_of feeds (Ok r) = fault_in feeds r
+
+-- ---- the first fault
 
 -- the feeds of the cycle that is open after these rows, if one is
 abbrev pub feeds_after : List Row → Option SensorLists

@@ -10,6 +10,8 @@ use Rattle.edr_spell.specs.declared.Row.TheVariants as row
 use Rattle.edr_spell.specs.declared.TraceFault.{TraceFault}
 use Rattle.edr_spell.specs.declared.TraceFault.TheVariants as f
 
+-- ---- the word in the first field
+
 -- how a word is spelled
 abbrev pub spelling_of : Word → List ℕ
 spelling_of w.On = codes "on"
@@ -30,6 +32,8 @@ words = w.On ∷ w.Cut ∷ w.Of s.Along ∷ w.Of s.Across ∷ w.Of s.Speed ∷ w
 -- the word that the bytes spell, if they spell one
 unfoldable pub word_of : List ℕ → Option Word
 word_of bytes = find (λ w. bytes_eq bytes (spelling_of w)) words
+
+-- ---- the numbers behind it, and their faults
 
 -- a step that may find a fault, and then the next
 infixl 10 ◌>>=◌
@@ -64,6 +68,8 @@ value_in (b ∷ bs) = in_i32 (integer_in (b ∷ bs))
 -- the greatest u32
 abbrev pub highest_u32 : ℕ
 highest_u32 = 4294967295
+
+-- ---- the row
 
 -- what a row says that has this word, and these bytes behind it
 unfoldable pub row_by : Option Word → List ℕ → List ℕ → Result Row TraceFault
