@@ -479,21 +479,29 @@ fn stop_at_each_call_of_a_gated_piece(rt: HostRuntime) -> Result<(), Fail> {
     Ok(())
 }
 
+// Whether each of these calls is made, or fails, as it says.
+fn are_made<N: Nvm>(nvm: &mut N, steps: &[(NvmCall, bool)]) -> bool {
+    for (step, made) in steps {
+        if make(nvm, *step).is_ok() != *made {
+            return false;
+        }
+    }
+    true
+}
+
 #[test]
 fn spent_fuse_refuses_until_it_is_lifted(rt: HostRuntime) -> Result<(), Fail> {
     let mut memory = counted_bytes(rt.alloc(), 1)?;
     let mut fused = Fused::new(&mut memory);
     fused.arm(2);
-    for (step, made) in [
+    let steps = [
         (FIRST, true),
         (SECOND, false),
         (FIRST, false),
         (NvmCall::Sync, false),
         (NvmCall::Cut, false),
-    ] {
-        assert_eq!(rt; make(&mut fused, step).is_ok(), made);
-    }
-    assert!(rt; fused.spent());
+    ];
+    assert!(rt; are_made(&mut fused, &steps) && fused.spent());
     assert_eq!(rt; byte_at(&mut fused, 4), None);
     fused.lift();
     assert!(rt; !fused.spent() && !fused.broken());
@@ -518,7 +526,22 @@ fn plan_that_waits_stays_where_the_fuse_is_lifted(rt: HostRuntime) -> Result<(),
     Ok(())
 }
 
-// The stop is in the second call; a call of the device fails at these numbers.
+// What a fuse with its stop in the second call says after these calls: whether it is spent, whether it is broken, and whether it
+// still is, and refuses a read, once it is lifted.
+fn fuse_after(memory: &mut MemNvm, steps: [NvmCall; 2]) -> (bool, bool, bool) {
+    let mut fused = Fused::new(memory);
+    fused.arm(2);
+    for step in steps {
+        let _ = make(&mut fused, step);
+    }
+    let (spent, broken) = (fused.spent(), fused.broken());
+    fused.lift();
+    let refuses = byte_at(&mut fused, 0).is_none() && fused.broken();
+    fused.end();
+    (spent, broken, refuses)
+}
+
+// A call of the device fails at these numbers.
 #[test]
 fn fuse_is_broken_where_the_device_failed(rt: HostRuntime) -> Result<(), Fail> {
     for (fails, steps, broken) in [
@@ -528,17 +551,8 @@ fn fuse_is_broken_where_the_device_failed(rt: HostRuntime) -> Result<(), Fail> {
         ([3], [FIRST, FIRST], false),
     ] {
         let mut memory = eight_bytes(rt.alloc(), &fails, &[1], 0)?;
-        let mut fused = Fused::new(&mut memory);
-        fused.arm(2);
-        for step in steps {
-            let _ = make(&mut fused, step);
-        }
-        assert!(rt; fused.spent());
-        assert_eq!(rt; fused.broken(), broken);
-        fused.lift();
-        assert_eq!(rt; byte_at(&mut fused, 0), None);
-        assert!(rt; fused.broken());
-        fused.end();
+        let after = fuse_after(&mut memory, steps);
+        assert_eq!(rt; after, (true, broken, true));
     }
     Ok(())
 }
