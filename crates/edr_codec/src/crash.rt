@@ -9,7 +9,8 @@ ghost use Rattle.edr_codec.specs.Rows.{fields_of, row_size};
 use crate::Damaged;
 use crate::pieces::{PartValue, put_all, put_zeros, read_all};
 use crate::rows::{FieldRow, check_rows};
-use edr_image::forms::{CrashForm, VERSION_1, VERSION_2};
+use edr_image::forms::{CrashForm, OLD_CRASH_SIZE, VERSION_1, VERSION_2};
+use edr_image::places::CRASH_SIZE;
 use edr_record::{
     Crash, EARLIEST_END, Extreme, GREATEST_CHANGE, POINTS, RESET, point_count, window_from_end,
 };
@@ -129,8 +130,8 @@ pub fn read_crash_by(bytes: &[u8], form: &CrashForm) -> Result<Crash, Damaged>
     Ok(crash_from(bytes))
 }
 
-/// Writes the 160 bytes that spell a crash part, whatever stood there before.
-pub fn put_crash(crash: &Crash, out: &mut [u8; 160])
+/// Writes the bytes that spell a crash part, whatever stood there before.
+pub fn put_crash(crash: &Crash, out: &mut [u8; CRASH_SIZE])
     ensures { out.new ≡ crash_bytes crash.now }
 {
     put_crash_by(crash, out, &VERSION_2.crash);
@@ -138,7 +139,7 @@ pub fn put_crash(crash: &Crash, out: &mut [u8; 160])
 
 /// The crash part that the bytes spell. Else the answer is the first byte with which they begin none: an end of `00 13`,
 /// say, which is 19 ms, is damaged at its second byte.
-pub fn read_crash(bytes: &[u8; 160]) -> Result<Crash, Damaged>
+pub fn read_crash(bytes: &[u8; CRASH_SIZE]) -> Result<Crash, Damaged>
     ensures read { IfOk result (λ c. c ≡ crash_at bytes.now 0) }
     ensures whole { OnOk result (crash_damage bytes.now 0 ≡ None) }
     ensures damaged { IfErr result (λ d. crash_damage bytes.now 0 ≡ Some d.offset) }
@@ -148,7 +149,7 @@ pub fn read_crash(bytes: &[u8; 160]) -> Result<Crash, Damaged>
 }
 
 /// The same of a crash part of version 1.
-pub fn read_old_crash(bytes: &[u8; 320]) -> Result<Crash, Damaged>
+pub fn read_old_crash(bytes: &[u8; OLD_CRASH_SIZE]) -> Result<Crash, Damaged>
     ensures read { IfOk result (λ c. c ≡ crash_at bytes.now 0) }
     ensures whole { OnOk result (old_crash_damage bytes.now 0 ≡ None) }
     ensures damaged { IfErr result (λ d. old_crash_damage bytes.now 0 ≡ Some d.offset) }

@@ -12,7 +12,8 @@ use crate::Damaged;
 use crate::pieces::{PartValue, put_all, put_bytes, put_zeros, read_all};
 use crate::rows::{FieldRow, check_rows};
 use byteorder::{BigEndian, ByteOrder};
-use edr_image::forms::{PreForm, VERSION_1, VERSION_2};
+use edr_image::forms::{OLD_PRE_SIZE, PreForm, VERSION_1, VERSION_2};
+use edr_image::places::PRE_SIZE;
 use edr_items::LATEST_MOMENT;
 use edr_record::{Key, LONGEST_PAIR, Place, Pre, Profile, Slots};
 
@@ -250,8 +251,8 @@ pub fn read_pre_by(bytes: &[u8], form: &PreForm) -> Result<Pre, Damaged>
     Ok(pre_from(bytes, form))
 }
 
-/// Writes the 848 bytes that spell a pre part, whatever stood there before.
-pub fn put_pre(pre: &Pre, out: &mut [u8; 848])
+/// Writes the bytes that spell a pre part, whatever stood there before.
+pub fn put_pre(pre: &Pre, out: &mut [u8; PRE_SIZE])
     ensures { out.new ≡ pre_bytes pre.now }
 {
     put_pre_by(pre, out, &VERSION_2.pre);
@@ -259,7 +260,7 @@ pub fn put_pre(pre: &Pre, out: &mut [u8; 848])
 
 /// The pre part that the bytes spell. Else the answer is the first byte with which they begin none: a speed of `01 2d`, say,
 /// which is 301 km/h, is damaged at its second byte.
-pub fn read_pre(bytes: &[u8; 848]) -> Result<Pre, Damaged>
+pub fn read_pre(bytes: &[u8; PRE_SIZE]) -> Result<Pre, Damaged>
     ensures read { IfOk result (λ p. p ≡ pre_at bytes.now 0) }
     ensures whole { OnOk result (pre_damage bytes.now 0 ≡ None) }
     ensures damaged { IfErr result (λ d. pre_damage bytes.now 0 ≡ Some d.offset) }
@@ -269,7 +270,7 @@ pub fn read_pre(bytes: &[u8; 848]) -> Result<Pre, Damaged>
 }
 
 /// The same of a pre part of version 1.
-pub fn read_old_pre(bytes: &[u8; 160]) -> Result<Pre, Damaged>
+pub fn read_old_pre(bytes: &[u8; OLD_PRE_SIZE]) -> Result<Pre, Damaged>
     ensures read { IfOk result (λ p. p ≡ old_pre_at bytes.now 0) }
     ensures whole { OnOk result (old_pre_damage bytes.now 0 ≡ None) }
     ensures damaged { IfErr result (λ d. old_pre_damage bytes.now 0 ≡ Some d.offset) }

@@ -5,7 +5,7 @@ ghost use Rattle.edr_definitions.specs.OpenCrash.{begin_axis, next_axis, next_po
 ghost use Rattle.edr_crashpart.specs.Bounds.{IsInRange};
 ghost use Rattle.edr_crashpart.specs.Fields.{axis_of, peak_of};
 
-use edr_record::{Extreme, LONGEST_WINDOW, POINTS};
+use edr_record::{Extreme, LAST_POINT, LONGEST_WINDOW, POINT_STEP, POINTS};
 use edr_units::kmh;
 
 // A change of speed since time zero, and its time from there.
@@ -50,8 +50,8 @@ fn note_point(points: &mut [i16; POINTS], sum: i64, at: u16)
     requires { unsigned_abs sum ≤ 100_000 * at }
     ensures { points.new ≡ next_points points.old sum at }
 {
-    if at % 10 == 0 && at <= 250 {
-        points[usize::from(at / 10)] = whole_kmh(sum);
+    if at % POINT_STEP == 0 && at <= LAST_POINT {
+        points[usize::from(at / POINT_STEP)] = whole_kmh(sum);
     }
 }
 

@@ -7,7 +7,7 @@ use Rattle.edr_record.specs.declared.Command.{Command}
 use Rattle.edr_record.specs.declared.Command.TheVariants.{Take, Lock, Done}
 use Rattle.edr_record.specs.Bounds.{IsPre, IsCrash}
 use Rattle.edr_record.specs.declared.TheConstants.{EARLIEST_END, RESET}
-use Rattle.edr_definitions.specs.declared.limits.TheConstants.{LONGEST_AGE, OVER, TRIGGER, QUIET_SQUARES}
+use Rattle.edr_definitions.specs.declared.limits.TheConstants.{ACROSS_TICKS, ALONG_TICKS, LONGEST_AGE, OVER, QUIET_SQUARES, QUIET_TICKS, TRIGGER, TRIGGER_TICKS}
 use Rattle.edr_definitions.specs.Ticks.{IsFirst, HoldsNowhere}
 use Rattle.edr_definitions.specs.Signals.{Signals, signals_of}
 use Rattle.edr_definitions.specs.Windows.{delta_v, size_of_change, squares}
@@ -27,17 +27,17 @@ pub record Reaches (axis : ℕ → Option ℤ) (k from t size : ℕ) : Type 0 wh
 -- a restraint fires at t, or a change within 150 ms meets the trigger threshold
 abbrev pub IsTriggered : Signals → ℕ → ℕ → Type 0
 IsTriggered m since t =
-    (m.fired t ≢ 0) ⊎ (Reaches m.along 150 since t TRIGGER ⊎ Reaches m.across 150 since t TRIGGER)
+    (m.fired t ≢ 0) ⊎ (Reaches m.along TRIGGER_TICKS since t TRIGGER ⊎ Reaches m.across TRIGGER_TICKS since t TRIGGER)
 
 -- past the bound, a change of over 0.8 km/h along within 20 ms or across within 5 ms, or the trigger
 abbrev pub IsTimeZero : Signals → Bounds → ℕ → Type 0
 IsTimeZero m from t =
-    (from.after < t) × (Reaches m.along 20 from.after t (OVER + 1) ⊎ (Reaches m.across 5 from.after t (OVER + 1) ⊎ IsTriggered m from.since t))
+    (from.after < t) × (Reaches m.along ALONG_TICKS from.after t (OVER + 1) ⊎ (Reaches m.across ACROSS_TICKS from.after t (OVER + 1) ⊎ IsTriggered m from.since t))
 
 -- the reset 500 ms after time zero, or, at least 20 ms after it, quiet changes of the last 20 ms
 abbrev pub IsEnd : Signals → ℕ → ℕ → Type 0
 IsEnd m z t =
-    (t ≡ z + RESET) ⊎ ((z + 20 ≤ t) × (squares (delta_v m.along (t - 20) t) (delta_v m.across (t - 20) t) ≤ QUIET_SQUARES))
+    (t ≡ z + RESET) ⊎ ((z + EARLIEST_END ≤ t) × (squares (delta_v m.along (t - QUIET_TICKS) t) (delta_v m.across (t - QUIET_TICKS) t) ≤ QUIET_SQUARES))
 
 -- ---- candidates
 

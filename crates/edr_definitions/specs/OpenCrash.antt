@@ -4,7 +4,7 @@ use Rattle.std.specs.Option.{option_or}
 use Rattle.std.specs.Int.{bit_at}
 use Rattle.std.specs.List.{range_with_len}
 use Rattle.edr_record.specs.Parts.{CrashPart}
-use Rattle.edr_record.specs.declared.TheConstants.{LONGEST_WINDOW}
+use Rattle.edr_record.specs.declared.TheConstants.{LAST_POINT, LONGEST_WINDOW, POINT_STEP}
 use Rattle.edr_record.specs.Bounds.{most_points}
 use Rattle.edr_definitions.specs.Signals.{Signals}
 use Rattle.edr_definitions.specs.Windows.{delta_v, size_of_change, squares}
@@ -44,11 +44,11 @@ edge z t = z + min LONGEST_WINDOW (t - z) + 1
 
 -- how many points there are d ticks past time zero
 abbrev pub points_by : ℕ → ℕ
-points_by d = min 250 d / 10 + 1
+points_by d = min LAST_POINT d / POINT_STEP + 1
 
 -- the change since z at every tenth tick of the first d, up to 250 ms, and 0 past them
 unfoldable pub points_to : (ℕ → Option ℤ) → ℕ → ℕ → List ℤ
-points_to axis z d = map (λ k. kmh_of (delta_v axis z (z + 10 * k))) (range_with_len 0 (points_by d)) ++ replicate (most_points - points_by d) (pos 0)
+points_to axis z d = map (λ k. kmh_of (delta_v axis z (z + POINT_STEP * k))) (range_with_len 0 (points_by d)) ++ replicate (most_points - points_by d) (pos 0)
 
 -- the greatest size of a change since z over the ticks `z..b`, and where it comes first
 unfoldable pub peak_of : (ℕ → Option ℤ) → ℕ → ℕ → Peak
@@ -109,7 +109,7 @@ begin_crash z fired = record {
 
 -- the points with one tick more, d ticks past time zero
 abbrev pub next_points : List ℤ → ℤ → ℕ → List ℤ
-next_points points sum d = if nat_eq (d % 10) 0 && nat_le d 250 then slice_set points (d / 10) (kmh_of sum) else points
+next_points points sum d = if nat_eq (d % POINT_STEP) 0 && nat_le d LAST_POINT then slice_set points (d / POINT_STEP) (kmh_of sum) else points
 
 -- the peak, or this change where its size is greater
 abbrev pub higher : Peak → ℤ → ℕ → Peak

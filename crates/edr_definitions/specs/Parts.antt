@@ -5,7 +5,7 @@ use Rattle.std.specs.Int.{bit_at}
 use Rattle.std.specs.List.{range_with_len}
 use Rattle.edr_items.specs.declared.Item.{Item}
 use Rattle.edr_items.specs.SensorLists.{SensorLists}
-use Rattle.edr_record.specs.declared.TheConstants.{LONG_SLOTS, SINGLE_REACH, SLOT_REACH, SLOT_STEP}
+use Rattle.edr_record.specs.declared.TheConstants.{LONG_SLOTS, POINT_STEP, SINGLE_REACH, SLOT_REACH, SLOT_STEP}
 use Rattle.edr_record.specs.declared.Place.{Place}
 use Rattle.edr_record.specs.declared.Profile.TheVariants.{Long}
 use Rattle.edr_record.specs.declared.Extreme.{Extreme}
@@ -72,7 +72,7 @@ first_greatest f a b = unwrap_or (first_tick (λ t. nat_eq (f t) (greatest f a b
 
 -- delta-V from z at each tenth tick, up to 30 ms past the end and to 250 ms (563.7 Tables I and II, delta-V)
 unfoldable pub points : (ℕ → Option ℤ) → ℕ → ℕ → List ℤ
-points axis z e = map (λ k. kmh_of (delta_v axis z (z + 10 * k))) (range_with_len 0 (point_count (e - z)))
+points axis z e = map (λ k. kmh_of (delta_v axis z (z + POINT_STEP * k))) (range_with_len 0 (point_count (e - z)))
 
 -- the points, and 0 past them, as far as a crash part has room
 abbrev pub all_points : (ℕ → Option ℤ) → ℕ → ℕ → List ℤ

@@ -1,8 +1,9 @@
 -- Which events the recorder selects from the signals of a cycle.
 use Rattle.std.specs.Prelude.{ℕ, zero, suc, ◌+◌, ◌-◌, max, Bool, not, ◌&&◌, ◌||◌, nat_eq, nat_lt, nat_le, if◌then◌else◌, Option, Some, None, unwrap_or, List, [], ◌∷◌, filter_map}
 use Rattle.std.specs.Option.{option_map_or}
-use Rattle.edr_record.specs.declared.TheConstants.{RESET}
+use Rattle.edr_record.specs.declared.TheConstants.{EARLIEST_END, RESET}
 use Rattle.edr_record.specs.Bounds.{window_from_end}
+use Rattle.edr_definitions.specs.declared.limits.TheConstants.{ACROSS_TICKS, ALONG_TICKS, QUIET_TICKS, TRIGGER_TICKS}
 use Rattle.edr_definitions.specs.Ticks.{first_tick}
 use Rattle.edr_definitions.specs.Signals.{Signals}
 use Rattle.edr_definitions.specs.Windows.{delta_v, swing, is_over, meets_trigger, is_quiet}
@@ -17,17 +18,17 @@ pub record Bounds : Type 0 where
 -- a restraint fires at t, or a change within 150 ms on either axis meets the trigger threshold (563.5, event)
 unfoldable pub is_triggered : Signals → ℕ → ℕ → Bool
 is_triggered m since t =
-    not (nat_eq (m.fired t) 0) || meets_trigger (swing m.along 150 since t) || meets_trigger (swing m.across 150 since t)
+    not (nat_eq (m.fired t) 0) || meets_trigger (swing m.along TRIGGER_TICKS since t) || meets_trigger (swing m.across TRIGGER_TICKS since t)
 
 -- past the bound, a change of over 0.8 km/h along within 20 ms or across within 5 ms, or the trigger (563.5, time zero)
 unfoldable pub is_time_zero : Signals → Bounds → ℕ → Bool
 is_time_zero m from t =
-    nat_lt from.after t && (is_over (swing m.along 20 from.after t) || is_over (swing m.across 5 from.after t) || is_triggered m from.since t)
+    nat_lt from.after t && (is_over (swing m.along ALONG_TICKS from.after t) || is_over (swing m.across ACROSS_TICKS from.after t) || is_triggered m from.since t)
 
 -- the reset 500 ms after time zero, or, at least 20 ms after it, quiet changes of the last 20 ms (563.5, end of event time)
 unfoldable pub is_end : Signals → ℕ → ℕ → Bool
 is_end m z t =
-    nat_eq t (z + RESET) || (nat_le (z + 20) t && is_quiet (delta_v m.along (t - 20) t) (delta_v m.across (t - 20) t))
+    nat_eq t (z + RESET) || (nat_le (z + EARLIEST_END) t && is_quiet (delta_v m.along (t - QUIET_TICKS) t) (delta_v m.across (t - QUIET_TICKS) t))
 
 -- ---- end and close
 

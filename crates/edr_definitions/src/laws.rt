@@ -3,7 +3,7 @@
 ghost use Rattle.std.specs.Prelude.{◌≡◌, ℕ, ◌+◌, ◌<◌, ◌≤◌, ◌↔◌, Bool, List, Option, Some, None, ℤ, IsTrue, ◌⊎◌, [], ◌∷◌, ◌++◌, ◌*◌, ◌/◌, length, All, pos, neg_ℤ};
 ghost use Rattle.edr_items.specs.declared.TheConstants.{LATEST_MOMENT};
 ghost use Rattle.edr_items.specs.declared.Sensor.{Sensor};
-ghost use Rattle.edr_definitions.specs.declared.limits.TheConstants.{STEPS_OF_KMH, OVER, TRIGGER, QUIET_SQUARES, LONGEST_AGE};
+ghost use Rattle.edr_definitions.specs.declared.limits.TheConstants.{STEPS_OF_KMH, OVER, TRIGGER, QUIET_SQUARES, ALONG_TICKS, ACROSS_TICKS, TRIGGER_TICKS, QUIET_TICKS, LONGEST_AGE};
 ghost use Rattle.edr_items.specs.declared.Item.{Item};
 ghost use Rattle.edr_items.specs.Item.{IsFeed, IsRising};
 ghost use Rattle.edr_items.specs.SensorLists.{SensorLists, items_of, AreFeeds, horizon_of};
@@ -82,12 +82,17 @@ pub fn whole_kmh_are_half_away_from_zero()
     ensures mirrored { (z : ℤ) → kmh_of (neg_ℤ z) ≡ neg_ℤ (kmh_of z) }
 {}
 
-/// The limits are 1 km/h, 0.8 km/h, 8 km/h, a resultant of 0.8 km/h, and 100 ms.
+/// The limits are 1 km/h, 0.8 km/h, 8 km/h, a resultant of 0.8 km/h, within 20 and 5 ms, within 150 ms and over 20 ms, and
+/// 100 ms.
 pub fn limits_are_the_numbers()
     ensures kmh { STEPS_OF_KMH ≡ 10_000 }
     ensures over { OVER ≡ 8_000 }
     ensures trigger { TRIGGER ≡ 80_000 }
     ensures quiet { QUIET_SQUARES ≡ 64_000_000 }
+    ensures along_ticks { ALONG_TICKS ≡ 20 }
+    ensures across_ticks { ACROSS_TICKS ≡ 5 }
+    ensures trigger_ticks { TRIGGER_TICKS ≡ 150 }
+    ensures quiet_ticks { QUIET_TICKS ≡ 20 }
     ensures age { LONGEST_AGE ≡ 100 }
 {}
 

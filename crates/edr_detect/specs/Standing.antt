@@ -1,5 +1,6 @@
 -- What the windows of the streaming search hold.
 use Rattle.std.specs.Prelude.{◌≡◌, ℕ, ◌+◌, ◌≤◌, ℤ, pos, Bool, false, if◌then◌else◌, Option, None}
+use Rattle.edr_definitions.specs.declared.limits.TheConstants.{ACROSS_TICKS, ALONG_TICKS, TRIGGER_TICKS}
 use Rattle.edr_definitions.specs.Signals.{Signals}
 use Rattle.edr_definitions.specs.Windows.{change_at, swing}
 use Rattle.edr_definitions.specs.Selection.{Bounds, is_triggered, is_time_zero, is_end}
@@ -19,10 +20,10 @@ use Rattle.edr_detect.specs.Stages.{phase_of, is_event}
 
 -- at the tick t, in a search with these bounds, the swings hold the changes past the bounds
 pub record SwingsStandFor (m : Signals) (b : Bounds) (t : ℕ) (w : Windows) : Type 0 where
-  pub zero_along : SwingStandsFor 20 w.zero_along (changes m.along b.after t)
-  pub zero_across : SwingStandsFor 5 w.zero_across (changes m.across b.after t)
-  pub trigger_along : SwingStandsFor 150 w.trigger_along (changes m.along b.since t)
-  pub trigger_across : SwingStandsFor 150 w.trigger_across (changes m.across b.since t)
+  pub zero_along : SwingStandsFor ALONG_TICKS w.zero_along (changes m.along b.after t)
+  pub zero_across : SwingStandsFor ACROSS_TICKS w.zero_across (changes m.across b.after t)
+  pub trigger_along : SwingStandsFor TRIGGER_TICKS w.trigger_along (changes m.along b.since t)
+  pub trigger_across : SwingStandsFor TRIGGER_TICKS w.trigger_across (changes m.across b.since t)
 
 -- what the tests of a phase ask: the sums are those of the last 20 ticks, and where no event is open the swings hold their changes
 pub record WindowsStandFor (m : Signals) (b : Bounds) (p : Phase) (t : ℕ) (w : Windows) : Type 0 where
@@ -45,10 +46,10 @@ pub record HoldNothing (w : Windows) : Type 0 where
 
 -- at the tick t no change that counts for a time zero or the trigger differs from 0
 pub record AreStill (m : Signals) (b : Bounds) (t : ℕ) : Type 0 where
-  pub zero_along : swing m.along 20 b.after t ≡ 0
-  pub zero_across : swing m.across 5 b.after t ≡ 0
-  pub trigger_along : swing m.along 150 b.since t ≡ 0
-  pub trigger_across : swing m.across 150 b.since t ≡ 0
+  pub zero_along : swing m.along ALONG_TICKS b.after t ≡ 0
+  pub zero_across : swing m.across ACROSS_TICKS b.after t ≡ 0
+  pub trigger_along : swing m.along TRIGGER_TICKS b.since t ≡ 0
+  pub trigger_across : swing m.across TRIGGER_TICKS b.since t ≡ 0
 
 -- since its restart no swing was given more than n values
 pub record PushedAtMost (n : ℕ) (w : Windows) : Type 0 where

@@ -3,10 +3,12 @@
 ghost use Rattle.std.specs.Prelude.{◌≡◌, ℕ, ◌+◌, ◌≤◌, pos, ℤ, Option, IsTrue, unsigned_abs};
 ghost use Rattle.edr_detect.specs.Sums.{IsSumOfSmall};
 
+use edr_definitions::limits::QUIET_TICKS;
+
 // The changes of the last 20 ticks, that of the tick u in the place u % 20, and their sum.
 #[derive(Drop)]
 pub struct Latest {
-    pub values: [i32; 20],
+    pub values: [i32; QUIET_TICKS],
     pub sum: i32,
     ghost sum_is: { IsSumOfSmall values sum },
 }
@@ -19,7 +21,7 @@ impl Latest {
         ensures { (axis : ℕ → Option ℤ) → change_at axis 0 ≡ pos 0 → LatestStandsFor axis 0 result.values result.sum }
     {
         Latest {
-            values: [0; 20],
+            values: [0; QUIET_TICKS],
             sum: 0,
         }
     }
@@ -29,7 +31,7 @@ impl Latest {
         requires { unsigned_abs change ≤ 100_000 }
         ensures { (axis : ℕ → Option ℤ) (before : ℕ) → t ≡ before + 1 → change_at axis 0 ≡ pos 0 → change_at axis t ≡ change → LatestStandsFor axis before self.old.values self.old.sum → LatestStandsFor axis t self.new.values self.new.sum }
     {
-        let place = (t % 20) as usize;
+        let place = (t % QUIET_TICKS as u32) as usize;
         self.sum = self.sum - self.values[place] + change;
         self.values[place] = change;
     }
@@ -38,6 +40,6 @@ impl Latest {
     pub fn is_zero(&self) -> bool
         ensures { IsTrue result → AreZeros self.now.values }
     {
-        self.values == [0; 20]
+        self.values == [0; QUIET_TICKS]
     }
 }

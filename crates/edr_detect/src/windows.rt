@@ -6,8 +6,9 @@ ghost use Rattle.edr_detect.specs.Standing.{IsSizeOfSwing, HasNoSwing};
 
 use crate::latest::Latest;
 use crate::stage::{Change, Stage, Tests};
+use edr_definitions::limits::{ACROSS_TICKS, ALONG_TICKS, TRIGGER_TICKS};
 use edr_items::Restraints;
-use edr_record::RESET;
+use edr_record::{EARLIEST_END, RESET};
 use edr_units::{over, quiet, trigger};
 use edr_window::Swing;
 
@@ -15,10 +16,10 @@ use edr_window::Swing;
 // trigger; and those of the last 20 ticks, for an end.
 #[derive(Drop)]
 pub struct Windows {
-    pub zero_along: Swing<20>,
-    pub zero_across: Swing<5>,
-    pub trigger_along: Swing<150>,
-    pub trigger_across: Swing<150>,
+    pub zero_along: Swing<ALONG_TICKS>,
+    pub zero_across: Swing<ACROSS_TICKS>,
+    pub trigger_along: Swing<TRIGGER_TICKS>,
+    pub trigger_across: Swing<TRIGGER_TICKS>,
     pub latest_along: Latest,
     pub latest_across: Latest,
 }
@@ -153,7 +154,7 @@ impl Windows {
     {
         let passed = t.saturating_sub(zero);
         passed == u32::from(RESET)
-            || (passed >= 20
+            || (passed >= u32::from(EARLIEST_END)
                 && quiet(
                     i64::from(self.latest_along.sum),
                     i64::from(self.latest_across.sum),

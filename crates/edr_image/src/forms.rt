@@ -72,6 +72,12 @@ impl Layout {
 /// How many bytes a bank of version 1 has.
 pub const OLD_BANK_SIZE: usize = 512;
 
+/// How many bytes its pre part has.
+pub const OLD_PRE_SIZE: usize = 160;
+
+/// How many bytes its crash part has.
+pub const OLD_CRASH_SIZE: usize = 320;
+
 /// Version 1: there is the short profile alone, whose byte is 0, and the lists have no room past its slots.
 pub const VERSION_1: Layout = Layout {
     version: 1,

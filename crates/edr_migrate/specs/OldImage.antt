@@ -5,6 +5,10 @@ use Rattle.edr_image.specs.declared.places.TheConstants.{FEWEST_BANKS, MOST_BANK
 use Rattle.edr_image.specs.Image.{View, old_banks_of, old_image_size}
 use Rattle.edr_migrate.specs.Migrated.{IsWhole}
 
+-- the most bytes that an image of version 1 is read from, as many as a source may give
+abbrev pub largest_old : ℕ
+largest_old = 67_108_864
+
 -- what its bytes say, with this header and this count
 abbrev pub view_in : Header → ℕ → List ℕ → View
 view_in h count old = record { store = record { header = h; banks = old_banks_of h.banks old }; count = count }

@@ -10,6 +10,7 @@ ghost use Rattle.edr_banks.specs.Laying.{LacksMagic, LeavesSince, SettlesIn};
 ghost use Rattle.edr_migrate.specs.Causes.{HasRoom, IsCause, LacksRoom, fault_of, laying_fault, new_size};
 ghost use Rattle.edr_migrate.specs.Migrated.{IsWhole, migrated_of};
 ghost use Rattle.edr_migrate.specs.NewBytes.{Completes, IsKeptAnew, IsMigrated, IsPartlyMigrated};
+ghost use Rattle.edr_migrate.specs.OldImage.{largest_old};
 ghost use Rattle.edr_migrate.specs.declared.MigrateFault.TheVariants.{Short, Formatted, StoreFault};
 
 pub mod laws;
@@ -81,7 +82,7 @@ impl From<FormatFault> for MigrateFault {
 
 /// What a migration of an image of version 1 keeps, or why there is none. Bytes past the image are not read.
 pub fn check(old: &[u8]) -> Result<Migrated, OldRefused>
-    requires { length old.now ≤ 67_108_864 }
+    requires { length old.now ≤ largest_old }
     ensures passed { IfOk result (λ m. (v : View) × IsWhole old.now v × (m ≡ migrated_of v)) }
     ensures refused { IfErr result (λ e. old_refusal old.now ≡ Some e) }
     // It is refused exactly where it has no view, or a damaged bank.
@@ -98,7 +99,7 @@ pub fn check(old: &[u8]) -> Result<Migrated, OldRefused>
 ///
 /// A crash inside the call leaves the bytes as they were, or without the magic, or the new image.
 pub fn migrate<N: Nvm>(nvm: &mut N, old: &[u8]) -> Result<Migrated, MigrateFault>
-    requires { length old.now ≤ 67_108_864 }
+    requires { length old.now ≤ largest_old }
     ensures lent { GoesOn N.Nvm nvm.old nvm.new }
     ensures later { N.clock nvm.old ≤ N.clock nvm.new }
     ensures faults { N.faults nvm.old ≤ N.faults nvm.new }

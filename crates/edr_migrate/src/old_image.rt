@@ -4,7 +4,7 @@ ghost use Rattle.edr_image.specs.declared.forms.TheConstants.{OLD_BANK_SIZE};
 ghost use Rattle.edr_image.specs.declared.places.TheConstants.{FEWEST_BANKS, MOST_BANKS};
 ghost use Rattle.edr_image.specs.Image.{old_bank_view, old_banks_of, old_banks_refusal, old_image_size, old_place_of, old_refusal};
 ghost use Rattle.edr_migrate.specs.Migrated.{is_event, migrated_of};
-ghost use Rattle.edr_migrate.specs.OldImage.{IsOld, view_in};
+ghost use Rattle.edr_migrate.specs.OldImage.{IsOld, largest_old, view_in};
 ghost use Rattle.edr_migrate.specs.NewBytes.{image_of};
 
 use crate::Migrated;
@@ -80,7 +80,7 @@ fn count_events(old: &[u8], banks: u8) -> Result<u8, OldRefused>
 /// Reads an image of version 1: of several causes to refuse it the one that [`OldRefused`] has first, but that it is too
 /// short for its banks comes behind its header.
 pub(crate) fn read_old(old: &[u8]) -> Result<OldImage, OldRefused>
-    requires few { length old.now ≤ 67_108_864 }
+    requires few { length old.now ≤ largest_old }
     ensures read { IfOk result (λ o. (o.bytes.now ≡ old.now) × IsOld o.header o.count o.bytes.now
         × (o.events ≡ count_by is_event (old_banks_of o.header.banks o.bytes.now))) }
     ensures refused { IfErr result (λ e. old_refusal old.now ≡ Some e) }

@@ -1,7 +1,7 @@
 -- Which values the fields of a record may have.
 use Rattle.std.specs.Prelude.{◌≡◌, ℕ, ◌+◌, ◌-◌, ◌/◌, ◌≤◌, min, max, ℤ, pos, unsigned_abs, Option, Some, IfSome, List, length, drop, replicate, slice_get, All}
 use Rattle.edr_items.specs.declared.TheConstants.{LATEST_MOMENT}
-use Rattle.edr_record.specs.declared.TheConstants.{EARLIEST_END, GREATEST_CHANGE, LONG_SLOTS, LONGEST_PAIR, LONGEST_WINDOW, POINTS, RESET, SHORT_SLOTS}
+use Rattle.edr_record.specs.declared.TheConstants.{EARLIEST_END, GREATEST_CHANGE, LAST_POINT, LONG_SLOTS, LONGEST_PAIR, LONGEST_WINDOW, POINT_STEP, POINTS, RESET, SHORT_SLOTS, TIME_PAST_END}
 use Rattle.edr_record.specs.declared.Place.{Place}
 use Rattle.edr_record.specs.declared.Place.TheVariants.{First, Second}
 use Rattle.edr_record.specs.declared.Extreme.{Extreme}
@@ -46,11 +46,11 @@ IsPre p = IsPreWithSlots (slots_in p.profile) p
 
 -- how long after time zero extremes and missing samples are looked for: 300 ms, or 30 ms past the end if that is shorter (563.7 Table I, maximum delta-V)
 abbrev pub window_from_end : ℕ → ℕ
-window_from_end end = min LONGEST_WINDOW (end + 30)
+window_from_end end = min LONGEST_WINDOW (end + TIME_PAST_END)
 
 -- how many points a crash part has: one at time zero and at each tenth tick after it (563.7 Table I, delta-V)
 abbrev pub point_count : ℕ → ℕ
-point_count end = min 250 (end + 30) / 10 + 1
+point_count end = min LAST_POINT (end + TIME_PAST_END) / POINT_STEP + 1
 
 -- how many points a crash part has room for
 abbrev pub most_points : ℕ

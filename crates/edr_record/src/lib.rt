@@ -37,8 +37,17 @@ pub const LONGEST_WINDOW: u16 = 300;
 /// The greatest change of speed that samples in range can give, in km/h.
 pub const GREATEST_CHANGE: u32 = 3_000;
 
+/// How far past its end the points of an event go on, and the window in which extremes are looked for, in milliseconds.
+pub const TIME_PAST_END: u16 = 30;
+
+/// How far apart two points of an axis are that follow one another, in milliseconds. The first one lies at time zero.
+pub const POINT_STEP: u16 = 10;
+
+/// How long after time zero the last point of an axis lies at the most, in milliseconds.
+pub const LAST_POINT: u16 = 250;
+
 /// How many points an axis of a crash part has room for.
-pub const POINTS: usize = 26;
+pub const POINTS: usize = LAST_POINT as usize / POINT_STEP as usize + 1;
 
 /// Names an event: the ignition cycle, and its time zero there in milliseconds.
 #[derive(Clone, Copy, Debug, PartialEq, Eq)]
@@ -156,7 +165,7 @@ pub struct Record {
 pub fn point_count(end: u16) -> usize
     ensures { result ≡ point_count end }
 {
-    (usize::from(end) + 30).min(250) / 10 + 1
+    usize::from(end.saturating_add(TIME_PAST_END).min(LAST_POINT) / POINT_STEP) + 1
 }
 
 /// How long after time zero extremes and missing samples are looked for, by the time of the end, in milliseconds.
@@ -164,7 +173,7 @@ pub fn point_count(end: u16) -> usize
 pub fn window_from_end(end: u16) -> u16
     ensures { result ≡ window_from_end end }
 {
-    end.saturating_add(30).min(LONGEST_WINDOW)
+    end.saturating_add(TIME_PAST_END).min(LONGEST_WINDOW)
 }
 
 // Each slot has a value.
@@ -265,7 +274,8 @@ pub enum Command {
 
 /// Lists have eleven slots, or 201, at each tenth of a second from 20 s before time zero on; belt and lamp have one, 1 s
 /// before it. The two events of a pair begin at most 5 s apart, and each ends 20 to 500 ms past its time zero. An
-/// axis has room for 26 points, of at most 3,000 km/h, and extremes are looked for 300 ms at the most.
+/// axis has room for 26 points, one at each 10 ms up to 250 ms, of at most 3,000 km/h, and extremes are looked for 300 ms
+/// at the most. Points and extremes go on up to 30 ms past the end.
 pub fn times_are_those_of_a_record()
     ensures short { SHORT_SLOTS ≡ 11 }
     ensures long { LONG_SLOTS ≡ 201 }
@@ -277,5 +287,8 @@ pub fn times_are_those_of_a_record()
     ensures reset { RESET ≡ 500 }
     ensures window { LONGEST_WINDOW ≡ 300 }
     ensures change { GREATEST_CHANGE ≡ 3_000 }
+    ensures past { TIME_PAST_END ≡ 30 }
+    ensures point_step { POINT_STEP ≡ 10 }
+    ensures last_point { LAST_POINT ≡ 250 }
     ensures points { POINTS ≡ 26 }
 {}
