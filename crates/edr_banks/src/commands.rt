@@ -33,7 +33,6 @@ impl Banks {
         ensures ended { self.old.ended ≡ true → (result ≡ Err Ended) × (self.new ≡ self.old) × (nvm.new ≡ nvm.old) }
         ensures fault { IfErr result (λ e. self.old.ended ≡ false → (e ≡ StoreFault) × Rose (N.faults nvm.old) (N.faults nvm.new)) }
         ensures spoiled { OnErr result (self.new ≡ ended_after self.old) }
-        ensures later { N.faults nvm.old ≤ N.faults nvm.new }
         ensures time { self.old.ended ≡ false
             → MakesCalls (all_calls (steps_for self.old command.now)) N.Nvm nvm.old nvm.new result }
         // The steps may be taken on these banks.

@@ -35,7 +35,6 @@ fn read_banks<N: Nvm>(alloc: Global, nvm: &mut N, count: u8) -> Result<Vec<BankV
         ForSome (N.content nvm.old) (λ bytes. v.items ≡ banks_of count bytes)) }
     ensures all { IfOk result (λ v. length v.items ≡ count) }
     ensures fault { IfErr result (λ e. (e ≡ OutOfMemory) ⊎ ((e ≡ StoreFault) × Rose (N.faults nvm.old) (N.faults nvm.new))) }
-    ensures later { N.faults nvm.old ≤ N.faults nvm.new }
     ensures read { OnlyRead N.Nvm nvm.old nvm.new }
 {
     let Ok(mut banks) = Vec::with_capacity(alloc, count as usize) else {
@@ -84,7 +83,6 @@ impl Banks {
         ensures short { N.extent nvm.old < FRONT_SIZE → result ≡ Err (Short (N.extent nvm.old) FRONT_SIZE) }
         ensures sizes { IfErr result (λ e. (size needed : ℕ) → e ≡ Short size needed → (size ≡ N.extent nvm.old) × (size < needed)) }
         ensures fault { IfErr result (λ e. e ≡ StoreFault → Rose (N.faults nvm.old) (N.faults nvm.new)) }
-        ensures later { N.faults nvm.old ≤ N.faults nvm.new }
         ensures read { OnlyRead N.Nvm nvm.old nvm.new }
     {
         let size = nvm.size();

@@ -56,7 +56,6 @@ impl Banks {
         ensures formatted { IfErr result (HasRoomAndMagic (N.content nvm.old) (N.extent nvm.old) (image_size banks)) }
         ensures not_formatted { OnOk result ((bytes : List ℕ) → N.content nvm.old ≡ Some bytes → LacksMagic bytes) }
         ensures fault { IfErr result (λ e. e ≡ StoreFault → Rose (N.faults nvm.old) (N.faults nvm.new)) }
-        ensures faults { N.faults nvm.old ≤ N.faults nvm.new }
         // A refusal changes nothing; nor does a fault where the magic stands.
         ensures refused { IfErr result (λ e. e ≢ StoreFault → OnlyRead N.Nvm nvm.old nvm.new) }
         ensures magic_stays { (bytes : List ℕ) → N.content nvm.old ≡ Some bytes → not_magic bytes ≡ None

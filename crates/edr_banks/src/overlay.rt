@@ -98,7 +98,6 @@ pub fn lay<N: Nvm, I: Image>(nvm: &mut N, image: &I) -> Result<(), FormatFault>
     ensures not_formatted { OnOk result ((bytes : List ℕ) → N.content nvm.old ≡ Some bytes → LacksMagic bytes) }
     ensures fault { IfErr result (λ e. e ≡ StoreFault → (full_size I.Image image.now ≤ N.extent nvm.old)
         × Rose (N.faults nvm.old) (N.faults nvm.new)) }
-    ensures faults { N.faults nvm.old ≤ N.faults nvm.new }
     ensures room { OnOk result (full_size I.Image image.now ≤ N.extent nvm.old) }
     // A refusal changes nothing; nor does a fault where the magic stands.
     ensures refused { IfErr result (λ e. e ≢ StoreFault → OnlyRead N.Nvm nvm.old nvm.new) }

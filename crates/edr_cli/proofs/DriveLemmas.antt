@@ -9,9 +9,10 @@ use Rattle.edr_spell.specs.Spell.{Spell, largest_trace}
 use Rattle.edr_run.specs.Cycle.{last_count}
 use Rattle.edr_cycle.specs.declared.started.StartFault.{StartFault}
 use Rattle.edr_cycle.specs.declared.started.StartFault.TheVariants as start
+use Rattle.edr_cycle.specs.Starts.{IsDeviceFault}
 use Rattle.edr_cli.specs.declared.fault.Fault.{Fault}
 use Rattle.edr_cli.specs.declared.fault.Fault.TheVariants as fault
-use Rattle.edr_replay.specs.Replayed.{EndsCutShort, EndsShort, EndsSpent, Holds, IsDeviceFault, IsMemory, IsTrulyRefused, IsTrulyShort, LeavesReached}
+use Rattle.edr_replay.specs.Replayed.{EndsCutShort, EndsShort, EndsSpent, Holds, IsMemory, IsTrulyRefused, IsTrulyShort, LeavesReached}
 use Rattle.edr_cli.specs.Causes.{IsDriveCause, RanCutShort}
 use Rattle.edr_cli.specs.Outside.{Input, IsAtEnd, Memory}
 use Rattle.edr_cli.specs.Reports.{Says}

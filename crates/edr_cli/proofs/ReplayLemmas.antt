@@ -14,11 +14,12 @@ use Rattle.edr_spell.specs.declared.CycleInput.{CycleInput}
 use Rattle.edr_run.specs.Cycle.{Outcome, IsRun}
 use Rattle.edr_cycle.specs.declared.started.StartFault.{StartFault}
 use Rattle.edr_cycle.specs.declared.started.StartFault.TheVariants as start
+use Rattle.edr_cycle.specs.Starts.{IsDeviceFault}
 use Rattle.edr_cli.specs.declared.fault.Fault.{Fault}
 use Rattle.edr_cli.specs.declared.fault.Fault.TheVariants as fault
 use Rattle.edr_words.specs.declared.Form.{Form}
 use Rattle.edr_replay.specs.Reached.{RanFirst, between}
-use Rattle.edr_replay.specs.Replayed.{Holds, HasRun, EndsShort, EndsSpent, IsDeviceFault, IsShortOf, IsTrulyRefused, IsTrulyShort, LeavesReached}
+use Rattle.edr_replay.specs.Replayed.{Holds, HasRun, EndsShort, EndsSpent, IsShortOf, IsTrulyRefused, IsTrulyShort, LeavesReached}
 use Rattle.edr_cli.specs.Causes.{GaveTrace, IsImageCause, IsImageRefused, IsReplayCause, IsSpent, LeavesRun, RanSome, ReachesByTrace}
 use Rattle.edr_cli.specs.Outside.{Input, IsAtEnd, Memory}
 use Rattle.edr_cli.specs.Reports.{Says, report_in}

@@ -45,7 +45,6 @@ pub fn command<S: Source, K: Sink, N: Nvm>(
     ensures lent { GoesOn N.Nvm nvm.old nvm.new }
     ensures source_later { S.faults source.old ≤ S.faults source.new }
     ensures sink_later { K.faults sink.old ≤ K.faults sink.new }
-    ensures later { N.faults nvm.old ≤ N.faults nvm.new }
     ensures write_fault { result ≡ Status.WriteFault → Rose (K.faults sink.old) (K.faults sink.new) }
 
     // Other words are a fault of usage, unless memory runs out. But by `replay` nothing is read, and a word that needs no device

@@ -49,7 +49,6 @@ fn run_driven<
     ensures text { IfOk result (λ out. OfMemory N.Nvm (Reports form cycles.items) nvm.old nvm.new out.items) }
     ensures cause { IfErr result (OfMemory N.Nvm (IsDrivenCause cycles.items) nvm.old nvm.new) }
     ensures lent { GoesOn N.Nvm nvm.old nvm.new }
-    ensures later { N.faults nvm.old ≤ N.faults nvm.new }
     ensures past { Between N.Nvm LeavesPast nvm.old nvm.new }
 {
     let reports = replay_driven(rt, alloc, nvm, cycles, workers, gate)?;
@@ -76,7 +75,6 @@ fn drive_source<
     ensures takes { Told (GivesAtMost (largest_trace + 1)) (S.left source.old) (S.left source.new) }
     ensures source_later { S.faults source.old ≤ S.faults source.new }
     ensures lent { GoesOn N.Nvm nvm.old nvm.new }
-    ensures later { N.faults nvm.old ≤ N.faults nvm.new }
     ensures past { Between N.Nvm LeavesPast nvm.old nvm.new }
     ensures end { OnOk result (IsAtEnd (S.left source.new)) }
     ensures text { IfOk result (λ out. OfRun S.Source N.Nvm (RunIs form) source.old nvm.old nvm.new out.items) }
@@ -116,7 +114,6 @@ pub fn drive<
     ensures lent { GoesOn N.Nvm nvm.old nvm.new }
     ensures source_later { S.faults source.old ≤ S.faults source.new }
     ensures sink_later { K.faults sink.old ≤ K.faults sink.new }
-    ensures later { N.faults nvm.old ≤ N.faults nvm.new }
     ensures write_fault { result ≡ Status.WriteFault → Rose (K.faults sink.old) (K.faults sink.new) }
 
     // Other words are a fault of usage, unless memory runs out. Nothing is read, and the device stays.

@@ -24,7 +24,6 @@ fn make_image<N: Nvm>(nvm: &mut N, header: Header) -> Result<ShortLine, Fault>
     requires from { FEWEST_BANKS ≤ header.banks }
     requires to { header.banks ≤ MOST_BANKS }
     ensures lent { GoesOn N.Nvm nvm.old nvm.new }
-    ensures later { N.faults nvm.old ≤ N.faults nvm.new }
     ensures line { IfOk result (λ line. line ≡ format_line header) }
     ensures made { IfOk result (λ line. OfMemory N.Nvm (IsMade header) nvm.old nvm.new) }
     ensures cause { IfErr result (OfMemory N.Nvm (IsFormatCause header) nvm.old nvm.new) }
@@ -48,7 +47,6 @@ pub(crate) fn serve_format<K: Sink, N: Nvm>(sink: &mut K, nvm: &mut N, header: H
     ensures write_fault { result ≡ Status.WriteFault → Rose (K.faults sink.old) (K.faults sink.new) }
     ensures sink_later { K.faults sink.old ≤ K.faults sink.new }
     ensures lent { GoesOn N.Nvm nvm.old nvm.new }
-    ensures later { N.faults nvm.old ≤ N.faults nvm.new }
 {
     match make_image(nvm, header) {
         Ok(line) => write(sink, line.as_bytes(), Status::Ok),

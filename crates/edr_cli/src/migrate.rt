@@ -26,7 +26,6 @@ use std::alloc::Global;
 fn take_over<N: Nvm>(nvm: &mut N, old: &[u8]) -> Result<ShortLine, Fault>
     requires { length old.now ≤ largest_trace }
     ensures lent { GoesOn N.Nvm nvm.old nvm.new }
-    ensures later { N.faults nvm.old ≤ N.faults nvm.new }
     ensures taken { IfOk result (λ line. OfMemory N.Nvm (IsTakenOver old.now) nvm.old nvm.new line) }
     ensures cause { IfErr result (OfMemory N.Nvm (IsTakingCause (λ AreSuch. AreSuch old.now)) nvm.old nvm.new) }
     ensures crash { OfCrash N.Nvm nvm.old nvm.new (IsPartlyTaken old.now) }
@@ -49,7 +48,6 @@ fn migrate_source<S: Source, N: Nvm>(
     ensures takes { Told (GivesAtMost (largest_trace + 1)) (S.left source.old) (S.left source.new) }
     ensures source_later { S.faults source.old ≤ S.faults source.new }
     ensures lent { GoesOn N.Nvm nvm.old nvm.new }
-    ensures later { N.faults nvm.old ≤ N.faults nvm.new }
     ensures end { OnOk result (IsAtEnd (S.left source.new)) }
     ensures text { IfOk result (λ line. OfRun S.Source N.Nvm MigrateIs source.old nvm.old nvm.new line) }
     ensures cause { IfErr result (OfBoth S.Source N.Nvm IsMigrateCause source.old source.new nvm.old nvm.new) }
@@ -73,7 +71,6 @@ pub(crate) fn serve_migrate<S: Source, K: Sink, N: Nvm>(
     ensures takes { Told (GivesAtMost (largest_trace + 1)) (S.left source.old) (S.left source.new) }
     ensures source_later { S.faults source.old ≤ S.faults source.new }
     ensures lent { GoesOn N.Nvm nvm.old nvm.new }
-    ensures later { N.faults nvm.old ≤ N.faults nvm.new }
 {
     match migrate_source(alloc, source, nvm) {
         Ok(line) => write(sink, line.as_bytes(), Status::Ok),

@@ -34,7 +34,6 @@ fn replay_source<S: Source, N: Nvm>(
     ensures takes { Told (GivesAtMost (largest_trace + 1)) (S.left source.old) (S.left source.new) }
     ensures source_later { S.faults source.old ≤ S.faults source.new }
     ensures lent { GoesOn N.Nvm nvm.old nvm.new }
-    ensures later { N.faults nvm.old ≤ N.faults nvm.new }
     ensures past { Between N.Nvm LeavesPast nvm.old nvm.new }
     ensures end { OnOk result (IsAtEnd (S.left source.new)) }
     ensures text { IfOk result (λ out. OfRun S.Source N.Nvm (RunIs form) source.old nvm.old nvm.new out.items) }
@@ -56,7 +55,6 @@ fn run<N: Nvm>(
     ensures text { IfOk result (λ out. OfMemory N.Nvm (Reports form cycles.now) nvm.old nvm.new out.items) }
     ensures cause { IfErr result (OfMemory N.Nvm (IsRunCause cycles.now) nvm.old nvm.new) }
     ensures lent { GoesOn N.Nvm nvm.old nvm.new }
-    ensures later { N.faults nvm.old ≤ N.faults nvm.new }
     ensures past { Between N.Nvm LeavesPast nvm.old nvm.new }
 {
     let reports = replay(alloc, nvm, cycles)?;
@@ -77,7 +75,6 @@ pub(crate) fn serve_replay<S: Source, K: Sink, N: Nvm>(
     ensures takes { Told (GivesAtMost (largest_trace + 1)) (S.left source.old) (S.left source.new) }
     ensures source_later { S.faults source.old ≤ S.faults source.new }
     ensures lent { GoesOn N.Nvm nvm.old nvm.new }
-    ensures later { N.faults nvm.old ≤ N.faults nvm.new }
 {
     finish(sink, replay_source(alloc, source, nvm, form))
 }

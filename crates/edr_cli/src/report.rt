@@ -2,7 +2,7 @@
 ghost use Rattle.std.specs.Prelude.{◌≡◌, ◌≤◌, ℕ, List, Some, IfOk, IfErr, map};
 ghost use Rattle.edr_device.specs.Device.{IsQuiet};
 ghost use Rattle.edr_device.specs.Faults.{Rose};
-ghost use Rattle.edr_device.specs.Lent.{At, GoesOn};
+ghost use Rattle.edr_device.specs.Lent.{At, GoesOn, OnlyRead};
 ghost use Rattle.edr_image.specs.Reports.{report_of};
 ghost use Rattle.edr_cli.specs.Causes.{IsImageCause};
 ghost use Rattle.edr_cli.specs.Outcomes.{ShowsReport};
@@ -28,7 +28,6 @@ pub(crate) fn open_settled<N: Nvm>(alloc: Global, nvm: &mut N) -> Result<Banks, 
     ensures cause { IfErr result (OfMemory N.Nvm IsImageCause nvm.old nvm.new) }
     ensures stays { KeepsBytes N.Nvm nvm.old nvm.new }
     ensures lent { GoesOn N.Nvm nvm.old nvm.new }
-    ensures later { N.faults nvm.old ≤ N.faults nvm.new }
 {
     nvm.sync()?;
     open(alloc, nvm)
@@ -38,11 +37,7 @@ pub(crate) fn open_settled<N: Nvm>(alloc: Global, nvm: &mut N) -> Result<Banks, 
 pub(crate) fn open<N: Nvm>(alloc: Global, nvm: &mut N) -> Result<Banks, Fault>
     ensures says { IfOk result (λ b. (image : List ℕ) → N.content nvm.old ≡ Some image → Says image b.store b.count) }
     ensures cause { IfErr result (OfMemory N.Nvm IsImageCause nvm.old nvm.new) }
-    ensures content { N.content nvm.new ≡ N.content nvm.old }
-    ensures settled { (i : ℕ) → N.settled nvm.new i ≡ N.settled nvm.old i }
-    ensures size { N.extent nvm.new ≡ N.extent nvm.old }
-    ensures device { N.goes_on nvm.old nvm.new }
-    ensures later { N.faults nvm.old ≤ N.faults nvm.new }
+    ensures read { OnlyRead N.Nvm nvm.old nvm.new }
 {
     Ok(Banks::open(alloc, nvm)?)
 }
@@ -72,11 +67,7 @@ pub(crate) fn report_held<N: Nvm>(
 ) -> Result<Vec<u8>, Fault>
     ensures text { IfOk result (λ out. ReportsHeld form (map report_of run.now) (memory N.Nvm nvm.old) out.items) }
     ensures cause { IfErr result (OfMemory N.Nvm IsImageCause nvm.old nvm.new) }
-    ensures content { N.content nvm.new ≡ N.content nvm.old }
-    ensures settled { (i : ℕ) → N.settled nvm.new i ≡ N.settled nvm.old i }
-    ensures size { N.extent nvm.new ≡ N.extent nvm.old }
-    ensures device { N.goes_on nvm.old nvm.new }
-    ensures later { N.faults nvm.old ≤ N.faults nvm.new }
+    ensures read { OnlyRead N.Nvm nvm.old nvm.new }
 {
     let banks = open(alloc, nvm)?;
     Ok(report_of_banks(alloc, form, run, &banks)?)
@@ -85,7 +76,6 @@ pub(crate) fn report_held<N: Nvm>(
 /// The report of what the device holds.
 pub(crate) fn report<N: Nvm>(alloc: Global, nvm: &mut N, form: Form) -> Result<Vec<u8>, Fault>
     ensures lent { GoesOn N.Nvm nvm.old nvm.new }
-    ensures later { N.faults nvm.old ≤ N.faults nvm.new }
     ensures text { IfOk result (λ out. OfMemory N.Nvm (ReportIs form) nvm.old nvm.new out.items) }
     ensures cause { IfErr result (OfMemory N.Nvm IsImageCause nvm.old nvm.new) }
     ensures stays { KeepsBytes N.Nvm nvm.old nvm.new }
@@ -105,7 +95,6 @@ pub(crate) fn serve_report<K: Sink, N: Nvm>(
     ensures write_fault { result ≡ Status.WriteFault → Rose (K.faults sink.old) (K.faults sink.new) }
     ensures sink_later { K.faults sink.old ≤ K.faults sink.new }
     ensures lent { GoesOn N.Nvm nvm.old nvm.new }
-    ensures later { N.faults nvm.old ≤ N.faults nvm.new }
 {
     finish(sink, report(alloc, nvm, form))
 }

@@ -16,14 +16,11 @@ use Rattle.edr_cycle.specs.declared.started.StartFault.{StartFault}
 use Rattle.edr_cycle.specs.declared.started.StartFault.TheVariants.{Open, Spent, StoreFault, OutOfMemory}
 
 -- the device failed, in the opening or later
-abbrev pub IsStoreFault : StartFault → Type 0
-IsStoreFault (Open (open_fault.Short size needed)) = ⊥
-IsStoreFault (Open (open_fault.Header h)) = ⊥
-IsStoreFault (Open open_fault.StoreFault) = Unit {0}
-IsStoreFault (Open open_fault.OutOfMemory) = ⊥
-IsStoreFault Spent = ⊥
-IsStoreFault StoreFault = Unit {0}
-IsStoreFault OutOfMemory = ⊥
+abbrev pub IsDeviceFault : StartFault → Type 0
+IsDeviceFault (Open o) = o ≡ open_fault.StoreFault
+IsDeviceFault Spent = ⊥
+IsDeviceFault StoreFault = Unit {0}
+IsDeviceFault OutOfMemory = ⊥
 
 -- the banks were opened
 abbrev pub HasOpened : StartFault → Type 0

@@ -11,7 +11,7 @@ ghost use Rattle.edr_image.specs.Image.{image_size};
 ghost use Rattle.edr_banks.specs.Opening.{RefusesRightly, TellsView};
 ghost use Rattle.edr_run.specs.Cycle.{last_count};
 ghost use Rattle.edr_cycle.specs.Begun.{IsFreshCore, room_for, view_before, view_begun};
-ghost use Rattle.edr_cycle.specs.Starts.{CountsOne, IsEarly, HasOpened, IsSpentRightly, IsStoreFault, MeetsStartOn, StandsStill, TellsShort};
+ghost use Rattle.edr_cycle.specs.Starts.{CountsOne, IsDeviceFault, IsEarly, HasOpened, IsSpentRightly, MeetsStartOn, StandsStill, TellsShort};
 ghost use Rattle.edr_cycle.specs.declared.started.StartFault.TheVariants.{Open};
 
 use crate::counter::count_cycle;
@@ -53,8 +53,7 @@ fn prepare<N: Nvm>(alloc: Global, nvm: &mut N, ticks: u32) -> Result<Started, St
     ensures spent { IfErr result (λ e.
         HasOpened e → ForSome (N.content nvm.old) (IsSpentRightly e)) }
     ensures early { IfErr result IsEarly }
-    ensures fault { IfErr result (λ e. IsStoreFault e → Rose (N.faults nvm.old) (N.faults nvm.new)) }
-    ensures later { N.faults nvm.old ≤ N.faults nvm.new }
+    ensures fault { IfErr result (λ e. IsDeviceFault e → Rose (N.faults nvm.old) (N.faults nvm.new)) }
     ensures read { OnlyRead N.Nvm nvm.old nvm.new }
 {
     let banks = Banks::open(alloc, nvm)?;
@@ -88,8 +87,7 @@ pub fn start<N: Nvm>(alloc: Global, nvm: &mut N, ticks: u32) -> Result<Started, 
     ensures sizes { IfErr result (TellsShort (N.extent nvm.old)) }
     ensures spent { IfErr result (λ e.
         HasOpened e → ForSome (N.content nvm.old) (IsSpentRightly e)) }
-    ensures fault { IfErr result (λ e. IsStoreFault e → Rose (N.faults nvm.old) (N.faults nvm.new)) }
-    ensures later { N.faults nvm.old ≤ N.faults nvm.new }
+    ensures fault { IfErr result (λ e. IsDeviceFault e → Rose (N.faults nvm.old) (N.faults nvm.new)) }
     // Any answer but a fault after the opening comes before the first changing call.
     ensures early { IfErr result (λ e. IsEarly e → StandsStill N.Nvm nvm.old nvm.new) }
     ensures cycle { MeetsStartOn N.Nvm result nvm.old nvm.new }

@@ -27,7 +27,6 @@ pub fn run_alone<N: Nvm>(started: Started, feeds: &Feeds, nvm: &mut N) -> CycleE
     requires size { image_size started.banks.store.header.banks ≤ N.extent nvm.old }
     ensures number { result.number ≡ started.number }
     ensures lent { GoesOn N.Nvm nvm.old nvm.new }
-    ensures later { N.faults nvm.old ≤ N.faults nvm.new }
     ensures cause { result.failed ≡ true → Rose (N.faults nvm.old) (N.faults nvm.new) }
     ensures cycle { MeetsCycleOn N.Nvm feeds.now started.number started.banks.store
         result.failed result.log.acks nvm.old nvm.new }

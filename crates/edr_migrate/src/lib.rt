@@ -102,7 +102,6 @@ pub fn migrate<N: Nvm>(nvm: &mut N, old: &[u8]) -> Result<Migrated, MigrateFault
     requires { length old.now ≤ largest_old }
     ensures lent { GoesOn N.Nvm nvm.old nvm.new }
     ensures later { N.clock nvm.old ≤ N.clock nvm.new }
-    ensures faults { N.faults nvm.old ≤ N.faults nvm.new }
     // Each refusal exactly by its cause: the old image comes first, then the size of the device, then its magic.
     ensures old_refused { (e : OldRefused) → old_refusal old.now ≡ Some e → result ≡ Err (fault_of e) }
     ensures short { (v : View) → LacksRoom old.now (N.extent nvm.old) (new_size v) v

@@ -10,7 +10,8 @@ use Rattle.edr_cycle.specs.declared.started.StartFault.TheVariants as fault
 use Rattle.edr_image.specs.declared.OpenFault.TheVariants as open_fault
 use Rattle.edr_run.specs.Cycle.{End, IsCycle, start_stopped, start_counted, start_end, last_count}
 use Rattle.edr_cycle.specs.Ends.{cycle_with}
-use Rattle.edr_replay.specs.Replayed.{Holds, IsDeviceFault, IsStartRefusal, IsTrulySpent, IsTrulyRefused, IsTrulyShort, EndsSpent}
+use Rattle.edr_cycle.specs.Starts.{IsDeviceFault}
+use Rattle.edr_replay.specs.Replayed.{Holds, IsStartRefusal, IsTrulySpent, IsTrulyRefused, IsTrulyShort, EndsSpent}
 use Rattle.edr_replay.specs.Phases.{RunsAs, RunsFrom}
 
 -- an end of the cycle that tells this report, and that the device holds

@@ -10,9 +10,10 @@ use Rattle.edr_spell.specs.declared.CycleInput.{CycleInput}
 use Rattle.edr_run.specs.Cycle.{last_count, start_end}
 use Rattle.edr_cycle.specs.declared.started.StartFault.{StartFault}
 use Rattle.edr_cycle.specs.declared.started.StartFault.TheVariants as fault
+use Rattle.edr_cycle.specs.Starts.{IsDeviceFault}
 use Rattle.edr_replay.specs.Phases.{LeavesOfRun}
 use Rattle.edr_replay.specs.Reached.{between, counted, in_start_counted, untouched}
-use Rattle.edr_replay.specs.Replayed.{EndsCutShort, HasRun, Holds, IsDrivenFault, IsDeviceFault, IsLeftAlone, IsLeftOrCounted, IsMemory, IsTrulyRefused, IsTrulyShort, IsTrulySpent, LeavesPart}
+use Rattle.edr_replay.specs.Replayed.{EndsCutShort, HasRun, Holds, IsDrivenFault, IsLeftAlone, IsLeftOrCounted, IsMemory, IsTrulyRefused, IsTrulyShort, IsTrulySpent, LeavesPart}
 use Rattle.edr_replay.proofs.CycleLemmas.{memory_refused, memory_short, memory_unspent, not_refused, not_short, not_spent, rose_later}
 use Rattle.edr_replay.proofs.LeavingLemmas.{none_first}
 

@@ -20,13 +20,6 @@ pub record Holds (content : Option (List ℕ)) (settled : ℕ → Bool) (store :
   pub quiet : IsQuiet content settled bytes
   pub says : view_of bytes ≡ Some (record { store = store; count = count })
 
--- the device failed
-abbrev pub IsDeviceFault : StartFault → Type 0
-IsDeviceFault (fault.Open f) = f ≡ open_fault.StoreFault
-IsDeviceFault fault.Spent = ⊥
-IsDeviceFault fault.StoreFault = Unit {0}
-IsDeviceFault fault.OutOfMemory = ⊥
-
 -- the image is refused by what it says
 abbrev pub IsStartRefusal : StartFault → Type 0
 IsStartRefusal (fault.Open f) = (f ≢ open_fault.StoreFault) × (f ≢ open_fault.OutOfMemory)

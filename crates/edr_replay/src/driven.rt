@@ -9,9 +9,10 @@ ghost use Rattle.edr_image.specs.Image.{image_size};
 ghost use Rattle.edr_items.specs.SensorLists.{AreFeeds, IsLevel, horizon_of};
 ghost use Rattle.edr_spell.specs.Spell.{IsCycleInput as IsSpelled};
 ghost use Rattle.edr_cycle.specs.Begun.{view_begun};
+ghost use Rattle.edr_cycle.specs.Starts.{IsDeviceFault};
 ghost use Rattle.edr_replay.specs.Past.{LeavesPast, LeavesPastOf};
 ghost use Rattle.edr_replay.specs.Phases.{LeavesOfRun, RunsFrom};
-ghost use Rattle.edr_replay.specs.Replayed.{EndsCutShort, EndsSpent, HasRun, HasRunCycle, IsDrivenFault, IsDeviceFault, IsLeftOrCounted, IsTrulyRefused, IsTrulyShort, IsTrulySpent, LeavesPart, LeavesReached};
+ghost use Rattle.edr_replay.specs.Replayed.{EndsCutShort, EndsSpent, HasRun, HasRunCycle, IsDrivenFault, IsLeftOrCounted, IsTrulyRefused, IsTrulyShort, IsTrulySpent, LeavesPart, LeavesReached};
 
 use crate::phases::{StartedCycle, end_run, is_cut, start_until};
 use edr_cycle::{StartFault, Started};
@@ -46,7 +47,6 @@ fn drive_until<
     requires ticks { horizon_of (arc_value feeds.now) ≤ started.ticks }
     requires size { image_size started.banks.store.header.banks ≤ N.extent nvm.old }
     ensures lent { GoesOn N.Nvm nvm.old nvm.new }
-    ensures later { N.faults nvm.old ≤ N.faults nvm.new }
     ensures ran { IfOk result (Between N.Nvm
         (RunsFrom (arc_value feeds.now) stop started.number started.banks.store) nvm.old nvm.new) }
     ensures fault { IfErr result (IsDrivenFault (N.faults nvm.old) (N.faults nvm.new)) }
@@ -81,7 +81,6 @@ fn drive_one<
     requires workers { (1 ≤ workers) × (workers ≤ 8) }
     requires cycle { IsSpelled cycle }
     ensures lent { GoesOn N.Nvm nvm.old nvm.new }
-    ensures later { N.faults nvm.old ≤ N.faults nvm.new }
     ensures ran { IfOk result (Between N.Nvm (HasRunCycle cycle) nvm.old nvm.new) }
     ensures spent { IfErr result (Between N.Nvm IsTrulySpent nvm.old nvm.new) }
     ensures refused { IfErr result (At N.Nvm IsTrulyRefused nvm.old) }
@@ -127,7 +126,6 @@ pub fn replay_driven<
     requires workers { (1 ≤ workers) × (workers ≤ 8) }
     requires cycles { All IsSpelled cycles.items }
     ensures lent { GoesOn N.Nvm nvm.old nvm.new }
-    ensures later { N.faults nvm.old ≤ N.faults nvm.new }
     ensures ran { IfOk result (λ reports. Between N.Nvm (HasRun cycles.items) nvm.old nvm.new reports.items) }
     ensures spent { IfErr result (Between N.Nvm (EndsSpent cycles.items) nvm.old nvm.new) }
     ensures refused { IfErr result (At N.Nvm IsTrulyRefused nvm.old) }

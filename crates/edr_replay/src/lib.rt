@@ -6,12 +6,13 @@ mod driven;
 pub mod laws;
 mod phases;
 
-ghost use Rattle.std.specs.Prelude.{◌<◌, ◌≤◌, IfOk, IfErr, All};
+ghost use Rattle.std.specs.Prelude.{◌<◌, IfOk, IfErr, All};
 ghost use Rattle.edr_device.specs.Faults.{Rose};
 ghost use Rattle.edr_device.specs.Lent.{At, Between, GoesOn};
 ghost use Rattle.edr_spell.specs.Spell.{IsCycleInput as IsSpelled};
+ghost use Rattle.edr_cycle.specs.Starts.{IsDeviceFault};
 ghost use Rattle.edr_replay.specs.Past.{LeavesPast};
-ghost use Rattle.edr_replay.specs.Replayed.{EndsShort, EndsSpent, HasRun, HasRunCycle, IsDeviceFault, IsLeftAlone, IsTrulyRefused, IsTrulyShort, IsTrulySpent, LeavesPart, LeavesReached};
+ghost use Rattle.edr_replay.specs.Replayed.{EndsShort, EndsSpent, HasRun, HasRunCycle, IsLeftAlone, IsTrulyRefused, IsTrulyShort, IsTrulySpent, LeavesPart, LeavesReached};
 
 pub use driven::replay_driven;
 pub use edr_cycle::StartFault;
@@ -32,7 +33,6 @@ fn run_cycle<N: Nvm>(
 ) -> Result<CycleReport, StartFault>
     requires { IsSpelled cycle.now }
     ensures lent { GoesOn N.Nvm nvm.old nvm.new }
-    ensures later { N.faults nvm.old ≤ N.faults nvm.new }
     ensures ran { IfOk result (Between N.Nvm (HasRunCycle cycle.now) nvm.old nvm.new) }
     ensures spent { IfErr result (Between N.Nvm IsTrulySpent nvm.old nvm.new) }
     ensures refused { IfErr result (At N.Nvm IsTrulyRefused nvm.old) }
@@ -58,7 +58,6 @@ pub fn replay<N: Nvm>(
 ) -> Result<Vec<CycleReport>, StartFault>
     requires { All IsSpelled cycles.now }
     ensures lent { GoesOn N.Nvm nvm.old nvm.new }
-    ensures later { N.faults nvm.old ≤ N.faults nvm.new }
     ensures ran { IfOk result (λ reports. Between N.Nvm (HasRun cycles.now) nvm.old nvm.new reports.items) }
     ensures spent { IfErr result (Between N.Nvm (EndsSpent cycles.now) nvm.old nvm.new) }
     ensures refused { IfErr result (At N.Nvm IsTrulyRefused nvm.old) }

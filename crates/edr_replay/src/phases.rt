@@ -8,7 +8,8 @@ ghost use Rattle.edr_image.specs.Image.{image_size};
 ghost use Rattle.edr_image.specs.Reports.{Ran, report_of};
 ghost use Rattle.edr_items.specs.SensorLists.{AreFeeds, IsLevel, horizon_of};
 ghost use Rattle.edr_cycle.specs.Begun.{view_begun};
-ghost use Rattle.edr_replay.specs.Replayed.{IsDeviceFault, IsLeftAlone, IsTrulyRefused, IsTrulyShort, IsTrulySpent};
+ghost use Rattle.edr_cycle.specs.Starts.{IsDeviceFault};
+ghost use Rattle.edr_replay.specs.Replayed.{IsLeftAlone, IsTrulyRefused, IsTrulyShort, IsTrulySpent};
 ghost use Rattle.edr_replay.specs.Past.{LeavesPast, LeavesPastOf};
 ghost use Rattle.edr_replay.specs.Phases.{BeginsAs, LeavesOfRun, LeavesOfStart, RunsFrom};
 
@@ -43,7 +44,6 @@ pub(crate) fn start_until<N: Nvm>(
 ) -> Result<StartedCycle, StartFault>
     requires { stop ≤ 6 }
     ensures lent { GoesOn N.Nvm nvm.old nvm.new }
-    ensures later { N.faults nvm.old ≤ N.faults nvm.new }
     ensures begun { IfOk result (λ b. Between N.Nvm (BeginsAs b stop ticks (N.extent nvm.old)) nvm.old nvm.new) }
     ensures spent { IfErr result (Between N.Nvm IsTrulySpent nvm.old nvm.new) }
     ensures refused { IfErr result (At N.Nvm IsTrulyRefused nvm.old) }
@@ -84,7 +84,6 @@ pub(crate) fn end_run<N: Nvm>(
     nvm: &mut N,
 ) -> Result<CycleReport, StartFault>
     ensures lent { GoesOn N.Nvm nvm.old nvm.new }
-    ensures later { N.faults nvm.old ≤ N.faults nvm.new }
     ensures off { end.failed ≡ false
         → Repowered N.content N.settled N.since result nvm.old nvm.new }
     ensures fault { IfErr result (λ e. (e ≡ StartFault.StoreFault)
@@ -117,7 +116,6 @@ pub(crate) fn run_until<N: Nvm>(
     requires ticks { horizon_of feeds.now ≤ started.ticks }
     requires size { image_size started.banks.store.header.banks ≤ N.extent nvm.old }
     ensures lent { GoesOn N.Nvm nvm.old nvm.new }
-    ensures later { N.faults nvm.old ≤ N.faults nvm.new }
     ensures ran { IfOk result (Between N.Nvm
         (RunsFrom feeds.now stop started.number started.banks.store) nvm.old nvm.new) }
     ensures fault { IfErr result (λ e. (e ≡ StartFault.StoreFault) × Rose (N.faults nvm.old) (N.faults nvm.new)) }

@@ -48,7 +48,7 @@ loop-cycle-preserved g c =
     let mid = c.loop-cycle.nvm in
     let new = c.run_cycle.new.nvm in
     running_more D.extent D.content D.settled D.faults D.goes_on c.args.cycles.now c.cycle-item.result c.loop-cycle.cycle-index _ _ c.loop-cycle.reports.items c.push_reserved.new.self.items c.in_ok-report.report old mid new
-    c.loop-cycle.invariant c.loop-cycle-test.true c.cycle-item.is c.run_cycle.ensures.lent.size (g.met.N.Nvm.goes_on_again old mid new c.loop-cycle.invariant.device c.run_cycle.ensures.lent.device) c.run_cycle.ensures.lent.tells c.run_cycle.ensures.later c.run_cycle.ensures.past
+    c.loop-cycle.invariant c.loop-cycle-test.true c.cycle-item.is c.run_cycle.ensures.lent.size (g.met.N.Nvm.goes_on_again old mid new c.loop-cycle.invariant.device c.run_cycle.ensures.lent.device) c.run_cycle.ensures.lent.tells c.run_cycle.ensures.lent.later c.run_cycle.ensures.past
     c.in_ok-report.ensures.ran c.push_reserved.ensures.items (let same = c.push_reserved.ensures.capacity in let room = c.loop-cycle.invariant.room in omega (arith, same, room))
 
 pub returns-in_err-reports-clause-left : goal.returns-in_err-reports-clause-left

@@ -36,7 +36,7 @@ returns-in-Started-clause-refused g c =
 pub returns-in-Started-clause-fault : goal.returns-in-Started-clause-fault
 returns-in-Started-clause-fault g c =
     let D = g.N.Nvm in
-    rose_later c.run_until.result (D.faults c.args.nvm.now) (D.faults c.start_until.new.nvm) (D.faults c.run_until.new.nvm) c.start_until.ensures.later c.run_until.ensures.fault
+    rose_later c.run_until.result (D.faults c.args.nvm.now) (D.faults c.start_until.new.nvm) (D.faults c.run_until.new.nvm) c.start_until.ensures.lent.later c.run_until.ensures.fault
 
 pub returns-in_err-start_until-clause-left : goal.returns-in_err-start_until-clause-left
 returns-in_err-start_until-clause-left g c =

@@ -38,7 +38,7 @@ returns-clause-cause g c =
     let b = c.in_ok-open_settled.field-0 in
     err_map c.run_driven.result (λ f. IsDrivenCause cs mid new f) (λ f. IsDriveCause i i' old new f)
     (λ f cause. run_drive i i' old mid new cs b.store b.count f c.in_ok-cycles.ensures.spelled c.in_ok-cycles.ensures.end c.in_ok-open_settled.ensures.says
-    (tells_again old.content mid.content new.content c.open_settled.ensures.lent.tells c.run_driven.ensures.lent.tells) c.open_settled.ensures.lent.size c.open_settled.ensures.later cause) c.run_driven.ensures.cause
+    (tells_again old.content mid.content new.content c.open_settled.ensures.lent.tells c.run_driven.ensures.lent.tells) c.open_settled.ensures.lent.size c.open_settled.ensures.lent.later cause) c.run_driven.ensures.cause
 
 pub returns-in_err-open_settled-clause-cause : goal.returns-in_err-open_settled-clause-cause
 returns-in_err-open_settled-clause-cause g c =

@@ -27,7 +27,7 @@ returns-clause-text g c =
     let new = memory D c.report_held.new.nvm in
     let rs = c.in_ok-reports.reports.items in
     ok_map c.report_held.result (λ out. ReportsHeld c.args.form (map report_of c.deref.result.now) mid out.items) (λ out. Reports c.args.form c.args.cycles.items old new out.items)
-    (λ out is. run_reports c.args.form c.args.cycles.items old mid new rs out.items c.in_ok-reports.ensures.ran c.report_held.ensures.content c.report_held.ensures.settled
+    (λ out is. run_reports c.args.form c.args.cycles.items old mid new rs out.items c.in_ok-reports.ensures.ran c.report_held.ensures.read.stays.same_content c.report_held.ensures.read.stays.same_settled
     (subst (λ (xs : List CycleReport). ReportsHeld c.args.form (map report_of xs) mid out.items) c.deref.ensures.value is)) c.report_held.ensures.text
 
 pub returns-clause-cause : goal.returns-clause-cause
@@ -37,10 +37,10 @@ returns-clause-cause g c =
     let mid = memory D c.replay_driven.new.nvm in
     let new = memory D c.report_held.new.nvm in
     err_map c.report_held.result (λ f. IsImageCause mid new f) (λ f. IsDrivenCause c.args.cycles.items old new f)
-    (λ f cause. inl (behind_cause c.args.cycles.items old mid new c.in_ok-reports.reports.items f c.in_ok-reports.ensures.ran c.report_held.ensures.content c.report_held.ensures.settled c.in_ok-reports.ensures.lent.size c.in_ok-reports.ensures.later cause))
+    (λ f cause. inl (behind_cause c.args.cycles.items old mid new c.in_ok-reports.reports.items f c.in_ok-reports.ensures.ran c.report_held.ensures.read.stays.same_content c.report_held.ensures.read.stays.same_settled c.in_ok-reports.ensures.lent.size c.in_ok-reports.ensures.lent.later cause))
     c.report_held.ensures.cause
 
 pub returns-clause-past : goal.returns-clause-past
 returns-clause-past g c =
     let D = g.N.Nvm in
-    past_stays (D.content c.args.nvm.now) (D.content c.replay_driven.new.nvm) (D.content c.report_held.new.nvm) (D.settled c.args.nvm.now) (D.settled c.replay_driven.new.nvm) (D.settled c.report_held.new.nvm) c.report_held.ensures.content c.report_held.ensures.settled c.in_ok-reports.ensures.past
+    past_stays (D.content c.args.nvm.now) (D.content c.replay_driven.new.nvm) (D.content c.report_held.new.nvm) (D.settled c.args.nvm.now) (D.settled c.replay_driven.new.nvm) (D.settled c.report_held.new.nvm) c.report_held.ensures.read.stays.same_content c.report_held.ensures.read.stays.same_settled c.in_ok-reports.ensures.past

@@ -39,7 +39,7 @@ returns-clause-cause g c =
     let b = c.in_ok-open_settled.field-0 in
     err_map c.run.result (λ f. IsRunCause c.deref.result.now mid new f) (λ f. IsReplayCause i i' old new f)
     (λ f cause. run_replay i i' old mid new cs b.store b.count f c.in_ok-cycles.ensures.spelled c.in_ok-cycles.ensures.end c.in_ok-open_settled.ensures.says
-    (tells_again old.content mid.content new.content c.open_settled.ensures.lent.tells c.run.ensures.lent.tells) c.open_settled.ensures.lent.size c.open_settled.ensures.later
+    (tells_again old.content mid.content new.content c.open_settled.ensures.lent.tells c.run.ensures.lent.tells) c.open_settled.ensures.lent.size c.open_settled.ensures.lent.later
     (subst (λ (xs : List CycleInput). IsRunCause xs mid new f) c.deref.ensures.value cause)) c.run.ensures.cause
 
 pub returns-in_err-open_settled-clause-cause : goal.returns-in_err-open_settled-clause-cause

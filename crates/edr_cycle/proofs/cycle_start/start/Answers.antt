@@ -44,7 +44,7 @@ returns-in_err-count_cycle-clause-spent g c =
 pub returns-in_err-count_cycle-clause-lent : goal.returns-in_err-count_cycle-clause-lent
 returns-in_err-count_cycle-clause-lent g c =
     let again = g.met.N.Nvm.goes_on_again in
-    record { size = search rules; device = search (rules, again); tells = search rules }
+    record { size = search rules; device = search (rules, again); tells = search rules; later = omega (arith, c.prepare.ensures.read.later, c.count_cycle.ensures.lent.cause.later) }
 
 pub returns-clause-made : goal.returns-clause-made
 returns-clause-made g c = λ bytes v found.

@@ -75,7 +75,7 @@ returns-clause-short g c =
 pub returns-clause-fault : goal.returns-clause-fault
 returns-clause-fault g c =
     let D = g.N.Nvm in
-    driven_rose c.drive_until.result (D.faults c.args.nvm.now) (D.faults c.start_until.new.nvm) (D.faults c.drive_until.new.nvm) c.start_until.ensures.later c.drive_until.ensures.fault
+    driven_rose c.drive_until.result (D.faults c.args.nvm.now) (D.faults c.start_until.new.nvm) (D.faults c.drive_until.new.nvm) c.start_until.ensures.lent.later c.drive_until.ensures.fault
 
 pub returns-clause-left : goal.returns-clause-left
 returns-clause-left g c =

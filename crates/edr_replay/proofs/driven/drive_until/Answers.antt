@@ -73,4 +73,4 @@ returns-clause-lent g c =
     let again = g.met.N.Nvm.goes_on_again in
     let first : StillTells (N.content c.args.nvm.now) (N.content c.drive_cycle-end.new.nvm.nvm.now) = search rules in
     let second : StillTells (N.content c.drive_cycle-end.new.nvm.nvm.now) (N.content c.end_run.new.nvm) = search rules in
-    record { size = search rules; device = search (rules, again); tells = tells_again _ _ _ first second }
+    record { size = search rules; device = search (rules, again); tells = tells_again _ _ _ first second; later = search rules }

@@ -100,5 +100,5 @@ loop-cycle-preserved g c =
     let turn = YieldsList-turn (YieldsList-from_vec c.args.cycles.items (search rules) (search rules)) c.loop-cycle.yielded _ c.loop-cycle.yielded_by _ c.next.new.self c.in-Some.cycle c.in-Some.is c.next.ensures.steps in
     subst (λ (k : ℕ). Running D.extent D.content D.settled D.faults D.goes_on c.args.cycles.items k (vec_capacity c.push_reserved.new.self) c.push_reserved.new.self.items old new) (one_more c.loop-cycle.yielded c.in-Some.cycle)
     (running_more D.extent D.content D.settled D.faults D.goes_on c.args.cycles.items c.in-Some.cycle (length c.loop-cycle.yielded) _ _ c.loop-cycle.reports.items c.push_reserved.new.self.items c.in_ok-report.report old mid new
-    c.loop-cycle.invariant turn.0 turn.1 c.drive_one.ensures.lent.size (g.met.N.Nvm.goes_on_again old mid new c.loop-cycle.invariant.device c.drive_one.ensures.lent.device) c.drive_one.ensures.lent.tells c.drive_one.ensures.later c.drive_one.ensures.past
+    c.loop-cycle.invariant turn.0 turn.1 c.drive_one.ensures.lent.size (g.met.N.Nvm.goes_on_again old mid new c.loop-cycle.invariant.device c.drive_one.ensures.lent.device) c.drive_one.ensures.lent.tells c.drive_one.ensures.lent.later c.drive_one.ensures.past
     c.in_ok-report.ensures.ran c.push_reserved.ensures.items (let same = c.push_reserved.ensures.capacity in let room = c.loop-cycle.invariant.room in omega (arith, same, room)))
