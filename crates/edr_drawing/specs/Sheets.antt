@@ -10,7 +10,7 @@ use Rattle.edr_record.specs.Complete.{is_complete}
 use Rattle.edr_image.specs.declared.BankView.{BankView}
 use Rattle.edr_image.specs.declared.BankView.TheVariants.{Void, Event, Damaged}
 use Rattle.edr_image.specs.declared.Found.{Found}
-use Rattle.edr_report.specs.Words.{shown}
+use Rattle.edr_report.specs.Words.{shown, tenths_of}
 use Rattle.edr_drawing.specs.declared.pieces.Piece.TheVariants as piece
 use Rattle.edr_drawing.specs.declared.tags.Tag.{Tag}
 use Rattle.edr_drawing.specs.declared.tags.Tag.TheVariants as tag
@@ -38,7 +38,7 @@ second_words tenths =
 
 abbrev pub place_words : Place → List ℕ
 place_words First = pieces (piece.Tag tag.First ∷ [])
-place_words (Second after) = second_words ((after + 50) / 100)
+place_words (Second after) = second_words (tenths_of after)
 
 -- two hexadecimal digits for each byte
 abbrev pub hex_digit : ℕ → ℕ

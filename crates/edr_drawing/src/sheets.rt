@@ -11,7 +11,7 @@ use crate::tables::{put_elements, put_points_table};
 use crate::tags::Tag;
 use edr_image::{BankView, Found};
 use edr_record::{Key, Place, Profile, Record};
-use edr_report::shown;
+use edr_report::{shown, tenths_of};
 use std::alloc::{AllocError as OutOfMemory, Global};
 
 pub fn yes_no(b: bool) -> Tag
@@ -27,7 +27,7 @@ pub fn put_place(out: &mut Vec<u8>, place: Place) -> Result<(), OutOfMemory>
     match place {
         Place::First => put_tag(out, Tag::First),
         Place::Second { after } => {
-            let tenths = (u64::from(after) + 50) / 100;
+            let tenths = tenths_of(after);
             put(
                 out,
                 &[

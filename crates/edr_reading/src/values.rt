@@ -6,7 +6,7 @@ ghost use Rattle.edr_record.specs.declared.TheConstants.{EARLIEST_END, GREATEST_
 ghost use Rattle.edr_record.specs.declared.Profile.{Profile};
 ghost use Rattle.edr_record.specs.Bounds.{IsChange, IsExtreme, IsPlace, IsUpTo};
 ghost use Rattle.edr_report.specs.declared.TheConstants.{LARGEST_SHOWN_COUNT};
-ghost use Rattle.edr_report.specs.Words.{bank_words, applied_words, stop_words, yes_no, profile_word, switch_or_none, milliseconds, firing_words, shown, shown_count, events_in_crash, time_between, extreme_words, missing_words, damage_words, ack_words, seconds};
+ghost use Rattle.edr_report.specs.Words.{bank_words, applied_words, stop_words, yes_no, profile_word, switch_or_none, milliseconds, firing_words, shown, shown_count, events_in_crash, time_between, extreme_words, missing_words, damage_words, ack_words, seconds, tenths_of};
 ghost use Rattle.edr_reading.specs.Answers.{GivesValue};
 ghost use Rattle.edr_reading.specs.Front.{EndsNumber, ReadsFront};
 ghost use Rattle.edr_reading.specs.Values.{IsBank, IsStopCall, IsApplied, IsDamagedView, IsTick, done_in, view_words, byte_words, command_words, ran_words};
@@ -200,7 +200,7 @@ fn tenths(bytes: &[u8]) -> Option<u32>
 // A time that is shown as these tenths of a second.
 fn time_shown(tenths: u32) -> u32
     requires { tenths ≤ 50 }
-    ensures shown { (result + 50) / 100 ≡ tenths }
+    ensures shown { tenths_of result ≡ tenths }
     ensures bounds { (1 ≤ result) × (result ≤ 5_000) }
 {
     if tenths == 0 { 1 } else { 100 * tenths }

@@ -81,14 +81,18 @@ abbrev pub events_in_crash : Place → List ℕ
 events_in_crash First = codes "1"
 events_in_crash (Second after) = codes "2"
 
+-- milliseconds as tenths of a second, rounded half up
+abbrev pub tenths_of : ℕ → ℕ
+tenths_of time = (time + 50) / 100
+
 -- tenths of a second, from tenths
 abbrev pub seconds : ℕ → List ℕ
 seconds tenths = decimal (tenths / 10) ++ codes "." ++ decimal (tenths % 10) ++ codes " s"
 
--- the time from the first event to the second, rounded half up
+-- the time from the first event to the second
 abbrev pub time_between : Place → List ℕ
 time_between First = none_word
-time_between (Second after) = seconds ((after + 50) / 100)
+time_between (Second after) = seconds (tenths_of after)
 
 -- how far the lists of the pre part look back, and how often
 abbrev pub profile_word : Profile → List ℕ

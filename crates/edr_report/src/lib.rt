@@ -14,7 +14,7 @@ ghost use Rattle.std.specs.Prelude.{◌≡◌, IfOk, map};
 ghost use Rattle.edr_image.specs.Reports.{report_of};
 ghost use Rattle.edr_report.specs.Lines.{text_of, table_of};
 ghost use Rattle.edr_report.specs.Report.{report_lines};
-ghost use Rattle.edr_report.specs.Words.{shown};
+ghost use Rattle.edr_report.specs.Words.{shown, tenths_of};
 
 use edr_image::{CycleReport, Found};
 pub use forms::Lines;
@@ -33,6 +33,14 @@ pub fn shown(count: u32) -> u32
     ensures { result ≡ shown count }
 {
     count.min(LARGEST_SHOWN_COUNT)
+}
+
+/// Milliseconds as tenths of a second, rounded half up.
+#[inline]
+pub fn tenths_of(time: u32) -> u64
+    ensures { result ≡ tenths_of time }
+{
+    (u64::from(time) + 50) / 100
 }
 
 /// A count of ignition cycles is shown up to 60,000.

@@ -4,7 +4,7 @@ ghost use Rattle.std.specs.Prelude.{◌≡◌, ◌++◌, OnOk, string_bytes, map
 ghost use Rattle.edr_report.specs.Words.{spaced, yes_no, profile_word, switch_or_none, firing_words, applied_words, stop_words, events_in_crash, time_between, points_words, extreme_words};
 ghost use Rattle.edr_report.specs.Values.{value_words};
 
-use crate::shown;
+use crate::{shown, tenths_of};
 use edr_image::Applied;
 use edr_record::{Extreme, POINTS, Place, Profile, point_count};
 use std::alloc::AllocError as OutOfMemory;
@@ -185,7 +185,7 @@ fn put_time_between(out: &mut String, place: Place) -> Result<(), OutOfMemory>
     match place {
         Place::First => out.push_str("none"),
         Place::Second { after } => {
-            let tenths = (u64::from(after) + 50) / 100;
+            let tenths = tenths_of(after);
             let whole = tenths / 10;
             let tenth = tenths % 10;
             write!(out, "{whole}.{tenth} s")
