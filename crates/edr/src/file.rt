@@ -2,7 +2,7 @@
 //! program at a time holds it.
 ghost use Rattle.std.specs.Prelude.{◌≡◌};
 
-use edr_image::places::{BANK_SIZE, FRONT_SIZE, MOST_BANKS};
+use edr_image::places::LARGEST_IMAGE;
 use std::fs::{File, Files, Metadata, OpenOptions, TryLockError};
 use std::io::{Error as IoError, ErrorKind, Result as IoResult};
 use std::os::fd::AsRawFd;
@@ -18,7 +18,7 @@ const NAME: &str = "edr.nvm";
 const FOLDER: &str = ".";
 
 /// As many bytes as a file has that is made: those of an image of the most banks that there may be, so that each `format` has room.
-const NEW_SIZE: usize = FRONT_SIZE + BANK_SIZE * MOST_BANKS as usize;
+const NEW_SIZE: usize = LARGEST_IMAGE;
 
 /// The highest number of a standard stream.
 const LAST_STREAM: i32 = 2;

@@ -1,14 +1,14 @@
 -- The places of an image in numbers. Definitions and code cite the constants; here each is what it is.
 use Rattle.std.specs.Prelude.{◌≡◌}
 use Rattle.edr_image.specs.declared.forms.TheConstants.{OLD_BANK_SIZE, OLD_CRASH_SIZE, OLD_PRE_SIZE, VERSION_1, VERSION_2}
-use Rattle.edr_image.specs.declared.places.TheConstants.{BANK_SIZE, BANKS, CHOICE, CRASH_PART, CRASH_SIZE, DONE_GATE, EVENT_GATE, FEWEST_BANKS, FIRST_SLOT, FRONT_SIZE, HEADER_END, LOCK_GATE, MOST_BANKS, OPEN_GATE, PRE_PART, PRE_SIZE, SECOND_SLOT, SLOT_COUNT, SLOT_SIZE, VERSION}
+use Rattle.edr_image.specs.declared.places.TheConstants.{BANK_SIZE, BANKS, CHOICE, CRASH_PART, CRASH_SIZE, DONE_GATE, EVENT_GATE, FEWEST_BANKS, FIRST_SLOT, FRONT_SIZE, HEADER_END, LARGEST_IMAGE, LOCK_GATE, MOST_BANKS, OPEN_GATE, PRE_PART, PRE_SIZE, SECOND_SLOT, SLOT_COUNT, SLOT_SIZE, VERSION}
 use Rattle.edr_image.specs.PartBytes.{pre_size, crash_size}
 use Rattle.edr_image.specs.Image.{crash_place}
 
--- an image has 2 to 16 banks of 1,024 bytes behind a front of 96, and a gate is open at 165
+-- an image has 2 to 16 banks of 1,024 bytes behind a front of 96, so 16,480 bytes at the most, and a gate is open at 165
 pub record HasSizes : Type 0 where
   pub banks : (FEWEST_BANKS ≡ 2) × (MOST_BANKS ≡ 16)
-  pub sizes : (FRONT_SIZE ≡ 96) × (BANK_SIZE ≡ 1024)
+  pub sizes : (FRONT_SIZE ≡ 96) × (BANK_SIZE ≡ 1024) × (LARGEST_IMAGE ≡ 16_480)
   pub gate : OPEN_GATE ≡ 165
 
 -- in the front the header stands behind the magic, and the two slots of the count behind it

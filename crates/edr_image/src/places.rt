@@ -13,6 +13,9 @@ pub const FRONT_SIZE: usize = 96;
 /// How many bytes a bank has.
 pub const BANK_SIZE: usize = 1_024;
 
+/// How many bytes an image of the most banks has.
+pub const LARGEST_IMAGE: usize = FRONT_SIZE + BANK_SIZE * MOST_BANKS as usize;
+
 /// The byte of a gate that is open.
 pub const OPEN_GATE: u8 = 0xa5;
 

@@ -21,12 +21,12 @@ use Rattle.edr_large.specs.Large.{HasCounted, HasRunInMemory, HasRunOn, IsCounte
 use Rattle.edr_large.specs.declared.counts.Counts.{Counts}
 use Rattle.edr_large.specs.Counts.{counts_of}
 use Rattle.edr_large.specs.Rows.{items_in, most_items}
-use Rattle.edr_large.specs.declared.runs.TheConstants.{IMAGE}
+use Rattle.edr_image.specs.declared.places.TheConstants.{LARGEST_IMAGE}
 use Rattle.edr_large.proofs.RowLemmas.{items_few, rows_many}
 
 -- k cycles ran, and the next one is made from this state
 pub record Counted (number cycles k state rows : ℕ) (acks : List Ack) (image : List ℕ) : Type 0 where
-  pub size : length image ≡ IMAGE
+  pub size : length image ≡ LARGEST_IMAGE
   pub few : rows ≤ (most_items + 2) * k
   pub passed : List CycleInput
   pub cycles_are : passed ++ generated_cycles state (cycles - k) ≡ generated_cycles number cycles
@@ -34,7 +34,7 @@ pub record Counted (number cycles k state rows : ℕ) (acks : List Ack) (image :
   pub ran : HasRunInMemory passed acks image
 
 -- at first none
-pub counted_none : (number cycles : ℕ) (acks : List Ack) (image : List ℕ) → length image ≡ IMAGE → acks ≡ [] → view_of image ≡ Some (record { store = new_store; count = 0 }) → Counted number cycles 0 number 0 acks image
+pub counted_none : (number cycles : ℕ) (acks : List Ack) (image : List ℕ) → length image ≡ LARGEST_IMAGE → acks ≡ [] → view_of image ≡ Some (record { store = new_store; count = 0 }) → Counted number cycles 0 number 0 acks image
 counted_none number cycles acks image size none says = let all : cycles - 0 ≡ cycles = omega arith in record {
   size = size;
   few = omega arith;

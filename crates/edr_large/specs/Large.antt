@@ -1,6 +1,7 @@
 -- The run of a generated trace, each cycle to its end.
 use Rattle.std.specs.Prelude.{◌≡◌, ◌<◌, ℕ, Some, List, [], ◌++◌, length, map, flat_map, replicate}
 use Rattle.edr_items.specs.SensorLists.{SensorLists}
+use Rattle.edr_image.specs.declared.places.TheConstants.{MOST_BANKS}
 use Rattle.edr_image.specs.declared.Ack.{Ack}
 use Rattle.edr_image.specs.declared.BankView.TheVariants.{Void}
 use Rattle.edr_image.specs.declared.Choice.TheVariants.{Overwrite}
@@ -14,9 +15,9 @@ use Rattle.edr_gen.specs.Traces.{generated_cycles, generated_rows, generated_tra
 use Rattle.edr_large.specs.declared.counts.Counts.{Counts}
 use Rattle.edr_large.specs.Counts.{counts_of, counts_text}
 
--- 16 void banks, of which a new event may overwrite an older one
+-- the most banks of an image, all void, of which a new event may overwrite an older one
 abbrev pub new_store : Store
-new_store = record { header = record { banks = 16; choice = Overwrite }; banks = replicate 16 Void }
+new_store = record { header = record { banks = MOST_BANKS; choice = Overwrite }; banks = replicate MOST_BANKS Void }
 
 -- the cycle with its commands not stopped
 abbrev pub unstopped : CycleInput → CycleInput

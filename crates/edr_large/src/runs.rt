@@ -11,12 +11,10 @@ use edr_banks::{Banks, Choice};
 use edr_cycle::{run_alone, start};
 use edr_device::{MemNvm, Nvm};
 use edr_gen::Generator;
+use edr_image::places::{LARGEST_IMAGE, MOST_BANKS};
 use edr_image::{Ack, Found};
 use edr_items::Feeds;
 use std::alloc::{AllocError as OutOfMemory, Global};
-
-/// How many bytes the image of 16 banks has.
-const IMAGE: usize = 16_480;
 
 // As many changing calls as a cycle never makes.
 const CALLS: u32 = 100_000_000;
@@ -38,11 +36,11 @@ fn image_of(alloc: Global, memory: &MemNvm) -> Result<Vec<u8>, OutOfMemory>
 
 // The image of 16 void banks.
 fn new_image(alloc: Global) -> Result<Vec<u8>, OutOfMemory>
-    ensures size { IfOk result (λ image. length image.items ≡ IMAGE) }
+    ensures size { IfOk result (λ image. length image.items ≡ LARGEST_IMAGE) }
     ensures says { IfOk result (λ image. view_of image.items ≡ Some (record { store = new_store; count = 0 })) }
 {
-    let mut memory = memory_of(alloc, vec![in alloc; 0u8; IMAGE]?)?;
-    match Banks::format(&mut memory, 16, Choice::Overwrite) {
+    let mut memory = memory_of(alloc, vec![in alloc; 0u8; LARGEST_IMAGE]?)?;
+    match Banks::format(&mut memory, MOST_BANKS, Choice::Overwrite) {
         Ok(()) => image_of(alloc, &memory),
         Err(_) => Err(OutOfMemory),
     }
