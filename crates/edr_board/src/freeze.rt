@@ -2,6 +2,7 @@
 //! each `ghost use` of its file: the specs that these contracts use speak of the structs, and would be imported in a circle.
 
 ghost use Rattle.std.specs.Prelude.{◌≡◌, ◌≢◌, ◌+◌, ◌≤◌, ◌<◌, ◌^◌, List, IfOk, IfSome, IfNone, Some, None};
+ghost use Rattle.edr_items.specs.declared.TheConstants.{LONGEST_GAP};
 ghost use Rattle.edr_items.specs.Sensor.{IsSlow};
 ghost use Rattle.edr_board.specs.FreezeRule.{FreezeMoment, IsFreeze, freeze_opening};
 ghost use Rattle.edr_board.specs.FreezeSteps.{FreezeLeads, KeepsTheFreeze};
@@ -87,7 +88,7 @@ impl Asker {
     /// Grants moments up to `upto`: no slow sensor keeps one that is later.
     pub fn grant(&mut self, upto: u32)
         requires rises { grant_posted self.old ≤ upto }
-        requires near { open_zero self.old ≢ 0 → upto ≤ open_zero self.old + 1_000 }
+        requires near { open_zero self.old ≢ 0 → upto ≤ open_zero self.old + LONGEST_GAP }
         ensures freeze { freeze_of_asker self.new ≡ freeze_of_asker self.old }
         ensures granted { grant_posted self.new ≡ upto }
         ensures asked { (open_zero self.new ≡ open_zero self.old) × (last_zero self.new ≡ last_zero self.old) }
@@ -115,7 +116,7 @@ impl Asker {
         requires closed { open_zero self.old ≡ 0 }
         requires later { last_zero self.old < zero }
         requires reached { AllReach zero (marks_read self.old) }
-        requires near { grant_posted self.old ≤ zero + 1_000 }
+        requires near { grant_posted self.old ≤ zero + LONGEST_GAP }
         ensures freeze { freeze_of_asker self.new ≡ freeze_of_asker self.old }
         ensures granted { grant_posted self.new ≡ grant_posted self.old }
         ensures asked { (open_zero self.new ≡ zero) × (last_zero self.new ≡ zero) }
@@ -168,7 +169,7 @@ impl Keeper {
     pub fn asked(&mut self) -> Option<u32>
         ensures same { SameKeeper self.old self.new }
         ensures answer { result ≡ zero_in (asked_read self.new) }
-        ensures near { IfSome result (λ z. (z ≤ mark_posted self.new) × (mark_posted self.new ≤ z + 1_000)) }
+        ensures near { IfSome result (λ z. (z ≤ mark_posted self.new) × (mark_posted self.new ≤ z + LONGEST_GAP)) }
         ensures mark { (mark_posted self.new ≡ mark_posted self.old) × (grant_read self.new ≡ grant_read self.old) }
     {
         let zero = self.table.shared.load::<LoadAsked>(&mut self.seat, ASKED) as u32;

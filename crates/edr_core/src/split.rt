@@ -131,7 +131,7 @@ impl SplitCore {
     // The same of an item that isn't too far ahead while parts are asked for.
     #[inline(always)]
     pub(crate) fn take(&mut self, sensor: Sensor, item: Item) -> Result<(), MergeRefused>
-        requires { is_some self.old.ask ≡ true → item.moment ≤ self.old.closed + 1_000 }
+        requires { is_some self.old.ask ≡ true → item.moment ≤ self.old.closed + LONGEST_GAP }
         ensures ok { OnOk result (SplitFollows (after_item sensor item) self.old self.new) }
         ensures err { OnErr result (self.new ≡ self.old) }
         ensures allowed { (h : History) → SplitCoreStandsFor self.old h → IsOk result ↔ IsAllowed (Give sensor item) h.past }
@@ -144,7 +144,7 @@ impl SplitCore {
     // Why an item is refused that is too far ahead while parts are asked for: the merge has closed their time zero already.
     #[inline(never)]
     fn ahead(&self, sensor: Sensor, item: Item) -> MergeRefused
-        requires { self.now.closed + 1_000 < item.moment }
+        requires { self.now.closed + LONGEST_GAP < item.moment }
         ensures { (h : History) → SplitCoreStandsFor self.now h → give_refusal_of sensor item h.past ≡ Some result }
     {
         match check(sensor, self.merge.mark(sensor), &item) {

@@ -1,6 +1,7 @@
 -- What a slow sensor's seat keeps and sends.
 use Rattle.std.specs.Prelude.{◌≡◌, ◌≢◌, ◌⊎◌, ◌+◌, ◌-◌, ◌<◌, ◌≤◌, ℕ, Option, Some, None, List, [], ◌∷◌, ◌++◌, length}
 use Rattle.rtrb.specs.Ring.{SameProducer, known_free, sent}
+use Rattle.edr_items.specs.declared.TheConstants.{LONGEST_GAP}
 use Rattle.edr_items.specs.declared.Sensor.{Sensor}
 use Rattle.edr_items.specs.declared.Item.{Item}
 use Rattle.edr_items.specs.declared.ItemRefused.{ItemRefused}
@@ -91,7 +92,7 @@ ExplainsSlow None x s answer = (answer ≡ slow_refused.Ungranted (grant_known s
 -- or there are as many parts as slots that the seat doesn't know taken
 abbrev pub HasServed : SlowContents → SlowContents → Served → Type 0
 HasServed a b Nothing = ((asked_known b ≡ 0) ⊎ (asked_known b ≡ zero_served a)) × (zero_served b ≡ zero_served a)
-HasServed a b (Sent z) = (asked_known b ≡ z) × (z ≢ 0) × (z ≢ zero_served a) × (zero_served b ≡ z) × (z ≤ mark_kept a) × (mark_kept a ≤ z + 1000)
+HasServed a b (Sent z) = (asked_known b ≡ z) × (z ≢ 0) × (z ≢ zero_served a) × (zero_served b ≡ z) × (z ≤ mark_kept a) × (mark_kept a ≤ z + LONGEST_GAP)
 HasServed a b (Full z) =
     (asked_known b ≡ z) × (z ≢ 0) × (z ≢ zero_served a) × (zero_served b ≡ zero_served a) × (length (parts_sent b) ≡ parts_known_taken b + part_room)
 
