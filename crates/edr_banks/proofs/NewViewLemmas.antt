@@ -11,7 +11,7 @@ use Rattle.edr_image.specs.declared.BankView.{BankView}
 use Rattle.edr_image.specs.declared.BankView.TheVariants.{Void}
 use Rattle.edr_image.specs.declared.places.TheConstants.{BANK_SIZE, FEWEST_BANKS, MOST_BANKS}
 use Rattle.edr_image.specs.Image.{View, bank_view, choice_byte, count_of, header_of, header_refusal, image_refusal, image_size, new_image, place_of, view_of, bank_view_by, header_refusal_by, image_refusal_by, view_by}
-use Rattle.edr_banks.specs.Formatting.{IsNew, IsPartlyFormatted, formatted, new_view}
+use Rattle.edr_banks.specs.Formatting.{IsNew, IsPartlyFormatted, formatted_image, new_view}
 use Rattle.edr_banks.proofs.NewImageLemmas.{new_image_size, zeros_behind}
 use Rattle.edr_layout.proofs.NewFrontLemmas.{front, new_image_is}
 use Rattle.edr_banks.proofs.LaidPieceLemmas.{over_size, over_there}
@@ -82,15 +82,15 @@ view_is h rest low high long new =
     rw (not_refused h rest low high long) (same_view (header_of bytes) h _ (replicate h.banks Void) (count_of bytes) 0 (header_is h rest) banks count)
 
 -- a formatted image has void banks, and its count is 0
-formatted-view : (h : Header) (bytes : List ℕ) → FEWEST_BANKS ≤ h.banks → h.banks ≤ MOST_BANKS → image_size h.banks ≤ length bytes → view_of (formatted h bytes) ≡ Some (new_view h)
+formatted-view : (h : Header) (bytes : List ℕ) → FEWEST_BANKS ≤ h.banks → h.banks ≤ MOST_BANKS → image_size h.banks ≤ length bytes → view_of (formatted_image h bytes) ≡ Some (new_view h)
 formatted-view h bytes low high wide =
     let rest = replicate (image_size h.banks - 12) 0 ++ drop (image_size h.banks) bytes in
-    let is : formatted h bytes ≡ front h ++ rest = ap (λ (xs : List ℕ). xs ++ drop (image_size h.banks) bytes) (new_image_is h) in
+    let is : formatted_image h bytes ≡ front h ++ rest = ap (λ (xs : List ℕ). xs ++ drop (image_size h.banks) bytes) (new_image_is h) in
     let long : image_size h.banks ≤ length (front h ++ rest) = subst (λ (xs : List ℕ). image_size h.banks ≤ length xs) is (omega (arith, over_size (image_size h.banks) (new_image h) bytes (new_image_size h) wide)) in
     let new : IsZero h (front h ++ rest) = λ i from to. ap (λ (xs : List ℕ). slice_index xs i) (sym is) ∙ over_there (image_size h.banks) (new_image h) bytes i (new_image_size h) wide to ∙ zeros_behind h i from in
     ap view_of is ∙ view_is h rest low high long new
 
-pub formatted_new : (h : Header) (bytes image : List ℕ) → FEWEST_BANKS ≤ h.banks → h.banks ≤ MOST_BANKS → image_size h.banks ≤ length bytes → image ≡ formatted h bytes → IsNew h bytes image
+pub formatted_new : (h : Header) (bytes image : List ℕ) → FEWEST_BANKS ≤ h.banks → h.banks ≤ MOST_BANKS → image_size h.banks ≤ length bytes → image ≡ formatted_image h bytes → IsNew h bytes image
 formatted_new h bytes image low high wide same = record { same = same; view = ap view_of same ∙ formatted-view h bytes low high wide }
 
 -- what is laid is as long as what it is laid over, so the image has room

@@ -28,8 +28,8 @@ abbrev pub opened_after : OpenedBanks → List BankStep → OpenedBanks
 opened_after o steps = record o { store = after o.store steps; held = fold held_after o.held steps }
 
 -- the banks with a new event in that bank, which is then held
-abbrev pub holding : ℕ → PrePart → Bool → OpenedBanks → OpenedBanks
-holding bank pre locked o = record o {
+abbrev pub with_held_event : ℕ → PrePart → Bool → OpenedBanks → OpenedBanks
+with_held_event bank pre locked o = record o {
   store = record o.store { banks = with_bank o.store.banks bank (Event (record { pre = pre; locked = locked; crash = None })) };
   held = Some bank;
 }

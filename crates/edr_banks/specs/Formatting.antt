@@ -12,8 +12,8 @@ use Rattle.edr_banks.specs.Laying.{IsPartlyLaid, StandsPast, over}
 pub use Rattle.edr_banks.specs.Laying.{LacksMagic}
 
 -- the image of a header with void banks, and past it what stood there
-abbrev pub formatted : Header → List ℕ → List ℕ
-formatted h bytes = over (image_size h.banks) (new_image h) bytes
+abbrev pub formatted_image : Header → List ℕ → List ℕ
+formatted_image h bytes = over (image_size h.banks) (new_image h) bytes
 
 -- what it says
 abbrev pub new_view : Header → View
@@ -25,7 +25,7 @@ SamePast h bytes image = StandsPast (image_size h.banks) bytes image
 
 -- the image is formatted: it says void banks and count 0
 pub record IsNew (h : Header) (bytes image : List ℕ) : Type 0 where
-  pub same : image ≡ formatted h bytes
+  pub same : image ≡ formatted_image h bytes
   pub view : view_of image ≡ Some (new_view h)
 
 -- the bytes are as they were, or the magic doesn't stand, or the image is formatted; and what stands past it is as it was

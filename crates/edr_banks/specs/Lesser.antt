@@ -18,5 +18,5 @@ abbrev pub lesser : ℕ × Record → Option (ℕ × Record) → Option (ℕ × 
 lesser x other = if is_free x && is_first x other then Some x else other
 
 -- an event that is referred to, with its number
-abbrev pub referred : Option (ℕ × Bor Record) → Option (ℕ × Record)
-referred e = option_map (λ e. (e.0, e.1.now)) e
+abbrev pub referred_event : Option (ℕ × Bor Record) → Option (ℕ × Record)
+referred_event e = option_map (λ e. (e.0, e.1.now)) e

@@ -1,5 +1,5 @@
 //! Which bank a new event takes.
-ghost use Rattle.edr_banks.specs.Lesser.{is_first, is_free, referred};
+ghost use Rattle.edr_banks.specs.Lesser.{is_first, is_free, referred_event};
 ghost use Rattle.std.specs.Prelude.{◌≡◌, ◌&&◌, ◌≤◌, ◌<◌, length, position, IfSome};
 ghost use Rattle.edr_image.specs.declared.places.TheConstants.{MOST_BANKS};
 ghost use Rattle.edr_image.specs.Banks.{comes_before, is_void, least_unlocked, lowest_void};
@@ -35,7 +35,7 @@ pub(crate) fn lowest_void(banks: &[BankView]) -> Option<u8>
 
 // The event isn't locked, and comes before the other, if there is one.
 fn is_lesser(bank: u8, event: &Record, other: Option<(u8, &Record)>) -> bool
-    ensures { result ≡ (is_free (bank, event.now) && is_first (bank, event.now) (referred other.entry)) }
+    ensures { result ≡ (is_free (bank, event.now) && is_first (bank, event.now) (referred_event other.entry)) }
 {
     !event.locked && other.is_none_or(|(m, later)| comes_before(bank, event, m, later))
 }

@@ -4,7 +4,7 @@ ghost use Rattle.edr_image.specs.declared.places.TheConstants.{MOST_BANKS};
 ghost use Rattle.edr_image.specs.Banks.{is_unlocked, least_unlocked, lowest_void, to_overwrite};
 ghost use Rattle.edr_image.specs.Steps.{Done, Lock, done_reply, lock_reply, take_reply, with_crash, with_lock};
 ghost use Rattle.edr_gates.specs.Taken.{MayTakeAll};
-ghost use Rattle.edr_banks.specs.Applying.{holding, opened_after, reply_of};
+ghost use Rattle.edr_banks.specs.Applying.{with_held_event, opened_after, reply_of};
 ghost use Rattle.edr_banks.specs.Tasks.{IsBankWithin, reply_for, steps_of};
 
 use crate::bank_choice::{least_unlocked, lowest_void};
@@ -139,7 +139,7 @@ impl Banks {
     fn hold(&mut self, bank: u8, pre: Pre, locked: bool)
         requires from { 1 ≤ bank }
         requires to { bank ≤ self.old.store.header.banks }
-        ensures { self.new ≡ holding bank pre locked self.old }
+        ensures { self.new ≡ with_held_event bank pre locked self.old }
     {
         self.banks[bank as usize - 1] = BankView::Event(Record {
             pre,

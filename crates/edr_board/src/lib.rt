@@ -13,10 +13,10 @@
 #![tactic(auto)]
 
 ghost use Rattle.std.specs.Prelude.{◌≡◌, ◌≤◌, List, true, IfOk, OnErr};
-ghost use Rattle.edr_board.specs.Status.{unposted, greater, IsStatusUpTo};
+ghost use Rattle.edr_board.specs.Status.{no_posts, greater, IsStatusUpTo};
 ghost use Rattle.edr_board.specs.Rule.{BoardState, IsBoard, opening};
 ghost use Rattle.edr_board.specs.Steps.{SeatsLead, KeepsTheRule};
-ghost use Rattle.edr_board.specs.Seats.{board_id, board_of_recorder, board_of_committer, board_of_watch, AreOfBoard, gate_posted, closed_posted, stopped_posted, last_posts, seen};
+ghost use Rattle.edr_board.specs.Seats.{board_id, board_of_recorder, board_of_committer, board_of_watch, AreOfBoard, gate_posted, closed_posted, stopped_posted, last_posts, status_seen};
 
 mod freeze;
 mod freeze_rule;
@@ -51,8 +51,8 @@ impl Board {
     /// A board on which nothing was posted, with its seats.
     pub fn open(alloc: Global) -> Result<Opened, OutOfMemory>
         ensures board { IfOk result (λ o. AreOfBoard o.board o.recorder o.committer o.watch) }
-        ensures posts { IfOk result (λ o. last_posts o.recorder o.committer ≡ unposted) }
-        ensures watch { IfOk result (λ o. seen o.watch ≡ unposted) }
+        ensures posts { IfOk result (λ o. last_posts o.recorder o.committer ≡ no_posts) }
+        ensures watch { IfOk result (λ o. status_seen o.watch ≡ no_posts) }
     {
         let (table, mut first) = Table::<u8, SeatView, (), NeverFalling, Global>::of_words(
             alloc,
@@ -155,8 +155,8 @@ impl Watch {
     /// The words, each read by itself: they are not of one moment.
     pub fn read(&mut self) -> BoardStatus
         ensures board { board_of_watch self.new ≡ board_of_watch self.old }
-        ensures later { IsStatusUpTo (seen self.old) result }
-        ensures seen { seen self.new ≡ result }
+        ensures later { IsStatusUpTo (status_seen self.old) result }
+        ensures seen { status_seen self.new ≡ result }
     {
         let gate = self.table.shared.load::<LoadGate>(&mut self.seat, GATE);
         let closed = self.table.shared.load::<LoadClosed>(&mut self.seat, CLOSED);
@@ -173,9 +173,11 @@ impl Watch {
 
     /// A second watch, which has seen what this one has.
     pub fn split(&mut self) -> Result<Watch, OutOfMemory>
-        ensures same { (board_of_watch self.new ≡ board_of_watch self.old) × (seen self.new ≡ seen self.old) }
+        ensures same { (board_of_watch self.new ≡ board_of_watch self.old)
+            × (status_seen self.new ≡ status_seen self.old) }
         ensures err { OnErr result (self.new ≡ self.old) }
-        ensures second { IfOk result (λ w. (board_of_watch w ≡ board_of_watch self.old) × (seen w ≡ seen self.old)) }
+        ensures second { IfOk result (λ w. (board_of_watch w ≡ board_of_watch self.old)
+            × (status_seen w ≡ status_seen self.old)) }
     {
         let table = Arc::try_clone(&self.table)?;
         let seat = self.table.shared.split_seat::<ToWatch>(&mut self.seat);
@@ -186,7 +188,7 @@ impl Watch {
     pub fn join(self, other: Watch) -> Watch
         requires { board_of_watch other ≡ board_of_watch self }
         ensures board { board_of_watch result ≡ board_of_watch self }
-        ensures seen { seen result ≡ greater (seen self) (seen other) }
+        ensures seen { status_seen result ≡ greater (status_seen self) (status_seen other) }
     {
         let Watch { table, mut seat } = self;
         table.shared.join_seat::<TakeIn>(&mut seat, other.seat);
@@ -197,8 +199,8 @@ impl Watch {
     pub fn wait_gate<R: Wait>(&mut self, rt: &R) -> u32
         ensures board { board_of_watch self.new ≡ board_of_watch self.old }
         ensures open { 1 ≤ result }
-        ensures later { (seen self.old).gate ≤ result }
-        ensures seen { seen self.new ≡ record (seen self.old) { gate = result } }
+        ensures later { (status_seen self.old).gate ≤ result }
+        ensures seen { status_seen self.new ≡ record (status_seen self.old) { gate = result } }
     {
         for _ in rt.forever() {
             let gate = self.table.shared.load::<LoadGate>(&mut self.seat, GATE);

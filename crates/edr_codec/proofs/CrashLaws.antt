@@ -9,7 +9,7 @@ use Rattle.edr_record.specs.Parts.{CrashPart}
 use Rattle.edr_record.specs.Bounds.{IsCrash, ArePoints, IsChange, window_from_end, point_count}
 use Rattle.edr_record.specs.declared.Extreme.{Extreme}
 use Rattle.edr_image.specs.declared.forms.CrashForm.{CrashForm}
-use Rattle.edr_image.specs.PartBytes.{NumberField, damage_of_fields, crash_damage_by, crash_at, crash_bytes_by, number_at, signed, unless, extreme_at, signed_bytes, slot_bytes, extreme_bytes, crash_size}
+use Rattle.edr_image.specs.PartBytes.{NumberField, damage_of_fields, crash_damage_by, crash_at, crash_bytes_by, number_at, signed_value, unless, extreme_at, signed_bytes, slot_bytes, extreme_bytes, crash_size}
 use Rattle.edr_codec.specs.declared.rows.FieldRow.{FieldRow}
 use Rattle.edr_codec.proofs.RowLemmas.{AreBytes, Lies, RowsLie, rows-whole}
 use Rattle.edr_codec.proofs.NumberLemmas.{number-stands, number-put}
@@ -20,10 +20,10 @@ use Rattle.edr_codec.proofs.PutLemmas.{crash-put}
 
 -- ---- what is read is put back
 
-signed-piece : (bytes : List ℕ) (at : ℕ) → AreBytes bytes → signed_bytes (signed (number_at bytes at 2)) ≡ big_bytes 2 (number_at bytes at 2)
+signed-piece : (bytes : List ℕ) (at : ℕ) → AreBytes bytes → signed_bytes (signed_value (number_at bytes at 2)) ≡ big_bytes 2 (number_at bytes at 2)
 signed-piece bytes at are = ap (big_bytes 2) (PieceLemmas.signed-number (number_at bytes at 2) (big_from-lt at 2 bytes are))
 
-extreme-stands : (bytes : List ℕ) (at : ℕ) → AreBytes bytes → at + 4 ≤ length bytes → take (at + 2 + 2) bytes ≡ take at bytes ++ extreme_bytes (record { kmh = signed (number_at bytes at 2); at = number_at bytes (at + 2) 2 })
+extreme-stands : (bytes : List ℕ) (at : ℕ) → AreBytes bytes → at + 4 ≤ length bytes → take (at + 2 + 2) bytes ≡ take at bytes ++ extreme_bytes (record { kmh = signed_value (number_at bytes at 2); at = number_at bytes (at + 2) 2 })
 extreme-stands bytes at are room =
     let first : List ℕ = big_bytes 2 (number_at bytes at 2) in
     let later : List ℕ = big_bytes 2 (number_at bytes (at + 2) 2) in
@@ -41,8 +41,8 @@ crash-written form bytes long are whole =
     let last : max end (window_from_end end) < 0xffff = omega arith in
     crash-put form (crash_at bytes 0) bytes bytes bytes bytes bytes bytes bytes bytes bytes bytes (crash_at-is form bytes whole) long
     (number-stands bytes 0 2 are (omega arith))
-    (PieceLemmas.values-stand bytes 2 2 26 signed signed_bytes are (omega arith) (λ k below. signed-piece bytes (2 + 2 * k) are))
-    (PieceLemmas.values-stand bytes 54 2 26 signed signed_bytes are (omega arith) (λ k below. signed-piece bytes (54 + 2 * k) are))
+    (PieceLemmas.values-stand bytes 2 2 26 signed_value signed_bytes are (omega arith) (λ k below. signed-piece bytes (2 + 2 * k) are))
+    (PieceLemmas.values-stand bytes 54 2 26 signed_value signed_bytes are (omega arith) (λ k below. signed-piece bytes (54 + 2 * k) are))
     (extreme-stands bytes 106 are (omega arith))
     (extreme-stands bytes 110 are (omega arith))
     (number-stands bytes 114 2 are (omega arith))
@@ -219,9 +219,9 @@ crash-rows form bytes end lies =
 pub crash-numbers_say : (form : CrashForm) (bytes : List ℕ) (c : CrashPart) → IsCrash c → CrashNumbers form bytes c → crash_at bytes 0 ≡ c
 crash-numbers_say form bytes c is are =
     let extreme = λ (at : ℕ) (x : Extreme) (change : IsChange x.kmh) (kmh : number_at bytes at 2 ≡ PieceLemmas.change_code x.kmh) (time : number_at bytes (at + 2) 2 ≡ x.at).
-    (let same : extreme_at bytes at ≡ x = ap₂ (λ (z : ℤ) (n : ℕ). let y : Extreme = record { kmh = z; at = n } in y) (ap signed kmh ∙ PieceLemmas.change-back x.kmh change) time in same) in
+    (let same : extreme_at bytes at ≡ x = ap₂ (λ (z : ℤ) (n : ℕ). let y : Extreme = record { kmh = z; at = n } in y) (ap signed_value kmh ∙ PieceLemmas.change-back x.kmh change) time in same) in
     let points = λ (at count : ℕ) (zs : List ℤ) (points_are : ArePoints count zs) (put : (k : ℕ) → k < 26 → number_at bytes (at + 2 * k) 2 ≡ PieceLemmas.change_code (get_or zs k (pos 0))).
-    PieceLemmas.values-back bytes at 2 26 signed PieceLemmas.change_code (pos 0) zs points_are.room put
+    PieceLemmas.values-back bytes at 2 26 signed_value PieceLemmas.change_code (pos 0) zs points_are.room put
     (λ k below. PieceLemmas.change-back (get_or zs k (pos 0)) (points_are.changes k (pos 0) (let h = points_are.room in omega arith))) in
     let window = window_from_end c.end in
     let last : max c.end window < 0xffff = let ends = is.end_to in omega arith in

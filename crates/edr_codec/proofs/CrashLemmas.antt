@@ -10,7 +10,7 @@ use Rattle.std.proofs.lemmas.Simd.{map-map}
 use Rattle.edr_record.specs.Bounds.{IsCrash, ArePoints, IsChange, IsExtreme, window_from_end, point_count}
 use Rattle.edr_record.specs.declared.Extreme.{Extreme}
 use Rattle.edr_image.specs.declared.forms.CrashForm.{CrashForm}
-use Rattle.edr_image.specs.PartBytes.{NumberField, damage_of_fields, crash_fields_by, crash_damage_by, crash_at, number_at, numbers_at, signed, unless, extreme_at, change_field, time_field}
+use Rattle.edr_image.specs.PartBytes.{NumberField, damage_of_fields, crash_fields_by, crash_damage_by, crash_at, number_at, numbers_at, signed_value, unless, extreme_at, change_field, time_field}
 use Rattle.edr_codec.specs.declared.rows.FieldRow.{FieldRow}
 use Rattle.edr_codec.specs.Rows.{fields_of}
 use Rattle.edr_codec.proofs.RowLemmas.{Lies, RowsLie, rows-lie}
@@ -148,13 +148,13 @@ crash-lies form bytes end lie =
 -- ---- the bounds
 
 -- a number of a change is one of at most 3000 km/h
-pub signed-change : (n : ℕ) → Lies change_ranges n → IsChange (signed n)
+pub signed-change : (n : ℕ) → Lies change_ranges n → IsChange (signed_value n)
 signed-change n (inl up) = rw (lt-ltb n 32_768 (omega arith)) up.1
 signed-change n (inr (inl down)) = rw (le-ltb n 32_768 (omega arith)) (omega (arith, ints))
 signed-change n (inr (inr none)) = absurd none
 
 -- a point of an axis
-point-is : (bytes : List ℕ) (at count k : ℕ) → PointsLie bytes at count → k < 26 → IsChange (signed (number_at bytes (at + 2 * k) 2))
+point-is : (bytes : List ℕ) (at count k : ℕ) → PointsLie bytes at count → k < 26 → IsChange (signed_value (number_at bytes (at + 2 * k) 2))
 point-is bytes at count zero lie below =
     let none : number_at bytes (at + 2 * 0) 2 ≡ 0 = only_zero (number_at bytes (at + 2 * 0) 2) (moved ((0, 0) ∷ []) bytes at (at + 2 * 0) (omega arith) lie.first) in
     rw none (omega arith)
@@ -176,11 +176,11 @@ past-zeros f n from are =
     ∙ are (from + k) (omega arith) (omega arith)
     ∙ sym (get_or-replicate (n - from) k (pos 0) (pos 0) within))
 
-points-are : (bytes : List ℕ) (at count : ℕ) → count ≤ 26 → PointsLie bytes at count → ArePoints count (map signed (numbers_at bytes at 2 26))
+points-are : (bytes : List ℕ) (at count : ℕ) → count ≤ 26 → PointsLie bytes at count → ArePoints count (map signed_value (numbers_at bytes at 2 26))
 points-are bytes at count few lie =
-    let value = λ (k : ℕ). signed (number_at bytes (at + 2 * k) 2) in
+    let value = λ (k : ℕ). signed_value (number_at bytes (at + 2 * k) 2) in
     let points = map value (range_with_len 0 26) in
-    let same : map signed (numbers_at bytes at 2 26) ≡ points = map-map signed (λ (k : ℕ). number_at bytes (at + 2 * k) 2) (range_with_len 0 26) in
+    let same : map signed_value (numbers_at bytes at 2 26) ≡ points = map-map signed_value (λ (k : ℕ). number_at bytes (at + 2 * k) 2) (range_with_len 0 26) in
     let read : (k : ℕ) → k < 26 → get_or points k (pos 0) ≡ value k = λ k below. get_or-map-range_with_len value 0 26 k k (pos 0) below (omega arith) in
     let first : number_at bytes (at + 2 * 0) 2 ≡ 0 = only_zero (number_at bytes (at + 2 * 0) 2) (moved ((0, 0) ∷ []) bytes at (at + 2 * 0) (omega arith) lie.first) in
     rw same record {
@@ -191,7 +191,7 @@ points-are bytes at count few lie =
     }
 
 extreme-is : (bytes : List ℕ) (at window : ℕ) → Lies change_ranges (number_at bytes at 2) → Lies ((0, window) ∷ []) (number_at bytes (at + 2) 2)
-    → IsExtreme window (record { kmh = signed (number_at bytes at 2); at = number_at bytes (at + 2) 2 })
+    → IsExtreme window (record { kmh = signed_value (number_at bytes at 2); at = number_at bytes (at + 2) 2 })
 extreme-is bytes at window change time = record { change = signed-change (number_at bytes at 2) change; time = (in_range 0 window (number_at bytes (at + 2) 2) time).1 }
 
 pub crash_at-is : (form : CrashForm) (bytes : List ℕ) → crash_damage_by form bytes 0 ≡ None → IsCrash (crash_at bytes 0)
@@ -218,8 +218,8 @@ crash_at-is form bytes whole =
 -- the values that are read, each at its place, are the crash part
 pub crash_at-parts : (bytes : List ℕ) (end : ℕ) (along across : List ℤ) (max_along max_across : Extreme) (result_at missing_along missing_across : ℕ) (fired : List (Option ℕ))
     → end ≡ number_at bytes 0 2
-    → along ≡ map signed (numbers_at bytes 2 2 26)
-    → across ≡ map signed (numbers_at bytes 54 2 26)
+    → along ≡ map signed_value (numbers_at bytes 2 2 26)
+    → across ≡ map signed_value (numbers_at bytes 54 2 26)
     → max_along ≡ extreme_at bytes 106
     → max_across ≡ extreme_at bytes 110
     → result_at ≡ number_at bytes 114 2

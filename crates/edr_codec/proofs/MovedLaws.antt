@@ -10,7 +10,7 @@ use Rattle.edr_record.specs.declared.Place.{Place}
 use Rattle.edr_record.specs.declared.Place.TheVariants.{First, Second}
 use Rattle.edr_image.specs.declared.forms.CrashForm.{CrashForm}
 use Rattle.edr_image.specs.declared.forms.PreForm.{PreForm}
-use Rattle.edr_image.specs.PartBytes.{NumberField, can_be_in, damage_of_field, damage_of_fields, pre_size, slots_of, profile_from, throttle_at, brake_at, belt_at, lamp_at, IsPreForm, pre_fields_by, pre_damage_by, pre_at_by, crash_fields_by, crash_damage_by, crash_at, number_at, numbers_at, signed, unless, switch_from, extreme_at, crash_size}
+use Rattle.edr_image.specs.PartBytes.{NumberField, can_be_in, damage_of_field, damage_of_fields, pre_size, slots_of, profile_from, throttle_at, brake_at, belt_at, lamp_at, IsPreForm, pre_fields_by, pre_damage_by, pre_at_by, crash_fields_by, crash_damage_by, crash_at, number_at, numbers_at, signed_value, unless, switch_from, extreme_at, crash_size}
 use Rattle.edr_codec.proofs.FieldLemmas.{fields_size}
 use Rattle.edr_codec.proofs.PreLemmas.{part-same}
 use Rattle.edr_codec.proofs.GrammarLaws.{crash_fields-size, pre_fields-size}
@@ -133,7 +133,7 @@ crash_at-moved form at bytes part stands =
     let extreme = λ (i : ℕ) (room : i + 4 ≤ crash_size form).
     (let e : at + i + 2 ≡ at + (i + 2) = omega arith in
     let same : extreme_at bytes (at + i) ≡ extreme_at part i =
-    ap₂ (λ (m n : ℕ). let x : Extreme = record { kmh = signed m; at = n } in x) (number i 2 (omega arith)) (ap (λ (j : ℕ). number_at bytes j 2) e ∙ number (i + 2) 2 (omega arith)) in same) in
+    ap₂ (λ (m n : ℕ). let x : Extreme = record { kmh = signed_value m; at = n } in x) (number i 2 (omega arith)) (ap (λ (j : ℕ). number_at bytes j 2) e ∙ number (i + 2) 2 (omega arith)) in same) in
     let max_along = extreme 106 (omega arith) in
     let max_across = extreme 110 (omega arith) in
     let result_at = number 114 2 (omega arith) in

@@ -16,7 +16,7 @@ use Rattle.std.specs.Int.{cast_unsigned, w16, byte_at}
 use Rattle.byteorder.specs.Endian.{big_bytes}
 use Rattle.byteorder.specs.Numbers.{length-bytes_high_first}
 use Rattle.edr_record.specs.Bounds.{IsUpTo, IsChange}
-use Rattle.edr_image.specs.PartBytes.{number_at, numbers_at, unless, switch_from, signed, slot_bytes, switch_byte, signed_bytes}
+use Rattle.edr_image.specs.PartBytes.{number_at, numbers_at, unless, switch_from, signed_value, slot_bytes, switch_byte, signed_bytes}
 use Rattle.edr_codec.proofs.RowLemmas.{AreBytes, Lies}
 use Rattle.edr_codec.proofs.NumberLemmas.{number-stands, number-put}
 
@@ -52,7 +52,7 @@ switch-below n (inr (inr none)) = absurd none
 pub one_byte : (n : ℕ) → n < 256 → big_bytes 1 n ≡ n ∷ []
 one_byte n small = let e : n % 256 ≡ n = omega arith in ap (λ (x : ℕ). x ∷ []) e
 
-pub signed-number : (n : ℕ) → n < 65_536 → cast_unsigned w16 (signed n) ≡ n
+pub signed-number : (n : ℕ) → n < 65_536 → cast_unsigned w16 (signed_value n) ≡ n
 signed-number n small = grind (arith, ints)
 
 range-more : (a n : ℕ) → range_with_len a (suc n) ≡ range_with_len a n ++ (a + n) ∷ []
@@ -188,7 +188,7 @@ change_code z = cast_unsigned w16 z
 pub change-coded : (z : ℤ) → IsChange z → IsCoded 2 signed_bytes change_code z
 change-coded z small = record { bytes = refl; fits = grind (arith, ints) }
 
-pub change-back : (z : ℤ) → IsChange z → signed (change_code z) ≡ z
+pub change-back : (z : ℤ) → IsChange z → signed_value (change_code z) ≡ z
 change-back (pos n) small = grind (arith, ints)
 change-back (negsuc n) small = grind (arith, ints)
 

@@ -3,7 +3,7 @@
 ghost use Rattle.std.specs.Prelude.{◌≡◌, ℕ, ℤ, ◌+◌, ◌*◌, ◌≤◌, ◌<◌, ◌^◌, ◌++◌, ◌∷◌, [], List, length, take, map, replicate};
 ghost use Rattle.std.specs.List.{flat_map};
 ghost use Rattle.byteorder.specs.Endian.{big_bytes};
-ghost use Rattle.edr_image.specs.PartBytes.{number_at, numbers_at, unless, switch_from, signed, slot_bytes, switch_byte, signed_bytes};
+ghost use Rattle.edr_image.specs.PartBytes.{number_at, numbers_at, unless, switch_from, signed_value, slot_bytes, switch_byte, signed_bytes};
 
 use byteorder::{BigEndian, ByteOrder};
 
@@ -93,7 +93,7 @@ impl PartValue for u16 {
 impl PartValue for i16 {
     ghost size = { 2 };
 
-    ghost value_of = { signed };
+    ghost value_of = { signed_value };
 
     ghost bytes_of = { signed_bytes };
 

@@ -36,28 +36,28 @@ use Rattle.edr_core.specs.Rows.{RowIs, rows_of}
 use Rattle.edr_core.specs.Ask.{with_part}
 use Rattle.edr_core.specs.SplitHistory.{History, start_of, after_item, after_part}
 use Rattle.edr_core.specs.SplitContents.{SplitContents}
-use Rattle.edr_core.specs.SplitStandsFor.{IsMadeOf, HoldsCandidateWith, AskIs, HoldsAsk, merged, SplitCoreStandsFor}
+use Rattle.edr_core.specs.SplitStandsFor.{IsMadeOf, HoldsCandidateWith, AskIs, HoldsAsk, merge_progress, SplitCoreStandsFor}
 use Rattle.edr_core.proofs.RowLemmas.{rows_of-agree}
 use Rattle.edr_core.proofs.TakenLemmas.{one-taken}
 
 -- ---- how far the merge has come
-merged-closed : (w : History) (b : Bool) → w.asking ≡ b → (merged w).closed ≡ cond {A = ℕ} b (w.past.closed + 1) w.past.closed
+merged-closed : (w : History) (b : Bool) → w.asking ≡ b → (merge_progress w).closed ≡ cond {A = ℕ} b (w.past.closed + 1) w.past.closed
 merged-closed w true is = ap (λ (v : Bool). (cond {A = Progress} v (after_step w.past Close) w.past).closed) is
 merged-closed w false is = ap (λ (v : Bool). (cond {A = Progress} v (after_step w.past Close) w.past).closed) is
 
-pub merged-given : (w : History) → (merged w).given ≡ w.past.given
+pub merged-given : (w : History) → (merge_progress w).given ≡ w.past.given
 merged-given w = by w.asking where
   by : (b : Bool) → (cond {A = Progress} b (after_step w.past Close) w.past).given ≡ w.past.given
   by true = refl
   by false = refl
 
-pub merged-free : (w : History) → w.asking ≡ false → merged w ≡ w.past
+pub merged-free : (w : History) → w.asking ≡ false → merge_progress w ≡ w.past
 merged-free w is = ap (λ (v : Bool). cond {A = Progress} v (after_step w.past Close) w.past) is
 
-pub merged-asking : (w : History) → w.asking ≡ true → merged w ≡ after_step w.past Close
+pub merged-asking : (w : History) → w.asking ≡ true → merge_progress w ≡ after_step w.past Close
 merged-asking w is = ap (λ (v : Bool). cond {A = Progress} v (after_step w.past Close) w.past) is
 
-merged-gives : (w : History) (s : Sensor) (x : Item) → after_step (merged w) (Give s x) ≡ merged (after_item s x w)
+merged-gives : (w : History) (s : Sensor) (x : Item) → after_step (merge_progress w) (Give s x) ≡ merge_progress (after_item s x w)
 merged-gives w s x = by w.asking where
   by : (b : Bool) → after_step (cond {A = Progress} b (after_step w.past Close) w.past) (Give s x) ≡ cond {A = Progress} b (after_step (after_step w.past (Give s x)) Close) (after_step w.past (Give s x))
   by true = refl
@@ -66,8 +66,8 @@ merged-gives w s x = by w.asking where
 pub feeds-of : (c : SplitContents) (w : History) → SplitCoreStandsFor c w → AreFeeds w.past.given
 feeds-of c w h = subst AreFeeds (merged-given w) h.merge_is.feeds
 
-pub within-merged : (c : SplitContents) (w : History) → SplitCoreStandsFor c w → (merged w).closed ≤ horizon_of w.past.given
-within-merged c w h = subst (λ f. (merged w).closed ≤ horizon_of f) (merged-given w) h.merge_is.within
+pub within-merged : (c : SplitContents) (w : History) → SplitCoreStandsFor c w → (merge_progress w).closed ≤ horizon_of w.past.given
+within-merged c w h = subst (λ f. (merge_progress w).closed ≤ horizon_of f) (merged-given w) h.merge_is.within
 
 -- no tick past a cycle is closed
 pub closed-early : (c : SplitContents) (w : History) → SplitCoreStandsFor c w → c.closed ≤ 86_400_000
@@ -120,7 +120,7 @@ split-starts n m d link from to merge_is detected linked =
 
 -- ---- one more item
 -- what the merge allows is allowed by the closed tick too, if the item is near enough while the split core asks
-pub allowed-past : (c : SplitContents) (w : History) (s : Sensor) (x : Item) → SplitCoreStandsFor c w → (is_some c.ask ≡ true → x.moment ≤ c.closed + 1000) → IsAllowed (Give s x) (merged w) → IsAllowed (Give s x) w.past
+pub allowed-past : (c : SplitContents) (w : History) (s : Sensor) (x : Item) → SplitCoreStandsFor c w → (is_some c.ask ≡ true → x.moment ≤ c.closed + 1000) → IsAllowed (Give s x) (merge_progress w) → IsAllowed (Give s x) w.past
 allowed-past c w s x h near allowed = by c.ask refl where
   refusal : refusal_of s (mark_of (items_of s w.past.given)) x ≡ None
   refusal = subst (λ f. refusal_of s (mark_of (items_of s f)) x ≡ None) (merged-given w) allowed.0
@@ -147,21 +147,21 @@ row-agrees m m' t a same row = record {
   fired = row.fired ∙ same.fired t (omega arith);
 }
 
-module _ (c : SplitContents) (w : History) (s : Sensor) (x : Item) (merge : MergeState) (h : SplitCoreStandsFor c w) (allowed : IsAllowed (Give s x) w.past) (merge_is : MergeStandsFor merge (after_step (merged w) (Give s x))) where
+module _ (c : SplitContents) (w : History) (s : Sensor) (x : Item) (merge : MergeState) (h : SplitCoreStandsFor c w) (allowed : IsAllowed (Give s x) w.past) (merge_is : MergeStandsFor merge (after_step (merge_progress w) (Give s x))) where
   abbrev f : SensorLists
   f = w.past.given
 
   abbrev g : SensorLists
   g = with_item s x f
 
-  later : (merged w).closed ≤ horizon_of f → AgreeUpTo (merged w).closed (signals_of f) (signals_of g)
-  later within = (GiveTheSameUpTo-push s f x (merged w).closed (accepted-later f (merged w).closed s x within allowed.0)).signals
+  later : (merge_progress w).closed ≤ horizon_of f → AgreeUpTo (merge_progress w).closed (signals_of f) (signals_of g)
+  later within = (GiveTheSameUpTo-push s f x (merge_progress w).closed (accepted-later f (merge_progress w).closed s x within allowed.0)).signals
 
   ask-gives : (o : Option OpenAsk) → HoldsAsk o w → HoldsAsk o (after_item s x w)
   ask-gives None free = free
   ask-gives (Some a) is =
       let t = w.past.closed in
-      let closed : (merged w).closed ≡ t + 1 = ap (λ (p : Progress). p.closed) (merged-asking w is.asking) in
+      let closed : (merge_progress w).closed ≡ t + 1 = ap (λ (p : Progress). p.closed) (merged-asking w is.asking) in
       let same : AgreeUpTo (t + 1) (signals_of f) (signals_of g) = subst (λ u. AgreeUpTo u (signals_of f) (signals_of g)) closed (later (within-merged c w h)) in
       record {
         asking = is.asking;
@@ -173,8 +173,8 @@ module _ (c : SplitContents) (w : History) (s : Sensor) (x : Item) (merge : Merg
 
   pub split-gives : SplitCoreStandsFor (record c { merge = merge }) (after_item s x w)
   split-gives =
-      let closed : (merged (after_item s x w)).closed ≡ (merged w).closed = ap (λ (p : Progress). p.closed) (sym (merged-gives w s x)) in
-      let rows = rows_of-agree (merged w).closed (signals_of f) (signals_of g) (later (within-merged c w h)) in
+      let closed : (merge_progress (after_item s x w)).closed ≡ (merge_progress w).closed = ap (λ (p : Progress). p.closed) (sym (merged-gives w s x)) in
+      let rows = rows_of-agree (merge_progress w).closed (signals_of f) (signals_of g) (later (within-merged c w h)) in
       record {
         cycle_is = h.cycle_is;
         cycle_from = h.cycle_from;
@@ -205,7 +205,7 @@ holds-more q parts (Some o) k crash h = (more-made q parts k.frozen o.pre h.0, h
 pub split-takes : (c : SplitContents) (w : History) (a : OpenAsk) (q : SensorPart) → SplitCoreStandsFor c w → c.ask ≡ Some a → q.zero ≡ w.past.closed + 1 → SplitCoreStandsFor (record c { ask = Some (record a { parts = with_part q a.parts }) }) (after_part q w)
 split-takes c w a q h is zero =
     let asked = asked-is c w a h is in
-    let closed : (merged w).closed ≡ w.past.closed + 1 = ap (λ (p : Progress). p.closed) (merged-asking w asked.asking) in
+    let closed : (merge_progress w).closed ≡ w.past.closed + 1 = ap (λ (p : Progress). p.closed) (merged-asking w asked.asking) in
     record {
       cycle_is = h.cycle_is;
       cycle_from = h.cycle_from;
@@ -228,5 +228,5 @@ split-takes c w a q h is zero =
         zero = asked.zero;
         parts = one-taken a.parts w.parts q (w.past.closed + 1) zero asked.parts;
       };
-      early = All-cons (λ y. y.zero ≤ (merged w).closed) q w.parts (omega (arith, zero, closed)) h.early;
+      early = All-cons (λ y. y.zero ≤ (merge_progress w).closed) q w.parts (omega (arith, zero, closed)) h.early;
     }

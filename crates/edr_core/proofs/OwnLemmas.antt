@@ -35,7 +35,7 @@ use Rattle.edr_core.specs.SplitHistory.{History, start_of, after_item, after_par
 use Rattle.edr_core.specs.SplitContents.{SplitContents}
 use Rattle.edr_core.specs.SplitStandsFor.{HoldsAsk, SplitCoreStandsFor}
 use Rattle.edr_core.specs.SplitAnswers.{answer_of, split_step_of, part_refusal_of}
-use Rattle.edr_core.specs.OwnParts.{resting, parts_after, own_parts, with_own_parts, AsksFor}
+use Rattle.edr_core.specs.OwnParts.{resting_history, parts_after, own_parts, with_own_parts, AsksFor}
 use Rattle.edr_core.specs.declared.ask.OpenAsk.{OpenAsk as OpenAsk}
 use Rattle.edr_core.proofs.TakenLemmas.{part_in-early, eqb_same, taken}
 use Rattle.edr_core.proofs.GiveLemmas.{feeds-of}
@@ -52,7 +52,7 @@ asks c w h asking = by c.ask h.ask_is where
 -- a core of all sensors asks for nothing between its calls
 pub asks-nothing : (c : CoreContents) (n : ℕ) (p : Progress) → CoreIsFor c n p → is_some c.split.ask ≡ false
 asks-nothing c n p h = by c.split.ask h.split_is.ask_is where
-  by : (o : Option OpenAsk) → HoldsAsk o (resting n p h.parts) → is_some o ≡ false
+  by : (o : Option OpenAsk) → HoldsAsk o (resting_history n p h.parts) → is_some o ≡ false
   by None free = refl
   by (Some a) is = let asks = is.asking in cc
 
@@ -179,7 +179,7 @@ pub later-allowed : (c : CoreContents) (n : ℕ) (p : Progress) (s : Sensor) (x 
 later-allowed c n p s x h allowed = later-accepted s x c.captures p.given h.split_is.merge_is.feeds h.captures_are allowed.0
 
 -- with an item that is allowed the core stands for the longer lists
-pub core-gives : (c : CoreContents) (n : ℕ) (p : Progress) (s : Sensor) (x : Item) (split : SplitContents) (captures : Captures) → (h : CoreIsFor c n p) → IsAllowed (Give s x) p → SplitCoreStandsFor split (after_item s x (resting n p h.parts)) → captures ≡ with_kept s x c.captures → CoreIsFor (record { cycle = split.cycle; closed = split.closed; split = split; captures = captures }) n (after_step p (Give s x))
+pub core-gives : (c : CoreContents) (n : ℕ) (p : Progress) (s : Sensor) (x : Item) (split : SplitContents) (captures : Captures) → (h : CoreIsFor c n p) → IsAllowed (Give s x) p → SplitCoreStandsFor split (after_item s x (resting_history n p h.parts)) → captures ≡ with_kept s x c.captures → CoreIsFor (record { cycle = split.cycle; closed = split.closed; split = split; captures = captures }) n (after_step p (Give s x))
 core-gives c n p s x split captures h allowed split_is kept =
     let later = accepted-later p.given p.closed s x h.split_is.merge_is.within allowed.0 in
     record {
@@ -194,7 +194,7 @@ core-gives c n p s x split captures h allowed split_is kept =
     }
 
 -- a tick that is closed
-pub core-closes : (c : CoreContents) (n : ℕ) (p : Progress) (split : SplitContents) (parts : List SensorPart) → (h : CoreIsFor c n p) → SplitCoreStandsFor split (resting n (after_step p Close) parts) → AreSlotsOf parts (parts_of p.given) → CoreIsFor (record { cycle = split.cycle; closed = split.closed; split = split; captures = c.captures }) n (after_step p Close)
+pub core-closes : (c : CoreContents) (n : ℕ) (p : Progress) (split : SplitContents) (parts : List SensorPart) → (h : CoreIsFor c n p) → SplitCoreStandsFor split (resting_history n (after_step p Close) parts) → AreSlotsOf parts (parts_of p.given) → CoreIsFor (record { cycle = split.cycle; closed = split.closed; split = split; captures = c.captures }) n (after_step p Close)
 core-closes c n p split parts h split_is are = record {
   cycle_is = split_is.cycle_is;
   cycle_from = h.cycle_from;
@@ -207,7 +207,7 @@ core-closes c n p split parts h split_is are = record {
 }
 
 -- a wait changes nothing
-pub core-waits : (c : CoreContents) (n : ℕ) (p : Progress) (split : SplitContents) → (h : CoreIsFor c n p) → SplitCoreStandsFor split (resting n p h.parts) → CoreIsFor (record { cycle = split.cycle; closed = split.closed; split = split; captures = c.captures }) n p
+pub core-waits : (c : CoreContents) (n : ℕ) (p : Progress) (split : SplitContents) → (h : CoreIsFor c n p) → SplitCoreStandsFor split (resting_history n p h.parts) → CoreIsFor (record { cycle = split.cycle; closed = split.closed; split = split; captures = c.captures }) n p
 core-waits c n p split h split_is = record {
   cycle_is = split_is.cycle_is;
   cycle_from = h.cycle_from;
@@ -220,27 +220,27 @@ core-waits c n p split h split_is = record {
 }
 
 -- ---- when a tick may be closed
-pub waits-own : (n : ℕ) (p : Progress) (parts : List SensorPart) (s : Sensor) → Waits s ≡ due (resting n p parts) → waited_for p ≡ Some s
+pub waits-own : (n : ℕ) (p : Progress) (parts : List SensorPart) (s : Sensor) → Waits s ≡ due (resting_history n p parts) → waited_for p ≡ Some s
 waits-own n p parts s answer = by (waited_for p) (is_zero_next p) refl answer where
   by : (o : Option Sensor) (z : Bool) → waited_for p ≡ o → Waits s ≡ option_map_or Waits o (cond {A = Answer} z (Asks (p.closed + 1)) (Closes (p.closed + 1))) → waited_for p ≡ Some s
   by (Some r) z is e = let same : s ≡ r = cc in is ∙ ap Some (sym same)
   by None true is e = cc
   by None false is e = cc
 
-pub closes-own : (n : ℕ) (p : Progress) (parts : List SensorPart) (t : ℕ) → Closes t ≡ due (resting n p parts) → waited_for p ≡ None
+pub closes-own : (n : ℕ) (p : Progress) (parts : List SensorPart) (t : ℕ) → Closes t ≡ due (resting_history n p parts) → waited_for p ≡ None
 closes-own n p parts t answer = by (waited_for p) refl answer where
   by : (o : Option Sensor) → waited_for p ≡ o → Closes t ≡ option_map_or Waits o (cond {A = Answer} (is_zero_next p) (Asks (p.closed + 1)) (Closes (p.closed + 1))) → waited_for p ≡ None
   by (Some r) is e = cc
   by None is e = is
 
-pub asks-own : (n : ℕ) (p : Progress) (parts : List SensorPart) (t : ℕ) → Asks t ≡ due (resting n p parts) → (waited_for p ≡ None) × (t ≡ p.closed + 1)
+pub asks-own : (n : ℕ) (p : Progress) (parts : List SensorPart) (t : ℕ) → Asks t ≡ due (resting_history n p parts) → (waited_for p ≡ None) × (t ≡ p.closed + 1)
 asks-own n p parts t answer = by (waited_for p) (is_zero_next p) refl answer where
   by : (o : Option Sensor) (z : Bool) → waited_for p ≡ o → Asks t ≡ option_map_or Waits o (cond {A = Answer} z (Asks (p.closed + 1)) (Closes (p.closed + 1))) → (waited_for p ≡ None) × (t ≡ p.closed + 1)
   by (Some r) z is e = cc
   by None true is e = let same : t ≡ p.closed + 1 = cc in (is, same)
   by None false is e = cc
 
-pub lacks-none : (n : ℕ) (p : Progress) (parts : List SensorPart) (s : Sensor) → Lacks s ≡ due (resting n p parts) → ⊥
+pub lacks-none : (n : ℕ) (p : Progress) (parts : List SensorPart) (s : Sensor) → Lacks s ≡ due (resting_history n p parts) → ⊥
 lacks-none n p parts s answer = by (waited_for p) (is_zero_next p) answer where
   by : (o : Option Sensor) (z : Bool) → Lacks s ≡ option_map_or Waits o (cond {A = Answer} z (Asks (p.closed + 1)) (Closes (p.closed + 1))) → ⊥
   by (Some r) z e = cc
@@ -255,9 +255,9 @@ may-not c n p s h some = let m = c.split.merge in waiting-not_allowed m m p s re
 
 -- ---- a time zero
 abbrev pub asked : (n : ℕ) → Progress → List SensorPart → History
-asked n p parts = record (resting n p parts) { asking = true }
+asked n p parts = record (resting_history n p parts) { asking = true }
 
-pub asks-for : (c : CoreContents) (n : ℕ) (p : Progress) (split : SplitContents) (zero : ℕ) → (h : CoreIsFor c n p) → SplitCoreStandsFor split (asked n p h.parts) → Asks zero ≡ due (resting n p h.parts) → AsksFor split c.captures (asked n p h.parts) zero
+pub asks-for : (c : CoreContents) (n : ℕ) (p : Progress) (split : SplitContents) (zero : ℕ) → (h : CoreIsFor c n p) → SplitCoreStandsFor split (asked n p h.parts) → Asks zero ≡ due (resting_history n p h.parts) → AsksFor split c.captures (asked n p h.parts) zero
 asks-for c n p split z h stands answer = record {
   stands = stands;
   asking = refl;

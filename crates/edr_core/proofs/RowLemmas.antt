@@ -9,7 +9,7 @@ use Rattle.edr_items.specs.declared.Item.{Item}
 use Rattle.edr_items.specs.SensorLists.{SensorLists, AreFeeds}
 use Rattle.edr_definitions.specs.Rings.{RisesFrom}
 use Rattle.edr_definitions.specs.Signals.{Signals, sample_at, signals_of}
-use Rattle.edr_definitions.specs.Windows.{filled}
+use Rattle.edr_definitions.specs.Windows.{filled_signals}
 use Rattle.edr_definitions.specs.Facts.{AgreeUpTo}
 use Rattle.edr_definitions.specs.Search.{Search, StandsFor}
 use Rattle.edr_definitions.specs.Change.{tick_change}
@@ -53,17 +53,17 @@ pub record IsSilentBefore (m : Signals) : Type 0 where
   pub fired : m.fired 0 ≡ 0
 
 -- the signals that rows give have the changes of the signals
-rows_of-changes : (m : Signals) (t : ℕ) → IsSilentBefore m → AgreeUpTo t (filled (signals_of_rows (rows_of m t))) (filled m)
+rows_of-changes : (m : Signals) (t : ℕ) → IsSilentBefore m → AgreeUpTo t (filled_signals (signals_of_rows (rows_of m t))) (filled_signals m)
 rows_of-changes m t silent = record { along = along; across = across; fired = fired } where
-  along : (u : ℕ) → u ≤ t → (filled (signals_of_rows (rows_of m t))).along u ≡ (filled m).along u
+  along : (u : ℕ) → u ≤ t → (filled_signals (signals_of_rows (rows_of m t))).along u ≡ (filled_signals m).along u
   along zero near = ap (λ (o : Option ℤ). Some (unwrap_or o (pos 0))) (sym silent.along)
   along (suc k) near = ap (λ (o : Option SignalRow). Some (unwrap_or (option_map (λ (r : SignalRow). r.along) o) (pos 0))) (row_at-rows_of m t k (omega arith))
 
-  across : (u : ℕ) → u ≤ t → (filled (signals_of_rows (rows_of m t))).across u ≡ (filled m).across u
+  across : (u : ℕ) → u ≤ t → (filled_signals (signals_of_rows (rows_of m t))).across u ≡ (filled_signals m).across u
   across zero near = ap (λ (o : Option ℤ). Some (unwrap_or o (pos 0))) (sym silent.across)
   across (suc k) near = ap (λ (o : Option SignalRow). Some (unwrap_or (option_map (λ (r : SignalRow). r.across) o) (pos 0))) (row_at-rows_of m t k (omega arith))
 
-  fired : (u : ℕ) → u ≤ t → (filled (signals_of_rows (rows_of m t))).fired u ≡ (filled m).fired u
+  fired : (u : ℕ) → u ≤ t → (filled_signals (signals_of_rows (rows_of m t))).fired u ≡ (filled_signals m).fired u
   fired zero near = sym silent.fired
   fired (suc k) near = ap (λ (o : Option SignalRow). option_map_or (λ (r : SignalRow). r.fired.0) o 0) (row_at-rows_of m t k (omega arith))
 
@@ -71,7 +71,7 @@ rows_of-changes m t silent = record { along = along; across = across; fired = fi
 pub tick_change-rows : (m : Signals) (t : ℕ) (s : Search) → IsSilentBefore m → StandsFor m t s → tick_change (signals_of_rows (rows_of m (t + 1))) (t + 1) ≡ tick_change m (t + 1)
 tick_change-rows m t s silent h =
     let same = rows_of-changes m (t + 1) silent in
-    sym (tick_change-tests t m (signals_of_rows (rows_of m (t + 1))) s (SameTests-changes (t + 1) m (signals_of_rows (rows_of m (t + 1))) (AgreeUpTo-sym (t + 1) (filled (signals_of_rows (rows_of m (t + 1)))) (filled m) same)) h)
+    sym (tick_change-tests t m (signals_of_rows (rows_of m (t + 1))) s (SameTests-changes (t + 1) m (signals_of_rows (rows_of m (t + 1))) (AgreeUpTo-sym (t + 1) (filled_signals (signals_of_rows (rows_of m (t + 1)))) (filled_signals m) same)) h)
 
 -- ---- feeds have nothing before the first tick
 sample_at-early : (last : ℕ) (xs : List Item) (u : ℕ) → RisesFrom last xs → u ≤ last → sample_at xs u ≡ None

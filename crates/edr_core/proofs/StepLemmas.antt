@@ -33,21 +33,21 @@ use Rattle.edr_core.specs.declared.ask.OpenAsk.{OpenAsk}
 use Rattle.edr_core.specs.declared.candidate.Candidate.{Candidate}
 use Rattle.edr_core.specs.declared.candidate.Issued.{Issued}
 use Rattle.edr_core.specs.declared.candidate.TickRow.{TickRow as Given}
-use Rattle.edr_core.specs.Candidate.{IsRowInRange, IsShort, CanBeTold, begun, grown, grown_or_begun, no_issues, candidate_after, link_after, issued_after, issues_in}
-use Rattle.edr_core.specs.Answers.{put}
+use Rattle.edr_core.specs.Candidate.{IsRowInRange, IsShort, CanBeTold, begun_candidate, grown_candidate, grown_or_begun, no_issues, candidate_after, link_after, issued_after, issues_in}
+use Rattle.edr_core.specs.Answers.{issues_put}
 use Rattle.edr_core.specs.Ask.{AllParts, no_parts, in_places, IsKey, pre_of}
 use Rattle.edr_core.specs.Parts.{PartSlots, AreSlotsOf, commands_with, issues_with}
 use Rattle.edr_core.specs.Rows.{RowIs, row_of, rows_of}
 use Rattle.edr_core.specs.SplitHistory.{History, Answer, Waits, Asks, Lacks, Closes, is_zero_next, missing_part, due}
 use Rattle.edr_core.specs.SplitContents.{SplitContents}
-use Rattle.edr_core.specs.SplitStandsFor.{IsMadeOf, AskIs, HoldsAsk, merged, SplitCoreStandsFor}
+use Rattle.edr_core.specs.SplitStandsFor.{IsMadeOf, AskIs, HoldsAsk, merge_progress, SplitCoreStandsFor}
 use Rattle.edr_core.proofs.RowLemmas.{rows_of-push, length-rows_of, tick_change-rows, silent-feeds}
 use Rattle.edr_core.proofs.TakenLemmas.{none-taken, early-later, pre-made, missing-is, none-missing}
 use Rattle.edr_core.proofs.TickLemmas.{Did, can_be_told, split-stands, split-commands, split-ticks, open-short}
 use Rattle.edr_core.proofs.GiveLemmas.{merged-free, merged-asking, feeds-of, within-merged, asked-is}
 
 -- where nothing counts of what was put aside, it is nothing
-pub put-all : (some : Bool) (i : Issued) → (some ≡ false → i ≡ no_issues) → put some i ≡ i
+pub put-all : (some : Bool) (i : Issued) → (some ≡ false → i ≡ no_issues) → issues_put some i ≡ i
 put-all true i h = refl
 put-all false i h = sym (h refl)
 
@@ -215,8 +215,8 @@ module _ (c : SplitContents) (w : History) (h : SplitCoreStandsFor c w) (free : 
       no_zero : told.zero ≡ true → ⊥
       no_zero e = let apart : true ≡ false = sym e ∙ zero in cc
 
-      grown-is : (g : Option Candidate) → g ≡ option_map (grown r) c.candidate → g ≡ grown_or_begun (told_of told) (first_pre w) r c.candidate
-      grown-is g is = is ∙ ap (λ (v : Bool). cond {A = Option Candidate} v (Some (begun (first_pre w) r)) (option_map (grown r) c.candidate)) (sym zero)
+      grown-is : (g : Option Candidate) → g ≡ option_map (grown_candidate r) c.candidate → g ≡ grown_or_begun (told_of told) (first_pre w) r c.candidate
+      grown-is g is = is ∙ ap (λ (v : Bool). cond {A = Option Candidate} v (Some (begun_candidate (first_pre w) r)) (option_map (grown_candidate r) c.candidate)) (sym zero)
 
       pub closes-due : Closes t ≡ due w
       closes-due =
@@ -225,14 +225,14 @@ module _ (c : SplitContents) (w : History) (h : SplitCoreStandsFor c w) (free : 
           ∙ ap (λ (o : Option Sensor). option_map_or Waits o (cond {A = Answer} (is_zero_next w.past) (Asks (w.past.closed + 1)) (Closes (w.past.closed + 1)))) (sym next.none)
           ∙ sym (due-free w free)
 
-      pub can-tell : (g : Option Candidate) → g ≡ option_map (grown r) c.candidate → IfSome g (CanBeTold t (told_of told) c.link)
+      pub can-tell : (g : Option Candidate) → g ≡ option_map (grown_candidate r) c.candidate → IfSome g (CanBeTold t (told_of told) c.link)
       can-tell g is =
           if_some (CanBeTold t (told_of told) c.link) g
           (λ o e. subst (λ k. CanBeTold k (told_of told) c.link o) (sym next.tick_is)
           (can_be_told c c w (told_of told) (first_pre w) (first_pre w) r no_issues h told-next next.row (λ _. first-is w) (λ e. absurd (no_zero e)) o (sym (grown-is g is) ∙ e)))
 
       -- what the split core stands for then, and what it issues
-      module _ (g o : Option Candidate) (link : Option (Place × ℕ)) (i : Issued) (g_is : g ≡ option_map (grown r) c.candidate) (no_ask : c.ask ≡ None) where
+      module _ (g o : Option Candidate) (link : Option (Place × ℕ)) (i : Issued) (g_is : g ≡ option_map (grown_candidate r) c.candidate) (no_ask : c.ask ≡ None) where
         abbrev after : SplitContents
         after = record { cycle = c.cycle; closed = t; merge = merge; detect = d; link = link; candidate = o; ask = c.ask }
 
@@ -286,7 +286,7 @@ module _ (c : SplitContents) (w : History) (h : SplitCoreStandsFor c w) (a : Ope
       let low = horizon-least w.past.given Along in
       let high = IsFeedAfter-within Along 0 w.past.given.along (omega arith) (feeds-of c w h Along) in
       let within = within-merged c w h in
-      let closed : (merged w).closed ≡ w.past.closed + 1 = ap (λ (p : Progress). p.closed) (merged-asking w asked_now.asking) in
+      let closed : (merge_progress w).closed ≡ w.past.closed + 1 = ap (λ (p : Progress). p.closed) (merged-asking w asked_now.asking) in
       let tick = tick-is in
       let cycle = h.cycle_is in let from = h.cycle_from in let to = h.cycle_to in
       record {
@@ -302,8 +302,8 @@ module _ (c : SplitContents) (w : History) (h : SplitCoreStandsFor c w) (a : Ope
   made-is : IsMadeOf w.parts (first_pre w) made
   made-is = pre-made a.parts w.parts (w.past.closed + 1) all asked_now.parts all_is w.past.given w.cycle key key-is
 
-  begins : (b : Candidate) → b ≡ begun made a.row → Some b ≡ grown_or_begun (told_of a.change) made a.row c.candidate
-  begins b e = ap Some e ∙ ap (λ (v : Bool). cond {A = Option Candidate} v (Some (begun made a.row)) (option_map (grown a.row) c.candidate)) (sym asked_now.zero)
+  begins : (b : Candidate) → b ≡ begun_candidate made a.row → Some b ≡ grown_or_begun (told_of a.change) made a.row c.candidate
+  begins b e = ap Some e ∙ ap (λ (v : Bool). cond {A = Option Candidate} v (Some (begun_candidate made a.row)) (option_map (grown_candidate a.row) c.candidate)) (sym asked_now.zero)
 
   pub asked-due : Closes (c.closed + 1) ≡ due w
   asked-due =
@@ -311,12 +311,12 @@ module _ (c : SplitContents) (w : History) (h : SplitCoreStandsFor c w) (a : Ope
       ∙ ap (λ (o : Option Sensor). option_map_or Lacks o (Closes (w.past.closed + 1))) (sym (none-missing all) ∙ ap first_without (sym all_is) ∙ missing-is w a.parts asked_now.parts)
       ∙ sym (due-asked w asked_now.asking)
 
-  pub asked-tell : (b : Candidate) → b ≡ begun made a.row → CanBeTold (c.closed + 1) (told_of a.change) c.link b
+  pub asked-tell : (b : Candidate) → b ≡ begun_candidate made a.row → CanBeTold (c.closed + 1) (told_of a.change) c.link b
   asked-tell b e =
       subst (λ k. CanBeTold k (told_of a.change) c.link b) (sym tick-is)
       (can_be_told c c w (told_of a.change) (first_pre w) made a.row no_issues h asked_now.change asked_now.row (λ _. first-is w) (λ _. made-is) b (sym (begins b e)))
 
-  module _ (b : Candidate) (o : Option Candidate) (link : Option (Place × ℕ)) (i : Issued) (b_is : b ≡ begun made a.row) (did : (o ≡ candidate_after (c.closed + 1) (told_of a.change) c.link (Some b)) × (link ≡ link_after (c.closed + 1) (told_of a.change) c.link (Some b)) × (i ≡ issued_after (c.closed + 1) (told_of a.change) c.link (Some b))) where
+  module _ (b : Candidate) (o : Option Candidate) (link : Option (Place × ℕ)) (i : Issued) (b_is : b ≡ begun_candidate made a.row) (did : (o ≡ candidate_after (c.closed + 1) (told_of a.change) c.link (Some b)) × (link ≡ link_after (c.closed + 1) (told_of a.change) c.link (Some b)) × (i ≡ issued_after (c.closed + 1) (told_of a.change) c.link (Some b))) where
     abbrev settled : SplitContents
     settled = record { cycle = c.cycle; closed = c.closed + 1; merge = c.merge; detect = c.detect; link = link; candidate = o; ask = None }
 

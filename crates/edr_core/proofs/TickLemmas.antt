@@ -29,7 +29,7 @@ use Rattle.edr_core.specs.Rows.{RowIs, rows_of}
 use Rattle.edr_core.specs.declared.candidate.Candidate.{Candidate}
 use Rattle.edr_core.specs.declared.candidate.Issued.{Issued}
 use Rattle.edr_core.specs.declared.candidate.TickRow.{TickRow as Given}
-use Rattle.edr_core.specs.Candidate.{begun, grown, grown_or_begun, told, candidate_after, link_after, issued_after, issues_in, IsShort, CanBeTold}
+use Rattle.edr_core.specs.Candidate.{begun_candidate, grown_candidate, grown_or_begun, told_candidate, candidate_after, link_after, issued_after, issues_in, IsShort, CanBeTold}
 use Rattle.edr_core.specs.Parts.{PartSlots, AreSlotsOf, with_parts, command_with, commands_with, issue_with, issues_with}
 use Rattle.edr_core.specs.SplitHistory.{History}
 use Rattle.edr_core.specs.SplitContents.{SplitContents}
@@ -117,7 +117,7 @@ module _ (c c' : SplitContents) (w : History) (change : Change) (pre made : PreP
     -- a candidate is open at the tick
     past_some : (s : Search) (k : CoreState) (q : OpenCrash) (o : Candidate) → StandsFor m t s → c.link ≡ k.linked → IsMadeOf ps (cond change.zero pre k.frozen) o.pre → o.end ≡ k.ended → o.crash ≡ part_after m (t + 1) change q → (change.zero || is_open s.phase) ≡ true → Did (Some o) → Past s k q
     past_some s k q o stands link pre_is ended part opened did =
-        let o' = told (t + 1) change c.link o in
+        let o' = told_candidate (t + 1) change c.link o in
         let k' = core_after (t + 1) change pre k in
         let q' = part_after m (t + 1) change q in
         let pre' : IsMadeOf ps k'.frozen o'.pre = placed change.confirmed ps c.link k.linked (cond change.zero pre k.frozen) o.pre link pre_is in
@@ -180,9 +180,9 @@ module _ (c c' : SplitContents) (w : History) (change : Change) (pre made : PreP
         let opened : is_open h.search.phase ≡ true = sym h.open_is ∙ ap (λ (x : Option Candidate). is_some x) is in
         let no_zero : change.zero ≡ false = ap (λ (x : Change). x.zero) change_is ∙ zero-open m t h.search stands opened in
         let held : HoldsCandidateWith ps (Some o) h.kept h.crash = subst (λ (x : Option Candidate). HoldsCandidateWith ps x h.kept h.crash) is h.candidate_is in
-        let grown_is : grown_or_begun change made r c.candidate ≡ Some (grown r o) =
-        ap (λ (x : Option Candidate). grown_or_begun change made r x) is ∙ ap (λ (v : Bool). cond {A = Option Candidate} v (Some (begun made r)) (Some (grown r o))) no_zero in
-        let part_is : (grown r o).crash ≡ part_after m (t + 1) change h.crash =
+        let grown_is : grown_or_begun change made r c.candidate ≡ Some (grown_candidate r o) =
+        ap (λ (x : Option Candidate). grown_or_begun change made r x) is ∙ ap (λ (v : Bool). cond {A = Option Candidate} v (Some (begun_candidate made r)) (Some (grown_candidate r o))) no_zero in
+        let part_is : (grown_candidate r o).crash ≡ part_after m (t + 1) change h.crash =
         grow_same m (t + 1) r o.crash h.crash row held.2
         ∙ ap (λ (v : Bool). cond {A = OpenCrash} v (begin_crash (t + 1) (m.fired (t + 1))) (next_crash h.crash (m.along (t + 1)) (m.across (t + 1)) (m.fired (t + 1)))) (sym no_zero) in
         let frozen_is : IsMadeOf ps (cond change.zero pre h.kept.frozen) o.pre = subst (λ (v : Bool). IsMadeOf ps (cond {A = PrePart} v pre h.kept.frozen) o.pre) (sym no_zero) held.0 in
@@ -193,9 +193,9 @@ module _ (c c' : SplitContents) (w : History) (change : Change) (pre made : PreP
           whole_is = h.whole_is;
           link_is = h.link_is;
           open_is = λ x e.
-              let one : grown r o ≡ x = same_candidate (grown r o) x (sym grown_is ∙ e) in
+              let one : grown_candidate r o ≡ x = same_candidate (grown_candidate r o) x (sym grown_is ∙ e) in
               subst (λ (y : Candidate). IsMadeOf ps (cond change.zero pre h.kept.frozen) y.pre × (y.end ≡ h.kept.ended) × (y.crash ≡ part_after m (t + 1) change h.crash) × ((change.zero || is_open h.search.phase) ≡ true)) one (frozen_is, held.1, part_is, both);
-          none_is = λ e. let no : ◌≡◌ {A = Option Candidate} (Some (grown r o)) None = sym grown_is ∙ e in cc;
+          none_is = λ e. let no : ◌≡◌ {A = Option Candidate} (Some (grown_candidate r o)) None = sym grown_is ∙ e in cc;
         }
     by_open None is = by_zero change.zero refl where
       closed_then : is_open h.search.phase ≡ false
@@ -203,7 +203,7 @@ module _ (c c' : SplitContents) (w : History) (change : Change) (pre made : PreP
 
       by_zero : (v : Bool) → change.zero ≡ v → Fit h
       by_zero true zero =
-          let o = begun made r in
+          let o = begun_candidate made r in
           let j : CoreState = record h.kept { ended = o.end } in
           let at : made.key.zero ≡ t + 1 = made_zero zero in
           let grown_is : grown_or_begun change made r c.candidate ≡ Some o =
@@ -226,7 +226,7 @@ module _ (c c' : SplitContents) (w : History) (change : Change) (pre made : PreP
       by_zero false zero =
           let nothing : change ≡ no_change = change_is ∙ nothing-searching m t h.search stands closed_then (ap (λ (x : Change). x.zero) (sym change_is) ∙ zero) in
           let grown_is : grown_or_begun change made r c.candidate ≡ None =
-          ap (λ (x : Option Candidate). grown_or_begun change made r x) is ∙ ap (λ (v : Bool). cond {A = Option Candidate} v (Some (begun made r)) None) zero in
+          ap (λ (x : Option Candidate). grown_or_begun change made r x) is ∙ ap (λ (v : Bool). cond {A = Option Candidate} v (Some (begun_candidate made r)) None) zero in
           record {
             kept = h.kept;
             crash = h.crash;

@@ -18,9 +18,9 @@ IsClosed (Waiting s) = ⊥
 IsClosed (Closed t take lock crash) = Unit {0}
 
 -- the sensor that an answer waits for
-abbrev pub awaited : Step → Option Sensor
-awaited (Waiting s) = Some s
-awaited (Closed t take lock crash) = None
+abbrev pub awaited_sensor : Step → Option Sensor
+awaited_sensor (Waiting s) = Some s
+awaited_sensor (Closed t take lock crash) = None
 
 -- where an answer leads
 abbrev pub after_answer : Progress → Step → Progress
@@ -40,18 +40,18 @@ HasTheIssues n p (Closed t take lock crash) =
     issues p.given n t ≡ issues p.given n p.closed ++ map (issue_at t) (commands_of (record { take = take; lock = lock; done = crash }))
 
 -- what a closed tick issues of what was put aside
-abbrev pub put : Bool → Issued → Issued
-put false i = no_issues
-put true i = i
+abbrev pub issues_put : Bool → Issued → Issued
+issues_put false i = no_issues
+issues_put true i = i
 
 -- the commands of a closed tick, by what was put aside
 abbrev pub commands_put : Bool → Issued → List Command
-commands_put some i = commands_of (record { take = (put some i).take; lock = (put some i).lock; done = (put some i).done })
+commands_put some i = commands_of (record { take = (issues_put some i).take; lock = (issues_put some i).lock; done = (issues_put some i).done })
 
 -- an answer with what was put aside, as a step
 abbrev pub step_of : Closing → Issued → Step
 step_of (closing.Waiting s) i = Waiting s
-step_of (closing.Closed t some) i = Closed t (put some i).take (put some i).lock (put some i).done
+step_of (closing.Closed t some) i = Closed t (issues_put some i).take (issues_put some i).lock (issues_put some i).done
 
 -- nothing is put aside
 abbrev pub PutsNothingAside : Closing → Type 0

@@ -22,38 +22,38 @@ pub record IsRowInRange (r : TickRow) : Type 0 where
   pub across : IsInRange r.across
 
 -- a candidate with that pre part, at its time zero
-abbrev pub begun : PrePart → TickRow → Candidate
-begun pre r = record { pre = pre; crash = begin_crash pre.key.zero r.fired.0; end = pre.key.zero }
+abbrev pub begun_candidate : PrePart → TickRow → Candidate
+begun_candidate pre r = record { pre = pre; crash = begin_crash pre.key.zero r.fired.0; end = pre.key.zero }
 
 -- a candidate with one tick more
-abbrev pub grown : TickRow → Candidate → Candidate
-grown r o = record o { crash = next_crash o.crash r.along r.across r.fired.0 }
+abbrev pub grown_candidate : TickRow → Candidate → Candidate
+grown_candidate r o = record o { crash = next_crash o.crash r.along r.across r.fired.0 }
 
 -- the open candidate at the next tick, with what stands there: a time zero begins one
 abbrev pub grown_or_begun : Change → PrePart → TickRow → Option Candidate → Option Candidate
-grown_or_begun change pre r o = if change.zero then Some (begun pre r) else option_map {T = Candidate} {U = Candidate} (grown r) o
+grown_or_begun change pre r o = if change.zero then Some (begun_candidate pre r) else option_map {T = Candidate} {U = Candidate} (grown_candidate r) o
 
 -- ---- what stands at a tick
 
 -- a confirmation puts in the place, an end is kept
-abbrev pub told : ℕ → Change → Option (Place × ℕ) → Candidate → Candidate
-told t change link o = record {
+abbrev pub told_candidate : ℕ → Change → Option (Place × ℕ) → Candidate → Candidate
+told_candidate t change link o = record {
   pre = if change.confirmed then record o.pre { place = place_of link o.pre.key.zero } else o.pre;
   crash = o.crash;
   end = if change.ended then t else o.end;
 }
 
 -- the last event past a tick, by the candidate past it
-abbrev pub linked : Change → Option (Place × ℕ) → Candidate → Option (Place × ℕ)
-linked change link o = if change.confirmed then Some (o.pre.place, o.pre.key.zero) else link
+abbrev pub next_link : Change → Option (Place × ℕ) → Candidate → Option (Place × ℕ)
+next_link change link o = if change.confirmed then Some (o.pre.place, o.pre.key.zero) else link
 
 -- a candidate that is dropped or closed is no longer open
-abbrev pub left : Change → Candidate → Option Candidate
-left change o = if change.dropped || change.closed then None else Some o
+abbrev pub candidate_left : Change → Candidate → Option Candidate
+candidate_left change o = if change.dropped || change.closed then None else Some o
 
 -- what a tick issues of the candidate past it
-abbrev pub issued : Change → Candidate → Issued
-issued change o = record { take = when change.confirmed o.pre; lock = when change.locked o.pre; done = when change.closed (finish_crash o.crash o.end) }
+abbrev pub issued_of : Change → Candidate → Issued
+issued_of change o = record { take = when change.confirmed o.pre; lock = when change.locked o.pre; done = when change.closed (finish_crash o.crash o.end) }
 
 -- nothing is issued
 abbrev pub no_issues : Issued
@@ -64,15 +64,15 @@ no_issues = record { take = None; lock = None; done = None }
 -- the open candidate, the last event and what is issued past the tick t, where `change` stands there
 abbrev pub candidate_after : ℕ → Change → Option (Place × ℕ) → Option Candidate → Option Candidate
 candidate_after t change link None = None
-candidate_after t change link (Some o) = left change (told t change link o)
+candidate_after t change link (Some o) = candidate_left change (told_candidate t change link o)
 
 abbrev pub link_after : ℕ → Change → Option (Place × ℕ) → Option Candidate → Option (Place × ℕ)
 link_after t change link None = link
-link_after t change link (Some o) = linked change link (told t change link o)
+link_after t change link (Some o) = next_link change link (told_candidate t change link o)
 
 abbrev pub issued_after : ℕ → Change → Option (Place × ℕ) → Option Candidate → Issued
 issued_after t change link None = no_issues
-issued_after t change link (Some o) = issued change (told t change link o)
+issued_after t change link (Some o) = issued_of change (told_candidate t change link o)
 
 -- where this stands at a tick, the open candidate and the last event stay as they are, and nothing is issued
 abbrev pub PassesBy : Change → Option Candidate → Type 0

@@ -12,8 +12,8 @@ use Rattle.edr_core.specs.SplitContents.{SplitContents}
 use Rattle.edr_core.specs.SplitStandsFor.{SplitCoreStandsFor}
 
 -- no part is asked for
-abbrev pub resting : ℕ → Progress → List SensorPart → History
-resting n p parts = record { cycle = n; past = p; asking = false; parts = parts }
+abbrev pub resting_history : ℕ → Progress → List SensorPart → History
+resting_history n p parts = record { cycle = n; past = p; asking = false; parts = parts }
 
 -- the parts of these sensors and of the time zero z that the lists give, once they are taken one after the other
 abbrev pub parts_after : List Sensor → SensorLists → ℕ → List SensorPart → List SensorPart

@@ -11,7 +11,7 @@ use Rattle.edr_core.specs.declared.split.SplitClosing.{SplitClosing}
 use Rattle.edr_core.specs.declared.split.SplitClosing.TheVariants as closing
 use Rattle.edr_core.specs.declared.ask.PartRefused.{PartRefused}
 use Rattle.edr_core.specs.declared.ask.PartRefused.TheVariants as refused
-use Rattle.edr_core.specs.Answers.{put}
+use Rattle.edr_core.specs.Answers.{issues_put}
 use Rattle.edr_core.specs.Parts.{PartSlots, commands_with, issues_with, part_in}
 use Rattle.edr_core.specs.SplitHistory.{History, Answer, Waits, Asks, Lacks, Closes}
 
@@ -50,7 +50,7 @@ abbrev pub split_step_of : SplitClosing → Issued → SplitStep
 split_step_of (closing.Waiting s) i = Waiting s
 split_step_of (closing.Ask z) i = Ask z
 split_step_of (closing.Parts s) i = Parts s
-split_step_of (closing.Closed t some) i = Closed t (put some i).take (put some i).lock (put some i).done
+split_step_of (closing.Closed t some) i = Closed t (issues_put some i).take (issues_put some i).lock (issues_put some i).done
 
 -- nothing is put aside
 abbrev pub IsSplitQuiet : SplitClosing → Type 0

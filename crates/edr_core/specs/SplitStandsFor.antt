@@ -59,8 +59,8 @@ HoldsAsk (Some a) h = AskIs a h
 -- ---- the whole of it
 
 -- how far the merge has come: the tick of an open ask is merged
-abbrev pub merged : History → Progress
-merged h = if h.asking then after_step h.past Close else h.past
+abbrev pub merge_progress : History → Progress
+merge_progress h = if h.asking then after_step h.past Close else h.past
 
 -- the split core was told this
 pub record SplitCoreStandsFor (c : SplitContents) (h : History) : Type 0 where
@@ -69,8 +69,8 @@ pub record SplitCoreStandsFor (c : SplitContents) (h : History) : Type 0 where
   pub cycle_to : h.cycle ≤ 4_294_967_295
   pub closed_is : c.closed ≡ h.past.closed
   pub near : (s : Sensor) → mark_of (items_of s h.past.given) ≤ h.past.closed + LONGEST_GAP
-  pub merge_is : MergeStandsFor c.merge (merged h)
-  pub detect_is : DetectStandsFor c.detect (rows_of (signals_of h.past.given) (merged h).closed)
+  pub merge_is : MergeStandsFor c.merge (merge_progress h)
+  pub detect_is : DetectStandsFor c.detect (rows_of (signals_of h.past.given) (merge_progress h).closed)
   pub search : Search
   pub kept : CoreState
   pub crash : OpenCrash
@@ -79,4 +79,4 @@ pub record SplitCoreStandsFor (c : SplitContents) (h : History) : Type 0 where
   pub open_is : is_some c.candidate ≡ is_open search.phase
   pub candidate_is : HoldsCandidateWith h.parts c.candidate kept crash
   pub ask_is : HoldsAsk c.ask h
-  pub early : All (λ q. q.zero ≤ (merged h).closed) h.parts
+  pub early : All (λ q. q.zero ≤ (merge_progress h).closed) h.parts

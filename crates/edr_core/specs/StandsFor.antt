@@ -5,7 +5,7 @@ use Rattle.edr_capture.specs.SensorPart.{SensorPart}
 use Rattle.edr_core.specs.Captures.{CapturesStandFor}
 use Rattle.edr_core.specs.Parts.{AreSlotsOf, parts_of}
 use Rattle.edr_core.specs.SplitStandsFor.{SplitCoreStandsFor}
-use Rattle.edr_core.specs.OwnParts.{resting}
+use Rattle.edr_core.specs.OwnParts.{resting_history}
 use Rattle.edr_core.specs.Contents.{CoreContents}
 
 -- the core of cycle n was given these items and has closed these ticks: so was the one but for the slow sensors, which took their
@@ -16,6 +16,6 @@ pub record CoreIsFor (c : CoreContents) (n : ℕ) (p : Progress) : Type 0 where
   pub cycle_to : n ≤ 4_294_967_295
   pub closed_is : c.closed ≡ p.closed
   pub parts : List SensorPart
-  pub split_is : SplitCoreStandsFor c.split (resting n p parts)
+  pub split_is : SplitCoreStandsFor c.split (resting_history n p parts)
   pub parts_are : AreSlotsOf parts (parts_of p.given)
   pub captures_are : CapturesStandFor c.captures p.given

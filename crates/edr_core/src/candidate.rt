@@ -2,7 +2,7 @@
 
 ghost use Rattle.std.specs.Prelude.{◌≡◌, Option, IsTrue, IfSome, option_map};
 ghost use Rattle.edr_detect.specs.Stages.{told_of};
-ghost use Rattle.edr_core.specs.Candidate.{IsRowInRange, IsShort, CanBeTold, PassesBy, begun, grown, told, linked, issued, no_issues, candidate_after, link_after, issued_after};
+ghost use Rattle.edr_core.specs.Candidate.{IsRowInRange, IsShort, CanBeTold, PassesBy, begun_candidate, grown_candidate, told_candidate, next_link, issued_of, no_issues, candidate_after, link_after, issued_after};
 
 use edr_crashpart::OpenCrash;
 use edr_detect::Change;
@@ -57,7 +57,7 @@ impl Issued {
 impl Candidate {
     /// Freezes what stood before time zero. The row is that of time zero, of which only the restraints count.
     pub fn begin(pre: Pre, row: TickRow) -> Candidate
-        ensures { result ≡ begun pre row }
+        ensures { result ≡ begun_candidate pre row }
     {
         let zero = pre.key.zero;
         Candidate {
@@ -71,7 +71,7 @@ impl Candidate {
     pub fn grow(&mut self, row: TickRow)
         requires short { IsShort self.old }
         requires in_range { IsRowInRange row }
-        ensures { self.new ≡ grown row self.old }
+        ensures { self.new ≡ grown_candidate row self.old }
     {
         self.crash.tick(row.along, row.across, row.fired);
     }
@@ -79,9 +79,9 @@ impl Candidate {
     /// What the memory is to do at a tick of the cycle, in ms. At its confirmation the event gets its place in the pair.
     pub fn tell(&mut self, tick: u32, change: Change, link: &mut Link) -> Issued
         requires { CanBeTold tick (told_of change) link.old self.old }
-        ensures candidate { self.new ≡ told tick (told_of change) link.old self.old }
-        ensures link { link.new ≡ linked (told_of change) link.old self.new }
-        ensures issued { result ≡ issued (told_of change) self.new }
+        ensures candidate { self.new ≡ told_candidate tick (told_of change) link.old self.old }
+        ensures link { link.new ≡ next_link (told_of change) link.old self.new }
+        ensures issued { result ≡ issued_of (told_of change) self.new }
     {
         if change.confirmed {
             self.pre.place = link.next(self.pre.key.zero);
@@ -106,7 +106,7 @@ impl Candidate {
 pub fn grow(candidate: &mut Option<Candidate>, row: TickRow)
     requires short { IfSome candidate.old IsShort }
     requires in_range { IsRowInRange row }
-    ensures { candidate.new ≡ option_map (grown row) candidate.old }
+    ensures { candidate.new ≡ option_map (grown_candidate row) candidate.old }
 {
     if let Some(open) = candidate {
         open.grow(row);

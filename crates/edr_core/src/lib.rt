@@ -76,7 +76,7 @@ impl Model for Core {
 impl Core {
     ghost use Rattle.edr_merge.specs.Answers.{waited_for};
     ghost use Rattle.edr_core.specs.StandsFor.{CoreIsFor};
-    ghost use Rattle.edr_core.specs.Answers.{IsClosed, PutsNothingAside, awaited, after_answer, step_of, HasTheCommands, HasTheIssues};
+    ghost use Rattle.edr_core.specs.Answers.{IsClosed, PutsNothingAside, awaited_sensor, after_answer, step_of, HasTheCommands, HasTheIssues};
     ghost use Rattle.edr_core.specs.Calls.{IsWhyRefused, CoreFollows};
 
     /// A core for the ignition cycle of that number, to which no sensor has given an item, and of which no tick is closed.
@@ -126,7 +126,7 @@ impl Core {
 
         // A tick is closed exactly where the schedule allows it; else the sensor is the lowest-numbered that it waits for.
         ensures allowed { (n : ℕ) (p : Progress) → CoreIsFor self.old n p → IsClosed result ↔ IsAllowed Close p }
-        ensures waits { (n : ℕ) (p : Progress) → CoreIsFor self.old n p → awaited result ≡ waited_for p }
+        ensures waits { (n : ℕ) (p : Progress) → CoreIsFor self.old n p → awaited_sensor result ≡ waited_for p }
     {
         let mut issued = Issued::none();
         match self.close(&mut issued) {
@@ -149,7 +149,7 @@ impl Core {
         ensures ticks { (n : ℕ) (p : Progress) → CoreIsFor self.old n p → HasTheIssues n p (step_of result issued.new) }
         ensures stands { CoreFollows (λ p. after_answer p (step_of result issued.new)) self.old self.new }
         ensures allowed { (n : ℕ) (p : Progress) → CoreIsFor self.old n p → IsClosed (step_of result issued.new) ↔ IsAllowed Close p }
-        ensures waits { (n : ℕ) (p : Progress) → CoreIsFor self.old n p → awaited (step_of result issued.new) ≡ waited_for p }
+        ensures waits { (n : ℕ) (p : Progress) → CoreIsFor self.old n p → awaited_sensor (step_of result issued.new) ≡ waited_for p }
         ensures quiet { PutsNothingAside result → issued.new ≡ issued.old }
     {
         match self.split.close_free(issued) {

@@ -7,7 +7,7 @@ use Rattle.std.proofs.lemmas.List.Sums.{sum_by-cons}
 use Rattle.std.proofs.lemmas.Option.{slice_get_within}
 use Rattle.edr_items.specs.SensorLists.{SensorLists}
 use Rattle.edr_image.specs.Banks.{Store}
-use Rattle.edr_image.specs.Calls.{IsStop, acknowledged, all_calls, calls_of, done_of_step, gate_call_of, stops}
+use Rattle.edr_image.specs.Calls.{IsStop, count_acknowledged, all_calls, calls_of, done_of_step, gate_call_of, stops}
 use Rattle.edr_image.specs.Steps.{BankStep, Reply}
 use Rattle.edr_image.proofs.StopLaws.{FallsInReply, acknowledged-falls, contains_cases, contains_map, contains_none, stop-within, stops-has}
 use Rattle.edr_run.specs.Cycle.{acks_before, acks_in, replies_in, steps_in}
@@ -61,7 +61,7 @@ stop-acknowledged f n v k done stop =
     let rs = replies_in f n v in
     let bounds = stop-within (flat_map (λ r. r.steps) rs) done k stop in
     let falls = acknowledged-falls rs k bounds.0 bounds.1 in
-    let j = acknowledged k rs in
+    let j = count_acknowledged k rs in
     let split = split_at rs j falls.reply falls.at in
     let middle = in_middle (steps_before rs j) falls.reply.steps split.0 done k (subst (λ steps. Contains (stops k steps) done) split.1 (stops-has (flat_map (λ r. r.steps) rs) k done stop)) falls.past falls.within in
     let long : length (take j (acks_in f n v)) ≡ j = let w = slice_get_within rs j falls.reply falls.at in let l = length-acks_in f n v in length-take-le j (acks_in f n v) (omega (arith, w, l)) in

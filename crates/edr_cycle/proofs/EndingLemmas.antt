@@ -10,7 +10,7 @@ use Rattle.std.proofs.Math.Seq.{take-length}
 use Rattle.edr_items.specs.SensorLists.{SensorLists}
 use Rattle.edr_device.specs.Device.{Elapses, IsQuiet, MayLeave}
 use Rattle.edr_device.proofs.SettlingLemmas.{quiet_leaves}
-use Rattle.edr_image.specs.Calls.{IsStop, acknowledged, all_calls, calls_of}
+use Rattle.edr_image.specs.Calls.{IsStop, count_acknowledged, all_calls, calls_of}
 use Rattle.edr_image.specs.Banks.{Store}
 use Rattle.edr_image.specs.Image.{View, view_of}
 use Rattle.edr_image.specs.Logged.{Logged}
@@ -31,8 +31,8 @@ use Rattle.edr_cycle.proofs.ListLemmas.{left_first, left_later, length-acks_from
 calls_in : (rs : List Reply) → ℕ
 calls_in rs = all_calls (flat_map (λ r. r.steps) rs)
 
-acknowledged-is : (rs : List Reply) (k j : ℕ) (reply : Reply) → slice_get rs j ≡ Some reply → all_calls (steps_before rs j) < k → k ≤ all_calls (steps_before rs j) + all_calls reply.steps → acknowledged k rs ≡ j
-unfolding acknowledged
+acknowledged-is : (rs : List Reply) (k j : ℕ) (reply : Reply) → slice_get rs j ≡ Some reply → all_calls (steps_before rs j) < k → k ≤ all_calls (steps_before rs j) + all_calls reply.steps → count_acknowledged k rs ≡ j
+unfolding count_acknowledged
 acknowledged-is [] k j reply at past within = absurd cc
 acknowledged-is (r ∷ rs) k zero reply at past within =
     let same : all_calls r.steps ≡ all_calls reply.steps = ap (λ (o : Option Reply). calls_at o) at in
@@ -42,7 +42,7 @@ acknowledged-is (r ∷ rs) k zero reply at past within =
     calls_at None = 0
     calls_at (Some x) = all_calls x.steps
 
-    by_test : (t : Bool) → nat_le k (all_calls r.steps) ≡ t → k ≤ all_calls r.steps → cond t 0 (suc (acknowledged (k - all_calls r.steps) rs)) ≡ 0
+    by_test : (t : Bool) → nat_le k (all_calls r.steps) ≡ t → k ≤ all_calls r.steps → cond t 0 (suc (count_acknowledged (k - all_calls r.steps) rs)) ≡ 0
     by_test true e h = refl
     by_test false e h = absurd (grind (arith, nat_tests))
 acknowledged-is (r ∷ rs) k (suc j) reply at past within =
@@ -50,7 +50,7 @@ acknowledged-is (r ∷ rs) k (suc j) reply at past within =
     let rest = acknowledged-is rs (k - all_calls r.steps) j reply at (omega (arith, past, cons)) (omega (arith, within, past, cons)) in
     by_test (nat_le k (all_calls r.steps)) refl (omega (arith, past, cons)) rest
   where
-    by_test : (t : Bool) → nat_le k (all_calls r.steps) ≡ t → all_calls r.steps < k → acknowledged (k - all_calls r.steps) rs ≡ j → cond t 0 (suc (acknowledged (k - all_calls r.steps) rs)) ≡ suc j
+    by_test : (t : Bool) → nat_le k (all_calls r.steps) ≡ t → all_calls r.steps < k → count_acknowledged (k - all_calls r.steps) rs ≡ j → cond t 0 (suc (count_acknowledged (k - all_calls r.steps) rs)) ≡ suc j
     by_test true e h rest = absurd (grind (arith, nat_tests))
     by_test false e h rest = ap suc rest
 
@@ -180,7 +180,7 @@ module _ {D : Type 0} (content : D → Option (List ℕ)) (settled : D → ℕ �
       ended : l'.acks ≡ acks_in f n b.store → ◌≡◌ {A = End} (record { report = Ran n None l'.acks; store = after b.store (steps_in f n b.store); count = n }) (whole_end f b.store (n - 1 + 1))
       ended log = rw (log, number_is) refl
 
-  before_is : (k : ℕ) → take (acknowledged k (replies_in f n b.store)) (acks_in f n b.store) ≡ acks_before f n b.store k
+  before_is : (k : ℕ) → take (count_acknowledged k (replies_in f n b.store)) (acks_in f n b.store) ≡ acks_before f n b.store k
   unfolding acks_before
   before_is k = refl
 

@@ -3,7 +3,7 @@ use Rattle.std.proofs.Common.{arith, refl, ap, sym, ◌≡◌, ◌∙◌, ℕ, z
 use Rattle.std.specs.List.{range_with_len}
 use Rattle.edr_definitions.specs.Ticks.{ticks, first_tick, IsFirst, HoldsNowhere, greatest, greatest_of, int_sum}
 use Rattle.edr_definitions.specs.Signals.{Signals}
-use Rattle.edr_definitions.specs.Windows.{change_at, delta_v, size_of_change, largest_change, swing, filled}
+use Rattle.edr_definitions.specs.Windows.{change_at, delta_v, size_of_change, largest_change, swing, filled_signals}
 use Rattle.edr_definitions.specs.Selection.{Bounds, is_triggered, is_time_zero, is_end, Candidate}
 use Rattle.edr_definitions.specs.Commands.{is_locking}
 use Rattle.edr_definitions.specs.Facts.{IsCandidate, AgreeUpTo}
@@ -117,7 +117,7 @@ SameTests-agree t m n same = record {
 }
 
 -- a sample of 0 is as good as none
-pub SameTests-filled : (t : ℕ) (m : Signals) → SameTests t (filled m) m
+pub SameTests-filled : (t : ℕ) (m : Signals) → SameTests t (filled_signals m) m
 unfolding is_time_zero is_triggered is_end swing largest_change greatest delta_v
 SameTests-filled t m = record { zero = λ b u h. refl; trigger = λ since u h. refl; lock = λ u h. refl; end = λ z u h. refl }
 

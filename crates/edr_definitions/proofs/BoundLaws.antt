@@ -30,7 +30,7 @@ use Rattle.edr_definitions.specs.Ticks.{ticks, first_tick}
 use Rattle.edr_definitions.specs.Signals.{Signals, sample_at, signals_of}
 use Rattle.edr_definitions.specs.Windows.{delta_v, change_at, size_of_change, squares}
 use Rattle.edr_definitions.specs.Selection.{window_of, close_of, Event, events}
-use Rattle.edr_definitions.specs.Parts.{latest_value, slot, slots_before, numbers, switch, pre_part, kmh_of, points, all_points, extreme, first_greatest, missing, first_firing, firings, result_at, crash_part}
+use Rattle.edr_definitions.specs.Parts.{latest_value, slot, slots_before, numbers, switch, pre_part, kmh_of, points, all_points, extreme, first_greatest, missing_count, first_firing, firings, result_at, crash_part}
 use Rattle.edr_definitions.specs.Commands.{Issue, place_after, place_of, places_from, locks_at, lock_of, issues_of, all_issues, issues, commands}
 use Rattle.edr_definitions.specs.Facts.{IsEventAfter, AreEventsAfter, IsInBounds}
 use Rattle.edr_definitions.proofs.EventLaws.{events-follow}
@@ -196,8 +196,8 @@ is_extreme axis z w small short =
     let size = size-bound axis small 300 z t (omega (arith, below, short)) in
     record { change = is_change (delta_v axis z t) (omega (arith, size)); time = omega (arith, below) }
 
-few_missing : (axis : ℕ → Option ℤ) (z w : ℕ) → missing axis (z + 1) (z + w + 1) ≤ w
-unfolding missing
+few_missing : (axis : ℕ → Option ℤ) (z w : ℕ) → missing_count axis (z + 1) (z + w + 1) ≤ w
+unfolding missing_count
 few_missing axis z w =
     let few = count_by-le-length (λ t. is_none (axis t)) (ticks (z + 1) (z + w + 1)) in
     let long = length-range_with_len (z + 1) (z + w + 1 - (z + 1)) in omega (arith, few, long)

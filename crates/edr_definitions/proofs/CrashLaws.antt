@@ -16,7 +16,7 @@ use Rattle.edr_definitions.specs.Windows.{change_at, delta_v, size_of_change, sq
 use Rattle.edr_definitions.specs.Selection.{window_of, close_of}
 use Rattle.edr_definitions.specs.Search.{tick_if}
 use Rattle.edr_definitions.specs.Facts.{IsFirstGreatest}
-use Rattle.edr_definitions.specs.Parts.{kmh_of, first_greatest, points, all_points, extreme, missing, first_firing, firings, result_at, crash_part}
+use Rattle.edr_definitions.specs.Parts.{kmh_of, first_greatest, points, all_points, extreme, missing_count, first_firing, firings, result_at, crash_part}
 use Rattle.edr_definitions.specs.OpenCrash.{Peak, ResultPeak, OpenAxis, OpenCrash, edge, points_by, points_to, peak_of, squares_since, result_of, axis_at, crash_at, bit_fires, begin_axis, begin_crash, next_points, higher, higher_result, next_firings, next_axis, next_crash, finish_crash}
 use Rattle.edr_definitions.proofs.FactLaws.{nat_le_is}
 use Rattle.edr_definitions.proofs.AgreeLaws.{map_agree}
@@ -122,8 +122,8 @@ count_push p (suc n) a =
     let last : cond {A = ℕ} (p (a + 1 + n)) 1 0 ≡ cond {A = ℕ} (p (a + suc n)) 1 0 = ap (λ k. cond {A = ℕ} (p k) 1 0) e in
     omega (arith, rest, here, there, last)
 
-missing-push : (axis : ℕ → Option ℤ) (a b : ℕ) → a ≤ b → missing axis a (b + 1) ≡ missing axis a b + cond (is_none (axis b)) 1 0
-unfolding missing
+missing-push : (axis : ℕ → Option ℤ) (a b : ℕ) → a ≤ b → missing_count axis a (b + 1) ≡ missing_count axis a b + cond (is_none (axis b)) 1 0
+unfolding missing_count
 missing-push axis a b h =
     let e : b + 1 - a ≡ b - a + 1 = omega arith in
     let k : a + (b - a) ≡ b = omega arith in
@@ -131,8 +131,8 @@ missing-push axis a b h =
     ∙ count_push (λ t. is_none (axis t)) (b - a) a
     ∙ ap (λ n. count_by (λ t. is_none (axis t)) (range_with_len a (b - a)) + cond (is_none (axis n)) 1 0) k
 
-missing-none : (axis : ℕ → Option ℤ) (a : ℕ) → missing axis a a ≡ 0
-unfolding missing
+missing-none : (axis : ℕ → Option ℤ) (a : ℕ) → missing_count axis a a ≡ 0
+unfolding missing_count
 missing-none axis a = ap (λ xs. count_by (λ t. is_none (axis t)) xs) (ticks-none a a (omega arith))
 
 -- ---- points
@@ -267,8 +267,8 @@ result_at-next m z t h =
     ∙ ap (λ x. higher_result (result_of m z (t + 1)) (squares x (delta_v m.across z (t + 1))) (t + 1 - z)) (delta_v-push m.along z t h)
     ∙ ap (λ y. higher_result (result_of m z (t + 1)) (squares (delta_v m.along z t +ℤ change_at m.along (t + 1)) y) (t + 1 - z)) (delta_v-push m.across z t h))
 
-missing_at : (axis : ℕ → Option ℤ) (z t : ℕ) → z ≤ t → missing axis (z + 1) (edge z (t + 1)) ≡ cond (nat_le (t + 1 - z) 300) (missing axis (z + 1) (edge z t) + cond (is_none (axis (t + 1))) 1 0) (missing axis (z + 1) (edge z t))
-missing_at axis z t h = windowed_from (missing axis (z + 1)) (λ k. k + cond (is_none (axis (t + 1))) 1 0) z t h (missing-push axis (z + 1) (t + 1) (omega arith))
+missing_at : (axis : ℕ → Option ℤ) (z t : ℕ) → z ≤ t → missing_count axis (z + 1) (edge z (t + 1)) ≡ cond (nat_le (t + 1 - z) 300) (missing_count axis (z + 1) (edge z t) + cond (is_none (axis (t + 1))) 1 0) (missing_count axis (z + 1) (edge z t))
+missing_at axis z t h = windowed_from (missing_count axis (z + 1)) (λ k. k + cond (is_none (axis (t + 1))) 1 0) z t h (missing-push axis (z + 1) (t + 1) (omega arith))
 
 -- one axis with one tick more
 axis_at-next : (axis : ℕ → Option ℤ) (z t : ℕ) → z ≤ t → next_axis (axis_at axis z t) (axis (t + 1)) (t + 1 - z) ≡ axis_at axis z (t + 1)
@@ -278,7 +278,7 @@ axis_at-next axis z t h =
     let v = nat_le d 300 in
     sym (axis_is (delta_v axis z (t + 1)) x (points_to axis z d) (next_points (points_to axis z (t - z)) x d)
     (peak_of axis z (edge z (t + 1))) (cond v (higher (peak_of axis z (edge z t)) x d) (peak_of axis z (edge z t)))
-    (missing axis (z + 1) (edge z (t + 1))) (cond v (missing axis (z + 1) (edge z t) + cond (is_none (axis (t + 1))) 1 0) (missing axis (z + 1) (edge z t)))
+    (missing_count axis (z + 1) (edge z (t + 1))) (cond v (missing_count axis (z + 1) (edge z t) + cond (is_none (axis (t + 1))) 1 0) (missing_count axis (z + 1) (edge z t)))
     (delta_v-push axis z t h) (points_at axis z t h) (peak_at axis z t h) (missing_at axis z t h))
 
 -- one tick more
@@ -342,12 +342,12 @@ result-zero m z =
     ∙ ap (λ (k : ℕ). let p : ResultPeak = record { size = squares_since m z z; at = k } in p) d
     ∙ ap (λ (t : ℕ). let p : ResultPeak = record { size = squares_since m z t; at = t - z } in p) (sym g)
 
-missing-zero : (axis : ℕ → Option ℤ) (z : ℕ) → 0 ≡ missing axis (z + 1) (edge z z)
-missing-zero axis z = let e : edge z z ≡ z + 1 = omega arith in sym (ap (missing axis (z + 1)) e ∙ missing-none axis (z + 1))
+missing-zero : (axis : ℕ → Option ℤ) (z : ℕ) → 0 ≡ missing_count axis (z + 1) (edge z z)
+missing-zero axis z = let e : edge z z ≡ z + 1 = omega arith in sym (ap (missing_count axis (z + 1)) e ∙ missing-none axis (z + 1))
 
 axis_at-zero : (axis : ℕ → Option ℤ) (z : ℕ) → begin_axis ≡ axis_at axis z z
 axis_at-zero axis z =
-    axis_is (pos 0) (delta_v axis z z) (replicate most_points (pos 0)) (points_to axis z (z - z)) (record { value = pos 0; at = 0 }) (peak_of axis z (edge z z)) 0 (missing axis (z + 1) (edge z z))
+    axis_is (pos 0) (delta_v axis z z) (replicate most_points (pos 0)) (points_to axis z (z - z)) (record { value = pos 0; at = 0 }) (peak_of axis z (edge z z)) 0 (missing_count axis (z + 1) (edge z z))
     (sym (delta_v-none axis z z (omega arith))) (points-zero axis z) (peak-zero axis z) (missing-zero axis z)
 
 -- at time zero

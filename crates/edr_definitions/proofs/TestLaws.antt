@@ -2,7 +2,7 @@
 use Rattle.std.proofs.Common.{arith, refl, ap, sym, ◌≡◌, ◌∙◌, ℕ, ◌+◌, ◌≤◌, Bool, false, Some, None, Option, List, [], ◌∷◌}
 use Rattle.edr_definitions.specs.Ticks.{first_tick}
 use Rattle.edr_definitions.specs.Signals.{Signals}
-use Rattle.edr_definitions.specs.Windows.{filled}
+use Rattle.edr_definitions.specs.Windows.{filled_signals}
 use Rattle.edr_definitions.specs.Selection.{Bounds, is_triggered, is_time_zero, is_end, Candidate, bounds_after, at_start}
 use Rattle.edr_definitions.specs.Commands.{is_locking}
 use Rattle.edr_definitions.specs.Facts.{CandidatesLead, AgreeUpTo}
@@ -84,7 +84,7 @@ tick_change-tests t m n s same h =
     ∙ sym (tick_change-is n t s (end_test n (t + 1) s.phase) there (end_test-is n (t + 1) s.phase))
 
 -- signals whose changes are the same, a missing sample counting as 0, and which fire the same restraints
-pub SameTests-changes : (t : ℕ) (m n : Signals) → AgreeUpTo t (filled m) (filled n) → SameTests t m n
+pub SameTests-changes : (t : ℕ) (m n : Signals) → AgreeUpTo t (filled_signals m) (filled_signals n) → SameTests t m n
 SameTests-changes t m n same =
-    SameTests-then t m (filled m) n (SameTests-back t (filled m) m (SameTests-filled t m))
-    (SameTests-then t (filled m) (filled n) n (SameTests-agree t (filled m) (filled n) same) (SameTests-filled t n))
+    SameTests-then t m (filled_signals m) n (SameTests-back t (filled_signals m) m (SameTests-filled t m))
+    (SameTests-then t (filled_signals m) (filled_signals n) n (SameTests-agree t (filled_signals m) (filled_signals n) same) (SameTests-filled t n))

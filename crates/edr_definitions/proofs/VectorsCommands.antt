@@ -7,7 +7,7 @@ use Rattle.edr_definitions.specs.Ticks.{first_tick, greatest}
 use Rattle.edr_definitions.specs.Signals.{sample_at, signals_of}
 use Rattle.edr_definitions.specs.Windows.{delta_v, largest_change, swing}
 use Rattle.edr_definitions.specs.Selection.{is_triggered, is_time_zero, is_end, end_of, candidate_at, chain_from}
-use Rattle.edr_definitions.specs.Parts.{pre_part, crash_part, points, extreme, missing, firings, result_at, first_firing, first_greatest, slots_before, slot}
+use Rattle.edr_definitions.specs.Parts.{pre_part, crash_part, points, extreme, missing_count, firings, result_at, first_firing, first_greatest, slots_before, slot}
 use Rattle.edr_definitions.specs.Commands.{places, last_placed, is_locking, lock_of, issues_of, issues, commands, rank_of}
 use Rattle.edr_definitions.proofs.VectorPulses.{sample, firing, only_fired}
 
@@ -66,22 +66,22 @@ when f t = map (λ i. (i.tick, rank_of i.command)) (issues f 1 t)
 
 -- Take at time zero, Lock at the air bag, Done at the close
 take_lock_done : when (restraints_at 10) 60 ≡ (2, 0) ∷ (10, 1) ∷ (52, 2) ∷ []
-unfolding issues_of pre_part slots_before slot crash_part points extreme missing firings result_at first_firing first_greatest chain_from candidate_at end_of is_end is_time_zero is_triggered first_tick swing largest_change greatest delta_v sample_at
+unfolding issues_of pre_part slots_before slot crash_part points extreme missing_count firings result_at first_firing first_greatest chain_from candidate_at end_of is_end is_time_zero is_triggered first_tick swing largest_change greatest delta_v sample_at
 take_lock_done = refl
 
 -- at the close itself Lock stands before Done
 lock_before_done : when (restraints_at 52) 60 ≡ (2, 0) ∷ (52, 1) ∷ (52, 2) ∷ []
-unfolding issues_of pre_part slots_before slot crash_part points extreme missing firings result_at first_firing first_greatest chain_from candidate_at end_of is_end is_time_zero is_triggered first_tick swing largest_change greatest delta_v sample_at
+unfolding issues_of pre_part slots_before slot crash_part points extreme missing_count firings result_at first_firing first_greatest chain_from candidate_at end_of is_end is_time_zero is_triggered first_tick swing largest_change greatest delta_v sample_at
 lock_before_done = refl
 
 -- one past the close it is the next event's
 lock_of_next : when (restraints_at 53) 60 ≡ (2, 0) ∷ (52, 2) ∷ (53, 0) ∷ (53, 1) ∷ []
-unfolding issues_of pre_part slots_before slot crash_part points extreme missing firings result_at first_firing first_greatest chain_from candidate_at end_of is_end is_time_zero is_triggered first_tick swing largest_change greatest delta_v sample_at
+unfolding issues_of pre_part slots_before slot crash_part points extreme missing_count firings result_at first_firing first_greatest chain_from candidate_at end_of is_end is_time_zero is_triggered first_tick swing largest_change greatest delta_v sample_at
 lock_of_next = refl
 
 -- only what is issued by the tick counts
 by_51 : when (restraints_at 10) 51 ≡ (2, 0) ∷ (10, 1) ∷ []
-unfolding issues_of pre_part slots_before slot crash_part points extreme missing firings result_at first_firing first_greatest chain_from candidate_at end_of is_end is_time_zero is_triggered first_tick swing largest_change greatest delta_v sample_at
+unfolding issues_of pre_part slots_before slot crash_part points extreme missing_count firings result_at first_firing first_greatest chain_from candidate_at end_of is_end is_time_zero is_triggered first_tick swing largest_change greatest delta_v sample_at
 by_51 = refl
 
 -- an air bag at tick 2 and nothing else
@@ -90,5 +90,5 @@ deployment = record no_items { restraint = sample 2 (pos 1) ∷ [] }
 
 -- it is taken and locked at once with one pre part, and done with the crash part of time zero 2 and end 22
 deployment_commands : commands deployment 1 52 ≡ Take (pre_part deployment 1 First 2) ∷ Lock (pre_part deployment 1 First 2) ∷ Done (crash_part (signals_of deployment) 2 22) ∷ []
-unfolding commands issues_of crash_part points extreme missing firings result_at first_firing first_greatest chain_from candidate_at end_of is_end is_time_zero is_triggered first_tick swing largest_change greatest delta_v sample_at
+unfolding commands issues_of crash_part points extreme missing_count firings result_at first_firing first_greatest chain_from candidate_at end_of is_end is_time_zero is_triggered first_tick swing largest_change greatest delta_v sample_at
 deployment_commands = refl

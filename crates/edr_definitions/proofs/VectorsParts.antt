@@ -7,7 +7,7 @@ use Rattle.edr_record.specs.declared.Place.TheVariants.{First}
 use Rattle.edr_record.specs.declared.Profile.TheVariants.{Long}
 use Rattle.edr_definitions.specs.Ticks.{first_tick, greatest}
 use Rattle.edr_definitions.specs.Windows.{delta_v}
-use Rattle.edr_definitions.specs.Parts.{slot, slots_before, numbers, switch, pre_part, kmh_of, first_greatest, points, extreme, result_at, missing, first_firing, firings, crash_part}
+use Rattle.edr_definitions.specs.Parts.{slot, slots_before, numbers, switch, pre_part, kmh_of, first_greatest, points, extreme, result_at, missing_count, first_firing, firings, crash_part}
 use Rattle.edr_definitions.proofs.VectorPulses.{pulse, both, nothing, firing, only_along, only_fired, no_firing, sample, silence, each_100}
 
 -- ---- slots
@@ -143,8 +143,8 @@ unfolding result_at first_greatest first_tick greatest delta_v
 resultant_tie = refl
 
 -- the ticks 11 to 14 without a sample, of which 12 and 13 have one
-missing_two : missing (pulse 12 13 (pos 0)) 11 15 ≡ 2
-unfolding missing
+missing_two : missing_count (pulse 12 13 (pos 0)) 11 15 ≡ 2
+unfolding missing_count
 missing_two = refl
 
 -- the driver's frontal air bag at time zero and again, its curtain 3 ms later, the passenger's frontal at the close, its side past it
@@ -167,7 +167,7 @@ crash_part_of_deployment : crash_part (only_fired (firing 2 1)) 2 22 ≡ record 
   missing_across = 50;
   fired = Some 0 ∷ replicate 7 None;
 }
-unfolding crash_part points extreme result_at missing firings first_firing first_greatest first_tick greatest delta_v
+unfolding crash_part points extreme result_at missing_count firings first_firing first_greatest first_tick greatest delta_v
 crash_part_of_deployment = refl
 
 -- the trigger that reached back: longitudinal points up to 57 ms, the greatest at 8 ms, and no lateral samples
@@ -182,5 +182,5 @@ crash_part_of_second_pulse : crash_part (only_along (both (pulse 1 10 (pos 5000)
   missing_across = 57;
   fired = replicate 8 None;
 }
-unfolding crash_part points extreme result_at missing firings first_firing first_greatest first_tick greatest delta_v
+unfolding crash_part points extreme result_at missing_count firings first_firing first_greatest first_tick greatest delta_v
 crash_part_of_second_pulse = refl

@@ -9,7 +9,7 @@ use Rattle.edr_record.specs.Bounds.{most_points}
 use Rattle.edr_definitions.specs.Signals.{Signals}
 use Rattle.edr_definitions.specs.Windows.{delta_v, size_of_change, squares}
 use Rattle.edr_definitions.specs.Search.{tick_if}
-use Rattle.edr_definitions.specs.Parts.{kmh_of, first_greatest, missing, firings}
+use Rattle.edr_definitions.specs.Parts.{kmh_of, first_greatest, missing_count, firings}
 
 -- the change of the greatest size so far, and its time from time zero on
 pub record Peak : Type 0 where
@@ -68,7 +68,7 @@ axis_at axis z t = record {
   sum = delta_v axis z t;
   points = points_to axis z (t - z);
   peak = peak_of axis z (edge z t);
-  missing = missing axis (z + 1) (edge z t);
+  missing = missing_count axis (z + 1) (edge z t);
 }
 
 -- the open crash part of time zero z at the tick t

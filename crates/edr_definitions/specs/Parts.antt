@@ -91,8 +91,8 @@ result_at m z b = first_greatest (λ t. squares (delta_v m.along z t) (delta_v m
 -- ---- missing samples and firings
 
 -- how many of the ticks `a..b` have no sample
-unfoldable pub missing : (ℕ → Option ℤ) → ℕ → ℕ → ℕ
-missing axis a b = count_by (λ t. is_none (axis t)) (ticks a b)
+unfoldable pub missing_count : (ℕ → Option ℤ) → ℕ → ℕ → ℕ
+missing_count axis a b = count_by (λ t. is_none (axis t)) (ticks a b)
 
 -- when the restraint of a bit first fires in the ticks `z..b` (563.7 Tables I and II, deployment)
 unfoldable pub first_firing : Signals → ℕ → ℕ → ℕ → Option ℕ
@@ -114,7 +114,7 @@ crash_part m z e =
       max_along = extreme m.along z past;
       max_across = extreme m.across z past;
       result_at = result_at m z past;
-      missing_along = missing m.along (z + 1) past;
-      missing_across = missing m.across (z + 1) past;
+      missing_along = missing_count m.along (z + 1) past;
+      missing_across = missing_count m.across (z + 1) past;
       fired = firings m z (close_of z e + 1);
     }

@@ -8,7 +8,7 @@ use Rattle.edr_record.specs.declared.TheConstants.{EARLIEST_END, RESET}
 use Rattle.edr_record.specs.declared.Command.{Command}
 use Rattle.edr_definitions.specs.declared.limits.TheConstants.{LONGEST_AGE}
 use Rattle.edr_definitions.specs.Signals.{Signals}
-use Rattle.edr_definitions.specs.Windows.{filled}
+use Rattle.edr_definitions.specs.Windows.{filled_signals}
 use Rattle.edr_definitions.specs.Selection.{Candidate}
 use Rattle.edr_definitions.specs.Commands.{Issue, issue_at, all_issues, issues, commands}
 use Rattle.edr_definitions.specs.Facts.{AgreeUpTo}
@@ -47,7 +47,7 @@ AddsIssues f n t cs = issues f n (t + 1) ≡ issues f n t ++ map (issue_at (t + 
 -- ---- signals and searches
 -- up to the tick t the signals have the same changes of speed and firings
 abbrev pub ChangeAlikeUpTo : ℕ → Signals → Signals → Type 0
-ChangeAlikeUpTo t m n = AgreeUpTo t (filled m) (filled n)
+ChangeAlikeUpTo t m n = AgreeUpTo t (filled_signals m) (filled_signals n)
 
 -- the candidates that the search has closed, and then its open one
 abbrev pub told_chain : (m : Signals) (t : ℕ) (s : Search) → StandsFor m t s → List Candidate

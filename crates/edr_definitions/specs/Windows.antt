@@ -47,5 +47,5 @@ abbrev pub is_quiet : ℤ → ℤ → Bool
 is_quiet x y = nat_le (squares x y) QUIET_SQUARES
 
 -- the same signals, with a sample of 0 at each tick without one
-abbrev pub filled : Signals → Signals
-filled m = record { along = λ t. Some (change_at m.along t); across = λ t. Some (change_at m.across t); fired = m.fired }
+abbrev pub filled_signals : Signals → Signals
+filled_signals m = record { along = λ t. Some (change_at m.along t); across = λ t. Some (change_at m.across t); fired = m.fired }

@@ -22,7 +22,7 @@ use Rattle.edr_detect.specs.declared.stage.Stage.TheVariants as stage
 use Rattle.edr_detect.specs.declared.stage.Tests.{Tests}
 use Rattle.edr_detect.specs.declared.windows.Windows.{Windows}
 use Rattle.edr_detect.specs.Latest.{LatestStandsFor}
-use Rattle.edr_detect.specs.Stages.{told_of, phase_of, is_event, stepped}
+use Rattle.edr_detect.specs.Stages.{told_of, phase_of, is_event, stepped_search}
 use Rattle.edr_detect.specs.Standing.{SwingsStandFor, WindowsStandFor, HoldNothing, AreStill, BeginsAtRest, TestsAre, bounds_past}
 use Rattle.edr_detect.specs.Rows.{SignalRow, row_at, signals_of_rows}
 use Rattle.edr_detect.specs.Detected.{DetectState, IsAtRest, KeepsRecent, DetectStandsFor}
@@ -92,7 +92,7 @@ keeps-agree m n b t d same h = (
 )
 
 -- ---- one tick of the search
-stepped-is : (m : Signals) (b : Bounds) (s : Stage) (t : ℕ) (a : Tests) → TestsAre m b s t a → stepped t a b (phase_of s) ≡ next_from m t b (phase_of s)
+stepped-is : (m : Signals) (b : Bounds) (s : Stage) (t : ℕ) (a : Tests) → TestsAre m b s t a → stepped_search t a b (phase_of s) ≡ next_from m t b (phase_of s)
 stepped-is m b stage.Searching t a is = rw (is.zero refl, is.trigger refl, is.locks) refl
 stepped-is m b (stage.Open z None l None) t a is = let e = is.ends z None l refl in rw (is.trigger refl, is.locks, e) refl
 stepped-is m b (stage.Open z (Some c) l None) t a is = let e = is.ends z (Some c) l refl in rw (is.locks, e) refl
@@ -132,7 +132,7 @@ ending t b z None l false = refl
 ending t b z (Some x) l true = closing (nat_eq t (close_of z t)) (nat_eq (close_of z t) t) t b (Open z (Some x) l (Some t)) (nat_eq-sym t (close_of z t))
 ending t b z (Some x) l false = refl
 
-leaving : (m : Signals) (before t : ℕ) (b : Bounds) (p : Phase) (a : Tests) → PhaseIs m before b p → (stepped t a b p).bounds ≡ bounds_at t (stepped_change t a.zero a.trigger a.locks a.ends p).closed (stepped_change t a.zero a.trigger a.locks a.ends p).dropped b
+leaving : (m : Signals) (before t : ℕ) (b : Bounds) (p : Phase) (a : Tests) → PhaseIs m before b p → (stepped_search t a b p).bounds ≡ bounds_at t (stepped_change t a.zero a.trigger a.locks a.ends p).closed (stepped_change t a.zero a.trigger a.locks a.ends p).dropped b
 leaving m before t b Searching a h = still a.zero b _ _ refl refl
 leaving m before t b (Open z c l None) a h = ending t b z (option_or c (tick_if a.trigger t)) (option_or l (tick_if a.locks t)) a.ends
 leaving m before t b (Open z (Some c) l (Some e)) a h = closing (nat_eq t (close_of z e)) (nat_eq (close_of z e) t) t b (Open z (Some c) (option_or l (tick_if a.locks t)) (Some e)) (nat_eq-sym t (close_of z e))
@@ -147,7 +147,7 @@ stays-ending : (t : ℕ) (b : Bounds) (z c : ℕ) (l : Option ℕ) (ends : Bool)
 stays-ending t b z c l true closed none = stays-open (nat_eq t (close_of z t)) (nat_eq (close_of z t) t) _ b z c l (Some t) (nat_eq-sym t (close_of z t)) closed none
 stays-ending t b z c l false closed none = cc
 
-stays : (t : ℕ) (b : Bounds) (p : Phase) (a : Tests) → (stepped_change t a.zero a.trigger a.locks a.ends p).closed ≡ false → is_event (stepped t a b p).phase ≡ false → is_event p ≡ false
+stays : (t : ℕ) (b : Bounds) (p : Phase) (a : Tests) → (stepped_change t a.zero a.trigger a.locks a.ends p).closed ≡ false → is_event (stepped_search t a b p).phase ≡ false → is_event p ≡ false
 stays t b Searching a closed none = refl
 stays t b (Open z None l e) a closed none = refl
 stays t b (Open z (Some c) l None) a closed none = absurd (stays-ending t b z c (option_or l (tick_if a.locks t)) a.ends closed none)
@@ -189,7 +189,7 @@ module _ (rows : List SignalRow) (r : SignalRow) (d e : DetectState) (u : ℕ) (
     (h : DetectStandsFor d rows) (u_is : u ≡ d.tick + 1) (tick_is : e.tick ≡ u)
     (push : (m : Signals) (b : Bounds) (before : ℕ) → u ≡ before + 1 → b.after ≤ before → b.since ≤ before → BeginsAtRest m → change_at m.along u ≡ r.along → change_at m.across u ≡ r.across → WindowsStandFor m b (phase_of d.stage) before d.windows → WindowsStandFor m b (phase_of d.stage) u pushed)
     (tests : (m : Signals) (b : Bounds) (before : ℕ) → u ≡ before + 1 → b.after ≤ before → b.since ≤ before → change_at m.along u ≡ r.along → change_at m.across u ≡ r.across → m.fired u ≡ r.fired.0 → KeepsRecent m b before d → WindowsStandFor m b (phase_of d.stage) u pushed → TestsAre m b d.stage u a)
-    (next : (b : Bounds) → phase_of e.stage ≡ (stepped u a b (phase_of d.stage)).phase)
+    (next : (b : Bounds) → phase_of e.stage ≡ (stepped_search u a b (phase_of d.stage)).phase)
     (told : told_of ans ≡ stepped_change u a.zero a.trigger a.locks a.ends (phase_of d.stage))
     (restart : (m : Signals) (b : Bounds) (k : ℕ) → (ans.closed ≡ false → is_event (phase_of e.stage) ≡ false → is_event (phase_of d.stage) ≡ false) → WindowsStandFor m b (phase_of d.stage) k pushed → WindowsStandFor m (bounds_past k ans b) (phase_of e.stage) k e.windows)
     (rests : (m : Signals) (b : Bounds) (before : ℕ) → u ≡ before + 1 → b.after ≤ before → b.since ≤ before → change_at m.along u ≡ r.along → change_at m.across u ≡ r.across → KeepsRecent m b before d → WindowsStandFor m b (phase_of d.stage) u pushed → IsTrue e.rests → IsAtRest m (bounds_past u ans b) u e) where
@@ -215,15 +215,15 @@ module _ (rows : List SignalRow) (r : SignalRow) (d e : DetectState) (u : ℕ) (
       let are : TestsAre n b d.stage u a = tests n b t now past h.since_past along across fired old here in
       let before : StandsFor n t s = StandsFor-agree t (signals_of_rows rows) n s agree h.search_is in
       let after : StandsFor n u (next_search n u s) = subst (λ (k : ℕ). StandsFor n k (next_search n k s)) (sym now) (StandsFor-next n t s before) in
-      let one : stepped u a b p ≡ next_search n u s = stepped-is n b d.stage u a are in
+      let one : stepped_search u a b p ≡ next_search n u s = stepped-is n b d.stage u a are in
       let closed : ans.closed ≡ (stepped_change u a.zero a.trigger a.locks a.ends p).closed = ap (λ (c : Change). c.closed) told in
       let dropped : ans.dropped ≡ (stepped_change u a.zero a.trigger a.locks a.ends p).dropped = ap (λ (c : Change). c.dropped) told in
-      let left : bounds_past u ans b ≡ (stepped u a b p).bounds =
+      let left : bounds_past u ans b ≡ (stepped_search u a b p).bounds =
       ap (λ (v : Bool). bounds_at u v ans.dropped b) closed
       ∙ ap (λ (v : Bool). bounds_at u (stepped_change u a.zero a.trigger a.locks a.ends p).closed v b) dropped
       ∙ sym (leaving n t u b p a before.phase_is) in
       let reached : ◌≡◌ {A = Search} (record { bounds = bounds_past u ans b; phase = phase_of e.stage }) (next_search n u s) =
-      search_is (stepped u a b p) (bounds_past u ans b) (phase_of e.stage) left (next b) ∙ one in
+      search_is (stepped_search u a b p) (bounds_past u ans b) (phase_of e.stage) left (next b) ∙ one in
       let stands : StandsFor n u (record { bounds = bounds_past u ans b; phase = phase_of e.stage }) = subst (λ (x : Search). StandsFor n u x) (sym reached) after in
       let answer : tick_change n u ≡ stepped_change u (is_time_zero n b u) (is_triggered n b.since u) (is_locking n u) a.ends p =
       subst (λ (k : ℕ). ((z : ℕ) (c l : Option ℕ) → p ≡ Open z c l None → a.ends ≡ is_end n z k) → tick_change n k ≡ stepped_change k (is_time_zero n b k) (is_triggered n b.since k) (is_locking n k) a.ends p) (sym now)

@@ -25,9 +25,9 @@ is_event (Open z None l e) = false
 is_event (Open z (Some c) l e) = true
 
 -- the search past the tick t, by the answers of the four tests there
-abbrev pub stepped : ℕ → Tests → Bounds → Phase → Search
-stepped t a b Searching =
+abbrev pub stepped_search : ℕ → Tests → Bounds → Phase → Search
+stepped_search t a b Searching =
     if a.zero then record { bounds = b; phase = Open t (tick_if a.trigger t) (tick_if a.locks t) None }
     else record { bounds = b; phase = Searching }
-stepped t a b (Open z c l None) = next_open t b z (option_or c (tick_if a.trigger t)) (option_or l (tick_if a.locks t)) a.ends
-stepped t a b (Open z c l (Some e)) = past_end t b z c (option_or l (tick_if a.locks t)) e
+stepped_search t a b (Open z c l None) = next_open t b z (option_or c (tick_if a.trigger t)) (option_or l (tick_if a.locks t)) a.ends
+stepped_search t a b (Open z c l (Some e)) = past_end t b z c (option_or l (tick_if a.locks t)) e

@@ -5,7 +5,7 @@ ghost use Rattle.std.specs.Option.{option_or};
 ghost use Rattle.edr_definitions.specs.Selection.{Bounds, close_of};
 ghost use Rattle.edr_definitions.specs.Change.{stepped_change};
 ghost use Rattle.edr_definitions.specs.Search.{Searching, past_end, tick_if};
-ghost use Rattle.edr_detect.specs.Stages.{phase_of, is_event, told_of, stepped};
+ghost use Rattle.edr_detect.specs.Stages.{phase_of, is_event, told_of, stepped_search};
 
 use edr_record::{RESET, window_from_end};
 
@@ -114,7 +114,7 @@ impl Stage {
 
     /// The stage with which the search goes on past the tick t, in ms of the cycle.
     pub fn next(self, t: u32, tests: Tests) -> Stage
-        ensures { (b : Bounds) → phase_of result ≡ (stepped t tests b (phase_of self)).phase }
+        ensures { (b : Bounds) → phase_of result ≡ (stepped_search t tests b (phase_of self)).phase }
     {
         match self {
             Stage::Searching => {

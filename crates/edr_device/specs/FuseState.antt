@@ -99,8 +99,8 @@ abbrev pub armed_for : ℕ → FuseState → FuseState
 armed_for changing_calls s = record s { armed = changing_calls; armed_at = s.ticks }
 
 -- the clock begins anew, and a plan that still waits stays
-abbrev pub lifted : FuseState → FuseState
-lifted s = record {
+abbrev pub after_lift : FuseState → FuseState
+after_lift s = record {
   ticks = 0;
   last_good = 0;
   faults = s.faults;

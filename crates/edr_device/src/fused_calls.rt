@@ -3,7 +3,7 @@
 ghost use Rattle.std.specs.Prelude.{◌≡◌, ◌≢◌, ◌⊎◌, ◌+◌, ◌-◌, ◌≤◌, ◌<◌, ℕ, List, true, false, is_ok, length, IsTrue, IsErr, OnOk, OnErr};
 ghost use Rattle.edr_device.specs.Device.{Across, CrashInSync, CrashInWrite, Repowered, Shows, Synced, Ticks, Wrote};
 ghost use Rattle.edr_device.specs.Faults.{HasCause, Rose, last_number};
-ghost use Rattle.edr_device.specs.FuseState.{ForwardsChange, FuseGoesOn, FuseStays, IsDue, IsPassing, IsRefusing, IsStopping, Passes, Refuses, RefusesChange, StopsSync, StopsWrite, after_refused_change, armed_for, fuse_state, fused_content, fused_extent, fused_settled, fused_since, lifted, new_fuse};
+ghost use Rattle.edr_device.specs.FuseState.{ForwardsChange, FuseGoesOn, FuseStays, IsDue, IsPassing, IsRefusing, IsStopping, Passes, Refuses, RefusesChange, StopsSync, StopsWrite, after_refused_change, armed_for, fuse_state, fused_content, fused_extent, fused_settled, fused_since, after_lift, new_fuse};
 ghost use Rattle.edr_device.specs.declared.device.TheConstants.{LONGEST_WRITE};
 
 use crate::device::Nvm;
@@ -62,7 +62,7 @@ impl<'a, N: Nvm> Fused<'a, N> {
     pub fn lift(&mut self)
         ensures device { self.new.nvm.ghost_name ≡ self.old.nvm.ghost_name }
         ensures now { self.new.nvm.now ≡ self.old.nvm.now }
-        ensures state { fuse_state self.new ≡ lifted (fuse_state self.old) }
+        ensures state { fuse_state self.new ≡ after_lift (fuse_state self.old) }
     {
         self.armed = waiting(self.armed, self.ticks - self.armed_at);
         self.armed_at = 0;

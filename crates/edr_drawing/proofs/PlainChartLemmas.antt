@@ -14,7 +14,7 @@ use Rattle.edr_drawing.specs.declared.elements.Element.TheVariants as element
 use Rattle.edr_drawing.specs.declared.lanes.ChartLane.{ChartLane}
 use Rattle.edr_drawing.specs.declared.changes.Scale.{Scale}
 use Rattle.edr_drawing.specs.Scales.{slot_x}
-use Rattle.edr_drawing.specs.Elements.{words_bytes, element_bytes, drawn}
+use Rattle.edr_drawing.specs.Elements.{words_bytes, element_bytes, elements_bytes}
 use Rattle.edr_drawing.specs.Lanes.{lane_y, grid_line, grid, point, points, cell, cells, gap_elements, long_cells, cells_of, drawn_lane}
 use Rattle.edr_drawing.specs.Before.{second_line, second_lines, before_frame, before_speed, before_throttle, switch_field, switches, run_field, switch_run, are_same, switch_runs, brake_slots, before_brake, before_switches, before_head, before_chart}
 use Rattle.edr_drawing.specs.Changes.{time_x}
@@ -42,7 +42,7 @@ plain_element (element.Square x y) = search plain_pieces depth 40
 plain_element (element.Diamond x y class) = search plain_pieces depth 40
 plain_element (element.Flag x y) = search plain_pieces depth 40
 
-pub plain_drawn : (es : List Element) → Plain (drawn es)
+pub plain_drawn : (es : List Element) → Plain (elements_bytes es)
 plain_drawn es = plain_flat_map element_bytes plain_element es
 
 -- the chart before time zero

@@ -15,7 +15,7 @@ use Rattle.edr_drawing.specs.declared.tags.Tag.TheVariants as tag
 use Rattle.edr_drawing.specs.Texts.{mark_bytes, class_bytes, label_bytes}
 use Rattle.edr_drawing.specs.Tags.{tag_bytes}
 use Rattle.edr_drawing.specs.Long.{head_text, style_text, body_text, notes_text, form_text}
-use Rattle.edr_drawing.specs.Scales.{counted}
+use Rattle.edr_drawing.specs.Scales.{flat_map_below}
 
 -- each byte is below 128
 pub record Plain (bs : List ℕ) : Type 0 where
@@ -47,9 +47,9 @@ pub plain_flat_map : {X : Type 0} (f : X → List ℕ) → ((x : X) → Plain (f
 plain_flat_map f h [] = plain_nil
 plain_flat_map f h (x ∷ xs) = plain_append (f x) (flat_map f xs) (h x) (plain_flat_map f h xs)
 
-pub plain_counted : (f : ℕ → List ℕ) → ((i : ℕ) → Plain (f i)) → (n : ℕ) → Plain (counted f n)
+pub plain_counted : (f : ℕ → List ℕ) → ((i : ℕ) → Plain (f i)) → (n : ℕ) → Plain (flat_map_below f n)
 plain_counted f h zero = plain_nil
-plain_counted f h (suc n) = plain_append (counted f n) (f n) (plain_counted f h n) (h n)
+plain_counted f h (suc n) = plain_append (flat_map_below f n) (f n) (plain_counted f h n) (h n)
 
 -- the digits of any number
 glyph_low : (d : ℕ) → d < 10 → digit_glyph false d < 128

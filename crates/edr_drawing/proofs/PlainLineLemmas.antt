@@ -18,7 +18,7 @@ use Rattle.edr_image.specs.declared.Kind.TheVariants as kind
 use Rattle.edr_image.specs.declared.Applied.{Applied}
 use Rattle.edr_image.specs.declared.Applied.TheVariants.{Kept, Locked, Done, NotKept}
 use Rattle.edr_image.specs.Reports.{Report, StartStopped, Ran}
-use Rattle.edr_report.specs.Words.{cycle_words, kind_word, ack_words, bank_words, applied_words, stop_words, none_word, yes_no, on_off, profile_word, number_or_none, switch_or_none, milliseconds, firing_words, events_in_crash, seconds, time_between, spaced, tenths_of, extreme_words, missing_words}
+use Rattle.edr_report.specs.Words.{cycle_words, kind_word, ack_words, bank_words, applied_words, stop_words, none_word, yes_no, on_off, profile_word, number_or_none, switch_or_none, milliseconds, firing_words, events_in_crash, seconds, time_between, spaced_words, tenths_of, extreme_words, missing_words}
 use Rattle.edr_report.specs.Lines.{Line, line}
 use Rattle.edr_report.specs.Report.{ack_line, cycle_lines, pre_lines, crash_names, crash_words, named_lines, crash_lines, event_lines, run_lines}
 use Rattle.edr_drawing.specs.Tables.{row, line_row, begins_table}
@@ -101,11 +101,11 @@ plain_between : (p : Place) → Plain (time_between p)
 plain_between First = plain_fixed none_word refl
 plain_between (Second after) = plain_seconds (tenths_of after)
 
-spaced_more : (w : List ℕ) (ws : List (List ℕ)) → Plain w → Plain (spaced ws) → Plain (spaced (w ∷ ws))
+spaced_more : (w : List ℕ) (ws : List (List ℕ)) → Plain w → Plain (spaced_words ws) → Plain (spaced_words (w ∷ ws))
 spaced_more w [] h k = h
-spaced_more w (y ∷ ys) h k = plain_append w (32 ∷ spaced (y ∷ ys)) h (plain_cons 32 (spaced (y ∷ ys)) (omega arith) k)
+spaced_more w (y ∷ ys) h k = plain_append w (32 ∷ spaced_words (y ∷ ys)) h (plain_cons 32 (spaced_words (y ∷ ys)) (omega arith) k)
 
-plain_spaced : {X : Type 0} (f : X → List ℕ) → ((x : X) → Plain (f x)) → (xs : List X) → Plain (spaced (map f xs))
+plain_spaced : {X : Type 0} (f : X → List ℕ) → ((x : X) → Plain (f x)) → (xs : List X) → Plain (spaced_words (map f xs))
 plain_spaced f h [] = plain_nil
 plain_spaced f h (x ∷ xs) = spaced_more (f x) (map f xs) (h x) (plain_spaced f h xs)
 

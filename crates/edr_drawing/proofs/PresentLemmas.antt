@@ -9,22 +9,22 @@ use Rattle.edr_drawing.specs.declared.texts.Label.TheVariants as label
 use Rattle.edr_drawing.specs.declared.elements.TextWords.TheVariants as words
 use Rattle.edr_drawing.specs.declared.elements.Element.{Element}
 use Rattle.edr_drawing.specs.declared.elements.Element.TheVariants as element
-use Rattle.edr_drawing.specs.Elements.{element_bytes, drawn}
+use Rattle.edr_drawing.specs.Elements.{element_bytes, elements_bytes}
 use Rattle.edr_drawing.specs.Scales.{slot_x}
 use Rattle.edr_drawing.specs.Lanes.{lane_y, cells, gap_elements, long_cells, cells_of, point, points}
 use Rattle.edr_drawing.specs.Laws.{present, mark_of, is_mark, HasMarks}
 
 -- two elements more
-drawn_more : (a b : Element) (rest : List ℕ) (es : List Element) → rest ≡ drawn es → drawn (a ∷ b ∷ []) ++ rest ≡ drawn (a ∷ b ∷ es)
-drawn_more a b rest es is = ap (λ (bs : List ℕ). drawn (a ∷ b ∷ []) ++ bs) is ∙ sym (flat_map-append element_bytes (a ∷ b ∷ []) es)
+drawn_more : (a b : Element) (rest : List ℕ) (es : List Element) → rest ≡ elements_bytes es → elements_bytes (a ∷ b ∷ []) ++ rest ≡ elements_bytes (a ∷ b ∷ es)
+drawn_more a b rest es is = ap (λ (bs : List ℕ). elements_bytes (a ∷ b ∷ []) ++ bs) is ∙ sym (flat_map-append element_bytes (a ∷ b ∷ []) es)
 
 -- more elements
-drawn_behind : (front : List Element) (rest : List ℕ) (es : List Element) → rest ≡ drawn es → drawn front ++ rest ≡ drawn (front ++ es)
-drawn_behind front rest es is = ap (λ (bs : List ℕ). drawn front ++ bs) is ∙ sym (flat_map-append element_bytes front es)
+drawn_behind : (front : List Element) (rest : List ℕ) (es : List Element) → rest ≡ elements_bytes es → elements_bytes front ++ rest ≡ elements_bytes (front ++ es)
+drawn_behind front rest es is = ap (λ (bs : List ℕ). elements_bytes front ++ bs) is ∙ sym (flat_map-append element_bytes front es)
 
 -- the marks of a short profile
 abbrev Marks : Profile → ChartLane → ℕ → List (Option ℕ) → List ℕ → Type 0
-Marks f l k vs bytes = (es : List Element) × (bytes ≡ drawn es) × (filter is_mark es ≡ map (mark_of f l) (present k vs))
+Marks f l k vs bytes = (es : List Element) × (bytes ≡ elements_bytes es) × (filter is_mark es ≡ map (mark_of f l) (present k vs))
 
 short_marks : (l : ChartLane) (k : ℕ) (vs : List (Option ℕ)) → Marks Short l k vs (cells l k vs)
 short_marks l k [] = ([], refl, refl)
@@ -59,8 +59,8 @@ long_marks l k n (Some v ∷ vs) =
     let rest = subst (λ (j : ℕ). Marks Long l j vs (long_cells l (k + n + 1) 0 vs)) next (long_marks l (k + n + 1) 0 vs) in
     let dot = element.Point (slot_x Long (k + n)) (lane_y l v) in (
       gap_elements l k n ++ dot ∷ rest.0,
-      append_assoc (drawn (gap_elements l k n)) (drawn (dot ∷ [])) (long_cells l (k + n + 1) 0 vs)
-          ∙ drawn_behind (gap_elements l k n) (drawn (dot ∷ []) ++ long_cells l (k + n + 1) 0 vs) (dot ∷ rest.0) (drawn_behind (dot ∷ []) (long_cells l (k + n + 1) 0 vs) rest.0 rest.1),
+      append_assoc (elements_bytes (gap_elements l k n)) (elements_bytes (dot ∷ [])) (long_cells l (k + n + 1) 0 vs)
+          ∙ drawn_behind (gap_elements l k n) (elements_bytes (dot ∷ []) ++ long_cells l (k + n + 1) 0 vs) (dot ∷ rest.0) (drawn_behind (dot ∷ []) (long_cells l (k + n + 1) 0 vs) rest.0 rest.1),
       no_mark l k n (dot ∷ rest.0) ∙ ap (λ (xs : List Element). dot ∷ xs) rest.2,
     )
 

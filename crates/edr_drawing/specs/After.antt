@@ -15,8 +15,8 @@ use Rattle.edr_drawing.specs.declared.elements.Element.{Element}
 use Rattle.edr_drawing.specs.declared.elements.Element.TheVariants as element
 use Rattle.edr_drawing.specs.declared.changes.Scale.{Scale}
 use Rattle.edr_drawing.specs.Pieces.{pieces}
-use Rattle.edr_drawing.specs.Elements.{drawn}
-use Rattle.edr_drawing.specs.Scales.{counted}
+use Rattle.edr_drawing.specs.Elements.{elements_bytes}
+use Rattle.edr_drawing.specs.Scales.{flat_map_below}
 use Rattle.edr_drawing.specs.Before.{name}
 use Rattle.edr_drawing.specs.Changes.{change_y, time_x}
 
@@ -27,12 +27,12 @@ unfoldable pub past_window : Scale → ℕ → List ℕ
 past_window s w =
     if nat_le s.span w
     then []
-    else drawn (element.Rect (time_x s w) 40 (1_830 - time_x s w) 450 class.Gap ∷ [])
+    else elements_bytes (element.Rect (time_x s w) 40 (1_830 - time_x s w) 450 class.Gap ∷ [])
 
 -- the lines of a time in both parts of the chart, with its number
 abbrev pub time_with : Scale → ℕ → Class → Class → List ℕ
 time_with s t line_class c =
-    drawn
+    elements_bytes
     (element.Line (time_x s t) 40 (time_x s t) 490 line_class
     ∷ element.Line (time_x s t) 536 (time_x s t) 932 line_class
     ∷ element.Text (time_x s t) 522 c (words.Number t)
@@ -42,7 +42,7 @@ unfoldable pub time_line : Scale → ℕ → List ℕ
 time_line s t = if nat_eq t 0 then time_with s t class.Zero class.CentreBold else time_with s t class.Grid class.Centre
 
 unfoldable pub time_lines : Scale → List ℕ
-time_lines s = counted (λ i. time_line s (50 * i)) (s.span / 50 + 1)
+time_lines s = flat_map_below (λ i. time_line s (50 * i)) (s.span / 50 + 1)
 
 -- a text, and a level line
 abbrev pub text : ℕ → ℕ → Class → Label → Element
@@ -54,7 +54,7 @@ line x to_x y c = element.Line x y to_x y c
 -- the names of the axes and of the marks
 unfoldable pub legend : List ℕ
 legend =
-    drawn
+    elements_bytes
     (name 522 class.Plain label.TimeInMilliseconds
     ∷ text 336 28 class.EndBold label.TimeZero
     ∷ name 100 class.Bold label.Change
@@ -78,7 +78,7 @@ level_y s above = 80 + (s.top + s.bottom - above) * 370 / (s.top + s.bottom)
 -- the line there, with its number
 unfoldable pub level : Scale → ℕ → List ℕ
 level s above =
-    drawn
+    elements_bytes
     (line 330 1_830 (level_y s above) (if nat_eq above s.bottom then class.Axis else class.Grid)
     ∷ element.Text 316 (level_y s above + 9) class.Scale
     (if nat_lt above s.bottom then words.Below (s.bottom - above) else words.Number (above - s.bottom))
@@ -86,23 +86,23 @@ level s above =
 
 -- a line at each step
 unfoldable pub levels : Scale → List ℕ
-levels s = counted (λ i. level s (s.step * i)) ((s.top + s.bottom) / s.step + 1)
+levels s = flat_map_below (λ i. level s (s.step * i)) ((s.top + s.bottom) / s.step + 1)
 
 unfoldable pub after_frame : Scale → ℕ → List ℕ
 after_frame s w =
-    drawn (element.Rect 330 40 1_500 450 class.Plot ∷ []) ++ past_window s w ++ time_lines s ++ legend ++ levels s
+    elements_bytes (element.Rect 330 40 1_500 450 class.Plot ∷ []) ++ past_window s w ++ time_lines s ++ legend ++ levels s
 
 -- ---- the end of the event
 
 -- the line at the end of the event, and the words where nothing is recorded, if there is room for them
 unfoldable pub end_line : Scale → ℕ → ℕ → List ℕ
 end_line s end w =
-    drawn
+    elements_bytes
     (element.Line (time_x s end) 40 (time_x s end) 490 class.EndLine
     ∷ text (time_x s end) 28 (if nat_lt (time_x s end) 1_700 then class.Centre else class.End) label.EndLine
     ∷ [])
     ++ (if nat_le (time_x s w + 200) 1_830
-    then drawn (text ((time_x s w + 1_830) / 2) 478 class.CentreGap label.NotRecorded ∷ [])
+    then elements_bytes (text ((time_x s w + 1_830) / 2) 478 class.CentreGap label.NotRecorded ∷ [])
     else [])
 
 -- ---- the curves
@@ -129,10 +129,10 @@ curve s c vs =
 
 -- a dot at each point along, a square at each point across
 unfoldable pub dot : Scale → ℕ → ℤ → List ℕ
-dot s i v = drawn (element.Dot (time_x s (10 * i)) (change_y s v) ∷ [])
+dot s i v = elements_bytes (element.Dot (time_x s (10 * i)) (change_y s v) ∷ [])
 
 unfoldable pub square : Scale → ℕ → ℤ → List ℕ
-square s i v = drawn (element.Square (time_x s (10 * i)) (change_y s v) ∷ [])
+square s i v = elements_bytes (element.Square (time_x s (10 * i)) (change_y s v) ∷ [])
 
 abbrev pub dots : Scale → ℕ → List ℤ → List ℕ
 dots s i [] = []
@@ -153,11 +153,11 @@ curves s c =
 
 -- the number of a greatest change, unless it is 0
 unfoldable pub maximum_number : ℕ → ℕ → Class → ℤ → List ℕ
-maximum_number x y c v = if int_eq v (pos 0) then [] else drawn (element.Text x y c (words.Change v) ∷ [])
+maximum_number x y c v = if int_eq v (pos 0) then [] else elements_bytes (element.Text x y c (words.Change v) ∷ [])
 
 -- a diamond at a greatest change; the number across stands above it, the number along below
 abbrev pub diamond : Scale → Extreme → Class → List ℕ
-diamond s e c = drawn (element.Diamond (time_x s e.at) (change_y s e.kmh) c ∷ [])
+diamond s e c = elements_bytes (element.Diamond (time_x s e.at) (change_y s e.kmh) c ∷ [])
 
 abbrev pub across_number : Scale → Extreme → List ℕ
 across_number s e = maximum_number (time_x s e.at) (change_y s e.kmh - 22) class.CentreAcross e.kmh

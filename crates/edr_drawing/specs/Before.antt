@@ -15,8 +15,8 @@ use Rattle.edr_drawing.specs.declared.elements.Element.{Element}
 use Rattle.edr_drawing.specs.declared.elements.Element.TheVariants as element
 use Rattle.edr_drawing.specs.declared.lanes.ChartLane.{ChartLane}
 use Rattle.edr_drawing.specs.Pieces.{pieces}
-use Rattle.edr_drawing.specs.Elements.{drawn}
-use Rattle.edr_drawing.specs.Scales.{time_at, slot_x, least_step, scale_top, counted}
+use Rattle.edr_drawing.specs.Elements.{elements_bytes}
+use Rattle.edr_drawing.specs.Scales.{time_at, slot_x, least_step, scale_top, flat_map_below}
 use Rattle.edr_drawing.specs.Lanes.{run_elements, drawn_lane}
 
 -- a text at the left, and a line across all of a chart
@@ -62,23 +62,23 @@ tenths_before Long k = 200 - 20 * k
 abbrev pub second_line : Profile → ℕ → List ℕ
 second_line f k =
     if nat_lt k 10
-    then drawn
+    then elements_bytes
     (element.Line (time_at k) 36 (time_at k) 490 class.Grid
     ∷ element.Text (time_at k) 522 class.Centre (words.Before (tenths_before f k))
     ∷ [])
-    else drawn
+    else elements_bytes
     (element.Line (time_at k) 36 (time_at k) 490 class.Zero
     ∷ element.Text (time_at k) 522 class.CentreBold words.Zero
     ∷ [])
 
 unfoldable pub second_lines : Profile → List ℕ
-second_lines f = counted (second_line f) 11
+second_lines f = flat_map_below (second_line f) 11
 
 unfoldable pub before_frame : Profile → List ℕ
 before_frame f =
-    drawn (element.Rect 330 36 1_500 454 class.Plot ∷ [])
+    elements_bytes (element.Rect 330 36 1_500 454 class.Plot ∷ [])
     ++ second_lines f
-    ++ drawn
+    ++ elements_bytes
     (name 522 class.Plain label.TimeInSeconds
     ∷ element.Text (time_at 10) 26 class.CentreBold (words.Label label.TimeZero)
     ∷ [])
@@ -87,11 +87,11 @@ before_frame f =
 
 unfoldable pub before_speed : Profile → List (Option ℕ) → List ℕ
 before_speed f slots =
-    drawn (name 120 class.Bold label.Speed ∷ name 152 class.Plain label.Kmh ∷ []) ++ drawn_lane (speed_lane f slots) slots
+    elements_bytes (name 120 class.Bold label.Speed ∷ name 152 class.Plain label.Kmh ∷ []) ++ drawn_lane (speed_lane f slots) slots
 
 unfoldable pub before_throttle : Profile → List (Option ℕ) → List ℕ
 before_throttle f slots =
-    drawn (rule 236 ∷ name 290 class.Bold label.Throttle ∷ name 322 class.Plain label.OfFull ∷ [])
+    elements_bytes (rule 236 ∷ name 290 class.Bold label.Throttle ∷ name 322 class.Plain label.OfFull ∷ [])
     ++ drawn_lane (throttle_lane f) slots
 
 -- ---- the part of the service brake
@@ -99,7 +99,7 @@ before_throttle f slots =
 -- the field of a switch
 abbrev pub switch_with : ℕ → ℕ → Class → Class → Label → List ℕ
 switch_with x y field c l =
-    drawn (element.Rect (x - 50) y 100 34 field ∷ element.Text x (y + 26) c (words.Label l) ∷ [])
+    elements_bytes (element.Rect (x - 50) y 100 34 field ∷ element.Text x (y + 26) c (words.Label l) ∷ [])
 
 abbrev pub switch_field : ℕ → ℕ → Option Bool → List ℕ
 switch_field x y (Some true) = switch_with x y class.On class.CentreOn label.On
@@ -118,7 +118,7 @@ run_field k n (Some false) = run_elements k n 367 34 class.Off class.Centre labe
 run_field k n None = run_elements k n 367 34 class.Gap class.CentreGap label.None
 
 abbrev pub switch_run : ℕ → ℕ → Option Bool → List ℕ
-switch_run k n v = if nat_eq n 0 then [] else drawn (run_field k n v)
+switch_run k n v = if nat_eq n 0 then [] else elements_bytes (run_field k n v)
 
 abbrev pub are_same : Option Bool → Option Bool → Bool
 are_same (Some true) (Some true) = true
@@ -141,7 +141,7 @@ brake_slots Short vs = switches 0 vs
 brake_slots Long vs = switch_runs 0 0 None vs
 
 unfoldable pub before_brake : Profile → List (Option Bool) → List ℕ
-before_brake f slots = drawn (rule 362 ∷ name 393 class.Bold label.ServiceBrake ∷ []) ++ brake_slots f slots
+before_brake f slots = elements_bytes (rule 362 ∷ name 393 class.Bold label.ServiceBrake ∷ []) ++ brake_slots f slots
 
 -- ---- belt and lamp
 
@@ -152,11 +152,11 @@ second_x Long = slot_x Long 190
 
 -- the switch at 1 s before time zero, with its name
 abbrev pub named_switch : Profile → ℕ → Label → Option Bool → List ℕ
-named_switch f y l v = drawn (name (y + 26) class.Bold l ∷ []) ++ switch_field (second_x f) y v
+named_switch f y l v = elements_bytes (name (y + 26) class.Bold l ∷ []) ++ switch_field (second_x f) y v
 
 unfoldable pub before_switches : Profile → Option Bool → Option Bool → List ℕ
 before_switches f belt lamp =
-    named_switch f 409 label.DriverBelt belt ++ named_switch f 451 label.AirBagLamp lamp ++ drawn (rule 490 ∷ [])
+    named_switch f 409 label.DriverBelt belt ++ named_switch f 451 label.AirBagLamp lamp ++ elements_bytes (rule 490 ∷ [])
 
 -- ---- the whole chart
 
@@ -165,9 +165,9 @@ abbrev pub description : Profile → Tag
 description Short = tag.BeforeDescription
 description Long = tag.LongDescription
 
-abbrev pub described : Profile → Tag
-described Short = tag.BeforeDescribed
-described Long = tag.LongDescribed
+abbrev pub description_text : Profile → Tag
+description_text Short = tag.BeforeDescribed
+description_text Long = tag.LongDescribed
 
 -- the title and the description of the chart of event n
 unfoldable pub before_head : ℕ → Profile → List ℕ
@@ -183,7 +183,7 @@ before_head n f =
     ∷ piece.Count n
     ∷ piece.Tag (description f)
     ∷ piece.Count n
-    ∷ piece.Tag (described f)
+    ∷ piece.Tag (description_text f)
     ∷ [])
 
 unfoldable pub before_chart : ℕ → PrePart → List ℕ

@@ -7,7 +7,7 @@ use Rattle.edr_image.specs.declared.BankView.{BankView}
 use Rattle.edr_image.specs.declared.BankView.TheVariants.{Void, Event, Damaged}
 use Rattle.edr_image.specs.declared.Found.{Found}
 use Rattle.edr_image.specs.Reports.{Report}
-use Rattle.edr_report.specs.Words.{shown}
+use Rattle.edr_report.specs.Words.{number_shown}
 use Rattle.edr_drawing.specs.declared.pieces.Piece.TheVariants as piece
 use Rattle.edr_drawing.specs.declared.tags.Tag.TheVariants as tag
 use Rattle.edr_drawing.specs.Pieces.{pieces}
@@ -58,7 +58,7 @@ event_row n bank r =
     ∷ piece.Tag tag.EventBank
     ∷ piece.Number bank
     ∷ piece.Tag tag.NextCell
-    ∷ piece.Number (shown r.pre.key.cycle)
+    ∷ piece.Number (number_shown r.pre.key.cycle)
     ∷ piece.Tag tag.NextCell
     ∷ piece.Number r.pre.key.zero
     ∷ piece.Tag tag.MillisecondsNext
@@ -123,7 +123,7 @@ cover_head found count =
     ∷ piece.Tag tag.DamagedCount
     ∷ piece.Count (damaged_in found)
     ∷ piece.Tag tag.DownloadCount
-    ∷ piece.Number (shown count)
+    ∷ piece.Number (number_shown count)
     ∷ piece.Tag tag.FactsEnd
     ∷ [])
 

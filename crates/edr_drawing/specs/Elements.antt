@@ -84,5 +84,5 @@ element_bytes (element.Flag x y) =
     pieces (piece.Mark mark.FlagAt ∷ piece.Number x ∷ piece.Mark mark.Space ∷ piece.Number y ∷ piece.Mark mark.FlagEnd ∷ [])
 
 -- elements one after the other
-abbrev pub drawn : List Element → List ℕ
-drawn es = flat_map element_bytes es
+abbrev pub elements_bytes : List Element → List ℕ
+elements_bytes es = flat_map element_bytes es

@@ -14,8 +14,8 @@ use Rattle.edr_drawing.specs.declared.elements.Element.TheVariants as element
 use Rattle.edr_drawing.specs.declared.lanes.RunField.{RunField}
 use Rattle.edr_drawing.specs.declared.lanes.ChartLane.{ChartLane}
 use Rattle.edr_drawing.specs.Pieces.{pieces}
-use Rattle.edr_drawing.specs.Elements.{drawn}
-use Rattle.edr_drawing.specs.Scales.{slot_x, counted}
+use Rattle.edr_drawing.specs.Elements.{elements_bytes}
+use Rattle.edr_drawing.specs.Scales.{slot_x, flat_map_below}
 
 -- up: a value between the foot and the top of a lane
 abbrev pub lane_y : ChartLane → ℕ → ℕ
@@ -24,14 +24,14 @@ lane_y l value = l.foot - value * l.rise / l.top
 -- the line of a value, with its number
 abbrev pub grid_line : ChartLane → ℕ → List ℕ
 grid_line l value =
-    drawn
+    elements_bytes
     (element.Line 330 (lane_y l value) 1830 (lane_y l value) class.Grid
     ∷ element.Text 316 (lane_y l value + 9) class.Scale (words.Number value)
     ∷ [])
 
 -- a line at each step from 0 to the top
 abbrev pub grid : ChartLane → List ℕ
-grid l = counted (λ i. grid_line l (l.step * i)) (l.top / l.step + 1)
+grid l = flat_map_below (λ i. grid_line l (l.step * i)) (l.top / l.step + 1)
 
 -- a point of a path: joined to the slot before it where that is there, and else a new beginning
 unfoldable pub point : Profile → ChartLane → ℕ → Bool → ℕ → List ℕ
@@ -54,7 +54,7 @@ points f l k before (Some v ∷ vs) = point f l k before v ++ points f l (k + 1)
 -- the field of an absent slot
 abbrev pub none_field : ℕ → ℕ → ℕ → List ℕ
 none_field k y height =
-    drawn
+    elements_bytes
     (element.Rect (slot_x Short k - 50) y 100 height class.Gap
     ∷ element.Text (slot_x Short k) (y + height / 2 + 9) class.CentreGap (words.Label label.None)
     ∷ [])
@@ -63,7 +63,7 @@ none_field k y height =
 abbrev pub cell : ChartLane → ℕ → Option ℕ → List ℕ
 cell l k None = none_field k (l.foot - l.room) l.room
 cell l k (Some v) =
-    drawn
+    elements_bytes
     (element.Dot (slot_x Short k) (lane_y l v)
     ∷ element.Text (slot_x Short k) (lane_y l v - 17) class.CentreValue (words.Number v)
     ∷ [])
@@ -93,11 +93,11 @@ gap_elements l k n =
 
 -- these slots behind n absent ones, the first of which has the number k
 abbrev pub long_cells : ChartLane → ℕ → ℕ → List (Option ℕ) → List ℕ
-long_cells l k n [] = drawn (gap_elements l k n)
+long_cells l k n [] = elements_bytes (gap_elements l k n)
 long_cells l k n (None ∷ vs) = long_cells l k (n + 1) vs
 long_cells l k n (Some v ∷ vs) =
-    drawn (gap_elements l k n)
-    ++ drawn (element.Point (slot_x Long (k + n)) (lane_y l v) ∷ [])
+    elements_bytes (gap_elements l k n)
+    ++ elements_bytes (element.Point (slot_x Long (k + n)) (lane_y l v) ∷ [])
     ++ long_cells l (k + n + 1) 0 vs
 
 -- the marks and fields of the slots of a profile

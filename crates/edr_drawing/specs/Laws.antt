@@ -9,7 +9,7 @@ use Rattle.edr_drawing.specs.declared.elements.Element.{Element}
 use Rattle.edr_drawing.specs.declared.elements.Element.TheVariants as element
 use Rattle.edr_drawing.specs.declared.lanes.ChartLane.{ChartLane}
 use Rattle.edr_drawing.specs.declared.changes.Scale.{Scale}
-use Rattle.edr_drawing.specs.Elements.{drawn}
+use Rattle.edr_drawing.specs.Elements.{elements_bytes}
 use Rattle.edr_drawing.specs.Scales.{slot_x}
 use Rattle.edr_drawing.specs.Lanes.{lane_y, point}
 use Rattle.edr_drawing.specs.Changes.{change_y}
@@ -53,7 +53,7 @@ is_mark (element.Flag x y) = false
 
 -- the elements of the fields of slots, whose marks are those of the slots that are there, in order
 abbrev pub HasMarks : Profile → ChartLane → List (Option ℕ) → List ℕ → Type 0
-HasMarks f l vs bytes = (es : List Element) × (bytes ≡ drawn es) × (filter is_mark es ≡ map (mark_of f l) (present 0 vs))
+HasMarks f l vs bytes = (es : List Element) × (bytes ≡ elements_bytes es) × (filter is_mark es ≡ map (mark_of f l) (present 0 vs))
 
 -- the points of a path, each joined to the one before or not, which are those of the slots that are there, in order
 abbrev pub HasPoints : Profile → ChartLane → List (Option ℕ) → List ℕ → Type 0

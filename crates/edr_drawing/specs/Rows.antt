@@ -13,7 +13,7 @@ use Rattle.edr_drawing.specs.declared.elements.Element.{Element}
 use Rattle.edr_drawing.specs.declared.elements.Element.TheVariants as element
 use Rattle.edr_drawing.specs.declared.changes.Scale.{Scale}
 use Rattle.edr_drawing.specs.Pieces.{pieces}
-use Rattle.edr_drawing.specs.Elements.{drawn}
+use Rattle.edr_drawing.specs.Elements.{elements_bytes}
 use Rattle.edr_drawing.specs.Before.{name, rule}
 use Rattle.edr_drawing.specs.Changes.{scale_of, time_x}
 use Rattle.edr_drawing.specs.After.{text, changes_chart}
@@ -30,7 +30,7 @@ beside x y bold w =
 -- the row of something at a time
 unfoldable pub timed_row : Scale → ℕ → Bool → Label → ℕ → TextWords → List ℕ
 timed_row s y bold l t w =
-    drawn
+    elements_bytes
     (name (y + 25) (if bold then class.Bold else class.Plain) l
     ∷ element.Flag (time_x s t) (y + 28)
     ∷ beside (time_x s t) (y + 25) bold w
@@ -38,7 +38,7 @@ timed_row s y bold l t w =
 
 unfoldable pub restraint_row : Scale → ℕ → Label → Option ℕ → List ℕ
 restraint_row s y l (Some t) = timed_row s y true l t (words.Milliseconds t)
-restraint_row s y l None = drawn (name (y + 25) class.Grey l ∷ text 352 (y + 25) class.Grey label.None ∷ [])
+restraint_row s y l None = elements_bytes (name (y + 25) class.Grey l ∷ text 352 (y + 25) class.Grey label.None ∷ [])
 
 -- ---- the restraints
 
@@ -78,12 +78,12 @@ event_rows s c =
 
 unfoldable pub rows_chart : Scale → CrashPart → List ℕ
 rows_chart s c =
-    drawn (rule 536 ∷ [])
+    elements_bytes (rule 536 ∷ [])
     ++ event_rows s c
-    ++ drawn (rule 668 ∷ [])
+    ++ elements_bytes (rule 668 ∷ [])
     ++ bag_rows s c.fired
     ++ belt_rows s c.fired
-    ++ drawn (rule 932 ∷ [])
+    ++ elements_bytes (rule 932 ∷ [])
 
 -- the title and the description of the chart of event n
 unfoldable pub after_head : ℕ → CrashPart → List ℕ
@@ -124,7 +124,7 @@ without_part n =
     ∷ piece.Count n
     ∷ piece.Tag tag.WithoutEnd
     ∷ [])
-    ++ drawn
+    ++ elements_bytes
     (element.Rect 330 10 1_500 160 class.Gap
     ∷ name 98 class.Bold label.ChangeAndRestraints
     ∷ text 1_050 82 class.CentreLarge label.NotRecorded

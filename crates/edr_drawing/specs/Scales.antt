@@ -41,6 +41,6 @@ below_top top (pos n) = top - n
 below_top top (negsuc n) = top + (n + 1)
 
 -- what the numbers below n give, one after the other
-abbrev pub counted : (ℕ → List ℕ) → ℕ → List ℕ
-counted f zero = []
-counted f (suc n) = counted f n ++ f n
+abbrev pub flat_map_below : (ℕ → List ℕ) → ℕ → List ℕ
+flat_map_below f zero = []
+flat_map_below f (suc n) = flat_map_below f n ++ f n

@@ -10,7 +10,7 @@ use Rattle.edr_record.specs.Complete.{is_complete}
 use Rattle.edr_image.specs.declared.BankView.{BankView}
 use Rattle.edr_image.specs.declared.BankView.TheVariants.{Void, Event, Damaged}
 use Rattle.edr_image.specs.declared.Found.{Found}
-use Rattle.edr_report.specs.Words.{shown, tenths_of}
+use Rattle.edr_report.specs.Words.{number_shown, tenths_of}
 use Rattle.edr_drawing.specs.declared.pieces.Piece.TheVariants as piece
 use Rattle.edr_drawing.specs.declared.tags.Tag.{Tag}
 use Rattle.edr_drawing.specs.declared.tags.Tag.TheVariants as tag
@@ -77,7 +77,7 @@ unfoldable pub facts : ℕ → Key → Bool → Profile → Place → List ℕ
 facts bank key locked profile place =
     pieces
     (piece.Tag tag.FactsCycle
-    ∷ piece.Number (shown key.cycle)
+    ∷ piece.Number (number_shown key.cycle)
     ∷ piece.Tag tag.FactsZero
     ∷ piece.Number key.zero
     ∷ piece.Tag tag.FactsBank

@@ -12,7 +12,7 @@ use Rattle.edr_drawing.specs.declared.tags.Tag.{Tag}
 use Rattle.edr_drawing.specs.declared.tags.Tag.TheVariants as tag
 use Rattle.edr_drawing.specs.declared.tables.Rows.{Rows}
 use Rattle.edr_drawing.specs.Pieces.{pieces}
-use Rattle.edr_drawing.specs.Scales.{counted}
+use Rattle.edr_drawing.specs.Scales.{flat_map_below}
 
 -- ---- rows of names and values
 
@@ -43,7 +43,7 @@ abbrev pub time_cell : ℕ → List ℕ
 time_cell i = pieces (piece.Tag tag.PointTime ∷ piece.Number (10 * i) ∷ piece.Tag tag.PointTimeEnd ∷ [])
 
 abbrev pub time_cells : ℕ → List ℕ
-time_cells count = counted time_cell count
+time_cells count = flat_map_below time_cell count
 
 abbrev pub change_cell : ℤ → List ℕ
 change_cell v = pieces (piece.Tag tag.Cell ∷ piece.Change v ∷ piece.Tag tag.CellEnd ∷ [])

@@ -4,7 +4,7 @@ ghost use Rattle.std.specs.Prelude.{◌≡◌, ◌++◌, ◌≤◌, ◌<◌, ◌
 ghost use Rattle.edr_record.specs.declared.TheConstants.{LONG_SLOTS};
 ghost use Rattle.edr_record.specs.Bounds.{IsUpTo, slots_in};
 ghost use Rattle.edr_drawing.specs.Lanes.{IsChartLane};
-ghost use Rattle.edr_drawing.specs.Before.{greatest, speed_lane, throttle_lane, tenths_before, second_line, second_lines, before_frame, before_speed, before_throttle, switch_field, switches, switch_run, are_same, switch_runs, brake_slots, second_x, before_brake, description, described, named_switch, before_switches, before_head, before_chart};
+ghost use Rattle.edr_drawing.specs.Before.{greatest, speed_lane, throttle_lane, tenths_before, second_line, second_lines, before_frame, before_speed, before_throttle, switch_field, switches, switch_run, are_same, switch_runs, brake_slots, second_x, before_brake, description, description_text, named_switch, before_switches, before_head, before_chart};
 
 use crate::elements::{Element, TextWords, draw};
 use crate::lanes::{ChartLane, RunField, draw_lane, draw_run};
@@ -195,7 +195,7 @@ fn wide(slot: Option<u8>) -> Option<u16>
 }
 
 // The same slots as wider numbers, and absent ones behind them.
-fn widened(slots: &[Option<u8>]) -> [Option<u16>; LONG_SLOTS]
+fn wide_slots(slots: &[Option<u8>]) -> [Option<u16>; LONG_SLOTS]
     requires { length slots.now ≤ LONG_SLOTS }
     ensures { take (length slots.now) result ≡ slots.now }
 {
@@ -223,7 +223,7 @@ fn draw_throttle(
             name(322, Class::Plain, Label::OfFull),
         ],
     )?;
-    let wider = widened(slots);
+    let wider = wide_slots(slots);
     draw_lane(out, &throttle_lane(profile), &wider[..slots.len()])
 }
 
@@ -402,7 +402,7 @@ fn draw_switches(
 
 // What the chart says of its times.
 fn description(profile: Profile) -> (Tag, Tag)
-    ensures { (result.0 ≡ description profile) × (result.1 ≡ described profile) }
+    ensures { (result.0 ≡ description profile) × (result.1 ≡ description_text profile) }
 {
     match profile {
         Profile::Short => (Tag::BeforeDescription, Tag::BeforeDescribed),

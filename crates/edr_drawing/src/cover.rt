@@ -11,7 +11,7 @@ use crate::tables::put_run;
 use crate::tags::Tag;
 use edr_image::{BankView, CycleReport, Found};
 use edr_record::{Crash, Record};
-use edr_report::shown;
+use edr_report::number_shown;
 use std::alloc::{AllocError as OutOfMemory, Global};
 
 // How many events were found.
@@ -101,7 +101,7 @@ fn put_event_row(
             Piece::Tag(Tag::EventBank),
             Piece::Number(u32::from(bank)),
             Piece::Tag(Tag::NextCell),
-            Piece::Number(shown(event.pre.key.cycle)),
+            Piece::Number(number_shown(event.pre.key.cycle)),
             Piece::Tag(Tag::NextCell),
             Piece::Number(event.pre.key.zero),
             Piece::Tag(Tag::MillisecondsNext),
@@ -223,7 +223,7 @@ fn put_head(out: &mut Vec<u8>, found: &[Found], count: u32) -> Result<(), OutOfM
             Piece::Tag(Tag::DamagedCount),
             Piece::Count(damaged_in(found)),
             Piece::Tag(Tag::DownloadCount),
-            Piece::Number(shown(count)),
+            Piece::Number(number_shown(count)),
             Piece::Tag(Tag::FactsEnd),
         ],
     )

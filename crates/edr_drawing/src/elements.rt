@@ -1,7 +1,7 @@
 //! The elements of a chart. A unit of a chart is a tenth of a millimetre on a sheet of A4.
 
 ghost use Rattle.std.specs.Prelude.{◌≡◌, ◌++◌, OnOk};
-ghost use Rattle.edr_drawing.specs.Elements.{words_bytes, element_bytes, drawn};
+ghost use Rattle.edr_drawing.specs.Elements.{words_bytes, element_bytes, elements_bytes};
 
 use crate::pieces::{Piece, put};
 use crate::texts::{ChartText, Class, Label};
@@ -304,7 +304,7 @@ fn put_element(out: &mut Vec<u8>, element: Element) -> Result<(), OutOfMemory>
 
 /// Appends elements.
 pub fn draw(out: &mut Vec<u8>, elements: &[Element]) -> Result<(), OutOfMemory>
-    ensures { OnOk result (out.new.items ≡ out.old.items ++ drawn elements.now) }
+    ensures { OnOk result (out.new.items ≡ out.old.items ++ elements_bytes elements.now) }
 {
     for element in elements {
         put_element(out, *element)?;

@@ -3,7 +3,7 @@
 ghost use Rattle.std.specs.Prelude.{◌≡◌, ◌++◌, ◌≤◌, ◌<◌, ◌+◌, ◌*◌, ◌-◌, ◌/◌, false, All, IfSome, OnOk, length};
 ghost use Rattle.edr_record.specs.declared.TheConstants.{LONG_SLOTS};
 ghost use Rattle.edr_record.specs.Bounds.{slots_in};
-ghost use Rattle.edr_drawing.specs.Elements.{drawn};
+ghost use Rattle.edr_drawing.specs.Elements.{elements_bytes};
 ghost use Rattle.edr_drawing.specs.Lanes.{IsChartLane, lane_y, grid, grid_line, point, points, none_field, cell, cells, field_elements, gap_elements, long_cells, cells_of, drawn_lane};
 
 use crate::elements::{Element, TextWords, draw};
@@ -213,7 +213,7 @@ pub fn draw_run(
 ) -> Result<(), OutOfMemory>
     requires run { (1 ≤ count) × (first + count ≤ LONG_SLOTS) }
     requires place { (field.now.y ≤ 1_000) × (field.now.height ≤ 1_000) }
-    ensures { OnOk result (out.new.items ≡ out.old.items ++ drawn (field_elements first count field.now)) }
+    ensures { OnOk result (out.new.items ≡ out.old.items ++ elements_bytes (field_elements first count field.now)) }
 {
     let x = slot_x(Profile::Long, first);
     let to_x = slot_x(Profile::Long, first + count - 1);
@@ -240,7 +240,7 @@ pub fn draw_run(
 fn draw_gap(out: &mut Vec<u8>, lane: &ChartLane, first: u32, count: u32) -> Result<(), OutOfMemory>
     requires lane { IsChartLane lane.now }
     requires run { first + count ≤ LONG_SLOTS }
-    ensures { OnOk result (out.new.items ≡ out.old.items ++ drawn (gap_elements lane.now first count)) }
+    ensures { OnOk result (out.new.items ≡ out.old.items ++ elements_bytes (gap_elements lane.now first count)) }
 {
     if count == 0 {
         return Ok(());

@@ -2,7 +2,7 @@
 
 ghost use Rattle.std.specs.Prelude.{◌≡◌, [], ◌∷◌, ◌++◌, ◌≤◌, false, OnOk};
 ghost use Rattle.edr_drawing.specs.Before.{rule};
-ghost use Rattle.edr_drawing.specs.Elements.{drawn};
+ghost use Rattle.edr_drawing.specs.Elements.{elements_bytes};
 ghost use Rattle.edr_drawing.specs.Rows.{beside, timed_row, restraint_row, bag_rows, belt_rows, extreme_row, event_rows, rows_chart, after_head, without_part, after_chart};
 
 use crate::after::{draw_changes, text};
@@ -186,7 +186,7 @@ fn draw_events(out: &mut Vec<u8>, scale: &Scale, crash: &Crash) -> Result<(), Ou
 
 // Draws a line across the chart.
 fn draw_rule(out: &mut Vec<u8>, y: u32) -> Result<(), OutOfMemory>
-    ensures { OnOk result (out.new.items ≡ out.old.items ++ drawn (rule y ∷ [])) }
+    ensures { OnOk result (out.new.items ≡ out.old.items ++ elements_bytes (rule y ∷ [])) }
 {
     draw(out, &[rule(y)])
 }

@@ -11,7 +11,7 @@ use crate::tables::{put_elements, put_points_table};
 use crate::tags::Tag;
 use edr_image::{BankView, Found};
 use edr_record::{Key, Place, Profile, Record};
-use edr_report::{shown, tenths_of};
+use edr_report::{number_shown, tenths_of};
 use std::alloc::{AllocError as OutOfMemory, Global};
 
 pub fn yes_no(b: bool) -> Tag
@@ -111,7 +111,7 @@ fn put_facts(
         out,
         &[
             Piece::Tag(Tag::FactsCycle),
-            Piece::Number(shown(key.cycle)),
+            Piece::Number(number_shown(key.cycle)),
             Piece::Tag(Tag::FactsZero),
             Piece::Number(key.zero),
             Piece::Tag(Tag::FactsBank),

@@ -1,6 +1,6 @@
 -- The committer's desk, before the threads run and after them.
 use Rattle.std.specs.Prelude.{◌≡◌, ◌≤◌, ◌⊎◌, ℕ, List, [], false, None, Result}
-use Rattle.edr_board.specs.Seats.{board_of_committer, board_of_watch, seen}
+use Rattle.edr_board.specs.Seats.{board_of_committer, board_of_watch, status_seen}
 use Rattle.edr_definitions.specs.Commands.{Issue}
 use Rattle.edr_device.specs.declared.device.Nvm.{Ghosts}
 use Rattle.edr_image.specs.Image.{image_size}
@@ -37,7 +37,7 @@ pub record SamePosts (a b : CommitterDesk) : Type 0 where
 
 -- it has read that the horizon is closed, and then knew of no order in the ring, or had no room in its log
 pub record HasNoOrder (horizon : ℕ) (c : CommitterDesk) : Type 0 where
-  pub closed : horizon ≤ (seen c.watch).closed
+  pub closed : horizon ≤ (status_seen c.watch).closed
   pub none : (c.log.spare ≡ 0) ⊎ (orders_known c.inbox ≡ [])
 
 -- these are committed, up to a command that failed

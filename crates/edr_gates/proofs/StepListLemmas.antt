@@ -10,7 +10,7 @@ use Rattle.edr_device.proofs.SettlingLemmas.{elapses_again, elapses_more, quiet_
 use Rattle.edr_image.specs.declared.BankView.{BankView}
 use Rattle.edr_image.specs.Banks.{Store}
 use Rattle.edr_image.specs.Calls.{all_calls, calls_of, done_of_step, gate_call_of, stops}
-use Rattle.edr_image.specs.Image.{View, Write, image_after, view_of, writes_of, written}
+use Rattle.edr_image.specs.Image.{View, Write, image_after, view_of, writes_of, with_write}
 use Rattle.edr_image.specs.Steps.{BankStep, Erase, Fill, Lock, Done, after, banks_after}
 use Rattle.edr_image.proofs.StopLaws.{contains_cases, contains_here, contains_later, contains_map, contains_mapped, contains_none}
 use Rattle.edr_gates.specs.Taken.{AreStopped, AreTaken, EachIsPassed, HasDone, IsAside, IsPassed, IsReady, IsUnwritten, MayTakeAll, PassMeanwhile}
@@ -33,7 +33,7 @@ after-append : (v : Store) (a b : List BankStep) → after v (a ++ b) ≡ after 
 after-append v a b = ap (λ (banks : List BankView). record v { banks = banks }) (fold-append banks_after v.banks a b)
 
 image_after-append : (bytes : List ℕ) (a b : List BankStep) → image_after bytes (a ++ b) ≡ image_after (image_after bytes a) b
-image_after-append bytes a b = ap (λ (writes : List Write). fold written bytes writes) (flat_map-append writes_of a b) ∙ fold-append written bytes (flat_map writes_of a) (flat_map writes_of b)
+image_after-append bytes a b = ap (λ (writes : List Write). fold with_write bytes writes) (flat_map-append writes_of a b) ∙ fold-append with_write bytes (flat_map writes_of a) (flat_map writes_of b)
 
 -- the view after steps
 abbrev view_after : View → List BankStep → View

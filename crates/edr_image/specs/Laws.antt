@@ -8,7 +8,7 @@ use Rattle.edr_image.specs.declared.BankView.{BankView}
 use Rattle.edr_image.specs.declared.BankView.TheVariants.{Event}
 use Rattle.edr_image.specs.Banks.{Store}
 use Rattle.edr_image.specs.Steps.{Reply, State, BankStep, after, reply_to, steps_of}
-use Rattle.edr_image.specs.Calls.{acknowledged}
+use Rattle.edr_image.specs.Calls.{count_acknowledged}
 use Rattle.edr_image.specs.Order.{AreOwn, IsOwn}
 
 -- the bank with this index holds the event
@@ -25,7 +25,7 @@ all_steps rs = flat_map (λ r. r.steps) rs
 
 -- the steps of what was acknowledged before a stop in call k are done, and others
 abbrev pub HasAcknowledged : List Reply → ℕ → List BankStep → Type 0
-HasAcknowledged rs k done = (rest : List BankStep) × (done ≡ all_steps (take (acknowledged k rs) rs) ++ rest)
+HasAcknowledged rs k done = (rest : List BankStep) × (done ≡ all_steps (take (count_acknowledged k rs) rs) ++ rest)
 
 -- after the first p steps of the command the event stands, or it is the one that the command ends
 abbrev pub StandsOrEnds : State → Command → ℕ → ℕ → Record → Type 0

@@ -5,7 +5,7 @@ use Rattle.std.proofs.lemmas.List.Concat.{flat_map-append}
 use Rattle.edr_items.specs.SensorLists.{AreFeeds, IsLevel}
 use Rattle.edr_image.specs.declared.Ack.{Ack}
 use Rattle.edr_image.specs.declared.Found.{Found}
-use Rattle.edr_image.specs.Banks.{Store, retrieved}
+use Rattle.edr_image.specs.Banks.{Store, retrieved_banks}
 use Rattle.edr_image.specs.Image.{view_of}
 use Rattle.edr_image.specs.Reports.{Report}
 use Rattle.edr_spell.specs.declared.CycleInput.{CycleInput}
@@ -17,7 +17,7 @@ use Rattle.edr_gen.specs.Traces.{cycle_of, generated_cycles, generated_rows, row
 use Rattle.edr_gen.proofs.FedLemmas.{AllFed, all-fed-after, all-fed-feeds, all-fed-level, all-fed-none}
 use Rattle.edr_gen.proofs.RangeLemmas.{impulses-range}
 use Rattle.edr_gen.proofs.SpelledLemmas.{generated-many, generated-spelled}
-use Rattle.edr_large.specs.Large.{HasCounted, HasRunInMemory, HasRunOn, IsCounted, acks_in, all_acks, new_store, unstopped}
+use Rattle.edr_large.specs.Large.{HasCounted, HasRunInMemory, HasRunOn, IsCounted, acks_in, all_acks, new_store, unstopped_cycle}
 use Rattle.edr_large.specs.declared.counts.Counts.{Counts}
 use Rattle.edr_large.specs.Counts.{counts_of}
 use Rattle.edr_large.specs.Rows.{items_in, most_items}
@@ -77,8 +77,8 @@ ran_more : (cs : List CycleInput) (c : CycleInput) (acks acks' : List Ack) (imag
     → HasRunInMemory (cs ++ c ∷ []) acks' image'
 ran_more cs c acks acks' image image' begins h more = record {
   outcome = extended h.outcome more.end;
-  run = subst (λ (ds : List CycleInput). IsRun ds new_store 0 (extended h.outcome more.end)) (sym (map-append unstopped cs (c ∷ [])))
-      (run_more (map unstopped cs) (unstopped c) new_store 0 h.outcome more.end h.run more.below (subst (λ (j : ℕ). IsCycle (record { start_stop = j; feeds = c.feeds; stop = 0 }) h.outcome.store h.outcome.count more.end) (sym begins) more.cycle));
+  run = subst (λ (ds : List CycleInput). IsRun ds new_store 0 (extended h.outcome more.end)) (sym (map-append unstopped_cycle cs (c ∷ [])))
+      (run_more (map unstopped_cycle cs) (unstopped_cycle c) new_store 0 h.outcome more.end h.run more.below (subst (λ (j : ℕ). IsCycle (record { start_stop = j; feeds = c.feeds; stop = 0 }) h.outcome.store h.outcome.count more.end) (sym begins) more.cycle));
   acks_are = more.acks_are ∙ ap (λ (xs : List Ack). xs ++ acks_in more.end.report) h.acks_are ∙ sym (acks_more h.outcome.reports more.end.report);
   says = more.says;
 }
@@ -129,7 +129,7 @@ counted_all number cycles k state rows acks image end h =
 
 -- and the counts of them
 pub counted_is : (number cycles rows : ℕ) (acks : List Ack) (image : List ℕ) (found : List Found) (counts : Counts) → HasCounted number cycles rows acks image
-    → ((v : Store) (n : ℕ) → view_of image ≡ Some (record { store = v; count = n }) → found ≡ retrieved v.banks) → counts ≡ counts_of cycles rows acks found → IsCounted number cycles counts
+    → ((v : Store) (n : ℕ) → view_of image ≡ Some (record { store = v; count = n }) → found ≡ retrieved_banks v.banks) → counts ≡ counts_of cycles rows acks found → IsCounted number cycles counts
 counted_is number cycles rows acks image found counts h retrieves are =
     let o : Outcome = h.1.outcome in
     let many : ℕ = length (generated_cycles number cycles) in

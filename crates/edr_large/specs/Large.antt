@@ -5,7 +5,7 @@ use Rattle.edr_image.specs.declared.places.TheConstants.{MOST_BANKS}
 use Rattle.edr_image.specs.declared.Ack.{Ack}
 use Rattle.edr_image.specs.declared.BankView.TheVariants.{Void}
 use Rattle.edr_image.specs.declared.Choice.TheVariants.{Overwrite}
-use Rattle.edr_image.specs.Banks.{Store, retrieved}
+use Rattle.edr_image.specs.Banks.{Store, retrieved_banks}
 use Rattle.edr_image.specs.Image.{view_of}
 use Rattle.edr_image.specs.Reports.{Report, Ran, StartStopped}
 use Rattle.edr_spell.specs.declared.CycleInput.{CycleInput}
@@ -20,8 +20,8 @@ abbrev pub new_store : Store
 new_store = record { header = record { banks = MOST_BANKS; choice = Overwrite }; banks = replicate MOST_BANKS Void }
 
 -- the cycle with its commands not stopped
-abbrev pub unstopped : CycleInput → CycleInput
-unstopped c = record c { stop = 0 }
+abbrev pub unstopped_cycle : CycleInput → CycleInput
+unstopped_cycle c = record c { stop = 0 }
 
 -- the commands that a cycle acknowledged
 abbrev pub acks_in : Report → List Ack
@@ -37,8 +37,8 @@ pub record IsCounted (number cycles : ℕ) (counts : Counts) : Type 0 where
   pub spelled : List CycleInput
   pub outcome : Outcome
   pub spells : Spell (generated_trace number cycles) spelled
-  pub run : IsRun (map unstopped spelled) new_store 0 outcome
-  pub counts_are : counts ≡ counts_of (length spelled) (length (generated_rows number cycles)) (all_acks outcome.reports) (retrieved outcome.store.banks)
+  pub run : IsRun (map unstopped_cycle spelled) new_store 0 outcome
+  pub counts_are : counts ≡ counts_of (length spelled) (length (generated_rows number cycles)) (all_acks outcome.reports) (retrieved_banks outcome.store.banks)
 
 -- the text is the lines of these counts
 abbrev pub AreLinesOf : ℕ → ℕ → List ℕ → Type 0
@@ -49,7 +49,7 @@ AreLinesOf number cycles text = (counts : Counts) × IsCounted number cycles cou
 -- these cycles ran: these commands were acknowledged, and the image says what they came to
 pub record HasRunInMemory (cs : List CycleInput) (acks : List Ack) (image : List ℕ) : Type 0 where
   pub outcome : Outcome
-  pub run : IsRun (map unstopped cs) new_store 0 outcome
+  pub run : IsRun (map unstopped_cycle cs) new_store 0 outcome
   pub acks_are : acks ≡ all_acks outcome.reports
   pub says : view_of image ≡ Some (record { store = outcome.store; count = outcome.count })
 

@@ -25,35 +25,35 @@ pub struct Counts {
     pub complete: u64,
 }
 
-fn kept(acks: &[Ack]) -> u64
+fn count_kept(acks: &[Ack]) -> u64
     ensures { result ≡ many is_kept acks.now }
 {
     let kept = |ack: &&Ack| matches!(ack.applied, Applied::Kept { .. });
     acks.iter().filter(kept).count() as u64
 }
 
-fn locked(acks: &[Ack]) -> u64
+fn count_locked(acks: &[Ack]) -> u64
     ensures { result ≡ many is_locked acks.now }
 {
     let locked = |ack: &&Ack| matches!(ack.applied, Applied::Locked { .. });
     acks.iter().filter(locked).count() as u64
 }
 
-fn done(acks: &[Ack]) -> u64
+fn count_done(acks: &[Ack]) -> u64
     ensures { result ≡ many is_done acks.now }
 {
     let done = |ack: &&Ack| matches!(ack.applied, Applied::Done { .. });
     acks.iter().filter(done).count() as u64
 }
 
-fn not_kept(acks: &[Ack]) -> u64
+fn count_not_kept(acks: &[Ack]) -> u64
     ensures { result ≡ many is_not_kept acks.now }
 {
     let not_kept = |ack: &&Ack| matches!(ack.applied, Applied::NotKept);
     acks.iter().filter(not_kept).count() as u64
 }
 
-fn events(found: &[Found]) -> u64
+fn count_events(found: &[Found]) -> u64
     ensures { result ≡ many is_event found.now }
 {
     let is_event = |found: &&Found| matches!(found.view, BankView::Event(_));
@@ -69,7 +69,7 @@ fn is_complete(found: &Found) -> bool
     }
 }
 
-fn complete(found: &[Found]) -> u64
+fn count_complete(found: &[Found]) -> u64
     ensures { result ≡ many is_complete found.now }
 {
     let is_whole = |found: &&Found| is_complete(found);
@@ -83,11 +83,11 @@ pub(crate) fn counts_of(cycles: u32, rows: u64, acks: &[Ack], found: &[Found]) -
     Counts {
         cycles: u64::from(cycles),
         rows,
-        takes: kept(acks),
-        locks: locked(acks),
-        dones: done(acks),
-        not_kept: not_kept(acks),
-        retrieved: events(found),
-        complete: complete(found),
+        takes: count_kept(acks),
+        locks: count_locked(acks),
+        dones: count_done(acks),
+        not_kept: count_not_kept(acks),
+        retrieved: count_events(found),
+        complete: count_complete(found),
     }
 }

@@ -1,7 +1,7 @@
 //! The run over a memory in memory. Its calls don't fail; a fault of it would be told as want of memory.
 ghost use Rattle.std.specs.Prelude.{◌≡◌, ◌<◌, ◌^◌, [], Some, length, IfOk};
 ghost use Rattle.edr_device.specs.Memory.{memory_image, memory_state, new_memory};
-ghost use Rattle.edr_image.specs.Banks.{retrieved};
+ghost use Rattle.edr_image.specs.Banks.{retrieved_banks};
 ghost use Rattle.edr_image.specs.Image.{view_of};
 ghost use Rattle.edr_items.specs.SensorLists.{AreFeeds, IsLevel};
 ghost use Rattle.edr_large.specs.Large.{HasCounted, HasRunOver, OfImage, new_store};
@@ -98,7 +98,7 @@ pub(crate) fn run_cycles(alloc: Global, number: u64, cycles: u32) -> Result<Run,
 /// What is found in the banks of an image.
 pub(crate) fn found_in(alloc: Global, image: Vec<u8>) -> Result<Vec<Found>, OutOfMemory>
     requires { length image.items < 2 ^ 32 }
-    ensures { IfOk result (λ found. OfImage image.items (λ v n. found.items ≡ retrieved v.banks)) }
+    ensures { IfOk result (λ found. OfImage image.items (λ v n. found.items ≡ retrieved_banks v.banks)) }
 {
     let mut memory = memory_of(alloc, image)?;
     match Banks::open(alloc, &mut memory) {

@@ -16,7 +16,7 @@ use Rattle.edr_core.specs.Answers.{commands_put}
 use Rattle.edr_core.specs.Parts.{AreSlotsOf, PartSlots, commands_with, issues_with}
 use Rattle.edr_core.specs.SplitContents.{SplitContents}
 use Rattle.edr_core.specs.SplitHistory.{History, Answer, Waits, Asks, Lacks, Closes, due, is_zero_next, missing_part}
-use Rattle.edr_core.specs.SplitStandsFor.{SplitCoreStandsFor, merged}
+use Rattle.edr_core.specs.SplitStandsFor.{SplitCoreStandsFor, merge_progress}
 use Rattle.edr_core.proofs.GiveLemmas.{within-merged}
 use Rattle.edr_board.specs.Seats.{board_of_recorder, board_of_watch}
 use Rattle.edr_board.specs.declared.seats.RecorderSeat.{RecorderSeat}
@@ -90,7 +90,7 @@ module _ (n e z : ℕ) (d : Desk) (s : DeskStands n e d) (answer : Asks z ≡ du
   zero_free : zero_of h ≡ 0
   zero_free = ap (λ (b : Bool). cond {A = ℕ} b (h.past.closed + 1) 0) ask.free
 
-  merged_free : (merged h).closed ≡ h.past.closed
+  merged_free : (merge_progress h).closed ≡ h.past.closed
   merged_free = ap (λ (b : Bool). (cond {A = Progress} b (after_step h.past Close) h.past).closed) ask.free
 
   pub ask-closed : open_zero d.asker ≡ 0
@@ -163,7 +163,7 @@ module _ (n e : ℕ) (d : Desk) (c : SplitContents) (a : Asker) (k : Held) (v : 
   abbrev closed : Desk
   closed = record d { core = c; asker = a; held = k; asking = v }
 
-  free-merged : (merged g).closed ≤ g.past.closed + 1
+  free-merged : (merge_progress g).closed ≤ g.past.closed + 1
   free-merged = by g.asking g.past where
     by : (b : Bool) (p : Progress) → (cond {A = Progress} b (after_step p Close) p).closed ≤ p.closed + 1
     by true p = omega arith

@@ -5,7 +5,7 @@ use Rattle.edr_items.specs.declared.Item.{Item}
 use Rattle.edr_items.specs.PerSlowSensor.{slow_at}
 use Rattle.edr_items.specs.SensorLists.{SensorLists, horizon_of, items_of}
 use Rattle.edr_board.specs.declared.status.BoardStatus.{BoardStatus}
-use Rattle.edr_board.specs.Seats.{seen}
+use Rattle.edr_board.specs.Seats.{status_seen}
 use Rattle.edr_items.proofs.PerSlowSensorLemmas.{slow_at-by}
 use Rattle.edr_loops.specs.declared.stand.FastPlaces.{FastPlaces}
 use Rattle.edr_loops.specs.declared.stand.Stand.{Stand}
@@ -98,13 +98,13 @@ back-slow_on f f' stand before back h was same =
     subst (λ (l : SensorLists). SlowKeepOn l stand.slow back.slow) same (subst (λ (s : Stand). SlowKeepOn f' s.slow back.slow) was h)
 
 -- ---- a worker's loop that has ended, by the status that it read
-pub ended-stopped : (f : SensorLists) (s : Stand) (status : BoardStatus) → seen s.watch ≡ status → status.stopped ≡ true → WorkerHasEnded f s
+pub ended-stopped : (f : SensorLists) (s : Stand) (status : BoardStatus) → status_seen s.watch ≡ status → status.stopped ≡ true → WorkerHasEnded f s
 ended-stopped f s status read stopped = inl (subst (λ (b : BoardStatus). b.stopped ≡ true) (sym read) stopped)
 
-pub ended-gate : (f : SensorLists) (s : Stand) (status : BoardStatus) → seen s.watch ≡ status → status.gate ≡ 2 → WorkerHasEnded f s
+pub ended-gate : (f : SensorLists) (s : Stand) (status : BoardStatus) → status_seen s.watch ≡ status → status.gate ≡ 2 → WorkerHasEnded f s
 ended-gate f s status read gate = inr (inl (subst (λ (b : BoardStatus). b.gate ≡ 2) (sym read) gate))
 
-pub ended-done : (f : SensorLists) (s : Stand) (status : BoardStatus) (horizon : ℕ) → seen s.watch ≡ status → horizon ≡ horizon_of f → HaveNoneLeft f s.fast
+pub ended-done : (f : SensorLists) (s : Stand) (status : BoardStatus) (horizon : ℕ) → status_seen s.watch ≡ status → horizon ≡ horizon_of f → HaveNoneLeft f s.fast
     → (has_no_place s.slow ≡ true) ⊎ (horizon ≤ status.closed) → WorkerHasEnded f s
 ended-done f s status horizon read is none (inl empty) = inr (inr (none, inl empty))
 ended-done f s status horizon read is none (inr closed) =

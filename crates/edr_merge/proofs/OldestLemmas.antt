@@ -5,7 +5,7 @@ use Rattle.std.proofs.lemmas.Bool.Decides.{nat_tests}
 use Rattle.circular_buffer.specs.Buffer.{keep_last}
 use Rattle.edr_items.specs.declared.Item.{Item}
 use Rattle.edr_merge.specs.declared.samples.TheConstants.{ROOM}
-use Rattle.edr_merge.specs.Samples.{kept}
+use Rattle.edr_merge.specs.Samples.{with_sample}
 use Rattle.edr_merge.specs.Oldest.{with_oldest}
 use Rattle.edr_merge.proofs.WaitingLemmas.{keep_last-all}
 
@@ -56,7 +56,7 @@ module _ (xs : List Item) (x y : Item) (n : ℕ) (room : n + 1 ≡ ROOM) (within
         ∙ sym (ap (λ k. drop k (y ∷ (xs ++ x ∷ []))) more)
 
 -- a sample that is kept behind an oldest one
-pub kept-behind : (x : Item) (before : List Item) (o : Option Item) (xs : List Item) → with_oldest o xs ≡ before → is_some x.value ≡ true → is_some o ≡ true → (after : List Item) → ((y : Item) → o ≡ Some y → after ≡ keep_last ROOM (y ∷ (xs ++ x ∷ []))) → after ≡ kept x before
+pub kept-behind : (x : Item) (before : List Item) (o : Option Item) (xs : List Item) → with_oldest o xs ≡ before → is_some x.value ≡ true → is_some o ≡ true → (after : List Item) → ((y : Item) → o ≡ Some y → after ≡ keep_last ROOM (y ∷ (xs ++ x ∷ []))) → after ≡ with_sample x before
 kept-behind x before None xs view sample some after h = absurd (cc)
 kept-behind x before (Some y) xs view sample some after h =
     h y refl ∙ ap (λ zs. keep_last ROOM (zs ++ x ∷ [])) view ∙ sym (ap (λ b. cond b (keep_last ROOM (before ++ x ∷ [])) before) sample)

@@ -19,7 +19,7 @@ use Rattle.edr_merge.specs.declared.rings.Rings.{Rings}
 use Rattle.edr_items.proofs.LevelLemmas.{none-found}
 use Rattle.edr_items.proofs.PerSensorLemmas.{value_of-each, with_value-both}
 use Rattle.edr_merge.specs.Marks.{Marks, no_marks, mark_in, with_mark, is_marked_at, first_at}
-use Rattle.edr_merge.specs.Samples.{waiting, kept, first_value, past_first}
+use Rattle.edr_merge.specs.Samples.{waiting_samples, with_sample, first_value, past_first}
 use Rattle.edr_merge.specs.Rings.{no_samples, with_kept}
 use Rattle.edr_merge.specs.State.{MergeState}
 use Rattle.edr_merge.specs.Answers.{waited_for, row_at, next_of}
@@ -39,12 +39,12 @@ feed-with_item m p s x h allowed =
     IsFeedAfter-push s 0 (items_of s p.given) x (h.feeds s) allowed.0 (omega (arith, low, within, near))
 
 -- what is kept of a sensor is what waits of its list with the item
-kept-is : (m : MergeState) (p : Progress) (s : Sensor) (x : Item) (ys : List Item) → MergeStandsFor m p → IsAllowed (Give s x) p → ys ≡ waiting p.closed (items_of s p.given) → kept x ys ≡ waiting p.closed (items_of s p.given ++ x ∷ [])
+kept-is : (m : MergeState) (p : Progress) (s : Sensor) (x : Item) (ys : List Item) → MergeStandsFor m p → IsAllowed (Give s x) p → ys ≡ waiting_samples p.closed (items_of s p.given) → with_sample x ys ≡ waiting_samples p.closed (items_of s p.given ++ x ∷ [])
 kept-is m p s x ys h allowed is =
     let low = horizon-least p.given s in
     let within = h.within in
     let rises = refusal_of-rises s (mark_of (items_of s p.given)) x allowed.0 in
-    ap (kept x) is ∙ kept-waiting s p.closed (items_of s p.given) x (feed-with_item m p s x h allowed) (omega (arith, low, within, rises)) allowed.1
+    ap (with_sample x) is ∙ kept-waiting s p.closed (items_of s p.given) x (feed-with_item m p s x h allowed) (omega (arith, low, within, rises)) allowed.1
 
 waits-with_item : (m : MergeState) (p : Progress) (s : Sensor) (x : Item) → MergeStandsFor m p → IsAllowed (Give s x) p → AreWaiting p.closed (with_kept s x m.rings) (with_item s x p.given)
 waits-with_item m p Along x h allowed = record { along_is = kept-is m p Along x m.rings.along h allowed h.waits.along_is; across_is = h.waits.across_is; restraint_is = h.waits.restraint_is }
@@ -85,12 +85,12 @@ stands-closed m p h allowed =
       };
     }
   where
-    past : (s : Sensor) (xs : List Item) → xs ≡ waiting p.closed (items_of s p.given) → past_first (m.closed + 1) xs ≡ waiting (p.closed + 1) (items_of s p.given)
+    past : (s : Sensor) (xs : List Item) → xs ≡ waiting_samples p.closed (items_of s p.given) → past_first (m.closed + 1) xs ≡ waiting_samples (p.closed + 1) (items_of s p.given)
     past s xs is =
         ap (λ n. past_first (n + 1) xs) h.closed_is ∙ ap (past_first (p.closed + 1)) is ∙ (tick-taken s p.closed 0 (items_of s p.given) (h.feeds s)).1
 
 -- what the rings give of the next tick are its samples
-pub sample-taken : (m : MergeState) (p : Progress) → MergeStandsFor m p → (s : Sensor) (xs : List Item) → xs ≡ waiting p.closed (items_of s p.given) → first_value (m.closed + 1) xs ≡ sample_at (items_of s p.given) (p.closed + 1)
+pub sample-taken : (m : MergeState) (p : Progress) → MergeStandsFor m p → (s : Sensor) (xs : List Item) → xs ≡ waiting_samples p.closed (items_of s p.given) → first_value (m.closed + 1) xs ≡ sample_at (items_of s p.given) (p.closed + 1)
 sample-taken m p h s xs is =
     ap (λ n. first_value (n + 1) xs) h.closed_is ∙ ap (first_value (p.closed + 1)) is ∙ (tick-taken s p.closed 0 (items_of s p.given) (h.feeds s)).0
 
@@ -119,7 +119,7 @@ find-holds p (x ∷ xs) s h = by_test (find-holds p xs s) (p x) refl h where
 -- ---- the calls
 -- a merge to which nothing was given
 pub stands-new : (m : Marks) (r : Rings) → m ≡ no_marks → r ≡ no_samples → MergeStandsFor (record { closed = 0; marks = m; rings = r }) (record { given = no_items; closed = 0 })
-unfolding waiting
+unfolding waiting_samples
 stands-new m r is_m is_r = rw (is_m, is_r) (record {
   feeds = no_items-feeds;
   within = omega arith;

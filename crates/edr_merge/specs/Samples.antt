@@ -11,12 +11,12 @@ abbrev pub is_waiting : ℕ → Item → Bool
 is_waiting t x = is_some x.value && nat_lt t x.moment
 
 -- the samples of a list that are past the tick
-unfoldable pub waiting : ℕ → List Item → List Item
-waiting t xs = filter (is_waiting t) xs
+unfoldable pub waiting_samples : ℕ → List Item → List Item
+waiting_samples t xs = filter (is_waiting t) xs
 
 -- one more item: the silence of a sensor is not kept
-abbrev pub kept : Item → List Item → List Item
-kept x xs = if is_some x.value then keep_last ROOM (xs ++ x ∷ []) else xs
+abbrev pub with_sample : Item → List Item → List Item
+with_sample x xs = if is_some x.value then keep_last ROOM (xs ++ x ∷ []) else xs
 
 -- the value of the first item, if that is of the tick
 abbrev pub first_value : ℕ → List Item → Option ℤ

@@ -1,6 +1,6 @@
 //! The samples of one sensor that wait until their tick is closed.
 ghost use Rattle.std.specs.Prelude.{◌≡◌, [], IfOk};
-ghost use Rattle.edr_merge.specs.Samples.{kept, first_value, past_first};
+ghost use Rattle.edr_merge.specs.Samples.{with_sample, first_value, past_first};
 
 use circular_buffer::HeapCircularBuffer;
 use edr_items::{Item, LONGEST_GAP};
@@ -45,7 +45,7 @@ impl Samples {
 
     // Keeps the item until its tick, if it is a sample.
     pub fn keep(&mut self, item: Item)
-        ensures { self.new ≡ kept item self.old }
+        ensures { self.new ≡ with_sample item self.old }
     {
         if item.value.is_none() {
             return;

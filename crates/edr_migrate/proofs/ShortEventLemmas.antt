@@ -7,7 +7,7 @@ use Rattle.edr_record.specs.declared.Record.{Record}
 use Rattle.edr_image.specs.declared.BankView.{BankView}
 use Rattle.edr_image.specs.declared.BankView.TheVariants.{Void, Event, Damaged}
 use Rattle.edr_image.specs.Image.{View, header_of, old_view_of}
-use Rattle.edr_migrate.specs.Migrated.{AreShort, migrated, migrated_bank, migrated_record}
+use Rattle.edr_migrate.specs.Migrated.{AreShort, migrated_view, migrated_bank, migrated_record}
 use Rattle.edr_migrate.proofs.EventByteLemmas.{IsShortBank, old_short}
 use Rattle.edr_migrate.proofs.OldBankLemmas.{old_view_at}
 use Rattle.edr_migrate.proofs.OldReadingLemmas.{seen}
@@ -34,7 +34,7 @@ all_migrated (Void ∷ xs) = (tt, all_migrated xs)
 all_migrated (Event r ∷ xs) = (refl, all_migrated xs)
 all_migrated (Damaged o f l ∷ xs) = (tt, all_migrated xs)
 
-pub migrated_short : (v : View) → AreShort (migrated v).store.banks
+pub migrated_short : (v : View) → AreShort (migrated_view v).store.banks
 migrated_short v = short_at (map migrated_bank v.store.banks) (all_migrated v.store.banks)
 
 -- ---- what an image of version 1 says
@@ -60,7 +60,7 @@ banks_kept (Void ∷ xs) all = ap (λ (ys : List BankView). Void ∷ ys) (banks_
 banks_kept (Event r ∷ xs) all = ap₂ (λ (x : Record) (ys : List BankView). Event x ∷ ys) (event_kept r all.0) (banks_kept xs all.1)
 banks_kept (Damaged o f l ∷ xs) all = ap (λ (ys : List BankView). Damaged o f l ∷ ys) (banks_kept xs all.1)
 
-pub migrated_is : (old : List ℕ) (v : View) → old_view_of old ≡ Some v → migrated v ≡ v
+pub migrated_is : (old : List ℕ) (v : View) → old_view_of old ≡ Some v → migrated_view v ≡ v
 migrated_is old v is =
     ap (λ (xs : List BankView). let w : View = record { store = record { header = v.store.header; banks = xs }; count = v.count } in w)
     (banks_kept v.store.banks (old_all_short old v is))

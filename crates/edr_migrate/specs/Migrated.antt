@@ -43,8 +43,8 @@ abbrev pub migrated_store : Store → Store
 migrated_store s = record { header = migrated_header s.header; banks = map migrated_bank s.banks }
 
 -- what the new image says, where the old one says this: the same count too
-abbrev pub migrated : View → View
-migrated v = record { store = migrated_store v.store; count = v.count }
+abbrev pub migrated_view : View → View
+migrated_view v = record { store = migrated_store v.store; count = v.count }
 
 -- each event has the profile short
 abbrev pub AreShort : List BankView → Type 0

@@ -14,7 +14,7 @@ use Rattle.edr_device.specs.Faults.{Rose}
 use Rattle.edr_device.specs.declared.device.Nvm.{Ghosts}
 use Rattle.edr_image.specs.Kept.{IsKept}
 use Rattle.edr_banks.specs.Laying.{IsPartlyLaid, LacksMagic}
-use Rattle.edr_migrate.specs.Migrated.{migrated}
+use Rattle.edr_migrate.specs.Migrated.{migrated_view}
 
 -- ---- its bytes
 
@@ -51,7 +51,7 @@ image_of v = front_bytes v.store.header v.count ++ flat_map bank_bytes v.store.b
 -- the image says what the old one said, and past it stands what stood there
 pub record IsMigrated (v : View) (bytes image : List ℕ) : Type 0 where
   pub same : image ≡ image_of v ++ drop (image_size v.store.header.banks) bytes
-  pub view : view_of image ≡ Some (migrated v)
+  pub view : view_of image ≡ Some (migrated_view v)
 
 -- the bytes are as they were, or the magic doesn't stand, or the image is migrated; and what stands past it is as it was
 abbrev pub IsPartlyMigrated : View → List ℕ → List ℕ → Type 0

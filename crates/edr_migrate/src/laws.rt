@@ -2,12 +2,12 @@
 
 ghost use Rattle.std.specs.Prelude.{◌≡◌, ℕ, List, Some};
 ghost use Rattle.edr_image.specs.Image.{View, old_view_of};
-ghost use Rattle.edr_migrate.specs.Migrated.{AreShort, migrated};
+ghost use Rattle.edr_migrate.specs.Migrated.{AreShort, migrated_view};
 
 /// Each event that is migrated has the profile short, as each event of an image of version 1 has. So a migration changes
 /// nothing of what an image says.
 pub fn migrated_events_are_short()
-    ensures migrated { (v : View) → AreShort (migrated v).store.banks }
+    ensures migrated { (v : View) → AreShort (migrated_view v).store.banks }
     ensures old { (old : List ℕ) (v : View) → old_view_of old ≡ Some v → AreShort v.store.banks }
-    ensures same { (old : List ℕ) (v : View) → old_view_of old ≡ Some v → migrated v ≡ v }
+    ensures same { (old : List ℕ) (v : View) → old_view_of old ≡ Some v → migrated_view v ≡ v }
 {}

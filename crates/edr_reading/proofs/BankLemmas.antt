@@ -3,7 +3,7 @@ use Rattle.std.proofs.Common.{arith, ◌≡◌, ◌∙◌, sym, ap, ap₂, subst
 use Rattle.std.specs.Fmt.{signed_decimal}
 use Rattle.std.proofs.lemmas.Fmt.{decimal_digit}
 use Rattle.edr_record.specs.declared.Place.TheVariants.{Second}
-use Rattle.edr_report.specs.Words.{spaced, milliseconds, shown_count, time_between, extreme_words, missing_words}
+use Rattle.edr_report.specs.Words.{spaced_words, milliseconds, shown_count, time_between, extreme_words, missing_words}
 use Rattle.edr_reading.specs.Plain.{event_names, no_extreme}
 use Rattle.edr_reading.proofs.PlainLemmas.{Below, below-at}
 
@@ -53,13 +53,13 @@ abbrev zeros : List ℕ
 zeros = codes "0 0 0 0 0 0 0 0 0 0 0 0 0 0 0 0 0 0 0 0 0 0 0 0 0 0"
 
 abbrev Unchanged : ℕ → Type 0
-Unchanged k = take (2 * (k + 1) - 1) zeros ≡ spaced (map signed_decimal (take (k + 1) (replicate 26 (pos 0))))
+Unchanged k = take (2 * (k + 1) - 1) zeros ≡ spaced_words (map signed_decimal (take (k + 1) (replicate 26 (pos 0))))
 
 unchanged : Below 26 Unchanged
-unchanged = (ap (λ (z : List ℕ). spaced (replicate 1 z)) zero-is, (ap (λ (z : List ℕ). spaced (replicate 2 z)) zero-is, (ap (λ (z : List ℕ). spaced (replicate 3 z)) zero-is, (ap (λ (z : List ℕ). spaced (replicate 4 z)) zero-is, (ap (λ (z : List ℕ). spaced (replicate 5 z)) zero-is, (ap (λ (z : List ℕ). spaced (replicate 6 z)) zero-is, (ap (λ (z : List ℕ). spaced (replicate 7 z)) zero-is, (ap (λ (z : List ℕ). spaced (replicate 8 z)) zero-is, (ap (λ (z : List ℕ). spaced (replicate 9 z)) zero-is, (ap (λ (z : List ℕ). spaced (replicate 10 z)) zero-is, (ap (λ (z : List ℕ). spaced (replicate 11 z)) zero-is, (ap (λ (z : List ℕ). spaced (replicate 12 z)) zero-is, (ap (λ (z : List ℕ). spaced (replicate 13 z)) zero-is, (ap (λ (z : List ℕ). spaced (replicate 14 z)) zero-is, (ap (λ (z : List ℕ). spaced (replicate 15 z)) zero-is, (ap (λ (z : List ℕ). spaced (replicate 16 z)) zero-is, (ap (λ (z : List ℕ). spaced (replicate 17 z)) zero-is, (ap (λ (z : List ℕ). spaced (replicate 18 z)) zero-is, (ap (λ (z : List ℕ). spaced (replicate 19 z)) zero-is, (ap (λ (z : List ℕ). spaced (replicate 20 z)) zero-is, (ap (λ (z : List ℕ). spaced (replicate 21 z)) zero-is, (ap (λ (z : List ℕ). spaced (replicate 22 z)) zero-is, (ap (λ (z : List ℕ). spaced (replicate 23 z)) zero-is, (ap (λ (z : List ℕ). spaced (replicate 24 z)) zero-is, (ap (λ (z : List ℕ). spaced (replicate 25 z)) zero-is, (ap (λ (z : List ℕ). spaced (replicate 26 z)) zero-is, tt))))))))))))))))))))))))))
+unchanged = (ap (λ (z : List ℕ). spaced_words (replicate 1 z)) zero-is, (ap (λ (z : List ℕ). spaced_words (replicate 2 z)) zero-is, (ap (λ (z : List ℕ). spaced_words (replicate 3 z)) zero-is, (ap (λ (z : List ℕ). spaced_words (replicate 4 z)) zero-is, (ap (λ (z : List ℕ). spaced_words (replicate 5 z)) zero-is, (ap (λ (z : List ℕ). spaced_words (replicate 6 z)) zero-is, (ap (λ (z : List ℕ). spaced_words (replicate 7 z)) zero-is, (ap (λ (z : List ℕ). spaced_words (replicate 8 z)) zero-is, (ap (λ (z : List ℕ). spaced_words (replicate 9 z)) zero-is, (ap (λ (z : List ℕ). spaced_words (replicate 10 z)) zero-is, (ap (λ (z : List ℕ). spaced_words (replicate 11 z)) zero-is, (ap (λ (z : List ℕ). spaced_words (replicate 12 z)) zero-is, (ap (λ (z : List ℕ). spaced_words (replicate 13 z)) zero-is, (ap (λ (z : List ℕ). spaced_words (replicate 14 z)) zero-is, (ap (λ (z : List ℕ). spaced_words (replicate 15 z)) zero-is, (ap (λ (z : List ℕ). spaced_words (replicate 16 z)) zero-is, (ap (λ (z : List ℕ). spaced_words (replicate 17 z)) zero-is, (ap (λ (z : List ℕ). spaced_words (replicate 18 z)) zero-is, (ap (λ (z : List ℕ). spaced_words (replicate 19 z)) zero-is, (ap (λ (z : List ℕ). spaced_words (replicate 20 z)) zero-is, (ap (λ (z : List ℕ). spaced_words (replicate 21 z)) zero-is, (ap (λ (z : List ℕ). spaced_words (replicate 22 z)) zero-is, (ap (λ (z : List ℕ). spaced_words (replicate 23 z)) zero-is, (ap (λ (z : List ℕ). spaced_words (replicate 24 z)) zero-is, (ap (λ (z : List ℕ). spaced_words (replicate 25 z)) zero-is, (ap (λ (z : List ℕ). spaced_words (replicate 26 z)) zero-is, tt))))))))))))))))))))))))))
 
-pub unchanged-are : (count : ℕ) → 1 ≤ count → count ≤ 26 → take (2 * count - 1) zeros ≡ spaced (map signed_decimal (take count (replicate 26 (pos 0))))
-unchanged-are count h k = let e : count - 1 + 1 ≡ count = omega (arith, h) in subst (λ (n : ℕ). take (2 * n - 1) zeros ≡ spaced (map signed_decimal (take n (replicate 26 (pos 0))))) e (below-at 26 Unchanged unchanged (count - 1) (omega (arith, h, k)))
+pub unchanged-are : (count : ℕ) → 1 ≤ count → count ≤ 26 → take (2 * count - 1) zeros ≡ spaced_words (map signed_decimal (take count (replicate 26 (pos 0))))
+unchanged-are count h k = let e : count - 1 + 1 ≡ count = omega (arith, h) in subst (λ (n : ℕ). take (2 * n - 1) zeros ≡ spaced_words (map signed_decimal (take n (replicate 26 (pos 0))))) e (below-at 26 Unchanged unchanged (count - 1) (omega (arith, h, k)))
 
 -- an element of a list of borrowed texts
 pub text-at : (xs : List (Bor (List ℕ))) (k : ℕ) (d : Bor (List ℕ)) → k < length xs → (get_or xs k d).now ≡ get_or (map (λ v. v.now) xs) k []

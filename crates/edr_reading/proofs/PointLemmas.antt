@@ -8,7 +8,7 @@ use Rattle.std.proofs.lemmas.List.{drop-replicate, take-append-drop, length-repl
 use Rattle.std.proofs.lemmas.List.Elements.{All-append, All-drop, All-take}
 use Rattle.edr_record.specs.Bounds.{ArePoints, IsChange, point_count}
 use Rattle.edr_reading.specs.Slots.{with_zeros}
-use Rattle.edr_report.specs.Words.{spaced, points_words}
+use Rattle.edr_report.specs.Words.{spaced_words, points_words}
 
 pub count-fits : (end : ℕ) → (1 ≤ point_count end) × (point_count end ≤ 26)
 count-fits end = (omega arith, omega arith)
@@ -21,7 +21,7 @@ zeros-change = λ k d h. rw (zero-at k 26 d h) (omega arith)
     zero-at zero (suc n) d h = refl
     zero-at (suc k) (suc n) d h = zero-at k n d (omega arith)
 
-pub points-read : (bytes : List ℕ) (end : ℕ) (front : List ℤ) → length front ≡ point_count end → bytes ≡ spaced (map signed_decimal front) → All IsChange front → slice_get (with_zeros (point_count end) front) 0 ≡ Some (pos 0)
+pub points-read : (bytes : List ℕ) (end : ℕ) (front : List ℤ) → length front ≡ point_count end → bytes ≡ spaced_words (map signed_decimal front) → All IsChange front → slice_get (with_zeros (point_count end) front) 0 ≡ Some (pos 0)
     → (bytes ≡ points_words end (with_zeros (point_count end) front)) × ArePoints (point_count end) (with_zeros (point_count end) front)
 points-read bytes end front long is changes first =
     let n = point_count end in
@@ -29,7 +29,7 @@ points-read bytes end front long is changes first =
     let fits = count-fits end in
     let front-of : take n (front ++ zs) ≡ front = ap (λ (k : ℕ). take k (front ++ zs)) (sym long) ∙ take-append_seam front zs in
     let behind-of : drop n (front ++ zs) ≡ zs = ap (λ (k : ℕ). drop k (front ++ zs)) (sym long) ∙ drop-append_seam front zs in (
-      is ∙ ap (λ (a : List ℤ). spaced (map signed_decimal a)) (sym front-of),
+      is ∙ ap (λ (a : List ℤ). spaced_words (map signed_decimal a)) (sym front-of),
       record {
         room = length-append front zs ∙ (let d = length-drop n (replicate 26 (pos 0)) in let r = length-replicate 26 (pos 0) in omega (arith, d, r, long, fits.1));
         first = first;
@@ -58,7 +58,7 @@ room-is end front long =
     let fits = count-fits end in
     length-append front (drop n (replicate 26 (pos 0))) ∙ (let d = length-drop n (replicate 26 (pos 0)) in let r = length-replicate 26 (pos 0) in omega (arith, d, r, long, fits.1))
 
-pub points-are : (bytes : List ℕ) (end : ℕ) (ps front : List ℤ) → ps ≡ with_zeros (point_count end) front → length front ≡ point_count end → bytes ≡ spaced (map signed_decimal front) → All IsChange front → (IsChange (get_or ps 0 (pos 0)) → get_or ps 0 (pos 0) ≡ pos 0)
+pub points-are : (bytes : List ℕ) (end : ℕ) (ps front : List ℤ) → ps ≡ with_zeros (point_count end) front → length front ≡ point_count end → bytes ≡ spaced_words (map signed_decimal front) → All IsChange front → (IsChange (get_or ps 0 (pos 0)) → get_or ps 0 (pos 0) ≡ pos 0)
     → (bytes ≡ points_words end ps) × ArePoints (point_count end) ps
 points-are bytes end ps front e long is changes at_zero =
     let all : All IsChange ps = subst (All IsChange) (sym e) (All-append IsChange front (drop (point_count end) (replicate 26 (pos 0))) changes (All-drop IsChange (point_count end) (replicate 26 (pos 0)) zeros-change)) in
@@ -67,7 +67,7 @@ points-are bytes end ps front e long is changes at_zero =
     subst (λ (qs : List ℤ). (bytes ≡ points_words end qs) × ArePoints (point_count end) qs) (sym e) (points-read bytes end front long is changes (subst (λ (qs : List ℤ). slice_get qs 0 ≡ Some (pos 0)) e first))
 
 -- where points are shown, they are read
-pub points-given : (bytes : List ℕ) (end : ℕ) (r : Option (List ℤ)) (ps : List ℤ) → ((front : List ℤ) → length front ≡ point_count end → All IsChange front → bytes ≡ spaced (map signed_decimal front) → r ≡ Some (with_zeros (point_count end) front))
+pub points-given : (bytes : List ℕ) (end : ℕ) (r : Option (List ℤ)) (ps : List ℤ) → ((front : List ℤ) → length front ≡ point_count end → All IsChange front → bytes ≡ spaced_words (map signed_decimal front) → r ≡ Some (with_zeros (point_count end) front))
     → ArePoints (point_count end) ps → bytes ≡ points_words end ps → r ≡ Some ps
 points-given bytes end r ps whole are is =
     let f = points-front end ps are in

@@ -6,14 +6,14 @@ use Rattle.std.proofs.lemmas.List.{append-nil, drop_more, take_more, take_more_s
 use Rattle.std.proofs.lemmas.List.Elements.{All-append}
 use Rattle.std.proofs.Math.Seq.{take-length, drop-length}
 use Rattle.edr_record.specs.Bounds.{IsUpTo}
-use Rattle.edr_report.specs.Words.{spaced, number_or_none}
+use Rattle.edr_report.specs.Words.{spaced_words, number_or_none}
 use Rattle.std.proofs.lemmas.List.{append_cancel_left}
 use Rattle.edr_reading.proofs.FrontLemmas.{not-number}
 use Rattle.edr_reading.specs.Front.{EndsNumber}
 use Rattle.edr_reading.specs.Slots.{each_spaced, spaced_behind, space_at}
 
 -- the first word has no space before it
-pub spaced-first : (w : List ℕ) (ws : List (List ℕ)) → spaced (w ∷ ws) ≡ w ++ each_spaced ws
+pub spaced-first : (w : List ℕ) (ws : List (List ℕ)) → spaced_words (w ∷ ws) ≡ w ++ each_spaced ws
 spaced-first w [] = sym (append-nil w)
 spaced-first w (v ∷ ws) = ap (λ (x : List ℕ). w ++ (32 ∷ x)) (spaced-first v ws)
 
@@ -34,12 +34,12 @@ none-slot bytes rest more highest (Some k) small h e f = absurd (not-number k 11
 
 module _ {X : Type 0} (words : X → List ℕ) where
   -- one slot more was taken
-  pub taken-more : (bytes rest more front : List ℕ) (slots : List X) (i : ℕ) (x : X) → i < length slots → ((ws : List (List ℕ)) → rest ≡ spaced_behind i ws → bytes ≡ spaced (map words (take i slots) ++ ws))
-      → front ≡ space_at i → rest ≡ front ++ (words x ++ more) → (ws : List (List ℕ)) → more ≡ spaced_behind (i + 1) ws → bytes ≡ spaced (map words (take (i + 1) (set slots i x)) ++ ws)
+  pub taken-more : (bytes rest more front : List ℕ) (slots : List X) (i : ℕ) (x : X) → i < length slots → ((ws : List (List ℕ)) → rest ≡ spaced_behind i ws → bytes ≡ spaced_words (map words (take i slots) ++ ws))
+      → front ≡ space_at i → rest ≡ front ++ (words x ++ more) → (ws : List (List ℕ)) → more ≡ spaced_behind (i + 1) ws → bytes ≡ spaced_words (map words (take (i + 1) (set slots i x)) ++ ws)
   taken-more bytes rest more front slots i x h before f r ws m =
       let e : rest ≡ spaced_behind i (words x ∷ ws) = r ∙ ap (λ (a : List ℕ). a ++ (words x ++ more)) f ∙ ap (λ (a : List ℕ). space_at i ++ (words x ++ a)) m ∙ sym (behind-one i (words x) ws) in
       let t : map words (take (i + 1) (set slots i x)) ≡ map words (take i slots) ++ words x ∷ [] = ap (map words) (take_more_set slots i x h) ∙ map-append words (take i slots) (x ∷ []) in
-      before (words x ∷ ws) e ∙ ap spaced (sym (ap (λ (a : List (List ℕ)). a ++ ws) t ∙ append_assoc (map words (take i slots)) (words x ∷ []) ws))
+      before (words x ∷ ws) e ∙ ap spaced_words (sym (ap (λ (a : List (List ℕ)). a ++ ws) t ∙ append_assoc (map words (take i slots)) (words x ∷ []) ws))
 
   -- what is left begins with the next slot
   pub left-one : (xs : List X) (rest front : List ℕ) (i : ℕ) (d : X) → i < length xs → rest ≡ spaced_behind i (map words (drop i xs)) → front ≡ space_at i
@@ -67,11 +67,11 @@ some-in [] i h = absurd (omega arith)
 some-in (x ∷ xs) i h = x
 
 -- where all slots were taken and nothing is left, the bytes are these slots
-pub read-all : {X : Type 0} (words : X → List ℕ) (ok : X → Type 0) (bytes rest : List ℕ) (slots : List X) (i : ℕ) → i ≡ length slots → rest ≡ [] → ((ws : List (List ℕ)) → rest ≡ spaced_behind i ws → bytes ≡ spaced (map words (take i slots) ++ ws))
-    → All ok (take i slots) → (bytes ≡ spaced (map words slots)) × All ok slots
+pub read-all : {X : Type 0} (words : X → List ℕ) (ok : X → Type 0) (bytes rest : List ℕ) (slots : List X) (i : ℕ) → i ≡ length slots → rest ≡ [] → ((ws : List (List ℕ)) → rest ≡ spaced_behind i ws → bytes ≡ spaced_words (map words (take i slots) ++ ws))
+    → All ok (take i slots) → (bytes ≡ spaced_words (map words slots)) × All ok slots
 read-all words ok bytes rest slots i all none read are =
     let t : take i slots ≡ slots = ap (λ (k : ℕ). take k slots) all ∙ take-length slots in
-    (read [] (none ∙ nothing i) ∙ ap spaced (append-nil (map words (take i slots))) ∙ ap (λ (a : List _). spaced (map words a)) t, subst (All ok) t are)
+    (read [] (none ∙ nothing i) ∙ ap spaced_words (append-nil (map words (take i slots))) ∙ ap (λ (a : List _). spaced_words (map words a)) t, subst (All ok) t are)
   where
     nothing : (k : ℕ) → [] ≡ spaced_behind k []
     nothing zero = refl

@@ -7,7 +7,7 @@ use Rattle.edr_record.specs.Fields.{profile_of_slots, speed_of, throttle_of, bra
 use Rattle.edr_record.specs.declared.Profile.{Profile}
 use Rattle.edr_record.specs.declared.Slots.{Slots}
 use Rattle.edr_record.specs.declared.Record.{Record}
-use Rattle.edr_report.specs.Words.{yes_no, profile_word, number_or_none, switch_or_none, milliseconds, firing_words, shown_count, events_in_crash, time_between, spaced, points_words, extreme_words, missing_words}
+use Rattle.edr_report.specs.Words.{yes_no, profile_word, number_or_none, switch_or_none, milliseconds, firing_words, shown_count, events_in_crash, time_between, spaced_words, points_words, extreme_words, missing_words}
 use Rattle.edr_report.specs.Report.{pre_lines, crash_lines}
 use Rattle.edr_reading.specs.Rows.{fields, line_fields, texts_in}
 use Rattle.edr_reading.specs.declared.rows.ReportRow.{ReportRow}
@@ -24,9 +24,9 @@ pub record ShowsPre (v : PreValues) (p : PrePart) (is_locked : Bool) : Type 0 wh
   pub between : v.between.now ≡ time_between p.place
   pub locked : v.locked.now ≡ yes_no is_locked
   pub profile : v.profile.now ≡ profile_word p.profile
-  pub speed : v.speed.now ≡ spaced (map number_or_none p.speed)
-  pub throttle : v.throttle.now ≡ spaced (map number_or_none p.throttle)
-  pub brake : v.brake.now ≡ spaced (map switch_or_none p.brake)
+  pub speed : v.speed.now ≡ spaced_words (map number_or_none p.speed)
+  pub throttle : v.throttle.now ≡ spaced_words (map number_or_none p.throttle)
+  pub brake : v.brake.now ≡ spaced_words (map switch_or_none p.brake)
   pub belt : v.belt.now ≡ switch_or_none p.belt
   pub lamp : v.lamp.now ≡ switch_or_none p.lamp
 
@@ -34,12 +34,12 @@ pub record ShowsPre (v : PreValues) (p : PrePart) (is_locked : Bool) : Type 0 wh
 pub record ShowsLists (v : PreValues) (f : Profile) (kmh per_cent : List (Option ℕ)) (is_on : List (Option Bool)) : Type 0 where
   pub speeds : length kmh ≡ slots_in f
   pub speed_range : All (IsUpTo 300) kmh
-  pub speed : v.speed.now ≡ spaced (map number_or_none kmh)
+  pub speed : v.speed.now ≡ spaced_words (map number_or_none kmh)
   pub throttles : length per_cent ≡ slots_in f
   pub throttle_range : All (IsUpTo 100) per_cent
-  pub throttle : v.throttle.now ≡ spaced (map number_or_none per_cent)
+  pub throttle : v.throttle.now ≡ spaced_words (map number_or_none per_cent)
   pub brakes : length is_on ≡ slots_in f
-  pub brake : v.brake.now ≡ spaced (map switch_or_none is_on)
+  pub brake : v.brake.now ≡ spaced_words (map switch_or_none is_on)
 
 -- these slots are shown as those of their profile
 abbrev pub ShowsSlots : PreValues → Slots → Type 0

@@ -11,7 +11,7 @@ use Rattle.edr_record.specs.declared.Record.{Record}
 use Rattle.edr_record.specs.Bounds.{most_points, slots_in}
 use Rattle.edr_record.specs.Complete.{is_complete}
 use Rattle.edr_report.specs.Report.{crash_names, crash_words}
-use Rattle.edr_report.specs.Words.{yes_no, profile_word, none_word, number_or_none, switch_or_none, spaced, milliseconds, shown_count, time_between, points_words, extreme_words, missing_words}
+use Rattle.edr_report.specs.Words.{yes_no, profile_word, none_word, number_or_none, switch_or_none, spaced_words, milliseconds, shown_count, time_between, points_words, extreme_words, missing_words}
 use Rattle.edr_reading.specs.Found.{count_fields}
 use Rattle.edr_reading.specs.Faults.{AreReport}
 use Rattle.edr_reading.specs.declared.rows.ReportRow.{ReportRow}
@@ -66,10 +66,10 @@ plain_texts block bank between profile numbers switches points extreme time miss
 
 -- the slots of a profile, all absent, as words of numbers and of switches
 abbrev pub no_numbers : Profile → List ℕ
-no_numbers f = spaced (map number_or_none (replicate (slots_in f) None))
+no_numbers f = spaced_words (map number_or_none (replicate (slots_in f) None))
 
 abbrev pub no_switches : Profile → List ℕ
-no_switches f = spaced (map switch_or_none (replicate (slots_in f) None))
+no_switches f = spaced_words (map switch_or_none (replicate (slots_in f) None))
 
 -- those of an event of a profile without a crash part, and with one in which nothing changed
 abbrev pub absent_words : List ℕ → List ℕ → Place → Profile → List (List ℕ)

@@ -5,7 +5,7 @@ use Rattle.edr_record.specs.Parts.{PrePart}
 use Rattle.edr_record.specs.declared.Record.{Record}
 use Rattle.edr_report.specs.Lines.{Line, line}
 use Rattle.edr_report.specs.Report.{event_lines}
-use Rattle.edr_report.specs.Words.{yes_no, profile_word, number_or_none, switch_or_none, milliseconds, shown_count, events_in_crash, time_between, spaced}
+use Rattle.edr_report.specs.Words.{yes_no, profile_word, number_or_none, switch_or_none, milliseconds, shown_count, events_in_crash, time_between, spaced_words}
 use Rattle.edr_reading.specs.declared.crash.CrashValues.{CrashValues}
 use Rattle.edr_reading.specs.declared.pre.PreValues.{PreValues}
 use Rattle.edr_reading.specs.declared.rows.ReportRow.{ReportRow}
@@ -90,9 +90,9 @@ pre_words p locked =
     ∷ time_between p.place
     ∷ yes_no locked
     ∷ profile_word p.profile
-    ∷ spaced (map number_or_none p.speed)
-    ∷ spaced (map number_or_none p.throttle)
-    ∷ spaced (map switch_or_none p.brake)
+    ∷ spaced_words (map number_or_none p.speed)
+    ∷ spaced_words (map number_or_none p.throttle)
+    ∷ spaced_words (map switch_or_none p.brake)
     ∷ switch_or_none p.belt
     ∷ switch_or_none p.lamp
     ∷ []

@@ -1,7 +1,7 @@
 //! Lists of slots, read back.
 
 ghost use Rattle.std.specs.Prelude.{◌≡◌, ◌++◌, true, ℕ, List, length, map, All, IfSome};
-ghost use Rattle.edr_report.specs.Words.{spaced};
+ghost use Rattle.edr_report.specs.Words.{spaced_words};
 ghost use Rattle.edr_reading.specs.Front.{ReadsBehind, ReadsFront};
 ghost use Rattle.edr_reading.specs.Slots.{space_at, OfSpaced};
 
@@ -117,7 +117,7 @@ fn slot_behind<'a, S: SlotRead>(bytes: &'a [u8], front: &[u8]) -> Option<(S, &'a
 /// Reads slots that are parted by one space, as many as there are; tells whether the bytes are such slots.
 pub(crate) fn read_slots<S: SlotRead + Copy>(bytes: &[u8], slots: &mut [S]) -> bool
     ensures long { length slots.new ≡ length slots.old }
-    ensures read { result ≡ true → (bytes.now ≡ spaced (map S.words slots.new)) × All S.is_slot slots.new }
+    ensures read { result ≡ true → (bytes.now ≡ spaced_words (map S.words slots.new)) × All S.is_slot slots.new }
     ensures whole { OfSpaced (length slots.old) S.words S.is_slot bytes.now (λ xs. (result ≡ true) × (slots.new ≡ xs)) }
 {
     let mut rest = bytes;

@@ -9,7 +9,7 @@ ghost use Rattle.edr_reading.specs.Told.{IsAck, IsCycleRow, cycle_line};
 
 use crate::front::last_within;
 use crate::rows::{ReportRow, value_in};
-use crate::values::{ack, applied, bank_behind, count, damage, ran, start_call};
+use crate::values::{ack, answer, bank_behind, count, damage, ran, start_call};
 use edr_image::{Ack, Found};
 
 /// What the first row of a cycle tells.
@@ -65,7 +65,7 @@ pub(crate) fn read_ack(row: &ReportRow<'_>, place: u32) -> Option<Ack>
         return None;
     }
     match ack(row.name, place) {
-        Some((kind, tick)) => match applied(row.value, kind) {
+        Some((kind, tick)) => match answer(row.value, kind) {
             Some(applied) => Some(Ack {
                 tick,
                 kind,

@@ -6,7 +6,7 @@ ghost use Rattle.edr_record.specs.declared.TheConstants.{EARLIEST_END, GREATEST_
 ghost use Rattle.edr_record.specs.declared.Profile.{Profile};
 ghost use Rattle.edr_record.specs.Bounds.{IsChange, IsExtreme, IsPlace, IsUpTo};
 ghost use Rattle.edr_report.specs.declared.TheConstants.{LARGEST_SHOWN_COUNT};
-ghost use Rattle.edr_report.specs.Words.{bank_words, applied_words, stop_words, yes_no, profile_word, switch_or_none, milliseconds, firing_words, shown, shown_count, events_in_crash, time_between, extreme_words, missing_words, damage_words, ack_words, seconds, tenths_of};
+ghost use Rattle.edr_report.specs.Words.{bank_words, applied_words, stop_words, yes_no, profile_word, switch_or_none, milliseconds, firing_words, number_shown, shown_count, events_in_crash, time_between, extreme_words, missing_words, damage_words, ack_words, seconds, tenths_of};
 ghost use Rattle.edr_reading.specs.Answers.{GivesValue};
 ghost use Rattle.edr_reading.specs.Front.{EndsNumber, ReadsFront};
 ghost use Rattle.edr_reading.specs.Values.{IsBank, IsStopCall, IsApplied, IsDamagedView, IsTick, done_in, view_words, byte_words, command_words, ran_words};
@@ -36,7 +36,7 @@ pub(crate) fn count(bytes: &[u8], low: u32) -> Option<u32>
     requires { low ≤ LARGEST_SHOWN_COUNT }
     ensures read { IfSome result (λ n. bytes.now ≡ shown_count n) }
     ensures range { IfSome result (λ n. (low ≤ n) × (n ≤ LARGEST_SHOWN_COUNT)) }
-    ensures whole { (n : ℕ) → low ≤ n → bytes.now ≡ shown_count n → result ≡ Some (shown n) }
+    ensures whole { (n : ℕ) → low ≤ n → bytes.now ≡ shown_count n → result ≡ Some (number_shown n) }
 {
     last_within(bytes, b"", low, LARGEST_SHOWN_COUNT)
 }
@@ -243,7 +243,7 @@ fn second_place(between: &[u8]) -> Option<Place>
 }
 
 // Whether a damaged bank is locked, behind what else it shows.
-fn locked(bytes: &[u8]) -> Option<bool>
+fn lock_behind(bytes: &[u8]) -> Option<bool>
     ensures read { IfSome result (λ l. bytes.now ≡ codes " locked " ++ yes_no l) }
     ensures whole { (l : Bool) → bytes.now ≡ codes " locked " ++ yes_no l → result ≡ Some l }
 {
@@ -254,12 +254,12 @@ fn locked(bytes: &[u8]) -> Option<bool>
 }
 
 // The byte that a damaged bank shows, and whether it is locked.
-fn found(bytes: &[u8]) -> Option<(u8, bool)>
+fn byte_behind(bytes: &[u8]) -> Option<(u8, bool)>
     ensures read { IfSome result (λ p. bytes.now ≡ byte_words p.0 p.1) }
     ensures whole { (x : ℕ) (l : Bool) → x ≤ 255 → bytes.now ≡ byte_words x l → result ≡ Some (x, l) }
 {
     match within_behind(bytes, b" found ", 0, 255) {
-        Some((found, rest)) => match locked(rest) {
+        Some((found, rest)) => match lock_behind(rest) {
             Some(locked) => Some((found as u8, locked)),
             None => None,
         },
@@ -273,7 +273,7 @@ pub(crate) fn damage(bytes: &[u8]) -> Option<BankView>
     ensures whole { (v : BankView) → IsDamagedView v → bytes.now ≡ view_words v → result ≡ Some v }
 {
     match within_behind(bytes, b"damaged at ", 0, 1_023) {
-        Some((offset, rest)) => match found(rest) {
+        Some((offset, rest)) => match byte_behind(rest) {
             Some((found, locked)) => Some(BankView::Damaged {
                 offset: offset as u16,
                 found,
@@ -333,7 +333,7 @@ fn done_in(kind: Kind, bank: u8) -> Applied
 }
 
 /// What came of a command of this kind.
-pub(crate) fn applied(bytes: &[u8], kind: Kind) -> Option<Applied>
+pub(crate) fn answer(bytes: &[u8], kind: Kind) -> Option<Applied>
     ensures read { IfSome result (λ a. (bytes.now ≡ applied_words a) × IsApplied kind a) }
     ensures whole { (a : Applied) → IsApplied kind a → bytes.now ≡ applied_words a → result ≡ Some a }
 {

@@ -11,7 +11,7 @@ use Rattle.edr_image.specs.declared.Choice.TheVariants.{Keep, Overwrite}
 use Rattle.edr_image.specs.declared.BankView.TheVariants.{Void, Event, Damaged}
 use Rattle.edr_image.specs.declared.Applied.TheVariants as applied
 use Rattle.edr_image.specs.declared.Kind.TheVariants as kind
-use Rattle.edr_image.specs.Banks.{Store, events, damaged}
+use Rattle.edr_image.specs.Banks.{Store, events, damaged_banks}
 use Rattle.edr_image.specs.Reports.{Report, Ran, StartStopped}
 use Rattle.edr_report.specs.Words.{time_between}
 use Rattle.edr_report.specs.Report.{pre_lines, crash_lines, event_lines, report_lines, report_text, report_table}
@@ -22,20 +22,20 @@ fresh = record { header = record { banks = 2; choice = Keep }; banks = Void ∷ 
 
 -- a cycle without items, and no cycle, as text and as a table
 empty-cycle : report_text (Ran 1 None [] ∷ []) fresh 1 ≡ codes "cycle 1: number 1, power off\nignition cycle, download: 1\n"
-unfolding report_lines events damaged digits
+unfolding report_lines events damaged_banks digits
 empty-cycle = refl
 
 empty-run : report_text [] fresh 0 ≡ codes "ignition cycle, download: 0\n"
-unfolding report_lines events damaged digits
+unfolding report_lines events damaged_banks digits
 empty-run = refl
 
 empty-table : report_table [] fresh 0 ≡ codes "block,name,value\n0,\"ignition cycle, download\",0\n"
-unfolding report_lines events damaged digits fields_text is_blank escaped
+unfolding report_lines events damaged_banks digits fields_text is_blank escaped
 empty-table = refl
 
 -- a start that was stopped
 stopped-start : report_text (StartStopped 5 ∷ []) fresh 1 ≡ codes "cycle 1: start stopped in call 5\nignition cycle, download: 1\n"
-unfolding report_lines events damaged digits
+unfolding report_lines events damaged_banks digits
 stopped-start = refl
 
 -- a realistic crash
@@ -77,12 +77,12 @@ crash_store = record fresh { banks = Event crash ∷ Void ∷ [] }
 
 crash-text : report_text (crash_report ∷ []) crash_store 1 ≡
     codes "cycle 1: number 1, power off\ncycle 1 take at 6020: bank 1\ncycle 1 done at 6148: bank 1\nevent: 1\nbank: 1\nignition cycle, crash: 1\ntime zero: 6003 ms\nmulti-event, number of events: 1\ntime from event 1 to 2: none\ndeployment event: no\npre-crash profile: short\nspeed, km/h: 50 50 50 50 50 50 50 50 50 50 50\nthrottle, %: 20 20 20 20 20 20 20 20 20 20 20\nservice brake: off off off off off off off off off off off\ndriver belt: on\nfrontal air bag warning lamp: off\nend of event: 115 ms\ndelta-V longitudinal, km/h: 0 -4 -8 -12 -16 -20 -24 -28 -32 -36 -39 -39 -39 -39 -39\ndelta-V lateral, km/h: 0 0 0 0 0 0 0 0 0 0 0 0 0 0 0\nmaximum delta-V longitudinal: -39 km/h at 97 ms\nmaximum delta-V lateral: 0 km/h at 0 ms\ntime of maximum resultant: 97 ms\nticks without sample: 0 longitudinal, 0 lateral\ndriver frontal deployment: none\npassenger frontal deployment: none\ndriver side deployment: none\npassenger side deployment: none\ndriver curtain deployment: none\npassenger curtain deployment: none\ndriver pretensioner deployment: none\npassenger pretensioner deployment: none\ncomplete file recorded: yes\nignition cycle, download: 1\n"
-unfolding report_lines event_lines pre_lines crash_lines events damaged digits is_complete
+unfolding report_lines event_lines pre_lines crash_lines events damaged_banks digits is_complete
 crash-text = refl
 
 -- a damaged bank, and a count that is shown as at most 60000
 damaged-line : report_text [] (record fresh { banks = Void ∷ Damaged 28 9 true ∷ [] }) 60_001 ≡ codes "bank 2: damaged at 28 found 9 locked yes\nignition cycle, download: 60000\n"
-unfolding report_lines events damaged digits
+unfolding report_lines events damaged_banks digits
 damaged-line = refl
 
 -- tenths of a second are rounded half up

@@ -8,9 +8,9 @@ use Rattle.edr_image.specs.declared.Ack.{Ack}
 use Rattle.edr_image.specs.declared.BankView.{BankView}
 use Rattle.edr_image.specs.declared.BankView.TheVariants.{Void, Event, Damaged}
 use Rattle.edr_image.specs.declared.Found.{Found}
-use Rattle.edr_image.specs.Banks.{Store, retrieved}
+use Rattle.edr_image.specs.Banks.{Store, retrieved_banks}
 use Rattle.edr_image.specs.Reports.{Report, StartStopped, Ran}
-use Rattle.edr_report.specs.Words.{cycle_words, ack_words, bank_words, applied_words, stop_words, none_word, yes_no, profile_word, number_or_none, switch_or_none, milliseconds, firing_words, shown_count, events_in_crash, time_between, spaced, points_words, extreme_words, missing_words, damage_words}
+use Rattle.edr_report.specs.Words.{cycle_words, ack_words, bank_words, applied_words, stop_words, none_word, yes_no, profile_word, number_or_none, switch_or_none, milliseconds, firing_words, shown_count, events_in_crash, time_between, spaced_words, points_words, extreme_words, missing_words, damage_words}
 use Rattle.edr_report.specs.Lines.{Line, line, text_of, table_of}
 
 -- ---- cycles, in block 0
@@ -36,9 +36,9 @@ pre_lines block p locked =
     ∷ line block (codes "time from event 1 to 2") (time_between p.place)
     ∷ line block (codes "deployment event") (yes_no locked)
     ∷ line block (codes "pre-crash profile") (profile_word p.profile)
-    ∷ line block (codes "speed, km/h") (spaced (map number_or_none p.speed))
-    ∷ line block (codes "throttle, %") (spaced (map number_or_none p.throttle))
-    ∷ line block (codes "service brake") (spaced (map switch_or_none p.brake))
+    ∷ line block (codes "speed, km/h") (spaced_words (map number_or_none p.speed))
+    ∷ line block (codes "throttle, %") (spaced_words (map number_or_none p.throttle))
+    ∷ line block (codes "service brake") (spaced_words (map switch_or_none p.brake))
     ∷ line block (codes "driver belt") (switch_or_none p.belt)
     ∷ line block (codes "frontal air bag warning lamp") (switch_or_none p.lamp)
     ∷ []
@@ -138,7 +138,7 @@ report_lines reports found count =
 
 -- the bytes of the report of a run, as text and as a table
 abbrev pub report_text : List Report → Store → ℕ → List ℕ
-report_text reports v count = text_of (report_lines reports (retrieved v.banks) count)
+report_text reports v count = text_of (report_lines reports (retrieved_banks v.banks) count)
 
 abbrev pub report_table : List Report → Store → ℕ → List ℕ
-report_table reports v count = table_of (report_lines reports (retrieved v.banks) count)
+report_table reports v count = table_of (report_lines reports (retrieved_banks v.banks) count)

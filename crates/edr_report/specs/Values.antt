@@ -2,7 +2,7 @@
 use Rattle.std.specs.Prelude.{ℕ, List, ◌++◌, map, codes, decimal}
 use Rattle.edr_report.specs.declared.values.Value.{Value}
 use Rattle.edr_report.specs.declared.values.Value.TheVariants as value
-use Rattle.edr_report.specs.Words.{applied_words, stop_words, none_word, yes_no, profile_word, number_or_none, switch_or_none, milliseconds, firing_words, shown_count, events_in_crash, time_between, spaced, points_words, extreme_words, missing_words, damage_words}
+use Rattle.edr_report.specs.Words.{applied_words, stop_words, none_word, yes_no, profile_word, number_or_none, switch_or_none, milliseconds, firing_words, shown_count, events_in_crash, time_between, spaced_words, points_words, extreme_words, missing_words, damage_words}
 
 abbrev pub value_words : Value → List ℕ
 value_words (value.StartStopped call) = codes "start stopped in call " ++ decimal call
@@ -16,9 +16,9 @@ value_words (value.EventsInCrash place) = events_in_crash place
 value_words (value.TimeBetween place) = time_between place
 value_words (value.YesNo b) = yes_no b
 value_words (value.Profile p) = profile_word p
-value_words (value.Speeds slots) = spaced (map number_or_none slots.now)
-value_words (value.Throttles slots) = spaced (map number_or_none slots.now)
-value_words (value.Switches slots) = spaced (map switch_or_none slots.now)
+value_words (value.Speeds slots) = spaced_words (map number_or_none slots.now)
+value_words (value.Throttles slots) = spaced_words (map number_or_none slots.now)
+value_words (value.Switches slots) = spaced_words (map switch_or_none slots.now)
 value_words (value.Switch s) = switch_or_none s
 value_words (value.Points end points) = points_words end points
 value_words (value.Extreme x) = extreme_words x

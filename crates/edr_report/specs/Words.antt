@@ -68,11 +68,11 @@ abbrev pub firing_words : Option ℕ → List ℕ
 firing_words t = option_map_or milliseconds t none_word
 
 -- a count of ignition cycles as it is shown: up to 60000 (563.8, reporting range of ignition cycles)
-abbrev pub shown : ℕ → ℕ
-shown count = min count LARGEST_SHOWN_COUNT
+abbrev pub number_shown : ℕ → ℕ
+number_shown count = min count LARGEST_SHOWN_COUNT
 
 abbrev pub shown_count : ℕ → List ℕ
-shown_count n = decimal (shown n)
+shown_count n = decimal (number_shown n)
 
 -- ---- of an event
 
@@ -100,12 +100,12 @@ profile_word profile.Short = codes "short"
 profile_word profile.Long = codes "long"
 
 -- words parted by one space
-abbrev pub spaced : List (List ℕ) → List ℕ
-spaced ws = join_with_byte 32 ws
+abbrev pub spaced_words : List (List ℕ) → List ℕ
+spaced_words ws = join_with_byte 32 ws
 
 -- the points that the end allows
 abbrev pub points_words : ℕ → List ℤ → List ℕ
-points_words end points = spaced (map signed_decimal (take (point_count end) points))
+points_words end points = spaced_words (map signed_decimal (take (point_count end) points))
 
 abbrev pub extreme_words : Extreme → List ℕ
 extreme_words x = signed_decimal x.kmh ++ codes " km/h at " ++ milliseconds x.at

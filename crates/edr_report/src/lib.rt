@@ -14,7 +14,7 @@ ghost use Rattle.std.specs.Prelude.{◌≡◌, IfOk, map};
 ghost use Rattle.edr_image.specs.Reports.{report_of};
 ghost use Rattle.edr_report.specs.Lines.{text_of, table_of};
 ghost use Rattle.edr_report.specs.Report.{report_lines};
-ghost use Rattle.edr_report.specs.Words.{shown, tenths_of};
+ghost use Rattle.edr_report.specs.Words.{number_shown, tenths_of};
 
 use edr_image::{CycleReport, Found};
 pub use forms::Lines;
@@ -29,8 +29,8 @@ pub const LARGEST_SHOWN_COUNT: u32 = 60_000;
 
 /// A count of ignition cycles as it is shown.
 #[inline]
-pub fn shown(count: u32) -> u32
-    ensures { result ≡ shown count }
+pub fn number_shown(count: u32) -> u32
+    ensures { result ≡ number_shown count }
 {
     count.min(LARGEST_SHOWN_COUNT)
 }

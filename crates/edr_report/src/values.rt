@@ -1,10 +1,10 @@
 //! The values of a report, and how they are spelled.
 
 ghost use Rattle.std.specs.Prelude.{◌≡◌, ◌++◌, OnOk, string_bytes, map};
-ghost use Rattle.edr_report.specs.Words.{spaced, yes_no, profile_word, switch_or_none, firing_words, applied_words, stop_words, events_in_crash, time_between, points_words, extreme_words};
+ghost use Rattle.edr_report.specs.Words.{spaced_words, yes_no, profile_word, switch_or_none, firing_words, applied_words, stop_words, events_in_crash, time_between, points_words, extreme_words};
 ghost use Rattle.edr_report.specs.Values.{value_words};
 
-use crate::{shown, tenths_of};
+use crate::{number_shown, tenths_of};
 use edr_image::Applied;
 use edr_record::{Extreme, POINTS, Place, Profile, point_count};
 use std::alloc::AllocError as OutOfMemory;
@@ -139,7 +139,7 @@ fn profile_word(profile: Profile) -> &'static str
 
 // Appends slots, parted by one space.
 fn put_spaced<S: SlotText>(out: &mut String, slots: &[S]) -> Result<(), OutOfMemory>
-    ensures { OnOk result (string_bytes out.new ≡ string_bytes out.old ++ spaced (map S.words slots.now)) }
+    ensures { OnOk result (string_bytes out.new ≡ string_bytes out.old ++ spaced_words (map S.words slots.now)) }
 {
     for (i, slot) in slots.iter().enumerate() {
         if i > 0 {
@@ -229,7 +229,7 @@ impl<'a> Value<'a> {
             }
             Value::Number(n) => write!(out, "{n}"),
             Value::Count(n) => {
-                let shown = shown(n);
+                let shown = number_shown(n);
                 write!(out, "{shown}")
             }
             Value::Milliseconds(t) => write!(out, "{t} ms"),

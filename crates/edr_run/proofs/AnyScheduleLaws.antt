@@ -20,7 +20,7 @@ use Rattle.edr_definitions.proofs.MarkLaws.{horizon-least, horizon-more, horizon
 use Rattle.edr_definitions.proofs.ScheduleLaws.{items-after_steps}
 use Rattle.edr_image.specs.Banks.{Store}
 use Rattle.edr_image.specs.Steps.{BankStep, State, after, at_rest, reply_to, state_after, steps_of}
-use Rattle.edr_run.specs.Schedule.{ScheduleState, Begins, IsCut, IsNextApplied, IsStep, gives, closes, applies, Leads, all_commands, begun, issued_at, steps_of_first}
+use Rattle.edr_run.specs.Schedule.{ScheduleState, Begins, IsCut, IsNextApplied, IsStep, gives, closes, applies, Leads, all_commands, new_schedule, issued_at, steps_of_first}
 use Rattle.edr_run.specs.Cycle.{steps_in}
 use Rattle.edr_run.proofs.IssueLemmas.{issues-more, issues-under_way}
 use Rattle.edr_run.proofs.ReplyLemmas.{after-append, get_first, one_reply, stop_first, stop_later, state_after-append, steps_of-more, take_one_more}
@@ -142,7 +142,7 @@ module _ (f : SensorLists) (n : ℕ) (v : Store) (feeds : AreFeeds f) where
 -- ---- the law
 module _ (f : SensorLists) (n : ℕ) (v : Store) where
   -- at first nothing was done
-  stands-begun : Stands f n v (begun v)
+  stands-begun : Stands f n v (new_schedule v)
   stands-begun = record {
     within = omega arith;
     issued_is = sym (ap length (commands-start no_items n));
@@ -150,10 +150,10 @@ module _ (f : SensorLists) (n : ℕ) (v : Store) where
     banks_are = refl;
   }
 
-  pub stands-any : AreFeeds f → (ms : List ScheduleState) (b : ScheduleState) → Leads n (begun v) ms b → Begins f b → Stands f n v b
-  stands-any feeds ms b leads begun_ = stands-leads f n v feeds (begun v) ms b begun_ stands-begun leads
+  pub stands-any : AreFeeds f → (ms : List ScheduleState) (b : ScheduleState) → Leads n (new_schedule v) ms b → Begins f b → Stands f n v b
+  stands-any feeds ms b leads begun_ = stands-leads f n v feeds (new_schedule v) ms b begun_ stands-begun leads
 
-pub banks-any : (f : SensorLists) (n : ℕ) (v : Store) (ms : List ScheduleState) (b : ScheduleState) → AreFeeds f → Leads n (begun v) ms b → Begins f b → b.banks ≡ state_after (at_rest v) (steps_of_first f n v b.applied)
+pub banks-any : (f : SensorLists) (n : ℕ) (v : Store) (ms : List ScheduleState) (b : ScheduleState) → AreFeeds f → Leads n (new_schedule v) ms b → Begins f b → b.banks ≡ state_after (at_rest v) (steps_of_first f n v b.applied)
 banks-any f n v ms b feeds leads begun_ = (stands-any f n v feeds ms b leads begun_).banks_are
 
 -- all commands' steps are those of the cycle
@@ -167,7 +167,7 @@ first-steps f n v j =
     let cs = all_commands f n in
     (_, sym (all-steps f n v) ∙ ap (steps_of v) (sym (take-append-drop j cs)) ∙ steps_of-more v (take j cs) (drop j cs))
 
-pub cut-any : (f : SensorLists) (n : ℕ) (v : Store) (ms : List ScheduleState) (b : ScheduleState) (w : Store) → AreFeeds f → Leads n (begun v) ms b → Begins f b → IsCut n b w
+pub cut-any : (f : SensorLists) (n : ℕ) (v : Store) (ms : List ScheduleState) (b : ScheduleState) (w : Store) → AreFeeds f → Leads n (new_schedule v) ms b → Begins f b → IsCut n b w
     → (w ≡ after v (steps_of_first f n v b.applied))
     ⊎ ((k : ℕ) × (done : List BankStep) × IsStop (steps_in f n v) k done × (all_calls (steps_of_first f n v b.applied) < k) × (k ≤ all_calls (steps_of_first f n v (b.applied + 1))) × (w ≡ after v done))
 cut-any f n v ms b w feeds leads begun_ (inl same) = inl (same ∙ ap (λ (s : State). s.store) (banks-any f n v ms b feeds leads begun_))
@@ -193,7 +193,7 @@ cut-any f n v ms b w feeds leads begun_ (inr (c, k, done, next, stop, is)) =
       is ∙ ap (λ (t : State). after t.store done) h.banks_are ∙ after-append v first done,
     )
 
-pub whole-any : (f : SensorLists) (n : ℕ) (v : Store) (ms : List ScheduleState) (b : ScheduleState) → AreFeeds f → Leads n (begun v) ms b → b.progress.given ≡ f → b.progress.closed ≡ horizon_of f → b.applied ≡ b.issued → b.banks.store ≡ after v (steps_in f n v)
+pub whole-any : (f : SensorLists) (n : ℕ) (v : Store) (ms : List ScheduleState) (b : ScheduleState) → AreFeeds f → Leads n (new_schedule v) ms b → b.progress.given ≡ f → b.progress.closed ≡ horizon_of f → b.applied ≡ b.issued → b.banks.store ≡ after v (steps_in f n v)
 whole-any f n v ms b feeds leads given closed applied =
     let begun_ : Begins f b = λ s. ([], ap (items_of s) (sym given) ∙ sym (append-nil (items_of s b.progress.given))) in
     let h = stands-any f n v feeds ms b leads begun_ in

@@ -13,7 +13,7 @@ use Rattle.edr_image.specs.declared.Kind.TheVariants as kind
 use Rattle.edr_image.specs.declared.Applied.TheVariants as applied
 use Rattle.edr_image.specs.Banks.{Store}
 use Rattle.edr_image.specs.Steps.{BankStep, Reply, after}
-use Rattle.edr_image.specs.Calls.{IsStop, acknowledged}
+use Rattle.edr_image.specs.Calls.{IsStop, count_acknowledged}
 use Rattle.edr_image.specs.Answered.{IsAnswered, IsLockedIn, IsLockedWith}
 use Rattle.edr_image.proofs.StopLaws.{stop-prefix, stops-has, acknowledged-done}
 use Rattle.edr_image.proofs.LockLaws.{AreOwn-any, lock-stays, done-follows}
@@ -157,10 +157,10 @@ cut_took f n k v done stop =
       prefix.0,
       ap (λ steps. after v steps) prefix.1,
       λ j a h.
-          let taken = taken_get (acknowledged k (replies_in f n v)) (acks_in f n v) j a h in
-          let fewer = steps_up (replies_in f n v) (suc j) (acknowledged k (replies_in f n v)) (omega (arith, taken.0)) in
-          let whole = length-append (flat_map (λ r. r.steps) (take (acknowledged k (replies_in f n v)) (replies_in f n v))) acked.0 in
-          let long : length done ≡ length (flat_map (λ r. r.steps) (take (acknowledged k (replies_in f n v)) (replies_in f n v)) ++ acked.0) = ap length acked.1 in
+          let taken = taken_get (count_acknowledged k (replies_in f n v)) (acks_in f n v) j a h in
+          let fewer = steps_up (replies_in f n v) (suc j) (count_acknowledged k (replies_in f n v)) (omega (arith, taken.0)) in
+          let whole = length-append (flat_map (λ r. r.steps) (take (count_acknowledged k (replies_in f n v)) (replies_in f n v))) acked.0 in
+          let long : length done ≡ length (flat_map (λ r. r.steps) (take (count_acknowledged k (replies_in f n v)) (replies_in f n v)) ++ acked.0) = ap length acked.1 in
           let short : length done ≡ min prefix.0 (length (steps_in f n v)) = ap length prefix.1 ∙ length-take prefix.0 (steps_in f n v) in
           (taken.1, omega (arith, fewer, whole, long, short)),
     )

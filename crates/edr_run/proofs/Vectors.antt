@@ -18,9 +18,9 @@ use Rattle.edr_image.specs.declared.BankView.{BankView}
 use Rattle.edr_image.specs.declared.BankView.TheVariants.{Void, Event, Damaged}
 use Rattle.edr_image.specs.declared.Applied.TheVariants as applied
 use Rattle.edr_image.specs.declared.Kind.TheVariants as kind
-use Rattle.edr_image.specs.Banks.{Store, events, damaged, lowest_void, least_unlocked}
+use Rattle.edr_image.specs.Banks.{Store, events, damaged_banks, lowest_void, least_unlocked}
 use Rattle.edr_image.specs.Steps.{reply_to}
-use Rattle.edr_image.specs.Calls.{stops, acknowledged}
+use Rattle.edr_image.specs.Calls.{stops, count_acknowledged}
 use Rattle.edr_spell.specs.declared.CycleInput.{CycleInput}
 use Rattle.edr_image.specs.Reports.{Report, StartStopped, Ran}
 use Rattle.edr_run.specs.Cycle.{ends, run_ends, steps_in, acks_in, acks_before, outcomes}
@@ -83,5 +83,5 @@ deployment-report = refl
 -- a stop in call 7, in the Done: its Take and its Lock were acknowledged, and the record has no crash part
 deployment-cut : map {B = Report × List Bool} (λ e. (e.report, map is_done e.store.banks)) (ends (record { start_stop = 0; feeds = deployment; stop = 7 }) fresh 6) ≡
     (Ran 7 (Some 7) (record { tick = 2; kind = kind.Take; applied = applied.Kept 1 } ∷ record { tick = 2; kind = kind.Lock; applied = applied.Locked 1 } ∷ []), false ∷ false ∷ []) ∷ []
-unfolding ends run_ends steps_in acks_in acks_before acknowledged stops issues_of chain_from candidate_at end_of is_end is_time_zero is_triggered first_tick swing largest_change greatest delta_v sample_at reply_to lowest_void least_unlocked events
+unfolding ends run_ends steps_in acks_in acks_before count_acknowledged stops issues_of chain_from candidate_at end_of is_end is_time_zero is_triggered first_tick swing largest_change greatest delta_v sample_at reply_to lowest_void least_unlocked events
 deployment-cut = refl

@@ -10,7 +10,7 @@ use Rattle.edr_image.specs.declared.Ack.{Ack}
 use Rattle.edr_image.specs.Reports.{Report, StartStopped, Ran}
 use Rattle.edr_image.specs.Banks.{Store}
 use Rattle.edr_image.specs.Steps.{BankStep, Reply, replies, at_rest, after}
-use Rattle.edr_image.specs.Calls.{all_calls, stops, IsStop, acknowledged}
+use Rattle.edr_image.specs.Calls.{all_calls, stops, IsStop, count_acknowledged}
 use Rattle.edr_spell.specs.declared.CycleInput.{CycleInput}
 
 -- ---- what is issued, and the replies
@@ -41,7 +41,7 @@ acks_in f n v = map (λ p. ack_of p.0 p.1) (zip (issues_in f n) (replies_in f n 
 
 -- those before the one in which call k falls
 unfoldable pub acks_before : SensorLists → ℕ → Store → ℕ → List Ack
-acks_before f n v k = take (acknowledged k (replies_in f n v)) (acks_in f n v)
+acks_before f n v k = take (count_acknowledged k (replies_in f n v)) (acks_in f n v)
 
 -- ---- the ends of a cycle
 

@@ -21,8 +21,8 @@ pub record ScheduleState : Type 0 where
   pub banks : State
 
 -- nothing was given, closed, issued or applied
-abbrev pub begun : Store → ScheduleState
-begun v = record { progress = record { given = no_items; closed = 0 }; issued = 0; applied = 0; banks = at_rest v }
+abbrev pub new_schedule : Store → ScheduleState
+new_schedule v = record { progress = record { given = no_items; closed = 0 }; issued = 0; applied = 0; banks = at_rest v }
 
 -- the commands that cycle n has issued
 abbrev pub issued_at : ℕ → ScheduleState → List Command
@@ -75,14 +75,14 @@ steps_of_first f n v j = steps_of v (take j (all_commands f n))
 pub record HasReached (f : SensorLists) (n : ℕ) (v : Store) (b : ScheduleState) : Type 0 where
   pub feeds : AreFeeds f
   pub over : List ScheduleState
-  pub leads : Leads n (begun v) over b
+  pub leads : Leads n (new_schedule v) over b
   pub begins : Begins f b
 
 -- they lead to b, where all is given and closed and every issued command applied
 pub record HasFinished (f : SensorLists) (n : ℕ) (v : Store) (b : ScheduleState) : Type 0 where
   pub feeds : AreFeeds f
   pub over : List ScheduleState
-  pub leads : Leads n (begun v) over b
+  pub leads : Leads n (new_schedule v) over b
   pub is_over : IsOver f b.progress
   pub all_applied : b.applied ≡ b.issued
 

@@ -19,7 +19,7 @@ use Rattle.edr_spell.specs.declared.TraceRefused.{TraceRefused}
 use Rattle.edr_spell.specs.Rows.{row_of, AreRows}
 use Rattle.edr_spell.specs.Samples.{Sample, row_for, is_of, items_given, feeds_given}
 use Rattle.edr_spell.specs.Spell.{stopped_cycle, whole_cycle, SpellsCycle, SpellCycles, Spell}
-use Rattle.edr_spell.specs.Fault.{opened, open_after, item_fault, fault_in, fault_of, feeds_after, fault_at, fault_at_end, AreFaultless, HasFault, FirstFault}
+use Rattle.edr_spell.specs.Fault.{open_next, open_after, item_fault, fault_in, fault_of, feeds_after, fault_at, fault_at_end, AreFaultless, HasFault, FirstFault}
 use Rattle.edr_spell.specs.Steps.{cycles_next}
 use Rattle.edr_spell.proofs.FeedsLemmas.{items_given-append, items_of-given, IsFeedAfter-within}
 use Rattle.edr_spell.proofs.CsvLemmas.{records-are, same_records}
@@ -28,22 +28,22 @@ use Rattle.edr_spell.proofs.StandLemmas.{are_rows-push, Stands, feeds_in, RightF
 -- the cycles that the rows end, one after the other
 abbrev cycles_from : Option (List Sample) → List Row → List CycleInput
 cycles_from o [] = []
-cycles_from o (r ∷ rows) = cycles_next (feeds_in o) r ++ cycles_from (opened o r) rows
+cycles_from o (r ∷ rows) = cycles_next (feeds_in o) r ++ cycles_from (open_next o r) rows
 
-cycles_from-append : (o : Option (List Sample)) (a b : List Row) → cycles_from o (a ++ b) ≡ cycles_from o a ++ cycles_from (fold opened o a) b
+cycles_from-append : (o : Option (List Sample)) (a b : List Row) → cycles_from o (a ++ b) ≡ cycles_from o a ++ cycles_from (fold open_next o a) b
 cycles_from-append o [] b = refl
-cycles_from-append o (r ∷ a) b = ap (λ (x : List CycleInput). cycles_next (feeds_in o) r ++ x) (cycles_from-append (opened o r) a b) ∙ sym (append_assoc (cycles_next (feeds_in o) r) (cycles_from (opened o r) a) (cycles_from (fold opened o (r ∷ a)) b))
+cycles_from-append o (r ∷ a) b = ap (λ (x : List CycleInput). cycles_next (feeds_in o) r ++ x) (cycles_from-append (open_next o r) a b) ∙ sym (append_assoc (cycles_next (feeds_in o) r) (cycles_from (open_next o r) a) (cycles_from (fold open_next o (r ∷ a)) b))
 
 -- rows that are right lead from one open cycle to another, and end these cycles
 record Ran (o : Option (List Sample)) (rows : List Row) (o2 : Option (List Sample)) (cs : List CycleInput) : Type 0 where
   right : RightFrom o rows
-  to : fold opened o rows ≡ o2
+  to : fold open_next o rows ≡ o2
   gives : cycles_from o rows ≡ cs
 
 ran-append : (o o2 o3 : Option (List Sample)) (a b : List Row) (cs ds : List CycleInput) → Ran o a o2 cs → Ran o2 b o3 ds → Ran o (a ++ b) o3 (cs ++ ds)
 ran-append o o2 o3 a b cs ds h k = record {
   right = right-append o a b h.right (subst (λ (x : Option (List Sample)). RightFrom x b) (sym h.to) k.right);
-  to = fold-append o a b ∙ ap (λ (x : Option (List Sample)). fold opened x b) h.to ∙ k.to;
+  to = fold-append o a b ∙ ap (λ (x : Option (List Sample)). fold open_next x b) h.to ∙ k.to;
   gives = cycles_from-append o a b ∙ ap₂ (λ (x y : List CycleInput). x ++ y) h.gives (ap (λ (x : Option (List Sample)). cycles_from x b) h.to ∙ k.gives);
 }
 
@@ -148,10 +148,10 @@ fault-not records rows cs t meant spelled h =
     let k = split-rows h.front h.rest h.before rows h.meant (rw h.whole at meant) in
     by h.rest k.0 k.1 k.2 h.here (faultless-right rows ran.right) ran.to
   where
-    by : (rest : List (List (List ℕ))) (after : List Row) → rows ≡ h.before ++ after → AreRows rest after → fault_at h.before rest ≡ Some t.fault → AreFaultless rows → fold opened None rows ≡ None → ⊥
+    by : (rest : List (List (List ℕ))) (after : List Row) → rows ≡ h.before ++ after → AreRows rest after → fault_at h.before rest ≡ Some t.fault → AreFaultless rows → fold open_next None rows ≡ None → ⊥
     by [] [] e m here right shut =
         let same : rows ≡ h.before = e ∙ append-nil h.before in
-        let none : feeds_after h.before ≡ None = ap feeds_in (ap (λ (x : List Row). fold opened None x) (sym same) ∙ shut) in
+        let none : feeds_after h.before ≡ None = ap feeds_in (ap (λ (x : List Row). fold open_next None x) (sym same) ∙ shut) in
         let no : fault_at_end (feeds_after h.before) ≡ None = ap fault_at_end none in
         absurd (cc (no, here))
     by [] (q ∷ after) e m here right shut = cc m
@@ -240,18 +240,18 @@ wrong-here front rest rows cs o fault meant stands here = inr (
 walk : (left front : List (List (List ℕ))) (rows : List Row) (cs : List CycleInput) (o : Option (List Sample)) → AreRows front rows → Stands rows cs o → Either (front ++ left)
 walk [] front rows cs None meant stands = inl (rows, cs, subst (λ (x : List (List (List ℕ))). AreRows x rows) (sym (append-nil front)) meant, stands-spelled rows cs None stands refl)
 walk [] front rows cs (Some xs) meant stands = wrong-here front [] rows cs (Some xs) f.Unended meant stands (ap (λ (x : Option (List Sample)). fault_at_end (feeds_in x)) stands.stands)
-walk (r ∷ left) front rows cs o meant stands = by (row_of r) refl (λ (q : Row). walk left (front ++ r ∷ []) (rows ++ q ∷ []) (cs ++ cycles_next (feeds_in o) q) (opened o q))
+walk (r ∷ left) front rows cs o meant stands = by (row_of r) refl (λ (q : Row). walk left (front ++ r ∷ []) (rows ++ q ∷ []) (cs ++ cycles_next (feeds_in o) q) (open_next o q))
   where
     kept : feeds_after rows ≡ feeds_in o
     kept = ap feeds_in stands.stands
 
     on : (q : Row) → row_of r ≡ Ok q → (p : Option TraceFault) → fault_in (feeds_in o) q ≡ p
-        → (AreRows (front ++ r ∷ []) (rows ++ q ∷ []) → Stands (rows ++ q ∷ []) (cs ++ cycles_next (feeds_in o) q) (opened o q) → Either ((front ++ r ∷ []) ++ left)) → Either (front ++ r ∷ left)
+        → (AreRows (front ++ r ∷ []) (rows ++ q ∷ []) → Stands (rows ++ q ∷ []) (cs ++ cycles_next (feeds_in o) q) (open_next o q) → Either ((front ++ r ∷ []) ++ left)) → Either (front ++ r ∷ left)
     on q e None p go = subst (λ (x : List (List (List ℕ))). Either x) (append_assoc front (r ∷ []) left) (go (are_rows-push front rows r q meant e) (stands-next rows cs o q stands p))
     on q e (Some fault) p go = wrong-here front (r ∷ left) rows cs o fault meant stands (ap₂ fault_of kept e ∙ p)
 
     by : (x : Result Row TraceFault) → row_of r ≡ x
-        → ((q : Row) → AreRows (front ++ r ∷ []) (rows ++ q ∷ []) → Stands (rows ++ q ∷ []) (cs ++ cycles_next (feeds_in o) q) (opened o q) → Either ((front ++ r ∷ []) ++ left)) → Either (front ++ r ∷ left)
+        → ((q : Row) → AreRows (front ++ r ∷ []) (rows ++ q ∷ []) → Stands (rows ++ q ∷ []) (cs ++ cycles_next (feeds_in o) q) (open_next o q) → Either ((front ++ r ∷ []) ++ left)) → Either (front ++ r ∷ left)
     by (Err fault) e go = wrong-here front (r ∷ left) rows cs o fault meant stands (ap₂ fault_of kept e)
     by (Ok q) e go = on q e (fault_in (feeds_in o) q) refl (go q)
 

@@ -13,7 +13,7 @@ use Rattle.edr_spell.specs.declared.TraceFault.{TraceFault}
 use Rattle.edr_spell.specs.Rows.{row_of, AreRows}
 use Rattle.edr_spell.specs.Samples.{Sample, row_for, feeds_given}
 use Rattle.edr_spell.specs.Spell.{stopped_cycle, whole_cycle, SpellsCycle, SpellCycles}
-use Rattle.edr_spell.specs.Fault.{opened, open_after, fault_in, AreFaultless}
+use Rattle.edr_spell.specs.Fault.{open_next, open_after, fault_in, AreFaultless}
 use Rattle.edr_spell.specs.Steps.{feeds_next, cycles_next}
 use Rattle.edr_spell.proofs.FeedsLemmas.{feeds_given-nil, feeds_given-push, AreFeeds-push}
 
@@ -26,7 +26,7 @@ are_rows-push records rows r q h e =
 abbrev pub feeds_in : Option (List Sample) → Option SensorLists
 feeds_in o = option_map feeds_given o
 
-pub feeds-next : (o : Option (List Sample)) (r : Row) → feeds_in (opened o r) ≡ feeds_next (feeds_in o) r
+pub feeds-next : (o : Option (List Sample)) (r : Row) → feeds_in (open_next o r) ≡ feeds_next (feeds_in o) r
 feeds-next o (row.On zero) = ap Some feeds_given-nil
 feeds-next o (row.On (suc k)) = refl
 feeds-next None (row.Sample s x) = refl
@@ -36,19 +36,19 @@ feeds-next o (row.Cut k) = refl
 -- each row is right, from where the front leaves the trace
 abbrev pub RightFrom : Option (List Sample) → List Row → Type 0
 RightFrom o [] = Unit {0}
-RightFrom o (r ∷ rows) = (fault_in (feeds_in o) r ≡ None) × RightFrom (opened o r) rows
+RightFrom o (r ∷ rows) = (fault_in (feeds_in o) r ≡ None) × RightFrom (open_next o r) rows
 
-pub fold-append : (o : Option (List Sample)) (a b : List Row) → fold opened o (a ++ b) ≡ fold opened (fold opened o a) b
+pub fold-append : (o : Option (List Sample)) (a b : List Row) → fold open_next o (a ++ b) ≡ fold open_next (fold open_next o a) b
 fold-append o [] b = refl
-fold-append o (r ∷ a) b = fold-append (opened o r) a b
+fold-append o (r ∷ a) b = fold-append (open_next o r) a b
 
-pub right-append : (o : Option (List Sample)) (a b : List Row) → RightFrom o a → RightFrom (fold opened o a) b → RightFrom o (a ++ b)
+pub right-append : (o : Option (List Sample)) (a b : List Row) → RightFrom o a → RightFrom (fold open_next o a) b → RightFrom o (a ++ b)
 right-append o [] b h k = k
-right-append o (r ∷ a) b h k = (h.0, right-append (opened o r) a b h.1 k)
+right-append o (r ∷ a) b h k = (h.0, right-append (open_next o r) a b h.1 k)
 
-right-at : (o : Option (List Sample)) (before : List Row) (r : Row) (after : List Row) → RightFrom o (before ++ r ∷ after) → fault_in (feeds_in (fold opened o before)) r ≡ None
+right-at : (o : Option (List Sample)) (before : List Row) (r : Row) (after : List Row) → RightFrom o (before ++ r ∷ after) → fault_in (feeds_in (fold open_next o before)) r ≡ None
 right-at o [] r after h = h.0
-right-at o (q ∷ before) r after h = right-at (opened o q) before r after h.1
+right-at o (q ∷ before) r after h = right-at (open_next o q) before r after h.1
 
 pub faultless-right : (rows : List Row) → RightFrom None rows → AreFaultless rows
 unfolding open_after
@@ -82,18 +82,18 @@ stands-none = record { ended = []; tail = []; whole = refl; spelled = refl; left
 -- what of the next row is the same in each case
 record Next (rows : List Row) (o : Option (List Sample)) (r : Row) : Type 0 where
   right : RightFrom None (rows ++ r ∷ [])
-  stands : open_after (rows ++ r ∷ []) ≡ opened o r
+  stands : open_after (rows ++ r ∷ []) ≡ open_next o r
 
 next-row : (rows : List Row) (cycles : List CycleInput) (o : Option (List Sample)) (r : Row) → Stands rows cycles o → fault_in (feeds_in o) r ≡ None → Next rows o r
 unfolding open_after
 next-row rows cycles o r h e = record {
   right = right-append None rows (r ∷ []) h.right (subst (λ (q : Option (List Sample)). RightFrom q (r ∷ [])) (sym h.stands) (e, tt));
-  stands = fold-append None rows (r ∷ []) ∙ ap (λ (q : Option (List Sample)). opened q r) h.stands;
+  stands = fold-append None rows (r ∷ []) ∙ ap (λ (q : Option (List Sample)). open_next q r) h.stands;
 }
 
 -- one row more, that is right
 pub stands-next : (rows : List Row) (cycles : List CycleInput) (o : Option (List Sample)) (r : Row)
-    → Stands rows cycles o → fault_in (feeds_in o) r ≡ None → Stands (rows ++ r ∷ []) (cycles ++ cycles_next (feeds_in o) r) (opened o r)
+    → Stands rows cycles o → fault_in (feeds_in o) r ≡ None → Stands (rows ++ r ∷ []) (cycles ++ cycles_next (feeds_in o) r) (open_next o r)
 unfolding fault_in
 stands-next rows cycles None (row.On zero) h e =
     let n = next-row rows cycles None (row.On zero) h e in

@@ -18,16 +18,16 @@ use Rattle.edr_spell.specs.Spell.{RecordsOf}
 -- ---- the open cycle
 
 -- the sensor rows of the cycle that is open, one row later: `on,0,` opens one, a stopped start and a cut close it
-abbrev pub opened : Option (List Sample) → Row → Option (List Sample)
-opened open_rows (row.On zero) = Some []
-opened open_rows (row.On (suc k)) = None
-opened None (row.Sample s x) = None
-opened (Some xs) (row.Sample s x) = Some (xs ++ record { sensor = s; item = x } ∷ [])
-opened open_rows (row.Cut k) = None
+abbrev pub open_next : Option (List Sample) → Row → Option (List Sample)
+open_next open_rows (row.On zero) = Some []
+open_next open_rows (row.On (suc k)) = None
+open_next None (row.Sample s x) = None
+open_next (Some xs) (row.Sample s x) = Some (xs ++ record { sensor = s; item = x } ∷ [])
+open_next open_rows (row.Cut k) = None
 
 -- the sensor rows of the cycle that is open after these rows, if one is
 unfoldable pub open_after : List Row → Option (List Sample)
-open_after rows = fold opened None rows
+open_after rows = fold open_next None rows
 
 -- ---- what one row has wrong
 

@@ -32,15 +32,15 @@ unfoldable pub natural_in : List ℕ → Option ℕ
 natural_in bs = if is_numeral bs then Some (value_of bs) else None
 
 -- `-` stands before no number but those from 1 on
-abbrev pub negated : Option ℕ → Option ℤ
-negated None = None
-negated (Some zero) = None
-negated (Some (suc n)) = Some (negsuc n)
+abbrev pub negative_of : Option ℕ → Option ℤ
+negative_of None = None
+negative_of (Some zero) = None
+negative_of (Some (suc n)) = Some (negsuc n)
 
 -- the whole number that the bytes spell, if they spell one: a natural number, or `-` before one other than 0
 unfoldable pub integer_in : List ℕ → Option ℤ
 integer_in [] = None
-integer_in (b ∷ bs) = if b == 45 then negated (natural_in bs) else option_map pos (natural_in (b ∷ bs))
+integer_in (b ∷ bs) = if b == 45 then negative_of (natural_in bs) else option_map pos (natural_in (b ∷ bs))
 
 -- the one spelling of a natural number: its digits in base 10
 abbrev pub numeral : ℕ → List ℕ
@@ -63,5 +63,5 @@ within_i32 None = Err NotANumber
 within_i32 (Some z) = if int_le (negsuc 2147483647) z && int_le z (pos 2147483647) then Ok z else Err TooLarge
 
 -- the number, if it is below 2 ^ 64
-abbrev pub fitting : ℕ → Option ℕ
-fitting n = if nat_lt n (2 ^ 64) then Some n else None
+abbrev pub within_u64 : ℕ → Option ℕ
+within_u64 n = if nat_lt n (2 ^ 64) then Some n else None

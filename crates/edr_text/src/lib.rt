@@ -2,7 +2,7 @@
 #![tactic(auto)]
 
 ghost use Rattle.std.specs.Prelude.{◌≡◌, ◌↔◌, decimal, ℕ, ◌+◌, ◌-◌, ◌*◌, ◌^◌, ◌<◌, ◌≤◌, ℤ, pos, List, length, ◌++◌, Some, None, option_map, OnOk, OnErr};
-ghost use Rattle.edr_text.specs.Numbers.{natural_in, integer_in, negated, below, within_i32, fitting, numeral, signed_numeral, StartsAsNumeral};
+ghost use Rattle.edr_text.specs.Numbers.{natural_in, integer_in, negative_of, below, within_i32, within_u64, numeral, signed_numeral, StartsAsNumeral};
 ghost use Rattle.edr_text.specs.Lines.{line_of};
 
 use std::alloc::AllocError as OutOfMemory;
@@ -74,7 +74,7 @@ fn read_positive(digits: &[u8]) -> Result<i32, NumberRefused>
 
 // The `i32` that these digits spell behind a `-`.
 fn read_negative(digits: &[u8]) -> Result<i32, NumberRefused>
-    ensures { result ≡ within_i32 (negated (natural_in digits.now)) }
+    ensures { result ≡ within_i32 (negative_of (natural_in digits.now)) }
 {
     match read_u64(digits) {
         Ok(0) => Err(NumberRefused::NotANumber),
@@ -119,7 +119,7 @@ fn read_long(bytes: &[u8]) -> Result<u64, NumberRefused>
 
 // The number with one more digit, if it is below 2 ^ 64.
 fn with_digit(value: Option<u64>, digit: u8) -> Option<u64>
-    ensures { (n : ℕ) → value ≡ fitting n → result ≡ fitting (10 * n + digit) }
+    ensures { (n : ℕ) → value ≡ within_u64 n → result ≡ within_u64 (10 * n + digit) }
 {
     value?.checked_mul(10)?.checked_add(u64::from(digit))
 }

@@ -5,7 +5,7 @@ use Rattle.csv.specs.declared.parser.State.TheVariants as st
 use Rattle.edr_trace.specs.declared.ReadRefused.{ReadRefused}
 use Rattle.edr_trace.specs.declared.reading.Way.{Way}
 use Rattle.edr_trace.specs.declared.steps.Trace.{Trace}
-use Rattle.edr_trace.specs.SoFar.{SoFar, unread}
+use Rattle.edr_trace.specs.SoFar.{SoFar, unread_text}
 use Rattle.edr_trace.specs.Told.{TellsRefusal}
 use Rattle.edr_trace.specs.Given.{AreReadBut, AreReadBy}
 
@@ -30,7 +30,7 @@ told-still before piece e h more = subst (λ (x : List ℕ). TellsRefusal x e) (
 
 -- what a call of take_plain says of the bytes in front
 abbrev pub Takes : List ℕ → Trace → ℕ → Trace → ℕ → Type 0
-Takes front old rows new rows' = (whole more : List ℕ) → SoFar whole st.StartRecord (unread rows (front ++ more)) old.cycles.items old.inside rows → SoFar whole st.StartRecord (unread rows' more) new.cycles.items new.inside rows'
+Takes front old rows new rows' = (whole more : List ℕ) → SoFar whole st.StartRecord (unread_text rows (front ++ more)) old.cycles.items old.inside rows → SoFar whole st.StartRecord (unread_text rows' more) new.cycles.items new.inside rows'
 
 -- the rows in front were taken
 pub rows-taken : (before bytes front left : List ℕ) (old new : Trace) (rows rows' : ℕ) → AreReadBut [] before old rows → bytes ≡ front ++ left → rows' + length left ≤ rows + length bytes → Takes front old rows new rows'
@@ -39,7 +39,7 @@ rows-taken before bytes front left old new rows rows' h parts count takes =
     let long = length-append before front in
     let whole = ap length parts ∙ length-append front left in (
       omega (arith, long, whole, count, h.0),
-      λ more. subst (λ (x : List ℕ). SoFar x st.StartRecord (unread rows' more) new.cycles.items new.inside rows') (sym (append_assoc before front more)) (takes (before ++ (front ++ more)) more (h.1 (front ++ more))),
+      λ more. subst (λ (x : List ℕ). SoFar x st.StartRecord (unread_text rows' more) new.cycles.items new.inside rows') (sym (append_assoc before front more)) (takes (before ++ (front ++ more)) more (h.1 (front ++ more))),
     )
 
 -- bytes are kept behind those that are left
@@ -48,8 +48,8 @@ bytes-kept before left piece trace rows h =
     let long = length-append before piece in
     let kept = length-append left piece in (
       omega (arith, long, kept, h.0),
-      λ more. subst (λ (x : List ℕ). SoFar x st.StartRecord (unread rows ((left ++ piece) ++ more)) trace.cycles.items trace.inside rows) (sym (append_assoc before piece more))
-          (subst (λ (x : List ℕ). SoFar (before ++ (piece ++ more)) st.StartRecord (unread rows x) trace.cycles.items trace.inside rows) (sym (append_assoc left piece more)) (h.1 (piece ++ more))),
+      λ more. subst (λ (x : List ℕ). SoFar x st.StartRecord (unread_text rows ((left ++ piece) ++ more)) trace.cycles.items trace.inside rows) (sym (append_assoc before piece more))
+          (subst (λ (x : List ℕ). SoFar (before ++ (piece ++ more)) st.StartRecord (unread_text rows x) trace.cycles.items trace.inside rows) (sym (append_assoc left piece more)) (h.1 (piece ++ more))),
     )
 
 -- the rows in front were taken, and what is left is kept
@@ -61,6 +61,6 @@ rest-kept before bytes front left old new rows rows' h parts count takes =
 
 -- a fault in these bytes is one of all, whatever follows
 pub told-behind : (before bytes : List ℕ) (trace : Trace) (rows : ℕ) (e : ReadRefused) → AreReadBut [] before trace rows
-    → ((whole more : List ℕ) → SoFar whole st.StartRecord (unread rows (bytes ++ more)) trace.cycles.items trace.inside rows → TellsRefusal whole e)
+    → ((whole more : List ℕ) → SoFar whole st.StartRecord (unread_text rows (bytes ++ more)) trace.cycles.items trace.inside rows → TellsRefusal whole e)
     → (more : List ℕ) → TellsRefusal ((before ++ bytes) ++ more) e
 told-behind before bytes trace rows e h told more = subst (λ (x : List ℕ). TellsRefusal x e) (sym (append_assoc before bytes more)) (told (before ++ (bytes ++ more)) more (h.1 (bytes ++ more)))

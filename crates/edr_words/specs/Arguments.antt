@@ -72,18 +72,18 @@ abbrev pub argument_rule : PlainText → Bool → Rule
 argument_rule name is_required = record (new_rule name) { required = is_required }
 
 -- it must be given
-abbrev pub wanted : Rule → Rule
-wanted r = record r { required = true }
+abbrev pub required_rule : Rule → Rule
+required_rule r = record r { required = true }
 
 -- a command without `--help`, all of whose words are arguments
 abbrev pub bare : PlainText → App
 bare name = on_top (λ s. record s { no_binary_name = true; disable_help_flag = true }) (new_app name)
 
 abbrev pub needs_two : PlainText → App
-needs_two name = with_rule (with_rule (bare name) (wanted first)) (wanted second)
+needs_two name = with_rule (with_rule (bare name) (required_rule first)) (required_rule second)
 
 abbrev pub may_have_one : PlainText → App
 may_have_one name = with_rule (bare name) first
 
 abbrev pub may_have_two : PlainText → App
-may_have_two name = with_rule (with_rule (bare name) (wanted first)) second
+may_have_two name = with_rule (with_rule (bare name) (required_rule first)) second

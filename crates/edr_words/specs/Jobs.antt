@@ -1,7 +1,7 @@
 -- Which words name which job.
 use Rattle.std.specs.Prelude.{ℕ, ◌≤◌, nat_le, ◌&&◌, if◌then◌else◌, Option, Some, None, option_map, option_and_then, List, [], ◌∷◌, bytes_eq, codes}
 use Rattle.std.specs.List.{list_all}
-use Rattle.edr_text.specs.Numbers.{fitting, natural_in}
+use Rattle.edr_text.specs.Numbers.{within_u64, natural_in}
 use Rattle.edr_image.specs.declared.Choice.{Choice}
 use Rattle.edr_image.specs.declared.Choice.TheVariants.{Keep, Overwrite}
 use Rattle.edr_image.specs.declared.places.TheConstants.{FEWEST_BANKS, MOST_BANKS}
@@ -28,16 +28,16 @@ choice_in word =
     else None
 
 -- a number from `least` to `most`
-abbrev pub bounded : ℕ → ℕ → Option ℕ → Option ℕ
-bounded least most None = None
-bounded least most (Some n) = if nat_le least n && nat_le n most then Some n else None
+abbrev pub bounded_number : ℕ → ℕ → Option ℕ → Option ℕ
+bounded_number least most None = None
+bounded_number least most (Some n) = if nat_le least n && nat_le n most then Some n else None
 
 unfoldable pub within : ℕ → ℕ → PlainText → Option ℕ
-within least most word = bounded least most (natural_in word)
+within least most word = bounded_number least most (natural_in word)
 
 -- the number of a trace, which is below 2 ^ 64
 unfoldable pub number_in : PlainText → Option ℕ
-number_in word = option_and_then fitting (natural_in word)
+number_in word = option_and_then within_u64 (natural_in word)
 
 -- ---- the arguments of the words
 

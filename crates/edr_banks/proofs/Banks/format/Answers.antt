@@ -3,7 +3,7 @@ use Rattle.std.proofs.Common.{refl, arith, length, ◌≤◌}
 use Rattle.edr_device.proofs.SettlingLemmas.{elapses_more}
 use Rattle.edr_image.specs.declared.Header.{Header}
 use Rattle.edr_image.specs.Image.{image_size, new_image}
-use Rattle.edr_banks.specs.Formatting.{IsPartlyFormatted, formatted}
+use Rattle.edr_banks.specs.Formatting.{IsPartlyFormatted, formatted_image}
 use Rattle.edr_banks.specs.Laying.{IsPartlyOver}
 use Rattle.edr_banks.proofs.KeptNewLemmas.{kept_part}
 use Rattle.edr_banks.proofs.NewImageLemmas.{new_image_whole}
@@ -20,7 +20,7 @@ returns-clause-done g c =
     let h : Header = record { banks = c.args.banks; choice = c.args.choice } in
     room_done c.lay.result c.lay.ensures.room c.lay.ensures.done (λ room done. λ bytes quiet.
     let wide : image_size c.args.banks ≤ length bytes = omega (arith, g.met.N.Nvm.told_size start bytes quiet.0, room) in
-    (formatted h bytes, done bytes quiet, formatted_new h bytes (formatted h bytes) c.requires.from c.requires.to wide refl))
+    (formatted_image h bytes, done bytes quiet, formatted_new h bytes (formatted_image h bytes) c.requires.from c.requires.to wide refl))
 
 pub returns-clause-any_moment : goal.returns-clause-any_moment
 returns-clause-any_moment g c = λ bytes quiet.

@@ -1,7 +1,7 @@
 use Rattle.std.proofs.Common.{arith, ap, sym, subst, refl, ◌∙◌, ◌+◌, false}
 use Rattle.edr_definitions.specs.Schedule.{Close, after_step}
 use Rattle.edr_record.specs.Parts.{PrePart}
-use Rattle.edr_core.specs.Candidate.{begun}
+use Rattle.edr_core.specs.Candidate.{begun_candidate}
 use Rattle.edr_core.specs.SplitContents.{SplitContents}
 use Rattle.edr_core.specs.SplitFields.{split_contents}
 use Rattle.edr_core.specs.SplitStandsFor.{SplitCoreStandsFor}
@@ -31,7 +31,7 @@ pre_of-requires-clause-key c =
 pub issue-requires : goal.issue-requires
 issue-requires c =
     let i = c.self.invariant in
-    asked-tell (split_contents c.self.inside) i.history i.stands c.in-Some.ask c.in-Some.is c.in-Ok.parts c.in-Ok.ensures.all c.begin.result (c.begin.ensures ∙ ap (λ (x : PrePart). begun x c.in-Some.ask.row) c.pre_of.ensures)
+    asked-tell (split_contents c.self.inside) i.history i.stands c.in-Some.ask c.in-Some.is c.in-Ok.parts c.in-Ok.ensures.all c.begin.result (c.begin.ensures ∙ ap (λ (x : PrePart). begun_candidate x c.in-Some.ask.row) c.pre_of.ensures)
 
 pub invariant_of-self : goal.invariant_of-self
 invariant_of-self c =
@@ -39,7 +39,7 @@ invariant_of-self c =
     record {
       history = record i.history { past = after_step i.history.past Close; asking = false };
       stands = asked-stands (split_contents c.self.inside) i.history i.stands c.in-Some.ask c.in-Some.is c.in-Ok.parts c.in-Ok.ensures.all
-          c.begin.result c.issue.new.candidate c.issue.new.link c.issue.new.issued (c.begin.ensures ∙ ap (λ (x : PrePart). begun x c.in-Some.ask.row) c.pre_of.ensures) (c.issue.ensures.candidate, c.issue.ensures.link, c.issue.ensures.issued);
+          c.begin.result c.issue.new.candidate c.issue.new.link c.issue.new.issued (c.begin.ensures ∙ ap (λ (x : PrePart). begun_candidate x c.in-Some.ask.row) c.pre_of.ensures) (c.issue.ensures.candidate, c.issue.ensures.link, c.issue.ensures.issued);
       asking_is = refl;
     }
 
@@ -47,19 +47,19 @@ pub returns-clause-commands : goal.returns-clause-commands
 returns-clause-commands c = λ w slots before are.
     let h : SplitCoreStandsFor (split_contents c.self.inside) w = subst (λ (v : SplitContents). SplitCoreStandsFor v w) (sym c.self.view_is) before in
     asked-commands (split_contents c.self.inside) w h c.in-Some.ask c.in-Some.is c.in-Ok.parts c.in-Ok.ensures.all
-    c.begin.result c.issue.new.candidate c.issue.new.link c.issue.new.issued (c.begin.ensures ∙ ap (λ (x : PrePart). begun x c.in-Some.ask.row) c.pre_of.ensures) (c.issue.ensures.candidate, c.issue.ensures.link, c.issue.ensures.issued) slots are
+    c.begin.result c.issue.new.candidate c.issue.new.link c.issue.new.issued (c.begin.ensures ∙ ap (λ (x : PrePart). begun_candidate x c.in-Some.ask.row) c.pre_of.ensures) (c.issue.ensures.candidate, c.issue.ensures.link, c.issue.ensures.issued) slots are
 
 pub returns-clause-ticks : goal.returns-clause-ticks
 returns-clause-ticks c = λ w slots before are.
     let h : SplitCoreStandsFor (split_contents c.self.inside) w = subst (λ (v : SplitContents). SplitCoreStandsFor v w) (sym c.self.view_is) before in
     asked-ticks (split_contents c.self.inside) w h c.in-Some.ask c.in-Some.is c.in-Ok.parts c.in-Ok.ensures.all
-    c.begin.result c.issue.new.candidate c.issue.new.link c.issue.new.issued (c.begin.ensures ∙ ap (λ (x : PrePart). begun x c.in-Some.ask.row) c.pre_of.ensures) (c.issue.ensures.candidate, c.issue.ensures.link, c.issue.ensures.issued) slots are
+    c.begin.result c.issue.new.candidate c.issue.new.link c.issue.new.issued (c.begin.ensures ∙ ap (λ (x : PrePart). begun_candidate x c.in-Some.ask.row) c.pre_of.ensures) (c.issue.ensures.candidate, c.issue.ensures.link, c.issue.ensures.issued) slots are
 
 pub returns-clause-stands : goal.returns-clause-stands
 returns-clause-stands c = λ w before.
     let h : SplitCoreStandsFor (split_contents c.self.inside) w = subst (λ (v : SplitContents). SplitCoreStandsFor v w) (sym c.self.view_is) before in
     asked-stands (split_contents c.self.inside) w h c.in-Some.ask c.in-Some.is c.in-Ok.parts c.in-Ok.ensures.all
-    c.begin.result c.issue.new.candidate c.issue.new.link c.issue.new.issued (c.begin.ensures ∙ ap (λ (x : PrePart). begun x c.in-Some.ask.row) c.pre_of.ensures) (c.issue.ensures.candidate, c.issue.ensures.link, c.issue.ensures.issued)
+    c.begin.result c.issue.new.candidate c.issue.new.link c.issue.new.issued (c.begin.ensures ∙ ap (λ (x : PrePart). begun_candidate x c.in-Some.ask.row) c.pre_of.ensures) (c.issue.ensures.candidate, c.issue.ensures.link, c.issue.ensures.issued)
 
 pub returns-clause-answer : goal.returns-clause-answer
 returns-clause-answer c = λ w before.

@@ -3,7 +3,7 @@ use Rattle.std.specs.Prelude.{is_some}
 use Rattle.edr_core.specs.SplitHistory.{after_item}
 use Rattle.edr_core.specs.SplitContents.{SplitContents}
 use Rattle.edr_core.specs.SplitFields.{split_contents}
-use Rattle.edr_core.specs.SplitStandsFor.{merged, SplitCoreStandsFor}
+use Rattle.edr_core.specs.SplitStandsFor.{merge_progress, SplitCoreStandsFor}
 use Rattle.edr_core.proofs.GiveLemmas.{allowed-past, split-gives}
 use Rattle.edr_core.proofs.split.SplitCore.take.Goals as goal
 
@@ -15,8 +15,8 @@ invariant_of-self-2 c =
     record {
       history = after_item c.args.sensor c.args.item i.history;
       stands = split-gives (split_contents c.self.inside) i.history c.args.sensor c.args.item c.accept.new.self h
-          (allowed-past (split_contents c.self.inside) i.history c.args.sensor c.args.item h near ((c.in_ok-accept.ensures.allowed (merged i.history) h.merge_is).0 refl))
-          (c.in_ok-accept.ensures.ok (merged i.history) h.merge_is);
+          (allowed-past (split_contents c.self.inside) i.history c.args.sensor c.args.item h near ((c.in_ok-accept.ensures.allowed (merge_progress i.history) h.merge_is).0 refl))
+          (c.in_ok-accept.ensures.ok (merge_progress i.history) h.merge_is);
       asking_is = i.asking_is;
     }
 
@@ -26,5 +26,5 @@ returns-clause-ok c = λ w before.
     let near : is_some c.self.inside.ask ≡ true → c.args.item.moment ≤ c.self.inside.closed + 1000 = subst (λ (v : SplitContents). is_some v.ask ≡ true → c.args.item.moment ≤ v.closed + 1000) (sym c.self.view_is) c.requires in
     let h : SplitCoreStandsFor (split_contents c.self.inside) w = subst (λ (v : SplitContents). SplitCoreStandsFor v w) (sym c.self.view_is) before in
     split-gives (split_contents c.self.inside) w c.args.sensor c.args.item c.accept.new.self h
-    (allowed-past (split_contents c.self.inside) w c.args.sensor c.args.item h near ((c.in_ok-accept.ensures.allowed (merged w) h.merge_is).0 refl))
-    (c.in_ok-accept.ensures.ok (merged w) h.merge_is)
+    (allowed-past (split_contents c.self.inside) w c.args.sensor c.args.item h near ((c.in_ok-accept.ensures.allowed (merge_progress w) h.merge_is).0 refl))
+    (c.in_ok-accept.ensures.ok (merge_progress w) h.merge_is)

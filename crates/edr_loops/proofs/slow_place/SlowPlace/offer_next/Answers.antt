@@ -19,8 +19,11 @@ returns-in-Err-Ungranted-clause-came g c =
     (refl, (_, take_more c.args.items.now c.args.self.now.next _ left, ungranted-past _ _ c.offer.new.self c.in-Err-Ungranted.field-0 _ c.in-Err-Ungranted.field-0-is c.in-Err-Ungranted.ensures.why))
 
 pub returns-in-Err-Item-clause-came : goal.returns-in-Err-Item-clause-came
-returns-in-Err-Item-clause-came g c = (refl, λ fed.
-    let r = c.requires in
-    let left : c.args.self.now.next < length c.args.items.now = omega (arith, c.if-self-items.false) in
-    absurd (not-slow_item _ _ c.offer.new.self c.in-Err-Item.field-0 c.in-Err-Item.field-0-0
-        (accepted-next c.args.sensor _ _ c.args.items.now c.args.self.now.next _ fed r.sensor (sym r.stands.mark) left) c.in-Err-Item.field-0-is c.in-Err-Item.ensures.why))
+returns-in-Err-Item-clause-came g c = (
+  refl,
+  λ fed.
+      let r = c.requires in
+      let left : c.args.self.now.next < length c.args.items.now = omega (arith, c.if-self-items.false) in
+      absurd (not-slow_item _ _ c.offer.new.self c.in-Err-Item.field-0 c.in-Err-Item.field-0-0
+      (accepted-next c.args.sensor _ _ c.args.items.now c.args.self.now.next _ fed r.sensor (sym r.stands.mark) left) c.in-Err-Item.field-0-is c.in-Err-Item.ensures.why),
+)

@@ -8,7 +8,7 @@ returns-then-status-clause-ends g c =
     let f = c.args.feeds.now in
     let stand : Stand = record { fast = c.round-fast.new.self; slow = c.round-slow.new.self; watch = c.read-status.new.self } in
     elim c.then-status.branch [
-      then-status-via-then-status w ↦ ended-stopped f stand _ c.read-status.ensures.seen w.if-status.true
+      | then-status-via-then-status w ↦ ended-stopped f stand _ c.read-status.ensures.seen w.if-status.true
       | then-status-via-else-status+then-status-eq2 w ↦ ended-gate f stand _ c.read-status.ensures.seen w.if-status-eq2.true
       | then-status-via-else-status+else-status-eq2+then-is_done w ↦
           ended-done f stand _ _ c.read-status.ensures.seen c.horizon-horizon.ensures

@@ -1,6 +1,6 @@
 use Rattle.std.proofs.Common.{arith, ◌∙◌, sym, ap, ℕ, ◌<◌, List, Option, [], ◌∷◌, ◌++◌, length, take}
 use Rattle.std.proofs.lemmas.List.{take_more, take_more_set, length-set}
-use Rattle.edr_drawing.proofs.before.widened.Goals as goal
+use Rattle.edr_drawing.proofs.before.wide_slots.Goals as goal
 
 pub loop-k-preserved : goal.loop-k-preserved
 loop-k-preserved c =
