@@ -83,6 +83,20 @@ status_of OutOfMemory = status.OutOfMemory
 status_of TooLong = status.TooLong
 status_of (Old e) = status.OldImage
 
+-- its number
+abbrev pub number_of : Status → ℕ
+number_of status.Ok = 0
+number_of status.Usage = 2
+number_of status.Trace = 3
+number_of status.ReadFault = 4
+number_of status.WriteFault = 5
+number_of status.StoreFault = 6
+number_of status.Image = 7
+number_of status.Spent = 8
+number_of status.OutOfMemory = 9
+number_of status.TooLong = 10
+number_of status.OldImage = 11
+
 -- ---- the fault of a call, from that of what it called
 
 -- a source was not taken whole

@@ -1,6 +1,6 @@
 //! The ways in which a call ends.
 ghost use Rattle.std.specs.Prelude.{◌≡◌};
-ghost use Rattle.edr_cli.specs.Status.{number_of};
+ghost use Rattle.edr_cli.specs.Faults.{number_of};
 
 /// How a call ends. All but `Ok` and `WriteFault` write the one line of their fault.
 #[derive(Clone, Copy, Debug, PartialEq, Eq)]
