@@ -19,7 +19,7 @@ use edr_core::{Closing, Core, Issued};
 use edr_device::{Failed, Nvm};
 use edr_items::Feeds;
 
-// Commits what a closed tick issues, if it issues anything.
+/// Commits what a closed tick issues, if it issues anything.
 pub(crate) fn commit_closed<N: Nvm>(
     banks: &mut Banks,
     nvm: &mut N,
@@ -78,37 +78,13 @@ fn give_on<N: Nvm>(
     }
 }
 
-/// Gives what is left of the feeds to the core of a cycle, and commits what it issues past the ticks that it has closed, up to the
-/// horizon or to a command that fails.
+/// Gives the items of the feeds to the core of a cycle, and commits what it issues, up to the horizon or to a command that
+/// fails.
 ///
 /// A sensor's next item is given when the core waits for that sensor, so none is refused. Where nothing is left of it, the
 /// horizon is closed.
-pub fn run_on<N: Nvm>(
-    mut core: Core,
-    feeds: &Feeds,
-    mut left: Left<'_>,
-    banks: &mut Banks,
-    nvm: &mut N,
-    log: &mut Log,
-) -> Result<(), Failed>
-    requires given { IsGiven feeds.now core.cycle core left }
-    requires feeds { AreFeeds feeds.now }
-    requires level { IsLevel feeds.now }
-    requires live { banks.old.ended ≡ false }
-    requires size { image_size banks.old.store.header.banks ≤ N.extent nvm.old }
-    requires room { room_for (horizon_of feeds.now)
-        ≤ log.old.spare + length (issues feeds.now core.cycle core.closed) }
-    ensures lent { Lent N.Nvm nvm.old nvm.new result }
-    ensures commits { CommitsOn N.Nvm (issues_past feeds.now core.cycle core.closed)
-        result banks.old banks.new log.old log.new nvm.old nvm.new }
-{
-    give_on(&mut core, feeds, &mut left, banks, nvm, log)
-}
-
-/// Gives the items of the feeds to the core of a cycle, and commits what it issues, up to the horizon or to a command that
-/// fails.
 pub(crate) fn run<N: Nvm>(
-    core: Core,
+    mut core: Core,
     feeds: &Feeds,
     banks: &mut Banks,
     nvm: &mut N,
@@ -123,6 +99,6 @@ pub(crate) fn run<N: Nvm>(
     ensures commits { CommitsOn N.Nvm (issues_in feeds.now core.cycle)
         result banks.old banks.new log.old log.new nvm.old nvm.new }
 {
-    let left = Left::all_of(feeds);
-    run_on(core, feeds, left, banks, nvm, log)
+    let mut left = Left::all_of(feeds);
+    give_on(&mut core, feeds, &mut left, banks, nvm, log)
 }

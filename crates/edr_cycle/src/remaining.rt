@@ -25,8 +25,8 @@ use edr_items::{Feeds, PerSensor, SLOW_SENSORS, Sensor};
 /// to the captures alone.
 #[derive(Drop)]
 pub struct Remaining<'a> {
-    pub left: Left<'a>,
-    pub captures: Captures,
+    left: Left<'a>,
+    captures: Captures,
 }
 
 impl<'a> Remaining<'a> {
