@@ -1,5 +1,5 @@
 -- What formatting leaves of an image, and what a crash inside it may leave.
-use Rattle.std.specs.Prelude.{◌≡◌, ◌⊎◌, ℕ, List, replicate, Some}
+use Rattle.std.specs.Prelude.{◌≡◌, ◌⊎◌, ℕ, List, replicate, Some, Result}
 use Rattle.edr_device.specs.Device.{IsQuiet}
 use Rattle.edr_device.specs.Lent.{At, LeftSince}
 use Rattle.edr_device.specs.declared.device.Nvm.{Ghosts}
@@ -8,7 +8,8 @@ use Rattle.edr_image.specs.declared.Header.{Header}
 use Rattle.edr_image.specs.declared.BankView.TheVariants.{Void}
 use Rattle.edr_image.specs.Image.{View, image_size, new_image, view_of}
 use Rattle.edr_image.specs.Kept.{IsKept}
-use Rattle.edr_banks.specs.Laying.{IsPartlyLaid, StandsPast, over}
+use Rattle.edr_banks.specs.declared.FormatFault.{FormatFault}
+use Rattle.edr_banks.specs.Laying.{IsPartlyLaid, LaysImage, SettlesIn, StandsPast, over}
 pub use Rattle.edr_banks.specs.Laying.{LacksMagic}
 
 -- the image of a header with void banks, and past it what stood there
@@ -40,3 +41,7 @@ new_header banks choice = record { banks = banks; choice = choice }
 abbrev pub LeavesKept : {D : Type 0} → Ghosts D → D → D → Type 0
 LeavesKept g old new =
     (bytes image : List ℕ) → At g IsQuiet old bytes → IsKept bytes → LeftSince g old new image → IsKept image ⊎ LacksMagic image
+
+-- a new image of this header is laid over the memory
+abbrev pub LaysNew : {T D : Type 0} → Ghosts D → Header → D → D → Result T FormatFault → Type 0
+LaysNew g h old new result = LaysImage g (image_size h.banks) (SettlesIn g (IsNew h) old new) (IsPartlyFormatted h) old new result

@@ -1,13 +1,14 @@
 -- What a laying leaves of an image, and what a crash inside it may leave.
-use Rattle.std.specs.Prelude.{◌≡◌, ◌≢◌, ◌⊎◌, ◌≤◌, ◌<◌, ℕ, Bool, true, List, ◌++◌, length, drop, slice_index, Option, Some, None, IsSome}
+use Rattle.std.specs.Prelude.{◌≡◌, ◌≢◌, ◌⊎◌, ◌≤◌, ◌<◌, ℕ, Bool, true, List, ◌++◌, length, drop, slice_index, Option, Some, None, IsSome, Result, Err, IfErr, OnOk}
 use Rattle.edr_device.specs.Device.{IsQuiet}
-use Rattle.edr_device.specs.Lent.{At, LeftSince, Meanwhile}
+use Rattle.edr_device.specs.Faults.{Rose}
+use Rattle.edr_device.specs.Lent.{At, GoesOn, LeavesMeanwhile, LeftSince, Meanwhile, OnlyRead, SettlesTo}
 use Rattle.edr_device.specs.Pieces.{SameBut}
 use Rattle.edr_device.specs.declared.device.Nvm as device
 use Rattle.edr_image.specs.Image.{image_size, not_magic}
 use Rattle.edr_image.specs.declared.places.TheConstants.{MOST_BANKS}
 use Rattle.edr_banks.specs.declared.FormatFault.{FormatFault}
-use Rattle.edr_banks.specs.declared.FormatFault.TheVariants.{Short, Formatted}
+use Rattle.edr_banks.specs.declared.FormatFault.TheVariants.{Short, Formatted, StoreFault}
 use Rattle.edr_banks.specs.declared.image.Image as laid
 
 -- ---- what is left of it
@@ -157,3 +158,26 @@ IsShortBy extent full e =
 abbrev pub HasRoomAndMagic : Option (List ℕ) → ℕ → ℕ → FormatFault → Type 0
 HasRoomAndMagic content extent full e =
     e ≡ Formatted → (full ≤ extent) × ((bytes : List ℕ) → content ≡ Some bytes → not_magic bytes ≡ None)
+
+-- ---- the outcome of laying an image, in one record
+
+-- Whatever comes of it, the memory goes on. Each refusal has its cause and changes nothing; nor does a fault where the magic stands.
+-- At Ok this is done; and a crash meanwhile or later leaves such an image of the bytes.
+pub record LaysImage {T D : Type 0} (g : device.Ghosts D) (full : ℕ) (Done : Type 0) (leaves : List ℕ → List ℕ → Type 0) (old new : D) (result : Result T FormatFault) : Type 0 where
+  pub lent : GoesOn g old new
+  pub later : g.clock old ≤ g.clock new
+  pub short : g.extent old < full → result ≡ Err (Short (g.extent old) full)
+  pub sizes : IfErr result (IsShortBy (g.extent old) full)
+  pub formatted : IfErr result (HasRoomAndMagic (g.content old) (g.extent old) full)
+  pub fault : IfErr result (λ e. e ≡ StoreFault → (full ≤ g.extent old) × Rose (g.faults old) (g.faults new))
+  pub not_formatted : OnOk result ((bytes : List ℕ) → g.content old ≡ Some bytes → LacksMagic bytes)
+  pub room : OnOk result (full ≤ g.extent old)
+  pub refused : IfErr result (λ e. e ≢ StoreFault → OnlyRead g old new)
+  pub magic_stays : (bytes : List ℕ) → g.content old ≡ Some bytes → not_magic bytes ≡ None → OnlyRead g old new
+  pub done : OnOk result Done
+  pub any_moment : LeavesMeanwhile g leaves old new
+  pub each : LeavesSince g leaves old new
+
+-- the bytes of an image stand over those of the memory
+abbrev pub Lays : {T I D : Type 0} → device.Ghosts D → laid.Ghosts I → I → D → D → Result T FormatFault → Type 0
+Lays g i image old new result = LaysImage g (full_size i image) (SettlesTo g (laid_over i image) old new) (PartlyOver i image) old new result

@@ -1,12 +1,9 @@
 //! Laying an image over a device: byte 0 is put last, so no crash leaves the magic over anything but the image as it was or
 //! the new one.
-ghost use Rattle.std.specs.Prelude.{◌≡◌, ◌≢◌, ◌≤◌, ◌<◌, ℕ, List, Some, None, Err, OnOk, IfErr};
-ghost use Rattle.edr_device.specs.Faults.{Rose};
-ghost use Rattle.edr_device.specs.Lent.{GoesOn, LeavesMeanwhile, Lent, OnlyRead, SettlesTo};
+ghost use Rattle.std.specs.Prelude.{◌≤◌, OnOk};
+ghost use Rattle.edr_device.specs.Lent.{Lent};
 ghost use Rattle.edr_image.specs.declared.places.TheConstants.{MOST_BANKS};
-ghost use Rattle.edr_image.specs.Image.{not_magic};
-ghost use Rattle.edr_banks.specs.Laying.{AllFilled, AllLaid, AllOver, BareMeanwhile, FirstMeanwhile, FromBare, FromFirst, HasRoomAndMagic, HasPlace, IsShortBy, IsBared, IsImageOf, IsUnmarked, IsUnmarking, LacksMagic, LeavesSince, PartlyOver, full_size, laid_over};
-ghost use Rattle.edr_banks.specs.declared.FormatFault.TheVariants.{Short, Formatted, StoreFault};
+ghost use Rattle.edr_banks.specs.Laying.{AllFilled, AllLaid, AllOver, BareMeanwhile, FirstMeanwhile, FromBare, FromFirst, HasPlace, IsBared, IsImageOf, IsUnmarked, IsUnmarking, Lays, PartlyOver, full_size};
 
 use crate::FormatFault;
 use crate::image::Image;
@@ -88,24 +85,7 @@ pub fn lay<N: Nvm, I: Image>(nvm: &mut N, image: &I) -> Result<(), FormatFault>
     requires told { I.is_told image.now }
     requires whole { IsImageOf (full_size I.Image image.now) (I.bytes image.now) }
     requires few { I.bank_count image.now ≤ MOST_BANKS }
-    ensures lent { GoesOn N.Nvm nvm.old nvm.new }
-    ensures later { N.clock nvm.old ≤ N.clock nvm.new }
-    // Each refusal with its cause.
-    ensures short { N.extent nvm.old < full_size I.Image image.now
-        → result ≡ Err (Short (N.extent nvm.old) (full_size I.Image image.now)) }
-    ensures sizes { IfErr result (IsShortBy (N.extent nvm.old) (full_size I.Image image.now)) }
-    ensures formatted { IfErr result (HasRoomAndMagic (N.content nvm.old) (N.extent nvm.old) (full_size I.Image image.now)) }
-    ensures not_formatted { OnOk result ((bytes : List ℕ) → N.content nvm.old ≡ Some bytes → LacksMagic bytes) }
-    ensures fault { IfErr result (λ e. e ≡ StoreFault → (full_size I.Image image.now ≤ N.extent nvm.old)
-        × Rose (N.faults nvm.old) (N.faults nvm.new)) }
-    ensures room { OnOk result (full_size I.Image image.now ≤ N.extent nvm.old) }
-    // A refusal changes nothing; nor does a fault where the magic stands.
-    ensures refused { IfErr result (λ e. e ≢ StoreFault → OnlyRead N.Nvm nvm.old nvm.new) }
-    ensures magic_stays { (bytes : List ℕ) → N.content nvm.old ≡ Some bytes → not_magic bytes ≡ None
-        → OnlyRead N.Nvm nvm.old nvm.new }
-    ensures done { OnOk result (SettlesTo N.Nvm (laid_over I.Image image.now) nvm.old nvm.new) }
-    ensures any_moment { LeavesMeanwhile N.Nvm (PartlyOver I.Image image.now) nvm.old nvm.new }
-    ensures each { LeavesSince N.Nvm (PartlyOver I.Image image.now) nvm.old nvm.new }
+    ensures { Lays N.Nvm I.Image image.now nvm.old nvm.new result }
 {
     let size = nvm.size();
     let needed = image_size(image.banks());

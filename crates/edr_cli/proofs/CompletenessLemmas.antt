@@ -17,7 +17,7 @@ use Rattle.edr_cli.specs.declared.fault.Fault.TheVariants as fault
 use Rattle.edr_replay.specs.Replayed.{RanToTheLast}
 use Rattle.edr_cli.specs.Causes.{IsImageCause, IsReplayCause, IsSpent}
 use Rattle.edr_cli.specs.Outside.{Input, Memory}
-use Rattle.edr_cli.specs.Reports.{Says}
+use Rattle.edr_gates.specs.Found.{Says}
 use Rattle.edr_cli.proofs.ImageLemmas.{same_view, says_refused, told_is}
 use Rattle.edr_cli.proofs.RunLaws.{run_count}
 use Rattle.edr_cli.proofs.TakingLemmas.{too_many}

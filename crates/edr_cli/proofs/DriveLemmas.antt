@@ -12,10 +12,10 @@ use Rattle.edr_cycle.specs.declared.started.StartFault.TheVariants as start
 use Rattle.edr_cycle.specs.Starts.{IsDeviceFault}
 use Rattle.edr_cli.specs.declared.fault.Fault.{Fault}
 use Rattle.edr_cli.specs.declared.fault.Fault.TheVariants as fault
-use Rattle.edr_replay.specs.Replayed.{EndsCutShort, EndsShort, EndsSpent, Holds, IsMemory, IsTrulyRefused, IsTrulyShort, LeavesReached}
+use Rattle.edr_replay.specs.Replayed.{EndsCutShort, EndsShort, EndsSpent, IsMemory, IsTrulyRefused, IsTrulyShort, LeavesReached}
+use Rattle.edr_gates.specs.Found.{Holds, IsFound, Says}
 use Rattle.edr_cli.specs.Causes.{IsDriveCause, RanCutShort}
 use Rattle.edr_cli.specs.Outside.{Input, IsAtEnd, Memory}
-use Rattle.edr_cli.specs.Reports.{Says}
 use Rattle.edr_cli.specs.Runs.{IsTraceOf}
 use Rattle.edr_cli.specs.Faults.{fault_of_start}
 use Rattle.edr_cli.specs.Steps.{IsDrivenCause}
@@ -46,15 +46,15 @@ pub run_drive : (i i' : Input) (old mid new : Memory) (cs : List CycleInput) (v 
 run_drive i i' old mid new cs v n f spelled end settled tells size later (inl cause) = inl (run_replay i i' old mid new cs v n f spelled end settled tells size later cause)
 run_drive i i' old mid new cs v n f spelled end settled tells size later (inr cause) = inr (cause.0, go i.left old.content spelled (λ image told. settled image told))
   where
-    go : (left content : Option (List ℕ)) → IfSome left (IsTraceOf cs) → ((image : List ℕ) → content ≡ Some image → Says image v n × IsQuiet mid.content mid.settled image)
+    go : (left content : Option (List ℕ)) → IfSome left (IsTraceOf cs) → ((image : List ℕ) → content ≡ Some image → IsFound (record { store = v; count = n }) mid.content mid.settled image)
         → IfSome left (λ bytes. IfSome content (λ image. RanCutShort bytes image new))
     go None content spelled settled = tt
     go (Some bytes) None spelled settled = tt
     go (Some bytes) (Some image) spelled settled =
         let s = settled image refl in
-        let held : Holds mid.content mid.settled v n = record { bytes = image; quiet = s.1; says = s.0 } in
+        let held : Holds mid.content mid.settled v n = record { bytes = image; found = s } in
         let r = cause.1 v n held in
-        record { cycles = cs; store = v; count = n; end = record { store = r.0; count = r.1 }; spelled = spelled; says = s.0; cut_short = r.2; held = r.3 }
+        record { cycles = cs; store = v; count = n; end = record { store = r.0; count = r.1 }; spelled = spelled; says = s.view_is; cut_short = r.2; held = r.3 }
 
 -- where nothing counts a fault, a trace wants nothing but memory
 pub driven_only_memory : (i i' : Input) (old new : Memory) (f : Fault) (bytes image : List ℕ) (cs : List CycleInput) (v : Store) (n : ℕ) → i.left ≡ Some bytes → length bytes ≤ largest_trace → Spell bytes cs

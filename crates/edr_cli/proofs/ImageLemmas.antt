@@ -8,7 +8,8 @@ use Rattle.edr_image.specs.Image.{View, image_refusal, view_by}
 use Rattle.edr_banks.specs.Formatting.{IsPartlyFormatted}
 use Rattle.edr_words.specs.declared.Form.{Form}
 use Rattle.edr_cli.specs.Outside.{Memory}
-use Rattle.edr_cli.specs.Reports.{IsReported, ReportIs, Says, report_in}
+use Rattle.edr_cli.specs.Reports.{IsReported, ReportIs, report_in}
+use Rattle.edr_gates.specs.Found.{IsFound, Says}
 
 -- an image that says banks and a count is not refused
 pub says_refused : (image : List ℕ) (v : Store) (n : ℕ) (e : OpenFault) → Says image v n → image_refusal image ≢ Some e
@@ -37,9 +38,9 @@ told_is P content bytes same p = subst (λ (c : Option (List ℕ)). IfSome c P) 
 
 -- the report of banks that an image says
 pub reported : (form : Form) (old new : Memory) (v : Store) (n : ℕ) (text : List ℕ)
-    → ((image : List ℕ) → old.content ≡ Some image → Says image v n × IsQuiet new.content new.settled image) → text ≡ report_in form [] v n → ReportIs form old new text
-reported form old new v n text says is = if_each (λ image. IsReported form image new text) old.content
-    (λ image told. record { store = v; count = n; says = (says image told).0; stays = (says image told).1; text_is = is })
+    → ((image : List ℕ) → old.content ≡ Some image → IsFound (record { store = v; count = n }) new.content new.settled image) → text ≡ report_in form [] v n → ReportIs form old new text
+reported form old new v n text found is = if_each (λ image. IsReported form image new text) old.content
+    (λ image told. record { store = v; count = n; found = found image told; text_is = is })
 
 -- the bytes as they were are no more than partly formatted
 pub still_there : (h : Header) (bytes image : List ℕ) → image ≡ bytes → IsPartlyFormatted h bytes image

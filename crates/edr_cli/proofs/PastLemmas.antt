@@ -5,7 +5,7 @@ use Rattle.edr_image.specs.Banks.{Store}
 use Rattle.edr_cycle.proofs.PastLemmas.{past_same}
 use Rattle.edr_replay.specs.Past.{LeavesPast}
 use Rattle.edr_replay.proofs.PastLemmas.{past_fewer}
-use Rattle.edr_cli.specs.Reports.{Says}
+use Rattle.edr_gates.specs.Found.{IsFound}
 
 -- the bytes are as they were
 pub past_looked : (content content' : Option (List ℕ)) (settled settled' : ℕ → Bool) → ((bytes image : List ℕ) → IsQuiet content settled bytes → MayLeave content' settled' image → image ≡ bytes) → LeavesPast content settled content' settled'
@@ -22,8 +22,8 @@ past_stays content content' content'' settled settled' settled'' same same_settl
     go (Some a) image may = record { size = may.size; same = λ i below there. may.same i below (same_settled i ∙ there) }
 
 -- the banks were opened before the call, behind a barrier
-pub past_opened : (v : Store) (n : ℕ) (content content' content'' : Option (List ℕ)) (settled settled' settled'' : ℕ → Bool) → ((image : List ℕ) → content ≡ Some image → Says image v n × IsQuiet content' settled' image)
+pub past_opened : (v : Store) (n : ℕ) (content content' content'' : Option (List ℕ)) (settled settled' settled'' : ℕ → Bool) → ((image : List ℕ) → content ≡ Some image → IsFound (record { store = v; count = n }) content' settled' image)
     → LeavesPast content' settled' content'' settled'' → LeavesPast content settled content'' settled''
 past_opened v n content content' content'' settled settled' settled'' opened past = record {
-  keeps = λ w bytes image found may. past.keeps w bytes image (record { quiet = (opened bytes found.quiet.0).1; view_is = found.view_is }) may;
+  keeps = λ w bytes image found may. past.keeps w bytes image (record { quiet = (opened bytes found.quiet.0).quiet; view_is = found.view_is }) may;
 }

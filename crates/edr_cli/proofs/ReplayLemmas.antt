@@ -19,10 +19,11 @@ use Rattle.edr_cli.specs.declared.fault.Fault.{Fault}
 use Rattle.edr_cli.specs.declared.fault.Fault.TheVariants as fault
 use Rattle.edr_words.specs.declared.Form.{Form}
 use Rattle.edr_replay.specs.Reached.{RanFirst, between}
-use Rattle.edr_replay.specs.Replayed.{Holds, HasRun, EndsShort, EndsSpent, IsShortOf, IsTrulyRefused, IsTrulyShort, LeavesReached}
+use Rattle.edr_replay.specs.Replayed.{HasRun, EndsShort, EndsSpent, IsShortOf, IsTrulyRefused, IsTrulyShort, LeavesReached}
+use Rattle.edr_gates.specs.Found.{Holds, IsFound}
 use Rattle.edr_cli.specs.Causes.{GaveTrace, IsImageCause, IsImageRefused, IsReplayCause, IsSpent, LeavesRun, RanSome, ReachesByTrace}
 use Rattle.edr_cli.specs.Outside.{Input, IsAtEnd, Memory}
-use Rattle.edr_cli.specs.Reports.{Says, report_in}
+use Rattle.edr_cli.specs.Reports.{report_in}
 use Rattle.edr_cli.specs.Runs.{IsTraceOf, RunIs, TheRun}
 use Rattle.edr_cli.specs.Faults.{fault_of_start}
 use Rattle.edr_cli.specs.Steps.{HeldNone, IsRunCause, Reports, ReportsHeld}
@@ -58,10 +59,9 @@ run_reports form cs old mid new reports text run same settled told = λ v n hold
     let h : Holds mid.content mid.settled o.store o.count = r.3 in
     let there : Holds new.content new.settled o.store o.count = record {
       bytes = h.bytes;
-      quiet = (same ∙ h.quiet.0, λ i. settled i ∙ h.quiet.1 i);
-      says = h.says;
+      found = record { quiet = (same ∙ h.found.quiet.0, λ i. settled i ∙ h.found.quiet.1 i); view_is = h.found.view_is };
     } in
-    let view = same_view _ _ (sym (told.2 h.bytes h.quiet.0) ∙ h.says) in
+    let view = same_view _ _ (sym (told.2 h.bytes h.found.quiet.0) ∙ h.found.view_is) in
     (o, r.1, there, told.3 ∙ same_report form reports o told.0 told.1 (sym r.2) (ap (λ (x : View). x.store) view) (ap (λ (x : View). x.count) view))
 
 -- a device that held banks and a count before the run has an image behind it that isn't refused
@@ -71,7 +71,7 @@ unfolding HasRun
 not_refused old mid cs reports e run refused = λ v n holds.
     let r = run v n holds in
     let h : Holds mid.content mid.settled r.0.store r.0.count = r.3 in
-    says_refused h.bytes r.0.store r.0.count e h.says (told_is (λ image. image_refusal image ≡ Some e) mid.content h.bytes h.quiet.0 refused)
+    says_refused h.bytes r.0.store r.0.count e h.found.view_is (told_is (λ image. image_refusal image ≡ Some e) mid.content h.bytes h.found.quiet.0 refused)
 
 -- all cycles ran, and nothing was changed behind them
 all_ran : (cs : List CycleInput) (old mid new : Memory) (reports : List CycleReport) → HasRun cs old.content old.settled mid.content mid.settled reports → new.content ≡ mid.content → ((i : ℕ) → new.settled i ≡ mid.settled i)
@@ -83,7 +83,7 @@ all_ran cs old mid new reports run same settled = λ v n h.
     let held : Holds mid.content mid.settled r.0.store r.0.count = r.3 in (
       r.0,
       record { within = omega arith; run = subst (λ (xs : List CycleInput). IsRun xs v n r.0) (sym all) r.1 },
-      record { bytes = held.bytes; quiet = (same ∙ held.quiet.0, λ i. settled i ∙ held.quiet.1 i); says = held.says },
+      record { bytes = held.bytes; found = record { quiet = (same ∙ held.found.quiet.0, λ i. settled i ∙ held.found.quiet.1 i); view_is = held.found.view_is } },
     )
 
 leaves_all : (cs : List CycleInput) (old mid new : Memory) (reports : List CycleReport) → HasRun cs old.content old.settled mid.content mid.settled reports → new.content ≡ mid.content → ((i : ℕ) → new.settled i ≡ mid.settled i)
@@ -92,8 +92,8 @@ unfolding LeavesReached
 leaves_all cs old mid new reports run same settled = λ v n h image may.
     let r = all_ran cs old mid new reports run same settled v n h in
     let held : Holds new.content new.settled r.0.store r.0.count = r.2 in
-    let is = quiet_leaves held.bytes new.content new.settled image held.quiet may in
-    (record { store = r.0.store; count = r.0.count }, ap view_of is ∙ held.says, between (length cs) r.0 r.1 refl refl)
+    let is = quiet_leaves held.bytes new.content new.settled image held.found.quiet may in
+    (record { store = r.0.store; count = r.0.count }, ap view_of is ∙ held.found.view_is, between (length cs) r.0 r.1 refl refl)
 
 pub short_all : (cs : List CycleInput) (old mid new : Memory) (reports : List CycleReport) → HasRun cs old.content old.settled mid.content mid.settled reports → new.content ≡ mid.content → ((i : ℕ) → new.settled i ≡ mid.settled i)
     → IsRunCause cs old new fault.OutOfMemory
@@ -118,22 +118,22 @@ behind_cause cs old mid new reports other run same settled long later cause = ab
 
 -- what the barrier and the look at the image say of the device
 abbrev pub Settled : Memory → Memory → Store → ℕ → Type 0
-Settled old mid v n = (image : List ℕ) → old.content ≡ Some image → Says image v n × IsQuiet mid.content mid.settled image
+Settled old mid v n = (image : List ℕ) → old.content ≡ Some image → IsFound (record { store = v; count = n }) mid.content mid.settled image
 
 -- the report of the run of what the source gave
 pub replayed : (form : Form) (i : Input) (old mid new : Memory) (cs : List CycleInput) (v : Store) (n : ℕ) (text : List ℕ)
     → IfSome i.left (IsTraceOf cs) → Settled old mid v n → Reports form cs mid new text → RunIs form i old new text
 replayed form i old mid new cs v n text spelled settled reports = go i.left old.content spelled (λ image told. settled image told)
   where
-    go : (left content : Option (List ℕ)) → IfSome left (IsTraceOf cs) → ((image : List ℕ) → content ≡ Some image → Says image v n × IsQuiet mid.content mid.settled image)
+    go : (left content : Option (List ℕ)) → IfSome left (IsTraceOf cs) → ((image : List ℕ) → content ≡ Some image → IsFound (record { store = v; count = n }) mid.content mid.settled image)
         → IfSome left (λ bytes. IfSome content (λ image. TheRun form bytes image new text))
     go None content spelled settled = tt
     go (Some bytes) None spelled settled = tt
     go (Some bytes) (Some image) spelled settled =
         let s = settled image refl in
-        let held : Holds mid.content mid.settled v n = record { bytes = image; quiet = s.1; says = s.0 } in
+        let held : Holds mid.content mid.settled v n = record { bytes = image; found = s } in
         let r = reports v n held in
-        the_run form bytes image new text cs v n r.0 spelled s.0 r.1 r.2 r.3
+        the_run form bytes image new text cs v n r.0 spelled s.view_is r.1 r.2 r.3
 
 gave : (i i' : Input) (cs : List CycleInput) → IfSome i.left (IsTraceOf cs) → IsAtEnd i'.left → GaveTrace i i'
 gave i i' cs spelled end = (go i.left spelled, end) where
@@ -154,13 +154,13 @@ look_cause i i' old new cs other spelled end stays left cause = absurd cause
 none_refused : (old mid new : Memory) (v : Store) (n : ℕ) (e : OpenFault) → Settled old mid v n → StillTells old.content new.content → HeldNone mid → IsImageRefused e old new
 none_refused old mid new v n e settled tells none = go old.content new.content tells (λ image told. settled image told)
   where
-    go : (content content' : Option (List ℕ)) → StillTells content content' → ((image : List ℕ) → content ≡ Some image → Says image v n × IsQuiet mid.content mid.settled image)
+    go : (content content' : Option (List ℕ)) → StillTells content content' → ((image : List ℕ) → content ≡ Some image → IsFound (record { store = v; count = n }) mid.content mid.settled image)
         → IfSome content (λ image. image_refusal image ≡ Some e) × (content' ≡ content)
     go None None tells settled = (tt, refl)
     go None (Some b) tells settled = absurd tells
     go (Some image) content' tells settled =
         let s = settled image refl in
-        let held : Holds mid.content mid.settled v n = record { bytes = image; quiet = s.1; says = s.0 } in
+        let held : Holds mid.content mid.settled v n = record { bytes = image; found = s } in
         absurd (none v n held)
 
 some_view : (o : Option View) (v : View) → o ≡ None → o ≡ Some v → ⊥
@@ -175,10 +175,10 @@ leaves_run : (i : Input) (old mid new : Memory) (cs : List CycleInput) (v : Stor
 unfolding LeavesReached
 leaves_run i old mid new cs v n spelled settled left = λ bytes image quiet may.
     let s = settled bytes quiet.0 in
-    let held : Holds mid.content mid.settled v n = record { bytes = bytes; quiet = s.1; says = s.0 } in
+    let held : Holds mid.content mid.settled v n = record { bytes = bytes; found = s } in
     let r = left v n held image may in (
-      (λ none. absurd (some_view (view_of bytes) (record { store = v; count = n }) none s.0)),
-      (λ w says. let same : ◌≡◌ {A = View} (record { store = v; count = n }) w = same_view _ _ (sym s.0 ∙ says) in
+      (λ none. absurd (some_view (view_of bytes) (record { store = v; count = n }) none s.view_is)),
+      (λ w says. let same : ◌≡◌ {A = View} (record { store = v; count = n }) w = same_view _ _ (sym s.view_is ∙ says) in
           subst (λ (x : View). IfSome i.left (λ trace. ReachesByTrace trace x image)) same
           (if_spelled i.left cs (λ trace. ReachesByTrace trace (record { store = v; count = n }) image) (λ trace is. record { cycles = cs; spelled = is.1; view = r.0; view_is = r.1; reached = r.2 }) spelled)),
     )
@@ -205,24 +205,24 @@ run_replay i i' old mid new cs v n (fault.Header h) spelled end settled tells si
     (gave i i' cs spelled end, none_refused old mid new v n (open_fault.Header h) settled tells cause)
 run_replay i i' old mid new cs v n fault.Spent spelled end settled tells size later cause = (go i.left old.content spelled (λ image told. settled image told), end)
   where
-    go : (left content : Option (List ℕ)) → IfSome left (IsTraceOf cs) → ((image : List ℕ) → content ≡ Some image → Says image v n × IsQuiet mid.content mid.settled image)
+    go : (left content : Option (List ℕ)) → IfSome left (IsTraceOf cs) → ((image : List ℕ) → content ≡ Some image → IsFound (record { store = v; count = n }) mid.content mid.settled image)
         → IfSome left (λ bytes. IfSome content (λ image. IsSpent bytes image new))
     go None content spelled settled = tt
     go (Some bytes) None spelled settled = tt
     go (Some bytes) (Some image) spelled settled =
         let s = settled image refl in
-        let held : Holds mid.content mid.settled v n = record { bytes = image; quiet = s.1; says = s.0 } in
+        let held : Holds mid.content mid.settled v n = record { bytes = image; found = s } in
         let r = cause v n held in
-        record { cycles = cs; store = v; count = n; outcome = r.0; spelled = spelled; says = s.0; ran = r.1; held = r.2 }
+        record { cycles = cs; store = v; count = n; outcome = r.0; spelled = spelled; says = s.view_is; ran = r.1; held = r.2 }
 run_replay i i' old mid new cs v n fault.OutOfMemory spelled end settled tells size later cause = inr (go i.left old.content spelled (λ image told. settled image told))
   where
-    go : (left content : Option (List ℕ)) → IfSome left (IsTraceOf cs) → ((image : List ℕ) → content ≡ Some image → Says image v n × IsQuiet mid.content mid.settled image)
+    go : (left content : Option (List ℕ)) → IfSome left (IsTraceOf cs) → ((image : List ℕ) → content ≡ Some image → IsFound (record { store = v; count = n }) mid.content mid.settled image)
         → IfSome left (λ bytes. IfSome content (λ image. RanSome bytes image new))
     go None content spelled settled = tt
     go (Some bytes) None spelled settled = tt
     go (Some bytes) (Some image) spelled settled =
         let s = settled image refl in
-        let held : Holds mid.content mid.settled v n = record { bytes = image; quiet = s.1; says = s.0 } in
+        let held : Holds mid.content mid.settled v n = record { bytes = image; found = s } in
         let r = cause v n held in
-        record { cycles = cs; store = v; count = n; p = r.0; outcome = r.1; spelled = spelled; says = s.0; ran = r.2; held = r.3 }
+        record { cycles = cs; store = v; count = n; p = r.0; outcome = r.1; spelled = spelled; says = s.view_is; ran = r.2; held = r.3 }
 run_replay i i' old mid new cs v n other spelled end settled tells size later cause = absurd cause

@@ -8,9 +8,9 @@ use Rattle.edr_run.proofs.LoggedLaws.{run-locks, run-done_later}
 use Rattle.edr_run.proofs.OrderLaws.{run-kept, run-locked}
 use Rattle.edr_run.proofs.OwnLaws.{run-own}
 use Rattle.edr_words.specs.declared.Form.{Form}
-use Rattle.edr_replay.specs.Replayed.{Holds}
+use Rattle.edr_gates.specs.Found.{Holds, Says}
 use Rattle.edr_cli.specs.Outside.{Input, Memory}
-use Rattle.edr_cli.specs.Reports.{Says, report_in}
+use Rattle.edr_cli.specs.Reports.{report_in}
 use Rattle.edr_cli.specs.Runs.{TheRun, IsPowered, IsTraceOf, RunIs}
 
 -- the run with all that holds of it

@@ -14,12 +14,13 @@ use Rattle.edr_spell.specs.Spell.{Spell, largest_trace}
 use Rattle.edr_spell.specs.Fault.{FirstFault as IsFaultOf}
 use Rattle.edr_run.specs.Cycle.{Outcome}
 use Rattle.edr_replay.specs.Reached.{IsCutShort, IsReached, RanFirst}
-use Rattle.edr_replay.specs.Replayed.{Holds, IsShortOf, RanToTheLast}
+use Rattle.edr_replay.specs.Replayed.{IsShortOf, RanToTheLast}
+use Rattle.edr_gates.specs.Found.{Holds, Says}
 use Rattle.edr_cli.specs.declared.fault.Fault.{Fault}
 use Rattle.edr_cli.specs.declared.fault.Fault.TheVariants as fault
 use Rattle.edr_cli.specs.Migrations.{FitsInto, IsAnOldImage, IsOldRefused, NeedsBytes}
 use Rattle.edr_cli.specs.Outside.{Input, IsAtEnd, Memory}
-use Rattle.edr_cli.specs.Reports.{HasMagic, Says}
+use Rattle.edr_cli.specs.Reports.{HasMagic}
 use Rattle.edr_cli.specs.Runs.{IfTold, IsTraceOf}
 
 -- ---- words alone

@@ -2,7 +2,7 @@
 use Rattle.std.specs.Prelude.{◌≡◌, ℕ, [], List, Some, None, IfSome}
 use Rattle.edr_image.specs.declared.Header.{Header}
 use Rattle.edr_image.specs.Banks.{Store}
-use Rattle.edr_image.specs.Image.{not_magic, view_of}
+use Rattle.edr_image.specs.Image.{not_magic}
 use Rattle.edr_image.specs.Reports.{Report}
 use Rattle.edr_banks.specs.Formatting.{IsNew, LacksMagic}
 use Rattle.edr_report.specs.Format.{format_line}
@@ -10,11 +10,8 @@ use Rattle.edr_report.specs.Report.{report_text, report_table}
 use Rattle.edr_words.specs.declared.Form.{Form}
 use Rattle.edr_words.specs.declared.Form.TheVariants.{Text, Table}
 use Rattle.edr_device.specs.Device.{IsQuiet}
+use Rattle.edr_gates.specs.Found.{IsFound}
 use Rattle.edr_cli.specs.Outside.{Memory}
-
--- the image says these banks and this count
-abbrev pub Says : List ℕ → Store → ℕ → Type 0
-Says image v n = view_of image ≡ Some (record { store = v; count = n })
 
 -- the bytes of the report of these cycles, banks and count
 abbrev pub report_in : Form → List Report → Store → ℕ → List ℕ
@@ -23,12 +20,11 @@ report_in Table reports v n = report_table reports v n
 
 -- ---- report
 
--- the bytes that the device told say banks and a count, of which this is the report, and they stay
+-- the bytes that the device told say banks and a count, of which this is the report, and the device is found with them
 pub record IsReported (form : Form) (image : List ℕ) (new : Memory) (text : List ℕ) : Type 0 where
   pub store : Store
   pub count : ℕ
-  pub says : Says image store count
-  pub stays : IsQuiet new.content new.settled image
+  pub found : IsFound (record { store = store; count = count }) new.content new.settled image
   pub text_is : text ≡ report_in form [] store count
 
 -- the same where the device tells its bytes

@@ -7,9 +7,9 @@ use Rattle.edr_spell.specs.Spell.{Spell, largest_trace}
 use Rattle.edr_run.specs.Cycle.{Outcome, IsRun, last_count}
 use Rattle.edr_run.specs.Keeps.{KeepsDone, KeepsLocked, LeavesLocked, StaysInWindow}
 use Rattle.edr_words.specs.declared.Form.{Form}
-use Rattle.edr_replay.specs.Replayed.{Holds}
+use Rattle.edr_gates.specs.Found.{Holds, Says}
 use Rattle.edr_cli.specs.Outside.{Input, Memory}
-use Rattle.edr_cli.specs.Reports.{Says, report_in}
+use Rattle.edr_cli.specs.Reports.{report_in}
 
 -- over banks that were kept: they are kept, each event above the count at first is one of the cycle that had its number, with
 -- that event's own parts, and each other one stood in its bank at first

@@ -9,10 +9,11 @@ use Rattle.edr_cli.specs.declared.fault.Fault.{Fault}
 use Rattle.edr_cli.specs.declared.fault.Fault.TheVariants as fault
 use Rattle.edr_words.specs.declared.Form.{Form}
 use Rattle.edr_replay.specs.Reached.{IsCutShort, RanFirst}
-use Rattle.edr_replay.specs.Replayed.{Holds, IsShortOf, LeavesReached, RanToTheLast}
+use Rattle.edr_replay.specs.Replayed.{IsShortOf, LeavesReached, RanToTheLast}
+use Rattle.edr_gates.specs.Found.{Holds, Says}
 use Rattle.edr_cli.specs.Migrations.{TookOver}
 use Rattle.edr_cli.specs.Outside.{Memory}
-use Rattle.edr_cli.specs.Reports.{Says, report_in}
+use Rattle.edr_cli.specs.Reports.{report_in}
 
 -- the text is the report of a run of these cycles over what the device held
 abbrev pub Reports : Form → List CycleInput → Memory → Memory → List ℕ → Type 0

@@ -1,13 +1,14 @@
 //! Serves `report`: reads what the memory of the records holds, and reports it.
 ghost use Rattle.std.specs.Prelude.{◌≡◌, ◌≤◌, ℕ, List, Some, IfOk, IfErr, map};
-ghost use Rattle.edr_device.specs.Device.{IsQuiet};
 ghost use Rattle.edr_device.specs.Faults.{Rose};
 ghost use Rattle.edr_device.specs.Lent.{At, GoesOn, OnlyRead};
 ghost use Rattle.edr_image.specs.Reports.{report_of};
+ghost use Rattle.edr_gates.specs.Found.{IsFound, Says};
+ghost use Rattle.edr_banks.specs.Opening.{view_when_opened};
 ghost use Rattle.edr_cli.specs.Causes.{IsImageCause};
 ghost use Rattle.edr_cli.specs.Outcomes.{ShowsReport};
 ghost use Rattle.edr_cli.specs.Outside.{OfMemory, memory};
-ghost use Rattle.edr_cli.specs.Reports.{ReportIs, Says, report_in};
+ghost use Rattle.edr_cli.specs.Reports.{ReportIs, report_in};
 ghost use Rattle.edr_cli.specs.Steps.{ReportsHeld};
 ghost use Rattle.edr_cli.specs.Crashes.{KeepsBytes};
 
@@ -23,8 +24,8 @@ use std::alloc::{AllocError as OutOfMemory, Global};
 
 /// Opens the banks behind a barrier, so that nothing is pending.
 pub(crate) fn open_settled<N: Nvm>(alloc: Global, nvm: &mut N) -> Result<Banks, Fault>
-    ensures says { IfOk result (λ b. (image : List ℕ) → N.content nvm.old ≡ Some image
-        → Says image b.store b.count × At N.Nvm IsQuiet nvm.new image) }
+    ensures found { IfOk result (λ b. (image : List ℕ) → N.content nvm.old ≡ Some image
+        → At N.Nvm (IsFound (view_when_opened b)) nvm.new image) }
     ensures cause { IfErr result (OfMemory N.Nvm IsImageCause nvm.old nvm.new) }
     ensures stays { KeepsBytes N.Nvm nvm.old nvm.new }
     ensures lent { GoesOn N.Nvm nvm.old nvm.new }

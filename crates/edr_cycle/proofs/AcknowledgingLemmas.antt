@@ -1,17 +1,16 @@
 -- What a stop leaves of acknowledged commands, and of the one after them.
-use Rattle.std.proofs.Common.{◌≡◌, refl, ap, sym, subst, ◌∙◌, arith, ℕ, zero, suc, ◌+◌, ◌-◌, ◌<◌, ◌≤◌, ◌⊎◌, inl, inr, Bool, true, false, cond, nat_le, nat_lt, min, Some, Option, List, [], ◌∷◌, ◌++◌, length, map, take}
-use Rattle.std.specs.Prelude.{Contains, flat_map, slice_get}
-use Rattle.std.proofs.lemmas.Bool.Decides.{nat_tests}
+use Rattle.std.proofs.Common.{◌≡◌, refl, ap, sym, subst, ◌∙◌, arith, ℕ, suc, ◌+◌, ◌-◌, ◌<◌, ◌≤◌, ◌⊎◌, inl, inr, Bool, true, false, cond, nat_le, nat_lt, List, [], ◌∷◌, ◌++◌, length, map, take}
+use Rattle.std.specs.Prelude.{Contains, flat_map}
 use Rattle.std.proofs.lemmas.List.{length-take-le}
 use Rattle.std.proofs.lemmas.List.Sums.{sum_by-cons}
 use Rattle.std.proofs.lemmas.Option.{slice_get_within}
 use Rattle.edr_items.specs.SensorLists.{SensorLists}
 use Rattle.edr_image.specs.Banks.{Store}
-use Rattle.edr_image.specs.Calls.{IsStop, count_acknowledged, all_calls, calls_of, done_of_step, gate_call_of, stops}
-use Rattle.edr_image.specs.Steps.{BankStep, Reply}
-use Rattle.edr_image.proofs.StopLaws.{FallsInReply, acknowledged-falls, contains_cases, contains_map, contains_none, stop-within, stops-has}
+use Rattle.edr_image.specs.Calls.{IsStop, count_acknowledged, all_calls, calls_of, gate_call_of, stops}
+use Rattle.edr_image.specs.Steps.{BankStep}
+use Rattle.edr_image.proofs.StopLaws.{acknowledged-falls, contains_cases, contains_map, contains_none, stop-within, stops-has}
 use Rattle.edr_run.specs.Cycle.{acks_before, acks_in, replies_in, steps_in}
-use Rattle.edr_cycle.specs.Ends.{FirstSteps, steps_at, steps_before}
+use Rattle.edr_cycle.specs.Ends.{FirstSteps, steps_before}
 use Rattle.edr_cycle.proofs.EndingLemmas.{at_is, length-acks_in, split_at}
 
 -- some first steps of the middle one of three lists, behind the first

@@ -1,5 +1,5 @@
 -- Commands that are committed after others.
-use Rattle.std.proofs.Common.{◌≡◌, ◌⊎◌, ◌≤◌, ◌<◌, ◌+◌, ◌-◌, ◌∙◌, ℕ, Bool, Option, Some, List, [], ◌∷◌, ◌++◌, length, take, refl, sym, ap, subst, inl, inr, ⊎_elim, arith, append_assoc, append-nil, Result, Ok, Err}
+use Rattle.std.proofs.Common.{◌≡◌, ◌≤◌, ◌+◌, ◌-◌, ◌∙◌, ℕ, Bool, Option, Some, List, [], ◌∷◌, ◌++◌, length, take, refl, sym, ap, subst, inl, arith, append_assoc, append-nil, Result, Ok, Err}
 use Rattle.std.specs.Prelude.{IsErr}
 use Rattle.std.proofs.lemmas.Bool.{false≢true}
 use Rattle.std.specs.Prelude.{slice_get}
@@ -20,7 +20,7 @@ use Rattle.edr_image.specs.Steps.{BankStep, State, after, held_after, reply_to, 
 use Rattle.edr_run.specs.Cycle.{ack_of}
 use Rattle.edr_banks.specs.Opened.{OpenedBanks, state_of}
 use Rattle.edr_banks.specs.Applying.{opened_after}
-use Rattle.edr_cycle.specs.Commits.{Commits, IsAfterFirst, IsLeftBy, IsReadyFor, StopsAt, SaysAfter, acks_from, first_steps, replies_from, steps_from}
+use Rattle.edr_cycle.specs.Commits.{Commits, IsAfterFirst, IsLeftBy, IsFoundWith, StopsAt, SaysAfter, acks_from, first_steps, replies_from, steps_from}
 use Rattle.edr_cycle.specs.Past.{KeepsPast}
 use Rattle.edr_cycle.proofs.AnsweredLemmas.{map_err, map_ok}
 use Rattle.edr_cycle.proofs.PastLemmas.{past_again, past_self}
@@ -87,7 +87,7 @@ module _ (s : State) (xs ys : List Issue) where
       }
 
   stops_later : (before mid now : ℕ) (content middle content' : Option (List ℕ)) (settled settled' settled'' : ℕ → Bool) (l l' l'' : Logged) → mid ≡ before + all_calls (steps_from s xs) → mid ≤ now → l'.acks ≡ l.acks ++ acks_from s xs
-      → ((bytes : List ℕ) (v : View) → IsReadyFor s.store content settled bytes v → (after_it : List ℕ) × IsReadyFor then.store middle settled' after_it (view_after v (steps_from s xs)))
+      → ((bytes : List ℕ) (v : View) → IsFoundWith s.store content settled bytes v → (after_it : List ℕ) × IsFoundWith then.store middle settled' after_it (view_after v (steps_from s xs)))
       → StopsAt then ys mid now middle content' settled' settled'' l' l'' → StopsAt s (xs ++ ys) before now content content' settled settled'' l l''
   stops_later before mid now content middle content' settled settled' settled'' l l' l'' risen later acks ready h =
       let a = steps_from s xs in
@@ -129,7 +129,7 @@ module _ {D : Type 0} (content : D → Option (List ℕ)) (settled : D → ℕ �
     banks_are = refl;
     log_is = same_log;
     time = none_made (clock d) (good d) x;
-    taken = λ bytes v ready. (bytes, ready.quiet, ready.view_is, past_self b.store.header bytes);
+    taken = λ bytes v ready. (bytes, ready.0.quiet, ready.0.view_is, past_self b.store.header bytes);
     stopped = tt;
     any_moment = λ bytes v ready. record { nothing_else = λ t image within left. inl left; past_stays = λ t image within left. left };
     past = λ bytes v ready. record { nothing_else = λ t image within left. inl left; past_stays = λ t image within left. left };
@@ -186,20 +186,20 @@ module _ {D : Type 0} (content : D → Option (List ℕ)) (settled : D → ℕ �
             time = rw (calls-append s xs ys) (makes_again (all_calls a) (all_calls more) (clock d) (clock d') (clock d'') (good d) (good d') (good d'') x r h.time k.time);
             taken = map_ok r k.taken (λ taken bytes v ready.
                 let first = h.taken bytes v ready in
-                let next = taken first.0 (view_after v a) (ready_after b a first.0 d' v ready.store_is first.1 first.2) in
+                let next = taken first.0 (view_after v a) (ready_after b a first.0 d' v ready.1 first.1 first.2) in
                 (next.0, next.1, rw (steps_from-append s xs ys) (says-append a more v next.0 next.2), past_again b.store.header bytes first.0 next.0 first.3 next.3));
             stopped = map_err r k.stopped (λ stopped. stops_later s xs ys (clock d) (clock d') (clock d'') (content d) (content d') (content d'') (settled d) (settled d') (settled d'') l (record { acks = l.acks ++ acks_from s xs; spare = l.spare - length xs }) l'' risen later refl
-                (λ bytes v ready. let first = h.taken bytes v ready in (first.0, ready_after b a first.0 d' v ready.store_is first.1 first.2)) stopped);
+                (λ bytes v ready. let first = h.taken bytes v ready in (first.0, ready_after b a first.0 d' v ready.1 first.1 first.2)) stopped);
             any_moment = λ bytes v ready.
                 let first = h.taken bytes v ready in
                 elapses_again (clock d) (clock d') (since d) (since d') (since d'') (IsAfterFirst a v) (IsAfterFirst more (view_after v a)) (IsAfterFirst (steps_from s (xs ++ ys)) v)
-                (h.any_moment bytes v ready) (k.any_moment first.0 (view_after v a) (ready_after b a first.0 d' v ready.store_is first.1 first.2)) h.time.later
+                (h.any_moment bytes v ready) (k.any_moment first.0 (view_after v a) (ready_after b a first.0 d' v ready.1 first.1 first.2)) h.time.later
                 (λ image p. rw (steps_from-append s xs ys) (passed_first a more v image p))
                 (λ image p. rw (steps_from-append s xs ys) (passed_later a more v image p));
             past = λ bytes v ready.
                 let first = h.taken bytes v ready in
                 elapses_again (clock d) (clock d') (since d) (since d') (since d'') (KeepsPast b.store.header bytes) (KeepsPast b.store.header first.0) (KeepsPast b.store.header bytes)
-                (h.past bytes v ready) (k.past first.0 (view_after v a) (ready_after b a first.0 d' v ready.store_is first.1 first.2)) h.time.later
+                (h.past bytes v ready) (k.past first.0 (view_after v a) (ready_after b a first.0 d' v ready.1 first.1 first.2)) h.time.later
                 (λ image p. p)
                 (λ image p. past_again b.store.header bytes first.0 image first.3 p);
           }
@@ -212,16 +212,16 @@ module _ {D : Type 0} (content : D → Option (List ℕ)) (settled : D → ℕ �
               let spare : l.spare - m - n ≡ l.spare - k = omega (arith, f) in
               rw (append_assoc l.acks p q, ← e, spare) refl
 
-          ready_after : (b : OpenedBanks) (a : List BankStep) (now : List ℕ) (d : D) (v : View) → v.store ≡ b.store → IsQuiet (content d) (settled d) now → SaysAfter v a now → IsReadyFor (after b.store a) (content d) (settled d) now (view_after v a)
-          ready_after b a now d v same quiet says = record { quiet = quiet; view_is = says; store_is = ap (λ store. after store a) same }
+          ready_after : (b : OpenedBanks) (a : List BankStep) (now : List ℕ) (d : D) (v : View) → v.store ≡ b.store → IsQuiet (content d) (settled d) now → SaysAfter v a now → IsFoundWith (after b.store a) (content d) (settled d) now (view_after v a)
+          ready_after b a now d v same quiet says = (record { quiet = quiet; view_is = says }, ap (λ store. after store a) same)
 
   -- one command that was applied
   pub one_applied : {T E : Type 0} (x : T) (i : Issue) (b b' : OpenedBanks) (l l' : Logged) (d d' : D) → let r = reply_to (state_of b) i.command in
       l' ≡ record { acks = l.acks ++ ack_of i r ∷ []; spare = l.spare - 1 } → state_of b' ≡ state_after (state_of b) r.steps → b'.count ≡ b.count → b'.ended ≡ b.ended
       → Makes {T = T} {E = E} (all_calls r.steps) (clock d) (clock d') (good d) (good d') (Ok x)
-      → ((bytes : List ℕ) (v : View) → IsReadyFor b.store (content d) (settled d) bytes v → (now : List ℕ) × IsQuiet (content d') (settled d') now × SaysAfter v r.steps now × KeepsPast b.store.header bytes now)
-      → ((bytes : List ℕ) (v : View) → IsReadyFor b.store (content d) (settled d) bytes v → Elapses (clock d) (since d) (since d') (IsAfterFirst r.steps v))
-      → ((bytes : List ℕ) (v : View) → IsReadyFor b.store (content d) (settled d) bytes v → Elapses (clock d) (since d) (since d') (KeepsPast b.store.header bytes))
+      → ((bytes : List ℕ) (v : View) → IsFoundWith b.store (content d) (settled d) bytes v → (now : List ℕ) × IsQuiet (content d') (settled d') now × SaysAfter v r.steps now × KeepsPast b.store.header bytes now)
+      → ((bytes : List ℕ) (v : View) → IsFoundWith b.store (content d) (settled d) bytes v → Elapses (clock d) (since d) (since d') (IsAfterFirst r.steps v))
+      → ((bytes : List ℕ) (v : View) → IsFoundWith b.store (content d) (settled d) bytes v → Elapses (clock d) (since d) (since d') (KeepsPast b.store.header bytes))
       → These {E = E} (i ∷ []) (Ok x) b b' l l' d d'
   one_applied x i b b' l l' d d' log state count ended time taken passed past =
       let r = reply_to (state_of b) i.command in
@@ -244,9 +244,9 @@ module _ {D : Type 0} (content : D → Option (List ℕ)) (settled : D → ℕ �
   -- one command that failed
   pub one_failed : {T E : Type 0} (e : E) (i : Issue) (b b' : OpenedBanks) (l : Logged) (d d' : D) → let r = reply_to (state_of b) i.command in
       Makes {T = T} {E = E} (all_calls r.steps) (clock d) (clock d') (good d) (good d') (Err e)
-      → ((bytes image : List ℕ) (v : View) → IsReadyFor b.store (content d) (settled d) bytes v → MayLeave (content d') (settled d') image → (part : List BankStep) × IsLeftBy (clock d' - clock d) r.steps part × SaysAfter v part image)
-      → ((bytes : List ℕ) (v : View) → IsReadyFor b.store (content d) (settled d) bytes v → Elapses (clock d) (since d) (since d') (IsAfterFirst r.steps v))
-      → ((bytes : List ℕ) (v : View) → IsReadyFor b.store (content d) (settled d) bytes v → Elapses (clock d) (since d) (since d') (KeepsPast b.store.header bytes))
+      → ((bytes image : List ℕ) (v : View) → IsFoundWith b.store (content d) (settled d) bytes v → MayLeave (content d') (settled d') image → (part : List BankStep) × IsLeftBy (clock d' - clock d) r.steps part × SaysAfter v part image)
+      → ((bytes : List ℕ) (v : View) → IsFoundWith b.store (content d) (settled d) bytes v → Elapses (clock d) (since d) (since d') (IsAfterFirst r.steps v))
+      → ((bytes : List ℕ) (v : View) → IsFoundWith b.store (content d) (settled d) bytes v → Elapses (clock d) (since d) (since d') (KeepsPast b.store.header bytes))
       → These {T = T} (i ∷ []) (Err e) b b' l l d d'
   one_failed e i b b' l d d' time cut passed past =
       let r = reply_to (state_of b) i.command in

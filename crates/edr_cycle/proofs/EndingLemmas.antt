@@ -19,8 +19,9 @@ use Rattle.edr_image.specs.Steps.{BankStep, State, Reply, after, at_rest}
 use Rattle.edr_image.proofs.StopLaws.{stop-prefix}
 use Rattle.edr_banks.specs.Opened.{OpenedBanks, state_of}
 use Rattle.edr_run.specs.Cycle.{End, cut, whole, acks_before, acks_in, cut_end, issues_in, replies_in, steps_in, whole_end}
-use Rattle.edr_cycle.specs.Commits.{Commits, IsAfterFirst, IsLeftBy, IsReadyFor, SaysAfter, acks_from, first_steps, replies_from, steps_from}
-use Rattle.edr_cycle.specs.Ends.{HasFirst, IsFound, MeetsCycle, steps_at, steps_before}
+use Rattle.edr_cycle.specs.Commits.{Commits, IsAfterFirst, IsLeftBy, IsFoundWith, SaysAfter, acks_from, first_steps, replies_from, steps_from}
+use Rattle.edr_cycle.specs.Ends.{HasFirst, MeetsCycle, steps_at, steps_before}
+use Rattle.edr_gates.specs.Found.{IsFound}
 use Rattle.edr_cycle.specs.Past.{KeepsPast}
 use Rattle.edr_cycle.proofs.KeepingLemmas.{first_steps-keep}
 use Rattle.edr_cycle.proofs.PastLemmas.{past_same}
@@ -94,8 +95,8 @@ module _ {D : Type 0} (content : D → Option (List ℕ)) (settled : D → ℕ �
   abbrev at : List ℕ → Type 0
   at bytes = IsFound seen (content d) (settled d) bytes
 
-  ready : (bytes : List ℕ) → at bytes → IsReadyFor b.store (content d) (settled d) bytes seen
-  ready bytes h = record { quiet = h.quiet; view_is = h.view_is; store_is = refl }
+  ready : (bytes : List ℕ) → at bytes → IsFoundWith b.store (content d) (settled d) bytes seen
+  ready bytes h = (h, refl)
 
   state_is : state_of b ≡ at_rest b.store
   state_is = ap (λ (h : Option ℕ). record { store = b.store; held = h }) rests

@@ -6,7 +6,7 @@ use Rattle.edr_device.proofs.SettlingLemmas.{stays_quiet}
 use Rattle.edr_image.specs.PartBytes.{number_at}
 use Rattle.edr_image.specs.Image.{View, is_open, older_slot, place_of_slot, slot_count}
 use Rattle.edr_cycle.specs.Counter.{IsNextSlot}
-use Rattle.edr_cycle.specs.Ends.{IsFound}
+use Rattle.edr_gates.specs.Found.{IsFound}
 use Rattle.edr_cycle.proofs.FrontLemmas.{seen}
 
 pub slot_within : (bytes : List ℕ) → older_slot bytes ≤ 1

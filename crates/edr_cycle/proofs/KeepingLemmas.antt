@@ -1,5 +1,5 @@
 -- What the first steps of a cycle keep.
-use Rattle.std.proofs.Common.{◌≡◌, refl, ap, sym, subst, ◌∙◌, arith, ℕ, ◌+◌, ◌-◌, ◌≤◌, ◌⊎◌, inl, inr, true, Option, Some, None, List, [], ◌∷◌, map, take}
+use Rattle.std.proofs.Common.{◌≡◌, subst, arith, ℕ, ◌+◌, ◌-◌, ◌≤◌, ◌⊎◌, inl, inr, Option, Some, None, List, [], ◌∷◌, map, take}
 use Rattle.std.specs.Prelude.{Contains, slice_get}
 use Rattle.edr_items.specs.SensorLists.{SensorLists}
 use Rattle.edr_record.specs.Parts.{PrePart, CrashPart}
@@ -8,7 +8,6 @@ use Rattle.edr_record.specs.declared.Command.{Command}
 use Rattle.edr_record.specs.declared.Command.TheVariants as command
 use Rattle.edr_image.specs.declared.BankView.TheVariants.{Event}
 use Rattle.edr_image.specs.Banks.{Store}
-use Rattle.edr_image.specs.Image.{View}
 use Rattle.edr_image.specs.Kept.{AreKept}
 use Rattle.edr_image.specs.Order.{AreOwn, IsOwn}
 use Rattle.edr_image.specs.Steps.{after, steps_of}
@@ -16,7 +15,7 @@ use Rattle.edr_image.proofs.OwnLaws.{own-steps}
 use Rattle.edr_image.proofs.StepLaws.{locked-stays}
 use Rattle.edr_image.proofs.StopLaws.{contains_here, contains_later}
 use Rattle.edr_run.specs.Cycle.{issues_in, steps_in}
-use Rattle.edr_run.specs.Own.{ArePartsOf, IsPreOfCycle, IsRecordOf}
+use Rattle.edr_run.specs.Own.{ArePartsOf, IsPreOfCycle}
 use Rattle.edr_run.proofs.OrderLaws.{cycle_steps-kept}
 use Rattle.edr_run.proofs.OwnLaws.{issues-own}
 use Rattle.edr_cycle.specs.Commits.{IsAfterFirst}

@@ -1,16 +1,14 @@
 -- Commands, replies, steps, acknowledgements and stops of one list after another.
-use Rattle.std.proofs.Common.{◌≡◌, ◌≤◌, ◌+◌, ◌∙◌, ℕ, zero, suc, Some, List, [], ◌∷◌, ◌++◌, length, map, take, refl, sym, ap, subst, inl, inr, arith, append-nil}
-use Rattle.std.specs.Prelude.{flat_map, zip, slice_get}
+use Rattle.std.proofs.Common.{◌≡◌, ◌≤◌, ◌+◌, ◌∙◌, ℕ, List, [], ◌∷◌, ◌++◌, length, map, take, refl, sym, ap, subst, inl, inr, arith, append-nil}
+use Rattle.std.specs.Prelude.{flat_map, zip}
 use Rattle.std.proofs.lemmas.List.{length-map, map-append, take-append-le}
-use Rattle.std.proofs.lemmas.List.Sums.{fold-append, sum_by-append}
+use Rattle.std.proofs.lemmas.List.Sums.{sum_by-append}
 use Rattle.std.proofs.lemmas.Grind.{flat_map-append}
-use Rattle.std.proofs.lemmas.Option.{slice_get_within}
 use Rattle.std.proofs.Math.Seq.{take-append-add, take-length}
 use Rattle.edr_record.specs.declared.Command.{Command}
 use Rattle.edr_definitions.specs.Commands.{Issue}
-use Rattle.edr_image.specs.Banks.{Store}
 use Rattle.edr_image.specs.Calls.{IsStop, all_calls, calls_of, gate_call_of}
-use Rattle.edr_image.specs.Steps.{BankStep, Erase, Fill, Lock, Done, State, Reply, after, banks_after, held_after, replies, reply_to, state_after}
+use Rattle.edr_image.specs.Steps.{BankStep, Erase, Fill, Lock, Done, State, Reply, replies, reply_to, state_after}
 use Rattle.edr_run.specs.Cycle.{ack_of}
 use Rattle.edr_run.proofs.ReplyLemmas.{replies-append, stop_first, stop_later}
 use Rattle.edr_cycle.specs.Commits.{IsLeftBy, acks_from, first_steps, replies_from, steps_from}

@@ -12,7 +12,8 @@ use Rattle.edr_image.specs.Kept.{AreKept, IsKept}
 use Rattle.edr_image.specs.Reports.{StartStopped}
 use Rattle.edr_run.specs.Cycle.{start_counted, start_stopped}
 use Rattle.edr_cycle.specs.Counter.{IsCountAfterStop, SaysWith}
-use Rattle.edr_cycle.specs.Ends.{ComesTo, IsFound, cycle_with}
+use Rattle.edr_cycle.specs.Ends.{ComesTo, cycle_with}
+use Rattle.edr_gates.specs.Found.{IsFound}
 use Rattle.edr_cycle.specs.Starts.{MakesSix, MeetsStart}
 use Rattle.edr_cycle.proofs.AnsweredLemmas.{map_err}
 use Rattle.edr_cycle.proofs.FirstByteLemmas.{found_stays, stays_elapse}

@@ -4,7 +4,7 @@ use Rattle.edr_record.specs.Parts.{CrashPart, PrePart}
 use Rattle.edr_record.specs.declared.Command.{Command}
 use Rattle.edr_definitions.specs.Commands.{Issue}
 use Rattle.edr_definitions.specs.Core.{commands_of}
-use Rattle.edr_device.specs.Device.{Elapses, IsQuiet, IsSettled, MayLeave}
+use Rattle.edr_device.specs.Device.{Elapses, IsQuiet, MayLeave}
 use Rattle.edr_device.specs.Faults.{last_number}
 use Rattle.edr_device.specs.Pieces.{Makes}
 use Rattle.edr_device.specs.declared.device.Nvm.{Ghosts}
@@ -16,6 +16,7 @@ use Rattle.edr_image.specs.Logged.{Logged}
 use Rattle.edr_image.specs.Steps.{BankStep, State, Reply, after, replies}
 use Rattle.edr_banks.specs.Opened.{OpenedBanks, state_of}
 use Rattle.edr_banks.specs.Applying.{opened_after}
+use Rattle.edr_gates.specs.Found.{IsFound}
 use Rattle.edr_run.specs.Cycle.{ack_of}
 use Rattle.edr_cycle.specs.Past.{KeepsPast}
 
@@ -43,15 +44,9 @@ first_steps s xs j = flat_map (λ r. r.steps) (take j (replies_from s xs))
 
 -- ---- banks, log and device
 
--- where the device tells its bytes, all are settled, and they say these banks
-abbrev pub TellsBanks : Store → Option (List ℕ) → (ℕ → Bool) → Type 0
-TellsBanks store content settled = (bytes : List ℕ) → content ≡ Some bytes → IsSettled settled × (v : View) × (view_of bytes ≡ Some v) × (v.store ≡ store)
-
--- the device tells bytes that say these banks, and nothing is pending
-pub record IsReadyFor (store : Store) (content : Option (List ℕ)) (settled : ℕ → Bool) (bytes : List ℕ) (v : View) : Type 0 where
-  pub quiet : IsQuiet content settled bytes
-  pub view_is : view_of bytes ≡ Some v
-  pub store_is : v.store ≡ store
+-- the device is found with these banks
+abbrev pub IsFoundWith : Store → Option (List ℕ) → (ℕ → Bool) → List ℕ → View → Type 0
+IsFoundWith store content settled bytes v = IsFound v content settled bytes × (v.store ≡ store)
 
 -- the image says what the bytes said, after these steps
 abbrev pub SaysAfter : View → List BankStep → List ℕ → Type 0
@@ -87,7 +82,7 @@ pub record StopsAt (s : State) (xs : List Issue) (before now : ℕ) (content con
   pub fails : FailsAt s xs (now - before) j
   pub made : now ≢ last_number → all_calls (first_steps s xs j) < now - before
   pub log_is : l'.acks ≡ l.acks ++ take j (acks_from s xs)
-  pub cut : (bytes image : List ℕ) (v : View) → IsReadyFor s.store content settled bytes v → MayLeave content' settled' image → IsCutInCommand s xs (now - before) j fails.reply.steps v image
+  pub cut : (bytes image : List ℕ) (v : View) → IsFoundWith s.store content settled bytes v → MayLeave content' settled' image → IsCutInCommand s xs (now - before) j fails.reply.steps v image
 
 -- The issued commands are applied to the banks and logged, one after the other, up to one that fails. The words of the device come
 -- first, as functions of it.
@@ -95,11 +90,11 @@ pub record Commits {D T E : Type 0} (content : D → Option (List ℕ)) (settled
   pub banks_are : OnOk result (b' ≡ opened_after b (steps_from (state_of b) xs))
   pub log_is : OnOk result (l' ≡ record { acks = l.acks ++ acks_from (state_of b) xs; spare = l.spare - length xs })
   pub time : Makes (all_calls (steps_from (state_of b) xs)) (clock d) (clock d') (good d) (good d') result
-  pub taken : OnOk result ((bytes : List ℕ) (v : View) → IsReadyFor b.store (content d) (settled d) bytes v → (now : List ℕ) × IsQuiet (content d') (settled d') now × SaysAfter v (steps_from (state_of b) xs) now × KeepsPast b.store.header bytes now)
+  pub taken : OnOk result ((bytes : List ℕ) (v : View) → IsFoundWith b.store (content d) (settled d) bytes v → (now : List ℕ) × IsQuiet (content d') (settled d') now × SaysAfter v (steps_from (state_of b) xs) now × KeepsPast b.store.header bytes now)
   pub stopped : OnErr result (StopsAt (state_of b) xs (clock d) (clock d') (content d) (content d') (settled d) (settled d') l l')
-  pub any_moment : (bytes : List ℕ) (v : View) → IsReadyFor b.store (content d) (settled d) bytes v → Elapses (clock d) (since d) (since d') (IsAfterFirst (steps_from (state_of b) xs) v)
+  pub any_moment : (bytes : List ℕ) (v : View) → IsFoundWith b.store (content d) (settled d) bytes v → Elapses (clock d) (since d) (since d') (IsAfterFirst (steps_from (state_of b) xs) v)
   -- and it leaves what stands past the image
-  pub past : (bytes : List ℕ) (v : View) → IsReadyFor b.store (content d) (settled d) bytes v → Elapses (clock d) (since d) (since d') (KeepsPast b.store.header bytes)
+  pub past : (bytes : List ℕ) (v : View) → IsFoundWith b.store (content d) (settled d) bytes v → Elapses (clock d) (since d) (since d') (KeepsPast b.store.header bytes)
 
 -- the same of a memory
 abbrev pub CommitsOn : {D T E : Type 0} → Ghosts D → List Issue → Result T E → OpenedBanks → OpenedBanks → Logged → Logged → D → D → Type 0

@@ -1,5 +1,5 @@
 -- The count of ignition cycles, in two slots.
-use Rattle.std.specs.Prelude.{◌≡◌, ◌⊎◌, ◌+◌, ◌*◌, ◌≤◌, ◌<◌, ℕ, Bool, Some, List}
+use Rattle.std.specs.Prelude.{◌≡◌, ◌⊎◌, ◌*◌, ◌≤◌, ◌<◌, ℕ, Bool, Some, List}
 use Rattle.edr_device.specs.Pieces.{SameBut}
 use Rattle.edr_image.specs.declared.places.TheConstants.{FIRST_SLOT, SLOT_SIZE}
 use Rattle.edr_image.specs.Image.{View, is_open, older_slot, place_of_slot, view_of}

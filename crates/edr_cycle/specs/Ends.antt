@@ -16,6 +16,7 @@ use Rattle.edr_image.specs.Image.{View, view_of}
 use Rattle.edr_image.specs.Kept.{AreKept}
 use Rattle.edr_image.specs.Reports.{Report, Ran}
 use Rattle.edr_image.specs.Steps.{BankStep, Reply}
+use Rattle.edr_gates.specs.Found.{IsFound}
 use Rattle.edr_spell.specs.declared.CycleInput.{CycleInput}
 use Rattle.edr_run.specs.Cycle.{IsCycle, acks_before, acks_in, issues_in, replies_in, steps_in}
 use Rattle.edr_run.specs.Own.{IsRecordOf}
@@ -31,11 +32,6 @@ pub record ComesTo (c : CycleInput) (v : Store) (n : ℕ) (report : Report) (ima
   pub view : View
   pub view_is : view_of image ≡ Some view
   pub cycle : IsCycle c v n (record { report = report; store = view.store; count = view.count })
-
--- the device tells bytes that say these banks and this count, and nothing is pending
-pub record IsFound (v : View) (content : Option (List ℕ)) (settled : ℕ → Bool) (bytes : List ℕ) : Type 0 where
-  pub quiet : IsQuiet content settled bytes
-  pub view_is : view_of bytes ≡ Some v
 
 -- ---- what is acknowledged
 

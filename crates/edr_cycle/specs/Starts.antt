@@ -1,16 +1,22 @@
 -- What a start says of its causes and of time.
-use Rattle.std.specs.Prelude.{◌≡◌, ◌≢◌, ◌⊎◌, ◌+◌, ◌-◌, ◌≤◌, ◌<◌, ◌↔◌, ℕ, Bool, Option, Some, List, Result, OnOk, OnErr}
+use Rattle.std.specs.Prelude.{◌≡◌, ◌≢◌, ◌⊎◌, ◌+◌, ◌-◌, ◌≤◌, ◌<◌, ◌↔◌, ℕ, Bool, Option, Some, List, Result, Err, IfOk, IfErr, OnOk, OnErr}
+use Rattle.std.specs.Option.{ForSome}
 use Rattle.edr_items.specs.SensorLists.{SensorLists}
 use Rattle.edr_device.specs.Device.{Elapses, IsQuiet, MayLeave, Unchanged}
-use Rattle.edr_device.specs.Faults.{last_number}
-use Rattle.edr_device.specs.Lent.{At, Meanwhile}
+use Rattle.edr_device.specs.Faults.{Rose, last_number}
+use Rattle.edr_device.specs.Lent.{At, GoesOn, Meanwhile}
 use Rattle.edr_device.specs.declared.device.Nvm.{Ghosts}
-use Rattle.edr_image.specs.Image.{View, view_of}
+use Rattle.edr_image.specs.declared.OpenFault.{OpenFault}
+use Rattle.edr_image.specs.declared.places.TheConstants.{FRONT_SIZE}
+use Rattle.edr_image.specs.Image.{View, image_size, view_of}
 use Rattle.edr_image.specs.Kept.{IsKept}
 use Rattle.edr_image.specs.Reports.{StartStopped}
+use Rattle.edr_gates.specs.Found.{IsFound}
+use Rattle.edr_banks.specs.Opening.{RefusesRightly, TellsView}
 use Rattle.edr_run.specs.Cycle.{last_count}
+use Rattle.edr_cycle.specs.Begun.{Begun, view_before, view_begun}
 use Rattle.edr_cycle.specs.Counter.{IsCountAfterStop, SaysWith}
-use Rattle.edr_cycle.specs.Ends.{ComesTo, IsFound, cycle_with}
+use Rattle.edr_cycle.specs.Ends.{ComesTo, cycle_with}
 use Rattle.edr_image.specs.declared.OpenFault.TheVariants as open_fault
 use Rattle.edr_cycle.specs.declared.started.StartFault.{StartFault}
 use Rattle.edr_cycle.specs.declared.started.StartFault.TheVariants.{Open, Spent, StoreFault, OutOfMemory}
@@ -94,3 +100,26 @@ pub record MeetsStart {D T E : Type 0} (content : D → Option (List ℕ)) (sett
 -- the same of a memory
 abbrev pub MeetsStartOn : {D T E : Type 0} → Ghosts D → Result T E → D → D → Type 0
 MeetsStartOn g result d d' = MeetsStart g.content g.settled g.since g.clock g.last_good result d d'
+
+-- ---- the outcome of a start, in one record
+
+-- At Ok the banks are those that were found, and the number is one more than the count; a fault tells its cause.
+pub record FindsCycle {D : Type 0} (g : Ghosts D) (most : ℕ) (old new : D) (result : Result Begun StartFault) : Type 0 where
+  pub ticks : IfOk result (λ s. s.ticks ≡ most)
+  pub found : IfOk result (λ s. TellsView (g.content old) (view_before s))
+  pub number : IfOk result (λ s. (1 ≤ s.number) × (s.number ≤ last_count))
+  pub fits : IfOk result (λ s. image_size s.banks.store.header.banks ≤ g.extent old)
+  pub refused : IfErr result (λ e. (o : OpenFault) → e ≡ Open o → RefusesRightly (g.content old) o)
+  pub short : g.extent old < FRONT_SIZE → result ≡ Err (Open (open_fault.Short (g.extent old) FRONT_SIZE))
+  pub sizes : IfErr result (TellsShort (g.extent old))
+  pub spent : IfErr result (λ e. HasOpened e → ForSome (g.content old) (IsSpentRightly e))
+  pub fault : IfErr result (λ e. IsDeviceFault e → Rose (g.faults old) (g.faults new))
+
+-- Whatever comes of it, the memory goes on. At Ok its count is the number; any fault but one of the device after the opening comes
+-- before the first changing call.
+pub record Starts {D : Type 0} (g : Ghosts D) (most : ℕ) (old new : D) (result : Result Begun StartFault) : Type 0 where
+  pub lent : GoesOn g old new
+  pub finds : FindsCycle g most old new result
+  pub made : IfOk result (λ s. CountsOne g (view_begun s) old new)
+  pub early : IfErr result (λ e. IsEarly e → StandsStill g old new)
+  pub cycle : MeetsStartOn g result old new

@@ -40,11 +40,11 @@ abbrev view_after : View → List BankStep → View
 view_after v steps = record v { store = after v.store steps }
 
 ready_first : (a b : List BankStep) (content : Option (List ℕ)) (settled : ℕ → Bool) (bytes : List ℕ) (v : View) → IsReady (a ++ b) content settled bytes v → IsReady a content settled bytes v
-ready_first a b content settled bytes v h = record { quiet = h.quiet; view = h.view; may = (may_parts a b v.store.banks h.may).0 }
+ready_first a b content settled bytes v h = record { found = h.found; may = (may_parts a b v.store.banks h.may).0 }
 
 ready_rest : (a b : List BankStep) (content content' : Option (List ℕ)) (settled settled' : ℕ → Bool) (bytes now : List ℕ) (v : View) → IsReady (a ++ b) content settled bytes v → IsQuiet content' settled' now → HasDone a a bytes v now
     → IsReady b content' settled' now (view_after v a)
-ready_rest a b content content' settled settled' bytes now v h quiet done = record { quiet = quiet; view = done.view; may = (may_parts a b v.store.banks h.may).1 }
+ready_rest a b content content' settled settled' bytes now v h quiet done = record { found = record { quiet = quiet; view_is = done.view }; may = (may_parts a b v.store.banks h.may).1 }
 
 done_first : (a b done : List BankStep) (bytes : List ℕ) (v : View) (image : List ℕ) → HasDone a done bytes v image → HasDone (a ++ b) done bytes v image
 done_first a b done bytes v image h = record {
@@ -218,6 +218,6 @@ pass_again a b content between settled settled_between c0 c1 s0 s1 s2 later take
 pub each_passed : (steps : List BankStep) (content : Option (List ℕ)) (settled : ℕ → Bool) (c0 : ℕ) (s0 s1 : ℕ → List ℕ → Type 0) → ((image : List ℕ) → s0 c0 image → MayLeave content settled image) → PassMeanwhile steps content settled c0 s0 s1
     → EachIsPassed steps content settled c0 s1
 each_passed steps content settled c0 s0 s1 only pass = λ bytes image v ready left. ⊎_elim
-    (λ (before : s0 c0 image). passed_none steps bytes v image ready.view (quiet_leaves bytes content settled image ready.quiet (only image before)))
+    (λ (before : s0 c0 image). passed_none steps bytes v image ready.found.view_is (quiet_leaves bytes content settled image ready.found.quiet (only image before)))
     (λ (meanwhile : IsPassed steps bytes v image). meanwhile)
     ((pass bytes v ready).nothing_else c0 image (omega arith) left)

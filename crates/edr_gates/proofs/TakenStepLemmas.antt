@@ -57,7 +57,7 @@ pub takes_none : {T E D : Type 0} {g : Ghosts D} (d : D) (x : T) → OnlyNow g d
 takes_none {g = g} d x only on = record {
   lent = record { size = refl; device = on; tells = tells_self (g.content d); cause = record { later = le_refl (g.faults d); failed = tt } };
   time = none_made (g.clock d) (g.last_good d) x;
-  taken = λ bytes v ready. (bytes, ready.quiet, record { size = refl; same = λ i below aside. refl; unwritten = λ i below out. refl; view = ready.view }, refl);
+  taken = λ bytes v ready. (bytes, ready.found.quiet, record { size = refl; same = λ i below aside. refl; unwritten = λ i below out. refl; view = ready.found.view_is }, refl);
   stopped = tt;
   any_moment = stays;
   each = each_passed [] (g.content d) (g.settled d) (g.clock d) (g.since d) (g.since d) only stays;

@@ -34,7 +34,7 @@ pub step_taken : {T E : Type 0} (r : Result T E) (s : BankStep) (content content
     → ((bytes : List ℕ) → next bytes ≡ image_after bytes (s ∷ []))
     → OnOk r ((bytes : List ℕ) → IsQuiet content settled bytes → IsQuiet content' settled' (next bytes))
     → OnOk r (AreTaken (s ∷ []) content settled content' settled')
-step_taken r s content content' settled settled' next makes writes done = map_ok r done (λ f bytes v ready. (next bytes, f bytes ready.quiet, makes bytes v ready.view ready.may.0, writes bytes))
+step_taken r s content content' settled settled' next makes writes done = map_ok r done (λ f bytes v ready. (next bytes, f bytes ready.found.quiet, makes bytes v ready.found.view_is ready.may.0, writes bytes))
 
 pub step_stopped : {T E : Type 0} (res : Result T E) (s : BankStep) (old new : ℕ) (content content' : Option (List ℕ)) (settled settled' : ℕ → Bool) (leaves : List ℕ → List ℕ → Type 0)
     → ((bytes image : List ℕ) (v : View) → view_of bytes ≡ Some v → MayTake v.store.banks s → leaves bytes image → StopOf s (new - old) bytes v image)
@@ -43,14 +43,14 @@ pub step_stopped : {T E : Type 0} (res : Result T E) (s : BankStep) (old new : �
     → OnErr res (AreStopped (s ∷ []) (new - old) content settled content' settled')
 step_stopped (Ok x) s old new content content' settled settled' leaves makes few stopped = tt
 step_stopped (Err x) s old new content content' settled settled' leaves makes few stopped = λ bytes image v ready left.
-    stop_is s (new - old) bytes v image (omega arith) (makes bytes image v ready.view ready.may.0 (stopped bytes image ready.quiet left))
+    stop_is s (new - old) bytes v image (omega arith) (makes bytes image v ready.found.view_is ready.may.0 (stopped bytes image ready.found.quiet left))
 
 pub step_passes : (s : BankStep) (content : Option (List ℕ)) (settled : ℕ → Bool) (c0 : ℕ) (s0 s1 : ℕ → List ℕ → Type 0) (during : List ℕ → List ℕ → Type 0)
     → ((bytes image : List ℕ) (v : View) → view_of bytes ≡ Some v → MayTake v.store.banks s → during bytes image → Either s bytes v image)
     → ((bytes : List ℕ) → IsQuiet content settled bytes → Elapses c0 s0 s1 (during bytes))
     → PassMeanwhile (s ∷ []) content settled c0 s0 s1
 step_passes s content settled c0 s0 s1 during makes moments = λ bytes v ready.
-    elapses_more c0 s0 s1 (during bytes) (IsPassed (s ∷ []) bytes v) (moments bytes ready.quiet) (λ image d. passed_is s bytes v image (makes bytes image v ready.view ready.may.0 d))
+    elapses_more c0 s0 s1 (during bytes) (IsPassed (s ∷ []) bytes v) (moments bytes ready.found.quiet) (λ image d. passed_is s bytes v image (makes bytes image v ready.found.view_is ready.may.0 d))
 
 -- ---- what a step writes
 

@@ -10,6 +10,7 @@ use Rattle.edr_image.specs.declared.places.TheConstants.{BANK_SIZE}
 use Rattle.edr_image.specs.Steps.{BankStep, Erase, Fill, Lock, Done, after, banks_after}
 use Rattle.edr_image.specs.Calls.{all_calls, stops}
 use Rattle.edr_image.specs.Image.{View, image_after, place_of, view_of, writes_of}
+use Rattle.edr_gates.specs.Found.{IsFound}
 
 -- ---- which steps may be taken
 
@@ -29,10 +30,9 @@ abbrev pub MayTakeAll : List BankView → List BankStep → Type 0
 MayTakeAll banks [] = Unit {0}
 MayTakeAll banks (s ∷ steps) = MayTake banks s × MayTakeAll (banks_after banks s) steps
 
--- the device tells these bytes and nothing is pending, they have the view, and the steps may be taken
+-- the device is found with this view, and the steps may be taken
 pub record IsReady (steps : List BankStep) (content : Option (List ℕ)) (settled : ℕ → Bool) (bytes : List ℕ) (v : View) : Type 0 where
-  pub quiet : IsQuiet content settled bytes
-  pub view : view_of bytes ≡ Some v
+  pub found : IsFound v content settled bytes
   pub may : MayTakeAll v.store.banks steps
 
 -- ---- what an image says of them

@@ -17,7 +17,7 @@ use Rattle.edr_image.specs.Reports.{Report}
 use Rattle.edr_image.proofs.StopLaws.{contains_none}
 use Rattle.edr_run.specs.Cycle.{IsCycle, last_count}
 use Rattle.edr_cycle.specs.Ends.{MeetsCycle, cycle_with}
-use Rattle.edr_replay.specs.Replayed.{Holds}
+use Rattle.edr_gates.specs.Found.{Holds}
 use Rattle.edr_replay.proofs.FewCallLemmas.{calls_least}
 use Rattle.edr_replay.proofs.RunPhaseLemmas.{runs_whole}
 use Rattle.edr_large.specs.declared.runs.TheConstants.{CALLS}
@@ -34,7 +34,7 @@ new_quiet m image is = (
 )
 
 pub new_holds : (m : MemNvm) (image : List ℕ) (v : Store) (n : ℕ) → memory_state m ≡ is_calm image → view_of image ≡ Some (record { store = v; count = n }) → Holds (memory_content m) (memory_settled m) v n
-new_holds m image v n is says = record { bytes = image; quiet = new_quiet m image is; says = says }
+new_holds m image v n is says = record { bytes = image; found = record { quiet = new_quiet m image is; view_is = says } }
 
 -- what it tells is its image
 pub told_image : (m : MemNvm) (bytes : List ℕ) → memory_content m ≡ Some bytes → bytes ≡ memory_image m
@@ -96,11 +96,11 @@ cycle_ran f image now before acks log number store failed m0 m1 m2 m3 is begun w
     let held : Holds (memory_content m1) (memory_settled m1) store number =
     subst (λ (k : ℕ). Holds (memory_content m1) (memory_settled m1) store k) (sym next) (subst (λ (w : Store). Holds (memory_content m1) (memory_settled m1) w (n + 1)) (sym b.1) b.3) in
     let runs = runs_whole f 0 number store log (memory_content m1) (memory_settled m1) (memory_content m2) (memory_settled m2) (memory_content m3) (memory_settled m3) (inl refl) tells off (meets.whole whole) n next held in
-    let same : runs.3.bytes ≡ now = told_image m3 runs.3.bytes runs.3.quiet.0 ∙ sym left in
+    let same : runs.3.bytes ≡ now = told_image m3 runs.3.bytes runs.3.found.quiet.0 ∙ sym left in
     record {
       end = runs.0;
       below = b.0;
       cycle = subst (λ (w : Store). IsCycle (cycle_with 0 f 0) w n runs.0) b.1 runs.1;
       acks_are = noted ∙ ap (λ (r : Report). before ++ acks_in r) (sym runs.2);
-      says = subst (λ (bytes : List ℕ). view_of bytes ≡ Some (record { store = runs.0.store; count = runs.0.count })) same runs.3.says;
+      says = subst (λ (bytes : List ℕ). view_of bytes ≡ Some (record { store = runs.0.store; count = runs.0.count })) same runs.3.found.view_is;
     }

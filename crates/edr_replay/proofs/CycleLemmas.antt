@@ -5,14 +5,35 @@ use Rattle.edr_image.specs.declared.log.CycleReport.{CycleReport}
 use Rattle.edr_image.specs.Reports.{Report, StartStopped, report_of}
 use Rattle.edr_spell.specs.declared.CycleInput.{CycleInput}
 use Rattle.edr_device.specs.Faults.{Rose}
+use Rattle.edr_device.specs.Lent.{GoesOn}
+use Rattle.edr_device.specs.declared.device.Nvm.{Ghosts}
+use Rattle.edr_device.proofs.LendingLemmas.{tells_self}
+use Rattle.edr_device.proofs.SettlingLemmas.{tells_again}
+use Rattle.std.proofs.Math.Nat.{le_refl, le_trans}
 use Rattle.edr_cycle.specs.declared.started.StartFault.{StartFault}
 use Rattle.edr_cycle.specs.declared.started.StartFault.TheVariants as fault
 use Rattle.edr_image.specs.declared.OpenFault.TheVariants as open_fault
 use Rattle.edr_run.specs.Cycle.{End, IsCycle, start_stopped, start_counted, start_end, last_count}
 use Rattle.edr_cycle.specs.Ends.{cycle_with}
 use Rattle.edr_cycle.specs.Starts.{IsDeviceFault}
-use Rattle.edr_replay.specs.Replayed.{Holds, IsStartRefusal, IsTrulySpent, IsTrulyRefused, IsTrulyShort, EndsSpent}
+use Rattle.edr_replay.specs.Replayed.{IsStartRefusal, IsTrulySpent, IsTrulyRefused, IsTrulyShort, EndsSpent}
+use Rattle.edr_gates.specs.Found.{Holds}
 use Rattle.edr_replay.specs.Phases.{RunsAs, RunsFrom}
+
+-- ---- a memory that goes on
+
+pub goes_self : {D : Type 0} {g : Ghosts D} (d : D) → g.goes_on d d → GoesOn g d d
+goes_self {g = g} d on = record { size = refl; device = on; tells = tells_self (g.content d); later = le_refl (g.faults d) }
+
+pub goes_again : {D : Type 0} {g : Ghosts D} (old mid new : D) → (g.goes_on old mid → g.goes_on mid new → g.goes_on old new) → GoesOn g old mid → GoesOn g mid new → GoesOn g old new
+goes_again {g = g} old mid new on first second = record {
+  size = second.size ∙ first.size;
+  device = on first.device second.device;
+  tells = tells_again (g.content old) (g.content mid) (g.content new) first.tells second.tells;
+  later = le_trans first.later second.later;
+}
+
+-- ---- an end of a cycle
 
 -- an end of the cycle that tells this report, and that the device holds
 abbrev pub EndsAs : CycleInput → Store → ℕ → Report → Option (List ℕ) → (ℕ → Bool) → Type 0

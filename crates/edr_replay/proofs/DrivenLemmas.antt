@@ -13,7 +13,8 @@ use Rattle.edr_cycle.specs.declared.started.StartFault.TheVariants as fault
 use Rattle.edr_cycle.specs.Starts.{IsDeviceFault}
 use Rattle.edr_replay.specs.Phases.{LeavesOfRun}
 use Rattle.edr_replay.specs.Reached.{between, counted, in_start_counted, untouched}
-use Rattle.edr_replay.specs.Replayed.{EndsCutShort, HasRun, Holds, IsDrivenFault, IsLeftAlone, IsLeftOrCounted, IsMemory, IsTrulyRefused, IsTrulyShort, IsTrulySpent, LeavesPart}
+use Rattle.edr_replay.specs.Replayed.{EndsCutShort, HasRun, IsDrivenFault, IsLeftAlone, IsLeftOrCounted, IsMemory, IsTrulyRefused, IsTrulyShort, IsTrulySpent, LeavesPart}
+use Rattle.edr_gates.specs.Found.{Holds}
 use Rattle.edr_replay.proofs.CycleLemmas.{memory_refused, memory_short, memory_unspent, not_refused, not_short, not_spent, rose_later}
 use Rattle.edr_replay.proofs.LeavingLemmas.{none_first}
 
@@ -23,10 +24,10 @@ use Rattle.edr_replay.proofs.LeavingLemmas.{none_first}
 pub leaves_counted : (f : SensorLists) (stop number : ℕ) (store : Store) (content : Option (List ℕ)) (settled : ℕ → Bool) → LeavesOfRun f stop number store content settled content settled
 unfolding LeavesOfRun
 leaves_counted f stop number store content settled = λ n next h image may.
-    let same = quiet_leaves h.bytes content settled image h.quiet may in (
+    let same = quiet_leaves h.bytes content settled image h.found.quiet may in (
       start_end 6 store (n + 1),
       inl (in_start_counted 6 (omega arith) (omega arith) refl),
-      subst (λ (k : ℕ). view_of image ≡ Some (record { store = store; count = k })) next (ap view_of same ∙ h.says),
+      subst (λ (k : ℕ). view_of image ≡ Some (record { store = store; count = k })) next (ap view_of same ∙ h.found.view_is),
     )
 
 -- a fault of the device is one of the ways in which they end early
@@ -83,8 +84,8 @@ left_none content settled e = λ memory v n holds. inl holds
 pub part_none : (c : CycleInput) (content : Option (List ℕ)) (settled : ℕ → Bool) → LeavesPart c content settled content settled
 unfolding LeavesPart
 part_none c content settled = λ v n h image may.
-    let same = quiet_leaves h.bytes content settled image h.quiet may in
-    (record { store = v; count = n }, ap view_of same ∙ h.says, untouched refl refl)
+    let same = quiet_leaves h.bytes content settled image h.found.quiet may in
+    (record { store = v; count = n }, ap view_of same ∙ h.found.view_is, untouched refl refl)
 
 -- ---- the loop
 

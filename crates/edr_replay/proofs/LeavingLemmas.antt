@@ -17,14 +17,15 @@ use Rattle.edr_run.specs.Cycle.{End, IsCycle, start_stopped, start_counted, whol
 use Rattle.edr_cycle.specs.declared.started.StartFault.{StartFault}
 use Rattle.edr_cycle.specs.declared.started.StartFault.TheVariants as fault
 use Rattle.edr_cycle.specs.Counter.{IsCountAfterStop, SaysWith}
-use Rattle.edr_cycle.specs.Ends.{ComesTo, IsFound, cycle_with}
+use Rattle.edr_cycle.specs.Ends.{ComesTo, cycle_with}
+use Rattle.edr_gates.specs.Found.{Holds, IsFound}
 use Rattle.edr_cycle.specs.Starts.{IsEarly, HasOpened}
 use Rattle.edr_replay.specs.Reached.{IsStopIn, in_start_counted, in_commands, IsLeftOfCycle, untouched, ended, stopped, RanFirst, IsReached, between, inside}
-use Rattle.edr_replay.specs.Replayed.{EndsShort, HasRun, Holds, IsLeftAlone, IsMemory, LeavesPart, LeavesReached}
+use Rattle.edr_replay.specs.Replayed.{EndsShort, HasRun, IsLeftAlone, IsMemory, LeavesPart, LeavesReached}
 use Rattle.edr_replay.specs.Phases.{LeavesOfRun, LeavesOfStart}
 use Rattle.edr_replay.proofs.RunLemmas.{extended, run_more}
 use Rattle.edr_replay.proofs.RunPhaseLemmas.{whole_with}
-use Rattle.edr_replay.proofs.StartPhaseLemmas.{SaysCount, count_left, found_held}
+use Rattle.edr_replay.proofs.StartPhaseLemmas.{SaysCount, count_left}
 
 -- ---- a start
 
@@ -45,7 +46,7 @@ leaves_start e before now content settled content' settled' counted early few le
     (λ (same : SaysWith n h.bytes (record { store = v; count = n }) image). inl same.view_is)
     (λ (later : (5 ≤ now - before) × SaysWith (n + 1) h.bytes (record { store = v; count = n }) image).
     let late = later.0 in inr (counted_left e v n before now content settled counted early late h, now - before, late, omega (arith, few), later.1.view_is))
-    (left h.bytes image (record { store = v; count = n }) (found_held v n content settled h) may)
+    (left h.bytes image (record { store = v; count = n }) h.found may)
 
 memory_early : (e : StartFault) → IsMemory e → IsEarly e
 memory_early (fault.Open o) is = tt
@@ -57,7 +58,7 @@ pub left_alone : (e : StartFault) (content : Option (List ℕ)) (settled : ℕ �
     → (IsEarly e → Stays content settled past content' settled' since) → IsLeftAlone content settled content' settled' e
 unfolding IsLeftAlone
 left_alone e content settled content' settled' past since early = λ memory v n h.
-    let stays = early (memory_early e memory) in record { bytes = h.bytes; quiet = (stays.same_content ∙ h.quiet.0, λ i. stays.same_settled i ∙ h.quiet.1 i); says = h.says }
+    let stays = early (memory_early e memory) in record { bytes = h.bytes; found = record { quiet = (stays.same_content ∙ h.found.quiet.0, λ i. stays.same_settled i ∙ h.found.quiet.1 i); view_is = h.found.view_is } }
 
 -- ---- the commands
 
@@ -75,7 +76,7 @@ pub leaves_cut : (f : SensorLists) (stop k number : ℕ) (store : Store) (acks :
     → LeavesOfRun f stop number store content settled content' settled'
 unfolding LeavesOfRun
 leaves_cut f stop k number store acks content settled content' settled' comes = λ n next h image may.
-    let come = comes h.bytes image (found_held store number content settled h) may in
+    let come = comes h.bytes image h.found may in
     let e : End = record { report = Ran number (Some k) acks; store = come.view.store; count = come.view.count } in
     let before : number - 1 ≡ n = omega (arith, next) in
     (e, inl (cut_stop f stop k number store n acks e refl (subst (λ (m : ℕ). IsCycle (cycle_with 0 f k) store m e) before come.cycle)), come.view_is)
@@ -93,7 +94,7 @@ pub leaves_whole : (f : SensorLists) (stop number : ℕ) (store : Store) (acks :
     → LeavesOfRun f stop number store content settled content'' settled''
 unfolding LeavesOfRun
 leaves_whole f stop number store acks content settled content' settled' content'' settled'' past since beyond stays comes = λ n next h image may.
-    let come = comes h.bytes image (found_held store number content settled h) (may_stay content' content'' settled' settled'' image stays.same_content stays.same_settled may) in
+    let come = comes h.bytes image h.found (may_stay content' content'' settled' settled'' image stays.same_content stays.same_settled may) in
     let e : End = record { report = Ran number None acks; store = come.view.store; count = come.view.count } in
     let before : number - 1 ≡ n = omega (arith, next) in
     let after : n + 1 ≡ number = omega (arith, next) in
@@ -144,8 +145,8 @@ none_first cs v n = record { within = omega arith; run = refl }
 pub reached_none : (cs : List CycleInput) (content : Option (List ℕ)) (settled : ℕ → Bool) → LeavesReached cs content settled content settled
 unfolding LeavesReached
 reached_none cs content settled = λ v n h image may.
-    let same = quiet_leaves h.bytes content settled image h.quiet may in
-    (record { store = v; count = n }, ap view_of same ∙ h.says, between 0 (record { reports = []; store = v; count = n }) (none_first cs v n) refl refl)
+    let same = quiet_leaves h.bytes content settled image h.found.quiet may in
+    (record { store = v; count = n }, ap view_of same ∙ h.found.view_is, between 0 (record { reports = []; store = v; count = n }) (none_first cs v n) refl refl)
 
 pub short_none : (cs : List CycleInput) (content : Option (List ℕ)) (settled : ℕ → Bool) (e : StartFault) → EndsShort cs content settled content settled e
 unfolding EndsShort

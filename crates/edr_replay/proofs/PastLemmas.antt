@@ -12,12 +12,10 @@ use Rattle.edr_image.specs.Image.{View, image_size}
 use Rattle.edr_spell.specs.declared.CycleInput.{CycleInput}
 use Rattle.edr_run.specs.Cycle.{End, IsCycle, start_stopped, start_counted, whole, cut, Outcome, IsRun, last_count}
 use Rattle.edr_cycle.specs.Counter.{IsCountAfterStop, SaysWith}
-use Rattle.edr_cycle.specs.Ends.{IsFound}
+use Rattle.edr_gates.specs.Found.{Holds, IsFound}
 use Rattle.edr_cycle.specs.Past.{KeepsPast}
 use Rattle.edr_cycle.proofs.PastLemmas.{past_again, past_same}
 use Rattle.edr_replay.specs.Past.{LeavesPast, LeavesPastOf}
-use Rattle.edr_replay.specs.Replayed.{Holds}
-use Rattle.edr_replay.proofs.StartPhaseLemmas.{found_held}
 use Rattle.edr_replay.proofs.StopLemmas.{leaves_itself}
 
 -- ---- one phase
@@ -73,9 +71,9 @@ pub past_then : (content content' content'' : Option (List ℕ)) (settled settle
     → LeavesPast content settled content'' settled''
 past_then content content' content'' settled settled' settled'' first holds second = record {
   keeps = λ v bytes image found may.
-      let mid = holds v.store v.count (record { bytes = bytes; quiet = found.quiet; says = found.view_is }) in
-      let there = found_held mid.0 mid.1 content' settled' mid.2 in
-      let before = first.keeps v bytes mid.2.bytes found (leaves_itself content' settled' mid.2.bytes mid.2.quiet.0) in
+      let mid = holds v.store v.count (record { bytes = bytes; found = found }) in
+      let there = mid.2.found in
+      let before = first.keeps v bytes mid.2.bytes found (leaves_itself content' settled' mid.2.bytes mid.2.found.quiet.0) in
       let after = second.keeps (record { store = mid.0; count = mid.1 }) mid.2.bytes image there may in
       past_again v.store.header bytes mid.2.bytes image before (subst (λ (h : Header). KeepsPast h mid.2.bytes image) mid.3 after);
 }
@@ -86,12 +84,12 @@ pub begun_past : (number : ℕ) (store : Store) (content content' content'' : Op
     → LeavesPastOf (record { store = store; count = number }) content' settled' content'' settled'' → LeavesPast content settled content'' settled''
 begun_past number store content content' content'' settled settled' settled'' first begun second = record {
   keeps = λ v bytes image found may.
-      let b = begun v.store v.count (record { bytes = bytes; quiet = found.quiet; says = found.view_is }) in
+      let b = begun v.store v.count (record { bytes = bytes; found = found }) in
       let held = b.3 in
-      let before = first.keeps v bytes held.bytes found (leaves_itself content' settled' held.bytes held.quiet.0) in
+      let before = first.keeps v bytes held.bytes found (leaves_itself content' settled' held.bytes held.found.quiet.0) in
       let there : Holds content' settled' store number = subst (λ (k : ℕ). Holds content' settled' store k) (sym b.2) (subst (λ (w : Store). Holds content' settled' w (v.count + 1)) (sym b.1) held) in
-      let after = second there.bytes image (found_held store number content' settled' there) may in
-      let same : there.bytes ≡ held.bytes = same_told content' there.bytes held.bytes there.quiet.0 held.quiet.0 in
+      let after = second there.bytes image there.found may in
+      let same : there.bytes ≡ held.bytes = same_told content' there.bytes held.bytes there.found.quiet.0 held.found.quiet.0 in
       past_again v.store.header bytes held.bytes image before (subst (λ (w : Store). KeepsPast w.header held.bytes image) b.1 (subst (λ (x : List ℕ). KeepsPast store.header x image) same after));
 }
   where

@@ -9,10 +9,9 @@ use Rattle.edr_image.specs.Banks.{Store}
 use Rattle.edr_image.specs.Calls.{all_calls}
 use Rattle.edr_image.specs.Reports.{Ran, Report}
 use Rattle.edr_run.specs.Cycle.{End, IsCycle, start_stopped, start_counted, whole, cut, steps_in}
-use Rattle.edr_cycle.specs.Ends.{ComesTo, IsFound, cycle_with}
+use Rattle.edr_cycle.specs.Ends.{ComesTo, cycle_with}
+use Rattle.edr_gates.specs.Found.{Holds, IsFound}
 use Rattle.edr_replay.specs.Phases.{RunsAs}
-use Rattle.edr_replay.specs.Replayed.{Holds}
-use Rattle.edr_replay.proofs.StartPhaseLemmas.{found_held}
 use Rattle.edr_replay.proofs.StopLemmas.{IsPlanned, leaves_itself, not_reached, told_some}
 
 -- an image to which the cycle may come is what the device holds
@@ -21,7 +20,7 @@ runs_to : (f : SensorLists) (stop number n : ℕ) (store : Store) (planned : Opt
 runs_to f stop number n store planned acks content settled now next quiet come =
     let e : End = record { report = Ran number planned acks; store = come.view.store; count = come.view.count } in
     let before : number - 1 ≡ n = omega (arith, next) in
-    (e, subst (λ (k : ℕ). IsCycle (cycle_with 0 f stop) store k e) before come.cycle, refl, record { bytes = now; quiet = quiet; says = come.view_is })
+    (e, subst (λ (k : ℕ). IsCycle (cycle_with 0 f stop) store k e) before come.cycle, refl, record { bytes = now; found = record { quiet = quiet; view_is = come.view_is } })
 
 -- ---- stopped as planned
 
@@ -31,8 +30,8 @@ pub runs_stopped : (f : SensorLists) (stop calls number : ℕ) (store : Store) (
     → ((bytes image : List ℕ) → IsFound (record { store = store; count = number }) content settled bytes → MayLeave content' settled' image → ComesTo (cycle_with 0 f calls) store (number - 1) (Ran number (Some calls) acks) image)
     → (n : ℕ) → number ≡ n + 1 → Holds content settled store number → RunsAs (Ran number (Some stop) acks) f stop store n content' settled'
 runs_stopped f stop calls number store acks content settled content' settled' is tells settles comes n next h =
-    let now = told_some content content' h.bytes h.quiet.0 tells in
-    let come = comes h.bytes now.0 (found_held store number content settled h) (leaves_itself content' settled' now.0 now.1) in
+    let now = told_some content content' h.bytes h.found.quiet.0 tells in
+    let come = comes h.bytes now.0 h.found (leaves_itself content' settled' now.0 now.1) in
     runs_to f stop number n store (Some stop) acks content' settled' now.0 next (now.1, settles now.0 now.1)
     (subst (λ (k : ℕ). ComesTo (cycle_with 0 f k) store (number - 1) (Ran number (Some k) acks) now.0) is come)
 
@@ -58,9 +57,9 @@ pub runs_whole : (f : SensorLists) (stop number : ℕ) (store : Store) (acks : L
     → ((bytes image : List ℕ) → IsFound (record { store = store; count = number }) content settled bytes → MayLeave content' settled' image → ComesTo (cycle_with 0 f 0) store (number - 1) (Ran number None acks) image)
     → (n : ℕ) → number ≡ n + 1 → Holds content settled store number → RunsAs (Ran number None acks) f stop store n content'' settled''
 runs_whole f stop number store acks content settled content' settled' content'' settled'' past tells off comes n next h =
-    let mid = told_some content content' h.bytes h.quiet.0 tells in
+    let mid = told_some content content' h.bytes h.found.quiet.0 tells in
     let now = come_back content' content'' settled' settled'' mid.0 mid.1 off in
-    let come = comes h.bytes now.0 (found_held store number content settled h) now.2 in
+    let come = comes h.bytes now.0 h.found now.2 in
     let same : number - 1 + 1 ≡ number = omega (arith, next) in
     let beyond = subst (λ (k : ℕ). (stop ≡ 0) ⊎ (all_calls (steps_in f k store) < stop)) (sym same) past in
     runs_to f stop number n store None acks content'' settled'' now.0 next now.1

@@ -11,18 +11,14 @@ use Rattle.edr_run.specs.Cycle.{last_count}
 use Rattle.edr_cycle.specs.declared.started.StartFault.{StartFault}
 use Rattle.edr_cycle.specs.declared.started.StartFault.TheVariants as fault
 use Rattle.edr_cycle.specs.Counter.{IsCountAfterStop, SaysWith}
-use Rattle.edr_cycle.specs.Ends.{IsFound}
+use Rattle.edr_gates.specs.Found.{Holds, IsFound}
 use Rattle.edr_cycle.specs.Starts.{IsEarly, HasOpened}
-use Rattle.edr_replay.specs.Replayed.{Holds, IsTrulyRefused, IsTrulyShort, IsTrulySpent}
+use Rattle.edr_replay.specs.Replayed.{IsTrulyRefused, IsTrulyShort, IsTrulySpent}
 use Rattle.edr_replay.proofs.StopLemmas.{leaves_itself, told_some}
 
 -- a view that is there is one
 some_view : {v w : View} → Some v ≡ Some w → v ≡ w
 some_view e = cc
-
--- what is held is found
-pub found_held : (v : Store) (n : ℕ) (content : Option (List ℕ)) (settled : ℕ → Bool) → (h : Holds content settled v n) → IsFound (record { store = v; count = n }) content settled h.bytes
-found_held v n content settled h = record { quiet = h.quiet; view_is = h.says }
 
 -- a view is its banks and its count
 same_view : (a b : Store) (m n : ℕ) → a ≡ b → m ≡ n → ◌≡◌ {A = Option View} (Some (record { store = a; count = m })) (Some (record { store = b; count = n }))
@@ -37,12 +33,12 @@ pub begins_started : (store : Store) (number : ℕ) (content : Option (List ℕ)
     → ((bytes : List ℕ) (v : View) → IsFound v content settled bytes → (now : List ℕ) × IsFound (record { store = store; count = number }) content' settled' now × SaysWith (v.count + 1) bytes v now)
     → (v : Store) (n : ℕ) → Holds content settled v n → (n < last_count) × (store ≡ v) × (number ≡ n + 1) × Holds content' settled' v (n + 1)
 begins_started store number content settled content' settled' some upto found made v n h =
-    let same : ◌≡◌ {A = View} (record { store = v; count = n }) (record { store = store; count = number - 1 }) = some_view (sym h.says ∙ found h.bytes h.quiet.0) in
+    let same : ◌≡◌ {A = View} (record { store = v; count = n }) (record { store = store; count = number - 1 }) = some_view (sym h.found.view_is ∙ found h.bytes h.found.quiet.0) in
     let banks : v ≡ store = ap (λ (w : View). w.store) same in
     let count : n ≡ number - 1 = ap (λ (w : View). w.count) same in
     let next : number ≡ n + 1 = omega (arith, count, some) in
-    let now = made h.bytes (record { store = v; count = n }) (found_held v n content settled h) in
-    (omega (arith, next, upto), sym banks, next, record { bytes = now.0; quiet = now.1.quiet; says = now.1.view_is ∙ same_view store v number (n + 1) (sym banks) next })
+    let now = made h.bytes (record { store = v; count = n }) h.found in
+    (omega (arith, next, upto), sym banks, next, record { bytes = now.0; found = record { quiet = now.1.quiet; view_is = now.1.view_is ∙ same_view store v number (n + 1) (sym banks) next } })
 
 -- six calls leave no stop up to the sixth
 pub none_planned : (stop before now good : ℕ) → stop ≤ 6 → before ≡ 0 → (stop ≡ 0) ⊎ (now < stop) → (now ≡ before + 6) × (good ≡ now) → stop ≡ 0
@@ -67,8 +63,8 @@ SaysCount content e = (bytes : List ℕ) → content ≡ Some bytes → (v : Vie
 -- a start that was stopped found a number left
 pub count_left : (v : Store) (n : ℕ) (content : Option (List ℕ)) (settled : ℕ → Bool) → SaysCount content fault.StoreFault → Holds content settled v n → n < last_count
 count_left v n content settled counted h =
-    let w = counted h.bytes h.quiet.0 in
-    let count : n ≡ w.0.count = ap (λ (x : View). x.count) (some_view (sym h.says ∙ w.1)) in
+    let w = counted h.bytes h.found.quiet.0 in
+    let count : n ≡ w.0.count = ap (λ (x : View). x.count) (some_view (sym h.found.view_is ∙ w.1)) in
     let upto = w.2 in
     let left : w.0.count ≢ last_count = λ e. different (w.3.1 e) in
     omega (arith, count, upto, left)
@@ -82,14 +78,14 @@ pub begins_stopped : (stop before now : ℕ) (content : Option (List ℕ)) (sett
     → ((bytes image : List ℕ) (v : View) → IsFound v content settled bytes → MayLeave content' settled' image → IsCountAfterStop (now - before) (v.count + 1) bytes v image)
     → (v : Store) (n : ℕ) → Holds content settled v n → (n < last_count) × (Holds content' settled' v n ⊎ ((5 ≤ stop) × Holds content' settled' v (n + 1)))
 begins_stopped stop before now content settled content' settled' begins is tells settles counted stopped v n h =
-    let told = told_some content content' h.bytes h.quiet.0 tells in
-    let left = stopped h.bytes told.0 (record { store = v; count = n }) (found_held v n content settled h) (leaves_itself content' settled' told.0 told.1) in
+    let told = told_some content content' h.bytes h.found.quiet.0 tells in
+    let left = stopped h.bytes told.0 (record { store = v; count = n }) h.found (leaves_itself content' settled' told.0 told.1) in
     let quiet : IsQuiet content' settled' told.0 = (told.1, settles told.0 told.1) in (
       count_left v n content settled counted h,
       ⊎_elim
-          (λ (same : SaysWith n h.bytes (record { store = v; count = n }) told.0). inl (record { bytes = told.0; quiet = quiet; says = same.view_is }))
+          (λ (same : SaysWith n h.bytes (record { store = v; count = n }) told.0). inl (record { bytes = told.0; found = record { quiet = quiet; view_is = same.view_is } }))
           (λ (later : (5 ≤ now - before) × SaysWith (n + 1) h.bytes (record { store = v; count = n }) told.0).
-          let from = later.0 in inr (omega (arith, from, begins, is), record { bytes = told.0; quiet = quiet; says = later.1.view_is }))
+          let from = later.0 in inr (omega (arith, from, begins, is), record { bytes = told.0; found = record { quiet = quiet; view_is = later.1.view_is } }))
           left,
     )
 
@@ -100,10 +96,10 @@ pub truly_spent : (e : StartFault) (content : Option (List ℕ)) (settled : ℕ 
     → (HasOpened e → SaysCount content e) → (IsEarly e → Stays content settled past content' settled' since) → IsTrulySpent content settled content' settled' e
 unfolding IsTrulySpent
 truly_spent e content settled content' settled' past since counted early = λ spent v n h.
-    let w = counted (subst HasOpened (sym spent) tt) h.bytes h.quiet.0 in
+    let w = counted (subst HasOpened (sym spent) tt) h.bytes h.found.quiet.0 in
     let stays = early (subst IsEarly (sym spent) tt) in
-    let count : n ≡ w.0.count = ap (λ (x : View). x.count) (some_view (sym h.says ∙ w.1)) in
-    (count ∙ w.3.0 spent, record { bytes = h.bytes; quiet = (stays.same_content ∙ h.quiet.0, λ i. stays.same_settled i ∙ h.quiet.1 i); says = h.says })
+    let count : n ≡ w.0.count = ap (λ (x : View). x.count) (some_view (sym h.found.view_is ∙ w.1)) in
+    (count ∙ w.3.0 spent, record { bytes = h.bytes; found = record { quiet = (stays.same_content ∙ h.found.quiet.0, λ i. stays.same_settled i ∙ h.found.quiet.1 i); view_is = h.found.view_is } })
 
 -- an image that is refused has no view
 no_view : (bytes : List ℕ) (v : View) (o : OpenFault) → image_refusal bytes ≡ Some o → view_of bytes ≡ Some v → ⊥
@@ -125,7 +121,7 @@ is_image_refusal open_fault.OutOfMemory a b = absurd (b refl)
 pub truly_refused : (e : StartFault) (content : Option (List ℕ)) (settled : ℕ → Bool)
     → ((o : OpenFault) → e ≡ fault.Open o → IsImageRefusal o → (bytes : List ℕ) → content ≡ Some bytes → image_refusal bytes ≡ Some o) → IsTrulyRefused content settled e
 unfolding IsTrulyRefused
-truly_refused (fault.Open o) content settled refused = λ is v n h. no_view h.bytes (record { store = v; count = n }) o (refused o refl (is_image_refusal o is.0 is.1) h.bytes h.quiet.0) h.says
+truly_refused (fault.Open o) content settled refused = λ is v n h. no_view h.bytes (record { store = v; count = n }) o (refused o refl (is_image_refusal o is.0 is.1) h.bytes h.found.quiet.0) h.found.view_is
 truly_refused fault.Spent content settled refused = λ is. absurd is
 truly_refused fault.StoreFault content settled refused = λ is. absurd is
 truly_refused fault.OutOfMemory content settled refused = λ is. absurd is

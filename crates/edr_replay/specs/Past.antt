@@ -2,7 +2,7 @@
 use Rattle.std.specs.Prelude.{ℕ, Bool, List, Option}
 use Rattle.edr_device.specs.Device.{MayLeave}
 use Rattle.edr_image.specs.Image.{View}
-use Rattle.edr_cycle.specs.Ends.{IsFound}
+use Rattle.edr_gates.specs.Found.{IsFound}
 use Rattle.edr_cycle.specs.Past.{KeepsPast}
 
 -- where the device held this image and nothing was pending, each image that a crash may leave has what stood past it

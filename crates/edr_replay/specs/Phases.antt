@@ -1,17 +1,20 @@
 -- How the start and the commands of a cycle go, each up to its planned stop.
-use Rattle.std.specs.Prelude.{◌≡◌, ◌⊎◌, ◌+◌, ◌≤◌, ◌<◌, ℕ, Bool, List, Option, Some}
+use Rattle.std.specs.Prelude.{◌≡◌, ◌⊎◌, ◌+◌, ◌≤◌, ◌<◌, ℕ, Bool, List, Option, Result}
 use Rattle.edr_items.specs.SensorLists.{SensorLists}
 use Rattle.edr_device.specs.Device.{MayLeave}
+use Rattle.edr_device.specs.declared.device.Nvm.{Ghosts}
 use Rattle.edr_image.specs.Banks.{Store}
-use Rattle.edr_image.specs.Image.{image_size, view_of}
+use Rattle.edr_image.specs.Image.{image_size}
 use Rattle.edr_image.specs.declared.log.CycleReport.{CycleReport}
 use Rattle.edr_image.specs.Reports.{Report, report_of}
 use Rattle.edr_run.specs.Cycle.{End, IsCycle, last_count}
 use Rattle.edr_cycle.specs.Ends.{cycle_with}
+use Rattle.edr_cycle.specs.declared.started.StartFault.{StartFault}
 use Rattle.edr_replay.specs.declared.phases.StartedCycle.{StartedCycle}
 use Rattle.edr_replay.specs.declared.phases.StartedCycle.TheVariants.{Started, Stopped}
 use Rattle.edr_replay.specs.Reached.{IsStopIn}
-use Rattle.edr_replay.specs.Replayed.{Holds}
+use Rattle.edr_replay.specs.Replayed.{RunsTo, IsLeftAlone, IsTrulySpent}
+use Rattle.edr_gates.specs.Found.{Holds, Says}
 
 -- a start with this planned stop, 0 for none, was done, with the banks as before and one more on the count; or it was stopped,
 -- and the count is as before, or from call 5 on perhaps one more
@@ -31,19 +34,23 @@ abbrev pub RunsFrom : SensorLists → ℕ → ℕ → Store → Option (List ℕ
 RunsFrom f stop number store content settled content' settled' report =
     (n : ℕ) → number ≡ n + 1 → Holds content settled store number → RunsAs (report_of report) f stop store n content' settled'
 
--- the image says these banks and this count
-abbrev pub SaysOf : List ℕ → Store → ℕ → Type 0
-SaysOf image v n = view_of image ≡ Some (record { store = v; count = n })
+-- ---- what a fault leaves
 
 -- after a start that failed each image that a crash may leave says the banks, and the count as before, or where numbers are left
 -- one more, as a stop in call 5 or 6 leaves it
 unfoldable pub LeavesOfStart : Option (List ℕ) → (ℕ → Bool) → Option (List ℕ) → (ℕ → Bool) → Type 0
 LeavesOfStart content settled content' settled' =
     (v : Store) (n : ℕ) → Holds content settled v n → (image : List ℕ) → MayLeave content' settled' image
-    → SaysOf image v n ⊎ ((n < last_count) × (j : ℕ) × (5 ≤ j) × (j ≤ 6) × SaysOf image v (n + 1))
+    → Says image v n ⊎ ((n < last_count) × (j : ℕ) × (5 ≤ j) × (j ≤ 6) × Says image v (n + 1))
 
 -- after commands that failed each of them says what a stop in one of their calls leaves, or an end of the cycle
 unfoldable pub LeavesOfRun : SensorLists → ℕ → ℕ → Store → Option (List ℕ) → (ℕ → Bool) → Option (List ℕ) → (ℕ → Bool) → Type 0
 LeavesOfRun f stop number store content settled content' settled' =
     (n : ℕ) → number ≡ n + 1 → Holds content settled store number → (image : List ℕ) → MayLeave content' settled' image
-    → (e : End) × (IsStopIn (cycle_with 0 f stop) store n e ⊎ IsCycle (cycle_with 0 f stop) store n e) × SaysOf image e.store e.count
+    → (e : End) × (IsStopIn (cycle_with 0 f stop) store n e ⊎ IsCycle (cycle_with 0 f stop) store n e) × Says image e.store e.count
+
+-- ---- the outcome of a start
+
+abbrev pub StartsUntil : {D : Type 0} → Ghosts D → ℕ → ℕ → D → D → Result StartedCycle StartFault → Type 0
+StartsUntil g stop ticks old new result =
+    RunsTo g (λ content settled content' settled' s. BeginsAs s stop ticks (g.extent old) content settled content' settled') IsTrulySpent IsLeftAlone LeavesOfStart old new result

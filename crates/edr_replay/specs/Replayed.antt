@@ -1,24 +1,24 @@
 -- What a run of cycles leaves on the memory of the records, and why one ends early.
-use Rattle.std.specs.Prelude.{◌≡◌, ◌≢◌, ◌⊎◌, ◌+◌, ◌<◌, ℕ, Bool, List, Option, Some, length, map, take}
-use Rattle.edr_device.specs.Device.{IsQuiet, MayLeave}
+use Rattle.std.specs.Prelude.{◌≡◌, ◌≢◌, ◌⊎◌, ◌+◌, ◌<◌, ℕ, Bool, List, Option, Some, Result, IfOk, IfErr, Vec, length, map, take}
+use Rattle.std.specs.declared.alloc.Global.{Global}
+use Rattle.edr_device.specs.Device.{MayLeave}
 use Rattle.edr_device.specs.Faults.{Rose}
+use Rattle.edr_device.specs.Lent.{At, Between, GoesOn}
+use Rattle.edr_device.specs.declared.device.Nvm.{Ghosts}
 use Rattle.edr_image.specs.declared.places.TheConstants.{FRONT_SIZE}
 use Rattle.edr_image.specs.declared.log.CycleReport.{CycleReport}
 use Rattle.edr_image.specs.Reports.{report_of}
 use Rattle.edr_image.specs.declared.OpenFault.TheVariants as open_fault
 use Rattle.edr_image.specs.Banks.{Store}
 use Rattle.edr_image.specs.Image.{View, view_of}
+use Rattle.edr_gates.specs.Found.{Holds}
 use Rattle.edr_spell.specs.declared.CycleInput.{CycleInput}
 use Rattle.edr_run.specs.Cycle.{End, Outcome, IsCycle, IsRun, last_count}
+use Rattle.edr_replay.specs.Past.{LeavesPast}
 use Rattle.edr_replay.specs.Reached.{IsCutShort, IsLeftOfCycle, IsReached, RanFirst}
+use Rattle.edr_cycle.specs.Starts.{IsDeviceFault}
 use Rattle.edr_cycle.specs.declared.started.StartFault.{StartFault}
 use Rattle.edr_cycle.specs.declared.started.StartFault.TheVariants as fault
-
--- the device tells bytes that say these banks and this count, and nothing is pending
-pub record Holds (content : Option (List ℕ)) (settled : ℕ → Bool) (store : Store) (count : ℕ) : Type 0 where
-  pub bytes : List ℕ
-  pub quiet : IsQuiet content settled bytes
-  pub says : view_of bytes ≡ Some (record { store = store; count = count })
 
 -- the image is refused by what it says
 abbrev pub IsStartRefusal : StartFault → Type 0
@@ -112,3 +112,39 @@ EndsCutShort cs content settled content' settled' e =
 -- commands by threads end early for want of memory, or by a fault that the device counted
 abbrev pub IsDrivenFault : ℕ → ℕ → StartFault → Type 0
 IsDrivenFault before now e = (e ≡ fault.OutOfMemory) ⊎ ((e ≡ fault.StoreFault) × Rose before now)
+
+-- ---- the outcome of a run, in one record
+
+-- what is so of a memory before a run and after it, by the answer
+abbrev pub ByAnswer : Type 0 → Type 1
+ByAnswer A = Option (List ℕ) → (ℕ → Bool) → Option (List ℕ) → (ℕ → Bool) → A → Type 0
+
+-- Whatever comes of it, the memory goes on, and what stands past its image stays. An answer tells what ran. A fault tells its
+-- cause; where no number was left or no memory these are left, and each image that a crash may leave is one of these.
+pub record RunsTo {R D : Type 0} (g : Ghosts D) (Ran : ByAnswer R) (Spent Memory : ByAnswer StartFault) (Leaves : Option (List ℕ) → (ℕ → Bool) → Option (List ℕ) → (ℕ → Bool) → Type 0) (old new : D) (result : Result R StartFault) : Type 0 where
+  pub lent : GoesOn g old new
+  pub ran : IfOk result (Between g Ran old new)
+  pub refused : IfErr result (At g IsTrulyRefused old)
+  pub short : IfErr result (IsTrulyShort (g.extent old))
+  pub fault : IfErr result (λ e. IsDeviceFault e → Rose (g.faults old) (g.faults new))
+  pub spent : IfErr result (Between g Spent old new)
+  pub memory : IfErr result (Between g Memory old new)
+  pub left : IfErr result (λ _. Between g Leaves old new)
+  pub past : Between g LeavesPast old new
+
+-- one cycle, on one thread and by threads
+abbrev pub RunsCycle : {D : Type 0} → Ghosts D → CycleInput → D → D → Result CycleReport StartFault → Type 0
+RunsCycle g c old new result = RunsTo g (HasRunCycle c) IsTrulySpent IsLeftAlone (LeavesPart c) old new result
+
+abbrev pub DrivesCycle : {D : Type 0} → Ghosts D → CycleInput → D → D → Result CycleReport StartFault → Type 0
+DrivesCycle g c old new result = RunsTo g (HasRunCycle c) IsTrulySpent IsLeftOrCounted (LeavesPart c) old new result
+
+-- these cycles
+abbrev pub HaveRun : List CycleInput → ByAnswer (Vec CycleReport Global)
+HaveRun cs content settled content' settled' reports = HasRun cs content settled content' settled' reports.items
+
+abbrev pub Replays : {D : Type 0} → Ghosts D → List CycleInput → D → D → Result (Vec CycleReport Global) StartFault → Type 0
+Replays g cs old new result = RunsTo g (HaveRun cs) (EndsSpent cs) (EndsShort cs) (LeavesReached cs) old new result
+
+abbrev pub Drives : {D : Type 0} → Ghosts D → List CycleInput → D → D → Result (Vec CycleReport Global) StartFault → Type 0
+Drives g cs old new result = RunsTo g (HaveRun cs) (EndsSpent cs) (EndsCutShort cs) (LeavesReached cs) old new result

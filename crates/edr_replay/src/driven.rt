@@ -3,16 +3,14 @@
 
 ghost use Rattle.std.specs.Prelude.{◌≡◌, ◌<◌, ◌≤◌, All, IfOk, IfErr};
 ghost use Rattle.std.specs.Arc.{arc_value};
-ghost use Rattle.edr_device.specs.Faults.{Rose};
-ghost use Rattle.edr_device.specs.Lent.{At, Between, GoesOn};
+ghost use Rattle.edr_device.specs.Lent.{Between, GoesOn};
 ghost use Rattle.edr_image.specs.Image.{image_size};
 ghost use Rattle.edr_items.specs.SensorLists.{AreFeeds, IsLevel, horizon_of};
 ghost use Rattle.edr_spell.specs.Spell.{IsCycleInput as IsSpelled};
 ghost use Rattle.edr_cycle.specs.Begun.{view_begun};
-ghost use Rattle.edr_cycle.specs.Starts.{IsDeviceFault};
-ghost use Rattle.edr_replay.specs.Past.{LeavesPast, LeavesPastOf};
+ghost use Rattle.edr_replay.specs.Past.{LeavesPastOf};
 ghost use Rattle.edr_replay.specs.Phases.{LeavesOfRun, RunsFrom};
-ghost use Rattle.edr_replay.specs.Replayed.{EndsCutShort, EndsSpent, HasRun, HasRunCycle, IsDrivenFault, IsLeftOrCounted, IsTrulyRefused, IsTrulyShort, IsTrulySpent, LeavesPart, LeavesReached};
+ghost use Rattle.edr_replay.specs.Replayed.{Drives, DrivesCycle, IsDrivenFault};
 
 use crate::phases::{StartedCycle, end_run, is_cut, start_until};
 use edr_cycle::{StartFault, Started};
@@ -80,15 +78,7 @@ fn drive_one<
 ) -> Result<CycleReport, StartFault>
     requires workers { (1 ≤ workers) × (workers ≤ 8) }
     requires cycle { IsSpelled cycle }
-    ensures lent { GoesOn N.Nvm nvm.old nvm.new }
-    ensures ran { IfOk result (Between N.Nvm (HasRunCycle cycle) nvm.old nvm.new) }
-    ensures spent { IfErr result (Between N.Nvm IsTrulySpent nvm.old nvm.new) }
-    ensures refused { IfErr result (At N.Nvm IsTrulyRefused nvm.old) }
-    ensures short { IfErr result (IsTrulyShort (N.extent nvm.old)) }
-    ensures fault { IfErr result (λ e. IsDeviceFault e → Rose (N.faults nvm.old) (N.faults nvm.new)) }
-    ensures left { IfErr result (λ _. Between N.Nvm (LeavesPart cycle) nvm.old nvm.new) }
-    ensures memory { IfErr result (Between N.Nvm IsLeftOrCounted nvm.old nvm.new) }
-    ensures past { Between N.Nvm LeavesPast nvm.old nvm.new }
+    ensures { DrivesCycle N.Nvm cycle nvm.old nvm.new result }
 {
     let CycleInput {
         start_stop,
@@ -125,15 +115,7 @@ pub fn replay_driven<
 ) -> Result<Vec<CycleReport>, StartFault>
     requires workers { (1 ≤ workers) × (workers ≤ 8) }
     requires cycles { All IsSpelled cycles.items }
-    ensures lent { GoesOn N.Nvm nvm.old nvm.new }
-    ensures ran { IfOk result (λ reports. Between N.Nvm (HasRun cycles.items) nvm.old nvm.new reports.items) }
-    ensures spent { IfErr result (Between N.Nvm (EndsSpent cycles.items) nvm.old nvm.new) }
-    ensures refused { IfErr result (At N.Nvm IsTrulyRefused nvm.old) }
-    ensures short { IfErr result (IsTrulyShort (N.extent nvm.old)) }
-    ensures fault { IfErr result (λ e. IsDeviceFault e → Rose (N.faults nvm.old) (N.faults nvm.new)) }
-    ensures left { IfErr result (λ _. Between N.Nvm (LeavesReached cycles.items) nvm.old nvm.new) }
-    ensures memory { IfErr result (Between N.Nvm (EndsCutShort cycles.items) nvm.old nvm.new) }
-    ensures past { Between N.Nvm LeavesPast nvm.old nvm.new }
+    ensures { Drives N.Nvm cycles.items nvm.old nvm.new result }
 {
     let mut reports = Vec::with_capacity(alloc, cycles.len())?;
     for cycle in cycles {

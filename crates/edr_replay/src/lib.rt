@@ -6,13 +6,9 @@ mod driven;
 pub mod laws;
 mod phases;
 
-ghost use Rattle.std.specs.Prelude.{◌<◌, IfOk, IfErr, All};
-ghost use Rattle.edr_device.specs.Faults.{Rose};
-ghost use Rattle.edr_device.specs.Lent.{At, Between, GoesOn};
+ghost use Rattle.std.specs.Prelude.{All};
 ghost use Rattle.edr_spell.specs.Spell.{IsCycleInput as IsSpelled};
-ghost use Rattle.edr_cycle.specs.Starts.{IsDeviceFault};
-ghost use Rattle.edr_replay.specs.Past.{LeavesPast};
-ghost use Rattle.edr_replay.specs.Replayed.{EndsShort, EndsSpent, HasRun, HasRunCycle, IsLeftAlone, IsTrulyRefused, IsTrulyShort, IsTrulySpent, LeavesPart, LeavesReached};
+ghost use Rattle.edr_replay.specs.Replayed.{Replays, RunsCycle};
 
 pub use driven::replay_driven;
 pub use edr_cycle::StartFault;
@@ -32,15 +28,7 @@ fn run_cycle<N: Nvm>(
     cycle: &CycleInput,
 ) -> Result<CycleReport, StartFault>
     requires { IsSpelled cycle.now }
-    ensures lent { GoesOn N.Nvm nvm.old nvm.new }
-    ensures ran { IfOk result (Between N.Nvm (HasRunCycle cycle.now) nvm.old nvm.new) }
-    ensures spent { IfErr result (Between N.Nvm IsTrulySpent nvm.old nvm.new) }
-    ensures refused { IfErr result (At N.Nvm IsTrulyRefused nvm.old) }
-    ensures short { IfErr result (IsTrulyShort (N.extent nvm.old)) }
-    ensures fault { IfErr result (λ e. IsDeviceFault e → Rose (N.faults nvm.old) (N.faults nvm.new)) }
-    ensures left { IfErr result (λ _. Between N.Nvm (LeavesPart cycle.now) nvm.old nvm.new) }
-    ensures memory { IfErr result (Between N.Nvm IsLeftAlone nvm.old nvm.new) }
-    ensures past { Between N.Nvm LeavesPast nvm.old nvm.new }
+    ensures { RunsCycle N.Nvm cycle.now nvm.old nvm.new result }
 {
     match start_until(alloc, nvm, cycle.start_stop, cycle.feeds.horizon())? {
         StartedCycle::Stopped => Ok(CycleReport::StartStopped {
@@ -57,15 +45,7 @@ pub fn replay<N: Nvm>(
     cycles: &[CycleInput],
 ) -> Result<Vec<CycleReport>, StartFault>
     requires { All IsSpelled cycles.now }
-    ensures lent { GoesOn N.Nvm nvm.old nvm.new }
-    ensures ran { IfOk result (λ reports. Between N.Nvm (HasRun cycles.now) nvm.old nvm.new reports.items) }
-    ensures spent { IfErr result (Between N.Nvm (EndsSpent cycles.now) nvm.old nvm.new) }
-    ensures refused { IfErr result (At N.Nvm IsTrulyRefused nvm.old) }
-    ensures short { IfErr result (IsTrulyShort (N.extent nvm.old)) }
-    ensures fault { IfErr result (λ e. IsDeviceFault e → Rose (N.faults nvm.old) (N.faults nvm.new)) }
-    ensures left { IfErr result (λ _. Between N.Nvm (LeavesReached cycles.now) nvm.old nvm.new) }
-    ensures memory { IfErr result (Between N.Nvm (EndsShort cycles.now) nvm.old nvm.new) }
-    ensures past { Between N.Nvm LeavesPast nvm.old nvm.new }
+    ensures { Replays N.Nvm cycles.now nvm.old nvm.new result }
 {
     let mut reports = Vec::with_capacity(alloc, cycles.len())?;
     for cycle in cycles {

@@ -3,15 +3,13 @@
 ghost use Rattle.std.specs.Prelude.{◌≡◌, ◌≤◌, IfOk, IfErr, OnErr, Some, None, true, false};
 ghost use Rattle.edr_device.specs.Device.{Repowered};
 ghost use Rattle.edr_device.specs.Faults.{Rose};
-ghost use Rattle.edr_device.specs.Lent.{At, Between, GoesOn};
+ghost use Rattle.edr_device.specs.Lent.{Between, GoesOn};
 ghost use Rattle.edr_image.specs.Image.{image_size};
 ghost use Rattle.edr_image.specs.Reports.{Ran, report_of};
 ghost use Rattle.edr_items.specs.SensorLists.{AreFeeds, IsLevel, horizon_of};
 ghost use Rattle.edr_cycle.specs.Begun.{view_begun};
-ghost use Rattle.edr_cycle.specs.Starts.{IsDeviceFault};
-ghost use Rattle.edr_replay.specs.Replayed.{IsLeftAlone, IsTrulyRefused, IsTrulyShort, IsTrulySpent};
-ghost use Rattle.edr_replay.specs.Past.{LeavesPast, LeavesPastOf};
-ghost use Rattle.edr_replay.specs.Phases.{BeginsAs, LeavesOfRun, LeavesOfStart, RunsFrom};
+ghost use Rattle.edr_replay.specs.Past.{LeavesPastOf};
+ghost use Rattle.edr_replay.specs.Phases.{LeavesOfRun, RunsFrom, StartsUntil};
 
 use edr_cycle::{CycleEnd, StartFault, Started, run_alone, start};
 use edr_device::{Fused, Nvm};
@@ -43,15 +41,7 @@ pub(crate) fn start_until<N: Nvm>(
     ticks: u32,
 ) -> Result<StartedCycle, StartFault>
     requires { stop ≤ 6 }
-    ensures lent { GoesOn N.Nvm nvm.old nvm.new }
-    ensures begun { IfOk result (λ b. Between N.Nvm (BeginsAs b stop ticks (N.extent nvm.old)) nvm.old nvm.new) }
-    ensures spent { IfErr result (Between N.Nvm IsTrulySpent nvm.old nvm.new) }
-    ensures refused { IfErr result (At N.Nvm IsTrulyRefused nvm.old) }
-    ensures short { IfErr result (IsTrulyShort (N.extent nvm.old)) }
-    ensures fault { IfErr result (λ e. IsDeviceFault e → Rose (N.faults nvm.old) (N.faults nvm.new)) }
-    ensures left { IfErr result (λ _. Between N.Nvm LeavesOfStart nvm.old nvm.new) }
-    ensures memory { IfErr result (Between N.Nvm IsLeftAlone nvm.old nvm.new) }
-    ensures past { Between N.Nvm LeavesPast nvm.old nvm.new }
+    ensures { StartsUntil N.Nvm stop ticks nvm.old nvm.new result }
 {
     let mut fuse = Fused::new(nvm);
     fuse.arm(stop);

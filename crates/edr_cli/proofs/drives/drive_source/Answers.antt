@@ -23,7 +23,7 @@ returns-clause-text g c =
     let cs = c.in_ok-cycles.cycles.items in
     let b = c.in_ok-open_settled.field-0 in
     ok_map c.run_driven.result (λ out. Reports c.args.form cs mid new out.items) (λ out. RunIs c.args.form i old new out.items)
-    (λ out reports. replayed c.args.form i old mid new cs b.store b.count out.items c.in_ok-cycles.ensures.spelled c.in_ok-open_settled.ensures.says reports) c.run_driven.ensures.text
+    (λ out reports. replayed c.args.form i old mid new cs b.store b.count out.items c.in_ok-cycles.ensures.spelled c.in_ok-open_settled.ensures.found reports) c.run_driven.ensures.text
 
 pub returns-clause-cause : goal.returns-clause-cause
 returns-clause-cause g c =
@@ -37,7 +37,7 @@ returns-clause-cause g c =
     let cs = c.in_ok-cycles.cycles.items in
     let b = c.in_ok-open_settled.field-0 in
     err_map c.run_driven.result (λ f. IsDrivenCause cs mid new f) (λ f. IsDriveCause i i' old new f)
-    (λ f cause. run_drive i i' old mid new cs b.store b.count f c.in_ok-cycles.ensures.spelled c.in_ok-cycles.ensures.end c.in_ok-open_settled.ensures.says
+    (λ f cause. run_drive i i' old mid new cs b.store b.count f c.in_ok-cycles.ensures.spelled c.in_ok-cycles.ensures.end c.in_ok-open_settled.ensures.found
     (tells_again old.content mid.content new.content c.open_settled.ensures.lent.tells c.run_driven.ensures.lent.tells) c.open_settled.ensures.lent.size c.open_settled.ensures.lent.later cause) c.run_driven.ensures.cause
 
 pub returns-in_err-open_settled-clause-cause : goal.returns-in_err-open_settled-clause-cause
@@ -65,4 +65,4 @@ pub returns-clause-past : goal.returns-clause-past
 returns-clause-past g c =
     let D = g.N.Nvm in
     let b = c.in_ok-open_settled.field-0 in
-    past_opened b.store b.count (D.content c.args.nvm.now) (D.content c.open_settled.new.nvm) (D.content c.run_driven.new.nvm) (D.settled c.args.nvm.now) (D.settled c.open_settled.new.nvm) (D.settled c.run_driven.new.nvm) c.in_ok-open_settled.ensures.says c.run_driven.ensures.past
+    past_opened b.store b.count (D.content c.args.nvm.now) (D.content c.open_settled.new.nvm) (D.content c.run_driven.new.nvm) (D.settled c.args.nvm.now) (D.settled c.open_settled.new.nvm) (D.settled c.run_driven.new.nvm) c.in_ok-open_settled.ensures.found c.run_driven.ensures.past

@@ -23,7 +23,7 @@ returns-clause-text g c =
     let cs = c.in_ok-cycles.cycles.items in
     let b = c.in_ok-open_settled.field-0 in
     ok_map c.run.result (λ out. Reports c.args.form c.deref.result.now mid new out.items) (λ out. RunIs c.args.form i old new out.items)
-    (λ out reports. replayed c.args.form i old mid new cs b.store b.count out.items c.in_ok-cycles.ensures.spelled c.in_ok-open_settled.ensures.says
+    (λ out reports. replayed c.args.form i old mid new cs b.store b.count out.items c.in_ok-cycles.ensures.spelled c.in_ok-open_settled.ensures.found
     (subst (λ (xs : List CycleInput). Reports c.args.form xs mid new out.items) c.deref.ensures.value reports)) c.run.ensures.text
 
 pub returns-clause-cause : goal.returns-clause-cause
@@ -38,7 +38,7 @@ returns-clause-cause g c =
     let cs = c.in_ok-cycles.cycles.items in
     let b = c.in_ok-open_settled.field-0 in
     err_map c.run.result (λ f. IsRunCause c.deref.result.now mid new f) (λ f. IsReplayCause i i' old new f)
-    (λ f cause. run_replay i i' old mid new cs b.store b.count f c.in_ok-cycles.ensures.spelled c.in_ok-cycles.ensures.end c.in_ok-open_settled.ensures.says
+    (λ f cause. run_replay i i' old mid new cs b.store b.count f c.in_ok-cycles.ensures.spelled c.in_ok-cycles.ensures.end c.in_ok-open_settled.ensures.found
     (tells_again old.content mid.content new.content c.open_settled.ensures.lent.tells c.run.ensures.lent.tells) c.open_settled.ensures.lent.size c.open_settled.ensures.lent.later
     (subst (λ (xs : List CycleInput). IsRunCause xs mid new f) c.deref.ensures.value cause)) c.run.ensures.cause
 
@@ -67,4 +67,4 @@ pub returns-clause-past : goal.returns-clause-past
 returns-clause-past g c =
     let D = g.N.Nvm in
     let b = c.in_ok-open_settled.field-0 in
-    past_opened b.store b.count (D.content c.args.nvm.now) (D.content c.open_settled.new.nvm) (D.content c.run.new.nvm) (D.settled c.args.nvm.now) (D.settled c.open_settled.new.nvm) (D.settled c.run.new.nvm) c.in_ok-open_settled.ensures.says c.run.ensures.past
+    past_opened b.store b.count (D.content c.args.nvm.now) (D.content c.open_settled.new.nvm) (D.content c.run.new.nvm) (D.settled c.args.nvm.now) (D.settled c.open_settled.new.nvm) (D.settled c.run.new.nvm) c.in_ok-open_settled.ensures.found c.run.ensures.past

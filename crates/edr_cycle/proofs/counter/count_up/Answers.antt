@@ -4,7 +4,7 @@ use Rattle.edr_device.specs.Pieces.{IsGatedStop, SameBut, put_at}
 use Rattle.edr_device.proofs.SettlingLemmas.{elapses_again, elapses_more, on_err}
 use Rattle.edr_image.specs.Image.{View}
 use Rattle.edr_cycle.specs.Counter.{IsCountAfterStop, IsNextSlot}
-use Rattle.edr_cycle.specs.Ends.{IsFound}
+use Rattle.edr_gates.specs.Found.{IsFound}
 use Rattle.edr_cycle.proofs.SlotLemmas.{close_at, open_after, open_made}
 use Rattle.edr_cycle.proofs.FrontLemmas.{fits_next, says_counted, says_later, says_made}
 use Rattle.edr_cycle.proofs.AnsweredLemmas.{map_err, map_ok}

@@ -11,13 +11,13 @@ returns-in-Ok-clause-size c =
     let m1 = c.format.new.nvm in
     let long : length c.in_ok-vec.field-0.items ≡ LARGEST_IMAGE = search rules in
     ok_map c.image_of.result (λ image. image.items ≡ memory_image m1) (λ image. length image.items ≡ LARGEST_IMAGE)
-    (λ image left. ap (λ (xs : List ℕ). length xs) left ∙ c.in-Ok.ensures.lent.size ∙ ap (λ (s : MemoryState). length s.image) c.in_ok-memory.ensures ∙ long) c.image_of.ensures
+    (λ image left. ap (λ (xs : List ℕ). length xs) left ∙ c.in-Ok.ensures.laid.lent.size ∙ ap (λ (s : MemoryState). length s.image) c.in_ok-memory.ensures ∙ long) c.image_of.ensures
 
 pub returns-in-Ok-clause-says : goal.returns-in-Ok-clause-says
 returns-in-Ok-clause-says c =
     let m1 = c.format.new.nvm in
     let v : View = record { store = new_store; count = 0 } in
     let blank = c.in_ok-vec.field-0.items in
-    let done = c.in-Ok.ensures.done blank (new_quiet c.in_ok-memory.memory blank c.in_ok-memory.ensures) in
+    let done = c.in-Ok.ensures.laid.done blank (new_quiet c.in_ok-memory.memory blank c.in_ok-memory.ensures) in
     ok_map c.image_of.result (λ image. image.items ≡ memory_image m1) (λ image. view_of image.items ≡ Some v)
     (λ image left. subst (λ (xs : List ℕ). view_of xs ≡ Some v) (told_image m1 done.0 done.1.0 ∙ sym left) done.2.view) c.image_of.ensures

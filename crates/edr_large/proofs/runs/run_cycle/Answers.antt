@@ -32,7 +32,7 @@ returns-clause-ran c =
     let store = c.in-Ok.started.banks.store in
     let log = c.run_alone-end.result.log.acks in
     let failed = c.run_alone-end.result.failed in
-    let begun = begins_started store number (memory_content m0) (memory_settled m0) (memory_content m1) (memory_settled m1) s.number.0 s.number.1 s.found s.made in
+    let begun = begins_started store number (memory_content m0) (memory_settled m0) (memory_content m1) (memory_settled m1) s.finds.number.0 s.finds.number.1 s.finds.found s.made in
     let whole = not_failed f bytes number store failed log m0 m1 m2 c.requires.feeds is s.lent.device run.lent.device s.cycle.time.ok.0 run.cycle run.cause in
     let off = of_ok c.power_cycle-off.result (Told (Comes (memory_settled m2) (memory_settled m3)) (memory_content m2) (memory_content m3))
     (Stays (memory_content m2) (memory_settled m2) (memory_since m2) (memory_content m3) (memory_settled m3) (memory_since m3)) c.power_cycle-off.ensures.succeeds c.power_cycle-off.ensures.told in

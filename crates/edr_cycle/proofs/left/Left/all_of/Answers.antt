@@ -1,4 +1,4 @@
-use Rattle.std.proofs.Common.{rules, ◌≡◌, ◌∙◌}
+use Rattle.std.proofs.Common.{rules, ◌∙◌}
 use Rattle.edr_items.proofs.PerSensorLemmas.{values-same, value_of-map}
 use Rattle.edr_items.specs.PerSensor.{map_values}
 use Rattle.edr_cycle.proofs.left.Left.all_of.Goals as goal
