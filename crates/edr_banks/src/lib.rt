@@ -7,6 +7,7 @@
 
 ghost use Rattle.std.specs.Prelude.{◌≡◌};
 
+use edr_device::Failed;
 use std::marker::Model;
 
 mod bank_choice;
@@ -44,6 +45,16 @@ pub enum FormatFault {
     Formatted,
     /// The device has failed.
     StoreFault,
+}
+
+impl From<Failed> for FormatFault {
+    ghost use Rattle.edr_banks.specs.declared.FormatFault.TheVariants as fault;
+
+    ghost from_gives = { λ _ e. e ≡ fault.StoreFault };
+
+    fn from(_: Failed) -> FormatFault {
+        FormatFault::StoreFault
+    }
 }
 
 /// The banks of an image, as they were opened and as commands have changed them since.

@@ -93,14 +93,10 @@ pub fn lay<N: Nvm, I: Image>(nvm: &mut N, image: &I) -> Result<(), FormatFault>
         return Err(FormatFault::Short { size, needed });
     }
     let mut first = [0; MAGIC.len()];
-    if nvm.read(0, &mut first).is_err() {
-        return Err(FormatFault::StoreFault);
-    }
+    nvm.read(0, &mut first)?;
     if not_magic(&first).is_none() {
         return Err(FormatFault::Formatted);
     }
-    match write_image(nvm, first[0], image) {
-        Ok(()) => Ok(()),
-        Err(Failed) => Err(FormatFault::StoreFault),
-    }
+    write_image(nvm, first[0], image)?;
+    Ok(())
 }

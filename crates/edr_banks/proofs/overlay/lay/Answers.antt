@@ -5,7 +5,7 @@ use Rattle.edr_device.specs.Lent.{LeavesMeanwhile}
 use Rattle.edr_device.proofs.SettlingLemmas.{stays_quiet}
 use Rattle.edr_image.specs.Image.{image_size}
 use Rattle.edr_banks.specs.Laying.{IsPartlyOver}
-use Rattle.edr_banks.proofs.FirstByteLemmas.{elapses_after, not_read, shown_first, where_ok}
+use Rattle.edr_banks.proofs.FirstByteLemmas.{elapses_after, not_read, shown_first}
 use Rattle.edr_banks.proofs.MarkingLemmas.{left_part}
 use Rattle.edr_banks.proofs.overlay.lay.Goals as goal
 
@@ -30,8 +30,8 @@ returns-then-size-needed g c =
       each = λ bytes image quiet left. left_part full target bytes (D.content start) (D.settled start) image (omega arith) quiet (g.met.N.Nvm.only_now start image left);
     }
 
-pub returns-then-is_err : goal.returns-then-is_err
-returns-then-is_err g c =
+pub returns-in_err-read : goal.returns-in_err-read
+returns-in_err-read g c =
     let D = g.N.Nvm in
     let start = c.args.nvm.now in
     let full = image_size (g.I.Image.bank_count c.args.image.now) in
@@ -72,8 +72,8 @@ returns-then-is_none g c =
       each = λ bytes image quiet left. left_part full target bytes (D.content start) (D.settled start) image (omega arith) quiet (g.met.N.Nvm.only_now start image (c.read.ensures.stays.nothing_else (D.clock start) image left));
     }
 
-pub returns-in-Ok : goal.returns-in-Ok
-returns-in-Ok g c =
+pub returns : goal.returns
+returns g c =
     let D = g.N.Nvm in
     let start = c.args.nvm.now in
     let mid = c.read.new.self in
@@ -81,7 +81,7 @@ returns-in-Ok g c =
     let full = image_size (g.I.Image.bank_count c.args.image.now) in
     let target = g.I.Image.bytes c.args.image.now in
     let piece = c.read.new.into in
-    let shows = λ (bytes : List ℕ) (told : D.content start ≡ Some bytes). shown_first piece bytes (D.content start) told (where_ok c.read.result c.is_err.result c.is_err.ensures.value c.if-is_err.false c.read.ensures.bytes) in
+    let shows = λ (bytes : List ℕ) (told : D.content start ≡ Some bytes). shown_first piece bytes (D.content start) told c.in_ok-read.ensures.bytes in
     let still = λ (bytes : List ℕ) (quiet : IsQuiet (D.content start) (D.settled start) bytes). stays_quiet bytes (D.content start) (D.content mid) (D.settled start) (D.settled mid) (D.since start) (D.since mid) quiet c.read.ensures.stays in
     let moments : LeavesMeanwhile D (IsPartlyOver full target) start end = λ bytes quiet.
     elapses_after (D.clock start) (D.clock mid) (D.content start) (D.content mid) (D.settled start) (D.settled mid) (D.since start) (D.since mid) (D.since end) (IsPartlyOver full target bytes) c.read.ensures.stays c.read.ensures.clock
@@ -101,7 +101,7 @@ returns-in-Ok g c =
       room = search rules;
       refused = search rules;
       magic_stays = λ bytes told stands. absurd (not_read piece bytes c.not_magic.result c.is_none.result (omega arith) (shows bytes told) c.not_magic.ensures c.is_none.ensures c.if-is_none.false stands);
-      done = λ bytes quiet. c.in-Ok.ensures.done bytes (still bytes quiet) (sym (shows bytes quiet.0 0 (omega arith)));
+      done = λ bytes quiet. c.in_ok-write_image.ensures.done bytes (still bytes quiet) (sym (shows bytes quiet.0 0 (omega arith)));
       any_moment = moments;
       each = λ bytes image quiet left. ⊎_elim
           (λ (before : D.since start (D.clock start) image). left_part full target bytes (D.content start) (D.settled start) image (omega arith) quiet (g.met.N.Nvm.only_now start image before))
@@ -109,8 +109,8 @@ returns-in-Ok g c =
           ((moments bytes quiet).nothing_else (D.clock start) image (omega arith) left);
     }
 
-pub returns-in-Err : goal.returns-in-Err
-returns-in-Err g c =
+pub returns-in_err-write_image : goal.returns-in_err-write_image
+returns-in_err-write_image g c =
     let D = g.N.Nvm in
     let start = c.args.nvm.now in
     let mid = c.read.new.self in
@@ -118,7 +118,7 @@ returns-in-Err g c =
     let full = image_size (g.I.Image.bank_count c.args.image.now) in
     let target = g.I.Image.bytes c.args.image.now in
     let piece = c.read.new.into in
-    let shows = λ (bytes : List ℕ) (told : D.content start ≡ Some bytes). shown_first piece bytes (D.content start) told (where_ok c.read.result c.is_err.result c.is_err.ensures.value c.if-is_err.false c.read.ensures.bytes) in
+    let shows = λ (bytes : List ℕ) (told : D.content start ≡ Some bytes). shown_first piece bytes (D.content start) told c.in_ok-read.ensures.bytes in
     let still = λ (bytes : List ℕ) (quiet : IsQuiet (D.content start) (D.settled start) bytes). stays_quiet bytes (D.content start) (D.content mid) (D.settled start) (D.settled mid) (D.since start) (D.since mid) quiet c.read.ensures.stays in
     let moments : LeavesMeanwhile D (IsPartlyOver full target) start end = λ bytes quiet.
     elapses_after (D.clock start) (D.clock mid) (D.content start) (D.content mid) (D.settled start) (D.settled mid) (D.since start) (D.since mid) (D.since end) (IsPartlyOver full target bytes) c.read.ensures.stays c.read.ensures.clock
