@@ -62,7 +62,8 @@ fn formatted(alloc: Global, banks: u8, choice: Choice, pick: u64) -> Result<MemN
     requires to { banks ≤ 16 }
     ensures { IfOk result (λ m. length (memory_image m) ≡ 16480) }
 {
-    let mut memory = memory_of(alloc, &[0; 16_480], pick)?;
+    let image = vec![in alloc; 0u8; 16_480]?;
+    let mut memory = memory_of(alloc, image.as_slice(), pick)?;
     Banks::format(&mut memory, banks, choice)?;
     Ok(memory)
 }

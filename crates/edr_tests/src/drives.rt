@@ -102,7 +102,7 @@ fn items_in(ticks: u32) -> u64 {
 fn formatted(alloc: Global) -> Result<MemNvm, Fail>
     ensures { IfOk result (λ m. length (memory_image m) ≡ 16480) }
 {
-    let image = [0u8; 16_480].to_vec(alloc)?;
+    let image = vec![in alloc; 0u8; 16_480]?;
     let mut memory = MemNvm::new(alloc, image, 400, Vec::new(alloc), Vec::new(alloc), 0)?;
     Banks::format(&mut memory, 2, Choice::Keep)?;
     Ok(memory)

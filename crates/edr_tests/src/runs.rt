@@ -17,7 +17,7 @@ use std::test::Fail;
 
 // A formatted memory with two banks, and a pick for its power cuts.
 pub(crate) fn formatted(alloc: Global, pick: u64) -> Result<MemNvm, Fail> {
-    let image = [0u8; 2_144].to_vec(alloc)?;
+    let image = vec![in alloc; 0u8; 2_144]?;
     let mut memory = MemNvm::new(alloc, image, 100, Vec::new(alloc), Vec::new(alloc), pick)?;
     Banks::format(&mut memory, 2, Choice::Keep)?;
     Ok(memory)

@@ -76,7 +76,8 @@ fn the_line_tells_of_the_new_image(rt: HostRuntime) -> Result<(), Fail> {
     let line = "formatted: 3 banks, overwrite\n";
     check_run(&rt, run_of(&words, Status::Ok, line), &mut memory)?;
     assert_eq!(rt; memory.image(), new_image(3, OVERWRITE).as_slice());
-    let mut memory = memory_of(rt.alloc(), &[0; 16_480], &[], 0)?;
+    let blank = vec![in rt.alloc(); 0u8; 16_480]?;
+    let mut memory = memory_of(rt.alloc(), blank.as_slice(), &[], 0)?;
     let words = ["format", "16", "keep"];
     let line = "formatted: 16 banks, keep\n";
     check_run(&rt, run_of(&words, Status::Ok, line), &mut memory)?;
