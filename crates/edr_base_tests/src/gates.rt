@@ -47,7 +47,7 @@ fn crash_bytes() -> [u8; 160] {
 fn two_banks(alloc: Global, fails: &[u32], pick: u64) -> Result<MemNvm, AllocError>
     ensures { IfOk result (λ m. length (memory_image m) ≡ 2144) }
 {
-    let image = vec![in alloc; 0u8; 2_144]?;
+    let image = [0u8; 2144].to_vec(alloc)?;
     MemNvm::new(
         alloc,
         image,
