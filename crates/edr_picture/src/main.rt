@@ -11,7 +11,7 @@ mod status;
 mod tests;
 
 use draws::draw;
-use edr_streams::Counted;
+use edr_edge::Counted;
 use faults::PageFault;
 use status::PageStatus;
 use std::alloc::AllocError as OutOfMemory;
