@@ -1,23 +1,22 @@
-//! Whole reports, and short lines.
+//! Whole reports.
 ghost use Rattle.std.specs.Prelude.{◌≤◌};
 
 mod texts;
 
-use edr_image::{Ack, Applied, BankView, Choice, CycleReport, Found, Header, Kind, Log};
-use edr_record::{Crash, Extreme, Key, LONG_SLOTS, Place, Pre, Record, SHORT_SLOTS, Slots};
-use edr_report::{format_line, migrate_line, table, text};
+use edr_image::{Ack, Applied, BankView, CycleReport, Found, Kind, Log};
+use edr_record::{Crash, Extreme, Key, Place, Pre, Record, SHORT_SLOTS, Slots};
+use edr_report::{table, text};
 use std::alloc::{AllocError, Global};
 use std::process::Abort;
 use std::test::Fail;
 
 // What stood before an event where every sensor gave samples at all times.
-fn before(cycle: u32, zero: u32) -> Pre
-    requires cycle { 1 ≤ cycle }
-    requires from { 1 ≤ zero }
-    requires to { zero ≤ 86400000 }
-{
+fn before() -> Pre {
     Pre {
-        key: Key { cycle, zero },
+        key: Key {
+            cycle: 1,
+            zero: 6003,
+        },
         place: Place::First,
         slots: Slots::Short {
             speed: [Some(50); SHORT_SLOTS],
@@ -49,24 +48,6 @@ fn early() -> Pre {
                 throttle,
             ],
             brake: [None, None, None, None, None, off, off, off, off, off, off],
-        },
-        belt: Some(true),
-        lamp: Some(false),
-    }
-}
-
-// What stood in 20 s before an event.
-fn long() -> Pre {
-    Pre {
-        key: Key {
-            cycle: 1,
-            zero: 26_003,
-        },
-        place: Place::First,
-        slots: Slots::Long {
-            speed: [Some(50); LONG_SLOTS],
-            throttle: [Some(20); LONG_SLOTS],
-            brake: [Some(false); LONG_SLOTS],
         },
         belt: Some(true),
         lamp: Some(false),
@@ -158,39 +139,9 @@ fn a_crash_is_printed_with_every_element(rt: HostRuntime) -> Result<(), Fail> {
     let taken = take(6020, Applied::Kept { bank: 1 });
     let ended = done(6148, Applied::Done { bank: 1 });
     let run = [ran(rt.alloc(), 1, &[taken, ended])?];
-    let found = [event(1, before(1, 6003), false, Some(crash()))];
+    let found = [event(1, before(), false, Some(crash()))];
     assert!(rt; text(rt.alloc(), &run, &found, 1)?.as_slice() == texts::CRASH);
     assert!(rt; table(rt.alloc(), &run, &found, 1)?.as_slice() == texts::CRASH_TABLE);
-    Ok(())
-}
-
-#[test]
-fn a_run_without_events_tells_the_count(rt: HostRuntime) -> Result<(), Fail> {
-    let run = [ran(rt.alloc(), 1, &[])?];
-    assert!(rt; text(rt.alloc(), &run, &[], 1)?.as_slice() == texts::EMPTY_CYCLE);
-    assert!(rt; table(rt.alloc(), &run, &[], 1)?.as_slice() == texts::EMPTY_CYCLE_TABLE);
-    assert!(rt; text(rt.alloc(), &[], &[], 0)?.as_slice() == texts::EMPTY_TRACE);
-    assert!(rt; table(rt.alloc(), &[], &[], 0)?.as_slice() == texts::EMPTY_TRACE_TABLE);
-    Ok(())
-}
-
-#[test]
-fn damaged_banks_are_told(rt: HostRuntime) -> Result<(), Fail> {
-    let refused = Applied::NotKept;
-    let acks = [
-        take(7000, refused),
-        lock(7000, refused),
-        done(7050, refused),
-    ];
-    let run = [ran(rt.alloc(), 1, &acks)?];
-    let view = BankView::Damaged {
-        offset: 20,
-        found: 165,
-        locked: true,
-    };
-    let found = [Found { bank: 1, view }, Found { bank: 2, view }];
-    assert!(rt; text(rt.alloc(), &run, &found, 1)?.as_slice() == texts::DAMAGED);
-    assert!(rt; table(rt.alloc(), &run, &found, 1)?.as_slice() == texts::DAMAGED_TABLE);
     Ok(())
 }
 
@@ -206,60 +157,8 @@ fn an_absent_slot_or_part_is_none(rt: HostRuntime) -> Result<(), Fail> {
     assert!(rt; text(rt.alloc(), &run, &found, 1)?.as_slice() == texts::EARLY);
     let taken = take(6020, Applied::Kept { bank: 1 });
     let run = [ran(rt.alloc(), 1, &[taken])?];
-    let found = [event(1, before(1, 6003), false, None)];
+    let found = [event(1, before(), false, None)];
     assert!(rt; text(rt.alloc(), &run, &found, 1)?.as_slice() == texts::CUT_SHORT);
-    Ok(())
-}
-
-// Appends the line of a list that has this value 201 times.
-fn push_list(out: &mut Vec<u8>, name: &[u8], value: &[u8]) -> Result<(), AllocError> {
-    out.extend_from_slice(name)?;
-    for _ in 0..200 {
-        out.extend_from_slice(value)?;
-        out.extend_from_slice(b" ")?;
-    }
-    out.extend_from_slice(value)?;
-    out.extend_from_slice(b"\n")
-}
-
-#[test]
-fn a_long_profile_is_told_with_201_values_a_list(rt: HostRuntime) -> Result<(), Fail> {
-    let mut lines = Vec::new(rt.alloc());
-    lines.extend_from_slice(texts::LONG_FRONT)?;
-    push_list(&mut lines, b"speed, km/h: ", b"50")?;
-    push_list(&mut lines, b"throttle, %: ", b"20")?;
-    push_list(&mut lines, b"service brake: ", b"off")?;
-    lines.extend_from_slice(texts::LONG_BACK)?;
-    let found = [event(1, long(), false, None)];
-    assert!(rt; text(rt.alloc(), &[], &found, 1)?.as_slice() == lines.as_slice());
-    Ok(())
-}
-
-#[test]
-fn a_number_is_whole_and_a_count_is_at_most_60000(rt: HostRuntime) -> Result<(), Fail> {
-    let taken = take(6020, Applied::Kept { bank: 1 });
-    let ended = done(6148, Applied::Done { bank: 1 });
-    let run = [ran(rt.alloc(), 60_002, &[taken, ended])?];
-    let found = [event(1, before(60_002, 6003), false, Some(crash()))];
-    assert!(rt; text(rt.alloc(), &run, &found, 60_002)?.as_slice() == texts::PAST_60000);
-    Ok(())
-}
-
-#[test]
-fn a_stop_is_told_with_its_call(rt: HostRuntime) -> Result<(), Fail> {
-    let run = [
-        CycleReport::StartStopped { call: 5 },
-        ran(rt.alloc(), 2, &[])?,
-    ];
-    assert!(rt; text(rt.alloc(), &run, &[], 2)?.as_slice() == texts::STOPPED);
-    let log = Log::with_room(rt.alloc(), 0)?;
-    let run = [CycleReport::Ran {
-        number: 3,
-        stopped: Some(11),
-        log,
-    }];
-    let lines = b"cycle 1: number 3, stopped in call 11\nignition cycle, download: 3\n";
-    assert!(rt; text(rt.alloc(), &run, &[], 3)?.as_slice() == lines.as_slice());
     Ok(())
 }
 
@@ -268,7 +167,7 @@ fn second(after: u32) -> Pre
     requires from { 1 ≤ after }
     requires to { after ≤ 5000 }
 {
-    let mut pre = before(1, 6003);
+    let mut pre = before();
     pre.place = Place::Second { after };
     pre
 }
@@ -276,7 +175,7 @@ fn second(after: u32) -> Pre
 #[test]
 fn the_time_between_events_is_rounded_to_tenths(rt: HostRuntime) -> Result<(), Fail> {
     let places = [
-        (before(1, 6003), "time from event 1 to 2: none"),
+        (before(), "time from event 1 to 2: none"),
         (second(1), "time from event 1 to 2: 0.0 s"),
         (second(50), "time from event 1 to 2: 0.1 s"),
         (second(2949), "time from event 1 to 2: 2.9 s"),
@@ -290,20 +189,4 @@ fn the_time_between_events_is_rounded_to_tenths(rt: HostRuntime) -> Result<(), F
         assert_eq!(rt; told.lines().nth(5), Some(line));
     }
     Ok(())
-}
-
-#[test]
-fn a_format_tells_its_banks_and_its_choice(rt: HostRuntime) {
-    let (banks, choice) = (2, Choice::Keep);
-    let line = format_line(Header { banks, choice });
-    assert!(rt; line.as_bytes() == b"formatted: 2 banks, keep\n".as_slice());
-    let (banks, choice) = (16, Choice::Overwrite);
-    let line = format_line(Header { banks, choice });
-    assert!(rt; line.as_bytes() == b"formatted: 16 banks, overwrite\n".as_slice());
-}
-
-#[test]
-fn a_migration_tells_its_events_and_the_count(rt: HostRuntime) {
-    let line = migrate_line(1, 1);
-    assert!(rt; line.as_bytes() == b"migrated: 1 events, count 1\n".as_slice());
 }

@@ -7,8 +7,6 @@ use std::test::Fail;
 
 const SECOND: TraceFault = TraceFault::Number { field: 2 };
 
-const THIRD: TraceFault = TraceFault::Number { field: 3 };
-
 // The range of the two accelerations.
 const RANGE: TraceFault = TraceFault::Range {
     low: -100_000,
@@ -79,33 +77,6 @@ fn each_fault_is_told_at_its_row(rt: HostRuntime) {
 }
 
 #[test]
-fn malicious_rows_are_refused(rt: HostRuntime) {
-    let table: [(&[u8], u32, TraceFault); 14] = [
-        (b"on,0,\n\xff,1,2\n", 2, TraceFault::Word),
-        (b"on,0,\nalong,+1,0\n", 2, SECOND),
-        (b"on,0,\nalong,4294967296,0\n", 2, SECOND),
-        (b"on,0,\nalong,1,-0\n", 2, THIRD),
-        (b"on,0,\nalong,1,2147483648\n", 2, THIRD),
-        (b"on,0,\ncut,1,1\n", 2, THIRD),
-        (b"on,0,0\n", 1, THIRD),
-        (b"on,0,\non,0,\n", 2, TraceFault::Place),
-        (
-            b"on,0,\nrestraint,1,0\n",
-            2,
-            TraceFault::Range { low: 1, high: 255 },
-        ),
-        (b"on,0,\nalong,18446744073709551617,0\n", 2, SECOND),
-        (b"on,0,\nalong,1,-2147483649\n", 2, THIRD),
-        (b"on,0,\nalong,1,-2147483648\n", 2, RANGE),
-        (b"on,0,\nalong,0,0\n", 2, TraceFault::Order { last: 0 }),
-        (b"on,0,\ncut,4294967296,\n", 2, SECOND),
-    ];
-    for (bytes, row, fault) in table {
-        assert_eq!(rt; answer(&rt, bytes).err(), at(row, fault));
-    }
-}
-
-#[test]
 fn a_trace_that_breaks_off_is_refused_where_it_does(rt: HostRuntime) {
     let whole = b"on,0,\nalong,1,5\ncut,0,\n";
     for n in 0..24usize {
@@ -124,75 +95,6 @@ fn a_trace_that_breaks_off_is_refused_where_it_does(rt: HostRuntime) {
     }
     for (n, cycles) in [(0, 0), (22, 1), (23, 1)] {
         assert_eq!(rt; answer(&rt, &whole[..n]).map(|v| v.len()), Ok(cycles));
-    }
-}
-
-// What a spreadsheet may make of a trace.
-#[test]
-fn what_a_spreadsheet_exports_is_refused_at_its_row(rt: HostRuntime) {
-    let table: [(&[u8], u32, TraceFault); 15] = [
-        // A row of headings.
-        (b"sensor,moment,value\r\non,0,\r\n", 1, TraceFault::Word),
-        // Spaces after the commas, and before a word.
-        (b"on, 0,\r\n", 1, SECOND),
-        (b"on,0, \r\n", 1, THIRD),
-        (b"on,0,\r\nalong,1, 5\r\n", 2, THIRD),
-        (b" on,0,\r\n", 1, TraceFault::Word),
-        // A decimal point, a decimal comma, a number in powers of ten.
-        (b"on,0,\r\nalong,1.0,5\r\n", 2, SECOND),
-        (b"on,0,\r\nalong,1,0.5\r\n", 2, THIRD),
-        (b"on,0,\r\nalong,1,0,5\r\n", 2, fields(4)),
-        (b"on,0,\r\nalong,1E+2,5\r\n", 2, SECOND),
-        // An empty last column, and one that was left out.
-        (b"on,0,,\r\nalong,1,5,\r\n", 1, fields(4)),
-        (b"on,0,\r\nalong,1,5,\r\n", 2, fields(4)),
-        (b"on,0\r\nalong,1,5\r\n", 1, fields(2)),
-        // Semicolons, a row of empty cells, capitals.
-        (b"on;0;\r\n", 1, fields(1)),
-        (b"on,0,\r\n,,\r\n", 2, TraceFault::Word),
-        (b"ON,0,\r\n", 1, TraceFault::Word),
-    ];
-    for (bytes, row, fault) in table {
-        assert_eq!(rt; answer(&rt, bytes).err(), at(row, fault));
-    }
-}
-
-#[test]
-fn rows_are_counted_as_records(rt: HostRuntime) {
-    let table: [(&[u8], u32, TraceFault); 13] = [
-        // Blank lines are no rows, but a line of two quotes has one empty field.
-        (b"\n\non,0,\n\r\n\nalong,1\n", 2, fields(2)),
-        (b"on,0,\n\"\"\ncut,0,\n", 2, fields(1)),
-        // A byte order mark that isn't at the front belongs to the word.
-        (b"\n\xef\xbb\xbfon,0,\n", 1, TraceFault::Word),
-        (b"\xef\xbb\xbf\xef\xbb\xbfon,0,\n", 1, TraceFault::Word),
-        (b"on,0,\n\xef\xbb\xbfcut,0,\n", 2, TraceFault::Word),
-        // Rows with quotes, or with a carriage return, stand behind rows without.
-        (
-            b"on,0,\n\"along\",1,5\nalong,3,5\nalong,2,5\n",
-            4,
-            TraceFault::Order { last: 3 },
-        ),
-        (
-            b"on,0,\nalong,1,5\r\nalong,3,5\nalong,2,5\n",
-            4,
-            TraceFault::Order { last: 3 },
-        ),
-        (
-            b"on,0,\n\n\nalong,3,5\nalong,2,5\n",
-            3,
-            TraceFault::Order { last: 3 },
-        ),
-        // A line feed between quotes belongs to the field.
-        (b"on,0,\n\"along\n\",1,2\n", 2, TraceFault::Word),
-        // A quote that isn't closed takes all that follows into its field.
-        (b"on,0,\nalong,1,\"2\ncut,0,\n", 2, THIRD),
-        (b"on,0,\nalong,\"1,2\ncut,0,\n", 2, fields(2)),
-        (b"on,0,\n\"along,1,2\ncut,0,\n", 2, fields(1)),
-        (b"on,0,\nalong,1,\"2", 3, TraceFault::Unended),
-    ];
-    for (bytes, row, fault) in table {
-        assert_eq!(rt; answer(&rt, bytes).err(), at(row, fault));
     }
 }
 

@@ -1,20 +1,13 @@
 //! Whole runs of the top call, over sources, sinks and memories in memory.
 ghost use Rattle.std.specs.Prelude.{◌<◌, ◌^◌, length};
 
-mod crashes;
 mod cuts;
 mod driven;
 mod drives;
-mod events;
 mod every_call;
 mod expected;
 mod faults;
 mod formats;
-mod generated;
-mod images;
-mod migrations;
-mod orders;
-mod refusals;
 
 use edr_cli::{Status, Words, command};
 use edr_device::{MemNvm, MemSink, MemSource};
@@ -85,24 +78,6 @@ fn new_image(banks: u8, choice: u8) -> [u8; SIZE] {
     image
 }
 
-// Puts bytes into an image.
-fn put(image: &mut [u8; SIZE], at: usize, bytes: &[u8]) {
-    for (offset, byte) in bytes.iter().enumerate() {
-        if let Some(place) = image.get_mut(at.saturating_add(offset)) {
-            *place = *byte;
-        }
-    }
-}
-
-// The bytes that such a memory holds.
-fn image_of(memory: &MemNvm) -> [u8; SIZE] {
-    let mut image = [0; SIZE];
-    if let Some(bytes) = memory.image().get(..SIZE) {
-        image.copy_from_slice(bytes);
-    }
-    image
-}
-
 // A memory with these bytes, in which these changing calls fail, and a pick for its power cuts.
 fn memory_of(alloc: Global, image: &[u8], fails: &[u32], pick: u64) -> Result<MemNvm, AllocError>
     requires { length image.now < 2 ^ 32 }
@@ -169,11 +144,6 @@ fn check_run<R: Abort + AllocGlobal>(
     memory: &mut MemNvm,
 ) -> Result<(), Fail> {
     check_streams(rt, run, SOUND, memory)
-}
-
-// A call answers as it is to, over a new memory with two banks that keep.
-fn check_new<R: Abort + AllocGlobal>(rt: &R, run: CommandRun<'_>) -> Result<(), Fail> {
-    check_run(rt, run, &mut kept_memory(rt.alloc())?)
 }
 
 // A memory is reported so.

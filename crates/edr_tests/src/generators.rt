@@ -6,30 +6,6 @@ use std::alloc::Global;
 use std::process::Abort;
 use std::test::Fail;
 
-// The checksum FNV-1a of some bytes, in 64 bits.
-fn checksum(bytes: &[u8]) -> u64 {
-    let mut sum = 0xcbf2_9ce4_8422_2325u64;
-    for byte in bytes {
-        sum = (sum ^ u64::from(*byte)).wrapping_mul(0x100_0000_01b3);
-    }
-    sum
-}
-
-#[test]
-fn traces_have_the_bytes_of_a_second_program(rt: HostRuntime) -> Result<(), Fail> {
-    let table = [
-        (1, 513_864, 7_307_667_621_627_245_330),
-        (7, 513_601, 8_780_425_556_555_873_612),
-        (u64::MAX, 513_229, 3_959_380_622_488_780_879),
-    ];
-    for (number, len, sum) in table {
-        let trace = generate_into(rt.alloc(), number, 1)?;
-        assert_eq!(rt; trace.len(), len);
-        assert_eq!(rt; checksum(&trace), sum);
-    }
-    Ok(())
-}
-
 #[test]
 fn a_trace_is_the_same_in_whatever_pieces_it_goes_out(rt: HostRuntime) -> Result<(), Fail> {
     let alloc = rt.alloc();

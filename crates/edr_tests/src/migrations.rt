@@ -1,10 +1,9 @@
 //! Worked cases of a migration.
-ghost use Rattle.std.specs.Prelude.{◌≡◌, ◌+◌, ◌<◌, ◌≤◌, ◌^◌, IfOk, length};
+ghost use Rattle.std.specs.Prelude.{◌≡◌, ◌+◌, ◌≤◌, IfOk, length};
 ghost use Rattle.edr_device.specs.Memory.{memory_image};
 
-use edr_banks::{Banks, Choice};
 use edr_device::{MemNvm, Nvm};
-use edr_migrate::{HeaderRefused, MigrateFault, Migrated, OldRefused, check, migrate};
+use edr_migrate::{MigrateFault, Migrated, check, migrate};
 use std::alloc::{AllocError, Global};
 use std::process::Abort;
 use std::test::Fail;
@@ -74,19 +73,17 @@ fn new_image() -> [u8; 2_144] {
 }
 
 // A memory of zeros that takes 60 writes and syncs, of which some fail.
-fn zeros(alloc: Global, size: usize, fails: &[u32], pick: u64) -> Result<MemNvm, AllocError>
-    requires { size < 2 ^ 32 }
-    ensures { IfOk result (λ m. length (memory_image m) ≡ size) }
+fn zeros(alloc: Global, fails: &[u32]) -> Result<MemNvm, AllocError>
+    ensures { IfOk result (λ m. length (memory_image m) ≡ 2144) }
 {
-    let image = vec![in alloc; 0u8; size]?;
-    let fails = fails.to_vec(alloc)?;
-    let read_fails = [].to_vec(alloc)?;
-    MemNvm::new(alloc, image, 60, fails, read_fails, pick)
+    let image = vec![in alloc; 0u8; 2_144]?;
+    let memory = MemNvm::new(alloc, image, 60, fails.to_vec(alloc)?, Vec::new(alloc), 0)?;
+    Ok(memory)
 }
 
 #[test]
 fn one_event_is_migrated(rt: HostRuntime) -> Result<(), Fail> {
-    let mut memory = zeros(rt.alloc(), 2_144, &[], 0)?;
+    let mut memory = zeros(rt.alloc(), &[])?;
     let migrated = Migrated {
         events: 1,
         count: 1,
@@ -98,66 +95,9 @@ fn one_event_is_migrated(rt: HostRuntime) -> Result<(), Fail> {
     Ok(())
 }
 
-// The first bytes of an old image.
-fn begin_of(old: &[u8; 1_120], size: usize) -> &[u8]
-    requires { size ≤ 1120 }
-    ensures { length result.now ≡ size }
-{
-    &old[..size]
-}
-
-#[test]
-fn what_is_short_is_refused(rt: HostRuntime) -> Result<(), Fail> {
-    let old = old_image();
-    let mut memory = zeros(rt.alloc(), 2_143, &[], 0)?;
-    let short = |size, needed| Err(MigrateFault::OldShort { size, needed });
-    assert_eq!(rt; migrate(&mut memory, begin_of(&old, 95)), short(95, 96));
-    assert_eq!(rt;
-        migrate(&mut memory, begin_of(&old, 1_119)),
-        short(1_119, 1_120)
-    );
-    let small = MigrateFault::Short {
-        size: 2_143,
-        needed: 2_144,
-    };
-    assert_eq!(rt; migrate(&mut memory, &old), Err(small));
-    assert!(rt; memory.image().iter().all(|byte| *byte == 0));
-    Ok(())
-}
-
-#[test]
-fn the_header_is_refused_before_a_bank(rt: HostRuntime) -> Result<(), Fail> {
-    let mut old = old_image();
-    let mut memory = zeros(rt.alloc(), 2_144, &[], 0)?;
-    old[112 + 3] = 0;
-    let damaged = MigrateFault::OldBank {
-        bank: 1,
-        offset: 19,
-        found: 0,
-    };
-    assert_eq!(rt; migrate(&mut memory, &old), Err(damaged));
-    old[9] = 2;
-    let version = MigrateFault::OldHeader(HeaderRefused::Version { found: 2 });
-    assert_eq!(rt; migrate(&mut memory, &old), Err(version));
-    Ok(())
-}
-
-#[test]
-fn a_formatted_device_stays(rt: HostRuntime) -> Result<(), Fail> {
-    let mut memory = zeros(rt.alloc(), 2_144, &[], 0)?;
-    Banks::format(&mut memory, 2, Choice::Keep)?;
-    let before = memory.image().to_vec(rt.alloc())?;
-    assert_eq!(rt;
-        migrate(&mut memory, &old_image()),
-        Err(MigrateFault::Formatted)
-    );
-    assert_eq!(rt; memory.image(), before.as_slice());
-    Ok(())
-}
-
 #[test]
 fn the_last_call_fails(rt: HostRuntime) -> Result<(), Fail> {
-    let mut memory = zeros(rt.alloc(), 2_144, &[6], 0)?;
+    let mut memory = zeros(rt.alloc(), &[6])?;
     assert_eq!(rt;
         migrate(&mut memory, &old_image()),
         Err(MigrateFault::StoreFault)

@@ -8,61 +8,7 @@ use std::alloc::{AllocError, Global};
 use std::process::Abort;
 use std::test::Fail;
 
-// What stood before an event whose end the power cut off.
-fn before_a_cut() -> Pre {
-    Pre {
-        key: Key {
-            cycle: 1,
-            zero: 4311,
-        },
-        place: Place::First,
-        slots: Slots::Short {
-            speed: [
-                None,
-                None,
-                None,
-                Some(44),
-                Some(45),
-                Some(45),
-                None,
-                Some(46),
-                Some(47),
-                Some(47),
-                Some(48),
-            ],
-            throttle: [
-                None,
-                None,
-                None,
-                Some(20),
-                Some(20),
-                Some(20),
-                Some(20),
-                Some(20),
-                Some(20),
-                Some(20),
-                Some(20),
-            ],
-            brake: [
-                None,
-                None,
-                None,
-                Some(false),
-                Some(false),
-                Some(false),
-                Some(false),
-                Some(false),
-                Some(false),
-                Some(true),
-                Some(true),
-            ],
-        },
-        belt: None,
-        lamp: Some(false),
-    }
-}
-
-// What stood in the 20 s before one.
+// What stood in the 20 s before an event whose end the power cut off.
 fn long_before_a_cut() -> Pre {
     Pre {
         key: Key {
@@ -126,21 +72,6 @@ fn is_known(
     Ok(bytes.len() == known.len && digest == known.page)
 }
 
-const POWER_CUT: KnownPage = KnownPage {
-    size: 1072,
-    report: [
-        0xb1, 0xb8, 0xc2, 0x07, 0xe8, 0x2a, 0xd7, 0xd0, 0x56, 0xfc, 0x12, 0x94, 0x72, 0x0b, 0xca,
-        0x8e, 0xc7, 0x9d, 0x6c, 0x4c, 0xa1, 0x26, 0x82, 0x31, 0x20, 0x88, 0x05, 0x92, 0x01, 0xc9,
-        0x9b, 0x7d,
-    ],
-    len: 15309,
-    page: [
-        0x1b, 0x01, 0xf6, 0xdf, 0xbf, 0x1c, 0xd0, 0x63, 0xe1, 0x71, 0xe9, 0x04, 0x29, 0x4d, 0xfc,
-        0xa7, 0x41, 0x26, 0x40, 0xfd, 0xcf, 0xc8, 0xf1, 0x00, 0xd3, 0xf3, 0x56, 0x5d, 0xef, 0xb7,
-        0x22, 0xad,
-    ],
-};
-
 const LONG: KnownPage = KnownPage {
     size: 3127,
     report: [
@@ -155,24 +86,6 @@ const LONG: KnownPage = KnownPage {
         0x63, 0x46,
     ],
 };
-
-#[test]
-fn an_event_without_its_end_says_so(rt: HostRuntime) -> Result<(), Fail> {
-    let acks = [
-        ack(4330, Kind::Take, Applied::Kept { bank: 1 }),
-        ack(4330, Kind::Lock, Applied::Locked { bank: 1 }),
-    ];
-    let run = [ran(rt.alloc(), &acks)?];
-    let record = Record {
-        pre: before_a_cut(),
-        locked: true,
-        crash: None,
-    };
-    let view = BankView::Event(record);
-    let found = [Found { bank: 1, view }];
-    assert!(rt; is_known(rt.alloc(), &run, &found, 1, &POWER_CUT)?);
-    Ok(())
-}
 
 #[test]
 fn the_lists_of_a_long_profile_are_drawn_without_numbers(rt: HostRuntime) -> Result<(), Fail> {

@@ -20,14 +20,6 @@ fn check_jobs<R: Abort + AllocGlobal>(rt: &R, table: &[(&str, Job)]) -> Result<(
     Ok(())
 }
 
-// No line names a job.
-fn check_others<R: Abort + AllocGlobal>(rt: &R, lines: &[&str]) -> Result<(), Fail> {
-    for line in lines {
-        assert_eq!(rt; job_of(rt.alloc(), line)?, None, "{line}");
-    }
-    Ok(())
-}
-
 #[test]
 fn each_job_of_an_image_has_its_words(rt: HostRuntime) -> Result<(), Fail> {
     let text = Form::Text;
@@ -73,77 +65,4 @@ fn each_job_of_threads_and_generated_traces_has_its_words(rt: HostRuntime) -> Re
         ("large 7 40", large(7, 40)),
     ];
     check_jobs(&rt, &table)
-}
-
-#[test]
-fn other_words_name_no_job(rt: HostRuntime) -> Result<(), Fail> {
-    let none = Words::new(rt.alloc()).job(rt.alloc())?;
-    assert_eq!(rt; none, None);
-    let lines = [
-        "",
-        "Replay",
-        "replays",
-        "replay xml",
-        "replay csv csv",
-        "replay ",
-        "report csv csv",
-        "format",
-        "format 2",
-        "format 1 keep",
-        "format 255 keep",
-        "format 02 keep",
-        "format +2 keep",
-        "format 2 Keep",
-        "format 4294967298 keep",
-        "format 2 keep now",
-        "migrate ",
-        "migrate 1",
-    ];
-    check_others(&rt, &lines)
-}
-
-#[test]
-fn other_numbers_of_workers_and_cycles_name_no_job(rt: HostRuntime) -> Result<(), Fail> {
-    let lines = [
-        "drive",
-        "drive 0",
-        "drive 9",
-        "drive 01",
-        "drive csv",
-        "drive 1 xml",
-        "drive 1 csv csv",
-        "generate",
-        "generate 1",
-        "generate 1 0",
-        "generate 1 61",
-        "generate 1 +1",
-        "generate 01 1",
-        "generate 18446744073709551616 1",
-        "generate 1 1 1",
-        "large 7",
-        "large 7 61",
-    ];
-    check_others(&rt, &lines)
-}
-
-#[test]
-fn a_word_that_begins_with_a_hyphen_is_refused(rt: HostRuntime) -> Result<(), Fail> {
-    let lines = [
-        "-",
-        "--",
-        "--help",
-        "-h",
-        "help",
-        "report --csv",
-        "report -- csv",
-        "replay --",
-        "replay -h",
-        "format -2 keep",
-        "format 2 --keep",
-        "generate -1 1",
-        "generate -- 1 1",
-        "large 1 -1",
-        "drive -1",
-    ];
-    check_others(&rt, &lines)
 }

@@ -1,23 +1,11 @@
-//! Power cuts in the changing calls of a start and of commands, and a drive that ends within its event.
+//! Power cuts in the changing calls of a start and of commands.
 
-use super::drives::{TENSED, push_drive, quiet, struck, trace_of};
-use super::expected::{
-    COUNTED_ONE, NOT_DONE, TENSED_TWICE, changed, joined, struck_event, tensed_event,
-};
-use super::{KEEP, OVERWRITE, check_new, check_run, memory_of, new_image, replayed};
+use super::drives::{TENSED, push_drive, struck, trace_of};
+use super::expected::{NOT_DONE, TENSED_TWICE, changed, joined, struck_event, tensed_event};
+use super::{KEEP, OVERWRITE, check_run, memory_of, new_image, replayed};
 use std::alloc::{AllocError, Global};
 use std::process::Abort;
 use std::test::Fail;
-
-#[test]
-fn a_drive_that_ends_within_its_event_leaves_no_crash_part(rt: HostRuntime) -> Result<(), Fail> {
-    let alloc = rt.alloc();
-    let trace = trace_of(alloc, &[struck(26_100)])?;
-    const CYCLE: &str = "cycle 1: number 1, power off\ncycle 1 take at 26020: bank 1\n";
-    let event = changed(alloc, &struck_event(alloc)?, &NOT_DONE)?;
-    let report = joined(alloc, &[CYCLE, &event, COUNTED_ONE])?;
-    check_new(&rt, replayed(&trace, &report))
-}
 
 // The number of the next CYCLE, where a start was stopped in this call. The fifth call opens the slot of the new count.
 fn number_after(call: u32, pick: u64) -> u32 {
@@ -196,16 +184,4 @@ fn an_overwrite_that_is_cut_leaves_the_old_record_none_or_the_new(
         }
     }
     Ok(())
-}
-
-// A cut in a call that no command makes is none, and a cycle behind a cut one has the next number.
-#[test]
-fn a_cut_that_no_call_reaches_is_a_power_off(rt: HostRuntime) -> Result<(), Fail> {
-    let alloc = rt.alloc();
-    let mut drive = quiet(100);
-    drive.stop = 4_294_967_295;
-    let trace = trace_of(alloc, &[drive, quiet(100)])?;
-    let report =
-        "cycle 1: number 1, power off\ncycle 2: number 2, power off\nignition cycle, download: 2\n";
-    check_new(&rt, replayed(&trace, report))
 }

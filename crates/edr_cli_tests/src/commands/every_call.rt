@@ -14,7 +14,7 @@ use std::test::Fail;
 
 // The whole report of the deployment.
 fn whole_report(alloc: Global) -> Result<String, AllocError> {
-    let event = bag_event(alloc, "1")?;
+    let event = bag_event(alloc)?;
     joined(alloc, &[DEPLOYED_CYCLE, &event, COUNTED_ONE])
 }
 
@@ -29,7 +29,7 @@ fn faulty<'a>(trace: &'a str, status: Status, line: &'a str) -> CommandRun<'a> {
 // What the memory holds after a fault in this changing call and a power cut. The barrier is call 1; the number is counted
 // in 2 to 7; the bank is filled in 8 to 11, locked in 12 and 13, and done in 14 to 17.
 fn left(alloc: Global, call: u32) -> Result<String, AllocError> {
-    let taken = changed(alloc, &bag_event(alloc, "1")?, &NOT_DONE)?;
+    let taken = changed(alloc, &bag_event(alloc)?, &NOT_DONE)?;
     let event = match call {
         0..=11 => String::new(alloc),
         12..=13 => changed(alloc, &taken, &[("deployment event", "no")])?,
@@ -71,7 +71,7 @@ fn each_changing_call_fails_once(rt: HostRuntime) -> Result<(), Fail> {
 
 // The report of the memory that has the whole record.
 fn recorded(alloc: Global) -> Result<String, AllocError> {
-    let event = bag_event(alloc, "1")?;
+    let event = bag_event(alloc)?;
     joined(alloc, &[&event, COUNTED_ONE])
 }
 

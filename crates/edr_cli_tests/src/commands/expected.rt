@@ -2,8 +2,8 @@
 
 use std::alloc::{AllocError, Global};
 
-/// The record of a car that was struck from the front at 6.001 s for 100 ms, as version 1 kept it.
-pub(crate) const OLD_EVENT: &str = "event: 1
+// The record of a car that was struck from the front at 6.001 s for 100 ms, as version 1 kept it.
+const OLD_EVENT: &str = "event: 1
 bank: 1
 ignition cycle, crash: 1
 time zero: 6003 ms
@@ -37,23 +37,23 @@ complete file recorded: yes
 // How many slots a list has.
 const SLOTS: usize = 201;
 
-/// A list of which so many first slots are absent, and the others have this value.
-pub(crate) fn slots(alloc: Global, absent: usize, value: &str) -> Result<String, AllocError> {
+// A list whose slots all have this value.
+fn slots(alloc: Global, value: &str) -> Result<String, AllocError> {
     let mut out = String::new(alloc);
     for slot in 0..SLOTS {
         if slot > 0 {
             out.push_str(" ")?;
         }
-        out.push_str(if slot < absent { "none" } else { value })?;
+        out.push_str(value)?;
     }
     Ok(out)
 }
 
 /// The record of a car that is struck from the front at 26.001 s for 100 ms.
 pub(crate) fn struck_event(alloc: Global) -> Result<String, AllocError> {
-    let speed = slots(alloc, 0, "50")?;
-    let throttle = slots(alloc, 0, "20")?;
-    let brake = slots(alloc, 0, "off")?;
+    let speed = slots(alloc, "50")?;
+    let throttle = slots(alloc, "20")?;
+    let brake = slots(alloc, "off")?;
     let changes = [
         ("time zero", "26003 ms"),
         ("pre-crash profile", "long"),
@@ -108,8 +108,8 @@ pub(crate) const NOT_DONE: [(&str, &str); 16] = [
     ("complete file recorded", "no"),
 ];
 
-/// The lines of the first cycle in which the car is struck.
-pub(crate) const STRUCK_CYCLE: &str = "cycle 1: number 1, power off
+// The lines of the first cycle in which the car is struck.
+const STRUCK_CYCLE: &str = "cycle 1: number 1, power off
 cycle 1 take at 26020: bank 1
 cycle 1 done at 26148: bank 1
 ";
@@ -171,13 +171,7 @@ const FIRED_BAG: [(&str, &str); 3] = [
     ("driver pretensioner deployment", "none"),
 ];
 
-/// The record of the air bag with its place in a report and its bank, of the cycle with the same number.
-pub(crate) fn bag_event(alloc: Global, place: &str) -> Result<String, AllocError> {
-    let bag = tensed_event(alloc, &FIRED_BAG)?;
-    let changes = [
-        ("event", place),
-        ("bank", place),
-        ("ignition cycle, crash", place),
-    ];
-    changed(alloc, &bag, &changes)
+/// The record of a car whose air bag fires at 27 s.
+pub(crate) fn bag_event(alloc: Global) -> Result<String, AllocError> {
+    tensed_event(alloc, &FIRED_BAG)
 }
