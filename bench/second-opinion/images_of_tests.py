@@ -12,12 +12,10 @@ TOP = os.path.join(os.path.dirname(os.path.abspath(__file__)), '..', '..')
 SECONDS = 120
 BASE, TESTS = 'crates/edr_base_tests/src/lib.rt', 'crates/edr_tests/src/lib.rt'
 COMMANDS = 'crates/edr_cli_tests/src/commands.rt'
-# What the tests of the top call share; their modules that replay once or twice, those that let each call fail in turn, and the
-# others of many replays.
+# What the tests of the top call share; their modules that let each call fail in turn, and the others.
 SHARED = ('drives', 'expected')
-ONCE = ('crashes', 'events', 'formats', 'images', 'migrations', 'refusals')
-FAILING = ('every_call', 'faults')
-MANY = ('cuts', 'driven', 'generated', 'orders')
+FAILING = ('every_call', 'faults', 'formats')
+OTHERS = ('cuts', 'driven')
 
 
 class Copy(NamedTuple):
@@ -30,9 +28,8 @@ class Copy(NamedTuple):
 
 
 COPIES = (
-    Copy('edr_cli_tests, many replays', 'edr_cli_tests', 15, {COMMANDS: SHARED + MANY}),
+    Copy('edr_cli_tests', 'edr_cli_tests', 10, {COMMANDS: SHARED + OTHERS}),
     Copy('edr_cli_tests, failing calls', 'edr_cli_tests', 10, {COMMANDS: SHARED + FAILING}),
-    Copy('edr_cli_tests, one replay', 'edr_cli_tests', 70, {COMMANDS: SHARED + ONCE}),
     # The other modules have no image, but for `large_runs`, whose banks nobody reads, and `memories`, whose bytes are too few. Nor
     # has `dealt_sensors`, whose feeds others use.
     Copy('edr_tests', 'edr_tests', 36, {TESTS: ('banks', 'cycles', 'dealt_sensors', 'migrations', 'powered_runs', 'runs')}),
@@ -41,7 +38,6 @@ COPIES = (
 )
 # Tests that take long and have no other image than a new one. A copy has none of them.
 LONG = {
-    'generated': ('a_large_run_is_counted_beside_the_memory',),
     'faults': ('a_source_that_gives_the_most_is_read', 'a_source_that_gives_too_much_is_told'),
 }
 # What stands in a file once, and what a copy has in its place.
