@@ -28,8 +28,8 @@ class Copy(NamedTuple):
 
 
 COPIES = (
-    Copy('edr_cli_tests', 'edr_cli_tests', 10, {COMMANDS: SHARED + OTHERS}),
-    Copy('edr_cli_tests, failing calls', 'edr_cli_tests', 10, {COMMANDS: SHARED + FAILING}),
+    Copy('edr_cli_tests', 'edr_cli_tests', 15, {COMMANDS: SHARED + OTHERS}),
+    Copy('edr_cli_tests, failing calls', 'edr_cli_tests', 12, {COMMANDS: SHARED + FAILING}),
     # The other modules have no image, but for `large_runs`, whose banks nobody reads, and `memories`, whose bytes are too few. Nor
     # has `dealt_sensors`, whose feeds others use.
     Copy('edr_tests', 'edr_tests', 36, {TESTS: ('banks', 'cycles', 'dealt_sensors', 'migrations', 'powered_runs', 'runs')}),
