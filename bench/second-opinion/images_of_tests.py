@@ -15,7 +15,7 @@ COMMANDS = 'crates/edr_cli_tests/src/commands.rt'
 # What the tests of the top call share; their modules that let each call fail in turn, and the others.
 SHARED = ('drives', 'expected')
 FAILING = ('every_call', 'faults', 'formats')
-OTHERS = ('cuts', 'driven')
+OTHERS = ('cuts', 'driven', 'generated')
 
 
 class Copy(NamedTuple):

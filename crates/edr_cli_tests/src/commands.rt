@@ -8,6 +8,7 @@ mod every_call;
 mod expected;
 mod faults;
 mod formats;
+mod generated;
 
 use edr_cli::{Status, Words, command};
 use edr_device::{MemNvm, MemSink, MemSource};
