@@ -13,21 +13,13 @@ mod feeds;
 #[cfg(test)]
 mod gates;
 #[cfg(test)]
-mod layouts;
-#[cfg(test)]
-mod links;
-#[cfg(test)]
 mod memories;
 #[cfg(test)]
 mod merges;
 #[cfg(test)]
 mod numbers;
 #[cfg(test)]
-mod record_parts;
-#[cfg(test)]
 mod records;
-#[cfg(test)]
-mod reports;
 #[cfg(test)]
 mod seats;
 #[cfg(test)]

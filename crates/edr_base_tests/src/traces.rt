@@ -5,22 +5,6 @@ use edr_items::{Item, Sensor};
 use edr_trace::{CycleInput, ReadRefused, TraceFault, TraceRefused, read};
 use std::test::Fail;
 
-const SECOND: TraceFault = TraceFault::Number { field: 2 };
-
-// The range of the two accelerations.
-const RANGE: TraceFault = TraceFault::Range {
-    low: -100_000,
-    high: 100_000,
-};
-
-fn fields(found: u32) -> TraceFault {
-    TraceFault::Fields { found }
-}
-
-fn skew(sensor: Sensor) -> TraceFault {
-    TraceFault::Skew { sensor }
-}
-
 // What is read of the whole, and as well of one byte after the other; no table here says that memory runs out.
 fn answer(rt: &HostRuntime, bytes: &[u8]) -> Result<Vec<CycleInput>, ReadRefused> {
     if bytes.len() > 1_000_000 {
@@ -33,69 +17,8 @@ fn answer(rt: &HostRuntime, bytes: &[u8]) -> Result<Vec<CycleInput>, ReadRefused
     }
 }
 
-fn at(row: u32, fault: TraceFault) -> Option<ReadRefused> {
-    Some(ReadRefused::Trace(TraceRefused { row, fault }))
-}
-
 fn item(moment: u32, value: Option<i32>) -> Item {
     Item { moment, value }
-}
-
-#[test]
-fn each_fault_is_told_at_its_row(rt: HostRuntime) {
-    let table: [(&[u8], u32, TraceFault); 13] = [
-        (b"on,0\n", 1, fields(2)),
-        (b"horn,1,2\n", 1, TraceFault::Word),
-        (b"on,7,\n", 1, SECOND),
-        (b"on,0,\nalong,01,0\n", 2, SECOND),
-        (b"cut,0,\n", 1, TraceFault::Place),
-        (
-            b"on,0,\nalong,5,0\nalong,5,0\ncut,0,\n",
-            3,
-            TraceFault::Order { last: 5 },
-        ),
-        (
-            b"on,0,\nalong,86400001,0\n",
-            2,
-            TraceFault::Moment { limit: 86_400_000 },
-        ),
-        (b"on,0,\nalong,1,100001\n", 2, RANGE),
-        (b"on,0,\nlamp,1001,\n", 2, TraceFault::Gap { last: 0 }),
-        (
-            b"on,0,\nalong,1000,0\nalong,1001,0\ncut,0,\n",
-            4,
-            skew(Sensor::Across),
-        ),
-        (b"on,0,\nalong,1,0\n", 3, TraceFault::Unended),
-        // Of two causes the first is told.
-        (b"horn,1,2,3\n", 1, fields(4)),
-        (b"on,0,\nalong,1001,100001\n", 2, RANGE),
-    ];
-    for (bytes, row, fault) in table {
-        assert_eq!(rt; answer(&rt, bytes).err(), at(row, fault));
-    }
-}
-
-#[test]
-fn a_trace_that_breaks_off_is_refused_where_it_does(rt: HostRuntime) {
-    let whole = b"on,0,\nalong,1,5\ncut,0,\n";
-    for n in 0..24usize {
-        let want = match n {
-            1 | 2 => at(1, fields(1)),
-            3 | 4 => at(1, fields(2)),
-            5 | 6 => at(2, TraceFault::Unended),
-            7..=11 => at(2, fields(1)),
-            12 | 13 => at(2, fields(2)),
-            14..=16 => at(3, TraceFault::Unended),
-            17..=19 => at(3, fields(1)),
-            20 | 21 => at(3, fields(2)),
-            _ => None,
-        };
-        assert_eq!(rt; answer(&rt, &whole[..n]).err(), want, "after {n} bytes");
-    }
-    for (n, cycles) in [(0, 0), (22, 1), (23, 1)] {
-        assert_eq!(rt; answer(&rt, &whole[..n]).map(|v| v.len()), Ok(cycles));
-    }
 }
 
 // How many items the first sensor has in each cycle, added up.
@@ -128,36 +51,6 @@ fn quotes_marks_and_line_ends_are_read(rt: HostRuntime) {
             }
             Err(refused) => assert_eq!(rt; Some(refused), None),
         }
-    }
-}
-
-#[test]
-fn a_gap_and_a_skew_of_1000_are_read_and_1001_are_refused(rt: HostRuntime) {
-    let table: [(&[u8], Option<ReadRefused>); 6] = [
-        (
-            b"on,0,\nalong,1000,-100000\nacross,1000,100000\ncut,4294967295,\n",
-            None,
-        ),
-        (
-            b"on,0,\nalong,1000,0\nlamp,1,\nlamp,1001,\ncut,0,\n",
-            at(5, skew(Sensor::Across)),
-        ),
-        (
-            b"on,0,\nlamp,1,\nlamp,1002,\n",
-            at(3, TraceFault::Gap { last: 1 }),
-        ),
-        (
-            b"on,0,\nlamp,1,\nlamp,1001,\ncut,0,\n",
-            at(4, skew(Sensor::Along)),
-        ),
-        (
-            b"on,0,\nlamp,1000,\ncut,0,\non,0,\nlamp,1000,\ncut,0,\n",
-            None,
-        ),
-        (b"on,6,\ncut,0,\n", at(2, TraceFault::Place)),
-    ];
-    for (bytes, want) in table {
-        assert_eq!(rt; answer(&rt, bytes).err(), want);
     }
 }
 

@@ -104,36 +104,6 @@ fn short_source(alloc: Global, fails: &[u32]) -> Result<MemSource, AllocError> {
     Ok(MemSource::new(bytes, 10, fails))
 }
 
-// What was taken of such a source is all of it, where nothing is to fail, or else this.
-fn check_short<R: Abort + AllocGlobal>(
-    rt: &R,
-    case: usize,
-    taken: Result<Vec<u8>, TakeFault>,
-    fails: Option<TakeFault>,
-) -> Result<(), Fail> {
-    match taken {
-        Ok(bytes) => {
-            let wanted = some_bytes(rt.alloc(), 35)?;
-            assert_eq!(rt; fails, None, "at {case}");
-            assert_eq!(rt; bytes, wanted);
-        }
-        Err(e) => assert_eq!(rt; Some(e), fails, "at {case}"),
-    }
-    Ok(())
-}
-
-#[test]
-fn stops_one_past_the_limit(rt: HostRuntime) -> Result<(), Fail> {
-    let long = Some(TakeFault::TooLong);
-    for (limit, fails) in [(34, long), (35, None), (36, None), (0, long)] {
-        assert!(rt; limit < 100);
-        let mut source = short_source(rt.alloc(), &[])?;
-        let taken = take_all(rt.alloc(), &mut source, limit);
-        check_short(&rt, limit, taken, fails)?;
-    }
-    Ok(())
-}
-
 #[test]
 fn one_byte_past_the_limit_is_taken(rt: HostRuntime) -> Result<(), Fail> {
     let mut source = short_source(rt.alloc(), &[])?;
@@ -144,47 +114,6 @@ fn one_byte_past_the_limit_is_taken(rt: HostRuntime) -> Result<(), Fail> {
     let mut next = [0u8; 1];
     assert_eq!(rt; source.take(&mut next), Ok(1));
     assert_eq!(rt; next, [13]);
-    Ok(())
-}
-
-// 35 bytes in pieces of 10 are four calls, and a fifth finds the end.
-#[test]
-fn source_fails_at_each_call(rt: HostRuntime) -> Result<(), Fail> {
-    for call in 0..8u32 {
-        let mut source = short_source(rt.alloc(), &[call, call])?;
-        let is_told = call >= 1 && call <= 5;
-        let fails = if is_told {
-            Some(TakeFault::Failed)
-        } else {
-            None
-        };
-        let taken = take_all(rt.alloc(), &mut source, 1000);
-        check_short(&rt, call as usize, taken, fails)?;
-    }
-    Ok(())
-}
-
-// What a sink whose call of that number fails gained of 35 bytes, ten at a time.
-fn put_until(
-    alloc: Global,
-    bytes: &[u8],
-    call: u32,
-) -> Result<(Result<(), Failed>, MemSink), Fail> {
-    let fails = [call].to_vec(alloc)?;
-    let mut sink = MemSink::new(alloc, 100, 10, fails)?;
-    let put = put_all(&mut sink, bytes);
-    Ok((put, sink))
-}
-
-#[test]
-fn sink_fails_at_each_call(rt: HostRuntime) -> Result<(), Fail> {
-    let bytes = some_bytes(rt.alloc(), 35)?;
-    for call in 1..6u32 {
-        let (put, sink) = put_until(rt.alloc(), &bytes, call)?;
-        assert_eq!(rt; put.is_ok(), call == 5, "call {call}");
-        let gained = some_bytes(rt.alloc(), if call < 5 { 10 * (call - 1) } else { 35 })?;
-        assert_eq!(rt; sink.bytes(), gained.as_slice(), "call {call}");
-    }
     Ok(())
 }
 

@@ -4,8 +4,6 @@
 
 mod draws;
 mod faults;
-#[cfg(test)]
-mod reports;
 mod status;
 #[cfg(test)]
 mod tests;

@@ -2,13 +2,9 @@
 
 use crate::draws::draw;
 use crate::faults::PageFault;
-use crate::reports;
-use crate::reports::Known;
 use crate::status::PageStatus;
 use edr_device::{MemSink, MemSource};
 use edr_reading::RowFault;
-use sha2::{Digest, Sha256};
-use std::alloc::{AllocError, Global};
 use std::process::Abort;
 use std::test::Fail;
 
@@ -150,106 +146,4 @@ fn a_line_that_is_cut_short_is_a_write_fault(rt: HostRuntime) -> Result<(), Fail
         ..sound(b"", PageStatus::WriteFault, 5)
     };
     check(&rt, run, b"")
-}
-
-// The report's page is the known one.
-fn check_page<R: Abort + AllocGlobal>(rt: &R, report: &[u8], known: &Known) -> Result<(), Fail> {
-    let page = output_of(rt, sound(report, PageStatus::Done, 0))?;
-    let digest = Sha256::digest(page.as_slice());
-    assert_eq!(rt; page.len(), known.len);
-    assert!(rt; digest == known.digest);
-    Ok(())
-}
-
-#[test]
-fn an_event_without_its_end_is_drawn(rt: HostRuntime) -> Result<(), Fail> {
-    check_page(&rt, reports::POWER_CUT, &reports::POWER_CUT_PAGE)
-}
-
-#[test]
-fn absent_slots_are_drawn(rt: HostRuntime) -> Result<(), Fail> {
-    check_page(&rt, reports::EARLY, &reports::EARLY_PAGE)
-}
-
-#[test]
-fn a_damaged_bank_is_told_beside_an_event(rt: HostRuntime) -> Result<(), Fail> {
-    check_page(&rt, reports::DAMAGED, &reports::DAMAGED_PAGE)
-}
-
-#[test]
-fn the_widest_values_are_drawn(rt: HostRuntime) -> Result<(), Fail> {
-    check_page(&rt, reports::WIDEST, &reports::WIDEST_PAGE)
-}
-
-#[test]
-fn a_change_of_speed_that_stays_is_drawn(rt: HostRuntime) -> Result<(), Fail> {
-    check_page(&rt, reports::TIE, &reports::TIE_PAGE)
-}
-
-#[test]
-fn a_deployment_without_a_change_of_speed_is_drawn(rt: HostRuntime) -> Result<(), Fail> {
-    check_page(&rt, reports::DEPLOYMENT, &reports::DEPLOYMENT_PAGE)
-}
-
-#[test]
-fn a_millisecond_without_a_sample_is_told(rt: HostRuntime) -> Result<(), Fail> {
-    check_page(&rt, reports::SILENT, &reports::SILENT_PAGE)
-}
-
-#[test]
-fn a_frontal_crash_is_drawn(rt: HostRuntime) -> Result<(), Fail> {
-    check_page(&rt, reports::FRONTAL, &reports::FRONTAL_PAGE)
-}
-
-#[test]
-fn a_crash_from_the_side_is_drawn(rt: HostRuntime) -> Result<(), Fail> {
-    check_page(&rt, reports::SIDE, &reports::SIDE_PAGE)
-}
-
-#[test]
-fn a_long_slide_is_drawn(rt: HostRuntime) -> Result<(), Fail> {
-    check_page(&rt, reports::SLIDE, &reports::SLIDE_PAGE)
-}
-
-#[test]
-fn two_events_are_drawn(rt: HostRuntime) -> Result<(), Fail> {
-    check_page(&rt, reports::TWO_EVENTS, &reports::TWO_EVENTS_PAGE)
-}
-
-// Appends slots that are the same.
-fn push_slots(out: &mut Vec<u8>, slot: &[u8], count: usize) -> Result<(), AllocError> {
-    for _ in 0..count {
-        out.extend_from_slice(slot)?;
-    }
-    Ok(())
-}
-
-// A report of a long profile in which some slots are absent.
-fn long_report(alloc: Global) -> Result<Vec<u8>, AllocError> {
-    let mut out = Vec::new(alloc);
-    out.extend_from_slice(reports::LONG_FRONT)?;
-    out.extend_from_slice(b"1,\"speed, km/h\",none")?;
-    push_slots(&mut out, b" none", 29)?;
-    push_slots(&mut out, b" 60", 100)?;
-    push_slots(&mut out, b" none", 5)?;
-    push_slots(&mut out, b" 0", 66)?;
-    out.extend_from_slice(b"\n1,\"throttle, %\",20")?;
-    push_slots(&mut out, b" 20", 149)?;
-    push_slots(&mut out, b" 0", 51)?;
-    out.extend_from_slice(b"\n1,service brake,none")?;
-    push_slots(&mut out, b" none", 8)?;
-    push_slots(&mut out, b" off", 141)?;
-    push_slots(&mut out, b" on", 51)?;
-    out.extend_from_slice(b"\n")?;
-    out.extend_from_slice(reports::LONG_BACK)?;
-    Ok(out)
-}
-
-#[test]
-fn a_long_profile_is_drawn(rt: HostRuntime) -> Result<(), Fail> {
-    check_page(
-        &rt,
-        long_report(rt.alloc())?.as_slice(),
-        &reports::LONG_PAGE,
-    )
 }

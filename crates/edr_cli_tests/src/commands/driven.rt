@@ -1,7 +1,7 @@
-//! Runs by threads beside the same runs on one thread; and what no clause tells of a drive: that two sensors are served at once, and
-//! that the slow sensors are asked for their parts.
+//! Faults of runs by threads beside those of the same runs on one thread; and what no clause tells of a drive: that two sensors are
+//! served at once, and that the slow sensors are asked for their parts.
 
-use super::drives::{Drive, quiet, struck, trace_of};
+use super::drives::{quiet, struck, trace_of};
 use super::{
     KEEP, SIZE, SOUND, Streams, kept_memory, memory_of, new_image, sink_of, source_of, words_of,
 };
@@ -43,11 +43,11 @@ struct RunOutcome {
     image: Vec<u8>,
 }
 
-// The words of a run in this form: by so many workers, or on one thread.
-fn words_in(alloc: Global, workers: Option<&str>, form: &str) -> Result<Words, AllocError> {
+// The words of a run by so many workers, or on one thread.
+fn words_by(alloc: Global, workers: Option<&str>) -> Result<Words, AllocError> {
     match workers {
-        Some(workers) => words_of(alloc, &["drive", workers, form]),
-        None => words_of(alloc, &["replay", form]),
+        Some(workers) => words_of(alloc, &["drive", workers]),
+        None => words_of(alloc, &["replay"]),
     }
 }
 
@@ -84,15 +84,14 @@ fn outcome_of(
     })
 }
 
-// The case in this form: by so many workers, or on one thread.
+// The case by so many workers, or on one thread.
 fn run_case<R: Threads + Wait + Copy + Send + Sync + 'static>(
     rt: &R,
     alloc: Global,
     case: Case<'_>,
     workers: Option<&str>,
-    form: &str,
 ) -> Result<RunOutcome, Fail> {
-    let words = words_in(alloc, workers, form)?;
+    let words = words_by(alloc, workers)?;
     let streams = Streams {
         source_piece: 1_000,
         source_fails: case.source_fails,
@@ -121,17 +120,16 @@ fn check_same(rt: &impl Abort, driven: &RunOutcome, alone: &RunOutcome) {
     assert_eq!(rt; driven.image.as_slice(), alone.image.as_slice());
 }
 
-// The case in this form comes by 1 worker and by 8 to what it comes to on one thread.
+// The case comes by 1 worker and by 8 to what it comes to on one thread.
 fn check_driven<R: Threads + Wait + Abort + Copy + Send + Sync + 'static>(
     rt: &R,
     alloc: Global,
     case: Case<'_>,
-    form: &str,
 ) -> Result<(), Fail> {
-    let alone = run_case(rt, alloc, case, None, form)?;
+    let alone = run_case(rt, alloc, case, None)?;
     assert_eq!(rt; alone.status, case.status);
     for workers in ["1", "8"] {
-        let driven = run_case(rt, alloc, case, Some(workers), form)?;
+        let driven = run_case(rt, alloc, case, Some(workers))?;
         check_same(rt, &driven, &alone);
     }
     Ok(())
@@ -146,31 +144,6 @@ fn sound<'a>(trace: &'a [u8], image: &'a [u8; SIZE]) -> Case<'a> {
         memory_fails: &[],
         status: Status::Ok,
     }
-}
-
-#[test]
-fn a_crash_by_threads_is_told_as_on_one_thread(rt: HostRuntime) -> Result<(), Fail> {
-    let alloc = rt.alloc();
-    let image = new_image(2, KEEP);
-    let trace = trace_of(alloc, &[struck(27_000)])?;
-    for form in ["text", "csv"] {
-        check_driven(&rt, alloc, sound(trace.as_bytes(), &image), form)?;
-    }
-    Ok(())
-}
-
-// The first start is stopped, and the second cycle in a call of its take; the third is whole.
-#[test]
-fn stops_by_threads_are_told_as_on_one_thread(rt: HostRuntime) -> Result<(), Fail> {
-    let alloc = rt.alloc();
-    let image = new_image(2, KEEP);
-    let stopped = Drive {
-        stop: 3,
-        ..struck(27_000)
-    };
-    let drives = trace_of(alloc, &[stopped, quiet(500)])?;
-    let trace = format!(in alloc; "on,2,\n{drives}")?;
-    check_driven(&rt, alloc, sound(trace.as_bytes(), &image), "text")
 }
 
 // A trace, an image, a source and a memory that are at fault.
@@ -204,7 +177,7 @@ fn faults_by_threads_are_told_as_on_one_thread(rt: HostRuntime) -> Result<(), Fa
         },
     ];
     for case in faulty {
-        check_driven(&rt, alloc, case, "text")?;
+        check_driven(&rt, alloc, case)?;
     }
     Ok(())
 }
