@@ -4,8 +4,6 @@ use edr_cli::Fault;
 use edr_image::{HeaderRefused, OldRefused};
 use edr_items::Sensor;
 use edr_spell::{TraceFault, TraceRefused};
-use std::process::Abort;
-use std::test::Fail;
 
 #[test]
 fn each_fault_has_its_line(rt: HostRuntime) {
