@@ -34,7 +34,7 @@ COPIES = (
     # has `dealt_sensors`, whose feeds others use.
     Copy('edr_tests', 'edr_tests', 36, {TESTS: ('banks', 'cycles', 'dealt_sensors', 'migrations', 'powered_runs', 'runs')}),
     Copy('edr_tests, by threads', 'edr_tests', 5, {TESTS: ('drives',)}),
-    Copy('edr_base_tests', 'edr_base_tests', 10, {BASE: ('gates',)}),
+    Copy('edr_base_tests', 'edr_base_tests', 5, {BASE: ('gates',)}),
 )
 # Tests that take long and have no other image than a new one. A copy has none of them.
 LONG = {
