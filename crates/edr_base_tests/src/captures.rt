@@ -1,6 +1,5 @@
 //! The ring of a slow sensor, and the parts that it gives.
-ghost use Rattle.std.specs.Prelude.{◌≡◌, ◌*◌, ◌<◌, ◌≤◌, Some};
-ghost use Rattle.edr_items.specs.Item.{mark_of};
+ghost use Rattle.std.specs.Prelude.{◌≡◌, Some};
 
 use edr_capture::Capture;
 use edr_items::{Item, Sensor};
@@ -13,18 +12,6 @@ fn sample(moment: u32, value: i32) -> Item
     Item {
         moment,
         value: Some(value),
-    }
-}
-
-// Gives a sample after each gap, with its number from 1 on as its value.
-fn fill(capture: &mut Capture, gap: u32, count: u32)
-    requires empty { mark_of capture.old ≡ 0 }
-    requires gap { (0 < gap) × (gap ≤ 1000) }
-    requires count { count ≤ 30_000 }
-    ensures { mark_of capture.new ≤ gap * count }
-{
-    for k in 0..count {
-        capture.push(sample(gap * (k + 1), k as i32 + 1));
     }
 }
 
@@ -41,17 +28,6 @@ fn a_sample_counts_for_a_hundred_ticks(rt: HostRuntime) -> Result<(), Fail> {
     assert_eq!(rt; capture.slot(500), Some(7));
     assert_eq!(rt; capture.slot(600), Some(7));
     assert_eq!(rt; capture.slot(601), None);
-    Ok(())
-}
-
-// The ring is full, and the slot reads the oldest sample that it has to keep.
-#[test]
-fn a_full_ring_reaches_back_far_enough(rt: HostRuntime) -> Result<(), Fail> {
-    let mut capture = Capture::new(rt.alloc())?;
-    fill(&mut capture, 1, 22_000);
-    assert_eq!(rt; capture.slot(901), Some(901));
-    assert_eq!(rt; capture.slot(22_000), Some(22_000));
-    assert_eq!(rt; capture.slot(22_101), None);
     Ok(())
 }
 

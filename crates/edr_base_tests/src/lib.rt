@@ -7,11 +7,7 @@ mod captures;
 #[cfg(test)]
 mod crash_parts;
 #[cfg(test)]
-mod drawn_traces;
-#[cfg(test)]
 mod feeds;
-#[cfg(test)]
-mod gates;
 #[cfg(test)]
 mod memories;
 #[cfg(test)]

@@ -4,8 +4,8 @@ ghost use Rattle.std.specs.Arc.{arc_value};
 ghost use Rattle.edr_seats.specs.Seat.{items_sent, SameSeat};
 ghost use Rattle.edr_seats.specs.Inlet.{items_taken, AreOfOneRing, SameInlet};
 
-use edr_items::{Item, ItemRefused, Sensor};
-use edr_seats::{Inlet, Lane, OfferRefused, Seat, ring};
+use edr_items::{Item, Sensor};
+use edr_seats::{Inlet, Lane, Seat, ring};
 use std::snapshot::Snapshot;
 use std::sync::{Arc, Wait};
 use std::test::Fail;
@@ -43,46 +43,6 @@ fn fill(seat: &mut Seat, gap: u32, value: i32) -> u32
         }
     }
     sent
-}
-
-#[test]
-fn ring_full(rt: HostRuntime) -> Result<(), Fail> {
-    let Lane {
-        mut seat,
-        mut inlet,
-    } = ring(rt.alloc(), Sensor::Speed)?;
-    assert_eq!(rt; fill(&mut seat, 1, 50), 256);
-    let full = OfferRefused::Full { ahead: 256 };
-    assert_eq!(rt; seat.offer(sample(257, 50)), Err(full));
-    assert_eq!(rt; inlet.beside(&mut seat), 256);
-    for moment in 1..257u32 {
-        assert_eq!(rt; inlet.peek(), Some(sample(moment, 50)));
-        assert_eq!(rt; inlet.take(), Some(sample(moment, 50)));
-    }
-    assert_eq!(rt; inlet.peek(), None);
-    assert_eq!(rt; inlet.take(), None);
-    assert_eq!(rt; seat.offer(sample(257, 50)), Ok(()));
-    Ok(())
-}
-
-// What the sensor may not give is told by its cause, also where the ring is full, and is not sent.
-#[test]
-fn the_cause_of_a_refusal_is_told(rt: HostRuntime) -> Result<(), Fail> {
-    let Lane {
-        mut seat,
-        mut inlet,
-    } = ring(rt.alloc(), Sensor::Belt)?;
-    assert_eq!(rt; fill(&mut seat, 10, 1), 256);
-    let order = OfferRefused::Item(ItemRefused::Order { last: 2560 });
-    assert_eq!(rt; seat.offer(sample(2560, 2)), Err(order));
-    let moment = OfferRefused::Item(ItemRefused::Moment { limit: 86_400_000 });
-    assert_eq!(rt; seat.offer(sample(86_400_001, 2)), Err(moment));
-    let range = OfferRefused::Item(ItemRefused::Range { low: 0, high: 1 });
-    assert_eq!(rt; seat.offer(sample(86_400_000, 2)), Err(range));
-    assert_eq!(rt; inlet.beside(&mut seat), 256);
-    take_rest(&mut inlet, &mut seat);
-    assert_eq!(rt; inlet.take(), None);
-    Ok(())
 }
 
 // Many items are taken by one call, and all their slots are free then.

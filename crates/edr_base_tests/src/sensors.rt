@@ -58,15 +58,3 @@ fn all_are_there_once_each_has_one(rt: HostRuntime) -> Result<(), Fail> {
     );
     Ok(())
 }
-
-#[test]
-fn the_first_error_is_that_of_the_lowest_number(rt: HostRuntime) {
-    let values = PerSlowSensor::try_from_fn(|sensor: Sensor| -> Result<u8, Sensor> {
-        if 5 <= sensor.number() {
-            Err(sensor)
-        } else {
-            Ok(sensor.number())
-        }
-    });
-    assert_eq!(rt; values.err(), Some(Sensor::Brake));
-}

@@ -1,24 +1,32 @@
-//! Traces with the answers that the format gives, each written down beside it.
+//! Traces with the answers that the format gives, whole and in parts.
+ghost use Rattle.std.specs.Prelude.{◌≤◌, ◌<◌, length};
 
-use crate::drawn_traces::{read_in_parts, same_answer};
 use edr_items::{Item, Sensor};
-use edr_trace::{CycleInput, ReadRefused, TraceFault, TraceRefused, read};
+use edr_trace::{CycleInput, ReadRefused, TraceReading, read};
 use std::test::Fail;
-
-// What is read of the whole, and as well of one byte after the other; no table here says that memory runs out.
-fn answer(rt: &HostRuntime, bytes: &[u8]) -> Result<Vec<CycleInput>, ReadRefused> {
-    if bytes.len() > 1_000_000 {
-        return Err(ReadRefused::OutOfMemory);
-    }
-    let whole = read(rt.alloc(), bytes);
-    match same_answer(read_in_parts(rt, bytes, 0, 1), &whole) {
-        Some(_) => whole,
-        None => Err(ReadRefused::OutOfMemory),
-    }
-}
 
 fn item(moment: u32, value: Option<i32>) -> Item {
     Item { moment, value }
+}
+
+// What is read of bytes of which so many come first, and then so many at a time.
+fn read_in_parts(
+    rt: &HostRuntime,
+    bytes: &[u8],
+    first: usize,
+    part: usize,
+) -> Result<Vec<CycleInput>, ReadRefused>
+    requires few { length bytes.now ≤ 1_000_000 }
+    requires some { 0 < part }
+{
+    let mut reading = TraceReading::new(rt.alloc());
+    let mut end = first.min(bytes.len());
+    let mut taken = reading.take_rows(&bytes[..end]);
+    while end < bytes.len() {
+        end += part.min(bytes.len() - end);
+        taken += reading.take_rows(&bytes[taken..end]);
+    }
+    reading.finish(&bytes[taken..])
 }
 
 // How many items the first sensor has in each cycle, added up.
@@ -31,34 +39,10 @@ fn items_of(cycles: &[CycleInput]) -> usize {
 }
 
 #[test]
-fn quotes_marks_and_line_ends_are_read(rt: HostRuntime) {
-    let table: [(&[u8], usize, usize); 9] = [
-        (b"on,0,\r\nalong,1,5\r\ncut,0,\r\n", 1, 1),
-        (b"on,0,\ralong,1,5\rcut,0,\r", 1, 1),
-        (b"on,0,\r\nalong,1,5\ncut,0,", 1, 1),
-        (b"\"on\",\"0\",\"\"\ncut,0,\r\n", 1, 0),
-        (b"\xef\xbb\xbfon,0,\n\"along\",\"1\",\"-5\"\ncut,0,\n", 1, 1),
-        (b"\n\r\non,0,\n\n\n\"along\",\"1\",\"\"\rcut,0,\r\r", 1, 1),
-        (b"\n\n\n", 0, 0),
-        (b"\xef\xbb\xbf", 0, 0),
-        (b"on,1,", 1, 0),
-    ];
-    for (bytes, cycles, items) in table {
-        match answer(&rt, bytes) {
-            Ok(v) => {
-                assert_eq!(rt; v.len(), cycles);
-                assert_eq!(rt; items_of(&v), items);
-            }
-            Err(refused) => assert_eq!(rt; Some(refused), None),
-        }
-    }
-}
-
-#[test]
 fn cycles_are_told_as_they_are_written(rt: HostRuntime) -> Result<(), Fail> {
     let bytes =
         b"on,3,\non,0,\nlamp,1000,1\nspeed,7,300\nalong,1,-5\nspeed,9,\nalong,2,\ncut,12,\non,0,\ncut,0,\n";
-    let cycles = answer(&rt, bytes).expect(&rt, "a trace");
+    let cycles = read(rt.alloc(), bytes).expect(&rt, "a trace");
     assert_eq!(rt; cycles.len(), 3);
     let (stopped, cut, whole) = (&cycles[0], &cycles[1], &cycles[2]);
     assert_eq!(rt; (stopped.start_stop, stopped.stop), (3, 0));

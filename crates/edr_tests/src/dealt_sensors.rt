@@ -1,4 +1,4 @@
-//! What several tests use, and how the sensors are dealt to workers.
+//! The cycle that several tests use, and how the sensors are dealt to workers.
 
 use edr_board::{Freeze, FreezeOpened};
 use edr_items::{Feeds, Item, Sensor};
@@ -16,7 +16,7 @@ pub(crate) fn give(
 }
 
 // What the slow sensors sample at 50 km/h.
-pub(crate) fn give_slow(feeds: &mut Feeds, tick: u32) -> Result<(), Fail> {
+fn give_slow(feeds: &mut Feeds, tick: u32) -> Result<(), Fail> {
     give(feeds, Sensor::Speed, tick, Some(50))?;
     give(feeds, Sensor::Throttle, tick, Some(20))?;
     give(feeds, Sensor::Brake, tick, Some(0))?;
@@ -24,23 +24,18 @@ pub(crate) fn give_slow(feeds: &mut Feeds, tick: u32) -> Result<(), Fail> {
     give(feeds, Sensor::Lamp, tick, Some(0))
 }
 
-// Axes that nothing strikes.
-fn give_axes(feeds: &mut Feeds, ticks: u32) -> Result<(), Fail> {
-    for tick in 1..=ticks {
-        give(feeds, Sensor::Along, tick, Some(0))?;
-        give(feeds, Sensor::Across, tick, Some(0))?;
-    }
-    Ok(())
-}
-
-// A car that drives for 200 ms, and whose air bag fires at 100 ms: 412 items.
-pub(crate) fn fired_feeds(alloc: Global) -> Result<Feeds, Fail> {
+// A car that drives for so long, and whose air bag fires at 100 ms: 1,030 items in half a second.
+pub(crate) fn fired_feeds(alloc: Global, ticks: u32) -> Result<Feeds, Fail> {
     let mut feeds = Feeds::new(alloc);
-    give_axes(&mut feeds, 200)?;
-    give_slow(&mut feeds, 100)?;
-    give_slow(&mut feeds, 200)?;
-    give(&mut feeds, Sensor::Restraint, 100, Some(1))?;
-    give(&mut feeds, Sensor::Restraint, 200, None)?;
+    for tick in 1..=ticks {
+        give(&mut feeds, Sensor::Along, tick, Some(0))?;
+        give(&mut feeds, Sensor::Across, tick, Some(0))?;
+        if tick % 100 == 0 {
+            give_slow(&mut feeds, tick)?;
+            let fired = if tick == 100 { Some(1) } else { None };
+            give(&mut feeds, Sensor::Restraint, tick, fired)?;
+        }
+    }
     Ok(feeds)
 }
 

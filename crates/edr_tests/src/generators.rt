@@ -48,12 +48,3 @@ fn cycles_are_those_of_the_trace(rt: HostRuntime) -> Result<(), Fail> {
     check_first(&rt, rt.alloc(), &mut generator)?;
     check_second(&rt, rt.alloc(), &mut generator)
 }
-
-#[test]
-fn a_trace_ends_where_its_sink_fails(rt: HostRuntime) -> Result<(), Fail> {
-    let alloc = rt.alloc();
-    let mut sink = MemSink::new(alloc, 20, 20, Vec::new(alloc))?;
-    assert_eq!(rt; generate(7, 60, &mut sink), Err(Failed));
-    assert_eq!(rt; str::from_utf8(sink.bytes()), Ok("on,0,\nalong,1,0\nacro"));
-    Ok(())
-}

@@ -13,34 +13,18 @@ mod cycles;
 #[cfg(test)]
 mod dealt_sensors;
 #[cfg(test)]
-mod desks;
-#[cfg(test)]
 mod detectors;
 #[cfg(test)]
 mod drives;
 #[cfg(test)]
-mod freezes;
-#[cfg(test)]
 mod generators;
-#[cfg(test)]
-mod large_runs;
 #[cfg(test)]
 mod logs;
 #[cfg(test)]
 mod migrations;
 #[cfg(test)]
-mod pages;
-#[cfg(test)]
 mod powered_runs;
-#[cfg(test)]
-mod readings;
 #[cfg(test)]
 mod runs;
 #[cfg(test)]
-mod split_cores;
-#[cfg(test)]
-mod stands;
-#[cfg(test)]
 mod windows;
-#[cfg(test)]
-mod words;

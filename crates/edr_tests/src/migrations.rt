@@ -48,30 +48,6 @@ fn old_image() -> [u8; 1_120] {
     old
 }
 
-// Puts a piece into an image of version 2.
-fn put(image: &mut [u8; 2_144], at: usize, piece: &[u8])
-    requires { at + length piece.now ≤ 2144 }
-{
-    image[at..at + piece.len()].copy_from_slice(piece);
-}
-
-// The same in version 2, whose profile byte is 1.
-fn new_image() -> [u8; 2_144] {
-    let mut new = [0; 2_144];
-    put(&mut new, 0, b"EDRIMAGE\0\x02\x02\0");
-    new[32] = 0xa5;
-    new[39] = 1;
-    new[96] = 0xa5;
-    new[98] = 0xa5;
-    put(&mut new, 112, &PRE[..34]);
-    new[121] = 1;
-    put(&mut new, 526, &PRE[34..45]);
-    put(&mut new, 727, &PRE[45..56]);
-    put(&mut new, 928, &PRE[56..]);
-    put(&mut new, 960, &crash());
-    new
-}
-
 // A memory of zeros that takes 60 writes and syncs, of which some fail.
 fn zeros(alloc: Global, fails: &[u32]) -> Result<MemNvm, AllocError>
     ensures { IfOk result (λ m. length (memory_image m) ≡ 2144) }
@@ -79,20 +55,6 @@ fn zeros(alloc: Global, fails: &[u32]) -> Result<MemNvm, AllocError>
     let image = vec![in alloc; 0u8; 2_144]?;
     let memory = MemNvm::new(alloc, image, 60, fails.to_vec(alloc)?, Vec::new(alloc), 0)?;
     Ok(memory)
-}
-
-#[test]
-fn one_event_is_migrated(rt: HostRuntime) -> Result<(), Fail> {
-    let mut memory = zeros(rt.alloc(), &[])?;
-    let migrated = Migrated {
-        events: 1,
-        count: 1,
-    };
-    let old = old_image();
-    assert_eq!(rt; check(&old), Ok(migrated));
-    assert_eq!(rt; migrate(&mut memory, &old), Ok(migrated));
-    assert_eq!(rt; memory.image(), new_image().as_slice());
-    Ok(())
 }
 
 #[test]

@@ -48,7 +48,7 @@ pub(crate) fn stopped(rt: &impl Abort, alloc: Global, call: u32) -> CycleInput
 pub(crate) fn fired(rt: &impl Abort, alloc: Global, stop: u32) -> Result<CycleInput, Fail>
     ensures { IfOk result IsCycleInput }
 {
-    let feeds = fired_feeds(alloc)?;
+    let feeds = fired_feeds(alloc, 200)?;
     assert_level(rt, &feeds);
     Ok(CycleInput {
         start_stop: 0,
@@ -80,7 +80,7 @@ fn assert_ran(
 }
 
 // The event in bank 1, which alone has one.
-fn only_event(rt: &impl Abort, banks: &Banks, alloc: Global) -> Result<Record, Fail> {
+pub(crate) fn only_event(rt: &impl Abort, banks: &Banks, alloc: Global) -> Result<Record, Fail> {
     let found = banks.retrieve(alloc)?;
     assert_eq!(rt; found.len(), 1);
     assert_eq!(rt; found[0].bank, 1);
@@ -88,36 +88,6 @@ fn only_event(rt: &impl Abort, banks: &Banks, alloc: Global) -> Result<Record, F
         BankView::Event(record) => Ok(record),
         _ => Err("an event".into()),
     }
-}
-
-#[test]
-fn no_cycles(rt: HostRuntime) -> Result<(), Fail> {
-    let alloc = rt.alloc();
-    let mut memory = formatted(alloc, 0)?;
-    let before = memory.image().to_vec(alloc)?;
-    assert_eq!(rt; replay(alloc, &mut memory, &[])?.len(), 0);
-    assert_eq!(rt; memory.image(), before.as_slice());
-    Ok(())
-}
-
-// From call 5 on a start that is stopped may be counted.
-#[test]
-fn start_stopped_in_call_5(rt: HostRuntime) -> Result<(), Fail> {
-    let alloc = rt.alloc();
-    for pick in [0u64, 1] {
-        let mut memory = formatted(alloc, pick)?;
-        let cycles = [stopped(&rt, alloc, 5)];
-        let reports = replay(alloc, &mut memory, &cycles)?;
-        assert_eq!(rt; reports.len(), 1);
-        match reports[0] {
-            CycleReport::StartStopped { call } => assert_eq!(rt; call, 5),
-            CycleReport::Ran { .. } => assert!(rt; false),
-        }
-        let banks = Banks::open(alloc, &mut memory)?;
-        assert_eq!(rt; banks.count(), pick as u32);
-        assert_eq!(rt; banks.retrieve(alloc)?.len(), 0);
-    }
-    Ok(())
 }
 
 // The event is taken in four calls, and the fifth opens the gate of its lock.

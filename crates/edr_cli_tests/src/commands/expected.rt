@@ -64,12 +64,6 @@ pub(crate) fn struck_event(alloc: Global) -> Result<String, AllocError> {
     changed(alloc, OLD_EVENT, &changes)
 }
 
-/// The report of a replay in which the car is struck.
-pub(crate) fn struck_report(alloc: Global) -> Result<String, AllocError> {
-    let event = struck_event(alloc)?;
-    joined(alloc, &[STRUCK_CYCLE, &event, COUNTED_ONE])
-}
-
 // What the record of a car says whose pretensioner fires at 27 s, and that nothing strikes.
 const TENSED: [(&str, &str); 8] = [
     ("time zero", "27000 ms"),
@@ -107,12 +101,6 @@ pub(crate) const NOT_DONE: [(&str, &str); 16] = [
     ("passenger pretensioner deployment", "none"),
     ("complete file recorded", "no"),
 ];
-
-// The lines of the first cycle in which the car is struck.
-const STRUCK_CYCLE: &str = "cycle 1: number 1, power off
-cycle 1 take at 26020: bank 1
-cycle 1 done at 26148: bank 1
-";
 
 /// The lines of the first cycle in which an air bag fires at 27 s.
 pub(crate) const DEPLOYED_CYCLE: &str = "cycle 1: number 1, power off
