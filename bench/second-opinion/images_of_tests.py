@@ -10,7 +10,6 @@ from typing import NamedTuple
 
 TOP = os.path.join(os.path.dirname(os.path.abspath(__file__)), '..', '..')
 SECONDS = 120
-BASE, TESTS = 'crates/edr_base_tests/src/lib.rt', 'crates/edr_tests/src/lib.rt'
 COMMANDS = 'crates/edr_cli_tests/src/commands.rt'
 # What the tests of the top call share; their modules that let each call fail in turn, and the others.
 SHARED = ('drives', 'expected')
@@ -19,7 +18,7 @@ OTHERS = ('cuts', 'driven', 'generated')
 
 
 class Copy(NamedTuple):
-    """A copy's name, its crate, the least number of different images that it must tell, and in some files the modules that it has."""
+    """A copy's name, its crate, the least number of different images that it must tell, and in some files the modules that it has alone."""
 
     name: str
     crate: str
@@ -30,11 +29,8 @@ class Copy(NamedTuple):
 COPIES = (
     Copy('edr_cli_tests', 'edr_cli_tests', 15, {COMMANDS: SHARED + OTHERS}),
     Copy('edr_cli_tests, failing calls', 'edr_cli_tests', 12, {COMMANDS: SHARED + FAILING}),
-    # The other modules have no image, but for `large_runs`, whose banks nobody reads, and `memories`, whose bytes are too few. Nor
-    # has `dealt_sensors`, whose feeds others use.
-    Copy('edr_tests', 'edr_tests', 36, {TESTS: ('banks', 'cycles', 'dealt_sensors', 'migrations', 'powered_runs', 'runs')}),
-    Copy('edr_tests, by threads', 'edr_tests', 5, {TESTS: ('drives',)}),
-    Copy('edr_base_tests', 'edr_base_tests', 5, {BASE: ('gates',)}),
+    # `edr_base_tests` has no image: the bytes of its `memories` are too few.
+    Copy('edr_tests', 'edr_tests', 8),
 )
 # Tests that take long and have no other image than a new one. A copy has none of them.
 LONG = {
@@ -87,14 +83,13 @@ def patch(folder, path, changes):
 
 def leave_out(folder, root, has):
     """Leaves these modules of tests alone in the copy, without the long tests of them."""
-    own = os.path.join(folder, root.removesuffix('/lib.rt').removesuffix('.rt'))
-    mark = '#[cfg(test)]\n' if root.endswith('/lib.rt') else ''
+    own = os.path.join(folder, root.removesuffix('.rt'))
     with open(os.path.join(folder, root), encoding='utf-8') as file:
         there = re.findall(r'^mod (\w+);$', file.read(), re.M)
     if not set(has) <= set(there):
         sys.exit(f'{root}: its modules are {", ".join(there)}')
     lacks = [name for name in there if name not in has]
-    patch(folder, root, {f'{mark}mod {name};\n': '' for name in lacks})
+    patch(folder, root, {f'mod {name};\n': '' for name in lacks})
     for name in lacks:
         os.remove(os.path.join(own, f'{name}.rt'))
         shutil.rmtree(os.path.join(own, name), ignore_errors=True)
