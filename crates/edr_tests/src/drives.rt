@@ -5,12 +5,12 @@ ghost use Rattle.std.specs.Arc.{arc_value};
 ghost use Rattle.edr_items.specs.SensorLists.{IsLevel};
 
 use crate::dealt_sensors::{fired_feeds, give};
-use crate::runs::formatted;
+use crate::runs::{assert_level, formatted};
 use edr_cycle::start;
 use edr_drive::beginning::{begin, ends_of};
 use edr_drive::drive_cycle;
 use edr_drive::threads::with_workers;
-use edr_items::{Feeds, Sensor, level_is_none_lagging};
+use edr_items::{Feeds, Sensor};
 use edr_loops::Gate;
 use std::alloc::Global;
 use std::process::Abort;
@@ -47,12 +47,19 @@ fn new_gate(alloc: Global) -> Result<Arc<Counting>, Fail> {
 }
 
 // Feeds that threads share.
-fn share(rt: &impl Abort, alloc: Global, feeds: Feeds) -> Result<Arc<Feeds>, Fail>
+fn share(alloc: Global, feeds: Feeds) -> Result<Arc<Feeds>, Fail>
+    requires { IsLevel feeds }
     ensures { IfOk result (λ f. IsLevel (arc_value f)) }
 {
-    level_is_none_lagging();
-    assert!(rt; feeds.lagging().is_none());
     Ok(Arc::new(alloc, feeds)?)
+}
+
+// The same, of which it is asserted that they are level.
+fn level(rt: &impl Abort, alloc: Global, feeds: Feeds) -> Result<Arc<Feeds>, Fail>
+    ensures { IfOk result (λ f. IsLevel (arc_value f)) }
+{
+    assert_level(rt, &feeds);
+    share(alloc, feeds)
 }
 
 // The axes and the restraints go on for 400 ms past the last items of the slow sensors, by more items than a ring has room for.
@@ -72,7 +79,7 @@ fn longer_feeds(alloc: Global) -> Result<Feeds, Fail> {
 #[test]
 fn items_past_the_horizon_hold_nobody_up(rt: HostRuntime) -> Result<(), Fail> {
     let alloc = rt.alloc();
-    let feeds = share(&rt, alloc, longer_feeds(alloc)?)?;
+    let feeds = level(&rt, alloc, longer_feeds(alloc)?)?;
     assert_eq!(rt; feeds.horizon(), 600);
     for workers in [1u8, 2] {
         let mut memory = formatted(alloc, 0)?;
@@ -124,7 +131,7 @@ fn check_threads<R: Threads + Wait + Abort + Copy + Send + 'static>(
 #[test]
 fn the_threads_do_the_work(rt: HostRuntime) -> Result<(), Fail> {
     let alloc = rt.alloc();
-    let feeds = share(&rt, alloc, fired_feeds(alloc, 1000)?)?;
+    let feeds = level(&rt, alloc, fired_feeds(alloc, 1000)?)?;
     for workers in [1u32, 3, 8] {
         check_threads(&rt, alloc, &feeds, workers)?;
     }

@@ -23,7 +23,7 @@ pub(crate) fn formatted(alloc: Global, pick: u64) -> Result<MemNvm, Fail> {
     Ok(memory)
 }
 
-fn assert_level(rt: &impl Abort, feeds: &Feeds)
+pub(crate) fn assert_level(rt: &impl Abort, feeds: &Feeds)
     ensures { IsLevel feeds.now }
 {
     level_is_none_lagging();

@@ -2,7 +2,7 @@ use Rattle.std.proofs.Common.{arith, ◌+◌, ◌-◌, ◌∙◌, sym, ap, subst
 use Rattle.std.proofs.lemmas.List.{take-take}
 use Rattle.std.proofs.Math.Seq.{take-add}
 use Rattle.edr_trace.specs.Given.{Given}
-use Rattle.edr_base_tests.proofs.drawn_traces.read_in_parts.Goals as goal
+use Rattle.edr_base_tests.proofs.traces.read_in_parts.Goals as goal
 
 pub loop-end-preserved : goal.loop-end-preserved
 loop-end-preserved c =

@@ -1,6 +1,6 @@
 use Rattle.std.proofs.Common.{◌≤◌, ◌-◌, length, take}
 use Rattle.edr_trace.specs.Given.{Given}
-use Rattle.edr_base_tests.proofs.drawn_traces.read_in_parts.Given as goal
+use Rattle.edr_base_tests.proofs.traces.read_in_parts.Given as goal
 
 abbrev pub invariant-loop-end : goal.invariant-loop-end
 invariant-loop-end l = record {
