@@ -29,7 +29,6 @@ class Copy(NamedTuple):
 COPIES = (
     Copy('edr_cli_tests', 'edr_cli_tests', 15, {COMMANDS: SHARED + OTHERS}),
     Copy('edr_cli_tests, failing calls', 'edr_cli_tests', 12, {COMMANDS: SHARED + FAILING}),
-    # `edr_base_tests` has no image: the bytes of its `memories` are too few.
     Copy('edr_tests', 'edr_tests', 8),
 )
 # Tests that take long and have no other image than a new one. A copy has none of them.

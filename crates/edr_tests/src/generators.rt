@@ -1,4 +1,4 @@
-use edr_device::{Failed, MemSink};
+use edr_device::MemSink;
 use edr_gen::{Generator, TICKS, generate, generate_into};
 use edr_items::{Feeds, Sensor};
 use edr_spell::CycleInput;

@@ -21,10 +21,22 @@ mod generators;
 #[cfg(test)]
 mod logs;
 #[cfg(test)]
+mod memories;
+#[cfg(test)]
 mod migrations;
 #[cfg(test)]
 mod powered_runs;
 #[cfg(test)]
+mod records;
+#[cfg(test)]
 mod runs;
+#[cfg(test)]
+mod seats;
+#[cfg(test)]
+mod sensors;
+#[cfg(test)]
+mod traces;
+#[cfg(test)]
+mod units;
 #[cfg(test)]
 mod windows;

@@ -1,11 +1,10 @@
-//! Worked cases of a migration.
-ghost use Rattle.std.specs.Prelude.{◌≡◌, ◌+◌, ◌≤◌, IfOk, length};
+//! A migration whose last call fails.
+ghost use Rattle.std.specs.Prelude.{◌≡◌, IfOk, length};
 ghost use Rattle.edr_device.specs.Memory.{memory_image};
 
 use edr_device::{MemNvm, Nvm};
-use edr_migrate::{MigrateFault, Migrated, check, migrate};
+use edr_migrate::{MigrateFault, migrate};
 use std::alloc::{AllocError, Global};
-use std::process::Abort;
 use std::test::Fail;
 
 // The pre part of an event in version 1, up to its zeros.

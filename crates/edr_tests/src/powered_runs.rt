@@ -1,12 +1,8 @@
 //! The power goes off behind each cycle. Where nothing is pending no clause can tell, so a device that counts it does.
-ghost use Rattle.std.specs.Prelude.{IfOk};
-ghost use Rattle.edr_spell.specs.Spell.{IsCycleInput};
 
 use crate::runs::{fired, formatted, stopped};
 use edr_device::{Failed, Nvm};
 use edr_replay::replay;
-use std::alloc::Global;
-use std::process::Abort;
 use std::test::Fail;
 
 // A device round another one, which counts how often its power goes off. It tells no bytes.

@@ -2,7 +2,7 @@ use Rattle.std.proofs.Common.{arith, refl, pos, None, Some}
 use Rattle.std.specs.Prelude.{replicate}
 use Rattle.std.proofs.lemmas.List.Elements.{All-replicate}
 use Rattle.edr_record.specs.Bounds.{IsUpTo, IsChange, ArePoints, IsExtreme}
-use Rattle.edr_base_tests.proofs.records.whole.Goals as goal
+use Rattle.edr_tests.proofs.records.whole.Goals as goal
 
 no_points : ArePoints 6 (replicate 26 (pos 0))
 no_points = record { room = refl; first = refl; changes = All-replicate IsChange 26 (pos 0) (omega arith); past = refl }

@@ -2,7 +2,7 @@ use Rattle.std.proofs.Common.{arith}
 use Rattle.edr_seats.proofs.TakeLemmas.{take_all, take_gives}
 use Rattle.edr_seats.specs.Seat.{items_sent}
 use Rattle.edr_seats.specs.Inlet.{items_taken}
-use Rattle.edr_base_tests.proofs.seats.take_rest.Goals as goal
+use Rattle.edr_tests.proofs.seats.take_rest.Goals as goal
 
 pub loop-preserved : goal.loop-preserved
 loop-preserved c =

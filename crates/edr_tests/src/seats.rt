@@ -1,5 +1,5 @@
-//! The ring between a sensor and the recorder.
-ghost use Rattle.std.specs.Prelude.{◌≡◌, ◌+◌, ◌*◌, ◌^◌, ◌<◌, [], ◌∷◌, ◌++◌, length, IfSome};
+//! The ring between a sensor and the recorder, by two threads.
+ghost use Rattle.std.specs.Prelude.{◌≡◌, ◌+◌, [], ◌∷◌, ◌++◌, length, IfSome};
 ghost use Rattle.std.specs.Arc.{arc_value};
 ghost use Rattle.edr_seats.specs.Seat.{items_sent, SameSeat};
 ghost use Rattle.edr_seats.specs.Inlet.{items_taken, AreOfOneRing, SameInlet};
@@ -30,50 +30,6 @@ fn take_rest(inlet: &mut Inlet, seat: &mut Seat)
         let _ = inlet.take();
     }
 }
-
-// Offers 256 items, one each so many ticks, and tells how many of them were sent.
-fn fill(seat: &mut Seat, gap: u32, value: i32) -> u32
-    requires { gap < 2 ^ 16 }
-    ensures { SameSeat seat.old seat.new }
-{
-    let mut sent = 0;
-    for n in 1..257u32 {
-        if seat.offer(sample(gap * n, value)).is_ok() {
-            sent = n;
-        }
-    }
-    sent
-}
-
-// Many items are taken by one call, and all their slots are free then.
-#[test]
-fn many_are_taken_at_once(rt: HostRuntime) -> Result<(), Fail> {
-    let Lane {
-        mut seat,
-        mut inlet,
-    } = ring(rt.alloc(), Sensor::Speed)?;
-    let mut into = [sample(0, 0); 8];
-    assert_eq!(rt; inlet.take_some(&mut into), 0);
-    assert_eq!(rt; fill(&mut seat, 1, 50), 256);
-    assert_eq!(rt; inlet.take_some(&mut into), 8);
-    assert_eq!(rt; into[0], sample(1, 50));
-    assert_eq!(rt; into[7], sample(8, 50));
-    assert_eq!(rt; inlet.peek(), Some(sample(9, 50)));
-    for moment in 257..265u32 {
-        assert_eq!(rt; seat.offer(sample(moment, 50)), Ok(()));
-    }
-    for moment in 9..259u32 {
-        assert_eq!(rt; inlet.take(), Some(sample(moment, 50)));
-    }
-    let mut rest = [sample(0, 0); 8];
-    assert_eq!(rt; inlet.take_some(&mut rest), 6);
-    assert_eq!(rt; rest[5], sample(264, 50));
-    assert_eq!(rt; rest[6], sample(0, 0));
-    assert_eq!(rt; inlet.take_some(&mut rest), 0);
-    Ok(())
-}
-
-// ---- two threads
 
 type Feed = Arc<Vec<Item>>;
 

@@ -1,6 +1,6 @@
 use Rattle.std.proofs.Common.{◌≡◌}
 use Rattle.edr_seats.specs.Seat.{items_sent, SameSeat}
-use Rattle.edr_base_tests.proofs.seats.send.Given as goal
+use Rattle.edr_tests.proofs.seats.send.Given as goal
 
 abbrev pub invariant-loop : goal.invariant-loop
 invariant-loop g l = SameSeat l.fn.seat l.seat × (items_sent l.seat ≡ items_sent l.fn.seat)

@@ -1,7 +1,7 @@
 use Rattle.std.proofs.Common.{arith, refl, None, Some}
 use Rattle.std.proofs.lemmas.List.Elements.{All-replicate}
 use Rattle.edr_record.specs.Bounds.{IsUpTo}
-use Rattle.edr_base_tests.proofs.records.a_record_is_complete_with_all_slots_of_its_profile.Goals as goal
+use Rattle.edr_tests.proofs.records.a_record_is_complete_with_all_slots_of_its_profile.Goals as goal
 
 pub invariant_of-long-2 : goal.invariant_of-long-2
 invariant_of-long-2 g c = record {

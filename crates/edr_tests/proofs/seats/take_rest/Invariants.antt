@@ -2,7 +2,7 @@ use Rattle.std.proofs.Common.{◌≡◌, ◌+◌, ◌++◌, length}
 use mathlib.Core.List.{IsPrefix}
 use Rattle.edr_seats.specs.Seat.{items_sent}
 use Rattle.edr_seats.specs.Inlet.{items_taken, items_known}
-use Rattle.edr_base_tests.proofs.seats.take_rest.Given as goal
+use Rattle.edr_tests.proofs.seats.take_rest.Given as goal
 
 -- all that was sent is taken or known, and each turn takes one item of it
 abbrev pub invariant-loop : goal.invariant-loop

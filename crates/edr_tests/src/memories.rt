@@ -8,12 +8,7 @@ use std::process::Abort;
 use std::test::Fail;
 
 // The bytes 10 to 17, with these calls that fail.
-fn eight_bytes(
-    alloc: Global,
-    fails: &[u32],
-    read_fails: &[u32],
-    pick: u64,
-) -> Result<MemNvm, AllocError>
+fn eight_bytes(alloc: Global, fails: &[u32], pick: u64) -> Result<MemNvm, AllocError>
     ensures { IfOk result (λ m. length (memory_image m) ≡ 8) }
 {
     let image = [10u8, 11, 12, 13, 14, 15, 16, 17].to_vec(alloc)?;
@@ -22,7 +17,7 @@ fn eight_bytes(
         image,
         20,
         fails.to_vec(alloc)?,
-        read_fails.to_vec(alloc)?,
+        Vec::new(alloc),
         pick,
     )
 }
@@ -31,7 +26,6 @@ fn eight_bytes(
 enum NvmCall {
     Write(u32, [u8; 2]),
     Sync,
-    Cut,
 }
 
 // One call, whether it fails or not; a write past the end is none.
@@ -44,13 +38,12 @@ fn make<N: Nvm>(nvm: &mut N, step: NvmCall) -> Result<(), Failed> {
             nvm.write(at, &bytes)
         }
         NvmCall::Sync => nvm.sync(),
-        NvmCall::Cut => nvm.power_cycle(),
     }
 }
 
 // The memory after these steps and a power cut, by that pick.
 fn cut_after(alloc: Global, steps: &[NvmCall], fails: &[u32], pick: u64) -> Result<MemNvm, Fail> {
-    let mut memory = eight_bytes(alloc, fails, &[], pick)?;
+    let mut memory = eight_bytes(alloc, fails, pick)?;
     for &step in steps {
         let _ = make(&mut memory, step);
     }
@@ -106,33 +99,6 @@ fn pick_gives_each_byte_that_is_not_settled(rt: HostRuntime) -> Result<(), Fail>
 }
 
 #[test]
-fn sync_and_power_cut_settle_all(rt: HostRuntime) -> Result<(), Fail> {
-    let alloc = rt.alloc();
-    let written = [10, 11, 101, 102, 14, 15, 16, 17];
-    check_images(&rt, alloc, &[FIRST, NvmCall::Sync], &[], [written; 3])?;
-    let over = [
-        written,
-        [10, 11, 101, 111, 112, 15, 16, 17],
-        [10, 11, 101, 94, 63, 15, 16, 17],
-    ];
-    check_images(&rt, alloc, &[FIRST, NvmCall::Sync, SECOND], &[], over)?;
-    let cut = [BEGIN, written, [10, 11, 94, 63, 14, 15, 16, 17]];
-    check_images(&rt, alloc, &[FIRST, NvmCall::Cut], &[], cut)?;
-    let over_the_cut = [
-        BEGIN,
-        [10, 11, 101, 111, 112, 15, 16, 17],
-        [10, 11, 94, 94, 63, 15, 16, 17],
-    ];
-    check_images(
-        &rt,
-        alloc,
-        &[FIRST, NvmCall::Cut, SECOND],
-        &[],
-        over_the_cut,
-    )
-}
-
-#[test]
 fn failed_call_changes_nothing(rt: HostRuntime) -> Result<(), Fail> {
     let alloc = rt.alloc();
     let one = [
@@ -143,27 +109,6 @@ fn failed_call_changes_nothing(rt: HostRuntime) -> Result<(), Fail> {
     check_images(&rt, alloc, &[FIRST, NvmCall::Sync], &[2], one)?;
     check_images(&rt, alloc, &[FIRST, SECOND], &[2], one)?;
     check_images(&rt, alloc, &[FIRST, NvmCall::Sync], &[1], [BEGIN; 3])
-}
-
-// The last of eight bytes is read or not, in this call of a read, of which the first leaves what was there.
-fn check_read(rt: &impl Abort, memory: &mut MemNvm, byte: &mut [u8; 1], call: u32, want: bool)
-    requires { length (memory_image memory.old) ≡ 8 }
-    ensures { length (memory_image memory.new) ≡ 8 }
-{
-    let read = memory.read(7, byte);
-    assert_eq!(rt; read.is_ok(), want, "read {call}");
-    assert_eq!(rt; byte[0], if call == 1 { 99 } else { 17 });
-}
-
-#[test]
-fn reads_fail_by_their_numbers(rt: HostRuntime) -> Result<(), Fail> {
-    let mut memory = eight_bytes(rt.alloc(), &[], &[1, 3], 0)?;
-    let mut byte = [99u8];
-    check_read(&rt, &mut memory, &mut byte, 1, false);
-    check_read(&rt, &mut memory, &mut byte, 2, true);
-    check_read(&rt, &mut memory, &mut byte, 3, false);
-    check_read(&rt, &mut memory, &mut byte, 4, true);
-    Ok(())
 }
 
 // What it keeps of past calls takes no memory.
@@ -206,7 +151,7 @@ fn stop_at_each_call_of_a_gated_piece(rt: HostRuntime) -> Result<(), Fail> {
         (5, [all; 3]),
     ] {
         for (i, pick) in [0u64, 1, 7].into_iter().enumerate() {
-            let mut memory = eight_bytes(rt.alloc(), &[], &[], pick)?;
+            let mut memory = eight_bytes(rt.alloc(), &[], pick)?;
             let whole = gate_until(&mut memory, stop);
             assert_eq!(rt; whole, stop == 0 || stop == 5, "stop {stop}");
             assert_eq!(rt;

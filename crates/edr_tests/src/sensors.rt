@@ -21,24 +21,6 @@ fn each_sensor_has_its_own_value(rt: HostRuntime) {
 }
 
 #[test]
-fn each_slow_sensor_has_its_own_value(rt: HostRuntime) {
-    let mut numbers = PerSlowSensor {
-        speed: 3u8,
-        throttle: 4,
-        brake: 5,
-        belt: 6,
-        lamp: 7,
-    };
-    if let Some(number) = numbers.of_mut(Sensor::Belt) {
-        *number = 20;
-    }
-    assert!(rt; numbers.of_mut(Sensor::Along).is_none());
-    assert_eq!(rt; numbers.of(Sensor::Belt), Some(&20));
-    assert_eq!(rt; numbers.of(Sensor::Lamp), Some(&7));
-    assert_eq!(rt; numbers.of(Sensor::Restraint), None);
-}
-
-#[test]
 fn all_are_there_once_each_has_one(rt: HostRuntime) -> Result<(), Fail> {
     let mut numbers = PerSlowSensor::try_from_fn(|sensor: Sensor| -> Result<Option<u8>, Sensor> {
         Ok(Some(sensor.number()))

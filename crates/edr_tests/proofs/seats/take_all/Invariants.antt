@@ -1,6 +1,6 @@
 use Rattle.std.proofs.Common.{◌≡◌, ◌+◌, ◌≤◌, length}
 use Rattle.edr_seats.specs.Inlet.{items_taken, SameInlet}
-use Rattle.edr_base_tests.proofs.seats.take_all.Given as goal
+use Rattle.edr_tests.proofs.seats.take_all.Given as goal
 
 abbrev pub invariant-loop-i : goal.invariant-loop-i
 invariant-loop-i g l =
