@@ -29,7 +29,7 @@ class Copy(NamedTuple):
 COPIES = (
     Copy('edr_cli_tests', 'edr_cli_tests', 15, {COMMANDS: SHARED + OTHERS}),
     Copy('edr_cli_tests, failing calls', 'edr_cli_tests', 12, {COMMANDS: SHARED + FAILING}),
-    Copy('edr_tests', 'edr_tests', 8),
+    Copy('edr_tests', 'edr_tests', 18),
 )
 # Tests that take long and have no other image than a new one. A copy has none of them.
 LONG = {

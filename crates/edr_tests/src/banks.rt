@@ -1,5 +1,5 @@
 //! Commands that make no read: the device fails each read behind the opening.
-ghost use Rattle.std.specs.Prelude.{◌≡◌, ◌≤◌, IfOk, length};
+ghost use Rattle.std.specs.Prelude.{◌≡◌, ◌≤◌, ◌<◌, ◌^◌, IfOk, length};
 ghost use Rattle.edr_device.specs.Memory.{memory_image};
 ghost use Rattle.edr_image.specs.Image.{image_size};
 
@@ -39,12 +39,13 @@ fn crash() -> Result<Crash, Fail> {
     Ok(read_crash(&bytes)?)
 }
 
-// A memory of zeros for two banks. The formatting reads once, and the opening three times; then each read fails.
-fn unread_later(alloc: Global) -> Result<MemNvm, AllocError>
-    ensures { IfOk result (λ m. length (memory_image m) ≡ 2144) }
+// A memory of zeros, in which these reads fail.
+fn zeros(alloc: Global, size: usize, read_fails: &[u32]) -> Result<MemNvm, AllocError>
+    requires { size < 2 ^ 32 }
+    ensures { IfOk result (λ m. length (memory_image m) ≡ size) }
 {
-    let image = vec![in alloc; 0u8; 2_144]?;
-    let read_fails = [5, 6, 7, 8, 9, 10].to_vec(alloc)?;
+    let image = vec![in alloc; 0u8; size]?;
+    let read_fails = read_fails.to_vec(alloc)?;
     MemNvm::new(alloc, image, 60, Vec::new(alloc), read_fails, 0)
 }
 
@@ -67,9 +68,10 @@ fn keep_locked(
     Ok(())
 }
 
+// The formatting reads once, and the opening three times.
 #[test]
 fn commands_make_no_read(rt: HostRuntime) -> Result<(), Fail> {
-    let mut memory = unread_later(rt.alloc())?;
+    let mut memory = zeros(rt.alloc(), 2_144, &[5, 6, 7, 8, 9, 10])?;
     Banks::format(&mut memory, 2, Choice::Overwrite)?;
     let mut banks = Banks::open(rt.alloc(), &mut memory)?;
     keep_locked(&mut banks, &mut memory, 1, crash()?)?;

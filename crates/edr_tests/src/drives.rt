@@ -1,6 +1,6 @@
 //! What the threads of a cycle have done before their join, since no clause refuses threads that leave all of it to the closing
 //! path; and a cycle that ends, since no clause refuses threads that wait for each other for ever.
-ghost use Rattle.std.specs.Prelude.{IfOk};
+ghost use Rattle.std.specs.Prelude.{◌≤◌, IfOk};
 ghost use Rattle.std.specs.Arc.{arc_value};
 ghost use Rattle.edr_items.specs.SensorLists.{IsLevel};
 
@@ -75,20 +75,32 @@ fn longer_feeds(alloc: Global) -> Result<Feeds, Fail> {
     Ok(feeds)
 }
 
+// A cycle by so many workers ends.
+fn check_end<R: Threads + Wait + Abort + Copy + Send + 'static>(
+    rt: &R,
+    alloc: Global,
+    feeds: &Arc<Feeds>,
+    workers: u8,
+) -> Result<(), Fail>
+    requires level { IsLevel (arc_value feeds.now) }
+    requires workers { (1 ≤ workers) × (workers ≤ 8) }
+{
+    let mut memory = formatted(alloc, 0)?;
+    let gate = new_gate(alloc)?;
+    let started = start(alloc, &mut memory, feeds.horizon())?;
+    let end = drive_cycle(rt, alloc, started, feeds, workers, &mut memory, &gate)?;
+    assert!(rt; !end.failed);
+    Ok(())
+}
+
 // A worker that ended at the horizon would leave items for which the recorder waits.
 #[test]
 fn items_past_the_horizon_hold_nobody_up(rt: HostRuntime) -> Result<(), Fail> {
     let alloc = rt.alloc();
     let feeds = level(&rt, alloc, longer_feeds(alloc)?)?;
     assert_eq!(rt; feeds.horizon(), 600);
-    for workers in [1u8, 2] {
-        let mut memory = formatted(alloc, 0)?;
-        let started = start(alloc, &mut memory, 600)?;
-        let gate = new_gate(alloc)?;
-        let end = drive_cycle(&rt, alloc, started, &feeds, workers, &mut memory, &gate)?;
-        assert!(rt; !end.failed);
-    }
-    Ok(())
+    check_end(&rt, alloc, &feeds, 1)?;
+    check_end(&rt, alloc, &feeds, 2)
 }
 
 // A cycle up to the join of its threads: every item was offered, every tick was closed and posted, each slow sensor sent the part
