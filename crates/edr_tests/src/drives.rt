@@ -4,14 +4,15 @@ ghost use Rattle.std.specs.Prelude.{◌≤◌, IfOk};
 ghost use Rattle.std.specs.Arc.{arc_value};
 ghost use Rattle.edr_items.specs.SensorLists.{IsLevel};
 
-use crate::dealt_sensors::{fired_feeds, give};
+use crate::dealt_sensors::{STEADY, fired_feeds, give};
 use crate::runs::{assert_level, formatted};
 use edr_cycle::start;
 use edr_drive::beginning::{begin, ends_of};
+use edr_drive::committer::CommitterDesk;
 use edr_drive::drive_cycle;
-use edr_drive::threads::with_workers;
+use edr_drive::threads::{Back, with_workers};
 use edr_items::{Feeds, Sensor};
-use edr_loops::Gate;
+use edr_loops::{Desk, Gate};
 use std::alloc::Global;
 use std::process::Abort;
 use std::sync::atomic::{AtomicU64, Ordering};
@@ -66,10 +67,9 @@ fn level(rt: &impl Abort, alloc: Global, feeds: Feeds) -> Result<Arc<Feeds>, Fai
 fn longer_feeds(alloc: Global) -> Result<Feeds, Fail> {
     let mut feeds = fired_feeds(alloc, 600)?;
     for tick in 601..=1000 {
-        give(&mut feeds, Sensor::Along, tick, Some(0))?;
-        give(&mut feeds, Sensor::Across, tick, Some(0))?;
+        give(&mut feeds, tick, &STEADY)?;
         if tick % 100 == 0 {
-            give(&mut feeds, Sensor::Restraint, tick, None)?;
+            give(&mut feeds, tick, &[(Sensor::Restraint, None)])?;
         }
     }
     Ok(feeds)
@@ -103,8 +103,26 @@ fn items_past_the_horizon_hold_nobody_up(rt: HostRuntime) -> Result<(), Fail> {
     check_end(&rt, alloc, &feeds, 2)
 }
 
-// A cycle up to the join of its threads: every item was offered, every tick was closed and posted, each slow sensor sent the part
-// of the only time zero, and every order was committed.
+// Every item was offered, and each slow sensor sent the part of the only time zero.
+fn assert_offered(rt: &impl Abort, gate: &Counting) {
+    assert_eq!(rt; gate.passed.load(Ordering::SeqCst), 2060);
+    assert_eq!(rt; gate.served.load(Ordering::SeqCst), 5);
+}
+
+// Every item was taken, and every tick was closed and posted.
+fn assert_recorded(rt: &impl Abort, desk: &Desk, feeds: &Feeds) {
+    assert_eq!(rt; desk.last, ends_of(feeds));
+    assert_eq!(rt; (desk.core.closed(), desk.posted), (1000, 1000));
+}
+
+// Every order was committed.
+fn assert_committed(rt: &impl Abort, back: &Back, committer: &mut CommitterDesk) {
+    assert!(rt; committer.inbox.take().is_none());
+    assert!(rt; back.committed.is_ok());
+    assert_eq!(rt; committer.log.acks().len(), 3);
+}
+
+// A cycle up to the join of its threads, which have done all of its work.
 fn check_threads<R: Threads + Wait + Abort + Copy + Send + 'static>(
     rt: &R,
     alloc: Global,
@@ -129,14 +147,9 @@ fn check_threads<R: Threads + Wait + Abort + Copy + Send + 'static>(
         &mut committer,
         &mut memory,
     );
-    assert_eq!(rt; gate.passed.load(Ordering::SeqCst), 2060);
-    assert_eq!(rt; gate.served.load(Ordering::SeqCst), 5);
-    let desk = desk.ok_or("the desk came back")?;
-    assert_eq!(rt; desk.last, ends_of(feeds));
-    assert_eq!(rt; (desk.core.closed(), desk.posted), (1000, 1000));
-    assert!(rt; committer.inbox.take().is_none());
-    assert!(rt; back.committed.is_ok());
-    assert_eq!(rt; committer.log.acks().len(), 3);
+    assert_offered(rt, &gate);
+    assert_recorded(rt, &desk.ok_or("the desk came back")?, feeds);
+    assert_committed(rt, &back, &mut committer);
     Ok(())
 }
 
