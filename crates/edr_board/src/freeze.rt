@@ -3,10 +3,14 @@
 
 ghost use Rattle.std.specs.Prelude.{◌≡◌, ◌≢◌, ◌+◌, ◌≤◌, ◌<◌, ◌^◌, List, IfOk, IfSome, IfNone, Some, None};
 ghost use Rattle.edr_items.specs.declared.TheConstants.{LONGEST_GAP};
+ghost use Rattle.edr_items.specs.declared.Sensor.{Sensor};
+ghost use Rattle.edr_items.specs.declared.Sensor.TheVariants.{Along, Across, Restraint};
 ghost use Rattle.edr_items.specs.Sensor.{IsSlow};
+ghost use Rattle.edr_board.specs.declared.freeze.TheConstants.{ASKED};
+ghost use Rattle.edr_board.specs.declared.freeze_view.TheConstants.{FREEZE_WORDS};
 ghost use Rattle.edr_board.specs.FreezeRule.{FreezeMoment, IsFreeze, freeze_opening};
 ghost use Rattle.edr_board.specs.FreezeSteps.{FreezeLeads, KeepsTheFreeze};
-ghost use Rattle.edr_board.specs.FreezeSeats.{freeze_id, freeze_of_asker, freeze_of_keeper, grant_posted, open_zero, last_zero, marks_read, mark_in, with_mark_of, grant_read, mark_posted, asked_read, zero_in, SameAsker, SameKeeper, AllReach, IsFreshAsker, AreFresh};
+ghost use Rattle.edr_board.specs.FreezeSeats.{freeze_id, freeze_of_asker, freeze_of_keeper, place_of, grant_posted, open_zero, last_zero, marks_read, mark_in, with_mark_of, grant_read, mark_posted, asked_read, zero_in, SameAsker, SameKeeper, AllReach, IsFreshAsker, AreFresh};
 
 use crate::freeze_rule::{
     Ask, Grant, LoadAsked, LoadGranted, LoadMark, MarksWithinGrants, PostMark, Settle, ToKeeper,
@@ -182,4 +186,12 @@ impl Keeper {
 pub fn no_mark_falls()
     ensures opened { IsFreeze freeze_opening }
     ensures steps { (a b : FreezeMoment) (between : List FreezeMoment) → IsFreeze a → FreezeLeads a between b → KeepsTheFreeze a b }
+{}
+
+/// Each sensor but the two axes and the restraints is a slow one, and each slow one has a word of marks of its own, past the
+/// words granted and asked. So a sensor that is added has to be given its place first.
+pub fn each_slow_sensor_has_a_word()
+    ensures slow { (s : Sensor) → s ≢ Along → s ≢ Across → s ≢ Restraint → IsSlow s }
+    ensures word { (s : Sensor) → IsSlow s → (ASKED < place_of s) × (place_of s < FREEZE_WORDS) }
+    ensures own { (s t : Sensor) → IsSlow s → IsSlow t → place_of s ≡ place_of t → s ≡ t }
 {}

@@ -27,7 +27,7 @@ mod seats;
 mod status;
 mod view;
 
-pub use crate::freeze::{FIRST_GRANT, no_mark_falls};
+pub use crate::freeze::{FIRST_GRANT, each_slow_sensor_has_a_word, no_mark_falls};
 pub use crate::freeze_seats::{Asker, Freeze, FreezeOpened, Keeper, Keepers};
 use crate::rule::{
     LoadClosed, LoadGate, LoadStopped, NeverFalling, PostClosed, PostGate, PostStopped, TakeIn,
