@@ -13,11 +13,13 @@ use std::rt::Clock;
 const LONGEST_READ: usize = 1_024;
 
 /// A memory in a file, which counts what fails. It tells no bytes. Where the file can't be opened or made it has the size 0,
-/// and each of its calls fails.
+/// and each read, write and sync fails.
 #[derive(Drop)]
 pub struct FileNvm<R> {
     file: Option<ImageFile<R>>,
     size: u32,
+    // Whether a write was tried since the last sync that succeeded.
+    is_unsettled: bool,
     clock: u64,
     last_good: u64,
     faults: u64,
@@ -38,10 +40,19 @@ impl<R> FileNvm<R> {
         FileNvm {
             file,
             size,
+            is_unsettled: false,
             clock: 0,
             last_good: 0,
             faults: 0,
         }
+    }
+
+    /// Whether standard output is this file too. What is printed would then be written over the records.
+    pub fn is_output(&self) -> bool
+    where
+        R: Files<File = File> + Clock,
+    {
+        self.file.as_ref().is_some_and(|file| file.is_output())
     }
 
     fn fail(&mut self) -> Result<(), Failed>
@@ -137,7 +148,10 @@ impl<R: Files<File = File> + Clock> Nvm for FileNvm<R> {
 
     fn write(&mut self, at: u32, bytes: &[u8]) -> Result<(), Failed> {
         let written = match &mut self.file {
-            Some(file) if self.clock < u64::MAX => file.write_at(at, bytes).is_ok(),
+            Some(file) if self.clock < u64::MAX => {
+                self.is_unsettled = true;
+                file.write_at(at, bytes).is_ok()
+            }
             _ => false,
         };
         self.count(written)
@@ -148,11 +162,20 @@ impl<R: Files<File = File> + Clock> Nvm for FileNvm<R> {
             Some(file) if self.clock < u64::MAX => file.sync().is_ok(),
             _ => false,
         };
+        self.is_unsettled &= !synced;
         self.count(synced)
     }
 
-    /// A file has no power to lose.
+    /// A file has no power to lose. A write that no sync came after is synced here, since all bytes are settled once power is back.
     fn power_cycle(&mut self) -> Result<(), Failed> {
+        let settled = match &mut self.file {
+            Some(file) if self.is_unsettled => file.sync().is_ok(),
+            _ => true,
+        };
+        if !settled {
+            return self.fail();
+        }
+        self.is_unsettled = false;
         Ok(())
     }
 }
