@@ -17,6 +17,9 @@ const NAME: &str = "edr.nvm";
 /// The folder in which it has that name.
 const FOLDER: &str = ".";
 
+/// The name by which the system tells what standard output is.
+const OUTPUT: &str = "/dev/stdout";
+
 /// As many bytes as a file has that is made: those of an image of the most banks that there may be, so that each `format` has room.
 const NEW_SIZE: usize = LARGEST_IMAGE;
 
@@ -167,6 +170,14 @@ impl<R: Files<File = File> + Clock> ImageFile<R> {
         let about = self.file.metadata()?;
         let named = fs::metadata(&self.rt, NAME)?;
         Ok(is_same_file(&about, &named) && size_of(&about)? == self.size)
+    }
+
+    /// Whether standard output is this file, opened once more. Where the system tells nothing of standard output, it isn't.
+    pub fn is_output(&self) -> bool {
+        match (self.file.metadata(), fs::metadata(&self.rt, OUTPUT)) {
+            (Ok(about), Ok(output)) => is_same_file(&about, &output),
+            _ => false,
+        }
     }
 
     // The file, which this program holds from here to its end.
