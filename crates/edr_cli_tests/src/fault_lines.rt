@@ -81,28 +81,47 @@ fn each_fault_of_a_trace_has_its_words(rt: HostRuntime) {
     let high = 100_000;
     let sensor = Sensor::Across;
     let faults = [
-        (1, TraceFault::Fields { found: 2 }, "1: fields 2\n"),
-        (1, TraceFault::Word, "1: word\n"),
-        (1, TraceFault::Number { field: 2 }, "1: number in field 2\n"),
-        (1, TraceFault::Place, "1: place\n"),
-        (3, TraceFault::Order { last: 5 }, "3: order after 5\n"),
+        (
+            1,
+            TraceFault::Fields { found: 2 },
+            "fault: trace row 1: fields 2\n",
+        ),
+        (1, TraceFault::Word, "fault: trace row 1: word\n"),
+        (
+            1,
+            TraceFault::Number { field: 2 },
+            "fault: trace row 1: number in field 2\n",
+        ),
+        (1, TraceFault::Place, "fault: trace row 1: place\n"),
+        (
+            3,
+            TraceFault::Order { last: 5 },
+            "fault: trace row 3: order after 5\n",
+        ),
         (
             2,
             TraceFault::Moment { limit: 86_400_000 },
-            "2: moment past 86400000\n",
+            "fault: trace row 2: moment past 86400000\n",
         ),
         (
             2,
             TraceFault::Range { low, high },
-            "2: range -100000 to 100000\n",
+            "fault: trace row 2: range -100000 to 100000\n",
         ),
-        (2, TraceFault::Gap { last: 0 }, "2: gap after 0\n"),
-        (4, TraceFault::Skew { sensor }, "4: skew of across\n"),
-        (3, TraceFault::Unended, "3: unended\n"),
+        (
+            2,
+            TraceFault::Gap { last: 0 },
+            "fault: trace row 2: gap after 0\n",
+        ),
+        (
+            4,
+            TraceFault::Skew { sensor },
+            "fault: trace row 4: skew of across\n",
+        ),
+        (3, TraceFault::Unended, "fault: trace row 3: unended\n"),
     ];
-    for (row, fault, words) in faults {
-        let line = Fault::Trace(TraceRefused { row, fault }).line();
-        assert!(rt; line.as_bytes().starts_with(b"fault: trace row "));
-        assert!(rt; line.as_bytes().ends_with(words.as_bytes()));
+    for (row, fault, line) in faults {
+        let told = Fault::Trace(TraceRefused { row, fault }).line();
+        assert!(rt; told.as_bytes() == line.as_bytes());
     }
 }

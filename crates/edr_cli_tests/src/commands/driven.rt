@@ -1,7 +1,7 @@
-//! Faults of runs by threads beside those of the same runs on one thread; and what no clause tells of a drive: that two sensors are
-//! served at once, and that the slow sensors are asked for their parts.
+//! Faults of runs by threads beside those of the same runs on one thread; and what no clause tells of a drive: that all eight sensors
+//! are served at once where there are eight workers, and that the slow sensors are asked for their parts.
 
-use super::drives::{quiet, struck, trace_of};
+use super::drives::{DEPLOYED, quiet, struck, trace_of};
 use super::{
     KEEP, SIZE, SOUND, Streams, kept_memory, memory_of, new_image, sink_of, source_of, words_of,
 };
@@ -182,34 +182,55 @@ fn faults_by_threads_are_told_as_on_one_thread(rt: HostRuntime) -> Result<(), Fa
     Ok(())
 }
 
-// A gate at which the first item of Along and that of Across wait for each other. It counts which of them were met.
+// The memory fails in one of the changing calls of a deployment's commands, in the committer, while the other threads run.
+#[test]
+fn faults_in_the_committer_are_told_as_on_one_thread(rt: HostRuntime) -> Result<(), Fail> {
+    let alloc = rt.alloc();
+    let trace = trace_of(alloc, &[DEPLOYED])?;
+    let image = new_image(2, KEEP);
+    for call in 8..=17u32 {
+        let case = Case {
+            memory_fails: &[call],
+            status: Status::StoreFault,
+            ..sound(trace.as_bytes(), &image)
+        };
+        check_driven(&rt, alloc, case)?;
+    }
+    Ok(())
+}
+
+// A gate at which the first items of the first so many sensors wait for each other. It counts which have come, and which of them
+// have seen all come.
 #[derive(Drop)]
 struct Meeting {
-    along: AtomicU64,
-    across: AtomicU64,
+    sensors: u8,
+    come: AtomicU64,
     met: AtomicU64,
 }
 
 impl Meeting {
-    // Shows that one has come, and waits for the other, not for ever.
-    fn meet(&self, here: &AtomicU64, there: &AtomicU64) {
-        here.store(1, Ordering::SeqCst);
-        for _turn in 0..10_000_000u32 {
-            if there.load(Ordering::SeqCst) == 1 {
-                self.met.fetch_add(1, Ordering::SeqCst);
-                break;
-            }
-            thread::yield_now();
+    fn of(sensors: u8) -> Meeting {
+        Meeting {
+            sensors,
+            come: AtomicU64::new(0),
+            met: AtomicU64::new(0),
         }
     }
 }
 
 impl Gate for Meeting {
+    // An item that has come waits for those of the other sensors, not for ever.
     fn pass(&self, sensor: u8, nth: u32) {
-        match (sensor, nth) {
-            (1, 1) => self.meet(&self.along, &self.across),
-            (2, 1) => self.meet(&self.across, &self.along),
-            _ => {}
+        if sensor > self.sensors || nth != 1 {
+            return;
+        }
+        self.come.fetch_add(1, Ordering::SeqCst);
+        for _turn in 0..10_000_000u32 {
+            if self.come.load(Ordering::SeqCst) == u64::from(self.sensors) {
+                self.met.fetch_add(1, Ordering::SeqCst);
+                break;
+            }
+            thread::yield_now();
         }
     }
 }
@@ -234,18 +255,27 @@ fn drive_struck<
     Ok(())
 }
 
+// So many sensors are served at once, each by a worker of its own.
+fn check_meeting<R: Threads + Wait + Abort + Copy + Send + Sync + 'static>(
+    rt: &R,
+    alloc: Global,
+    sensors: u8,
+) -> Result<(), Fail> {
+    let gate = Arc::new(alloc, Meeting::of(sensors))?;
+    drive_struck(rt, alloc, &gate)?;
+    assert_eq!(rt; gate.met.load(Ordering::SeqCst), u64::from(sensors));
+    Ok(())
+}
+
 #[test]
 fn second_sensor_passes(rt: HostRuntime) -> Result<(), Fail> {
-    let alloc = rt.alloc();
-    let gate = Meeting {
-        along: AtomicU64::new(0),
-        across: AtomicU64::new(0),
-        met: AtomicU64::new(0),
-    };
-    let gate = Arc::new(alloc, gate)?;
-    drive_struck(&rt, alloc, &gate)?;
-    assert_eq!(rt; gate.met.load(Ordering::SeqCst), 2);
-    Ok(())
+    check_meeting(&rt, rt.alloc(), 2)
+}
+
+// No clause says how many workers a drive has.
+#[test]
+fn eight_sensors_pass(rt: HostRuntime) -> Result<(), Fail> {
+    check_meeting(&rt, rt.alloc(), 8)
 }
 
 // A gate that counts the parts that each sensor has sent of the time zero at 26.003 s, and those of other times zero.
