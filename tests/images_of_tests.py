@@ -8,7 +8,7 @@ in a copy doesn't stand there once, where a test fails otherwise, and where a co
 import concurrent.futures, os, re, shutil, subprocess, sys, tempfile
 from typing import NamedTuple
 
-TOP = os.path.join(os.path.dirname(os.path.abspath(__file__)), '..', '..')
+TOP = os.path.join(os.path.dirname(os.path.abspath(__file__)), '..')
 SECONDS = 120
 COMMANDS = 'crates/edr_cli_tests/src/commands.rt'
 # What the tests of the top call share; their modules that let each call fail in turn, and the others.
