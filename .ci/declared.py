@@ -22,9 +22,9 @@ TYPE = re.compile(r"\b(?:struct|enum|union)\s+\w+[^;{(]*\{")
 HEAD = re.compile(r"\bfn\s+\w+[^{;]*")
 WORD = re.compile(r'b?"([A-Za-z][\w-]*)"')
 EXPORT = re.compile(r"\bpub use ([^;]*);")
-BLOCK = re.compile(r"^\s*(?:pub(?:\([a-z]+\))? )?(?:impl|trait|enum|struct)\b([^{;]*)\{", re.M)
+BLOCK = re.compile(r"^\s*(?:pub(?:\([a-z]+\))? )?(impl|trait|enum|struct)\b([^{;]*)\{", re.M)
 # Of specs/: what begins at the front of its line, and a field or a constructor.
-DEFINITION = re.compile(r"^(?:(?:abbrev|unfoldable|record|data|pub|mod)\s+)+([A-Za-z_][\w']*)", re.M)
+DEFINITION = re.compile(r"^(?:(?:abbrev|unfoldable|record|data|pub|mod)\s+)+(?!use\b)([A-Za-z_][\w']*)", re.M)
 PART = re.compile(r"^  (?:pub )?([A-Za-z_][\w']*) :", re.M)
 
 
@@ -98,8 +98,9 @@ def of_types():
         for _, text in texts(crate, "src"):
             for block in BLOCK.finditer(text):
                 inner = body(text, block.end() - 1)
-                for owner in re.findall(r"\b[A-Z]\w*", block[1]):
-                    names[owner] |= of_code(inner) | of_type(inner)
+                own = of_type(inner) if block[1] in ("enum", "struct") else of_code(inner)
+                for owner in re.findall(r"\b[A-Z]\w*", block[2]):
+                    names[owner] |= own
     return names
 
 
