@@ -91,7 +91,7 @@ class Listed:
             return got, [(name, int(fd)) for name, fd in (line.split() for line in lines)]
 
 
-def last_change(calls):
+def last_sync(calls):
     """The number of the last sync among the syncs, if it comes after each write of the image and before the first text, and else 0."""
     text = next((at for at, it in enumerate(calls) if it == ('write', 1)), len(calls))
     changes = [name for name, _ in calls[:text] if name in ('pwrite', 'fsync')]
