@@ -2,7 +2,7 @@
 
 A session's `edr` is a script here, which keeps the image as it stands before a command and after it.
 """
-import os, pathlib, tempfile
+import concurrent.futures, os, pathlib, tempfile
 
 import session
 
@@ -23,7 +23,8 @@ def images_of_cases(program):
         with open(script, 'w') as file:
             file.write(KEEPING.format(kept=kept, program=program))
         os.chmod(script, 0o755)
-        for page in sorted(session.TOP.glob('cases/*.md')):
-            for one in session.sessions(page.name, page.read_bytes()):
-                session.run(one, [first, *session.BUILT])
+        pages = sorted(session.TOP.glob('cases/*.md'))
+        every = [one for page in pages for one in session.sessions(page.name, page.read_bytes())]
+        with concurrent.futures.ThreadPoolExecutor(os.cpu_count()) as pool:
+            list(pool.map(lambda one: session.run(one, [first, *session.BUILT]), every))
         return sorted((pathlib.Path(kept) / name).read_bytes() for name in os.listdir(kept))

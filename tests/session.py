@@ -13,8 +13,9 @@ BUILT = [TOP / "crates" / name / "out" for name in ("edr", "edr_picture")]
 PROGRAMS = ("edr", "edr_picture")
 # A folder in memory, so that no session waits for a disk.
 MEMORY = "/dev/shm"
-# A session that takes longer than these seconds is stopped.
+# A session that takes longer than these seconds is stopped, and its last command gets this fault.
 LONGEST = 300
+ENDLESS = b"doesn't end"
 
 BLOCK = re.compile(rb"(?:^    .*\n)+", re.M)
 COMMAND = b"    $ "
@@ -118,7 +119,7 @@ def came_of(at, was_ended):
     faults = [b"standard error: " + line for line in says.split(b"\n") if line]
     faults += [line for line in ends.split(b"\n") if line]
     if not status:
-        faults.append(b"ends its session" if was_ended else b"doesn't end")
+        faults.append(b"ends its session" if was_ended else ENDLESS)
     elif status != b"0\n" and not ends:
         faults.append(b"status " + status.strip())
     return Came(prints, faults)
