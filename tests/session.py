@@ -65,11 +65,11 @@ class Unreadable(Exception):
 def steps_of(block, line):
     """The commands of a block that begins at this line of its page."""
     steps = []
-    for at, text in enumerate(block.splitlines(keepends=True)):
+    for at, text in enumerate(block.split(b"\n")[:-1]):
         if text.startswith(COMMAND):
-            steps.append(Step(line + at, text[len(COMMAND) :].rstrip(b"\n"), b""))
+            steps.append(Step(line + at, text[len(COMMAND) :], b""))
         elif steps:
-            steps[-1].prints += text[4:]
+            steps[-1].prints += text[4:] + b"\n"
         else:
             raise Unreadable(f"line {line + at}: a session begins with a command")
     return steps
