@@ -91,6 +91,10 @@ class Listed:
             return got, [(name, int(fd)) for name, fd in (line.split() for line in lines)]
 
 
+def count(calls, name):
+    return sum(it == name for it, _ in calls)
+
+
 def last_sync(calls):
     """The number of the last sync among the syncs, if it comes after each write of the image and before the first text, and else 0."""
     text = next((at for at, it in enumerate(calls) if it == ('write', 1)), len(calls))
