@@ -14,7 +14,7 @@ PROGRAMS = ("edr", "edr_picture")
 # A folder in memory, so that no session waits for a disk.
 MEMORY = "/dev/shm"
 # A session that takes longer than these seconds is stopped, and its last command gets this fault.
-LONGEST = 300
+LONGEST = 120
 ENDLESS = b"doesn't end"
 
 BLOCK = re.compile(rb"(?:^    .*\n)+", re.M)
