@@ -8,10 +8,9 @@ use Rattle.edr_image.specs.declared.Found.{Found}
 use Rattle.edr_image.specs.Reports.{Report}
 use Rattle.edr_report.specs.Lines.{Line}
 use Rattle.edr_report.specs.Report.{event_lines, events_lines, found_records, run_lines}
-use Rattle.edr_drawing.specs.declared.pieces.Piece.TheVariants as piece
-use Rattle.edr_drawing.specs.declared.tags.Tag.TheVariants as tag
-use Rattle.edr_drawing.specs.Pieces.{pieces}
-use Rattle.edr_drawing.specs.Long.{notes_text, form_text}
+use Rattle.edr_drawing.specs.declared.long.TheConstants.{FORM, NOTES, PAGE_END}
+use Rattle.edr_drawing.specs.declared.tables.TheConstants.{ELEMENTS_END, ELEMENTS_START, NEXT_TABLE, RUN_START, TABLE_END}
+use Rattle.edr_drawing.specs.Template.{fixed}
 use Rattle.edr_drawing.specs.Tables.{row, line_row, begins_table, elements_table, run_table}
 use Rattle.edr_drawing.specs.Sheets.{sheet, sheets, sheet_foot}
 use Rattle.edr_drawing.specs.Cover.{cover, cover_foot}
@@ -43,7 +42,7 @@ row_of_line [] l (k, b, e) = absurd (omega (arith, b))
 row_of_line (x ∷ xs) l among = elim (contains_cases x xs l among) [
   | inl is ↦
       let r = row l.name l.value in
-      let here : IsInOnePiece r (line_row l) = part_right r (if begins_table l.name then pieces (piece.Tag tag.NextTable ∷ []) else []) r (part_itself r) in
+      let here : IsInOnePiece r (line_row l) = part_right r (if begins_table l.name then fixed NEXT_TABLE.now else []) r (part_itself r) in
       part_left r (line_row x) (flat_map line_row xs) (part_same r (line_row l) (line_row x) (ap line_row (sym is)) here)
   | inr later ↦ part_right (row l.name l.value) (line_row x) (flat_map line_row xs) (row_of_line xs l later)
 ]
@@ -53,8 +52,8 @@ line_of_elements : (n bank : ℕ) (r : Record) (l : Line) → Contains (event_li
 unfolding elements_table
 line_of_elements n bank r l among =
     let p = row l.name l.value in
-    part_left p _ (pieces (piece.Tag tag.ElementsEnd ∷ []))
-    (part_right p (pieces (piece.Tag tag.ElementsStart ∷ [])) (flat_map line_row (event_lines n bank r)) (row_of_line (event_lines n bank r) l among))
+    part_left p _ (fixed ELEMENTS_END.now)
+    (part_right p (fixed ELEMENTS_START.now) (flat_map line_row (event_lines n bank r)) (row_of_line (event_lines n bank r) l among))
 
 line_of_sheet : (n bank : ℕ) (r : Record) (digest : List ℕ) (l : Line) → Contains (event_lines n bank r) l → IsInOnePiece (row l.name l.value) (sheet n bank r digest)
 unfolding sheet
@@ -82,7 +81,7 @@ pub event_on_page : (reports : List Report) (found : List Found) (count size : �
 unfolding page_bytes
 event_on_page reports found count size digest l among =
     let p = row l.name l.value in
-    part_left p _ (pieces (piece.Tag tag.PageEnd ∷ [])) (part_right p _ (sheets 1 found digest) (line_of_sheets 1 found digest l among))
+    part_left p _ (fixed PAGE_END.now) (part_right p _ (sheets 1 found digest) (line_of_sheets 1 found digest l among))
 
 -- the lines of cycles, in their table and on the first sheet
 line_of_run : (reports : List Report) (l : Line) → Contains (run_lines 1 reports) l → IsInOnePiece (row l.name l.value) (run_table reports)
@@ -90,8 +89,8 @@ unfolding run_table
 line_of_run [] l (k, b, e) = absurd (omega (arith, b))
 line_of_run (r ∷ rs) l among =
     let p = row l.name l.value in
-    part_left p _ (pieces (piece.Tag tag.TableEnd ∷ []))
-    (part_right p (pieces (piece.Tag tag.RunStart ∷ [])) (flat_map line_row (run_lines 1 (r ∷ rs))) (row_of_line (run_lines 1 (r ∷ rs)) l among))
+    part_left p _ (fixed TABLE_END.now)
+    (part_right p (fixed RUN_START.now) (flat_map line_row (run_lines 1 (r ∷ rs))) (row_of_line (run_lines 1 (r ∷ rs)) l among))
 
 line_of_cover : (reports : List Report) (found : List Found) (count size : ℕ) (digest : List ℕ) (l : Line) →
     Contains (run_lines 1 reports) l → IsInOnePiece (row l.name l.value) (cover reports found count size digest)
@@ -99,12 +98,12 @@ unfolding cover
 line_of_cover reports found count size digest l among =
     let p = row l.name l.value in
     part_left p _ (cover_foot size digest)
-    (part_left p _ form_text (part_left p _ notes_text (part_right p _ (run_table reports) (line_of_run reports l among))))
+    (part_left p _ (fixed FORM.now) (part_left p _ (fixed NOTES.now) (part_right p _ (run_table reports) (line_of_run reports l among))))
 
 pub cycle_on_page : (reports : List Report) (found : List Found) (count size : ℕ) (digest : List ℕ) (l : Line) →
     Contains (run_lines 1 reports) l → IsInOnePiece (row l.name l.value) (page_bytes reports found count size digest)
 unfolding page_bytes
 cycle_on_page reports found count size digest l among =
     let p = row l.name l.value in
-    part_left p _ (pieces (piece.Tag tag.PageEnd ∷ []))
+    part_left p _ (fixed PAGE_END.now)
     (part_left p _ (sheets 1 found digest) (part_right p _ (cover reports found count size digest) (line_of_cover reports found count size digest l among)))

@@ -1,158 +1,185 @@
 -- The charts of a page have plain texts.
-use Rattle.std.proofs.Common.{ℕ, ◌+◌, ◌*◌, ◌/◌, ℤ, Bool, true, false, nat_lt, nat_le, nat_eq, Option, Some, None, List, [], ◌∷◌, pos}
+use Rattle.std.proofs.Common.{refl, ℕ, ◌≡◌, ◌+◌, ◌-◌, ◌*◌, ◌/◌, ℤ, Bool, true, false, nat_lt, nat_le, nat_eq, Option, Some, None, List, [], ◌∷◌, pos, codes, decimal}
 use Rattle.std.specs.Ordering.{int_eq}
 use Rattle.edr_record.specs.declared.Extreme.{Extreme}
 use Rattle.edr_record.specs.Parts.{PrePart, CrashPart}
 use Rattle.edr_record.specs.declared.Profile.{Profile}
 use Rattle.edr_record.specs.declared.Profile.TheVariants.{Short, Long}
-use Rattle.edr_drawing.specs.declared.texts.Class.{Class}
-use Rattle.edr_drawing.specs.declared.texts.Label.{Label}
-use Rattle.edr_drawing.specs.declared.elements.TextWords.{TextWords}
-use Rattle.edr_drawing.specs.declared.elements.TextWords.TheVariants as words
-use Rattle.edr_drawing.specs.declared.elements.Element.{Element}
-use Rattle.edr_drawing.specs.declared.elements.Element.TheVariants as element
-use Rattle.edr_drawing.specs.declared.lanes.ChartLane.{ChartLane}
+use Rattle.edr_drawing.specs.declared.after.CarAxis.{CarAxis}
+use Rattle.edr_drawing.specs.declared.after.CarAxis.TheVariants.{Along, Across}
+use Rattle.edr_drawing.specs.declared.after.TheConstants.{ACROSS_NUMBER, AFTER_PLOT, ALONG_NUMBER, AXIS_LINE, CENTRED, DIAMOND, END_LINE, ENDING, FAR_RIGHT, GRID, LEGEND, LEVEL, MAX_ACROSS, MAX_ALONG, NOT_RECORDED, PAST_WINDOW, ROOM_NOT_RECORDED, TIME_LINES, TIMES_APART, ZERO_LINES}
+use Rattle.edr_drawing.specs.declared.before.TheConstants.{BEFORE_HEAD, BEFORE_PLOT, BELT_Y, BRAKE_Y, DRIVER_BELT, LAMP, LAMP_Y, SERVICE_BRAKE, SPEED_NAME, SWITCH_NAME, THROTTLE_LANE, THROTTLE_NAME, TIME_LINE, TIMES, ZERO_LINE, FIELD_HEIGHT}
 use Rattle.edr_drawing.specs.declared.changes.Scale.{Scale}
+use Rattle.edr_drawing.specs.declared.lanes.ChartLane.{ChartLane}
+use Rattle.edr_drawing.specs.declared.lanes.TheConstants.{GRID_LINE}
+use Rattle.edr_drawing.specs.declared.rows.TheConstants.{ACROSS_Y, ALONG_Y, DRIVER_CURTAIN, DRIVER_FRONTAL, DRIVER_PRETENSIONER, DRIVER_SIDE, END_OF_EVENT, END_Y, LEFT_OF_FLAG, MAX_LATERAL, MAX_LONGITUDINAL, MAX_RESULTANT, PASSENGER_CURTAIN, PASSENGER_FRONTAL, PASSENGER_PRETENSIONER, PASSENGER_SIDE, RESULTANT_Y, RIGHT_OF_FLAG, AFTER_HEAD, FIRED_ROW, FLAG_FAR_RIGHT, NOT_FIRED_ROW, TIMED_ROW, WITHOUT_PART}
+use Rattle.edr_drawing.specs.declared.scales.TheConstants.{RIGHT}
+use Rattle.edr_drawing.specs.declared.shapes.Shape.{Shape}
+use Rattle.edr_drawing.specs.declared.shapes.Shape.TheVariants as shape
+use Rattle.edr_drawing.specs.declared.shapes.TheConstants.{ALONG, BEGIN, CHART_END, DOT, FIELD, JOIN, NUMBER, PATH, PATH_END, PATH_POINT, POINT, RULE, SQUARE, WORD}
+use Rattle.edr_drawing.specs.Template.{filled, milliseconds}
+use Rattle.edr_drawing.specs.Shapes.{field_class, path_point, shape_bytes, shapes_bytes, switch_word, word_class}
+use Rattle.edr_record.specs.declared.TheConstants.{POINT_STEP}
 use Rattle.edr_drawing.specs.Scales.{slot_x}
-use Rattle.edr_drawing.specs.Elements.{words_bytes, element_bytes, elements_bytes}
-use Rattle.edr_drawing.specs.Lanes.{lane_y, grid_line, grid, point, points, cell, cells, gap_elements, long_cells, cells_of, drawn_lane}
-use Rattle.edr_drawing.specs.Before.{second_line, second_lines, before_frame, before_speed, before_throttle, switch_field, switches, run_field, switch_run, are_same, switch_runs, brake_slots, before_brake, before_switches, before_head, before_chart}
-use Rattle.edr_drawing.specs.Changes.{time_x}
-use Rattle.edr_drawing.specs.After.{past_window, time_line, time_lines, legend, level, levels, after_frame, end_line, axis_point, axis_points, curve, dot, square, dots, squares, curves, maximum_number, maxima, changes_chart}
-use Rattle.edr_drawing.specs.Rows.{timed_row, restraint_row, bag_rows, belt_rows, event_rows, rows_chart, after_head, without_part, after_chart}
-use Rattle.edr_drawing.proofs.PlainLemmas.{Plain, plain_nil, plain_append, plain_if, plain_flat_map, plain_counted, plain_pieces}
+use Rattle.edr_drawing.specs.Lanes.{field_shapes, lane_y, cells, cells_of, drawn_lane, gap, grid, grid_line, long_cells, points}
+use Rattle.edr_drawing.specs.Before.{second_x, are_same, before_chart, before_frame, before_head, brake_part, brake_slots, named_switch, slots_apart, span_word, speed_part, switch_name, switch_runs, switches, throttle_part, time_line, time_lines}
+use Rattle.edr_drawing.specs.Changes.{change_y, time_x}
+use Rattle.edr_drawing.specs.After.{mark_at, after_frame, axis_class, axis_mark, axis_marks, axis_points, changes_chart, curve, diamond, end_line, level, levels, maxima, maximum_number, past_window, time_line as later_line, time_lines as later_lines}
+use Rattle.edr_drawing.specs.Rows.{after_chart, after_head, event_rows, restraint_row, restraint_rows, rows_chart, rule, side, timed_row}
+use Rattle.edr_drawing.proofs.PlainLemmas.{Plain, all_low, plain_nil, plain_append, plain_if, plain_fixed, plain_flat_map, plain_counted, plain_text, plain_filled, plain_values, plain_decimal, plain_extreme, plain_milliseconds, text_then}
 
-plain_words : (w : TextWords) → Plain (words_bytes w)
-plain_words (words.Label l) = search plain_pieces
-plain_words (words.Number n) = search plain_pieces
-plain_words (words.Below n) = search plain_pieces
-plain_words (words.Change z) = search plain_pieces
-plain_words (words.Before tenths) = search plain_pieces
-plain_words words.Zero = search plain_pieces
-plain_words (words.Milliseconds t) = search plain_pieces
-plain_words (words.Extreme at kmh) = search plain_pieces
+-- ---- shapes
 
-plain_element : (e : Element) → Plain (element_bytes e)
-plain_element (element.Text x y class w) = search (plain_pieces, plain_words) depth 40
-plain_element (element.Line x y to_x to_y class) = search plain_pieces depth 40
-plain_element (element.Rect x y width height class) = search plain_pieces depth 40
-plain_element (element.Dot x y) = search plain_pieces depth 40
-plain_element (element.Point x y) = search plain_pieces depth 40
-plain_element (element.Square x y) = search plain_pieces depth 40
-plain_element (element.Diamond x y class) = search plain_pieces depth 40
-plain_element (element.Flag x y) = search plain_pieces depth 40
+plain_field_class : (v : Option Bool) → Plain (field_class v)
+plain_field_class (Some true) = plain_fixed (field_class (Some true)) refl
+plain_field_class (Some false) = plain_fixed (field_class (Some false)) refl
+plain_field_class None = plain_fixed (field_class None) refl
 
-pub plain_drawn : (es : List Element) → Plain (elements_bytes es)
-plain_drawn es = plain_flat_map element_bytes plain_element es
+plain_word_class : (v : Option Bool) → Plain (word_class v)
+plain_word_class (Some true) = plain_fixed (word_class (Some true)) refl
+plain_word_class (Some false) = plain_fixed (word_class (Some false)) refl
+plain_word_class None = plain_fixed (word_class None) refl
 
--- the chart before time zero
+plain_switch_word : (v : Option Bool) → Plain (switch_word v)
+plain_switch_word (Some true) = plain_fixed (switch_word (Some true)) refl
+plain_switch_word (Some false) = plain_fixed (switch_word (Some false)) refl
+plain_switch_word None = plain_fixed (switch_word None) refl
+
+plain_shape : (s : Shape) → Plain (shape_bytes s)
+plain_shape (shape.Dot x y) = plain_filled DOT.now _ refl (search plain_values)
+plain_shape (shape.Point x y) = plain_filled POINT.now _ refl (search plain_values)
+plain_shape (shape.Square x y) = plain_filled SQUARE.now _ refl (search plain_values)
+plain_shape (shape.Value x y v) = plain_filled NUMBER.now _ refl (search plain_values)
+plain_shape (shape.Field x y width height v) = plain_filled FIELD.now _ refl (search (plain_values, plain_field_class) depth 20)
+plain_shape (shape.Word x y v) = plain_filled WORD.now _ refl (search (plain_values, plain_word_class, plain_switch_word) depth 20)
+
+plain_shapes : (shapes : List Shape) → Plain (shapes_bytes shapes)
+plain_shapes shapes = plain_flat_map shape_bytes plain_shape shapes
+
+plain_path_point : (joined : Bool) (x y : ℕ) → Plain (path_point joined x y)
+unfolding path_point
+plain_path_point joined x y =
+    let join = plain_if joined JOIN.now BEGIN.now (plain_fixed JOIN.now refl) (plain_fixed BEGIN.now refl) in
+    plain_filled PATH_POINT.now _ refl (search plain_values)
+
+-- ---- the chart before time zero
+
 plain_grid : (l : ChartLane) → Plain (grid l)
-plain_grid l = plain_counted (λ i. grid_line l (l.step * i)) (λ i. search (plain_pieces, plain_element)) (l.top / l.step + 1)
-
-plain_point : (f : Profile) (l : ChartLane) (k : ℕ) (before : Bool) (value : ℕ) → Plain (point f l k before value)
-unfolding point
-plain_point f l k before value = search plain_pieces
+plain_grid l = plain_counted (λ i. grid_line l (l.step * i)) (λ i. plain_filled GRID_LINE.now _ refl (search plain_values)) (l.top / l.step + 1)
 
 plain_points : (f : Profile) (l : ChartLane) (k : ℕ) (before : Bool) (vs : List (Option ℕ)) → Plain (points f l k before vs)
 plain_points f l k before [] = plain_nil
 plain_points f l k before (None ∷ vs) = plain_points f l (k + 1) false vs
-plain_points f l k before (Some v ∷ vs) = plain_append _ _ (plain_point f l k before v) (plain_points f l (k + 1) true vs)
-
-plain_cell : (l : ChartLane) (k : ℕ) (v : Option ℕ) → Plain (cell l k v)
-plain_cell l k None = search (plain_pieces, plain_element)
-plain_cell l k (Some v) = search (plain_pieces, plain_element)
+plain_points f l k before (Some v ∷ vs) = plain_append _ _ (plain_path_point before _ _) (plain_points f l (k + 1) true vs)
 
 plain_cells : (l : ChartLane) (k : ℕ) (vs : List (Option ℕ)) → Plain (cells l k vs)
 plain_cells l k [] = plain_nil
-plain_cells l k (v ∷ vs) = plain_append _ _ (plain_cell l k v) (plain_cells l (k + 1) vs)
+plain_cells l k (v ∷ vs) = plain_append _ _ (plain_shapes _) (plain_cells l (k + 1) vs)
 
 plain_long_cells : (l : ChartLane) (k n : ℕ) (vs : List (Option ℕ)) → Plain (long_cells l k n vs)
-plain_long_cells l k n [] = plain_drawn (gap_elements l k n)
+plain_long_cells l k n [] = plain_shapes (gap l k n)
 plain_long_cells l k n (None ∷ vs) = plain_long_cells l k (n + 1) vs
 plain_long_cells l k n (Some v ∷ vs) =
-    plain_append _ _ (plain_append _ _ (plain_drawn (gap_elements l k n)) (plain_drawn (element.Point (slot_x Long (k + n)) (lane_y l v) ∷ []))) (plain_long_cells l (k + n + 1) 0 vs)
+    plain_append _ _ (plain_append _ _ (plain_shapes (gap l k n)) (plain_shapes (shape.Point (slot_x Long (k + n)) (lane_y l v) ∷ []))) (plain_long_cells l (k + n + 1) 0 vs)
 
 plain_cells_of : (f : Profile) (l : ChartLane) (vs : List (Option ℕ)) → Plain (cells_of f l vs)
 plain_cells_of Short l vs = plain_cells l 0 vs
 plain_cells_of Long l vs = plain_long_cells l 0 0 vs
 
-plain_lane : (l : ChartLane) (vs : List (Option ℕ)) → Plain (drawn_lane l vs)
-unfolding drawn_lane
-plain_lane l vs = search (plain_pieces, plain_grid, plain_points, plain_cells_of) depth 40
+plain_path : (class : List ℕ) → Plain class → Plain (filled PATH.now (class ∷ []))
+plain_path class h = plain_filled PATH.now _ refl (search plain_values)
 
-plain_second_lines : (f : Profile) → Plain (second_lines f)
-unfolding second_lines
-plain_second_lines f = plain_counted (second_line f) (λ k. plain_if (nat_lt k 10) _ _ (search (plain_pieces, plain_element)) (search (plain_pieces, plain_element))) 11
+plain_lane : (f : Profile) (l : ChartLane) (vs : List (Option ℕ)) → Plain (drawn_lane f l vs)
+unfolding drawn_lane
+plain_lane f l vs =
+    let path = plain_path ALONG.now (plain_fixed ALONG.now refl) in
+    let end = plain_text PATH_END.now refl in
+    search (plain_append, plain_grid, plain_points, plain_cells_of)
+
+plain_time_lines : (f : Profile) (count : ℕ) → Plain (time_lines f count)
+unfolding time_lines
+plain_time_lines f count = plain_counted (time_line f) (λ k. plain_filled TIME_LINE.now _ refl (search plain_values)) count
 
 plain_before_frame : (f : Profile) → Plain (before_frame f)
 unfolding before_frame
-plain_before_frame f = search (plain_pieces, plain_element, plain_second_lines)
-
-plain_switch : (x y : ℕ) (v : Option Bool) → Plain (switch_field x y v)
-plain_switch x y (Some true) = search (plain_pieces, plain_element)
-plain_switch x y (Some false) = search (plain_pieces, plain_element)
-plain_switch x y None = search (plain_pieces, plain_element)
+plain_before_frame f =
+    let plot = plain_text BEFORE_PLOT.now refl in
+    let zero_line = plain_filled ZERO_LINE.now _ refl (search plain_values) in
+    plain_append _ _ (plain_append _ _ plot (plain_time_lines f TIMES)) zero_line
 
 plain_switches : (k : ℕ) (vs : List (Option Bool)) → Plain (switches k vs)
 plain_switches k [] = plain_nil
-plain_switches k (v ∷ vs) = plain_append _ _ (plain_switch (slot_x Short k) 367 v) (plain_switches (k + 1) vs)
-
-plain_switch_run : (k n : ℕ) (v : Option Bool) → Plain (switch_run k n v)
-plain_switch_run k n v = plain_if (nat_eq n 0) _ _ plain_nil (plain_drawn (run_field k n v))
+plain_switches k (v ∷ vs) = plain_append _ _ (plain_shapes (field_shapes (slot_x Short k) BRAKE_Y FIELD_HEIGHT v)) (plain_switches (k + 1) vs)
 
 plain_switch_runs : (k n : ℕ) (u : Option Bool) (vs : List (Option Bool)) → Plain (switch_runs k n u vs)
-plain_switch_runs k n u [] = plain_switch_run k n u
+plain_switch_runs k n u [] = plain_shapes _
 plain_switch_runs k n u (v ∷ vs) =
-    plain_if (are_same u v) _ _ (plain_switch_runs k (n + 1) u vs) (plain_append _ _ (plain_switch_run k n u) (plain_switch_runs (k + n) 1 v vs))
+    plain_if (are_same u v) _ _ (plain_switch_runs k (n + 1) u vs) (plain_append _ _ (plain_shapes _) (plain_switch_runs (k + n) 1 v vs))
 
 plain_brake_slots : (f : Profile) (vs : List (Option Bool)) → Plain (brake_slots f vs)
 plain_brake_slots Short vs = plain_switches 0 vs
 plain_brake_slots Long vs = plain_switch_runs 0 0 None vs
 
+plain_rule : (y : ℕ) → Plain (rule y)
+plain_rule y = plain_filled RULE.now _ refl (search plain_values)
+
+plain_switch_name : (y : ℕ) (label : List ℕ) → all_low label ≡ true → Plain (switch_name y label)
+plain_switch_name y label low = let text = plain_fixed label low in plain_filled SWITCH_NAME.now _ refl (search plain_values)
+
+plain_brake_part : (f : Profile) (slots : List (Option Bool)) → Plain (brake_part f slots)
+unfolding brake_part
+plain_brake_part f slots =
+    plain_append _ _ (plain_append _ _ (plain_rule _) (plain_switch_name BRAKE_Y SERVICE_BRAKE.now refl)) (plain_brake_slots f slots)
+
+plain_named_switch : (f : Profile) (y : ℕ) (label : List ℕ) (v : Option Bool) → all_low label ≡ true → Plain (named_switch f y label v)
+plain_named_switch f y label v low = plain_append _ _ (plain_switch_name y label low) (plain_shapes (field_shapes (second_x f) y FIELD_HEIGHT v))
+
+plain_speed_part : (f : Profile) (slots : List (Option ℕ)) → Plain (speed_part f slots)
+unfolding speed_part
+plain_speed_part f slots = plain_append _ _ (plain_text SPEED_NAME.now refl) (plain_lane f _ slots)
+
+plain_throttle_part : (f : Profile) (slots : List (Option ℕ)) → Plain (throttle_part f slots)
+unfolding throttle_part
+plain_throttle_part f slots = plain_append _ _ (plain_text THROTTLE_NAME.now refl) (plain_lane f THROTTLE_LANE slots)
+
+plain_span : (f : Profile) → Plain (span_word f)
+plain_span Short = plain_fixed (span_word Short) refl
+plain_span Long = plain_fixed (span_word Long) refl
+
+plain_apart : (f : Profile) → Plain (slots_apart f)
+plain_apart Short = plain_fixed (slots_apart Short) refl
+plain_apart Long = plain_fixed (slots_apart Long) refl
+
 plain_before_head : (n : ℕ) (f : Profile) → Plain (before_head n f)
 unfolding before_head
-plain_before_head n f = search plain_pieces depth 40
-
-plain_before_speed : (f : Profile) (slots : List (Option ℕ)) → Plain (before_speed f slots)
-unfolding before_speed
-plain_before_speed f slots = search (plain_pieces, plain_element, plain_lane)
-
-plain_before_throttle : (f : Profile) (slots : List (Option ℕ)) → Plain (before_throttle f slots)
-unfolding before_throttle
-plain_before_throttle f slots = search (plain_pieces, plain_element, plain_lane)
-
-plain_before_brake : (f : Profile) (slots : List (Option Bool)) → Plain (before_brake f slots)
-unfolding before_brake
-plain_before_brake f slots = search (plain_pieces, plain_element, plain_brake_slots)
-
-plain_before_switches : (f : Profile) (belt lamp : Option Bool) → Plain (before_switches f belt lamp)
-unfolding before_switches
-plain_before_switches f belt lamp = search (plain_pieces, plain_element, plain_switch)
+plain_before_head n f = plain_filled BEFORE_HEAD.now _ refl (search (plain_values, plain_span, plain_apart))
 
 pub plain_before_chart : (n : ℕ) (p : PrePart) → Plain (before_chart n p)
 unfolding before_chart
-plain_before_chart n p = search (plain_pieces, plain_before_head, plain_before_frame, plain_before_speed, plain_before_throttle, plain_before_brake, plain_before_switches) depth 40
+plain_before_chart n p =
+    let belt = plain_named_switch p.profile BELT_Y DRIVER_BELT.now p.belt refl in
+    let lamp = plain_named_switch p.profile LAMP_Y LAMP.now p.lamp refl in
+    let end = plain_text CHART_END.now refl in
+    search (plain_append, plain_before_head, plain_before_frame, plain_speed_part, plain_throttle_part, plain_brake_part, plain_rule) depth 20
 
--- the chart after time zero
+-- ---- the chart after time zero
+
 plain_past_window : (s : Scale) (w : ℕ) → Plain (past_window s w)
 unfolding past_window
-plain_past_window s w = plain_if (nat_le s.span w) _ _ plain_nil (search (plain_pieces, plain_element))
+plain_past_window s w = plain_if (nat_le s.span w) _ _ plain_nil (plain_filled PAST_WINDOW.now _ refl (search plain_values))
 
-plain_time_line : (s : Scale) (t : ℕ) → Plain (time_line s t)
-unfolding time_line
-plain_time_line s t = plain_if (nat_eq t 0) _ _ (search (plain_pieces, plain_element)) (search (plain_pieces, plain_element))
-
-plain_time_lines : (s : Scale) → Plain (time_lines s)
-unfolding time_lines
-plain_time_lines s = plain_counted (λ i. time_line s (50 * i)) (λ i. plain_time_line s (50 * i)) (s.span / 50 + 1)
-
-plain_legend : Plain legend
-unfolding legend
-plain_legend = search (plain_pieces, plain_element) depth 40
+plain_later_lines : (s : Scale) → Plain (later_lines s)
+unfolding later_lines
+plain_later_lines s =
+    plain_append _ _ (plain_text ZERO_LINES.now refl)
+    (plain_counted (λ i. later_line s (TIMES_APART * (i + 1))) (λ i. plain_filled TIME_LINES.now _ refl (search plain_values)) (s.span / TIMES_APART))
 
 plain_level : (s : Scale) (above : ℕ) → Plain (level s above)
 unfolding level
-plain_level s above = search (plain_pieces, plain_element)
+plain_level s above =
+    let class = plain_if (nat_eq above s.bottom) AXIS_LINE.now GRID.now (plain_fixed AXIS_LINE.now refl) (plain_fixed GRID.now refl) in
+    let number = plain_if (nat_lt above s.bottom) _ _ (text_then (codes "-") (decimal (s.bottom - above)) refl (plain_decimal (s.bottom - above))) (plain_decimal (above - s.bottom)) in
+    plain_filled LEVEL.now _ refl (search plain_values)
 
 plain_levels : (s : Scale) → Plain (levels s)
 unfolding levels
@@ -160,85 +187,94 @@ plain_levels s = plain_counted (λ i. level s (s.step * i)) (λ i. plain_level s
 
 plain_after_frame : (s : Scale) (w : ℕ) → Plain (after_frame s w)
 unfolding after_frame
-plain_after_frame s w = search (plain_pieces, plain_element, plain_past_window, plain_time_lines, plain_legend, plain_levels) depth 40
+plain_after_frame s w =
+    let plot = plain_text AFTER_PLOT.now refl in
+    let legend = plain_text LEGEND.now refl in
+    search (plain_append, plain_past_window, plain_later_lines, plain_levels)
 
 plain_end_line : (s : Scale) (end w : ℕ) → Plain (end_line s end w)
 unfolding end_line
-plain_end_line s end w = plain_append _ _ (search (plain_pieces, plain_element)) (plain_if (nat_le (time_x s w + 200) 1_830) _ _ (search (plain_pieces, plain_element)) plain_nil)
-
-plain_axis_point : (s : Scale) (i : ℕ) (v : ℤ) → Plain (axis_point s i v)
-unfolding axis_point
-plain_axis_point s i v = search plain_pieces
+plain_end_line s end w =
+    let class = plain_if (nat_lt (time_x s end) FAR_RIGHT) CENTRED.now ENDING.now (plain_fixed CENTRED.now refl) (plain_fixed ENDING.now refl) in
+    plain_append _ _ (plain_filled END_LINE.now _ refl (search plain_values))
+    (plain_if (nat_le (time_x s w + ROOM_NOT_RECORDED) RIGHT) _ _ (plain_filled NOT_RECORDED.now _ refl (search plain_values)) plain_nil)
 
 plain_axis_points : (s : Scale) (i : ℕ) (vs : List ℤ) → Plain (axis_points s i vs)
 plain_axis_points s i [] = plain_nil
-plain_axis_points s i (v ∷ vs) = plain_append _ _ (plain_axis_point s i v) (plain_axis_points s (i + 1) vs)
+plain_axis_points s i (v ∷ vs) = plain_append _ _ (plain_path_point _ _ _) (plain_axis_points s (i + 1) vs)
 
-plain_curve : (s : Scale) (c : Class) (vs : List ℤ) → Plain (curve s c vs)
+plain_axis_marks : (s : Scale) (a : CarAxis) (i : ℕ) (vs : List ℤ) → Plain (axis_marks s a i vs)
+plain_axis_marks s a i [] = plain_nil
+plain_axis_marks s a i (v ∷ vs) = plain_append (axis_mark s a i v) _ (plain_shapes (mark_at a (time_x s (POINT_STEP * i)) (change_y s v) ∷ [])) (plain_axis_marks s a (i + 1) vs)
+
+plain_axis_class : (a : CarAxis) → Plain (axis_class a)
+plain_axis_class Along = plain_fixed (axis_class Along) refl
+plain_axis_class Across = plain_fixed (axis_class Across) refl
+
+plain_curve : (s : Scale) (a : CarAxis) (vs : List ℤ) → Plain (curve s a vs)
 unfolding curve
-plain_curve s c vs = search (plain_pieces, plain_axis_points) depth 40
+plain_curve s a vs =
+    let path = plain_path (axis_class a) (plain_axis_class a) in
+    let end = plain_text PATH_END.now refl in
+    search (plain_append, plain_axis_points, plain_axis_marks)
 
-plain_dots : (s : Scale) (i : ℕ) (vs : List ℤ) → Plain (dots s i vs)
-unfolding dot
-plain_dots s i [] = plain_nil
-plain_dots s i (v ∷ vs) = plain_append (dot s i v) _ (search (plain_pieces, plain_element)) (plain_dots s (i + 1) vs)
-
-plain_squares : (s : Scale) (i : ℕ) (vs : List ℤ) → Plain (squares s i vs)
-unfolding square
-plain_squares s i [] = plain_nil
-plain_squares s i (v ∷ vs) = plain_append (square s i v) _ (search (plain_pieces, plain_element)) (plain_squares s (i + 1) vs)
-
-plain_curves : (s : Scale) (c : CrashPart) → Plain (curves s c)
-unfolding curves
-plain_curves s c = search (plain_pieces, plain_curve, plain_dots, plain_squares)
-
-plain_maximum : (x y : ℕ) (c : Class) (v : ℤ) → Plain (maximum_number x y c v)
+plain_maximum : (template : List ℕ) (x y : ℕ) (v : ℤ) → all_low template ≡ true → Plain (maximum_number template x y v)
 unfolding maximum_number
-plain_maximum x y c v = plain_if (int_eq v (pos 0)) _ _ plain_nil (search (plain_pieces, plain_element))
+plain_maximum template x y v low = plain_if (int_eq v (pos 0)) _ _ plain_nil (plain_filled template _ low (search plain_values))
+
+plain_diamond : (s : Scale) (e : Extreme) (class : List ℕ) → all_low class ≡ true → Plain (diamond s e class)
+plain_diamond s e class low = let text = plain_fixed class low in plain_filled DIAMOND.now _ refl (search plain_values)
 
 plain_maxima : (s : Scale) (along across : Extreme) → Plain (maxima s along across)
 unfolding maxima
-plain_maxima s along across = search (plain_pieces, plain_element, plain_maximum)
+plain_maxima s along across =
+    plain_append _ _ (plain_append _ _ (plain_append _ _ (plain_diamond s across MAX_ACROSS.now refl) (plain_diamond s along MAX_ALONG.now refl))
+    (plain_maximum ACROSS_NUMBER.now _ _ _ refl)) (plain_maximum ALONG_NUMBER.now _ _ _ refl)
 
 plain_changes_chart : (s : Scale) (c : CrashPart) → Plain (changes_chart s c)
 unfolding changes_chart
-plain_changes_chart s c = search (plain_pieces, plain_after_frame, plain_end_line, plain_curves, plain_maxima) depth 40
+plain_changes_chart s c = search (plain_append, plain_after_frame, plain_end_line, plain_curve, plain_maxima)
 
--- the rows below it
-plain_timed_row : (s : Scale) (y : ℕ) (bold : Bool) (l : Label) (t : ℕ) (w : TextWords) → Plain (timed_row s y bold l t w)
-unfolding timed_row
-plain_timed_row s y bold l t w = search (plain_nil, plain_append, plain_element)
+-- ---- the rows below it
 
-plain_restraint : (s : Scale) (y : ℕ) (l : Label) (t : Option ℕ) → Plain (restraint_row s y l t)
+plain_side : (x : ℕ) → Plain (side x)
+plain_side x = plain_if (nat_lt x FLAG_FAR_RIGHT) RIGHT_OF_FLAG.now LEFT_OF_FLAG.now (plain_fixed RIGHT_OF_FLAG.now refl) (plain_fixed LEFT_OF_FLAG.now refl)
+
+plain_timed : (template : List ℕ) (s : Scale) (y : ℕ) (label : List ℕ) (t : ℕ) (words : List ℕ) → all_low template ≡ true → Plain label → Plain words → Plain (timed_row template s y label t words)
+plain_timed template s y label t words low h k = plain_filled template _ low (search (plain_values, plain_side) depth 20)
+
+plain_restraint : (s : Scale) (row : ℕ) (label : List ℕ) (t : Option ℕ) → all_low label ≡ true → Plain (restraint_row s row label t)
 unfolding restraint_row
-plain_restraint s y l (Some t) = plain_timed_row s y true l t _
-plain_restraint s y l None = search (plain_pieces, plain_element)
+plain_restraint s row label (Some t) low = plain_timed FIRED_ROW.now s _ label t (milliseconds t) refl (plain_fixed label low) (plain_milliseconds t)
+plain_restraint s row label None low = let name = plain_fixed label low in plain_filled NOT_FIRED_ROW.now _ refl (search plain_values)
 
-plain_bag_rows : (s : Scale) (fired : List (Option ℕ)) → Plain (bag_rows s fired)
-unfolding bag_rows
-plain_bag_rows s fired = search (plain_append, plain_restraint)
-
-plain_belt_rows : (s : Scale) (fired : List (Option ℕ)) → Plain (belt_rows s fired)
-unfolding belt_rows
-plain_belt_rows s fired = search (plain_append, plain_restraint)
+plain_restraint_rows : (s : Scale) (fired : List (Option ℕ)) → Plain (restraint_rows s fired)
+unfolding restraint_rows
+plain_restraint_rows s fired =
+    plain_append _ _ (plain_append _ _ (plain_append _ _ (plain_append _ _ (plain_append _ _ (plain_append _ _ (plain_append _ _
+    (plain_restraint s 0 DRIVER_FRONTAL.now _ refl) (plain_restraint s 1 PASSENGER_FRONTAL.now _ refl)) (plain_restraint s 2 DRIVER_SIDE.now _ refl)) (plain_restraint s 3 PASSENGER_SIDE.now _ refl))
+    (plain_restraint s 4 DRIVER_CURTAIN.now _ refl)) (plain_restraint s 5 PASSENGER_CURTAIN.now _ refl)) (plain_restraint s 6 DRIVER_PRETENSIONER.now _ refl)) (plain_restraint s 7 PASSENGER_PRETENSIONER.now _ refl)
 
 plain_event_rows : (s : Scale) (c : CrashPart) → Plain (event_rows s c)
 unfolding event_rows
-plain_event_rows s c = search (plain_append, plain_timed_row)
+plain_event_rows s c =
+    let row : (y : ℕ) (label : List ℕ) (t : ℕ) (words : List ℕ) → all_low label ≡ true → Plain words → Plain (timed_row TIMED_ROW.now s y label t words) =
+    λ y label t words low h. plain_timed TIMED_ROW.now s y label t words refl (plain_fixed label low) h in
+    plain_append _ _ (plain_append _ _ (plain_append _ _
+    (row END_Y END_OF_EVENT.now c.end _ refl (plain_milliseconds c.end)) (row ALONG_Y MAX_LONGITUDINAL.now c.max_along.at _ refl (plain_extreme c.max_along.at c.max_along.kmh)))
+    (row ACROSS_Y MAX_LATERAL.now c.max_across.at _ refl (plain_extreme c.max_across.at c.max_across.kmh))) (row RESULTANT_Y MAX_RESULTANT.now c.result_at _ refl (plain_milliseconds c.result_at))
 
 plain_rows_chart : (s : Scale) (c : CrashPart) → Plain (rows_chart s c)
 unfolding rows_chart
-plain_rows_chart s c = search (plain_pieces, plain_element, plain_event_rows, plain_bag_rows, plain_belt_rows) depth 40
+plain_rows_chart s c = search (plain_append, plain_rule, plain_event_rows, plain_restraint_rows)
 
 plain_after_head : (n : ℕ) (c : CrashPart) → Plain (after_head n c)
 unfolding after_head
-plain_after_head n c = search plain_pieces depth 40
-
-plain_without_part : (n : ℕ) → Plain (without_part n)
-unfolding without_part
-plain_without_part n = search (plain_pieces, plain_element) depth 40
+plain_after_head n c = plain_filled AFTER_HEAD.now _ refl (search plain_values depth 20)
 
 pub plain_after_chart : (n : ℕ) (crash : Option CrashPart) → Plain (after_chart n crash)
 unfolding after_chart
-plain_after_chart n None = plain_without_part n
-plain_after_chart n (Some c) = search (plain_pieces, plain_after_head, plain_changes_chart, plain_rows_chart) depth 40
+plain_after_chart n None = plain_filled WITHOUT_PART.now _ refl (search plain_values)
+plain_after_chart n (Some c) =
+    let end = plain_text CHART_END.now refl in
+    search (plain_append, plain_after_head, plain_changes_chart, plain_rows_chart)

@@ -1,20 +1,14 @@
--- Texts whose bytes are all below 128, and the pieces of a page, which are such texts.
-use Rattle.std.proofs.Common.{arith, ◌≡◌, refl, ℕ, zero, suc, ◌+◌, ◌/◌, ◌%◌, ◌<◌, ltb-true, ℤ, pos, negsuc, Bool, true, false, if◌then◌else◌, nat_lt, nat_eq, List, [], ◌∷◌, ◌++◌, flat_map, decimal, All}
+-- Texts whose bytes are all below 128, and the templates of a page, which are such texts.
+use Rattle.std.proofs.Common.{arith, ◌≡◌, refl, ℕ, zero, suc, ◌+◌, ◌-◌, ◌/◌, ◌%◌, ◌<◌, ltb-true, ℤ, pos, negsuc, Bool, true, false, if◌then◌else◌, nat_lt, nat_eq, List, [], ◌∷◌, ◌++◌, flat_map, get_or, codes, decimal, All}
 use Rattle.std.specs.List.{list_all}
 use Rattle.std.specs.Fmt.{signed_decimal, digits, digits_onto, digit_glyph}
 use Rattle.std.proofs.lemmas.List.Elements.{All-nil, All-cons, All-append}
 use Rattle.std.proofs.lemmas.Bool.{and_parts}
-use Rattle.edr_drawing.specs.declared.texts.ChartText.{ChartText}
-use Rattle.edr_drawing.specs.declared.texts.ChartText.TheVariants as mark
-use Rattle.edr_drawing.specs.declared.texts.Class.{Class}
-use Rattle.edr_drawing.specs.declared.texts.Class.TheVariants as class
-use Rattle.edr_drawing.specs.declared.texts.Label.{Label}
-use Rattle.edr_drawing.specs.declared.texts.Label.TheVariants as label
-use Rattle.edr_drawing.specs.declared.tags.Tag.{Tag}
-use Rattle.edr_drawing.specs.declared.tags.Tag.TheVariants as tag
-use Rattle.edr_drawing.specs.Texts.{mark_bytes, class_bytes, label_bytes}
-use Rattle.edr_drawing.specs.Tags.{tag_bytes}
-use Rattle.edr_drawing.specs.Long.{head_text, style_text, body_text, notes_text, form_text}
+use Rattle.edr_record.specs.declared.Place.{Place}
+use Rattle.edr_record.specs.declared.Place.TheVariants.{First, Second}
+use Rattle.edr_report.specs.Words.{tenths_of}
+use Rattle.edr_drawing.specs.declared.template.TheConstants.{SECOND_AFTER}
+use Rattle.edr_drawing.specs.Template.{byte_bytes, extreme_words, filled, filled_from, fixed, milliseconds, place_words, seconds}
 use Rattle.edr_drawing.specs.Scales.{flat_map_below}
 
 -- each byte is below 128
@@ -74,58 +68,74 @@ pub plain_signed : (z : ℤ) → Plain (signed_decimal z)
 plain_signed (pos n) = plain_decimal n
 plain_signed (negsuc n) = plain_cons 45 (decimal (suc n)) (omega arith) (plain_decimal (suc n))
 
--- the fixed texts
-low_mark : (m : ChartText) → all_low (mark_bytes m) ≡ true
-unfolding mark_bytes
-low_mark mark.TextX = refl
-low_mark m = refl
+-- ---- templates
 
-low_class : (c : Class) → all_low (class_bytes c) ≡ true
-unfolding class_bytes
-low_class class.Plain = refl
-low_class c = refl
+pub plain_text : (text : List ℕ) → all_low text ≡ true → Plain (fixed text)
+unfolding fixed
+plain_text text low = plain_fixed text low
 
-low_label : (l : Label) → all_low (label_bytes l) ≡ true
-unfolding label_bytes
-low_label label.TimeInSeconds = refl
-low_label l = refl
+-- each of these texts is plain
+abbrev pub EachPlain : List (List ℕ) → Type 0
+EachPlain [] = Unit {0}
+EachPlain (x ∷ xs) = Plain x × EachPlain xs
 
-low_tag : (t : Tag) → all_low (tag_bytes t) ≡ true
-unfolding tag_bytes
-low_tag tag.BeforeChart = refl
-low_tag t = refl
+pub record AllPlain (values : List (List ℕ)) : Type 0 where
+  pub each : EachPlain values
 
-pub plain_mark : (m : ChartText) → Plain (mark_bytes m)
-plain_mark m = plain_fixed (mark_bytes m) (low_mark m)
+pub all_nil : AllPlain []
+all_nil = record { each = tt }
 
-pub plain_class : (c : Class) → Plain (class_bytes c)
-plain_class c = plain_fixed (class_bytes c) (low_class c)
+pub all_cons : (x : List ℕ) (xs : List (List ℕ)) → Plain x → AllPlain xs → AllPlain (x ∷ xs)
+all_cons x xs h k = record { each = (h, k.each) }
 
-pub plain_label : (l : Label) → Plain (label_bytes l)
-plain_label l = plain_fixed (label_bytes l) (low_label l)
+plain_value : (values : List (List ℕ)) (k : ℕ) → EachPlain values → Plain (get_or values k [])
+plain_value [] k h = plain_nil
+plain_value (x ∷ xs) zero h = h.0
+plain_value (x ∷ xs) (suc k) h = plain_value xs k h.1
 
-pub plain_tag : (t : Tag) → Plain (tag_bytes t)
-plain_tag t = plain_fixed (tag_bytes t) (low_tag t)
+plain_byte : (values : List (List ℕ)) (hole : Bool) (b : ℕ) → EachPlain values → b < 128 → Plain (byte_bytes values hole b)
+plain_byte values false b h low = plain_cons b [] low plain_nil
+plain_byte values true b h low = plain_value values (b - 48) h
 
--- what the texts of pieces are made of
-pub ruleset plain_pieces = (plain_nil, plain_append, plain_mark, plain_class, plain_label, plain_tag, plain_decimal, plain_signed)
+plain_from : (values : List (List ℕ)) (hole : Bool) (text : List ℕ) → EachPlain values → all_low text ≡ true → Plain (filled_from values hole text)
+plain_from values hole [] h low = plain_nil
+plain_from values hole (b ∷ bs) h low =
+    let parts = and_parts _ _ low in
+    plain_if (nat_eq b 123) _ _ (plain_from values true bs h parts.1)
+    (plain_if (nat_eq b 125) _ _ (plain_from values false bs h parts.1)
+    (plain_append (byte_bytes values hole b) _ (plain_byte values hole b h (ltb-true b 128 parts.0)) (plain_from values hole bs h parts.1)))
 
-pub plain_head : Plain head_text
-unfolding head_text
-plain_head = plain_fixed head_text refl
+pub plain_filled : (template : List ℕ) (values : List (List ℕ)) → all_low template ≡ true → AllPlain values → Plain (filled template values)
+unfolding filled
+plain_filled template values low h = plain_from values false template h.each low
 
-pub plain_style : Plain style_text
-unfolding style_text
-plain_style = plain_fixed style_text refl
+-- ---- what goes into their holes
 
-pub plain_body : Plain body_text
-unfolding body_text
-plain_body = plain_fixed body_text refl
+-- a fixed text before another one, and after one
+pub text_then : (t rest : List ℕ) → all_low t ≡ true → Plain rest → Plain (t ++ rest)
+text_then t rest low h = plain_append t rest (plain_fixed t low) h
 
-pub plain_notes : Plain notes_text
-unfolding notes_text
-plain_notes = plain_fixed notes_text refl
+pub then_text : (front t : List ℕ) → Plain front → all_low t ≡ true → Plain (front ++ t)
+then_text front t h low = plain_append front t h (plain_fixed t low)
 
-pub plain_form : Plain form_text
-unfolding form_text
-plain_form = plain_fixed form_text refl
+pub plain_seconds : (tenths : ℕ) → Plain (seconds tenths)
+plain_seconds tenths =
+    plain_append (decimal (tenths / 10) ++ codes ".") (decimal (tenths % 10))
+    (then_text (decimal (tenths / 10)) (codes ".") (plain_decimal (tenths / 10)) refl) (plain_decimal (tenths % 10))
+
+pub plain_place : (p : Place) → Plain (place_words p)
+plain_place First = plain_fixed (place_words First) refl
+plain_place (Second after) =
+    then_text (SECOND_AFTER.now ++ seconds (tenths_of after)) (codes " s")
+    (text_then SECOND_AFTER.now (seconds (tenths_of after)) refl (plain_seconds (tenths_of after))) refl
+
+pub plain_milliseconds : (t : ℕ) → Plain (milliseconds t)
+plain_milliseconds t = then_text (decimal t) (codes " ms") (plain_decimal t) refl
+
+pub plain_extreme : (at : ℕ) (kmh : ℤ) → Plain (extreme_words at kmh)
+plain_extreme at kmh =
+    then_text (decimal at ++ codes " ms, " ++ signed_decimal kmh) (codes " km/h")
+    (plain_append (decimal at ++ codes " ms, ") (signed_decimal kmh) (then_text (decimal at) (codes " ms, ") (plain_decimal at) refl) (plain_signed kmh)) refl
+
+-- what the values of templates are made of
+pub ruleset plain_values = (all_nil, all_cons, plain_decimal, plain_signed, plain_seconds, plain_place, plain_milliseconds, plain_extreme)

@@ -1,5 +1,5 @@
 -- The lines of a report have plain names and plain values.
-use Rattle.std.proofs.Common.{arith, ◌≡◌, refl, ℕ, ◌+◌, ◌/◌, ◌%◌, min, Bool, true, false, Option, Some, None, List, [], ◌∷◌, ◌++◌, map, take, flat_map, codes, decimal}
+use Rattle.std.proofs.Common.{arith, ◌≡◌, refl, ℕ, ◌/◌, ◌%◌, min, Bool, true, false, Option, Some, None, List, [], ◌∷◌, ◌++◌, map, take, flat_map, codes, decimal}
 use Rattle.std.specs.List.{list_all, enumerate_from}
 use Rattle.std.specs.Fmt.{signed_decimal}
 use Rattle.std.proofs.lemmas.Bool.{and_parts}
@@ -21,15 +21,9 @@ use Rattle.edr_image.specs.Reports.{Report, StartStopped, Ran}
 use Rattle.edr_report.specs.Words.{cycle_words, kind_word, ack_words, bank_words, applied_words, stop_words, none_word, yes_no, on_off, profile_word, number_or_none, switch_or_none, milliseconds, firing_words, events_in_crash, seconds, time_between, spaced_words, tenths_of, extreme_words, missing_words}
 use Rattle.edr_report.specs.Lines.{Line, line}
 use Rattle.edr_report.specs.Report.{ack_line, cycle_lines, pre_lines, crash_names, crash_words, named_lines, crash_lines, event_lines, run_lines}
+use Rattle.edr_drawing.specs.declared.tables.TheConstants.{LINE_END, LINE_NAME, LINE_VALUE, NEXT_TABLE}
 use Rattle.edr_drawing.specs.Tables.{row, line_row, begins_table}
-use Rattle.edr_drawing.proofs.PlainLemmas.{Plain, all_low, plain_nil, plain_cons, plain_append, plain_if, plain_fixed, plain_decimal, plain_signed, plain_pieces}
-
--- a fixed text before another one, and behind one
-text_then : (t rest : List ℕ) → all_low t ≡ true → Plain rest → Plain (t ++ rest)
-text_then t rest low h = plain_append t rest (plain_fixed t low) h
-
-then_text : (front t : List ℕ) → Plain front → all_low t ≡ true → Plain (front ++ t)
-then_text front t h low = plain_append front t h (plain_fixed t low)
+use Rattle.edr_drawing.proofs.PlainLemmas.{EachPlain, Plain, all_low, plain_nil, plain_cons, plain_append, plain_if, plain_fixed, plain_text, plain_decimal, plain_signed, text_then, then_text}
 
 -- ---- values
 
@@ -80,26 +74,26 @@ plain_switch : (v : Option Bool) → Plain (switch_or_none v)
 plain_switch None = plain_fixed none_word refl
 plain_switch (Some b) = plain_on_off b
 
-plain_milliseconds : (t : ℕ) → Plain (milliseconds t)
-plain_milliseconds t = then_text (decimal t) (codes " ms") (plain_decimal t) refl
+plain_ms : (t : ℕ) → Plain (milliseconds t)
+plain_ms t = then_text (decimal t) (codes " ms") (plain_decimal t) refl
 
 plain_firing : (t : Option ℕ) → Plain (firing_words t)
 plain_firing None = plain_fixed none_word refl
-plain_firing (Some t) = plain_milliseconds t
+plain_firing (Some t) = plain_ms t
 
 plain_events : (p : Place) → Plain (events_in_crash p)
 plain_events First = plain_fixed (codes "1") refl
 plain_events (Second after) = plain_fixed (codes "2") refl
 
-plain_seconds : (tenths : ℕ) → Plain (seconds tenths)
-plain_seconds tenths =
+plain_tenths : (tenths : ℕ) → Plain (seconds tenths)
+plain_tenths tenths =
     let whole = then_text (decimal (tenths / 10)) (codes ".") (plain_decimal (tenths / 10)) refl in
     let tenth = plain_append (decimal (tenths / 10) ++ codes ".") (decimal (tenths % 10)) whole (plain_decimal (tenths % 10)) in
     then_text (decimal (tenths / 10) ++ codes "." ++ decimal (tenths % 10)) (codes " s") tenth refl
 
 plain_between : (p : Place) → Plain (time_between p)
 plain_between First = plain_fixed none_word refl
-plain_between (Second after) = plain_seconds (tenths_of after)
+plain_between (Second after) = plain_tenths (tenths_of after)
 
 spaced_more : (w : List ℕ) (ws : List (List ℕ)) → Plain w → Plain (spaced_words ws) → Plain (spaced_words (w ∷ ws))
 spaced_more w [] h k = h
@@ -112,7 +106,7 @@ plain_spaced f h (x ∷ xs) = spaced_more (f x) (map f xs) (h x) (plain_spaced f
 plain_extreme : (x : Extreme) → Plain (extreme_words x)
 plain_extreme x =
     let change = then_text (signed_decimal x.kmh) (codes " km/h at ") (plain_signed x.kmh) refl in
-    plain_append (signed_decimal x.kmh ++ codes " km/h at ") (milliseconds x.at) change (plain_milliseconds x.at)
+    plain_append (signed_decimal x.kmh ++ codes " km/h at ") (milliseconds x.at) change (plain_ms x.at)
 
 plain_missing : (along across : ℕ) → Plain (missing_words along across)
 plain_missing along across =
@@ -135,20 +129,15 @@ lines_flat_map : {X : Type 0} (f : X → List Line) → ((x : X) → PlainLines 
 lines_flat_map f h [] = tt
 lines_flat_map f h (x ∷ xs) = lines_append (f x) (flat_map f xs) (h x) (lines_flat_map f h xs)
 
--- each of these texts is plain
-abbrev AllPlain : List (List ℕ) → Type 0
-AllPlain [] = Unit {0}
-AllPlain (x ∷ xs) = Plain x × AllPlain xs
-
-all_fixed : (xs : List (List ℕ)) → list_all all_low xs ≡ true → AllPlain xs
+all_fixed : (xs : List (List ℕ)) → list_all all_low xs ≡ true → EachPlain xs
 all_fixed [] e = tt
 all_fixed (x ∷ xs) e = (plain_fixed x (and_parts _ _ e).0, all_fixed xs (and_parts _ _ e).1)
 
-all_map : {X : Type 0} (f : X → List ℕ) → ((x : X) → Plain (f x)) → (xs : List X) → AllPlain (map f xs)
+all_map : {X : Type 0} (f : X → List ℕ) → ((x : X) → Plain (f x)) → (xs : List X) → EachPlain (map f xs)
 all_map f h [] = tt
 all_map f h (x ∷ xs) = (h x, all_map f h xs)
 
-lines_named : (block : ℕ) (names values : List (List ℕ)) → AllPlain names → AllPlain values → PlainLines (named_lines block names values)
+lines_named : (block : ℕ) (names values : List (List ℕ)) → EachPlain names → EachPlain values → PlainLines (named_lines block names values)
 lines_named block names [] h k = tt
 lines_named block [] (v ∷ values) h k = tt
 lines_named block (n ∷ names) (v ∷ values) h k = (h.0, k.0, lines_named block names values h.1 k.1)
@@ -174,7 +163,7 @@ lines_pre block p locked = (
   plain_decimal (min p.key.cycle 60_000),
   (
     plain_fixed (codes "time zero") refl,
-    plain_milliseconds p.key.zero,
+    plain_ms p.key.zero,
     (
       plain_fixed (codes "multi-event, number of events") refl,
       plain_events p.place,
@@ -211,10 +200,10 @@ lines_pre block p locked = (
   ),
 )
 
-all_crash : (crash : Option CrashPart) → AllPlain (crash_words crash)
+all_crash : (crash : Option CrashPart) → EachPlain (crash_words crash)
 all_crash None = all_fixed (crash_words None) refl
 all_crash (Some c) = (
-  plain_milliseconds c.end,
+  plain_ms c.end,
   (
     plain_spaced signed_decimal plain_signed (take (point_count c.end) c.along),
     (
@@ -224,7 +213,7 @@ all_crash (Some c) = (
         (
           plain_extreme c.max_across,
           (
-            plain_milliseconds c.result_at,
+            plain_ms c.result_at,
             (plain_missing c.missing_along c.missing_across, all_map firing_words plain_firing c.fired),
           ),
         ),
@@ -255,12 +244,15 @@ lines_event n bank r =
 -- ---- their rows
 
 name_and_value : (name value : List ℕ) → Plain name → Plain value → Plain (row name value)
-name_and_value name value h k = search plain_pieces depth 20
+name_and_value name value h k =
+    let start = plain_text LINE_NAME.now refl in
+    let between = plain_text LINE_VALUE.now refl in
+    let end = plain_text LINE_END.now refl in
+    search plain_append
 
 plain_row : (l : Line) → Plain l.name → Plain l.value → Plain (line_row l)
 plain_row l h k =
-    let begins = plain_if (begins_table l.name) _ _ (search plain_pieces) plain_nil in
-    plain_append _ (row l.name l.value) begins (name_and_value l.name l.value h k)
+    plain_append _ (row l.name l.value) (plain_if (begins_table l.name) _ _ (plain_text NEXT_TABLE.now refl) plain_nil) (name_and_value l.name l.value h k)
 
 plain_rows : (ls : List Line) → PlainLines ls → Plain (flat_map line_row ls)
 plain_rows [] h = plain_nil

@@ -1,24 +1,29 @@
 -- The sheets of a page have plain texts.
-use Rattle.std.proofs.Common.{arith, ℕ, ◌+◌, ◌-◌, ◌/◌, ◌%◌, ◌<◌, ℤ, Bool, true, false, if◌then◌else◌, nat_lt, nat_eq, Option, Some, None, List, [], ◌∷◌, flat_map, All}
+use Rattle.std.proofs.Common.{arith, ◌≡◌, refl, ℕ, ◌+◌, ◌-◌, ◌/◌, ◌%◌, ◌<◌, ℤ, Bool, true, false, if◌then◌else◌, nat_lt, nat_eq, Option, Some, None, List, [], ◌∷◌, take, All}
 use Rattle.std.proofs.lemmas.List.Elements.{All-head, All-tail}
 use Rattle.edr_record.specs.declared.Key.{Key}
 use Rattle.edr_record.specs.declared.Place.{Place}
-use Rattle.edr_record.specs.declared.Place.TheVariants.{First, Second}
 use Rattle.edr_record.specs.declared.Profile.{Profile}
+use Rattle.edr_record.specs.declared.Profile.TheVariants.{Short, Long}
 use Rattle.edr_record.specs.declared.Record.{Record}
 use Rattle.edr_record.specs.Parts.{PrePart, CrashPart}
+use Rattle.edr_record.specs.Bounds.{point_count}
 use Rattle.edr_record.specs.Complete.{is_complete}
 use Rattle.edr_image.specs.declared.BankView.{BankView}
 use Rattle.edr_image.specs.declared.BankView.TheVariants.{Void, Event, Damaged}
 use Rattle.edr_image.specs.declared.Found.{Found}
 use Rattle.edr_image.specs.Reports.{Report}
-use Rattle.edr_drawing.specs.declared.tags.Tag.{Tag}
-use Rattle.edr_drawing.specs.Reasons.{slots_reason, switch_reason, pre_reasons, ticks_reason, crash_reasons, reasons}
-use Rattle.edr_drawing.specs.Tables.{time_cell, time_cells, change_cell, points_table, elements_table, run_table}
-use Rattle.edr_drawing.specs.Sheets.{place_words, hex_digit, hex_byte, digest_hex, sheet_head, facts, sheet_foot, sheet, sheet_if, sheets, count_if}
-use Rattle.edr_drawing.specs.Cover.{extreme_cells, event_row, event_row_if, event_rows, events_in, events_table, damaged_item, damaged_items, damaged_in, damaged_list, cover_head, cover_foot, cover}
+use Rattle.edr_drawing.specs.declared.cover.TheConstants.{DAMAGED_BANK, DAMAGED_START, EVENT_END, EVENT_ROW, EVENTS_START, FIRST_FOOT, FIRST_SHEET, GREATEST, NO_GREATEST}
+use Rattle.edr_drawing.specs.declared.long.TheConstants.{BODY, FORM, HEAD, NOTES, PAGE_END, STYLE}
+use Rattle.edr_drawing.specs.declared.reasons.TheConstants.{ACROSS_ABSENT, ALONG_ABSENT, BELT, BRAKE_ABSENT, LIST_END, PART_ABSENT, REASONS_START, SPEED_ABSENT, SWITCH_ABSENT, THROTTLE_ABSENT, WARNING_LAMP}
+use Rattle.edr_drawing.specs.declared.sheets.TheConstants.{FACTS, FOOT_END, SHEET_FOOT, SHEET_HEAD}
+use Rattle.edr_drawing.specs.declared.tables.TheConstants.{ACROSS_ROW, ALONG_ROW, CELL, ELEMENTS_END, ELEMENTS_START, POINT_TIME, POINTS_BODY, POINTS_START, ROW_END, RUN_START, TABLE_END}
+use Rattle.edr_drawing.specs.Reasons.{share_reason, switch_reason, pre_reasons, crash_reasons, reasons}
+use Rattle.edr_drawing.specs.Tables.{time_cell, time_cells, change_cell, change_row, points_table, elements_table, run_table}
+use Rattle.edr_drawing.specs.Sheets.{yes_no, profile_word, hex_digit, hex_byte, digest_hex, sheet_head, facts, sheet_foot, sheet, sheet_if, sheets, count_if}
+use Rattle.edr_drawing.specs.Cover.{extreme_cells, event_row, event_row_if, event_rows, events_in, events_table, mark_word, damaged_item, damaged_items, damaged_in, damaged_list, cover_head, cover_foot, cover}
 use Rattle.edr_drawing.specs.Page.{page_bytes}
-use Rattle.edr_drawing.proofs.PlainLemmas.{Plain, plain_nil, plain_cons, plain_append, plain_if, plain_flat_map, plain_counted, plain_pieces, plain_head, plain_style, plain_body, plain_notes, plain_form}
+use Rattle.edr_drawing.proofs.PlainLemmas.{Plain, all_low, plain_nil, plain_cons, plain_append, plain_if, plain_fixed, plain_flat_map, plain_counted, plain_text, plain_filled, plain_values}
 use Rattle.edr_drawing.proofs.PlainChartLemmas.{plain_before_chart, plain_after_chart}
 use Rattle.edr_drawing.proofs.PlainLineLemmas.{plain_event_lines, plain_run_lines}
 
@@ -39,69 +44,83 @@ plain_digest (b ∷ bs) small =
     (plain_digest bs (All-tail (λ b. b < 256) b bs small))
 
 -- why a record isn't complete
-plain_slots : (t : Tag) (absent count : ℕ) → Plain (slots_reason t absent count)
-unfolding slots_reason
-plain_slots t absent count = plain_if (nat_eq absent 0) _ _ plain_nil (search plain_pieces depth 20)
+plain_share : (template : List ℕ) (absent count : ℕ) → all_low template ≡ true → Plain (share_reason template absent count)
+unfolding share_reason
+plain_share template absent count low = plain_if (nat_eq absent 0) _ _ plain_nil (plain_filled template _ low (search plain_values))
 
-plain_switch_reason : (t : Tag) (v : Option Bool) → Plain (switch_reason t v)
+plain_switch_reason : (label : List ℕ) (v : Option Bool) → all_low label ≡ true → Plain (switch_reason label v)
 unfolding switch_reason
-plain_switch_reason t (Some v) = plain_nil
-plain_switch_reason t None = search plain_pieces
+plain_switch_reason label (Some v) low = plain_nil
+plain_switch_reason label None low = let text = plain_fixed label low in plain_filled SWITCH_ABSENT.now _ refl (search plain_values)
 
 plain_pre_reasons : (p : PrePart) → Plain (pre_reasons p)
 unfolding pre_reasons
-plain_pre_reasons p = search (plain_append, plain_slots, plain_switch_reason) depth 20
-
-plain_ticks : (t : Tag) (missing w : ℕ) → Plain (ticks_reason t missing w)
-unfolding ticks_reason
-plain_ticks t missing w = plain_if (nat_eq missing 0) _ _ plain_nil (search plain_pieces depth 20)
+plain_pre_reasons p =
+    plain_append _ _ (plain_append _ _ (plain_append _ _ (plain_append _ _
+    (plain_share SPEED_ABSENT.now _ _ refl) (plain_share THROTTLE_ABSENT.now _ _ refl)) (plain_share BRAKE_ABSENT.now _ _ refl))
+    (plain_switch_reason BELT.now p.belt refl)) (plain_switch_reason WARNING_LAMP.now p.lamp refl)
 
 plain_crash_reasons : (crash : Option CrashPart) → Plain (crash_reasons crash)
 unfolding crash_reasons
-plain_crash_reasons None = search plain_pieces
-plain_crash_reasons (Some c) = search (plain_append, plain_ticks)
+plain_crash_reasons None = plain_text PART_ABSENT.now refl
+plain_crash_reasons (Some c) = plain_append _ _ (plain_share ALONG_ABSENT.now _ _ refl) (plain_share ACROSS_ABSENT.now _ _ refl)
 
 plain_reasons : (r : Record) → Plain (reasons r)
 unfolding reasons
-plain_reasons r = plain_if (is_complete r) _ _ plain_nil (search (plain_pieces, plain_pre_reasons, plain_crash_reasons) depth 20)
+plain_reasons r =
+    let start = plain_text REASONS_START.now refl in
+    let end = plain_text LIST_END.now refl in
+    plain_if (is_complete r) _ _ plain_nil (search (plain_append, plain_pre_reasons, plain_crash_reasons))
 
 -- tables
 plain_times : (count : ℕ) → Plain (time_cells count)
-plain_times count = plain_counted time_cell (λ i. search plain_pieces depth 20) count
+plain_times count = plain_counted time_cell (λ i. plain_filled POINT_TIME.now _ refl (search plain_values)) count
 
-plain_changes : (vs : List ℤ) → Plain (flat_map change_cell vs)
-plain_changes vs = plain_flat_map change_cell (λ v. search plain_pieces depth 20) vs
+plain_change_row : (start : List ℕ) (vs : List ℤ) → all_low start ≡ true → Plain (change_row start vs)
+plain_change_row start vs low =
+    let cells = plain_flat_map change_cell (λ v. plain_filled CELL.now _ refl (search plain_values)) vs in
+    plain_append _ _ (plain_append _ _ (plain_text start low) cells) (plain_text ROW_END.now refl)
 
 plain_points_table : (crash : Option CrashPart) → Plain (points_table crash)
 unfolding points_table
 plain_points_table None = plain_nil
-plain_points_table (Some c) = search (plain_pieces, plain_times, plain_changes) depth 40
+plain_points_table (Some c) =
+    plain_append _ _ (plain_append _ _ (plain_append _ _ (plain_append _ _ (plain_append _ _
+    (plain_text POINTS_START.now refl) (plain_times (point_count c.end))) (plain_text POINTS_BODY.now refl))
+    (plain_change_row ALONG_ROW.now (take (point_count c.end) c.along) refl)) (plain_change_row ACROSS_ROW.now (take (point_count c.end) c.across) refl)) (plain_text TABLE_END.now refl)
 
 plain_elements : (n bank : ℕ) (r : Record) → Plain (elements_table n bank r)
 unfolding elements_table
-plain_elements n bank r = search (plain_pieces, plain_event_lines) depth 20
+plain_elements n bank r =
+    plain_append _ _ (plain_append _ _ (plain_text ELEMENTS_START.now refl) (plain_event_lines n bank r)) (plain_text ELEMENTS_END.now refl)
 
 plain_run : (reports : List Report) → Plain (run_table reports)
 unfolding run_table
 plain_run [] = plain_nil
-plain_run (r ∷ rs) = let lines = plain_run_lines (r ∷ rs) in search plain_pieces depth 20
+plain_run (r ∷ rs) =
+    plain_append _ _ (plain_append _ _ (plain_text RUN_START.now refl) (plain_run_lines (r ∷ rs))) (plain_text TABLE_END.now refl)
 
 -- the sheet of an event
-plain_place : (p : Place) → Plain (place_words p)
-plain_place First = search plain_pieces
-plain_place (Second after) = search plain_pieces depth 20
+plain_yes_no : (b : Bool) → Plain (yes_no b)
+plain_yes_no true = plain_fixed (yes_no true) refl
+plain_yes_no false = plain_fixed (yes_no false) refl
+
+plain_profile : (f : Profile) → Plain (profile_word f)
+plain_profile Short = plain_fixed (profile_word Short) refl
+plain_profile Long = plain_fixed (profile_word Long) refl
 
 plain_sheet_head : (n : ℕ) (complete : Bool) → Plain (sheet_head n complete)
 unfolding sheet_head
-plain_sheet_head n complete = search plain_pieces depth 40
+plain_sheet_head n complete = plain_filled SHEET_HEAD.now _ refl (search (plain_values, plain_yes_no))
 
 plain_facts : (bank : ℕ) (key : Key) (locked : Bool) (f : Profile) (place : Place) → Plain (facts bank key locked f place)
 unfolding facts
-plain_facts bank key locked f place = search (plain_pieces, plain_place) depth 40
+plain_facts bank key locked f place = plain_filled FACTS.now _ refl (search (plain_values, plain_yes_no, plain_profile) depth 20)
 
 plain_sheet_foot : (n : ℕ) (digest : List ℕ) → All (λ b. b < 256) digest → Plain (sheet_foot n digest)
 unfolding sheet_foot
-plain_sheet_foot n digest small = let hex = plain_digest digest small in search plain_pieces depth 20
+plain_sheet_foot n digest small =
+    plain_append _ _ (plain_append _ _ (plain_filled SHEET_FOOT.now _ refl (search plain_values)) (plain_digest digest small)) (plain_text FOOT_END.now refl)
 
 plain_sheet : (n bank : ℕ) (r : Record) (digest : List ℕ) → All (λ b. b < 256) digest → Plain (sheet n bank r digest)
 unfolding sheet
@@ -124,12 +143,14 @@ plain_sheets n (f ∷ fs) digest small =
 -- the first sheet
 plain_extreme_cells : (crash : Option CrashPart) → Plain (extreme_cells crash)
 unfolding extreme_cells
-plain_extreme_cells None = search plain_pieces depth 20
-plain_extreme_cells (Some c) = search plain_pieces depth 40
+plain_extreme_cells None = plain_text NO_GREATEST.now refl
+plain_extreme_cells (Some c) = plain_filled GREATEST.now _ refl (search plain_values)
 
 plain_event_row : (n bank : ℕ) (r : Record) → Plain (event_row n bank r)
 unfolding event_row
-plain_event_row n bank r = search (plain_pieces, plain_place, plain_extreme_cells) depth 40
+plain_event_row n bank r =
+    plain_append _ _ (plain_append _ _ (plain_filled EVENT_ROW.now _ refl (search (plain_values, plain_yes_no) depth 20)) (plain_extreme_cells r.crash))
+    (plain_filled EVENT_END.now _ refl (search (plain_values, plain_yes_no)))
 
 plain_event_row_if : (n bank : ℕ) (view : BankView) → Plain (event_row_if n bank view)
 plain_event_row_if n bank Void = plain_nil
@@ -144,39 +165,50 @@ plain_event_rows n (f ∷ fs) =
 
 plain_events_table : (found : List Found) → Plain (events_table found)
 unfolding events_table
-plain_events_table found = plain_if (nat_eq (events_in found) 0) _ _ plain_nil (search (plain_pieces, plain_event_rows) depth 20)
+plain_events_table found =
+    plain_if (nat_eq (events_in found) 0) _ _ plain_nil
+    (plain_append _ _ (plain_append _ _ (plain_text EVENTS_START.now refl) (plain_event_rows 1 found)) (plain_text TABLE_END.now refl))
+
+plain_mark_word : (b : Bool) → Plain (mark_word b)
+plain_mark_word true = plain_fixed (mark_word true) refl
+plain_mark_word false = plain_fixed (mark_word false) refl
 
 plain_damaged : (bank : ℕ) (view : BankView) → Plain (damaged_item bank view)
 plain_damaged bank Void = plain_nil
 plain_damaged bank (Event r) = plain_nil
-plain_damaged bank (Damaged o x l) = search plain_pieces depth 40
+plain_damaged bank (Damaged o x l) = plain_filled DAMAGED_BANK.now _ refl (search (plain_values, plain_mark_word))
 
 plain_damaged_items : (found : List Found) → Plain (damaged_items found)
 plain_damaged_items found = plain_flat_map (λ f. damaged_item f.bank f.view) (λ f. plain_damaged f.bank f.view) found
 
 plain_damaged_list : (found : List Found) → Plain (damaged_list found)
 unfolding damaged_list
-plain_damaged_list found = plain_if (nat_eq (damaged_in found) 0) _ _ plain_nil (search (plain_pieces, plain_damaged_items) depth 20)
+plain_damaged_list found =
+    plain_if (nat_eq (damaged_in found) 0) _ _ plain_nil
+    (plain_append _ _ (plain_append _ _ (plain_text DAMAGED_START.now refl) (plain_damaged_items found)) (plain_text LIST_END.now refl))
 
 plain_cover_head : (found : List Found) (count : ℕ) → Plain (cover_head found count)
 unfolding cover_head
-plain_cover_head found count = search plain_pieces depth 40
+plain_cover_head found count = plain_filled FIRST_SHEET.now _ refl (search plain_values)
 
 plain_cover_foot : (size : ℕ) (digest : List ℕ) → All (λ b. b < 256) digest → Plain (cover_foot size digest)
 unfolding cover_foot
-plain_cover_foot size digest small = let hex = plain_digest digest small in search plain_pieces depth 20
+plain_cover_foot size digest small =
+    plain_append _ _ (plain_append _ _ (plain_filled FIRST_FOOT.now _ refl (search plain_values)) (plain_digest digest small)) (plain_text FOOT_END.now refl)
 
 plain_cover : (reports : List Report) (found : List Found) (count size : ℕ) (digest : List ℕ) → All (λ b. b < 256) digest → Plain (cover reports found count size digest)
 unfolding cover
 plain_cover reports found count size digest small =
     let foot = plain_cover_foot size digest small in
-    search (plain_append, plain_cover_head, plain_events_table, plain_damaged_list, plain_run, plain_notes, plain_form) depth 20
+    let notes = plain_text NOTES.now refl in
+    let form = plain_text FORM.now refl in
+    search (plain_append, plain_cover_head, plain_events_table, plain_damaged_list, plain_run) depth 20
 
 -- the whole page
 pub plain_page : (reports : List Report) (found : List Found) (count size : ℕ) (digest : List ℕ) → All (λ b. b < 256) digest →
     Plain (page_bytes reports found count size digest)
 unfolding page_bytes
 plain_page reports found count size digest small =
-    let first = plain_cover reports found count size digest small in
-    let rest = plain_sheets 1 found digest small in
-    search (plain_pieces, plain_head, plain_style, plain_body) depth 20
+    let front = plain_append _ _ (plain_append _ _ (plain_text HEAD.now refl) (plain_text STYLE.now refl)) (plain_text BODY.now refl) in
+    plain_append _ _ (plain_append _ _ (plain_append _ _ front (plain_cover reports found count size digest small)) (plain_sheets 1 found digest small))
+    (plain_text PAGE_END.now refl)

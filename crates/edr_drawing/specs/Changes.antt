@@ -3,6 +3,8 @@ use Rattle.std.specs.Prelude.{◌≤◌, ℕ, ◌+◌, ◌*◌, ◌/◌, max, �
 use Rattle.std.specs.List.{list_all}
 use Rattle.edr_record.specs.Parts.{CrashPart}
 use Rattle.edr_drawing.specs.declared.changes.Scale.{Scale}
+use Rattle.edr_drawing.specs.declared.changes.TheConstants.{CHANGE_LINES, CHANGE_STEPS, EARLY_SPAN, LAST_CHANGE_STEP, WHOLE_SPAN}
+use Rattle.edr_drawing.specs.declared.scales.TheConstants.{BELOW_TOP, HEIGHT, LEFT, WIDTH}
 use Rattle.edr_drawing.specs.Scales.{rise_of, fall_of, below_top, least_step, scale_top}
 
 -- how far points reach above 0, and how far below
@@ -21,17 +23,17 @@ reach_up c = max (max (max (highest c.along) (highest c.across)) (rise_of c.max_
 abbrev pub reach_down : CrashPart → ℕ
 reach_down c = max (max (max (lowest c.along) (lowest c.across)) (fall_of c.max_along.kmh)) (fall_of c.max_across.kmh)
 
--- the last time across: 300 ms where the end and all firings are at most that, else 500
+-- the last time across: the early one where the end and all firings are at most that
 abbrev pub is_early : Option ℕ → Bool
-is_early (Some t) = nat_le t 300
+is_early (Some t) = nat_le t EARLY_SPAN
 is_early None = true
 
 abbrev pub span_of : CrashPart → ℕ
-span_of c = if nat_le c.end 300 && list_all is_early c.fired then 300 else 500
+span_of c = if nat_le c.end EARLY_SPAN && list_all is_early c.fired then EARLY_SPAN else WHOLE_SPAN
 
 -- the step between the lines
 abbrev pub step_of : ℕ → ℕ → ℕ
-step_of up down = least_step (5 ∷ 10 ∷ 20 ∷ 50 ∷ 100 ∷ 200 ∷ 500 ∷ []) 1_000 8 up down
+step_of up down = least_step CHANGE_STEPS LAST_CHANGE_STEP CHANGE_LINES up down
 
 -- one step both ways where nothing changes
 abbrev pub part_of : Bool → ℕ → ℕ → ℕ
@@ -50,11 +52,11 @@ scale_of c = scale_with (reach_up c) (reach_down c) (span_of c)
 
 -- up: a change of speed between the top of its scale and as much below 0 as the bottom says
 abbrev pub change_y : Scale → ℤ → ℕ
-change_y s v = 80 + below_top s.top v * 370 / (s.top + s.bottom)
+change_y s v = BELOW_TOP + below_top s.top v * HEIGHT / (s.top + s.bottom)
 
 -- across: a time in milliseconds
 abbrev pub time_x : Scale → ℕ → ℕ
-time_x s t = 330 + t * (1_500 / s.span)
+time_x s t = LEFT + t * (WIDTH / s.span)
 
 -- what the scale of a crash part keeps to: a step, no reach that a chart can't have, some room up, and a span across
 pub record IsScale (s : Scale) : Type 0 where

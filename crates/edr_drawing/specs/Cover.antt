@@ -1,5 +1,6 @@
 -- The first sheet of a page.
-use Rattle.std.specs.Prelude.{ℕ, ◌+◌, if◌then◌else◌, nat_eq, Option, Some, None, List, [], ◌∷◌, ◌++◌, flat_map}
+use Rattle.std.specs.Prelude.{ℕ, ◌+◌, Bool, if◌then◌else◌, nat_eq, Option, Some, None, List, [], ◌∷◌, ◌++◌, flat_map, decimal}
+use Rattle.std.specs.Fmt.{signed_decimal}
 use Rattle.edr_record.specs.declared.Record.{Record}
 use Rattle.edr_record.specs.Parts.{CrashPart}
 use Rattle.edr_record.specs.Complete.{is_complete}
@@ -8,11 +9,13 @@ use Rattle.edr_image.specs.declared.BankView.TheVariants.{Void, Event, Damaged}
 use Rattle.edr_image.specs.declared.Found.{Found}
 use Rattle.edr_image.specs.Reports.{Report}
 use Rattle.edr_report.specs.Words.{number_shown}
-use Rattle.edr_drawing.specs.declared.pieces.Piece.TheVariants as piece
-use Rattle.edr_drawing.specs.declared.tags.Tag.TheVariants as tag
-use Rattle.edr_drawing.specs.Pieces.{pieces}
-use Rattle.edr_drawing.specs.Long.{notes_text, form_text}
-use Rattle.edr_drawing.specs.Sheets.{yes_no, place_words, digest_hex, count_if}
+use Rattle.edr_drawing.specs.declared.cover.TheConstants.{DAMAGED_BANK, DAMAGED_START, EVENT_END, EVENT_ROW, EVENTS_START, FIRST_FOOT, FIRST_SHEET, GREATEST, NO_GREATEST, NOT_SET, SET}
+use Rattle.edr_drawing.specs.declared.long.TheConstants.{FORM, NOTES}
+use Rattle.edr_drawing.specs.declared.reasons.TheConstants.{LIST_END}
+use Rattle.edr_drawing.specs.declared.sheets.TheConstants.{FOOT_END}
+use Rattle.edr_drawing.specs.declared.tables.TheConstants.{TABLE_END}
+use Rattle.edr_drawing.specs.Template.{filled, fixed, place_words}
+use Rattle.edr_drawing.specs.Sheets.{yes_no, digest_hex, count_if}
 use Rattle.edr_drawing.specs.Tables.{run_table}
 
 -- how many events were found, and how many damaged banks
@@ -33,40 +36,28 @@ damaged_in (f ∷ fs) = is_damaged f.view + damaged_in fs
 
 -- the cells of the greatest changes, or that there are none
 unfoldable pub extreme_cells : Option CrashPart → List ℕ
-extreme_cells None =
-    pieces (piece.Tag tag.NotThere ∷ piece.Tag tag.NextCell ∷ piece.Tag tag.NotThere ∷ piece.Tag tag.NextCell ∷ [])
+extreme_cells None = fixed NO_GREATEST.now
 extreme_cells (Some c) =
-    pieces
-    (piece.Change c.max_along.kmh
-    ∷ piece.Tag tag.KmhAt
-    ∷ piece.Number c.max_along.at
-    ∷ piece.Tag tag.MillisecondsNext
-    ∷ piece.Change c.max_across.kmh
-    ∷ piece.Tag tag.KmhAt
-    ∷ piece.Number c.max_across.at
-    ∷ piece.Tag tag.MillisecondsNext
+    filled GREATEST.now
+    (signed_decimal c.max_along.kmh
+    ∷ decimal c.max_along.at
+    ∷ signed_decimal c.max_across.kmh
+    ∷ decimal c.max_across.at
     ∷ [])
 
 -- the row of event n, which this bank holds
 unfoldable pub event_row : ℕ → ℕ → Record → List ℕ
 event_row n bank r =
-    pieces
-    (piece.Tag tag.EventLink
-    ∷ piece.Count n
-    ∷ piece.Tag tag.EventNumber
-    ∷ piece.Count n
-    ∷ piece.Tag tag.EventBank
-    ∷ piece.Number bank
-    ∷ piece.Tag tag.NextCell
-    ∷ piece.Number (number_shown r.pre.key.cycle)
-    ∷ piece.Tag tag.NextCell
-    ∷ piece.Number r.pre.key.zero
-    ∷ piece.Tag tag.MillisecondsNext
+    filled EVENT_ROW.now
+    (decimal n
+    ∷ decimal bank
+    ∷ decimal (number_shown r.pre.key.cycle)
+    ∷ decimal r.pre.key.zero
+    ∷ place_words r.pre.place
+    ∷ yes_no r.locked
     ∷ [])
-    ++ place_words r.pre.place
-    ++ pieces (piece.Tag tag.NextCell ∷ piece.Tag (yes_no r.locked) ∷ piece.Tag tag.NextCell ∷ [])
     ++ extreme_cells r.crash
-    ++ pieces (piece.Tag (yes_no (is_complete r)) ∷ piece.Tag tag.LineEnd ∷ [])
+    ++ filled EVENT_END.now (yes_no (is_complete r) ∷ [])
 
 abbrev pub event_row_if : ℕ → ℕ → BankView → List ℕ
 event_row_if n bank Void = []
@@ -83,25 +74,19 @@ unfoldable pub events_table : List Found → List ℕ
 events_table found =
     if nat_eq (events_in found) 0
     then []
-    else pieces (piece.Tag tag.EventsStart ∷ []) ++ event_rows 1 found ++ pieces (piece.Tag tag.TableEnd ∷ [])
+    else fixed EVENTS_START.now ++ event_rows 1 found ++ fixed TABLE_END.now
 
 -- ---- the list of damaged banks
+
+-- whether the mark of a locked record is set
+abbrev pub mark_word : Bool → List ℕ
+mark_word locked = if locked then SET.now else NOT_SET.now
 
 -- the item of a bank, if it is damaged
 abbrev pub damaged_item : ℕ → BankView → List ℕ
 damaged_item bank Void = []
 damaged_item bank (Event r) = []
-damaged_item bank (Damaged o x l) =
-    pieces
-    (piece.Tag tag.DamagedBank
-    ∷ piece.Number bank
-    ∷ piece.Tag tag.DamagedAt
-    ∷ piece.Number o
-    ∷ piece.Tag tag.DamagedFound
-    ∷ piece.Number x
-    ∷ piece.Tag tag.DamagedMark
-    ∷ piece.Tag (if l then tag.MarkSet else tag.MarkNotSet)
-    ∷ [])
+damaged_item bank (Damaged o x l) = filled DAMAGED_BANK.now (decimal bank ∷ decimal o ∷ decimal x ∷ mark_word l ∷ [])
 
 abbrev pub damaged_items : List Found → List ℕ
 damaged_items found = flat_map (λ f. damaged_item f.bank f.view) found
@@ -111,27 +96,17 @@ unfoldable pub damaged_list : List Found → List ℕ
 damaged_list found =
     if nat_eq (damaged_in found) 0
     then []
-    else pieces (piece.Tag tag.DamagedStart ∷ []) ++ damaged_items found ++ pieces (piece.Tag tag.ReasonsEnd ∷ [])
+    else fixed DAMAGED_START.now ++ damaged_items found ++ fixed LIST_END.now
 
 -- ---- the whole sheet
 
 unfoldable pub cover_head : List Found → ℕ → List ℕ
 cover_head found count =
-    pieces
-    (piece.Tag tag.FirstSheet
-    ∷ piece.Count (events_in found)
-    ∷ piece.Tag tag.DamagedCount
-    ∷ piece.Count (damaged_in found)
-    ∷ piece.Tag tag.DownloadCount
-    ∷ piece.Number (number_shown count)
-    ∷ piece.Tag tag.FactsEnd
-    ∷ [])
+    filled FIRST_SHEET.now
+    (decimal (events_in found) ∷ decimal (damaged_in found) ∷ decimal (number_shown count) ∷ [])
 
 unfoldable pub cover_foot : ℕ → List ℕ → List ℕ
-cover_foot size digest =
-    pieces (piece.Tag tag.FirstFoot ∷ piece.Number size ∷ piece.Tag tag.FirstDigest ∷ [])
-    ++ digest_hex digest
-    ++ pieces (piece.Tag tag.FootEnd ∷ [])
+cover_foot size digest = filled FIRST_FOOT.now (decimal size ∷ []) ++ digest_hex digest ++ fixed FOOT_END.now
 
 -- the first sheet: what was found, how to read the pages, and fields that are filled in by hand
 unfoldable pub cover : List Report → List Found → ℕ → ℕ → List ℕ → List ℕ
@@ -140,6 +115,6 @@ cover reports found count size digest =
     ++ events_table found
     ++ damaged_list found
     ++ run_table reports
-    ++ notes_text
-    ++ form_text
+    ++ fixed NOTES.now
+    ++ fixed FORM.now
     ++ cover_foot size digest

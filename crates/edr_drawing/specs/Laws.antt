@@ -5,11 +5,11 @@ use Rattle.edr_record.specs.declared.Profile.TheVariants.{Short, Long}
 use Rattle.edr_image.specs.declared.Found.{Found}
 use Rattle.edr_image.specs.Reports.{Report}
 use Rattle.edr_report.specs.Lines.{Line}
-use Rattle.edr_drawing.specs.declared.elements.Element.{Element}
-use Rattle.edr_drawing.specs.declared.elements.Element.TheVariants as element
+use Rattle.edr_drawing.specs.declared.shapes.Shape.{Shape}
+use Rattle.edr_drawing.specs.declared.shapes.Shape.TheVariants as shape
 use Rattle.edr_drawing.specs.declared.lanes.ChartLane.{ChartLane}
 use Rattle.edr_drawing.specs.declared.changes.Scale.{Scale}
-use Rattle.edr_drawing.specs.Elements.{elements_bytes}
+use Rattle.edr_drawing.specs.Shapes.{shapes_bytes}
 use Rattle.edr_drawing.specs.Scales.{slot_x}
 use Rattle.edr_drawing.specs.Lanes.{lane_y, point}
 use Rattle.edr_drawing.specs.Changes.{change_y}
@@ -37,23 +37,21 @@ present k (None ∷ vs) = present (k + 1) vs
 present k (Some v ∷ vs) = (k, v) ∷ present (k + 1) vs
 
 -- the mark of a slot that is there
-abbrev pub mark_of : Profile → ChartLane → ℕ × ℕ → Element
-mark_of Short l e = element.Dot (slot_x Short e.0) (lane_y l e.1)
-mark_of Long l e = element.Point (slot_x Long e.0) (lane_y l e.1)
+abbrev pub mark_of : Profile → ChartLane → ℕ × ℕ → Shape
+mark_of Short l e = shape.Dot (slot_x Short e.0) (lane_y l e.1)
+mark_of Long l e = shape.Point (slot_x Long e.0) (lane_y l e.1)
 
-abbrev pub is_mark : Element → Bool
-is_mark (element.Text x y c w) = false
-is_mark (element.Line x y u v c) = false
-is_mark (element.Rect x y w h c) = false
-is_mark (element.Dot x y) = true
-is_mark (element.Point x y) = true
-is_mark (element.Square x y) = false
-is_mark (element.Diamond x y c) = false
-is_mark (element.Flag x y) = false
+abbrev pub is_mark : Shape → Bool
+is_mark (shape.Dot x y) = true
+is_mark (shape.Point x y) = true
+is_mark (shape.Square x y) = false
+is_mark (shape.Value x y v) = false
+is_mark (shape.Field x y width height v) = false
+is_mark (shape.Word x y v) = false
 
--- the elements of the fields of slots, whose marks are those of the slots that are there, in order
+-- the shapes of the fields of slots, whose marks are those of the slots that are there, in order
 abbrev pub HasMarks : Profile → ChartLane → List (Option ℕ) → List ℕ → Type 0
-HasMarks f l vs bytes = (es : List Element) × (bytes ≡ elements_bytes es) × (filter is_mark es ≡ map (mark_of f l) (present 0 vs))
+HasMarks f l vs bytes = (es : List Shape) × (bytes ≡ shapes_bytes es) × (filter is_mark es ≡ map (mark_of f l) (present 0 vs))
 
 -- the points of a path, each joined to the one before or not, which are those of the slots that are there, in order
 abbrev pub HasPoints : Profile → ChartLane → List (Option ℕ) → List ℕ → Type 0

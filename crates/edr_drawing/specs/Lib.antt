@@ -1,8 +1,5 @@
-pub mod Texts
-pub mod Tags
-pub mod Long
-pub mod Pieces
-pub mod Elements
+pub mod Template
+pub mod Shapes
 pub mod Scales
 pub mod Lanes
 pub mod Before

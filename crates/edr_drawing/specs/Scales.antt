@@ -2,15 +2,16 @@
 use Rattle.std.specs.Prelude.{ℕ, zero, suc, ◌+◌, ◌-◌, ◌*◌, ◌/◌, ℤ, pos, negsuc, List, [], ◌∷◌, ◌++◌, if◌then◌else◌, nat_le}
 use Rattle.edr_record.specs.declared.Profile.{Profile}
 use Rattle.edr_record.specs.declared.Profile.TheVariants.{Short, Long}
+use Rattle.edr_drawing.specs.declared.scales.TheConstants.{FIRST_TIME, TIME_SLOTS, TIME_STEP}
 
 -- across: time k of eleven, the last one time zero
 abbrev pub time_at : ℕ → ℕ
-time_at k = 400 + 136 * k
+time_at k = FIRST_TIME + TIME_STEP * k
 
--- across: slot k of a profile, the newest at time zero; a long one has twenty slots from one time to the next
+-- across: slot k of a profile, the newest at time zero; a long one has more slots from one time to the next
 abbrev pub slot_x : Profile → ℕ → ℕ
 slot_x Short k = time_at k
-slot_x Long k = 400 + 136 * k / 20
+slot_x Long k = FIRST_TIME + TIME_STEP * k / TIME_SLOTS
 
 -- how many steps reach up to a value
 abbrev pub intervals : ℕ → ℕ → ℕ

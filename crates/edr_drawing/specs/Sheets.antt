@@ -1,8 +1,7 @@
 -- The sheet of an event.
-use Rattle.std.specs.Prelude.{ℕ, ◌+◌, ◌-◌, ◌/◌, ◌%◌, Bool, if◌then◌else◌, nat_lt, List, [], ◌∷◌, ◌++◌, flat_map}
+use Rattle.std.specs.Prelude.{ℕ, ◌+◌, ◌-◌, ◌/◌, ◌%◌, Bool, if◌then◌else◌, nat_lt, List, [], ◌∷◌, ◌++◌, flat_map, decimal}
 use Rattle.edr_record.specs.declared.Key.{Key}
 use Rattle.edr_record.specs.declared.Place.{Place}
-use Rattle.edr_record.specs.declared.Place.TheVariants.{First, Second}
 use Rattle.edr_record.specs.declared.Profile.{Profile}
 use Rattle.edr_record.specs.declared.Profile.TheVariants.{Short, Long}
 use Rattle.edr_record.specs.declared.Record.{Record}
@@ -10,35 +9,18 @@ use Rattle.edr_record.specs.Complete.{is_complete}
 use Rattle.edr_image.specs.declared.BankView.{BankView}
 use Rattle.edr_image.specs.declared.BankView.TheVariants.{Void, Event, Damaged}
 use Rattle.edr_image.specs.declared.Found.{Found}
-use Rattle.edr_report.specs.Words.{number_shown, tenths_of}
-use Rattle.edr_drawing.specs.declared.pieces.Piece.TheVariants as piece
-use Rattle.edr_drawing.specs.declared.tags.Tag.{Tag}
-use Rattle.edr_drawing.specs.declared.tags.Tag.TheVariants as tag
-use Rattle.edr_drawing.specs.Pieces.{pieces}
+use Rattle.edr_report.specs.Words.{number_shown}
+use Rattle.edr_drawing.specs.declared.sheets.TheConstants.{FACTS, FOOT_END, LONG, NO, SHEET_FOOT, SHEET_HEAD, SHORT, YES}
+use Rattle.edr_drawing.specs.Template.{filled, fixed, place_words}
 use Rattle.edr_drawing.specs.Reasons.{reasons}
 use Rattle.edr_drawing.specs.Before.{before_chart}
 use Rattle.edr_drawing.specs.Rows.{after_chart}
 use Rattle.edr_drawing.specs.Tables.{points_table, elements_table}
 
--- ---- words, places and digests
+-- ---- words and digests
 
-abbrev pub yes_no : Bool → Tag
-yes_no b = if b then tag.Yes else tag.No
-
--- the place of an event in its crash, with the time from the first event in tenths of a second, rounded half up
-abbrev pub second_words : ℕ → List ℕ
-second_words tenths =
-    pieces
-    (piece.Tag tag.Second
-    ∷ piece.Count (tenths / 10)
-    ∷ piece.Tag tag.Tenth
-    ∷ piece.Count (tenths % 10)
-    ∷ piece.Tag tag.Seconds
-    ∷ [])
-
-abbrev pub place_words : Place → List ℕ
-place_words First = pieces (piece.Tag tag.First ∷ [])
-place_words (Second after) = second_words (tenths_of after)
+abbrev pub yes_no : Bool → List ℕ
+yes_no b = if b then YES.now else NO.now
 
 -- two hexadecimal digits for each byte
 abbrev pub hex_digit : ℕ → ℕ
@@ -53,49 +35,26 @@ digest_hex digest = flat_map hex_byte digest
 -- ---- head, facts and foot
 
 unfoldable pub sheet_head : ℕ → Bool → List ℕ
-sheet_head n complete =
-    pieces
-    (piece.Tag tag.SheetId
-    ∷ piece.Count n
-    ∷ piece.Tag tag.SheetLabel
-    ∷ piece.Count n
-    ∷ piece.Tag tag.SheetHead
-    ∷ piece.Count n
-    ∷ piece.Tag tag.SheetTitle
-    ∷ piece.Count n
-    ∷ piece.Tag tag.SheetComplete
-    ∷ piece.Tag (yes_no complete)
-    ∷ piece.Tag tag.SheetHeadEnd
-    ∷ [])
+sheet_head n complete = filled SHEET_HEAD.now (decimal n ∷ yes_no complete ∷ [])
 
 -- the profile of a pre part
-abbrev pub profile_tag : Profile → Tag
-profile_tag Short = tag.Short
-profile_tag Long = tag.Long
+abbrev pub profile_word : Profile → List ℕ
+profile_word Short = SHORT.now
+profile_word Long = LONG.now
 
 unfoldable pub facts : ℕ → Key → Bool → Profile → Place → List ℕ
 facts bank key locked profile place =
-    pieces
-    (piece.Tag tag.FactsCycle
-    ∷ piece.Number (number_shown key.cycle)
-    ∷ piece.Tag tag.FactsZero
-    ∷ piece.Number key.zero
-    ∷ piece.Tag tag.FactsBank
-    ∷ piece.Number bank
-    ∷ piece.Tag tag.FactsLocked
-    ∷ piece.Tag (yes_no locked)
-    ∷ piece.Tag tag.FactsProfile
-    ∷ piece.Tag (profile_tag profile)
-    ∷ piece.Tag tag.FactsPlace
+    filled FACTS.now
+    (decimal (number_shown key.cycle)
+    ∷ decimal key.zero
+    ∷ decimal bank
+    ∷ yes_no locked
+    ∷ profile_word profile
+    ∷ place_words place
     ∷ [])
-    ++ place_words place
-    ++ pieces (piece.Tag tag.FactsEnd ∷ [])
 
 unfoldable pub sheet_foot : ℕ → List ℕ → List ℕ
-sheet_foot n digest =
-    pieces (piece.Tag tag.SheetFoot ∷ piece.Count n ∷ piece.Tag tag.SheetDigest ∷ [])
-    ++ digest_hex digest
-    ++ pieces (piece.Tag tag.FootEnd ∷ [])
+sheet_foot n digest = filled SHEET_FOOT.now (decimal n ∷ []) ++ digest_hex digest ++ fixed FOOT_END.now
 
 -- ---- the whole sheet
 

@@ -4,17 +4,109 @@ ghost use Rattle.std.specs.Prelude.{◌≡◌, ◌++◌, ◌≤◌, ◌<◌, ◌
 ghost use Rattle.edr_record.specs.declared.TheConstants.{POINTS};
 ghost use Rattle.edr_record.specs.Bounds.{point_count, window_from_end};
 ghost use Rattle.edr_drawing.specs.Changes.{IsScale};
-ghost use Rattle.edr_drawing.specs.After.{past_window, time_line, time_lines, legend, level, levels, after_frame, end_line, axis_point, axis_points, curve, dot, dots, square, squares, maximum_number, diamond, across_number, along_number, maxima, curves, changes_chart};
+ghost use Rattle.edr_drawing.specs.After.{across_number, after_frame, along_number, axis_class, axis_mark, axis_marks, axis_points, changes_chart, curve, diamond, end_line, level, levels, maxima, maximum_number, past_window, time_lines};
 
-use crate::before::name;
 use crate::changes::Scale;
-use crate::elements::{Element, TextWords, draw};
-use crate::pieces::{Piece, put};
-use crate::scales::{LEFT, RIGHT};
-use crate::tags::Tag;
-use crate::texts::{ChartText, Class, Label};
-use edr_record::{Crash, Extreme, POINTS, point_count, window_from_end};
+use crate::scales::{BELOW_TOP, HEIGHT, RIGHT};
+use crate::shapes::{ACROSS, ALONG, PATH, PATH_END, Shape, draw, put_point};
+use crate::template::Filling::{Below, Change, Number, Text};
+use crate::template::{fill, put};
+use edr_record::{Crash, Extreme, POINT_STEP, POINTS, point_count, window_from_end};
 use std::alloc::AllocError as OutOfMemory;
+
+pub const AFTER_PLOT: &[u8] = br#"<rect x="330" y="40" width="1500" height="450" class="plot"/>
+"#;
+
+/// The field past the window.
+pub const PAST_WINDOW: &[u8] = br#"<rect x="{0}" y="40" width="{1}" height="450" class="gap"/>
+"#;
+
+/// The lines of time zero in both parts of the chart, with its number.
+pub const ZERO_LINES: &[u8] = br#"<path class="zero" d="M330 40L330 490"/>
+<path class="zero" d="M330 536L330 932"/>
+<text x="330" y="522" class="c b">0</text>
+"#;
+
+/// The lines of a later time.
+pub const TIME_LINES: &[u8] = br#"<path class="grid" d="M{0} 40L{0} 490"/>
+<path class="grid" d="M{0} 536L{0} 932"/>
+<text x="{0}" y="522" class="c">{1}</text>
+"#;
+
+/// How far apart these times are, in milliseconds.
+pub const TIMES_APART: u32 = 50;
+
+/// The names of the axes and of the marks.
+pub const LEGEND: &[u8] = br#"<text x="0" y="522" class="">Time, ms</text>
+<text x="336" y="28" class="e b">time zero</text>
+<text x="0" y="100" class="b">Delta-V</text>
+<text x="0" y="132" class="">change of speed</text>
+<text x="0" y="164" class="">since time zero</text>
+<text x="0" y="196" class="">km/h</text>
+<path class="s1" d="M0 266L70 266"/>
+<circle cx="35" cy="266" r="9" class="p1"/>
+<text x="84" y="275" class="n1">longitudinal</text>
+<path class="s2" d="M0 312L70 312"/>
+<rect x="27" y="304" width="16" height="16" class="p2"/>
+<text x="84" y="321" class="n2">lateral</text>
+<path class="d0" d="M35 343l15 15l-15 15l-15 -15z"/>
+<text x="84" y="367" class="">its maximum</text>
+"#;
+
+/// The line of a change of speed, with its number.
+pub const LEVEL: &[u8] = br#"<path class="{0}" d="M330 {1}L1830 {1}"/>
+<text x="316" y="{2}" class="e s">{3}</text>
+"#;
+
+pub const AXIS_LINE: &[u8] = b"axis";
+
+pub const GRID: &[u8] = b"grid";
+
+/// The line at the end of the event, with its name, which stands left of the line far to the right.
+pub const END_LINE: &[u8] = br#"<path class="end" d="M{0} 40L{0} 490"/>
+<text x="{0}" y="28" class="{1}">end of event</text>
+"#;
+
+pub const CENTRED: &[u8] = b"c";
+
+pub const ENDING: &[u8] = b"e";
+
+pub const FAR_RIGHT: u32 = 1_700;
+
+pub const NOT_RECORDED: &[u8] = br#"<text x="{0}" y="478" class="c g h">not recorded</text>
+"#;
+
+/// How much room these words need.
+pub const ROOM_NOT_RECORDED: u32 = 200;
+
+/// The diamond at a greatest change.
+pub const DIAMOND: &[u8] = br#"<path class="{0}" d="M{1} {2}l15 15l-15 15l-15 -15z"/>
+"#;
+
+pub const MAX_ALONG: &[u8] = b"d1";
+
+pub const MAX_ACROSS: &[u8] = b"d2";
+
+/// How far above its middle a diamond begins.
+pub const DIAMOND_UP: u32 = 15;
+
+/// The numbers of the greatest changes: that across stands above its diamond, that along below it.
+pub const ACROSS_NUMBER: &[u8] = br#"<text x="{0}" y="{1}" class="c h n2">{2}</text>
+"#;
+
+pub const ALONG_NUMBER: &[u8] = br#"<text x="{0}" y="{1}" class="c h n1">{2}</text>
+"#;
+
+pub const NUMBER_UP: u32 = 22;
+
+pub const NUMBER_DOWN: u32 = 42;
+
+/// An axis of a car.
+#[derive(Clone, Copy)]
+pub enum CarAxis {
+    Along,
+    Across,
+}
 
 // Draws the field past the window, if the chart reaches there.
 #[tactic(auto, unfolding(crate::specs::After::past_window))]
@@ -27,159 +119,46 @@ fn draw_past_window(out: &mut Vec<u8>, scale: &Scale, window: u16) -> Result<(),
         return Ok(());
     }
     let x = scale.x(window);
-    draw(
+    fill(
         out,
-        &[Element::Rect {
-            x,
-            y: 40,
-            width: RIGHT.saturating_sub(x),
-            height: 450,
-            class: Class::Gap,
-        }],
+        PAST_WINDOW,
+        &[Number(x), Number(RIGHT.saturating_sub(x))],
     )
 }
 
-// Draws the lines of a time in both parts of the chart, with its number.
-#[tactic(auto, unfolding(crate::specs::After::time_line))]
-fn draw_time(out: &mut Vec<u8>, scale: &Scale, time: u16) -> Result<(), OutOfMemory>
-    requires { 300 ≤ scale.now.span }
-    ensures { OnOk result (out.new.items ≡ out.old.items ++ time_line scale.now time) }
-{
-    let x = scale.x(time);
-    let (line, class) = if time == 0 {
-        (Class::Zero, Class::CentreBold)
-    } else {
-        (Class::Grid, Class::Centre)
-    };
-    draw(
-        out,
-        &[
-            Element::Line {
-                x,
-                y: 40,
-                to_x: x,
-                to_y: 490,
-                class: line,
-            },
-            Element::Line {
-                x,
-                y: 536,
-                to_x: x,
-                to_y: 932,
-                class: line,
-            },
-            Element::Text {
-                x,
-                y: 522,
-                class,
-                words: TextWords::Number(u32::from(time)),
-            },
-        ],
-    )
-}
-
-// Draws a line at each 50 ms.
+// Draws the line of each time.
 #[tactic(auto, unfolding(crate::specs::After::time_lines))]
 fn draw_times(out: &mut Vec<u8>, scale: &Scale) -> Result<(), OutOfMemory>
     requires { (300 ≤ scale.now.span) × (scale.now.span ≤ 500) }
     ensures { OnOk result (out.new.items ≡ out.old.items ++ time_lines scale.now) }
 {
-    for i in 0..scale.span / 50 + 1 {
-        draw_time(out, scale, 50 * i as u16)?;
+    put(out, ZERO_LINES)?;
+    for i in 0..scale.span / TIMES_APART {
+        let time = TIMES_APART * (i + 1);
+        fill(
+            out,
+            TIME_LINES,
+            &[Number(scale.x(time as u16)), Number(time)],
+        )?;
     }
     Ok(())
 }
 
-// Draws the names of the axes and of the marks.
-#[tactic(auto, unfolding(crate::specs::After::legend))]
-fn draw_legend(out: &mut Vec<u8>) -> Result<(), OutOfMemory>
-    ensures { OnOk result (out.new.items ≡ out.old.items ++ legend) }
-{
-    draw(
-        out,
-        &[
-            name(522, Class::Plain, Label::TimeInMilliseconds),
-            Element::Text {
-                x: LEFT + 6,
-                y: 28,
-                class: Class::EndBold,
-                words: TextWords::Label(Label::TimeZero),
-            },
-            name(100, Class::Bold, Label::Change),
-            name(132, Class::Plain, Label::ChangeOfSpeed),
-            name(164, Class::Plain, Label::SinceTimeZero),
-            name(196, Class::Plain, Label::Kmh),
-            line(0, 70, 266, Class::Along),
-            Element::Dot { x: 35, y: 266 },
-            text(84, 275, Class::NameAlong, Label::Longitudinal),
-            line(0, 70, 312, Class::Across),
-            Element::Square { x: 35, y: 312 },
-            text(84, 321, Class::NameAcross, Label::Lateral),
-            Element::Diamond {
-                x: 35,
-                y: 358,
-                class: Class::DiamondPlain,
-            },
-            text(84, 367, Class::Plain, Label::ItsMaximum),
-        ],
-    )
-}
-
-/// A text of these words.
-pub fn text(x: u32, y: u32, class: Class, label: Label) -> Element
-    ensures { result ≡ Element.Text x y class (TextWords.Label label) }
-{
-    Element::Text {
-        x,
-        y,
-        class,
-        words: TextWords::Label(label),
-    }
-}
-
-// A level line.
-fn line(x: u32, to_x: u32, y: u32, class: Class) -> Element
-    ensures { result ≡ Element.Line x y to_x y class }
-{
-    Element::Line {
-        x,
-        y,
-        to_x,
-        to_y: y,
-        class,
-    }
-}
-
-// Draws the line of a change of speed, which is so far above the bottom of the scale, with its number.
+// Draws the line of a change of speed, which is so far above the bottom of the scale.
 #[tactic(auto, unfolding(crate::specs::After::level))]
 fn draw_level(out: &mut Vec<u8>, scale: &Scale, above: u32) -> Result<(), OutOfMemory>
     requires { IsScale scale.now }
     ensures { OnOk result (out.new.items ≡ out.old.items ++ level scale.now above) }
 {
     let Scale { top, bottom, .. } = *scale;
-    let y = 80 + (top + bottom).saturating_sub(above) * 370 / (top + bottom);
-    let class = if above == bottom {
-        Class::Axis
+    let y = BELOW_TOP + (top + bottom).saturating_sub(above) * HEIGHT / (top + bottom);
+    let class = if above == bottom { AXIS_LINE } else { GRID };
+    let number = if above < bottom {
+        Below(bottom - above)
     } else {
-        Class::Grid
+        Number(above - bottom)
     };
-    let words = if above < bottom {
-        TextWords::Below(bottom - above)
-    } else {
-        TextWords::Number(above - bottom)
-    };
-    draw(
-        out,
-        &[
-            line(LEFT, RIGHT, y, class),
-            Element::Text {
-                x: LEFT - 14,
-                y: y + 9,
-                class: Class::Scale,
-                words,
-            },
-        ],
-    )
+    fill(out, LEVEL, &[Text(class), Number(y), Number(y + 9), number])
 }
 
 // Draws a line at each step.
@@ -201,19 +180,10 @@ fn draw_frame(out: &mut Vec<u8>, scale: &Scale, window: u16) -> Result<(), OutOf
     requires window { window ≤ 300 }
     ensures { OnOk result (out.new.items ≡ out.old.items ++ after_frame scale.now window) }
 {
-    draw(
-        out,
-        &[Element::Rect {
-            x: LEFT,
-            y: 40,
-            width: 1_500,
-            height: 450,
-            class: Class::Plot,
-        }],
-    )?;
+    put(out, AFTER_PLOT)?;
     draw_past_window(out, scale, window)?;
     draw_times(out, scale)?;
-    draw_legend(out)?;
+    put(out, LEGEND)?;
     draw_levels(out, scale)
 }
 
@@ -225,80 +195,22 @@ fn draw_end(out: &mut Vec<u8>, scale: &Scale, end: u16, window: u16) -> Result<(
 {
     let x = scale.x(end);
     let past = scale.x(window);
-    let class = if x < 1_700 { Class::Centre } else { Class::End };
-    draw(
-        out,
-        &[
-            Element::Line {
-                x,
-                y: 40,
-                to_x: x,
-                to_y: 490,
-                class: Class::EndLine,
-            },
-            text(x, 28, class, Label::EndLine),
-        ],
-    )?;
-    if past + 200 <= RIGHT {
-        draw(
-            out,
-            &[text(
-                (past + RIGHT) / 2,
-                478,
-                Class::CentreGap,
-                Label::NotRecorded,
-            )],
-        )
+    let class = if x < FAR_RIGHT { CENTRED } else { ENDING };
+    fill(out, END_LINE, &[Number(x), Text(class)])?;
+    if past + ROOM_NOT_RECORDED <= RIGHT {
+        fill(out, NOT_RECORDED, &[Number((past + RIGHT) / 2)])
     } else {
         Ok(())
     }
 }
 
-// Appends the point of an axis that is this many times 10 ms past time zero.
-#[tactic(auto, unfolding(crate::specs::After::axis_point))]
-fn put_point(out: &mut Vec<u8>, scale: &Scale, i: u16, change: i16) -> Result<(), OutOfMemory>
-    requires scale { IsScale scale.now }
-    requires place { i ≤ POINTS }
-    ensures { OnOk result (out.new.items ≡ out.old.items ++ axis_point scale.now i change) }
+fn axis_class(axis: CarAxis) -> &'static [u8]
+    ensures { result.now ≡ axis_class axis }
 {
-    let join = if i == 0 {
-        ChartText::MoveTo
-    } else {
-        ChartText::LineTo
-    };
-    put(
-        out,
-        &[
-            Piece::Mark(join),
-            Piece::Number(scale.x(10 * i)),
-            Piece::Mark(ChartText::Space),
-            Piece::Number(scale.y(change)),
-        ],
-    )
-}
-
-// Draws a dot at that point.
-#[tactic(auto, unfolding(crate::specs::After::dot))]
-fn draw_dot(out: &mut Vec<u8>, scale: &Scale, i: u16, change: i16) -> Result<(), OutOfMemory>
-    requires scale { IsScale scale.now }
-    requires place { i ≤ POINTS }
-    ensures { OnOk result (out.new.items ≡ out.old.items ++ dot scale.now i change) }
-{
-    let x = scale.x(10 * i);
-    let y = scale.y(change);
-    draw(out, &[Element::Dot { x, y }])
-}
-
-// Draws a square at that point.
-#[tactic(auto, unfolding(crate::specs::After::square))]
-fn draw_square(out: &mut Vec<u8>, scale: &Scale, i: u16, change: i16) -> Result<(), OutOfMemory>
-    requires scale { IsScale scale.now }
-    requires place { i ≤ POINTS }
-    ensures { OnOk result (out.new.items ≡ out.old.items ++ square scale.now i change) }
-{
-    let x = scale.x(10 * i);
-    let y = scale.y(change);
-    draw(out, &[Element::Square { x, y }])
+    match axis {
+        CarAxis::Along => ALONG,
+        CarAxis::Across => ACROSS,
+    }
 }
 
 // Appends the points of an axis, one at each 10 ms.
@@ -308,76 +220,82 @@ fn put_points(out: &mut Vec<u8>, scale: &Scale, points: &[i16]) -> Result<(), Ou
     ensures { OnOk result (out.new.items ≡ out.old.items ++ axis_points scale.now 0 points.now) }
 {
     for i in 0..points.len() {
-        put_point(out, scale, i as u16, points[i])?;
+        let x = scale.x(POINT_STEP * i as u16);
+        put_point(out, i > 0, x, scale.y(points[i]))?;
     }
     Ok(())
 }
 
-// Draws the curve through the points of an axis.
+// Draws the mark of an axis at the point that is this many times 10 ms past time zero.
+fn draw_mark(
+    out: &mut Vec<u8>,
+    scale: &Scale,
+    axis: CarAxis,
+    i: u16,
+    change: i16,
+) -> Result<(), OutOfMemory>
+    requires scale { IsScale scale.now }
+    requires place { i ≤ POINTS }
+    ensures { OnOk result (out.new.items ≡ out.old.items ++ axis_mark scale.now axis i change) }
+{
+    let x = scale.x(POINT_STEP * i);
+    let y = scale.y(change);
+    match axis {
+        CarAxis::Along => draw(out, &[Shape::Dot { x, y }]),
+        CarAxis::Across => draw(out, &[Shape::Square { x, y }]),
+    }
+}
+
+// Draws a mark at each point of an axis.
+fn draw_marks(
+    out: &mut Vec<u8>,
+    scale: &Scale,
+    axis: CarAxis,
+    points: &[i16],
+) -> Result<(), OutOfMemory>
+    requires scale { IsScale scale.now }
+    requires count { length points.now ≤ POINTS }
+    ensures { OnOk result (out.new.items ≡ out.old.items ++ axis_marks scale.now axis 0 points.now) }
+{
+    for i in 0..points.len() {
+        draw_mark(out, scale, axis, i as u16, points[i])?;
+    }
+    Ok(())
+}
+
+// Draws the curve of an axis, with a mark at each point.
 #[tactic(auto, unfolding(crate::specs::After::curve))]
 fn draw_curve(
     out: &mut Vec<u8>,
     scale: &Scale,
+    axis: CarAxis,
     points: &[i16],
-    class: Class,
 ) -> Result<(), OutOfMemory>
     requires scale { IsScale scale.now }
     requires count { length points.now ≤ POINTS }
-    ensures { OnOk result (out.new.items ≡ out.old.items ++ curve scale.now class points.now) }
+    ensures { OnOk result (out.new.items ≡ out.old.items ++ curve scale.now axis points.now) }
 {
-    put(
-        out,
-        &[
-            Piece::Mark(ChartText::PathClass),
-            Piece::Class(class),
-            Piece::Mark(ChartText::Points),
-        ],
-    )?;
+    fill(out, PATH, &[Text(axis_class(axis))])?;
     put_points(out, scale, points)?;
-    put(out, &[Piece::Mark(ChartText::Closed)])
-}
-
-// Draws a dot at each point along.
-fn draw_dots(out: &mut Vec<u8>, scale: &Scale, points: &[i16]) -> Result<(), OutOfMemory>
-    requires scale { IsScale scale.now }
-    requires count { length points.now ≤ POINTS }
-    ensures { OnOk result (out.new.items ≡ out.old.items ++ dots scale.now 0 points.now) }
-{
-    for i in 0..points.len() {
-        draw_dot(out, scale, i as u16, points[i])?;
-    }
-    Ok(())
-}
-
-// Draws a square at each point across.
-fn draw_squares(out: &mut Vec<u8>, scale: &Scale, points: &[i16]) -> Result<(), OutOfMemory>
-    requires scale { IsScale scale.now }
-    requires count { length points.now ≤ POINTS }
-    ensures { OnOk result (out.new.items ≡ out.old.items ++ squares scale.now 0 points.now) }
-{
-    for i in 0..points.len() {
-        draw_square(out, scale, i as u16, points[i])?;
-    }
-    Ok(())
+    put(out, PATH_END)?;
+    draw_marks(out, scale, axis, points)
 }
 
 // Draws the number of a greatest change, unless it is 0.
 #[tactic(auto, unfolding(crate::specs::After::maximum_number))]
-fn draw_number(out: &mut Vec<u8>, x: u32, y: u32, class: Class, kmh: i16) -> Result<(), OutOfMemory>
-    ensures { OnOk result (out.new.items ≡ out.old.items ++ maximum_number x y class kmh) }
+fn draw_number(
+    out: &mut Vec<u8>,
+    template: &[u8],
+    x: u32,
+    y: u32,
+    kmh: i16,
+) -> Result<(), OutOfMemory>
+    ensures { OnOk result (out.new.items ≡ out.old.items ++ maximum_number template.now x y kmh) }
 {
     if kmh == 0 {
         return Ok(());
     }
-    draw(
-        out,
-        &[Element::Text {
-            x,
-            y,
-            class,
-            words: TextWords::Change(kmh),
-        }],
-    )
+    fill(out, template, &[Number(x), Number(y), Change(kmh)])
 }
 
 // Draws a diamond at a greatest change.
@@ -385,14 +303,18 @@ fn draw_diamond(
     out: &mut Vec<u8>,
     scale: &Scale,
     extreme: Extreme,
-    class: Class,
+    class: &'static [u8],
 ) -> Result<(), OutOfMemory>
     requires { IsScale scale.now }
-    ensures { OnOk result (out.new.items ≡ out.old.items ++ diamond scale.now extreme class) }
+    ensures { OnOk result (out.new.items ≡ out.old.items ++ diamond scale.now extreme class.now) }
 {
     let x = scale.x(extreme.at);
     let y = scale.y(extreme.kmh);
-    draw(out, &[Element::Diamond { x, y, class }])
+    fill(
+        out,
+        DIAMOND,
+        &[Text(class), Number(x), Number(y - DIAMOND_UP)],
+    )
 }
 
 // Draws the number of the greatest change across, above its diamond.
@@ -402,7 +324,7 @@ fn draw_across_number(out: &mut Vec<u8>, scale: &Scale, across: Extreme) -> Resu
 {
     let x = scale.x(across.at);
     let y = scale.y(across.kmh);
-    draw_number(out, x, y - 22, Class::CentreAcross, across.kmh)
+    draw_number(out, ACROSS_NUMBER, x, y - NUMBER_UP, across.kmh)
 }
 
 // Draws the number of the greatest change along, below its diamond.
@@ -412,7 +334,7 @@ fn draw_along_number(out: &mut Vec<u8>, scale: &Scale, along: Extreme) -> Result
 {
     let x = scale.x(along.at);
     let y = scale.y(along.kmh);
-    draw_number(out, x, y + 42, Class::CentreAlong, along.kmh)
+    draw_number(out, ALONG_NUMBER, x, y + NUMBER_DOWN, along.kmh)
 }
 
 // Draws a diamond at the greatest change of each axis, with its number.
@@ -426,24 +348,10 @@ fn draw_maxima(
     requires { IsScale scale.now }
     ensures { OnOk result (out.new.items ≡ out.old.items ++ maxima scale.now along across) }
 {
-    draw_diamond(out, scale, across, Class::DiamondAcross)?;
-    draw_diamond(out, scale, along, Class::DiamondAlong)?;
+    draw_diamond(out, scale, across, MAX_ACROSS)?;
+    draw_diamond(out, scale, along, MAX_ALONG)?;
     draw_across_number(out, scale, across)?;
     draw_along_number(out, scale, along)
-}
-
-// Draws the curves of both axes, with a mark at each point.
-#[tactic(auto, unfolding(crate::specs::After::curves))]
-fn draw_curves(out: &mut Vec<u8>, scale: &Scale, crash: &Crash) -> Result<(), OutOfMemory>
-    requires { IsScale scale.now }
-    ensures { OnOk result (out.new.items ≡ out.old.items ++ curves scale.now crash.now) }
-{
-    let along = points_of(crash.end, &crash.along);
-    let across = points_of(crash.end, &crash.across);
-    draw_curve(out, scale, across, Class::Across)?;
-    draw_squares(out, scale, across)?;
-    draw_curve(out, scale, along, Class::Along)?;
-    draw_dots(out, scale, along)
 }
 
 /// The points that the end of an event allows.
@@ -454,15 +362,18 @@ pub fn points_of(end: u16, points: &[i16; POINTS]) -> &[i16]
     &points[..point_count(end)]
 }
 
-// Draws the part of the chart that shows changes of speed.
+/// Draws the part of the chart that shows changes of speed.
 #[tactic(auto, unfolding(crate::specs::After::changes_chart))]
 pub fn draw_changes(out: &mut Vec<u8>, scale: &Scale, crash: &Crash) -> Result<(), OutOfMemory>
     requires { IsScale scale.now }
     ensures { OnOk result (out.new.items ≡ out.old.items ++ changes_chart scale.now crash.now) }
 {
     let window = window_from_end(crash.end);
+    let along = points_of(crash.end, &crash.along);
+    let across = points_of(crash.end, &crash.across);
     draw_frame(out, scale, window)?;
     draw_end(out, scale, crash.end, window)?;
-    draw_curves(out, scale, crash)?;
+    draw_curve(out, scale, CarAxis::Across, across)?;
+    draw_curve(out, scale, CarAxis::Along, along)?;
     draw_maxima(out, scale, crash.max_along, crash.max_across)
 }

@@ -1,44 +1,116 @@
 //! The chart of the seconds before time zero, five of a short profile and twenty of a long one.
 
-ghost use Rattle.std.specs.Prelude.{◌≡◌, ◌++◌, ◌≤◌, ◌<◌, ◌+◌, None, OnOk, All, length, take};
+ghost use Rattle.std.specs.Prelude.{◌≡◌, ◌++◌, ◌≤◌, ◌<◌, ◌+◌, None, OnOk, length, take};
 ghost use Rattle.edr_record.specs.declared.TheConstants.{LONG_SLOTS};
-ghost use Rattle.edr_record.specs.Bounds.{IsUpTo, slots_in};
+ghost use Rattle.edr_record.specs.Bounds.{slots_in};
 ghost use Rattle.edr_drawing.specs.Lanes.{IsChartLane};
-ghost use Rattle.edr_drawing.specs.Before.{greatest, speed_lane, throttle_lane, tenths_before, second_line, second_lines, before_frame, before_speed, before_throttle, switch_field, switches, switch_run, are_same, switch_runs, brake_slots, second_x, before_brake, description, description_text, named_switch, before_switches, before_head, before_chart};
+ghost use Rattle.edr_drawing.specs.Before.{are_same, before_chart, before_frame, before_head, brake_slots, greatest, named_switch, second_x, slots_apart, span_word, speed_lane, speed_part, brake_part, switch_runs, switches, tenths_before, throttle_part, time_lines};
 
-use crate::elements::{Element, TextWords, draw};
-use crate::lanes::{ChartLane, RunField, draw_lane, draw_run};
-use crate::pieces::{Piece, put, put_tag};
-use crate::scales::{LEFT, RIGHT, least_step, scale_top, slot_x, time_at};
-use crate::tags::Tag;
-use crate::texts::{Class, Label};
+use crate::lanes::{ChartLane, draw_field, draw_lane, draw_run};
+use crate::scales::{least_step, scale_top, slot_x, time_at};
+use crate::shapes::{CHART_END, RULE};
+use crate::template::Filling::{Count, Number, Seconds, Text};
+use crate::template::{fill, put};
 use edr_record::{LONG_SLOTS, Pre, Profile};
 use std::alloc::AllocError as OutOfMemory;
 
-/// A text at the left of a chart.
-pub fn name(y: u32, class: Class, label: Label) -> Element
-    ensures { result ≡ Element.Text 0 y class (TextWords.Label label) }
-{
-    Element::Text {
-        x: 0,
-        y,
-        class,
-        words: TextWords::Label(label),
-    }
-}
+/// The title and the description.
+pub const BEFORE_HEAD: &[u8] =
+    br#"<svg viewBox="0 0 1860 540" role="img" aria-labelledby="p{0}t p{0}d">
+<title id="p{0}t">Event {0}, the {1} seconds before time zero</title>
+<desc id="p{0}d">Speed, throttle and service brake at each {2}, driver belt and warning lamp one second before time zero. The table of elements has all values.</desc>
+"#;
 
-/// A line across all of a chart.
-pub fn rule(y: u32) -> Element
-    ensures { result ≡ Element.Line 0 y 1_830 y Class.Part }
-{
-    Element::Line {
-        x: 0,
-        y,
-        to_x: RIGHT,
-        to_y: y,
-        class: Class::Part,
-    }
-}
+pub const FIVE: &[u8] = b"five";
+
+pub const TWENTY: &[u8] = b"twenty";
+
+pub const HALF_SECOND: &[u8] = b"half second";
+
+pub const TENTH: &[u8] = b"tenth of a second";
+
+pub const BEFORE_PLOT: &[u8] = br#"<rect x="330" y="36" width="1500" height="454" class="plot"/>
+"#;
+
+/// The line of a time, with how long before time zero it is.
+pub const TIME_LINE: &[u8] = br#"<path class="grid" d="M{0} 36L{0} 490"/>
+<text x="{0}" y="522" class="c">-{1}</text>
+"#;
+
+/// The line of time zero, with the names of the times.
+pub const ZERO_LINE: &[u8] = br#"<path class="zero" d="M{0} 36L{0} 490"/>
+<text x="{0}" y="522" class="c b">0.0</text>
+<text x="0" y="522" class="">Time, s</text>
+<text x="{0}" y="26" class="c b">time zero</text>
+"#;
+
+pub const SPEED_NAME: &[u8] = br#"<text x="0" y="120" class="b">Speed</text>
+<text x="0" y="152" class="">km/h</text>
+"#;
+
+pub const THROTTLE_NAME: &[u8] = br#"<path class="part" d="M0 236L1830 236"/>
+<text x="0" y="290" class="b">Throttle</text>
+<text x="0" y="322" class="">% of full</text>
+"#;
+
+/// The name of a switch.
+pub const SWITCH_NAME: &[u8] = br#"<text x="0" y="{0}" class="b">{1}</text>
+"#;
+
+pub const SERVICE_BRAKE: &[u8] = b"Service brake";
+
+pub const DRIVER_BELT: &[u8] = b"Driver belt";
+
+pub const LAMP: &[u8] = b"Air bag lamp";
+
+/// How many lines of times there are before time zero.
+pub const TIMES: u32 = 10;
+
+/// The lane of speed, whose top and step the greatest speed gives.
+pub const SPEED_LANE: ChartLane = ChartLane {
+    foot: 220,
+    rise: 140,
+    top: 1,
+    step: 1,
+    room: 170,
+};
+
+/// The steps that its lines may have, of which there are at most so many, in km/h.
+pub const SPEED_STEPS: [u32; 3] = [10, 20, 50];
+
+pub const LAST_SPEED_STEP: u32 = 100;
+
+pub const SPEED_LINES: u32 = 4;
+
+pub const THROTTLE_LANE: ChartLane = ChartLane {
+    foot: 346,
+    rise: 70,
+    top: 100,
+    step: 50,
+    room: 96,
+};
+
+/// Where the fields of the switches stand up, and how high they are.
+pub const BRAKE_Y: u32 = 367;
+
+pub const BELT_Y: u32 = 409;
+
+pub const LAMP_Y: u32 = 451;
+
+pub const FIELD_HEIGHT: u32 = 34;
+
+/// How far below the top of its field the name of a switch stands.
+pub const NAME_DOWN: u32 = 26;
+
+/// The lines above the service brake and below the lamp.
+pub const BRAKE_RULE: u32 = 362;
+
+pub const LAST_RULE: u32 = 490;
+
+/// The slots that lie 1 s before time zero.
+pub const SHORT_SECOND: u32 = 8;
+
+pub const LONG_SECOND: u32 = 190;
 
 // The greatest value that is there, or 0.
 fn greatest(slots: &[Option<u16>]) -> u16
@@ -54,37 +126,40 @@ fn greatest(slots: &[Option<u16>]) -> u16
     most
 }
 
-fn speed_lane(profile: Profile, slots: &[Option<u16>]) -> ChartLane
-    ensures lane { result ≡ speed_lane profile slots.now }
+fn speed_lane(slots: &[Option<u16>]) -> ChartLane
+    ensures lane { result ≡ speed_lane slots.now }
     ensures within { IsChartLane result }
 {
     let most = u32::from(greatest(slots).max(1));
-    let step = least_step(&[10, 20, 50, 100], 100, 4, most, 0);
+    let step = least_step(&SPEED_STEPS, LAST_SPEED_STEP, SPEED_LINES, most, 0);
     ChartLane {
-        profile,
-        foot: 220,
-        rise: 140,
         top: scale_top(step, most),
         step,
-        room: 170,
+        ..SPEED_LANE
     }
 }
 
-fn throttle_lane(profile: Profile) -> ChartLane
-    ensures lane { result ≡ throttle_lane profile }
-    ensures within { IsChartLane result }
+// How many seconds the chart shows.
+fn span_word(profile: Profile) -> &'static [u8]
+    ensures { result.now ≡ span_word profile }
 {
-    ChartLane {
-        profile,
-        foot: 346,
-        rise: 70,
-        top: 100,
-        step: 50,
-        room: 96,
+    match profile {
+        Profile::Short => FIVE,
+        Profile::Long => TWENTY,
     }
 }
 
-// How long before time zero a time of eleven is, in tenths of a second.
+// How far apart its slots are.
+fn slots_apart(profile: Profile) -> &'static [u8]
+    ensures { result.now ≡ slots_apart profile }
+{
+    match profile {
+        Profile::Short => HALF_SECOND,
+        Profile::Long => TENTH,
+    }
+}
+
+// How long before time zero a time is, in tenths of a second.
 fn tenths_before(profile: Profile, k: u32) -> u32
     requires { k < 10 }
     ensures { result ≡ tenths_before profile k }
@@ -95,94 +170,34 @@ fn tenths_before(profile: Profile, k: u32) -> u32
     }
 }
 
-// Draws the line of a time, with its words.
-fn draw_second_line(out: &mut Vec<u8>, profile: Profile, k: u32) -> Result<(), OutOfMemory>
-    requires { k < 11 }
-    ensures { OnOk result (out.new.items ≡ out.old.items ++ second_line profile k) }
+// Draws the lines of the times before time zero.
+#[tactic(auto, unfolding(crate::specs::Before::time_lines))]
+fn draw_times(out: &mut Vec<u8>, profile: Profile) -> Result<(), OutOfMemory>
+    ensures { OnOk result (out.new.items ≡ out.old.items ++ time_lines profile TIMES) }
 {
-    let x = time_at(k);
-    let (line, class, words) = if k < 10 {
-        (
-            Class::Grid,
-            Class::Centre,
-            TextWords::Before(tenths_before(profile, k)),
-        )
-    } else {
-        (Class::Zero, Class::CentreBold, TextWords::Zero)
-    };
-    draw(
-        out,
-        &[
-            Element::Line {
-                x,
-                y: 36,
-                to_x: x,
-                to_y: 490,
-                class: line,
-            },
-            Element::Text {
-                x,
-                y: 522,
-                class,
-                words,
-            },
-        ],
-    )
-}
-
-#[tactic(auto, unfolding(crate::specs::Before::second_lines))]
-fn draw_second_lines(out: &mut Vec<u8>, profile: Profile) -> Result<(), OutOfMemory>
-    ensures { OnOk result (out.new.items ≡ out.old.items ++ second_lines profile) }
-{
-    for k in 0..11 {
-        draw_second_line(out, profile, k)?;
+    for k in 0..TIMES {
+        let tenths = u64::from(tenths_before(profile, k));
+        fill(out, TIME_LINE, &[Number(time_at(k)), Seconds(tenths)])?;
     }
     Ok(())
 }
 
-// Draws the frame with its times.
 #[tactic(auto, unfolding(crate::specs::Before::before_frame))]
 fn draw_frame(out: &mut Vec<u8>, profile: Profile) -> Result<(), OutOfMemory>
     ensures { OnOk result (out.new.items ≡ out.old.items ++ before_frame profile) }
 {
-    draw(
-        out,
-        &[Element::Rect {
-            x: LEFT,
-            y: 36,
-            width: 1_500,
-            height: 454,
-            class: Class::Plot,
-        }],
-    )?;
-    draw_second_lines(out, profile)?;
-    draw(
-        out,
-        &[
-            name(522, Class::Plain, Label::TimeInSeconds),
-            Element::Text {
-                x: time_at(10),
-                y: 26,
-                class: Class::CentreBold,
-                words: TextWords::Label(Label::TimeZero),
-            },
-        ],
-    )
+    put(out, BEFORE_PLOT)?;
+    draw_times(out, profile)?;
+    fill(out, ZERO_LINE, &[Number(time_at(TIMES))])
 }
 
-#[tactic(auto, unfolding(crate::specs::Before::before_speed))]
+#[tactic(auto, unfolding(crate::specs::Before::speed_part))]
 fn draw_speed(out: &mut Vec<u8>, profile: Profile, slots: &[Option<u16>]) -> Result<(), OutOfMemory>
     requires { length slots.now ≤ slots_in profile }
-    ensures { OnOk result (out.new.items ≡ out.old.items ++ before_speed profile slots.now) }
+    ensures { OnOk result (out.new.items ≡ out.old.items ++ speed_part profile slots.now) }
 {
-    draw(
-        out,
-        &[
-            name(120, Class::Bold, Label::Speed),
-            name(152, Class::Plain, Label::Kmh),
-        ],
-    )?;
-    draw_lane(out, &speed_lane(profile, slots), slots)
+    put(out, SPEED_NAME)?;
+    draw_lane(out, profile, &speed_lane(slots), slots)
 }
 
 fn wide(slot: Option<u8>) -> Option<u16>
@@ -194,7 +209,7 @@ fn wide(slot: Option<u8>) -> Option<u16>
     }
 }
 
-// The same slots as wider numbers, and absent ones behind them.
+// The same slots as wider numbers, and absent ones after them.
 fn wide_slots(slots: &[Option<u8>]) -> [Option<u16>; LONG_SLOTS]
     requires { length slots.now ≤ LONG_SLOTS }
     ensures { take (length slots.now) result ≡ slots.now }
@@ -206,55 +221,18 @@ fn wide_slots(slots: &[Option<u8>]) -> [Option<u16>; LONG_SLOTS]
     wider
 }
 
-#[tactic(auto, using(crate::proofs::SlotLemmas::few_slots), unfolding(crate::specs::Before::before_throttle))]
+#[tactic(auto, using(crate::proofs::SlotLemmas::few_slots), unfolding(crate::specs::Before::throttle_part))]
 fn draw_throttle(
     out: &mut Vec<u8>,
     profile: Profile,
     slots: &[Option<u8>],
 ) -> Result<(), OutOfMemory>
     requires { length slots.now ≤ slots_in profile }
-    ensures { OnOk result (out.new.items ≡ out.old.items ++ before_throttle profile slots.now) }
+    ensures { OnOk result (out.new.items ≡ out.old.items ++ throttle_part profile slots.now) }
 {
-    draw(
-        out,
-        &[
-            rule(236),
-            name(290, Class::Bold, Label::Throttle),
-            name(322, Class::Plain, Label::OfFull),
-        ],
-    )?;
+    put(out, THROTTLE_NAME)?;
     let wider = wide_slots(slots);
-    draw_lane(out, &throttle_lane(profile), &wider[..slots.len()])
-}
-
-// Draws the field of a switch.
-fn draw_switch(out: &mut Vec<u8>, x: u32, y: u32, switch: Option<bool>) -> Result<(), OutOfMemory>
-    requires place { (400 ≤ x) × (x ≤ 30_000) × (y ≤ 1_000) }
-    ensures { OnOk result (out.new.items ≡ out.old.items ++ switch_field x y switch) }
-{
-    let (field, class, label) = match switch {
-        Some(true) => (Class::On, Class::CentreOn, Label::On),
-        Some(false) => (Class::Off, Class::Centre, Label::Off),
-        None => (Class::Gap, Class::CentreGap, Label::None),
-    };
-    draw(
-        out,
-        &[
-            Element::Rect {
-                x: x - 50,
-                y,
-                width: 100,
-                height: 34,
-                class: field,
-            },
-            Element::Text {
-                x,
-                y: y + 26,
-                class,
-                words: TextWords::Label(label),
-            },
-        ],
-    )
+    draw_lane(out, profile, &THROTTLE_LANE, &wider[..slots.len()])
 }
 
 // Draws the field of each slot of a short profile.
@@ -263,37 +241,10 @@ fn draw_short_brake(out: &mut Vec<u8>, slots: &[Option<bool>]) -> Result<(), Out
     ensures { OnOk result (out.new.items ≡ out.old.items ++ switches 0 slots.now) }
 {
     for k in 0..slots.len() {
-        draw_switch(out, slot_x(Profile::Short, k as u32), 367, slots[k])?;
+        let x = slot_x(Profile::Short, k as u32);
+        draw_field(out, x, BRAKE_Y, FIELD_HEIGHT, slots[k])?;
     }
     Ok(())
-}
-
-// Draws the field of a run of slots that are the same, if there are any.
-fn draw_switch_run(
-    out: &mut Vec<u8>,
-    first: u32,
-    count: u32,
-    switch: Option<bool>,
-) -> Result<(), OutOfMemory>
-    requires { first + count ≤ LONG_SLOTS }
-    ensures { OnOk result (out.new.items ≡ out.old.items ++ switch_run first count switch) }
-{
-    if count == 0 {
-        return Ok(());
-    }
-    let (class, words, label) = match switch {
-        Some(true) => (Class::On, Class::CentreOn, Label::On),
-        Some(false) => (Class::Off, Class::Centre, Label::Off),
-        None => (Class::Gap, Class::CentreGap, Label::None),
-    };
-    let field = RunField {
-        y: 367,
-        height: 34,
-        class,
-        words,
-        label,
-    };
-    draw_run(out, first, count, &field)
 }
 
 fn are_same(one: Option<bool>, other: Option<bool>) -> bool
@@ -320,13 +271,13 @@ fn draw_long_brake(out: &mut Vec<u8>, slots: &[Option<bool>]) -> Result<(), OutO
         if are_same(switch, next) {
             count += 1;
         } else {
-            draw_switch_run(out, first, count, switch)?;
+            draw_run(out, first, count, BRAKE_Y, FIELD_HEIGHT, switch)?;
             first += count;
             count = 1;
             switch = next;
         }
     }
-    draw_switch_run(out, first, count, switch)
+    draw_run(out, first, count, BRAKE_Y, FIELD_HEIGHT, switch)
 }
 
 // Draws the fields of the slots.
@@ -344,18 +295,20 @@ fn draw_brake_slots(
     }
 }
 
-#[tactic(auto, unfolding(crate::specs::Before::before_brake))]
+#[tactic(auto, unfolding(crate::specs::Before::brake_part))]
 fn draw_brake(
     out: &mut Vec<u8>,
     profile: Profile,
     slots: &[Option<bool>],
 ) -> Result<(), OutOfMemory>
     requires { length slots.now ≤ slots_in profile }
-    ensures { OnOk result (out.new.items ≡ out.old.items ++ before_brake profile slots.now) }
+    ensures { OnOk result (out.new.items ≡ out.old.items ++ brake_part profile slots.now) }
 {
-    draw(
+    fill(out, RULE, &[Number(BRAKE_RULE)])?;
+    fill(
         out,
-        &[rule(362), name(393, Class::Bold, Label::ServiceBrake)],
+        SWITCH_NAME,
+        &[Number(BRAKE_Y + NAME_DOWN), Text(SERVICE_BRAKE)],
     )?;
     draw_brake_slots(out, profile, slots)
 }
@@ -366,71 +319,32 @@ fn second_x(profile: Profile) -> u32
     ensures range { (400 ≤ result) × (result ≤ 30_000) }
 {
     match profile {
-        Profile::Short => slot_x(profile, 8),
-        Profile::Long => slot_x(profile, 190),
+        Profile::Short => slot_x(profile, SHORT_SECOND),
+        Profile::Long => slot_x(profile, LONG_SECOND),
     }
 }
 
 // Draws a switch at 1 s before time zero, with its name.
-fn draw_named_switch(
+fn draw_switch(
     out: &mut Vec<u8>,
     profile: Profile,
     y: u32,
-    label: Label,
+    label: &'static [u8],
     switch: Option<bool>,
 ) -> Result<(), OutOfMemory>
     requires { y ≤ 900 }
-    ensures { OnOk result (out.new.items ≡ out.old.items ++ named_switch profile y label switch) }
+    ensures { OnOk result (out.new.items ≡ out.old.items ++ named_switch profile y label.now switch) }
 {
-    draw(out, &[name(y + 26, Class::Bold, label)])?;
-    draw_switch(out, second_x(profile), y, switch)
-}
-
-#[tactic(auto, unfolding(crate::specs::Before::before_switches))]
-fn draw_switches(
-    out: &mut Vec<u8>,
-    profile: Profile,
-    belt: Option<bool>,
-    lamp: Option<bool>,
-) -> Result<(), OutOfMemory>
-    ensures { OnOk result (out.new.items ≡ out.old.items ++ before_switches profile belt lamp) }
-{
-    draw_named_switch(out, profile, 409, Label::DriverBelt, belt)?;
-    draw_named_switch(out, profile, 451, Label::AirBagLamp, lamp)?;
-    draw(out, &[rule(490)])
-}
-
-// What the chart says of its times.
-fn description(profile: Profile) -> (Tag, Tag)
-    ensures { (result.0 ≡ description profile) × (result.1 ≡ description_text profile) }
-{
-    match profile {
-        Profile::Short => (Tag::BeforeDescription, Tag::BeforeDescribed),
-        Profile::Long => (Tag::LongDescription, Tag::LongDescribed),
-    }
+    fill(out, SWITCH_NAME, &[Number(y + NAME_DOWN), Text(label)])?;
+    draw_field(out, second_x(profile), y, FIELD_HEIGHT, switch)
 }
 
 #[tactic(auto, unfolding(crate::specs::Before::before_head))]
 fn put_head(out: &mut Vec<u8>, number: u64, profile: Profile) -> Result<(), OutOfMemory>
     ensures { OnOk result (out.new.items ≡ out.old.items ++ before_head number profile) }
 {
-    let (description, described) = description(profile);
-    put(
-        out,
-        &[
-            Piece::Tag(Tag::BeforeChart),
-            Piece::Count(number),
-            Piece::Tag(Tag::BeforeIds),
-            Piece::Count(number),
-            Piece::Tag(Tag::BeforeTitle),
-            Piece::Count(number),
-            Piece::Tag(Tag::TitleEvent),
-            Piece::Count(number),
-            Piece::Tag(description),
-            Piece::Count(number),
-            Piece::Tag(described),
-        ],
-    )
+    let (span, apart) = (span_word(profile), slots_apart(profile));
+    fill(out, BEFORE_HEAD, &[Count(number), Text(span), Text(apart)])
 }
 
 /// Draws the chart of the event with this number.
@@ -445,6 +359,8 @@ pub fn draw_before(out: &mut Vec<u8>, number: u64, pre: &Pre) -> Result<(), OutO
     draw_speed(out, profile, pre.speed())?;
     draw_throttle(out, profile, pre.throttle())?;
     draw_brake(out, profile, pre.brake())?;
-    draw_switches(out, profile, belt, lamp)?;
-    put_tag(out, Tag::ChartEnd)
+    draw_switch(out, profile, BELT_Y, DRIVER_BELT, belt)?;
+    draw_switch(out, profile, LAMP_Y, LAMP, lamp)?;
+    fill(out, RULE, &[Number(LAST_RULE)])?;
+    put(out, CHART_END)
 }

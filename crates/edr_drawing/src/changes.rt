@@ -4,8 +4,22 @@ ghost use Rattle.std.specs.Prelude.{◌≡◌, ◌≤◌, ◌<◌, ◌+◌, ◌-
 ghost use Rattle.std.specs.List.{list_all};
 ghost use Rattle.edr_drawing.specs.Changes.{IsScale, highest, lowest, reach_up, reach_down, is_early, span_of, scale_of, change_y, time_x};
 
-use crate::scales::{LEFT, below_top, fall_of, least_step, rise_of, scale_top};
+use crate::scales::{
+    BELOW_TOP, HEIGHT, LEFT, WIDTH, below_top, fall_of, least_step, rise_of, scale_top,
+};
 use edr_record::{Crash, POINTS};
+
+/// The steps that the lines of a scale may have, of which both parts have at most so many, in km/h.
+pub const CHANGE_STEPS: [u32; 7] = [5, 10, 20, 50, 100, 200, 500];
+
+pub const LAST_CHANGE_STEP: u32 = 1_000;
+
+pub const CHANGE_LINES: u32 = 8;
+
+/// The last time across where nothing is later, and else, in milliseconds.
+pub const EARLY_SPAN: u16 = 300;
+
+pub const WHOLE_SPAN: u16 = 500;
 
 /// A scale: the greatest change of speed above 0 and below it, the step between lines, and the last time across, in
 /// milliseconds.
@@ -65,7 +79,7 @@ fn is_early(fired: Option<u16>) -> bool
     ensures { result ≡ is_early fired }
 {
     match fired {
-        Some(time) => time <= 300,
+        Some(time) => time <= EARLY_SPAN,
         None => true,
     }
 }
@@ -76,15 +90,15 @@ fn are_early(fired: &[Option<u16>; 8]) -> bool
     fired.iter().all(|fired| is_early(*fired))
 }
 
-// The last time across: 300 ms where nothing is later, else 500.
+// The last time across.
 fn span_of(crash: &Crash) -> u32
     ensures span { result ≡ span_of crash.now }
     ensures range { (300 ≤ result) × (result ≤ 500) }
 {
-    if crash.end <= 300 && are_early(&crash.fired) {
-        300
+    if crash.end <= EARLY_SPAN && are_early(&crash.fired) {
+        u32::from(EARLY_SPAN)
     } else {
-        500
+        u32::from(WHOLE_SPAN)
     }
 }
 
@@ -96,7 +110,7 @@ impl Scale {
     {
         let up = reach_up(crash);
         let down = reach_down(crash);
-        let step = least_step(&[5, 10, 20, 50, 100, 200, 500], 1_000, 8, up, down);
+        let step = least_step(&CHANGE_STEPS, LAST_CHANGE_STEP, CHANGE_LINES, up, down);
         let flat = up == 0 && down == 0;
         Scale {
             top: if flat { step } else { scale_top(step, up) },
@@ -112,7 +126,7 @@ impl Scale {
         ensures place { result ≡ change_y self.now change }
         ensures range { (80 ≤ result) × (result ≤ 40_000_000) }
     {
-        80 + below_top(self.top, change) * 370 / (self.top + self.bottom)
+        BELOW_TOP + below_top(self.top, change) * HEIGHT / (self.top + self.bottom)
     }
 
     /// Where a time stands across.
@@ -121,6 +135,6 @@ impl Scale {
         ensures place { result ≡ time_x self.now time }
         ensures range { (330 ≤ result) × (result ≤ 1_000_000) }
     {
-        LEFT + u32::from(time) * (1_500 / self.span)
+        LEFT + u32::from(time) * (WIDTH / self.span)
     }
 }

@@ -2,17 +2,55 @@
 
 ghost use Rattle.std.specs.Prelude.{◌≡◌, ◌++◌, ◌≤◌, ◌+◌, OnOk, map};
 ghost use Rattle.edr_image.specs.Reports.{report_of};
-ghost use Rattle.edr_drawing.specs.Cover.{events_in, damaged_in, is_damaged, extreme_cells, event_row, event_row_if, event_rows, events_table, damaged_item, damaged_items, damaged_list, cover_head, cover_foot, cover};
+ghost use Rattle.edr_drawing.specs.Cover.{events_in, damaged_in, is_damaged, extreme_cells, mark_word, event_row, event_row_if, event_rows, events_table, damaged_item, damaged_items, damaged_list, cover_head, cover_foot, cover};
 
-use crate::long;
-use crate::pieces::{Piece, put, put_tag};
-use crate::sheets::{count_if, put_digest, put_place, yes_no};
-use crate::tables::put_run;
-use crate::tags::Tag;
+use crate::long::{FORM, NOTES};
+use crate::reasons::LIST_END;
+use crate::sheets::{FOOT_END, count_if, put_digest, yes_no};
+use crate::tables::{TABLE_END, put_run};
+use crate::template::Filling::{Change, Count, Number, Place, Text};
+use crate::template::{fill, put};
 use edr_image::{BankView, CycleReport, Found};
 use edr_record::{Crash, Record};
 use edr_report::number_shown;
 use std::alloc::{AllocError as OutOfMemory, Global};
+
+pub const FIRST_SHEET: &[u8] = br#"<section aria-labelledby="r">
+<h1 id="r">Event data recorder: retrieved events</h1>
+<ul class="facts"><li>Recorded events: <b>{0}</b></li><li>Damaged banks: <b>{1}</b></li><li>Ignition cycle at download: <b>{2}</b></li></ul>
+"#;
+
+pub const EVENTS_START: &[u8] = br#"<table>
+<caption>Events</caption>
+<thead><tr><th scope="col">Event</th><th scope="col">Bank</th><th scope="col">Ignition cycle</th><th scope="col">Time zero</th><th scope="col">Place in crash</th><th scope="col">Deployment</th><th scope="col">Max. longitudinal</th><th scope="col">Max. lateral</th><th scope="col">Complete</th></tr></thead>
+<tbody>
+"#;
+
+/// The row of an event, up to its greatest changes, which two cells tell.
+pub const EVENT_ROW: &[u8] =
+    br##"<tr><th scope="row"><a href="#e{0}">{0}</a></th><td>{1}</td><td>{2}</td><td>{3} ms</td><td>{4}</td><td>{5}</td><td>"##;
+
+pub const GREATEST: &[u8] = b"{0} km/h at {1} ms</td><td>{2} km/h at {3} ms</td><td>";
+
+pub const NO_GREATEST: &[u8] = b"none</td><td>none</td><td>";
+
+pub const EVENT_END: &[u8] = b"{0}</td></tr>\n";
+
+pub const DAMAGED_START: &[u8] = br#"<h3>Damaged banks</h3>
+<div class="note"><p>A damaged bank holds bytes that are no record. Nothing else of it is shown, and no event of this report stands for it.</p>
+<ul>
+"#;
+
+pub const DAMAGED_BANK: &[u8] =
+    br#"<li>Bank {0}: byte {1} holds {2}, with which the bank can hold no record. Its mark of a locked record is {3}.</li>
+"#;
+
+pub const SET: &[u8] = b"set";
+
+pub const NOT_SET: &[u8] = b"not set";
+
+/// The foot, up to the digest.
+pub const FIRST_FOOT: &[u8] = br#"<p class="foot">Made from a report of {0} bytes, SHA-256 <code>"#;
 
 // How many events were found.
 fn events_in(found: &[Found]) -> u64
@@ -55,29 +93,19 @@ fn put_extremes(out: &mut Vec<u8>, crash: &Option<Crash>) -> Result<(), OutOfMem
         Some(crash) => {
             let along = crash.max_along;
             let across = crash.max_across;
-            put(
+            let (along_at, across_at) = (u32::from(along.at), u32::from(across.at));
+            fill(
                 out,
+                GREATEST,
                 &[
-                    Piece::Change(along.kmh),
-                    Piece::Tag(Tag::KmhAt),
-                    Piece::Number(u32::from(along.at)),
-                    Piece::Tag(Tag::MillisecondsNext),
-                    Piece::Change(across.kmh),
-                    Piece::Tag(Tag::KmhAt),
-                    Piece::Number(u32::from(across.at)),
-                    Piece::Tag(Tag::MillisecondsNext),
+                    Change(along.kmh),
+                    Number(along_at),
+                    Change(across.kmh),
+                    Number(across_at),
                 ],
             )
         }
-        None => put(
-            out,
-            &[
-                Piece::Tag(Tag::NotThere),
-                Piece::Tag(Tag::NextCell),
-                Piece::Tag(Tag::NotThere),
-                Piece::Tag(Tag::NextCell),
-            ],
-        ),
+        None => put(out, NO_GREATEST),
     }
 }
 
@@ -91,39 +119,20 @@ fn put_event_row(
 ) -> Result<(), OutOfMemory>
     ensures { OnOk result (out.new.items ≡ out.old.items ++ event_row number bank event.now) }
 {
-    put(
+    fill(
         out,
+        EVENT_ROW,
         &[
-            Piece::Tag(Tag::EventLink),
-            Piece::Count(number),
-            Piece::Tag(Tag::EventNumber),
-            Piece::Count(number),
-            Piece::Tag(Tag::EventBank),
-            Piece::Number(u32::from(bank)),
-            Piece::Tag(Tag::NextCell),
-            Piece::Number(number_shown(event.pre.key.cycle)),
-            Piece::Tag(Tag::NextCell),
-            Piece::Number(event.pre.key.zero),
-            Piece::Tag(Tag::MillisecondsNext),
-        ],
-    )?;
-    put_place(out, event.pre.place)?;
-    put(
-        out,
-        &[
-            Piece::Tag(Tag::NextCell),
-            Piece::Tag(yes_no(event.locked)),
-            Piece::Tag(Tag::NextCell),
+            Count(number),
+            Number(u32::from(bank)),
+            Number(number_shown(event.pre.key.cycle)),
+            Number(event.pre.key.zero),
+            Place(event.pre.place),
+            Text(yes_no(event.locked)),
         ],
     )?;
     put_extremes(out, &event.crash)?;
-    put(
-        out,
-        &[
-            Piece::Tag(yes_no(event.complete())),
-            Piece::Tag(Tag::LineEnd),
-        ],
-    )
+    fill(out, EVENT_END, &[Text(yes_no(event.complete()))])
 }
 
 fn put_event_row_if(out: &mut Vec<u8>, number: u64, found: &Found) -> Result<(), OutOfMemory>
@@ -154,9 +163,16 @@ fn put_events(out: &mut Vec<u8>, found: &[Found]) -> Result<(), OutOfMemory>
     if events_in(found) == 0 {
         return Ok(());
     }
-    put_tag(out, Tag::EventsStart)?;
+    put(out, EVENTS_START)?;
     put_event_rows(out, found)?;
-    put_tag(out, Tag::TableEnd)
+    put(out, TABLE_END)
+}
+
+// Whether the mark of a locked record is set.
+fn mark_word(locked: bool) -> &'static [u8]
+    ensures { result.now ≡ mark_word locked }
+{
+    if locked { SET } else { NOT_SET }
 }
 
 // Appends the item of a bank, if it is damaged.
@@ -168,21 +184,14 @@ fn put_damaged_item(out: &mut Vec<u8>, bank: &Found) -> Result<(), OutOfMemory>
             offset,
             found,
             locked,
-        } => put(
+        } => fill(
             out,
+            DAMAGED_BANK,
             &[
-                Piece::Tag(Tag::DamagedBank),
-                Piece::Number(u32::from(bank.bank)),
-                Piece::Tag(Tag::DamagedAt),
-                Piece::Number(u32::from(offset)),
-                Piece::Tag(Tag::DamagedFound),
-                Piece::Number(u32::from(found)),
-                Piece::Tag(Tag::DamagedMark),
-                Piece::Tag(if locked {
-                    Tag::MarkSet
-                } else {
-                    Tag::MarkNotSet
-                }),
+                Number(u32::from(bank.bank)),
+                Number(u32::from(offset)),
+                Number(u32::from(found)),
+                Text(mark_word(locked)),
             ],
         ),
         _ => Ok(()),
@@ -206,26 +215,20 @@ fn put_damaged(out: &mut Vec<u8>, found: &[Found]) -> Result<(), OutOfMemory>
     if damaged_in(found) == 0 {
         return Ok(());
     }
-    put_tag(out, Tag::DamagedStart)?;
+    put(out, DAMAGED_START)?;
     put_damaged_items(out, found)?;
-    put_tag(out, Tag::ReasonsEnd)
+    put(out, LIST_END)
 }
 
 #[tactic(auto, unfolding(crate::specs::Cover::cover_head))]
 fn put_head(out: &mut Vec<u8>, found: &[Found], count: u32) -> Result<(), OutOfMemory>
     ensures { OnOk result (out.new.items ≡ out.old.items ++ cover_head found.now count) }
 {
-    put(
+    let (events, damaged) = (events_in(found), damaged_in(found));
+    fill(
         out,
-        &[
-            Piece::Tag(Tag::FirstSheet),
-            Piece::Count(events_in(found)),
-            Piece::Tag(Tag::DamagedCount),
-            Piece::Count(damaged_in(found)),
-            Piece::Tag(Tag::DownloadCount),
-            Piece::Number(number_shown(count)),
-            Piece::Tag(Tag::FactsEnd),
-        ],
+        FIRST_SHEET,
+        &[Count(events), Count(damaged), Number(number_shown(count))],
     )
 }
 
@@ -233,16 +236,9 @@ fn put_head(out: &mut Vec<u8>, found: &[Found], count: u32) -> Result<(), OutOfM
 fn put_foot(out: &mut Vec<u8>, size: u32, digest: &[u8; 32]) -> Result<(), OutOfMemory>
     ensures { OnOk result (out.new.items ≡ out.old.items ++ cover_foot size digest.now) }
 {
-    put(
-        out,
-        &[
-            Piece::Tag(Tag::FirstFoot),
-            Piece::Number(size),
-            Piece::Tag(Tag::FirstDigest),
-        ],
-    )?;
+    fill(out, FIRST_FOOT, &[Number(size)])?;
     put_digest(out, digest)?;
-    put_tag(out, Tag::FootEnd)
+    put(out, FOOT_END)
 }
 
 /// Appends the first sheet.
@@ -262,7 +258,7 @@ pub fn put_cover(
     put_events(out, found)?;
     put_damaged(out, found)?;
     put_run(out, alloc, run)?;
-    out.extend_from_slice(long::notes().as_bytes())?;
-    out.extend_from_slice(long::form().as_bytes())?;
+    put(out, NOTES)?;
+    put(out, FORM)?;
     put_foot(out, size, digest)
 }

@@ -1,23 +1,33 @@
 //! A lane of slots: a path through those that are there, their marks, and fields in the place of those that are absent.
 
-ghost use Rattle.std.specs.Prelude.{◌≡◌, ◌++◌, ◌≤◌, ◌<◌, ◌+◌, ◌*◌, ◌-◌, ◌/◌, false, All, IfSome, OnOk, length};
+ghost use Rattle.std.specs.Prelude.{◌≡◌, ◌++◌, ◌≤◌, ◌<◌, ◌+◌, ◌*◌, ◌-◌, ◌/◌, false, OnOk, length};
 ghost use Rattle.edr_record.specs.declared.TheConstants.{LONG_SLOTS};
 ghost use Rattle.edr_record.specs.Bounds.{slots_in};
-ghost use Rattle.edr_drawing.specs.Elements.{elements_bytes};
-ghost use Rattle.edr_drawing.specs.Lanes.{IsChartLane, lane_y, grid, grid_line, point, points, none_field, cell, cells, field_elements, gap_elements, long_cells, cells_of, drawn_lane};
+ghost use Rattle.edr_drawing.specs.Shapes.{shapes_bytes};
+ghost use Rattle.edr_drawing.specs.Lanes.{IsChartLane, cell, cells, cells_of, drawn_lane, field_shapes, gap, grid, grid_line, lane_y, long_cells, points, run_shapes};
 
-use crate::elements::{Element, TextWords, draw};
-use crate::pieces::{Piece, put};
-use crate::scales::{LEFT, RIGHT, slot_x};
-use crate::texts::{ChartText, Class, Label};
+use crate::scales::slot_x;
+use crate::shapes::{ALONG, PATH, PATH_END, Shape, draw, put_point};
+use crate::template::Filling::{Number, Text};
+use crate::template::{fill, put};
 use edr_record::Profile;
 use std::alloc::AllocError as OutOfMemory;
 
-/// A lane: the profile of its slots, where its 0 stands, how far above that its top stands, which value that is, the step between its lines, and
-/// how much room it has above its foot.
+/// The line of a value, with its number.
+pub const GRID_LINE: &[u8] = br#"<path class="grid" d="M330 {0}L1830 {0}"/>
+<text x="316" y="{1}" class="e s">{2}</text>
+"#;
+
+/// How wide the field of a slot of a short profile is.
+pub const FIELD_WIDTH: u32 = 100;
+
+/// From so many slots on, the field of a run has room for its word.
+pub const ROOM_FOR_WORD: u32 = 10;
+
+/// A lane: where its 0 stands, how far above that its top stands, which value that is, the step between its lines, and how
+/// much room it has above its foot.
 #[derive(Clone, Copy)]
 pub struct ChartLane {
-    pub profile: Profile,
     pub foot: u32,
     pub rise: u32,
     pub top: u32,
@@ -25,7 +35,7 @@ pub struct ChartLane {
     pub room: u32,
 }
 
-/// Where a value stands up.
+// Where a value stands up.
 fn lane_y(lane: &ChartLane, value: u32) -> u32
     requires lane { IsChartLane lane.now }
     requires value { value ≤ 100_000 }
@@ -35,31 +45,14 @@ fn lane_y(lane: &ChartLane, value: u32) -> u32
     lane.foot.saturating_sub(value * lane.rise / lane.top)
 }
 
-// Draws the line of a value, with its number.
+// Draws the line of a value.
 fn draw_line(out: &mut Vec<u8>, lane: &ChartLane, value: u32) -> Result<(), OutOfMemory>
     requires lane { IsChartLane lane.now }
     requires value { value ≤ 100_000 }
     ensures { OnOk result (out.new.items ≡ out.old.items ++ grid_line lane.now value) }
 {
     let y = lane_y(lane, value);
-    draw(
-        out,
-        &[
-            Element::Line {
-                x: LEFT,
-                y,
-                to_x: RIGHT,
-                to_y: y,
-                class: Class::Grid,
-            },
-            Element::Text {
-                x: LEFT - 14,
-                y: y + 9,
-                class: Class::Scale,
-                words: TextWords::Number(value),
-            },
-        ],
-    )
+    fill(out, GRID_LINE, &[Number(y), Number(y + 9), Number(value)])
 }
 
 // Draws a line at each step.
@@ -73,48 +66,23 @@ fn draw_grid(out: &mut Vec<u8>, lane: &ChartLane) -> Result<(), OutOfMemory>
     Ok(())
 }
 
-// Appends the point of a value.
-#[tactic(auto, unfolding(crate::specs::Lanes::point))]
-fn put_point(
+// Appends the points of all slots that are there.
+fn put_points(
     out: &mut Vec<u8>,
+    profile: Profile,
     lane: &ChartLane,
-    k: u32,
-    before: bool,
-    value: u16,
+    slots: &[Option<u16>],
 ) -> Result<(), OutOfMemory>
     requires lane { IsChartLane lane.now }
-    requires slot { k < LONG_SLOTS }
-    ensures { OnOk result (out.new.items
-        ≡ out.old.items ++ point lane.now.profile lane.now k before value) }
-{
-    let join = if before {
-        ChartText::LineTo
-    } else {
-        ChartText::MoveTo
-    };
-    put(
-        out,
-        &[
-            Piece::Mark(join),
-            Piece::Number(slot_x(lane.profile, k)),
-            Piece::Mark(ChartText::Space),
-            Piece::Number(lane_y(lane, u32::from(value))),
-        ],
-    )
-}
-
-// Appends the points of all slots that are there.
-fn put_points(out: &mut Vec<u8>, lane: &ChartLane, slots: &[Option<u16>]) -> Result<(), OutOfMemory>
-    requires lane { IsChartLane lane.now }
     requires slots { length slots.now ≤ LONG_SLOTS }
-    ensures { OnOk result (out.new.items
-        ≡ out.old.items ++ points lane.now.profile lane.now 0 false slots.now) }
+    ensures { OnOk result (out.new.items ≡ out.old.items ++ points profile lane.now 0 false slots.now) }
 {
     let mut before = false;
     for k in 0..slots.len() {
         match slots[k] {
             Some(value) => {
-                put_point(out, lane, k as u32, before, value)?;
+                let x = slot_x(profile, k as u32);
+                put_point(out, before, x, lane_y(lane, u32::from(value)))?;
                 before = true;
             }
             None => {
@@ -123,33 +91,6 @@ fn put_points(out: &mut Vec<u8>, lane: &ChartLane, slots: &[Option<u16>]) -> Res
         }
     }
     Ok(())
-}
-
-// Draws the field of an absent slot of a short profile.
-fn draw_none(out: &mut Vec<u8>, k: u32, y: u32, height: u32) -> Result<(), OutOfMemory>
-    requires slot { k < 11 }
-    requires place { (y ≤ 1_000) × (height ≤ 1_000) }
-    ensures { OnOk result (out.new.items ≡ out.old.items ++ none_field k y height) }
-{
-    let x = slot_x(Profile::Short, k);
-    draw(
-        out,
-        &[
-            Element::Rect {
-                x: x - 50,
-                y,
-                width: 100,
-                height,
-                class: Class::Gap,
-            },
-            Element::Text {
-                x,
-                y: y + height / 2 + 9,
-                class: Class::CentreGap,
-                words: TextWords::Label(Label::None),
-            },
-        ],
-    )
 }
 
 // Draws what stands in the place of a slot of a short profile.
@@ -161,22 +102,54 @@ fn draw_cell(
 ) -> Result<(), OutOfMemory>
     requires lane { IsChartLane lane.now }
     requires slot { k < 11 }
-    ensures { OnOk result (out.new.items ≡ out.old.items ++ cell lane.now k slot) }
+    ensures { OnOk result (out.new.items ≡ out.old.items ++ shapes_bytes (cell lane.now k slot)) }
 {
-    let Some(value) = slot else {
-        return draw_none(out, k, lane.foot.saturating_sub(lane.room), lane.room);
-    };
     let x = slot_x(Profile::Short, k);
-    let y = lane_y(lane, u32::from(value));
+    match slot {
+        Some(value) => {
+            let value = u32::from(value);
+            let y = lane_y(lane, value);
+            draw(
+                out,
+                &[
+                    Shape::Dot { x, y },
+                    Shape::Value {
+                        x,
+                        y: y.saturating_sub(17),
+                        value,
+                    },
+                ],
+            )
+        }
+        None => draw_field(out, x, lane.foot.saturating_sub(lane.room), lane.room, None),
+    }
+}
+
+/// Draws the field of a slot of a short profile, which stands there and shows this.
+pub fn draw_field(
+    out: &mut Vec<u8>,
+    x: u32,
+    y: u32,
+    height: u32,
+    shows: Option<bool>,
+) -> Result<(), OutOfMemory>
+    requires place { (400 ≤ x) × (x ≤ 30_000) × (y ≤ 1_000) × (height ≤ 1_000) }
+    ensures { OnOk result (out.new.items ≡ out.old.items ++ shapes_bytes (field_shapes x y height shows)) }
+{
     draw(
         out,
         &[
-            Element::Dot { x, y },
-            Element::Text {
+            Shape::Field {
+                x: x - FIELD_WIDTH / 2,
+                y,
+                width: FIELD_WIDTH,
+                height,
+                shows,
+            },
+            Shape::Word {
                 x,
-                y: y.saturating_sub(17),
-                class: Class::CentreValue,
-                words: TextWords::Number(u32::from(value)),
+                y: y + height / 2 + 9,
+                shows,
             },
         ],
     )
@@ -194,65 +167,62 @@ fn draw_short(out: &mut Vec<u8>, lane: &ChartLane, slots: &[Option<u16>]) -> Res
     Ok(())
 }
 
-/// The place and the looks of the fields of runs of slots.
-#[derive(Clone, Copy)]
-pub struct RunField {
-    pub y: u32,
-    pub height: u32,
-    pub class: Class,
-    pub words: Class,
-    pub label: Label,
-}
-
-/// Draws the field of a run of slots of a long profile.
+/// Draws the field of a run of slots of a long profile, if there are any.
 pub fn draw_run(
     out: &mut Vec<u8>,
     first: u32,
     count: u32,
-    field: &RunField,
+    y: u32,
+    height: u32,
+    shows: Option<bool>,
 ) -> Result<(), OutOfMemory>
-    requires run { (1 ≤ count) × (first + count ≤ LONG_SLOTS) }
-    requires place { (field.now.y ≤ 1_000) × (field.now.height ≤ 1_000) }
-    ensures { OnOk result (out.new.items ≡ out.old.items ++ elements_bytes (field_elements first count field.now)) }
+    requires run { first + count ≤ LONG_SLOTS }
+    requires place { (y ≤ 1_000) × (height ≤ 1_000) }
+    ensures { OnOk result (out.new.items ≡ out.old.items ++ shapes_bytes (run_shapes first count y height shows)) }
 {
+    if count == 0 {
+        return Ok(());
+    }
     let x = slot_x(Profile::Long, first);
     let to_x = slot_x(Profile::Long, first + count - 1);
-    let rect = Element::Rect {
+    let width = (to_x + 6).saturating_sub(x);
+    let field = Shape::Field {
         x: x - 3,
-        y: field.y,
-        width: (to_x + 6).saturating_sub(x),
-        height: field.height,
-        class: field.class,
+        y,
+        width,
+        height,
+        shows,
     };
-    if count < 10 {
-        return draw(out, &[rect]);
+    if count < ROOM_FOR_WORD {
+        return draw(out, &[field]);
     }
-    let text = Element::Text {
-        x: (x + to_x) / 2,
-        y: field.y + field.height / 2 + 9,
-        class: field.words,
-        words: TextWords::Label(field.label),
-    };
-    draw(out, &[rect, text])
+    draw(
+        out,
+        &[
+            field,
+            Shape::Word {
+                x: (x + to_x) / 2,
+                y: y + height / 2 + 9,
+                shows,
+            },
+        ],
+    )
 }
 
 // Draws the field of absent slots, if there are any.
 fn draw_gap(out: &mut Vec<u8>, lane: &ChartLane, first: u32, count: u32) -> Result<(), OutOfMemory>
     requires lane { IsChartLane lane.now }
     requires run { first + count ≤ LONG_SLOTS }
-    ensures { OnOk result (out.new.items ≡ out.old.items ++ elements_bytes (gap_elements lane.now first count)) }
+    ensures { OnOk result (out.new.items ≡ out.old.items ++ shapes_bytes (gap lane.now first count)) }
 {
-    if count == 0 {
-        return Ok(());
-    }
-    let field = RunField {
-        y: lane.foot.saturating_sub(lane.room),
-        height: lane.room,
-        class: Class::Gap,
-        words: Class::CentreGap,
-        label: Label::None,
-    };
-    draw_run(out, first, count, &field)
+    draw_run(
+        out,
+        first,
+        count,
+        lane.foot.saturating_sub(lane.room),
+        lane.room,
+        None,
+    )
 }
 
 // Draws the marks of a long profile, and a field for each run of absent slots.
@@ -269,7 +239,7 @@ fn draw_long(out: &mut Vec<u8>, lane: &ChartLane, slots: &[Option<u16>]) -> Resu
                 draw_gap(out, lane, first, absent)?;
                 let x = slot_x(Profile::Long, first + absent);
                 let y = lane_y(lane, u32::from(value));
-                draw(out, &[Element::Point { x, y }])?;
+                draw(out, &[Shape::Point { x, y }])?;
                 first = first + absent + 1;
                 absent = 0;
             }
@@ -280,13 +250,17 @@ fn draw_long(out: &mut Vec<u8>, lane: &ChartLane, slots: &[Option<u16>]) -> Resu
 }
 
 // Draws the marks and fields of the slots.
-fn draw_cells(out: &mut Vec<u8>, lane: &ChartLane, slots: &[Option<u16>]) -> Result<(), OutOfMemory>
+fn draw_cells(
+    out: &mut Vec<u8>,
+    profile: Profile,
+    lane: &ChartLane,
+    slots: &[Option<u16>],
+) -> Result<(), OutOfMemory>
     requires lane { IsChartLane lane.now }
-    requires slots { length slots.now ≤ slots_in lane.now.profile }
-    ensures { OnOk result (out.new.items
-        ≡ out.old.items ++ cells_of lane.now.profile lane.now slots.now) }
+    requires slots { length slots.now ≤ slots_in profile }
+    ensures { OnOk result (out.new.items ≡ out.old.items ++ cells_of profile lane.now slots.now) }
 {
-    match lane.profile {
+    match profile {
         Profile::Short => draw_short(out, lane, slots),
         Profile::Long => draw_long(out, lane, slots),
     }
@@ -296,23 +270,17 @@ fn draw_cells(out: &mut Vec<u8>, lane: &ChartLane, slots: &[Option<u16>]) -> Res
 #[tactic(auto, using(crate::proofs::SlotLemmas::few_slots), unfolding(crate::specs::Lanes::drawn_lane))]
 pub fn draw_lane(
     out: &mut Vec<u8>,
+    profile: Profile,
     lane: &ChartLane,
     slots: &[Option<u16>],
 ) -> Result<(), OutOfMemory>
     requires lane { IsChartLane lane.now }
-    requires slots { length slots.now ≤ slots_in lane.now.profile }
-    ensures { OnOk result (out.new.items ≡ out.old.items ++ drawn_lane lane.now slots.now) }
+    requires slots { length slots.now ≤ slots_in profile }
+    ensures { OnOk result (out.new.items ≡ out.old.items ++ drawn_lane profile lane.now slots.now) }
 {
     draw_grid(out, lane)?;
-    put(
-        out,
-        &[
-            Piece::Mark(ChartText::PathClass),
-            Piece::Class(Class::Along),
-            Piece::Mark(ChartText::Points),
-        ],
-    )?;
-    put_points(out, lane, slots)?;
-    put(out, &[Piece::Mark(ChartText::Closed)])?;
-    draw_cells(out, lane, slots)
+    fill(out, PATH, &[Text(ALONG)])?;
+    put_points(out, profile, lane, slots)?;
+    put(out, PATH_END)?;
+    draw_cells(out, profile, lane, slots)
 }

@@ -5,39 +5,27 @@ mod after;
 mod before;
 mod changes;
 mod cover;
-mod elements;
 mod lanes;
 pub mod laws;
 mod long;
-mod pieces;
 mod reasons;
 mod rows;
 mod scales;
+mod shapes;
 mod sheets;
 mod tables;
-mod tags;
-mod texts;
+mod template;
 
-ghost use Rattle.std.specs.Prelude.{◌≡◌, ◌++◌, IfOk, OnOk, map};
+ghost use Rattle.std.specs.Prelude.{◌≡◌, IfOk, map};
 ghost use Rattle.edr_image.specs.Reports.{report_of};
-ghost use Rattle.edr_drawing.specs.Long.{head_text, style_text, body_text};
 ghost use Rattle.edr_drawing.specs.Page.{page_bytes};
 
 use cover::put_cover;
 use edr_image::{CycleReport, Found};
-use pieces::put_tag;
+use long::{BODY, HEAD, PAGE_END, STYLE};
 use sheets::put_sheets;
 use std::alloc::{AllocError as OutOfMemory, Global};
-use tags::Tag;
-
-// Appends what stands before the first sheet.
-fn put_front(out: &mut Vec<u8>) -> Result<(), OutOfMemory>
-    ensures { OnOk result (out.new.items ≡ out.old.items ++ head_text ++ style_text ++ body_text) }
-{
-    out.extend_from_slice(long::head().as_bytes())?;
-    out.extend_from_slice(long::style().as_bytes())?;
-    out.extend_from_slice(long::body().as_bytes())
-}
+use template::put;
 
 /// The page of what a report tells: the cycles of a run, what was found in the banks in this order, and the count of
 /// ignition cycles. `size` and `digest` are the report's length in bytes and its SHA-256, which the page names.
@@ -53,9 +41,11 @@ pub fn page(
     ensures { IfOk result (λ out. out.items ≡ page_bytes (map report_of run.now) found.now count size digest.now) }
 {
     let mut out = Vec::new(alloc);
-    put_front(&mut out)?;
+    put(&mut out, HEAD)?;
+    put(&mut out, STYLE)?;
+    put(&mut out, BODY)?;
     put_cover(&mut out, alloc, run, found, count, size, digest)?;
     put_sheets(&mut out, alloc, found, digest)?;
-    put_tag(&mut out, Tag::PageEnd)?;
+    put(&mut out, PAGE_END)?;
     Ok(out)
 }

@@ -3,12 +3,41 @@
 ghost use Rattle.std.specs.Prelude.{◌≡◌, ◌++◌, ◌≤◌, ◌+◌, OnOk, length};
 ghost use Rattle.edr_record.specs.declared.TheConstants.{LONG_SLOTS};
 ghost use Rattle.edr_record.specs.Bounds.{slots_in};
-ghost use Rattle.edr_drawing.specs.Reasons.{absent_count, slots_reason, switch_reason, ticks_reason, pre_reasons, crash_reasons, reasons};
+ghost use Rattle.edr_drawing.specs.Reasons.{absent_count, crash_reasons, pre_reasons, reasons, share_reason, switch_reason};
 
-use crate::pieces::{Piece, put, put_tag};
-use crate::tags::Tag;
+use crate::template::Filling::{Number, Text};
+use crate::template::{fill, put};
 use edr_record::{Crash, LONG_SLOTS, Pre, Profile, Record, SHORT_SLOTS, window_from_end};
 use std::alloc::AllocError as OutOfMemory;
+
+pub const REASONS_START: &[u8] = br#"<div class="note why"><b>Not complete:</b>
+<ul>
+"#;
+
+pub const LIST_END: &[u8] = b"</ul></div>\n";
+
+/// So many of so many slots are absent.
+pub const SPEED_ABSENT: &[u8] = b"<li>speed: {0} of {1} samples absent</li>\n";
+
+pub const THROTTLE_ABSENT: &[u8] = b"<li>throttle: {0} of {1} samples absent</li>\n";
+
+pub const BRAKE_ABSENT: &[u8] = b"<li>service brake: {0} of {1} samples absent</li>\n";
+
+pub const SWITCH_ABSENT: &[u8] = b"<li>{0}: absent</li>\n";
+
+pub const BELT: &[u8] = b"driver belt";
+
+pub const WARNING_LAMP: &[u8] = b"warning lamp";
+
+/// So many of so many milliseconds of the window have no sample.
+pub const ALONG_ABSENT: &[u8] =
+    b"<li>longitudinal acceleration: no sample in {0} of {1} ms, which count as no change of speed</li>\n";
+
+pub const ACROSS_ABSENT: &[u8] =
+    b"<li>lateral acceleration: no sample in {0} of {1} ms, which count as no change of speed</li>\n";
+
+pub const PART_ABSENT: &[u8] =
+    b"<li>no part after time zero, as where the power goes off before the event is closed</li>\n";
 
 // How many slots are absent.
 fn absent_count<T>(slots: &[Option<T>]) -> u32
@@ -34,34 +63,29 @@ fn slots_in(profile: Profile) -> u32
     }
 }
 
-// Tells how many slots of a list of so many are absent, if any is.
-#[tactic(auto, unfolding(crate::specs::Reasons::slots_reason))]
-fn put_slots_reason(out: &mut Vec<u8>, tag: Tag, absent: u32, count: u32) -> Result<(), OutOfMemory>
-    ensures { OnOk result (out.new.items ≡ out.old.items ++ slots_reason tag absent count) }
+// Tells how many of so many samples are absent, if any is.
+#[tactic(auto, unfolding(crate::specs::Reasons::share_reason))]
+fn put_share(out: &mut Vec<u8>, template: &[u8], absent: u32, count: u32) -> Result<(), OutOfMemory>
+    ensures { OnOk result (out.new.items ≡ out.old.items ++ share_reason template.now absent count) }
 {
     if absent == 0 {
         return Ok(());
     }
-    put(
-        out,
-        &[
-            Piece::Tag(tag),
-            Piece::Number(absent),
-            Piece::Tag(Tag::OfWindow),
-            Piece::Number(count),
-            Piece::Tag(Tag::SlotsAbsent),
-        ],
-    )
+    fill(out, template, &[Number(absent), Number(count)])
 }
 
 // Tells that a switch is absent, if it is.
 #[tactic(auto, unfolding(crate::specs::Reasons::switch_reason))]
-fn put_switch_reason(out: &mut Vec<u8>, tag: Tag, switch: Option<bool>) -> Result<(), OutOfMemory>
-    ensures { OnOk result (out.new.items ≡ out.old.items ++ switch_reason tag switch) }
+fn put_switch(
+    out: &mut Vec<u8>,
+    label: &'static [u8],
+    switch: Option<bool>,
+) -> Result<(), OutOfMemory>
+    ensures { OnOk result (out.new.items ≡ out.old.items ++ switch_reason label.now switch) }
 {
     match switch {
         Some(_) => Ok(()),
-        None => put(out, &[Piece::Tag(tag)]),
+        None => fill(out, SWITCH_ABSENT, &[Text(label)]),
     }
 }
 
@@ -71,41 +95,11 @@ fn put_pre_reasons(out: &mut Vec<u8>, pre: &Pre) -> Result<(), OutOfMemory>
 {
     let (belt, lamp) = (pre.belt, pre.lamp);
     let count = slots_in(pre.profile());
-    put_slots_reason(out, Tag::SpeedReason, absent_count(pre.speed()), count)?;
-    put_slots_reason(
-        out,
-        Tag::ThrottleReason,
-        absent_count(pre.throttle()),
-        count,
-    )?;
-    put_slots_reason(out, Tag::BrakeReason, absent_count(pre.brake()), count)?;
-    put_switch_reason(out, Tag::BeltAbsent, belt)?;
-    put_switch_reason(out, Tag::LampAbsent, lamp)
-}
-
-// Tells how many ticks of the window have no sample, if any has none.
-#[tactic(auto, unfolding(crate::specs::Reasons::ticks_reason))]
-fn put_ticks_reason(
-    out: &mut Vec<u8>,
-    tag: Tag,
-    missing: u16,
-    window: u16,
-) -> Result<(), OutOfMemory>
-    ensures { OnOk result (out.new.items ≡ out.old.items ++ ticks_reason tag missing window) }
-{
-    if missing == 0 {
-        return Ok(());
-    }
-    put(
-        out,
-        &[
-            Piece::Tag(tag),
-            Piece::Number(u32::from(missing)),
-            Piece::Tag(Tag::OfWindow),
-            Piece::Number(u32::from(window)),
-            Piece::Tag(Tag::NoChange),
-        ],
-    )
+    put_share(out, SPEED_ABSENT, absent_count(pre.speed()), count)?;
+    put_share(out, THROTTLE_ABSENT, absent_count(pre.throttle()), count)?;
+    put_share(out, BRAKE_ABSENT, absent_count(pre.brake()), count)?;
+    put_switch(out, BELT, belt)?;
+    put_switch(out, WARNING_LAMP, lamp)
 }
 
 #[tactic(auto, unfolding(crate::specs::Reasons::crash_reasons))]
@@ -114,11 +108,11 @@ fn put_crash_reasons(out: &mut Vec<u8>, crash: &Option<Crash>) -> Result<(), Out
 {
     match crash {
         Some(crash) => {
-            let window = window_from_end(crash.end);
-            put_ticks_reason(out, Tag::AlongReason, crash.missing_along, window)?;
-            put_ticks_reason(out, Tag::AcrossReason, crash.missing_across, window)
+            let window = u32::from(window_from_end(crash.end));
+            put_share(out, ALONG_ABSENT, u32::from(crash.missing_along), window)?;
+            put_share(out, ACROSS_ABSENT, u32::from(crash.missing_across), window)
         }
-        None => put_tag(out, Tag::PartAbsent),
+        None => put(out, PART_ABSENT),
     }
 }
 
@@ -130,8 +124,8 @@ pub fn put_reasons(out: &mut Vec<u8>, event: &Record) -> Result<(), OutOfMemory>
     if event.complete() {
         return Ok(());
     }
-    put_tag(out, Tag::ReasonsStart)?;
+    put(out, REASONS_START)?;
     put_pre_reasons(out, &event.pre)?;
     put_crash_reasons(out, &event.crash)?;
-    put_tag(out, Tag::ReasonsEnd)
+    put(out, LIST_END)
 }

@@ -1,128 +1,194 @@
 //! The rows below the changes of speed: what happened when, each in a row of its own.
 
-ghost use Rattle.std.specs.Prelude.{◌≡◌, [], ◌∷◌, ◌++◌, ◌≤◌, false, OnOk};
-ghost use Rattle.edr_drawing.specs.Before.{rule};
-ghost use Rattle.edr_drawing.specs.Elements.{elements_bytes};
-ghost use Rattle.edr_drawing.specs.Rows.{beside, timed_row, restraint_row, bag_rows, belt_rows, extreme_row, event_rows, rows_chart, after_head, without_part, after_chart};
+ghost use Rattle.std.specs.Prelude.{◌≡◌, ◌++◌, ◌≤◌, OnOk};
+ghost use Rattle.edr_drawing.specs.Template.{filling_bytes};
+ghost use Rattle.edr_drawing.specs.Rows.{after_chart, after_head, beside, event_rows, extreme_row, restraint_row, restraint_rows, rows_chart, rule, side, time_row, timed_row};
 
-use crate::after::{draw_changes, text};
-use crate::before::{name, rule};
+use crate::after::draw_changes;
 use crate::changes::Scale;
-use crate::elements::{Element, TextWords, draw};
-use crate::pieces::{Piece, put, put_tag};
-use crate::scales::LEFT;
-use crate::tags::Tag;
-use crate::texts::{Class, Label};
+use crate::shapes::{CHART_END, RULE};
+use crate::template::Filling::{Change, Count, Extreme as Greatest, Milliseconds, Number, Text};
+use crate::template::{Filling, fill, put};
 use edr_record::{Crash, Extreme};
 use std::alloc::AllocError as OutOfMemory;
 
-// Words beside a flag: right of it, or left of it far to the right.
-#[tactic(auto, unfolding(crate::specs::Rows::beside))]
-fn beside(x: u32, y: u32, bold: bool, words: TextWords) -> Element
+/// The title and the description.
+pub const AFTER_HEAD: &[u8] =
+    br#"<svg viewBox="0 0 1860 950" role="img" aria-labelledby="c{0}t c{0}d">
+<title id="c{0}t">Event {0}, after time zero: change of speed and deployments</title>
+<desc id="c{0}d">Delta-V longitudinal and lateral at each 10 ms. Greatest longitudinal {1} km/h at {2} ms, greatest lateral {3} km/h at {4} ms, end of event {5} ms. Below, on the same time axis, the deployments. The table of elements has all values.</desc>
+"#;
+
+/// What stands in the place of the chart where nothing after time zero is recorded.
+pub const WITHOUT_PART: &[u8] = br#"<svg viewBox="0 0 1860 180" role="img" aria-labelledby="c{0}t">
+<title id="c{0}t">Event {0}, after time zero: not recorded</title>
+<rect x="330" y="10" width="1500" height="160" class="gap"/>
+<text x="0" y="98" class="b">Delta-V, restraints</text>
+<text x="1050" y="82" class="c m">not recorded</text>
+<text x="1050" y="126" class="c">The record has no part after time zero: what fired then isn't known.</text>
+</svg>
+"#;
+
+/// The row of something at a time: its name, a flag, and words beside it.
+pub const TIMED_ROW: &[u8] = br#"<text x="0" y="{0}" class="">{1}</text>
+<path class="flag" d="M{2} {3}l-13 -22l26 0z"/>
+<text x="{4}" y="{0}" class="h{5}">{6}</text>
+"#;
+
+/// The row of a restraint that fired.
+pub const FIRED_ROW: &[u8] = br#"<text x="0" y="{0}" class="b">{1}</text>
+<path class="flag" d="M{2} {3}l-13 -22l26 0z"/>
+<text x="{4}" y="{0}" class="h{5} b">{6}</text>
+"#;
+
+/// The row of a restraint that didn't.
+pub const NOT_FIRED_ROW: &[u8] = br#"<text x="0" y="{0}" class="g">{1}</text>
+<text x="352" y="{0}" class="g">none</text>
+"#;
+
+/// Words stand right of a flag, and left of one far to the right, where their class says that they end there.
+pub const RIGHT_OF_FLAG: &[u8] = b"";
+
+pub const LEFT_OF_FLAG: &[u8] = b" e";
+
+pub const FLAG_FAR_RIGHT: u32 = 1_200;
+
+pub const BESIDE_FLAG: u32 = 22;
+
+/// How far below the top of a row its words and the foot of its flag stand.
+pub const WORDS_DOWN: u32 = 25;
+
+pub const FLAG_DOWN: u32 = 28;
+
+/// The tops of the rows of the event, and of those of the restraints.
+pub const END_Y: u32 = 536;
+
+pub const ALONG_Y: u32 = 569;
+
+pub const ACROSS_Y: u32 = 602;
+
+pub const RESULTANT_Y: u32 = 635;
+
+pub const RESTRAINTS_Y: u32 = 668;
+
+pub const ROW_HEIGHT: u32 = 33;
+
+pub const ROWS_END: u32 = 932;
+
+pub const END_OF_EVENT: &[u8] = b"End of event";
+
+pub const MAX_LONGITUDINAL: &[u8] = b"Max. longitudinal";
+
+pub const MAX_LATERAL: &[u8] = b"Max. lateral";
+
+pub const MAX_RESULTANT: &[u8] = b"Max. resultant";
+
+pub const DRIVER_FRONTAL: &[u8] = b"Driver frontal";
+
+pub const PASSENGER_FRONTAL: &[u8] = b"Passenger frontal";
+
+pub const DRIVER_SIDE: &[u8] = b"Driver side";
+
+pub const PASSENGER_SIDE: &[u8] = b"Passenger side";
+
+pub const DRIVER_CURTAIN: &[u8] = b"Driver curtain";
+
+pub const PASSENGER_CURTAIN: &[u8] = b"Passenger curtain";
+
+pub const DRIVER_PRETENSIONER: &[u8] = b"Driver pretensioner";
+
+pub const PASSENGER_PRETENSIONER: &[u8] = b"Passenger pretensioner";
+
+// Where the words of a flag stand across.
+fn beside(x: u32) -> u32
     requires { x ≤ 1_000_000 }
-    ensures { result ≡ beside x y bold words }
+    ensures { result ≡ beside x }
 {
-    if x < 1_200 {
-        let class = if bold { Class::RightBold } else { Class::Right };
-        Element::Text {
-            x: x + 22,
-            y,
-            class,
-            words,
-        }
+    if x < FLAG_FAR_RIGHT {
+        x + BESIDE_FLAG
     } else {
-        let class = if bold { Class::LeftBold } else { Class::Left };
-        Element::Text {
-            x: x - 22,
-            y,
-            class,
-            words,
-        }
+        x - BESIDE_FLAG
     }
 }
 
-// Draws the row of something at a time.
-#[tactic(auto, unfolding(crate::specs::Rows::timed_row))]
+fn side(x: u32) -> &'static [u8]
+    ensures { result.now ≡ side x }
+{
+    if x < FLAG_FAR_RIGHT {
+        RIGHT_OF_FLAG
+    } else {
+        LEFT_OF_FLAG
+    }
+}
+
+// Draws the row of something at a time, with these words.
 fn draw_timed(
     out: &mut Vec<u8>,
+    template: &[u8],
     scale: &Scale,
     y: u32,
-    bold: bool,
-    label: Label,
+    label: &'static [u8],
     time: u16,
-    words: TextWords,
+    words: Filling,
 ) -> Result<(), OutOfMemory>
     requires span { 300 ≤ scale.now.span }
     requires place { y ≤ 2_000 }
-    ensures { OnOk result (out.new.items ≡ out.old.items ++ timed_row scale.now y bold label time words) }
+    ensures { OnOk result (out.new.items ≡ out.old.items ++ timed_row template.now scale.now y label.now time (filling_bytes words)) }
 {
     let x = scale.x(time);
-    let class = if bold { Class::Bold } else { Class::Plain };
-    draw(
+    fill(
         out,
+        template,
         &[
-            name(y + 25, class, label),
-            Element::Flag { x, y: y + 28 },
-            beside(x, y + 25, bold, words),
+            Number(y + WORDS_DOWN),
+            Text(label),
+            Number(x),
+            Number(y + FLAG_DOWN),
+            Number(beside(x)),
+            Text(side(x)),
+            words,
         ],
     )
 }
 
-// Draws the row of a restraint.
+// Draws the row of a restraint, which is this one in the order of a record.
 #[tactic(auto, unfolding(crate::specs::Rows::restraint_row))]
 fn draw_restraint(
     out: &mut Vec<u8>,
     scale: &Scale,
-    y: u32,
-    label: Label,
+    row: u32,
+    label: &'static [u8],
     fired: Option<u16>,
 ) -> Result<(), OutOfMemory>
     requires span { 300 ≤ scale.now.span }
-    requires place { y ≤ 2_000 }
-    ensures { OnOk result (out.new.items ≡ out.old.items ++ restraint_row scale.now y label fired) }
+    requires row { row ≤ 7 }
+    ensures { OnOk result (out.new.items ≡ out.old.items ++ restraint_row scale.now row label.now fired) }
 {
+    let y = RESTRAINTS_Y + ROW_HEIGHT * row;
     match fired {
-        Some(time) => draw_timed(
-            out,
-            scale,
-            y,
-            true,
-            label,
-            time,
-            TextWords::Milliseconds(time),
-        ),
-        None => draw(
-            out,
-            &[
-                name(y + 25, Class::Grey, label),
-                text(LEFT + 22, y + 25, Class::Grey, Label::None),
-            ],
-        ),
+        Some(time) => draw_timed(out, FIRED_ROW, scale, y, label, time, Milliseconds(time)),
+        None => fill(out, NOT_FIRED_ROW, &[Number(y + WORDS_DOWN), Text(label)]),
     }
 }
 
-// Draws the rows of the air bags in front and at the sides.
-#[tactic(auto, unfolding(crate::specs::Rows::bag_rows))]
-fn draw_bags(out: &mut Vec<u8>, scale: &Scale, fired: &[Option<u16>; 8]) -> Result<(), OutOfMemory>
+// Draws the rows of all restraints.
+#[tactic(auto, unfolding(crate::specs::Rows::restraint_rows))]
+fn draw_restraints(
+    out: &mut Vec<u8>,
+    scale: &Scale,
+    fired: &[Option<u16>; 8],
+) -> Result<(), OutOfMemory>
     requires { 300 ≤ scale.now.span }
-    ensures { OnOk result (out.new.items ≡ out.old.items ++ bag_rows scale.now fired.now) }
+    ensures { OnOk result (out.new.items ≡ out.old.items ++ restraint_rows scale.now fired.now) }
 {
-    draw_restraint(out, scale, 668, Label::DriverFrontal, fired[0])?;
-    draw_restraint(out, scale, 701, Label::PassengerFrontal, fired[1])?;
-    draw_restraint(out, scale, 734, Label::DriverSide, fired[2])?;
-    draw_restraint(out, scale, 767, Label::PassengerSide, fired[3])
-}
-
-// Draws the rows of curtains and pretensioners.
-#[tactic(auto, unfolding(crate::specs::Rows::belt_rows))]
-fn draw_belts(out: &mut Vec<u8>, scale: &Scale, fired: &[Option<u16>; 8]) -> Result<(), OutOfMemory>
-    requires { 300 ≤ scale.now.span }
-    ensures { OnOk result (out.new.items ≡ out.old.items ++ belt_rows scale.now fired.now) }
-{
-    draw_restraint(out, scale, 800, Label::DriverCurtain, fired[4])?;
-    draw_restraint(out, scale, 833, Label::PassengerCurtain, fired[5])?;
-    draw_restraint(out, scale, 866, Label::DriverPretensioner, fired[6])?;
-    draw_restraint(out, scale, 899, Label::PassengerPretensioner, fired[7])
+    draw_restraint(out, scale, 0, DRIVER_FRONTAL, fired[0])?;
+    draw_restraint(out, scale, 1, PASSENGER_FRONTAL, fired[1])?;
+    draw_restraint(out, scale, 2, DRIVER_SIDE, fired[2])?;
+    draw_restraint(out, scale, 3, PASSENGER_SIDE, fired[3])?;
+    draw_restraint(out, scale, 4, DRIVER_CURTAIN, fired[4])?;
+    draw_restraint(out, scale, 5, PASSENGER_CURTAIN, fired[5])?;
+    draw_restraint(out, scale, 6, DRIVER_PRETENSIONER, fired[6])?;
+    draw_restraint(out, scale, 7, PASSENGER_PRETENSIONER, fired[7])
 }
 
 // Draws the row of a greatest change.
@@ -130,23 +196,15 @@ fn draw_extreme(
     out: &mut Vec<u8>,
     scale: &Scale,
     y: u32,
-    label: Label,
+    label: &'static [u8],
     extreme: Extreme,
 ) -> Result<(), OutOfMemory>
     requires span { 300 ≤ scale.now.span }
     requires place { y ≤ 2_000 }
-    ensures { OnOk result (out.new.items ≡ out.old.items ++ extreme_row scale.now y label extreme) }
+    ensures { OnOk result (out.new.items ≡ out.old.items ++ extreme_row scale.now y label.now extreme) }
 {
-    let Extreme { kmh, at } = extreme;
-    draw_timed(
-        out,
-        scale,
-        y,
-        false,
-        label,
-        at,
-        TextWords::Extreme { at, kmh },
-    )
+    let Extreme { at, kmh } = extreme;
+    draw_timed(out, TIMED_ROW, scale, y, label, at, Greatest { at, kmh })
 }
 
 // Draws the row of a time.
@@ -154,41 +212,33 @@ fn draw_time(
     out: &mut Vec<u8>,
     scale: &Scale,
     y: u32,
-    label: Label,
+    label: &'static [u8],
     time: u16,
 ) -> Result<(), OutOfMemory>
     requires span { 300 ≤ scale.now.span }
     requires place { y ≤ 2_000 }
-    ensures { OnOk result (out.new.items ≡ out.old.items ++ timed_row scale.now y false label time (TextWords.Milliseconds time)) }
+    ensures { OnOk result (out.new.items ≡ out.old.items ++ time_row scale.now y label.now time) }
 {
-    draw_timed(
-        out,
-        scale,
-        y,
-        false,
-        label,
-        time,
-        TextWords::Milliseconds(time),
-    )
+    draw_timed(out, TIMED_ROW, scale, y, label, time, Milliseconds(time))
 }
 
 // Draws the rows of the end of the event and of the greatest changes.
 #[tactic(auto, unfolding(crate::specs::Rows::event_rows))]
-fn draw_events(out: &mut Vec<u8>, scale: &Scale, crash: &Crash) -> Result<(), OutOfMemory>
+fn draw_event(out: &mut Vec<u8>, scale: &Scale, crash: &Crash) -> Result<(), OutOfMemory>
     requires { 300 ≤ scale.now.span }
     ensures { OnOk result (out.new.items ≡ out.old.items ++ event_rows scale.now crash.now) }
 {
-    draw_time(out, scale, 536, Label::EndOfEvent, crash.end)?;
-    draw_extreme(out, scale, 569, Label::MaxLongitudinal, crash.max_along)?;
-    draw_extreme(out, scale, 602, Label::MaxLateral, crash.max_across)?;
-    draw_time(out, scale, 635, Label::MaxResultant, crash.result_at)
+    draw_time(out, scale, END_Y, END_OF_EVENT, crash.end)?;
+    draw_extreme(out, scale, ALONG_Y, MAX_LONGITUDINAL, crash.max_along)?;
+    draw_extreme(out, scale, ACROSS_Y, MAX_LATERAL, crash.max_across)?;
+    draw_time(out, scale, RESULTANT_Y, MAX_RESULTANT, crash.result_at)
 }
 
 // Draws a line across the chart.
 fn draw_rule(out: &mut Vec<u8>, y: u32) -> Result<(), OutOfMemory>
-    ensures { OnOk result (out.new.items ≡ out.old.items ++ elements_bytes (rule y ∷ [])) }
+    ensures { OnOk result (out.new.items ≡ out.old.items ++ rule y) }
 {
-    draw(out, &[rule(y)])
+    fill(out, RULE, &[Number(y)])
 }
 
 // Draws all rows.
@@ -197,12 +247,11 @@ fn draw_rows(out: &mut Vec<u8>, scale: &Scale, crash: &Crash) -> Result<(), OutO
     requires { 300 ≤ scale.now.span }
     ensures { OnOk result (out.new.items ≡ out.old.items ++ rows_chart scale.now crash.now) }
 {
-    draw_rule(out, 536)?;
-    draw_events(out, scale, crash)?;
-    draw_rule(out, 668)?;
-    draw_bags(out, scale, &crash.fired)?;
-    draw_belts(out, scale, &crash.fired)?;
-    draw_rule(out, 932)
+    draw_rule(out, END_Y)?;
+    draw_event(out, scale, crash)?;
+    draw_rule(out, RESTRAINTS_Y)?;
+    draw_restraints(out, scale, &crash.fired)?;
+    draw_rule(out, ROWS_END)
 }
 
 #[tactic(auto, unfolding(crate::specs::Rows::after_head))]
@@ -215,67 +264,18 @@ fn put_head(out: &mut Vec<u8>, number: u64, crash: &Crash) -> Result<(), OutOfMe
         max_across,
         ..
     } = *crash;
-    put(
+    fill(
         out,
+        AFTER_HEAD,
         &[
-            Piece::Tag(Tag::AfterChart),
-            Piece::Count(number),
-            Piece::Tag(Tag::AfterIds),
-            Piece::Count(number),
-            Piece::Tag(Tag::AfterTitle),
-            Piece::Count(number),
-            Piece::Tag(Tag::TitleEvent),
-            Piece::Count(number),
-            Piece::Tag(Tag::AfterDescription),
-            Piece::Count(number),
-            Piece::Tag(Tag::GreatestAlong),
-            Piece::Change(max_along.kmh),
-            Piece::Tag(Tag::KmhAt),
-            Piece::Number(u32::from(max_along.at)),
-            Piece::Tag(Tag::GreatestAcross),
-            Piece::Change(max_across.kmh),
-            Piece::Tag(Tag::KmhAt),
-            Piece::Number(u32::from(max_across.at)),
-            Piece::Tag(Tag::EndAt),
-            Piece::Number(u32::from(end)),
-            Piece::Tag(Tag::AfterDescribed),
+            Count(number),
+            Change(max_along.kmh),
+            Number(u32::from(max_along.at)),
+            Change(max_across.kmh),
+            Number(u32::from(max_across.at)),
+            Number(u32::from(end)),
         ],
     )
-}
-
-// Draws what stands in the place of the chart where nothing after time zero is recorded.
-#[tactic(auto, unfolding(crate::specs::Rows::without_part))]
-fn draw_without(out: &mut Vec<u8>, number: u64) -> Result<(), OutOfMemory>
-    ensures { OnOk result (out.new.items ≡ out.old.items ++ without_part number) }
-{
-    put(
-        out,
-        &[
-            Piece::Tag(Tag::WithoutChart),
-            Piece::Count(number),
-            Piece::Tag(Tag::WithoutTitle),
-            Piece::Count(number),
-            Piece::Tag(Tag::TitleEvent),
-            Piece::Count(number),
-            Piece::Tag(Tag::WithoutEnd),
-        ],
-    )?;
-    draw(
-        out,
-        &[
-            Element::Rect {
-                x: LEFT,
-                y: 10,
-                width: 1_500,
-                height: 160,
-                class: Class::Gap,
-            },
-            name(98, Class::Bold, Label::ChangeAndRestraints),
-            text(1_050, 82, Class::CentreLarge, Label::NotRecorded),
-            text(1_050, 126, Class::Centre, Label::WithoutPart),
-        ],
-    )?;
-    put_tag(out, Tag::ChartEnd)
 }
 
 /// Draws the chart of the event with this number.
@@ -284,11 +284,11 @@ pub fn draw_after(out: &mut Vec<u8>, number: u64, crash: &Option<Crash>) -> Resu
     ensures { OnOk result (out.new.items ≡ out.old.items ++ after_chart number crash.now) }
 {
     let Some(crash) = crash else {
-        return draw_without(out, number);
+        return fill(out, WITHOUT_PART, &[Count(number)]);
     };
     let scale = Scale::of(crash);
     put_head(out, number, crash)?;
     draw_changes(out, &scale, crash)?;
     draw_rows(out, &scale, crash)?;
-    put_tag(out, Tag::ChartEnd)
+    put(out, CHART_END)
 }

@@ -6,17 +6,32 @@ ghost use Rattle.edr_drawing.specs.Scales.{time_at, slot_x, intervals, least_ste
 
 use edr_record::Profile;
 
-/// The left end of a plot, and its width.
+/// The left end of a plot.
 pub const LEFT: u32 = 330;
 
-pub const RIGHT: u32 = 1_830;
+pub const WIDTH: u32 = 1_500;
+
+pub const RIGHT: u32 = LEFT + WIDTH;
+
+/// The top of the plot of changes of speed, and its height.
+pub const BELOW_TOP: u32 = 80;
+
+pub const HEIGHT: u32 = 370;
+
+/// Where the first of eleven times stands across, and how far the next one stands from it.
+pub const FIRST_TIME: u32 = 400;
+
+pub const TIME_STEP: u32 = 136;
+
+/// How many slots of a long profile there are from one time to the next.
+pub const TIME_SLOTS: u32 = 20;
 
 /// Where a time of eleven stands across, the last of which is time zero.
 pub fn time_at(k: u32) -> u32
     requires { k < 11 }
     ensures { result ≡ time_at k }
 {
-    400 + 136 * k
+    FIRST_TIME + TIME_STEP * k
 }
 
 /// Where a slot stands across, the newest of which is at time zero.
@@ -26,8 +41,8 @@ pub fn slot_x(profile: Profile, k: u32) -> u32
     ensures range { (400 ≤ result) × (result ≤ 30_000) }
 {
     match profile {
-        Profile::Short => 400 + 136 * k,
-        Profile::Long => 400 + 136 * k / 20,
+        Profile::Short => FIRST_TIME + TIME_STEP * k,
+        Profile::Long => FIRST_TIME + TIME_STEP * k / TIME_SLOTS,
     }
 }
 

@@ -1,45 +1,44 @@
 //! The sheet of an event.
 
-ghost use Rattle.std.specs.Prelude.{◌≡◌, ◌++◌, ◌≤◌, ◌+◌, ◌/◌, OnOk, flat_map};
-ghost use Rattle.edr_drawing.specs.Sheets.{yes_no, profile_tag, place_words, hex_digit, hex_byte, digest_hex, sheet_head, facts, sheet_foot, sheet, sheet_if, count_if, sheets};
+ghost use Rattle.std.specs.Prelude.{◌≡◌, ◌++◌, ◌≤◌, ◌+◌, ◌/◌, OnOk};
+ghost use Rattle.edr_drawing.specs.Sheets.{count_if, digest_hex, facts, hex_byte, hex_digit, profile_word, sheet, sheet_foot, sheet_head, sheet_if, sheets, yes_no};
 
 use crate::before::draw_before;
-use crate::pieces::{Piece, put, put_tag};
 use crate::reasons::put_reasons;
 use crate::rows::draw_after;
 use crate::tables::{put_elements, put_points_table};
-use crate::tags::Tag;
+use crate::template::Filling::{Count, Number, Place as PlaceOf, Text};
+use crate::template::{fill, put};
 use edr_image::{BankView, Found};
 use edr_record::{Key, Place, Profile, Record};
-use edr_report::{number_shown, tenths_of};
+use edr_report::number_shown;
 use std::alloc::{AllocError as OutOfMemory, Global};
 
-pub fn yes_no(b: bool) -> Tag
-    ensures { result ≡ yes_no b }
-{
-    if b { Tag::Yes } else { Tag::No }
-}
+pub const SHEET_HEAD: &[u8] = br#"<section id="e{0}" aria-labelledby="e{0}h">
+<div class="head"><h2 id="e{0}h">Event {0}</h2><p>Complete file recorded: <b>{1}</b></p></div>
+"#;
 
-/// Appends the place of an event in its crash.
-pub fn put_place(out: &mut Vec<u8>, place: Place) -> Result<(), OutOfMemory>
-    ensures { OnOk result (out.new.items ≡ out.old.items ++ place_words place) }
+pub const FACTS: &[u8] =
+    br#"<ul class="facts"><li>Ignition cycle <b>{0}</b></li><li>Time zero <b>{1} ms</b></li><li>Bank <b>{2}</b></li><li>Deployment event: <b>{3}</b></li><li>Pre-crash profile: <b>{4}</b></li><li>Place in crash: <b>{5}</b></li></ul>
+"#;
+
+/// The foot, up to the digest.
+pub const SHEET_FOOT: &[u8] = br#"<p class="foot">Event {0} of the report with SHA-256 <code>"#;
+
+pub const FOOT_END: &[u8] = b"</code></p>\n</section>\n";
+
+pub const YES: &[u8] = b"yes";
+
+pub const NO: &[u8] = b"no";
+
+pub const SHORT: &[u8] = b"short";
+
+pub const LONG: &[u8] = b"long";
+
+pub fn yes_no(b: bool) -> &'static [u8]
+    ensures { result.now ≡ yes_no b }
 {
-    match place {
-        Place::First => put_tag(out, Tag::First),
-        Place::Second { after } => {
-            let tenths = tenths_of(after);
-            put(
-                out,
-                &[
-                    Piece::Tag(Tag::Second),
-                    Piece::Count(tenths / 10),
-                    Piece::Tag(Tag::Tenth),
-                    Piece::Count(tenths % 10),
-                    Piece::Tag(Tag::Seconds),
-                ],
-            )
-        }
-    }
+    if b { YES } else { NO }
 }
 
 fn hex_digit(n: u8) -> u8
@@ -69,30 +68,15 @@ pub fn put_digest(out: &mut Vec<u8>, digest: &[u8; 32]) -> Result<(), OutOfMemor
 fn put_head(out: &mut Vec<u8>, number: u64, complete: bool) -> Result<(), OutOfMemory>
     ensures { OnOk result (out.new.items ≡ out.old.items ++ sheet_head number complete) }
 {
-    put(
-        out,
-        &[
-            Piece::Tag(Tag::SheetId),
-            Piece::Count(number),
-            Piece::Tag(Tag::SheetLabel),
-            Piece::Count(number),
-            Piece::Tag(Tag::SheetHead),
-            Piece::Count(number),
-            Piece::Tag(Tag::SheetTitle),
-            Piece::Count(number),
-            Piece::Tag(Tag::SheetComplete),
-            Piece::Tag(yes_no(complete)),
-            Piece::Tag(Tag::SheetHeadEnd),
-        ],
-    )
+    fill(out, SHEET_HEAD, &[Count(number), Text(yes_no(complete))])
 }
 
-fn profile_tag(profile: Profile) -> Tag
-    ensures { result ≡ profile_tag profile }
+fn profile_word(profile: Profile) -> &'static [u8]
+    ensures { result.now ≡ profile_word profile }
 {
     match profile {
-        Profile::Short => Tag::Short,
-        Profile::Long => Tag::Long,
+        Profile::Short => SHORT,
+        Profile::Long => LONG,
     }
 }
 
@@ -107,40 +91,27 @@ fn put_facts(
 ) -> Result<(), OutOfMemory>
     ensures { OnOk result (out.new.items ≡ out.old.items ++ facts bank key locked profile place) }
 {
-    put(
+    fill(
         out,
+        FACTS,
         &[
-            Piece::Tag(Tag::FactsCycle),
-            Piece::Number(number_shown(key.cycle)),
-            Piece::Tag(Tag::FactsZero),
-            Piece::Number(key.zero),
-            Piece::Tag(Tag::FactsBank),
-            Piece::Number(u32::from(bank)),
-            Piece::Tag(Tag::FactsLocked),
-            Piece::Tag(yes_no(locked)),
-            Piece::Tag(Tag::FactsProfile),
-            Piece::Tag(profile_tag(profile)),
-            Piece::Tag(Tag::FactsPlace),
+            Number(number_shown(key.cycle)),
+            Number(key.zero),
+            Number(u32::from(bank)),
+            Text(yes_no(locked)),
+            Text(profile_word(profile)),
+            PlaceOf(place),
         ],
-    )?;
-    put_place(out, place)?;
-    put_tag(out, Tag::FactsEnd)
+    )
 }
 
 #[tactic(auto, unfolding(crate::specs::Sheets::sheet_foot))]
 fn put_foot(out: &mut Vec<u8>, number: u64, digest: &[u8; 32]) -> Result<(), OutOfMemory>
     ensures { OnOk result (out.new.items ≡ out.old.items ++ sheet_foot number digest.now) }
 {
-    put(
-        out,
-        &[
-            Piece::Tag(Tag::SheetFoot),
-            Piece::Count(number),
-            Piece::Tag(Tag::SheetDigest),
-        ],
-    )?;
+    fill(out, SHEET_FOOT, &[Count(number)])?;
     put_digest(out, digest)?;
-    put_tag(out, Tag::FootEnd)
+    put(out, FOOT_END)
 }
 
 // Appends the sheet of the event with this number.

@@ -6,15 +6,56 @@ ghost use Rattle.edr_report.specs.Report.{event_lines, run_lines};
 ghost use Rattle.edr_drawing.specs.Tables.{row, time_cells, change_cell, change_row, points_table, line_row, rows_bytes, elements_table, run_table};
 
 use crate::after::points_of;
-use crate::pieces::{Piece, put, put_tag};
-use crate::tags::Tag;
+use crate::template::Filling::{Change, Number};
+use crate::template::{fill, put};
 use edr_image::CycleReport;
-use edr_record::{Crash, Record, point_count};
+use edr_record::{Crash, POINT_STEP, Record, point_count};
 use edr_report::{Lines, print_event, print_run};
 use std::alloc::{AllocError as OutOfMemory, Global};
 
-// The line of a report before which a second table begins.
-const SECOND_TABLE: &[u8] = b"delta-V lateral, km/h";
+/// The line of a report before which a second table begins.
+pub const SECOND_TABLE: &[u8] = b"delta-V lateral, km/h";
+
+/// What stands before the name of a line, between it and the value, and after it.
+pub const LINE_NAME: &[u8] = br#"<tr><th scope="row">"#;
+
+pub const LINE_VALUE: &[u8] = b"</th><td>";
+
+pub const LINE_END: &[u8] = b"</td></tr>\n";
+
+/// The table of the changes of speed, up to its times.
+pub const POINTS_START: &[u8] = br#"<table class="num">
+<caption>Delta-V, km/h, at each 10 ms after time zero</caption>
+<thead><tr><th scope="col">ms</th>"#;
+
+pub const POINT_TIME: &[u8] = br#"<th scope="col">{0}</th>"#;
+
+pub const POINTS_BODY: &[u8] = b"</tr></thead>\n<tbody>\n";
+
+pub const ALONG_ROW: &[u8] = br#"<tr><th scope="row">longitudinal</th>"#;
+
+pub const ACROSS_ROW: &[u8] = br#"<tr><th scope="row">lateral</th>"#;
+
+pub const CELL: &[u8] = b"<td>{0}</td>";
+
+pub const ROW_END: &[u8] = b"</tr>\n";
+
+pub const TABLE_END: &[u8] = b"</tbody>\n</table>\n";
+
+pub const ELEMENTS_START: &[u8] = br#"<h3>All elements, as the report has them</h3>
+<div class="two">
+<table>
+<tbody>
+"#;
+
+pub const ELEMENTS_END: &[u8] = b"</tbody>\n</table>\n</div>\n";
+
+pub const NEXT_TABLE: &[u8] = b"</tbody>\n</table>\n<table>\n<tbody>\n";
+
+pub const RUN_START: &[u8] = br#"<table>
+<caption>What was acknowledged while the trace was replayed</caption>
+<tbody>
+"#;
 
 /// The rows of lines of a report.
 #[derive(Drop)]
@@ -33,7 +74,7 @@ impl Lines for Rows {
 
     fn line(&mut self, _block: u64, name: &[u8], value: &[u8]) -> Result<(), OutOfMemory> {
         if name == SECOND_TABLE {
-            put_tag(&mut self.bytes, Tag::NextTable)?;
+            put(&mut self.bytes, NEXT_TABLE)?;
         }
         put_row(&mut self.bytes, name, value)
     }
@@ -43,11 +84,11 @@ impl Lines for Rows {
 fn put_row(out: &mut Vec<u8>, name: &[u8], value: &[u8]) -> Result<(), OutOfMemory>
     ensures { OnOk result (out.new.items ≡ out.old.items ++ row name.now value.now) }
 {
-    put_tag(out, Tag::LineName)?;
+    put(out, LINE_NAME)?;
     out.extend_from_slice(name)?;
-    put_tag(out, Tag::LineValue)?;
+    put(out, LINE_VALUE)?;
     out.extend_from_slice(value)?;
-    put_tag(out, Tag::LineEnd)
+    put(out, LINE_END)
 }
 
 // Appends the time of each point.
@@ -56,14 +97,7 @@ fn put_times(out: &mut Vec<u8>, count: u32) -> Result<(), OutOfMemory>
     ensures { OnOk result (out.new.items ≡ out.old.items ++ time_cells count) }
 {
     for i in 0..count {
-        put(
-            out,
-            &[
-                Piece::Tag(Tag::PointTime),
-                Piece::Number(10 * i),
-                Piece::Tag(Tag::PointTimeEnd),
-            ],
-        )?;
+        fill(out, POINT_TIME, &[Number(u32::from(POINT_STEP) * i)])?;
     }
     Ok(())
 }
@@ -73,25 +107,18 @@ fn put_cells(out: &mut Vec<u8>, points: &[i16]) -> Result<(), OutOfMemory>
     ensures { OnOk result (out.new.items ≡ out.old.items ++ flat_map change_cell points.now) }
 {
     for point in points {
-        put(
-            out,
-            &[
-                Piece::Tag(Tag::Cell),
-                Piece::Change(*point),
-                Piece::Tag(Tag::CellEnd),
-            ],
-        )?;
+        fill(out, CELL, &[Change(*point)])?;
     }
     Ok(())
 }
 
 // Appends the row of an axis.
-fn put_axis(out: &mut Vec<u8>, tag: Tag, points: &[i16]) -> Result<(), OutOfMemory>
-    ensures { OnOk result (out.new.items ≡ out.old.items ++ change_row tag points.now) }
+fn put_axis(out: &mut Vec<u8>, start: &[u8], points: &[i16]) -> Result<(), OutOfMemory>
+    ensures { OnOk result (out.new.items ≡ out.old.items ++ change_row start.now points.now) }
 {
-    put(out, &[Piece::Tag(tag)])?;
+    put(out, start)?;
     put_cells(out, points)?;
-    put_tag(out, Tag::RowEnd)
+    put(out, ROW_END)
 }
 
 /// Appends the table of the changes of speed, if they are there.
@@ -102,12 +129,12 @@ pub fn put_points_table(out: &mut Vec<u8>, crash: &Option<Crash>) -> Result<(), 
     let Some(crash) = crash else {
         return Ok(());
     };
-    put_tag(out, Tag::PointsStart)?;
+    put(out, POINTS_START)?;
     put_times(out, point_count(crash.end) as u32)?;
-    put_tag(out, Tag::PointsBody)?;
-    put_axis(out, Tag::AlongRow, points_of(crash.end, &crash.along))?;
-    put_axis(out, Tag::AcrossRow, points_of(crash.end, &crash.across))?;
-    put_tag(out, Tag::TableEnd)
+    put(out, POINTS_BODY)?;
+    put_axis(out, ALONG_ROW, points_of(crash.end, &crash.along))?;
+    put_axis(out, ACROSS_ROW, points_of(crash.end, &crash.across))?;
+    put(out, TABLE_END)
 }
 
 /// Appends the tables of all lines of an event.
@@ -125,9 +152,9 @@ pub fn put_elements(
         bytes: Vec::new(alloc),
     };
     let rows = print_event(alloc, empty, number, bank, event)?;
-    put_tag(out, Tag::ElementsStart)?;
+    put(out, ELEMENTS_START)?;
     out.extend_from_slice(&rows.bytes)?;
-    put_tag(out, Tag::ElementsEnd)
+    put(out, ELEMENTS_END)
 }
 
 /// Appends the table of the cycles of a run, if there are any.
@@ -142,7 +169,7 @@ pub fn put_run(out: &mut Vec<u8>, alloc: Global, run: &[CycleReport]) -> Result<
         bytes: Vec::new(alloc),
     };
     let rows = print_run(alloc, empty, run)?;
-    put_tag(out, Tag::RunStart)?;
+    put(out, RUN_START)?;
     out.extend_from_slice(&rows.bytes)?;
-    put_tag(out, Tag::TableEnd)
+    put(out, TABLE_END)
 }

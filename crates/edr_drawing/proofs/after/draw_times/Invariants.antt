@@ -1,7 +1,9 @@
-use Rattle.std.proofs.Common.{◌≡◌, ◌++◌, ◌*◌}
+use Rattle.std.proofs.Common.{◌≡◌, ◌++◌, ◌+◌, ◌*◌}
+use Rattle.edr_drawing.specs.declared.after.TheConstants.{TIMES_APART}
 use Rattle.edr_drawing.specs.Scales.{flat_map_below}
 use Rattle.edr_drawing.specs.After.{time_line}
 use Rattle.edr_drawing.proofs.after.draw_times.Given as goal
 
 abbrev pub invariant-loop-i : goal.invariant-loop-i
-invariant-loop-i l = l.out.items ≡ l.initial.out.items ++ flat_map_below (λ i. time_line l.scale (50 * i)) l.i
+invariant-loop-i l =
+    l.out.items ≡ l.initial.out.items ++ flat_map_below (λ i. time_line l.scale (TIMES_APART * (i + 1))) l.i

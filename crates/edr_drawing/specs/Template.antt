@@ -1,0 +1,58 @@
+-- Templates of a page, and what goes into their holes.
+use Rattle.std.specs.Prelude.{ℕ, ℤ, ◌-◌, ◌/◌, ◌%◌, Bool, true, false, if◌then◌else◌, nat_eq, List, [], ◌∷◌, ◌++◌, get_or, codes, decimal}
+use Rattle.std.specs.Fmt.{signed_decimal}
+use Rattle.edr_record.specs.declared.Place.{Place}
+use Rattle.edr_record.specs.declared.Place.TheVariants.{First, Second}
+use Rattle.edr_report.specs.Words.{tenths_of}
+use Rattle.edr_drawing.specs.declared.template.Filling.{Filling}
+use Rattle.edr_drawing.specs.declared.template.Filling.TheVariants as filling
+use Rattle.edr_drawing.specs.declared.template.TheConstants.{FIRST, SECOND_AFTER}
+
+-- tenths of a second, as seconds
+abbrev pub seconds : ℕ → List ℕ
+seconds tenths = decimal (tenths / 10) ++ codes "." ++ decimal (tenths % 10)
+
+-- the place of an event in its crash, with the time from the first event, rounded half up
+abbrev pub place_words : Place → List ℕ
+place_words First = FIRST.now
+place_words (Second after) = SECOND_AFTER.now ++ seconds (tenths_of after) ++ codes " s"
+
+abbrev pub milliseconds : ℕ → List ℕ
+milliseconds t = decimal t ++ codes " ms"
+
+-- a greatest change, with its time before it
+abbrev pub extreme_words : ℕ → ℤ → List ℕ
+extreme_words at kmh = decimal at ++ codes " ms, " ++ signed_decimal kmh ++ codes " km/h"
+
+-- what goes into a hole
+abbrev pub filling_bytes : Filling → List ℕ
+filling_bytes (filling.Text t) = t.now
+filling_bytes (filling.Number n) = decimal n
+filling_bytes (filling.Count n) = decimal n
+filling_bytes (filling.Change z) = signed_decimal z
+filling_bytes (filling.Below n) = codes "-" ++ decimal n
+filling_bytes (filling.Seconds tenths) = seconds tenths
+filling_bytes (filling.Place p) = place_words p
+filling_bytes (filling.Milliseconds t) = milliseconds t
+filling_bytes (filling.Extreme at kmh) = extreme_words at kmh
+
+-- a byte of a template, which in a hole is the number of a value
+abbrev pub byte_bytes : List (List ℕ) → Bool → ℕ → List ℕ
+byte_bytes values false b = b ∷ []
+byte_bytes values true b = get_or values (b - 48) []
+
+-- what is left of a template, within a hole or not; a hole begins with {, which is 123, and ends with }, which is 125
+abbrev pub filled_from : List (List ℕ) → Bool → List ℕ → List ℕ
+filled_from values hole [] = []
+filled_from values hole (b ∷ bs) =
+    if nat_eq b 123 then filled_from values true bs
+    else (if nat_eq b 125 then filled_from values false bs
+    else byte_bytes values hole b ++ filled_from values hole bs)
+
+-- a template with these values in its holes
+unfoldable pub filled : List ℕ → List (List ℕ) → List ℕ
+filled template values = filled_from values false template
+
+-- a text with no holes
+unfoldable pub fixed : List ℕ → List ℕ
+fixed text = text

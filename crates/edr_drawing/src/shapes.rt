@@ -1,0 +1,189 @@
+//! The shapes of a chart that stand where a value says. A unit of a chart is a tenth of a millimetre on a sheet of A4.
+
+ghost use Rattle.std.specs.Prelude.{◌≡◌, ◌++◌, OnOk};
+ghost use Rattle.edr_drawing.specs.Shapes.{field_class, path_point, shape_bytes, shapes_bytes, switch_word, word_class};
+
+use crate::template::Filling::{Number, Text};
+use crate::template::fill;
+use std::alloc::AllocError as OutOfMemory;
+
+pub const ON: &[u8] = b"on";
+
+pub const OFF: &[u8] = b"off";
+
+pub const NONE: &[u8] = b"none";
+
+// The classes of fields and of their words, which the style gives their looks.
+pub const GAP: &[u8] = b"gap";
+
+pub const IN_ON: &[u8] = b"c w";
+
+pub const IN_OFF: &[u8] = b"c";
+
+pub const IN_GAP: &[u8] = b"c g h";
+
+/// A path of this class, up to its points.
+pub const PATH: &[u8] = br#"<path class="{0}" d=""#;
+
+pub const PATH_END: &[u8] = b"\"/>\n";
+
+/// A point of a path, which begins there or is joined to the point before it.
+pub const PATH_POINT: &[u8] = b"{0}{1} {2}";
+
+pub const BEGIN: &[u8] = b"M";
+
+pub const JOIN: &[u8] = b"L";
+
+/// The classes of the paths along the car and across it.
+pub const ALONG: &[u8] = b"s1";
+
+pub const ACROSS: &[u8] = b"s2";
+
+pub const DOT: &[u8] = br#"<circle cx="{0}" cy="{1}" r="9" class="p1"/>
+"#;
+
+pub const POINT: &[u8] = br#"<circle cx="{0}" cy="{1}" r="3" class="p1"/>
+"#;
+
+pub const SQUARE: &[u8] = br#"<rect x="{0}" y="{1}" width="16" height="16" class="p2"/>
+"#;
+
+pub const NUMBER: &[u8] = br#"<text x="{0}" y="{1}" class="c v">{2}</text>
+"#;
+
+pub const FIELD: &[u8] = br#"<rect x="{0}" y="{1}" width="{2}" height="{3}" class="{4}"/>
+"#;
+
+pub const WORD: &[u8] = br#"<text x="{0}" y="{1}" class="{2}">{3}</text>
+"#;
+
+/// A line across all of a chart.
+pub const RULE: &[u8] = br#"<path class="part" d="M0 {0}L1830 {0}"/>
+"#;
+
+pub const CHART_END: &[u8] = b"</svg>\n";
+
+/// A shape that stands where a value says.
+#[derive(Clone, Copy)]
+pub enum Shape {
+    Dot {
+        x: u32,
+        y: u32,
+    },
+    /// A small dot, of many.
+    Point {
+        x: u32,
+        y: u32,
+    },
+    Square {
+        x: u32,
+        y: u32,
+    },
+    /// The number of a dot.
+    Value {
+        x: u32,
+        y: u32,
+        value: u32,
+    },
+    /// A field that shows what a switch is, or that there is nothing.
+    Field {
+        x: u32,
+        y: u32,
+        width: u32,
+        height: u32,
+        shows: Option<bool>,
+    },
+    /// The word in such a field.
+    Word {
+        x: u32,
+        y: u32,
+        shows: Option<bool>,
+    },
+}
+
+fn field_class(shows: Option<bool>) -> &'static [u8]
+    ensures { result.now ≡ field_class shows }
+{
+    match shows {
+        Some(true) => ON,
+        Some(false) => OFF,
+        None => GAP,
+    }
+}
+
+fn word_class(shows: Option<bool>) -> &'static [u8]
+    ensures { result.now ≡ word_class shows }
+{
+    match shows {
+        Some(true) => IN_ON,
+        Some(false) => IN_OFF,
+        None => IN_GAP,
+    }
+}
+
+fn switch_word(shows: Option<bool>) -> &'static [u8]
+    ensures { result.now ≡ switch_word shows }
+{
+    match shows {
+        Some(true) => ON,
+        Some(false) => OFF,
+        None => NONE,
+    }
+}
+
+fn put_shape(out: &mut Vec<u8>, shape: Shape) -> Result<(), OutOfMemory>
+    ensures { OnOk result (out.new.items ≡ out.old.items ++ shape_bytes shape) }
+{
+    match shape {
+        Shape::Dot { x, y } => fill(out, DOT, &[Number(x), Number(y)]),
+        Shape::Point { x, y } => fill(out, POINT, &[Number(x), Number(y)]),
+        Shape::Square { x, y } => {
+            let (left, top) = (x.saturating_sub(8), y.saturating_sub(8));
+            fill(out, SQUARE, &[Number(left), Number(top)])
+        }
+        Shape::Value { x, y, value } => fill(out, NUMBER, &[Number(x), Number(y), Number(value)]),
+        Shape::Field {
+            x,
+            y,
+            width,
+            height,
+            shows,
+        } => {
+            let class = field_class(shows);
+            fill(
+                out,
+                FIELD,
+                &[
+                    Number(x),
+                    Number(y),
+                    Number(width),
+                    Number(height),
+                    Text(class),
+                ],
+            )
+        }
+        Shape::Word { x, y, shows } => {
+            let (class, word) = (word_class(shows), switch_word(shows));
+            fill(out, WORD, &[Number(x), Number(y), Text(class), Text(word)])
+        }
+    }
+}
+
+/// Appends shapes.
+pub fn draw(out: &mut Vec<u8>, shapes: &[Shape]) -> Result<(), OutOfMemory>
+    ensures { OnOk result (out.new.items ≡ out.old.items ++ shapes_bytes shapes.now) }
+{
+    for shape in shapes {
+        put_shape(out, *shape)?;
+    }
+    Ok(())
+}
+
+/// Appends a point of a path.
+#[tactic(auto, unfolding(crate::specs::Shapes::path_point))]
+pub fn put_point(out: &mut Vec<u8>, joined: bool, x: u32, y: u32) -> Result<(), OutOfMemory>
+    ensures { OnOk result (out.new.items ≡ out.old.items ++ path_point joined x y) }
+{
+    let join = if joined { JOIN } else { BEGIN };
+    fill(out, PATH_POINT, &[Text(join), Number(x), Number(y)])
+}
