@@ -14,7 +14,7 @@ use Rattle.edr_image.specs.declared.Kind.TheVariants as kind
 use Rattle.edr_image.specs.Banks.{Store, events, damaged_banks}
 use Rattle.edr_image.specs.Reports.{Report, Ran, StartStopped}
 use Rattle.edr_report.specs.Words.{time_between}
-use Rattle.edr_report.specs.Report.{pre_lines, crash_lines, event_lines, report_lines, report_text, report_table}
+use Rattle.edr_report.specs.Report.{event_lines, report_lines, report_text, report_table}
 use Rattle.edr_report.specs.Format.{format_line, migrate_line}
 
 abbrev fresh : Store
@@ -77,7 +77,7 @@ crash_store = record fresh { banks = Event crash ∷ Void ∷ [] }
 
 crash-text : report_text (crash_report ∷ []) crash_store 1 ≡
     codes "cycle 1: number 1, power off\ncycle 1 take at 6020: bank 1\ncycle 1 done at 6148: bank 1\nevent: 1\nbank: 1\nignition cycle, crash: 1\ntime zero: 6003 ms\nmulti-event, number of events: 1\ntime from event 1 to 2: none\ndeployment event: no\npre-crash profile: short\nspeed, km/h: 50 50 50 50 50 50 50 50 50 50 50\nthrottle, %: 20 20 20 20 20 20 20 20 20 20 20\nservice brake: off off off off off off off off off off off\ndriver belt: on\nfrontal air bag warning lamp: off\nend of event: 115 ms\ndelta-V longitudinal, km/h: 0 -4 -8 -12 -16 -20 -24 -28 -32 -36 -39 -39 -39 -39 -39\ndelta-V lateral, km/h: 0 0 0 0 0 0 0 0 0 0 0 0 0 0 0\nmaximum delta-V longitudinal: -39 km/h at 97 ms\nmaximum delta-V lateral: 0 km/h at 0 ms\ntime of maximum resultant: 97 ms\nticks without sample: 0 longitudinal, 0 lateral\ndriver frontal deployment: none\npassenger frontal deployment: none\ndriver side deployment: none\npassenger side deployment: none\ndriver curtain deployment: none\npassenger curtain deployment: none\ndriver pretensioner deployment: none\npassenger pretensioner deployment: none\ncomplete file recorded: yes\nignition cycle, download: 1\n"
-unfolding report_lines event_lines pre_lines crash_lines events damaged_banks digits is_complete
+unfolding report_lines event_lines events damaged_banks digits is_complete
 crash-text = refl
 
 -- a damaged bank, and a count that is shown as at most 60000

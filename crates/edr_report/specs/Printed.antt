@@ -1,11 +1,13 @@
 -- What a form and its printer have given.
 use Rattle.std.specs.Prelude.{◌≡◌, ℕ, List, ◌++◌, map, flat_map, string_bytes}
 use Rattle.std.specs.Borrow.{Bor}
+use Rattle.edr_record.specs.declared.Record.{Record}
+use Rattle.edr_report.specs.declared.event_lines.EventLine.{EventLine}
 use Rattle.edr_report.specs.declared.forms.Lines as form
 use Rattle.edr_report.specs.declared.printer.Printer.{Printer}
 use Rattle.edr_report.specs.declared.values.Value.{Value}
 use Rattle.edr_report.specs.Lines.{Line, line}
-use Rattle.edr_report.specs.Report.{named_lines}
+use Rattle.edr_report.specs.Report.{event_line}
 use Rattle.edr_report.specs.Values.{value_words}
 
 -- the form has these lines more
@@ -20,13 +22,9 @@ GivesLines g old new lines = GainsLines g old.lines new.lines lines
 abbrev pub GivesLine : {L : Type 0} → form.Ghosts L → Printer L → Printer L → Line → Type 0
 GivesLine g old new l = g.bytes new.lines ≡ g.bytes old.lines ++ g.form l
 
--- the lines of names with their values
-abbrev pub entry_lines : ℕ → List (Bor (List ℕ) × Value) → List Line
-entry_lines block entries = map (λ e. line block e.0.now (value_words e.1)) entries
-
--- the lines of these values behind the first of these names
-abbrev pub value_lines : ℕ → List (Bor (List ℕ)) → List Value → List Line
-value_lines block names values = named_lines block (map (λ n. n.now) names) (map value_words values)
+-- these lines, with their names, of an event
+abbrev pub some_lines : ℕ → ℕ → Record → List (Bor (List ℕ) × EventLine) → List Line
+some_lines block bank r lines = map (λ l. event_line block bank r l.0.now l.1) lines
 
 -- the line of block 0 that has the printer's name
 abbrev pub named_line : {L : Type 0} → Printer L → Value → Line

@@ -1,16 +1,17 @@
 -- The lines of a report.
-use Rattle.std.specs.Prelude.{ℕ, Bool, Option, Some, None, List, [], ◌∷◌, ◌++◌, map, flat_map, filter_map, replicate, codes, decimal}
+use Rattle.std.specs.Prelude.{ℕ, Option, Some, None, List, [], ◌∷◌, ◌++◌, map, flat_map, filter_map, codes, decimal}
 use Rattle.std.specs.List.{enumerate_from}
 use Rattle.edr_record.specs.declared.Record.{Record}
-use Rattle.edr_record.specs.Parts.{PrePart, CrashPart}
-use Rattle.edr_record.specs.Complete.{is_complete}
 use Rattle.edr_image.specs.declared.Ack.{Ack}
 use Rattle.edr_image.specs.declared.BankView.{BankView}
 use Rattle.edr_image.specs.declared.BankView.TheVariants.{Void, Event, Damaged}
 use Rattle.edr_image.specs.declared.Found.{Found}
 use Rattle.edr_image.specs.Banks.{Store, retrieved_banks}
 use Rattle.edr_image.specs.Reports.{Report, StartStopped, Ran}
-use Rattle.edr_report.specs.Words.{cycle_words, ack_words, bank_words, applied_words, stop_words, none_word, yes_no, profile_word, number_or_none, switch_or_none, milliseconds, firing_words, shown_count, events_in_crash, time_between, spaced_words, points_words, extreme_words, missing_words, damage_words}
+use Rattle.edr_report.specs.declared.event_lines.EventLine.{EventLine}
+use Rattle.edr_report.specs.declared.event_lines.TheConstants.{LINES_OF_EVENT}
+use Rattle.edr_report.specs.EventWords.{event_words}
+use Rattle.edr_report.specs.Words.{cycle_words, ack_words, bank_words, applied_words, stop_words, shown_count, damage_words}
 use Rattle.edr_report.specs.Lines.{Line, line, text_of, table_of}
 
 -- ---- cycles, in block 0
@@ -27,74 +28,13 @@ cycle_lines i (Ran n stop log) =
 
 -- ---- an event, in a block of its own
 
--- what stood before time zero
-unfoldable pub pre_lines : ℕ → PrePart → Bool → List Line
-pre_lines block p locked =
-    line block (codes "ignition cycle, crash") (shown_count p.key.cycle)
-    ∷ line block (codes "time zero") (milliseconds p.key.zero)
-    ∷ line block (codes "multi-event, number of events") (events_in_crash p.place)
-    ∷ line block (codes "time from event 1 to 2") (time_between p.place)
-    ∷ line block (codes "deployment event") (yes_no locked)
-    ∷ line block (codes "pre-crash profile") (profile_word p.profile)
-    ∷ line block (codes "speed, km/h") (spaced_words (map number_or_none p.speed))
-    ∷ line block (codes "throttle, %") (spaced_words (map number_or_none p.throttle))
-    ∷ line block (codes "service brake") (spaced_words (map switch_or_none p.brake))
-    ∷ line block (codes "driver belt") (switch_or_none p.belt)
-    ∷ line block (codes "frontal air bag warning lamp") (switch_or_none p.lamp)
-    ∷ []
+-- a line, with its name, of the event in place `block` of the retrieved ones
+abbrev pub event_line : ℕ → ℕ → Record → List ℕ → EventLine → Line
+event_line block bank r name l = line block name (event_words block bank r l)
 
--- the names of the lines of a crash part
-abbrev pub crash_names : List (List ℕ)
-crash_names =
-    codes "end of event"
-    ∷ codes "delta-V longitudinal, km/h"
-    ∷ codes "delta-V lateral, km/h"
-    ∷ codes "maximum delta-V longitudinal"
-    ∷ codes "maximum delta-V lateral"
-    ∷ codes "time of maximum resultant"
-    ∷ codes "ticks without sample"
-    ∷ codes "driver frontal deployment"
-    ∷ codes "passenger frontal deployment"
-    ∷ codes "driver side deployment"
-    ∷ codes "passenger side deployment"
-    ∷ codes "driver curtain deployment"
-    ∷ codes "passenger curtain deployment"
-    ∷ codes "driver pretensioner deployment"
-    ∷ codes "passenger pretensioner deployment"
-    ∷ []
-
--- their values, which are all `none` where there is no crash part
-abbrev pub crash_words : Option CrashPart → List (List ℕ)
-crash_words None = replicate 15 none_word
-crash_words (Some c) =
-    milliseconds c.end
-    ∷ points_words c.end c.along
-    ∷ points_words c.end c.across
-    ∷ extreme_words c.max_along
-    ∷ extreme_words c.max_across
-    ∷ milliseconds c.result_at
-    ∷ missing_words c.missing_along c.missing_across
-    ∷ map firing_words c.fired
-
--- lines with these names and values
-abbrev pub named_lines : ℕ → List (List ℕ) → List (List ℕ) → List Line
-named_lines block names [] = []
-named_lines block [] (v ∷ values) = []
-named_lines block (n ∷ names) (v ∷ values) = line block n v ∷ named_lines block names values
-
--- what came after time zero
-unfoldable pub crash_lines : ℕ → Option CrashPart → List Line
-crash_lines block crash = named_lines block crash_names (crash_words crash)
-
--- the lines of the event in place `block` of the retrieved ones
+-- all its lines
 unfoldable pub event_lines : ℕ → ℕ → Record → List Line
-event_lines block bank r =
-    line block (codes "event") (decimal block)
-    ∷ line block (codes "bank") (decimal bank)
-    ∷ pre_lines block r.pre r.locked
-    ++ crash_lines block r.crash
-    ++ line block (codes "complete file recorded") (yes_no (is_complete r))
-    ∷ []
+event_lines block bank r = map (λ l. event_line block bank r l.0.now l.1) LINES_OF_EVENT
 
 -- ---- the banks that were found
 

@@ -5,6 +5,7 @@
 //! bytes of both forms are defined in `specs/`.
 #![tactic(auto)]
 
+mod event_lines;
 mod forms;
 mod printer;
 mod short_lines;
@@ -17,6 +18,7 @@ ghost use Rattle.edr_report.specs.Report.{report_lines};
 ghost use Rattle.edr_report.specs.Words.{number_shown, tenths_of};
 
 use edr_image::{CycleReport, Found};
+pub use event_lines::{CrashLine, EventLine, LINES_OF_EVENT, PreLine, Restraint};
 pub use forms::Lines;
 use forms::{Table, Text};
 use printer::print;

@@ -1,70 +1,78 @@
 //! The walk over a run and what its banks hold, which gives the lines of the report to a form.
 
-ghost use Rattle.std.specs.Prelude.{◌≡◌, ◌≤◌, IfOk, OnOk, length, map};
+ghost use Rattle.std.specs.Prelude.{◌≡◌, IfOk, OnOk, map};
 ghost use Rattle.edr_image.specs.Reports.{report_of};
 ghost use Rattle.edr_report.specs.Lines.{line};
 ghost use Rattle.edr_report.specs.Words.{kind_word};
-ghost use Rattle.edr_report.specs.Printed.{GainsLines, GivesLines, GivesLine, entry_lines, named_line, value_lines};
+ghost use Rattle.edr_report.specs.Printed.{GainsLines, GivesLines, GivesLine, named_line, some_lines};
 ghost use Rattle.edr_report.specs.Values.{value_words};
-ghost use Rattle.edr_report.specs.Report.{ack_line, cycle_lines, run_lines, pre_lines, crash_words, crash_lines, event_lines, events_lines, found_records, damage_lines, damaged_lines, report_lines};
+ghost use Rattle.edr_report.specs.EventWords.{pre_words, crash_words, event_words};
+ghost use Rattle.edr_report.specs.Report.{ack_line, cycle_lines, run_lines, event_lines, events_lines, found_records, damage_lines, damaged_lines, report_lines};
 
+use crate::event_lines::{CrashLine, EventLine, LINES_OF_EVENT, PreLine};
 use crate::forms::Lines;
 use crate::values::Value;
 use edr_image::{Ack, BankView, CycleReport, Found, Kind};
 use edr_record::{Crash, Pre, Record};
 use std::alloc::{AllocError as OutOfMemory, Global};
 
-/// The names of the lines of a crash part.
-const CRASH_NAMES: [&str; 15] = [
-    "end of event",
-    "delta-V longitudinal, km/h",
-    "delta-V lateral, km/h",
-    "maximum delta-V longitudinal",
-    "maximum delta-V lateral",
-    "time of maximum resultant",
-    "ticks without sample",
-    "driver frontal deployment",
-    "passenger frontal deployment",
-    "driver side deployment",
-    "passenger side deployment",
-    "driver curtain deployment",
-    "passenger curtain deployment",
-    "driver pretensioner deployment",
-    "passenger pretensioner deployment",
-];
-
-// The values of these lines.
-fn crash_values(crash: &Option<Crash>) -> [Value<'static>; 15]
-    ensures { map value_words result ≡ crash_words crash.now }
+// What a line of what stood before time zero shows.
+fn pre_value(pre: &Pre, locked: bool, line: PreLine) -> Value<'_>
+    ensures { value_words result ≡ pre_words pre.now locked line }
 {
-    match crash {
-        Some(crash) => [
-            Value::Milliseconds(u32::from(crash.end)),
-            Value::Points {
-                end: crash.end,
-                points: crash.along,
-            },
-            Value::Points {
-                end: crash.end,
-                points: crash.across,
-            },
-            Value::Extreme(crash.max_along),
-            Value::Extreme(crash.max_across),
-            Value::Milliseconds(u32::from(crash.result_at)),
-            Value::Missing {
-                along: crash.missing_along,
-                across: crash.missing_across,
-            },
-            Value::Firing(crash.fired[0]),
-            Value::Firing(crash.fired[1]),
-            Value::Firing(crash.fired[2]),
-            Value::Firing(crash.fired[3]),
-            Value::Firing(crash.fired[4]),
-            Value::Firing(crash.fired[5]),
-            Value::Firing(crash.fired[6]),
-            Value::Firing(crash.fired[7]),
-        ],
-        None => [Value::Absent; 15],
+    match line {
+        PreLine::Cycle => Value::Count(pre.key.cycle),
+        PreLine::TimeZero => Value::Milliseconds(pre.key.zero),
+        PreLine::Events => Value::EventsInCrash(pre.place),
+        PreLine::Between => Value::TimeBetween(pre.place),
+        PreLine::Deployment => Value::YesNo(locked),
+        PreLine::Profile => Value::Profile(pre.profile()),
+        PreLine::Speed => Value::Speeds(pre.speed()),
+        PreLine::Throttle => Value::Throttles(pre.throttle()),
+        PreLine::Brake => Value::Switches(pre.brake()),
+        PreLine::Belt => Value::Switch(pre.belt),
+        PreLine::Lamp => Value::Switch(pre.lamp),
+    }
+}
+
+// What a line of what came after it shows.
+fn crash_value(crash: &Crash, line: CrashLine) -> Value<'static>
+    ensures { value_words result ≡ crash_words crash.now line }
+{
+    match line {
+        CrashLine::End => Value::Milliseconds(u32::from(crash.end)),
+        CrashLine::Along => Value::Points {
+            end: crash.end,
+            points: crash.along,
+        },
+        CrashLine::Across => Value::Points {
+            end: crash.end,
+            points: crash.across,
+        },
+        CrashLine::MaxAlong => Value::Extreme(crash.max_along),
+        CrashLine::MaxAcross => Value::Extreme(crash.max_across),
+        CrashLine::ResultAt => Value::Milliseconds(u32::from(crash.result_at)),
+        CrashLine::Missing => Value::Missing {
+            along: crash.missing_along,
+            across: crash.missing_across,
+        },
+        CrashLine::Fired(restraint) => Value::Firing(crash.fired[restraint.place()]),
+    }
+}
+
+// What a line of an event shows.
+fn event_value(block: u64, bank: u8, event: &Record, line: EventLine) -> Value<'_>
+    ensures { value_words result ≡ event_words block bank event.now line }
+{
+    match line {
+        EventLine::Number => Value::Number(block),
+        EventLine::Bank => Value::Number(u64::from(bank)),
+        EventLine::Before(line) => pre_value(&event.pre, event.locked, line),
+        EventLine::After(line) => match &event.crash {
+            Some(crash) => crash_value(crash, line),
+            None => Value::Absent,
+        },
+        EventLine::Complete => Value::YesNo(event.complete()),
     }
 }
 
@@ -99,90 +107,32 @@ impl<L: Lines> Printer<L> {
             .line(block, name.as_bytes(), self.value.as_bytes())
     }
 
-    // Gives lines of a block.
-    fn put_all(
+    // Gives these lines of an event.
+    fn put_lines(
         &mut self,
         block: u64,
-        entries: &[(&'static str, Value<'_>)],
+        bank: u8,
+        event: &Record,
+        lines: &[(&'static str, EventLine)],
     ) -> Result<(), OutOfMemory>
         requires { L.ready self.old.lines }
         ensures ready { OnOk result (L.ready self.new.lines) }
-        ensures bytes { OnOk result (GivesLines L.Lines self.old self.new (entry_lines block entries.now)) }
+        ensures bytes { OnOk result (GivesLines L.Lines self.old self.new (some_lines block bank event.now lines.now)) }
     {
-        for (name, value) in entries {
-            self.put(block, name, *value)?;
+        for (name, line) in lines {
+            self.put(block, name, event_value(block, bank, event, *line))?;
         }
         Ok(())
-    }
-
-    // Gives the lines of a pre part.
-    fn put_pre(&mut self, block: u64, pre: &Pre, locked: bool) -> Result<(), OutOfMemory>
-        requires { L.ready self.old.lines }
-        ensures ready { OnOk result (L.ready self.new.lines) }
-        ensures bytes { OnOk result (GivesLines L.Lines self.old self.new (pre_lines block pre.now locked)) }
-    {
-        let entries = [
-            ("ignition cycle, crash", Value::Count(pre.key.cycle)),
-            ("time zero", Value::Milliseconds(pre.key.zero)),
-            (
-                "multi-event, number of events",
-                Value::EventsInCrash(pre.place),
-            ),
-            ("time from event 1 to 2", Value::TimeBetween(pre.place)),
-            ("deployment event", Value::YesNo(locked)),
-            ("pre-crash profile", Value::Profile(pre.profile())),
-            ("speed, km/h", Value::Speeds(pre.speed())),
-            ("throttle, %", Value::Throttles(pre.throttle())),
-            ("service brake", Value::Switches(pre.brake())),
-            ("driver belt", Value::Switch(pre.belt)),
-            ("frontal air bag warning lamp", Value::Switch(pre.lamp)),
-        ];
-        self.put_all(block, &entries)
-    }
-
-    // Gives lines with these names and values.
-    fn put_values(
-        &mut self,
-        block: u64,
-        names: &[&'static str],
-        values: &[Value<'_>],
-    ) -> Result<(), OutOfMemory>
-        requires ready { L.ready self.old.lines }
-        requires named { length values.now ≤ length names.now }
-        ensures ready { OnOk result (L.ready self.new.lines) }
-        ensures bytes { OnOk result (GivesLines L.Lines self.old self.new (value_lines block names.now values.now)) }
-    {
-        for (i, value) in values.iter().enumerate() {
-            self.put(block, names[i], *value)?;
-        }
-        Ok(())
-    }
-
-    // Gives the lines of a crash part, or of none.
-    #[tactic(auto, unfolding(crate::specs::Report::crash_lines))]
-    fn put_crash(&mut self, block: u64, crash: &Option<Crash>) -> Result<(), OutOfMemory>
-        requires { L.ready self.old.lines }
-        ensures ready { OnOk result (L.ready self.new.lines) }
-        ensures bytes { OnOk result (GivesLines L.Lines self.old self.new (crash_lines block crash.now)) }
-    {
-        self.put_values(block, &CRASH_NAMES, &crash_values(crash))
     }
 
     // Gives the lines of an event.
+    #[tactic(auto, unfolding(crate::specs::Report::event_lines))]
     fn put_event(&mut self, block: u64, bank: u8, event: &Record) -> Result<(), OutOfMemory>
         requires { L.ready self.old.lines }
         ensures ready { OnOk result (L.ready self.new.lines) }
         ensures bytes { OnOk result (GivesLines L.Lines self.old self.new (event_lines block bank event.now)) }
     {
-        self.put(block, "event", Value::Number(block))?;
-        self.put(block, "bank", Value::Number(u64::from(bank)))?;
-        self.put_pre(block, &event.pre, event.locked)?;
-        self.put_crash(block, &event.crash)?;
-        self.put(
-            block,
-            "complete file recorded",
-            Value::YesNo(event.complete()),
-        )
+        self.put_lines(block, bank, event, &LINES_OF_EVENT)
     }
 
     // Gives a line of block 0 whose name stands in `self.name`.
