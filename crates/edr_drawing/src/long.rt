@@ -73,6 +73,7 @@ pub const NOTES: &[u8] = br#"<h3>How to read the pages</h3>
 <li>The curves end 30 ms past the end of the event, or at 250 ms. The greatest changes are looked for in each millisecond up to 30 ms past the end, or to 300 ms, so they may lie between two marks of a curve or behind its last one.</li>
 <li>A deployment "none" says that nothing fired up to the close of the event. In a record without a part after time zero it says nothing.</li>
 <li>An event is second in a crash where another one began up to 5 seconds before it, which need not be among the retrieved ones; else it is first, or stands alone.</li>
+<li>Nothing in a report shows who wrote it. Bytes that somebody changed to those of another record are shown as that record; what speaks against it is who kept the image, and its sum.</li>
 </ul>
 "#;
 
