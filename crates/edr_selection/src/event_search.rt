@@ -3,7 +3,7 @@
 ghost use Rattle.std.specs.Prelude.{◌≡◌, ◌+◌, ◌^◌, ◌<◌, ◌≤◌, ◌++◌, Some, None, IfOk, OnOk, map};
 ghost use Rattle.std.specs.Option.{option_map, option_to_list};
 ghost use Rattle.edr_items.specs.declared.TheConstants.{LATEST_MOMENT};
-ghost use Rattle.edr_record.specs.declared.TheConstants.{RESET};
+ghost use Rattle.edr_record.specs.declared.TheConstants.{LONGEST_WINDOW, RESET};
 ghost use Rattle.edr_definitions.specs.Ticks.{first_tick};
 ghost use Rattle.edr_definitions.specs.Signals.{signals_of};
 ghost use Rattle.edr_definitions.specs.Selection.{is_triggered, is_time_zero, end_of, window_of, close_of, candidate_at, event_of, bounds_after};
@@ -109,7 +109,7 @@ fn step_at(feeds: &Feeds, from: Bounds, upto: u32, zero: u32) -> FoundZero
     requires { zero ≤ LATEST_MOMENT }
     ensures told { option_map told_event result.told ≡ event_of upto (candidate_at (signals_of feeds.now) from.since zero) }
     ensures next { bounds_of result.next ≡ bounds_after (bounds_of from) (candidate_at (signals_of feeds.now) from.since zero) }
-    ensures near { result.next.after ≤ zero + 800 }
+    ensures near { result.next.after ≤ zero + RESET + LONGEST_WINDOW }
 {
     let end = end_after(feeds, zero);
     let close = close(zero, end);

@@ -10,7 +10,7 @@ ghost use Rattle.edr_selection.specs.Places.{IsPlacePast};
 
 use edr_items::{Feeds, Item, Sensor};
 
-// Each list is one that its sensor may give.
+// Each list is one that its sensor may give. `of` says so of one list, so each is looked at.
 pub fn are_feeds(feeds: &Feeds)
     ensures { AreFeeds feeds.now }
 {
