@@ -15,6 +15,8 @@ mod dealt_sensors;
 #[cfg(test)]
 mod detectors;
 #[cfg(test)]
+mod drawn_cycles;
+#[cfg(test)]
 mod drives;
 #[cfg(test)]
 mod generators;
@@ -32,6 +34,8 @@ mod records;
 mod runs;
 #[cfg(test)]
 mod seats;
+#[cfg(test)]
+mod selections;
 #[cfg(test)]
 mod sensors;
 #[cfg(test)]
