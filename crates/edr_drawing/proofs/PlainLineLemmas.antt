@@ -1,7 +1,8 @@
 -- The lines of a report have plain names and plain values.
-use Rattle.std.proofs.Common.{arith, ◌≡◌, refl, ℕ, ◌/◌, ◌%◌, min, Bool, true, false, Option, Some, None, List, [], ◌∷◌, ◌++◌, map, take, flat_map, codes, decimal}
+use Rattle.std.proofs.Common.{arith, ◌≡◌, refl, ℕ, ◌+◌, ◌/◌, ◌%◌, Bool, true, false, Option, Some, None, List, [], ◌∷◌, ◌++◌, map, take, flat_map, get_or, codes, decimal}
 use Rattle.std.specs.List.{list_all, enumerate_from}
 use Rattle.std.specs.Fmt.{signed_decimal}
+use Rattle.std.specs.Option.{option_map_or}
 use Rattle.std.proofs.lemmas.Bool.{and_parts}
 use Rattle.edr_record.specs.declared.Place.{Place}
 use Rattle.edr_record.specs.declared.Place.TheVariants.{First, Second}
@@ -18,9 +19,17 @@ use Rattle.edr_image.specs.declared.Kind.TheVariants as kind
 use Rattle.edr_image.specs.declared.Applied.{Applied}
 use Rattle.edr_image.specs.declared.Applied.TheVariants.{Kept, Locked, Done, NotKept}
 use Rattle.edr_image.specs.Reports.{Report, StartStopped, Ran}
-use Rattle.edr_report.specs.Words.{cycle_words, kind_word, ack_words, bank_words, applied_words, stop_words, none_word, yes_no, on_off, profile_word, number_or_none, switch_or_none, milliseconds, firing_words, events_in_crash, seconds, time_between, spaced_words, tenths_of, extreme_words, missing_words}
-use Rattle.edr_report.specs.Lines.{Line, line}
-use Rattle.edr_report.specs.Report.{ack_line, cycle_lines, pre_lines, crash_names, crash_words, named_lines, crash_lines, event_lines, run_lines}
+use Rattle.edr_report.specs.Words.{number_shown, cycle_words, kind_word, ack_words, bank_words, applied_words, stop_words, none_word, yes_no, on_off, profile_word, number_or_none, switch_or_none, milliseconds, firing_words, events_in_crash, seconds, time_between, spaced_words, tenths_of, extreme_words, missing_words}
+use Rattle.edr_report.specs.Lines.{Line}
+use Rattle.edr_report.specs.declared.event_lines.EventLine.{EventLine}
+use Rattle.edr_report.specs.declared.event_lines.EventLine.TheVariants as event
+use Rattle.edr_report.specs.declared.event_lines.PreLine.{PreLine}
+use Rattle.edr_report.specs.declared.event_lines.PreLine.TheVariants as pre
+use Rattle.edr_report.specs.declared.event_lines.CrashLine.{CrashLine}
+use Rattle.edr_report.specs.declared.event_lines.CrashLine.TheVariants as crash
+use Rattle.edr_report.specs.declared.event_lines.TheConstants.{LINES_OF_EVENT}
+use Rattle.edr_report.specs.EventWords.{place_of, pre_words, crash_words, event_words}
+use Rattle.edr_report.specs.Report.{ack_line, cycle_lines, event_line, event_lines, run_lines}
 use Rattle.edr_drawing.specs.declared.tables.TheConstants.{LINE_END, LINE_NAME, LINE_VALUE, NEXT_TABLE}
 use Rattle.edr_drawing.specs.Tables.{row, line_row, begins_table}
 use Rattle.edr_drawing.proofs.PlainLemmas.{EachPlain, Plain, all_low, plain_nil, plain_cons, plain_append, plain_if, plain_fixed, plain_text, plain_decimal, plain_signed, text_then, then_text}
@@ -133,15 +142,6 @@ all_fixed : (xs : List (List ℕ)) → list_all all_low xs ≡ true → EachPlai
 all_fixed [] e = tt
 all_fixed (x ∷ xs) e = (plain_fixed x (and_parts _ _ e).0, all_fixed xs (and_parts _ _ e).1)
 
-all_map : {X : Type 0} (f : X → List ℕ) → ((x : X) → Plain (f x)) → (xs : List X) → EachPlain (map f xs)
-all_map f h [] = tt
-all_map f h (x ∷ xs) = (h x, all_map f h xs)
-
-lines_named : (block : ℕ) (names values : List (List ℕ)) → EachPlain names → EachPlain values → PlainLines (named_lines block names values)
-lines_named block names [] h k = tt
-lines_named block [] (v ∷ values) h k = tt
-lines_named block (n ∷ names) (v ∷ values) h k = (h.0, k.0, lines_named block names values h.1 k.1)
-
 lines_acks : (i : ℕ) (log : List Ack) → PlainLines (map (ack_line i) log)
 lines_acks i [] = tt
 lines_acks i (a ∷ log) = (plain_ack i a.kind a.tick, plain_applied a.applied, lines_acks i log)
@@ -156,90 +156,48 @@ lines_cycle i (Ran n stop log) =
 lines_run : (i : ℕ) (reports : List Report) → PlainLines (run_lines i reports)
 lines_run i reports = lines_flat_map (λ r. cycle_lines r.0 r.1) (λ r. lines_cycle r.0 r.1) (enumerate_from i reports)
 
-lines_pre : (block : ℕ) (p : PrePart) (locked : Bool) → PlainLines (pre_lines block p locked)
-unfolding pre_lines
-lines_pre block p locked = (
-  plain_fixed (codes "ignition cycle, crash") refl,
-  plain_decimal (min p.key.cycle 60_000),
-  (
-    plain_fixed (codes "time zero") refl,
-    plain_ms p.key.zero,
-    (
-      plain_fixed (codes "multi-event, number of events") refl,
-      plain_events p.place,
-      (
-        plain_fixed (codes "time from event 1 to 2") refl,
-        plain_between p.place,
-        (
-          plain_fixed (codes "deployment event") refl,
-          plain_yes_no locked,
-          (
-            plain_fixed (codes "pre-crash profile") refl,
-            plain_profile p.profile,
-            (
-              plain_fixed (codes "speed, km/h") refl,
-              plain_spaced number_or_none plain_number p.speed,
-              (
-                plain_fixed (codes "throttle, %") refl,
-                plain_spaced number_or_none plain_number p.throttle,
-                (
-                  plain_fixed (codes "service brake") refl,
-                  plain_spaced switch_or_none plain_switch p.brake,
-                  (
-                    plain_fixed (codes "driver belt") refl,
-                    plain_switch p.belt,
-                    (plain_fixed (codes "frontal air bag warning lamp") refl, plain_switch p.lamp, tt),
-                  ),
-                ),
-              ),
-            ),
-          ),
-        ),
-      ),
-    ),
-  ),
-)
+-- what a line of an event shows
+shows_pre : (p : PrePart) (locked : Bool) (l : PreLine) → Plain (pre_words p locked l)
+shows_pre p locked pre.Cycle = plain_decimal (number_shown p.key.cycle)
+shows_pre p locked pre.TimeZero = plain_ms p.key.zero
+shows_pre p locked pre.Events = plain_events p.place
+shows_pre p locked pre.Between = plain_between p.place
+shows_pre p locked pre.Deployment = plain_yes_no locked
+shows_pre p locked pre.Profile = plain_profile p.profile
+shows_pre p locked pre.Speed = plain_spaced number_or_none plain_number p.speed
+shows_pre p locked pre.Throttle = plain_spaced number_or_none plain_number p.throttle
+shows_pre p locked pre.Brake = plain_spaced switch_or_none plain_switch p.brake
+shows_pre p locked pre.Belt = plain_switch p.belt
+shows_pre p locked pre.Lamp = plain_switch p.lamp
 
-all_crash : (crash : Option CrashPart) → EachPlain (crash_words crash)
-all_crash None = all_fixed (crash_words None) refl
-all_crash (Some c) = (
-  plain_ms c.end,
-  (
-    plain_spaced signed_decimal plain_signed (take (point_count c.end) c.along),
-    (
-      plain_spaced signed_decimal plain_signed (take (point_count c.end) c.across),
-      (
-        plain_extreme c.max_along,
-        (
-          plain_extreme c.max_across,
-          (
-            plain_ms c.result_at,
-            (plain_missing c.missing_along c.missing_across, all_map firing_words plain_firing c.fired),
-          ),
-        ),
-      ),
-    ),
-  ),
-)
+shows_crash : (c : CrashPart) (l : CrashLine) → Plain (crash_words c l)
+shows_crash c crash.End = plain_ms c.end
+shows_crash c crash.Along = plain_spaced signed_decimal plain_signed (take (point_count c.end) c.along)
+shows_crash c crash.Across = plain_spaced signed_decimal plain_signed (take (point_count c.end) c.across)
+shows_crash c crash.MaxAlong = plain_extreme c.max_along
+shows_crash c crash.MaxAcross = plain_extreme c.max_across
+shows_crash c crash.ResultAt = plain_ms c.result_at
+shows_crash c crash.Missing = plain_missing c.missing_along c.missing_across
+shows_crash c (crash.Fired r) = plain_firing (get_or c.fired (place_of r) None)
 
-lines_crash : (block : ℕ) (crash : Option CrashPart) → PlainLines (crash_lines block crash)
-unfolding crash_lines
-lines_crash block crash = lines_named block crash_names (crash_words crash) (all_fixed crash_names refl) (all_crash crash)
+shows_after : (o : Option CrashPart) (l : CrashLine) → Plain (option_map_or (λ c. crash_words c l) o none_word)
+shows_after None l = plain_fixed none_word refl
+shows_after (Some c) l = shows_crash c l
+
+shows : (block bank : ℕ) (r : Record) (l : EventLine) → Plain (event_words block bank r l)
+shows block bank r event.Number = plain_decimal block
+shows block bank r event.Bank = plain_decimal bank
+shows block bank r (event.Before l) = shows_pre r.pre r.locked l
+shows block bank r (event.After l) = shows_after r.crash l
+shows block bank r event.Complete = plain_yes_no (is_complete r)
+
+lines_shown : {X : Type 0} (name : X → List ℕ) (line_of : X → EventLine) (n bank : ℕ) (r : Record) (ls : List X) → EachPlain (map name ls) → PlainLines (map (λ l. event_line n bank r (name l) (line_of l)) ls)
+lines_shown name line_of n bank r [] h = tt
+lines_shown name line_of n bank r (l ∷ ls) h = (h.0, shows n bank r (line_of l), lines_shown name line_of n bank r ls h.1)
 
 lines_event : (n bank : ℕ) (r : Record) → PlainLines (event_lines n bank r)
 unfolding event_lines
-lines_event n bank r =
-    let last = line n (codes "complete file recorded") (yes_no (is_complete r)) ∷ [] in
-    let ends : PlainLines last = (plain_fixed (codes "complete file recorded") refl, plain_yes_no (is_complete r), tt) in (
-      plain_fixed (codes "event") refl,
-      plain_decimal n,
-      (
-        plain_fixed (codes "bank") refl,
-        plain_decimal bank,
-        lines_append (pre_lines n r.pre r.locked ++ crash_lines n r.crash) last
-            (lines_append (pre_lines n r.pre r.locked) (crash_lines n r.crash) (lines_pre n r.pre r.locked) (lines_crash n r.crash)) ends,
-      ),
-    )
+lines_event n bank r = lines_shown (λ l. l.0.now) (λ l. l.1) n bank r LINES_OF_EVENT (all_fixed (map (λ l. l.0.now) LINES_OF_EVENT) refl)
 
 -- ---- their rows
 

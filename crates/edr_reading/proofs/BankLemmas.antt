@@ -4,7 +4,9 @@ use Rattle.std.specs.Fmt.{signed_decimal}
 use Rattle.std.proofs.lemmas.Fmt.{decimal_digit}
 use Rattle.edr_record.specs.declared.Place.TheVariants.{Second}
 use Rattle.edr_report.specs.Words.{spaced_words, milliseconds, shown_count, time_between, extreme_words, missing_words}
-use Rattle.edr_reading.specs.Plain.{event_names, no_extreme}
+use Rattle.edr_reading.specs.Plain.{no_extreme}
+use Rattle.edr_report.specs.declared.event_lines.EventLine.{EventLine}
+use Rattle.edr_reading.specs.Rows.{event_names, names_of}
 use Rattle.edr_reading.proofs.PlainLemmas.{Below, below-at}
 
 -- ---- a name of a row has one place
@@ -62,7 +64,7 @@ pub unchanged-are : (count : ℕ) → 1 ≤ count → count ≤ 26 → take (2 *
 unchanged-are count h k = let e : count - 1 + 1 ≡ count = omega (arith, h) in subst (λ (n : ℕ). take (2 * n - 1) zeros ≡ spaced_words (map signed_decimal (take n (replicate 26 (pos 0))))) e (below-at 26 Unchanged unchanged (count - 1) (omega (arith, h, k)))
 
 -- an element of a list of borrowed texts
-pub text-at : (xs : List (Bor (List ℕ))) (k : ℕ) (d : Bor (List ℕ)) → k < length xs → (get_or xs k d).now ≡ get_or (map (λ v. v.now) xs) k []
-text-at [] k d h = absurd (omega (arith, h))
-text-at (x ∷ xs) zero d h = refl
-text-at (x ∷ xs) (suc k) d h = text-at xs k d (omega (arith, h))
+pub name-at : (lines : List (Bor (List ℕ) × EventLine)) (k : ℕ) (d : Bor (List ℕ) × EventLine) → k < length lines → (get_or lines k d).0.now ≡ get_or (names_of lines) k []
+name-at [] k d h = absurd (omega (arith, h))
+name-at (l ∷ lines) zero d h = refl
+name-at (l ∷ lines) (suc k) d h = name-at lines k d (omega (arith, h))

@@ -10,14 +10,14 @@ use Rattle.edr_image.specs.Banks.{found_event}
 use Rattle.edr_record.specs.declared.Record.{Record}
 use Rattle.edr_text.specs.Numbers.{natural_in}
 use Rattle.edr_text.proofs.SpellingLemmas.{decimal-numeral, natural_in-numeral}
-use Rattle.edr_report.specs.Report.{event_lines, events_lines, pre_lines, crash_lines}
+use Rattle.edr_report.specs.Report.{events_lines, event_lines}
 use Rattle.edr_report.proofs.PrintedLemmas.{numbered-more}
 use Rattle.edr_record.specs.Complete.{is_complete}
 use Rattle.edr_reading.specs.Parts.{IsRecord}
 use Rattle.edr_reading.specs.declared.rows.ReportRow.{ReportRow}
-use Rattle.edr_reading.specs.Rows.{fields, line_fields}
+use Rattle.edr_reading.specs.Rows.{fields, line_fields, event_head, pre_fields, crash_fields, event_end}
 use Rattle.edr_reading.specs.Found.{IsEvent, events_fields, BeginsTold}
-use Rattle.edr_reading.proofs.EventLemmas.{event-fields, pre-long, crash-rows-long, head_fields, last_fields}
+use Rattle.edr_reading.proofs.EventLemmas.{event-fields, pre-long, crash-rows-long}
 
 -- a number has one spelling
 pub decimal-same : (m n : ℕ) → m < 2 ^ 64 → n < 2 ^ 64 → decimal m ≡ decimal n → m ≡ n
@@ -41,14 +41,14 @@ event-told k e more one h told = let z = decimal-same k 0 h (omega arith) told i
 
 pub event-long : (k bank : ℕ) (r : Record) → IsRecord r → length (map line_fields (event_lines k bank r)) ≡ 29
 event-long k bank r h =
-    let head = head_fields k bank in
-    let pre = map line_fields (pre_lines k r.pre r.locked) in
-    let crash = map line_fields (crash_lines k r.crash) in
-    let last = last_fields k (is_complete r) in
+    let head = event_head k bank in
+    let pre = pre_fields k r.pre r.locked in
+    let crash = crash_fields k r.crash in
+    let last = event_end k (is_complete r) in
     let a = length-append head (pre ++ (crash ++ last)) in
     let b = length-append pre (crash ++ last) in
     let c = length-append crash last in
-    ap length (event-fields k bank r) ∙ omega (arith, a, b, c, pre-long k r.pre r.locked, crash-rows-long k r.crash h.crash)
+    ap length (event-fields k bank r h) ∙ omega (arith, a, b, c, pre-long k r.pre r.locked, crash-rows-long k r.crash h.crash)
 
 pub rows-long : {X Y : Type 0} (f : X → Y) (rows : List X) (a b : List Y) → map f rows ≡ a ++ b → length a ≤ length rows
 rows-long f rows a b is = let m = length-map rows f in let n = ap length is in let p = length-append a b in omega (arith, m, n, p)

@@ -7,19 +7,19 @@ use Rattle.edr_record.specs.declared.Record.{Record}
 use Rattle.edr_image.specs.declared.Found.{Found}
 use Rattle.edr_image.specs.Banks.{found_event}
 use Rattle.edr_image.specs.Reports.{Report}
-use Rattle.edr_report.specs.Report.{crash_names, crash_words, cycle_lines}
+use Rattle.edr_report.specs.Report.{cycle_lines}
 use Rattle.edr_report.specs.Words.{yes_no}
 use Rattle.edr_record.specs.Complete.{is_complete}
-use Rattle.edr_reading.specs.Rows.{line_fields, named_fields, pre_names, pre_words}
+use Rattle.edr_reading.specs.Rows.{line_fields, named_fields, event_names, pre_names, pre_texts, crash_names, crash_texts, event_head, event_end}
 use Rattle.edr_reading.specs.Parts.{IsRecord}
 use Rattle.edr_reading.specs.Run.{run_fields}
 use Rattle.edr_reading.specs.Found.{IsEvent, events_fields, damaged_fields}
 use Rattle.edr_reading.specs.Reading.{head_row}
-use Rattle.edr_reading.specs.Plain.{event_names, event_words, block_fields}
-use Rattle.edr_reading.proofs.EventLemmas.{event-fields, head_fields, last_fields}
+use Rattle.edr_reading.specs.Plain.{event_texts, block_fields}
+use Rattle.edr_reading.proofs.EventLemmas.{event-fields}
 use Rattle.edr_reading.proofs.FoundLemmas.{events-last}
 use Rattle.edr_reading.proofs.NextLemmas.{Rows, whole, IsTold, event_fields}
-use Rattle.edr_reading.proofs.PartLemmas.{pre-fields, crash-fields, crash-long}
+use Rattle.edr_reading.proofs.PartLemmas.{crash-long}
 use Rattle.edr_reading.proofs.PlainLemmas.{front_back}
 use Rattle.edr_reading.proofs.RunLemmas.{run-last}
 
@@ -36,20 +36,20 @@ block-append b [] ms (v ∷ vs) ws e = absurd (omega (arith, e))
 block-append b (n ∷ ns) ms [] ws e = absurd (omega (arith, e))
 block-append b (n ∷ ns) ms (v ∷ vs) ws e = ap (λ (x : Rows). (b ∷ n ∷ v ∷ []) ∷ x) (block-append b ns ms vs ws (omega (arith, e)))
 
-pub words-long : (b bank : ℕ) (r : Record) → IsRecord r → length (event_words b bank r) ≡ 29
+pub words-long : (b bank : ℕ) (r : Record) → IsRecord r → length (event_texts b bank r) ≡ 29
 words-long b bank r h =
     let c = crash-long r.crash h.crash in
-    let a = length-append (crash_words r.crash) (yes_no (is_complete r) ∷ []) in
+    let a = length-append (crash_texts r.crash) (yes_no (is_complete r) ∷ []) in
     omega (arith, a, c)
 
-pub event-named : (b bank : ℕ) (r : Record) → IsRecord r → event_fields b (bank, r) ≡ block_fields (decimal b) event_names (event_words b bank r)
+pub event-named : (b bank : ℕ) (r : Record) → IsRecord r → event_fields b (bank, r) ≡ block_fields (decimal b) event_names (event_texts b bank r)
 event-named b bank r h =
     let d = decimal b in
     let last : List (List ℕ) = yes_no (is_complete r) ∷ [] in
-    let e : length crash_names ≡ length (crash_words r.crash) = sym (crash-long r.crash h.crash) in
-    event-fields b bank r
-    ∙ ap₂ (λ (x y : Rows). head_fields b bank ++ (x ++ (y ++ last_fields b (is_complete r)))) (pre-fields b r.pre r.locked ∙ block-named b pre_names (pre_words r.pre r.locked)) (crash-fields b r.crash ∙ block-named b crash_names (crash_words r.crash))
-    ∙ ap (λ (y : Rows). head_fields b bank ++ (block_fields d pre_names (pre_words r.pre r.locked) ++ y)) (sym (block-append d crash_names (codes "complete file recorded" ∷ []) (crash_words r.crash) last e))
+    let e : length crash_names ≡ length (crash_texts r.crash) = sym (crash-long r.crash h.crash) in
+    event-fields b bank r h
+    ∙ ap₂ (λ (x y : Rows). event_head b bank ++ (x ++ (y ++ event_end b (is_complete r)))) (block-named b pre_names (pre_texts r.pre r.locked)) (block-named b crash_names (crash_texts r.crash))
+    ∙ ap (λ (y : Rows). event_head b bank ++ (block_fields d pre_names (pre_texts r.pre r.locked) ++ y)) (sym (block-append d crash_names (drop 28 event_names) (crash_texts r.crash) last e))
 
 take-block : (b : List ℕ) (k : ℕ) (ns vs : List (List ℕ)) → take k (block_fields b ns vs) ≡ block_fields b (take k ns) (take k vs)
 take-block b zero ns vs = nil-of (block_fields b ns vs) ∙ sym (ap (λ (x : List (List ℕ)). block_fields b x (take 0 vs)) (nil-of ns))

@@ -6,21 +6,16 @@ use Rattle.std.proofs.lemmas.List.FromFn.{fill_by_all}
 use Rattle.edr_record.specs.Parts.{PrePart, CrashPart}
 use Rattle.edr_record.specs.Bounds.{IsPre, IsCrash}
 use Rattle.edr_reading.proofs.FrontLemmas.{not-number}
-use Rattle.edr_report.specs.Report.{pre_lines, crash_lines, crash_names, crash_words, named_lines}
 use Rattle.edr_report.specs.Words.{none_word, milliseconds, firing_words}
 use Rattle.edr_reading.specs.declared.pre.PreValues.{PreValues}
 use Rattle.edr_reading.specs.Parts.{ShowsPre, ShowsLists}
-use Rattle.edr_reading.specs.Rows.{line_fields, named_fields, pre_names, pre_words, pre_list}
+use Rattle.edr_reading.specs.Rows.{pre_texts, crash_texts, pre_list}
 
 pub if-some : {X : Type 0} (o : Option X) (P Q : X → Type 0) → ((x : X) → P x → Q x) → IfSome o P → IfSome o Q
 if-some None P Q f h = tt
 if-some (Some x) P Q f h = f x h
 
-pub pre-fields : (b : ℕ) (p : PrePart) (l : Bool) → map line_fields (pre_lines b p l) ≡ named_fields b pre_names (pre_words p l)
-unfolding pre_lines
-pre-fields b p l = refl
-
-pub pre-shown : (v : PreValues) (p : PrePart) (l : Bool) → pre_list v ≡ pre_words p l → ShowsPre v p l
+pub pre-shown : (v : PreValues) (p : PrePart) (l : Bool) → pre_list v ≡ pre_texts p l → ShowsPre v p l
 pre-shown v p l e = record {
   cycle = ap (λ (x : List (List ℕ)). get_or x 0 []) e;
   zero = ap (λ (x : List (List ℕ)). get_or x 1 []) e;
@@ -35,7 +30,7 @@ pre-shown v p l e = record {
   lamp = ap (λ (x : List (List ℕ)). get_or x 10 []) e;
 }
 
-pub pre-listed : (v : PreValues) (p : PrePart) (l : Bool) → ShowsPre v p l → pre_list v ≡ pre_words p l
+pub pre-listed : (v : PreValues) (p : PrePart) (l : Bool) → ShowsPre v p l → pre_list v ≡ pre_texts p l
 pre-listed v p l s = rw (s.cycle, s.zero, s.events, s.between, s.locked, s.profile, s.speed, s.throttle, s.brake, s.belt, s.lamp) refl
 
 abbrev nothing : Bor (List ℕ)
@@ -69,22 +64,12 @@ fifteen (a ∷ b ∷ c ∷ d ∷ e ∷ f ∷ g ∷ h ∷ i ∷ j ∷ k ∷ l ∷
 fifteen (a ∷ b ∷ c ∷ d ∷ e ∷ f ∷ g ∷ h ∷ i ∷ j ∷ k ∷ l ∷ m ∷ n ∷ o ∷ []) long = refl
 fifteen (a ∷ b ∷ c ∷ d ∷ e ∷ f ∷ g ∷ h ∷ i ∷ j ∷ k ∷ l ∷ m ∷ n ∷ o ∷ p ∷ more) long = absurd (omega (arith, long))
 
-named-is : (b : ℕ) (names values : List (List ℕ)) → map line_fields (named_lines b names values) ≡ named_fields b names values
-named-is b [] [] = refl
-named-is b [] (v ∷ values) = refl
-named-is b (n ∷ names) [] = refl
-named-is b (n ∷ names) (v ∷ values) = ap (λ (x : List (List (List ℕ))). (decimal b ∷ n ∷ v ∷ []) ∷ x) (named-is b names values)
-
-pub crash-fields : (b : ℕ) (c : Option CrashPart) → map line_fields (crash_lines b c) ≡ named_fields b crash_names (crash_words c)
-unfolding crash_lines
-crash-fields b c = named-is b crash_names (crash_words c)
-
-pub crash-long : (c : Option CrashPart) → IfSome c IsCrash → length (crash_words c) ≡ 15
+pub crash-long : (c : Option CrashPart) → IfSome c IsCrash → length (crash_texts c) ≡ 15
 crash-long None h = refl
 crash-long (Some c) h = let m = length-map c.fired firing_words in omega (arith, m, h.restraints)
 
 -- values that are all absent show no crash part but none
-pub absent-crash : (values : List (List ℕ)) (c : Option CrashPart) → IfSome c IsCrash → values ≡ replicate 15 none_word → values ≡ crash_words c → None ≡ c
+pub absent-crash : (values : List (List ℕ)) (c : Option CrashPart) → IfSome c IsCrash → values ≡ replicate 15 none_word → values ≡ crash_texts c → None ≡ c
 absent-crash values None h e f = refl
 absent-crash values (Some c) h e f =
     let first : codes "none" ≡ milliseconds c.end = ap (λ (x : List (List ℕ)). get_or x 0 []) (sym e ∙ f) in

@@ -17,7 +17,7 @@ use Rattle.edr_record.specs.declared.Place.TheVariants.{First, Second}
 use Rattle.edr_record.specs.Parts.{PrePart, CrashPart}
 use Rattle.edr_record.specs.Complete.{is_complete, has_all_slots}
 use Rattle.edr_report.specs.Words.{points_words, milliseconds, shown_count, events_in_crash}
-use Rattle.edr_reading.specs.Plain.{event_words, absent_words, present_words, no_extreme, IsGuessOf, IsGuess, ArePlain}
+use Rattle.edr_reading.specs.Plain.{event_texts, absent_words, present_words, no_extreme, IsGuessOf, IsGuess, ArePlain}
 
 abbrev pub keep : {A : Type 0} → Bool → A → A → A
 keep b x y = cond b x y
@@ -85,15 +85,15 @@ no-crash p l = by (has_all_slots p)
 
 -- rows before those of the crash part
 abbrev Early : ℕ → Type 0
-Early p = (b bank : ℕ) (other : List ℕ) (r : Record) → front_back p (event_words b bank r) (absent_words (decimal b) other First r.pre.profile) ≡ event_words b bank (plain p r)
+Early p = (b bank : ℕ) (other : List ℕ) (r : Record) → front_back p (event_texts b bank r) (absent_words (decimal b) other First r.pre.profile) ≡ event_texts b bank (plain p r)
 
-first-row : (b bank : ℕ) (r : Record) → front_back 0 (event_words b bank r) (absent_words (decimal b) (decimal bank) First r.pre.profile) ≡ event_words b bank (plain 0 r)
+first-row : (b bank : ℕ) (r : Record) → front_back 0 (event_texts b bank r) (absent_words (decimal b) (decimal bank) First r.pre.profile) ≡ event_texts b bank (plain 0 r)
 first-row b bank r = rw (no-crash (plain_pre 0 r.pre) false) refl
 
 pub early : Below 3 (λ p. Early (p + 1))
 early = ((λ b bank other r. rw (no-crash _ _) refl), ((λ b bank other r. rw (no-crash _ _) refl), ((λ b bank other r. rw (no-crash _ _) refl), tt)))
 
-fifth-row : (b bank : ℕ) (other : List ℕ) (r : Record) → front_back 4 (event_words b bank r) (absent_words (decimal b) other (nearest r.pre.place) r.pre.profile) ≡ event_words b bank (plain 4 r)
+fifth-row : (b bank : ℕ) (other : List ℕ) (r : Record) → front_back 4 (event_texts b bank r) (absent_words (decimal b) other (nearest r.pre.place) r.pre.profile) ≡ event_texts b bank (plain 4 r)
 fifth-row b bank other r =
     rw (no-crash (plain_pre 4 r.pre) false)
     (ap (λ (e : List ℕ). decimal b ∷ decimal bank ∷ shown_count r.pre.key.cycle ∷ milliseconds r.pre.key.zero ∷ e ∷ drop 5 (absent_words (decimal b) other (nearest r.pre.place) r.pre.profile)) (same r.pre.place))
@@ -107,7 +107,7 @@ late = ((λ b bank other r. rw (no-crash _ _) refl), ((λ b bank other r. rw (no
 
 -- rows of an event without a crash part
 abbrev Gone : ℕ → Type 0
-Gone p = (b bank : ℕ) (other : List ℕ) (q : PrePart) (l : Bool) → let r : Record = record { pre = q; locked = l; crash = None } in front_back p (event_words b bank r) (absent_words (decimal b) other First q.profile) ≡ event_words b bank (plain p r)
+Gone p = (b bank : ℕ) (other : List ℕ) (q : PrePart) (l : Bool) → let r : Record = record { pre = q; locked = l; crash = None } in front_back p (event_texts b bank r) (absent_words (decimal b) other First q.profile) ≡ event_texts b bank (plain p r)
 
 pub gone : Below 16 (λ p. Gone (p + 13))
 gone = ((λ b bank other q l. rw (no-crash _ _) refl), ((λ b bank other q l. rw (no-crash _ _) refl), ((λ b bank other q l. rw (no-crash _ _) refl), ((λ b bank other q l. rw (no-crash _ _) refl), ((λ b bank other q l. rw (no-crash _ _) refl), ((λ b bank other q l. rw (no-crash _ _) refl), ((λ b bank other q l. rw (no-crash _ _) refl), ((λ b bank other q l. rw (no-crash _ _) refl), ((λ b bank other q l. rw (no-crash _ _) refl), ((λ b bank other q l. rw (no-crash _ _) refl), ((λ b bank other q l. rw (no-crash _ _) refl), ((λ b bank other q l. rw (no-crash _ _) refl), ((λ b bank other q l. rw (no-crash _ _) refl), ((λ b bank other q l. rw (no-crash _ _) refl), ((λ b bank other q l. rw (no-crash _ _) refl), ((λ b bank other q l. rw (no-crash _ _) refl), tt))))))))))))))))
@@ -120,7 +120,7 @@ abbrev Goes : ℕ → List ℕ → CrashPart → Type 0
 Goes p points c =
     (b bank : ℕ) (other : List ℕ) (q : PrePart) (l : Bool) (x0 x1 x2 x3 x4 x5 x6 x7 : Option ℕ)
     → let r : Record = record { pre = q; locked = l; crash = Some (crash_with c (x0 ∷ x1 ∷ x2 ∷ x3 ∷ x4 ∷ x5 ∷ x6 ∷ x7 ∷ [])) } in
-    front_back p (event_words b bank r) (present_words (decimal b) other q.profile points (is_complete (plain p r))) ≡ event_words b bank (plain p r)
+    front_back p (event_texts b bank r) (present_words (decimal b) other q.profile points (is_complete (plain p r))) ≡ event_texts b bank (plain p r)
 
 goes-13 : (c : CrashPart) → Goes 13 (points_words c.end unchanged) c
 goes-13 c b bank other q l x0 x1 x2 x3 x4 x5 x6 x7 = refl
@@ -201,7 +201,7 @@ plain-is p r h = record {
 
 -- one of them goes on as a record does
 abbrev pub IsGuessed : ℕ → ℕ → List ℕ → ℕ → List ℕ → Record → Type 0
-IsGuessed b bank other p points r = (v : List (List ℕ)) × (s : Record) × IsGuess (decimal b) other points v × IsRecord s × (front_back p (event_words b bank r) v ≡ event_words b bank s)
+IsGuessed b bank other p points r = (v : List (List ℕ)) × (s : Record) × IsGuess (decimal b) other points v × IsRecord s × (front_back p (event_texts b bank r) v ≡ event_texts b bank s)
 
 guess-of : (f : Profile) {b bank points : List ℕ} {v : List (List ℕ)} → IsGuessOf f b bank points v → IsGuess b bank points v
 guess-of Short g = inl g
@@ -242,10 +242,10 @@ module _ (b bank : ℕ) (other : List ℕ) (points : List ℕ) where
   goes-guess : (p k : ℕ) (q : PrePart) (l : Bool) (c : CrashPart) → p ≡ k → IsRecord (record { pre = q; locked = l; crash = Some c }) → length c.fired ≡ 8 → Goes k points c → IsGuessed b bank other p points (record { pre = q; locked = l; crash = Some c })
   goes-guess p k q l c e h long is =
       let r : Record = record { pre = q; locked = l; crash = Some c } in
-      let P : List (Option ℕ) → Type 0 = λ xs. let s : Record = record { pre = q; locked = l; crash = Some (crash_with c xs) } in front_back k (event_words b bank s) (present_words (decimal b) other q.profile points (is_complete (plain k s))) ≡ event_words b bank (plain k s) in
+      let P : List (Option ℕ) → Type 0 = λ xs. let s : Record = record { pre = q; locked = l; crash = Some (crash_with c xs) } in front_back k (event_texts b bank s) (present_words (decimal b) other q.profile points (is_complete (plain k s))) ≡ event_texts b bank (plain k s) in
       subst (λ (j : ℕ). IsGuessed b bank other j points r) (sym e) (present_words (decimal b) other q.profile points (is_complete (plain k r)), plain k r, guess-of q.profile (guess-present q.profile (decimal b) other points (is_complete (plain k r))), plain-is k r h, eight P (λ x0 x1 x2 x3 x4 x5 x6 x7. is b bank other q l x0 x1 x2 x3 x4 x5 x6 x7) c.fired long)
 
-pub guessed : (b bank : ℕ) (other : List ℕ) (p : ℕ) (points value : List ℕ) (r : Record) → IsRecord r → p < 29 → (p ≡ 0 → decimal bank ≡ other) → value ≡ get_or (event_words b bank r) p [] → ArePlain p value points → IsGuessed b bank other p points r
+pub guessed : (b bank : ℕ) (other : List ℕ) (p : ℕ) (points value : List ℕ) (r : Record) → IsRecord r → p < 29 → (p ≡ 0 → decimal bank ≡ other) → value ≡ get_or (event_texts b bank r) p [] → ArePlain p value points → IsGuessed b bank other p points r
 guessed b bank other p points value r h small same here are = ⊎_elim
     (λ l. before-fifth l)
     (λ m. ⊎_elim
@@ -260,21 +260,21 @@ guessed b bank other p points value r h small same here are = ⊎_elim
     before-fifth : p < 4 → IsGuessed b bank other p points r
     before-fifth l = ⊎_elim
         (λ z. let zero-is : p ≡ 0 = omega arith in
-        let first : front_back 0 (event_words b bank r) (absent_words (decimal b) other First r.pre.profile) ≡ event_words b bank (plain 0 r) = subst (λ (o : List ℕ). front_back 0 (event_words b bank r) (absent_words (decimal b) o First r.pre.profile) ≡ event_words b bank (plain 0 r)) (same zero-is) (first-row b bank r) in
+        let first : front_back 0 (event_texts b bank r) (absent_words (decimal b) other First r.pre.profile) ≡ event_texts b bank (plain 0 r) = subst (λ (o : List ℕ). front_back 0 (event_texts b bank r) (absent_words (decimal b) o First r.pre.profile) ≡ event_texts b bank (plain 0 r)) (same zero-is) (first-row b bank r) in
         subst (λ (j : ℕ). IsGuessed b bank other j points r) (sym zero-is) (absent_words (decimal b) other First r.pre.profile, plain 0 r, guess-of r.pre.profile (inl refl), plain-is 0 r h, first))
         (λ m. let e : p ≡ p - 1 + 1 = omega arith in early-guess b bank other points p (p - 1 + 1) r e h (below-at 3 (λ j. Early (j + 1)) early (p - 1) (omega arith)))
         (cases_lt p 1)
 
-    by : (q : PrePart) (l : Bool) (o : Option CrashPart) → IsRecord (record { pre = q; locked = l; crash = o }) → 13 ≤ p → value ≡ get_or (event_words b bank (record { pre = q; locked = l; crash = o })) p []
+    by : (q : PrePart) (l : Bool) (o : Option CrashPart) → IsRecord (record { pre = q; locked = l; crash = o }) → 13 ≤ p → value ≡ get_or (event_texts b bank (record { pre = q; locked = l; crash = o })) p []
         → IsGuessed b bank other p points (record { pre = q; locked = l; crash = o })
     by q l None k m here = let e : p ≡ p - 13 + 13 = omega arith in gone-guess b bank other points p (p - 13 + 13) q l e k (below-at 16 (λ j. Gone (j + 13)) gone (p - 13) (omega arith))
     by q l (Some c) k m here = ⊎_elim
         (λ z. let thirteen : p ≡ 13 = omega arith in
-        let g : Goes 13 points c = subst (λ (x : List ℕ). Goes 13 x c) (sym (are.0 c.end thirteen k.crash.end_from k.crash.end_to (here ∙ ap (λ (j : ℕ). get_or (event_words b bank (record { pre = q; locked = l; crash = Some c })) j []) thirteen))) (goes-13 c) in
+        let g : Goes 13 points c = subst (λ (x : List ℕ). Goes 13 x c) (sym (are.0 c.end thirteen k.crash.end_from k.crash.end_to (here ∙ ap (λ (j : ℕ). get_or (event_texts b bank (record { pre = q; locked = l; crash = Some c })) j []) thirteen))) (goes-13 c) in
         goes-guess b bank other points p 13 q l c thirteen k k.crash.restraints g)
         (λ n. ⊎_elim
         (λ z. let fourteen : p ≡ 14 = omega arith in
-        let g : Goes 14 points c = subst (λ (x : List ℕ). Goes 14 x c) (sym (are.1 fourteen ∙ here ∙ ap (λ (j : ℕ). get_or (event_words b bank (record { pre = q; locked = l; crash = Some c })) j []) fourteen)) (goes-14 c) in
+        let g : Goes 14 points c = subst (λ (x : List ℕ). Goes 14 x c) (sym (are.1 fourteen ∙ here ∙ ap (λ (j : ℕ). get_or (event_texts b bank (record { pre = q; locked = l; crash = Some c })) j []) fourteen)) (goes-14 c) in
         goes-guess b bank other points p 14 q l c fourteen k k.crash.restraints g)
         (λ n. let e : p ≡ p - 15 + 15 = omega arith in goes-guess b bank other points p (p - 15 + 15) q l c e k k.crash.restraints (below-at 14 (λ j. Goes (j + 15) points c) (goes points c) (p - 15) (omega arith)))
         (cases_lt p 15))

@@ -12,7 +12,7 @@ use Rattle.edr_image.specs.Banks.{found_event}
 use Rattle.edr_image.specs.Reports.{Report}
 use Rattle.edr_report.specs.Lines.{Line, line}
 use Rattle.edr_report.specs.Words.{shown_count}
-use Rattle.edr_report.specs.Report.{report_lines, run_lines, events_lines, event_lines, found_record, found_records, damaged_lines}
+use Rattle.edr_report.specs.Report.{report_lines, run_lines, events_lines, found_record, found_records, damaged_lines, event_lines}
 use Rattle.edr_reading.specs.Values.{IsDamagedView}
 use Rattle.edr_reading.specs.Found.{IsDamaged, events_fields, last_rows, damaged_fields, count_fields}
 use Rattle.edr_reading.specs.declared.rows.ReportRow.{ReportRow}

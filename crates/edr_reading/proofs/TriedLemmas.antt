@@ -15,14 +15,14 @@ use Rattle.edr_report.specs.Report.{cycle_lines, ack_line}
 use Rattle.edr_report.specs.Words.{cycle_words, damage_words}
 use Rattle.edr_reading.specs.declared.told.CycleRow.{CycleRow}
 use Rattle.edr_reading.specs.declared.told.CycleRow.TheVariants as row
-use Rattle.edr_reading.specs.Rows.{line_fields}
+use Rattle.edr_reading.specs.Rows.{line_fields, event_names}
 use Rattle.edr_reading.specs.Parts.{IsRecord}
 use Rattle.edr_reading.specs.Told.{IsAck}
 use Rattle.edr_reading.specs.Run.{ack_fields, cycle_fields, IsReport}
 use Rattle.edr_reading.specs.Found.{IsEvent, IsDamaged, damaged_fields, count_fields}
 use Rattle.edr_reading.specs.Faults.{AreReport, Opens, ReportGoesOn}
 use Rattle.std.proofs.lemmas.Fmt.{decimal_digit}
-use Rattle.edr_reading.specs.Plain.{event_names, event_words, block_fields, back_rows, NoneBehind, block_of, name_of, IsGuess}
+use Rattle.edr_reading.specs.Plain.{event_texts, block_fields, back_rows, NoneBehind, block_of, name_of, IsGuess}
 use Rattle.edr_reading.proofs.FoundLemmas.{event-long}
 use Rattle.edr_reading.proofs.NextLemmas.{Rows, whole, IsTold, told-report, event_fields, next, run-told, events-told, damaged-told}
 use Rattle.edr_reading.proofs.OpensLemmas.{words-long, event-named, at-block, front-back-rows, one, whole-cycle, whole-event, whole-damaged, All-last, last-of, other-record, banks-damaged, last-at, take-at}
@@ -63,27 +63,27 @@ module _ (rows zs : Rows) (reports : List Report) (es : List (ℕ × Record)) (e
   is-record : IsRecord e.1
   is-record = (last-of IsEvent es e h.events).1
 
-  front-rows : zs ≡ take (p + 1) (block_fields (decimal number) event_names (event_words number e.0 e.1))
+  front-rows : zs ≡ take (p + 1) (block_fields (decimal number) event_names (event_texts number e.0 e.1))
   front-rows = zs-are ∙ ap (λ (k : ℕ). take k (event_fields number e)) zs-long ∙ ap (take (p + 1)) (event-named number e.0 e.1 is-record)
 
-  inside-row : get_or rows (length rows - 1) [] ≡ decimal number ∷ get_or event_names p [] ∷ get_or (event_words number e.0 e.1) p [] ∷ []
+  inside-row : get_or rows (length rows - 1) [] ≡ decimal number ∷ get_or event_names p [] ∷ get_or (event_texts number e.0 e.1) p [] ∷ []
   inside-row =
       let long = words-long number e.0 e.1 is-record in
       ap (λ (x : Rows). get_or x (length x - 1) []) rows-are ∙ last-at (whole reports es []) zs p zs-long
-      ∙ ap (λ (x : Rows). get_or x p []) front-rows ∙ take-at p (block_fields (decimal number) event_names (event_words number e.0 e.1))
-      ∙ at-block (decimal number) p event_names (event_words number e.0 e.1) small (omega (arith, small, long))
+      ∙ ap (λ (x : Rows). get_or x p []) front-rows ∙ take-at p (block_fields (decimal number) event_names (event_texts number e.0 e.1))
+      ∙ at-block (decimal number) p event_names (event_texts number e.0 e.1) small (omega (arith, small, long))
 
   -- the row that stands next
-  inside-next : (r : List (List ℕ)) → ((d : List (List ℕ)) → r ≡ get_or (event_fields number e) (length zs) d) → length zs < 29 → r ≡ decimal number ∷ get_or event_names (p + 1) [] ∷ get_or (event_words number e.0 e.1) (p + 1) [] ∷ []
+  inside-next : (r : List (List ℕ)) → ((d : List (List ℕ)) → r ≡ get_or (event_fields number e) (length zs) d) → length zs < 29 → r ≡ decimal number ∷ get_or event_names (p + 1) [] ∷ get_or (event_texts number e.0 e.1) (p + 1) [] ∷ []
   inside-next r this less =
       let long = words-long number e.0 e.1 is-record in
       this [] ∙ ap (λ (k : ℕ). get_or (event_fields number e) k []) zs-long ∙ ap (λ (x : Rows). get_or x (p + 1) []) (event-named number e.0 e.1 is-record)
-      ∙ at-block (decimal number) (p + 1) event_names (event_words number e.0 e.1) (omega (arith, zs-long, less)) (omega (arith, zs-long, less, long))
+      ∙ at-block (decimal number) (p + 1) event_names (event_texts number e.0 e.1) (omega (arith, zs-long, less)) (omega (arith, zs-long, less, long))
 
   inside-none : length rows + 30 ≤ 4_294_967_294 + length zs → NoneBehind rows (get_or rows (length rows - 1) []) p → ⊥
   inside-none short none =
       let b = decimal number in
-      let words = event_words number e.0 e.1 in
+      let words = event_texts number e.0 e.1 in
       let long = words-long number e.0 e.1 is-record in
       let last = inside-row in
       let block-is : block_of (get_or rows (length rows - 1) []) ≡ b = ap block_of last in
@@ -110,7 +110,7 @@ event-next rows reports es e h is short =
     let k = 1 + length es in
     let r = (last-of IsEvent es e h.events).1 in
     let head : List (List ℕ) = decimal k ∷ codes "event" ∷ decimal k ∷ [] in
-    let tail = drop 1 (block_fields (decimal k) event_names (event_words k e.0 e.1)) in
+    let tail = drop 1 (block_fields (decimal k) event_names (event_texts k e.0 e.1)) in
     let a = length-append (whole reports es []) (event_fields k e) in
     let d = event-long k e.0 e.1 r in
     let report = told-report reports (es ++ e ∷ []) [] 0 h (omega (arith, short, a, d, ap length is, ap length (whole-event reports es e))) in

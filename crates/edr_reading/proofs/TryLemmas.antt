@@ -9,7 +9,7 @@ use Rattle.edr_record.specs.declared.Profile.TheVariants.{Short, Long}
 use Rattle.edr_report.specs.Words.{yes_no, profile_word, extreme_words, milliseconds}
 use Rattle.edr_reading.specs.Faults.{AreReport, Opens, ReportGoesOn}
 use Rattle.edr_reading.specs.Found.{count_fields}
-use Rattle.edr_reading.specs.Plain.{no_extreme, event_names, plain_texts, absent_words, present_words, absent_texts, present_texts, no_numbers, no_switches, NoneAfter, back_rows, block_fields, block_of, value_of, IsGuess, ArePlain, SomeBehind, NoneBehind, IsInside}
+use Rattle.edr_reading.specs.Plain.{no_extreme, plain_texts, absent_words, present_words, absent_texts, present_texts, no_numbers, no_switches, NoneAfter, back_rows, block_fields, block_of, value_of, IsGuess, ArePlain, SomeBehind, NoneBehind, IsInside}
 use Rattle.std.specs.Prelude.{is_some}
 use Rattle.std.proofs.Common.{nat_eq, length-take-le, ◌&&◌}
 use Rattle.std.proofs.lemmas.Bool.{eqb-true}
@@ -19,7 +19,7 @@ use Rattle.edr_reading.proofs.FaultLemmas.{row-three, reading-none}
 use Rattle.edr_report.specs.Report.{report_lines}
 use Rattle.edr_reading.specs.Reading.{head_row}
 use Rattle.edr_reading.specs.Values.{IsBank}
-use Rattle.edr_reading.specs.Rows.{line_fields}
+use Rattle.edr_reading.specs.Rows.{line_fields, event_names}
 use Rattle.edr_reading.proofs.TriedLemmas.{opens-no, first-no, second-no}
 use Rattle.edr_reading.proofs.BankLemmas.{name-once, second-is, zero-ms, extreme-is, missing-is}
 

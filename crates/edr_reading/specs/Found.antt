@@ -9,6 +9,7 @@ use Rattle.edr_report.specs.Lines.{line}
 use Rattle.edr_report.specs.Report.{events_lines}
 use Rattle.edr_report.specs.Words.{bank_words, shown_count}
 use Rattle.edr_reading.specs.Parts.{IsRecord}
+use Rattle.edr_reading.specs.declared.event.TheConstants.{EVENT_ROWS}
 use Rattle.edr_reading.specs.declared.rows.ReportRow.{ReportRow}
 use Rattle.edr_reading.specs.Rows.{FieldRows, event_fields, fields, line_fields}
 use Rattle.edr_reading.specs.Values.{IsBank, IsDamagedView, view_words}
@@ -54,7 +55,7 @@ LacksBank bank found = AllByRecursion (λ b. eqb bank b ≡ false) (banks_in fou
 -- this event is the first that the rows tell
 abbrev pub BeginsWithEvent : ℕ → List ReportRow → ℕ × Record → Type 0
 BeginsWithEvent block rows e =
-    IsEvent e × (29 ≤ length rows) × (map fields rows ≡ event_fields block e.0 e.1 ++ map fields (drop 29 rows))
+    IsEvent e × (EVENT_ROWS ≤ length rows) × (map fields rows ≡ event_fields block e.0 e.1 ++ map fields (drop EVENT_ROWS rows))
 
 -- whatever event they begin with, this is so
 abbrev pub OfEvent : ℕ → List ReportRow → (ℕ × Record → FieldRows → Type 0) → Type 0
@@ -62,17 +63,17 @@ OfEvent block rows says = (e : ℕ × Record) (more : FieldRows) → IsEvent e �
 
 -- an event in this bank, and more rows behind it
 abbrev pub GivesBank : {A : Type 0} → ℕ → FieldRows → List ReportRow → Option (ℕ × A) → Type 0
-GivesBank b more rows read = MatchOption read ⊥ (λ f. (f.0 ≡ b) × (map fields (drop 29 rows) ≡ more))
+GivesBank b more rows read = MatchOption read ⊥ (λ f. (f.0 ≡ b) × (map fields (drop EVENT_ROWS rows) ≡ more))
 
 -- events that the rows begin with were added
 abbrev pub AddsEvents : ℕ → List ReportRow → List Found → List Found → Type 0
 AddsEvents block rows old new =
     (es : List (ℕ × Record)) × (new ≡ old ++ map found_event es) × All IsEvent es
-    × (map fields rows ≡ events_fields block es ++ map fields (drop (29 * length es) rows)) × (29 * length es ≤ length rows)
+    × (map fields rows ≡ events_fields block es ++ map fields (drop (EVENT_ROWS * length es) rows)) × (EVENT_ROWS * length es ≤ length rows)
 
 -- the banks of these events were added, and more rows are behind them
 abbrev pub AddsBanks : List ReportRow → List Found → List Found → List (ℕ × Record) → FieldRows → Type 0
-AddsBanks rows old new es more = (banks_in new ≡ banks_in old ++ map (λ e. e.0) es) × (map fields (drop (29 * length es) rows) ≡ more)
+AddsBanks rows old new es more = (banks_in new ≡ banks_in old ++ map (λ e. e.0) es) × (map fields (drop (EVENT_ROWS * length es) rows) ≡ more)
 
 -- whatever events the rows begin with, up to the first row of block 0 and no more than banks, this is so
 abbrev pub OfEvents : ℕ → List ReportRow → (List (ℕ × Record) → FieldRows → Type 0) → Type 0

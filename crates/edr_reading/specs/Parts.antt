@@ -8,8 +8,7 @@ use Rattle.edr_record.specs.declared.Profile.{Profile}
 use Rattle.edr_record.specs.declared.Slots.{Slots}
 use Rattle.edr_record.specs.declared.Record.{Record}
 use Rattle.edr_report.specs.Words.{yes_no, profile_word, number_or_none, switch_or_none, milliseconds, firing_words, shown_count, events_in_crash, time_between, spaced_words, points_words, extreme_words, missing_words}
-use Rattle.edr_report.specs.Report.{pre_lines, crash_lines}
-use Rattle.edr_reading.specs.Rows.{fields, line_fields, texts_in}
+use Rattle.edr_reading.specs.Rows.{fields, texts_in, pre_fields, crash_fields}
 use Rattle.edr_reading.specs.declared.rows.ReportRow.{ReportRow}
 use Rattle.edr_reading.specs.declared.pre.PreValues.{PreValues}
 use Rattle.edr_reading.specs.declared.crash.CrashValues.{CrashValues}
@@ -95,11 +94,11 @@ GivesPre p locked read = MatchOption read ⊥ (λ q. SlotsAre q.0 p × (q.1 ≡ 
 
 -- whatever the rows tell of what stood before time zero, this is so
 abbrev pub OfPre : ℕ → List ReportRow → (PrePart → Bool → Type 0) → Type 0
-OfPre block rows says = (p : PrePart) (locked : Bool) → IsPre p → map fields rows ≡ map line_fields (pre_lines block p locked) → says p locked
+OfPre block rows says = (p : PrePart) (locked : Bool) → IsPre p → map fields rows ≡ pre_fields block p locked → says p locked
 
 -- whatever they tell of what came after it, this is so
 abbrev pub OfCrashRows : ℕ → List ReportRow → (Option CrashPart → Type 0) → Type 0
-OfCrashRows block rows says = (c : Option CrashPart) → IfSome c IsCrash → map fields rows ≡ map line_fields (crash_lines block c) → says c
+OfCrashRows block rows says = (c : Option CrashPart) → IfSome c IsCrash → map fields rows ≡ crash_fields block c → says c
 
 -- the bounds of a record
 pub record IsRecord (r : Record) : Type 0 where

@@ -1,5 +1,5 @@
 -- The rows of an event behind one of them, by plain values.
-use Rattle.std.specs.Prelude.{◌<◌, Option, Some, None, ◌≡◌, ◌≤◌, ◌+◌, ◌⊎◌, ℕ, Bool, true, false, pos, List, [], ◌∷◌, ◌++◌, drop, replicate, length, map, codes, decimal, slice_index_or}
+use Rattle.std.specs.Prelude.{◌<◌, Option, Some, None, ◌≡◌, ◌≤◌, ◌+◌, ◌-◌, ◌⊎◌, ℕ, Bool, true, false, pos, List, [], ◌∷◌, ◌++◌, drop, replicate, length, map, codes, decimal, slice_index_or}
 use Rattle.std.specs.Bool.{MatchBool}
 use Rattle.edr_record.specs.declared.TheConstants.{EARLIEST_END, RESET}
 use Rattle.edr_record.specs.declared.Extreme.{Extreme}
@@ -10,21 +10,17 @@ use Rattle.edr_record.specs.declared.Profile.TheVariants.{Short, Long}
 use Rattle.edr_record.specs.declared.Record.{Record}
 use Rattle.edr_record.specs.Bounds.{most_points, slots_in}
 use Rattle.edr_record.specs.Complete.{is_complete}
-use Rattle.edr_report.specs.Report.{crash_names, crash_words}
 use Rattle.edr_report.specs.Words.{yes_no, profile_word, none_word, number_or_none, switch_or_none, spaced_words, milliseconds, shown_count, time_between, points_words, extreme_words, missing_words}
+use Rattle.edr_reading.specs.declared.event.TheConstants.{EVENT_ROWS, HEAD_ROWS, PRE_ROWS}
 use Rattle.edr_reading.specs.Found.{count_fields}
 use Rattle.edr_reading.specs.Faults.{AreReport}
 use Rattle.edr_reading.specs.declared.rows.ReportRow.{ReportRow}
-use Rattle.edr_reading.specs.Rows.{fields, pre_names, pre_words}
+use Rattle.edr_reading.specs.Rows.{fields, event_names, pre_texts, crash_texts}
 use Rattle.edr_reading.specs.Values.{IsBank}
 
--- the names of the rows of an event
-abbrev pub event_names : List (List ℕ)
-event_names = codes "event" ∷ codes "bank" ∷ (pre_names ++ (crash_names ++ codes "complete file recorded" ∷ []))
-
--- their values
-abbrev pub event_words : ℕ → ℕ → Record → List (List ℕ)
-event_words b bank r = decimal b ∷ decimal bank ∷ (pre_words r.pre r.locked ++ (crash_words r.crash ++ yes_no (is_complete r) ∷ []))
+-- the values of the rows of an event
+abbrev pub event_texts : ℕ → ℕ → Record → List (List ℕ)
+event_texts b bank r = decimal b ∷ decimal bank ∷ (pre_texts r.pre r.locked ++ (crash_texts r.crash ++ yes_no (is_complete r) ∷ []))
 
 -- a crash part in which nothing changed, and none
 abbrev pub no_extreme : Extreme
@@ -109,8 +105,8 @@ IsGuess block bank points v = IsGuessOf Short block bank points v ⊎ IsGuessOf 
 -- what is tried as the points of both axes behind the end of an event, which this value tells, and behind its points along
 abbrev pub ArePlain : ℕ → List ℕ → List ℕ → Type 0
 ArePlain place value points =
-    ((end : ℕ) → place ≡ 13 → EARLIEST_END ≤ end → end ≤ RESET → value ≡ milliseconds end → points ≡ points_words end (replicate most_points (pos 0)))
-    × (place ≡ 14 → points ≡ value)
+    ((end : ℕ) → place ≡ HEAD_ROWS + PRE_ROWS → EARLIEST_END ≤ end → end ≤ RESET → value ≡ milliseconds end → points ≡ points_words end (replicate most_points (pos 0)))
+    × (place ≡ HEAD_ROWS + PRE_ROWS + 1 → points ≡ value)
 
 -- ---- the rows behind
 
@@ -141,7 +137,7 @@ value_of row = slice_index_or row 2 []
 
 -- behind rows, the last of which is of this block and in this place of an event, some values end a report
 abbrev pub SomeAfter : List (List (List ℕ)) → List ℕ → ℕ → Type 0
-SomeAfter rows block place = (v : List (List ℕ)) × (length v ≡ 29) × AreReport (rows ++ back_rows block place v)
+SomeAfter rows block place = (v : List (List ℕ)) × (length v ≡ EVENT_ROWS) × AreReport (rows ++ back_rows block place v)
 
 abbrev pub SomeBehind : List (List (List ℕ)) → List (List ℕ) → ℕ → Type 0
 SomeBehind rows last place = SomeAfter rows (block_of last) place
@@ -174,5 +170,5 @@ TellsBehind told rows last place = MatchBool told (SomeBehind rows last place) (
 
 -- the place in an event of the last row, if some plain values go on behind it
 abbrev pub IsInside : List (List (List ℕ)) → List (List ℕ) → Option ℕ → Type 0
-IsInside rows last None = (p : ℕ) → p < 28 → name_of last ≡ slice_index_or event_names p [] → NoneBehind rows last p
-IsInside rows last (Some p) = (p < 28) × (name_of last ≡ slice_index_or event_names p []) × SomeBehind rows last p
+IsInside rows last None = (p : ℕ) → p < EVENT_ROWS - 1 → name_of last ≡ slice_index_or event_names p [] → NoneBehind rows last p
+IsInside rows last (Some p) = (p < EVENT_ROWS - 1) × (name_of last ≡ slice_index_or event_names p []) × SomeBehind rows last p

@@ -1,11 +1,14 @@
 -- The rows of a report's table, by their fields.
-use Rattle.std.specs.Prelude.{◌≡◌, ◌++◌, ℕ, Bool, List, [], ◌∷◌, length, map, codes, decimal}
+use Rattle.std.specs.Prelude.{◌≡◌, ◌+◌, ◌++◌, ℕ, Bool, Option, Some, None, List, [], ◌∷◌, length, map, take, drop, replicate, decimal}
 use denote.Ref.{Bor}
-use Rattle.edr_record.specs.Parts.{PrePart}
+use Rattle.edr_record.specs.Parts.{PrePart, CrashPart}
 use Rattle.edr_record.specs.declared.Record.{Record}
-use Rattle.edr_report.specs.Lines.{Line, line}
 use Rattle.edr_report.specs.Report.{event_lines}
-use Rattle.edr_report.specs.Words.{yes_no, profile_word, number_or_none, switch_or_none, milliseconds, shown_count, events_in_crash, time_between, spaced_words}
+use Rattle.edr_report.specs.declared.event_lines.EventLine.{EventLine}
+use Rattle.edr_report.specs.declared.event_lines.TheConstants.{LINES_OF_EVENT}
+use Rattle.edr_report.specs.Lines.{Line}
+use Rattle.edr_report.specs.Words.{none_word, yes_no, profile_word, number_or_none, switch_or_none, milliseconds, firing_words, shown_count, events_in_crash, time_between, spaced_words, points_words, extreme_words, missing_words}
+use Rattle.edr_reading.specs.declared.event.TheConstants.{HEAD_ROWS, PRE_ROWS, CRASH_ROWS}
 use Rattle.edr_reading.specs.declared.crash.CrashValues.{CrashValues}
 use Rattle.edr_reading.specs.declared.pre.PreValues.{PreValues}
 use Rattle.edr_reading.specs.declared.rows.ReportRow.{ReportRow}
@@ -42,15 +45,9 @@ BeginWith rows first rest = map fields rows ≡ first ++ map fields rest
 abbrev pub line_fields : Line → List (List ℕ)
 line_fields l = decimal l.block ∷ l.name ∷ l.value ∷ []
 
--- the rows of an event, the two that begin it, and the one that ends it
+-- the rows of an event
 abbrev pub event_fields : ℕ → ℕ → Record → List (List (List ℕ))
 event_fields block b r = map line_fields (event_lines block b r)
-
-abbrev pub event_head : ℕ → ℕ → List (List (List ℕ))
-event_head block b = map line_fields (line block (codes "event") (decimal block) ∷ line block (codes "bank") (decimal b) ∷ [])
-
-abbrev pub event_end : ℕ → Bool → List (List (List ℕ))
-event_end block complete = map line_fields (line block (codes "complete file recorded") (yes_no complete) ∷ [])
 
 -- ---- names and values
 
@@ -60,30 +57,29 @@ named_fields block [] values = []
 named_fields block (n ∷ names) [] = []
 named_fields block (n ∷ names) (v ∷ values) = (decimal block ∷ n ∷ v ∷ []) ∷ named_fields block names values
 
--- whatever values the rows of the block tell under these names, this is so
-abbrev pub OfNamed : ℕ → List (Bor (List ℕ)) → List ReportRow → (Texts → Type 0) → Type 0
-OfNamed block names rows says = (ws : Texts) → length ws ≡ length rows → map fields rows ≡ named_fields block (texts_in names) ws → says ws
+-- the names of lines
+abbrev pub names_of : List (Bor (List ℕ) × EventLine) → Texts
+names_of lines = map (λ l. l.0.now) lines
 
--- ---- the names and values of the two parts
+-- whatever values the rows of the block tell under the names of these lines, this is so
+abbrev pub OfNamed : ℕ → List (Bor (List ℕ) × EventLine) → List ReportRow → (Texts → Type 0) → Type 0
+OfNamed block lines rows says = (ws : Texts) → length ws ≡ length rows → map fields rows ≡ named_fields block (names_of lines) ws → says ws
 
--- the names of the lines of what stood before time zero, and their values
-abbrev pub pre_names : List (List ℕ)
-pre_names =
-    codes "ignition cycle, crash"
-    ∷ codes "time zero"
-    ∷ codes "multi-event, number of events"
-    ∷ codes "time from event 1 to 2"
-    ∷ codes "deployment event"
-    ∷ codes "pre-crash profile"
-    ∷ codes "speed, km/h"
-    ∷ codes "throttle, %"
-    ∷ codes "service brake"
-    ∷ codes "driver belt"
-    ∷ codes "frontal air bag warning lamp"
-    ∷ []
+-- ---- the names and values of the parts of an event
 
-abbrev pub pre_words : PrePart → Bool → List (List ℕ)
-pre_words p locked =
+-- the names of all its lines, of those of what stood before time zero, and of those of what came after it
+abbrev pub event_names : Texts
+event_names = map (λ l. l.0.now) LINES_OF_EVENT
+
+abbrev pub pre_names : Texts
+pre_names = take PRE_ROWS (drop HEAD_ROWS event_names)
+
+abbrev pub crash_names : Texts
+crash_names = take CRASH_ROWS (drop (HEAD_ROWS + PRE_ROWS) event_names)
+
+-- the values of these, and of those
+abbrev pub pre_texts : PrePart → Bool → Texts
+pre_texts p locked =
     shown_count p.key.cycle
     ∷ milliseconds p.key.zero
     ∷ events_in_crash p.place
@@ -96,6 +92,31 @@ pre_words p locked =
     ∷ switch_or_none p.belt
     ∷ switch_or_none p.lamp
     ∷ []
+
+abbrev pub crash_texts : Option CrashPart → Texts
+crash_texts None = replicate CRASH_ROWS none_word
+crash_texts (Some c) =
+    milliseconds c.end
+    ∷ points_words c.end c.along
+    ∷ points_words c.end c.across
+    ∷ extreme_words c.max_along
+    ∷ extreme_words c.max_across
+    ∷ milliseconds c.result_at
+    ∷ missing_words c.missing_along c.missing_across
+    ∷ map firing_words c.fired
+
+-- the two rows that begin an event, those of its parts, and the one that ends it
+abbrev pub event_head : ℕ → ℕ → FieldRows
+event_head block b = named_fields block (take HEAD_ROWS event_names) (decimal block ∷ decimal b ∷ [])
+
+abbrev pub pre_fields : ℕ → PrePart → Bool → FieldRows
+pre_fields block p locked = named_fields block pre_names (pre_texts p locked)
+
+abbrev pub crash_fields : ℕ → Option CrashPart → FieldRows
+crash_fields block c = named_fields block crash_names (crash_texts c)
+
+abbrev pub event_end : ℕ → Bool → FieldRows
+event_end block complete = named_fields block (drop (HEAD_ROWS + PRE_ROWS + CRASH_ROWS) event_names) (yes_no complete ∷ [])
 
 -- values as they stand in their rows
 abbrev pub pre_list : PreValues → List (List ℕ)

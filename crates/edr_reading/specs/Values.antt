@@ -1,7 +1,7 @@
 -- Which values a report may show, where the parts of a record don't say it.
-use Rattle.std.specs.Prelude.{ℕ, ◌≡◌, ◌≤◌, ◌⊎◌, Bool, Option, IfSome, List, [], ◌++◌, codes, decimal}
+use Rattle.std.specs.Prelude.{ℕ, ◌≡◌, ◌≤◌, ◌-◌, ◌⊎◌, Bool, Option, IfSome, List, [], ◌++◌, codes, decimal}
 use Rattle.edr_items.specs.declared.TheConstants.{LATEST_MOMENT}
-use Rattle.edr_image.specs.declared.places.TheConstants.{MOST_BANKS}
+use Rattle.edr_image.specs.declared.places.TheConstants.{BANK_SIZE, MOST_BANKS}
 use Rattle.edr_image.specs.declared.BankView.{BankView}
 use Rattle.edr_image.specs.declared.BankView.TheVariants.{Void, Event, Damaged}
 use Rattle.edr_report.specs.Words.{damage_words, kind_word, stop_words, yes_no}
@@ -24,7 +24,7 @@ IsTick t = (1 ≤ t) × (t ≤ LATEST_MOMENT)
 
 -- a place in the two parts of a record, and a byte
 abbrev pub IsDamage : ℕ → ℕ → Type 0
-IsDamage offset found = (offset ≤ 1_023) × (found ≤ 255)
+IsDamage offset found = (offset ≤ BANK_SIZE - 1) × (found ≤ 255)
 
 -- what was done in this bank by a command of this kind
 abbrev pub done_in : Kind → ℕ → Applied

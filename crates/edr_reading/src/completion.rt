@@ -4,48 +4,18 @@ ghost use Rattle.std.specs.Prelude.{◌≡◌, ◌<◌, ◌≤◌, ◌+◌, ℕ,
 ghost use Rattle.edr_record.specs.Bounds.{most_points};
 ghost use Rattle.edr_report.specs.Words.{points_words, profile_word};
 ghost use Rattle.edr_reading.specs.Cut.{cut_texts, IsNoneOf, cut_rows, rows_of, tried_texts};
-ghost use Rattle.edr_reading.specs.Plain.{event_names, ArePlain, absent_texts, no_numbers, no_switches};
-ghost use Rattle.edr_reading.specs.Rows.{AddsRows, texts_in};
+ghost use Rattle.edr_reading.specs.Plain.{ArePlain, absent_texts, no_numbers, no_switches};
+ghost use Rattle.edr_reading.specs.Rows.{AddsRows, event_names, names_of, texts_in};
 ghost use Rattle.edr_reading.specs.Answers.{TellsWhether};
+ghost use Rattle.edr_reading.specs.declared.event.TheConstants.{EVENT_ROWS};
 
+use crate::event::{EVENT_ROWS, HEAD_ROWS, PRE_ROWS};
 use crate::front::is_word;
 use crate::rows::ReportRow;
 use crate::values::end_time;
 use edr_record::{Profile, point_count};
+use edr_report::{EventLine, LINES_OF_EVENT};
 use std::alloc::AllocError as OutOfMemory;
-
-// The names of the rows of an event.
-const EVENT_NAMES: [&[u8]; 29] = [
-    b"event",
-    b"bank",
-    b"ignition cycle, crash",
-    b"time zero",
-    b"multi-event, number of events",
-    b"time from event 1 to 2",
-    b"deployment event",
-    b"pre-crash profile",
-    b"speed, km/h",
-    b"throttle, %",
-    b"service brake",
-    b"driver belt",
-    b"frontal air bag warning lamp",
-    b"end of event",
-    b"delta-V longitudinal, km/h",
-    b"delta-V lateral, km/h",
-    b"maximum delta-V longitudinal",
-    b"maximum delta-V lateral",
-    b"time of maximum resultant",
-    b"ticks without sample",
-    b"driver frontal deployment",
-    b"passenger frontal deployment",
-    b"driver side deployment",
-    b"passenger side deployment",
-    b"driver curtain deployment",
-    b"passenger curtain deployment",
-    b"driver pretensioner deployment",
-    b"passenger pretensioner deployment",
-    b"complete file recorded",
-];
 
 // As many points as an axis has at most, none of them a change.
 const UNCHANGED: &[u8] = b"0 0 0 0 0 0 0 0 0 0 0 0 0 0 0 0 0 0 0 0 0 0 0 0 0 0";
@@ -74,13 +44,13 @@ pub(crate) struct Guess<'a> {
     pub points: &'a [u8],
 }
 
-// The first place of a name among these.
-fn place_in(name: &[u8], names: &[&'static [u8]]) -> Option<usize>
-    ensures read { IfSome result (λ p. (p < length names.now) × (name.now ≡ slice_index_or (texts_in names.now) p [])) }
-    ensures none { MatchOption result (IsNoneOf name.now names.now) (λ p. ⊤) }
+// The first place of a name among those of these lines.
+fn place_in(name: &[u8], lines: &[(&'static str, EventLine)]) -> Option<usize>
+    ensures read { IfSome result (λ p. (p < length lines.now) × (name.now ≡ slice_index_or (names_of lines.now) p [])) }
+    ensures none { MatchOption result (IsNoneOf name.now lines.now) (λ p. ⊤) }
 {
-    for place in 0..names.len() {
-        if is_word(name, names[place]) {
+    for place in 0..lines.len() {
+        if is_word(name, lines[place].0.as_bytes()) {
             return Some(place);
         }
     }
@@ -89,15 +59,15 @@ fn place_in(name: &[u8], names: &[&'static [u8]]) -> Option<usize>
 
 /// The place in an event of the row with this name.
 pub(crate) fn place_of(name: &[u8]) -> Option<usize>
-    ensures read { IfSome result (λ p. (p < 29) × (name.now ≡ slice_index_or event_names p [])) }
-    ensures whole { (p : ℕ) → p < 29 → name.now ≡ slice_index_or event_names p [] → result ≡ Some p }
+    ensures read { IfSome result (λ p. (p < EVENT_ROWS) × (name.now ≡ slice_index_or event_names p [])) }
+    ensures whole { (p : ℕ) → p < EVENT_ROWS → name.now ≡ slice_index_or event_names p [] → result ≡ Some p }
 {
-    place_in(name, &EVENT_NAMES)
+    place_in(name, &LINES_OF_EVENT)
 }
 
 /// The name is that of the row of an event in this place.
 pub(crate) fn is_named(name: &[u8], place: usize) -> bool
-    requires { place < 29 }
+    requires { place < EVENT_ROWS }
     ensures { TellsWhether result (name.now ≡ slice_index_or event_names place []) }
 {
     match place_of(name) {
@@ -117,7 +87,7 @@ fn unchanged(end: u16) -> &'static [u8]
 pub(crate) fn points_behind<'a>(place: usize, value: &'a [u8]) -> &'a [u8]
     ensures { ArePlain place value.now result.now }
 {
-    if place != 13 {
+    if place != HEAD_ROWS + PRE_ROWS {
         return value;
     }
     match end_time(value) {
@@ -198,7 +168,7 @@ pub(crate) fn present<'a>(guess: &Guess<'a>, complete: &'a [u8]) -> PlainValues<
 }
 
 // The values of all rows of an event.
-fn values_of<'a>(cut: &PlainValues<'a>) -> [&'a [u8]; 29]
+fn values_of<'a>(cut: &PlainValues<'a>) -> [&'a [u8]; EVENT_ROWS]
     ensures { texts_in result ≡ cut_texts cut.now }
 {
     let PlainValues {
@@ -241,23 +211,24 @@ fn values_of<'a>(cut: &PlainValues<'a>) -> [&'a [u8]; 29]
     ]
 }
 
-// Adds rows of this block with these names and values.
+// Adds rows of this block with the names of these lines, and these values.
 fn push_rows<'a>(
     rows: &mut Vec<ReportRow<'a>>,
     block: &'a [u8],
-    names: &[&'static [u8]],
+    lines: &[(&'static str, EventLine)],
     values: &[&'a [u8]],
 ) -> Result<(), OutOfMemory>
-    ensures { OnOk result (AddsRows (rows_of block.now names.now values.now) rows.old.items rows.new.items) }
+    ensures { OnOk result (AddsRows (rows_of block.now lines.now values.now) rows.old.items rows.new.items) }
 {
-    let Some((name, names)) = names.split_first() else {
+    let Some((line, lines)) = lines.split_first() else {
         return Ok(());
     };
     let Some((value, values)) = values.split_first() else {
         return Ok(());
     };
+    let name = line.0.as_bytes();
     rows.push(ReportRow { block, name, value })?;
-    push_rows(rows, block, names, values)
+    push_rows(rows, block, lines, values)
 }
 
 /// Adds the rows of an event behind the one in this place.
@@ -266,10 +237,10 @@ pub(crate) fn push_event<'a>(
     place: usize,
     cut: &PlainValues<'a>,
 ) -> Result<(), OutOfMemory>
-    requires { place < 29 }
+    requires { place < EVENT_ROWS }
     ensures { OnOk result (AddsRows (cut_rows place cut.now) rows.old.items rows.new.items) }
 {
     let values = values_of(cut);
-    let names = EVENT_NAMES.split_at(place + 1).1;
-    push_rows(rows, cut.block, names, values.split_at(place + 1).1)
+    let lines = LINES_OF_EVENT.split_at(place + 1).1;
+    push_rows(rows, cut.block, lines, values.split_at(place + 1).1)
 }

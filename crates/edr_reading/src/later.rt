@@ -8,6 +8,7 @@ ghost use Rattle.edr_reading.specs.Reading.{head_row};
 ghost use Rattle.edr_reading.specs.Rows.{fields, FieldRows};
 
 use crate::completion::{is_named, place_of};
+use crate::event::EVENT_ROWS;
 use crate::faults::RowFault;
 use crate::front::is_word;
 use crate::opens::{ends_inside, last_row, opens, with_row};
@@ -39,7 +40,7 @@ fn inside<'a>(
     let Some(place) = place_of(last.name) else {
         return Ok(None);
     };
-    if place < 28 && ends_inside(alloc, rows, last, place)? {
+    if place < EVENT_ROWS - 1 && ends_inside(alloc, rows, last, place)? {
         Ok(Some(place))
     } else {
         Ok(None)

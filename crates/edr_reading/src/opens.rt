@@ -2,6 +2,7 @@
 
 ghost use Rattle.std.specs.Prelude.{◌≡◌, ◌<◌, ◌-◌, ◌++◌, ◌∷◌, [], true, false, IfOk, map, length, slice_index_or, decimal};
 ghost use Rattle.edr_reading.specs.Answers.{TellsWhether};
+ghost use Rattle.edr_reading.specs.declared.event.TheConstants.{EVENT_ROWS};
 ghost use Rattle.edr_reading.specs.Cut.{EndsReport, NoneOf};
 ghost use Rattle.edr_reading.specs.Faults.{AreReport, Opens};
 ghost use Rattle.edr_reading.specs.Found.{count_fields};
@@ -59,7 +60,7 @@ fn ends_by<'a>(
     place: usize,
     cut: &PlainValues<'a>,
 ) -> Result<bool, OutOfMemory>
-    requires { place < 29 }
+    requires { place < EVENT_ROWS }
     ensures { IfOk result (λ b. TellsWhether b (EndsReport rows.now place cut.now)) }
 {
     let mut all = Vec::with_capacity(alloc, rows.len())?;
@@ -76,7 +77,7 @@ fn ends_by_guess<'a>(
     place: usize,
     guess: &Guess<'a>,
 ) -> Result<bool, OutOfMemory>
-    requires { place < 29 }
+    requires { place < EVENT_ROWS }
     ensures some { IfOk result (λ b. b ≡ true
         → SomeAfter (map fields rows.now) guess.now.block.now place) }
     ensures none { IfOk result (λ b. b ≡ false → NoneOf guess.now rows.now place) }
@@ -101,7 +102,7 @@ fn ends_in_bank<'b, 'a: 'b>(
     place: usize,
     bank: &'b [u8],
 ) -> Result<bool, OutOfMemory>
-    requires { place < 29 }
+    requires { place < EVENT_ROWS }
     ensures some { IfOk result (λ b. b ≡ true → SomeBehind (map fields rows.now) (fields last.now) place) }
     ensures none { IfOk result (λ b. b ≡ false → NoneInBank rows.now last.now place bank.now) }
 {
@@ -129,7 +130,7 @@ fn ends_in_numbered(
     place: usize,
     bank: u8,
 ) -> Result<bool, OutOfMemory>
-    requires { place < 29 }
+    requires { place < EVENT_ROWS }
     ensures some { IfOk result (λ b. b ≡ true → SomeBehind (map fields rows.now) (fields last.now) place) }
     ensures none { IfOk result (λ b. b ≡ false → NoneInBank rows.now last.now place (decimal bank)) }
 {
@@ -144,7 +145,7 @@ fn ends_in_some(
     last: &ReportRow<'_>,
     place: usize,
 ) -> Result<bool, OutOfMemory>
-    requires { place < 29 }
+    requires { place < EVENT_ROWS }
     ensures some { IfOk result (λ b. b ≡ true → SomeBehind (map fields rows.now) (fields last.now) place) }
     ensures none { IfOk result (λ b. b ≡ false → NoneInBanks rows.now last.now place) }
 {
@@ -163,7 +164,7 @@ pub(crate) fn ends_inside<'a>(
     last: &ReportRow<'a>,
     place: usize,
 ) -> Result<bool, OutOfMemory>
-    requires { place < 29 }
+    requires { place < EVENT_ROWS }
     ensures { IfOk result (λ b. TellsBehind b (map fields rows.now) (fields last.now) place) }
 {
     if place > 0 {

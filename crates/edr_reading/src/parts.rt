@@ -3,54 +3,22 @@
 ghost use Rattle.std.specs.Prelude.{◌≡◌, Option, Some, length, map, replicate, IfSome};
 ghost use Rattle.edr_record.specs.Bounds.{IsPre, IsCrash};
 ghost use Rattle.edr_record.specs.Parts.{CrashPart};
-ghost use Rattle.edr_report.specs.Report.{pre_lines, crash_words, crash_lines};
 ghost use Rattle.edr_report.specs.Words.{none_word};
 ghost use Rattle.edr_reading.specs.Parts.{GivesPre, OfCrashRows, OfPre};
-ghost use Rattle.edr_reading.specs.Rows.{fields, line_fields, pre_list, crash_list, texts_in};
+ghost use Rattle.edr_reading.specs.Rows.{fields, pre_fields, crash_fields, crash_texts, pre_list, crash_list, texts_in};
 ghost use Rattle.edr_reading.specs.Answers.{TellsWhether};
+ghost use Rattle.edr_reading.specs.declared.event.TheConstants.{PRE_ROWS, CRASH_ROWS};
 
 use crate::crash::{CrashValues, read_crash};
+use crate::event::{CRASH_ROWS, EVENT_ROWS, HEAD_ROWS, PRE_ROWS};
 use crate::front::is_word;
 use crate::pre::{PreValues, read_pre};
 use crate::rows::{ReportRow, put_values};
 use edr_record::{Crash, Pre};
+use edr_report::LINES_OF_EVENT;
 
-/// The names of the rows of what stood before time zero.
-pub(crate) const PRE_NAMES: [&str; 11] = [
-    "ignition cycle, crash",
-    "time zero",
-    "multi-event, number of events",
-    "time from event 1 to 2",
-    "deployment event",
-    "pre-crash profile",
-    "speed, km/h",
-    "throttle, %",
-    "service brake",
-    "driver belt",
-    "frontal air bag warning lamp",
-];
-
-/// The names of the rows of what came after time zero.
-pub(crate) const CRASH_NAMES: [&str; 15] = [
-    "end of event",
-    "delta-V longitudinal, km/h",
-    "delta-V lateral, km/h",
-    "maximum delta-V longitudinal",
-    "maximum delta-V lateral",
-    "time of maximum resultant",
-    "ticks without sample",
-    "driver frontal deployment",
-    "passenger frontal deployment",
-    "driver side deployment",
-    "passenger side deployment",
-    "driver curtain deployment",
-    "passenger curtain deployment",
-    "driver pretensioner deployment",
-    "passenger pretensioner deployment",
-];
-
-// The values of eleven rows by their meaning.
-fn pre_values<'a>(values: &[&'a [u8]; 11]) -> PreValues<'a>
+// The values of the rows of what stood before time zero by their meaning.
+fn pre_values<'a>(values: &[&'a [u8]; PRE_ROWS]) -> PreValues<'a>
     ensures { texts_in values.now ≡ pre_list result }
 {
     PreValues {
@@ -68,23 +36,28 @@ fn pre_values<'a>(values: &[&'a [u8]; 11]) -> PreValues<'a>
     }
 }
 
-/// What stood before time zero, and whether the record is locked, if these eleven rows of this block show them.
+/// What stood before time zero, and whether the record is locked, if these rows of this block show them.
 pub(crate) fn pre_rows(rows: &[ReportRow<'_>], block: u32) -> Option<(Pre, bool)>
-    requires { length rows.now ≡ 11 }
-    ensures read { IfSome result (λ q. map fields rows.now ≡ map line_fields (pre_lines block q.0 q.1)) }
+    requires { length rows.now ≡ PRE_ROWS }
+    ensures read { IfSome result (λ q. map fields rows.now ≡ pre_fields block q.0 q.1) }
     ensures bounds { IfSome result (λ q. IsPre q.0) }
     ensures whole { OfPre block rows.now (λ p locked. GivesPre p locked result) }
 {
-    let mut values: [&[u8]; 11] = [b""; 11];
-    if put_values(rows, block, &PRE_NAMES, &mut values) {
+    let mut values: [&[u8]; PRE_ROWS] = [b""; PRE_ROWS];
+    if put_values(
+        rows,
+        block,
+        &LINES_OF_EVENT[HEAD_ROWS..HEAD_ROWS + PRE_ROWS],
+        &mut values,
+    ) {
         read_pre(&pre_values(&values))
     } else {
         None
     }
 }
 
-// The values of fifteen rows by their meaning.
-fn crash_values<'a>(values: &[&'a [u8]; 15]) -> CrashValues<'a>
+// The values of the rows of what came after it by their meaning.
+fn crash_values<'a>(values: &[&'a [u8]; CRASH_ROWS]) -> CrashValues<'a>
     ensures { texts_in values.now ≡ crash_list result }
 {
     CrashValues {
@@ -103,10 +76,10 @@ fn crash_values<'a>(values: &[&'a [u8]; 15]) -> CrashValues<'a>
 }
 
 // Each of the values is `none`.
-fn are_absent(values: &[&[u8]; 15]) -> bool
-    ensures { TellsWhether result (texts_in values.now ≡ replicate 15 none_word) }
+fn are_absent(values: &[&[u8]; CRASH_ROWS]) -> bool
+    ensures { TellsWhether result (texts_in values.now ≡ replicate CRASH_ROWS none_word) }
 {
-    for i in 0..15 {
+    for i in 0..CRASH_ROWS {
         if !is_word(values[i], b"none") {
             return false;
         }
@@ -115,10 +88,10 @@ fn are_absent(values: &[&[u8]; 15]) -> bool
 }
 
 // What came after time zero, if these values show it or none.
-fn crash_or_none(values: &[&[u8]; 15]) -> Option<Option<Crash>>
-    ensures read { IfSome result (λ c. texts_in values.now ≡ crash_words c) }
+fn crash_or_none(values: &[&[u8]; CRASH_ROWS]) -> Option<Option<Crash>>
+    ensures read { IfSome result (λ c. texts_in values.now ≡ crash_texts c) }
     ensures bounds { IfSome result (λ c. IfSome c IsCrash) }
-    ensures whole { (c : Option CrashPart) → IfSome c IsCrash → texts_in values.now ≡ crash_words c → result ≡ Some c }
+    ensures whole { (c : Option CrashPart) → IfSome c IsCrash → texts_in values.now ≡ crash_texts c → result ≡ Some c }
 {
     if are_absent(values) {
         return Some(None);
@@ -129,15 +102,20 @@ fn crash_or_none(values: &[&[u8]; 15]) -> Option<Option<Crash>>
     }
 }
 
-/// What came after time zero, or that nothing did, if these fifteen rows of this block show it.
+/// What came after time zero, or that nothing did, if these rows of this block show it.
 pub(crate) fn crash_rows(rows: &[ReportRow<'_>], block: u32) -> Option<Option<Crash>>
-    requires { length rows.now ≡ 15 }
-    ensures read { IfSome result (λ c. map fields rows.now ≡ map line_fields (crash_lines block c)) }
+    requires { length rows.now ≡ CRASH_ROWS }
+    ensures read { IfSome result (λ c. map fields rows.now ≡ crash_fields block c) }
     ensures bounds { IfSome result (λ c. IfSome c IsCrash) }
     ensures whole { OfCrashRows block rows.now (λ c. result ≡ Some c) }
 {
-    let mut values: [&[u8]; 15] = [b""; 15];
-    if put_values(rows, block, &CRASH_NAMES, &mut values) {
+    let mut values: [&[u8]; CRASH_ROWS] = [b""; CRASH_ROWS];
+    if put_values(
+        rows,
+        block,
+        &LINES_OF_EVENT[HEAD_ROWS + PRE_ROWS..EVENT_ROWS - 1],
+        &mut values,
+    ) {
         crash_or_none(&values)
     } else {
         None

@@ -1,10 +1,11 @@
 //! Rows of a table, and the values of rows with known names.
 
 ghost use Rattle.std.specs.Prelude.{◌≡◌, ◌∷◌, [], true, ℕ, List, length, map, decimal, IfSome};
-ghost use Rattle.edr_reading.specs.Rows.{fields, named_fields, texts_in, OfNamed};
+ghost use Rattle.edr_reading.specs.Rows.{fields, named_fields, names_of, texts_in, OfNamed};
 ghost use Rattle.edr_reading.specs.Answers.{GivesText};
 
 use crate::front::{is_word, last_within};
+use edr_report::EventLine;
 
 /// A row: the number of its block, a name and a value.
 #[derive(Clone, Copy)]
@@ -29,22 +30,22 @@ pub(crate) fn value_in<'a>(row: &ReportRow<'a>, block: u32, name: &str) -> Optio
     }
 }
 
-/// Puts the values of rows that are to have this block and these names, and tells whether they have.
+/// Puts the values of rows that are to have this block and the names of these lines, and tells whether they have.
 pub(crate) fn put_values<'a>(
     rows: &[ReportRow<'a>],
     block: u32,
-    names: &[&'static str],
+    lines: &[(&'static str, EventLine)],
     values: &mut [&'a [u8]],
 ) -> bool
-    requires names { length names.now ≡ length rows.now }
+    requires lines { length lines.now ≡ length rows.now }
     requires values { length values.old ≡ length rows.now }
     ensures long { length values.new ≡ length values.old }
     ensures read { result ≡ true
-        → map fields rows.now ≡ named_fields block (texts_in names.now) (texts_in values.new) }
-    ensures whole { OfNamed block names.now rows.now (λ ws. (result ≡ true) × (texts_in values.new ≡ ws)) }
+        → map fields rows.now ≡ named_fields block (names_of lines.now) (texts_in values.new) }
+    ensures whole { OfNamed block lines.now rows.now (λ ws. (result ≡ true) × (texts_in values.new ≡ ws)) }
 {
     for i in 0..rows.len() {
-        match value_in(&rows[i], block, names[i]) {
+        match value_in(&rows[i], block, lines[i].0) {
             Some(value) => values[i] = value,
             None => return false,
         }

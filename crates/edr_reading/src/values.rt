@@ -14,7 +14,7 @@ ghost use Rattle.edr_reading.specs.Values.{IsBank, IsStopCall, IsApplied, IsDama
 use crate::front::{
     behind, is_word, last_within, number_behind, one_number, two_numbers, two_within, within_behind,
 };
-use edr_image::places::MOST_BANKS;
+use edr_image::places::{BANK_SIZE, MOST_BANKS};
 use edr_image::{Applied, BankView, Kind};
 use edr_items::LATEST_MOMENT;
 use edr_record::{EARLIEST_END, Extreme, GREATEST_CHANGE, Place, Profile, RESET};
@@ -272,7 +272,7 @@ pub(crate) fn damage(bytes: &[u8]) -> Option<BankView>
     ensures read { IfSome result (λ v. (bytes.now ≡ view_words v) × IsDamagedView v) }
     ensures whole { (v : BankView) → IsDamagedView v → bytes.now ≡ view_words v → result ≡ Some v }
 {
-    match within_behind(bytes, b"damaged at ", 0, 1_023) {
+    match within_behind(bytes, b"damaged at ", 0, BANK_SIZE as u32 - 1) {
         Some((offset, rest)) => match byte_behind(rest) {
             Some((found, locked)) => Some(BankView::Damaged {
                 offset: offset as u16,
