@@ -7,24 +7,24 @@ use Rattle.edr_record.specs.declared.Profile.{Profile}
 use Rattle.edr_record.specs.declared.Profile.TheVariants.{Short, Long}
 use Rattle.edr_drawing.specs.declared.after.CarAxis.{CarAxis}
 use Rattle.edr_drawing.specs.declared.after.CarAxis.TheVariants.{Along, Across}
-use Rattle.edr_drawing.specs.declared.after.TheConstants.{ACROSS_NUMBER, AFTER_PLOT, ALONG_NUMBER, AXIS_LINE, CENTRED, DIAMOND, END_LINE, ENDING, FAR_RIGHT, GRID, LEGEND, LEVEL, MAX_ACROSS, MAX_ALONG, NOT_RECORDED, PAST_WINDOW, ROOM_NOT_RECORDED, TIME_LINES, TIMES_APART, ZERO_LINES}
-use Rattle.edr_drawing.specs.declared.before.TheConstants.{BEFORE_HEAD, BEFORE_PLOT, BELT_Y, BRAKE_Y, DRIVER_BELT, LAMP, LAMP_Y, SERVICE_BRAKE, SPEED_NAME, SWITCH_NAME, THROTTLE_LANE, THROTTLE_NAME, TIME_LINE, TIMES, ZERO_LINE, FIELD_HEIGHT}
+use Rattle.edr_drawing.specs.declared.after.TheConstants.{ACROSS_NUMBER, ALONG_NUMBER, AXIS_LINE, CENTRED, DIAMOND, END_LINE, ENDING, FAR_RIGHT, GRID, LEGEND, LEVEL, MAX_ACROSS, MAX_ALONG, NOT_RECORDED, PAST_WINDOW, ROOM_NOT_RECORDED, TIME_LINES, TIMES_APART, ZERO_LINES}
+use Rattle.edr_drawing.specs.declared.before.TheConstants.{BEFORE_END, BEFORE_HEAD, BELT_NAME, BRAKE_NAME, BRAKE_Y, FIELD_HEIGHT, LAMP_NAME, THROTTLE_NAME, TIME_LINE, TIMES, ZERO_LINE}
 use Rattle.edr_drawing.specs.declared.changes.Scale.{Scale}
 use Rattle.edr_drawing.specs.declared.lanes.ChartLane.{ChartLane}
 use Rattle.edr_drawing.specs.declared.lanes.TheConstants.{GRID_LINE}
-use Rattle.edr_drawing.specs.declared.rows.TheConstants.{ACROSS_Y, ALONG_Y, DRIVER_CURTAIN, DRIVER_FRONTAL, DRIVER_PRETENSIONER, DRIVER_SIDE, END_OF_EVENT, END_Y, LEFT_OF_FLAG, MAX_LATERAL, MAX_LONGITUDINAL, MAX_RESULTANT, PASSENGER_CURTAIN, PASSENGER_FRONTAL, PASSENGER_PRETENSIONER, PASSENGER_SIDE, RESULTANT_Y, RIGHT_OF_FLAG, AFTER_HEAD, FIRED_ROW, FLAG_FAR_RIGHT, NOT_FIRED_ROW, TIMED_ROW, WITHOUT_PART}
+use Rattle.edr_drawing.specs.declared.rows.TheConstants.{ACROSS_Y, ALONG_Y, DRIVER_CURTAIN, DRIVER_FRONTAL, DRIVER_PRETENSIONER, DRIVER_SIDE, END_OF_EVENT, END_Y, LEFT_OF_FLAG, MAX_LATERAL, MAX_LONGITUDINAL, MAX_RESULTANT, PASSENGER_CURTAIN, PASSENGER_FRONTAL, PASSENGER_PRETENSIONER, PASSENGER_SIDE, RESULTANT_Y, RIGHT_OF_FLAG, AFTER_HEAD, CHART_END, FIRED_ROW, FLAG_FAR_RIGHT, NOT_FIRED_ROW, RULE, TIMED_ROW, WITHOUT_PART}
 use Rattle.edr_drawing.specs.declared.scales.TheConstants.{RIGHT}
 use Rattle.edr_drawing.specs.declared.shapes.Shape.{Shape}
 use Rattle.edr_drawing.specs.declared.shapes.Shape.TheVariants as shape
-use Rattle.edr_drawing.specs.declared.shapes.TheConstants.{ALONG, BEGIN, CHART_END, DOT, FIELD, JOIN, NUMBER, PATH, PATH_END, PATH_POINT, POINT, RULE, SQUARE, WORD}
+use Rattle.edr_drawing.specs.declared.shapes.TheConstants.{ALONG, BEGIN, DOT, FIELD, JOIN, NUMBER, PATH, PATH_END, PATH_POINT, POINT, SQUARE, WORD}
 use Rattle.edr_drawing.specs.Template.{filled, milliseconds}
 use Rattle.edr_drawing.specs.Shapes.{field_class, path_point, shape_bytes, shapes_bytes, switch_word, word_class}
 use Rattle.edr_record.specs.declared.TheConstants.{POINT_STEP}
-use Rattle.edr_drawing.specs.Scales.{slot_x}
-use Rattle.edr_drawing.specs.Lanes.{field_shapes, lane_y, cells, cells_of, drawn_lane, gap, grid, grid_line, long_cells, points}
-use Rattle.edr_drawing.specs.Before.{second_x, are_same, before_chart, before_frame, before_head, brake_part, brake_slots, named_switch, slots_apart, span_word, speed_part, switch_name, switch_runs, switches, throttle_part, time_line, time_lines}
+use Rattle.edr_drawing.specs.Scales.{slot_x, time_at}
+use Rattle.edr_drawing.specs.Lanes.{cells, cells_of, drawn_lane, field_shapes, gap, grid, grid_line, lane_y, long_cells, points}
+use Rattle.edr_drawing.specs.Before.{are_same, before_chart, brake_slots, slots_apart, span_word, switch_runs, switches, time_line, time_lines}
 use Rattle.edr_drawing.specs.Changes.{change_y, time_x}
-use Rattle.edr_drawing.specs.After.{mark_at, after_frame, axis_class, axis_mark, axis_marks, axis_points, changes_chart, curve, diamond, end_line, level, levels, maxima, maximum_number, past_window, time_line as later_line, time_lines as later_lines}
+use Rattle.edr_drawing.specs.After.{axis_class, axis_marks, axis_points, changes_chart, curve, diamond, end_line, level, levels, mark_at, maxima, maximum_number, past_window, time_line as later_line, time_lines as later_lines}
 use Rattle.edr_drawing.specs.Rows.{after_chart, after_head, event_rows, restraint_row, restraint_rows, rows_chart, rule, side, timed_row}
 use Rattle.edr_drawing.proofs.PlainLemmas.{Plain, all_low, plain_nil, plain_append, plain_if, plain_fixed, plain_flat_map, plain_counted, plain_text, plain_filled, plain_values, plain_decimal, plain_extreme, plain_milliseconds, text_then}
 
@@ -100,13 +100,6 @@ plain_time_lines : (f : Profile) (count : ℕ) → Plain (time_lines f count)
 unfolding time_lines
 plain_time_lines f count = plain_counted (time_line f) (λ k. plain_filled TIME_LINE.now _ refl (search plain_values)) count
 
-plain_before_frame : (f : Profile) → Plain (before_frame f)
-unfolding before_frame
-plain_before_frame f =
-    let plot = plain_text BEFORE_PLOT.now refl in
-    let zero_line = plain_filled ZERO_LINE.now _ refl (search plain_values) in
-    plain_append _ _ (plain_append _ _ plot (plain_time_lines f TIMES)) zero_line
-
 plain_switches : (k : ℕ) (vs : List (Option Bool)) → Plain (switches k vs)
 plain_switches k [] = plain_nil
 plain_switches k (v ∷ vs) = plain_append _ _ (plain_shapes (field_shapes (slot_x Short k) BRAKE_Y FIELD_HEIGHT v)) (plain_switches (k + 1) vs)
@@ -120,28 +113,6 @@ plain_brake_slots : (f : Profile) (vs : List (Option Bool)) → Plain (brake_slo
 plain_brake_slots Short vs = plain_switches 0 vs
 plain_brake_slots Long vs = plain_switch_runs 0 0 None vs
 
-plain_rule : (y : ℕ) → Plain (rule y)
-plain_rule y = plain_filled RULE.now _ refl (search plain_values)
-
-plain_switch_name : (y : ℕ) (label : List ℕ) → all_low label ≡ true → Plain (switch_name y label)
-plain_switch_name y label low = let text = plain_fixed label low in plain_filled SWITCH_NAME.now _ refl (search plain_values)
-
-plain_brake_part : (f : Profile) (slots : List (Option Bool)) → Plain (brake_part f slots)
-unfolding brake_part
-plain_brake_part f slots =
-    plain_append _ _ (plain_append _ _ (plain_rule _) (plain_switch_name BRAKE_Y SERVICE_BRAKE.now refl)) (plain_brake_slots f slots)
-
-plain_named_switch : (f : Profile) (y : ℕ) (label : List ℕ) (v : Option Bool) → all_low label ≡ true → Plain (named_switch f y label v)
-plain_named_switch f y label v low = plain_append _ _ (plain_switch_name y label low) (plain_shapes (field_shapes (second_x f) y FIELD_HEIGHT v))
-
-plain_speed_part : (f : Profile) (slots : List (Option ℕ)) → Plain (speed_part f slots)
-unfolding speed_part
-plain_speed_part f slots = plain_append _ _ (plain_text SPEED_NAME.now refl) (plain_lane f _ slots)
-
-plain_throttle_part : (f : Profile) (slots : List (Option ℕ)) → Plain (throttle_part f slots)
-unfolding throttle_part
-plain_throttle_part f slots = plain_append _ _ (plain_text THROTTLE_NAME.now refl) (plain_lane f THROTTLE_LANE slots)
-
 plain_span : (f : Profile) → Plain (span_word f)
 plain_span Short = plain_fixed (span_word Short) refl
 plain_span Long = plain_fixed (span_word Long) refl
@@ -150,17 +121,19 @@ plain_apart : (f : Profile) → Plain (slots_apart f)
 plain_apart Short = plain_fixed (slots_apart Short) refl
 plain_apart Long = plain_fixed (slots_apart Long) refl
 
-plain_before_head : (n : ℕ) (f : Profile) → Plain (before_head n f)
-unfolding before_head
-plain_before_head n f = plain_filled BEFORE_HEAD.now _ refl (search (plain_values, plain_span, plain_apart))
-
 pub plain_before_chart : (n : ℕ) (p : PrePart) → Plain (before_chart n p)
 unfolding before_chart
 plain_before_chart n p =
-    let belt = plain_named_switch p.profile BELT_Y DRIVER_BELT.now p.belt refl in
-    let lamp = plain_named_switch p.profile LAMP_Y LAMP.now p.lamp refl in
-    let end = plain_text CHART_END.now refl in
-    search (plain_append, plain_before_head, plain_before_frame, plain_speed_part, plain_throttle_part, plain_brake_part, plain_rule) depth 20
+    let head : Plain (filled BEFORE_HEAD.now (decimal n ∷ span_word p.profile ∷ slots_apart p.profile ∷ [])) =
+    plain_filled BEFORE_HEAD.now _ refl (search (plain_values, plain_span, plain_apart)) in
+    let zero_line : Plain (filled ZERO_LINE.now (decimal (time_at TIMES) ∷ [])) = plain_filled ZERO_LINE.now _ refl (search plain_values) in
+    let throttle = plain_text THROTTLE_NAME.now refl in
+    let brake = plain_text BRAKE_NAME.now refl in
+    let belt = plain_text BELT_NAME.now refl in
+    let lamp = plain_text LAMP_NAME.now refl in
+    let end = plain_text BEFORE_END.now refl in
+    let brakes = plain_brake_slots p.profile p.brake in
+    search (plain_append, plain_time_lines, plain_lane, plain_shapes) depth 20
 
 -- ---- the chart after time zero
 
@@ -185,13 +158,6 @@ plain_levels : (s : Scale) → Plain (levels s)
 unfolding levels
 plain_levels s = plain_counted (λ i. level s (s.step * i)) (λ i. plain_level s (s.step * i)) ((s.top + s.bottom) / s.step + 1)
 
-plain_after_frame : (s : Scale) (w : ℕ) → Plain (after_frame s w)
-unfolding after_frame
-plain_after_frame s w =
-    let plot = plain_text AFTER_PLOT.now refl in
-    let legend = plain_text LEGEND.now refl in
-    search (plain_append, plain_past_window, plain_later_lines, plain_levels)
-
 plain_end_line : (s : Scale) (end w : ℕ) → Plain (end_line s end w)
 unfolding end_line
 plain_end_line s end w =
@@ -205,7 +171,7 @@ plain_axis_points s i (v ∷ vs) = plain_append _ _ (plain_path_point _ _ _) (pl
 
 plain_axis_marks : (s : Scale) (a : CarAxis) (i : ℕ) (vs : List ℤ) → Plain (axis_marks s a i vs)
 plain_axis_marks s a i [] = plain_nil
-plain_axis_marks s a i (v ∷ vs) = plain_append (axis_mark s a i v) _ (plain_shapes (mark_at a (time_x s (POINT_STEP * i)) (change_y s v) ∷ [])) (plain_axis_marks s a (i + 1) vs)
+plain_axis_marks s a i (v ∷ vs) = plain_append _ _ (plain_shapes (mark_at a (time_x s (POINT_STEP * i)) (change_y s v) ∷ [])) (plain_axis_marks s a (i + 1) vs)
 
 plain_axis_class : (a : CarAxis) → Plain (axis_class a)
 plain_axis_class Along = plain_fixed (axis_class Along) refl
@@ -233,9 +199,14 @@ plain_maxima s along across =
 
 plain_changes_chart : (s : Scale) (c : CrashPart) → Plain (changes_chart s c)
 unfolding changes_chart
-plain_changes_chart s c = search (plain_append, plain_after_frame, plain_end_line, plain_curve, plain_maxima)
+plain_changes_chart s c =
+    let legend = plain_text LEGEND.now refl in
+    search (plain_append, plain_past_window, plain_later_lines, plain_levels, plain_end_line, plain_curve, plain_maxima) depth 20
 
 -- ---- the rows below it
+
+plain_rule : (y : ℕ) → Plain (rule y)
+plain_rule y = plain_filled RULE.now _ refl (search plain_values)
 
 plain_side : (x : ℕ) → Plain (side x)
 plain_side x = plain_if (nat_lt x FLAG_FAR_RIGHT) RIGHT_OF_FLAG.now LEFT_OF_FLAG.now (plain_fixed RIGHT_OF_FLAG.now refl) (plain_fixed LEFT_OF_FLAG.now refl)
@@ -266,7 +237,9 @@ plain_event_rows s c =
 
 plain_rows_chart : (s : Scale) (c : CrashPart) → Plain (rows_chart s c)
 unfolding rows_chart
-plain_rows_chart s c = search (plain_append, plain_rule, plain_event_rows, plain_restraint_rows)
+plain_rows_chart s c =
+    let end = plain_text CHART_END.now refl in
+    search (plain_append, plain_rule, plain_event_rows, plain_restraint_rows) depth 20
 
 plain_after_head : (n : ℕ) (c : CrashPart) → Plain (after_head n c)
 unfolding after_head
@@ -275,6 +248,4 @@ plain_after_head n c = plain_filled AFTER_HEAD.now _ refl (search plain_values d
 pub plain_after_chart : (n : ℕ) (crash : Option CrashPart) → Plain (after_chart n crash)
 unfolding after_chart
 plain_after_chart n None = plain_filled WITHOUT_PART.now _ refl (search plain_values)
-plain_after_chart n (Some c) =
-    let end = plain_text CHART_END.now refl in
-    search (plain_append, plain_after_head, plain_changes_chart, plain_rows_chart)
+plain_after_chart n (Some c) = search (plain_append, plain_after_head, plain_changes_chart, plain_rows_chart)

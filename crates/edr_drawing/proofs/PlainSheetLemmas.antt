@@ -1,5 +1,5 @@
 -- The sheets of a page have plain texts.
-use Rattle.std.proofs.Common.{arith, ◌≡◌, refl, ℕ, ◌+◌, ◌-◌, ◌/◌, ◌%◌, ◌<◌, ℤ, Bool, true, false, if◌then◌else◌, nat_lt, nat_eq, Option, Some, None, List, [], ◌∷◌, take, All}
+use Rattle.std.proofs.Common.{arith, ◌≡◌, refl, ℕ, ◌+◌, ◌-◌, ◌/◌, ◌%◌, ◌<◌, ℤ, Bool, true, false, if◌then◌else◌, nat_lt, nat_eq, Option, Some, None, List, [], ◌∷◌, take, decimal, All}
 use Rattle.std.proofs.lemmas.List.Elements.{All-head, All-tail}
 use Rattle.edr_record.specs.declared.Key.{Key}
 use Rattle.edr_record.specs.declared.Place.{Place}
@@ -18,10 +18,12 @@ use Rattle.edr_drawing.specs.declared.long.TheConstants.{BODY, FORM, HEAD, NOTES
 use Rattle.edr_drawing.specs.declared.reasons.TheConstants.{ACROSS_ABSENT, ALONG_ABSENT, BELT, BRAKE_ABSENT, LIST_END, PART_ABSENT, REASONS_START, SPEED_ABSENT, SWITCH_ABSENT, THROTTLE_ABSENT, WARNING_LAMP}
 use Rattle.edr_drawing.specs.declared.sheets.TheConstants.{FACTS, FOOT_END, SHEET_FOOT, SHEET_HEAD}
 use Rattle.edr_drawing.specs.declared.tables.TheConstants.{ACROSS_ROW, ALONG_ROW, CELL, ELEMENTS_END, ELEMENTS_START, POINT_TIME, POINTS_BODY, POINTS_START, ROW_END, RUN_START, TABLE_END}
+use Rattle.edr_report.specs.Words.{number_shown}
+use Rattle.edr_drawing.specs.Template.{filled}
 use Rattle.edr_drawing.specs.Reasons.{share_reason, switch_reason, pre_reasons, crash_reasons, reasons}
 use Rattle.edr_drawing.specs.Tables.{time_cell, time_cells, change_cell, change_row, points_table, elements_table, run_table}
-use Rattle.edr_drawing.specs.Sheets.{yes_no, profile_word, hex_digit, hex_byte, digest_hex, sheet_head, facts, sheet_foot, sheet, sheet_if, sheets, count_if}
-use Rattle.edr_drawing.specs.Cover.{extreme_cells, event_row, event_row_if, event_rows, events_in, events_table, mark_word, damaged_item, damaged_items, damaged_in, damaged_list, cover_head, cover_foot, cover}
+use Rattle.edr_drawing.specs.Sheets.{yes_no, profile_word, hex_digit, hex_byte, digest_hex, facts, sheet_foot, sheet, sheet_if, sheets, count_if}
+use Rattle.edr_drawing.specs.Cover.{extreme_cells, event_row, event_row_if, event_rows, events_in, events_table, mark_word, damaged_item, damaged_items, damaged_in, damaged_list, cover_foot, cover}
 use Rattle.edr_drawing.specs.Page.{page_bytes}
 use Rattle.edr_drawing.proofs.PlainLemmas.{Plain, all_low, plain_nil, plain_cons, plain_append, plain_if, plain_fixed, plain_flat_map, plain_counted, plain_text, plain_filled, plain_values}
 use Rattle.edr_drawing.proofs.PlainChartLemmas.{plain_before_chart, plain_after_chart}
@@ -109,10 +111,6 @@ plain_profile : (f : Profile) → Plain (profile_word f)
 plain_profile Short = plain_fixed (profile_word Short) refl
 plain_profile Long = plain_fixed (profile_word Long) refl
 
-plain_sheet_head : (n : ℕ) (complete : Bool) → Plain (sheet_head n complete)
-unfolding sheet_head
-plain_sheet_head n complete = plain_filled SHEET_HEAD.now _ refl (search (plain_values, plain_yes_no))
-
 plain_facts : (bank : ℕ) (key : Key) (locked : Bool) (f : Profile) (place : Place) → Plain (facts bank key locked f place)
 unfolding facts
 plain_facts bank key locked f place = plain_filled FACTS.now _ refl (search (plain_values, plain_yes_no, plain_profile) depth 20)
@@ -125,8 +123,10 @@ plain_sheet_foot n digest small =
 plain_sheet : (n bank : ℕ) (r : Record) (digest : List ℕ) → All (λ b. b < 256) digest → Plain (sheet n bank r digest)
 unfolding sheet
 plain_sheet n bank r digest small =
+    let head : Plain (filled SHEET_HEAD.now (decimal n ∷ yes_no (is_complete r) ∷ [])) =
+    plain_filled SHEET_HEAD.now _ refl (search (plain_values, plain_yes_no)) in
     let foot = plain_sheet_foot n digest small in
-    search (plain_append, plain_sheet_head, plain_facts, plain_reasons, plain_before_chart, plain_after_chart, plain_points_table, plain_elements) depth 20
+    search (plain_append, plain_facts, plain_reasons, plain_before_chart, plain_after_chart, plain_points_table, plain_elements) depth 20
 
 plain_sheet_if : (n bank : ℕ) (view : BankView) (digest : List ℕ) → All (λ b. b < 256) digest → Plain (sheet_if n bank view digest)
 plain_sheet_if n bank Void digest small = plain_nil
@@ -187,10 +187,6 @@ plain_damaged_list found =
     plain_if (nat_eq (damaged_in found) 0) _ _ plain_nil
     (plain_append _ _ (plain_append _ _ (plain_text DAMAGED_START.now refl) (plain_damaged_items found)) (plain_text LIST_END.now refl))
 
-plain_cover_head : (found : List Found) (count : ℕ) → Plain (cover_head found count)
-unfolding cover_head
-plain_cover_head found count = plain_filled FIRST_SHEET.now _ refl (search plain_values)
-
 plain_cover_foot : (size : ℕ) (digest : List ℕ) → All (λ b. b < 256) digest → Plain (cover_foot size digest)
 unfolding cover_foot
 plain_cover_foot size digest small =
@@ -199,10 +195,12 @@ plain_cover_foot size digest small =
 plain_cover : (reports : List Report) (found : List Found) (count size : ℕ) (digest : List ℕ) → All (λ b. b < 256) digest → Plain (cover reports found count size digest)
 unfolding cover
 plain_cover reports found count size digest small =
+    let head : Plain (filled FIRST_SHEET.now (decimal (events_in found) ∷ decimal (damaged_in found) ∷ decimal (number_shown count) ∷ [])) =
+    plain_filled FIRST_SHEET.now _ refl (search plain_values) in
     let foot = plain_cover_foot size digest small in
     let notes = plain_text NOTES.now refl in
     let form = plain_text FORM.now refl in
-    search (plain_append, plain_cover_head, plain_events_table, plain_damaged_list, plain_run) depth 20
+    search (plain_append, plain_events_table, plain_damaged_list, plain_run) depth 20
 
 -- the whole page
 pub plain_page : (reports : List Report) (found : List Found) (count size : ℕ) (digest : List ℕ) → All (λ b. b < 256) digest →

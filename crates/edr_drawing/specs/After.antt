@@ -8,7 +8,7 @@ use Rattle.edr_record.specs.Parts.{CrashPart}
 use Rattle.edr_record.specs.Bounds.{point_count, window_from_end}
 use Rattle.edr_drawing.specs.declared.after.CarAxis.{CarAxis}
 use Rattle.edr_drawing.specs.declared.after.CarAxis.TheVariants.{Along, Across}
-use Rattle.edr_drawing.specs.declared.after.TheConstants.{ACROSS_NUMBER, AFTER_PLOT, ALONG_NUMBER, AXIS_LINE, CENTRED, DIAMOND, DIAMOND_UP, END_LINE, ENDING, FAR_RIGHT, GRID, LEGEND, LEVEL, MAX_ACROSS, MAX_ALONG, NOT_RECORDED, NUMBER_DOWN, NUMBER_UP, PAST_WINDOW, ROOM_NOT_RECORDED, TIME_LINES, TIMES_APART, ZERO_LINES}
+use Rattle.edr_drawing.specs.declared.after.TheConstants.{ACROSS_NUMBER, ALONG_NUMBER, AXIS_LINE, CENTRED, DIAMOND, DIAMOND_UP, END_LINE, ENDING, FAR_RIGHT, GRID, LEGEND, LEVEL, MAX_ACROSS, MAX_ALONG, NOT_RECORDED, NUMBER_DOWN, NUMBER_UP, PAST_WINDOW, ROOM_NOT_RECORDED, TIME_LINES, TIMES_APART, ZERO_LINES}
 use Rattle.edr_drawing.specs.declared.changes.Scale.{Scale}
 use Rattle.edr_drawing.specs.declared.scales.TheConstants.{BELOW_TOP, HEIGHT, RIGHT}
 use Rattle.edr_drawing.specs.declared.shapes.Shape.{Shape}
@@ -52,9 +52,6 @@ level s above =
 unfoldable pub levels : Scale → List ℕ
 levels s = flat_map_below (λ i. level s (s.step * i)) ((s.top + s.bottom) / s.step + 1)
 
-unfoldable pub after_frame : Scale → ℕ → List ℕ
-after_frame s w = fixed AFTER_PLOT.now ++ past_window s w ++ time_lines s ++ fixed LEGEND.now ++ levels s
-
 -- ---- the end of the event
 
 -- the line at the end of the event, and the words where nothing is recorded, if there is room for them
@@ -72,9 +69,12 @@ axis_class Along = ALONG.now
 axis_class Across = ACROSS.now
 
 -- the points of an axis, the first of which is that of i times 10 ms
+abbrev pub axis_point : Scale → ℕ → ℤ → List ℕ
+axis_point s i v = path_point (nat_lt 0 i) (time_x s (POINT_STEP * i)) (change_y s v)
+
 abbrev pub axis_points : Scale → ℕ → List ℤ → List ℕ
 axis_points s i [] = []
-axis_points s i (v ∷ vs) = path_point (nat_lt 0 i) (time_x s (POINT_STEP * i)) (change_y s v) ++ axis_points s (i + 1) vs
+axis_points s i (v ∷ vs) = axis_point s i v ++ axis_points s (i + 1) vs
 
 -- a dot at each point along, a square at each point across
 abbrev pub mark_at : CarAxis → ℕ → ℕ → Shape
@@ -117,7 +117,10 @@ maxima s along across =
 
 unfoldable pub changes_chart : Scale → CrashPart → List ℕ
 changes_chart s c =
-    after_frame s (window_from_end c.end)
+    past_window s (window_from_end c.end)
+    ++ time_lines s
+    ++ fixed LEGEND.now
+    ++ levels s
     ++ end_line s c.end (window_from_end c.end)
     ++ curve s Across (take (point_count c.end) c.across)
     ++ curve s Along (take (point_count c.end) c.along)

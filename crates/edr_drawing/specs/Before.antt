@@ -3,9 +3,8 @@ use Rattle.std.specs.Prelude.{ℕ, ◌+◌, ◌-◌, ◌*◌, max, Bool, true, f
 use Rattle.edr_record.specs.Parts.{PrePart}
 use Rattle.edr_record.specs.declared.Profile.{Profile}
 use Rattle.edr_record.specs.declared.Profile.TheVariants.{Short, Long}
-use Rattle.edr_drawing.specs.declared.before.TheConstants.{BEFORE_HEAD, BEFORE_PLOT, BELT_Y, BRAKE_RULE, BRAKE_Y, DRIVER_BELT, FIELD_HEIGHT, FIVE, HALF_SECOND, LAMP, LAMP_Y, LAST_RULE, LAST_SPEED_STEP, LONG_SECOND, NAME_DOWN, SERVICE_BRAKE, SHORT_SECOND, SPEED_LANE, SPEED_LINES, SPEED_NAME, SPEED_STEPS, SWITCH_NAME, TENTH, THROTTLE_LANE, THROTTLE_NAME, TIME_LINE, TIMES, TWENTY, ZERO_LINE}
+use Rattle.edr_drawing.specs.declared.before.TheConstants.{BEFORE_END, BEFORE_HEAD, BELT_NAME, BELT_Y, BRAKE_NAME, BRAKE_Y, FIELD_HEIGHT, FIVE, HALF_SECOND, LAMP_NAME, LAMP_Y, LAST_SPEED_STEP, LONG_SECOND, SHORT_SECOND, SPEED_LANE, SPEED_LINES, SPEED_STEPS, TENTH, THROTTLE_LANE, THROTTLE_NAME, TIME_LINE, TIMES, TWENTY, ZERO_LINE}
 use Rattle.edr_drawing.specs.declared.lanes.ChartLane.{ChartLane}
-use Rattle.edr_drawing.specs.declared.shapes.TheConstants.{CHART_END, RULE}
 use Rattle.edr_drawing.specs.Template.{filled, fixed, seconds}
 use Rattle.edr_drawing.specs.Shapes.{shapes_bytes}
 use Rattle.edr_drawing.specs.Scales.{time_at, slot_x, least_step, scale_top, flat_map_below}
@@ -29,12 +28,6 @@ speed_scale most = record SPEED_LANE { top = scale_top (speed_step most) most; s
 abbrev pub speed_lane : List (Option ℕ) → ChartLane
 speed_lane slots = speed_scale (max (greatest slots) 1)
 
-unfoldable pub speed_part : Profile → List (Option ℕ) → List ℕ
-speed_part f slots = fixed SPEED_NAME.now ++ drawn_lane f (speed_lane slots) slots
-
-unfoldable pub throttle_part : Profile → List (Option ℕ) → List ℕ
-throttle_part f slots = fixed THROTTLE_NAME.now ++ drawn_lane f THROTTLE_LANE slots
-
 -- ---- the lines of the times
 
 -- how long before time zero a time is, in tenths of a second
@@ -47,9 +40,6 @@ time_line f k = filled TIME_LINE.now (decimal (time_at k) ∷ seconds (tenths_be
 
 unfoldable pub time_lines : Profile → ℕ → List ℕ
 time_lines f count = flat_map_below (time_line f) count
-
-unfoldable pub before_frame : Profile → List ℕ
-before_frame f = fixed BEFORE_PLOT.now ++ time_lines f TIMES ++ filled ZERO_LINE.now (decimal (time_at TIMES) ∷ [])
 
 -- ---- the service brake
 
@@ -80,13 +70,6 @@ abbrev pub brake_slots : Profile → List (Option Bool) → List ℕ
 brake_slots Short vs = switches 0 vs
 brake_slots Long vs = switch_runs 0 0 None vs
 
--- the name of a switch, whose fields stand there up
-abbrev pub switch_name : ℕ → List ℕ → List ℕ
-switch_name y label = filled SWITCH_NAME.now (decimal (y + NAME_DOWN) ∷ label ∷ [])
-
-unfoldable pub brake_part : Profile → List (Option Bool) → List ℕ
-brake_part f slots = filled RULE.now (decimal BRAKE_RULE ∷ []) ++ switch_name BRAKE_Y SERVICE_BRAKE.now ++ brake_slots f slots
-
 -- ---- belt and lamp
 
 -- across: 1 s before time zero
@@ -94,9 +77,8 @@ abbrev pub second_x : Profile → ℕ
 second_x Short = slot_x Short SHORT_SECOND
 second_x Long = slot_x Long LONG_SECOND
 
--- the switch at 1 s before time zero, with its name
-abbrev pub named_switch : Profile → ℕ → List ℕ → Option Bool → List ℕ
-named_switch f y label v = switch_name y label ++ shapes_bytes (field_shapes (second_x f) y FIELD_HEIGHT v)
+abbrev pub switch_field : Profile → ℕ → Option Bool → List ℕ
+switch_field f y v = shapes_bytes (field_shapes (second_x f) y FIELD_HEIGHT v)
 
 -- ---- the whole chart
 
@@ -109,17 +91,18 @@ abbrev pub slots_apart : Profile → List ℕ
 slots_apart Short = HALF_SECOND.now
 slots_apart Long = TENTH.now
 
-unfoldable pub before_head : ℕ → Profile → List ℕ
-before_head n f = filled BEFORE_HEAD.now (decimal n ∷ span_word f ∷ slots_apart f ∷ [])
-
 unfoldable pub before_chart : ℕ → PrePart → List ℕ
 before_chart n p =
-    before_head n p.profile
-    ++ before_frame p.profile
-    ++ speed_part p.profile p.speed
-    ++ throttle_part p.profile p.throttle
-    ++ brake_part p.profile p.brake
-    ++ named_switch p.profile BELT_Y DRIVER_BELT.now p.belt
-    ++ named_switch p.profile LAMP_Y LAMP.now p.lamp
-    ++ filled RULE.now (decimal LAST_RULE ∷ [])
-    ++ fixed CHART_END.now
+    filled BEFORE_HEAD.now (decimal n ∷ span_word p.profile ∷ slots_apart p.profile ∷ [])
+    ++ time_lines p.profile TIMES
+    ++ filled ZERO_LINE.now (decimal (time_at TIMES) ∷ [])
+    ++ drawn_lane p.profile (speed_lane p.speed) p.speed
+    ++ fixed THROTTLE_NAME.now
+    ++ drawn_lane p.profile THROTTLE_LANE p.throttle
+    ++ fixed BRAKE_NAME.now
+    ++ brake_slots p.profile p.brake
+    ++ fixed BELT_NAME.now
+    ++ switch_field p.profile BELT_Y p.belt
+    ++ fixed LAMP_NAME.now
+    ++ switch_field p.profile LAMP_Y p.lamp
+    ++ fixed BEFORE_END.now

@@ -100,18 +100,13 @@ damaged_list found =
 
 -- ---- the whole sheet
 
-unfoldable pub cover_head : List Found → ℕ → List ℕ
-cover_head found count =
-    filled FIRST_SHEET.now
-    (decimal (events_in found) ∷ decimal (damaged_in found) ∷ decimal (number_shown count) ∷ [])
-
 unfoldable pub cover_foot : ℕ → List ℕ → List ℕ
 cover_foot size digest = filled FIRST_FOOT.now (decimal size ∷ []) ++ digest_hex digest ++ fixed FOOT_END.now
 
 -- the first sheet: what was found, how to read the pages, and fields that are filled in by hand
 unfoldable pub cover : List Report → List Found → ℕ → ℕ → List ℕ → List ℕ
 cover reports found count size digest =
-    cover_head found count
+    filled FIRST_SHEET.now (decimal (events_in found) ∷ decimal (damaged_in found) ∷ decimal (number_shown count) ∷ [])
     ++ events_table found
     ++ damaged_list found
     ++ run_table reports

@@ -4,8 +4,7 @@ use Rattle.std.specs.Fmt.{signed_decimal}
 use Rattle.edr_record.specs.declared.Extreme.{Extreme}
 use Rattle.edr_record.specs.Parts.{CrashPart}
 use Rattle.edr_drawing.specs.declared.changes.Scale.{Scale}
-use Rattle.edr_drawing.specs.declared.rows.TheConstants.{ACROSS_Y, AFTER_HEAD, ALONG_Y, BESIDE_FLAG, DRIVER_CURTAIN, DRIVER_FRONTAL, DRIVER_PRETENSIONER, DRIVER_SIDE, END_OF_EVENT, END_Y, FIRED_ROW, FLAG_DOWN, FLAG_FAR_RIGHT, LEFT_OF_FLAG, MAX_LATERAL, MAX_LONGITUDINAL, MAX_RESULTANT, NOT_FIRED_ROW, PASSENGER_CURTAIN, PASSENGER_FRONTAL, PASSENGER_PRETENSIONER, PASSENGER_SIDE, RESTRAINTS_Y, RESULTANT_Y, RIGHT_OF_FLAG, ROW_HEIGHT, ROWS_END, TIMED_ROW, WITHOUT_PART, WORDS_DOWN}
-use Rattle.edr_drawing.specs.declared.shapes.TheConstants.{CHART_END, RULE}
+use Rattle.edr_drawing.specs.declared.rows.TheConstants.{ACROSS_Y, AFTER_HEAD, ALONG_Y, BESIDE_FLAG, CHART_END, DRIVER_CURTAIN, DRIVER_FRONTAL, DRIVER_PRETENSIONER, DRIVER_SIDE, END_OF_EVENT, END_Y, FIRED_ROW, FLAG_DOWN, FLAG_FAR_RIGHT, LEFT_OF_FLAG, MAX_LATERAL, MAX_LONGITUDINAL, MAX_RESULTANT, NOT_FIRED_ROW, PASSENGER_CURTAIN, PASSENGER_FRONTAL, PASSENGER_PRETENSIONER, PASSENGER_SIDE, RESTRAINTS_Y, RESULTANT_Y, RIGHT_OF_FLAG, ROW_HEIGHT, ROWS_END, RULE, TIMED_ROW, WITHOUT_PART, WORDS_DOWN}
 use Rattle.edr_drawing.specs.Template.{extreme_words, filled, fixed, milliseconds}
 use Rattle.edr_drawing.specs.Changes.{scale_of, time_x}
 use Rattle.edr_drawing.specs.After.{changes_chart}
@@ -77,7 +76,7 @@ abbrev pub rule : ℕ → List ℕ
 rule y = filled RULE.now (decimal y ∷ [])
 
 unfoldable pub rows_chart : Scale → CrashPart → List ℕ
-rows_chart s c = rule END_Y ++ event_rows s c ++ rule RESTRAINTS_Y ++ restraint_rows s c.fired ++ rule ROWS_END
+rows_chart s c = rule END_Y ++ event_rows s c ++ rule RESTRAINTS_Y ++ restraint_rows s c.fired ++ rule ROWS_END ++ fixed CHART_END.now
 
 -- the title and the description of the chart of event n
 unfoldable pub after_head : ℕ → CrashPart → List ℕ
@@ -94,4 +93,4 @@ after_head n c =
 -- the chart, or what stands in its place where nothing after time zero is recorded
 unfoldable pub after_chart : ℕ → Option CrashPart → List ℕ
 after_chart n None = filled WITHOUT_PART.now (decimal n ∷ [])
-after_chart n (Some c) = after_head n c ++ changes_chart (scale_of c) c ++ rows_chart (scale_of c) c ++ fixed CHART_END.now
+after_chart n (Some c) = after_head n c ++ changes_chart (scale_of c) c ++ rows_chart (scale_of c) c

@@ -32,10 +32,7 @@ hex_byte b = hex_digit (b / 16) ∷ hex_digit (b % 16) ∷ []
 abbrev pub digest_hex : List ℕ → List ℕ
 digest_hex digest = flat_map hex_byte digest
 
--- ---- head, facts and foot
-
-unfoldable pub sheet_head : ℕ → Bool → List ℕ
-sheet_head n complete = filled SHEET_HEAD.now (decimal n ∷ yes_no complete ∷ [])
+-- ---- facts and foot
 
 -- the profile of a pre part
 abbrev pub profile_word : Profile → List ℕ
@@ -61,7 +58,7 @@ sheet_foot n digest = filled SHEET_FOOT.now (decimal n ∷ []) ++ digest_hex dig
 -- the sheet of event n, which this bank holds
 unfoldable pub sheet : ℕ → ℕ → Record → List ℕ → List ℕ
 sheet n bank r digest =
-    sheet_head n (is_complete r)
+    filled SHEET_HEAD.now (decimal n ∷ yes_no (is_complete r) ∷ [])
     ++ facts bank r.pre.key r.locked r.pre.profile r.pre.place
     ++ reasons r
     ++ before_chart n r.pre

@@ -4,7 +4,7 @@ ghost use Rattle.std.specs.Prelude.{◌≡◌, ◌++◌, ◌≤◌, ◌<◌, ◌
 ghost use Rattle.edr_record.specs.declared.TheConstants.{POINTS};
 ghost use Rattle.edr_record.specs.Bounds.{point_count, window_from_end};
 ghost use Rattle.edr_drawing.specs.Changes.{IsScale};
-ghost use Rattle.edr_drawing.specs.After.{across_number, after_frame, along_number, axis_class, axis_mark, axis_marks, axis_points, changes_chart, curve, diamond, end_line, level, levels, maxima, maximum_number, past_window, time_lines};
+ghost use Rattle.edr_drawing.specs.After.{across_number, along_number, axis_class, axis_marks, axis_points, changes_chart, curve, diamond, end_line, level, levels, mark_at, maxima, maximum_number, past_window, time_lines};
 
 use crate::changes::Scale;
 use crate::scales::{BELOW_TOP, HEIGHT, RIGHT};
@@ -13,9 +13,6 @@ use crate::template::Filling::{Below, Change, Number, Text};
 use crate::template::{fill, put};
 use edr_record::{Crash, Extreme, POINT_STEP, POINTS, point_count, window_from_end};
 use std::alloc::AllocError as OutOfMemory;
-
-pub const AFTER_PLOT: &[u8] = br#"<rect x="330" y="40" width="1500" height="450" class="plot"/>
-"#;
 
 /// The field past the window.
 pub const PAST_WINDOW: &[u8] = br#"<rect x="{0}" y="40" width="{1}" height="450" class="gap"/>
@@ -173,20 +170,6 @@ fn draw_levels(out: &mut Vec<u8>, scale: &Scale) -> Result<(), OutOfMemory>
     Ok(())
 }
 
-// Draws the frame, its lines and the names of the axes.
-#[tactic(auto, unfolding(crate::specs::After::after_frame))]
-fn draw_frame(out: &mut Vec<u8>, scale: &Scale, window: u16) -> Result<(), OutOfMemory>
-    requires scale { IsScale scale.now }
-    requires window { window ≤ 300 }
-    ensures { OnOk result (out.new.items ≡ out.old.items ++ after_frame scale.now window) }
-{
-    put(out, AFTER_PLOT)?;
-    draw_past_window(out, scale, window)?;
-    draw_times(out, scale)?;
-    put(out, LEGEND)?;
-    draw_levels(out, scale)
-}
-
 // Draws the line at the end of the event, and says where nothing is recorded.
 #[tactic(auto, unfolding(crate::specs::After::end_line))]
 fn draw_end(out: &mut Vec<u8>, scale: &Scale, end: u16, window: u16) -> Result<(), OutOfMemory>
@@ -226,23 +209,12 @@ fn put_points(out: &mut Vec<u8>, scale: &Scale, points: &[i16]) -> Result<(), Ou
     Ok(())
 }
 
-// Draws the mark of an axis at the point that is this many times 10 ms past time zero.
-fn draw_mark(
-    out: &mut Vec<u8>,
-    scale: &Scale,
-    axis: CarAxis,
-    i: u16,
-    change: i16,
-) -> Result<(), OutOfMemory>
-    requires scale { IsScale scale.now }
-    requires place { i ≤ POINTS }
-    ensures { OnOk result (out.new.items ≡ out.old.items ++ axis_mark scale.now axis i change) }
+fn mark_at(axis: CarAxis, x: u32, y: u32) -> Shape
+    ensures { result ≡ mark_at axis x y }
 {
-    let x = scale.x(POINT_STEP * i);
-    let y = scale.y(change);
     match axis {
-        CarAxis::Along => draw(out, &[Shape::Dot { x, y }]),
-        CarAxis::Across => draw(out, &[Shape::Square { x, y }]),
+        CarAxis::Along => Shape::Dot(x, y),
+        CarAxis::Across => Shape::Square(x, y),
     }
 }
 
@@ -258,7 +230,8 @@ fn draw_marks(
     ensures { OnOk result (out.new.items ≡ out.old.items ++ axis_marks scale.now axis 0 points.now) }
 {
     for i in 0..points.len() {
-        draw_mark(out, scale, axis, i as u16, points[i])?;
+        let x = scale.x(POINT_STEP * i as u16);
+        draw(out, &[mark_at(axis, x, scale.y(points[i]))])?;
     }
     Ok(())
 }
@@ -371,7 +344,10 @@ pub fn draw_changes(out: &mut Vec<u8>, scale: &Scale, crash: &Crash) -> Result<(
     let window = window_from_end(crash.end);
     let along = points_of(crash.end, &crash.along);
     let across = points_of(crash.end, &crash.across);
-    draw_frame(out, scale, window)?;
+    draw_past_window(out, scale, window)?;
+    draw_times(out, scale)?;
+    put(out, LEGEND)?;
+    draw_levels(out, scale)?;
     draw_end(out, scale, crash.end, window)?;
     draw_curve(out, scale, CarAxis::Across, across)?;
     draw_curve(out, scale, CarAxis::Along, along)?;

@@ -1,24 +1,26 @@
 //! The chart of the seconds before time zero, five of a short profile and twenty of a long one.
 
-ghost use Rattle.std.specs.Prelude.{◌≡◌, ◌++◌, ◌≤◌, ◌<◌, ◌+◌, None, OnOk, length, take};
+ghost use Rattle.std.specs.Prelude.{◌≡◌, [], ◌∷◌, ◌++◌, ◌≤◌, ◌<◌, ◌+◌, None, OnOk, decimal, length, take};
 ghost use Rattle.edr_record.specs.declared.TheConstants.{LONG_SLOTS};
 ghost use Rattle.edr_record.specs.Bounds.{slots_in};
-ghost use Rattle.edr_drawing.specs.Lanes.{IsChartLane};
-ghost use Rattle.edr_drawing.specs.Before.{are_same, before_chart, before_frame, before_head, brake_slots, greatest, named_switch, second_x, slots_apart, span_word, speed_lane, speed_part, brake_part, switch_runs, switches, tenths_before, throttle_part, time_lines};
+ghost use Rattle.edr_drawing.specs.Template.{filled};
+ghost use Rattle.edr_drawing.specs.Scales.{time_at};
+ghost use Rattle.edr_drawing.specs.Lanes.{IsChartLane, drawn_lane};
+ghost use Rattle.edr_drawing.specs.Before.{are_same, before_chart, brake_slots, greatest, second_x, slots_apart, span_word, speed_lane, switch_runs, switches, tenths_before, time_lines};
 
 use crate::lanes::{ChartLane, draw_field, draw_lane, draw_run};
 use crate::scales::{least_step, scale_top, slot_x, time_at};
-use crate::shapes::{CHART_END, RULE};
 use crate::template::Filling::{Count, Number, Seconds, Text};
 use crate::template::{fill, put};
 use edr_record::{LONG_SLOTS, Pre, Profile};
 use std::alloc::AllocError as OutOfMemory;
 
-/// The title and the description.
+/// The title, the description and the plot.
 pub const BEFORE_HEAD: &[u8] =
     br#"<svg viewBox="0 0 1860 540" role="img" aria-labelledby="p{0}t p{0}d">
 <title id="p{0}t">Event {0}, the {1} seconds before time zero</title>
 <desc id="p{0}d">Speed, throttle and service brake at each {2}, driver belt and warning lamp one second before time zero. The table of elements has all values.</desc>
+<rect x="330" y="36" width="1500" height="454" class="plot"/>
 "#;
 
 pub const FIVE: &[u8] = b"five";
@@ -29,39 +31,39 @@ pub const HALF_SECOND: &[u8] = b"half second";
 
 pub const TENTH: &[u8] = b"tenth of a second";
 
-pub const BEFORE_PLOT: &[u8] = br#"<rect x="330" y="36" width="1500" height="454" class="plot"/>
-"#;
-
 /// The line of a time, with how long before time zero it is.
 pub const TIME_LINE: &[u8] = br#"<path class="grid" d="M{0} 36L{0} 490"/>
 <text x="{0}" y="522" class="c">-{1}</text>
 "#;
 
-/// The line of time zero, with the names of the times.
+/// The line of time zero, and the names of the times and of speed.
 pub const ZERO_LINE: &[u8] = br#"<path class="zero" d="M{0} 36L{0} 490"/>
 <text x="{0}" y="522" class="c b">0.0</text>
 <text x="0" y="522" class="">Time, s</text>
 <text x="{0}" y="26" class="c b">time zero</text>
-"#;
-
-pub const SPEED_NAME: &[u8] = br#"<text x="0" y="120" class="b">Speed</text>
+<text x="0" y="120" class="b">Speed</text>
 <text x="0" y="152" class="">km/h</text>
 "#;
 
+/// The names of the other lanes.
 pub const THROTTLE_NAME: &[u8] = br#"<path class="part" d="M0 236L1830 236"/>
 <text x="0" y="290" class="b">Throttle</text>
 <text x="0" y="322" class="">% of full</text>
 "#;
 
-/// The name of a switch.
-pub const SWITCH_NAME: &[u8] = br#"<text x="0" y="{0}" class="b">{1}</text>
+pub const BRAKE_NAME: &[u8] = br#"<path class="part" d="M0 362L1830 362"/>
+<text x="0" y="393" class="b">Service brake</text>
 "#;
 
-pub const SERVICE_BRAKE: &[u8] = b"Service brake";
+pub const BELT_NAME: &[u8] = br#"<text x="0" y="435" class="b">Driver belt</text>
+"#;
 
-pub const DRIVER_BELT: &[u8] = b"Driver belt";
+pub const LAMP_NAME: &[u8] = br#"<text x="0" y="477" class="b">Air bag lamp</text>
+"#;
 
-pub const LAMP: &[u8] = b"Air bag lamp";
+pub const BEFORE_END: &[u8] = br#"<path class="part" d="M0 490L1830 490"/>
+</svg>
+"#;
 
 /// How many lines of times there are before time zero.
 pub const TIMES: u32 = 10;
@@ -98,14 +100,6 @@ pub const BELT_Y: u32 = 409;
 pub const LAMP_Y: u32 = 451;
 
 pub const FIELD_HEIGHT: u32 = 34;
-
-/// How far below the top of its field the name of a switch stands.
-pub const NAME_DOWN: u32 = 26;
-
-/// The lines above the service brake and below the lamp.
-pub const BRAKE_RULE: u32 = 362;
-
-pub const LAST_RULE: u32 = 490;
 
 /// The slots that lie 1 s before time zero.
 pub const SHORT_SECOND: u32 = 8;
@@ -170,34 +164,16 @@ fn tenths_before(profile: Profile, k: u32) -> u32
     }
 }
 
-// Draws the lines of the times before time zero.
+// Draws the lines of the times.
 #[tactic(auto, unfolding(crate::specs::Before::time_lines))]
 fn draw_times(out: &mut Vec<u8>, profile: Profile) -> Result<(), OutOfMemory>
-    ensures { OnOk result (out.new.items ≡ out.old.items ++ time_lines profile TIMES) }
+    ensures { OnOk result (out.new.items ≡ out.old.items ++ time_lines profile TIMES ++ filled ZERO_LINE.now (decimal (time_at TIMES) ∷ [])) }
 {
     for k in 0..TIMES {
         let tenths = u64::from(tenths_before(profile, k));
         fill(out, TIME_LINE, &[Number(time_at(k)), Seconds(tenths)])?;
     }
-    Ok(())
-}
-
-#[tactic(auto, unfolding(crate::specs::Before::before_frame))]
-fn draw_frame(out: &mut Vec<u8>, profile: Profile) -> Result<(), OutOfMemory>
-    ensures { OnOk result (out.new.items ≡ out.old.items ++ before_frame profile) }
-{
-    put(out, BEFORE_PLOT)?;
-    draw_times(out, profile)?;
     fill(out, ZERO_LINE, &[Number(time_at(TIMES))])
-}
-
-#[tactic(auto, unfolding(crate::specs::Before::speed_part))]
-fn draw_speed(out: &mut Vec<u8>, profile: Profile, slots: &[Option<u16>]) -> Result<(), OutOfMemory>
-    requires { length slots.now ≤ slots_in profile }
-    ensures { OnOk result (out.new.items ≡ out.old.items ++ speed_part profile slots.now) }
-{
-    put(out, SPEED_NAME)?;
-    draw_lane(out, profile, &speed_lane(slots), slots)
 }
 
 fn wide(slot: Option<u8>) -> Option<u16>
@@ -221,16 +197,15 @@ fn wide_slots(slots: &[Option<u8>]) -> [Option<u16>; LONG_SLOTS]
     wider
 }
 
-#[tactic(auto, using(crate::proofs::SlotLemmas::few_slots), unfolding(crate::specs::Before::throttle_part))]
+#[tactic(auto, using(crate::proofs::SlotLemmas::few_slots))]
 fn draw_throttle(
     out: &mut Vec<u8>,
     profile: Profile,
     slots: &[Option<u8>],
 ) -> Result<(), OutOfMemory>
     requires { length slots.now ≤ slots_in profile }
-    ensures { OnOk result (out.new.items ≡ out.old.items ++ throttle_part profile slots.now) }
+    ensures { OnOk result (out.new.items ≡ out.old.items ++ drawn_lane profile THROTTLE_LANE slots.now) }
 {
-    put(out, THROTTLE_NAME)?;
     let wider = wide_slots(slots);
     draw_lane(out, profile, &THROTTLE_LANE, &wider[..slots.len()])
 }
@@ -281,7 +256,7 @@ fn draw_long_brake(out: &mut Vec<u8>, slots: &[Option<bool>]) -> Result<(), OutO
 }
 
 // Draws the fields of the slots.
-fn draw_brake_slots(
+fn draw_brake(
     out: &mut Vec<u8>,
     profile: Profile,
     slots: &[Option<bool>],
@@ -295,24 +270,6 @@ fn draw_brake_slots(
     }
 }
 
-#[tactic(auto, unfolding(crate::specs::Before::brake_part))]
-fn draw_brake(
-    out: &mut Vec<u8>,
-    profile: Profile,
-    slots: &[Option<bool>],
-) -> Result<(), OutOfMemory>
-    requires { length slots.now ≤ slots_in profile }
-    ensures { OnOk result (out.new.items ≡ out.old.items ++ brake_part profile slots.now) }
-{
-    fill(out, RULE, &[Number(BRAKE_RULE)])?;
-    fill(
-        out,
-        SWITCH_NAME,
-        &[Number(BRAKE_Y + NAME_DOWN), Text(SERVICE_BRAKE)],
-    )?;
-    draw_brake_slots(out, profile, slots)
-}
-
 // Where 1 s before time zero stands across.
 fn second_x(profile: Profile) -> u32
     ensures place { result ≡ second_x profile }
@@ -324,29 +281,6 @@ fn second_x(profile: Profile) -> u32
     }
 }
 
-// Draws a switch at 1 s before time zero, with its name.
-fn draw_switch(
-    out: &mut Vec<u8>,
-    profile: Profile,
-    y: u32,
-    label: &'static [u8],
-    switch: Option<bool>,
-) -> Result<(), OutOfMemory>
-    requires { y ≤ 900 }
-    ensures { OnOk result (out.new.items ≡ out.old.items ++ named_switch profile y label.now switch) }
-{
-    fill(out, SWITCH_NAME, &[Number(y + NAME_DOWN), Text(label)])?;
-    draw_field(out, second_x(profile), y, FIELD_HEIGHT, switch)
-}
-
-#[tactic(auto, unfolding(crate::specs::Before::before_head))]
-fn put_head(out: &mut Vec<u8>, number: u64, profile: Profile) -> Result<(), OutOfMemory>
-    ensures { OnOk result (out.new.items ≡ out.old.items ++ before_head number profile) }
-{
-    let (span, apart) = (span_word(profile), slots_apart(profile));
-    fill(out, BEFORE_HEAD, &[Count(number), Text(span), Text(apart)])
-}
-
 /// Draws the chart of the event with this number.
 #[tactic(auto, unfolding(crate::specs::Before::before_chart))]
 pub fn draw_before(out: &mut Vec<u8>, number: u64, pre: &Pre) -> Result<(), OutOfMemory>
@@ -354,13 +288,19 @@ pub fn draw_before(out: &mut Vec<u8>, number: u64, pre: &Pre) -> Result<(), OutO
 {
     let (belt, lamp) = (pre.belt, pre.lamp);
     let profile = pre.profile();
-    put_head(out, number, profile)?;
-    draw_frame(out, profile)?;
-    draw_speed(out, profile, pre.speed())?;
+    let speed = pre.speed();
+    let (span, apart) = (span_word(profile), slots_apart(profile));
+    let x = second_x(profile);
+    fill(out, BEFORE_HEAD, &[Count(number), Text(span), Text(apart)])?;
+    draw_times(out, profile)?;
+    draw_lane(out, profile, &speed_lane(speed), speed)?;
+    put(out, THROTTLE_NAME)?;
     draw_throttle(out, profile, pre.throttle())?;
+    put(out, BRAKE_NAME)?;
     draw_brake(out, profile, pre.brake())?;
-    draw_switch(out, profile, BELT_Y, DRIVER_BELT, belt)?;
-    draw_switch(out, profile, LAMP_Y, LAMP, lamp)?;
-    fill(out, RULE, &[Number(LAST_RULE)])?;
-    put(out, CHART_END)
+    put(out, BELT_NAME)?;
+    draw_field(out, x, BELT_Y, FIELD_HEIGHT, belt)?;
+    put(out, LAMP_NAME)?;
+    draw_field(out, x, LAMP_Y, FIELD_HEIGHT, lamp)?;
+    put(out, BEFORE_END)
 }

@@ -2,7 +2,7 @@
 
 ghost use Rattle.std.specs.Prelude.{◌≡◌, ◌++◌, ◌≤◌, ◌+◌, OnOk, map};
 ghost use Rattle.edr_image.specs.Reports.{report_of};
-ghost use Rattle.edr_drawing.specs.Cover.{events_in, damaged_in, is_damaged, extreme_cells, mark_word, event_row, event_row_if, event_rows, events_table, damaged_item, damaged_items, damaged_list, cover_head, cover_foot, cover};
+ghost use Rattle.edr_drawing.specs.Cover.{events_in, damaged_in, is_damaged, extreme_cells, mark_word, event_row, event_row_if, event_rows, events_table, damaged_item, damaged_items, damaged_list, cover_foot, cover};
 
 use crate::long::{FORM, NOTES};
 use crate::reasons::LIST_END;
@@ -220,18 +220,6 @@ fn put_damaged(out: &mut Vec<u8>, found: &[Found]) -> Result<(), OutOfMemory>
     put(out, LIST_END)
 }
 
-#[tactic(auto, unfolding(crate::specs::Cover::cover_head))]
-fn put_head(out: &mut Vec<u8>, found: &[Found], count: u32) -> Result<(), OutOfMemory>
-    ensures { OnOk result (out.new.items ≡ out.old.items ++ cover_head found.now count) }
-{
-    let (events, damaged) = (events_in(found), damaged_in(found));
-    fill(
-        out,
-        FIRST_SHEET,
-        &[Count(events), Count(damaged), Number(number_shown(count))],
-    )
-}
-
 #[tactic(auto, unfolding(crate::specs::Cover::cover_foot))]
 fn put_foot(out: &mut Vec<u8>, size: u32, digest: &[u8; 32]) -> Result<(), OutOfMemory>
     ensures { OnOk result (out.new.items ≡ out.old.items ++ cover_foot size digest.now) }
@@ -254,7 +242,9 @@ pub fn put_cover(
 ) -> Result<(), OutOfMemory>
     ensures { OnOk result (out.new.items ≡ out.old.items ++ cover (map report_of run.now) found.now count size digest.now) }
 {
-    put_head(out, found, count)?;
+    let (events, damaged) = (events_in(found), damaged_in(found));
+    let counts = [Count(events), Count(damaged), Number(number_shown(count))];
+    fill(out, FIRST_SHEET, &counts)?;
     put_events(out, found)?;
     put_damaged(out, found)?;
     put_run(out, alloc, run)?;

@@ -112,12 +112,8 @@ fn draw_cell(
             draw(
                 out,
                 &[
-                    Shape::Dot { x, y },
-                    Shape::Value {
-                        x,
-                        y: y.saturating_sub(17),
-                        value,
-                    },
+                    Shape::Dot(x, y),
+                    Shape::Value(x, y.saturating_sub(17), value),
                 ],
             )
         }
@@ -136,23 +132,8 @@ pub fn draw_field(
     requires place { (400 ≤ x) × (x ≤ 30_000) × (y ≤ 1_000) × (height ≤ 1_000) }
     ensures { OnOk result (out.new.items ≡ out.old.items ++ shapes_bytes (field_shapes x y height shows)) }
 {
-    draw(
-        out,
-        &[
-            Shape::Field {
-                x: x - FIELD_WIDTH / 2,
-                y,
-                width: FIELD_WIDTH,
-                height,
-                shows,
-            },
-            Shape::Word {
-                x,
-                y: y + height / 2 + 9,
-                shows,
-            },
-        ],
-    )
+    let field = Shape::Field(x - FIELD_WIDTH / 2, y, FIELD_WIDTH, height, shows);
+    draw(out, &[field, Shape::Word(x, y + height / 2 + 9, shows)])
 }
 
 // Draws the mark or the field of each slot of a short profile.
@@ -186,27 +167,12 @@ pub fn draw_run(
     let x = slot_x(Profile::Long, first);
     let to_x = slot_x(Profile::Long, first + count - 1);
     let width = (to_x + 6).saturating_sub(x);
-    let field = Shape::Field {
-        x: x - 3,
-        y,
-        width,
-        height,
-        shows,
-    };
+    let field = Shape::Field(x - 3, y, width, height, shows);
     if count < ROOM_FOR_WORD {
         return draw(out, &[field]);
     }
-    draw(
-        out,
-        &[
-            field,
-            Shape::Word {
-                x: (x + to_x) / 2,
-                y: y + height / 2 + 9,
-                shows,
-            },
-        ],
-    )
+    let word = Shape::Word((x + to_x) / 2, y + height / 2 + 9, shows);
+    draw(out, &[field, word])
 }
 
 // Draws the field of absent slots, if there are any.
@@ -239,7 +205,7 @@ fn draw_long(out: &mut Vec<u8>, lane: &ChartLane, slots: &[Option<u16>]) -> Resu
                 draw_gap(out, lane, first, absent)?;
                 let x = slot_x(Profile::Long, first + absent);
                 let y = lane_y(lane, u32::from(value));
-                draw(out, &[Shape::Point { x, y }])?;
+                draw(out, &[Shape::Point(x, y)])?;
                 first = first + absent + 1;
                 absent = 0;
             }

@@ -6,17 +6,17 @@ ghost use Rattle.edr_drawing.specs.Rows.{after_chart, after_head, beside, event_
 
 use crate::after::draw_changes;
 use crate::changes::Scale;
-use crate::shapes::{CHART_END, RULE};
 use crate::template::Filling::{Change, Count, Extreme as Greatest, Milliseconds, Number, Text};
 use crate::template::{Filling, fill, put};
 use edr_record::{Crash, Extreme};
 use std::alloc::AllocError as OutOfMemory;
 
-/// The title and the description.
+/// The title, the description and the plot.
 pub const AFTER_HEAD: &[u8] =
     br#"<svg viewBox="0 0 1860 950" role="img" aria-labelledby="c{0}t c{0}d">
 <title id="c{0}t">Event {0}, after time zero: change of speed and deployments</title>
 <desc id="c{0}d">Delta-V longitudinal and lateral at each 10 ms. Greatest longitudinal {1} km/h at {2} ms, greatest lateral {3} km/h at {4} ms, end of event {5} ms. Below, on the same time axis, the deployments. The table of elements has all values.</desc>
+<rect x="330" y="40" width="1500" height="450" class="plot"/>
 "#;
 
 /// What stands in the place of the chart where nothing after time zero is recorded.
@@ -28,6 +28,12 @@ pub const WITHOUT_PART: &[u8] = br#"<svg viewBox="0 0 1860 180" role="img" aria-
 <text x="1050" y="126" class="c">The record has no part after time zero: what fired then isn't known.</text>
 </svg>
 "#;
+
+/// A line across all of the chart.
+pub const RULE: &[u8] = br#"<path class="part" d="M0 {0}L1830 {0}"/>
+"#;
+
+pub const CHART_END: &[u8] = b"</svg>\n";
 
 /// The row of something at a time: its name, a flag, and words beside it.
 pub const TIMED_ROW: &[u8] = br#"<text x="0" y="{0}" class="">{1}</text>
@@ -204,7 +210,7 @@ fn draw_extreme(
     ensures { OnOk result (out.new.items ≡ out.old.items ++ extreme_row scale.now y label.now extreme) }
 {
     let Extreme { at, kmh } = extreme;
-    draw_timed(out, TIMED_ROW, scale, y, label, at, Greatest { at, kmh })
+    draw_timed(out, TIMED_ROW, scale, y, label, at, Greatest(at, kmh))
 }
 
 // Draws the row of a time.
@@ -241,7 +247,7 @@ fn draw_rule(out: &mut Vec<u8>, y: u32) -> Result<(), OutOfMemory>
     fill(out, RULE, &[Number(y)])
 }
 
-// Draws all rows.
+// Draws all rows, with which the chart ends.
 #[tactic(auto, unfolding(crate::specs::Rows::rows_chart))]
 fn draw_rows(out: &mut Vec<u8>, scale: &Scale, crash: &Crash) -> Result<(), OutOfMemory>
     requires { 300 ≤ scale.now.span }
@@ -251,7 +257,8 @@ fn draw_rows(out: &mut Vec<u8>, scale: &Scale, crash: &Crash) -> Result<(), OutO
     draw_event(out, scale, crash)?;
     draw_rule(out, RESTRAINTS_Y)?;
     draw_restraints(out, scale, &crash.fired)?;
-    draw_rule(out, ROWS_END)
+    draw_rule(out, ROWS_END)?;
+    put(out, CHART_END)
 }
 
 #[tactic(auto, unfolding(crate::specs::Rows::after_head))]
@@ -289,6 +296,5 @@ pub fn draw_after(out: &mut Vec<u8>, number: u64, crash: &Option<Crash>) -> Resu
     let scale = Scale::of(crash);
     put_head(out, number, crash)?;
     draw_changes(out, &scale, crash)?;
-    draw_rows(out, &scale, crash)?;
-    put(out, CHART_END)
+    draw_rows(out, &scale, crash)
 }

@@ -57,48 +57,19 @@ pub const FIELD: &[u8] = br#"<rect x="{0}" y="{1}" width="{2}" height="{3}" clas
 pub const WORD: &[u8] = br#"<text x="{0}" y="{1}" class="{2}">{3}</text>
 "#;
 
-/// A line across all of a chart.
-pub const RULE: &[u8] = br#"<path class="part" d="M0 {0}L1830 {0}"/>
-"#;
-
-pub const CHART_END: &[u8] = b"</svg>\n";
-
-/// A shape that stands where a value says.
+/// A shape that stands where a value says: its place across and up comes first.
 #[derive(Clone, Copy)]
 pub enum Shape {
-    Dot {
-        x: u32,
-        y: u32,
-    },
+    Dot(u32, u32),
     /// A small dot, of many.
-    Point {
-        x: u32,
-        y: u32,
-    },
-    Square {
-        x: u32,
-        y: u32,
-    },
+    Point(u32, u32),
+    Square(u32, u32),
     /// The number of a dot.
-    Value {
-        x: u32,
-        y: u32,
-        value: u32,
-    },
-    /// A field that shows what a switch is, or that there is nothing.
-    Field {
-        x: u32,
-        y: u32,
-        width: u32,
-        height: u32,
-        shows: Option<bool>,
-    },
+    Value(u32, u32, u32),
+    /// A field of this width and height, which shows what a switch is, or that there is nothing.
+    Field(u32, u32, u32, u32, Option<bool>),
     /// The word in such a field.
-    Word {
-        x: u32,
-        y: u32,
-        shows: Option<bool>,
-    },
+    Word(u32, u32, Option<bool>),
 }
 
 fn field_class(shows: Option<bool>) -> &'static [u8]
@@ -135,20 +106,14 @@ fn put_shape(out: &mut Vec<u8>, shape: Shape) -> Result<(), OutOfMemory>
     ensures { OnOk result (out.new.items ≡ out.old.items ++ shape_bytes shape) }
 {
     match shape {
-        Shape::Dot { x, y } => fill(out, DOT, &[Number(x), Number(y)]),
-        Shape::Point { x, y } => fill(out, POINT, &[Number(x), Number(y)]),
-        Shape::Square { x, y } => {
+        Shape::Dot(x, y) => fill(out, DOT, &[Number(x), Number(y)]),
+        Shape::Point(x, y) => fill(out, POINT, &[Number(x), Number(y)]),
+        Shape::Square(x, y) => {
             let (left, top) = (x.saturating_sub(8), y.saturating_sub(8));
             fill(out, SQUARE, &[Number(left), Number(top)])
         }
-        Shape::Value { x, y, value } => fill(out, NUMBER, &[Number(x), Number(y), Number(value)]),
-        Shape::Field {
-            x,
-            y,
-            width,
-            height,
-            shows,
-        } => {
+        Shape::Value(x, y, value) => fill(out, NUMBER, &[Number(x), Number(y), Number(value)]),
+        Shape::Field(x, y, width, height, shows) => {
             let class = field_class(shows);
             fill(
                 out,
@@ -162,7 +127,7 @@ fn put_shape(out: &mut Vec<u8>, shape: Shape) -> Result<(), OutOfMemory>
                 ],
             )
         }
-        Shape::Word { x, y, shows } => {
+        Shape::Word(x, y, shows) => {
             let (class, word) = (word_class(shows), switch_word(shows));
             fill(out, WORD, &[Number(x), Number(y), Text(class), Text(word)])
         }

@@ -1,7 +1,7 @@
 //! The sheet of an event.
 
 ghost use Rattle.std.specs.Prelude.{◌≡◌, ◌++◌, ◌≤◌, ◌+◌, ◌/◌, OnOk};
-ghost use Rattle.edr_drawing.specs.Sheets.{count_if, digest_hex, facts, hex_byte, hex_digit, profile_word, sheet, sheet_foot, sheet_head, sheet_if, sheets, yes_no};
+ghost use Rattle.edr_drawing.specs.Sheets.{count_if, digest_hex, facts, hex_byte, hex_digit, profile_word, sheet, sheet_foot, sheet_if, sheets, yes_no};
 
 use crate::before::draw_before;
 use crate::reasons::put_reasons;
@@ -64,13 +64,6 @@ pub fn put_digest(out: &mut Vec<u8>, digest: &[u8; 32]) -> Result<(), OutOfMemor
     Ok(())
 }
 
-#[tactic(auto, unfolding(crate::specs::Sheets::sheet_head))]
-fn put_head(out: &mut Vec<u8>, number: u64, complete: bool) -> Result<(), OutOfMemory>
-    ensures { OnOk result (out.new.items ≡ out.old.items ++ sheet_head number complete) }
-{
-    fill(out, SHEET_HEAD, &[Count(number), Text(yes_no(complete))])
-}
-
 fn profile_word(profile: Profile) -> &'static [u8]
     ensures { result.now ≡ profile_word profile }
 {
@@ -126,7 +119,8 @@ fn put_sheet(
 ) -> Result<(), OutOfMemory>
     ensures { OnOk result (out.new.items ≡ out.old.items ++ sheet number bank event.now digest.now) }
 {
-    put_head(out, number, event.complete())?;
+    let complete = yes_no(event.complete());
+    fill(out, SHEET_HEAD, &[Count(number), Text(complete)])?;
     let pre = &event.pre;
     put_facts(out, bank, pre.key, event.locked, pre.profile(), pre.place)?;
     put_reasons(out, event)?;

@@ -29,8 +29,8 @@ pub enum Filling {
     /// The place of an event in its crash.
     Place(Place),
     Milliseconds(u16),
-    /// A greatest change, with its time before it.
-    Extreme { at: u16, kmh: i16 },
+    /// The time of a greatest change, and the change.
+    Extreme(u16, i16),
 }
 
 fn put_number(out: &mut Vec<u8>, n: u64) -> Result<(), OutOfMemory>
@@ -95,7 +95,7 @@ fn put_filling(out: &mut Vec<u8>, filling: Filling) -> Result<(), OutOfMemory>
             put_number(out, u64::from(time))?;
             out.extend_from_slice(b" ms")
         }
-        Filling::Extreme { at, kmh } => put_extreme(out, at, kmh),
+        Filling::Extreme(at, kmh) => put_extreme(out, at, kmh),
     }
 }
 

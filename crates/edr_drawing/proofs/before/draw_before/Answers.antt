@@ -1,8 +1,8 @@
 use Rattle.edr_drawing.proofs.SlotLemmas.{speed_fills, throttle_fills, brake_fills}
 use Rattle.edr_drawing.proofs.before.draw_before.Goals as goal
 
-pub draw_speed-requires : goal.draw_speed-requires
-draw_speed-requires c = speed_fills _ _ _ _ c.pre.view_is c.pre.invariant c.profile-profile.ensures c.speed.ensures
+pub draw_lane-requires-clause-slots : goal.draw_lane-requires-clause-slots
+draw_lane-requires-clause-slots c = speed_fills _ _ _ _ c.pre.view_is c.pre.invariant c.profile-profile.ensures c.speed-speed.ensures
 
 pub draw_throttle-requires : goal.draw_throttle-requires
 draw_throttle-requires c = throttle_fills _ _ _ _ c.pre.view_is c.pre.invariant c.profile-profile.ensures c.throttle.ensures
