@@ -4,7 +4,7 @@
     examples/read_image.py edr.nvm
 
 It shares no code with the recorder and needs Python alone. An image that is refused gets its one line of docs/FAULTS.md
-and the status 7.
+and the status 7. A file that can't be read, or an output that can't be written, has the status 1, and other words 2.
 """
 
 import csv
@@ -214,16 +214,33 @@ def report(image):
     yield 0, "ignition cycle, download", min(count_of(image), 60_000)
 
 
-def main():
-    if len(sys.argv) != 2:
-        sys.exit(f"usage: {sys.argv[0]} IMAGE")
+def run(words):
+    if words in (["--help"], ["-h"]):
+        print(__doc__, end="")
+        return 0
+    if len(words) != 1 or words[0].startswith("-"):
+        print("usage: read_image.py IMAGE; read_image.py --help says more", file=sys.stderr)
+        return 2
     try:
-        rows = list(report(Path(sys.argv[1]).read_bytes()))
+        rows = list(report(Path(words[0]).read_bytes()))
     except Refused as fault:
         print(f"fault: {fault}")
         return 7
     csv.writer(sys.stdout, lineterminator="\n").writerows(rows)
     return 0
+
+
+def main():
+    if sys.stdout is None:
+        sys.exit("read_image.py: standard output is closed")
+    try:
+        status = run(sys.argv[1:])
+        sys.stdout.flush()
+        return status
+    except OSError as fault:
+        print(f"read_image.py: {fault.filename or 'standard output'}: {fault.strerror}", file=sys.stderr)
+        sys.stdout = None
+        return 1
 
 
 if __name__ == "__main__":
