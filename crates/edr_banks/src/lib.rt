@@ -5,7 +5,9 @@
 //! `events.rt` retrieves, and `commands.rt` applies a command, whose effect on the banks `tasks.rt` works out.
 #![tactic(auto)]
 
-ghost use Rattle.std.specs.Prelude.{◌≡◌};
+ghost use Rattle.std.specs.Prelude.{◌≡◌, ◌≤◌, length};
+ghost use Rattle.edr_image.specs.declared.places.TheConstants.{MOST_BANKS};
+ghost use Rattle.edr_image.specs.Banks.{bank_at};
 
 use edr_device::Failed;
 use std::marker::Model;
@@ -88,5 +90,22 @@ impl Banks {
         ensures { result ≡ self.now.count }
     {
         self.count
+    }
+
+    /// How many banks there are.
+    pub fn banks(&self) -> u8
+        ensures banks { result ≡ self.now.store.header.banks }
+        ensures all { length self.now.store.banks ≡ result }
+        ensures most { result ≤ MOST_BANKS }
+    {
+        self.header.banks
+    }
+
+    /// What a bank holds.
+    pub fn view(&self, bank: u8) -> BankView
+        requires { (1 ≤ bank) × (bank ≤ self.now.store.header.banks) }
+        ensures { result ≡ bank_at self.now.store.banks bank }
+    {
+        self.banks[usize::from(bank) - 1]
     }
 }
