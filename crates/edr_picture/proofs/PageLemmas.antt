@@ -1,11 +1,12 @@
 -- Why there is no page, by what was taken of the source.
-use Rattle.std.proofs.Common.{◌≡◌, ◌≤◌, sym, subst, refl, ℕ, false, List, [], length, Option, Some, None}
+use Rattle.std.proofs.Common.{◌≡◌, ◌≤◌, sym, subst, refl, ℕ, List, [], length, Option, Some, None}
 use Rattle.std.specs.Option.{IfSome}
 use Rattle.edr_device.specs.Told.{Told}
 use Rattle.edr_device.specs.Transfer.{GivesAll}
+use Rattle.edr_picture.specs.declared.asked.Asked.TheVariants as asked
 use Rattle.edr_picture.specs.declared.faults.PageFault.{PageFault}
 use Rattle.edr_picture.specs.declared.faults.PageFault.TheVariants as fault
-use Rattle.edr_picture.specs.Pages.{HasFaultFrom, PageInput, IsCauseOfNoPage, IsWhy, largest_report}
+use Rattle.edr_picture.specs.Pages.{HasFaultFrom, PageInput, IsCauseOfNone, IsWhy, largest_report}
 
 given : (P : List ℕ → Type 0) (bytes : List ℕ) (x y : Option (List ℕ)) → Told (GivesAll bytes) x y → P bytes → IfSome x P
 given P bytes None y t p = tt
@@ -18,7 +19,7 @@ ended bytes (Some a) (Some b) t = t.1
 ended bytes None (Some b) t = absurd t
 
 -- a fault of all bytes of a source is its fault
-pub cause-of : (bytes : List ℕ) (i i' : PageInput) (f : PageFault) → length bytes ≤ largest_report → Told (GivesAll bytes) i.left i'.left → IsWhy bytes f → IsCauseOfNoPage false i i' f
+pub cause-of : (bytes : List ℕ) (i i' : PageInput) (f : PageFault) → length bytes ≤ largest_report → Told (GivesAll bytes) i.left i'.left → IsWhy bytes f → IsCauseOfNone asked.Page i i' f
 cause-of bytes i i' fault.Usage few t w = absurd w
 cause-of bytes i i' (fault.Report row f) few t w = (refl, given (λ b. (length b ≤ largest_report) × HasFaultFrom b row f) bytes i.left i'.left t (few, w), ended bytes i.left i'.left t)
 cause-of bytes i i' fault.Read few t w = absurd w

@@ -12,7 +12,7 @@ row_words (Field f) = codes "field " ++ decimal f
 row_words Unended = codes "unended"
 
 abbrev pub fault_words : PageFault → List ℕ
-fault_words Usage = codes "usage"
+fault_words Usage = codes "usage: edr_picture [--help|--version] < crash.csv > crash.html"
 fault_words (Report row fault) = codes "report row " ++ decimal row ++ codes ": " ++ row_words fault
 fault_words Read = codes "read fault"
 fault_words OutOfMemory = codes "out of memory"

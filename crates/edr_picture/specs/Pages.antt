@@ -1,5 +1,5 @@
 -- What the program prints, and why it prints no page.
-use Rattle.std.specs.Prelude.{◌≡◌, ◌⊎◌, ◌≤◌, ⊤, ℕ, Bool, true, false, List, [], Option, Some, IfSome, length}
+use Rattle.std.specs.Prelude.{◌≡◌, ◌⊎◌, ◌≤◌, ⊤, ℕ, List, [], Option, Some, IfSome, length}
 use Rattle.sha2.specs.Sha256.{sha256}
 use Rattle.edr_device.specs.Faults.{Rose}
 use Rattle.edr_device.specs.Stream.{Appends}
@@ -14,6 +14,10 @@ use Rattle.edr_reading.specs.Faults.{IsFault}
 use Rattle.edr_reading.specs.declared.faults.RowFault.{RowFault}
 use Rattle.edr_reading.specs.Reading.{IsReading, report_rows}
 use Rattle.edr_spell.specs.Spell.{RecordsOf}
+use Rattle.edr_picture.specs.Asked.{version_line}
+use Rattle.edr_picture.specs.declared.asked.Asked.{Asked}
+use Rattle.edr_picture.specs.declared.asked.Asked.TheVariants as asked
+use Rattle.edr_picture.specs.declared.asked.TheConstants.{HELP}
 use Rattle.edr_picture.specs.declared.faults.PageFault.{PageFault}
 use Rattle.edr_picture.specs.declared.faults.PageFault.TheVariants as fault
 use Rattle.edr_picture.specs.Faults.{fault_line}
@@ -62,17 +66,24 @@ IsReadToEnd i = IfSome i.left (λ bytes. bytes ≡ [])
 abbrev pub PageIs : PageInput → PageInput → List ℕ → Type 0
 PageIs i i' text = IfSome i.left (λ bytes. IsPage bytes text) × IsReadToEnd i'
 
--- why there is no page
-abbrev pub IsCauseOfNoPage : Bool → PageInput → PageInput → PageFault → Type 0
-IsCauseOfNoPage has_words i i' fault.Usage = (has_words ≡ true) × (i' ≡ i)
-IsCauseOfNoPage has_words i i' (fault.Report row f) = (has_words ≡ false) × IfSome i.left (λ bytes. (length bytes ≤ largest_report) × HasFaultFrom bytes row f) × IsReadToEnd i'
-IsCauseOfNoPage has_words i i' fault.Read = (has_words ≡ false) × Rose i.faults i'.faults
-IsCauseOfNoPage has_words i i' fault.OutOfMemory = has_words ≡ false
-IsCauseOfNoPage has_words i i' fault.TooLong = (has_words ≡ false) × Told (GivesTooMany largest_report) i.left i'.left
+-- what is answered to what was asked: a page, or a text for which nothing is read
+abbrev pub AnswerIs : Asked → PageInput → PageInput → List ℕ → Type 0
+AnswerIs asked.Page i i' text = PageIs i i' text
+AnswerIs asked.Help i i' text = (text ≡ HELP.now) × (i' ≡ i)
+AnswerIs asked.Version i i' text = (text ≡ version_line) × (i' ≡ i)
+AnswerIs asked.Other i i' text = ⊥
 
--- a page, or the line of a fault that has its cause
-abbrev pub IsText : Bool → PageInput → PageInput → List ℕ → Type 0
-IsText has_words i i' text = PageIs i i' text ⊎ ((f : PageFault) × IsCauseOfNoPage has_words i i' f × (text ≡ fault_line f))
+-- why there is none
+abbrev pub IsCauseOfNone : Asked → PageInput → PageInput → PageFault → Type 0
+IsCauseOfNone a i i' fault.Usage = (a ≡ asked.Other) × (i' ≡ i)
+IsCauseOfNone a i i' (fault.Report row f) = (a ≡ asked.Page) × IfSome i.left (λ bytes. (length bytes ≤ largest_report) × HasFaultFrom bytes row f) × IsReadToEnd i'
+IsCauseOfNone a i i' fault.Read = (a ≡ asked.Page) × Rose i.faults i'.faults
+IsCauseOfNone a i i' fault.OutOfMemory = a ≡ asked.Page
+IsCauseOfNone a i i' fault.TooLong = (a ≡ asked.Page) × Told (GivesTooMany largest_report) i.left i'.left
+
+-- an answer, or the line of a fault that has its cause
+abbrev pub IsText : Asked → PageInput → PageInput → List ℕ → Type 0
+IsText a i i' text = AnswerIs a i i' text ⊎ ((f : PageFault) × IsCauseOfNone a i i' f × (text ≡ fault_line f))
 
 -- ---- the same of a source and a sink, before a call and after it
 
@@ -80,13 +91,13 @@ IsText has_words i i' text = PageIs i i' text ⊎ ((f : PageFault) × IsCauseOfN
 abbrev pub OnInput : {S : Type 0} {X : Type 1} → stream.Ghosts S → (PageInput → PageInput → X) → S → S → X
 OnInput s says old new = says (input s.left s.faults old) (input s.left s.faults new)
 
--- there is no page of what the source gives, for this cause
-abbrev pub HasNoPage : {S : Type 0} → stream.Ghosts S → Bool → S → S → PageFault → Type 0
-HasNoPage s has_words old new f = OnInput s (IsCauseOfNoPage has_words) old new f
+-- there is no answer to what was asked, for this cause
+abbrev pub HasNone : {S : Type 0} → stream.Ghosts S → Asked → S → S → PageFault → Type 0
+HasNone s a old new f = OnInput s (IsCauseOfNone a) old new f
 
--- the text is one that may be written for what it gives
-abbrev pub IsTextFor : {S : Type 0} → stream.Ghosts S → Bool → S → S → List ℕ → Type 0
-IsTextFor s has_words old new text = OnInput s (IsText has_words) old new text
+-- the text is one that may be written for what the source gives
+abbrev pub IsTextFor : {S : Type 0} → stream.Ghosts S → Asked → S → S → List ℕ → Type 0
+IsTextFor s a old new text = OnInput s (IsText a) old new text
 
 -- whatever report the source gives, if it counts no fault, this is so
 abbrev pub OfReport : {S : Type 0} → stream.Ghosts S → S → S → Type 0 → Type 0

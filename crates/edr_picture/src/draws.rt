@@ -1,12 +1,13 @@
 //! The top call: from the bytes of a report to those of its page.
-ghost use Rattle.std.specs.Prelude.{◌≡◌, ◌≢◌, ◌⊎◌, ◌≤◌, ◌+◌, ℕ, List, false, IfOk, IfErr, length};
+ghost use Rattle.std.specs.Prelude.{◌≡◌, ◌≢◌, ◌⊎◌, ◌≤◌, ◌+◌, ℕ, List, IfOk, IfErr, length};
 ghost use Rattle.edr_image.specs.declared.Found.{Found};
 ghost use Rattle.edr_image.specs.Reports.{Report};
 ghost use Rattle.edr_device.specs.Told.{Told};
 ghost use Rattle.edr_device.specs.Transfer.{GivesAtMost};
 ghost use Rattle.edr_picture.specs.Faults.{fault_line};
-ghost use Rattle.edr_picture.specs.Pages.{Fails, GainsText, GainsPart, HasNoPage, IsDrawn, IsPage, IsTextFor, IsWhy, OfReport, OnInput, PageIs, TellsReport, WritesText, WritesPart, largest_report};
+ghost use Rattle.edr_picture.specs.Pages.{AnswerIs, Fails, GainsText, GainsPart, HasNone, IsDrawn, IsPage, IsTextFor, IsWhy, OfReport, OnInput, PageIs, TellsReport, WritesText, WritesPart, largest_report};
 
+use crate::asked::{Asked, HELP, version_line};
 use crate::faults::PageFault;
 use crate::status::PageStatus;
 use edr_device::{Failed, Sink, Source, TakeFault, put_all, take_all};
@@ -49,7 +50,7 @@ fn page_of(alloc: Global, bytes: &[u8]) -> Result<Vec<u8>, PageFault>
 // The page of the report that the source gives up to its end, or why there is none.
 fn page_from<S: Source>(alloc: Global, source: &mut S) -> Result<Vec<u8>, PageFault>
     ensures page { IfOk result (λ v. OnInput S.Source PageIs source.old source.new v.items) }
-    ensures cause { IfErr result (HasNoPage S.Source false source.old source.new) }
+    ensures cause { IfErr result (HasNone S.Source Asked.Page source.old source.new) }
     ensures complete { OfReport S.Source source.old source.new
         (IfErr result (λ f. f ≡ PageFault.OutOfMemory)) }
     ensures takes { Told (GivesAtMost (largest_report + 1)) (S.left source.old) (S.left source.new) }
@@ -78,40 +79,42 @@ fn write<K: Sink>(sink: &mut K, text: &[u8], status: PageStatus) -> PageStatus
     }
 }
 
-/// Draws the report that the source gives: reads it to its end and writes its page, whose last line on each sheet names the
-/// bytes by their digest. A fault writes its one line and nothing else. Words are a fault of usage.
+/// Answers what was asked. A page is that of the report that the source gives: it is read to its end, and the last line on
+/// each sheet names the bytes by their digest. A fault writes its one line and nothing else.
 pub fn draw<S: Source, K: Sink>(
     alloc: Global,
-    has_words: bool,
+    asked: Asked,
     source: &mut S,
     sink: &mut K,
 ) -> PageStatus
-    // With Done the source is at its end, and the sink gained exactly the page of its bytes.
-    ensures done { result ≡ PageStatus.Done → (has_words ≡ false)
-        × WritesText K.Sink (OnInput S.Source PageIs source.old source.new) sink.old sink.new }
+    // With Done the sink gained exactly the answer: the page of the bytes of the source, which is at its end, or a word's text.
+    ensures done { result ≡ PageStatus.Done
+        → WritesText K.Sink (OnInput S.Source (AnswerIs asked) source.old source.new) sink.old sink.new }
     // With a fault it gained exactly its line, and the fault has its cause.
     ensures fault { (f : PageFault) → result ≡ PageStatus.Faulty f
-        → HasNoPage S.Source has_words source.old source.new f
+        → HasNone S.Source asked source.old source.new f
         × GainsText K.Sink (fault_line f) sink.old sink.new }
     // Where a write failed it gained a part of one of these texts.
     ensures part { result ≡ PageStatus.WriteFault
         → Fails K.Sink sink.old sink.new
-        × WritesPart K.Sink (IsTextFor S.Source has_words source.old source.new) sink.old sink.new }
+        × WritesPart K.Sink (IsTextFor S.Source asked source.old source.new) sink.old sink.new }
     // Where neither source nor sink counts a fault, a report is drawn, unless memory runs out.
-    ensures complete { has_words ≡ false → ¬ Fails K.Sink sink.old sink.new
+    ensures complete { asked ≡ Asked.Page → ¬ Fails K.Sink sink.old sink.new
         → OfReport S.Source source.old source.new (IsDrawn result) }
     ensures takes { Told (GivesAtMost (largest_report + 1)) (S.left source.old) (S.left source.new) }
     ensures later { (S.faults source.old ≤ S.faults source.new) × (K.faults sink.old ≤ K.faults sink.new) }
 {
-    if has_words {
-        return write(
+    match asked {
+        Asked::Page => match page_from(alloc, source) {
+            Ok(page) => write(sink, &page, PageStatus::Done),
+            Err(fault) => write(sink, fault.line().as_bytes(), PageStatus::Faulty(fault)),
+        },
+        Asked::Help => write(sink, HELP, PageStatus::Done),
+        Asked::Version => write(sink, version_line().as_bytes(), PageStatus::Done),
+        Asked::Other => write(
             sink,
             PageFault::Usage.line().as_bytes(),
             PageStatus::Faulty(PageFault::Usage),
-        );
-    }
-    match page_from(alloc, source) {
-        Ok(page) => write(sink, &page, PageStatus::Done),
-        Err(fault) => write(sink, fault.line().as_bytes(), PageStatus::Faulty(fault)),
+        ),
     }
 }

@@ -9,7 +9,7 @@ use edr_report::{Room, ShortLine, push_number};
 /// Why there is no page.
 #[derive(Clone, Copy, Debug, PartialEq, Eq)]
 pub enum PageFault {
-    /// There are words on the command line.
+    /// The words on the command line are none that the program knows.
     Usage,
     /// The bytes can be no report from this row on.
     Report { row: u32, fault: RowFault },
@@ -40,7 +40,9 @@ fn push_fault(line: &mut Room, fault: PageFault)
     ensures len { array_string_len line.new ≤ 70 }
 {
     match fault {
-        PageFault::Usage => line.push_str("usage"),
+        PageFault::Usage => {
+            line.push_str("usage: edr_picture [--help|--version] < crash.csv > crash.html");
+        }
         PageFault::Report { row, fault } => {
             push_number(line, "report row ", row);
             line.push_str(": ");

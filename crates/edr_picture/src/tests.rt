@@ -1,5 +1,6 @@
 //! Whole runs over sources and sinks in memory.
 
+use crate::asked::{Asked, HELP, version_line};
 use crate::draws::draw;
 use crate::faults::PageFault;
 use crate::status::PageStatus;
@@ -14,7 +15,7 @@ const EMPTY: &[u8] = b"block,name,value\n0,\"ignition cycle, download\",3\n";
 // What a run is given, how source and sink fail, and what is to come of it.
 #[derive(Clone, Copy)]
 struct PageRun<'a> {
-    has_words: bool,
+    asked: Asked,
     report: &'a [u8],
     source_fails: &'a [u32],
     sink_fails: &'a [u32],
@@ -25,7 +26,7 @@ struct PageRun<'a> {
 // A run in which nothing fails.
 const fn sound<'a>(report: &'a [u8], status: PageStatus, code: u8) -> PageRun<'a> {
     PageRun {
-        has_words: false,
+        asked: Asked::Page,
         report,
         source_fails: &[],
         sink_fails: &[],
@@ -40,7 +41,7 @@ fn output_of<R: Abort + AllocGlobal>(rt: &R, run: PageRun<'_>) -> Result<Vec<u8>
     let fails = run.source_fails.to_vec(alloc)?;
     let mut source = MemSource::new(run.report.to_vec(alloc)?, 20, fails);
     let mut sink = MemSink::new(alloc, 100_000, 64, run.sink_fails.to_vec(alloc)?)?;
-    let status = draw(alloc, run.has_words, &mut source, &mut sink);
+    let status = draw(alloc, run.asked, &mut source, &mut sink);
     assert_eq!(rt; status, run.status);
     assert_eq!(rt; status.code(), run.code);
     Ok(sink.bytes().to_vec(alloc)?)
@@ -120,14 +121,34 @@ fn a_cut_report_is_told(rt: HostRuntime) -> Result<(), Fail> {
     check(&rt, run, b"fault: report row 2: unended\n")
 }
 
-#[test]
-fn words_are_told_and_nothing_is_read(rt: HostRuntime) -> Result<(), Fail> {
+// A run for a word, over a source that fails if it is read.
+fn check_word<R: Abort + AllocGlobal>(
+    rt: &R,
+    word: &str,
+    status: PageStatus,
+    code: u8,
+    output: &[u8],
+) -> Result<(), Fail> {
     let run = PageRun {
-        has_words: true,
+        asked: Asked::by(word),
         source_fails: &[1],
-        ..sound(EMPTY, PageStatus::Faulty(PageFault::Usage), 2)
+        ..sound(EMPTY, status, code)
     };
-    check(&rt, run, b"fault: usage\n")
+    check(rt, run, output)
+}
+
+#[test]
+fn a_word_is_answered_and_nothing_is_read(rt: HostRuntime) -> Result<(), Fail> {
+    check_word(&rt, "--help", PageStatus::Done, 0, HELP)?;
+    let version = version_line();
+    check_word(&rt, "--version", PageStatus::Done, 0, version.as_bytes())?;
+    check_word(
+        &rt,
+        "-h",
+        PageStatus::Faulty(PageFault::Usage),
+        2,
+        b"fault: usage: edr_picture [--help|--version] < crash.csv > crash.html\n",
+    )
 }
 
 #[test]
