@@ -9,64 +9,62 @@ ghost use Rattle.edr_core.specs.StandsFor.{CoreIsFor};
 ghost use Rattle.edr_image.specs.Image.{image_size};
 ghost use Rattle.edr_run.specs.Cycle.{issues_in};
 ghost use Rattle.edr_cycle.specs.Begun.{room_for};
-ghost use Rattle.edr_cycle.specs.Commits.{CommitsOn};
+ghost use Rattle.edr_cycle.specs.Ledgers.{CommitsIn};
 ghost use Rattle.edr_cycle.specs.Rest.{IsGiven, issues_past};
 
 use crate::commits::commit_tick;
+use crate::ledger::Ledger;
 use crate::left::Left;
-use edr_banks::{Banks, Log};
 use edr_core::{Closing, Core, Issued};
 use edr_device::{Failed, Nvm};
 use edr_items::Feeds;
 
 /// Commits what a closed tick issues, if it issues anything.
-pub(crate) fn commit_closed<N: Nvm>(
-    banks: &mut Banks,
+pub(crate) fn commit_closed<L: Ledger, N: Nvm>(
+    ledger: &mut L,
     nvm: &mut N,
-    log: &mut Log,
     tick: u32,
     issues: bool,
     issued: &Issued,
 ) -> Result<(), Failed>
-    requires live { banks.old.ended ≡ false }
-    requires size { image_size banks.old.store.header.banks ≤ N.extent nvm.old }
-    requires room { length (commands_put issues issued.now) ≤ log.old.spare }
+    requires live { (L.banks ledger.old).ended ≡ false }
+    requires size { image_size (L.banks ledger.old).store.header.banks ≤ N.extent nvm.old }
+    requires room { length (commands_put issues issued.now) ≤ (L.log ledger.old).spare }
     ensures lent { Lent N.Nvm nvm.old nvm.new result }
-    ensures commits { CommitsOn N.Nvm (map (issue_at tick) (commands_put issues issued.now))
-        result banks.old banks.new log.old log.new nvm.old nvm.new }
+    ensures commits { CommitsIn L.Ledger N.Nvm (map (issue_at tick) (commands_put issues issued.now))
+        result ledger.old ledger.new nvm.old nvm.new }
 {
     if issues {
-        commit_tick(banks, nvm, log, tick, issued.take, issued.lock, issued.done)
+        commit_tick(ledger, nvm, tick, issued)
     } else {
         Ok(())
     }
 }
 
 // Gives what is left of the feeds to a core that is lent, and commits what it issues.
-fn give_on<N: Nvm>(
+fn give_on<L: Ledger, N: Nvm>(
     core: &mut Core,
     feeds: &Feeds,
     left: &mut Left<'_>,
-    banks: &mut Banks,
+    ledger: &mut L,
     nvm: &mut N,
-    log: &mut Log,
 ) -> Result<(), Failed>
     requires given { IsGiven feeds.now core.old.cycle core.old left.old }
     requires feeds { AreFeeds feeds.now }
     requires level { IsLevel feeds.now }
-    requires live { banks.old.ended ≡ false }
-    requires size { image_size banks.old.store.header.banks ≤ N.extent nvm.old }
+    requires live { (L.banks ledger.old).ended ≡ false }
+    requires size { image_size (L.banks ledger.old).store.header.banks ≤ N.extent nvm.old }
     requires room { room_for (horizon_of feeds.now)
-        ≤ log.old.spare + length (issues feeds.now core.old.cycle core.old.closed) }
+        ≤ (L.log ledger.old).spare + length (issues feeds.now core.old.cycle core.old.closed) }
     ensures lent { Lent N.Nvm nvm.old nvm.new result }
-    ensures commits { CommitsOn N.Nvm (issues_past feeds.now core.old.cycle core.old.closed)
-        result banks.old banks.new log.old log.new nvm.old nvm.new }
+    ensures commits { CommitsIn L.Ledger N.Nvm (issues_past feeds.now core.old.cycle core.old.closed)
+        result ledger.old ledger.new nvm.old nvm.new }
 {
     let mut issued = Issued::none();
     loop {
         match core.close(&mut issued) {
             Closing::Closed { tick, issues } => {
-                commit_closed(banks, nvm, log, tick, issues, &issued)?
+                commit_closed(ledger, nvm, tick, issues, &issued)?
             }
             Closing::Waiting { sensor } => {
                 let Some(item) = left.next(sensor) else {
@@ -83,22 +81,21 @@ fn give_on<N: Nvm>(
 ///
 /// A sensor's next item is given when the core waits for that sensor, so none is refused. Where nothing is left of it, the
 /// horizon is closed.
-pub(crate) fn run<N: Nvm>(
+pub(crate) fn run<L: Ledger, N: Nvm>(
     mut core: Core,
     feeds: &Feeds,
-    banks: &mut Banks,
+    ledger: &mut L,
     nvm: &mut N,
-    log: &mut Log,
 ) -> Result<(), Failed>
     requires begun { CoreIsFor core core.cycle (record { given = no_items; closed = 0 }) }
     requires level { IsLevel feeds.now }
-    requires live { banks.old.ended ≡ false }
-    requires size { image_size banks.old.store.header.banks ≤ N.extent nvm.old }
-    requires room { room_for (horizon_of feeds.now) ≤ log.old.spare }
+    requires live { (L.banks ledger.old).ended ≡ false }
+    requires size { image_size (L.banks ledger.old).store.header.banks ≤ N.extent nvm.old }
+    requires room { room_for (horizon_of feeds.now) ≤ (L.log ledger.old).spare }
     ensures lent { Lent N.Nvm nvm.old nvm.new result }
-    ensures commits { CommitsOn N.Nvm (issues_in feeds.now core.cycle)
-        result banks.old banks.new log.old log.new nvm.old nvm.new }
+    ensures commits { CommitsIn L.Ledger N.Nvm (issues_in feeds.now core.cycle)
+        result ledger.old ledger.new nvm.old nvm.new }
 {
     let mut left = Left::all_of(feeds);
-    give_on(&mut core, feeds, &mut left, banks, nvm, log)
+    give_on(&mut core, feeds, &mut left, ledger, nvm)
 }

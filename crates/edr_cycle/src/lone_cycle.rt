@@ -8,6 +8,7 @@ ghost use Rattle.edr_image.specs.Image.{image_size};
 ghost use Rattle.edr_cycle.specs.Ends.{MeetsCycleOn};
 
 use crate::cycle_run::run;
+use crate::ledger::Books;
 use crate::started::{CycleEnd, Parts, Started};
 use edr_device::Nvm;
 use edr_items::Feeds;
@@ -32,15 +33,12 @@ pub fn run_alone<N: Nvm>(started: Started, feeds: &Feeds, nvm: &mut N) -> CycleE
         result.failed result.log.acks nvm.old nvm.new }
 {
     let number = started.number();
-    let Parts {
-        mut banks,
-        core,
-        mut log,
-    } = started.parts();
-    let failed = run(core, feeds, &mut banks, nvm, &mut log).is_err();
+    let Parts { banks, core, log } = started.parts();
+    let mut books = Books { banks, log };
+    let failed = run(core, feeds, &mut books, nvm).is_err();
     CycleEnd {
         number,
         failed,
-        log,
+        log: books.log,
     }
 }

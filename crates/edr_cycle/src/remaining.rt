@@ -8,13 +8,13 @@ ghost use Rattle.edr_definitions.specs.Commands.{issues};
 ghost use Rattle.edr_image.specs.Image.{image_size};
 ghost use Rattle.edr_core.specs.SplitHistory.{History, missing_part};
 ghost use Rattle.edr_cycle.specs.Begun.{room_for};
-ghost use Rattle.edr_cycle.specs.Commits.{CommitsOn};
+ghost use Rattle.edr_cycle.specs.Ledgers.{CommitsIn};
 ghost use Rattle.edr_cycle.specs.Remaining.{HasNext, IsAsked, IsOpenAt, IsTakenOf, KeepsAsking, AnswerLeads, Remains, RemainsAt, SameAsk, count_left};
 ghost use Rattle.edr_cycle.specs.Rest.{issues_past};
 
 use crate::cycle_run::commit_closed;
+use crate::ledger::Ledger;
 use crate::left::Left;
-use edr_banks::{Banks, Log};
 use edr_core::{Captures, Closing, Issued, SplitClosing, SplitCore};
 use edr_device::{Failed, Nvm};
 use edr_items::{Feeds, PerSensor, SLOW_SENSORS, Sensor};
@@ -152,29 +152,28 @@ fn close(rest: &mut Remaining<'_>, core: &mut SplitCore, issued: &mut Issued) ->
 }
 
 // Gives what is left to a core that is lent, and commits what it issues.
-fn give_rest<N: Nvm>(
+fn give_rest<L: Ledger, N: Nvm>(
     core: &mut SplitCore,
     feeds: &Feeds,
     rest: &mut Remaining<'_>,
-    banks: &mut Banks,
+    ledger: &mut L,
     nvm: &mut N,
-    log: &mut Log,
 ) -> Result<(), Failed>
     requires remains { Remains feeds.now core.old.cycle core.old rest.old }
-    requires live { banks.old.ended ≡ false }
-    requires size { image_size banks.old.store.header.banks ≤ N.extent nvm.old }
+    requires live { (L.banks ledger.old).ended ≡ false }
+    requires size { image_size (L.banks ledger.old).store.header.banks ≤ N.extent nvm.old }
     requires room { room_for (horizon_of feeds.now)
-        ≤ log.old.spare + length (issues feeds.now core.old.cycle core.old.closed) }
+        ≤ (L.log ledger.old).spare + length (issues feeds.now core.old.cycle core.old.closed) }
     ensures lent { Lent N.Nvm nvm.old nvm.new result }
-    ensures commits { CommitsOn N.Nvm (issues_past feeds.now core.old.cycle core.old.closed)
-        result banks.old banks.new log.old log.new nvm.old nvm.new }
+    ensures commits { CommitsIn L.Ledger N.Nvm (issues_past feeds.now core.old.cycle core.old.closed)
+        result ledger.old ledger.new nvm.old nvm.new }
 {
     let mut issued = Issued::none();
     let horizon = feeds.horizon();
     while core.closed() < horizon {
         match close(rest, core, &mut issued) {
             Closing::Closed { tick, issues } => {
-                commit_closed(banks, nvm, log, tick, issues, &issued)?
+                commit_closed(ledger, nvm, tick, issues, &issued)?
             }
             Closing::Waiting { sensor } => give(rest, core, sensor),
         }
@@ -184,22 +183,21 @@ fn give_rest<N: Nvm>(
 
 /// Gives what is left of the feeds to the core of a cycle and to the captures, answers from these what the core asks for, and
 /// commits what it issues past the ticks that it has closed, up to the horizon or to a command that fails.
-pub fn run_rest<N: Nvm>(
+pub fn run_rest<L: Ledger, N: Nvm>(
     mut core: SplitCore,
     feeds: &Feeds,
     mut rest: Remaining<'_>,
-    banks: &mut Banks,
+    ledger: &mut L,
     nvm: &mut N,
-    log: &mut Log,
 ) -> Result<(), Failed>
     requires remains { Remains feeds.now core.cycle core rest }
-    requires live { banks.old.ended ≡ false }
-    requires size { image_size banks.old.store.header.banks ≤ N.extent nvm.old }
+    requires live { (L.banks ledger.old).ended ≡ false }
+    requires size { image_size (L.banks ledger.old).store.header.banks ≤ N.extent nvm.old }
     requires room { room_for (horizon_of feeds.now)
-        ≤ log.old.spare + length (issues feeds.now core.cycle core.closed) }
+        ≤ (L.log ledger.old).spare + length (issues feeds.now core.cycle core.closed) }
     ensures lent { Lent N.Nvm nvm.old nvm.new result }
-    ensures commits { CommitsOn N.Nvm (issues_past feeds.now core.cycle core.closed)
-        result banks.old banks.new log.old log.new nvm.old nvm.new }
+    ensures commits { CommitsIn L.Ledger N.Nvm (issues_past feeds.now core.cycle core.closed)
+        result ledger.old ledger.new nvm.old nvm.new }
 {
-    give_rest(&mut core, feeds, &mut rest, banks, nvm, log)
+    give_rest(&mut core, feeds, &mut rest, ledger, nvm)
 }

@@ -6,7 +6,7 @@ use crate::dealt_sensors::fired_feeds;
 use crate::runs::{formatted, only_event};
 use edr_banks::{Banks, Log};
 use edr_core::{Captures, SplitCore};
-use edr_cycle::{Parts, Remaining, run_rest, start};
+use edr_cycle::{Books, Parts, Remaining, run_rest, start};
 use edr_device::MemNvm;
 use edr_items::Feeds;
 use std::alloc::Global;
@@ -27,13 +27,10 @@ fn all_left(alloc: Global, feeds: &Feeds, number: u32) -> Result<(SplitCore, Rem
 fn run_split(alloc: Global, memory: &mut MemNvm, feeds: &Feeds) -> Result<Log, Fail> {
     let started = start(alloc, memory, feeds.horizon())?;
     let (core, rest) = all_left(alloc, feeds, started.number())?;
-    let Parts {
-        mut banks,
-        mut log,
-        ..
-    } = started.parts();
-    run_rest(core, feeds, rest, &mut banks, memory, &mut log)?;
-    Ok(log)
+    let Parts { banks, log, .. } = started.parts();
+    let mut books = Books { banks, log };
+    run_rest(core, feeds, rest, &mut books, memory)?;
+    Ok(books.log)
 }
 
 #[test]

@@ -6,7 +6,7 @@ ghost use Rattle.edr_items.specs.SensorLists.{IsLevel};
 
 use crate::dealt_sensors::{STEADY, fired_feeds, give};
 use crate::runs::{assert_level, formatted};
-use edr_cycle::start;
+use edr_cycle::{Books, start};
 use edr_drive::beginning::{begin, ends_of};
 use edr_drive::committer::CommitterDesk;
 use edr_drive::drive_cycle;
@@ -116,10 +116,10 @@ fn assert_recorded(rt: &impl Abort, desk: &Desk, feeds: &Feeds) {
 }
 
 // Every order was committed.
-fn assert_committed(rt: &impl Abort, back: &Back, committer: &mut CommitterDesk) {
+fn assert_committed(rt: &impl Abort, back: &Back, committer: &mut CommitterDesk<Books>) {
     assert!(rt; committer.inbox.take().is_none());
     assert!(rt; back.committed.is_ok());
-    assert_eq!(rt; committer.log.acks().len(), 3);
+    assert_eq!(rt; committer.ledger.log.acks().len(), 3);
 }
 
 // A cycle up to the join of its threads, which have done all of its work.

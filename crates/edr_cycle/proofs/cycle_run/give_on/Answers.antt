@@ -11,8 +11,9 @@ use Rattle.edr_cycle.proofs.cycle_run.give_on.Goals as goal
 pub loop-tick-init : goal.loop-tick-init
 loop-tick-init g c =
     let N = g.N.Nvm in
+    let L = g.L.Ledger in
     record {
-      runs = run-begins N.content N.settled N.since N.clock N.last_good c.args.feeds.now c.args.core.now.cycle c.args.core.now.closed c.args.banks.now c.args.log.now c.args.nvm.now c.args.core.now c.args.left.now c.requires.given refl;
+      runs = run-begins N.content N.settled N.since N.clock N.last_good c.args.feeds.now c.args.core.now.cycle c.args.core.now.closed (L.banks c.args.ledger.now) (L.log c.args.ledger.now) c.args.nvm.now c.args.core.now c.args.left.now c.requires.given refl;
       size = refl;
       later = omega arith;
       device = g.met.N.Nvm.goes_on_self c.args.nvm.now;
@@ -23,23 +24,25 @@ loop-tick-init g c =
 pub commit_closed-requires-clause-room : goal.commit_closed-requires-clause-room
 commit_closed-requires-clause-room g c =
     let N = g.N.Nvm in
+    let L = g.L.Ledger in
     let n = c.args.core.now.cycle in
     let run = c.loop-tick.invariant.runs in
     let p = run.given.progress in
     let step = c.in-Closed.ensures in
-    room-left N.content N.settled N.since N.clock N.last_good c.args.feeds.now n c.args.core.now.closed c.args.banks.now c.args.log.now c.args.nvm.now c.requires.feeds c.requires.level
-    c.loop-tick.core c.loop-tick.left c.loop-tick.banks c.loop-tick.log c.loop-tick.nvm c.in-Closed.tick (commands_put c.in-Closed.issues c.close.new.issued) run
+    room-left N.content N.settled N.since N.clock N.last_good c.args.feeds.now n c.args.core.now.closed (L.banks c.args.ledger.now) (L.log c.args.ledger.now) c.args.nvm.now c.requires.feeds c.requires.level
+    c.loop-tick.core c.loop-tick.left (L.banks c.loop-tick.ledger) (L.log c.loop-tick.ledger) c.loop-tick.nvm c.in-Closed.tick (commands_put c.in-Closed.issues c.close.new.issued) run
     ((step.allowed n p run.given.core_is).0 tt) (step.commands n p run.given.core_is).0 (step.ticks n p run.given.core_is) c.requires.room
 
 pub loop-tick-smaller-in-Continue-1 : goal.loop-tick-smaller-in-Continue-1
 loop-tick-smaller-in-Continue-1 g c =
     let N = g.N.Nvm in
+    let L = g.L.Ledger in
     let n = c.args.core.now.cycle in
     let run = c.loop-tick.invariant.runs in
     let p = run.given.progress in
     let step = c.in-Closed.ensures in
     let may = (step.allowed n p run.given.core_is).0 tt in
-    let below = closes-below N.content N.settled N.since N.clock N.last_good c.args.feeds.now n c.args.core.now.closed c.args.banks.now c.args.log.now c.args.nvm.now c.requires.feeds c.requires.level c.loop-tick.core c.loop-tick.left run.given may in
+    let below = closes-below N.content N.settled N.since N.clock N.last_good c.args.feeds.now n c.args.core.now.closed (L.banks c.args.ledger.now) (L.log c.args.ledger.now) c.args.nvm.now c.requires.feeds c.requires.level c.loop-tick.core c.loop-tick.left run.given may in
     let before = run.given.core_is.closed_is in
     let after = (step.stands n p run.given.core_is).closed_is in
     omega (arith, below, before, after)
@@ -47,6 +50,7 @@ loop-tick-smaller-in-Continue-1 g c =
 pub loop-tick-preserved-in-Continue-1 : goal.loop-tick-preserved-in-Continue-1
 loop-tick-preserved-in-Continue-1 g c =
     let N = g.N.Nvm in
+    let L = g.L.Ledger in
     let n = c.args.core.now.cycle in
     let kept = c.loop-tick.invariant in
     let run = kept.runs in
@@ -55,8 +59,8 @@ loop-tick-preserved-in-Continue-1 g c =
     let cause = c.commit_closed.ensures.lent.cause.later in
     let later = kept.later in
     record {
-      runs = run-closes N.content N.settled N.since N.clock N.last_good c.args.feeds.now n c.args.core.now.closed c.args.banks.now c.args.log.now c.args.nvm.now
-          c.loop-tick.core c.close.new.self c.loop-tick.left c.loop-tick.banks c.commit_closed.new.banks c.loop-tick.log c.commit_closed.new.log c.loop-tick.nvm c.commit_closed.new.nvm c.in-Closed.tick
+      runs = run-closes N.content N.settled N.since N.clock N.last_good c.args.feeds.now n c.args.core.now.closed (L.banks c.args.ledger.now) (L.log c.args.ledger.now) c.args.nvm.now
+          c.loop-tick.core c.close.new.self c.loop-tick.left (L.banks c.loop-tick.ledger) (L.banks c.commit_closed.new.ledger) (L.log c.loop-tick.ledger) (L.log c.commit_closed.new.ledger) c.loop-tick.nvm c.commit_closed.new.nvm c.in-Closed.tick
           (commands_put c.in-Closed.issues c.close.new.issued) c.commit_closed.result _ run
           (step.stands n p run.given.core_is) ((step.allowed n p run.given.core_is).0 tt) (step.commands n p run.given.core_is).0 (step.ticks n p run.given.core_is) c.in_ok-commit_closed-in-Closed.was c.commit_closed.ensures.commits;
       size = c.commit_closed.ensures.lent.size ∙ kept.size;
@@ -70,6 +74,7 @@ returns-in_err-commit_closed-in-Closed-clause-lent g c =
     let kept = c.loop-tick.invariant in
     let end = c.commit_closed.ensures.lent in
     let N = g.N.Nvm in
+    let L = g.L.Ledger in
     let rose : Rose (N.faults c.args.nvm.now) (N.faults c.commit_closed.new.nvm) = omega (arith, kept.later, c.in_err-commit_closed-in-Closed.ensures.lent.cause.failed) in
     record {
       size = end.size ∙ kept.size;
@@ -81,12 +86,13 @@ returns-in_err-commit_closed-in-Closed-clause-lent g c =
 pub returns-in_err-commit_closed-in-Closed-clause-commits : goal.returns-in_err-commit_closed-in-Closed-clause-commits
 returns-in_err-commit_closed-in-Closed-clause-commits g c =
     let N = g.N.Nvm in
+    let L = g.L.Ledger in
     let n = c.args.core.now.cycle in
     let run = c.loop-tick.invariant.runs in
     let p = run.given.progress in
     let step = c.in-Closed.ensures in
-    run-fails N.content N.settled N.since N.clock N.last_good c.args.feeds.now n c.args.core.now.closed c.args.banks.now c.args.log.now c.args.nvm.now c.requires.feeds c.requires.level
-    c.loop-tick.core c.loop-tick.left c.loop-tick.banks c.commit_closed.new.banks c.loop-tick.log c.commit_closed.new.log c.loop-tick.nvm c.commit_closed.new.nvm c.in-Closed.tick
+    run-fails N.content N.settled N.since N.clock N.last_good c.args.feeds.now n c.args.core.now.closed (L.banks c.args.ledger.now) (L.log c.args.ledger.now) c.args.nvm.now c.requires.feeds c.requires.level
+    c.loop-tick.core c.loop-tick.left (L.banks c.loop-tick.ledger) (L.banks c.commit_closed.new.ledger) (L.log c.loop-tick.ledger) (L.log c.commit_closed.new.ledger) c.loop-tick.nvm c.commit_closed.new.nvm c.in-Closed.tick
     (commands_put c.in-Closed.issues c.close.new.issued) c.commit_closed.result c.from_residual.result _ run
     ((step.allowed n p run.given.core_is).0 tt) (step.commands n p run.given.core_is).0 (step.ticks n p run.given.core_is) c.in_err-commit_closed-in-Closed.was c.from_residual.ensures.0 c.commit_closed.ensures.commits
 
@@ -94,18 +100,20 @@ returns-in_err-commit_closed-in-Closed-clause-commits g c =
 pub returns-in_default-clause-commits : goal.returns-in_default-clause-commits
 returns-in_default-clause-commits g c =
     let N = g.N.Nvm in
+    let L = g.L.Ledger in
     let n = c.args.core.now.cycle in
     let run = c.loop-tick.invariant.runs in
-    run-over N.content N.settled N.since N.clock N.last_good c.args.feeds.now n c.args.core.now.closed c.args.banks.now c.args.log.now c.args.nvm.now c.requires.feeds c.requires.level tt
-    c.loop-tick.core c.loop-tick.left c.loop-tick.banks c.loop-tick.log c.loop-tick.nvm c.in-Waiting.sensor run (c.in-Waiting.ensures.waits n run.given.progress run.given.core_is) c.in_default.ensures.item
+    run-over N.content N.settled N.since N.clock N.last_good c.args.feeds.now n c.args.core.now.closed (L.banks c.args.ledger.now) (L.log c.args.ledger.now) c.args.nvm.now c.requires.feeds c.requires.level tt
+    c.loop-tick.core c.loop-tick.left (L.banks c.loop-tick.ledger) (L.log c.loop-tick.ledger) c.loop-tick.nvm c.in-Waiting.sensor run (c.in-Waiting.ensures.waits n run.given.progress run.given.core_is) c.in_default.ensures.item
 
 -- an item is given
 pub unwrap-requires : goal.unwrap-requires
 unwrap-requires g c =
     let N = g.N.Nvm in
+    let L = g.L.Ledger in
     let n = c.args.core.now.cycle in
     let run = c.loop-tick.invariant.runs in
-    let may = give-allowed N.content N.settled N.since N.clock N.last_good c.args.feeds.now n c.args.core.now.closed c.args.banks.now c.args.log.now c.args.nvm.now c.requires.feeds c.requires.level
+    let may = give-allowed N.content N.settled N.since N.clock N.last_good c.args.feeds.now n c.args.core.now.closed (L.banks c.args.ledger.now) (L.log c.args.ledger.now) c.args.nvm.now c.requires.feeds c.requires.level
     c.loop-tick.core c.loop-tick.left run.given c.in-Waiting.sensor c.in-Some.item _ (c.in-Waiting.ensures.waits n run.given.progress run.given.core_is) c.in-Some.ensures.item in
     (c.accept.ensures.allowed n run.given.progress (c.in-Waiting.ensures.stands n run.given.progress run.given.core_is)).1 may
 
@@ -122,16 +130,17 @@ loop-tick-smaller g c =
 pub loop-tick-preserved : goal.loop-tick-preserved
 loop-tick-preserved g c =
     let N = g.N.Nvm in
+    let L = g.L.Ledger in
     let n = c.args.core.now.cycle in
     let kept = c.loop-tick.invariant in
     let run = kept.runs in
     let p = run.given.progress in
-    let may = give-allowed N.content N.settled N.since N.clock N.last_good c.args.feeds.now n c.args.core.now.closed c.args.banks.now c.args.log.now c.args.nvm.now c.requires.feeds c.requires.level
+    let may = give-allowed N.content N.settled N.since N.clock N.last_good c.args.feeds.now n c.args.core.now.closed (L.banks c.args.ledger.now) (L.log c.args.ledger.now) c.args.nvm.now c.requires.feeds c.requires.level
     c.loop-tick.core c.loop-tick.left run.given c.in-Waiting.sensor c.in-Some.item _ (c.in-Waiting.ensures.waits n p run.given.core_is) c.in-Some.ensures.item in
     let stands = on_ok c.accept.result c.unwrap.result c.unwrap.ensures c.accept.ensures.ok n p (c.in-Waiting.ensures.stands n p run.given.core_is) in
     record {
-      runs = run-gives N.content N.settled N.since N.clock N.last_good c.args.feeds.now n c.args.core.now.closed c.args.banks.now c.args.log.now c.args.nvm.now
-          c.loop-tick.core c.accept.new.self c.loop-tick.left c.next.new.self c.loop-tick.banks c.loop-tick.log c.loop-tick.nvm c.in-Waiting.sensor c.in-Some.item run stands may c.in-Some.ensures.item c.in-Some.ensures.others;
+      runs = run-gives N.content N.settled N.since N.clock N.last_good c.args.feeds.now n c.args.core.now.closed (L.banks c.args.ledger.now) (L.log c.args.ledger.now) c.args.nvm.now
+          c.loop-tick.core c.accept.new.self c.loop-tick.left c.next.new.self (L.banks c.loop-tick.ledger) (L.log c.loop-tick.ledger) c.loop-tick.nvm c.in-Waiting.sensor c.in-Some.item run stands may c.in-Some.ensures.item c.in-Some.ensures.others;
       size = kept.size;
       later = kept.later;
       device = kept.device;

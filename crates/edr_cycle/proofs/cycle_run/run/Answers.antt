@@ -17,5 +17,6 @@ give_on-requires-clause-room g c =
 pub returns-clause-commits : goal.returns-clause-commits
 returns-clause-commits g c =
     let N = g.N.Nvm in
-    subst (λ (xs : List Issue). Commits N.content N.settled N.since N.clock N.last_good xs c.give_on.result c.args.banks.now c.give_on.new.banks c.args.log.now c.give_on.new.log c.args.nvm.now c.give_on.new.nvm)
+    let L = g.L.Ledger in
+    subst (λ (xs : List Issue). Commits N.content N.settled N.since N.clock N.last_good xs c.give_on.result (L.banks c.args.ledger.now) (L.banks c.give_on.new.ledger) (L.log c.args.ledger.now) (L.log c.give_on.new.ledger) c.args.nvm.now c.give_on.new.nvm)
     (ap (λ (t : ℕ). issues_past c.args.feeds.now c.args.core.cycle t) c.requires.begun.closed_is ∙ past-start c.args.feeds.now c.args.core.cycle) c.give_on.ensures.commits

@@ -19,8 +19,9 @@ still-open f n h core rest closed horizon at is end below = record { remains = a
 pub loop-issued-init : goal.loop-issued-init
 loop-issued-init g c =
     let N = g.N.Nvm in
+    let L = g.L.Ledger in
     record {
-      runs = rest-begins N.content N.settled N.since N.clock N.last_good c.args.feeds.now c.args.core.now.cycle c.args.core.now.closed c.args.banks.now c.args.log.now c.args.nvm.now c.args.core.now c.args.rest.now c.requires.remains refl;
+      runs = rest-begins N.content N.settled N.since N.clock N.last_good c.args.feeds.now c.args.core.now.cycle c.args.core.now.closed (L.banks c.args.ledger.now) (L.log c.args.ledger.now) c.args.nvm.now c.args.core.now c.args.rest.now c.requires.remains refl;
       size = refl;
       later = omega arith;
       device = g.met.N.Nvm.goes_on_self c.args.nvm.now;
@@ -39,6 +40,7 @@ close-requires g c =
 pub commit_closed-requires-clause-room : goal.commit_closed-requires-clause-room
 commit_closed-requires-clause-room g c =
     let N = g.N.Nvm in
+    let L = g.L.Ledger in
     let run = c.loop-issued.invariant.runs in
     let f = c.args.feeds.now in
     let n = c.args.core.now.cycle in
@@ -47,8 +49,8 @@ commit_closed-requires-clause-room g c =
     let leads = c.in-Closed.ensures.leads f n h at in
     let below = at.below in
     let next = leads.3 in
-    rest-room N.content N.settled N.since N.clock N.last_good f n c.args.core.now.closed c.args.banks.now c.args.log.now c.args.nvm.now
-    c.loop-issued.core c.loop-issued.rest c.loop-issued.banks c.loop-issued.log c.loop-issued.nvm run c.in-Closed.tick (commands_put c.in-Closed.issues c.close.new.issued) next leads.4
+    rest-room N.content N.settled N.since N.clock N.last_good f n c.args.core.now.closed (L.banks c.args.ledger.now) (L.log c.args.ledger.now) c.args.nvm.now
+    c.loop-issued.core c.loop-issued.rest (L.banks c.loop-issued.ledger) (L.log c.loop-issued.ledger) c.loop-issued.nvm run c.in-Closed.tick (commands_put c.in-Closed.issues c.close.new.issued) next leads.4
     (omega (arith, below, next)) c.requires.room
 
 pub loop-issued-smaller-in-Continue-1 : goal.loop-issued-smaller-in-Continue-1
@@ -71,6 +73,7 @@ loop-issued-smaller-in-Continue-1 g c =
 pub loop-issued-preserved-in-Continue-1 : goal.loop-issued-preserved-in-Continue-1
 loop-issued-preserved-in-Continue-1 g c =
     let N = g.N.Nvm in
+    let L = g.L.Ledger in
     let kept = c.loop-issued.invariant in
     let run = kept.runs in
     let f = c.args.feeds.now in
@@ -81,9 +84,9 @@ loop-issued-preserved-in-Continue-1 g c =
     let cause = c.commit_closed.ensures.lent.cause.later in
     let later = kept.later in
     record {
-      runs = rest-closes N.content N.settled N.since N.clock N.last_good f n c.args.core.now.closed c.args.banks.now c.args.log.now c.args.nvm.now
-          c.loop-issued.core c.loop-issued.rest c.loop-issued.banks c.loop-issued.log c.loop-issued.nvm run c.in-Closed.tick (commands_put c.in-Closed.issues c.close.new.issued) leads.3 leads.4
-          c.close.new.core c.close.new.rest c.commit_closed.new.banks c.commit_closed.new.log c.commit_closed.new.nvm c.commit_closed.result _ leads.0 leads.1 leads.2 c.in_ok-commit_closed-in-Closed.was c.commit_closed.ensures.commits;
+      runs = rest-closes N.content N.settled N.since N.clock N.last_good f n c.args.core.now.closed (L.banks c.args.ledger.now) (L.log c.args.ledger.now) c.args.nvm.now
+          c.loop-issued.core c.loop-issued.rest (L.banks c.loop-issued.ledger) (L.log c.loop-issued.ledger) c.loop-issued.nvm run c.in-Closed.tick (commands_put c.in-Closed.issues c.close.new.issued) leads.3 leads.4
+          c.close.new.core c.close.new.rest (L.banks c.commit_closed.new.ledger) (L.log c.commit_closed.new.ledger) c.commit_closed.new.nvm c.commit_closed.result _ leads.0 leads.1 leads.2 c.in_ok-commit_closed-in-Closed.was c.commit_closed.ensures.commits;
       size = c.commit_closed.ensures.lent.size ∙ kept.size;
       later = omega (arith, cause, later);
       device = g.met.N.Nvm.goes_on_again c.args.nvm.now c.loop-issued.nvm c.commit_closed.new.nvm kept.device c.commit_closed.ensures.lent.device;
@@ -95,6 +98,7 @@ returns-in_err-commit_closed-in-Closed-clause-lent g c =
     let kept = c.loop-issued.invariant in
     let end = c.commit_closed.ensures.lent in
     let N = g.N.Nvm in
+    let L = g.L.Ledger in
     let rose : Rose (N.faults c.args.nvm.now) (N.faults c.commit_closed.new.nvm) = omega (arith, kept.later, c.in_err-commit_closed-in-Closed.ensures.lent.cause.failed) in
     record {
       size = end.size ∙ kept.size;
@@ -106,6 +110,7 @@ returns-in_err-commit_closed-in-Closed-clause-lent g c =
 pub returns-in_err-commit_closed-in-Closed-clause-commits : goal.returns-in_err-commit_closed-in-Closed-clause-commits
 returns-in_err-commit_closed-in-Closed-clause-commits g c =
     let N = g.N.Nvm in
+    let L = g.L.Ledger in
     let run = c.loop-issued.invariant.runs in
     let f = c.args.feeds.now in
     let n = c.args.core.now.cycle in
@@ -114,9 +119,9 @@ returns-in_err-commit_closed-in-Closed-clause-commits g c =
     let leads = c.in-Closed.ensures.leads f n h at in
     let below = at.below in
     let next = leads.3 in
-    rest-fails N.content N.settled N.since N.clock N.last_good f n c.args.core.now.closed c.args.banks.now c.args.log.now c.args.nvm.now
-    c.loop-issued.core c.loop-issued.rest c.loop-issued.banks c.loop-issued.log c.loop-issued.nvm run c.in-Closed.tick (commands_put c.in-Closed.issues c.close.new.issued) next leads.4
-    c.commit_closed.new.banks c.commit_closed.new.log c.commit_closed.new.nvm c.commit_closed.result c.from_residual.result _ (omega (arith, below, next)) c.in_err-commit_closed-in-Closed.was c.from_residual.ensures.0 c.commit_closed.ensures.commits
+    rest-fails N.content N.settled N.since N.clock N.last_good f n c.args.core.now.closed (L.banks c.args.ledger.now) (L.log c.args.ledger.now) c.args.nvm.now
+    c.loop-issued.core c.loop-issued.rest (L.banks c.loop-issued.ledger) (L.log c.loop-issued.ledger) c.loop-issued.nvm run c.in-Closed.tick (commands_put c.in-Closed.issues c.close.new.issued) next leads.4
+    (L.banks c.commit_closed.new.ledger) (L.log c.commit_closed.new.ledger) c.commit_closed.new.nvm c.commit_closed.result c.from_residual.result _ (omega (arith, below, next)) c.in_err-commit_closed-in-Closed.was c.from_residual.ensures.0 c.commit_closed.ensures.commits
 
 -- an item is given
 pub give-requires : goal.give-requires
@@ -149,6 +154,7 @@ loop-issued-smaller g c =
 pub loop-issued-preserved : goal.loop-issued-preserved
 loop-issued-preserved g c =
     let N = g.N.Nvm in
+    let L = g.L.Ledger in
     let kept = c.loop-issued.invariant in
     let run = kept.runs in
     let f = c.args.feeds.now in
@@ -158,8 +164,8 @@ loop-issued-preserved g c =
     let leads = c.in-Waiting.ensures.leads f n h at in
     let went = c.give.ensures.goes f n leads.0 leads.2 in
     record {
-      runs = rest-goes N.content N.settled N.since N.clock N.last_good f n c.args.core.now.closed c.args.banks.now c.args.log.now c.args.nvm.now
-          c.loop-issued.core c.give.new.core c.loop-issued.rest c.give.new.rest c.loop-issued.banks c.loop-issued.log c.loop-issued.nvm run went.0 (went.2.closed ∙ leads.1) went.1;
+      runs = rest-goes N.content N.settled N.since N.clock N.last_good f n c.args.core.now.closed (L.banks c.args.ledger.now) (L.log c.args.ledger.now) c.args.nvm.now
+          c.loop-issued.core c.give.new.core c.loop-issued.rest c.give.new.rest (L.banks c.loop-issued.ledger) (L.log c.loop-issued.ledger) c.loop-issued.nvm run went.0 (went.2.closed ∙ leads.1) went.1;
       size = kept.size;
       later = kept.later;
       device = kept.device;
@@ -170,9 +176,10 @@ loop-issued-preserved g c =
 pub returns-clause-commits : goal.returns-clause-commits
 returns-clause-commits g c =
     let N = g.N.Nvm in
+    let L = g.L.Ledger in
     let run = c.loop-issued.invariant.runs in
     let is = c.closed.ensures run.history run.remains.core_is in
     let end = c.horizon-horizon.ensures in
     let past = c.loop-issued-test.false in
-    rest-over N.content N.settled N.since N.clock N.last_good c.args.feeds.now c.args.core.now.cycle c.args.core.now.closed c.args.banks.now c.args.log.now c.args.nvm.now tt
-    c.loop-issued.core c.loop-issued.rest c.loop-issued.banks c.loop-issued.log c.loop-issued.nvm run (omega (arith, is, end, past))
+    rest-over N.content N.settled N.since N.clock N.last_good c.args.feeds.now c.args.core.now.cycle c.args.core.now.closed (L.banks c.args.ledger.now) (L.log c.args.ledger.now) c.args.nvm.now tt
+    c.loop-issued.core c.loop-issued.rest (L.banks c.loop-issued.ledger) (L.log c.loop-issued.ledger) c.loop-issued.nvm run (omega (arith, is, end, past))

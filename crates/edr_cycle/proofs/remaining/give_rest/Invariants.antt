@@ -7,8 +7,9 @@ use Rattle.edr_cycle.proofs.remaining.give_rest.Given as goal
 abbrev pub invariant-loop-issued : goal.invariant-loop-issued
 invariant-loop-issued g l =
     let N = g.N.Nvm in
+    let L = g.L.Ledger in
     record {
-      runs : RunsRest N.content N.settled N.since N.clock N.last_good l.feeds l.fn.core.cycle l.fn.core.closed l.core l.rest l.fn.banks l.banks l.fn.log l.log l.fn.nvm l.nvm;
+      runs : RunsRest N.content N.settled N.since N.clock N.last_good l.feeds l.fn.core.cycle l.fn.core.closed l.core l.rest (L.banks l.fn.ledger) (L.banks l.ledger) (L.log l.fn.ledger) (L.log l.ledger) l.fn.nvm l.nvm;
       size : N.extent l.nvm ≡ N.extent l.fn.nvm;
       later : N.faults l.fn.nvm ≤ N.faults l.nvm;
       device : N.goes_on l.fn.nvm l.nvm;

@@ -7,7 +7,8 @@ use Rattle.edr_drive.proofs.threads.record_and_commit.Goals as goal
 pub returns-in-Err-clause-commits : goal.returns-in-Err-clause-commits
 returns-in-Err-clause-commits g c =
     let N = g.N.Nvm in
-    none-committed N.content N.settled N.since N.clock N.last_good (orders_taken c.args.committer.now.inbox) c.args.committer.now.banks c.args.committer.now.log c.args.nvm.now c.requires.awaits.fresh
+    let L = g.L.Ledger in
+    none-committed N.content N.settled N.since N.clock N.last_good (orders_taken c.args.committer.now.inbox) (L.banks c.args.committer.now.ledger) (L.log c.args.committer.now.ledger) c.args.nvm.now c.requires.awaits.fresh
 
 pub returns-in-Err-clause-lent : goal.returns-in-Err-clause-lent
 returns-in-Err-clause-lent g c = record {

@@ -6,14 +6,14 @@ use Rattle.edr_banks.specs.Opened.{OpenedBanks, state_of}
 use Rattle.edr_definitions.specs.Commands.{issue_at}
 use Rattle.edr_cycle.proofs.AppliedLemmas.{pass_keeps, pass_says, stopped_cuts, taken_says}
 use Rattle.edr_cycle.proofs.CommittedLemmas.{one_applied, one_failed}
-use Rattle.edr_cycle.proofs.commits.commit.Goals as goal
+use Rattle.edr_cycle.proofs.ledger.BooksLedger.commit.Goals as goal
 
 pub returns-in-Ok-clause-commits : goal.returns-in-Ok-clause-commits
 returns-in-Ok-clause-commits g c =
     let N = g.N.Nvm in
     let a = c.in-Ok.ensures in
-    let b = c.args.banks.now in
-    let l = c.args.log.now in
+    let b = c.args.self.now.banks in
+    let l = c.args.self.now.log in
     let i = issue_at c.args.tick c.args.command.now in
     let r = reply_to (state_of b) c.args.command.now in
     let d = c.args.nvm.now in
@@ -32,12 +32,12 @@ pub returns-in-Err-clause-commits : goal.returns-in-Err-clause-commits
 returns-in-Err-clause-commits g c =
     let N = g.N.Nvm in
     let a = c.in-Err.ensures in
-    let b = c.args.banks.now in
+    let b = c.args.self.now.banks in
     let i = issue_at c.args.tick c.args.command.now in
     let r = reply_to (state_of b) c.args.command.now in
     let d = c.args.nvm.now in
     let d' = c.apply.new.nvm in
-    one_failed N.content N.settled N.since N.clock N.last_good _ i b c.apply.new.self c.args.log.now d d'
+    one_failed N.content N.settled N.since N.clock N.last_good _ i b c.apply.new.self c.args.self.now.log d d'
     (makes_err (all_calls r.steps) _ _ _ _ c.in-Err.field-0 _ (a.time c.requires.live))
     (stopped_cuts N.content N.settled N.since N.clock N.last_good r.steps b.store a.may d d' (a.stopped c.requires.live))
     (pass_says N.content N.settled N.since N.clock N.last_good r.steps b.store a.may d d' a.any_moment)
