@@ -95,11 +95,12 @@ not_short (Err e) a b extent h = λ size needed told. absurd (different size nee
   different size needed e = cc
 
 -- faults that rose in the commands rose in the whole cycle
+pub rose_again : (a b c : ℕ) → a ≤ b → Rose b c → Rose a c
+rose_again a b c le rose = grind (arith, le, rose)
+
 pub rose_later : (r : Result CycleReport StartFault) (a b c : ℕ) → a ≤ b → IfErr r (λ e. (e ≡ fault.StoreFault) × Rose b c) → IfErr r (λ e. IsDeviceFault e → Rose a c)
 rose_later (Ok x) a b c le h = h
-rose_later (Err e) a b c le h = λ f. rose_again a b c le h.1 where
-  rose_again : (a b c : ℕ) → a ≤ b → Rose b c → Rose a c
-  rose_again a b c le rose = grind (arith, le, rose)
+rose_later (Err e) a b c le h = λ f. rose_again a b c le h.1
 
 -- ---- want of memory tells nothing
 

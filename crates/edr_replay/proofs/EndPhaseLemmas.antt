@@ -4,7 +4,8 @@ use Rattle.edr_items.specs.SensorLists.{AreFeeds, SensorLists}
 use Rattle.edr_device.specs.Device.{Cycled, MayLeave, StillTells}
 use Rattle.edr_device.specs.Faults.{Rose, last_number}
 use Rattle.edr_device.specs.FuseLaws.{fuse_counts_now}
-use Rattle.edr_device.specs.FuseState.{FuseGoesOn, fuse_state, fused_content, fused_settled, fused_since, new_fuse}
+use Rattle.edr_device.specs.FuseState.{FuseGoesOn, armed_for, fuse_state, fused_content, fused_extent, fused_settled, fused_since, new_fuse}
+use Rattle.edr_device.specs.Lent.{GoesOn}
 use Rattle.edr_device.specs.declared.device.Nvm.{Ghosts}
 use Rattle.edr_device.specs.declared.fused.Fused.{Fused}
 use Rattle.edr_image.specs.declared.Ack.{Ack}
@@ -18,6 +19,7 @@ use Rattle.edr_cycle.specs.declared.started.StartFault.TheVariants as fault
 use Rattle.edr_cycle.specs.Ends.{MeetsCycle}
 use Rattle.edr_replay.specs.Past.{LeavesPastOf}
 use Rattle.edr_replay.specs.Phases.{LeavesOfRun, RunsFrom}
+use Rattle.edr_replay.proofs.CycleLemmas.{rose_again}
 use Rattle.edr_replay.proofs.FewCallLemmas.{calls_few}
 use Rattle.edr_replay.proofs.LeavingLemmas.{leaves_cut, leaves_whole}
 use Rattle.edr_replay.proofs.PastLemmas.{comes_leaves, past_fewer, stays_leaves}
@@ -29,6 +31,7 @@ pub record RanFused {D : Type 0} {g : Ghosts D} (f : SensorLists) (stop number :
   pub feeds : AreFeeds f
   pub planned : IsPlanned stop (fuse_state fuse) (g.faults armed.nvm.now) (g.faults fuse.nvm.now)
   pub begins : armed.ticks ≡ 0
+  pub size : fused_extent fuse ≡ fused_extent armed
   pub device : FuseGoesOn armed fuse
   pub tells : StillTells (fused_content armed) (fused_content fuse)
   pub cycle : MeetsCycle {D = Fused D g} fused_content fused_settled fused_since (λ x. x.ticks) (λ x. x.last_good) f number store failed acks armed fuse
@@ -38,6 +41,7 @@ pub record RanFused {D : Type 0} {g : Ghosts D} (f : SensorLists) (stop number :
 
 -- what ended them
 pub record EndsRun {D : Type 0} (g : Ghosts D) (stop number : ℕ) (failed cut : Bool) (acks : List Ack) (r : Result CycleReport StartFault) (mid new : D) : Type 0 where
+  pub lent : GoesOn g mid new
   pub off : failed ≡ false → Cycled r (g.content mid) (g.settled mid) (g.since mid) (g.content new) (g.settled new) (g.since new)
   pub fault : IfErr r (λ e. (e ≡ fault.StoreFault) × (failed ≡ false → Rose (g.faults mid) (g.faults new)))
   pub stays : failed ≡ true → new ≡ mid
@@ -45,17 +49,17 @@ pub record EndsRun {D : Type 0} (g : Ghosts D) (stop number : ℕ) (failed cut :
   pub stopped : IfOk r (λ report. failed ≡ true → (cut ≡ true) × (report_of report ≡ Ran number (Some stop) acks))
   pub unplanned : OnErr r (failed ≡ true → cut ≡ false)
 
--- the commands over a fuse that was new when it was armed
-pub ran_fused : {D : Type 0} {g : Ghosts D} (f : SensorLists) (stop number : ℕ) (store : Store) (failed cut : Bool) (acks : List Ack) (first armed fuse : Fused D g)
-    → AreFeeds f → fuse_state first ≡ new_fuse → fuse_state armed ≡ record (fuse_state first) { armed = stop; armed_at = first.ticks }
-    → FuseGoesOn armed fuse → StillTells (fused_content armed) (fused_content fuse)
+-- the commands over a fuse that was made for that stop
+pub ran_fused : {D : Type 0} {g : Ghosts D} (f : SensorLists) (stop number : ℕ) (store : Store) (failed cut : Bool) (acks : List Ack) (armed fuse : Fused D g)
+    → AreFeeds f → fuse_state armed ≡ armed_for stop new_fuse → fused_extent fuse ≡ fused_extent armed → FuseGoesOn armed fuse → StillTells (fused_content armed) (fused_content fuse)
     → MeetsCycle {D = Fused D g} fused_content fused_settled fused_since (λ x. x.ticks) (λ x. x.last_good) f number store failed acks armed fuse
     → (failed ≡ true → Rose armed.faults fuse.faults) → (cut ≡ true → (fuse.spent ≡ true) × (fuse.broken ≡ false)) → (cut ≡ false → fuse.spent ≡ true → fuse.broken ≡ true)
     → RanFused f stop number store failed cut acks armed fuse
-ran_fused f stop number store failed cut acks first armed fuse feeds new arm device tells cycle cause is_cut not_cut = record {
+ran_fused f stop number store failed cut acks armed fuse feeds arm size device tells cycle cause is_cut not_cut = record {
   feeds = feeds;
-  planned = fuse_planned stop first armed fuse new arm device;
-  begins = fuse_begins stop first armed new arm;
+  planned = fuse_planned stop armed fuse arm device;
+  begins = fuse_begins stop armed arm;
+  size = size;
   device = device;
   tells = tells;
   cycle = cycle;
@@ -63,6 +67,11 @@ ran_fused f stop number store failed cut acks first armed fuse feeds new arm dev
   is_cut = is_cut;
   not_cut = not_cut;
 }
+
+-- the device inside went on
+pub fused_lent : {D : Type 0} {g : Ghosts D} (f : SensorLists) (stop number : ℕ) (store : Store) (failed cut : Bool) (acks : List Ack) (armed fuse : Fused D g)
+    → RanFused f stop number store failed cut acks armed fuse → GoesOn g armed.nvm.now fuse.nvm.now
+fused_lent f stop number store failed cut acks armed fuse run = record { size = run.size; device = run.device.inside; tells = run.tells; later = run.device.breaks.later }
 
 -- what ended them, of the device that was lent, and by the number that was told
 pub ended : {D : Type 0} (g : Ghosts D) (stop number told : ℕ) (failed cut : Bool) (acks : List Ack) (r : Result CycleReport StartFault) (mid now new : D) → mid ≡ now → told ≡ number
@@ -112,9 +121,7 @@ pub fused_fault : {D : Type 0} {g : Ghosts D} (f : SensorLists) (stop number : �
     → IfErr r (λ e. (e ≡ fault.StoreFault) × Rose (g.faults armed.nvm.now) (g.faults new))
 fused_fault f stop number store failed cut acks armed fuse new (Ok report) run ends = tt
 fused_fault {g = g} f stop number store false cut acks armed fuse new (Err e) run ends =
-    (ends.fault.0, rose_again (g.faults armed.nvm.now) (g.faults fuse.nvm.now) (g.faults new) run.device.breaks.later (ends.fault.1 refl)) where
-      rose_again : (a b c : ℕ) → a ≤ b → Rose b c → Rose a c
-      rose_again a b c le rose = grind (arith, le, rose)
+    (ends.fault.0, rose_again (g.faults armed.nvm.now) (g.faults fuse.nvm.now) (g.faults new) run.device.breaks.later (ends.fault.1 refl))
 fused_fault {g = g} f stop number store true cut acks armed fuse new (Err e) run ends =
     let few = calls_few f number store run.feeds in
     let begins = run.begins in

@@ -21,7 +21,7 @@ use Rattle.edr_cycle.specs.Ends.{ComesTo, cycle_with}
 use Rattle.edr_gates.specs.Found.{Holds, IsFound}
 use Rattle.edr_cycle.specs.Starts.{IsEarly, HasOpened}
 use Rattle.edr_replay.specs.Reached.{IsStopIn, in_start_counted, in_commands, IsLeftOfCycle, untouched, ended, stopped, RanFirst, IsReached, between, inside}
-use Rattle.edr_replay.specs.Replayed.{EndsShort, HasRun, IsLeftAlone, IsMemory, LeavesPart, LeavesReached}
+use Rattle.edr_replay.specs.Replayed.{EndsShort, HasRun, IsMemory, LeavesPart, LeavesReached, Leaving, LeftAlone, WantLeaves}
 use Rattle.edr_replay.specs.Phases.{LeavesOfRun, LeavesOfStart}
 use Rattle.edr_replay.proofs.RunLemmas.{extended, run_more}
 use Rattle.edr_replay.proofs.RunPhaseLemmas.{whole_with}
@@ -55,8 +55,8 @@ memory_early fault.StoreFault is = absurd is
 memory_early fault.OutOfMemory is = tt
 
 pub left_alone : (e : StartFault) (content : Option (List ℕ)) (settled : ℕ → Bool) (content' : Option (List ℕ)) (settled' : ℕ → Bool) (past since : ℕ → List ℕ → Type 0)
-    → (IsEarly e → Stays content settled past content' settled' since) → IsLeftAlone content settled content' settled' e
-unfolding IsLeftAlone
+    → (IsEarly e → Stays content settled past content' settled' since) → WantLeaves LeftAlone content settled content' settled' e
+unfolding WantLeaves
 left_alone e content settled content' settled' past since early = λ memory v n h.
     let stays = early (memory_early e memory) in record { bytes = h.bytes; found = record { quiet = (stays.same_content ∙ h.found.quiet.0, λ i. stays.same_settled i ∙ h.found.quiet.1 i); view_is = h.found.view_is } }
 
@@ -129,12 +129,28 @@ part_of_run c number store content settled content' settled' content'' settled''
     l.1 in
     (record { store = l.0.store; count = l.0.count }, l.2, subst (λ (w : Store). IsLeftOfCycle c w n l.0.store l.0.count) f.1 part)
 
+-- where nothing was done
+pub part_none : (c : CycleInput) (content : Option (List ℕ)) (settled : ℕ → Bool) → LeavesPart c content settled content settled
+unfolding LeavesPart
+part_none c content settled = λ v n h image may.
+    let same = quiet_leaves h.bytes content settled image h.found.quiet may in
+    (record { store = v; count = n }, ap view_of same ∙ h.found.view_is, untouched refl refl)
+
+-- where no command was done, what is left is what a start leaves that is stopped in call 6
+pub part_counted : (c : CycleInput) (content : Option (List ℕ)) (settled : ℕ → Bool) (content' : Option (List ℕ)) (settled' : ℕ → Bool)
+    → ((v : Store) (n : ℕ) → Holds content settled v n → (n < last_count) × Holds content' settled' v (n + 1)) → LeavesPart c content settled content' settled'
+unfolding LeavesPart
+part_counted c content settled content' settled' began = λ v n h image may.
+    let f = began v n h in
+    let same = quiet_leaves f.1.bytes content' settled' image f.1.found.quiet may in
+    (record { store = v; count = n + 1 }, ap view_of same ∙ f.1.found.view_is, stopped (start_end 6 v (n + 1)) f.0 (in_start_counted 6 (omega arith) (omega arith) refl) refl refl)
+
 -- commands that fail tell no want of memory
-pub not_memory : (r : Result CycleReport StartFault) (a b : ℕ) (content : Option (List ℕ)) (settled : ℕ → Bool) (content' : Option (List ℕ)) (settled' : ℕ → Bool)
-    → IfErr r (λ e. (e ≡ fault.StoreFault) × Rose a b) → IfErr r (IsLeftAlone content settled content' settled')
-unfolding IsLeftAlone
-not_memory (Ok x) a b content settled content' settled' h = h
-not_memory (Err e) a b content settled content' settled' h = λ memory. absurd (subst IsMemory h.0 memory)
+pub not_memory : (left : Leaving) (r : Result CycleReport StartFault) (a b : ℕ) (content : Option (List ℕ)) (settled : ℕ → Bool) (content' : Option (List ℕ)) (settled' : ℕ → Bool)
+    → IfErr r (λ e. (e ≡ fault.StoreFault) × Rose a b) → IfErr r (WantLeaves left content settled content' settled')
+unfolding WantLeaves
+not_memory left (Ok x) a b content settled content' settled' h = h
+not_memory left (Err e) a b content settled content' settled' h = λ memory. absurd (subst IsMemory h.0 memory)
 
 -- ---- all cycles
 
@@ -170,8 +186,8 @@ reached_more cs k c content settled content' settled' content'' settled'' report
     (l.0, l.1, part_reached cs k c v n r.0 l.0.store l.0.count below is r.1 l.2)
 
 pub short_more : (cs : List CycleInput) (k : ℕ) (content : Option (List ℕ)) (settled : ℕ → Bool) (content' : Option (List ℕ)) (settled' : ℕ → Bool) (content'' : Option (List ℕ)) (settled'' : ℕ → Bool) (reports : List CycleReport) (e : StartFault)
-    → HasRun (take k cs) content settled content' settled' reports → k < length cs → IsLeftAlone content' settled' content'' settled'' e → EndsShort cs content settled content'' settled'' e
-unfolding HasRun IsLeftAlone EndsShort
+    → HasRun (take k cs) content settled content' settled' reports → k < length cs → WantLeaves LeftAlone content' settled' content'' settled'' e → EndsShort cs content settled content'' settled'' e
+unfolding HasRun WantLeaves EndsShort
 short_more cs k content settled content' settled' content'' settled'' reports e has below alone = λ memory v n h.
     let r = has v n h in
     (k, r.0, record { within = omega (arith, below); run = r.1 }, alone memory r.0.store r.0.count r.3)

@@ -8,5 +8,6 @@ pub mod CycleLemmas
 pub mod RunningLemmas
 pub mod LeavingLemmas
 pub mod EndPhaseLemmas
+pub mod WholeCycleLemmas
 pub mod DrivenLemmas
 pub mod ReachedLaws

@@ -2,7 +2,7 @@
 use Rattle.std.proofs.Common.{◌≡◌, ◌⊎◌, ◌≤◌, ◌<◌, ◌+◌, ◌∙◌, ℕ, zero, suc, Bool, true, false, List, Option, Some, None, refl, sym, ap, subst, inl, inr, ⊎_elim, arith}
 use Rattle.edr_device.specs.Device.{Agrees, MayLeave, StillTells}
 use Rattle.edr_device.specs.Faults.{Rose, last_number}
-use Rattle.edr_device.specs.FuseState.{FuseGoesOn, FuseState, fuse_state, new_fuse}
+use Rattle.edr_device.specs.FuseState.{FuseGoesOn, FuseState, armed_for, fuse_state, new_fuse}
 use Rattle.edr_device.specs.declared.device.Nvm.{Ghosts}
 use Rattle.edr_device.specs.declared.fused.Fused.{Fused}
 
@@ -37,25 +37,23 @@ pub record IsPlanned (stop : ℕ) (s : FuseState) (before now : ℕ) : Type 0 wh
   pub breaks : s.broken ≡ true → Rose before now
 
 -- so is a fuse at any later moment
-pub fuse_planned : {D : Type 0} {g : Ghosts D} (stop : ℕ) (first armed later : Fused D g)
-    → fuse_state first ≡ new_fuse → fuse_state armed ≡ record (fuse_state first) { armed = stop; armed_at = first.ticks }
-    → FuseGoesOn armed later → IsPlanned stop (fuse_state later) (g.faults armed.nvm.now) (g.faults later.nvm.now)
-fuse_planned {g = g} stop first armed later new arm on = record {
+pub fuse_planned : {D : Type 0} {g : Ghosts D} (stop : ℕ) (armed later : Fused D g) → fuse_state armed ≡ armed_for stop new_fuse → FuseGoesOn armed later
+    → IsPlanned stop (fuse_state later) (g.faults armed.nvm.now) (g.faults later.nvm.now)
+fuse_planned {g = g} stop armed later arm on = record {
   armed = on.armed ∙ ap (λ (s : FuseState). s.armed) arm;
-  armed_at = on.armed_at ∙ ap (λ (s : FuseState). s.armed_at) arm ∙ ap (λ (s : FuseState). s.ticks) new;
-  calm = on.calm ∙ ap (λ (s : FuseState). s.calm) arm ∙ ap (λ (s : FuseState). s.calm) new;
+  armed_at = on.armed_at ∙ ap (λ (s : FuseState). s.armed_at) arm;
+  calm = on.calm ∙ ap (λ (s : FuseState). s.calm) arm;
   waits = later.waits;
   after_cut = later.after_cut;
   good_before = later.good_before;
   planned = later.planned;
   blameless = later.blameless;
-  breaks = on.breaks.cause (ap (λ (s : FuseState). s.broken) arm ∙ ap (λ (s : FuseState). s.broken) new);
+  breaks = on.breaks.cause (ap (λ (s : FuseState). s.broken) arm);
 }
 
 -- its clock began with the plan
-pub fuse_begins : {D : Type 0} {g : Ghosts D} (stop : ℕ) (first armed : Fused D g)
-    → fuse_state first ≡ new_fuse → fuse_state armed ≡ record (fuse_state first) { armed = stop; armed_at = first.ticks } → armed.ticks ≡ 0
-fuse_begins stop first armed new arm = ap (λ (s : FuseState). s.ticks) arm ∙ ap (λ (s : FuseState). s.ticks) new
+pub fuse_begins : {D : Type 0} {g : Ghosts D} (stop : ℕ) (armed : Fused D g) → fuse_state armed ≡ armed_for stop new_fuse → armed.ticks ≡ 0
+fuse_begins stop armed arm = ap (λ (s : FuseState). s.ticks) arm
 
 -- where nothing follows the call that failed, a fuse that stopped did so in that call
 pub stop_is : (stop : ℕ) (s : FuseState) (before now : ℕ) → IsPlanned stop s before now → s.spent ≡ true → (s.ticks ≡ 1) ⊎ (s.ticks ≡ s.last_good + 1) → s.ticks ≡ stop

@@ -13,7 +13,7 @@ use Rattle.edr_cycle.specs.declared.started.StartFault.{StartFault}
 use Rattle.edr_replay.specs.declared.phases.StartedCycle.{StartedCycle}
 use Rattle.edr_replay.specs.declared.phases.StartedCycle.TheVariants.{Started, Stopped}
 use Rattle.edr_replay.specs.Reached.{IsStopIn}
-use Rattle.edr_replay.specs.Replayed.{RunsTo, IsLeftAlone, IsTrulySpent}
+use Rattle.edr_replay.specs.Replayed.{LeftAlone, RunsTo, IsTrulySpent, WantLeaves}
 use Rattle.edr_gates.specs.Found.{Holds, Says}
 
 -- a start with this planned stop, 0 for none, was done, with the banks as before and one more on the count; or it was stopped,
@@ -53,4 +53,4 @@ LeavesOfRun f stop number store content settled content' settled' =
 
 abbrev pub StartsUntil : {D : Type 0} → Ghosts D → ℕ → ℕ → D → D → Result StartedCycle StartFault → Type 0
 StartsUntil g stop ticks old new result =
-    RunsTo g (λ content settled content' settled' s. BeginsAs s stop ticks (g.extent old) content settled content' settled') IsTrulySpent IsLeftAlone LeavesOfStart old new result
+    RunsTo g (λ content settled content' settled' s. BeginsAs s stop ticks (g.extent old) content settled content' settled') IsTrulySpent (WantLeaves LeftAlone) LeavesOfStart old new result

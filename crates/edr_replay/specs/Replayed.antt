@@ -86,10 +86,6 @@ IsMemory fault.Spent = ⊥
 IsMemory fault.StoreFault = ⊥
 IsMemory fault.OutOfMemory = Unit {0}
 
--- want of memory before a cycle leaves what was held
-unfoldable pub IsLeftAlone : Option (List ℕ) → (ℕ → Bool) → Option (List ℕ) → (ℕ → Bool) → StartFault → Type 0
-IsLeftAlone content settled content' settled' e = IsMemory e → (v : Store) (n : ℕ) → Holds content settled v n → Holds content' settled' v n
-
 -- want of memory leaves what some first cycles came to
 unfoldable pub EndsShort : List CycleInput → Option (List ℕ) → (ℕ → Bool) → Option (List ℕ) → (ℕ → Bool) → StartFault → Type 0
 EndsShort cs content settled content' settled' e =
@@ -98,20 +94,11 @@ EndsShort cs content settled content' settled' e =
 
 -- ---- a run by threads, which takes memory behind a start too
 
--- want of memory leaves what was held, or that with one more on the count
-unfoldable pub IsLeftOrCounted : Option (List ℕ) → (ℕ → Bool) → Option (List ℕ) → (ℕ → Bool) → StartFault → Type 0
-IsLeftOrCounted content settled content' settled' e =
-    IsMemory e → (v : Store) (n : ℕ) → Holds content settled v n → Holds content' settled' v n ⊎ ((n < last_count) × Holds content' settled' v (n + 1))
-
 -- want of memory leaves what some first cycles came to, or these and the start of the next one
 unfoldable pub EndsCutShort : List CycleInput → Option (List ℕ) → (ℕ → Bool) → Option (List ℕ) → (ℕ → Bool) → StartFault → Type 0
 EndsCutShort cs content settled content' settled' e =
     IsMemory e → (v : Store) (n : ℕ) → Holds content settled v n
     → (w : Store) × (m : ℕ) × IsCutShort cs v n w m × Holds content' settled' w m
-
--- commands by threads end early for want of memory, or by a fault that the device counted
-abbrev pub IsDrivenFault : ℕ → ℕ → StartFault → Type 0
-IsDrivenFault before now e = (e ≡ fault.OutOfMemory) ⊎ ((e ≡ fault.StoreFault) × Rose before now)
 
 -- ---- the outcome of a run, in one record
 
@@ -132,12 +119,24 @@ pub record RunsTo {R D : Type 0} (g : Ghosts D) (Ran : ByAnswer R) (Spent Memory
   pub left : IfErr result (λ _. Between g Leaves old new)
   pub past : Between g LeavesPast old new
 
--- one cycle, on one thread and by threads
-abbrev pub RunsCycle : {D : Type 0} → Ghosts D → CycleInput → D → D → Result CycleReport StartFault → Type 0
-RunsCycle g c old new result = RunsTo g (HasRunCycle c) IsTrulySpent IsLeftAlone (LeavesPart c) old new result
+-- what is left of banks v with the count n
+abbrev pub Leaving : Type 1
+Leaving = Store → ℕ → Option (List ℕ) → (ℕ → Bool) → Type 0
 
-abbrev pub DrivesCycle : {D : Type 0} → Ghosts D → CycleInput → D → D → Result CycleReport StartFault → Type 0
-DrivesCycle g c old new result = RunsTo g (HasRunCycle c) IsTrulySpent IsLeftOrCounted (LeavesPart c) old new result
+-- they are left as they were; threads take memory after a start too, which may have counted one more
+abbrev pub LeftAlone : Leaving
+LeftAlone v n content settled = Holds content settled v n
+
+abbrev pub LeftOrCounted : Leaving
+LeftOrCounted v n content settled = Holds content settled v n ⊎ ((n < last_count) × Holds content settled v (n + 1))
+
+-- want of memory leaves this of what was held
+unfoldable pub WantLeaves : Leaving → ByAnswer StartFault
+WantLeaves left content settled content' settled' e = IsMemory e → (v : Store) (n : ℕ) → Holds content settled v n → left v n content' settled'
+
+-- one cycle, in a way of which want of memory leaves this
+abbrev pub RunsCycle : {D : Type 0} → Ghosts D → Leaving → CycleInput → D → D → Result CycleReport StartFault → Type 0
+RunsCycle g left c old new result = RunsTo g (HasRunCycle c) IsTrulySpent (WantLeaves left) (LeavesPart c) old new result
 
 -- these cycles
 abbrev pub HaveRun : List CycleInput → ByAnswer (Vec CycleReport Global)

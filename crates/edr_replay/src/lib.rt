@@ -8,15 +8,16 @@ mod phases;
 
 ghost use Rattle.std.specs.Prelude.{All};
 ghost use Rattle.edr_spell.specs.Spell.{IsCycleInput as IsSpelled};
-ghost use Rattle.edr_replay.specs.Replayed.{Replays, RunsCycle};
+ghost use Rattle.edr_replay.specs.Replayed.{LeftAlone, Replays, RunsCycle};
 
 pub use driven::replay_driven;
 pub use edr_cycle::StartFault;
+use edr_cycle::run_alone;
 use edr_device::Nvm;
 pub use edr_drive::Gate;
 use edr_image::CycleReport;
 use edr_spell::CycleInput;
-use phases::{StartedCycle, run_until, start_until};
+use phases::{StartedCycle, end_run, fused, start_until, was_cut};
 use std::alloc::Global;
 
 /// Runs one cycle: its start and its commands, each up to its planned stop, and then the power goes off.
@@ -28,13 +29,18 @@ fn run_cycle<N: Nvm>(
     cycle: &CycleInput,
 ) -> Result<CycleReport, StartFault>
     requires { IsSpelled cycle.now }
-    ensures { RunsCycle N.Nvm cycle.now nvm.old nvm.new result }
+    ensures { RunsCycle N.Nvm LeftAlone cycle.now nvm.old nvm.new result }
 {
     match start_until(alloc, nvm, cycle.start_stop, cycle.feeds.horizon())? {
         StartedCycle::Stopped => Ok(CycleReport::StartStopped {
             call: cycle.start_stop,
         }),
-        StartedCycle::Started(started) => run_until(started, &cycle.feeds, nvm, cycle.stop),
+        StartedCycle::Started(started) => {
+            let mut fuse = fused(&mut *nvm, cycle.stop);
+            let end = run_alone(started, &cycle.feeds, &mut fuse);
+            let cut = was_cut(fuse);
+            end_run(end, cut, cycle.stop, nvm)
+        }
     }
 }
 

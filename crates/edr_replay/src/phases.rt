@@ -3,18 +3,14 @@
 ghost use Rattle.std.specs.Prelude.{◌≡◌, ◌≤◌, IfOk, IfErr, OnErr, Some, None, true, false};
 ghost use Rattle.edr_device.specs.Device.{Repowered};
 ghost use Rattle.edr_device.specs.Faults.{Rose};
-ghost use Rattle.edr_device.specs.Lent.{Between, GoesOn};
-ghost use Rattle.edr_image.specs.Image.{image_size};
+ghost use Rattle.edr_device.specs.FuseState.{armed_for, fuse_state, new_fuse};
+ghost use Rattle.edr_device.specs.Lent.{GoesOn};
 ghost use Rattle.edr_image.specs.Reports.{Ran, report_of};
-ghost use Rattle.edr_items.specs.SensorLists.{AreFeeds, IsLevel, horizon_of};
-ghost use Rattle.edr_cycle.specs.Begun.{view_begun};
-ghost use Rattle.edr_replay.specs.Past.{LeavesPastOf};
-ghost use Rattle.edr_replay.specs.Phases.{LeavesOfRun, RunsFrom, StartsUntil};
+ghost use Rattle.edr_replay.specs.Phases.{StartsUntil};
 
-use edr_cycle::{CycleEnd, StartFault, Started, run_alone, start};
+use edr_cycle::{CycleEnd, StartFault, Started, start};
 use edr_device::{Fused, Nvm};
 use edr_image::CycleReport;
-use edr_items::Feeds;
 use std::alloc::Global;
 
 /// What comes of a start.
@@ -25,12 +21,27 @@ pub(crate) enum StartedCycle {
     Stopped,
 }
 
-/// Whether the fuse cut the power as planned, and no call of the device failed.
-pub(crate) fn is_cut<N: Nvm>(fuse: &Fused<'_, N>) -> bool
-    ensures planned { result ≡ true → (fuse.now.spent ≡ true) × (fuse.now.broken ≡ false) }
-    ensures unplanned { result ≡ false → fuse.now.spent ≡ true → fuse.now.broken ≡ true }
+/// The device with a fuse that cuts the power at the planned changing call; 0 plans none.
+pub(crate) fn fused<'a, N: Nvm>(nvm: &'a mut N, stop: u32) -> Fused<'a, N>
+    ensures device { result.nvm.ghost_name ≡ nvm.entry.ghost_name }
+    ensures now { result.nvm.now ≡ nvm.old }
+    ensures state { fuse_state result ≡ armed_for stop new_fuse }
 {
-    fuse.spent() && !fuse.broken()
+    let mut fuse = Fused::new(nvm);
+    fuse.arm(stop);
+    fuse
+}
+
+/// Gives the device back, and tells whether the fuse cut the power as planned, and no call of the device failed.
+pub(crate) fn was_cut<N: Nvm>(fuse: Fused<'_, N>) -> bool
+    ensures back { fuse.exit.0.now ≡ fuse.entry.nvm.now }
+    ensures planned { result ≡ true → (fuse.entry.spent ≡ true) × (fuse.entry.broken ≡ false) }
+    ensures unplanned { result ≡ false → fuse.entry.spent ≡ true → fuse.entry.broken ≡ true }
+{
+    let spent = fuse.spent();
+    let broken = fuse.broken();
+    fuse.end();
+    spent & !broken
 }
 
 /// Starts a cycle for so many ticks, up to the planned changing call; 0 plans none.
@@ -43,11 +54,9 @@ pub(crate) fn start_until<N: Nvm>(
     requires { stop ≤ 6 }
     ensures { StartsUntil N.Nvm stop ticks nvm.old nvm.new result }
 {
-    let mut fuse = Fused::new(nvm);
-    fuse.arm(stop);
+    let mut fuse = fused(nvm, stop);
     let begun = start(alloc, &mut fuse, ticks);
-    let cut = is_cut(&fuse);
-    fuse.end();
+    let cut = was_cut(fuse);
     match begun {
         Ok(started) => Ok(StartedCycle::Started(started)),
         Err(StartFault::StoreFault) if cut => Ok(StartedCycle::Stopped),
@@ -92,31 +101,4 @@ pub(crate) fn end_run<N: Nvm>(
         return Err(StartFault::StoreFault);
     }
     Ok(ran(end, Some(stop)))
-}
-
-/// Runs the commands of a cycle up to the planned changing call of them, and takes the power away; 0 plans none.
-pub(crate) fn run_until<N: Nvm>(
-    started: Started,
-    feeds: &Feeds,
-    nvm: &mut N,
-    stop: u32,
-) -> Result<CycleReport, StartFault>
-    requires feeds { AreFeeds feeds.now }
-    requires level { IsLevel feeds.now }
-    requires ticks { horizon_of feeds.now ≤ started.ticks }
-    requires size { image_size started.banks.store.header.banks ≤ N.extent nvm.old }
-    ensures lent { GoesOn N.Nvm nvm.old nvm.new }
-    ensures ran { IfOk result (Between N.Nvm
-        (RunsFrom feeds.now stop started.number started.banks.store) nvm.old nvm.new) }
-    ensures fault { IfErr result (λ e. (e ≡ StartFault.StoreFault) × Rose (N.faults nvm.old) (N.faults nvm.new)) }
-    ensures left { IfErr result (λ _. Between N.Nvm
-        (LeavesOfRun feeds.now stop started.number started.banks.store) nvm.old nvm.new) }
-    ensures past { Between N.Nvm (LeavesPastOf (view_begun started)) nvm.old nvm.new }
-{
-    let mut fuse = Fused::new(&mut *nvm);
-    fuse.arm(stop);
-    let end = run_alone(started, feeds, &mut fuse);
-    let cut = is_cut(&fuse);
-    fuse.end();
-    end_run(end, cut, stop, nvm)
 }

@@ -1,63 +1,37 @@
-use Rattle.std.proofs.Common.{rules, subst}
+use Rattle.std.proofs.Common.{refl, rules, subst}
+use Rattle.std.proofs.lemmas.Result.{err_from_is_err_and}
 use Rattle.edr_replay.specs.declared.phases.StartedCycle.{StartedCycle}
 use Rattle.edr_replay.specs.Phases.{BeginsAs}
-use Rattle.edr_replay.proofs.CycleLemmas.{goes_again, stopped_ends, begun_ran, not_short, not_spent, not_refused, rose_later}
-use Rattle.edr_replay.proofs.LeavingLemmas.{part_of_start, part_of_run, not_memory}
-use Rattle.edr_replay.proofs.PastLemmas.{begun_past}
+use Rattle.edr_replay.specs.Replayed.{LeftAlone}
+use Rattle.edr_replay.proofs.EndPhaseLemmas.{ended, ran_fused}
+use Rattle.edr_replay.proofs.WholeCycleLemmas.{commands_end, start_fails, start_stops}
 use Rattle.edr_replay.proofs.run_cycle.Goals as goal
 
 pub returns-in_err-start_until : goal.returns-in_err-start_until
 returns-in_err-start_until g c =
-    let D = g.N.Nvm in
-    let e = c.in_err-start_until.ensures in
-    let s = part_of_start c.args.cycle.now (D.content c.args.nvm.now) (D.settled c.args.nvm.now) (D.content c.start_until.new.nvm) (D.settled c.start_until.new.nvm) e.left in record {
-      lent = e.lent;
-      ran = search rules;
-      refused = search rules;
-      short = search rules;
-      fault = search rules;
-      spent = search rules;
-      memory = search rules;
-      left = search rules;
-      past = e.past;
-    }
+    let p = err_from_is_err_and c.from_residual.result c.from_residual.ensures.1 in
+    start_fails LeftAlone c.args.cycle.now _ c.args.nvm.now c.start_until.new.nvm _ c.from_residual.result (λ alone. alone) c.in_err-start_until.ensures (rw (p.1, p.2) refl)
 
 pub returns-in-Stopped : goal.returns-in-Stopped
-returns-in-Stopped g c =
-    let D = g.N.Nvm in
-    let old = c.args.nvm.now in
-    let new = c.start_until.new.nvm in
-    let e = c.in_ok-start_until.ensures in
-    let begun = subst (λ (b : StartedCycle). BeginsAs b c.args.cycle.now.start_stop c.horizon.result (D.extent old) (D.content old) (D.settled old) (D.content new) (D.settled new)) c.in-Stopped.is e.ran in record {
-      lent = e.lent;
-      ran = λ v n holds. stopped_ends c.args.cycle.now v n (D.content new) (D.settled new) begun.0 c.requires.start_stop (begun.1 v n holds).0 (begun.1 v n holds).1;
-      refused = tt;
-      short = tt;
-      fault = tt;
-      spent = tt;
-      memory = tt;
-      left = tt;
-      past = e.past;
-    }
+returns-in-Stopped g c = start_stops LeftAlone c.args.cycle.now _ c.args.nvm.now c.start_until.new.nvm _ c.requires.start_stop c.in-Stopped.is c.in_ok-start_until.ensures
 
 pub returns-in-Started : goal.returns-in-Started
 returns-in-Started g c =
-    let D = g.N.Nvm in
+    let N = g.N.Nvm in
+    let cycle = c.args.cycle.now in
+    let s = c.in-Started.started in
     let old = c.args.nvm.now in
     let mid = c.start_until.new.nvm in
-    let new = c.run_until.new.nvm in
-    let number = c.in-Started.started.number in
-    let store = c.in-Started.started.banks.store in
-    let r = c.run_until.result in
-    let run = c.run_until.ensures in
-    let begun = subst (λ (b : StartedCycle). BeginsAs b c.args.cycle.now.start_stop c.horizon.result (D.extent old) (D.content old) (D.settled old) (D.content mid) (D.settled mid)) c.in-Started.is c.in_ok-start_until.ensures.ran in record {
-      lent = goes_again old mid new (g.met.N.Nvm.goes_on_again old mid new) c.start_until.ensures.lent run.lent;
-      ran = begun_ran c.args.cycle.now number store (D.content old) (D.settled old) (D.content mid) (D.settled mid) (D.content new) (D.settled new) r begun.0 begun.3 run.ran;
-      refused = not_refused r (D.faults mid) (D.faults new) (D.content old) (D.settled old) run.fault;
-      short = not_short r (D.faults mid) (D.faults new) (D.extent old) run.fault;
-      fault = rose_later r (D.faults old) (D.faults mid) (D.faults new) c.start_until.ensures.lent.later run.fault;
-      spent = not_spent r (D.faults mid) (D.faults new) (D.content old) (D.settled old) (D.content new) (D.settled new) run.fault;
-      memory = not_memory r (D.faults mid) (D.faults new) (D.content old) (D.settled old) (D.content new) (D.settled new) run.fault;
-      left = part_of_run c.args.cycle.now number store (D.content old) (D.settled old) (D.content mid) (D.settled mid) (D.content new) (D.settled new) r begun.0 begun.3 run.left;
-      past = begun_past number store (D.content old) (D.content mid) (D.content new) (D.settled old) (D.settled mid) (D.settled new) c.start_until.ensures.past begun.3 run.past;
-    }
+    let armed = c.fused-fuse.result in
+    let fuse = c.run_alone-end.new.nvm in
+    let end = c.run_alone-end.result in
+    let cut = c.was_cut-cut.result in
+    let run = c.run_alone-end.ensures in
+    let e = c.end_run.ensures in
+    let begun = subst (λ (b : StartedCycle). BeginsAs b cycle.start_stop c.horizon.result (N.extent old) (N.content old) (N.settled old) (N.content mid) (N.settled mid)) c.in-Started.is c.in_ok-start_until.ensures.ran in
+    commands_end LeftAlone cycle s.number s.banks.store end.failed cut end.log.acks armed fuse old mid c.end_run.new.nvm c.end_run.result
+    g.met.N.Nvm.goes_on_again (λ u image within left. g.met.N.Nvm.counts_now fuse.nvm.now u image within left)
+    begun.0 (record { lent = c.start_until.ensures.lent; found = begun.3; past = c.start_until.ensures.past }) c.fused-fuse.ensures.now
+    (ran_fused cycle.feeds cycle.stop s.number s.banks.store end.failed cut end.log.acks armed fuse c.requires.feeds c.fused-fuse.ensures.state run.lent.size run.lent.device run.lent.tells run.cycle run.cause c.was_cut-cut.ensures.planned c.was_cut-cut.ensures.unplanned)
+    (ended N cycle.stop s.number _ end.failed cut end.log.acks c.end_run.result _ fuse.nvm.now c.end_run.new.nvm (search rules) run.number
+    (record { lent = e.lent; off = e.off; fault = e.fault; stays = e.stays; whole = e.whole; stopped = e.stopped; unplanned = e.unplanned }))

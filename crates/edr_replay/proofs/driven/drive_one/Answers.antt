@@ -1,87 +1,56 @@
-use Rattle.std.proofs.Common.{rules, subst}
-use Rattle.std.specs.Prelude.{IfErr, IfOk}
+use Rattle.std.proofs.Common.{refl, rules, subst}
+use Rattle.std.proofs.lemmas.Result.{err_from_is_err_and}
 use Rattle.edr_items.specs.SensorLists.{SensorLists}
-use Rattle.edr_cycle.specs.declared.started.StartFault.TheVariants as fault
+use Rattle.edr_cycle.specs.Ends.{MeetsCycle}
+use Rattle.edr_device.specs.FuseState.{fused_content, fused_settled, fused_since}
 use Rattle.edr_replay.specs.declared.phases.StartedCycle.{StartedCycle}
-use Rattle.edr_replay.specs.Phases.{BeginsAs, LeavesOfRun, RunsFrom}
-use Rattle.edr_replay.proofs.CycleLemmas.{begun_ran, goes_again, goes_self, memory_refused, memory_short, memory_unspent, stopped_ends}
-use Rattle.edr_replay.proofs.DrivenLemmas.{alone_left, driven_memory, driven_refused, driven_rose, driven_short, driven_spent, left_none, part_none}
-use Rattle.edr_replay.proofs.LeavingLemmas.{part_of_run, part_of_start}
-use Rattle.edr_replay.proofs.PastLemmas.{begun_past, past_none}
+use Rattle.edr_replay.specs.Phases.{BeginsAs}
+use Rattle.edr_replay.specs.Replayed.{LeftOrCounted}
+use Rattle.edr_replay.proofs.EndPhaseLemmas.{ended, ran_fused}
+use Rattle.edr_replay.proofs.WholeCycleLemmas.{alone_leaves, commands_end, start_fails, start_stops, wants_at_once, wants_begun}
 use Rattle.edr_replay.proofs.driven.drive_one.Goals as goal
 
 pub returns-in_default : goal.returns-in_default
-returns-in_default g c =
-    let D = g.N.Nvm in
-    let old = c.args.nvm.now in record {
-      lent = goes_self old (g.met.N.Nvm.goes_on_self old);
-      ran = tt;
-      refused = memory_refused (D.content old) (D.settled old);
-      short = memory_short (D.extent old);
-      fault = search rules;
-      spent = memory_unspent (D.content old) (D.settled old) (D.content old) (D.settled old);
-      memory = left_none (D.content old) (D.settled old) fault.OutOfMemory;
-      left = part_none c.args.cycle (D.content old) (D.settled old);
-      past = past_none (D.content old) (D.settled old);
-    }
+returns-in_default g c = wants_at_once c.args.cycle c.args.nvm.now (g.met.N.Nvm.goes_on_self c.args.nvm.now)
 
 pub returns-in_err-start_until : goal.returns-in_err-start_until
 returns-in_err-start_until g c =
-    let D = g.N.Nvm in
+    let p = err_from_is_err_and c.from_residual.result c.from_residual.ensures.1 in
+    let N = g.N.Nvm in
     let old = c.args.nvm.now in
     let new = c.start_until.new.nvm in
-    let e = c.in_err-start_until.ensures in
-    let s = part_of_start c.args.cycle (D.content old) (D.settled old) (D.content new) (D.settled new) e.left in
-    let m = alone_left _ (D.content old) (D.settled old) (D.content new) (D.settled new) e.memory in record {
-      lent = e.lent;
-      ran = search rules;
-      refused = search rules;
-      short = search rules;
-      fault = search rules;
-      spent = search rules;
-      memory = search rules;
-      left = search rules;
-      past = e.past;
-    }
+    start_fails LeftOrCounted c.args.cycle _ old new _ c.from_residual.result (alone_leaves _ (N.content old) (N.settled old) (N.content new) (N.settled new)) c.in_err-start_until.ensures (rw (p.1, p.2) refl)
 
 pub returns-in-Stopped : goal.returns-in-Stopped
-returns-in-Stopped g c =
-    let D = g.N.Nvm in
-    let old = c.args.nvm.now in
-    let new = c.start_until.new.nvm in
-    let e = c.in_ok-start_until.ensures in
-    let begun = subst (λ (b : StartedCycle). BeginsAs b c.args.cycle.start_stop c.horizon-ticks.result (D.extent old) (D.content old) (D.settled old) (D.content new) (D.settled new)) c.in-Stopped.is e.ran in record {
-      lent = e.lent;
-      ran = λ v n holds. stopped_ends c.args.cycle v n (D.content new) (D.settled new) begun.0 c.requires.cycle.start_stop (begun.1 v n holds).0 (begun.1 v n holds).1;
-      refused = tt;
-      short = tt;
-      fault = tt;
-      spent = tt;
-      memory = tt;
-      left = tt;
-      past = e.past;
-    }
+returns-in-Stopped g c = start_stops LeftOrCounted c.args.cycle _ c.args.nvm.now c.start_until.new.nvm _ c.requires.cycle.start_stop c.in-Stopped.is c.in_ok-start_until.ensures
+
+pub returns-in_err-end-in-Started : goal.returns-in_err-end-in-Started
+returns-in_err-end-in-Started g c =
+    let p = err_from_is_err_and c.from_residual-in_err-end-in-Started.result c.from_residual-in_err-end-in-Started.ensures.1 in
+    let N = g.N.Nvm in
+    let begun = subst (λ (b : StartedCycle). BeginsAs b c.args.cycle.start_stop c.horizon-ticks.result (N.extent c.args.nvm.now) (N.content c.args.nvm.now) (N.settled c.args.nvm.now) (N.content c.start_until.new.nvm) (N.settled c.start_until.new.nvm)) c.in-Started.is c.in_ok-start_until.ensures.ran in
+    wants_begun c.args.cycle c.in-Started.started.number c.in-Started.started.banks.store c.args.nvm.now c.start_until.new.nvm _ c.from_residual-in_err-end-in-Started.result
+    (record { lent = c.start_until.ensures.lent; found = begun.3; past = c.start_until.ensures.past }) (search rules) (rw (p.1, p.2) refl)
 
 pub returns : goal.returns
 returns g c =
-    let D = g.N.Nvm in
+    let N = g.N.Nvm in
+    let cycle = c.args.cycle in
+    let s = c.in-Started.started in
     let old = c.args.nvm.now in
     let mid = c.start_until.new.nvm in
-    let new = c.drive_until.new.nvm in
-    let number = c.in-Started.started.number in
-    let store = c.in-Started.started.banks.store in
-    let r = c.drive_until.result in
-    let run = c.drive_until.ensures in
-    let begun = subst (λ (b : StartedCycle). BeginsAs b c.args.cycle.start_stop c.horizon-ticks.result (D.extent old) (D.content old) (D.settled old) (D.content mid) (D.settled mid)) c.in-Started.is c.in_ok-start_until.ensures.ran in record {
-      lent = goes_again old mid new (g.met.N.Nvm.goes_on_again old mid new) c.start_until.ensures.lent run.lent;
-      ran = begun_ran c.args.cycle number store (D.content old) (D.settled old) (D.content mid) (D.settled mid) (D.content new) (D.settled new) r begun.0 begun.3
-          (subst (λ (f : SensorLists). IfOk r (RunsFrom f c.args.cycle.stop number store (D.content mid) (D.settled mid) (D.content new) (D.settled new))) c.in-Ok.ensures.ok run.ran);
-      refused = driven_refused r (D.faults mid) (D.faults new) (D.content old) (D.settled old) run.fault;
-      short = driven_short r (D.faults mid) (D.faults new) (D.extent old) run.fault;
-      fault = driven_rose r (D.faults old) (D.faults mid) (D.faults new) c.start_until.ensures.lent.later run.fault;
-      spent = driven_spent r (D.faults mid) (D.faults new) (D.content old) (D.settled old) (D.content new) (D.settled new) run.fault;
-      memory = driven_memory D.content D.settled number store (D.content old) (D.settled old) mid new _ _ r begun.3 run.fault run.nothing;
-      left = part_of_run c.args.cycle number store (D.content old) (D.settled old) (D.content mid) (D.settled mid) (D.content new) (D.settled new) r begun.0 begun.3
-          (subst (λ (f : SensorLists). IfErr r (λ _. LeavesOfRun f c.args.cycle.stop number store (D.content mid) (D.settled mid) (D.content new) (D.settled new))) c.in-Ok.ensures.ok run.left);
-      past = begun_past number store (D.content old) (D.content mid) (D.content new) (D.settled old) (D.settled mid) (D.settled new) c.start_until.ensures.past begun.3 run.past;
-    }
+    let armed = c.fused-fuse.result in
+    let fuse = c.drive_cycle-end.new.nvm in
+    let end = c.in_ok-end-in-Started.end in
+    let cut = c.was_cut-cut.result in
+    let run = c.in_ok-end-in-Started.ensures in
+    let e = c.end_run.ensures in
+    let begun = subst (λ (b : StartedCycle). BeginsAs b cycle.start_stop c.horizon-ticks.result (N.extent old) (N.content old) (N.settled old) (N.content mid) (N.settled mid)) c.in-Started.is c.in_ok-start_until.ensures.ran in
+    commands_end LeftOrCounted cycle s.number s.banks.store end.failed cut end.log.acks armed fuse old mid c.end_run.new.nvm c.end_run.result
+    g.met.N.Nvm.goes_on_again (λ u image within left. g.met.N.Nvm.counts_now fuse.nvm.now u image within left)
+    begun.0 (record { lent = c.start_until.ensures.lent; found = begun.3; past = c.start_until.ensures.past }) c.fused-fuse.ensures.now
+    (ran_fused cycle.feeds cycle.stop s.number s.banks.store end.failed cut end.log.acks armed fuse c.requires.cycle.feeds c.fused-fuse.ensures.state run.lent.size run.lent.device run.lent.tells
+    (subst (λ (f : SensorLists). MeetsCycle fused_content fused_settled fused_since (λ x. x.ticks) (λ x. x.last_good) f s.number s.banks.store end.failed end.log.acks armed fuse) c.in-Ok.ensures.ok run.cycle)
+    run.cause c.was_cut-cut.ensures.planned c.was_cut-cut.ensures.unplanned)
+    (ended N cycle.stop s.number _ end.failed cut end.log.acks c.end_run.result _ fuse.nvm.now c.end_run.new.nvm (search rules) run.number
+    (record { lent = e.lent; off = e.off; fault = e.fault; stays = e.stays; whole = e.whole; stopped = e.stopped; unplanned = e.unplanned }))
