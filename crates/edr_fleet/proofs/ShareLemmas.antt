@@ -1,0 +1,84 @@
+-- The shares of a fleet are its lines and its events.
+use Rattle.std.proofs.Common.{◌≡◌, ◌∙◌, ◌≢◌, ℕ, zero, suc, ◌+◌, ◌-◌, ◌*◌, ◌/◌, ◌%◌, ◌<◌, ◌≤◌, min, Bool, true, false, List, [], ◌∷◌, ◌++◌, length, map, take, drop, get_or, Result, Ok, Err, refl, sym, ap, subst, arith, add-one}
+use Rattle.std.specs.Prelude.{flat_map, sum_by, IsOk}
+use Rattle.std.specs.Borrow.{Bor}
+use Rattle.std.specs.Fork.{slice_chunk}
+use Rattle.std.specs.declared.alloc.AllocError.{AllocError}
+use Rattle.std.proofs.lemmas.List.{length-map, length-take-le, map-append, take_all}
+use Rattle.std.proofs.Math.Seq.{take-add}
+use Rattle.std.proofs.Math.Nat.{mod-add-div, mod-lt}
+use Rattle.edr_fleet.specs.declared.parts.Part.{Part}
+use Rattle.edr_fleet.specs.Parts.{HasShare, IsShareOf, events_of, lines_of}
+use Rattle.edr_fleet.specs.Text.{all_events, image_lines}
+use Rattle.edr_fleet.proofs.TextLemmas.{all_events-append, image_lines-append}
+use Rattle.edr_fleet.proofs.JoinLemmas.{events_next, lines_next}
+
+abbrev bytes_of : List (Bor (List ℕ)) → List (List ℕ)
+bytes_of images = map (λ (i : Bor (List ℕ)). i.now) images
+
+-- what a share says, where there was memory
+share_of : (some : List (Bor (List ℕ))) (before : ℕ) (r : Result Part AllocError) → IsOk r → IsShareOf some before r
+    → (lines_of r ≡ image_lines (before + 1) (bytes_of some)) × (events_of r ≡ all_events (bytes_of some))
+share_of some before (Ok p) ok share = (share.lines, share.events)
+share_of some before (Err e) ok share = absurd (differ ok) where
+  differ : false ≡ true → ⊥
+  differ e = cc
+
+module _ (size : ℕ) (images : List (Bor (List ℕ))) (rs : List (Result Part AllocError)) (none : Result Part AllocError)
+    (fine : (n : ℕ) (d : Result Part AllocError) → n < length rs → IsOk (get_or rs n d))
+    (within : (n : ℕ) → n < length rs → n * size ≤ length images)
+    (shares : (n : ℕ) (d : Result Part AllocError) → n < length rs → IsShareOf (slice_chunk images size n) (n * size) (get_or rs n d)) where
+  abbrev Upto : ℕ → Type 0
+  Upto k = (flat_map lines_of (take k rs) ≡ image_lines 1 (bytes_of (take (k * size) images)))
+      × (sum_by events_of (take k rs) ≡ all_events (bytes_of (take (k * size) images)))
+
+  step : (k : ℕ) → k < length rs → Upto k → Upto (k + 1)
+  step k below so_far =
+      let xs = bytes_of (take (k * size) images) in
+      let ys = bytes_of (slice_chunk images size k) in
+      let share = share_of (slice_chunk images size k) (k * size) (get_or rs k none) (fine k none below) (shares k none below) in
+      let more : (k + 1) * size ≡ k * size + size = omega arith in
+      let cut : bytes_of (take ((k + 1) * size) images) ≡ xs ++ ys =
+      ap (λ (n : ℕ). bytes_of (take n images)) more
+      ∙ ap bytes_of (take-add (k * size) size images)
+      ∙ map-append (λ (i : Bor (List ℕ)). i.now) (take (k * size) images) (take size (drop (k * size) images)) in
+      let long : length xs ≡ k * size = length-map (take (k * size) images) (λ (i : Bor (List ℕ)). i.now) ∙ length-take-le (k * size) images (within k below) in
+      let place : 1 + length xs ≡ k * size + 1 = omega arith in (
+        lines_next rs k none below
+            ∙ ap (λ (l : List ℕ). l ++ lines_of (get_or rs k none)) so_far.0
+            ∙ ap (λ (l : List ℕ). image_lines 1 xs ++ l) (share.0 ∙ ap (λ (n : ℕ). image_lines n ys) (sym place))
+            ∙ sym (image_lines-append 1 xs ys)
+            ∙ ap (image_lines 1) (sym cut),
+        events_next rs k none below
+            ∙ ap (λ (n : ℕ). n + events_of (get_or rs k none)) so_far.1
+            ∙ ap (λ (n : ℕ). all_events xs + n) share.1
+            ∙ sym (all_events-append xs ys)
+            ∙ ap all_events (sym cut),
+      )
+
+  upto : (k : ℕ) → k ≤ length rs → Upto k
+  upto zero below =
+      let none_yet : 0 ≡ 0 * size = omega arith in
+      (ap (λ (n : ℕ). image_lines 1 (bytes_of (take n images))) none_yet, ap (λ (n : ℕ). all_events (bytes_of (take n images))) none_yet)
+  upto (suc k) below = subst Upto (add-one k) (step k (omega arith) (upto k (omega arith)))
+
+  pub all_shares : length images ≤ length rs * size
+      → (flat_map lines_of rs ≡ image_lines 1 (bytes_of images)) × (sum_by events_of rs ≡ all_events (bytes_of images))
+  all_shares enough =
+      let all = upto (length rs) (omega arith) in
+      let whole = take_all (length rs) rs (omega arith) in
+      let every = take_all (length rs * size) images enough in (
+        ap (flat_map lines_of) (sym whole) ∙ all.0 ∙ ap (λ (i : List (Bor (List ℕ))). image_lines 1 (bytes_of i)) every,
+        ap (sum_by events_of) (sym whole) ∙ all.1 ∙ ap (λ (i : List (Bor (List ℕ))). all_events (bytes_of i)) every,
+      )
+
+-- the shares are enough for all images
+pub enough_shares : (n size many : ℕ) → 0 < size → many ≡ n / size + min 1 (n % size) → n ≤ many * size
+enough_shares n size many pos is =
+    let whole : n % size + size * (n / size) ≡ n = mod-add-div n size in
+    let less : n % size < size = mod-lt n pos in
+    let by : n ≤ (n / size + min 1 (n % size)) * size = by_rest (n % size) (n / size) less whole in
+    subst (λ (m : ℕ). n ≤ m * size) (sym is) by where
+      by_rest : (m q : ℕ) → m < size → m + size * q ≡ n → n ≤ (q + min 1 m) * size
+      by_rest zero q less whole = let none : min 1 0 ≡ 0 = omega arith in rw none (omega arith)
+      by_rest (suc m) q less whole = let one : min 1 (suc m) ≡ 1 = omega arith in rw one (omega arith)
