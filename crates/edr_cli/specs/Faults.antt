@@ -5,10 +5,9 @@ use Rattle.edr_spell.specs.declared.TraceFault.{TraceFault}
 use Rattle.edr_spell.specs.declared.TraceFault.TheVariants as trace
 use Rattle.edr_spell.specs.declared.Word.TheVariants.{Of}
 use Rattle.edr_spell.specs.Rows.{spelling_of}
-use Rattle.edr_image.specs.declared.HeaderRefused.{HeaderRefused}
-use Rattle.edr_image.specs.declared.HeaderRefused.TheVariants as header
 use Rattle.edr_image.specs.declared.OldRefused.{OldRefused}
 use Rattle.edr_image.specs.declared.OldRefused.TheVariants as old
+use Rattle.edr_report.specs.ImageWords.{header_words, short_words}
 use Rattle.edr_cli.specs.declared.fault.Fault.{Fault}
 use Rattle.edr_cli.specs.declared.fault.Fault.TheVariants.{Usage, Trace, Read, Store, Short, Header, Formatted, Spent, OutOfMemory, TooLong, Old}
 use Rattle.edr_cli.specs.declared.status.Status.{Status}
@@ -39,16 +38,9 @@ trace_words (trace.Gap last) = codes "gap after " ++ decimal last
 trace_words (trace.Skew s) = codes "skew of " ++ spelling_of (Of s)
 trace_words trace.Unended = codes "unended"
 
--- what is wrong with the first bytes of an image
-abbrev pub header_words : HeaderRefused → List ℕ
-header_words (header.NotFormatted offset found) = codes "not formatted at " ++ decimal offset ++ codes " found " ++ decimal found
-header_words (header.Version found) = codes "version " ++ decimal found
-header_words (header.Banks found) = codes "banks " ++ decimal found
-header_words (header.Choice found) = codes "choice " ++ decimal found
-
 -- what is wrong with an old image
 abbrev pub old_words : OldRefused → List ℕ
-old_words (old.Short size needed) = codes "short " ++ decimal size ++ codes " of " ++ decimal needed
+old_words (old.Short size needed) = short_words size needed
 old_words (old.Header h) = header_words h
 old_words (old.Bank bank offset found) = codes "bank " ++ decimal bank ++ codes " damaged at " ++ decimal offset ++ codes " found " ++ decimal found
 
@@ -57,7 +49,7 @@ fault_words Usage = codes "usage"
 fault_words (Trace t) = codes "trace row " ++ decimal t.row ++ codes ": " ++ trace_words t.fault
 fault_words Read = codes "read fault"
 fault_words Store = codes "store fault"
-fault_words (Short size needed) = codes "image short " ++ decimal size ++ codes " of " ++ decimal needed
+fault_words (Short size needed) = codes "image " ++ short_words size needed
 fault_words (Header h) = codes "image " ++ header_words h
 fault_words Formatted = codes "image formatted"
 fault_words Spent = codes "spent"

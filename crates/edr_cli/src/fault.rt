@@ -1,7 +1,7 @@
 //! Why a call ends without what was asked of it: the line that tells it, and the status.
 ghost use Rattle.std.specs.Prelude.{◌≡◌, ◌+◌, ◌≤◌, ◌++◌, length};
 ghost use Rattle.arrayvec.specs.ArrayString.{array_string_len};
-ghost use Rattle.edr_cli.specs.Faults.{trace_words, header_words, old_words, fault_words, fault_line, status_of};
+ghost use Rattle.edr_cli.specs.Faults.{trace_words, old_words, fault_words, fault_line, status_of};
 
 use crate::status::Status;
 use edr_banks::{FormatFault, OpenFault};
@@ -9,7 +9,7 @@ use edr_cycle::StartFault;
 use edr_device::{Failed, TakeFault};
 use edr_image::{HeaderRefused, OldRefused};
 use edr_migrate::MigrateFault;
-use edr_report::{Room, ShortLine, push_number, push_signed};
+use edr_report::{Room, ShortLine, push_header_refused, push_number, push_short, push_signed};
 use edr_spell::{TraceFault, TraceRefused, Word};
 use edr_trace::ReadRefused;
 use std::alloc::AllocError;
@@ -66,23 +66,6 @@ fn push_trace_fault(line: &mut Room, fault: TraceFault)
     }
 }
 
-// Appends what is wrong with a header.
-fn push_header_refused(line: &mut Room, refused: HeaderRefused)
-    requires { array_string_len line.old ≤ 24 }
-    ensures bytes { line.new.bytes ≡ line.old.bytes ++ header_words refused }
-    ensures len { array_string_len line.new ≤ array_string_len line.old + 44 }
-{
-    match refused {
-        HeaderRefused::NotFormatted { offset, found } => {
-            push_number(line, "not formatted at ", offset);
-            push_number(line, " found ", u32::from(found));
-        }
-        HeaderRefused::Version { found } => push_number(line, "version ", u32::from(found)),
-        HeaderRefused::Banks { found } => push_number(line, "banks ", u32::from(found)),
-        HeaderRefused::Choice { found } => push_number(line, "choice ", u32::from(found)),
-    }
-}
-
 // Appends what is wrong with an old image.
 fn push_old_refused(line: &mut Room, refused: OldRefused)
     requires { array_string_len line.old ≤ 17 }
@@ -90,10 +73,7 @@ fn push_old_refused(line: &mut Room, refused: OldRefused)
     ensures len { array_string_len line.new ≤ array_string_len line.old + 54 }
 {
     match refused {
-        OldRefused::Short { size, needed } => {
-            push_number(line, "short ", size);
-            push_number(line, " of ", needed);
-        }
+        OldRefused::Short { size, needed } => push_short(line, size, needed),
         OldRefused::Header(refused) => push_header_refused(line, refused),
         OldRefused::Bank {
             bank,
@@ -124,8 +104,8 @@ impl Fault {
             Fault::Read => line.push_str("read fault"),
             Fault::Store => line.push_str("store fault"),
             Fault::Short { size, needed } => {
-                push_number(line, "image short ", *size);
-                push_number(line, " of ", *needed);
+                line.push_str("image ");
+                push_short(line, *size, *needed);
             }
             Fault::Header(refused) => {
                 line.push_str("image ");

@@ -6,3 +6,4 @@ pub mod Report
 pub mod Forms
 pub mod Printed
 pub mod Format
+pub mod ImageWords

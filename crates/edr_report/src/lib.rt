@@ -23,7 +23,10 @@ pub use forms::Lines;
 use forms::{Table, Text};
 use printer::print;
 pub use printer::{print_event, print_run};
-pub use short_lines::{Room, ShortLine, format_line, migrate_line, push_number, push_signed};
+pub use short_lines::{
+    Room, ShortLine, format_line, migrate_line, push_header_refused, push_number, push_short,
+    push_signed,
+};
 use std::alloc::{AllocError as OutOfMemory, Global};
 
 /// Counts of ignition cycles are shown up to this number.

@@ -4,9 +4,10 @@ ghost use Rattle.std.specs.Prelude.{◌≡◌, ◌+◌, ◌≤◌, ◌++◌, dec
 ghost use Rattle.std.specs.Fmt.{signed_decimal};
 ghost use Rattle.arrayvec.specs.ArrayString.{array_string_len};
 ghost use Rattle.edr_report.specs.Format.{format_line, migrate_line};
+ghost use Rattle.edr_report.specs.ImageWords.{header_words, short_words};
 
 use arrayvec::ArrayString;
-use edr_image::{Choice, Header};
+use edr_image::{Choice, Header, HeaderRefused};
 use itoa::Buffer;
 use std::marker::Model;
 
@@ -63,6 +64,33 @@ pub fn push_signed(line: &mut Room, words: &str, z: i32)
     let mut buffer = Buffer::new();
     line.push_str(words);
     line.push_str(buffer.format(z));
+}
+
+/// Appends that an image has so many bytes, and how many it needs.
+pub fn push_short(line: &mut Room, size: u32, needed: u32)
+    requires { array_string_len line.old ≤ 50 }
+    ensures bytes { line.new.bytes ≡ line.old.bytes ++ short_words size needed }
+    ensures len { array_string_len line.new ≤ array_string_len line.old + 30 }
+{
+    push_number(line, "short ", size);
+    push_number(line, " of ", needed);
+}
+
+/// Appends what is wrong with a header.
+pub fn push_header_refused(line: &mut Room, refused: HeaderRefused)
+    requires { array_string_len line.old ≤ 36 }
+    ensures bytes { line.new.bytes ≡ line.old.bytes ++ header_words refused }
+    ensures len { array_string_len line.new ≤ array_string_len line.old + 44 }
+{
+    match refused {
+        HeaderRefused::NotFormatted { offset, found } => {
+            push_number(line, "not formatted at ", offset);
+            push_number(line, " found ", u32::from(found));
+        }
+        HeaderRefused::Version { found } => push_number(line, "version ", u32::from(found)),
+        HeaderRefused::Banks { found } => push_number(line, "banks ", u32::from(found)),
+        HeaderRefused::Choice { found } => push_number(line, "choice ", u32::from(found)),
+    }
 }
 
 /// The line that tells of an image that was formatted with this header. It takes no memory.
