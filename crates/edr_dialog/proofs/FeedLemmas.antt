@@ -6,8 +6,8 @@ use Rattle.edr_dialog.specs.declared.frames.Request.TheVariants as request
 use Rattle.edr_dialog.specs.declared.frames.Said.{Said}
 use Rattle.edr_dialog.specs.declared.frames.Said.TheVariants.{Begun, Asks, NoKind, NoLength}
 use Rattle.edr_dialog.specs.Frames.{said}
-use Rattle.edr_dialog.specs.Answers.{FedLeaves, fed_at, fed_by, length_in}
-use Rattle.edr_dialog.specs.Replies.{Stand, Hears, SaidBye, HasRefused, next, replies, reply_at, reply_to, said_at, stand_by, stand_of}
+use Rattle.edr_dialog.specs.Answers.{FedLeaves, fed_by, length_in}
+use Rattle.edr_dialog.specs.Replies.{Stand, Hears, SaidBye, HasRefused, next, replies, reply_to, said_at, stand_by, stand_of}
 use Rattle.edr_dialog.specs.Stages.{HasHeard, IsOpen, Talk}
 use Rattle.edr_dialog.proofs.StreamLemmas.{replies-more, stand_of-more}
 

@@ -12,21 +12,21 @@ use crate::stages::Stage;
 use edr_banks::Banks;
 use std::marker::Model;
 
-/// What came of a byte. Where there is a reply, it has so many bytes.
+/// What came of a byte, and how many bytes its reply has.
 #[derive(Clone, Copy, Debug, PartialEq, Eq)]
 pub enum Fed {
-    /// A frame isn't whole yet.
+    /// No frame is whole with it, and none is refused.
     More,
-    /// A request is replied to, also where its bank is refused.
+    /// A request is replied to, perhaps by the refusal of its bank.
     Reply { length: u16 },
     /// The dialog has ended by a Bye.
     Bye { length: u16 },
-    /// The dialog has ended, since no request has this kind or length.
+    /// The dialog has ended, since no request has such a kind, or such a length.
     Refused { length: u16 },
 }
 
 impl Fed {
-    /// How many bytes the reply has, 0 where there is none.
+    /// How many bytes the reply has: 0 where there is none.
     pub fn reply_len(&self) -> usize
         ensures { result ≡ length_in self.now }
     {
@@ -57,7 +57,7 @@ impl<'a> Model for Dialog<'a> {
     ghost view = { λ d. record { view = view_when_opened d.banks.now; stand = stand_at d.stage } };
 }
 
-// The answer where a frame says this, and the reply to it has so many bytes.
+// The answer where a frame says this, by the length of the reply to it.
 fn fed_by(said: Said, length: u16) -> Fed
     ensures { result ≡ fed_by said length }
 {
@@ -82,8 +82,8 @@ impl<'a> Dialog<'a> {
         }
     }
 
-    /// Takes the next byte of the stream, and writes the reply at it, if there is one, to the front of `out`. A reply follows at
-    /// once where a frame is whole or is refused. None takes memory.
+    /// Takes the next byte of the stream. Where a frame is whole with it, or is refused, the reply is written to the front of
+    /// `out` at once; the rest of `out` may have anything. It takes no memory.
     pub fn feed(&mut self, byte: u8, out: &mut [u8; LONGEST_REPLY]) -> Fed
         requires open { IsOpen self.old.stand }
         // The replies, in order, are those to the stream.
