@@ -7,8 +7,8 @@ use Rattle.edr_dialog.specs.declared.frames.Said.{Said}
 use Rattle.edr_dialog.specs.declared.frames.Said.TheVariants.{Begun, Asks, NoKind, NoLength}
 use Rattle.edr_dialog.specs.Frames.{said}
 use Rattle.edr_dialog.specs.Answers.{FedLeaves, fed_by, length_in}
-use Rattle.edr_dialog.specs.Replies.{Stand, Hears, SaidBye, HasRefused, next, replies, reply_to, said_at, stand_by, stand_of}
-use Rattle.edr_dialog.specs.Stages.{HasHeard, IsOpen, Talk}
+use Rattle.edr_dialog.specs.Replies.{DialogStand, Hears, SaidBye, HasRefused, next, replies, reply_to, said_at, stand_by, stand_of}
+use Rattle.edr_dialog.specs.Stages.{HasHeard, StillHears, Talk}
 use Rattle.edr_dialog.proofs.StreamLemmas.{replies-more, stand_of-more}
 
 -- the answer has the length of the reply
@@ -21,7 +21,7 @@ length_in-fed_by v (Asks request.Bye) n e = refl
 length_in-fed_by v (NoKind kind) n e = refl
 length_in-fed_by v (NoLength found) n e = refl
 
-module _ (v w : View) (stand after : Stand) (s : List ℕ) (t : Talk) (b : ℕ) (what : Said) (n : ℕ) (fed : Fed) (out : List ℕ)
+module _ (v w : View) (stand after : DialogStand) (s : List ℕ) (t : Talk) (b : ℕ) (what : Said) (n : ℕ) (fed : Fed) (out : List ℕ)
     (seen : ◌≡◌ {A = Talk} (record { view = w; stand = stand }) t) (heard : HasHeard v s t) where
   view_is : w ≡ v
   view_is = ap (λ (x : Talk). x.view) seen ∙ heard.view
@@ -37,14 +37,14 @@ module _ (v w : View) (stand after : Stand) (s : List ℕ) (t : Talk) (b : ℕ) 
       ap (λ m. take m out) (ap length_in fed_is ∙ length_in-fed_by w what n len)
       ∙ bytes
       ∙ ap (λ (x : View). reply_to x what) view_is
-      ∙ ap (reply_to v) (said_is ∙ ap (λ (x : Stand). said_at x b) stand_is) in
+      ∙ ap (reply_to v) (said_is ∙ ap (λ (x : DialogStand). said_at x b) stand_is) in
       replies-more v s b ∙ ap (λ r. replies v s ++ r) (sym told)
 
   -- and the dialog has heard it
   pub has_heard : after ≡ next stand b → HasHeard v (s ++ b ∷ []) (record { view = w; stand = after })
   has_heard next_is = record {
     view = view_is;
-    stand = next_is ∙ ap (λ (x : Stand). next x b) stand_is ∙ sym (stand_of-more s b);
+    stand = next_is ∙ ap (λ (x : DialogStand). next x b) stand_is ∙ sym (stand_of-more s b);
   }
 
 -- ---- how it stands then
@@ -59,18 +59,18 @@ leaves_by heard b (Asks request.Bye) n = refl
 leaves_by heard b (NoKind kind) n = refl
 leaves_by heard b (NoLength found) n = refl
 
-leaves_next : (stand : Stand) (b n : ℕ) → IsOpen stand → FedLeaves (fed_by (said_at stand b) n) (next stand b)
+leaves_next : (stand : DialogStand) (b n : ℕ) → StillHears stand → FedLeaves (fed_by (said_at stand b) n) (next stand b)
 leaves_next (Hears heard) b n hears = leaves_by heard b (said (heard ++ b ∷ [])) n
 leaves_next SaidBye b n hears = absurd hears
 leaves_next HasRefused b n hears = absurd hears
 
-pub fed_leaves : (w : View) (stand after : Stand) (t : Talk) (b : ℕ) (what : Said) (n : ℕ) (fed : Fed)
-    → ◌≡◌ {A = Talk} (record { view = w; stand = stand }) t → IsOpen t.stand
+pub fed_leaves : (w : View) (stand after : DialogStand) (t : Talk) (b : ℕ) (what : Said) (n : ℕ) (fed : Fed)
+    → ◌≡◌ {A = Talk} (record { view = w; stand = stand }) t → StillHears t.stand
     → what ≡ said_at stand b → after ≡ next stand b → fed ≡ fed_by what n → FedLeaves fed after
 fed_leaves w stand after t b what n fed seen open_now said_is after_is fed_is =
-    let hears : IsOpen stand = subst IsOpen (sym (ap (λ (x : Talk). x.stand) seen)) open_now in
+    let hears : StillHears stand = subst StillHears (sym (ap (λ (x : Talk). x.stand) seen)) open_now in
     subst (λ (x : Fed). FedLeaves x after) (sym (fed_is ∙ ap (λ (x : Said). fed_by x n) said_is))
-    (subst (λ (x : Stand). FedLeaves (fed_by (said_at stand b) n) x) (sym after_is) (leaves_next stand b n hears))
+    (subst (λ (x : DialogStand). FedLeaves (fed_by (said_at stand b) n) x) (sym after_is) (leaves_next stand b n hears))
 
 pub fed_most : (v : View) (what : Said) (n : ℕ) (fed : Fed) → n ≡ length (reply_to v what) → n ≤ 1012 → fed ≡ fed_by what n → length_in fed ≤ 1012
 fed_most v what n fed len most fed_is = rw (fed_is, length_in-fed_by v what n len) most

@@ -28,7 +28,7 @@ use Rattle.edr_dialog.specs.declared.frames.Request.TheVariants as request
 use Rattle.edr_dialog.specs.declared.frames.Said.{Said}
 use Rattle.edr_dialog.specs.declared.frames.Said.TheVariants.{Begun, Asks, NoKind, NoLength}
 use Rattle.edr_dialog.specs.Frames.{frame}
-use Rattle.edr_dialog.specs.Replies.{Stand, Hears, bank_told, code_of, next, parts_of, refusal, replies, replies_from, reply, reply_to, said_at}
+use Rattle.edr_dialog.specs.Replies.{DialogStand, Hears, bank_told, code_of, next, parts_of, refusal, replies, replies_from, reply, reply_to, said_at}
 use Rattle.edr_dialog.specs.ReplyFrames.{AreReplyFrames, IsReplyFrame, ReplyFrame, frame_bytes}
 
 -- ---- how long the parts of a record are
@@ -206,7 +206,7 @@ module _ (v : View) (short : IsShortView v) where
   said_framed (NoKind kind) = refusal_framed NO_KIND kind
   said_framed (NoLength found) = refusal_framed NO_LENGTH found
 
-  stream_framed : (stand : Stand) (stream : List ℕ) → Framed (replies_from v stand stream)
+  stream_framed : (stand : DialogStand) (stream : List ℕ) → Framed (replies_from v stand stream)
   stream_framed stand [] = no_frames
   stream_framed stand (byte ∷ stream) =
       more_frames (reply_to v (said_at stand byte)) (replies_from v (next stand byte) stream) (said_framed (said_at stand byte)) (stream_framed (next stand byte) stream)

@@ -4,11 +4,11 @@ ghost use Rattle.edr_image.specs.Image.{View};
 ghost use Rattle.edr_banks.specs.Opening.{view_when_opened};
 ghost use Rattle.edr_dialog.specs.Answers.{FedLeaves, fed_at, fed_by, length_in};
 ghost use Rattle.edr_dialog.specs.Replies.{next, replies, reply_at};
-ghost use Rattle.edr_dialog.specs.Stages.{HasHeard, IsOpen};
+ghost use Rattle.edr_dialog.specs.Stages.{HasHeard, StillHears};
 
 use crate::frames::{LONGEST_REPLY, Request, Said};
 use crate::replying::put_reply_to;
-use crate::stages::Stage;
+use crate::stages::FrameStage;
 use edr_banks::Banks;
 use std::marker::Model;
 
@@ -43,7 +43,7 @@ impl Fed {
 #[derive(Drop)]
 pub struct Dialog<'a> {
     banks: &'a Banks,
-    stage: Stage,
+    stage: FrameStage,
 }
 
 impl<'a> Model for Dialog<'a> {
@@ -78,14 +78,14 @@ impl<'a> Dialog<'a> {
     {
         Dialog {
             banks,
-            stage: Stage::Idle,
+            stage: FrameStage::Idle,
         }
     }
 
     /// Takes the next byte of the stream. Where a frame is whole with it, or is refused, the reply is written to the front of
     /// `out` at once; the rest of `out` may have anything. It takes no memory.
     pub fn feed(&mut self, byte: u8, out: &mut [u8; LONGEST_REPLY]) -> Fed
-        requires open { IsOpen self.old.stand }
+        requires open { StillHears self.old.stand }
         // The replies, in order, are those to the stream.
         ensures replies { (v : View) (stream : List ℕ) → HasHeard v stream self.old
             → (replies v (stream ++ byte ∷ []) ≡ replies v stream ++ take (length_in result) out.new)
