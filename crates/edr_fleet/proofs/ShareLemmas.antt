@@ -1,14 +1,15 @@
--- The shares of a fleet are its lines and its events.
-use Rattle.std.proofs.Common.{◌≡◌, ◌∙◌, ◌≢◌, ℕ, zero, suc, ◌+◌, ◌-◌, ◌*◌, ◌/◌, ◌%◌, ◌<◌, ◌≤◌, min, Bool, true, false, List, [], ◌∷◌, ◌++◌, length, map, take, drop, get_or, Result, Ok, Err, refl, sym, ap, subst, arith, add-one}
+-- The shares of a fleet, one after the other, have its lines and its events.
+use Rattle.std.proofs.Common.{◌≡◌, ◌∙◌, ℕ, zero, suc, ◌+◌, ◌*◌, ◌/◌, ◌%◌, ◌<◌, ◌≤◌, min, true, false, List, ◌++◌, length, map, take, drop, get_or, Result, Ok, Err, sym, ap, subst, arith, add-one, length-drop}
 use Rattle.std.specs.Prelude.{flat_map, sum_by, IsOk}
 use Rattle.std.specs.Borrow.{Bor}
 use Rattle.std.specs.Fork.{slice_chunk}
 use Rattle.std.specs.declared.alloc.AllocError.{AllocError}
-use Rattle.std.proofs.lemmas.List.{length-map, length-take-le, map-append, take_all}
+use Rattle.std.proofs.lemmas.List.Sums.{sum_by-le}
+use Rattle.std.proofs.lemmas.List.{length-take, length-map, length-take-le, map-append, take_all}
 use Rattle.std.proofs.Math.Seq.{take-add}
 use Rattle.std.proofs.Math.Nat.{mod-add-div, mod-lt}
-use Rattle.edr_fleet.specs.declared.parts.Part.{Part}
-use Rattle.edr_fleet.specs.Parts.{HasShare, IsShareOf, events_of, lines_of}
+use Rattle.edr_fleet.specs.declared.parts.FleetPart.{FleetPart}
+use Rattle.edr_fleet.specs.Parts.{IsShareOf, events_of, lines_of}
 use Rattle.edr_fleet.specs.Text.{all_events, image_lines}
 use Rattle.edr_fleet.proofs.TextLemmas.{all_events-append, image_lines-append}
 use Rattle.edr_fleet.proofs.JoinLemmas.{events_next, lines_next}
@@ -17,17 +18,17 @@ abbrev bytes_of : List (Bor (List ℕ)) → List (List ℕ)
 bytes_of images = map (λ (i : Bor (List ℕ)). i.now) images
 
 -- what a share says, where there was memory
-share_of : (some : List (Bor (List ℕ))) (before : ℕ) (r : Result Part AllocError) → IsOk r → IsShareOf some before r
+share_of : (some : List (Bor (List ℕ))) (before : ℕ) (r : Result FleetPart AllocError) → IsOk r → IsShareOf some before r
     → (lines_of r ≡ image_lines (before + 1) (bytes_of some)) × (events_of r ≡ all_events (bytes_of some))
 share_of some before (Ok p) ok share = (share.lines, share.events)
 share_of some before (Err e) ok share = absurd (differ ok) where
   differ : false ≡ true → ⊥
   differ e = cc
 
-module _ (size : ℕ) (images : List (Bor (List ℕ))) (rs : List (Result Part AllocError)) (none : Result Part AllocError)
-    (fine : (n : ℕ) (d : Result Part AllocError) → n < length rs → IsOk (get_or rs n d))
+module _ (size : ℕ) (images : List (Bor (List ℕ))) (rs : List (Result FleetPart AllocError)) (none : Result FleetPart AllocError)
+    (fine : (n : ℕ) (d : Result FleetPart AllocError) → n < length rs → IsOk (get_or rs n d))
     (within : (n : ℕ) → n < length rs → n * size ≤ length images)
-    (shares : (n : ℕ) (d : Result Part AllocError) → n < length rs → IsShareOf (slice_chunk images size n) (n * size) (get_or rs n d)) where
+    (shares : (n : ℕ) (d : Result FleetPart AllocError) → n < length rs → IsShareOf (slice_chunk images size n) (n * size) (get_or rs n d)) where
   abbrev Upto : ℕ → Type 0
   Upto k = (flat_map lines_of (take k rs) ≡ image_lines 1 (bytes_of (take (k * size) images)))
       × (sum_by events_of (take k rs) ≡ all_events (bytes_of (take (k * size) images)))
@@ -71,6 +72,20 @@ module _ (size : ℕ) (images : List (Bor (List ℕ))) (rs : List (Result Part A
         ap (flat_map lines_of) (sym whole) ∙ all.0 ∙ ap (λ (i : List (Bor (List ℕ))). image_lines 1 (bytes_of i)) every,
         ap (sum_by events_of) (sym whole) ∙ all.1 ∙ ap (λ (i : List (Bor (List ℕ))). all_events (bytes_of i)) every,
       )
+
+-- each image has at most sixteen events
+few_in : (some : List (Bor (List ℕ))) (before most : ℕ) (r : Result FleetPart AllocError) → length some ≤ most → IsShareOf some before r → events_of r ≤ 16 * most
+few_in some before most (Ok p) few share = omega (arith, share.few, few)
+few_in some before most (Err e) few share = omega arith
+
+pub few_events : (size : ℕ) (images : List (Bor (List ℕ))) (rs : List (Result FleetPart AllocError)) (most : ℕ) → length images ≤ most
+    → ((n : ℕ) (d : Result FleetPart AllocError) → n < length rs → IsShareOf (slice_chunk images size n) (n * size) (get_or rs n d))
+    → sum_by events_of rs ≤ length rs * (16 * most)
+few_events size images rs most few shares =
+    sum_by-le events_of (16 * most) rs
+    (λ n d within. few_in (slice_chunk images size n) (n * size) most (get_or rs n d)
+    (omega (arith, length-take size (drop (n * size) images), length-drop (n * size) images, few))
+    (shares n d within))
 
 -- the shares are enough for all images
 pub enough_shares : (n size many : ℕ) → 0 < size → many ≡ n / size + min 1 (n % size) → n ≤ many * size

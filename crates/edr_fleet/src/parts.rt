@@ -1,21 +1,28 @@
-//! The lines of some images that follow one another.
-ghost use Rattle.std.specs.Prelude.{◌≡◌, ◌+◌, ◌*◌, ◌≤◌, ◌<◌, ◌^◌, ◌++◌, codes, decimal, map, length, All, IfOk, OnOk};
+//! The lines of images that follow one another.
+ghost use Rattle.std.specs.Prelude.{◌≡◌, ◌+◌, ◌*◌, ◌≤◌, ◌<◌, ◌^◌, ◌++◌, map, length, All, IfOk, OnOk};
 ghost use Rattle.edr_fleet.specs.Frames.{FitsFrame};
-ghost use Rattle.edr_text.specs.Lines.{line_of};
 ghost use Rattle.edr_fleet.specs.Numbers.{events_in};
-ghost use Rattle.edr_fleet.specs.Text.{all_events, image_line, image_lines};
+ghost use Rattle.edr_fleet.specs.Text.{all_events, image_line, image_lines, totals};
 
 use crate::numbers::{put_image, put_number};
 use std::alloc::{AllocError as OutOfMemory, Global};
 
-/// Is told of each image before it is read, with its place from 1.
+/// Is told of each image before it is read, by its place from 1.
 pub trait Turn {
     fn pass(&self, image: u32);
 }
 
+/// A turn that does nothing.
+#[derive(Drop)]
+pub struct NoTurn;
+
+impl Turn for NoTurn {
+    fn pass(&self, _image: u32) {}
+}
+
 /// The lines of some images, and how many events these hold.
 #[derive(Drop)]
-pub(crate) struct Part {
+pub(crate) struct FleetPart {
     pub(crate) lines: Vec<u8>,
     pub(crate) events: u64,
 }
@@ -45,14 +52,14 @@ pub(crate) fn part_of<P: Turn>(
     first: u32,
     images: &[&[u8]],
     turn: &P,
-) -> Result<Part, OutOfMemory>
+) -> Result<FleetPart, OutOfMemory>
     requires fit { All (λ i. FitsFrame i.now) images.now }
     requires few { first + length images.now ≤ 2 ^ 32 }
     ensures lines { IfOk result (λ p. p.lines.items ≡ image_lines first (map (λ i. i.now) images.now)) }
     ensures events { IfOk result (λ p. p.events ≡ all_events (map (λ i. i.now) images.now)) }
     ensures some { IfOk result (λ p. p.events ≤ 16 * length images.now) }
 {
-    let mut part = Part {
+    let mut part = FleetPart {
         lines: Vec::new(alloc),
         events: 0,
     };
@@ -66,8 +73,8 @@ pub(crate) fn part_of<P: Turn>(
 }
 
 /// Appends the two totals.
-pub(crate) fn with_totals(part: Part, images: usize) -> Result<Vec<u8>, OutOfMemory>
-    ensures { IfOk result (λ out. out.items ≡ part.lines.items ++ line_of (codes "images") (decimal images) ++ line_of (codes "events") (decimal part.events)) }
+pub(crate) fn with_totals(part: FleetPart, images: usize) -> Result<Vec<u8>, OutOfMemory>
+    ensures { IfOk result (λ out. out.items ≡ part.lines.items ++ totals images part.events) }
 {
     let mut out = part.lines;
     put_number(&mut out, "images: ", images as u64)?;

@@ -1,17 +1,17 @@
 //! The report of a fleet by threads.
-ghost use Rattle.std.specs.Prelude.{◌≡◌, ◌+◌, ◌≤◌, ◌<◌, ◌^◌, ℕ, length, take, sum_by, flat_map, All, IsOk, IfSome, IfOk, IfErr, OnOk};
+ghost use Rattle.std.specs.Prelude.{◌≡◌, ◌+◌, ◌≤◌, ◌<◌, ◌^◌, ℕ, List, length, sum_by, flat_map, All, IsOk, IfOk, IfErr, OnOk};
 ghost use Rattle.edr_spell.specs.Spell.{largest_trace};
-ghost use Rattle.edr_fleet.specs.declared.frames.FleetRefused.TheVariants.{Truncated};
-ghost use Rattle.edr_fleet.specs.Frames.{EndsInFrameAt, FitsFrame};
+ghost use Rattle.edr_fleet.specs.declared.frames.FleetRefused.TheVariants as refused;
+ghost use Rattle.edr_fleet.specs.Frames.{AreFramesOf, EndsInFrameAt, FitsFrame};
 ghost use Rattle.edr_fleet.specs.Parts.{IsShareOf, events_of, lines_of};
 ghost use Rattle.edr_fleet.specs.Text.{IsFleetText};
 
 use crate::frames::{FleetRefused, images_in};
-use crate::parts::{Part, Turn, part_of, with_totals};
+use crate::parts::{FleetPart, Turn, part_of, with_totals};
 use std::alloc::{AllocError as OutOfMemory, Global};
 use std::thread::{Threads, map_chunks};
 
-// How many images a worker has, so that there are no more parts than workers.
+// How many images a worker has, so that there are at most as many parts as workers.
 fn share_of(images: usize, workers: u8) -> usize
     requires { 1 ≤ workers }
     ensures { 0 < result }
@@ -19,20 +19,14 @@ fn share_of(images: usize, workers: u8) -> usize
     images.div_ceil(usize::from(workers)).max(1)
 }
 
-// The sum, if it fits.
-fn sum_of(a: u64, b: u64) -> Option<u64>
-    ensures { IfSome result (λ n. n ≡ a + b) }
-{
-    a.checked_add(b)
-}
-
-// The parts one behind the other.
-fn joined(alloc: Global, parts: &[Result<Part, OutOfMemory>]) -> Result<Part, OutOfMemory>
+// The parts one after the other.
+fn joined(alloc: Global, parts: &[Result<FleetPart, OutOfMemory>]) -> Result<FleetPart, OutOfMemory>
+    requires { sum_by events_of parts.now < 2 ^ 64 }
     ensures all { OnOk result (All IsOk parts.now) }
     ensures lines { IfOk result (λ p. p.lines.items ≡ flat_map lines_of parts.now) }
     ensures events { IfOk result (λ p. p.events ≡ sum_by events_of parts.now) }
 {
-    let mut all = Part {
+    let mut all = FleetPart {
         lines: Vec::new(alloc),
         events: 0,
     };
@@ -41,17 +35,14 @@ fn joined(alloc: Global, parts: &[Result<Part, OutOfMemory>]) -> Result<Part, Ou
             return Err(OutOfMemory);
         };
         all.lines.extend_from_slice(&part.lines)?;
-        // There are far fewer events; a sum that doesn't fit would be told as want of memory.
-        let Some(events) = sum_of(all.events, part.events) else {
-            return Err(OutOfMemory);
-        };
-        all.events = events;
+        all.events += part.events;
     }
     Ok(all)
 }
 
-/// The same by so many workers, each of which has some of the images, one behind the other. Where no thread can be started for a
-/// worker, the caller does its work. It waits for its threads: its promises hold if it returns.
+/// The report of [`fleet_alone`](crate::fleet_alone), by up to eight workers. Each of them has images that follow one another, and
+/// a thread; where no thread can be started for it, the caller does its work. The call waits for its threads: it promises what
+/// it does if it returns.
 pub fn fleet<R: Threads + Sync, P: Turn + Sync>(
     rt: &R,
     alloc: Global,
@@ -62,7 +53,8 @@ pub fn fleet<R: Threads + Sync, P: Turn + Sync>(
     requires workers { (1 ≤ workers) × (workers ≤ 8) }
     requires few { length bytes.now ≤ largest_trace }
     ensures text { IfOk result (λ out. IsFleetText bytes.now out.items) }
-    ensures cut { IfErr result (λ e. (offset : ℕ) → e ≡ Truncated offset → EndsInFrameAt offset bytes.now) }
+    ensures whole { (images : List (List ℕ)) → AreFramesOf images bytes.now → IfErr result (λ e. e ≡ refused.OutOfMemory) }
+    ensures cut { IfErr result (λ e. (offset : ℕ) → e ≡ refused.Truncated offset → EndsInFrameAt offset bytes.now) }
 {
     let images = images_in(alloc, bytes)?;
     let share = share_of(images.len(), workers);
@@ -71,7 +63,7 @@ pub fn fleet<R: Threads + Sync, P: Turn + Sync>(
         alloc,
         &images,
         share,
-        &|start: usize, some: &[&[u8]]| -> Result<Part, OutOfMemory>
+        &|start: usize, some: &[&[u8]]| -> Result<FleetPart, OutOfMemory>
             requires fit { All (λ i. FitsFrame i.now) some.now }
             requires few { start + 1 + length some.now < 2 ^ 32 }
             ensures share { IsShareOf some.now start result }
