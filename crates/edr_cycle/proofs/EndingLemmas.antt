@@ -29,9 +29,6 @@ use Rattle.edr_cycle.proofs.ListLemmas.{left_first, left_later, length-acks_from
 
 -- ---- which command a call is one of
 
-calls_in : (rs : List Reply) → ℕ
-calls_in rs = all_calls (flat_map (λ r. r.steps) rs)
-
 acknowledged-is : (rs : List Reply) (k j : ℕ) (reply : Reply) → slice_get rs j ≡ Some reply → all_calls (steps_before rs j) < k → k ≤ all_calls (steps_before rs j) + all_calls reply.steps → count_acknowledged k rs ≡ j
 unfolding count_acknowledged
 acknowledged-is [] k j reply at past within = absurd cc

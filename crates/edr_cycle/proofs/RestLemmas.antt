@@ -177,9 +177,6 @@ near-of lists n h c rest s x ys has is = subst (λ (y : Item). y.moment ≤ h.pa
 pub next-asked : (lists : SensorLists) (n : ℕ) (h : History) (c : SplitContents) (rest : Remaining) (z : ℕ) (s : Sensor) (x : Item) (ys : List Item) → IsAsked lists n h c rest z → items_of s rest.left ≡ x ∷ ys → x.moment ≤ z → HasNext lists n h c rest s
 next-asked lists n h c rest z s x ys asked is upto = record { remains = asked.stands.remains; item = x; more = ys; left_is = is; near = let zero = asked.zero_is in omega (arith, zero, upto) }
 
-pub same-self : (h : History) → SameAsk h h
-same-self h = record { closed = refl; asking = refl; parts = refl }
-
 same-again : (a b c : History) → SameAsk a b → SameAsk b c → SameAsk a c
 same-again a b c h k = record { closed = k.closed ∙ h.closed; asking = k.asking ∙ h.asking; parts = k.parts ∙ h.parts }
 
@@ -192,10 +189,7 @@ still-asked lists n h0 h c c' rest rest' z asked before went =
     let zero = asked.zero_is in
     (went.0, record { stands = record { remains = went.1; below = omega (arith, closed, below) }; asking = same.asking ∙ asked.asking; zero_is = omega (arith, closed, zero) }, same-again h0 h went.0 before same)
 
--- where nothing up to the time zero is left
-pub past-none : (z : ℕ) (xs : List Item) → xs ≡ [] → All (λ x. z < x.moment) xs
-past-none z xs is = subst (λ (ys : List Item). All (λ x. z < x.moment) ys) (sym is) (All-nil (λ x. z < x.moment))
-
+-- where the next item is past the time zero, so is all that is left
 pub past-some : (lists : SensorLists) (n : ℕ) (h : History) (c : SplitContents) (rest : Remaining) (z : ℕ) (s : Sensor) (x : Item) (ys : List Item) → IsAsked lists n h c rest z → items_of s rest.left ≡ x ∷ ys → z < x.moment → All (λ y. z < y.moment) (items_of s rest.left)
 past-some lists n h c rest z s x ys asked is late =
     let at = asked.stands.remains in

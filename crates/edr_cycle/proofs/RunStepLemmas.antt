@@ -85,18 +85,6 @@ left_count-less s x ys left is =
 pub nothing_given : (s : Sensor) (xs : List Item) → xs ≡ items_of s no_items ++ xs
 nothing_given s xs = ap (λ (ys : List Item). ys ++ xs) (sym (value_of-each {A = List Item} [] s))
 
--- nothing is issued at first
-pub nothing_issued : (n : ℕ) → issues no_items n 0 ≡ []
-unfolding commands
-nothing_issued n = none (issues no_items n 0) (by_commands n)
-  where
-    none : (xs : List Issue) → map (λ i. i.command) xs ≡ [] → xs ≡ []
-    none [] h = refl
-    none (x ∷ xs) h = absurd (cc)
-
-    by_commands : (n : ℕ) → map (λ i. i.command) (issues no_items n 0) ≡ []
-    by_commands n = commands-start no_items n
-
 -- what holds with an Ok holds of this one
 pub on_ok : {T E P : Type 0} (r : Result T E) (x : T) → r ≡ Ok x → OnOk r P → P
 on_ok {P = P} r x is h = subst (λ y. OnOk y P) is h

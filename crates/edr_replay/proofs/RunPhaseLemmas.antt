@@ -65,15 +65,6 @@ runs_whole f stop number store acks content settled content' settled' content'' 
     runs_to f stop number n store None acks content'' settled'' now.0 next now.1
     (record { view = come.view; view_is = come.view_is; cycle = whole_with f stop store (number - 1) (record { report = Ran number None acks; store = come.view.store; count = come.view.count }) beyond come.cycle })
 
--- telling goes on through the power cycle
-pub tells_off : (a b c : Option (List ℕ)) (settled settled' : ℕ → Bool) → StillTells a b → Told (Comes settled settled') b c → StillTells a c
-tells_off None None None settled settled' s t = tt
-tells_off None None (Some z) settled settled' s t = absurd t
-tells_off None (Some y) c settled settled' s t = absurd s
-tells_off (Some x) None c settled settled' s t = absurd s
-tells_off (Some x) (Some y) None settled settled' s t = absurd t
-tells_off (Some x) (Some y) (Some z) settled settled' s t = tt
-
 -- a run that succeeded made all its calls, and the last one was good: the stop is none or past it
 pub past_last : (stop calls began : ℕ) (s : FuseState) (before now : ℕ) → IsPlanned stop s before now → began ≡ 0 → s.ticks ≡ began + calls → (0 < calls → s.last_good ≡ s.ticks) → (stop ≡ 0) ⊎ (calls < stop)
 past_last stop calls began s before now planned begins all good =

@@ -10,7 +10,7 @@ use edr_cycle::{Books, start};
 use edr_drive::beginning::{begin, ends_of};
 use edr_drive::committer::CommitterDesk;
 use edr_drive::drive_cycle;
-use edr_drive::threads::{Back, with_workers};
+use edr_drive::threads::{Back, Crew, with_workers};
 use edr_items::{Feeds, Sensor};
 use edr_loops::{Desk, Gate};
 use std::alloc::Global;
@@ -136,14 +136,17 @@ fn check_threads<R: Threads + Wait + Abort + Copy + Send + 'static>(
     let mut committer = beginning.committer;
     let recording = beginning.recording;
     let mut desk = Some(recording.desk);
-    let back = with_workers(
+    let crew = Crew {
         rt,
-        0,
         workers,
+        gate: &gate,
+        feeds,
+    };
+    let back = with_workers(
+        &crew,
+        0,
         recording.places,
         &mut desk,
-        feeds,
-        &gate,
         &mut committer,
         &mut memory,
     );

@@ -7,14 +7,14 @@ use Rattle.edr_drive.proofs.PlaceLemmas.{all-begun}
 use Rattle.edr_drive.proofs.driving.run_threads.Goals as goal
 
 pub with_workers-back-requires-clause-begun : goal.with_workers-back-requires-clause-begun
-with_workers-back-requires-clause-begun g c = λ κs h. c.requires.beginning.begun (arc_value c.args.feeds.now)
+with_workers-back-requires-clause-begun g c = λ κs h. c.requires.beginning.begun (arc_value c.args.crew.now.feeds.now)
 
 pub with_workers-back-requires-clause-recording : goal.with_workers-back-requires-clause-recording
 with_workers-back-requires-clause-recording g c = λ κs h. (c.args.recording.desk.core.cycle, 0, c.requires.beginning.stands 0)
 
 pub returns-clause-ended : goal.returns-clause-ended
 returns-clause-ended g c =
-    let f = arc_value c.args.feeds.now in
+    let f = arc_value c.args.crew.now.feeds.now in
     let b = c.args.recording in
     let begins = c.requires.beginning in
     let back = c.with_workers-back in
