@@ -27,6 +27,9 @@ use sheets::put_sheets;
 use std::alloc::{AllocError as OutOfMemory, Global};
 use template::put;
 
+/// The version of the program that draws a page, as the file VERSION has it.
+pub const VERSION: &[u8] = b"1.0.0";
+
 /// The page of what a report tells: the cycles of a run, what was found in the banks in this order, and the count of
 /// ignition cycles. `size` and `digest` are the report's length in bytes and its SHA-256, which the page names.
 #[tactic(auto, unfolding(crate::specs::Page::page_bytes))]
