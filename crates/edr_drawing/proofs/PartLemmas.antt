@@ -1,5 +1,5 @@
 -- What stands on a page in one piece.
-use Rattle.std.proofs.Common.{◌≡◌, ◌∙◌, sym, ap, subst, ℕ, zero, suc, ◌+◌, ◌⊎◌, inl, inr, arith, if◌then◌else◌, List, [], ◌∷◌, ◌++◌, Contains, flat_map, append_assoc, append-nil}
+use Rattle.std.proofs.Common.{◌≡◌, ◌∙◌, sym, ap, subst, ℕ, zero, suc, ◌+◌, ◌⊎◌, inl, inr, arith, if◌then◌else◌, List, [], ◌∷◌, ◌++◌, Contains, decimal, flat_map, append_assoc, append-nil}
 use Rattle.std.proofs.lemmas.List.Elements.{Contains-append_cases}
 use Rattle.edr_record.specs.declared.Record.{Record}
 use Rattle.edr_image.specs.declared.BankView.{BankView}
@@ -8,12 +8,14 @@ use Rattle.edr_image.specs.declared.Found.{Found}
 use Rattle.edr_image.specs.Reports.{Report}
 use Rattle.edr_report.specs.Lines.{Line}
 use Rattle.edr_report.specs.Report.{event_lines, events_lines, found_records, run_lines}
+use Rattle.edr_drawing.specs.declared.cover.TheConstants.{FIRST_FOOT}
+use Rattle.edr_drawing.specs.declared.sheets.TheConstants.{SHEET_FOOT}
 use Rattle.edr_drawing.specs.declared.long.TheConstants.{FORM, NOTES, PAGE_END}
 use Rattle.edr_drawing.specs.declared.tables.TheConstants.{ELEMENTS_END, ELEMENTS_START, NEXT_TABLE, RUN_START, TABLE_END}
-use Rattle.edr_drawing.specs.Template.{fixed}
+use Rattle.edr_drawing.specs.Template.{digest_hex, filled, fixed}
 use Rattle.edr_drawing.specs.Tables.{row, line_row, begins_table, elements_table, run_table}
-use Rattle.edr_drawing.specs.Sheets.{sheet, sheets, sheet_foot}
-use Rattle.edr_drawing.specs.Cover.{cover, cover_foot}
+use Rattle.edr_drawing.specs.Sheets.{sheet, sheets}
+use Rattle.edr_drawing.specs.Cover.{cover}
 use Rattle.edr_drawing.specs.Page.{page_bytes}
 use Rattle.edr_drawing.specs.Laws.{IsInOnePiece}
 
@@ -59,7 +61,7 @@ line_of_sheet : (n bank : ℕ) (r : Record) (digest : List ℕ) (l : Line) → C
 unfolding sheet
 line_of_sheet n bank r digest l among =
     let p = row l.name l.value in
-    part_left p _ (sheet_foot n digest) (part_right p _ (elements_table n bank r) (line_of_elements n bank r l among))
+    part_left p _ (filled SHEET_FOOT.now (decimal n ∷ digest_hex digest ∷ [])) (part_right p _ (elements_table n bank r) (line_of_elements n bank r l among))
 
 line_of_found : (n bank : ℕ) (view : BankView) (fs : List Found) (digest : List ℕ) (l : Line) →
     ((m : ℕ) → Contains (events_lines m (found_records fs)) l → IsInOnePiece (row l.name l.value) (sheets m fs digest)) →
@@ -97,7 +99,7 @@ line_of_cover : (reports : List Report) (found : List Found) (count size : ℕ) 
 unfolding cover
 line_of_cover reports found count size digest l among =
     let p = row l.name l.value in
-    part_left p _ (cover_foot size digest)
+    part_left p _ (filled FIRST_FOOT.now (decimal size ∷ digest_hex digest ∷ []))
     (part_left p _ (fixed FORM.now) (part_left p _ (fixed NOTES.now) (part_right p _ (run_table reports) (line_of_run reports l among))))
 
 pub cycle_on_page : (reports : List Report) (found : List Found) (count size : ℕ) (digest : List ℕ) (l : Line) →

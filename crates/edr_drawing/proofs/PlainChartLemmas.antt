@@ -1,5 +1,5 @@
 -- The charts of a page have plain texts.
-use Rattle.std.proofs.Common.{refl, ℕ, ◌≡◌, ◌+◌, ◌-◌, ◌*◌, ◌/◌, ℤ, Bool, true, false, nat_lt, nat_le, nat_eq, Option, Some, None, List, [], ◌∷◌, pos, codes, decimal}
+use Rattle.std.proofs.Common.{refl, ℕ, ◌≡◌, ◌+◌, ◌-◌, ◌*◌, ◌/◌, ℤ, Bool, true, false, nat_lt, nat_le, nat_eq, Option, Some, None, List, [], ◌∷◌, pos, map, get_or, codes, decimal}
 use Rattle.std.specs.Ordering.{int_eq}
 use Rattle.edr_record.specs.declared.Extreme.{Extreme}
 use Rattle.edr_record.specs.Parts.{PrePart, CrashPart}
@@ -8,50 +8,38 @@ use Rattle.edr_record.specs.declared.Profile.TheVariants.{Short, Long}
 use Rattle.edr_drawing.specs.declared.after.CarAxis.{CarAxis}
 use Rattle.edr_drawing.specs.declared.after.CarAxis.TheVariants.{Along, Across}
 use Rattle.edr_drawing.specs.declared.after.TheConstants.{ACROSS_NUMBER, ALONG_NUMBER, AXIS_LINE, CENTRED, DIAMOND, END_LINE, ENDING, FAR_RIGHT, GRID, LEGEND, LEVEL, MAX_ACROSS, MAX_ALONG, NOT_RECORDED, PAST_WINDOW, ROOM_NOT_RECORDED, TIME_LINES, TIMES_APART, ZERO_LINES}
-use Rattle.edr_drawing.specs.declared.before.TheConstants.{BEFORE_END, BEFORE_HEAD, BELT_NAME, BRAKE_NAME, BRAKE_Y, FIELD_HEIGHT, LAMP_NAME, THROTTLE_NAME, TIME_LINE, TIMES, ZERO_LINE}
+use Rattle.edr_drawing.specs.declared.before.TheConstants.{BEFORE_END, BEFORE_HEAD, BELT_NAME, BRAKE_NAME, BRAKE_Y, FIELD_HEIGHT, FIVE, HALF_SECOND, LAMP_NAME, TENTH, THROTTLE_NAME, TIME_LINE, TIMES, TWENTY, ZERO_LINE}
 use Rattle.edr_drawing.specs.declared.changes.Scale.{Scale}
 use Rattle.edr_drawing.specs.declared.lanes.ChartLane.{ChartLane}
 use Rattle.edr_drawing.specs.declared.lanes.TheConstants.{GRID_LINE}
-use Rattle.edr_drawing.specs.declared.rows.TheConstants.{ACROSS_Y, ALONG_Y, DRIVER_CURTAIN, DRIVER_FRONTAL, DRIVER_PRETENSIONER, DRIVER_SIDE, END_OF_EVENT, END_Y, LEFT_OF_FLAG, MAX_LATERAL, MAX_LONGITUDINAL, MAX_RESULTANT, PASSENGER_CURTAIN, PASSENGER_FRONTAL, PASSENGER_PRETENSIONER, PASSENGER_SIDE, RESULTANT_Y, RIGHT_OF_FLAG, AFTER_HEAD, CHART_END, FIRED_ROW, FLAG_FAR_RIGHT, NOT_FIRED_ROW, RULE, TIMED_ROW, WITHOUT_PART}
+use Rattle.edr_drawing.specs.declared.rows.TheConstants.{ACROSS_Y, AFTER_HEAD, ALONG_Y, CHART_END, END_OF_EVENT, END_Y, FIRED_ROW, FLAG_FAR_RIGHT, LEFT_OF_FLAG, MAX_LATERAL, MAX_LONGITUDINAL, MAX_RESULTANT, NOT_FIRED_ROW, RESTRAINTS, RESULTANT_Y, RIGHT_OF_FLAG, RULE, TIMED_ROW, WITHOUT_PART}
 use Rattle.edr_drawing.specs.declared.scales.TheConstants.{RIGHT}
 use Rattle.edr_drawing.specs.declared.shapes.Shape.{Shape}
 use Rattle.edr_drawing.specs.declared.shapes.Shape.TheVariants as shape
-use Rattle.edr_drawing.specs.declared.shapes.TheConstants.{ALONG, BEGIN, DOT, FIELD, JOIN, NUMBER, PATH, PATH_END, PATH_POINT, POINT, SQUARE, WORD}
-use Rattle.edr_drawing.specs.Template.{filled, milliseconds}
-use Rattle.edr_drawing.specs.Shapes.{field_class, path_point, shape_bytes, shapes_bytes, switch_word, word_class}
+use Rattle.edr_drawing.specs.declared.shapes.TheConstants.{ALONG, BEGIN, DOT, FIELD, GAP, IN_GAP, IN_OFF, IN_ON, JOIN, NONE, NUMBER, OFF, ON, PATH, PATH_END, PATH_POINT, POINT, SQUARE, WORD}
+use Rattle.edr_drawing.specs.Template.{filled, milliseconds, of_profile}
+use Rattle.edr_drawing.specs.Shapes.{path_point, shape_bytes, shapes_bytes}
 use Rattle.edr_record.specs.declared.TheConstants.{POINT_STEP}
 use Rattle.edr_drawing.specs.Scales.{slot_x, time_at}
 use Rattle.edr_drawing.specs.Lanes.{cells, cells_of, drawn_lane, field_shapes, gap, grid, grid_line, lane_y, long_cells, points}
-use Rattle.edr_drawing.specs.Before.{are_same, before_chart, brake_slots, slots_apart, span_word, switch_runs, switches, time_line, time_lines}
+use Rattle.edr_drawing.specs.Before.{are_same, before_chart, brake_slots, switch_runs, switches, time_line, time_lines}
 use Rattle.edr_drawing.specs.Changes.{change_y, time_x}
 use Rattle.edr_drawing.specs.After.{axis_class, axis_marks, axis_points, changes_chart, curve, diamond, end_line, level, levels, mark_at, maxima, maximum_number, past_window, time_line as later_line, time_lines as later_lines}
-use Rattle.edr_drawing.specs.Rows.{after_chart, after_head, event_rows, restraint_row, restraint_rows, rows_chart, rule, side, timed_row}
-use Rattle.edr_drawing.proofs.PlainLemmas.{Plain, all_low, plain_nil, plain_append, plain_if, plain_fixed, plain_flat_map, plain_counted, plain_text, plain_filled, plain_values, plain_decimal, plain_extreme, plain_milliseconds, text_then}
+use Rattle.edr_drawing.specs.Rows.{after_chart, after_head, event_rows, restraint_row, restraint_rows, rows_chart, rule, timed_row}
+use Rattle.edr_drawing.proofs.PlainLemmas.{EachPlain, Plain, all_fixed, all_low, plain_nil, plain_append, plain_if, plain_fixed, plain_flat_map, plain_counted, plain_text, plain_filled, plain_values, plain_decimal, plain_either, plain_of_profile, plain_of_switch, plain_extreme, plain_milliseconds, text_then}
 
 -- ---- shapes
-
-plain_field_class : (v : Option Bool) → Plain (field_class v)
-plain_field_class (Some true) = plain_fixed (field_class (Some true)) refl
-plain_field_class (Some false) = plain_fixed (field_class (Some false)) refl
-plain_field_class None = plain_fixed (field_class None) refl
-
-plain_word_class : (v : Option Bool) → Plain (word_class v)
-plain_word_class (Some true) = plain_fixed (word_class (Some true)) refl
-plain_word_class (Some false) = plain_fixed (word_class (Some false)) refl
-plain_word_class None = plain_fixed (word_class None) refl
-
-plain_switch_word : (v : Option Bool) → Plain (switch_word v)
-plain_switch_word (Some true) = plain_fixed (switch_word (Some true)) refl
-plain_switch_word (Some false) = plain_fixed (switch_word (Some false)) refl
-plain_switch_word None = plain_fixed (switch_word None) refl
 
 plain_shape : (s : Shape) → Plain (shape_bytes s)
 plain_shape (shape.Dot x y) = plain_filled DOT.now _ refl (search plain_values)
 plain_shape (shape.Point x y) = plain_filled POINT.now _ refl (search plain_values)
 plain_shape (shape.Square x y) = plain_filled SQUARE.now _ refl (search plain_values)
 plain_shape (shape.Value x y v) = plain_filled NUMBER.now _ refl (search plain_values)
-plain_shape (shape.Field x y width height v) = plain_filled FIELD.now _ refl (search (plain_values, plain_field_class) depth 20)
-plain_shape (shape.Word x y v) = plain_filled WORD.now _ refl (search (plain_values, plain_word_class, plain_switch_word) depth 20)
+plain_shape (shape.Field x y width height v) = let class = plain_of_switch v ON.now OFF.now GAP.now refl refl refl in plain_filled FIELD.now _ refl (search plain_values depth 20)
+plain_shape (shape.Word x y v) =
+    let class = plain_of_switch v IN_ON.now IN_OFF.now IN_GAP.now refl refl refl in
+    let word = plain_of_switch v ON.now OFF.now NONE.now refl refl refl in
+    plain_filled WORD.now _ refl (search plain_values depth 20)
 
 plain_shapes : (shapes : List Shape) → Plain (shapes_bytes shapes)
 plain_shapes shapes = plain_flat_map shape_bytes plain_shape shapes
@@ -59,7 +47,7 @@ plain_shapes shapes = plain_flat_map shape_bytes plain_shape shapes
 plain_path_point : (joined : Bool) (x y : ℕ) → Plain (path_point joined x y)
 unfolding path_point
 plain_path_point joined x y =
-    let join = plain_if joined JOIN.now BEGIN.now (plain_fixed JOIN.now refl) (plain_fixed BEGIN.now refl) in
+    let join = plain_either joined JOIN.now BEGIN.now refl refl in
     plain_filled PATH_POINT.now _ refl (search plain_values)
 
 -- ---- the chart before time zero
@@ -113,19 +101,13 @@ plain_brake_slots : (f : Profile) (vs : List (Option Bool)) → Plain (brake_slo
 plain_brake_slots Short vs = plain_switches 0 vs
 plain_brake_slots Long vs = plain_switch_runs 0 0 None vs
 
-plain_span : (f : Profile) → Plain (span_word f)
-plain_span Short = plain_fixed (span_word Short) refl
-plain_span Long = plain_fixed (span_word Long) refl
-
-plain_apart : (f : Profile) → Plain (slots_apart f)
-plain_apart Short = plain_fixed (slots_apart Short) refl
-plain_apart Long = plain_fixed (slots_apart Long) refl
-
 pub plain_before_chart : (n : ℕ) (p : PrePart) → Plain (before_chart n p)
 unfolding before_chart
 plain_before_chart n p =
-    let head : Plain (filled BEFORE_HEAD.now (decimal n ∷ span_word p.profile ∷ slots_apart p.profile ∷ [])) =
-    plain_filled BEFORE_HEAD.now _ refl (search (plain_values, plain_span, plain_apart)) in
+    let span = plain_of_profile p.profile FIVE.now TWENTY.now refl refl in
+    let apart = plain_of_profile p.profile HALF_SECOND.now TENTH.now refl refl in
+    let head : Plain (filled BEFORE_HEAD.now (decimal n ∷ of_profile p.profile FIVE.now TWENTY.now ∷ of_profile p.profile HALF_SECOND.now TENTH.now ∷ [])) =
+    plain_filled BEFORE_HEAD.now _ refl (search plain_values) in
     let zero_line : Plain (filled ZERO_LINE.now (decimal (time_at TIMES) ∷ [])) = plain_filled ZERO_LINE.now _ refl (search plain_values) in
     let throttle = plain_text THROTTLE_NAME.now refl in
     let brake = plain_text BRAKE_NAME.now refl in
@@ -150,7 +132,7 @@ plain_later_lines s =
 plain_level : (s : Scale) (above : ℕ) → Plain (level s above)
 unfolding level
 plain_level s above =
-    let class = plain_if (nat_eq above s.bottom) AXIS_LINE.now GRID.now (plain_fixed AXIS_LINE.now refl) (plain_fixed GRID.now refl) in
+    let class = plain_either (nat_eq above s.bottom) AXIS_LINE.now GRID.now refl refl in
     let number = plain_if (nat_lt above s.bottom) _ _ (text_then (codes "-") (decimal (s.bottom - above)) refl (plain_decimal (s.bottom - above))) (plain_decimal (above - s.bottom)) in
     plain_filled LEVEL.now _ refl (search plain_values)
 
@@ -161,7 +143,7 @@ plain_levels s = plain_counted (λ i. level s (s.step * i)) (λ i. plain_level s
 plain_end_line : (s : Scale) (end w : ℕ) → Plain (end_line s end w)
 unfolding end_line
 plain_end_line s end w =
-    let class = plain_if (nat_lt (time_x s end) FAR_RIGHT) CENTRED.now ENDING.now (plain_fixed CENTRED.now refl) (plain_fixed ENDING.now refl) in
+    let class = plain_either (nat_lt (time_x s end) FAR_RIGHT) CENTRED.now ENDING.now refl refl in
     plain_append _ _ (plain_filled END_LINE.now _ refl (search plain_values))
     (plain_if (nat_le (time_x s w + ROOM_NOT_RECORDED) RIGHT) _ _ (plain_filled NOT_RECORDED.now _ refl (search plain_values)) plain_nil)
 
@@ -184,9 +166,9 @@ plain_curve s a vs =
     let end = plain_text PATH_END.now refl in
     search (plain_append, plain_axis_points, plain_axis_marks)
 
-plain_maximum : (template : List ℕ) (x y : ℕ) (v : ℤ) → all_low template ≡ true → Plain (maximum_number template x y v)
+plain_maximum : (template : List ℕ) (s : Scale) (e : Extreme) (down up : ℕ) → all_low template ≡ true → Plain (maximum_number template s e down up)
 unfolding maximum_number
-plain_maximum template x y v low = plain_if (int_eq v (pos 0)) _ _ plain_nil (plain_filled template _ low (search plain_values))
+plain_maximum template s e down up low = plain_if (int_eq e.kmh (pos 0)) _ _ plain_nil (plain_filled template _ low (search plain_values))
 
 plain_diamond : (s : Scale) (e : Extreme) (class : List ℕ) → all_low class ≡ true → Plain (diamond s e class)
 plain_diamond s e class low = let text = plain_fixed class low in plain_filled DIAMOND.now _ refl (search plain_values)
@@ -195,7 +177,7 @@ plain_maxima : (s : Scale) (along across : Extreme) → Plain (maxima s along ac
 unfolding maxima
 plain_maxima s along across =
     plain_append _ _ (plain_append _ _ (plain_append _ _ (plain_diamond s across MAX_ACROSS.now refl) (plain_diamond s along MAX_ALONG.now refl))
-    (plain_maximum ACROSS_NUMBER.now _ _ _ refl)) (plain_maximum ALONG_NUMBER.now _ _ _ refl)
+    (plain_maximum ACROSS_NUMBER.now s across _ _ refl)) (plain_maximum ALONG_NUMBER.now s along _ _ refl)
 
 plain_changes_chart : (s : Scale) (c : CrashPart) → Plain (changes_chart s c)
 unfolding changes_chart
@@ -208,23 +190,20 @@ plain_changes_chart s c =
 plain_rule : (y : ℕ) → Plain (rule y)
 plain_rule y = plain_filled RULE.now _ refl (search plain_values)
 
-plain_side : (x : ℕ) → Plain (side x)
-plain_side x = plain_if (nat_lt x FLAG_FAR_RIGHT) RIGHT_OF_FLAG.now LEFT_OF_FLAG.now (plain_fixed RIGHT_OF_FLAG.now refl) (plain_fixed LEFT_OF_FLAG.now refl)
-
 plain_timed : (template : List ℕ) (s : Scale) (y : ℕ) (label : List ℕ) (t : ℕ) (words : List ℕ) → all_low template ≡ true → Plain label → Plain words → Plain (timed_row template s y label t words)
-plain_timed template s y label t words low h k = plain_filled template _ low (search (plain_values, plain_side) depth 20)
+plain_timed template s y label t words low h k =
+    let side = plain_either (nat_lt (time_x s t) FLAG_FAR_RIGHT) RIGHT_OF_FLAG.now LEFT_OF_FLAG.now refl refl in
+    plain_filled template _ low (search plain_values depth 20)
 
-plain_restraint : (s : Scale) (row : ℕ) (label : List ℕ) (t : Option ℕ) → all_low label ≡ true → Plain (restraint_row s row label t)
+plain_restraint : (s : Scale) (row : ℕ) (label : List ℕ) (t : Option ℕ) → Plain label → Plain (restraint_row s row label t)
 unfolding restraint_row
-plain_restraint s row label (Some t) low = plain_timed FIRED_ROW.now s _ label t (milliseconds t) refl (plain_fixed label low) (plain_milliseconds t)
-plain_restraint s row label None low = let name = plain_fixed label low in plain_filled NOT_FIRED_ROW.now _ refl (search plain_values)
+plain_restraint s row label (Some t) h = plain_timed FIRED_ROW.now s _ label t (milliseconds t) refl h (plain_milliseconds t)
+plain_restraint s row label None h = plain_filled NOT_FIRED_ROW.now _ refl (search plain_values)
 
-plain_restraint_rows : (s : Scale) (fired : List (Option ℕ)) → Plain (restraint_rows s fired)
-unfolding restraint_rows
-plain_restraint_rows s fired =
-    plain_append _ _ (plain_append _ _ (plain_append _ _ (plain_append _ _ (plain_append _ _ (plain_append _ _ (plain_append _ _
-    (plain_restraint s 0 DRIVER_FRONTAL.now _ refl) (plain_restraint s 1 PASSENGER_FRONTAL.now _ refl)) (plain_restraint s 2 DRIVER_SIDE.now _ refl)) (plain_restraint s 3 PASSENGER_SIDE.now _ refl))
-    (plain_restraint s 4 DRIVER_CURTAIN.now _ refl)) (plain_restraint s 5 PASSENGER_CURTAIN.now _ refl)) (plain_restraint s 6 DRIVER_PRETENSIONER.now _ refl)) (plain_restraint s 7 PASSENGER_PRETENSIONER.now _ refl)
+plain_restraint_rows : {L : Type 0} (name : L → List ℕ) (s : Scale) (row : ℕ) (ls : List L) (fired : List (Option ℕ)) → EachPlain (map name ls) → Plain (restraint_rows name s row ls fired)
+plain_restraint_rows name s row [] fired h = plain_nil
+plain_restraint_rows name s row (l ∷ ls) fired h =
+    plain_append _ _ (plain_restraint s row (name l) (get_or fired row None) h.0) (plain_restraint_rows name s (row + 1) ls fired h.1)
 
 plain_event_rows : (s : Scale) (c : CrashPart) → Plain (event_rows s c)
 unfolding event_rows
@@ -239,7 +218,8 @@ plain_rows_chart : (s : Scale) (c : CrashPart) → Plain (rows_chart s c)
 unfolding rows_chart
 plain_rows_chart s c =
     let end = plain_text CHART_END.now refl in
-    search (plain_append, plain_rule, plain_event_rows, plain_restraint_rows) depth 20
+    let restraints = plain_restraint_rows (λ l. l.now) s 0 RESTRAINTS c.fired (all_fixed (map (λ l. l.now) RESTRAINTS) refl) in
+    search (plain_append, plain_rule, plain_event_rows) depth 20
 
 plain_after_head : (n : ℕ) (c : CrashPart) → Plain (after_head n c)
 unfolding after_head

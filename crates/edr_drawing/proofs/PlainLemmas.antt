@@ -1,14 +1,16 @@
 -- Texts whose bytes are all below 128, and the templates of a page, which are such texts.
-use Rattle.std.proofs.Common.{arith, ◌≡◌, refl, ℕ, zero, suc, ◌+◌, ◌-◌, ◌/◌, ◌%◌, ◌<◌, ltb-true, ℤ, pos, negsuc, Bool, true, false, if◌then◌else◌, nat_lt, nat_eq, List, [], ◌∷◌, ◌++◌, flat_map, get_or, codes, decimal, All}
+use Rattle.std.proofs.Common.{arith, ◌≡◌, refl, ℕ, zero, suc, ◌+◌, ◌-◌, ◌/◌, ◌%◌, ◌<◌, ltb-true, ℤ, pos, negsuc, Bool, true, false, if◌then◌else◌, nat_lt, nat_eq, Option, Some, None, List, [], ◌∷◌, ◌++◌, flat_map, get_or, codes, decimal, All}
 use Rattle.std.specs.List.{list_all}
 use Rattle.std.specs.Fmt.{signed_decimal, digits, digits_onto, digit_glyph}
-use Rattle.std.proofs.lemmas.List.Elements.{All-nil, All-cons, All-append}
+use Rattle.std.proofs.lemmas.List.Elements.{All-nil, All-cons, All-append, All-head, All-tail}
 use Rattle.std.proofs.lemmas.Bool.{and_parts}
 use Rattle.edr_record.specs.declared.Place.{Place}
 use Rattle.edr_record.specs.declared.Place.TheVariants.{First, Second}
+use Rattle.edr_record.specs.declared.Profile.{Profile}
+use Rattle.edr_record.specs.declared.Profile.TheVariants.{Short, Long}
 use Rattle.edr_report.specs.Words.{tenths_of}
 use Rattle.edr_drawing.specs.declared.template.TheConstants.{SECOND_AFTER}
-use Rattle.edr_drawing.specs.Template.{byte_bytes, extreme_words, filled, filled_from, fixed, milliseconds, place_words, seconds}
+use Rattle.edr_drawing.specs.Template.{byte_bytes, digest_hex, either, extreme_words, filled, filled_from, fixed, hex_byte, hex_digit, milliseconds, of_profile, of_switch, place_words, seconds}
 use Rattle.edr_drawing.specs.Scales.{flat_map_below}
 
 -- each byte is below 128
@@ -79,6 +81,10 @@ abbrev pub EachPlain : List (List ℕ) → Type 0
 EachPlain [] = Unit {0}
 EachPlain (x ∷ xs) = Plain x × EachPlain xs
 
+pub all_fixed : (xs : List (List ℕ)) → list_all all_low xs ≡ true → EachPlain xs
+all_fixed [] e = tt
+all_fixed (x ∷ xs) e = (plain_fixed x (and_parts _ _ e).0, all_fixed xs (and_parts _ _ e).1)
+
 pub record AllPlain (values : List (List ℕ)) : Type 0 where
   pub each : EachPlain values
 
@@ -110,6 +116,35 @@ unfolding filled
 plain_filled template values low h = plain_from values false template h.each low
 
 -- ---- what goes into their holes
+
+-- one of some fixed texts
+pub plain_either : (b : Bool) (x y : List ℕ) → all_low x ≡ true → all_low y ≡ true → Plain (either b x y)
+plain_either b x y low_x low_y = plain_if b x y (plain_fixed x low_x) (plain_fixed y low_y)
+
+pub plain_of_profile : (f : Profile) (x y : List ℕ) → all_low x ≡ true → all_low y ≡ true → Plain (of_profile f x y)
+plain_of_profile Short x y low_x low_y = plain_fixed x low_x
+plain_of_profile Long x y low_x low_y = plain_fixed y low_y
+
+pub plain_of_switch : (v : Option Bool) (x y z : List ℕ) → all_low x ≡ true → all_low y ≡ true → all_low z ≡ true → Plain (of_switch v x y z)
+plain_of_switch (Some true) x y z low_x low_y low_z = plain_fixed x low_x
+plain_of_switch (Some false) x y z low_x low_y low_z = plain_fixed y low_y
+plain_of_switch None x y z low_x low_y low_z = plain_fixed z low_z
+
+-- a digest
+hex_low : (n : ℕ) → n < 16 → hex_digit n < 128
+hex_low n small = by (nat_lt n 10)
+  where
+    by : (b : Bool) → (if b then 48 + n else 97 + (n - 10)) < 128
+    by true = omega arith
+    by false = omega arith
+
+pub plain_digest : (digest : List ℕ) → All (λ b. b < 256) digest → Plain (digest_hex digest)
+plain_digest [] small = plain_nil
+plain_digest (b ∷ bs) small =
+    let one = All-head (λ b. b < 256) b bs small in
+    let low = plain_cons (hex_digit (b % 16)) [] (hex_low (b % 16) (omega arith)) plain_nil in
+    plain_append (hex_byte b) (digest_hex bs) (plain_cons (hex_digit (b / 16)) _ (hex_low (b / 16) (omega (arith, one))) low)
+    (plain_digest bs (All-tail (λ b. b < 256) b bs small))
 
 -- a fixed text before another one, and after one
 pub text_then : (t rest : List ℕ) → all_low t ≡ true → Plain rest → Plain (t ++ rest)

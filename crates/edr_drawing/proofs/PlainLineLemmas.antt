@@ -32,7 +32,7 @@ use Rattle.edr_report.specs.EventWords.{place_of, pre_words, crash_words, event_
 use Rattle.edr_report.specs.Report.{ack_line, cycle_lines, event_line, event_lines, run_lines}
 use Rattle.edr_drawing.specs.declared.tables.TheConstants.{LINE_END, LINE_NAME, LINE_VALUE, NEXT_TABLE}
 use Rattle.edr_drawing.specs.Tables.{row, line_row, begins_table}
-use Rattle.edr_drawing.proofs.PlainLemmas.{EachPlain, Plain, all_low, plain_nil, plain_cons, plain_append, plain_if, plain_fixed, plain_text, plain_decimal, plain_signed, text_then, then_text}
+use Rattle.edr_drawing.proofs.PlainLemmas.{EachPlain, Plain, all_fixed, all_low, plain_nil, plain_cons, plain_append, plain_if, plain_fixed, plain_text, plain_decimal, plain_signed, text_then, then_text}
 
 -- ---- values
 
@@ -137,10 +137,6 @@ lines_append (x ∷ xs) ys h k = (h.0, h.1, lines_append xs ys h.2 k)
 lines_flat_map : {X : Type 0} (f : X → List Line) → ((x : X) → PlainLines (f x)) → (xs : List X) → PlainLines (flat_map f xs)
 lines_flat_map f h [] = tt
 lines_flat_map f h (x ∷ xs) = lines_append (f x) (flat_map f xs) (h x) (lines_flat_map f h xs)
-
-all_fixed : (xs : List (List ℕ)) → list_all all_low xs ≡ true → EachPlain xs
-all_fixed [] e = tt
-all_fixed (x ∷ xs) e = (plain_fixed x (and_parts _ _ e).0, all_fixed xs (and_parts _ _ e).1)
 
 lines_acks : (i : ℕ) (log : List Ack) → PlainLines (map (ack_line i) log)
 lines_acks i [] = tt

@@ -13,37 +13,21 @@ use Rattle.edr_image.specs.declared.BankView.{BankView}
 use Rattle.edr_image.specs.declared.BankView.TheVariants.{Void, Event, Damaged}
 use Rattle.edr_image.specs.declared.Found.{Found}
 use Rattle.edr_image.specs.Reports.{Report}
-use Rattle.edr_drawing.specs.declared.cover.TheConstants.{DAMAGED_BANK, DAMAGED_START, EVENT_END, EVENT_ROW, EVENTS_START, FIRST_FOOT, FIRST_SHEET, GREATEST, NO_GREATEST}
+use Rattle.edr_drawing.specs.declared.cover.TheConstants.{DAMAGED_BANK, DAMAGED_START, EVENT_END, EVENT_ROW, EVENTS_START, FIRST_FOOT, FIRST_SHEET, GREATEST, NO_GREATEST, NOT_SET, SET}
 use Rattle.edr_drawing.specs.declared.long.TheConstants.{BODY, FORM, HEAD, NOTES, PAGE_END, STYLE}
 use Rattle.edr_drawing.specs.declared.reasons.TheConstants.{ACROSS_ABSENT, ALONG_ABSENT, BELT, BRAKE_ABSENT, LIST_END, PART_ABSENT, REASONS_START, SPEED_ABSENT, SWITCH_ABSENT, THROTTLE_ABSENT, WARNING_LAMP}
-use Rattle.edr_drawing.specs.declared.sheets.TheConstants.{FACTS, FOOT_END, SHEET_FOOT, SHEET_HEAD}
+use Rattle.edr_drawing.specs.declared.sheets.TheConstants.{FACTS, LONG, NO, SHEET_FOOT, SHEET_HEAD, SHORT, YES}
 use Rattle.edr_drawing.specs.declared.tables.TheConstants.{ACROSS_ROW, ALONG_ROW, CELL, ELEMENTS_END, ELEMENTS_START, POINT_TIME, POINTS_BODY, POINTS_START, ROW_END, RUN_START, TABLE_END}
 use Rattle.edr_report.specs.Words.{number_shown}
-use Rattle.edr_drawing.specs.Template.{filled}
+use Rattle.edr_drawing.specs.Template.{digest_hex, either, filled}
 use Rattle.edr_drawing.specs.Reasons.{share_reason, switch_reason, pre_reasons, crash_reasons, reasons}
 use Rattle.edr_drawing.specs.Tables.{time_cell, time_cells, change_cell, change_row, points_table, elements_table, run_table}
-use Rattle.edr_drawing.specs.Sheets.{yes_no, profile_word, hex_digit, hex_byte, digest_hex, facts, sheet_foot, sheet, sheet_if, sheets, count_if}
-use Rattle.edr_drawing.specs.Cover.{extreme_cells, event_row, event_row_if, event_rows, events_in, events_table, mark_word, damaged_item, damaged_items, damaged_in, damaged_list, cover_foot, cover}
+use Rattle.edr_drawing.specs.Sheets.{facts, sheet, sheet_if, sheets, count_if}
+use Rattle.edr_drawing.specs.Cover.{extreme_cells, event_row, event_row_if, event_rows, events_in, events_table, damaged_item, damaged_items, damaged_in, damaged_list, cover}
 use Rattle.edr_drawing.specs.Page.{page_bytes}
-use Rattle.edr_drawing.proofs.PlainLemmas.{Plain, all_low, plain_nil, plain_cons, plain_append, plain_if, plain_fixed, plain_flat_map, plain_counted, plain_text, plain_filled, plain_values}
+use Rattle.edr_drawing.proofs.PlainLemmas.{Plain, all_low, plain_nil, plain_cons, plain_append, plain_if, plain_fixed, plain_flat_map, plain_counted, plain_text, plain_filled, plain_digest, plain_either, plain_of_profile, plain_values}
 use Rattle.edr_drawing.proofs.PlainChartLemmas.{plain_before_chart, plain_after_chart}
 use Rattle.edr_drawing.proofs.PlainLineLemmas.{plain_event_lines, plain_run_lines}
-
--- a digest in hexadecimal
-hex_low : (n : ℕ) → n < 16 → hex_digit n < 128
-hex_low n small = by (nat_lt n 10)
-  where
-    by : (b : Bool) → (if b then 48 + n else 97 + (n - 10)) < 128
-    by true = omega arith
-    by false = omega arith
-
-plain_digest : (digest : List ℕ) → All (λ b. b < 256) digest → Plain (digest_hex digest)
-plain_digest [] small = plain_nil
-plain_digest (b ∷ bs) small =
-    let one = All-head (λ b. b < 256) b bs small in
-    let low = plain_cons (hex_digit (b % 16)) [] (hex_low (b % 16) (omega arith)) plain_nil in
-    plain_append (hex_byte b) (digest_hex bs) (plain_cons (hex_digit (b / 16)) _ (hex_low (b / 16) (omega (arith, one))) low)
-    (plain_digest bs (All-tail (λ b. b < 256) b bs small))
 
 -- why a record isn't complete
 plain_share : (template : List ℕ) (absent count : ℕ) → all_low template ≡ true → Plain (share_reason template absent count)
@@ -103,29 +87,21 @@ plain_run (r ∷ rs) =
     plain_append _ _ (plain_append _ _ (plain_text RUN_START.now refl) (plain_run_lines (r ∷ rs))) (plain_text TABLE_END.now refl)
 
 -- the sheet of an event
-plain_yes_no : (b : Bool) → Plain (yes_no b)
-plain_yes_no true = plain_fixed (yes_no true) refl
-plain_yes_no false = plain_fixed (yes_no false) refl
-
-plain_profile : (f : Profile) → Plain (profile_word f)
-plain_profile Short = plain_fixed (profile_word Short) refl
-plain_profile Long = plain_fixed (profile_word Long) refl
-
 plain_facts : (bank : ℕ) (key : Key) (locked : Bool) (f : Profile) (place : Place) → Plain (facts bank key locked f place)
 unfolding facts
-plain_facts bank key locked f place = plain_filled FACTS.now _ refl (search (plain_values, plain_yes_no, plain_profile) depth 20)
-
-plain_sheet_foot : (n : ℕ) (digest : List ℕ) → All (λ b. b < 256) digest → Plain (sheet_foot n digest)
-unfolding sheet_foot
-plain_sheet_foot n digest small =
-    plain_append _ _ (plain_append _ _ (plain_filled SHEET_FOOT.now _ refl (search plain_values)) (plain_digest digest small)) (plain_text FOOT_END.now refl)
+plain_facts bank key locked f place =
+    let deployed = plain_either locked YES.now NO.now refl refl in
+    let profile = plain_of_profile f SHORT.now LONG.now refl refl in
+    plain_filled FACTS.now _ refl (search plain_values depth 20)
 
 plain_sheet : (n bank : ℕ) (r : Record) (digest : List ℕ) → All (λ b. b < 256) digest → Plain (sheet n bank r digest)
 unfolding sheet
 plain_sheet n bank r digest small =
-    let head : Plain (filled SHEET_HEAD.now (decimal n ∷ yes_no (is_complete r) ∷ [])) =
-    plain_filled SHEET_HEAD.now _ refl (search (plain_values, plain_yes_no)) in
-    let foot = plain_sheet_foot n digest small in
+    let complete = plain_either (is_complete r) YES.now NO.now refl refl in
+    let head : Plain (filled SHEET_HEAD.now (decimal n ∷ either (is_complete r) YES.now NO.now ∷ [])) =
+    plain_filled SHEET_HEAD.now _ refl (search plain_values) in
+    let sum = plain_digest digest small in
+    let foot : Plain (filled SHEET_FOOT.now (decimal n ∷ digest_hex digest ∷ [])) = plain_filled SHEET_FOOT.now _ refl (search plain_values) in
     search (plain_append, plain_facts, plain_reasons, plain_before_chart, plain_after_chart, plain_points_table, plain_elements) depth 20
 
 plain_sheet_if : (n bank : ℕ) (view : BankView) (digest : List ℕ) → All (λ b. b < 256) digest → Plain (sheet_if n bank view digest)
@@ -149,8 +125,10 @@ plain_extreme_cells (Some c) = plain_filled GREATEST.now _ refl (search plain_va
 plain_event_row : (n bank : ℕ) (r : Record) → Plain (event_row n bank r)
 unfolding event_row
 plain_event_row n bank r =
-    plain_append _ _ (plain_append _ _ (plain_filled EVENT_ROW.now _ refl (search (plain_values, plain_yes_no) depth 20)) (plain_extreme_cells r.crash))
-    (plain_filled EVENT_END.now _ refl (search (plain_values, plain_yes_no)))
+    let deployed = plain_either r.locked YES.now NO.now refl refl in
+    let complete = plain_either (is_complete r) YES.now NO.now refl refl in
+    plain_append _ _ (plain_append _ _ (plain_filled EVENT_ROW.now _ refl (search plain_values depth 20)) (plain_extreme_cells r.crash))
+    (plain_filled EVENT_END.now _ refl (search plain_values))
 
 plain_event_row_if : (n bank : ℕ) (view : BankView) → Plain (event_row_if n bank view)
 plain_event_row_if n bank Void = plain_nil
@@ -169,14 +147,11 @@ plain_events_table found =
     plain_if (nat_eq (events_in found) 0) _ _ plain_nil
     (plain_append _ _ (plain_append _ _ (plain_text EVENTS_START.now refl) (plain_event_rows 1 found)) (plain_text TABLE_END.now refl))
 
-plain_mark_word : (b : Bool) → Plain (mark_word b)
-plain_mark_word true = plain_fixed (mark_word true) refl
-plain_mark_word false = plain_fixed (mark_word false) refl
-
 plain_damaged : (bank : ℕ) (view : BankView) → Plain (damaged_item bank view)
 plain_damaged bank Void = plain_nil
 plain_damaged bank (Event r) = plain_nil
-plain_damaged bank (Damaged o x l) = plain_filled DAMAGED_BANK.now _ refl (search (plain_values, plain_mark_word))
+plain_damaged bank (Damaged o x l) =
+    let mark = plain_either l SET.now NOT_SET.now refl refl in plain_filled DAMAGED_BANK.now _ refl (search plain_values)
 
 plain_damaged_items : (found : List Found) → Plain (damaged_items found)
 plain_damaged_items found = plain_flat_map (λ f. damaged_item f.bank f.view) (λ f. plain_damaged f.bank f.view) found
@@ -187,17 +162,13 @@ plain_damaged_list found =
     plain_if (nat_eq (damaged_in found) 0) _ _ plain_nil
     (plain_append _ _ (plain_append _ _ (plain_text DAMAGED_START.now refl) (plain_damaged_items found)) (plain_text LIST_END.now refl))
 
-plain_cover_foot : (size : ℕ) (digest : List ℕ) → All (λ b. b < 256) digest → Plain (cover_foot size digest)
-unfolding cover_foot
-plain_cover_foot size digest small =
-    plain_append _ _ (plain_append _ _ (plain_filled FIRST_FOOT.now _ refl (search plain_values)) (plain_digest digest small)) (plain_text FOOT_END.now refl)
-
 plain_cover : (reports : List Report) (found : List Found) (count size : ℕ) (digest : List ℕ) → All (λ b. b < 256) digest → Plain (cover reports found count size digest)
 unfolding cover
 plain_cover reports found count size digest small =
     let head : Plain (filled FIRST_SHEET.now (decimal (events_in found) ∷ decimal (damaged_in found) ∷ decimal (number_shown count) ∷ [])) =
     plain_filled FIRST_SHEET.now _ refl (search plain_values) in
-    let foot = plain_cover_foot size digest small in
+    let sum = plain_digest digest small in
+    let foot : Plain (filled FIRST_FOOT.now (decimal size ∷ digest_hex digest ∷ [])) = plain_filled FIRST_FOOT.now _ refl (search plain_values) in
     let notes = plain_text NOTES.now refl in
     let form = plain_text FORM.now refl in
     search (plain_append, plain_events_table, plain_damaged_list, plain_run) depth 20

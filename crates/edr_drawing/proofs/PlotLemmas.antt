@@ -4,35 +4,30 @@ use Rattle.std.proofs.Math.Nat.{mul-le-mul_right, div-le_of_le-mul}
 use Rattle.std.proofs.lemmas.List.Elements.{All-nil, All-cons, All-weaker}
 use Rattle.edr_record.specs.Parts.{CrashPart}
 use Rattle.edr_drawing.specs.declared.changes.Scale.{Scale}
-use Rattle.edr_drawing.specs.Scales.{rise_of, fall_of, below_top, scale_top}
-use Rattle.edr_drawing.specs.Changes.{highest, lowest, reach_up, reach_down, step_of, part_of, scale_of, span_of, time_x}
+use Rattle.edr_drawing.specs.declared.scales.Way.{Way}
+use Rattle.edr_drawing.specs.declared.scales.Way.TheVariants.{Up, Down}
+use Rattle.edr_drawing.specs.Scales.{reach_of, below_top, scale_top}
+use Rattle.edr_drawing.specs.Changes.{furthest, reach, step_of, part_of, scale_of, span_of, time_x}
 use Rattle.edr_drawing.specs.Laws.{StandsIn}
 
 -- a change that the scale reaches
-below_both : (top bottom : ℕ) (v : ℤ) → rise_of v ≤ top → fall_of v ≤ bottom → below_top top v ≤ top + bottom
+below_both : (top bottom : ℕ) (v : ℤ) → reach_of Up v ≤ top → reach_of Down v ≤ bottom → below_top top v ≤ top + bottom
 below_both top bottom (pos n) rises falls = omega arith
 below_both top bottom (negsuc n) rises falls = omega (arith, falls)
 
-stands : (s : Scale) (v : ℤ) → 1 ≤ s.top + s.bottom → rise_of v ≤ s.top → fall_of v ≤ s.bottom → StandsIn s v
+stands : (s : Scale) (v : ℤ) → 1 ≤ s.top + s.bottom → reach_of Up v ≤ s.top → reach_of Down v ≤ s.bottom → StandsIn s v
 stands s v some rises falls =
     let most = mul-le-mul_right 370 (below_both s.top s.bottom v rises falls) in
     let quotient : below_top s.top v * 370 / (s.top + s.bottom) ≤ 370 = div-le_of_le-mul (s.top + s.bottom) most in
     (omega arith, omega (arith, quotient))
 
 -- points reach no further than all of them
-rises_all : (vs : List ℤ) → All (λ v. rise_of v ≤ highest vs) vs
-rises_all [] = All-nil (λ (v : ℤ). rise_of v ≤ 0)
-rises_all (v ∷ vs) =
-    let most = max (rise_of v) (highest vs) in
-    All-cons (λ (x : ℤ). rise_of x ≤ most) v vs (omega arith)
-    (All-weaker (λ (x : ℤ). rise_of x ≤ highest vs) (λ (x : ℤ). rise_of x ≤ most) (λ x h. omega (arith, h)) vs (rises_all vs))
-
-falls_all : (vs : List ℤ) → All (λ v. fall_of v ≤ lowest vs) vs
-falls_all [] = All-nil (λ (v : ℤ). fall_of v ≤ 0)
-falls_all (v ∷ vs) =
-    let most = max (fall_of v) (lowest vs) in
-    All-cons (λ (x : ℤ). fall_of x ≤ most) v vs (omega arith)
-    (All-weaker (λ (x : ℤ). fall_of x ≤ lowest vs) (λ (x : ℤ). fall_of x ≤ most) (λ x h. omega (arith, h)) vs (falls_all vs))
+reaches_all : (way : Way) (vs : List ℤ) → All (λ v. reach_of way v ≤ furthest way vs) vs
+reaches_all way [] = All-nil (λ (v : ℤ). reach_of way v ≤ 0)
+reaches_all way (v ∷ vs) =
+    let most = max (reach_of way v) (furthest way vs) in
+    All-cons (λ (x : ℤ). reach_of way x ≤ most) v vs (omega arith)
+    (All-weaker (λ (x : ℤ). reach_of way x ≤ furthest way vs) (λ (x : ℤ). reach_of way x ≤ most) (λ x h. omega (arith, h)) vs (reaches_all way vs))
 
 -- a scale reaches up to its value
 scale_reaches : (step value : ℕ) → 1 ≤ step → value ≤ scale_top step value
@@ -67,10 +62,10 @@ some_part true up down step some steep = omega (arith, some)
 some_part false up down step some steep = omega (arith, steep refl, scale_reaches step up some, scale_reaches step down some)
 
 -- a change within the reach of a crash part stands in its plot
-pub stands_in : (c : CrashPart) (v : ℤ) → rise_of v ≤ reach_up c → fall_of v ≤ reach_down c → StandsIn (scale_of c) v
+stands_in : (c : CrashPart) (v : ℤ) → reach_of Up v ≤ reach Up c → reach_of Down v ≤ reach Down c → StandsIn (scale_of c) v
 stands_in c v rises falls =
-    let up = reach_up c in
-    let down = reach_down c in
+    let up = reach Up c in
+    let down = reach Down c in
     let step = step_of up down in
     let some = step_some up down in
     let flat = nat_eq up 0 && nat_eq down 0 in
@@ -78,15 +73,18 @@ stands_in c v rises falls =
     (omega (arith, rises, part_reaches flat step up some (λ h. (flat_none up down h).0)))
     (omega (arith, falls, part_reaches flat step down some (λ h. (flat_none up down h).1)))
 
+-- the points of an axis, which reach no further than the crash part
+axis_stands : (c : CrashPart) (vs : List ℤ) → ((way : Way) → furthest way vs ≤ reach way c) → All (StandsIn (scale_of c)) vs
+axis_stands c vs within k d in_range =
+    let rises = reaches_all Up vs k d in_range in
+    let falls = reaches_all Down vs k d in_range in
+    stands_in c _ (omega (arith, rises, within Up)) (omega (arith, falls, within Down))
+
 pub along_stands : (c : CrashPart) → All (StandsIn (scale_of c)) c.along
-along_stands c =
-    All-weaker (λ (v : ℤ). (rise_of v ≤ highest c.along) × (fall_of v ≤ lowest c.along)) (StandsIn (scale_of c))
-    (λ v h. stands_in c v (omega (arith, h.0)) (omega (arith, h.1))) c.along (λ k d within. (rises_all c.along k d within, falls_all c.along k d within))
+along_stands c = axis_stands c c.along (λ way. omega arith)
 
 pub across_stands : (c : CrashPart) → All (StandsIn (scale_of c)) c.across
-across_stands c =
-    All-weaker (λ (v : ℤ). (rise_of v ≤ highest c.across) × (fall_of v ≤ lowest c.across)) (StandsIn (scale_of c))
-    (λ v h. stands_in c v (omega (arith, h.0)) (omega (arith, h.1))) c.across (λ k d within. (rises_all c.across k d within, falls_all c.across k d within))
+across_stands c = axis_stands c c.across (λ way. omega arith)
 
 pub maxima_stand : (c : CrashPart) → StandsIn (scale_of c) c.max_along.kmh × StandsIn (scale_of c) c.max_across.kmh
 maxima_stand c = (stands_in c c.max_along.kmh (omega arith) (omega arith), stands_in c c.max_across.kmh (omega arith) (omega arith))

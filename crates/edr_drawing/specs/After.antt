@@ -14,7 +14,7 @@ use Rattle.edr_drawing.specs.declared.scales.TheConstants.{BELOW_TOP, HEIGHT, RI
 use Rattle.edr_drawing.specs.declared.shapes.Shape.{Shape}
 use Rattle.edr_drawing.specs.declared.shapes.Shape.TheVariants as shape
 use Rattle.edr_drawing.specs.declared.shapes.TheConstants.{ACROSS, ALONG, PATH, PATH_END}
-use Rattle.edr_drawing.specs.Template.{filled, fixed}
+use Rattle.edr_drawing.specs.Template.{either, filled, fixed}
 use Rattle.edr_drawing.specs.Shapes.{path_point, shapes_bytes}
 use Rattle.edr_drawing.specs.Scales.{flat_map_below}
 use Rattle.edr_drawing.specs.Changes.{change_y, time_x}
@@ -42,7 +42,7 @@ level_y s above = BELOW_TOP + (s.top + s.bottom - above) * HEIGHT / (s.top + s.b
 unfoldable pub level : Scale → ℕ → List ℕ
 level s above =
     filled LEVEL.now
-    ((if nat_eq above s.bottom then AXIS_LINE.now else GRID.now)
+    (either (nat_eq above s.bottom) AXIS_LINE.now GRID.now
     ∷ decimal (level_y s above)
     ∷ decimal (level_y s above + 9)
     ∷ (if nat_lt above s.bottom then codes "-" ++ decimal (s.bottom - above) else decimal (above - s.bottom))
@@ -57,7 +57,7 @@ levels s = flat_map_below (λ i. level s (s.step * i)) ((s.top + s.bottom) / s.s
 -- the line at the end of the event, and the words where nothing is recorded, if there is room for them
 unfoldable pub end_line : Scale → ℕ → ℕ → List ℕ
 end_line s end w =
-    filled END_LINE.now (decimal (time_x s end) ∷ (if nat_lt (time_x s end) FAR_RIGHT then CENTRED.now else ENDING.now) ∷ [])
+    filled END_LINE.now (decimal (time_x s end) ∷ either (nat_lt (time_x s end) FAR_RIGHT) CENTRED.now ENDING.now ∷ [])
     ++ (if nat_le (time_x s w + ROOM_NOT_RECORDED) RIGHT
     then filled NOT_RECORDED.now (decimal ((time_x s w + RIGHT) / 2) ∷ [])
     else [])
@@ -93,25 +93,24 @@ curve s a vs = filled PATH.now (axis_class a ∷ []) ++ axis_points s 0 vs ++ fi
 
 -- ---- the greatest changes
 
--- the number of a greatest change, unless it is 0
-unfoldable pub maximum_number : List ℕ → ℕ → ℕ → ℤ → List ℕ
-maximum_number template x y v =
-    if int_eq v (pos 0) then [] else filled template (decimal x ∷ decimal y ∷ signed_decimal v ∷ [])
-
--- a diamond at a greatest change; the number across stands above it, the number along below
+-- a diamond at a greatest change
 abbrev pub diamond : Scale → Extreme → List ℕ → List ℕ
 diamond s e class =
     filled DIAMOND.now (class ∷ decimal (time_x s e.at) ∷ decimal (change_y s e.kmh - DIAMOND_UP) ∷ [])
 
-abbrev pub across_number : Scale → Extreme → List ℕ
-across_number s e = maximum_number ACROSS_NUMBER.now (time_x s e.at) (change_y s e.kmh - NUMBER_UP) e.kmh
-
-abbrev pub along_number : Scale → Extreme → List ℕ
-along_number s e = maximum_number ALONG_NUMBER.now (time_x s e.at) (change_y s e.kmh + NUMBER_DOWN) e.kmh
+-- its number, unless it is 0, so far below its middle and above it: that across stands above the diamond, that along below it
+unfoldable pub maximum_number : List ℕ → Scale → Extreme → ℕ → ℕ → List ℕ
+maximum_number template s e down up =
+    if int_eq e.kmh (pos 0)
+    then []
+    else filled template (decimal (time_x s e.at) ∷ decimal (change_y s e.kmh + down - up) ∷ signed_decimal e.kmh ∷ [])
 
 unfoldable pub maxima : Scale → Extreme → Extreme → List ℕ
 maxima s along across =
-    diamond s across MAX_ACROSS.now ++ diamond s along MAX_ALONG.now ++ across_number s across ++ along_number s along
+    diamond s across MAX_ACROSS.now
+    ++ diamond s along MAX_ALONG.now
+    ++ maximum_number ACROSS_NUMBER.now s across 0 NUMBER_UP
+    ++ maximum_number ALONG_NUMBER.now s along NUMBER_DOWN 0
 
 -- ---- the whole chart
 

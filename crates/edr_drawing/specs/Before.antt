@@ -5,7 +5,7 @@ use Rattle.edr_record.specs.declared.Profile.{Profile}
 use Rattle.edr_record.specs.declared.Profile.TheVariants.{Short, Long}
 use Rattle.edr_drawing.specs.declared.before.TheConstants.{BEFORE_END, BEFORE_HEAD, BELT_NAME, BELT_Y, BRAKE_NAME, BRAKE_Y, FIELD_HEIGHT, FIVE, HALF_SECOND, LAMP_NAME, LAMP_Y, LAST_SPEED_STEP, LONG_SECOND, SHORT_SECOND, SPEED_LANE, SPEED_LINES, SPEED_STEPS, TENTH, THROTTLE_LANE, THROTTLE_NAME, TIME_LINE, TIMES, TWENTY, ZERO_LINE}
 use Rattle.edr_drawing.specs.declared.lanes.ChartLane.{ChartLane}
-use Rattle.edr_drawing.specs.Template.{filled, fixed, seconds}
+use Rattle.edr_drawing.specs.Template.{filled, fixed, of_profile, seconds}
 use Rattle.edr_drawing.specs.Shapes.{shapes_bytes}
 use Rattle.edr_drawing.specs.Scales.{time_at, slot_x, least_step, scale_top, flat_map_below}
 use Rattle.edr_drawing.specs.Lanes.{drawn_lane, field_shapes, run_shapes}
@@ -82,18 +82,9 @@ switch_field f y v = shapes_bytes (field_shapes (second_x f) y FIELD_HEIGHT v)
 
 -- ---- the whole chart
 
--- how many seconds a chart shows, and how far apart its slots are
-abbrev pub span_word : Profile → List ℕ
-span_word Short = FIVE.now
-span_word Long = TWENTY.now
-
-abbrev pub slots_apart : Profile → List ℕ
-slots_apart Short = HALF_SECOND.now
-slots_apart Long = TENTH.now
-
 unfoldable pub before_chart : ℕ → PrePart → List ℕ
 before_chart n p =
-    filled BEFORE_HEAD.now (decimal n ∷ span_word p.profile ∷ slots_apart p.profile ∷ [])
+    filled BEFORE_HEAD.now (decimal n ∷ of_profile p.profile FIVE.now TWENTY.now ∷ of_profile p.profile HALF_SECOND.now TENTH.now ∷ [])
     ++ time_lines p.profile TIMES
     ++ filled ZERO_LINE.now (decimal (time_at TIMES) ∷ [])
     ++ drawn_lane p.profile (speed_lane p.speed) p.speed

@@ -5,23 +5,17 @@ use Rattle.edr_record.specs.Parts.{CrashPart}
 use Rattle.edr_drawing.specs.declared.changes.Scale.{Scale}
 use Rattle.edr_drawing.specs.declared.changes.TheConstants.{CHANGE_LINES, CHANGE_STEPS, EARLY_SPAN, LAST_CHANGE_STEP, WHOLE_SPAN}
 use Rattle.edr_drawing.specs.declared.scales.TheConstants.{BELOW_TOP, HEIGHT, LEFT, WIDTH}
-use Rattle.edr_drawing.specs.Scales.{rise_of, fall_of, below_top, least_step, scale_top}
+use Rattle.edr_drawing.specs.declared.scales.Way.{Way}
+use Rattle.edr_drawing.specs.declared.scales.Way.TheVariants.{Up, Down}
+use Rattle.edr_drawing.specs.Scales.{reach_of, below_top, least_step, scale_top}
 
--- how far points reach above 0, and how far below
-abbrev pub highest : List ℤ → ℕ
-highest [] = 0
-highest (v ∷ vs) = max (rise_of v) (highest vs)
+-- how far points reach that way, and the points and the greatest changes of both axes
+abbrev pub furthest : Way → List ℤ → ℕ
+furthest way [] = 0
+furthest way (v ∷ vs) = max (reach_of way v) (furthest way vs)
 
-abbrev pub lowest : List ℤ → ℕ
-lowest [] = 0
-lowest (v ∷ vs) = max (fall_of v) (lowest vs)
-
--- how far the points and the greatest changes of both axes reach above 0, and how far below
-abbrev pub reach_up : CrashPart → ℕ
-reach_up c = max (max (max (highest c.along) (highest c.across)) (rise_of c.max_along.kmh)) (rise_of c.max_across.kmh)
-
-abbrev pub reach_down : CrashPart → ℕ
-reach_down c = max (max (max (lowest c.along) (lowest c.across)) (fall_of c.max_along.kmh)) (fall_of c.max_across.kmh)
+abbrev pub reach : Way → CrashPart → ℕ
+reach way c = max (max (max (furthest way c.along) (furthest way c.across)) (reach_of way c.max_along.kmh)) (reach_of way c.max_across.kmh)
 
 -- the last time across: the early one where the end and all firings are at most that
 abbrev pub is_early : Option ℕ → Bool
@@ -48,7 +42,7 @@ scale_with up down span = record {
 }
 
 abbrev pub scale_of : CrashPart → Scale
-scale_of c = scale_with (reach_up c) (reach_down c) (span_of c)
+scale_of c = scale_with (reach Up c) (reach Down c) (span_of c)
 
 -- up: a change of speed between the top of its scale and as much below 0 as the bottom says
 abbrev pub change_y : Scale → ℤ → ℕ

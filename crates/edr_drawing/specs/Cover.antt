@@ -1,5 +1,5 @@
 -- The first sheet of a page.
-use Rattle.std.specs.Prelude.{ℕ, ◌+◌, Bool, if◌then◌else◌, nat_eq, Option, Some, None, List, [], ◌∷◌, ◌++◌, flat_map, decimal}
+use Rattle.std.specs.Prelude.{ℕ, ◌+◌, if◌then◌else◌, nat_eq, Option, Some, None, List, [], ◌∷◌, ◌++◌, flat_map, decimal}
 use Rattle.std.specs.Fmt.{signed_decimal}
 use Rattle.edr_record.specs.declared.Record.{Record}
 use Rattle.edr_record.specs.Parts.{CrashPart}
@@ -12,10 +12,10 @@ use Rattle.edr_report.specs.Words.{number_shown}
 use Rattle.edr_drawing.specs.declared.cover.TheConstants.{DAMAGED_BANK, DAMAGED_START, EVENT_END, EVENT_ROW, EVENTS_START, FIRST_FOOT, FIRST_SHEET, GREATEST, NO_GREATEST, NOT_SET, SET}
 use Rattle.edr_drawing.specs.declared.long.TheConstants.{FORM, NOTES}
 use Rattle.edr_drawing.specs.declared.reasons.TheConstants.{LIST_END}
-use Rattle.edr_drawing.specs.declared.sheets.TheConstants.{FOOT_END}
+use Rattle.edr_drawing.specs.declared.sheets.TheConstants.{NO, YES}
 use Rattle.edr_drawing.specs.declared.tables.TheConstants.{TABLE_END}
-use Rattle.edr_drawing.specs.Template.{filled, fixed, place_words}
-use Rattle.edr_drawing.specs.Sheets.{yes_no, digest_hex, count_if}
+use Rattle.edr_drawing.specs.Template.{digest_hex, either, filled, fixed, place_words}
+use Rattle.edr_drawing.specs.Sheets.{count_if}
 use Rattle.edr_drawing.specs.Tables.{run_table}
 
 -- how many events were found, and how many damaged banks
@@ -54,10 +54,10 @@ event_row n bank r =
     ∷ decimal (number_shown r.pre.key.cycle)
     ∷ decimal r.pre.key.zero
     ∷ place_words r.pre.place
-    ∷ yes_no r.locked
+    ∷ either r.locked YES.now NO.now
     ∷ [])
     ++ extreme_cells r.crash
-    ++ filled EVENT_END.now (yes_no (is_complete r) ∷ [])
+    ++ filled EVENT_END.now (either (is_complete r) YES.now NO.now ∷ [])
 
 abbrev pub event_row_if : ℕ → ℕ → BankView → List ℕ
 event_row_if n bank Void = []
@@ -78,15 +78,11 @@ events_table found =
 
 -- ---- the list of damaged banks
 
--- whether the mark of a locked record is set
-abbrev pub mark_word : Bool → List ℕ
-mark_word locked = if locked then SET.now else NOT_SET.now
-
 -- the item of a bank, if it is damaged
 abbrev pub damaged_item : ℕ → BankView → List ℕ
 damaged_item bank Void = []
 damaged_item bank (Event r) = []
-damaged_item bank (Damaged o x l) = filled DAMAGED_BANK.now (decimal bank ∷ decimal o ∷ decimal x ∷ mark_word l ∷ [])
+damaged_item bank (Damaged o x l) = filled DAMAGED_BANK.now (decimal bank ∷ decimal o ∷ decimal x ∷ either l SET.now NOT_SET.now ∷ [])
 
 abbrev pub damaged_items : List Found → List ℕ
 damaged_items found = flat_map (λ f. damaged_item f.bank f.view) found
@@ -100,9 +96,6 @@ damaged_list found =
 
 -- ---- the whole sheet
 
-unfoldable pub cover_foot : ℕ → List ℕ → List ℕ
-cover_foot size digest = filled FIRST_FOOT.now (decimal size ∷ []) ++ digest_hex digest ++ fixed FOOT_END.now
-
 -- the first sheet: what was found, how to read the pages, and fields that are filled in by hand
 unfoldable pub cover : List Report → List Found → ℕ → ℕ → List ℕ → List ℕ
 cover reports found count size digest =
@@ -112,4 +105,4 @@ cover reports found count size digest =
     ++ run_table reports
     ++ fixed NOTES.now
     ++ fixed FORM.now
-    ++ cover_foot size digest
+    ++ filled FIRST_FOOT.now (decimal size ∷ digest_hex digest ∷ [])

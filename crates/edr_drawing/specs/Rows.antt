@@ -4,19 +4,16 @@ use Rattle.std.specs.Fmt.{signed_decimal}
 use Rattle.edr_record.specs.declared.Extreme.{Extreme}
 use Rattle.edr_record.specs.Parts.{CrashPart}
 use Rattle.edr_drawing.specs.declared.changes.Scale.{Scale}
-use Rattle.edr_drawing.specs.declared.rows.TheConstants.{ACROSS_Y, AFTER_HEAD, ALONG_Y, BESIDE_FLAG, CHART_END, DRIVER_CURTAIN, DRIVER_FRONTAL, DRIVER_PRETENSIONER, DRIVER_SIDE, END_OF_EVENT, END_Y, FIRED_ROW, FLAG_DOWN, FLAG_FAR_RIGHT, LEFT_OF_FLAG, MAX_LATERAL, MAX_LONGITUDINAL, MAX_RESULTANT, NOT_FIRED_ROW, PASSENGER_CURTAIN, PASSENGER_FRONTAL, PASSENGER_PRETENSIONER, PASSENGER_SIDE, RESTRAINTS_Y, RESULTANT_Y, RIGHT_OF_FLAG, ROW_HEIGHT, ROWS_END, RULE, TIMED_ROW, WITHOUT_PART, WORDS_DOWN}
-use Rattle.edr_drawing.specs.Template.{extreme_words, filled, fixed, milliseconds}
+use Rattle.edr_drawing.specs.declared.rows.TheConstants.{ACROSS_Y, AFTER_HEAD, ALONG_Y, BESIDE_FLAG, CHART_END, END_OF_EVENT, END_Y, FIRED_ROW, FLAG_DOWN, FLAG_FAR_RIGHT, LEFT_OF_FLAG, MAX_LATERAL, MAX_LONGITUDINAL, MAX_RESULTANT, NOT_FIRED_ROW, RESTRAINTS, RESTRAINTS_Y, RESULTANT_Y, RIGHT_OF_FLAG, ROWS_END, ROW_HEIGHT, RULE, TIMED_ROW, WITHOUT_PART, WORDS_DOWN}
+use Rattle.edr_drawing.specs.Template.{either, extreme_words, filled, fixed, milliseconds}
 use Rattle.edr_drawing.specs.Changes.{scale_of, time_x}
 use Rattle.edr_drawing.specs.After.{changes_chart}
 
 -- ---- one row
 
--- words beside a flag stand right of it, or left of it far to the right: where, and on which side
+-- where words beside a flag stand: right of it, and left of one far to the right
 abbrev pub beside : ℕ → ℕ
 beside x = if nat_lt x FLAG_FAR_RIGHT then x + BESIDE_FLAG else x - BESIDE_FLAG
-
-abbrev pub side : ℕ → List ℕ
-side x = if nat_lt x FLAG_FAR_RIGHT then RIGHT_OF_FLAG.now else LEFT_OF_FLAG.now
 
 -- the row of something at a time, with its name and these words
 abbrev pub timed_row : List ℕ → Scale → ℕ → List ℕ → ℕ → List ℕ → List ℕ
@@ -27,7 +24,7 @@ timed_row template s y label t words =
     ∷ decimal (time_x s t)
     ∷ decimal (y + FLAG_DOWN)
     ∷ decimal (beside (time_x s t))
-    ∷ side (time_x s t)
+    ∷ either (nat_lt (time_x s t) FLAG_FAR_RIGHT) RIGHT_OF_FLAG.now LEFT_OF_FLAG.now
     ∷ words
     ∷ [])
 
@@ -40,19 +37,10 @@ unfoldable pub restraint_row : Scale → ℕ → List ℕ → Option ℕ → Lis
 restraint_row s row label (Some t) = timed_row FIRED_ROW.now s (restraint_y row) label t (milliseconds t)
 restraint_row s row label None = filled NOT_FIRED_ROW.now (decimal (restraint_y row + WORDS_DOWN) ∷ label ∷ [])
 
-abbrev pub fired_at : List (Option ℕ) → ℕ → Option ℕ
-fired_at fired i = get_or fired i None
-
-unfoldable pub restraint_rows : Scale → List (Option ℕ) → List ℕ
-restraint_rows s fired =
-    restraint_row s 0 DRIVER_FRONTAL.now (fired_at fired 0)
-    ++ restraint_row s 1 PASSENGER_FRONTAL.now (fired_at fired 1)
-    ++ restraint_row s 2 DRIVER_SIDE.now (fired_at fired 2)
-    ++ restraint_row s 3 PASSENGER_SIDE.now (fired_at fired 3)
-    ++ restraint_row s 4 DRIVER_CURTAIN.now (fired_at fired 4)
-    ++ restraint_row s 5 PASSENGER_CURTAIN.now (fired_at fired 5)
-    ++ restraint_row s 6 DRIVER_PRETENSIONER.now (fired_at fired 6)
-    ++ restraint_row s 7 PASSENGER_PRETENSIONER.now (fired_at fired 7)
+-- the rows of restraints with these labels, the first of which stands in this row
+abbrev pub restraint_rows : {L : Type 0} → (L → List ℕ) → Scale → ℕ → List L → List (Option ℕ) → List ℕ
+restraint_rows name s row [] fired = []
+restraint_rows name s row (l ∷ ls) fired = restraint_row s row (name l) (get_or fired row None) ++ restraint_rows name s (row + 1) ls fired
 
 -- ---- the end of the event and the greatest changes
 
@@ -76,7 +64,7 @@ abbrev pub rule : ℕ → List ℕ
 rule y = filled RULE.now (decimal y ∷ [])
 
 unfoldable pub rows_chart : Scale → CrashPart → List ℕ
-rows_chart s c = rule END_Y ++ event_rows s c ++ rule RESTRAINTS_Y ++ restraint_rows s c.fired ++ rule ROWS_END ++ fixed CHART_END.now
+rows_chart s c = rule END_Y ++ event_rows s c ++ rule RESTRAINTS_Y ++ restraint_rows (λ l. l.now) s 0 RESTRAINTS c.fired ++ rule ROWS_END ++ fixed CHART_END.now
 
 -- the title and the description of the chart of event n
 unfoldable pub after_head : ℕ → CrashPart → List ℕ

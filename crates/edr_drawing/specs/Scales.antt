@@ -2,6 +2,8 @@
 use Rattle.std.specs.Prelude.{ℕ, zero, suc, ◌+◌, ◌-◌, ◌*◌, ◌/◌, ℤ, pos, negsuc, List, [], ◌∷◌, ◌++◌, if◌then◌else◌, nat_le}
 use Rattle.edr_record.specs.declared.Profile.{Profile}
 use Rattle.edr_record.specs.declared.Profile.TheVariants.{Short, Long}
+use Rattle.edr_drawing.specs.declared.scales.Way.{Way}
+use Rattle.edr_drawing.specs.declared.scales.Way.TheVariants.{Up, Down}
 use Rattle.edr_drawing.specs.declared.scales.TheConstants.{FIRST_TIME, TIME_SLOTS, TIME_STEP}
 
 -- across: time k of eleven, the last one time zero
@@ -27,14 +29,12 @@ least_step (s ∷ steps) last most up down =
 abbrev pub scale_top : ℕ → ℕ → ℕ
 scale_top step value = step * intervals step value
 
--- how far a change of speed is above 0, and how far below
-abbrev pub rise_of : ℤ → ℕ
-rise_of (pos n) = n
-rise_of (negsuc n) = 0
-
-abbrev pub fall_of : ℤ → ℕ
-fall_of (pos n) = 0
-fall_of (negsuc n) = n + 1
+-- how far a change of speed is from 0 that way
+abbrev pub reach_of : Way → ℤ → ℕ
+reach_of Up (pos n) = n
+reach_of Up (negsuc n) = 0
+reach_of Down (pos n) = 0
+reach_of Down (negsuc n) = n + 1
 
 -- how far a change of speed stands below the top of its scale
 abbrev pub below_top : ℕ → ℤ → ℕ

@@ -1,12 +1,41 @@
 -- Templates of a page, and what goes into their holes.
-use Rattle.std.specs.Prelude.{ℕ, ℤ, ◌-◌, ◌/◌, ◌%◌, Bool, true, false, if◌then◌else◌, nat_eq, List, [], ◌∷◌, ◌++◌, get_or, codes, decimal}
+use Rattle.std.specs.Prelude.{ℕ, ℤ, ◌+◌, ◌-◌, ◌/◌, ◌%◌, Bool, true, false, if◌then◌else◌, nat_eq, nat_lt, Option, Some, None, List, [], ◌∷◌, ◌++◌, flat_map, get_or, codes, decimal}
 use Rattle.std.specs.Fmt.{signed_decimal}
 use Rattle.edr_record.specs.declared.Place.{Place}
 use Rattle.edr_record.specs.declared.Place.TheVariants.{First, Second}
+use Rattle.edr_record.specs.declared.Profile.{Profile}
+use Rattle.edr_record.specs.declared.Profile.TheVariants.{Short, Long}
 use Rattle.edr_report.specs.Words.{tenths_of}
 use Rattle.edr_drawing.specs.declared.template.Filling.{Filling}
 use Rattle.edr_drawing.specs.declared.template.Filling.TheVariants as filling
 use Rattle.edr_drawing.specs.declared.template.TheConstants.{FIRST, SECOND_AFTER}
+
+-- ---- words
+
+-- one of two texts
+abbrev pub either : Bool → List ℕ → List ℕ → List ℕ
+either is_so x y = if is_so then x else y
+
+-- the text of a profile
+abbrev pub of_profile : Profile → List ℕ → List ℕ → List ℕ
+of_profile Short short long = short
+of_profile Long short long = long
+
+-- the text of what a switch is
+abbrev pub of_switch : Option Bool → List ℕ → List ℕ → List ℕ → List ℕ
+of_switch (Some true) on off none = on
+of_switch (Some false) on off none = off
+of_switch None on off none = none
+
+-- two hexadecimal digits for each byte
+abbrev pub hex_digit : ℕ → ℕ
+hex_digit n = if nat_lt n 10 then 48 + n else 97 + (n - 10)
+
+abbrev pub hex_byte : ℕ → List ℕ
+hex_byte b = hex_digit (b / 16) ∷ hex_digit (b % 16) ∷ []
+
+abbrev pub digest_hex : List ℕ → List ℕ
+digest_hex digest = flat_map hex_byte digest
 
 -- tenths of a second, as seconds
 abbrev pub seconds : ℕ → List ℕ
@@ -35,6 +64,9 @@ filling_bytes (filling.Seconds tenths) = seconds tenths
 filling_bytes (filling.Place p) = place_words p
 filling_bytes (filling.Milliseconds t) = milliseconds t
 filling_bytes (filling.Extreme at kmh) = extreme_words at kmh
+filling_bytes (filling.Digest d) = digest_hex d
+
+-- ---- templates
 
 -- a byte of a template, which in a hole is the number of a value
 abbrev pub byte_bytes : List (List ℕ) → Bool → ℕ → List ℕ

@@ -4,15 +4,14 @@ ghost use Rattle.std.specs.Prelude.{◌≡◌, ◌++◌, ◌≤◌, ◌<◌, ◌
 ghost use Rattle.edr_record.specs.declared.TheConstants.{POINTS};
 ghost use Rattle.edr_record.specs.Bounds.{point_count, window_from_end};
 ghost use Rattle.edr_drawing.specs.Changes.{IsScale};
-ghost use Rattle.edr_drawing.specs.After.{across_number, along_number, axis_class, axis_marks, axis_points, changes_chart, curve, diamond, end_line, level, levels, mark_at, maxima, maximum_number, past_window, time_lines};
+ghost use Rattle.edr_drawing.specs.After.{axis_class, axis_marks, axis_points, changes_chart, curve, diamond, end_line, level, levels, mark_at, maxima, maximum_number, past_window, time_lines};
 
 use crate::changes::Scale;
 use crate::scales::{BELOW_TOP, HEIGHT, RIGHT};
 use crate::shapes::{ACROSS, ALONG, PATH, PATH_END, Shape, draw, put_point};
 use crate::template::Filling::{Below, Change, Number, Text};
-use crate::template::{fill, put};
+use crate::template::{Drawn, either, fill, put};
 use edr_record::{Crash, Extreme, POINT_STEP, POINTS, point_count, window_from_end};
-use std::alloc::AllocError as OutOfMemory;
 
 /// The field past the window.
 pub const PAST_WINDOW: &[u8] = br#"<rect x="{0}" y="40" width="{1}" height="450" class="gap"/>
@@ -107,7 +106,7 @@ pub enum CarAxis {
 
 // Draws the field past the window, if the chart reaches there.
 #[tactic(auto, unfolding(crate::specs::After::past_window))]
-fn draw_past_window(out: &mut Vec<u8>, scale: &Scale, window: u16) -> Result<(), OutOfMemory>
+fn draw_past_window(out: &mut Vec<u8>, scale: &Scale, window: u16) -> Drawn
     requires span { (300 ≤ scale.now.span) × (scale.now.span ≤ 500) }
     requires window { window ≤ 300 }
     ensures { OnOk result (out.new.items ≡ out.old.items ++ past_window scale.now window) }
@@ -125,7 +124,7 @@ fn draw_past_window(out: &mut Vec<u8>, scale: &Scale, window: u16) -> Result<(),
 
 // Draws the line of each time.
 #[tactic(auto, unfolding(crate::specs::After::time_lines))]
-fn draw_times(out: &mut Vec<u8>, scale: &Scale) -> Result<(), OutOfMemory>
+fn draw_times(out: &mut Vec<u8>, scale: &Scale) -> Drawn
     requires { (300 ≤ scale.now.span) × (scale.now.span ≤ 500) }
     ensures { OnOk result (out.new.items ≡ out.old.items ++ time_lines scale.now) }
 {
@@ -143,24 +142,24 @@ fn draw_times(out: &mut Vec<u8>, scale: &Scale) -> Result<(), OutOfMemory>
 
 // Draws the line of a change of speed, which is so far above the bottom of the scale.
 #[tactic(auto, unfolding(crate::specs::After::level))]
-fn draw_level(out: &mut Vec<u8>, scale: &Scale, above: u32) -> Result<(), OutOfMemory>
+fn draw_level(out: &mut Vec<u8>, scale: &Scale, above: u32) -> Drawn
     requires { IsScale scale.now }
     ensures { OnOk result (out.new.items ≡ out.old.items ++ level scale.now above) }
 {
     let Scale { top, bottom, .. } = *scale;
     let y = BELOW_TOP + (top + bottom).saturating_sub(above) * HEIGHT / (top + bottom);
-    let class = if above == bottom { AXIS_LINE } else { GRID };
+    let class = Text(either(above == bottom, AXIS_LINE, GRID));
     let number = if above < bottom {
         Below(bottom - above)
     } else {
         Number(above - bottom)
     };
-    fill(out, LEVEL, &[Text(class), Number(y), Number(y + 9), number])
+    fill(out, LEVEL, &[class, Number(y), Number(y + 9), number])
 }
 
 // Draws a line at each step.
 #[tactic(auto, unfolding(crate::specs::After::levels))]
-fn draw_levels(out: &mut Vec<u8>, scale: &Scale) -> Result<(), OutOfMemory>
+fn draw_levels(out: &mut Vec<u8>, scale: &Scale) -> Drawn
     requires { IsScale scale.now }
     ensures { OnOk result (out.new.items ≡ out.old.items ++ levels scale.now) }
 {
@@ -172,14 +171,14 @@ fn draw_levels(out: &mut Vec<u8>, scale: &Scale) -> Result<(), OutOfMemory>
 
 // Draws the line at the end of the event, and says where nothing is recorded.
 #[tactic(auto, unfolding(crate::specs::After::end_line))]
-fn draw_end(out: &mut Vec<u8>, scale: &Scale, end: u16, window: u16) -> Result<(), OutOfMemory>
+fn draw_end(out: &mut Vec<u8>, scale: &Scale, end: u16, window: u16) -> Drawn
     requires { 300 ≤ scale.now.span }
     ensures { OnOk result (out.new.items ≡ out.old.items ++ end_line scale.now end window) }
 {
     let x = scale.x(end);
     let past = scale.x(window);
-    let class = if x < FAR_RIGHT { CENTRED } else { ENDING };
-    fill(out, END_LINE, &[Number(x), Text(class)])?;
+    let class = Text(either(x < FAR_RIGHT, CENTRED, ENDING));
+    fill(out, END_LINE, &[Number(x), class])?;
     if past + ROOM_NOT_RECORDED <= RIGHT {
         fill(out, NOT_RECORDED, &[Number((past + RIGHT) / 2)])
     } else {
@@ -197,7 +196,7 @@ fn axis_class(axis: CarAxis) -> &'static [u8]
 }
 
 // Appends the points of an axis, one at each 10 ms.
-fn put_points(out: &mut Vec<u8>, scale: &Scale, points: &[i16]) -> Result<(), OutOfMemory>
+fn put_points(out: &mut Vec<u8>, scale: &Scale, points: &[i16]) -> Drawn
     requires scale { IsScale scale.now }
     requires count { length points.now ≤ POINTS }
     ensures { OnOk result (out.new.items ≡ out.old.items ++ axis_points scale.now 0 points.now) }
@@ -219,12 +218,7 @@ fn mark_at(axis: CarAxis, x: u32, y: u32) -> Shape
 }
 
 // Draws a mark at each point of an axis.
-fn draw_marks(
-    out: &mut Vec<u8>,
-    scale: &Scale,
-    axis: CarAxis,
-    points: &[i16],
-) -> Result<(), OutOfMemory>
+fn draw_marks(out: &mut Vec<u8>, scale: &Scale, axis: CarAxis, points: &[i16]) -> Drawn
     requires scale { IsScale scale.now }
     requires count { length points.now ≤ POINTS }
     ensures { OnOk result (out.new.items ≡ out.old.items ++ axis_marks scale.now axis 0 points.now) }
@@ -238,12 +232,7 @@ fn draw_marks(
 
 // Draws the curve of an axis, with a mark at each point.
 #[tactic(auto, unfolding(crate::specs::After::curve))]
-fn draw_curve(
-    out: &mut Vec<u8>,
-    scale: &Scale,
-    axis: CarAxis,
-    points: &[i16],
-) -> Result<(), OutOfMemory>
+fn draw_curve(out: &mut Vec<u8>, scale: &Scale, axis: CarAxis, points: &[i16]) -> Drawn
     requires scale { IsScale scale.now }
     requires count { length points.now ≤ POINTS }
     ensures { OnOk result (out.new.items ≡ out.old.items ++ curve scale.now axis points.now) }
@@ -254,30 +243,34 @@ fn draw_curve(
     draw_marks(out, scale, axis, points)
 }
 
-// Draws the number of a greatest change, unless it is 0.
+// Draws the number of a greatest change, unless it is 0, so far below its middle and above it.
 #[tactic(auto, unfolding(crate::specs::After::maximum_number))]
 fn draw_number(
     out: &mut Vec<u8>,
     template: &[u8],
-    x: u32,
-    y: u32,
-    kmh: i16,
-) -> Result<(), OutOfMemory>
-    ensures { OnOk result (out.new.items ≡ out.old.items ++ maximum_number template.now x y kmh) }
+    scale: &Scale,
+    extreme: Extreme,
+    down: u32,
+    up: u32,
+) -> Drawn
+    requires scale { IsScale scale.now }
+    requires place { (down ≤ 100) × (up ≤ 80) }
+    ensures { OnOk result (out.new.items ≡ out.old.items ++ maximum_number template.now scale.now extreme down up) }
 {
+    let Extreme { at, kmh } = extreme;
     if kmh == 0 {
         return Ok(());
     }
-    fill(out, template, &[Number(x), Number(y), Change(kmh)])
+    let y = scale.y(kmh) + down - up;
+    fill(
+        out,
+        template,
+        &[Number(scale.x(at)), Number(y), Change(kmh)],
+    )
 }
 
 // Draws a diamond at a greatest change.
-fn draw_diamond(
-    out: &mut Vec<u8>,
-    scale: &Scale,
-    extreme: Extreme,
-    class: &'static [u8],
-) -> Result<(), OutOfMemory>
+fn draw_diamond(out: &mut Vec<u8>, scale: &Scale, extreme: Extreme, class: &'static [u8]) -> Drawn
     requires { IsScale scale.now }
     ensures { OnOk result (out.new.items ≡ out.old.items ++ diamond scale.now extreme class.now) }
 {
@@ -290,41 +283,16 @@ fn draw_diamond(
     )
 }
 
-// Draws the number of the greatest change across, above its diamond.
-fn draw_across_number(out: &mut Vec<u8>, scale: &Scale, across: Extreme) -> Result<(), OutOfMemory>
-    requires { IsScale scale.now }
-    ensures { OnOk result (out.new.items ≡ out.old.items ++ across_number scale.now across) }
-{
-    let x = scale.x(across.at);
-    let y = scale.y(across.kmh);
-    draw_number(out, ACROSS_NUMBER, x, y - NUMBER_UP, across.kmh)
-}
-
-// Draws the number of the greatest change along, below its diamond.
-fn draw_along_number(out: &mut Vec<u8>, scale: &Scale, along: Extreme) -> Result<(), OutOfMemory>
-    requires { IsScale scale.now }
-    ensures { OnOk result (out.new.items ≡ out.old.items ++ along_number scale.now along) }
-{
-    let x = scale.x(along.at);
-    let y = scale.y(along.kmh);
-    draw_number(out, ALONG_NUMBER, x, y + NUMBER_DOWN, along.kmh)
-}
-
 // Draws a diamond at the greatest change of each axis, with its number.
 #[tactic(auto, unfolding(crate::specs::After::maxima))]
-fn draw_maxima(
-    out: &mut Vec<u8>,
-    scale: &Scale,
-    along: Extreme,
-    across: Extreme,
-) -> Result<(), OutOfMemory>
+fn draw_maxima(out: &mut Vec<u8>, scale: &Scale, along: Extreme, across: Extreme) -> Drawn
     requires { IsScale scale.now }
     ensures { OnOk result (out.new.items ≡ out.old.items ++ maxima scale.now along across) }
 {
     draw_diamond(out, scale, across, MAX_ACROSS)?;
     draw_diamond(out, scale, along, MAX_ALONG)?;
-    draw_across_number(out, scale, across)?;
-    draw_along_number(out, scale, along)
+    draw_number(out, ACROSS_NUMBER, scale, across, 0, NUMBER_UP)?;
+    draw_number(out, ALONG_NUMBER, scale, along, NUMBER_DOWN, 0)
 }
 
 /// The points that the end of an event allows.
@@ -337,7 +305,7 @@ pub fn points_of(end: u16, points: &[i16; POINTS]) -> &[i16]
 
 /// Draws the part of the chart that shows changes of speed.
 #[tactic(auto, unfolding(crate::specs::After::changes_chart))]
-pub fn draw_changes(out: &mut Vec<u8>, scale: &Scale, crash: &Crash) -> Result<(), OutOfMemory>
+pub fn draw_changes(out: &mut Vec<u8>, scale: &Scale, crash: &Crash) -> Drawn
     requires { IsScale scale.now }
     ensures { OnOk result (out.new.items ≡ out.old.items ++ changes_chart scale.now crash.now) }
 {

@@ -1,19 +1,18 @@
 //! The chart of the seconds before time zero, five of a short profile and twenty of a long one.
 
 ghost use Rattle.std.specs.Prelude.{◌≡◌, [], ◌∷◌, ◌++◌, ◌≤◌, ◌<◌, ◌+◌, None, OnOk, decimal, length, take};
-ghost use Rattle.edr_record.specs.declared.TheConstants.{LONG_SLOTS};
+ghost use Rattle.edr_record.specs.declared.TheConstants.{LONG_SLOTS, SHORT_SLOTS};
 ghost use Rattle.edr_record.specs.Bounds.{slots_in};
 ghost use Rattle.edr_drawing.specs.Template.{filled};
 ghost use Rattle.edr_drawing.specs.Scales.{time_at};
 ghost use Rattle.edr_drawing.specs.Lanes.{IsChartLane, drawn_lane};
-ghost use Rattle.edr_drawing.specs.Before.{are_same, before_chart, brake_slots, greatest, second_x, slots_apart, span_word, speed_lane, switch_runs, switches, tenths_before, time_lines};
+ghost use Rattle.edr_drawing.specs.Before.{are_same, before_chart, brake_slots, greatest, second_x, speed_lane, switch_runs, switches, tenths_before, time_lines};
 
 use crate::lanes::{ChartLane, draw_field, draw_lane, draw_run};
 use crate::scales::{least_step, scale_top, slot_x, time_at};
 use crate::template::Filling::{Count, Number, Seconds, Text};
-use crate::template::{fill, put};
+use crate::template::{Drawn, fill, of_profile, put};
 use edr_record::{LONG_SLOTS, Pre, Profile};
-use std::alloc::AllocError as OutOfMemory;
 
 /// The title, the description and the plot.
 pub const BEFORE_HEAD: &[u8] =
@@ -133,26 +132,6 @@ fn speed_lane(slots: &[Option<u16>]) -> ChartLane
     }
 }
 
-// How many seconds the chart shows.
-fn span_word(profile: Profile) -> &'static [u8]
-    ensures { result.now ≡ span_word profile }
-{
-    match profile {
-        Profile::Short => FIVE,
-        Profile::Long => TWENTY,
-    }
-}
-
-// How far apart its slots are.
-fn slots_apart(profile: Profile) -> &'static [u8]
-    ensures { result.now ≡ slots_apart profile }
-{
-    match profile {
-        Profile::Short => HALF_SECOND,
-        Profile::Long => TENTH,
-    }
-}
-
 // How long before time zero a time is, in tenths of a second.
 fn tenths_before(profile: Profile, k: u32) -> u32
     requires { k < 10 }
@@ -166,7 +145,7 @@ fn tenths_before(profile: Profile, k: u32) -> u32
 
 // Draws the lines of the times.
 #[tactic(auto, unfolding(crate::specs::Before::time_lines))]
-fn draw_times(out: &mut Vec<u8>, profile: Profile) -> Result<(), OutOfMemory>
+fn draw_times(out: &mut Vec<u8>, profile: Profile) -> Drawn
     ensures { OnOk result (out.new.items ≡ out.old.items ++ time_lines profile TIMES ++ filled ZERO_LINE.now (decimal (time_at TIMES) ∷ [])) }
 {
     for k in 0..TIMES {
@@ -198,11 +177,7 @@ fn wide_slots(slots: &[Option<u8>]) -> [Option<u16>; LONG_SLOTS]
 }
 
 #[tactic(auto, using(crate::proofs::SlotLemmas::few_slots))]
-fn draw_throttle(
-    out: &mut Vec<u8>,
-    profile: Profile,
-    slots: &[Option<u8>],
-) -> Result<(), OutOfMemory>
+fn draw_throttle(out: &mut Vec<u8>, profile: Profile, slots: &[Option<u8>]) -> Drawn
     requires { length slots.now ≤ slots_in profile }
     ensures { OnOk result (out.new.items ≡ out.old.items ++ drawn_lane profile THROTTLE_LANE slots.now) }
 {
@@ -211,8 +186,8 @@ fn draw_throttle(
 }
 
 // Draws the field of each slot of a short profile.
-fn draw_short_brake(out: &mut Vec<u8>, slots: &[Option<bool>]) -> Result<(), OutOfMemory>
-    requires { length slots.now ≤ 11 }
+fn draw_short_brake(out: &mut Vec<u8>, slots: &[Option<bool>]) -> Drawn
+    requires { length slots.now ≤ SHORT_SLOTS }
     ensures { OnOk result (out.new.items ≡ out.old.items ++ switches 0 slots.now) }
 {
     for k in 0..slots.len() {
@@ -234,7 +209,7 @@ fn are_same(one: Option<bool>, other: Option<bool>) -> bool
 }
 
 // Draws a field for each run of slots of a long profile that are the same.
-fn draw_long_brake(out: &mut Vec<u8>, slots: &[Option<bool>]) -> Result<(), OutOfMemory>
+fn draw_long_brake(out: &mut Vec<u8>, slots: &[Option<bool>]) -> Drawn
     requires { length slots.now ≤ LONG_SLOTS }
     ensures { OnOk result (out.new.items ≡ out.old.items ++ switch_runs 0 0 None slots.now) }
 {
@@ -256,11 +231,7 @@ fn draw_long_brake(out: &mut Vec<u8>, slots: &[Option<bool>]) -> Result<(), OutO
 }
 
 // Draws the fields of the slots.
-fn draw_brake(
-    out: &mut Vec<u8>,
-    profile: Profile,
-    slots: &[Option<bool>],
-) -> Result<(), OutOfMemory>
+fn draw_brake(out: &mut Vec<u8>, profile: Profile, slots: &[Option<bool>]) -> Drawn
     requires { length slots.now ≤ slots_in profile }
     ensures { OnOk result (out.new.items ≡ out.old.items ++ brake_slots profile slots.now) }
 {
@@ -283,15 +254,16 @@ fn second_x(profile: Profile) -> u32
 
 /// Draws the chart of the event with this number.
 #[tactic(auto, unfolding(crate::specs::Before::before_chart))]
-pub fn draw_before(out: &mut Vec<u8>, number: u64, pre: &Pre) -> Result<(), OutOfMemory>
+pub fn draw_before(out: &mut Vec<u8>, number: u64, pre: &Pre) -> Drawn
     ensures { OnOk result (out.new.items ≡ out.old.items ++ before_chart number pre.now) }
 {
     let (belt, lamp) = (pre.belt, pre.lamp);
     let profile = pre.profile();
     let speed = pre.speed();
-    let (span, apart) = (span_word(profile), slots_apart(profile));
+    let span = Text(of_profile(profile, FIVE, TWENTY));
+    let apart = Text(of_profile(profile, HALF_SECOND, TENTH));
     let x = second_x(profile);
-    fill(out, BEFORE_HEAD, &[Count(number), Text(span), Text(apart)])?;
+    fill(out, BEFORE_HEAD, &[Count(number), span, apart])?;
     draw_times(out, profile)?;
     draw_lane(out, profile, &speed_lane(speed), speed)?;
     put(out, THROTTLE_NAME)?;

@@ -2,10 +2,10 @@
 
 ghost use Rattle.std.specs.Prelude.{◌≡◌, ◌≤◌, ◌<◌, ◌+◌, ◌-◌, ◌*◌, max};
 ghost use Rattle.std.specs.List.{list_all};
-ghost use Rattle.edr_drawing.specs.Changes.{IsScale, highest, lowest, reach_up, reach_down, is_early, span_of, scale_of, change_y, time_x};
+ghost use Rattle.edr_drawing.specs.Changes.{IsScale, furthest, reach, is_early, span_of, scale_of, change_y, time_x};
 
 use crate::scales::{
-    BELOW_TOP, HEIGHT, LEFT, WIDTH, below_top, fall_of, least_step, rise_of, scale_top,
+    BELOW_TOP, HEIGHT, LEFT, WIDTH, Way, below_top, least_step, reach_of, scale_top,
 };
 use edr_record::{Crash, POINTS};
 
@@ -31,48 +31,26 @@ pub struct Scale {
     pub span: u32,
 }
 
-// How far these points reach above 0.
-fn highest(points: &[i16; POINTS]) -> u32
-    ensures reach { result ≡ highest points.now }
+// How far these points reach that way.
+fn furthest(way: Way, points: &[i16; POINTS]) -> u32
+    ensures reach { result ≡ furthest way points.now }
     ensures range { result ≤ 32_768 }
 {
     let mut most = 0;
     for point in points {
-        most = rise_of(*point).max(most);
+        most = reach_of(way, *point).max(most);
     }
     most
 }
 
-// How far these points reach below 0.
-fn lowest(points: &[i16; POINTS]) -> u32
-    ensures reach { result ≡ lowest points.now }
+fn reach(way: Way, crash: &Crash) -> u32
+    ensures reach { result ≡ reach way crash.now }
     ensures range { result ≤ 32_768 }
 {
-    let mut most = 0;
-    for point in points {
-        most = fall_of(*point).max(most);
-    }
-    most
-}
-
-fn reach_up(crash: &Crash) -> u32
-    ensures reach { result ≡ reach_up crash.now }
-    ensures range { result ≤ 32_768 }
-{
-    highest(&crash.along)
-        .max(highest(&crash.across))
-        .max(rise_of(crash.max_along.kmh))
-        .max(rise_of(crash.max_across.kmh))
-}
-
-fn reach_down(crash: &Crash) -> u32
-    ensures reach { result ≡ reach_down crash.now }
-    ensures range { result ≤ 32_768 }
-{
-    lowest(&crash.along)
-        .max(lowest(&crash.across))
-        .max(fall_of(crash.max_along.kmh))
-        .max(fall_of(crash.max_across.kmh))
+    furthest(way, &crash.along)
+        .max(furthest(way, &crash.across))
+        .max(reach_of(way, crash.max_along.kmh))
+        .max(reach_of(way, crash.max_across.kmh))
 }
 
 fn is_early(fired: Option<u16>) -> bool
@@ -108,8 +86,8 @@ impl Scale {
         ensures scale { result ≡ scale_of crash.now }
         ensures within { IsScale result }
     {
-        let up = reach_up(crash);
-        let down = reach_down(crash);
+        let up = reach(Way::Up, crash);
+        let down = reach(Way::Down, crash);
         let step = least_step(&CHANGE_STEPS, LAST_CHANGE_STEP, CHANGE_LINES, up, down);
         let flat = up == 0 && down == 0;
         Scale {

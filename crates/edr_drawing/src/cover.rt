@@ -2,18 +2,18 @@
 
 ghost use Rattle.std.specs.Prelude.{◌≡◌, ◌++◌, ◌≤◌, ◌+◌, OnOk, map};
 ghost use Rattle.edr_image.specs.Reports.{report_of};
-ghost use Rattle.edr_drawing.specs.Cover.{events_in, damaged_in, is_damaged, extreme_cells, mark_word, event_row, event_row_if, event_rows, events_table, damaged_item, damaged_items, damaged_list, cover_foot, cover};
+ghost use Rattle.edr_drawing.specs.Cover.{events_in, damaged_in, is_damaged, extreme_cells, event_row, event_row_if, event_rows, events_table, damaged_item, damaged_items, damaged_list, cover};
 
 use crate::long::{FORM, NOTES};
 use crate::reasons::LIST_END;
-use crate::sheets::{FOOT_END, count_if, put_digest, yes_no};
+use crate::sheets::{NO, YES, count_if};
 use crate::tables::{TABLE_END, put_run};
-use crate::template::Filling::{Change, Count, Number, Place, Text};
-use crate::template::{fill, put};
+use crate::template::Filling::{Change, Count, Digest, Number, Place, Text};
+use crate::template::{Drawn, either, fill, put};
 use edr_image::{BankView, CycleReport, Found};
 use edr_record::{Crash, Record};
 use edr_report::number_shown;
-use std::alloc::{AllocError as OutOfMemory, Global};
+use std::alloc::Global;
 
 pub const FIRST_SHEET: &[u8] = br#"<section aria-labelledby="r">
 <h1 id="r">Event data recorder: retrieved events</h1>
@@ -49,8 +49,10 @@ pub const SET: &[u8] = b"set";
 
 pub const NOT_SET: &[u8] = b"not set";
 
-/// The foot, up to the digest.
-pub const FIRST_FOOT: &[u8] = br#"<p class="foot">Made from a report of {0} bytes, SHA-256 <code>"#;
+pub const FIRST_FOOT: &[u8] =
+    br#"<p class="foot">Made from a report of {0} bytes, SHA-256 <code>{1}</code></p>
+</section>
+"#;
 
 // How many events were found.
 fn events_in(found: &[Found]) -> u64
@@ -86,24 +88,16 @@ fn damaged_in(found: &[Found]) -> u64
 
 // Appends the cells of the greatest changes, or that there are none.
 #[tactic(auto, unfolding(crate::specs::Cover::extreme_cells))]
-fn put_extremes(out: &mut Vec<u8>, crash: &Option<Crash>) -> Result<(), OutOfMemory>
+fn put_extremes(out: &mut Vec<u8>, crash: &Option<Crash>) -> Drawn
     ensures { OnOk result (out.new.items ≡ out.old.items ++ extreme_cells crash.now) }
 {
     match crash {
         Some(crash) => {
-            let along = crash.max_along;
-            let across = crash.max_across;
-            let (along_at, across_at) = (u32::from(along.at), u32::from(across.at));
-            fill(
-                out,
-                GREATEST,
-                &[
-                    Change(along.kmh),
-                    Number(along_at),
-                    Change(across.kmh),
-                    Number(across_at),
-                ],
-            )
+            let (along, across) = (crash.max_along, crash.max_across);
+            let along_at = Number(u32::from(along.at));
+            let across_at = Number(u32::from(across.at));
+            let (along, across) = (Change(along.kmh), Change(across.kmh));
+            fill(out, GREATEST, &[along, along_at, across, across_at])
         }
         None => put(out, NO_GREATEST),
     }
@@ -111,31 +105,23 @@ fn put_extremes(out: &mut Vec<u8>, crash: &Option<Crash>) -> Result<(), OutOfMem
 
 // Appends the row of an event.
 #[tactic(auto, unfolding(crate::specs::Cover::event_row))]
-fn put_event_row(
-    out: &mut Vec<u8>,
-    number: u64,
-    bank: u8,
-    event: &Record,
-) -> Result<(), OutOfMemory>
+fn put_event_row(out: &mut Vec<u8>, number: u64, bank: u8, event: &Record) -> Drawn
     ensures { OnOk result (out.new.items ≡ out.old.items ++ event_row number bank event.now) }
 {
-    fill(
-        out,
-        EVENT_ROW,
-        &[
-            Count(number),
-            Number(u32::from(bank)),
-            Number(number_shown(event.pre.key.cycle)),
-            Number(event.pre.key.zero),
-            Place(event.pre.place),
-            Text(yes_no(event.locked)),
-        ],
-    )?;
+    let cells = [
+        Count(number),
+        Number(u32::from(bank)),
+        Number(number_shown(event.pre.key.cycle)),
+        Number(event.pre.key.zero),
+        Place(event.pre.place),
+        Text(either(event.locked, YES, NO)),
+    ];
+    fill(out, EVENT_ROW, &cells)?;
     put_extremes(out, &event.crash)?;
-    fill(out, EVENT_END, &[Text(yes_no(event.complete()))])
+    fill(out, EVENT_END, &[Text(either(event.complete(), YES, NO))])
 }
 
-fn put_event_row_if(out: &mut Vec<u8>, number: u64, found: &Found) -> Result<(), OutOfMemory>
+fn put_event_row_if(out: &mut Vec<u8>, number: u64, found: &Found) -> Drawn
     ensures { OnOk result (out.new.items ≡ out.old.items ++ event_row_if number found.now.bank found.now.view) }
 {
     match &found.view {
@@ -144,7 +130,7 @@ fn put_event_row_if(out: &mut Vec<u8>, number: u64, found: &Found) -> Result<(),
     }
 }
 
-fn put_event_rows(out: &mut Vec<u8>, found: &[Found]) -> Result<(), OutOfMemory>
+fn put_event_rows(out: &mut Vec<u8>, found: &[Found]) -> Drawn
     ensures { OnOk result (out.new.items ≡ out.old.items ++ event_rows 1 found.now) }
 {
     let mut number = 1;
@@ -157,7 +143,7 @@ fn put_event_rows(out: &mut Vec<u8>, found: &[Found]) -> Result<(), OutOfMemory>
 
 // Appends the table of events, if there are any.
 #[tactic(auto, unfolding(crate::specs::Cover::events_table))]
-fn put_events(out: &mut Vec<u8>, found: &[Found]) -> Result<(), OutOfMemory>
+fn put_events(out: &mut Vec<u8>, found: &[Found]) -> Drawn
     ensures { OnOk result (out.new.items ≡ out.old.items ++ events_table found.now) }
 {
     if events_in(found) == 0 {
@@ -168,15 +154,8 @@ fn put_events(out: &mut Vec<u8>, found: &[Found]) -> Result<(), OutOfMemory>
     put(out, TABLE_END)
 }
 
-// Whether the mark of a locked record is set.
-fn mark_word(locked: bool) -> &'static [u8]
-    ensures { result.now ≡ mark_word locked }
-{
-    if locked { SET } else { NOT_SET }
-}
-
 // Appends the item of a bank, if it is damaged.
-fn put_damaged_item(out: &mut Vec<u8>, bank: &Found) -> Result<(), OutOfMemory>
+fn put_damaged_item(out: &mut Vec<u8>, bank: &Found) -> Drawn
     ensures { OnOk result (out.new.items ≡ out.old.items ++ damaged_item bank.now.bank bank.now.view) }
 {
     match bank.view {
@@ -184,21 +163,17 @@ fn put_damaged_item(out: &mut Vec<u8>, bank: &Found) -> Result<(), OutOfMemory>
             offset,
             found,
             locked,
-        } => fill(
-            out,
-            DAMAGED_BANK,
-            &[
-                Number(u32::from(bank.bank)),
-                Number(u32::from(offset)),
-                Number(u32::from(found)),
-                Text(mark_word(locked)),
-            ],
-        ),
+        } => {
+            let bank = Number(u32::from(bank.bank));
+            let (offset, found) = (Number(u32::from(offset)), Number(u32::from(found)));
+            let mark = Text(either(locked, SET, NOT_SET));
+            fill(out, DAMAGED_BANK, &[bank, offset, found, mark])
+        }
         _ => Ok(()),
     }
 }
 
-fn put_damaged_items(out: &mut Vec<u8>, found: &[Found]) -> Result<(), OutOfMemory>
+fn put_damaged_items(out: &mut Vec<u8>, found: &[Found]) -> Drawn
     ensures { OnOk result (out.new.items ≡ out.old.items ++ damaged_items found.now) }
 {
     for bank in found {
@@ -209,7 +184,7 @@ fn put_damaged_items(out: &mut Vec<u8>, found: &[Found]) -> Result<(), OutOfMemo
 
 // Appends the list of damaged banks, if there are any.
 #[tactic(auto, unfolding(crate::specs::Cover::damaged_list))]
-fn put_damaged(out: &mut Vec<u8>, found: &[Found]) -> Result<(), OutOfMemory>
+fn put_damaged(out: &mut Vec<u8>, found: &[Found]) -> Drawn
     ensures { OnOk result (out.new.items ≡ out.old.items ++ damaged_list found.now) }
 {
     if damaged_in(found) == 0 {
@@ -218,15 +193,6 @@ fn put_damaged(out: &mut Vec<u8>, found: &[Found]) -> Result<(), OutOfMemory>
     put(out, DAMAGED_START)?;
     put_damaged_items(out, found)?;
     put(out, LIST_END)
-}
-
-#[tactic(auto, unfolding(crate::specs::Cover::cover_foot))]
-fn put_foot(out: &mut Vec<u8>, size: u32, digest: &[u8; 32]) -> Result<(), OutOfMemory>
-    ensures { OnOk result (out.new.items ≡ out.old.items ++ cover_foot size digest.now) }
-{
-    fill(out, FIRST_FOOT, &[Number(size)])?;
-    put_digest(out, digest)?;
-    put(out, FOOT_END)
 }
 
 /// Appends the first sheet.
@@ -239,7 +205,7 @@ pub fn put_cover(
     count: u32,
     size: u32,
     digest: &[u8; 32],
-) -> Result<(), OutOfMemory>
+) -> Drawn
     ensures { OnOk result (out.new.items ≡ out.old.items ++ cover (map report_of run.now) found.now count size digest.now) }
 {
     let (events, damaged) = (events_in(found), damaged_in(found));
@@ -250,5 +216,5 @@ pub fn put_cover(
     put_run(out, alloc, run)?;
     put(out, NOTES)?;
     put(out, FORM)?;
-    put_foot(out, size, digest)
+    fill(out, FIRST_FOOT, &[Number(size), Digest(*digest)])
 }

@@ -1,7 +1,7 @@
 //! A lane of slots: a path through those that are there, their marks, and fields in the place of those that are absent.
 
 ghost use Rattle.std.specs.Prelude.{◌≡◌, ◌++◌, ◌≤◌, ◌<◌, ◌+◌, ◌*◌, ◌-◌, ◌/◌, false, OnOk, length};
-ghost use Rattle.edr_record.specs.declared.TheConstants.{LONG_SLOTS};
+ghost use Rattle.edr_record.specs.declared.TheConstants.{LONG_SLOTS, SHORT_SLOTS};
 ghost use Rattle.edr_record.specs.Bounds.{slots_in};
 ghost use Rattle.edr_drawing.specs.Shapes.{shapes_bytes};
 ghost use Rattle.edr_drawing.specs.Lanes.{IsChartLane, cell, cells, cells_of, drawn_lane, field_shapes, gap, grid, grid_line, lane_y, long_cells, points, run_shapes};
@@ -9,9 +9,8 @@ ghost use Rattle.edr_drawing.specs.Lanes.{IsChartLane, cell, cells, cells_of, dr
 use crate::scales::slot_x;
 use crate::shapes::{ALONG, PATH, PATH_END, Shape, draw, put_point};
 use crate::template::Filling::{Number, Text};
-use crate::template::{fill, put};
+use crate::template::{Drawn, fill, put};
 use edr_record::Profile;
-use std::alloc::AllocError as OutOfMemory;
 
 /// The line of a value, with its number.
 pub const GRID_LINE: &[u8] = br#"<path class="grid" d="M330 {0}L1830 {0}"/>
@@ -46,7 +45,7 @@ fn lane_y(lane: &ChartLane, value: u32) -> u32
 }
 
 // Draws the line of a value.
-fn draw_line(out: &mut Vec<u8>, lane: &ChartLane, value: u32) -> Result<(), OutOfMemory>
+fn draw_line(out: &mut Vec<u8>, lane: &ChartLane, value: u32) -> Drawn
     requires lane { IsChartLane lane.now }
     requires value { value ≤ 100_000 }
     ensures { OnOk result (out.new.items ≡ out.old.items ++ grid_line lane.now value) }
@@ -56,7 +55,7 @@ fn draw_line(out: &mut Vec<u8>, lane: &ChartLane, value: u32) -> Result<(), OutO
 }
 
 // Draws a line at each step.
-fn draw_grid(out: &mut Vec<u8>, lane: &ChartLane) -> Result<(), OutOfMemory>
+fn draw_grid(out: &mut Vec<u8>, lane: &ChartLane) -> Drawn
     requires { IsChartLane lane.now }
     ensures { OnOk result (out.new.items ≡ out.old.items ++ grid lane.now) }
 {
@@ -67,12 +66,7 @@ fn draw_grid(out: &mut Vec<u8>, lane: &ChartLane) -> Result<(), OutOfMemory>
 }
 
 // Appends the points of all slots that are there.
-fn put_points(
-    out: &mut Vec<u8>,
-    profile: Profile,
-    lane: &ChartLane,
-    slots: &[Option<u16>],
-) -> Result<(), OutOfMemory>
+fn put_points(out: &mut Vec<u8>, profile: Profile, lane: &ChartLane, slots: &[Option<u16>]) -> Drawn
     requires lane { IsChartLane lane.now }
     requires slots { length slots.now ≤ LONG_SLOTS }
     ensures { OnOk result (out.new.items ≡ out.old.items ++ points profile lane.now 0 false slots.now) }
@@ -94,14 +88,9 @@ fn put_points(
 }
 
 // Draws what stands in the place of a slot of a short profile.
-fn draw_cell(
-    out: &mut Vec<u8>,
-    lane: &ChartLane,
-    k: u32,
-    slot: Option<u16>,
-) -> Result<(), OutOfMemory>
+fn draw_cell(out: &mut Vec<u8>, lane: &ChartLane, k: u32, slot: Option<u16>) -> Drawn
     requires lane { IsChartLane lane.now }
-    requires slot { k < 11 }
+    requires slot { k < SHORT_SLOTS }
     ensures { OnOk result (out.new.items ≡ out.old.items ++ shapes_bytes (cell lane.now k slot)) }
 {
     let x = slot_x(Profile::Short, k);
@@ -122,13 +111,7 @@ fn draw_cell(
 }
 
 /// Draws the field of a slot of a short profile, which stands there and shows this.
-pub fn draw_field(
-    out: &mut Vec<u8>,
-    x: u32,
-    y: u32,
-    height: u32,
-    shows: Option<bool>,
-) -> Result<(), OutOfMemory>
+pub fn draw_field(out: &mut Vec<u8>, x: u32, y: u32, height: u32, shows: Option<bool>) -> Drawn
     requires place { (400 ≤ x) × (x ≤ 30_000) × (y ≤ 1_000) × (height ≤ 1_000) }
     ensures { OnOk result (out.new.items ≡ out.old.items ++ shapes_bytes (field_shapes x y height shows)) }
 {
@@ -137,9 +120,9 @@ pub fn draw_field(
 }
 
 // Draws the mark or the field of each slot of a short profile.
-fn draw_short(out: &mut Vec<u8>, lane: &ChartLane, slots: &[Option<u16>]) -> Result<(), OutOfMemory>
+fn draw_short(out: &mut Vec<u8>, lane: &ChartLane, slots: &[Option<u16>]) -> Drawn
     requires lane { IsChartLane lane.now }
-    requires slots { length slots.now ≤ 11 }
+    requires slots { length slots.now ≤ SHORT_SLOTS }
     ensures { OnOk result (out.new.items ≡ out.old.items ++ cells lane.now 0 slots.now) }
 {
     for k in 0..slots.len() {
@@ -156,7 +139,7 @@ pub fn draw_run(
     y: u32,
     height: u32,
     shows: Option<bool>,
-) -> Result<(), OutOfMemory>
+) -> Drawn
     requires run { first + count ≤ LONG_SLOTS }
     requires place { (y ≤ 1_000) × (height ≤ 1_000) }
     ensures { OnOk result (out.new.items ≡ out.old.items ++ shapes_bytes (run_shapes first count y height shows)) }
@@ -176,7 +159,7 @@ pub fn draw_run(
 }
 
 // Draws the field of absent slots, if there are any.
-fn draw_gap(out: &mut Vec<u8>, lane: &ChartLane, first: u32, count: u32) -> Result<(), OutOfMemory>
+fn draw_gap(out: &mut Vec<u8>, lane: &ChartLane, first: u32, count: u32) -> Drawn
     requires lane { IsChartLane lane.now }
     requires run { first + count ≤ LONG_SLOTS }
     ensures { OnOk result (out.new.items ≡ out.old.items ++ shapes_bytes (gap lane.now first count)) }
@@ -192,7 +175,7 @@ fn draw_gap(out: &mut Vec<u8>, lane: &ChartLane, first: u32, count: u32) -> Resu
 }
 
 // Draws the marks of a long profile, and a field for each run of absent slots.
-fn draw_long(out: &mut Vec<u8>, lane: &ChartLane, slots: &[Option<u16>]) -> Result<(), OutOfMemory>
+fn draw_long(out: &mut Vec<u8>, lane: &ChartLane, slots: &[Option<u16>]) -> Drawn
     requires lane { IsChartLane lane.now }
     requires slots { length slots.now ≤ LONG_SLOTS }
     ensures { OnOk result (out.new.items ≡ out.old.items ++ long_cells lane.now 0 0 slots.now) }
@@ -216,12 +199,7 @@ fn draw_long(out: &mut Vec<u8>, lane: &ChartLane, slots: &[Option<u16>]) -> Resu
 }
 
 // Draws the marks and fields of the slots.
-fn draw_cells(
-    out: &mut Vec<u8>,
-    profile: Profile,
-    lane: &ChartLane,
-    slots: &[Option<u16>],
-) -> Result<(), OutOfMemory>
+fn draw_cells(out: &mut Vec<u8>, profile: Profile, lane: &ChartLane, slots: &[Option<u16>]) -> Drawn
     requires lane { IsChartLane lane.now }
     requires slots { length slots.now ≤ slots_in profile }
     ensures { OnOk result (out.new.items ≡ out.old.items ++ cells_of profile lane.now slots.now) }
@@ -239,7 +217,7 @@ pub fn draw_lane(
     profile: Profile,
     lane: &ChartLane,
     slots: &[Option<u16>],
-) -> Result<(), OutOfMemory>
+) -> Drawn
     requires lane { IsChartLane lane.now }
     requires slots { length slots.now ≤ slots_in profile }
     ensures { OnOk result (out.new.items ≡ out.old.items ++ drawn_lane profile lane.now slots.now) }

@@ -6,9 +6,8 @@ ghost use Rattle.edr_record.specs.Bounds.{slots_in};
 ghost use Rattle.edr_drawing.specs.Reasons.{absent_count, crash_reasons, pre_reasons, reasons, share_reason, switch_reason};
 
 use crate::template::Filling::{Number, Text};
-use crate::template::{fill, put};
+use crate::template::{Drawn, fill, put};
 use edr_record::{Crash, LONG_SLOTS, Pre, Profile, Record, SHORT_SLOTS, window_from_end};
-use std::alloc::AllocError as OutOfMemory;
 
 pub const REASONS_START: &[u8] = br#"<div class="note why"><b>Not complete:</b>
 <ul>
@@ -65,7 +64,7 @@ fn slots_in(profile: Profile) -> u32
 
 // Tells how many of so many samples are absent, if any is.
 #[tactic(auto, unfolding(crate::specs::Reasons::share_reason))]
-fn put_share(out: &mut Vec<u8>, template: &[u8], absent: u32, count: u32) -> Result<(), OutOfMemory>
+fn put_share(out: &mut Vec<u8>, template: &[u8], absent: u32, count: u32) -> Drawn
     ensures { OnOk result (out.new.items ≡ out.old.items ++ share_reason template.now absent count) }
 {
     if absent == 0 {
@@ -76,11 +75,7 @@ fn put_share(out: &mut Vec<u8>, template: &[u8], absent: u32, count: u32) -> Res
 
 // Tells that a switch is absent, if it is.
 #[tactic(auto, unfolding(crate::specs::Reasons::switch_reason))]
-fn put_switch(
-    out: &mut Vec<u8>,
-    label: &'static [u8],
-    switch: Option<bool>,
-) -> Result<(), OutOfMemory>
+fn put_switch(out: &mut Vec<u8>, label: &'static [u8], switch: Option<bool>) -> Drawn
     ensures { OnOk result (out.new.items ≡ out.old.items ++ switch_reason label.now switch) }
 {
     match switch {
@@ -90,7 +85,7 @@ fn put_switch(
 }
 
 #[tactic(auto, unfolding(crate::specs::Reasons::pre_reasons))]
-fn put_pre_reasons(out: &mut Vec<u8>, pre: &Pre) -> Result<(), OutOfMemory>
+fn put_pre_reasons(out: &mut Vec<u8>, pre: &Pre) -> Drawn
     ensures { OnOk result (out.new.items ≡ out.old.items ++ pre_reasons pre.now) }
 {
     let (belt, lamp) = (pre.belt, pre.lamp);
@@ -103,7 +98,7 @@ fn put_pre_reasons(out: &mut Vec<u8>, pre: &Pre) -> Result<(), OutOfMemory>
 }
 
 #[tactic(auto, unfolding(crate::specs::Reasons::crash_reasons))]
-fn put_crash_reasons(out: &mut Vec<u8>, crash: &Option<Crash>) -> Result<(), OutOfMemory>
+fn put_crash_reasons(out: &mut Vec<u8>, crash: &Option<Crash>) -> Drawn
     ensures { OnOk result (out.new.items ≡ out.old.items ++ crash_reasons crash.now) }
 {
     match crash {
@@ -118,7 +113,7 @@ fn put_crash_reasons(out: &mut Vec<u8>, crash: &Option<Crash>) -> Result<(), Out
 
 /// Tells why a record isn't complete, if it isn't.
 #[tactic(auto, unfolding(crate::specs::Reasons::reasons))]
-pub fn put_reasons(out: &mut Vec<u8>, event: &Record) -> Result<(), OutOfMemory>
+pub fn put_reasons(out: &mut Vec<u8>, event: &Record) -> Drawn
     ensures { OnOk result (out.new.items ≡ out.old.items ++ reasons event.now) }
 {
     if event.complete() {

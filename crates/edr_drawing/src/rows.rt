@@ -2,14 +2,13 @@
 
 ghost use Rattle.std.specs.Prelude.{◌≡◌, ◌++◌, ◌≤◌, OnOk};
 ghost use Rattle.edr_drawing.specs.Template.{filling_bytes};
-ghost use Rattle.edr_drawing.specs.Rows.{after_chart, after_head, beside, event_rows, extreme_row, restraint_row, restraint_rows, rows_chart, rule, side, time_row, timed_row};
+ghost use Rattle.edr_drawing.specs.Rows.{after_chart, after_head, beside, event_rows, extreme_row, restraint_row, restraint_rows, rows_chart, rule, time_row, timed_row};
 
 use crate::after::draw_changes;
 use crate::changes::Scale;
 use crate::template::Filling::{Change, Count, Extreme as Greatest, Milliseconds, Number, Text};
-use crate::template::{Filling, fill, put};
+use crate::template::{Drawn, Filling, either, fill, put};
 use edr_record::{Crash, Extreme};
-use std::alloc::AllocError as OutOfMemory;
 
 /// The title, the description and the plot.
 pub const AFTER_HEAD: &[u8] =
@@ -89,21 +88,17 @@ pub const MAX_LATERAL: &[u8] = b"Max. lateral";
 
 pub const MAX_RESULTANT: &[u8] = b"Max. resultant";
 
-pub const DRIVER_FRONTAL: &[u8] = b"Driver frontal";
-
-pub const PASSENGER_FRONTAL: &[u8] = b"Passenger frontal";
-
-pub const DRIVER_SIDE: &[u8] = b"Driver side";
-
-pub const PASSENGER_SIDE: &[u8] = b"Passenger side";
-
-pub const DRIVER_CURTAIN: &[u8] = b"Driver curtain";
-
-pub const PASSENGER_CURTAIN: &[u8] = b"Passenger curtain";
-
-pub const DRIVER_PRETENSIONER: &[u8] = b"Driver pretensioner";
-
-pub const PASSENGER_PRETENSIONER: &[u8] = b"Passenger pretensioner";
+/// The restraints, in the order of a record.
+pub const RESTRAINTS: [&[u8]; 8] = [
+    b"Driver frontal",
+    b"Passenger frontal",
+    b"Driver side",
+    b"Passenger side",
+    b"Driver curtain",
+    b"Passenger curtain",
+    b"Driver pretensioner",
+    b"Passenger pretensioner",
+];
 
 // Where the words of a flag stand across.
 fn beside(x: u32) -> u32
@@ -117,16 +112,6 @@ fn beside(x: u32) -> u32
     }
 }
 
-fn side(x: u32) -> &'static [u8]
-    ensures { result.now ≡ side x }
-{
-    if x < FLAG_FAR_RIGHT {
-        RIGHT_OF_FLAG
-    } else {
-        LEFT_OF_FLAG
-    }
-}
-
 // Draws the row of something at a time, with these words.
 fn draw_timed(
     out: &mut Vec<u8>,
@@ -136,25 +121,22 @@ fn draw_timed(
     label: &'static [u8],
     time: u16,
     words: Filling,
-) -> Result<(), OutOfMemory>
+) -> Drawn
     requires span { 300 ≤ scale.now.span }
     requires place { y ≤ 2_000 }
     ensures { OnOk result (out.new.items ≡ out.old.items ++ timed_row template.now scale.now y label.now time (filling_bytes words)) }
 {
     let x = scale.x(time);
-    fill(
-        out,
-        template,
-        &[
-            Number(y + WORDS_DOWN),
-            Text(label),
-            Number(x),
-            Number(y + FLAG_DOWN),
-            Number(beside(x)),
-            Text(side(x)),
-            words,
-        ],
-    )
+    let parts = [
+        Number(y + WORDS_DOWN),
+        Text(label),
+        Number(x),
+        Number(y + FLAG_DOWN),
+        Number(beside(x)),
+        Text(either(x < FLAG_FAR_RIGHT, RIGHT_OF_FLAG, LEFT_OF_FLAG)),
+        words,
+    ];
+    fill(out, template, &parts)
 }
 
 // Draws the row of a restraint, which is this one in the order of a record.
@@ -165,7 +147,7 @@ fn draw_restraint(
     row: u32,
     label: &'static [u8],
     fired: Option<u16>,
-) -> Result<(), OutOfMemory>
+) -> Drawn
     requires span { 300 ≤ scale.now.span }
     requires row { row ≤ 7 }
     ensures { OnOk result (out.new.items ≡ out.old.items ++ restraint_row scale.now row label.now fired) }
@@ -177,24 +159,20 @@ fn draw_restraint(
     }
 }
 
-// Draws the rows of all restraints.
-#[tactic(auto, unfolding(crate::specs::Rows::restraint_rows))]
+// Draws the rows of these restraints.
 fn draw_restraints(
     out: &mut Vec<u8>,
     scale: &Scale,
+    labels: &[&'static [u8]; 8],
     fired: &[Option<u16>; 8],
-) -> Result<(), OutOfMemory>
+) -> Drawn
     requires { 300 ≤ scale.now.span }
-    ensures { OnOk result (out.new.items ≡ out.old.items ++ restraint_rows scale.now fired.now) }
+    ensures { OnOk result (out.new.items ≡ out.old.items ++ restraint_rows (λ l. l.now) scale.now 0 labels.now fired.now) }
 {
-    draw_restraint(out, scale, 0, DRIVER_FRONTAL, fired[0])?;
-    draw_restraint(out, scale, 1, PASSENGER_FRONTAL, fired[1])?;
-    draw_restraint(out, scale, 2, DRIVER_SIDE, fired[2])?;
-    draw_restraint(out, scale, 3, PASSENGER_SIDE, fired[3])?;
-    draw_restraint(out, scale, 4, DRIVER_CURTAIN, fired[4])?;
-    draw_restraint(out, scale, 5, PASSENGER_CURTAIN, fired[5])?;
-    draw_restraint(out, scale, 6, DRIVER_PRETENSIONER, fired[6])?;
-    draw_restraint(out, scale, 7, PASSENGER_PRETENSIONER, fired[7])
+    for row in 0..8 {
+        draw_restraint(out, scale, row as u32, labels[row], fired[row])?;
+    }
+    Ok(())
 }
 
 // Draws the row of a greatest change.
@@ -204,7 +182,7 @@ fn draw_extreme(
     y: u32,
     label: &'static [u8],
     extreme: Extreme,
-) -> Result<(), OutOfMemory>
+) -> Drawn
     requires span { 300 ≤ scale.now.span }
     requires place { y ≤ 2_000 }
     ensures { OnOk result (out.new.items ≡ out.old.items ++ extreme_row scale.now y label.now extreme) }
@@ -214,13 +192,7 @@ fn draw_extreme(
 }
 
 // Draws the row of a time.
-fn draw_time(
-    out: &mut Vec<u8>,
-    scale: &Scale,
-    y: u32,
-    label: &'static [u8],
-    time: u16,
-) -> Result<(), OutOfMemory>
+fn draw_time(out: &mut Vec<u8>, scale: &Scale, y: u32, label: &'static [u8], time: u16) -> Drawn
     requires span { 300 ≤ scale.now.span }
     requires place { y ≤ 2_000 }
     ensures { OnOk result (out.new.items ≡ out.old.items ++ time_row scale.now y label.now time) }
@@ -230,7 +202,7 @@ fn draw_time(
 
 // Draws the rows of the end of the event and of the greatest changes.
 #[tactic(auto, unfolding(crate::specs::Rows::event_rows))]
-fn draw_event(out: &mut Vec<u8>, scale: &Scale, crash: &Crash) -> Result<(), OutOfMemory>
+fn draw_event(out: &mut Vec<u8>, scale: &Scale, crash: &Crash) -> Drawn
     requires { 300 ≤ scale.now.span }
     ensures { OnOk result (out.new.items ≡ out.old.items ++ event_rows scale.now crash.now) }
 {
@@ -241,7 +213,7 @@ fn draw_event(out: &mut Vec<u8>, scale: &Scale, crash: &Crash) -> Result<(), Out
 }
 
 // Draws a line across the chart.
-fn draw_rule(out: &mut Vec<u8>, y: u32) -> Result<(), OutOfMemory>
+fn draw_rule(out: &mut Vec<u8>, y: u32) -> Drawn
     ensures { OnOk result (out.new.items ≡ out.old.items ++ rule y) }
 {
     fill(out, RULE, &[Number(y)])
@@ -249,45 +221,34 @@ fn draw_rule(out: &mut Vec<u8>, y: u32) -> Result<(), OutOfMemory>
 
 // Draws all rows, with which the chart ends.
 #[tactic(auto, unfolding(crate::specs::Rows::rows_chart))]
-fn draw_rows(out: &mut Vec<u8>, scale: &Scale, crash: &Crash) -> Result<(), OutOfMemory>
+fn draw_rows(out: &mut Vec<u8>, scale: &Scale, crash: &Crash) -> Drawn
     requires { 300 ≤ scale.now.span }
     ensures { OnOk result (out.new.items ≡ out.old.items ++ rows_chart scale.now crash.now) }
 {
     draw_rule(out, END_Y)?;
     draw_event(out, scale, crash)?;
     draw_rule(out, RESTRAINTS_Y)?;
-    draw_restraints(out, scale, &crash.fired)?;
+    draw_restraints(out, scale, &RESTRAINTS, &crash.fired)?;
     draw_rule(out, ROWS_END)?;
     put(out, CHART_END)
 }
 
 #[tactic(auto, unfolding(crate::specs::Rows::after_head))]
-fn put_head(out: &mut Vec<u8>, number: u64, crash: &Crash) -> Result<(), OutOfMemory>
+fn put_head(out: &mut Vec<u8>, number: u64, crash: &Crash) -> Drawn
     ensures { OnOk result (out.new.items ≡ out.old.items ++ after_head number crash.now) }
 {
-    let Crash {
-        end,
-        max_along,
-        max_across,
-        ..
-    } = *crash;
-    fill(
-        out,
-        AFTER_HEAD,
-        &[
-            Count(number),
-            Change(max_along.kmh),
-            Number(u32::from(max_along.at)),
-            Change(max_across.kmh),
-            Number(u32::from(max_across.at)),
-            Number(u32::from(end)),
-        ],
-    )
+    let (along, across) = (crash.max_along, crash.max_across);
+    let along_at = Number(u32::from(along.at));
+    let across_at = Number(u32::from(across.at));
+    let (along, across) = (Change(along.kmh), Change(across.kmh));
+    let (event, end) = (Count(number), Number(u32::from(crash.end)));
+    let parts = [event, along, along_at, across, across_at, end];
+    fill(out, AFTER_HEAD, &parts)
 }
 
 /// Draws the chart of the event with this number.
 #[tactic(auto, unfolding(crate::specs::Rows::after_chart))]
-pub fn draw_after(out: &mut Vec<u8>, number: u64, crash: &Option<Crash>) -> Result<(), OutOfMemory>
+pub fn draw_after(out: &mut Vec<u8>, number: u64, crash: &Option<Crash>) -> Drawn
     ensures { OnOk result (out.new.items ≡ out.old.items ++ after_chart number crash.now) }
 {
     let Some(crash) = crash else {

@@ -1,8 +1,8 @@
 //! Where values stand in a chart.
 
 ghost use Rattle.std.specs.Prelude.{◌≡◌, ◌≤◌, ◌<◌, ◌+◌, ◌*◌, All, max, unsigned_abs};
-ghost use Rattle.edr_record.specs.declared.TheConstants.{LONG_SLOTS};
-ghost use Rattle.edr_drawing.specs.Scales.{time_at, slot_x, intervals, least_step, scale_top, rise_of, fall_of, below_top};
+ghost use Rattle.edr_record.specs.declared.TheConstants.{LONG_SLOTS, SHORT_SLOTS};
+ghost use Rattle.edr_drawing.specs.Scales.{time_at, slot_x, intervals, least_step, scale_top, reach_of, below_top};
 
 use edr_record::Profile;
 
@@ -26,9 +26,16 @@ pub const TIME_STEP: u32 = 136;
 /// How many slots of a long profile there are from one time to the next.
 pub const TIME_SLOTS: u32 = 20;
 
+/// From 0, the way of gains and that of losses of speed.
+#[derive(Clone, Copy)]
+pub enum Way {
+    Up,
+    Down,
+}
+
 /// Where a time of eleven stands across, the last of which is time zero.
 pub fn time_at(k: u32) -> u32
-    requires { k < 11 }
+    requires { k < SHORT_SLOTS }
     ensures { result ≡ time_at k }
 {
     FIRST_TIME + TIME_STEP * k
@@ -80,24 +87,16 @@ pub fn scale_top(step: u32, value: u32) -> u32
     step * intervals(step, value)
 }
 
-/// How far a change of speed is above 0.
-pub fn rise_of(change: i16) -> u32
-    ensures rise { result ≡ rise_of change }
+/// How far a change of speed is from 0 that way.
+pub fn reach_of(way: Way, change: i16) -> u32
+    ensures reach { result ≡ reach_of way change }
     ensures range { result ≤ 32_768 }
 {
-    if change < 0 {
-        0
-    } else {
-        u32::from(change.unsigned_abs())
-    }
-}
-
-/// How far a change of speed is below 0.
-pub fn fall_of(change: i16) -> u32
-    ensures fall { result ≡ fall_of change }
-    ensures range { result ≤ 32_768 }
-{
-    if change < 0 {
+    let is_that_way = match way {
+        Way::Up => 0 <= change,
+        Way::Down => change < 0,
+    };
+    if is_that_way {
         u32::from(change.unsigned_abs())
     } else {
         0

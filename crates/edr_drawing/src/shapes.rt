@@ -1,11 +1,10 @@
 //! The shapes of a chart that stand where a value says. A unit of a chart is a tenth of a millimetre on a sheet of A4.
 
 ghost use Rattle.std.specs.Prelude.{◌≡◌, ◌++◌, OnOk};
-ghost use Rattle.edr_drawing.specs.Shapes.{field_class, path_point, shape_bytes, shapes_bytes, switch_word, word_class};
+ghost use Rattle.edr_drawing.specs.Shapes.{path_point, shape_bytes, shapes_bytes};
 
 use crate::template::Filling::{Number, Text};
-use crate::template::fill;
-use std::alloc::AllocError as OutOfMemory;
+use crate::template::{Drawn, either, fill, of_switch};
 
 pub const ON: &[u8] = b"on";
 
@@ -72,37 +71,7 @@ pub enum Shape {
     Word(u32, u32, Option<bool>),
 }
 
-fn field_class(shows: Option<bool>) -> &'static [u8]
-    ensures { result.now ≡ field_class shows }
-{
-    match shows {
-        Some(true) => ON,
-        Some(false) => OFF,
-        None => GAP,
-    }
-}
-
-fn word_class(shows: Option<bool>) -> &'static [u8]
-    ensures { result.now ≡ word_class shows }
-{
-    match shows {
-        Some(true) => IN_ON,
-        Some(false) => IN_OFF,
-        None => IN_GAP,
-    }
-}
-
-fn switch_word(shows: Option<bool>) -> &'static [u8]
-    ensures { result.now ≡ switch_word shows }
-{
-    match shows {
-        Some(true) => ON,
-        Some(false) => OFF,
-        None => NONE,
-    }
-}
-
-fn put_shape(out: &mut Vec<u8>, shape: Shape) -> Result<(), OutOfMemory>
+fn put_shape(out: &mut Vec<u8>, shape: Shape) -> Drawn
     ensures { OnOk result (out.new.items ≡ out.old.items ++ shape_bytes shape) }
 {
     match shape {
@@ -114,28 +83,20 @@ fn put_shape(out: &mut Vec<u8>, shape: Shape) -> Result<(), OutOfMemory>
         }
         Shape::Value(x, y, value) => fill(out, NUMBER, &[Number(x), Number(y), Number(value)]),
         Shape::Field(x, y, width, height, shows) => {
-            let class = field_class(shows);
-            fill(
-                out,
-                FIELD,
-                &[
-                    Number(x),
-                    Number(y),
-                    Number(width),
-                    Number(height),
-                    Text(class),
-                ],
-            )
+            let class = Text(of_switch(shows, ON, OFF, GAP));
+            let (width, height) = (Number(width), Number(height));
+            fill(out, FIELD, &[Number(x), Number(y), width, height, class])
         }
         Shape::Word(x, y, shows) => {
-            let (class, word) = (word_class(shows), switch_word(shows));
-            fill(out, WORD, &[Number(x), Number(y), Text(class), Text(word)])
+            let class = Text(of_switch(shows, IN_ON, IN_OFF, IN_GAP));
+            let word = Text(of_switch(shows, ON, OFF, NONE));
+            fill(out, WORD, &[Number(x), Number(y), class, word])
         }
     }
 }
 
 /// Appends shapes.
-pub fn draw(out: &mut Vec<u8>, shapes: &[Shape]) -> Result<(), OutOfMemory>
+pub fn draw(out: &mut Vec<u8>, shapes: &[Shape]) -> Drawn
     ensures { OnOk result (out.new.items ≡ out.old.items ++ shapes_bytes shapes.now) }
 {
     for shape in shapes {
@@ -146,9 +107,9 @@ pub fn draw(out: &mut Vec<u8>, shapes: &[Shape]) -> Result<(), OutOfMemory>
 
 /// Appends a point of a path.
 #[tactic(auto, unfolding(crate::specs::Shapes::path_point))]
-pub fn put_point(out: &mut Vec<u8>, joined: bool, x: u32, y: u32) -> Result<(), OutOfMemory>
+pub fn put_point(out: &mut Vec<u8>, joined: bool, x: u32, y: u32) -> Drawn
     ensures { OnOk result (out.new.items ≡ out.old.items ++ path_point joined x y) }
 {
-    let join = if joined { JOIN } else { BEGIN };
-    fill(out, PATH_POINT, &[Text(join), Number(x), Number(y)])
+    let join = Text(either(joined, JOIN, BEGIN));
+    fill(out, PATH_POINT, &[join, Number(x), Number(y)])
 }

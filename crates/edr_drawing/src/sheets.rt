@@ -1,18 +1,18 @@
 //! The sheet of an event.
 
-ghost use Rattle.std.specs.Prelude.{◌≡◌, ◌++◌, ◌≤◌, ◌+◌, ◌/◌, OnOk};
-ghost use Rattle.edr_drawing.specs.Sheets.{count_if, digest_hex, facts, hex_byte, hex_digit, profile_word, sheet, sheet_foot, sheet_if, sheets, yes_no};
+ghost use Rattle.std.specs.Prelude.{◌≡◌, ◌++◌, ◌≤◌, OnOk};
+ghost use Rattle.edr_drawing.specs.Sheets.{count_if, facts, sheet, sheet_if, sheets};
 
 use crate::before::draw_before;
 use crate::reasons::put_reasons;
 use crate::rows::draw_after;
 use crate::tables::{put_elements, put_points_table};
-use crate::template::Filling::{Count, Number, Place as PlaceOf, Text};
-use crate::template::{fill, put};
+use crate::template::Filling::{Count, Digest, Number, Place as PlaceOf, Text};
+use crate::template::{Drawn, either, fill, of_profile};
 use edr_image::{BankView, Found};
 use edr_record::{Key, Place, Profile, Record};
 use edr_report::number_shown;
-use std::alloc::{AllocError as OutOfMemory, Global};
+use std::alloc::Global;
 
 pub const SHEET_HEAD: &[u8] = br#"<section id="e{0}" aria-labelledby="e{0}h">
 <div class="head"><h2 id="e{0}h">Event {0}</h2><p>Complete file recorded: <b>{1}</b></p></div>
@@ -22,10 +22,10 @@ pub const FACTS: &[u8] =
     br#"<ul class="facts"><li>Ignition cycle <b>{0}</b></li><li>Time zero <b>{1} ms</b></li><li>Bank <b>{2}</b></li><li>Deployment event: <b>{3}</b></li><li>Pre-crash profile: <b>{4}</b></li><li>Place in crash: <b>{5}</b></li></ul>
 "#;
 
-/// The foot, up to the digest.
-pub const SHEET_FOOT: &[u8] = br#"<p class="foot">Event {0} of the report with SHA-256 <code>"#;
-
-pub const FOOT_END: &[u8] = b"</code></p>\n</section>\n";
+pub const SHEET_FOOT: &[u8] =
+    br#"<p class="foot">Event {0} of the report with SHA-256 <code>{1}</code></p>
+</section>
+"#;
 
 pub const YES: &[u8] = b"yes";
 
@@ -35,44 +35,6 @@ pub const SHORT: &[u8] = b"short";
 
 pub const LONG: &[u8] = b"long";
 
-pub fn yes_no(b: bool) -> &'static [u8]
-    ensures { result.now ≡ yes_no b }
-{
-    if b { YES } else { NO }
-}
-
-fn hex_digit(n: u8) -> u8
-    requires { n ≤ 15 }
-    ensures { result ≡ hex_digit n }
-{
-    if n < 10 { b'0' + n } else { b'a' + (n - 10) }
-}
-
-fn put_hex(out: &mut Vec<u8>, byte: u8) -> Result<(), OutOfMemory>
-    ensures { OnOk result (out.new.items ≡ out.old.items ++ hex_byte byte) }
-{
-    out.extend_from_slice(&[hex_digit(byte / 16), hex_digit(byte % 16)])
-}
-
-/// Appends a digest.
-pub fn put_digest(out: &mut Vec<u8>, digest: &[u8; 32]) -> Result<(), OutOfMemory>
-    ensures { OnOk result (out.new.items ≡ out.old.items ++ digest_hex digest.now) }
-{
-    for byte in digest {
-        put_hex(out, *byte)?;
-    }
-    Ok(())
-}
-
-fn profile_word(profile: Profile) -> &'static [u8]
-    ensures { result.now ≡ profile_word profile }
-{
-    match profile {
-        Profile::Short => SHORT,
-        Profile::Long => LONG,
-    }
-}
-
 #[tactic(auto, unfolding(crate::specs::Sheets::facts))]
 fn put_facts(
     out: &mut Vec<u8>,
@@ -81,30 +43,18 @@ fn put_facts(
     locked: bool,
     profile: Profile,
     place: Place,
-) -> Result<(), OutOfMemory>
+) -> Drawn
     ensures { OnOk result (out.new.items ≡ out.old.items ++ facts bank key locked profile place) }
 {
-    fill(
-        out,
-        FACTS,
-        &[
-            Number(number_shown(key.cycle)),
-            Number(key.zero),
-            Number(u32::from(bank)),
-            Text(yes_no(locked)),
-            Text(profile_word(profile)),
-            PlaceOf(place),
-        ],
-    )
-}
-
-#[tactic(auto, unfolding(crate::specs::Sheets::sheet_foot))]
-fn put_foot(out: &mut Vec<u8>, number: u64, digest: &[u8; 32]) -> Result<(), OutOfMemory>
-    ensures { OnOk result (out.new.items ≡ out.old.items ++ sheet_foot number digest.now) }
-{
-    fill(out, SHEET_FOOT, &[Count(number)])?;
-    put_digest(out, digest)?;
-    put(out, FOOT_END)
+    let facts = [
+        Number(number_shown(key.cycle)),
+        Number(key.zero),
+        Number(u32::from(bank)),
+        Text(either(locked, YES, NO)),
+        Text(of_profile(profile, SHORT, LONG)),
+        PlaceOf(place),
+    ];
+    fill(out, FACTS, &facts)
 }
 
 // Appends the sheet of the event with this number.
@@ -116,11 +66,11 @@ fn put_sheet(
     bank: u8,
     event: &Record,
     digest: &[u8; 32],
-) -> Result<(), OutOfMemory>
+) -> Drawn
     ensures { OnOk result (out.new.items ≡ out.old.items ++ sheet number bank event.now digest.now) }
 {
-    let complete = yes_no(event.complete());
-    fill(out, SHEET_HEAD, &[Count(number), Text(complete)])?;
+    let complete = Text(either(event.complete(), YES, NO));
+    fill(out, SHEET_HEAD, &[Count(number), complete])?;
     let pre = &event.pre;
     put_facts(out, bank, pre.key, event.locked, pre.profile(), pre.place)?;
     put_reasons(out, event)?;
@@ -128,7 +78,7 @@ fn put_sheet(
     draw_after(out, number, &event.crash)?;
     put_points_table(out, &event.crash)?;
     put_elements(out, alloc, number, bank, event)?;
-    put_foot(out, number, digest)
+    fill(out, SHEET_FOOT, &[Count(number), Digest(*digest)])
 }
 
 /// How many events a bank has: one or none.
@@ -149,7 +99,7 @@ fn put_sheet_if(
     number: u64,
     found: &Found,
     digest: &[u8; 32],
-) -> Result<(), OutOfMemory>
+) -> Drawn
     ensures { OnOk result (out.new.items ≡ out.old.items ++ sheet_if number found.now.bank found.now.view digest.now) }
 {
     match &found.view {
@@ -159,12 +109,7 @@ fn put_sheet_if(
 }
 
 /// Appends the sheets of all events that were found.
-pub fn put_sheets(
-    out: &mut Vec<u8>,
-    alloc: Global,
-    found: &[Found],
-    digest: &[u8; 32],
-) -> Result<(), OutOfMemory>
+pub fn put_sheets(out: &mut Vec<u8>, alloc: Global, found: &[Found], digest: &[u8; 32]) -> Drawn
     ensures { OnOk result (out.new.items ≡ out.old.items ++ sheets 1 found.now digest.now) }
 {
     let mut number = 1;

@@ -7,11 +7,11 @@ ghost use Rattle.edr_drawing.specs.Tables.{row, time_cells, change_cell, change_
 
 use crate::after::points_of;
 use crate::template::Filling::{Change, Number};
-use crate::template::{fill, put};
+use crate::template::{Drawn, fill, put};
 use edr_image::CycleReport;
 use edr_record::{Crash, POINT_STEP, Record, point_count};
 use edr_report::{Lines, print_event, print_run};
-use std::alloc::{AllocError as OutOfMemory, Global};
+use std::alloc::Global;
 
 /// The line of a report before which a second table begins.
 pub const SECOND_TABLE: &[u8] = b"delta-V lateral, km/h";
@@ -72,7 +72,7 @@ impl Lines for Rows {
 
     ghost form = { line_row };
 
-    fn line(&mut self, _block: u64, name: &[u8], value: &[u8]) -> Result<(), OutOfMemory> {
+    fn line(&mut self, _block: u64, name: &[u8], value: &[u8]) -> Drawn {
         if name == SECOND_TABLE {
             put(&mut self.bytes, NEXT_TABLE)?;
         }
@@ -81,7 +81,7 @@ impl Lines for Rows {
 }
 
 // Appends the row of a line.
-fn put_row(out: &mut Vec<u8>, name: &[u8], value: &[u8]) -> Result<(), OutOfMemory>
+fn put_row(out: &mut Vec<u8>, name: &[u8], value: &[u8]) -> Drawn
     ensures { OnOk result (out.new.items ≡ out.old.items ++ row name.now value.now) }
 {
     put(out, LINE_NAME)?;
@@ -92,7 +92,7 @@ fn put_row(out: &mut Vec<u8>, name: &[u8], value: &[u8]) -> Result<(), OutOfMemo
 }
 
 // Appends the time of each point.
-fn put_times(out: &mut Vec<u8>, count: u32) -> Result<(), OutOfMemory>
+fn put_times(out: &mut Vec<u8>, count: u32) -> Drawn
     requires { count ≤ 1_000 }
     ensures { OnOk result (out.new.items ≡ out.old.items ++ time_cells count) }
 {
@@ -103,7 +103,7 @@ fn put_times(out: &mut Vec<u8>, count: u32) -> Result<(), OutOfMemory>
 }
 
 // Appends a cell for each point.
-fn put_cells(out: &mut Vec<u8>, points: &[i16]) -> Result<(), OutOfMemory>
+fn put_cells(out: &mut Vec<u8>, points: &[i16]) -> Drawn
     ensures { OnOk result (out.new.items ≡ out.old.items ++ flat_map change_cell points.now) }
 {
     for point in points {
@@ -113,7 +113,7 @@ fn put_cells(out: &mut Vec<u8>, points: &[i16]) -> Result<(), OutOfMemory>
 }
 
 // Appends the row of an axis.
-fn put_axis(out: &mut Vec<u8>, start: &[u8], points: &[i16]) -> Result<(), OutOfMemory>
+fn put_axis(out: &mut Vec<u8>, start: &[u8], points: &[i16]) -> Drawn
     ensures { OnOk result (out.new.items ≡ out.old.items ++ change_row start.now points.now) }
 {
     put(out, start)?;
@@ -123,7 +123,7 @@ fn put_axis(out: &mut Vec<u8>, start: &[u8], points: &[i16]) -> Result<(), OutOf
 
 /// Appends the table of the changes of speed, if they are there.
 #[tactic(auto, unfolding(crate::specs::Tables::points_table))]
-pub fn put_points_table(out: &mut Vec<u8>, crash: &Option<Crash>) -> Result<(), OutOfMemory>
+pub fn put_points_table(out: &mut Vec<u8>, crash: &Option<Crash>) -> Drawn
     ensures { OnOk result (out.new.items ≡ out.old.items ++ points_table crash.now) }
 {
     let Some(crash) = crash else {
@@ -145,7 +145,7 @@ pub fn put_elements(
     number: u64,
     bank: u8,
     event: &Record,
-) -> Result<(), OutOfMemory>
+) -> Drawn
     ensures { OnOk result (out.new.items ≡ out.old.items ++ elements_table number bank event.now) }
 {
     let empty = Rows {
@@ -159,7 +159,7 @@ pub fn put_elements(
 
 /// Appends the table of the cycles of a run, if there are any.
 #[tactic(auto, unfolding(crate::specs::Tables::run_table))]
-pub fn put_run(out: &mut Vec<u8>, alloc: Global, run: &[CycleReport]) -> Result<(), OutOfMemory>
+pub fn put_run(out: &mut Vec<u8>, alloc: Global, run: &[CycleReport]) -> Drawn
     ensures { OnOk result (out.new.items ≡ out.old.items ++ run_table (map report_of run.now)) }
 {
     if run.is_empty() {

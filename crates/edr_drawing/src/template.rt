@@ -3,13 +3,16 @@
 //! A template is a text in which `{0}` stands for the first value, `{1}` for the second, up to `{9}`. The definitions of
 //! `specs/` name the templates of `src/`, so each text of a page stands once.
 
-ghost use Rattle.std.specs.Prelude.{◌≡◌, ◌++◌, OnOk, map};
-ghost use Rattle.edr_drawing.specs.Template.{byte_bytes, filled, filling_bytes, fixed, place_words, seconds};
+ghost use Rattle.std.specs.Prelude.{◌≡◌, ◌++◌, ◌≤◌, OnOk, map};
+ghost use Rattle.edr_drawing.specs.Template.{byte_bytes, digest_hex, either, filled, filling_bytes, fixed, hex_byte, hex_digit, of_profile, of_switch, place_words, seconds};
 
-use edr_record::Place;
+use edr_record::{Place, Profile};
 use edr_report::tenths_of;
 use itoa::Buffer;
 use std::alloc::AllocError as OutOfMemory;
+
+/// Whether there was memory for what is appended.
+pub type Drawn = Result<(), OutOfMemory>;
 
 pub const FIRST: &[u8] = b"first";
 
@@ -31,23 +34,58 @@ pub enum Filling {
     Milliseconds(u16),
     /// The time of a greatest change, and the change.
     Extreme(u16, i16),
+    /// A digest, in hexadecimal digits.
+    Digest([u8; 32]),
 }
 
-fn put_number(out: &mut Vec<u8>, n: u64) -> Result<(), OutOfMemory>
+/// One of two texts.
+pub fn either(is_so: bool, yes: &'static [u8], no: &'static [u8]) -> &'static [u8]
+    ensures { result.now ≡ either is_so yes.now no.now }
+{
+    if is_so { yes } else { no }
+}
+
+/// The text of a profile.
+pub fn of_profile(profile: Profile, short: &'static [u8], long: &'static [u8]) -> &'static [u8]
+    ensures { result.now ≡ of_profile profile short.now long.now }
+{
+    match profile {
+        Profile::Short => short,
+        Profile::Long => long,
+    }
+}
+
+/// The text of what a switch is.
+pub fn of_switch(
+    shows: Option<bool>,
+    on: &'static [u8],
+    off: &'static [u8],
+    none: &'static [u8],
+) -> &'static [u8]
+    ensures { result.now ≡ of_switch shows on.now off.now none.now }
+{
+    match shows {
+        Some(true) => on,
+        Some(false) => off,
+        None => none,
+    }
+}
+
+fn put_number(out: &mut Vec<u8>, n: u64) -> Drawn
     ensures { OnOk result (out.new.items ≡ out.old.items ++ filling_bytes (Filling.Count n)) }
 {
     let mut buffer = Buffer::new();
     out.extend_from_slice(buffer.format(n).as_bytes())
 }
 
-fn put_change(out: &mut Vec<u8>, z: i16) -> Result<(), OutOfMemory>
+fn put_change(out: &mut Vec<u8>, z: i16) -> Drawn
     ensures { OnOk result (out.new.items ≡ out.old.items ++ filling_bytes (Filling.Change z)) }
 {
     let mut buffer = Buffer::new();
     out.extend_from_slice(buffer.format(z).as_bytes())
 }
 
-fn put_seconds(out: &mut Vec<u8>, tenths: u64) -> Result<(), OutOfMemory>
+fn put_seconds(out: &mut Vec<u8>, tenths: u64) -> Drawn
     ensures { OnOk result (out.new.items ≡ out.old.items ++ seconds tenths) }
 {
     put_number(out, tenths / 10)?;
@@ -55,7 +93,7 @@ fn put_seconds(out: &mut Vec<u8>, tenths: u64) -> Result<(), OutOfMemory>
     put_number(out, tenths % 10)
 }
 
-fn put_place(out: &mut Vec<u8>, place: Place) -> Result<(), OutOfMemory>
+fn put_place(out: &mut Vec<u8>, place: Place) -> Drawn
     ensures { OnOk result (out.new.items ≡ out.old.items ++ place_words place) }
 {
     match place {
@@ -68,7 +106,7 @@ fn put_place(out: &mut Vec<u8>, place: Place) -> Result<(), OutOfMemory>
     }
 }
 
-fn put_extreme(out: &mut Vec<u8>, at: u16, kmh: i16) -> Result<(), OutOfMemory>
+fn put_extreme(out: &mut Vec<u8>, at: u16, kmh: i16) -> Drawn
     ensures { OnOk result (out.new.items ≡ out.old.items ++ filling_bytes (Filling.Extreme at kmh)) }
 {
     put_number(out, u64::from(at))?;
@@ -77,7 +115,29 @@ fn put_extreme(out: &mut Vec<u8>, at: u16, kmh: i16) -> Result<(), OutOfMemory>
     out.extend_from_slice(b" km/h")
 }
 
-fn put_filling(out: &mut Vec<u8>, filling: Filling) -> Result<(), OutOfMemory>
+fn hex_digit(n: u8) -> u8
+    requires { n ≤ 15 }
+    ensures { result ≡ hex_digit n }
+{
+    if n < 10 { b'0' + n } else { b'a' + (n - 10) }
+}
+
+fn put_hex(out: &mut Vec<u8>, byte: u8) -> Drawn
+    ensures { OnOk result (out.new.items ≡ out.old.items ++ hex_byte byte) }
+{
+    out.extend_from_slice(&[hex_digit(byte / 16), hex_digit(byte % 16)])
+}
+
+fn put_digest(out: &mut Vec<u8>, digest: &[u8; 32]) -> Drawn
+    ensures { OnOk result (out.new.items ≡ out.old.items ++ digest_hex digest.now) }
+{
+    for byte in digest {
+        put_hex(out, *byte)?;
+    }
+    Ok(())
+}
+
+fn put_filling(out: &mut Vec<u8>, filling: Filling) -> Drawn
     ensures { OnOk result (out.new.items ≡ out.old.items ++ filling_bytes filling) }
 {
     match filling {
@@ -96,16 +156,12 @@ fn put_filling(out: &mut Vec<u8>, filling: Filling) -> Result<(), OutOfMemory>
             out.extend_from_slice(b" ms")
         }
         Filling::Extreme(at, kmh) => put_extreme(out, at, kmh),
+        Filling::Digest(digest) => put_digest(out, &digest),
     }
 }
 
 // Appends a byte of a template, which in a hole is the number of a value.
-fn put_byte(
-    out: &mut Vec<u8>,
-    fillings: &[Filling],
-    in_hole: bool,
-    byte: u8,
-) -> Result<(), OutOfMemory>
+fn put_byte(out: &mut Vec<u8>, fillings: &[Filling], in_hole: bool, byte: u8) -> Drawn
     ensures { OnOk result (out.new.items ≡ out.old.items ++ byte_bytes (map filling_bytes fillings.now) in_hole byte) }
 {
     if !in_hole {
@@ -119,7 +175,7 @@ fn put_byte(
 
 /// Appends a template, with these values in its holes.
 #[tactic(auto, unfolding(crate::specs::Template::filled))]
-pub fn fill(out: &mut Vec<u8>, template: &[u8], fillings: &[Filling]) -> Result<(), OutOfMemory>
+pub fn fill(out: &mut Vec<u8>, template: &[u8], fillings: &[Filling]) -> Drawn
     ensures { OnOk result (out.new.items ≡ out.old.items ++ filled template.now (map filling_bytes fillings.now)) }
 {
     let mut in_hole = false;
@@ -135,7 +191,7 @@ pub fn fill(out: &mut Vec<u8>, template: &[u8], fillings: &[Filling]) -> Result<
 
 /// Appends a text with no holes.
 #[tactic(auto, unfolding(crate::specs::Template::fixed))]
-pub fn put(out: &mut Vec<u8>, text: &[u8]) -> Result<(), OutOfMemory>
+pub fn put(out: &mut Vec<u8>, text: &[u8]) -> Drawn
     ensures { OnOk result (out.new.items ≡ out.old.items ++ fixed text.now) }
 {
     out.extend_from_slice(text)
