@@ -1,23 +1,31 @@
 -- What stands on a page in one piece.
-use Rattle.std.proofs.Common.{◌≡◌, ◌∙◌, sym, ap, subst, ℕ, zero, suc, ◌+◌, ◌⊎◌, inl, inr, arith, if◌then◌else◌, List, [], ◌∷◌, ◌++◌, Contains, decimal, flat_map, append_assoc, append-nil}
+use Rattle.std.proofs.Common.{◌≡◌, ◌∙◌, sym, ap, subst, ℕ, zero, suc, ◌+◌, ◌*◌, ◌/◌, ◌%◌, ◌<◌, ◌⊎◌, inl, inr, arith, refl, Bool, true, false, nat_eq, if◌then◌else◌, List, [], ◌∷◌, ◌++◌, Contains, decimal, flat_map, append_assoc, append-nil}
 use Rattle.std.proofs.lemmas.List.Elements.{Contains-append_cases}
+use Rattle.edr_record.specs.declared.Profile.{Profile}
+use Rattle.edr_record.specs.declared.Profile.TheVariants.{Short, Long}
 use Rattle.edr_record.specs.declared.Record.{Record}
+use Rattle.edr_record.specs.Bounds.{slots_in}
+use Rattle.edr_record.specs.Parts.{PrePart}
 use Rattle.edr_image.specs.declared.BankView.{BankView}
 use Rattle.edr_image.specs.declared.BankView.TheVariants.{Void, Event, Damaged}
 use Rattle.edr_image.specs.declared.Found.{Found}
 use Rattle.edr_image.specs.Reports.{Report}
 use Rattle.edr_report.specs.Lines.{Line}
 use Rattle.edr_report.specs.Report.{event_lines, events_lines, found_records, run_lines}
+use Rattle.edr_drawing.specs.declared.TheConstants.{VERSION}
 use Rattle.edr_drawing.specs.declared.cover.TheConstants.{FIRST_FOOT}
 use Rattle.edr_drawing.specs.declared.sheets.TheConstants.{SHEET_FOOT}
+use Rattle.edr_drawing.specs.declared.by_time.TheConstants.{BLOCK_START, BY_TIME_END}
+use Rattle.edr_drawing.specs.Scales.{flat_map_below}
 use Rattle.edr_drawing.specs.declared.long.TheConstants.{FORM, NOTES, PAGE_END}
 use Rattle.edr_drawing.specs.declared.tables.TheConstants.{ELEMENTS_END, ELEMENTS_START, NEXT_TABLE, RUN_START, TABLE_END}
 use Rattle.edr_drawing.specs.Template.{digest_hex, filled, fixed}
-use Rattle.edr_drawing.specs.Tables.{row, line_row, begins_table, elements_table, run_table}
+use Rattle.edr_drawing.specs.Tables.{row, row_of, line_row, begins_table, elements_table, run_table}
+use Rattle.edr_drawing.specs.ByTime.{block, block_slots, blocks, blocks_in, by_time, slot_row, slot_rows}
 use Rattle.edr_drawing.specs.Sheets.{sheet, sheets}
 use Rattle.edr_drawing.specs.Cover.{cover}
 use Rattle.edr_drawing.specs.Page.{page_bytes}
-use Rattle.edr_drawing.specs.Laws.{IsInOnePiece}
+use Rattle.edr_drawing.specs.Laws.{HasAllSlotRows, HasSlotRows, IsInOnePiece, shown_row}
 
 -- a part of one of two texts is a part of both together
 part_left : (part xs ys : List ℕ) → IsInOnePiece part xs → IsInOnePiece part (xs ++ ys)
@@ -34,55 +42,64 @@ part_itself part = ([], [], sym (append-nil part))
 part_same : (part xs ys : List ℕ) → xs ≡ ys → IsInOnePiece part xs → IsInOnePiece part ys
 part_same part xs ys is (front, back, e) = (front, back, sym is ∙ e)
 
+-- a part of a part
+part_within : (small part whole : List ℕ) → IsInOnePiece small part → IsInOnePiece part whole → IsInOnePiece small whole
+part_within small part whole inner (front, back, is) =
+    part_same small (front ++ part ++ back) whole (sym is) (part_left small (front ++ part) back (part_right small front part inner))
+
+part_same_left : (xs ys whole : List ℕ) → xs ≡ ys → IsInOnePiece xs whole → IsInOnePiece ys whole
+part_same_left xs ys whole is h = subst (λ (part : List ℕ). IsInOnePiece part whole) is h
+
 contains_cases : {X : Type 0} (y : X) (ys : List X) (x : X) → Contains (y ∷ ys) x → (y ≡ x) ⊎ Contains ys x
 contains_cases y ys x (zero, b, e) = inl e
 contains_cases y ys x (suc k, b, e) = inr (k, omega (arith, b), e)
 
 -- each line has its row among the rows of all
-row_of_line : (ls : List Line) (l : Line) → Contains ls l → IsInOnePiece (row l.name l.value) (flat_map line_row ls)
-row_of_line [] l (k, b, e) = absurd (omega (arith, b))
-row_of_line (x ∷ xs) l among = elim (contains_cases x xs l among) [
-  | inl is ↦
-      let r = row l.name l.value in
-      let here : IsInOnePiece r (line_row l) = part_right r (if begins_table l.name then fixed NEXT_TABLE.now else []) r (part_itself r) in
-      part_left r (line_row x) (flat_map line_row xs) (part_same r (line_row l) (line_row x) (ap line_row (sym is)) here)
-  | inr later ↦ part_right (row l.name l.value) (line_row x) (flat_map line_row xs) (row_of_line xs l later)
+row_of_line : (form shown : Line → List ℕ) → ((l : Line) → IsInOnePiece (shown l) (form l)) → (ls : List Line) (l : Line) → Contains ls l → IsInOnePiece (shown l) (flat_map form ls)
+row_of_line form shown each [] l (k, b, e) = absurd (omega (arith, b))
+row_of_line form shown each (x ∷ xs) l among = elim (contains_cases x xs l among) [
+  | inl is ↦ part_left (shown l) (form x) (flat_map form xs) (part_same (shown l) (form l) (form x) (ap form (sym is)) (each l))
+  | inr later ↦ part_right (shown l) (form x) (flat_map form xs) (row_of_line form shown each xs l later)
 ]
 
+shown_in : (l : Line) → IsInOnePiece (shown_row l) (line_row l)
+shown_in l = part_right (shown_row l) (if begins_table l.name then fixed NEXT_TABLE.now else []) (shown_row l) (part_itself (shown_row l))
+
 -- in the tables of its event, on its sheet, and among the sheets of all events
-line_of_elements : (n bank : ℕ) (r : Record) (l : Line) → Contains (event_lines n bank r) l → IsInOnePiece (row l.name l.value) (elements_table n bank r)
+line_of_elements : (n bank : ℕ) (r : Record) (l : Line) → Contains (event_lines n bank r) l → IsInOnePiece (shown_row l) (elements_table n bank r)
 unfolding elements_table
 line_of_elements n bank r l among =
-    let p = row l.name l.value in
+    let p = shown_row l in
     part_left p _ (fixed ELEMENTS_END.now)
-    (part_right p (fixed ELEMENTS_START.now) (flat_map line_row (event_lines n bank r)) (row_of_line (event_lines n bank r) l among))
+    (part_right p (fixed ELEMENTS_START.now) (flat_map line_row (event_lines n bank r)) (row_of_line line_row shown_row shown_in (event_lines n bank r) l among))
 
-line_of_sheet : (n bank : ℕ) (r : Record) (digest : List ℕ) (l : Line) → Contains (event_lines n bank r) l → IsInOnePiece (row l.name l.value) (sheet n bank r digest)
+line_of_sheet : (n bank : ℕ) (r : Record) (digest : List ℕ) (l : Line) → Contains (event_lines n bank r) l → IsInOnePiece (shown_row l) (sheet n bank r digest)
 unfolding sheet
 line_of_sheet n bank r digest l among =
-    let p = row l.name l.value in
-    part_left p _ (filled SHEET_FOOT.now (decimal n ∷ digest_hex digest ∷ [])) (part_right p _ (elements_table n bank r) (line_of_elements n bank r l among))
+    let p = shown_row l in
+    part_left p _ (filled SHEET_FOOT.now (decimal n ∷ digest_hex digest ∷ []))
+    (part_left p _ (by_time n r.pre) (part_right p _ (elements_table n bank r) (line_of_elements n bank r l among)))
 
 line_of_found : (n bank : ℕ) (view : BankView) (fs : List Found) (digest : List ℕ) (l : Line) →
-    ((m : ℕ) → Contains (events_lines m (found_records fs)) l → IsInOnePiece (row l.name l.value) (sheets m fs digest)) →
-    Contains (events_lines n (found_records (record { bank = bank; view = view } ∷ fs))) l → IsInOnePiece (row l.name l.value) (sheets n (record { bank = bank; view = view } ∷ fs) digest)
+    ((m : ℕ) → Contains (events_lines m (found_records fs)) l → IsInOnePiece (shown_row l) (sheets m fs digest)) →
+    Contains (events_lines n (found_records (record { bank = bank; view = view } ∷ fs))) l → IsInOnePiece (shown_row l) (sheets n (record { bank = bank; view = view } ∷ fs) digest)
 line_of_found n bank Void fs digest l rest among = rest (n + 0) (subst (λ (m : ℕ). Contains (events_lines m (found_records fs)) l) (omega arith) among)
 line_of_found n bank (Damaged o x k) fs digest l rest among = rest (n + 0) (subst (λ (m : ℕ). Contains (events_lines m (found_records fs)) l) (omega arith) among)
 line_of_found n bank (Event r) fs digest l rest among = elim (Contains-append_cases (event_lines n bank r) (events_lines (n + 1) (found_records fs)) l among) [
-  | inl here ↦ part_left (row l.name l.value) (sheet n bank r digest) (sheets (n + 1) fs digest) (line_of_sheet n bank r digest l here)
-  | inr later ↦ part_right (row l.name l.value) (sheet n bank r digest) (sheets (n + 1) fs digest) (rest (n + 1) later)
+  | inl here ↦ part_left (shown_row l) (sheet n bank r digest) (sheets (n + 1) fs digest) (line_of_sheet n bank r digest l here)
+  | inr later ↦ part_right (shown_row l) (sheet n bank r digest) (sheets (n + 1) fs digest) (rest (n + 1) later)
 ]
 
-line_of_sheets : (n : ℕ) (found : List Found) (digest : List ℕ) (l : Line) → Contains (events_lines n (found_records found)) l → IsInOnePiece (row l.name l.value) (sheets n found digest)
+line_of_sheets : (n : ℕ) (found : List Found) (digest : List ℕ) (l : Line) → Contains (events_lines n (found_records found)) l → IsInOnePiece (shown_row l) (sheets n found digest)
 line_of_sheets n [] digest l (k, b, e) = absurd (omega (arith, b))
 line_of_sheets n (f ∷ fs) digest l among = line_of_found n f.bank f.view fs digest l (λ m later. line_of_sheets m fs digest l later) among
 
 -- on the page
 pub event_on_page : (reports : List Report) (found : List Found) (count size : ℕ) (digest : List ℕ) (l : Line) →
-    Contains (events_lines 1 (found_records found)) l → IsInOnePiece (row l.name l.value) (page_bytes reports found count size digest)
+    Contains (events_lines 1 (found_records found)) l → IsInOnePiece (shown_row l) (page_bytes reports found count size digest)
 unfolding page_bytes
 event_on_page reports found count size digest l among =
-    let p = row l.name l.value in
+    let p = shown_row l in
     part_left p _ (fixed PAGE_END.now) (part_right p _ (sheets 1 found digest) (line_of_sheets 1 found digest l among))
 
 -- the lines of cycles, in their table and on the first sheet
@@ -92,14 +109,14 @@ line_of_run [] l (k, b, e) = absurd (omega (arith, b))
 line_of_run (r ∷ rs) l among =
     let p = row l.name l.value in
     part_left p _ (fixed TABLE_END.now)
-    (part_right p (fixed RUN_START.now) (flat_map line_row (run_lines 1 (r ∷ rs))) (row_of_line (run_lines 1 (r ∷ rs)) l among))
+    (part_right p (fixed RUN_START.now) (flat_map row_of (run_lines 1 (r ∷ rs))) (row_of_line row_of row_of (λ x. part_itself (row_of x)) (run_lines 1 (r ∷ rs)) l among))
 
 line_of_cover : (reports : List Report) (found : List Found) (count size : ℕ) (digest : List ℕ) (l : Line) →
     Contains (run_lines 1 reports) l → IsInOnePiece (row l.name l.value) (cover reports found count size digest)
 unfolding cover
 line_of_cover reports found count size digest l among =
     let p = row l.name l.value in
-    part_left p _ (filled FIRST_FOOT.now (decimal size ∷ digest_hex digest ∷ []))
+    part_left p _ (filled FIRST_FOOT.now (decimal size ∷ digest_hex digest ∷ VERSION.now ∷ []))
     (part_left p _ (fixed FORM.now) (part_left p _ (fixed NOTES.now) (part_right p _ (run_table reports) (line_of_run reports l among))))
 
 pub cycle_on_page : (reports : List Report) (found : List Found) (count size : ℕ) (digest : List ℕ) (l : Line) →
@@ -109,3 +126,67 @@ cycle_on_page reports found count size digest l among =
     let p = row l.name l.value in
     part_left p _ (fixed PAGE_END.now)
     (part_left p _ (sheets 1 found digest) (part_right p _ (cover reports found count size digest) (line_of_cover reports found count size digest l among)))
+
+-- ---- the slots of the table by time
+
+counted_part : (f : ℕ → List ℕ) (n k : ℕ) → k < n → IsInOnePiece (f k) (flat_map_below f n)
+counted_part f zero k within = absurd (omega (arith, within))
+counted_part f (suc n) k within = by (nat_eq k n) refl (λ other. counted_part f n k other)
+  where
+    by : (b : Bool) → nat_eq k n ≡ b → (k < n → IsInOnePiece (f k) (flat_map_below f n)) → IsInOnePiece (f k) (flat_map_below f n ++ f n)
+    by true e earlier =
+        let same : k ≡ n = grind (arith, e) in
+        part_right (f k) (flat_map_below f n) (f n) (part_same (f k) (f k) (f n) (ap f same) (part_itself (f k)))
+    by false e earlier =
+        let other : k < n = grind (arith, e, within) in
+        part_left (f k) (flat_map_below f n) (f n) (earlier other)
+
+slot_of_block : (p : PrePart) (b i : ℕ) → i < block_slots p.profile → IsInOnePiece (slot_row p (block_slots p.profile * b + i)) (block p b)
+unfolding block
+slot_of_block p b i within =
+    let row = slot_row p (block_slots p.profile * b + i) in
+    part_left row _ (fixed TABLE_END.now)
+    (part_right row (fixed BLOCK_START.now) (slot_rows p (block_slots p.profile * b) (block_slots p.profile))
+    (counted_part (λ j. slot_row p (block_slots p.profile * b + j)) (block_slots p.profile) i within))
+
+slot_of_blocks : (p : PrePart) (b i : ℕ) → b < blocks_in p.profile → i < block_slots p.profile → IsInOnePiece (slot_row p (block_slots p.profile * b + i)) (blocks p (blocks_in p.profile))
+slot_of_blocks p b i few within = part_within _ _ _ (slot_of_block p b i within) (counted_part (block p) (blocks_in p.profile) b few)
+
+-- a slot's block, and its place in it
+slot_place : (f : Profile) (k : ℕ) → k < slots_in f → (b : ℕ) × (i : ℕ) × (b < blocks_in f) × (i < block_slots f) × (block_slots f * b + i ≡ k)
+slot_place Short k within = (0, k, omega arith, omega (arith, within), omega arith)
+slot_place Long k within = (k / 67, k % 67, omega (arith, within), omega arith, omega arith)
+
+pub slot_of_table : (n : ℕ) (p : PrePart) → HasSlotRows p (by_time n p)
+unfolding by_time
+slot_of_table n p k within =
+    let place = slot_place p.profile k within in
+    let row = slot_row p k in
+    let here = part_same_left _ row _ (ap (slot_row p) place.4) (slot_of_blocks p place.0 place.1 place.2 place.3) in
+    part_left row _ (fixed BY_TIME_END.now) (part_right row _ (blocks p (blocks_in p.profile)) here)
+
+slot_of_sheet : (n bank : ℕ) (r : Record) (digest : List ℕ) → HasSlotRows r.pre (sheet n bank r digest)
+unfolding sheet
+slot_of_sheet n bank r digest k within =
+    let row = slot_row r.pre k in
+    part_left row _ (filled SHEET_FOOT.now (decimal n ∷ digest_hex digest ∷ [])) (part_right row _ (by_time n r.pre) (slot_of_table n r.pre k within))
+
+slots_of_found : (n bank : ℕ) (view : BankView) (fs : List Found) (digest : List ℕ) (e : ℕ × Record) →
+    ((m : ℕ) → Contains (found_records fs) e → HasSlotRows e.1.pre (sheets m fs digest)) →
+    Contains (found_records (record { bank = bank; view = view } ∷ fs)) e → HasSlotRows e.1.pre (sheets n (record { bank = bank; view = view } ∷ fs) digest)
+slots_of_found n bank Void fs digest e rest among = rest (n + 0) among
+slots_of_found n bank (Damaged o x k) fs digest e rest among = rest (n + 0) among
+slots_of_found n bank (Event r) fs digest e rest among = λ k within. elim (contains_cases (bank, r) (found_records fs) e among) [
+  | inl is ↦ part_left (slot_row e.1.pre k) (sheet n bank r digest) (sheets (n + 1) fs digest) (subst (λ (x : ℕ × Record). HasSlotRows x.1.pre (sheet n bank r digest)) is (slot_of_sheet n bank r digest) k within)
+  | inr later ↦ part_right (slot_row e.1.pre k) (sheet n bank r digest) (sheets (n + 1) fs digest) (rest (n + 1) later k within)
+]
+
+slots_of_sheets : (n : ℕ) (found : List Found) (digest : List ℕ) (e : ℕ × Record) → Contains (found_records found) e → HasSlotRows e.1.pre (sheets n found digest)
+slots_of_sheets n [] digest e (k, b, i) = absurd (omega (arith, b))
+slots_of_sheets n (f ∷ fs) digest e among = slots_of_found n f.bank f.view fs digest e (λ m later. slots_of_sheets m fs digest e later) among
+
+pub slots_on_page : (reports : List Report) (found : List Found) (count size : ℕ) (digest : List ℕ) → HasAllSlotRows found (page_bytes reports found count size digest)
+unfolding page_bytes
+slots_on_page reports found count size digest e among k within =
+    let row = slot_row e.1.pre k in
+    part_left row _ (fixed PAGE_END.now) (part_right row _ (sheets 1 found digest) (slots_of_sheets 1 found digest e among k within))

@@ -1,32 +1,35 @@
 -- The charts of a page have plain texts.
-use Rattle.std.proofs.Common.{refl, ℕ, ◌≡◌, ◌+◌, ◌-◌, ◌*◌, ◌/◌, ℤ, Bool, true, false, nat_lt, nat_le, nat_eq, Option, Some, None, List, [], ◌∷◌, pos, map, get_or, codes, decimal}
+use Rattle.std.proofs.Common.{refl, ℕ, ◌≡◌, ◌+◌, ◌-◌, ◌*◌, ◌/◌, ℤ, Bool, true, false, ◌&&◌, nat_lt, nat_le, nat_eq, Option, Some, None, List, [], ◌∷◌, pos, map, get_or, codes, decimal}
 use Rattle.std.specs.Ordering.{int_eq}
 use Rattle.edr_record.specs.declared.Extreme.{Extreme}
 use Rattle.edr_record.specs.Parts.{PrePart, CrashPart}
 use Rattle.edr_record.specs.declared.Profile.{Profile}
 use Rattle.edr_record.specs.declared.Profile.TheVariants.{Short, Long}
-use Rattle.edr_drawing.specs.declared.after.CarAxis.{CarAxis}
-use Rattle.edr_drawing.specs.declared.after.CarAxis.TheVariants.{Along, Across}
-use Rattle.edr_drawing.specs.declared.after.TheConstants.{ACROSS_NUMBER, ALONG_NUMBER, AXIS_LINE, CENTRED, DIAMOND, END_LINE, ENDING, FAR_RIGHT, GRID, LEGEND, LEVEL, MAX_ACROSS, MAX_ALONG, NOT_RECORDED, PAST_WINDOW, ROOM_NOT_RECORDED, TIME_LINES, TIMES_APART, ZERO_LINES}
+use Rattle.edr_drawing.specs.declared.axes.TheConstants.{NO_SAMPLE}
+use Rattle.edr_drawing.specs.declared.axes.CarAxis.{CarAxis}
+use Rattle.edr_drawing.specs.declared.axes.CarAxis.TheVariants.{Along, Across}
+use Rattle.edr_drawing.specs.declared.after.TheConstants.{ACROSS_WORDS, ALONG_WORDS, AXIS_LINE, CENTRED, DIAMOND, END_LINE, ENDING, FAR_RIGHT, GAPPED_END, GAPPED_START, GRID, LATERAL, LEGEND, LEGEND_GAPS, LEVEL, LONGITUDINAL, MAX_ACROSS, MAX_ALONG, MAXIMUM_NUMBER, NOT_RECORDED, PAST_WINDOW, ROOM_NOT_RECORDED, SILENT_CURVE, TIME_LINES, TIMES_APART, ZERO_LINES}
 use Rattle.edr_drawing.specs.declared.before.TheConstants.{BEFORE_END, BEFORE_HEAD, BELT_NAME, BRAKE_NAME, BRAKE_Y, FIELD_HEIGHT, FIVE, HALF_SECOND, LAMP_NAME, TENTH, THROTTLE_NAME, TIME_LINE, TIMES, TWENTY, ZERO_LINE}
 use Rattle.edr_drawing.specs.declared.changes.Scale.{Scale}
 use Rattle.edr_drawing.specs.declared.lanes.ChartLane.{ChartLane}
 use Rattle.edr_drawing.specs.declared.lanes.TheConstants.{GRID_LINE}
-use Rattle.edr_drawing.specs.declared.rows.TheConstants.{ACROSS_Y, AFTER_HEAD, ALONG_Y, CHART_END, END_OF_EVENT, END_Y, FIRED_ROW, FLAG_FAR_RIGHT, LEFT_OF_FLAG, MAX_LATERAL, MAX_LONGITUDINAL, MAX_RESULTANT, NOT_FIRED_ROW, RESTRAINTS, RESULTANT_Y, RIGHT_OF_FLAG, RULE, TIMED_ROW, WITHOUT_PART}
+use Rattle.edr_drawing.specs.declared.rows.TheConstants.{EMPTY_ROW, ACROSS_Y, AFTER_HEAD, ALONG_Y, CHART_END, END_OF_EVENT, END_Y, FIRED_ROW, FLAG_FAR_RIGHT, LEFT_OF_FLAG, MAX_LATERAL, MAX_LONGITUDINAL, MAX_RESULTANT, RESTRAINTS, RESULTANT_Y, RIGHT_OF_FLAG, RULE, TIMED_ROW, WITHOUT_PART}
 use Rattle.edr_drawing.specs.declared.scales.TheConstants.{RIGHT}
 use Rattle.edr_drawing.specs.declared.shapes.Shape.{Shape}
 use Rattle.edr_drawing.specs.declared.shapes.Shape.TheVariants as shape
-use Rattle.edr_drawing.specs.declared.shapes.TheConstants.{ALONG, BEGIN, DOT, FIELD, GAP, IN_GAP, IN_OFF, IN_ON, JOIN, NONE, NUMBER, OFF, ON, PATH, PATH_END, PATH_POINT, POINT, SQUARE, WORD}
-use Rattle.edr_drawing.specs.Template.{filled, milliseconds, of_profile}
+use Rattle.edr_drawing.specs.declared.shapes.TheConstants.{ACROSS, ALONG, BEGIN, DOT, FIELD, GAP, IN_GAP, IN_OFF, IN_ON, JOIN, MOMENT, NONE, NUMBER, OFF, ON, PATH, PATH_END, PATH_POINT, POINT, SQUARE, WORD}
+use Rattle.edr_report.specs.Words.{milliseconds}
+use Rattle.edr_drawing.specs.Axes.{extreme_of, is_silent, missing_of, of_axis}
+use Rattle.edr_drawing.specs.Template.{filled, of_profile}
 use Rattle.edr_drawing.specs.Shapes.{path_point, shape_bytes, shapes_bytes}
 use Rattle.edr_record.specs.declared.TheConstants.{POINT_STEP}
 use Rattle.edr_drawing.specs.Scales.{slot_x, time_at}
 use Rattle.edr_drawing.specs.Lanes.{cells, cells_of, drawn_lane, field_shapes, gap, grid, grid_line, lane_y, long_cells, points}
 use Rattle.edr_drawing.specs.Before.{are_same, before_chart, brake_slots, switch_runs, switches, time_line, time_lines}
 use Rattle.edr_drawing.specs.Changes.{change_y, time_x}
-use Rattle.edr_drawing.specs.After.{axis_class, axis_marks, axis_points, changes_chart, curve, diamond, end_line, level, levels, mark_at, maxima, maximum_number, past_window, time_line as later_line, time_lines as later_lines}
-use Rattle.edr_drawing.specs.Rows.{after_chart, after_head, event_rows, restraint_row, restraint_rows, rows_chart, rule, timed_row}
-use Rattle.edr_drawing.proofs.PlainLemmas.{EachPlain, Plain, all_fixed, all_low, plain_nil, plain_append, plain_if, plain_fixed, plain_flat_map, plain_counted, plain_text, plain_filled, plain_values, plain_decimal, plain_either, plain_of_profile, plain_of_switch, plain_extreme, plain_milliseconds, text_then}
+use Rattle.edr_drawing.specs.After.{axis_marks, axis_points, changes_chart, curve, diamond, drawn_curve, end_line, gapped, legend_gaps, level, levels, mark_at, maximum, maximum_number, past_window, silent_curve, time_line as later_line, time_lines as later_lines}
+use Rattle.edr_drawing.specs.Rows.{after_chart, after_head, empty_row, event_rows, extreme_row, restraint_row, restraint_rows, restraint_y, resultant_row, rows_chart, rule, timed_row}
+use Rattle.edr_drawing.proofs.PlainLemmas.{EachPlain, Plain, all_fixed, all_low, plain_nil, plain_append, plain_if, plain_fixed, plain_flat_map, plain_counted, plain_text, plain_filled, plain_values, plain_decimal, plain_either, plain_of_profile, plain_of_axis, plain_of_switch, plain_extreme, plain_milliseconds, text_then}
 
 -- ---- shapes
 
@@ -40,6 +43,10 @@ plain_shape (shape.Word x y v) =
     let class = plain_of_switch v IN_ON.now IN_OFF.now IN_GAP.now refl refl refl in
     let word = plain_of_switch v ON.now OFF.now NONE.now refl refl refl in
     plain_filled WORD.now _ refl (search plain_values depth 20)
+plain_shape (shape.Moment x y v) =
+    let class = plain_of_switch v ON.now OFF.now GAP.now refl refl refl in
+    let word = plain_of_switch v ON.now OFF.now NONE.now refl refl refl in
+    plain_filled MOMENT.now _ refl (search plain_values depth 20)
 
 plain_shapes : (shapes : List Shape) → Plain (shapes_bytes shapes)
 plain_shapes shapes = plain_flat_map shape_bytes plain_shape shapes
@@ -155,35 +162,51 @@ plain_axis_marks : (s : Scale) (a : CarAxis) (i : ℕ) (vs : List ℤ) → Plain
 plain_axis_marks s a i [] = plain_nil
 plain_axis_marks s a i (v ∷ vs) = plain_append _ _ (plain_shapes (mark_at a (time_x s (POINT_STEP * i)) (change_y s v) ∷ [])) (plain_axis_marks s a (i + 1) vs)
 
-plain_axis_class : (a : CarAxis) → Plain (axis_class a)
-plain_axis_class Along = plain_fixed (axis_class Along) refl
-plain_axis_class Across = plain_fixed (axis_class Across) refl
+plain_gapped : (c : CrashPart) (a : CarAxis) (text : List ℕ) → all_low text ≡ true → Plain (gapped c a text)
+plain_gapped c a text low = plain_if (nat_eq (missing_of c a) 0) _ _ plain_nil (plain_text text low)
 
-plain_curve : (s : Scale) (a : CarAxis) (vs : List ℤ) → Plain (curve s a vs)
+plain_drawn : (s : Scale) (c : CrashPart) (a : CarAxis) → Plain (drawn_curve s c a)
+unfolding drawn_curve
+plain_drawn s c a =
+    let start = plain_gapped c a GAPPED_START.now refl in
+    let path = plain_path (of_axis a ALONG.now ACROSS.now) (plain_of_axis a ALONG.now ACROSS.now refl refl) in
+    let path_end = plain_text PATH_END.now refl in
+    let end = plain_gapped c a GAPPED_END.now refl in
+    search (plain_append, plain_axis_points, plain_axis_marks) depth 20
+
+plain_silent : (s : Scale) (a : CarAxis) → Plain (silent_curve s a)
+plain_silent s a =
+    let class = plain_of_axis a ALONG_WORDS.now ACROSS_WORDS.now refl refl in
+    let name = plain_of_axis a LONGITUDINAL.now LATERAL.now refl refl in
+    let none = plain_fixed NO_SAMPLE.now refl in
+    plain_filled SILENT_CURVE.now _ refl (search plain_values depth 20)
+
+plain_curve : (s : Scale) (c : CrashPart) (a : CarAxis) → Plain (curve s c a)
 unfolding curve
-plain_curve s a vs =
-    let path = plain_path (axis_class a) (plain_axis_class a) in
-    let end = plain_text PATH_END.now refl in
-    search (plain_append, plain_axis_points, plain_axis_marks)
+plain_curve s c a = plain_if (is_silent c a) _ _ (plain_silent s a) (plain_drawn s c a)
 
-plain_maximum : (template : List ℕ) (s : Scale) (e : Extreme) (down up : ℕ) → all_low template ≡ true → Plain (maximum_number template s e down up)
+plain_gaps : (c : CrashPart) (a : CarAxis) → Plain (legend_gaps c a)
+unfolding legend_gaps
+plain_gaps c a = plain_if (nat_eq (missing_of c a) 0) _ _ plain_nil (plain_filled LEGEND_GAPS.now _ refl (search plain_values depth 20))
+
+plain_number : (s : Scale) (a : CarAxis) (e : Extreme) → Plain (maximum_number s a e)
 unfolding maximum_number
-plain_maximum template s e down up low = plain_if (int_eq e.kmh (pos 0)) _ _ plain_nil (plain_filled template _ low (search plain_values))
+plain_number s a e =
+    let class = plain_of_axis a ALONG_WORDS.now ACROSS_WORDS.now refl refl in
+    plain_if (int_eq e.kmh (pos 0)) _ _ plain_nil (plain_filled MAXIMUM_NUMBER.now _ refl (search plain_values depth 20))
 
-plain_diamond : (s : Scale) (e : Extreme) (class : List ℕ) → all_low class ≡ true → Plain (diamond s e class)
-plain_diamond s e class low = let text = plain_fixed class low in plain_filled DIAMOND.now _ refl (search plain_values)
+plain_diamond : (s : Scale) (a : CarAxis) (e : Extreme) → Plain (diamond s a e)
+plain_diamond s a e = let class = plain_of_axis a MAX_ALONG.now MAX_ACROSS.now refl refl in plain_filled DIAMOND.now _ refl (search plain_values)
 
-plain_maxima : (s : Scale) (along across : Extreme) → Plain (maxima s along across)
-unfolding maxima
-plain_maxima s along across =
-    plain_append _ _ (plain_append _ _ (plain_append _ _ (plain_diamond s across MAX_ACROSS.now refl) (plain_diamond s along MAX_ALONG.now refl))
-    (plain_maximum ACROSS_NUMBER.now s across _ _ refl)) (plain_maximum ALONG_NUMBER.now s along _ _ refl)
+plain_maximum : (s : Scale) (c : CrashPart) (a : CarAxis) → Plain (maximum s c a)
+unfolding maximum
+plain_maximum s c a = plain_if (is_silent c a) _ _ plain_nil (plain_append _ _ (plain_diamond s a (extreme_of c a)) (plain_number s a (extreme_of c a)))
 
 plain_changes_chart : (s : Scale) (c : CrashPart) → Plain (changes_chart s c)
 unfolding changes_chart
 plain_changes_chart s c =
     let legend = plain_text LEGEND.now refl in
-    search (plain_append, plain_past_window, plain_later_lines, plain_levels, plain_end_line, plain_curve, plain_maxima) depth 20
+    search (plain_append, plain_past_window, plain_later_lines, plain_gaps, plain_levels, plain_end_line, plain_curve, plain_maximum) depth 20
 
 -- ---- the rows below it
 
@@ -195,24 +218,40 @@ plain_timed template s y label t words low h k =
     let side = plain_either (nat_lt (time_x s t) FLAG_FAR_RIGHT) RIGHT_OF_FLAG.now LEFT_OF_FLAG.now refl refl in
     plain_filled template _ low (search plain_values depth 20)
 
+plain_empty : (y : ℕ) (label word : List ℕ) → Plain label → Plain word → Plain (empty_row y label word)
+plain_empty y label word h k = plain_filled EMPTY_ROW.now _ refl (search plain_values)
+
 plain_restraint : (s : Scale) (row : ℕ) (label : List ℕ) (t : Option ℕ) → Plain label → Plain (restraint_row s row label t)
 unfolding restraint_row
 plain_restraint s row label (Some t) h = plain_timed FIRED_ROW.now s _ label t (milliseconds t) refl h (plain_milliseconds t)
-plain_restraint s row label None h = plain_filled NOT_FIRED_ROW.now _ refl (search plain_values)
+plain_restraint s row label None h = plain_empty (restraint_y row) label NONE.now h (plain_fixed NONE.now refl)
 
 plain_restraint_rows : {L : Type 0} (name : L → List ℕ) (s : Scale) (row : ℕ) (ls : List L) (fired : List (Option ℕ)) → EachPlain (map name ls) → Plain (restraint_rows name s row ls fired)
 plain_restraint_rows name s row [] fired h = plain_nil
 plain_restraint_rows name s row (l ∷ ls) fired h =
     plain_append _ _ (plain_restraint s row (name l) (get_or fired row None) h.0) (plain_restraint_rows name s (row + 1) ls fired h.1)
 
+plain_extreme_row : (s : Scale) (y : ℕ) (label : List ℕ) (c : CrashPart) (a : CarAxis) → all_low label ≡ true → Plain (extreme_row s y label c a)
+unfolding extreme_row
+plain_extreme_row s y label c a low =
+    let name = plain_fixed label low in
+    plain_if (is_silent c a) _ _ (plain_empty y label NO_SAMPLE.now name (plain_fixed NO_SAMPLE.now refl))
+    (plain_timed TIMED_ROW.now s y label (extreme_of c a).at _ refl name (plain_extreme (extreme_of c a)))
+
+plain_resultant : (s : Scale) (c : CrashPart) → Plain (resultant_row s c)
+unfolding resultant_row
+plain_resultant s c =
+    let name = plain_fixed MAX_RESULTANT.now refl in
+    plain_if (is_silent c Along && is_silent c Across) _ _ (plain_empty RESULTANT_Y MAX_RESULTANT.now NO_SAMPLE.now name (plain_fixed NO_SAMPLE.now refl))
+    (plain_timed TIMED_ROW.now s RESULTANT_Y MAX_RESULTANT.now c.result_at _ refl name (plain_milliseconds c.result_at))
+
 plain_event_rows : (s : Scale) (c : CrashPart) → Plain (event_rows s c)
 unfolding event_rows
 plain_event_rows s c =
-    let row : (y : ℕ) (label : List ℕ) (t : ℕ) (words : List ℕ) → all_low label ≡ true → Plain words → Plain (timed_row TIMED_ROW.now s y label t words) =
-    λ y label t words low h. plain_timed TIMED_ROW.now s y label t words refl (plain_fixed label low) h in
-    plain_append _ _ (plain_append _ _ (plain_append _ _
-    (row END_Y END_OF_EVENT.now c.end _ refl (plain_milliseconds c.end)) (row ALONG_Y MAX_LONGITUDINAL.now c.max_along.at _ refl (plain_extreme c.max_along.at c.max_along.kmh)))
-    (row ACROSS_Y MAX_LATERAL.now c.max_across.at _ refl (plain_extreme c.max_across.at c.max_across.kmh))) (row RESULTANT_Y MAX_RESULTANT.now c.result_at _ refl (plain_milliseconds c.result_at))
+    let end = plain_timed TIMED_ROW.now s END_Y END_OF_EVENT.now c.end (milliseconds c.end) refl (plain_fixed END_OF_EVENT.now refl) (plain_milliseconds c.end) in
+    let along = plain_extreme_row s ALONG_Y MAX_LONGITUDINAL.now c Along refl in
+    let across = plain_extreme_row s ACROSS_Y MAX_LATERAL.now c Across refl in
+    search (plain_append, plain_resultant) depth 20
 
 plain_rows_chart : (s : Scale) (c : CrashPart) → Plain (rows_chart s c)
 unfolding rows_chart

@@ -1,16 +1,22 @@
 -- Texts whose bytes are all below 128, and the templates of a page, which are such texts.
-use Rattle.std.proofs.Common.{arith, ◌≡◌, refl, ℕ, zero, suc, ◌+◌, ◌-◌, ◌/◌, ◌%◌, ◌<◌, ltb-true, ℤ, pos, negsuc, Bool, true, false, if◌then◌else◌, nat_lt, nat_eq, Option, Some, None, List, [], ◌∷◌, ◌++◌, flat_map, get_or, codes, decimal, All}
+use Rattle.std.proofs.Common.{arith, ◌≡◌, refl, ℕ, zero, suc, ◌+◌, ◌-◌, ◌/◌, ◌%◌, ◌<◌, ltb-true, ℤ, pos, negsuc, Bool, true, false, if◌then◌else◌, nat_lt, nat_eq, Option, Some, None, List, [], ◌∷◌, ◌++◌, flat_map, get_or, take, codes, decimal, All}
 use Rattle.std.specs.List.{list_all}
 use Rattle.std.specs.Fmt.{signed_decimal, digits, digits_onto, digit_glyph}
-use Rattle.std.proofs.lemmas.List.Elements.{All-nil, All-cons, All-append, All-head, All-tail}
+use Rattle.std.proofs.lemmas.List.Elements.{All-nil, All-cons, All-append, All-head, All-tail, All-take}
 use Rattle.std.proofs.lemmas.Bool.{and_parts}
 use Rattle.edr_record.specs.declared.Place.{Place}
 use Rattle.edr_record.specs.declared.Place.TheVariants.{First, Second}
 use Rattle.edr_record.specs.declared.Profile.{Profile}
 use Rattle.edr_record.specs.declared.Profile.TheVariants.{Short, Long}
-use Rattle.edr_report.specs.Words.{tenths_of}
-use Rattle.edr_drawing.specs.declared.template.TheConstants.{SECOND_AFTER}
-use Rattle.edr_drawing.specs.Template.{byte_bytes, digest_hex, either, extreme_words, filled, filled_from, fixed, hex_byte, hex_digit, milliseconds, of_profile, of_switch, place_words, seconds}
+use Rattle.edr_report.specs.Words.{extreme_words, milliseconds, tenths_of}
+use Rattle.edr_drawing.specs.declared.template.TheConstants.{AFTER_FIRST, BEGINNING, SECOND}
+use Rattle.edr_record.specs.declared.Extreme.{Extreme}
+use Rattle.edr_record.specs.Parts.{CrashPart}
+use Rattle.edr_drawing.specs.declared.axes.CarAxis.{CarAxis}
+use Rattle.edr_drawing.specs.declared.axes.CarAxis.TheVariants.{Along, Across}
+use Rattle.edr_drawing.specs.declared.axes.TheConstants.{NO_SAMPLE}
+use Rattle.edr_drawing.specs.Axes.{extreme_of, greatest_words, is_silent, of_axis}
+use Rattle.edr_drawing.specs.Template.{before_zero, byte_bytes, digest_hex, either, filled, filled_from, fixed, hex_byte, hex_digit, of_profile, of_switch, place_words, seconds}
 use Rattle.edr_drawing.specs.Scales.{flat_map_below}
 
 -- each byte is below 128
@@ -161,16 +167,32 @@ plain_seconds tenths =
 pub plain_place : (p : Place) → Plain (place_words p)
 plain_place First = plain_fixed (place_words First) refl
 plain_place (Second after) =
-    then_text (SECOND_AFTER.now ++ seconds (tenths_of after)) (codes " s")
-    (text_then SECOND_AFTER.now (seconds (tenths_of after)) refl (plain_seconds (tenths_of after))) refl
+    then_text (SECOND.now ++ seconds (tenths_of after)) AFTER_FIRST.now
+    (text_then SECOND.now (seconds (tenths_of after)) refl (plain_seconds (tenths_of after))) refl
 
 pub plain_milliseconds : (t : ℕ) → Plain (milliseconds t)
 plain_milliseconds t = then_text (decimal t) (codes " ms") (plain_decimal t) refl
 
-pub plain_extreme : (at : ℕ) (kmh : ℤ) → Plain (extreme_words at kmh)
-plain_extreme at kmh =
-    then_text (decimal at ++ codes " ms, " ++ signed_decimal kmh) (codes " km/h")
-    (plain_append (decimal at ++ codes " ms, ") (signed_decimal kmh) (then_text (decimal at) (codes " ms, ") (plain_decimal at) refl) (plain_signed kmh)) refl
+pub plain_extreme : (x : Extreme) → Plain (extreme_words x)
+plain_extreme x =
+    let change = then_text (signed_decimal x.kmh) (codes " km/h at ") (plain_signed x.kmh) refl in
+    plain_append (signed_decimal x.kmh ++ codes " km/h at ") (milliseconds x.at) change (plain_milliseconds x.at)
+
+pub plain_before : (tenths : ℕ) → Plain (before_zero tenths)
+plain_before tenths = plain_append _ _ (plain_if (nat_eq tenths 0) [] (codes "-") plain_nil (plain_fixed (codes "-") refl)) (plain_seconds tenths)
+
+pub plain_of_axis : (a : CarAxis) (x y : List ℕ) → all_low x ≡ true → all_low y ≡ true → Plain (of_axis a x y)
+plain_of_axis Along x y low_x low_y = plain_fixed x low_x
+plain_of_axis Across x y low_x low_y = plain_fixed y low_y
+
+pub plain_greatest : (c : CrashPart) (a : CarAxis) → Plain (greatest_words c a)
+plain_greatest c a = plain_if (is_silent c a) NO_SAMPLE.now (extreme_words (extreme_of c a)) (plain_fixed NO_SAMPLE.now refl) (plain_extreme (extreme_of c a))
+
+bytes_low : (n : ℕ) (bs : List ℕ) → All (λ b. b < 256) bs → All (λ b. b < 256) (take n bs)
+bytes_low n bs h = All-take (λ b. b < 256) n bs h
+
+pub plain_beginning : (digest : List ℕ) → All (λ b. b < 256) digest → Plain (digest_hex (take BEGINNING digest))
+plain_beginning digest small = plain_digest (take BEGINNING digest) (bytes_low BEGINNING digest small)
 
 -- what the values of templates are made of
-pub ruleset plain_values = (all_nil, all_cons, plain_decimal, plain_signed, plain_seconds, plain_place, plain_milliseconds, plain_extreme)
+pub ruleset plain_values = (all_nil, all_cons, plain_decimal, plain_signed, plain_seconds, plain_place, plain_milliseconds, plain_extreme, plain_before, plain_greatest)

@@ -30,9 +30,9 @@ use Rattle.edr_report.specs.declared.event_lines.CrashLine.TheVariants as crash
 use Rattle.edr_report.specs.declared.event_lines.TheConstants.{LINES_OF_EVENT}
 use Rattle.edr_report.specs.EventWords.{place_of, pre_words, crash_words, event_words}
 use Rattle.edr_report.specs.Report.{ack_line, cycle_lines, event_line, event_lines, run_lines}
-use Rattle.edr_drawing.specs.declared.tables.TheConstants.{LINE_END, LINE_NAME, LINE_VALUE, NEXT_TABLE}
-use Rattle.edr_drawing.specs.Tables.{row, line_row, begins_table}
-use Rattle.edr_drawing.proofs.PlainLemmas.{EachPlain, Plain, all_fixed, all_low, plain_nil, plain_cons, plain_append, plain_if, plain_fixed, plain_text, plain_decimal, plain_signed, text_then, then_text}
+use Rattle.edr_drawing.specs.declared.tables.TheConstants.{IN_TABLE, LINE_END, LINE_NAME, LINE_VALUE, LISTS, NEXT_TABLE}
+use Rattle.edr_drawing.specs.Tables.{row, row_of, line_row, begins_table, is_one_of, shown_value}
+use Rattle.edr_drawing.proofs.PlainLemmas.{EachPlain, Plain, all_fixed, all_low, plain_nil, plain_cons, plain_append, plain_if, plain_fixed, plain_text, plain_decimal, plain_extreme, plain_milliseconds, plain_signed, text_then, then_text}
 
 -- ---- values
 
@@ -83,12 +83,9 @@ plain_switch : (v : Option Bool) → Plain (switch_or_none v)
 plain_switch None = plain_fixed none_word refl
 plain_switch (Some b) = plain_on_off b
 
-plain_ms : (t : ℕ) → Plain (milliseconds t)
-plain_ms t = then_text (decimal t) (codes " ms") (plain_decimal t) refl
-
 plain_firing : (t : Option ℕ) → Plain (firing_words t)
 plain_firing None = plain_fixed none_word refl
-plain_firing (Some t) = plain_ms t
+plain_firing (Some t) = plain_milliseconds t
 
 plain_events : (p : Place) → Plain (events_in_crash p)
 plain_events First = plain_fixed (codes "1") refl
@@ -111,11 +108,6 @@ spaced_more w (y ∷ ys) h k = plain_append w (32 ∷ spaced_words (y ∷ ys)) h
 plain_spaced : {X : Type 0} (f : X → List ℕ) → ((x : X) → Plain (f x)) → (xs : List X) → Plain (spaced_words (map f xs))
 plain_spaced f h [] = plain_nil
 plain_spaced f h (x ∷ xs) = spaced_more (f x) (map f xs) (h x) (plain_spaced f h xs)
-
-plain_extreme : (x : Extreme) → Plain (extreme_words x)
-plain_extreme x =
-    let change = then_text (signed_decimal x.kmh) (codes " km/h at ") (plain_signed x.kmh) refl in
-    plain_append (signed_decimal x.kmh ++ codes " km/h at ") (milliseconds x.at) change (plain_ms x.at)
 
 plain_missing : (along across : ℕ) → Plain (missing_words along across)
 plain_missing along across =
@@ -155,7 +147,7 @@ lines_run i reports = lines_flat_map (λ r. cycle_lines r.0 r.1) (λ r. lines_cy
 -- what a line of an event shows
 shows_pre : (p : PrePart) (locked : Bool) (l : PreLine) → Plain (pre_words p locked l)
 shows_pre p locked pre.Cycle = plain_decimal (number_shown p.key.cycle)
-shows_pre p locked pre.TimeZero = plain_ms p.key.zero
+shows_pre p locked pre.TimeZero = plain_milliseconds p.key.zero
 shows_pre p locked pre.Events = plain_events p.place
 shows_pre p locked pre.Between = plain_between p.place
 shows_pre p locked pre.Deployment = plain_yes_no locked
@@ -167,12 +159,12 @@ shows_pre p locked pre.Belt = plain_switch p.belt
 shows_pre p locked pre.Lamp = plain_switch p.lamp
 
 shows_crash : (c : CrashPart) (l : CrashLine) → Plain (crash_words c l)
-shows_crash c crash.End = plain_ms c.end
+shows_crash c crash.End = plain_milliseconds c.end
 shows_crash c crash.Along = plain_spaced signed_decimal plain_signed (take (point_count c.end) c.along)
 shows_crash c crash.Across = plain_spaced signed_decimal plain_signed (take (point_count c.end) c.across)
 shows_crash c crash.MaxAlong = plain_extreme c.max_along
 shows_crash c crash.MaxAcross = plain_extreme c.max_across
-shows_crash c crash.ResultAt = plain_ms c.result_at
+shows_crash c crash.ResultAt = plain_milliseconds c.result_at
 shows_crash c crash.Missing = plain_missing c.missing_along c.missing_across
 shows_crash c (crash.Fired r) = plain_firing (get_or c.fired (place_of r) None)
 
@@ -206,14 +198,15 @@ name_and_value name value h k =
 
 plain_row : (l : Line) → Plain l.name → Plain l.value → Plain (line_row l)
 plain_row l h k =
-    plain_append _ (row l.name l.value) (plain_if (begins_table l.name) _ _ (plain_text NEXT_TABLE.now refl) plain_nil) (name_and_value l.name l.value h k)
+    let shown = plain_if (is_one_of (λ w. w.now) l.name LISTS) IN_TABLE.now l.value (plain_fixed IN_TABLE.now refl) k in
+    plain_append _ (row l.name (shown_value l)) (plain_if (begins_table l.name) _ _ (plain_text NEXT_TABLE.now refl) plain_nil) (name_and_value l.name (shown_value l) h shown)
 
-plain_rows : (ls : List Line) → PlainLines ls → Plain (flat_map line_row ls)
-plain_rows [] h = plain_nil
-plain_rows (l ∷ ls) h = plain_append (line_row l) (flat_map line_row ls) (plain_row l h.0 h.1) (plain_rows ls h.2)
+plain_rows : (form : Line → List ℕ) → ((l : Line) → Plain l.name → Plain l.value → Plain (form l)) → (ls : List Line) → PlainLines ls → Plain (flat_map form ls)
+plain_rows form each [] h = plain_nil
+plain_rows form each (l ∷ ls) h = plain_append (form l) (flat_map form ls) (each l h.0 h.1) (plain_rows form each ls h.2)
 
 pub plain_event_lines : (n bank : ℕ) (r : Record) → Plain (flat_map line_row (event_lines n bank r))
-plain_event_lines n bank r = plain_rows (event_lines n bank r) (lines_event n bank r)
+plain_event_lines n bank r = plain_rows line_row plain_row (event_lines n bank r) (lines_event n bank r)
 
-pub plain_run_lines : (reports : List Report) → Plain (flat_map line_row (run_lines 1 reports))
-plain_run_lines reports = plain_rows (run_lines 1 reports) (lines_run 1 reports)
+pub plain_run_lines : (reports : List Report) → Plain (flat_map row_of (run_lines 1 reports))
+plain_run_lines reports = plain_rows row_of (λ l h k. name_and_value l.name l.value h k) (run_lines 1 reports) (lines_run 1 reports)

@@ -1,5 +1,5 @@
 -- The sheets of a page have plain texts.
-use Rattle.std.proofs.Common.{arith, ◌≡◌, refl, ℕ, ◌+◌, ◌-◌, ◌/◌, ◌%◌, ◌<◌, ℤ, Bool, true, false, if◌then◌else◌, nat_lt, nat_eq, Option, Some, None, List, [], ◌∷◌, take, decimal, All}
+use Rattle.std.proofs.Common.{arith, ◌≡◌, refl, ℕ, ◌+◌, ◌-◌, ◌*◌, ◌/◌, ◌%◌, ◌<◌, ℤ, Bool, true, false, if◌then◌else◌, nat_lt, nat_eq, Option, Some, None, List, [], ◌∷◌, take, decimal, All}
 use Rattle.std.proofs.lemmas.List.Elements.{All-head, All-tail}
 use Rattle.edr_record.specs.declared.Key.{Key}
 use Rattle.edr_record.specs.declared.Place.{Place}
@@ -13,19 +13,28 @@ use Rattle.edr_image.specs.declared.BankView.{BankView}
 use Rattle.edr_image.specs.declared.BankView.TheVariants.{Void, Event, Damaged}
 use Rattle.edr_image.specs.declared.Found.{Found}
 use Rattle.edr_image.specs.Reports.{Report}
+use Rattle.edr_drawing.specs.declared.TheConstants.{VERSION}
+use Rattle.edr_drawing.specs.declared.axes.CarAxis.{CarAxis}
+use Rattle.edr_drawing.specs.declared.axes.CarAxis.TheVariants.{Along, Across}
+use Rattle.edr_drawing.specs.declared.axes.TheConstants.{NO_SAMPLE}
+use Rattle.edr_drawing.specs.declared.before.TheConstants.{FIVE, TWENTY}
+use Rattle.edr_drawing.specs.declared.by_time.TheConstants.{BLOCK_START, BY_TIME_END, BY_TIME_START, SLOT_ROW}
+use Rattle.edr_drawing.specs.declared.shapes.TheConstants.{NONE, OFF, ON}
 use Rattle.edr_drawing.specs.declared.cover.TheConstants.{DAMAGED_BANK, DAMAGED_START, EVENT_END, EVENT_ROW, EVENTS_START, FIRST_FOOT, FIRST_SHEET, GREATEST, NO_GREATEST, NOT_SET, SET}
-use Rattle.edr_drawing.specs.declared.long.TheConstants.{BODY, FORM, HEAD, NOTES, PAGE_END, STYLE}
+use Rattle.edr_drawing.specs.declared.long.TheConstants.{BODY, FORM, HEAD, NOTES, ON_EACH_SIDE, PAGE_END, STYLE}
 use Rattle.edr_drawing.specs.declared.reasons.TheConstants.{ACROSS_ABSENT, ALONG_ABSENT, BELT, BRAKE_ABSENT, LIST_END, PART_ABSENT, REASONS_START, SPEED_ABSENT, SWITCH_ABSENT, THROTTLE_ABSENT, WARNING_LAMP}
 use Rattle.edr_drawing.specs.declared.sheets.TheConstants.{FACTS, LONG, NO, SHEET_FOOT, SHEET_HEAD, SHORT, YES}
-use Rattle.edr_drawing.specs.declared.tables.TheConstants.{ACROSS_ROW, ALONG_ROW, CELL, ELEMENTS_END, ELEMENTS_START, POINT_TIME, POINTS_BODY, POINTS_START, ROW_END, RUN_START, TABLE_END}
+use Rattle.edr_drawing.specs.declared.tables.TheConstants.{ACROSS_ROW, ALONG_ROW, CELL, ELEMENTS_END, ELEMENTS_START, POINT_TIME, POINTS_BODY, POINTS_START, ROW_END, RUN_START, SILENT_CELL, TABLE_END}
 use Rattle.edr_report.specs.Words.{number_shown}
 use Rattle.edr_drawing.specs.Template.{digest_hex, either, filled}
 use Rattle.edr_drawing.specs.Reasons.{share_reason, switch_reason, pre_reasons, crash_reasons, reasons}
-use Rattle.edr_drawing.specs.Tables.{time_cell, time_cells, change_cell, change_row, points_table, elements_table, run_table}
+use Rattle.edr_drawing.specs.Tables.{axis_cells, time_cell, time_cells, change_cell, change_row, points_table, elements_table, run_table}
+use Rattle.edr_drawing.specs.Axes.{is_silent, points_of}
+use Rattle.edr_drawing.specs.ByTime.{block, block_slots, blocks_in, by_time, mph, mph_word, number_word, slot_at, slot_row}
 use Rattle.edr_drawing.specs.Sheets.{facts, sheet, sheet_if, sheets, count_if}
 use Rattle.edr_drawing.specs.Cover.{extreme_cells, event_row, event_row_if, event_rows, events_in, events_table, damaged_item, damaged_items, damaged_in, damaged_list, cover}
-use Rattle.edr_drawing.specs.Page.{page_bytes}
-use Rattle.edr_drawing.proofs.PlainLemmas.{Plain, all_low, plain_nil, plain_cons, plain_append, plain_if, plain_fixed, plain_flat_map, plain_counted, plain_text, plain_filled, plain_digest, plain_either, plain_of_profile, plain_values}
+use Rattle.edr_drawing.specs.Page.{page_bytes, page_head}
+use Rattle.edr_drawing.proofs.PlainLemmas.{Plain, all_low, plain_nil, plain_cons, plain_append, plain_if, plain_fixed, plain_flat_map, plain_counted, plain_text, plain_filled, plain_beginning, plain_decimal, plain_digest, plain_either, plain_of_profile, plain_of_switch, plain_values}
 use Rattle.edr_drawing.proofs.PlainChartLemmas.{plain_before_chart, plain_after_chart}
 use Rattle.edr_drawing.proofs.PlainLineLemmas.{plain_event_lines, plain_run_lines}
 
@@ -62,10 +71,15 @@ plain_reasons r =
 plain_times : (count : ℕ) → Plain (time_cells count)
 plain_times count = plain_counted time_cell (λ i. plain_filled POINT_TIME.now _ refl (search plain_values)) count
 
-plain_change_row : (start : List ℕ) (vs : List ℤ) → all_low start ≡ true → Plain (change_row start vs)
-plain_change_row start vs low =
-    let cells = plain_flat_map change_cell (λ v. plain_filled CELL.now _ refl (search plain_values)) vs in
-    plain_append _ _ (plain_append _ _ (plain_text start low) cells) (plain_text ROW_END.now refl)
+plain_axis_cells : (c : CrashPart) (a : CarAxis) → Plain (axis_cells c a)
+plain_axis_cells c a =
+    let none = plain_fixed NO_SAMPLE.now refl in
+    plain_if (is_silent c a) _ _ (plain_filled SILENT_CELL.now _ refl (search plain_values))
+    (plain_flat_map change_cell (λ v. plain_filled CELL.now _ refl (search plain_values)) (points_of c a))
+
+plain_change_row : (start : List ℕ) (c : CrashPart) (a : CarAxis) → all_low start ≡ true → Plain (change_row start c a)
+plain_change_row start c a low =
+    plain_append _ _ (plain_append _ _ (plain_text start low) (plain_axis_cells c a)) (plain_text ROW_END.now refl)
 
 plain_points_table : (crash : Option CrashPart) → Plain (points_table crash)
 unfolding points_table
@@ -73,7 +87,7 @@ plain_points_table None = plain_nil
 plain_points_table (Some c) =
     plain_append _ _ (plain_append _ _ (plain_append _ _ (plain_append _ _ (plain_append _ _
     (plain_text POINTS_START.now refl) (plain_times (point_count c.end))) (plain_text POINTS_BODY.now refl))
-    (plain_change_row ALONG_ROW.now (take (point_count c.end) c.along) refl)) (plain_change_row ACROSS_ROW.now (take (point_count c.end) c.across) refl)) (plain_text TABLE_END.now refl)
+    (plain_change_row ALONG_ROW.now c Along refl)) (plain_change_row ACROSS_ROW.now c Across refl)) (plain_text TABLE_END.now refl)
 
 plain_elements : (n bank : ℕ) (r : Record) → Plain (elements_table n bank r)
 unfolding elements_table
@@ -85,6 +99,38 @@ unfolding run_table
 plain_run [] = plain_nil
 plain_run (r ∷ rs) =
     plain_append _ _ (plain_append _ _ (plain_text RUN_START.now refl) (plain_run_lines (r ∷ rs))) (plain_text TABLE_END.now refl)
+
+-- the table by time
+plain_number_word : (v : Option ℕ) → Plain (number_word v)
+plain_number_word None = plain_fixed NONE.now refl
+plain_number_word (Some n) = plain_decimal n
+
+plain_mph_word : (v : Option ℕ) → Plain (mph_word v)
+plain_mph_word None = plain_fixed NONE.now refl
+plain_mph_word (Some kmh) = plain_decimal (mph kmh)
+
+plain_slot : (p : PrePart) (k : ℕ) → Plain (slot_row p k)
+unfolding slot_row
+plain_slot p k =
+    let brake = plain_of_switch (slot_at p.brake k) ON.now OFF.now NONE.now refl refl refl in
+    let kmh = plain_number_word (slot_at p.speed k) in
+    let miles = plain_mph_word (slot_at p.speed k) in
+    let throttle = plain_number_word (slot_at p.throttle k) in
+    plain_filled SLOT_ROW.now _ refl (search plain_values depth 20)
+
+plain_block : (p : PrePart) (b : ℕ) → Plain (block p b)
+unfolding block
+plain_block p b =
+    let rows = plain_counted (λ i. slot_row p (block_slots p.profile * b + i)) (λ i. plain_slot p (block_slots p.profile * b + i)) (block_slots p.profile) in
+    plain_append _ _ (plain_append _ _ (plain_text BLOCK_START.now refl) rows) (plain_text TABLE_END.now refl)
+
+plain_by_time : (n : ℕ) (p : PrePart) → Plain (by_time n p)
+unfolding by_time
+plain_by_time n p =
+    let profile = plain_of_profile p.profile SHORT.now LONG.now refl refl in
+    let span = plain_of_profile p.profile FIVE.now TWENTY.now refl refl in
+    plain_append _ _ (plain_append _ _ (plain_filled BY_TIME_START.now _ refl (search plain_values depth 20)) (plain_counted (block p) (plain_block p) (blocks_in p.profile)))
+    (plain_text BY_TIME_END.now refl)
 
 -- the sheet of an event
 plain_facts : (bank : ℕ) (key : Key) (locked : Bool) (f : Profile) (place : Place) → Plain (facts bank key locked f place)
@@ -102,7 +148,7 @@ plain_sheet n bank r digest small =
     plain_filled SHEET_HEAD.now _ refl (search plain_values) in
     let sum = plain_digest digest small in
     let foot : Plain (filled SHEET_FOOT.now (decimal n ∷ digest_hex digest ∷ [])) = plain_filled SHEET_FOOT.now _ refl (search plain_values) in
-    search (plain_append, plain_facts, plain_reasons, plain_before_chart, plain_after_chart, plain_points_table, plain_elements) depth 20
+    search (plain_append, plain_facts, plain_reasons, plain_before_chart, plain_after_chart, plain_points_table, plain_elements, plain_by_time) depth 20
 
 plain_sheet_if : (n bank : ℕ) (view : BankView) (digest : List ℕ) → All (λ b. b < 256) digest → Plain (sheet_if n bank view digest)
 plain_sheet_if n bank Void digest small = plain_nil
@@ -168,16 +214,23 @@ plain_cover reports found count size digest small =
     let head : Plain (filled FIRST_SHEET.now (decimal (events_in found) ∷ decimal (damaged_in found) ∷ decimal (number_shown count) ∷ [])) =
     plain_filled FIRST_SHEET.now _ refl (search plain_values) in
     let sum = plain_digest digest small in
-    let foot : Plain (filled FIRST_FOOT.now (decimal size ∷ digest_hex digest ∷ [])) = plain_filled FIRST_FOOT.now _ refl (search plain_values) in
+    let version = plain_fixed VERSION.now refl in
+    let foot : Plain (filled FIRST_FOOT.now (decimal size ∷ digest_hex digest ∷ VERSION.now ∷ [])) = plain_filled FIRST_FOOT.now _ refl (search plain_values) in
     let notes = plain_text NOTES.now refl in
     let form = plain_text FORM.now refl in
     search (plain_append, plain_events_table, plain_damaged_list, plain_run) depth 20
 
 -- the whole page
+plain_head : (digest : List ℕ) → All (λ b. b < 256) digest → Plain (page_head digest)
+unfolding page_head
+plain_head digest small =
+    let sum = plain_beginning digest small in
+    plain_append _ _ (plain_append _ _ (plain_append _ _ (plain_filled HEAD.now _ refl (search plain_values)) (plain_text STYLE.now refl))
+    (plain_filled ON_EACH_SIDE.now _ refl (search plain_values))) (plain_text BODY.now refl)
+
 pub plain_page : (reports : List Report) (found : List Found) (count size : ℕ) (digest : List ℕ) → All (λ b. b < 256) digest →
     Plain (page_bytes reports found count size digest)
 unfolding page_bytes
 plain_page reports found count size digest small =
-    let front = plain_append _ _ (plain_append _ _ (plain_text HEAD.now refl) (plain_text STYLE.now refl)) (plain_text BODY.now refl) in
-    plain_append _ _ (plain_append _ _ (plain_append _ _ front (plain_cover reports found count size digest small)) (plain_sheets 1 found digest small))
+    plain_append _ _ (plain_append _ _ (plain_append _ _ (plain_head digest small) (plain_cover reports found count size digest small)) (plain_sheets 1 found digest small))
     (plain_text PAGE_END.now refl)

@@ -4,8 +4,8 @@ use Rattle.std.proofs.Math.Nat.{mul-le-mul_right, div-le_of_le-mul}
 use Rattle.std.proofs.lemmas.List.Elements.{All-nil, All-cons, All-weaker}
 use Rattle.edr_record.specs.Parts.{CrashPart}
 use Rattle.edr_drawing.specs.declared.changes.Scale.{Scale}
-use Rattle.edr_drawing.specs.declared.scales.Way.{Way}
-use Rattle.edr_drawing.specs.declared.scales.Way.TheVariants.{Up, Down}
+use Rattle.edr_drawing.specs.declared.scales.Direction.{Direction}
+use Rattle.edr_drawing.specs.declared.scales.Direction.TheVariants.{Up, Down}
 use Rattle.edr_drawing.specs.Scales.{reach_of, below_top, scale_top}
 use Rattle.edr_drawing.specs.Changes.{furthest, reach, step_of, part_of, scale_of, span_of, time_x}
 use Rattle.edr_drawing.specs.Laws.{StandsIn}
@@ -22,7 +22,7 @@ stands s v some rises falls =
     (omega arith, omega (arith, quotient))
 
 -- points reach no further than all of them
-reaches_all : (way : Way) (vs : List ℤ) → All (λ v. reach_of way v ≤ furthest way vs) vs
+reaches_all : (way : Direction) (vs : List ℤ) → All (λ v. reach_of way v ≤ furthest way vs) vs
 reaches_all way [] = All-nil (λ (v : ℤ). reach_of way v ≤ 0)
 reaches_all way (v ∷ vs) =
     let most = max (reach_of way v) (furthest way vs) in
@@ -74,7 +74,7 @@ stands_in c v rises falls =
     (omega (arith, falls, part_reaches flat step down some (λ h. (flat_none up down h).1)))
 
 -- the points of an axis, which reach no further than the crash part
-axis_stands : (c : CrashPart) (vs : List ℤ) → ((way : Way) → furthest way vs ≤ reach way c) → All (StandsIn (scale_of c)) vs
+axis_stands : (c : CrashPart) (vs : List ℤ) → ((way : Direction) → furthest way vs ≤ reach way c) → All (StandsIn (scale_of c)) vs
 axis_stands c vs within k d in_range =
     let rises = reaches_all Up vs k d in_range in
     let falls = reaches_all Down vs k d in_range in

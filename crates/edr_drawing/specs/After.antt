@@ -1,14 +1,15 @@
 -- The chart of the changes of speed after time zero.
-use Rattle.std.specs.Prelude.{ℕ, ◌+◌, ◌-◌, ◌*◌, ◌/◌, ℤ, pos, if◌then◌else◌, nat_lt, nat_le, nat_eq, List, [], ◌∷◌, ◌++◌, take, codes, decimal}
+use Rattle.std.specs.Prelude.{ℕ, ◌+◌, ◌-◌, ◌*◌, ◌/◌, ℤ, pos, if◌then◌else◌, nat_lt, nat_le, nat_eq, List, [], ◌∷◌, ◌++◌, codes, decimal}
 use Rattle.std.specs.Fmt.{signed_decimal}
 use Rattle.std.specs.Ordering.{int_eq}
 use Rattle.edr_record.specs.declared.Extreme.{Extreme}
 use Rattle.edr_record.specs.declared.TheConstants.{POINT_STEP}
 use Rattle.edr_record.specs.Parts.{CrashPart}
-use Rattle.edr_record.specs.Bounds.{point_count, window_from_end}
-use Rattle.edr_drawing.specs.declared.after.CarAxis.{CarAxis}
-use Rattle.edr_drawing.specs.declared.after.CarAxis.TheVariants.{Along, Across}
-use Rattle.edr_drawing.specs.declared.after.TheConstants.{ACROSS_NUMBER, ALONG_NUMBER, AXIS_LINE, CENTRED, DIAMOND, DIAMOND_UP, END_LINE, ENDING, FAR_RIGHT, GRID, LEGEND, LEVEL, MAX_ACROSS, MAX_ALONG, NOT_RECORDED, NUMBER_DOWN, NUMBER_UP, PAST_WINDOW, ROOM_NOT_RECORDED, TIME_LINES, TIMES_APART, ZERO_LINES}
+use Rattle.edr_record.specs.Bounds.{window_from_end}
+use Rattle.edr_drawing.specs.declared.axes.CarAxis.{CarAxis}
+use Rattle.edr_drawing.specs.declared.axes.CarAxis.TheVariants.{Along, Across}
+use Rattle.edr_drawing.specs.declared.axes.TheConstants.{NO_SAMPLE}
+use Rattle.edr_drawing.specs.declared.after.TheConstants.{ACROSS_GAPS_Y, ACROSS_WORDS, ALONG_GAPS_Y, ALONG_WORDS, AXIS_LINE, CENTRED, DIAMOND, DIAMOND_UP, END_LINE, ENDING, FAR_RIGHT, GAPPED_END, GAPPED_START, GRID, LATERAL, LEGEND, LEGEND_GAPS, LEVEL, LONGITUDINAL, MAX_ACROSS, MAX_ALONG, MAXIMUM_NUMBER, NEXT_LINE, NOT_RECORDED, NUMBER_DOWN, NUMBER_UP, PAST_WINDOW, ROOM_NOT_RECORDED, SILENT_CURVE, SILENT_DOWN, SILENT_UP, TIME_LINES, TIMES_APART, ZERO_LINES}
 use Rattle.edr_drawing.specs.declared.changes.Scale.{Scale}
 use Rattle.edr_drawing.specs.declared.scales.TheConstants.{BELOW_TOP, HEIGHT, RIGHT}
 use Rattle.edr_drawing.specs.declared.shapes.Shape.{Shape}
@@ -17,6 +18,7 @@ use Rattle.edr_drawing.specs.declared.shapes.TheConstants.{ACROSS, ALONG, PATH, 
 use Rattle.edr_drawing.specs.Template.{either, filled, fixed}
 use Rattle.edr_drawing.specs.Shapes.{path_point, shapes_bytes}
 use Rattle.edr_drawing.specs.Scales.{flat_map_below}
+use Rattle.edr_drawing.specs.Axes.{extreme_of, is_silent, missing_of, of_axis, points_of}
 use Rattle.edr_drawing.specs.Changes.{change_y, time_x}
 
 -- ---- the frame
@@ -64,10 +66,6 @@ end_line s end w =
 
 -- ---- the curves
 
-abbrev pub axis_class : CarAxis → List ℕ
-axis_class Along = ALONG.now
-axis_class Across = ACROSS.now
-
 -- the points of an axis, the first of which is that of i times 10 ms
 abbrev pub axis_point : Scale → ℕ → ℤ → List ℕ
 axis_point s i v = path_point (nat_lt 0 i) (time_x s (POINT_STEP * i)) (change_y s v)
@@ -88,29 +86,67 @@ abbrev pub axis_marks : Scale → CarAxis → ℕ → List ℤ → List ℕ
 axis_marks s a i [] = []
 axis_marks s a i (v ∷ vs) = axis_mark s a i v ++ axis_marks s a (i + 1) vs
 
-unfoldable pub curve : Scale → CarAxis → List ℤ → List ℕ
-curve s a vs = filled PATH.now (axis_class a ∷ []) ++ axis_points s 0 vs ++ fixed PATH_END.now ++ axis_marks s a 0 vs
+-- a text around the curve of an axis, if it lacks samples
+abbrev pub gapped : CrashPart → CarAxis → List ℕ → List ℕ
+gapped c a text = if nat_eq (missing_of c a) 0 then [] else fixed text
+
+-- the curve of an axis that has samples
+unfoldable pub drawn_curve : Scale → CrashPart → CarAxis → List ℕ
+drawn_curve s c a =
+    gapped c a GAPPED_START.now
+    ++ filled PATH.now (of_axis a ALONG.now ACROSS.now ∷ [])
+    ++ axis_points s 0 (points_of c a)
+    ++ fixed PATH_END.now
+    ++ axis_marks s a 0 (points_of c a)
+    ++ gapped c a GAPPED_END.now
+
+-- what stands in its place where the axis has none
+abbrev pub silent_y : Scale → CarAxis → ℕ
+silent_y s Along = change_y s (pos 0) + SILENT_DOWN
+silent_y s Across = change_y s (pos 0) - SILENT_UP
+
+abbrev pub silent_curve : Scale → CarAxis → List ℕ
+silent_curve s a =
+    filled SILENT_CURVE.now
+    (decimal (silent_y s a) ∷ of_axis a ALONG_WORDS.now ACROSS_WORDS.now ∷ of_axis a LONGITUDINAL.now LATERAL.now ∷ NO_SAMPLE.now ∷ [])
+
+unfoldable pub curve : Scale → CrashPart → CarAxis → List ℕ
+curve s c a = if is_silent c a then silent_curve s a else drawn_curve s c a
+
+-- how many samples of an axis are lacking, if any is, in the legend
+abbrev pub gaps_y : CarAxis → ℕ
+gaps_y Along = ALONG_GAPS_Y
+gaps_y Across = ACROSS_GAPS_Y
+
+unfoldable pub legend_gaps : CrashPart → CarAxis → List ℕ
+legend_gaps c a =
+    if nat_eq (missing_of c a) 0
+    then []
+    else filled LEGEND_GAPS.now
+    (decimal (gaps_y a) ∷ decimal (missing_of c a) ∷ decimal (window_from_end c.end) ∷ decimal (gaps_y a + NEXT_LINE) ∷ [])
 
 -- ---- the greatest changes
 
 -- a diamond at a greatest change
-abbrev pub diamond : Scale → Extreme → List ℕ → List ℕ
-diamond s e class =
-    filled DIAMOND.now (class ∷ decimal (time_x s e.at) ∷ decimal (change_y s e.kmh - DIAMOND_UP) ∷ [])
+abbrev pub diamond : Scale → CarAxis → Extreme → List ℕ
+diamond s a e =
+    filled DIAMOND.now (of_axis a MAX_ALONG.now MAX_ACROSS.now ∷ decimal (time_x s e.at) ∷ decimal (change_y s e.kmh - DIAMOND_UP) ∷ [])
 
--- its number, unless it is 0, so far below its middle and above it: that across stands above the diamond, that along below it
-unfoldable pub maximum_number : List ℕ → Scale → Extreme → ℕ → ℕ → List ℕ
-maximum_number template s e down up =
+-- its number, unless it is 0: that along stands below the diamond, that across above it
+abbrev pub number_y : Scale → CarAxis → ℤ → ℕ
+number_y s Along v = change_y s v + NUMBER_DOWN
+number_y s Across v = change_y s v - NUMBER_UP
+
+unfoldable pub maximum_number : Scale → CarAxis → Extreme → List ℕ
+maximum_number s a e =
     if int_eq e.kmh (pos 0)
     then []
-    else filled template (decimal (time_x s e.at) ∷ decimal (change_y s e.kmh + down - up) ∷ signed_decimal e.kmh ∷ [])
+    else filled MAXIMUM_NUMBER.now
+    (decimal (time_x s e.at) ∷ decimal (number_y s a e.kmh) ∷ of_axis a ALONG_WORDS.now ACROSS_WORDS.now ∷ signed_decimal e.kmh ∷ [])
 
-unfoldable pub maxima : Scale → Extreme → Extreme → List ℕ
-maxima s along across =
-    diamond s across MAX_ACROSS.now
-    ++ diamond s along MAX_ALONG.now
-    ++ maximum_number ACROSS_NUMBER.now s across 0 NUMBER_UP
-    ++ maximum_number ALONG_NUMBER.now s along NUMBER_DOWN 0
+-- the mark of the greatest change of an axis that has samples
+unfoldable pub maximum : Scale → CrashPart → CarAxis → List ℕ
+maximum s c a = if is_silent c a then [] else diamond s a (extreme_of c a) ++ maximum_number s a (extreme_of c a)
 
 -- ---- the whole chart
 
@@ -119,8 +155,11 @@ changes_chart s c =
     past_window s (window_from_end c.end)
     ++ time_lines s
     ++ fixed LEGEND.now
+    ++ legend_gaps c Along
+    ++ legend_gaps c Across
     ++ levels s
     ++ end_line s c.end (window_from_end c.end)
-    ++ curve s Across (take (point_count c.end) c.across)
-    ++ curve s Along (take (point_count c.end) c.along)
-    ++ maxima s c.max_along c.max_across
+    ++ curve s c Across
+    ++ curve s c Along
+    ++ maximum s c Across
+    ++ maximum s c Along

@@ -4,6 +4,7 @@ use Rattle.edr_record.specs.Parts.{PrePart}
 use Rattle.edr_record.specs.declared.Profile.{Profile}
 use Rattle.edr_record.specs.declared.Profile.TheVariants.{Short, Long}
 use Rattle.edr_drawing.specs.declared.before.TheConstants.{BEFORE_END, BEFORE_HEAD, BELT_NAME, BELT_Y, BRAKE_NAME, BRAKE_Y, FIELD_HEIGHT, FIVE, HALF_SECOND, LAMP_NAME, LAMP_Y, LAST_SPEED_STEP, LONG_SECOND, SHORT_SECOND, SPEED_LANE, SPEED_LINES, SPEED_STEPS, TENTH, THROTTLE_LANE, THROTTLE_NAME, TIME_LINE, TIMES, TWENTY, ZERO_LINE}
+use Rattle.edr_drawing.specs.declared.shapes.Shape.TheVariants as shape
 use Rattle.edr_drawing.specs.declared.lanes.ChartLane.{ChartLane}
 use Rattle.edr_drawing.specs.Template.{filled, fixed, of_profile, seconds}
 use Rattle.edr_drawing.specs.Shapes.{shapes_bytes}
@@ -77,8 +78,8 @@ abbrev pub second_x : Profile → ℕ
 second_x Short = slot_x Short SHORT_SECOND
 second_x Long = slot_x Long LONG_SECOND
 
-abbrev pub switch_field : Profile → ℕ → Option Bool → List ℕ
-switch_field f y v = shapes_bytes (field_shapes (second_x f) y FIELD_HEIGHT v)
+abbrev pub switch_moment : Profile → ℕ → Option Bool → List ℕ
+switch_moment f y v = shapes_bytes (shape.Moment (second_x f) y v ∷ [])
 
 -- ---- the whole chart
 
@@ -93,7 +94,7 @@ before_chart n p =
     ++ fixed BRAKE_NAME.now
     ++ brake_slots p.profile p.brake
     ++ fixed BELT_NAME.now
-    ++ switch_field p.profile BELT_Y p.belt
+    ++ switch_moment p.profile BELT_Y p.belt
     ++ fixed LAMP_NAME.now
-    ++ switch_field p.profile LAMP_Y p.lamp
+    ++ switch_moment p.profile LAMP_Y p.lamp
     ++ fixed BEFORE_END.now

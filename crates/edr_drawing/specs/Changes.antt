@@ -5,16 +5,16 @@ use Rattle.edr_record.specs.Parts.{CrashPart}
 use Rattle.edr_drawing.specs.declared.changes.Scale.{Scale}
 use Rattle.edr_drawing.specs.declared.changes.TheConstants.{CHANGE_LINES, CHANGE_STEPS, EARLY_SPAN, LAST_CHANGE_STEP, WHOLE_SPAN}
 use Rattle.edr_drawing.specs.declared.scales.TheConstants.{BELOW_TOP, HEIGHT, LEFT, WIDTH}
-use Rattle.edr_drawing.specs.declared.scales.Way.{Way}
-use Rattle.edr_drawing.specs.declared.scales.Way.TheVariants.{Up, Down}
+use Rattle.edr_drawing.specs.declared.scales.Direction.{Direction}
+use Rattle.edr_drawing.specs.declared.scales.Direction.TheVariants.{Up, Down}
 use Rattle.edr_drawing.specs.Scales.{reach_of, below_top, least_step, scale_top}
 
 -- how far points reach that way, and the points and the greatest changes of both axes
-abbrev pub furthest : Way → List ℤ → ℕ
+abbrev pub furthest : Direction → List ℤ → ℕ
 furthest way [] = 0
 furthest way (v ∷ vs) = max (reach_of way v) (furthest way vs)
 
-abbrev pub reach : Way → CrashPart → ℕ
+abbrev pub reach : Direction → CrashPart → ℕ
 reach way c = max (max (max (furthest way c.along) (furthest way c.across)) (reach_of way c.max_along.kmh)) (reach_of way c.max_across.kmh)
 
 -- the last time across: the early one where the end and all firings are at most that

@@ -1,6 +1,5 @@
 -- The first sheet of a page.
 use Rattle.std.specs.Prelude.{ℕ, ◌+◌, if◌then◌else◌, nat_eq, Option, Some, None, List, [], ◌∷◌, ◌++◌, flat_map, decimal}
-use Rattle.std.specs.Fmt.{signed_decimal}
 use Rattle.edr_record.specs.declared.Record.{Record}
 use Rattle.edr_record.specs.Parts.{CrashPart}
 use Rattle.edr_record.specs.Complete.{is_complete}
@@ -9,12 +8,15 @@ use Rattle.edr_image.specs.declared.BankView.TheVariants.{Void, Event, Damaged}
 use Rattle.edr_image.specs.declared.Found.{Found}
 use Rattle.edr_image.specs.Reports.{Report}
 use Rattle.edr_report.specs.Words.{number_shown}
+use Rattle.edr_drawing.specs.declared.TheConstants.{VERSION}
+use Rattle.edr_drawing.specs.declared.axes.CarAxis.TheVariants.{Along, Across}
 use Rattle.edr_drawing.specs.declared.cover.TheConstants.{DAMAGED_BANK, DAMAGED_START, EVENT_END, EVENT_ROW, EVENTS_START, FIRST_FOOT, FIRST_SHEET, GREATEST, NO_GREATEST, NOT_SET, SET}
 use Rattle.edr_drawing.specs.declared.long.TheConstants.{FORM, NOTES}
 use Rattle.edr_drawing.specs.declared.reasons.TheConstants.{LIST_END}
 use Rattle.edr_drawing.specs.declared.sheets.TheConstants.{NO, YES}
 use Rattle.edr_drawing.specs.declared.tables.TheConstants.{TABLE_END}
 use Rattle.edr_drawing.specs.Template.{digest_hex, either, filled, fixed, place_words}
+use Rattle.edr_drawing.specs.Axes.{greatest_words}
 use Rattle.edr_drawing.specs.Sheets.{count_if}
 use Rattle.edr_drawing.specs.Tables.{run_table}
 
@@ -37,13 +39,7 @@ damaged_in (f ∷ fs) = is_damaged f.view + damaged_in fs
 -- the cells of the greatest changes, or that there are none
 unfoldable pub extreme_cells : Option CrashPart → List ℕ
 extreme_cells None = fixed NO_GREATEST.now
-extreme_cells (Some c) =
-    filled GREATEST.now
-    (signed_decimal c.max_along.kmh
-    ∷ decimal c.max_along.at
-    ∷ signed_decimal c.max_across.kmh
-    ∷ decimal c.max_across.at
-    ∷ [])
+extreme_cells (Some c) = filled GREATEST.now (greatest_words c Along ∷ greatest_words c Across ∷ [])
 
 -- the row of event n, which this bank holds
 unfoldable pub event_row : ℕ → ℕ → Record → List ℕ
@@ -105,4 +101,4 @@ cover reports found count size digest =
     ++ run_table reports
     ++ fixed NOTES.now
     ++ fixed FORM.now
-    ++ filled FIRST_FOOT.now (decimal size ∷ digest_hex digest ∷ [])
+    ++ filled FIRST_FOOT.now (decimal size ∷ digest_hex digest ∷ VERSION.now ∷ [])

@@ -1,7 +1,12 @@
 -- What the laws of a page speak of.
-use Rattle.std.specs.Prelude.{◌≡◌, ◌≤◌, ℕ, ◌+◌, ℤ, Bool, true, false, Option, Some, None, List, [], ◌∷◌, ◌++◌, Contains, filter, map, flat_map}
+use Rattle.std.specs.Prelude.{◌≡◌, ◌≤◌, ◌<◌, ℕ, ◌+◌, ℤ, Bool, true, false, Option, Some, None, List, [], ◌∷◌, ◌++◌, Contains, filter, map, flat_map}
 use Rattle.edr_record.specs.declared.Profile.{Profile}
 use Rattle.edr_record.specs.declared.Profile.TheVariants.{Short, Long}
+use Rattle.edr_record.specs.declared.Record.{Record}
+use Rattle.edr_record.specs.Bounds.{slots_in}
+use Rattle.edr_record.specs.Parts.{PrePart}
+use Rattle.edr_report.specs.Report.{found_records}
+use Rattle.edr_drawing.specs.ByTime.{slot_row}
 use Rattle.edr_image.specs.declared.Found.{Found}
 use Rattle.edr_image.specs.Reports.{Report}
 use Rattle.edr_report.specs.Lines.{Line}
@@ -14,7 +19,7 @@ use Rattle.edr_drawing.specs.Scales.{slot_x}
 use Rattle.edr_drawing.specs.Lanes.{lane_y, point}
 use Rattle.edr_drawing.specs.Changes.{change_y}
 use Rattle.edr_drawing.specs.Page.{page_bytes}
-use Rattle.edr_drawing.specs.Tables.{row}
+use Rattle.edr_drawing.specs.Tables.{row, shown_value}
 
 -- the bytes stand in the others, in one piece
 abbrev pub IsInOnePiece : List ℕ → List ℕ → Type 0
@@ -23,6 +28,21 @@ IsInOnePiece part whole = (front : List ℕ) × (back : List ℕ) × (whole ≡ 
 -- each of the lines has its row there, word for word
 abbrev pub HasRows : List Line → List ℕ → Type 0
 HasRows lines page = (l : Line) → Contains lines l → IsInOnePiece (row l.name l.value) page
+
+-- the row of a line of an event: word for word, but for the lists, which stand in the table by time
+abbrev pub shown_row : Line → List ℕ
+shown_row l = row l.name (shown_value l)
+
+abbrev pub HasShownRows : List Line → List ℕ → Type 0
+HasShownRows lines page = (l : Line) → Contains lines l → IsInOnePiece (shown_row l) page
+
+-- each slot of a pre part has its row there, with its time and its values, or that they are absent
+abbrev pub HasSlotRows : PrePart → List ℕ → Type 0
+HasSlotRows p page = (k : ℕ) → k < slots_in p.profile → IsInOnePiece (slot_row p k) page
+
+-- so has each slot of each event
+abbrev pub HasAllSlotRows : List Found → List ℕ → Type 0
+HasAllSlotRows found page = (e : ℕ × Record) → Contains (found_records found) e → HasSlotRows e.1.pre page
 
 -- of each page, with its reports, what it was found in and its digest, this is so
 abbrev pub OfPages : (List Report → List Found → List ℕ → List ℕ → Type 0) → Type 0
@@ -48,6 +68,7 @@ is_mark (shape.Square x y) = false
 is_mark (shape.Value x y v) = false
 is_mark (shape.Field x y width height v) = false
 is_mark (shape.Word x y v) = false
+is_mark (shape.Moment x y v) = false
 
 -- the shapes of the fields of slots, whose marks are those of the slots that are there, in order
 abbrev pub HasMarks : Profile → ChartLane → List (Option ℕ) → List ℕ → Type 0

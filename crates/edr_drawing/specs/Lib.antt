@@ -1,5 +1,6 @@
 pub mod Template
 pub mod Shapes
+pub mod Axes
 pub mod Scales
 pub mod Lanes
 pub mod Before
@@ -8,6 +9,7 @@ pub mod After
 pub mod Rows
 pub mod Reasons
 pub mod Tables
+pub mod ByTime
 pub mod Sheets
 pub mod Cover
 pub mod Page

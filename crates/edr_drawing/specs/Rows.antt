@@ -1,11 +1,15 @@
 -- The rows below the changes of speed: what happened when, each in a row of its own.
-use Rattle.std.specs.Prelude.{ℕ, ◌+◌, ◌-◌, ◌*◌, if◌then◌else◌, nat_lt, Option, Some, None, List, [], ◌∷◌, ◌++◌, get_or, decimal}
-use Rattle.std.specs.Fmt.{signed_decimal}
-use Rattle.edr_record.specs.declared.Extreme.{Extreme}
+use Rattle.std.specs.Prelude.{ℕ, ◌+◌, ◌-◌, ◌*◌, ◌&&◌, if◌then◌else◌, nat_lt, Option, Some, None, List, [], ◌∷◌, ◌++◌, get_or, decimal}
 use Rattle.edr_record.specs.Parts.{CrashPart}
+use Rattle.edr_report.specs.Words.{extreme_words, milliseconds}
+use Rattle.edr_drawing.specs.declared.axes.CarAxis.{CarAxis}
+use Rattle.edr_drawing.specs.declared.axes.CarAxis.TheVariants.{Along, Across}
+use Rattle.edr_drawing.specs.declared.axes.TheConstants.{NO_SAMPLE}
 use Rattle.edr_drawing.specs.declared.changes.Scale.{Scale}
-use Rattle.edr_drawing.specs.declared.rows.TheConstants.{ACROSS_Y, AFTER_HEAD, ALONG_Y, BESIDE_FLAG, CHART_END, END_OF_EVENT, END_Y, FIRED_ROW, FLAG_DOWN, FLAG_FAR_RIGHT, LEFT_OF_FLAG, MAX_LATERAL, MAX_LONGITUDINAL, MAX_RESULTANT, NOT_FIRED_ROW, RESTRAINTS, RESTRAINTS_Y, RESULTANT_Y, RIGHT_OF_FLAG, ROWS_END, ROW_HEIGHT, RULE, TIMED_ROW, WITHOUT_PART, WORDS_DOWN}
-use Rattle.edr_drawing.specs.Template.{either, extreme_words, filled, fixed, milliseconds}
+use Rattle.edr_drawing.specs.declared.rows.TheConstants.{ACROSS_Y, AFTER_HEAD, ALONG_Y, BESIDE_FLAG, CHART_END, EMPTY_ROW, END_OF_EVENT, END_Y, FIRED_ROW, FLAG_DOWN, FLAG_FAR_RIGHT, LEFT_OF_FLAG, MAX_LATERAL, MAX_LONGITUDINAL, MAX_RESULTANT, RESTRAINTS, RESTRAINTS_Y, RESULTANT_Y, RIGHT_OF_FLAG, ROWS_END, ROW_HEIGHT, RULE, TIMED_ROW, WITHOUT_PART, WORDS_DOWN}
+use Rattle.edr_drawing.specs.declared.shapes.TheConstants.{NONE}
+use Rattle.edr_drawing.specs.Template.{either, filled, fixed}
+use Rattle.edr_drawing.specs.Axes.{extreme_of, greatest_words, is_silent}
 use Rattle.edr_drawing.specs.Changes.{scale_of, time_x}
 use Rattle.edr_drawing.specs.After.{changes_chart}
 
@@ -28,6 +32,10 @@ timed_row template s y label t words =
     ∷ words
     ∷ [])
 
+-- the row of what isn't there, with a word that says so
+abbrev pub empty_row : ℕ → List ℕ → List ℕ → List ℕ
+empty_row y label word = filled EMPTY_ROW.now (decimal (y + WORDS_DOWN) ∷ label ∷ word ∷ [])
+
 -- ---- the restraints, in the order of a record
 
 abbrev pub restraint_y : ℕ → ℕ
@@ -35,7 +43,7 @@ restraint_y row = RESTRAINTS_Y + ROW_HEIGHT * row
 
 unfoldable pub restraint_row : Scale → ℕ → List ℕ → Option ℕ → List ℕ
 restraint_row s row label (Some t) = timed_row FIRED_ROW.now s (restraint_y row) label t (milliseconds t)
-restraint_row s row label None = filled NOT_FIRED_ROW.now (decimal (restraint_y row + WORDS_DOWN) ∷ label ∷ [])
+restraint_row s row label None = empty_row (restraint_y row) label NONE.now
 
 -- the rows of restraints with these labels, the first of which stands in this row
 abbrev pub restraint_rows : {L : Type 0} → (L → List ℕ) → Scale → ℕ → List L → List (Option ℕ) → List ℕ
@@ -44,19 +52,25 @@ restraint_rows name s row (l ∷ ls) fired = restraint_row s row (name l) (get_o
 
 -- ---- the end of the event and the greatest changes
 
--- the row of a time, and that of a greatest change
-abbrev pub time_row : Scale → ℕ → List ℕ → ℕ → List ℕ
-time_row s y label t = timed_row TIMED_ROW.now s y label t (milliseconds t)
+-- the row of the greatest change of an axis, and that of the greatest resultant
+unfoldable pub extreme_row : Scale → ℕ → List ℕ → CrashPart → CarAxis → List ℕ
+extreme_row s y label c a =
+    if is_silent c a
+    then empty_row y label NO_SAMPLE.now
+    else timed_row TIMED_ROW.now s y label (extreme_of c a).at (extreme_words (extreme_of c a))
 
-abbrev pub extreme_row : Scale → ℕ → List ℕ → Extreme → List ℕ
-extreme_row s y label x = timed_row TIMED_ROW.now s y label x.at (extreme_words x.at x.kmh)
+unfoldable pub resultant_row : Scale → CrashPart → List ℕ
+resultant_row s c =
+    if is_silent c Along && is_silent c Across
+    then empty_row RESULTANT_Y MAX_RESULTANT.now NO_SAMPLE.now
+    else timed_row TIMED_ROW.now s RESULTANT_Y MAX_RESULTANT.now c.result_at (milliseconds c.result_at)
 
 unfoldable pub event_rows : Scale → CrashPart → List ℕ
 event_rows s c =
-    time_row s END_Y END_OF_EVENT.now c.end
-    ++ extreme_row s ALONG_Y MAX_LONGITUDINAL.now c.max_along
-    ++ extreme_row s ACROSS_Y MAX_LATERAL.now c.max_across
-    ++ time_row s RESULTANT_Y MAX_RESULTANT.now c.result_at
+    timed_row TIMED_ROW.now s END_Y END_OF_EVENT.now c.end (milliseconds c.end)
+    ++ extreme_row s ALONG_Y MAX_LONGITUDINAL.now c Along
+    ++ extreme_row s ACROSS_Y MAX_LATERAL.now c Across
+    ++ resultant_row s c
 
 -- ---- the whole chart
 
@@ -68,15 +82,7 @@ rows_chart s c = rule END_Y ++ event_rows s c ++ rule RESTRAINTS_Y ++ restraint_
 
 -- the title and the description of the chart of event n
 unfoldable pub after_head : ℕ → CrashPart → List ℕ
-after_head n c =
-    filled AFTER_HEAD.now
-    (decimal n
-    ∷ signed_decimal c.max_along.kmh
-    ∷ decimal c.max_along.at
-    ∷ signed_decimal c.max_across.kmh
-    ∷ decimal c.max_across.at
-    ∷ decimal c.end
-    ∷ [])
+after_head n c = filled AFTER_HEAD.now (decimal n ∷ greatest_words c Along ∷ greatest_words c Across ∷ decimal c.end ∷ [])
 
 -- the chart, or what stands in its place where nothing after time zero is recorded
 unfoldable pub after_chart : ℕ → Option CrashPart → List ℕ

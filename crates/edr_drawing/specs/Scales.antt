@@ -2,8 +2,8 @@
 use Rattle.std.specs.Prelude.{ℕ, zero, suc, ◌+◌, ◌-◌, ◌*◌, ◌/◌, ℤ, pos, negsuc, List, [], ◌∷◌, ◌++◌, if◌then◌else◌, nat_le}
 use Rattle.edr_record.specs.declared.Profile.{Profile}
 use Rattle.edr_record.specs.declared.Profile.TheVariants.{Short, Long}
-use Rattle.edr_drawing.specs.declared.scales.Way.{Way}
-use Rattle.edr_drawing.specs.declared.scales.Way.TheVariants.{Up, Down}
+use Rattle.edr_drawing.specs.declared.scales.Direction.{Direction}
+use Rattle.edr_drawing.specs.declared.scales.Direction.TheVariants.{Up, Down}
 use Rattle.edr_drawing.specs.declared.scales.TheConstants.{FIRST_TIME, TIME_SLOTS, TIME_STEP}
 
 -- across: time k of eleven, the last one time zero
@@ -30,7 +30,7 @@ abbrev pub scale_top : ℕ → ℕ → ℕ
 scale_top step value = step * intervals step value
 
 -- how far a change of speed is from 0 that way
-abbrev pub reach_of : Way → ℤ → ℕ
+abbrev pub reach_of : Direction → ℤ → ℕ
 reach_of Up (pos n) = n
 reach_of Up (negsuc n) = 0
 reach_of Down (pos n) = 0

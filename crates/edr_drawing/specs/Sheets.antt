@@ -13,6 +13,7 @@ use Rattle.edr_drawing.specs.declared.sheets.TheConstants.{FACTS, LONG, NO, SHEE
 use Rattle.edr_drawing.specs.Template.{digest_hex, either, filled, of_profile, place_words}
 use Rattle.edr_drawing.specs.Reasons.{reasons}
 use Rattle.edr_drawing.specs.Before.{before_chart}
+use Rattle.edr_drawing.specs.ByTime.{by_time}
 use Rattle.edr_drawing.specs.Rows.{after_chart}
 use Rattle.edr_drawing.specs.Tables.{points_table, elements_table}
 
@@ -39,6 +40,7 @@ sheet n bank r digest =
     ++ after_chart n r.crash
     ++ points_table r.crash
     ++ elements_table n bank r
+    ++ by_time n r.pre
     ++ filled SHEET_FOOT.now (decimal n ∷ digest_hex digest ∷ [])
 
 -- ---- the sheets of a page

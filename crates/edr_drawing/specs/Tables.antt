@@ -1,5 +1,5 @@
 -- The tables of a page.
-use Rattle.std.specs.Prelude.{ℕ, ◌*◌, ℤ, Bool, if◌then◌else◌, nat_eq, Option, Some, None, List, [], ◌∷◌, ◌++◌, take, flat_map, decimal}
+use Rattle.std.specs.Prelude.{ℕ, ◌*◌, ℤ, Bool, false, ◌||◌, if◌then◌else◌, nat_eq, Option, Some, None, List, [], ◌∷◌, ◌++◌, flat_map, decimal}
 use Rattle.std.specs.Cmp.Lexicographic.{pointwise}
 use Rattle.std.specs.Fmt.{signed_decimal}
 use Rattle.edr_record.specs.declared.Record.{Record}
@@ -9,9 +9,14 @@ use Rattle.edr_record.specs.Bounds.{point_count}
 use Rattle.edr_image.specs.Reports.{Report}
 use Rattle.edr_report.specs.Lines.{Line}
 use Rattle.edr_report.specs.Report.{event_lines, run_lines}
+use Rattle.edr_drawing.specs.declared.axes.CarAxis.{CarAxis}
+use Rattle.edr_drawing.specs.declared.axes.CarAxis.TheVariants.{Along, Across}
+use Rattle.edr_drawing.specs.declared.axes.TheConstants.{NO_SAMPLE}
+use Rattle.edr_drawing.specs.declared.tables.Elements.{Elements}
 use Rattle.edr_drawing.specs.declared.tables.Rows.{Rows}
-use Rattle.edr_drawing.specs.declared.tables.TheConstants.{ACROSS_ROW, ALONG_ROW, CELL, ELEMENTS_END, ELEMENTS_START, LINE_END, LINE_NAME, LINE_VALUE, NEXT_TABLE, POINT_TIME, POINTS_BODY, POINTS_START, ROW_END, RUN_START, SECOND_TABLE, TABLE_END}
+use Rattle.edr_drawing.specs.declared.tables.TheConstants.{ACROSS_ROW, ALONG_ROW, CELL, ELEMENTS_END, ELEMENTS_START, IN_TABLE, LINE_END, LINE_NAME, LINE_VALUE, LISTS, NEXT_TABLE, POINT_TIME, POINTS_BODY, POINTS_START, ROW_END, RUN_START, SECOND_TABLE, SILENT_CELL, TABLE_END}
 use Rattle.edr_drawing.specs.Template.{filled, fixed}
+use Rattle.edr_drawing.specs.Axes.{is_silent, points_of}
 use Rattle.edr_drawing.specs.Scales.{flat_map_below}
 
 -- ---- rows of names and values
@@ -20,16 +25,30 @@ use Rattle.edr_drawing.specs.Scales.{flat_map_below}
 abbrev pub row : List ℕ → List ℕ → List ℕ
 row name value = fixed LINE_NAME.now ++ name ++ fixed LINE_VALUE.now ++ value ++ fixed LINE_END.now
 
--- the row of a line of a report; before one of them a second table begins
+-- the row of a line of a report, word for word
+abbrev pub row_of : Line → List ℕ
+row_of l = row l.name l.value
+
+-- the row of a line of an event: before one of them a second table begins, and a list that the table by time has stands there
 abbrev pub begins_table : List ℕ → Bool
 begins_table name = pointwise nat_eq name SECOND_TABLE.now
 
+abbrev pub is_one_of : {L : Type 0} → (L → List ℕ) → List ℕ → List L → Bool
+is_one_of words name [] = false
+is_one_of words name (l ∷ ls) = pointwise nat_eq name (words l) || is_one_of words name ls
+
+abbrev pub shown_value : Line → List ℕ
+shown_value l = if is_one_of (λ w. w.now) l.name LISTS then IN_TABLE.now else l.value
+
 abbrev pub line_row : Line → List ℕ
-line_row l = (if begins_table l.name then fixed NEXT_TABLE.now else []) ++ row l.name l.value
+line_row l = (if begins_table l.name then fixed NEXT_TABLE.now else []) ++ row l.name (shown_value l)
 
 -- what the rows so far are
 abbrev pub rows_bytes : Rows → List ℕ
 rows_bytes r = r.bytes.items
+
+abbrev pub elements_bytes : Elements → List ℕ
+elements_bytes r = r.bytes.items
 
 -- ---- the changes of speed
 
@@ -43,9 +62,16 @@ time_cells count = flat_map_below time_cell count
 abbrev pub change_cell : ℤ → List ℕ
 change_cell v = filled CELL.now (signed_decimal v ∷ [])
 
+-- the cells of an axis, or that it has no sample
+abbrev pub axis_cells : CrashPart → CarAxis → List ℕ
+axis_cells c a =
+    if is_silent c a
+    then filled SILENT_CELL.now (decimal (point_count c.end) ∷ NO_SAMPLE.now ∷ [])
+    else flat_map change_cell (points_of c a)
+
 -- the row of an axis
-abbrev pub change_row : List ℕ → List ℤ → List ℕ
-change_row start vs = fixed start ++ flat_map change_cell vs ++ fixed ROW_END.now
+abbrev pub change_row : List ℕ → CrashPart → CarAxis → List ℕ
+change_row start c a = fixed start ++ axis_cells c a ++ fixed ROW_END.now
 
 -- the table of the changes of speed, where they are there
 unfoldable pub points_table : Option CrashPart → List ℕ
@@ -54,8 +80,8 @@ points_table (Some c) =
     fixed POINTS_START.now
     ++ time_cells (point_count c.end)
     ++ fixed POINTS_BODY.now
-    ++ change_row ALONG_ROW.now (take (point_count c.end) c.along)
-    ++ change_row ACROSS_ROW.now (take (point_count c.end) c.across)
+    ++ change_row ALONG_ROW.now c Along
+    ++ change_row ACROSS_ROW.now c Across
     ++ fixed TABLE_END.now
 
 -- ---- the lines of a report
@@ -71,4 +97,4 @@ elements_table n bank r =
 unfoldable pub run_table : List Report → List ℕ
 run_table [] = []
 run_table (r ∷ rs) =
-    fixed RUN_START.now ++ flat_map line_row (run_lines 1 (r ∷ rs)) ++ fixed TABLE_END.now
+    fixed RUN_START.now ++ flat_map row_of (run_lines 1 (r ∷ rs)) ++ fixed TABLE_END.now

@@ -1,14 +1,14 @@
 -- Templates of a page, and what goes into their holes.
-use Rattle.std.specs.Prelude.{ℕ, ℤ, ◌+◌, ◌-◌, ◌/◌, ◌%◌, Bool, true, false, if◌then◌else◌, nat_eq, nat_lt, Option, Some, None, List, [], ◌∷◌, ◌++◌, flat_map, get_or, codes, decimal}
+use Rattle.std.specs.Prelude.{ℕ, ℤ, ◌+◌, ◌-◌, ◌/◌, ◌%◌, Bool, true, false, if◌then◌else◌, nat_eq, nat_lt, Option, Some, None, List, [], ◌∷◌, ◌++◌, flat_map, get_or, take, codes, decimal}
 use Rattle.std.specs.Fmt.{signed_decimal}
 use Rattle.edr_record.specs.declared.Place.{Place}
 use Rattle.edr_record.specs.declared.Place.TheVariants.{First, Second}
 use Rattle.edr_record.specs.declared.Profile.{Profile}
 use Rattle.edr_record.specs.declared.Profile.TheVariants.{Short, Long}
-use Rattle.edr_report.specs.Words.{tenths_of}
+use Rattle.edr_report.specs.Words.{extreme_words, milliseconds, tenths_of}
 use Rattle.edr_drawing.specs.declared.template.Filling.{Filling}
 use Rattle.edr_drawing.specs.declared.template.Filling.TheVariants as filling
-use Rattle.edr_drawing.specs.declared.template.TheConstants.{FIRST, SECOND_AFTER}
+use Rattle.edr_drawing.specs.declared.template.TheConstants.{AFTER_FIRST, BEGINNING, FIRST, SECOND}
 
 -- ---- words
 
@@ -44,14 +44,11 @@ seconds tenths = decimal (tenths / 10) ++ codes "." ++ decimal (tenths % 10)
 -- the place of an event in its crash, with the time from the first event, rounded half up
 abbrev pub place_words : Place → List ℕ
 place_words First = FIRST.now
-place_words (Second after) = SECOND_AFTER.now ++ seconds (tenths_of after) ++ codes " s"
+place_words (Second after) = SECOND.now ++ seconds (tenths_of after) ++ AFTER_FIRST.now
 
-abbrev pub milliseconds : ℕ → List ℕ
-milliseconds t = decimal t ++ codes " ms"
-
--- a greatest change, with its time before it
-abbrev pub extreme_words : ℕ → ℤ → List ℕ
-extreme_words at kmh = decimal at ++ codes " ms, " ++ signed_decimal kmh ++ codes " km/h"
+-- tenths of a second before time zero, as seconds
+abbrev pub before_zero : ℕ → List ℕ
+before_zero tenths = (if nat_eq tenths 0 then [] else codes "-") ++ seconds tenths
 
 -- what goes into a hole
 abbrev pub filling_bytes : Filling → List ℕ
@@ -63,8 +60,10 @@ filling_bytes (filling.Below n) = codes "-" ++ decimal n
 filling_bytes (filling.Seconds tenths) = seconds tenths
 filling_bytes (filling.Place p) = place_words p
 filling_bytes (filling.Milliseconds t) = milliseconds t
-filling_bytes (filling.Extreme at kmh) = extreme_words at kmh
+filling_bytes (filling.Before tenths) = before_zero tenths
+filling_bytes (filling.Extreme x) = extreme_words x
 filling_bytes (filling.Digest d) = digest_hex d
+filling_bytes (filling.Beginning d) = digest_hex (take BEGINNING d)
 
 -- ---- templates
 

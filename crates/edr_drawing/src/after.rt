@@ -1,17 +1,17 @@
 //! The chart of the time after time zero: changes of speed, and on the same time axis what happened.
 
-ghost use Rattle.std.specs.Prelude.{◌≡◌, ◌++◌, ◌≤◌, ◌<◌, ◌+◌, ◌-◌, ◌*◌, ◌/◌, OnOk, length, take};
+ghost use Rattle.std.specs.Prelude.{◌≡◌, ◌++◌, ◌≤◌, ◌<◌, ◌+◌, ◌-◌, ◌*◌, ◌/◌, OnOk, length};
 ghost use Rattle.edr_record.specs.declared.TheConstants.{POINTS};
-ghost use Rattle.edr_record.specs.Bounds.{point_count, window_from_end};
 ghost use Rattle.edr_drawing.specs.Changes.{IsScale};
-ghost use Rattle.edr_drawing.specs.After.{axis_class, axis_marks, axis_points, changes_chart, curve, diamond, end_line, level, levels, mark_at, maxima, maximum_number, past_window, time_lines};
+ghost use Rattle.edr_drawing.specs.After.{axis_marks, axis_points, changes_chart, curve, diamond, drawn_curve, end_line, gapped, legend_gaps, level, levels, mark_at, maximum, maximum_number, past_window, silent_curve, time_lines};
 
+use crate::axes::{CarAxis, NO_SAMPLE, extreme_of, is_silent, missing_of, of_axis, points_of};
 use crate::changes::Scale;
 use crate::scales::{BELOW_TOP, HEIGHT, RIGHT};
 use crate::shapes::{ACROSS, ALONG, PATH, PATH_END, Shape, draw, put_point};
 use crate::template::Filling::{Below, Change, Number, Text};
 use crate::template::{Drawn, either, fill, put};
-use edr_record::{Crash, Extreme, POINT_STEP, POINTS, point_count, window_from_end};
+use edr_record::{Crash, Extreme, POINT_STEP, window_from_end};
 
 /// The field past the window.
 pub const PAST_WINDOW: &[u8] = br#"<rect x="{0}" y="40" width="{1}" height="450" class="gap"/>
@@ -32,22 +32,58 @@ pub const TIME_LINES: &[u8] = br#"<path class="grid" d="M{0} 40L{0} 490"/>
 /// How far apart these times are, in milliseconds.
 pub const TIMES_APART: u32 = 50;
 
-/// The names of the axes and of the marks.
+/// The names of the axes, which way is plus, and the marks.
 pub const LEGEND: &[u8] = br#"<text x="0" y="522" class="">Time, ms</text>
 <text x="336" y="28" class="e b">time zero</text>
-<text x="0" y="100" class="b">Delta-V</text>
-<text x="0" y="132" class="">change of speed</text>
-<text x="0" y="164" class="">since time zero</text>
-<text x="0" y="196" class="">km/h</text>
-<path class="s1" d="M0 266L70 266"/>
-<circle cx="35" cy="266" r="9" class="p1"/>
-<text x="84" y="275" class="n1">longitudinal</text>
-<path class="s2" d="M0 312L70 312"/>
-<rect x="27" y="304" width="16" height="16" class="p2"/>
-<text x="84" y="321" class="n2">lateral</text>
-<path class="d0" d="M35 343l15 15l-15 15l-15 -15z"/>
-<text x="84" y="367" class="">its maximum</text>
+<text x="0" y="84" class="b">Delta-V</text>
+<text x="0" y="114" class="">change of speed</text>
+<text x="0" y="144" class="">since time zero</text>
+<text x="0" y="174" class="">km/h</text>
+<path class="s1" d="M0 221L70 221"/>
+<circle cx="35" cy="221" r="9" class="p1"/>
+<text x="84" y="230" class="n1">longitudinal</text>
+<text x="84" y="256" class="s">plus: forward</text>
+<path class="s2" d="M0 337L70 337"/>
+<rect x="27" y="329" width="16" height="16" class="p2"/>
+<text x="84" y="346" class="n2">lateral</text>
+<text x="84" y="372" class="s">plus: driver's right</text>
+<path class="d0" d="M35 443l15 15l-15 15l-15 -15z"/>
+<text x="84" y="467" class="">its maximum</text>
 "#;
+
+/// What the legend says of an axis that lacks samples.
+pub const LEGEND_GAPS: &[u8] = br#"<text x="84" y="{0}" class="s b">{1} of {2} ms</text>
+<text x="84" y="{3}" class="s b">without sample</text>
+"#;
+
+pub const ALONG_GAPS_Y: u32 = 281;
+
+pub const ACROSS_GAPS_Y: u32 = 397;
+
+pub const NEXT_LINE: u32 = 24;
+
+/// What stands around the curve of an axis that lacks samples.
+pub const GAPPED_START: &[u8] = b"<g class=\"q\">\n";
+
+pub const GAPPED_END: &[u8] = b"</g>\n";
+
+/// What stands in the place of the curve of an axis without any sample.
+pub const SILENT_CURVE: &[u8] = br#"<text x="1816" y="{0}" class="e h {1}">{2}: {3}</text>
+"#;
+
+/// How far from 0 these words stand.
+pub const SILENT_UP: u32 = 12;
+
+pub const SILENT_DOWN: u32 = 32;
+
+pub const LONGITUDINAL: &[u8] = b"longitudinal";
+
+pub const LATERAL: &[u8] = b"lateral";
+
+/// The classes of the words of the two axes.
+pub const ALONG_WORDS: &[u8] = b"n1";
+
+pub const ACROSS_WORDS: &[u8] = b"n2";
 
 /// The line of a change of speed, with its number.
 pub const LEVEL: &[u8] = br#"<path class="{0}" d="M330 {1}L1830 {1}"/>
@@ -86,23 +122,13 @@ pub const MAX_ACROSS: &[u8] = b"d2";
 /// How far above its middle a diamond begins.
 pub const DIAMOND_UP: u32 = 15;
 
-/// The numbers of the greatest changes: that across stands above its diamond, that along below it.
-pub const ACROSS_NUMBER: &[u8] = br#"<text x="{0}" y="{1}" class="c h n2">{2}</text>
-"#;
-
-pub const ALONG_NUMBER: &[u8] = br#"<text x="{0}" y="{1}" class="c h n1">{2}</text>
+/// The number of a greatest change: that across stands above its diamond, that along below it.
+pub const MAXIMUM_NUMBER: &[u8] = br#"<text x="{0}" y="{1}" class="c h {2}">{3}</text>
 "#;
 
 pub const NUMBER_UP: u32 = 22;
 
 pub const NUMBER_DOWN: u32 = 42;
-
-/// An axis of a car.
-#[derive(Clone, Copy)]
-pub enum CarAxis {
-    Along,
-    Across,
-}
 
 // Draws the field past the window, if the chart reaches there.
 #[tactic(auto, unfolding(crate::specs::After::past_window))]
@@ -186,13 +212,26 @@ fn draw_end(out: &mut Vec<u8>, scale: &Scale, end: u16, window: u16) -> Drawn
     }
 }
 
-fn axis_class(axis: CarAxis) -> &'static [u8]
-    ensures { result.now ≡ axis_class axis }
+// Says in the legend how many samples of an axis are lacking, if any is.
+#[tactic(auto, unfolding(crate::specs::After::legend_gaps))]
+fn draw_legend_gaps(out: &mut Vec<u8>, crash: &Crash, axis: CarAxis) -> Drawn
+    ensures { OnOk result (out.new.items ≡ out.old.items ++ legend_gaps crash.now axis) }
 {
-    match axis {
-        CarAxis::Along => ALONG,
-        CarAxis::Across => ACROSS,
+    let missing = missing_of(crash, axis);
+    if missing == 0 {
+        return Ok(());
     }
+    let y = match axis {
+        CarAxis::Along => ALONG_GAPS_Y,
+        CarAxis::Across => ACROSS_GAPS_Y,
+    };
+    let window = Number(u32::from(window_from_end(crash.end)));
+    let missing = Number(u32::from(missing));
+    fill(
+        out,
+        LEGEND_GAPS,
+        &[Number(y), missing, window, Number(y + NEXT_LINE)],
+    )
 }
 
 // Appends the points of an axis, one at each 10 ms.
@@ -230,77 +269,105 @@ fn draw_marks(out: &mut Vec<u8>, scale: &Scale, axis: CarAxis, points: &[i16]) -
     Ok(())
 }
 
-// Draws the curve of an axis, with a mark at each point.
-#[tactic(auto, unfolding(crate::specs::After::curve))]
-fn draw_curve(out: &mut Vec<u8>, scale: &Scale, axis: CarAxis, points: &[i16]) -> Drawn
-    requires scale { IsScale scale.now }
-    requires count { length points.now ≤ POINTS }
-    ensures { OnOk result (out.new.items ≡ out.old.items ++ curve scale.now axis points.now) }
+// Appends a text around the curve of an axis, if it lacks samples.
+fn put_gapped(out: &mut Vec<u8>, crash: &Crash, axis: CarAxis, text: &[u8]) -> Drawn
+    ensures { OnOk result (out.new.items ≡ out.old.items ++ gapped crash.now axis text.now) }
 {
-    fill(out, PATH, &[Text(axis_class(axis))])?;
-    put_points(out, scale, points)?;
-    put(out, PATH_END)?;
-    draw_marks(out, scale, axis, points)
+    if missing_of(crash, axis) == 0 {
+        return Ok(());
+    }
+    put(out, text)
 }
 
-// Draws the number of a greatest change, unless it is 0, so far below its middle and above it.
+// Says that an axis has no sample.
+fn draw_silent(out: &mut Vec<u8>, scale: &Scale, axis: CarAxis) -> Drawn
+    requires { IsScale scale.now }
+    ensures { OnOk result (out.new.items ≡ out.old.items ++ silent_curve scale.now axis) }
+{
+    let zero = scale.y(0);
+    let y = match axis {
+        CarAxis::Along => zero + SILENT_DOWN,
+        CarAxis::Across => zero - SILENT_UP,
+    };
+    let class = Text(of_axis(axis, ALONG_WORDS, ACROSS_WORDS));
+    let name = Text(of_axis(axis, LONGITUDINAL, LATERAL));
+    fill(
+        out,
+        SILENT_CURVE,
+        &[Number(y), class, name, Text(NO_SAMPLE)],
+    )
+}
+
+// Draws the curve of an axis, with a mark at each point.
+#[tactic(auto, unfolding(crate::specs::After::drawn_curve))]
+fn draw_samples(out: &mut Vec<u8>, scale: &Scale, crash: &Crash, axis: CarAxis) -> Drawn
+    requires { IsScale scale.now }
+    ensures { OnOk result (out.new.items ≡ out.old.items ++ drawn_curve scale.now crash.now axis) }
+{
+    let points = points_of(crash, axis);
+    put_gapped(out, crash, axis, GAPPED_START)?;
+    fill(out, PATH, &[Text(of_axis(axis, ALONG, ACROSS))])?;
+    put_points(out, scale, points)?;
+    put(out, PATH_END)?;
+    draw_marks(out, scale, axis, points)?;
+    put_gapped(out, crash, axis, GAPPED_END)
+}
+
+// Draws the curve of an axis, or says that it has no sample.
+#[tactic(auto, unfolding(crate::specs::After::curve))]
+fn draw_curve(out: &mut Vec<u8>, scale: &Scale, crash: &Crash, axis: CarAxis) -> Drawn
+    requires { IsScale scale.now }
+    ensures { OnOk result (out.new.items ≡ out.old.items ++ curve scale.now crash.now axis) }
+{
+    if is_silent(crash, axis) {
+        draw_silent(out, scale, axis)
+    } else {
+        draw_samples(out, scale, crash, axis)
+    }
+}
+
+// Draws the number of a greatest change, unless it is 0.
 #[tactic(auto, unfolding(crate::specs::After::maximum_number))]
-fn draw_number(
-    out: &mut Vec<u8>,
-    template: &[u8],
-    scale: &Scale,
-    extreme: Extreme,
-    down: u32,
-    up: u32,
-) -> Drawn
-    requires scale { IsScale scale.now }
-    requires place { (down ≤ 100) × (up ≤ 80) }
-    ensures { OnOk result (out.new.items ≡ out.old.items ++ maximum_number template.now scale.now extreme down up) }
+fn draw_number(out: &mut Vec<u8>, scale: &Scale, axis: CarAxis, extreme: Extreme) -> Drawn
+    requires { IsScale scale.now }
+    ensures { OnOk result (out.new.items ≡ out.old.items ++ maximum_number scale.now axis extreme) }
 {
     let Extreme { at, kmh } = extreme;
     if kmh == 0 {
         return Ok(());
     }
-    let y = scale.y(kmh) + down - up;
-    fill(
-        out,
-        template,
-        &[Number(scale.x(at)), Number(y), Change(kmh)],
-    )
+    let y = match axis {
+        CarAxis::Along => scale.y(kmh) + NUMBER_DOWN,
+        CarAxis::Across => scale.y(kmh) - NUMBER_UP,
+    };
+    let class = Text(of_axis(axis, ALONG_WORDS, ACROSS_WORDS));
+    let x = Number(scale.x(at));
+    fill(out, MAXIMUM_NUMBER, &[x, Number(y), class, Change(kmh)])
 }
 
 // Draws a diamond at a greatest change.
-fn draw_diamond(out: &mut Vec<u8>, scale: &Scale, extreme: Extreme, class: &'static [u8]) -> Drawn
+fn draw_diamond(out: &mut Vec<u8>, scale: &Scale, axis: CarAxis, extreme: Extreme) -> Drawn
     requires { IsScale scale.now }
-    ensures { OnOk result (out.new.items ≡ out.old.items ++ diamond scale.now extreme class.now) }
+    ensures { OnOk result (out.new.items ≡ out.old.items ++ diamond scale.now axis extreme) }
 {
-    let x = scale.x(extreme.at);
-    let y = scale.y(extreme.kmh);
-    fill(
-        out,
-        DIAMOND,
-        &[Text(class), Number(x), Number(y - DIAMOND_UP)],
-    )
+    let class = Text(of_axis(axis, MAX_ALONG, MAX_ACROSS));
+    let x = Number(scale.x(extreme.at));
+    let y = Number(scale.y(extreme.kmh) - DIAMOND_UP);
+    fill(out, DIAMOND, &[class, x, y])
 }
 
-// Draws a diamond at the greatest change of each axis, with its number.
-#[tactic(auto, unfolding(crate::specs::After::maxima))]
-fn draw_maxima(out: &mut Vec<u8>, scale: &Scale, along: Extreme, across: Extreme) -> Drawn
+// Draws a diamond at the greatest change of an axis, with its number, unless it has no sample.
+#[tactic(auto, unfolding(crate::specs::After::maximum))]
+fn draw_maximum(out: &mut Vec<u8>, scale: &Scale, crash: &Crash, axis: CarAxis) -> Drawn
     requires { IsScale scale.now }
-    ensures { OnOk result (out.new.items ≡ out.old.items ++ maxima scale.now along across) }
+    ensures { OnOk result (out.new.items ≡ out.old.items ++ maximum scale.now crash.now axis) }
 {
-    draw_diamond(out, scale, across, MAX_ACROSS)?;
-    draw_diamond(out, scale, along, MAX_ALONG)?;
-    draw_number(out, ACROSS_NUMBER, scale, across, 0, NUMBER_UP)?;
-    draw_number(out, ALONG_NUMBER, scale, along, NUMBER_DOWN, 0)
-}
-
-/// The points that the end of an event allows.
-pub fn points_of(end: u16, points: &[i16; POINTS]) -> &[i16]
-    ensures points { result.now ≡ take (point_count end) points.now }
-    ensures count { length result.now ≤ POINTS }
-{
-    &points[..point_count(end)]
+    if is_silent(crash, axis) {
+        return Ok(());
+    }
+    let extreme = extreme_of(crash, axis);
+    draw_diamond(out, scale, axis, extreme)?;
+    draw_number(out, scale, axis, extreme)
 }
 
 /// Draws the part of the chart that shows changes of speed.
@@ -310,14 +377,15 @@ pub fn draw_changes(out: &mut Vec<u8>, scale: &Scale, crash: &Crash) -> Drawn
     ensures { OnOk result (out.new.items ≡ out.old.items ++ changes_chart scale.now crash.now) }
 {
     let window = window_from_end(crash.end);
-    let along = points_of(crash.end, &crash.along);
-    let across = points_of(crash.end, &crash.across);
     draw_past_window(out, scale, window)?;
     draw_times(out, scale)?;
     put(out, LEGEND)?;
+    draw_legend_gaps(out, crash, CarAxis::Along)?;
+    draw_legend_gaps(out, crash, CarAxis::Across)?;
     draw_levels(out, scale)?;
     draw_end(out, scale, crash.end, window)?;
-    draw_curve(out, scale, CarAxis::Across, across)?;
-    draw_curve(out, scale, CarAxis::Along, along)?;
-    draw_maxima(out, scale, crash.max_along, crash.max_across)
+    draw_curve(out, scale, crash, CarAxis::Across)?;
+    draw_curve(out, scale, crash, CarAxis::Along)?;
+    draw_maximum(out, scale, crash, CarAxis::Across)?;
+    draw_maximum(out, scale, crash, CarAxis::Along)
 }

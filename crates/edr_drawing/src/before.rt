@@ -10,6 +10,7 @@ ghost use Rattle.edr_drawing.specs.Before.{are_same, before_chart, brake_slots, 
 
 use crate::lanes::{ChartLane, draw_field, draw_lane, draw_run};
 use crate::scales::{least_step, scale_top, slot_x, time_at};
+use crate::shapes::{Shape, draw};
 use crate::template::Filling::{Count, Number, Seconds, Text};
 use crate::template::{Drawn, fill, of_profile, put};
 use edr_record::{LONG_SLOTS, Pre, Profile};
@@ -47,17 +48,19 @@ pub const ZERO_LINE: &[u8] = br#"<path class="zero" d="M{0} 36L{0} 490"/>
 /// The names of the other lanes.
 pub const THROTTLE_NAME: &[u8] = br#"<path class="part" d="M0 236L1830 236"/>
 <text x="0" y="290" class="b">Throttle</text>
-<text x="0" y="322" class="">% of full</text>
+<text x="0" y="322" class="">pedal, % of full</text>
 "#;
 
 pub const BRAKE_NAME: &[u8] = br#"<path class="part" d="M0 362L1830 362"/>
 <text x="0" y="393" class="b">Service brake</text>
 "#;
 
-pub const BELT_NAME: &[u8] = br#"<text x="0" y="435" class="b">Driver belt</text>
+pub const BELT_NAME: &[u8] =
+    br#"<text x="0" y="435"><tspan class="b">Driver belt</tspan> at -1.0 s</text>
 "#;
 
-pub const LAMP_NAME: &[u8] = br#"<text x="0" y="477" class="b">Air bag lamp</text>
+pub const LAMP_NAME: &[u8] =
+    br#"<text x="0" y="477"><tspan class="b">Air bag lamp</tspan> at -1.0 s</text>
 "#;
 
 pub const BEFORE_END: &[u8] = br#"<path class="part" d="M0 490L1830 490"/>
@@ -91,12 +94,13 @@ pub const THROTTLE_LANE: ChartLane = ChartLane {
     room: 96,
 };
 
-/// Where the fields of the switches stand up, and how high they are.
+/// Where the fields of the service brake stand up, and how high they are.
 pub const BRAKE_Y: u32 = 367;
 
-pub const BELT_Y: u32 = 409;
+/// Where the marks of belt and lamp begin.
+pub const BELT_Y: u16 = 411;
 
-pub const LAMP_Y: u32 = 451;
+pub const LAMP_Y: u16 = 453;
 
 pub const FIELD_HEIGHT: u32 = 34;
 
@@ -155,7 +159,8 @@ fn draw_times(out: &mut Vec<u8>, profile: Profile) -> Drawn
     fill(out, ZERO_LINE, &[Number(time_at(TIMES))])
 }
 
-fn wide(slot: Option<u8>) -> Option<u16>
+/// A value of throttle as wide as one of speed.
+pub fn wide(slot: Option<u8>) -> Option<u16>
     ensures { result ≡ slot }
 {
     match slot {
@@ -271,8 +276,8 @@ pub fn draw_before(out: &mut Vec<u8>, number: u64, pre: &Pre) -> Drawn
     put(out, BRAKE_NAME)?;
     draw_brake(out, profile, pre.brake())?;
     put(out, BELT_NAME)?;
-    draw_field(out, x, BELT_Y, FIELD_HEIGHT, belt)?;
+    draw(out, &[Shape::Moment(x, BELT_Y, belt)])?;
     put(out, LAMP_NAME)?;
-    draw_field(out, x, LAMP_Y, FIELD_HEIGHT, lamp)?;
+    draw(out, &[Shape::Moment(x, LAMP_Y, lamp)])?;
     put(out, BEFORE_END)
 }

@@ -5,7 +5,7 @@ ghost use Rattle.std.specs.List.{list_all};
 ghost use Rattle.edr_drawing.specs.Changes.{IsScale, furthest, reach, is_early, span_of, scale_of, change_y, time_x};
 
 use crate::scales::{
-    BELOW_TOP, HEIGHT, LEFT, WIDTH, Way, below_top, least_step, reach_of, scale_top,
+    BELOW_TOP, Direction, HEIGHT, LEFT, WIDTH, below_top, least_step, reach_of, scale_top,
 };
 use edr_record::{Crash, POINTS};
 
@@ -32,7 +32,7 @@ pub struct Scale {
 }
 
 // How far these points reach that way.
-fn furthest(way: Way, points: &[i16; POINTS]) -> u32
+fn furthest(way: Direction, points: &[i16; POINTS]) -> u32
     ensures reach { result ≡ furthest way points.now }
     ensures range { result ≤ 32_768 }
 {
@@ -43,7 +43,7 @@ fn furthest(way: Way, points: &[i16; POINTS]) -> u32
     most
 }
 
-fn reach(way: Way, crash: &Crash) -> u32
+fn reach(way: Direction, crash: &Crash) -> u32
     ensures reach { result ≡ reach way crash.now }
     ensures range { result ≤ 32_768 }
 {
@@ -86,8 +86,8 @@ impl Scale {
         ensures scale { result ≡ scale_of crash.now }
         ensures within { IsScale result }
     {
-        let up = reach(Way::Up, crash);
-        let down = reach(Way::Down, crash);
+        let up = reach(Direction::Up, crash);
+        let down = reach(Direction::Down, crash);
         let step = least_step(&CHANGE_STEPS, LAST_CHANGE_STEP, CHANGE_LINES, up, down);
         let flat = up == 0 && down == 0;
         Scale {

@@ -4,11 +4,13 @@ ghost use Rattle.std.specs.Prelude.{◌≡◌, ◌++◌, ◌≤◌, ◌+◌, OnO
 ghost use Rattle.edr_image.specs.Reports.{report_of};
 ghost use Rattle.edr_drawing.specs.Cover.{events_in, damaged_in, is_damaged, extreme_cells, event_row, event_row_if, event_rows, events_table, damaged_item, damaged_items, damaged_list, cover};
 
+use crate::VERSION;
+use crate::axes::{CarAxis, greatest};
 use crate::long::{FORM, NOTES};
 use crate::reasons::LIST_END;
 use crate::sheets::{NO, YES, count_if};
 use crate::tables::{TABLE_END, put_run};
-use crate::template::Filling::{Change, Count, Digest, Number, Place, Text};
+use crate::template::Filling::{Count, Digest, Number, Place, Text};
 use crate::template::{Drawn, either, fill, put};
 use edr_image::{BankView, CycleReport, Found};
 use edr_record::{Crash, Record};
@@ -22,7 +24,7 @@ pub const FIRST_SHEET: &[u8] = br#"<section aria-labelledby="r">
 
 pub const EVENTS_START: &[u8] = br#"<table>
 <caption>Events</caption>
-<thead><tr><th scope="col">Event</th><th scope="col">Bank</th><th scope="col">Ignition cycle</th><th scope="col">Time zero</th><th scope="col">Place in crash</th><th scope="col">Deployment</th><th scope="col">Max. longitudinal</th><th scope="col">Max. lateral</th><th scope="col">Complete</th></tr></thead>
+<thead><tr><th scope="col">Event</th><th scope="col">Bank</th><th scope="col">Ignition cycle</th><th scope="col">Time zero</th><th scope="col">Place in crash</th><th scope="col">Locked</th><th scope="col">Max. longitudinal</th><th scope="col">Max. lateral</th><th scope="col">Complete</th></tr></thead>
 <tbody>
 "#;
 
@@ -30,7 +32,7 @@ pub const EVENTS_START: &[u8] = br#"<table>
 pub const EVENT_ROW: &[u8] =
     br##"<tr><th scope="row"><a href="#e{0}">{0}</a></th><td>{1}</td><td>{2}</td><td>{3} ms</td><td>{4}</td><td>{5}</td><td>"##;
 
-pub const GREATEST: &[u8] = b"{0} km/h at {1} ms</td><td>{2} km/h at {3} ms</td><td>";
+pub const GREATEST: &[u8] = b"{0}</td><td>{1}</td><td>";
 
 pub const NO_GREATEST: &[u8] = b"none</td><td>none</td><td>";
 
@@ -50,7 +52,7 @@ pub const SET: &[u8] = b"set";
 pub const NOT_SET: &[u8] = b"not set";
 
 pub const FIRST_FOOT: &[u8] =
-    br#"<p class="foot">Made from a report of {0} bytes, SHA-256 <code>{1}</code></p>
+    br#"<p class="foot">Made by edr_picture {2} from a report of {0} bytes, SHA-256 <code>{1}</code></p>
 </section>
 "#;
 
@@ -93,11 +95,9 @@ fn put_extremes(out: &mut Vec<u8>, crash: &Option<Crash>) -> Drawn
 {
     match crash {
         Some(crash) => {
-            let (along, across) = (crash.max_along, crash.max_across);
-            let along_at = Number(u32::from(along.at));
-            let across_at = Number(u32::from(across.at));
-            let (along, across) = (Change(along.kmh), Change(across.kmh));
-            fill(out, GREATEST, &[along, along_at, across, across_at])
+            let along = greatest(crash, CarAxis::Along);
+            let across = greatest(crash, CarAxis::Across);
+            fill(out, GREATEST, &[along, across])
         }
         None => put(out, NO_GREATEST),
     }
@@ -216,5 +216,6 @@ pub fn put_cover(
     put_run(out, alloc, run)?;
     put(out, NOTES)?;
     put(out, FORM)?;
-    fill(out, FIRST_FOOT, &[Number(size), Digest(*digest)])
+    let foot = [Number(size), Digest(*digest), Text(VERSION)];
+    fill(out, FIRST_FOOT, &foot)
 }

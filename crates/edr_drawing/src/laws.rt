@@ -1,19 +1,37 @@
 //! Laws of a page, each the contract of a function that does nothing.
 
-ghost use Rattle.std.specs.Prelude.{◌≡◌, ◌≤◌, ◌<◌, ◌+◌, ℕ, ℤ, false, true, Option, List, All, int_le};
-ghost use Rattle.edr_record.specs.Parts.{CrashPart};
+ghost use Rattle.std.specs.Prelude.{◌≡◌, ◌≤◌, ◌<◌, ◌+◌, ℕ, ℤ, false, true, Option, List, [], All, int_le};
+ghost use Rattle.edr_record.specs.Parts.{CrashPart, PrePart};
 ghost use Rattle.edr_record.specs.declared.Profile.{Profile};
 ghost use Rattle.edr_report.specs.Report.{events_lines, found_records, run_lines};
 ghost use Rattle.edr_drawing.specs.declared.changes.Scale.{Scale};
 ghost use Rattle.edr_drawing.specs.declared.lanes.ChartLane.{ChartLane};
 ghost use Rattle.edr_drawing.specs.Lanes.{lane_y, cells_of, points};
+ghost use Rattle.edr_drawing.specs.declared.axes.CarAxis.{CarAxis};
+ghost use Rattle.edr_drawing.specs.declared.axes.TheConstants.{NO_SAMPLE};
+ghost use Rattle.edr_drawing.specs.Axes.{greatest_words, is_silent};
+ghost use Rattle.edr_drawing.specs.After.{curve, maximum, silent_curve};
+ghost use Rattle.edr_drawing.specs.ByTime.{by_time};
 ghost use Rattle.edr_drawing.specs.Changes.{change_y, scale_of, span_of, time_x};
-ghost use Rattle.edr_drawing.specs.Laws.{HasMarks, HasPoints, HasRows, OfPages, StandsIn};
+ghost use Rattle.edr_drawing.specs.Laws.{HasAllSlotRows, HasMarks, HasPoints, HasRows, HasShownRows, HasSlotRows, OfPages, StandsIn};
 
-/// Each line of an event, and each line of a cycle, has its row on the page, word for word.
+/// Each line of an event, and each line of a cycle, has its row on the page, word for word; but the lists of speed,
+/// throttle and service brake stand in the table by time.
 pub fn each_line()
-    ensures events { OfPages (λ reports found digest page. HasRows (events_lines 1 (found_records found)) page) }
+    ensures events { OfPages (λ reports found digest page. HasShownRows (events_lines 1 (found_records found)) page) }
     ensures cycles { OfPages (λ reports found digest page. HasRows (run_lines 1 reports) page) }
+{}
+
+/// In the table by time each slot of an event has its row, with its time and its values; an absent one is said to be absent.
+pub fn each_slot()
+    ensures table { (n : ℕ) (p : PrePart) → HasSlotRows p (by_time n p) }
+    ensures page { OfPages (λ reports found digest page. HasAllSlotRows found page) }
+{}
+
+/// An axis without any sample has no curve, no mark and no greatest change: words stand in their place.
+pub fn no_sample()
+    ensures { (s : Scale) (c : CrashPart) (a : CarAxis) → is_silent c a ≡ true
+        → (curve s c a ≡ silent_curve s a) × (maximum s c a ≡ []) × (greatest_words c a ≡ NO_SAMPLE.now) }
 {}
 
 /// The marks of a lane are those of the slots that are there, in order, and no other; and so are the points of its path.

@@ -2,19 +2,21 @@
 
 ghost use Rattle.std.specs.Prelude.{◌≡◌, ◌++◌, ◌≤◌, OnOk};
 ghost use Rattle.edr_drawing.specs.Template.{filling_bytes};
-ghost use Rattle.edr_drawing.specs.Rows.{after_chart, after_head, beside, event_rows, extreme_row, restraint_row, restraint_rows, rows_chart, rule, time_row, timed_row};
+ghost use Rattle.edr_drawing.specs.Rows.{after_chart, after_head, beside, empty_row, event_rows, extreme_row, restraint_row, restraint_rows, resultant_row, rows_chart, rule, timed_row};
 
 use crate::after::draw_changes;
+use crate::axes::{CarAxis, NO_SAMPLE, extreme_of, greatest, is_silent};
 use crate::changes::Scale;
-use crate::template::Filling::{Change, Count, Extreme as Greatest, Milliseconds, Number, Text};
+use crate::shapes::NONE;
+use crate::template::Filling::{Count, Extreme as Greatest, Milliseconds, Number, Text};
 use crate::template::{Drawn, Filling, either, fill, put};
-use edr_record::{Crash, Extreme};
+use edr_record::Crash;
 
 /// The title, the description and the plot.
 pub const AFTER_HEAD: &[u8] =
     br#"<svg viewBox="0 0 1860 950" role="img" aria-labelledby="c{0}t c{0}d">
 <title id="c{0}t">Event {0}, after time zero: change of speed and deployments</title>
-<desc id="c{0}d">Delta-V longitudinal and lateral at each 10 ms. Greatest longitudinal {1} km/h at {2} ms, greatest lateral {3} km/h at {4} ms, end of event {5} ms. Below, on the same time axis, the deployments. The table of elements has all values.</desc>
+<desc id="c{0}d">Delta-V longitudinal and lateral at each 10 ms. Greatest longitudinal {1}, greatest lateral {2}, end of event {3} ms. Below, on the same time axis, the deployments. The table of elements has all values.</desc>
 <rect x="330" y="40" width="1500" height="450" class="plot"/>
 "#;
 
@@ -46,9 +48,9 @@ pub const FIRED_ROW: &[u8] = br#"<text x="0" y="{0}" class="b">{1}</text>
 <text x="{4}" y="{0}" class="h{5} b">{6}</text>
 "#;
 
-/// The row of a restraint that didn't.
-pub const NOT_FIRED_ROW: &[u8] = br#"<text x="0" y="{0}" class="g">{1}</text>
-<text x="352" y="{0}" class="g">none</text>
+/// The row of what isn't there, with a word that says so.
+pub const EMPTY_ROW: &[u8] = br#"<text x="0" y="{0}" class="g">{1}</text>
+<text x="352" y="{0}" class="g">{2}</text>
 "#;
 
 /// Words stand right of a flag, and left of one far to the right, where their class says that they end there.
@@ -139,6 +141,18 @@ fn draw_timed(
     fill(out, template, &parts)
 }
 
+// Draws the row of what isn't there.
+fn draw_empty(out: &mut Vec<u8>, y: u32, label: &'static [u8], word: &'static [u8]) -> Drawn
+    requires { y ≤ 2_000 }
+    ensures { OnOk result (out.new.items ≡ out.old.items ++ empty_row y label.now word.now) }
+{
+    fill(
+        out,
+        EMPTY_ROW,
+        &[Number(y + WORDS_DOWN), Text(label), Text(word)],
+    )
+}
+
 // Draws the row of a restraint, which is this one in the order of a record.
 #[tactic(auto, unfolding(crate::specs::Rows::restraint_row))]
 fn draw_restraint(
@@ -155,7 +169,7 @@ fn draw_restraint(
     let y = RESTRAINTS_Y + ROW_HEIGHT * row;
     match fired {
         Some(time) => draw_timed(out, FIRED_ROW, scale, y, label, time, Milliseconds(time)),
-        None => fill(out, NOT_FIRED_ROW, &[Number(y + WORDS_DOWN), Text(label)]),
+        None => draw_empty(out, y, label, NONE),
     }
 }
 
@@ -175,29 +189,54 @@ fn draw_restraints(
     Ok(())
 }
 
-// Draws the row of a greatest change.
+// Draws the row of the greatest change of an axis.
+#[tactic(auto, unfolding(crate::specs::Rows::extreme_row))]
 fn draw_extreme(
     out: &mut Vec<u8>,
     scale: &Scale,
     y: u32,
     label: &'static [u8],
-    extreme: Extreme,
+    crash: &Crash,
+    axis: CarAxis,
 ) -> Drawn
     requires span { 300 ≤ scale.now.span }
     requires place { y ≤ 2_000 }
-    ensures { OnOk result (out.new.items ≡ out.old.items ++ extreme_row scale.now y label.now extreme) }
+    ensures { OnOk result (out.new.items ≡ out.old.items ++ extreme_row scale.now y label.now crash.now axis) }
 {
-    let Extreme { at, kmh } = extreme;
-    draw_timed(out, TIMED_ROW, scale, y, label, at, Greatest(at, kmh))
+    if is_silent(crash, axis) {
+        return draw_empty(out, y, label, NO_SAMPLE);
+    }
+    let extreme = extreme_of(crash, axis);
+    draw_timed(
+        out,
+        TIMED_ROW,
+        scale,
+        y,
+        label,
+        extreme.at,
+        Greatest(extreme),
+    )
 }
 
-// Draws the row of a time.
-fn draw_time(out: &mut Vec<u8>, scale: &Scale, y: u32, label: &'static [u8], time: u16) -> Drawn
-    requires span { 300 ≤ scale.now.span }
-    requires place { y ≤ 2_000 }
-    ensures { OnOk result (out.new.items ≡ out.old.items ++ time_row scale.now y label.now time) }
+// Draws the row of the greatest resultant.
+#[tactic(auto, unfolding(crate::specs::Rows::resultant_row))]
+fn draw_resultant(out: &mut Vec<u8>, scale: &Scale, crash: &Crash) -> Drawn
+    requires { 300 ≤ scale.now.span }
+    ensures { OnOk result (out.new.items ≡ out.old.items ++ resultant_row scale.now crash.now) }
 {
-    draw_timed(out, TIMED_ROW, scale, y, label, time, Milliseconds(time))
+    if is_silent(crash, CarAxis::Along) && is_silent(crash, CarAxis::Across) {
+        return draw_empty(out, RESULTANT_Y, MAX_RESULTANT, NO_SAMPLE);
+    }
+    let at = crash.result_at;
+    draw_timed(
+        out,
+        TIMED_ROW,
+        scale,
+        RESULTANT_Y,
+        MAX_RESULTANT,
+        at,
+        Milliseconds(at),
+    )
 }
 
 // Draws the rows of the end of the event and of the greatest changes.
@@ -206,10 +245,19 @@ fn draw_event(out: &mut Vec<u8>, scale: &Scale, crash: &Crash) -> Drawn
     requires { 300 ≤ scale.now.span }
     ensures { OnOk result (out.new.items ≡ out.old.items ++ event_rows scale.now crash.now) }
 {
-    draw_time(out, scale, END_Y, END_OF_EVENT, crash.end)?;
-    draw_extreme(out, scale, ALONG_Y, MAX_LONGITUDINAL, crash.max_along)?;
-    draw_extreme(out, scale, ACROSS_Y, MAX_LATERAL, crash.max_across)?;
-    draw_time(out, scale, RESULTANT_Y, MAX_RESULTANT, crash.result_at)
+    let end = crash.end;
+    draw_timed(
+        out,
+        TIMED_ROW,
+        scale,
+        END_Y,
+        END_OF_EVENT,
+        end,
+        Milliseconds(end),
+    )?;
+    draw_extreme(out, scale, ALONG_Y, MAX_LONGITUDINAL, crash, CarAxis::Along)?;
+    draw_extreme(out, scale, ACROSS_Y, MAX_LATERAL, crash, CarAxis::Across)?;
+    draw_resultant(out, scale, crash)
 }
 
 // Draws a line across the chart.
@@ -237,13 +285,10 @@ fn draw_rows(out: &mut Vec<u8>, scale: &Scale, crash: &Crash) -> Drawn
 fn put_head(out: &mut Vec<u8>, number: u64, crash: &Crash) -> Drawn
     ensures { OnOk result (out.new.items ≡ out.old.items ++ after_head number crash.now) }
 {
-    let (along, across) = (crash.max_along, crash.max_across);
-    let along_at = Number(u32::from(along.at));
-    let across_at = Number(u32::from(across.at));
-    let (along, across) = (Change(along.kmh), Change(across.kmh));
-    let (event, end) = (Count(number), Number(u32::from(crash.end)));
-    let parts = [event, along, along_at, across, across_at, end];
-    fill(out, AFTER_HEAD, &parts)
+    let along = greatest(crash, CarAxis::Along);
+    let across = greatest(crash, CarAxis::Across);
+    let end = Number(u32::from(crash.end));
+    fill(out, AFTER_HEAD, &[Count(number), along, across, end])
 }
 
 /// Draws the chart of the event with this number.

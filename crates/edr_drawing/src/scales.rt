@@ -28,7 +28,7 @@ pub const TIME_SLOTS: u32 = 20;
 
 /// From 0, the way of gains and that of losses of speed.
 #[derive(Clone, Copy)]
-pub enum Way {
+pub enum Direction {
     Up,
     Down,
 }
@@ -88,13 +88,13 @@ pub fn scale_top(step: u32, value: u32) -> u32
 }
 
 /// How far a change of speed is from 0 that way.
-pub fn reach_of(way: Way, change: i16) -> u32
+pub fn reach_of(way: Direction, change: i16) -> u32
     ensures reach { result ≡ reach_of way change }
     ensures range { result ≤ 32_768 }
 {
     let is_that_way = match way {
-        Way::Up => 0 <= change,
-        Way::Down => change < 0,
+        Direction::Up => 0 <= change,
+        Direction::Down => change < 0,
     };
     if is_that_way {
         u32::from(change.unsigned_abs())

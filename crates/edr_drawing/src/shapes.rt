@@ -56,6 +56,15 @@ pub const FIELD: &[u8] = br#"<rect x="{0}" y="{1}" width="{2}" height="{3}" clas
 pub const WORD: &[u8] = br#"<text x="{0}" y="{1}" class="{2}">{3}</text>
 "#;
 
+/// What a switch is at a moment, with the word left of it.
+pub const MOMENT: &[u8] = br#"<path class="{2}" d="M{0} {1}l11 15l-11 15l-11 -15z"/>
+<text x="{3}" y="{4}" class="e h b">{5}</text>
+"#;
+
+pub const LEFT_OF_MOMENT: u32 = 18;
+
+pub const MOMENT_WORD_DOWN: u32 = 25;
+
 /// A shape that stands where a value says: its place across and up comes first.
 #[derive(Clone, Copy)]
 pub enum Shape {
@@ -69,6 +78,8 @@ pub enum Shape {
     Field(u32, u32, u32, u32, Option<bool>),
     /// The word in such a field.
     Word(u32, u32, Option<bool>),
+    /// What a switch is at a moment; the top of its mark comes first.
+    Moment(u32, u16, Option<bool>),
 }
 
 fn put_shape(out: &mut Vec<u8>, shape: Shape) -> Drawn
@@ -92,7 +103,23 @@ fn put_shape(out: &mut Vec<u8>, shape: Shape) -> Drawn
             let word = Text(of_switch(shows, ON, OFF, NONE));
             fill(out, WORD, &[Number(x), Number(y), class, word])
         }
+        Shape::Moment(x, y, shows) => put_moment(out, x, y, shows),
     }
+}
+
+fn put_moment(out: &mut Vec<u8>, x: u32, y: u16, shows: Option<bool>) -> Drawn
+    ensures { OnOk result (out.new.items ≡ out.old.items ++ shape_bytes (Shape.Moment x y shows)) }
+{
+    let class = Text(of_switch(shows, ON, OFF, GAP));
+    let word = Text(of_switch(shows, ON, OFF, NONE));
+    let left = Number(x.saturating_sub(LEFT_OF_MOMENT));
+    let y = u32::from(y);
+    let down = Number(y + MOMENT_WORD_DOWN);
+    fill(
+        out,
+        MOMENT,
+        &[Number(x), Number(y), class, left, down, word],
+    )
 }
 
 /// Appends shapes.

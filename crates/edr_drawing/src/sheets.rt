@@ -4,6 +4,7 @@ ghost use Rattle.std.specs.Prelude.{◌≡◌, ◌++◌, ◌≤◌, OnOk};
 ghost use Rattle.edr_drawing.specs.Sheets.{count_if, facts, sheet, sheet_if, sheets};
 
 use crate::before::draw_before;
+use crate::by_time::put_by_time;
 use crate::reasons::put_reasons;
 use crate::rows::draw_after;
 use crate::tables::{put_elements, put_points_table};
@@ -14,12 +15,12 @@ use edr_record::{Key, Place, Profile, Record};
 use edr_report::number_shown;
 use std::alloc::Global;
 
-pub const SHEET_HEAD: &[u8] = br#"<section id="e{0}" aria-labelledby="e{0}h">
+pub const SHEET_HEAD: &[u8] = br#"<section id="e{0}" style="page:e{0}" aria-labelledby="e{0}h">
 <div class="head"><h2 id="e{0}h">Event {0}</h2><p>Complete file recorded: <b>{1}</b></p></div>
 "#;
 
 pub const FACTS: &[u8] =
-    br#"<ul class="facts"><li>Ignition cycle <b>{0}</b></li><li>Time zero <b>{1} ms</b></li><li>Bank <b>{2}</b></li><li>Deployment event: <b>{3}</b></li><li>Pre-crash profile: <b>{4}</b></li><li>Place in crash: <b>{5}</b></li></ul>
+    br#"<ul class="facts"><li>Ignition cycle <b>{0}</b></li><li>Time zero <b>{1} ms</b></li><li>Bank <b>{2}</b></li><li>Locked by an air bag or curtain: <b>{3}</b></li><li>Pre-crash profile: <b>{4}</b></li><li>Place in crash: <b>{5}</b></li></ul>
 "#;
 
 pub const SHEET_FOOT: &[u8] =
@@ -78,6 +79,7 @@ fn put_sheet(
     draw_after(out, number, &event.crash)?;
     put_points_table(out, &event.crash)?;
     put_elements(out, alloc, number, bank, event)?;
+    put_by_time(out, number, pre)?;
     fill(out, SHEET_FOOT, &[Count(number), Digest(*digest)])
 }
 

@@ -3,10 +3,10 @@
 ghost use Rattle.std.specs.Prelude.{◌≡◌, ◌++◌, ◌≤◌, ◌<◌, ◌+◌, ◌*◌, [], OnOk, IfOk, length, flat_map, map};
 ghost use Rattle.edr_image.specs.Reports.{report_of};
 ghost use Rattle.edr_report.specs.Report.{event_lines, run_lines};
-ghost use Rattle.edr_drawing.specs.Tables.{row, time_cells, change_cell, change_row, points_table, line_row, rows_bytes, elements_table, run_table};
+ghost use Rattle.edr_drawing.specs.Tables.{axis_cells, change_cell, change_row, elements_bytes, elements_table, is_one_of, line_row, points_table, row, row_of, rows_bytes, run_table, time_cells};
 
-use crate::after::points_of;
-use crate::template::Filling::{Change, Number};
+use crate::axes::{CarAxis, NO_SAMPLE, is_silent, points_of};
+use crate::template::Filling::{Change, Number, Text};
 use crate::template::{Drawn, fill, put};
 use edr_image::CycleReport;
 use edr_record::{Crash, POINT_STEP, Record, point_count};
@@ -15,6 +15,11 @@ use std::alloc::Global;
 
 /// The line of a report before which a second table begins.
 pub const SECOND_TABLE: &[u8] = b"delta-V lateral, km/h";
+
+/// The lines of a report whose lists stand in the table by time, and what stands in their place.
+pub const LISTS: [&[u8]; 3] = [b"speed, km/h", b"throttle, %", b"service brake"];
+
+pub const IN_TABLE: &[u8] = b"in the table by time";
 
 /// What stands before the name of a line, between it and the value, and after it.
 pub const LINE_NAME: &[u8] = br#"<tr><th scope="row">"#;
@@ -37,6 +42,9 @@ pub const ALONG_ROW: &[u8] = br#"<tr><th scope="row">longitudinal</th>"#;
 pub const ACROSS_ROW: &[u8] = br#"<tr><th scope="row">lateral</th>"#;
 
 pub const CELL: &[u8] = b"<td>{0}</td>";
+
+/// The cell of an axis without any sample, as wide as those of its points.
+pub const SILENT_CELL: &[u8] = br#"<td colspan="{0}" class="l">{1}</td>"#;
 
 pub const ROW_END: &[u8] = b"</tr>\n";
 
@@ -64,11 +72,31 @@ struct Rows {
 }
 
 impl Lines for Rows {
-    ghost use Rattle.edr_drawing.specs.Tables.{rows_bytes, line_row};
+    ghost use Rattle.edr_drawing.specs.Tables.{rows_bytes, row_of};
 
     ghost ready = { λ _. Unit {0} };
 
     ghost bytes = { rows_bytes };
+
+    ghost form = { row_of };
+
+    fn line(&mut self, _block: u64, name: &[u8], value: &[u8]) -> Drawn {
+        put_row(&mut self.bytes, name, value)
+    }
+}
+
+/// The rows of the lines of an event, without the lists that the table by time has.
+#[derive(Drop)]
+struct Elements {
+    bytes: Vec<u8>,
+}
+
+impl Lines for Elements {
+    ghost use Rattle.edr_drawing.specs.Tables.{elements_bytes, line_row};
+
+    ghost ready = { λ _. Unit {0} };
+
+    ghost bytes = { elements_bytes };
 
     ghost form = { line_row };
 
@@ -76,8 +104,19 @@ impl Lines for Rows {
         if name == SECOND_TABLE {
             put(&mut self.bytes, NEXT_TABLE)?;
         }
-        put_row(&mut self.bytes, name, value)
+        if is_list(name, &LISTS) {
+            put_row(&mut self.bytes, name, IN_TABLE)
+        } else {
+            put_row(&mut self.bytes, name, value)
+        }
     }
+}
+
+// Whether a line has one of these names.
+fn is_list(name: &[u8], names: &[&'static [u8]; 3]) -> bool
+    ensures { result ≡ is_one_of (λ w. w.now) name.now names.now }
+{
+    name == names[0] || name == names[1] || name == names[2]
 }
 
 // Appends the row of a line.
@@ -112,12 +151,23 @@ fn put_cells(out: &mut Vec<u8>, points: &[i16]) -> Drawn
     Ok(())
 }
 
+// Appends the cells of an axis, or that it has no sample.
+fn put_axis_cells(out: &mut Vec<u8>, crash: &Crash, axis: CarAxis) -> Drawn
+    ensures { OnOk result (out.new.items ≡ out.old.items ++ axis_cells crash.now axis) }
+{
+    if is_silent(crash, axis) {
+        let count = Number(point_count(crash.end) as u32);
+        return fill(out, SILENT_CELL, &[count, Text(NO_SAMPLE)]);
+    }
+    put_cells(out, points_of(crash, axis))
+}
+
 // Appends the row of an axis.
-fn put_axis(out: &mut Vec<u8>, start: &[u8], points: &[i16]) -> Drawn
-    ensures { OnOk result (out.new.items ≡ out.old.items ++ change_row start.now points.now) }
+fn put_axis(out: &mut Vec<u8>, start: &[u8], crash: &Crash, axis: CarAxis) -> Drawn
+    ensures { OnOk result (out.new.items ≡ out.old.items ++ change_row start.now crash.now axis) }
 {
     put(out, start)?;
-    put_cells(out, points)?;
+    put_axis_cells(out, crash, axis)?;
     put(out, ROW_END)
 }
 
@@ -132,8 +182,8 @@ pub fn put_points_table(out: &mut Vec<u8>, crash: &Option<Crash>) -> Drawn
     put(out, POINTS_START)?;
     put_times(out, point_count(crash.end) as u32)?;
     put(out, POINTS_BODY)?;
-    put_axis(out, ALONG_ROW, points_of(crash.end, &crash.along))?;
-    put_axis(out, ACROSS_ROW, points_of(crash.end, &crash.across))?;
+    put_axis(out, ALONG_ROW, crash, CarAxis::Along)?;
+    put_axis(out, ACROSS_ROW, crash, CarAxis::Across)?;
     put(out, TABLE_END)
 }
 
@@ -148,7 +198,7 @@ pub fn put_elements(
 ) -> Drawn
     ensures { OnOk result (out.new.items ≡ out.old.items ++ elements_table number bank event.now) }
 {
-    let empty = Rows {
+    let empty = Elements {
         bytes: Vec::new(alloc),
     };
     let rows = print_event(alloc, empty, number, bank, event)?;

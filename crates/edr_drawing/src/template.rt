@@ -4,9 +4,10 @@
 //! `specs/` name the templates of `src/`, so each text of a page stands once.
 
 ghost use Rattle.std.specs.Prelude.{◌≡◌, ◌++◌, ◌≤◌, OnOk, map};
-ghost use Rattle.edr_drawing.specs.Template.{byte_bytes, digest_hex, either, filled, filling_bytes, fixed, hex_byte, hex_digit, of_profile, of_switch, place_words, seconds};
+ghost use Rattle.edr_report.specs.Words.{extreme_words};
+ghost use Rattle.edr_drawing.specs.Template.{before_zero, byte_bytes, digest_hex, either, filled, filling_bytes, fixed, hex_byte, hex_digit, of_profile, of_switch, place_words, seconds};
 
-use edr_record::{Place, Profile};
+use edr_record::{Extreme, Place, Profile};
 use edr_report::tenths_of;
 use itoa::Buffer;
 use std::alloc::AllocError as OutOfMemory;
@@ -14,9 +15,14 @@ use std::alloc::AllocError as OutOfMemory;
 /// Whether there was memory for what is appended.
 pub type Drawn = Result<(), OutOfMemory>;
 
-pub const FIRST: &[u8] = b"first";
+pub const FIRST: &[u8] = b"first or only";
 
-pub const SECOND_AFTER: &[u8] = b"second, after ";
+pub const SECOND: &[u8] = b"second, ";
+
+pub const AFTER_FIRST: &[u8] = b" s after the first";
+
+/// How many bytes of a digest are its beginning.
+pub const BEGINNING: usize = 8;
 
 /// What goes into a hole of a template.
 #[derive(Clone, Copy)]
@@ -32,10 +38,14 @@ pub enum Filling {
     /// The place of an event in its crash.
     Place(Place),
     Milliseconds(u16),
-    /// The time of a greatest change, and the change.
-    Extreme(u16, i16),
+    /// Tenths of a second before time zero, as seconds.
+    Before(u64),
+    /// A greatest change, with its time.
+    Extreme(Extreme),
     /// A digest, in hexadecimal digits.
     Digest([u8; 32]),
+    /// The beginning of a digest.
+    Beginning([u8; 32]),
 }
 
 /// One of two texts.
@@ -99,20 +109,29 @@ fn put_place(out: &mut Vec<u8>, place: Place) -> Drawn
     match place {
         Place::First => out.extend_from_slice(FIRST),
         Place::Second { after } => {
-            out.extend_from_slice(SECOND_AFTER)?;
+            out.extend_from_slice(SECOND)?;
             put_seconds(out, tenths_of(after))?;
-            out.extend_from_slice(b" s")
+            out.extend_from_slice(AFTER_FIRST)
         }
     }
 }
 
-fn put_extreme(out: &mut Vec<u8>, at: u16, kmh: i16) -> Drawn
-    ensures { OnOk result (out.new.items ≡ out.old.items ++ filling_bytes (Filling.Extreme at kmh)) }
+fn put_extreme(out: &mut Vec<u8>, extreme: Extreme) -> Drawn
+    ensures { OnOk result (out.new.items ≡ out.old.items ++ extreme_words extreme) }
 {
-    put_number(out, u64::from(at))?;
-    out.extend_from_slice(b" ms, ")?;
-    put_change(out, kmh)?;
-    out.extend_from_slice(b" km/h")
+    put_change(out, extreme.kmh)?;
+    out.extend_from_slice(b" km/h at ")?;
+    put_number(out, u64::from(extreme.at))?;
+    out.extend_from_slice(b" ms")
+}
+
+fn put_before(out: &mut Vec<u8>, tenths: u64) -> Drawn
+    ensures { OnOk result (out.new.items ≡ out.old.items ++ before_zero tenths) }
+{
+    if tenths != 0 {
+        out.extend_from_slice(b"-")?;
+    }
+    put_seconds(out, tenths)
 }
 
 fn hex_digit(n: u8) -> u8
@@ -128,7 +147,7 @@ fn put_hex(out: &mut Vec<u8>, byte: u8) -> Drawn
     out.extend_from_slice(&[hex_digit(byte / 16), hex_digit(byte % 16)])
 }
 
-fn put_digest(out: &mut Vec<u8>, digest: &[u8; 32]) -> Drawn
+fn put_digest(out: &mut Vec<u8>, digest: &[u8]) -> Drawn
     ensures { OnOk result (out.new.items ≡ out.old.items ++ digest_hex digest.now) }
 {
     for byte in digest {
@@ -155,8 +174,10 @@ fn put_filling(out: &mut Vec<u8>, filling: Filling) -> Drawn
             put_number(out, u64::from(time))?;
             out.extend_from_slice(b" ms")
         }
-        Filling::Extreme(at, kmh) => put_extreme(out, at, kmh),
+        Filling::Before(tenths) => put_before(out, tenths),
+        Filling::Extreme(extreme) => put_extreme(out, extreme),
         Filling::Digest(digest) => put_digest(out, &digest),
+        Filling::Beginning(digest) => put_digest(out, &digest[..BEGINNING]),
     }
 }
 
