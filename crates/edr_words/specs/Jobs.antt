@@ -8,7 +8,7 @@ use Rattle.edr_image.specs.declared.places.TheConstants.{FEWEST_BANKS, MOST_BANK
 use Rattle.edr_words.specs.declared.Form.{Form}
 use Rattle.edr_words.specs.declared.Form.TheVariants.{Text, Table}
 use Rattle.edr_words.specs.declared.Job.{Job}
-use Rattle.edr_words.specs.declared.Job.TheVariants.{Format, Replay, Report, Drive, Generate, Large, Migrate}
+use Rattle.edr_words.specs.declared.Job.TheVariants.{Format, Replay, Report, Drive, Generate, Large, Migrate, Dialog, Fleet}
 use Rattle.edr_words.specs.Arguments.{PlainText, at_most_one, is_plain, one_or_two, two}
 
 -- ---- what a word stands for
@@ -89,10 +89,16 @@ generate_job arguments = option_map (λ t. Generate t.0 t.1) (trace_of arguments
 abbrev pub large_job : Option (PlainText × PlainText) → Option Job
 large_job arguments = option_map (λ t. Large t.0 t.1) (trace_of arguments)
 
--- no argument
-abbrev pub migrate_job : List PlainText → Option Job
-migrate_job [] = Some Migrate
-migrate_job (argument ∷ more) = None
+-- no argument, for this job
+abbrev pub bare_job : Job → List PlainText → Option Job
+bare_job job [] = Some job
+bare_job job (argument ∷ more) = None
+
+-- W
+abbrev pub fleet_job : Option (Option PlainText) → Option Job
+fleet_job None = None
+fleet_job (Some None) = None
+fleet_job (Some (Some workers)) = option_map (λ w. Fleet w) (within 1 8 workers)
 
 -- ---- the table of words
 
@@ -104,7 +110,9 @@ job_after word arguments =
     else if bytes_eq word (codes "drive") then drive_job (one_or_two arguments)
     else if bytes_eq word (codes "generate") then generate_job (two arguments)
     else if bytes_eq word (codes "large") then large_job (two arguments)
-    else if bytes_eq word (codes "migrate") then migrate_job arguments
+    else if bytes_eq word (codes "migrate") then bare_job Migrate arguments
+    else if bytes_eq word (codes "dialog") then bare_job Dialog arguments
+    else if bytes_eq word (codes "fleet") then fleet_job (at_most_one arguments)
     else None
 
 -- the job that a list of words names, if it names one; a word that begins with `-` is in no line of the table
@@ -121,3 +129,5 @@ IsWithin (Drive workers form) = (1 ≤ workers) × (workers ≤ 8)
 IsWithin (Generate number cycles) = (1 ≤ cycles) × (cycles ≤ 60)
 IsWithin (Large number cycles) = (1 ≤ cycles) × (cycles ≤ 60)
 IsWithin Migrate = Unit {0}
+IsWithin Dialog = Unit {0}
+IsWithin (Fleet workers) = (1 ≤ workers) × (workers ≤ 8)

@@ -2,7 +2,7 @@
 ghost use Rattle.std.specs.Prelude.{◌≡◌, ◌≤◌, Some, true, map, option_map, string_bytes, IfOk, IfSome};
 ghost use Rattle.std.specs.List.{list_all};
 ghost use Rattle.edr_words.specs.Arguments.{at_most_one, is_plain, one_or_two, two};
-ghost use Rattle.edr_words.specs.Jobs.{IsWithin, choice_in, drive_job, form_in, form_of, format_job, generate_job, job_after, large_job, migrate_job, number_in, replay_job, report_job, trace_of, within};
+ghost use Rattle.edr_words.specs.Jobs.{IsWithin, bare_job, choice_in, drive_job, fleet_job, form_in, form_of, format_job, generate_job, job_after, large_job, number_in, replay_job, report_job, trace_of, within};
 
 use crate::arguments::{at_most_one, one_or_two, two};
 use crate::{Choice, Form, Header, Job};
@@ -27,7 +27,9 @@ pub(crate) fn job_after(
         "drive" => drive_job(alloc, arguments),
         "generate" => generate_job(alloc, arguments),
         "large" => large_job(alloc, arguments),
-        "migrate" => Ok(migrate_job(arguments)),
+        "migrate" => Ok(bare_job(Job::Migrate, arguments)),
+        "dialog" => Ok(bare_job(Job::Dialog, arguments)),
+        "fleet" => fleet_job(alloc, arguments),
         _ => Ok(None),
     }
 }
@@ -104,14 +106,27 @@ fn large_job(alloc: Global, arguments: &[String]) -> Result<Option<Job>, OutOfMe
     }
 }
 
-// `migrate`
-fn migrate_job(arguments: &[String]) -> Option<Job>
-    ensures value { result ≡ migrate_job (map string_bytes arguments.now) }
+// `migrate` and `dialog`, which take no argument
+fn bare_job(job: Job, arguments: &[String]) -> Option<Job>
+    requires within { IsWithin job }
+    ensures value { result ≡ bare_job job (map string_bytes arguments.now) }
     ensures within { IfSome result IsWithin }
 {
     match arguments {
-        [] => Some(Job::Migrate),
+        [] => Some(job),
         _ => None,
+    }
+}
+
+// `fleet W`
+fn fleet_job(alloc: Global, arguments: &[String]) -> Result<Option<Job>, OutOfMemory>
+    requires plain { list_all is_plain (map string_bytes arguments.now) ≡ true }
+    ensures value { IfOk result (λ j. j ≡ fleet_job (at_most_one (map string_bytes arguments.now))) }
+    ensures within { IfOk result (λ j. IfSome j IsWithin) }
+{
+    match at_most_one(alloc, "fleet", arguments)? {
+        Some(Some(workers)) => Ok(fleet_of(workers)),
+        Some(None) | None => Ok(None),
     }
 }
 
@@ -125,6 +140,15 @@ fn new_image(banks: &str, choice: &str) -> Option<Job>
     Some(Job::Format {
         header: Header { banks, choice },
     })
+}
+
+// The report of a fleet by so many workers.
+fn fleet_of(workers: &str) -> Option<Job>
+    ensures value { result ≡ fleet_job (Some (Some workers.now)) }
+    ensures within { IfSome result IsWithin }
+{
+    let workers = within(1, 8, workers)? as u8;
+    Some(Job::Fleet { workers })
 }
 
 // A run of so many workers, and its report in this form.

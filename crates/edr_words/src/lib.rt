@@ -34,4 +34,8 @@ pub enum Job {
     Large { number: u64, cycles: u32 },
     /// `migrate`: takes over the records of an image of version 1.
     Migrate,
+    /// `dialog`: replies to requests about what the image holds.
+    Dialog,
+    /// `fleet W`: reports what many images hold, by so many workers, 1 to 8.
+    Fleet { workers: u8 },
 }
