@@ -10,4 +10,5 @@ pub mod DriveLemmas
 pub mod DispatchLemmas
 pub mod TakingLemmas
 pub mod MigrationLemmas
+pub mod DialogLemmas
 mod FaultVectors

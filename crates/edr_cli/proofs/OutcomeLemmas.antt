@@ -1,5 +1,5 @@
 -- What each word comes to where memory ran out before the words were read.
-use Rattle.std.proofs.Common.{refl, inl, ℕ, List}
+use Rattle.std.proofs.Common.{refl, inl, inr, ℕ, List}
 use Rattle.edr_device.specs.declared.device.Nvm as device
 use Rattle.edr_device.specs.declared.stream.Sink as sink
 use Rattle.edr_device.specs.declared.stream.Source as stream
@@ -12,6 +12,7 @@ use Rattle.edr_cli.specs.declared.fault.Fault.{Fault}
 use Rattle.edr_cli.specs.declared.fault.Fault.TheVariants as fault
 use Rattle.edr_cli.specs.declared.status.Status.{Status}
 use Rattle.edr_cli.specs.declared.status.Status.TheVariants as status
+use Rattle.edr_cli.specs.Dialogs.{Talks}
 use Rattle.edr_cli.specs.Endings.{Gains, IsServed}
 use Rattle.edr_cli.specs.Faults.{fault_line}
 use Rattle.edr_cli.specs.Migrations.{IsPartlyTaken}
@@ -63,4 +64,16 @@ pub makes_short : {K : Type 0} (k : sink.Ghosts K) (P : List ℕ → Type 0) (en
 makes_short k P end old new g = record {
   ends = ends_fault k P _ fault.OutOfMemory end old new refl g;
   complete = λ quiet. served_fault k fault.OutOfMemory end old new refl g quiet;
+}
+
+pub talks_short : {S K D : Type 0} (s : stream.Ghosts S) (k : sink.Ghosts K) (d : device.Ghosts D) (end : Status) (source : S) (old new : K) (nvm : D)
+    → Short k end old new → Talks s k d end source source old new nvm nvm
+talks_short s k d end source old new nvm g = record {
+  text = fault_line fault.OutOfMemory;
+  text_is = inr (record { fault = fault.OutOfMemory; cause = refl; end_is = g.answers; text_is = refl; untaken = refl });
+  whole = λ fine. (g.whole fine).1;
+  part = λ failed. (g.part failed).0;
+  stays = λ bytes image quiet left. quiet_leaves bytes _ _ image quiet left;
+  keeps = λ quiet_device. refl;
+  complete = λ image bytes told none left few well calm quiet_device quiet. served_fault k fault.OutOfMemory end old new refl g quiet;
 }

@@ -88,6 +88,7 @@ number_of status.Spent = 8
 number_of status.OutOfMemory = 9
 number_of status.TooLong = 10
 number_of status.OldImage = 11
+number_of status.Dialog = 12
 
 -- ---- the fault of a call, from that of what it called
 

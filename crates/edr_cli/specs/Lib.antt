@@ -10,3 +10,4 @@ pub mod Causes
 pub mod Endings
 pub mod Outcomes
 pub mod Steps
+pub mod Dialogs

@@ -3,7 +3,7 @@ use Rattle.std.specs.Prelude.{◌≡◌, ℕ, Option, Some, None, List, ⊤}
 use Rattle.edr_image.specs.declared.Header.{Header}
 use Rattle.edr_words.specs.declared.Form.{Form}
 use Rattle.edr_words.specs.declared.Job.{Job}
-use Rattle.edr_words.specs.declared.Job.TheVariants.{Format, Replay, Report, Drive, Generate, Large, Migrate}
+use Rattle.edr_words.specs.declared.Job.TheVariants.{Format, Replay, Report, Drive, Generate, Large, Migrate, Dialog, Fleet}
 use Rattle.edr_words.specs.Jobs.{job_of}
 
 -- they ask for a new image with this header
@@ -30,12 +30,17 @@ AreLargeWords number cycles words = job_of words ≡ Some (Large number cycles)
 abbrev pub AreMigrateWords : List (List ℕ) → Type 0
 AreMigrateWords words = job_of words ≡ Some Migrate
 
+-- they ask for replies about what the image holds
+abbrev pub AreDialogWords : List (List ℕ) → Type 0
+AreDialogWords words = job_of words ≡ Some Dialog
+
 -- ---- other words
 
 -- the job, if there is one, is none that is served
 abbrev pub IsOther : Option Job → Type 0
 IsOther None = ⊤
 IsOther (Some (Drive workers form)) = ⊤
+IsOther (Some (Fleet workers)) = ⊤
 IsOther other = ⊥
 
 -- they ask for nothing that is served
@@ -46,9 +51,10 @@ AreOther words = IsOther (job_of words)
 abbrev pub IsWithoutSource : Option Job → Type 0
 IsWithoutSource (Some (Replay form)) = ⊥
 IsWithoutSource (Some Migrate) = ⊥
+IsWithoutSource (Some Dialog) = ⊥
 IsWithoutSource other = ⊤
 
--- they ask for nothing that reads a trace or an old image
+-- they ask for nothing that reads a trace, an old image or requests
 abbrev pub ReadNothing : List (List ℕ) → Type 0
 ReadNothing words = IsWithoutSource (job_of words)
 
@@ -58,6 +64,7 @@ IsWithoutMemory (Some (Format header)) = ⊥
 IsWithoutMemory (Some (Replay form)) = ⊥
 IsWithoutMemory (Some (Report form)) = ⊥
 IsWithoutMemory (Some Migrate) = ⊥
+IsWithoutMemory (Some Dialog) = ⊥
 IsWithoutMemory other = ⊤
 
 -- they ask for nothing that uses one

@@ -6,10 +6,12 @@ ghost use Rattle.edr_device.specs.Told.{Told};
 ghost use Rattle.edr_device.specs.Transfer.{GivesAtMost};
 ghost use Rattle.edr_spell.specs.Spell.{largest_trace};
 ghost use Rattle.edr_cli.specs.Causes.{IsUsageCause};
+ghost use Rattle.edr_cli.specs.Dialogs.{ServesDialog};
 ghost use Rattle.edr_cli.specs.Endings.{TellsCut, TellsWhole};
 ghost use Rattle.edr_cli.specs.Outcomes.{ServesFormat, ServesGenerate, ServesLarge, ServesMigrate, ServesReplay, ServesReport};
 ghost use Rattle.edr_cli.specs.Words.{AreOther, ReadNothing, UseNoMemory};
 
+use crate::dialog::serve_dialog;
 use crate::endings::tell;
 use crate::fault::Fault;
 use crate::format::serve_format;
@@ -23,14 +25,15 @@ use edr_device::{Nvm, Sink, Source};
 use edr_words::{Job, Words};
 use std::alloc::{AllocError as OutOfMemory, Global};
 
-/// Serves the words `format B C`, `replay [text|csv]`, `report [text|csv]`, `generate N M`, `large N M` and `migrate`.
+/// Serves the words `format B C`, `replay [text|csv]`, `report [text|csv]`, `generate N M`, `large N M`, `migrate` and `dialog`.
 ///
 /// `replay` reads a trace from the source, runs its ignition cycles over the device, each up to its planned power cut, and
 /// writes what was acknowledged and every record that the device holds then. `report` writes the records that the device
 /// holds. `format` makes a new image on the device, and writes the line that tells of it. `generate` writes a trace that is
 /// made from a number, and `large` counts what its cycles come to over a memory of their own. `migrate` reads an image of
-/// version 1 from the source, and makes one on the device that holds the same records. A fault writes its one line and nothing
-/// else.
+/// version 1 from the source, and makes one on the device that holds the same records. `dialog` reads requests from the source,
+/// and writes the reply to each before it reads on. A fault writes its one line and nothing else, but for the replies of a dialog
+/// before it.
 pub fn command<S: Source, K: Sink, N: Nvm>(
     alloc: Global,
     words: &Words,
@@ -47,15 +50,15 @@ pub fn command<S: Source, K: Sink, N: Nvm>(
     ensures sink_later { K.faults sink.old ≤ K.faults sink.new }
     ensures write_fault { result ≡ Status.WriteFault → Rose (K.faults sink.old) (K.faults sink.new) }
 
-    // Other words are a fault of usage, unless memory runs out. But by `replay` nothing is read, and a word that needs no device
-    // leaves it as it was.
+    // Other words are a fault of usage, unless memory runs out. A word that needs no source takes nothing of it, and a word that
+    // needs no device leaves it as it was.
     ensures usage { AreOther words.now → TellsWhole K.Sink IsUsageCause result sink.old sink.new }
     ensures usage_part { AreOther words.now → TellsCut K.Sink IsUsageCause result sink.old sink.new }
     ensures reads { ReadNothing words.now → source.new ≡ source.old }
     ensures uses { UseNoMemory words.now → nvm.new ≡ nvm.old }
 
     // Each word by its status. With Ok the sink gained exactly its text, with another status exactly the line of a fault that has
-    // its cause, and where a write failed a part of either.
+    // its cause, and where a write failed a part of either. Only `dialog` may have replies before that line, or Dialog without one.
     //
     // `replay`: with Ok the report of a run of the cycles that the source spelled, from what the device told at first to what it
     // holds, with nothing pending. What holds of each run stands with it: each record is from its own window and cycle, and no
@@ -71,6 +74,8 @@ pub fn command<S: Source, K: Sink, N: Nvm>(
     ensures large { ServesLarge K.Sink words.now result sink.old sink.new }
     // `migrate`: a line. The device had no image and holds one that says what the old image says, and a refusal leaves its bytes.
     ensures migrate { ServesMigrate S.Source K.Sink N.Nvm words.now result source.old source.new sink.old sink.new nvm.old nvm.new }
+    // `dialog`: the replies to the bytes that were taken, over what the device holds, and its bytes stay.
+    ensures dialog { ServesDialog S.Source K.Sink N.Nvm words.now result source.old source.new sink.old sink.new nvm.old nvm.new }
 {
     let job = match words.job(alloc) {
         Ok(job) => job,
@@ -83,6 +88,7 @@ pub fn command<S: Source, K: Sink, N: Nvm>(
         Some(Job::Generate { number, cycles }) => serve_generate(sink, number, cycles),
         Some(Job::Large { number, cycles }) => serve_large(alloc, sink, number, cycles),
         Some(Job::Migrate) => serve_migrate(alloc, source, sink, nvm),
-        Some(Job::Drive { .. }) | None => tell(sink, Fault::Usage),
+        Some(Job::Dialog) => serve_dialog(alloc, source, sink, nvm),
+        Some(Job::Drive { .. } | Job::Fleet { .. }) | None => tell(sink, Fault::Usage),
     }
 }

@@ -3,6 +3,7 @@
 #![tactic(auto)]
 
 mod commands;
+mod dialog;
 mod drives;
 mod endings;
 mod fault;

@@ -7,7 +7,7 @@ ghost use Rattle.edr_gates.specs.Found.{IsFound, Says};
 ghost use Rattle.edr_banks.specs.Opening.{view_when_opened};
 ghost use Rattle.edr_cli.specs.Causes.{IsImageCause};
 ghost use Rattle.edr_cli.specs.Outcomes.{ShowsReport};
-ghost use Rattle.edr_cli.specs.Outside.{OfMemory, memory};
+ghost use Rattle.edr_cli.specs.Outside.{NoFault, OfMemory, memory};
 ghost use Rattle.edr_cli.specs.Reports.{ReportIs, report_in};
 ghost use Rattle.edr_cli.specs.Steps.{ReportsHeld};
 ghost use Rattle.edr_cli.specs.Crashes.{KeepsBytes};
@@ -28,6 +28,7 @@ pub(crate) fn open_settled<N: Nvm>(alloc: Global, nvm: &mut N) -> Result<Banks, 
         → At N.Nvm (IsFound (view_when_opened b)) nvm.new image) }
     ensures cause { IfErr result (OfMemory N.Nvm IsImageCause nvm.old nvm.new) }
     ensures stays { KeepsBytes N.Nvm nvm.old nvm.new }
+    ensures keeps { NoFault N.faults nvm.old nvm.new → N.content nvm.new ≡ N.content nvm.old }
     ensures lent { GoesOn N.Nvm nvm.old nvm.new }
 {
     nvm.sync()?;

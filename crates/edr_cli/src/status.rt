@@ -2,7 +2,7 @@
 ghost use Rattle.std.specs.Prelude.{◌≡◌};
 ghost use Rattle.edr_cli.specs.Faults.{number_of};
 
-/// How a call ends. All but `Ok` and `WriteFault` write the one line of their fault.
+/// How a call ends. All but `Ok`, `WriteFault` and `Dialog` write the line of their fault: alone, or after the replies of a dialog.
 #[derive(Clone, Copy, Debug, PartialEq, Eq)]
 pub enum Status {
     /// The source was read to its end, where the words ask for that, and the text was written whole.
@@ -27,10 +27,12 @@ pub enum Status {
     TooLong,
     /// The old image that the source gave is refused.
     OldImage,
+    /// A dialog refused a kind or a length, or its stream ended inside a frame. Its replies were written, and no line.
+    Dialog,
 }
 
 impl Status {
-    /// The exit status: 0 for `Ok`, and from 2 to 11 for the others in order.
+    /// The exit status: 0 for `Ok`, and from 2 to 12 for the others in order.
     pub fn code(&self) -> u8
         ensures { result ≡ number_of self.now }
     {
@@ -46,6 +48,7 @@ impl Status {
             Status::OutOfMemory => 9,
             Status::TooLong => 10,
             Status::OldImage => 11,
+            Status::Dialog => 12,
         }
     }
 }
