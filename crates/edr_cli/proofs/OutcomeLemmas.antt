@@ -15,6 +15,7 @@ use Rattle.edr_cli.specs.declared.status.Status.TheVariants as status
 use Rattle.edr_cli.specs.Dialogs.{Talks}
 use Rattle.edr_cli.specs.Endings.{Gains, IsServed}
 use Rattle.edr_cli.specs.Faults.{fault_line}
+use Rattle.edr_cli.specs.Fleets.{TellsFleet}
 use Rattle.edr_cli.specs.Migrations.{IsPartlyTaken}
 use Rattle.edr_cli.specs.Outcomes.{Formats, MakesText, Migrates, Runs, ShowsReport}
 use Rattle.edr_cli.specs.Outside.{Input, Memory, input, memory}
@@ -76,4 +77,11 @@ talks_short s k d end source old new nvm g = record {
   stays = λ bytes image quiet left. quiet_leaves bytes _ _ image quiet left;
   keeps = λ quiet_device. refl;
   complete = λ image bytes told none left few well calm quiet_device quiet. served_fault k fault.OutOfMemory end old new refl g quiet;
+}
+
+pub fleet_short : {S K : Type 0} (s : stream.Ghosts S) (k : sink.Ghosts K) (end : Status) (source : S) (old new : K) → Short k end old new → TellsFleet s k end source source old new
+fleet_short s k end source old new g = record {
+  at_end = λ ok. absurd (not_ok fault.OutOfMemory end ok g.answers);
+  ends = ends_fault k _ _ fault.OutOfMemory end old new tt g;
+  complete = λ told calm quiet. served_fault k fault.OutOfMemory end old new refl g quiet;
 }

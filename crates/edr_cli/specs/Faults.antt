@@ -9,7 +9,7 @@ use Rattle.edr_image.specs.declared.OldRefused.{OldRefused}
 use Rattle.edr_image.specs.declared.OldRefused.TheVariants as old
 use Rattle.edr_report.specs.ImageWords.{header_words, short_words}
 use Rattle.edr_cli.specs.declared.fault.Fault.{Fault}
-use Rattle.edr_cli.specs.declared.fault.Fault.TheVariants.{Usage, Trace, Read, Store, Short, Header, Formatted, Spent, OutOfMemory, TooLong, Old}
+use Rattle.edr_cli.specs.declared.fault.Fault.TheVariants.{Usage, Trace, Read, Store, Short, Header, Formatted, Spent, OutOfMemory, TooLong, Old, Fleet}
 use Rattle.edr_cli.specs.declared.status.Status.{Status}
 use Rattle.edr_cli.specs.declared.status.Status.TheVariants as status
 use Rattle.edr_device.specs.declared.transfer.TakeFault.{TakeFault}
@@ -22,6 +22,8 @@ use Rattle.edr_banks.specs.declared.FormatFault.{FormatFault}
 use Rattle.edr_banks.specs.declared.FormatFault.TheVariants as format
 use Rattle.edr_migrate.specs.declared.MigrateFault.{MigrateFault}
 use Rattle.edr_migrate.specs.declared.MigrateFault.TheVariants as migrate
+use Rattle.edr_fleet.specs.declared.frames.FleetRefused.{FleetRefused}
+use Rattle.edr_fleet.specs.declared.frames.FleetRefused.TheVariants as fleet
 use Rattle.edr_cycle.specs.declared.started.StartFault.{StartFault}
 use Rattle.edr_cycle.specs.declared.started.StartFault.TheVariants as start
 
@@ -56,6 +58,7 @@ fault_words Spent = codes "spent"
 fault_words OutOfMemory = codes "out of memory"
 fault_words TooLong = codes "too long"
 fault_words (Old e) = codes "old image " ++ old_words e
+fault_words (Fleet offset) = codes "fleet truncated at " ++ decimal offset
 
 -- the line of a fault
 abbrev pub fault_line : Fault → List ℕ
@@ -74,6 +77,7 @@ status_of Spent = status.Spent
 status_of OutOfMemory = status.OutOfMemory
 status_of TooLong = status.TooLong
 status_of (Old e) = status.OldImage
+status_of (Fleet offset) = status.Fleet
 
 -- its number
 abbrev pub number_of : Status → ℕ
@@ -89,6 +93,7 @@ number_of status.OutOfMemory = 9
 number_of status.TooLong = 10
 number_of status.OldImage = 11
 number_of status.Dialog = 12
+number_of status.Fleet = 14
 
 -- ---- the fault of a call, from that of what it called
 
@@ -124,6 +129,11 @@ fault_of_migrate (migrate.OldBank bank offset found) = Old (old.Bank bank offset
 fault_of_migrate (migrate.Short size needed) = Short size needed
 fault_of_migrate migrate.Formatted = Formatted
 fault_of_migrate migrate.StoreFault = Store
+
+-- there is no report of a fleet
+abbrev pub fault_of_fleet : FleetRefused → Fault
+fault_of_fleet (fleet.Truncated offset) = Fleet offset
+fault_of_fleet fleet.OutOfMemory = OutOfMemory
 
 -- a run ended early
 abbrev pub fault_of_start : StartFault → Fault

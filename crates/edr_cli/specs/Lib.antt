@@ -11,3 +11,4 @@ pub mod Endings
 pub mod Outcomes
 pub mod Steps
 pub mod Dialogs
+pub mod Fleets

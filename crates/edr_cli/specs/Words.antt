@@ -71,12 +71,22 @@ IsWithoutMemory other = ⊤
 abbrev pub UseNoMemory : List (List ℕ) → Type 0
 UseNoMemory words = IsWithoutMemory (job_of words)
 
--- ---- the words of a run by threads
+-- ---- the words of what is done by threads
 
 -- they ask for the run of a trace by so many workers, and its report in this form
 abbrev pub AreDrive : Form → ℕ → List (List ℕ) → Type 0
 AreDrive form workers words = job_of words ≡ Some (Drive workers form)
 
--- they ask for no such run
-abbrev pub AreNoDrive : List (List ℕ) → Type 0
-AreNoDrive words = (form : Form) (workers : ℕ) → ¬ AreDrive form workers words
+-- they ask for the report of many images, by so many workers
+abbrev pub AreFleetWords : ℕ → List (List ℕ) → Type 0
+AreFleetWords workers words = job_of words ≡ Some (Fleet workers)
+
+-- the job, if there is one, is not done by threads
+abbrev pub IsWithoutThreads : Option Job → Type 0
+IsWithoutThreads (Some (Drive workers form)) = ⊥
+IsWithoutThreads (Some (Fleet workers)) = ⊥
+IsWithoutThreads other = ⊤
+
+-- they ask for nothing that is done by threads
+abbrev pub NeedNoThreads : List (List ℕ) → Type 0
+NeedNoThreads words = IsWithoutThreads (job_of words)

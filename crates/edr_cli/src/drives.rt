@@ -1,5 +1,5 @@
-//! The top call of `drive`, a run by threads. Its promises are those of a run on one thread, and hold if it returns.
-ghost use Rattle.std.specs.Prelude.{◌≡◌, ◌≤◌, ◌+◌, Some, All, IfOk, IfErr, OnOk};
+//! The top call of what is done by threads: a run, and the report of a fleet. Its promises hold if it returns.
+ghost use Rattle.std.specs.Prelude.{◌≡◌, ◌≤◌, ◌+◌, ℕ, Some, All, IfOk, IfErr, OnOk};
 ghost use Rattle.edr_device.specs.Faults.{Rose};
 ghost use Rattle.edr_device.specs.Lent.{Between, GoesOn};
 ghost use Rattle.edr_device.specs.Told.{Told};
@@ -14,10 +14,12 @@ ghost use Rattle.edr_cli.specs.Outcomes.{ServesDrive};
 ghost use Rattle.edr_cli.specs.Outside.{IsAtEnd, OfBoth, OfMemory, OfRun, memory};
 ghost use Rattle.edr_cli.specs.Runs.{RunIs};
 ghost use Rattle.edr_cli.specs.Steps.{IsDrivenCause, Reports};
-ghost use Rattle.edr_cli.specs.Words.{AreNoDrive};
+ghost use Rattle.edr_cli.specs.Fleets.{ServesFleet};
+ghost use Rattle.edr_cli.specs.Words.{AreFleetWords, NeedNoThreads};
 
 use crate::endings::{finish, tell};
 use crate::fault::Fault;
+use crate::fleet::serve_fleet;
 use crate::report::{open_settled, report_held};
 use crate::status::Status;
 use crate::traces::trace_of;
@@ -90,8 +92,10 @@ fn drive_source<
 ///
 /// What it writes, what the device then holds and what each status says are those of `replay`, whatever the schedule of the
 /// threads. Memory for the threads of a cycle is taken behind its start, so want of memory may leave that cycle counted. Each
-/// worker calls the gate once for each item, before the item's first offer. It waits for its threads: its promises hold if it
-/// returns.
+/// worker calls the gate once for each item, before the item's first offer.
+///
+/// And `fleet W`: reads frames of images from the source, and writes a line for each image and the totals, by W workers, 1 to 8.
+/// It uses no device. Either word waits for its threads: what is promised holds if the call returns.
 pub fn drive<
     R: Threads + Wait + Copy + Send + Sync + 'static,
     S: Source,
@@ -117,23 +121,27 @@ pub fn drive<
     ensures write_fault { result ≡ Status.WriteFault → Rose (K.faults sink.old) (K.faults sink.new) }
 
     // Other words are a fault of usage, unless memory runs out. Nothing is read, and the device stays.
-    ensures usage { AreNoDrive words.now → TellsWhole K.Sink IsUsageCause result sink.old sink.new }
-    ensures usage_part { AreNoDrive words.now → TellsCut K.Sink IsUsageCause result sink.old sink.new }
-    ensures untouched { AreNoDrive words.now → (source.new ≡ source.old) × (nvm.new ≡ nvm.old) }
+    ensures usage { NeedNoThreads words.now → TellsWhole K.Sink IsUsageCause result sink.old sink.new }
+    ensures usage_part { NeedNoThreads words.now → TellsCut K.Sink IsUsageCause result sink.old sink.new }
+    ensures untouched { NeedNoThreads words.now → (source.new ≡ source.old) × (nvm.new ≡ nvm.old) }
 
-    // With Ok the sink gained exactly the report of a run of the cycles that the source spelled, as by `replay`, with another
-    // status exactly the line of a fault that has its cause, and where a write failed a part of either.
+    // `drive`: with Ok the sink gained exactly the report of a run of the cycles that the source spelled, as by `replay`, with
+    // another status exactly the line of a fault that has its cause, and where a write failed a part of either.
     ensures drive { ServesDrive S.Source K.Sink N.Nvm words.now result source.old source.new sink.old sink.new nvm.old nvm.new }
+    // `fleet`: likewise the report of the images whose frames the source told. The device stays.
+    ensures fleet { ServesFleet S.Source K.Sink words.now result source.old source.new sink.old sink.new }
+    ensures fleet_uses { (workers : ℕ) → AreFleetWords workers words.now → nvm.new ≡ nvm.old }
 {
     let job = match words.job(alloc) {
         Ok(job) => job,
         Err(OutOfMemory) => return tell(sink, Fault::OutOfMemory),
     };
-    let Some(Job::Drive { workers, form }) = job else {
-        return tell(sink, Fault::Usage);
-    };
-    finish(
-        sink,
-        drive_source(rt, alloc, source, nvm, workers, form, gate),
-    )
+    match job {
+        Some(Job::Drive { workers, form }) => finish(
+            sink,
+            drive_source(rt, alloc, source, nvm, workers, form, gate),
+        ),
+        Some(Job::Fleet { workers }) => serve_fleet(rt, alloc, source, sink, workers),
+        _ => tell(sink, Fault::Usage),
+    }
 }

@@ -7,6 +7,7 @@ use crate::status::Status;
 use edr_banks::{FormatFault, OpenFault};
 use edr_cycle::StartFault;
 use edr_device::{Failed, TakeFault};
+use edr_fleet::FleetRefused;
 use edr_image::{HeaderRefused, OldRefused};
 use edr_migrate::MigrateFault;
 use edr_report::{Room, ShortLine, push_header_refused, push_number, push_short, push_signed};
@@ -38,6 +39,8 @@ pub enum Fault {
     TooLong,
     /// The old image that the source gave is refused.
     Old(OldRefused),
+    /// The bytes that the source gave end inside the frame that begins at this offset.
+    Fleet { offset: u32 },
 }
 
 // Appends what is wrong with a row.
@@ -119,6 +122,7 @@ impl Fault {
                 line.push_str("old image ");
                 push_old_refused(line, *refused);
             }
+            Fault::Fleet { offset } => push_number(line, "fleet truncated at ", *offset),
         }
     }
 
@@ -147,6 +151,7 @@ impl Fault {
             Fault::OutOfMemory => Status::OutOfMemory,
             Fault::TooLong => Status::TooLong,
             Fault::Old(_) => Status::OldImage,
+            Fault::Fleet { .. } => Status::Fleet,
         }
     }
 }
@@ -241,6 +246,19 @@ impl From<StartFault> for Fault {
             StartFault::Spent => Fault::Spent,
             StartFault::StoreFault => Fault::Store,
             StartFault::OutOfMemory => Fault::OutOfMemory,
+        }
+    }
+}
+
+impl From<FleetRefused> for Fault {
+    ghost use Rattle.edr_cli.specs.Faults.{fault_of_fleet};
+
+    ghost from_gives = { λ e f. f ≡ fault_of_fleet e };
+
+    fn from(e: FleetRefused) -> Fault {
+        match e {
+            FleetRefused::Truncated { offset } => Fault::Fleet { offset },
+            FleetRefused::OutOfMemory => Fault::OutOfMemory,
         }
     }
 }

@@ -7,6 +7,7 @@ mod dialog;
 mod drives;
 mod endings;
 mod fault;
+mod fleet;
 mod format;
 mod generate;
 mod large;

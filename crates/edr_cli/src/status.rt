@@ -29,10 +29,12 @@ pub enum Status {
     OldImage,
     /// A dialog refused a kind or a length, or its stream ended inside a frame. Its replies were written, and no line.
     Dialog,
+    /// The bytes of the source end inside a frame of a fleet.
+    Fleet,
 }
 
 impl Status {
-    /// The exit status: 0 for `Ok`, and from 2 to 12 for the others in order.
+    /// The exit status: 0 for `Ok`, and from 2 to 12 for those up to `Dialog` in order, and 14 for `Fleet`.
     pub fn code(&self) -> u8
         ensures { result ≡ number_of self.now }
     {
@@ -49,6 +51,7 @@ impl Status {
             Status::TooLong => 10,
             Status::OldImage => 11,
             Status::Dialog => 12,
+            Status::Fleet => 14,
         }
     }
 }

@@ -10,7 +10,7 @@ use Rattle.edr_cli.proofs.DispatchLemmas.{as_drive}
 use Rattle.edr_cli.proofs.DriveLemmas.{driven_only_memory}
 use Rattle.edr_cli.proofs.EndingLemmas.{ends, served, tells_fault, tells_fault_part, when_ok}
 use Rattle.edr_cli.proofs.ImageLemmas.{err_map}
-use Rattle.edr_cli.proofs.OutcomeLemmas.{runs_short}
+use Rattle.edr_cli.proofs.OutcomeLemmas.{fleet_short, runs_short}
 use Rattle.edr_cli.proofs.drives.drive.Goals as goal
 
 -- ---- memory ran out before the words were read
@@ -25,10 +25,14 @@ pub returns-in-Err-clause-drive : goal.returns-in-Err-clause-drive
 returns-in-Err-clause-drive g c = λ form workers asked.
     runs_short g.S.Source g.K.Sink g.N.Nvm IsDriveCause form c.tell.result c.args.source.now c.args.sink.now c.tell.new.sink c.args.nvm.now (inl (inl refl)) c.tell.ensures.gains
 
+pub returns-in-Err-clause-fleet : goal.returns-in-Err-clause-fleet
+returns-in-Err-clause-fleet g c = λ workers asked.
+    fleet_short g.S.Source g.K.Sink c.tell.result c.args.source.now c.args.sink.now c.tell.new.sink c.tell.ensures.gains
+
 -- ---- a run by threads
 
-pub returns-clause-drive : goal.returns-clause-drive
-returns-clause-drive g c = λ form workers asked.
+pub returns-in-Some-Drive-clause-drive : goal.returns-in-Some-Drive-clause-drive
+returns-in-Some-Drive-clause-drive g c = λ form workers asked.
     let S = g.S.Source in
     let K = g.K.Sink in
     let D = g.N.Nvm in
@@ -49,6 +53,11 @@ returns-clause-drive g c = λ form workers asked.
           c.finish.ensures.text c.finish.ensures.fault quiet;
     } in
     as_drive (λ (x : Form). Runs S K D IsDriveCause x s c.args.source.now c.drive_source.new.source c.args.sink.now c.finish.new.sink c.args.nvm.now c.drive_source.new.nvm) c.args.words.now f form c.in-Some-Drive.workers workers is served_by asked
+
+-- ---- a fleet
+
+pub returns-in-Some-Fleet-clause-fleet : goal.returns-in-Some-Fleet-clause-fleet
+returns-in-Some-Fleet-clause-fleet g c = λ workers asked. c.serve_fleet.ensures.tells
 
 -- ---- other words
 
