@@ -18,12 +18,12 @@ use Rattle.edr_drawing.specs.declared.sheets.TheConstants.{SHEET_FOOT}
 use Rattle.edr_drawing.specs.declared.by_time.TheConstants.{BLOCK_START, BY_TIME_END}
 use Rattle.edr_drawing.specs.Scales.{flat_map_below}
 use Rattle.edr_drawing.specs.declared.long.TheConstants.{FORM, NOTES, PAGE_END}
-use Rattle.edr_drawing.specs.declared.tables.TheConstants.{ELEMENTS_END, ELEMENTS_START, NEXT_TABLE, RUN_START, TABLE_END}
+use Rattle.edr_drawing.specs.declared.tables.TheConstants.{ELEMENTS_END, ELEMENTS_START, NEXT_TABLE, TABLE_END}
 use Rattle.edr_drawing.specs.Template.{digest_hex, filled, fixed}
 use Rattle.edr_drawing.specs.Tables.{row, row_of, line_row, begins_table, elements_table, run_table}
 use Rattle.edr_drawing.specs.ByTime.{block, block_slots, blocks, blocks_in, by_time, slot_row, slot_rows}
 use Rattle.edr_drawing.specs.Sheets.{sheet, sheets}
-use Rattle.edr_drawing.specs.Cover.{cover}
+use Rattle.edr_drawing.specs.Cover.{cover, events_in}
 use Rattle.edr_drawing.specs.Page.{page_bytes}
 use Rattle.edr_drawing.specs.Laws.{HasAllSlotRows, HasSlotRows, IsInOnePiece, shown_row}
 
@@ -103,13 +103,13 @@ event_on_page reports found count size digest l among =
     part_left p _ (fixed PAGE_END.now) (part_right p _ (sheets 1 found digest) (line_of_sheets 1 found digest l among))
 
 -- the lines of cycles, in their table and on the first sheet
-line_of_run : (reports : List Report) (l : Line) → Contains (run_lines 1 reports) l → IsInOnePiece (row l.name l.value) (run_table reports)
+line_of_run : (reports : List Report) (retrieved : ℕ) (l : Line) → Contains (run_lines 1 reports) l → IsInOnePiece (row l.name l.value) (run_table reports retrieved)
 unfolding run_table
-line_of_run [] l (k, b, e) = absurd (omega (arith, b))
-line_of_run (r ∷ rs) l among =
+line_of_run [] retrieved l (k, b, e) = absurd (omega (arith, b))
+line_of_run (r ∷ rs) retrieved l among =
     let p = row l.name l.value in
     part_left p _ (fixed TABLE_END.now)
-    (part_right p (fixed RUN_START.now) (flat_map row_of (run_lines 1 (r ∷ rs))) (row_of_line row_of row_of (λ x. part_itself (row_of x)) (run_lines 1 (r ∷ rs)) l among))
+    (part_right p _ (flat_map row_of (run_lines 1 (r ∷ rs))) (row_of_line row_of row_of (λ x. part_itself (row_of x)) (run_lines 1 (r ∷ rs)) l among))
 
 line_of_cover : (reports : List Report) (found : List Found) (count size : ℕ) (digest : List ℕ) (l : Line) →
     Contains (run_lines 1 reports) l → IsInOnePiece (row l.name l.value) (cover reports found count size digest)
@@ -117,7 +117,7 @@ unfolding cover
 line_of_cover reports found count size digest l among =
     let p = row l.name l.value in
     part_left p _ (filled FIRST_FOOT.now (decimal size ∷ digest_hex digest ∷ VERSION.now ∷ []))
-    (part_left p _ (fixed FORM.now) (part_left p _ (fixed NOTES.now) (part_right p _ (run_table reports) (line_of_run reports l among))))
+    (part_left p _ (fixed NOTES.now) (part_left p _ (fixed FORM.now) (part_right p _ (run_table reports (events_in found)) (line_of_run reports (events_in found) l among))))
 
 pub cycle_on_page : (reports : List Report) (found : List Found) (count size : ℕ) (digest : List ℕ) (l : Line) →
     Contains (run_lines 1 reports) l → IsInOnePiece (row l.name l.value) (page_bytes reports found count size digest)

@@ -94,11 +94,11 @@ unfolding elements_table
 plain_elements n bank r =
     plain_append _ _ (plain_append _ _ (plain_text ELEMENTS_START.now refl) (plain_event_lines n bank r)) (plain_text ELEMENTS_END.now refl)
 
-plain_run : (reports : List Report) → Plain (run_table reports)
+plain_run : (reports : List Report) (retrieved : ℕ) → Plain (run_table reports retrieved)
 unfolding run_table
-plain_run [] = plain_nil
-plain_run (r ∷ rs) =
-    plain_append _ _ (plain_append _ _ (plain_text RUN_START.now refl) (plain_run_lines (r ∷ rs))) (plain_text TABLE_END.now refl)
+plain_run [] retrieved = plain_nil
+plain_run (r ∷ rs) retrieved =
+    plain_append _ _ (plain_append _ _ (plain_filled RUN_START.now _ refl (search plain_values)) (plain_run_lines (r ∷ rs))) (plain_text TABLE_END.now refl)
 
 -- the table by time
 plain_number_word : (v : Option ℕ) → Plain (number_word v)

@@ -92,13 +92,13 @@ damaged_list found =
 
 -- ---- the whole sheet
 
--- the first sheet: what was found, how to read the pages, and fields that are filled in by hand
+-- the first sheet: what was found, fields that are filled in by hand, and how to read the pages
 unfoldable pub cover : List Report → List Found → ℕ → ℕ → List ℕ → List ℕ
 cover reports found count size digest =
     filled FIRST_SHEET.now (decimal (events_in found) ∷ decimal (damaged_in found) ∷ decimal (number_shown count) ∷ [])
     ++ events_table found
     ++ damaged_list found
-    ++ run_table reports
-    ++ fixed NOTES.now
+    ++ run_table reports (events_in found)
     ++ fixed FORM.now
+    ++ fixed NOTES.now
     ++ filled FIRST_FOOT.now (decimal size ∷ digest_hex digest ∷ VERSION.now ∷ [])

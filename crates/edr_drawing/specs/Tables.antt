@@ -1,12 +1,15 @@
 -- The tables of a page.
-use Rattle.std.specs.Prelude.{ℕ, ◌*◌, ℤ, Bool, false, ◌||◌, if◌then◌else◌, nat_eq, Option, Some, None, List, [], ◌∷◌, ◌++◌, flat_map, decimal}
+use Rattle.std.specs.Prelude.{ℕ, ◌+◌, ◌-◌, ◌*◌, min, ℤ, Bool, true, false, ◌||◌, if◌then◌else◌, nat_eq, Option, Some, None, List, [], ◌∷◌, ◌++◌, flat_map, decimal}
 use Rattle.std.specs.Cmp.Lexicographic.{pointwise}
 use Rattle.std.specs.Fmt.{signed_decimal}
 use Rattle.edr_record.specs.declared.Record.{Record}
 use Rattle.edr_record.specs.declared.TheConstants.{POINT_STEP}
 use Rattle.edr_record.specs.Parts.{CrashPart}
 use Rattle.edr_record.specs.Bounds.{point_count}
-use Rattle.edr_image.specs.Reports.{Report}
+use Rattle.edr_image.specs.declared.Ack.{Ack}
+use Rattle.edr_image.specs.declared.Applied.{Applied}
+use Rattle.edr_image.specs.declared.Applied.TheVariants.{Kept, Locked, Done, NotKept}
+use Rattle.edr_image.specs.Reports.{Report, StartStopped, Ran}
 use Rattle.edr_report.specs.Lines.{Line}
 use Rattle.edr_report.specs.Report.{event_lines, run_lines}
 use Rattle.edr_drawing.specs.declared.axes.CarAxis.{CarAxis}
@@ -14,7 +17,7 @@ use Rattle.edr_drawing.specs.declared.axes.CarAxis.TheVariants.{Along, Across}
 use Rattle.edr_drawing.specs.declared.axes.TheConstants.{NO_SAMPLE}
 use Rattle.edr_drawing.specs.declared.tables.Elements.{Elements}
 use Rattle.edr_drawing.specs.declared.tables.Rows.{Rows}
-use Rattle.edr_drawing.specs.declared.tables.TheConstants.{ACROSS_ROW, ALONG_ROW, CELL, ELEMENTS_END, ELEMENTS_START, IN_TABLE, LINE_END, LINE_NAME, LINE_VALUE, LISTS, NEXT_TABLE, POINT_TIME, POINTS_BODY, POINTS_START, ROW_END, RUN_START, SECOND_TABLE, SILENT_CELL, TABLE_END}
+use Rattle.edr_drawing.specs.declared.tables.TheConstants.{ACROSS_ROW, ALONG_ROW, CELL, ELEMENTS_END, ELEMENTS_START, IN_TABLE, LINE_END, LINE_NAME, LINE_VALUE, LISTS, MOST_TAKEN, NEXT_TABLE, POINT_TIME, POINTS_BODY, POINTS_START, ROW_END, RUN_START, SECOND_TABLE, SILENT_CELL, TABLE_END}
 use Rattle.edr_drawing.specs.Template.{filled, fixed}
 use Rattle.edr_drawing.specs.Axes.{is_silent, points_of}
 use Rattle.edr_drawing.specs.Scales.{flat_map_below}
@@ -93,8 +96,33 @@ elements_table n bank r =
     ++ flat_map line_row (event_lines n bank r)
     ++ fixed ELEMENTS_END.now
 
--- all lines of the cycles of a run, where there are any
-unfoldable pub run_table : List Report → List ℕ
-run_table [] = []
-run_table (r ∷ rs) =
-    fixed RUN_START.now ++ flat_map row_of (run_lines 1 (r ∷ rs)) ++ fixed TABLE_END.now
+-- how many events a run took
+abbrev pub is_take : Applied → Bool
+is_take (Kept b) = true
+is_take (Locked b) = false
+is_take (Done b) = false
+is_take NotKept = false
+
+abbrev pub taken_by : List Ack → ℕ
+taken_by [] = 0
+taken_by (a ∷ log) = (if is_take a.applied then 1 else 0) + taken_by log
+
+abbrev pub taken_of : Report → ℕ
+taken_of (StartStopped j) = 0
+taken_of (Ran n stop log) = taken_by log
+
+abbrev pub taken_in : List Report → ℕ
+taken_in [] = 0
+taken_in (r ∷ rs) = taken_of r + taken_in rs
+
+abbrev pub taken_shown : List Report → ℕ
+taken_shown reports = min (taken_in reports) MOST_TAKEN
+
+-- all lines of the cycles of a run, where there are any, with how many of the events that it took are gone at least
+unfoldable pub run_table : List Report → ℕ → List ℕ
+run_table [] retrieved = []
+run_table (r ∷ rs) retrieved =
+    filled RUN_START.now
+    (decimal (taken_shown (r ∷ rs)) ∷ decimal retrieved ∷ decimal (taken_shown (r ∷ rs) - retrieved) ∷ [])
+    ++ flat_map row_of (run_lines 1 (r ∷ rs))
+    ++ fixed TABLE_END.now

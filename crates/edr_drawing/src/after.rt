@@ -42,25 +42,25 @@ pub const LEGEND: &[u8] = br#"<text x="0" y="522" class="">Time, ms</text>
 <path class="s1" d="M0 221L70 221"/>
 <circle cx="35" cy="221" r="9" class="p1"/>
 <text x="84" y="230" class="n1">longitudinal</text>
-<text x="84" y="256" class="s">plus: forward</text>
-<path class="s2" d="M0 337L70 337"/>
-<rect x="27" y="329" width="16" height="16" class="p2"/>
-<text x="84" y="346" class="n2">lateral</text>
-<text x="84" y="372" class="s">plus: driver's right</text>
-<path class="d0" d="M35 443l15 15l-15 15l-15 -15z"/>
-<text x="84" y="467" class="">its maximum</text>
+<text x="0" y="258" class="s">plus: forward</text>
+<path class="s2" d="M0 341L70 341"/>
+<rect x="27" y="333" width="16" height="16" class="p2"/>
+<text x="84" y="350" class="n2">lateral</text>
+<text x="0" y="378" class="s">plus: driver's right</text>
+<path class="d0" d="M35 450l15 15l-15 15l-15 -15z"/>
+<text x="84" y="474" class="">its maximum</text>
 "#;
 
 /// What the legend says of an axis that lacks samples.
-pub const LEGEND_GAPS: &[u8] = br#"<text x="84" y="{0}" class="s b">{1} of {2} ms</text>
-<text x="84" y="{3}" class="s b">without sample</text>
+pub const LEGEND_GAPS: &[u8] = br#"<text x="0" y="{0}" class="s b">{1} of {2} ms</text>
+<text x="0" y="{3}" class="s b">without sample</text>
 "#;
 
-pub const ALONG_GAPS_Y: u32 = 281;
+pub const ALONG_GAPS_Y: u32 = 286;
 
-pub const ACROSS_GAPS_Y: u32 = 397;
+pub const ACROSS_GAPS_Y: u32 = 406;
 
-pub const NEXT_LINE: u32 = 24;
+pub const NEXT_LINE: u32 = 28;
 
 /// What stands around the curve of an axis that lacks samples.
 pub const GAPPED_START: &[u8] = b"<g class=\"q\">\n";

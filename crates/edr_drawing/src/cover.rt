@@ -213,9 +213,9 @@ pub fn put_cover(
     fill(out, FIRST_SHEET, &counts)?;
     put_events(out, found)?;
     put_damaged(out, found)?;
-    put_run(out, alloc, run)?;
-    put(out, NOTES)?;
+    put_run(out, alloc, run, events)?;
     put(out, FORM)?;
+    put(out, NOTES)?;
     let foot = [Number(size), Digest(*digest), Text(VERSION)];
     fill(out, FIRST_FOOT, &foot)
 }

@@ -15,32 +15,32 @@ pub const HEAD: &[u8] = br#"<!DOCTYPE html>
 pub const STYLE: &[u8] = br#"@page{margin:9mm 12mm 12mm}
 *{box-sizing:border-box}
 body{margin:0;background:#e7e7e7;color:#000;font:9pt/1.35 Arial,"Liberation Sans",Helvetica,sans-serif}
-@media screen{section{width:210mm;margin:8mm auto;padding:10mm 12mm;background:#fff;box-shadow:0 0 2mm #999}}
+@media screen{section{max-width:210mm;overflow-x:auto;margin:8mm auto;padding:10mm 12mm;background:#fff;box-shadow:0 0 2mm #999}}
 @media print{body{background:#fff}section{margin:0}section+section{break-before:page}}
 h1{font-size:15pt;margin:0 0 1mm}
 h2{font-size:13pt;margin:0 0 1mm}
 h3{font-size:9pt;margin:2mm 0 .5mm}
 ul{margin:.5mm 0;padding-left:5mm}
 p{margin:0 0 1mm}
-.head{display:flex;justify-content:space-between;align-items:baseline;border-bottom:.5mm solid #000;margin-bottom:1mm}
+.head{display:flex;flex-wrap:wrap;justify-content:space-between;align-items:baseline;border-bottom:.5mm solid #000;margin-bottom:1mm}
 .facts{display:flex;flex-wrap:wrap;gap:0 7mm;margin:0 0 1.5mm;padding:0;list-style:none}
 .note{border-left:1.2mm solid #000;padding:.3mm 2.5mm;margin:0 0 1mm;background:#f1f1f1;font-size:8pt;line-height:1.25}
 .note ul{margin:0 0 .5mm;padding-left:4mm}
 .why ul{columns:2;column-gap:6mm}
+.notes{font-size:8pt;line-height:1.25}
 table{border-collapse:collapse;width:100%;font-size:8pt;line-height:1.2;font-variant-numeric:tabular-nums}
 th,td{border-bottom:.2mm solid #bbb;padding:.2mm 1mm;text-align:left;vertical-align:top;font-weight:400}
 thead th{border-bottom:.35mm solid #000;font-weight:700}
 caption{font-weight:700;text-align:left;font-size:9pt;padding:1mm 0 .5mm}
 .num th,.num td{text-align:right;padding:.3mm .6mm}
 .num th:first-child{text-align:left}
-.two{display:grid;grid-template-columns:1fr 1fr;gap:0 6mm;align-items:start}
+.two{display:grid;grid-template-columns:repeat(auto-fit,minmax(80mm,1fr));gap:0 6mm;align-items:start}
 .two th{white-space:nowrap;width:1%}.two table{line-height:1.1}.two th,.two td{padding:.05mm 1mm}
-.form th{white-space:nowrap;width:1%;padding-top:5mm}.form td{width:50%}
+.form th{white-space:nowrap;width:1%;padding-top:4mm}.form td{width:50%}
 .foot{font-size:8pt;color:#444;margin:1.5mm 0 0}
 code{font-family:"Liberation Mono","DejaVu Sans Mono",monospace;font-size:8pt}
 svg{display:block;width:100%;height:auto;margin:0 0 1mm}
-svg text{font-size:27px;fill:#000}
-.s,.v{font-size:24px!important}
+svg text{font-size:28.5px;fill:#000}
 .c{text-anchor:middle}.e{text-anchor:end}.b{font-weight:700}.m{font-size:36px!important;font-weight:700}
 svg .g{fill:#555}svg .w{fill:#fff;font-weight:700}
 .h,.v{paint-order:stroke;stroke:#fff;stroke-width:7px;stroke-linejoin:round}
@@ -56,7 +56,7 @@ svg .n1{fill:#00547f;font-weight:700}svg .n2{fill:#a84300;font-weight:700}
 .d0,.d1,.d2{fill:#fff;stroke-width:4.5}.d0{stroke:#000}.d1{stroke:#0072b2}.d2{stroke:#d55e00}
 .flag{fill:#000}
 .q path{stroke-dasharray:3 11}.q .p1{fill:#fff;stroke:#0072b2;stroke-width:3.5}.q .p2{stroke-dasharray:6 4}
-.blocks{display:grid;grid-template-columns:1fr 1fr 1fr;gap:0 5mm;align-items:start}
+.blocks{display:grid;grid-template-columns:repeat(auto-fill,minmax(56mm,1fr));gap:0 5mm;align-items:start}
 .time table{font-size:8pt;line-height:1.12}.time th,.time td{padding:0 .6mm;border-bottom:.1mm solid #bbb}
 .num .l{text-align:left}.time th:first-child{text-align:right}
 @media print{.time.long{break-before:page}table.num,.two,svg,.note{break-inside:avoid}h3{break-after:avoid}}
@@ -93,7 +93,7 @@ pub const BODY: &[u8] = br##""}}
 
 /// How to read the pages.
 pub const NOTES: &[u8] = br#"<h3>How to read the pages</h3>
-<ul>
+<ul class="notes">
 <li>Marks are what was recorded. The lines between them only guide the eye: nothing is recorded between two marks.</li>
 <li>A hatched field and the word "none" are absent: they aren't zero. Where a value is 0, the mark stands at 0. An axis without any sample has no marks, but the words "no sample". One that lacks some has a dotted curve with hollow marks, and the legend says how many.</li>
 <li>Time zero is a millisecond of the ignition cycle, counted from power on. Where a fast change of speed gives it, it is the last millisecond of the interval in which the change was seen, and comes up to 20 ms after the beginning of that interval, across the car up to 5 ms. So a firing at 14 ms may have come 34 ms after the change began. What the car lost until time zero is in no delta-V.</li>

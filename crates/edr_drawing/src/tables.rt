@@ -1,14 +1,14 @@
 //! The tables of a page.
 
-ghost use Rattle.std.specs.Prelude.{◌≡◌, ◌++◌, ◌≤◌, ◌<◌, ◌+◌, ◌*◌, [], OnOk, IfOk, length, flat_map, map};
+ghost use Rattle.std.specs.Prelude.{◌≡◌, ◌++◌, ◌≤◌, ◌<◌, ◌+◌, ◌*◌, [], OnOk, IfOk, length, flat_map, map, min};
 ghost use Rattle.edr_image.specs.Reports.{report_of};
 ghost use Rattle.edr_report.specs.Report.{event_lines, run_lines};
-ghost use Rattle.edr_drawing.specs.Tables.{axis_cells, change_cell, change_row, elements_bytes, elements_table, is_one_of, line_row, points_table, row, row_of, rows_bytes, run_table, time_cells};
+ghost use Rattle.edr_drawing.specs.Tables.{axis_cells, change_cell, change_row, elements_bytes, elements_table, is_one_of, is_take, line_row, points_table, row, row_of, rows_bytes, run_table, taken_by, taken_in, taken_of, time_cells};
 
 use crate::axes::{CarAxis, NO_SAMPLE, is_silent, points_of};
-use crate::template::Filling::{Change, Number, Text};
+use crate::template::Filling::{Change, Count, Number, Text};
 use crate::template::{Drawn, fill, put};
-use edr_image::CycleReport;
+use edr_image::{Ack, Applied, CycleReport};
 use edr_record::{Crash, POINT_STEP, Record, point_count};
 use edr_report::{Lines, print_event, print_run};
 use std::alloc::Global;
@@ -20,6 +20,9 @@ pub const SECOND_TABLE: &[u8] = b"delta-V lateral, km/h";
 pub const LISTS: [&[u8]; 3] = [b"speed, km/h", b"throttle, %", b"service brake"];
 
 pub const IN_TABLE: &[u8] = b"in the table by time";
+
+/// Events of a run are counted up to this number.
+pub const MOST_TAKEN: u64 = u64::MAX;
 
 /// What stands before the name of a line, between it and the value, and after it.
 pub const LINE_NAME: &[u8] = br#"<tr><th scope="row">"#;
@@ -60,8 +63,9 @@ pub const ELEMENTS_END: &[u8] = b"</tbody>\n</table>\n</div>\n";
 
 pub const NEXT_TABLE: &[u8] = b"</tbody>\n</table>\n<table>\n<tbody>\n";
 
+/// The table of a run, which says how many events it took, how many were retrieved, and so how many are gone at least.
 pub const RUN_START: &[u8] = br#"<table>
-<caption>What was acknowledged while the trace was replayed</caption>
+<caption>What was acknowledged while the trace was replayed: {0} taken, {1} retrieved, at least {2} gone</caption>
 <tbody>
 "#;
 
@@ -207,10 +211,53 @@ pub fn put_elements(
     put(out, ELEMENTS_END)
 }
 
+fn is_take(applied: Applied) -> bool
+    ensures { result ≡ is_take applied }
+{
+    match applied {
+        Applied::Kept { .. } => true,
+        _ => false,
+    }
+}
+
+// How many events these acknowledged commands took.
+fn taken_by(acks: &[Ack]) -> u64
+    ensures { result ≡ taken_by acks.now }
+{
+    let mut count = 0;
+    for ack in acks {
+        if is_take(ack.applied) {
+            count += 1;
+        }
+    }
+    count
+}
+
+// How many events a cycle took.
+fn taken_of(report: &CycleReport) -> u64
+    ensures { result ≡ taken_of (report_of report.now) }
+{
+    match report {
+        CycleReport::StartStopped { .. } => 0,
+        CycleReport::Ran { log, .. } => taken_by(log.acks()),
+    }
+}
+
+// How many events a run took; counted as far as a number goes.
+fn taken_in(run: &[CycleReport]) -> u64
+    ensures { result ≡ min (taken_in (map report_of run.now)) MOST_TAKEN }
+{
+    let mut count: u64 = 0;
+    for report in run {
+        count = count.saturating_add(taken_of(report));
+    }
+    count
+}
+
 /// Appends the table of the cycles of a run, if there are any.
 #[tactic(auto, unfolding(crate::specs::Tables::run_table))]
-pub fn put_run(out: &mut Vec<u8>, alloc: Global, run: &[CycleReport]) -> Drawn
-    ensures { OnOk result (out.new.items ≡ out.old.items ++ run_table (map report_of run.now)) }
+pub fn put_run(out: &mut Vec<u8>, alloc: Global, run: &[CycleReport], retrieved: u64) -> Drawn
+    ensures { OnOk result (out.new.items ≡ out.old.items ++ run_table (map report_of run.now) retrieved) }
 {
     if run.is_empty() {
         return Ok(());
@@ -219,7 +266,9 @@ pub fn put_run(out: &mut Vec<u8>, alloc: Global, run: &[CycleReport]) -> Drawn
         bytes: Vec::new(alloc),
     };
     let rows = print_run(alloc, empty, run)?;
-    put(out, RUN_START)?;
+    let taken = taken_in(run);
+    let gone = Count(taken.saturating_sub(retrieved));
+    fill(out, RUN_START, &[Count(taken), Count(retrieved), gone])?;
     out.extend_from_slice(&rows.bytes)?;
     put(out, TABLE_END)
 }
