@@ -2,10 +2,10 @@
 ghost use Rattle.std.specs.Prelude.{◌≡◌};
 ghost use Rattle.edr_picture.specs.Asked.{asked_by, version_line};
 
-use edr_report::{Room, ShortLine};
+use arrayvec::ArrayVec;
 
 /// The version of the program, as the file VERSION has it.
-pub const VERSION: &str = "1.0.0";
+pub const VERSION: &[u8] = b"1.0.0";
 
 /// What `--help` prints.
 pub const HELP: &[u8] = b"edr_picture [--help | --version] < crash.csv > crash.html
@@ -43,12 +43,12 @@ impl Asked {
 }
 
 /// The line that names the program and its version.
-pub fn version_line() -> ShortLine
-    ensures { result ≡ version_line }
+pub fn version_line() -> ArrayVec<u8, 40>
+    ensures { result.items ≡ version_line }
 {
-    let mut line = Room::new();
-    line.push_str("edr_picture ");
-    line.push_str(VERSION);
-    line.push_str("\n");
-    ShortLine::new(line)
+    let mut line = ArrayVec::new();
+    line.try_extend_from_slice(b"edr_picture ").unwrap();
+    line.try_extend_from_slice(VERSION).unwrap();
+    line.try_extend_from_slice(b"\n").unwrap();
+    line
 }

@@ -110,7 +110,7 @@ pub fn draw<S: Source, K: Sink>(
             Err(fault) => write(sink, fault.line().as_bytes(), PageStatus::Faulty(fault)),
         },
         Asked::Help => write(sink, HELP, PageStatus::Done),
-        Asked::Version => write(sink, version_line().as_bytes(), PageStatus::Done),
+        Asked::Version => write(sink, &version_line(), PageStatus::Done),
         Asked::Other => write(
             sink,
             PageFault::Usage.line().as_bytes(),

@@ -141,7 +141,7 @@ fn check_word<R: Abort + AllocGlobal>(
 fn a_word_is_answered_and_nothing_is_read(rt: HostRuntime) -> Result<(), Fail> {
     check_word(&rt, "--help", PageStatus::Done, 0, HELP)?;
     let version = version_line();
-    check_word(&rt, "--version", PageStatus::Done, 0, version.as_bytes())?;
+    check_word(&rt, "--version", PageStatus::Done, 0, &version)?;
     check_word(
         &rt,
         "-h",
