@@ -1,8 +1,8 @@
 -- What a word asks for, and what the program answers.
 use Rattle.std.specs.Prelude.{ℕ, if◌then◌else◌, List, [], ◌∷◌, ◌++◌, bytes_eq, codes}
+use Rattle.edr_drawing.specs.declared.TheConstants.{VERSION}
 use Rattle.edr_picture.specs.declared.asked.Asked.{Asked}
 use Rattle.edr_picture.specs.declared.asked.Asked.TheVariants.{Help, Version, Other}
-use Rattle.edr_picture.specs.declared.asked.TheConstants.{VERSION}
 
 -- what one word alone asks for
 abbrev pub asked_by : List ℕ → Asked

@@ -3,9 +3,7 @@ ghost use Rattle.std.specs.Prelude.{◌≡◌};
 ghost use Rattle.edr_picture.specs.Asked.{asked_by, version_line};
 
 use arrayvec::ArrayVec;
-
-/// The version of the program, as the file VERSION has it.
-pub const VERSION: &[u8] = b"1.0.0";
+use edr_drawing::VERSION;
 
 /// What `--help` prints.
 pub const HELP: &[u8] = b"edr_picture [--help | --version] < crash.csv > crash.html
