@@ -1,0 +1,17 @@
+pub mod AuditLemmas
+pub mod BranchLemmas
+pub mod CommandLemmas
+pub mod CompareLemmas
+pub mod CycleLemmas
+pub mod EndLemmas
+pub mod EventLemmas
+pub mod EventLineLemmas
+pub mod JudgeLemmas
+pub mod NumberLemmas
+pub mod OutcomeLemmas
+pub mod SaidLemmas
+pub mod SameLemmas
+pub mod SoFarLemmas
+pub mod TailLemmas
+pub mod VerdictLemmas
+pub mod WalkLemmas

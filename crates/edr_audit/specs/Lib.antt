@@ -1,0 +1,7 @@
+pub mod Branches
+pub mod Compared
+pub mod Judged
+pub mod Steps
+pub mod Tail
+pub mod Verdicts
+pub mod Walk
