@@ -6,6 +6,8 @@ pub mod CycleLemmas
 pub mod EndLemmas
 pub mod EventLemmas
 pub mod EventLineLemmas
+pub mod FewLemmas
+pub mod FirstBytesLemmas
 pub mod JudgeLemmas
 pub mod NumberLemmas
 pub mod OutcomeLemmas
@@ -15,3 +17,4 @@ pub mod SoFarLemmas
 pub mod TailLemmas
 pub mod VerdictLemmas
 pub mod WalkLemmas
+mod Vectors

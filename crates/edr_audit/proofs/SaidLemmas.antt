@@ -17,7 +17,7 @@ says_nothing bytes e refused = rw refused refl
 pub said_short : (bytes : List ℕ) → length bytes < 96 → None ≡ view_of bytes
 said_short bytes short = says_nothing bytes (open_fault.Short (length bytes) 96) (refused_short bytes short)
 
-index_take : (n : ℕ) (xs : List ℕ) (k : ℕ) → k < n → slice_index (take n xs) k ≡ slice_index xs k
+pub index_take : (n : ℕ) (xs : List ℕ) (k : ℕ) → k < n → slice_index (take n xs) k ≡ slice_index xs k
 index_take zero xs k below = absurd (omega (arith, below))
 index_take (suc n) [] k below = refl
 index_take (suc n) (x ∷ xs) zero below = refl
