@@ -2,7 +2,8 @@
 ghost use Rattle.std.specs.Prelude.{◌≡◌, ◌<◌, ◌^◌, ◌≤◌, ◌++◌, ◌∷◌, [], All, IfOk, OnOk, length, map, flat_map};
 ghost use Rattle.edr_image.specs.declared.places.TheConstants.{MOST_BANKS};
 ghost use Rattle.edr_run.specs.Cycle.{last_count};
-ghost use Rattle.edr_audit.specs.Branches.{all_branches, branch_with, branches_after, planned, stopped_branches, walked, walker_of, walkers_of};
+ghost use Rattle.edr_audit.specs.Branches.{all_branches, branch_with, planned, walked, walker_of};
+ghost use Rattle.edr_audit.specs.Told.{all_stopped_in, branches_past, stopped_in, walkers_at_start};
 
 use crate::compared::Compared;
 use crate::events::walk_events;
@@ -138,7 +139,7 @@ fn all_walkers(
     branches: Vec<Branch>,
 ) -> Result<Vec<Walker>, OutOfMemory>
     requires { length telling.now.report.now < 2 ^ 32 }
-    ensures { IfOk result (λ ws. ws.items ≡ flat_map (walkers_of telling.now.report.now telling.now.place stop) branches.items) }
+    ensures { IfOk result (λ ws. ws.items ≡ walkers_at_start telling.now stop branches.items) }
 {
     let mut walkers = Vec::new(alloc);
     for branch in branches {
@@ -159,7 +160,7 @@ fn after_commands(
 ) -> Result<Vec<Branch>, OutOfMemory>
     requires report { length telling.now.report.now < 2 ^ 32 }
     requires runs { cycle.now.start_stop ≡ 0 }
-    ensures { IfOk result (λ bs. bs.items ≡ flat_map (branches_after telling.now.report.now telling.now.header telling.now.place cycle.now) branches.items) }
+    ensures { IfOk result (λ bs. bs.items ≡ branches_past telling.now cycle.now branches.items) }
 {
     let mut walkers = all_walkers(alloc, telling, cycle.stop, branches)?;
     walk_events(alloc, telling, &cycle.feeds, &mut walkers)?;
@@ -174,7 +175,7 @@ fn add_stopped(
     branch: &Branch,
 ) -> Result<(), OutOfMemory>
     requires { length telling.now.report.now < 2 ^ 32 }
-    ensures { OnOk result (branches.new.items ≡ branches.old.items ++ stopped_branches telling.now.report.now telling.now.header telling.now.place call branch.now) }
+    ensures { OnOk result (branches.new.items ≡ branches.old.items ++ stopped_in telling.now call branch.now) }
 {
     if branch.count == LAST_COUNT {
         return Ok(());
@@ -197,7 +198,7 @@ fn after_stopped_start(
     branches: &[Branch],
 ) -> Result<Vec<Branch>, OutOfMemory>
     requires { length telling.now.report.now < 2 ^ 32 }
-    ensures { IfOk result (λ bs. bs.items ≡ flat_map (stopped_branches telling.now.report.now telling.now.header telling.now.place call) branches.now) }
+    ensures { IfOk result (λ bs. bs.items ≡ all_stopped_in telling.now call branches.now) }
 {
     let mut after = Vec::new(alloc);
     for branch in branches {
@@ -215,7 +216,7 @@ pub fn after_cycle(
     branches: Vec<Branch>,
 ) -> Result<Vec<Branch>, OutOfMemory>
     requires report { length telling.now.report.now < 2 ^ 32 }
-    ensures { IfOk result (λ bs. bs.items ≡ flat_map (branches_after telling.now.report.now telling.now.header telling.now.place cycle.now) branches.items) }
+    ensures { IfOk result (λ bs. bs.items ≡ branches_past telling.now cycle.now branches.items) }
 {
     if cycle.start_stop == 0 {
         after_commands(alloc, telling, cycle, branches)

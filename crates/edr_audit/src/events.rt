@@ -1,7 +1,7 @@
 //! The events of a cycle, taken by walkers one after the other.
 ghost use Rattle.std.specs.Prelude.{◌≡◌, ◌<◌, ◌^◌, [], ◌∷◌, OnOk, length, map};
 ghost use Rattle.edr_definitions.specs.Commands.{locks_at};
-ghost use Rattle.edr_audit.specs.Branches.{all_past, walker_through};
+ghost use Rattle.edr_audit.specs.Told.{issue_at, walkers_past, walkers_through};
 ghost use Rattle.edr_selection.specs.Found.{issues_with};
 
 use crate::walker::{Telling, Walker, all_next};
@@ -21,7 +21,7 @@ fn issue(
     command: &Command,
 ) -> Result<(), OutOfMemory>
     requires { length telling.now.report.now < 2 ^ 32 }
-    ensures { OnOk result (walkers.new.items ≡ all_past telling.now.report.now telling.now.header telling.now.place horizon (record { tick = tick; command = command.now } ∷ []) walkers.old.items) }
+    ensures { OnOk result (walkers.new.items ≡ walkers_past telling.now horizon (issue_at tick command.now ∷ []) walkers.old.items) }
 {
     if tick <= horizon {
         all_next(alloc, telling, walkers, tick, command)?;
@@ -40,7 +40,7 @@ fn issue_lock(
     pre: &Pre,
 ) -> Result<(), OutOfMemory>
     requires { length telling.now.report.now < 2 ^ 32 }
-    ensures { OnOk result (walkers.new.items ≡ all_past telling.now.report.now telling.now.header telling.now.place horizon (locks_at pre.now locked) walkers.old.items) }
+    ensures { OnOk result (walkers.new.items ≡ walkers_past telling.now horizon (locks_at pre.now locked) walkers.old.items) }
 {
     match locked {
         Some(tick) => issue(
@@ -64,7 +64,7 @@ fn all_parts(
     parts: &EventParts,
 ) -> Result<(), OutOfMemory>
     requires { length telling.now.report.now < 2 ^ 32 }
-    ensures { OnOk result (walkers.new.items ≡ all_past telling.now.report.now telling.now.header telling.now.place horizon (issues_with parts.now) walkers.old.items) }
+    ensures { OnOk result (walkers.new.items ≡ walkers_past telling.now horizon (issues_with parts.now) walkers.old.items) }
 {
     let pre = parts.pre;
     let crash = parts.crash;
@@ -95,7 +95,7 @@ pub fn walk_events(
     walkers: &mut Vec<Walker>,
 ) -> Result<(), OutOfMemory>
     requires { length telling.now.report.now < 2 ^ 32 }
-    ensures { OnOk result (walkers.new.items ≡ map (walker_through telling.now.report.now telling.now.header telling.now.place feeds.now) walkers.old.items) }
+    ensures { OnOk result (walkers.new.items ≡ walkers_through telling.now feeds.now walkers.old.items) }
 {
     let horizon = feeds.horizon();
     let events = select(alloc, feeds)?;

@@ -8,6 +8,7 @@ ghost use Rattle.edr_audit.specs.declared.compared.Compared.TheVariants.{Same};
 ghost use Rattle.edr_audit.specs.Verdicts.{IsAudited, IsVerdict, stops_in};
 
 use crate::branches::{Branch, after_cycles};
+use crate::compared::Compared;
 use crate::judge::judge;
 use crate::same::is_same_header;
 use crate::views::{ImageView, image_view};
@@ -32,9 +33,7 @@ mod views;
 mod walk;
 mod walker;
 
-pub use compared::Compared;
-
-/// So many of a trace's cycles may have two ends.
+/// As many of a trace's cycles may have two ends: those with a stop in a call from 5 on of the start, or in one of their commands.
 pub const MOST_STOPS: u32 = 8;
 
 /// What is said of an image and a report.

@@ -6,7 +6,7 @@ ghost use Rattle.edr_image.specs.Calls.{done_of_step};
 ghost use Rattle.edr_image.specs.Steps.{banks_after, done_reply, held_after, lock_reply, reply_to, take_reply};
 ghost use Rattle.edr_banks.specs.Lesser.{is_first, is_free, referred_event};
 ghost use Rattle.edr_audit.specs.Steps.{step_of};
-ghost use Rattle.edr_audit.specs.Walk.{goes_on, past_step, state_in, step_within, walk_command, walk_step, walk_steps};
+ghost use Rattle.edr_audit.specs.Walk.{goes_on, past_step, state_in, step_within, walk_command, walk_step, walk_steps, ends_in_call, locked_by, taken};
 
 use crate::steps::{BankChange, bank_at, take_step};
 use edr_image::{Applied, BankView, Choice, Header};
@@ -146,7 +146,7 @@ impl Walk {
 
     // A stop comes in a call of the step.
     fn halt(&mut self, alloc: Global, call: u32, step: &BankChange) -> Result<(), OutOfMemory>
-        ensures { OnOk result (self.new ≡ record self.old { ends = map (λ done. fold banks_after self.old.banks done) (done_of_step call (step_of step.now)) }) }
+        ensures { OnOk result (self.new ≡ record self.old { ends = ends_in_call self.old call (step_of step.now) }) }
     {
         let mut ends = Vec::new(alloc);
         ends.push(self.banks.clone()?)?;
@@ -201,8 +201,8 @@ impl Walk {
 impl Walk {
     // Takes a new event.
     fn take(&mut self, alloc: Global, choice: Choice, pre: &Pre) -> Result<Applied, OutOfMemory>
-        ensures walked { OnOk result (self.new ≡ walk_steps self.old (take_reply pre.now (lowest_void self.old.banks) (to_overwrite choice self.old.banks)).steps) }
-        ensures answer { IfOk result (λ a. a ≡ (take_reply pre.now (lowest_void self.old.banks) (to_overwrite choice self.old.banks)).answer) }
+        ensures walked { OnOk result (self.new ≡ walk_steps self.old (taken choice self.old pre.now).steps) }
+        ensures answer { IfOk result (λ a. a ≡ (taken choice self.old pre.now).answer) }
     {
         if let Some(bank) = lowest_void(&self.banks) {
             self.step(alloc, &BankChange::Fill { bank, pre: *pre })?;
@@ -220,8 +220,8 @@ impl Walk {
 
     // Locks the event that is held, or takes it now.
     fn lock(&mut self, alloc: Global, pre: &Pre) -> Result<Applied, OutOfMemory>
-        ensures walked { OnOk result (self.new ≡ walk_steps self.old (lock_reply pre.now self.old.banks self.old.held (least_unlocked self.old.banks)).steps) }
-        ensures answer { IfOk result (λ a. a ≡ (lock_reply pre.now self.old.banks self.old.held (least_unlocked self.old.banks)).answer) }
+        ensures walked { OnOk result (self.new ≡ walk_steps self.old (locked_by self.old pre.now).steps) }
+        ensures answer { IfOk result (λ a. a ≡ (locked_by self.old pre.now).answer) }
     {
         match self.held {
             Some(bank) if is_unlocked(&bank_at(&self.banks, bank)) => {

@@ -1,6 +1,7 @@
 //! A branch that takes the commands of a cycle, with the text of its acknowledgements.
 ghost use Rattle.std.specs.Prelude.{◌≡◌, ◌<◌, ◌^◌, ◌≤◌, IfOk, OnOk, length, map, fold};
-ghost use Rattle.edr_audit.specs.Branches.{numbered_command, numbered_pre, walker_next, walker_past, walker_with};
+ghost use Rattle.edr_audit.specs.Branches.{numbered_command, numbered_pre};
+ghost use Rattle.edr_audit.specs.Told.{issue_at, past_any, past_own};
 
 use crate::compared::Compared;
 use crate::lines::{kind_of, with_ack};
@@ -50,7 +51,7 @@ impl Walker {
         command: &Command,
     ) -> Result<(), OutOfMemory>
         requires { length telling.now.report.now < 2 ^ 32 }
-        ensures { OnOk result (self.new ≡ walker_past telling.now.report.now telling.now.header telling.now.place self.old (record { tick = tick; command = command.now })) }
+        ensures { OnOk result (self.new ≡ past_own telling.now self.old (issue_at tick command.now)) }
     {
         let applied = self.walk.command(alloc, telling.header, command)?;
         if self.walk.goes_on() {
@@ -107,7 +108,7 @@ impl Walker {
         command: &Command,
     ) -> Result<(), OutOfMemory>
         requires { length telling.now.report.now < 2 ^ 32 }
-        ensures { OnOk result (self.new ≡ walker_next telling.now.report.now telling.now.header telling.now.place self.old (record { tick = tick; command = command.now })) }
+        ensures { OnOk result (self.new ≡ past_any telling.now self.old (issue_at tick command.now)) }
     {
         let own = numbered(command, self.number);
         self.past(alloc, telling, tick, &own)
@@ -123,7 +124,7 @@ pub fn all_next(
     command: &Command,
 ) -> Result<(), OutOfMemory>
     requires { length telling.now.report.now < 2 ^ 32 }
-    ensures { OnOk result (walkers.new.items ≡ map (λ w. walker_next telling.now.report.now telling.now.header telling.now.place w (record { tick = tick; command = command.now })) walkers.old.items) }
+    ensures { OnOk result (walkers.new.items ≡ map (λ w. past_any telling.now w (issue_at tick command.now)) walkers.old.items) }
 {
     for walker in walkers.iter_mut() {
         walker.next(alloc, telling, tick, command)?;
