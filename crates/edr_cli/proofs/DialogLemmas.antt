@@ -11,7 +11,7 @@ use Rattle.edr_device.specs.declared.stream.Sink as sink
 use Rattle.edr_device.specs.declared.stream.Source as stream
 use Rattle.edr_device.proofs.TellingLemmas.{told_again}
 use Rattle.edr_image.specs.Image.{View}
-use Rattle.edr_dialog.specs.Replies.{EndsInside, EndsWell, HasRefused, Hears, IsRefusedIn, SaidBye, Stand, next, replies, stand_of}
+use Rattle.edr_dialog.specs.Replies.{EndsInside, EndsWell, HasRefused, Hears, IsRefusedIn, SaidBye, DialogStand, next, replies, stand_of}
 use Rattle.edr_dialog.specs.Stages.{HasHeard, Talk}
 use Rattle.edr_spell.specs.Spell.{largest_trace}
 use Rattle.edr_cli.specs.declared.fault.Fault.{Fault}
@@ -184,7 +184,7 @@ past_refusal (b ∷ t) = past_refusal t
 -- what follows a refusal changes nothing
 refused_stays : (s t : List ℕ) → IsRefusedIn s → IsRefusedIn (s ++ t)
 unfolding stand_of
-refused_stays s t refused = fold-append next (Hears []) s t ∙ ap (λ (x : Stand). fold next x t) refused ∙ past_refusal t
+refused_stays s t refused = fold-append next (Hears []) s t ∙ ap (λ (x : DialogStand). fold next x t) refused ∙ past_refusal t
 
 not_refused : (s : List ℕ) → IsRefusedIn s → EndsWell s → ⊥
 not_refused s refused (inl bye) = go (sym refused ∙ bye) where

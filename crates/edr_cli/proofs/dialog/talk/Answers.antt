@@ -4,7 +4,7 @@ use Rattle.edr_device.specs.Told.{Told}
 use Rattle.edr_banks.specs.Opening.{view_when_opened}
 use Rattle.edr_dialog.specs.declared.dialog.Fed.{Fed}
 use Rattle.edr_dialog.specs.Answers.{FedLeaves, StandsInside}
-use Rattle.edr_dialog.specs.Replies.{Stand, SaidBye, HasRefused, replies, stand_of}
+use Rattle.edr_dialog.specs.Replies.{DialogStand, SaidBye, HasRefused, replies, stand_of}
 use Rattle.edr_dialog.specs.Stages.{HasHeard}
 use Rattle.edr_cli.specs.declared.fault.Fault.TheVariants as fault
 use Rattle.edr_cli.specs.declared.status.Status.TheVariants as status
@@ -28,7 +28,7 @@ loop-taken-init g c =
         source_later = omega arith;
         sink_later = omega arith;
       },
-      subst (λ (x : Stand). StandsInside x false) (sym c.new-dialog.ensures.stand) refl,
+      subst (λ (x : DialogStand). StandsInside x false) (sym c.new-dialog.ensures.stand) refl,
     )
 
 -- the source failed
