@@ -31,7 +31,7 @@ below_behind front y ys = let long = length-append front (y ∷ ys) in grind (ar
 not_below : (front : List ℕ) → nat_lt (length front) (length (front ++ [])) ≡ false
 not_below front = let long = length-append front [] in grind (arith, nat_tests, long)
 
--- behind the bytes that are the same
+-- past the bytes that are the same
 behind : (front ys text : List ℕ) → difference_in (front ++ ys) (compare (front ++ ys) (Same (length front)) text) ≡ option_map (λ k. length front + k) (first_difference ys text)
 behind front [] [] = ap (λ t. cond t (Some (length front)) None) (not_below front)
 behind front (y ∷ ys) [] = ap (λ t. cond t (Some (length front)) None) (below_behind front y ys) ∙ some_plus (length front)

@@ -29,7 +29,7 @@ over_is w n cut held given ends number text same are of over =
     ∙ sym (ends_over w ends over)
     ∙ ap (ends_of_walk w) of
 
--- one more is put behind
+-- one more is put at the end
 pub mapped_more : {A B : Type 0} (f : A → B) (old now new : List B) (xs : List A) (i : ℕ) (d : A) → i < length xs → now ≡ old ++ map f (take i xs) → new ≡ now ++ f (get_or xs i d) ∷ [] → new ≡ old ++ map f (take (i + 1) xs)
 mapped_more {B = B} f old now new xs i d below was put =
     put ∙ ap (λ (ys : List B). ys ++ f (get_or xs i d) ∷ []) was ∙ append_assoc old (map f (take i xs)) (f (get_or xs i d) ∷ [])

@@ -1,5 +1,5 @@
 -- Where a report and a text differ first.
-use Rattle.std.proofs.Common.{◌≡◌, refl, List, ℕ, None, Some, [], ◌∷◌}
+use Rattle.std.proofs.Common.{◌≡◌, refl, None, Some, [], ◌∷◌}
 use Rattle.edr_audit.specs.Compared.{first_difference}
 
 no-bytes : first_difference [] [] ≡ None

@@ -28,7 +28,7 @@ past_step w s left = record { banks = banks_after w.banks s; held = held_after w
 abbrev pub ends_in_call : WalkState → ℕ → BankStep → List (List BankView)
 ends_in_call w call s = map (λ done. fold banks_after w.banks done) (done_of_step call s)
 
--- past a step, where so many calls are left up to the stop
+-- past a step, where this many calls are left up to the stop
 abbrev pub step_within : WalkState → BankStep → Option ℕ → WalkState
 step_within w s None = past_step w s None
 step_within w s (Some k) =

@@ -33,7 +33,8 @@ mod views;
 mod walk;
 mod walker;
 
-/// As many of a trace's cycles may have two ends: those with a stop in a call from 5 on of the start, or in one of their commands.
+/// At most this many cycles of an audited trace may have two ends: those whose start is stopped in call 5 or 6, or that have a
+/// planned stop in their commands.
 pub const MOST_STOPS: u32 = 8;
 
 /// What is said of an image and a report.
@@ -52,7 +53,7 @@ pub enum Difference {
     Before,
     /// The bytes are no trace: the first row that has a fault.
     Trace { row: u32 },
-    /// Too many of its cycles may have two ends: so many.
+    /// Too many of its cycles may have two ends: this many.
     Stops { found: u32 },
     /// The image after says nothing.
     After,

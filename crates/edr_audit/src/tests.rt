@@ -19,11 +19,33 @@ fn image_of(count: u8) -> [u8; SIZE] {
     image
 }
 
-// Audits a trace over an image with the count 0, with an image after that has this count.
+// The image after a cycle with the event of the impulse below.
+fn image_of_impulse() -> [u8; SIZE] {
+    let mut image = image_of(1);
+    image[96] = OPEN_GATE;
+    image[98] = OPEN_GATE;
+    image[115] = 1;
+    image[119..122].copy_from_slice(b"\x01\x01\x02".as_slice());
+    image[124..930].copy_from_slice([255; 806].as_slice());
+    image[961] = 21;
+    image[964..974].copy_from_slice(b"\xff\xfc\xff\xfc\xff\xfc\xff\xfc\xff\xfc".as_slice());
+    image[1_066..1_070].copy_from_slice(b"\xff\xfc\x00\x01".as_slice());
+    image[1_074..1_080].copy_from_slice(b"\x00\x01\x00\x32\x00\x33".as_slice());
+    image[1_080..1_096].copy_from_slice([255; 16].as_slice());
+    image
+}
+
+const IMPULSE: &str =
+    "on,0,\nalong,1,-40000\nalong,2,-40000\nalong,1000,\nacross,1000,\nspeed,1000,\nthrottle,1000,\nbrake,1000,\nbelt,1000,\nlamp,1000,\nrestraint,1000,\ncut,0,\n";
+
+const BEGUN: &str =
+    "cycle 1: number 1, power off\ncycle 1 take at 2: bank 1\ncycle 1 done at 52: bank 1\nevent: 1\nbank: 1\nignition cycle, crash: 1\ntime zero: 1 ms\nmulti-event, number of events: 1\ntime from event 1 to 2: none\ndeployment event: no\npre-crash profile: long\nspeed, km/h: none none";
+
+// Audits a trace over an image with the count 0.
 fn check<R: Abort + AllocGlobal>(
     rt: &R,
     trace: &str,
-    count: u8,
+    after: &[u8; SIZE],
     report: &str,
     verdict: Verdict,
 ) -> Result<(), Fail>
@@ -31,12 +53,11 @@ fn check<R: Abort + AllocGlobal>(
     requires report { length report.now ≤ 1_000 }
 {
     let before = image_of(0);
-    let after = image_of(count);
     let answer = audit(
         rt.alloc(),
         &before,
         trace.as_bytes(),
-        &after,
+        after.as_slice(),
         report.as_bytes(),
     )?;
     assert_eq!(rt; answer, verdict);
@@ -51,28 +72,28 @@ const COUNTED: &str = "cycle 1: start stopped in call 5\nignition cycle, downloa
 
 #[test]
 fn both_ends_of_a_stopped_start_agree(rt: HostRuntime) -> Result<(), Fail> {
-    check(&rt, STOPPED, 0, NOT_COUNTED, Verdict::Agrees)?;
-    check(&rt, STOPPED, 1, COUNTED, Verdict::Agrees)
+    check(&rt, STOPPED, &image_of(0), NOT_COUNTED, Verdict::Agrees)?;
+    check(&rt, STOPPED, &image_of(1), COUNTED, Verdict::Agrees)
 }
 
 #[test]
 fn the_first_difference_is_told(rt: HostRuntime) -> Result<(), Fail> {
     let at = |offset| Verdict::Differs(Difference::Report { offset });
-    check(&rt, STOPPED, 1, NOT_COUNTED, at(59))?;
-    check(&rt, STOPPED, 0, "", at(0))?;
+    check(&rt, STOPPED, &image_of(1), NOT_COUNTED, at(59))?;
+    check(&rt, STOPPED, &image_of(0), "", at(0))?;
     let longer = "cycle 1: start stopped in call 5\nignition cycle, download: 0\n\n";
-    check(&rt, STOPPED, 0, longer, at(61))?;
+    check(&rt, STOPPED, &image_of(0), longer, at(61))?;
     let run = Verdict::Differs(Difference::Run);
-    check(&rt, STOPPED, 2, COUNTED, run)?;
+    check(&rt, STOPPED, &image_of(2), COUNTED, run)?;
     let row = Verdict::Differs(Difference::Trace { row: 2 });
-    check(&rt, "on,5,\non,7,\n", 0, NOT_COUNTED, row)
+    check(&rt, "on,5,\non,7,\n", &image_of(0), NOT_COUNTED, row)
 }
 
 #[test]
 fn nine_stops_are_too_many(rt: HostRuntime) -> Result<(), Fail> {
     let nine = "on,5,\non,5,\non,5,\non,5,\non,5,\non,5,\non,5,\non,5,\non,5,\n";
     let stops = Verdict::Differs(Difference::Stops { found: 9 });
-    check(&rt, nine, 0, NOT_COUNTED, stops)
+    check(&rt, nine, &image_of(0), NOT_COUNTED, stops)
 }
 
 #[test]
@@ -84,4 +105,14 @@ fn images_that_are_none_are_told(rt: HostRuntime) -> Result<(), Fail> {
     let none = audit(alloc, &image, b"", &image[..2_143], b"")?;
     assert_eq!(rt; none, Verdict::Differs(Difference::After));
     Ok(())
+}
+
+#[test]
+fn an_event_is_found_held_and_printed(rt: HostRuntime) -> Result<(), Fail> {
+    let begun = Verdict::Differs(Difference::Report {
+        offset: BEGUN.len() as u32,
+    });
+    check(&rt, IMPULSE, &image_of_impulse(), BEGUN, begun)?;
+    let run = Verdict::Differs(Difference::Run);
+    check(&rt, IMPULSE, &image_of(1), BEGUN, run)
 }

@@ -114,7 +114,7 @@ impl Model for Walk {
 }
 
 impl Walk {
-    /// Banks at the start of a cycle's commands, with so many calls up to the stop, if one is planned.
+    /// Banks at the start of a cycle's commands, with this many calls up to the stop, if one is planned.
     pub fn new(alloc: Global, banks: Vec<BankView>, left: Option<u32>) -> Walk
         requires { length banks.items ≤ MOST_BANKS }
         ensures { result ≡ record { banks = banks.items; held = None; left = left; ends = [] } }
