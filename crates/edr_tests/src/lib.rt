@@ -15,9 +15,13 @@ mod dealt_sensors;
 #[cfg(test)]
 mod detectors;
 #[cfg(test)]
+mod dialogs;
+#[cfg(test)]
 mod drawn_cycles;
 #[cfg(test)]
 mod drives;
+#[cfg(test)]
+mod fleets;
 #[cfg(test)]
 mod generators;
 #[cfg(test)]
