@@ -1,6 +1,6 @@
 //! A dialog over a fresh image.
-use edr_banks::{Banks, Choice};
-use edr_device::MemNvm;
+use crate::runs::formatted;
+use edr_banks::Banks;
 use edr_dialog::{Dialog, Fed, LONGEST_REPLY};
 use std::test::Fail;
 
@@ -12,10 +12,7 @@ fn first_answer(banks: &Banks, byte: u8, out: &mut [u8; LONGEST_REPLY]) -> Fed {
 
 #[test]
 fn a_kind_that_no_request_has_is_refused(rt: HostRuntime) -> Result<(), Fail> {
-    let image = vec![in rt.alloc(); 0u8; 2_144]?;
-    let none = Vec::new(rt.alloc());
-    let mut memory = MemNvm::new(rt.alloc(), image, 60, none, Vec::new(rt.alloc()), 0)?;
-    Banks::format(&mut memory, 2, Choice::Keep)?;
+    let mut memory = formatted(rt.alloc(), 0)?;
     let banks = Banks::open(rt.alloc(), &mut memory)?;
     let mut out = [0; LONGEST_REPLY];
     assert_eq!(rt;

@@ -22,13 +22,13 @@ fn one_thread_reports_whole_frames_alone(rt: HostRuntime) -> Result<(), Fail> {
 
 // A turn in which the pass of either of two images waits until that of the other has begun.
 #[derive(Drop)]
-struct Meeting {
+struct Rendezvous {
     first: AtomicBool,
     second: AtomicBool,
     ran_out: AtomicBool,
 }
 
-impl Turn for Meeting {
+impl Turn for Rendezvous {
     fn pass(&self, image: u32) {
         let (own, other) = if image == 1 {
             (&self.first, &self.second)
@@ -49,7 +49,7 @@ impl Turn for Meeting {
 // Each pass waits for the other, so that they run at once: a report on one thread would wait in vain.
 #[test]
 fn second_image_passes(rt: HostRuntime) -> Result<(), Fail> {
-    let meeting = Meeting {
+    let meeting = Rendezvous {
         first: AtomicBool::new(false),
         second: AtomicBool::new(false),
         ran_out: AtomicBool::new(false),
