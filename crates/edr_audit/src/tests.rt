@@ -1,6 +1,6 @@
 //! The verdicts on starts that are stopped, over an image of two banks.
 
-ghost use Rattle.std.specs.Prelude.{◌≤◌, length};
+ghost use Rattle.std.specs.Prelude.{◌+◌, ◌≤◌, length};
 
 use crate::{Difference, Verdict, audit};
 use edr_layout::OPEN_GATE;
@@ -19,19 +19,24 @@ fn image_of(count: u8) -> [u8; SIZE] {
     image
 }
 
+// Puts bytes into an image.
+fn put(image: &mut [u8; SIZE], at: usize, bytes: &[u8])
+    requires { at + length bytes.now ≤ 2_144 }
+{
+    image[at..at + bytes.len()].copy_from_slice(bytes);
+}
+
 // The image after a cycle with the event of the impulse below.
 fn image_of_impulse() -> [u8; SIZE] {
     let mut image = image_of(1);
-    image[96] = OPEN_GATE;
-    image[98] = OPEN_GATE;
-    image[115] = 1;
-    image[119..122].copy_from_slice(b"\x01\x01\x02".as_slice());
-    image[124..930].copy_from_slice([255; 806].as_slice());
-    image[961] = 21;
-    image[964..974].copy_from_slice(b"\xff\xfc\xff\xfc\xff\xfc\xff\xfc\xff\xfc".as_slice());
-    image[1_066..1_070].copy_from_slice(b"\xff\xfc\x00\x01".as_slice());
-    image[1_074..1_080].copy_from_slice(b"\x00\x01\x00\x32\x00\x33".as_slice());
-    image[1_080..1_096].copy_from_slice([255; 16].as_slice());
+    put(&mut image, 96, &[OPEN_GATE, 0, OPEN_GATE]);
+    put(&mut image, 115, &[1, 0, 0, 0, 1, 1, 2]);
+    put(&mut image, 124, &[255; 806]);
+    put(&mut image, 961, &[21]);
+    put(&mut image, 964, b"\xff\xfc\xff\xfc\xff\xfc\xff\xfc\xff\xfc");
+    put(&mut image, 1_066, &[255, 252, 0, 1]);
+    put(&mut image, 1_074, &[0, 1, 0, 50, 0, 51]);
+    put(&mut image, 1_080, &[255; 16]);
     image
 }
 
