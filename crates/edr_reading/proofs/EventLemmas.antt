@@ -1,74 +1,133 @@
--- The rows of an event, part by part.
-use Rattle.std.proofs.Common.{arith, ◌≡◌, ◌∙◌, sym, ap, refl, ℕ, suc, Bool, List, [], ◌∷◌, ◌++◌, length, map, take, drop, get_or, Option, None, Some}
-use Rattle.std.proofs.lemmas.List.{map-append, take-append-drop, take-map, drop-map}
-use Rattle.std.proofs.Math.Seq.{take-append_seam, drop-append_seam}
+-- The lines of an event.
+use Rattle.std.proofs.Common.{arith, ◌≡◌, ◌∙◌, sym, ap, ap₂, subst, refl, ℕ, suc, ◌+◌, ◌-◌, ◌<◌, ◌≤◌, Bool, false, List, [], ◌∷◌, ◌++◌, length, map, take, Option, None, Some}
+use Rattle.std.specs.Option.{IfSome, option_map_or}
+use Rattle.std.proofs.lemmas.List.{length-map, take-append-le, length-replicate}
 use Rattle.edr_record.specs.declared.Record.{Record}
-use Rattle.std.specs.Option.{IfSome}
 use Rattle.edr_record.specs.Bounds.{IsCrash}
+use Rattle.edr_record.specs.Complete.{is_complete, misses_no_tick}
 use Rattle.edr_record.specs.Parts.{PrePart, CrashPart}
-use Rattle.edr_record.specs.Complete.{is_complete}
-use Rattle.std.proofs.lemmas.List.FromFn.{fill_by_all}
-use Rattle.edr_report.specs.Report.{event_lines}
-use Rattle.edr_report.specs.Words.{milliseconds, firing_words, points_words, extreme_words, missing_words}
-use Rattle.edr_reading.specs.declared.rows.ReportRow.{ReportRow}
-use Rattle.edr_reading.specs.Rows.{fields, line_fields, named_fields, crash_names, crash_texts, event_head, pre_fields, crash_fields, event_end}
-use Rattle.edr_reading.proofs.PartLemmas.{crash-long}
-use Rattle.edr_reading.specs.Parts.{SlotsAre, IsRecord}
+use Rattle.edr_report.specs.declared.event_lines.EventLine.{EventLine}
+use Rattle.edr_report.specs.declared.event_lines.EventLine.TheVariants.{Before, After, Complete}
+use Rattle.edr_report.specs.declared.event_lines.PreLine.{PreLine}
+use Rattle.edr_report.specs.declared.event_lines.PreLine.TheVariants as pre
+use Rattle.edr_report.specs.declared.event_lines.CrashLine.{CrashLine}
+use Rattle.edr_report.specs.declared.event_lines.CrashLine.TheVariants as crash
+use Rattle.edr_report.specs.declared.event_lines.Restraint.{Restraint}
+use Rattle.edr_report.specs.declared.event_lines.Restraint.TheVariants as restraint
+use Rattle.edr_report.specs.EventWords.{place_of}
+use Rattle.edr_report.specs.Words.{firing_words, none_word, yes_no}
+use Rattle.edr_reading.specs.Event.{EventAgrees, event_place, event_texts}
+use Rattle.edr_reading.specs.Parts.{CrashAgrees, PartsAgree, PreAgrees, crash_place, crash_texts, pre_place}
 
--- eight times, each read by its place, are the list of them
-firings : (c : CrashPart) → IsCrash c → firing_words (get_or c.fired 0 None) ∷ firing_words (get_or c.fired 1 None) ∷ firing_words (get_or c.fired 2 None) ∷ firing_words (get_or c.fired 3 None) ∷ firing_words (get_or c.fired 4 None) ∷ firing_words (get_or c.fired 5 None) ∷ firing_words (get_or c.fired 6 None) ∷ firing_words (get_or c.fired 7 None) ∷ [] ≡ map firing_words c.fired
-firings c h = ap (map firing_words) (sym (fill_by_all (λ (k : ℕ). get_or c.fired k None) c.fired 8 None h.restraints (λ k within. refl)))
+pre-most : (l : PreLine) → pre_place l ≤ 10
+pre-most pre.Cycle = omega arith
+pre-most pre.TimeZero = omega arith
+pre-most pre.Events = omega arith
+pre-most pre.Between = omega arith
+pre-most pre.Deployment = omega arith
+pre-most pre.Profile = omega arith
+pre-most pre.Speed = omega arith
+pre-most pre.Throttle = omega arith
+pre-most pre.Brake = omega arith
+pre-most pre.Belt = omega arith
+pre-most pre.Lamp = omega arith
 
-pub event-fields : (b bank : ℕ) (r : Record) → IsRecord r → map line_fields (event_lines b bank r) ≡ event_head b bank ++ (pre_fields b r.pre r.locked ++ (crash_fields b r.crash ++ event_end b (is_complete r)))
-unfolding event_lines
-event-fields b bank r h = by r.pre r.locked r.crash h.crash
-  where
-    by : (p : PrePart) (l : Bool) (o : Option CrashPart) → IfSome o IsCrash → let s : Record = record { pre = p; locked = l; crash = o } in map line_fields (event_lines b bank s) ≡ event_head b bank ++ (pre_fields b p l ++ (crash_fields b o ++ event_end b (is_complete s)))
-    by p l None k = refl
-    by p l (Some c) k =
-        let s : Record = record { pre = p; locked = l; crash = Some c } in
-        let back = milliseconds c.end ∷ points_words c.end c.along ∷ points_words c.end c.across ∷ extreme_words c.max_along ∷ extreme_words c.max_across ∷ milliseconds c.result_at ∷ missing_words c.missing_along c.missing_across ∷ [] in
-        ap (λ (x : List (List ℕ)). event_head b bank ++ (pre_fields b p l ++ (named_fields b crash_names (back ++ x) ++ event_end b (is_complete s)))) (firings c k)
+restraint-most : (r : Restraint) → place_of r ≤ 7
+restraint-most restraint.DriverFrontal = omega arith
+restraint-most restraint.PassengerFrontal = omega arith
+restraint-most restraint.DriverSide = omega arith
+restraint-most restraint.PassengerSide = omega arith
+restraint-most restraint.DriverCurtain = omega arith
+restraint-most restraint.PassengerCurtain = omega arith
+restraint-most restraint.DriverPretensioner = omega arith
+restraint-most restraint.PassengerPretensioner = omega arith
 
-named-long : (b : ℕ) (names values : List (List ℕ)) → length values ≡ length names → length (named_fields b names values) ≡ length names
-named-long b [] values e = refl
-named-long b (n ∷ names) [] e = absurd (omega (arith, e))
-named-long b (n ∷ names) (v ∷ values) e = ap suc (named-long b names values (omega (arith, e)))
+crash-most : (l : CrashLine) → crash_place l ≤ 14
+crash-most crash.End = omega arith
+crash-most crash.Along = omega arith
+crash-most crash.Across = omega arith
+crash-most crash.MaxAlong = omega arith
+crash-most crash.MaxAcross = omega arith
+crash-most crash.ResultAt = omega arith
+crash-most crash.Missing = omega arith
+crash-most (crash.Fired r) = let m = restraint-most r in omega (arith, m)
 
-pub pre-long : (b : ℕ) (p : PrePart) (l : Bool) → length (pre_fields b p l) ≡ 11
-pre-long b p l = refl
+pre-agrees : (j k : ℕ) (p q : PrePart) → 11 ≤ j → PreAgrees j p q → PreAgrees k p q
+pre-agrees j k p q h a = record {
+  events = λ l. a.events (omega (arith, h));
+  profile = λ l. a.profile (omega (arith, h));
+  speed = λ l. a.speed (omega (arith, h));
+  throttle = λ l. a.throttle (omega (arith, h));
+  brake = λ l. a.brake (omega (arith, h));
+  belt = λ l. a.belt (omega (arith, h));
+  lamp = λ l. a.lamp (omega (arith, h));
+}
 
-pub crash-rows-long : (b : ℕ) (c : Option CrashPart) → IfSome c IsCrash → length (crash_fields b c) ≡ 15
-crash-rows-long b c h = named-long b crash_names (crash_texts c) (crash-long c h)
+-- one line of what stood before time zero more
+pub before-agrees : (line : EventLine) (l : PreLine) (bank : ℕ) (p q : PrePart) (is_locked : Bool) (c : Option CrashPart) (f : ℕ × Record) → line ≡ Before l
+    → EventAgrees (event_place line) (bank, record { pre = p; locked = is_locked; crash = c }) f → (PreAgrees (pre_place l) p f.1.pre → PreAgrees (pre_place l + 1) q f.1.pre)
+    → (now_locked : Bool) → EventAgrees (event_place line + 1) (bank, record { pre = q; locked = now_locked; crash = c }) f
+before-agrees line l bank p q is_locked c f is a step now_locked =
+    let at : event_place line ≡ 2 + pre_place l = ap event_place is in
+    let most = pre-most l in
+    let here : event_place line - 2 ≡ pre_place l = omega (arith, at) in
+    let next : pre_place l + 1 ≡ event_place line + 1 - 2 = omega (arith, at) in
+    let none : event_place line - 13 ≡ event_place line + 1 - 13 = omega (arith, at, most) in
+    record {
+      bank = λ h. a.bank (omega (arith, at));
+      before = subst (λ (k : ℕ). PreAgrees k q f.1.pre) next (step (subst (λ (k : ℕ). PreAgrees k p f.1.pre) here a.before));
+      after = subst (λ (k : ℕ). PartsAgree k c f.1.crash) none a.after;
+    }
 
--- where rows are two lists of them, their front and what follows are these
-pub rows-parted : {X Y : Type 0} (f : X → Y) (rows front rest : List X) (n : ℕ) (a b : List Y) → front ≡ take n rows → rest ≡ drop n rows → map f rows ≡ a ++ b → length a ≡ n → (map f front ≡ a) × (map f rest ≡ b)
-rows-parted f rows front rest n a b e g is long = (
-  ap (map f) e ∙ sym (take-map f n rows) ∙ ap (take n) is ∙ ap (λ (k : ℕ). take k (a ++ b)) (sym long) ∙ take-append_seam a b,
-  ap (map f) g ∙ sym (drop-map f n rows) ∙ ap (drop n) is ∙ ap (λ (k : ℕ). drop k (a ++ b)) (sym long) ∙ drop-append_seam a b,
-)
+-- one line of what came after it more
+pub after-agrees : (line : EventLine) (l : CrashLine) (bank : ℕ) (p : PrePart) (is_locked : Bool) (c d : Option CrashPart) (f : ℕ × Record) → line ≡ After l
+    → EventAgrees (event_place line) (bank, record { pre = p; locked = is_locked; crash = c }) f → (PartsAgree (crash_place l) c f.1.crash → PartsAgree (crash_place l + 1) d f.1.crash)
+    → EventAgrees (event_place line + 1) (bank, record { pre = p; locked = is_locked; crash = d }) f
+after-agrees line l bank p is_locked c d f is a step =
+    let at : event_place line ≡ 13 + crash_place l = ap event_place is in
+    let here : event_place line - 13 ≡ crash_place l = omega (arith, at) in
+    let next : crash_place l + 1 ≡ event_place line + 1 - 13 = omega (arith, at) in
+    record {
+      bank = λ h. a.bank (omega (arith, at));
+      before = pre-agrees (event_place line - 2) (event_place line + 1 - 2) p f.1.pre (omega (arith, at)) a.before;
+      after = subst (λ (k : ℕ). PartsAgree k d f.1.crash) next (step (subst (λ (k : ℕ). PartsAgree k c f.1.crash) here a.after));
+    }
 
-pub rows-joined : {X Y : Type 0} (f : X → Y) (rows front rest : List X) (n : ℕ) (a b : List Y) → front ≡ take n rows → rest ≡ drop n rows → map f front ≡ a → map f rest ≡ b → map f rows ≡ a ++ b
-rows-joined f rows front rest n a b e g is this =
-    ap (map f) (sym (take-append-drop n rows) ∙ ap (λ (x : List _). x ++ drop n rows) (sym e) ∙ ap (λ (x : List _). front ++ x) (sym g)) ∙ map-append f front rest ∙ ap (λ (x : List _). x ++ map f rest) is ∙ ap (λ (x : List _). a ++ x) this
+pub crash-long : (c : Option CrashPart) → IfSome c IsCrash → length (crash_texts c) ≡ 15
+crash-long None h = refl
+crash-long (Some c) h = let m = length-map c.fired firing_words in omega (arith, m, h.restraints)
 
-module _ (rows head rest pre rest2 crash last : List ReportRow) (head-is : head ≡ take 2 rows) (rest-is : rest ≡ drop 2 rows) (pre-is : pre ≡ take 11 rest) (rest2-is : rest2 ≡ drop 11 rest) (crash-is : crash ≡ take 15 rest2) (last-is : last ≡ drop 15 rest2) where
-  pub event-parts : (b bank : ℕ) (r : Record) → IsRecord r → map fields rows ≡ map line_fields (event_lines b bank r)
-      → (map fields head ≡ event_head b bank) × (map fields pre ≡ pre_fields b r.pre r.locked) × (map fields crash ≡ crash_fields b r.crash) × (map fields last ≡ event_end b (is_complete r))
-  event-parts b bank r h is =
-      let one = rows-parted fields rows head rest 2 _ _ head-is rest-is (is ∙ event-fields b bank r h) refl in
-      let two = rows-parted fields rest pre rest2 11 _ _ pre-is rest2-is one.1 (pre-long b r.pre r.locked) in
-      let three = rows-parted fields rest2 crash last 15 _ _ crash-is last-is two.1 (crash-rows-long b r.crash h.crash) in
-      (one.0, two.0, three.0, three.1)
+thirteen-before : (a b c d e f g h i j k l m : List ℕ) (xs ys : List (List ℕ)) (n : ℕ) → take n xs ≡ take n ys
+    → take (13 + n) (a ∷ b ∷ c ∷ d ∷ e ∷ f ∷ g ∷ h ∷ i ∷ j ∷ k ∷ l ∷ m ∷ xs) ≡ take (13 + n) (a ∷ b ∷ c ∷ d ∷ e ∷ f ∷ g ∷ h ∷ i ∷ j ∷ k ∷ l ∷ m ∷ ys)
+thirteen-before a b c d e f g h i j k l m xs ys n same =
+    let long : suc (suc (suc (suc (suc (suc (suc (suc (suc (suc (suc (suc (suc n)))))))))))) ≡ 13 + n = omega arith in
+    subst (λ (o : ℕ). take o (a ∷ b ∷ c ∷ d ∷ e ∷ f ∷ g ∷ h ∷ i ∷ j ∷ k ∷ l ∷ m ∷ xs) ≡ take o (a ∷ b ∷ c ∷ d ∷ e ∷ f ∷ g ∷ h ∷ i ∷ j ∷ k ∷ l ∷ m ∷ ys)) long (ap (λ (zs : List (List ℕ)). a ∷ b ∷ c ∷ d ∷ e ∷ f ∷ g ∷ h ∷ i ∷ j ∷ k ∷ l ∷ m ∷ zs) same)
 
-  pub event-whole : (b bank : ℕ) (r : Record) → IsRecord r → map fields head ≡ event_head b bank → map fields pre ≡ pre_fields b r.pre r.locked → map fields crash ≡ crash_fields b r.crash → map fields last ≡ event_end b (is_complete r)
-      → map fields rows ≡ map line_fields (event_lines b bank r)
-  event-whole b bank r is e f g h =
-      rows-joined fields rows head rest 2 _ _ head-is rest-is e (rows-joined fields rest pre rest2 11 _ _ pre-is rest2-is f (rows-joined fields rest2 crash last 15 _ _ crash-is last-is g h)) ∙ sym (event-fields b bank r is)
+-- the lines before it are as they were
+pub after-earlier : (line : EventLine) (l : CrashLine) (block bank : ℕ) (p : PrePart) (is_locked : Bool) (c d : Option CrashPart) → line ≡ After l → IfSome c IsCrash → IfSome d IsCrash → take (crash_place l) (crash_texts d) ≡ take (crash_place l) (crash_texts c)
+    → take (event_place line) (event_texts block (bank, record { pre = p; locked = is_locked; crash = d })) ≡ take (event_place line) (event_texts block (bank, record { pre = p; locked = is_locked; crash = c }))
+after-earlier line l block bank p is_locked c d is hc hd same =
+    let most = crash-most l in
+    let last : Option CrashPart → List (List ℕ) = λ o. yes_no (is_complete (record { pre = p; locked = is_locked; crash = o })) ∷ [] in
+    let c-long = crash-long c hc in
+    let d-long = crash-long d hd in
+    let fc : take (crash_place l) (crash_texts c ++ last c) ≡ take (crash_place l) (crash_texts c) = take-append-le (crash_place l) (crash_texts c) (last c) (omega (arith, most, c-long)) in
+    let fd : take (crash_place l) (crash_texts d ++ last d) ≡ take (crash_place l) (crash_texts d) = take-append-le (crash_place l) (crash_texts d) (last d) (omega (arith, most, d-long)) in
+    subst (λ (x : EventLine). take (event_place x) (event_texts block (bank, record { pre = p; locked = is_locked; crash = d })) ≡ take (event_place x) (event_texts block (bank, record { pre = p; locked = is_locked; crash = c }))) (sym is)
+    (thirteen-before _ _ _ _ _ _ _ _ _ _ _ _ _ (crash_texts d ++ last d) (crash_texts c ++ last c) (crash_place l) (fd ∙ same ∙ sym fc))
 
-pub complete-same : (q : PrePart) (l : Bool) (c : Option CrashPart) (r : Record) → SlotsAre q r.pre → c ≡ r.crash → is_complete (record { pre = q; locked = l; crash = c }) ≡ is_complete r
+ticks-same : (c d : Option CrashPart) → PartsAgree 15 c d → option_map_or misses_no_tick c false ≡ option_map_or misses_no_tick d false
+ticks-same None None a = refl
+ticks-same None (Some d) a = absurd (omega (arith, a))
+ticks-same (Some c) None a = absurd (omega (arith, a))
+ticks-same (Some c) (Some d) a = rw (a.missing_along (omega arith), a.missing_across (omega arith)) refl
+
+-- what all lines before the last one fix tells whether the record is complete
+pub complete-same : (e f : ℕ × Record) → EventAgrees 28 e f → is_complete e.1 ≡ is_complete f.1
 unfolding is_complete
-complete-same q l c r s e = rw (s.speed, s.throttle, s.brake, s.belt, s.lamp, e) refl
+complete-same e f a =
+    let b = a.before in
+    rw (b.speed (omega arith), b.throttle (omega arith), b.brake (omega arith), b.belt (omega arith), b.lamp (omega arith), ticks-same e.1.crash f.1.crash a.after) refl
 
-pub some-is : {X : Type 0} (x y : X) → Some x ≡ Some y → x ≡ y
-some-is x y e = cc
+pub last-line : (line : EventLine) (e f : ℕ × Record) → line ≡ Complete → EventAgrees (event_place line) e f → is_complete e.1 ≡ is_complete f.1
+last-line line e f is a = complete-same e f (subst (λ (l : EventLine). EventAgrees (event_place l) e f) is a)

@@ -2,7 +2,7 @@
 use Rattle.std.proofs.Common.{arith, ◌≡◌, ◌≢◌, ◌∙◌, sym, ap, subst, refl, ℕ, zero, suc, ◌<◌, ◌≤◌, ◌+◌, ◌-◌, min, map, List, [], ◌∷◌, ◌++◌, length, length-append, take, drop, get_or, codes}
 use Rattle.std.proofs.lemmas.List.{append-nil, length-map, length-take, take-append-drop}
 use Rattle.edr_report.specs.Report.{report_lines}
-use Rattle.edr_reading.proofs.LastLemmas.{distinct-none}
+use Rattle.edr_reading.proofs.DistinctLemmas.{distinct-none}
 use Rattle.edr_reading.proofs.ReadingLemmas.{all-three}
 use Rattle.edr_reading.specs.Rows.{line_fields}
 use Rattle.edr_reading.specs.Faults.{AreReport, Opens, ReportGoesOn, IsFault, IsWrong}

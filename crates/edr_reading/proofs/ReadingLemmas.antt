@@ -2,7 +2,6 @@
 use Rattle.std.proofs.Common.{arith, ◌≡◌, ◌≢◌, ◌∙◌, sym, ap, ap₂, subst, refl, ℕ, zero, suc, ◌<◌, List, [], ◌∷◌, ◌++◌, map, flat_map, length, get_or, None, codes, append_assoc, take}
 use Rattle.std.specs.List.{All}
 use Rattle.std.proofs.lemmas.List.{map-append, length-map}
-use Rattle.std.proofs.Math.Seq.{take-length}
 use Rattle.std.proofs.lemmas.List.Elements.{All-head, All-tail}
 use Rattle.edr_record.specs.declared.Record.{Record}
 use Rattle.edr_image.specs.declared.Found.{Found}
@@ -15,11 +14,9 @@ use Rattle.edr_report.specs.Words.{shown_count}
 use Rattle.edr_report.specs.Report.{report_lines, run_lines, events_lines, found_record, found_records, damaged_lines, event_lines}
 use Rattle.edr_reading.specs.Values.{IsDamagedView}
 use Rattle.edr_reading.specs.Found.{IsDamaged, events_fields, last_rows, damaged_fields, count_fields}
-use Rattle.edr_reading.specs.declared.rows.ReportRow.{ReportRow}
-use Rattle.edr_reading.specs.Rows.{fields, line_fields}
-use Rattle.edr_reading.specs.Run.{run_fields, BehindRun}
+use Rattle.edr_reading.specs.Rows.{line_fields}
+use Rattle.edr_reading.specs.Run.{run_fields}
 use Rattle.edr_reading.specs.Reading.{head_row, report_rows}
-use Rattle.edr_reading.proofs.FoundLemmas.{decimal-same, first-behind}
 
 no-record : (b : ℕ) (v : BankView) → IsDamagedView v → found_record b v ≡ None
 no-record b Void h = absurd h
@@ -70,13 +67,6 @@ report-parts reports es ds n h =
     (ap (λ (x : List (ℕ × Record)). events_fields 1 x) (records-are es ds h))
     (map-append line_fields damaged last ∙ ap (λ (x : List (List (List ℕ))). x ++ count_fields n ∷ []) (damaged-all es ds h))))
 
--- the rows behind a run don't begin as it does
-pub behind-run : (es : List (ℕ × Record)) (ds : List Found) (n : ℕ) → BehindRun (events_fields 1 es ++ last_rows ds n)
-unfolding event_lines
-behind-run [] [] n = λ b e. omega (arith, e)
-behind-run [] (d ∷ ds) n = λ b e. omega (arith, e)
-behind-run (e ∷ es) ds n = subst BehindRun (sym (first-behind 1 e es (last_rows ds n))) (λ b. let z = decimal-same 1 0 (omega arith) (omega arith) b in absurd (omega (arith, z)))
-
 three : (ls : List Line) (i : ℕ) → i < length ls → length (get_or (map line_fields ls) i []) ≡ 3
 three [] i h = absurd (omega (arith, h))
 three (l ∷ ls) zero h = refl
@@ -86,11 +76,3 @@ three (l ∷ ls) (suc i) h = three ls i (omega (arith, h))
 pub all-three : (reports : List Report) (found : List Found) (n i : ℕ) → i < length (report_rows reports found n) → length (get_or (report_rows reports found n) i []) ≡ 3
 all-three reports found n zero h = refl
 all-three reports found n (suc i) h = three (report_lines reports found n) i (let m = length-map (report_lines reports found n) line_fields in omega (arith, h, m))
-
--- a record of another length is in no report
-pub no-other : (records : List (List (List ℕ))) (reports : List Report) (found : List Found) (n k : ℕ) → records ≡ report_rows reports found n → k < length records → length (get_or records k []) ≢ 3 → ⊥
-no-other records reports found n k same h other = other (subst (λ (x : List (List (List ℕ))). length (get_or x k []) ≡ 3) (sym same) (all-three reports found n k (omega (arith, h, ap length same))))
-
--- rows of as many records as there are are all of them
-pub all-rows : (rows : List ReportRow) (records : List (List (List ℕ))) (k : ℕ) → map fields rows ≡ take k records → k ≡ length records → map fields rows ≡ records
-all-rows rows records k e long = e ∙ ap (λ (j : ℕ). take j records) long ∙ take-length records

@@ -1,42 +1,102 @@
--- Rows with known names.
-use Rattle.std.proofs.Common.{arith, ◌≡◌, ◌∙◌, sym, ap, refl, ℕ, zero, suc, ◌+◌, ◌<◌, List, [], ◌∷◌, ◌++◌, length, map, take, drop, get_or, set, decimal}
-use Rattle.std.proofs.lemmas.List.{take_more, take_more_set, map_more, map-append}
-use Rattle.std.proofs.Math.Seq.{take-length}
-use Rattle.edr_reading.specs.Rows.{named_fields}
+-- The rows of an event, by the names and values of its lines.
+use Rattle.std.proofs.Common.{arith, ◌≡◌, ◌∙◌, sym, ap, ap₂, subst, refl, ℕ, zero, suc, ◌+◌, ◌<◌, Bool, List, [], ◌∷◌, ◌++◌, length, length-append, map, take, drop, get_or, decimal, Option, None, Some, Bor}
+use Rattle.std.specs.Option.{IfSome}
+use Rattle.std.proofs.lemmas.List.{length-map, take_more}
+use Rattle.std.proofs.lemmas.List.FromFn.{fill_by_all}
+use Rattle.edr_record.specs.declared.Record.{Record}
+use Rattle.edr_record.specs.Bounds.{IsCrash}
+use Rattle.edr_record.specs.Complete.{is_complete}
+use Rattle.edr_record.specs.Parts.{PrePart, CrashPart}
+use Rattle.edr_report.specs.EventWords.{event_words}
+use Rattle.edr_report.specs.Lines.{Line}
+use Rattle.edr_report.specs.Report.{event_line, event_lines}
+use Rattle.edr_report.specs.Words.{yes_no, milliseconds, firing_words, points_words, extreme_words, missing_words}
+use Rattle.edr_report.specs.declared.event_lines.EventLine.{EventLine}
+use Rattle.edr_report.specs.declared.event_lines.EventLine.TheVariants.{Number}
+use Rattle.edr_report.specs.declared.event_lines.TheConstants.{LINES_OF_EVENT}
+use Rattle.edr_reading.specs.Event.{event_place, event_texts}
+use Rattle.edr_reading.specs.Parts.{IsRecord, crash_texts, pre_texts}
+use Rattle.edr_reading.specs.Rows.{FieldRows, Texts, event_fields, event_names, line_fields}
+use Rattle.edr_reading.proofs.EventLemmas.{crash-long}
 
-named-append : (b : ℕ) (ns vs : List (List ℕ)) (n v : List ℕ) → length ns ≡ length vs → named_fields b (ns ++ n ∷ []) (vs ++ v ∷ []) ≡ named_fields b ns vs ++ (decimal b ∷ n ∷ v ∷ []) ∷ []
-named-append b [] [] n v e = refl
-named-append b [] (w ∷ vs) n v e = absurd (omega (arith, e))
-named-append b (m ∷ ns) [] n v e = absurd (omega (arith, e))
-named-append b (m ∷ ns) (w ∷ vs) n v e = ap (λ (x : List (List (List ℕ))). (decimal b ∷ m ∷ w ∷ []) ∷ x) (named-append b ns vs n v (omega (arith, e)))
+-- rows of a block with these names and values
+abbrev pub block_fields : List ℕ → Texts → Texts → FieldRows
+block_fields block [] values = []
+block_fields block (n ∷ names) [] = []
+block_fields block (n ∷ names) (v ∷ values) = (block ∷ n ∷ v ∷ []) ∷ block_fields block names values
 
-module _ {X Y Z : Type 0} (f : X → List (List ℕ)) (g : Y → List ℕ) (h : Z → List ℕ) where
-  -- one row more has its name and its value
-  pub named-more : (b : ℕ) (xs : List X) (ys : List Y) (zs : List Z) (i : ℕ) (d : X) (e : Y) (z : Z) → i < length xs → i < length ys → i < length zs → length (map g (take i ys)) ≡ length (map h (take i zs))
-      → map f (take i xs) ≡ named_fields b (map g (take i ys)) (map h (take i zs)) → f (get_or xs i d) ≡ decimal b ∷ g (get_or ys i e) ∷ h z ∷ []
-      → map f (take (i + 1) xs) ≡ named_fields b (map g (take (i + 1) ys)) (map h (take (i + 1) (set zs i z)))
-  named-more b xs ys zs i d e z p q r long before this =
-      let names : map g (take (i + 1) ys) ≡ map g (take i ys) ++ g (get_or ys i e) ∷ [] = map_more g ys i e q in
-      let values : map h (take (i + 1) (set zs i z)) ≡ map h (take i zs) ++ h z ∷ [] = ap (map h) (take_more_set zs i z r) ∙ map-append h (take i zs) (z ∷ []) in
-      map_more f xs i d p
-      ∙ ap (λ (a : List (List (List ℕ))). a ++ f (get_or xs i d) ∷ []) before
-      ∙ ap (λ (a : List (List ℕ)). named_fields b (map g (take i ys)) (map h (take i zs)) ++ a ∷ []) this
-      ∙ sym (named-append b (map g (take i ys)) (map h (take i zs)) (g (get_or ys i e)) (h z) long)
-      ∙ ap (λ (a : List (List ℕ)). named_fields b a (map h (take i zs) ++ h z ∷ [])) (sym names)
-      ∙ ap (λ (a : List (List ℕ)). named_fields b (map g (take (i + 1) ys)) a) (sym values)
+-- eight times, each read by its place, are the list of them
+firings : (c : CrashPart) → IsCrash c → firing_words (get_or c.fired 0 None) ∷ firing_words (get_or c.fired 1 None) ∷ firing_words (get_or c.fired 2 None) ∷ firing_words (get_or c.fired 3 None) ∷ firing_words (get_or c.fired 4 None) ∷ firing_words (get_or c.fired 5 None) ∷ firing_words (get_or c.fired 6 None) ∷ firing_words (get_or c.fired 7 None) ∷ [] ≡ map firing_words c.fired
+firings c h = ap (map firing_words) (sym (fill_by_all (λ (k : ℕ). get_or c.fired k None) c.fired 8 None h.restraints (λ k within. refl)))
 
-  -- what a row is where all have these names and values
-  pub named-at : (b : ℕ) (xs : List X) (ys : List Y) (ws : List (List ℕ)) (i : ℕ) (d : X) (e : Y) → map f xs ≡ named_fields b (map g ys) ws → i < length xs → i < length ys → i < length ws
-      → f (get_or xs i d) ≡ decimal b ∷ g (get_or ys i e) ∷ get_or ws i [] ∷ []
-  named-at b [] ys ws i d e is p q r = absurd (omega (arith, p))
-  named-at b (x ∷ xs) [] ws i d e is p q r = absurd (omega (arith, q))
-  named-at b (x ∷ xs) (y ∷ ys) [] i d e is p q r = absurd (omega (arith, r))
-  named-at b (x ∷ xs) (y ∷ ys) (w ∷ ws) zero d e is p q r = ap (λ l. get_or l 0 []) is
-  named-at b (x ∷ xs) (y ∷ ys) (w ∷ ws) (suc i) d e is p q r = named-at b xs ys ws i d e (ap (λ l. drop 1 l) is) (omega (arith, p)) (omega (arith, q)) (omega (arith, r))
+event-named : (b bank : ℕ) (r : Record) → IsRecord r → event_fields b bank r ≡ block_fields (decimal b) event_names (event_texts b (bank, r))
+unfolding event_lines
+event-named b bank r h = by r.pre r.locked r.crash h.crash
+  where
+    by : (p : PrePart) (l : Bool) (o : Option CrashPart) → IfSome o IsCrash → let s : Record = record { pre = p; locked = l; crash = o } in event_fields b bank s ≡ block_fields (decimal b) event_names (event_texts b (bank, s))
+    by p l None k = refl
+    by p l (Some c) k =
+        let s : Record = record { pre = p; locked = l; crash = Some c } in
+        let front : Texts = decimal b ∷ decimal bank ∷ pre_texts p l in
+        let back : Texts = milliseconds c.end ∷ points_words c.end c.along ∷ points_words c.end c.across ∷ extreme_words c.max_along ∷ extreme_words c.max_across ∷ milliseconds c.result_at ∷ missing_words c.missing_along c.missing_across ∷ [] in
+        ap (λ (x : Texts). block_fields (decimal b) event_names (front ++ ((back ++ x) ++ yes_no (is_complete s) ∷ []))) (firings c k)
 
-  pub values-more : (zs : List Z) (ws : List (List ℕ)) (i : ℕ) (z : Z) → i < length zs → i < length ws → map h (take i zs) ≡ take i ws → h z ≡ get_or ws i [] → map h (take (i + 1) (set zs i z)) ≡ take (i + 1) ws
-  values-more zs ws i z p q same this =
-      ap (map h) (take_more_set zs i z p) ∙ map-append h (take i zs) (z ∷ []) ∙ ap (λ (a : List (List ℕ)). a ++ h z ∷ []) same ∙ ap (λ (a : List ℕ). take i ws ++ a ∷ []) this ∙ sym (take_more ws i [] q)
+words-long : (b : ℕ) (e : ℕ × Record) → IsRecord e.1 → length (event_texts b e) ≡ 29
+words-long b e h =
+    let c = crash-long e.1.crash h.crash in
+    let a = length-append (crash_texts e.1.crash) (yes_no (is_complete e.1) ∷ []) in
+    omega (arith, a, c)
 
-pub at-all : {X : Type 0} (xs : List X) (i : ℕ) → i ≡ length xs → take i xs ≡ xs
-at-all xs i e = ap (λ (k : ℕ). take k xs) e ∙ take-length xs
+pub event-long : (b bank : ℕ) (r : Record) → length (event_fields b bank r) ≡ 29
+unfolding event_lines
+event-long b bank r = refl
+
+pub event-gone : (b bank : ℕ) (r : Record) → drop 29 (event_fields b bank r) ≡ []
+unfolding event_lines
+event-gone b bank r = refl
+
+take-block : (b : List ℕ) (k : ℕ) (ns vs : Texts) → take k (block_fields b ns vs) ≡ block_fields b (take k ns) (take k vs)
+take-block b zero ns vs = nil-of (block_fields b ns vs) ∙ sym (ap (λ (x : Texts). block_fields b x (take 0 vs)) (nil-of ns))
+  where
+    nil-of : {X : Type 0} (xs : List X) → take 0 xs ≡ []
+    nil-of [] = refl
+    nil-of (x ∷ xs) = refl
+take-block b (suc k) [] vs = refl
+take-block b (suc k) (n ∷ ns) [] = refl
+take-block b (suc k) (n ∷ ns) (v ∷ vs) = ap (λ (x : FieldRows). (b ∷ n ∷ v ∷ []) ∷ x) (take-block b k ns vs)
+
+-- where an event shows one line more, and the lines before it as another did, its row is added to theirs
+pub rows-more : (b k : ℕ) (e f : ℕ × Record) → k < 29 → IsRecord e.1 → IsRecord f.1 → take k (event_texts b f) ≡ take k (event_texts b e)
+    → take (k + 1) (event_fields b f.0 f.1) ≡ take k (event_fields b e.0 e.1) ++ get_or (event_fields b f.0 f.1) k [] ∷ []
+rows-more b k e f small he hf same =
+    take_more (event_fields b f.0 f.1) k [] (let l = event-long b f.0 f.1 in omega (arith, l, small))
+    ∙ ap (λ (x : FieldRows). x ++ get_or (event_fields b f.0 f.1) k [] ∷ [])
+    (ap (take k) (event-named b f.0 f.1 hf) ∙ take-block (decimal b) k event_names (event_texts b f) ∙ ap (block_fields (decimal b) (take k event_names)) same
+    ∙ sym (ap (take k) (event-named b e.0 e.1 he) ∙ take-block (decimal b) k event_names (event_texts b e)))
+
+abbrev Below : ℕ → (ℕ → Type 0) → Type 0
+Below zero P = Unit {0}
+Below (suc n) P = P 0 × Below n (λ k. P (suc k))
+
+below-at : (n : ℕ) (P : ℕ → Type 0) → Below n P → (k : ℕ) → k < n → P k
+below-at zero P h k l = absurd (omega (arith, l))
+below-at (suc n) P h zero l = h.0
+below-at (suc n) P h (suc k) l = below-at n (λ j. P (suc j)) h.1 k (omega (arith, l))
+
+pub at-map : {X Y : Type 0} (f : X → Y) (xs : List X) (k : ℕ) (d : X) (y : Y) → k < length xs → get_or (map f xs) k y ≡ f (get_or xs k d)
+at-map f [] k d y h = absurd (omega (arith, h))
+at-map f (x ∷ xs) zero d y h = refl
+at-map f (x ∷ xs) (suc k) d y h = at-map f xs k d y (omega (arith, h))
+
+-- the lines of an event, in their order
+abbrev pub lines : List EventLine
+lines = map (λ l. l.1) LINES_OF_EVENT
+
+-- a line's place is its place among them
+pub line-place : (k : ℕ) → k < 29 → event_place (get_or lines k Number) ≡ k
+line-place k h = below-at 29 (λ j. event_place (get_or lines j Number) ≡ j) (refl, (refl, (refl, (refl, (refl, (refl, (refl, (refl, (refl, (refl, (refl, (refl, (refl, (refl, (refl, (refl, (refl, (refl, (refl, (refl, (refl, (refl, (refl, (refl, (refl, (refl, (refl, (refl, (refl, tt))))))))))))))))))))))))))))) k h
+
+-- the row of a line
+pub row-at : (b : ℕ) (e : ℕ × Record) (k : ℕ) → k < 29 → get_or (event_fields b e.0 e.1) k [] ≡ decimal b ∷ get_or event_names k [] ∷ event_words b e.0 e.1 (get_or lines k Number) ∷ []
+unfolding event_lines
+row-at b e k small = below-at 29 (λ j. get_or (event_fields b e.0 e.1) j [] ≡ decimal b ∷ get_or event_names j [] ∷ event_words b e.0 e.1 (get_or lines j Number) ∷ []) (refl, (refl, (refl, (refl, (refl, (refl, (refl, (refl, (refl, (refl, (refl, (refl, (refl, (refl, (refl, (refl, (refl, (refl, (refl, (refl, (refl, (refl, (refl, (refl, (refl, (refl, (refl, (refl, (refl, tt))))))))))))))))))))))))))))) k small

@@ -4,11 +4,11 @@ pub mod Slots
 pub mod Parts
 pub mod Rows
 pub mod Answers
+pub mod Event
 pub mod Told
 pub mod Run
 pub mod Found
 pub mod Reading
 pub mod Faults
-pub mod Plain
-pub mod Cut
+pub mod Reader
 pub mod Refusals

@@ -1,104 +1,129 @@
--- Which values show the parts of a record.
-use Rattle.std.specs.Prelude.{◌≡◌, ℕ, Bool, List, All, length, map, IfSome, Option, MatchOption}
-use denote.Ref.{Bor}
+-- What the lines of the two parts of a record show and fix.
+use Rattle.std.specs.Prelude.{◌≡◌, ◌≤◌, ◌+◌, ℕ, Bool, List, [], ◌∷◌, All, length, map, IfSome, Option, None, Some, ⊤, replicate}
 use Rattle.edr_record.specs.Parts.{PrePart, CrashPart}
 use Rattle.edr_record.specs.Bounds.{IsPre, IsCrash, IsUpTo, slots_in}
 use Rattle.edr_record.specs.Fields.{profile_of_slots, speed_of, throttle_of, brake_of}
 use Rattle.edr_record.specs.declared.Profile.{Profile}
 use Rattle.edr_record.specs.declared.Slots.{Slots}
 use Rattle.edr_record.specs.declared.Record.{Record}
-use Rattle.edr_report.specs.Words.{yes_no, profile_word, number_or_none, switch_or_none, milliseconds, firing_words, shown_count, events_in_crash, time_between, spaced_words, points_words, extreme_words, missing_words}
-use Rattle.edr_reading.specs.Rows.{fields, texts_in, pre_fields, crash_fields}
-use Rattle.edr_reading.specs.declared.rows.ReportRow.{ReportRow}
-use Rattle.edr_reading.specs.declared.pre.PreValues.{PreValues}
-use Rattle.edr_reading.specs.declared.crash.CrashValues.{CrashValues}
+use Rattle.edr_report.specs.declared.event_lines.PreLine.{PreLine}
+use Rattle.edr_report.specs.declared.event_lines.PreLine.TheVariants as pre
+use Rattle.edr_report.specs.declared.event_lines.CrashLine.{CrashLine}
+use Rattle.edr_report.specs.declared.event_lines.CrashLine.TheVariants as crash
+use Rattle.std.specs.Option.{option_map_or}
+use Rattle.edr_report.specs.EventWords.{crash_words, place_of}
+use Rattle.edr_report.specs.Words.{none_word, yes_no, profile_word, number_or_none, switch_or_none, milliseconds, firing_words, shown_count, events_in_crash, time_between, spaced_words, points_words, extreme_words, missing_words}
+use Rattle.edr_reading.specs.Rows.{Texts}
+use Rattle.edr_reading.specs.declared.pre.PreSoFar.{PreSoFar}
 
 -- ---- before time zero
 
--- the values of the lines of what stood before time zero
-pub record ShowsPre (v : PreValues) (p : PrePart) (is_locked : Bool) : Type 0 where
-  pub cycle : v.cycle.now ≡ shown_count p.key.cycle
-  pub zero : v.zero.now ≡ milliseconds p.key.zero
-  pub events : v.events.now ≡ events_in_crash p.place
-  pub between : v.between.now ≡ time_between p.place
-  pub locked : v.locked.now ≡ yes_no is_locked
-  pub profile : v.profile.now ≡ profile_word p.profile
-  pub speed : v.speed.now ≡ spaced_words (map number_or_none p.speed)
-  pub throttle : v.throttle.now ≡ spaced_words (map number_or_none p.throttle)
-  pub brake : v.brake.now ≡ spaced_words (map switch_or_none p.brake)
-  pub belt : v.belt.now ≡ switch_or_none p.belt
-  pub lamp : v.lamp.now ≡ switch_or_none p.lamp
+-- the pre part of what was read so far
+abbrev pub pre_of : PreSoFar → PrePart
+pre_of p = record {
+  key = p.key;
+  place = p.place;
+  profile = profile_of_slots p.slots;
+  speed = speed_of p.slots;
+  throttle = throttle_of p.slots;
+  brake = brake_of p.slots;
+  belt = p.belt;
+  lamp = p.lamp;
+}
 
--- the values of the lines of lists of this profile
-pub record ShowsLists (v : PreValues) (f : Profile) (kmh per_cent : List (Option ℕ)) (is_on : List (Option Bool)) : Type 0 where
-  pub speeds : length kmh ≡ slots_in f
-  pub speed_range : All (IsUpTo 300) kmh
-  pub speed : v.speed.now ≡ spaced_words (map number_or_none kmh)
-  pub throttles : length per_cent ≡ slots_in f
-  pub throttle_range : All (IsUpTo 100) per_cent
-  pub throttle : v.throttle.now ≡ spaced_words (map number_or_none per_cent)
-  pub brakes : length is_on ≡ slots_in f
-  pub brake : v.brake.now ≡ spaced_words (map switch_or_none is_on)
+-- slots of this profile within their bounds
+pub record AreSlots (f : Profile) (s : Slots) : Type 0 where
+  pub profile : profile_of_slots s ≡ f
+  pub speeds : length (speed_of s) ≡ slots_in f
+  pub speed : All (IsUpTo 300) (speed_of s)
+  pub throttles : length (throttle_of s) ≡ slots_in f
+  pub throttle : All (IsUpTo 100) (throttle_of s)
+  pub brakes : length (brake_of s) ≡ slots_in f
 
--- these slots are shown as those of their profile
-abbrev pub ShowsSlots : PreValues → Slots → Type 0
-ShowsSlots v s = ShowsLists v (profile_of_slots s) (speed_of s) (throttle_of s) (brake_of s)
+-- the place of a line among them
+abbrev pub pre_place : PreLine → ℕ
+pre_place pre.Cycle = 0
+pre_place pre.TimeZero = 1
+pre_place pre.Events = 2
+pre_place pre.Between = 3
+pre_place pre.Deployment = 4
+pre_place pre.Profile = 5
+pre_place pre.Speed = 6
+pre_place pre.Throttle = 7
+pre_place pre.Brake = 8
+pre_place pre.Belt = 9
+pre_place pre.Lamp = 10
 
--- what was read has these lists
-abbrev pub GivesLists : List (Option ℕ) → List (Option ℕ) → List (Option Bool) → Option Slots → Type 0
-GivesLists speed throttle brake read =
-    MatchOption read ⊥ (λ s. (speed_of s ≡ speed) × (throttle_of s ≡ throttle) × (brake_of s ≡ brake))
+-- what the lines show, in their order
+abbrev pub pre_texts : PrePart → Bool → Texts
+pre_texts p locked =
+    shown_count p.key.cycle
+    ∷ milliseconds p.key.zero
+    ∷ events_in_crash p.place
+    ∷ time_between p.place
+    ∷ yes_no locked
+    ∷ profile_word p.profile
+    ∷ spaced_words (map number_or_none p.speed)
+    ∷ spaced_words (map number_or_none p.throttle)
+    ∷ spaced_words (map switch_or_none p.brake)
+    ∷ switch_or_none p.belt
+    ∷ switch_or_none p.lamp
+    ∷ []
 
--- lists of this profile are read, where the values show them
-abbrev pub ReadsLists : PreValues → Profile → Option Slots → Type 0
-ReadsLists v f read =
-    (speed throttle : List (Option ℕ)) (brake : List (Option Bool)) → ShowsLists v f speed throttle brake → GivesLists speed throttle brake read
-
--- lists of the profile that is told are
-abbrev pub ReadsToldLists : PreValues → Option Slots → Type 0
-ReadsToldLists v read =
-    (f : Profile) (speed throttle : List (Option ℕ)) (brake : List (Option Bool)) → v.profile.now ≡ profile_word f
-    → ShowsLists v f speed throttle brake → GivesLists speed throttle brake read
+-- two parts have the same in what the first k lines fix of those after them
+pub record PreAgrees (k : ℕ) (p q : PrePart) : Type 0 where
+  pub events : 3 ≤ k → events_in_crash p.place ≡ events_in_crash q.place
+  pub profile : 6 ≤ k → p.profile ≡ q.profile
+  pub speed : 7 ≤ k → p.speed ≡ q.speed
+  pub throttle : 8 ≤ k → p.throttle ≡ q.throttle
+  pub brake : 9 ≤ k → p.brake ≡ q.brake
+  pub belt : 10 ≤ k → p.belt ≡ q.belt
+  pub lamp : 11 ≤ k → p.lamp ≡ q.lamp
 
 -- ---- after time zero
 
--- whatever eight firings, of which none is later, the values tell, this is so
-abbrev pub OfFirings : ℕ → List (Bor (List ℕ)) → (List (Option ℕ) → Type 0) → Type 0
-OfFirings latest values says =
-    (fired : List (Option ℕ)) → length fired ≡ 8 → All (IsUpTo latest) fired → texts_in values ≡ map firing_words fired → says fired
+-- the place of a line among them
+abbrev pub crash_place : CrashLine → ℕ
+crash_place crash.End = 0
+crash_place crash.Along = 1
+crash_place crash.Across = 2
+crash_place crash.MaxAlong = 3
+crash_place crash.MaxAcross = 4
+crash_place crash.ResultAt = 5
+crash_place crash.Missing = 6
+crash_place (crash.Fired r) = 7 + place_of r
 
--- the values of the lines of what came after time zero
-pub record ShowsCrash (v : CrashValues) (c : CrashPart) : Type 0 where
-  pub end : v.end.now ≡ milliseconds c.end
-  pub along : v.along.now ≡ points_words c.end c.along
-  pub across : v.across.now ≡ points_words c.end c.across
-  pub max_along : v.max_along.now ≡ extreme_words c.max_along
-  pub max_across : v.max_across.now ≡ extreme_words c.max_across
-  pub result_at : v.result_at.now ≡ milliseconds c.result_at
-  pub missing : v.missing.now ≡ missing_words c.missing_along c.missing_across
-  pub fired : map (λ f. f.now) v.fired ≡ map firing_words c.fired
+-- what the lines show, in their order
+abbrev pub crash_texts : Option CrashPart → Texts
+crash_texts None = replicate 15 none_word
+crash_texts (Some c) =
+    milliseconds c.end
+    ∷ points_words c.end c.along
+    ∷ points_words c.end c.across
+    ∷ extreme_words c.max_along
+    ∷ extreme_words c.max_across
+    ∷ milliseconds c.result_at
+    ∷ missing_words c.missing_along c.missing_across
+    ∷ map firing_words c.fired
 
--- ---- the record that rows tell
+-- what a line shows where the part may be absent
+abbrev pub part_words : Option CrashPart → CrashLine → List ℕ
+part_words c l = option_map_or (λ d. crash_words d l) c none_word
 
--- the parts that are told of a record determine whether it is complete
-pub record SlotsAre (p q : PrePart) : Type 0 where
-  pub speed : p.speed ≡ q.speed
-  pub throttle : p.throttle ≡ q.throttle
-  pub brake : p.brake ≡ q.brake
-  pub belt : p.belt ≡ q.belt
-  pub lamp : p.lamp ≡ q.lamp
+-- two parts have the same in what the first k lines fix of those after them
+pub record CrashAgrees (k : ℕ) (c d : CrashPart) : Type 0 where
+  pub end : 1 ≤ k → c.end ≡ d.end
+  pub missing_along : 7 ≤ k → c.missing_along ≡ d.missing_along
+  pub missing_across : 7 ≤ k → c.missing_across ≡ d.missing_across
 
--- what was read has these slots, and is so locked
-abbrev pub GivesPre : PrePart → Bool → Option (PrePart × Bool) → Type 0
-GivesPre p locked read = MatchOption read ⊥ (λ q. SlotsAre q.0 p × (q.1 ≡ locked))
+-- where each of them may be absent
+abbrev pub PartsAgree : ℕ → Option CrashPart → Option CrashPart → Type 0
+PartsAgree k None None = ⊤
+PartsAgree k None (Some d) = k ≡ 0
+PartsAgree k (Some c) None = k ≡ 0
+PartsAgree k (Some c) (Some d) = CrashAgrees k c d
 
--- whatever the rows tell of what stood before time zero, this is so
-abbrev pub OfPre : ℕ → List ReportRow → (PrePart → Bool → Type 0) → Type 0
-OfPre block rows says = (p : PrePart) (locked : Bool) → IsPre p → map fields rows ≡ pre_fields block p locked → says p locked
-
--- whatever they tell of what came after it, this is so
-abbrev pub OfCrashRows : ℕ → List ReportRow → (Option CrashPart → Type 0) → Type 0
-OfCrashRows block rows says = (c : Option CrashPart) → IfSome c IsCrash → map fields rows ≡ crash_fields block c → says c
+-- ---- the record
 
 -- the bounds of a record
 pub record IsRecord (r : Record) : Type 0 where

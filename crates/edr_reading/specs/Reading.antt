@@ -7,9 +7,8 @@ use Rattle.edr_image.specs.Banks.{found_event}
 use Rattle.edr_image.specs.Reports.{Report, report_of}
 use Rattle.edr_report.specs.Report.{report_lines}
 use Rattle.edr_reading.specs.declared.reading.Reading.{Reading}
-use Rattle.edr_reading.specs.declared.rows.ReportRow.{ReportRow}
-use Rattle.edr_reading.specs.Found.{IsEvent, IsDamaged, events_fields, last_rows}
-use Rattle.edr_reading.specs.Rows.{FieldRows, fields, line_fields}
+use Rattle.edr_reading.specs.Found.{IsEvent, IsDamaged}
+use Rattle.edr_reading.specs.Rows.{FieldRows, line_fields}
 use Rattle.edr_reading.specs.Run.{IsReport}
 
 -- the row that names the columns
@@ -28,19 +27,9 @@ rows_told r = report_rows (map report_of r.run.items) r.found.items r.count
 abbrev pub BeginsWithHead : FieldRows → Type 0
 BeginsWithHead rows = (rest : FieldRows) × (rows ≡ head_row ∷ rest)
 
--- it does, and the rest is behind it
-abbrev pub IsBehindHead : List ReportRow → List ReportRow → Type 0
-IsBehindHead rest rows = (length rest + 1 ≡ length rows) × (map fields rows ≡ head_row ∷ map fields rest)
-
 -- no bank is told twice
 abbrev pub AreDistinct : List Found → Type 0
 AreDistinct found = IsDistinct eqb (map (λ f. f.bank) found)
-
--- whatever was found that the rows tell, in different banks, this is so
-abbrev pub OfFound : List ReportRow → Type 0 → Type 0
-OfFound rows says =
-    (es : List (ℕ × Record)) (ds : List Found) (n : ℕ) → All IsEvent es → All IsDamaged ds → AreDistinct (map found_event es ++ ds)
-    → map fields rows ≡ events_fields 1 es ++ last_rows ds n → says
 
 -- what a report may tell: cycles within their bounds, events and then damaged banks within theirs, each of another bank,
 -- in less rows than a u32 counts

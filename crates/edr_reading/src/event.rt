@@ -1,95 +1,146 @@
-//! An event, read back from its rows.
+//! An event, read line by line.
 
-ghost use Rattle.std.specs.Prelude.{◌≡◌, ℕ, length, map, decimal, Some, IfSome, MatchOption};
+ghost use Rattle.std.specs.Prelude.{◌≡◌, ◌+◌, ◌<◌, [], ℕ, ⊤, length, take, slice_index_or, IfSome, MatchOption};
+ghost use Rattle.std.specs.Bool.{MatchBool};
 ghost use Rattle.edr_record.specs.declared.Record.{Record};
+ghost use Rattle.edr_report.specs.EventWords.{event_words};
 ghost use Rattle.edr_report.specs.Words.{yes_no};
 ghost use Rattle.edr_reading.specs.Answers.{TellsWhether};
-ghost use Rattle.edr_reading.specs.declared.event.TheConstants.{EVENT_ROWS, HEAD_ROWS};
-ghost use Rattle.edr_reading.specs.Rows.{event_end, event_fields, event_head, fields};
-ghost use Rattle.edr_reading.specs.Values.{IsBank};
+ghost use Rattle.edr_reading.specs.Event.{EventAgrees, HasNoBank, IsNextEvent, event_of, event_place, event_texts, record_of};
 ghost use Rattle.edr_reading.specs.Parts.{IsRecord};
+ghost use Rattle.edr_reading.specs.Rows.{lines_of, names_of};
+ghost use Rattle.edr_reading.specs.Values.{IsBank};
 
+use crate::crash::part_line;
 use crate::front::{is_word, last_within};
-use crate::parts::{crash_rows, pre_rows};
-use crate::rows::{ReportRow, put_values};
+use crate::pre::{PreSoFar, plain_pre, pre_line};
 use crate::values::bank_behind;
-use edr_record::Record;
-use edr_report::LINES_OF_EVENT;
+use edr_image::Found;
+use edr_image::places::MOST_BANKS;
+use edr_record::{Crash, Record};
+use edr_report::{EventLine, LINES_OF_EVENT};
 
-/// How many rows an event has: those that begin it, those of its two parts, and the one that ends it.
+/// How many rows an event has.
 pub const EVENT_ROWS: usize = LINES_OF_EVENT.len();
 
-/// How many begin it.
-pub const HEAD_ROWS: usize = 2;
+/// What was read of an event. Where nothing was read yet, its values are plain ones.
+#[derive(Clone, Copy)]
+pub(crate) struct PartEvent {
+    pub bank: u8,
+    pub pre: PreSoFar,
+    pub crash: Option<Crash>,
+}
 
-/// How many tell what stood before time zero.
-pub const PRE_ROWS: usize = 11;
-
-/// How many tell what came after it.
-pub const CRASH_ROWS: usize = 15;
-
-// The bank of the event of this block, if these two rows begin it.
-fn head_rows(rows: &[ReportRow<'_>], block: u32) -> Option<u8>
-    requires { length rows.now ≡ HEAD_ROWS }
-    ensures read { IfSome result (λ b. IsBank b × (map fields rows.now ≡ event_head block b)) }
-    ensures whole { (b : ℕ) → IsBank b → map fields rows.now ≡ event_head block b
-        → result ≡ Some b }
-{
-    let mut values: [&[u8]; HEAD_ROWS] = [b""; HEAD_ROWS];
-    if put_values(rows, block, &LINES_OF_EVENT[..HEAD_ROWS], &mut values) {
-        bank_in(block, values[0], values[1])
-    } else {
-        None
+impl PartEvent {
+    /// Its record once all was read.
+    pub(crate) fn record(&self) -> Record
+        requires { IsRecord (record_of self.now) }
+        ensures { result ≡ record_of self.now }
+    {
+        Record {
+            pre: self.pre.pre(),
+            locked: self.pre.locked,
+            crash: self.crash,
+        }
     }
 }
 
-// The bank that the second value has, where the first is the number of the block.
-fn bank_in(block: u32, event: &[u8], bank: &[u8]) -> Option<u8>
-    ensures read { IfSome result (λ b. IsBank b × (event.now ≡ decimal block) × (bank.now ≡ decimal b)) }
-    ensures whole { (b : ℕ) → IsBank b → event.now ≡ decimal block → bank.now ≡ decimal b → result ≡ Some b }
+/// The event in this bank before anything was read.
+pub(crate) fn plain_event(bank: u8) -> PartEvent
+    ensures record { IsRecord (record_of result) }
+    ensures bank { result.bank ≡ bank }
 {
-    match last_within(event, b"", block, block) {
-        Some(_) => bank_behind(bank, b""),
-        None => None,
+    PartEvent {
+        bank,
+        pre: plain_pre(),
+        crash: None,
     }
 }
 
-// This one row says whether the file is complete.
-fn ends_with(rows: &[ReportRow<'_>], block: u32, complete: bool) -> bool
-    requires { length rows.now ≡ 1 }
-    ensures { TellsWhether result (map fields rows.now ≡ event_end block complete) }
+/// This bank was found.
+pub(crate) fn is_among(found: &[Found], bank: u8) -> bool
+    ensures { MatchBool result (HasNoBank found.now bank → ⊥) (HasNoBank found.now bank) }
 {
-    let mut values: [&[u8]; 1] = [b""; 1];
-    if put_values(rows, block, &LINES_OF_EVENT[EVENT_ROWS - 1..], &mut values) {
-        is_word(values[0], word_of(complete))
+    for one in found {
+        if one.bank == bank {
+            return true;
+        }
+    }
+    false
+}
+
+/// The first bank that wasn't found.
+pub(crate) fn free_bank(found: &[Found]) -> Option<u8>
+    ensures read { IfSome result (λ b. IsBank b × HasNoBank found.now b) }
+    ensures none { MatchOption result ((b : ℕ) → IsBank b → HasNoBank found.now b → ⊥) (λ b. ⊤) }
+{
+    for bank in 1..MOST_BANKS + 1 {
+        if !is_among(found, bank) {
+            return Some(bank);
+        }
+    }
+    None
+}
+
+/// The line in this place and its name.
+pub(crate) fn line_at(
+    lines: &[(&'static str, EventLine)],
+    place: usize,
+) -> (&'static str, EventLine)
+    requires { place < length lines.now }
+    ensures name { result.0.now ≡ slice_index_or (names_of lines.now) place [] }
+    ensures line { result.1 ≡ slice_index_or (lines_of lines.now) place EventLine.Number }
+{
+    lines[place]
+}
+
+// The value is `yes` or `no`, as this is true or not.
+fn is_decision(value: &[u8], decision: bool) -> bool
+    ensures { TellsWhether result (value.now ≡ yes_no decision) }
+{
+    if decision {
+        is_word(value, b"yes")
     } else {
-        false
+        is_word(value, b"no")
     }
 }
 
-fn word_of(decision: bool) -> &'static [u8]
-    ensures { result.now ≡ yes_no decision }
+/// The event with what this line shows, behind the lines before it, if it may show it: none of the banks found is its own.
+pub(crate) fn event_line(
+    event: &PartEvent,
+    block: u32,
+    found: &[Found],
+    line: EventLine,
+    value: &[u8],
+) -> Option<PartEvent>
+    requires { IsNextEvent found.now (event_of event.now) }
+    ensures bounds { IfSome result (λ e. IsNextEvent found.now (event_of e)) }
+    ensures shows { IfSome result (λ e. value.now ≡ event_words block e.bank (record_of e) line) }
+    ensures earlier { IfSome result (λ e. take (event_place line) (event_texts block (event_of e))
+        ≡ take (event_place line) (event_texts block (event_of event.now))) }
+    ensures whole { (f : ℕ × Record) → IsNextEvent found.now f → EventAgrees (event_place line) (event_of event.now) f
+        → value.now ≡ event_words block f.0 f.1 line
+        → MatchOption result ⊥ (λ e. EventAgrees (event_place line + 1) (event_of e) f) }
 {
-    if decision { b"yes" } else { b"no" }
-}
-
-/// The event of this block and its bank, if these rows show it.
-pub(crate) fn read_event(rows: &[ReportRow<'_>], block: u32) -> Option<(u8, Record)>
-    requires { length rows.now ≡ EVENT_ROWS }
-    ensures read { IfSome result (λ p. IsBank p.0 × IsRecord p.1 × (map fields rows.now ≡ event_fields block p.0 p.1)) }
-    ensures whole { (b : ℕ) (r : Record) → IsBank b → IsRecord r → map fields rows.now ≡ event_fields block b r
-        → MatchOption result ⊥ (λ p. p.0 ≡ b) }
-{
-    let (head, rest) = rows.split_at(HEAD_ROWS);
-    let (pre, rest) = rest.split_at(PRE_ROWS);
-    let (crash, last) = rest.split_at(CRASH_ROWS);
-    let bank = head_rows(head, block)?;
-    let (pre, locked) = pre_rows(pre, block)?;
-    let crash = crash_rows(crash, block)?;
-    let record = Record { pre, locked, crash };
-    if ends_with(last, block, record.complete()) {
-        Some((bank, record))
-    } else {
-        None
+    let PartEvent { bank, pre, crash } = *event;
+    match line {
+        EventLine::Number => match last_within(value, b"", block, block) {
+            Some(_) => Some(*event),
+            None => None,
+        },
+        EventLine::Bank => match bank_behind(value, b"") {
+            Some(bank) if !is_among(found, bank) => Some(PartEvent { bank, pre, crash }),
+            _ => None,
+        },
+        EventLine::Before(line) => {
+            let pre = pre_line(&pre, line, value)?;
+            Some(PartEvent { bank, pre, crash })
+        }
+        EventLine::After(line) => {
+            let crash = part_line(&crash, line, value)?;
+            Some(PartEvent { bank, pre, crash })
+        }
+        EventLine::Complete if is_decision(value, event.record().complete()) => Some(*event),
+        EventLine::Complete => None,
     }
 }

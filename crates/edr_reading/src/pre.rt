@@ -1,116 +1,259 @@
-//! What stood before time zero, read back from the values of its lines.
+//! What stood before time zero, read line by line.
 
-ghost use Rattle.std.specs.Prelude.{◌≡◌, Bool, Option, IfSome};
-ghost use Rattle.edr_record.specs.Bounds.{IsPre};
-ghost use Rattle.edr_record.specs.Fields.{profile_of_slots};
+ghost use Rattle.std.specs.Prelude.{◌≡◌, ◌+◌, ◌≤◌, ⊤, length, map, take, All, Bool, IfSome, MatchOption};
+ghost use Rattle.edr_record.specs.declared.Profile.TheVariants.{Short};
+ghost use Rattle.edr_record.specs.Bounds.{IsPre, IsUpTo, slots_in};
+ghost use Rattle.edr_record.specs.Fields.{profile_of_slots, speed_of, throttle_of, brake_of};
 ghost use Rattle.edr_record.specs.Parts.{PrePart};
-ghost use Rattle.edr_record.specs.declared.Profile.{Profile};
-ghost use Rattle.edr_record.specs.declared.Profile.TheVariants.{Short, Long};
-ghost use Rattle.edr_report.specs.Words.{profile_word};
-ghost use Rattle.edr_reading.specs.Parts.{ShowsPre, ShowsSlots, GivesPre, ReadsLists, ReadsToldLists};
+ghost use Rattle.edr_report.specs.EventWords.{pre_words};
+ghost use Rattle.edr_report.specs.Words.{number_or_none, spaced_words, switch_or_none};
+ghost use Rattle.edr_reading.specs.Parts.{AreSlots, PreAgrees, pre_of, pre_place, pre_texts};
+ghost use Rattle.edr_reading.specs.Slots.{OfSpaced};
 
 use crate::slots::read_slots;
-use crate::values::{count, decision, place, profile, switch, time};
+use crate::values::{count, decision, events, place_between, profile, switch, time};
 use edr_items::LATEST_MOMENT;
-use edr_record::{Key, LONG_SLOTS, Pre, Profile, SHORT_SLOTS, Slots};
+use edr_record::{Key, LONG_SLOTS, Place, Pre, Profile, SHORT_SLOTS, Slots};
+use edr_report::PreLine;
 
-/// The values of the lines of what stood before time zero, in their order.
+/// What was read of what stood before time zero, and of the lock. Where nothing was read yet, its values are plain ones.
 #[derive(Clone, Copy)]
-pub(crate) struct PreValues<'a> {
-    pub cycle: &'a [u8],
-    pub zero: &'a [u8],
-    pub events: &'a [u8],
-    pub between: &'a [u8],
-    pub locked: &'a [u8],
-    pub profile: &'a [u8],
-    pub speed: &'a [u8],
-    pub throttle: &'a [u8],
-    pub brake: &'a [u8],
-    pub belt: &'a [u8],
-    pub lamp: &'a [u8],
+pub(crate) struct PreSoFar {
+    pub key: Key,
+    pub place: Place,
+    pub locked: bool,
+    pub slots: Slots,
+    pub belt: Option<bool>,
+    pub lamp: Option<bool>,
 }
 
-// The lists of a short profile, if these values show them.
-fn short_slots(values: &PreValues<'_>) -> Option<Slots>
-    ensures read { IfSome result (λ s. (profile_of_slots s ≡ Short) × ShowsSlots values.now s) }
-    ensures whole { ReadsLists values.now Short result }
-{
-    let mut speed = [None; SHORT_SLOTS];
-    let mut throttle = [None; SHORT_SLOTS];
-    let mut brake = [None; SHORT_SLOTS];
-    if !read_slots(values.speed, &mut speed) {
-        return None;
-    }
-    if !read_slots(values.throttle, &mut throttle) {
-        return None;
-    }
-    if !read_slots(values.brake, &mut brake) {
-        return None;
-    }
-    Some(Slots::Short {
-        speed,
-        throttle,
-        brake,
-    })
-}
-
-// The lists of a long profile, if these values show them.
-fn long_slots(values: &PreValues<'_>) -> Option<Slots>
-    ensures read { IfSome result (λ s. (profile_of_slots s ≡ Long) × ShowsSlots values.now s) }
-    ensures whole { ReadsLists values.now Long result }
-{
-    let mut speed = [None; LONG_SLOTS];
-    let mut throttle = [None; LONG_SLOTS];
-    let mut brake = [None; LONG_SLOTS];
-    if !read_slots(values.speed, &mut speed) {
-        return None;
-    }
-    if !read_slots(values.throttle, &mut throttle) {
-        return None;
-    }
-    if !read_slots(values.brake, &mut brake) {
-        return None;
-    }
-    Some(Slots::Long {
-        speed,
-        throttle,
-        brake,
-    })
-}
-
-// The lists of the profile that is told, if these values show them.
-fn slots(values: &PreValues<'_>) -> Option<Slots>
-    ensures told { IfSome result (λ s. values.now.profile.now ≡ profile_word (profile_of_slots s)) }
-    ensures read { IfSome result (ShowsSlots values.now) }
-    ensures whole { ReadsToldLists values.now result }
-{
-    match profile(values.profile) {
-        Some(Profile::Short) => short_slots(values),
-        Some(Profile::Long) => long_slots(values),
-        None => None,
+impl PreSoFar {
+    /// What it is once all was read.
+    pub(crate) fn pre(&self) -> Pre
+        requires { IsPre (pre_of self.now) }
+        ensures { result ≡ pre_of self.now }
+    {
+        Pre {
+            key: self.key,
+            place: self.place,
+            slots: self.slots,
+            belt: self.belt,
+            lamp: self.lamp,
+        }
     }
 }
 
-/// What stood before time zero, and whether the record is locked, if these values show them.
-pub(crate) fn read_pre(values: &PreValues<'_>) -> Option<(Pre, bool)>
-    ensures read { IfSome result (λ q. ShowsPre values.now q.0 q.1) }
-    ensures bounds { IfSome result (λ q. IsPre q.0) }
-    ensures whole { (p : PrePart) (locked : Bool) → IsPre p → ShowsPre values.now p locked
-        → GivesPre p locked result }
+// Slots of this profile, all of them absent.
+fn no_slots(profile: Profile) -> Slots
+    ensures { AreSlots profile result }
 {
-    let cycle = count(values.cycle, 1)?;
-    let zero = time(values.zero, 1, LATEST_MOMENT)?;
-    let place = place(values.events, values.between)?;
-    let locked = decision(values.locked)?;
-    let slots = slots(values)?;
-    let belt = switch(values.belt)?;
-    let lamp = switch(values.lamp)?;
-    let pre = Pre {
-        key: Key { cycle, zero },
-        place,
-        slots,
-        belt,
-        lamp,
-    };
-    Some((pre, locked))
+    match profile {
+        Profile::Short => Slots::Short {
+            speed: [None; SHORT_SLOTS],
+            throttle: [None; SHORT_SLOTS],
+            brake: [None; SHORT_SLOTS],
+        },
+        Profile::Long => Slots::Long {
+            speed: [None; LONG_SLOTS],
+            throttle: [None; LONG_SLOTS],
+            brake: [None; LONG_SLOTS],
+        },
+    }
+}
+
+/// What it is before anything was read.
+pub(crate) fn plain_pre() -> PreSoFar
+    ensures { IsPre (pre_of result) }
+{
+    PreSoFar {
+        key: Key { cycle: 1, zero: 1 },
+        place: Place::First,
+        locked: false,
+        slots: no_slots(Profile::Short),
+        belt: None,
+        lamp: None,
+    }
+}
+
+// The slots with this speed, if the value shows as many.
+fn with_speed(slots: &Slots, value: &[u8]) -> Option<Slots>
+    ensures profile { IfSome result (λ s. profile_of_slots s ≡ profile_of_slots slots.now) }
+    ensures others { IfSome result (λ s. (throttle_of s ≡ throttle_of slots.now) × (brake_of s ≡ brake_of slots.now)) }
+    ensures long { IfSome result (λ s. (length (speed_of s) ≡ slots_in (profile_of_slots slots.now)) × All (IsUpTo 300) (speed_of s)) }
+    ensures read { IfSome result (λ s. value.now ≡ spaced_words (map number_or_none (speed_of s))) }
+    ensures whole { OfSpaced (slots_in (profile_of_slots slots.now)) number_or_none (IsUpTo 300) value.now
+        (λ xs. MatchOption result ⊥ (λ s. speed_of s ≡ xs)) }
+{
+    match *slots {
+        Slots::Short {
+            throttle,
+            brake,
+            ..
+        } => {
+            let mut speed = [None; SHORT_SLOTS];
+            if !read_slots(value, &mut speed) {
+                return None;
+            }
+            Some(Slots::Short {
+                speed,
+                throttle,
+                brake,
+            })
+        }
+        Slots::Long {
+            throttle,
+            brake,
+            ..
+        } => {
+            let mut speed = [None; LONG_SLOTS];
+            if !read_slots(value, &mut speed) {
+                return None;
+            }
+            Some(Slots::Long {
+                speed,
+                throttle,
+                brake,
+            })
+        }
+    }
+}
+
+// The slots with this throttle, if the value shows as many.
+fn with_throttle(slots: &Slots, value: &[u8]) -> Option<Slots>
+    ensures profile { IfSome result (λ s. profile_of_slots s ≡ profile_of_slots slots.now) }
+    ensures others { IfSome result (λ s. (speed_of s ≡ speed_of slots.now) × (brake_of s ≡ brake_of slots.now)) }
+    ensures long { IfSome result (λ s. (length (throttle_of s) ≡ slots_in (profile_of_slots slots.now)) × All (IsUpTo 100) (throttle_of s)) }
+    ensures read { IfSome result (λ s. value.now ≡ spaced_words (map number_or_none (throttle_of s))) }
+    ensures whole { OfSpaced (slots_in (profile_of_slots slots.now)) number_or_none (IsUpTo 100) value.now
+        (λ xs. MatchOption result ⊥ (λ s. throttle_of s ≡ xs)) }
+{
+    match *slots {
+        Slots::Short { speed, brake, .. } => {
+            let mut throttle = [None; SHORT_SLOTS];
+            if !read_slots(value, &mut throttle) {
+                return None;
+            }
+            Some(Slots::Short {
+                speed,
+                throttle,
+                brake,
+            })
+        }
+        Slots::Long { speed, brake, .. } => {
+            let mut throttle = [None; LONG_SLOTS];
+            if !read_slots(value, &mut throttle) {
+                return None;
+            }
+            Some(Slots::Long {
+                speed,
+                throttle,
+                brake,
+            })
+        }
+    }
+}
+
+// The slots with this brake, if the value shows as many.
+fn with_brake(slots: &Slots, value: &[u8]) -> Option<Slots>
+    ensures profile { IfSome result (λ s. profile_of_slots s ≡ profile_of_slots slots.now) }
+    ensures others { IfSome result (λ s. (speed_of s ≡ speed_of slots.now) × (throttle_of s ≡ throttle_of slots.now)) }
+    ensures long { IfSome result (λ s. (length (brake_of s) ≡ slots_in (profile_of_slots slots.now))) }
+    ensures read { IfSome result (λ s. value.now ≡ spaced_words (map switch_or_none (brake_of s))) }
+    ensures whole { OfSpaced (slots_in (profile_of_slots slots.now)) switch_or_none (λ _. ⊤) value.now
+        (λ xs. MatchOption result ⊥ (λ s. brake_of s ≡ xs)) }
+{
+    match *slots {
+        Slots::Short {
+            speed,
+            throttle,
+            ..
+        } => {
+            let mut brake = [None; SHORT_SLOTS];
+            if !read_slots(value, &mut brake) {
+                return None;
+            }
+            Some(Slots::Short {
+                speed,
+                throttle,
+                brake,
+            })
+        }
+        Slots::Long {
+            speed,
+            throttle,
+            ..
+        } => {
+            let mut brake = [None; LONG_SLOTS];
+            if !read_slots(value, &mut brake) {
+                return None;
+            }
+            Some(Slots::Long {
+                speed,
+                throttle,
+                brake,
+            })
+        }
+    }
+}
+
+/// What stood before time zero with what this line shows, behind the lines before it, if it may show it.
+pub(crate) fn pre_line(pre: &PreSoFar, line: PreLine, value: &[u8]) -> Option<PreSoFar>
+    requires { IsPre (pre_of pre.now) }
+    ensures bounds { IfSome result (λ p. IsPre (pre_of p)) }
+    ensures shows { IfSome result (λ p. value.now ≡ pre_words (pre_of p) p.locked line) }
+    ensures earlier { IfSome result (λ p. take (pre_place line) (pre_texts (pre_of p) p.locked)
+        ≡ take (pre_place line) (pre_texts (pre_of pre.now) pre.now.locked)) }
+    ensures whole { (q : PrePart) (is_locked : Bool) → IsPre q → PreAgrees (pre_place line) (pre_of pre.now) q
+        → value.now ≡ pre_words q is_locked line
+        → MatchOption result ⊥ (λ p. PreAgrees (pre_place line + 1) (pre_of p) q) }
+{
+    let Key { cycle, zero } = pre.key;
+    match line {
+        PreLine::Cycle => {
+            let cycle = count(value, 1)?;
+            let key = Key { cycle, zero };
+            Some(PreSoFar { key, ..*pre })
+        }
+        PreLine::TimeZero => {
+            let zero = time(value, 1, LATEST_MOMENT)?;
+            let key = Key { cycle, zero };
+            Some(PreSoFar { key, ..*pre })
+        }
+        PreLine::Events => {
+            let place = events(value)?;
+            Some(PreSoFar { place, ..*pre })
+        }
+        PreLine::Between => {
+            let place = place_between(pre.place, value)?;
+            Some(PreSoFar { place, ..*pre })
+        }
+        PreLine::Deployment => {
+            let locked = decision(value)?;
+            Some(PreSoFar { locked, ..*pre })
+        }
+        PreLine::Profile => {
+            let slots = no_slots(profile(value)?);
+            Some(PreSoFar { slots, ..*pre })
+        }
+        PreLine::Speed => {
+            let slots = with_speed(&pre.slots, value)?;
+            Some(PreSoFar { slots, ..*pre })
+        }
+        PreLine::Throttle => {
+            let slots = with_throttle(&pre.slots, value)?;
+            Some(PreSoFar { slots, ..*pre })
+        }
+        PreLine::Brake => {
+            let slots = with_brake(&pre.slots, value)?;
+            Some(PreSoFar { slots, ..*pre })
+        }
+        PreLine::Belt => {
+            let belt = switch(value)?;
+            Some(PreSoFar { belt, ..*pre })
+        }
+        PreLine::Lamp => {
+            let lamp = switch(value)?;
+            Some(PreSoFar { lamp, ..*pre })
+        }
+    }
 }

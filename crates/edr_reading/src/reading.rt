@@ -1,30 +1,21 @@
 //! A report's table, read back.
 
-ghost use Rattle.std.specs.Prelude.{◌≡◌, ◌≢◌, ◌<◌, ◌≤◌, ◌+◌, [], ◌∷◌, IfOk, IfErr, IfSome, length, map, min, slice_index_or, take};
-ghost use Rattle.std.specs.Bool.{MatchBool};
-ghost use Rattle.edr_image.specs.Reports.{report_of};
+ghost use Rattle.std.specs.Prelude.{◌≡◌, IfOk, IfErr, map};
 ghost use Rattle.csv.specs.Records.{fields_of};
-ghost use Rattle.edr_reading.specs.Faults.{AreReport, IsFault};
-ghost use Rattle.edr_reading.specs.Rows.{fields, FieldRows};
-ghost use Rattle.edr_reading.specs.Run.{StopsBehind};
+ghost use Rattle.edr_image.specs.Reports.{report_of};
 ghost use Rattle.edr_spell.specs.Spell.{RecordsOf};
-ghost use Rattle.edr_reading.specs.Reading.{IsReading, head_row, OfReportRows, BeginsWithHead, IsBehindHead, rows_told};
-ghost use Rattle.edr_reading.specs.Refusals.{IsRefusalOfRecords};
-ghost use Rattle.edr_reading.specs.Answers.{GivesRest};
+ghost use Rattle.edr_reading.specs.Faults.{IsFault};
+ghost use Rattle.edr_reading.specs.Reader.{HasReadRows};
+ghost use Rattle.edr_reading.specs.Reading.{BeginsWithHead, IsReading, OfReportRows, rows_told};
+ghost use Rattle.edr_reading.specs.Refusals.{IsRowRefusal, IsRefusalOfRecords, refusal_of};
+ghost use Rattle.edr_reading.specs.Rows.{FieldRows};
 
 use crate::faults::{RowFault, head_fault};
-use crate::found::{Refused, found_of};
-use crate::front::is_word;
-use crate::later::{field_fault, opening};
-use crate::records::{records, rows_of};
-use crate::rows::ReportRow;
-use crate::run::take_run;
+use crate::reader::{NextRow, Reader, Refused};
+use crate::records::{records, row_of};
 use csv::ByteRecord;
 use edr_image::{CycleReport, Found};
 use std::alloc::{AllocError as OutOfMemory, Global};
-
-// A report has no more rows.
-const MOST_ROWS: usize = 4_294_967_294;
 
 /// What a report tells.
 #[derive(Drop)]
@@ -45,73 +36,76 @@ pub enum ReportRefused {
     OutOfMemory,
 }
 
-// The row names the columns.
-fn is_head(row: &ReportRow<'_>) -> bool
-    ensures { MatchBool result (fields row.now ≡ head_row) (fields row.now ≢ head_row) }
+// The reader of the records, of which the first names the columns, up to one that it can't take, or all.
+fn read_rows(alloc: Global, records: &[ByteRecord]) -> Result<Reader, ReportRefused>
+    requires { BeginsWithHead (map fields_of records.now) }
+    ensures read { IfOk result (λ r. HasReadRows r (map fields_of records.now)) }
+    ensures fault { IfErr result (IsRowRefusal (map fields_of records.now)) }
 {
-    is_word(row.block, b"block") && is_word(row.name, b"name") && is_word(row.value, b"value")
+    let mut reader = Reader::new(alloc);
+    for i in 1..records.len() {
+        let row = i as u32 + 1;
+        match row_of(&records[i]) {
+            Some(fields) => match reader.take(alloc, &fields) {
+                Ok(()) => {}
+                Err(refused) => return Err(refusal(row, refused)),
+            },
+            None => {
+                let fault = RowFault::Fields(records[i].len().min(u32::MAX as usize) as u32);
+                return Err(ReportRefused::Fault { row, fault });
+            }
+        }
+    }
+    Ok(reader)
 }
 
-// The rows behind the one that names the columns, if that is the first.
-fn behind_head<'r, 'a>(rows: &'r [ReportRow<'a>]) -> Option<&'r [ReportRow<'a>]>
-    ensures read { IfSome result (λ rest. IsBehindHead rest.now rows.now) }
-    ensures whole { (more : FieldRows) → map fields rows.now ≡ head_row ∷ more → GivesRest more result }
+// The refusal of this row.
+fn refusal(row: u32, refused: Refused) -> ReportRefused
+    ensures { result ≡ refusal_of row refused }
 {
-    let (row, rest) = rows.split_first()?;
-    if is_head(row) { Some(rest) } else { None }
+    match refused {
+        Refused::Field(field) => ReportRefused::Fault {
+            row,
+            fault: RowFault::Field(field),
+        },
+        Refused::OutOfMemory => ReportRefused::OutOfMemory,
+    }
 }
 
-// What the rows of a report tell.
-pub(crate) fn reading_of(alloc: Global, rows: &[ReportRow<'_>]) -> Result<Reading, Refused>
-    ensures read { IfOk result (λ r. map fields rows.now ≡ rows_told r) }
+// What a reader has read of which these were all rows.
+fn end(alloc: Global, mut reader: Reader) -> Result<Reading, ReportRefused>
+    requires { (rows : FieldRows) × HasReadRows reader rows }
+    ensures read { (rows : FieldRows) → HasReadRows reader rows → IfOk result (λ r. rows ≡ rows_told r) }
+    ensures told { (rows : FieldRows) → HasReadRows reader rows
+        → IfOk result (λ r. IsReading (map report_of r.run.items) r.found.items r.count) }
+    ensures fault { (rows : FieldRows) → HasReadRows reader rows → IfErr result (IsRowRefusal rows) }
+{
+    let NextRow::Nothing { count } = reader.next else {
+        let row = reader.rows + 1;
+        let fault = RowFault::Unended;
+        return Err(ReportRefused::Fault { row, fault });
+    };
+    let Ok(()) = reader.end_cycle(alloc) else {
+        return Err(ReportRefused::OutOfMemory);
+    };
+    Ok(Reading {
+        run: reader.run,
+        found: reader.found,
+        count,
+    })
+}
+
+// What the records tell, of which the first names the columns.
+fn reading_of(alloc: Global, records: &[ByteRecord]) -> Result<Reading, ReportRefused>
+    requires { BeginsWithHead (map fields_of records.now) }
+    ensures read { IfOk result (λ r. map fields_of records.now ≡ rows_told r) }
     ensures told { IfOk result (λ r. IsReading (map report_of r.run.items) r.found.items r.count) }
-    ensures refused { IfErr result (λ e.
-        OfReportRows (λ told. map fields rows.now ≡ told) (e ≡ Refused.OutOfMemory)) }
+    ensures fault { IfErr result (IsRowRefusal (map fields_of records.now)) }
 {
-    if rows.len() > MOST_ROWS {
-        return Err(Refused::NoReport);
+    match read_rows(alloc, records) {
+        Ok(reader) => end(alloc, reader),
+        Err(refused) => Err(refused),
     }
-    let Some(rest) = behind_head(rows) else {
-        return Err(Refused::NoReport);
-    };
-    let Ok((run, rest)) = take_run(alloc, rest) else {
-        return Err(Refused::OutOfMemory);
-    };
-    let (found, count) = found_of(alloc, rest)?;
-    Ok(Reading { run, found, count })
-}
-
-// What is wrong with the record in this place, which hasn't three fields, or with its lack.
-fn length_fault(records: &[ByteRecord], place: usize) -> RowFault
-    ensures some { place < length records.now → result
-        ≡ RowFault.Fields (min (length (slice_index_or (map fields_of records.now) place [])) 4_294_967_295) }
-    ensures none { length records.now ≤ place → result ≡ RowFault.Unended }
-{
-    match records.get(place) {
-        Some(record) => RowFault::Fields(record.len().min(u32::MAX as usize) as u32),
-        None => RowFault::Unended,
-    }
-}
-
-// What is wrong with records that are those of no report, of which these are the rows up to the first of another length.
-fn later_fault(
-    alloc: Global,
-    records: &[ByteRecord],
-    rows: &[ReportRow<'_>],
-) -> Result<(u32, RowFault), OutOfMemory>
-    requires head { BeginsWithHead (map fields rows.now) }
-    requires rows { map fields rows.now ≡ take (length rows.now) (map fields_of records.now) }
-    requires stops { StopsBehind fields_of (length rows.now) records.now }
-    requires none { length records.now ≤ length rows.now → ¬ AreReport (map fields_of records.now) }
-    ensures { IfOk result (λ p. IsFault (map fields_of records.now) p.0 p.1) }
-{
-    let opening = opening(alloc, rows)?;
-    let row = opening as u32 + 1;
-    if opening < rows.len() {
-        let fault = field_fault(alloc, rows.split_at(opening).0, &rows[opening])?;
-        return Ok((row, fault));
-    }
-    Ok((row, length_fault(records, opening)))
 }
 
 /// Reads the table of a report back. What is read has exactly the rows that the text has: the cycles, each event with all
@@ -136,18 +130,5 @@ pub fn read(alloc: Global, bytes: &[u8]) -> Result<Reading, ReportRefused>
     if let Some(fault) = head_fault(&records) {
         return Err(ReportRefused::Fault { row: 1, fault });
     }
-    let Ok(rows) = rows_of(alloc, &records) else {
-        return Err(ReportRefused::OutOfMemory);
-    };
-    if rows.len() == records.len() {
-        match reading_of(alloc, &rows) {
-            Ok(reading) => return Ok(reading),
-            Err(Refused::NoReport) => {}
-            Err(Refused::OutOfMemory) => return Err(ReportRefused::OutOfMemory),
-        }
-    }
-    match later_fault(alloc, &records, &rows) {
-        Ok((row, fault)) => Err(ReportRefused::Fault { row, fault }),
-        Err(OutOfMemory) => Err(ReportRefused::OutOfMemory),
-    }
+    reading_of(alloc, &records)
 }

@@ -1,14 +1,13 @@
 //! The records of a table, as rows of three fields.
 
-ghost use Rattle.std.specs.Prelude.{◌≡◌, ◌≢◌, ◌<◌, ◌≤◌, Some, IfOk, MatchOption, length, map, take};
+ghost use Rattle.std.specs.Prelude.{◌≡◌, ◌≢◌, ◌<◌, Some, IfOk, MatchOption, length, map};
 ghost use Rattle.csv.specs.Records.{fields_of, field_at};
 ghost use Rattle.edr_reading.specs.Rows.{fields};
-ghost use Rattle.edr_reading.specs.Run.{StopsBehind};
 ghost use Rattle.edr_spell.specs.Spell.{RecordsOf};
 
 use crate::rows::ReportRow;
 use csv::{ByteRecord, ReaderBuilder};
-use std::alloc::{AllocError as OutOfMemory, Global};
+use std::alloc::Global;
 
 /// The records of the bytes, each with any number of fields.
 pub(crate) fn records(alloc: Global, bytes: &[u8]) -> Result<Vec<ByteRecord>, csv::Error>
@@ -50,23 +49,4 @@ pub(crate) fn row_of(found: &ByteRecord) -> Option<ReportRow<'_>>
         name: field(found, 1),
         value: field(found, 2),
     })
-}
-
-/// The rows of the records, up to the first that has other than three fields.
-pub(crate) fn rows_of<'a>(
-    alloc: Global,
-    records: &'a [ByteRecord],
-) -> Result<Vec<ReportRow<'a>>, OutOfMemory>
-    ensures within { IfOk result (λ rows. length rows.items ≤ length records.now) }
-    ensures rows { IfOk result (λ rows. map fields rows.items ≡ take (length rows.items) (map fields_of records.now)) }
-    ensures stops { IfOk result (λ rows. StopsBehind fields_of (length rows.items) records.now) }
-{
-    let mut rows = Vec::new(alloc);
-    for record in records {
-        match row_of(record) {
-            Some(row) => rows.push(row)?,
-            None => break,
-        }
-    }
-    Ok(rows)
 }

@@ -1,16 +1,13 @@
 //! The rows of block 0: what is told of cycles and of damaged banks, and the count of ignition cycles.
 
-ghost use Rattle.std.specs.Prelude.{◌≡◌, ◌≢◌, ℕ, Some, IfSome, IsSome, decimal};
-ghost use Rattle.std.specs.Bool.{MatchBool};
-ghost use Rattle.edr_report.specs.Report.{ack_line};
-ghost use Rattle.edr_reading.specs.Found.{IsDamaged, damaged_fields, count_fields};
-ghost use Rattle.edr_reading.specs.Rows.{fields, line_fields};
-ghost use Rattle.edr_reading.specs.Told.{IsAck, IsCycleRow, cycle_line};
+ghost use Rattle.std.specs.Prelude.{◌≡◌, ◌+◌, ◌<◌, ◌^◌, Some, IfSome};
+ghost use Rattle.edr_reading.specs.declared.told.ToldName.{ToldName};
+ghost use Rattle.edr_reading.specs.declared.told.CycleRow.{CycleRow};
+ghost use Rattle.edr_reading.specs.Told.{IsCycleRow, IsToldName, cycle_line, name_words};
 
-use crate::front::last_within;
-use crate::rows::{ReportRow, value_in};
-use crate::values::{ack, answer, bank_behind, count, damage, ran, start_call};
-use edr_image::{Ack, Found};
+use crate::front::{is_word, last_within};
+use crate::values::{ack, bank_behind, ran, start_call};
+use edr_image::Kind;
 
 /// What the first row of a cycle tells.
 #[derive(Clone, Copy)]
@@ -21,15 +18,42 @@ pub(crate) enum CycleRow {
     Ran { number: u32, stopped: Option<u32> },
 }
 
-/// The row is one of block 0.
-pub(crate) fn is_told(row: &ReportRow<'_>) -> bool
-    ensures { MatchBool result (row.now.block.now ≡ decimal 0) (row.now.block.now ≢ decimal 0) }
-{
-    last_within(row.block, b"", 0, 0).is_some()
+/// What a name of block 0 says of its row.
+#[derive(Clone, Copy)]
+pub(crate) enum ToldName {
+    /// It is the first of the next cycle.
+    Cycle,
+    /// It is that of a command that the last cycle acknowledged at this time.
+    Ack { kind: Kind, tick: u32 },
+    /// It is that of this bank, which is damaged.
+    Bank { bank: u8 },
+    /// It is that of the count of ignition cycles.
+    Count,
 }
 
-// What the value of the first row of a cycle tells.
-fn cycle_value(value: &[u8]) -> Option<CycleRow>
+/// What a name says where `cycles` cycles were told.
+pub(crate) fn told_name(name: &[u8], cycles: u32) -> Option<ToldName>
+    requires { cycles + 1 < 2 ^ 32 }
+    ensures read { IfSome result (λ x. IsToldName x × (name.now ≡ name_words cycles x)) }
+    ensures whole { (x : ToldName) → IsToldName x → name.now ≡ name_words cycles x → result ≡ Some x }
+{
+    if is_word(name, b"ignition cycle, download") {
+        return Some(ToldName::Count);
+    }
+    if let Some(bank) = bank_behind(name, b"bank ") {
+        return Some(ToldName::Bank { bank });
+    }
+    if let Some((kind, tick)) = ack(name, cycles) {
+        return Some(ToldName::Ack { kind, tick });
+    }
+    match last_within(name, b"cycle ", cycles + 1, cycles + 1) {
+        Some(_) => Some(ToldName::Cycle),
+        None => None,
+    }
+}
+
+/// What the value of the first row of a cycle tells.
+pub(crate) fn cycle_value(value: &[u8]) -> Option<CycleRow>
     ensures read { IfSome result (λ r. IsCycleRow r × (value.now ≡ (cycle_line 1 r).value)) }
     ensures whole { (r : CycleRow) → IsCycleRow r → value.now ≡ (cycle_line 1 r).value → result ≡ Some r }
 {
@@ -38,69 +62,6 @@ fn cycle_value(value: &[u8]) -> Option<CycleRow>
     }
     match ran(value) {
         Some((number, stopped)) => Some(CycleRow::Ran { number, stopped }),
-        None => None,
-    }
-}
-
-/// What the first row of the cycle in this place tells, if the row is one.
-pub(crate) fn read_cycle(row: &ReportRow<'_>, place: u32) -> Option<CycleRow>
-    ensures read { IfSome result (λ r. IsCycleRow r × (fields row.now ≡ line_fields (cycle_line place r))) }
-    ensures whole { (r : CycleRow) → IsCycleRow r → fields row.now ≡ line_fields (cycle_line place r) → result ≡ Some r }
-{
-    if !is_told(row) {
-        return None;
-    }
-    match last_within(row.name, b"cycle ", place, place) {
-        Some(_) => cycle_value(row.value),
-        None => None,
-    }
-}
-
-/// The acknowledged command of the cycle in this place of which the row tells, if it does.
-pub(crate) fn read_ack(row: &ReportRow<'_>, place: u32) -> Option<Ack>
-    ensures read { IfSome result (λ a. IsAck a × (fields row.now ≡ line_fields (ack_line place a))) }
-    ensures whole { (a : Ack) → IsAck a → fields row.now ≡ line_fields (ack_line place a) → result ≡ Some a }
-{
-    if !is_told(row) {
-        return None;
-    }
-    match ack(row.name, place) {
-        Some((kind, tick)) => match answer(row.value, kind) {
-            Some(applied) => Some(Ack {
-                tick,
-                kind,
-                applied,
-            }),
-            None => None,
-        },
-        None => None,
-    }
-}
-
-/// The damaged bank of which the row tells, if it does.
-pub(crate) fn read_damaged(row: &ReportRow<'_>) -> Option<Found>
-    ensures read { IfSome result (λ f. IsDamaged f × (fields row.now ≡ damaged_fields f)) }
-    ensures whole { (f : Found) → IsDamaged f → fields row.now ≡ damaged_fields f → result ≡ Some f }
-{
-    if !is_told(row) {
-        return None;
-    }
-    match bank_behind(row.name, b"bank ") {
-        Some(bank) => match damage(row.value) {
-            Some(view) => Some(Found { bank, view }),
-            None => None,
-        },
-        None => None,
-    }
-}
-
-/// The count of ignition cycles that the last row shows, if the row is one.
-pub(crate) fn read_count(row: &ReportRow<'_>) -> Option<u32>
-    ensures read { IfSome result (λ n. fields row.now ≡ count_fields n) }
-    ensures whole { (n : ℕ) → fields row.now ≡ count_fields n → IsSome result }
-{
-    match value_in(row, 0, "ignition cycle, download") {
-        Some(value) => count(value, 0),
         None => None,
     }
 }

@@ -9,13 +9,13 @@ ghost use Rattle.edr_report.specs.declared.TheConstants.{LARGEST_SHOWN_COUNT};
 ghost use Rattle.edr_report.specs.Words.{bank_words, applied_words, stop_words, yes_no, profile_word, switch_or_none, milliseconds, firing_words, number_shown, shown_count, events_in_crash, time_between, extreme_words, missing_words, damage_words, ack_words, seconds, tenths_of};
 ghost use Rattle.edr_reading.specs.Answers.{GivesValue};
 ghost use Rattle.edr_reading.specs.Front.{EndsNumber, ReadsFront};
-ghost use Rattle.edr_reading.specs.Values.{IsBank, IsStopCall, IsApplied, IsDamagedView, IsTick, done_in, view_words, byte_words, command_words, ran_words};
+ghost use Rattle.edr_reading.specs.Values.{IsBank, IsStopCall, IsApplied, IsDamage, IsTick, done_in, byte_words, command_words, ran_words};
 
 use crate::front::{
     behind, is_word, last_within, number_behind, one_number, two_numbers, two_within, within_behind,
 };
 use edr_image::places::{BANK_SIZE, MOST_BANKS};
-use edr_image::{Applied, BankView, Kind};
+use edr_image::{Applied, Kind};
 use edr_items::LATEST_MOMENT;
 use edr_record::{EARLIEST_END, Extreme, GREATEST_CHANGE, Place, Profile, RESET};
 use edr_report::LARGEST_SHOWN_COUNT;
@@ -206,18 +206,32 @@ fn time_shown(tenths: u32) -> u32
     if tenths == 0 { 1 } else { 100 * tenths }
 }
 
-/// The place of an event in its crash, by how many events the crash has and the time between them.
-pub(crate) fn place(events: &[u8], between: &[u8]) -> Option<Place>
-    ensures read { IfSome result (λ p. (events.now ≡ events_in_crash p) × (between.now ≡ time_between p) × IsPlace p) }
-    ensures whole { (p : Place) → IsPlace p → events.now ≡ events_in_crash p → between.now ≡ time_between p → IsSome result }
+/// The place of an event in its crash, by how many events the crash has. A second one is read as plainly as it can be.
+pub(crate) fn events(bytes: &[u8]) -> Option<Place>
+    ensures read { IfSome result (λ p. (bytes.now ≡ events_in_crash p) × IsPlace p) }
+    ensures whole { (p : Place) → bytes.now ≡ events_in_crash p
+        → MatchOption result ⊥ (λ q. events_in_crash q ≡ events_in_crash p) }
 {
-    if is_word(events, b"1") {
-        return first_place(between);
+    if is_word(bytes, b"1") {
+        Some(Place::First)
+    } else if is_word(bytes, b"2") {
+        Some(Place::Second { after: 1 })
+    } else {
+        None
     }
-    if is_word(events, b"2") {
-        return second_place(between);
+}
+
+/// The place of an event of which there are as many, by the time between them.
+pub(crate) fn place_between(place: Place, bytes: &[u8]) -> Option<Place>
+    ensures read { IfSome result (λ p. (bytes.now ≡ time_between p) × IsPlace p) }
+    ensures same { IfSome result (λ p. events_in_crash p ≡ events_in_crash place) }
+    ensures whole { (p : Place) → IsPlace p → events_in_crash place ≡ events_in_crash p
+        → bytes.now ≡ time_between p → IsSome result }
+{
+    match place {
+        Place::First => first_place(bytes),
+        Place::Second { .. } => second_place(bytes),
     }
-    None
 }
 
 fn first_place(between: &[u8]) -> Option<Place>
@@ -268,13 +282,21 @@ fn byte_behind(bytes: &[u8]) -> Option<(u8, bool)>
 }
 
 /// What a damaged bank shows: where, which byte stands there, and whether it is locked.
-pub(crate) fn damage(bytes: &[u8]) -> Option<BankView>
-    ensures read { IfSome result (λ v. (bytes.now ≡ view_words v) × IsDamagedView v) }
-    ensures whole { (v : BankView) → IsDamagedView v → bytes.now ≡ view_words v → result ≡ Some v }
+#[derive(Clone, Copy)]
+pub(crate) struct DamageShown {
+    pub offset: u16,
+    pub found: u8,
+    pub locked: bool,
+}
+
+/// What these bytes show of a damaged bank.
+pub(crate) fn damage(bytes: &[u8]) -> Option<DamageShown>
+    ensures read { IfSome result (λ d. IsDamage d.offset d.found × (bytes.now ≡ damage_words d.offset d.found d.locked)) }
+    ensures whole { (o x : ℕ) (l : Bool) → IsDamage o x → bytes.now ≡ damage_words o x l → IsSome result }
 {
     match within_behind(bytes, b"damaged at ", 0, BANK_SIZE as u32 - 1) {
         Some((offset, rest)) => match byte_behind(rest) {
-            Some((found, locked)) => Some(BankView::Damaged {
+            Some((found, locked)) => Some(DamageShown {
                 offset: offset as u16,
                 found,
                 locked,

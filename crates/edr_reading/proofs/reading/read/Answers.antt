@@ -1,15 +1,25 @@
-use Rattle.std.proofs.Common.{arith, ◌∙◌, sym, ap, subst, List, map, length}
-use Rattle.std.proofs.lemmas.List.{length-map}
+use Rattle.std.proofs.Common.{◌≡◌, sym, subst, ℕ, List, map, Result, Ok, Err}
 use Rattle.csv.specs.Reading.{default_config, strip_bom}
 use Rattle.csv.specs.Records.{fields_of}
 use Rattle.csv.specs.declared.parser.State.TheVariants as st
 use Rattle.edr_spell.proofs.CsvLemmas.{same_records}
-use Rattle.edr_reading.specs.Reading.{report_rows}
-use Rattle.edr_reading.specs.Rows.{fields}
 use Rattle.edr_spell.specs.Spell.{RecordsOf}
+use Rattle.std.specs.Result.{IfErr}
+use Rattle.edr_image.specs.declared.Found.{Found}
+use Rattle.edr_image.specs.Reports.{Report}
+use Rattle.edr_reading.specs.Reading.{IsReading, report_rows}
+use Rattle.edr_reading.specs.Refusals.{IsRowRefusal}
+use Rattle.edr_reading.specs.Rows.{FieldRows}
+use Rattle.edr_reading.specs.declared.reading.Reading.{Reading}
+use Rattle.edr_reading.specs.declared.reading.ReportRefused.{ReportRefused}
+use Rattle.edr_reading.specs.declared.reading.ReportRefused.TheVariants.{OutOfMemory}
+use Rattle.edr_reading.proofs.EndLemmas.{memory-alone, of-records, rows-read}
 use Rattle.edr_reading.proofs.FaultLemmas.{fault-is-none}
-use Rattle.edr_reading.proofs.LaterLemmas.{head-first}
 use Rattle.edr_reading.proofs.reading.read.Goals as goal
+
+refused-of : (bytes : List ℕ) (records : FieldRows) (res : Result Reading ReportRefused) → RecordsOf bytes records → IfErr res (IsRowRefusal records) → IfErr res (λ e. (reports : List Report) (found : List Found) (n : ℕ) → IsReading reports found n → RecordsOf bytes (report_rows reports found n) → e ≡ OutOfMemory)
+refused-of bytes records (Ok r) read h = tt
+refused-of bytes records (Err e) read h = λ reports found n is are. memory-alone records (Err e) h (reports, found, n, is, same_records default_config st.StartRecord (strip_bom bytes) records (report_rows reports found n) read are)
 
 pub returns-in-Some-clause-refused : goal.returns-in-Some-clause-refused
 returns-in-Some-clause-refused c reports banks n h is =
@@ -18,18 +28,20 @@ returns-in-Some-clause-refused c reports banks n h is =
     let same = same_records default_config st.StartRecord (strip_bom c.args.bytes.now) records (report_rows reports banks n) read is in
     absurd (fault-is-none records 1 c.in-Some.fault c.in-Some.ensures (reports, banks, n, h, same))
 
-pub returns-in-Ok-later_fault-clause-refused : goal.returns-in-Ok-later_fault-clause-refused
-returns-in-Ok-later_fault-clause-refused c reports banks n h is =
-    let records = map fields_of c.deref-3.result.now in
-    let read = subst (λ (x : List _). RecordsOf c.args.bytes.now (map fields_of x)) (sym c.deref-3.ensures.value) c.in-Ok.ensures in
-    let same = same_records default_config st.StartRecord (strip_bom c.args.bytes.now) records (report_rows reports banks n) read is in
-    absurd (fault-is-none records c.in-Ok-later_fault.row c.in-Ok-later_fault.fault c.in-Ok-later_fault.ensures (reports, banks, n, h, same))
+pub returns-clause-read : goal.returns-clause-read
+returns-clause-read c =
+    let records = map fields_of c.deref-2.result.now in
+    let read = subst (λ (x : List _). RecordsOf c.args.bytes.now (map fields_of x)) (sym c.deref-2.ensures.value) c.in-Ok.ensures in
+    rows-read c.args.bytes.now records _ read c.reading_of.ensures.read
 
-pub later_fault-requires-clause-head : goal.later_fault-requires-clause-head
-later_fault-requires-clause-head c =
-    let records = c.deref-2.result.now in
-    let rows = c.in-Ok-rows_of.rows.items in
-    let same = ap (map fields_of) (c.deref-2.ensures.value ∙ sym c.deref.ensures.value) in
-    let long = length-map records fields_of in
-    let first = head-first (map fields_of records) (map fields rows) c.in_default-head_fault.ensures.0 (length rows) c.in-Ok-rows_of.ensures.rows (same ∙ c.in_default-head_fault.ensures.1) (λ less. c.in-Ok-rows_of.ensures.stops (omega (arith, less, long))) in
-    (first.0, ap (map fields) c.deref-4.ensures.value ∙ first.1)
+pub returns-clause-refused : goal.returns-clause-refused
+returns-clause-refused c =
+    let records = map fields_of c.deref-2.result.now in
+    let read = subst (λ (x : List _). RecordsOf c.args.bytes.now (map fields_of x)) (sym c.deref-2.ensures.value) c.in-Ok.ensures in
+    refused-of c.args.bytes.now records _ read c.reading_of.ensures.fault
+
+pub returns-clause-fault : goal.returns-clause-fault
+returns-clause-fault c =
+    let records = map fields_of c.deref-2.result.now in
+    let read = subst (λ (x : List _). RecordsOf c.args.bytes.now (map fields_of x)) (sym c.deref-2.ensures.value) c.in-Ok.ensures in
+    of-records c.args.bytes.now records _ read c.reading_of.ensures.fault

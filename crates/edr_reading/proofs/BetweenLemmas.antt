@@ -1,0 +1,295 @@
+-- A reader between events takes a row or refuses it.
+use Rattle.std.proofs.Common.{arith, ◌≡◌, ◌≢◌, ◌∙◌, sym, ap, ap₂, subst, refl, ℕ, ◌+◌, ◌<◌, ◌≤◌, ◌^◌, ◌⊎◌, inl, inr, ⊎_elim, Bool, true, false, eqb, List, [], ◌∷◌, ◌++◌, map, length, take, append_assoc, length-append, decimal, Option, Some, None, codes}
+use Rattle.std.specs.List.{All, IsDistinct, slice_index_or}
+use Rattle.std.proofs.lemmas.List.{map-append, append-nil}
+use Rattle.std.proofs.lemmas.List.Elements.{All-append, All-cons, All-tail, All-take}
+use Rattle.std.proofs.Math.Seq.{take-append_seam, drop-append_seam}
+use Rattle.edr_record.specs.declared.Record.{Record}
+use Rattle.edr_image.specs.declared.Ack.{Ack}
+use Rattle.edr_image.specs.declared.Kind.{Kind}
+use Rattle.edr_image.specs.declared.Applied.{Applied}
+use Rattle.edr_image.specs.declared.BankView.{BankView}
+use Rattle.edr_image.specs.declared.Found.{Found}
+use Rattle.edr_image.specs.Banks.{found_event}
+use Rattle.edr_image.specs.Reports.{Report, StartStopped, Ran}
+use Rattle.edr_report.specs.Report.{cycle_lines}
+use Rattle.edr_report.specs.Words.{applied_words, shown_count}
+use Rattle.edr_reading.specs.declared.faults.RowFault.TheVariants as fault
+use Rattle.edr_reading.specs.declared.reader.Refused.TheVariants as refused
+use Rattle.edr_reading.specs.declared.told.CycleRow.{CycleRow}
+use Rattle.edr_reading.specs.declared.told.CycleRow.TheVariants as row
+use Rattle.edr_reading.specs.declared.told.ToldName.{ToldName}
+use Rattle.edr_reading.specs.declared.told.ToldName.TheVariants as name
+use Rattle.edr_reading.specs.Event.{HasNoBank}
+use Rattle.edr_reading.specs.Faults.{AreReport, ReportGoesOn}
+use Rattle.edr_reading.specs.Found.{IsDamaged, IsEvent, banks_in, count_fields, damaged_fields, events_fields}
+use Rattle.edr_reading.specs.Reading.{AreDistinct, head_row}
+use Rattle.edr_reading.specs.Parts.{IsRecord}
+use Rattle.edr_reading.specs.Reader.{IsBetween, IsInside, IsRefused, IsToldReport, MayFollow, MayFollowLine, last_cycle, may_ack, whole}
+use Rattle.edr_reading.specs.Rows.{FieldRows, event_fields, line_fields}
+use Rattle.edr_reading.specs.Run.{IsReport, ack_fields, acks_of, cycle_fields, row_of, run_fields}
+use Rattle.edr_reading.specs.Told.{IsAck, IsCycleRow, IsToldName, cycle_line, name_words}
+use Rattle.edr_reading.specs.Values.{IsApplied, IsBank, IsDamagedView, view_words}
+use Rattle.edr_reading.proofs.DistinctLemmas.{alone, distinct-more, distinct-none}
+use Rattle.edr_reading.proofs.FollowLemmas.{IsNextRow, ToldNext, next-row, none, some-rows}
+use Rattle.edr_reading.proofs.WholeLemmas.{cycle-lines, decimal-same, report-told, told-report, whole-cycle, whole-damaged}
+
+-- ---- lists
+
+pub All-last : {X : Type 0} (P : X → Type 0) (xs : List X) (x : X) → All P xs → P x → All P (xs ++ x ∷ [])
+All-last P xs x h k = All-append P xs (x ∷ []) h (All-cons P x [] k (none P))
+
+pub All-front : {X : Type 0} (P : X → Type 0) (xs ys : List X) → All P (xs ++ ys) → All P xs
+All-front P xs ys h = subst (All P) (take-append_seam xs ys) (All-take P (length xs) (xs ++ ys) h)
+
+pub at-end : {X : Type 0} (P : X → Type 0) (xs : List X) (x : X) → All P (xs ++ x ∷ []) → P x
+at-end P [] x h = h 0 x (omega arith)
+at-end P (y ∷ xs) x h = at-end P xs x (All-tail P y (xs ++ x ∷ []) h)
+
+pub banks-split : (es : List (ℕ × Record)) (ds : List Found) → banks_in (map found_event es ++ ds) ≡ map (λ e. e.0) es ++ banks_in ds
+banks-split [] ds = refl
+banks-split (e ∷ es) ds = ap (λ (x : List ℕ). e.0 ∷ x) (banks-split es ds)
+
+pub banks-last : (found : List Found) (f : Found) → banks_in (found ++ f ∷ []) ≡ banks_in found ++ f.bank ∷ []
+banks-last found f = map-append (λ (g : Found). g.bank) found (f ∷ [])
+
+-- ---- refusals
+
+pub goes-on : (rows : FieldRows) (front back : List (List ℕ)) (more : FieldRows) → AreReport (rows ++ (front ++ back) ∷ more) → ReportGoesOn rows front
+goes-on rows front back more a = (back, more, a)
+
+pub refuse-1 : (rows : FieldRows) (b w v : List ℕ) → ¬ ReportGoesOn rows (b ∷ []) → IsRefused rows (b ∷ w ∷ v ∷ []) (refused.Field 1)
+refuse-1 rows b w v n = λ more. (refl, omega arith, omega arith, (λ h. absurd (omega (arith, h))), n)
+
+pub refuse-2 : (rows : FieldRows) (b w v : List ℕ) → ReportGoesOn rows (b ∷ []) → ¬ ReportGoesOn rows (b ∷ w ∷ []) → IsRefused rows (b ∷ w ∷ v ∷ []) (refused.Field 2)
+refuse-2 rows b w v g n = λ more. (refl, omega arith, omega arith, (λ h. g), n)
+
+pub refuse-3 : (rows : FieldRows) (b w v : List ℕ) → ReportGoesOn rows (b ∷ w ∷ []) → ¬ ReportGoesOn rows (b ∷ w ∷ v ∷ []) → IsRefused rows (b ∷ w ∷ v ∷ []) (refused.Field 3)
+refuse-3 rows b w v g n = λ more. (refl, omega arith, omega arith, (λ h. g), n)
+
+-- ---- the rows so far begin a report
+
+pub between-count : (a c v : Bool) (reports : List Report) (es : List (ℕ × Record)) (ds : List Found) (rows : FieldRows) → IsBetween a c v reports es ds rows → AreReport (rows ++ count_fields 0 ∷ [])
+between-count a c v reports es ds rows h =
+    subst (λ (x : FieldRows). AreReport (x ++ count_fields 0 ∷ [])) (sym h.are) (told-report reports es ds 0 h.told (let e = ap length h.are in let s = h.short in omega (arith, e, s)))
+
+pub between-block : (a c v : Bool) (reports : List Report) (es : List (ℕ × Record)) (ds : List Found) (rows : FieldRows) → IsBetween a c v reports es ds rows → ReportGoesOn rows (decimal 0 ∷ [])
+between-block a c v reports es ds rows h = (codes "ignition cycle, download" ∷ shown_count 0 ∷ [], [], between-count a c v reports es ds rows h)
+
+pub report-short : (rows : FieldRows) → AreReport rows → length rows ≤ 4_294_967_294
+report-short rows a = (report-told rows a).6
+
+-- ---- the next row
+
+small-block : (block : ℕ) → 1 ≤ block → block < 2 ^ 64 → decimal 0 ≡ decimal block → ⊥
+small-block block h k e = let z = decimal-same 0 block (omega arith) k e in omega (arith, h, z)
+
+-- of a row of block 0 with a name that is only this, its value and what follows
+pub only-next : (a c v : Bool) (i block : ℕ) (banks : List ℕ) (w value : List ℕ) (more : FieldRows) (x : ToldName) → 1 ≤ block → block < 2 ^ 64 → ((y : ToldName) → IsToldName y → w ≡ name_words i y → x ≡ y)
+    → MayFollow a c v i block banks ((decimal 0 ∷ w ∷ value ∷ []) ∷ more) → ToldNext a c v i block banks value more x
+only-next a c v i block banks w value more x from to only m = ⊎_elim
+    (λ l. let words : w ≡ name_words i l.0 = ap (λ (r : List (List ℕ)). slice_index_or r 1 []) l.3 in
+    let last : l.2 ≡ value = sym (ap (λ (r : List (List ℕ)). slice_index_or r 2 []) l.3) in
+    subst (ToldNext a c v i block banks value more) (sym (only l.0 l.1 words)) (subst (λ (z : List ℕ). ToldNext a c v i block banks z more l.0) last l.4))
+    (λ r. absurd (small-block block from to r.1))
+    (next-row a c v i block banks (decimal 0 ∷ w ∷ value ∷ []) more m)
+
+-- a row of block 0 with this name
+pub told-next : (a c v : Bool) (i block : ℕ) (banks : List ℕ) (w : List ℕ) (back : List (List ℕ)) (more : FieldRows) → 1 ≤ block → block < 2 ^ 64 → MayFollow a c v i block banks ((decimal 0 ∷ w ∷ back) ∷ more)
+    → (x : ToldName) × IsToldName x × (value : List ℕ) × (w ≡ name_words i x) × (back ≡ value ∷ []) × ToldNext a c v i block banks value more x
+told-next a c v i block banks w back more from to m = ⊎_elim
+    (λ l. let words : w ≡ name_words i l.0 = ap (λ (r : List (List ℕ)). slice_index_or r 1 []) l.3 in
+    let last : back ≡ l.2 ∷ [] = cc in
+    (l.0, l.1, l.2, words, last, l.4))
+    (λ r. absurd (small-block block from to r.1))
+    (next-row a c v i block banks (decimal 0 ∷ w ∷ back) more m)
+
+-- ---- a cycle
+
+pub run-told : (reports : List Report) → All IsReport reports → IsToldReport reports [] []
+run-told reports h = record { run = h; events = none IsEvent; damaged = none IsDamaged; distinct = distinct-none [] refl }
+
+last-report : (first : CycleRow) → IsCycleRow first → (r : Report) × (last_cycle (Some first) [] ≡ r ∷ []) × IsReport r × (row_of r ≡ first) × (acks_of r ≡ [])
+last-report (row.StartStopped j) h = (StartStopped j, refl, (h, none IsAck), refl, refl)
+last-report (row.Ran n s) h = (Ran n s [], refl, (h, none IsAck), refl, refl)
+
+cycle-row : (i : ℕ) (c : CycleRow) → cycle_fields (i + 1) c ≡ decimal 0 ∷ name_words i name.Cycle ∷ (cycle_line 1 c).value ∷ []
+cycle-row i (row.StartStopped j) = refl
+cycle-row i (row.Ran n s) = refl
+
+whole-first : (reports : List Report) (first : CycleRow) → IsCycleRow first → whole (reports ++ last_cycle (Some first) []) [] [] ≡ whole reports [] [] ++ cycle_fields (length reports + 1) first ∷ []
+whole-first reports first h =
+    let l = last-report first h in
+    ap (λ (x : List Report). whole (reports ++ x) [] []) l.1 ∙ whole-cycle reports l.0
+    ∙ ap (λ (x : FieldRows). whole reports [] [] ++ x) (cycle-lines (length reports + 1) l.0 ∙ ap₂ (λ (x : CycleRow) (y : List Ack). cycle_fields (length reports + 1) x ∷ map (ack_fields (length reports + 1)) y) l.3 l.4)
+
+pub told-cycle : (reports : List Report) (first : CycleRow) → All IsReport reports → IsCycleRow first → IsToldReport (reports ++ last_cycle (Some first) []) [] []
+told-cycle reports first all h =
+    let l = last-report first h in
+    run-told (reports ++ last_cycle (Some first) []) (subst (λ (x : List Report). All IsReport (reports ++ x)) (sym l.1) (All-last IsReport reports l.0 all l.2))
+
+pub cycle-opens : (a c v : Bool) (reports : List Report) (rows : FieldRows) (w : List ℕ) → IsBetween a c v reports [] [] rows → length rows + 2 ≤ 4_294_967_294 → w ≡ name_words (length reports) name.Cycle → ReportGoesOn rows (decimal 0 ∷ w ∷ [])
+cycle-opens a c v reports rows w h room words =
+    let first = row.StartStopped 1 in
+    let value = (cycle_line 1 first).value in
+    let bounds : IsCycleRow first = (omega arith, omega arith) in
+    let new = whole-first reports first bounds ∙ ap₂ (λ (x : FieldRows) (r : List (List ℕ)). x ++ r ∷ []) (sym h.are) (cycle-row (length reports) first ∙ ap (λ (n : List ℕ). decimal 0 ∷ n ∷ value ∷ []) (sym words)) in
+    let long = length-append rows ((decimal 0 ∷ w ∷ value ∷ []) ∷ []) in
+    let report = told-report (reports ++ last_cycle (Some first) []) [] [] 0 (told-cycle reports first h.told.run bounds) (omega (arith, room, long, ap length new)) in
+    (value ∷ [], count_fields 0 ∷ [], subst AreReport (ap (λ (x : FieldRows). x ++ count_fields 0 ∷ []) new ∙ append_assoc rows ((decimal 0 ∷ w ∷ value ∷ []) ∷ []) (count_fields 0 ∷ [])) report)
+
+pub cycle-taken : (a : Bool) (reports : List Report) (rows : FieldRows) (w value : List ℕ) (first : CycleRow) → IsBetween a true true reports [] [] rows → length rows + 2 ≤ 4_294_967_294 → IsCycleRow first
+    → w ≡ name_words (length reports) name.Cycle → ((y : ToldName) → IsToldName y → w ≡ name_words (length reports) y → name.Cycle ≡ y) → value ≡ (cycle_line 1 first).value → ((d : CycleRow) → IsCycleRow d → value ≡ (cycle_line 1 d).value → first ≡ d)
+    → IsBetween (may_ack (Some first)) true true (reports ++ last_cycle (Some first) []) [] [] (rows ++ (decimal 0 ∷ w ∷ value ∷ []) ∷ [])
+cycle-taken a reports rows w value first h room bounds words only shows one =
+    let long = length-append rows ((decimal 0 ∷ w ∷ value ∷ []) ∷ []) in
+    let count : length (reports ++ last_cycle (Some first) []) ≡ length reports + 1 = length-append reports (last_cycle (Some first) []) ∙ ap (λ (x : List Report). length reports + length x) (last-report first bounds).1 in
+    record {
+      told = told-cycle reports first h.told.run bounds;
+      are = sym (whole-first reports first bounds ∙ ap₂ (λ (x : FieldRows) (r : List (List ℕ)). x ++ r ∷ []) (sym h.are) (cycle-row (length reports) first ∙ ap₂ (λ (n x : List ℕ). decimal 0 ∷ n ∷ x ∷ []) (sym words) (sym shows)));
+      short = omega (arith, room, long);
+      rest = λ more r.
+          let n = only-next a true true (length reports) 1 [] w value more name.Cycle (omega arith) (omega arith) only (h.rest ((decimal 0 ∷ w ∷ value ∷ []) ∷ more) (subst AreReport (append_assoc rows ((decimal 0 ∷ w ∷ value ∷ []) ∷ []) more) r)) in
+          let same = one n.1 n.2 n.3 in
+          subst (λ (j : ℕ). MayFollow (may_ack (Some first)) true true j 1 [] more) (sym count) (subst (λ (d : CycleRow). MayFollow (may_ack (Some d)) true true (length reports + 1) 1 [] more) (sym same) n.4);
+    }
+
+-- ---- a command that the last cycle acknowledged
+
+whole-ack : (done : List Report) (n : ℕ) (s : Option ℕ) (acks : List Ack) (k : Ack) → whole (done ++ Ran n s (acks ++ k ∷ []) ∷ []) [] [] ≡ whole (done ++ Ran n s acks ∷ []) [] [] ++ ack_fields (length done + 1) k ∷ []
+whole-ack done n s acks k =
+    let i = length done + 1 in
+    let first = cycle_fields i (row.Ran n s) in
+    whole-cycle done (Ran n s (acks ++ k ∷ [])) ∙ ap (λ (x : FieldRows). whole done [] [] ++ x) (cycle-lines i (Ran n s (acks ++ k ∷ [])) ∙ ap (λ (x : FieldRows). first ∷ x) (map-append (ack_fields i) acks (k ∷ [])))
+    ∙ sym (append_assoc (whole done [] []) (first ∷ map (ack_fields i) acks) (ack_fields i k ∷ []))
+    ∙ ap (λ (x : FieldRows). x ++ ack_fields i k ∷ []) (sym (whole-cycle done (Ran n s acks) ∙ ap (λ (x : FieldRows). whole done [] [] ++ x) (cycle-lines i (Ran n s acks))))
+
+told-ack : (done : List Report) (n : ℕ) (s : Option ℕ) (acks : List Ack) (k : Ack) → All IsReport (done ++ Ran n s acks ∷ []) → IsAck k → IsToldReport (done ++ Ran n s (acks ++ k ∷ []) ∷ []) [] []
+told-ack done n s acks k all h =
+    let last = at-end IsReport done (Ran n s acks) all in
+    run-told (done ++ Ran n s (acks ++ k ∷ []) ∷ []) (All-last IsReport done (Ran n s (acks ++ k ∷ [])) (All-front IsReport done (Ran n s acks ∷ []) all) (last.0, All-last IsAck acks k last.1 h))
+
+count-last : (done : List Report) (r : Report) → length (done ++ r ∷ []) ≡ length done + 1
+count-last done r = length-append done (r ∷ [])
+
+module _ (done : List Report) (n : ℕ) (s : Option ℕ) (acks : List Ack) (rows : FieldRows) (w : List ℕ) (kind : Kind) (tick : ℕ) (h : IsBetween true true true (done ++ Ran n s acks ∷ []) [] [] rows)
+    (room : length rows + 2 ≤ 4_294_967_294) (bounds : IsToldName (name.Ack kind tick)) (words : w ≡ name_words (length (done ++ Ran n s acks ∷ [])) (name.Ack kind tick)) where
+  ack-are : (value : List ℕ) (applied : Applied) → value ≡ applied_words applied → whole (done ++ Ran n s (acks ++ record { tick = tick; kind = kind; applied = applied } ∷ []) ∷ []) [] [] ≡ rows ++ (decimal 0 ∷ w ∷ value ∷ []) ∷ []
+  ack-are value applied shows =
+      let k : Ack = record { tick = tick; kind = kind; applied = applied } in
+      whole-ack done n s acks k ∙ ap₂ (λ (x : FieldRows) (r : List (List ℕ)). x ++ r ∷ []) (sym h.are)
+      (ap (λ (j : ℕ). decimal 0 ∷ name_words j (name.Ack kind tick) ∷ applied_words applied ∷ []) (sym (count-last done (Ran n s acks))) ∙ ap₂ (λ (x y : List ℕ). decimal 0 ∷ x ∷ y ∷ []) (sym words) (sym shows))
+
+  pub ack-opens : (applied : Applied) → IsApplied kind applied → ReportGoesOn rows (decimal 0 ∷ w ∷ [])
+  ack-opens applied ok =
+      let k : Ack = record { tick = tick; kind = kind; applied = applied } in
+      let value = applied_words applied in
+      let new = ack-are value applied refl in
+      let long = length-append rows ((decimal 0 ∷ w ∷ value ∷ []) ∷ []) in
+      let report = told-report (done ++ Ran n s (acks ++ k ∷ []) ∷ []) [] [] 0 (told-ack done n s acks k h.told.run (bounds, ok)) (omega (arith, room, long, ap length new)) in
+      (value ∷ [], count_fields 0 ∷ [], subst AreReport (ap (λ (x : FieldRows). x ++ count_fields 0 ∷ []) new ∙ append_assoc rows ((decimal 0 ∷ w ∷ value ∷ []) ∷ []) (count_fields 0 ∷ [])) report)
+
+  pub ack-taken : (value : List ℕ) (applied : Applied) → IsApplied kind applied → ((y : ToldName) → IsToldName y → w ≡ name_words (length (done ++ Ran n s acks ∷ [])) y → name.Ack kind tick ≡ y) → value ≡ applied_words applied
+      → IsBetween true true true (done ++ Ran n s (acks ++ record { tick = tick; kind = kind; applied = applied } ∷ []) ∷ []) [] [] (rows ++ (decimal 0 ∷ w ∷ value ∷ []) ∷ [])
+  ack-taken value applied ok only shows =
+      let k : Ack = record { tick = tick; kind = kind; applied = applied } in
+      let long = length-append rows ((decimal 0 ∷ w ∷ value ∷ []) ∷ []) in
+      record {
+        told = told-ack done n s acks k h.told.run (bounds, ok);
+        are = sym (ack-are value applied shows);
+        short = omega (arith, room, long);
+        rest = λ more r.
+            let m = only-next true true true (length (done ++ Ran n s acks ∷ [])) 1 [] w value more (name.Ack kind tick) (omega arith) (omega arith) only (h.rest ((decimal 0 ∷ w ∷ value ∷ []) ∷ more) (subst AreReport (append_assoc rows ((decimal 0 ∷ w ∷ value ∷ []) ∷ []) more) r)) in
+            subst (λ (j : ℕ). MayFollow true true true j 1 [] more) (count-last done (Ran n s acks) ∙ sym (count-last done (Ran n s (acks ++ k ∷ [])))) m.4;
+      }
+
+-- ---- a damaged bank and the count
+
+module _ (a c v : Bool) (reports : List Report) (es : List (ℕ × Record)) (ds : List Found) (rows : FieldRows) (w : List ℕ) (bank : ℕ) (h : IsBetween a c v reports es ds rows) (few : length es + 1 < 2 ^ 64)
+    (room : length rows + 2 ≤ 4_294_967_294) (bounds : IsBank bank) (free : HasNoBank (map found_event es ++ ds) bank) (words : w ≡ name_words (length reports) (name.Bank bank)) where
+  told-damaged : (view : BankView) → IsDamagedView view → IsToldReport reports es (ds ++ record { bank = bank; view = view } ∷ [])
+  told-damaged view ok =
+      let d : Found = record { bank = bank; view = view } in
+      let found = map found_event es ++ ds in
+      record {
+        run = h.told.run;
+        events = h.told.events;
+        damaged = All-last IsDamaged ds d h.told.damaged (bounds, ok);
+        distinct = subst AreDistinct (append_assoc (map found_event es) ds (d ∷ [])) (subst (IsDistinct eqb) (sym (banks-last found d)) (distinct-more found bank h.told.distinct free));
+      }
+
+  damaged-are : (value : List ℕ) (view : BankView) → value ≡ view_words view → whole reports es (ds ++ record { bank = bank; view = view } ∷ []) ≡ rows ++ (decimal 0 ∷ w ∷ value ∷ []) ∷ []
+  damaged-are value view shows =
+      let d : Found = record { bank = bank; view = view } in
+      whole-damaged reports es ds d ∙ ap₂ (λ (x : FieldRows) (r : List (List ℕ)). x ++ r ∷ []) (sym h.are) (ap₂ (λ (x y : List ℕ). decimal 0 ∷ x ∷ y ∷ []) (sym words) (sym shows))
+
+  pub damaged-opens : (view : BankView) → IsDamagedView view → ReportGoesOn rows (decimal 0 ∷ w ∷ [])
+  damaged-opens view ok =
+      let value = view_words view in
+      let new = damaged-are value view refl in
+      let long = length-append rows ((decimal 0 ∷ w ∷ value ∷ []) ∷ []) in
+      let report = told-report reports es (ds ++ record { bank = bank; view = view } ∷ []) 0 (told-damaged view ok) (omega (arith, room, long, ap length new)) in
+      (value ∷ [], count_fields 0 ∷ [], subst AreReport (ap (λ (x : FieldRows). x ++ count_fields 0 ∷ []) new ∙ append_assoc rows ((decimal 0 ∷ w ∷ value ∷ []) ∷ []) (count_fields 0 ∷ [])) report)
+
+  pub damaged-taken : (value : List ℕ) (view : BankView) → IsDamagedView view → ((y : ToldName) → IsToldName y → w ≡ name_words (length reports) y → name.Bank bank ≡ y) → value ≡ view_words view
+      → IsBetween false false false reports es (ds ++ record { bank = bank; view = view } ∷ []) (rows ++ (decimal 0 ∷ w ∷ value ∷ []) ∷ [])
+  damaged-taken value view ok only shows =
+      let d : Found = record { bank = bank; view = view } in
+      let found = map found_event es ++ ds in
+      let long = length-append rows ((decimal 0 ∷ w ∷ value ∷ []) ∷ []) in
+      let banks : banks_in found ++ bank ∷ [] ≡ banks_in (map found_event es ++ (ds ++ d ∷ [])) = sym (banks-last found d) ∙ ap banks_in (append_assoc (map found_event es) ds (d ∷ [])) in
+      record {
+        told = told-damaged view ok;
+        are = sym (damaged-are value view shows);
+        short = omega (arith, room, long);
+        rest = λ more r.
+            let m = only-next a c v (length reports) (length es + 1) (banks_in found) w value more (name.Bank bank) (omega arith) few only (h.rest ((decimal 0 ∷ w ∷ value ∷ []) ∷ more) (subst AreReport (append_assoc rows ((decimal 0 ∷ w ∷ value ∷ []) ∷ []) more) r)) in
+            subst (λ (x : List ℕ). MayFollow false false false (length reports) (length es + 1) x more) banks m.5;
+      }
+
+pub count-taken : (a c v : Bool) (reports : List Report) (es : List (ℕ × Record)) (ds : List Found) (rows : FieldRows) (w value : List ℕ) (n : ℕ) → IsBetween a c v reports es ds rows → length es + 1 < 2 ^ 64
+    → w ≡ name_words (length reports) name.Count → ((y : ToldName) → IsToldName y → w ≡ name_words (length reports) y → name.Count ≡ y) → value ≡ shown_count n
+    → (rows ++ (decimal 0 ∷ w ∷ value ∷ []) ∷ [] ≡ whole reports es ds ++ count_fields n ∷ []) × ((more : FieldRows) → AreReport ((rows ++ (decimal 0 ∷ w ∷ value ∷ []) ∷ []) ++ more) → more ≡ [])
+count-taken a c v reports es ds rows w value n h few words only shows = (
+  ap₂ (λ (x : FieldRows) (r : List (List ℕ)). x ++ r ∷ []) h.are (ap₂ (λ (x y : List ℕ). decimal 0 ∷ x ∷ y ∷ []) words shows),
+  (λ more r. (only-next a c v (length reports) (length es + 1) (banks_in (map found_event es ++ ds)) w value more name.Count (omega arith) few only (h.rest ((decimal 0 ∷ w ∷ value ∷ []) ∷ more) (subst AreReport (append_assoc rows ((decimal 0 ∷ w ∷ value ∷ []) ∷ []) more) r))).2),
+)
+
+pub count-opens : (a c v : Bool) (reports : List Report) (es : List (ℕ × Record)) (ds : List Found) (rows : FieldRows) (w : List ℕ) → IsBetween a c v reports es ds rows → w ≡ name_words (length reports) name.Count → ReportGoesOn rows (decimal 0 ∷ w ∷ [])
+count-opens a c v reports es ds rows w h words = (shown_count 0 ∷ [], [], subst (λ (x : List ℕ). AreReport (rows ++ (decimal 0 ∷ x ∷ shown_count 0 ∷ []) ∷ [])) (sym words) (between-count a c v reports es ds rows h))
+
+-- ---- the first row of a reader
+
+pub start-between : IsBetween false true true [] [] [] (head_row ∷ [])
+start-between = record {
+  told = run-told [] (none IsReport);
+  are = refl;
+  short = omega arith;
+  rest = λ more a. by more (report-told (head_row ∷ more) a);
+}
+  where
+    by : (more : FieldRows) → ((reports : List Report) × (es : List (ℕ × Record)) × (ds : List Found) × (n : ℕ) × IsToldReport reports es ds × (head_row ∷ more ≡ whole reports es ds ++ count_fields n ∷ []) × (length (head_row ∷ more) ≤ 4_294_967_294)) → MayFollow false true true 0 1 [] more
+    by more t =
+        let run = run_fields 1 t.0 in
+        let events = events_fields 1 t.1 in
+        let damaged = map damaged_fields t.2 in
+        let last : FieldRows = count_fields t.3 ∷ [] in
+        let told = t.4 in
+        let is : head_row ∷ more ≡ head_row ∷ ((run ++ (events ++ damaged)) ++ last) = t.5 in
+        let tail : more ≡ (run ++ (events ++ damaged)) ++ last = cc in
+        record {
+          acks = [];
+          reports = t.0;
+          events = t.1;
+          damaged = t.2;
+          count = t.3;
+          acks_bounds = none IsAck;
+          reports_bounds = told.run;
+          events_bounds = told.events;
+          damaged_bounds = told.damaged;
+          no_acks = λ f. refl;
+          no_reports = λ f. cc;
+          no_events = λ f. cc;
+          distinct = subst (IsDistinct eqb) (banks-split t.1 t.2) told.distinct;
+          are = tail ∙ append_assoc run (events ++ damaged) last ∙ ap (λ (x : FieldRows). run ++ x) (append_assoc events damaged last);
+        }

@@ -1,0 +1,113 @@
+-- Where a text can be no report, and what was read of one that is.
+use Rattle.std.proofs.Common.{arith, ◌≡◌, ◌∙◌, sym, ap, ap₂, subst, refl, ℕ, ◌+◌, ◌<◌, ◌≤◌, List, [], ◌∷◌, ◌++◌, map, length, take, drop, get_or, Option, None, Some}
+use Rattle.std.proofs.lemmas.List.{append-nil, drop_more, length-take-le, take_more}
+use Rattle.std.proofs.Math.Seq.{take-length}
+use Rattle.edr_image.specs.declared.Found.{Found}
+use Rattle.edr_image.specs.Banks.{found_event}
+use Rattle.edr_image.specs.Reports.{Report, report_of}
+use Rattle.edr_reading.specs.declared.faults.RowFault.TheVariants as fault
+use Rattle.edr_reading.specs.declared.reader.NextRow.{NextRow}
+use Rattle.edr_reading.specs.declared.reader.NextRow.TheVariants as next
+use Rattle.edr_reading.specs.declared.reader.Reader.{Reader}
+use Rattle.edr_reading.specs.declared.reader.Refused.{Refused}
+use Rattle.edr_reading.specs.declared.reader.Refused.TheVariants as refused
+use Rattle.edr_reading.specs.declared.told.CycleRow.{CycleRow}
+use Rattle.edr_reading.specs.Faults.{AreReport, IsFault, IsWrong, Opens}
+use Rattle.edr_reading.specs.Found.{count_fields}
+use Rattle.edr_reading.specs.Reader.{HasReadRows, IsBetween, IsRefused, StandsNext, cycles_read, may_ack}
+use Rattle.edr_reading.specs.Reading.{IsReading, report_rows, rows_told}
+use Rattle.edr_reading.specs.Refusals.{IsRowRefusal, IsRefusalOfRecords, refusal_of}
+use Rattle.edr_reading.specs.declared.reading.Reading.{Reading}
+use Rattle.edr_reading.specs.declared.reading.ReportRefused.{ReportRefused}
+use Rattle.edr_reading.specs.declared.reading.ReportRefused.TheVariants.{Fault, OutOfMemory}
+use Rattle.edr_spell.specs.Spell.{RecordsOf}
+use Rattle.std.specs.Result.{IfErr, IfOk}
+use Rattle.edr_reading.specs.Rows.{FieldRows}
+use Rattle.edr_reading.proofs.BetweenLemmas.{between-count}
+use Rattle.edr_reading.proofs.FaultLemmas.{fault-behind, fault-is-none, wrong-end}
+use Rattle.edr_reading.proofs.FollowLemmas.{some-rows}
+use Rattle.edr_reading.proofs.LineLemmas.{inside-count}
+use Rattle.edr_reading.proofs.WholeLemmas.{told-report, whole-parts}
+use Rattle.edr_report.specs.EventWords.{event_words}
+use Rattle.edr_report.specs.declared.event_lines.EventLine.TheVariants.{Number}
+use Rattle.edr_reading.specs.Event.{event_of}
+use Rattle.edr_reading.specs.Rows.{event_fields, event_names}
+use Rattle.edr_reading.proofs.RowLemmas.{lines}
+use Rattle.std.proofs.Common.{decimal, Bool, true, false, Result, Ok, Err}
+
+-- ---- what was read begins a report
+
+nothing-report : (reports : List Report) (found : List Found) (rows : FieldRows) (n : ℕ) → StandsNext (next.Nothing n) None reports found rows → AreReport rows
+nothing-report reports found rows n s =
+    let e = whole-parts reports s.0 s.1 n (s.3).damaged in
+    (reports, map found_event s.0 ++ s.1, n, record { run = (s.3).run; found = (s.0, s.1, refl, (s.3).events, (s.3).damaged); distinct = (s.3).distinct; short = omega (arith, s.5, ap length s.4, ap length e) }, s.4 ∙ e)
+
+stands-opens : (n : NextRow) (last : Option CycleRow) (reports : List Report) (found : List Found) (rows : FieldRows) → StandsNext n last reports found rows → Opens rows
+stands-opens next.Run last reports found rows s = (count_fields 0 ∷ [], between-count (may_ack last) true true reports [] [] rows s.1)
+stands-opens next.Events last reports found rows s = (count_fields 0 ∷ [], between-count false false true reports s.0 [] rows s.2)
+stands-opens (next.Line k p) last reports found rows s =
+    let e = event_of p in
+    let block = length s.0 + 1 in
+    ((decimal block ∷ get_or event_names k [] ∷ event_words block e.0 e.1 (get_or lines k Number) ∷ []) ∷ (drop (k + 1) (event_fields block e.0 e.1) ++ count_fields 0 ∷ []), inside-count k e reports s.0 rows s.2)
+stands-opens next.Damaged last reports found rows s = (count_fields 0 ∷ [], between-count false false false reports s.0 s.1 rows s.3)
+stands-opens (next.Nothing n) last reports found rows s = ([], subst AreReport (sym (append-nil rows)) (nothing-report reports found rows n s))
+
+between-none : (a c v : Bool) (reports : List Report) (rows : FieldRows) → ((more : FieldRows) → AreReport (rows ++ more) → 1 ≤ length more) → AreReport rows → ⊥
+between-none a c v reports rows h r = let z = h [] (subst AreReport (sym (append-nil rows)) r) in omega (arith, z)
+
+stands-none : (n : NextRow) (last : Option CycleRow) (reports : List Report) (found : List Found) (rows : FieldRows) → StandsNext n last reports found rows → ((k : ℕ) → n ≡ next.Nothing k → ⊥) → AreReport rows → ⊥
+stands-none next.Run last reports found rows s other = between-none false false false reports rows (λ more r. some-rows _ _ _ _ _ _ more ((s.1).rest more r))
+stands-none next.Events last reports found rows s other = between-none false false false reports rows (λ more r. some-rows _ _ _ _ _ _ more ((s.2).rest more r))
+stands-none (next.Line k p) last reports found rows s other = (s.3).0
+stands-none next.Damaged last reports found rows s other = between-none false false false reports rows (λ more r. some-rows _ _ _ _ _ _ more ((s.3).rest more r))
+stands-none (next.Nothing n) last reports found rows s other = absurd (other n refl)
+
+-- ---- faults
+
+pub field-fault : (r : Reader) (records : FieldRows) (i : ℕ) (e : Refused) → i < length records → HasReadRows r (take i records) → IsRefused (take i records) (get_or records i []) e → IsRowRefusal records (refusal_of (i + 1) e)
+field-fault r records i (refused.Field f) less h w =
+    fault-behind records i (fault.Field f) (omega (arith, less)) (stands-opens r.next r.last (cycles_read r) r.found.items (take i records) h.stands)
+    (subst (λ (x : FieldRows). IsWrong (take i records) x (fault.Field f)) (sym (drop_more records i [] less)) (w (drop (i + 1) records)))
+field-fault r records i refused.OutOfMemory less h w = tt
+
+pub length-fault : (r : Reader) (records : FieldRows) (i n : ℕ) → i < length records → HasReadRows r (take i records) → IsWrong (take i records) (drop i records) (fault.Fields n) → IsFault records (i + 1) (fault.Fields n)
+length-fault r records i n less h w = fault-behind records i (fault.Fields n) (omega (arith, less)) (stands-opens r.next r.last (cycles_read r) r.found.items (take i records) h.stands) w
+
+pub end-fault : (r : Reader) (records : FieldRows) → HasReadRows r records → ((k : ℕ) → r.next ≡ next.Nothing k → ⊥) → IsFault records (r.rows + 1) fault.Unended
+end-fault r records h other =
+    let all : take (length records) records ≡ records = take-length records in
+    subst (λ (k : ℕ). IsFault records (k + 1) fault.Unended) (sym h.count)
+    (fault-behind records (length records) fault.Unended (omega arith) (subst Opens (sym all) (stands-opens r.next r.last (cycles_read r) r.found.items records h.stands))
+    (wrong-end records (length records) (omega arith) (stands-none r.next r.last (cycles_read r) r.found.items records h.stands other)))
+
+-- ---- what was read
+
+pub end-read : (r : Reader) (records : FieldRows) (n : ℕ) (run : List Report) (found : List Found) → HasReadRows r records → r.next ≡ next.Nothing n → run ≡ cycles_read r → found ≡ r.found.items
+    → (records ≡ report_rows run found n) × IsReading run found n
+end-read r records n run found h e runs founds =
+    let s = subst (λ (x : NextRow). StandsNext x r.last (cycles_read r) r.found.items records) e h.stands in
+    let is-found : found ≡ map found_event s.0 ++ s.1 = founds ∙ s.2 in
+    let is : records ≡ report_rows (cycles_read r) (map found_event s.0 ++ s.1) n = s.4 ∙ whole-parts (cycles_read r) s.0 s.1 n (s.3).damaged in
+    let all : records ≡ report_rows run found n = is ∙ ap₂ (λ (x : List Report) (y : List Found). report_rows x y n) (sym runs) (sym is-found) in
+    let reading : IsReading (cycles_read r) (map found_event s.0 ++ s.1) n = record { run = (s.3).run; found = (s.0, s.1, refl, (s.3).events, (s.3).damaged); distinct = (s.3).distinct; short = omega (arith, s.5, ap length is) } in
+    (all, subst (λ (x : List Report). IsReading x found n) (sym runs) (subst (λ (y : List Found). IsReading (cycles_read r) y n) (sym is-found) reading))
+
+-- one record more
+pub read-more : (r : Reader) (records : FieldRows) (i : ℕ) (row : List (List ℕ)) → i < length records → row ≡ get_or records i [] → HasReadRows r (take i records ++ row ∷ []) → HasReadRows r (take (i + 1) records)
+read-more r records i row less is h = subst (HasReadRows r) (ap (λ (x : List (List ℕ)). take i records ++ x ∷ []) is ∙ sym (take_more records i [] less)) h
+
+-- ---- the records of a text
+
+pub of-records : (bytes : List ℕ) (records : FieldRows) (res : Result Reading ReportRefused) → RecordsOf bytes records → IfErr res (IsRowRefusal records) → IfErr res (IsRefusalOfRecords bytes)
+of-records bytes records (Ok r) are h = tt
+of-records bytes records (Err (Fault row f)) are h = (records, are, h)
+of-records bytes records (Err OutOfMemory) are h = tt
+
+pub memory-alone : (records : FieldRows) (res : Result Reading ReportRefused) → IfErr res (IsRowRefusal records) → AreReport records → IfErr res (λ e. e ≡ OutOfMemory)
+memory-alone records (Ok r) h a = tt
+memory-alone records (Err (Fault row f)) h a = absurd (fault-is-none records row f h a)
+memory-alone records (Err OutOfMemory) h a = refl
+
+pub rows-read : (bytes : List ℕ) (records : FieldRows) (res : Result Reading ReportRefused) → RecordsOf bytes records → IfOk res (λ r. records ≡ rows_told r) → IfOk res (λ r. RecordsOf bytes (rows_told r))
+rows-read bytes records (Ok r) are h = subst (RecordsOf bytes) h are
+rows-read bytes records (Err e) are h = tt

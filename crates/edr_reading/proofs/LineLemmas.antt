@@ -1,0 +1,231 @@
+-- A reader in an event takes a row or refuses it.
+use Rattle.std.proofs.Common.{arith, ◌≡◌, ◌≢◌, ◌∙◌, sym, ap, ap₂, subst, refl, ℕ, ◌+◌, ◌<◌, ◌≤◌, ◌^◌, ⊎_elim, Bool, true, false, eqb, List, [], ◌∷◌, ◌++◌, map, length, take, drop, get_or, append_assoc, length-append, decimal}
+use Rattle.std.specs.List.{All, IsDistinct, slice_index_or}
+use Rattle.std.proofs.lemmas.List.{append-nil, drop_more, length-map, take-append-drop, length-drop}
+use Rattle.std.proofs.Math.Seq.{take-length}
+use Rattle.edr_record.specs.declared.Record.{Record}
+use Rattle.edr_image.specs.declared.Found.{Found}
+use Rattle.edr_image.specs.Banks.{found_event}
+use Rattle.edr_image.specs.Reports.{Report}
+use Rattle.edr_report.specs.EventWords.{event_words}
+use Rattle.edr_reading.specs.Parts.{IsRecord}
+use Rattle.edr_report.specs.declared.event_lines.EventLine.TheVariants.{Number}
+use Rattle.edr_reading.specs.declared.reader.Refused.TheVariants as refused
+use Rattle.edr_reading.specs.Event.{EventAgrees, HasNoBank, IsNextEvent, event_texts}
+use Rattle.edr_reading.specs.Faults.{AreReport, ReportGoesOn}
+use Rattle.edr_reading.specs.Found.{IsDamaged, IsEvent, banks_in, count_fields, damaged_fields, events_fields, last_rows}
+use Rattle.edr_reading.specs.Reading.{AreDistinct}
+use Rattle.edr_reading.specs.Reader.{GoesOnIn, IsBetween, IsInside, IsRefused, IsToldReport, MayFollow, MayFollowLine, whole}
+use Rattle.edr_reading.specs.Rows.{FieldRows, event_fields, event_names}
+use Rattle.edr_reading.specs.Run.{ack_fields, run_fields}
+use Rattle.edr_reading.specs.Told.{IsAck}
+use Rattle.edr_reading.specs.Run.{IsReport}
+use Rattle.edr_reading.proofs.BetweenLemmas.{All-last, banks-last, between-count, goes-on, refuse-1, refuse-2, refuse-3}
+use Rattle.edr_reading.proofs.DistinctLemmas.{alone, distinct-more}
+use Rattle.edr_reading.proofs.FollowLemmas.{next-row, none}
+use Rattle.edr_reading.proofs.RowLemmas.{event-gone, event-long, line-place, lines, row-at, rows-more}
+use Rattle.edr_reading.proofs.WholeLemmas.{decimal-same, told-report, whole-event}
+
+-- ---- what a line may be
+
+-- the next row is a line of an event, which goes on behind it
+pub line-row : (k block : ℕ) (found : List Found) (e : ℕ × Record) (r : List (List ℕ)) (more : FieldRows) → k < 29 → MayFollowLine k block (banks_in found) e (r ∷ more)
+    → (f : ℕ × Record) × IsNextEvent found f × EventAgrees k e f × (r ≡ decimal block ∷ get_or event_names k [] ∷ event_words block f.0 f.1 (get_or lines k Number) ∷ [])
+    × ((g : ℕ × Record) → EventAgrees (k + 1) g f → MayFollowLine (k + 1) block (banks_in found) g more)
+line-row k block found e r more small m =
+    let f = m.event in
+    let tail = events_fields (block + 1) m.events ++ last_rows m.damaged m.count in
+    let rows = event_fields block f.0 f.1 in
+    let long = event-long block f.0 f.1 in
+    let is : r ∷ more ≡ get_or rows k [] ∷ (drop (k + 1) rows ++ tail) = m.are ∙ ap (λ (x : FieldRows). x ++ tail) (drop_more rows k [] (omega (arith, small, long))) in
+    let head : r ≡ get_or rows k [] = cc in
+    let rest : more ≡ drop (k + 1) rows ++ tail = cc in (
+      f,
+      record { bank = m.event_bounds.0; alone = alone found f.0 (map (λ e. e.0) m.events ++ banks_in m.damaged) m.distinct; record_bounds = m.event_bounds.1 },
+      m.agrees,
+      head ∙ row-at block f k small,
+      (λ g a. record {
+        event = f;
+        events = m.events;
+        damaged = m.damaged;
+        count = m.count;
+        event_bounds = m.event_bounds;
+        events_bounds = m.events_bounds;
+        damaged_bounds = m.damaged_bounds;
+        agrees = a;
+        distinct = m.distinct;
+        are = rest;
+      }),
+    )
+
+-- at least the count follows
+line-some : (k block : ℕ) (banks : List ℕ) (e : ℕ × Record) (more : FieldRows) → MayFollowLine k block banks e more → 1 ≤ length more
+line-some k block banks e more m =
+    let tail = events_fields (block + 1) m.events ++ last_rows m.damaged m.count in
+    let e1 = length-append (drop k (event_fields block m.event.0 m.event.1)) tail in
+    let e2 = length-append (events_fields (block + 1) m.events) (last_rows m.damaged m.count) in
+    let e3 = length-append (map damaged_fields m.damaged) (count_fields m.count ∷ []) in
+    omega (arith, ap length m.are, e1, e2, e3)
+
+-- how many rows follow at least
+pub line-most : (k block : ℕ) (banks : List ℕ) (e : ℕ × Record) (more : FieldRows) → MayFollowLine k block banks e more → 30 ≤ length more + k
+line-most k block banks e more m =
+    let tail = events_fields (block + 1) m.events ++ last_rows m.damaged m.count in
+    let rows = event_fields block m.event.0 m.event.1 in
+    let e0 = length-drop k rows in
+    let e1 = length-append (drop k rows) tail in
+    let e2 = length-append (events_fields (block + 1) m.events) (last_rows m.damaged m.count) in
+    let e3 = length-append (map damaged_fields m.damaged) (count_fields m.count ∷ []) in
+    omega (arith, ap length m.are, e0, e1, e2, e3, event-long block m.event.0 m.event.1)
+
+-- ---- the rows so far begin a report
+
+pub inside-count : (k : ℕ) (e : ℕ × Record) (reports : List Report) (es : List (ℕ × Record)) (rows : FieldRows) → IsInside k e reports es rows
+    → AreReport (rows ++ (decimal (length es + 1) ∷ get_or event_names k [] ∷ event_words (length es + 1) e.0 e.1 (get_or lines k Number) ∷ []) ∷ (drop (k + 1) (event_fields (length es + 1) e.0 e.1) ++ count_fields 0 ∷ []))
+inside-count k e reports es rows h =
+    let block = length es + 1 in
+    let all = event_fields block e.0 e.1 in
+    let last : FieldRows = count_fields 0 ∷ [] in
+    let long = event-long block e.0 e.1 in
+    let one = decimal block ∷ get_or event_names k [] ∷ event_words block e.0 e.1 (get_or lines k Number) ∷ [] in
+    let parted : all ≡ take k all ++ one ∷ drop (k + 1) all = sym (take-append-drop k all) ∙ ap (λ (x : FieldRows). take k all ++ x) (drop_more all k [] (omega (arith, h.within, long)) ∙ ap (λ (r : List (List ℕ)). r ∷ drop (k + 1) all) (row-at block e k h.within)) in
+    let total : whole reports (es ++ e ∷ []) [] ≡ rows ++ one ∷ drop (k + 1) all = whole-event reports es e ∙ ap (λ (x : FieldRows). whole reports es [] ++ x) parted ∙ sym (append_assoc (whole reports es []) (take k all) (one ∷ drop (k + 1) all)) ∙ ap (λ (x : FieldRows). x ++ one ∷ drop (k + 1) all) (sym h.are) in
+    let e1 = length-append rows (one ∷ drop (k + 1) all) in
+    let e2 = length-drop (k + 1) all in
+    subst AreReport (ap (λ (x : FieldRows). x ++ last) total ∙ append_assoc rows (one ∷ drop (k + 1) all) last)
+    (told-report reports (es ++ e ∷ []) [] 0 h.told (omega (arith, h.short, h.within, ap length total, e1, e2, long)))
+
+-- ---- refusals
+
+pub line-block : (k : ℕ) (e : ℕ × Record) (reports : List Report) (es : List (ℕ × Record)) (rows : FieldRows) (b w v : List ℕ) → GoesOnIn (length es + 1) rows → b ≢ decimal (length es + 1) → IsRefused rows (b ∷ w ∷ v ∷ []) (refused.Field 1)
+line-block k e reports es rows b w v g other = refuse-1 rows b w v (λ r. other (g.1 (b ∷ r.0) r.1 r.2))
+
+pub line-name : (k : ℕ) (e : ℕ × Record) (reports : List Report) (es : List (ℕ × Record)) (rows : FieldRows) (w v : List ℕ) → IsInside k e reports es rows → w ≢ get_or event_names k [] → IsRefused rows (decimal (length es + 1) ∷ w ∷ v ∷ []) (refused.Field 2)
+line-name k e reports es rows w v h other =
+    let block = length es + 1 in
+    refuse-2 rows (decimal block) w v
+    (goes-on rows (decimal block ∷ []) (get_or event_names k [] ∷ event_words block e.0 e.1 (get_or lines k Number) ∷ []) (drop (k + 1) (event_fields block e.0 e.1) ++ count_fields 0 ∷ []) (inside-count k e reports es rows h))
+    (λ r. let l = line-row k block (map found_event es) e (decimal block ∷ w ∷ r.0) r.1 h.within (h.rest (decimal block ∷ w ∷ r.0) r.1 refl r.2) in
+    other (ap (λ (x : List (List ℕ)). slice_index_or x 1 []) l.3))
+
+pub line-value : (k : ℕ) (e : ℕ × Record) (reports : List Report) (es : List (ℕ × Record)) (rows : FieldRows) (w v : List ℕ) → IsInside k e reports es rows → w ≡ get_or event_names k []
+    → ((f : ℕ × Record) → IsNextEvent (map found_event es) f → EventAgrees k e f → v ≡ event_words (length es + 1) f.0 f.1 (get_or lines k Number) → ⊥) → IsRefused rows (decimal (length es + 1) ∷ w ∷ v ∷ []) (refused.Field 3)
+line-value k e reports es rows w v h named other =
+    let block = length es + 1 in
+    refuse-3 rows (decimal block) w v
+    (goes-on rows (decimal block ∷ w ∷ []) (event_words block e.0 e.1 (get_or lines k Number) ∷ []) (drop (k + 1) (event_fields block e.0 e.1) ++ count_fields 0 ∷ [])
+    (subst (λ (n : List ℕ). AreReport (rows ++ (decimal block ∷ n ∷ event_words block e.0 e.1 (get_or lines k Number) ∷ []) ∷ (drop (k + 1) (event_fields block e.0 e.1) ++ count_fields 0 ∷ []))) (sym named) (inside-count k e reports es rows h)))
+    (λ r. let l = line-row k block (map found_event es) e (decimal block ∷ w ∷ v ∷ r.0) r.1 h.within (h.rest (decimal block ∷ w ∷ v ∷ r.0) r.1 refl r.2) in
+    other l.0 l.1 l.2 (ap (λ (x : List (List ℕ)). slice_index_or x 2 []) l.3))
+
+-- ---- a line is taken
+
+told-event : (reports : List Report) (es : List (ℕ × Record)) (e f : ℕ × Record) → IsToldReport reports es [] → IsNextEvent (map found_event es) f → IsToldReport reports (es ++ f ∷ []) []
+told-event reports es e f h n = record {
+  run = h.run;
+  events = All-last IsEvent es f h.events (n.bank, n.record_bounds);
+  damaged = none IsDamaged;
+  distinct = subst AreDistinct (sym (append-nil (map found_event (es ++ f ∷ []))))
+      (subst AreDistinct (sym (found-last es f)) (subst (IsDistinct eqb) (sym (banks-last (map found_event es) (found_event f))) (distinct-more (map found_event es) f.0 (subst AreDistinct (append-nil (map found_event es)) h.distinct) n.alone)));
+}
+  where
+    found-last : (es : List (ℕ × Record)) (f : ℕ × Record) → map found_event (es ++ f ∷ []) ≡ map found_event es ++ found_event f ∷ []
+    found-last [] f = refl
+    found-last (e ∷ es) f = ap (λ (x : List Found). found_event e ∷ x) (found-last es f)
+
+module _ (k : ℕ) (e f : ℕ × Record) (reports : List Report) (es : List (ℕ × Record)) (rows : FieldRows) (w v : List ℕ) (h : IsInside k e reports es rows) (told : IsToldReport reports es [])
+    (bounds : IsNextEvent (map found_event es) f) (same : take k (event_texts (length es + 1) f) ≡ take k (event_texts (length es + 1) e)) (named : w ≡ get_or event_names k [])
+    (shows : v ≡ event_words (length es + 1) f.0 f.1 (get_or lines k Number))
+    (whole-of : (g : ℕ × Record) → IsNextEvent (map found_event es) g → EventAgrees k e g → v ≡ event_words (length es + 1) g.0 g.1 (get_or lines k Number) → EventAgrees (k + 1) f g) where
+  line-are : IsRecord e.1 → rows ++ (decimal (length es + 1) ∷ w ∷ v ∷ []) ∷ [] ≡ whole reports es [] ++ take (k + 1) (event_fields (length es + 1) f.0 f.1)
+  line-are ok =
+      let block = length es + 1 in
+      let one : decimal block ∷ w ∷ v ∷ [] ≡ get_or (event_fields block f.0 f.1) k [] = ap₂ (λ (x y : List ℕ). decimal block ∷ x ∷ y ∷ []) named shows ∙ sym (row-at block f k h.within) in
+      ap₂ (λ (x : FieldRows) (r : List (List ℕ)). x ++ r ∷ []) h.are one
+      ∙ append_assoc (whole reports es []) (take k (event_fields block e.0 e.1)) (get_or (event_fields block f.0 f.1) k [] ∷ [])
+      ∙ ap (λ (x : FieldRows). whole reports es [] ++ x) (sym (rows-more block k e f h.within ok bounds.record_bounds same))
+
+  line-follow : (more : FieldRows) → AreReport ((rows ++ (decimal (length es + 1) ∷ w ∷ v ∷ []) ∷ []) ++ more) → MayFollowLine (k + 1) (length es + 1) (banks_in (map found_event es)) f more
+  line-follow more a =
+      let block = length es + 1 in
+      let row = decimal block ∷ w ∷ v ∷ [] in
+      let l = line-row k block (map found_event es) e row more h.within (h.rest row more refl (subst AreReport (append_assoc rows (row ∷ []) more) a)) in
+      l.4 f (whole-of l.0 l.1 l.2 (ap (λ (x : List (List ℕ)). slice_index_or x 2 []) l.3))
+
+  pub line-next : IsRecord e.1 → k + 1 < 29 → IsInside (k + 1) f reports es (rows ++ (decimal (length es + 1) ∷ w ∷ v ∷ []) ∷ []) × GoesOnIn (length es + 1) (rows ++ (decimal (length es + 1) ∷ w ∷ v ∷ []) ∷ [])
+  line-next ok small =
+      let block = length es + 1 in
+      let now = rows ++ (decimal block ∷ w ∷ v ∷ []) ∷ [] in
+      let long = length-append rows ((decimal block ∷ w ∷ v ∷ []) ∷ []) in (
+        record {
+          within = small;
+          told = told-event reports es e f told bounds;
+          are = line-are ok;
+          short = omega (arith, h.short, long);
+          rest = λ r more b a. line-follow (r ∷ more) a;
+        },
+        (
+          (λ a. let m = line-follow [] (subst AreReport (sym (append-nil now)) a) in let s = line-some (k + 1) block (banks_in (map found_event es)) f [] m in omega (arith, s)),
+          (λ r more a. ap (λ (x : List (List ℕ)). slice_index_or x 0 []) (line-row (k + 1) block (map found_event es) f r more small (line-follow (r ∷ more) a)).3),
+        ),
+      )
+
+  pub line-last : IsRecord e.1 → k + 1 ≡ 29 → IsBetween false false true reports (es ++ f ∷ []) [] (rows ++ (decimal (length es + 1) ∷ w ∷ v ∷ []) ∷ [])
+  line-last ok last =
+      let block = length es + 1 in
+      let all = event_fields block f.0 f.1 in
+      let long = length-append rows ((decimal block ∷ w ∷ v ∷ []) ∷ []) in
+      let count : length es + 1 + 1 ≡ length (es ++ f ∷ []) + 1 = ap (λ (n : ℕ). n + 1) (sym (length-append es (f ∷ []))) in
+      let banks : banks_in (map found_event es) ++ f.0 ∷ [] ≡ banks_in (map found_event (es ++ f ∷ []) ++ []) = sym (ap banks_in (append-nil (map found_event (es ++ f ∷ []))) ∙ banks-more es) in
+      record {
+        told = told-event reports es e f told bounds;
+        are = line-are ok ∙ ap (λ (n : ℕ). whole reports es [] ++ take n all) last ∙ ap (λ (n : ℕ). whole reports es [] ++ take n all) (sym (event-long block f.0 f.1)) ∙ ap (λ (x : FieldRows). whole reports es [] ++ x) (take-length all) ∙ sym (whole-event reports es f);
+        short = omega (arith, h.short, long, last);
+        rest = λ more a.
+            let m = line-follow more a in
+            let g = m.event in
+            let tail = events_fields (block + 1) m.events ++ last_rows m.damaged m.count in
+            let rest : more ≡ tail = m.are ∙ ap (λ (n : ℕ). drop n (event_fields block g.0 g.1) ++ tail) last ∙ ap (λ (x : FieldRows). x ++ tail) (event-gone block g.0 g.1) in
+            let bank : f.0 ≡ g.0 = m.agrees.bank (omega (arith, last)) in
+            let left = map (λ (x : ℕ × Record). x.0) m.events ++ banks_in m.damaged in
+            let dis : IsDistinct eqb ((banks_in (map found_event es) ++ f.0 ∷ []) ++ left) = subst (IsDistinct eqb) (sym (append_assoc (banks_in (map found_event es)) (f.0 ∷ []) left)) (subst (λ (b : ℕ). IsDistinct eqb (banks_in (map found_event es) ++ b ∷ left)) (sym bank) m.distinct) in
+            record {
+              acks = [];
+              reports = [];
+              events = m.events;
+              damaged = m.damaged;
+              count = m.count;
+              acks_bounds = none IsAck;
+              reports_bounds = none IsReport;
+              events_bounds = m.events_bounds;
+              damaged_bounds = m.damaged_bounds;
+              no_acks = λ z. refl;
+              no_reports = λ z. refl;
+              no_events = λ z. cc;
+              distinct = subst (λ (x : List ℕ). IsDistinct eqb (x ++ left)) banks dis;
+              are = rest ∙ ap (λ (n : ℕ). events_fields n m.events ++ last_rows m.damaged m.count) count;
+            };
+      }
+    where
+      banks-more : (es : List (ℕ × Record)) → banks_in (map found_event (es ++ f ∷ [])) ≡ banks_in (map found_event es) ++ f.0 ∷ []
+      banks-more [] = refl
+      banks-more (e ∷ es) = ap (λ (x : List ℕ). e.0 ∷ x) (banks-more es)
+
+-- ---- the first line
+
+pub first-line : (a c : Bool) (reports : List Report) (es : List (ℕ × Record)) (rows : FieldRows) (e : ℕ × Record) → IsBetween a c true reports es [] rows → length es + 1 < 2 ^ 64 → IsNextEvent (map found_event es) e → length rows + 30 ≤ 4_294_967_294
+    → IsInside 0 e reports es rows
+first-line a c reports es rows e h few bounds room = record {
+  within = omega arith;
+  told = told-event reports es e e h.told bounds;
+  are = h.are ∙ sym (ap (λ (x : FieldRows). whole reports es [] ++ x) (no-rows (event_fields (length es + 1) e.0 e.1)) ∙ append-nil (whole reports es []));
+  short = omega (arith, room);
+  rest = λ r more b rep. ⊎_elim
+      (λ l. absurd (let z = decimal-same 0 (length es + 1) (omega arith) few (sym (ap (λ (x : List (List ℕ)). slice_index_or x 0 []) l.3) ∙ b) in omega (arith, z)))
+      (λ n. subst (λ (x : List Found). MayFollowLine 0 (length es + 1) (banks_in x) e (r ∷ more)) (append-nil (map found_event es)) (n.5 e))
+      (next-row a c true (length reports) (length es + 1) (banks_in (map found_event es ++ [])) r more (h.rest (r ∷ more) rep));
+}
+  where
+    no-rows : {X : Type 0} (xs : List X) → take 0 xs ≡ []
+    no-rows [] = refl
+    no-rows (x ∷ xs) = refl

@@ -1,0 +1,16 @@
+use Rattle.std.proofs.Common.{arith, ◌≡◌, ◌∙◌, sym, ℕ, List, Option, None, Some}
+use Rattle.std.specs.Option.{IfSome}
+use Rattle.edr_record.specs.Bounds.{IsCrash}
+use Rattle.edr_record.specs.Parts.{CrashPart}
+use Rattle.edr_report.specs.Words.{none_word}
+use Rattle.edr_report.specs.declared.event_lines.CrashLine.TheVariants.{End}
+use Rattle.edr_reading.specs.Parts.{PartsAgree, part_words}
+use Rattle.edr_reading.proofs.PartLemmas.{end-none}
+use Rattle.edr_reading.proofs.crash.end_line.Goals as goal
+
+none-agrees : (d : Option CrashPart) → IfSome d IsCrash → none_word ≡ part_words d End → PartsAgree 1 None d
+none-agrees None h e = tt
+none-agrees (Some d) h e = absurd (end-none d.end (omega (arith, h.end_to)) e)
+
+pub returns-then-is_word-clause-whole : goal.returns-then-is_word-clause-whole
+returns-then-is_word-clause-whole c d h e = none-agrees d h (sym c.if-is_word.ensures ∙ e)

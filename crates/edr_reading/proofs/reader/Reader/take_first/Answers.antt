@@ -1,0 +1,31 @@
+use Rattle.std.proofs.Common.{arith, ◌≡◌, ◌∙◌, sym, ap, subst, ℕ, ◌+◌, decimal, List, [], ◌∷◌}
+use Rattle.edr_reading.specs.Event.{HasNoBank, event_of}
+use Rattle.edr_reading.specs.Values.{IsBank}
+use Rattle.edr_reading.proofs.ReadLemmas.{block-refused, first-at, line-takes}
+use Rattle.edr_reading.proofs.reader.Reader.take_first.Goals as goal
+
+pub returns-in_default : goal.returns-in_default
+returns-in_default c rows h =
+    let row = c.args.row.now in
+    block-refused c.args.self.now rows row.block.now row.name.now row.value.now h c.requires.between c.requires.block
+    (λ m may bank ok free e. c.in_default.ensures.none may bank ok free)
+
+pub returns-in_default-last_within : goal.returns-in_default-last_within
+returns-in_default-last_within c rows h =
+    let row = c.args.row.now in
+    block-refused c.args.self.now rows row.block.now row.name.now row.value.now h c.requires.between c.requires.block
+    (λ m may bank ok free e. let z = c.in_default-last_within.ensures.whole c.block-block.result (omega arith) (omega arith) (e ∙ ap decimal (sym c.block-block.ensures)) in cc)
+
+pub take_line-requires-clause-read : goal.take_line-requires-clause-read
+take_line-requires-clause-read c =
+    let p = c.requires.read in
+    let b = c.in-Some.ensures.read in
+    let at = c.plain_event.ensures.bank in
+    (p.0, first-at c.args.self.now p.0 (event_of c.plain_event.result) p.1 b.2 (subst IsBank (sym at) b.0) (subst (HasNoBank c.args.self.now.found.items) (sym at) b.1) c.plain_event.ensures.record)
+
+pub returns : goal.returns
+returns c =
+    let b = c.in-Some.ensures.read in
+    let at = c.plain_event.ensures.bank in
+    line-takes 0 (event_of c.plain_event.result) c.args.self.now _ _ _ c.take_line.ensures
+    (λ rows h. first-at c.args.self.now rows (event_of c.plain_event.result) h b.2 (subst IsBank (sym at) b.0) (subst (HasNoBank c.args.self.now.found.items) (sym at) b.1) c.plain_event.ensures.record)

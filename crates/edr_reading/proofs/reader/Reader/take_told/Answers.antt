@@ -1,0 +1,24 @@
+use Rattle.std.proofs.Common.{◌≡◌, ◌∙◌, sym, ap, subst, ℕ, List, [], ◌∷◌, Some}
+use Rattle.std.proofs.lemmas.Option.{same_Some}
+use Rattle.edr_reading.specs.Reader.{IsRefused, MayTell}
+use Rattle.edr_reading.specs.Told.{name_words}
+use Rattle.edr_reading.specs.declared.reader.Refused.TheVariants as refused
+use Rattle.edr_reading.specs.declared.told.ToldName.{ToldName}
+use Rattle.edr_reading.proofs.ReadLemmas.{name-refused}
+use Rattle.edr_reading.proofs.reader.Reader.take_told.Goals as goal
+
+pub returns-in_default : goal.returns-in_default
+returns-in_default c rows h =
+    let r = c.args.self.now in
+    let row = c.args.row.now in
+    subst (λ (b : List ℕ). IsRefused rows (b ∷ row.name.now ∷ row.value.now ∷ []) (refused.Field 2)) (sym c.requires.block)
+    (name-refused r rows row.name.now row.value.now h c.requires.between
+    (λ x ok e may. c.if-may_tell.ensures (subst (MayTell r) (sym (same_Some _ _ (c.in-Some.ensures.whole x ok (e ∙ ap (λ (n : ℕ). name_words n x) (sym c.cycles.ensures))))) may)))
+
+pub returns-in_default-2 : goal.returns-in_default-2
+returns-in_default-2 c rows h =
+    let r = c.args.self.now in
+    let row = c.args.row.now in
+    subst (λ (b : List ℕ). IsRefused rows (b ∷ row.name.now ∷ row.value.now ∷ []) (refused.Field 2)) (sym c.requires.block)
+    (name-refused r rows row.name.now row.value.now h c.requires.between
+    (λ x ok e may. let z = c.in_default.ensures.whole x ok (e ∙ ap (λ (n : ℕ). name_words n x) (sym c.cycles.ensures)) in cc))

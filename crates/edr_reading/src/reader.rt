@@ -1,0 +1,367 @@
+//! A reader of rows: what it knows after those that it has read.
+
+ghost use Rattle.std.specs.Prelude.{◌≡◌, ◌≢◌, ◌+◌, ◌<◌, ◌^◌, ◌∷◌, [], ℕ, ⊤, List, None, IfErr, IfOk, IfSome, MatchOption, OnOk, decimal, length, map};
+ghost use Rattle.edr_image.specs.Reports.{report_of};
+ghost use Rattle.edr_reading.specs.Answers.{TellsWhether};
+ghost use Rattle.edr_reading.specs.Event.{HasNoBank, event_of, record_of};
+ghost use Rattle.edr_reading.specs.Reader.{AtLine, HasReadRows, IsOnlyName, AddsLine, MayBegin, MayHaveEvent, MayTell, Takes, TakesLine, cycles_read, may_ack};
+ghost use Rattle.edr_reading.specs.Reading.{head_row};
+ghost use Rattle.edr_reading.specs.Rows.{FieldRows, fields};
+ghost use Rattle.edr_reading.specs.Parts.{IsRecord};
+ghost use Rattle.edr_reading.specs.declared.told.ToldName.TheVariants as name;
+ghost use Rattle.edr_reading.specs.Values.{IsBank};
+
+use crate::event::{EVENT_ROWS, PartEvent, event_line, free_bank, is_among, line_at, plain_event};
+use crate::front::{is_word, last_within};
+use crate::rows::ReportRow;
+use crate::told::{CycleRow, ToldName, cycle_value, told_name};
+use crate::values::{answer, count, damage};
+use edr_image::{Ack, BankView, CycleReport, Found, Kind, Log};
+use edr_record::{Crash, Record};
+use edr_report::LINES_OF_EVENT;
+use std::alloc::{AllocError as OutOfMemory, Global};
+
+// A report has no more rows.
+const MOST_ROWS: u32 = 4_294_967_294;
+
+/// Why a row is not taken.
+#[derive(Clone, Copy, Debug, PartialEq, Eq)]
+pub(crate) enum Refused {
+    /// No report goes on with its fields up to this one, from 1.
+    Field(u8),
+    OutOfMemory,
+}
+
+/// What may stand next. Where it isn't a line of an event, the count of ignition cycles may always be it.
+#[derive(Clone, Copy)]
+pub(crate) enum NextRow {
+    /// A cycle, a command that the last one acknowledged, an event or a damaged bank.
+    Run,
+    /// An event or a damaged bank.
+    Events,
+    /// This line of an event, of which those before it were read.
+    Line { line: usize, event: PartEvent },
+    /// A damaged bank.
+    Damaged,
+    /// Nothing: this was the count.
+    Nothing { count: u32 },
+}
+
+/// What a reader knows after some rows of a report.
+#[derive(Drop)]
+pub(crate) struct Reader {
+    /// How many rows it has read.
+    pub rows: u32,
+    /// The cycles but for the last one.
+    pub run: Vec<CycleReport>,
+    /// The first row of the last one.
+    pub last: Option<CycleRow>,
+    /// Which commands the last one acknowledged.
+    pub acks: Vec<Ack>,
+    /// The events and then the damaged banks.
+    pub found: Vec<Found>,
+    pub next: NextRow,
+}
+
+// A log with these acknowledgements.
+fn log_of(alloc: Global, acks: &[Ack]) -> Result<Log, OutOfMemory>
+    requires { length acks.now < 2 ^ 32 }
+    ensures { IfOk result (λ log. log.acks ≡ acks.now) }
+{
+    let mut log = Log::with_room(alloc, acks.len() as u32)?;
+    for ack in acks {
+        log.push(*ack);
+    }
+    Ok(log)
+}
+
+impl Reader {
+    /// A reader that has read the row that names the columns.
+    pub(crate) fn new(alloc: Global) -> Reader
+        ensures { HasReadRows result (head_row ∷ []) }
+    {
+        Reader {
+            rows: 1,
+            run: Vec::new(alloc),
+            last: None,
+            acks: Vec::new(alloc),
+            found: Vec::new(alloc),
+            next: NextRow::Run,
+        }
+    }
+
+    // How many cycles it has read.
+    fn cycles(&self) -> u32
+        requires few { length (cycles_read self.now) < 2 ^ 32 }
+        requires first { self.now.last ≡ None → self.now.run.items ≡ [] }
+        ensures { result ≡ length (cycles_read self.now) }
+    {
+        match self.last {
+            Some(_) => self.run.len() as u32 + 1,
+            None => 0,
+        }
+    }
+
+    /// Adds the last cycle to the others.
+    pub(crate) fn end_cycle(&mut self, alloc: Global) -> Result<(), OutOfMemory>
+        requires { length self.old.acks.items < 2 ^ 32 }
+        ensures run { OnOk result (map report_of self.new.run.items ≡ cycles_read self.old) }
+        ensures last { OnOk result ((self.new.last ≡ None) × (self.new.acks.items ≡ [])) }
+        ensures found { OnOk result (self.new.found.items ≡ self.old.found.items) }
+        ensures next { OnOk result ((self.new.next ≡ self.old.next) × (self.new.rows ≡ self.old.rows)) }
+    {
+        match self.last {
+            Some(CycleRow::StartStopped { call }) => {
+                self.run.push(CycleReport::StartStopped { call })?;
+            }
+            Some(CycleRow::Ran { number, stopped }) => {
+                let log = log_of(alloc, &self.acks)?;
+                self.run.push(CycleReport::Ran {
+                    number,
+                    stopped,
+                    log,
+                })?;
+            }
+            None => {}
+        }
+        self.acks.clear();
+        self.last = None;
+        Ok(())
+    }
+
+    // A row of block 0 with this name may be next.
+    fn may_tell(&self, name: ToldName) -> bool
+        ensures { TellsWhether result (MayTell self.now name) }
+    {
+        let has_room = self.rows < MOST_ROWS - 1;
+        match name {
+            ToldName::Cycle => has_room && self.is_in_run(),
+            ToldName::Ack { .. } => has_room && self.is_in_run() && self.may_ack(),
+            ToldName::Bank { bank } => has_room && !is_among(&self.found, bank),
+            ToldName::Count => true,
+        }
+    }
+
+    // A cycle may be next.
+    fn is_in_run(&self) -> bool
+        ensures { TellsWhether result (self.now.next ≡ NextRow.Run) }
+    {
+        match self.next {
+            NextRow::Run => true,
+            _ => false,
+        }
+    }
+
+    // A command of the last cycle may be next, as long as another cycle may.
+    fn may_ack(&self) -> bool
+        ensures { result ≡ may_ack self.now.last }
+    {
+        match self.last {
+            Some(CycleRow::Ran { .. }) => true,
+            _ => false,
+        }
+    }
+
+    // Takes the first row of a cycle.
+    fn take_cycle(&mut self, alloc: Global, value: &[u8]) -> Result<(), Refused>
+        requires acks { length self.old.acks.items < 2 ^ 32 }
+        requires rows { self.old.rows + 1 < 2 ^ 32 }
+        ensures { (w : List ℕ) → IsOnlyName self.old w name.Cycle
+            → Takes self.old self.new (decimal 0 ∷ w ∷ value.now ∷ []) result }
+    {
+        let Some(first) = cycle_value(value) else {
+            return Err(Refused::Field(3));
+        };
+        let Ok(()) = self.end_cycle(alloc) else {
+            return Err(Refused::OutOfMemory);
+        };
+        self.last = Some(first);
+        self.rows += 1;
+        Ok(())
+    }
+
+    // Takes the row of a command that the last cycle acknowledged.
+    fn take_ack(&mut self, kind: Kind, tick: u32, value: &[u8]) -> Result<(), Refused>
+        requires { self.old.rows + 1 < 2 ^ 32 }
+        ensures { (w : List ℕ) → IsOnlyName self.old w (name.Ack kind tick)
+            → Takes self.old self.new (decimal 0 ∷ w ∷ value.now ∷ []) result }
+    {
+        let Some(applied) = answer(value, kind) else {
+            return Err(Refused::Field(3));
+        };
+        let ack = Ack {
+            tick,
+            kind,
+            applied,
+        };
+        let Ok(()) = self.acks.push(ack) else {
+            return Err(Refused::OutOfMemory);
+        };
+        self.rows += 1;
+        Ok(())
+    }
+
+    // Takes the row of a damaged bank.
+    fn take_damaged(&mut self, bank: u8, value: &[u8]) -> Result<(), Refused>
+        requires { self.old.rows + 1 < 2 ^ 32 }
+        ensures { (w : List ℕ) → IsOnlyName self.old w (name.Bank bank)
+            → Takes self.old self.new (decimal 0 ∷ w ∷ value.now ∷ []) result }
+    {
+        let Some(damage) = damage(value) else {
+            return Err(Refused::Field(3));
+        };
+        // The prover learns here of the types of what a bank may hold.
+        let _record: Option<Record> = None;
+        let _crash: Option<Crash> = None;
+        let view = BankView::Damaged {
+            offset: damage.offset,
+            found: damage.found,
+            locked: damage.locked,
+        };
+        let Ok(()) = self.found.push(Found { bank, view }) else {
+            return Err(Refused::OutOfMemory);
+        };
+        self.next = NextRow::Damaged;
+        self.rows += 1;
+        Ok(())
+    }
+
+    // Takes the row of the count.
+    fn take_count(&mut self, value: &[u8]) -> Result<(), Refused>
+        requires { self.old.rows + 1 < 2 ^ 32 }
+        ensures { (w : List ℕ) → IsOnlyName self.old w name.Count
+            → Takes self.old self.new (decimal 0 ∷ w ∷ value.now ∷ []) result }
+    {
+        let Some(count) = count(value, 0) else {
+            return Err(Refused::Field(3));
+        };
+        self.next = NextRow::Nothing { count };
+        self.rows += 1;
+        Ok(())
+    }
+
+    // Takes a row of block 0.
+    fn take_told(&mut self, alloc: Global, row: &ReportRow<'_>) -> Result<(), Refused>
+        requires read { (rows : FieldRows) × HasReadRows self.old rows }
+        requires between { MayBegin self.old.next }
+        requires block { row.now.block.now ≡ decimal 0 }
+        ensures { Takes self.old self.new (fields row.now) result }
+    {
+        match told_name(row.name, self.cycles()) {
+            Some(name) if self.may_tell(name) => match name {
+                ToldName::Cycle => self.take_cycle(alloc, row.value),
+                ToldName::Ack { kind, tick } => self.take_ack(kind, tick, row.value),
+                ToldName::Bank { bank } => self.take_damaged(bank, row.value),
+                ToldName::Count => self.take_count(row.value),
+            },
+            _ => Err(Refused::Field(2)),
+        }
+    }
+
+    // In which bank the next event may be, if there may be one.
+    fn bank_of_next(&self) -> Option<u8>
+        ensures read { IfSome result (λ b. IsBank b × HasNoBank self.now.found.items b × MayHaveEvent self.now) }
+        ensures none { MatchOption result (MayHaveEvent self.now → (b : ℕ) → IsBank b → HasNoBank self.now.found.items b → ⊥) (λ b. ⊤) }
+    {
+        if self.rows > MOST_ROWS - 30 {
+            return None;
+        }
+        match self.next {
+            NextRow::Run | NextRow::Events => free_bank(&self.found),
+            _ => None,
+        }
+    }
+
+    // The number of the block of the event that is read or is next.
+    fn block(&self) -> u32
+        requires { length self.now.found.items + 1 < 2 ^ 32 }
+        ensures { result ≡ length self.now.found.items + 1 }
+    {
+        self.found.len() as u32 + 1
+    }
+
+    // Takes a row of its event's block.
+    fn take_line(
+        &mut self,
+        line: usize,
+        event: &PartEvent,
+        row: &ReportRow<'_>,
+    ) -> Result<(), Refused>
+        requires read { (rows : FieldRows) × AtLine self.old line (event_of event.now) rows }
+        requires block { row.now.block.now ≡ decimal (length self.old.found.items + 1) }
+        ensures { TakesLine line (event_of event.now) self.old self.new (fields row.now) result }
+    {
+        let (name, what) = line_at(&LINES_OF_EVENT, line);
+        if !is_word(row.name, name.as_bytes()) {
+            return Err(Refused::Field(2));
+        }
+        let Some(event) = event_line(event, self.block(), &self.found, what, row.value) else {
+            return Err(Refused::Field(3));
+        };
+        self.add_line(line, event)
+    }
+
+    // Goes on behind the line in this place, with which this was read.
+    fn add_line(&mut self, line: usize, event: PartEvent) -> Result<(), Refused>
+        requires line { line < 29 }
+        requires rows { self.old.rows + 1 < 2 ^ 32 }
+        requires record { IsRecord (record_of event) }
+        ensures added { OnOk result (AddsLine line event self.old self.new) }
+        ensures memory { IfErr result (λ e. e ≡ Refused.OutOfMemory) }
+    {
+        self.rows += 1;
+        if line + 1 < EVENT_ROWS {
+            self.next = NextRow::Line {
+                line: line + 1,
+                event,
+            };
+            return Ok(());
+        }
+        let view = BankView::Event(event.record());
+        let Ok(()) = self.found.push(Found {
+            bank: event.bank,
+            view,
+        })
+        else {
+            return Err(Refused::OutOfMemory);
+        };
+        self.next = NextRow::Events;
+        Ok(())
+    }
+
+    // Takes a row of another block than 0.
+    fn take_first(&mut self, row: &ReportRow<'_>) -> Result<(), Refused>
+        requires read { (rows : FieldRows) × HasReadRows self.old rows }
+        requires between { MayBegin self.old.next }
+        requires block { row.now.block.now ≢ decimal 0 }
+        ensures { Takes self.old self.new (fields row.now) result }
+    {
+        let Some(bank) = self.bank_of_next() else {
+            return Err(Refused::Field(1));
+        };
+        let block = self.block();
+        let Some(_) = last_within(row.block, b"", block, block) else {
+            return Err(Refused::Field(1));
+        };
+        self.take_line(0, &plain_event(bank), row)
+    }
+
+    /// Takes one row more, or answers the first of its fields with which no report goes on.
+    pub(crate) fn take(&mut self, alloc: Global, row: &ReportRow<'_>) -> Result<(), Refused>
+        requires { (rows : FieldRows) × HasReadRows self.old rows }
+        ensures { Takes self.old self.new (fields row.now) result }
+    {
+        match self.next {
+            NextRow::Line { line, event } => {
+                let block = self.block();
+                let Some(_) = last_within(row.block, b"", block, block) else {
+                    return Err(Refused::Field(1));
+                };
+                self.take_line(line, &event, row)
+            }
+            NextRow::Nothing { .. } => Err(Refused::Field(1)),
+            _ if last_within(row.block, b"", 0, 0).is_some() => self.take_told(alloc, row),
+            _ => self.take_first(row),
+        }
+    }
+}
