@@ -1,6 +1,7 @@
 -- Why there is no page, by what was taken of the source.
-use Rattle.std.proofs.Common.{◌≡◌, ◌≤◌, sym, subst, refl, ℕ, List, [], length, Option, Some, None}
+use Rattle.std.proofs.Common.{◌≡◌, ◌≤◌, sym, subst, refl, ℕ, List, [], length, Option, Some, None, Result, Ok, Err}
 use Rattle.std.specs.Option.{IfSome}
+use Rattle.std.specs.Result.{IfErr}
 use Rattle.edr_device.specs.Told.{Told}
 use Rattle.edr_device.specs.Transfer.{GivesAll}
 use Rattle.edr_picture.specs.declared.asked.Asked.TheVariants as asked
@@ -25,3 +26,7 @@ cause-of bytes i i' (fault.Report row f) few t w = (refl, given (λ b. (length b
 cause-of bytes i i' fault.Read few t w = absurd w
 cause-of bytes i i' fault.OutOfMemory few t w = refl
 cause-of bytes i i' fault.TooLong few t w = absurd w
+
+pub if-err : {A E : Type 0} (r : Result A E) (P Q : E → Type 0) → ((e : E) → P e → Q e) → IfErr r P → IfErr r Q
+if-err (Ok x) P Q f h = h
+if-err (Err e) P Q f h = f e h

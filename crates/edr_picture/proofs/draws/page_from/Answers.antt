@@ -2,8 +2,7 @@ use Rattle.std.proofs.Common.{arith, ◌≤◌, List, ℕ, length, sym, subst}
 use Rattle.edr_device.specs.Told.{Told}
 use Rattle.edr_device.specs.Transfer.{GivesAll}
 use Rattle.edr_picture.specs.Pages.{input, largest_report}
-use Rattle.edr_picture.proofs.PageLemmas.{cause-of}
-use Rattle.edr_reading.proofs.FoundLemmas.{if-err}
+use Rattle.edr_picture.proofs.PageLemmas.{cause-of, if-err}
 use Rattle.edr_picture.proofs.draws.page_from.Goals as goal
 
 pub returns-in-Ok-clause-cause : goal.returns-in-Ok-clause-cause
