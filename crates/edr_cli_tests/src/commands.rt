@@ -2,6 +2,7 @@
 ghost use Rattle.std.specs.Prelude.{◌<◌, ◌^◌, length};
 
 mod cuts;
+mod dialogs;
 mod driven;
 mod drives;
 mod every_call;
@@ -170,6 +171,8 @@ fn each_status_has_its_code(rt: HostRuntime) {
         (Status::OutOfMemory, 9),
         (Status::TooLong, 10),
         (Status::OldImage, 11),
+        (Status::Dialog, 12),
+        (Status::Fleet, 14),
     ];
     for (status, code) in codes {
         assert_eq!(rt; status.code(), code);

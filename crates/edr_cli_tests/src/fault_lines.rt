@@ -42,6 +42,7 @@ fn each_fault_has_its_line(rt: HostRuntime) {
         (Fault::Spent, "fault: spent\n"),
         (Fault::OutOfMemory, "fault: out of memory\n"),
         (Fault::TooLong, "fault: too long\n"),
+        (Fault::Fleet { offset: 0 }, "fault: fleet truncated at 0\n"),
     ];
     for (fault, line) in faults {
         assert!(rt; fault.line().as_bytes() == line.as_bytes());

@@ -24,6 +24,10 @@ impl Gate for AlwaysOpen {
     fn pass(&self, _sensor: u8, _nth: u32) {}
 }
 
+// What is reported of an image of one byte and of a new one.
+const FLEET: &str =
+    "image 1: short 1 of 96\nimage 2: count 0, events 0, locked 0, complete 0, damaged 0\nimages: 2\nevents: 0\n";
+
 // A run: its trace, the bytes of its memory, which calls of its source and which changing calls of its memory fail, and the
 // status that it is to end with.
 #[derive(Clone, Copy)]
@@ -329,5 +333,32 @@ fn parts_are_served(rt: HostRuntime) -> Result<(), Fail> {
         assert_eq!(rt; sent.load(Ordering::SeqCst), 1);
     }
     assert_eq!(rt; gate.others.load(Ordering::SeqCst), 0);
+    Ok(())
+}
+
+// The frames of an image that is short and of one that is new, and what is reported of them by so many workers.
+#[test]
+fn a_fleet_is_reported(rt: HostRuntime) -> Result<(), Fail> {
+    let alloc = rt.alloc();
+    let mut frames = Vec::new(alloc);
+    frames.extend_from_slice(&[0, 0, 0, 1, 0, 0, 0, 12, 96])?;
+    frames.extend_from_slice(&new_image(2, KEEP))?;
+    for workers in ["1", "2"] {
+        let words = words_of(alloc, &["fleet", workers])?;
+        let mut source = source_of(alloc, &frames, SOUND)?;
+        let mut sink = sink_of(alloc, SOUND)?;
+        let mut memory = kept_memory(alloc)?;
+        let status = serve(
+            &rt,
+            alloc,
+            true,
+            &words,
+            &mut source,
+            &mut sink,
+            &mut memory,
+        )?;
+        assert_eq!(rt; str::from_utf8(sink.bytes()), Ok(FLEET));
+        assert_eq!(rt; status, Status::Ok);
+    }
     Ok(())
 }
