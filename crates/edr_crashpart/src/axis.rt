@@ -1,4 +1,5 @@
 ghost use Rattle.std.specs.Prelude.{◌≡◌, ◌*◌, ◌+◌, ◌≤◌, ◌+ℤ◌, pos, unsigned_abs, unwrap_or};
+ghost use Rattle.edr_items.specs.declared.TheConstants.{GREATEST_ACCELERATION};
 ghost use Rattle.edr_record.specs.declared.TheConstants.{RESET};
 ghost use Rattle.edr_definitions.specs.Parts.{kmh_of};
 ghost use Rattle.edr_definitions.specs.OpenCrash.{begin_axis, next_axis, next_points, higher};
@@ -37,17 +38,17 @@ fn whole_kmh(change: i64) -> i16
 
 // The change with one sample more, `at` ticks after time zero.
 fn next_sum(sum: i64, sample: Option<i32>, at: u16) -> i64
-    requires sum { unsigned_abs sum + 100_000 ≤ 100_000 * at }
+    requires sum { unsigned_abs sum + GREATEST_ACCELERATION ≤ GREATEST_ACCELERATION * at }
     requires sample { IsInRange sample }
     ensures value { result ≡ sum +ℤ unwrap_or sample (pos 0) }
-    ensures size { unsigned_abs result ≤ 100_000 * at }
+    ensures size { unsigned_abs result ≤ GREATEST_ACCELERATION * at }
 {
     sum + i64::from(sample.unwrap_or(0))
 }
 
 // Notes the change at each tenth tick up to 250 ms.
 fn note_point(points: &mut [i16; POINTS], sum: i64, at: u16)
-    requires { unsigned_abs sum ≤ 100_000 * at }
+    requires { unsigned_abs sum ≤ GREATEST_ACCELERATION * at }
     ensures { points.new ≡ next_points points.old sum at }
 {
     if at % POINT_STEP == 0 && at <= LAST_POINT {
@@ -83,12 +84,12 @@ impl Axis {
 
     // One tick more, `at` ticks after time zero.
     pub fn tick(&mut self, sample: Option<i32>, at: u16)
-        requires sum { unsigned_abs self.old.sum + 100_000 ≤ 100_000 * at }
+        requires sum { unsigned_abs self.old.sum + GREATEST_ACCELERATION ≤ GREATEST_ACCELERATION * at }
         requires at { at ≤ RESET }
         requires sample { IsInRange sample }
         requires missing { self.old.missing ≤ RESET }
         ensures axis { axis_of self.new ≡ next_axis (axis_of self.old) sample at }
-        ensures size { unsigned_abs self.new.sum ≤ 100_000 * at }
+        ensures size { unsigned_abs self.new.sum ≤ GREATEST_ACCELERATION * at }
     {
         let sum = next_sum(self.sum, sample, at);
         self.sum = sum;

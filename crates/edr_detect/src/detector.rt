@@ -34,7 +34,7 @@ impl Model for Detect {
 
 impl Detect {
     ghost use Rattle.std.specs.Prelude.{◌≡◌, ◌+◌, ◌<◌, ◌≤◌, [], unsigned_abs};
-    ghost use Rattle.edr_items.specs.declared.TheConstants.{LATEST_MOMENT};
+    ghost use Rattle.edr_items.specs.declared.TheConstants.{GREATEST_ACCELERATION, LATEST_MOMENT};
     ghost use Rattle.edr_detect.specs.Rows.{row_of};
     ghost use Rattle.edr_detect.specs.Detected.{DetectStandsFor, DetectsNext, TellsNext};
 
@@ -55,8 +55,8 @@ impl Detect {
     /// a missing sample, and `fired` the restraints that fire there.
     #[inline(always)]
     pub fn tick(&mut self, along: i32, across: i32, fired: Restraints) -> Change
-        requires along_small { unsigned_abs along ≤ 100_000 }
-        requires across_small { unsigned_abs across ≤ 100_000 }
+        requires along_small { unsigned_abs along ≤ GREATEST_ACCELERATION }
+        requires across_small { unsigned_abs across ≤ GREATEST_ACCELERATION }
         requires room { self.old.tick < LATEST_MOMENT }
         ensures stands { DetectsNext (row_of along across fired) self.old self.new }
         ensures answer { TellsNext (row_of along across fired) self.old result }
@@ -74,8 +74,8 @@ impl Detect {
     // The same, whatever moves. It stands apart, so that a quiet tick doesn't save the registers that it takes.
     #[inline(never)]
     fn full_tick(&mut self, along: i32, across: i32, fired: Restraints) -> Change
-        requires along_small { unsigned_abs along ≤ 100_000 }
-        requires across_small { unsigned_abs across ≤ 100_000 }
+        requires along_small { unsigned_abs along ≤ GREATEST_ACCELERATION }
+        requires across_small { unsigned_abs across ≤ GREATEST_ACCELERATION }
         requires room { self.old.tick < LATEST_MOMENT }
         ensures stands { DetectsNext (row_of along across fired) self.old self.new }
         ensures answer { TellsNext (row_of along across fired) self.old result }

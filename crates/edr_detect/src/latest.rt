@@ -1,6 +1,7 @@
 //! The change of speed of the last 20 ticks.
 
 ghost use Rattle.std.specs.Prelude.{◌≡◌, ℕ, ◌+◌, ◌≤◌, pos, ℤ, Option, IsTrue, unsigned_abs};
+ghost use Rattle.edr_items.specs.declared.TheConstants.{GREATEST_ACCELERATION};
 ghost use Rattle.edr_detect.specs.Sums.{IsSumOfSmall};
 
 use edr_definitions::limits::QUIET_TICKS;
@@ -28,7 +29,7 @@ impl Latest {
 
     // The change of the tick t.
     pub fn push(&mut self, t: u32, change: i32)
-        requires { unsigned_abs change ≤ 100_000 }
+        requires { unsigned_abs change ≤ GREATEST_ACCELERATION }
         ensures { (axis : ℕ → Option ℤ) (before : ℕ) → t ≡ before + 1 → change_at axis 0 ≡ pos 0 → change_at axis t ≡ change → LatestStandsFor axis before self.old.values self.old.sum → LatestStandsFor axis t self.new.values self.new.sum }
     {
         let place = (t % QUIET_TICKS as u32) as usize;

@@ -1,7 +1,7 @@
 //! What the streaming search keeps of the samples.
 
 ghost use Rattle.std.specs.Prelude.{◌≡◌, ℕ, ◌+◌, ◌-◌, ◌<◌, ◌≤◌, pos, IsTrue, false, unsigned_abs};
-ghost use Rattle.edr_items.specs.declared.TheConstants.{LATEST_MOMENT};
+ghost use Rattle.edr_items.specs.declared.TheConstants.{GREATEST_ACCELERATION, LATEST_MOMENT};
 ghost use Rattle.edr_detect.specs.Standing.{IsSizeOfSwing, HasNoSwing};
 
 use crate::latest::Latest;
@@ -71,8 +71,8 @@ impl Windows {
 
     // The changes of the tick t, for the swings.
     fn push_swings(&mut self, along: i32, across: i32)
-        requires along_small { unsigned_abs along ≤ 100_000 }
-        requires across_small { unsigned_abs across ≤ 100_000 }
+        requires along_small { unsigned_abs along ≤ GREATEST_ACCELERATION }
+        requires across_small { unsigned_abs across ≤ GREATEST_ACCELERATION }
         requires room { PushedAtMost (LATEST_MOMENT - 1) self.old }
         ensures stands { SwingsTake along across self.old self.new }
         ensures pushed { (n : ℕ) → PushedAtMost n self.old → PushedAtMost (n + 1) self.new }
@@ -88,8 +88,8 @@ impl Windows {
     // The changes of the tick t. While an event is open no test asks the swings, and its close begins them anew.
     #[inline(always)]
     pub fn push(&mut self, stage: Stage, t: u32, along: i32, across: i32)
-        requires along_small { unsigned_abs along ≤ 100_000 }
-        requires across_small { unsigned_abs across ≤ 100_000 }
+        requires along_small { unsigned_abs along ≤ GREATEST_ACCELERATION }
+        requires across_small { unsigned_abs across ≤ GREATEST_ACCELERATION }
         requires room { PushedAtMost (LATEST_MOMENT - 1) self.old }
         ensures stands { WindowsTake (phase_of stage) t along across self.old self.new }
         ensures pushed { (n : ℕ) → PushedAtMost n self.old → PushedAtMost (n + 1) self.new }

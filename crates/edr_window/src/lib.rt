@@ -6,12 +6,16 @@ pub mod laws;
 
 ghost use Rattle.std.specs.Prelude.{◌≡◌, ◌+◌, ◌<◌, ◌≤◌, [], ◌∷◌, ◌++◌, List, ℤ, neg_ℤ, unsigned_abs, IsTrue};
 ghost use Rattle.edr_items.specs.declared.TheConstants.{LATEST_MOMENT};
+ghost use Rattle.edr_window.specs.declared.TheConstants.{LARGEST_VALUE};
 ghost use Rattle.edr_window.specs.Candidates.{most};
 ghost use Rattle.edr_window.specs.Sums.{IsLeastSumIfAny, IsGreatestSumIfAny};
 ghost use Rattle.edr_window.specs.Swing.{SwingStandsFor};
 
 use crate::candidates::{Candidates, Earlier};
 use std::marker::Model;
+
+/// The largest size of a value that is pushed.
+pub const LARGEST_VALUE: u32 = 100_000;
 
 // The greatest and the least earlier sum are this sum, so that both extremes are 0.
 #[inline(always)]
@@ -73,7 +77,7 @@ impl<const K: usize> Swing<K> {
     /// One more value.
     #[inline(always)]
     pub fn push(&mut self, v: i64)
-        requires small { unsigned_abs v ≤ 100_000 }
+        requires small { unsigned_abs v ≤ LARGEST_VALUE }
         requires room { self.old.pushes < LATEST_MOMENT }
         ensures stands { (values : List ℤ) → SwingStandsFor K self.old values → SwingStandsFor K self.new (values ++ v ∷ []) }
         ensures pushes { self.new.pushes ≡ self.old.pushes + 1 }
@@ -89,7 +93,7 @@ impl<const K: usize> Swing<K> {
     // One more value, whatever it moves. It stands apart, so that a push at rest stays small.
     #[inline(never)]
     fn put(&mut self, v: i64)
-        requires small { unsigned_abs v ≤ 100_000 }
+        requires small { unsigned_abs v ≤ LARGEST_VALUE }
         requires room { self.old.pushes < LATEST_MOMENT }
         ensures stands { (values : List ℤ) → SwingStandsFor K self.old values → SwingStandsFor K self.new (values ++ v ∷ []) }
         ensures pushes { self.new.pushes ≡ self.old.pushes + 1 }
