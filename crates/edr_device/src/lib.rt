@@ -4,13 +4,10 @@
 mod calls;
 mod device;
 mod fused;
-mod fused_calls;
 mod mem_nvm;
-mod mem_nvm_calls;
 mod mem_sink;
 mod mem_source;
 mod moment;
-mod moment_calls;
 mod pieces;
 mod stream;
 mod transfer;

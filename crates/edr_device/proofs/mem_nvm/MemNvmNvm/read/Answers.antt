@@ -1,5 +1,5 @@
 use Rattle.std.proofs.Common.{rules, arith}
-use Rattle.edr_device.proofs.mem_nvm_calls.MemNvmNvm.read.Goals as goal
+use Rattle.edr_device.proofs.mem_nvm.MemNvmNvm.read.Goals as goal
 
 pub invariant_of-self-clause-blameless : goal.invariant_of-self-clause-blameless
 invariant_of-self-clause-blameless c =

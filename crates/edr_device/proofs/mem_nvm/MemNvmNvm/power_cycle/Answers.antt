@@ -1,7 +1,7 @@
 use Rattle.std.proofs.Common.{◌∙◌, sym, ap, ⊎_elim, inl, inr, length, drop}
 use Rattle.edr_device.specs.Past.{HadLeft, MayBeLeft, settled_at}
 use Rattle.edr_device.proofs.MomentLemmas.{moment_comes_back, comes_less, cycle_stays}
-use Rattle.edr_device.proofs.mem_nvm_calls.MemNvmNvm.power_cycle.Goals as goal
+use Rattle.edr_device.proofs.mem_nvm.MemNvmNvm.power_cycle.Goals as goal
 
 pub copy_from_slice-requires : goal.copy_from_slice-requires
 copy_from_slice-requires c =

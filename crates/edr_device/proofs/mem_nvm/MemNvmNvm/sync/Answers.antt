@@ -1,7 +1,7 @@
 use Rattle.std.proofs.Common.{inl, rules, arith}
 use Rattle.edr_device.specs.Past.{settled_at}
 use Rattle.edr_device.proofs.MomentLemmas.{covered_last, kept_elapses, moment_settles, refused_elapses, settled_less}
-use Rattle.edr_device.proofs.mem_nvm_calls.MemNvmNvm.sync.Goals as goal
+use Rattle.edr_device.proofs.mem_nvm.MemNvmNvm.sync.Goals as goal
 
 pub returns-then-not-takes_call-clause-crash : goal.returns-then-not-takes_call-clause-crash
 returns-then-not-takes_call-clause-crash c = refused_elapses c.args.self.now c.refuse.new.self _ c.refuse.ensures.past c.refuse.ensures.state

@@ -4,7 +4,7 @@ use Rattle.edr_device.specs.Device.{MayLeave}
 use Rattle.edr_device.specs.Faults.{last_number}
 use Rattle.edr_device.specs.FuseState.{fused_since}
 use Rattle.edr_device.proofs.StopLemmas.{all_leaves, cycled_keeps, nothing_keeps, snapshot_elapses, stop_elapses}
-use Rattle.edr_device.proofs.fused_calls.FusedNvm.sync.Goals as goal
+use Rattle.edr_device.proofs.fused.FusedNvm.sync.Goals as goal
 
 pub returns-then-is_due-clause-stops : goal.returns-then-is_due-clause-stops
 returns-then-is_due-clause-stops g c = λ stopping. (

@@ -1,7 +1,7 @@
 use Rattle.std.proofs.Common.{inr, rules, arith}
 use Rattle.edr_device.specs.Past.{settled_at}
 use Rattle.edr_device.proofs.MomentLemmas.{covered_last, kept_elapses, moment_writes, refused_elapses, stored_after, written_during}
-use Rattle.edr_device.proofs.mem_nvm_calls.MemNvmNvm.write.Goals as goal
+use Rattle.edr_device.proofs.mem_nvm.MemNvmNvm.write.Goals as goal
 
 pub returns-then-not-takes_call-clause-crash : goal.returns-then-not-takes_call-clause-crash
 returns-then-not-takes_call-clause-crash c = refused_elapses c.args.self.now c.refuse.new.self _ c.refuse.ensures.past c.refuse.ensures.state

@@ -3,7 +3,7 @@ use Rattle.edr_device.specs.Device.{MayLeave, outside}
 use Rattle.edr_device.specs.Faults.{last_number}
 use Rattle.edr_device.specs.FuseState.{fused_since}
 use Rattle.edr_device.proofs.StopLemmas.{cycled_keeps, kept_leaves, snapshot_elapses, stop_elapses, wrote_keeps}
-use Rattle.edr_device.proofs.fused_calls.FusedNvm.write.Goals as goal
+use Rattle.edr_device.proofs.fused.FusedNvm.write.Goals as goal
 
 pub returns-then-is_due-clause-stops : goal.returns-then-is_due-clause-stops
 returns-then-is_due-clause-stops g c = λ stopping. (
