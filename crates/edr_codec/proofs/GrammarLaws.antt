@@ -60,7 +60,7 @@ fields_size-rows (r ∷ rs) =
 -- ---- the pre part
 
 abbrev pre_head : PreForm → List NumberField
-pre_head form = field 4 ((1, 4_294_967_295) ∷ []) ∷ field 4 ((1, 86_400_000) ∷ []) ∷ field 1 ((1, 2) ∷ []) ∷ field 1 (form.profiles ∷ []) ∷ []
+pre_head form = field 4 ((1, 4_294_967_295) ∷ []) ∷ field 4 ((1, 86_400_000) ∷ []) ∷ field 1 ((1, 2) ∷ []) ∷ field 1 ((form.short.byte, form.long.byte) ∷ []) ∷ []
 
 abbrev pre_tail : PreForm → List ℕ → List NumberField
 pre_tail form b = flat_map fields_of (pre_rest form (slots_of form (slice_index b 9)) (nat_eq (slice_index b 8) 1))
@@ -105,7 +105,7 @@ pre-is_table form is = record {
       one_filled 4 1 86_400_000 (omega arith) (omega arith),
       (
         one_filled 1 1 2 (omega arith) (omega arith),
-        (filled 1 (form.profiles ∷ []) form.profiles.0 (is.order, tt) (let low = is.order in let top = is.byte in omega arith) (inl (omega arith, is.order)), tt),
+        (filled 1 ((form.short.byte, form.long.byte) ∷ []) form.short.byte (is.order, tt) (let low = is.order in let top = is.byte in omega arith) (inl (omega arith, is.order)), tt),
       ),
     ),
   );

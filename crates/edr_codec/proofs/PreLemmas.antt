@@ -53,7 +53,7 @@ pre_table form n is_first =
     one_range 1 4 (1, 4_294_967_295)
     ∷ one_range 1 4 (1, 86_400_000)
     ∷ one_range 1 1 (1, 2)
-    ∷ one_range 1 1 form.profiles
+    ∷ one_range 1 1 (form.short.byte, form.long.byte)
     ∷ pre_rest form n is_first
 
 -- the fields behind the time to the first event, whichever way they are put together
@@ -65,7 +65,7 @@ pre_table-fields form place profile =
     let n = slots_of form profile in
     let one = λ (size : ℕ) (values : ℕ × ℕ). (let f : NumberField = record { size = size; ranges = values ∷ [] } in f) in
     let two = λ (size : ℕ) (values others : ℕ × ℕ). (let f : NumberField = record { size = size; ranges = values ∷ others ∷ [] } in f) in
-    ap (λ (fs : List NumberField). one 4 (1, 4_294_967_295) ∷ one 4 (1, 86_400_000) ∷ one 1 (1, 2) ∷ one 1 form.profiles ∷ one 2 (after_range (nat_eq place 1)) ∷ fs)
+    ap (λ (fs : List NumberField). one 4 (1, 4_294_967_295) ∷ one 4 (1, 86_400_000) ∷ one 1 (1, 2) ∷ one 1 (form.short.byte, form.long.byte) ∷ one 2 (after_range (nat_eq place 1)) ∷ fs)
     (regrouped (replicate n (two 2 (0, 300) (0xffff, 0xffff))) (replicate (2 * (form.room - n)) (one 1 (0, 0))) (replicate n (two 1 (0, 100) (0xff, 0xff))) (replicate (form.room - n) (one 1 (0, 0)))
     (replicate n switch_field) (replicate (form.room - n) (one 1 (0, 0))) (switch_field ∷ switch_field ∷ []) (replicate form.zeros (one 1 (0, 0))))
 
@@ -92,7 +92,7 @@ pub record PreLies (form : PreForm) (n : ℕ) (is_first : Bool) (bytes : List �
   pub cycle : AllLie ((1, 4_294_967_295) ∷ []) bytes 0 4 1
   pub zero_tick : AllLie ((1, 86_400_000) ∷ []) bytes 4 4 1
   pub place : AllLie ((1, 2) ∷ []) bytes 8 1 1
-  pub profile : AllLie (form.profiles ∷ []) bytes 9 1 1
+  pub profile : AllLie ((form.short.byte, form.long.byte) ∷ []) bytes 9 1 1
   pub after : AllLie (after_range is_first ∷ []) bytes 10 2 1
   pub speed : AllLie ((0, 300) ∷ (0xffff, 0xffff) ∷ []) bytes 12 2 n
   pub past_speed : AllLie ((0, 0) ∷ []) bytes (12 + 2 * n) 1 (2 * (form.room - n))
@@ -201,31 +201,31 @@ values-many bytes at size n value =
 -- parts of a profile of the form have n slots in each list, and are told by their profile byte
 pub record IsProfile (form : PreForm) (n : ℕ) (profile : Profile) : Type 0 where
   pub fits : n ≤ form.room
-  pub from : form.profiles.0 ≤ profile_byte form profile
-  pub to : profile_byte form profile ≤ form.profiles.1
+  pub from : form.short.byte ≤ profile_byte form profile
+  pub to : profile_byte form profile ≤ form.long.byte
   pub byte : profile_byte form profile < 256
   pub back : slots_of form (profile_byte form profile) ≡ n
   pub told : HasProfile form profile
 
 -- the profile of bytes
-pub profile-is : (form : PreForm) (profile : ℕ) → IsPreForm form → form.profiles.0 ≤ profile → profile ≤ form.profiles.1 → IsProfile form (slots_of form profile) (profile_from form profile)
+pub profile-is : (form : PreForm) (profile : ℕ) → IsPreForm form → form.short.byte ≤ profile → profile ≤ form.long.byte → IsProfile form (slots_of form profile) (profile_from form profile)
 profile-is form profile is low high =
     let told : profile_byte form (profile_from form profile) ≡ profile = is.told profile low high in
     let top = is.byte in
     record {
       fits = is.room profile;
-      from = subst (λ (b : ℕ). form.profiles.0 ≤ b) (sym told) low;
-      to = subst (λ (b : ℕ). b ≤ form.profiles.1) (sym told) high;
+      from = subst (λ (b : ℕ). form.short.byte ≤ b) (sym told) low;
+      to = subst (λ (b : ℕ). b ≤ form.long.byte) (sym told) high;
       byte = subst (λ (b : ℕ). b < 256) (sym told) (omega arith);
       back = ap (slots_of form) told;
       told = ap (profile_from form) told;
     }
 
-byte-from : (form : PreForm) (profile : Profile) → IsPreForm form → form.profiles.0 ≤ profile_byte form profile
+byte-from : (form : PreForm) (profile : Profile) → IsPreForm form → form.short.byte ≤ profile_byte form profile
 byte-from form Short is = omega arith
 byte-from form Long is = is.order
 
-byte-to : (form : PreForm) (profile : Profile) → IsPreForm form → profile_byte form profile ≤ form.profiles.1
+byte-to : (form : PreForm) (profile : Profile) → IsPreForm form → profile_byte form profile ≤ form.long.byte
 byte-to form Short is = is.order
 byte-to form Long is = omega arith
 
@@ -274,10 +274,10 @@ one_byte : (bytes : List ℕ) (at : ℕ) → number_at bytes at 1 ≡ slice_inde
 one_byte bytes at = let e : slice_index bytes at * 1 + 0 ≡ slice_index bytes at = omega arith in e
 
 -- and their profile
-pub pre-profile : (form : PreForm) (bytes : List ℕ) → IsPreForm form → pre_damage_by form bytes 0 ≡ None → (form.profiles.0 ≤ slice_index bytes 9) × (slice_index bytes 9 ≤ form.profiles.1)
+pub pre-profile : (form : PreForm) (bytes : List ℕ) → IsPreForm form → pre_damage_by form bytes 0 ≡ None → (form.short.byte ≤ slice_index bytes 9) × (slice_index bytes 9 ≤ form.long.byte)
 pre-profile form bytes is whole =
-    in_range form.profiles.0 form.profiles.1 (slice_index bytes 9)
-    (subst (λ (x : ℕ). Lies (form.profiles ∷ []) x) (one_byte bytes 9) ((pre-whole form bytes is whole).profile 0 (omega arith)))
+    in_range form.short.byte form.long.byte (slice_index bytes 9)
+    (subst (λ (x : ℕ). Lies ((form.short.byte, form.long.byte) ∷ []) x) (one_byte bytes 9) ((pre-whole form bytes is whole).profile 0 (omega arith)))
 
 pub pre_at-is : (form : PreForm) (bytes : List ℕ) → IsPreForm form → pre_damage_by form bytes 0 ≡ None → IsPreWithSlots (slots_of form (slice_index bytes 9)) (pre_at_by form bytes 0)
 unfolding pre_at_by

@@ -24,10 +24,10 @@ const SPEED: usize = 12;
 fn slots_of(form: &PreForm, profile: u8) -> usize
     ensures { result ≡ slots_of form.now profile }
 {
-    if profile == form.profiles.0 {
-        form.slots.0
+    if profile == form.short.byte {
+        form.short.slots
     } else {
-        form.slots.1
+        form.long.slots
     }
 }
 
@@ -35,7 +35,7 @@ fn slots_of(form: &PreForm, profile: u8) -> usize
 fn profile_from(form: &PreForm, profile: u8) -> Profile
     ensures { result ≡ profile_from form.now profile }
 {
-    if profile == form.profiles.0 {
+    if profile == form.short.byte {
         Profile::Short
     } else {
         Profile::Long
@@ -47,8 +47,8 @@ fn profile_byte(form: &PreForm, profile: Profile) -> u8
     ensures { result ≡ profile_byte form.now profile }
 {
     match profile {
-        Profile::Short => form.profiles.0,
-        Profile::Long => form.profiles.1,
+        Profile::Short => form.short.byte,
+        Profile::Long => form.long.byte,
     }
 }
 
@@ -102,7 +102,7 @@ fn pre_rows(place: u8, profile: u8, form: &PreForm) -> [FieldRow; 13]
 {
     let slots = slots_of(form, profile);
     let rest = form.room - slots;
-    let profiles = (u32::from(form.profiles.0), u32::from(form.profiles.1));
+    let profiles = (u32::from(form.short.byte), u32::from(form.long.byte));
     let after = if place == 1 {
         (0, 0)
     } else {

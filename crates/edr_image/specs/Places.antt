@@ -30,7 +30,7 @@ pub record HasVersions : Type 0 where
       ≡ record {
         version = 1;
         bank = 512;
-        pre = record { room = 11; zeros = 102; profiles = (0, 0); slots = (11, 11) };
+        pre = record { room = 11; zeros = 102; short = record { byte = 0; slots = 11 }; long = record { byte = 0; slots = 11 } };
         crash = record { zeros = 184 };
       }
   pub version_2 :
@@ -38,7 +38,7 @@ pub record HasVersions : Type 0 where
       ≡ record {
         version = 2;
         bank = 1024;
-        pre = record { room = 201; zeros = 30; profiles = (1, 2); slots = (11, 201) };
+        pre = record { room = 201; zeros = 30; short = record { byte = 1; slots = 11 }; long = record { byte = 2; slots = 201 } };
         crash = record { zeros = 24 };
       }
   pub places : (VERSION_2.bank ≡ BANK_SIZE) × (pre_size VERSION_2.pre ≡ PRE_SIZE) × (crash_place VERSION_2 ≡ CRASH_PART) × (crash_size VERSION_2.crash ≡ CRASH_SIZE)

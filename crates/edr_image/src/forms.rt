@@ -8,6 +8,15 @@ ghost use Rattle.edr_image.specs.PartBytes.{crash_size, pre_size};
 use crate::places::{BANK_SIZE, PRE_PART};
 use edr_record::{LONG_SLOTS, SHORT_SLOTS};
 
+/// How a pre part tells its profile.
+#[derive(Clone, Copy)]
+pub struct ProfileForm {
+    /// The profile byte.
+    pub byte: u8,
+    /// How many slots of each list a part with this byte uses.
+    pub slots: usize,
+}
+
 /// The form of a pre part. Each list has room for some slots, of which a profile uses the first ones; the rest is 0.
 #[derive(Clone, Copy)]
 pub struct PreForm {
@@ -15,10 +24,10 @@ pub struct PreForm {
     pub room: usize,
     /// How many bytes of 0 stand at its end.
     pub zeros: usize,
-    /// The profile byte of a short part and that of a long one, the same where each part is short.
-    pub profiles: (u8, u8),
-    /// How many slots a part with the first profile byte uses, and how many one with any other.
-    pub slots: (usize, usize),
+    /// The profile of a short part.
+    pub short: ProfileForm,
+    /// That of a long part, the same where each part is short.
+    pub long: ProfileForm,
 }
 
 /// The form of a crash part.
@@ -85,8 +94,14 @@ pub const VERSION_1: Layout = Layout {
     pre: PreForm {
         room: SHORT_SLOTS,
         zeros: 102,
-        profiles: (0, 0),
-        slots: (SHORT_SLOTS, SHORT_SLOTS),
+        short: ProfileForm {
+            byte: 0,
+            slots: SHORT_SLOTS,
+        },
+        long: ProfileForm {
+            byte: 0,
+            slots: SHORT_SLOTS,
+        },
     },
     crash: CrashForm { zeros: 184 },
 };
@@ -98,8 +113,14 @@ pub const VERSION_2: Layout = Layout {
     pre: PreForm {
         room: LONG_SLOTS,
         zeros: 30,
-        profiles: (1, 2),
-        slots: (SHORT_SLOTS, LONG_SLOTS),
+        short: ProfileForm {
+            byte: 1,
+            slots: SHORT_SLOTS,
+        },
+        long: ProfileForm {
+            byte: 2,
+            slots: LONG_SLOTS,
+        },
     },
     crash: CrashForm { zeros: 24 },
 };
