@@ -111,19 +111,19 @@ accepted_banks None false true choice x y z e = absurd cc
 accepted_banks None false false choice x y z e = refl
 accepted_banks (Some w) version banks choice x y z e = absurd cc
 
-between : (n : ℕ) → (nat_lt n FEWEST_BANKS || nat_lt MOST_BANKS n) ≡ false → (FEWEST_BANKS ≤ n) × (n ≤ MOST_BANKS)
-between n e = (grind (arith, nat_tests), grind (arith, nat_tests))
+between : (n most : ℕ) → (nat_lt n FEWEST_BANKS || nat_lt most n) ≡ false → (FEWEST_BANKS ≤ n) × (n ≤ most)
+between n most e = (grind (arith, nat_tests), grind (arith, nat_tests))
 
 first_none : {X Y : Type 0} (f : X → Y) (o : Option X) (p : Option Y) → option_or (option_map f o) p ≡ None → o ≡ None
 first_none f None p e = refl
 first_none f (Some x) p e = absurd cc
 
--- a header that isn't refused has as many banks as an image may have
-accepted_within : (layout : Layout) (first : List ℕ) → header_refusal_by layout first ≡ None → (FEWEST_BANKS ≤ slice_index first 10) × (slice_index first 10 ≤ MOST_BANKS)
+-- a header that isn't refused has as many banks as an image of its layout may have
+accepted_within : (layout : Layout) (first : List ℕ) → header_refusal_by layout first ≡ None → (FEWEST_BANKS ≤ slice_index first 10) × (slice_index first 10 ≤ layout.most_banks)
 unfolding header_refusal_by
-accepted_within layout first none = between (slice_index first 10) (accepted_banks _ _ _ _ _ _ _ none)
+accepted_within layout first none = between (slice_index first 10) layout.most_banks (accepted_banks _ _ _ _ _ _ _ none)
 
-pub header_within : (layout : Layout) (first : List ℕ) (h : Header) → header_refusal_by layout first ≡ None → h ≡ header_of first → (FEWEST_BANKS ≤ h.banks) × (h.banks ≤ MOST_BANKS)
+pub header_within : (layout : Layout) (first : List ℕ) (h : Header) → header_refusal_by layout first ≡ None → h ≡ header_of first → (FEWEST_BANKS ≤ h.banks) × (h.banks ≤ layout.most_banks)
 header_within layout first h none is = let number : h.banks ≡ slice_index first 10 = ap (λ (x : Header). x.banks) is in rw number (accepted_within layout first none)
 
 -- ---- banks that were read one after the other

@@ -1,11 +1,11 @@
-//! What tells the images of one version from those of another: how many bytes a bank has, and in which form the two
-//! parts of a record stand in it. All other places are those of [`places`](crate::places).
+//! What tells the images of one version from those of another: how many banks there may be, how many bytes a bank has, and
+//! in which form the two parts of a record stand in it. All other places are those of [`places`](crate::places).
 
 ghost use Rattle.std.specs.Prelude.{◌≡◌, ◌<◌, ◌^◌};
 ghost use Rattle.edr_image.specs.Image.{crash_place};
 ghost use Rattle.edr_image.specs.PartBytes.{crash_size, pre_size};
 
-use crate::places::{BANK_SIZE, PRE_PART};
+use crate::places::{BANK_SIZE, MOST_BANKS, PRE_PART};
 use edr_record::{LONG_SLOTS, SHORT_SLOTS};
 
 /// How a pre part tells its profile.
@@ -42,6 +42,8 @@ pub struct CrashForm {
 pub struct Layout {
     /// The number of the version, as the header has it.
     pub version: u16,
+    /// The most banks of an image.
+    pub most_banks: u8,
     /// How many bytes a bank has.
     pub bank: usize,
     pub pre: PreForm,
@@ -78,6 +80,9 @@ impl Layout {
     }
 }
 
+/// The most banks of an image of version 1.
+pub const OLD_MOST_BANKS: u8 = 16;
+
 /// How many bytes a bank of version 1 has.
 pub const OLD_BANK_SIZE: usize = 512;
 
@@ -90,6 +95,7 @@ pub const OLD_CRASH_SIZE: usize = 320;
 /// Version 1: there is the short profile alone, whose byte is 0, and the lists have no room past its slots.
 pub const VERSION_1: Layout = Layout {
     version: 1,
+    most_banks: OLD_MOST_BANKS,
     bank: OLD_BANK_SIZE,
     pre: PreForm {
         room: SHORT_SLOTS,
@@ -109,6 +115,7 @@ pub const VERSION_1: Layout = Layout {
 /// Version 2: there are two profiles, the short one with the byte 1 and the long one with 2, which uses all the room.
 pub const VERSION_2: Layout = Layout {
     version: 2,
+    most_banks: MOST_BANKS,
     bank: BANK_SIZE,
     pre: PreForm {
         room: LONG_SLOTS,

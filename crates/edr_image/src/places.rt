@@ -4,7 +4,7 @@
 /// The fewest banks of an image.
 pub const FEWEST_BANKS: u8 = 2;
 
-/// The most banks of an image.
+/// The most banks of an image of version 2.
 pub const MOST_BANKS: u8 = 16;
 
 /// How many bytes stand before the banks.

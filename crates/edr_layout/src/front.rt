@@ -6,8 +6,8 @@ ghost use Rattle.edr_image.specs.Image.{choice_byte, count_of, header_of, header
 use byteorder::{BigEndian, ByteOrder};
 use edr_image::forms::{Layout, VERSION_1, VERSION_2};
 use edr_image::places::{
-    BANKS, CHOICE, FEWEST_BANKS, FIRST_SLOT, FRONT_SIZE, MOST_BANKS, OPEN_GATE, SECOND_SLOT,
-    SLOT_COUNT, SLOT_SIZE, VERSION,
+    BANKS, CHOICE, FEWEST_BANKS, FIRST_SLOT, FRONT_SIZE, OPEN_GATE, SECOND_SLOT, SLOT_COUNT,
+    SLOT_SIZE, VERSION,
 };
 use edr_image::{Choice, Header, HeaderRefused};
 
@@ -49,7 +49,7 @@ fn read_header_by(bytes: &[u8; FRONT_SIZE], layout: &Layout) -> Result<Header, H
     if version != layout.version {
         return Err(HeaderRefused::Version { found: version });
     }
-    if banks < FEWEST_BANKS || MOST_BANKS < banks {
+    if banks < FEWEST_BANKS || layout.most_banks < banks {
         return Err(HeaderRefused::Banks { found: banks });
     }
     match choice {

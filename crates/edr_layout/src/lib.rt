@@ -4,6 +4,7 @@
 #![tactic(auto)]
 
 ghost use Rattle.std.specs.Prelude.{◌≡◌, ◌≤◌, ◌<◌, ◌^◌};
+ghost use Rattle.edr_image.specs.declared.forms.TheConstants.{OLD_MOST_BANKS};
 ghost use Rattle.edr_image.specs.declared.places.TheConstants.{MOST_BANKS};
 ghost use Rattle.edr_image.specs.Image.{image_size, old_image_size, old_place_of, place_by, place_of, size_by};
 
@@ -55,7 +56,7 @@ pub fn place_of(bank: u8) -> u32
 /// Where a bank begins in an image of version 1.
 pub fn old_place_of(bank: u8) -> u32
     requires from { 1 ≤ bank }
-    requires to { bank ≤ MOST_BANKS }
+    requires to { bank ≤ OLD_MOST_BANKS }
     ensures { result ≡ old_place_of bank }
 {
     place_by(&VERSION_1, bank)

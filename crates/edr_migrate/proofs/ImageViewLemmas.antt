@@ -104,7 +104,7 @@ old_view_sound h count old is = record {
   banks = sound_from old 1 h.banks is.whole.whole;
   many = old_length h.banks old;
   from = is.from;
-  to = is.to;
+  to = omega (arith, is.to);
   small = is.small;
 }
 

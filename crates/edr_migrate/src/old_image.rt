@@ -1,7 +1,7 @@
 //! An image of version 1, read.
 ghost use Rattle.std.specs.Prelude.{◌≡◌, ◌+◌, ◌≤◌, None, Some, IfOk, IfErr, count_by, length, slice_range};
-ghost use Rattle.edr_image.specs.declared.forms.TheConstants.{OLD_BANK_SIZE};
-ghost use Rattle.edr_image.specs.declared.places.TheConstants.{FEWEST_BANKS, MOST_BANKS};
+ghost use Rattle.edr_image.specs.declared.forms.TheConstants.{OLD_BANK_SIZE, OLD_MOST_BANKS};
+ghost use Rattle.edr_image.specs.declared.places.TheConstants.{FEWEST_BANKS};
 ghost use Rattle.edr_image.specs.Image.{old_bank_view, old_banks_of, old_banks_refusal, old_image_size, old_place_of, old_refusal};
 ghost use Rattle.edr_migrate.specs.Migrated.{is_event, migrated_of};
 ghost use Rattle.edr_migrate.specs.OldImage.{IsOld, largest_old, view_in};
@@ -41,7 +41,7 @@ impl<'a> OldImage<'a> {
 // What a bank of an image of version 1 holds.
 fn view_at(old: &[u8], bank: u8) -> BankView
     requires from { 1 ≤ bank }
-    requires to { bank ≤ MOST_BANKS }
+    requires to { bank ≤ OLD_MOST_BANKS }
     requires fits { old_image_size bank ≤ length old.now }
     ensures { result ≡ old_bank_view (slice_range old.now (old_place_of bank) (old_place_of bank + OLD_BANK_SIZE)) }
 {
@@ -53,7 +53,7 @@ fn view_at(old: &[u8], bank: u8) -> BankView
 
 // How many events the banks hold, or the lowest that is damaged.
 fn count_events(old: &[u8], banks: u8) -> Result<u8, OldRefused>
-    requires to { banks ≤ MOST_BANKS }
+    requires to { banks ≤ OLD_MOST_BANKS }
     requires fits { old_image_size banks ≤ length old.now }
     ensures events { IfOk result (λ n. n ≡ count_by is_event (old_banks_of banks old.now)) }
     ensures passed { IfOk result (λ _. old_banks_refusal 1 (old_banks_of banks old.now) ≡ None) }
