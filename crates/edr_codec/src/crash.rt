@@ -3,13 +3,13 @@
 ghost use Rattle.std.specs.Prelude.{◌≡◌, ◌+◌, ◌*◌, ◌^◌, ◌<◌, ◌≤◌, ◌++◌, None, Some, IfOk, IfErr, OnOk, All, length, take, max, slice_index, sum_by};
 ghost use Rattle.std.specs.List.{flat_map};
 ghost use Rattle.edr_record.specs.Bounds.{IsCrash};
-ghost use Rattle.edr_image.specs.PartBytes.{crash_fields_by, crash_size, crash_damage, crash_damage_by, crash_at, crash_bytes, crash_bytes_by, old_crash_damage, extreme_at, extreme_bytes};
+ghost use Rattle.edr_image.specs.PartBytes.{crash_fields_by, crash_size, crash_damage, crash_damage_by, crash_at, crash_bytes, crash_bytes_by, extreme_at, extreme_bytes};
 ghost use Rattle.edr_codec.specs.Rows.{fields_of, row_size};
 
 use crate::Damaged;
 use crate::pieces::{PartValue, put_all, put_zeros, read_all};
 use crate::rows::{FieldRow, check_rows};
-use edr_image::forms::{CrashForm, OLD_CRASH_SIZE, VERSION_1, VERSION_2};
+use edr_image::forms::{CrashForm, VERSION_2};
 use edr_image::places::CRASH_SIZE;
 use edr_record::{
     Crash, EARLIEST_END, Extreme, GREATEST_CHANGE, POINTS, RESET, point_count, window_from_end,
@@ -146,14 +146,4 @@ pub fn read_crash(bytes: &[u8; CRASH_SIZE]) -> Result<Crash, Damaged>
     ensures found { IfErr result (λ d. d.found ≡ slice_index bytes.now d.offset) }
 {
     read_crash_by(bytes, &VERSION_2.crash)
-}
-
-/// The same of a crash part of version 1.
-pub fn read_old_crash(bytes: &[u8; OLD_CRASH_SIZE]) -> Result<Crash, Damaged>
-    ensures read { IfOk result (λ c. c ≡ crash_at bytes.now 0) }
-    ensures whole { OnOk result (old_crash_damage bytes.now 0 ≡ None) }
-    ensures damaged { IfErr result (λ d. old_crash_damage bytes.now 0 ≡ Some d.offset) }
-    ensures found { IfErr result (λ d. d.found ≡ slice_index bytes.now d.offset) }
-{
-    read_crash_by(bytes, &VERSION_1.crash)
 }

@@ -4,12 +4,14 @@
 
 mod crash;
 pub mod laws;
+mod old;
 mod pieces;
 mod pre;
 mod rows;
 
-pub use crash::{put_crash, read_crash, read_crash_by, read_old_crash};
-pub use pre::{put_pre, read_old_pre, read_pre, read_pre_by};
+pub use crash::{put_crash, read_crash, read_crash_by};
+pub use old::{read_old_crash, read_old_pre};
+pub use pre::{put_pre, read_pre, read_pre_by};
 
 /// Why bytes are no part: the bytes before `offset` begin a part, and those up to and with it begin none.
 #[derive(Clone, Copy, Debug, PartialEq, Eq)]

@@ -5,14 +5,14 @@ ghost use Rattle.std.specs.Prelude.{◌≡◌, ◌+◌, ◌^◌, ◌<◌, ◌≤
 ghost use Rattle.std.specs.List.{flat_map};
 ghost use Rattle.edr_record.specs.Bounds.{IsPre, slots_in};
 ghost use Rattle.edr_record.specs.Fields.{slots_with};
-ghost use Rattle.edr_image.specs.PartBytes.{pre_size, slots_of, profile_byte, profile_from, throttle_at, brake_at, belt_at, lamp_at, end_at, IsPreForm, HasSlots, pre_fields_by, pre_damage, pre_damage_by, pre_at, pre_at_by, pre_bytes, pre_bytes_by, old_pre_at, old_pre_damage, place_bytes, number_at};
+ghost use Rattle.edr_image.specs.PartBytes.{pre_size, slots_of, profile_byte, profile_from, throttle_at, brake_at, belt_at, lamp_at, end_at, IsPreForm, HasSlots, pre_fields_by, pre_damage, pre_damage_by, pre_at, pre_at_by, pre_bytes, pre_bytes_by, place_bytes, number_at};
 ghost use Rattle.edr_codec.specs.Rows.{fields_of, row_size};
 
 use crate::Damaged;
 use crate::pieces::{PartValue, put_all, put_bytes, put_zeros, read_all};
 use crate::rows::{FieldRow, check_rows};
 use byteorder::{BigEndian, ByteOrder};
-use edr_image::forms::{OLD_PRE_SIZE, PreForm, VERSION_1, VERSION_2};
+use edr_image::forms::{PreForm, VERSION_2};
 use edr_image::places::PRE_SIZE;
 use edr_items::LATEST_MOMENT;
 use edr_record::{Key, LONGEST_PAIR, Place, Pre, Profile, Slots};
@@ -267,14 +267,4 @@ pub fn read_pre(bytes: &[u8; PRE_SIZE]) -> Result<Pre, Damaged>
     ensures found { IfErr result (λ d. d.found ≡ slice_index bytes.now d.offset) }
 {
     read_pre_by(bytes, &VERSION_2.pre)
-}
-
-/// The same of a pre part of version 1.
-pub fn read_old_pre(bytes: &[u8; OLD_PRE_SIZE]) -> Result<Pre, Damaged>
-    ensures read { IfOk result (λ p. p ≡ old_pre_at bytes.now 0) }
-    ensures whole { OnOk result (old_pre_damage bytes.now 0 ≡ None) }
-    ensures damaged { IfErr result (λ d. old_pre_damage bytes.now 0 ≡ Some d.offset) }
-    ensures found { IfErr result (λ d. d.found ≡ slice_index bytes.now d.offset) }
-{
-    read_pre_by(bytes, &VERSION_1.pre)
 }

@@ -1,14 +1,14 @@
 //! What the bytes of a bank say.
 ghost use Rattle.std.specs.Prelude.{◌≡◌, Some, None, IfOk, IfErr, OnOk, length, slice_index};
 ghost use Rattle.edr_image.specs.declared.places.TheConstants.{PRE_PART};
-ghost use Rattle.edr_image.specs.Image.{bank_damage_by, bank_view, bank_view_by, crash_place, old_bank_view, record_by};
+ghost use Rattle.edr_image.specs.Image.{bank_damage_by, bank_view, bank_view_by, crash_place, record_by};
 ghost use Rattle.edr_image.specs.PartBytes.{crash_at, crash_damage_by, pre_at_by, pre_damage_by};
 ghost use Rattle.edr_layout.specs.Readable.{IsReadable};
 
 use crate::front::is_open;
 use edr_codec::{Damaged, read_crash_by, read_pre_by};
 use edr_image::BankView;
-use edr_image::forms::{Layout, OLD_BANK_SIZE, VERSION_1, VERSION_2};
+use edr_image::forms::{Layout, VERSION_2};
 use edr_image::places::{BANK_SIZE, DONE_GATE, EVENT_GATE, LOCK_GATE, PRE_PART};
 use edr_record::{Crash, Pre, Record};
 
@@ -68,9 +68,9 @@ fn record_of(bank: &[u8], layout: &Layout) -> Result<Record, Damaged>
     Ok(Record { pre, locked, crash })
 }
 
-// What a bank of a layout holds.
+/// What a bank of a layout holds.
 #[tactic(auto, unfolding(edr_image::specs::Image::bank_view_by))]
-fn bank_view_by(bank: &[u8], layout: &Layout) -> BankView
+pub(crate) fn bank_view_by(bank: &[u8], layout: &Layout) -> BankView
     requires layout { IsReadable layout.now }
     requires long { length bank.now ≡ layout.now.bank }
     ensures { result ≡ bank_view_by layout.now bank.now }
@@ -94,12 +94,4 @@ pub fn bank_view(bank: &[u8; BANK_SIZE]) -> BankView
     ensures { result ≡ bank_view bank.now }
 {
     bank_view_by(bank, &VERSION_2)
-}
-
-/// What a bank of version 1 holds.
-#[tactic(auto, using(crate::proofs::ReadableLemmas::version_1_is_readable))]
-pub fn old_bank_view(bank: &[u8; OLD_BANK_SIZE]) -> BankView
-    ensures { result ≡ old_bank_view bank.now }
-{
-    bank_view_by(bank, &VERSION_1)
 }

@@ -1,10 +1,10 @@
 //! The front of an image: its header and the two slots of its count. Numbers are big-endian.
 ghost use Rattle.std.specs.Prelude.{◌≡◌, ◌+◌, ◌≤◌, ◌<◌, Some, None, IfOk, IfErr, length, take};
 ghost use Rattle.edr_image.specs.declared.places.TheConstants.{FRONT_SIZE, SECOND_SLOT, SLOT_SIZE};
-ghost use Rattle.edr_image.specs.Image.{choice_byte, count_of, header_of, header_refusal, header_refusal_by, is_open, new_image, not_magic, old_header_refusal, older_slot, place_of_slot, slot_count};
+ghost use Rattle.edr_image.specs.Image.{choice_byte, count_of, header_of, header_refusal, header_refusal_by, is_open, new_image, not_magic, older_slot, place_of_slot, slot_count};
 
 use byteorder::{BigEndian, ByteOrder};
-use edr_image::forms::{Layout, VERSION_1, VERSION_2};
+use edr_image::forms::{Layout, VERSION_2};
 use edr_image::places::{
     BANKS, CHOICE, FEWEST_BANKS, FIRST_SLOT, FRONT_SIZE, OPEN_GATE, SECOND_SLOT, SLOT_COUNT,
     SLOT_SIZE, VERSION,
@@ -30,9 +30,12 @@ pub fn is_open(bytes: &[u8], at: usize) -> bool
     bytes[at] == OPEN_GATE
 }
 
-// What the first bytes of an image of a layout say, or why they are refused.
+/// What the first bytes of an image of a layout say, or why they are refused.
 #[tactic(auto, unfolding(edr_image::specs::Image::header_refusal_by))]
-fn read_header_by(bytes: &[u8; FRONT_SIZE], layout: &Layout) -> Result<Header, HeaderRefused>
+pub(crate) fn read_header_by(
+    bytes: &[u8; FRONT_SIZE],
+    layout: &Layout,
+) -> Result<Header, HeaderRefused>
     ensures read { IfOk result (λ h. h ≡ header_of bytes.now) }
     ensures accepted { IfOk result (λ _. header_refusal_by layout.now bytes.now ≡ None) }
     ensures refused { IfErr result (λ e. header_refusal_by layout.now bytes.now ≡ Some e) }
@@ -73,15 +76,6 @@ pub fn read_header(bytes: &[u8; FRONT_SIZE]) -> Result<Header, HeaderRefused>
     ensures refused { IfErr result (λ e. header_refusal bytes.now ≡ Some e) }
 {
     read_header_by(bytes, &VERSION_2)
-}
-
-/// The same of an image of version 1.
-pub fn read_old_header(bytes: &[u8; FRONT_SIZE]) -> Result<Header, HeaderRefused>
-    ensures read { IfOk result (λ h. h ≡ header_of bytes.now) }
-    ensures accepted { IfOk result (λ _. old_header_refusal bytes.now ≡ None) }
-    ensures refused { IfErr result (λ e. old_header_refusal bytes.now ≡ Some e) }
-{
-    read_header_by(bytes, &VERSION_1)
 }
 
 fn choice_byte(choice: Choice) -> u8

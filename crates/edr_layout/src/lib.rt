@@ -4,21 +4,21 @@
 #![tactic(auto)]
 
 ghost use Rattle.std.specs.Prelude.{◌≡◌, ◌≤◌, ◌<◌, ◌^◌};
-ghost use Rattle.edr_image.specs.declared.forms.TheConstants.{OLD_MOST_BANKS};
 ghost use Rattle.edr_image.specs.declared.places.TheConstants.{MOST_BANKS};
-ghost use Rattle.edr_image.specs.Image.{image_size, old_image_size, old_place_of, place_by, place_of, size_by};
+ghost use Rattle.edr_image.specs.Image.{image_size, place_by, place_of, size_by};
 
-use edr_image::forms::{Layout, VERSION_1, VERSION_2};
+use edr_image::forms::{Layout, VERSION_2};
 
 mod bank;
 mod front;
+mod old;
 mod writes;
 
-pub use crate::bank::{bank_view, old_bank_view};
+pub use crate::bank::bank_view;
 pub use crate::front::{
     MAGIC, is_open, new_front, not_magic, older_slot, place_of_slot, read_count, read_header,
-    read_old_header,
 };
+pub use crate::old::{old_bank_view, old_image_size, old_place_of, read_old_header};
 pub use crate::writes::{
     ByteWrite, Gated, closing_write, count_writes, done_writes, erase_write, fill_writes,
     lock_write,
@@ -53,25 +53,9 @@ pub fn place_of(bank: u8) -> u32
     place_by(&VERSION_2, bank)
 }
 
-/// Where a bank begins in an image of version 1.
-pub fn old_place_of(bank: u8) -> u32
-    requires from { 1 ≤ bank }
-    requires to { bank ≤ OLD_MOST_BANKS }
-    ensures { result ≡ old_place_of bank }
-{
-    place_by(&VERSION_1, bank)
-}
-
 /// How many bytes an image with so many banks has.
 pub fn image_size(banks: u8) -> u32
     ensures { result ≡ image_size banks }
 {
     size_by(&VERSION_2, banks)
-}
-
-/// How many bytes an image of version 1 with so many banks has.
-pub fn old_image_size(banks: u8) -> u32
-    ensures { result ≡ old_image_size banks }
-{
-    size_by(&VERSION_1, banks)
 }
