@@ -1,6 +1,6 @@
 use Rattle.edr_board.proofs.FreezeOpeningLemmas.{opening_holds}
 use Rattle.edr_board.proofs.FreezeStepLemmas.{freeze_leads_keep}
-use Rattle.edr_board.proofs.freeze.no_mark_falls.Goals as goal
+use Rattle.edr_board.proofs.no_mark_falls.Goals as goal
 
 pub returns-clause-opened : goal.returns-clause-opened
 returns-clause-opened c = opening_holds
