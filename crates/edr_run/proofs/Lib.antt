@@ -8,3 +8,4 @@ pub mod NextLaws
 pub mod IssueLemmas
 pub mod ReplyLemmas
 pub mod AnyScheduleLaws
+pub mod LiveLaws

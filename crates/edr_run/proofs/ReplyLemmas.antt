@@ -51,6 +51,12 @@ replies-append s (c ∷ cs) ds =
     let rest = replies-append (state_after s r.steps) cs ds in
     ap (λ rs. r ∷ rs) (rest ∙ ap (λ t. replies (state_after s r.steps) cs ++ replies t ds) (state_after-append s r.steps (flat_map (λ r. r.steps) (replies (state_after s r.steps) cs))))
 
+-- the first replies are those to the first commands
+pub first_replies : (s : State) (cs : List Command) (p : ℕ) → take p (replies s cs) ≡ replies s (take p cs)
+first_replies s cs zero = refl
+first_replies s [] (suc p) = refl
+first_replies s (c ∷ cs) (suc p) = let r = reply_to s c in ap (λ rs. r ∷ rs) (first_replies (state_after s r.steps) cs p)
+
 -- the steps of commands, and of one more
 pub steps_of-more : (v : Store) (cs ds : List Command) → steps_of v (cs ++ ds) ≡ steps_of v cs ++ flat_map (λ r. r.steps) (replies (state_after (at_rest v) (steps_of v cs)) ds)
 steps_of-more v cs ds = ap (flat_map (λ r. r.steps)) (replies-append (at_rest v) cs ds) ∙ flat_map-append (λ (r : Reply). r.steps) (replies (at_rest v) cs) (replies (state_after (at_rest v) (steps_of v cs)) ds)

@@ -1,29 +1,25 @@
 -- Small cycles, reports and traces that are computed.
-use Rattle.std.proofs.Common.{◌≡◌, refl, ℕ, pos, negsuc, Bool, true, false, Some, None, List, [], ◌∷◌, map, replicate}
-use Rattle.std.specs.Prelude.{codes, is_some}
-use Rattle.edr_items.specs.declared.Sensor.TheVariants.{Across}
+use Rattle.std.proofs.Common.{◌≡◌, refl, ℕ, pos, Bool, false, Some, None, List, [], ◌∷◌, map}
+use Rattle.std.specs.Prelude.{is_some}
 use Rattle.edr_items.specs.declared.Item.{Item}
 use Rattle.edr_items.specs.SensorLists.{SensorLists, no_items}
-use Rattle.edr_items.specs.Item.{refusal_of}
-use Rattle.edr_record.specs.declared.Place.TheVariants as place
-use Rattle.edr_record.specs.declared.Record.{Record}
-use Rattle.edr_record.specs.Complete.{is_complete}
 use Rattle.edr_definitions.specs.Ticks.{first_tick, greatest}
 use Rattle.edr_definitions.specs.Signals.{sample_at}
 use Rattle.edr_definitions.specs.Windows.{delta_v, largest_change, swing}
 use Rattle.edr_definitions.specs.Selection.{is_triggered, is_time_zero, is_end, end_of, candidate_at, chain_from}
-use Rattle.edr_definitions.specs.Commands.{issues_of}
+use Rattle.edr_definitions.specs.Commands.{commands, issues_of}
 use Rattle.edr_image.specs.declared.Choice.TheVariants.{Keep}
 use Rattle.edr_image.specs.declared.BankView.{BankView}
 use Rattle.edr_image.specs.declared.BankView.TheVariants.{Void, Event, Damaged}
 use Rattle.edr_image.specs.declared.Applied.TheVariants as applied
 use Rattle.edr_image.specs.declared.Kind.TheVariants as kind
-use Rattle.edr_image.specs.Banks.{Store, events, damaged_banks, lowest_void, least_unlocked}
+use Rattle.edr_image.specs.Banks.{Store, events, lowest_void, least_unlocked}
 use Rattle.edr_image.specs.Steps.{reply_to}
 use Rattle.edr_image.specs.Calls.{stops, count_acknowledged}
 use Rattle.edr_spell.specs.declared.CycleInput.{CycleInput}
 use Rattle.edr_image.specs.Reports.{Report, StartStopped, Ran}
 use Rattle.edr_run.specs.Cycle.{ends, run_ends, steps_in, acks_in, acks_before, outcomes}
+use Rattle.edr_run.specs.Live.{live_lines_of}
 
 abbrev fresh : Store
 fresh = record { header = record { banks = 2; choice = Keep }; banks = Void ∷ Void ∷ [] }
@@ -85,3 +81,22 @@ deployment-cut : map {B = Report × List Bool} (λ e. (e.report, map is_done e.s
     (Ran 7 (Some 7) (record { tick = 2; kind = kind.Take; applied = applied.Kept 1 } ∷ record { tick = 2; kind = kind.Lock; applied = applied.Locked 1 } ∷ []), false ∷ false ∷ []) ∷ []
 unfolding ends run_ends steps_in acks_in acks_before count_acknowledged stops issues_of chain_from candidate_at end_of is_end is_time_zero is_triggered first_tick swing largest_change greatest delta_v sample_at reply_to lowest_void least_unlocked events
 deployment-cut = refl
+
+-- ---- live lines
+
+-- in place 3 of a run: of a cycle without commands, of the deployment, and of one whose Done is cut off
+empty-line : map (λ e. live_lines_of 3 no_items fresh e.report) (ends (empty 0 0) fresh 0) ≡ (record { cycle = 3; commands = 0; events = 0 } ∷ []) ∷ []
+unfolding ends run_ends steps_in acks_in chain_from
+empty-line = refl
+
+deployment-line : map (λ e. live_lines_of 3 deployment fresh e.report) (ends (record { start_stop = 0; feeds = deployment; stop = 0 }) fresh 6) ≡ (record { cycle = 3; commands = 3; events = 1 } ∷ []) ∷ []
+unfolding ends run_ends steps_in acks_in commands issues_of chain_from candidate_at end_of is_end is_time_zero is_triggered first_tick swing largest_change greatest delta_v sample_at reply_to lowest_void least_unlocked events
+deployment-line = refl
+
+deployment_cut-line : map (λ e. live_lines_of 3 deployment fresh e.report) (ends (record { start_stop = 0; feeds = deployment; stop = 7 }) fresh 6) ≡ (record { cycle = 3; commands = 2; events = 1 } ∷ []) ∷ []
+unfolding ends run_ends steps_in acks_in acks_before count_acknowledged stops commands issues_of chain_from candidate_at end_of is_end is_time_zero is_triggered first_tick swing largest_change greatest delta_v sample_at reply_to lowest_void least_unlocked events
+deployment_cut-line = refl
+
+-- a start that was stopped has none
+start_5-line : live_lines_of 3 no_items fresh (StartStopped 5) ≡ []
+start_5-line = refl

@@ -3,3 +3,4 @@ pub mod Own
 pub mod Logged
 pub mod Schedule
 pub mod Keeps
+pub mod Live

@@ -1,6 +1,6 @@
 //! Laws of cycles and runs, each the contract of a function that does nothing.
 
-ghost use Rattle.std.specs.Prelude.{◌≡◌, ◌↔◌, ℕ, None, List, Contains};
+ghost use Rattle.std.specs.Prelude.{◌≡◌, ◌↔◌, ℕ, None, List, Contains, map};
 ghost use Rattle.edr_items.specs.SensorLists.{SensorLists};
 ghost use Rattle.edr_definitions.specs.Commands.{commands};
 ghost use Rattle.edr_image.specs.Banks.{Store};
@@ -10,6 +10,8 @@ ghost use Rattle.edr_image.specs.Steps.{after, state_after, at_rest};
 ghost use Rattle.edr_spell.specs.declared.CycleInput.{CycleInput};
 ghost use Rattle.edr_run.specs.Keeps.{KeepsDone, KeepsLocked, LeavesLocked, StaysInWindow};
 ghost use Rattle.edr_run.specs.Cycle.{End, IsCycle, ends, Outcome, IsRun, outcomes, steps_in};
+ghost use Rattle.edr_run.specs.declared.live.LiveLine.{LiveLine};
+ghost use Rattle.edr_run.specs.Live.{IsLiveRun, logs_told};
 ghost use Rattle.edr_run.specs.Schedule.{HasFinished, HasReached, IsCut, IsLeftAfter, ScheduleState, steps_of_first};
 
 /// The listed ends are those to which a cycle may come.
@@ -67,4 +69,18 @@ pub fn any_cut()
 pub fn whole_schedule()
     ensures { (f : SensorLists) (n : ℕ) (v : Store) (b : ScheduleState) → HasFinished f n v b
         → b.banks.store ≡ after v (steps_in f n v) }
+{}
+
+/// A run with live lines is a run. Each run has live lines, wherever its first cycle stands.
+pub fn live_runs_are_the_runs()
+    ensures run { (i : ℕ) (cs : List CycleInput) (v : Store) (n : ℕ) (o : Outcome) (lines : List LiveLine)
+        → IsLiveRun i cs v n o lines → IsRun cs v n o }
+    ensures lines { (i : ℕ) (cs : List CycleInput) (v : Store) (n : ℕ) (o : Outcome) → IsRun cs v n o
+        → (lines : List LiveLine) × IsLiveRun i cs v n o lines }
+{}
+
+/// There is a live line for each cycle that ran, in order, with its place and the length of its log.
+pub fn live_lines_tell_each_log()
+    ensures { (i : ℕ) (cs : List CycleInput) (v : Store) (n : ℕ) (o : Outcome) (lines : List LiveLine)
+        → IsLiveRun i cs v n o lines → map (λ l. (l.cycle, l.commands)) lines ≡ logs_told i o.reports }
 {}

@@ -3,3 +3,6 @@
 #![tactic(auto)]
 
 pub mod laws;
+mod live;
+
+pub use crate::live::LiveLine;
