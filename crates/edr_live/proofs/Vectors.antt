@@ -1,5 +1,5 @@
 -- What is shown after small lists of commands.
-use Rattle.std.proofs.Common.{◌≡◌, List, [], ◌∷◌, ap, arith, length, refl}
+use Rattle.std.proofs.Common.{◌≡◌, [], ◌∷◌, ap, arith, length, refl}
 use Rattle.edr_image.specs.declared.Applied.TheVariants.{Kept, NotKept}
 use Rattle.edr_image.specs.declared.BankView.{BankView}
 use Rattle.edr_image.specs.declared.BankView.TheVariants.{Void}

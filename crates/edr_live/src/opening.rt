@@ -55,11 +55,7 @@ fn first_copy(alloc: Global, view: &LiveView) -> LiveCopy
 const READERS: usize = 2;
 
 // A writer that has shown just this.
-fn first_writer<R: Wait>(
-    rt: &R,
-    alloc: Global,
-    view: &LiveView,
-) -> Result<LiveWriter, OutOfMemory>
+fn first_writer<R: Wait>(rt: &R, alloc: Global, view: &LiveView) -> Result<LiveWriter, OutOfMemory>
     requires { view.now.applied ≡ 0 }
     ensures opening { IfOk result (λ w. opened_by w ≡ view.now) }
     ensures none { IfOk result (λ w. shown_by w ≡ []) }

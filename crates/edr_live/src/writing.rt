@@ -107,10 +107,7 @@ impl LiveWriter {
     pub(crate) fn end<R: Wait>(self, rt: &R) -> LiveView
         ensures { result ≡ view_shown self }
     {
-        let LiveWriter {
-            writer,
-            ended: _,
-        } = self;
+        let LiveWriter { writer, ended: _ } = self;
         let copy = writer.take(rt);
         view_in(&copy)
     }
