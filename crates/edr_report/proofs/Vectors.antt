@@ -15,7 +15,7 @@ use Rattle.edr_image.specs.Banks.{Store, events, damaged_banks}
 use Rattle.edr_image.specs.Reports.{Report, Ran, StartStopped}
 use Rattle.edr_report.specs.Words.{time_between}
 use Rattle.edr_report.specs.Report.{event_lines, report_lines, report_text, report_table}
-use Rattle.edr_report.specs.Format.{format_line, migrate_line}
+use Rattle.edr_report.specs.Format.{format_line, live_line, migrate_line}
 
 abbrev fresh : Store
 fresh = record { header = record { banks = 2; choice = Keep }; banks = Void ∷ Void ∷ [] }
@@ -107,3 +107,12 @@ overwrite-line = refl
 migrated-line : migrate_line 1 4_294_967_295 ≡ codes "migrated: 1 events, count 4294967295\n"
 unfolding digits
 migrated-line = refl
+
+-- the line of a cycle beside which a reader was
+live_first-line : live_line 1 2 1 ≡ codes "live: cycle 1, 2 commands, 1 events\n"
+unfolding digits
+live_first-line = refl
+
+live_last-line : live_line 4_294_967_295 4_294_967_295 16 ≡ codes "live: cycle 4294967295, 4294967295 commands, 16 events\n"
+unfolding digits
+live_last-line = refl

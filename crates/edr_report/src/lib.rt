@@ -24,8 +24,8 @@ use forms::{Table, Text};
 use printer::print;
 pub use printer::{print_event, print_run};
 pub use short_lines::{
-    Room, ShortLine, format_line, migrate_line, push_header_refused, push_number, push_short,
-    push_signed,
+    Room, ShortLine, format_line, live_line, migrate_line, push_header_refused, push_number,
+    push_short, push_signed,
 };
 use std::alloc::{AllocError as OutOfMemory, Global};
 

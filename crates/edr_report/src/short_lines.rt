@@ -3,7 +3,7 @@
 ghost use Rattle.std.specs.Prelude.{◌≡◌, ◌+◌, ◌≤◌, ◌++◌, decimal, length};
 ghost use Rattle.std.specs.Fmt.{signed_decimal};
 ghost use Rattle.arrayvec.specs.ArrayString.{array_string_len};
-ghost use Rattle.edr_report.specs.Format.{format_line, migrate_line};
+ghost use Rattle.edr_report.specs.Format.{format_line, live_line, migrate_line};
 ghost use Rattle.edr_report.specs.ImageWords.{header_words, short_words};
 
 use arrayvec::ArrayString;
@@ -116,5 +116,18 @@ pub fn migrate_line(events: u8, count: u32) -> ShortLine
     push_number(&mut line, "migrated: ", u32::from(events));
     push_number(&mut line, " events, count ", count);
     line.push_str("\n");
+    ShortLine::new(line)
+}
+
+/// The line of a cycle that a reader saw beside its threads: which cycle of the run it is, how many commands its log has,
+/// and how many events the banks have after these. It takes no memory.
+pub fn live_line(cycle: u32, commands: u32, events: u8) -> ShortLine
+    ensures { result ≡ live_line cycle commands events }
+{
+    let mut line = Room::new();
+    push_number(&mut line, "live: cycle ", cycle);
+    push_number(&mut line, ", ", commands);
+    push_number(&mut line, " commands, ", u32::from(events));
+    line.push_str(" events\n");
     ShortLine::new(line)
 }
