@@ -13,7 +13,7 @@ use Rattle.edr_device.proofs.SettlingLemmas.{quiet_leaves}
 use Rattle.edr_image.specs.Calls.{IsStop, count_acknowledged, all_calls, calls_of}
 use Rattle.edr_image.specs.Banks.{Store}
 use Rattle.edr_image.specs.Image.{View, view_of}
-use Rattle.edr_image.specs.Logged.{Logged}
+use Rattle.edr_cycle.specs.CycleLogged.{CycleLogged}
 use Rattle.edr_image.specs.Reports.{Ran}
 use Rattle.edr_image.specs.Steps.{BankStep, State, Reply, after, at_rest}
 use Rattle.edr_image.proofs.StopLaws.{stop-prefix}
@@ -85,7 +85,7 @@ length-acks_in f n v = length-acks_from (at_rest v) (issues_in f n) ∙ sym (len
 
 module _ {D : Type 0} (content : D → Option (List ℕ)) (settled : D → ℕ → Bool) (since : D → ℕ → List ℕ → Type 0) (clock good : D → ℕ)
     (only_now : (d : D) (image : List ℕ) → since d (clock d) image → MayLeave (content d) (settled d) image)
-    (f : SensorLists) (n : ℕ) (some : 1 ≤ n) (b b' : OpenedBanks) (rests : b.held ≡ None) (l l' : Logged) (empty : l.acks ≡ []) (d d' : D) where
+    (f : SensorLists) (n : ℕ) (some : 1 ≤ n) (b b' : OpenedBanks) (rests : b.held ≡ None) (l l' : CycleLogged) (empty : l.acks ≡ []) (d d' : D) where
   abbrev seen : View
   seen = record { store = b.store; count = n }
 
@@ -149,7 +149,7 @@ module _ {D : Type 0} (content : D → Option (List ℕ)) (settled : D → ℕ �
 
   ended_whole : {T E : Type 0} (x : T) → Commits {E = E} content settled since clock good (issues_in f n) (Ok x) b b' l l' d d' → MeetsCycle content settled since clock good f n b.store false l'.acks d d'
   ended_whole x h =
-      let log : l'.acks ≡ acks_in f n b.store = ap (λ (m : Logged). m.acks) h.log_is ∙ ap (λ as'. as' ++ acks_from (state_of b) (issues_in f n)) empty ∙ acks_are in
+      let log : l'.acks ≡ acks_in f n b.store = ap (λ (m : CycleLogged). m.acks) h.log_is ∙ ap (λ as'. as' ++ acks_from (state_of b) (issues_in f n)) empty ∙ acks_are in
       let end : (bytes : List ℕ) → at bytes → (now : List ℕ) × IsQuiet (content d') (settled d') now × SaysAfter seen (steps_in f n b.store) now = λ bytes found. rw (sym steps_are) (let t = h.taken bytes seen (ready bytes found) in (t.0, t.1, t.2)) in
       let left : (bytes image : List ℕ) → at bytes → MayLeave (content d') (settled d') image → SaysAfter seen (steps_in f n b.store) image = λ bytes image found may. let e = end bytes found in ap view_of (quiet_leaves e.0 (content d') (settled d') image e.1 may) ∙ e.2 in
       record {

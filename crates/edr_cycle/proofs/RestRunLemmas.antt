@@ -5,7 +5,7 @@ use Rattle.std.proofs.lemmas.List.{length-append, length-map}
 use Rattle.edr_items.specs.SensorLists.{SensorLists, horizon_of}
 use Rattle.edr_definitions.specs.Commands.{issue_at, issues}
 use Rattle.edr_record.specs.declared.Command.{Command}
-use Rattle.edr_image.specs.Logged.{Logged}
+use Rattle.edr_cycle.specs.CycleLogged.{CycleLogged}
 use Rattle.edr_banks.specs.Opened.{OpenedBanks}
 use Rattle.edr_core.specs.SplitHistory.{History}
 use Rattle.edr_core.specs.SplitContents.{SplitContents}
@@ -18,17 +18,17 @@ use Rattle.edr_cycle.proofs.CommittedLemmas.{commits_failed, commits_none, commi
 use Rattle.edr_cycle.proofs.RunStepLemmas.{between-length, between-next, drop_own, issues-upto}
 
 -- what is left, and what was issued past the tick `base` is committed
-pub record RunsRest {D : Type 0} (content : D → Option (List ℕ)) (settled : D → ℕ → Bool) (since : D → ℕ → List ℕ → Type 0) (clock good : D → ℕ) (lists : SensorLists) (n : ℕ) (base : ℕ) (core : SplitContents) (rest : Remaining) (b b' : OpenedBanks) (l l' : Logged) (d d' : D) : Type 0 where
+pub record RunsRest {D : Type 0} (content : D → Option (List ℕ)) (settled : D → ℕ → Bool) (since : D → ℕ → List ℕ → Type 0) (clock good : D → ℕ) (lists : SensorLists) (n : ℕ) (base : ℕ) (core : SplitContents) (rest : Remaining) (b b' : OpenedBanks) (l l' : CycleLogged) (d d' : D) : Type 0 where
   pub history : History
   pub remains : RemainsAt lists n history core rest
   pub from : base ≤ history.past.closed
   pub commits : Commits {T = Unit {0}} {E = Unit {0}} content settled since clock good (issues_between lists n base history.past.closed) (Ok tt) b b' l l' d d'
 
-module _ {D : Type 0} (content : D → Option (List ℕ)) (settled : D → ℕ → Bool) (since : D → ℕ → List ℕ → Type 0) (clock good : D → ℕ) (lists : SensorLists) (n base : ℕ) (b : OpenedBanks) (l : Logged) (d : D) where
-  abbrev Now : SplitContents → Remaining → OpenedBanks → Logged → D → Type 0
+module _ {D : Type 0} (content : D → Option (List ℕ)) (settled : D → ℕ → Bool) (since : D → ℕ → List ℕ → Type 0) (clock good : D → ℕ) (lists : SensorLists) (n base : ℕ) (b : OpenedBanks) (l : CycleLogged) (d : D) where
+  abbrev Now : SplitContents → Remaining → OpenedBanks → CycleLogged → D → Type 0
   Now core rest b' l' d' = RunsRest content settled since clock good lists n base core rest b b' l l' d d'
 
-  abbrev Committed : ℕ → OpenedBanks → Logged → D → Type 0
+  abbrev Committed : ℕ → OpenedBanks → CycleLogged → D → Type 0
   Committed t b' l' d' = Commits {T = Unit {0}} {E = Unit {0}} content settled since clock good (issues_between lists n base t) (Ok tt) b b' l l' d d'
 
   pub rest-begins : (core : SplitContents) (rest : Remaining) → Remains lists n core rest → base ≡ core.closed → Now core rest b l d
@@ -42,7 +42,7 @@ module _ {D : Type 0} (content : D → Option (List ℕ)) (settled : D → ℕ �
       }
 
   -- no tick is closed
-  pub rest-goes : (core core' : SplitContents) (rest rest' : Remaining) (b' : OpenedBanks) (l' : Logged) (d' : D) → (run : Now core rest b' l' d') → (h' : History) → h'.past.closed ≡ run.history.past.closed → RemainsAt lists n h' core' rest' → Now core' rest' b' l' d'
+  pub rest-goes : (core core' : SplitContents) (rest rest' : Remaining) (b' : OpenedBanks) (l' : CycleLogged) (d' : D) → (run : Now core rest b' l' d') → (h' : History) → h'.past.closed ≡ run.history.past.closed → RemainsAt lists n h' core' rest' → Now core' rest' b' l' d'
   rest-goes core core' rest rest' b' l' d' run h' same remains = record {
     history = h';
     remains = remains;
@@ -50,7 +50,7 @@ module _ {D : Type 0} (content : D → Option (List ℕ)) (settled : D → ℕ �
     commits = subst (λ t. Committed t b' l' d') (sym same) run.commits;
   }
 
-  module _ (core : SplitContents) (rest : Remaining) (b' : OpenedBanks) (l' : Logged) (d' : D) (run : Now core rest b' l' d') (t : ℕ) (cs : List Command) (next : t ≡ run.history.past.closed + 1) (adds : issues lists n t ≡ issues lists n run.history.past.closed ++ map (issue_at t) cs) where
+  module _ (core : SplitContents) (rest : Remaining) (b' : OpenedBanks) (l' : CycleLogged) (d' : D) (run : Now core rest b' l' d') (t : ℕ) (cs : List Command) (next : t ≡ run.history.past.closed + 1) (adds : issues lists n t ≡ issues lists n run.history.past.closed ++ map (issue_at t) cs) where
     abbrev closed : ℕ
     closed = run.history.past.closed
 
@@ -58,7 +58,7 @@ module _ {D : Type 0} (content : D → Option (List ℕ)) (settled : D → ℕ �
     longer = between-next lists n base closed t (map (issue_at t) cs) run.from adds
 
     -- a tick is closed, and what it issues is committed
-    pub rest-closes : {T E : Type 0} (core' : SplitContents) (rest' : Remaining) (b'' : OpenedBanks) (l'' : Logged) (d'' : D) (r : Result T E) (x : T) → (h' : History) → h'.past.closed ≡ t → RemainsAt lists n h' core' rest'
+    pub rest-closes : {T E : Type 0} (core' : SplitContents) (rest' : Remaining) (b'' : OpenedBanks) (l'' : CycleLogged) (d'' : D) (r : Result T E) (x : T) → (h' : History) → h'.past.closed ≡ t → RemainsAt lists n h' core' rest'
         → r ≡ Ok x → Commits content settled since clock good (map (issue_at t) cs) r b' b'' l' l'' d' d'' → Now core' rest' b'' l'' d''
     rest-closes core' rest' b'' l'' d'' r x h' same remains was does =
         let ended : Result (Unit {0}) (Unit {0}) = Ok tt in
@@ -76,13 +76,13 @@ module _ {D : Type 0} (content : D → Option (List ℕ)) (settled : D → ℕ �
     rest-room upto room =
         let few = issues-few lists n t in
         let all : length (issues lists n t) ≡ length (issues lists n closed) + length cs = ap length adds ∙ length-append (issues lists n closed) (map (issue_at t) cs) ∙ ap (λ k. length (issues lists n closed) + k) (length-map cs (issue_at t)) in
-        let spare : l'.spare ≡ l.spare - length (issues_between lists n base closed) = ap (λ (m : Logged). m.spare) run.commits.log_is in
+        let spare : l'.spare ≡ l.spare - length (issues_between lists n base closed) = ap (λ (m : CycleLogged). m.spare) run.commits.log_is in
         let past = between-length lists n base closed run.from in
         let below : t / 51 ≤ horizon_of lists / 51 = omega (arith, upto) in
         omega (arith, few, all, spare, room, below, past)
 
     -- where a command of it fails, it is one of the cycle's
-    pub rest-fails : {T E T' E' : Type 0} (b'' : OpenedBanks) (l'' : Logged) (d'' : D) (r : Result T E) (r' : Result T' E') (e : E) → t ≤ horizon_of lists
+    pub rest-fails : {T E T' E' : Type 0} (b'' : OpenedBanks) (l'' : CycleLogged) (d'' : D) (r : Result T E) (r' : Result T' E') (e : E) → t ≤ horizon_of lists
         → r ≡ Err e → IsErr r' → Commits content settled since clock good (map (issue_at t) cs) r b' b'' l' l'' d' d''
         → Commits content settled since clock good (issues_past lists n base) r' b b'' l l'' d d''
     rest-fails b'' l'' d'' r r' e upto was is does =
@@ -93,7 +93,7 @@ module _ {D : Type 0} (content : D → Option (List ℕ)) (settled : D → ℕ �
         commits_failed content settled since clock good (issues_between lists n base t) more.0 (issues_past lists n base) r r' e b b'' l l'' d d'' (between-next lists n base t (horizon_of lists) more.0 from more.1) was is so_far
 
   -- at the horizon all is committed
-  pub rest-over : {T E : Type 0} (y : T) (core : SplitContents) (rest : Remaining) (b' : OpenedBanks) (l' : Logged) (d' : D) → (run : Now core rest b' l' d') → horizon_of lists ≤ run.history.past.closed → Commits {E = E} content settled since clock good (issues_past lists n base) (Ok y) b b' l l' d d'
+  pub rest-over : {T E : Type 0} (y : T) (core : SplitContents) (rest : Remaining) (b' : OpenedBanks) (l' : CycleLogged) (d' : D) → (run : Now core rest b' l' d') → horizon_of lists ≤ run.history.past.closed → Commits {E = E} content settled since clock good (issues_past lists n base) (Ok y) b b' l l' d d'
   rest-over y core rest b' l' d' run upto =
       let within = run.remains.within in
       let end : run.history.past.closed ≡ horizon_of lists = omega (arith, within, upto) in

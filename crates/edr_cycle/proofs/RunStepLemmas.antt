@@ -22,7 +22,7 @@ use Rattle.edr_core.specs.StandsFor.{CoreIsFor}
 use Rattle.edr_merge.specs.Answers.{is_waited_for, waited_for}
 use Rattle.edr_merge.proofs.StandsLemmas.{find-holds}
 use Rattle.edr_record.specs.declared.Command.{Command}
-use Rattle.edr_image.specs.Logged.{Logged}
+use Rattle.edr_cycle.specs.CycleLogged.{CycleLogged}
 use Rattle.edr_banks.specs.Opened.{OpenedBanks}
 use Rattle.edr_run.specs.Cycle.{issues_in}
 use Rattle.edr_cycle.specs.Commits.{Commits}
@@ -35,7 +35,7 @@ abbrev pub left_count : SensorLists → ℕ
 left_count left = total_of length left
 
 -- what it issued is committed
-pub record Runs {D : Type 0} (content : D → Option (List ℕ)) (settled : D → ℕ → Bool) (since : D → ℕ → List ℕ → Type 0) (clock good : D → ℕ) (lists : SensorLists) (n : ℕ) (base : ℕ) (core : CoreContents) (left : SensorLists) (b b' : OpenedBanks) (l l' : Logged) (d d' : D) : Type 0 where
+pub record Runs {D : Type 0} (content : D → Option (List ℕ)) (settled : D → ℕ → Bool) (since : D → ℕ → List ℕ → Type 0) (clock good : D → ℕ) (lists : SensorLists) (n : ℕ) (base : ℕ) (core : CoreContents) (left : SensorLists) (b b' : OpenedBanks) (l l' : CycleLogged) (d d' : D) : Type 0 where
   pub given : IsGiven lists n core left
   pub from : base ≤ given.progress.closed
   pub commits : Commits {T = Unit {0}} {E = Unit {0}} content settled since clock good (issues_between given.progress.given n base given.progress.closed) (Ok tt) b b' l l' d d'
@@ -90,8 +90,8 @@ pub on_ok : {T E P : Type 0} (r : Result T E) (x : T) → r ≡ Ok x → OnOk r 
 on_ok {P = P} r x is h = subst (λ y. OnOk y P) is h
 
 -- ---- the steps of a run
-module _ {D : Type 0} (content : D → Option (List ℕ)) (settled : D → ℕ → Bool) (since : D → ℕ → List ℕ → Type 0) (clock good : D → ℕ) (lists : SensorLists) (n base : ℕ) (b : OpenedBanks) (l : Logged) (d : D) where
-  abbrev Now : CoreContents → SensorLists → OpenedBanks → Logged → D → Type 0
+module _ {D : Type 0} (content : D → Option (List ℕ)) (settled : D → ℕ → Bool) (since : D → ℕ → List ℕ → Type 0) (clock good : D → ℕ) (lists : SensorLists) (n base : ℕ) (b : OpenedBanks) (l : CycleLogged) (d : D) where
+  abbrev Now : CoreContents → SensorLists → OpenedBanks → CycleLogged → D → Type 0
   Now core left b' l' d' = Runs content settled since clock good lists n base core left b b' l l' d d'
 
   -- a run begins where it is
@@ -106,7 +106,7 @@ module _ {D : Type 0} (content : D → Option (List ℕ)) (settled : D → ℕ �
       }
 
   -- a tick that is closed, with what it issues
-  pub run-closes : {T E : Type 0} (core core' : CoreContents) (left : SensorLists) (b' b'' : OpenedBanks) (l' l'' : Logged) (d' d'' : D) (t : ℕ) (cs : List Command) (r : Result T E) (x : T) → (run : Now core left b' l' d')
+  pub run-closes : {T E : Type 0} (core core' : CoreContents) (left : SensorLists) (b' b'' : OpenedBanks) (l' l'' : CycleLogged) (d' d'' : D) (t : ℕ) (cs : List Command) (r : Result T E) (x : T) → (run : Now core left b' l' d')
       → CoreIsFor core' n (after_step run.given.progress Close) → IsAllowed Close run.given.progress
       → t ≡ run.given.progress.closed + 1 → issues run.given.progress.given n t ≡ issues run.given.progress.given n run.given.progress.closed ++ map (issue_at t) cs
       → r ≡ Ok x → Commits content settled since clock good (map (issue_at t) cs) r b' b'' l' l'' d' d''
@@ -122,7 +122,7 @@ module _ {D : Type 0} (content : D → Option (List ℕ)) (settled : D → ℕ �
       }
 
   -- an item that is given is no longer left
-  pub run-gives : (core core' : CoreContents) (left left' : SensorLists) (b' : OpenedBanks) (l' : Logged) (d' : D) (s : Sensor) (x : Item) → (run : Now core left b' l' d')
+  pub run-gives : (core core' : CoreContents) (left left' : SensorLists) (b' : OpenedBanks) (l' : CycleLogged) (d' : D) (s : Sensor) (x : Item) → (run : Now core left b' l' d')
       → CoreIsFor core' n (after_step run.given.progress (Give s x)) → IsAllowed (Give s x) run.given.progress
       → items_of s left ≡ x ∷ items_of s left' → left' ≡ with_items s (items_of s left') left
       → Now core' left' b' l' d'
@@ -170,14 +170,14 @@ module _ {D : Type 0} (content : D → Option (List ℕ)) (settled : D → ℕ �
         omega (arith, a, b, may)
 
     -- there is room for what the next tick issues
-    pub room-left : (core : CoreContents) (left : SensorLists) (b' : OpenedBanks) (l' : Logged) (d' : D) (t : ℕ) (cs : List Command) → (run : Now core left b' l' d') → IsAllowed Close run.given.progress
+    pub room-left : (core : CoreContents) (left : SensorLists) (b' : OpenedBanks) (l' : CycleLogged) (d' : D) (t : ℕ) (cs : List Command) → (run : Now core left b' l' d') → IsAllowed Close run.given.progress
         → t ≡ run.given.progress.closed + 1 → issues run.given.progress.given n t ≡ issues run.given.progress.given n run.given.progress.closed ++ map (issue_at t) cs
         → 3 * (horizon_of lists / 51 + 1) ≤ l.spare + length (issues lists n base) → length cs ≤ l'.spare
     room-left core left b' l' d' t cs run may next adds room =
         let p = run.given.progress in
         let few = issues-few p.given n t in
         let all : length (issues p.given n t) ≡ length (issues p.given n p.closed) + length cs = ap length adds ∙ length-append (issues p.given n p.closed) (map (issue_at t) cs) ∙ ap (λ k. length (issues p.given n p.closed) + k) (length-map cs (issue_at t)) in
-        let spare : l'.spare ≡ l.spare - length (issues_between p.given n base p.closed) = ap (λ (m : Logged). m.spare) run.commits.log_is in
+        let spare : l'.spare ≡ l.spare - length (issues_between p.given n base p.closed) = ap (λ (m : CycleLogged). m.spare) run.commits.log_is in
         let from = run.from in
         let within = run.given.within in
         let past = between-length p.given n base p.closed from in
@@ -199,7 +199,7 @@ module _ {D : Type 0} (content : D → Option (List ℕ)) (settled : D → ℕ �
         )
 
     -- where a command of a tick fails, it is one of the cycle's
-    pub run-fails : {T E T' E' : Type 0} (core : CoreContents) (left : SensorLists) (b' b'' : OpenedBanks) (l' l'' : Logged) (d' d'' : D) (t : ℕ) (cs : List Command) (r : Result T E) (r' : Result T' E') (e : E) → (run : Now core left b' l' d') → IsAllowed Close run.given.progress
+    pub run-fails : {T E T' E' : Type 0} (core : CoreContents) (left : SensorLists) (b' b'' : OpenedBanks) (l' l'' : CycleLogged) (d' d'' : D) (t : ℕ) (cs : List Command) (r : Result T E) (r' : Result T' E') (e : E) → (run : Now core left b' l' d') → IsAllowed Close run.given.progress
         → t ≡ run.given.progress.closed + 1 → issues run.given.progress.given n t ≡ issues run.given.progress.given n run.given.progress.closed ++ map (issue_at t) cs
         → r ≡ Err e → IsErr r' → Commits content settled since clock good (map (issue_at t) cs) r b' b'' l' l'' d' d''
         → Commits content settled since clock good (issues_past lists n base) r' b b'' l l'' d d''
@@ -212,7 +212,7 @@ module _ {D : Type 0} (content : D → Option (List ℕ)) (settled : D → ℕ �
         commits_failed content settled since clock good (issues_between p.given n base t) whole.0 (issues_past lists n base) r r' e b b'' l l'' d d'' whole.1 was is so_far
 
     -- where nothing is left of the sensor that is waited for, all is committed
-    pub run-over : {T E : Type 0} (y : T) (core : CoreContents) (left : SensorLists) (b' : OpenedBanks) (l' : Logged) (d' : D) (s : Sensor) → (run : Now core left b' l' d') → Some s ≡ waited_for run.given.progress → items_of s left ≡ [] → Commits {E = E} content settled since clock good (issues_past lists n base) (Ok y) b b' l l' d d'
+    pub run-over : {T E : Type 0} (y : T) (core : CoreContents) (left : SensorLists) (b' : OpenedBanks) (l' : CycleLogged) (d' : D) (s : Sensor) → (run : Now core left b' l' d') → Some s ≡ waited_for run.given.progress → items_of s left ≡ [] → Commits {E = E} content settled since clock good (issues_past lists n base) (Ok y) b b' l l' d d'
     run-over y core left b' l' d' s run waits over =
         let p = run.given.progress in
         let on = under_way core left run.given in

@@ -4,7 +4,7 @@ use Rattle.edr_items.specs.SensorLists.{no_items}
 use Rattle.edr_core.specs.Contents.{CoreContents}
 use Rattle.edr_core.specs.StandsFor.{CoreIsFor}
 use Rattle.edr_image.specs.Image.{View}
-use Rattle.edr_image.specs.Logged.{Logged}
+use Rattle.edr_cycle.specs.CycleLogged.{CycleLogged}
 use Rattle.edr_banks.specs.Opened.{OpenedBanks}
 
 -- its number, up to how many ticks there is room in its log, the banks that were found, its core and its log
@@ -13,7 +13,7 @@ pub record Begun : Type 0 where
   pub ticks : ℕ
   pub banks : OpenedBanks
   pub core : CoreContents
-  pub log : Logged
+  pub log : CycleLogged
 
 -- what the image says before it and after it
 abbrev pub view_before : Begun → View
@@ -36,4 +36,5 @@ pub record IsBegun (s : Begun) : Type 0 where
   pub not_ended : s.banks.ended ≡ false
   pub fresh : IsFreshCore s.core s.number
   pub empty : s.log.acks ≡ []
+  pub no_command : s.log.commands ≡ []
   pub room : room_for s.ticks ≤ s.log.spare

@@ -12,7 +12,7 @@ use Rattle.edr_image.specs.declared.Ack.{Ack}
 use Rattle.edr_image.specs.Banks.{Store}
 use Rattle.edr_image.specs.Calls.{all_calls, IsStop}
 use Rattle.edr_image.specs.Image.{View, view_of}
-use Rattle.edr_image.specs.Logged.{Logged}
+use Rattle.edr_cycle.specs.CycleLogged.{CycleLogged}
 use Rattle.edr_image.specs.Steps.{BankStep, State, Reply, after, replies}
 use Rattle.edr_banks.specs.Opened.{OpenedBanks, state_of}
 use Rattle.edr_banks.specs.Applying.{opened_after}
@@ -26,9 +26,13 @@ use Rattle.edr_cycle.specs.Past.{KeepsPast}
 abbrev pub in_order : Option PrePart → Option PrePart → Option CrashPart → List Command
 in_order take lock done = commands_of (record { take = take; lock = lock; done = done })
 
--- the replies to issued commands, from a state on
+-- the commands that are issued
+abbrev pub commands_from : List Issue → List Command
+commands_from xs = map (λ i. i.command) xs
+
+-- the replies to them, from a state on
 abbrev pub replies_from : State → List Issue → List Reply
-replies_from s xs = replies s (map (λ i. i.command) xs)
+replies_from s xs = replies s (commands_from xs)
 
 -- their steps
 abbrev pub steps_from : State → List Issue → List BankStep
@@ -77,18 +81,19 @@ pub record IsCutInCommand (s : State) (xs : List Issue) (k j : ℕ) (own : List 
 
 -- The issued commands up to one that failed are in the log, and a crash leaves their steps done. Unless the clock stands at its last
 -- value, the call that failed is one of the failed command's.
-pub record StopsAt (s : State) (xs : List Issue) (before now : ℕ) (content content' : Option (List ℕ)) (settled settled' : ℕ → Bool) (l l' : Logged) : Type 0 where
+pub record StopsAt (s : State) (xs : List Issue) (before now : ℕ) (content content' : Option (List ℕ)) (settled settled' : ℕ → Bool) (l l' : CycleLogged) : Type 0 where
   pub j : ℕ
   pub fails : FailsAt s xs (now - before) j
   pub made : now ≢ last_number → all_calls (first_steps s xs j) < now - before
   pub log_is : l'.acks ≡ l.acks ++ take j (acks_from s xs)
+  pub commands_are : l'.commands ≡ l.commands ++ take j (commands_from xs)
   pub cut : (bytes image : List ℕ) (v : View) → IsFoundWith s.store content settled bytes v → MayLeave content' settled' image → IsCutInCommand s xs (now - before) j fails.reply.steps v image
 
 -- The issued commands are applied to the banks and logged, one after the other, up to one that fails. The words of the device come
 -- first, as functions of it.
-pub record Commits {D T E : Type 0} (content : D → Option (List ℕ)) (settled : D → ℕ → Bool) (since : D → ℕ → List ℕ → Type 0) (clock good : D → ℕ) (xs : List Issue) (result : Result T E) (b b' : OpenedBanks) (l l' : Logged) (d d' : D) : Type 0 where
+pub record Commits {D T E : Type 0} (content : D → Option (List ℕ)) (settled : D → ℕ → Bool) (since : D → ℕ → List ℕ → Type 0) (clock good : D → ℕ) (xs : List Issue) (result : Result T E) (b b' : OpenedBanks) (l l' : CycleLogged) (d d' : D) : Type 0 where
   pub banks_are : OnOk result (b' ≡ opened_after b (steps_from (state_of b) xs))
-  pub log_is : OnOk result (l' ≡ record { acks = l.acks ++ acks_from (state_of b) xs; spare = l.spare - length xs })
+  pub log_is : OnOk result (l' ≡ record { acks = l.acks ++ acks_from (state_of b) xs; commands = l.commands ++ commands_from xs; spare = l.spare - length xs })
   pub time : Makes (all_calls (steps_from (state_of b) xs)) (clock d) (clock d') (good d) (good d') result
   pub taken : OnOk result ((bytes : List ℕ) (v : View) → IsFoundWith b.store (content d) (settled d) bytes v → (now : List ℕ) × IsQuiet (content d') (settled d') now × SaysAfter v (steps_from (state_of b) xs) now × KeepsPast b.store.header bytes now)
   pub stopped : OnErr result (StopsAt (state_of b) xs (clock d) (clock d') (content d) (content d') (settled d) (settled d') l l')
@@ -97,5 +102,5 @@ pub record Commits {D T E : Type 0} (content : D → Option (List ℕ)) (settled
   pub past : (bytes : List ℕ) (v : View) → IsFoundWith b.store (content d) (settled d) bytes v → Elapses (clock d) (since d) (since d') (KeepsPast b.store.header bytes)
 
 -- the same of a memory
-abbrev pub CommitsOn : {D T E : Type 0} → Ghosts D → List Issue → Result T E → OpenedBanks → OpenedBanks → Logged → Logged → D → D → Type 0
+abbrev pub CommitsOn : {D T E : Type 0} → Ghosts D → List Issue → Result T E → OpenedBanks → OpenedBanks → CycleLogged → CycleLogged → D → D → Type 0
 CommitsOn g xs result b b' l l' d d' = Commits g.content g.settled g.since g.clock g.last_good xs result b b' l l' d d'

@@ -6,8 +6,9 @@ ghost use Rattle.edr_cycle.specs.Begun.{IsFreshCore, room_for};
 ghost use Rattle.edr_cycle.specs.Starts.{FindsCycle, IsEarly, Starts};
 
 use crate::counter::count_cycle;
+use crate::cycle_log::CycleLog;
 use crate::started::{StartFault, Started};
-use edr_banks::{Banks, Log};
+use edr_banks::Banks;
 use edr_core::Core;
 use edr_device::Nvm;
 use std::alloc::{AllocError as OutOfMemory, Global};
@@ -21,12 +22,12 @@ fn room_for(ticks: u32) -> u32
 }
 
 // The core and the log of the cycle of this number. The core is the most to drop where a later step fails, so it is made last.
-fn take_memory(alloc: Global, number: u32, ticks: u32) -> Result<(Core, Log), OutOfMemory>
+fn take_memory(alloc: Global, number: u32, ticks: u32) -> Result<(Core, CycleLog), OutOfMemory>
     requires { 1 ≤ number }
     ensures core { IfOk result (λ m. IsFreshCore m.0 number) }
-    ensures log { IfOk result (λ m. (m.1.acks ≡ []) × (room_for ticks ≤ m.1.spare)) }
+    ensures log { IfOk result (λ m. (m.1.acks ≡ []) × (m.1.commands ≡ []) × (room_for ticks ≤ m.1.spare)) }
 {
-    let log = Log::with_room(alloc, room_for(ticks))?;
+    let log = CycleLog::with_room(alloc, room_for(ticks))?;
     let core = Core::open(alloc, number)?;
     Ok((core, log))
 }

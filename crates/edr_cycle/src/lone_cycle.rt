@@ -39,6 +39,6 @@ pub fn run_alone<N: Nvm>(started: Started, feeds: &Feeds, nvm: &mut N) -> CycleE
     CycleEnd {
         number,
         failed,
-        log: books.log,
+        log: books.log.told(),
     }
 }

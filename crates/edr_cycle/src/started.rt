@@ -3,6 +3,7 @@
 ghost use Rattle.std.specs.Prelude.{◌≡◌, ◌≤◌, [], None, false};
 ghost use Rattle.edr_cycle.specs.Begun.{IsFreshCore, room_for};
 
+use crate::cycle_log::CycleLog;
 use edr_banks::{Banks, Log, OpenFault};
 use edr_core::Core;
 use edr_device::Failed;
@@ -17,7 +18,7 @@ pub struct Started {
     pub(crate) ticks: u32,
     pub(crate) banks: Banks,
     pub(crate) core: Core,
-    pub(crate) log: Log,
+    pub(crate) log: CycleLog,
 }
 
 impl Model for Started {
@@ -40,7 +41,7 @@ pub struct Parts {
     /// A core for the cycle, to which nothing was given.
     pub core: Core,
     /// An empty log with room for all acknowledgements of the cycle.
-    pub log: Log,
+    pub log: CycleLog,
 }
 
 /// Why a cycle was not started.
@@ -111,6 +112,7 @@ impl Started {
         ensures none_held { (result.banks.held ≡ None) × (result.banks.ended ≡ false) }
         ensures fresh { IsFreshCore result.core self.number }
         ensures empty { result.log.acks ≡ [] }
+        ensures no_command { result.log.commands ≡ [] }
         ensures room { room_for self.ticks ≤ result.log.spare }
     {
         Parts {

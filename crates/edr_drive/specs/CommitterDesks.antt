@@ -18,6 +18,7 @@ pub record HasStarted (s : Begun) (c : CommitterDesk Books) : Type 0 where
   pub none_held : c.ledger.banks.held ≡ None
   pub live : c.ledger.banks.ended ≡ false
   pub empty : c.ledger.log.acks ≡ []
+  pub no_command : c.ledger.log.commands ≡ []
   pub room : room_for s.ticks ≤ c.ledger.log.spare
   pub counted : 1 ≤ s.number
 

@@ -30,7 +30,7 @@ fn run_split(alloc: Global, memory: &mut MemNvm, feeds: &Feeds) -> Result<Log, F
     let Parts { banks, log, .. } = started.parts();
     let mut books = Books { banks, log };
     run_rest(core, feeds, rest, &mut books, memory)?;
-    Ok(books.log)
+    Ok(books.log.told())
 }
 
 #[test]
