@@ -1,9 +1,9 @@
 -- What a step over one more row does.
-use Rattle.std.specs.Prelude.{◌≡◌, ℕ, Ok, None, List, ◌++◌}
+use Rattle.std.specs.Prelude.{◌≡◌, Result, Ok, None, List, ◌++◌}
 use Rattle.edr_spell.specs.declared.CycleInput.{CycleInput}
 use Rattle.edr_spell.specs.declared.Row.{Row}
+use Rattle.edr_spell.specs.declared.TraceFault.{TraceFault}
 use Rattle.edr_spell.specs.Fault.{fault_in}
-use Rattle.edr_spell.specs.Rows.{row_of}
 use Rattle.edr_spell.specs.Steps.{feeds_next, cycles_next}
 use Rattle.edr_trace.specs.declared.steps.Trace.{Trace}
 
@@ -11,7 +11,7 @@ use Rattle.edr_trace.specs.declared.steps.Trace.{Trace}
 abbrev pub GainsCycles : List CycleInput → Trace → Trace → Type 0
 GainsCycles cycles old new = new.cycles.items ≡ old.cycles.items ++ cycles
 
--- the fields are a row that has no fault there, and the row is taken
-abbrev pub TakesFields : List (List ℕ) → Trace → Trace → Type 0
-TakesFields fields old new = (row : Row) × (row_of fields ≡ Ok row) × (fault_in old.inside row ≡ None)
+-- what was read is a row that has no fault there, and the row is taken
+abbrev pub TakesRead : Result Row TraceFault → Trace → Trace → Type 0
+TakesRead read old new = (row : Row) × (read ≡ Ok row) × (fault_in old.inside row ≡ None)
     × (new.inside ≡ feeds_next old.inside row) × GainsCycles (cycles_next old.inside row) old new

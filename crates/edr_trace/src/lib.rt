@@ -1,10 +1,10 @@
 //! Reads a trace: the ignition cycles that its bytes spell, or the first row that has a fault.
 #![tactic(auto)]
 
+mod fronts;
 pub mod laws;
 mod parse;
 mod pieces;
-mod plain;
 mod reading;
 mod steps;
 
@@ -12,16 +12,17 @@ ghost use Rattle.std.specs.Prelude.{◌≡◌, ◌≤◌, ◌<◌, ◌+◌, ◌^
 ghost use Rattle.edr_spell.specs.Spell.{Spell, IsCycleInput, largest_trace};
 ghost use Rattle.edr_spell.specs.Fault.{FirstFault};
 ghost use Rattle.edr_trace.specs.Told.{GivesCycles, GivesFault, TellsRefusal, TellsOf};
-ghost use Rattle.edr_trace.specs.SoFar.{LeadsTo, OfWhole};
-ghost use Rattle.edr_trace.specs.Plain.{IsRowTaken, IsRowRefused};
+ghost use Rattle.edr_trace.specs.SoFar.{LeadsTo, IsCounted, OfWhole};
+ghost use Rattle.edr_trace.specs.Fronts.{IsRowTaken, IsRowRefused};
 
 use csv::{ByteRecord, ReaderBuilder};
 pub use edr_spell::{CycleInput, Row, TraceFault, TraceRefused, Word};
-use plain::{across_row, along_row, any_row};
+use fronts::{across_row, along_row, any_row, behind_no_row, line_in_front};
+use parse::{row_of, row_of_three};
 pub use reading::{LONGEST_ROW, TraceReading};
 use std::alloc::{AllocError, Global};
 use std::io::Read;
-use steps::{RowRefused, Trace, at_row};
+use steps::{Progress, RowRefused, Trace, at_row};
 
 /// The most bytes that a trace may have.
 pub const LARGEST_TRACE: u32 = 67_108_864;
@@ -49,7 +50,7 @@ impl From<AllocError> for ReadRefused {
 ///
 /// The bytes are records of fields between commas, as `csv` reads them: quotes as usual, no header, nothing trimmed; a
 /// carriage return, a line feed or both end a record, a byte order mark at the front is dropped, and a blank line is no
-/// record. The bytes are gone through once, but for the first row that isn't spelled plainly, which is read twice.
+/// record. The bytes are gone through once. From a row on that is spelled as no writer does it they are read twice.
 ///
 /// ```
 /// let cycles = read(alloc, b"on,0,\nalong,1,-4000\ncut,0,\n")?;
@@ -70,7 +71,7 @@ pub fn read(alloc: Global, bytes: &[u8]) -> Result<Vec<CycleInput>, ReadRefused>
     reading.finish(&bytes[taken..])
 }
 
-// Takes a row, whatever its word is, that stands plainly in front of the bytes, and answers the bytes behind it.
+// Takes a row that isn't one of the two sensors that most rows are of, or isn't plain, and answers the bytes behind it.
 #[inline(never)]
 fn take_any<'a>(
     alloc: Global,
@@ -81,14 +82,19 @@ fn take_any<'a>(
     ensures none { IfOk result (λ o. o ≡ None → trace.new ≡ trace.old) }
     ensures refused { IfErr result (IsRowRefused trace.old bytes.now) }
 {
-    let Some((row, behind)) = any_row(bytes) else {
+    if let Some((row, behind)) = any_row(bytes) {
+        trace.take_row(alloc, row)?;
+        return Ok(Some(behind));
+    }
+    let Some(line) = line_in_front(bytes) else {
         return Ok(None);
     };
-    trace.take_row(alloc, row)?;
-    Ok(Some(behind))
+    trace.take_read(alloc, row_of_three(line.first, line.second, line.third))?;
+    Ok(Some(line.rest))
 }
 
-// The same. The two sensors that most rows are of are tried first, each with a code of its own.
+// Takes a row, and answers the bytes behind it. The two sensors that most rows are of are tried first, each with a code
+// of its own.
 #[inline(always)]
 fn take_next<'a>(
     alloc: Global,
@@ -110,58 +116,87 @@ fn take_next<'a>(
     take_any(alloc, trace, bytes)
 }
 
-// Takes the rows that stand plainly in front of the bytes, and answers the bytes that are left. `rows` counts.
-fn take_plain<'a>(
+// Takes a row in front of the bytes, or passes what is no row, and answers the bytes behind it.
+#[inline(always)]
+fn take_one<'a>(
     alloc: Global,
     trace: &mut Trace,
-    rows: &mut u32,
+    progress: &mut Progress,
+    bytes: &'a [u8],
+) -> Result<Option<&'a [u8]>, ReadRefused>
+    requires { progress.old.rows + length bytes.now < 2 ^ 32 }
+    ensures taken { IfOk result (λ o. IfSome o (λ rest.
+        LeadsTo bytes.now rest.now trace.old trace.new progress.old progress.new)) }
+    ensures count { IfOk result (λ o. IfSome o (λ rest. IsCounted bytes.now rest.now progress.old progress.new)) }
+    ensures none { IfOk result (λ o. o ≡ None → (trace.new ≡ trace.old) × (progress.new ≡ progress.old)) }
+    ensures refused { IfErr result (TellsOf bytes.now trace.old progress.old) }
+{
+    match take_next(alloc, trace, bytes) {
+        Ok(Some(behind)) => {
+            progress.rows += 1;
+            progress.begun = true;
+            Ok(Some(behind))
+        }
+        Ok(None) => {
+            let Some(behind) = behind_no_row(bytes, progress.begun) else {
+                return Ok(None);
+            };
+            progress.begun = true;
+            Ok(Some(behind))
+        }
+        Err(refused) => Err(at_row(progress.rows + 1, refused)),
+    }
+}
+
+// Takes the rows in front of the bytes, and answers the bytes that are left.
+fn take_lines<'a>(
+    alloc: Global,
+    trace: &mut Trace,
+    progress: &mut Progress,
     bytes: &'a [u8],
 ) -> Result<&'a [u8], ReadRefused>
-    requires { rows.old + length bytes.now < 2 ^ 32 }
-    ensures count { IfOk result (λ rest. rows.new + length rest.now ≤ rows.old + length bytes.now) }
-    ensures taken { IfOk result (λ rest. LeadsTo bytes.now rest.now trace.old trace.new rows.old rows.new) }
-    ensures refused { IfErr result (TellsOf bytes.now trace.old rows.old) }
+    requires { progress.old.rows + length bytes.now < 2 ^ 32 }
+    ensures count { IfOk result (λ rest. progress.new.rows + length rest.now ≤ progress.old.rows + length bytes.now) }
+    ensures taken { IfOk result (λ rest. LeadsTo bytes.now rest.now trace.old trace.new progress.old progress.new) }
+    ensures refused { IfErr result (TellsOf bytes.now trace.old progress.old) }
 {
     let mut rest = bytes;
     loop {
-        match take_next(alloc, trace, rest) {
-            Ok(Some(behind)) => {
-                *rows += 1;
-                rest = behind;
-            }
+        match take_one(alloc, trace, progress, rest) {
+            Ok(Some(behind)) => rest = behind,
             Ok(None) => return Ok(rest),
-            Err(refused) => return Err(at_row(*rows + 1, refused)),
+            Err(refused) => return Err(refused),
         }
     }
 }
 
-// Takes the records of a source one after the other, where so many rows were taken before.
+// Takes the records of a source one after the other, where so much was taken before.
 fn read_rest<R: Read + Drop>(
     alloc: Global,
     trace: Trace,
-    rows: u32,
+    progress: Progress,
     source: R,
 ) -> Result<Vec<CycleInput>, ReadRefused>
-    requires { (bytes : List ℕ) × (R.remaining source ≡ Some bytes) × (rows + length bytes ≤ largest_trace) }
-    ensures spelled { IfOk result (λ v. OfWhole (R.remaining source) trace rows (λ whole. Spell whole v.items)) }
-    ensures refused { IfErr result (λ e. OfWhole (R.remaining source) trace rows (λ whole. TellsRefusal whole e)) }
+    requires { (bytes : List ℕ) × (R.remaining source ≡ Some bytes) × (progress.rows + length bytes ≤ largest_trace) }
+    ensures spelled { IfOk result (λ v. OfWhole (R.remaining source) trace progress (λ whole. Spell whole v.items)) }
+    ensures refused { IfErr result (λ e. OfWhole (R.remaining source) trace progress (λ whole. TellsRefusal whole e)) }
 {
     let mut trace = trace;
     // A byte order mark is one at the front of a trace alone. A blank line is no record.
-    let front: &[u8] = if rows == 0 { b"" } else { b"\n" };
+    let front: &[u8] = if progress.begun { b"\n" } else { b"" };
     let mut reader = ReaderBuilder::new()
         .has_headers(false)
         .flexible(true)
         .from_reader(alloc, front.chain(source));
     let mut fields = ByteRecord::new(alloc);
-    for n in rows..u32::MAX {
+    for n in progress.rows..u32::MAX {
         match reader.read_byte_record(&mut fields) {
             Ok(true) => {}
             Ok(false) => return trace.end(n + 1),
             // A source that tells its bytes has no faults of its own, so what is left is want of memory.
             Err(_) => return Err(ReadRefused::OutOfMemory),
         }
-        if let Err(refused) = trace.take_record(alloc, &fields) {
+        if let Err(refused) = trace.take_read(alloc, row_of(&fields)) {
             return Err(at_row(n + 1, refused));
         }
     }

@@ -6,28 +6,29 @@ ghost use Rattle.edr_trace.specs.Told.{TellsRefusal};
 ghost use Rattle.edr_trace.specs.Given.{Given, TakesBytes, TellsOfMore};
 
 use crate::pieces::Pieces;
-use crate::steps::Trace;
-use crate::{ReadRefused, read_rest, take_plain};
+use crate::steps::{Progress, Trace};
+use crate::{ReadRefused, read_rest, take_lines};
 use edr_spell::CycleInput;
 use std::alloc::Global;
 use std::io::Read;
 
-/// The most bytes that `take_rows` leaves. A plain row has fewer.
+/// The most bytes that `take_rows` leaves. A row that is taken as it comes has fewer.
 pub const LONGEST_ROW: usize = 64;
 
 // How the bytes are read that come next.
 #[derive(Drop)]
 enum Way {
-    // Their rows are looked for as they come.
-    Plain,
-    // They are put behind these, which begin with what isn't a plain row, and csv reads them all at the end.
+    // Their rows are taken as they come.
+    Rows,
+    // They are put behind these, which begin with a row that wasn't taken, and csv reads them all at the end.
     Csv(Pieces),
     // Not at all.
     Refused(ReadRefused),
 }
 
-/// What was read so far of a trace whose bytes come one part after the other. Plain rows are taken as they come, and their bytes
-/// aren't kept; from the first other row on all bytes are kept up to the end. Behind a row with a fault no byte is kept.
+/// What was read so far of a trace whose bytes come one part after the other. Rows are taken as they come, and their
+/// bytes aren't kept. From a row on that is spelled as no writer does it all bytes are kept up to the end. After a row with
+/// a fault no byte is kept.
 ///
 /// ```
 /// let mut reading = TraceReading::new(alloc);
@@ -40,8 +41,7 @@ enum Way {
 pub struct TraceReading {
     alloc: Global,
     trace: Trace,
-    // How many rows were taken.
-    rows: u32,
+    progress: Progress,
     way: Way,
 }
 
@@ -53,8 +53,11 @@ impl TraceReading {
         TraceReading {
             alloc,
             trace: Trace::new(alloc),
-            rows: 0,
-            way: Way::Plain,
+            progress: Progress {
+                rows: 0,
+                begun: false,
+            },
+            way: Way::Rows,
         }
     }
 
@@ -84,14 +87,14 @@ impl TraceReading {
         ensures refused { IfErr result (TellsOfMore bytes.now self.old) }
     {
         match &mut self.way {
-            Way::Plain => {}
+            Way::Rows => {}
             Way::Csv(pieces) => {
                 pieces.push(bytes)?;
                 return Ok(bytes.len());
             }
             Way::Refused(_) => return Ok(bytes.len()),
         }
-        let left = take_plain(self.alloc, &mut self.trace, &mut self.rows, bytes)?;
+        let left = take_lines(self.alloc, &mut self.trace, &mut self.progress, bytes)?;
         if left.len() <= LONGEST_ROW {
             return Ok(bytes.len() - left.len());
         }
@@ -101,8 +104,8 @@ impl TraceReading {
         Ok(bytes.len())
     }
 
-    /// The cycles that all bytes spell, those that were taken and then these, or the first row that has a fault. Rows that aren't
-    /// plain, and those behind them, are read now.
+    /// The cycles that all bytes spell, those that were taken and then these, or the first row that has a fault. Rows
+    /// that weren't taken as they came are read now.
     pub fn finish(self, left: &[u8]) -> Result<Vec<CycleInput>, ReadRefused>
         requires { (before : List ℕ) × Given before self × (length before + length left.now ≤ largest_trace) }
         ensures spelled { IfOk result (λ v. (before : List ℕ) → Given before self
@@ -113,12 +116,12 @@ impl TraceReading {
         let TraceReading {
             alloc,
             trace,
-            rows,
+            progress,
             way,
         } = self;
         match way {
-            Way::Plain => read_rest(alloc, trace, rows, left),
-            Way::Csv(pieces) => read_rest(alloc, trace, rows, pieces.chain(left)),
+            Way::Rows => read_rest(alloc, trace, progress, left),
+            Way::Csv(pieces) => read_rest(alloc, trace, progress, pieces.chain(left)),
             Way::Refused(refused) => Err(refused),
         }
     }
