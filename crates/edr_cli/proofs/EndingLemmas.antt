@@ -60,7 +60,7 @@ when_ok k (Ok v) Q s old new q h ok = q
 when_ok k (Err f) Q s old new q h ok = absurd (not_ok f s ok h.answers)
 
 -- a write that fails is counted
-answered : (A R : Type 0) (s t : Status) → (s ≡ t) ⊎ (s ≡ status.WriteFault) → (s ≡ status.WriteFault → A × R) → ¬ R → s ≡ t
+pub answered : (A R : Type 0) (s t : Status) → (s ≡ t) ⊎ (s ≡ status.WriteFault) → (s ≡ status.WriteFault → A × R) → ¬ R → s ≡ t
 answered A R s t (inl is) part quiet = is
 answered A R s t (inr failed) part quiet = absurd (quiet (part failed).1)
 

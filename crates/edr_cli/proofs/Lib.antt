@@ -11,4 +11,7 @@ pub mod DispatchLemmas
 pub mod TakingLemmas
 pub mod MigrationLemmas
 pub mod DialogLemmas
+pub mod PieceLemmas
+pub mod AgreedLaws
+pub mod AuditedLemmas
 mod FaultVectors

@@ -93,6 +93,7 @@ number_of status.OutOfMemory = 9
 number_of status.TooLong = 10
 number_of status.OldImage = 11
 number_of status.Dialog = 12
+number_of status.Audit = 13
 number_of status.Fleet = 14
 
 -- ---- the fault of a call, from that of what it called

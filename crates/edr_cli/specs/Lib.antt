@@ -12,3 +12,5 @@ pub mod Outcomes
 pub mod Steps
 pub mod Dialogs
 pub mod Fleets
+pub mod Audits
+pub mod FirstLines

@@ -3,7 +3,7 @@ use Rattle.std.specs.Prelude.{◌≡◌, ℕ, Option, Some, None, List, ⊤}
 use Rattle.edr_image.specs.declared.Header.{Header}
 use Rattle.edr_words.specs.declared.Form.{Form}
 use Rattle.edr_words.specs.declared.Job.{Job}
-use Rattle.edr_words.specs.declared.Job.TheVariants.{Format, Replay, Report, Drive, Generate, Large, Migrate, Dialog, Fleet}
+use Rattle.edr_words.specs.declared.Job.TheVariants.{Format, Replay, Report, Drive, Generate, Large, Migrate, Dialog, Fleet, Audit}
 use Rattle.edr_words.specs.Jobs.{job_of}
 
 -- they ask for a new image with this header
@@ -34,6 +34,10 @@ AreMigrateWords words = job_of words ≡ Some Migrate
 abbrev pub AreDialogWords : List (List ℕ) → Type 0
 AreDialogWords words = job_of words ≡ Some Dialog
 
+-- they ask whether what the image holds, and a report, come from an earlier image and a trace
+abbrev pub AreAuditWords : List (List ℕ) → Type 0
+AreAuditWords words = job_of words ≡ Some Audit
+
 -- ---- other words
 
 -- the job, if there is one, is none that is served
@@ -52,9 +56,10 @@ abbrev pub IsWithoutSource : Option Job → Type 0
 IsWithoutSource (Some (Replay form)) = ⊥
 IsWithoutSource (Some Migrate) = ⊥
 IsWithoutSource (Some Dialog) = ⊥
+IsWithoutSource (Some Audit) = ⊥
 IsWithoutSource other = ⊤
 
--- they ask for nothing that reads a trace, an old image or requests
+-- they ask for nothing that reads a trace, an old image, requests or what is audited
 abbrev pub ReadNothing : List (List ℕ) → Type 0
 ReadNothing words = IsWithoutSource (job_of words)
 
@@ -65,6 +70,7 @@ IsWithoutMemory (Some (Replay form)) = ⊥
 IsWithoutMemory (Some (Report form)) = ⊥
 IsWithoutMemory (Some Migrate) = ⊥
 IsWithoutMemory (Some Dialog) = ⊥
+IsWithoutMemory (Some Audit) = ⊥
 IsWithoutMemory other = ⊤
 
 -- they ask for nothing that uses one

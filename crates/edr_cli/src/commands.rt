@@ -5,12 +5,14 @@ ghost use Rattle.edr_device.specs.Lent.{GoesOn};
 ghost use Rattle.edr_device.specs.Told.{Told};
 ghost use Rattle.edr_device.specs.Transfer.{GivesAtMost};
 ghost use Rattle.edr_spell.specs.Spell.{largest_trace};
+ghost use Rattle.edr_cli.specs.Audits.{ServesAudit};
 ghost use Rattle.edr_cli.specs.Causes.{IsUsageCause};
 ghost use Rattle.edr_cli.specs.Dialogs.{ServesDialog};
 ghost use Rattle.edr_cli.specs.Endings.{TellsCut, TellsWhole};
 ghost use Rattle.edr_cli.specs.Outcomes.{ServesFormat, ServesGenerate, ServesLarge, ServesMigrate, ServesReplay, ServesReport};
 ghost use Rattle.edr_cli.specs.Words.{AreOther, ReadNothing, UseNoMemory};
 
+use crate::audit::serve_audit;
 use crate::dialog::serve_dialog;
 use crate::endings::tell;
 use crate::fault::Fault;
@@ -25,14 +27,16 @@ use edr_device::{Nvm, Sink, Source};
 use edr_words::{Job, Words};
 use std::alloc::{AllocError as OutOfMemory, Global};
 
-/// Serves the words `format B C`, `replay [text|csv]`, `report [text|csv]`, `generate N M`, `large N M`, `migrate` and `dialog`.
+/// Serves the words `format B C`, `replay [text|csv]`, `report [text|csv]`, `generate N M`, `large N M`, `migrate`, `dialog` and
+/// `audit`.
 ///
 /// `replay` reads a trace from the source, runs its ignition cycles over the device, each up to its planned power cut, and
 /// writes what was acknowledged and every record that the device holds then. `report` writes the records that the device
 /// holds. `format` makes a new image on the device, and writes the line that tells of it. `generate` writes a trace that is
 /// made from a number, and `large` counts what its cycles come to over a memory of their own. `migrate` reads an image of
 /// version 1 from the source, and makes one on the device that holds the same records. `dialog` reads requests from the source,
-/// and writes the reply to each before it reads on. A fault writes its one line and nothing else, but for the replies of a dialog
+/// and writes the reply to each before it reads on. `audit` reads an image, a trace and a report from the source, and writes whether
+/// the report and what the device holds come from them. A fault writes its one line and nothing else, but for the replies of a dialog
 /// before it.
 pub fn command<S: Source, K: Sink, N: Nvm>(
     alloc: Global,
@@ -58,7 +62,8 @@ pub fn command<S: Source, K: Sink, N: Nvm>(
     ensures uses { UseNoMemory words.now → nvm.new ≡ nvm.old }
 
     // Each word by its status. With Ok the sink gained exactly its text, with another status exactly the line of a fault that has
-    // its cause, and where a write failed a part of either. Only `dialog` may have replies before that line, or Dialog without one.
+    // its cause, and where a write failed a part of either. Only `dialog` may have replies before that line, or Dialog without one,
+    // and only `audit` has Audit, with the line of a difference.
     //
     // `replay`: with Ok the report of a run of the cycles that the source spelled, from what the device told at first to what it
     // holds, with nothing pending. What holds of each run stands with it: each record is from its own window and cycle, and no
@@ -76,6 +81,9 @@ pub fn command<S: Source, K: Sink, N: Nvm>(
     ensures migrate { ServesMigrate S.Source K.Sink N.Nvm words.now result source.old source.new sink.old sink.new nvm.old nvm.new }
     // `dialog`: the replies to the bytes that were taken, over what the device holds, and its bytes stay.
     ensures dialog { ServesDialog S.Source K.Sink N.Nvm words.now result source.old source.new sink.old sink.new nvm.old nvm.new }
+    // `audit`: with Ok and with Audit the line of the verdict on the pieces that the source told and what the device told, whose bytes
+    // stay.
+    ensures audit { ServesAudit S.Source K.Sink N.Nvm words.now result source.old source.new sink.old sink.new nvm.old nvm.new }
 {
     let job = match words.job(alloc) {
         Ok(job) => job,
@@ -89,6 +97,7 @@ pub fn command<S: Source, K: Sink, N: Nvm>(
         Some(Job::Large { number, cycles }) => serve_large(alloc, sink, number, cycles),
         Some(Job::Migrate) => serve_migrate(alloc, source, sink, nvm),
         Some(Job::Dialog) => serve_dialog(alloc, source, sink, nvm),
+        Some(Job::Audit) => serve_audit(alloc, source, sink, nvm),
         Some(Job::Drive { .. } | Job::Fleet { .. }) | None => tell(sink, Fault::Usage),
     }
 }

@@ -2,6 +2,7 @@
 //! the records to the bytes that are printed, the memory afterwards, and the status that the program ends with.
 #![tactic(auto)]
 
+mod audit;
 mod commands;
 mod dialog;
 mod drives;
@@ -13,6 +14,7 @@ mod generate;
 mod large;
 pub mod laws;
 mod migrate;
+mod pieces;
 mod replay;
 mod report;
 mod status;

@@ -2,7 +2,8 @@
 ghost use Rattle.std.specs.Prelude.{◌≡◌};
 ghost use Rattle.edr_cli.specs.Faults.{number_of};
 
-/// How a call ends. All but `Ok`, `WriteFault` and `Dialog` write the line of their fault: alone, or after the replies of a dialog.
+/// How a call ends. All but `Ok`, `WriteFault`, `Dialog` and `Audit` write the line of their fault: alone, or after the replies of
+/// a dialog.
 #[derive(Clone, Copy, Debug, PartialEq, Eq)]
 pub enum Status {
     /// The source was read to its end, where the words ask for that, and the text was written whole.
@@ -29,12 +30,14 @@ pub enum Status {
     OldImage,
     /// A dialog refused a kind or a length, or its stream ended inside a frame. Its replies were written, and no line.
     Dialog,
+    /// An audit found a difference. Its line was written, which is no line of a fault.
+    Audit,
     /// The bytes of the source end inside a frame of a fleet.
     Fleet,
 }
 
 impl Status {
-    /// The exit status: 0 for `Ok`, and from 2 to 12 for those up to `Dialog` in order, and 14 for `Fleet`.
+    /// The exit status: 0 for `Ok`, and from 2 to 14 for the others in order.
     pub fn code(&self) -> u8
         ensures { result ≡ number_of self.now }
     {
@@ -51,6 +54,7 @@ impl Status {
             Status::TooLong => 10,
             Status::OldImage => 11,
             Status::Dialog => 12,
+            Status::Audit => 13,
             Status::Fleet => 14,
         }
     }

@@ -1,6 +1,7 @@
 //! Whole runs of the top call, over sources, sinks and memories in memory.
 ghost use Rattle.std.specs.Prelude.{◌<◌, ◌^◌, length};
 
+mod audits;
 mod cuts;
 mod dialogs;
 mod driven;
@@ -172,6 +173,7 @@ fn each_status_has_its_code(rt: HostRuntime) {
         (Status::TooLong, 10),
         (Status::OldImage, 11),
         (Status::Dialog, 12),
+        (Status::Audit, 13),
         (Status::Fleet, 14),
     ];
     for (status, code) in codes {

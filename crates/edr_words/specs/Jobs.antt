@@ -8,7 +8,7 @@ use Rattle.edr_image.specs.declared.places.TheConstants.{FEWEST_BANKS, MOST_BANK
 use Rattle.edr_words.specs.declared.Form.{Form}
 use Rattle.edr_words.specs.declared.Form.TheVariants.{Text, Table}
 use Rattle.edr_words.specs.declared.Job.{Job}
-use Rattle.edr_words.specs.declared.Job.TheVariants.{Format, Replay, Report, Drive, Generate, Large, Migrate, Dialog, Fleet}
+use Rattle.edr_words.specs.declared.Job.TheVariants.{Format, Replay, Report, Drive, Generate, Large, Migrate, Dialog, Fleet, Audit}
 use Rattle.edr_words.specs.Arguments.{PlainText, at_most_one, is_plain, one_or_two, two}
 
 -- ---- what a word stands for
@@ -113,6 +113,7 @@ job_after word arguments =
     else if bytes_eq word (codes "migrate") then bare_job Migrate arguments
     else if bytes_eq word (codes "dialog") then bare_job Dialog arguments
     else if bytes_eq word (codes "fleet") then fleet_job (at_most_one arguments)
+    else if bytes_eq word (codes "audit") then bare_job Audit arguments
     else None
 
 -- the job that a list of words names, if it names one; a word that begins with `-` is in no line of the table
@@ -131,3 +132,4 @@ IsWithin (Large number cycles) = (1 ≤ cycles) × (cycles ≤ 60)
 IsWithin Migrate = Unit {0}
 IsWithin Dialog = Unit {0}
 IsWithin (Fleet workers) = (1 ≤ workers) × (workers ≤ 8)
+IsWithin Audit = Unit {0}

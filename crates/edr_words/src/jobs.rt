@@ -30,6 +30,7 @@ pub(crate) fn job_after(
         "migrate" => Ok(bare_job(Job::Migrate, arguments)),
         "dialog" => Ok(bare_job(Job::Dialog, arguments)),
         "fleet" => fleet_job(alloc, arguments),
+        "audit" => Ok(bare_job(Job::Audit, arguments)),
         _ => Ok(None),
     }
 }
@@ -106,7 +107,7 @@ fn large_job(alloc: Global, arguments: &[String]) -> Result<Option<Job>, OutOfMe
     }
 }
 
-// `migrate` and `dialog`, which take no argument
+// `migrate`, `dialog` and `audit`, which take no argument
 fn bare_job(job: Job, arguments: &[String]) -> Option<Job>
     requires within { IsWithin job }
     ensures value { result ≡ bare_job job (map string_bytes arguments.now) }

@@ -38,4 +38,6 @@ pub enum Job {
     Dialog,
     /// `fleet W`: reports what many images hold, by so many workers, 1 to 8.
     Fleet { workers: u8 },
+    /// `audit`: says whether what the image holds, and a report, come from an earlier image and a trace.
+    Audit,
 }

@@ -9,6 +9,7 @@ use Rattle.edr_cli.specs.Outcomes.{Formats, MakesText, Runs, ShowsReport}
 use Rattle.edr_cli.specs.Words.{AreFormatWords, AreGenerateWords, AreLargeWords, AreReplayWords, AreReportWords}
 use Rattle.edr_cli.proofs.DispatchLemmas.{as_format, as_generate, as_large, as_replay, as_report}
 use Rattle.edr_cli.proofs.EndingLemmas.{ends_text, served_text, tells_fault, tells_fault_part}
+use Rattle.edr_cli.proofs.AuditedLemmas.{audits_short}
 use Rattle.edr_cli.proofs.OutcomeLemmas.{formats_short, makes_short, migrates_short, runs_short, shows_short, talks_short}
 use Rattle.edr_cli.proofs.commands.command.Goals as goal
 
@@ -34,6 +35,9 @@ returns-in-Err-clause-migrate g c = λ asked. migrates_short g.S.Source g.K.Sink
 
 pub returns-in-Err-clause-dialog : goal.returns-in-Err-clause-dialog
 returns-in-Err-clause-dialog g c = λ asked. talks_short g.S.Source g.K.Sink g.N.Nvm c.tell.result c.args.source.now c.args.sink.now c.tell.new.sink c.args.nvm.now c.tell.ensures.gains
+
+pub returns-in-Err-clause-audit : goal.returns-in-Err-clause-audit
+returns-in-Err-clause-audit g c = λ asked. audits_short g.S.Source g.K.Sink g.N.Nvm c.tell.result c.args.source.now c.args.sink.now c.tell.new.sink c.args.nvm.now c.tell.ensures.gains
 
 pub returns-in-Err-clause-generate : goal.returns-in-Err-clause-generate
 returns-in-Err-clause-generate g c = λ number cycles asked. makes_short g.K.Sink (λ text. text ≡ generated_trace number cycles) c.tell.result c.args.sink.now c.tell.new.sink c.tell.ensures.gains
