@@ -1,5 +1,5 @@
 -- What is audited has one first line, and so one way to be parted.
-use Rattle.std.proofs.Common.{◌≡◌, ◌≢◌, ◌∙◌, refl, sym, ap, subst, arith, ℕ, zero, ◌+◌, ◌-◌, ◌<◌, ◌≤◌, ◌^◌, Bool, true, false, nat_lt, nat_le, List, [], ◌∷◌, ◌++◌, length, take, drop, get_or, slice_index, nat_eq, suc, Option, Some, None, Result, Ok, Err, OnOk, IfSome, min, length-append, length-drop, append_assoc}
+use Rattle.std.proofs.Common.{◌≡◌, ◌≢◌, ◌∙◌, refl, sym, ap, subst, arith, ℕ, zero, ◌+◌, ◌-◌, ◌<◌, ◌≤◌, ◌^◌, Bool, true, false, nat_lt, nat_le, List, [], ◌∷◌, ◌++◌, length, take, drop, slice_index, nat_eq, suc, Option, Some, None, Result, Ok, Err, OnOk, IfSome, min, length-append, length-drop}
 use Rattle.std.specs.List.{position, position_or_len}
 use Rattle.std.proofs.lemmas.Bool.Decides.{nat_tests}
 use Rattle.std.proofs.lemmas.List.{get_or_append_left, get_or-append_right, get_or-take, length-take, drop_more, take-append-drop, take_min}
@@ -11,10 +11,10 @@ use Rattle.std.specs.Result.{result_ok}
 use Rattle.edr_device.specs.Device.{Shows}
 use Rattle.edr_spell.specs.Spell.{largest_trace}
 use Rattle.edr_text.specs.declared.NumberRefused.{NumberRefused}
-use Rattle.edr_text.specs.Numbers.{below, is_digit, is_numeral, natural_in, numeral, value_of}
+use Rattle.edr_text.specs.Numbers.{below, is_digit, is_numeral, natural_in, numeral}
 use Rattle.edr_text.proofs.NumberLemmas.{numeral-not}
 use Rattle.edr_text.proofs.ReadingLemmas.{below-numeral, below-spelled}
-use Rattle.edr_text.proofs.SpellingLemmas.{is_numeral-numeral, natural_in-numeral, natural_in-spelled}
+use Rattle.edr_text.proofs.SpellingLemmas.{is_numeral-numeral, natural_in-numeral}
 use Rattle.edr_cli.specs.Audits.{ArePieces, lengths_line}
 use Rattle.edr_cli.specs.FirstLines.{Lacks}
 

@@ -1,4 +1,4 @@
-use Rattle.std.proofs.Common.{◌≡◌, ◌∙◌, sym, ap₂, ◌∷◌, ◌++◌, List, ℕ}
+use Rattle.std.proofs.Common.{◌∙◌, sym, ap₂, ◌∷◌, ◌++◌, List, ℕ}
 use Rattle.edr_cli.proofs.PieceLemmas.{line_parts, no_line, read_none, read_some}
 use Rattle.edr_cli.proofs.pieces.lengths_in.Goals as goal
 

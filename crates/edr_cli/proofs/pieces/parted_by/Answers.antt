@@ -1,4 +1,4 @@
-use Rattle.std.proofs.Common.{◌≡◌, ◌∙◌, sym}
+use Rattle.std.proofs.Common.{◌∙◌, sym}
 use Rattle.edr_cli.proofs.PieceLemmas.{first_place, no_place, sliced_there}
 use Rattle.edr_cli.proofs.pieces.parted_by.Goals as goal
 

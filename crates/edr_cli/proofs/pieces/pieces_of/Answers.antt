@@ -1,4 +1,4 @@
-use Rattle.std.proofs.Common.{◌≡◌, ◌∙◌, arith, sym, ap, length, length-append}
+use Rattle.std.proofs.Common.{◌∙◌, arith, sym, ap, length, length-append}
 use Rattle.edr_cli.proofs.PieceLemmas.{line_numbers, pieces_feed, pieces_follow, pieces_line, pieces_small}
 use Rattle.edr_cli.proofs.pieces.pieces_of.Goals as goal
 
