@@ -1,0 +1,115 @@
+"""Drawn traces of short cycles with many events, for the auditor.
+
+A cycle has some hundred ticks and a few events. Rows of an axis stand at each tick, or only where the car is struck; slow sensors give
+a sample now and then, are silent, or have no row at all; the rows of a sensor may stand far after those of others. Restraints fire,
+pretensioners too, also twice and at one tick, and the values lie at the thresholds or far over them.
+"""
+import dataclasses
+
+AXES, SLOW = ("along", "across"), {"speed": 300, "throttle": 100, "brake": 1, "belt": 1, "lamp": 1}
+MOST_STOPS = 8
+# Steps of a tick: so few that 20 or 150 ticks meet a threshold or miss it, and many.
+SIZES = (400, 401, 533, 534, 540, 800, 1_600, 1_601, 3_000, 4_000, 5_000, 20_000, 80_000, 100_000)
+FIRINGS = (1, 2, 4, 8, 16, 32, 64, 64, 128, 128, 192, 65, 255)
+
+
+@dataclasses.dataclass
+class Strike:
+    """What happens to an axis from one tick to another."""
+
+    axis: str
+    first: int
+    last: int
+    size: int
+
+
+def strikes_of(ticks, draws):
+    """The strikes of a cycle, one after the other or over one another."""
+    tick, found = draws.randint(1, 60), []
+    while tick < ticks and draws.random() < 0.9:
+        size = draws.choice(SIZES) * draws.choice((1, -1))
+        lasts = max(1, min(200, draws.choice((90_000, 170_000)) // abs(size) + draws.randint(0, 12)))
+        found.append(Strike(draws.choice(AXES), tick, tick + lasts, size))
+        tick += draws.choice((0, lasts + draws.randint(10, 90), lasts + draws.randint(60, 400)))
+    return found
+
+
+def axis_rows(axis, ticks, strikes, draws):
+    """The rows of an axis: at each tick, or where it is struck and each 1,000 ticks; some are left out, and some are silent."""
+    every, lost, values = draws.random() < 0.3, draws.choice((0, 0, 0, 0.02)), {}
+    for strike in strikes:
+        if strike.axis == axis:
+            values.update((tick, strike.size) for tick in range(strike.first, min(strike.last, ticks) + 1))
+    wanted = range(1, ticks + 1) if every else sorted({*values, *range(500, ticks, 500), ticks})
+    for tick in wanted:
+        if tick == ticks or draws.random() >= lost:
+            value = values.get(tick, 0)
+            yield tick, "" if tick not in values and draws.random() < 0.05 else value
+
+
+def slow_rows(word, ticks, draws):
+    """The rows of a slow sensor: a sample each 100 ticks, fewer, or none but silent ones."""
+    most, step = SLOW[word], draws.choice((10, 100, 100, 100, 300, 1_000))
+    silent = draws.choice((0, 0, 0, 0.2, 1))
+    for tick in sorted({*range(step, ticks, step), *range(900, ticks, 900), ticks}):
+        yield tick, "" if draws.random() < silent else draws.choice((0, most, draws.randint(0, most)))
+
+
+def restraint_rows(ticks, strikes, draws):
+    """Restraints that fire in a strike, after it, or at any tick."""
+    fires = {}
+    for strike in strikes:
+        for _ in range(draws.choice((0, 0, 1, 1, 2, 3))):
+            fires[min(ticks, strike.first + draws.randint(0, 120))] = draws.choice(FIRINGS)
+    for _ in range(draws.choice((0, 0, 0, 1, 2))):
+        fires[draws.randint(1, ticks)] = draws.choice(FIRINGS)
+    return [(tick, fires.get(tick, "")) for tick in sorted({*fires, *range(1_000, ticks, 1_000), ticks})]
+
+
+def sensor_rows(ticks, draws):
+    """The rows of each sensor of a cycle, in their order; now and then one has none, or ends early."""
+    strikes = strikes_of(ticks, draws)
+    rows = {axis: list(axis_rows(axis, ticks, strikes, draws)) for axis in AXES}
+    rows.update((word, list(slow_rows(word, ticks, draws))) for word in SLOW)
+    rows["restraint"] = restraint_rows(ticks, strikes, draws)
+    if ticks <= 1_000 and draws.random() < 0.03:
+        rows[draws.choice(list(rows))] = []
+    if draws.random() < 0.1:
+        word, last = draws.choice(list(rows)), max(1, ticks - draws.randint(0, 300))
+        rows[word] = [row for row in rows[word] if row[0] <= last] or rows[word]
+    return rows
+
+
+def in_order(rows, draws):
+    """The rows of all sensors: by moment, by sensor, or some sensors later than others."""
+    late = {word: draws.choice((0, 0, 0, 40, 900)) if draws.random() < 0.3 else 0 for word in rows}
+    way = draws.random()
+    placed = [(word, tick, value) for word, some in rows.items() for tick, value in some]
+    if way > 0.1:
+        placed.sort(key=lambda row: row[1] + late[row[0]])
+    return [f"{word},{tick},{value}\n" for word, tick, value in placed]
+
+
+def drawn_cycle(draws, stops):
+    """A cycle, with a planned power cut where there may be one."""
+    if draws.random() < 0.12:
+        call = draws.randint(1, 6) if stops else draws.randint(1, 4)
+        return f"on,{call},\n"
+    ticks = draws.choice((draws.randint(1, 80), draws.randint(60, 400), draws.randint(60, 400), draws.randint(400, 1_500)))
+    cut = draws.choice((draws.randint(1, 12), draws.randint(1, 40), 4_294_967_295)) if stops and draws.random() < 0.4 else 0
+    return "".join(["on,0,\n", *in_order(sensor_rows(ticks, draws), draws), f"cut,{cut},\n"])
+
+
+def has_two_ends(cycle):
+    """Whether a cycle may have two ends."""
+    return cycle.startswith(("on,5,", "on,6,")) or cycle.startswith("on,0,") and not cycle.endswith("\ncut,0,\n")
+
+
+def drawn_cycles(draws, count, most_stops=MOST_STOPS):
+    """So many cycles, of which at most eight may have two ends."""
+    found, stops = [], draws.randint(0, most_stops)
+    for _ in range(count):
+        cycle = drawn_cycle(draws, stops > 0)
+        stops -= has_two_ends(cycle)
+        found.append(cycle)
+    return found
