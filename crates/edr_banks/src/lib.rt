@@ -41,7 +41,7 @@ pub enum ApplyFault {
 /// Why an image is not formatted.
 #[derive(Clone, Copy, Debug, PartialEq, Eq)]
 pub enum FormatFault {
-    /// The device has fewer bytes than an image of so many banks.
+    /// The device has fewer bytes than an image of that many banks.
     Short { size: u32, needed: u32 },
     /// The device has an image already.
     Formatted,

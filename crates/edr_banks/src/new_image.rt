@@ -37,7 +37,7 @@ impl Image for NewImage {
 }
 
 impl Banks {
-    /// Makes an image with so many void banks and the count 0. What the device has past it stays, and a device that has an
+    /// Makes an image with that many void banks and the count 0. What the device has past it stays, and a device that has an
     /// image already stays as it is.
     ///
     /// A crash inside the call leaves the bytes as they were, or without the magic, or the new image.

@@ -9,7 +9,7 @@ use crate::tasks::Task;
 use edr_device::{Failed, Nvm};
 use edr_gates::{fill, finish, lock, replace, replace_locked};
 
-/// Takes the steps of a task on a device that has so many banks. Where there is none, no call is made.
+/// Takes the steps of a task on a device that has that many banks. Where there is none, no call is made.
 pub(crate) fn take_on<N: Nvm>(nvm: &mut N, task: &Task, banks: u8) -> Result<(), Failed>
     requires few { banks ≤ MOST_BANKS }
     requires room { image_size banks ≤ N.extent nvm.old }

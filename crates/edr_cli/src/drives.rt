@@ -91,7 +91,7 @@ fn drive_source<
 /// caller's thread writes the records, so the device crosses no thread.
 ///
 /// What it writes, what the device then holds and what each status says are those of `replay`, whatever the schedule of the
-/// threads. Memory for the threads of a cycle is taken behind its start, so want of memory may leave that cycle counted. Each
+/// threads. Memory for the threads of a cycle is taken after its start, so want of memory may leave that cycle counted. Each
 /// worker calls the gate once for each item, before the item's first offer.
 ///
 /// And `fleet W`: reads frames of images from the source, and writes a line for each image and the totals, by W workers, 1 to 8.

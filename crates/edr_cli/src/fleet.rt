@@ -36,7 +36,7 @@ fn fleet_source<R: Threads + Sync, S: Source>(
     Ok(fleet(rt, alloc, &bytes, workers, &NoTurn)?)
 }
 
-/// Writes the report of the images whose frames the source gives, by so many workers.
+/// Writes the report of the images whose frames the source gives, by W workers.
 pub(crate) fn serve_fleet<R: Threads + Sync, S: Source, K: Sink>(
     rt: &R,
     alloc: Global,

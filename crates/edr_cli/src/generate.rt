@@ -6,7 +6,7 @@ use crate::status::Status;
 use edr_device::{Failed, Sink};
 use edr_gen::generate;
 
-/// Writes the trace of the number with so many cycles, piece by piece.
+/// Writes the trace of the number with that many cycles, piece by piece.
 pub(crate) fn serve_generate<K: Sink>(sink: &mut K, number: u64, cycles: u32) -> Status
     ensures gains { Gains K.Sink (generated_trace number cycles) Status.Ok result sink.old sink.new }
 {

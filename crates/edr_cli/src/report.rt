@@ -22,7 +22,7 @@ use edr_report::{table, text};
 use edr_words::Form;
 use std::alloc::{AllocError as OutOfMemory, Global};
 
-/// Opens the banks behind a barrier, so that nothing is pending.
+/// Opens the banks after a barrier, so that nothing is pending.
 pub(crate) fn open_settled<N: Nvm>(alloc: Global, nvm: &mut N) -> Result<Banks, Fault>
     ensures found { IfOk result (λ b. (image : List ℕ) → N.content nvm.old ≡ Some image
         → At N.Nvm (IsFound (view_when_opened b)) nvm.new image) }

@@ -1,4 +1,4 @@
-//! The crash part: 136 bytes, and those of 0 that its form has behind them.
+//! The crash part: 136 bytes, and those of 0 that its form has after them.
 
 ghost use Rattle.std.specs.Prelude.{◌≡◌, ◌+◌, ◌*◌, ◌^◌, ◌<◌, ◌≤◌, ◌++◌, None, Some, IfOk, IfErr, OnOk, All, length, take, max, slice_index, sum_by};
 ghost use Rattle.std.specs.List.{flat_map};
@@ -117,7 +117,7 @@ fn check_crash(bytes: &[u8], form: &CrashForm) -> Result<(), Damaged>
     check_rows(bytes, &crash_rows(u16::read_at(bytes, 0), form))
 }
 
-/// The crash part that the bytes spell in a form, or else the first byte with which they begin none.
+/// The crash part that the bytes spell in a form, or the first byte with which they begin none.
 pub fn read_crash_by(bytes: &[u8], form: &CrashForm) -> Result<Crash, Damaged>
     requires long { length bytes.now ≡ crash_size form.now }
     requires few { length bytes.now < 2 ^ 16 }
@@ -137,7 +137,7 @@ pub fn put_crash(crash: &Crash, out: &mut [u8; CRASH_SIZE])
     put_crash_by(crash, out, &VERSION_2.crash);
 }
 
-/// The crash part that the bytes spell. Else the answer is the first byte with which they begin none: an end of `00 13`,
+/// The crash part that the bytes spell. Otherwise the answer is the first byte with which they begin none: an end of `00 13`,
 /// say, which is 19 ms, is damaged at its second byte.
 pub fn read_crash(bytes: &[u8; CRASH_SIZE]) -> Result<Crash, Damaged>
     ensures read { IfOk result (λ c. c ≡ crash_at bytes.now 0) }

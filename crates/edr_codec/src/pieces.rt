@@ -7,7 +7,7 @@ ghost use Rattle.edr_image.specs.PartBytes.{number_at, numbers_at, unless, switc
 
 use byteorder::{BigEndian, ByteOrder};
 
-/// A value that stands in a part as a number of so many bytes.
+/// A value that stands in a part as a number of that many bytes.
 pub(crate) trait PartValue: Copy + Default {
     // How many bytes the number has.
     ghost size: { ℕ };
@@ -27,7 +27,7 @@ pub(crate) trait PartValue: Copy + Default {
         requires { at + size ≤ length bytes.now }
         ensures { result ≡ value_of (number_at bytes.now at size) };
 
-    /// Writes the value over the bytes that begin at a place. Of those behind it nothing is said: a part is written from
+    /// Writes the value over the bytes that begin at a place. Of those after it nothing is said: a part is written from
     /// its first byte to its last.
     fn put_at(self, out: &mut [u8], at: usize)
         requires { at + size ≤ length out.old }

@@ -1,5 +1,5 @@
 //! The pre part: twelve bytes, three lists with room for as many slots as its form says, of which its profile uses the first
-//! ones, two switches, and the bytes of 0 that its form has behind them.
+//! ones, two switches, and the bytes of 0 that its form has after them.
 
 ghost use Rattle.std.specs.Prelude.{◌≡◌, ◌+◌, ◌^◌, ◌<◌, ◌≤◌, ◌++◌, None, Some, IfOk, IfErr, OnOk, All, length, take, slice_index, sum_by, nat_eq, if◌then◌else◌};
 ghost use Rattle.std.specs.List.{flat_map};
@@ -236,7 +236,7 @@ fn check_pre(bytes: &[u8], form: &PreForm) -> Result<(), Damaged>
     check_rows(bytes, &pre_rows(bytes[8], bytes[9], form))
 }
 
-/// The pre part that the bytes spell in a form, or else the first byte with which they begin none.
+/// The pre part that the bytes spell in a form, or the first byte with which they begin none.
 pub fn read_pre_by(bytes: &[u8], form: &PreForm) -> Result<Pre, Damaged>
     requires form { IsPreForm form.now }
     requires slots { HasSlots form.now }
@@ -258,7 +258,7 @@ pub fn put_pre(pre: &Pre, out: &mut [u8; PRE_SIZE])
     put_pre_by(pre, out, &VERSION_2.pre);
 }
 
-/// The pre part that the bytes spell. Else the answer is the first byte with which they begin none: a speed of `01 2d`, say,
+/// The pre part that the bytes spell. Otherwise the answer is the first byte with which they begin none: a speed of `01 2d`, say,
 /// which is 301 km/h, is damaged at its second byte.
 pub fn read_pre(bytes: &[u8; PRE_SIZE]) -> Result<Pre, Damaged>
     ensures read { IfOk result (λ p. p ≡ pre_at bytes.now 0) }

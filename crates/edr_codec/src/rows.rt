@@ -116,7 +116,7 @@ fn damage_of_rows(bytes: &[u8], rows: &[FieldRow]) -> Option<usize>
     None
 }
 
-/// Whether bytes fit the rows, and else where they don't.
+/// Whether bytes fit the rows, and where they stop to fit.
 pub(crate) fn check_rows(bytes: &[u8], rows: &[FieldRow]) -> Result<(), Damaged>
     requires sizes { All (λ r. r.size ≤ 4) rows.now }
     requires room { sum_by row_size rows.now ≤ length bytes.now }

@@ -24,7 +24,7 @@ fn kind_of(command: &Command) -> Kind
     }
 }
 
-/// Where issued commands are committed: banks, and the log of what they acknowledged. What else a ledger does with a command is its
+/// Where issued commands are committed: banks, and the log of what they acknowledged. What a ledger does beside that is its
 /// own affair; it may also wait.
 pub trait Ledger {
     ghost use Rattle.edr_banks.specs.Opened.{OpenedBanks};
@@ -48,7 +48,7 @@ pub trait Ledger {
         ensures { result ≡ (log self.now).spare };
 }
 
-/// Banks and a log, and nothing else.
+/// Banks and a log alone.
 #[derive(Drop)]
 pub struct Books {
     pub banks: Banks,

@@ -12,16 +12,16 @@ pub const TRIGGER: u64 = 80_000;
 /// The greatest sum of the squares of two changes of speed that are quiet: their resultant is at most 0.8 km/h.
 pub const QUIET_SQUARES: u128 = 64_000_000;
 
-/// Within so many ticks a change along of more than [`OVER`] begins an event.
+/// Within this many ticks a change along of more than [`OVER`] begins an event.
 pub const ALONG_TICKS: usize = 20;
 
-/// Within so many ticks a change across of more than [`OVER`] begins one.
+/// Within this many ticks a change across of more than [`OVER`] begins one.
 pub const ACROSS_TICKS: usize = 5;
 
-/// Within so many ticks a change of at least [`TRIGGER`] makes a candidate an event.
+/// Within this many ticks a change of at least [`TRIGGER`] makes a candidate an event.
 pub const TRIGGER_TICKS: usize = 150;
 
-/// Over so many ticks the changes are quiet that end an event.
+/// Over this many ticks the changes are quiet that end an event.
 pub const QUIET_TICKS: usize = 20;
 
 /// How much older than the tick of its slot a sample may be, in ticks.

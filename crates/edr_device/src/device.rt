@@ -113,7 +113,7 @@ pub trait Nvm {
     ghost counts_now: { (device : Self) (t : ℕ) (image : List ℕ) → t ≤ clock device
         → MayLeave (content device) (settled device) image → since device t image };
 
-    /// Since the present moment nothing else counts.
+    /// Since the present moment nothing more counts.
     ghost only_now: { (device : Self) (image : List ℕ) → since device (clock device) image
         → MayLeave (content device) (settled device) image };
 

@@ -23,7 +23,7 @@ pub struct MemSink {
 impl MemSink {
     ghost use Rattle.edr_device.specs.SinkState.{new_sink, sink_state};
 
-    /// An empty sink with room for so many bytes. A call takes at most `piece` of them. The calls that are numbered in
+    /// An empty sink with room for that many bytes. A call takes at most `piece` of them. The calls that are numbered in
     /// `fails`, from 1, fail.
     pub fn new(
         alloc: Global,
@@ -62,7 +62,7 @@ impl Sink for MemSink {
 
     ghost faults_fit = { λ s. s.calls.faults_within };
 
-    /// It fails exactly where the call is numbered or no room is left, and else takes as many bytes as it may.
+    /// It fails exactly where the call is numbered or no room is left. Otherwise it takes as many bytes as it may.
     fn put(&mut self, piece: &[u8]) -> Result<usize, Failed>
         requires { 1 ≤ length piece.now }
         ensures some { IfOk result (λ n. 1 ≤ n) }

@@ -47,7 +47,7 @@ impl Source for MemSource {
 
     ghost faults_fit = { λ s. s.calls.faults_within };
 
-    /// It fails exactly where the call is numbered, and else gives as many bytes as it may.
+    /// It fails exactly where the call is numbered. Otherwise it gives as many bytes as it may.
     fn take(&mut self, into: &mut [u8]) -> Result<usize, Failed>
         requires { 1 ≤ length into.old }
         ensures within { IfOk result (λ n. n ≤ length into.old) }

@@ -42,7 +42,7 @@ impl From<AllocError> for TakeFault {
 // The most bytes that are asked for at once.
 const LONGEST_PIECE: usize = 65_536;
 
-/// How long a piece to ask a source for, where so many bytes are wanted in all: as many, or 65,536.
+/// How long a piece to ask a source for, where `wanted` bytes are wanted in all: as many, or 65,536.
 pub fn piece_len(wanted: usize) -> usize
     requires { 1 ≤ wanted }
     ensures value { result ≡ min wanted 65_536 }

@@ -79,7 +79,7 @@ pub const SPEED_LANE: ChartLane = ChartLane {
     room: 170,
 };
 
-/// The steps that its lines may have, of which there are at most so many, in km/h.
+/// The steps in km/h that its lines may have, at most [`SPEED_LINES`] of them.
 pub const SPEED_STEPS: [u32; 3] = [10, 20, 50];
 
 pub const LAST_SPEED_STEP: u32 = 100;

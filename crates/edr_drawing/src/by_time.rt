@@ -29,7 +29,7 @@ pub const SLOT_ROW: &[u8] =
     br#"<tr><th scope="row">{0}</th><td>{1}</td><td>{2}</td><td>{3}</td><td>{4}</td></tr>
 "#;
 
-/// A long profile stands in so many blocks beside each other.
+/// A long profile stands in this many blocks beside each other.
 pub const LONG_BLOCKS: u32 = 3;
 
 /// A kilometre and a mile, in millimetres.

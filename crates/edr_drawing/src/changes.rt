@@ -9,14 +9,14 @@ use crate::scales::{
 };
 use edr_record::{Crash, POINTS};
 
-/// The steps that the lines of a scale may have, of which both parts have at most so many, in km/h.
+/// The steps in km/h that the lines of a scale may have, of which both parts have at most [`CHANGE_LINES`].
 pub const CHANGE_STEPS: [u32; 7] = [5, 10, 20, 50, 100, 200, 500];
 
 pub const LAST_CHANGE_STEP: u32 = 1_000;
 
 pub const CHANGE_LINES: u32 = 8;
 
-/// The last time across where nothing is later, and else, in milliseconds.
+/// The last time across, in milliseconds, where nothing is later. Otherwise it is [`WHOLE_SPAN`].
 pub const EARLY_SPAN: u16 = 300;
 
 pub const WHOLE_SPAN: u16 = 500;

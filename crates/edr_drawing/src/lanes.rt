@@ -20,7 +20,7 @@ pub const GRID_LINE: &[u8] = br#"<path class="grid" d="M330 {0}L1830 {0}"/>
 /// How wide the field of a slot of a short profile is.
 pub const FIELD_WIDTH: u32 = 100;
 
-/// From so many slots on, the field of a run has room for its word.
+/// From this many slots on, the field of a run has room for its word.
 pub const ROOM_FOR_WORD: u32 = 10;
 
 /// A lane: where its 0 stands, how far above that its top stands, which value that is, the step between its lines, and how

@@ -15,7 +15,7 @@ pub const REASONS_START: &[u8] = br#"<div class="note why"><b>Not complete:</b>
 
 pub const LIST_END: &[u8] = b"</ul></div>\n";
 
-/// So many of so many slots are absent.
+/// Some slots are absent: how many of how many.
 pub const SPEED_ABSENT: &[u8] = b"<li>speed: {0} of {1} samples absent</li>\n";
 
 pub const THROTTLE_ABSENT: &[u8] = b"<li>throttle: {0} of {1} samples absent</li>\n";
@@ -28,7 +28,7 @@ pub const BELT: &[u8] = b"driver belt";
 
 pub const WARNING_LAMP: &[u8] = b"warning lamp";
 
-/// So many of so many milliseconds of the window have no sample.
+/// Some milliseconds of the window have no sample: how many of how many.
 pub const ALONG_ABSENT: &[u8] =
     b"<li>longitudinal acceleration: no sample in {0} of {1} ms, which count as no change of speed</li>\n";
 

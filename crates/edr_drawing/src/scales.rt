@@ -62,7 +62,7 @@ pub fn intervals(step: u32, value: u32) -> u32
     value.div_ceil(step)
 }
 
-/// The least of these steps with which both parts of a scale have at most `most` intervals, or else `last`.
+/// The least of these steps with which both parts of a scale have at most `most` intervals; `last` where there is none.
 pub fn least_step(steps: &[u32], last: u32, most: u32, up: u32, down: u32) -> u32
     requires steps { All (λ s. (1 ≤ s) × (s ≤ 1_000)) steps.now }
     requires last { (1 ≤ last) × (last ≤ 1_000) }

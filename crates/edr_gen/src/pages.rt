@@ -20,7 +20,7 @@ pub(crate) const ON_ROOM: usize = 6;
 /// As many bytes as the rows of one tick never exceed.
 pub(crate) const TICK_ROOM: usize = 180;
 
-/// As many ticks as always fit behind the row that begins a cycle.
+/// As many ticks as always fit after the row that begins a cycle.
 pub(crate) const TICKS_OF_PAGE: u32 = 360;
 
 // A row in three pieces: its word, its moment, and what follows them.
@@ -102,7 +102,7 @@ fn push_tick(page: &mut Page, plan: &Plan, tick: u32)
     push_restraint(page, moment, tick, plan.has_firing(tick));
 }
 
-/// Appends the rows of as many ticks as fit, from the one behind `from` on.
+/// Appends the rows of as many ticks as fit, from the one after `from` on.
 pub(crate) fn push_ticks(page: &mut Page, plan: &Plan, from: u32)
     requires room { array_string_len page.old ≤ ON_ROOM }
     requires ticks { from + TICKS_OF_PAGE < 2 ^ 32 }

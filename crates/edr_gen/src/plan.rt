@@ -26,7 +26,7 @@ const FIRING: u32 = 30;
 pub(crate) struct Impulse {
     /// It acts from the tick after this one on.
     pub(crate) start: u32,
-    /// For so many ticks.
+    /// For that many ticks.
     pub(crate) len: u32,
     pub(crate) along: i32,
     pub(crate) across: i32,

@@ -51,7 +51,7 @@ fn put_cycle<K: Sink>(sink: &mut K, plan: &Plan) -> Result<(), Failed>
     put_all(sink, page.as_str().as_bytes())
 }
 
-/// Writes the trace of the number with so many cycles, piece by piece. It takes no memory.
+/// Writes the trace of the number with that many cycles, piece by piece. It takes no memory.
 pub fn generate<K: Sink>(number: u64, cycles: u32, sink: &mut K) -> Result<(), Failed>
     ensures ok { OnOk result (Told (Appends (generated_trace number cycles)) (K.content sink.old) (K.content sink.new)) }
     ensures err { OnErr result (Told (AppendsPart (generated_trace number cycles)) (K.content sink.old) (K.content sink.new)) }

@@ -71,7 +71,7 @@ impl CrashForm {
 }
 
 impl Layout {
-    /// Where the crash part of a bank begins, behind its pre part.
+    /// Where the crash part of a bank begins, after its pre part.
     pub fn crash_place(&self) -> usize
         requires { crash_place self.now < 2 ^ 16 }
         ensures { result ≡ crash_place self.now }

@@ -62,7 +62,7 @@ pub const PRE_PART: usize = 16;
 /// How many bytes the pre part has.
 pub const PRE_SIZE: usize = 848;
 
-/// The crash part, behind the pre part.
+/// The crash part, after the pre part.
 pub const CRASH_PART: usize = 864;
 
 /// How many bytes the crash part has.

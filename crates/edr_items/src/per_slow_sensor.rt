@@ -35,7 +35,7 @@ impl<T: Copy> PerSlowSensor<T> {
 
 impl<T: Copy> PerSlowSensor<Option<T>> {
     #[tactic(auto, unfolding(crate::specs::PerSlowSensor::first_without))]
-    /// The values, if each sensor has one; else the first sensor, by its number, that has none.
+    /// The values, if each sensor has one; otherwise the first sensor, by its number, that has none.
     pub fn all(&self) -> Result<PerSlowSensor<T>, Sensor>
         ensures all { IfOk result (λ values. self.now ≡ map_slow_values Some values) }
         ensures missing { IfErr result (λ sensor. first_without self.now ≡ Some sensor) }

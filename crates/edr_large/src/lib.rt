@@ -16,7 +16,7 @@ pub use lines::text;
 use runs::{found_in, run_cycles};
 use std::alloc::{AllocError as OutOfMemory, Global};
 
-/// Runs the cycles of the number, so many of them, each to its end, and counts. The trace of the number is not written for it.
+/// Runs that many cycles of the number, each to its end, and counts. The trace of the number is not written for it.
 pub fn count(alloc: Global, number: u64, cycles: u32) -> Result<Counts, OutOfMemory>
     ensures { IfOk result (IsCounted number cycles) }
 {

@@ -4,7 +4,7 @@ ghost use Rattle.edr_large.specs.Rows.{items_in, most_items};
 
 use edr_items::{Feeds, SENSORS};
 
-/// How many rows spell a cycle with these feeds: one for each item, and one before and one behind them.
+/// How many rows spell a cycle with these feeds: one for each item, and one before and one after them.
 pub(crate) fn rows_of(feeds: &Feeds) -> u64
     requires { items_in feeds.now ≤ most_items }
     ensures { result ≡ items_in feeds.now + 2 }

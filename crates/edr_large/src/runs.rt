@@ -78,7 +78,7 @@ pub(crate) struct Run {
     pub(crate) rows: u64,
 }
 
-/// Runs the cycles of the number, so many of them, one after the other.
+/// Runs that many cycles of the number, one after the other.
 pub(crate) fn run_cycles(alloc: Global, number: u64, cycles: u32) -> Result<Run, OutOfMemory>
     ensures size { IfOk result (λ r. length r.image.items < 2 ^ 32) }
     ensures ran { IfOk result (λ r. HasCounted number cycles r.rows r.acks.items r.image.items) }

@@ -53,7 +53,7 @@ pub fn place_of(bank: u8) -> u32
     place_by(&VERSION_2, bank)
 }
 
-/// How many bytes an image with so many banks has.
+/// How many bytes an image with that many banks has.
 pub fn image_size(banks: u8) -> u32
     ensures { result ≡ image_size banks }
 {

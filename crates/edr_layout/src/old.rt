@@ -28,7 +28,7 @@ pub fn old_place_of(bank: u8) -> u32
     place_by(&VERSION_1, bank)
 }
 
-/// How many bytes an image of version 1 with so many banks has.
+/// How many bytes an image of version 1 with that many banks has.
 pub fn old_image_size(banks: u8) -> u32
     ensures { result ≡ old_image_size banks }
 {

@@ -23,7 +23,7 @@ pub struct ByteWrite {
     pub byte: u8,
 }
 
-/// A piece, where it is written, and the gate that is opened behind it.
+/// A piece, where it is written, and the gate that is opened after it.
 #[derive(Clone, Copy, Debug, PartialEq, Eq)]
 pub struct Gated<const SIZE: usize> {
     pub at: u32,

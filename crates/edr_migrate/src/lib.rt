@@ -40,7 +40,7 @@ pub enum MigrateFault {
     OldHeader(HeaderRefused),
     /// A bank of the old image is damaged, and none before it.
     OldBank { bank: u8, offset: u16, found: u8 },
-    /// The device has fewer bytes than an image of so many banks.
+    /// The device has fewer bytes than an image of that many banks.
     Short { size: u32, needed: u32 },
     /// The device has an image already.
     Formatted,

@@ -78,7 +78,7 @@ fn count_events(old: &[u8], banks: u8) -> Result<u8, OldRefused>
 }
 
 /// Reads an image of version 1: of several causes to refuse it the one that [`OldRefused`] has first, but that it is too
-/// short for its banks comes behind its header.
+/// short for its banks comes after its header.
 pub(crate) fn read_old(old: &[u8]) -> Result<OldImage, OldRefused>
     requires few { length old.now ≤ largest_old }
     ensures read { IfOk result (λ o. (o.bytes.now ≡ old.now) × IsOld o.header o.count o.bytes.now

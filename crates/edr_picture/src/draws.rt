@@ -80,7 +80,7 @@ fn write<K: Sink>(sink: &mut K, text: &[u8], status: PageStatus) -> PageStatus
 }
 
 /// Answers what was asked. A page is that of the report that the source gives: it is read to its end, and the last line on
-/// each sheet names the bytes by their digest. A fault writes its one line and nothing else.
+/// each sheet names the bytes by their digest. A fault writes its one line alone.
 pub fn draw<S: Source, K: Sink>(
     alloc: Global,
     asked: Asked,

@@ -105,7 +105,7 @@ fn is_decision(value: &[u8], decision: bool) -> bool
     }
 }
 
-/// The event with what this line shows, behind the lines before it, if it may show it: none of the banks found is its own.
+/// The event with what this line shows, after the lines before it, if it may show it: none of the banks found is its own.
 pub(crate) fn event_line(
     event: &PartEvent,
     block: u32,

@@ -15,7 +15,7 @@ pub(crate) fn is_word(bytes: &[u8], word: &[u8]) -> bool
     bytes == word
 }
 
-/// What stands behind these bytes, if they are in front.
+/// What stands after these bytes, if they are in front.
 pub(crate) fn behind<'a>(bytes: &'a [u8], front: &[u8]) -> Option<&'a [u8]>
     ensures read { IfSome result (λ rest. bytes.now ≡ front.now ++ rest.now) }
     ensures whole { (more : List ℕ) → bytes.now ≡ front.now ++ more → MatchOption result ⊥ (λ rest. rest.now ≡ more) }
@@ -40,7 +40,7 @@ fn digits_in_front(bytes: &[u8]) -> usize
     bytes.len()
 }
 
-/// The number in front of the bytes, and what stands behind it.
+/// The number in front of the bytes, and what stands after it.
 pub(crate) fn number_in_front(bytes: &[u8]) -> Option<(u32, &[u8])>
     ensures read { IfSome result (λ p. bytes.now ≡ decimal p.0 ++ p.1.now) }
     ensures whole { ReadsFront decimal (λ n. n < 2 ^ 32) bytes.now result }
@@ -52,7 +52,7 @@ pub(crate) fn number_in_front(bytes: &[u8]) -> Option<(u32, &[u8])>
     }
 }
 
-/// The number behind these bytes, and what stands behind it.
+/// The number after these bytes, and what stands after it.
 pub(crate) fn number_behind<'a>(bytes: &'a [u8], front: &[u8]) -> Option<(u32, &'a [u8])>
     ensures read { IfSome result (λ p. bytes.now ≡ front.now ++ (decimal p.0 ++ p.1.now)) }
     ensures whole { ReadsBehind front.now decimal (λ n. n < 2 ^ 32) bytes.now result }
@@ -75,7 +75,7 @@ pub(crate) fn one_number(bytes: &[u8], front: &[u8], back: &[u8]) -> Option<u32>
     }
 }
 
-/// The number behind these bytes, with nothing behind it.
+/// The number after these bytes, with nothing after it.
 pub(crate) fn last_number(bytes: &[u8], front: &[u8]) -> Option<u32>
     ensures read { IfSome result (λ n. bytes.now ≡ front.now ++ decimal n) }
     ensures whole { (n : ℕ) → n < 2 ^ 32 → bytes.now ≡ front.now ++ decimal n → result ≡ Some n }
@@ -118,7 +118,7 @@ pub(crate) fn last_within(bytes: &[u8], front: &[u8], low: u32, high: u32) -> Op
     }
 }
 
-/// The number behind these bytes, where it is `low` to `high`, and what stands behind it.
+/// The number after these bytes, where it is `low` to `high`, and what stands after it.
 pub(crate) fn within_behind<'a>(
     bytes: &'a [u8],
     front: &[u8],

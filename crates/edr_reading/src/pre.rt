@@ -196,7 +196,7 @@ fn with_brake(slots: &Slots, value: &[u8]) -> Option<Slots>
     }
 }
 
-/// What stood before time zero with what this line shows, behind the lines before it, if it may show it.
+/// What stood before time zero with what this line shows, after the lines before it, if it may show it.
 pub(crate) fn pre_line(pre: &PreSoFar, line: PreLine, value: &[u8]) -> Option<PreSoFar>
     requires { IsPre (pre_of pre.now) }
     ensures bounds { IfSome result (λ p. IsPre (pre_of p)) }

@@ -17,7 +17,7 @@ pub(crate) trait SlotRead {
 
     ghost is_slot: { Self → Type 0 };
 
-    /// The slot in front of the bytes, and what stands behind it.
+    /// The slot in front of the bytes, and what stands after it.
     fn in_front(bytes: &[u8]) -> Option<(Self, &[u8])>
         ensures read { IfSome result (λ p. (bytes.now ≡ words p.0 ++ p.1.now) × is_slot p.0) }
         ensures whole { ReadsFront words is_slot bytes.now result };

@@ -20,7 +20,7 @@ use edr_items::LATEST_MOMENT;
 use edr_record::{EARLIEST_END, Extreme, GREATEST_CHANGE, Place, Profile, RESET};
 use edr_report::LARGEST_SHOWN_COUNT;
 
-/// The number of a bank behind these bytes.
+/// The number of a bank after these bytes.
 pub(crate) fn bank_behind(bytes: &[u8], front: &[u8]) -> Option<u8>
     ensures read { IfSome result (λ b. (bytes.now ≡ front.now ++ decimal b) × IsBank b) }
     ensures whole { (b : ℕ) → IsBank b → bytes.now ≡ front.now ++ decimal b → result ≡ Some b }
@@ -145,7 +145,7 @@ fn positive_in_front(bytes: &[u8]) -> Option<(i16, &[u8])>
     }
 }
 
-/// The change of speed in front of the bytes, and what stands behind it.
+/// The change of speed in front of the bytes, and what stands after it.
 pub(crate) fn change_in_front(bytes: &[u8]) -> Option<(i16, &[u8])>
     ensures read { IfSome result (λ p. (bytes.now ≡ signed_decimal p.0 ++ p.1.now) × IsChange p.0) }
     ensures whole { ReadsFront signed_decimal IsChange bytes.now result }

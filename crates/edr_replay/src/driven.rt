@@ -1,5 +1,5 @@
 //! The same cycles by threads. What a thread rests on may not be a bound that is known inside an `impl` alone, so no trait can stand over
-//! both ways: the loop and the call that runs the commands are written here once more, and nothing else is.
+//! both ways: only the loop and the call that runs the commands are written here once more.
 
 ghost use Rattle.std.specs.Prelude.{◌≤◌, All};
 ghost use Rattle.edr_spell.specs.Spell.{IsCycleInput as IsSpelled};
@@ -53,10 +53,10 @@ fn drive_one<
     }
 }
 
-/// Runs the cycles in order, each by so many workers, 1 to 8, and tells of each. Nothing is to be pending on the device.
+/// Runs the cycles in order, each by 1 to 8 workers, and tells of each. Nothing is to be pending on the device.
 ///
 /// What is told and what is left are those of `replay`, whatever the schedule of the threads. Each worker calls the gate before an
-/// item's first offer. Memory for the threads of a cycle is taken behind its start, so want of it may leave that cycle counted.
+/// item's first offer. Memory for the threads of a cycle is taken after its start, so want of it may leave that cycle counted.
 pub fn replay_driven<
     R: Threads + Wait + Copy + Send + 'static,
     G: Gate + Drop + Send + Sync + 'static,

@@ -44,7 +44,7 @@ pub(crate) fn was_cut<N: Nvm>(fuse: Fused<'_, N>) -> bool
     spent & !broken
 }
 
-/// Starts a cycle for so many ticks, up to the planned changing call; 0 plans none.
+/// Starts a cycle for that many ticks, up to the planned changing call; 0 plans none.
 pub(crate) fn start_until<N: Nvm>(
     alloc: Global,
     nvm: &mut N,

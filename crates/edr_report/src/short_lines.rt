@@ -66,7 +66,7 @@ pub fn push_signed(line: &mut Room, words: &str, z: i32)
     line.push_str(buffer.format(z));
 }
 
-/// Appends that an image has so many bytes, and how many it needs.
+/// Appends how many bytes an image has, and how many it needs.
 pub fn push_short(line: &mut Room, size: u32, needed: u32)
     requires { array_string_len line.old ≤ 50 }
     ensures bytes { line.new.bytes ≡ line.old.bytes ++ short_words size needed }

@@ -9,7 +9,7 @@ use edr_image::Applied;
 use edr_record::{Extreme, POINTS, Place, Profile, point_count};
 use std::alloc::AllocError as OutOfMemory;
 
-/// What stands in a line of a report behind its name.
+/// What stands in a line of a report after its name.
 #[derive(Clone, Copy)]
 pub enum Value<'a> {
     /// A start was stopped in this changing call.

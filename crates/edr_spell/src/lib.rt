@@ -23,7 +23,7 @@ pub struct CycleInput {
     pub start_stop: u32,
     /// What the sensors gave. No sensor lags.
     pub feeds: Feeds,
-    /// The changing call of the cycle's commands in which the power stops, counted from 1; 0 where it goes off behind
+    /// The changing call of the cycle's commands in which the power stops, counted from 1; 0 where it goes off after
     /// them.
     pub stop: u32,
 }
@@ -104,7 +104,7 @@ pub enum TraceFault {
     Range { low: i32, high: i32 },
     /// The moment is more than 1,000 past the sensor's last one.
     Gap { last: u32 },
-    /// The cycle ends where this sensor lags: its last moment is more than 1,000 behind another's. Of several the
+    /// The cycle ends where this sensor lags: its last moment is more than 1,000 before another's. Of several the
     /// lowest-numbered is told.
     Skew { sensor: Sensor },
     /// The trace ends inside a cycle. The row is the missing one.

@@ -1,4 +1,4 @@
-//! Commands that make no read: the device fails each read behind the opening.
+//! Commands that make no read: the device fails each read after the opening.
 ghost use Rattle.std.specs.Prelude.{◌≡◌, ◌≤◌, ◌<◌, ◌^◌, IfOk, length};
 ghost use Rattle.edr_device.specs.Memory.{memory_image};
 ghost use Rattle.edr_image.specs.Image.{image_size};

@@ -1,4 +1,4 @@
-//! The power goes off behind each cycle. Where nothing is pending no clause can tell, so a device that counts it does.
+//! The power goes off after each cycle. Where nothing is pending no clause can tell, so a device that counts it does.
 
 use crate::runs::{fired, formatted, stopped};
 use edr_device::{Failed, Nvm};

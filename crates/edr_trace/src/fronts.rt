@@ -191,7 +191,7 @@ fn sample_in_front(sensor: Sensor, bytes: &[u8]) -> Option<(Row, &[u8])>
     Some((sample_row(sensor, moment, value), rest))
 }
 
-/// The row of the sensor `along` in front of the bytes and the bytes behind it, if it is spelled without quotes.
+/// The row of the sensor `along` in front of the bytes and the bytes after it, if it is spelled without quotes.
 #[inline(always)]
 pub(crate) fn along_row(bytes: &[u8]) -> Option<(Row, &[u8])>
     ensures { IfSome result (λ p. IsRowIn p.0 bytes.now p.1.now) }
@@ -264,7 +264,7 @@ fn bare_first(bytes: &[u8]) -> Option<u8>
     Some(bytes[0])
 }
 
-/// The three fields of a line, and what stands behind the line.
+/// The three fields of a line, and what stands after the line.
 #[derive(Clone, Copy, Debug)]
 pub(crate) struct Line<'a> {
     pub first: &'a [u8],
@@ -292,7 +292,7 @@ pub(crate) fn line_in_front(bytes: &[u8]) -> Option<Line<'_>>
     })
 }
 
-/// What stands behind a byte of a blank line in front, or behind a byte order mark that no byte was taken before.
+/// What stands after a byte of a blank line in front, or after a byte order mark that no byte was taken before.
 pub(crate) fn behind_no_row(bytes: &[u8], begun: bool) -> Option<&[u8]>
     ensures { IfSome result (λ rest. IsPassed begun bytes.now rest.now) }
 {

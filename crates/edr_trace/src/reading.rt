@@ -62,7 +62,7 @@ impl TraceReading {
     }
 
     /// Takes the rows in front of these bytes, and answers how many bytes it took. What it leaves, at most 64 bytes, is to be given
-    /// again in front of the bytes that follow. A fault is told by `finish` alone, and all bytes behind it are taken.
+    /// again in front of the bytes that follow. `finish` alone tells a fault, and all bytes after it are taken.
     pub fn take_rows(&mut self, bytes: &[u8]) -> usize
         requires { (before : List ℕ) × Given before self.old × (length before + length bytes.now < 2 ^ 32) }
         ensures within { result ≤ length bytes.now }

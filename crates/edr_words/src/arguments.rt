@@ -1,4 +1,4 @@
-//! The arguments behind a word of a command line, told apart by `clap`.
+//! The arguments after a word of a command line, told apart by `clap`.
 ghost use Rattle.std.specs.Prelude.{◌≡◌, ◌≢◌, true, [], None, option_map, string_bytes, IfOk, IfSome};
 ghost use Rattle.std.specs.List.{list_all};
 ghost use Rattle.clap.specs.Faults.{fault_of, is_simple_and_free};

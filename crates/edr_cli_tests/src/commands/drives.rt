@@ -2,7 +2,7 @@
 
 use std::alloc::{AllocError, Global};
 
-/// An ignition cycle of so many ticks, in which the car may be struck from the front at 26.001 s, for 100 ms; restraints fire at
+/// An ignition cycle of that many ticks, in which the car may be struck from the front at 26.001 s, for 100 ms; restraints fire at
 /// some ticks; and the power is cut in the changing call `stop` of its commands, or at the end.
 #[derive(Clone, Copy)]
 pub(crate) struct Drive<'a> {

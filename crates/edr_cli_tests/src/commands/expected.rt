@@ -143,7 +143,7 @@ pub(crate) fn changed(
     Ok(out)
 }
 
-/// These texts, one behind the other.
+/// These texts, one after the other.
 pub(crate) fn joined(alloc: Global, texts: &[&str]) -> Result<String, AllocError> {
     let mut out = String::new(alloc);
     for text in texts {
