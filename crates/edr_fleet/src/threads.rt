@@ -41,8 +41,8 @@ fn joined(alloc: Global, parts: &[Result<FleetPart, OutOfMemory>]) -> Result<Fle
 }
 
 /// The report of [`fleet_alone`](crate::fleet_alone), by up to eight workers. Each of them has images that follow one another, and
-/// a thread; where no thread can be started for it, the caller does its work. The call waits for its threads: it promises what
-/// it does if it returns.
+/// a thread; where no thread can be started for it, the caller does its work. The call returns once its threads have ended, and
+/// each of them ends.
 pub fn fleet<R: Threads + Sync, P: Turn + Sync>(
     rt: &R,
     alloc: Global,
