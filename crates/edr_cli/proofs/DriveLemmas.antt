@@ -1,6 +1,6 @@
 -- What the parts of a run by threads say of the whole.
 use Rattle.std.proofs.Common.{◌≡◌, refl, inl, inr, ℕ, ◌+◌, ◌≤◌, List, length, Option, Some, None, IfSome}
-use Rattle.edr_device.specs.Device.{StillTells, IsQuiet}
+use Rattle.edr_device.specs.Device.{StillTells}
 use Rattle.edr_device.specs.Faults.{Rose}
 use Rattle.edr_image.specs.declared.OpenFault.TheVariants as open_fault
 use Rattle.edr_image.specs.Banks.{Store}

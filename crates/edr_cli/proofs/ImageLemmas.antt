@@ -1,6 +1,6 @@
 -- What is said of an image that is opened.
 use Rattle.std.proofs.Common.{◌≡◌, ◌≢◌, refl, subst, ap, ℕ, inl, List, [], length, slice_index, Option, Some, None, IfSome, Result, Ok, Err, IfOk, IfErr}
-use Rattle.edr_device.specs.Device.{IsQuiet, StillTells}
+use Rattle.edr_device.specs.Device.{StillTells}
 use Rattle.edr_image.specs.declared.Header.{Header}
 use Rattle.edr_image.specs.declared.OpenFault.{OpenFault}
 use Rattle.edr_image.specs.Banks.{Store}

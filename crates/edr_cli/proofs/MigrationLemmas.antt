@@ -1,6 +1,5 @@
 -- What is said of an old image that a source gave.
 use Rattle.std.proofs.Common.{arith, ◌≡◌, ◌≢◌, ◌∙◌, refl, sym, subst, ap, ◌≤◌, ◌<◌, ℕ, List, length, Option, Some, None, IfSome, IsSome}
-use Rattle.edr_device.specs.Device.{StillTells}
 use Rattle.edr_device.specs.Faults.{Rose}
 use Rattle.edr_device.specs.Told.{Told}
 use Rattle.edr_device.specs.Transfer.{GivesAll, GivesTooMany}
@@ -18,7 +17,7 @@ use Rattle.edr_cli.specs.declared.fault.Fault.{Fault}
 use Rattle.edr_cli.specs.declared.fault.Fault.TheVariants as fault
 use Rattle.edr_cli.specs.Causes.{Gave, IsMigrateCause, IsTakingCause}
 use Rattle.edr_cli.specs.Faults.{fault_of_migrate, fault_of_take}
-use Rattle.edr_cli.specs.Migrations.{CanMigrate, FitsInto, IsOldRefused, NeedsBytes}
+use Rattle.edr_cli.specs.Migrations.{CanMigrate, IsOldRefused, NeedsBytes}
 use Rattle.edr_cli.specs.Outside.{Input, IsAtEnd, Memory}
 use Rattle.edr_cli.specs.Reports.{HasMagic}
 use Rattle.edr_cli.proofs.ImageLemmas.{same_view, told_is}

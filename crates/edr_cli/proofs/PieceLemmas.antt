@@ -88,10 +88,13 @@ no_place c xs none k below = test_false (slice_index xs k) c (fails_before_first
 -- it stands there, and not before
 pub first_place : (c : ℕ) (xs : List ℕ) (i : ℕ) → position (λ b. nat_eq b c) xs ≡ Some i → (i < length xs) × (slice_index xs i ≡ c) × Lacks c (take i xs)
 first_place c xs i is =
-    let p = position-Some (λ b. nat_eq b c) xs i 0 is in
-    (p.0, test_true (slice_index xs i) c p.1, λ k below same.
-      let early : k < i = omega (arith, below, length-take i xs) in
-      test_false (slice_index xs k) c (p.2 k early) (sym (get_or-take i xs k 0 early) ∙ same))
+    let p = position-Some (λ b. nat_eq b c) xs i 0 is in (
+      p.0,
+      test_true (slice_index xs i) c p.1,
+      λ k below same.
+          let early : k < i = omega (arith, below, length-take i xs) in
+          test_false (slice_index xs k) c (p.2 k early) (sym (get_or-take i xs k 0 early) ∙ same),
+    )
 
 -- ---- the first line
 

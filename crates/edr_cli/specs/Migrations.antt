@@ -1,5 +1,5 @@
 -- What an old image that the source gave comes to.
-use Rattle.std.specs.Prelude.{◌≡◌, ◌⊎◌, ◌≤◌, ℕ, Some, List, length, IfSome}
+use Rattle.std.specs.Prelude.{◌≡◌, ◌⊎◌, ◌≤◌, ℕ, Some, List, length}
 use Rattle.edr_device.specs.Device.{IsQuiet}
 use Rattle.edr_image.specs.declared.OldRefused.{OldRefused}
 use Rattle.edr_image.specs.Image.{View, image_size, old_refusal}

@@ -1,5 +1,5 @@
 -- What an image says, the report of it, and what a new one is.
-use Rattle.std.specs.Prelude.{◌≡◌, ℕ, [], List, Some, None, IfSome}
+use Rattle.std.specs.Prelude.{◌≡◌, ℕ, [], List, None, IfSome}
 use Rattle.edr_image.specs.declared.Header.{Header}
 use Rattle.edr_image.specs.Banks.{Store}
 use Rattle.edr_image.specs.Image.{not_magic}

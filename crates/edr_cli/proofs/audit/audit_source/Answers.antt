@@ -37,11 +37,14 @@ returns-clause-says g c =
     let p = c.in-Some.pieces in
     let few : length items ≤ largest_trace = omega (arith, c.in_ok-bytes.ensures.within, c.in_ok-bytes.bytes.ok.0) in
     let gave = gave_all items (left c.args.source.now) (left c.take_all.new.source) c.in_ok-bytes.ensures.all in
-    of_given (λ (bytes : List ℕ). (length bytes ≤ largest_trace) × JudgesPieces bytes content v) (left c.args.source.now) items gave.0 (few, record {
-      before = p.before.now;
-      trace = p.trace.now;
-      report = p.report.now;
-      pieces = subst (λ (bytes : List ℕ). ArePieces bytes p.before.now p.trace.now p.report.now) c.deref.ensures.value c.in-Some.ensures.some;
-      verdict = verdict_on_first p.before.now p.trace.now c.in_ok-after.after.items p.report.now content v c.in_ok-after.ensures.bytes
-          (subst (λ (after : List ℕ). IsVerdict p.before.now p.trace.now after p.report.now v) c.deref-2.ensures.value c.in_ok-verdict.ensures.says);
-    })
+    of_given (λ (bytes : List ℕ). (length bytes ≤ largest_trace) × JudgesPieces bytes content v) (left c.args.source.now) items gave.0 (
+      few,
+      record {
+        before = p.before.now;
+        trace = p.trace.now;
+        report = p.report.now;
+        pieces = subst (λ (bytes : List ℕ). ArePieces bytes p.before.now p.trace.now p.report.now) c.deref.ensures.value c.in-Some.ensures.some;
+        verdict = verdict_on_first p.before.now p.trace.now c.in_ok-after.after.items p.report.now content v c.in_ok-after.ensures.bytes
+            (subst (λ (after : List ℕ). IsVerdict p.before.now p.trace.now after p.report.now v) c.deref-2.ensures.value c.in_ok-verdict.ensures.says);
+      },
+    )

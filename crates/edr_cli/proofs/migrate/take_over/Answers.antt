@@ -1,4 +1,4 @@
-use Rattle.std.proofs.Common.{◌≡◌, ◌∙◌, ap, sym, inl, inr, List, ℕ}
+use Rattle.std.proofs.Common.{◌∙◌, ap, inl, inr, List, ℕ}
 use Rattle.std.proofs.lemmas.Result.{err_from_is_err_and}
 use Rattle.std.specs.Result.{is_err}
 use Rattle.edr_device.proofs.SettlingLemmas.{quiet_leaves, stays_quiet}
