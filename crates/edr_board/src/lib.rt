@@ -8,8 +8,8 @@
 //! it has kept. While an ask is open, each mark has reached its zero, and no sensor keeps an item that is more than 1 s past
 //! it. Neither what is granted nor a mark ever falls.
 //!
-//! Posts and reads wait for nobody; [`Watch::wait_gate`] and [`Watch::sleep_at`] alone wait. Both sleep in the system until
-//! they are woken.
+//! Posts and reads wait for nobody; [`Watch::wait_gate`], [`Watch::sleep_at`] and [`Watch::rest`] alone wait. The first two
+//! sleep in the system until they are woken, the third until a [`Bell`] rings, or a millisecond.
 #![tactic(auto)]
 
 ghost use Rattle.std.specs.Prelude.{◌≡◌, ◌≢◌, ◌<◌, List};
@@ -24,6 +24,7 @@ ghost use Rattle.edr_board.specs.FreezeRule.{FreezeMoment, IsFreeze, freeze_open
 ghost use Rattle.edr_board.specs.FreezeSteps.{FreezeLeads, KeepsTheFreeze};
 ghost use Rattle.edr_board.specs.FreezeSeats.{place_of};
 
+mod bells;
 mod freeze_rule;
 mod freeze_seats;
 mod freeze_view;
@@ -32,6 +33,7 @@ mod seats;
 mod status;
 mod view;
 
+pub use crate::bells::Bell;
 pub use crate::freeze_seats::{Asker, FIRST_GRANT, Freeze, FreezeOpened, Keeper, Keepers};
 pub use crate::seats::{Board, CommitterSeat, Opened, RecorderSeat, Watch};
 pub use crate::status::BoardStatus;

@@ -16,10 +16,13 @@ use crate::fast_inlets::{FastInlets, FastMarks, FastSensor};
 use crate::held::Held;
 use crate::orders::Outbox;
 use crate::part_inlets::{self, PartInlets};
-use edr_board::{Asker, FIRST_GRANT, RecorderSeat, Watch};
+use edr_board::{Asker, Bell, FIRST_GRANT, RecorderSeat, Watch};
 use edr_capture::Part;
 use edr_core::{Issued, SplitClosing, SplitCore};
 use edr_items::{Item, LATEST_MOMENT, LONGEST_GAP, Sensor};
+
+// Half of the longest gap.
+const STRIDE: u32 = LONGEST_GAP / 2;
 
 /// What the recorder's thread owns, and hands back at its join.
 #[derive(Drop)]
@@ -162,6 +165,14 @@ impl Desk {
         give(&mut self.core, sensor, item)
     }
 
+    // Wakes the workers of slow sensors each time that another half of a gap is granted. They are then awake before the recorder has to
+    // wait for their marks.
+    fn tell_grant(&self, upto: u32) {
+        if self.granted / STRIDE < upto / STRIDE {
+            self.watch.ring(Bell::Grants);
+        }
+    }
+
     // Grants what the slow sensors may keep, where that has risen: as far ahead of the closed tick as a gap may be, up to a day.
     pub(crate) fn grant(&mut self)
         requires { IsRecording self.old }
@@ -177,6 +188,7 @@ impl Desk {
             .min(LATEST_MOMENT);
         if self.granted < upto {
             self.asker.grant(upto);
+            self.tell_grant(upto);
             self.granted = upto;
         }
     }

@@ -1,17 +1,17 @@
 //! The turns of the desk of `desk.rt`: what one step does for one sensor is done for all, again and again. It stands apart, since
 //! each turn is made of the steps there.
 
-ghost use Rattle.std.specs.Prelude.{◌≡◌, ◌≤◌, [], true};
+ghost use Rattle.std.specs.Prelude.{◌≡◌, ◌≤◌, ◌+◌, [], true};
 ghost use Rattle.edr_loops.specs.Held.{issues_held};
 ghost use Rattle.edr_loops.specs.Desks.{HasEnded, HasPosted, IsDone, IsRecording, Later, LaterUpTo, SeatStays};
 
 use crate::desk::Desk;
 use crate::fast_inlets::{FastMarks, FastSensor};
+use edr_board::Bell;
 use edr_core::Issued;
 use edr_items::{LATEST_MOMENT, LONGEST_GAP, SENSORS};
 use edr_seats::SLOTS;
 use std::sync::Wait;
-use std::thread;
 
 impl Desk {
     // Takes what there is of that sensor and may be taken, at most as many items as a ring has room for.
@@ -133,6 +133,13 @@ impl Desk {
         }
     }
 
+    // Wakes workers that wait for room, where items were taken.
+    fn tell_room(&self, taken: bool) {
+        if taken {
+            self.watch.ring(Bell::Room);
+        }
+    }
+
     // Takes items, marks and parts, and closes ticks.
     fn advance(&mut self, horizon: u32) -> bool
         requires { IsRecording self.old }
@@ -142,6 +149,7 @@ impl Desk {
     {
         self.grant();
         let items = self.take_fast();
+        self.tell_room(items);
         let marks = self.load_marks();
         let parts = self.take_parts();
         let ticks = self.close_some(horizon);
@@ -162,7 +170,8 @@ impl Desk {
         }
         self.post_closed();
         self.wake(sends, horizon);
-        self.advance(horizon)
+        let moved = self.advance(horizon);
+        sends | moved
     }
 
     // Whether all is done: each item of the fast sensors is taken, the horizon is closed, and what the slow sensors may still keep past it
@@ -176,6 +185,27 @@ impl Desk {
         self.posted >= horizon && self.granted >= upto && self.last == ends
     }
 
+    // Wakes all workers.
+    fn tell_workers(&self) {
+        self.watch.ring(Bell::Room);
+        self.watch.ring(Bell::Grants);
+    }
+
+    // What the recorder does after a turn. After one that did nothing it rests; but first it wakes all workers, so it never sleeps while one
+    // of them sleeps over something that it did. `rounds` is how many turns in a row did nothing before this one, and it answers how many
+    // have by now.
+    fn tell_or_rest<R: Wait>(&self, rt: &R, moved: bool, rounds: u32) -> u32
+        ensures { result ≤ rounds + 1 }
+    {
+        if moved {
+            return 0;
+        }
+        if rounds == 0 {
+            self.tell_workers();
+        }
+        self.watch.rest(rt, Bell::Recorder, rounds)
+    }
+
     // Turns until all is done, or the committer has stopped.
     fn work<R: Wait>(&mut self, rt: &R, horizon: u32, ends: FastMarks)
         requires stands { IsRecording self.old }
@@ -183,6 +213,7 @@ impl Desk {
         ensures later { LaterUpTo horizon self.old self.new }
         ensures ends { HasEnded horizon ends self.new }
     {
+        let mut rounds = 0;
         for _ in rt.forever() {
             let moved = self.turn(horizon);
             if self.is_done(horizon, ends) {
@@ -191,9 +222,7 @@ impl Desk {
             if self.watch.read().stopped {
                 return;
             }
-            if !moved {
-                thread::yield_now();
-            }
+            rounds = self.tell_or_rest(rt, moved, rounds);
         }
         unreachable!()
     }
@@ -213,6 +242,7 @@ impl Desk {
         }
         desk.seat.post_gate(1);
         desk.work(rt, horizon, ends);
+        desk.tell_workers();
         desk
     }
 }

@@ -1,15 +1,14 @@
 //! A worker's stand: the sensors that it serves, of which the slow ones keep their own items, and its loop.
 
-ghost use Rattle.std.specs.Prelude.{◌≡◌, ◌≤◌, ◌⊎◌, true};
+ghost use Rattle.std.specs.Prelude.{◌≡◌, ◌≤◌, ◌+◌, ◌⊎◌, true};
 ghost use Rattle.edr_board.specs.Seats.{board_of_watch};
 ghost use Rattle.edr_loops.specs.Stands.{AreFastBegun, ArePlacesKept, FastGoOn, HaveNoneLeft, SlowKeepOn, WorkerHasEnded, has_no_place};
 
 use crate::place::{Gate, Offered, SensorPlace, serve_some};
 use crate::slow_place::{SlowPlace, serve_slow};
-use edr_board::Watch;
+use edr_board::{Bell, Watch};
 use edr_items::{Feeds, PerSlowSensor, SENSORS, Sensor};
 use std::sync::Wait;
-use std::thread;
 
 /// The places of some of the fast sensors, whose items go through rings.
 #[derive(Drop)]
@@ -96,6 +95,23 @@ impl Stand {
         fast == Offered::Over && (self.slow.is_empty() || horizon <= closed)
     }
 
+    // What a worker does after a round: it rings where something was sent or kept, and rests otherwise. `rounds` is how many rounds in a
+    // row found nothing before this one, and it answers how many have by now.
+    fn ring_or_rest<R: Wait>(&self, rt: &R, fast: Offered, slow: Offered, rounds: u32) -> u32
+        ensures { result ≤ rounds + 1 }
+    {
+        if fast.and(slow) == Offered::Sent {
+            self.watch.ring(Bell::Recorder);
+            return 0;
+        }
+        let bell = if fast == Offered::Over {
+            Bell::Grants
+        } else {
+            Bell::Room
+        };
+        self.watch.rest(rt, bell, rounds)
+    }
+
     // Rounds, until the worker's own work is done, or the board says that the work goes on without it.
     fn work<R: Wait, G: Gate>(&mut self, rt: &R, feeds: &Feeds, gate: &G)
         requires fast { AreFastBegun feeds.now self.old.fast }
@@ -106,6 +122,7 @@ impl Stand {
         ensures ends { WorkerHasEnded feeds.now self.new }
     {
         let horizon = feeds.horizon();
+        let mut rounds = 0;
         for _ in rt.forever() {
             let fast = self.fast.round(feeds, gate);
             let slow = self.slow.round(feeds, gate);
@@ -113,9 +130,7 @@ impl Stand {
             if status.stopped || status.gate == 2 || self.is_done(fast, status.closed, horizon) {
                 return;
             }
-            if fast.and(slow) != Offered::Sent {
-                thread::yield_now();
-            }
+            rounds = self.ring_or_rest(rt, fast, slow, rounds);
         }
         unreachable!()
     }

@@ -7,4 +7,4 @@ returns-then-not-send_held-clause-later c = later-raised 0 c.args.horizon _ _ (o
 
 pub returns-clause-later : goal.returns-clause-later
 returns-clause-later c =
-    later-again 0 c.args.horizon c.args.horizon _ _ _ (omega arith) (omega arith) (later-twice _ _ _ c.send_held.ensures.later c.post_closed.ensures.later) c.advance.ensures.later
+    later-again 0 c.args.horizon c.args.horizon _ _ _ (omega arith) (omega arith) (later-twice _ _ _ c.send_held.ensures.later c.post_closed.ensures.later) c.advance-moved.ensures.later
