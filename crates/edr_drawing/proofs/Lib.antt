@@ -1,6 +1,7 @@
 pub mod CountedLemmas
 pub mod PlaceLemmas
 pub mod PartLemmas
+pub mod FirstLemmas
 pub mod PresentLemmas
 pub mod PlotLemmas
 pub mod PlainLemmas

@@ -1,5 +1,6 @@
 -- What stands on a page in one piece.
 use Rattle.std.proofs.Common.{◌≡◌, ◌∙◌, sym, ap, subst, ℕ, zero, suc, ◌+◌, ◌*◌, ◌/◌, ◌%◌, ◌<◌, ◌⊎◌, inl, inr, arith, refl, Bool, true, false, nat_eq, if◌then◌else◌, List, [], ◌∷◌, ◌++◌, Contains, decimal, flat_map, append_assoc, append-nil}
+use Rattle.std.specs.List.{enumerate_from}
 use Rattle.std.proofs.lemmas.List.Elements.{Contains-append_cases}
 use Rattle.edr_record.specs.declared.Profile.{Profile}
 use Rattle.edr_record.specs.declared.Profile.TheVariants.{Short, Long}
@@ -20,12 +21,16 @@ use Rattle.edr_drawing.specs.Scales.{flat_map_below}
 use Rattle.edr_drawing.specs.declared.long.TheConstants.{FORM, NOTES, PAGE_END}
 use Rattle.edr_drawing.specs.declared.tables.TheConstants.{ELEMENTS_END, ELEMENTS_START, NEXT_TABLE, TABLE_END}
 use Rattle.edr_drawing.specs.Template.{digest_hex, filled, fixed}
-use Rattle.edr_drawing.specs.Tables.{row, row_of, line_row, begins_table, elements_table, run_table}
+use Rattle.edr_drawing.specs.Tables.{row, row_of, line_row, begins_table, elements_table, points_table, run_table}
+use Rattle.edr_drawing.specs.Before.{before_chart}
+use Rattle.edr_drawing.specs.Rows.{after_chart}
+use Rattle.edr_drawing.specs.Reasons.{reasons}
+use Rattle.edr_drawing.specs.Pairs.{place_fact}
 use Rattle.edr_drawing.specs.ByTime.{block, block_slots, blocks, blocks_in, by_time, slot_row, slot_rows}
 use Rattle.edr_drawing.specs.Sheets.{sheet, sheets}
 use Rattle.edr_drawing.specs.Cover.{cover, events_in}
 use Rattle.edr_drawing.specs.Page.{page_bytes}
-use Rattle.edr_drawing.specs.Laws.{HasAllSlotRows, HasSlotRows, IsInOnePiece, shown_row}
+use Rattle.edr_drawing.specs.Laws.{HasAllPlaces, HasAllSlotRows, HasSlotRows, IsInOnePiece, shown_row}
 
 -- a part of one of two texts is a part of both together
 part_left : (part xs ys : List ℕ) → IsInOnePiece part xs → IsInOnePiece part (xs ++ ys)
@@ -50,9 +55,28 @@ part_within small part whole inner (front, back, is) =
 part_same_left : (xs ys whole : List ℕ) → xs ≡ ys → IsInOnePiece xs whole → IsInOnePiece ys whole
 part_same_left xs ys whole is h = subst (λ (part : List ℕ). IsInOnePiece part whole) is h
 
-contains_cases : {X : Type 0} (y : X) (ys : List X) (x : X) → Contains (y ∷ ys) x → (y ≡ x) ⊎ Contains ys x
+pub contains_cases : {X : Type 0} (y : X) (ys : List X) (x : X) → Contains (y ∷ ys) x → (y ≡ x) ⊎ Contains ys x
 contains_cases y ys x (zero, b, e) = inl e
 contains_cases y ys x (suc k, b, e) = inr (k, omega (arith, b), e)
+
+pub contains_later : {X : Type 0} (y : X) (ys : List X) (x : X) → Contains ys x → Contains (y ∷ ys) x
+contains_later y ys x (k, b, e) = (suc k, omega (arith, b), e)
+
+-- each element has a number
+numbered : {X : Type 0} (n : ℕ) (xs : List X) (x : X) → Contains xs x → (m : ℕ) × Contains (enumerate_from n xs) (m, x)
+numbered n [] x (k, b, e) = absurd (omega (arith, b))
+numbered n (y ∷ ys) x among = elim (contains_cases y ys x among) [
+  | inl is ↦ (n, (0, omega arith, ap (λ z. (n, z)) is))
+  | inr later ↦ let there = numbered (n + 1) ys x later in (there.0, contains_later (n, y) (enumerate_from (n + 1) ys) (there.0, x) there.1)
+]
+
+-- what lists have together, one of them has
+in_one : {X A : Type 0} (f : X → List A) (xs : List X) (a : A) → Contains (flat_map f xs) a → (x : X) × Contains xs x × Contains (f x) a
+in_one f [] a (k, b, e) = absurd (omega (arith, b))
+in_one f (x ∷ xs) a among = elim (Contains-append_cases (f x) (flat_map f xs) a among) [
+  | inl here ↦ (x, (0, omega arith, refl), here)
+  | inr later ↦ let of = in_one f xs a later in (of.0, contains_later x xs of.0 of.1, of.2)
+]
 
 -- each line has its row among the rows of all
 row_of_line : (form shown : Line → List ℕ) → ((l : Line) → IsInOnePiece (shown l) (form l)) → (ls : List Line) (l : Line) → Contains ls l → IsInOnePiece (shown l) (flat_map form ls)
@@ -73,34 +97,44 @@ line_of_elements n bank r l among =
     part_left p _ (fixed ELEMENTS_END.now)
     (part_right p (fixed ELEMENTS_START.now) (flat_map line_row (event_lines n bank r)) (row_of_line line_row shown_row shown_in (event_lines n bank r) l among))
 
-line_of_sheet : (n bank : ℕ) (r : Record) (digest : List ℕ) (l : Line) → Contains (event_lines n bank r) l → IsInOnePiece (shown_row l) (sheet n bank r digest)
+line_of_sheet : (all : List Found) (n bank : ℕ) (r : Record) (digest : List ℕ) (l : Line) → Contains (event_lines n bank r) l → IsInOnePiece (shown_row l) (sheet all n bank r digest)
 unfolding sheet
-line_of_sheet n bank r digest l among =
+line_of_sheet all n bank r digest l among =
     let p = shown_row l in
     part_left p _ (filled SHEET_FOOT.now (decimal n ∷ digest_hex digest ∷ []))
     (part_left p _ (by_time n r.pre) (part_right p _ (elements_table n bank r) (line_of_elements n bank r l among)))
 
-line_of_found : (n bank : ℕ) (view : BankView) (fs : List Found) (digest : List ℕ) (l : Line) →
-    ((m : ℕ) → Contains (events_lines m (found_records fs)) l → IsInOnePiece (shown_row l) (sheets m fs digest)) →
-    Contains (events_lines n (found_records (record { bank = bank; view = view } ∷ fs))) l → IsInOnePiece (shown_row l) (sheets n (record { bank = bank; view = view } ∷ fs) digest)
-line_of_found n bank Void fs digest l rest among = rest (n + 0) (subst (λ (m : ℕ). Contains (events_lines m (found_records fs)) l) (omega arith) among)
-line_of_found n bank (Damaged o x k) fs digest l rest among = rest (n + 0) (subst (λ (m : ℕ). Contains (events_lines m (found_records fs)) l) (omega arith) among)
-line_of_found n bank (Event r) fs digest l rest among = elim (Contains-append_cases (event_lines n bank r) (events_lines (n + 1) (found_records fs)) l among) [
-  | inl here ↦ part_left (shown_row l) (sheet n bank r digest) (sheets (n + 1) fs digest) (line_of_sheet n bank r digest l here)
-  | inr later ↦ part_right (shown_row l) (sheet n bank r digest) (sheets (n + 1) fs digest) (rest (n + 1) later)
+-- ---- the sheet of an event, among all sheets and on the page
+
+abbrev sheet_of : List Found → List ℕ → ℕ × (ℕ × Record) → List ℕ
+sheet_of all digest e = sheet all e.0 e.1.0 e.1.1 digest
+
+sheet_of_found : (all : List Found) (n bank : ℕ) (view : BankView) (fs : List Found) (digest : List ℕ) (e : ℕ × (ℕ × Record)) →
+    ((m : ℕ) → Contains (enumerate_from m (found_records fs)) e → IsInOnePiece (sheet_of all digest e) (sheets all m fs digest)) →
+    Contains (enumerate_from n (found_records (record { bank = bank; view = view } ∷ fs))) e → IsInOnePiece (sheet_of all digest e) (sheets all n (record { bank = bank; view = view } ∷ fs) digest)
+sheet_of_found all n bank Void fs digest e rest among = rest (n + 0) (subst (λ (m : ℕ). Contains (enumerate_from m (found_records fs)) e) (omega arith) among)
+sheet_of_found all n bank (Damaged o x k) fs digest e rest among = rest (n + 0) (subst (λ (m : ℕ). Contains (enumerate_from m (found_records fs)) e) (omega arith) among)
+sheet_of_found all n bank (Event r) fs digest e rest among = elim (contains_cases (n, (bank, r)) (enumerate_from (n + 1) (found_records fs)) e among) [
+  | inl is ↦ part_left (sheet_of all digest e) (sheet all n bank r digest) (sheets all (n + 1) fs digest) (subst (λ (x : ℕ × (ℕ × Record)). IsInOnePiece (sheet_of all digest x) (sheet all n bank r digest)) is (part_itself (sheet all n bank r digest)))
+  | inr later ↦ part_right (sheet_of all digest e) (sheet all n bank r digest) (sheets all (n + 1) fs digest) (rest (n + 1) later)
 ]
 
-line_of_sheets : (n : ℕ) (found : List Found) (digest : List ℕ) (l : Line) → Contains (events_lines n (found_records found)) l → IsInOnePiece (shown_row l) (sheets n found digest)
-line_of_sheets n [] digest l (k, b, e) = absurd (omega (arith, b))
-line_of_sheets n (f ∷ fs) digest l among = line_of_found n f.bank f.view fs digest l (λ m later. line_of_sheets m fs digest l later) among
+sheet_of_sheets : (all : List Found) (n : ℕ) (found : List Found) (digest : List ℕ) (e : ℕ × (ℕ × Record)) → Contains (enumerate_from n (found_records found)) e → IsInOnePiece (sheet_of all digest e) (sheets all n found digest)
+sheet_of_sheets all n [] digest e (k, b, is) = absurd (omega (arith, b))
+sheet_of_sheets all n (f ∷ fs) digest e among = sheet_of_found all n f.bank f.view fs digest e (λ m later. sheet_of_sheets all m fs digest e later) among
 
--- on the page
+sheet_on_page : (reports : List Report) (found : List Found) (count size : ℕ) (digest : List ℕ) (e : ℕ × (ℕ × Record)) →
+    Contains (enumerate_from 1 (found_records found)) e → IsInOnePiece (sheet_of found digest e) (page_bytes reports found count size digest)
+unfolding page_bytes
+sheet_on_page reports found count size digest e among =
+    let p = sheet_of found digest e in
+    part_left p _ (fixed PAGE_END.now) (part_right p _ (sheets found 1 found digest) (sheet_of_sheets found 1 found digest e among))
+
 pub event_on_page : (reports : List Report) (found : List Found) (count size : ℕ) (digest : List ℕ) (l : Line) →
     Contains (events_lines 1 (found_records found)) l → IsInOnePiece (shown_row l) (page_bytes reports found count size digest)
-unfolding page_bytes
 event_on_page reports found count size digest l among =
-    let p = shown_row l in
-    part_left p _ (fixed PAGE_END.now) (part_right p _ (sheets 1 found digest) (line_of_sheets 1 found digest l among))
+    let of = in_one (λ (e : ℕ × (ℕ × Record)). event_lines e.0 e.1.0 e.1.1) (enumerate_from 1 (found_records found)) l among in
+    part_within (shown_row l) _ _ (line_of_sheet found of.0.0 of.0.1.0 of.0.1.1 digest l of.2) (sheet_on_page reports found count size digest of.0 of.1)
 
 -- the lines of cycles, in their table and on the first sheet
 line_of_run : (reports : List Report) (retrieved : ℕ) (l : Line) → Contains (run_lines 1 reports) l → IsInOnePiece (row l.name l.value) (run_table reports retrieved)
@@ -125,7 +159,7 @@ unfolding page_bytes
 cycle_on_page reports found count size digest l among =
     let p = row l.name l.value in
     part_left p _ (fixed PAGE_END.now)
-    (part_left p _ (sheets 1 found digest) (part_right p _ (cover reports found count size digest) (line_of_cover reports found count size digest l among)))
+    (part_left p _ (sheets found 1 found digest) (part_right p _ (cover reports found count size digest) (line_of_cover reports found count size digest l among)))
 
 -- ---- the slots of the table by time
 
@@ -165,28 +199,33 @@ slot_of_table n p k within =
     let here = part_same_left _ row _ (ap (slot_row p) place.4) (slot_of_blocks p place.0 place.1 place.2 place.3) in
     part_left row _ (fixed BY_TIME_END.now) (part_right row _ (blocks p (blocks_in p.profile)) here)
 
-slot_of_sheet : (n bank : ℕ) (r : Record) (digest : List ℕ) → HasSlotRows r.pre (sheet n bank r digest)
+slot_of_sheet : (all : List Found) (n bank : ℕ) (r : Record) (digest : List ℕ) → HasSlotRows r.pre (sheet all n bank r digest)
 unfolding sheet
-slot_of_sheet n bank r digest k within =
+slot_of_sheet all n bank r digest k within =
     let row = slot_row r.pre k in
     part_left row _ (filled SHEET_FOOT.now (decimal n ∷ digest_hex digest ∷ [])) (part_right row _ (by_time n r.pre) (slot_of_table n r.pre k within))
 
-slots_of_found : (n bank : ℕ) (view : BankView) (fs : List Found) (digest : List ℕ) (e : ℕ × Record) →
-    ((m : ℕ) → Contains (found_records fs) e → HasSlotRows e.1.pre (sheets m fs digest)) →
-    Contains (found_records (record { bank = bank; view = view } ∷ fs)) e → HasSlotRows e.1.pre (sheets n (record { bank = bank; view = view } ∷ fs) digest)
-slots_of_found n bank Void fs digest e rest among = rest (n + 0) among
-slots_of_found n bank (Damaged o x k) fs digest e rest among = rest (n + 0) among
-slots_of_found n bank (Event r) fs digest e rest among = λ k within. elim (contains_cases (bank, r) (found_records fs) e among) [
-  | inl is ↦ part_left (slot_row e.1.pre k) (sheet n bank r digest) (sheets (n + 1) fs digest) (subst (λ (x : ℕ × Record). HasSlotRows x.1.pre (sheet n bank r digest)) is (slot_of_sheet n bank r digest) k within)
-  | inr later ↦ part_right (slot_row e.1.pre k) (sheet n bank r digest) (sheets (n + 1) fs digest) (rest (n + 1) later k within)
-]
-
-slots_of_sheets : (n : ℕ) (found : List Found) (digest : List ℕ) (e : ℕ × Record) → Contains (found_records found) e → HasSlotRows e.1.pre (sheets n found digest)
-slots_of_sheets n [] digest e (k, b, i) = absurd (omega (arith, b))
-slots_of_sheets n (f ∷ fs) digest e among = slots_of_found n f.bank f.view fs digest e (λ m later. slots_of_sheets m fs digest e later) among
-
 pub slots_on_page : (reports : List Report) (found : List Found) (count size : ℕ) (digest : List ℕ) → HasAllSlotRows found (page_bytes reports found count size digest)
-unfolding page_bytes
 slots_on_page reports found count size digest e among k within =
-    let row = slot_row e.1.pre k in
-    part_left row _ (fixed PAGE_END.now) (part_right row _ (sheets 1 found digest) (slots_of_sheets 1 found digest e among k within))
+    let there = numbered 1 (found_records found) e among in
+    part_within (slot_row e.1.pre k) _ _ (slot_of_sheet found there.0 e.0 e.1 digest k within) (sheet_on_page reports found count size digest (there.0, e) there.1)
+
+-- ---- the place of an event in its crash
+
+place_of_sheet : (all : List Found) (n bank : ℕ) (r : Record) (digest : List ℕ) → IsInOnePiece (place_fact all r.pre.key r.pre.place) (sheet all n bank r digest)
+unfolding sheet
+place_of_sheet all n bank r digest =
+    let p = place_fact all r.pre.key r.pre.place in
+    part_left p _ (filled SHEET_FOOT.now (decimal n ∷ digest_hex digest ∷ []))
+    (part_left p _ (by_time n r.pre)
+    (part_left p _ (elements_table n bank r)
+    (part_left p _ (points_table r.crash)
+    (part_left p _ (after_chart n r.crash)
+    (part_left p _ (before_chart n r.pre)
+    (part_left p _ (reasons r)
+    (part_right p _ p (part_itself p))))))))
+
+pub places_on_page : (reports : List Report) (found : List Found) (count size : ℕ) (digest : List ℕ) → HasAllPlaces found (page_bytes reports found count size digest)
+places_on_page reports found count size digest e among =
+    let there = numbered 1 (found_records found) e among in
+    part_within (place_fact found e.1.pre.key e.1.pre.place) _ _ (place_of_sheet found there.0 e.0 e.1 digest) (sheet_on_page reports found count size digest (there.0, e) there.1)

@@ -1,7 +1,8 @@
 -- The sheets of a page have plain texts.
-use Rattle.std.proofs.Common.{◌≡◌, refl, ℕ, ◌+◌, ◌*◌, ◌<◌, Bool, true, nat_eq, Option, Some, None, List, [], ◌∷◌, decimal, All}
+use Rattle.std.proofs.Common.{◌≡◌, refl, ℕ, ◌+◌, ◌*◌, ◌<◌, Bool, true, nat_eq, nat_le, Option, Some, None, List, [], ◌∷◌, decimal, All}
 use Rattle.edr_record.specs.declared.Key.{Key}
 use Rattle.edr_record.specs.declared.Place.{Place}
+use Rattle.edr_record.specs.declared.Place.TheVariants.{First, Second}
 use Rattle.edr_record.specs.declared.Profile.{Profile}
 use Rattle.edr_record.specs.declared.Record.{Record}
 use Rattle.edr_record.specs.Parts.{PrePart, CrashPart}
@@ -23,13 +24,17 @@ use Rattle.edr_drawing.specs.declared.long.TheConstants.{BODY, FORM, HEAD, NOTES
 use Rattle.edr_drawing.specs.declared.reasons.TheConstants.{ACROSS_ABSENT, ALONG_ABSENT, BELT, BRAKE_ABSENT, LIST_END, PART_ABSENT, REASONS_START, SPEED_ABSENT, SWITCH_ABSENT, THROTTLE_ABSENT, WARNING_LAMP}
 use Rattle.edr_drawing.specs.declared.sheets.TheConstants.{FACTS, LONG, NO, SHEET_FOOT, SHEET_HEAD, SHORT, YES}
 use Rattle.edr_drawing.specs.declared.tables.TheConstants.{ACROSS_ROW, ALONG_ROW, CELL, ELEMENTS_END, ELEMENTS_START, POINT_TIME, POINTS_BODY, POINTS_START, ROW_END, RUN_START, SILENT_CELL, TABLE_END}
+use Rattle.edr_report.specs.declared.TheConstants.{LARGEST_SHOWN_COUNT}
 use Rattle.edr_report.specs.Words.{number_shown}
+use Rattle.edr_drawing.specs.declared.pairs.TheConstants.{ELSEWHERE, EVENT, IF_SAME_CYCLE, OR_EVENT, PLACE_END, PLACE_START, SECOND_AFTER}
+use Rattle.edr_drawing.specs.declared.template.TheConstants.{FIRST}
 use Rattle.edr_drawing.specs.Template.{digest_hex, either, filled}
 use Rattle.edr_drawing.specs.Reasons.{share_reason, switch_reason, pre_reasons, crash_reasons, reasons}
 use Rattle.edr_drawing.specs.Tables.{axis_cells, time_cell, time_cells, change_cell, change_row, points_table, elements_table, run_table}
 use Rattle.edr_drawing.specs.Axes.{is_silent, points_of}
 use Rattle.edr_drawing.specs.ByTime.{block, block_slots, blocks_in, by_time, mph, mph_word, number_word, slot_at, slot_row}
-use Rattle.edr_drawing.specs.Sheets.{facts, sheet, sheet_if, sheets, count_if}
+use Rattle.edr_drawing.specs.Pairs.{count_if, firsts, firsts_words, or_event, place_fact, place_told}
+use Rattle.edr_drawing.specs.Sheets.{facts, sheet, sheet_if, sheets}
 use Rattle.edr_drawing.specs.Cover.{extreme_cells, event_row, event_row_if, event_rows, events_in, events_table, damaged_item, damaged_items, damaged_in, damaged_list, cover}
 use Rattle.edr_drawing.specs.Page.{page_bytes, page_head}
 use Rattle.edr_drawing.proofs.PlainLemmas.{Plain, all_low, plain_nil, plain_append, plain_if, plain_fixed, plain_flat_map, plain_counted, plain_text, plain_filled, plain_beginning, plain_decimal, plain_digest, plain_either, plain_of_profile, plain_of_switch, plain_values}
@@ -131,34 +136,51 @@ plain_by_time n p =
     (plain_text BY_TIME_END.now refl)
 
 -- the sheet of an event
-plain_facts : (bank : ℕ) (key : Key) (locked : Bool) (f : Profile) (place : Place) → Plain (facts bank key locked f place)
+plain_facts : (bank : ℕ) (key : Key) (locked : Bool) (f : Profile) → Plain (facts bank key locked f)
 unfolding facts
-plain_facts bank key locked f place =
+plain_facts bank key locked f =
     let deployed = plain_either locked YES.now NO.now refl refl in
     let profile = plain_of_profile f SHORT.now LONG.now refl refl in
     plain_filled FACTS.now _ refl (search plain_values depth 20)
 
-plain_sheet : (n bank : ℕ) (r : Record) (digest : List ℕ) → All (λ b. b < 256) digest → Plain (sheet n bank r digest)
+plain_firsts : (cycle : ℕ) (ns : List ℕ) → Plain (firsts_words cycle ns)
+plain_firsts cycle [] = plain_text ELSEWHERE.now refl
+plain_firsts cycle (n ∷ ns) =
+    plain_append _ _ (plain_append _ _ (plain_filled EVENT.now _ refl (search plain_values))
+    (plain_flat_map or_event (λ m. plain_filled OR_EVENT.now _ refl (search plain_values)) ns))
+    (plain_if (nat_le LARGEST_SHOWN_COUNT cycle) _ _ (plain_text IF_SAME_CYCLE.now refl) plain_nil)
+
+plain_place_told : (found : List Found) (key : Key) (place : Place) → Plain (place_told found key place)
+plain_place_told found key First = plain_text FIRST.now refl
+plain_place_told found key (Second after) =
+    plain_append _ _ (plain_filled SECOND_AFTER.now _ refl (search plain_values)) (plain_firsts key.cycle (firsts key after 1 found))
+
+plain_place_fact : (found : List Found) (key : Key) (place : Place) → Plain (place_fact found key place)
+unfolding place_fact
+plain_place_fact found key place =
+    plain_append _ _ (plain_append _ _ (plain_text PLACE_START.now refl) (plain_place_told found key place)) (plain_text PLACE_END.now refl)
+
+plain_sheet : (found : List Found) (n bank : ℕ) (r : Record) (digest : List ℕ) → All (λ b. b < 256) digest → Plain (sheet found n bank r digest)
 unfolding sheet
-plain_sheet n bank r digest small =
+plain_sheet found n bank r digest small =
     let complete = plain_either (is_complete r) YES.now NO.now refl refl in
     let head : Plain (filled SHEET_HEAD.now (decimal n ∷ either (is_complete r) YES.now NO.now ∷ [])) =
     plain_filled SHEET_HEAD.now _ refl (search plain_values) in
     let sum = plain_digest digest small in
     let foot : Plain (filled SHEET_FOOT.now (decimal n ∷ digest_hex digest ∷ [])) = plain_filled SHEET_FOOT.now _ refl (search plain_values) in
-    search (plain_append, plain_facts, plain_reasons, plain_before_chart, plain_after_chart, plain_points_table, plain_elements, plain_by_time) depth 20
+    search (plain_append, plain_facts, plain_place_fact, plain_reasons, plain_before_chart, plain_after_chart, plain_points_table, plain_elements, plain_by_time) depth 20
 
-plain_sheet_if : (n bank : ℕ) (view : BankView) (digest : List ℕ) → All (λ b. b < 256) digest → Plain (sheet_if n bank view digest)
-plain_sheet_if n bank Void digest small = plain_nil
-plain_sheet_if n bank (Event r) digest small = plain_sheet n bank r digest small
-plain_sheet_if n bank (Damaged o x l) digest small = plain_nil
+plain_sheet_if : (found : List Found) (n bank : ℕ) (view : BankView) (digest : List ℕ) → All (λ b. b < 256) digest → Plain (sheet_if found n bank view digest)
+plain_sheet_if found n bank Void digest small = plain_nil
+plain_sheet_if found n bank (Event r) digest small = plain_sheet found n bank r digest small
+plain_sheet_if found n bank (Damaged o x l) digest small = plain_nil
 
-plain_sheets : (n : ℕ) (found : List Found) (digest : List ℕ) → All (λ b. b < 256) digest → Plain (sheets n found digest)
-plain_sheets n [] digest small = plain_nil
-plain_sheets n (f ∷ fs) digest small =
+plain_sheets : (found : List Found) (n : ℕ) (fs : List Found) (digest : List ℕ) → All (λ b. b < 256) digest → Plain (sheets found n fs digest)
+plain_sheets found n [] digest small = plain_nil
+plain_sheets found n (f ∷ fs) digest small =
     let later = n + count_if f.view in
-    plain_append (sheet_if n f.bank f.view digest) (sheets later fs digest)
-    (plain_sheet_if n f.bank f.view digest small) (plain_sheets later fs digest small)
+    plain_append (sheet_if found n f.bank f.view digest) (sheets found later fs digest)
+    (plain_sheet_if found n f.bank f.view digest small) (plain_sheets found later fs digest small)
 
 -- the first sheet
 plain_extreme_cells : (crash : Option CrashPart) → Plain (extreme_cells crash)
@@ -230,5 +252,5 @@ pub plain_page : (reports : List Report) (found : List Found) (count size : ℕ)
     Plain (page_bytes reports found count size digest)
 unfolding page_bytes
 plain_page reports found count size digest small =
-    plain_append _ _ (plain_append _ _ (plain_append _ _ (plain_head digest small) (plain_cover reports found count size digest small)) (plain_sheets 1 found digest small))
+    plain_append _ _ (plain_append _ _ (plain_append _ _ (plain_head digest small) (plain_cover reports found count size digest small)) (plain_sheets found 1 found digest small))
     (plain_text PAGE_END.now refl)

@@ -17,7 +17,7 @@ use Rattle.edr_drawing.specs.declared.sheets.TheConstants.{NO, YES}
 use Rattle.edr_drawing.specs.declared.tables.TheConstants.{TABLE_END}
 use Rattle.edr_drawing.specs.Template.{digest_hex, either, filled, fixed, place_words}
 use Rattle.edr_drawing.specs.Axes.{greatest_words}
-use Rattle.edr_drawing.specs.Sheets.{count_if}
+use Rattle.edr_drawing.specs.Pairs.{count_if}
 use Rattle.edr_drawing.specs.Tables.{run_table}
 
 -- how many events were found, and how many damaged banks

@@ -1,11 +1,16 @@
 -- What the laws of a page speak of.
-use Rattle.std.specs.Prelude.{◌≡◌, ◌≤◌, ◌<◌, ℕ, ◌+◌, ℤ, Bool, true, false, Option, Some, None, List, [], ◌∷◌, ◌++◌, Contains, filter, map, flat_map}
+use Rattle.std.specs.Prelude.{◌≡◌, ◌≤◌, ◌<◌, ◌↔◌, ℕ, ◌+◌, ◌-◌, ℤ, Bool, true, false, Option, Some, None, List, [], ◌∷◌, ◌++◌, Contains, filter, map, flat_map}
+use Rattle.std.specs.List.{enumerate_from}
+use Rattle.edr_record.specs.declared.Key.{Key}
+use Rattle.edr_record.specs.declared.Place.TheVariants.{First}
 use Rattle.edr_record.specs.declared.Profile.{Profile}
 use Rattle.edr_record.specs.declared.Profile.TheVariants.{Short, Long}
 use Rattle.edr_record.specs.declared.Record.{Record}
+use Rattle.edr_record.specs.declared.TheConstants.{LONGEST_PAIR}
 use Rattle.edr_record.specs.Bounds.{slots_in}
 use Rattle.edr_record.specs.Parts.{PrePart}
 use Rattle.edr_report.specs.Report.{found_records}
+use Rattle.edr_report.specs.Words.{number_shown, tenths_of}
 use Rattle.edr_drawing.specs.ByTime.{slot_row}
 use Rattle.edr_image.specs.declared.Found.{Found}
 use Rattle.edr_image.specs.Reports.{Report}
@@ -19,6 +24,7 @@ use Rattle.edr_drawing.specs.Scales.{slot_x}
 use Rattle.edr_drawing.specs.Lanes.{lane_y, point}
 use Rattle.edr_drawing.specs.Changes.{change_y}
 use Rattle.edr_drawing.specs.Page.{page_bytes}
+use Rattle.edr_drawing.specs.Pairs.{firsts, place_fact}
 use Rattle.edr_drawing.specs.Tables.{row, shown_value}
 
 -- the bytes stand in the others, in one piece
@@ -43,6 +49,27 @@ HasSlotRows p page = (k : ℕ) → k < slots_in p.profile → IsInOnePiece (slot
 -- so has each slot of each event
 abbrev pub HasAllSlotRows : List Found → List ℕ → Type 0
 HasAllSlotRows found page = (e : ℕ × Record) → Contains (found_records found) e → HasSlotRows e.1.pre page
+
+-- what its sheet says of an event's place stands there, of each event
+abbrev pub HasAllPlaces : List Found → List ℕ → Type 0
+HasAllPlaces found page = (e : ℕ × Record) → Contains (found_records found) e → IsInOnePiece (place_fact found e.1.pre.key e.1.pre.place) page
+
+-- an event with this pre part may be the first one of the pair whose second has this key, and began so long after it: it was told
+-- as first, of an ignition cycle that is shown as the same, and as many tenths of a second before it, at most 5 s
+pub record MayBeFirst (key : Key) (after : ℕ) (p : PrePart) : Type 0 where
+  pub place : p.place ≡ First
+  pub cycle : number_shown p.key.cycle ≡ number_shown key.cycle
+  pub before : p.key.zero < key.zero
+  pub within : key.zero - p.key.zero ≤ LONGEST_PAIR
+  pub time : tenths_of (key.zero - p.key.zero) ≡ tenths_of after
+
+-- event n of those that were found is one of these
+abbrev pub IsFirstOf : List Found → Key → ℕ → ℕ → Type 0
+IsFirstOf found key after n = (e : ℕ × Record) × Contains (enumerate_from 1 (found_records found)) (n, e) × MayBeFirst key after e.1.pre
+
+-- the numbers that stand on the sheet are those of these events
+abbrev pub AreFirsts : List Found → Key → ℕ → Type 0
+AreFirsts found key after = (n : ℕ) → Contains (firsts key after 1 found) n ↔ IsFirstOf found key after n
 
 -- of each page, with its reports, what it was found in and its digest, this is so
 abbrev pub OfPages : (List Report → List Found → List ℕ → List ℕ → Type 0) → Type 0

@@ -21,5 +21,5 @@ unfoldable pub page_bytes : List Report → List Found → ℕ → ℕ → List 
 page_bytes reports found count size digest =
     page_head digest
     ++ cover reports found count size digest
-    ++ sheets 1 found digest
+    ++ sheets found 1 found digest
     ++ fixed PAGE_END.now

@@ -7,8 +7,9 @@ ghost use Rattle.edr_drawing.specs.Cover.{events_in, damaged_in, is_damaged, ext
 use crate::VERSION;
 use crate::axes::{CarAxis, greatest};
 use crate::long::{FORM, NOTES};
+use crate::pairs::count_if;
 use crate::reasons::LIST_END;
-use crate::sheets::{NO, YES, count_if};
+use crate::sheets::{NO, YES};
 use crate::tables::{TABLE_END, put_run};
 use crate::template::Filling::{Count, Digest, Number, Place, Text};
 use crate::template::{Drawn, either, fill, put};

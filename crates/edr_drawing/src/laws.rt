@@ -2,6 +2,7 @@
 
 ghost use Rattle.std.specs.Prelude.{◌≡◌, ◌≤◌, ◌<◌, ◌+◌, ℕ, ℤ, false, true, Option, List, [], All, int_le};
 ghost use Rattle.edr_record.specs.Parts.{CrashPart, PrePart};
+ghost use Rattle.edr_record.specs.declared.Key.{Key};
 ghost use Rattle.edr_record.specs.declared.Profile.{Profile};
 ghost use Rattle.edr_report.specs.Report.{events_lines, found_records, run_lines};
 ghost use Rattle.edr_drawing.specs.declared.changes.Scale.{Scale};
@@ -13,7 +14,8 @@ ghost use Rattle.edr_drawing.specs.Axes.{greatest_words, is_silent};
 ghost use Rattle.edr_drawing.specs.After.{curve, maximum, silent_curve};
 ghost use Rattle.edr_drawing.specs.ByTime.{by_time};
 ghost use Rattle.edr_drawing.specs.Changes.{change_y, scale_of, span_of, time_x};
-ghost use Rattle.edr_drawing.specs.Laws.{HasAllSlotRows, HasMarks, HasPoints, HasRows, HasShownRows, HasSlotRows, OfPages, StandsIn};
+ghost use Rattle.edr_image.specs.declared.Found.{Found};
+ghost use Rattle.edr_drawing.specs.Laws.{AreFirsts, HasAllPlaces, HasAllSlotRows, HasMarks, HasPoints, HasRows, HasShownRows, HasSlotRows, OfPages, StandsIn};
 
 /// Each line of an event, and each line of a cycle, has its row on the page, word for word; but the lists of speed,
 /// throttle and service brake stand in the table by time.
@@ -26,6 +28,12 @@ pub fn each_line()
 pub fn each_slot()
     ensures table { (n : ℕ) (p : PrePart) → HasSlotRows p (by_time n p) }
     ensures page { OfPages (λ reports found digest page. HasAllSlotRows found page) }
+{}
+
+/// The sheet of a second event names each event of the report that may be the first one of its pair, and no other.
+pub fn each_first()
+    ensures page { OfPages (λ reports found digest page. HasAllPlaces found page) }
+    ensures firsts { (found : List Found) (key : Key) (after : ℕ) → AreFirsts found key after }
 {}
 
 /// An axis without any sample has no curve, no mark and no greatest change: words stand in their place.

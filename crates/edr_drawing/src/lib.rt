@@ -10,6 +10,7 @@ mod cover;
 mod lanes;
 pub mod laws;
 mod long;
+mod pairs;
 mod reasons;
 mod rows;
 mod scales;

@@ -1,17 +1,18 @@
 //! The sheet of an event.
 
-ghost use Rattle.std.specs.Prelude.{◌≡◌, ◌++◌, ◌≤◌, OnOk};
-ghost use Rattle.edr_drawing.specs.Sheets.{count_if, facts, sheet, sheet_if, sheets};
+ghost use Rattle.std.specs.Prelude.{◌≡◌, ◌++◌, OnOk};
+ghost use Rattle.edr_drawing.specs.Sheets.{facts, sheet, sheet_if, sheets};
 
 use crate::before::draw_before;
 use crate::by_time::put_by_time;
+use crate::pairs::{count_if, put_place_fact};
 use crate::reasons::put_reasons;
 use crate::rows::draw_after;
 use crate::tables::{put_elements, put_points_table};
-use crate::template::Filling::{Count, Digest, Number, Place as PlaceOf, Text};
+use crate::template::Filling::{Count, Digest, Number, Text};
 use crate::template::{Drawn, either, fill, of_profile};
 use edr_image::{BankView, Found};
-use edr_record::{Key, Place, Profile, Record};
+use edr_record::{Key, Profile, Record};
 use edr_report::number_shown;
 use std::alloc::Global;
 
@@ -19,9 +20,9 @@ pub const SHEET_HEAD: &[u8] = br#"<section id="e{0}" style="page:e{0}" aria-labe
 <div class="head"><h2 id="e{0}h">Event {0}</h2><p>Complete file recorded: <b>{1}</b></p></div>
 "#;
 
+/// The facts of an event, up to its place in its crash.
 pub const FACTS: &[u8] =
-    br#"<ul class="facts"><li>Ignition cycle <b>{0}</b></li><li>Time zero <b>{1} ms</b></li><li>Bank <b>{2}</b></li><li>Locked by an air bag or curtain: <b>{3}</b></li><li>Pre-crash profile: <b>{4}</b></li><li>Place in crash: <b>{5}</b></li></ul>
-"#;
+    br#"<ul class="facts"><li>Ignition cycle <b>{0}</b></li><li>Time zero <b>{1} ms</b></li><li>Bank <b>{2}</b></li><li>Locked by an air bag or curtain: <b>{3}</b></li><li>Pre-crash profile: <b>{4}</b></li>"#;
 
 pub const SHEET_FOOT: &[u8] =
     br#"<p class="foot">Event {0} of the report with SHA-256 <code>{1}</code></p>
@@ -37,15 +38,8 @@ pub const SHORT: &[u8] = b"short";
 pub const LONG: &[u8] = b"long";
 
 #[tactic(auto, unfolding(crate::specs::Sheets::facts))]
-fn put_facts(
-    out: &mut Vec<u8>,
-    bank: u8,
-    key: Key,
-    locked: bool,
-    profile: Profile,
-    place: Place,
-) -> Drawn
-    ensures { OnOk result (out.new.items ≡ out.old.items ++ facts bank key locked profile place) }
+fn put_facts(out: &mut Vec<u8>, bank: u8, key: Key, locked: bool, profile: Profile) -> Drawn
+    ensures { OnOk result (out.new.items ≡ out.old.items ++ facts bank key locked profile) }
 {
     let facts = [
         Number(number_shown(key.cycle)),
@@ -53,27 +47,28 @@ fn put_facts(
         Number(u32::from(bank)),
         Text(either(locked, YES, NO)),
         Text(of_profile(profile, SHORT, LONG)),
-        PlaceOf(place),
     ];
     fill(out, FACTS, &facts)
 }
 
-// Appends the sheet of the event with this number.
+// Appends the sheet of the event with this number, which is among those that were found.
 #[tactic(auto, unfolding(crate::specs::Sheets::sheet))]
 fn put_sheet(
     out: &mut Vec<u8>,
     alloc: Global,
+    found: &[Found],
     number: u64,
     bank: u8,
     event: &Record,
     digest: &[u8; 32],
 ) -> Drawn
-    ensures { OnOk result (out.new.items ≡ out.old.items ++ sheet number bank event.now digest.now) }
+    ensures { OnOk result (out.new.items ≡ out.old.items ++ sheet found.now number bank event.now digest.now) }
 {
     let complete = Text(either(event.complete(), YES, NO));
     fill(out, SHEET_HEAD, &[Count(number), complete])?;
     let pre = &event.pre;
-    put_facts(out, bank, pre.key, event.locked, pre.profile(), pre.place)?;
+    put_facts(out, bank, pre.key, event.locked, pre.profile())?;
+    put_place_fact(out, alloc, found, pre.key, pre.place)?;
     put_reasons(out, event)?;
     draw_before(out, number, pre)?;
     draw_after(out, number, &event.crash)?;
@@ -83,40 +78,30 @@ fn put_sheet(
     fill(out, SHEET_FOOT, &[Count(number), Digest(*digest)])
 }
 
-/// How many events a bank has: one or none.
-pub fn count_if(view: &BankView) -> u64
-    ensures count { result ≡ count_if view.now }
-    ensures range { result ≤ 1 }
-{
-    match view {
-        BankView::Event(_) => 1,
-        _ => 0,
-    }
-}
-
 // Appends the sheet of a bank, if it has an event.
 fn put_sheet_if(
     out: &mut Vec<u8>,
     alloc: Global,
+    found: &[Found],
     number: u64,
-    found: &Found,
+    one: &Found,
     digest: &[u8; 32],
 ) -> Drawn
-    ensures { OnOk result (out.new.items ≡ out.old.items ++ sheet_if number found.now.bank found.now.view digest.now) }
+    ensures { OnOk result (out.new.items ≡ out.old.items ++ sheet_if found.now number one.now.bank one.now.view digest.now) }
 {
-    match &found.view {
-        BankView::Event(event) => put_sheet(out, alloc, number, found.bank, event, digest),
+    match &one.view {
+        BankView::Event(event) => put_sheet(out, alloc, found, number, one.bank, event, digest),
         _ => Ok(()),
     }
 }
 
 /// Appends the sheets of all events that were found.
 pub fn put_sheets(out: &mut Vec<u8>, alloc: Global, found: &[Found], digest: &[u8; 32]) -> Drawn
-    ensures { OnOk result (out.new.items ≡ out.old.items ++ sheets 1 found.now digest.now) }
+    ensures { OnOk result (out.new.items ≡ out.old.items ++ sheets found.now 1 found.now digest.now) }
 {
     let mut number = 1;
     for bank in found {
-        put_sheet_if(out, alloc, number, bank, digest)?;
+        put_sheet_if(out, alloc, found, number, bank, digest)?;
         number += count_if(&bank.view);
     }
     Ok(())
