@@ -102,7 +102,8 @@ unfolding sheet
 line_of_sheet all n bank r digest l among =
     let p = shown_row l in
     part_left p _ (filled SHEET_FOOT.now (decimal n ∷ digest_hex digest ∷ []))
-    (part_left p _ (by_time n r.pre) (part_right p _ (elements_table n bank r) (line_of_elements n bank r l among)))
+    (part_left p _ (by_time n r.pre)
+    (part_left p _ (points_table r.crash) (part_right p _ (elements_table n bank r) (line_of_elements n bank r l among))))
 
 -- ---- the sheet of an event, among all sheets and on the page
 
@@ -218,8 +219,8 @@ place_of_sheet all n bank r digest =
     let p = place_fact all r.pre.key r.pre.place in
     part_left p _ (filled SHEET_FOOT.now (decimal n ∷ digest_hex digest ∷ []))
     (part_left p _ (by_time n r.pre)
-    (part_left p _ (elements_table n bank r)
     (part_left p _ (points_table r.crash)
+    (part_left p _ (elements_table n bank r)
     (part_left p _ (after_chart n r.crash)
     (part_left p _ (before_chart n r.pre)
     (part_left p _ (reasons r)

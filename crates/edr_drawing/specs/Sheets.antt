@@ -39,8 +39,8 @@ sheet found n bank r digest =
     ++ reasons r
     ++ before_chart n r.pre
     ++ after_chart n r.crash
-    ++ points_table r.crash
     ++ elements_table n bank r
+    ++ points_table r.crash
     ++ by_time n r.pre
     ++ filled SHEET_FOOT.now (decimal n ∷ digest_hex digest ∷ [])
 

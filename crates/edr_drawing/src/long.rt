@@ -19,11 +19,11 @@ body{margin:0;background:#e7e7e7;color:#000;font:9pt/1.35 Arial,"Liberation Sans
 @media print{body{background:#fff}section{margin:0}section+section{break-before:page}}
 h1{font-size:15pt;margin:0 0 1mm}
 h2{font-size:13pt;margin:0 0 1mm}
-h3{font-size:9pt;margin:2mm 0 .5mm}
+h3{font-size:9pt;margin:1mm 0 .5mm}
 ul{margin:.5mm 0;padding-left:5mm}
 p{margin:0 0 1mm}
 .head{display:flex;flex-wrap:wrap;justify-content:space-between;align-items:baseline;border-bottom:.5mm solid #000;margin-bottom:1mm}
-.facts{display:flex;flex-wrap:wrap;gap:0 7mm;margin:0 0 1.5mm;padding:0;list-style:none}
+.facts{display:flex;flex-wrap:wrap;gap:0 7mm;margin:0 0 1mm;padding:0;list-style:none}
 .note{border-left:1.2mm solid #000;padding:.3mm 2.5mm;margin:0 0 1mm;background:#f1f1f1;font-size:8pt;line-height:1.25}
 .note ul{margin:0 0 .5mm;padding-left:4mm}
 .why ul{columns:2;column-gap:6mm}
@@ -38,7 +38,7 @@ caption{font-weight:700;text-align:left;font-size:9pt;padding:1mm 0 .5mm}
 .two th{white-space:nowrap;width:1%}.two table{line-height:1.1}.two th,.two td{padding:.05mm 1mm}
 .form th{white-space:nowrap;width:1%;padding-top:4mm}.form td{width:50%}
 .foot{font-size:8pt;color:#444;margin:1.5mm 0 0}
-code{font-family:"Liberation Mono","DejaVu Sans Mono",monospace;font-size:8pt}
+code{overflow-wrap:anywhere;font-family:"Liberation Mono","DejaVu Sans Mono",monospace;font-size:8pt}
 svg{display:block;width:100%;height:auto;margin:0 0 1mm}
 svg text{font-size:28.5px;fill:#000}
 .c{text-anchor:middle}.e{text-anchor:end}.b{font-weight:700}.m{font-size:36px!important;font-weight:700}
@@ -57,10 +57,10 @@ svg .n1{fill:#00547f;font-weight:700}svg .n2{fill:#a84300;font-weight:700}
 .flag{fill:#000}
 .q path{stroke-dasharray:3 11}.q .p1{fill:#fff;stroke:#0072b2;stroke-width:3.5}.q .p2{stroke-dasharray:6 4}
 .blocks{display:grid;grid-template-columns:repeat(auto-fill,minmax(56mm,1fr));gap:0 5mm;align-items:start}
-.time table{font-size:8pt;line-height:1.12}.time th,.time td{padding:0 .6mm;border-bottom:.1mm solid #bbb}
+.time table{font-size:8pt;line-height:1.06}.time th,.time td{padding:0 .6mm;border-bottom:.1mm solid #bbb}
 .num .l{text-align:left}.time th:first-child{text-align:right}
-@media print{.time.long{break-before:page}table.num,.two,svg,.note{break-inside:avoid}h3{break-after:avoid}}
-@media print and (max-height:262mm){svg{width:92%;margin:0 auto}}
+@media print{.time.long,table.num:has(+.time.long){break-before:page}table.num+.time.long{break-before:auto}table.num,.two,svg,.note{break-inside:avoid}h3{break-after:avoid}}
+@media print and (max-height:262mm){svg{width:96%;margin:0 auto .5mm}}
 @page{font:8pt Arial,"Liberation Sans",Helvetica,sans-serif;@bottom-right{content:"side " counter(page) " of " counter(pages)}}
 @page e1{@bottom-center{content:"Event 1"}}
 @page e2{@bottom-center{content:"Event 2"}}

@@ -72,8 +72,8 @@ fn put_sheet(
     put_reasons(out, event)?;
     draw_before(out, number, pre)?;
     draw_after(out, number, &event.crash)?;
-    put_points_table(out, &event.crash)?;
     put_elements(out, alloc, number, bank, event)?;
+    put_points_table(out, &event.crash)?;
     put_by_time(out, number, pre)?;
     fill(out, SHEET_FOOT, &[Count(number), Digest(*digest)])
 }
