@@ -53,8 +53,8 @@ pub record IsRowIn (row : Row) (bytes rest : List ℕ) : Type 0 where
   pub record_in : IsRecordIn fields bytes rest
 
 -- what is no row is in front of the bytes: a byte of a blank line, or a byte order mark at the front of the whole
-abbrev pub IsPassed : Bool → List ℕ → List ℕ → Type 0
-IsPassed begun bytes rest = (bytes ≡ 10 ∷ rest) ⊎ ((bytes ≡ 13 ∷ rest) ⊎ ((begun ≡ false) × (bytes ≡ 239 ∷ 187 ∷ 191 ∷ rest)))
+abbrev pub IsNoRow : Bool → List ℕ → List ℕ → Type 0
+IsNoRow begun bytes rest = (bytes ≡ 10 ∷ rest) ⊎ ((bytes ≡ 13 ∷ rest) ⊎ ((begun ≡ false) × (bytes ≡ 239 ∷ 187 ∷ 191 ∷ rest)))
 
 -- a row is in front of the bytes, and is taken
 pub record IsRowTaken (old new : Trace) (bytes rest : List ℕ) : Type 0 where

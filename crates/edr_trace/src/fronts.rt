@@ -6,18 +6,18 @@ ghost use Rattle.std.specs.List.{list_any};
 ghost use Rattle.edr_text.specs.Numbers.{numeral};
 ghost use Rattle.edr_spell.specs.Rows.{spelling_of, is_i32, IsRow};
 ghost use Rattle.edr_spell.specs.Lines.{value_text, is_special};
-ghost use Rattle.edr_trace.specs.Fronts.{EndsLine, IsFieldIn, IsRecordIn, IsRowIn, IsPassed};
+ghost use Rattle.edr_trace.specs.Fronts.{EndsLine, IsFieldIn, IsRecordIn, IsRowIn, IsNoRow};
 
 use edr_items::{Item, Sensor};
 use edr_spell::{Row, WORDS, Word};
 
-// The digits of a number of 32 bits, and what stands behind them.
+// The digits of a number of 32 bits, and what stands after them.
 const MOST_STEPS: usize = 11;
 
 // The byte order mark.
 const MARK: [u8; 3] = [0xEF, 0xBB, 0xBF];
 
-// What stands behind these bytes, if they are in front.
+// What stands after these bytes, if they are in front.
 #[inline(always)]
 fn behind<'a>(bytes: &'a [u8], front: &[u8]) -> Option<&'a [u8]>
     ensures { IfSome result (λ rest. bytes.now ≡ front.now ++ rest.now) }
@@ -25,7 +25,7 @@ fn behind<'a>(bytes: &'a [u8], front: &[u8]) -> Option<&'a [u8]>
     bytes.strip_prefix(front)
 }
 
-// What stands behind the word `along` and a comma, if they are in front. Byte by byte it takes the fewest steps.
+// What stands after the word `along` and a comma, if they are in front. Byte by byte it takes the fewest steps.
 #[inline(always)]
 fn behind_along(bytes: &[u8]) -> Option<&[u8]>
     ensures { IfSome result (λ rest. bytes.now ≡ spelling_of (Word.Of Sensor.Along) ++ 44 ∷ rest.now) }
@@ -47,7 +47,7 @@ fn behind_across(bytes: &[u8]) -> Option<&[u8]>
     }
 }
 
-// The same of any word. The comma is looked for first, since behind few words of another row it would be in its place.
+// The same of any word. The comma is looked for first, since after few words of another row it would be in its place.
 #[inline(always)]
 fn behind_word(bytes: &[u8], word: Word) -> Option<&[u8]>
     ensures { IfSome result (λ rest. bytes.now ≡ spelling_of word ++ 44 ∷ rest.now) }
@@ -60,7 +60,7 @@ fn behind_word(bytes: &[u8], word: Word) -> Option<&[u8]>
     behind(rest, b",")
 }
 
-// The word in front of a comma, and what stands behind the comma.
+// The word in front of a comma, and what stands after the comma.
 #[inline(always)]
 fn word_in_front(bytes: &[u8]) -> Option<(Word, &[u8])>
     ensures { IfSome result (λ p. bytes.now ≡ spelling_of p.0 ++ 44 ∷ p.1.now) }
@@ -73,7 +73,7 @@ fn word_in_front(bytes: &[u8]) -> Option<(Word, &[u8])>
     None
 }
 
-// The number of at most so many digits in front, the byte that ends it, and what stands behind that byte. One pass finds
+// The number of at most that many digits in front, the byte that ends it, and what stands after that byte. One pass finds
 // the number and its end.
 #[inline(always)]
 fn number_within(bytes: &[u8], most: usize) -> Option<(u64, u8, &[u8])>
@@ -90,7 +90,7 @@ fn number_within(bytes: &[u8], most: usize) -> Option<(u64, u8, &[u8])>
             }
             return Some((value, b, &bytes[i + 1..]));
         }
-        // A digit stands behind a 0 in front.
+        // A digit stands after a 0 in front.
         if i == 1 && value == 0 {
             return None;
         }
@@ -112,7 +112,7 @@ fn number_in_front(bytes: &[u8]) -> Option<(u64, u8, &[u8])>
     }
 }
 
-// The moment in front of a comma, and what stands behind the comma.
+// The moment in front of a comma, and what stands after the comma.
 #[inline(always)]
 fn moment_in_front(bytes: &[u8]) -> Option<(u32, &[u8])>
     ensures { IfSome result (λ p. bytes.now ≡ numeral p.0 ++ 44 ∷ p.1.now) }
@@ -124,7 +124,7 @@ fn moment_in_front(bytes: &[u8]) -> Option<(u32, &[u8])>
     Some((n as u32, rest))
 }
 
-// The value in front, or none, the byte that ends it, and what stands behind that byte.
+// The value in front, or none, the byte that ends it, and what stands after that byte.
 #[inline(always)]
 fn value_in_front(bytes: &[u8]) -> Option<(Option<i32>, u8, &[u8])>
     ensures { IfSome result (λ p. bytes.now ≡ value_text p.0 ++ p.1 ∷ p.2.now) }
@@ -153,7 +153,7 @@ fn value_in_front(bytes: &[u8]) -> Option<(Option<i32>, u8, &[u8])>
     }
 }
 
-// What stands behind the end of a line that begins with this byte.
+// What stands after the end of a line that begins with this byte.
 #[inline(always)]
 fn behind_line(end: u8, bytes: &[u8]) -> Option<&[u8]>
     ensures { IfSome result (λ rest. EndsLine (end ∷ bytes.now) rest.now) }
@@ -180,7 +180,7 @@ fn sample_row(sensor: Sensor, moment: u32, value: Option<i32>) -> Row
     Row::Sample { sensor, item }
 }
 
-// The sample of that sensor whose moment and value are in front, and what stands behind its line.
+// The sample of that sensor whose moment and value are in front, and what stands after its line.
 #[inline(always)]
 fn sample_in_front(sensor: Sensor, bytes: &[u8]) -> Option<(Row, &[u8])>
     ensures { IfSome result (λ p. IsRowIn p.0 (spelling_of (Word.Of sensor) ++ 44 ∷ bytes.now) p.1.now) }
@@ -220,7 +220,7 @@ pub(crate) fn any_row(bytes: &[u8]) -> Option<(Row, &[u8])>
     }
 }
 
-// The bytes up to the first comma, quote, carriage return or line feed, and that byte with those behind it.
+// The bytes up to the first comma, quote, carriage return or line feed, and that byte with those after it.
 fn plain_in_front(bytes: &[u8]) -> Option<(&[u8], &[u8])>
     ensures plain { IfSome result (λ p. list_any is_special p.0.now ≡ false) }
     ensures parts { IfSome result (λ p. bytes.now ≡ p.0.now ++ p.1.now) }
@@ -234,7 +234,7 @@ fn plain_in_front(bytes: &[u8]) -> Option<(&[u8], &[u8])>
     None
 }
 
-// The field in front that stands between quotes, and what stands behind them.
+// The field in front that stands between quotes, and what stands after them.
 fn quoted_in_front(bytes: &[u8]) -> Option<(&[u8], &[u8])>
     ensures { IfSome result (λ p. IsFieldIn p.0.now bytes.now p.1.now) }
 {
@@ -244,7 +244,7 @@ fn quoted_in_front(bytes: &[u8]) -> Option<(&[u8], &[u8])>
     Some((field, rest))
 }
 
-// The field in front, with quotes or without, and what stands behind it.
+// The field in front, with quotes or without, and what stands after it.
 fn field_in_front(bytes: &[u8]) -> Option<(&[u8], &[u8])>
     ensures { IfSome result (λ p. IsFieldIn p.0.now bytes.now p.1.now) }
 {
@@ -266,7 +266,7 @@ fn bare_first(bytes: &[u8]) -> Option<u8>
 
 /// The three fields of a line, and what stands after the line.
 #[derive(Clone, Copy, Debug)]
-pub(crate) struct Line<'a> {
+pub(crate) struct ThreeFields<'a> {
     pub first: &'a [u8],
     pub second: &'a [u8],
     pub third: &'a [u8],
@@ -275,7 +275,7 @@ pub(crate) struct Line<'a> {
 
 /// The line of three fields in front of the bytes, each with quotes or without, if its first byte isn't that of a byte
 /// order mark.
-pub(crate) fn line_in_front(bytes: &[u8]) -> Option<Line<'_>>
+pub(crate) fn line_in_front(bytes: &[u8]) -> Option<ThreeFields<'_>>
     ensures { IfSome result (λ l. IsRecordIn (l.first.now ∷ l.second.now ∷ l.third.now ∷ []) bytes.now l.rest.now) }
 {
     bare_first(bytes)?;
@@ -284,7 +284,7 @@ pub(crate) fn line_in_front(bytes: &[u8]) -> Option<Line<'_>>
     let (third, rest) = field_in_front(behind(rest, b",")?)?;
     let (end, rest) = rest.split_first()?;
     let rest = behind_line(*end, rest)?;
-    Some(Line {
+    Some(ThreeFields {
         first,
         second,
         third,
@@ -294,7 +294,7 @@ pub(crate) fn line_in_front(bytes: &[u8]) -> Option<Line<'_>>
 
 /// What stands after a byte of a blank line in front, or after a byte order mark that no byte was taken before.
 pub(crate) fn behind_no_row(bytes: &[u8], begun: bool) -> Option<&[u8]>
-    ensures { IfSome result (λ rest. IsPassed begun bytes.now rest.now) }
+    ensures { IfSome result (λ rest. IsNoRow begun bytes.now rest.now) }
 {
     match bytes {
         [b'\n', rest @ ..] => Some(rest),

@@ -12,7 +12,7 @@ ghost use Rattle.std.specs.Prelude.{◌≡◌, ◌≤◌, ◌<◌, ◌+◌, ◌^
 ghost use Rattle.edr_spell.specs.Spell.{Spell, IsCycleInput, largest_trace};
 ghost use Rattle.edr_spell.specs.Fault.{FirstFault};
 ghost use Rattle.edr_trace.specs.Told.{GivesCycles, GivesFault, TellsRefusal, TellsOf};
-ghost use Rattle.edr_trace.specs.SoFar.{LeadsTo, IsCounted, OfWhole};
+ghost use Rattle.edr_trace.specs.SoFar.{LeadsTo, LeavesLess, OfWhole};
 ghost use Rattle.edr_trace.specs.Fronts.{IsRowTaken, IsRowRefused};
 
 use csv::{ByteRecord, ReaderBuilder};
@@ -22,7 +22,7 @@ use parse::{row_of, row_of_three};
 pub use reading::{LONGEST_ROW, TraceReading};
 use std::alloc::{AllocError, Global};
 use std::io::Read;
-use steps::{Progress, RowRefused, Trace, at_row};
+use steps::{HowFar, RowRefused, Trace, at_row};
 
 /// The most bytes that a trace may have.
 pub const LARGEST_TRACE: u32 = 67_108_864;
@@ -71,7 +71,7 @@ pub fn read(alloc: Global, bytes: &[u8]) -> Result<Vec<CycleInput>, ReadRefused>
     reading.finish(&bytes[taken..])
 }
 
-// Takes a row that isn't one of the two sensors that most rows are of, or isn't plain, and answers the bytes behind it.
+// Takes a row that isn't one of the two sensors that most rows are of, or isn't plain, and answers the bytes after it.
 #[inline(never)]
 fn take_any<'a>(
     alloc: Global,
@@ -93,7 +93,7 @@ fn take_any<'a>(
     Ok(Some(line.rest))
 }
 
-// Takes a row, and answers the bytes behind it. The two sensors that most rows are of are tried first, each with a code
+// Takes a row, and answers the bytes after it. The two sensors that most rows are of are tried first, each with a code
 // of its own.
 #[inline(always)]
 fn take_next<'a>(
@@ -116,18 +116,18 @@ fn take_next<'a>(
     take_any(alloc, trace, bytes)
 }
 
-// Takes a row in front of the bytes, or passes what is no row, and answers the bytes behind it.
+// Takes a row in front of the bytes, or passes what is no row, and answers the bytes after it.
 #[inline(always)]
 fn take_one<'a>(
     alloc: Global,
     trace: &mut Trace,
-    progress: &mut Progress,
+    progress: &mut HowFar,
     bytes: &'a [u8],
 ) -> Result<Option<&'a [u8]>, ReadRefused>
     requires { progress.old.rows + length bytes.now < 2 ^ 32 }
     ensures taken { IfOk result (λ o. IfSome o (λ rest.
         LeadsTo bytes.now rest.now trace.old trace.new progress.old progress.new)) }
-    ensures count { IfOk result (λ o. IfSome o (λ rest. IsCounted bytes.now rest.now progress.old progress.new)) }
+    ensures count { IfOk result (λ o. IfSome o (λ rest. LeavesLess bytes.now rest.now progress.old progress.new)) }
     ensures none { IfOk result (λ o. o ≡ None → (trace.new ≡ trace.old) × (progress.new ≡ progress.old)) }
     ensures refused { IfErr result (TellsOf bytes.now trace.old progress.old) }
 {
@@ -152,7 +152,7 @@ fn take_one<'a>(
 fn take_lines<'a>(
     alloc: Global,
     trace: &mut Trace,
-    progress: &mut Progress,
+    progress: &mut HowFar,
     bytes: &'a [u8],
 ) -> Result<&'a [u8], ReadRefused>
     requires { progress.old.rows + length bytes.now < 2 ^ 32 }
@@ -174,7 +174,7 @@ fn take_lines<'a>(
 fn read_rest<R: Read + Drop>(
     alloc: Global,
     trace: Trace,
-    progress: Progress,
+    progress: HowFar,
     source: R,
 ) -> Result<Vec<CycleInput>, ReadRefused>
     requires { (bytes : List ℕ) × (R.remaining source ≡ Some bytes) × (progress.rows + length bytes ≤ largest_trace) }

@@ -6,7 +6,7 @@ ghost use Rattle.edr_trace.specs.Told.{TellsRefusal};
 ghost use Rattle.edr_trace.specs.Given.{Given, TakesBytes, TellsOfMore};
 
 use crate::pieces::Pieces;
-use crate::steps::{Progress, Trace};
+use crate::steps::{HowFar, Trace};
 use crate::{ReadRefused, read_rest, take_lines};
 use edr_spell::CycleInput;
 use std::alloc::Global;
@@ -20,7 +20,7 @@ pub const LONGEST_ROW: usize = 64;
 enum Way {
     // Their rows are taken as they come.
     Rows,
-    // They are put behind these, which begin with a row that wasn't taken, and csv reads them all at the end.
+    // They are put after these, which begin with a row that wasn't taken, and csv reads them all at the end.
     Csv(Pieces),
     // Not at all.
     Refused(ReadRefused),
@@ -41,7 +41,7 @@ enum Way {
 pub struct TraceReading {
     alloc: Global,
     trace: Trace,
-    progress: Progress,
+    progress: HowFar,
     way: Way,
 }
 
@@ -53,7 +53,7 @@ impl TraceReading {
         TraceReading {
             alloc,
             trace: Trace::new(alloc),
-            progress: Progress {
+            progress: HowFar {
                 rows: 0,
                 begun: false,
             },
@@ -62,7 +62,7 @@ impl TraceReading {
     }
 
     /// Takes the rows in front of these bytes, and answers how many bytes it took. What it leaves, at most 64 bytes, is to be given
-    /// again in front of the bytes that follow. `finish` alone tells a fault, and all bytes after it are taken.
+    /// again in front of the bytes that follow. A fault is told by `finish` alone, and all bytes after it are taken.
     pub fn take_rows(&mut self, bytes: &[u8]) -> usize
         requires { (before : List ℕ) × Given before self.old × (length before + length bytes.now < 2 ^ 32) }
         ensures within { result ≤ length bytes.now }

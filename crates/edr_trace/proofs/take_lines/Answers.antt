@@ -1,5 +1,5 @@
 use Rattle.std.proofs.Common.{arith, refl, sym, ap, subst, ◌∙◌, ◌≡◌, List, [], ◌++◌, ℕ, append_assoc}
-use Rattle.edr_trace.specs.SoFar.{IsLeft, LeadsTo, IsCounted}
+use Rattle.edr_trace.specs.SoFar.{IsLeft, LeadsTo, LeavesLess}
 use Rattle.edr_trace.proofs.take_lines.Goals as goal
 
 pub loop-behind-init : goal.loop-behind-init
@@ -20,7 +20,7 @@ loop-behind-preserved c =
     let behind = c.in-Ok-Some.behind.now in
     let new = c.take_one.new in
     let taken : LeadsTo l.rest.now behind l.trace new.trace l.progress new.progress = rw c.in-Ok-Some.field-0-is at c.in-Ok-Some.ensures.taken in
-    let count : IsCounted l.rest.now behind l.progress new.progress = rw c.in-Ok-Some.field-0-is at c.in-Ok-Some.ensures.count in
+    let count : LeavesLess l.rest.now behind l.progress new.progress = rw c.in-Ok-Some.field-0-is at c.in-Ok-Some.ensures.count in
     record {
       count = omega (arith, inv.count, count.0);
       front = inv.front ++ taken.0;
