@@ -2,6 +2,7 @@ pub mod AuditLemmas
 pub mod BranchLemmas
 pub mod CommandLemmas
 pub mod CompareLemmas
+pub mod CountLemmas
 pub mod CycleLemmas
 pub mod EndLemmas
 pub mod EventLemmas

@@ -63,15 +63,17 @@ pub enum Difference {
     Report { offset: u32 },
 }
 
-// How many of the cycles may have two ends. There are no more of them than bytes of a trace.
-fn stops_in(cycles: &[CycleInput]) -> Result<u32, OutOfMemory>
-    ensures { IfOk result (λ n. n ≡ stops_in cycles.now) }
+// How many of the cycles may have two ends.
+#[tactic(auto, using(crate::proofs::CountLemmas::stops_few))]
+fn stops_in(cycles: &[CycleInput]) -> u32
+    requires { length cycles.now < 2 ^ 32 }
+    ensures { result ≡ stops_in cycles.now }
 {
     let found = cycles
         .iter()
         .filter(|c| 5 <= c.start_stop || 0 < c.stop)
         .count();
-    u32::try_from(found).map_err(|_| OutOfMemory)
+    found as u32
 }
 
 // The branch at the start of a run.
@@ -107,7 +109,7 @@ fn compare_runs(
 }
 
 // The verdict on the four pieces.
-#[tactic(auto, using(crate::proofs::AuditLemmas::fails_in))]
+#[tactic(auto, using(crate::proofs::AuditLemmas::fails_in, crate::proofs::CountLemmas::cycles_few))]
 fn verdict_on(
     alloc: Global,
     before: &[u8],
@@ -129,7 +131,7 @@ fn verdict_on(
         }
         Err(ReadRefused::OutOfMemory) => return Err(OutOfMemory),
     };
-    let found = stops_in(&cycles)?;
+    let found = stops_in(&cycles);
     if found > MOST_STOPS {
         return Ok(Verdict::Differs(Difference::Stops { found }));
     }
