@@ -53,14 +53,14 @@ fn cut_at<'a>(bytes: &'a [u8], count: u64) -> Option<(&'a [u8], &'a [u8])>
 
 /// The bytes of an image, of a trace and of a report. A first line tells how long the image and the trace are.
 #[derive(Drop)]
-pub(crate) struct Pieces<'a> {
+pub(crate) struct AuditPieces<'a> {
     pub before: &'a [u8],
     pub trace: &'a [u8],
     pub report: &'a [u8],
 }
 
 /// The pieces of these bytes, if they have such a first line and are as long as it tells.
-pub(crate) fn pieces_of<'a>(bytes: &'a [u8]) -> Option<Pieces<'a>>
+pub(crate) fn pieces_of<'a>(bytes: &'a [u8]) -> Option<AuditPieces<'a>>
     requires { length bytes.now ≤ largest_trace }
     ensures some { IfSome result (λ p. ArePieces bytes.now p.before.now p.trace.now p.report.now) }
     ensures none { result ≡ None → (before trace report : List ℕ) → ArePieces bytes.now before trace report → ⊥ }
@@ -72,7 +72,7 @@ pub(crate) fn pieces_of<'a>(bytes: &'a [u8]) -> Option<Pieces<'a>>
     let (image_len, trace_len) = lengths_in(line)?;
     let (before, rest) = cut_at(rest, image_len)?;
     let (trace, report) = cut_at(rest, trace_len)?;
-    Some(Pieces {
+    Some(AuditPieces {
         before,
         trace,
         report,
