@@ -26,8 +26,6 @@ mod lines;
 mod same;
 mod steps;
 mod tail;
-#[cfg(test)]
-mod tests;
 mod values;
 mod views;
 mod walk;

@@ -1,9 +1,9 @@
-//! The verdicts on starts that are stopped, over an image of two banks.
+//! The verdicts of an audit: on starts that are stopped, and on an event, over an image of two banks.
 
 ghost use Rattle.std.specs.Prelude.{◌+◌, ◌≤◌, length};
 
-use crate::{Difference, Verdict, audit};
-use edr_layout::OPEN_GATE;
+use edr_audit::{Difference, Verdict, audit};
+use edr_image::places::OPEN_GATE;
 use std::process::Abort;
 use std::test::Fail;
 
