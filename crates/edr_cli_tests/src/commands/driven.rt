@@ -2,9 +2,7 @@
 //! are served at once where there are eight workers, and that the slow sensors are asked for their parts.
 
 use super::drives::{DEPLOYED, quiet, struck, trace_of};
-use super::{
-    KEEP, SIZE, SOUND, Streams, kept_memory, memory_of, new_image, sink_of, source_of, words_of,
-};
+use super::{KEEP, SIZE, SOUND, Streams, memory_of, new_image, sink_of, source_of, words_of};
 use edr_cli::{Status, Words, command, drive};
 use edr_device::{MemNvm, MemSink, MemSource};
 use edr_drive::Gate;
@@ -55,32 +53,59 @@ fn words_by(alloc: Global, workers: Option<&str>) -> Result<Words, AllocError> {
     }
 }
 
-// Runs by threads or on one, and gives the status.
-fn serve<R: Threads + Wait + Copy + Send + Sync + 'static>(
-    rt: &R,
-    alloc: Global,
-    is_driven: bool,
-    words: &Words,
-    source: &mut MemSource,
-    sink: &mut MemSink,
-    memory: &mut MemNvm,
-) -> Result<Status, Fail> {
-    if !is_driven {
-        return Ok(command(alloc, words, source, sink, memory));
-    }
-    let gate = Arc::new(alloc, AlwaysOpen {})?;
-    Ok(drive(rt, alloc, words, source, sink, memory, &gate))
+// What a run is given beside its words.
+#[derive(Drop)]
+struct Outside {
+    source: MemSource,
+    sink: MemSink,
+    memory: MemNvm,
+}
+
+// The outside of a case.
+fn outside_of(alloc: Global, case: Case<'_>) -> Result<Outside, AllocError> {
+    let streams = Streams {
+        source_piece: 1_000,
+        source_fails: case.source_fails,
+        ..SOUND
+    };
+    let image = case.image;
+    let memory = memory_of(alloc, image, case.memory_fails, 0)?;
+    let sink = sink_of(alloc, streams)?;
+    let source = source_of(alloc, case.trace, streams)?;
+    Ok(Outside {
+        source,
+        sink,
+        memory,
+    })
+}
+
+// Runs on one thread, and gives the status.
+fn serve_alone(alloc: Global, words: &Words, outside: &mut Outside) -> Status {
+    let Outside {
+        source,
+        sink,
+        memory,
+    } = outside;
+    command(alloc, words, source, sink, memory)
+}
+
+// Runs by threads at this gate, and gives the status.
+fn serve_driven<
+    R: Threads + Wait + Copy + Send + Sync + 'static,
+    G: Gate + Drop + Send + Sync + 'static,
+>(rt: &R, alloc: Global, words: &Words, outside: &mut Outside, gate: &Arc<G>) -> Status {
+    let Outside {
+        source,
+        sink,
+        memory,
+    } = outside;
+    drive(rt, alloc, words, source, sink, memory, gate)
 }
 
 // What stands in sink and memory behind a run.
-fn outcome_of(
-    alloc: Global,
-    status: Status,
-    sink: &MemSink,
-    memory: &MemNvm,
-) -> Result<RunOutcome, AllocError> {
-    let text = sink.bytes().to_vec(alloc)?;
-    let image = memory.image().to_vec(alloc)?;
+fn outcome_of(alloc: Global, status: Status, outside: &Outside) -> Result<RunOutcome, AllocError> {
+    let text = outside.sink.bytes().to_vec(alloc)?;
+    let image = outside.memory.image().to_vec(alloc)?;
     Ok(RunOutcome {
         status,
         text,
@@ -94,28 +119,16 @@ fn run_case<R: Threads + Wait + Copy + Send + Sync + 'static>(
     alloc: Global,
     case: Case<'_>,
     workers: Option<&str>,
-) -> Result<RunOutcome, Fail> {
+) -> Result<RunOutcome, AllocError> {
     let words = words_by(alloc, workers)?;
-    let streams = Streams {
-        source_piece: 1_000,
-        source_fails: case.source_fails,
-        ..SOUND
-    };
-    let mut source = source_of(alloc, case.trace, streams)?;
-    let mut sink = sink_of(alloc, streams)?;
-    let image = case.image;
-    let mut memory = memory_of(alloc, image, case.memory_fails, 0)?;
-    let is_driven = workers.is_some();
-    let status = serve(
-        rt,
-        alloc,
-        is_driven,
-        &words,
-        &mut source,
-        &mut sink,
-        &mut memory,
-    )?;
-    Ok(outcome_of(alloc, status, &sink, &memory)?)
+    let mut outside = outside_of(alloc, case)?;
+    if workers.is_none() {
+        let status = serve_alone(alloc, &words, &mut outside);
+        return outcome_of(alloc, status, &outside);
+    }
+    let gate = Arc::new(alloc, AlwaysOpen {})?;
+    let status = serve_driven(rt, alloc, &words, &mut outside, &gate);
+    outcome_of(alloc, status, &outside)
 }
 
 fn check_same(rt: &impl Abort, driven: &RunOutcome, alone: &RunOutcome) {
@@ -239,22 +252,16 @@ impl Gate for Meeting {
     }
 }
 
-// A source that gives the trace of the struck car.
-fn struck_source(alloc: Global) -> Result<MemSource, AllocError> {
-    let trace = trace_of(alloc, &[struck(27_000)])?;
-    source_of(alloc, trace.as_bytes(), SOUND)
-}
-
 // A run of a crash by eight workers, at this gate.
 fn drive_struck<
     R: Threads + Wait + Abort + Copy + Send + Sync + 'static,
     G: Gate + Drop + Send + Sync + 'static,
 >(rt: &R, alloc: Global, gate: &Arc<G>) -> Result<(), Fail> {
     let words = words_of(alloc, &["drive", "8"])?;
-    let mut source = struck_source(alloc)?;
-    let mut sink = sink_of(alloc, SOUND)?;
-    let mut memory = kept_memory(alloc)?;
-    let status = drive(rt, alloc, &words, &mut source, &mut sink, &mut memory, gate);
+    let trace = trace_of(alloc, &[struck(27_000)])?;
+    let image = new_image(2, KEEP);
+    let mut outside = outside_of(alloc, sound(trace.as_bytes(), &image))?;
+    let status = serve_driven(rt, alloc, &words, &mut outside, gate);
     assert_eq!(rt; status, Status::Ok);
     Ok(())
 }
@@ -336,29 +343,30 @@ fn parts_are_served(rt: HostRuntime) -> Result<(), Fail> {
     Ok(())
 }
 
-// The frames of an image that is short and of one that is new, and what is reported of them by so many workers.
+// These frames are reported by so many workers.
+fn check_fleet<R: Threads + Wait + Abort + Copy + Send + Sync + 'static>(
+    rt: &R,
+    alloc: Global,
+    frames: &[u8],
+    workers: &str,
+) -> Result<(), Fail> {
+    let words = words_of(alloc, &["fleet", workers])?;
+    let image = new_image(2, KEEP);
+    let mut outside = outside_of(alloc, sound(frames, &image))?;
+    let gate = Arc::new(alloc, AlwaysOpen {})?;
+    let status = serve_driven(rt, alloc, &words, &mut outside, &gate);
+    assert_eq!(rt; str::from_utf8(outside.sink.bytes()), Ok(FLEET));
+    assert_eq!(rt; status, Status::Ok);
+    Ok(())
+}
+
+// The frames of an image that is short and of one that is new.
 #[test]
 fn a_fleet_is_reported(rt: HostRuntime) -> Result<(), Fail> {
     let alloc = rt.alloc();
     let mut frames = Vec::new(alloc);
     frames.extend_from_slice(&[0, 0, 0, 1, 0, 0, 0, 12, 96])?;
     frames.extend_from_slice(&new_image(2, KEEP))?;
-    for workers in ["1", "2"] {
-        let words = words_of(alloc, &["fleet", workers])?;
-        let mut source = source_of(alloc, &frames, SOUND)?;
-        let mut sink = sink_of(alloc, SOUND)?;
-        let mut memory = kept_memory(alloc)?;
-        let status = serve(
-            &rt,
-            alloc,
-            true,
-            &words,
-            &mut source,
-            &mut sink,
-            &mut memory,
-        )?;
-        assert_eq!(rt; str::from_utf8(sink.bytes()), Ok(FLEET));
-        assert_eq!(rt; status, Status::Ok);
-    }
-    Ok(())
+    check_fleet(&rt, alloc, &frames, "1")?;
+    check_fleet(&rt, alloc, &frames, "2")
 }
