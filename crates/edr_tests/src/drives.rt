@@ -1,13 +1,16 @@
 //! What the threads of a cycle have done before their join, since no clause refuses threads that leave all of it to the closing
 //! path; and a cycle that ends, since no clause refuses threads that wait for each other for ever.
-ghost use Rattle.std.specs.Prelude.{◌≤◌, IfOk};
+ghost use Rattle.std.specs.Prelude.{◌≤◌, IfOk, length};
 ghost use Rattle.std.specs.Arc.{arc_value};
+ghost use Rattle.edr_device.specs.Memory.{memory_image};
 ghost use Rattle.edr_items.specs.SensorLists.{IsLevel};
+ghost use Rattle.edr_tests.specs.Ready.{IsReady};
 
 use crate::dealt_sensors::{STEADY, fired_feeds, give};
 use crate::runs::{assert_level, formatted};
 use edr_cycle::{Books, start};
-use edr_drive::beginning::{begin, ends_of};
+use edr_device::MemNvm;
+use edr_drive::beginning::{Beginning, begin, ends_of};
 use edr_drive::committer::CommitterDesk;
 use edr_drive::drive_cycle;
 use edr_drive::threads::{Back, Crew, with_workers};
@@ -110,7 +113,11 @@ fn assert_offered(rt: &impl Abort, gate: &Counting) {
 }
 
 // Every item was taken, and every tick was closed and posted.
-fn assert_recorded(rt: &impl Abort, desk: &Desk, feeds: &Feeds) {
+fn assert_recorded(rt: &impl Abort, desk: &Option<Desk>, feeds: &Feeds) {
+    let Some(desk) = desk else {
+        assert!(rt; false);
+        return;
+    };
     assert_eq!(rt; desk.last, ends_of(feeds));
     assert_eq!(rt; (desk.core.closed(), desk.posted), (1000, 1000));
 }
@@ -122,7 +129,32 @@ fn assert_committed(rt: &impl Abort, back: &Back, committer: &mut CommitterDesk<
     assert_eq!(rt; committer.ledger.log.acks().len(), 3);
 }
 
-// A cycle up to the join of its threads, which have done all of its work.
+// What a cycle of feeds that end at this horizon begins with.
+fn begun(alloc: Global, memory: &mut MemNvm, horizon: u32) -> Result<Beginning, Fail>
+    ensures { IfOk result (IsReady (length (memory_image memory.new))) }
+{
+    let started = start(alloc, memory, horizon)?;
+    Ok(begin(alloc, started)?)
+}
+
+// The threads of a cycle have done all of its work before their join.
+fn check_join<R: Threads + Wait + Abort + Copy + Send + 'static>(
+    crew: &Crew<'_, R, Counting>,
+    beginning: Beginning,
+    memory: &mut MemNvm,
+)
+    requires { IsReady (length (memory_image memory.old)) beginning }
+{
+    let mut committer = beginning.committer;
+    let recording = beginning.recording;
+    let mut desk = Some(recording.desk);
+    let back = with_workers(crew, 0, recording.places, &mut desk, &mut committer, memory);
+    assert_offered(crew.rt, crew.gate);
+    assert_recorded(crew.rt, &desk, crew.feeds);
+    assert_committed(crew.rt, &back, &mut committer);
+}
+
+// A cycle by so many workers.
 fn check_threads<R: Threads + Wait + Abort + Copy + Send + 'static>(
     rt: &R,
     alloc: Global,
@@ -131,28 +163,14 @@ fn check_threads<R: Threads + Wait + Abort + Copy + Send + 'static>(
 ) -> Result<(), Fail> {
     let mut memory = formatted(alloc, 0)?;
     let gate = new_gate(alloc)?;
-    let started = start(alloc, &mut memory, feeds.horizon())?;
-    let beginning = begin(alloc, started)?;
-    let mut committer = beginning.committer;
-    let recording = beginning.recording;
-    let mut desk = Some(recording.desk);
+    let beginning = begun(alloc, &mut memory, feeds.horizon())?;
     let crew = Crew {
         rt,
         workers,
         gate: &gate,
         feeds,
     };
-    let back = with_workers(
-        &crew,
-        0,
-        recording.places,
-        &mut desk,
-        &mut committer,
-        &mut memory,
-    );
-    assert_offered(rt, &gate);
-    assert_recorded(rt, &desk.ok_or("the desk came back")?, feeds);
-    assert_committed(rt, &back, &mut committer);
+    check_join(&crew, beginning, &mut memory);
     Ok(())
 }
 

@@ -1,0 +1,17 @@
+-- A cycle by threads that has begun.
+use Rattle.std.specs.Prelude.{◌≡◌, ◌≤◌, ℕ, [], false}
+use Rattle.edr_items.specs.SensorLists.{SensorLists}
+use Rattle.edr_image.specs.Image.{image_size}
+use Rattle.edr_loops.specs.Desks.{HasPosted, IsRecording}
+use Rattle.edr_loops.specs.Orders.{orders_taken}
+use Rattle.edr_drive.specs.Places.{HaveBegun}
+use Rattle.edr_drive.specs.declared.beginning.Beginning.{Beginning}
+
+-- its threads can run: nothing was done yet, and a memory of this size has room for its banks
+pub record IsReady (size : ℕ) (b : Beginning) : Type 0 where
+  pub places : (f : SensorLists) → HaveBegun f b.recording.places
+  pub recording : IsRecording b.recording.desk
+  pub posted : HasPosted b.recording.desk
+  pub live : b.committer.ledger.banks.ended ≡ false
+  pub holds : image_size b.committer.ledger.banks.store.header.banks ≤ size
+  pub fresh : orders_taken b.committer.inbox ≡ []
