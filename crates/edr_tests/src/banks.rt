@@ -68,15 +68,24 @@ fn keep_locked(
     Ok(())
 }
 
+// Three events after each other, of three cycles.
+fn keep_three(banks: &mut Banks, memory: &mut MemNvm) -> Result<(), Fail>
+    requires { image_size banks.old.store.header.banks ≤ length (memory_image memory.old) }
+{
+    let crash = crash()?;
+    keep_locked(banks, memory, 1, crash)?;
+    keep_locked(banks, memory, 2, crash)?;
+    keep_locked(banks, memory, 3, crash)?;
+    Ok(())
+}
+
 // The formatting reads once, and the opening three times.
 #[test]
 fn commands_make_no_read(rt: HostRuntime) -> Result<(), Fail> {
     let mut memory = zeros(rt.alloc(), 2_144, &[5, 6, 7, 8, 9, 10])?;
     Banks::format(&mut memory, 2, Choice::Overwrite)?;
     let mut banks = Banks::open(rt.alloc(), &mut memory)?;
-    keep_locked(&mut banks, &mut memory, 1, crash()?)?;
-    keep_locked(&mut banks, &mut memory, 2, crash()?)?;
-    keep_locked(&mut banks, &mut memory, 3, crash()?)?;
+    keep_three(&mut banks, &mut memory)?;
     assert_eq!(rt; banks.retrieve(rt.alloc())?.len(), 2);
     let unread = Banks::open(rt.alloc(), &mut memory).err();
     assert_eq!(rt; unread, Some(OpenFault::StoreFault));

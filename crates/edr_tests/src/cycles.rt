@@ -3,8 +3,8 @@ ghost use Rattle.std.specs.Prelude.{◌≤◌, IfOk};
 ghost use Rattle.edr_cycle.specs.Remaining.{Remains};
 
 use crate::dealt_sensors::fired_feeds;
-use crate::runs::{formatted, only_event};
-use edr_banks::{Banks, Log};
+use crate::runs::{formatted, kept_event};
+use edr_banks::Log;
 use edr_core::{Captures, SplitCore};
 use edr_cycle::{Books, Parts, Remaining, run_rest, start};
 use edr_device::MemNvm;
@@ -40,8 +40,7 @@ fn asks_are_answered(rt: HostRuntime) -> Result<(), Fail> {
     let feeds = fired_feeds(alloc, 200)?;
     let log = run_split(alloc, &mut memory, &feeds)?;
     assert_eq!(rt; log.acks().len(), 3);
-    let banks = Banks::open(alloc, &mut memory)?;
-    let record = only_event(&rt, &banks, alloc)?;
+    let (_, record) = kept_event(&rt, alloc, &mut memory)?;
     assert!(rt; record.locked && record.crash.is_some());
     assert_eq!(rt; record.pre.speed().last().copied(), Some(Some(50)));
     assert_eq!(rt; record.pre.throttle().last().copied(), Some(Some(20)));

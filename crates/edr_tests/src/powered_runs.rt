@@ -1,8 +1,12 @@
 //! The power goes off after each cycle. Where nothing is pending no clause can tell, so a device that counts it does.
+ghost use Rattle.edr_spell.specs.Spell.{IsCycleInput};
 
 use crate::runs::{fired, formatted, stopped};
-use edr_device::{Failed, Nvm};
+use edr_device::{Failed, MemNvm, Nvm};
 use edr_replay::replay;
+use edr_spell::CycleInput;
+use std::alloc::Global;
+use std::process::Abort;
 use std::test::Fail;
 
 // A device round another one, which counts how often its power goes off. It tells no bytes.
@@ -74,6 +78,22 @@ impl<N: Nvm> Nvm for Powered<N> {
     }
 }
 
+// Behind a run of this cycle the power has gone off so many times.
+fn check_power(
+    rt: &impl Abort,
+    alloc: Global,
+    powered: &mut Powered<MemNvm>,
+    cycle: CycleInput,
+    times: u32,
+) -> Result<(), Fail>
+    requires { IsCycleInput cycle }
+{
+    let cycles = [cycle];
+    replay(alloc, powered, &cycles)?;
+    assert_eq!(rt; powered.power_cycles, times);
+    Ok(())
+}
+
 // One cycle runs to its end, one is stopped in its commands, and one in its start.
 #[test]
 fn the_power_goes_off_behind_each_cycle(rt: HostRuntime) -> Result<(), Fail> {
@@ -82,14 +102,7 @@ fn the_power_goes_off_behind_each_cycle(rt: HostRuntime) -> Result<(), Fail> {
         nvm: formatted(alloc, 0)?,
         power_cycles: 0,
     };
-    let whole = [fired(&rt, alloc, 0)?];
-    replay(alloc, &mut powered, &whole)?;
-    assert_eq!(rt; powered.power_cycles, 1);
-    let cut = [fired(&rt, alloc, 5)?];
-    replay(alloc, &mut powered, &cut)?;
-    assert_eq!(rt; powered.power_cycles, 2);
-    let unstarted = [stopped(&rt, alloc, 5)];
-    replay(alloc, &mut powered, &unstarted)?;
-    assert_eq!(rt; powered.power_cycles, 3);
-    Ok(())
+    check_power(&rt, alloc, &mut powered, fired(&rt, alloc, 0)?, 1)?;
+    check_power(&rt, alloc, &mut powered, fired(&rt, alloc, 5)?, 2)?;
+    check_power(&rt, alloc, &mut powered, stopped(&rt, alloc, 5), 3)
 }

@@ -80,7 +80,7 @@ fn assert_ran(
 }
 
 // The event in bank 1, which alone has one.
-pub(crate) fn only_event(rt: &impl Abort, banks: &Banks, alloc: Global) -> Result<Record, Fail> {
+fn only_event(rt: &impl Abort, banks: &Banks, alloc: Global) -> Result<Record, Fail> {
     let found = banks.retrieve(alloc)?;
     assert_eq!(rt; found.len(), 1);
     assert_eq!(rt; found[0].bank, 1);
@@ -88,6 +88,31 @@ pub(crate) fn only_event(rt: &impl Abort, banks: &Banks, alloc: Global) -> Resul
         BankView::Event(record) => Ok(record),
         _ => Err("an event".into()),
     }
+}
+
+// The count of a memory, and the event in bank 1, which alone has one.
+pub(crate) fn kept_event(
+    rt: &impl Abort,
+    alloc: Global,
+    memory: &mut MemNvm,
+) -> Result<(u32, Record), Fail> {
+    let banks = Banks::open(alloc, memory)?;
+    let record = only_event(rt, &banks, alloc)?;
+    Ok((banks.count(), record))
+}
+
+// A run of a cycle that is stopped in its fifth call, over a memory with this pick.
+fn check_stopped(rt: &impl Abort, alloc: Global, pick: u64, acks: &[Ack]) -> Result<(), Fail> {
+    let mut memory = formatted(alloc, pick)?;
+    let cycles = [fired(rt, alloc, 5)?];
+    let reports = replay(alloc, &mut memory, &cycles)?;
+    assert_eq!(rt; reports.len(), 1);
+    assert_ran(rt, &reports[0], 1, Some(5), acks);
+    let (count, record) = kept_event(rt, alloc, &mut memory)?;
+    assert_eq!(rt; count, 1);
+    assert_eq!(rt; record.locked, pick == 1);
+    assert_eq!(rt; record.crash, None);
+    Ok(())
 }
 
 // The event is taken in four calls, and the fifth opens the gate of its lock.
@@ -99,17 +124,6 @@ fn stopped_in_a_lock(rt: HostRuntime) -> Result<(), Fail> {
         kind: Kind::Take,
         applied: Applied::Kept { bank: 1 },
     };
-    for pick in [0u64, 1] {
-        let mut memory = formatted(alloc, pick)?;
-        let cycles = [fired(&rt, alloc, 5)?];
-        let reports = replay(alloc, &mut memory, &cycles)?;
-        assert_eq!(rt; reports.len(), 1);
-        assert_ran(&rt, &reports[0], 1, Some(5), &[take]);
-        let banks = Banks::open(alloc, &mut memory)?;
-        assert_eq!(rt; banks.count(), 1);
-        let record = only_event(&rt, &banks, alloc)?;
-        assert_eq!(rt; record.locked, pick == 1);
-        assert_eq!(rt; record.crash, None);
-    }
-    Ok(())
+    check_stopped(&rt, alloc, 0, &[take])?;
+    check_stopped(&rt, alloc, 1, &[take])
 }
