@@ -8,7 +8,7 @@ use Rattle.edr_drive.specs.Places.{HaveBegun}
 use Rattle.edr_drive.specs.declared.beginning.Beginning.{Beginning}
 
 -- its threads can run: nothing was done yet, and a memory of this size has room for its banks
-pub record IsReady (size : ℕ) (b : Beginning) : Type 0 where
+pub record IsReadyOver (size : ℕ) (b : Beginning) : Type 0 where
   pub places : (f : SensorLists) → HaveBegun f b.recording.places
   pub recording : IsRecording b.recording.desk
   pub posted : HasPosted b.recording.desk

@@ -4,7 +4,7 @@ ghost use Rattle.std.specs.Prelude.{◌≤◌, IfOk, length};
 ghost use Rattle.std.specs.Arc.{arc_value};
 ghost use Rattle.edr_device.specs.Memory.{memory_image};
 ghost use Rattle.edr_items.specs.SensorLists.{IsLevel};
-ghost use Rattle.edr_tests.specs.Ready.{IsReady};
+ghost use Rattle.edr_tests.specs.Ready.{IsReadyOver};
 
 use crate::dealt_sensors::{STEADY, fired_feeds, give};
 use crate::runs::{assert_level, formatted};
@@ -131,7 +131,7 @@ fn assert_committed(rt: &impl Abort, back: &Back, committer: &mut CommitterDesk<
 
 // What a cycle of feeds that end at this horizon begins with.
 fn begun(alloc: Global, memory: &mut MemNvm, horizon: u32) -> Result<Beginning, Fail>
-    ensures { IfOk result (IsReady (length (memory_image memory.new))) }
+    ensures { IfOk result (IsReadyOver (length (memory_image memory.new))) }
 {
     let started = start(alloc, memory, horizon)?;
     Ok(begin(alloc, started)?)
@@ -143,7 +143,7 @@ fn check_join<R: Threads + Wait + Abort + Copy + Send + 'static>(
     beginning: Beginning,
     memory: &mut MemNvm,
 )
-    requires { IsReady (length (memory_image memory.old)) beginning }
+    requires { IsReadyOver (length (memory_image memory.old)) beginning }
 {
     let mut committer = beginning.committer;
     let recording = beginning.recording;
