@@ -35,6 +35,8 @@ mod migrations;
 #[cfg(test)]
 mod powered_runs;
 #[cfg(test)]
+mod readers;
+#[cfg(test)]
 mod records;
 #[cfg(test)]
 mod runs;
