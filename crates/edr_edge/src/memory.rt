@@ -9,8 +9,8 @@ use edr_device::{Failed, Nvm};
 use std::fs::{File, Files};
 use std::rt::Clock;
 
-/// The longest piece that is read at once.
-const LONGEST_READ: usize = 1_024;
+/// The longest piece that is read at once: as many bytes as an image of 16 banks has, which an audit reads.
+const LONGEST_READ: usize = 16_480;
 
 /// A memory in a file, which counts what fails. It tells no bytes. Where the file can't be opened or made it has the size 0,
 /// and each read, write and sync fails.
