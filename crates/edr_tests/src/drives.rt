@@ -134,7 +134,8 @@ fn begun(alloc: Global, memory: &mut MemNvm, horizon: u32) -> Result<Beginning, 
     ensures { IfOk result (IsReadyOver (length (memory_image memory.new))) }
 {
     let started = start(alloc, memory, horizon)?;
-    Ok(begin(alloc, started)?)
+    let beginning = begin(alloc, started)?;
+    Ok(beginning)
 }
 
 // The threads of a cycle have done all of its work before their join.
