@@ -15,7 +15,7 @@ pub struct LiveWriter {
     ghost none_pending: { ended ≡ false → drop writer.behind writer.log.items ≡ [] },
 }
 
-/// The end of a reader. It can move into a thread.
+/// The end of a reader. It may go to another thread ([`crate::laws::a_reader_may_move`]).
 #[derive(Drop)]
 pub struct LiveReader {
     pub(crate) reader: CopyReader,

@@ -12,6 +12,7 @@ mod copy;
 mod ends;
 mod entry;
 mod knowledge;
+pub mod laws;
 mod opening;
 mod publishing;
 mod reading;
