@@ -32,8 +32,9 @@ pub(crate) struct Bells {
 // The word of a bell at which somebody sleeps.
 const ASLEEP: u32 = 1;
 
-// After so many rounds that found nothing a thread sleeps. With what a round looks at, they take less than a tenth of a millisecond.
-const ROUNDS: u32 = 100;
+// After this many rounds that found nothing a thread sleeps. With what a round looks at, they take some ten microseconds. More rounds
+// keep the processor from those that have work, where there are more threads than processors or other programs.
+const ROUNDS: u32 = 10;
 
 // For how long a thread stays on the processor in each of these rounds. It doesn't yield: where other work keeps the processors busy, a
 // thread that yields loses its turn for milliseconds.

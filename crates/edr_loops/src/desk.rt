@@ -21,9 +21,6 @@ use edr_capture::Part;
 use edr_core::{Issued, SplitClosing, SplitCore};
 use edr_items::{Item, LATEST_MOMENT, LONGEST_GAP, Sensor};
 
-// Half of the longest gap.
-const STRIDE: u32 = LONGEST_GAP / 2;
-
 /// What the recorder's thread owns, and hands back at its join.
 #[derive(Drop)]
 pub struct Desk {
@@ -165,10 +162,10 @@ impl Desk {
         give(&mut self.core, sensor, item)
     }
 
-    // Wakes the workers of slow sensors each time that another half of a gap is granted. They are then awake before the recorder has to
-    // wait for their marks.
+    // Wakes the workers of slow sensors each time that another gap is granted. A wake costs the recorder more than it takes to close
+    // that many quiet ticks, so it wakes them no oftener.
     fn tell_grant(&self, upto: u32) {
-        if self.granted / STRIDE < upto / STRIDE {
+        if self.granted / LONGEST_GAP < upto / LONGEST_GAP {
             self.watch.ring(Bell::Grants);
         }
     }
