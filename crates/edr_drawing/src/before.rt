@@ -19,7 +19,7 @@ use edr_record::{LONG_SLOTS, Pre, Profile};
 pub const BEFORE_HEAD: &[u8] =
     br#"<svg viewBox="0 0 1860 540" role="img" aria-labelledby="p{0}t p{0}d">
 <title id="p{0}t">Event {0}, the {1} seconds before time zero</title>
-<desc id="p{0}d">Speed, throttle and service brake at each {2}, driver belt and warning lamp one second before time zero. The table of elements has all values.</desc>
+<desc id="p{0}d">Speed, throttle and service brake at each {2}, driver belt and warning lamp one second before time zero. The table by time has the values of the first three, that of all elements belt and lamp.</desc>
 <rect x="330" y="36" width="1500" height="454" class="plot"/>
 "#;
 

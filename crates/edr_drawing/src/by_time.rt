@@ -20,7 +20,7 @@ pub const BY_TIME_START: &[u8] = br#"<div class="time {1}">
 
 pub const BY_TIME_END: &[u8] = b"</div>\n</div>\n";
 
-pub const BLOCK_START: &[u8] = br#"<table class="num">
+pub const BLOCK_START: &[u8] = br#"<table class="num" aria-label="Before time zero, by time">
 <thead><tr><th scope="col">s</th><th scope="col">km/h</th><th scope="col">mph</th><th scope="col">throttle %</th><th scope="col">brake</th></tr></thead>
 <tbody>
 "#;

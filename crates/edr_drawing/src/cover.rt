@@ -39,7 +39,7 @@ pub const NO_GREATEST: &[u8] = b"none</td><td>none</td><td>";
 
 pub const EVENT_END: &[u8] = b"{0}</td></tr>\n";
 
-pub const DAMAGED_START: &[u8] = br#"<h3>Damaged banks</h3>
+pub const DAMAGED_START: &[u8] = br#"<h2>Damaged banks</h2>
 <div class="note"><p>A damaged bank holds bytes that are no record. Nothing else of it is shown, and no event of this report stands for it.</p>
 <ul>
 "#;

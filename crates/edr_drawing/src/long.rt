@@ -16,10 +16,11 @@ pub const STYLE: &[u8] = br#"@page{margin:9mm 12mm 12mm}
 *{box-sizing:border-box}
 body{margin:0;background:#e7e7e7;color:#000;font:9pt/1.35 Arial,"Liberation Sans",Helvetica,sans-serif}
 @media screen{section{max-width:210mm;overflow-x:auto;margin:8mm auto;padding:10mm 12mm;background:#fff;box-shadow:0 0 2mm #999}}
+@media screen and (max-width:700px){section{margin:0 0 4mm;padding:4mm}section>svg{min-width:165mm}}
 @media print{body{background:#fff}section{margin:0}section+section{break-before:page}}
 h1{font-size:15pt;margin:0 0 1mm}
-h2{font-size:13pt;margin:0 0 1mm}
-h3{font-size:9pt;margin:1mm 0 .5mm}
+h2,h3{font-size:9pt;margin:1mm 0 .5mm}
+.head h2{font-size:13pt;margin:0 0 1mm}
 ul{margin:.5mm 0;padding-left:5mm}
 p{margin:0 0 1mm}
 .head{display:flex;flex-wrap:wrap;justify-content:space-between;align-items:baseline;border-bottom:.5mm solid #000;margin-bottom:1mm}
@@ -59,7 +60,7 @@ svg .n1{fill:#00547f;font-weight:700}svg .n2{fill:#a84300;font-weight:700}
 .blocks{display:grid;grid-template-columns:repeat(auto-fill,minmax(56mm,1fr));gap:0 5mm;align-items:start}
 .time table{font-size:8pt;line-height:1.06}.time th,.time td{padding:0 .6mm;border-bottom:.1mm solid #bbb}
 .num .l{text-align:left}.time th:first-child{text-align:right}
-@media print{.time.long,table.num:has(+.time.long){break-before:page}table.num+.time.long{break-before:auto}table.num,.two,svg,.note{break-inside:avoid}h3{break-after:avoid}}
+@media print{.time.long,table.num:has(+.time.long){break-before:page}table.num+.time.long{break-before:auto}table.num,.two,svg,.note{break-inside:avoid}h2,h3{break-after:avoid}}
 @media print and (max-height:262mm){svg{width:96%;margin:0 auto .5mm}}
 @page{font:8pt Arial,"Liberation Sans",Helvetica,sans-serif;@bottom-right{content:"side " counter(page) " of " counter(pages)}}
 @page e1{@bottom-center{content:"Event 1"}}
@@ -92,7 +93,7 @@ pub const BODY: &[u8] = br##""}}
 "##;
 
 /// How to read the pages.
-pub const NOTES: &[u8] = br#"<h3>How to read the pages</h3>
+pub const NOTES: &[u8] = br#"<h2>How to read the pages</h2>
 <ul class="notes">
 <li>Marks are what was recorded. The lines between them only guide the eye: nothing is recorded between two marks.</li>
 <li>A hatched field and the word "none" are absent: they aren't zero. Where a value is 0, the mark stands at 0. An axis without any sample has no marks, but the words "no sample". One that lacks some has a dotted curve with hollow marks, and the legend says how many.</li>
@@ -110,8 +111,8 @@ pub const NOTES: &[u8] = br#"<h3>How to read the pages</h3>
 "#;
 
 /// The fields that are filled in by hand.
-pub const FORM: &[u8] = br#"<h3>To be filled in by hand</h3>
-<table class="form">
+pub const FORM: &[u8] = br#"<h2>To be filled in by hand</h2>
+<table class="form" aria-label="To be filled in by hand">
 <tbody>
 <tr><th scope="row">Vehicle, VIN</th><td></td><th scope="row">Case</th><td></td></tr>
 <tr><th scope="row">Date and place of the crash</th><td></td><th scope="row">Read out by, when</th><td></td></tr>

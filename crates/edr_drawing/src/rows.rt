@@ -16,13 +16,13 @@ use edr_record::Crash;
 pub const AFTER_HEAD: &[u8] =
     br#"<svg viewBox="0 0 1860 950" role="img" aria-labelledby="c{0}t c{0}d">
 <title id="c{0}t">Event {0}, after time zero: change of speed and deployments</title>
-<desc id="c{0}d">Delta-V longitudinal and lateral at each 10 ms. Greatest longitudinal {1}, greatest lateral {2}, end of event {3} ms. Below, on the same time axis, the deployments. The table of elements has all values.</desc>
+<desc id="c{0}d">Delta-V longitudinal and lateral at each 10 ms. Greatest longitudinal {1}, greatest lateral {2}, end of event {3} ms. Below, on the same time axis, the deployments. The table of all elements has the values.</desc>
 <rect x="330" y="40" width="1500" height="450" class="plot"/>
 "#;
 
 /// What stands in the place of the chart where nothing after time zero is recorded.
 pub const WITHOUT_PART: &[u8] = br#"<svg viewBox="0 0 1860 180" role="img" aria-labelledby="c{0}t">
-<title id="c{0}t">Event {0}, after time zero: not recorded</title>
+<title id="c{0}t">Event {0}, after time zero: not recorded, so what fired then isn't known</title>
 <rect x="330" y="10" width="1500" height="160" class="gap"/>
 <text x="0" y="98" class="b">Delta-V, restraints</text>
 <text x="1050" y="82" class="c m">not recorded</text>

@@ -55,13 +55,17 @@ pub const TABLE_END: &[u8] = b"</tbody>\n</table>\n";
 
 pub const ELEMENTS_START: &[u8] = br#"<h3>All elements, as the report has them</h3>
 <div class="two">
-<table>
+<table aria-label="All elements">
 <tbody>
 "#;
 
 pub const ELEMENTS_END: &[u8] = b"</tbody>\n</table>\n</div>\n";
 
-pub const NEXT_TABLE: &[u8] = b"</tbody>\n</table>\n<table>\n<tbody>\n";
+pub const NEXT_TABLE: &[u8] = br#"</tbody>
+</table>
+<table aria-label="All elements, continued">
+<tbody>
+"#;
 
 /// The table of a run, which says how many events it took, how many were retrieved, and so how many are gone at least.
 pub const RUN_START: &[u8] = br#"<table>
