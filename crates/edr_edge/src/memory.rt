@@ -18,6 +18,9 @@ const LONGEST_READ: usize = 16_480;
 pub struct FileNvm<R> {
     file: Option<ImageFile<R>>,
     size: u32,
+    // A read goes here first, so that one that fails leaves what it was to fill. It is made once, since to clear it takes longer
+    // than most reads.
+    bytes: [u8; LONGEST_READ],
     // Whether a write was tried since the last sync that succeeded.
     is_unsettled: bool,
     clock: u64,
@@ -40,6 +43,7 @@ impl<R> FileNvm<R> {
         FileNvm {
             file,
             size,
+            bytes: [0; LONGEST_READ],
             is_unsettled: false,
             clock: 0,
             last_good: 0,
@@ -128,13 +132,12 @@ impl<R: Files<File = File> + Clock> Nvm for FileNvm<R> {
         self.size
     }
 
-    /// Reads into a place of its own first, so that a read that fails leaves `into`.
     fn read(&mut self, at: u32, into: &mut [u8]) -> Result<(), Failed> {
-        let mut bytes = [0; LONGEST_READ];
         let n = into.len();
         if n > LONGEST_READ {
             return self.fail();
         }
+        let bytes = &mut self.bytes[..];
         let read = match &mut self.file {
             Some(file) => file.read_at(at, &mut bytes[..n]).is_ok(),
             None => false,
@@ -142,7 +145,7 @@ impl<R: Files<File = File> + Clock> Nvm for FileNvm<R> {
         if !read {
             return self.fail();
         }
-        into.copy_from_slice(&bytes[..n]);
+        into.copy_from_slice(&self.bytes[..n]);
         Ok(())
     }
 
