@@ -209,10 +209,13 @@ pub(crate) fn across_row(bytes: &[u8]) -> Option<(Row, &[u8])>
     sample_in_front(Sensor::Across, rest)
 }
 
-/// The same of each sensor.
+/// The same of each sensor. Where all rows have quotes, no word is looked for in vain.
 pub(crate) fn any_row(bytes: &[u8]) -> Option<(Row, &[u8])>
     ensures { IfSome result (λ p. IsRowIn p.0 bytes.now p.1.now) }
 {
+    if let [b'"', ..] = bytes {
+        return None;
+    }
     let (word, rest) = word_in_front(bytes)?;
     match word {
         Word::Of(sensor) => sample_in_front(sensor, rest),
