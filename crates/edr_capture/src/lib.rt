@@ -11,7 +11,7 @@ ghost use Rattle.edr_items.specs.Item.{mark_of};
 ghost use Rattle.edr_definitions.specs.Rings.{RisesFrom};
 ghost use Rattle.edr_definitions.specs.Parts.{slot, slots_before};
 ghost use Rattle.edr_items.specs.declared.Sensor.{Sensor};
-ghost use Rattle.edr_capture.specs.Kept.{IsSample, IsCount};
+ghost use Rattle.edr_capture.specs.Kept.{IsSample, IsCountBetween, IsCount};
 ghost use Rattle.edr_capture.specs.Capture.{CaptureStandsFor, kept_after, slot_at};
 ghost use Rattle.edr_items.specs.Sensor.{IsSlow};
 ghost use Rattle.edr_capture.specs.SensorPart.{IsOfSensor, part, part_slots};
@@ -115,13 +115,25 @@ fn tick_before(tick: u64, back: u64) -> i64
 
 // The slots at each tenth of a second from 20 s before that time zero up to it.
 fn slots_before(capture: &Capture, zero: u32) -> [Option<i32>; LONG_SLOTS]
-    requires near { mark_of capture.now ≤ zero + LONGEST_GAP }
     ensures { result ≡ slots_before capture.now zero }
 {
+    slots_back(&capture.ring, zero)
+}
+
+// The same, from the newest back: few samples lie between a slot and the one before it.
+fn slots_back(ring: &HeapCircularBuffer<Item>, zero: u32) -> [Option<i32>; LONG_SLOTS]
+    requires rises { RisesFrom 0 ring.now.items }
+    requires samples { All IsSample ring.now.items }
+    ensures { result ≡ slots_before ring.now.items zero }
+{
     let mut slots = [None; LONG_SLOTS];
-    for k in 0..LONG_SLOTS {
-        let at = u64::from(zero) + u64::from(SLOT_STEP) * k as u64;
-        slots[k] = capture.slot(tick_before(at, u64::from(SLOT_REACH)));
+    let mut count = ring.len();
+    for done in 0..LONG_SLOTS {
+        let k = LONG_SLOTS - 1 - done;
+        let tick = u64::from(zero) + u64::from(SLOT_STEP) * k as u64;
+        let at = tick_before(tick, u64::from(SLOT_REACH));
+        count = count_down_to(ring, at, count);
+        slots[k] = slot_by_count(ring, at, count);
     }
     slots
 }
@@ -168,13 +180,14 @@ fn is_up_to(ring: &HeapCircularBuffer<Item>, place: usize, at: i64) -> bool
     }
 }
 
-// How many of the samples have a moment of at most `at`.
-fn count_up_to(ring: &HeapCircularBuffer<Item>, at: i64) -> usize
+// How many of the samples have a moment of at most `at`, where that is no fewer than `low` and no more than `high`.
+fn count_between(ring: &HeapCircularBuffer<Item>, at: i64, low: usize, high: usize) -> usize
     requires rises { RisesFrom 0 ring.now.items }
+    requires between { IsCountBetween ring.now.items at low high }
     ensures { IsCount ring.now.items at result }
 {
-    let mut low = 0;
-    let mut high = ring.len();
+    let mut low = low;
+    let mut high = high;
     while low < high {
         let middle = low + (high - low) / 2;
         if is_up_to(ring, middle, at) {
@@ -184,6 +197,33 @@ fn count_up_to(ring: &HeapCircularBuffer<Item>, at: i64) -> usize
         }
     }
     low
+}
+
+// The same, where that is no more than `most`. The steps back grow, so that they are logarithmic in how many fewer it is.
+fn count_down_to(ring: &HeapCircularBuffer<Item>, at: i64, most: usize) -> usize
+    requires rises { RisesFrom 0 ring.now.items }
+    requires between { IsCountBetween ring.now.items at 0 most }
+    ensures { IsCount ring.now.items at result }
+{
+    let mut high = most;
+    loop {
+        let step = (most - high).max(1);
+        if high < step {
+            return count_between(ring, at, 0, high);
+        }
+        if is_up_to(ring, high - step, at) {
+            return count_between(ring, at, high - step + 1, high);
+        }
+        high -= step;
+    }
+}
+
+// The same of all samples.
+fn count_up_to(ring: &HeapCircularBuffer<Item>, at: i64) -> usize
+    requires rises { RisesFrom 0 ring.now.items }
+    ensures { IsCount ring.now.items at result }
+{
+    count_between(ring, at, 0, ring.len())
 }
 
 // Whether the sample counts at a tick that it is not later than.
@@ -199,7 +239,16 @@ fn slot_of(ring: &HeapCircularBuffer<Item>, at: i64) -> Option<i32>
     requires samples { All IsSample ring.now.items }
     ensures { result ≡ slot_at ring.now.items at }
 {
-    let count = count_up_to(ring, at);
+    slot_by_count(ring, at, count_up_to(ring, at))
+}
+
+// The same, where so many of them have a moment of at most `at`.
+fn slot_by_count(ring: &HeapCircularBuffer<Item>, at: i64, count: usize) -> Option<i32>
+    requires rises { RisesFrom 0 ring.now.items }
+    requires samples { All IsSample ring.now.items }
+    requires counted { IsCount ring.now.items at count }
+    ensures { result ≡ slot_at ring.now.items at }
+{
     if count == 0 {
         return None;
     }
