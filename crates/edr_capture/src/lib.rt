@@ -11,7 +11,7 @@ ghost use Rattle.edr_items.specs.Item.{mark_of};
 ghost use Rattle.edr_definitions.specs.Rings.{RisesFrom};
 ghost use Rattle.edr_definitions.specs.Parts.{slot, slots_before};
 ghost use Rattle.edr_items.specs.declared.Sensor.{Sensor};
-ghost use Rattle.edr_capture.specs.Kept.{IsSample, IsCountBetween, IsCount};
+ghost use Rattle.edr_capture.specs.Kept.{IsSample, IsCountBetween, IsCount, IsLastOf};
 ghost use Rattle.edr_capture.specs.Capture.{CaptureStandsFor, kept_after, slot_at};
 ghost use Rattle.edr_items.specs.Sensor.{IsSlow};
 ghost use Rattle.edr_capture.specs.SensorPart.{IsOfSensor, part, part_slots};
@@ -127,13 +127,13 @@ fn slots_back(ring: &HeapCircularBuffer<Item>, zero: u32) -> [Option<i32>; LONG_
     ensures { result ≡ slots_before ring.now.items zero }
 {
     let mut slots = [None; LONG_SLOTS];
-    let mut count = ring.len();
+    let mut first = first_of(ring, ring.len());
     for done in 0..LONG_SLOTS {
         let k = LONG_SLOTS - 1 - done;
         let tick = u64::from(zero) + u64::from(SLOT_STEP) * k as u64;
         let at = tick_before(tick, u64::from(SLOT_REACH));
-        count = count_down_to(ring, at, count);
-        slots[k] = slot_by_count(ring, at, count);
+        first = first_up_to(ring, at, first);
+        slots[k] = slot_by_last(first.count, first.last, at);
     }
     slots
 }
@@ -218,7 +218,56 @@ fn count_down_to(ring: &HeapCircularBuffer<Item>, at: i64, most: usize) -> usize
     }
 }
 
-// The same of all samples.
+// So many samples from the oldest on, and the last of these.
+#[derive(Clone, Copy)]
+struct FirstSamples {
+    count: usize,
+    last: Option<Item>,
+}
+
+// So many of them.
+fn first_of(ring: &HeapCircularBuffer<Item>, count: usize) -> FirstSamples
+    requires { count ≤ length ring.now.items }
+    ensures count { result.count ≡ count }
+    ensures last { IsLastOf ring.now.items count result.last }
+{
+    let last = match count {
+        0 => None,
+        _ => ring.get(count - 1).copied(),
+    };
+    FirstSamples { count, last }
+}
+
+// Whether the sample, if there is one, has a moment of at most `at`.
+fn is_none_past(last: Option<Item>, at: i64) -> bool
+    ensures none { last ≡ None → IsTrue result }
+    ensures some { (x : Item) → last ≡ Some x → IsTrue result ↔ (pos x.moment ≤ℤ at) }
+{
+    match last {
+        Some(latest) => i64::from(latest.moment) <= at,
+        None => true,
+    }
+}
+
+// Those that have a moment of at most `at`, where these are no more than `most`. Most often they are as many, or one fewer.
+fn first_up_to(ring: &HeapCircularBuffer<Item>, at: i64, most: FirstSamples) -> FirstSamples
+    requires rises { RisesFrom 0 ring.now.items }
+    requires between { IsCountBetween ring.now.items at 0 most.count }
+    requires last { IsLastOf ring.now.items most.count most.last }
+    ensures count { IsCount ring.now.items at result.count }
+    ensures last { IsLastOf ring.now.items result.count result.last }
+{
+    if is_none_past(most.last, at) {
+        return most;
+    }
+    let fewer = first_of(ring, most.count - 1);
+    if is_none_past(fewer.last, at) {
+        return fewer;
+    }
+    first_of(ring, count_down_to(ring, at, fewer.count - 1))
+}
+
+// How many of the samples have a moment of at most `at`.
 fn count_up_to(ring: &HeapCircularBuffer<Item>, at: i64) -> usize
     requires rises { RisesFrom 0 ring.now.items }
     ensures { IsCount ring.now.items at result }
@@ -226,11 +275,11 @@ fn count_up_to(ring: &HeapCircularBuffer<Item>, at: i64) -> usize
     count_between(ring, at, 0, ring.len())
 }
 
-// Whether the sample counts at a tick that it is not later than.
-fn is_recent(sample: &Item, at: i64) -> bool
-    ensures { IsTrue result ↔ (at ≤ℤ pos (sample.now.moment + LONGEST_AGE)) }
+// Whether a sample of that moment counts at a tick that it is not later than.
+fn is_recent(moment: u32, at: i64) -> bool
+    ensures { IsTrue result ↔ (at ≤ℤ pos (moment + LONGEST_AGE)) }
 {
-    at <= i64::from(sample.moment) + i64::from(LONGEST_AGE)
+    at <= i64::from(moment) + i64::from(LONGEST_AGE)
 }
 
 // The slot that the samples give.
@@ -239,25 +288,23 @@ fn slot_of(ring: &HeapCircularBuffer<Item>, at: i64) -> Option<i32>
     requires samples { All IsSample ring.now.items }
     ensures { result ≡ slot_at ring.now.items at }
 {
-    slot_by_count(ring, at, count_up_to(ring, at))
+    let first = first_of(ring, count_up_to(ring, at));
+    slot_by_last(first.count, first.last, at)
 }
 
-// The same, where so many of them have a moment of at most `at`.
-fn slot_by_count(ring: &HeapCircularBuffer<Item>, at: i64, count: usize) -> Option<i32>
-    requires rises { RisesFrom 0 ring.now.items }
-    requires samples { All IsSample ring.now.items }
-    requires counted { IsCount ring.now.items at count }
-    ensures { result ≡ slot_at ring.now.items at }
+// The same, where that is the last of the samples that have a moment of at most `at`, and so many have one.
+fn slot_by_last(count: usize, last: Option<Item>, at: i64) -> Option<i32>
+    ensures { (xs : List Item) → RisesFrom 0 xs → All IsSample xs → IsCount xs at count → IsLastOf xs count last
+        → result ≡ slot_at xs at }
 {
-    if count == 0 {
-        return None;
-    }
-    let Some(latest) = ring.get(count - 1) else {
-        return None;
-    };
-    if is_recent(latest, at) {
-        latest.value
-    } else {
-        None
+    match last {
+        None => None,
+        Some(latest) => {
+            if is_recent(latest.moment, at) {
+                latest.value
+            } else {
+                None
+            }
+        }
     }
 }
