@@ -4,3 +4,4 @@ pub mod Desks
 pub mod Left
 pub mod CommitterDesks
 pub mod Ended
+pub mod Live
