@@ -5,3 +5,6 @@ pub mod Left
 pub mod CommitterDesks
 pub mod Ended
 pub mod Live
+pub mod Marks
+pub mod Following
+pub mod Reading

@@ -1,22 +1,35 @@
 //! One ignition cycle by threads, beside which a reader sees the banks.
 
-ghost use Rattle.std.specs.Prelude.{◌≡◌, ◌≤◌, true, IfOk, OnErr};
+ghost use Rattle.std.specs.Prelude.{◌≡◌, ◌≤◌, [], None, true, false, IfOk, OnErr};
 ghost use Rattle.std.specs.Arc.{arc_value};
 ghost use Rattle.edr_device.specs.Faults.{Rose};
 ghost use Rattle.edr_device.specs.Lent.{GoesOn};
 ghost use Rattle.edr_items.specs.SensorLists.{IsLevel, horizon_of};
 ghost use Rattle.edr_image.specs.Image.{image_size};
+ghost use Rattle.edr_cycle.specs.Begun.{room_for};
 ghost use Rattle.edr_cycle.specs.Ends.{MeetsCycleOn};
+ghost use Rattle.edr_live.specs.Ends.{has_ended, opened_by, shown_by};
+ghost use Rattle.edr_live.specs.Writing.{first_view};
+ghost use Rattle.edr_drive.specs.Beginnings.{IsBeginning};
 ghost use Rattle.edr_drive.specs.Live.{IsLastOf};
+ghost use Rattle.edr_drive.specs.Reading.{HasReadOn};
 
+use crate::beginning::{Beginning, begin};
+use crate::live_news::News;
+use crate::live_reader::{ReaderDesk, ReadingOn};
+use crate::live_cycle::{ShownCycle, drive_shown};
+use crate::threads::Crew;
+use edr_banks::Banks;
+use edr_board::Watch;
 use edr_cycle::{CycleEnd, Started};
 use edr_device::Nvm;
 use edr_items::Feeds;
-use edr_live::LiveView;
+use edr_live::{Live, LiveReader, LiveView, open};
 use edr_loops::Gate;
 use std::alloc::{AllocError as OutOfMemory, Global};
+use std::snapshot::Snapshot;
 use std::sync::{Arc, Wait};
-use std::thread::Threads;
+use std::thread::{Builder, Threads};
 
 /// How a cycle ended beside which a reader saw the banks.
 #[derive(Drop)]
@@ -26,6 +39,95 @@ pub struct LiveEnd {
     pub last: LiveView,
     /// Memory ran out in showing a command: neither that one was shown nor a later one.
     pub cut: bool,
+}
+
+// Both ends of what is shown, and both of the board on which the reader sleeps.
+struct Readership {
+    live: Live,
+    news: News,
+    watch: Watch,
+}
+
+// The writer is opened last: it is ended by `close` alone, so no `?` may stand after it.
+fn open_readership<R: Wait>(rt: &R, alloc: Global, banks: &Banks) -> Result<Readership, OutOfMemory>
+    ensures opened { IfOk result (λ r. opened_by r.live.writer ≡ first_view banks.now) }
+    ensures none { IfOk result (λ r. shown_by r.live.writer ≡ []) }
+    ensures fresh { IfOk result (λ r. has_ended r.live.writer ≡ false) }
+{
+    let (news, watch) = News::open(alloc)?;
+    let live = open(rt, alloc, banks)?;
+    Ok(Readership { live, news, watch })
+}
+
+// How many bytes of stack the reader's thread gets, as the others of a cycle. It has some copies of all banks on it, of 30 KB each.
+const STACK: usize = 1 << 20;
+
+// Runs a cycle while a reader reads in a thread of its own, which is started first and joined last. Where it can't be started, its
+// closure comes back with the reader, and is called here at the end.
+fn drive_beside<
+    R: Threads + Wait + Copy + Send + 'static,
+    G: Gate + Drop + Send + Sync + 'static,
+    N: Nvm,
+>(
+    crew: &Crew<'_, R, G>,
+    number: u32,
+    beginning: Beginning,
+    readership: Readership,
+    nvm: &mut N,
+) -> LiveEnd
+    requires beginning { IsBeginning beginning.recording.desk.core.cycle beginning.recording beginning.committer.inbox }
+    requires counted { 1 ≤ beginning.recording.desk.core.cycle }
+    requires rests { beginning.committer.ledger.banks.held ≡ None }
+    requires live { beginning.committer.ledger.banks.ended ≡ false }
+    requires empty { beginning.committer.ledger.log.acks ≡ [] }
+    requires no_command { beginning.committer.ledger.log.commands ≡ [] }
+    requires room { room_for (horizon_of (arc_value crew.now.feeds.now)) ≤ beginning.committer.ledger.log.spare }
+    requires size { image_size beginning.committer.ledger.banks.store.header.banks ≤ N.extent nvm.old }
+    requires opened { opened_by readership.live.writer ≡ first_view beginning.committer.ledger.banks }
+    requires none { shown_by readership.live.writer ≡ [] }
+    requires fresh { has_ended readership.live.writer ≡ false }
+    ensures number { result.end.number ≡ number }
+    ensures lent { GoesOn N.Nvm nvm.old nvm.new }
+    ensures cause { result.end.failed ≡ true → Rose (N.faults nvm.old) (N.faults nvm.new) }
+    ensures cycle { MeetsCycleOn N.Nvm (arc_value crew.now.feeds.now) beginning.recording.desk.core.cycle
+        beginning.committer.ledger.banks.store result.end.failed result.end.log.acks nvm.old nvm.new }
+    ensures last { IsLastOf beginning.committer.ledger.banks.store (arc_value crew.now.feeds.now)
+        beginning.recording.desk.core.cycle result }
+{
+    let Readership { live, news, watch } = readership;
+    let Live { writer, reader } = live;
+    let promise = ReadingOn {
+        before: Snapshot::of(&reader),
+    };
+    let desk = ReaderDesk { reader, watch };
+    let inner = *crew.rt;
+    let thread = Builder::new().stack_size(STACK).spawn_with(
+        crew.rt,
+        promise,
+        move || -> LiveReader
+            ensures { HasReadOn desk.reader result }
+        { desk.follow(&inner) },
+    );
+    let ShownCycle {
+        failed,
+        log,
+        mut writer,
+        cut,
+    } = drive_shown(crew, beginning, writer, news, nvm);
+    let reader = match thread {
+        Ok(child) => child.join(crew.rt),
+        Err(refused) => (refused.value)(),
+    };
+    if let Some(mut another) = writer.tell() {
+        let _ = another.read();
+    }
+    let last = writer.close(crew.rt, reader);
+    let end = CycleEnd {
+        number,
+        failed,
+        log: log.told(),
+    };
+    LiveEnd { end, last, cut }
 }
 
 /// Runs a cycle as `drive_cycle` does, and shows what each command did to the banks. A reader in a thread of its own reads
@@ -60,6 +162,14 @@ pub fn drive_cycle_live<
     // What was shown last is the banks after the first commands of the log.
     ensures last { IfOk result (IsLastOf started.banks.store (arc_value feeds.now) started.number) }
 {
-    drop(started);
-    Err(OutOfMemory)
+    let number = started.number();
+    let beginning = begin(alloc, started)?;
+    let readership = open_readership(rt, alloc, &beginning.committer.ledger.banks)?;
+    let crew = Crew {
+        rt,
+        workers: workers.into(),
+        gate,
+        feeds,
+    };
+    Ok(drive_beside(&crew, number, beginning, readership, nvm))
 }
