@@ -1,10 +1,10 @@
 -- What is shown follows the banks, one command after the other.
-use Rattle.std.proofs.Common.{◌≡◌, ◌≤◌, ◌+◌, ◌∙◌, ℕ, zero, suc, Bool, true, false, List, [], ◌∷◌, ◌++◌, ap, arith, length, length-append, map, refl, subst, sym, take, take_all}
+use Rattle.std.proofs.Common.{◌≡◌, ◌≤◌, ◌+◌, ◌∙◌, ℕ, zero, suc, Bool, true, false, List, [], ◌∷◌, ◌++◌, ap, arith, length, length-append, refl, subst, sym, take, take_all}
 use Rattle.std.proofs.lemmas.Bool.{false≢true}
 use Rattle.std.proofs.lemmas.List.{take-append-le}
 use Rattle.edr_record.specs.declared.Command.{Command}
 use Rattle.edr_items.specs.SensorLists.{SensorLists}
-use Rattle.edr_definitions.specs.Commands.{Issue, commands}
+use Rattle.edr_definitions.specs.Commands.{commands}
 use Rattle.edr_image.specs.declared.Ack.{Ack}
 use Rattle.edr_image.specs.Banks.{Store}
 use Rattle.edr_image.specs.Steps.{BankStep, State, after, at_rest, reply_to, state_after, steps_of}
@@ -12,7 +12,7 @@ use Rattle.edr_run.specs.Cycle.{issues_in}
 use Rattle.edr_run.specs.Schedule.{all_commands}
 use Rattle.edr_run.proofs.ReplyLemmas.{one_reply, state_after-append, steps_of-more}
 use Rattle.edr_banks.specs.Opened.{OpenedBanks, state_of}
-use Rattle.edr_banks.specs.Applying.{ended_after, opened_after, steps_for}
+use Rattle.edr_banks.specs.Applying.{opened_after, steps_for}
 use Rattle.edr_cycle.specs.Commits.{commands_from}
 use Rattle.edr_live.specs.declared.shown.LiveView.{LiveView}
 use Rattle.edr_live.specs.declared.shown.ShownCommand.{ShownCommand}

@@ -99,12 +99,12 @@ module _ {D : Type 0} (content : D → Option (List ℕ)) (settled : D → ℕ �
     time = h.time;
     taken = h.taken;
     stopped = map_err r h.stopped (λ t. record {
-        j = t.j;
-        fails = t.fails;
-        made = t.made;
-        log_is = t.log_is;
-        commands_are = ap (λ (ks : List Command). mark_of s ∷ ks) t.commands_are;
-        cut = t.cut;
+      j = t.j;
+      fails = t.fails;
+      made = t.made;
+      log_is = t.log_is;
+      commands_are = ap (λ (ks : List Command). mark_of s ∷ ks) t.commands_are;
+      cut = t.cut;
     });
     any_moment = h.any_moment;
     past = h.past;

@@ -1,8 +1,7 @@
 -- A command that stands for banks. What a function over any ledger leaves of it is told by its banks and its log alone, and where the
 -- device failed by its log alone. So the log of a ledger that shows begins, in proofs, with the mark of the banks that it began with.
-use Rattle.std.specs.Prelude.{ℕ, Some, None, Option, List, [], ◌∷◌, ◌++◌, map}
+use Rattle.std.specs.Prelude.{ℕ, Some, None, List, [], ◌∷◌, ◌++◌, map}
 use base.Stored.{Gv, gnil, gnum, gcons}
-use Rattle.edr_record.specs.Parts.{PrePart}
 use Rattle.edr_record.specs.declared.Place.TheVariants.{First}
 use Rattle.edr_record.specs.declared.Profile.TheVariants.{Short}
 use Rattle.edr_record.specs.declared.Command.{Command}

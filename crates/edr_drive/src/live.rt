@@ -15,9 +15,9 @@ ghost use Rattle.edr_drive.specs.Live.{IsLastOf};
 ghost use Rattle.edr_drive.specs.Reading.{HasReadOn};
 
 use crate::beginning::{Beginning, begin};
+use crate::live_cycle::{ShownCycle, drive_shown};
 use crate::live_news::News;
 use crate::live_reader::{ReaderDesk, ReadingOn};
-use crate::live_cycle::{ShownCycle, drive_shown};
 use crate::threads::Crew;
 use edr_banks::Banks;
 use edr_board::Watch;

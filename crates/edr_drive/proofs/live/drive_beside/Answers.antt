@@ -1,12 +1,12 @@
 use denote.Param.Send.{sendable}
-use Rattle.std.proofs.Common.{subst, sym, ◌≡◌, ◌∙◌, List, ap}
+use Rattle.std.proofs.Common.{subst, sym, ◌∙◌, List, ap}
 use Rattle.std.specs.Arc.{arc_value}
 use Rattle.edr_board.proofs.seats.Watch.TheSendSync as watch
 use Rattle.edr_image.specs.declared.Ack.{Ack}
 use Rattle.edr_cycle.specs.Ends.{MeetsCycle}
 use Rattle.edr_live.specs.declared.ends.LiveReader.{LiveReader}
 use Rattle.edr_live.specs.declared.shown.LiveView.{LiveView}
-use Rattle.edr_live.specs.Ends.{opened_by, shown_by, view_shown}
+use Rattle.edr_live.specs.Ends.{opened_by, shown_by}
 use Rattle.edr_live.proofs.SendLemmas.{reader_sends}
 use Rattle.edr_live.specs.Shown.{shown_view}
 use Rattle.edr_drive.specs.Following.{IsShownOf}

@@ -1,4 +1,4 @@
-use Rattle.std.proofs.Common.{◌≡◌, ◌∙◌, List, ap, subst}
+use Rattle.std.proofs.Common.{◌∙◌, ap, subst}
 use Rattle.std.specs.Arc.{arc_value}
 use Rattle.edr_banks.specs.Opened.{OpenedBanks}
 use Rattle.edr_run.specs.Cycle.{issues_in}
@@ -27,8 +27,8 @@ returns-clause-cycle g c =
     let same = c.new.ensures.books in
     subst (λ (o : OpenedBanks). MeetsCycle N.content N.settled N.since N.clock N.last_good f n o.store c.is_err-failed.result after.books.log.acks c.args.nvm.now c.drive.new.nvm) same.0
     (meets N.content N.settled N.since N.clock N.last_good g.met.N.Nvm.only_now f n c.requires.counted before.books.banks after.books.banks (ap (λ (o : OpenedBanks). o.held) same.0 ∙ c.requires.rests)
-        (marked before.start.value before.books.log) (marked after.start.value after.books.log) (ap (λ (l : CycleLogged). l.acks) same.1 ∙ c.requires.empty) c.args.nvm.now c.drive.new.nvm
-        c.drive.result c.is_err-failed.result c.is_err-failed.ensures.value c.drive.ensures.commits)
+    (marked before.start.value before.books.log) (marked after.start.value after.books.log) (ap (λ (l : CycleLogged). l.acks) same.1 ∙ c.requires.empty) c.args.nvm.now c.drive.new.nvm
+    c.drive.result c.is_err-failed.result c.is_err-failed.ensures.value c.drive.ensures.commits)
 
 -- the mark of the log tells that what came back began with the same banks
 pub returns-clause-shown : goal.returns-clause-shown
@@ -43,4 +43,4 @@ returns-clause-shown g c =
     (ap (λ (l : CycleLogged). l.acks) same.1 ∙ c.requires.empty) (ap (λ (l : CycleLogged). l.commands) same.1 ∙ c.requires.no_command) c.drive.result c.drive.ensures.commits in
     subst (λ (o : OpenedBanks). IsShownOf o.store f n after.books.log.acks (view_shown after.writer) after.cut) (ends.start ∙ c.new.ensures.start)
     (last-shown after.start.value.store f n ends.m after.books.banks after.books.log.commands (opened_by after.writer) (shown_by after.writer) after.cut after.books.log.acks ends.commands ends.long after.count
-        (record { stands = after.stands; within = after.within; views = after.views; all = after.all }))
+    (record { stands = after.stands; within = after.within; views = after.views; all = after.all }))

@@ -1,8 +1,7 @@
-use Rattle.std.proofs.Common.{◌≡◌, ◌∙◌, [], ◌∷◌, ◌++◌, List, ap, append-nil, length, subst, sym}
-use Rattle.edr_banks.specs.Opened.{OpenedBanks, state_of}
+use Rattle.std.proofs.Common.{◌∙◌, [], ◌∷◌, List, ap, append-nil, subst, sym}
+use Rattle.edr_banks.specs.Opened.{OpenedBanks}
 use Rattle.edr_record.specs.declared.Command.{Command}
 use Rattle.edr_definitions.specs.Commands.{issue_at}
-use Rattle.edr_cycle.specs.CycleLogged.{CycleLogged}
 use Rattle.edr_cycle.proofs.CommittedLemmas.{commits_failed, commits_same}
 use Rattle.edr_live.specs.declared.shown.LiveView.{LiveView}
 use Rattle.edr_live.specs.Ends.{opened_by, shown_by, view_shown}
@@ -20,8 +19,8 @@ returns-in_err-applied-clause-commits g c =
     let xs = issue_at c.args.tick c.args.command.now ∷ [] in
     commits-marked N.content N.settled N.since N.clock N.last_good a.start.value xs c.from_residual.result a.books.banks b.banks a.books.log b.log c.args.nvm.now c.commit_answered.new.nvm
     (commits_failed N.content N.settled N.since N.clock N.last_good xs [] xs
-        c.commit_answered.result c.from_residual.result _ a.books.banks b.banks a.books.log b.log c.args.nvm.now c.commit_answered.new.nvm
-        (sym (append-nil xs)) c.in_err-applied.was c.from_residual.ensures.0 c.commit_answered.ensures.commits)
+    c.commit_answered.result c.from_residual.result _ a.books.banks b.banks a.books.log b.log c.args.nvm.now c.commit_answered.new.nvm
+    (sym (append-nil xs)) c.in_err-applied.was c.from_residual.ensures.0 c.commit_answered.ensures.commits)
 
 pub show-requires-clause-named : goal.show-requires-clause-named
 show-requires-clause-named g c off =
@@ -72,4 +71,4 @@ returns-clause-commits g c =
     let xs = issue_at c.args.tick c.args.command.now ∷ [] in
     commits-marked N.content N.settled N.since N.clock N.last_good a.start.value xs _ a.books.banks b.banks a.books.log b.log c.args.nvm.now c.commit_answered.new.nvm
     (commits_same N.content N.settled N.since N.clock N.last_good xs c.commit_answered.result _ tt a.books.banks b.banks a.books.log b.log c.args.nvm.now c.commit_answered.new.nvm
-        c.in_ok-applied.was c.commit_answered.ensures.commits)
+    c.in_ok-applied.was c.commit_answered.ensures.commits)
