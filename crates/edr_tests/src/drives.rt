@@ -25,7 +25,7 @@ use std::thread::Threads;
 
 // A gate that lets every item pass. It counts them, and the parts of the time zero 100 that are sent.
 #[derive(Drop)]
-struct Counting {
+pub(crate) struct Counting {
     passed: AtomicU64,
     served: AtomicU64,
 }
@@ -42,7 +42,7 @@ impl Gate for Counting {
     }
 }
 
-fn new_gate(alloc: Global) -> Result<Arc<Counting>, Fail> {
+pub(crate) fn new_gate(alloc: Global) -> Result<Arc<Counting>, Fail> {
     let gate = Counting {
         passed: AtomicU64::new(0),
         served: AtomicU64::new(0),
@@ -59,7 +59,7 @@ fn share(alloc: Global, feeds: Feeds) -> Result<Arc<Feeds>, Fail>
 }
 
 // The same, of which it is asserted that they are level.
-fn level(rt: &impl Abort, alloc: Global, feeds: Feeds) -> Result<Arc<Feeds>, Fail>
+pub(crate) fn level(rt: &impl Abort, alloc: Global, feeds: Feeds) -> Result<Arc<Feeds>, Fail>
     ensures { IfOk result (λ f. IsLevel (arc_value f)) }
 {
     assert_level(rt, &feeds);

@@ -27,6 +27,8 @@ mod fleets;
 #[cfg(test)]
 mod generators;
 #[cfg(test)]
+mod live_drives;
+#[cfg(test)]
 mod logs;
 #[cfg(test)]
 mod memories;
