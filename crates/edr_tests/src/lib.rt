@@ -39,6 +39,8 @@ mod powered_runs;
 #[cfg(test)]
 mod readers;
 #[cfg(test)]
+mod readers_beside;
+#[cfg(test)]
 mod records;
 #[cfg(test)]
 mod runs;

@@ -14,7 +14,7 @@ use std::sync::Wait;
 use std::test::Fail;
 
 // The pre part of an event of cycle 1.
-fn pre() -> Pre {
+pub(crate) fn pre() -> Pre {
     Pre {
         key: Key {
             cycle: 1,
@@ -31,7 +31,7 @@ fn pre() -> Pre {
     }
 }
 
-fn zeros(alloc: Global, size: usize) -> Result<MemNvm, AllocError>
+pub(crate) fn zeros(alloc: Global, size: usize) -> Result<MemNvm, AllocError>
     requires { size < 2 ^ 32 }
     ensures { IfOk result (λ m. length (memory_image m) ≡ size) }
 {
@@ -95,7 +95,7 @@ fn seen(applied: u64, events: usize, locked: usize) -> Sight {
 // ---- in one thread
 
 // Takes a command, and shows what came of it.
-fn take_and_show<R: Wait>(
+pub(crate) fn take_and_show<R: Wait>(
     rt: &R,
     writer: &mut LiveWriter,
     banks: &mut Banks,
