@@ -18,15 +18,15 @@ use std::thread::Threads;
 
 // How often a view had more commands than the one before, and how often one had fewer.
 #[derive(Clone, Copy, Debug, PartialEq, Eq)]
-struct Changes {
+struct ViewChanges {
     more: u32,
     fewer: u32,
 }
 
 // Reads until two commands are seen, and tells after each read how many they were.
-fn watch_two<R: Wait>(rt: &R, reader: &mut LiveReader, seen: &AtomicU64) -> Changes {
+fn watch_two<R: Wait>(rt: &R, reader: &mut LiveReader, seen: &AtomicU64) -> ViewChanges {
     let mut before = 0;
-    let mut changes = Changes { more: 0, fewer: 0 };
+    let mut changes = ViewChanges { more: 0, fewer: 0 };
     for _ in rt.forever() {
         let Some(view) = reader.read() else { break };
         changes.more = changes
@@ -75,7 +75,7 @@ fn show_two<R: Wait>(
 #[derive(Drop)]
 struct Watched {
     reader: LiveReader,
-    changes: Changes,
+    changes: ViewChanges,
 }
 
 fn watch<R: Wait>(reader: LiveReader, seen: Arc<AtomicU64>, rt: &R) -> Watched {
@@ -91,7 +91,7 @@ fn watch_beside<R: Threads + Wait + Copy + Send + 'static>(
     banks: &mut Banks,
     memory: &mut MemNvm,
     seen: [Arc<AtomicU64>; 2],
-) -> Result<Changes, Fail>
+) -> Result<ViewChanges, Fail>
     requires size { image_size banks.old.store.header.banks ≤ length (memory_image memory.old) }
     requires count { banks.old.store.header.banks ≡ (opened_by live.writer).banks }
     requires views { (view_shown live.writer).views ≡ padded 16 banks.old.store.banks }
@@ -127,6 +127,6 @@ fn a_reader_sees_each_command_in_its_thread(rt: HostRuntime) -> Result<(), Fail>
     let seen = two_ends(rt.alloc())?;
     let live = open(&rt, rt.alloc(), &banks)?;
     let changes = watch_beside(&rt, live, &mut banks, &mut memory, seen)?;
-    assert_eq!(rt; changes, Changes { more: 2, fewer: 0 });
+    assert_eq!(rt; changes, ViewChanges { more: 2, fewer: 0 });
     Ok(())
 }
