@@ -11,7 +11,7 @@ ghost use Rattle.edr_items.specs.Item.{mark_of};
 ghost use Rattle.edr_definitions.specs.Rings.{RisesFrom};
 ghost use Rattle.edr_definitions.specs.Parts.{slot, slots_before};
 ghost use Rattle.edr_items.specs.declared.Sensor.{Sensor};
-ghost use Rattle.edr_capture.specs.Kept.{IsSample, IsCountBetween, IsCount, IsLastOf};
+ghost use Rattle.edr_capture.specs.Kept.{IsSample, IsCountBetween, IsCount, IsLastCounted};
 ghost use Rattle.edr_capture.specs.Capture.{CaptureStandsFor, kept_after, slot_at};
 ghost use Rattle.edr_items.specs.Sensor.{IsSlow};
 ghost use Rattle.edr_capture.specs.SensorPart.{IsOfSensor, part, part_slots};
@@ -229,7 +229,7 @@ struct FirstSamples {
 fn first_of(ring: &HeapCircularBuffer<Item>, count: usize) -> FirstSamples
     requires { count ≤ length ring.now.items }
     ensures count { result.count ≡ count }
-    ensures last { IsLastOf ring.now.items count result.last }
+    ensures last { IsLastCounted ring.now.items count result.last }
 {
     let last = match count {
         0 => None,
@@ -253,9 +253,9 @@ fn is_none_past(last: Option<Item>, at: i64) -> bool
 fn first_up_to(ring: &HeapCircularBuffer<Item>, at: i64, most: FirstSamples) -> FirstSamples
     requires rises { RisesFrom 0 ring.now.items }
     requires between { IsCountBetween ring.now.items at 0 most.count }
-    requires last { IsLastOf ring.now.items most.count most.last }
+    requires last { IsLastCounted ring.now.items most.count most.last }
     ensures count { IsCount ring.now.items at result.count }
-    ensures last { IsLastOf ring.now.items result.count result.last }
+    ensures last { IsLastCounted ring.now.items result.count result.last }
 {
     if is_none_past(most.last, at) {
         return most;
@@ -294,7 +294,7 @@ fn slot_of(ring: &HeapCircularBuffer<Item>, at: i64) -> Option<i32>
 
 // The same, where that is the last of the samples that have a moment of at most `at`, and so many have one.
 fn slot_by_last(count: usize, last: Option<Item>, at: i64) -> Option<i32>
-    ensures { (xs : List Item) → RisesFrom 0 xs → All IsSample xs → IsCount xs at count → IsLastOf xs count last
+    ensures { (xs : List Item) → RisesFrom 0 xs → All IsSample xs → IsCount xs at count → IsLastCounted xs count last
         → result ≡ slot_at xs at }
 {
     match last {

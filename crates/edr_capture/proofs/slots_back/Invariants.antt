@@ -3,7 +3,7 @@ use Rattle.std.specs.Prelude.{slice_get}
 use Rattle.edr_items.specs.declared.Item.{Item}
 use Rattle.edr_record.specs.declared.TheConstants.{LONG_SLOTS, SLOT_REACH, SLOT_STEP}
 use Rattle.edr_definitions.specs.Parts.{slot}
-use Rattle.edr_capture.specs.Kept.{IsLastOf}
+use Rattle.edr_capture.specs.Kept.{IsLastCounted}
 use Rattle.edr_capture.proofs.slots_back.Given as goal
 
 -- the slots from the newest back are there, and the items past the first ones are later than the oldest of them
@@ -13,5 +13,5 @@ invariant-loop-done l = record {
   there : (k : ℕ) → LONG_SLOTS - l.done ≤ k → k < LONG_SLOTS → get_or l.slots k None ≡ slot l.ring.items (l.zero + SLOT_STEP * k - SLOT_REACH);
   in_list : l.first.count ≤ length l.ring.items;
   past : (p : ℕ) (x : Item) → l.first.count ≤ p → slice_get l.ring.items p ≡ Some x → l.zero + SLOT_STEP * (LONG_SLOTS - l.done) - SLOT_REACH < x.moment;
-  last : IsLastOf l.ring.items l.first.count l.first.last;
+  last : IsLastCounted l.ring.items l.first.count l.first.last;
 }
