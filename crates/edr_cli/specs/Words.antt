@@ -3,7 +3,7 @@ use Rattle.std.specs.Prelude.{◌≡◌, ℕ, Option, Some, None, List, ⊤}
 use Rattle.edr_image.specs.declared.Header.{Header}
 use Rattle.edr_words.specs.declared.Form.{Form}
 use Rattle.edr_words.specs.declared.Job.{Job}
-use Rattle.edr_words.specs.declared.Job.TheVariants.{Format, Replay, Report, Drive, Generate, Large, Migrate, Dialog, Fleet, Audit}
+use Rattle.edr_words.specs.declared.Job.TheVariants.{Format, Replay, Report, Drive, DriveLive, Generate, Large, Migrate, Dialog, Fleet, Audit}
 use Rattle.edr_words.specs.Jobs.{job_of}
 
 -- they ask for a new image with this header
@@ -44,6 +44,7 @@ AreAuditWords words = job_of words ≡ Some Audit
 abbrev pub IsOther : Option Job → Type 0
 IsOther None = ⊤
 IsOther (Some (Drive workers form)) = ⊤
+IsOther (Some (DriveLive workers)) = ⊤
 IsOther (Some (Fleet workers)) = ⊤
 IsOther other = ⊥
 

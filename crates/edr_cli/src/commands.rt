@@ -98,6 +98,8 @@ pub fn command<S: Source, K: Sink, N: Nvm>(
         Some(Job::Migrate) => serve_migrate(alloc, source, sink, nvm),
         Some(Job::Dialog) => serve_dialog(alloc, source, sink, nvm),
         Some(Job::Audit) => serve_audit(alloc, source, sink, nvm),
-        Some(Job::Drive { .. } | Job::Fleet { .. }) | None => tell(sink, Fault::Usage),
+        Some(Job::Drive { .. } | Job::DriveLive { .. } | Job::Fleet { .. }) | None => {
+            tell(sink, Fault::Usage)
+        }
     }
 }

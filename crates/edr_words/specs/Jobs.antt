@@ -8,7 +8,7 @@ use Rattle.edr_image.specs.declared.places.TheConstants.{FEWEST_BANKS, MOST_BANK
 use Rattle.edr_words.specs.declared.Form.{Form}
 use Rattle.edr_words.specs.declared.Form.TheVariants.{Text, Table}
 use Rattle.edr_words.specs.declared.Job.{Job}
-use Rattle.edr_words.specs.declared.Job.TheVariants.{Format, Replay, Report, Drive, Generate, Large, Migrate, Dialog, Fleet, Audit}
+use Rattle.edr_words.specs.declared.Job.TheVariants.{Format, Replay, Report, Drive, DriveLive, Generate, Large, Migrate, Dialog, Fleet, Audit}
 use Rattle.edr_words.specs.Arguments.{PlainText, at_most_one, is_plain, one_or_two, two}
 
 -- ---- what a word stands for
@@ -63,15 +63,21 @@ replay_job form = option_map (λ f. Replay f) (form_of form)
 abbrev pub report_job : Option (Option PlainText) → Option Job
 report_job form = option_map (λ f. Report f) (form_of form)
 
--- W [F]: there are 1 to 8 workers
-abbrev pub drive_with : Option ℕ → Option Form → Option Job
-drive_with None form = None
-drive_with (Some workers) None = None
-drive_with (Some workers) (Some form) = Some (Drive workers form)
+-- the word after W: `live` is no form
+unfoldable pub drive_as : ℕ → PlainText → Option Job
+drive_as workers word =
+    if bytes_eq word (codes "live") then Some (DriveLive workers)
+    else option_map (λ f. Drive workers f) (form_in word)
+
+-- W [F] and W live: there are 1 to 8 workers
+abbrev pub drive_with : Option ℕ → Option PlainText → Option Job
+drive_with None word = None
+drive_with (Some workers) None = Some (Drive workers Text)
+drive_with (Some workers) (Some word) = drive_as workers word
 
 abbrev pub drive_job : Option (PlainText × Option PlainText) → Option Job
 drive_job None = None
-drive_job (Some p) = drive_with (within 1 8 p.0) (form_of (Some p.1))
+drive_job (Some p) = drive_with (within 1 8 p.0) p.1
 
 -- N M: a number, and 1 to 60 cycles
 abbrev pub both : Option ℕ → Option ℕ → Option (ℕ × ℕ)
@@ -127,6 +133,7 @@ IsWithin (Format header) = (FEWEST_BANKS ≤ header.banks) × (header.banks ≤ 
 IsWithin (Replay form) = Unit {0}
 IsWithin (Report form) = Unit {0}
 IsWithin (Drive workers form) = (1 ≤ workers) × (workers ≤ 8)
+IsWithin (DriveLive workers) = (1 ≤ workers) × (workers ≤ 8)
 IsWithin (Generate number cycles) = (1 ≤ cycles) × (cycles ≤ 60)
 IsWithin (Large number cycles) = (1 ≤ cycles) × (cycles ≤ 60)
 IsWithin Migrate = Unit {0}

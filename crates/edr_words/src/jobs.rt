@@ -2,7 +2,8 @@
 ghost use Rattle.std.specs.Prelude.{◌≡◌, ◌≤◌, Some, true, map, option_map, string_bytes, IfOk, IfSome};
 ghost use Rattle.std.specs.List.{list_all};
 ghost use Rattle.edr_words.specs.Arguments.{at_most_one, is_plain, one_or_two, two};
-ghost use Rattle.edr_words.specs.Jobs.{IsWithin, bare_job, choice_in, drive_job, fleet_job, form_in, form_of, format_job, generate_job, job_after, large_job, number_in, replay_job, report_job, trace_of, within};
+ghost use Rattle.edr_words.specs.declared.Job.TheVariants.{Drive};
+ghost use Rattle.edr_words.specs.Jobs.{IsWithin, bare_job, choice_in, drive_as, drive_job, fleet_job, form_in, form_of, format_job, generate_job, job_after, large_job, number_in, replay_job, report_job, trace_of, within};
 
 use crate::arguments::{at_most_one, one_or_two, two};
 use crate::{Choice, Form, Header, Job};
@@ -71,14 +72,14 @@ fn report_job(alloc: Global, arguments: &[String]) -> Result<Option<Job>, OutOfM
     }
 }
 
-// `drive W [F]`
+// `drive W [F]` and `drive W live`
 fn drive_job(alloc: Global, arguments: &[String]) -> Result<Option<Job>, OutOfMemory>
     requires plain { list_all is_plain (map string_bytes arguments.now) ≡ true }
     ensures value { IfOk result (λ j. j ≡ drive_job (one_or_two (map string_bytes arguments.now))) }
     ensures within { IfOk result (λ j. IfSome j IsWithin) }
 {
     match one_or_two(alloc, "drive", arguments)? {
-        Some((workers, form)) => Ok(driven(workers, form)),
+        Some((workers, shown)) => Ok(driven(workers, shown)),
         None => Ok(None),
     }
 }
@@ -152,13 +153,41 @@ fn fleet_of(workers: &str) -> Option<Job>
     Some(Job::Fleet { workers })
 }
 
-// A run of so many workers, and its report in this form.
-fn driven(workers: &str, form: Option<&str>) -> Option<Job>
-    ensures value { result ≡ drive_job (Some (workers.now, option_map (λ s. s.now) form.entry)) }
+// A run of so many workers, and what it shows; without a word that is its report as text.
+fn driven(workers: &str, shown: Option<&str>) -> Option<Job>
+    ensures value { result ≡ drive_job (Some (workers.now, option_map (λ s. s.now) shown.entry)) }
     ensures within { IfSome result IsWithin }
 {
     let workers = within(1, 8, workers)? as u8;
-    let form = form_or_text(form)?;
+    match shown {
+        Some(word) => driven_as(workers, word),
+        None => Some(Job::Drive {
+            workers,
+            form: Form::Text,
+        }),
+    }
+}
+
+// A run of so many workers, and what the word asks it to show.
+#[tactic(auto, unfolding(crate::specs::Jobs::drive_as))]
+fn driven_as(workers: u8, word: &str) -> Option<Job>
+    requires within { (1 ≤ workers) × (workers ≤ 8) }
+    ensures value { result ≡ drive_as workers word.now }
+    ensures within { IfSome result IsWithin }
+{
+    match word {
+        "live" => Some(Job::DriveLive { workers }),
+        _ => driven_in(workers, form_in(word)),
+    }
+}
+
+// A run of so many workers, and its report in this form, if it is one.
+fn driven_in(workers: u8, form: Option<Form>) -> Option<Job>
+    requires within { (1 ≤ workers) × (workers ≤ 8) }
+    ensures value { result ≡ option_map (λ f. Drive workers f) form }
+    ensures within { IfSome result IsWithin }
+{
+    let form = form?;
     Some(Job::Drive { workers, form })
 }
 
