@@ -65,7 +65,7 @@ replies_calls s (c ∷ cs) =
     omega (arith, first, rest, both)
 
 -- a cycle's horizon is within a day
-horizon_low : (f : SensorLists) → AreFeeds f → horizon_of f ≤ LATEST_MOMENT
+pub horizon_low : (f : SensorLists) → AreFeeds f → horizon_of f ≤ LATEST_MOMENT
 horizon_low f feeds =
     let low = IsFeedAfter-within Along 0 f.along (omega arith) (feeds Along) in
     let least = horizon-least f Along in

@@ -10,4 +10,6 @@ pub mod LeavingLemmas
 pub mod EndPhaseLemmas
 pub mod WholeCycleLemmas
 pub mod DrivenLemmas
+pub mod LiveCycleLemmas
+pub mod LiveRunLemmas
 pub mod ReachedLaws

@@ -4,6 +4,7 @@
 
 mod driven;
 pub mod laws;
+mod live;
 mod phases;
 
 ghost use Rattle.std.specs.Prelude.{All};
@@ -17,6 +18,7 @@ use edr_device::Nvm;
 pub use edr_drive::Gate;
 use edr_image::CycleReport;
 use edr_spell::CycleInput;
+pub use live::{LiveLine, LiveRun, replay_live};
 use phases::{StartedCycle, end_run, fused, start_until, was_cut};
 use std::alloc::Global;
 
