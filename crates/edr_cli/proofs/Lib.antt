@@ -7,6 +7,7 @@ pub mod PastLemmas
 pub mod ReplayLemmas
 pub mod CompletenessLemmas
 pub mod DriveLemmas
+pub mod LiveLemmas
 pub mod DispatchLemmas
 pub mod TakingLemmas
 pub mod MigrationLemmas

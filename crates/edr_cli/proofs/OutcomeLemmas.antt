@@ -26,10 +26,10 @@ use Rattle.edr_cli.proofs.ImageLemmas.{if_each, still_there}
 abbrev pub Short : {K : Type 0} → sink.Ghosts K → Status → K → K → Type 0
 Short k s old new = Gains k (fault_line fault.OutOfMemory) status.OutOfMemory s old new
 
-pub runs_short : {S K D : Type 0} (s : stream.Ghosts S) (k : sink.Ghosts K) (d : device.Ghosts D) (C : Input → Input → Memory → Memory → Fault → Type 0) (form : Form) (end : Status)
+pub runs_short : {S K D : Type 0} (s : stream.Ghosts S) (k : sink.Ghosts K) (d : device.Ghosts D) (C : Input → Input → Memory → Memory → Fault → Type 0) (IsText : Input → Memory → Memory → List ℕ → Type 0) (end : Status)
     (source : S) (old new : K) (nvm : D) → C (input s source) (input s source) (memory d nvm) (memory d nvm) fault.OutOfMemory → Short k end old new
-    → Runs s k d C form end source source old new nvm nvm
-runs_short s k d C form end source old new nvm cause g = record {
+    → Runs s k d C IsText end source source old new nvm nvm
+runs_short s k d C IsText end source old new nvm cause g = record {
   at_end = λ ok. absurd (not_ok fault.OutOfMemory end ok g.answers);
   ends = ends_fault k _ _ fault.OutOfMemory end old new cause g;
   past = past_none (d.content nvm) (d.settled nvm);

@@ -45,7 +45,7 @@ start_cause cs old new start.Spent rose refused sizes spent left short = spent r
 start_cause cs old new start.StoreFault rose refused sizes spent left short = (rose tt, left)
 start_cause cs old new start.OutOfMemory rose refused sizes spent left short = short tt
 
-same_report : (form : Form) (reports : List CycleReport) (o : Outcome) (v : Store) (n : ℕ) → map report_of reports ≡ o.reports → v ≡ o.store → n ≡ o.count → report_in form (map report_of reports) v n ≡ report_in form o.reports o.store o.count
+pub same_report : (form : Form) (reports : List CycleReport) (o : Outcome) (v : Store) (n : ℕ) → map report_of reports ≡ o.reports → v ≡ o.store → n ≡ o.count → report_in form (map report_of reports) v n ≡ report_in form o.reports o.store o.count
 same_report form reports o v n a b c = cc
 
 -- the banks that are opened behind the run are those that it came to

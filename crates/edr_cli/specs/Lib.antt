@@ -4,6 +4,7 @@ pub mod Outside
 pub mod Crashes
 pub mod Reports
 pub mod Runs
+pub mod Lives
 pub mod Traces
 pub mod Migrations
 pub mod Causes

@@ -17,21 +17,22 @@ use Rattle.edr_cli.specs.declared.status.Status.TheVariants.{Ok}
 use Rattle.edr_cli.specs.Causes.{IsDriveCause, IsFormatCause, IsImageCause, IsMigrateCause, IsNumberCause, IsReplayCause}
 use Rattle.edr_cli.specs.Crashes.{KeepsBytes, KeepsImage, OfCrash}
 use Rattle.edr_cli.specs.Endings.{Ends, IsServed}
+use Rattle.edr_cli.specs.Lives.{LiveRunIs}
 use Rattle.edr_cli.specs.Migrations.{CanMigrate, IsPartlyTaken, MigrateIs}
 use Rattle.edr_cli.specs.Outside.{Input, IsAtEnd, Memory, NoFault, OfBoth, OfMemory, OfRun, input, memory}
 use Rattle.edr_cli.specs.Reports.{FormatIs, ReportIs}
 use Rattle.edr_cli.specs.Runs.{CanRun, RunIs}
-use Rattle.edr_cli.specs.Words.{AreDrive, AreFormatWords, AreGenerateWords, AreLargeWords, AreMigrateWords, AreReplayWords, AreReportWords}
+use Rattle.edr_cli.specs.Words.{AreDrive, AreFormatWords, AreGenerateWords, AreLargeWords, AreLiveWords, AreMigrateWords, AreReplayWords, AreReportWords}
 
--- ---- a run, by `replay` and by `drive`
+-- ---- a run, by `replay`, by `drive` and by `drive` with live lines
 
 -- the report of a run of the cycles that the source spelled, from what the device told at first to what it holds, with nothing pending
 pub record Runs {S K D : Type 0} (s : stream.Ghosts S) (k : sink.Ghosts K) (d : device.Ghosts D)
-    (IsCause : Input → Input → Memory → Memory → Fault → Type 0) (form : Form) (status : Status)
+    (IsCause : Input → Input → Memory → Memory → Fault → Type 0) (IsText : Input → Memory → Memory → List ℕ → Type 0) (status : Status)
     (source source' : S) (sink sink' : K) (nvm nvm' : D) : Type 0 where
   -- with Ok the source is at its end
   pub at_end : status ≡ Ok → IsAtEnd (s.left source')
-  pub ends : Ends k (OfRun s d (RunIs form) source nvm nvm') (OfBoth s d IsCause source source' nvm nvm') status sink sink'
+  pub ends : Ends k (OfRun s d IsText source nvm nvm') (OfBoth s d IsCause source source' nvm nvm') status sink sink'
   -- whatever the status, what stands past the image stays
   pub past : Between d LeavesPast nvm nvm'
   -- where nothing counts a fault, a trace is run over an image that isn't refused and has numbers left
@@ -42,13 +43,19 @@ pub record Runs {S K D : Type 0} (s : stream.Ghosts S) (k : sink.Ghosts K) (d : 
 abbrev pub ServesReplay : {S K D : Type 0} → stream.Ghosts S → sink.Ghosts K → device.Ghosts D → List (List ℕ) → Status
     → S → S → K → K → D → D → Type 0
 ServesReplay s k d words status source source' sink sink' nvm nvm' =
-    (form : Form) → AreReplayWords form words → Runs s k d IsReplayCause form status source source' sink sink' nvm nvm'
+    (form : Form) → AreReplayWords form words → Runs s k d IsReplayCause (RunIs form) status source source' sink sink' nvm nvm'
 
 -- `drive` runs it by threads
 abbrev pub ServesDrive : {S K D : Type 0} → stream.Ghosts S → sink.Ghosts K → device.Ghosts D → List (List ℕ) → Status
     → S → S → K → K → D → D → Type 0
 ServesDrive s k d words status source source' sink sink' nvm nvm' =
-    (form : Form) (workers : ℕ) → AreDrive form workers words → Runs s k d IsDriveCause form status source source' sink sink' nvm nvm'
+    (form : Form) (workers : ℕ) → AreDrive form workers words → Runs s k d IsDriveCause (RunIs form) status source source' sink sink' nvm nvm'
+
+-- and tells how its cycles went
+abbrev pub ServesLive : {S K D : Type 0} → stream.Ghosts S → sink.Ghosts K → device.Ghosts D → List (List ℕ) → Status
+    → S → S → K → K → D → D → Type 0
+ServesLive s k d words status source source' sink sink' nvm nvm' =
+    (workers : ℕ) → AreLiveWords workers words → Runs s k d IsDriveCause LiveRunIs status source source' sink sink' nvm nvm'
 
 -- ---- `report`
 

@@ -84,6 +84,10 @@ UseNoMemory words = IsWithoutMemory (job_of words)
 abbrev pub AreDrive : Form → ℕ → List (List ℕ) → Type 0
 AreDrive form workers words = job_of words ≡ Some (Drive workers form)
 
+-- they ask for the run of a trace by so many workers, and its report with a line for each cycle that ran
+abbrev pub AreLiveWords : ℕ → List (List ℕ) → Type 0
+AreLiveWords workers words = job_of words ≡ Some (DriveLive workers)
+
 -- they ask for the report of many images, by so many workers
 abbrev pub AreFleetWords : ℕ → List (List ℕ) → Type 0
 AreFleetWords workers words = job_of words ≡ Some (Fleet workers)
@@ -91,6 +95,7 @@ AreFleetWords workers words = job_of words ≡ Some (Fleet workers)
 -- the job, if there is one, is not done by threads
 abbrev pub IsWithoutThreads : Option Job → Type 0
 IsWithoutThreads (Some (Drive workers form)) = ⊥
+IsWithoutThreads (Some (DriveLive workers)) = ⊥
 IsWithoutThreads (Some (Fleet workers)) = ⊥
 IsWithoutThreads other = ⊤
 

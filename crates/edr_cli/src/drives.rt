@@ -10,7 +10,7 @@ ghost use Rattle.edr_replay.specs.Past.{LeavesPast};
 ghost use Rattle.edr_words.specs.declared.Form.{Form};
 ghost use Rattle.edr_cli.specs.Causes.{IsDriveCause, IsUsageCause};
 ghost use Rattle.edr_cli.specs.Endings.{TellsCut, TellsWhole};
-ghost use Rattle.edr_cli.specs.Outcomes.{ServesDrive};
+ghost use Rattle.edr_cli.specs.Outcomes.{ServesDrive, ServesLive};
 ghost use Rattle.edr_cli.specs.Outside.{IsAtEnd, OfBoth, OfMemory, OfRun, memory};
 ghost use Rattle.edr_cli.specs.Runs.{RunIs};
 ghost use Rattle.edr_cli.specs.Steps.{IsDrivenCause, Reports};
@@ -20,6 +20,7 @@ ghost use Rattle.edr_cli.specs.Words.{AreFleetWords, NeedNoThreads};
 use crate::endings::{finish, tell};
 use crate::fault::Fault;
 use crate::fleet::serve_fleet;
+use crate::live::serve_live;
 use crate::report::{open_settled, report_held};
 use crate::status::Status;
 use crate::traces::trace_of;
@@ -94,8 +95,11 @@ fn drive_source<
 /// threads. Memory for the threads of a cycle is taken after its start, so want of memory may leave that cycle counted. Each
 /// worker calls the gate once for each item, before the item's first offer.
 ///
+/// With `drive W live` a reader sees the banks beside the threads of each cycle, and a line for each cycle that ran stands behind the
+/// report. Where memory ran out in showing a command the run ends after that cycle, with `OutOfMemory`.
+///
 /// And `fleet W`: reads frames of images from the source, and writes a line for each image and the totals, by W workers, 1 to 8.
-/// It uses no device. Either word waits for its threads: what is promised holds if the call returns.
+/// It uses no device. Each word waits for its threads: what is promised holds if the call returns.
 pub fn drive<
     R: Threads + Wait + Copy + Send + Sync + 'static,
     S: Source,
@@ -128,6 +132,9 @@ pub fn drive<
     // `drive`: with Ok the sink gained exactly the report of a run of the cycles that the source spelled, as by `replay`, with
     // another status exactly the line of a fault that has its cause, and where a write failed a part of either.
     ensures drive { ServesDrive S.Source K.Sink N.Nvm words.now result source.old source.new sink.old sink.new nvm.old nvm.new }
+    // `drive W live`: likewise, and with Ok behind that report the line of each cycle that ran, in order: its place in the run, the
+    // length of its log, and the events in the banks after the steps of these commands, by the same run.
+    ensures live { ServesLive S.Source K.Sink N.Nvm words.now result source.old source.new sink.old sink.new nvm.old nvm.new }
     // `fleet`: likewise the report of the images whose frames the source told. The device stays.
     ensures fleet { ServesFleet S.Source K.Sink words.now result source.old source.new sink.old sink.new }
     ensures fleet_uses { (workers : ℕ) → AreFleetWords workers words.now → nvm.new ≡ nvm.old }
@@ -141,6 +148,9 @@ pub fn drive<
             sink,
             drive_source(rt, alloc, source, nvm, workers, form, gate),
         ),
+        Some(Job::DriveLive { workers }) => {
+            serve_live(rt, alloc, source, sink, nvm, workers, gate)
+        }
         Some(Job::Fleet { workers }) => serve_fleet(rt, alloc, source, sink, workers),
         _ => tell(sink, Fault::Usage),
     }

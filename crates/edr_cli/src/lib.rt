@@ -13,6 +13,7 @@ mod format;
 mod generate;
 mod large;
 pub mod laws;
+mod live;
 mod migrate;
 mod pieces;
 mod replay;

@@ -69,7 +69,7 @@ pub(crate) fn serve_replay<S: Source, K: Sink, N: Nvm>(
     nvm: &mut N,
     form: Form,
 ) -> Status
-    ensures runs { Runs S.Source K.Sink N.Nvm IsReplayCause form result source.old source.new sink.old sink.new nvm.old nvm.new }
+    ensures runs { Runs S.Source K.Sink N.Nvm IsReplayCause (RunIs form) result source.old source.new sink.old sink.new nvm.old nvm.new }
     ensures write_fault { result ≡ Status.WriteFault → Rose (K.faults sink.old) (K.faults sink.new) }
     ensures sink_later { K.faults sink.old ≤ K.faults sink.new }
     ensures takes { Told (GivesAtMost (largest_trace + 1)) (S.left source.old) (S.left source.new) }

@@ -94,6 +94,7 @@ pub(crate) fn trace_of<S: Source>(alloc: Global, source: &mut S) -> Result<Vec<C
     ensures end { OnOk result (IsAtEnd (S.left source.new)) }
     ensures spelled { IfOk result (λ cycles. IfSome (S.left source.old) (IsTraceOf cycles.items)) }
     ensures cycles { IfOk result (λ cycles. All IsCycleInput cycles.items) }
+    ensures few { IfOk result (λ cycles. length cycles.items ≤ largest_trace) }
     ensures cause { IfErr result (IsTraceCause (input S.Source source.old) (input S.Source source.new)) }
     ensures takes { Told (GivesAtMost (largest_trace + 1)) (S.left source.old) (S.left source.new) }
     ensures later { S.faults source.old ≤ S.faults source.new }

@@ -11,6 +11,7 @@ mod expected;
 mod faults;
 mod formats;
 mod generated;
+mod lives;
 
 use edr_cli::{Status, Words, command};
 use edr_device::{MemNvm, MemSink, MemSource};

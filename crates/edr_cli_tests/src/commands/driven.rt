@@ -14,9 +14,9 @@ use std::test::Fail;
 use std::thread;
 use std::thread::Threads;
 
-// A gate that lets every item pass.
+/// A gate that lets every item pass.
 #[derive(Drop)]
-struct AlwaysOpen {}
+pub(super) struct AlwaysOpen {}
 
 impl Gate for AlwaysOpen {
     fn pass(&self, _sensor: u8, _nth: u32) {}
@@ -26,10 +26,10 @@ impl Gate for AlwaysOpen {
 const FLEET: &str =
     "image 1: short 1 of 96\nimage 2: count 0, events 0, locked 0, complete 0, damaged 0\nimages: 2\nevents: 0\n";
 
-// A run: its trace, the bytes of its memory, which calls of its source and which changing calls of its memory fail, and the
-// status that it is to end with.
+/// A run: its trace, the bytes of its memory, which calls of its source and which changing calls of its memory fail, and the
+/// status that it is to end with.
 #[derive(Clone, Copy)]
-struct Case<'a> {
+pub(super) struct Case<'a> {
     trace: &'a [u8],
     image: &'a [u8; SIZE],
     source_fails: &'a [u32],
@@ -53,16 +53,16 @@ fn words_by(alloc: Global, workers: Option<&str>) -> Result<Words, AllocError> {
     }
 }
 
-// What a run is given beside its words.
+/// What a run is given beside its words.
 #[derive(Drop)]
-struct Outside {
+pub(super) struct Outside {
     source: MemSource,
-    sink: MemSink,
+    pub(super) sink: MemSink,
     memory: MemNvm,
 }
 
-// The outside of a case.
-fn outside_of(alloc: Global, case: Case<'_>) -> Result<Outside, AllocError> {
+/// The outside of a case.
+pub(super) fn outside_of(alloc: Global, case: Case<'_>) -> Result<Outside, AllocError> {
     let streams = Streams {
         source_piece: 1_000,
         source_fails: case.source_fails,
@@ -79,8 +79,8 @@ fn outside_of(alloc: Global, case: Case<'_>) -> Result<Outside, AllocError> {
     })
 }
 
-// Runs on one thread, and gives the status.
-fn serve_alone(alloc: Global, words: &Words, outside: &mut Outside) -> Status {
+/// Runs on one thread, and gives the status.
+pub(super) fn serve_alone(alloc: Global, words: &Words, outside: &mut Outside) -> Status {
     let Outside {
         source,
         sink,
@@ -89,8 +89,8 @@ fn serve_alone(alloc: Global, words: &Words, outside: &mut Outside) -> Status {
     command(alloc, words, source, sink, memory)
 }
 
-// Runs by threads at this gate, and gives the status.
-fn serve_driven<
+/// Runs by threads at this gate, and gives the status.
+pub(super) fn serve_driven<
     R: Threads + Wait + Copy + Send + Sync + 'static,
     G: Gate + Drop + Send + Sync + 'static,
 >(rt: &R, alloc: Global, words: &Words, outside: &mut Outside, gate: &Arc<G>) -> Status {
@@ -152,8 +152,8 @@ fn check_driven<R: Threads + Wait + Abort + Copy + Send + Sync + 'static>(
     Ok(())
 }
 
-// A run of this trace over a new image, without faults.
-fn sound<'a>(trace: &'a [u8], image: &'a [u8; SIZE]) -> Case<'a> {
+/// A run of this trace over a new image, without faults.
+pub(super) fn sound<'a>(trace: &'a [u8], image: &'a [u8; SIZE]) -> Case<'a> {
     Case {
         trace,
         image,

@@ -6,6 +6,7 @@ use Rattle.edr_words.specs.declared.Form.{Form}
 use Rattle.edr_cli.specs.declared.fault.Fault.TheVariants as fault
 use Rattle.edr_cli.specs.Causes.{IsNumberCause, IsReplayCause, IsUsageCause}
 use Rattle.edr_cli.specs.Outcomes.{Formats, MakesText, Runs, ShowsReport}
+use Rattle.edr_cli.specs.Runs.{RunIs}
 use Rattle.edr_cli.specs.Words.{AreFormatWords, AreGenerateWords, AreLargeWords, AreReplayWords, AreReportWords}
 use Rattle.edr_cli.proofs.DispatchLemmas.{as_format, as_generate, as_large, as_replay, as_report}
 use Rattle.edr_cli.proofs.EndingLemmas.{ends_text, served_text, tells_fault, tells_fault_part}
@@ -22,7 +23,7 @@ pub returns-in-Err-clause-usage_part : goal.returns-in-Err-clause-usage_part
 returns-in-Err-clause-usage_part g c = λ other failed. tells_fault_part g.K.Sink IsUsageCause fault.OutOfMemory c.tell.result c.args.sink.now c.tell.new.sink (inr refl) c.tell.ensures.gains failed
 
 pub returns-in-Err-clause-replay : goal.returns-in-Err-clause-replay
-returns-in-Err-clause-replay g c = λ form asked. runs_short g.S.Source g.K.Sink g.N.Nvm IsReplayCause form c.tell.result c.args.source.now c.args.sink.now c.tell.new.sink c.args.nvm.now (inl refl) c.tell.ensures.gains
+returns-in-Err-clause-replay g c = λ form asked. runs_short g.S.Source g.K.Sink g.N.Nvm IsReplayCause (RunIs form) c.tell.result c.args.source.now c.args.sink.now c.tell.new.sink c.args.nvm.now (inl refl) c.tell.ensures.gains
 
 pub returns-in-Err-clause-report : goal.returns-in-Err-clause-report
 returns-in-Err-clause-report g c = λ form asked. shows_short g.K.Sink g.N.Nvm form c.tell.result c.args.sink.now c.tell.new.sink c.args.nvm.now c.tell.ensures.gains
@@ -51,7 +52,7 @@ pub returns-in-Some-Replay-clause-replay : goal.returns-in-Some-Replay-clause-re
 returns-in-Some-Replay-clause-replay g c = λ form asked.
     let f = c.in-Some-Replay.form in
     let is : AreReplayWords f c.args.words.now = search rules in
-    as_replay (λ (x : Form). Runs g.S.Source g.K.Sink g.N.Nvm IsReplayCause x c.serve_replay.result c.args.source.now c.serve_replay.new.source c.args.sink.now c.serve_replay.new.sink c.args.nvm.now c.serve_replay.new.nvm) c.args.words.now f form is c.serve_replay.ensures.runs asked
+    as_replay (λ (x : Form). Runs g.S.Source g.K.Sink g.N.Nvm IsReplayCause (RunIs x) c.serve_replay.result c.args.source.now c.serve_replay.new.source c.args.sink.now c.serve_replay.new.sink c.args.nvm.now c.serve_replay.new.nvm) c.args.words.now f form is c.serve_replay.ensures.runs asked
 
 pub returns-in-Some-Report-clause-report : goal.returns-in-Some-Report-clause-report
 returns-in-Some-Report-clause-report g c = λ form asked.

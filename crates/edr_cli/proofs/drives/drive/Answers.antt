@@ -2,6 +2,7 @@ use Rattle.std.proofs.Common.{rules, inl, inr, refl}
 use Rattle.edr_words.specs.declared.Form.{Form}
 use Rattle.edr_cli.specs.declared.fault.Fault.TheVariants as fault
 use Rattle.edr_cli.specs.Causes.{IsDriveCause, IsUsageCause}
+use Rattle.edr_cli.specs.Lives.{LiveRunIs}
 use Rattle.edr_cli.specs.Outcomes.{Runs}
 use Rattle.edr_cli.specs.Outside.{input, memory}
 use Rattle.edr_cli.specs.Runs.{RunIs}
@@ -23,7 +24,11 @@ returns-in-Err-clause-usage_part g c = λ other failed. tells_fault_part g.K.Sin
 
 pub returns-in-Err-clause-drive : goal.returns-in-Err-clause-drive
 returns-in-Err-clause-drive g c = λ form workers asked.
-    runs_short g.S.Source g.K.Sink g.N.Nvm IsDriveCause form c.tell.result c.args.source.now c.args.sink.now c.tell.new.sink c.args.nvm.now (inl (inl refl)) c.tell.ensures.gains
+    runs_short g.S.Source g.K.Sink g.N.Nvm IsDriveCause (RunIs form) c.tell.result c.args.source.now c.args.sink.now c.tell.new.sink c.args.nvm.now (inl (inl refl)) c.tell.ensures.gains
+
+pub returns-in-Err-clause-live : goal.returns-in-Err-clause-live
+returns-in-Err-clause-live g c = λ workers asked.
+    runs_short g.S.Source g.K.Sink g.N.Nvm IsDriveCause LiveRunIs c.tell.result c.args.source.now c.args.sink.now c.tell.new.sink c.args.nvm.now (inl (inl refl)) c.tell.ensures.gains
 
 pub returns-in-Err-clause-fleet : goal.returns-in-Err-clause-fleet
 returns-in-Err-clause-fleet g c = λ workers asked.
@@ -44,7 +49,7 @@ returns-in-Some-Drive-clause-drive g c = λ form workers asked.
     let s = c.finish.result in
     let f = c.in-Some-Drive.form in
     let is : AreDrive f c.in-Some-Drive.workers c.args.words.now = search rules in
-    let served_by : Runs S K D IsDriveCause f s c.args.source.now c.drive_source.new.source c.args.sink.now c.finish.new.sink c.args.nvm.now c.drive_source.new.nvm = record {
+    let served_by : Runs S K D IsDriveCause (RunIs f) s c.args.source.now c.drive_source.new.source c.args.sink.now c.finish.new.sink c.args.nvm.now c.drive_source.new.nvm = record {
       at_end = when_ok K r _ s c.args.sink.now c.finish.new.sink c.drive_source.ensures.end c.finish.ensures.fault;
       ends = ends K r (λ v. v.items) (RunIs f i old new) (IsDriveCause i i' old new) s c.args.sink.now c.finish.new.sink c.drive_source.ensures.text c.drive_source.ensures.cause c.finish.ensures.text c.finish.ensures.fault;
       past = c.drive_source.ensures.past;
@@ -52,7 +57,10 @@ returns-in-Some-Drive-clause-drive g c = λ form workers asked.
           (err_map r _ _ (λ f cause. driven_only_memory i i' old new f can.bytes can.image can.cycles can.store can.count can.given can.spelled.0 can.spelled.1 can.told can.says can.room calm quiet_device cause) c.drive_source.ensures.cause)
           c.finish.ensures.text c.finish.ensures.fault quiet;
     } in
-    as_drive (λ (x : Form). Runs S K D IsDriveCause x s c.args.source.now c.drive_source.new.source c.args.sink.now c.finish.new.sink c.args.nvm.now c.drive_source.new.nvm) c.args.words.now f form c.in-Some-Drive.workers workers is served_by asked
+    as_drive (λ (x : Form). Runs S K D IsDriveCause (RunIs x) s c.args.source.now c.drive_source.new.source c.args.sink.now c.finish.new.sink c.args.nvm.now c.drive_source.new.nvm) c.args.words.now f form c.in-Some-Drive.workers workers is served_by asked
+
+pub returns-in-Some-DriveLive-clause-live : goal.returns-in-Some-DriveLive-clause-live
+returns-in-Some-DriveLive-clause-live g c = λ workers asked. c.serve_live.ensures.runs
 
 -- ---- a fleet
 

@@ -5,6 +5,7 @@ use Rattle.edr_device.specs.Told.{Told}
 use Rattle.edr_device.specs.Transfer.{GivesAll}
 use Rattle.edr_spell.specs.declared.CycleInput.{CycleInput}
 use Rattle.edr_spell.specs.Spell.{Spell, IsCycleInput, largest_trace}
+use Rattle.edr_audit.proofs.CountLemmas.{cycles_of_bytes}
 use Rattle.edr_spell.proofs.CycleLemmas.{spelled-cycles}
 use Rattle.edr_cli.specs.Runs.{IsTraceOf}
 use Rattle.edr_cli.proofs.traces.trace_of.Goals as goal
@@ -23,6 +24,15 @@ returns-clause-spelled g c =
     let rest = c.in_ok-reading.field-0.left in
     let spelled = subst (λ (x : List ℕ). Spell (all.0 ++ x) cycles) c.deref.ensures.value (c.in_ok-finish.ensures.spelled all.0 all.1) in
     trace-is (all.0 ++ rest.items) cycles (left c.args.source.now) (left c.take_trace.new.source) (omega (arith, length-append all.0 rest.items, all.2, rest.ok.0)) spelled all.3
+
+pub returns-clause-few : goal.returns-clause-few
+returns-clause-few g c =
+    let all = c.in_ok-reading.ensures.all in
+    let cycles = c.in_ok-finish.field-0.items in
+    let rest = c.in_ok-reading.field-0.left in
+    let spelled = subst (λ (x : List ℕ). Spell (all.0 ++ x) cycles) c.deref.ensures.value (c.in_ok-finish.ensures.spelled all.0 all.1) in
+    let few = cycles_of_bytes (all.0 ++ rest.items) cycles spelled in
+    omega (arith, few, length-append all.0 rest.items, all.2, rest.ok.0)
 
 pub returns-clause-cycles : goal.returns-clause-cycles
 returns-clause-cycles g c =

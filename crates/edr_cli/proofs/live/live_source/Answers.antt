@@ -1,0 +1,69 @@
+use Rattle.std.proofs.lemmas.Result.{err_from_is_err_and}
+use Rattle.std.proofs.Common.{inl}
+use Rattle.edr_cli.specs.Causes.{IsDriveCause}
+use Rattle.edr_cli.specs.Outside.{input, memory}
+use Rattle.edr_cli.specs.Lives.{LiveRunIs, ReportsLive}
+use Rattle.edr_cli.specs.Steps.{IsDrivenCause}
+use Rattle.edr_cli.proofs.DriveLemmas.{run_drive}
+use Rattle.edr_cli.proofs.LiveLemmas.{live_replayed}
+use Rattle.edr_cli.proofs.ImageLemmas.{ok_map, err_map}
+use Rattle.edr_replay.proofs.PastLemmas.{past_none}
+use Rattle.edr_cli.proofs.PastLemmas.{past_looked, past_opened}
+use Rattle.edr_cli.proofs.ReplayLemmas.{leaves_none, look_cause}
+use Rattle.edr_device.proofs.SettlingLemmas.{tells_again}
+use Rattle.edr_cli.proofs.live.live_source.Goals as goal
+
+pub returns-clause-text : goal.returns-clause-text
+returns-clause-text g c =
+    let S = g.S.Source in
+    let D = g.N.Nvm in
+    let i = input S c.args.source.now in
+    let old = memory D c.args.nvm.now in
+    let mid = memory D c.open_settled.new.nvm in
+    let new = memory D c.run_live.new.nvm in
+    let cs = c.in_ok-cycles.cycles.items in
+    let b = c.in_ok-open_settled.field-0 in
+    ok_map c.run_live.result (λ out. ReportsLive cs mid new out.items) (λ out. LiveRunIs i old new out.items)
+    (λ out reports. live_replayed i old mid new cs b.store b.count out.items c.in_ok-cycles.ensures.spelled c.in_ok-open_settled.ensures.found reports) c.run_live.ensures.text
+
+pub returns-clause-cause : goal.returns-clause-cause
+returns-clause-cause g c =
+    let S = g.S.Source in
+    let D = g.N.Nvm in
+    let i = input S c.args.source.now in
+    let i' = input S c.trace_of.new.source in
+    let old = memory D c.args.nvm.now in
+    let mid = memory D c.open_settled.new.nvm in
+    let new = memory D c.run_live.new.nvm in
+    let cs = c.in_ok-cycles.cycles.items in
+    let b = c.in_ok-open_settled.field-0 in
+    err_map c.run_live.result (λ f. IsDrivenCause cs mid new f) (λ f. IsDriveCause i i' old new f)
+    (λ f cause. run_drive i i' old mid new cs b.store b.count f c.in_ok-cycles.ensures.spelled c.in_ok-cycles.ensures.end c.in_ok-open_settled.ensures.found
+    (tells_again old.content mid.content new.content c.open_settled.ensures.lent.tells c.run_live.ensures.lent.tells) c.open_settled.ensures.lent.size c.open_settled.ensures.lent.later cause) c.run_live.ensures.cause
+
+pub returns-in_err-open_settled-clause-cause : goal.returns-in_err-open_settled-clause-cause
+returns-in_err-open_settled-clause-cause g c =
+    let S = g.S.Source in
+    let D = g.N.Nvm in
+    let i = input S c.args.source.now in
+    let i' = input S c.trace_of.new.source in
+    let old = memory D c.args.nvm.now in
+    let new = memory D c.open_settled.new.nvm in
+    let cs = c.in_ok-cycles.cycles.items in
+    let p = err_from_is_err_and c.from_residual-in_err-open_settled.result c.from_residual-in_err-open_settled.ensures.1 in
+    rw (p.1, p.2) (inl (look_cause i i' old new cs c.in_err-open_settled.field-0.0 c.in_ok-cycles.ensures.spelled c.in_ok-cycles.ensures.end c.open_settled.ensures.stays
+    (leaves_none i old new cs c.in_ok-cycles.ensures.spelled c.open_settled.ensures.stays) c.in_err-open_settled.ensures.cause))
+
+pub returns-in_err-cycles-clause-past : goal.returns-in_err-cycles-clause-past
+returns-in_err-cycles-clause-past g c = let D = g.N.Nvm in past_none (D.content c.args.nvm.now) (D.settled c.args.nvm.now)
+
+pub returns-in_err-open_settled-clause-past : goal.returns-in_err-open_settled-clause-past
+returns-in_err-open_settled-clause-past g c =
+    let D = g.N.Nvm in
+    past_looked (D.content c.args.nvm.now) (D.content c.open_settled.new.nvm) (D.settled c.args.nvm.now) (D.settled c.open_settled.new.nvm) c.open_settled.ensures.stays
+
+pub returns-clause-past : goal.returns-clause-past
+returns-clause-past g c =
+    let D = g.N.Nvm in
+    let b = c.in_ok-open_settled.field-0 in
+    past_opened b.store b.count (D.content c.args.nvm.now) (D.content c.open_settled.new.nvm) (D.content c.run_live.new.nvm) (D.settled c.args.nvm.now) (D.settled c.open_settled.new.nvm) (D.settled c.run_live.new.nvm) c.in_ok-open_settled.ensures.found c.run_live.ensures.past
