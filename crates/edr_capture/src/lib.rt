@@ -292,7 +292,7 @@ fn slot_of(ring: &HeapCircularBuffer<Item>, at: i64) -> Option<i32>
     slot_by_last(first.count, first.last, at)
 }
 
-// The same, where that is the last of the samples that have a moment of at most `at`, and so many have one.
+// The same, where that is the last of the samples that have a moment of at most `at`, and `count` of them have one.
 fn slot_by_last(count: usize, last: Option<Item>, at: i64) -> Option<i32>
     ensures { (xs : List Item) → RisesFrom 0 xs → All IsSample xs → IsCount xs at count → IsLastCounted xs count last
         → result ≡ slot_at xs at }

@@ -66,7 +66,7 @@ source_cause i i' m take.OutOfMemory long failed = refl
 rose_before : (a b c : ℕ) → a ≤ b → Rose b c → Rose a c
 rose_before a b c later rose = omega (arith, later, rose)
 
--- behind a barrier, which leaves what the device tells
+-- after a barrier, which leaves what the device tells
 pub taking_cause : (image : List ℕ) (v : View) (old mid new : Memory) (e : MigrateFault) → length image ≤ largest_trace → IsWhole image v
     → mid.content ≡ old.content → mid.size ≡ old.size → old.faults ≤ mid.faults → (e ≢ migrate.StoreFault → new.content ≡ mid.content)
     → IsCause image mid.size mid.content mid.faults new.faults e → IsTakingCause (λ P. P image) old new (fault_of_migrate e)

@@ -11,7 +11,7 @@ use Rattle.edr_gates.specs.Found.{IsFound}
 pub past_looked : (content content' : Option (List ℕ)) (settled settled' : ℕ → Bool) → ((bytes image : List ℕ) → IsQuiet content settled bytes → MayLeave content' settled' image → image ≡ bytes) → LeavesPast content settled content' settled'
 past_looked content content' settled settled' stays = record { keeps = λ v bytes image found may. past_same v.store.header bytes image (stays bytes image found.quiet may) }
 
--- nothing was changed behind the call
+-- nothing was changed after the call
 pub past_stays : (content content' content'' : Option (List ℕ)) (settled settled' settled'' : ℕ → Bool) → content'' ≡ content' → ((i : ℕ) → settled'' i ≡ settled' i) → LeavesPast content settled content' settled' → LeavesPast content settled content'' settled''
 past_stays content content' content'' settled settled' settled'' same same_settled past = record {
   keeps = λ v. past_fewer v content content' content'' settled settled' settled'' (λ image may. go content' image (subst (λ (o : Option (List ℕ)). MayLeave o settled'' image) same may)) (past.keeps v);
@@ -21,7 +21,7 @@ past_stays content content' content'' settled settled' settled'' same same_settl
     go None image may = tt
     go (Some a) image may = record { size = may.size; same = λ i below there. may.same i below (same_settled i ∙ there) }
 
--- the banks were opened before the call, behind a barrier
+-- the banks were opened before the call, after a barrier
 pub past_opened : (v : Store) (n : ℕ) (content content' content'' : Option (List ℕ)) (settled settled' settled'' : ℕ → Bool) → ((image : List ℕ) → content ≡ Some image → IsFound (record { store = v; count = n }) content' settled' image)
     → LeavesPast content' settled' content'' settled'' → LeavesPast content settled content'' settled''
 past_opened v n content content' content'' settled settled' settled'' opened past = record {

@@ -30,7 +30,7 @@ use Rattle.edr_cli.specs.Steps.{HeldNone, IsRunCause, Reports, ReportsHeld}
 use Rattle.edr_cli.proofs.ImageLemmas.{same_view, says_refused, told_is}
 use Rattle.edr_cli.proofs.RunLaws.{the_run}
 
--- ---- the run of cycles, and the banks behind it
+-- ---- the run of cycles, and the banks after it
 
 -- the run's fault is that of a call
 pub start_cause : (cs : List CycleInput) (old new : Memory) (e : StartFault) → (IsDeviceFault e → Rose old.faults new.faults) → IsTrulyRefused old.content old.settled e
@@ -48,7 +48,7 @@ start_cause cs old new start.OutOfMemory rose refused sizes spent left short = s
 pub same_report : (form : Form) (reports : List CycleReport) (o : Outcome) (v : Store) (n : ℕ) → map report_of reports ≡ o.reports → v ≡ o.store → n ≡ o.count → report_in form (map report_of reports) v n ≡ report_in form o.reports o.store o.count
 same_report form reports o v n a b c = cc
 
--- the banks that are opened behind the run are those that it came to
+-- the banks that are opened after the run are those that it came to
 pub run_reports : (form : Form) (cs : List CycleInput) (old mid new : Memory) (reports : List CycleReport) (text : List ℕ)
     → HasRun cs old.content old.settled mid.content mid.settled reports → new.content ≡ mid.content → ((i : ℕ) → new.settled i ≡ mid.settled i)
     → ReportsHeld form (map report_of reports) mid text → Reports form cs old new text
@@ -64,7 +64,7 @@ run_reports form cs old mid new reports text run same settled told = λ v n hold
     let view = same_view _ _ (sym (told.2 h.bytes h.found.quiet.0) ∙ h.found.view_is) in
     (o, r.1, there, told.3 ∙ same_report form reports o told.0 told.1 (sym r.2) (ap (λ (x : View). x.store) view) (ap (λ (x : View). x.count) view))
 
--- a device that held banks and a count before the run has an image behind it that isn't refused
+-- a device that held banks and a count before the run has an image after it that isn't refused
 not_refused : (old mid : Memory) (cs : List CycleInput) (reports : List CycleReport) (e : OpenFault)
     → HasRun cs old.content old.settled mid.content mid.settled reports → IfSome mid.content (λ image. image_refusal image ≡ Some e) → HeldNone old
 unfolding HasRun
@@ -73,7 +73,7 @@ not_refused old mid cs reports e run refused = λ v n holds.
     let h : Holds mid.content mid.settled r.0.store r.0.count = r.3 in
     says_refused h.bytes r.0.store r.0.count e h.found.view_is (told_is (λ image. image_refusal image ≡ Some e) mid.content h.bytes h.found.quiet.0 refused)
 
--- all cycles ran, and nothing was changed behind them
+-- all cycles ran, and nothing was changed after them
 all_ran : (cs : List CycleInput) (old mid new : Memory) (reports : List CycleReport) → HasRun cs old.content old.settled mid.content mid.settled reports → new.content ≡ mid.content → ((i : ℕ) → new.settled i ≡ mid.settled i)
     → (v : Store) (n : ℕ) → Holds old.content old.settled v n → (o : Outcome) × RanFirst cs v n (length cs) o × Holds new.content new.settled o.store o.count
 unfolding HasRun
@@ -102,7 +102,7 @@ short_all cs old mid new reports run same settled = λ v n h. let r = all_ran cs
 same_size : (a b size needed : ℕ) → b ≡ a → IsShortOf b size needed → IsShortOf a size needed
 same_size a b size needed same short = subst (λ (n : ℕ). IsShortOf n size needed) same short
 
--- why the banks were not opened behind the run
+-- why the banks were not opened after the run
 pub behind_cause : (cs : List CycleInput) (old mid new : Memory) (reports : List CycleReport) (f : Fault)
     → HasRun cs old.content old.settled mid.content mid.settled reports → new.content ≡ mid.content → ((i : ℕ) → new.settled i ≡ mid.settled i) → mid.size ≡ old.size → old.faults ≤ mid.faults → IsImageCause mid new f → IsRunCause cs old new f
 behind_cause cs old mid new reports fault.Store run same settled long later cause = (rose_later old.faults mid.faults new.faults later cause, leaves_all cs old mid new reports run same settled)
@@ -150,7 +150,7 @@ look_cause i i' old new cs (fault.Header h) spelled end stays left cause = (gave
 look_cause i i' old new cs fault.OutOfMemory spelled end stays left cause = inl cause
 look_cause i i' old new cs other spelled end stays left cause = absurd cause
 
--- behind a look that passed no image is refused, so the device tells none
+-- after a look that passed no image is refused, so the device tells none
 none_refused : (old mid new : Memory) (v : Store) (n : ℕ) (e : OpenFault) → Settled old mid v n → StillTells old.content new.content → HeldNone mid → IsImageRefused e old new
 none_refused old mid new v n e settled tells none = go old.content new.content tells (λ image told. settled image told)
   where

@@ -55,7 +55,7 @@ too_many limit bytes x y is t = by_told y (subst (λ (o : Option (List ℕ)). To
   by_told (Some b) t = t.0
   by_told None t = absurd t
 
--- n bytes of the source were put behind the kept ones
+-- n bytes of the source were put after the kept ones
 behind : (kept n : ℕ) (buffer into into' post left left' : List ℕ) → kept ≤ length buffer → Moves n into into' left left' → Carries n (take kept buffer) (take (kept + n) (take kept buffer ++ (into' ++ post))) left left'
 behind kept n buffer into into' post left left' within m =
     let front = take kept buffer in
@@ -70,7 +70,7 @@ behind kept n buffer into into' post left left' within m =
 pub carries_behind : (kept n : ℕ) (buffer into into' post : List ℕ) (x y : Option (List ℕ)) → kept ≤ length buffer → Told (Moves n into into') x y → Told (Carries n (take kept buffer) (take (kept + n) (take kept buffer ++ (into' ++ post)))) x y
 carries_behind kept n buffer into into' post x y within = told_so (Moves n into into') (Carries n (take kept buffer) (take (kept + n) (take kept buffer ++ (into' ++ post)))) (λ a b m. behind kept n buffer into into' post a b within m) x y
 
--- what was moved to the front stood behind what was taken
+-- what was moved to the front stood after what was taken
 pub moved_front : (old new : List ℕ) (at end : ℕ) → at ≤ end → end ≤ length old → new ≡ paste old 0 (drop at old) (end - at) → take (end - (end - at)) old ++ take (end - at) new ≡ take end old
 moved_front old new at end within room after =
     let n = end - at in
@@ -85,7 +85,7 @@ pub gives_none : (x : Option (List ℕ)) → Told (Gives []) x x
 gives_none None = tt
 gives_none (Some a) = refl
 
--- n more bytes came behind those that were left of the taken ones, and some of them were given on
+-- n more bytes came after those that were left of the taken ones, and some of them were given on
 pub gives_more : (n : ℕ) (before v w p q : List ℕ) (x y z : Option (List ℕ)) → p ++ q ≡ w → Told (Gives (before ++ v)) x y → Told (Carries n v w) y z → Told (Gives ((before ++ p) ++ q)) x z
 gives_more n before v w p q x y z parts = told_again (Gives (before ++ v)) (Carries n v w) (Gives ((before ++ p) ++ q))
     (λ a b d e h.

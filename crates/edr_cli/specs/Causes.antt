@@ -156,7 +156,7 @@ pub record RanCutShort (bytes image : List ℕ) (new : Memory) : Type 0 where
   pub cut_short : IsCutShort cycles store count end.store end.count
   pub held : Holds new.content new.settled end.store end.count
 
--- as on one thread; or memory ran out, perhaps behind the start of a cycle
+-- as on one thread; or memory ran out, perhaps after the start of a cycle
 abbrev pub IsDriveCause : Input → Input → Memory → Memory → Fault → Type 0
 IsDriveCause i i' old new f =
     IsReplayCause i i' old new f ⊎ ((f ≡ fault.OutOfMemory) × IfTold i old (λ bytes image. RanCutShort bytes image new))

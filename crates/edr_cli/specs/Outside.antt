@@ -34,7 +34,7 @@ NoFault faults old new = ¬ Rose (faults old) (faults new)
 
 -- ---- what is said of what is told, said of the source and of the device
 
--- of a device before a call and behind it
+-- of a device before a call and after it
 abbrev pub OfMemory : {D : Type 0} {X : Type 1} → device.Ghosts D → (Memory → Memory → X) → D → D → X
 OfMemory g says old new = says (memory g old) (memory g new)
 
@@ -42,6 +42,6 @@ OfMemory g says old new = says (memory g old) (memory g new)
 abbrev pub OfRun : {S D : Type 0} {X : Type 1} → stream.Ghosts S → device.Ghosts D → (Input → Memory → Memory → X) → S → D → D → X
 OfRun s g says source old new = says (input s source) (memory g old) (memory g new)
 
--- and of the source behind it
+-- and of the source after it
 abbrev pub OfBoth : {S D : Type 0} {X : Type 1} → stream.Ghosts S → device.Ghosts D → (Input → Input → Memory → Memory → X) → S → S → D → D → X
 OfBoth s g says source source' old new = says (input s source) (input s source') (memory g old) (memory g new)

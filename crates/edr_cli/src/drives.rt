@@ -33,7 +33,7 @@ use std::alloc::{AllocError as OutOfMemory, Global};
 use std::sync::{Arc, Wait};
 use std::thread::Threads;
 
-// Runs the cycles by so many workers, opens the banks again and reports.
+// Runs the cycles by this number of workers, opens the banks again and reports.
 fn run_driven<
     R: Threads + Wait + Copy + Send + Sync + 'static,
     G: Gate + Drop + Send + Sync + 'static,
@@ -58,8 +58,8 @@ fn run_driven<
     report_held(alloc, nvm, form, &reports)
 }
 
-// Runs the trace that the source gives over the device by so many workers, and gives the report of the run and of what the device
-// holds behind it. The trace is whole before the device is used, and the image is looked at before the first cycle.
+// Runs the trace that the source gives over the device by this number of workers, and gives the report of the run and of what the device
+// holds after it. The trace is whole before the device is used, and the image is looked at before the first cycle.
 fn drive_source<
     R: Threads + Wait + Copy + Send + Sync + 'static,
     G: Gate + Drop + Send + Sync + 'static,
@@ -95,7 +95,7 @@ fn drive_source<
 /// threads. Memory for the threads of a cycle is taken after its start, so want of memory may leave that cycle counted. Each
 /// worker calls the gate once for each item, before the item's first offer.
 ///
-/// With `drive W live` a reader sees the banks beside the threads of each cycle, and a line for each cycle that ran stands behind the
+/// With `drive W live` a reader sees the banks beside the threads of each cycle, and a line for each cycle that ran stands after the
 /// report. Where memory ran out in showing a command the run ends after that cycle, with `OutOfMemory`.
 ///
 /// And `fleet W`: reads frames of images from the source, and writes a line for each image and the totals, by W workers, 1 to 8.
@@ -132,7 +132,7 @@ pub fn drive<
     // `drive`: with Ok the sink gained exactly the report of a run of the cycles that the source spelled, as by `replay`, with
     // another status exactly the line of a fault that has its cause, and where a write failed a part of either.
     ensures drive { ServesDrive S.Source K.Sink N.Nvm words.now result source.old source.new sink.old sink.new nvm.old nvm.new }
-    // `drive W live`: likewise, and with Ok behind that report the line of each cycle that ran, in order: its place in the run, the
+    // `drive W live`: likewise, and with Ok after that report the line of each cycle that ran, in order: its place in the run, the
     // length of its log, and the events in the banks after the steps of these commands, by the same run.
     ensures live { ServesLive S.Source K.Sink N.Nvm words.now result source.old source.new sink.old sink.new nvm.old nvm.new }
     // `fleet`: likewise the report of the images whose frames the source told. The device stays.

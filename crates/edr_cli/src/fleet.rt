@@ -16,7 +16,7 @@ use edr_trace::LARGEST_TRACE;
 use std::alloc::Global;
 use std::thread::Threads;
 
-// The report of the images whose frames the source gives, by so many workers. The source is read to its end first.
+// The report of the images whose frames the source gives, by this number of workers. The source is read to its end first.
 fn fleet_source<R: Threads + Sync, S: Source>(
     rt: &R,
     alloc: Global,

@@ -47,7 +47,7 @@ fn with_lines(report: Vec<u8>, lines: &[LiveLine]) -> Result<Vec<u8>, OutOfMemor
     Ok(text)
 }
 
-// Runs the cycles by so many workers beside a reader, opens the banks again, and reports with the line of each cycle that ran.
+// Runs the cycles by this number of workers beside a reader, opens the banks again, and reports with the line of each cycle that ran.
 fn run_live<
     R: Threads + Wait + Copy + Send + Sync + 'static,
     G: Gate + Drop + Send + Sync + 'static,
@@ -73,7 +73,7 @@ fn run_live<
     Ok(with_lines(report, &lived.lines)?)
 }
 
-// Runs the trace that the source gives over the device by so many workers beside a reader, and gives the report of the run and of what
+// Runs the trace that the source gives over the device by this number of workers beside a reader, and gives the report of the run and of what
 // the device holds after it, with the line of each cycle that ran.
 fn live_source<
     R: Threads + Wait + Copy + Send + Sync + 'static,

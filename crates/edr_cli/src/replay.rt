@@ -24,7 +24,7 @@ use edr_words::Form;
 use std::alloc::Global;
 
 // Runs the trace that the source gives over the device, and gives the report of the run and of what the device holds
-// behind it. The trace is whole before the device is used, and the image is looked at before the first cycle.
+// after it. The trace is whole before the device is used, and the image is looked at before the first cycle.
 fn replay_source<S: Source, N: Nvm>(
     alloc: Global,
     source: &mut S,

@@ -15,7 +15,7 @@ use edr_device::{Source, TakeFault, piece_len};
 use edr_trace::{CycleInput, LARGEST_TRACE, LONGEST_ROW, TraceReading};
 use std::alloc::Global;
 
-// Takes at most so many bytes of the source, puts them behind the first `kept` of the buffer, and answers how many.
+// Takes at most so many bytes of the source, puts them after the first `kept` of the buffer, and answers how many.
 fn take_behind<S: Source>(
     source: &mut S,
     buffer: &mut [u8],

@@ -13,7 +13,7 @@ use Rattle.edr_run.specs.Cycle.{acks_before, acks_in, replies_in, steps_in}
 use Rattle.edr_cycle.specs.Ends.{FirstSteps, steps_before}
 use Rattle.edr_cycle.proofs.EndingLemmas.{at_is, length-acks_in, split_at}
 
--- some first steps of the middle one of three lists, behind the first
+-- some first steps of the middle one of three lists, after the first
 abbrev Middle : List BankStep → List BankStep → List BankStep → Type 0
 Middle a b done = (q : ℕ) × (q ≤ length b) × (done ≡ a ++ take q b)
 

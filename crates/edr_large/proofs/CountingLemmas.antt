@@ -72,7 +72,7 @@ next_rows x m = refl
 acks_more : (reports : List Report) (r : Report) → all_acks (reports ++ r ∷ []) ≡ all_acks reports ++ acks_in r
 acks_more reports r = flat_map-append acks_in reports (r ∷ []) ∙ ap (λ (xs : List Ack). all_acks reports ++ xs) (append-nil (acks_in r))
 
--- one more cycle behind those that ran
+-- one more cycle after those that ran
 ran_more : (cs : List CycleInput) (c : CycleInput) (acks acks' : List Ack) (image image' : List ℕ) → c.start_stop ≡ 0 → (h : HasRunInMemory cs acks image) → HasRunOn c.feeds h.outcome.store h.outcome.count acks acks' image'
     → HasRunInMemory (cs ++ c ∷ []) acks' image'
 ran_more cs c acks acks' image image' begins h more = record {

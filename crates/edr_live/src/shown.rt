@@ -2,7 +2,7 @@
 
 use edr_banks::BankView;
 
-/// All banks after so many commands.
+/// All banks after some first commands, with how many these are.
 #[derive(Clone, Copy, Debug, PartialEq, Eq)]
 pub struct LiveView {
     /// How many commands were shown.

@@ -85,8 +85,7 @@ impl LiveWriter {
         }
     }
 
-    /// One more reader, which is told of all that was shown. None comes where two readers are there already, and where
-    /// memory runs out.
+    /// One more reader, which is told of all that was shown. None comes where two readers are there already.
     ///
     /// ```
     /// let seen = writer.tell().and_then(|mut reader| reader.read());

@@ -20,7 +20,7 @@ use Rattle.edr_loops.specs.declared.slow_place.SlowPlace.{SlowPlace}
 use Rattle.edr_loops.specs.Places.{came_of_both}
 use Rattle.edr_loops.specs.SlowPlaces.{CameOfKept, CameOfPart, CameOfSlow, IsUngranted}
 
--- an item of a feed is accepted behind those before it
+-- an item of a feed is accepted after those before it
 accepted-after : (s : Sensor) (last : ℕ) (xs : List Item) (n : ℕ) (d : Item) → IsFeedAfter s last xs → n < length xs → refusal_of s (mark_from last (take n xs)) (get_or xs n d) ≡ None
 accepted-after s last [] n d fed lt = absurd (omega arith)
 accepted-after s last (x ∷ xs) zero d fed lt = fed.0

@@ -17,7 +17,7 @@ module _ {A : Type 0} where
       let fewer : length all - n ≡ length front = omega (arith, whole, long) in
       ap (λ (xs : List A). take (length all - n) xs) is ∙ take-append-le (length all - n) front back (omega (arith, fewer)) ∙ take_all (length all - n) front (omega (arith, fewer))
 
-  -- the next one of the tray, and what lies behind it
+  -- the next one of the tray, and what lies after it
   next_is : (next end : ℕ) (xs : List A) (d : A) → next < end → end ≤ length xs → between next end xs ≡ get_or xs next d ∷ between (next + 1) end xs
   next_is next end xs d lt le =
       let long = length-take-le end xs le in
@@ -44,7 +44,7 @@ module _ {A : Type 0} where
   pub none_lie : (all : List A) (next end : ℕ) → next ≡ end → but_last (end - next) all ≡ all
   none_lie all next end is = take_all (length all - (end - next)) all (omega (arith, is))
 
--- the next one stands behind what is taken
+-- the next one stands after what is taken
 pub next_begins : (all xs : List Item) (next end : ℕ) (d : Item) → next < end → end ≤ length xs → all ≡ but_last (end - next) all ++ between next end xs
     → BeginsWith all (but_last (end - next) all ++ get_or xs next d ∷ [])
 next_begins all xs next end d lt le lie = (between (next + 1) end xs, next-split all xs next end d lt le lie)

@@ -67,7 +67,7 @@ impl Passage {
         }
     }
 
-    // The next item is the one behind.
+    // The next item is the one after.
     pub(crate) fn go_on(&mut self) {
         self.passed = false;
     }

@@ -57,7 +57,7 @@ abbrev pub EndsFrom : CycleInput → Option (List ℕ) → (ℕ → Bool) → Op
 EndsFrom c content settled content' settled' report =
     (v : Store) (n : ℕ) → Holds content settled v n → EndsAs c v n (report_of report) content' settled'
 
--- the commands ran behind a start that was done
+-- the commands ran after a start that was done
 pub begun_ran : (c : CycleInput) (number : ℕ) (store : Store) (content : Option (List ℕ)) (settled : ℕ → Bool) (content' : Option (List ℕ)) (settled' : ℕ → Bool) (content'' : Option (List ℕ)) (settled'' : ℕ → Bool) (r : Result CycleReport StartFault)
     → c.start_stop ≡ 0 → ((v : Store) (n : ℕ) → Holds content settled v n → (n < last_count) × (store ≡ v) × (number ≡ n + 1) × Holds content' settled' v (n + 1))
     → IfOk r (RunsFrom c.feeds c.stop number store content' settled' content'' settled'') → IfOk r (EndsFrom c content settled content'' settled'')

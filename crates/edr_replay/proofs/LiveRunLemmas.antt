@@ -22,7 +22,7 @@ use Rattle.edr_replay.proofs.DrivenLemmas.{cut_short_none}
 use Rattle.edr_replay.proofs.RunLemmas.{extended, run_more}
 use Rattle.edr_replay.proofs.RunningLemmas.{Running, ends_at_once, ends_in_next, running_first, running_more}
 
--- ---- one cycle more behind a run with live lines
+-- ---- one cycle more after a run with live lines
 
 lines_last : (i k : ℕ) (c : CycleInput) (v w : Store) (r : Report) (lines : List LiveLine) → k ≡ i → w ≡ v → lines ≡ [] → lines ++ live_lines_of k c.feeds w r ≡ live_lines_of i c.feeds v r ++ []
 lines_last i k c v w r lines at same none =

@@ -42,7 +42,7 @@ past_none content settled = record { keeps = λ v bytes image found may. past_sa
 
 -- ---- the power goes off
 
--- what a crash leaves behind a power cycle it might have left before
+-- what a crash leaves after a power cycle it might have left before
 pub comes_leaves : (old new : Option (List ℕ)) (settled settled' : ℕ → Bool) (image : List ℕ) → Told (Comes settled settled') old new → MayLeave new settled' image → MayLeave old settled image
 comes_leaves None new settled settled' image told may = tt
 comes_leaves (Some a) None settled settled' image told may = absurd told
@@ -78,7 +78,7 @@ past_then content content' content'' settled settled' settled'' first holds seco
       past_again v.store.header bytes mid.2.bytes image before (subst (λ (h : Header). KeepsPast h mid.2.bytes image) mid.3 after);
 }
 
--- the commands of a cycle behind its start
+-- the commands of a cycle after its start
 pub begun_past : (number : ℕ) (store : Store) (content content' content'' : Option (List ℕ)) (settled settled' settled'' : ℕ → Bool) → LeavesPast content settled content' settled'
     → ((v : Store) (n : ℕ) → Holds content settled v n → (n < last_count) × (store ≡ v) × (number ≡ n + 1) × Holds content' settled' v (n + 1))
     → LeavesPastOf (record { store = store; count = number }) content' settled' content'' settled'' → LeavesPast content settled content'' settled''

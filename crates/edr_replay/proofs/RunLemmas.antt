@@ -9,7 +9,7 @@ use Rattle.edr_run.specs.Cycle.{End, IsCycle, Outcome, IsRun, last_count}
 abbrev pub extended : Outcome → End → Outcome
 extended o e = record { reports = o.reports ++ e.report ∷ []; store = e.store; count = e.count }
 
--- one more cycle behind a run
+-- one more cycle after a run
 pub run_more : (cs : List CycleInput) (c : CycleInput) (v : Store) (n : ℕ) (o : Outcome) (e : End) → IsRun cs v n o → o.count < last_count → IsCycle c o.store o.count e → IsRun (cs ++ c ∷ []) v n (extended o e)
 run_more [] c v n o e run below cycle =
     let count : o.count ≡ n = ap (λ (x : Outcome). x.count) run in

@@ -54,7 +54,7 @@ running_first {g = g} cs capacity reports d self none room = record {
   past = past_none (g.content d) (g.settled d);
 }
 
--- what stands past the image, behind cycles that have run
+-- what stands past the image, after cycles that have run
 pub past_ran : (cs : List CycleInput) (content content' content'' : Option (List ℕ)) (settled settled' settled'' : ℕ → Bool) (reports : List CycleReport) → LeavesPast content settled content' settled' → HasRun cs content settled content' settled' reports
     → LeavesPast content' settled' content'' settled'' → LeavesPast content settled content'' settled''
 unfolding HasRun

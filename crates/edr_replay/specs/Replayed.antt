@@ -92,7 +92,7 @@ EndsShort cs content settled content' settled' e =
     IsMemory e → (v : Store) (n : ℕ) → Holds content settled v n
     → (p : ℕ) × (o : Outcome) × RanFirst cs v n p o × Holds content' settled' o.store o.count
 
--- ---- a run by threads, which takes memory behind a start too
+-- ---- a run by threads, which takes memory after a start too
 
 -- want of memory leaves what some first cycles came to, or these and the start of the next one
 unfoldable pub EndsCutShort : List CycleInput → Option (List ℕ) → (ℕ → Bool) → Option (List ℕ) → (ℕ → Bool) → StartFault → Type 0

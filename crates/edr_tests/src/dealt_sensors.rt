@@ -62,7 +62,7 @@ fn are_served(fast: &FastPlaces, slow: &SlowPlaces) -> [bool; 8] {
     ]
 }
 
-// Each of so many workers serves its own sensors.
+// Each of this number of workers serves its own sensors.
 fn assert_dealt(rt: &impl Abort, mut fast: FastPlaces, mut slow: SlowPlaces, workers: u32) {
     for w in 0..workers {
         let served = are_served(&fast.deal(w, workers), &slow.deal(w, workers));

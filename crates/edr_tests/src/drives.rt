@@ -78,7 +78,7 @@ fn longer_feeds(alloc: Global) -> Result<Feeds, Fail> {
     Ok(feeds)
 }
 
-// A cycle by so many workers ends.
+// A cycle by this number of workers ends.
 fn check_end<R: Threads + Wait + Abort + Copy + Send + 'static>(
     rt: &R,
     alloc: Global,
@@ -155,7 +155,7 @@ fn check_join<R: Threads + Wait + Abort + Copy + Send + 'static>(
     assert_committed(crew.rt, &back, &mut committer);
 }
 
-// A cycle by so many workers.
+// A cycle by this number of workers.
 fn check_threads<R: Threads + Wait + Abort + Copy + Send + 'static>(
     rt: &R,
     alloc: Global,

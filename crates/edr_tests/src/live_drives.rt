@@ -23,7 +23,7 @@ fn assert_last(rt: &impl Abort, live: &LiveEnd) {
     assert_eq!(rt; (live.last.applied, live.last.banks), (3, 2));
 }
 
-// A cycle by so many workers, beside which a reader reads.
+// A cycle by this number of workers, beside which a reader reads.
 fn check_last<R: Threads + Wait + Abort + Copy + Send + 'static>(
     rt: &R,
     alloc: Global,

@@ -21,7 +21,7 @@ const ALONG: [i16; 15] = [
     0, -4, -8, -12, -16, -20, -24, -28, -32, -36, -39, -39, -39, -39, -39,
 ];
 
-// The 136 bytes of its crash part, of which none are zeros that a version has behind them.
+// The 136 bytes of its crash part, of which none are zeros that a version has after them.
 fn crash() -> [u8; 136] {
     let mut bytes = [0; 136];
     bytes[1] = 115;

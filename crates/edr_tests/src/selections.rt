@@ -15,7 +15,7 @@ const CYCLE: u32 = 3;
 // Commands, each with its tick.
 type Issues = Vec<(u32, Command)>;
 
-// Puts a command, if there is one, behind the others.
+// Puts a command, if there is one, after the others.
 fn put(issues: &mut Issues, tick: u32, command: Option<Command>) -> Result<(), OutOfMemory> {
     if let Some(command) = command {
         issues.push((tick, command))?;
@@ -36,7 +36,7 @@ pub(crate) fn give(
     Ok(())
 }
 
-// Puts what a tick issues behind the rest.
+// Puts what a tick issues after the rest.
 fn put_step(
     issues: &mut Issues,
     tick: u32,
@@ -71,7 +71,7 @@ fn issues_by_core(alloc: Global, feeds: &Feeds) -> Result<Issues, Fail> {
     Ok(issues)
 }
 
-// Puts what an event issues behind the rest.
+// Puts what an event issues after the rest.
 fn put_parts(issues: &mut Issues, parts: &EventParts) -> Result<(), OutOfMemory> {
     let pre = parts.pre;
     let crash = parts.crash;

@@ -1,4 +1,4 @@
--- The arguments behind a word of a command line, and the commands that take them.
+-- The arguments after a word of a command line, and the commands that take them.
 use Rattle.std.specs.Prelude.{◌≡◌, ℕ, Bool, true, not, ◌==◌, Option, Some, None, option_map, List, [], ◌∷◌, map, codes, string_bytes, String}
 use Rattle.std.specs.Borrow.{Bor}
 use Rattle.std.specs.declared.alloc.Global.{Global}

@@ -28,7 +28,7 @@ pub enum Job {
     Report { form: Form },
     /// `drive W [text|csv]`: as `replay`, with W workers for the sensors, 1 to 8.
     Drive { workers: u8, form: Form },
-    /// `drive W live`: as `drive W`, with a line for each cycle behind the report.
+    /// `drive W live`: as `drive W`, with a line for each cycle after the report.
     DriveLive { workers: u8 },
     /// `generate N M`: writes the trace of a number, of M cycles, 1 to 60.
     Generate { number: u64, cycles: u32 },

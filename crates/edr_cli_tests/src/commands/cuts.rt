@@ -39,7 +39,7 @@ fn a_start_that_is_cut_counts_by_its_pick(rt: HostRuntime) -> Result<(), Fail> {
     Ok(())
 }
 
-// What bank 1 holds behind the cut: the record of cycle 1, nothing, or that of cycle 3, not done or complete.
+// What bank 1 holds after the cut: the record of cycle 1, nothing, or that of cycle 3, not done or complete.
 #[derive(Clone, Copy)]
 enum Bank {
     First,

@@ -102,7 +102,7 @@ pub(super) fn serve_driven<
     drive(rt, alloc, words, source, sink, memory, gate)
 }
 
-// What stands in sink and memory behind a run.
+// What stands in sink and memory after a run.
 fn outcome_of(alloc: Global, status: Status, outside: &Outside) -> Result<RunOutcome, AllocError> {
     let text = outside.sink.bytes().to_vec(alloc)?;
     let image = outside.memory.image().to_vec(alloc)?;

@@ -50,7 +50,7 @@ fn check_whole<R: Abort + AllocGlobal>(
     check_streams(rt, replayed(trace, &report), streams, memory)
 }
 
-// A replay in which this changing call fails is told, and leaves what it is to behind a power cut.
+// A replay in which this changing call fails is told, and leaves what it is to after a power cut.
 fn check_changing_call<R: Abort + AllocGlobal>(rt: &R, trace: &str, call: u32) -> Result<(), Fail> {
     let fault = faulty(trace, Status::StoreFault, "fault: store fault\n");
     let mut memory = memory_of(rt.alloc(), &new_image(2, KEEP), &[call], 0)?;
@@ -89,7 +89,7 @@ fn check_read<R: Abort + AllocGlobal>(
 }
 
 // The front of the image and each bank is read before the first cycle, at its start, which looks at the front once more,
-// and behind it. What fails behind the cycle leaves its whole record.
+// and after it. What fails after the cycle leaves its whole record.
 #[test]
 fn each_read_fails_once(rt: HostRuntime) -> Result<(), Fail> {
     let trace = trace_of(rt.alloc(), &[DEPLOYED])?;
