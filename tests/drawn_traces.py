@@ -2,15 +2,21 @@
 
 A cycle has some hundred ticks and a few events. Rows of an axis stand at each tick, or only where the car is struck; slow sensors give
 a sample now and then, are silent, or have no row at all; the rows of a sensor may stand far after those of others. Restraints fire,
-pretensioners too, also twice and at one tick, and the values lie at the thresholds or far over them.
+pretensioners too, also twice and at one tick, and the values lie at the thresholds or far over them. In two traces of three no air bag
+fires, so that the memory doesn't fill up with locked records.
 """
-import dataclasses
+import bisect, dataclasses, operator
 
 AXES, SLOW = ("along", "across"), {"speed": 300, "throttle": 100, "brake": 1, "belt": 1, "lamp": 1}
 MOST_STOPS = 8
+LONGEST = 1_500
+# Rows of an axis at each tick, with their ticks.
+QUIET = {axis: [(tick, f"{axis},{tick},0\n") for tick in range(LONGEST + 1)] for axis in AXES}
+SILENT = {axis: [(tick, f"{axis},{tick},\n") for tick in range(LONGEST + 1)] for axis in AXES}
 # Steps of a tick: so few that 20 or 150 ticks meet a threshold or miss it, and many.
 SIZES = (400, 401, 533, 534, 540, 800, 1_600, 1_601, 3_000, 4_000, 5_000, 20_000, 80_000, 100_000)
-FIRINGS = (1, 2, 4, 8, 16, 32, 64, 64, 128, 128, 192, 65, 255)
+# What fires: air bags too, pretensioners alone, which lock nothing, or nothing.
+FIRINGS = (1, 2, 4, 8, 16, 32, 64, 64, 128, 128, 192, 65, 255), (64, 128, 192), ("",)
 
 
 @dataclasses.dataclass
@@ -34,17 +40,23 @@ def strikes_of(ticks, draws):
     return found
 
 
+def struck(axis, ticks, strikes):
+    """The values of an axis by their ticks, where it is struck."""
+    hits = [it for it in strikes if it.axis == axis]
+    return {tick: it.size for it in hits for tick in range(it.first, min(it.last, ticks) + 1)}
+
+
 def axis_rows(axis, ticks, strikes, draws):
-    """The rows of an axis: at each tick, or where it is struck and each 1,000 ticks; some are left out, and some are silent."""
-    every, lost, values = draws.random() < 0.3, draws.choice((0, 0, 0, 0.02)), {}
-    for strike in strikes:
-        if strike.axis == axis:
-            values.update((tick, strike.size) for tick in range(strike.first, min(strike.last, ticks) + 1))
-    wanted = range(1, ticks + 1) if every else sorted({*values, *range(500, ticks, 500), ticks})
-    for tick in wanted:
-        if tick == ticks or draws.random() >= lost:
-            value = values.get(tick, 0)
-            yield tick, "" if tick not in values and draws.random() < 0.05 else value
+    """The rows of an axis: at each tick, or where it is struck and each 500 ticks; some are left out, and some are silent."""
+    values, lost = struck(axis, ticks, strikes), draws.choice((0, 0, 0, 0.02))
+    wanted = range(1, ticks + 1) if draws.random() < 0.3 else sorted({*values, *range(500, ticks, 500), ticks})
+    rows = QUIET[axis][1 : ticks + 1] if len(wanted) == ticks else [QUIET[axis][tick] for tick in wanted]
+    for at in draws.sample(range(len(rows)), len(rows) // 20):
+        rows[at] = SILENT[axis][wanted[at]]
+    for tick, size in values.items():
+        at = tick - 1 if len(wanted) == ticks else bisect.bisect_left(wanted, tick)
+        rows[at] = tick, f"{axis},{tick},{size}\n"
+    return [row for row in rows[:-1] if draws.random() >= lost] + rows[-1:] if lost else rows
 
 
 def slow_rows(word, ticks, draws):
@@ -52,26 +64,27 @@ def slow_rows(word, ticks, draws):
     most, step = SLOW[word], draws.choice((10, 100, 100, 100, 300, 1_000))
     silent = draws.choice((0, 0, 0, 0.2, 1))
     for tick in sorted({*range(step, ticks, step), *range(900, ticks, 900), ticks}):
-        yield tick, "" if draws.random() < silent else draws.choice((0, most, draws.randint(0, most)))
+        value = "" if draws.random() < silent else draws.choice((0, most, draws.randint(0, most)))
+        yield tick, f"{word},{tick},{value}\n"
 
 
-def restraint_rows(ticks, strikes, draws):
+def restraint_rows(ticks, strikes, firings, draws):
     """Restraints that fire in a strike, after it, or at any tick."""
     fires = {}
     for strike in strikes:
         for _ in range(draws.choice((0, 0, 1, 1, 2, 3))):
-            fires[min(ticks, strike.first + draws.randint(0, 120))] = draws.choice(FIRINGS)
+            fires[min(ticks, strike.first + draws.randint(0, 120))] = draws.choice(firings)
     for _ in range(draws.choice((0, 0, 0, 1, 2))):
-        fires[draws.randint(1, ticks)] = draws.choice(FIRINGS)
-    return [(tick, fires.get(tick, "")) for tick in sorted({*fires, *range(1_000, ticks, 1_000), ticks})]
+        fires[draws.randint(1, ticks)] = draws.choice(firings)
+    return [(tick, f"restraint,{tick},{fires.get(tick, '')}\n") for tick in sorted({*fires, *range(1_000, ticks, 1_000), ticks})]
 
 
-def sensor_rows(ticks, draws):
-    """The rows of each sensor of a cycle, in their order; now and then one has none, or ends early."""
+def sensor_rows(ticks, firings, draws):
+    """The rows of each sensor of a cycle with their ticks, in their order; now and then one has none, or ends early."""
     strikes = strikes_of(ticks, draws)
-    rows = {axis: list(axis_rows(axis, ticks, strikes, draws)) for axis in AXES}
+    rows = {axis: axis_rows(axis, ticks, strikes, draws) for axis in AXES}
     rows.update((word, list(slow_rows(word, ticks, draws))) for word in SLOW)
-    rows["restraint"] = restraint_rows(ticks, strikes, draws)
+    rows["restraint"] = restraint_rows(ticks, strikes, firings, draws)
     if ticks <= 1_000 and draws.random() < 0.03:
         rows[draws.choice(list(rows))] = []
     if draws.random() < 0.1:
@@ -83,21 +96,22 @@ def sensor_rows(ticks, draws):
 def in_order(rows, draws):
     """The rows of all sensors: by moment, by sensor, or some sensors later than others."""
     late = {word: draws.choice((0, 0, 0, 40, 900)) if draws.random() < 0.3 else 0 for word in rows}
-    way = draws.random()
-    placed = [(word, tick, value) for word, some in rows.items() for tick, value in some]
-    if way > 0.1:
-        placed.sort(key=lambda row: row[1] + late[row[0]])
-    return [f"{word},{tick},{value}\n" for word, tick, value in placed]
+    placed = []
+    for word, some in rows.items():
+        placed += [(tick + late[word], row) for tick, row in some] if late[word] else some
+    if draws.random() > 0.1:
+        placed.sort(key=operator.itemgetter(0))
+    return [row for _, row in placed]
 
 
-def drawn_cycle(draws, stops):
+def drawn_cycle(draws, stops, firings):
     """A cycle, with a planned power cut where there may be one."""
     if draws.random() < 0.12:
         call = draws.randint(1, 6) if stops else draws.randint(1, 4)
         return f"on,{call},\n"
-    ticks = draws.choice((draws.randint(1, 80), draws.randint(60, 400), draws.randint(60, 400), draws.randint(400, 1_500)))
-    cut = draws.choice((draws.randint(1, 12), draws.randint(1, 40), 4_294_967_295)) if stops and draws.random() < 0.4 else 0
-    return "".join(["on,0,\n", *in_order(sensor_rows(ticks, draws), draws), f"cut,{cut},\n"])
+    ticks = draws.choice((draws.randint(1, 80), draws.randint(60, 400), draws.randint(60, 400), draws.randint(400, LONGEST)))
+    cut = draws.choice((draws.randint(1, 12), draws.randint(1, 12), draws.randint(1, 40), 4_294_967_295)) if stops and draws.random() < 0.4 else 0
+    return "".join(["on,0,\n", *in_order(sensor_rows(ticks, firings, draws), draws), f"cut,{cut},\n"])
 
 
 def has_two_ends(cycle):
@@ -107,9 +121,9 @@ def has_two_ends(cycle):
 
 def drawn_cycles(draws, count, most_stops=MOST_STOPS):
     """So many cycles, of which at most eight may have two ends."""
-    found, stops = [], draws.randint(0, most_stops)
+    found, stops, firings = [], draws.randint(0, most_stops), draws.choice(FIRINGS)
     for _ in range(count):
-        cycle = drawn_cycle(draws, stops > 0)
+        cycle = drawn_cycle(draws, stops > 0, firings)
         stops -= has_two_ends(cycle)
         found.append(cycle)
     return found
