@@ -5,14 +5,19 @@ a sample now and then, are silent, or have no row at all; the rows of a sensor m
 pretensioners too, also twice and at one tick, and the values lie at the thresholds or far over them. In two traces of three no air bag
 fires, so that the memory doesn't fill up with locked records.
 """
-import bisect, dataclasses, operator
+import dataclasses, operator
 
 AXES, SLOW = ("along", "across"), {"speed": 300, "throttle": 100, "brake": 1, "belt": 1, "lamp": 1}
 MOST_STOPS = 8
 LONGEST = 1_500
-# Rows of an axis at each tick, with their ticks.
-QUIET = {axis: [(tick, f"{axis},{tick},0\n") for tick in range(LONGEST + 1)] for axis in AXES}
-SILENT = {axis: [(tick, f"{axis},{tick},\n") for tick in range(LONGEST + 1)] for axis in AXES}
+# What a slow sensor gives: any value, but a third each 0 and the greatest; the same with silence now and then; or silence alone.
+VALUES = {word: 3 * [[*range(most + 1), *most * [0, most]]] for word, most in SLOW.items()}
+for some in VALUES.values():
+    some += [[*some[0], *(len(some[0]) // 4 * [""])], [""]]
+# The first two fields of the rows of an axis at each tick; and quiet and silent rows, with their ticks.
+FRONTS = {axis: [f"{axis},{tick}" for tick in range(LONGEST + 1)] for axis in AXES}
+QUIET = {axis: [(tick, f"{front},0\n") for tick, front in enumerate(fronts)] for axis, fronts in FRONTS.items()}
+SILENT = {axis: [(tick, f"{front},\n") for tick, front in enumerate(fronts)] for axis, fronts in FRONTS.items()}
 # Steps of a tick: so few that 20 or 150 ticks meet a threshold or miss it, and many.
 SIZES = (400, 401, 533, 534, 540, 800, 1_600, 1_601, 3_000, 4_000, 5_000, 20_000, 80_000, 100_000)
 # What fires: air bags too, pretensioners alone, which lock nothing, or nothing.
@@ -40,32 +45,37 @@ def strikes_of(ticks, draws):
     return found
 
 
-def struck(axis, ticks, strikes):
-    """The values of an axis by their ticks, where it is struck."""
-    hits = [it for it in strikes if it.axis == axis]
-    return {tick: it.size for it in hits for tick in range(it.first, min(it.last, ticks) + 1)}
+def struck_rows(axis, ticks, strikes):
+    """The rows of an axis where it is struck, by their ticks."""
+    found = {}
+    for strike in strikes:
+        if strike.axis == axis:
+            end = f",{strike.size}\n"
+            found.update((tick, (tick, FRONTS[axis][tick] + end)) for tick in range(strike.first, min(strike.last, ticks) + 1))
+    return found
 
 
 def axis_rows(axis, ticks, strikes, draws):
     """The rows of an axis: at each tick, or where it is struck and each 500 ticks; some are left out, and some are silent."""
-    values, lost = struck(axis, ticks, strikes), draws.choice((0, 0, 0, 0.02))
-    wanted = range(1, ticks + 1) if draws.random() < 0.3 else sorted({*values, *range(500, ticks, 500), ticks})
-    rows = QUIET[axis][1 : ticks + 1] if len(wanted) == ticks else [QUIET[axis][tick] for tick in wanted]
-    for at in draws.sample(range(len(rows)), len(rows) // 20):
-        rows[at] = SILENT[axis][wanted[at]]
-    for tick, size in values.items():
-        at = tick - 1 if len(wanted) == ticks else bisect.bisect_left(wanted, tick)
-        rows[at] = tick, f"{axis},{tick},{size}\n"
-    return [row for row in rows[:-1] if draws.random() >= lost] + rows[-1:] if lost else rows
+    rows, lost = struck_rows(axis, ticks, strikes), draws.choice((0, 0, 0, 0.02))
+    if draws.random() < 0.3:
+        every = QUIET[axis][1 : ticks + 1]
+        for tick in draws.sample(range(1, ticks + 1), ticks // 20):
+            every[tick - 1] = SILENT[axis][tick]
+        for tick, row in rows.items():
+            every[tick - 1] = row
+    else:
+        some = QUIET if draws.random() < 0.9 else SILENT
+        every = sorted({**{tick: some[axis][tick] for tick in (*range(500, ticks, 500), ticks)}, **rows}.values())
+    return [row for row in every[:-1] if draws.random() >= lost] + every[-1:] if lost else every
 
 
 def slow_rows(word, ticks, draws):
     """The rows of a slow sensor: a sample each 100 ticks, fewer, or none but silent ones."""
-    most, step = SLOW[word], draws.choice((10, 100, 100, 100, 300, 1_000))
-    silent = draws.choice((0, 0, 0, 0.2, 1))
-    for tick in sorted({*range(step, ticks, step), *range(900, ticks, 900), ticks}):
-        value = "" if draws.random() < silent else draws.choice((0, most, draws.randint(0, most)))
-        yield tick, f"{word},{tick},{value}\n"
+    step = draws.choice((10, 100, 100, 100, 300, 1_000))
+    places = sorted({*range(step, ticks, step), *range(900, ticks, 900), ticks})
+    values = draws.choices(draws.choice(VALUES[word]), k=len(places))
+    return [(tick, f"{word},{tick},{value}\n") for tick, value in zip(places, values)]
 
 
 def restraint_rows(ticks, strikes, firings, draws):
@@ -83,7 +93,7 @@ def sensor_rows(ticks, firings, draws):
     """The rows of each sensor of a cycle with their ticks, in their order; now and then one has none, or ends early."""
     strikes = strikes_of(ticks, draws)
     rows = {axis: axis_rows(axis, ticks, strikes, draws) for axis in AXES}
-    rows.update((word, list(slow_rows(word, ticks, draws))) for word in SLOW)
+    rows.update((word, slow_rows(word, ticks, draws)) for word in SLOW)
     rows["restraint"] = restraint_rows(ticks, strikes, firings, draws)
     if ticks <= 1_000 and draws.random() < 0.03:
         rows[draws.choice(list(rows))] = []
