@@ -1,7 +1,8 @@
 """Drawn traces of short cycles with many events, for the auditor.
 
-A cycle has some hundred ticks and a few events. Rows of an axis stand at each tick, or only where the car is struck; slow sensors give
-a sample now and then, are silent, or have no row at all; the rows of a sensor may stand far after those of others. Restraints fire,
+A cycle has some hundred ticks and a few events, one in thirty up to 25,000 ticks, for slots of 20 seconds and pairs of 5. Rows of an axis
+stand at each tick, in strikes and after them, or only where the car is struck; slow sensors give a sample now and then, are silent, or
+have no row at all; the rows of a sensor may stand far after those of others. Restraints fire,
 pretensioners too, also twice and at one tick, and the values lie at the thresholds or far over them. In two traces of three no air bag
 fires, so that the memory doesn't fill up with locked records.
 """
@@ -9,7 +10,9 @@ import dataclasses, operator
 
 AXES, SLOW = ("along", "across"), {"speed": 300, "throttle": 100, "brake": 1, "belt": 1, "lamp": 1}
 MOST_STOPS = 8
-LONGEST = 1_500
+SHORT, LONGEST = 1_500, 25_000
+# How long after a strike the rows of its window stand.
+WINDOW = 340
 # What a slow sensor gives: any value, but a third each 0 and the greatest; the same with silence now and then; or silence alone.
 VALUES = {word: 3 * [[*range(most + 1), *most * [0, most]]] for word, most in SLOW.items()}
 for some in VALUES.values():
@@ -36,12 +39,13 @@ class Strike:
 
 def strikes_of(ticks, draws):
     """The strikes of a cycle, one after the other or over one another."""
-    tick, found = draws.randint(1, 60), []
+    is_long, found = ticks > SHORT, []
+    tick = draws.randint(ticks * 3 // 4, ticks) if is_long else draws.randint(1, 60)
     while tick < ticks and draws.random() < 0.9:
         size = draws.choice(SIZES) * draws.choice((1, -1))
         lasts = max(1, min(200, draws.choice((90_000, 170_000)) // abs(size) + draws.randint(0, 12)))
         found.append(Strike(draws.choice(AXES), tick, tick + lasts, size))
-        tick += draws.choice((0, lasts + draws.randint(10, 90), lasts + draws.randint(60, 400)))
+        tick += draws.choice((0, lasts + draws.randint(10, 90), lasts + draws.randint(60, 5_200 if is_long else 400)))
     return found
 
 
@@ -55,26 +59,28 @@ def struck_rows(axis, ticks, strikes):
     return found
 
 
-def axis_rows(axis, ticks, strikes, draws):
-    """The rows of an axis: at each tick, or where it is struck and each 500 ticks; some are left out, and some are silent."""
-    rows, lost = struck_rows(axis, ticks, strikes), draws.choice((0, 0, 0, 0.02))
-    if draws.random() < 0.3:
+def axis_rows(axis, ticks, strikes, is_full, draws):
+    """The rows of an axis: at each tick, or where the car is struck and each 500 ticks; some are left out, and some are silent."""
+    rows, lost = struck_rows(axis, ticks, strikes), 0 if is_full else draws.choice((0, 0, 0, 0.02))
+    if ticks <= SHORT and draws.random() < 0.3:
         every = QUIET[axis][1 : ticks + 1]
         for tick in draws.sample(range(1, ticks + 1), ticks // 20):
             every[tick - 1] = SILENT[axis][tick]
         for tick, row in rows.items():
             every[tick - 1] = row
     else:
-        some = QUIET if draws.random() < 0.9 else SILENT
-        every = sorted({**{tick: some[axis][tick] for tick in (*range(500, ticks, 500), ticks)}, **rows}.values())
+        some, wanted = QUIET if is_full or draws.random() < 0.9 else SILENT, {*range(500, ticks, 500), ticks}
+        for strike in strikes if is_full or draws.random() < 0.3 else ():
+            wanted.update(range(strike.first, min(ticks, strike.last + WINDOW) + 1))
+        every = sorted({**{tick: some[axis][tick] for tick in wanted}, **rows}.values())
     return [row for row in every[:-1] if draws.random() >= lost] + every[-1:] if lost else every
 
 
-def slow_rows(word, ticks, draws):
-    """The rows of a slow sensor: a sample each 100 ticks, fewer, or none but silent ones."""
-    step = draws.choice((10, 100, 100, 100, 300, 1_000))
+def slow_rows(word, ticks, is_full, draws):
+    """The rows of a slow sensor: a sample each 100 ticks, or else fewer, or none but silent ones."""
+    step = 100 if is_full else draws.choice((10, 100, 100, 100, 300, 1_000))
     places = sorted({*range(step, ticks, step), *range(900, ticks, 900), ticks})
-    values = draws.choices(draws.choice(VALUES[word]), k=len(places))
+    values = draws.choices(VALUES[word][0] if is_full else draws.choice(VALUES[word]), k=len(places))
     return [(tick, f"{word},{tick},{value}\n") for tick, value in zip(places, values)]
 
 
@@ -91,9 +97,9 @@ def restraint_rows(ticks, strikes, firings, draws):
 
 def sensor_rows(ticks, firings, draws):
     """The rows of each sensor of a cycle with their ticks, in their order; now and then one has none, or ends early."""
-    strikes = strikes_of(ticks, draws)
-    rows = {axis: axis_rows(axis, ticks, strikes, draws) for axis in AXES}
-    rows.update((word, slow_rows(word, ticks, draws)) for word in SLOW)
+    strikes, is_full = strikes_of(ticks, draws), ticks > SHORT and draws.random() < 0.5
+    rows = {axis: axis_rows(axis, ticks, strikes, is_full, draws) for axis in AXES}
+    rows.update((word, slow_rows(word, ticks, is_full, draws)) for word in SLOW)
     rows["restraint"] = restraint_rows(ticks, strikes, firings, draws)
     if ticks <= 1_000 and draws.random() < 0.03:
         rows[draws.choice(list(rows))] = []
@@ -119,7 +125,9 @@ def drawn_cycle(draws, stops, firings):
     if draws.random() < 0.12:
         call = draws.randint(1, 6) if stops else draws.randint(1, 4)
         return f"on,{call},\n"
-    ticks = draws.choice((draws.randint(1, 80), draws.randint(60, 400), draws.randint(60, 400), draws.randint(400, LONGEST)))
+    ticks = draws.choice((draws.randint(1, 80), draws.randint(60, 400), draws.randint(60, 400), draws.randint(400, SHORT)))
+    if draws.random() < 0.03:
+        ticks = draws.choice((draws.randint(SHORT, 8_000), draws.randint(21_000, LONGEST)))
     cut = draws.choice((draws.randint(1, 12), draws.randint(1, 12), draws.randint(1, 40), 4_294_967_295)) if stops and draws.random() < 0.4 else 0
     return "".join(["on,0,\n", *in_order(sensor_rows(ticks, firings, draws), draws), f"cut,{cut},\n"])
 
