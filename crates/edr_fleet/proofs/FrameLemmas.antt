@@ -1,12 +1,12 @@
 -- The frames of bytes are one list, and so is what follows them where no frame does.
-use Rattle.std.proofs.Common.{◌≡◌, ◌∙◌, ◌⊎◌, inl, inr, ℕ, ◌+◌, ◌<◌, List, [], ◌∷◌, ◌++◌, length, take, drop, refl, sym, ap, ap₂, arith, append_assoc, append-nil, length-append}
+use Rattle.std.proofs.Common.{◌≡◌, ◌∙◌, ◌⊎◌, inl, inr, ℕ, ◌+◌, ◌<◌, ◌≤◌, List, [], ◌∷◌, ◌++◌, length, take, drop, refl, sym, ap, ap₂, arith, append_assoc, append-nil, length-append}
 use Rattle.std.specs.Prelude.{All}
 use Rattle.std.proofs.Math.Seq.{drop-append_seam, take-append_seam}
 use Rattle.std.proofs.lemmas.Grind.{flat_map-append}
 use Rattle.std.proofs.lemmas.List.Elements.{All-append, All-head, All-tail}
 use Rattle.byteorder.specs.Numbers.{big_number-reads_back}
 use Rattle.edr_image.specs.PartBytes.{number_at}
-use Rattle.edr_fleet.specs.Frames.{AreFramesOf, EndsInFrameAt, FitsFrame, HasNoFrame, frame, frames}
+use Rattle.edr_fleet.specs.Frames.{AreFramesOf, BeginWithFrames, EndsInFrameAt, FitsFrame, HasNoFrame, frame, frames}
 
 -- two lists in front of others, of one length
 same_front : (xs ys cs bs : List ℕ) → length xs ≡ length ys → xs ++ cs ≡ ys ++ bs → (xs ≡ ys) × (cs ≡ bs)
@@ -73,6 +73,29 @@ pub never_both : (images : List (List ℕ)) (offset : ℕ) (bytes : List ℕ) �
 never_both images offset bytes p q =
     let same = one_way images q.images [] q.rest p.fit q.fit nothing q.cut.cut (sym (with_nothing images bytes p.bytes_are) ∙ q.bytes_are) in
     q.cut.some (sym same.1)
+
+-- images have no more than their frames have bytes
+pub as_many_bytes : (images : List (List ℕ)) → length images ≤ length (frames images)
+as_many_bytes [] = omega arith
+as_many_bytes (x ∷ xs) = omega (arith, as_many_bytes xs, length-append (frame x) (frames xs), length-frame x)
+
+-- bytes that begin with whole frames are whole where nothing follows these, and else end inside the next frame
+pub are_whole : (images : List (List ℕ)) (rest bytes : List ℕ) → BeginWithFrames images rest bytes → rest ≡ [] → AreFramesOf images bytes
+are_whole images rest bytes first none = record {
+  fit = first.fit;
+  bytes_are = first.bytes_are ∙ ap (λ (r : List ℕ). frames images ++ r) none ∙ append-nil (frames images);
+}
+
+pub are_cut : (images : List (List ℕ)) (rest bytes : List ℕ) (offset : ℕ) → BeginWithFrames images rest bytes → (rest ≡ [] → ⊥)
+    → offset ≡ length (frames images) → EndsInFrameAt offset bytes
+are_cut images rest bytes offset first some is = record {
+  images = images;
+  rest = rest;
+  fit = first.fit;
+  cut = record { some = some; cut = first.cut };
+  bytes_are = first.bytes_are;
+  offset_is = is;
+}
 
 pub frames_add : (xs ys : List (List ℕ)) (front back : List ℕ) → AreFramesOf xs front → AreFramesOf ys back → AreFramesOf (xs ++ ys) (front ++ back)
 frames_add xs ys front back p q = record {

@@ -1,5 +1,5 @@
 -- The shares of a fleet, one after the other, have its lines and its events.
-use Rattle.std.proofs.Common.{◌≡◌, ◌∙◌, ℕ, zero, suc, ◌+◌, ◌*◌, ◌/◌, ◌%◌, ◌<◌, ◌≤◌, min, true, false, List, ◌++◌, length, map, take, drop, get_or, Result, Ok, Err, sym, ap, subst, arith, add-one, length-drop}
+use Rattle.std.proofs.Common.{◌≡◌, ◌∙◌, ℕ, zero, suc, ◌+◌, ◌*◌, ◌/◌, ◌%◌, ◌<◌, ◌≤◌, min, true, false, List, ◌++◌, length, map, take, drop, get_or, Result, Ok, Err, sym, ap, subst, arith, add-one, length-append, length-drop}
 use Rattle.std.specs.Prelude.{flat_map, sum_by, IsOk}
 use Rattle.std.specs.Borrow.{Bor}
 use Rattle.std.specs.Fork.{slice_chunk}
@@ -19,58 +19,68 @@ bytes_of images = map (λ (i : Bor (List ℕ)). i.now) images
 
 -- what a share says, where there was memory
 share_of : (some : List (Bor (List ℕ))) (before : ℕ) (r : Result FleetPart AllocError) → IsOk r → IsShareOf some before r
-    → (lines_of r ≡ image_lines (before + 1) (bytes_of some)) × (events_of r ≡ all_events (bytes_of some))
-share_of some before (Ok p) ok share = (share.lines, share.events)
+    → (lines_of r ≡ image_lines (before + 1) (bytes_of some)) × (events_of r ≡ all_events (bytes_of some)) × (events_of r ≤ 16 * length some)
+share_of some before (Ok p) ok share = (share.lines, share.events, share.few)
 share_of some before (Err e) ok share = absurd (differ ok) where
   differ : false ≡ true → ⊥
   differ e = cc
 
-module _ (size : ℕ) (images : List (Bor (List ℕ))) (rs : List (Result FleetPart AllocError)) (none : Result FleetPart AllocError)
+module _ (before size : ℕ) (images : List (Bor (List ℕ))) (rs : List (Result FleetPart AllocError)) (none : Result FleetPart AllocError)
     (fine : (n : ℕ) (d : Result FleetPart AllocError) → n < length rs → IsOk (get_or rs n d))
     (within : (n : ℕ) → n < length rs → n * size ≤ length images)
-    (shares : (n : ℕ) (d : Result FleetPart AllocError) → n < length rs → IsShareOf (slice_chunk images size n) (n * size) (get_or rs n d)) where
+    (shares : (n : ℕ) (d : Result FleetPart AllocError) → n < length rs → IsShareOf (slice_chunk images size n) (before + n * size) (get_or rs n d)) where
   abbrev Upto : ℕ → Type 0
-  Upto k = (flat_map lines_of (take k rs) ≡ image_lines 1 (bytes_of (take (k * size) images)))
+  Upto k = (flat_map lines_of (take k rs) ≡ image_lines (before + 1) (bytes_of (take (k * size) images)))
       × (sum_by events_of (take k rs) ≡ all_events (bytes_of (take (k * size) images)))
+      × (sum_by events_of (take k rs) ≤ 16 * length (take (k * size) images))
 
   step : (k : ℕ) → k < length rs → Upto k → Upto (k + 1)
   step k below so_far =
       let xs = bytes_of (take (k * size) images) in
       let ys = bytes_of (slice_chunk images size k) in
-      let share = share_of (slice_chunk images size k) (k * size) (get_or rs k none) (fine k none below) (shares k none below) in
+      let share = share_of (slice_chunk images size k) (before + k * size) (get_or rs k none) (fine k none below) (shares k none below) in
       let more : (k + 1) * size ≡ k * size + size = omega arith in
       let cut : bytes_of (take ((k + 1) * size) images) ≡ xs ++ ys =
       ap (λ (n : ℕ). bytes_of (take n images)) more
       ∙ ap bytes_of (take-add (k * size) size images)
       ∙ map-append (λ (i : Bor (List ℕ)). i.now) (take (k * size) images) (take size (drop (k * size) images)) in
       let long : length xs ≡ k * size = length-map (take (k * size) images) (λ (i : Bor (List ℕ)). i.now) ∙ length-take-le (k * size) images (within k below) in
-      let place : 1 + length xs ≡ k * size + 1 = omega arith in (
+      let place : before + 1 + length xs ≡ before + k * size + 1 = omega (arith, long) in
+      let both = ap length (ap (λ (n : ℕ). take n images) more ∙ take-add (k * size) size images) ∙ length-append (take (k * size) images) (slice_chunk images size k) in
+      let sum = events_next rs k none below in (
         lines_next rs k none below
             ∙ ap (λ (l : List ℕ). l ++ lines_of (get_or rs k none)) so_far.0
-            ∙ ap (λ (l : List ℕ). image_lines 1 xs ++ l) (share.0 ∙ ap (λ (n : ℕ). image_lines n ys) (sym place))
-            ∙ sym (image_lines-append 1 xs ys)
-            ∙ ap (image_lines 1) (sym cut),
-        events_next rs k none below
+            ∙ ap (λ (l : List ℕ). image_lines (before + 1) xs ++ l) (share.0 ∙ ap (λ (n : ℕ). image_lines n ys) (sym place))
+            ∙ sym (image_lines-append (before + 1) xs ys)
+            ∙ ap (image_lines (before + 1)) (sym cut),
+        sum
             ∙ ap (λ (n : ℕ). n + events_of (get_or rs k none)) so_far.1
             ∙ ap (λ (n : ℕ). all_events xs + n) share.1
             ∙ sym (all_events-append xs ys)
             ∙ ap all_events (sym cut),
+        omega (arith, sum, so_far.2, share.2, both),
       )
 
   upto : (k : ℕ) → k ≤ length rs → Upto k
   upto zero below =
-      let none_yet : 0 ≡ 0 * size = omega arith in
-      (ap (λ (n : ℕ). image_lines 1 (bytes_of (take n images))) none_yet, ap (λ (n : ℕ). all_events (bytes_of (take n images))) none_yet)
+      let none_yet : 0 ≡ 0 * size = omega arith in (
+        ap (λ (n : ℕ). image_lines (before + 1) (bytes_of (take n images))) none_yet,
+        ap (λ (n : ℕ). all_events (bytes_of (take n images))) none_yet,
+        omega arith,
+      )
   upto (suc k) below = subst Upto (add-one k) (step k (omega arith) (upto k (omega arith)))
 
   pub all_shares : length images ≤ length rs * size
-      → (flat_map lines_of rs ≡ image_lines 1 (bytes_of images)) × (sum_by events_of rs ≡ all_events (bytes_of images))
+      → (flat_map lines_of rs ≡ image_lines (before + 1) (bytes_of images))
+      × (sum_by events_of rs ≡ all_events (bytes_of images))
+      × (sum_by events_of rs ≤ 16 * length images)
   all_shares enough =
       let all = upto (length rs) (omega arith) in
       let whole = take_all (length rs) rs (omega arith) in
       let every = take_all (length rs * size) images enough in (
-        ap (flat_map lines_of) (sym whole) ∙ all.0 ∙ ap (λ (i : List (Bor (List ℕ))). image_lines 1 (bytes_of i)) every,
+        ap (flat_map lines_of) (sym whole) ∙ all.0 ∙ ap (λ (i : List (Bor (List ℕ))). image_lines (before + 1) (bytes_of i)) every,
         ap (sum_by events_of) (sym whole) ∙ all.1 ∙ ap (λ (i : List (Bor (List ℕ))). all_events (bytes_of i)) every,
+        omega (arith, ap (sum_by events_of) whole, ap length every, all.2),
       )
 
 -- each image has at most sixteen events
@@ -78,12 +88,12 @@ few_in : (some : List (Bor (List ℕ))) (before most : ℕ) (r : Result FleetPar
 few_in some before most (Ok p) few share = omega (arith, share.few, few)
 few_in some before most (Err e) few share = omega arith
 
-pub few_events : (size : ℕ) (images : List (Bor (List ℕ))) (rs : List (Result FleetPart AllocError)) (most : ℕ) → length images ≤ most
-    → ((n : ℕ) (d : Result FleetPart AllocError) → n < length rs → IsShareOf (slice_chunk images size n) (n * size) (get_or rs n d))
+pub few_events : (before size : ℕ) (images : List (Bor (List ℕ))) (rs : List (Result FleetPart AllocError)) (most : ℕ) → length images ≤ most
+    → ((n : ℕ) (d : Result FleetPart AllocError) → n < length rs → IsShareOf (slice_chunk images size n) (before + n * size) (get_or rs n d))
     → sum_by events_of rs ≤ length rs * (16 * most)
-few_events size images rs most few shares =
+few_events before size images rs most few shares =
     sum_by-le events_of (16 * most) rs
-    (λ n d within. few_in (slice_chunk images size n) (n * size) most (get_or rs n d)
+    (λ n d within. few_in (slice_chunk images size n) (before + n * size) most (get_or rs n d)
     (omega (arith, length-take size (drop (n * size) images), length-drop (n * size) images, few))
     (shares n d within))
 

@@ -6,21 +6,25 @@ ghost use Rattle.edr_fleet.specs.Frames.{AreFramesOf, EndsInFrameAt, FitsFrame};
 ghost use Rattle.edr_fleet.specs.Parts.{IsShareOf, events_of, lines_of};
 ghost use Rattle.edr_fleet.specs.Text.{IsFleetText};
 
-use crate::frames::{FleetRefused, images_in};
-use crate::parts::{FleetPart, Turn, part_of, with_totals};
+use crate::frames::FleetRefused;
+use crate::parts::{FleetPart, Turn};
+use crate::reading::FleetReading;
 use std::alloc::{AllocError as OutOfMemory, Global};
-use std::thread::{Threads, map_chunks};
+use std::thread::Threads;
 
-// How many images a worker has, so that there are at most as many parts as workers.
-fn share_of(images: usize, workers: u8) -> usize
+/// How many images a worker has, so that there are at most as many parts as workers.
+pub(crate) fn share_of(images: usize, workers: u8) -> usize
     requires { 1 ≤ workers }
     ensures { 0 < result }
 {
     images.div_ceil(usize::from(workers)).max(1)
 }
 
-// The parts one after the other.
-fn joined(alloc: Global, parts: &[Result<FleetPart, OutOfMemory>]) -> Result<FleetPart, OutOfMemory>
+/// The parts one after the other.
+pub(crate) fn joined(
+    alloc: Global,
+    parts: &[Result<FleetPart, OutOfMemory>],
+) -> Result<FleetPart, OutOfMemory>
     requires { sum_by events_of parts.now < 2 ^ 64 }
     ensures all { OnOk result (All IsOk parts.now) }
     ensures lines { IfOk result (λ p. p.lines.items ≡ flat_map lines_of parts.now) }
@@ -56,19 +60,7 @@ pub fn fleet<R: Threads + Sync, P: Turn + Sync>(
     ensures whole { (images : List (List ℕ)) → AreFramesOf images bytes.now → IfErr result (λ e. e ≡ refused.OutOfMemory) }
     ensures cut { IfErr result (λ e. (offset : ℕ) → e ≡ refused.Truncated offset → EndsInFrameAt offset bytes.now) }
 {
-    let images = images_in(alloc, bytes)?;
-    let share = share_of(images.len(), workers);
-    let parts = map_chunks(
-        rt,
-        alloc,
-        &images,
-        share,
-        &|start: usize, some: &[&[u8]]| -> Result<FleetPart, OutOfMemory>
-            requires fit { All (λ i. FitsFrame i.now) some.now }
-            requires few { start + 1 + length some.now < 2 ^ 32 }
-            ensures share { IsShareOf some.now start result }
-        { part_of(alloc, start as u32 + 1, some, turn) },
-    )?;
-    let part = joined(alloc, &parts)?;
-    Ok(with_totals(part, images.len())?)
+    let mut reading = FleetReading::new(alloc, workers);
+    reading.take(rt, bytes, turn)?;
+    reading.finish(rt, turn)
 }

@@ -1,0 +1,31 @@
+-- What a reading of frames has of the bytes that it was given.
+use Rattle.std.specs.Prelude.{◌≡◌, ◌+◌, ◌≤◌, ◌*◌, ℕ, List, ◌++◌, All, length}
+use Rattle.edr_fleet.specs.Frames.{BeginWithFrames, FitsFrame, frames}
+use Rattle.edr_fleet.specs.Text.{all_events, image_lines}
+use Rattle.edr_fleet.specs.declared.reading.FleetReading.{FleetReading}
+use Rattle.edr_fleet.specs.declared.reading.Front.{Front}
+
+-- the bytes begin with whole frames, of which this is the report, where so many images stand before them
+pub record IsFrontOf (before : ℕ) (bytes : List ℕ) (f : Front) : Type 0 where
+  pub images : List (List ℕ)
+  pub rest : List ℕ
+  pub first : BeginWithFrames images rest bytes
+  pub lines : f.part.lines.items ≡ image_lines (before + 1) images
+  pub events : f.part.events ≡ all_events images
+  pub images_are : f.images ≡ length images
+  pub end : f.end ≡ length (frames images)
+  pub few_images : f.images ≤ f.end
+  pub few_events : f.part.events ≤ 16 * f.images
+
+-- these bytes were given: frames that were reported, and what is held
+pub record GaveFrames (bytes : List ℕ) (r : FleetReading) : Type 0 where
+  pub images : List (List ℕ)
+  pub fit : All FitsFrame images
+  pub bytes_are : bytes ≡ frames images ++ r.held.items
+  pub lines : r.part.lines.items ≡ image_lines 1 images
+  pub events : r.part.events ≡ all_events images
+  pub images_are : r.images ≡ length images
+  pub reported : r.reported ≡ length (frames images)
+  pub some_worker : 1 ≤ r.workers
+  pub few_images : r.images ≤ r.reported
+  pub few_events : r.part.events ≤ 16 * r.images

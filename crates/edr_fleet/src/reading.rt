@@ -1,0 +1,172 @@
+//! The report of a fleet whose frames come piece by piece.
+ghost use Rattle.std.specs.Prelude.{◌≡◌, ◌+◌, ◌≤◌, ◌<◌, ◌^◌, ◌++◌, ℕ, List, [], drop, length, vec_len, All, IfOk, IfErr, OnOk};
+ghost use Rattle.edr_spell.specs.Spell.{largest_trace};
+ghost use Rattle.edr_fleet.specs.declared.frames.FleetRefused.TheVariants as refused;
+ghost use Rattle.edr_fleet.specs.Frames.{AreFramesOf, EndsInFrameAt, FitsFrame, HasNoFrame};
+ghost use Rattle.edr_fleet.specs.Parts.{IsShareOf};
+ghost use Rattle.edr_fleet.specs.Reading.{GaveFrames, IsFrontOf};
+ghost use Rattle.edr_fleet.specs.Text.{IsFleetText};
+
+use crate::frames::{FleetRefused, Framed, images_in};
+use crate::parts::{FleetPart, Turn, part_of, with_totals};
+use crate::threads::{joined, share_of};
+use std::alloc::{AllocError as OutOfMemory, Global};
+use std::thread::{Threads, map_chunks};
+
+/// So many bytes are held at least before their frames are reported. Then the same memory serves
+/// again: to take fresh memory for all bytes costs more time than to read them.
+const PORTION: usize = 4_194_304;
+
+// The report of whole frames that follow one another, how many images they have, and how many bytes.
+#[derive(Drop)]
+struct Front {
+    part: FleetPart,
+    images: usize,
+    end: usize,
+}
+
+// Moves what follows the first `end` bytes to the front.
+fn drop_first(bytes: &mut Vec<u8>, end: usize)
+    requires { end ≤ vec_len bytes.old }
+    ensures { bytes.new.items ≡ drop end bytes.old.items }
+{
+    if end == 0 {
+        return;
+    }
+    let left = bytes.len() - end;
+    bytes.copy_within(end.., 0);
+    bytes.truncate(left);
+}
+
+/// The report of the images whose frames came so far, by up to eight workers, and the bytes that
+/// came after these. It holds some four million bytes, or one frame that is longer.
+#[derive(Drop)]
+pub struct FleetReading {
+    alloc: Global,
+    workers: u8,
+    // The lines of the images so far, how many these are, and how many bytes their frames have.
+    part: FleetPart,
+    images: usize,
+    reported: usize,
+    // What came after them.
+    held: Vec<u8>,
+}
+
+impl FleetReading {
+    /// Nothing was given yet.
+    pub fn new(alloc: Global, workers: u8) -> FleetReading
+        requires { (1 ≤ workers) × (workers ≤ 8) }
+        ensures { GaveFrames [] result }
+    {
+        FleetReading {
+            alloc,
+            workers,
+            part: FleetPart {
+                lines: Vec::new(alloc),
+                events: 0,
+            },
+            images: 0,
+            reported: 0,
+            held: Vec::new(alloc),
+        }
+    }
+
+    // The report of the whole frames at the front of what is held. Each worker has images that
+    // follow one another, and a thread.
+    fn front<R: Threads + Sync, P: Turn + Sync>(
+        &self,
+        rt: &R,
+        turn: &P,
+    ) -> Result<Front, OutOfMemory>
+        requires workers { 1 ≤ self.now.workers }
+        requires few { self.now.images + length self.now.held.items ≤ largest_trace + 1 }
+        ensures { IfOk result (IsFrontOf self.now.images self.now.held.items) }
+    {
+        let Framed { images, rest } = images_in(self.alloc, &self.held)?;
+        let alloc = self.alloc;
+        let before = self.images;
+        let parts = map_chunks(
+            rt,
+            alloc,
+            &images,
+            share_of(images.len(), self.workers),
+            &|start: usize, some: &[&[u8]]| -> Result<FleetPart, OutOfMemory>
+                requires fit { All (λ i. FitsFrame i.now) some.now }
+                requires few { before + start + 1 + length some.now < 2 ^ 32 }
+                ensures share { IsShareOf some.now (before + start) result }
+            { part_of(alloc, (before + start) as u32 + 1, some, turn) },
+        )?;
+        Ok(Front {
+            part: joined(alloc, &parts)?,
+            images: images.len(),
+            end: self.held.len() - rest.len(),
+        })
+    }
+
+    // Reports the whole frames at the front of what is held, and holds what follows them.
+    fn report_held<R: Threads + Sync, P: Turn + Sync>(
+        &mut self,
+        rt: &R,
+        turn: &P,
+    ) -> Result<(), OutOfMemory>
+        requires { (bytes : List ℕ) × GaveFrames bytes self.old
+            × (length bytes ≤ largest_trace + 1) }
+        ensures given { OnOk result ((bytes : List ℕ) → GaveFrames bytes self.old
+            → GaveFrames bytes self.new) }
+        ensures cut { OnOk result (HasNoFrame self.new.held.items) }
+    {
+        let front = self.front(rt, turn)?;
+        self.part.lines.extend_from_slice(&front.part.lines)?;
+        self.part.events += front.part.events;
+        self.images += front.images;
+        self.reported += front.end;
+        drop_first(&mut self.held, front.end);
+        Ok(())
+    }
+
+    /// Takes the bytes that come next, and reports whole frames once 4,194,304 bytes are held.
+    /// With an error memory ran out.
+    pub fn take<R: Threads + Sync, P: Turn + Sync>(
+        &mut self,
+        rt: &R,
+        piece: &[u8],
+        turn: &P,
+    ) -> Result<(), OutOfMemory>
+        requires { (bytes : List ℕ) × GaveFrames bytes self.old
+            × (length bytes + length piece.now ≤ largest_trace + 1) }
+        ensures { OnOk result ((bytes : List ℕ) → GaveFrames bytes self.old
+            → GaveFrames (bytes ++ piece.now) self.new) }
+    {
+        self.held.extend_from_slice(piece)?;
+        if self.held.len() < PORTION {
+            return Ok(());
+        }
+        self.report_held(rt, turn)
+    }
+
+    /// The report of the images whose frames were given. It is refused exactly where the bytes end
+    /// inside a frame, unless memory runs out.
+    pub fn finish<R: Threads + Sync, P: Turn + Sync>(
+        self,
+        rt: &R,
+        turn: &P,
+    ) -> Result<Vec<u8>, FleetRefused>
+        requires few { (bytes : List ℕ) × GaveFrames bytes self × (length bytes ≤ largest_trace) }
+        ensures text { (bytes : List ℕ) → GaveFrames bytes self
+            → IfOk result (λ out. IsFleetText bytes out.items) }
+        ensures whole { (bytes : List ℕ) (images : List (List ℕ)) → GaveFrames bytes self
+            → AreFramesOf images bytes → IfErr result (λ e. e ≡ refused.OutOfMemory) }
+        ensures cut { (bytes : List ℕ) → GaveFrames bytes self
+            → IfErr result (λ e. (offset : ℕ) → e ≡ refused.Truncated offset
+            → EndsInFrameAt offset bytes) }
+    {
+        let mut reading = self;
+        reading.report_held(rt, turn)?;
+        if !reading.held.is_empty() {
+            return Err(FleetRefused::Truncated {
+                offset: reading.reported as u32,
+            });
+        }
+        Ok(with_totals(reading.part, reading.images)?)
+    }
+}
