@@ -1,5 +1,7 @@
 -- What a reading of frames has of the bytes that it was given.
-use Rattle.std.specs.Prelude.{◌≡◌, ◌+◌, ◌≤◌, ◌*◌, ℕ, List, ◌++◌, All, length}
+use Rattle.std.specs.Prelude.{◌≡◌, ◌+◌, ◌≤◌, ◌*◌, ℕ, List, ◌++◌, All, length, Option}
+use Rattle.edr_device.specs.Told.{Told}
+use Rattle.edr_device.specs.Transfer.{GivesAll}
 use Rattle.edr_fleet.specs.Frames.{BeginWithFrames, FitsFrame, frames}
 use Rattle.edr_fleet.specs.Text.{all_events, image_lines}
 use Rattle.edr_fleet.specs.declared.reading.FleetReading.{FleetReading}
@@ -29,3 +31,7 @@ pub record GaveFrames (bytes : List ℕ) (r : FleetReading) : Type 0 where
   pub some_worker : 1 ≤ r.workers
   pub few_images : r.images ≤ r.reported
   pub few_events : r.part.events ≤ 16 * r.images
+
+-- the source gave all its bytes, up to the limit, and these were given to the reading
+abbrev pub HasAllFrames : ℕ → FleetReading → Option (List ℕ) → Option (List ℕ) → Type 0
+HasAllFrames limit r old new = (bytes : List ℕ) × GaveFrames bytes r × (length bytes ≤ limit) × Told (GivesAll bytes) old new
