@@ -10,13 +10,14 @@ ghost use Rattle.edr_cli.specs.Outside.{IsAtEnd, NoFault, input};
 use crate::endings::finish;
 use crate::fault::Fault;
 use crate::status::Status;
-use edr_device::{Sink, Source, take_all};
-use edr_fleet::{NoTurn, fleet};
+use edr_device::{Sink, Source};
+use edr_fleet::{NoTurn, read_frames};
 use edr_trace::LARGEST_TRACE;
 use std::alloc::Global;
 use std::thread::Threads;
 
-// The report of the images whose frames the source gives, by this number of workers. The source is read to its end first.
+// The report of the images whose frames the source gives, by this number of workers. The lines are made while the source is
+// read, and none is written before its end.
 fn fleet_source<R: Threads + Sync, S: Source>(
     rt: &R,
     alloc: Global,
@@ -32,8 +33,8 @@ fn fleet_source<R: Threads + Sync, S: Source>(
     ensures complete { ToldFrames (S.left source.old) → NoFault S.faults source.old source.new
         → IfErr result (λ f. f ≡ Fault.OutOfMemory) }
 {
-    let bytes = take_all(alloc, source, LARGEST_TRACE as usize)?;
-    Ok(fleet(rt, alloc, &bytes, workers, &NoTurn)?)
+    let frames = read_frames(rt, alloc, source, LARGEST_TRACE as usize, workers)?;
+    Ok(frames.finish(rt, &NoTurn)?)
 }
 
 /// Writes the report of the images whose frames the source gives, by W workers.
