@@ -7,7 +7,8 @@ use Rattle.edr_items.specs.declared.Sensor.TheVariants.{Along}
 use Rattle.edr_items.specs.PerSlowSensor.{EachSlow, slow_sensors}
 use Rattle.edr_items.proofs.PerSlowSensorLemmas.{slow-listed, slow_at-by}
 use Rattle.edr_board.specs.declared.freeze_view.TheConstants.{FREEZE_WORDS}
-use Rattle.edr_board.specs.FreezeSeats.{place_of, marks_from, AllReach}
+use Rattle.edr_board.specs.FreezeSeats.{marks_from, AllReach}
+use Rattle.edr_board.specs.FreezeViews.{place_of}
 
 -- they are those past the words granted and asked, one after the other
 places : map place_of slow_sensors ≡ range_with_len 2 (length slow_sensors)

@@ -1,12 +1,12 @@
 -- What a contract sees of a freeze and its seats.
-use Rattle.std.specs.Prelude.{◌≡◌, ◌-◌, ◌≤◌, ℕ, Option, Some, None, List, if◌then◌else◌, nat_eq, slice_index, unwrap_or}
+use Rattle.std.specs.Prelude.{◌≡◌, ◌≤◌, ℕ, Option, Some, None, List, if◌then◌else◌, nat_eq, slice_index, unwrap_or}
 use Rattle.std.specs.Arc.{arc_value}
 use Rattle.atomic_table.specs.Seated.{TableId}
 use Rattle.edr_items.specs.declared.Sensor.{Sensor}
 use Rattle.edr_items.specs.declared.Sensor.TheVariants.{Speed, Throttle, Brake, Belt, Lamp}
 use Rattle.edr_items.specs.declared.per_slow_sensor.PerSlowSensor.{PerSlowSensor}
 use Rattle.edr_items.specs.PerSlowSensor.{EachSlow, slow_at, slow_value_of, with_slow_value, each_slow_value, slow_values_by}
-use Rattle.edr_items.specs.Sensor.{number_of}
+use Rattle.edr_board.specs.FreezeViews.{place_of}
 use Rattle.edr_board.specs.declared.freeze_seats.Freeze.{Freeze}
 use Rattle.edr_board.specs.declared.freeze_seats.Asker.{Asker}
 use Rattle.edr_board.specs.declared.freeze_seats.Keeper.{Keeper}
@@ -20,10 +20,6 @@ freeze_of_asker a = a.seat.table_id
 
 abbrev pub freeze_of_keeper : Keeper → TableId
 freeze_of_keeper k = k.seat.table_id
-
--- the place of a sensor's word of marks
-abbrev pub place_of : Sensor → ℕ
-place_of s = number_of s - 1
 
 -- ---- what the asker has granted and asked for
 

@@ -22,7 +22,7 @@ ghost use Rattle.edr_board.specs.Rule.{BoardState, IsBoard, opening};
 ghost use Rattle.edr_board.specs.Steps.{SeatsLead, KeepsTheRule};
 ghost use Rattle.edr_board.specs.FreezeRule.{FreezeMoment, IsFreeze, freeze_opening};
 ghost use Rattle.edr_board.specs.FreezeSteps.{FreezeLeads, KeepsTheFreeze};
-ghost use Rattle.edr_board.specs.FreezeSeats.{place_of};
+ghost use Rattle.edr_board.specs.FreezeViews.{place_of};
 
 mod bells;
 mod freeze_rule;
