@@ -36,7 +36,7 @@ mod view;
 pub use crate::bells::Bell;
 pub use crate::freeze_seats::{Asker, FIRST_GRANT, Freeze, FreezeOpened, Keeper, Keepers};
 pub use crate::seats::{Board, CommitterSeat, Opened, RecorderSeat, Watch};
-pub use crate::status::BoardStatus;
+pub use crate::status::{BoardStatus, GateWord};
 
 /// The rule of a board holds as it is opened. Whichever seats step then, in whatever order, it goes on to hold, and no word
 /// falls.
