@@ -17,9 +17,10 @@ use Rattle.edr_definitions.specs.Schedule.{with_item}
 use Rattle.edr_definitions.proofs.MarkLaws.{feed-next, mark-push}
 use Rattle.edr_board.specs.FreezeSeats.{AllReach, SlowMarks, mark_in, with_mark_of}
 use Rattle.edr_capture.specs.SensorPart.{SensorPart}
-use Rattle.edr_loops.specs.declared.fast_inlets.FastSensor.{FastSensor}
-use Rattle.edr_loops.specs.declared.fast_inlets.FastSensor.TheVariants.{Along, Across, Restraint}
-use Rattle.edr_loops.specs.FastInlets.{AreFastFeeds, HaveFast, fast_marks_of, list_of, sensor_of, with_fast, with_fast_mark}
+use Rattle.edr_loops.specs.declared.per_fast_sensor.FastSensor.{FastSensor}
+use Rattle.edr_loops.specs.declared.per_fast_sensor.FastSensor.TheVariants.{Along, Across, Restraint}
+use Rattle.edr_loops.specs.FastInlets.{AreFastFeeds, HaveFast, fast_marks_of, with_fast}
+use Rattle.edr_loops.specs.PerFastSensor.{fast_at, sensor_of, with_fast_value}
 use Rattle.edr_loops.specs.Lanes.{FastItems, SlowParts}
 use Rattle.edr_loops.specs.PartInlets.{IsTakenPart, parts_of, with_part}
 use Rattle.edr_loops.specs.Desks.{HaveMarks}
@@ -30,7 +31,7 @@ feed-front s last [] ys h = tt
 feed-front s last (x ∷ xs) ys h = (h.0, h.1, feed-front s x.moment xs ys h.2)
 
 -- ---- one more item of a fast sensor
-pub fast-marks-with : (k : FastSensor) (x : Item) (l : FastItems) → fast_marks_of (with_fast k x l) ≡ with_fast_mark k x.moment (fast_marks_of l)
+pub fast-marks-with : (k : FastSensor) (x : Item) (l : FastItems) → fast_marks_of (with_fast k x l) ≡ with_fast_value k x.moment (fast_marks_of l)
 fast-marks-with Along x l = ap (λ m. record (fast_marks_of l) { along = m }) (mark-push 0 l.along x)
 fast-marks-with Across x l = ap (λ m. record (fast_marks_of l) { across = m }) (mark-push 0 l.across x)
 fast-marks-with Restraint x l = ap (λ m. record (fast_marks_of l) { restraint = m }) (mark-push 0 l.restraint x)
@@ -40,7 +41,7 @@ fast-front Along x l h = record { along = feed-front sensor.Along 0 l.along (x �
 fast-front Across x l h = record { along = h.along; across = feed-front sensor.Across 0 l.across (x ∷ []) h.across; restraint = h.restraint }
 fast-front Restraint x l h = record { along = h.along; across = h.across; restraint = feed-front sensor.Restraint 0 l.restraint (x ∷ []) h.restraint }
 
-pub fast-next : (k : FastSensor) (x : Item) (l : FastItems) → AreFastFeeds (with_fast k x l) → refusal_of (sensor_of k) (mark_of (list_of k l)) x ≡ None
+pub fast-next : (k : FastSensor) (x : Item) (l : FastItems) → AreFastFeeds (with_fast k x l) → refusal_of (sensor_of k) (mark_of (fast_at k l)) x ≡ None
 fast-next Along x l h = (feed-next sensor.Along 0 l.along x [] h.along).0
 fast-next Across x l h = (feed-next sensor.Across 0 l.across x [] h.across).0
 fast-next Restraint x l h = (feed-next sensor.Restraint 0 l.restraint x [] h.restraint).0
@@ -50,7 +51,7 @@ have-with Along x l f h = record { along = ap (λ xs. xs ++ x ∷ []) h.along; a
 have-with Across x l f h = record { along = h.along; across = ap (λ xs. xs ++ x ∷ []) h.across; restraint = h.restraint }
 have-with Restraint x l f h = record { along = h.along; across = h.across; restraint = ap (λ xs. xs ++ x ∷ []) h.restraint }
 
-pub have-list : (k : FastSensor) (l : FastItems) (f : SensorLists) → HaveFast l f → items_of (sensor_of k) f ≡ list_of k l
+pub have-list : (k : FastSensor) (l : FastItems) (f : SensorLists) → HaveFast l f → items_of (sensor_of k) f ≡ fast_at k l
 have-list Along l f h = h.along
 have-list Across l f h = h.across
 have-list Restraint l f h = h.restraint

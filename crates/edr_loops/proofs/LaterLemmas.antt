@@ -6,8 +6,8 @@ use Rattle.edr_items.specs.PerSlowSensor.{slow_at}
 use Rattle.edr_seats.specs.declared.part_inlet.PartInlet.{PartInlet}
 use Rattle.edr_seats.specs.PartInlet.{SamePartInlet}
 use Rattle.edr_core.specs.SplitContents.{SplitContents}
-use Rattle.edr_loops.specs.declared.fast_inlets.FastInlets.{FastInlets}
-use Rattle.edr_loops.specs.declared.fast_inlets.FastMarks.{FastMarks}
+use Rattle.edr_loops.specs.Lanes.{FastInlets}
+use Rattle.edr_loops.specs.declared.per_fast_sensor.PerFastSensor.{PerFastSensor}
 use Rattle.edr_loops.specs.declared.held.Held.{Held}
 use Rattle.edr_loops.specs.declared.orders.Outbox.{Outbox}
 use Rattle.edr_loops.specs.declared.tray.Tray.{Tray}
@@ -52,7 +52,7 @@ parts-again a b c h k = λ s slow. part-again (slow_at s a) (slow_at s b) (slow_
 pub desk-self : (a : Desk) → SameDesk a a
 desk-self a = record { fast = fast-self a.fast; parts = parts-self a.parts; outbox = outbox-self a.outbox; freeze = refl; recorder = refl; watch = refl }
 
-pub same-taken : (d : Desk) (c : SplitContents) (i : FastInlets) (m : FastMarks) → SameFastInlets d.fast i → SameDesk d (record d { core = c; fast = i; last = m })
+pub same-taken : (d : Desk) (c : SplitContents) (i : FastInlets) (m : PerFastSensor ℕ) → SameFastInlets d.fast i → SameDesk d (record d { core = c; fast = i; last = m })
 same-taken d c i m rings = record { fast = rings; parts = parts-self d.parts; outbox = outbox-self d.outbox; freeze = refl; recorder = refl; watch = refl }
 
 pub same-taken_part : (d : Desk) (c : SplitContents) (i : PartInlets) → SamePartInlets d.parts i → SameDesk d (record d { core = c; parts = i })

@@ -1,5 +1,5 @@
 -- The places of a worker that go on, and how they are dealt.
-use Rattle.std.proofs.Common.{◌≡◌, ◌⊎◌, ◌≤◌, ℕ, List, Option, Some, None, refl, sym, subst, inl, inr, true}
+use Rattle.std.proofs.Common.{arith, ◌≡◌, ◌⊎◌, ◌≤◌, ℕ, nat_eq, List, Option, Some, None, refl, sym, subst, inl, inr, true}
 use Rattle.edr_items.specs.declared.Sensor.{Sensor}
 use Rattle.edr_items.specs.declared.Item.{Item}
 use Rattle.edr_items.specs.PerSlowSensor.{slow_at}
@@ -7,7 +7,7 @@ use Rattle.edr_items.specs.SensorLists.{SensorLists, horizon_of, items_of}
 use Rattle.edr_board.specs.declared.status.BoardStatus.{BoardStatus}
 use Rattle.edr_board.specs.Seats.{status_seen}
 use Rattle.edr_items.proofs.PerSlowSensorLemmas.{slow_at-by}
-use Rattle.edr_loops.specs.declared.stand.FastPlaces.{FastPlaces}
+use Rattle.edr_loops.specs.Lanes.{FastPlaces}
 use Rattle.edr_loops.specs.declared.stand.Stand.{Stand}
 use Rattle.edr_loops.specs.declared.stand.SlowPlaces.{SlowPlaces}
 use Rattle.edr_loops.specs.declared.slow_place.SlowPlace.{SlowPlace}
@@ -101,8 +101,11 @@ back-slow_on f f' stand before back h was same =
 pub ended-stopped : (f : SensorLists) (s : Stand) (status : BoardStatus) → status_seen s.watch ≡ status → status.stopped ≡ true → WorkerHasEnded f s
 ended-stopped f s status read stopped = inl (subst (λ (b : BoardStatus). b.stopped ≡ true) (sym read) stopped)
 
-pub ended-gate : (f : SensorLists) (s : Stand) (status : BoardStatus) → status_seen s.watch ≡ status → status.gate ≡ 2 → WorkerHasEnded f s
-ended-gate f s status read gate = inr (inl (subst (λ (b : BoardStatus). b.gate ≡ 2) (sym read) gate))
+same_number : (n m : ℕ) → nat_eq n m ≡ true → n ≡ m
+same_number n m same = grind arith
+
+pub ended-gate : (f : SensorLists) (s : Stand) (status : BoardStatus) → status_seen s.watch ≡ status → nat_eq status.gate 2 ≡ true → WorkerHasEnded f s
+ended-gate f s status read gate = inr (inl (subst (λ (b : BoardStatus). b.gate ≡ 2) (sym read) (same_number status.gate 2 gate)))
 
 pub ended-done : (f : SensorLists) (s : Stand) (status : BoardStatus) (horizon : ℕ) → status_seen s.watch ≡ status → horizon ≡ horizon_of f → HaveNoneLeft f s.fast
     → (has_no_place s.slow ≡ true) ⊎ (horizon ≤ status.closed) → WorkerHasEnded f s

@@ -5,7 +5,8 @@ ghost use Rattle.std.specs.Prelude.{◌≡◌};
 ghost use Rattle.edr_loops.specs.Places.{IsDealt};
 ghost use Rattle.edr_loops.specs.Stands.{AreFastDealt, AreSlowDealt, either_fast, either_slow, fast_of_worker, is_served_by, place_if, slow_of_worker};
 
-use crate::stand::{FastPlaces, SlowPlaces};
+use crate::per_fast_sensor::PerFastSensor;
+use crate::stand::SlowPlaces;
 use edr_items::{PerSlowSensor, Sensor};
 
 // Deals a place to this hand, or leaves it.
@@ -24,13 +25,13 @@ pub(crate) fn is_served_by(sensor: Sensor, w: u32, workers: u32) -> bool
     place.checked_rem(workers) == Some(w)
 }
 
-impl FastPlaces {
+impl<T: Drop> PerFastSensor<Option<T>> {
     /// Deals the places of this worker: that of sensor number i is at the worker (i - 1) mod `workers`.
-    pub fn deal(&mut self, w: u32, workers: u32) -> FastPlaces
+    pub fn deal(&mut self, w: u32, workers: u32) -> PerFastSensor<Option<T>>
         ensures dealt { AreFastDealt self.old result self.new }
         ensures mine { result ≡ fast_of_worker w workers self.old }
     {
-        FastPlaces {
+        PerFastSensor {
             along: deal_one(&mut self.along, is_served_by(Sensor::Along, w, workers)),
             across: deal_one(&mut self.across, is_served_by(Sensor::Across, w, workers)),
             restraint: deal_one(
@@ -41,10 +42,10 @@ impl FastPlaces {
     }
 
     /// These places and the others.
-    pub fn and(self, other: FastPlaces) -> FastPlaces
+    pub fn and(self, other: PerFastSensor<Option<T>>) -> PerFastSensor<Option<T>>
         ensures { result ≡ either_fast self other }
     {
-        FastPlaces {
+        PerFastSensor {
             along: self.along.or(other.along),
             across: self.across.or(other.across),
             restraint: self.restraint.or(other.restraint),

@@ -12,10 +12,11 @@ ghost use Rattle.edr_core.specs.SplitStandsFor.{SplitCoreStandsFor};
 ghost use Rattle.edr_loops.specs.Held.{issues_held};
 ghost use Rattle.edr_loops.specs.Desks.{IsFreshDesk, HasPosted, IsRecording, IsAskerSettled, Later, LaterUpTo, SeatStays, DeskStands};
 
-use crate::fast_inlets::{FastInlets, FastMarks, FastSensor};
+use crate::fast_inlets::FastInlets;
 use crate::held::Held;
 use crate::orders::Outbox;
 use crate::part_inlets::{self, PartInlets};
+use crate::per_fast_sensor::{FastSensor, PerFastSensor};
 use edr_board::{Asker, Bell, FIRST_GRANT, RecorderSeat, Watch};
 use edr_capture::Part;
 use edr_core::{Issued, SplitClosing, SplitCore};
@@ -26,7 +27,7 @@ use edr_items::{Item, LATEST_MOMENT, LONGEST_GAP, Sensor};
 pub struct Desk {
     pub core: SplitCore,
     pub fast: FastInlets,
-    pub last: FastMarks,
+    pub last: PerFastSensor<u32>,
     pub parts: PartInlets,
     pub asker: Asker,
     pub seat: RecorderSeat,
@@ -108,11 +109,7 @@ impl Desk {
         Desk {
             core,
             fast,
-            last: FastMarks {
-                along: 0,
-                across: 0,
-                restraint: 0,
-            },
+            last: PerFastSensor::each(0),
             parts,
             asker,
             seat,

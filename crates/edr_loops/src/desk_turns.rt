@@ -6,8 +6,8 @@ ghost use Rattle.edr_loops.specs.Held.{issues_held};
 ghost use Rattle.edr_loops.specs.Desks.{HasEnded, HasPosted, IsDone, IsRecording, Later, LaterUpTo, SeatStays};
 
 use crate::desk::Desk;
-use crate::fast_inlets::{FastMarks, FastSensor};
-use edr_board::Bell;
+use crate::per_fast_sensor::{FastSensor, PerFastSensor};
+use edr_board::{Bell, GateWord};
 use edr_core::Issued;
 use edr_items::{LATEST_MOMENT, LONGEST_GAP, SENSORS};
 use edr_seats::SLOTS;
@@ -176,13 +176,16 @@ impl Desk {
 
     // Whether all is done: each item of the fast sensors is taken, the horizon is closed, and what the slow sensors may still keep past it
     // is granted.
-    fn is_done(&self, horizon: u32, ends: FastMarks) -> bool
+    fn is_done(&self, horizon: u32, ends: PerFastSensor<u32>) -> bool
         requires stands { IsRecording self.now }
         requires posted { HasPosted self.now }
         ensures { result ≡ true → IsDone horizon ends self.now }
     {
         let upto = horizon.saturating_add(LONGEST_GAP).min(LATEST_MOMENT);
-        self.posted >= horizon && self.granted >= upto && self.last == ends
+        let taken = self.last.along == ends.along
+            && self.last.across == ends.across
+            && self.last.restraint == ends.restraint;
+        self.posted >= horizon && self.granted >= upto && taken
     }
 
     // Wakes all workers.
@@ -207,7 +210,7 @@ impl Desk {
     }
 
     // Turns until all is done, or the committer has stopped.
-    fn work<R: Wait>(&mut self, rt: &R, horizon: u32, ends: FastMarks)
+    fn work<R: Wait>(&mut self, rt: &R, horizon: u32, ends: PerFastSensor<u32>)
         requires stands { IsRecording self.old }
         requires posted { HasPosted self.old }
         ensures later { LaterUpTo horizon self.old self.new }
@@ -229,7 +232,7 @@ impl Desk {
 
     /// The recorder's loop. Where the committer has stopped, the gate is posted 2 and nothing is done. `ends` are the last moments of
     /// the feeds of the fast sensors, and the loop ends once it has taken every item of these and closed the horizon.
-    pub fn record<R: Wait>(self, rt: &R, horizon: u32, ends: FastMarks) -> Desk
+    pub fn record<R: Wait>(self, rt: &R, horizon: u32, ends: PerFastSensor<u32>) -> Desk
         requires stands { IsRecording self }
         requires posted { HasPosted self }
         ensures later { LaterUpTo horizon self result }
@@ -237,10 +240,10 @@ impl Desk {
     {
         let mut desk = self;
         if desk.watch.read().stopped {
-            desk.seat.post_gate(2);
+            desk.seat.post(GateWord::End);
             return desk;
         }
-        desk.seat.post_gate(1);
+        desk.seat.post(GateWord::Open);
         desk.work(rt, horizon, ends);
         desk.tell_workers();
         desk

@@ -4,19 +4,15 @@ ghost use Rattle.std.specs.Prelude.{◌≡◌, ◌≤◌, ◌+◌, ◌⊎◌, tr
 ghost use Rattle.edr_board.specs.Seats.{board_of_watch};
 ghost use Rattle.edr_loops.specs.Stands.{AreFastBegun, ArePlacesKept, FastGoOn, HaveNoneLeft, SlowKeepOn, WorkerHasEnded, has_no_place};
 
+use crate::per_fast_sensor::PerFastSensor;
 use crate::place::{Gate, Offered, SensorPlace, serve_some};
 use crate::slow_place::{SlowPlace, serve_slow};
-use edr_board::{Bell, Watch};
+use edr_board::{Bell, GateWord, Watch};
 use edr_items::{Feeds, PerSlowSensor, SENSORS, Sensor};
 use std::sync::Wait;
 
 /// The places of some of the fast sensors, whose items go through rings.
-#[derive(Drop)]
-pub struct FastPlaces {
-    pub along: Option<SensorPlace>,
-    pub across: Option<SensorPlace>,
-    pub restraint: Option<SensorPlace>,
-}
+pub type FastPlaces = PerFastSensor<Option<SensorPlace>>;
 
 /// The places of some of the slow sensors, which keep their items and send parts alone.
 #[derive(Drop)]
@@ -32,7 +28,7 @@ pub struct Stand {
     pub watch: Watch,
 }
 
-impl FastPlaces {
+impl PerFastSensor<Option<SensorPlace>> {
     // One round over the sensors. It answers what came of their offers.
     fn round<G: Gate>(&mut self, feeds: &Feeds, gate: &G) -> Offered
         requires { AreFastBegun feeds.now self.old }
@@ -127,7 +123,10 @@ impl Stand {
             let fast = self.fast.round(feeds, gate);
             let slow = self.slow.round(feeds, gate);
             let status = self.watch.read();
-            if status.stopped || status.gate == 2 || self.is_done(fast, status.closed, horizon) {
+            if status.stopped
+                || GateWord::End.is(status.gate)
+                || self.is_done(fast, status.closed, horizon)
+            {
                 return;
             }
             rounds = self.ring_or_rest(rt, fast, slow, rounds);
@@ -147,7 +146,7 @@ impl Stand {
         ensures ends { WorkerHasEnded feeds.now result }
     {
         let mut stand = self;
-        if stand.watch.wait_gate(rt) != 2 {
+        if !GateWord::End.is(stand.watch.wait_gate(rt)) {
             stand.work(rt, feeds, gate);
         }
         stand
