@@ -20,7 +20,7 @@ use Rattle.edr_cycle.specs.Remaining.{Remains, RemainsAt, WasTold}
 use Rattle.edr_cycle.proofs.AnswerLemmas.{issued-now}
 use Rattle.edr_cycle.proofs.RestBeginLemmas.{part-begun}
 use Rattle.edr_cycle.proofs.RestLemmas.{feed-front}
-use Rattle.edr_loops.specs.declared.fast_inlets.FastInlets.{FastInlets}
+use Rattle.edr_loops.specs.Lanes.{FastInlets}
 use Rattle.edr_loops.specs.declared.desk.Desk.{Desk}
 use Rattle.edr_loops.specs.FastInlets.{AreFastFeeds, HaveFast}
 use Rattle.edr_loops.specs.Held.{issues_out}

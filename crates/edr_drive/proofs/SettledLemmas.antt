@@ -7,7 +7,7 @@ use Rattle.edr_run.specs.Cycle.{issues_in}
 use Rattle.edr_run.proofs.IssueLemmas.{issues-few}
 use Rattle.edr_cycle.specs.Rest.{issues_past}
 use Rattle.edr_cycle.proofs.RunStepLemmas.{between-whole}
-use Rattle.edr_loops.specs.declared.fast_inlets.FastInlets.{FastInlets}
+use Rattle.edr_loops.specs.Lanes.{FastInlets}
 use Rattle.edr_loops.specs.declared.orders.Order.{Order}
 use Rattle.edr_loops.specs.declared.orders.Outbox.{Outbox}
 use Rattle.edr_loops.specs.declared.desk.Desk.{Desk}

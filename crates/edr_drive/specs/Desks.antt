@@ -1,7 +1,7 @@
 -- A desk that is lent while it may be in a thread of its own.
 use Rattle.std.specs.Prelude.{ℕ, Option, Some, None, ⊤}
 use Rattle.edr_loops.specs.declared.desk.Desk.{Desk}
-use Rattle.edr_loops.specs.declared.fast_inlets.FastMarks.{FastMarks}
+use Rattle.edr_loops.specs.declared.per_fast_sensor.PerFastSensor.{PerFastSensor}
 use Rattle.edr_loops.specs.Desks.{HasEnded, LaterUpTo}
 
 -- where there was a desk there is one, and it is later, with no tick closed past this one
@@ -11,6 +11,6 @@ LaterIn t (Some a) None = ⊥
 LaterIn t (Some a) (Some b) = LaterUpTo t a b
 
 -- where there is a desk, the recorder's loop has ended
-abbrev pub HasEndedIn : ℕ → FastMarks → Option Desk → Type 0
+abbrev pub HasEndedIn : ℕ → PerFastSensor ℕ → Option Desk → Type 0
 HasEndedIn horizon ends None = ⊤
 HasEndedIn horizon ends (Some d) = HasEnded horizon ends d

@@ -1,5 +1,5 @@
 use Rattle.std.proofs.Common.{arith, sym, subst}
-use Rattle.edr_loops.specs.declared.fast_inlets.FastInlets.{FastInlets}
+use Rattle.edr_loops.specs.Lanes.{FastInlets}
 use Rattle.edr_loops.specs.declared.orders.Outbox.{Outbox}
 use Rattle.edr_loops.specs.Orders.{AreEndsOfOrders}
 use Rattle.edr_loops.specs.Lanes.{AreFastLanes, ArePartLanes, PartInlets}
