@@ -1,9 +1,9 @@
 -- A desk that was lent, later.
 use Rattle.std.proofs.Common.{arith, ◌≡◌, ◌≤◌, ℕ, Option, Some, None, subst}
-use Rattle.edr_loops.specs.declared.desk.Desk.{Desk}
-use Rattle.edr_loops.specs.Desks.{LaterUpTo, DeskStands}
+use Rattle.edr_loops.specs.declared.recorder.Desk.{Desk}
+use Rattle.edr_loops.specs.Recorders.{LaterUpTo, DeskStands}
 use Rattle.edr_loops.proofs.LaterLemmas.{later-again, later-raised}
-use Rattle.edr_drive.specs.Desks.{LaterIn}
+use Rattle.edr_drive.specs.Recorders.{LaterIn}
 
 pub lent-again : (t : ℕ) (a b c : Option Desk) → LaterIn t a b → LaterIn t b c → LaterIn t a c
 lent-again t None b c h k = tt

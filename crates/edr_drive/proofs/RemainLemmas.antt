@@ -21,13 +21,13 @@ use Rattle.edr_cycle.proofs.AnswerLemmas.{issued-now}
 use Rattle.edr_cycle.proofs.RestBeginLemmas.{part-begun}
 use Rattle.edr_cycle.proofs.RestLemmas.{feed-front}
 use Rattle.edr_loops.specs.Lanes.{FastInlets}
-use Rattle.edr_loops.specs.declared.desk.Desk.{Desk}
+use Rattle.edr_loops.specs.declared.recorder.Desk.{Desk}
 use Rattle.edr_loops.specs.FastInlets.{AreFastFeeds, HaveFast}
-use Rattle.edr_loops.specs.Held.{issues_out}
+use Rattle.edr_loops.specs.UnsentOrders.{issues_out}
 use Rattle.edr_loops.specs.PartInlets.{IsTakenPart}
 use Rattle.edr_loops.specs.Lanes.{AreTakenParts, FastBegin, PartInlets, fast_taken, slow_taken}
-use Rattle.edr_loops.specs.SlowPlaces.{AreParts, IsPartOfBeginning}
-use Rattle.edr_loops.specs.Desks.{DeskStands}
+use Rattle.edr_loops.specs.SlowSenders.{AreParts, IsPartOfBeginning}
+use Rattle.edr_loops.specs.Recorders.{DeskStands}
 use Rattle.edr_loops.proofs.FastLemmas.{none-in, parts_of-fast, parts_of-slow}
 use Rattle.edr_seats.specs.PartInlet.{parts_taken}
 

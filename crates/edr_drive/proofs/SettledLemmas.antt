@@ -10,13 +10,13 @@ use Rattle.edr_cycle.proofs.RunStepLemmas.{between-whole}
 use Rattle.edr_loops.specs.Lanes.{FastInlets}
 use Rattle.edr_loops.specs.declared.orders.Order.{Order}
 use Rattle.edr_loops.specs.declared.orders.Outbox.{Outbox}
-use Rattle.edr_loops.specs.declared.desk.Desk.{Desk}
-use Rattle.edr_loops.specs.Held.{issues_held, issues_out}
+use Rattle.edr_loops.specs.declared.recorder.Desk.{Desk}
+use Rattle.edr_loops.specs.UnsentOrders.{issues_held, issues_out}
 use Rattle.edr_loops.specs.Orders.{issue_of, issues_of, orders_sent}
 use Rattle.edr_loops.specs.Lanes.{PartInlets, fast_taken, slow_taken}
-use Rattle.edr_loops.specs.Desks.{DeskStands}
+use Rattle.edr_loops.specs.Recorders.{DeskStands}
 use Rattle.edr_loops.proofs.CloseLemmas.{stands-sent}
-use Rattle.edr_loops.proofs.DeskLemmas.{stands-none, stands-unfast}
+use Rattle.edr_loops.proofs.RecorderLemmas.{stands-none, stands-unfast}
 
 -- the ends of the rings may have learnt more
 pub stands-settled : (n e : ℕ) (d : Desk) (fast : FastInlets) (parts : PartInlets) (o : Outbox) → fast_taken fast ≡ fast_taken d.fast → slow_taken parts ≡ slow_taken d.parts → orders_sent o ≡ orders_sent d.outbox

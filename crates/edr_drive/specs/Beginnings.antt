@@ -9,23 +9,23 @@ use Rattle.edr_loops.specs.Orders.{AreEndsOfOrders, orders_sent, orders_taken}
 use Rattle.edr_board.specs.FreezeSeats.{IsFreshAsker, freeze_of_asker}
 use Rattle.edr_board.specs.Seats.{closed_posted, gate_posted}
 use Rattle.edr_loops.specs.Lanes.{AreFastLanes, ArePartLanes, FastItems, fast_taken, no_fast_items, no_slow_parts, slow_taken}
-use Rattle.edr_loops.specs.Desks.{HasPosted, DeskStands}
-use Rattle.edr_drive.specs.declared.beginning.RecorderSide.{RecorderSide}
+use Rattle.edr_loops.specs.Recorders.{HasPosted, DeskStands}
+use Rattle.edr_drive.specs.declared.beginning.WorkersAndRecorder.{WorkersAndRecorder}
 use Rattle.edr_drive.specs.declared.beginning.SensorRings.{SensorRings}
 use Rattle.edr_drive.specs.declared.beginning.CoreAndCaptures.{CoreAndCaptures}
-use Rattle.edr_drive.specs.declared.beginning.Crossings.{Crossings}
+use Rattle.edr_drive.specs.declared.beginning.SharedEnds.{SharedEnds}
 use Rattle.edr_drive.specs.declared.beginning.Seats.{Seats}
-use Rattle.edr_drive.specs.Places.{HaveBegun}
+use Rattle.edr_drive.specs.Senders.{HaveBegun}
 
 -- the lists of the fast sensors
 abbrev pub fast_items_of : SensorLists → FastItems
 fast_items_of f = record { along = f.along; across = f.across; restraint = f.restraint }
 
--- the places at one end of each ring and the inlets at the other, through which nothing went, and an asker that asked for nothing
+-- the senders at one end of each ring and the inlets at the other, through which nothing went, and an asker that asked for nothing
 pub record AreFreshRings (r : SensorRings) : Type 0 where
-  pub lanes : AreFastLanes r.places.fast r.fast
-  pub part_lanes : ArePartLanes r.places.slow r.parts
-  pub begun : (f : SensorLists) → HaveBegun f r.places
+  pub lanes : AreFastLanes r.senders.fast r.fast
+  pub part_lanes : ArePartLanes r.senders.slow r.parts
+  pub begun : (f : SensorLists) → HaveBegun f r.senders
   pub fast_taken_is : fast_taken r.fast ≡ no_fast_items
   pub parts_taken_are : slow_taken r.parts ≡ no_slow_parts
   pub asker_is : IsFreshAsker (freeze_of_asker r.asker) r.asker
@@ -41,20 +41,20 @@ pub record AreFreshCoreAndCaptures (n : ℕ) (c : CoreAndCaptures) : Type 0 wher
   pub captures_are : c.captures ≡ no_captures
 
 -- rings, orders and seats that are fresh
-pub record AreFreshCrossings (c : Crossings) : Type 0 where
+pub record AreFreshEnds (c : SharedEnds) : Type 0 where
   pub rings : AreFreshRings c.rings
   pub pair : AreEndsOfOrders c.orders.outbox c.orders.inbox
   pub sent : orders_sent c.orders.outbox ≡ []
   pub taken : orders_taken c.orders.inbox ≡ []
   pub seats : HaveNotPosted c.seats
 
--- a desk of cycle n to which nothing was given, at one end of each ring, and the places and the inbox at the other
-pub record IsBeginning (n : ℕ) (r : RecorderSide) (inbox : Inbox) : Type 0 where
+-- a desk of cycle n to which nothing was given, at one end of each ring, and the senders and the inbox at the other
+pub record IsBeginning (n : ℕ) (r : WorkersAndRecorder) (inbox : Inbox) : Type 0 where
   pub stands : (horizon : ℕ) → DeskStands n horizon r.desk
   pub posted : HasPosted r.desk
-  pub lanes : AreFastLanes r.places.fast r.desk.fast
-  pub part_lanes : ArePartLanes r.places.slow r.desk.parts
-  pub begun : (f : SensorLists) → HaveBegun f r.places
+  pub lanes : AreFastLanes r.senders.fast r.desk.fast
+  pub part_lanes : ArePartLanes r.senders.slow r.desk.parts
+  pub begun : (f : SensorLists) → HaveBegun f r.senders
   pub pair : AreEndsOfOrders r.desk.outbox inbox
   pub fresh : orders_taken inbox ≡ []
   pub captures : r.captures ≡ no_captures

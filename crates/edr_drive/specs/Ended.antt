@@ -5,15 +5,15 @@ use Rattle.edr_core.specs.Captures.{no_captures}
 use Rattle.edr_loops.specs.declared.orders.Inbox.{Inbox}
 use Rattle.edr_loops.specs.Orders.{AreEndsOfOrders}
 use Rattle.edr_loops.specs.Lanes.{AreFastLanes, ArePartLanes}
-use Rattle.edr_loops.specs.Desks.{DeskStands}
+use Rattle.edr_loops.specs.Recorders.{DeskStands}
 use Rattle.edr_drive.specs.declared.driving.Ended.{Ended}
-use Rattle.edr_drive.specs.Places.{HaveBegun}
+use Rattle.edr_drive.specs.Senders.{HaveBegun}
 
--- both ends of each ring, the desk as it stands in cycle n, and the places as these lists left them
+-- both ends of each ring, the desk as it stands in cycle n, and the senders as these lists left them
 pub record IsEnded (f : SensorLists) (n : ℕ) (e : Ended) (inbox : Inbox) : Type 0 where
   pub stands : DeskStands n (horizon_of f) e.desk
-  pub lanes : AreFastLanes e.places.fast e.desk.fast
-  pub part_lanes : ArePartLanes e.places.slow e.desk.parts
-  pub begun : HaveBegun f e.places
+  pub lanes : AreFastLanes e.senders.fast e.desk.fast
+  pub part_lanes : ArePartLanes e.senders.slow e.desk.parts
+  pub begun : HaveBegun f e.senders
   pub pair : AreEndsOfOrders e.desk.outbox inbox
   pub captures : e.captures ≡ no_captures

@@ -4,9 +4,9 @@ use Rattle.edr_items.specs.SensorLists.{SensorLists, horizon_of}
 use Rattle.edr_definitions.specs.Commands.{Issue}
 use Rattle.edr_cycle.specs.Rest.{issues_past}
 use Rattle.edr_loops.specs.declared.orders.Inbox.{Inbox}
-use Rattle.edr_loops.specs.declared.desk.Desk.{Desk}
-use Rattle.edr_loops.specs.Desks.{DeskStands}
-use Rattle.edr_loops.specs.Held.{issues_held}
+use Rattle.edr_loops.specs.declared.recorder.Desk.{Desk}
+use Rattle.edr_loops.specs.Recorders.{DeskStands}
+use Rattle.edr_loops.specs.UnsentOrders.{issues_held}
 use Rattle.edr_loops.specs.Lanes.{AreTakenParts, FastBegin}
 use Rattle.edr_loops.specs.Orders.{issues_of, orders_known, orders_taken}
 

@@ -1,6 +1,6 @@
-pub mod Places
+pub mod Senders
 pub mod Beginnings
-pub mod Desks
+pub mod Recorders
 pub mod Left
 pub mod CommitterDesks
 pub mod Ended

@@ -14,7 +14,7 @@ ghost use Rattle.edr_drive.specs.Beginnings.{IsBeginning};
 ghost use Rattle.edr_drive.specs.Live.{IsLastOf};
 ghost use Rattle.edr_drive.specs.Reading.{HasReadOn};
 
-use crate::beginning::{Beginning, begin};
+use crate::beginning::{OpenedCycle, begin};
 use crate::live_cycle::{ShownCycle, drive_shown};
 use crate::live_news::News;
 use crate::live_reader::{ReaderDesk, ReadingOn};
@@ -71,7 +71,7 @@ fn drive_beside<
 >(
     crew: &Crew<'_, R, G>,
     number: u32,
-    beginning: Beginning,
+    beginning: OpenedCycle,
     readership: Readership,
     nvm: &mut N,
 ) -> LiveEnd

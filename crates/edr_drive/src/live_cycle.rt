@@ -13,7 +13,7 @@ ghost use Rattle.edr_live.specs.Writing.{first_view};
 ghost use Rattle.edr_drive.specs.Beginnings.{IsBeginning};
 ghost use Rattle.edr_drive.specs.Following.{IsShownOf};
 
-use crate::beginning::Beginning;
+use crate::beginning::OpenedCycle;
 use crate::committer::CommitterDesk;
 use crate::driving::drive;
 use crate::live_books::LiveBooks;
@@ -42,7 +42,7 @@ pub(crate) fn drive_shown<
     N: Nvm,
 >(
     crew: &Crew<'_, R, G>,
-    beginning: Beginning,
+    beginning: OpenedCycle,
     writer: LiveWriter,
     news: News,
     nvm: &mut N,
@@ -65,7 +65,7 @@ pub(crate) fn drive_shown<
     ensures shown { IsShownOf beginning.committer.ledger.banks.store (arc_value crew.now.feeds.now)
         beginning.recording.desk.core.cycle result.log.acks (view_shown result.writer) result.cut }
 {
-    let Beginning {
+    let OpenedCycle {
         recording,
         committer,
     } = beginning;

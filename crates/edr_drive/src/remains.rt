@@ -5,8 +5,8 @@ ghost use Rattle.edr_items.specs.SensorLists.{horizon_of};
 ghost use Rattle.edr_definitions.specs.Commands.{issues};
 ghost use Rattle.edr_core.specs.Captures.{no_captures};
 ghost use Rattle.edr_cycle.specs.Remaining.{Remains};
-ghost use Rattle.edr_loops.specs.Held.{issues_out};
-ghost use Rattle.edr_loops.specs.Desks.{DeskStands};
+ghost use Rattle.edr_loops.specs.UnsentOrders.{issues_out};
+ghost use Rattle.edr_loops.specs.Recorders.{DeskStands};
 ghost use Rattle.edr_drive.specs.Left.{WhereStands};
 
 use edr_core::Captures;

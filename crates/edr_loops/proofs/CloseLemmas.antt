@@ -21,15 +21,15 @@ use Rattle.edr_core.proofs.GiveLemmas.{within-merged}
 use Rattle.edr_board.specs.Seats.{board_of_recorder, board_of_watch}
 use Rattle.edr_board.specs.declared.seats.RecorderSeat.{RecorderSeat}
 use Rattle.edr_board.specs.declared.seats.Watch.{Watch}
-use Rattle.edr_loops.specs.declared.held.Held.{Held}
+use Rattle.edr_loops.specs.declared.unsent_orders.UnsentOrders.{UnsentOrders}
 use Rattle.edr_loops.specs.declared.orders.Outbox.{Outbox}
-use Rattle.edr_loops.specs.declared.desk.Desk.{Desk}
-use Rattle.edr_loops.specs.Held.{issues_held, issues_out}
+use Rattle.edr_loops.specs.declared.recorder.Desk.{Desk}
+use Rattle.edr_loops.specs.UnsentOrders.{issues_held, issues_out}
 use Rattle.edr_loops.specs.Orders.{issues_of, orders_sent}
-use Rattle.edr_loops.specs.Desks.{HaveMarks, IsAskerSettled, Later, DeskStands, zero_of}
+use Rattle.edr_loops.specs.Recorders.{HaveMarks, IsAskerSettled, Later, DeskStands, zero_of}
 use Rattle.edr_loops.proofs.FastLemmas.{all-reached}
 use Rattle.edr_loops.proofs.LaterLemmas.{later-by}
-use Rattle.edr_loops.proofs.DeskLemmas.{closed-low}
+use Rattle.edr_loops.proofs.RecorderLemmas.{closed-low}
 
 -- ---- what a step answers
 -- where it asks, nothing was asked for, the tick is the next one, and no sensor is waited for
@@ -156,7 +156,7 @@ settled-not n e d s asking =
     let h = s.history in
     s.told.agrees.zero_is ∙ ap (λ (b : Bool). cond {A = ℕ} b (h.past.closed + 1) 0) (sym s.asking_is ∙ asking)
 
-module _ (n e : ℕ) (d : Desk) (c : SplitContents) (a : Asker) (k : Held) (v : Bool) (cs : List Issue) (s : DeskStands n e d) where
+module _ (n e : ℕ) (d : Desk) (c : SplitContents) (a : Asker) (k : UnsentOrders) (v : Bool) (cs : List Issue) (s : DeskStands n e d) where
   abbrev g : History
   g = s.history
 
@@ -213,7 +213,7 @@ adds-here n e t some i d slots s are commands ticks =
     ap (issues_with slots h.past.given n) (sym tick) ∙ subst (λ (m : ℕ). issues_with slots h.past.given m t ≡ issues_with slots h.past.given m h.past.closed ++ map (issue_at t) (commands_put some i)) same here
 
 -- ---- what is held is sent
-pub stands-sent : (n e : ℕ) (d : Desk) (o : Outbox) (k : Held) → issues_out o k ≡ issues_out d.outbox d.held → DeskStands n e d → DeskStands n e (record d { outbox = o; held = k })
+pub stands-sent : (n e : ℕ) (d : Desk) (o : Outbox) (k : UnsentOrders) → issues_out o k ≡ issues_out d.outbox d.held → DeskStands n e d → DeskStands n e (record d { outbox = o; held = k })
 stands-sent n e d o k out s =
     let t = s.told in record {
       history = s.history;

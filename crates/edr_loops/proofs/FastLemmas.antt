@@ -23,7 +23,7 @@ use Rattle.edr_loops.specs.FastInlets.{AreFastFeeds, HaveFast, fast_marks_of, wi
 use Rattle.edr_loops.specs.PerFastSensor.{fast_at, sensor_of, with_fast_value}
 use Rattle.edr_loops.specs.Lanes.{FastItems, SlowParts}
 use Rattle.edr_loops.specs.PartInlets.{IsTakenPart, parts_of, with_part}
-use Rattle.edr_loops.specs.Desks.{HaveMarks}
+use Rattle.edr_loops.specs.Recorders.{HaveMarks}
 
 -- ---- the front of a feed is one
 pub feed-front : (s : Sensor) (last : ℕ) (xs ys : List Item) → IsFeedAfter s last (xs ++ ys) → IsFeedAfter s last xs

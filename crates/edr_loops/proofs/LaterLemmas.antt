@@ -8,21 +8,21 @@ use Rattle.edr_seats.specs.PartInlet.{SamePartInlet}
 use Rattle.edr_core.specs.SplitContents.{SplitContents}
 use Rattle.edr_loops.specs.Lanes.{FastInlets}
 use Rattle.edr_loops.specs.declared.per_fast_sensor.PerFastSensor.{PerFastSensor}
-use Rattle.edr_loops.specs.declared.held.Held.{Held}
+use Rattle.edr_loops.specs.declared.unsent_orders.UnsentOrders.{UnsentOrders}
 use Rattle.edr_loops.specs.declared.orders.Outbox.{Outbox}
-use Rattle.edr_loops.specs.declared.tray.Tray.{Tray}
-use Rattle.edr_loops.specs.declared.desk.Desk.{Desk}
+use Rattle.edr_loops.specs.declared.buffered_inlet.BufferedInlet.{BufferedInlet}
+use Rattle.edr_loops.specs.declared.recorder.Desk.{Desk}
 use Rattle.edr_loops.specs.Lanes.{PartInlets, SameFastInlets, SamePartInlets}
 use Rattle.edr_loops.specs.Orders.{SameOutbox}
-use Rattle.edr_loops.specs.Trays.{SameTray}
-use Rattle.edr_loops.specs.Desks.{IsRecording, Later, LaterUpTo, SameDesk, DeskStands}
+use Rattle.edr_loops.specs.BufferedInlets.{SameBuffered}
+use Rattle.edr_loops.specs.Recorders.{IsRecording, Later, LaterUpTo, SameDesk, DeskStands}
 
 -- ---- the same rings
-tray-self : (a : Tray) → SameTray a a
-tray-self a = search
+inlet-self : (a : BufferedInlet) → SameBuffered a a
+inlet-self a = search
 
-tray-again : (a b c : Tray) → SameTray a b → SameTray b c → SameTray a c
-tray-again a b c h k = ((k.0.0 ∙ h.0.0, k.0.1 ∙ h.0.1, k.0.2 ∙ h.0.2, k.0.3 ∙ h.0.3), k.1 ∙ h.1)
+inlet-again : (a b c : BufferedInlet) → SameBuffered a b → SameBuffered b c → SameBuffered a c
+inlet-again a b c h k = ((k.0.0 ∙ h.0.0, k.0.1 ∙ h.0.1, k.0.2 ∙ h.0.2, k.0.3 ∙ h.0.3), k.1 ∙ h.1)
 
 outbox-self : (a : Outbox) → SameOutbox a a
 outbox-self a = search
@@ -31,10 +31,10 @@ outbox-again : (a b c : Outbox) → SameOutbox a b → SameOutbox b c → SameOu
 outbox-again a b c h k = ((k.0.0 ∙ h.0.0, k.0.1 ∙ h.0.1, k.0.2 ∙ h.0.2, k.0.3 ∙ h.0.3), k.1 ∙ h.1)
 
 pub fast-self : (a : FastInlets) → SameFastInlets a a
-fast-self a = record { along = tray-self a.along; across = tray-self a.across; restraint = tray-self a.restraint }
+fast-self a = record { along = inlet-self a.along; across = inlet-self a.across; restraint = inlet-self a.restraint }
 
 fast-again : (a b c : FastInlets) → SameFastInlets a b → SameFastInlets b c → SameFastInlets a c
-fast-again a b c h k = record { along = tray-again a.along b.along c.along h.along k.along; across = tray-again a.across b.across c.across h.across k.across; restraint = tray-again a.restraint b.restraint c.restraint h.restraint k.restraint }
+fast-again a b c h k = record { along = inlet-again a.along b.along c.along h.along k.along; across = inlet-again a.across b.across c.across h.across k.across; restraint = inlet-again a.restraint b.restraint c.restraint h.restraint k.restraint }
 
 part-self : (a : PartInlet) → SamePartInlet a a
 part-self a = search
@@ -58,7 +58,7 @@ same-taken d c i m rings = record { fast = rings; parts = parts-self d.parts; ou
 pub same-taken_part : (d : Desk) (c : SplitContents) (i : PartInlets) → SamePartInlets d.parts i → SameDesk d (record d { core = c; parts = i })
 same-taken_part d c i rings = record { fast = fast-self d.fast; parts = rings; outbox = outbox-self d.outbox; freeze = refl; recorder = refl; watch = refl }
 
-pub same-sent : (d : Desk) (o : Outbox) (k : Held) → SameOutbox d.outbox o → SameDesk d (record d { outbox = o; held = k })
+pub same-sent : (d : Desk) (o : Outbox) (k : UnsentOrders) → SameOutbox d.outbox o → SameDesk d (record d { outbox = o; held = k })
 same-sent d o k ring = record { fast = fast-self d.fast; parts = parts-self d.parts; outbox = ring; freeze = refl; recorder = refl; watch = refl }
 
 pub later-self : (a : Desk) → Later a a

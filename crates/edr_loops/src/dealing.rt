@@ -1,32 +1,32 @@
 //! The sensors of a cycle are dealt to its workers, and what the workers hand back is put together again. It stands apart from the
-//! places in `stand.rt` by subject: there is what a worker does with them, here what is done before it starts and after it ends.
+//! senders in `worker.rt` by subject: there is what a worker does with them, here what is done before it starts and after it ends.
 
 ghost use Rattle.std.specs.Prelude.{◌≡◌};
-ghost use Rattle.edr_loops.specs.Places.{IsDealt};
-ghost use Rattle.edr_loops.specs.Stands.{AreFastDealt, AreSlowDealt, either_fast, either_slow, fast_of_worker, is_served_by, place_if, slow_of_worker};
+ghost use Rattle.edr_loops.specs.FastSenders.{IsDealt};
+ghost use Rattle.edr_loops.specs.Workers.{AreFastDealt, AreSlowDealt, either_fast, either_slow, fast_of_worker, is_served_by, if_served, slow_of_worker};
 
 use crate::per_fast_sensor::PerFastSensor;
-use crate::stand::SlowPlaces;
+use crate::worker::SlowSenders;
 use edr_items::{PerSlowSensor, Sensor};
 
-// Deals a place to this hand, or leaves it.
-pub(crate) fn deal_one<T>(place: &mut Option<T>, mine: bool) -> Option<T>
-    ensures dealt { IsDealt place.old result place.new }
-    ensures mine { result ≡ place_if mine place.old }
+// Deals a sender to this hand, or leaves it.
+pub(crate) fn deal_one<T>(sender: &mut Option<T>, mine: bool) -> Option<T>
+    ensures dealt { IsDealt sender.old result sender.new }
+    ensures mine { result ≡ if_served mine sender.old }
 {
-    if mine { place.take() } else { None }
+    if mine { sender.take() } else { None }
 }
 
 // Worker w serves the sensors i with (i - 1) mod workers = w.
 pub(crate) fn is_served_by(sensor: Sensor, w: u32, workers: u32) -> bool
     ensures { result ≡ is_served_by w workers sensor }
 {
-    let place = u32::from(sensor.number() - 1);
-    place.checked_rem(workers) == Some(w)
+    let before = u32::from(sensor.number() - 1);
+    before.checked_rem(workers) == Some(w)
 }
 
 impl<T: Drop> PerFastSensor<Option<T>> {
-    /// Deals the places of this worker: that of sensor number i is at the worker (i - 1) mod `workers`.
+    /// Deals the senders of this worker: that of sensor number i is at the worker (i - 1) mod `workers`.
     pub fn deal(&mut self, w: u32, workers: u32) -> PerFastSensor<Option<T>>
         ensures dealt { AreFastDealt self.old result self.new }
         ensures mine { result ≡ fast_of_worker w workers self.old }
@@ -41,7 +41,7 @@ impl<T: Drop> PerFastSensor<Option<T>> {
         }
     }
 
-    /// These places and the others.
+    /// These senders and the others.
     pub fn and(self, other: PerFastSensor<Option<T>>) -> PerFastSensor<Option<T>>
         ensures { result ≡ either_fast self other }
     {
@@ -53,9 +53,9 @@ impl<T: Drop> PerFastSensor<Option<T>> {
     }
 }
 
-impl SlowPlaces {
-    /// Deals the places of this worker: that of sensor number i is at the worker (i - 1) mod `workers`.
-    pub fn deal(&mut self, w: u32, workers: u32) -> SlowPlaces
+impl SlowSenders {
+    /// Deals the senders of this worker: that of sensor number i is at the worker (i - 1) mod `workers`.
+    pub fn deal(&mut self, w: u32, workers: u32) -> SlowSenders
         ensures dealt { AreSlowDealt self.old result self.new }
         ensures mine { result ≡ slow_of_worker w workers self.old }
     {
@@ -70,11 +70,11 @@ impl SlowPlaces {
             belt: deal_one(&mut all.belt, is_served_by(Sensor::Belt, w, workers)),
             lamp: deal_one(&mut all.lamp, is_served_by(Sensor::Lamp, w, workers)),
         };
-        SlowPlaces { each }
+        SlowSenders { each }
     }
 
-    /// These places and the others.
-    pub fn and(self, other: SlowPlaces) -> SlowPlaces
+    /// These senders and the others.
+    pub fn and(self, other: SlowSenders) -> SlowSenders
         ensures { result ≡ either_slow self other }
     {
         let mine = self.each;
@@ -86,6 +86,6 @@ impl SlowPlaces {
             belt: mine.belt.or(others.belt),
             lamp: mine.lamp.or(others.lamp),
         };
-        SlowPlaces { each }
+        SlowSenders { each }
     }
 }

@@ -2,16 +2,16 @@
 
 ghost use Rattle.edr_loops.specs.FastInlets.{with_fast};
 ghost use Rattle.edr_loops.specs.Lanes.{SameFastInlets, fast_taken};
-ghost use Rattle.edr_loops.specs.Trays.{TakesUpTo};
+ghost use Rattle.edr_loops.specs.BufferedInlets.{TakesUpTo};
 
+use crate::buffered_inlet::BufferedInlet;
 use crate::per_fast_sensor::{FastSensor, PerFastSensor};
-use crate::tray::Tray;
 use edr_items::Item;
 
-/// The inlets of these sensors, each with its tray.
-pub type FastInlets = PerFastSensor<Tray>;
+/// The inlets of these sensors, each with its buffer.
+pub type FastInlets = PerFastSensor<BufferedInlet>;
 
-impl PerFastSensor<Tray> {
+impl PerFastSensor<BufferedInlet> {
     // Takes the next item of that sensor, if there is one and its moment is not past `upto`.
     #[inline(always)]
     pub(crate) fn take_upto(&mut self, sensor: FastSensor, upto: u32) -> Option<Item>

@@ -10,10 +10,10 @@ use crate::dealt_sensors::{STEADY, fired_feeds, give};
 use crate::runs::{assert_level, formatted};
 use edr_cycle::{Books, start};
 use edr_device::MemNvm;
-use edr_drive::beginning::{Beginning, begin, ends_of};
+use edr_drive::beginning::{OpenedCycle, begin, ends_of};
 use edr_drive::committer::CommitterDesk;
 use edr_drive::drive_cycle;
-use edr_drive::threads::{Back, Crew, with_workers};
+use edr_drive::threads::{HandedBack, Crew, with_workers};
 use edr_items::{Feeds, Sensor};
 use edr_loops::{Desk, Gate};
 use std::alloc::Global;
@@ -123,14 +123,14 @@ fn assert_recorded(rt: &impl Abort, desk: &Option<Desk>, feeds: &Feeds) {
 }
 
 // Every order was committed.
-fn assert_committed(rt: &impl Abort, back: &Back, committer: &mut CommitterDesk<Books>) {
+fn assert_committed(rt: &impl Abort, back: &HandedBack, committer: &mut CommitterDesk<Books>) {
     assert!(rt; committer.inbox.take().is_none());
     assert!(rt; back.committed.is_ok());
     assert_eq!(rt; committer.ledger.log.acks().len(), 3);
 }
 
 // What a cycle of feeds that end at this horizon begins with.
-fn begun(alloc: Global, memory: &mut MemNvm, horizon: u32) -> Result<Beginning, Fail>
+fn begun(alloc: Global, memory: &mut MemNvm, horizon: u32) -> Result<OpenedCycle, Fail>
     ensures { IfOk result (IsReadyOver (length (memory_image memory.new))) }
 {
     let started = start(alloc, memory, horizon)?;
@@ -141,7 +141,7 @@ fn begun(alloc: Global, memory: &mut MemNvm, horizon: u32) -> Result<Beginning, 
 // The threads of a cycle have done all of its work before their join.
 fn check_join<R: Threads + Wait + Abort + Copy + Send + 'static>(
     crew: &Crew<'_, R, Counting>,
-    beginning: Beginning,
+    beginning: OpenedCycle,
     memory: &mut MemNvm,
 )
     requires { IsReadyOver (length (memory_image memory.old)) beginning }
@@ -149,7 +149,7 @@ fn check_join<R: Threads + Wait + Abort + Copy + Send + 'static>(
     let mut committer = beginning.committer;
     let recording = beginning.recording;
     let mut desk = Some(recording.desk);
-    let back = with_workers(crew, 0, recording.places, &mut desk, &mut committer, memory);
+    let back = with_workers(crew, 0, recording.senders, &mut desk, &mut committer, memory);
     assert_offered(crew.rt, crew.gate);
     assert_recorded(crew.rt, &desk, crew.feeds);
     assert_committed(crew.rt, &back, &mut committer);

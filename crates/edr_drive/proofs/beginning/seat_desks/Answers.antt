@@ -6,23 +6,23 @@ use Rattle.edr_loops.specs.Lanes.{AreFastLanes, ArePartLanes, PartInlets}
 use Rattle.edr_drive.proofs.beginning.seat_desks.Goals as goal
 
 pub returns-clause-begins : goal.returns-clause-begins
-returns-clause-begins c = λ n opened crossings.
+returns-clause-begins c = λ n opened shared.
     let desk = c.new-desk.ensures in
-    let rings = crossings.rings in
-    let gate = crossings.seats.gate in
+    let rings = shared.rings in
+    let gate = shared.seats.gate in
     record {
       stands = λ horizon. desk.stands n horizon (record {
         core_is = opened.core;
         asker_is = rings.asker_is;
         fast_is = rings.fast_taken_is;
         parts_are = rings.parts_taken_are;
-        sent_is = crossings.sent;
+        sent_is = shared.sent;
       });
-      posted = desk.posted crossings.seats.closed (omega (arith, gate));
-      lanes = subst (λ (i : FastInlets). AreFastLanes c.args.crossings.rings.places.fast i) (sym desk.rings.0) rings.lanes;
-      part_lanes = subst (λ (i : PartInlets). ArePartLanes c.args.crossings.rings.places.slow i) (sym desk.rings.1) rings.part_lanes;
+      posted = desk.posted shared.seats.closed (omega (arith, gate));
+      lanes = subst (λ (i : FastInlets). AreFastLanes c.args.shared.rings.senders.fast i) (sym desk.rings.0) rings.lanes;
+      part_lanes = subst (λ (i : PartInlets). ArePartLanes c.args.shared.rings.senders.slow i) (sym desk.rings.1) rings.part_lanes;
       begun = rings.begun;
-      pair = subst (λ (o : Outbox). AreEndsOfOrders o c.args.crossings.orders.inbox) (sym desk.rings.2) crossings.pair;
-      fresh = crossings.taken;
+      pair = subst (λ (o : Outbox). AreEndsOfOrders o c.args.shared.orders.inbox) (sym desk.rings.2) shared.pair;
+      fresh = shared.taken;
       captures = opened.captures_are;
     }

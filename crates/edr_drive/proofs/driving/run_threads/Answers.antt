@@ -3,7 +3,7 @@ use Rattle.edr_items.specs.SensorLists.{horizon_of}
 use Rattle.edr_loops.proofs.LaneLemmas.{fast_lanes-later, part_lanes-later}
 use Rattle.edr_drive.proofs.DrivenLemmas.{orders-later}
 use Rattle.edr_drive.proofs.LentLemmas.{lent-back, lent-stands}
-use Rattle.edr_drive.proofs.PlaceLemmas.{all-begun}
+use Rattle.edr_drive.proofs.SenderLemmas.{all-begun}
 use Rattle.edr_drive.proofs.driving.run_threads.Goals as goal
 
 pub with_workers-back-requires-clause-begun : goal.with_workers-back-requires-clause-begun
@@ -22,9 +22,9 @@ returns-clause-ended g c =
     let same = (lent-back (horizon_of f) b.desk d back.new.desk c.in-Some.is back.ensures.later).same in
     record {
       stands = lent-stands b.desk.core.cycle (horizon_of f) b.desk d back.new.desk c.in-Some.is back.ensures.later (begins.stands (horizon_of f));
-      lanes = fast_lanes-later f b.places.fast back.result.places.fast b.desk.fast d.fast begins.lanes back.ensures.places.fast same.fast;
-      part_lanes = part_lanes-later f b.places.slow back.result.places.slow b.desk.parts d.parts begins.part_lanes back.ensures.places.slow same.parts;
-      begun = all-begun f b.places back.result.places back.ensures.places;
+      lanes = fast_lanes-later f b.senders.fast back.result.senders.fast b.desk.fast d.fast begins.lanes back.ensures.senders.fast same.fast;
+      part_lanes = part_lanes-later f b.senders.slow back.result.senders.slow b.desk.parts d.parts begins.part_lanes back.ensures.senders.slow same.parts;
+      begun = all-begun f b.senders back.result.senders back.ensures.senders;
       pair = orders-later b.desk.outbox d.outbox c.args.committer.now.inbox back.new.committer.inbox begins.pair same.outbox back.ensures.posts.ring;
       captures = begins.captures;
     }

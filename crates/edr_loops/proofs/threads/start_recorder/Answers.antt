@@ -1,5 +1,5 @@
 use Rattle.std.proofs.Common.{subst, sym}
-use Rattle.edr_loops.specs.Desks.{LaterUpTo}
+use Rattle.edr_loops.specs.Recorders.{LaterUpTo}
 use Rattle.edr_loops.proofs.threads.start_recorder.Goals as goal
 
 pub spawn_with-requires-clause-keeps : goal.spawn_with-requires-clause-keeps

@@ -1,5 +1,0 @@
-use Rattle.edr_loops.specs.Desks.{IsRecording, LaterUpTo, SeatStays}
-use Rattle.edr_loops.proofs.desk.Desk.close_some.Given as goal
-
-abbrev pub invariant-loop : goal.invariant-loop
-invariant-loop l = LaterUpTo l.horizon l.fn.self l.self × IsRecording l.self × SeatStays l.fn.self l.self

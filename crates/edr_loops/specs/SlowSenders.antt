@@ -1,0 +1,69 @@
+-- What a slow sensor's sender at a worker has kept and sent.
+use Rattle.std.specs.Prelude.{◌≡◌, ◌⊎◌, ◌+◌, ◌<◌, ◌≤◌, ℕ, List, [], ◌∷◌, ◌++◌, Option, Some, None, length, take, All}
+use Rattle.edr_items.specs.declared.Sensor.{Sensor}
+use Rattle.edr_items.specs.declared.Item.{Item}
+use Rattle.edr_items.specs.Item.{IsFeed, mark_of}
+use Rattle.edr_capture.specs.SensorPart.{SensorPart, part}
+use Rattle.edr_seats.specs.Slots.{part_room}
+use Rattle.edr_seats.specs.Slow.{SameSlowSeat, SlowSeatIsFor, asked_known, grant_known, parts_known_taken, parts_sent, sensor_of_slow, zero_served}
+use Rattle.edr_seats.specs.SlowContents.{SlowContents}
+use Rattle.edr_loops.specs.declared.fast_sender.Offered.{Offered}
+use Rattle.edr_loops.specs.declared.fast_sender.Offered.TheVariants.{Sent, Full, Over}
+use Rattle.edr_loops.specs.declared.slow_sender.SlowSender.{SlowSender}
+
+-- the part is that of a beginning of the sensor's list, whose mark has reached the part's time zero
+pub record IsPartOfBeginning (s : Sensor) (xs : List Item) (p : SensorPart) : Type 0 where
+  pub many : ℕ
+  pub is : p ≡ part s (take many xs) p.zero
+  pub reached : p.zero ≤ mark_of (take many xs)
+
+abbrev pub AreParts : Sensor → List Item → List SensorPart → Type 0
+AreParts s xs ps = All (IsPartOfBeginning s xs) ps
+
+-- the sender of this sensor has kept the first items of its list, as many as it says, and has sent parts of beginnings of it
+pub record IsKeeping (s : Sensor) (xs : List Item) (p : SlowSender) : Type 0 where
+  pub sensor : sensor_of_slow p.seat ≡ s
+  pub stands : SlowSeatIsFor p.seat (take p.next xs) (parts_sent p.seat)
+  pub parts : AreParts s xs (parts_sent p.seat)
+
+-- the same of a sender that may be at another worker
+abbrev pub IsSlowSender : Sensor → List Item → Option SlowSender → Type 0
+IsSlowSender s xs None = Unit {0}
+IsSlowSender s xs (Some p) = IsKeeping s xs p
+
+-- the same sender later
+abbrev pub KeepsOn : Sensor → List Item → Option SlowSender → Option SlowSender → Type 0
+KeepsOn s xs None None = Unit {0}
+KeepsOn s xs (Some a) (Some b) = SameSlowSeat a.seat b.seat × IsKeeping s xs b
+KeepsOn s xs None (Some b) = ⊥
+KeepsOn s xs (Some a) None = ⊥
+
+-- the next item of the list is past what the seat loaded of granted
+abbrev pub IsUngranted : List Item → SlowSender → Type 0
+IsUngranted xs p = (x : Item) × (take (p.next + 1) xs ≡ take p.next xs ++ x ∷ []) × (grant_known p.seat < x.moment)
+
+-- what came of offers: items were kept; none was, since the next one isn't granted; or none, since all are kept, if they are a feed
+abbrev pub CameOfKept : Sensor → List Item → SlowSender → SlowSender → Offered → Type 0
+CameOfKept s xs a b Sent = a.next < b.next
+CameOfKept s xs a b Full = (b.next ≡ a.next) × IsUngranted xs b
+CameOfKept s xs a b Over = (b.next ≡ a.next) × (IsFeed s xs → length xs ≤ b.next)
+
+-- as many parts as there are slots were sent past the last that the seat knows taken
+abbrev pub KnowsNoPartSlot : SlowContents → Type 0
+KnowsNoPartSlot s = length (parts_sent s) ≡ parts_known_taken s + part_room
+
+-- no part is asked for that wasn't sent, by what the seat loaded
+abbrev pub HasNoneToSend : SlowContents → Type 0
+HasNoneToSend s = (asked_known s ≡ 0) ⊎ (asked_known s ≡ zero_served s)
+
+-- what came of a look at what is asked: a part was sent; none was, since no slot is known to be free; or none is to be sent
+abbrev pub CameOfPart : SlowSender → SlowSender → Offered → Type 0
+CameOfPart a b Sent = length (parts_sent a.seat) < length (parts_sent b.seat)
+CameOfPart a b Full = (parts_sent b.seat ≡ parts_sent a.seat) × KnowsNoPartSlot b.seat
+CameOfPart a b Over = (parts_sent b.seat ≡ parts_sent a.seat) × HasNoneToSend b.seat
+
+-- what came of both: an item was kept or a part was sent; neither was, and something is left; or nothing is left of either
+abbrev pub CameOfSlow : Sensor → List Item → SlowSender → SlowSender → Offered → Type 0
+CameOfSlow s xs a b Sent = (a.next < b.next) ⊎ (length (parts_sent a.seat) < length (parts_sent b.seat))
+CameOfSlow s xs a b Full = (b.next ≡ a.next) × (parts_sent b.seat ≡ parts_sent a.seat) × (IsUngranted xs b ⊎ KnowsNoPartSlot b.seat)
+CameOfSlow s xs a b Over = (b.next ≡ a.next) × (parts_sent b.seat ≡ parts_sent a.seat) × (IsFeed s xs → length xs ≤ b.next) × HasNoneToSend b.seat
