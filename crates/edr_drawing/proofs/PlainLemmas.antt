@@ -83,33 +83,24 @@ unfolding fixed
 plain_text text low = plain_fixed text low
 
 -- each of these texts is plain
-abbrev pub EachPlain : List (List ℕ) → Type 0
-EachPlain [] = Unit {0}
-EachPlain (x ∷ xs) = Plain x × EachPlain xs
-
-pub all_fixed : (xs : List (List ℕ)) → list_all all_low xs ≡ true → EachPlain xs
-all_fixed [] e = tt
-all_fixed (x ∷ xs) e = (plain_fixed x (and_parts _ _ e).0, all_fixed xs (and_parts _ _ e).1)
-
 pub record AllPlain (values : List (List ℕ)) : Type 0 where
-  pub each : EachPlain values
+  pub each : (k : ℕ) → Plain (get_or values k [])
 
 pub all_nil : AllPlain []
-all_nil = record { each = tt }
+all_nil = record { each = λ k. plain_nil }
 
 pub all_cons : (x : List ℕ) (xs : List (List ℕ)) → Plain x → AllPlain xs → AllPlain (x ∷ xs)
-all_cons x xs h k = record { each = (h, k.each) }
+all_cons x xs h more = record { each = at }
+  where
+    at : (k : ℕ) → Plain (get_or (x ∷ xs) k [])
+    at zero = h
+    at (suc k) = more.each k
 
-plain_value : (values : List (List ℕ)) (k : ℕ) → EachPlain values → Plain (get_or values k [])
-plain_value [] k h = plain_nil
-plain_value (x ∷ xs) zero h = h.0
-plain_value (x ∷ xs) (suc k) h = plain_value xs k h.1
-
-plain_byte : (values : List (List ℕ)) (hole : Bool) (b : ℕ) → EachPlain values → b < 128 → Plain (byte_bytes values hole b)
+plain_byte : (values : List (List ℕ)) (hole : Bool) (b : ℕ) → AllPlain values → b < 128 → Plain (byte_bytes values hole b)
 plain_byte values false b h low = plain_cons b [] low plain_nil
-plain_byte values true b h low = plain_value values (b - 48) h
+plain_byte values true b h low = h.each (b - 48)
 
-plain_from : (values : List (List ℕ)) (hole : Bool) (text : List ℕ) → EachPlain values → all_low text ≡ true → Plain (filled_from values hole text)
+plain_from : (values : List (List ℕ)) (hole : Bool) (text : List ℕ) → AllPlain values → all_low text ≡ true → Plain (filled_from values hole text)
 plain_from values hole [] h low = plain_nil
 plain_from values hole (b ∷ bs) h low =
     let parts = and_parts _ _ low in
@@ -119,14 +110,11 @@ plain_from values hole (b ∷ bs) h low =
 
 pub plain_filled : (template : List ℕ) (values : List (List ℕ)) → all_low template ≡ true → AllPlain values → Plain (filled template values)
 unfolding filled
-plain_filled template values low h = plain_from values false template h.each low
+plain_filled template values low h = plain_from values false template h low
 
 -- ---- what goes into their holes
 
 -- one of some fixed texts
-pub plain_either : (b : Bool) (x y : List ℕ) → all_low x ≡ true → all_low y ≡ true → Plain (either b x y)
-plain_either b x y low_x low_y = plain_if b x y (plain_fixed x low_x) (plain_fixed y low_y)
-
 pub plain_of_profile : (f : Profile) (x y : List ℕ) → all_low x ≡ true → all_low y ≡ true → Plain (of_profile f x y)
 plain_of_profile Short x y low_x low_y = plain_fixed x low_x
 plain_of_profile Long x y low_x low_y = plain_fixed y low_y
@@ -136,63 +124,29 @@ plain_of_switch (Some true) x y z low_x low_y low_z = plain_fixed x low_x
 plain_of_switch (Some false) x y z low_x low_y low_z = plain_fixed y low_y
 plain_of_switch None x y z low_x low_y low_z = plain_fixed z low_z
 
+pub plain_of_axis : (a : CarAxis) (x y : List ℕ) → all_low x ≡ true → all_low y ≡ true → Plain (of_axis a x y)
+plain_of_axis Along x y low_x low_y = plain_fixed x low_x
+plain_of_axis Across x y low_x low_y = plain_fixed y low_y
+
 -- a digest
 hex_low : (n : ℕ) → n < 16 → hex_digit n < 128
-hex_low n small = by (nat_lt n 10)
-  where
-    by : (b : Bool) → (if b then 48 + n else 97 + (n - 10)) < 128
-    by true = omega arith
-    by false = omega arith
+hex_low n small = grind (arith, small)
 
 pub plain_digest : (digest : List ℕ) → All (λ b. b < 256) digest → Plain (digest_hex digest)
 plain_digest [] small = plain_nil
 plain_digest (b ∷ bs) small =
     let one = All-head (λ b. b < 256) b bs small in
-    let low = plain_cons (hex_digit (b % 16)) [] (hex_low (b % 16) (omega arith)) plain_nil in
-    plain_append (hex_byte b) (digest_hex bs) (plain_cons (hex_digit (b / 16)) _ (hex_low (b / 16) (omega (arith, one))) low)
-    (plain_digest bs (All-tail (λ b. b < 256) b bs small))
-
--- a fixed text before another one, and after one
-pub text_then : (t rest : List ℕ) → all_low t ≡ true → Plain rest → Plain (t ++ rest)
-text_then t rest low h = plain_append t rest (plain_fixed t low) h
-
-pub then_text : (front t : List ℕ) → Plain front → all_low t ≡ true → Plain (front ++ t)
-then_text front t h low = plain_append front t h (plain_fixed t low)
-
-pub plain_seconds : (tenths : ℕ) → Plain (seconds tenths)
-plain_seconds tenths =
-    plain_append (decimal (tenths / 10) ++ codes ".") (decimal (tenths % 10))
-    (then_text (decimal (tenths / 10)) (codes ".") (plain_decimal (tenths / 10)) refl) (plain_decimal (tenths % 10))
-
-pub plain_place : (p : Place) → Plain (place_words p)
-plain_place First = plain_fixed (place_words First) refl
-plain_place (Second after) =
-    then_text (SECOND.now ++ seconds (tenths_of after)) AFTER_FIRST.now
-    (text_then SECOND.now (seconds (tenths_of after)) refl (plain_seconds (tenths_of after))) refl
-
-pub plain_milliseconds : (t : ℕ) → Plain (milliseconds t)
-plain_milliseconds t = then_text (decimal t) (codes " ms") (plain_decimal t) refl
-
-pub plain_extreme : (x : Extreme) → Plain (extreme_words x)
-plain_extreme x =
-    let change = then_text (signed_decimal x.kmh) (codes " km/h at ") (plain_signed x.kmh) refl in
-    plain_append (signed_decimal x.kmh ++ codes " km/h at ") (milliseconds x.at) change (plain_milliseconds x.at)
-
-pub plain_before : (tenths : ℕ) → Plain (before_zero tenths)
-plain_before tenths = plain_append _ _ (plain_if (nat_eq tenths 0) [] (codes "-") plain_nil (plain_fixed (codes "-") refl)) (plain_seconds tenths)
-
-pub plain_of_axis : (a : CarAxis) (x y : List ℕ) → all_low x ≡ true → all_low y ≡ true → Plain (of_axis a x y)
-plain_of_axis Along x y low_x low_y = plain_fixed x low_x
-plain_of_axis Across x y low_x low_y = plain_fixed y low_y
-
-pub plain_greatest : (c : CrashPart) (a : CarAxis) → Plain (greatest_words c a)
-plain_greatest c a = plain_if (is_silent c a) NO_SAMPLE.now (extreme_words (extreme_of c a)) (plain_fixed NO_SAMPLE.now refl) (plain_extreme (extreme_of c a))
-
-bytes_low : (n : ℕ) (bs : List ℕ) → All (λ b. b < 256) bs → All (λ b. b < 256) (take n bs)
-bytes_low n bs h = All-take (λ b. b < 256) n bs h
+    plain_cons _ _ (hex_low (b / 16) (omega (arith, one))) (plain_cons _ _ (hex_low (b % 16) (omega arith)) (plain_digest bs (All-tail (λ b. b < 256) b bs small)))
 
 pub plain_beginning : (digest : List ℕ) → All (λ b. b < 256) digest → Plain (digest_hex (take BEGINNING digest))
-plain_beginning digest small = plain_digest (take BEGINNING digest) (bytes_low BEGINNING digest small)
+plain_beginning digest small = plain_digest (take BEGINNING digest) (All-take (λ b. b < 256) BEGINNING digest small)
 
--- what the values of templates are made of
-pub ruleset plain_values = (all_nil, all_cons, plain_decimal, plain_signed, plain_seconds, plain_place, plain_milliseconds, plain_extreme, plain_before, plain_greatest)
+-- texts and numbers
+pub ruleset words = (plain_append, plain_if, plain_nil, plain_decimal, plain_signed, plain_fixed)
+
+pub plain_place : (p : Place) → Plain (place_words p)
+plain_place First = search words
+plain_place (Second after) = search words depth 20
+
+-- what a page is made of
+pub ruleset plains = (plain_filled, plain_text, plain_counted, plain_flat_map, all_nil, all_cons, plain_place, plain_of_profile, plain_of_switch, plain_of_axis, words)
