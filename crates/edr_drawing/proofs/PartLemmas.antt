@@ -110,14 +110,16 @@ sheet_of_sheets all n (f ∷ fs) digest e among = sheet_of_found all n f.bank f.
 sheet_on_page : (reports : List Report) (found : List Found) (count size : ℕ) (digest : List ℕ) (e : ℕ × (ℕ × Record)) →
     Contains (enumerate_from 1 (found_records found)) e → Piece (sheet_of found digest e) (page_bytes reports found count size digest)
 unfolding page_bytes
-sheet_on_page reports found count size digest e among = search (pieces, sheet_of_sheets found 1 found digest e among)
+sheet_on_page reports found count size digest e among =
+    let here = sheet_of_sheets found 1 found digest e among in search pieces
 
 -- ---- lines
 
 line_of_sheet : (all : List Found) (n bank : ℕ) (r : Record) (digest : List ℕ) (l : Line) → Contains (event_lines n bank r) l → Piece (shown_row l) (sheet all n bank r digest)
 unfolding sheet elements_table
 line_of_sheet all n bank r digest l among =
-    search (pieces, piece_of_all shown_row line_row (λ x. piece_right (shown_row x) _ (shown_row x) (piece_itself (shown_row x))) (event_lines n bank r) l among) depth 20
+    let here = piece_of_all shown_row line_row (λ x. piece_right (shown_row x) _ (shown_row x) (piece_itself (shown_row x))) (event_lines n bank r) l among in
+    search pieces depth 20
 
 pub event_on_page : (reports : List Report) (found : List Found) (count size : ℕ) (digest : List ℕ) (l : Line) →
     Contains (events_lines 1 (found_records found)) l → IsInOnePiece (shown_row l) (page_bytes reports found count size digest)
@@ -128,11 +130,12 @@ event_on_page reports found count size digest l among =
 line_of_run : (reports : List Report) (retrieved : ℕ) (l : Line) → Contains (run_lines 1 reports) l → Piece (row_of l) (run_table reports retrieved)
 unfolding run_table
 line_of_run [] retrieved l (k, b, e) = absurd (omega (arith, b))
-line_of_run (r ∷ rs) retrieved l among = search (pieces, piece_of_all row_of row_of (λ x. piece_itself (row_of x)) (run_lines 1 (r ∷ rs)) l among)
+line_of_run (r ∷ rs) retrieved l among =
+    let here = piece_of_all row_of row_of (λ x. piece_itself (row_of x)) (run_lines 1 (r ∷ rs)) l among in search pieces
 
 cycle_piece : (reports : List Report) (found : List Found) (count size : ℕ) (digest : List ℕ) (l : Line) → Contains (run_lines 1 reports) l → Piece (row_of l) (page_bytes reports found count size digest)
 unfolding page_bytes cover
-cycle_piece reports found count size digest l among = search (pieces, line_of_run reports (events_in found) l among) depth 20
+cycle_piece reports found count size digest l among = let here = line_of_run reports (events_in found) l among in search pieces depth 20
 
 pub cycle_on_page : (reports : List Report) (found : List Found) (count size : ℕ) (digest : List ℕ) (l : Line) →
     Contains (run_lines 1 reports) l → IsInOnePiece (row l.name l.value) (page_bytes reports found count size digest)
@@ -151,7 +154,7 @@ slot_of_blocks : (p : PrePart) (b i : ℕ) → b < blocks_in p.profile → i < b
 unfolding block
 slot_of_blocks p b i few within =
     let here = counted_piece (λ j. slot_row p (block_slots p.profile * b + j)) (block_slots p.profile) i within in
-    piece_within _ (block p b) _ (search (pieces, here)) (counted_piece (block p) (blocks_in p.profile) b few)
+    piece_within _ (block p b) _ (search pieces) (counted_piece (block p) (blocks_in p.profile) b few)
 
 -- a slot's block, and its place in it
 slot_place : (f : Profile) (k : ℕ) → k < slots_in f → (b : ℕ) × (i : ℕ) × (b < blocks_in f) × (i < block_slots f) × (block_slots f * b + i ≡ k)
@@ -163,14 +166,14 @@ unfolding by_time
 slot_piece n p k within =
     let place = slot_place p.profile k within in
     let here = subst (λ (j : ℕ). Piece (slot_row p j) (blocks p (blocks_in p.profile))) place.4 (slot_of_blocks p place.0 place.1 place.2 place.3) in
-    search (pieces, here)
+    search pieces
 
 pub slot_of_table : (n : ℕ) (p : PrePart) → HasSlotRows p (by_time n p)
 slot_of_table n p k within = (slot_piece n p k within).piece
 
 slot_of_sheet : (all : List Found) (n bank : ℕ) (r : Record) (digest : List ℕ) (k : ℕ) → k < slots_in r.pre.profile → Piece (slot_row r.pre k) (sheet all n bank r digest)
 unfolding sheet
-slot_of_sheet all n bank r digest k within = search (pieces, slot_piece n r.pre k within) depth 20
+slot_of_sheet all n bank r digest k within = let here = slot_piece n r.pre k within in search pieces depth 20
 
 pub slots_on_page : (reports : List Report) (found : List Found) (count size : ℕ) (digest : List ℕ) → HasAllSlotRows found (page_bytes reports found count size digest)
 slots_on_page reports found count size digest e among k within =

@@ -7,19 +7,13 @@ use Rattle.edr_record.specs.declared.Extreme.{Extreme}
 use Rattle.edr_record.specs.Parts.{PrePart, CrashPart}
 use Rattle.edr_record.specs.declared.Profile.{Profile}
 use Rattle.edr_record.specs.declared.Profile.TheVariants.{Short, Long}
-use Rattle.edr_drawing.specs.declared.axes.TheConstants.{NO_SAMPLE}
 use Rattle.edr_drawing.specs.declared.axes.CarAxis.{CarAxis}
 use Rattle.edr_drawing.specs.declared.axes.CarAxis.TheVariants.{Along, Across}
-use Rattle.edr_drawing.specs.declared.after.TheConstants.{ACROSS_WORDS, ALONG_WORDS, AXIS_LINE, CENTRED, DIAMOND, END_LINE, ENDING, FAR_RIGHT, GAPPED_END, GAPPED_START, GRID, LATERAL, LEGEND, LEGEND_GAPS, LEVEL, LONGITUDINAL, MAX_ACROSS, MAX_ALONG, MAXIMUM_NUMBER, NOT_RECORDED, PAST_WINDOW, ROOM_NOT_RECORDED, SILENT_CURVE, TIME_LINES, TIMES_APART, ZERO_LINES}
-use Rattle.edr_drawing.specs.declared.before.TheConstants.{BEFORE_END, BEFORE_HEAD, BELT_NAME, BRAKE_NAME, BRAKE_Y, FIELD_HEIGHT, FIVE, HALF_SECOND, LAMP_NAME, TENTH, THROTTLE_NAME, TIME_LINE, TIMES, TWENTY, ZERO_LINE}
+use Rattle.edr_drawing.specs.declared.before.TheConstants.{BRAKE_Y, FIELD_HEIGHT}
 use Rattle.edr_drawing.specs.declared.changes.Scale.{Scale}
 use Rattle.edr_drawing.specs.declared.lanes.ChartLane.{ChartLane}
-use Rattle.edr_drawing.specs.declared.lanes.TheConstants.{GRID_LINE}
-use Rattle.edr_drawing.specs.declared.rows.TheConstants.{EMPTY_ROW, ACROSS_Y, AFTER_HEAD, ALONG_Y, CHART_END, END_OF_EVENT, END_Y, FIRED_ROW, FLAG_FAR_RIGHT, LEFT_OF_FLAG, MAX_LATERAL, MAX_LONGITUDINAL, MAX_RESULTANT, RESTRAINTS, RESULTANT_Y, RIGHT_OF_FLAG, RULE, TIMED_ROW, WITHOUT_PART}
-use Rattle.edr_drawing.specs.declared.scales.TheConstants.{RIGHT}
 use Rattle.edr_drawing.specs.declared.shapes.Shape.{Shape}
 use Rattle.edr_drawing.specs.declared.shapes.Shape.TheVariants as shape
-use Rattle.edr_drawing.specs.declared.shapes.TheConstants.{ACROSS, ALONG, BEGIN, DOT, FIELD, GAP, IN_GAP, IN_OFF, IN_ON, JOIN, MOMENT, NONE, NUMBER, OFF, ON, PATH, PATH_END, PATH_POINT, POINT, SQUARE, WORD}
 use Rattle.edr_report.specs.Words.{milliseconds}
 use Rattle.edr_drawing.specs.Axes.{extreme_of, is_silent, missing_of, of_axis}
 use Rattle.edr_drawing.specs.Template.{filled, of_profile}
@@ -108,6 +102,6 @@ plain_restraints name s row (l ∷ ls) fired e =
     plain_append _ _ (plain_restraint s row (name l) (get_or fired row None) (plain_fixed (name l) (and_parts _ _ e).0)) (plain_restraints name s (row + 1) ls fired (and_parts _ _ e).1)
 
 pub plain_after_chart : (n : ℕ) (crash : Option CrashPart) → Plain (after_chart n crash)
-unfolding after_chart after_head changes_chart past_window later_lines level levels end_line drawn_curve curve legend_gaps maximum_number maximum rows_chart event_rows extreme_row resultant_row
+unfolding after_chart changes_chart past_window later_lines level levels end_line drawn_curve curve legend_gaps maximum_number maximum rows_chart event_rows extreme_row resultant_row
 plain_after_chart n None = search plains depth 60
 plain_after_chart n (Some c) = search (plain_axis_points, plain_axis_marks, plain_restraints, plains) depth 60 fits 8000

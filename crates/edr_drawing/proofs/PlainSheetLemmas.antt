@@ -12,22 +12,11 @@ use Rattle.edr_image.specs.declared.BankView.{BankView}
 use Rattle.edr_image.specs.declared.BankView.TheVariants.{Void, Event, Damaged}
 use Rattle.edr_image.specs.declared.Found.{Found}
 use Rattle.edr_image.specs.Reports.{Report}
-use Rattle.edr_drawing.specs.declared.TheConstants.{VERSION}
 use Rattle.edr_drawing.specs.declared.axes.CarAxis.{CarAxis}
 use Rattle.edr_drawing.specs.declared.axes.CarAxis.TheVariants.{Along, Across}
-use Rattle.edr_drawing.specs.declared.axes.TheConstants.{NO_SAMPLE}
-use Rattle.edr_drawing.specs.declared.before.TheConstants.{FIVE, TWENTY}
-use Rattle.edr_drawing.specs.declared.by_time.TheConstants.{BLOCK_START, BY_TIME_END, BY_TIME_START, SLOT_ROW}
-use Rattle.edr_drawing.specs.declared.shapes.TheConstants.{NONE, OFF, ON}
-use Rattle.edr_drawing.specs.declared.cover.TheConstants.{DAMAGED_BANK, DAMAGED_START, EVENT_END, EVENT_ROW, EVENTS_START, FIRST_FOOT, FIRST_SHEET, GREATEST, NO_GREATEST, NOT_SET, SET}
-use Rattle.edr_drawing.specs.declared.long.TheConstants.{BODY, FORM, HEAD, NOTES, ON_EACH_SIDE, PAGE_END, STYLE}
-use Rattle.edr_drawing.specs.declared.reasons.TheConstants.{ACROSS_ABSENT, ALONG_ABSENT, BELT, BRAKE_ABSENT, LIST_END, PART_ABSENT, REASONS_START, SPEED_ABSENT, SWITCH_ABSENT, THROTTLE_ABSENT, WARNING_LAMP}
-use Rattle.edr_drawing.specs.declared.sheets.TheConstants.{FACTS, LONG, NO, SHEET_FOOT, SHEET_HEAD, SHORT, YES}
-use Rattle.edr_drawing.specs.declared.tables.TheConstants.{ACROSS_ROW, ALONG_ROW, CELL, ELEMENTS_END, ELEMENTS_START, POINT_TIME, POINTS_BODY, POINTS_START, ROW_END, RUN_START, SILENT_CELL, TABLE_END}
+use Rattle.edr_drawing.specs.declared.shapes.TheConstants.{NONE}
 use Rattle.edr_report.specs.declared.TheConstants.{LARGEST_SHOWN_COUNT}
 use Rattle.edr_report.specs.Words.{number_shown}
-use Rattle.edr_drawing.specs.declared.pairs.TheConstants.{ELSEWHERE, EVENT, IF_SAME_CYCLE, OR_EVENT, PLACE_END, PLACE_START, SECOND_AFTER}
-use Rattle.edr_drawing.specs.declared.template.TheConstants.{FIRST}
 use Rattle.edr_drawing.specs.Template.{digest_hex, either, filled}
 use Rattle.edr_drawing.specs.Reasons.{share_reason, switch_reason, pre_reasons, crash_reasons, reasons}
 use Rattle.edr_drawing.specs.Tables.{axis_cells, time_cell, time_cells, change_cell, change_row, points_table, elements_table, run_table}

@@ -9,12 +9,12 @@ use Rattle.edr_record.specs.Bounds.{window_from_end}
 use Rattle.edr_drawing.specs.declared.axes.CarAxis.{CarAxis}
 use Rattle.edr_drawing.specs.declared.axes.CarAxis.TheVariants.{Along, Across}
 use Rattle.edr_drawing.specs.declared.axes.TheConstants.{NO_SAMPLE}
-use Rattle.edr_drawing.specs.declared.after.TheConstants.{ACROSS_GAPS_Y, ACROSS_WORDS, ALONG_GAPS_Y, ALONG_WORDS, AXIS_LINE, CENTRED, DIAMOND, DIAMOND_UP, END_LINE, ENDING, FAR_RIGHT, GAPPED_END, GAPPED_START, GRID, LATERAL, LEGEND, LEGEND_GAPS, LEVEL, LONGITUDINAL, MAX_ACROSS, MAX_ALONG, MAXIMUM_NUMBER, NEXT_LINE, NOT_RECORDED, NUMBER_DOWN, NUMBER_UP, PAST_WINDOW, ROOM_NOT_RECORDED, SILENT_CURVE, SILENT_DOWN, SILENT_UP, TIME_LINES, TIMES_APART, ZERO_LINES}
+use Rattle.edr_drawing.specs.declared.after.TheConstants.{AXIS_NAMES, AXIS_WORDS, CENTRED_OR_ENDING, DIAMOND, DIAMOND_UP, DIAMONDS, END_LINE, FAR_RIGHT, GAPPED_END, GAPPED_START, GAPS_Y, LEGEND, LEGEND_GAPS, LEVEL, LEVEL_CLASSES, MAXIMUM_NUMBER, NEXT_LINE, NOT_RECORDED, NUMBER_DOWN, NUMBER_UP, PAST_WINDOW, ROOM_NOT_RECORDED, SILENT_CURVE, SILENT_DOWN, SILENT_UP, TIME_LINES, TIMES_APART, ZERO_LINES}
 use Rattle.edr_drawing.specs.declared.changes.Scale.{Scale}
 use Rattle.edr_drawing.specs.declared.scales.TheConstants.{BELOW_TOP, HEIGHT, RIGHT}
 use Rattle.edr_drawing.specs.declared.shapes.Shape.{Shape}
 use Rattle.edr_drawing.specs.declared.shapes.Shape.TheVariants as shape
-use Rattle.edr_drawing.specs.declared.shapes.TheConstants.{ACROSS, ALONG, PATH, PATH_END}
+use Rattle.edr_drawing.specs.declared.shapes.TheConstants.{PATH, PATH_END, PATHS}
 use Rattle.edr_drawing.specs.Template.{either, filled, fixed}
 use Rattle.edr_drawing.specs.Shapes.{path_point, shapes_bytes}
 use Rattle.edr_drawing.specs.Scales.{flat_map_below}
@@ -44,7 +44,7 @@ level_y s above = BELOW_TOP + (s.top + s.bottom - above) * HEIGHT / (s.top + s.b
 unfoldable pub level : Scale → ℕ → List ℕ
 level s above =
     filled LEVEL.now
-    (either (nat_eq above s.bottom) AXIS_LINE.now GRID.now
+    (either (nat_eq above s.bottom) LEVEL_CLASSES.0.now LEVEL_CLASSES.1.now
     ∷ decimal (level_y s above)
     ∷ decimal (level_y s above + 9)
     ∷ (if nat_lt above s.bottom then codes "-" ++ decimal (s.bottom - above) else decimal (above - s.bottom))
@@ -59,7 +59,7 @@ levels s = flat_map_below (λ i. level s (s.step * i)) ((s.top + s.bottom) / s.s
 -- the line at the end of the event, and the words where nothing is recorded, if there is room for them
 unfoldable pub end_line : Scale → ℕ → ℕ → List ℕ
 end_line s end w =
-    filled END_LINE.now (decimal (time_x s end) ∷ either (nat_lt (time_x s end) FAR_RIGHT) CENTRED.now ENDING.now ∷ [])
+    filled END_LINE.now (decimal (time_x s end) ∷ either (nat_lt (time_x s end) FAR_RIGHT) CENTRED_OR_ENDING.0.now CENTRED_OR_ENDING.1.now ∷ [])
     ++ (if nat_le (time_x s w + ROOM_NOT_RECORDED) RIGHT
     then filled NOT_RECORDED.now (decimal ((time_x s w + RIGHT) / 2) ∷ [])
     else [])
@@ -94,7 +94,7 @@ gapped c a text = if nat_eq (missing_of c a) 0 then [] else fixed text
 unfoldable pub drawn_curve : Scale → CrashPart → CarAxis → List ℕ
 drawn_curve s c a =
     gapped c a GAPPED_START.now
-    ++ filled PATH.now (of_axis a ALONG.now ACROSS.now ∷ [])
+    ++ filled PATH.now (of_axis a PATHS.0.now PATHS.1.now ∷ [])
     ++ axis_points s 0 (points_of c a)
     ++ fixed PATH_END.now
     ++ axis_marks s a 0 (points_of c a)
@@ -102,21 +102,19 @@ drawn_curve s c a =
 
 -- what stands in its place where the axis has none
 abbrev pub silent_y : Scale → CarAxis → ℕ
-silent_y s Along = change_y s (pos 0) + SILENT_DOWN
-silent_y s Across = change_y s (pos 0) - SILENT_UP
+silent_y s a = of_axis a (change_y s (pos 0) + SILENT_DOWN) (change_y s (pos 0) - SILENT_UP)
 
 abbrev pub silent_curve : Scale → CarAxis → List ℕ
 silent_curve s a =
     filled SILENT_CURVE.now
-    (decimal (silent_y s a) ∷ of_axis a ALONG_WORDS.now ACROSS_WORDS.now ∷ of_axis a LONGITUDINAL.now LATERAL.now ∷ NO_SAMPLE.now ∷ [])
+    (decimal (silent_y s a) ∷ of_axis a AXIS_WORDS.0.now AXIS_WORDS.1.now ∷ of_axis a AXIS_NAMES.0.now AXIS_NAMES.1.now ∷ NO_SAMPLE.now ∷ [])
 
 unfoldable pub curve : Scale → CrashPart → CarAxis → List ℕ
 curve s c a = if is_silent c a then silent_curve s a else drawn_curve s c a
 
 -- how many samples of an axis are lacking, if any is, in the legend
 abbrev pub gaps_y : CarAxis → ℕ
-gaps_y Along = ALONG_GAPS_Y
-gaps_y Across = ACROSS_GAPS_Y
+gaps_y a = of_axis a GAPS_Y.0 GAPS_Y.1
 
 unfoldable pub legend_gaps : CrashPart → CarAxis → List ℕ
 legend_gaps c a =
@@ -130,19 +128,18 @@ legend_gaps c a =
 -- a diamond at a greatest change
 abbrev pub diamond : Scale → CarAxis → Extreme → List ℕ
 diamond s a e =
-    filled DIAMOND.now (of_axis a MAX_ALONG.now MAX_ACROSS.now ∷ decimal (time_x s e.at) ∷ decimal (change_y s e.kmh - DIAMOND_UP) ∷ [])
+    filled DIAMOND.now (of_axis a DIAMONDS.0.now DIAMONDS.1.now ∷ decimal (time_x s e.at) ∷ decimal (change_y s e.kmh - DIAMOND_UP) ∷ [])
 
 -- its number, unless it is 0: that along stands below the diamond, that across above it
 abbrev pub number_y : Scale → CarAxis → ℤ → ℕ
-number_y s Along v = change_y s v + NUMBER_DOWN
-number_y s Across v = change_y s v - NUMBER_UP
+number_y s a v = of_axis a (change_y s v + NUMBER_DOWN) (change_y s v - NUMBER_UP)
 
 unfoldable pub maximum_number : Scale → CarAxis → Extreme → List ℕ
 maximum_number s a e =
     if int_eq e.kmh (pos 0)
     then []
     else filled MAXIMUM_NUMBER.now
-    (decimal (time_x s e.at) ∷ decimal (number_y s a e.kmh) ∷ of_axis a ALONG_WORDS.now ACROSS_WORDS.now ∷ signed_decimal e.kmh ∷ [])
+    (decimal (time_x s e.at) ∷ decimal (number_y s a e.kmh) ∷ of_axis a AXIS_WORDS.0.now AXIS_WORDS.1.now ∷ signed_decimal e.kmh ∷ [])
 
 -- the mark of the greatest change of an axis that has samples
 unfoldable pub maximum : Scale → CrashPart → CarAxis → List ℕ

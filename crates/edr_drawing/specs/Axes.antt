@@ -8,8 +8,8 @@ use Rattle.edr_drawing.specs.declared.axes.CarAxis.{CarAxis}
 use Rattle.edr_drawing.specs.declared.axes.CarAxis.TheVariants.{Along, Across}
 use Rattle.edr_drawing.specs.declared.axes.TheConstants.{NO_SAMPLE}
 
--- the text of an axis
-abbrev pub of_axis : CarAxis → List ℕ → List ℕ → List ℕ
+-- that of an axis
+abbrev pub of_axis : {A : Type 0} → CarAxis → A → A → A
 of_axis Along along across = along
 of_axis Across along across = across
 
@@ -20,13 +20,11 @@ points_of c Across = take (point_count c.end) c.across
 
 -- its greatest change of speed
 abbrev pub extreme_of : CrashPart → CarAxis → Extreme
-extreme_of c Along = c.max_along
-extreme_of c Across = c.max_across
+extreme_of c a = of_axis a c.max_along c.max_across
 
 -- how many milliseconds of the window have no sample of it
 abbrev pub missing_of : CrashPart → CarAxis → ℕ
-missing_of c Along = c.missing_along
-missing_of c Across = c.missing_across
+missing_of c a = of_axis a c.missing_along c.missing_across
 
 -- whether it has no sample at all
 abbrev pub is_silent : CrashPart → CarAxis → Bool

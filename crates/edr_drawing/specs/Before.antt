@@ -3,7 +3,7 @@ use Rattle.std.specs.Prelude.{ℕ, ◌+◌, ◌-◌, ◌*◌, max, Bool, true, f
 use Rattle.edr_record.specs.Parts.{PrePart}
 use Rattle.edr_record.specs.declared.Profile.{Profile}
 use Rattle.edr_record.specs.declared.Profile.TheVariants.{Short, Long}
-use Rattle.edr_drawing.specs.declared.before.TheConstants.{BEFORE_END, BEFORE_HEAD, BELT_NAME, BELT_Y, BRAKE_NAME, BRAKE_Y, FIELD_HEIGHT, FIVE, HALF_SECOND, LAMP_NAME, LAMP_Y, LAST_SPEED_STEP, LONG_SECOND, SHORT_SECOND, SPEED_LANE, SPEED_LINES, SPEED_STEPS, TENTH, THROTTLE_LANE, THROTTLE_NAME, TIME_LINE, TIMES, TWENTY, ZERO_LINE}
+use Rattle.edr_drawing.specs.declared.before.TheConstants.{BEFORE_END, BEFORE_HEAD, BELT_NAME, BELT_Y, BRAKE_NAME, BRAKE_Y, FIELD_HEIGHT, LAMP_NAME, LAMP_Y, LAST_SPEED_STEP, SECOND_SLOTS, SLOTS_APART, SPANS, SPEED_LANE, SPEED_LINES, SPEED_STEPS, THROTTLE_LANE, THROTTLE_NAME, TIME_LINE, TIMES, ZERO_LINE}
 use Rattle.edr_drawing.specs.declared.shapes.Shape.TheVariants as shape
 use Rattle.edr_drawing.specs.declared.lanes.ChartLane.{ChartLane}
 use Rattle.edr_drawing.specs.Template.{filled, fixed, of_profile, seconds}
@@ -75,8 +75,8 @@ brake_slots Long vs = switch_runs 0 0 None vs
 
 -- across: 1 s before time zero
 abbrev pub second_x : Profile → ℕ
-second_x Short = slot_x Short SHORT_SECOND
-second_x Long = slot_x Long LONG_SECOND
+second_x Short = slot_x Short SECOND_SLOTS.0
+second_x Long = slot_x Long SECOND_SLOTS.1
 
 abbrev pub switch_moment : Profile → ℕ → Option Bool → List ℕ
 switch_moment f y v = shapes_bytes (shape.Moment (second_x f) y v ∷ [])
@@ -85,7 +85,7 @@ switch_moment f y v = shapes_bytes (shape.Moment (second_x f) y v ∷ [])
 
 unfoldable pub before_chart : ℕ → PrePart → List ℕ
 before_chart n p =
-    filled BEFORE_HEAD.now (decimal n ∷ of_profile p.profile FIVE.now TWENTY.now ∷ of_profile p.profile HALF_SECOND.now TENTH.now ∷ [])
+    filled BEFORE_HEAD.now (decimal n ∷ of_profile p.profile SPANS.0.now SPANS.1.now ∷ of_profile p.profile SLOTS_APART.0.now SLOTS_APART.1.now ∷ [])
     ++ time_lines p.profile TIMES
     ++ filled ZERO_LINE.now (decimal (time_at TIMES) ∷ [])
     ++ drawn_lane p.profile (speed_lane p.speed) p.speed

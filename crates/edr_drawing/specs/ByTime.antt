@@ -4,10 +4,10 @@ use Rattle.edr_record.specs.declared.Profile.{Profile}
 use Rattle.edr_record.specs.declared.Profile.TheVariants.{Short, Long}
 use Rattle.edr_record.specs.declared.TheConstants.{LONG_SLOTS, SHORT_SLOTS}
 use Rattle.edr_record.specs.Parts.{PrePart}
-use Rattle.edr_drawing.specs.declared.before.TheConstants.{FIVE, TWENTY}
+use Rattle.edr_drawing.specs.declared.before.TheConstants.{SPANS}
 use Rattle.edr_drawing.specs.declared.by_time.TheConstants.{BLOCK_START, BY_TIME_END, BY_TIME_START, KILOMETRE, LONG_BLOCKS, MILE, SLOT_ROW}
-use Rattle.edr_drawing.specs.declared.shapes.TheConstants.{NONE, OFF, ON}
-use Rattle.edr_drawing.specs.declared.sheets.TheConstants as class
+use Rattle.edr_drawing.specs.declared.shapes.TheConstants.{NONE, SWITCH_WORDS}
+use Rattle.edr_drawing.specs.declared.sheets.TheConstants.{PROFILES}
 use Rattle.edr_drawing.specs.declared.tables.TheConstants.{TABLE_END}
 use Rattle.edr_drawing.specs.Template.{before_zero, filled, fixed, of_profile, of_switch}
 use Rattle.edr_drawing.specs.Scales.{flat_map_below}
@@ -44,7 +44,7 @@ slot_row p k =
     ∷ number_word (slot_at p.speed k)
     ∷ mph_word (slot_at p.speed k)
     ∷ number_word (slot_at p.throttle k)
-    ∷ of_switch (slot_at p.brake k) ON.now OFF.now NONE.now
+    ∷ of_switch (slot_at p.brake k) SWITCH_WORDS.0.now SWITCH_WORDS.1.now SWITCH_WORDS.2.now
     ∷ [])
 
 -- ---- the blocks
@@ -74,6 +74,6 @@ blocks p count = flat_map_below (block p) count
 -- the table of event n
 unfoldable pub by_time : ℕ → PrePart → List ℕ
 by_time n p =
-    filled BY_TIME_START.now (decimal n ∷ of_profile p.profile class.SHORT.now class.LONG.now ∷ of_profile p.profile FIVE.now TWENTY.now ∷ [])
+    filled BY_TIME_START.now (decimal n ∷ of_profile p.profile PROFILES.0.now PROFILES.1.now ∷ of_profile p.profile SPANS.0.now SPANS.1.now ∷ [])
     ++ blocks p (blocks_in p.profile)
     ++ fixed BY_TIME_END.now

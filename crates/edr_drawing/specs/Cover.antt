@@ -1,5 +1,5 @@
 -- The first sheet of a page.
-use Rattle.std.specs.Prelude.{ℕ, ◌+◌, if◌then◌else◌, nat_eq, Option, Some, None, List, [], ◌∷◌, ◌++◌, flat_map, decimal}
+use Rattle.std.specs.Prelude.{ℕ, ◌+◌, Bool, true, false, count_by, if◌then◌else◌, nat_eq, Option, Some, None, List, [], ◌∷◌, ◌++◌, flat_map, decimal}
 use Rattle.edr_record.specs.declared.Record.{Record}
 use Rattle.edr_record.specs.Parts.{CrashPart}
 use Rattle.edr_record.specs.Complete.{is_complete}
@@ -10,29 +10,27 @@ use Rattle.edr_image.specs.Reports.{Report}
 use Rattle.edr_report.specs.Words.{number_shown}
 use Rattle.edr_drawing.specs.declared.TheConstants.{VERSION}
 use Rattle.edr_drawing.specs.declared.axes.CarAxis.TheVariants.{Along, Across}
-use Rattle.edr_drawing.specs.declared.cover.TheConstants.{DAMAGED_BANK, DAMAGED_START, EVENT_END, EVENT_ROW, EVENTS_START, FIRST_FOOT, FIRST_SHEET, GREATEST, NO_GREATEST, NOT_SET, SET}
+use Rattle.edr_drawing.specs.declared.cover.TheConstants.{DAMAGED_BANK, DAMAGED_START, EVENT_END, EVENT_ROW, EVENTS_START, FIRST_FOOT, FIRST_SHEET, GREATEST, NO_GREATEST, SET_OR_NOT}
 use Rattle.edr_drawing.specs.declared.long.TheConstants.{FORM, NOTES}
 use Rattle.edr_drawing.specs.declared.reasons.TheConstants.{LIST_END}
-use Rattle.edr_drawing.specs.declared.sheets.TheConstants.{NO, YES}
+use Rattle.edr_drawing.specs.declared.sheets.TheConstants.{YES_NO}
 use Rattle.edr_drawing.specs.declared.tables.TheConstants.{TABLE_END}
 use Rattle.edr_drawing.specs.Template.{digest_hex, either, filled, fixed, place_words}
 use Rattle.edr_drawing.specs.Axes.{greatest_words}
-use Rattle.edr_drawing.specs.Pairs.{count_if}
+use Rattle.edr_drawing.specs.Pairs.{count_if, is_event}
 use Rattle.edr_drawing.specs.Tables.{run_table}
 
 -- how many events were found, and how many damaged banks
 abbrev pub events_in : List Found → ℕ
-events_in [] = 0
-events_in (f ∷ fs) = count_if f.view + events_in fs
+events_in found = count_by (λ f. is_event f.view) found
 
-abbrev pub is_damaged : BankView → ℕ
-is_damaged Void = 0
-is_damaged (Event r) = 0
-is_damaged (Damaged o x l) = 1
+abbrev pub is_damaged : BankView → Bool
+is_damaged Void = false
+is_damaged (Event r) = false
+is_damaged (Damaged o x l) = true
 
 abbrev pub damaged_in : List Found → ℕ
-damaged_in [] = 0
-damaged_in (f ∷ fs) = is_damaged f.view + damaged_in fs
+damaged_in found = count_by (λ f. is_damaged f.view) found
 
 -- ---- the table of events
 
@@ -50,10 +48,10 @@ event_row n bank r =
     ∷ decimal (number_shown r.pre.key.cycle)
     ∷ decimal r.pre.key.zero
     ∷ place_words r.pre.place
-    ∷ either r.locked YES.now NO.now
+    ∷ either r.locked YES_NO.0.now YES_NO.1.now
     ∷ [])
     ++ extreme_cells r.crash
-    ++ filled EVENT_END.now (either (is_complete r) YES.now NO.now ∷ [])
+    ++ filled EVENT_END.now (either (is_complete r) YES_NO.0.now YES_NO.1.now ∷ [])
 
 abbrev pub event_row_if : ℕ → ℕ → BankView → List ℕ
 event_row_if n bank Void = []
@@ -78,7 +76,7 @@ events_table found =
 abbrev pub damaged_item : ℕ → BankView → List ℕ
 damaged_item bank Void = []
 damaged_item bank (Event r) = []
-damaged_item bank (Damaged o x l) = filled DAMAGED_BANK.now (decimal bank ∷ decimal o ∷ decimal x ∷ either l SET.now NOT_SET.now ∷ [])
+damaged_item bank (Damaged o x l) = filled DAMAGED_BANK.now (decimal bank ∷ decimal o ∷ decimal x ∷ either l SET_OR_NOT.0.now SET_OR_NOT.1.now ∷ [])
 
 abbrev pub damaged_items : List Found → List ℕ
 damaged_items found = flat_map (λ f. damaged_item f.bank f.view) found

@@ -4,7 +4,7 @@ use Rattle.edr_record.specs.declared.Profile.{Profile}
 use Rattle.edr_record.specs.declared.Profile.TheVariants.{Short, Long}
 use Rattle.edr_drawing.specs.declared.shapes.Shape.{Shape}
 use Rattle.edr_drawing.specs.declared.shapes.Shape.TheVariants as shape
-use Rattle.edr_drawing.specs.declared.shapes.TheConstants.{ALONG, PATH, PATH_END}
+use Rattle.edr_drawing.specs.declared.shapes.TheConstants.{PATH, PATH_END, PATHS}
 use Rattle.edr_drawing.specs.declared.lanes.ChartLane.{ChartLane}
 use Rattle.edr_drawing.specs.declared.lanes.TheConstants.{FIELD_WIDTH, GRID_LINE, ROOM_FOR_WORD}
 use Rattle.edr_drawing.specs.Template.{filled, fixed}
@@ -83,7 +83,7 @@ cells_of Long l vs = long_cells l 0 0 vs
 
 unfoldable pub drawn_lane : Profile → ChartLane → List (Option ℕ) → List ℕ
 drawn_lane f l vs =
-    grid l ++ filled PATH.now (ALONG.now ∷ []) ++ points f l 0 false vs ++ fixed PATH_END.now ++ cells_of f l vs
+    grid l ++ filled PATH.now (PATHS.0.now ∷ []) ++ points f l 0 false vs ++ fixed PATH_END.now ++ cells_of f l vs
 
 -- what a lane keeps to: a greatest value above 0, a step, and a place within its chart
 pub record IsChartLane (l : ChartLane) : Type 0 where

@@ -14,11 +14,14 @@ use Rattle.edr_drawing.specs.declared.pairs.TheConstants.{ELSEWHERE, EVENT, IF_S
 use Rattle.edr_drawing.specs.declared.template.TheConstants.{FIRST}
 use Rattle.edr_drawing.specs.Template.{filled, fixed, seconds}
 
--- how many events a bank has: one or none
+-- a bank has an event, and so how many it has
+abbrev pub is_event : BankView → Bool
+is_event Void = false
+is_event (Event r) = true
+is_event (Damaged o x l) = false
+
 abbrev pub count_if : BankView → ℕ
-count_if Void = 0
-count_if (Event r) = 1
-count_if (Damaged o x l) = 0
+count_if view = if is_event view then 1 else 0
 
 -- ---- the first event of a pair
 

@@ -1,5 +1,5 @@
 -- Why a record isn't complete.
-use Rattle.std.specs.Prelude.{ℕ, ◌+◌, Bool, if◌then◌else◌, nat_eq, Option, Some, None, List, [], ◌∷◌, ◌++◌, decimal}
+use Rattle.std.specs.Prelude.{ℕ, Bool, count_by, is_none, if◌then◌else◌, nat_eq, Option, Some, None, List, [], ◌∷◌, ◌++◌, decimal}
 use Rattle.edr_record.specs.declared.Record.{Record}
 use Rattle.edr_record.specs.Parts.{PrePart, CrashPart}
 use Rattle.edr_record.specs.Bounds.{slots_in, window_from_end}
@@ -9,9 +9,7 @@ use Rattle.edr_drawing.specs.Template.{filled, fixed}
 
 -- how many slots are absent
 abbrev pub absent_count : {T : Type 0} → List (Option T) → ℕ
-absent_count [] = 0
-absent_count (None ∷ vs) = absent_count vs + 1
-absent_count (Some v ∷ vs) = absent_count vs
+absent_count vs = count_by is_none vs
 
 -- how many of so many samples are absent, if any is
 unfoldable pub share_reason : List ℕ → ℕ → ℕ → List ℕ

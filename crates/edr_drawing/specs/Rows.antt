@@ -6,7 +6,7 @@ use Rattle.edr_drawing.specs.declared.axes.CarAxis.{CarAxis}
 use Rattle.edr_drawing.specs.declared.axes.CarAxis.TheVariants.{Along, Across}
 use Rattle.edr_drawing.specs.declared.axes.TheConstants.{NO_SAMPLE}
 use Rattle.edr_drawing.specs.declared.changes.Scale.{Scale}
-use Rattle.edr_drawing.specs.declared.rows.TheConstants.{ACROSS_Y, AFTER_HEAD, ALONG_Y, BESIDE_FLAG, CHART_END, EMPTY_ROW, END_OF_EVENT, END_Y, FIRED_ROW, FLAG_DOWN, FLAG_FAR_RIGHT, LEFT_OF_FLAG, MAX_LATERAL, MAX_LONGITUDINAL, MAX_RESULTANT, RESTRAINTS, RESTRAINTS_Y, RESULTANT_Y, RIGHT_OF_FLAG, ROWS_END, ROW_HEIGHT, RULE, TIMED_ROW, WITHOUT_PART, WORDS_DOWN}
+use Rattle.edr_drawing.specs.declared.rows.TheConstants.{ACROSS_ROW, AFTER_HEAD, ALONG_ROW, BESIDE_CLASSES, BESIDE_FLAG, CHART_END, EMPTY_ROW, END_ROW, FIRED_ROW, FLAG_DOWN, FLAG_FAR_RIGHT, RESTRAINTS, RESTRAINTS_Y, RESULTANT_ROW, ROWS_END, ROW_HEIGHT, RULE, TIMED_ROW, WITHOUT_PART, WORDS_DOWN}
 use Rattle.edr_drawing.specs.declared.shapes.TheConstants.{NONE}
 use Rattle.edr_drawing.specs.Template.{either, filled, fixed}
 use Rattle.edr_drawing.specs.Axes.{extreme_of, greatest_words, is_silent}
@@ -28,7 +28,7 @@ timed_row template s y label t words =
     ∷ decimal (time_x s t)
     ∷ decimal (y + FLAG_DOWN)
     ∷ decimal (beside (time_x s t))
-    ∷ either (nat_lt (time_x s t) FLAG_FAR_RIGHT) RIGHT_OF_FLAG.now LEFT_OF_FLAG.now
+    ∷ either (nat_lt (time_x s t) FLAG_FAR_RIGHT) BESIDE_CLASSES.0.now BESIDE_CLASSES.1.now
     ∷ words
     ∷ [])
 
@@ -62,14 +62,14 @@ extreme_row s y label c a =
 unfoldable pub resultant_row : Scale → CrashPart → List ℕ
 resultant_row s c =
     if is_silent c Along && is_silent c Across
-    then empty_row RESULTANT_Y MAX_RESULTANT.now NO_SAMPLE.now
-    else timed_row TIMED_ROW.now s RESULTANT_Y MAX_RESULTANT.now c.result_at (milliseconds c.result_at)
+    then empty_row RESULTANT_ROW.0 RESULTANT_ROW.1.now NO_SAMPLE.now
+    else timed_row TIMED_ROW.now s RESULTANT_ROW.0 RESULTANT_ROW.1.now c.result_at (milliseconds c.result_at)
 
 unfoldable pub event_rows : Scale → CrashPart → List ℕ
 event_rows s c =
-    timed_row TIMED_ROW.now s END_Y END_OF_EVENT.now c.end (milliseconds c.end)
-    ++ extreme_row s ALONG_Y MAX_LONGITUDINAL.now c Along
-    ++ extreme_row s ACROSS_Y MAX_LATERAL.now c Across
+    timed_row TIMED_ROW.now s END_ROW.0 END_ROW.1.now c.end (milliseconds c.end)
+    ++ extreme_row s ALONG_ROW.0 ALONG_ROW.1.now c Along
+    ++ extreme_row s ACROSS_ROW.0 ACROSS_ROW.1.now c Across
     ++ resultant_row s c
 
 -- ---- the whole chart
@@ -78,10 +78,10 @@ abbrev pub rule : ℕ → List ℕ
 rule y = filled RULE.now (decimal y ∷ [])
 
 unfoldable pub rows_chart : Scale → CrashPart → List ℕ
-rows_chart s c = rule END_Y ++ event_rows s c ++ rule RESTRAINTS_Y ++ restraint_rows (λ l. l.now) s 0 RESTRAINTS c.fired ++ rule ROWS_END ++ fixed CHART_END.now
+rows_chart s c = rule END_ROW.0 ++ event_rows s c ++ rule RESTRAINTS_Y ++ restraint_rows (λ l. l.now) s 0 RESTRAINTS c.fired ++ rule ROWS_END ++ fixed CHART_END.now
 
 -- the title and the description of the chart of event n
-unfoldable pub after_head : ℕ → CrashPart → List ℕ
+abbrev pub after_head : ℕ → CrashPart → List ℕ
 after_head n c = filled AFTER_HEAD.now (decimal n ∷ greatest_words c Along ∷ greatest_words c Across ∷ decimal c.end ∷ [])
 
 -- the chart, or what stands in its place where nothing after time zero is recorded

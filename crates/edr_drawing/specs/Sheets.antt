@@ -8,7 +8,7 @@ use Rattle.edr_image.specs.declared.BankView.{BankView}
 use Rattle.edr_image.specs.declared.BankView.TheVariants.{Void, Event, Damaged}
 use Rattle.edr_image.specs.declared.Found.{Found}
 use Rattle.edr_report.specs.Words.{number_shown}
-use Rattle.edr_drawing.specs.declared.sheets.TheConstants.{FACTS, LONG, NO, SHEET_FOOT, SHEET_HEAD, SHORT, YES}
+use Rattle.edr_drawing.specs.declared.sheets.TheConstants.{FACTS, PROFILES, SHEET_FOOT, SHEET_HEAD, YES_NO}
 use Rattle.edr_drawing.specs.Template.{digest_hex, either, filled, of_profile}
 use Rattle.edr_drawing.specs.Pairs.{count_if, place_fact}
 use Rattle.edr_drawing.specs.Reasons.{reasons}
@@ -24,8 +24,8 @@ facts bank key locked profile =
     (decimal (number_shown key.cycle)
     ∷ decimal key.zero
     ∷ decimal bank
-    ∷ either locked YES.now NO.now
-    ∷ of_profile profile SHORT.now LONG.now
+    ∷ either locked YES_NO.0.now YES_NO.1.now
+    ∷ of_profile profile PROFILES.0.now PROFILES.1.now
     ∷ [])
 
 -- ---- the whole sheet
@@ -33,7 +33,7 @@ facts bank key locked profile =
 -- the sheet of event n of those that were found, which this bank holds
 unfoldable pub sheet : List Found → ℕ → ℕ → Record → List ℕ → List ℕ
 sheet found n bank r digest =
-    filled SHEET_HEAD.now (decimal n ∷ either (is_complete r) YES.now NO.now ∷ [])
+    filled SHEET_HEAD.now (decimal n ∷ either (is_complete r) YES_NO.0.now YES_NO.1.now ∷ [])
     ++ facts bank r.pre.key r.locked r.pre.profile
     ++ place_fact found r.pre.key r.pre.place
     ++ reasons r

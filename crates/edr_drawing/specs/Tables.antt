@@ -1,5 +1,5 @@
 -- The tables of a page.
-use Rattle.std.specs.Prelude.{ℕ, ◌+◌, ◌-◌, ◌*◌, min, ℤ, Bool, true, false, ◌||◌, if◌then◌else◌, nat_eq, Option, Some, None, List, [], ◌∷◌, ◌++◌, flat_map, decimal}
+use Rattle.std.specs.Prelude.{ℕ, ◌+◌, ◌-◌, ◌*◌, min, ℤ, Bool, true, false, count_by, ◌||◌, if◌then◌else◌, nat_eq, Option, Some, None, List, [], ◌∷◌, ◌++◌, flat_map, decimal}
 use Rattle.std.specs.Cmp.Lexicographic.{pointwise}
 use Rattle.std.specs.Fmt.{signed_decimal}
 use Rattle.edr_record.specs.declared.Record.{Record}
@@ -104,8 +104,7 @@ is_take (Done b) = false
 is_take NotKept = false
 
 abbrev pub taken_by : List Ack → ℕ
-taken_by [] = 0
-taken_by (a ∷ log) = (if is_take a.applied then 1 else 0) + taken_by log
+taken_by log = count_by (λ a. is_take a.applied) log
 
 abbrev pub taken_of : Report → ℕ
 taken_of (StartStopped j) = 0

@@ -12,16 +12,16 @@ use Rattle.edr_drawing.specs.declared.template.TheConstants.{AFTER_FIRST, BEGINN
 
 -- ---- words
 
--- one of two texts
+-- one of two
 abbrev pub either : Bool → List ℕ → List ℕ → List ℕ
 either is_so x y = if is_so then x else y
 
--- the text of a profile
+-- that of a profile
 abbrev pub of_profile : Profile → List ℕ → List ℕ → List ℕ
 of_profile Short short long = short
 of_profile Long short long = long
 
--- the text of what a switch is
+-- that of what a switch is
 abbrev pub of_switch : Option Bool → List ℕ → List ℕ → List ℕ → List ℕ
 of_switch (Some true) on off none = on
 of_switch (Some false) on off none = off

@@ -3,12 +3,14 @@
 ghost use Rattle.std.specs.Prelude.{◌≡◌, ◌++◌, ◌≤◌, ◌<◌, ◌+◌, ◌-◌, ◌*◌, ◌/◌, OnOk, length};
 ghost use Rattle.edr_record.specs.declared.TheConstants.{POINTS};
 ghost use Rattle.edr_drawing.specs.Changes.{IsScale};
-ghost use Rattle.edr_drawing.specs.After.{axis_marks, axis_points, changes_chart, curve, diamond, drawn_curve, end_line, gapped, legend_gaps, level, levels, mark_at, maximum, maximum_number, past_window, silent_curve, time_lines};
+ghost use Rattle.edr_drawing.specs.After.{axis_marks, axis_points, changes_chart, curve, drawn_curve, end_line, gapped, legend_gaps, level, levels, mark_at, maximum, maximum_number, past_window, silent_curve, time_lines};
 
-use crate::axes::{CarAxis, NO_SAMPLE, extreme_of, is_silent, missing_of, of_axis, points_of};
+use crate::axes::{
+    CarAxis, NO_SAMPLE, extreme_of, is_silent, missing_of, of_axis, points_of, text_of_axis,
+};
 use crate::changes::Scale;
 use crate::scales::{BELOW_TOP, HEIGHT, RIGHT};
-use crate::shapes::{ACROSS, ALONG, PATH, PATH_END, Shape, draw, put_point};
+use crate::shapes::{PATH, PATH_END, PATHS, Shape, draw, put_point};
 use crate::template::Filling::{Below, Change, Number, Text};
 use crate::template::{Drawn, either, fill, put};
 use edr_record::{Crash, Extreme, POINT_STEP, window_from_end};
@@ -56,9 +58,7 @@ pub const LEGEND_GAPS: &[u8] = br#"<text x="0" y="{0}" class="s b">{1} of {2} ms
 <text x="0" y="{3}" class="s b">without sample</text>
 "#;
 
-pub const ALONG_GAPS_Y: u32 = 286;
-
-pub const ACROSS_GAPS_Y: u32 = 406;
+pub const GAPS_Y: (u32, u32) = (286, 406);
 
 pub const NEXT_LINE: u32 = 28;
 
@@ -76,32 +76,25 @@ pub const SILENT_UP: u32 = 12;
 
 pub const SILENT_DOWN: u32 = 32;
 
-pub const LONGITUDINAL: &[u8] = b"longitudinal";
-
-pub const LATERAL: &[u8] = b"lateral";
+pub const AXIS_NAMES: (&[u8], &[u8]) = (b"longitudinal", b"lateral");
 
 /// The classes of the words of the two axes.
-pub const ALONG_WORDS: &[u8] = b"n1";
-
-pub const ACROSS_WORDS: &[u8] = b"n2";
+pub const AXIS_WORDS: (&[u8], &[u8]) = (b"n1", b"n2");
 
 /// The line of a change of speed, with its number.
 pub const LEVEL: &[u8] = br#"<path class="{0}" d="M330 {1}L1830 {1}"/>
 <text x="316" y="{2}" class="e s">{3}</text>
 "#;
 
-pub const AXIS_LINE: &[u8] = b"axis";
-
-pub const GRID: &[u8] = b"grid";
+/// The class of the line at 0, and that of others.
+pub const LEVEL_CLASSES: (&[u8], &[u8]) = (b"axis", b"grid");
 
 /// The line at the end of the event, with its name, which stands left of the line far to the right.
 pub const END_LINE: &[u8] = br#"<path class="end" d="M{0} 40L{0} 490"/>
 <text x="{0}" y="28" class="{1}">end of event</text>
 "#;
 
-pub const CENTRED: &[u8] = b"c";
-
-pub const ENDING: &[u8] = b"e";
+pub const CENTRED_OR_ENDING: (&[u8], &[u8]) = (b"c", b"e");
 
 pub const FAR_RIGHT: u32 = 1_700;
 
@@ -115,9 +108,7 @@ pub const ROOM_NOT_RECORDED: u32 = 200;
 pub const DIAMOND: &[u8] = br#"<path class="{0}" d="M{1} {2}l15 15l-15 15l-15 -15z"/>
 "#;
 
-pub const MAX_ALONG: &[u8] = b"d1";
-
-pub const MAX_ACROSS: &[u8] = b"d2";
+pub const DIAMONDS: (&[u8], &[u8]) = (b"d1", b"d2");
 
 /// How far above its middle a diamond begins.
 pub const DIAMOND_UP: u32 = 15;
@@ -174,7 +165,7 @@ fn draw_level(out: &mut Vec<u8>, scale: &Scale, above: u32) -> Drawn
 {
     let Scale { top, bottom, .. } = *scale;
     let y = BELOW_TOP + (top + bottom).saturating_sub(above) * HEIGHT / (top + bottom);
-    let class = Text(either(above == bottom, AXIS_LINE, GRID));
+    let class = Text(either(above == bottom, LEVEL_CLASSES));
     let number = if above < bottom {
         Below(bottom - above)
     } else {
@@ -203,7 +194,7 @@ fn draw_end(out: &mut Vec<u8>, scale: &Scale, end: u16, window: u16) -> Drawn
 {
     let x = scale.x(end);
     let past = scale.x(window);
-    let class = Text(either(x < FAR_RIGHT, CENTRED, ENDING));
+    let class = Text(either(x < FAR_RIGHT, CENTRED_OR_ENDING));
     fill(out, END_LINE, &[Number(x), class])?;
     if past + ROOM_NOT_RECORDED <= RIGHT {
         fill(out, NOT_RECORDED, &[Number((past + RIGHT) / 2)])
@@ -221,10 +212,7 @@ fn draw_legend_gaps(out: &mut Vec<u8>, crash: &Crash, axis: CarAxis) -> Drawn
     if missing == 0 {
         return Ok(());
     }
-    let y = match axis {
-        CarAxis::Along => ALONG_GAPS_Y,
-        CarAxis::Across => ACROSS_GAPS_Y,
-    };
+    let y = of_axis(axis, GAPS_Y);
     let window = Number(u32::from(window_from_end(crash.end)));
     let missing = Number(u32::from(missing));
     fill(
@@ -285,17 +273,10 @@ fn draw_silent(out: &mut Vec<u8>, scale: &Scale, axis: CarAxis) -> Drawn
     ensures { OnOk result (out.new.items ≡ out.old.items ++ silent_curve scale.now axis) }
 {
     let zero = scale.y(0);
-    let y = match axis {
-        CarAxis::Along => zero + SILENT_DOWN,
-        CarAxis::Across => zero - SILENT_UP,
-    };
-    let class = Text(of_axis(axis, ALONG_WORDS, ACROSS_WORDS));
-    let name = Text(of_axis(axis, LONGITUDINAL, LATERAL));
-    fill(
-        out,
-        SILENT_CURVE,
-        &[Number(y), class, name, Text(NO_SAMPLE)],
-    )
+    let y = Number(of_axis(axis, (zero + SILENT_DOWN, zero - SILENT_UP)));
+    let class = Text(text_of_axis(axis, AXIS_WORDS));
+    let name = Text(text_of_axis(axis, AXIS_NAMES));
+    fill(out, SILENT_CURVE, &[y, class, name, Text(NO_SAMPLE)])
 }
 
 // Draws the curve of an axis, with a mark at each point.
@@ -306,7 +287,7 @@ fn draw_samples(out: &mut Vec<u8>, scale: &Scale, crash: &Crash, axis: CarAxis) 
 {
     let points = points_of(crash, axis);
     put_gapped(out, crash, axis, GAPPED_START)?;
-    fill(out, PATH, &[Text(of_axis(axis, ALONG, ACROSS))])?;
+    fill(out, PATH, &[Text(text_of_axis(axis, PATHS))])?;
     put_points(out, scale, points)?;
     put(out, PATH_END)?;
     draw_marks(out, scale, axis, points)?;
@@ -336,24 +317,14 @@ fn draw_number(out: &mut Vec<u8>, scale: &Scale, axis: CarAxis, extreme: Extreme
     if kmh == 0 {
         return Ok(());
     }
-    let y = match axis {
-        CarAxis::Along => scale.y(kmh) + NUMBER_DOWN,
-        CarAxis::Across => scale.y(kmh) - NUMBER_UP,
-    };
-    let class = Text(of_axis(axis, ALONG_WORDS, ACROSS_WORDS));
-    let x = Number(scale.x(at));
-    fill(out, MAXIMUM_NUMBER, &[x, Number(y), class, Change(kmh)])
-}
-
-// Draws a diamond at a greatest change.
-fn draw_diamond(out: &mut Vec<u8>, scale: &Scale, axis: CarAxis, extreme: Extreme) -> Drawn
-    requires { IsScale scale.now }
-    ensures { OnOk result (out.new.items ≡ out.old.items ++ diamond scale.now axis extreme) }
-{
-    let class = Text(of_axis(axis, MAX_ALONG, MAX_ACROSS));
-    let x = Number(scale.x(extreme.at));
-    let y = Number(scale.y(extreme.kmh) - DIAMOND_UP);
-    fill(out, DIAMOND, &[class, x, y])
+    let y = scale.y(kmh);
+    let y = Number(of_axis(axis, (y + NUMBER_DOWN, y - NUMBER_UP)));
+    let class = Text(text_of_axis(axis, AXIS_WORDS));
+    fill(
+        out,
+        MAXIMUM_NUMBER,
+        &[Number(scale.x(at)), y, class, Change(kmh)],
+    )
 }
 
 // Draws a diamond at the greatest change of an axis, with its number, unless it has no sample.
@@ -366,7 +337,13 @@ fn draw_maximum(out: &mut Vec<u8>, scale: &Scale, crash: &Crash, axis: CarAxis) 
         return Ok(());
     }
     let extreme = extreme_of(crash, axis);
-    draw_diamond(out, scale, axis, extreme)?;
+    let class = Text(text_of_axis(axis, DIAMONDS));
+    let y = scale.y(extreme.kmh) - DIAMOND_UP;
+    fill(
+        out,
+        DIAMOND,
+        &[class, Number(scale.x(extreme.at)), Number(y)],
+    )?;
     draw_number(out, scale, axis, extreme)
 }
 

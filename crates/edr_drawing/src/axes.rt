@@ -18,13 +18,23 @@ pub enum CarAxis {
     Across,
 }
 
-/// The text of an axis.
-pub fn of_axis(axis: CarAxis, along: &'static [u8], across: &'static [u8]) -> &'static [u8]
-    ensures { result.now ≡ of_axis axis along.now across.now }
+/// The text of an axis: the first of two for that along the car, the second for that across it.
+pub fn text_of_axis(axis: CarAxis, pair: (&'static [u8], &'static [u8])) -> &'static [u8]
+    ensures { result.now ≡ of_axis axis pair.entry.0.now pair.entry.1.now }
 {
     match axis {
-        CarAxis::Along => along,
-        CarAxis::Across => across,
+        CarAxis::Along => pair.0,
+        CarAxis::Across => pair.1,
+    }
+}
+
+/// The first of two for the axis along the car, the second for that across it.
+pub fn of_axis<T: Copy>(axis: CarAxis, pair: (T, T)) -> T
+    ensures { result ≡ of_axis axis pair.0 pair.1 }
+{
+    match axis {
+        CarAxis::Along => pair.0,
+        CarAxis::Across => pair.1,
     }
 }
 
@@ -44,20 +54,14 @@ pub fn points_of(crash: &Crash, axis: CarAxis) -> &[i16]
 pub fn extreme_of(crash: &Crash, axis: CarAxis) -> Extreme
     ensures { result ≡ extreme_of crash.now axis }
 {
-    match axis {
-        CarAxis::Along => crash.max_along,
-        CarAxis::Across => crash.max_across,
-    }
+    of_axis(axis, (crash.max_along, crash.max_across))
 }
 
 /// How many milliseconds of its window have no sample of an axis.
 pub fn missing_of(crash: &Crash, axis: CarAxis) -> u16
     ensures { result ≡ missing_of crash.now axis }
 {
-    match axis {
-        CarAxis::Along => crash.missing_along,
-        CarAxis::Across => crash.missing_across,
-    }
+    of_axis(axis, (crash.missing_along, crash.missing_across))
 }
 
 /// Whether an axis has no sample at all.

@@ -23,13 +23,10 @@ pub const BEFORE_HEAD: &[u8] =
 <rect x="330" y="36" width="1500" height="454" class="plot"/>
 "#;
 
-pub const FIVE: &[u8] = b"five";
+/// How many seconds a short profile has and a long one, and how far apart their slots are.
+pub const SPANS: (&[u8], &[u8]) = (b"five", b"twenty");
 
-pub const TWENTY: &[u8] = b"twenty";
-
-pub const HALF_SECOND: &[u8] = b"half second";
-
-pub const TENTH: &[u8] = b"tenth of a second";
+pub const SLOTS_APART: (&[u8], &[u8]) = (b"half second", b"tenth of a second");
 
 /// The line of a time, with how long before time zero it is.
 pub const TIME_LINE: &[u8] = br#"<path class="grid" d="M{0} 36L{0} 490"/>
@@ -104,10 +101,8 @@ pub const LAMP_Y: u16 = 453;
 
 pub const FIELD_HEIGHT: u32 = 34;
 
-/// The slots that lie 1 s before time zero.
-pub const SHORT_SECOND: u32 = 8;
-
-pub const LONG_SECOND: u32 = 190;
+/// The slots of a short profile and of a long one that lie 1 s before time zero.
+pub const SECOND_SLOTS: (u32, u32) = (8, 190);
 
 // The greatest value that is there, or 0.
 fn greatest(slots: &[Option<u16>]) -> u16
@@ -252,8 +247,8 @@ fn second_x(profile: Profile) -> u32
     ensures range { (400 ≤ result) × (result ≤ 30_000) }
 {
     match profile {
-        Profile::Short => slot_x(profile, SHORT_SECOND),
-        Profile::Long => slot_x(profile, LONG_SECOND),
+        Profile::Short => slot_x(profile, SECOND_SLOTS.0),
+        Profile::Long => slot_x(profile, SECOND_SLOTS.1),
     }
 }
 
@@ -265,8 +260,8 @@ pub fn draw_before(out: &mut Vec<u8>, number: u64, pre: &Pre) -> Drawn
     let (belt, lamp) = (pre.belt, pre.lamp);
     let profile = pre.profile();
     let speed = pre.speed();
-    let span = Text(of_profile(profile, FIVE, TWENTY));
-    let apart = Text(of_profile(profile, HALF_SECOND, TENTH));
+    let span = Text(of_profile(profile, SPANS));
+    let apart = Text(of_profile(profile, SLOTS_APART));
     let x = second_x(profile);
     fill(out, BEFORE_HEAD, &[Count(number), span, apart])?;
     draw_times(out, profile)?;

@@ -4,9 +4,9 @@ ghost use Rattle.std.specs.Prelude.{◌≡◌, ◌++◌, ◌≤◌, ◌<◌, ◌
 ghost use Rattle.edr_drawing.specs.Template.{filling_bytes};
 ghost use Rattle.edr_drawing.specs.ByTime.{block, block_slots, blocks, blocks_in, by_time, mph, mph_word, number_word, slot_at, slot_row, slot_rows, slot_tenths};
 
-use crate::before::{FIVE, TWENTY, wide};
-use crate::shapes::{NONE, OFF, ON};
-use crate::sheets::{LONG, SHORT};
+use crate::before::{SPANS, wide};
+use crate::shapes::{NONE, SWITCH_WORDS};
+use crate::sheets::PROFILES;
 use crate::tables::TABLE_END;
 use crate::template::Filling::{Before, Count, Number, Text};
 use crate::template::{Drawn, Filling, fill, of_profile, of_switch, put};
@@ -112,7 +112,7 @@ fn put_slot(out: &mut Vec<u8>, pre: &Pre, k: u32) -> Drawn
 {
     let speed = slot_at(pre.speed(), k);
     let throttle = wide(slot_at(pre.throttle(), k));
-    let brake = Text(of_switch(slot_at(pre.brake(), k), ON, OFF, NONE));
+    let brake = Text(of_switch(slot_at(pre.brake(), k), SWITCH_WORDS));
     let time = Before(u64::from(slot_tenths(pre.profile(), k)));
     let (kmh, miles) = (number_word(speed), mph_word(speed));
     fill(
@@ -162,8 +162,8 @@ pub fn put_by_time(out: &mut Vec<u8>, number: u64, pre: &Pre) -> Drawn
     ensures { OnOk result (out.new.items ≡ out.old.items ++ by_time number pre.now) }
 {
     let profile = pre.profile();
-    let class = Text(of_profile(profile, SHORT, LONG));
-    let span = Text(of_profile(profile, FIVE, TWENTY));
+    let class = Text(of_profile(profile, PROFILES));
+    let span = Text(of_profile(profile, SPANS));
     fill(out, BY_TIME_START, &[Count(number), class, span])?;
     put_blocks(out, pre, blocks_in(profile))?;
     put(out, BY_TIME_END)

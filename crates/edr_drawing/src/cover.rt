@@ -7,9 +7,9 @@ ghost use Rattle.edr_drawing.specs.Cover.{events_in, damaged_in, is_damaged, ext
 use crate::VERSION;
 use crate::axes::{CarAxis, greatest};
 use crate::long::{FORM, NOTES};
-use crate::pairs::count_if;
+use crate::pairs::is_event;
 use crate::reasons::LIST_END;
-use crate::sheets::{NO, YES};
+use crate::sheets::YES_NO;
 use crate::tables::{TABLE_END, put_run};
 use crate::template::Filling::{Count, Digest, Number, Place, Text};
 use crate::template::{Drawn, either, fill, put};
@@ -48,9 +48,7 @@ pub const DAMAGED_BANK: &[u8] =
     br#"<li>Bank {0}: byte {1} holds {2}, with which the bank can hold no record. Its mark of a locked record is {3}.</li>
 "#;
 
-pub const SET: &[u8] = b"set";
-
-pub const NOT_SET: &[u8] = b"not set";
+pub const SET_OR_NOT: (&[u8], &[u8]) = (b"set", b"not set");
 
 pub const FIRST_FOOT: &[u8] =
     br#"<p class="foot">Made by edr_picture {2} from a report of {0} bytes, SHA-256 <code>{1}</code></p>
@@ -61,20 +59,15 @@ pub const FIRST_FOOT: &[u8] =
 fn events_in(found: &[Found]) -> u64
     ensures { result ≡ events_in found.now }
 {
-    let mut count = 0;
-    for bank in found {
-        count += count_if(&bank.view);
-    }
-    count
+    found.iter().filter(|bank| is_event(&bank.view)).count() as u64
 }
 
-fn is_damaged(view: &BankView) -> u64
-    ensures count { result ≡ is_damaged view.now }
-    ensures range { result ≤ 1 }
+fn is_damaged(view: &BankView) -> bool
+    ensures { result ≡ is_damaged view.now }
 {
     match view {
-        BankView::Damaged { .. } => 1,
-        _ => 0,
+        BankView::Damaged { .. } => true,
+        _ => false,
     }
 }
 
@@ -82,11 +75,7 @@ fn is_damaged(view: &BankView) -> u64
 fn damaged_in(found: &[Found]) -> u64
     ensures { result ≡ damaged_in found.now }
 {
-    let mut count = 0;
-    for bank in found {
-        count += is_damaged(&bank.view);
-    }
-    count
+    found.iter().filter(|bank| is_damaged(&bank.view)).count() as u64
 }
 
 // Appends the cells of the greatest changes, or that there are none.
@@ -115,11 +104,11 @@ fn put_event_row(out: &mut Vec<u8>, number: u64, bank: u8, event: &Record) -> Dr
         Number(number_shown(event.pre.key.cycle)),
         Number(event.pre.key.zero),
         Place(event.pre.place),
-        Text(either(event.locked, YES, NO)),
+        Text(either(event.locked, YES_NO)),
     ];
     fill(out, EVENT_ROW, &cells)?;
     put_extremes(out, &event.crash)?;
-    fill(out, EVENT_END, &[Text(either(event.complete(), YES, NO))])
+    fill(out, EVENT_END, &[Text(either(event.complete(), YES_NO))])
 }
 
 fn put_event_row_if(out: &mut Vec<u8>, number: u64, found: &Found) -> Drawn
@@ -137,7 +126,7 @@ fn put_event_rows(out: &mut Vec<u8>, found: &[Found]) -> Drawn
     let mut number = 1;
     for bank in found {
         put_event_row_if(out, number, bank)?;
-        number += count_if(&bank.view);
+        number += u64::from(is_event(&bank.view));
     }
     Ok(())
 }
@@ -167,7 +156,7 @@ fn put_damaged_item(out: &mut Vec<u8>, bank: &Found) -> Drawn
         } => {
             let bank = Number(u32::from(bank.bank));
             let (offset, found) = (Number(u32::from(offset)), Number(u32::from(found)));
-            let mark = Text(either(locked, SET, NOT_SET));
+            let mark = Text(either(locked, SET_OR_NOT));
             fill(out, DAMAGED_BANK, &[bank, offset, found, mark])
         }
         _ => Ok(()),

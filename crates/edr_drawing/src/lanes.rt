@@ -4,10 +4,10 @@ ghost use Rattle.std.specs.Prelude.{◌≡◌, ◌++◌, ◌≤◌, ◌<◌, ◌
 ghost use Rattle.edr_record.specs.declared.TheConstants.{LONG_SLOTS, SHORT_SLOTS};
 ghost use Rattle.edr_record.specs.Bounds.{slots_in};
 ghost use Rattle.edr_drawing.specs.Shapes.{shapes_bytes};
-ghost use Rattle.edr_drawing.specs.Lanes.{IsChartLane, cell, cells, cells_of, drawn_lane, field_shapes, gap, grid, grid_line, lane_y, long_cells, points, run_shapes};
+ghost use Rattle.edr_drawing.specs.Lanes.{IsChartLane, cell, cells, cells_of, drawn_lane, field_shapes, gap, grid, lane_y, long_cells, points, run_shapes};
 
 use crate::scales::slot_x;
-use crate::shapes::{ALONG, PATH, PATH_END, Shape, draw, put_point};
+use crate::shapes::{PATH, PATH_END, PATHS, Shape, draw, put_point};
 use crate::template::Filling::{Number, Text};
 use crate::template::{Drawn, fill, put};
 use edr_record::Profile;
@@ -44,23 +44,15 @@ fn lane_y(lane: &ChartLane, value: u32) -> u32
     lane.foot.saturating_sub(value * lane.rise / lane.top)
 }
 
-// Draws the line of a value.
-fn draw_line(out: &mut Vec<u8>, lane: &ChartLane, value: u32) -> Drawn
-    requires lane { IsChartLane lane.now }
-    requires value { value ≤ 100_000 }
-    ensures { OnOk result (out.new.items ≡ out.old.items ++ grid_line lane.now value) }
-{
-    let y = lane_y(lane, value);
-    fill(out, GRID_LINE, &[Number(y), Number(y + 9), Number(value)])
-}
-
 // Draws a line at each step.
 fn draw_grid(out: &mut Vec<u8>, lane: &ChartLane) -> Drawn
     requires { IsChartLane lane.now }
     ensures { OnOk result (out.new.items ≡ out.old.items ++ grid lane.now) }
 {
     for i in 0..lane.top / lane.step + 1 {
-        draw_line(out, lane, lane.step * i)?;
+        let value = lane.step * i;
+        let y = lane_y(lane, value);
+        fill(out, GRID_LINE, &[Number(y), Number(y + 9), Number(value)])?;
     }
     Ok(())
 }
@@ -223,7 +215,7 @@ pub fn draw_lane(
     ensures { OnOk result (out.new.items ≡ out.old.items ++ drawn_lane profile lane.now slots.now) }
 {
     draw_grid(out, lane)?;
-    fill(out, PATH, &[Text(ALONG)])?;
+    fill(out, PATH, &[Text(PATHS.0)])?;
     put_points(out, profile, lane, slots)?;
     put(out, PATH_END)?;
     draw_cells(out, profile, lane, slots)

@@ -1,7 +1,7 @@
 //! Of which events of a report a second event may be the second.
 
 ghost use Rattle.std.specs.Prelude.{◌≡◌, ◌++◌, ◌≤◌, IfOk, OnOk, flat_map};
-ghost use Rattle.edr_drawing.specs.Pairs.{count_if, firsts, firsts_words, is_first, is_first_if, is_first_of, is_so_long_before, or_event, place_fact, place_told};
+ghost use Rattle.edr_drawing.specs.Pairs.{firsts, firsts_words, is_event, is_first, is_first_if, is_first_of, is_so_long_before, or_event, place_fact, place_told};
 
 use crate::template::Filling::{Count, Seconds};
 use crate::template::{Drawn, FIRST, fill, put};
@@ -27,14 +27,13 @@ pub const ELSEWHERE: &[u8] = b"an event that isn't in this report";
 pub const IF_SAME_CYCLE: &[u8] =
     b", if that is of the same ignition cycle: their counts stop at 60000";
 
-/// How many events a bank has: one or none.
-pub fn count_if(view: &BankView) -> u64
-    ensures count { result ≡ count_if view.now }
-    ensures range { result ≤ 1 }
+/// Whether a bank has an event.
+pub fn is_event(view: &BankView) -> bool
+    ensures { result ≡ is_event view.now }
 {
     match view {
-        BankView::Event(_) => 1,
-        _ => 0,
+        BankView::Event(_) => true,
+        _ => false,
     }
 }
 
@@ -83,7 +82,7 @@ fn firsts(alloc: Global, key: Key, after: u32, found: &[Found]) -> Result<Vec<u6
         if is_first_if(key, after, &bank.view) {
             numbers.push(number)?;
         }
-        number += count_if(&bank.view);
+        number += u64::from(is_event(&bank.view));
     }
     Ok(numbers)
 }

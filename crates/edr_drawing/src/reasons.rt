@@ -43,13 +43,7 @@ fn absent_count<T>(slots: &[Option<T>]) -> u32
     requires { length slots.now ≤ LONG_SLOTS }
     ensures { result ≡ absent_count slots.now }
 {
-    let mut absent = 0;
-    for slot in slots {
-        if slot.is_none() {
-            absent += 1;
-        }
-    }
-    absent
+    slots.iter().filter(|slot| slot.is_none()).count() as u32
 }
 
 // How many slots a list of this profile has.

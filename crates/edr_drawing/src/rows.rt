@@ -2,7 +2,7 @@
 
 ghost use Rattle.std.specs.Prelude.{◌≡◌, ◌++◌, ◌≤◌, OnOk};
 ghost use Rattle.edr_drawing.specs.Template.{filling_bytes};
-ghost use Rattle.edr_drawing.specs.Rows.{after_chart, after_head, beside, empty_row, event_rows, extreme_row, restraint_row, restraint_rows, resultant_row, rows_chart, rule, timed_row};
+ghost use Rattle.edr_drawing.specs.Rows.{after_chart, beside, empty_row, event_rows, extreme_row, restraint_row, restraint_rows, resultant_row, rows_chart, timed_row};
 
 use crate::after::draw_changes;
 use crate::axes::{CarAxis, NO_SAMPLE, extreme_of, greatest, is_silent};
@@ -54,9 +54,7 @@ pub const EMPTY_ROW: &[u8] = br#"<text x="0" y="{0}" class="g">{1}</text>
 "#;
 
 /// Words stand right of a flag, and left of one far to the right, where their class says that they end there.
-pub const RIGHT_OF_FLAG: &[u8] = b"";
-
-pub const LEFT_OF_FLAG: &[u8] = b" e";
+pub const BESIDE_CLASSES: (&[u8], &[u8]) = (b"", b" e");
 
 pub const FLAG_FAR_RIGHT: u32 = 1_200;
 
@@ -67,28 +65,20 @@ pub const WORDS_DOWN: u32 = 25;
 
 pub const FLAG_DOWN: u32 = 28;
 
-/// The tops of the rows of the event, and of those of the restraints.
-pub const END_Y: u32 = 536;
+/// The rows of the event, each by its top and its name, and the top of those of the restraints.
+pub const END_ROW: (u32, &[u8]) = (536, b"End of event");
 
-pub const ALONG_Y: u32 = 569;
+pub const ALONG_ROW: (u32, &[u8]) = (569, b"Max. longitudinal");
 
-pub const ACROSS_Y: u32 = 602;
+pub const ACROSS_ROW: (u32, &[u8]) = (602, b"Max. lateral");
 
-pub const RESULTANT_Y: u32 = 635;
+pub const RESULTANT_ROW: (u32, &[u8]) = (635, b"Max. resultant");
 
 pub const RESTRAINTS_Y: u32 = 668;
 
 pub const ROW_HEIGHT: u32 = 33;
 
 pub const ROWS_END: u32 = 932;
-
-pub const END_OF_EVENT: &[u8] = b"End of event";
-
-pub const MAX_LONGITUDINAL: &[u8] = b"Max. longitudinal";
-
-pub const MAX_LATERAL: &[u8] = b"Max. lateral";
-
-pub const MAX_RESULTANT: &[u8] = b"Max. resultant";
 
 /// The restraints, in the order of a record.
 pub const RESTRAINTS: [&[u8]; 8] = [
@@ -119,15 +109,15 @@ fn draw_timed(
     out: &mut Vec<u8>,
     template: &[u8],
     scale: &Scale,
-    y: u32,
-    label: &'static [u8],
+    row: (u32, &'static [u8]),
     time: u16,
     words: Filling,
 ) -> Drawn
     requires span { 300 ≤ scale.now.span }
-    requires place { y ≤ 2_000 }
-    ensures { OnOk result (out.new.items ≡ out.old.items ++ timed_row template.now scale.now y label.now time (filling_bytes words)) }
+    requires place { row.0 ≤ 2_000 }
+    ensures { OnOk result (out.new.items ≡ out.old.items ++ timed_row template.now scale.now row.entry.0 row.entry.1.now time (filling_bytes words)) }
 {
+    let (y, label) = row;
     let x = scale.x(time);
     let parts = [
         Number(y + WORDS_DOWN),
@@ -135,22 +125,19 @@ fn draw_timed(
         Number(x),
         Number(y + FLAG_DOWN),
         Number(beside(x)),
-        Text(either(x < FLAG_FAR_RIGHT, RIGHT_OF_FLAG, LEFT_OF_FLAG)),
+        Text(either(x < FLAG_FAR_RIGHT, BESIDE_CLASSES)),
         words,
     ];
     fill(out, template, &parts)
 }
 
 // Draws the row of what isn't there.
-fn draw_empty(out: &mut Vec<u8>, y: u32, label: &'static [u8], word: &'static [u8]) -> Drawn
-    requires { y ≤ 2_000 }
-    ensures { OnOk result (out.new.items ≡ out.old.items ++ empty_row y label.now word.now) }
+fn draw_empty(out: &mut Vec<u8>, row: (u32, &'static [u8]), word: &'static [u8]) -> Drawn
+    requires { row.0 ≤ 2_000 }
+    ensures { OnOk result (out.new.items ≡ out.old.items ++ empty_row row.entry.0 row.entry.1.now word.now) }
 {
-    fill(
-        out,
-        EMPTY_ROW,
-        &[Number(y + WORDS_DOWN), Text(label), Text(word)],
-    )
+    let y = Number(row.0 + WORDS_DOWN);
+    fill(out, EMPTY_ROW, &[y, Text(row.1), Text(word)])
 }
 
 // Draws the row of a restraint, which is this one in the order of a record.
@@ -166,10 +153,10 @@ fn draw_restraint(
     requires row { row ≤ 7 }
     ensures { OnOk result (out.new.items ≡ out.old.items ++ restraint_row scale.now row label.now fired) }
 {
-    let y = RESTRAINTS_Y + ROW_HEIGHT * row;
+    let row = (RESTRAINTS_Y + ROW_HEIGHT * row, label);
     match fired {
-        Some(time) => draw_timed(out, FIRED_ROW, scale, y, label, time, Milliseconds(time)),
-        None => draw_empty(out, y, label, NONE),
+        Some(time) => draw_timed(out, FIRED_ROW, scale, row, time, Milliseconds(time)),
+        None => draw_empty(out, row, NONE),
     }
 }
 
@@ -194,28 +181,19 @@ fn draw_restraints(
 fn draw_extreme(
     out: &mut Vec<u8>,
     scale: &Scale,
-    y: u32,
-    label: &'static [u8],
+    row: (u32, &'static [u8]),
     crash: &Crash,
     axis: CarAxis,
 ) -> Drawn
     requires span { 300 ≤ scale.now.span }
-    requires place { y ≤ 2_000 }
-    ensures { OnOk result (out.new.items ≡ out.old.items ++ extreme_row scale.now y label.now crash.now axis) }
+    requires place { row.0 ≤ 2_000 }
+    ensures { OnOk result (out.new.items ≡ out.old.items ++ extreme_row scale.now row.entry.0 row.entry.1.now crash.now axis) }
 {
     if is_silent(crash, axis) {
-        return draw_empty(out, y, label, NO_SAMPLE);
+        return draw_empty(out, row, NO_SAMPLE);
     }
     let extreme = extreme_of(crash, axis);
-    draw_timed(
-        out,
-        TIMED_ROW,
-        scale,
-        y,
-        label,
-        extreme.at,
-        Greatest(extreme),
-    )
+    draw_timed(out, TIMED_ROW, scale, row, extreme.at, Greatest(extreme))
 }
 
 // Draws the row of the greatest resultant.
@@ -225,18 +203,10 @@ fn draw_resultant(out: &mut Vec<u8>, scale: &Scale, crash: &Crash) -> Drawn
     ensures { OnOk result (out.new.items ≡ out.old.items ++ resultant_row scale.now crash.now) }
 {
     if is_silent(crash, CarAxis::Along) && is_silent(crash, CarAxis::Across) {
-        return draw_empty(out, RESULTANT_Y, MAX_RESULTANT, NO_SAMPLE);
+        return draw_empty(out, RESULTANT_ROW, NO_SAMPLE);
     }
     let at = crash.result_at;
-    draw_timed(
-        out,
-        TIMED_ROW,
-        scale,
-        RESULTANT_Y,
-        MAX_RESULTANT,
-        at,
-        Milliseconds(at),
-    )
+    draw_timed(out, TIMED_ROW, scale, RESULTANT_ROW, at, Milliseconds(at))
 }
 
 // Draws the rows of the end of the event and of the greatest changes.
@@ -246,25 +216,10 @@ fn draw_event(out: &mut Vec<u8>, scale: &Scale, crash: &Crash) -> Drawn
     ensures { OnOk result (out.new.items ≡ out.old.items ++ event_rows scale.now crash.now) }
 {
     let end = crash.end;
-    draw_timed(
-        out,
-        TIMED_ROW,
-        scale,
-        END_Y,
-        END_OF_EVENT,
-        end,
-        Milliseconds(end),
-    )?;
-    draw_extreme(out, scale, ALONG_Y, MAX_LONGITUDINAL, crash, CarAxis::Along)?;
-    draw_extreme(out, scale, ACROSS_Y, MAX_LATERAL, crash, CarAxis::Across)?;
+    draw_timed(out, TIMED_ROW, scale, END_ROW, end, Milliseconds(end))?;
+    draw_extreme(out, scale, ALONG_ROW, crash, CarAxis::Along)?;
+    draw_extreme(out, scale, ACROSS_ROW, crash, CarAxis::Across)?;
     draw_resultant(out, scale, crash)
-}
-
-// Draws a line across the chart.
-fn draw_rule(out: &mut Vec<u8>, y: u32) -> Drawn
-    ensures { OnOk result (out.new.items ≡ out.old.items ++ rule y) }
-{
-    fill(out, RULE, &[Number(y)])
 }
 
 // Draws all rows, with which the chart ends.
@@ -273,22 +228,12 @@ fn draw_rows(out: &mut Vec<u8>, scale: &Scale, crash: &Crash) -> Drawn
     requires { 300 ≤ scale.now.span }
     ensures { OnOk result (out.new.items ≡ out.old.items ++ rows_chart scale.now crash.now) }
 {
-    draw_rule(out, END_Y)?;
+    fill(out, RULE, &[Number(END_ROW.0)])?;
     draw_event(out, scale, crash)?;
-    draw_rule(out, RESTRAINTS_Y)?;
+    fill(out, RULE, &[Number(RESTRAINTS_Y)])?;
     draw_restraints(out, scale, &RESTRAINTS, &crash.fired)?;
-    draw_rule(out, ROWS_END)?;
+    fill(out, RULE, &[Number(ROWS_END)])?;
     put(out, CHART_END)
-}
-
-#[tactic(auto, unfolding(crate::specs::Rows::after_head))]
-fn put_head(out: &mut Vec<u8>, number: u64, crash: &Crash) -> Drawn
-    ensures { OnOk result (out.new.items ≡ out.old.items ++ after_head number crash.now) }
-{
-    let along = greatest(crash, CarAxis::Along);
-    let across = greatest(crash, CarAxis::Across);
-    let end = Number(u32::from(crash.end));
-    fill(out, AFTER_HEAD, &[Count(number), along, across, end])
 }
 
 /// Draws the chart of the event with this number.
@@ -300,7 +245,10 @@ pub fn draw_after(out: &mut Vec<u8>, number: u64, crash: &Option<Crash>) -> Draw
         return fill(out, WITHOUT_PART, &[Count(number)]);
     };
     let scale = Scale::of(crash);
-    put_head(out, number, crash)?;
+    let along = greatest(crash, CarAxis::Along);
+    let across = greatest(crash, CarAxis::Across);
+    let end = Number(u32::from(crash.end));
+    fill(out, AFTER_HEAD, &[Count(number), along, across, end])?;
     draw_changes(out, &scale, crash)?;
     draw_rows(out, &scale, crash)
 }

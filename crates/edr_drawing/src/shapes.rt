@@ -6,20 +6,14 @@ ghost use Rattle.edr_drawing.specs.Shapes.{path_point, shape_bytes, shapes_bytes
 use crate::template::Filling::{Number, Text};
 use crate::template::{Drawn, either, fill, of_switch};
 
-pub const ON: &[u8] = b"on";
-
-pub const OFF: &[u8] = b"off";
-
 pub const NONE: &[u8] = b"none";
 
-// The classes of fields and of their words, which the style gives their looks.
-pub const GAP: &[u8] = b"gap";
+pub const SWITCH_WORDS: (&[u8], &[u8], &[u8]) = (b"on", b"off", NONE);
 
-pub const IN_ON: &[u8] = b"c w";
+/// The classes of fields and of their words, which the style gives their looks.
+pub const FIELD_CLASSES: (&[u8], &[u8], &[u8]) = (b"on", b"off", b"gap");
 
-pub const IN_OFF: &[u8] = b"c";
-
-pub const IN_GAP: &[u8] = b"c g h";
+pub const WORD_CLASSES: (&[u8], &[u8], &[u8]) = (b"c w", b"c", b"c g h");
 
 /// A path of this class, up to its points.
 pub const PATH: &[u8] = br#"<path class="{0}" d=""#;
@@ -29,14 +23,10 @@ pub const PATH_END: &[u8] = b"\"/>\n";
 /// A point of a path, which begins there or is joined to the point before it.
 pub const PATH_POINT: &[u8] = b"{0}{1} {2}";
 
-pub const BEGIN: &[u8] = b"M";
-
-pub const JOIN: &[u8] = b"L";
+pub const JOIN_OR_BEGIN: (&[u8], &[u8]) = (b"L", b"M");
 
 /// The classes of the paths along the car and across it.
-pub const ALONG: &[u8] = b"s1";
-
-pub const ACROSS: &[u8] = b"s2";
+pub const PATHS: (&[u8], &[u8]) = (b"s1", b"s2");
 
 pub const DOT: &[u8] = br#"<circle cx="{0}" cy="{1}" r="9" class="p1"/>
 "#;
@@ -94,13 +84,13 @@ fn put_shape(out: &mut Vec<u8>, shape: Shape) -> Drawn
         }
         Shape::Value(x, y, value) => fill(out, NUMBER, &[Number(x), Number(y), Number(value)]),
         Shape::Field(x, y, width, height, shows) => {
-            let class = Text(of_switch(shows, ON, OFF, GAP));
+            let class = Text(of_switch(shows, FIELD_CLASSES));
             let (width, height) = (Number(width), Number(height));
             fill(out, FIELD, &[Number(x), Number(y), width, height, class])
         }
         Shape::Word(x, y, shows) => {
-            let class = Text(of_switch(shows, IN_ON, IN_OFF, IN_GAP));
-            let word = Text(of_switch(shows, ON, OFF, NONE));
+            let class = Text(of_switch(shows, WORD_CLASSES));
+            let word = Text(of_switch(shows, SWITCH_WORDS));
             fill(out, WORD, &[Number(x), Number(y), class, word])
         }
         Shape::Moment(x, y, shows) => put_moment(out, x, y, shows),
@@ -110,8 +100,8 @@ fn put_shape(out: &mut Vec<u8>, shape: Shape) -> Drawn
 fn put_moment(out: &mut Vec<u8>, x: u32, y: u16, shows: Option<bool>) -> Drawn
     ensures { OnOk result (out.new.items ≡ out.old.items ++ shape_bytes (Shape.Moment x y shows)) }
 {
-    let class = Text(of_switch(shows, ON, OFF, GAP));
-    let word = Text(of_switch(shows, ON, OFF, NONE));
+    let class = Text(of_switch(shows, FIELD_CLASSES));
+    let word = Text(of_switch(shows, SWITCH_WORDS));
     let left = Number(x.saturating_sub(LEFT_OF_MOMENT));
     let y = u32::from(y);
     let down = Number(y + MOMENT_WORD_DOWN);
@@ -137,6 +127,6 @@ pub fn draw(out: &mut Vec<u8>, shapes: &[Shape]) -> Drawn
 pub fn put_point(out: &mut Vec<u8>, joined: bool, x: u32, y: u32) -> Drawn
     ensures { OnOk result (out.new.items ≡ out.old.items ++ path_point joined x y) }
 {
-    let join = Text(either(joined, JOIN, BEGIN));
+    let join = Text(either(joined, JOIN_OR_BEGIN));
     fill(out, PATH_POINT, &[join, Number(x), Number(y)])
 }

@@ -5,7 +5,7 @@ ghost use Rattle.edr_drawing.specs.Sheets.{facts, sheet, sheet_if, sheets};
 
 use crate::before::draw_before;
 use crate::by_time::put_by_time;
-use crate::pairs::{count_if, put_place_fact};
+use crate::pairs::{is_event, put_place_fact};
 use crate::reasons::put_reasons;
 use crate::rows::draw_after;
 use crate::tables::{put_elements, put_points_table};
@@ -29,13 +29,10 @@ pub const SHEET_FOOT: &[u8] =
 </section>
 "#;
 
-pub const YES: &[u8] = b"yes";
+pub const YES_NO: (&[u8], &[u8]) = (b"yes", b"no");
 
-pub const NO: &[u8] = b"no";
-
-pub const SHORT: &[u8] = b"short";
-
-pub const LONG: &[u8] = b"long";
+/// The words of the profiles, which are classes too.
+pub const PROFILES: (&[u8], &[u8]) = (b"short", b"long");
 
 #[tactic(auto, unfolding(crate::specs::Sheets::facts))]
 fn put_facts(out: &mut Vec<u8>, bank: u8, key: Key, locked: bool, profile: Profile) -> Drawn
@@ -45,8 +42,8 @@ fn put_facts(out: &mut Vec<u8>, bank: u8, key: Key, locked: bool, profile: Profi
         Number(number_shown(key.cycle)),
         Number(key.zero),
         Number(u32::from(bank)),
-        Text(either(locked, YES, NO)),
-        Text(of_profile(profile, SHORT, LONG)),
+        Text(either(locked, YES_NO)),
+        Text(of_profile(profile, PROFILES)),
     ];
     fill(out, FACTS, &facts)
 }
@@ -64,7 +61,7 @@ fn put_sheet(
 ) -> Drawn
     ensures { OnOk result (out.new.items ≡ out.old.items ++ sheet found.now number bank event.now digest.now) }
 {
-    let complete = Text(either(event.complete(), YES, NO));
+    let complete = Text(either(event.complete(), YES_NO));
     fill(out, SHEET_HEAD, &[Count(number), complete])?;
     let pre = &event.pre;
     put_facts(out, bank, pre.key, event.locked, pre.profile())?;
@@ -102,7 +99,7 @@ pub fn put_sheets(out: &mut Vec<u8>, alloc: Global, found: &[Found], digest: &[u
     let mut number = 1;
     for bank in found {
         put_sheet_if(out, alloc, found, number, bank, digest)?;
-        number += count_if(&bank.view);
+        number += u64::from(is_event(&bank.view));
     }
     Ok(())
 }

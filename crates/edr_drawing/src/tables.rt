@@ -228,13 +228,7 @@ fn is_take(applied: Applied) -> bool
 fn taken_by(acks: &[Ack]) -> u64
     ensures { result ≡ taken_by acks.now }
 {
-    let mut count = 0;
-    for ack in acks {
-        if is_take(ack.applied) {
-            count += 1;
-        }
-    }
-    count
+    acks.iter().filter(|ack| is_take(ack.applied)).count() as u64
 }
 
 // How many events a cycle took.

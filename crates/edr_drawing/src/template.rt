@@ -48,36 +48,34 @@ pub enum Filling {
     Beginning([u8; 32]),
 }
 
-/// One of two texts.
-pub fn either(is_so: bool, yes: &'static [u8], no: &'static [u8]) -> &'static [u8]
-    ensures { result.now ≡ either is_so yes.now no.now }
+/// The first of two if this is so, or else the second.
+pub fn either(is_so: bool, pair: (&'static [u8], &'static [u8])) -> &'static [u8]
+    ensures { result.now ≡ either is_so pair.entry.0.now pair.entry.1.now }
 {
-    if is_so { yes } else { no }
+    if is_so { pair.0 } else { pair.1 }
 }
 
-/// The text of a profile.
-pub fn of_profile(profile: Profile, short: &'static [u8], long: &'static [u8]) -> &'static [u8]
-    ensures { result.now ≡ of_profile profile short.now long.now }
+/// The first of two for a short profile, the second for a long one.
+pub fn of_profile(profile: Profile, pair: (&'static [u8], &'static [u8])) -> &'static [u8]
+    ensures { result.now ≡ of_profile profile pair.entry.0.now pair.entry.1.now }
 {
     match profile {
-        Profile::Short => short,
-        Profile::Long => long,
+        Profile::Short => pair.0,
+        Profile::Long => pair.1,
     }
 }
 
-/// The text of what a switch is.
+/// The first of three for a switch that is on, the second for one that is off, the third where that is absent.
 pub fn of_switch(
     shows: Option<bool>,
-    on: &'static [u8],
-    off: &'static [u8],
-    none: &'static [u8],
+    three: (&'static [u8], &'static [u8], &'static [u8]),
 ) -> &'static [u8]
-    ensures { result.now ≡ of_switch shows on.now off.now none.now }
+    ensures { result.now ≡ of_switch shows three.entry.0.now three.entry.1.now three.entry.2.now }
 {
     match shows {
-        Some(true) => on,
-        Some(false) => off,
-        None => none,
+        Some(true) => three.0,
+        Some(false) => three.1,
+        None => three.2,
     }
 }
 
