@@ -23,18 +23,13 @@ use Rattle.edr_drawing.specs.Scales.{slot_x, time_at}
 use Rattle.edr_drawing.specs.Lanes.{cells, cells_of, drawn_lane, field_shapes, gap, grid, grid_line, lane_y, long_cells, points}
 use Rattle.edr_drawing.specs.Before.{are_same, before_chart, brake_slots, switch_runs, switches, time_line, time_lines}
 use Rattle.edr_drawing.specs.Changes.{change_y, time_x}
-use Rattle.edr_drawing.specs.After.{axis_marks, axis_points, changes_chart, curve, diamond, drawn_curve, end_line, gapped, legend_gaps, level, levels, mark_at, maximum, maximum_number, past_window, silent_curve, time_line as later_line, time_lines as later_lines}
+use Rattle.edr_drawing.specs.After.{axis_marks, axis_points, changes_chart, curve, drawn_curve, end_line, gapped, legend_gaps, level, levels, mark_at, maximum, maximum_number, past_window, silent_curve, time_line as later_line, time_lines as later_lines}
 use Rattle.edr_drawing.specs.Rows.{after_chart, after_head, empty_row, event_rows, extreme_row, restraint_row, restraint_rows, restraint_y, resultant_row, rows_chart, rule, timed_row}
 use Rattle.edr_drawing.proofs.PlainLemmas.{Plain, all_low, plain_nil, plain_append, plain_if, plain_fixed, plain_flat_map, plain_counted, plain_text, plain_filled, plains, plain_decimal, plain_of_profile, plain_of_axis, plain_of_switch}
 
 plain_shape : (s : Shape) → Plain (shape_bytes s)
 plain_shape (shape.Dot x y) = search plains depth 20
-plain_shape (shape.Point x y) = search plains depth 20
-plain_shape (shape.Square x y) = search plains depth 20
-plain_shape (shape.Value x y v) = search plains depth 20
-plain_shape (shape.Field x y width height v) = search plains depth 20
-plain_shape (shape.Word x y v) = search plains depth 20
-plain_shape (shape.Moment x y v) = search plains depth 20
+plain_shape s = search plains depth 20
 
 plain_shapes : (shapes : List Shape) → Plain (shapes_bytes shapes)
 plain_shapes shapes = plain_flat_map shape_bytes plain_shape shapes

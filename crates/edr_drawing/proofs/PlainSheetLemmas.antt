@@ -78,9 +78,8 @@ plain_sheet found n bank r digest small =
     search (plain_place_told, plain_switch_reason, plain_crash_reasons, plain_event_lines, plain_points_table, plain_before_chart, plain_after_chart, plain_by_time, plain_digest, plains) depth 60 fits 8000
 
 plain_sheet_if : (found : List Found) (n bank : ℕ) (view : BankView) (digest : List ℕ) → All (λ b. b < 256) digest → Plain (sheet_if found n bank view digest)
-plain_sheet_if found n bank Void digest small = plain_nil
 plain_sheet_if found n bank (Event r) digest small = plain_sheet found n bank r digest small
-plain_sheet_if found n bank (Damaged o x l) digest small = plain_nil
+plain_sheet_if found n bank view digest small = plain_nil
 
 plain_sheets : (found : List Found) (n : ℕ) (fs : List Found) (digest : List ℕ) → All (λ b. b < 256) digest → Plain (sheets found n fs digest)
 plain_sheets found n [] digest small = plain_nil
@@ -95,18 +94,16 @@ plain_extreme_cells (Some c) = search plains depth 20
 
 plain_event_row_if : (n bank : ℕ) (view : BankView) → Plain (event_row_if n bank view)
 unfolding event_row
-plain_event_row_if n bank Void = plain_nil
 plain_event_row_if n bank (Event r) = search (plain_extreme_cells, plains) depth 60
-plain_event_row_if n bank (Damaged o x l) = plain_nil
+plain_event_row_if n bank view = plain_nil
 
 plain_event_rows : (n : ℕ) (found : List Found) → Plain (event_rows n found)
 plain_event_rows n [] = plain_nil
 plain_event_rows n (f ∷ fs) = plain_append _ _ (plain_event_row_if n f.bank f.view) (plain_event_rows (n + count_if f.view) fs)
 
 plain_damaged : (bank : ℕ) (view : BankView) → Plain (damaged_item bank view)
-plain_damaged bank Void = plain_nil
-plain_damaged bank (Event r) = plain_nil
 plain_damaged bank (Damaged o x l) = search plains depth 20
+plain_damaged bank view = plain_nil
 
 -- the whole page
 pub plain_page : (reports : List Report) (found : List Found) (count size : ℕ) (digest : List ℕ) → All (λ b. b < 256) digest →

@@ -67,24 +67,18 @@ end_line s end w =
 -- ---- the curves
 
 -- the points of an axis, the first of which is that of i times 10 ms
-abbrev pub axis_point : Scale → ℕ → ℤ → List ℕ
-axis_point s i v = path_point (nat_lt 0 i) (time_x s (POINT_STEP * i)) (change_y s v)
-
 abbrev pub axis_points : Scale → ℕ → List ℤ → List ℕ
 axis_points s i [] = []
-axis_points s i (v ∷ vs) = axis_point s i v ++ axis_points s (i + 1) vs
+axis_points s i (v ∷ vs) = path_point (nat_lt 0 i) (time_x s (POINT_STEP * i)) (change_y s v) ++ axis_points s (i + 1) vs
 
 -- a dot at each point along, a square at each point across
 abbrev pub mark_at : CarAxis → ℕ → ℕ → Shape
 mark_at Along x y = shape.Dot x y
 mark_at Across x y = shape.Square x y
 
-abbrev pub axis_mark : Scale → CarAxis → ℕ → ℤ → List ℕ
-axis_mark s a i v = shapes_bytes (mark_at a (time_x s (POINT_STEP * i)) (change_y s v) ∷ [])
-
 abbrev pub axis_marks : Scale → CarAxis → ℕ → List ℤ → List ℕ
 axis_marks s a i [] = []
-axis_marks s a i (v ∷ vs) = axis_mark s a i v ++ axis_marks s a (i + 1) vs
+axis_marks s a i (v ∷ vs) = shapes_bytes (mark_at a (time_x s (POINT_STEP * i)) (change_y s v) ∷ []) ++ axis_marks s a (i + 1) vs
 
 -- a text around the curve of an axis, if it lacks samples
 abbrev pub gapped : CrashPart → CarAxis → List ℕ → List ℕ
@@ -101,13 +95,14 @@ drawn_curve s c a =
     ++ gapped c a GAPPED_END.now
 
 -- what stands in its place where the axis has none
-abbrev pub silent_y : Scale → CarAxis → ℕ
-silent_y s a = of_axis a (change_y s (pos 0) + SILENT_DOWN) (change_y s (pos 0) - SILENT_UP)
-
 abbrev pub silent_curve : Scale → CarAxis → List ℕ
 silent_curve s a =
     filled SILENT_CURVE.now
-    (decimal (silent_y s a) ∷ of_axis a AXIS_WORDS.0.now AXIS_WORDS.1.now ∷ of_axis a AXIS_NAMES.0.now AXIS_NAMES.1.now ∷ NO_SAMPLE.now ∷ [])
+    (decimal (of_axis a (change_y s (pos 0) + SILENT_DOWN) (change_y s (pos 0) - SILENT_UP))
+    ∷ of_axis a AXIS_WORDS.0.now AXIS_WORDS.1.now
+    ∷ of_axis a AXIS_NAMES.0.now AXIS_NAMES.1.now
+    ∷ NO_SAMPLE.now
+    ∷ [])
 
 unfoldable pub curve : Scale → CrashPart → CarAxis → List ℕ
 curve s c a = if is_silent c a then silent_curve s a else drawn_curve s c a
@@ -125,23 +120,23 @@ legend_gaps c a =
 
 -- ---- the greatest changes
 
--- a diamond at a greatest change
-abbrev pub diamond : Scale → CarAxis → Extreme → List ℕ
-diamond s a e =
-    filled DIAMOND.now (of_axis a DIAMONDS.0.now DIAMONDS.1.now ∷ decimal (time_x s e.at) ∷ decimal (change_y s e.kmh - DIAMOND_UP) ∷ [])
-
--- its number, unless it is 0: that along stands below the diamond, that across above it
-abbrev pub number_y : Scale → CarAxis → ℤ → ℕ
-number_y s a v = of_axis a (change_y s v + NUMBER_DOWN) (change_y s v - NUMBER_UP)
-
+-- the number of a greatest change, unless it is 0: that along stands below its diamond, that across above it
 unfoldable pub maximum_number : Scale → CarAxis → Extreme → List ℕ
 maximum_number s a e =
     if int_eq e.kmh (pos 0)
     then []
     else filled MAXIMUM_NUMBER.now
-    (decimal (time_x s e.at) ∷ decimal (number_y s a e.kmh) ∷ of_axis a AXIS_WORDS.0.now AXIS_WORDS.1.now ∷ signed_decimal e.kmh ∷ [])
+    (decimal (time_x s e.at)
+    ∷ decimal (of_axis a (change_y s e.kmh + NUMBER_DOWN) (change_y s e.kmh - NUMBER_UP))
+    ∷ of_axis a AXIS_WORDS.0.now AXIS_WORDS.1.now
+    ∷ signed_decimal e.kmh
+    ∷ [])
 
--- the mark of the greatest change of an axis that has samples
+-- a diamond at the greatest change of an axis that has samples, and its number
+abbrev pub diamond : Scale → CarAxis → Extreme → List ℕ
+diamond s a e =
+    filled DIAMOND.now (of_axis a DIAMONDS.0.now DIAMONDS.1.now ∷ decimal (time_x s e.at) ∷ decimal (change_y s e.kmh - DIAMOND_UP) ∷ [])
+
 unfoldable pub maximum : Scale → CrashPart → CarAxis → List ℕ
 maximum s c a = if is_silent c a then [] else diamond s a (extreme_of c a) ++ maximum_number s a (extreme_of c a)
 

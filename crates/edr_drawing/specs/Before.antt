@@ -51,13 +51,9 @@ switches k (v ∷ vs) = shapes_bytes (field_shapes (slot_x Short k) BRAKE_Y FIEL
 
 abbrev pub are_same : Option Bool → Option Bool → Bool
 are_same (Some true) (Some true) = true
-are_same (Some true) (Some false) = false
-are_same (Some true) None = false
-are_same (Some false) (Some true) = false
 are_same (Some false) (Some false) = true
-are_same (Some false) None = false
-are_same None (Some v) = false
 are_same None None = true
+are_same u v = false
 
 -- these slots after n that are all u, the first of which has the number k: a field for each run of slots that are the same
 abbrev pub switch_runs : ℕ → ℕ → Option Bool → List (Option Bool) → List ℕ

@@ -91,11 +91,7 @@ mark_of Long l e = shape.Point (slot_x Long e.0) (lane_y l e.1)
 abbrev pub is_mark : Shape → Bool
 is_mark (shape.Dot x y) = true
 is_mark (shape.Point x y) = true
-is_mark (shape.Square x y) = false
-is_mark (shape.Value x y v) = false
-is_mark (shape.Field x y width height v) = false
-is_mark (shape.Word x y v) = false
-is_mark (shape.Moment x y v) = false
+is_mark s = false
 
 -- the shapes of the fields of slots, whose marks are those of the slots that are there, in order
 abbrev pub HasMarks : Profile → ChartLane → List (Option ℕ) → List ℕ → Type 0

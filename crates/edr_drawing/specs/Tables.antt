@@ -99,9 +99,7 @@ elements_table n bank r =
 -- how many events a run took
 abbrev pub is_take : Applied → Bool
 is_take (Kept b) = true
-is_take (Locked b) = false
-is_take (Done b) = false
-is_take NotKept = false
+is_take a = false
 
 abbrev pub taken_by : List Ack → ℕ
 taken_by log = count_by (λ a. is_take a.applied) log

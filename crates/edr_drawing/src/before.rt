@@ -200,12 +200,10 @@ fn draw_short_brake(out: &mut Vec<u8>, slots: &[Option<bool>]) -> Drawn
 fn are_same(one: Option<bool>, other: Option<bool>) -> bool
     ensures { result ≡ are_same one other }
 {
-    match (one, other) {
-        (Some(true), Some(true)) => true,
-        (Some(false), Some(false)) => true,
-        (None, None) => true,
-        _ => false,
-    }
+    matches!(
+        (one, other),
+        (Some(true), Some(true)) | (Some(false), Some(false)) | (None, None)
+    )
 }
 
 // Draws a field for each run of slots of a long profile that are the same.

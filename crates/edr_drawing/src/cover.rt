@@ -65,10 +65,7 @@ fn events_in(found: &[Found]) -> u64
 fn is_damaged(view: &BankView) -> bool
     ensures { result ≡ is_damaged view.now }
 {
-    match view {
-        BankView::Damaged { .. } => true,
-        _ => false,
-    }
+    matches!(view, BankView::Damaged { .. })
 }
 
 // How many damaged banks were found.

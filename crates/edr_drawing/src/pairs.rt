@@ -31,19 +31,13 @@ pub const IF_SAME_CYCLE: &[u8] =
 pub fn is_event(view: &BankView) -> bool
     ensures { result ≡ is_event view.now }
 {
-    match view {
-        BankView::Event(_) => true,
-        _ => false,
-    }
+    matches!(view, BankView::Event(_))
 }
 
 fn is_first(place: Place) -> bool
     ensures { result ≡ is_first place }
 {
-    match place {
-        Place::First => true,
-        Place::Second { .. } => false,
-    }
+    matches!(place, Place::First)
 }
 
 // As far as a report tells, the first time zero is of the same ignition cycle as the second, and so long before it.

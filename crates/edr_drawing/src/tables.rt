@@ -218,10 +218,7 @@ pub fn put_elements(
 fn is_take(applied: Applied) -> bool
     ensures { result ≡ is_take applied }
 {
-    match applied {
-        Applied::Kept { .. } => true,
-        _ => false,
-    }
+    matches!(applied, Applied::Kept { .. })
 }
 
 // How many events these acknowledged commands took.

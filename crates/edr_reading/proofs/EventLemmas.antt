@@ -21,36 +21,15 @@ use Rattle.edr_reading.specs.Parts.{CrashAgrees, PartsAgree, PreAgrees, crash_pl
 
 pre-most : (l : PreLine) → pre_place l ≤ 10
 pre-most pre.Cycle = omega arith
-pre-most pre.TimeZero = omega arith
-pre-most pre.Events = omega arith
-pre-most pre.Between = omega arith
-pre-most pre.Deployment = omega arith
-pre-most pre.Profile = omega arith
-pre-most pre.Speed = omega arith
-pre-most pre.Throttle = omega arith
-pre-most pre.Brake = omega arith
-pre-most pre.Belt = omega arith
-pre-most pre.Lamp = omega arith
+pre-most l = omega arith
 
 restraint-most : (r : Restraint) → place_of r ≤ 7
 restraint-most restraint.DriverFrontal = omega arith
-restraint-most restraint.PassengerFrontal = omega arith
-restraint-most restraint.DriverSide = omega arith
-restraint-most restraint.PassengerSide = omega arith
-restraint-most restraint.DriverCurtain = omega arith
-restraint-most restraint.PassengerCurtain = omega arith
-restraint-most restraint.DriverPretensioner = omega arith
-restraint-most restraint.PassengerPretensioner = omega arith
+restraint-most r = omega arith
 
 crash-most : (l : CrashLine) → crash_place l ≤ 14
-crash-most crash.End = omega arith
-crash-most crash.Along = omega arith
-crash-most crash.Across = omega arith
-crash-most crash.MaxAlong = omega arith
-crash-most crash.MaxAcross = omega arith
-crash-most crash.ResultAt = omega arith
-crash-most crash.Missing = omega arith
 crash-most (crash.Fired r) = let m = restraint-most r in omega (arith, m)
+crash-most l = omega arith
 
 pre-agrees : (j k : ℕ) (p q : PrePart) → 11 ≤ j → PreAgrees j p q → PreAgrees k p q
 pre-agrees j k p q h a = record {

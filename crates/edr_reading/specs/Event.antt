@@ -7,6 +7,7 @@ use Rattle.edr_report.specs.declared.event_lines.EventLine.{EventLine}
 use Rattle.edr_report.specs.declared.event_lines.EventLine.TheVariants.{Number, Bank, Before, After, Complete}
 use Rattle.edr_report.specs.Words.{yes_no}
 use Rattle.edr_reading.specs.declared.event.PartEvent.{PartEvent}
+use Rattle.edr_reading.specs.declared.event.TheConstants.{EVENT_ROWS}
 use Rattle.edr_reading.specs.Parts.{IsRecord, PartsAgree, PreAgrees, crash_place, crash_texts, pre_of, pre_place, pre_texts}
 use Rattle.edr_reading.specs.Rows.{Texts}
 use Rattle.edr_reading.specs.Values.{IsBank}
@@ -34,7 +35,7 @@ event_place Number = 0
 event_place Bank = 1
 event_place (Before l) = 2 + pre_place l
 event_place (After l) = 13 + crash_place l
-event_place Complete = 28
+event_place Complete = EVENT_ROWS - 1
 
 -- what its lines show, in their order
 abbrev pub event_texts : ℕ → ℕ × Record → Texts

@@ -22,6 +22,7 @@ use Rattle.edr_reading.specs.Rows.{FieldRows, event_fields}
 use Rattle.edr_reading.specs.Run.{IsReport, ack_fields, run_fields}
 use Rattle.edr_reading.specs.Told.{IsAck, IsToldName, name_words}
 use Rattle.edr_reading.specs.declared.event.PartEvent.{PartEvent}
+use Rattle.edr_reading.specs.declared.event.TheConstants.{EVENT_ROWS}
 use Rattle.edr_reading.specs.declared.told.ToldName.{ToldName}
 use Rattle.edr_reading.specs.declared.told.ToldName.TheVariants as name
 
@@ -97,10 +98,10 @@ pub record IsBetween (has_acks has_cycles has_events : Bool) (reports : List Rep
 
 -- these rows were read, and in the event's block its line in place k may follow
 pub record IsInside (k : ℕ) (e : ℕ × Record) (reports : List Report) (es : List (ℕ × Record)) (rows : FieldRows) : Type 0 where
-  pub within : k < 29
+  pub within : k < EVENT_ROWS
   pub told : IsToldReport reports (es ++ e ∷ []) []
   pub are : rows ≡ whole reports es [] ++ take k (event_fields (length es + 1) e.0 e.1)
-  pub short : length rows + 30 ≤ 4_294_967_294 + k
+  pub short : length rows + (EVENT_ROWS + 1) ≤ 4_294_967_294 + k
   pub rest : (row : List (List ℕ)) (more : FieldRows) → slice_index_or row 0 [] ≡ decimal (length es + 1) → AreReport (rows ++ row ∷ more)
       → MayFollowLine k (length es + 1) (banks_in (map found_event es)) e (row ∷ more)
 
@@ -172,7 +173,7 @@ pub record IsOnlyName (r : Reader) (w : List ℕ) (x : ToldName) : Type 0 where
 
 -- an event may be next, if there is a bank for it
 abbrev pub MayHaveEvent : Reader → Type 0
-MayHaveEvent r = ((r.next ≡ next.Run) ⊎ (r.next ≡ next.Events)) × (r.rows + 30 ≤ 4_294_967_294)
+MayHaveEvent r = ((r.next ≡ next.Run) ⊎ (r.next ≡ next.Events)) × (r.rows + (EVENT_ROWS + 1) ≤ 4_294_967_294)
 
 -- the reader has read these rows, and this line of an event may be next
 pub record AtLine (r : Reader) (k : ℕ) (e : ℕ × Record) (rows : FieldRows) : Type 0 where
@@ -195,5 +196,5 @@ pub record AddsLine (k : ℕ) (e : PartEvent) (old new : Reader) : Type 0 where
   pub run : new.run.items ≡ old.run.items
   pub last : new.last ≡ old.last
   pub acks : new.acks.items ≡ old.acks.items
-  pub goes_on : k + 1 < 29 → (new.found.items ≡ old.found.items) × (new.next ≡ next.Line (k + 1) e)
-  pub ends : 29 ≤ k + 1 → (new.found.items ≡ old.found.items ++ found_event (event_of e) ∷ []) × (new.next ≡ next.Events)
+  pub goes_on : k + 1 < EVENT_ROWS → (new.found.items ≡ old.found.items) × (new.next ≡ next.Line (k + 1) e)
+  pub ends : EVENT_ROWS ≤ k + 1 → (new.found.items ≡ old.found.items ++ found_event (event_of e) ∷ []) × (new.next ≡ next.Events)

@@ -61,12 +61,7 @@ pub(crate) fn plain_event(bank: u8) -> PartEvent
 pub(crate) fn is_among(found: &[Found], bank: u8) -> bool
     ensures { MatchBool result (HasNoBank found.now bank → ⊥) (HasNoBank found.now bank) }
 {
-    for one in found {
-        if one.bank == bank {
-            return true;
-        }
-    }
-    false
+    found.iter().any(|one| one.bank == bank)
 }
 
 /// The first bank that wasn't found.
@@ -124,10 +119,10 @@ pub(crate) fn event_line(
 {
     let PartEvent { bank, pre, crash } = *event;
     match line {
-        EventLine::Number => match last_within(value, b"", block, block) {
-            Some(_) => Some(*event),
-            None => None,
-        },
+        EventLine::Number => {
+            last_within(value, b"", block, block)?;
+            Some(*event)
+        }
         EventLine::Bank => match bank_behind(value, b"") {
             Some(bank) if !is_among(found, bank) => Some(PartEvent { bank, pre, crash }),
             _ => None,

@@ -57,10 +57,7 @@ pub(crate) fn number_behind<'a>(bytes: &'a [u8], front: &[u8]) -> Option<(u32, &
     ensures read { IfSome result (λ p. bytes.now ≡ front.now ++ (decimal p.0 ++ p.1.now)) }
     ensures whole { ReadsBehind front.now decimal (λ n. n < 2 ^ 32) bytes.now result }
 {
-    match behind(bytes, front) {
-        Some(rest) => number_in_front(rest),
-        None => None,
-    }
+    number_in_front(behind(bytes, front)?)
 }
 
 /// The number between these bytes.
@@ -80,10 +77,7 @@ pub(crate) fn last_number(bytes: &[u8], front: &[u8]) -> Option<u32>
     ensures read { IfSome result (λ n. bytes.now ≡ front.now ++ decimal n) }
     ensures whole { (n : ℕ) → n < 2 ^ 32 → bytes.now ≡ front.now ++ decimal n → result ≡ Some n }
 {
-    match one_number(bytes, front, b"") {
-        Some(n) => Some(n),
-        None => None,
-    }
+    one_number(bytes, front, b"")
 }
 
 /// The numbers between these bytes.
@@ -98,13 +92,9 @@ pub(crate) fn two_numbers(
     ensures read { IfSome result (λ p. bytes.now ≡ two_numbers front.now p.0 middle.now p.1 back.now) }
     ensures whole { OfTwo (λ n. n < 2 ^ 32) front.now middle.now back.now bytes.now (λ p. result ≡ Some p) }
 {
-    match number_behind(bytes, front) {
-        Some((m, rest)) => match one_number(rest, middle, back) {
-            Some(n) => Some((m, n)),
-            None => None,
-        },
-        None => None,
-    }
+    let (m, rest) = number_behind(bytes, front)?;
+    let n = one_number(rest, middle, back)?;
+    Some((m, n))
 }
 
 /// The same, where it is `low` to `high`.
@@ -147,11 +137,9 @@ pub(crate) fn two_within(
     ensures read { IfSome result (λ p. (bytes.now ≡ two_numbers front.now p.0 middle.now p.1 back.now) × (p.0 ≤ high) × (p.1 ≤ high)) }
     ensures whole { OfTwo (λ n. n ≤ high) front.now middle.now back.now bytes.now (λ p. result ≡ Some p) }
 {
-    match within_behind(bytes, front, 0, high) {
-        Some((m, rest)) => match one_number(rest, middle, back) {
-            Some(n) if n <= high => Some((m, n)),
-            _ => None,
-        },
-        None => None,
+    let (m, rest) = within_behind(bytes, front, 0, high)?;
+    match one_number(rest, middle, back) {
+        Some(n) if n <= high => Some((m, n)),
+        _ => None,
     }
 }

@@ -84,38 +84,12 @@ fn with_speed(slots: &Slots, value: &[u8]) -> Option<Slots>
     ensures whole { OfSpaced (slots_in (profile_of_slots slots.now)) number_or_none (IsUpTo 300) value.now
         (λ xs. MatchOption result ⊥ (λ s. speed_of s ≡ xs)) }
 {
-    match *slots {
-        Slots::Short {
-            throttle,
-            brake,
-            ..
-        } => {
-            let mut speed = [None; SHORT_SLOTS];
-            if !read_slots(value, &mut speed) {
-                return None;
-            }
-            Some(Slots::Short {
-                speed,
-                throttle,
-                brake,
-            })
-        }
-        Slots::Long {
-            throttle,
-            brake,
-            ..
-        } => {
-            let mut speed = [None; LONG_SLOTS];
-            if !read_slots(value, &mut speed) {
-                return None;
-            }
-            Some(Slots::Long {
-                speed,
-                throttle,
-                brake,
-            })
-        }
-    }
+    let mut slots = *slots;
+    let is_read = match &mut slots {
+        Slots::Short { speed, .. } => read_slots(value, speed),
+        Slots::Long { speed, .. } => read_slots(value, speed),
+    };
+    if is_read { Some(slots) } else { None }
 }
 
 // The slots with this throttle, if the value shows as many.
@@ -127,30 +101,12 @@ fn with_throttle(slots: &Slots, value: &[u8]) -> Option<Slots>
     ensures whole { OfSpaced (slots_in (profile_of_slots slots.now)) number_or_none (IsUpTo 100) value.now
         (λ xs. MatchOption result ⊥ (λ s. throttle_of s ≡ xs)) }
 {
-    match *slots {
-        Slots::Short { speed, brake, .. } => {
-            let mut throttle = [None; SHORT_SLOTS];
-            if !read_slots(value, &mut throttle) {
-                return None;
-            }
-            Some(Slots::Short {
-                speed,
-                throttle,
-                brake,
-            })
-        }
-        Slots::Long { speed, brake, .. } => {
-            let mut throttle = [None; LONG_SLOTS];
-            if !read_slots(value, &mut throttle) {
-                return None;
-            }
-            Some(Slots::Long {
-                speed,
-                throttle,
-                brake,
-            })
-        }
-    }
+    let mut slots = *slots;
+    let is_read = match &mut slots {
+        Slots::Short { throttle, .. } => read_slots(value, throttle),
+        Slots::Long { throttle, .. } => read_slots(value, throttle),
+    };
+    if is_read { Some(slots) } else { None }
 }
 
 // The slots with this brake, if the value shows as many.
@@ -162,38 +118,12 @@ fn with_brake(slots: &Slots, value: &[u8]) -> Option<Slots>
     ensures whole { OfSpaced (slots_in (profile_of_slots slots.now)) switch_or_none (λ _. ⊤) value.now
         (λ xs. MatchOption result ⊥ (λ s. brake_of s ≡ xs)) }
 {
-    match *slots {
-        Slots::Short {
-            speed,
-            throttle,
-            ..
-        } => {
-            let mut brake = [None; SHORT_SLOTS];
-            if !read_slots(value, &mut brake) {
-                return None;
-            }
-            Some(Slots::Short {
-                speed,
-                throttle,
-                brake,
-            })
-        }
-        Slots::Long {
-            speed,
-            throttle,
-            ..
-        } => {
-            let mut brake = [None; LONG_SLOTS];
-            if !read_slots(value, &mut brake) {
-                return None;
-            }
-            Some(Slots::Long {
-                speed,
-                throttle,
-                brake,
-            })
-        }
-    }
+    let mut slots = *slots;
+    let is_read = match &mut slots {
+        Slots::Short { brake, .. } => read_slots(value, brake),
+        Slots::Long { brake, .. } => read_slots(value, brake),
+    };
+    if is_read { Some(slots) } else { None }
 }
 
 /// What stood before time zero with what this line shows, after the lines before it, if it may show it.

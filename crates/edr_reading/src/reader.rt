@@ -3,6 +3,7 @@
 ghost use Rattle.std.specs.Prelude.{◌≡◌, ◌≢◌, ◌+◌, ◌<◌, ◌^◌, ◌∷◌, [], ℕ, ⊤, List, None, IfErr, IfOk, IfSome, MatchOption, OnOk, decimal, length, map};
 ghost use Rattle.edr_image.specs.Reports.{report_of};
 ghost use Rattle.edr_reading.specs.Answers.{TellsWhether};
+ghost use Rattle.edr_reading.specs.declared.event.TheConstants.{EVENT_ROWS};
 ghost use Rattle.edr_reading.specs.Event.{HasNoBank, event_of, record_of};
 ghost use Rattle.edr_reading.specs.Reader.{AtLine, HasReadRows, IsOnlyName, AddsLine, MayBegin, MayHaveEvent, MayTell, Takes, TakesLine, cycles_read, may_ack};
 ghost use Rattle.edr_reading.specs.Reading.{head_row};
@@ -263,7 +264,7 @@ impl Reader {
         ensures read { IfSome result (λ b. IsBank b × HasNoBank self.now.found.items b × MayHaveEvent self.now) }
         ensures none { MatchOption result (MayHaveEvent self.now → (b : ℕ) → IsBank b → HasNoBank self.now.found.items b → ⊥) (λ b. ⊤) }
     {
-        if self.rows > MOST_ROWS - 30 {
+        if self.rows > MOST_ROWS - (EVENT_ROWS as u32 + 1) {
             return None;
         }
         match self.next {
@@ -303,7 +304,7 @@ impl Reader {
 
     // Goes on behind the line in this place, with which this was read.
     fn add_line(&mut self, line: usize, event: PartEvent) -> Result<(), Refused>
-        requires line { line < 29 }
+        requires line { line < EVENT_ROWS }
         requires rows { self.old.rows + 1 < 2 ^ 32 }
         requires record { IsRecord (record_of event) }
         ensures added { OnOk result (AddsLine line event self.old self.new) }

@@ -102,10 +102,7 @@ fn reading_of(alloc: Global, records: &[ByteRecord]) -> Result<Reading, ReportRe
     ensures told { IfOk result (λ r. IsReading (map report_of r.run.items) r.found.items r.count) }
     ensures fault { IfErr result (IsRowRefusal (map fields_of records.now)) }
 {
-    match read_rows(alloc, records) {
-        Ok(reader) => end(alloc, reader),
-        Err(refused) => Err(refused),
-    }
+    end(alloc, read_rows(alloc, records)?)
 }
 
 /// Reads the table of a report back. What is read has exactly the rows that the text has: the cycles, each event with all

@@ -89,10 +89,8 @@ impl SlotRead for Option<bool> {
         if let Some(rest) = behind(bytes, b"off") {
             return Some((Some(false), rest));
         }
-        match behind(bytes, b"none") {
-            Some(rest) => Some((None, rest)),
-            None => None,
-        }
+        let rest = behind(bytes, b"none")?;
+        Some((None, rest))
     }
 }
 
@@ -108,10 +106,7 @@ fn slot_behind<'a, S: SlotRead>(bytes: &'a [u8], front: &[u8]) -> Option<(S, &'a
     ensures read { IfSome result (λ p. (bytes.now ≡ front.now ++ (S.words p.0 ++ p.1.now)) × S.is_slot p.0) }
     ensures whole { ReadsBehind front.now S.words S.is_slot bytes.now result }
 {
-    match behind(bytes, front) {
-        Some(rest) => S::in_front(rest),
-        None => None,
-    }
+    S::in_front(behind(bytes, front)?)
 }
 
 /// Reads slots that are parted by one space, as many as there are; tells whether the bytes are such slots.

@@ -46,10 +46,8 @@ pub(crate) fn told_name(name: &[u8], cycles: u32) -> Option<ToldName>
     if let Some((kind, tick)) = ack(name, cycles) {
         return Some(ToldName::Ack { kind, tick });
     }
-    match last_within(name, b"cycle ", cycles + 1, cycles + 1) {
-        Some(_) => Some(ToldName::Cycle),
-        None => None,
-    }
+    last_within(name, b"cycle ", cycles + 1, cycles + 1)?;
+    Some(ToldName::Cycle)
 }
 
 /// What the value of the first row of a cycle tells.
@@ -60,8 +58,6 @@ pub(crate) fn cycle_value(value: &[u8]) -> Option<CycleRow>
     if let Some(call) = start_call(value) {
         return Some(CycleRow::StartStopped { call });
     }
-    match ran(value) {
-        Some((number, stopped)) => Some(CycleRow::Ran { number, stopped }),
-        None => None,
-    }
+    let (number, stopped) = ran(value)?;
+    Some(CycleRow::Ran { number, stopped })
 }

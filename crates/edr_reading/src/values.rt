@@ -25,10 +25,8 @@ pub(crate) fn bank_behind(bytes: &[u8], front: &[u8]) -> Option<u8>
     ensures read { IfSome result (λ b. (bytes.now ≡ front.now ++ decimal b) × IsBank b) }
     ensures whole { (b : ℕ) → IsBank b → bytes.now ≡ front.now ++ decimal b → result ≡ Some b }
 {
-    match last_within(bytes, front, 1, MOST_BANKS.into()) {
-        Some(bank) => Some(bank as u8),
-        None => None,
-    }
+    let bank = last_within(bytes, front, 1, MOST_BANKS.into())?;
+    Some(bank as u8)
 }
 
 /// A count of ignition cycles, as it is shown, which is at least `low`.
@@ -57,10 +55,8 @@ pub(crate) fn end_time(bytes: &[u8]) -> Option<u16>
     ensures read { IfSome result (λ t. (bytes.now ≡ milliseconds t) × (EARLIEST_END ≤ t) × (t ≤ RESET)) }
     ensures whole { (t : ℕ) → EARLIEST_END ≤ t → t ≤ RESET → bytes.now ≡ milliseconds t → result ≡ Some t }
 {
-    match time(bytes, u32::from(EARLIEST_END), u32::from(RESET)) {
-        Some(end) => Some(end as u16),
-        None => None,
-    }
+    let end = time(bytes, u32::from(EARLIEST_END), u32::from(RESET))?;
+    Some(end as u16)
 }
 
 /// `yes` or `no`.
@@ -127,10 +123,8 @@ fn negative_in_front(bytes: &[u8]) -> Option<(i16, &[u8])>
     ensures whole { (k : ℕ) (more : List ℕ) → k + 1 ≤ GREATEST_CHANGE → EndsNumber more
         → bytes.now ≡ decimal (k + 1) ++ more → GivesValue (negsuc k) more result }
 {
-    match within_behind(bytes, b"", 1, GREATEST_CHANGE) {
-        Some((n, rest)) => Some((0 - n as i16, rest)),
-        None => None,
-    }
+    let (n, rest) = within_behind(bytes, b"", 1, GREATEST_CHANGE)?;
+    Some((0 - n as i16, rest))
 }
 
 // The number in front of the bytes, and what stands behind it.
@@ -139,10 +133,8 @@ fn positive_in_front(bytes: &[u8]) -> Option<(i16, &[u8])>
     ensures whole { (n : ℕ) (more : List ℕ) → n ≤ GREATEST_CHANGE → EndsNumber more
         → bytes.now ≡ decimal n ++ more → GivesValue (pos n) more result }
 {
-    match within_behind(bytes, b"", 0, GREATEST_CHANGE) {
-        Some((n, rest)) => Some((n as i16, rest)),
-        None => None,
-    }
+    let (n, rest) = within_behind(bytes, b"", 0, GREATEST_CHANGE)?;
+    Some((n as i16, rest))
 }
 
 /// The change of speed in front of the bytes, and what stands after it.
@@ -161,12 +153,10 @@ pub(crate) fn extreme(bytes: &[u8], window: u16) -> Option<Extreme>
     ensures read { IfSome result (λ x. (bytes.now ≡ extreme_words x) × IsExtreme window x) }
     ensures whole { (x : Extreme) → IsExtreme window x → bytes.now ≡ extreme_words x → result ≡ Some x }
 {
-    match change_in_front(bytes) {
-        Some((kmh, rest)) => match one_number(rest, b" km/h at ", b" ms") {
-            Some(at) if at <= u32::from(window) => Some(Extreme { kmh, at: at as u16 }),
-            _ => None,
-        },
-        None => None,
+    let (kmh, rest) = change_in_front(bytes)?;
+    match one_number(rest, b" km/h at ", b" ms") {
+        Some(at) if at <= u32::from(window) => Some(Extreme { kmh, at: at as u16 }),
+        _ => None,
     }
 }
 
@@ -248,12 +238,8 @@ fn second_place(between: &[u8]) -> Option<Place>
     ensures read { IfSome result (λ p. (events_in_crash p ≡ codes "2") × (between.now ≡ time_between p) × IsPlace p) }
     ensures whole { (after : ℕ) → IsPlace (Place.Second after) → between.now ≡ time_between (Place.Second after) → IsSome result }
 {
-    match tenths(between) {
-        Some(tenths) => Some(Place::Second {
-            after: time_shown(tenths),
-        }),
-        None => None,
-    }
+    let after = time_shown(tenths(between)?);
+    Some(Place::Second { after })
 }
 
 // Whether a damaged bank is locked, behind what else it shows.
@@ -261,10 +247,7 @@ fn lock_behind(bytes: &[u8]) -> Option<bool>
     ensures read { IfSome result (λ l. bytes.now ≡ codes " locked " ++ yes_no l) }
     ensures whole { (l : Bool) → bytes.now ≡ codes " locked " ++ yes_no l → result ≡ Some l }
 {
-    match behind(bytes, b" locked ") {
-        Some(word) => decision(word),
-        None => None,
-    }
+    decision(behind(bytes, b" locked ")?)
 }
 
 // The byte that a damaged bank shows, and whether it is locked.
@@ -272,13 +255,8 @@ fn byte_behind(bytes: &[u8]) -> Option<(u8, bool)>
     ensures read { IfSome result (λ p. bytes.now ≡ byte_words p.0 p.1) }
     ensures whole { (x : ℕ) (l : Bool) → x ≤ 255 → bytes.now ≡ byte_words x l → result ≡ Some (x, l) }
 {
-    match within_behind(bytes, b" found ", 0, 255) {
-        Some((found, rest)) => match lock_behind(rest) {
-            Some(locked) => Some((found as u8, locked)),
-            None => None,
-        },
-        None => None,
-    }
+    let (found, rest) = within_behind(bytes, b" found ", 0, 255)?;
+    Some((found as u8, lock_behind(rest)?))
 }
 
 /// What a damaged bank shows: where, which byte stands there, and whether it is locked.
@@ -294,17 +272,13 @@ pub(crate) fn damage(bytes: &[u8]) -> Option<DamageShown>
     ensures read { IfSome result (λ d. IsDamage d.offset d.found × (bytes.now ≡ damage_words d.offset d.found d.locked)) }
     ensures whole { (o x : ℕ) (l : Bool) → IsDamage o x → bytes.now ≡ damage_words o x l → IsSome result }
 {
-    match within_behind(bytes, b"damaged at ", 0, BANK_SIZE as u32 - 1) {
-        Some((offset, rest)) => match byte_behind(rest) {
-            Some((found, locked)) => Some(DamageShown {
-                offset: offset as u16,
-                found,
-                locked,
-            }),
-            None => None,
-        },
-        None => None,
-    }
+    let (offset, rest) = within_behind(bytes, b"damaged at ", 0, BANK_SIZE as u32 - 1)?;
+    let (found, locked) = byte_behind(rest)?;
+    Some(DamageShown {
+        offset: offset as u16,
+        found,
+        locked,
+    })
 }
 
 /// In which call a start was stopped.
@@ -334,13 +308,8 @@ pub(crate) fn ran(bytes: &[u8]) -> Option<(u32, Option<u32>)>
     ensures read { IfSome result (λ p. (bytes.now ≡ ran_words p.0 p.1) × (1 ≤ p.0) × IsStopCall p.1) }
     ensures whole { (n : ℕ) (s : Option ℕ) → 1 ≤ n → n < 2 ^ 32 → IsStopCall s → bytes.now ≡ ran_words n s → result ≡ Some (n, s) }
 {
-    match within_behind(bytes, b"number ", 1, u32::MAX) {
-        Some((number, rest)) => match stop(rest) {
-            Some(stop) => Some((number, stop)),
-            None => None,
-        },
-        None => None,
-    }
+    let (number, rest) = within_behind(bytes, b"number ", 1, u32::MAX)?;
+    Some((number, stop(rest)?))
 }
 
 // What was done in this bank.
@@ -362,10 +331,8 @@ pub(crate) fn answer(bytes: &[u8], kind: Kind) -> Option<Applied>
     if is_word(bytes, b"not kept") {
         return Some(Applied::NotKept);
     }
-    match bank_behind(bytes, b"bank ") {
-        Some(bank) => Some(done_in(kind, bank)),
-        None => None,
-    }
+    let bank = bank_behind(bytes, b"bank ")?;
+    Some(done_in(kind, bank))
 }
 
 // When a command of this kind was acknowledged.
@@ -387,10 +354,8 @@ fn command(bytes: &[u8]) -> Option<(Kind, u32)>
     if let Some(tick) = tick_behind(bytes, b" lock at ") {
         return Some((Kind::Lock, tick));
     }
-    match tick_behind(bytes, b" done at ") {
-        Some(tick) => Some((Kind::Done, tick)),
-        None => None,
-    }
+    let tick = tick_behind(bytes, b" done at ")?;
+    Some((Kind::Done, tick))
 }
 
 /// Which command of the cycle in this place was acknowledged, and when.

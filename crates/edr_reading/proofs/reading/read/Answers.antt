@@ -28,20 +28,8 @@ returns-in-Some-clause-refused c reports banks n h is =
     let same = same_records default_config st.StartRecord (strip_bom c.args.bytes.now) records (report_rows reports banks n) read is in
     absurd (fault-is-none records 1 c.in-Some.fault c.in-Some.ensures (reports, banks, n, h, same))
 
-pub returns-clause-read : goal.returns-clause-read
-returns-clause-read c =
-    let records = map fields_of c.deref-2.result.now in
-    let read = subst (λ (x : List _). RecordsOf c.args.bytes.now (map fields_of x)) (sym c.deref-2.ensures.value) c.in-Ok.ensures in
-    rows-read c.args.bytes.now records _ read c.reading_of.ensures.read
-
 pub returns-clause-refused : goal.returns-clause-refused
 returns-clause-refused c =
     let records = map fields_of c.deref-2.result.now in
     let read = subst (λ (x : List _). RecordsOf c.args.bytes.now (map fields_of x)) (sym c.deref-2.ensures.value) c.in-Ok.ensures in
     refused-of c.args.bytes.now records _ read c.reading_of.ensures.fault
-
-pub returns-clause-fault : goal.returns-clause-fault
-returns-clause-fault c =
-    let records = map fields_of c.deref-2.result.now in
-    let read = subst (λ (x : List _). RecordsOf c.args.bytes.now (map fields_of x)) (sym c.deref-2.ensures.value) c.in-Ok.ensures in
-    of-records c.args.bytes.now records _ read c.reading_of.ensures.fault

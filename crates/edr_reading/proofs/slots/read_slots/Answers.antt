@@ -4,13 +4,6 @@ use Rattle.edr_reading.specs.Slots.{spaced_behind}
 use Rattle.edr_reading.proofs.SlotLemmas.{taken-more, left-one, are-more, ends-more, same-more, some-in, read-all, whole-all, none-left}
 use Rattle.edr_reading.proofs.slots.read_slots.Goals as goal
 
-pub loop-i-init : goal.loop-i-init
-loop-i-init g c = record {
-  read = λ ws e. e;
-  slots = λ k d m. absurd (omega (arith, m));
-  whole = λ xs long ok is. (refl, is);
-}
-
 pub returns-in-None-clause-whole : goal.returns-in-None-clause-whole
 returns-in-None-clause-whole g c xs long ok is =
     let at = c.loop-i in
@@ -44,11 +37,3 @@ returns-clause-read g c e =
     let at = c.loop-i in
     let all : at.i ≡ length at.slots = omega (arith, at.auto.slots, at.auto.i-end, c.loop-i-test.false) in
     read-all g.S.SlotRead.words g.S.SlotRead.is_slot c.args.bytes.now at.rest.now at.slots at.i all (none-left at.rest.now (sym c.is_empty.ensures ∙ e)) at.invariant.read at.invariant.slots
-
-pub returns-clause-whole : goal.returns-clause-whole
-returns-clause-whole g c xs long ok is =
-    let at = c.loop-i in
-    let w = at.invariant.whole xs long ok is in
-    let all : at.i ≡ length at.slots = omega (arith, at.auto.slots, at.auto.i-end, c.loop-i-test.false) in
-    let done = whole-all g.S.SlotRead.words at.rest.now at.slots xs at.i all (omega (arith, long, at.auto.slots)) w.0 w.1 in
-    (c.is_empty.ensures ∙ ap (λ (a : List ℕ). nat_eq (length a) 0) done.1, done.0)
