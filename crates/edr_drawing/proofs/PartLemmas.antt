@@ -1,5 +1,5 @@
 -- What stands on a page in one piece.
-use Rattle.std.proofs.Common.{◌≡◌, ◌∙◌, sym, ap, subst, ℕ, zero, suc, ◌+◌, ◌*◌, ◌/◌, ◌%◌, ◌<◌, ◌⊎◌, inl, inr, arith, refl, Bool, true, false, nat_eq, if◌then◌else◌, List, [], ◌∷◌, ◌++◌, Contains, decimal, flat_map, append_assoc, append-nil}
+use Rattle.std.proofs.Common.{◌≡◌, ◌∙◌, sym, ap, subst, ℕ, zero, suc, ◌+◌, ◌*◌, ◌/◌, ◌%◌, ◌<◌, ◌⊎◌, inl, inr, arith, refl, List, [], ◌∷◌, ◌++◌, Contains, flat_map, append_assoc, append-nil}
 use Rattle.std.specs.List.{enumerate_from}
 use Rattle.std.proofs.lemmas.Bool.{cases_lt}
 use Rattle.std.proofs.lemmas.List.Elements.{Contains-append_cases}
@@ -14,20 +14,10 @@ use Rattle.edr_image.specs.declared.Found.{Found}
 use Rattle.edr_image.specs.Reports.{Report}
 use Rattle.edr_report.specs.Lines.{Line}
 use Rattle.edr_report.specs.Report.{event_lines, events_lines, found_records, run_lines}
-use Rattle.edr_drawing.specs.declared.TheConstants.{VERSION}
-use Rattle.edr_drawing.specs.declared.cover.TheConstants.{FIRST_FOOT}
-use Rattle.edr_drawing.specs.declared.sheets.TheConstants.{SHEET_FOOT}
-use Rattle.edr_drawing.specs.declared.by_time.TheConstants.{BLOCK_START, BY_TIME_END}
 use Rattle.edr_drawing.specs.Scales.{flat_map_below}
-use Rattle.edr_drawing.specs.declared.long.TheConstants.{FORM, NOTES, PAGE_END}
-use Rattle.edr_drawing.specs.declared.tables.TheConstants.{ELEMENTS_END, ELEMENTS_START, NEXT_TABLE, TABLE_END}
-use Rattle.edr_drawing.specs.Template.{digest_hex, filled, fixed}
-use Rattle.edr_drawing.specs.Tables.{row, row_of, line_row, begins_table, elements_table, points_table, run_table}
-use Rattle.edr_drawing.specs.Before.{before_chart}
-use Rattle.edr_drawing.specs.Rows.{after_chart}
-use Rattle.edr_drawing.specs.Reasons.{reasons}
+use Rattle.edr_drawing.specs.Tables.{row, row_of, line_row, elements_table, run_table}
 use Rattle.edr_drawing.specs.Pairs.{place_fact}
-use Rattle.edr_drawing.specs.ByTime.{block, block_slots, blocks, blocks_in, by_time, slot_row, slot_rows}
+use Rattle.edr_drawing.specs.ByTime.{block, block_slots, blocks, blocks_in, by_time, slot_row}
 use Rattle.edr_drawing.specs.Sheets.{sheet, sheets}
 use Rattle.edr_drawing.specs.Cover.{cover, events_in}
 use Rattle.edr_drawing.specs.Page.{page_bytes}

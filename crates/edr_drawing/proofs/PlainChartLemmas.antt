@@ -1,31 +1,25 @@
 -- The charts of a page have plain texts.
-use Rattle.std.proofs.Common.{refl, ℕ, ◌≡◌, ◌+◌, ◌-◌, ◌*◌, ◌/◌, ℤ, Bool, true, false, ◌&&◌, nat_lt, nat_le, nat_eq, Option, Some, None, List, [], ◌∷◌, pos, map, get_or, codes, decimal}
+use Rattle.std.proofs.Common.{ℕ, ◌≡◌, ◌+◌, ◌*◌, ℤ, Bool, true, false, Option, Some, None, List, [], ◌∷◌, get_or}
 use Rattle.std.specs.List.{list_all}
 use Rattle.std.proofs.lemmas.Bool.{and_parts}
-use Rattle.std.specs.Ordering.{int_eq}
-use Rattle.edr_record.specs.declared.Extreme.{Extreme}
 use Rattle.edr_record.specs.Parts.{PrePart, CrashPart}
 use Rattle.edr_record.specs.declared.Profile.{Profile}
 use Rattle.edr_record.specs.declared.Profile.TheVariants.{Short, Long}
 use Rattle.edr_drawing.specs.declared.axes.CarAxis.{CarAxis}
-use Rattle.edr_drawing.specs.declared.axes.CarAxis.TheVariants.{Along, Across}
 use Rattle.edr_drawing.specs.declared.before.TheConstants.{BRAKE_Y, FIELD_HEIGHT}
 use Rattle.edr_drawing.specs.declared.changes.Scale.{Scale}
 use Rattle.edr_drawing.specs.declared.lanes.ChartLane.{ChartLane}
 use Rattle.edr_drawing.specs.declared.shapes.Shape.{Shape}
 use Rattle.edr_drawing.specs.declared.shapes.Shape.TheVariants as shape
-use Rattle.edr_report.specs.Words.{milliseconds}
-use Rattle.edr_drawing.specs.Axes.{extreme_of, is_silent, missing_of, of_axis}
-use Rattle.edr_drawing.specs.Template.{filled, of_profile}
 use Rattle.edr_drawing.specs.Shapes.{path_point, shape_bytes, shapes_bytes}
 use Rattle.edr_record.specs.declared.TheConstants.{POINT_STEP}
-use Rattle.edr_drawing.specs.Scales.{slot_x, time_at}
-use Rattle.edr_drawing.specs.Lanes.{cells, cells_of, drawn_lane, field_shapes, gap, grid, grid_line, lane_y, long_cells, points}
-use Rattle.edr_drawing.specs.Before.{are_same, before_chart, brake_slots, switch_runs, switches, time_line, time_lines}
+use Rattle.edr_drawing.specs.Scales.{slot_x}
+use Rattle.edr_drawing.specs.Lanes.{cells, cells_of, drawn_lane, field_shapes, gap, lane_y, long_cells, points}
+use Rattle.edr_drawing.specs.Before.{are_same, before_chart, brake_slots, switch_runs, switches, time_lines}
 use Rattle.edr_drawing.specs.Changes.{change_y, time_x}
-use Rattle.edr_drawing.specs.After.{axis_marks, axis_points, changes_chart, curve, drawn_curve, end_line, gapped, legend_gaps, level, levels, mark_at, maximum, maximum_number, past_window, silent_curve, time_line as later_line, time_lines as later_lines}
-use Rattle.edr_drawing.specs.Rows.{after_chart, after_head, empty_row, event_rows, extreme_row, restraint_row, restraint_rows, restraint_y, resultant_row, rows_chart, rule, timed_row}
-use Rattle.edr_drawing.proofs.PlainLemmas.{Plain, all_low, plain_nil, plain_append, plain_if, plain_fixed, plain_flat_map, plain_counted, plain_text, plain_filled, plains, plain_decimal, plain_of_profile, plain_of_axis, plain_of_switch}
+use Rattle.edr_drawing.specs.After.{axis_marks, axis_points, changes_chart, curve, drawn_curve, end_line, legend_gaps, level, levels, mark_at, maximum, maximum_number, past_window, time_lines as later_lines}
+use Rattle.edr_drawing.specs.Rows.{after_chart, event_rows, extreme_row, restraint_row, restraint_rows, resultant_row, rows_chart}
+use Rattle.edr_drawing.proofs.PlainLemmas.{Plain, all_low, plain_nil, plain_append, plain_if, plain_fixed, plain_flat_map, plains}
 
 plain_shape : (s : Shape) → Plain (shape_bytes s)
 plain_shape (shape.Dot x y) = search plains depth 20

@@ -1,5 +1,5 @@
 -- Texts whose bytes are all below 128, and the templates of a page, which are such texts.
-use Rattle.std.proofs.Common.{arith, ◌≡◌, refl, ℕ, zero, suc, ◌+◌, ◌-◌, ◌/◌, ◌%◌, ◌<◌, ltb-true, ℤ, pos, negsuc, Bool, true, false, if◌then◌else◌, nat_lt, nat_eq, Option, Some, None, List, [], ◌∷◌, ◌++◌, flat_map, get_or, take, codes, decimal, All}
+use Rattle.std.proofs.Common.{arith, ◌≡◌, ℕ, zero, suc, ◌+◌, ◌-◌, ◌/◌, ◌%◌, ◌<◌, ltb-true, ℤ, pos, negsuc, Bool, true, false, if◌then◌else◌, nat_lt, nat_eq, Option, Some, None, List, [], ◌∷◌, ◌++◌, flat_map, get_or, take, decimal, All}
 use Rattle.std.specs.List.{list_all}
 use Rattle.std.specs.Fmt.{signed_decimal, digits, digits_onto, digit_glyph}
 use Rattle.std.proofs.lemmas.List.Elements.{All-nil, All-cons, All-append, All-head, All-tail, All-take}
@@ -8,15 +8,11 @@ use Rattle.edr_record.specs.declared.Place.{Place}
 use Rattle.edr_record.specs.declared.Place.TheVariants.{First, Second}
 use Rattle.edr_record.specs.declared.Profile.{Profile}
 use Rattle.edr_record.specs.declared.Profile.TheVariants.{Short, Long}
-use Rattle.edr_report.specs.Words.{extreme_words, milliseconds, tenths_of}
-use Rattle.edr_drawing.specs.declared.template.TheConstants.{AFTER_FIRST, BEGINNING, SECOND}
-use Rattle.edr_record.specs.declared.Extreme.{Extreme}
-use Rattle.edr_record.specs.Parts.{CrashPart}
+use Rattle.edr_drawing.specs.declared.template.TheConstants.{BEGINNING}
 use Rattle.edr_drawing.specs.declared.axes.CarAxis.{CarAxis}
 use Rattle.edr_drawing.specs.declared.axes.CarAxis.TheVariants.{Along, Across}
-use Rattle.edr_drawing.specs.declared.axes.TheConstants.{NO_SAMPLE}
-use Rattle.edr_drawing.specs.Axes.{extreme_of, greatest_words, is_silent, of_axis}
-use Rattle.edr_drawing.specs.Template.{before_zero, byte_bytes, digest_hex, either, filled, filled_from, fixed, hex_byte, hex_digit, of_profile, of_switch, place_words, seconds}
+use Rattle.edr_drawing.specs.Axes.{of_axis}
+use Rattle.edr_drawing.specs.Template.{byte_bytes, digest_hex, filled, filled_from, fixed, hex_digit, of_profile, of_switch, place_words}
 use Rattle.edr_drawing.specs.Scales.{flat_map_below}
 
 -- each byte is below 128

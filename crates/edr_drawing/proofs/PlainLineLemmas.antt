@@ -1,5 +1,5 @@
 -- The lines of a report have plain names and plain values.
-use Rattle.std.proofs.Common.{arith, ◌≡◌, refl, ℕ, ◌/◌, ◌%◌, Bool, true, false, Option, Some, None, List, [], ◌∷◌, ◌++◌, map, take, flat_map, get_or, codes, decimal}
+use Rattle.std.proofs.Common.{arith, ◌≡◌, refl, ℕ, Bool, true, false, Option, Some, None, List, [], ◌∷◌, ◌++◌, map, take, flat_map, get_or}
 use Rattle.std.specs.List.{enumerate_from}
 use Rattle.std.specs.List.{list_all}
 use Rattle.std.proofs.lemmas.Bool.{and_parts}
@@ -17,9 +17,9 @@ use Rattle.edr_image.specs.declared.Ack.{Ack}
 use Rattle.edr_image.specs.declared.Kind.{Kind}
 use Rattle.edr_image.specs.declared.Kind.TheVariants as kind
 use Rattle.edr_image.specs.declared.Applied.{Applied}
-use Rattle.edr_image.specs.declared.Applied.TheVariants.{Kept, Locked, Done, NotKept}
+use Rattle.edr_image.specs.declared.Applied.TheVariants.{NotKept}
 use Rattle.edr_image.specs.Reports.{Report, StartStopped, Ran}
-use Rattle.edr_report.specs.Words.{number_shown, cycle_words, kind_word, ack_words, bank_words, applied_words, stop_words, none_word, yes_no, on_off, profile_word, number_or_none, switch_or_none, firing_words, events_in_crash, seconds, time_between, spaced_words, tenths_of, missing_words}
+use Rattle.edr_report.specs.Words.{kind_word, applied_words, stop_words, none_word, yes_no, profile_word, number_or_none, switch_or_none, firing_words, events_in_crash, time_between, spaced_words}
 use Rattle.edr_report.specs.Lines.{Line}
 use Rattle.edr_report.specs.declared.event_lines.EventLine.{EventLine}
 use Rattle.edr_report.specs.declared.event_lines.EventLine.TheVariants as event
@@ -30,9 +30,8 @@ use Rattle.edr_report.specs.declared.event_lines.CrashLine.TheVariants as crash
 use Rattle.edr_report.specs.declared.event_lines.TheConstants.{LINES_OF_EVENT}
 use Rattle.edr_report.specs.EventWords.{place_of, pre_words, crash_words, event_words}
 use Rattle.edr_report.specs.Report.{ack_line, cycle_lines, event_line, event_lines, run_lines}
-use Rattle.edr_drawing.specs.declared.tables.TheConstants.{IN_TABLE, LINE_END, LINE_NAME, LINE_VALUE, LISTS, NEXT_TABLE}
-use Rattle.edr_drawing.specs.Tables.{row, row_of, line_row, begins_table, is_one_of, shown_value}
-use Rattle.edr_drawing.proofs.PlainLemmas.{Plain, all_low, plain_nil, plain_cons, plain_append, plain_if, plain_fixed, plain_signed, plains}
+use Rattle.edr_drawing.specs.Tables.{row_of, line_row}
+use Rattle.edr_drawing.proofs.PlainLemmas.{Plain, all_low, plain_nil, plain_cons, plain_append, plain_fixed, plain_signed, plains}
 
 -- ---- values
 

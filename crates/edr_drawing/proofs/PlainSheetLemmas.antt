@@ -1,32 +1,23 @@
 -- The sheets of a page have plain texts.
-use Rattle.std.proofs.Common.{◌≡◌, refl, ℕ, ◌+◌, ◌*◌, ◌<◌, Bool, true, nat_eq, nat_le, Option, Some, None, List, [], ◌∷◌, decimal, All}
+use Rattle.std.proofs.Common.{◌≡◌, refl, ℕ, ◌+◌, ◌<◌, Bool, true, Option, Some, None, List, [], ◌∷◌, All}
 use Rattle.edr_record.specs.declared.Key.{Key}
 use Rattle.edr_record.specs.declared.Place.{Place}
 use Rattle.edr_record.specs.declared.Place.TheVariants.{First, Second}
-use Rattle.edr_record.specs.declared.Profile.{Profile}
 use Rattle.edr_record.specs.declared.Record.{Record}
 use Rattle.edr_record.specs.Parts.{PrePart, CrashPart}
-use Rattle.edr_record.specs.Bounds.{point_count}
-use Rattle.edr_record.specs.Complete.{is_complete}
 use Rattle.edr_image.specs.declared.BankView.{BankView}
-use Rattle.edr_image.specs.declared.BankView.TheVariants.{Void, Event, Damaged}
+use Rattle.edr_image.specs.declared.BankView.TheVariants.{Event, Damaged}
 use Rattle.edr_image.specs.declared.Found.{Found}
 use Rattle.edr_image.specs.Reports.{Report}
-use Rattle.edr_drawing.specs.declared.axes.CarAxis.{CarAxis}
-use Rattle.edr_drawing.specs.declared.axes.CarAxis.TheVariants.{Along, Across}
 use Rattle.edr_drawing.specs.declared.shapes.TheConstants.{NONE}
-use Rattle.edr_report.specs.declared.TheConstants.{LARGEST_SHOWN_COUNT}
-use Rattle.edr_report.specs.Words.{number_shown}
-use Rattle.edr_drawing.specs.Template.{digest_hex, either, filled}
 use Rattle.edr_drawing.specs.Reasons.{share_reason, switch_reason, pre_reasons, crash_reasons, reasons}
-use Rattle.edr_drawing.specs.Tables.{axis_cells, time_cell, time_cells, change_cell, change_row, points_table, elements_table, run_table}
-use Rattle.edr_drawing.specs.Axes.{is_silent, points_of}
-use Rattle.edr_drawing.specs.ByTime.{block, block_slots, blocks_in, by_time, mph, mph_word, number_word, slot_at, slot_row}
-use Rattle.edr_drawing.specs.Pairs.{count_if, firsts, firsts_words, or_event, place_fact, place_told}
+use Rattle.edr_drawing.specs.Tables.{points_table, elements_table, run_table}
+use Rattle.edr_drawing.specs.ByTime.{block, by_time, mph, mph_word, number_word, slot_row}
+use Rattle.edr_drawing.specs.Pairs.{count_if, firsts_words, place_fact, place_told}
 use Rattle.edr_drawing.specs.Sheets.{facts, sheet, sheet_if, sheets}
-use Rattle.edr_drawing.specs.Cover.{extreme_cells, event_row, event_row_if, event_rows, events_in, events_table, damaged_item, damaged_items, damaged_in, damaged_list, cover}
+use Rattle.edr_drawing.specs.Cover.{extreme_cells, event_row, event_row_if, event_rows, events_table, damaged_item, damaged_list, cover}
 use Rattle.edr_drawing.specs.Page.{page_bytes, page_head}
-use Rattle.edr_drawing.proofs.PlainLemmas.{Plain, all_low, plain_nil, plain_append, plain_if, plain_fixed, plain_flat_map, plain_counted, plain_text, plain_filled, plain_beginning, plain_decimal, plain_digest, plain_of_profile, plain_of_switch, plains}
+use Rattle.edr_drawing.proofs.PlainLemmas.{Plain, all_low, plain_nil, plain_append, plain_fixed, plain_beginning, plain_decimal, plain_digest, plains}
 use Rattle.edr_drawing.proofs.PlainChartLemmas.{plain_before_chart, plain_after_chart}
 use Rattle.edr_drawing.proofs.PlainLineLemmas.{plain_event_lines, plain_run_lines}
 

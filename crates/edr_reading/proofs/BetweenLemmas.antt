@@ -1,9 +1,9 @@
 -- A reader between events takes a row or refuses it.
-use Rattle.std.proofs.Common.{arith, ◌≡◌, ◌≢◌, ◌∙◌, sym, ap, ap₂, subst, refl, ℕ, ◌+◌, ◌<◌, ◌≤◌, ◌^◌, ◌⊎◌, inl, inr, ⊎_elim, Bool, true, false, eqb, List, [], ◌∷◌, ◌++◌, map, length, take, append_assoc, length-append, decimal, Option, Some, None, codes}
+use Rattle.std.proofs.Common.{arith, ◌≡◌, ◌∙◌, sym, ap, ap₂, subst, refl, ℕ, ◌+◌, ◌<◌, ◌≤◌, ◌^◌, ⊎_elim, Bool, true, false, eqb, List, [], ◌∷◌, ◌++◌, map, length, append_assoc, length-append, decimal, Option, Some, codes}
 use Rattle.std.specs.List.{All, IsDistinct, slice_index_or}
-use Rattle.std.proofs.lemmas.List.{map-append, append-nil}
+use Rattle.std.proofs.lemmas.List.{map-append}
 use Rattle.std.proofs.lemmas.List.Elements.{All-append, All-cons, All-tail, All-take}
-use Rattle.std.proofs.Math.Seq.{take-append_seam, drop-append_seam}
+use Rattle.std.proofs.Math.Seq.{take-append_seam}
 use Rattle.edr_record.specs.declared.Record.{Record}
 use Rattle.edr_image.specs.declared.Ack.{Ack}
 use Rattle.edr_image.specs.declared.Kind.{Kind}
@@ -12,9 +12,7 @@ use Rattle.edr_image.specs.declared.BankView.{BankView}
 use Rattle.edr_image.specs.declared.Found.{Found}
 use Rattle.edr_image.specs.Banks.{found_event}
 use Rattle.edr_image.specs.Reports.{Report, StartStopped, Ran}
-use Rattle.edr_report.specs.Report.{cycle_lines}
 use Rattle.edr_report.specs.Words.{applied_words, shown_count}
-use Rattle.edr_reading.specs.declared.faults.RowFault.TheVariants as fault
 use Rattle.edr_reading.specs.declared.reader.Refused.TheVariants as refused
 use Rattle.edr_reading.specs.declared.told.CycleRow.{CycleRow}
 use Rattle.edr_reading.specs.declared.told.CycleRow.TheVariants as row
@@ -24,14 +22,13 @@ use Rattle.edr_reading.specs.Event.{HasNoBank}
 use Rattle.edr_reading.specs.Faults.{AreReport, ReportGoesOn}
 use Rattle.edr_reading.specs.Found.{IsDamaged, IsEvent, banks_in, count_fields, damaged_fields, events_fields}
 use Rattle.edr_reading.specs.Reading.{AreDistinct, head_row}
-use Rattle.edr_reading.specs.Parts.{IsRecord}
-use Rattle.edr_reading.specs.Reader.{IsBetween, IsInside, IsRefused, IsToldReport, MayFollow, MayFollowLine, last_cycle, may_ack, whole}
-use Rattle.edr_reading.specs.Rows.{FieldRows, event_fields, line_fields}
+use Rattle.edr_reading.specs.Reader.{IsBetween, IsRefused, IsToldReport, MayFollow, last_cycle, may_ack, whole}
+use Rattle.edr_reading.specs.Rows.{FieldRows}
 use Rattle.edr_reading.specs.Run.{IsReport, ack_fields, acks_of, cycle_fields, row_of, run_fields}
 use Rattle.edr_reading.specs.Told.{IsAck, IsCycleRow, IsToldName, cycle_line, name_words}
 use Rattle.edr_reading.specs.Values.{IsApplied, IsBank, IsDamagedView, view_words}
-use Rattle.edr_reading.proofs.DistinctLemmas.{alone, distinct-more, distinct-none}
-use Rattle.edr_reading.proofs.FollowLemmas.{IsNextRow, ToldNext, next-row, none, some-rows}
+use Rattle.edr_reading.proofs.DistinctLemmas.{distinct-more, distinct-none}
+use Rattle.edr_reading.proofs.FollowLemmas.{ToldNext, next-row, none}
 use Rattle.edr_reading.proofs.WholeLemmas.{cycle-lines, decimal-same, report-told, told-report, whole-cycle, whole-damaged}
 
 -- ---- lists

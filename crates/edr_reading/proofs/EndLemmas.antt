@@ -1,10 +1,10 @@
 -- Where a text can be no report, and what was read of one that is.
-use Rattle.std.proofs.Common.{arith, ◌≡◌, ◌∙◌, sym, ap, ap₂, subst, refl, ℕ, ◌+◌, ◌<◌, ◌≤◌, List, [], ◌∷◌, ◌++◌, map, length, take, drop, get_or, Option, None, Some}
-use Rattle.std.proofs.lemmas.List.{append-nil, drop_more, length-take-le, take_more}
+use Rattle.std.proofs.Common.{arith, ◌≡◌, ◌∙◌, sym, ap, ap₂, subst, refl, ℕ, ◌+◌, ◌<◌, ◌≤◌, List, [], ◌∷◌, ◌++◌, map, length, take, drop, get_or, Option, None}
+use Rattle.std.proofs.lemmas.List.{append-nil, drop_more, take_more}
 use Rattle.std.proofs.Math.Seq.{take-length}
 use Rattle.edr_image.specs.declared.Found.{Found}
 use Rattle.edr_image.specs.Banks.{found_event}
-use Rattle.edr_image.specs.Reports.{Report, report_of}
+use Rattle.edr_image.specs.Reports.{Report}
 use Rattle.edr_reading.specs.declared.faults.RowFault.TheVariants as fault
 use Rattle.edr_reading.specs.declared.reader.NextRow.{NextRow}
 use Rattle.edr_reading.specs.declared.reader.NextRow.TheVariants as next
@@ -14,7 +14,7 @@ use Rattle.edr_reading.specs.declared.reader.Refused.TheVariants as refused
 use Rattle.edr_reading.specs.declared.told.CycleRow.{CycleRow}
 use Rattle.edr_reading.specs.Faults.{AreReport, IsFault, IsWrong, Opens}
 use Rattle.edr_reading.specs.Found.{count_fields}
-use Rattle.edr_reading.specs.Reader.{HasReadRows, IsBetween, IsRefused, StandsNext, cycles_read, may_ack}
+use Rattle.edr_reading.specs.Reader.{HasReadRows, IsRefused, StandsNext, cycles_read, may_ack}
 use Rattle.edr_reading.specs.Reading.{IsReading, report_rows, rows_told}
 use Rattle.edr_reading.specs.Refusals.{IsRowRefusal, IsRefusalOfRecords, refusal_of}
 use Rattle.edr_reading.specs.declared.reading.Reading.{Reading}
@@ -27,7 +27,7 @@ use Rattle.edr_reading.proofs.BetweenLemmas.{between-count}
 use Rattle.edr_reading.proofs.FaultLemmas.{fault-behind, fault-is-none, wrong-end}
 use Rattle.edr_reading.proofs.FollowLemmas.{some-rows}
 use Rattle.edr_reading.proofs.LineLemmas.{inside-count}
-use Rattle.edr_reading.proofs.WholeLemmas.{told-report, whole-parts}
+use Rattle.edr_reading.proofs.WholeLemmas.{whole-parts}
 use Rattle.edr_report.specs.EventWords.{event_words}
 use Rattle.edr_report.specs.declared.event_lines.EventLine.TheVariants.{Number}
 use Rattle.edr_reading.specs.Event.{event_of}

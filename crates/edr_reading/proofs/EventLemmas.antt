@@ -1,7 +1,7 @@
 -- The lines of an event.
-use Rattle.std.proofs.Common.{arith, ◌≡◌, ◌∙◌, sym, ap, ap₂, subst, refl, ℕ, suc, ◌+◌, ◌-◌, ◌<◌, ◌≤◌, Bool, false, List, [], ◌∷◌, ◌++◌, length, map, take, Option, None, Some}
+use Rattle.std.proofs.Common.{arith, ◌≡◌, ◌∙◌, sym, ap, subst, refl, ℕ, suc, ◌+◌, ◌-◌, ◌≤◌, Bool, false, List, [], ◌∷◌, ◌++◌, length, take, Option, None, Some}
 use Rattle.std.specs.Option.{IfSome, option_map_or}
-use Rattle.std.proofs.lemmas.List.{length-map, take-append-le, length-replicate}
+use Rattle.std.proofs.lemmas.List.{length-map, take-append-le}
 use Rattle.edr_record.specs.declared.Record.{Record}
 use Rattle.edr_record.specs.Bounds.{IsCrash}
 use Rattle.edr_record.specs.Complete.{is_complete, misses_no_tick}
@@ -15,9 +15,9 @@ use Rattle.edr_report.specs.declared.event_lines.CrashLine.TheVariants as crash
 use Rattle.edr_report.specs.declared.event_lines.Restraint.{Restraint}
 use Rattle.edr_report.specs.declared.event_lines.Restraint.TheVariants as restraint
 use Rattle.edr_report.specs.EventWords.{place_of}
-use Rattle.edr_report.specs.Words.{firing_words, none_word, yes_no}
+use Rattle.edr_report.specs.Words.{firing_words, yes_no}
 use Rattle.edr_reading.specs.Event.{EventAgrees, event_place, event_texts}
-use Rattle.edr_reading.specs.Parts.{CrashAgrees, PartsAgree, PreAgrees, crash_place, crash_texts, pre_place}
+use Rattle.edr_reading.specs.Parts.{PartsAgree, PreAgrees, crash_place, crash_texts, pre_place}
 
 pre-most : (l : PreLine) → pre_place l ≤ 10
 pre-most pre.Cycle = omega arith

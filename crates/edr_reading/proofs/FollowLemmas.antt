@@ -1,7 +1,6 @@
 -- What the next row of a report may be.
-use Rattle.std.proofs.Common.{arith, ◌≡◌, ◌∙◌, sym, ap, ap₂, subst, refl, ℕ, suc, ◌+◌, ◌-◌, ◌<◌, ◌≤◌, ◌⊎◌, inl, inr, Bool, true, false, eqb, List, [], ◌∷◌, ◌++◌, map, length, take, drop, get_or, append_assoc, length-append, decimal, Option, Some, None}
+use Rattle.std.proofs.Common.{arith, ◌≡◌, ◌∙◌, sym, ap, subst, refl, ℕ, ◌+◌, ◌≤◌, ◌⊎◌, inl, inr, Bool, true, false, eqb, List, [], ◌∷◌, ◌++◌, map, length, append_assoc, length-append, decimal, Option, Some, None}
 use Rattle.std.specs.List.{All, IsDistinct, slice_index_or}
-use Rattle.std.proofs.lemmas.List.{map-append, append-nil, drop_more}
 use Rattle.std.proofs.lemmas.List.Elements.{All-head, All-tail}
 use Rattle.edr_record.specs.declared.Record.{Record}
 use Rattle.edr_image.specs.declared.Ack.{Ack}
@@ -17,14 +16,13 @@ use Rattle.edr_reading.specs.declared.told.ToldName.{ToldName}
 use Rattle.edr_reading.specs.declared.told.ToldName.TheVariants as name
 use Rattle.edr_reading.specs.Event.{EventAgrees}
 use Rattle.edr_reading.specs.Found.{IsDamaged, IsEvent, banks_in, count_fields, damaged_fields, events_fields, last_rows}
-use Rattle.edr_reading.specs.Parts.{PartsAgree, PreAgrees}
+use Rattle.edr_reading.specs.Parts.{PartsAgree}
 use Rattle.edr_record.specs.Parts.{CrashPart}
 use Rattle.edr_reading.specs.Reader.{MayFollow, MayFollowLine, may_ack}
 use Rattle.edr_reading.specs.Rows.{FieldRows, event_fields}
 use Rattle.edr_reading.specs.Run.{IsReport, ack_fields, acks_of, cycle_fields, row_of, run_fields}
 use Rattle.edr_reading.specs.Told.{IsAck, IsCycleRow, IsToldName, cycle_line, name_words}
 use Rattle.edr_reading.specs.Values.{IsApplied, IsDamagedView, view_words}
-use Rattle.edr_reading.proofs.RowLemmas.{event-long}
 use Rattle.edr_reading.proofs.WholeLemmas.{events-first, run-first}
 
 pub none : {X : Type 0} (P : X → Type 0) → All P []

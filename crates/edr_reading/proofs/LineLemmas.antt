@@ -1,7 +1,7 @@
 -- A reader in an event takes a row or refuses it.
 use Rattle.std.proofs.Common.{arith, ◌≡◌, ◌≢◌, ◌∙◌, sym, ap, ap₂, subst, refl, ℕ, ◌+◌, ◌<◌, ◌≤◌, ◌^◌, ⊎_elim, Bool, true, false, eqb, List, [], ◌∷◌, ◌++◌, map, length, take, drop, get_or, append_assoc, length-append, decimal}
-use Rattle.std.specs.List.{All, IsDistinct, slice_index_or}
-use Rattle.std.proofs.lemmas.List.{append-nil, drop_more, length-map, take-append-drop, length-drop}
+use Rattle.std.specs.List.{IsDistinct, slice_index_or}
+use Rattle.std.proofs.lemmas.List.{append-nil, drop_more, take-append-drop, length-drop}
 use Rattle.std.proofs.Math.Seq.{take-length}
 use Rattle.edr_record.specs.declared.Record.{Record}
 use Rattle.edr_image.specs.declared.Found.{Found}
@@ -11,19 +11,18 @@ use Rattle.edr_report.specs.EventWords.{event_words}
 use Rattle.edr_reading.specs.Parts.{IsRecord}
 use Rattle.edr_report.specs.declared.event_lines.EventLine.TheVariants.{Number}
 use Rattle.edr_reading.specs.declared.reader.Refused.TheVariants as refused
-use Rattle.edr_reading.specs.Event.{EventAgrees, HasNoBank, IsNextEvent, event_texts}
-use Rattle.edr_reading.specs.Faults.{AreReport, ReportGoesOn}
+use Rattle.edr_reading.specs.Event.{EventAgrees, IsNextEvent, event_texts}
+use Rattle.edr_reading.specs.Faults.{AreReport}
 use Rattle.edr_reading.specs.Found.{IsDamaged, IsEvent, banks_in, count_fields, damaged_fields, events_fields, last_rows}
 use Rattle.edr_reading.specs.Reading.{AreDistinct}
-use Rattle.edr_reading.specs.Reader.{GoesOnIn, IsBetween, IsInside, IsRefused, IsToldReport, MayFollow, MayFollowLine, whole}
+use Rattle.edr_reading.specs.Reader.{GoesOnIn, IsBetween, IsInside, IsRefused, IsToldReport, MayFollowLine, whole}
 use Rattle.edr_reading.specs.Rows.{FieldRows, event_fields, event_names}
-use Rattle.edr_reading.specs.Run.{ack_fields, run_fields}
 use Rattle.edr_reading.specs.Told.{IsAck}
 use Rattle.edr_reading.specs.Run.{IsReport}
-use Rattle.edr_reading.proofs.BetweenLemmas.{All-last, banks-last, between-count, goes-on, refuse-1, refuse-2, refuse-3}
+use Rattle.edr_reading.proofs.BetweenLemmas.{All-last, banks-last, goes-on, refuse-1, refuse-2, refuse-3}
 use Rattle.edr_reading.proofs.DistinctLemmas.{alone, distinct-more}
 use Rattle.edr_reading.proofs.FollowLemmas.{next-row, none}
-use Rattle.edr_reading.proofs.RowLemmas.{event-gone, event-long, line-place, lines, row-at, rows-more}
+use Rattle.edr_reading.proofs.RowLemmas.{event-gone, event-long, lines, row-at, rows-more}
 use Rattle.edr_reading.proofs.WholeLemmas.{decimal-same, told-report, whole-event}
 
 -- ---- what a line may be

@@ -1,22 +1,21 @@
 -- The rows of an event, by the names and values of its lines.
-use Rattle.std.proofs.Common.{arith, ◌≡◌, ◌∙◌, sym, ap, ap₂, subst, refl, ℕ, zero, suc, ◌+◌, ◌<◌, Bool, List, [], ◌∷◌, ◌++◌, length, length-append, map, take, drop, get_or, decimal, Option, None, Some, Bor}
+use Rattle.std.proofs.Common.{arith, ◌≡◌, ◌∙◌, sym, ap, refl, ℕ, zero, suc, ◌+◌, ◌<◌, Bool, List, [], ◌∷◌, ◌++◌, length, length-append, map, take, drop, get_or, decimal, Option, None, Some}
 use Rattle.std.specs.Option.{IfSome}
-use Rattle.std.proofs.lemmas.List.{length-map, take_more}
+use Rattle.std.proofs.lemmas.List.{take_more}
 use Rattle.std.proofs.lemmas.List.FromFn.{fill_by_all}
 use Rattle.edr_record.specs.declared.Record.{Record}
 use Rattle.edr_record.specs.Bounds.{IsCrash}
 use Rattle.edr_record.specs.Complete.{is_complete}
 use Rattle.edr_record.specs.Parts.{PrePart, CrashPart}
 use Rattle.edr_report.specs.EventWords.{event_words}
-use Rattle.edr_report.specs.Lines.{Line}
-use Rattle.edr_report.specs.Report.{event_line, event_lines}
+use Rattle.edr_report.specs.Report.{event_lines}
 use Rattle.edr_report.specs.Words.{yes_no, milliseconds, firing_words, points_words, extreme_words, missing_words}
 use Rattle.edr_report.specs.declared.event_lines.EventLine.{EventLine}
 use Rattle.edr_report.specs.declared.event_lines.EventLine.TheVariants.{Number}
 use Rattle.edr_report.specs.declared.event_lines.TheConstants.{LINES_OF_EVENT}
 use Rattle.edr_reading.specs.Event.{event_place, event_texts}
 use Rattle.edr_reading.specs.Parts.{IsRecord, crash_texts, pre_texts}
-use Rattle.edr_reading.specs.Rows.{FieldRows, Texts, event_fields, event_names, line_fields}
+use Rattle.edr_reading.specs.Rows.{FieldRows, Texts, event_fields, event_names}
 use Rattle.edr_reading.proofs.EventLemmas.{crash-long}
 
 -- rows of a block with these names and values

@@ -1,6 +1,6 @@
 -- The rows of a report so far.
-use Rattle.std.proofs.Common.{arith, ◌≡◌, ◌∙◌, sym, ap, ap₂, subst, refl, ℕ, ◌+◌, ◌<◌, ◌≤◌, ◌^◌, eqb, List, [], ◌∷◌, ◌++◌, map, length, append_assoc, length-append, decimal, Some}
-use Rattle.std.specs.List.{All, IsDistinct}
+use Rattle.std.proofs.Common.{arith, ◌≡◌, ◌∙◌, sym, ap, subst, refl, ℕ, ◌+◌, ◌<◌, ◌≤◌, ◌^◌, List, [], ◌∷◌, ◌++◌, map, length, append_assoc, length-append, decimal, Some}
+use Rattle.std.specs.List.{All}
 use Rattle.std.proofs.lemmas.List.{map-append, append-nil}
 use Rattle.edr_text.specs.Numbers.{natural_in}
 use Rattle.edr_text.proofs.SpellingLemmas.{decimal-numeral, natural_in-numeral}
@@ -13,7 +13,7 @@ use Rattle.edr_report.specs.Report.{ack_line, cycle_lines, run_lines, event_line
 use Rattle.edr_report.proofs.PrintedLemmas.{numbered-more}
 use Rattle.edr_reading.specs.declared.told.CycleRow.TheVariants as row
 use Rattle.edr_reading.specs.Rows.{FieldRows, event_fields, line_fields}
-use Rattle.edr_reading.specs.Run.{ack_fields, cycle_fields, run_fields, row_of, acks_of, IsReport}
+use Rattle.edr_reading.specs.Run.{ack_fields, cycle_fields, run_fields, row_of, acks_of}
 use Rattle.edr_reading.specs.Found.{IsDamaged, events_fields, damaged_fields, count_fields}
 use Rattle.edr_reading.specs.Reading.{AreDistinct, head_row, report_rows}
 use Rattle.edr_reading.specs.Reader.{IsToldReport, whole}

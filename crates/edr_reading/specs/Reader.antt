@@ -1,5 +1,5 @@
 -- What a reader knows of a report after some of its rows.
-use Rattle.std.specs.Prelude.{◌≡◌, ◌≢◌, ◌<◌, ◌≤◌, ◌+◌, ℕ, ⊤, Bool, true, false, eqb, List, [], ◌∷◌, ◌++◌, All, map, length, take, drop, ◌⊎◌, Option, Some, None, Result, Ok, Err, decimal, slice_index_or}
+use Rattle.std.specs.Prelude.{◌≡◌, ◌<◌, ◌≤◌, ◌+◌, ℕ, ⊤, Bool, true, false, eqb, List, [], ◌∷◌, ◌++◌, All, map, length, take, drop, ◌⊎◌, Option, Some, None, Result, Ok, Err, decimal, slice_index_or}
 use Rattle.std.specs.List.{IsDistinct}
 use Rattle.edr_record.specs.declared.Record.{Record}
 use Rattle.edr_image.specs.declared.Ack.{Ack}

@@ -1,5 +1,5 @@
 -- The rows of a report, and what a report may tell.
-use Rattle.std.specs.Prelude.{◌≡◌, ◌≤◌, ◌+◌, ℕ, eqb, List, [], ◌∷◌, ◌++◌, All, map, length, codes}
+use Rattle.std.specs.Prelude.{◌≡◌, ◌≤◌, ℕ, eqb, List, [], ◌∷◌, ◌++◌, All, map, length, codes}
 use Rattle.std.specs.List.{IsDistinct}
 use Rattle.edr_record.specs.declared.Record.{Record}
 use Rattle.edr_image.specs.declared.Found.{Found}

@@ -1,4 +1,4 @@
-use Rattle.std.proofs.Common.{◌≡◌, ◌∙◌, sym, ap, ℕ, ◌+◌, List, ◌∷◌, Option, Some, map, set, take}
+use Rattle.std.proofs.Common.{◌≡◌, ◌∙◌, sym, ap, ℕ, ◌+◌, ◌∷◌, Option, Some, map, set, take}
 use Rattle.edr_record.specs.Parts.{CrashPart}
 use Rattle.edr_record.specs.Fields.{crash_part_of}
 use Rattle.edr_report.specs.declared.event_lines.CrashLine.{CrashLine}

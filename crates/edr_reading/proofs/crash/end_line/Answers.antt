@@ -1,4 +1,4 @@
-use Rattle.std.proofs.Common.{arith, ◌≡◌, ◌∙◌, sym, ℕ, List, Option, None, Some}
+use Rattle.std.proofs.Common.{arith, ◌≡◌, ◌∙◌, sym, Option, None, Some}
 use Rattle.std.specs.Option.{IfSome}
 use Rattle.edr_record.specs.Bounds.{IsCrash}
 use Rattle.edr_record.specs.Parts.{CrashPart}

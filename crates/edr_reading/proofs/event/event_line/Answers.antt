@@ -1,6 +1,5 @@
-use Rattle.std.proofs.Common.{◌≡◌, ◌∙◌, sym, ap, subst, ℕ, List}
+use Rattle.std.proofs.Common.{◌∙◌, sym, ap}
 use Rattle.edr_report.specs.EventWords.{event_words}
-use Rattle.edr_report.specs.declared.event_lines.EventLine.{EventLine}
 use Rattle.edr_report.specs.Words.{yes_no}
 use Rattle.edr_record.specs.Complete.{is_complete}
 use Rattle.edr_reading.specs.Event.{event_of}

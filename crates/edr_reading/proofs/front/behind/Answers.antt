@@ -1,4 +1,3 @@
-use Rattle.std.proofs.Common.{◌∙◌}
 use Rattle.edr_reading.proofs.FrontLemmas.{front-is, front-stands}
 use Rattle.edr_reading.proofs.front.behind.Goals as goal
 

@@ -1,4 +1,3 @@
-use Rattle.std.proofs.Common.{arith, ◌≡◌, ◌∙◌, sym, ap, refl}
 use Rattle.edr_reading.proofs.EndLemmas.{end-fault, end-read}
 use Rattle.edr_reading.proofs.reading.end.Goals as goal
 

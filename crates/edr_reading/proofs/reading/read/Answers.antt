@@ -13,7 +13,7 @@ use Rattle.edr_reading.specs.Rows.{FieldRows}
 use Rattle.edr_reading.specs.declared.reading.Reading.{Reading}
 use Rattle.edr_reading.specs.declared.reading.ReportRefused.{ReportRefused}
 use Rattle.edr_reading.specs.declared.reading.ReportRefused.TheVariants.{OutOfMemory}
-use Rattle.edr_reading.proofs.EndLemmas.{memory-alone, of-records, rows-read}
+use Rattle.edr_reading.proofs.EndLemmas.{memory-alone}
 use Rattle.edr_reading.proofs.FaultLemmas.{fault-is-none}
 use Rattle.edr_reading.proofs.reading.read.Goals as goal
 

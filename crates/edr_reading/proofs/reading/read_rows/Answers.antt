@@ -1,10 +1,9 @@
-use Rattle.std.proofs.Common.{arith, ◌≡◌, ◌∙◌, sym, ap, subst, ℕ, ◌<◌, List, [], ◌∷◌, map, take, length, get_or, min}
+use Rattle.std.proofs.Common.{arith, ◌≡◌, ◌∙◌, sym, ap, subst, ℕ, ◌<◌, List, [], map, take, length, get_or, min}
 use Rattle.std.proofs.lemmas.List.{length-map}
 use Rattle.csv.specs.Records.{fields_of}
-use Rattle.edr_reading.specs.Reader.{HasReadRows, IsRefused}
+use Rattle.edr_reading.specs.Reader.{IsRefused}
 use Rattle.edr_reading.specs.Refusals.{IsRowRefusal}
 use Rattle.edr_reading.specs.Rows.{fields}
-use Rattle.edr_reading.specs.declared.reading.ReportRefused.{ReportRefused}
 use Rattle.edr_reading.proofs.EndLemmas.{field-fault, length-fault, read-more}
 use Rattle.edr_reading.proofs.FaultLemmas.{at-map, wrong-fields}
 use Rattle.edr_reading.proofs.reading.read_rows.Goals as goal

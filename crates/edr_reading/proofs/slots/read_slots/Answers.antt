@@ -1,7 +1,7 @@
-use Rattle.std.proofs.Common.{arith, ◌≡◌, ◌∙◌, sym, ap, refl, ◌<◌, ◌+◌, nat_eq, ℕ, List, length, map, drop, get_or}
+use Rattle.std.proofs.Common.{arith, ◌≡◌, ◌∙◌, sym, ◌<◌, ◌+◌, length, map, drop, get_or}
 use Rattle.std.proofs.lemmas.List.Elements.{All-get_or}
 use Rattle.edr_reading.specs.Slots.{spaced_behind}
-use Rattle.edr_reading.proofs.SlotLemmas.{taken-more, left-one, are-more, ends-more, same-more, some-in, read-all, whole-all, none-left}
+use Rattle.edr_reading.proofs.SlotLemmas.{taken-more, left-one, are-more, ends-more, same-more, some-in, read-all, none-left}
 use Rattle.edr_reading.proofs.slots.read_slots.Goals as goal
 
 pub returns-in-None-clause-whole : goal.returns-in-None-clause-whole

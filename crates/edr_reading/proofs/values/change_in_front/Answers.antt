@@ -1,4 +1,4 @@
-use Rattle.edr_reading.proofs.ValueLemmas.{minus-change, plus-change}
+use Rattle.edr_reading.proofs.ValueLemmas.{minus-change}
 use Rattle.edr_reading.proofs.values.change_in_front.Goals as goal
 
 pub returns-in-Some-clause-whole : goal.returns-in-Some-clause-whole

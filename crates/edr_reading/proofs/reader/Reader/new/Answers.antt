@@ -1,5 +1,4 @@
 use Rattle.std.proofs.Common.{refl}
-use Rattle.edr_reading.proofs.LineLemmas.{line-value}
 use Rattle.edr_reading.proofs.ReadLemmas.{new-read}
 use Rattle.edr_reading.proofs.reader.Reader.new.Goals as goal
 

@@ -1,5 +1,5 @@
-use Rattle.std.proofs.Common.{arith, ◌≡◌, ◌∙◌, sym, ap, subst, ℕ, ◌+◌, decimal, List, [], ◌∷◌}
-use Rattle.edr_reading.proofs.ReadLemmas.{end-refused, line-block-refused, at-line, line-takes}
+use Rattle.std.proofs.Common.{arith, ◌∙◌, sym, ap, decimal}
+use Rattle.edr_reading.proofs.ReadLemmas.{end-refused, line-block-refused}
 use Rattle.edr_reading.proofs.reader.Reader.take.Goals as goal
 
 pub returns-in_default-last_within : goal.returns-in_default-last_within

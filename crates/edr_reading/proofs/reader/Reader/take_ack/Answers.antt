@@ -1,4 +1,4 @@
-use Rattle.std.proofs.Common.{arith, refl}
+use Rattle.std.proofs.Common.{refl}
 use Rattle.edr_reading.proofs.ReadLemmas.{ack-read, ack-not-read}
 use Rattle.edr_reading.proofs.reader.Reader.take_ack.Goals as goal
 

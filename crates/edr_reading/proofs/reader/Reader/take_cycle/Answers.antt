@@ -1,6 +1,5 @@
 use Rattle.std.proofs.Common.{ap, refl, ℕ, ◌+◌}
 use Rattle.std.proofs.lemmas.Option.{same_Some}
-use Rattle.edr_reading.specs.declared.told.CycleRow.{CycleRow}
 use Rattle.edr_reading.proofs.ReadLemmas.{cycle-read, cycle-not-read}
 use Rattle.edr_reading.proofs.reader.Reader.take_cycle.Goals as goal
 

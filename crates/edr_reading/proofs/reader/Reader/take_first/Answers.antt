@@ -1,4 +1,4 @@
-use Rattle.std.proofs.Common.{arith, ◌≡◌, ◌∙◌, sym, ap, subst, ℕ, ◌+◌, decimal, List, [], ◌∷◌}
+use Rattle.std.proofs.Common.{arith, ◌∙◌, sym, ap, subst, decimal}
 use Rattle.edr_reading.specs.Event.{HasNoBank, event_of}
 use Rattle.edr_reading.specs.Values.{IsBank}
 use Rattle.edr_reading.proofs.ReadLemmas.{block-refused, first-at, line-takes}

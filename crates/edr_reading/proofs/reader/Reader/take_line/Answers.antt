@@ -1,11 +1,8 @@
 use Rattle.std.proofs.Common.{◌≡◌, ◌∙◌, sym, ap, subst, refl, ℕ, ◌+◌, ◌<◌, List, get_or, length, take}
-use Rattle.std.proofs.lemmas.Bool.{cases_Bool}
 use Rattle.edr_image.specs.declared.Found.{Found}
 use Rattle.edr_report.specs.EventWords.{event_words}
-use Rattle.edr_report.specs.declared.event_lines.EventLine.{EventLine}
 use Rattle.edr_report.specs.declared.event_lines.EventLine.TheVariants.{Number}
 use Rattle.edr_reading.specs.Event.{EventAgrees, IsNextEvent, event_of, event_place, event_texts, record_of}
-use Rattle.edr_reading.specs.Rows.{event_names}
 use Rattle.edr_reading.proofs.ReadLemmas.{line-bounds, line-name-refused, line-value-refused, line-result}
 use Rattle.edr_reading.proofs.RowLemmas.{line-place, lines}
 use Rattle.edr_reading.proofs.reader.Reader.take_line.Goals as goal
