@@ -28,7 +28,7 @@ use Rattle.edr_reading.specs.Run.{IsReport, ack_fields, acks_of, cycle_fields, r
 use Rattle.edr_reading.specs.Told.{IsAck, IsCycleRow, IsToldName, cycle_line, name_words}
 use Rattle.edr_reading.specs.Values.{IsApplied, IsBank, IsDamagedView, view_words}
 use Rattle.edr_reading.proofs.DistinctLemmas.{distinct-more, distinct-none}
-use Rattle.edr_reading.proofs.FollowLemmas.{ToldNext, next-row, none}
+use Rattle.edr_reading.proofs.FollowLemmas.{cycle-row, ToldNext, next-row, none}
 use Rattle.edr_reading.proofs.WholeLemmas.{cycle-lines, decimal-same, report-told, told-report, whole-cycle, whole-damaged}
 
 -- ---- lists
@@ -49,6 +49,12 @@ banks-split (e ∷ es) ds = ap (λ (x : List ℕ). e.0 ∷ x) (banks-split es ds
 
 pub banks-last : (found : List Found) (f : Found) → banks_in (found ++ f ∷ []) ≡ banks_in found ++ f.bank ∷ []
 banks-last found f = map-append (λ (g : Found). g.bank) found (f ∷ [])
+
+pub found-last : (es : List (ℕ × Record)) (f : ℕ × Record) → map found_event (es ++ f ∷ []) ≡ map found_event es ++ found_event f ∷ []
+found-last es f = map-append found_event es (f ∷ [])
+
+pub banks-more : (es : List (ℕ × Record)) (f : ℕ × Record) → banks_in (map found_event (es ++ f ∷ [])) ≡ banks_in (map found_event es) ++ f.0 ∷ []
+banks-more es f = ap banks_in (found-last es f) ∙ banks-last (map found_event es) (found_event f)
 
 -- ---- refusals
 
@@ -109,10 +115,6 @@ run-told reports h = record { run = h; events = none IsEvent; damaged = none IsD
 last-report : (first : CycleRow) → IsCycleRow first → (r : Report) × (last_cycle (Some first) [] ≡ r ∷ []) × IsReport r × (row_of r ≡ first) × (acks_of r ≡ [])
 last-report (row.StartStopped j) h = (StartStopped j, refl, (h, none IsAck), refl, refl)
 last-report (row.Ran n s) h = (Ran n s [], refl, (h, none IsAck), refl, refl)
-
-cycle-row : (i : ℕ) (c : CycleRow) → cycle_fields (i + 1) c ≡ decimal 0 ∷ name_words i name.Cycle ∷ (cycle_line 1 c).value ∷ []
-cycle-row i (row.StartStopped j) = refl
-cycle-row i (row.Ran n s) = refl
 
 whole-first : (reports : List Report) (first : CycleRow) → IsCycleRow first → whole (reports ++ last_cycle (Some first) []) [] [] ≡ whole reports [] [] ++ cycle_fields (length reports + 1) first ∷ []
 whole-first reports first h =

@@ -98,11 +98,6 @@ read-more r records i row less is h = subst (HasReadRows r) (ap (λ (x : List (L
 
 -- ---- the records of a text
 
-pub of-records : (bytes : List ℕ) (records : FieldRows) (res : Result Reading ReportRefused) → RecordsOf bytes records → IfErr res (IsRowRefusal records) → IfErr res (IsRefusalOfRecords bytes)
-of-records bytes records (Ok r) are h = tt
-of-records bytes records (Err (Fault row f)) are h = (records, are, h)
-of-records bytes records (Err OutOfMemory) are h = tt
-
 pub memory-alone : (records : FieldRows) (res : Result Reading ReportRefused) → IfErr res (IsRowRefusal records) → AreReport records → IfErr res (λ e. e ≡ OutOfMemory)
 memory-alone records (Ok r) h a = tt
 memory-alone records (Err (Fault row f)) h a = absurd (fault-is-none records row f h a)

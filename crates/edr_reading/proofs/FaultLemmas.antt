@@ -1,6 +1,7 @@
 -- The first row of a text that is no report.
 use Rattle.std.proofs.Common.{arith, ◌≡◌, ◌≢◌, ◌∙◌, sym, ap, subst, refl, ℕ, zero, suc, ◌<◌, ◌≤◌, ◌+◌, ◌-◌, min, map, List, [], ◌∷◌, ◌++◌, length, length-append, take, drop, get_or, codes}
-use Rattle.std.proofs.lemmas.List.{append-nil, length-map, length-take, take-append-drop}
+use Rattle.std.proofs.Math.Seq.{get_or-append_seam}
+use Rattle.std.proofs.lemmas.List.{drop_all, take_all, append-nil, length-map, length-take, take-append-drop}
 use Rattle.edr_report.specs.Report.{report_lines}
 use Rattle.edr_reading.proofs.DistinctLemmas.{distinct-none}
 use Rattle.edr_reading.proofs.ReadingLemmas.{all-three}
@@ -51,16 +52,12 @@ fault-none f (x ∷ xs) e = absurd (omega (arith, e))
 pub fault-fields : {X : Type 0} (f : X → List (List ℕ)) (xs : List X) (x : X) (rest : List X) (n : ℕ) → xs ≡ x ∷ rest → n ≡ min (length (f x)) 4_294_967_295 → length (f x) ≢ 3 → IsFault (map f xs) 1 (Fields n)
 fault-fields f xs x rest n e m other = subst (λ (ys : List _). IsFault (map f ys) 1 (Fields n)) (sym e) (omega arith, omega arith, opens-none, (m, other))
 
-row-at : (xs : List (List (List ℕ))) (r : List (List ℕ)) (rs : List (List (List ℕ))) → get_or (xs ++ r ∷ rs) (length xs) [] ≡ r
-row-at [] r rs = refl
-row-at (x ∷ xs) r rs = row-at xs r rs
-
 -- a row of a report has three fields
 pub row-three : (xs : List (List (List ℕ))) (r : List (List ℕ)) (rs : List (List (List ℕ))) → AreReport (xs ++ r ∷ rs) → length r ≡ 3
 row-three xs r rs a =
     let long = length-append xs (r ∷ rs) in
     let at : length xs < length (report_rows a.0 a.1 a.2) = omega (arith, long, ap length a.4) in
-    ap length (sym (row-at xs r rs) ∙ ap (λ (rows : List (List (List ℕ))). get_or rows (length xs) []) a.4) ∙ all-three a.0 a.1 a.2 (length xs) at
+    ap length (sym (get_or-append_seam xs r rs []) ∙ ap (λ (rows : List (List (List ℕ))). get_or rows (length xs) []) a.4) ∙ all-three a.0 a.1 a.2 (length xs) at
 
 -- a report that goes on with a row goes on with its first fields
 pub goes-on-front : (xs : List (List (List ℕ))) (r : List (List ℕ)) (rs : List (List (List ℕ))) (f : ℕ) → AreReport (xs ++ r ∷ rs) → ReportGoesOn xs (take f r)
@@ -89,26 +86,5 @@ wrong-fields xs [] k n h m other = absurd (omega (arith, h))
 wrong-fields xs (r ∷ rs) zero n h m other = (m, other)
 wrong-fields xs (r ∷ rs) (suc k) n h m other = wrong-fields xs rs k n (omega (arith, h)) m other
 
-wrong-past : (xs records : List (List (List ℕ))) (k : ℕ) → length records ≤ k → ¬ AreReport xs → IsWrong xs (drop k records) Unended
-wrong-past xs [] zero h n = n
-wrong-past xs [] (suc k) h n = n
-wrong-past xs (r ∷ rs) zero h n = absurd (omega (arith, h))
-wrong-past xs (r ∷ rs) (suc k) h n = wrong-past xs rs k (omega (arith, h)) n
-
-take-past : (records : List (List (List ℕ))) (k : ℕ) → length records ≤ k → take k records ≡ records
-take-past [] zero h = refl
-take-past [] (suc k) h = refl
-take-past (r ∷ rs) zero h = absurd (omega (arith, h))
-take-past (r ∷ rs) (suc k) h = ap (λ (x : List (List (List ℕ))). r ∷ x) (take-past rs k (omega (arith, h)))
-
 pub wrong-end : (records : List (List (List ℕ))) (k : ℕ) → length records ≤ k → ¬ AreReport records → IsWrong (take k records) (drop k records) Unended
-wrong-end records k h n = wrong-past (take k records) records k h (subst (λ (x : List (List (List ℕ))). ¬ AreReport x) (sym (take-past records k h)) n)
-
-pub at-map : {X : Type 0} (f : X → List (List ℕ)) (xs : List X) (k : ℕ) (d : X) → k < length xs → get_or (map f xs) k [] ≡ f (get_or xs k d)
-at-map f [] k d h = absurd (omega (arith, h))
-at-map f (x ∷ xs) zero d h = refl
-at-map f (x ∷ xs) (suc k) d h = at-map f xs k d (omega (arith, h))
-
--- rows that are the first of the records are no more than they
-pub no-more : {X Y : Type 0} (f : X → Y) (rows : List X) (records : List Y) → map f rows ≡ take (length rows) records → length rows ≤ length records
-no-more f rows records e = let m = length-map rows f in let t = length-take (length rows) records in omega (arith, m, t, ap length e)
+wrong-end records k h n = rw (take_all k records h, drop_all k records h) n

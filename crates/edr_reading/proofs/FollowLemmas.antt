@@ -52,11 +52,7 @@ is-true false h = absurd (h refl)
 not-nil : {X : Type 0} (x : X) (xs : List X) → x ∷ xs ≡ [] → ⊥
 not-nil x xs e = cc
 
-first-value : (i : ℕ) (c : CycleRow) → (cycle_line i c).value ≡ (cycle_line 1 c).value
-first-value i (row.StartStopped j) = refl
-first-value i (row.Ran n s) = refl
-
-cycle-row : (i : ℕ) (c : CycleRow) → cycle_fields (i + 1) c ≡ decimal 0 ∷ name_words i name.Cycle ∷ (cycle_line 1 c).value ∷ []
+pub cycle-row : (i : ℕ) (c : CycleRow) → cycle_fields (i + 1) c ≡ decimal 0 ∷ name_words i name.Cycle ∷ (cycle_line 1 c).value ∷ []
 cycle-row i (row.StartStopped j) = refl
 cycle-row i (row.Ran n s) = refl
 

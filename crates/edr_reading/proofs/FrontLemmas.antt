@@ -16,13 +16,6 @@ and-parts false b h = cc
 pub first-digit : (d : ℕ) (ds : List ℕ) → list_all is_digit (d ∷ ds) ≡ true → (is_digit d ≡ true) × (list_all is_digit ds ≡ true)
 first-digit d ds h = and-parts (is_digit d) (list_all is_digit ds) h
 
-pub ends-at : (bs : List ℕ) (n : ℕ) → n < length bs → is_digit (get_or bs n 0) ≡ false → EndsNumber (drop n bs)
-ends-at bs n h e = subst EndsNumber (sym (drop_more bs n 0 h)) e
-
-pub ends-all : (bs : List ℕ) → EndsNumber (drop (length bs) bs)
-ends-all [] = tt
-ends-all (b ∷ bs) = ends-all bs
-
 -- digits and what ends them stand in one way
 pub parted : (ds more : List ℕ) (k : ℕ) → list_all is_digit ds ≡ true → EndsNumber more → k ≤ length (ds ++ more) → list_all is_digit (take k (ds ++ more)) ≡ true → EndsNumber (drop k (ds ++ more))
     → (take k (ds ++ more) ≡ ds) × (drop k (ds ++ more) ≡ more)

@@ -19,7 +19,7 @@ use Rattle.edr_reading.specs.Reader.{GoesOnIn, IsBetween, IsInside, IsRefused, I
 use Rattle.edr_reading.specs.Rows.{FieldRows, event_fields, event_names}
 use Rattle.edr_reading.specs.Told.{IsAck}
 use Rattle.edr_reading.specs.Run.{IsReport}
-use Rattle.edr_reading.proofs.BetweenLemmas.{All-last, banks-last, goes-on, refuse-1, refuse-2, refuse-3}
+use Rattle.edr_reading.proofs.BetweenLemmas.{banks-more, All-last, banks-last, goes-on, refuse-1, refuse-2, refuse-3}
 use Rattle.edr_reading.proofs.DistinctLemmas.{alone, distinct-more}
 use Rattle.edr_reading.proofs.FollowLemmas.{next-row, none}
 use Rattle.edr_reading.proofs.RowLemmas.{event-gone, event-long, lines, row-at, rows-more}
@@ -125,12 +125,8 @@ told-event reports es e f h n = record {
   events = All-last IsEvent es f h.events (n.bank, n.record_bounds);
   damaged = none IsDamaged;
   distinct = subst AreDistinct (sym (append-nil (map found_event (es ++ f ∷ []))))
-      (subst AreDistinct (sym (found-last es f)) (subst (IsDistinct eqb) (sym (banks-last (map found_event es) (found_event f))) (distinct-more (map found_event es) f.0 (subst AreDistinct (append-nil (map found_event es)) h.distinct) n.alone)));
+      (subst (IsDistinct eqb) (sym (banks-more es f)) (distinct-more (map found_event es) f.0 (subst AreDistinct (append-nil (map found_event es)) h.distinct) n.alone));
 }
-  where
-    found-last : (es : List (ℕ × Record)) (f : ℕ × Record) → map found_event (es ++ f ∷ []) ≡ map found_event es ++ found_event f ∷ []
-    found-last [] f = refl
-    found-last (e ∷ es) f = ap (λ (x : List Found). found_event e ∷ x) (found-last es f)
 
 module _ (k : ℕ) (e f : ℕ × Record) (reports : List Report) (es : List (ℕ × Record)) (rows : FieldRows) (w v : List ℕ) (h : IsInside k e reports es rows) (told : IsToldReport reports es [])
     (bounds : IsNextEvent (map found_event es) f) (same : take k (event_texts (length es + 1) f) ≡ take k (event_texts (length es + 1) e)) (named : w ≡ get_or event_names k [])
@@ -175,7 +171,7 @@ module _ (k : ℕ) (e f : ℕ × Record) (reports : List Report) (es : List (ℕ
       let all = event_fields block f.0 f.1 in
       let long = length-append rows ((decimal block ∷ w ∷ v ∷ []) ∷ []) in
       let count : length es + 1 + 1 ≡ length (es ++ f ∷ []) + 1 = ap (λ (n : ℕ). n + 1) (sym (length-append es (f ∷ []))) in
-      let banks : banks_in (map found_event es) ++ f.0 ∷ [] ≡ banks_in (map found_event (es ++ f ∷ []) ++ []) = sym (ap banks_in (append-nil (map found_event (es ++ f ∷ []))) ∙ banks-more es) in
+      let banks : banks_in (map found_event es) ++ f.0 ∷ [] ≡ banks_in (map found_event (es ++ f ∷ []) ++ []) = sym (ap banks_in (append-nil (map found_event (es ++ f ∷ []))) ∙ banks-more es f) in
       record {
         told = told-event reports es e f told bounds;
         are = line-are ok ∙ ap (λ (n : ℕ). whole reports es [] ++ take n all) last ∙ ap (λ (n : ℕ). whole reports es [] ++ take n all) (sym (event-long block f.0 f.1)) ∙ ap (λ (x : FieldRows). whole reports es [] ++ x) (take-length all) ∙ sym (whole-event reports es f);
@@ -205,10 +201,6 @@ module _ (k : ℕ) (e f : ℕ × Record) (reports : List Report) (es : List (ℕ
               are = rest ∙ ap (λ (n : ℕ). events_fields n m.events ++ last_rows m.damaged m.count) count;
             };
       }
-    where
-      banks-more : (es : List (ℕ × Record)) → banks_in (map found_event (es ++ f ∷ [])) ≡ banks_in (map found_event es) ++ f.0 ∷ []
-      banks-more [] = refl
-      banks-more (e ∷ es) = ap (λ (x : List ℕ). e.0 ∷ x) (banks-more es)
 
 -- ---- the first line
 

@@ -73,13 +73,5 @@ points-given bytes end r ps whole are is =
     let f = points-front end ps are in
     whole (take (point_count end) ps) f.0 f.1 is ∙ ap Some (points-whole end ps (take (point_count end) ps) are refl)
 
-pub first-of : (ps : List ℤ) → slice_get ps 0 ≡ Some (pos 0) → get_or ps 0 (pos 0) ≡ pos 0
-first-of [] e = refl
-first-of (p ∷ ps) e = ap (λ o. of o) e
-  where
-    of : Option ℤ → ℤ
-    of None = pos 0
-    of (Some z) = z
-
 pub change-fits : (z : ℤ) → IsChange z → FitsSigned w16 z
 change-fits z h = grind (arith, ints)

@@ -38,7 +38,7 @@ use Rattle.edr_reading.specs.Reading.{AreDistinct, head_row}
 use Rattle.edr_reading.specs.Rows.{FieldRows, event_names}
 use Rattle.edr_reading.specs.Told.{IsCycleRow, IsToldName, cycle_line, name_words}
 use Rattle.edr_reading.specs.Values.{IsApplied, IsBank, IsDamage, IsDamagedView, view_words}
-use Rattle.edr_reading.proofs.BetweenLemmas.{All-front, ack-opens, at-end, ack-taken, between-block, count-opens, count-taken, cycle-opens, cycle-taken, damaged-opens, damaged-taken, refuse-1, refuse-2, refuse-3, report-short, start-between, told-next}
+use Rattle.edr_reading.proofs.BetweenLemmas.{banks-more, found-last, All-front, ack-opens, at-end, ack-taken, between-block, count-opens, count-taken, cycle-opens, cycle-taken, damaged-opens, damaged-taken, refuse-1, refuse-2, refuse-3, report-short, start-between, told-next}
 use Rattle.edr_reading.proofs.DistinctLemmas.{alone, distinct-front}
 use Rattle.edr_reading.proofs.FollowLemmas.{ToldNext, next-row, some-rows}
 use Rattle.edr_reading.proofs.LineLemmas.{first-line, line-block, line-last, line-most, line-name, line-next, line-value}
@@ -358,11 +358,6 @@ line-block-refused r rows k p b w v h e other =
     let long : length r.found.items ≡ length s.0 = ap length s.1 ∙ length-map s.0 found_event in
     line-block k (event_of p) (cycles_read r) s.0 rows b w v s.3 (λ z. other (z ∙ ap (λ (n : ℕ). decimal (n + 1)) (sym long)))
 
-pub at-line : (r : Reader) (rows : FieldRows) (k : ℕ) (p : PartEvent) → HasReadRows r rows → r.next ≡ next.Line k p → AtLine r k (event_of p) rows
-at-line r rows k p h e =
-    let s = subst (λ (x : NextRow). StandsNext x r.last (cycles_read r) r.found.items rows) e h.stands in
-    record { count = h.count; few = h.few; few_acks = h.few_acks; first = h.first; events = s.0; found = s.1; inside = s.2 }
-
 pub first-at : (r : Reader) (rows : FieldRows) (e : ℕ × Record) → HasReadRows r rows → MayHaveEvent r → IsBank e.0 → HasNoBank r.found.items e.0 → IsRecord e.1 → AtLine r 0 e rows
 first-at r rows e h m bank free ok = ⊎_elim
     (λ run. let s = in-run r rows h run in
@@ -391,14 +386,6 @@ first-at r rows e h m bank free ok = ⊎_elim
 pub line-takes : (k : ℕ) (e : ℕ × Record) (old new : Reader) (row : List (List ℕ)) (res : Result Unit Refused) → TakesLine k e old new row res → ((rows : FieldRows) → HasReadRows old rows → AtLine old k e rows) → Takes old new row res
 line-takes k e old new row (Ok u) t a = λ rows h. t rows (a rows h)
 line-takes k e old new row (Err x) t a = λ rows h. t rows (a rows h)
-
-found-last : (es : List (ℕ × Record)) (f : ℕ × Record) → map found_event (es ++ f ∷ []) ≡ map found_event es ++ found_event f ∷ []
-found-last [] f = refl
-found-last (e ∷ es) f = ap (λ (x : List Found). found_event e ∷ x) (found-last es f)
-
-banks-more : (es : List (ℕ × Record)) (f : ℕ × Record) → banks_in (map found_event (es ++ f ∷ [])) ≡ banks_in (map found_event es) ++ f.0 ∷ []
-banks-more [] f = refl
-banks-more (e ∷ es) f = ap (λ (x : List ℕ). e.0 ∷ x) (banks-more es f)
 
 -- the bounds of the event so far
 pub line-bounds : (r : Reader) (rows : FieldRows) (k : ℕ) (e : ℕ × Record) → AtLine r k e rows → IsNextEvent r.found.items e

@@ -40,12 +40,6 @@ event-named b bank r h = by r.pre r.locked r.crash h.crash
         let back : Texts = milliseconds c.end ∷ points_words c.end c.along ∷ points_words c.end c.across ∷ extreme_words c.max_along ∷ extreme_words c.max_across ∷ milliseconds c.result_at ∷ missing_words c.missing_along c.missing_across ∷ [] in
         ap (λ (x : Texts). block_fields (decimal b) event_names (front ++ ((back ++ x) ++ yes_no (is_complete s) ∷ []))) (firings c k)
 
-words-long : (b : ℕ) (e : ℕ × Record) → IsRecord e.1 → length (event_texts b e) ≡ 29
-words-long b e h =
-    let c = crash-long e.1.crash h.crash in
-    let a = length-append (crash_texts e.1.crash) (yes_no (is_complete e.1) ∷ []) in
-    omega (arith, a, c)
-
 pub event-long : (b bank : ℕ) (r : Record) → length (event_fields b bank r) ≡ 29
 unfolding event_lines
 event-long b bank r = refl
@@ -81,11 +75,6 @@ below-at : (n : ℕ) (P : ℕ → Type 0) → Below n P → (k : ℕ) → k < n 
 below-at zero P h k l = absurd (omega (arith, l))
 below-at (suc n) P h zero l = h.0
 below-at (suc n) P h (suc k) l = below-at n (λ j. P (suc j)) h.1 k (omega (arith, l))
-
-pub at-map : {X Y : Type 0} (f : X → Y) (xs : List X) (k : ℕ) (d : X) (y : Y) → k < length xs → get_or (map f xs) k y ≡ f (get_or xs k d)
-at-map f [] k d y h = absurd (omega (arith, h))
-at-map f (x ∷ xs) zero d y h = refl
-at-map f (x ∷ xs) (suc k) d y h = at-map f xs k d y (omega (arith, h))
 
 -- the lines of an event, in their order
 abbrev pub lines : List EventLine

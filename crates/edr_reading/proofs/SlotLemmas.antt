@@ -77,31 +77,6 @@ read-all words ok bytes rest slots i all none read are =
     nothing zero = refl
     nothing (suc k) = refl
 
-pub whole-all : {X : Type 0} (words : X → List ℕ) (rest : List ℕ) (slots xs : List X) (i : ℕ) → i ≡ length slots → length xs ≡ length slots → take i slots ≡ take i xs → rest ≡ spaced_behind i (map words (drop i xs)) → (slots ≡ xs) × (rest ≡ [])
-whole-all words rest slots xs i all long same left =
-    let t : take i slots ≡ slots = ap (λ (k : ℕ). take k slots) all ∙ take-length slots in
-    let u : take i xs ≡ xs = ap (λ (k : ℕ). take k xs) (all ∙ sym long) ∙ take-length xs in
-    let v : drop i xs ≡ [] = ap (λ (k : ℕ). drop k xs) (all ∙ sym long) ∙ drop-length xs in
-    (sym t ∙ same ∙ u, left ∙ ap (λ (ys : List _). spaced_behind i (map words ys)) v ∙ nothing i)
-  where
-    nothing : (k : ℕ) → spaced_behind k [] ≡ []
-    nothing zero = refl
-    nothing (suc k) = refl
-
 pub none-left : (xs : List ℕ) → nat_eq (length xs) 0 ≡ true → xs ≡ []
 none-left [] e = refl
 none-left (x ∷ xs) e = let z = eqb-true (length (x ∷ xs)) 0 e in absurd (omega arith)
-
--- what two lists are made of is the same in each place
-pub at-same : {X Y : Type 0} (f : X → List ℕ) (g : Y → List ℕ) (xs : List X) (ys : List Y) (i : ℕ) (d : X) (e : Y) → map f xs ≡ map g ys → i < length ys → f (get_or xs i d) ≡ g (get_or ys i e)
-at-same f g [] [] i d e is h = absurd (omega arith)
-at-same f g [] (y ∷ ys) i d e is h = cc
-at-same f g (x ∷ xs) [] i d e is h = absurd (omega arith)
-at-same f g (x ∷ xs) (y ∷ ys) zero d e is h = ap (λ l. get_or l 0 []) is
-at-same f g (x ∷ xs) (y ∷ ys) (suc i) d e is h = at-same f g xs ys i d e (ap (λ l. drop 1 l) is) (omega arith)
-
-pub same-words-more : {X Y : Type 0} (f : X → List ℕ) (g : Y → List ℕ) (xs : List X) (ys : List Y) (i : ℕ) (d : X) (y : Y) → i < length xs → i < length ys → map f (take i xs) ≡ map g (take i ys) → f (get_or xs i d) ≡ g y
-    → map f (take (i + 1) xs) ≡ map g (take (i + 1) (set ys i y))
-same-words-more f g xs ys i d y h k same this =
-    map_more f xs i d h ∙ ap (λ (a : List _). a ++ f (get_or xs i d) ∷ []) same ∙ ap (λ (b : List ℕ). map g (take i ys) ++ b ∷ []) this
-    ∙ sym (ap (map g) (take_more_set ys i y k) ∙ map-append g (take i ys) (y ∷ []))

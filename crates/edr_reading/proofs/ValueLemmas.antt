@@ -22,20 +22,11 @@ minus-change bytes digits more (negsuc k) h e f = let s : 45 ∷ digits ≡ 45 �
     tail-is : {xs ys : List ℕ} → 45 ∷ xs ≡ 45 ∷ ys → xs ≡ ys
     tail-is e = cc
 
--- without `-` stands one too
-pub plus-change : (bytes more : List ℕ) (z : ℤ) → IsChange z → ((ds : List ℕ) → bytes ≡ 45 ∷ ds → ⊥) → bytes ≡ signed_decimal z ++ more
-    → (n : ℕ) × (z ≡ pos n) × (bytes ≡ decimal n ++ more) × (n ≤ 3_000)
-plus-change bytes more (pos n) h plain f = (n, refl, f, h)
-plus-change bytes more (negsuc k) h plain f = absurd (plain (decimal (suc k) ++ more) f)
-
 -- where the bytes are not those of a cycle that went on to its end, they tell of its stop
 pub stop-whole : (bytes : List ℕ) (r s : Option ℕ) → (bytes ≡ codes ", power off" → ⊥) → ((k : ℕ) → 1 ≤ k → k ≤ 4294967295 → bytes ≡ codes ", stopped in call " ++ decimal k → r ≡ Some k) → IsStopCall s → bytes ≡ codes ", " ++ stop_words s
     → option_map Some r ≡ Some s
 stop-whole bytes r None other whole h is = absurd (other is)
 stop-whole bytes r (Some k) other whole h is = ap (option_map Some) (whole k h.0 h.1 is)
-
-pub damage-same : (a b : ℕ) (l : Bool) (o x : ℕ) (m : Bool) → a ≡ o → ◌≡◌ {A = Option (ℕ × Bool)} (Some (b, l)) (Some (x, m)) → ◌≡◌ {A = Option BankView} (Some (Damaged a b l)) (Some (Damaged o x m))
-damage-same a b l o x m e f = ap (λ (k : ℕ). Some (Damaged k b l)) e ∙ ap (option_map (λ p. Damaged o p.0 p.1)) f
 
 pub missing-is : (m n : ℕ) → missing_words m n ≡ decimal m ++ (codes " longitudinal, " ++ (decimal n ++ codes " lateral"))
 missing-is m n = simp append_assoc
@@ -46,8 +37,3 @@ found_words x l = codes " found " ++ decimal x ++ codes " locked " ++ yes_no l
 
 pub damage-is : (o x : ℕ) (l : Bool) → damage_words o x l ≡ codes "damaged at " ++ (decimal o ++ found_words x l)
 damage-is o x l = simp append_assoc
-
-pub is-damaged : (v : BankView) → IsDamagedView v → (o : ℕ) × (x : ℕ) × (l : Bool) × (v ≡ Damaged o x l) × IsDamage o x
-is-damaged Void h = absurd h
-is-damaged (Event r) h = absurd h
-is-damaged (Damaged o x l) h = (o, x, l, refl, h)
