@@ -66,12 +66,11 @@ named_here key after n bank r fs m true e among = elim (contains_cases n [] m am
 named_found : (key : Key) (after n bank : ℕ) (view : BankView) (fs : List Found) (m : ℕ) →
     ((k : ℕ) → Contains (firsts key after k fs) m → Named key after fs k m) →
     Contains (firsts key after n (record { bank = bank; view = view } ∷ fs)) m → Named key after (record { bank = bank; view = view } ∷ fs) n m
-named_found key after n bank Void fs m rest among = subst (λ (k : ℕ). Named key after fs k m) (omega arith) (rest (n + 0) among)
-named_found key after n bank (Damaged o x l) fs m rest among = subst (λ (k : ℕ). Named key after fs k m) (omega arith) (rest (n + 0) among)
 named_found key after n bank (Event r) fs m rest among = elim (Contains-append_cases (if is_first_of key after r.pre then n ∷ [] else []) (firsts key after (n + 1) fs) m among) [
   | inl here ↦ named_here key after n bank r fs m (is_first_of key after r.pre) refl here
   | inr later ↦ let of = rest (n + 1) later in (of.0, contains_later (n, (bank, r)) (enumerate_from (n + 1) (found_records fs)) (m, of.0) of.1, of.2)
 ]
+named_found key after n bank view fs m rest among = subst (λ (k : ℕ). Named key after fs k m) (omega arith) (rest (n + 0) among)
 
 named : (key : Key) (after n : ℕ) (found : List Found) (m : ℕ) → Contains (firsts key after n found) m → Named key after found n m
 named key after n [] m (k, within, is) = absurd (omega (arith, within))
@@ -91,12 +90,11 @@ is_named_here key after n bank r fs e is may =
 
 is_named_found : (key : Key) (after n bank : ℕ) (view : BankView) (fs : List Found) (e : ℕ × (ℕ × Record)) →
     ((k : ℕ) → IsNamed key after fs k e) → IsNamed key after (record { bank = bank; view = view } ∷ fs) n e
-is_named_found key after n bank Void fs e rest = λ among may. rest (n + 0) (subst (λ (k : ℕ). Contains (enumerate_from k (found_records fs)) e) (omega arith) among) may
-is_named_found key after n bank (Damaged o x l) fs e rest = λ among may. rest (n + 0) (subst (λ (k : ℕ). Contains (enumerate_from k (found_records fs)) e) (omega arith) among) may
 is_named_found key after n bank (Event r) fs e rest = λ among may. elim (contains_cases (n, (bank, r)) (enumerate_from (n + 1) (found_records fs)) e among) [
   | inl is ↦ is_named_here key after n bank r fs e is may
   | inr later ↦ Contains-append_right (if is_first_of key after r.pre then n ∷ [] else []) (firsts key after (n + 1) fs) e.0 (rest (n + 1) later may)
 ]
+is_named_found key after n bank view fs e rest = λ among may. rest (n + 0) (subst (λ (k : ℕ). Contains (enumerate_from k (found_records fs)) e) (omega arith) among) may
 
 is_named : (key : Key) (after n : ℕ) (found : List Found) (e : ℕ × (ℕ × Record)) → IsNamed key after found n e
 is_named key after n [] e = λ among may. absurd (omega (arith, among.1))

@@ -86,12 +86,11 @@ sheet_of all digest e = sheet all e.0 e.1.0 e.1.1 digest
 sheet_of_found : (all : List Found) (n bank : ℕ) (view : BankView) (fs : List Found) (digest : List ℕ) (e : ℕ × (ℕ × Record)) →
     ((m : ℕ) → Contains (enumerate_from m (found_records fs)) e → Piece (sheet_of all digest e) (sheets all m fs digest)) →
     Contains (enumerate_from n (found_records (record { bank = bank; view = view } ∷ fs))) e → Piece (sheet_of all digest e) (sheets all n (record { bank = bank; view = view } ∷ fs) digest)
-sheet_of_found all n bank Void fs digest e rest among = rest (n + 0) (subst (λ (m : ℕ). Contains (enumerate_from m (found_records fs)) e) (omega arith) among)
-sheet_of_found all n bank (Damaged o x k) fs digest e rest among = rest (n + 0) (subst (λ (m : ℕ). Contains (enumerate_from m (found_records fs)) e) (omega arith) among)
 sheet_of_found all n bank (Event r) fs digest e rest among = elim (contains_cases (n, (bank, r)) (enumerate_from (n + 1) (found_records fs)) e among) [
   | inl is ↦ piece_left (sheet_of all digest e) _ _ (subst (λ (x : ℕ × (ℕ × Record)). Piece (sheet_of all digest x) (sheet all n bank r digest)) is (piece_itself (sheet all n bank r digest)))
   | inr later ↦ piece_right (sheet_of all digest e) _ _ (rest (n + 1) later)
 ]
+sheet_of_found all n bank view fs digest e rest among = rest (n + 0) (subst (λ (m : ℕ). Contains (enumerate_from m (found_records fs)) e) (omega arith) among)
 
 sheet_of_sheets : (all : List Found) (n : ℕ) (found : List Found) (digest : List ℕ) (e : ℕ × (ℕ × Record)) → Contains (enumerate_from n (found_records found)) e → Piece (sheet_of all digest e) (sheets all n found digest)
 sheet_of_sheets all n [] digest e (k, b, is) = absurd (omega (arith, b))

@@ -25,9 +25,8 @@ abbrev pub events_in : List Found → ℕ
 events_in found = count_by (λ f. is_event f.view) found
 
 abbrev pub is_damaged : BankView → Bool
-is_damaged Void = false
-is_damaged (Event r) = false
 is_damaged (Damaged o x l) = true
+is_damaged view = false
 
 abbrev pub damaged_in : List Found → ℕ
 damaged_in found = count_by (λ f. is_damaged f.view) found
@@ -54,9 +53,8 @@ event_row n bank r =
     ++ filled EVENT_END.now (either (is_complete r) YES_NO.0.now YES_NO.1.now ∷ [])
 
 abbrev pub event_row_if : ℕ → ℕ → BankView → List ℕ
-event_row_if n bank Void = []
 event_row_if n bank (Event r) = event_row n bank r
-event_row_if n bank (Damaged o x l) = []
+event_row_if n bank view = []
 
 -- the rows of events, the first of which has the number n
 abbrev pub event_rows : ℕ → List Found → List ℕ
@@ -74,9 +72,8 @@ events_table found =
 
 -- the item of a bank, if it is damaged
 abbrev pub damaged_item : ℕ → BankView → List ℕ
-damaged_item bank Void = []
-damaged_item bank (Event r) = []
 damaged_item bank (Damaged o x l) = filled DAMAGED_BANK.now (decimal bank ∷ decimal o ∷ decimal x ∷ either l SET_OR_NOT.0.now SET_OR_NOT.1.now ∷ [])
+damaged_item bank view = []
 
 abbrev pub damaged_items : List Found → List ℕ
 damaged_items found = flat_map (λ f. damaged_item f.bank f.view) found

@@ -16,9 +16,8 @@ use Rattle.edr_drawing.specs.Template.{filled, fixed, seconds}
 
 -- a bank has an event, and so how many it has
 abbrev pub is_event : BankView → Bool
-is_event Void = false
 is_event (Event r) = true
-is_event (Damaged o x l) = false
+is_event view = false
 
 abbrev pub count_if : BankView → ℕ
 count_if view = if is_event view then 1 else 0
@@ -43,9 +42,8 @@ abbrev pub is_first_of : Key → ℕ → PrePart → Bool
 is_first_of key after p = is_first p.place && is_so_long_before p.key key after
 
 abbrev pub is_first_if : Key → ℕ → BankView → Bool
-is_first_if key after Void = false
 is_first_if key after (Event r) = is_first_of key after r.pre
-is_first_if key after (Damaged o x l) = false
+is_first_if key after view = false
 
 -- the numbers of the events that may be it, the first of which has the number n
 abbrev pub firsts : Key → ℕ → ℕ → List Found → List ℕ

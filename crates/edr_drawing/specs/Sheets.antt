@@ -48,9 +48,8 @@ sheet found n bank r digest =
 
 -- the sheet of a bank, if it has an event
 abbrev pub sheet_if : List Found → ℕ → ℕ → BankView → List ℕ → List ℕ
-sheet_if found n bank Void digest = []
 sheet_if found n bank (Event r) digest = sheet found n bank r digest
-sheet_if found n bank (Damaged o x l) digest = []
+sheet_if found n bank view digest = []
 
 -- the sheets of some of the events that were found, the first of which has the number n
 abbrev pub sheets : List Found → ℕ → List Found → List ℕ → List ℕ

@@ -1,5 +1,5 @@
 -- The lines of an event.
-use Rattle.std.proofs.Common.{arith, ◌≡◌, ◌∙◌, sym, ap, subst, refl, ℕ, suc, ◌+◌, ◌-◌, ◌≤◌, Bool, false, List, [], ◌∷◌, ◌++◌, length, take, Option, None, Some}
+use Rattle.std.proofs.Common.{arith, ◌≡◌, ◌∙◌, sym, ap, subst, refl, ℕ, suc, ◌+◌, ◌-◌, ◌≤◌, Bool, false, List, [], ◌∷◌, ◌++◌, length, take, Option, None, Some, decimal}
 use Rattle.std.specs.Option.{IfSome, option_map_or}
 use Rattle.std.proofs.lemmas.List.{length-map, take-append-le}
 use Rattle.edr_record.specs.declared.Record.{Record}
@@ -17,7 +17,8 @@ use Rattle.edr_report.specs.declared.event_lines.Restraint.TheVariants as restra
 use Rattle.edr_report.specs.EventWords.{place_of}
 use Rattle.edr_report.specs.Words.{firing_words, yes_no}
 use Rattle.edr_reading.specs.Event.{EventAgrees, event_place, event_texts}
-use Rattle.edr_reading.specs.Parts.{PartsAgree, PreAgrees, crash_place, crash_texts, pre_place}
+use Rattle.edr_reading.proofs.PartLemmas.{front-before}
+use Rattle.edr_reading.specs.Parts.{pre_texts, PartsAgree, PreAgrees, crash_place, crash_texts, pre_place}
 
 pre-most : (l : PreLine) → pre_place l ≤ 10
 pre-most pre.Cycle = omega arith
@@ -76,12 +77,6 @@ pub crash-long : (c : Option CrashPart) → IfSome c IsCrash → length (crash_t
 crash-long None h = refl
 crash-long (Some c) h = let m = length-map c.fired firing_words in omega (arith, m, h.restraints)
 
-thirteen-before : (a b c d e f g h i j k l m : List ℕ) (xs ys : List (List ℕ)) (n : ℕ) → take n xs ≡ take n ys
-    → take (13 + n) (a ∷ b ∷ c ∷ d ∷ e ∷ f ∷ g ∷ h ∷ i ∷ j ∷ k ∷ l ∷ m ∷ xs) ≡ take (13 + n) (a ∷ b ∷ c ∷ d ∷ e ∷ f ∷ g ∷ h ∷ i ∷ j ∷ k ∷ l ∷ m ∷ ys)
-thirteen-before a b c d e f g h i j k l m xs ys n same =
-    let long : suc (suc (suc (suc (suc (suc (suc (suc (suc (suc (suc (suc (suc n)))))))))))) ≡ 13 + n = omega arith in
-    subst (λ (o : ℕ). take o (a ∷ b ∷ c ∷ d ∷ e ∷ f ∷ g ∷ h ∷ i ∷ j ∷ k ∷ l ∷ m ∷ xs) ≡ take o (a ∷ b ∷ c ∷ d ∷ e ∷ f ∷ g ∷ h ∷ i ∷ j ∷ k ∷ l ∷ m ∷ ys)) long (ap (λ (zs : List (List ℕ)). a ∷ b ∷ c ∷ d ∷ e ∷ f ∷ g ∷ h ∷ i ∷ j ∷ k ∷ l ∷ m ∷ zs) same)
-
 -- the lines before it are as they were
 pub after-earlier : (line : EventLine) (l : CrashLine) (block bank : ℕ) (p : PrePart) (is_locked : Bool) (c d : Option CrashPart) → line ≡ After l → IfSome c IsCrash → IfSome d IsCrash → take (crash_place l) (crash_texts d) ≡ take (crash_place l) (crash_texts c)
     → take (event_place line) (event_texts block (bank, record { pre = p; locked = is_locked; crash = d })) ≡ take (event_place line) (event_texts block (bank, record { pre = p; locked = is_locked; crash = c }))
@@ -93,7 +88,7 @@ after-earlier line l block bank p is_locked c d is hc hd same =
     let fc : take (crash_place l) (crash_texts c ++ last c) ≡ take (crash_place l) (crash_texts c) = take-append-le (crash_place l) (crash_texts c) (last c) (omega (arith, most, c-long)) in
     let fd : take (crash_place l) (crash_texts d ++ last d) ≡ take (crash_place l) (crash_texts d) = take-append-le (crash_place l) (crash_texts d) (last d) (omega (arith, most, d-long)) in
     subst (λ (x : EventLine). take (event_place x) (event_texts block (bank, record { pre = p; locked = is_locked; crash = d })) ≡ take (event_place x) (event_texts block (bank, record { pre = p; locked = is_locked; crash = c }))) (sym is)
-    (thirteen-before _ _ _ _ _ _ _ _ _ _ _ _ _ (crash_texts d ++ last d) (crash_texts c ++ last c) (crash_place l) (fd ∙ same ∙ sym fc))
+    (front-before (decimal block ∷ decimal bank ∷ pre_texts p is_locked) (crash_texts d ++ last d) (crash_texts c ++ last c) (crash_place l) (fd ∙ same ∙ sym fc))
 
 ticks-same : (c d : Option CrashPart) → PartsAgree 15 c d → option_map_or misses_no_tick c false ≡ option_map_or misses_no_tick d false
 ticks-same None None a = refl

@@ -1,5 +1,6 @@
 -- The plain parts of a record, and the lines of its parts.
-use Rattle.std.proofs.Common.{arith, max, ◌≡◌, ◌∙◌, sym, ap, subst, refl, ℕ, suc, ◌+◌, ◌<◌, ◌≤◌, pos, List, ◌∷◌, length, map, take, set, replicate, None, codes}
+use Rattle.std.proofs.Math.Seq.{take-append-add}
+use Rattle.std.proofs.Common.{arith, max, ◌≡◌, ◌∙◌, sym, ap, subst, refl, ℕ, suc, ◌+◌, ◌<◌, ◌≤◌, pos, List, ◌∷◌, length, map, take, set, replicate, None, codes, ◌++◌}
 use Rattle.std.proofs.lemmas.List.{take-map, take-set, drop-replicate, length-replicate}
 use Rattle.std.specs.List.{All}
 use Rattle.std.proofs.lemmas.List.Elements.{All-replicate}
@@ -17,11 +18,9 @@ no-points n = record { room = length-replicate 26 (pos 0); first = refl; changes
 pub end-none : (end : ℕ) → end < 2_000 → none_word ≡ milliseconds end → ⊥
 end-none end small e = not-number end 110 (codes "one") (codes " ms") (omega (arith, small)) refl e
 
--- seven texts before others
-pub seven-before : (a b c d e f g : List ℕ) (xs ys : List (List ℕ)) (k : ℕ) → take k xs ≡ take k ys → take (7 + k) (a ∷ b ∷ c ∷ d ∷ e ∷ f ∷ g ∷ xs) ≡ take (7 + k) (a ∷ b ∷ c ∷ d ∷ e ∷ f ∷ g ∷ ys)
-seven-before a b c d e f g xs ys k same =
-    let long : suc (suc (suc (suc (suc (suc (suc k)))))) ≡ 7 + k = omega arith in
-    subst (λ (n : ℕ). take n (a ∷ b ∷ c ∷ d ∷ e ∷ f ∷ g ∷ xs) ≡ take n (a ∷ b ∷ c ∷ d ∷ e ∷ f ∷ g ∷ ys)) long (ap (λ (zs : List (List ℕ)). a ∷ b ∷ c ∷ d ∷ e ∷ f ∷ g ∷ zs) same)
+-- the same texts before others
+pub front-before : (front xs ys : List (List ℕ)) (k : ℕ) → take k xs ≡ take k ys → take (length front + k) (front ++ xs) ≡ take (length front + k) (front ++ ys)
+front-before front xs ys k same = take-append-add front xs k ∙ ap (λ (zs : List (List ℕ)). front ++ zs) same ∙ sym (take-append-add front ys k)
 
 pub set-before : {X : Type 0} (f : X → List ℕ) (xs : List X) (k : ℕ) (x : X) → take k (map f (set xs k x)) ≡ take k (map f xs)
 set-before f xs k x = take-map f k (set xs k x) ∙ ap (map f) (take-set xs k x) ∙ sym (take-map f k xs)
