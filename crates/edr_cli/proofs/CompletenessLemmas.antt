@@ -15,7 +15,9 @@ use Rattle.edr_run.specs.Cycle.{Outcome, last_count}
 use Rattle.edr_cli.specs.declared.fault.Fault.{Fault}
 use Rattle.edr_cli.specs.declared.fault.Fault.TheVariants as fault
 use Rattle.edr_replay.specs.Replayed.{RanToTheLast}
-use Rattle.edr_cli.specs.Causes.{IsImageCause, IsReplayCause, IsSpent}
+use Rattle.edr_cli.specs.Reports.{IsImageCause}
+use Rattle.edr_cli.specs.Replays.{IsReplayCause}
+use Rattle.edr_cli.specs.Runs.{IsSpent}
 use Rattle.edr_cli.specs.Outside.{Input, Memory}
 use Rattle.edr_gates.specs.Found.{Says}
 use Rattle.edr_cli.proofs.ImageLemmas.{same_view, says_refused, told_is}

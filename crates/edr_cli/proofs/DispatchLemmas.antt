@@ -2,9 +2,13 @@
 use Rattle.std.proofs.Common.{◌≡◌, ◌∙◌, sym, subst, ℕ, List, Option, Some}
 use Rattle.edr_image.specs.declared.Header.{Header}
 use Rattle.edr_words.specs.declared.Form.{Form}
-use Rattle.edr_words.specs.declared.Job.{Job}
-use Rattle.edr_words.specs.declared.Job.TheVariants.{Drive, Format, Generate, Large, Replay, Report}
-use Rattle.edr_cli.specs.Words.{AreDrive, AreFormatWords, AreGenerateWords, AreLargeWords, AreReplayWords, AreReportWords}
+use Rattle.edr_words.specs.declared.jobs.Job.{Job}
+use Rattle.edr_words.specs.declared.jobs.Job.TheVariants.{Drive, Format, Generate, Large, Replay, Report}
+use Rattle.edr_cli.specs.Drives.{AreDrive}
+use Rattle.edr_cli.specs.Formats.{AreFormatWords}
+use Rattle.edr_cli.specs.Texts.{AreGenerateWords, AreLargeWords}
+use Rattle.edr_cli.specs.Replays.{AreReplayWords}
+use Rattle.edr_cli.specs.Reports.{AreReportWords}
 
 -- what holds of what they ask for holds of each that they ask for
 pub as_replay : (P : Form → Type 0) (words : List (List ℕ)) (f h : Form) → AreReplayWords f words → P f → AreReplayWords h words → P h

@@ -14,7 +14,7 @@ use Rattle.edr_cli.specs.declared.fault.Fault.{Fault}
 use Rattle.edr_cli.specs.declared.fault.Fault.TheVariants as fault
 use Rattle.edr_replay.specs.Replayed.{EndsCutShort, EndsShort, EndsSpent, IsMemory, IsTrulyRefused, IsTrulyShort, LeavesReached}
 use Rattle.edr_gates.specs.Found.{Holds, IsFound, Says}
-use Rattle.edr_cli.specs.Causes.{IsDriveCause, RanCutShort}
+use Rattle.edr_cli.specs.Drives.{IsDriveCause, RanCutShort}
 use Rattle.edr_cli.specs.Outside.{Input, IsAtEnd, Memory}
 use Rattle.edr_cli.specs.Runs.{IsTraceOf}
 use Rattle.edr_cli.specs.Faults.{fault_of_start}

@@ -15,11 +15,11 @@ use Rattle.edr_migrate.proofs.OutcomeLemmas.{refused_not_whole}
 use Rattle.edr_spell.specs.Spell.{largest_trace}
 use Rattle.edr_cli.specs.declared.fault.Fault.{Fault}
 use Rattle.edr_cli.specs.declared.fault.Fault.TheVariants as fault
-use Rattle.edr_cli.specs.Causes.{Gave, IsMigrateCause, IsTakingCause}
+use Rattle.edr_cli.specs.Sources.{Gave}
+use Rattle.edr_cli.specs.Migrations.{IsMigrateCause, IsTakingCause, CanMigrate, IsOldRefused, NeedsBytes}
 use Rattle.edr_cli.specs.Faults.{fault_of_migrate, fault_of_take}
-use Rattle.edr_cli.specs.Migrations.{CanMigrate, IsOldRefused, NeedsBytes}
 use Rattle.edr_cli.specs.Outside.{Input, IsAtEnd, Memory}
-use Rattle.edr_cli.specs.Reports.{HasMagic}
+use Rattle.edr_cli.specs.Crashes.{HasMagic}
 use Rattle.edr_cli.proofs.ImageLemmas.{same_view, told_is}
 use Rattle.edr_cli.proofs.TakingLemmas.{too_many}
 

@@ -16,8 +16,11 @@ use Rattle.edr_cli.specs.Dialogs.{Talks}
 use Rattle.edr_cli.specs.Endings.{Gains, IsServed}
 use Rattle.edr_cli.specs.Faults.{fault_line}
 use Rattle.edr_cli.specs.Fleets.{TellsFleet}
-use Rattle.edr_cli.specs.Migrations.{IsPartlyTaken}
-use Rattle.edr_cli.specs.Outcomes.{Formats, MakesText, Migrates, Runs, ShowsReport}
+use Rattle.edr_cli.specs.Migrations.{IsPartlyTaken, Migrates}
+use Rattle.edr_cli.specs.Formats.{Formats}
+use Rattle.edr_cli.specs.Texts.{MakesText}
+use Rattle.edr_cli.specs.Runs.{Runs}
+use Rattle.edr_cli.specs.Reports.{ShowsReport}
 use Rattle.edr_cli.specs.Outside.{Input, Memory, input, memory}
 use Rattle.edr_cli.proofs.EndingLemmas.{ends_fault, not_ok, served_fault}
 use Rattle.edr_cli.proofs.ImageLemmas.{if_each, still_there}

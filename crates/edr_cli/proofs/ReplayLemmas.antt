@@ -21,10 +21,10 @@ use Rattle.edr_words.specs.declared.Form.{Form}
 use Rattle.edr_replay.specs.Reached.{RanFirst, between}
 use Rattle.edr_replay.specs.Replayed.{HasRun, EndsShort, EndsSpent, IsShortOf, IsTrulyRefused, IsTrulyShort, LeavesReached}
 use Rattle.edr_gates.specs.Found.{Holds, IsFound}
-use Rattle.edr_cli.specs.Causes.{GaveTrace, IsImageCause, IsImageRefused, IsReplayCause, IsSpent, LeavesRun, RanSome, ReachesByTrace}
+use Rattle.edr_cli.specs.Runs.{GaveTrace, IsSpent, LeavesRun, RanSome, ReachesByTrace, IsTraceOf, RunIs, TheRun}
+use Rattle.edr_cli.specs.Reports.{IsImageCause, IsImageRefused, report_in}
+use Rattle.edr_cli.specs.Replays.{IsReplayCause}
 use Rattle.edr_cli.specs.Outside.{Input, IsAtEnd, Memory}
-use Rattle.edr_cli.specs.Reports.{report_in}
-use Rattle.edr_cli.specs.Runs.{IsTraceOf, RunIs, TheRun}
 use Rattle.edr_cli.specs.Faults.{fault_of_start}
 use Rattle.edr_cli.specs.Steps.{HeldNone, IsRunCause, Reports, ReportsHeld}
 use Rattle.edr_cli.proofs.ImageLemmas.{same_view, says_refused, told_is}

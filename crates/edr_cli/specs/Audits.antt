@@ -1,31 +1,37 @@
 -- What an audit comes to.
 use Rattle.std.specs.Prelude.{◌≡◌, ◌≢◌, ◌⊎◌, ◌≤◌, ℕ, List, ◌∷◌, ◌++◌, length, Option, Some, IfSome, codes, decimal}
+use Rattle.edr_text.specs.Lines.{line_of}
+use Rattle.edr_text.specs.Numbers.{numeral}
+use Rattle.edr_device.specs.declared.device.Nvm as device
+use Rattle.edr_device.specs.declared.stream.Sink as sink
+use Rattle.edr_device.specs.declared.stream.Source as stream
 use Rattle.edr_device.specs.Faults.{Rose}
 use Rattle.edr_device.specs.Stream.{Appends}
 use Rattle.edr_device.specs.Told.{Told}
 use Rattle.edr_device.specs.Transfer.{AppendsPart}
-use Rattle.edr_device.specs.declared.device.Nvm as device
-use Rattle.edr_device.specs.declared.stream.Sink as sink
-use Rattle.edr_device.specs.declared.stream.Source as stream
-use Rattle.edr_text.specs.Lines.{line_of}
-use Rattle.edr_text.specs.Numbers.{numeral}
 use Rattle.edr_spell.specs.Spell.{largest_trace}
-use Rattle.edr_audit.specs.declared.Difference.{Difference}
+use Rattle.edr_words.specs.declared.jobs.Job.TheVariants as job
+use Rattle.edr_words.specs.Jobs.{job_of}
 use Rattle.edr_audit.specs.declared.Difference.TheVariants.{Before, Trace, Stops, After, Run, Report}
-use Rattle.edr_audit.specs.declared.Verdict.{Verdict}
+use Rattle.edr_audit.specs.declared.Difference.{Difference}
 use Rattle.edr_audit.specs.declared.Verdict.TheVariants.{Agrees, Differs}
+use Rattle.edr_audit.specs.declared.Verdict.{Verdict}
 use Rattle.edr_audit.specs.Verdicts.{IsVerdict}
-use Rattle.edr_cli.specs.declared.audit.Audited.{Audited}
 use Rattle.edr_cli.specs.declared.audit.Audited.TheVariants.{Lengths, Judged}
-use Rattle.edr_cli.specs.declared.fault.Fault.{Fault}
+use Rattle.edr_cli.specs.declared.audit.Audited.{Audited}
 use Rattle.edr_cli.specs.declared.fault.Fault.TheVariants as fault
-use Rattle.edr_cli.specs.declared.status.Status.{Status}
+use Rattle.edr_cli.specs.declared.fault.Fault.{Fault}
 use Rattle.edr_cli.specs.declared.status.Status.TheVariants as status
-use Rattle.edr_cli.specs.Causes.{Gave, IsTraceCause}
+use Rattle.edr_cli.specs.declared.status.Status.{Status}
 use Rattle.edr_cli.specs.Crashes.{KeepsBytes}
+use Rattle.edr_cli.specs.Dialogs.{IsSaid}
 use Rattle.edr_cli.specs.Endings.{TellsFault, TellsFaultPart}
 use Rattle.edr_cli.specs.Outside.{Input, IsAtEnd, Memory, NoFault, input, memory}
-use Rattle.edr_cli.specs.Words.{AreAuditWords}
+use Rattle.edr_cli.specs.Sources.{Gave, IsTraceCause}
+
+-- they ask whether what the image holds, and a report, come from an earlier image and a trace
+abbrev pub AreAuditWords : List (List ℕ) → Type 0
+AreAuditWords words = job_of words ≡ Some job.Audit
 
 -- ---- what the source gives
 

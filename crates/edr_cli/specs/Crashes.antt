@@ -1,9 +1,13 @@
 -- What a crash leaves, where nothing was pending at first.
-use Rattle.std.specs.Prelude.{◌≡◌, ℕ, List}
+use Rattle.std.specs.Prelude.{◌≡◌, ℕ, List, None}
+use Rattle.edr_device.specs.declared.device.Nvm as device
 use Rattle.edr_device.specs.Device.{IsQuiet, MayLeave}
 use Rattle.edr_device.specs.Lent.{At}
-use Rattle.edr_device.specs.declared.device.Nvm as device
-use Rattle.edr_cli.specs.Reports.{HasMagic}
+use Rattle.edr_image.specs.Image.{not_magic}
+
+-- the magic stands
+abbrev pub HasMagic : List ℕ → Type 0
+HasMagic bytes = not_magic bytes ≡ None
 
 -- of the bytes at first and those that a crash at the end may leave, this is so
 abbrev pub OfCrash : {D : Type 0} → device.Ghosts D → D → D → (List ℕ → List ℕ → Type 0) → Type 0

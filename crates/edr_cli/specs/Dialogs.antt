@@ -1,26 +1,31 @@
 -- What a dialog comes to.
 use Rattle.std.specs.Prelude.{◌≡◌, ◌≢◌, ◌⊎◌, ◌+◌, ◌≤◌, ℕ, List, [], ◌∷◌, ◌++◌, length, Option, Some, None, Result, Ok, Err}
-use Rattle.edr_device.specs.Faults.{Rose}
-use Rattle.edr_device.specs.Stream.{Appends}
-use Rattle.edr_device.specs.Told.{Told}
-use Rattle.edr_device.specs.Transfer.{AppendsPart}
 use Rattle.edr_device.specs.declared.device.Nvm as device
 use Rattle.edr_device.specs.declared.stream.Failed.{Failed}
 use Rattle.edr_device.specs.declared.stream.Sink as sink
 use Rattle.edr_device.specs.declared.stream.Source as stream
-use Rattle.edr_image.specs.Image.{View, image_refusal, view_of}
+use Rattle.edr_device.specs.Faults.{Rose}
+use Rattle.edr_device.specs.Stream.{Appends}
+use Rattle.edr_device.specs.Told.{Told}
+use Rattle.edr_device.specs.Transfer.{AppendsPart}
 use Rattle.edr_spell.specs.Spell.{largest_trace}
+use Rattle.edr_image.specs.Image.{View, image_refusal, view_of}
+use Rattle.edr_words.specs.declared.jobs.Job.TheVariants as job
+use Rattle.edr_words.specs.Jobs.{job_of}
 use Rattle.edr_dialog.specs.Replies.{EndsInside, EndsWell, HasBye, IsRefusedIn, replies}
-use Rattle.edr_cli.specs.declared.fault.Fault.{Fault}
 use Rattle.edr_cli.specs.declared.fault.Fault.TheVariants as fault
-use Rattle.edr_cli.specs.declared.status.Status.{Status}
+use Rattle.edr_cli.specs.declared.fault.Fault.{Fault}
 use Rattle.edr_cli.specs.declared.status.Status.TheVariants as status
-use Rattle.edr_cli.specs.Causes.{IsImageCause}
+use Rattle.edr_cli.specs.declared.status.Status.{Status}
 use Rattle.edr_cli.specs.Crashes.{KeepsBytes}
 use Rattle.edr_cli.specs.Endings.{IsServed}
 use Rattle.edr_cli.specs.Faults.{fault_line, status_of}
 use Rattle.edr_cli.specs.Outside.{Input, IsAtEnd, Memory, NoFault, input, memory}
-use Rattle.edr_cli.specs.Words.{AreDialogWords}
+use Rattle.edr_cli.specs.Reports.{IsImageCause}
+
+-- they ask for replies about what the image holds
+abbrev pub AreDialogWords : List (List ℕ) → Type 0
+AreDialogWords words = job_of words ≡ Some job.Dialog
 
 -- ---- the stream, and what is written of it over what an image says
 

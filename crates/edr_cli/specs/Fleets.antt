@@ -3,16 +3,21 @@ use Rattle.std.specs.Prelude.{◌≡◌, ◌≤◌, ℕ, List, length, Option, S
 use Rattle.edr_device.specs.declared.stream.Sink as sink
 use Rattle.edr_device.specs.declared.stream.Source as stream
 use Rattle.edr_spell.specs.Spell.{largest_trace}
+use Rattle.edr_words.specs.declared.jobs.Job.TheVariants as job
+use Rattle.edr_words.specs.Jobs.{job_of}
 use Rattle.edr_fleet.specs.Frames.{AreFramesOf, EndsInFrameAt}
 use Rattle.edr_fleet.specs.Text.{IsFleetText}
-use Rattle.edr_cli.specs.declared.fault.Fault.{Fault}
 use Rattle.edr_cli.specs.declared.fault.Fault.TheVariants as fault
-use Rattle.edr_cli.specs.declared.status.Status.{Status}
+use Rattle.edr_cli.specs.declared.fault.Fault.{Fault}
 use Rattle.edr_cli.specs.declared.status.Status.TheVariants.{Ok}
-use Rattle.edr_cli.specs.Causes.{Gave, IsTraceCause}
+use Rattle.edr_cli.specs.declared.status.Status.{Status}
 use Rattle.edr_cli.specs.Endings.{Ends, IsServed}
 use Rattle.edr_cli.specs.Outside.{Input, IsAtEnd, NoFault, input}
-use Rattle.edr_cli.specs.Words.{AreFleetWords}
+use Rattle.edr_cli.specs.Sources.{Gave, IsTraceCause}
+
+-- they ask for the report of many images, by so many workers
+abbrev pub AreFleetWords : ℕ → List (List ℕ) → Type 0
+AreFleetWords workers words = job_of words ≡ Some (job.Fleet workers)
 
 -- the text is the report of the images whose frames the source told
 abbrev pub FleetIs : Input → List ℕ → Type 0

@@ -1,16 +1,27 @@
--- What the run of a trace by threads comes to with a line for each cycle that ran.
-use Rattle.std.specs.Prelude.{◌≡◌, ◌++◌, ℕ, List, flat_map}
-use Rattle.edr_image.specs.Banks.{Store}
+-- `drive W live`: a run by threads with a line for each cycle that ran.
+use Rattle.std.specs.Prelude.{◌≡◌, ℕ, Some, List, ◌++◌, flat_map}
+use Rattle.edr_device.specs.declared.device.Nvm as device
+use Rattle.edr_device.specs.declared.stream.Sink as sink
+use Rattle.edr_device.specs.declared.stream.Source as stream
 use Rattle.edr_spell.specs.declared.CycleInput.{CycleInput}
+use Rattle.edr_image.specs.Banks.{Store}
+use Rattle.edr_words.specs.declared.Form.TheVariants.{Text}
+use Rattle.edr_words.specs.declared.jobs.Job.TheVariants as job
+use Rattle.edr_words.specs.Jobs.{job_of}
 use Rattle.edr_report.specs.Format.{live_line}
+use Rattle.edr_gates.specs.Found.{Holds}
 use Rattle.edr_run.specs.declared.live.LiveLine.{LiveLine}
 use Rattle.edr_run.specs.Cycle.{Outcome}
 use Rattle.edr_run.specs.Live.{IsLiveRun}
-use Rattle.edr_words.specs.declared.Form.TheVariants.{Text}
-use Rattle.edr_gates.specs.Found.{Holds}
+use Rattle.edr_cli.specs.declared.status.Status.{Status}
+use Rattle.edr_cli.specs.Drives.{IsDriveCause}
 use Rattle.edr_cli.specs.Outside.{Input, Memory}
 use Rattle.edr_cli.specs.Reports.{report_in}
-use Rattle.edr_cli.specs.Runs.{IfTold, TheRun}
+use Rattle.edr_cli.specs.Runs.{IfTold, Runs, TheRun}
+
+-- they ask for the run of a trace by so many workers, and its report with a line for each cycle that ran
+abbrev pub AreLiveWords : ℕ → List (List ℕ) → Type 0
+AreLiveWords workers words = job_of words ≡ Some (job.DriveLive workers)
 
 -- the line of a cycle that ran
 unfoldable pub line_text : LiveLine → List ℕ
@@ -39,3 +50,9 @@ abbrev pub ReportsLive : List CycleInput → Memory → Memory → List ℕ → 
 ReportsLive cycles old new text = (v : Store) (n : ℕ) → Holds old.content old.settled v n
     → (o : Outcome) × (lines : List LiveLine) × IsLiveRun 1 cycles v n o lines × Holds new.content new.settled o.store o.count
     × (text ≡ report_in Text o.reports o.store o.count ++ live_text lines)
+
+-- and tells how its cycles went
+abbrev pub ServesLive : {S K D : Type 0} → stream.Ghosts S → sink.Ghosts K → device.Ghosts D → List (List ℕ) → Status
+    → S → S → K → K → D → D → Type 0
+ServesLive s k d words status source source' sink sink' nvm nvm' =
+    (workers : ℕ) → AreLiveWords workers words → Runs s k d IsDriveCause LiveRunIs status source source' sink sink' nvm nvm'

@@ -1,16 +1,16 @@
 -- What the steps of a run say of each other. The clauses of the top call need none of this.
 use Rattle.std.specs.Prelude.{◌≡◌, ◌⊎◌, ℕ, List, Some, IfSome}
 use Rattle.edr_device.specs.Faults.{Rose}
+use Rattle.edr_spell.specs.declared.CycleInput.{CycleInput}
 use Rattle.edr_image.specs.Banks.{Store}
 use Rattle.edr_image.specs.Reports.{Report}
-use Rattle.edr_spell.specs.declared.CycleInput.{CycleInput}
-use Rattle.edr_run.specs.Cycle.{Outcome, IsRun}
-use Rattle.edr_cli.specs.declared.fault.Fault.{Fault}
-use Rattle.edr_cli.specs.declared.fault.Fault.TheVariants as fault
 use Rattle.edr_words.specs.declared.Form.{Form}
+use Rattle.edr_gates.specs.Found.{Holds, Says}
+use Rattle.edr_run.specs.Cycle.{Outcome, IsRun}
 use Rattle.edr_replay.specs.Reached.{IsCutShort, RanFirst}
 use Rattle.edr_replay.specs.Replayed.{IsShortOf, LeavesReached, RanToTheLast}
-use Rattle.edr_gates.specs.Found.{Holds, Says}
+use Rattle.edr_cli.specs.declared.fault.Fault.TheVariants as fault
+use Rattle.edr_cli.specs.declared.fault.Fault.{Fault}
 use Rattle.edr_cli.specs.Migrations.{TookOver}
 use Rattle.edr_cli.specs.Outside.{Memory}
 use Rattle.edr_cli.specs.Reports.{report_in}

@@ -6,11 +6,14 @@ ghost use Rattle.edr_device.specs.Told.{Told};
 ghost use Rattle.edr_device.specs.Transfer.{GivesAtMost};
 ghost use Rattle.edr_spell.specs.Spell.{largest_trace};
 ghost use Rattle.edr_cli.specs.Audits.{ServesAudit};
-ghost use Rattle.edr_cli.specs.Causes.{IsUsageCause};
+ghost use Rattle.edr_cli.specs.Words.{IsUsageCause, AreOther, ReadNothing, UseNoMemory};
 ghost use Rattle.edr_cli.specs.Dialogs.{ServesDialog};
 ghost use Rattle.edr_cli.specs.Endings.{TellsCut, TellsWhole};
-ghost use Rattle.edr_cli.specs.Outcomes.{ServesFormat, ServesGenerate, ServesLarge, ServesMigrate, ServesReplay, ServesReport};
-ghost use Rattle.edr_cli.specs.Words.{AreOther, ReadNothing, UseNoMemory};
+ghost use Rattle.edr_cli.specs.Formats.{ServesFormat};
+ghost use Rattle.edr_cli.specs.Texts.{ServesGenerate, ServesLarge};
+ghost use Rattle.edr_cli.specs.Migrations.{ServesMigrate};
+ghost use Rattle.edr_cli.specs.Replays.{ServesReplay};
+ghost use Rattle.edr_cli.specs.Reports.{ServesReport};
 
 use crate::audit::serve_audit;
 use crate::dialog::serve_dialog;

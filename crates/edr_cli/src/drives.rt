@@ -8,14 +8,14 @@ ghost use Rattle.edr_spell.specs.Spell.{IsCycleInput, largest_trace};
 ghost use Rattle.edr_spell.specs.declared.CycleInput.{CycleInput};
 ghost use Rattle.edr_replay.specs.Past.{LeavesPast};
 ghost use Rattle.edr_words.specs.declared.Form.{Form};
-ghost use Rattle.edr_cli.specs.Causes.{IsDriveCause, IsUsageCause};
+ghost use Rattle.edr_cli.specs.Drives.{IsDriveCause, ServesDrive};
+ghost use Rattle.edr_cli.specs.Words.{IsUsageCause, NeedNoThreads};
 ghost use Rattle.edr_cli.specs.Endings.{TellsCut, TellsWhole};
-ghost use Rattle.edr_cli.specs.Outcomes.{ServesDrive, ServesLive};
+ghost use Rattle.edr_cli.specs.Lives.{ServesLive};
 ghost use Rattle.edr_cli.specs.Outside.{IsAtEnd, OfBoth, OfMemory, OfRun, memory};
 ghost use Rattle.edr_cli.specs.Runs.{RunIs};
 ghost use Rattle.edr_cli.specs.Steps.{IsDrivenCause, Reports};
-ghost use Rattle.edr_cli.specs.Fleets.{ServesFleet};
-ghost use Rattle.edr_cli.specs.Words.{AreFleetWords, NeedNoThreads};
+ghost use Rattle.edr_cli.specs.Fleets.{ServesFleet, AreFleetWords};
 
 use crate::endings::{finish, tell};
 use crate::fault::Fault;

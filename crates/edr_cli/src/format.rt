@@ -6,10 +6,8 @@ ghost use Rattle.edr_image.specs.declared.places.TheConstants.{FEWEST_BANKS, MOS
 ghost use Rattle.edr_image.specs.Image.{image_size};
 ghost use Rattle.edr_banks.specs.Formatting.{IsPartlyFormatted, LacksMagic};
 ghost use Rattle.edr_report.specs.Format.{format_line};
-ghost use Rattle.edr_cli.specs.Causes.{IsFormatCause};
-ghost use Rattle.edr_cli.specs.Outcomes.{Formats};
+ghost use Rattle.edr_cli.specs.Formats.{IsFormatCause, Formats, IsMade};
 ghost use Rattle.edr_cli.specs.Outside.{OfMemory};
-ghost use Rattle.edr_cli.specs.Reports.{IsMade};
 ghost use Rattle.edr_cli.specs.Crashes.{KeepsImage, OfCrash};
 
 use crate::endings::{tell, write};

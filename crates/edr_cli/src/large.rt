@@ -2,8 +2,7 @@
 ghost use Rattle.std.specs.Prelude.{◌≡◌, ◌≤◌, IfOk, IfErr};
 ghost use Rattle.edr_device.specs.Faults.{Rose};
 ghost use Rattle.edr_large.specs.Large.{AreLinesOf};
-ghost use Rattle.edr_cli.specs.Causes.{IsNumberCause};
-ghost use Rattle.edr_cli.specs.Outcomes.{MakesText};
+ghost use Rattle.edr_cli.specs.Texts.{IsNumberCause, MakesText};
 
 use crate::endings::finish;
 use crate::fault::Fault;

@@ -6,10 +6,9 @@ ghost use Rattle.edr_device.specs.Told.{Told};
 ghost use Rattle.edr_device.specs.Transfer.{GivesAtMost};
 ghost use Rattle.edr_spell.specs.Spell.{IsCycleInput, largest_trace};
 ghost use Rattle.edr_replay.specs.Past.{LeavesPast};
-ghost use Rattle.edr_cli.specs.Causes.{IsReplayCause};
-ghost use Rattle.edr_cli.specs.Outcomes.{Runs};
+ghost use Rattle.edr_cli.specs.Replays.{IsReplayCause};
+ghost use Rattle.edr_cli.specs.Runs.{Runs, RunIs};
 ghost use Rattle.edr_cli.specs.Outside.{IsAtEnd, OfBoth, OfMemory, OfRun};
-ghost use Rattle.edr_cli.specs.Runs.{RunIs};
 ghost use Rattle.edr_cli.specs.Steps.{IsRunCause, Reports};
 
 use crate::endings::finish;

@@ -5,10 +5,8 @@ ghost use Rattle.edr_device.specs.Lent.{At, GoesOn, OnlyRead};
 ghost use Rattle.edr_image.specs.Reports.{report_of};
 ghost use Rattle.edr_gates.specs.Found.{IsFound, Says};
 ghost use Rattle.edr_banks.specs.Opening.{view_when_opened};
-ghost use Rattle.edr_cli.specs.Causes.{IsImageCause};
-ghost use Rattle.edr_cli.specs.Outcomes.{ShowsReport};
+ghost use Rattle.edr_cli.specs.Reports.{IsImageCause, ShowsReport, ReportIs, report_in};
 ghost use Rattle.edr_cli.specs.Outside.{NoFault, OfMemory, memory};
-ghost use Rattle.edr_cli.specs.Reports.{ReportIs, report_in};
 ghost use Rattle.edr_cli.specs.Steps.{ReportsHeld};
 ghost use Rattle.edr_cli.specs.Crashes.{KeepsBytes};
 

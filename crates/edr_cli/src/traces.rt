@@ -5,7 +5,7 @@ ghost use Rattle.edr_device.specs.Told.{Told};
 ghost use Rattle.edr_device.specs.Transfer.{Carries, GivesAtMost, GivesTooMany};
 ghost use Rattle.edr_spell.specs.Spell.{IsCycleInput, largest_trace};
 ghost use Rattle.edr_trace.specs.Given.{Given, TakesBytes};
-ghost use Rattle.edr_cli.specs.Causes.{IsTraceCause};
+ghost use Rattle.edr_cli.specs.Sources.{IsTraceCause};
 ghost use Rattle.edr_cli.specs.Outside.{IsAtEnd, input};
 ghost use Rattle.edr_cli.specs.Runs.{IsTraceOf};
 ghost use Rattle.edr_cli.specs.Traces.{HasAll};

@@ -7,8 +7,8 @@ use Rattle.edr_image.specs.declared.Choice.TheVariants.{Keep, Overwrite}
 use Rattle.edr_image.specs.declared.places.TheConstants.{FEWEST_BANKS, MOST_BANKS}
 use Rattle.edr_words.specs.declared.Form.{Form}
 use Rattle.edr_words.specs.declared.Form.TheVariants.{Text, Table}
-use Rattle.edr_words.specs.declared.Job.{Job}
-use Rattle.edr_words.specs.declared.Job.TheVariants.{Format, Replay, Report, Drive, DriveLive, Generate, Large, Migrate, Dialog, Fleet, Audit}
+use Rattle.edr_words.specs.declared.jobs.Job.{Job}
+use Rattle.edr_words.specs.declared.jobs.Job.TheVariants.{Format, Replay, Report, Drive, DriveLive, Generate, Large, Migrate, Dialog, Fleet, Audit}
 use Rattle.edr_words.specs.Arguments.{PlainText, at_most_one, is_plain, one_or_two, two}
 
 -- ---- what a word stands for

@@ -1,15 +1,42 @@
-//! The table of words, a line for each.
+//! What the program may be asked to do, and the table of words, a line for each.
 ghost use Rattle.std.specs.Prelude.{◌≡◌, ◌≤◌, Some, true, map, option_map, string_bytes, IfOk, IfSome};
 ghost use Rattle.std.specs.List.{list_all};
 ghost use Rattle.edr_words.specs.Arguments.{at_most_one, is_plain, one_or_two, two};
-ghost use Rattle.edr_words.specs.declared.Job.TheVariants.{Drive};
+ghost use Rattle.edr_words.specs.declared.jobs.Job.TheVariants.{Drive};
 ghost use Rattle.edr_words.specs.Jobs.{IsWithin, bare_job, choice_in, drive_as, drive_job, fleet_job, form_in, form_of, format_job, generate_job, job_after, large_job, number_in, replay_job, report_job, trace_of, within};
 
 use crate::arguments::{at_most_one, one_or_two, two};
-use crate::{Choice, Form, Header, Job};
+use crate::{Choice, Form, Header};
 use edr_image::places::{FEWEST_BANKS, MOST_BANKS};
 use edr_text::{read_u32, read_u64};
 use std::alloc::{AllocError as OutOfMemory, Global};
+
+/// What the program is asked to do.
+#[derive(Clone, Copy, Debug, PartialEq, Eq)]
+pub enum Job {
+    /// `format B C`: writes an empty image of B banks, `FEWEST_BANKS` to `MOST_BANKS`.
+    Format { header: Header },
+    /// `replay [text|csv]`: runs a trace over the image, and reports.
+    Replay { form: Form },
+    /// `report [text|csv]`: reports what the image holds.
+    Report { form: Form },
+    /// `drive W [text|csv]`: as `replay`, with W workers for the sensors, 1 to 8.
+    Drive { workers: u8, form: Form },
+    /// `drive W live`: as `drive W`, with a line for each cycle after the report.
+    DriveLive { workers: u8 },
+    /// `generate N M`: writes the trace of a number, of M cycles, 1 to 60.
+    Generate { number: u64, cycles: u32 },
+    /// `large N M`: runs that trace over a new image, and counts.
+    Large { number: u64, cycles: u32 },
+    /// `migrate`: takes over the records of an image of version 1.
+    Migrate,
+    /// `dialog`: replies to requests about what the image holds.
+    Dialog,
+    /// `fleet W`: reports what many images hold, by W workers, 1 to 8.
+    Fleet { workers: u8 },
+    /// `audit`: says whether what the image holds, and a report, come from an earlier image and a trace.
+    Audit,
+}
 
 /// The job that a word names with its arguments.
 pub(crate) fn job_after(

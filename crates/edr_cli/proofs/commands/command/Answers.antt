@@ -1,13 +1,15 @@
-use Rattle.std.proofs.Common.{◌≡◌, rules, inl, inr, refl, ℕ}
+use Rattle.std.proofs.Common.{◌≡◌, rules, inl, refl, ℕ}
 use Rattle.edr_gen.specs.Traces.{generated_trace}
 use Rattle.edr_image.specs.declared.Header.{Header}
 use Rattle.edr_large.specs.Large.{AreLinesOf}
 use Rattle.edr_words.specs.declared.Form.{Form}
 use Rattle.edr_cli.specs.declared.fault.Fault.TheVariants as fault
-use Rattle.edr_cli.specs.Causes.{IsNumberCause, IsReplayCause, IsUsageCause}
-use Rattle.edr_cli.specs.Outcomes.{Formats, MakesText, Runs, ShowsReport}
-use Rattle.edr_cli.specs.Runs.{RunIs}
-use Rattle.edr_cli.specs.Words.{AreFormatWords, AreGenerateWords, AreLargeWords, AreReplayWords, AreReportWords}
+use Rattle.edr_cli.specs.Texts.{IsNumberCause, MakesText, AreGenerateWords, AreLargeWords}
+use Rattle.edr_cli.specs.Replays.{IsReplayCause, AreReplayWords}
+use Rattle.edr_cli.specs.Words.{IsUsageCause}
+use Rattle.edr_cli.specs.Formats.{Formats, AreFormatWords}
+use Rattle.edr_cli.specs.Runs.{Runs, RunIs}
+use Rattle.edr_cli.specs.Reports.{ShowsReport, AreReportWords}
 use Rattle.edr_cli.proofs.DispatchLemmas.{as_format, as_generate, as_large, as_replay, as_report}
 use Rattle.edr_cli.proofs.EndingLemmas.{ends_text, served_text, tells_fault, tells_fault_part}
 use Rattle.edr_cli.proofs.AuditedLemmas.{audits_short}
@@ -17,10 +19,10 @@ use Rattle.edr_cli.proofs.commands.command.Goals as goal
 -- ---- memory ran out before the words were read
 
 pub returns-in-Err-clause-usage : goal.returns-in-Err-clause-usage
-returns-in-Err-clause-usage g c = λ other fine. tells_fault g.K.Sink IsUsageCause fault.OutOfMemory c.tell.result c.args.sink.now c.tell.new.sink (inr refl) c.tell.ensures.gains fine
+returns-in-Err-clause-usage g c = λ other fine. tells_fault g.K.Sink IsUsageCause fault.OutOfMemory c.tell.result c.args.sink.now c.tell.new.sink tt c.tell.ensures.gains fine
 
 pub returns-in-Err-clause-usage_part : goal.returns-in-Err-clause-usage_part
-returns-in-Err-clause-usage_part g c = λ other failed. tells_fault_part g.K.Sink IsUsageCause fault.OutOfMemory c.tell.result c.args.sink.now c.tell.new.sink (inr refl) c.tell.ensures.gains failed
+returns-in-Err-clause-usage_part g c = λ other failed. tells_fault_part g.K.Sink IsUsageCause fault.OutOfMemory c.tell.result c.args.sink.now c.tell.new.sink tt c.tell.ensures.gains failed
 
 pub returns-in-Err-clause-replay : goal.returns-in-Err-clause-replay
 returns-in-Err-clause-replay g c = λ form asked. runs_short g.S.Source g.K.Sink g.N.Nvm IsReplayCause (RunIs form) c.tell.result c.args.source.now c.args.sink.now c.tell.new.sink c.args.nvm.now (inl refl) c.tell.ensures.gains
@@ -87,7 +89,7 @@ returns-in-Some-Large-clause-large g c = λ number cycles asked.
 -- ---- other words
 
 pub returns-in-Some-Drive-clause-usage : goal.returns-in-Some-Drive-clause-usage
-returns-in-Some-Drive-clause-usage g c = λ other fine. tells_fault g.K.Sink IsUsageCause fault.Usage c.tell-in-Some-Drive.result c.args.sink.now c.tell-in-Some-Drive.new.sink (inl refl) c.tell-in-Some-Drive.ensures.gains fine
+returns-in-Some-Drive-clause-usage g c = λ other fine. tells_fault g.K.Sink IsUsageCause fault.Usage c.tell-in-Some-Drive.result c.args.sink.now c.tell-in-Some-Drive.new.sink tt c.tell-in-Some-Drive.ensures.gains fine
 
 pub returns-in-Some-Drive-clause-usage_part : goal.returns-in-Some-Drive-clause-usage_part
-returns-in-Some-Drive-clause-usage_part g c = λ other failed. tells_fault_part g.K.Sink IsUsageCause fault.Usage c.tell-in-Some-Drive.result c.args.sink.now c.tell-in-Some-Drive.new.sink (inl refl) c.tell-in-Some-Drive.ensures.gains failed
+returns-in-Some-Drive-clause-usage_part g c = λ other failed. tells_fault_part g.K.Sink IsUsageCause fault.Usage c.tell-in-Some-Drive.result c.args.sink.now c.tell-in-Some-Drive.new.sink tt c.tell-in-Some-Drive.ensures.gains failed

@@ -1,12 +1,11 @@
-use Rattle.std.proofs.Common.{rules, inl, inr, refl}
+use Rattle.std.proofs.Common.{rules, inl, refl}
 use Rattle.edr_words.specs.declared.Form.{Form}
 use Rattle.edr_cli.specs.declared.fault.Fault.TheVariants as fault
-use Rattle.edr_cli.specs.Causes.{IsDriveCause, IsUsageCause}
+use Rattle.edr_cli.specs.Drives.{IsDriveCause, AreDrive}
+use Rattle.edr_cli.specs.Words.{IsUsageCause}
 use Rattle.edr_cli.specs.Lives.{LiveRunIs}
-use Rattle.edr_cli.specs.Outcomes.{Runs}
+use Rattle.edr_cli.specs.Runs.{Runs, RunIs}
 use Rattle.edr_cli.specs.Outside.{input, memory}
-use Rattle.edr_cli.specs.Runs.{RunIs}
-use Rattle.edr_cli.specs.Words.{AreDrive}
 use Rattle.edr_cli.proofs.DispatchLemmas.{as_drive}
 use Rattle.edr_cli.proofs.DriveLemmas.{driven_only_memory}
 use Rattle.edr_cli.proofs.EndingLemmas.{ends, served, tells_fault, tells_fault_part, when_ok}
@@ -17,10 +16,10 @@ use Rattle.edr_cli.proofs.drives.drive.Goals as goal
 -- ---- memory ran out before the words were read
 
 pub returns-in-Err-clause-usage : goal.returns-in-Err-clause-usage
-returns-in-Err-clause-usage g c = λ other fine. tells_fault g.K.Sink IsUsageCause fault.OutOfMemory c.tell.result c.args.sink.now c.tell.new.sink (inr refl) c.tell.ensures.gains fine
+returns-in-Err-clause-usage g c = λ other fine. tells_fault g.K.Sink IsUsageCause fault.OutOfMemory c.tell.result c.args.sink.now c.tell.new.sink tt c.tell.ensures.gains fine
 
 pub returns-in-Err-clause-usage_part : goal.returns-in-Err-clause-usage_part
-returns-in-Err-clause-usage_part g c = λ other failed. tells_fault_part g.K.Sink IsUsageCause fault.OutOfMemory c.tell.result c.args.sink.now c.tell.new.sink (inr refl) c.tell.ensures.gains failed
+returns-in-Err-clause-usage_part g c = λ other failed. tells_fault_part g.K.Sink IsUsageCause fault.OutOfMemory c.tell.result c.args.sink.now c.tell.new.sink tt c.tell.ensures.gains failed
 
 pub returns-in-Err-clause-drive : goal.returns-in-Err-clause-drive
 returns-in-Err-clause-drive g c = λ form workers asked.
@@ -70,7 +69,7 @@ returns-in-Some-Fleet-clause-fleet g c = λ workers asked. c.serve_fleet.ensures
 -- ---- other words
 
 pub returns-in_default-clause-usage : goal.returns-in_default-clause-usage
-returns-in_default-clause-usage g c = λ other fine. tells_fault g.K.Sink IsUsageCause fault.Usage c.tell-in_default.result c.args.sink.now c.tell-in_default.new.sink (inl refl) c.tell-in_default.ensures.gains fine
+returns-in_default-clause-usage g c = λ other fine. tells_fault g.K.Sink IsUsageCause fault.Usage c.tell-in_default.result c.args.sink.now c.tell-in_default.new.sink tt c.tell-in_default.ensures.gains fine
 
 pub returns-in_default-clause-usage_part : goal.returns-in_default-clause-usage_part
-returns-in_default-clause-usage_part g c = λ other failed. tells_fault_part g.K.Sink IsUsageCause fault.Usage c.tell-in_default.result c.args.sink.now c.tell-in_default.new.sink (inl refl) c.tell-in_default.ensures.gains failed
+returns-in_default-clause-usage_part g c = λ other failed. tells_fault_part g.K.Sink IsUsageCause fault.Usage c.tell-in_default.result c.args.sink.now c.tell-in_default.new.sink tt c.tell-in_default.ensures.gains failed

@@ -2,7 +2,7 @@ use Rattle.std.proofs.Common.{subst, map, List, inl}
 use Rattle.std.proofs.lemmas.Result.{err_from_is_err_and}
 use Rattle.edr_image.specs.declared.log.CycleReport.{CycleReport}
 use Rattle.edr_image.specs.Reports.{report_of}
-use Rattle.edr_cli.specs.Causes.{IsImageCause}
+use Rattle.edr_cli.specs.Reports.{IsImageCause}
 use Rattle.edr_cli.specs.Outside.{memory}
 use Rattle.edr_cli.specs.Steps.{IsDrivenCause, Reports, ReportsHeld}
 use Rattle.edr_cli.proofs.DriveLemmas.{driven_cause}

@@ -1,9 +1,8 @@
 use Rattle.std.proofs.Common.{◌≡◌, Result, Ok, Err, IsOk}
 use Rattle.edr_banks.specs.Formatting.{LacksMagic}
-use Rattle.edr_cli.specs.Causes.{IsFormatCause}
+use Rattle.edr_cli.specs.Formats.{IsFormatCause, FormatIs}
 use Rattle.edr_cli.specs.Endings.{IsServed}
 use Rattle.edr_cli.specs.Outside.{memory}
-use Rattle.edr_cli.specs.Reports.{FormatIs}
 use Rattle.edr_cli.proofs.EndingLemmas.{ends_fault, ends_text, served_text}
 use Rattle.edr_cli.proofs.ImageLemmas.{if_each, told_is}
 use Rattle.edr_cli.proofs.format.serve_format.Goals as goal

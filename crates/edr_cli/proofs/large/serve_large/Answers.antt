@@ -1,5 +1,5 @@
 use Rattle.edr_large.specs.Large.{AreLinesOf}
-use Rattle.edr_cli.specs.Causes.{IsNumberCause}
+use Rattle.edr_cli.specs.Texts.{IsNumberCause}
 use Rattle.edr_cli.proofs.EndingLemmas.{ends, served}
 use Rattle.edr_cli.proofs.large.serve_large.Goals as goal
 

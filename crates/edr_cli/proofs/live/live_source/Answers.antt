@@ -1,6 +1,6 @@
 use Rattle.std.proofs.lemmas.Result.{err_from_is_err_and}
 use Rattle.std.proofs.Common.{inl}
-use Rattle.edr_cli.specs.Causes.{IsDriveCause}
+use Rattle.edr_cli.specs.Drives.{IsDriveCause}
 use Rattle.edr_cli.specs.Outside.{input, memory}
 use Rattle.edr_cli.specs.Lives.{LiveRunIs, ReportsLive}
 use Rattle.edr_cli.specs.Steps.{IsDrivenCause}

@@ -1,4 +1,4 @@
-use Rattle.edr_cli.specs.Causes.{IsDriveCause}
+use Rattle.edr_cli.specs.Drives.{IsDriveCause}
 use Rattle.edr_cli.specs.Lives.{LiveRunIs}
 use Rattle.edr_cli.specs.Outside.{input, memory}
 use Rattle.edr_cli.proofs.DriveLemmas.{driven_only_memory}

@@ -1,8 +1,7 @@
 use Rattle.std.proofs.Common.{arith, subst, inl, ◌+◌, ◌≤◌, List, length, ℕ, IfSome}
 use Rattle.edr_device.proofs.SettlingLemmas.{quiet_leaves}
 use Rattle.edr_spell.specs.Spell.{largest_trace}
-use Rattle.edr_cli.specs.Causes.{IsMigrateCause, IsTakingCause}
-use Rattle.edr_cli.specs.Migrations.{IsPartlyTaken, MigrateIs, TookOver}
+use Rattle.edr_cli.specs.Migrations.{IsMigrateCause, IsTakingCause, IsPartlyTaken, MigrateIs, TookOver}
 use Rattle.edr_cli.specs.Outside.{input, memory}
 use Rattle.edr_cli.specs.Steps.{IsTakenOver}
 use Rattle.edr_cli.proofs.ImageLemmas.{err_map, if_each, ok_map}

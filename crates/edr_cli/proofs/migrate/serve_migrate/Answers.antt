@@ -1,5 +1,4 @@
-use Rattle.edr_cli.specs.Causes.{IsMigrateCause}
-use Rattle.edr_cli.specs.Migrations.{MigrateIs}
+use Rattle.edr_cli.specs.Migrations.{IsMigrateCause, MigrateIs}
 use Rattle.edr_cli.specs.Outside.{input, memory}
 use Rattle.edr_cli.proofs.EndingLemmas.{ends_fault, ends_text, not_ok, served_fault, served_text}
 use Rattle.edr_cli.proofs.MigrationLemmas.{migrate_only_memory}

@@ -1,7 +1,7 @@
 use Rattle.std.proofs.Common.{subst, List}
 use Rattle.std.proofs.lemmas.Result.{err_from_is_err_and}
 use Rattle.edr_spell.specs.declared.CycleInput.{CycleInput}
-use Rattle.edr_cli.specs.Causes.{IsReplayCause}
+use Rattle.edr_cli.specs.Replays.{IsReplayCause}
 use Rattle.edr_cli.specs.Outside.{input, memory}
 use Rattle.edr_cli.specs.Runs.{RunIs}
 use Rattle.edr_cli.specs.Steps.{IsRunCause, Reports}

@@ -1,4 +1,4 @@
-use Rattle.edr_cli.specs.Causes.{IsReplayCause}
+use Rattle.edr_cli.specs.Replays.{IsReplayCause}
 use Rattle.edr_cli.specs.Outside.{input, memory}
 use Rattle.edr_cli.specs.Runs.{RunIs}
 use Rattle.edr_cli.proofs.CompletenessLemmas.{only_memory}

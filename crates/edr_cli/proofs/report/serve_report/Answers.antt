@@ -1,6 +1,5 @@
-use Rattle.edr_cli.specs.Causes.{IsImageCause}
+use Rattle.edr_cli.specs.Reports.{IsImageCause, ReportIs}
 use Rattle.edr_cli.specs.Outside.{memory}
-use Rattle.edr_cli.specs.Reports.{ReportIs}
 use Rattle.edr_cli.proofs.CompletenessLemmas.{image_only_memory}
 use Rattle.edr_cli.proofs.EndingLemmas.{ends, served}
 use Rattle.edr_cli.proofs.ImageLemmas.{err_map}

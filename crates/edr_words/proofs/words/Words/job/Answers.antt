@@ -2,7 +2,7 @@ use Rattle.std.proofs.Common.{rules, ◌≡◌, ◌∙◌, sym, ap, refl, Bool, 
 use Rattle.std.specs.List.{list_all}
 use Rattle.std.proofs.lemmas.List.Folds.{list_all-map}
 use Rattle.edr_words.specs.Arguments.{PlainText, is_plain}
-use Rattle.edr_words.specs.declared.Job.{Job}
+use Rattle.edr_words.specs.declared.jobs.Job.{Job}
 use Rattle.edr_words.specs.Jobs.{job_after, job_of}
 use Rattle.edr_words.proofs.words.Words.job.Goals as goal
 
