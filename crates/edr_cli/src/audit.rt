@@ -81,7 +81,8 @@ impl Audited {
 // Reads the first bytes of the device, as many as an image may have, or all of fewer.
 fn read_first<N: Nvm>(nvm: &mut N, into: &mut [u8]) -> Result<(), Failed>
     requires { length into.old ≡ min (N.extent nvm.old) LONGEST_IMAGE }
-    ensures bytes { OnOk result (IfSome (N.content nvm.old) (λ image. into.new ≡ take LONGEST_IMAGE image)) }
+    ensures bytes { OnOk result (IfSome (N.content nvm.old)
+        (λ image. into.new ≡ take LONGEST_IMAGE image)) }
     ensures cause { HasCause (N.faults nvm.old) (N.faults nvm.new) result }
     ensures read { OnlyRead N.Nvm nvm.old nvm.new }
 {
@@ -90,8 +91,10 @@ fn read_first<N: Nvm>(nvm: &mut N, into: &mut [u8]) -> Result<(), Failed>
 
 // The bytes of the device that an image may have.
 fn first_bytes<N: Nvm>(alloc: Global, nvm: &mut N) -> Result<Vec<u8>, Fault>
-    ensures bytes { IfOk result (λ b. IfSome (N.content nvm.old) (λ image. b.items ≡ take LONGEST_IMAGE image)) }
-    ensures cause { IfErr result (λ f. (f ≡ Fault.OutOfMemory) ⊎ ((f ≡ Fault.Store) × Rose (N.faults nvm.old) (N.faults nvm.new))) }
+    ensures bytes { IfOk result (λ b. IfSome (N.content nvm.old)
+        (λ image. b.items ≡ take LONGEST_IMAGE image)) }
+    ensures cause { IfErr result (λ f. (f ≡ Fault.OutOfMemory)
+        ⊎ ((f ≡ Fault.Store) × Rose (N.faults nvm.old) (N.faults nvm.new))) }
     ensures read { OnlyRead N.Nvm nvm.old nvm.new }
 {
     let size = nvm.size().min(LONGEST_IMAGE);
@@ -102,8 +105,10 @@ fn first_bytes<N: Nvm>(alloc: Global, nvm: &mut N) -> Result<Vec<u8>, Fault>
 
 // The bytes of the device, after a barrier, so that nothing is pending.
 fn settled_bytes<N: Nvm>(alloc: Global, nvm: &mut N) -> Result<Vec<u8>, Fault>
-    ensures bytes { IfOk result (λ b. IfSome (N.content nvm.old) (λ image. b.items ≡ take LONGEST_IMAGE image)) }
-    ensures cause { IfErr result (λ f. ((f ≡ Fault.OutOfMemory) × (N.content nvm.new ≡ N.content nvm.old))
+    ensures bytes { IfOk result (λ b. IfSome (N.content nvm.old)
+        (λ image. b.items ≡ take LONGEST_IMAGE image)) }
+    ensures cause { IfErr result (λ f.
+        ((f ≡ Fault.OutOfMemory) × (N.content nvm.new ≡ N.content nvm.old))
         ⊎ ((f ≡ Fault.Store) × Rose (N.faults nvm.old) (N.faults nvm.new))) }
     ensures told { OnOk result (N.content nvm.new ≡ N.content nvm.old) }
     ensures stays { KeepsBytes N.Nvm nvm.old nvm.new }
@@ -114,8 +119,8 @@ fn settled_bytes<N: Nvm>(alloc: Global, nvm: &mut N) -> Result<Vec<u8>, Fault>
     first_bytes(alloc, nvm)
 }
 
-// What is said of the bytes that the source gives and of those of the device. The first line is looked at before the device is
-// touched.
+// What is said of the bytes that the source gives and of those of the device. The first line is
+// looked at before the device is touched.
 fn audit_source<S: Source, N: Nvm>(
     alloc: Global,
     source: &mut S,
@@ -126,7 +131,8 @@ fn audit_source<S: Source, N: Nvm>(
     ensures lent { GoesOn N.Nvm nvm.old nvm.new }
     ensures end { OnOk result (IsAtEnd (S.left source.new)) }
     ensures says { IfOk result (OfRun S.Source N.Nvm IsAudit source.old nvm.old nvm.new) }
-    ensures cause { IfErr result (OfBoth S.Source N.Nvm IsAuditCause source.old source.new nvm.old nvm.new) }
+    ensures cause { IfErr result (OfBoth S.Source N.Nvm IsAuditCause
+        source.old source.new nvm.old nvm.new) }
     ensures stays { KeepsBytes N.Nvm nvm.old nvm.new }
     ensures keeps { NoFault N.faults nvm.old nvm.new → N.content nvm.new ≡ N.content nvm.old }
 {
@@ -139,15 +145,18 @@ fn audit_source<S: Source, N: Nvm>(
     Ok(Audited::Judged(verdict))
 }
 
-/// Says whether what the device holds, and the report that the source gives, come from the image and the trace that it gives.
+/// Says whether what the device holds, and the report that the source gives, come from the image
+/// and the trace that it gives.
 pub(crate) fn serve_audit<S: Source, K: Sink, N: Nvm>(
     alloc: Global,
     source: &mut S,
     sink: &mut K,
     nvm: &mut N,
 ) -> Status
-    ensures audits { Audits S.Source K.Sink N.Nvm result source.old source.new sink.old sink.new nvm.old nvm.new }
-    ensures write_fault { result ≡ Status.WriteFault → Rose (K.faults sink.old) (K.faults sink.new) }
+    ensures audits { Audits S.Source K.Sink N.Nvm result
+        source.old source.new sink.old sink.new nvm.old nvm.new }
+    ensures write_fault { result ≡ Status.WriteFault
+        → Rose (K.faults sink.old) (K.faults sink.new) }
     ensures sink_later { K.faults sink.old ≤ K.faults sink.new }
     ensures takes { Told (GivesAtMost (largest_trace + 1)) (S.left source.old) (S.left source.new) }
     ensures source_later { S.faults source.old ≤ S.faults source.new }

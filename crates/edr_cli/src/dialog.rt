@@ -32,7 +32,8 @@ fn take_byte<S: Source>(source: &mut S) -> Result<Option<u8>, Failed>
 
 // Replies to the stream. Each reply is written before the next byte is taken.
 fn talk<S: Source, K: Sink>(source: &mut S, sink: &mut K, banks: &Banks) -> Status
-    ensures talked { Talked S.Source K.Sink (view_when_opened banks.now) result source.old source.new sink.old sink.new }
+    ensures talked { Talked S.Source K.Sink (view_when_opened banks.now) result
+        source.old source.new sink.old sink.new }
 {
     let mut dialog = Dialog::new(banks);
     let mut out = [0; LONGEST_REPLY];
@@ -66,8 +67,10 @@ pub(crate) fn serve_dialog<S: Source, K: Sink, N: Nvm>(
     sink: &mut K,
     nvm: &mut N,
 ) -> Status
-    ensures talks { Talks S.Source K.Sink N.Nvm result source.old source.new sink.old sink.new nvm.old nvm.new }
-    ensures write_fault { result ≡ Status.WriteFault → Rose (K.faults sink.old) (K.faults sink.new) }
+    ensures talks { Talks S.Source K.Sink N.Nvm result
+        source.old source.new sink.old sink.new nvm.old nvm.new }
+    ensures write_fault { result ≡ Status.WriteFault
+        → Rose (K.faults sink.old) (K.faults sink.new) }
     ensures sink_later { K.faults sink.old ≤ K.faults sink.new }
     ensures takes { Told (GivesAtMost (largest_trace + 1)) (S.left source.old) (S.left source.new) }
     ensures source_later { S.faults source.old ≤ S.faults source.new }

@@ -28,9 +28,12 @@ pub(crate) fn tell<K: Sink>(sink: &mut K, fault: Fault) -> Status
 
 /// Writes the text of a call, or the line of the fault for which there is none.
 pub(crate) fn finish<K: Sink>(sink: &mut K, outcome: Result<Vec<u8>, Fault>) -> Status
-    ensures text { IfOk outcome (λ text. Gains K.Sink text.items Status.Ok result sink.old sink.new) }
-    ensures fault { IfErr outcome (λ f. Gains K.Sink (fault_line f) (status_of f) result sink.old sink.new) }
-    ensures write_fault { result ≡ Status.WriteFault → Rose (K.faults sink.old) (K.faults sink.new) }
+    ensures text { IfOk outcome (λ text. Gains K.Sink text.items Status.Ok result
+        sink.old sink.new) }
+    ensures fault { IfErr outcome (λ f. Gains K.Sink (fault_line f) (status_of f) result
+        sink.old sink.new) }
+    ensures write_fault { result ≡ Status.WriteFault
+        → Rose (K.faults sink.old) (K.faults sink.new) }
     ensures later { K.faults sink.old ≤ K.faults sink.new }
 {
     match outcome {

@@ -16,8 +16,8 @@ use edr_trace::LARGEST_TRACE;
 use std::alloc::Global;
 use std::thread::Threads;
 
-// The report of the images whose frames the source gives, by this number of workers. The lines are made while the source is
-// read, and none is written before its end.
+// The report of the images whose frames the source gives, by this number of workers. The lines are
+// made while the source is read, and none is written before its end.
 fn fleet_source<R: Threads + Sync, S: Source>(
     rt: &R,
     alloc: Global,
@@ -29,7 +29,8 @@ fn fleet_source<R: Threads + Sync, S: Source>(
     ensures source_later { S.faults source.old ≤ S.faults source.new }
     ensures end { OnOk result (IsAtEnd (S.left source.new)) }
     ensures text { IfOk result (λ out. FleetIs (input S.Source source.old) out.items) }
-    ensures cause { IfErr result (IsFleetCause (input S.Source source.old) (input S.Source source.new)) }
+    ensures cause { IfErr result (IsFleetCause (input S.Source source.old)
+        (input S.Source source.new)) }
     ensures complete { ToldFrames (S.left source.old) → NoFault S.faults source.old source.new
         → IfErr result (λ f. f ≡ Fault.OutOfMemory) }
 {
@@ -47,7 +48,8 @@ pub(crate) fn serve_fleet<R: Threads + Sync, S: Source, K: Sink>(
 ) -> Status
     requires workers { (1 ≤ workers) × (workers ≤ 8) }
     ensures tells { TellsFleet S.Source K.Sink result source.old source.new sink.old sink.new }
-    ensures write_fault { result ≡ Status.WriteFault → Rose (K.faults sink.old) (K.faults sink.new) }
+    ensures write_fault { result ≡ Status.WriteFault
+        → Rose (K.faults sink.old) (K.faults sink.new) }
     ensures sink_later { K.faults sink.old ≤ K.faults sink.new }
     ensures takes { Told (GivesAtMost (largest_trace + 1)) (S.left source.old) (S.left source.new) }
     ensures source_later { S.faults source.old ≤ S.faults source.new }

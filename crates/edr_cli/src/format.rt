@@ -28,7 +28,8 @@ fn make_image<N: Nvm>(nvm: &mut N, header: Header) -> Result<ShortLine, Fault>
     ensures crash { OfCrash N.Nvm nvm.old nvm.new (IsPartlyFormatted header) }
     // An image that is there stays.
     ensures stays { KeepsImage N.Nvm nvm.old nvm.new }
-    ensures complete { ¬ Rose (N.faults nvm.old) (N.faults nvm.new) → image_size header.banks ≤ N.extent nvm.old
+    ensures complete { ¬ Rose (N.faults nvm.old) (N.faults nvm.new)
+        → image_size header.banks ≤ N.extent nvm.old
         → IfSome (N.content nvm.old) (λ bytes. LacksMagic bytes → IsOk result) }
 {
     let line = format_line(header);
@@ -42,7 +43,8 @@ pub(crate) fn serve_format<K: Sink, N: Nvm>(sink: &mut K, nvm: &mut N, header: H
     requires from { FEWEST_BANKS ≤ header.banks }
     requires to { header.banks ≤ MOST_BANKS }
     ensures formats { Formats K.Sink N.Nvm header result sink.old sink.new nvm.old nvm.new }
-    ensures write_fault { result ≡ Status.WriteFault → Rose (K.faults sink.old) (K.faults sink.new) }
+    ensures write_fault { result ≡ Status.WriteFault
+        → Rose (K.faults sink.old) (K.faults sink.new) }
     ensures sink_later { K.faults sink.old ≤ K.faults sink.new }
     ensures lent { GoesOn N.Nvm nvm.old nvm.new }
 {

@@ -8,7 +8,8 @@ use edr_gen::generate;
 
 /// Writes the trace of the number with that many cycles, piece by piece.
 pub(crate) fn serve_generate<K: Sink>(sink: &mut K, number: u64, cycles: u32) -> Status
-    ensures gains { Gains K.Sink (generated_trace number cycles) Status.Ok result sink.old sink.new }
+    ensures gains { Gains K.Sink (generated_trace number cycles) Status.Ok result
+        sink.old sink.new }
 {
     match generate(number, cycles, sink) {
         Ok(()) => Status::Ok,

@@ -22,7 +22,8 @@ fn counts(alloc: Global, number: u64, cycles: u32) -> Result<Vec<u8>, Fault>
 /// Writes the counts of a run over the cycles that the trace of the number spells.
 pub(crate) fn serve_large<K: Sink>(alloc: Global, sink: &mut K, number: u64, cycles: u32) -> Status
     ensures makes { MakesText K.Sink (AreLinesOf number cycles) result sink.old sink.new }
-    ensures write_fault { result ≡ Status.WriteFault → Rose (K.faults sink.old) (K.faults sink.new) }
+    ensures write_fault { result ≡ Status.WriteFault
+        → Rose (K.faults sink.old) (K.faults sink.new) }
     ensures sink_later { K.faults sink.old ≤ K.faults sink.new }
 {
     finish(sink, counts(alloc, number, cycles))

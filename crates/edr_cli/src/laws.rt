@@ -11,7 +11,8 @@ ghost use Rattle.edr_cli.specs.Runs.{IsPowered, TheRun, ToldTraceOf, HaveSameRep
 
 /// Traces that spell the same cycles have the same reports over the same image.
 pub fn reports_are_of_the_cycles()
-    ensures { (cycles : List CycleInput) (i j : Input) → ToldTraceOf cycles i → ToldTraceOf cycles j → HaveSameReports i j }
+    ensures { (cycles : List CycleInput) (i j : Input) → ToldTraceOf cycles i → ToldTraceOf cycles j
+        → HaveSameReports i j }
 {}
 
 /// Where no stop is planned, a run comes to one outcome.
@@ -22,6 +23,7 @@ pub fn runs_without_a_stop_are_one()
 
 /// What `replay` wrote in the form `text` is agreed to, where at most eight cycles of the trace may have two ends.
 pub fn replayed_is_agreed()
-    ensures { (trace before after text : List ℕ) (new : Memory) (run : TheRun Text trace before new text)
+    ensures { (trace before after text : List ℕ) (new : Memory)
+        (run : TheRun Text trace before new text)
         → stops_in run.cycles ≤ MOST_STOPS → new.content ≡ Some after → Agree before trace after text }
 {}

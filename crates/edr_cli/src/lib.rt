@@ -1,5 +1,6 @@
-//! The top call of recorder and retrieval tool: from the words of a command line, the bytes of a trace and the memory of
-//! the records to the bytes that are printed, the memory afterwards, and the status that the program ends with.
+//! The top call of recorder and retrieval tool: from the words of a command line, the bytes of a
+//! trace and the memory of the records to the bytes that are printed, the memory afterwards, and
+//! the status that the program ends with.
 #![tactic(auto)]
 
 mod audit;

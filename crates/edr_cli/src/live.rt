@@ -47,7 +47,8 @@ fn with_lines(report: Vec<u8>, lines: &[LiveLine]) -> Result<Vec<u8>, OutOfMemor
     Ok(text)
 }
 
-// Runs the cycles by this number of workers beside a reader, opens the banks again, and reports with the line of each cycle that ran.
+// Runs the cycles by this number of workers beside a reader, opens the banks again, and reports
+// with the line of each cycle that ran.
 fn run_live<
     R: Threads + Wait + Copy + Send + Sync + 'static,
     G: Gate + Drop + Send + Sync + 'static,
@@ -63,7 +64,8 @@ fn run_live<
     requires workers { (1 ≤ workers) × (workers ≤ 8) }
     requires cycles { All IsCycleInput cycles.items }
     requires few { length cycles.items ≤ largest_trace }
-    ensures text { IfOk result (λ out. OfMemory N.Nvm (ReportsLive cycles.items) nvm.old nvm.new out.items) }
+    ensures text { IfOk result (λ out. OfMemory N.Nvm (ReportsLive cycles.items)
+        nvm.old nvm.new out.items) }
     ensures cause { IfErr result (OfMemory N.Nvm (IsDrivenCause cycles.items) nvm.old nvm.new) }
     ensures lent { GoesOn N.Nvm nvm.old nvm.new }
     ensures past { Between N.Nvm LeavesPast nvm.old nvm.new }
@@ -73,8 +75,9 @@ fn run_live<
     Ok(with_lines(report, &lived.lines)?)
 }
 
-// Runs the trace that the source gives over the device by this number of workers beside a reader, and gives the report of the run and of what
-// the device holds after it, with the line of each cycle that ran.
+// Runs the trace that the source gives over the device by this number of workers beside a reader,
+// and gives the report of the run and of what the device holds after it, with the line of each
+// cycle that ran.
 fn live_source<
     R: Threads + Wait + Copy + Send + Sync + 'static,
     G: Gate + Drop + Send + Sync + 'static,
@@ -94,8 +97,10 @@ fn live_source<
     ensures lent { GoesOn N.Nvm nvm.old nvm.new }
     ensures past { Between N.Nvm LeavesPast nvm.old nvm.new }
     ensures end { OnOk result (IsAtEnd (S.left source.new)) }
-    ensures text { IfOk result (λ out. OfRun S.Source N.Nvm LiveRunIs source.old nvm.old nvm.new out.items) }
-    ensures cause { IfErr result (OfBoth S.Source N.Nvm IsDriveCause source.old source.new nvm.old nvm.new) }
+    ensures text { IfOk result (λ out. OfRun S.Source N.Nvm LiveRunIs
+        source.old nvm.old nvm.new out.items) }
+    ensures cause { IfErr result (OfBoth S.Source N.Nvm IsDriveCause
+        source.old source.new nvm.old nvm.new) }
 {
     let cycles = trace_of(alloc, source)?;
     open_settled(alloc, nvm)?;
@@ -119,8 +124,10 @@ pub(crate) fn serve_live<
     gate: &Arc<G>,
 ) -> Status
     requires workers { (1 ≤ workers) × (workers ≤ 8) }
-    ensures runs { Runs S.Source K.Sink N.Nvm IsDriveCause LiveRunIs result source.old source.new sink.old sink.new nvm.old nvm.new }
-    ensures write_fault { result ≡ Status.WriteFault → Rose (K.faults sink.old) (K.faults sink.new) }
+    ensures runs { Runs S.Source K.Sink N.Nvm IsDriveCause LiveRunIs result
+        source.old source.new sink.old sink.new nvm.old nvm.new }
+    ensures write_fault { result ≡ Status.WriteFault
+        → Rose (K.faults sink.old) (K.faults sink.new) }
     ensures sink_later { K.faults sink.old ≤ K.faults sink.new }
     ensures takes { Told (GivesAtMost (largest_trace + 1)) (S.left source.old) (S.left source.new) }
     ensures source_later { S.faults source.old ≤ S.faults source.new }

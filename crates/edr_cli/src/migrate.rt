@@ -19,13 +19,15 @@ use edr_report::{ShortLine, migrate_line};
 use edr_trace::LARGEST_TRACE;
 use std::alloc::Global;
 
-// Takes over what an old image holds, and makes the line that tells of it. The old image is looked at and the line is built before
-// the device is touched.
+// Takes over what an old image holds, and makes the line that tells of it. The old image is looked
+// at and the line is built before the device is touched.
 fn take_over<N: Nvm>(nvm: &mut N, old: &[u8]) -> Result<ShortLine, Fault>
     requires { length old.now ≤ largest_trace }
     ensures lent { GoesOn N.Nvm nvm.old nvm.new }
-    ensures taken { IfOk result (λ line. OfMemory N.Nvm (IsTakenOver old.now) nvm.old nvm.new line) }
-    ensures cause { IfErr result (OfMemory N.Nvm (IsTakingCause (λ AreSuch. AreSuch old.now)) nvm.old nvm.new) }
+    ensures taken { IfOk result (λ line. OfMemory N.Nvm (IsTakenOver old.now)
+        nvm.old nvm.new line) }
+    ensures cause { IfErr result (OfMemory N.Nvm (IsTakingCause (λ AreSuch. AreSuch old.now))
+        nvm.old nvm.new) }
     ensures crash { OfCrash N.Nvm nvm.old nvm.new (IsPartlyTaken old.now) }
     // An image that is there stays.
     ensures stays { KeepsImage N.Nvm nvm.old nvm.new }
@@ -47,9 +49,12 @@ fn migrate_source<S: Source, N: Nvm>(
     ensures source_later { S.faults source.old ≤ S.faults source.new }
     ensures lent { GoesOn N.Nvm nvm.old nvm.new }
     ensures end { OnOk result (IsAtEnd (S.left source.new)) }
-    ensures text { IfOk result (λ line. OfRun S.Source N.Nvm MigrateIs source.old nvm.old nvm.new line) }
-    ensures cause { IfErr result (OfBoth S.Source N.Nvm IsMigrateCause source.old source.new nvm.old nvm.new) }
-    ensures crash { OfCrash N.Nvm nvm.old nvm.new (λ b i. IfSome (S.left source.old) (λ old. IsPartlyTaken old b i)) }
+    ensures text { IfOk result (λ line. OfRun S.Source N.Nvm MigrateIs
+        source.old nvm.old nvm.new line) }
+    ensures cause { IfErr result (OfBoth S.Source N.Nvm IsMigrateCause
+        source.old source.new nvm.old nvm.new) }
+    ensures crash { OfCrash N.Nvm nvm.old nvm.new
+        (λ b i. IfSome (S.left source.old) (λ old. IsPartlyTaken old b i)) }
     ensures stays { KeepsImage N.Nvm nvm.old nvm.new }
 {
     let old = take_all(alloc, source, LARGEST_TRACE as usize)?;
@@ -63,8 +68,10 @@ pub(crate) fn serve_migrate<S: Source, K: Sink, N: Nvm>(
     sink: &mut K,
     nvm: &mut N,
 ) -> Status
-    ensures migrates { Migrates S.Source K.Sink N.Nvm result source.old source.new sink.old sink.new nvm.old nvm.new }
-    ensures write_fault { result ≡ Status.WriteFault → Rose (K.faults sink.old) (K.faults sink.new) }
+    ensures migrates { Migrates S.Source K.Sink N.Nvm result
+        source.old source.new sink.old sink.new nvm.old nvm.new }
+    ensures write_fault { result ≡ Status.WriteFault
+        → Rose (K.faults sink.old) (K.faults sink.new) }
     ensures sink_later { K.faults sink.old ≤ K.faults sink.new }
     ensures takes { Told (GivesAtMost (largest_trace + 1)) (S.left source.old) (S.left source.new) }
     ensures source_later { S.faults source.old ≤ S.faults source.new }

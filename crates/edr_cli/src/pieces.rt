@@ -31,7 +31,8 @@ fn parted_by<'a>(bytes: &'a [u8], byte: u8) -> Option<(&'a [u8], &'a [u8])>
 // The two numbers of the first line.
 fn lengths_in(line: &[u8]) -> Option<(u64, u64)>
     ensures some { IfSome result (λ n. line.now ≡ lengths_line n.0 n.1) }
-    ensures none { result ≡ None → (a b : ℕ) → a < 2 ^ 64 → b < 2 ^ 64 → line.now ≡ lengths_line a b → ⊥ }
+    ensures none { result ≡ None → (a b : ℕ) → a < 2 ^ 64 → b < 2 ^ 64
+        → line.now ≡ lengths_line a b → ⊥ }
 {
     let (first, second) = parted_by(line, b' ')?;
     let first = read_u64(first).ok()?;
@@ -63,7 +64,8 @@ pub(crate) struct AuditPieces<'a> {
 pub(crate) fn pieces_of<'a>(bytes: &'a [u8]) -> Option<AuditPieces<'a>>
     requires { length bytes.now ≤ largest_trace }
     ensures some { IfSome result (λ p. ArePieces bytes.now p.before.now p.trace.now p.report.now) }
-    ensures none { result ≡ None → (before trace report : List ℕ) → ArePieces bytes.now before trace report → ⊥ }
+    ensures none { result ≡ None → (before trace report : List ℕ)
+        → ArePieces bytes.now before trace report → ⊥ }
 {
     let (line, rest) = parted_by(bytes, b'\n')?;
     if line.len() > LONGEST_FIRST_LINE {

@@ -35,8 +35,10 @@ fn replay_source<S: Source, N: Nvm>(
     ensures lent { GoesOn N.Nvm nvm.old nvm.new }
     ensures past { Between N.Nvm LeavesPast nvm.old nvm.new }
     ensures end { OnOk result (IsAtEnd (S.left source.new)) }
-    ensures text { IfOk result (λ out. OfRun S.Source N.Nvm (RunIs form) source.old nvm.old nvm.new out.items) }
-    ensures cause { IfErr result (OfBoth S.Source N.Nvm IsReplayCause source.old source.new nvm.old nvm.new) }
+    ensures text { IfOk result (λ out. OfRun S.Source N.Nvm (RunIs form)
+        source.old nvm.old nvm.new out.items) }
+    ensures cause { IfErr result (OfBoth S.Source N.Nvm IsReplayCause
+        source.old source.new nvm.old nvm.new) }
 {
     let cycles = trace_of(alloc, source)?;
     open_settled(alloc, nvm)?;
@@ -51,7 +53,8 @@ fn run<N: Nvm>(
     form: Form,
 ) -> Result<Vec<u8>, Fault>
     requires { All IsCycleInput cycles.now }
-    ensures text { IfOk result (λ out. OfMemory N.Nvm (Reports form cycles.now) nvm.old nvm.new out.items) }
+    ensures text { IfOk result (λ out. OfMemory N.Nvm (Reports form cycles.now)
+        nvm.old nvm.new out.items) }
     ensures cause { IfErr result (OfMemory N.Nvm (IsRunCause cycles.now) nvm.old nvm.new) }
     ensures lent { GoesOn N.Nvm nvm.old nvm.new }
     ensures past { Between N.Nvm LeavesPast nvm.old nvm.new }
@@ -68,8 +71,10 @@ pub(crate) fn serve_replay<S: Source, K: Sink, N: Nvm>(
     nvm: &mut N,
     form: Form,
 ) -> Status
-    ensures runs { Runs S.Source K.Sink N.Nvm IsReplayCause (RunIs form) result source.old source.new sink.old sink.new nvm.old nvm.new }
-    ensures write_fault { result ≡ Status.WriteFault → Rose (K.faults sink.old) (K.faults sink.new) }
+    ensures runs { Runs S.Source K.Sink N.Nvm IsReplayCause (RunIs form) result
+        source.old source.new sink.old sink.new nvm.old nvm.new }
+    ensures write_fault { result ≡ Status.WriteFault
+        → Rose (K.faults sink.old) (K.faults sink.new) }
     ensures sink_later { K.faults sink.old ≤ K.faults sink.new }
     ensures takes { Told (GivesAtMost (largest_trace + 1)) (S.left source.old) (S.left source.new) }
     ensures source_later { S.faults source.old ≤ S.faults source.new }

@@ -35,7 +35,8 @@ pub(crate) fn open_settled<N: Nvm>(alloc: Global, nvm: &mut N) -> Result<Banks, 
 
 /// Opens the banks.
 pub(crate) fn open<N: Nvm>(alloc: Global, nvm: &mut N) -> Result<Banks, Fault>
-    ensures says { IfOk result (λ b. (image : List ℕ) → N.content nvm.old ≡ Some image → Says image b.store b.count) }
+    ensures says { IfOk result (λ b. (image : List ℕ) → N.content nvm.old ≡ Some image
+        → Says image b.store b.count) }
     ensures cause { IfErr result (OfMemory N.Nvm IsImageCause nvm.old nvm.new) }
     ensures read { OnlyRead N.Nvm nvm.old nvm.new }
 {
@@ -49,7 +50,8 @@ pub(crate) fn report_of_banks(
     run: &[CycleReport],
     banks: &Banks,
 ) -> Result<Vec<u8>, OutOfMemory>
-    ensures text { IfOk result (λ out. out.items ≡ report_in form (map report_of run.now) banks.now.store banks.now.count) }
+    ensures text { IfOk result (λ out. out.items ≡ report_in form (map report_of run.now)
+        banks.now.store banks.now.count) }
 {
     let found = banks.retrieve(alloc)?;
     match form {
@@ -65,7 +67,8 @@ pub(crate) fn report_held<N: Nvm>(
     form: Form,
     run: &[CycleReport],
 ) -> Result<Vec<u8>, Fault>
-    ensures text { IfOk result (λ out. ReportsHeld form (map report_of run.now) (memory N.Nvm nvm.old) out.items) }
+    ensures text { IfOk result (λ out. ReportsHeld form (map report_of run.now)
+        (memory N.Nvm nvm.old) out.items) }
     ensures cause { IfErr result (OfMemory N.Nvm IsImageCause nvm.old nvm.new) }
     ensures read { OnlyRead N.Nvm nvm.old nvm.new }
 {
@@ -92,7 +95,8 @@ pub(crate) fn serve_report<K: Sink, N: Nvm>(
     form: Form,
 ) -> Status
     ensures shows { ShowsReport K.Sink N.Nvm form result sink.old sink.new nvm.old nvm.new }
-    ensures write_fault { result ≡ Status.WriteFault → Rose (K.faults sink.old) (K.faults sink.new) }
+    ensures write_fault { result ≡ Status.WriteFault
+        → Rose (K.faults sink.old) (K.faults sink.new) }
     ensures sink_later { K.faults sink.old ≤ K.faults sink.new }
     ensures lent { GoesOn N.Nvm nvm.old nvm.new }
 {

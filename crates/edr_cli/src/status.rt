@@ -2,8 +2,8 @@
 ghost use Rattle.std.specs.Prelude.{◌≡◌};
 ghost use Rattle.edr_cli.specs.Faults.{number_of};
 
-/// How a call ends. All but `Ok`, `WriteFault`, `Dialog` and `Audit` write the line of their fault: alone, or after the replies of
-/// a dialog.
+/// How a call ends. All but `Ok`, `WriteFault`, `Dialog` and `Audit` write the line of their fault:
+/// alone, or after the replies of a dialog.
 #[derive(Clone, Copy, Debug, PartialEq, Eq)]
 pub enum Status {
     /// The source was read to its end, where the words ask for that, and the text was written whole.

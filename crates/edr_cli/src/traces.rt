@@ -25,18 +25,21 @@ fn take_behind<S: Source>(
     requires some { 1 ≤ most }
     requires room { kept + most ≤ length buffer.old }
     ensures within { IfOk result (λ n. n ≤ most) }
-    ensures carries { IfOk result (λ n. Told (Carries n (take kept buffer.old) (take (kept + n) buffer.new))
+    ensures carries { IfOk result (λ n. Told
+        (Carries n (take kept buffer.old) (take (kept + n) buffer.new))
         (S.left source.old) (S.left source.new)) }
     ensures err { OnErr result (Told (GivesAtMost most) (S.left source.old) (S.left source.new)) }
     ensures later { S.faults source.old ≤ S.faults source.new }
-    ensures failed { result ≡ Err TakeFault.Failed → Rose (S.faults source.old) (S.faults source.new) }
+    ensures failed { result ≡ Err TakeFault.Failed
+        → Rose (S.faults source.old) (S.faults source.new) }
     ensures not_too_long { result ≢ Err TakeFault.TooLong }
 {
     let n = source.take(&mut buffer[kept..kept + most])?;
     Ok(n)
 }
 
-// Gives the first `end` bytes of the buffer to the reading, moves what it leaves to the front, and answers how many bytes that is.
+// Gives the first `end` bytes of the buffer to the reading, moves what it leaves to the front, and
+// answers how many bytes that is.
 fn keep_left(reading: &mut TraceReading, buffer: &mut [u8], end: usize) -> usize
     requires within { end ≤ length buffer.old }
     requires fits { (before : List ℕ) × Given before reading.old × (length before + end < 2 ^ 32) }
@@ -63,7 +66,8 @@ fn take_trace<S: Source>(alloc: Global, source: &mut S, limit: usize) -> Result<
     ensures all { IfOk result (λ t. HasAll limit t (S.left source.old) (S.left source.new)) }
     ensures too_long { result ≡ Err TakeFault.TooLong
         → Told (GivesTooMany limit) (S.left source.old) (S.left source.new) }
-    ensures failed { result ≡ Err TakeFault.Failed → Rose (S.faults source.old) (S.faults source.new) }
+    ensures failed { result ≡ Err TakeFault.Failed
+        → Rose (S.faults source.old) (S.faults source.new) }
     ensures most { Told (GivesAtMost (limit + 1)) (S.left source.old) (S.left source.new) }
     ensures later { S.faults source.old ≤ S.faults source.new }
 {
@@ -95,7 +99,8 @@ pub(crate) fn trace_of<S: Source>(alloc: Global, source: &mut S) -> Result<Vec<C
     ensures spelled { IfOk result (λ cycles. IfSome (S.left source.old) (IsTraceOf cycles.items)) }
     ensures cycles { IfOk result (λ cycles. All IsCycleInput cycles.items) }
     ensures few { IfOk result (λ cycles. length cycles.items ≤ largest_trace) }
-    ensures cause { IfErr result (IsTraceCause (input S.Source source.old) (input S.Source source.new)) }
+    ensures cause { IfErr result (IsTraceCause (input S.Source source.old)
+        (input S.Source source.new)) }
     ensures takes { Told (GivesAtMost (largest_trace + 1)) (S.left source.old) (S.left source.new) }
     ensures later { S.faults source.old ≤ S.faults source.new }
 {
