@@ -118,7 +118,10 @@ fn assert_recorded(rt: &impl Abort, desk: &Option<Desk>, feeds: &Feeds) {
         assert!(rt; false);
         return;
     };
-    assert_eq!(rt; desk.last, ends_of(feeds));
+    let ends = ends_of(feeds);
+    assert_eq!(rt; desk.last.along, ends.along);
+    assert_eq!(rt; desk.last.across, ends.across);
+    assert_eq!(rt; desk.last.restraint, ends.restraint);
     assert_eq!(rt; (desk.core.closed(), desk.posted), (1000, 1000));
 }
 
