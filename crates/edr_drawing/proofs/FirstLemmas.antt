@@ -10,7 +10,7 @@ use Rattle.edr_record.specs.declared.Record.{Record}
 use Rattle.edr_record.specs.declared.TheConstants.{LONGEST_PAIR}
 use Rattle.edr_record.specs.Parts.{PrePart}
 use Rattle.edr_image.specs.declared.BankView.{BankView}
-use Rattle.edr_image.specs.declared.BankView.TheVariants.{Void, Event, Damaged}
+use Rattle.edr_image.specs.declared.BankView.TheVariants.{Event}
 use Rattle.edr_image.specs.declared.Found.{Found}
 use Rattle.edr_report.specs.Report.{found_records}
 use Rattle.edr_report.specs.Words.{number_shown, tenths_of}

@@ -9,7 +9,7 @@ use Rattle.edr_record.specs.declared.Record.{Record}
 use Rattle.edr_record.specs.Bounds.{slots_in}
 use Rattle.edr_record.specs.Parts.{PrePart}
 use Rattle.edr_image.specs.declared.BankView.{BankView}
-use Rattle.edr_image.specs.declared.BankView.TheVariants.{Void, Event, Damaged}
+use Rattle.edr_image.specs.declared.BankView.TheVariants.{Event}
 use Rattle.edr_image.specs.declared.Found.{Found}
 use Rattle.edr_image.specs.Reports.{Report}
 use Rattle.edr_report.specs.Lines.{Line}

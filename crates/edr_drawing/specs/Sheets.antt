@@ -5,7 +5,7 @@ use Rattle.edr_record.specs.declared.Profile.{Profile}
 use Rattle.edr_record.specs.declared.Record.{Record}
 use Rattle.edr_record.specs.Complete.{is_complete}
 use Rattle.edr_image.specs.declared.BankView.{BankView}
-use Rattle.edr_image.specs.declared.BankView.TheVariants.{Void, Event, Damaged}
+use Rattle.edr_image.specs.declared.BankView.TheVariants.{Event}
 use Rattle.edr_image.specs.declared.Found.{Found}
 use Rattle.edr_report.specs.Words.{number_shown}
 use Rattle.edr_drawing.specs.declared.sheets.TheConstants.{FACTS, PROFILES, SHEET_FOOT, SHEET_HEAD, YES_NO}

@@ -16,7 +16,7 @@ use Rattle.edr_reading.specs.Faults.{AreReport, IsFault, IsWrong, Opens}
 use Rattle.edr_reading.specs.Found.{count_fields}
 use Rattle.edr_reading.specs.Reader.{HasReadRows, IsRefused, StandsNext, cycles_read, may_ack}
 use Rattle.edr_reading.specs.Reading.{IsReading, report_rows, rows_told}
-use Rattle.edr_reading.specs.Refusals.{IsRowRefusal, IsRefusalOfRecords, refusal_of}
+use Rattle.edr_reading.specs.Refusals.{IsRowRefusal, refusal_of}
 use Rattle.edr_reading.specs.declared.reading.Reading.{Reading}
 use Rattle.edr_reading.specs.declared.reading.ReportRefused.{ReportRefused}
 use Rattle.edr_reading.specs.declared.reading.ReportRefused.TheVariants.{Fault, OutOfMemory}

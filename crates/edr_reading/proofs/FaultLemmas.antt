@@ -1,7 +1,7 @@
 -- The first row of a text that is no report.
 use Rattle.std.proofs.Common.{arith, ◌≡◌, ◌≢◌, ◌∙◌, sym, ap, subst, refl, ℕ, zero, suc, ◌<◌, ◌≤◌, ◌+◌, ◌-◌, min, map, List, [], ◌∷◌, ◌++◌, length, length-append, take, drop, get_or, codes}
 use Rattle.std.proofs.Math.Seq.{get_or-append_seam}
-use Rattle.std.proofs.lemmas.List.{drop_all, take_all, append-nil, length-map, length-take, take-append-drop}
+use Rattle.std.proofs.lemmas.List.{drop_all, take_all, append-nil, take-append-drop}
 use Rattle.edr_report.specs.Report.{report_lines}
 use Rattle.edr_reading.proofs.DistinctLemmas.{distinct-none}
 use Rattle.edr_reading.proofs.ReadingLemmas.{all-three}

@@ -1,7 +1,7 @@
 -- Digits in front of bytes, and words in front of bytes.
-use Rattle.std.proofs.Common.{arith, ◌≡◌, ◌∙◌, sym, ap, subst, refl, ℕ, zero, suc, ◌<◌, ◌≤◌, ◌^◌, ◌&&◌, Bool, true, false, List, [], ◌∷◌, ◌++◌, length, get_or, take, drop, decimal, nat_eq, Ok}
+use Rattle.std.proofs.Common.{arith, ◌≡◌, ◌∙◌, sym, ap, subst, refl, ℕ, zero, suc, ◌<◌, ◌≤◌, ◌^◌, ◌&&◌, Bool, true, false, List, [], ◌∷◌, ◌++◌, length, take, drop, decimal, nat_eq, Ok}
 use Rattle.std.specs.List.{list_all}
-use Rattle.std.proofs.lemmas.List.{drop_more, take-append-drop}
+use Rattle.std.proofs.lemmas.List.{take-append-drop}
 use Rattle.std.specs.Cmp.Lexicographic.{pointwise, same_text, bytes_decides}
 use Rattle.std.proofs.Math.Seq.{drop-append_seam, take-append_seam}
 use Rattle.edr_text.specs.Numbers.{is_digit, is_numeral, numeral, natural_in, below}

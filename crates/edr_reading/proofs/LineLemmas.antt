@@ -19,7 +19,7 @@ use Rattle.edr_reading.specs.Reader.{GoesOnIn, IsBetween, IsInside, IsRefused, I
 use Rattle.edr_reading.specs.Rows.{FieldRows, event_fields, event_names}
 use Rattle.edr_reading.specs.Told.{IsAck}
 use Rattle.edr_reading.specs.Run.{IsReport}
-use Rattle.edr_reading.proofs.BetweenLemmas.{banks-more, All-last, banks-last, goes-on, refuse-1, refuse-2, refuse-3}
+use Rattle.edr_reading.proofs.BetweenLemmas.{banks-more, All-last, goes-on, refuse-1, refuse-2, refuse-3}
 use Rattle.edr_reading.proofs.DistinctLemmas.{alone, distinct-more}
 use Rattle.edr_reading.proofs.FollowLemmas.{next-row, none}
 use Rattle.edr_reading.proofs.RowLemmas.{event-gone, event-long, lines, row-at, rows-more}

@@ -1,6 +1,6 @@
 -- The plain parts of a record, and the lines of its parts.
 use Rattle.std.proofs.Math.Seq.{take-append-add}
-use Rattle.std.proofs.Common.{arith, max, ◌≡◌, ◌∙◌, sym, ap, subst, refl, ℕ, suc, ◌+◌, ◌<◌, ◌≤◌, pos, List, ◌∷◌, length, map, take, set, replicate, None, codes, ◌++◌}
+use Rattle.std.proofs.Common.{arith, max, ◌≡◌, ◌∙◌, sym, ap, subst, refl, ℕ, ◌+◌, ◌<◌, ◌≤◌, pos, List, length, map, take, set, replicate, None, codes, ◌++◌}
 use Rattle.std.proofs.lemmas.List.{take-map, take-set, drop-replicate, length-replicate}
 use Rattle.std.specs.List.{All}
 use Rattle.std.proofs.lemmas.List.Elements.{All-replicate}

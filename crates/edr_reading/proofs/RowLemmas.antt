@@ -1,5 +1,5 @@
 -- The rows of an event, by the names and values of its lines.
-use Rattle.std.proofs.Common.{arith, ◌≡◌, ◌∙◌, sym, ap, refl, ℕ, zero, suc, ◌+◌, ◌<◌, Bool, List, [], ◌∷◌, ◌++◌, length, length-append, map, take, drop, get_or, decimal, Option, None, Some}
+use Rattle.std.proofs.Common.{arith, ◌≡◌, ◌∙◌, sym, ap, refl, ℕ, zero, suc, ◌+◌, ◌<◌, Bool, List, [], ◌∷◌, ◌++◌, length, map, take, drop, get_or, decimal, Option, None, Some}
 use Rattle.std.specs.Option.{IfSome}
 use Rattle.std.proofs.lemmas.List.{take_more}
 use Rattle.std.proofs.lemmas.List.FromFn.{fill_by_all}
@@ -14,9 +14,8 @@ use Rattle.edr_report.specs.declared.event_lines.EventLine.{EventLine}
 use Rattle.edr_report.specs.declared.event_lines.EventLine.TheVariants.{Number}
 use Rattle.edr_report.specs.declared.event_lines.TheConstants.{LINES_OF_EVENT}
 use Rattle.edr_reading.specs.Event.{event_place, event_texts}
-use Rattle.edr_reading.specs.Parts.{IsRecord, crash_texts, pre_texts}
+use Rattle.edr_reading.specs.Parts.{IsRecord, pre_texts}
 use Rattle.edr_reading.specs.Rows.{FieldRows, Texts, event_fields, event_names}
-use Rattle.edr_reading.proofs.EventLemmas.{crash-long}
 
 -- rows of a block with these names and values
 abbrev pub block_fields : List ℕ → Texts → Texts → FieldRows

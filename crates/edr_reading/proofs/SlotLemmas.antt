@@ -2,9 +2,9 @@
 use Rattle.std.proofs.Common.{arith, ◌≡◌, ◌∙◌, sym, ap, subst, refl, ℕ, zero, suc, ◌+◌, ◌<◌, List, [], ◌∷◌, ◌++◌, length, map, take, drop, get_or, set, append_assoc, ◌^◌, Option, Some, None, codes, nat_eq, true}
 use Rattle.std.specs.List.{All}
 use Rattle.std.proofs.lemmas.Bool.{eqb-true}
-use Rattle.std.proofs.lemmas.List.{append-nil, drop_more, take_more, take_more_set, map_more, map-append}
+use Rattle.std.proofs.lemmas.List.{append-nil, drop_more, take_more, take_more_set, map-append}
 use Rattle.std.proofs.lemmas.List.Elements.{All-append}
-use Rattle.std.proofs.Math.Seq.{take-length, drop-length}
+use Rattle.std.proofs.Math.Seq.{take-length}
 use Rattle.edr_record.specs.Bounds.{IsUpTo}
 use Rattle.edr_report.specs.Words.{spaced_words, number_or_none}
 use Rattle.std.proofs.lemmas.List.{append_cancel_left}

@@ -2,10 +2,8 @@
 use Rattle.std.proofs.Common.{arith, ◌≡◌, ◌∙◌, sym, ap, refl, ℕ, suc, ◌+◌, ◌<◌, ◌≤◌, ◌^◌, ℤ, pos, negsuc, List, ◌∷◌, ◌++◌, Option, Some, None, option_map, Bool, codes, decimal, add-one, append_assoc}
 use Rattle.std.specs.Fmt.{signed_decimal}
 use Rattle.edr_record.specs.Bounds.{IsUpTo, IsChange}
-use Rattle.edr_image.specs.declared.BankView.{BankView}
-use Rattle.edr_image.specs.declared.BankView.TheVariants.{Void, Event, Damaged}
 use Rattle.edr_report.specs.Words.{firing_words, stop_words, missing_words, damage_words, yes_no}
-use Rattle.edr_reading.specs.Values.{IsStopCall, IsDamage, IsDamagedView}
+use Rattle.edr_reading.specs.Values.{IsStopCall}
 use Rattle.edr_reading.proofs.FrontLemmas.{not-number}
 
 -- `none` is no time
