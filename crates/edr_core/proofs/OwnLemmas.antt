@@ -1,7 +1,8 @@
 -- A core gives its split core its own parts, so what that one issues are the commands of the definition.
-use Rattle.std.proofs.Common.{arith, refl, ap, sym, subst, ◌≡◌, ◌∙◌, ℕ, ◌+◌, ◌<◌, ◌≤◌, Bool, true, false, cond, not, nat_eq, Some, None, Option, Ok, Err, List, [], ◌∷◌, ◌++◌, map, get_or, ◌↔◌}
+use Rattle.std.proofs.Common.{arith, refl, ap, sym, subst, ◌≡◌, ◌≢◌, ◌∙◌, ℕ, ◌+◌, ◌<◌, ◌≤◌, Bool, true, false, cond, not, nat_eq, Some, None, Option, Ok, Err, List, [], ◌∷◌, ◌++◌, map, get_or, ◌↔◌}
 use Rattle.std.specs.Prelude.{is_some, IsSome, IsOk, OnOk, All, Result}
 use Rattle.std.specs.Option.{option_map_or}
+use Rattle.std.proofs.lemmas.Bool.{ne_eqb}
 use Rattle.std.proofs.lemmas.List.Elements.{All-nil, All-cons, All-head, All-tail}
 use Rattle.edr_items.specs.declared.Sensor.{Sensor}
 use Rattle.edr_items.specs.declared.Item.{Item}
@@ -62,6 +63,12 @@ refused-not q w asking zero none =
     ap (λ (v : Bool). cond {A = Option PartRefused} (not v) (Some refused.NotAsked) (cond {A = Option PartRefused} (not (nat_eq q.zero (w.past.closed + 1))) (Some (refused.Zero (w.past.closed + 1))) (cond {A = Option PartRefused} (is_some (part_in w.parts q.sensor (w.past.closed + 1))) (Some refused.Twice) None))) asking
     ∙ ap (λ (v : Bool). cond {A = Option PartRefused} (not v) (Some (refused.Zero (w.past.closed + 1))) (cond {A = Option PartRefused} (is_some (part_in w.parts q.sensor (w.past.closed + 1))) (Some refused.Twice) None)) (ap (λ z. nat_eq z (w.past.closed + 1)) zero ∙ eqb_same (w.past.closed + 1))
     ∙ ap (λ (o : Option SensorPart). cond {A = Option PartRefused} (is_some o) (Some refused.Twice) None) none
+
+-- it is refused, if it is of another time zero
+pub refused-zero : (q : SensorPart) (w : History) → w.asking ≡ true → q.zero ≢ w.past.closed + 1 → part_refusal_of q w ≡ Some (refused.Zero (w.past.closed + 1))
+refused-zero q w asking apart =
+    ap (λ (v : Bool). cond {A = Option PartRefused} (not v) (Some refused.NotAsked) (cond {A = Option PartRefused} (not (nat_eq q.zero (w.past.closed + 1))) (Some (refused.Zero (w.past.closed + 1))) (cond {A = Option PartRefused} (is_some (part_in w.parts q.sensor (w.past.closed + 1))) (Some refused.Twice) None))) asking
+    ∙ ap (λ (v : Bool). cond {A = Option PartRefused} (not v) (Some (refused.Zero (w.past.closed + 1))) (cond {A = Option PartRefused} (is_some (part_in w.parts q.sensor (w.past.closed + 1))) (Some refused.Twice) None)) (ne_eqb q.zero (w.past.closed + 1) apart)
 
 -- it is refused, if its sensor's was
 pub refused-again : (q : SensorPart) (w : History) → w.asking ≡ true → q.zero ≡ w.past.closed + 1 → IsSome (part_in w.parts q.sensor (w.past.closed + 1)) → part_refusal_of q w ≡ Some refused.Twice

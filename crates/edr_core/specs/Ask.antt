@@ -1,5 +1,5 @@
 -- The parts of a time zero as they are taken, and the pre part that they make.
-use Rattle.std.specs.Prelude.{◌≡◌, ◌≤◌, Option, Some, None, option_and_then}
+use Rattle.std.specs.Prelude.{◌≡◌, ◌≢◌, ◌⊎◌, ℕ, ◌≤◌, IsSome, Option, Some, None, option_and_then}
 use Rattle.edr_items.specs.declared.TheConstants.{LATEST_MOMENT}
 use Rattle.edr_items.specs.declared.Sensor.{Sensor}
 use Rattle.edr_items.specs.declared.per_slow_sensor.PerSlowSensor.{PerSlowSensor}
@@ -10,8 +10,9 @@ use Rattle.edr_record.specs.declared.Profile.TheVariants.{Long}
 use Rattle.edr_record.specs.Parts.{PrePart}
 use Rattle.edr_definitions.specs.Parts.{numbers, switch, switches}
 use Rattle.edr_capture.specs.SensorPart.{SensorPart}
+use Rattle.edr_core.specs.declared.ask.OpenAsk.{OpenAsk}
 use Rattle.edr_core.specs.declared.ask.PartRefused.{PartRefused}
-use Rattle.edr_core.specs.declared.ask.PartRefused.TheVariants.{Twice}
+use Rattle.edr_core.specs.declared.ask.PartRefused.TheVariants.{Zero, Twice}
 use Rattle.edr_core.specs.Parts.{first_slot}
 
 -- the parts that were taken, and all of them
@@ -36,6 +37,17 @@ with_part q ps = with_slow_value q.sensor (Some q) ps
 -- a part of that sensor was taken before
 abbrev pub IsTwice : PartRefused → Type 0
 IsTwice e = e ≡ Twice
+
+-- the part is of the time zero that is asked for, none of its sensor was taken, and it stands there now
+pub record HasTaken (asked : ℕ) (q : SensorPart) (old new : OpenAsk) : Type 0 where
+  pub zero : q.zero ≡ asked
+  pub free : part_at q.sensor old.parts ≡ None
+  pub is : new ≡ record old { parts = with_part q old.parts }
+
+-- why it isn't taken
+abbrev pub IsWhyNotTaken : ℕ → SensorPart → OpenAsk → PartRefused → Type 0
+IsWhyNotTaken asked q a e =
+    (q.zero ≢ asked) × (e ≡ Zero asked) ⊎ (q.zero ≡ asked) × IsSome (part_at q.sensor a.parts) × (e ≡ Twice)
 
 -- all were taken
 abbrev pub in_places : AllParts → TakenParts

@@ -2,10 +2,11 @@
 
 ghost use Rattle.std.specs.Prelude.{◌≡◌, Some, None, IfErr, IsSome, OnOk, OnErr, All};
 ghost use Rattle.edr_items.specs.declared.Sensor.TheVariants.{Speed, Throttle};
+ghost use Rattle.edr_items.specs.Sensor.{IsSlow};
 ghost use Rattle.edr_record.specs.Bounds.{IsUpTo};
 ghost use Rattle.edr_definitions.specs.Parts.{numbers, switch};
 ghost use Rattle.edr_core.specs.Parts.{first_slot};
-ghost use Rattle.edr_core.specs.Ask.{part_at, with_part, IsTwice, AreOfTheirSensors, IsKey, pre_of};
+ghost use Rattle.edr_core.specs.Ask.{part_at, with_part, IsTwice, HasTaken, IsWhyNotTaken, AreOfTheirSensors, IsKey, pre_of};
 
 use crate::candidate::TickRow;
 use crate::slots::{per_cents, speeds, switch_of, switches_of};
@@ -100,6 +101,21 @@ pub fn pre_of(parts: &AllParts, key: Key) -> Pre
 
 impl OpenAsk {
     ghost use Rattle.edr_core.specs.Ask.{no_parts};
+
+    /// Takes a part of the time zero `asked`, where it stands: what is asked for is large.
+    pub fn take(&mut self, asked: u32, part: Part) -> Result<(), PartRefused>
+        ensures ok { OnOk result (HasTaken asked part self.old self.new) }
+        ensures err { OnErr result (self.new ≡ self.old) }
+        ensures why { IfErr result (IsWhyNotTaken asked part self.old) }
+        // Every part is of a slow sensor.
+        ensures slow { IsSlow part.sensor }
+    {
+        if part.zero != asked {
+            return Err(PartRefused::Zero { asked });
+        }
+        put(&mut self.parts, part)?;
+        Ok(())
+    }
 
     // No part was taken yet. It stands apart, since few ticks are a time zero, and its place is large.
     #[inline(never)]

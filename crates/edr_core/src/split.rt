@@ -3,7 +3,7 @@
 ghost use Rattle.std.specs.Prelude.{◌≡◌, ◌↔◌, ◌+◌, ◌≤◌, ◌<◌, true, false, Some, None, is_some, IfOk, IfErr, IsOk, IsSome, OnOk, OnErr};
 ghost use Rattle.edr_definitions.specs.Schedule.{Give, IsAllowed};
 
-use crate::ask::{OpenAsk, PartRefused, pre_of, put};
+use crate::ask::{OpenAsk, PartRefused, pre_of};
 use crate::candidate::{Candidate, Issued, TickRow, grow, issue, passes_by};
 use edr_capture::Part;
 use edr_detect::Detect;
@@ -285,14 +285,10 @@ impl SplitCore {
         ensures why { (h : History) → SplitCoreStandsFor self.old h → IfErr result (λ e. part_refusal_of part h ≡ Some e) }
     {
         let asked = self.closed + 1;
-        let Some(mut ask) = self.ask else {
+        let Some(ask) = &mut self.ask else {
             return Err(PartRefused::NotAsked);
         };
-        if part.zero != asked {
-            return Err(PartRefused::Zero { asked });
-        }
-        put(&mut ask.parts, part)?;
-        self.ask = Some(ask);
+        ask.take(asked, part)?;
         Ok(())
     }
 }

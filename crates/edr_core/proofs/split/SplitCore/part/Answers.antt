@@ -1,10 +1,10 @@
-use Rattle.std.proofs.Common.{arith, rules, refl, ap, sym, subst, ◌≡◌, ◌∙◌, ◌+◌, Some, Option}
+use Rattle.std.proofs.Common.{arith, rules, refl, ap, sym, subst, ◌≡◌, inl, inr, ◌∙◌, ◌+◌, Some, Option}
 use Rattle.std.specs.Prelude.{is_some, IsSome}
 use Rattle.edr_items.specs.Sensor.{IsSlow}
 use Rattle.edr_capture.specs.SensorPart.{SensorPart}
 use Rattle.edr_core.specs.declared.ask.OpenAsk.{OpenAsk}
-use Rattle.edr_core.specs.declared.ask.PartRefused.TheVariants as refused
-use Rattle.edr_core.specs.Ask.{TakenParts, part_at}
+use Rattle.edr_core.specs.declared.ask.PartRefused.{PartRefused}
+use Rattle.edr_core.specs.Ask.{IsWhyNotTaken, part_at}
 use Rattle.edr_core.specs.Parts.{part_in}
 use Rattle.edr_core.specs.SplitHistory.{History, after_part}
 use Rattle.edr_core.specs.SplitAnswers.{part_refusal_of}
@@ -13,29 +13,29 @@ use Rattle.edr_core.specs.SplitFields.{split_contents}
 use Rattle.edr_core.specs.SplitStandsFor.{SplitCoreStandsFor}
 use Rattle.edr_core.proofs.GiveLemmas.{closed-early, split-takes, asked-is}
 use Rattle.edr_core.proofs.TakenLemmas.{at-taken}
-use Rattle.edr_core.proofs.OwnLemmas.{refused-not, refused-again}
+use Rattle.edr_core.proofs.OwnLemmas.{refused-not, refused-zero, refused-again}
 use Rattle.edr_core.proofs.split.SplitCore.part.Goals as goal
 
 pub overflow_add-asked : goal.overflow_add-asked
 overflow_add-asked c = let i = c.self.invariant in let early = closed-early (split_contents c.self.inside) i.history i.stands in omega (arith, early)
 
-pub invariant_of-self : goal.invariant_of-self
-invariant_of-self c =
+pub invariant_of-self-2 : goal.invariant_of-self-2
+invariant_of-self-2 c =
     let i = c.self.invariant in
-    let zero = sym (ap (λ (q : SensorPart). q.zero) c.part.view_is) ∙ c.if-part-asked.false ∙ ap (λ t. t + 1) i.stands.closed_is in
+    let took = c.in_ok-take.ensures.ok in
     record {
       history = after_part c.args.part i.history;
-      stands = subst (λ (ps : TakenParts). SplitCoreStandsFor (record (split_contents c.self.inside) { ask = Some (record c.in-Some.ask { parts = ps }) }) (after_part c.args.part i.history)) (sym c.in_ok-put.ensures.ok.1)
-          (split-takes (split_contents c.self.inside) i.history c.in-Some.ask c.args.part i.stands c.in-Some.is zero);
+      stands = subst (λ (a : OpenAsk). SplitCoreStandsFor (record (split_contents c.self.inside) { ask = Some a }) (after_part c.args.part i.history)) (sym took.is)
+          (split-takes (split_contents c.self.inside) i.history c.in-Some.ask c.args.part i.stands c.in-Some.is (took.zero ∙ ap (λ t. t + 1) i.stands.closed_is));
       asking_is = i.asking_is ∙ ap (λ (a : Option OpenAsk). is_some a) c.in-Some.is;
     }
 
 pub returns-clause-ok : goal.returns-clause-ok
 returns-clause-ok c = λ w before.
     let h : SplitCoreStandsFor (split_contents c.self.inside) w = subst (λ (v : SplitContents). SplitCoreStandsFor v w) (sym c.self.view_is) before in
-    let zero = sym (ap (λ (q : SensorPart). q.zero) c.part.view_is) ∙ c.if-part-asked.false ∙ ap (λ t. t + 1) h.closed_is in
-    subst (λ (ps : TakenParts). SplitCoreStandsFor (record (split_contents c.self.inside) { ask = Some (record c.in-Some.ask { parts = ps }) }) (after_part c.args.part w)) (sym c.in_ok-put.ensures.ok.1)
-    (split-takes (split_contents c.self.inside) w c.in-Some.ask c.args.part h c.in-Some.is zero)
+    let took = c.in_ok-take.ensures.ok in
+    subst (λ (a : OpenAsk). SplitCoreStandsFor (record (split_contents c.self.inside) { ask = Some a }) (after_part c.args.part w)) (sym took.is)
+    (split-takes (split_contents c.self.inside) w c.in-Some.ask c.args.part h c.in-Some.is (took.zero ∙ ap (λ t. t + 1) h.closed_is))
 
 -- the place of the part is free, or was filled, as its sensor's part was taken
 at-place : (c : SplitContents) (w : History) (a : OpenAsk) (q : SensorPart) → IsSlow q.sensor → SplitCoreStandsFor c w → c.ask ≡ Some a → part_at q.sensor a.parts ≡ part_in w.parts q.sensor (w.past.closed + 1)
@@ -46,34 +46,36 @@ returns-clause-allowed c = λ w before.
     let h : SplitCoreStandsFor (split_contents c.self.inside) w = subst (λ (v : SplitContents). SplitCoreStandsFor v w) (sym c.self.view_is) before in
     let a = c.in-Some.ask in
     let q = c.args.part in
-    let zero = sym (ap (λ (p : SensorPart). p.zero) c.part.view_is) ∙ c.if-part-asked.false ∙ ap (λ t. t + 1) h.closed_is in
-    let slow : IsSlow q.sensor = subst (λ (p : SensorPart). IsSlow p.sensor) c.part.view_is c.part.invariant.slow in
-    let free = sym (at-place (split_contents c.self.inside) w a q slow h c.in-Some.is) ∙ c.in_ok-put.ensures.ok.0 in
-    ((λ _. refused-not q w (asked-is (split_contents c.self.inside) w a h c.in-Some.is).asking zero free), (λ _. refl))
+    let took = c.in_ok-take.ensures.ok in
+    let slow = c.take.ensures.slow in
+    let free = sym (at-place (split_contents c.self.inside) w a q slow h c.in-Some.is) ∙ took.free in
+    ((λ _. refused-not q w (asked-is (split_contents c.self.inside) w a h c.in-Some.is).asking (took.zero ∙ ap (λ t. t + 1) h.closed_is) free), (λ _. refl))
 
-taken-before : (c : SplitContents) (w : History) (a : OpenAsk) (q : SensorPart) → IsSlow q.sensor → SplitCoreStandsFor c w → c.ask ≡ Some a → q.zero ≡ w.past.closed + 1 → IsSome (part_at q.sensor a.parts) → part_refusal_of q w ≡ Some refused.Twice
-taken-before c w a q slow h is zero some =
-    refused-again q w (asked-is c w a h is).asking zero (subst (λ (o : Option SensorPart). IsSome o) (at-place c w a q slow h is) some)
+-- what isn't taken is refused for that cause
+why-not : (c : SplitContents) (w : History) (a : OpenAsk) (q : SensorPart) (e : PartRefused) → IsSlow q.sensor → SplitCoreStandsFor c w → c.ask ≡ Some a → IsWhyNotTaken (w.past.closed + 1) q a e → part_refusal_of q w ≡ Some e
+why-not c w a q e slow h is (inl apart) = refused-zero q w (asked-is c w a h is).asking apart.0 ∙ ap (λ (x : PartRefused). Some x) (sym apart.1)
+why-not c w a q e slow h is (inr twice) =
+    refused-again q w (asked-is c w a h is).asking twice.0 (subst (λ (o : Option SensorPart). IsSome o) (at-place c w a q slow h is) twice.1)
+    ∙ ap (λ (x : PartRefused). Some x) (sym twice.2)
 
-pub returns-in_err-put-clause-allowed : goal.returns-in_err-put-clause-allowed
-returns-in_err-put-clause-allowed c = λ w before.
+pub returns-in_err-take-clause-allowed : goal.returns-in_err-take-clause-allowed
+returns-in_err-take-clause-allowed c = λ w before.
     let h : SplitCoreStandsFor (split_contents c.self.inside) w = subst (λ (v : SplitContents). SplitCoreStandsFor v w) (sym c.self.view_is) before in
     let q = c.args.part in
-    let zero = sym (ap (λ (p : SensorPart). p.zero) c.part.view_is) ∙ c.if-part-asked.false ∙ ap (λ t. t + 1) h.closed_is in
-    let slow : IsSlow q.sensor = subst (λ (p : SensorPart). IsSlow p.sensor) c.part.view_is c.part.invariant.slow in
-    let again = taken-before (split_contents c.self.inside) w c.in-Some.ask q slow h c.in-Some.is zero c.in_err-put.ensures.err.1 in
-    let was = c.in_err-put.was in
+    let slow = c.take.ensures.slow in
+    let e = c.in_err-take.field-0.0 in
+    let why : part_refusal_of q w ≡ Some e = why-not (split_contents c.self.inside) w c.in-Some.ask q e slow h c.in-Some.is (subst (λ t. IsWhyNotTaken (t + 1) q c.in-Some.ask e) h.closed_is c.in_err-take.ensures.why) in
+    let was = c.in_err-take.was in
     let residual = c.from_residual.ensures in
     search rules
 
-pub returns-in_err-put-clause-why : goal.returns-in_err-put-clause-why
-returns-in_err-put-clause-why c = λ w before.
+pub returns-in_err-take-clause-why : goal.returns-in_err-take-clause-why
+returns-in_err-take-clause-why c = λ w before.
     let h : SplitCoreStandsFor (split_contents c.self.inside) w = subst (λ (v : SplitContents). SplitCoreStandsFor v w) (sym c.self.view_is) before in
     let q = c.args.part in
-    let zero = sym (ap (λ (p : SensorPart). p.zero) c.part.view_is) ∙ c.if-part-asked.false ∙ ap (λ t. t + 1) h.closed_is in
-    let slow : IsSlow q.sensor = subst (λ (p : SensorPart). IsSlow p.sensor) c.part.view_is c.part.invariant.slow in
-    let again = taken-before (split_contents c.self.inside) w c.in-Some.ask q slow h c.in-Some.is zero c.in_err-put.ensures.err.1 in
-    let why = c.in_err-put.ensures.why in
-    let was = c.in_err-put.was in
+    let slow = c.take.ensures.slow in
+    let e = c.in_err-take.field-0.0 in
+    let why : part_refusal_of q w ≡ Some e = why-not (split_contents c.self.inside) w c.in-Some.ask q e slow h c.in-Some.is (subst (λ t. IsWhyNotTaken (t + 1) q c.in-Some.ask e) h.closed_is c.in_err-take.ensures.why) in
+    let was = c.in_err-take.was in
     let residual = c.from_residual.ensures in
     search rules
