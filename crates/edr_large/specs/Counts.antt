@@ -8,6 +8,7 @@ use Rattle.edr_image.specs.declared.Applied.TheVariants as applied
 use Rattle.edr_image.specs.declared.BankView.{BankView}
 use Rattle.edr_image.specs.declared.BankView.TheVariants.{Void, Event, Damaged}
 use Rattle.edr_image.specs.declared.Found.{Found}
+use Rattle.edr_image.specs.Banks.{holds_event}
 use Rattle.edr_large.specs.declared.counts.Counts.{Counts}
 
 -- how many of them are so
@@ -59,11 +60,6 @@ is_not_kept a = says_not_kept a.applied
 -- ---- what was found
 
 -- a bank holds an event
-abbrev pub holds_event : BankView → Bool
-holds_event Void = false
-holds_event (Event r) = true
-holds_event (Damaged o b l) = false
-
 abbrev pub is_event : Found → Bool
 is_event f = holds_event f.view
 

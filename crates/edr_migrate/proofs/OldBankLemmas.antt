@@ -10,7 +10,8 @@ use Rattle.edr_record.specs.declared.Record.{Record}
 use Rattle.edr_image.specs.declared.OldRefused.{OldRefused}
 use Rattle.edr_image.specs.declared.forms.TheConstants.{OLD_BANK_SIZE}
 use Rattle.edr_image.specs.Image.{old_bank_refusal, old_bank_view, old_banks_of, old_banks_refusal, old_place_of}
-use Rattle.edr_migrate.specs.Migrated.{AreWhole, is_event}
+use Rattle.edr_image.specs.Banks.{holds_event}
+use Rattle.edr_migrate.specs.Migrated.{AreWhole}
 
 -- what bank m holds
 abbrev pub old_view_at : List ℕ → ℕ → BankView
@@ -22,8 +23,8 @@ old_more k old = map-range_with_len_more (old_view_at old) 1 k (k + 1) (omega ar
 pub old_length : (k : ℕ) (old : List ℕ) → length (old_banks_of k old) ≡ k
 old_length k old = length-map-range_with_len (old_view_at old) 1 k
 
-pub old_count_more : (k : ℕ) (old : List ℕ) → count_by is_event (old_banks_of (k + 1) old) ≡ count_by is_event (old_banks_of k old) + cond (is_event (old_view_at old (k + 1))) 1 0
-old_count_more k old = sum_by-map-range_with_len_more (λ (x : BankView). cond (is_event x) 1 0) (old_view_at old) 1 k (k + 1) (omega arith)
+pub old_count_more : (k : ℕ) (old : List ℕ) → count_by holds_event (old_banks_of (k + 1) old) ≡ count_by holds_event (old_banks_of k old) + cond (holds_event (old_view_at old (k + 1))) 1 0
+old_count_more k old = sum_by-map-range_with_len_more (λ (x : BankView). cond (holds_event x) 1 0) (old_view_at old) 1 k (k + 1) (omega arith)
 
 -- ---- the lowest that is damaged
 
@@ -80,11 +81,11 @@ none_refused m (Damaged a b c ∷ xs) whole = absurd (whole 0 a b c refl)
 
 -- ---- how many hold an event
 
-pub counts_none : (k : ℕ) (old : List ℕ) → old_view_at old (k + 1) ≡ Void → count_by is_event (old_banks_of k old) ≡ count_by is_event (old_banks_of (k + 1) old)
+pub counts_none : (k : ℕ) (old : List ℕ) → old_view_at old (k + 1) ≡ Void → count_by holds_event (old_banks_of k old) ≡ count_by holds_event (old_banks_of (k + 1) old)
 counts_none k old is =
-    let same : count_by is_event (old_banks_of k old) + 0 ≡ count_by is_event (old_banks_of k old) = omega arith in
-    sym (old_count_more k old ∙ ap (λ (view : BankView). count_by is_event (old_banks_of k old) + cond (is_event view) 1 0) is ∙ same)
+    let same : count_by holds_event (old_banks_of k old) + 0 ≡ count_by holds_event (old_banks_of k old) = omega arith in
+    sym (old_count_more k old ∙ ap (λ (view : BankView). count_by holds_event (old_banks_of k old) + cond (holds_event view) 1 0) is ∙ same)
 
-pub counts_one : (k : ℕ) (old : List ℕ) (n : ℕ) (r : Record) → old_view_at old (k + 1) ≡ Event r → n ≡ count_by is_event (old_banks_of k old) → n + 1 ≡ count_by is_event (old_banks_of (k + 1) old)
+pub counts_one : (k : ℕ) (old : List ℕ) (n : ℕ) (r : Record) → old_view_at old (k + 1) ≡ Event r → n ≡ count_by holds_event (old_banks_of k old) → n + 1 ≡ count_by holds_event (old_banks_of (k + 1) old)
 counts_one k old n r is counted =
-    ap (λ (m : ℕ). m + 1) counted ∙ sym (old_count_more k old ∙ ap (λ (view : BankView). count_by is_event (old_banks_of k old) + cond (is_event view) 1 0) is)
+    ap (λ (m : ℕ). m + 1) counted ∙ sym (old_count_more k old ∙ ap (λ (view : BankView). count_by holds_event (old_banks_of k old) + cond (holds_event view) 1 0) is)

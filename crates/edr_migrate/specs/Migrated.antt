@@ -6,7 +6,7 @@ use Rattle.edr_record.specs.Parts.{PrePart}
 use Rattle.edr_image.specs.declared.BankView.{BankView}
 use Rattle.edr_image.specs.declared.BankView.TheVariants.{Void, Event, Damaged}
 use Rattle.edr_image.specs.declared.Header.{Header}
-use Rattle.edr_image.specs.Banks.{Store}
+use Rattle.edr_image.specs.Banks.{Store, holds_event}
 use Rattle.edr_image.specs.Image.{View, old_view_of}
 use Rattle.edr_migrate.specs.declared.Migrated.{Migrated}
 
@@ -61,11 +61,6 @@ pub record IsWhole (old : List ℕ) (v : View) : Type 0 where
   pub view : old_view_of old ≡ Some v
   pub whole : AreWhole v.store.banks
 
-abbrev pub is_event : BankView → Bool
-is_event Void = false
-is_event (Event r) = true
-is_event (Damaged offset found locked) = false
-
 -- how many events it has, and its count
 abbrev pub migrated_of : View → Migrated
-migrated_of v = record { events = count_by is_event v.store.banks; count = v.count }
+migrated_of v = record { events = count_by holds_event v.store.banks; count = v.count }

@@ -3,7 +3,8 @@ ghost use Rattle.std.specs.Prelude.{◌≡◌, ◌+◌, ◌≤◌, None, Some, I
 ghost use Rattle.edr_image.specs.declared.forms.TheConstants.{OLD_BANK_SIZE, OLD_MOST_BANKS};
 ghost use Rattle.edr_image.specs.declared.places.TheConstants.{FEWEST_BANKS};
 ghost use Rattle.edr_image.specs.Image.{old_bank_view, old_banks_of, old_banks_refusal, old_image_size, old_place_of, old_refusal};
-ghost use Rattle.edr_migrate.specs.Migrated.{is_event, migrated_of};
+ghost use Rattle.edr_image.specs.Banks.{holds_event};
+ghost use Rattle.edr_migrate.specs.Migrated.{migrated_of};
 ghost use Rattle.edr_migrate.specs.OldImage.{IsOld, largest_old, view_in};
 ghost use Rattle.edr_migrate.specs.NewBytes.{image_of};
 
@@ -55,7 +56,7 @@ fn view_at(old: &[u8], bank: u8) -> BankView
 fn count_events(old: &[u8], banks: u8) -> Result<u8, OldRefused>
     requires to { banks ≤ OLD_MOST_BANKS }
     requires fits { old_image_size banks ≤ length old.now }
-    ensures events { IfOk result (λ n. n ≡ count_by is_event (old_banks_of banks old.now)) }
+    ensures events { IfOk result (λ n. n ≡ count_by holds_event (old_banks_of banks old.now)) }
     ensures passed { IfOk result (λ _. old_banks_refusal 1 (old_banks_of banks old.now) ≡ None) }
     ensures refused { IfErr result (λ e. old_banks_refusal 1 (old_banks_of banks old.now) ≡ Some e) }
 {
@@ -82,7 +83,7 @@ fn count_events(old: &[u8], banks: u8) -> Result<u8, OldRefused>
 pub(crate) fn read_old(old: &[u8]) -> Result<OldImage, OldRefused>
     requires few { length old.now ≤ largest_old }
     ensures read { IfOk result (λ o. (o.bytes.now ≡ old.now) × IsOld o.header o.count o.bytes.now
-        × (o.events ≡ count_by is_event (old_banks_of o.header.banks o.bytes.now))) }
+        × (o.events ≡ count_by holds_event (old_banks_of o.header.banks o.bytes.now))) }
     ensures refused { IfErr result (λ e. old_refusal old.now ≡ Some e) }
 {
     let size = old.len() as u32;

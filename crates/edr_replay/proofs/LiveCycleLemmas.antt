@@ -27,7 +27,8 @@ use Rattle.edr_spell.specs.declared.CycleInput.{CycleInput}
 use Rattle.edr_run.specs.declared.live.LiveLine.{LiveLine}
 use Rattle.edr_run.specs.Cycle.{End, ack_of, acks_in, issues_in, replies_in}
 use Rattle.edr_run.proofs.IssueLemmas.{issues-few}
-use Rattle.edr_run.specs.Live.{events_after, is_event, live_lines_of}
+use Rattle.edr_image.specs.Banks.{holds_event}
+use Rattle.edr_run.specs.Live.{events_after, live_lines_of}
 use Rattle.edr_run.specs.Schedule.{steps_of_first}
 use Rattle.edr_live.specs.Shown.{padded}
 use Rattle.edr_cycle.specs.declared.started.StartFault.{StartFault}
@@ -75,11 +76,11 @@ all_as_many banks (s ∷ steps) = all_as_many (banks_after banks s) steps ∙ as
 
 -- ---- the events among the banks that are shown
 
-padded_void : (n : ℕ) → count_by is_event (padded n []) ≡ 0
+padded_void : (n : ℕ) → count_by holds_event (padded n []) ≡ 0
 padded_void zero = refl
 padded_void (suc n) = padded_void n
 
-padded_events : (n : ℕ) (banks : List BankView) → length banks ≤ n → count_by is_event (padded n banks) ≡ count_by is_event banks
+padded_events : (n : ℕ) (banks : List BankView) → length banks ≤ n → count_by holds_event (padded n banks) ≡ count_by holds_event banks
 padded_events zero [] few = refl
 padded_events zero (b ∷ banks) few = absurd (omega (arith, few))
 padded_events (suc n) [] few = padded_void n
@@ -87,7 +88,7 @@ padded_events (suc n) (b ∷ banks) few =
     sum_by-append one (b ∷ []) (padded n banks) ∙ ap (λ (k : ℕ). sum_by one (b ∷ []) + k) (padded_events n banks (omega (arith, few))) ∙ sym (sum_by-append one (b ∷ []) banks)
   where
     one : BankView → ℕ
-    one x = cond (is_event x) 1 0
+    one x = cond (holds_event x) 1 0
 
 -- ---- the line of a cycle
 
@@ -96,13 +97,13 @@ one_line i commands events = record { cycle = i; commands = commands; events = e
 
 -- what was seen of it last
 abbrev pub line_seen : ℕ → ℕ → List BankView → LiveLine
-line_seen i applied views = record { cycle = i; commands = applied; events = count_by is_event views }
+line_seen i applied views = record { cycle = i; commands = applied; events = count_by holds_event views }
 
 line_told : (i : ℕ) (f : SensorLists) (number : ℕ) (v : Store) (stop : Option ℕ) (acks : List Ack) (applied : ℕ) (views : List BankView) → length v.banks ≤ 16
     → applied ≡ length acks → views ≡ padded 16 (after v (steps_of_first f number v applied)).banks → line_seen i applied views ∷ [] ≡ live_lines_of i f v (Ran number stop acks)
 line_told i f number v stop acks applied views few all are =
     let same = all_as_many v.banks (steps_of_first f number v applied) in
-    let events : count_by is_event views ≡ events_after f number v applied = ap (count_by is_event) are ∙ padded_events 16 _ (omega (arith, same, few)) in
+    let events : count_by holds_event views ≡ events_after f number v applied = ap (count_by holds_event) are ∙ padded_events 16 _ (omega (arith, same, few)) in
     ap (λ (k : ℕ). one_line i applied k) events ∙ ap (λ (p : ℕ). one_line i p (events_after f number v p)) all
 
 -- ---- how long the log is

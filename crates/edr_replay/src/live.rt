@@ -2,7 +2,7 @@
 
 ghost use Rattle.std.specs.Prelude.{◌≡◌, ◌≤◌, ◌<◌, ◌^◌, ◌++◌, All, Some, None, length, count_by, vec_capacity};
 ghost use Rattle.edr_spell.specs.Spell.{IsCycleInput as IsSpelled};
-ghost use Rattle.edr_run.specs.Live.{is_event};
+ghost use Rattle.edr_image.specs.Banks.{holds_event};
 ghost use Rattle.edr_replay.specs.Live.{DrivesLive, RunsCycleLive, lines_with};
 
 use crate::phases::{StartedCycle, end_run, fused, start_until, was_cut};
@@ -38,7 +38,7 @@ struct LiveCycle {
 // How many of these banks hold an event.
 fn events_in(views: &[BankView]) -> u8
     requires { length views.now ≤ 16 }
-    ensures { result ≡ count_by is_event views.now }
+    ensures { result ≡ count_by holds_event views.now }
 {
     let found = views
         .iter()
@@ -50,7 +50,7 @@ fn events_in(views: &[BankView]) -> u8
 // The line of the cycle in this place of a run, by what was seen of it last.
 fn line_of(place: u32, last: &LiveView) -> LiveLine
     requires { last.now.applied < 2 ^ 32 }
-    ensures { result ≡ record { cycle = place; commands = last.now.applied; events = count_by is_event last.now.views } }
+    ensures { result ≡ record { cycle = place; commands = last.now.applied; events = count_by holds_event last.now.views } }
 {
     LiveLine {
         cycle: place,

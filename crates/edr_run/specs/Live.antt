@@ -1,9 +1,7 @@
 -- Runs with the live line of each cycle that ran.
-use Rattle.std.specs.Prelude.{◌≡◌, ℕ, ◌+◌, ◌<◌, Bool, true, false, List, [], ◌∷◌, ◌++◌, count_by, length}
+use Rattle.std.specs.Prelude.{◌≡◌, ℕ, ◌+◌, ◌<◌, List, [], ◌∷◌, ◌++◌, count_by, length}
 use Rattle.edr_items.specs.SensorLists.{SensorLists}
-use Rattle.edr_image.specs.declared.BankView.{BankView}
-use Rattle.edr_image.specs.declared.BankView.TheVariants.{Void, Event, Damaged}
-use Rattle.edr_image.specs.Banks.{Store}
+use Rattle.edr_image.specs.Banks.{Store, holds_event}
 use Rattle.edr_image.specs.Reports.{Report, StartStopped, Ran}
 use Rattle.edr_image.specs.Steps.{after}
 use Rattle.edr_spell.specs.declared.CycleInput.{CycleInput}
@@ -11,15 +9,9 @@ use Rattle.edr_run.specs.declared.live.LiveLine.{LiveLine}
 use Rattle.edr_run.specs.Cycle.{End, IsCycle, IsRun, Outcome, last_count}
 use Rattle.edr_run.specs.Schedule.{steps_of_first}
 
--- the bank holds an event
-abbrev pub is_event : BankView → Bool
-is_event Void = false
-is_event (Event r) = true
-is_event (Damaged offset found locked) = false
-
 -- how many banks hold an event after the first p commands of the cycle with the number n, from the banks v on
 abbrev pub events_after : SensorLists → ℕ → Store → ℕ → ℕ
-events_after f n v p = count_by is_event (after v (steps_of_first f n v p)).banks
+events_after f n v p = count_by holds_event (after v (steps_of_first f n v p)).banks
 
 -- what is told of the cycle in place i of a run, whose report is this: of one that ran the commands of its log, and the
 -- events after these; of one whose start was stopped nothing

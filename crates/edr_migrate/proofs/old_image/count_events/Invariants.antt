@@ -1,13 +1,13 @@
 use Rattle.std.proofs.Common.{◌≡◌, ◌≤◌, None}
 use Rattle.std.specs.Prelude.{count_by}
 use Rattle.edr_image.specs.Image.{old_banks_of, old_banks_refusal}
-use Rattle.edr_migrate.specs.Migrated.{is_event}
+use Rattle.edr_image.specs.Banks.{holds_event}
 use Rattle.edr_migrate.proofs.old_image.count_events.Given as goal
 
 -- the banks so far hold these events, and none is damaged
 abbrev pub invariant-loop-bank : goal.invariant-loop-bank
 invariant-loop-bank l = record {
   few : l.events ≤ l.bank;
-  counted : l.events ≡ count_by is_event (old_banks_of l.bank l.fn.old);
+  counted : l.events ≡ count_by holds_event (old_banks_of l.bank l.fn.old);
   passed : old_banks_refusal 1 (old_banks_of l.bank l.fn.old) ≡ None;
 }
