@@ -54,7 +54,7 @@ written_laid full target at piece bytes now after settled settled' low fits wide
           (beside i (omega (arith, laid.size)) (inr behind) ∙ was.0, still i (inr behind) was.1);
     }
 
--- a piece that is written behind what stands
+-- a piece that is written after what stands
 pub laid_more : (full : ℕ) (target : List ℕ) (at : ℕ) (piece bytes : List ℕ) (old new : Option (List ℕ)) (settled settled' : ℕ → Bool) → 1 ≤ at → at + length piece ≤ full → full ≤ length bytes → IsPieceOf target at piece
     → Laid full target at bytes old settled → Told (λ a b. Writes at piece settled a b settled') old new → Laid full target (at + length piece) bytes new settled'
 laid_more full target at piece bytes None new settled settled' low fits wide is laid w = absurd laid
@@ -78,7 +78,7 @@ pub bare_during : (full : ℕ) (target : List ℕ) (n : ℕ) (bytes : List ℕ) 
     → MayLeave content (outside 1 n settled) image → IsUnmarked full bytes image
 bare_during full target n bytes content settled image fits wide bare left = laid_during full target 1 n bytes content settled image (omega arith) fits wide (laid_first full target bytes content settled bare) left
 
--- what a crash inside the sync behind it may leave
+-- what a crash inside the sync after it may leave
 pub laid_leaves : (full : ℕ) (target : List ℕ) (n : ℕ) (bytes : List ℕ) (old : Option (List ℕ)) (settled : ℕ → Bool) (image : List ℕ) → 0 < full → full ≤ length bytes → Laid full target n bytes old settled → MayLeave old settled image → IsUnmarked full bytes image
 laid_leaves full target n bytes None settled image some wide laid left = absurd laid
 laid_leaves full target n bytes (Some now) settled image some wide laid left = record {

@@ -19,7 +19,7 @@ new_image_whole h = record { some = omega arith; size = new_image_size h; marked
 replicate_zero : (n i : ℕ) → slice_index (replicate n 0) i ≡ 0
 replicate_zero n i = grind (arith, common_steps)
 
--- behind the choice all bytes are 0
+-- after the choice all bytes are 0
 pub zeros_behind : (h : Header) (i : ℕ) → 12 ≤ i → slice_index (new_image h) i ≡ 0
 zeros_behind h i low =
     let there : slice_index (front h ++ replicate (image_size h.banks - 12) 0) i ≡ slice_index (replicate (image_size h.banks - 12) 0) (i - 12) = grind (arith, common_steps) in

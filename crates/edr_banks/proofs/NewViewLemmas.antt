@@ -53,7 +53,7 @@ all_void view s (suc n) h =
     let here = h s (omega arith) (omega arith) in
     let rest = all_void view (s + 1) n (λ m low high. h m (omega arith) (omega arith)) in cc
 
--- behind the choice all is 0 up to the end of the image
+-- after the choice all is 0 up to the end of the image
 abbrev IsZero : Header → List ℕ → Type 0
 IsZero h bytes = (i : ℕ) → 12 ≤ i → i < image_size h.banks → slice_index bytes i ≡ 0
 

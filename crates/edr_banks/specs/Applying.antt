@@ -44,7 +44,7 @@ with_held_event bank pre locked o = record o {
 abbrev pub ended_after : OpenedBanks → OpenedBanks
 ended_after o = record o { ended = true }
 
--- ---- what a crash in or behind it may leave
+-- ---- what a crash in or after it may leave
 
 -- the event at place i of the image is this one, or a Done of the bank that is held has given it its crash part
 abbrev pub IsSameOrDone : Command → Option ℕ → ℕ → Record → List BankView → Type 0
@@ -57,7 +57,7 @@ abbrev pub IsOldOrDone : Command → Option ℕ → List BankView → ℕ → Cr
 IsOldOrDone c held old i crash =
     ((r : Record) × (slice_get old i ≡ Some (Event r)) × (r.crash ≡ Some crash)) ⊎ ((held ≡ Some (i + 1)) × (c ≡ command.Done crash))
 
--- a crash in or behind a command on the opened banks may leave an image that says w, of a device that told v, these banks
+-- a crash in or after a command on the opened banks may leave an image that says w, of a device that told v, these banks
 pub record MayLeaveView {D : Type 0} (g : Ghosts D) (o : OpenedBanks) (c : Command) (old new : D) (v w : View) : Type 0 where
   pub bytes : List ℕ
   pub image : List ℕ
@@ -75,7 +75,7 @@ abbrev pub KeepsCrashParts : Command → Option ℕ → List BankView → List B
 KeepsCrashParts c held old new =
     (i : ℕ) (r : Record) (crash : CrashPart) → slice_get new i ≡ Some (Event r) → r.crash ≡ Some crash → IsOldOrDone c held old i crash
 
--- the banks that a crash in or behind the command may leave are such, beside those that the device told
+-- the banks that a crash in or after the command may leave are such, beside those that the device told
 abbrev pub LeavesBanks : {D : Type 0} → Ghosts D → (Command → Option ℕ → List BankView → List BankView → Type 0) → OpenedBanks → Command → D → D → Type 0
 LeavesBanks g keeps o c old new = (v w : View) → MayLeaveView g o c old new v w → keeps c o.held v.store.banks w.store.banks
 

@@ -69,7 +69,7 @@ pub record CrashNumbers (form : CrashForm) (bytes : List ℕ) (c : CrashPart) : 
   pub fired : (k : ℕ) → k < 8 → number_at bytes (120 + 2 * k) 2 ≡ PieceLemmas.slot_code 0xffff (get_or c.fired k None)
   pub zeros : (k : ℕ) → k < form.zeros → number_at bytes (136 + 1 * k) 1 ≡ 0
 
--- pieces one behind the other, whichever way they are put together
+-- pieces one after the other, whichever way they are put together
 nested : (a b c d e f g h i j : List ℕ) → ((((((((a ++ b) ++ c) ++ d) ++ e) ++ f) ++ g) ++ h) ++ i) ++ j ≡ a ++ (b ++ (c ++ (d ++ (e ++ (f ++ (g ++ (h ++ (i ++ j))))))))
 nested a b c d e f g h i j = simp append_assoc
 
@@ -151,7 +151,7 @@ time-lies bytes at last n is small = PieceLemmas.lies-at ((0, last) ∷ []) (num
 change-lies-at : (bytes : List ℕ) (at : ℕ) (z : ℤ) → number_at bytes at 2 ≡ PieceLemmas.change_code z → IsChange z → Lies change_ranges (number_at bytes at 2)
 change-lies-at bytes at z is small = PieceLemmas.lies-at change_ranges (number_at bytes at 2) (PieceLemmas.change_code z) is (PieceLemmas.change-lies z small)
 
--- the four times behind the greatest change across
+-- the four times after the greatest change across
 times-lie : (form : CrashForm) (bytes : List ℕ) (c : CrashPart) (window : ℕ) → CrashNumbers form bytes c → c.max_across.at ≤ window → c.result_at ≤ window → c.missing_along ≤ window → c.missing_across ≤ window
     → (k : ℕ) → k < 4 → Lies ((0, window) ∷ []) (number_at bytes (112 + 2 * k) 2)
 times-lie form bytes c window are a b d e zero below = time-lies bytes 112 window c.max_across.at are.max_across_at a

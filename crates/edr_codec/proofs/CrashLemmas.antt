@@ -36,7 +36,7 @@ time_row count last = one_range count 2 (0, last)
 abbrev pub axis_rows : ℕ → List FieldRow → List FieldRow
 axis_rows count rest = time_row 1 0 ∷ change_row (count - 1) ∷ time_row (26 - count) 0 ∷ rest
 
--- the rows behind both axes
+-- the rows after both axes
 abbrev pub last_rows : CrashForm → ℕ → ℕ → List FieldRow
 last_rows form window last =
     change_row 1
@@ -95,7 +95,7 @@ pub record PointsLie (bytes : List ℕ) (at count : ℕ) : Type 0 where
   pub changes : (k : ℕ) → 1 ≤ k → k < count → Lies change_ranges (number_at bytes (at + 2 * k) 2)
   pub past : (k : ℕ) → count ≤ k → k < 26 → Lies ((0, 0) ∷ []) (number_at bytes (at + 2 * k) 2)
 
--- the numbers behind both axes
+-- the numbers after both axes
 pub record LastLie (form : CrashForm) (bytes : List ℕ) (window last : ℕ) : Type 0 where
   pub max_along : Lies change_ranges (number_at bytes 106 2)
   pub max_along_at : Lies ((0, window) ∷ []) (number_at bytes 108 2)

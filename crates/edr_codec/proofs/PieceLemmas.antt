@@ -96,7 +96,7 @@ pub record IsCoded {X : Type 0} (size : ℕ) (bytes_of : X → List ℕ) (code :
   pub bytes : bytes_of x ≡ big_bytes size (code x)
   pub fits : code x < 256 ^ size
 
--- what stands behind a piece
+-- what stands after a piece
 pub past-piece : (bytes piece rest : List ℕ) (at n : ℕ) → drop at bytes ≡ piece ++ rest → length piece ≡ n → drop (at + n) bytes ≡ rest
 past-piece bytes piece rest at n stands long =
     sym (drop-drop n at bytes) ∙ ap₂ (λ (k : ℕ) (xs : List ℕ). drop k xs) (sym long) stands ∙ drop-append_seam piece rest

@@ -139,16 +139,16 @@ pub record PreNumbers (form : PreForm) (n : ℕ) (bytes : List ℕ) (p : PrePart
   pub lamp : number_at bytes (lamp_at form) 1 ≡ switch_byte p.lamp
   pub zeros : (k : ℕ) → k < form.zeros → number_at bytes (end_at form + 1 * k) 1 ≡ 0
 
--- pieces one behind the other, whichever way they are put together
+-- pieces one after the other, whichever way they are put together
 nested : (a b c d e f g h i j : List ℕ) → ((((((((a ++ b) ++ c) ++ d) ++ e) ++ f) ++ g) ++ h) ++ i) ++ j ≡ a ++ (b ++ (c ++ (d ++ (e ++ (f ++ (g ++ (h ++ (i ++ j))))))))
 nested a b c d e f g h i j = simp append_assoc
 
--- what stands behind zeros, at a place
+-- what stands after zeros, at a place
 past-zeros : (bytes rest : List ℕ) (at n to : ℕ) → at + n ≡ to → drop at bytes ≡ replicate n 0 ++ rest → drop to bytes ≡ rest
 past-zeros bytes rest at n to up stands =
     ap (λ (i : ℕ). drop i bytes) (sym up) ∙ PieceLemmas.past-piece bytes (replicate n 0) rest at n stands (length-replicate n 0)
 
--- what stands behind values of a byte each
+-- what stands after values of a byte each
 past-bytes : {X : Type 0} (bytes rest : List ℕ) (at n : ℕ) (bytes_of : X → List ℕ) (code : X → ℕ) (xs : List X) → All (PieceLemmas.IsCoded 1 bytes_of code) xs → length xs ≡ n
     → drop at bytes ≡ flat_map bytes_of xs ++ rest → drop (at + n) bytes ≡ rest
 past-bytes bytes rest at n bytes_of code xs coded many stands =

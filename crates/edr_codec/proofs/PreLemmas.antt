@@ -33,7 +33,7 @@ two_ranges count size values others = record { count = count; size = size; value
 abbrev pub after_range : Bool → ℕ × ℕ
 after_range is_first = if is_first then (0, 0) else (1, 5_000)
 
--- the rows behind the profile byte, with n slots in each list, by whether the event is the first of a crash
+-- the rows after the profile byte, with n slots in each list, by whether the event is the first of a crash
 abbrev pub pre_rest : PreForm → ℕ → Bool → List FieldRow
 pre_rest form n is_first =
     one_range 1 2 (after_range is_first)
@@ -56,7 +56,7 @@ pre_table form n is_first =
     ∷ one_range 1 1 (form.short.byte, form.long.byte)
     ∷ pre_rest form n is_first
 
--- the fields behind the time to the first event, whichever way they are put together
+-- the fields after the time to the first event, whichever way they are put together
 regrouped : (a b c d e f g h : List NumberField) → a ++ (b ++ (c ++ (d ++ (e ++ (f ++ (g ++ (h ++ []))))))) ≡ (((((a ++ b) ++ c) ++ d) ++ e) ++ f) ++ (g ++ h)
 regrouped a b c d e f g h = simp (append_assoc, append-nil)
 

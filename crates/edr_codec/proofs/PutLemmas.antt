@@ -10,7 +10,7 @@ use Rattle.edr_image.specs.declared.forms.CrashForm.{CrashForm}
 use Rattle.edr_image.specs.declared.forms.PreForm.{PreForm}
 use Rattle.edr_image.specs.PartBytes.{pre_size, profile_byte, throttle_at, brake_at, belt_at, lamp_at, end_at, pre_bytes_by, pre_bytes_with, crash_bytes_by, place_bytes, slot_bytes, switch_byte, signed_bytes, extreme_bytes, crash_size}
 
--- pieces one behind the other, as they are put
+-- pieces one after the other, as they are put
 joined : (a b c d e f g h i : List ℕ) (x y : ℕ) (z : List ℕ)
     → (((((((((a ++ b) ++ c) ++ d) ++ e) ++ f) ++ g) ++ h) ++ i) ++ x ∷ []) ++ y ∷ [] ++ z ≡ ((((((((a ++ b) ++ c) ++ d) ++ e) ++ f) ++ g) ++ h) ++ i) ++ x ∷ y ∷ z
 joined a b c d e f g h i x y z = simp append_assoc

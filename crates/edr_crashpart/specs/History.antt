@@ -32,7 +32,7 @@ OpenCrashStandsFor part z fired rows = part ≡ crash_at (signals_from z fired r
 abbrev pub row_of : Option ℤ → Option ℤ → ℕ → CrashRow
 row_of along across fired = record { along = along; across = across; fired = fired }
 
--- whatever ticks the part stands for, the next one stands for this row behind them
+-- whatever ticks the part stands for, the next one stands for this row after them
 abbrev pub StandsWith : CrashRow → OpenCrash → OpenCrash → Type 0
 StandsWith row part next =
     (z fired : ℕ) (rows : List CrashRow) → OpenCrashStandsFor part z fired rows → OpenCrashStandsFor next z fired (rows ++ row ∷ [])

@@ -160,11 +160,11 @@ points_by-same d h = elim (cases_lt 250 (d + 1)) [
 pub points_to-next : (axis : ℕ → Option ℤ) (z d : ℕ) → points_to axis z (d + 1) ≡ next_points (points_to axis z d) (delta_v axis z (z + (d + 1))) (d + 1)
 unfolding points_to
 points_to-next axis z d = by_test (nat_eq ((d + 1) % 10) 0 && nat_le (d + 1) 250) refl where
-  -- a list of points with room behind it
+  -- a list of points with room after it
   padded : ℕ → List ℤ
   padded n = map (λ k. kmh_of (delta_v axis z (z + 10 * k))) (range_with_len 0 n) ++ replicate (most_points - n) (pos 0)
 
-  -- one point more takes the place of the first 0 behind them
+  -- one point more takes the place of the first 0 after them
   one_more : (n : ℕ) (x : ℤ) → n < most_points → kmh_of (delta_v axis z (z + 10 * n)) ≡ x → map (λ k. kmh_of (delta_v axis z (z + 10 * k))) (range_with_len 0 (n + 1)) ++ replicate (most_points - (n + 1)) (pos 0) ≡ slice_set (map (λ k. kmh_of (delta_v axis z (z + 10 * k))) (range_with_len 0 n) ++ replicate (most_points - n) (pos 0)) n x
   one_more n x some is =
       let g = λ (k : ℕ). kmh_of (delta_v axis z (z + 10 * k)) in

@@ -50,7 +50,7 @@ chain_stops : (m : Signals) (t : ℕ) (from : Bounds) (cs : List Candidate) → 
 chain_stops m t from [] past h = refl
 chain_stops m t from (c ∷ cs) past h = let p = zero-past m from c h.0 in let q : c.zero_tick ≤ t = h.1 in absurd (omega arith)
 
--- one candidate of each chain, and the chains behind them
+-- one candidate of each chain, and the chains after them
 same_step : (m n : Signals) (t : ℕ) (from : Bounds) (c d : Candidate) (cs ds : List Candidate) → AgreeUpTo t m n → IsChain m t from (c ∷ cs) → IsChain n t from (d ∷ ds) → (IsChain m t (bounds_after from c) cs → IsChain n t (bounds_after from c) ds → SameUpTo t cs ds) → (t < c.end_tick) ⊎ (c.end_tick ≤ t) → (t < d.end_tick) ⊎ (d.end_tick ≤ t) → SameUpTo t (c ∷ cs) (d ∷ ds)
 same_step m n t from c d cs ds same p q rest (inr over) _ =
     let is : IsCandidate n from c = IsCandidate-agree m n from c (AgreeUpTo-before t c.end_tick m n over same) p.0 in

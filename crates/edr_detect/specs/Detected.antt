@@ -36,11 +36,11 @@ pub record DetectStandsFor (d : DetectState) (rows : List SignalRow) : Type 0 wh
   pub search_is : StandsFor (signals_of_rows rows) (length rows) (record { bounds = bounds; phase = phase_of d.stage })
   pub kept_are : KeepsRecent (signals_of_rows rows) bounds (length rows) d
 
--- whatever rows the detector was given, it was then given this one behind them
+-- whatever rows the detector was given, it was then given this one after them
 abbrev pub DetectsNext : SignalRow → DetectState → DetectState → Type 0
 DetectsNext row d next = (rows : List SignalRow) → DetectStandsFor d rows → DetectStandsFor next (rows ++ row ∷ [])
 
--- whatever rows the detector was given, the answer is what stands at the tick of this one behind them
+-- whatever rows the detector was given, the answer is what stands at the tick of this one after them
 abbrev pub TellsNext : SignalRow → DetectState → Answer → Type 0
 TellsNext row d answer =
     (rows : List SignalRow) → DetectStandsFor d rows → told_of answer ≡ tick_change (signals_of_rows (rows ++ row ∷ [])) (length rows + 1)

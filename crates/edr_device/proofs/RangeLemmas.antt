@@ -7,7 +7,7 @@ use Rattle.std.proofs.lemmas.List.{length-replicate, get_or-replicate}
 use Rattle.edr_device.specs.Device.{is_in}
 use Rattle.edr_device.specs.Pieces.{put_at}
 
--- before the range, behind it, and inside
+-- before the range, after it, and inside
 pub put_before : {A : Type 0} (xs piece : List A) (at i : ℕ) (d : A) → at + length piece ≤ length xs → i < at → slice_index_or (put_at at piece xs) i d ≡ slice_index_or xs i d
 put_before xs piece at i d fits before = grind (arith, common_steps)
 

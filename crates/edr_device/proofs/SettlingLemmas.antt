@@ -179,7 +179,7 @@ pub synced_tells : {T E : Type 0} (r : Result T E) (old new : Option (List ℕ))
 synced_tells (Ok x) old new settled settled' w = told_tells _ old new w
 synced_tells (Err x) old new settled settled' w = told_tells _ old new w
 
--- at each moment of a write and a sync behind it, a crash leaves what was there but for the piece's place
+-- at each moment of a write and a sync after it, a crash leaves what was there but for the piece's place
 pub write_then_sync : {T E : Type 0} (before mid : ℕ) (past between since : ℕ → List ℕ → Type 0) (at : ℕ) (piece bytes : List ℕ) (r : Result T E) (old middle : Option (List ℕ)) (settled settled' : ℕ → Bool) → at + length piece ≤ length bytes
     → IsQuiet old settled bytes → before ≤ mid → Wrote at piece r old settled middle settled' → Elapses before past between (MayLeave old (outside at (length piece) settled)) → Elapses mid between since (MayLeave middle settled')
     → Elapses before past since (SameBut at (length piece) bytes)

@@ -49,7 +49,7 @@ cycled_keeps at n (Err x) old mid new settled settled' settled'' past since kept
     })
     old mid new kept (same_told mid new cycled.same_content)
 
--- what a crash behind the call leaves a crash in it may leave
+-- what a crash after the call leaves a crash in it may leave
 pub kept_leaves : (at n : ℕ) (old new : Option (List ℕ)) (settled settled' : ℕ → Bool) (image : List ℕ) → Told (λ a b. KeepsOutside at n settled a b settled') old new → MayLeave new settled' image → MayLeave old (outside at n settled) image
 kept_leaves at n None new settled settled' image kept left = tt
 kept_leaves at n (Some a) None settled settled' image kept left = absurd kept

@@ -1,4 +1,4 @@
--- A write and the sync behind it, on a device on which nothing is pending.
+-- A write and the sync after it, on a device on which nothing is pending.
 use Rattle.std.specs.Prelude.{◌≡◌, ◌≢◌, ◌⊎◌, ◌+◌, ◌≤◌, ◌<◌, ℕ, false, List, ◌++◌, length, take, drop, slice_index, Result, OnOk, OnErr}
 use Rattle.edr_device.specs.Device.{is_in}
 use Rattle.edr_device.specs.Faults.{last_number}

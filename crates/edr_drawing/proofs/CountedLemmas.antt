@@ -3,7 +3,7 @@ use Rattle.std.proofs.Common.{◌≡◌, ap, ℕ, ◌+◌, List, ◌++◌, add-o
 use Rattle.std.proofs.lemmas.List.{append_assoc}
 use Rattle.edr_drawing.specs.Scales.{flat_map_below}
 
--- one more number gives its part behind those before it
+-- one more number gives its part after those before it
 pub counted_more : (f : ℕ → List ℕ) (n : ℕ) → flat_map_below f (n + 1) ≡ flat_map_below f n ++ f n
 counted_more f n = ap (flat_map_below f) (add-one n)
 

@@ -71,7 +71,7 @@ lock_either at bytes image r fits s unlocked e = by_gate (is_open image (at + 1)
 pub lock_made : (at : ℕ) (bytes : List ℕ) (r : Record) → at + 1024 ≤ length bytes → ShowsEvent bytes at r → Shows (put_at (at + 1) (165 ∷ []) bytes) at (Event (record r { locked = true }))
 lock_made at bytes r fits e = lock_gate at bytes (put_at (at + 1) (165 ∷ []) bytes) r true fits (put_same (at + 1) (165 ∷ []) bytes (omega arith)) (put_gate (at + 1) bytes (omega arith)) e
 
--- ---- fill: closed gates, zeros and the pre part are written behind a closed gate
+-- ---- fill: closed gates, zeros and the pre part are written while the gate is closed
 
 pub fill_front : (at : ℕ) (bytes image : List ℕ) → at + 1024 ≤ length bytes → SameBut (at + 1) 863 bytes image → Shows bytes at Void → Shows image at Void
 fill_front at bytes image fits s void = gate_beside (at + 1) 863 bytes image at s (omega arith) (inl (omega arith)) ∙ void
@@ -124,7 +124,7 @@ fill_made at bytes piece pre fits is =
     let size : length mid ≡ length bytes = put_size (at + 1) piece bytes (omega arith) in
     fill_gate at bytes (put_at at (165 ∷ []) mid) piece pre fits is (put_same at (165 ∷ []) mid (omega arith)) (put_gate at mid (omega arith))
 
--- ---- done: the crash part is written behind its closed gate
+-- ---- done: the crash part is written while its gate is closed
 
 -- the bytes of a crash part
 pub record IsEnding (piece : List ℕ) (crash : CrashPart) : Type 0 where

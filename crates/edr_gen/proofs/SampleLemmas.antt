@@ -5,7 +5,7 @@ use Rattle.std.proofs.lemmas.List.{map-append}
 use Rattle.edr_items.specs.declared.Sensor.{Sensor}
 use Rattle.edr_spell.specs.Samples.{Sample}
 
--- one more sensor's sample behind those of the ones before it in a list
+-- one more sensor's sample after those of the ones before it in a list
 pub samples-next : (f : Sensor → Sample) (ss : List Sensor) (k : ℕ) (d : Sensor) (xs : List Sample) → k < length ss → (xs ++ map f (take k ss)) ++ f (slice_index_or ss k d) ∷ [] ≡ xs ++ map f (take (k + 1) ss)
 samples-next f ss k d xs lt =
     append_assoc xs (map f (take k ss)) (f (slice_index_or ss k d) ∷ [])

@@ -35,7 +35,7 @@ samples-split impulses t (suc a) b =
     ∙ ap (λ (xs : List Sample). samples_at impulses (t + 1) ++ xs) (samples-split impulses (t + 1) a b ∙ ap (λ (k : ℕ). samples_after impulses (t + 1) a ++ samples_after impulses k b) u)
     ∙ sym (append_assoc (samples_at impulses (t + 1)) (samples_after impulses (t + 1) a) (samples_after impulses (t + suc a) b))
 
--- the spelling of a number below zero has its digits behind the sign
+-- the spelling of a number below zero has its digits after the sign
 pub signed-text : (z : ℤ) → FitsSigned w32 z → signed_decimal z ≡ signed_numeral z
 signed-text (pos n) h = decimal-numeral n (omega (arith, ints, h.sfits))
 signed-text (negsuc n) h = ap (λ (xs : List ℕ). 45 ∷ xs) (decimal-numeral (suc n) (omega (arith, ints, h.sfits)))

@@ -68,7 +68,7 @@ samples_at impulses t =
 
 -- ---- ticks one after the other
 
--- what they give in the n ticks behind tick t
+-- what they give in the n ticks after tick t
 unfoldable pub samples_after : List Impulse → ℕ → ℕ → List Sample
 samples_after impulses t zero = []
 samples_after impulses t (suc n) = samples_at impulses (t + 1) ++ samples_after impulses (t + 1) n

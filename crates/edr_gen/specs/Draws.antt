@@ -22,7 +22,7 @@ impulse_from i x k = record {
   fires = draw x (k + 5) % 4 == 0;
 }
 
--- the first n impulses, behind the draw of their number
+-- the first n impulses, after the draw of their number
 unfoldable pub impulses_from : ℕ → ℕ → List Impulse
 impulses_from x zero = []
 impulses_from x (suc n) = impulses_from x n ++ impulse_from n x (5 * n + 1) ∷ []
@@ -47,6 +47,6 @@ plan_from x = record {
   stop = stop_by (draw x (5 * impulse_count x + 2)) (draw x (5 * impulse_count x + 3));
 }
 
--- the state behind the draws of that cycle
+-- the state after the draws of that cycle
 unfoldable pub state_past : ℕ → ℕ
 state_past x = state_after x (5 * impulse_count x + 3)

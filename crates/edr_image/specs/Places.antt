@@ -5,13 +5,13 @@ use Rattle.edr_image.specs.declared.places.TheConstants.{BANK_SIZE, BANKS, CHOIC
 use Rattle.edr_image.specs.PartBytes.{pre_size, crash_size}
 use Rattle.edr_image.specs.Image.{crash_place}
 
--- an image has 2 to 16 banks of 1,024 bytes behind a front of 96, so 16,480 bytes at the most, and a gate is open at 165
+-- an image has 2 to 16 banks of 1,024 bytes after a front of 96, so 16,480 bytes at the most, and a gate is open at 165
 pub record HasSizes : Type 0 where
   pub banks : (FEWEST_BANKS ≡ 2) × (MOST_BANKS ≡ 16)
   pub sizes : (FRONT_SIZE ≡ 96) × (BANK_SIZE ≡ 1024) × (LARGEST_IMAGE ≡ 16_480)
   pub gate : OPEN_GATE ≡ 165
 
--- in the front the header stands behind the magic, and the two slots of the count behind it
+-- in the front the header stands after the magic, and the two slots of the count after it
 pub record HasFront : Type 0 where
   pub header : (VERSION ≡ 8) × (BANKS ≡ 10) × (CHOICE ≡ 11) × (HEADER_END ≡ 12)
   pub slots : (FIRST_SLOT ≡ 32) × (SECOND_SLOT ≡ 64) × (SLOT_SIZE ≡ 32)

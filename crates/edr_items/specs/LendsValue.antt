@@ -9,7 +9,7 @@ use Rattle.edr_items.specs.contracts.per_slow_sensor.PerSlowSensor.{the_row as s
 use Rattle.edr_items.specs.PerSensor.{with_value}
 use Rattle.edr_items.specs.PerSlowSensor.{with_slow_value}
 
--- the sensor ends with the last value behind `r`, the others as they were
+-- the sensor ends with the last value after `r`, the others as they were
 abbrev pub LendsValue : (T : RattleType) → MutBor (PerSensor T.Denot) → Sensor → MutBor T.Denot → Fml
 LendsValue T p s r = Lends (the_row T) T p r (λ w. with_value s w p.now)
 

@@ -8,6 +8,6 @@ use Rattle.edr_layout.specs.declared.writes.Gated.{Gated}
 abbrev pub mark_writes : ByteWrite → List Write
 mark_writes m = record { at = m.at; bytes = m.byte ∷ [] } ∷ []
 
--- the piece, and behind it its gate
+-- the piece, and after it its gate
 abbrev pub gated_writes : {SIZE : ℕ} → Gated SIZE → List Write
 gated_writes g = record { at = g.at; bytes = g.piece } ∷ open_gate g.gate ∷ []

@@ -31,7 +31,7 @@ pub struct Gated<const SIZE: usize> {
     pub gate: u32,
 }
 
-// The closed gates of lock and done, the zeros behind them, and the pre part.
+// The closed gates of lock and done, the zeros after them, and the pre part.
 const FILLING: usize = PRE_PART - LOCK_GATE + PRE_SIZE;
 
 /// The write that makes a bank void.

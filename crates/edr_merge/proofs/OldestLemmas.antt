@@ -1,4 +1,4 @@
--- A sample that is kept behind the oldest one.
+-- A sample that is kept after the oldest one.
 use Rattle.std.proofs.Common.{arith, refl, ap, sym, ◌≡◌, ◌∙◌, ℕ, ◌+◌, ◌-◌, ◌<◌, ◌≤◌, ◌⊎◌, inl, inr, true, false, cond, nat_lt, is_some, Option, Some, None, List, [], ◌∷◌, ◌++◌, length, drop, slice_get, length-append, length-drop}
 use Rattle.std.proofs.lemmas.Bool.{cases_lt}
 use Rattle.std.proofs.lemmas.Bool.Decides.{nat_tests}
@@ -55,7 +55,7 @@ module _ (xs : List Item) (x y : Item) (n : ℕ) (room : n + 1 ≡ ROOM) (within
         ∙ first-and_others (xs ++ x ∷ []) first (sym (back-full n xs x full) ∙ back)
         ∙ sym (ap (λ k. drop k (y ∷ (xs ++ x ∷ []))) more)
 
--- a sample that is kept behind an oldest one
+-- a sample that is kept after an oldest one
 pub kept-behind : (x : Item) (before : List Item) (o : Option Item) (xs : List Item) → with_oldest o xs ≡ before → is_some x.value ≡ true → is_some o ≡ true → (after : List Item) → ((y : Item) → o ≡ Some y → after ≡ keep_last ROOM (y ∷ (xs ++ x ∷ []))) → after ≡ with_sample x before
 kept-behind x before None xs view sample some after h = absurd (cc)
 kept-behind x before (Some y) xs view sample some after h =

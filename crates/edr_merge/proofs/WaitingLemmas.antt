@@ -117,7 +117,7 @@ length-waiting s t last (x ∷ xs) feed =
 pub keep_last-all : (n : ℕ) (xs : List Item) → length xs ≤ n → keep_last n xs ≡ xs
 keep_last-all n xs fits = let e : length xs - n ≡ 0 = omega arith in ap (λ k. drop k xs) e
 
--- one more item of the feed that isn't too far ahead is kept behind those that wait, and drives none out
+-- one more item of the feed that isn't too far ahead is kept after those that wait, and drives none out
 pub kept-waiting : (s : Sensor) (t : ℕ) (xs : List Item) (x : Item) → IsFeedAfter s 0 (xs ++ x ∷ []) → t < x.moment → x.moment ≤ t + LONGEST_GAP → with_sample x (waiting_samples t xs) ≡ waiting_samples t (xs ++ x ∷ [])
 kept-waiting s t xs x feed later near = by_value x.value refl where
   split : waiting_samples t (xs ++ x ∷ []) ≡ waiting_samples t xs ++ waiting_samples t (x ∷ [])

@@ -4,7 +4,7 @@ use Rattle.edr_items.specs.declared.Item.{Item}
 use Rattle.edr_merge.specs.declared.samples.TheConstants.{ROOM}
 use Rattle.edr_merge.specs.declared.samples.Samples.TheInside.{Inside}
 
--- the oldest sample and the others behind it
+-- the oldest sample and the others after it
 abbrev pub with_oldest : Option Item → List Item → List Item
 with_oldest None xs = []
 with_oldest (Some x) xs = x ∷ xs
@@ -12,7 +12,7 @@ with_oldest (Some x) xs = x ∷ xs
 abbrev pub samples_of : Inside → List Item
 samples_of s = with_oldest s.oldest s.others.items
 
--- there is room for the oldest and the others, and others wait only behind an oldest
+-- there is room for the oldest and the others, and others wait only after an oldest
 pub record IsInOrder (s : Inside) : Type 0 where
   pub room : s.others.capacity + 1 ≡ ROOM
   pub within : length s.others.items + 1 ≤ ROOM

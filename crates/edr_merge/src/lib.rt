@@ -101,7 +101,7 @@ fn lagging(marks: &Marks, slow: &mut u32, tick: u32) -> Option<Sensor>
     first_at(marks, tick)
 }
 
-// Whether the sensor may give the item behind those that it gave. Each axis, which may give one each tick, has a call of its own:
+// Whether the sensor may give the item after those that it gave. Each axis, which may give one each tick, has a call of its own:
 // there the range is known.
 fn check_next(marks: &Marks, sensor: Sensor, item: &Item) -> Result<(), ItemRefused>
     ensures accepted { IsOk result ↔ (refusal_of sensor (mark_in sensor marks.now) item.now ≡ None) }

@@ -15,7 +15,7 @@ use Rattle.edr_image.specs.PartBytes.{pre_bytes}
 use Rattle.edr_migrate.specs.NewBytes.{bank_bytes, done_bytes, event_bytes, front_bytes, gate_byte, image_of}
 use Rattle.edr_migrate.proofs.EventByteLemmas.{AreSound, bank_length}
 
--- ---- the banks behind one another
+-- ---- the banks, one after another
 
 pub banks_length : (xs : List BankView) → AreSound xs → length (flat_map bank_bytes xs) ≡ BANK_SIZE * length xs
 banks_length [] sound = refl
@@ -41,7 +41,7 @@ bank_there (x ∷ xs) rest (suc k) sound below =
 
 -- ---- the front
 
--- behind the header, a count in slot 0
+-- after the header, a count in slot 0
 abbrev pub slot_bytes : ℕ → List ℕ
 slot_bytes count = replicate 20 0 ++ gate_byte (not (nat_eq count 0)) ∷ replicate 3 0 ++ big_bytes 4 count ++ replicate 56 0
 
@@ -105,7 +105,7 @@ between head mid tail ys =
     let behind = ap (drop (length mid)) (drop-append_seam head (mid ++ tail)) ∙ drop-append_seam mid tail in
     rw (take-append_seam head (mid ++ tail), behind) refl
 
--- both parts are put behind the gates
+-- both parts are put after the gates
 pub event_put : (r : Record) (a b : ℕ) (pre done : List ℕ) → a ≡ gate_byte r.locked → b ≡ gate_byte (is_some r.crash) → pre ≡ pre_bytes r.pre → done ≡ done_bytes r.crash → length pre ≡ 848
     → (let new : List ℕ = OPEN_GATE ∷ a ∷ b ∷ replicate 13 0 ++ (replicate 848 0 ++ replicate 160 0) in
     let filled = take 16 new ++ (pre ++ drop 848 (drop 16 new)) in

@@ -24,7 +24,7 @@ not-equal x y h e = grind (arith, nat_tests)
 are-unequal : (x y : ℕ) → x ≢ y → eqb x y ≡ false
 are-unequal x y h = grind (arith, nat_tests)
 
--- a bank that is told behind others is none of them
+-- a bank that is told after others is none of them
 pub alone : (found : List Found) (b : ℕ) (ys : List ℕ) → IsDistinct eqb (banks_in found ++ b ∷ ys) → HasNoBank found b
 alone [] b ys h = λ k d l. absurd (omega (arith, l))
 alone (f ∷ found) b ys h = All-cons (λ (g : Found). g.bank ≢ b) f found

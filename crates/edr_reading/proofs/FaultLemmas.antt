@@ -75,7 +75,7 @@ wrong-none xs (r ∷ rs) (Field f) w a = w.4 (goes-on-front xs r rs f a)
 pub fault-is-none : (records : List (List (List ℕ))) (row : ℕ) (f : RowFault) → IsFault records row f → ¬ AreReport records
 fault-is-none records row f h a = wrong-none (take (row - 1) records) (drop (row - 1) records) f h.3 (subst AreReport (sym (take-append-drop (row - 1) records)) a)
 
--- the fault of the first of the records behind those with which a report begins
+-- the fault of the first of the records after those with which a report begins
 pub fault-behind : (records : List (List (List ℕ))) (k : ℕ) (f : RowFault) → k ≤ length records → Opens (take k records) → IsWrong (take k records) (drop k records) f → IsFault records (k + 1) f
 fault-behind records k f h o w =
     let e : k ≡ k + 1 - 1 = omega arith in

@@ -34,7 +34,7 @@ digits-of (b ∷ bs) h = (and-parts (list_all is_digit (b ∷ bs)) _ h).0
 pub numeral-digits : (n : ℕ) → list_all is_digit (numeral n) ≡ true
 numeral-digits n = digits-of (numeral n) (is_numeral-numeral n).0
 
--- a number in front is found with what stands behind it
+-- a number in front is found with what stands after it
 pub number-parted : (bs more : List ℕ) (n k : ℕ) → n < 2 ^ 64 → EndsNumber more → bs ≡ decimal n ++ more → k ≤ length bs → list_all is_digit (take k bs) ≡ true → EndsNumber (drop k bs)
     → (take k bs ≡ numeral n) × (drop k bs ≡ more)
 number-parted bs more n k small ends is h front back =

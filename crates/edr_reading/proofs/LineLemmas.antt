@@ -27,7 +27,7 @@ use Rattle.edr_reading.proofs.WholeLemmas.{decimal-same, told-report, whole-even
 
 -- ---- what a line may be
 
--- the next row is a line of an event, which goes on behind it
+-- the next row is a line of an event, which goes on after it
 pub line-row : (k block : ℕ) (found : List Found) (e : ℕ × Record) (r : List (List ℕ)) (more : FieldRows) → k < 29 → MayFollowLine k block (banks_in found) e (r ∷ more)
     → (f : ℕ × Record) × IsNextEvent found f × EventAgrees k e f × (r ≡ decimal block ∷ get_or event_names k [] ∷ event_words block f.0 f.1 (get_or lines k Number) ∷ [])
     × ((g : ℕ × Record) → EventAgrees (k + 1) g f → MayFollowLine (k + 1) block (banks_in found) g more)

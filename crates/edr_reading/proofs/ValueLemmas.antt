@@ -11,7 +11,7 @@ pub none-fires : (bytes : List ℕ) (latest : ℕ) (t : Option ℕ) → latest <
 none-fires bytes latest None small h e f = refl
 none-fires bytes latest (Some k) small h e f = absurd (not-number k 110 (codes "one") (codes " ms") (omega (arith, h)) refl (sym e ∙ f))
 
--- behind `-` stands a number
+-- after `-` stands a number
 pub minus-change : (bytes digits more : List ℕ) (z : ℤ) → IsChange z → bytes ≡ 45 ∷ digits → bytes ≡ signed_decimal z ++ more
     → (k : ℕ) × (z ≡ negsuc k) × (digits ≡ decimal (k + 1) ++ more) × (k + 1 ≤ 3_000)
 minus-change bytes digits more (pos n) h e f = absurd (not-number n 45 digits more (omega (arith, h)) refl (sym e ∙ f))
@@ -29,7 +29,7 @@ stop-whole bytes r (Some k) other whole h is = ap (option_map Some) (whole k h.0
 pub missing-is : (m n : ℕ) → missing_words m n ≡ decimal m ++ (codes " longitudinal, " ++ (decimal n ++ codes " lateral"))
 missing-is m n = simp append_assoc
 
--- what stands behind the place of a damage
+-- what stands after the place of a damage
 abbrev pub found_words : ℕ → Bool → List ℕ
 found_words x l = codes " found " ++ decimal x ++ codes " locked " ++ yes_no l
 

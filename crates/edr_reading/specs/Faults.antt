@@ -18,7 +18,7 @@ Opens rows = (more : List (List (List ℕ))) × AreReport (rows ++ more)
 abbrev pub ReportGoesOn : List (List (List ℕ)) → List (List ℕ) → Type 0
 ReportGoesOn rows front = (back : List (List ℕ)) × (more : List (List (List ℕ))) × AreReport (rows ++ (front ++ back) ∷ more)
 
--- what is wrong with the first of these records, which stand behind rows with which a report begins: it has n fields in place of three, counted
+-- what is wrong with the first of these records, which stand after rows with which a report begins: it has n fields in place of three, counted
 -- up to what a u32 holds; or its field f is the first with which no report goes on; or it is missing, and the rows are those of
 -- no report
 abbrev pub IsWrong : List (List (List ℕ)) → List (List (List ℕ)) → RowFault → Type 0

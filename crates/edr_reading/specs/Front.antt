@@ -1,4 +1,4 @@
--- Numbers and other words in front of bytes, and what may stand behind them.
+-- Numbers and other words in front of bytes, and what may stand after them.
 use Rattle.std.specs.Prelude.{◌≡◌, ◌≤◌, ℕ, false, ⊤, Option, List, [], ◌∷◌, ◌++◌, decimal}
 use denote.Ref.{Bor}
 use Rattle.edr_text.specs.Numbers.{is_digit}
@@ -13,7 +13,7 @@ EndsNumber (b ∷ bs) = is_digit b ≡ false
 abbrev pub ReadsFront : {A : Type 0} → (A → List ℕ) → (A → Type 0) → List ℕ → Option (A × Bor (List ℕ)) → Type 0
 ReadsFront words ok bytes read = (x : _) (more : List ℕ) → ok x → EndsNumber more → bytes ≡ words x ++ more → GivesValue x more read
 
--- the same behind these bytes
+-- the same after these bytes
 abbrev pub ReadsBehind : {A : Type 0} → List ℕ → (A → List ℕ) → (A → Type 0) → List ℕ → Option (A × Bor (List ℕ)) → Type 0
 ReadsBehind front words ok bytes read =
     (x : _) (more : List ℕ) → ok x → EndsNumber more → bytes ≡ front ++ (words x ++ more) → GivesValue x more read

@@ -28,7 +28,7 @@ use Rattle.edr_reading.specs.declared.told.ToldName.TheVariants as name
 
 -- ---- the rows so far
 
--- the rows of these cycles, events and damaged banks, behind the row that names the columns
+-- the rows of these cycles, events and damaged banks, after the row that names the columns
 abbrev pub whole : List Report → List (ℕ × Record) → List Found → FieldRows
 whole reports es ds = head_row ∷ (run_fields 1 reports ++ (events_fields 1 es ++ map damaged_fields ds))
 
@@ -41,7 +41,7 @@ pub record IsToldReport (reports : List Report) (es : List (ℕ × Record)) (ds 
 
 -- ---- the rows that may follow
 
--- these rows are the rest of a report: behind so many cycles, with the next event in this block, and with banks that were told
+-- these rows are the rest of a report: after so many cycles, with the next event in this block, and with banks that were told
 pub record MayFollow (has_acks has_cycles has_events : Bool) (cycles block : ℕ) (banks : List ℕ) (rows : FieldRows) : Type 0 where
   pub acks : List Ack
   pub reports : List Report
@@ -109,7 +109,7 @@ pub record IsInside (k : ℕ) (e : ℕ × Record) (reports : List Report) (es : 
 abbrev pub GoesOnIn : ℕ → FieldRows → Type 0
 GoesOnIn block rows = (¬ AreReport rows) × ((row : List (List ℕ)) (more : FieldRows) → AreReport (rows ++ row ∷ more) → slice_index_or row 0 [] ≡ decimal block)
 
--- what may stand next behind these rows
+-- what may stand next after these rows
 abbrev pub StandsNext : NextRow → Option CycleRow → List Report → List Found → FieldRows → Type 0
 StandsNext next.Run last reports found rows = (found ≡ []) × IsBetween (may_ack last) true true reports [] [] rows
 StandsNext next.Events last reports found rows = (es : List (ℕ × Record)) × (found ≡ map found_event es) × IsBetween false false true reports es [] rows
@@ -130,7 +130,7 @@ pub record HasReadRows (r : Reader) (rows : FieldRows) : Type 0 where
   pub first : r.last ≡ None → r.run.items ≡ []
   pub stands : StandsNext r.next r.last (cycles_read r) r.found.items rows
 
--- why the next row isn't taken behind these
+-- why the next row isn't taken after these
 abbrev pub IsRefused : FieldRows → List (List ℕ) → Refused → Type 0
 IsRefused rows row (refused.Field f) = (more : FieldRows) → IsWrong rows (row ∷ more) (fault.Field f)
 IsRefused rows row refused.OutOfMemory = ⊤

@@ -8,7 +8,7 @@ use Rattle.edr_report.specs.Words.{spaced_words}
 abbrev pub each_spaced : List (List ℕ) → List ℕ
 each_spaced ws = flat_map (λ w. 32 ∷ w) ws
 
--- what these words are behind so many others
+-- what these words are after so many others
 abbrev pub spaced_behind : ℕ → List (List ℕ) → List ℕ
 spaced_behind zero ws = spaced_words ws
 spaced_behind (suc n) ws = each_spaced ws

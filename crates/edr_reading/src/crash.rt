@@ -18,7 +18,7 @@ use crate::values::{end_time, extreme, firing, missing, time};
 use edr_record::{Crash, Extreme, POINTS, point_count, window_from_end};
 use edr_report::CrashLine;
 
-// So many points, with zeros behind them.
+// So many points, with zeros after them.
 fn some_points(bytes: &[u8], count: usize) -> Option<[i16; POINTS]>
     requires { count ≤ POINTS }
     ensures read { IfSome result (AreShown count bytes.now) }
@@ -69,7 +69,7 @@ fn plain_crash(end: u16) -> Crash
     }
 }
 
-// The crash part with what this line shows, behind the lines before it, if it may show it.
+// The crash part with what this line shows, after the lines before it, if it may show it.
 fn crash_line(crash: &Crash, line: CrashLine, value: &[u8]) -> Option<Crash>
     requires { IsCrash crash.now }
     ensures bounds { IfSome result IsCrash }

@@ -302,7 +302,7 @@ impl Reader {
         self.add_line(line, event)
     }
 
-    // Goes on behind the line in this place, with which this was read.
+    // Goes on after the line in this place, with which this was read.
     fn add_line(&mut self, line: usize, event: PartEvent) -> Result<(), Refused>
         requires line { line < EVENT_ROWS }
         requires rows { self.old.rows + 1 < 2 ^ 32 }

@@ -101,7 +101,7 @@ fn space_at(place: usize) -> &'static [u8]
     if place == 0 { b"" } else { b" " }
 }
 
-// The slot behind these bytes, and what stands behind it.
+// The slot after these bytes, and what stands after it.
 fn slot_behind<'a, S: SlotRead>(bytes: &'a [u8], front: &[u8]) -> Option<(S, &'a [u8])>
     ensures read { IfSome result (λ p. (bytes.now ≡ front.now ++ (S.words p.0 ++ p.1.now)) × S.is_slot p.0) }
     ensures whole { ReadsBehind front.now S.words S.is_slot bytes.now result }

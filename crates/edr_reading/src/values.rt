@@ -117,7 +117,7 @@ pub(crate) fn firing(bytes: &[u8], latest: u16) -> Option<Option<u16>>
     }
 }
 
-// The number in front of the bytes with `-` before it, and what stands behind it.
+// The number in front of the bytes with `-` before it, and what stands after it.
 fn negative_in_front(bytes: &[u8]) -> Option<(i16, &[u8])>
     ensures read { IfSome result (λ p. (45 ∷ bytes.now ≡ signed_decimal p.0 ++ p.1.now) × IsChange p.0) }
     ensures whole { (k : ℕ) (more : List ℕ) → k + 1 ≤ GREATEST_CHANGE → EndsNumber more
@@ -127,7 +127,7 @@ fn negative_in_front(bytes: &[u8]) -> Option<(i16, &[u8])>
     Some((0 - n as i16, rest))
 }
 
-// The number in front of the bytes, and what stands behind it.
+// The number in front of the bytes, and what stands after it.
 fn positive_in_front(bytes: &[u8]) -> Option<(i16, &[u8])>
     ensures read { IfSome result (λ p. (bytes.now ≡ signed_decimal p.0 ++ p.1.now) × IsChange p.0) }
     ensures whole { (n : ℕ) (more : List ℕ) → n ≤ GREATEST_CHANGE → EndsNumber more
@@ -242,7 +242,7 @@ fn second_place(between: &[u8]) -> Option<Place>
     Some(Place::Second { after })
 }
 
-// Whether a damaged bank is locked, behind what else it shows.
+// Whether a damaged bank is locked, after what else it shows.
 fn lock_behind(bytes: &[u8]) -> Option<bool>
     ensures read { IfSome result (λ l. bytes.now ≡ codes " locked " ++ yes_no l) }
     ensures whole { (l : Bool) → bytes.now ≡ codes " locked " ++ yes_no l → result ≡ Some l }

@@ -3,7 +3,7 @@ use Rattle.std.proofs.Common.{arith, ◌≡◌, ◌∙◌, sym, ap, ℕ, zero, s
 use Rattle.std.proofs.lemmas.List.{map_more, length-map, length-take}
 use Rattle.edr_report.specs.Words.{spaced_words}
 
--- one more word stands behind a space, where there are words
+-- one more word stands after a space, where there are words
 spaced-more : (ws : List (List ℕ)) (w : List ℕ) → 0 < length ws → spaced_words (ws ++ w ∷ []) ≡ (spaced_words ws ++ 32 ∷ []) ++ w
 spaced-more [] w some = absurd (omega arith)
 spaced-more (v ∷ []) w some = sym (append_assoc v (32 ∷ []) w)
@@ -19,7 +19,7 @@ spaced-first f (y ∷ xs) zero x start before same out in_range first here stood
     put ∙ ap (λ (bs : List ℕ). bs ++ f x) (is ∙ stood ∙ append-nil start) ∙ ap (λ z. start ++ f z) here
 spaced-first f (y ∷ xs) (suc i) x start before same out in_range first here stood is put = absurd (omega arith)
 
--- a later one is put behind a space
+-- a later one is put after a space
 pub spaced-next : {X : Type 0} (f : X → List ℕ) (xs : List X) (i : ℕ) (x : X) (start before pushed parted out : List ℕ) →
     i < length xs → 0 < i → x ≡ get_or xs i x → before ≡ start ++ spaced_words (map f (take i xs)) → pushed ≡ before ++ 32 ∷ [] → parted ≡ pushed → out ≡ parted ++ f x
     → out ≡ start ++ spaced_words (map f (take (i + 1) xs))

@@ -131,7 +131,7 @@ fn step_at(feeds: &Feeds, from: Bounds, upto: u32, zero: u32) -> FoundZero
     }
 }
 
-// Puts what was told, if anything, behind the rest.
+// Puts what was told, if anything, after the rest.
 fn put(found: &mut Vec<Event>, told: Option<Event>) -> Result<(), OutOfMemory>
     ensures { OnOk result (found.new.items ≡ found.old.items ++ option_to_list told) }
 {

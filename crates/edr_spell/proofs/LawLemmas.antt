@@ -131,7 +131,7 @@ split-rows (r ∷ front) rest (b ∷ before) (q ∷ rows) h k =
     let more = split-rows front rest before rows t u in
     (more.0, cons-same q b rows (before ++ more.0) same more.1, more.2)
 
--- a record behind rows that are right with it has no fault
+-- a record after rows that are right with it has no fault
 next-right : (rows before : List Row) (r : List (List ℕ)) (rest : List (List (List ℕ))) (after : List Row) (fault : TraceFault)
     → AreFaultless rows → rows ≡ before ++ after → AreRows (r ∷ rest) after → fault_of (feeds_after before) (row_of r) ≡ Some fault → ⊥
 next-right rows before r rest [] fault right e meant here = cc meant

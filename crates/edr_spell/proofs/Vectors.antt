@@ -65,7 +65,7 @@ moment : item_fault s.Along 5 (record { moment = 86400001; value = Some (pos 200
 unfolding item_fault
 moment = refl
 
--- a row behind a cycle that has ended
+-- a row after a cycle that has ended
 place : fault_in (feeds_after (row.On 0 ∷ row.Cut 0 ∷ [])) (row.Sample s.Along (record { moment = 1; value = None })) ≡ Some f.Place
 unfolding fault_in open_after feeds_given
 place = refl

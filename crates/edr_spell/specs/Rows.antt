@@ -33,7 +33,7 @@ words = w.On ∷ w.Cut ∷ w.Of s.Along ∷ w.Of s.Across ∷ w.Of s.Speed ∷ w
 unfoldable pub word_of : List ℕ → Option Word
 word_of bytes = find (λ w. bytes_eq bytes (spelling_of w)) words
 
--- ---- the numbers behind it, and their faults
+-- ---- the numbers after it, and their faults
 
 -- a step that may find a fault, and then the next
 infixl 10 ◌>>=◌
@@ -71,7 +71,7 @@ highest_u32 = 4294967295
 
 -- ---- the row
 
--- what a row says that has this word, and these bytes behind it
+-- what a row says that has this word, and these bytes after it
 unfoldable pub row_by : Option Word → List ℕ → List ℕ → Result Row TraceFault
 row_by None second third = Err f.Word
 row_by (Some w.On) second third = do

@@ -72,7 +72,7 @@ fn read_positive(digits: &[u8]) -> Result<i32, NumberRefused>
     }
 }
 
-// The `i32` that these digits spell behind a `-`.
+// The `i32` that these digits spell after a `-`.
 fn read_negative(digits: &[u8]) -> Result<i32, NumberRefused>
     ensures { result ≡ within_i32 (negative_of (natural_in digits.now)) }
 {

@@ -42,7 +42,7 @@ rows-taken before bytes front left old new at at' h parts count takes =
       λ more. subst (λ (x : List ℕ). IsLeft x more new at') (sym (append_assoc before front more)) (takes (before ++ (front ++ more)) more (h.1 (front ++ more))),
     )
 
--- bytes are kept behind those that are left
+-- bytes are kept after those that are left
 pub bytes-kept : (before left piece : List ℕ) (trace : Trace) (at : HowFar) → AreReadBut left before trace at → AreReadBut (left ++ piece) (before ++ piece) trace at
 bytes-kept before left piece trace at h =
     let long = length-append before piece in

@@ -148,7 +148,7 @@ one-more s t xs ys r left e h =
     let p : Read = (r, t, ys) in
     (h.0, h.1, (p, e, refl, h.2), h.3)
 
--- behind a carriage return a record begins as behind a line feed
+-- after a carriage return a record begins as after a line feed
 past_cr : (xs : List ℕ) → next_record default_config st.AfterCr [] [] xs ≡ next_record default_config st.StartRecord [] [] xs
 unfolding next_record
 past_cr [] = refl

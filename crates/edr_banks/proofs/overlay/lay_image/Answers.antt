@@ -1,4 +1,4 @@
--- Each piece stands behind those before it.
+-- Each piece stands after those before it.
 use Rattle.std.proofs.Common.{◌≡◌, ◌≤◌, ◌+◌, arith, rules, subst, take, drop, length, ℕ}
 use Rattle.edr_device.specs.Device.{MayLeave, outside}
 use Rattle.edr_image.specs.declared.places.TheConstants.{BANK_SIZE}

@@ -25,7 +25,7 @@ left : (impulses : List Impulse) (n : ℕ) (page cut full : List ℕ) → n < 50
     → page ++ (samples_text (samples_after impulses (360 * n) (360 * (50 - n))) ++ cut) ≡ full ++ (later impulses n ++ cut)
 left impulses n page cut full h e = page-next page (ticks impulses n) (later impulses n) (samples_text (samples_after impulses (360 * n) (360 * (50 - n)))) cut full (pages-next impulses n h) e
 
--- behind the last tick the page with the cut is left
+-- after the last tick the page with the cut is left
 last : (impulses : List Impulse) (n : ℕ) (page cut full : List ℕ) → 50 ≤ n → full ≡ page ++ cut
     → page ++ (samples_text (samples_after impulses (360 * n) (360 * (50 - n))) ++ cut) ≡ full ++ []
 last impulses n page cut full h e =

@@ -1,4 +1,4 @@
--- Both parts are put behind the gates.
+-- Both parts are put after the gates.
 use Rattle.std.proofs.Common.{◌∙◌, ap, arith}
 use Rattle.edr_migrate.specs.NewBytes.{gate_byte}
 use Rattle.edr_migrate.proofs.ImageByteLemmas.{event_put}

@@ -1,4 +1,4 @@
--- The bytes behind the front are zeros.
+-- The bytes after the front are zeros.
 use Rattle.edr_banks.proofs.NewImageLemmas.{bank_zeros}
 use Rattle.edr_banks.proofs.new_image.NewImageImage.bank.Goals as goal
 
