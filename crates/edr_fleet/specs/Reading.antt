@@ -2,6 +2,7 @@
 use Rattle.std.specs.Prelude.{◌≡◌, ◌+◌, ◌≤◌, ◌*◌, ℕ, List, ◌++◌, All, length, Option}
 use Rattle.edr_device.specs.Told.{Told}
 use Rattle.edr_device.specs.Transfer.{GivesAll}
+use Rattle.edr_spell.specs.Spell.{largest_trace}
 use Rattle.edr_fleet.specs.Frames.{BeginWithFrames, FitsFrame, frames}
 use Rattle.edr_fleet.specs.Text.{all_events, image_lines}
 use Rattle.edr_fleet.specs.declared.reading.FleetReading.{FleetReading}
@@ -31,6 +32,18 @@ pub record GaveFrames (bytes : List ℕ) (r : FleetReading) : Type 0 where
   pub some_worker : 1 ≤ r.workers
   pub few_images : r.images ≤ r.reported
   pub few_events : r.part.events ≤ 16 * r.images
+
+-- so many bytes may still be given
+abbrev pub MayGain : ℕ → FleetReading → Type 0
+MayGain n r = (bytes : List ℕ) × GaveFrames bytes r × (length bytes + n ≤ largest_trace + 1)
+
+-- these bytes were given after the others
+abbrev pub GainsFrames : List ℕ → FleetReading → FleetReading → Type 0
+GainsFrames piece old new = (bytes : List ℕ) → GaveFrames bytes old → GaveFrames (bytes ++ piece) new
+
+-- no more were given
+abbrev pub KeepsFrames : FleetReading → FleetReading → Type 0
+KeepsFrames old new = (bytes : List ℕ) → GaveFrames bytes old → GaveFrames bytes new
 
 -- the source gave all its bytes, up to the limit, and these were given to the reading
 abbrev pub HasAllFrames : ℕ → FleetReading → Option (List ℕ) → Option (List ℕ) → Type 0

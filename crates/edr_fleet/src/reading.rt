@@ -1,11 +1,10 @@
 //! The report of a fleet whose frames come piece by piece.
-ghost use Rattle.std.specs.Prelude.{◌≡◌, ◌+◌, ◌≤◌, ◌<◌, ◌^◌, ◌++◌, ℕ, List, [], drop, length, vec_len, All, IfOk, IfErr, OnOk};
+ghost use Rattle.std.specs.Prelude.{◌≡◌, ◌+◌, ◌≤◌, ◌<◌, ◌^◌, ℕ, List, [], drop, length, vec_len, All, IfOk, OnOk};
 ghost use Rattle.edr_spell.specs.Spell.{largest_trace};
-ghost use Rattle.edr_fleet.specs.declared.frames.FleetRefused.TheVariants as refused;
-ghost use Rattle.edr_fleet.specs.Frames.{AreFramesOf, EndsInFrameAt, FitsFrame, HasNoFrame};
+ghost use Rattle.edr_fleet.specs.Answers.{IsReportOf};
+ghost use Rattle.edr_fleet.specs.Frames.{FitsFrame, HasNoFrame};
 ghost use Rattle.edr_fleet.specs.Parts.{IsShareOf};
-ghost use Rattle.edr_fleet.specs.Reading.{GaveFrames, IsFrontOf};
-ghost use Rattle.edr_fleet.specs.Text.{IsFleetText};
+ghost use Rattle.edr_fleet.specs.Reading.{GainsFrames, GaveFrames, IsFrontOf, KeepsFrames, MayGain};
 
 use crate::frames::{FleetRefused, Framed, images_in};
 use crate::parts::{FleetPart, Turn, part_of, with_totals};
@@ -53,8 +52,8 @@ pub struct FleetReading {
 }
 
 impl FleetReading {
-    /// Nothing was given yet.
-    pub fn new(alloc: Global, workers: u8) -> FleetReading
+    // Nothing was given yet.
+    pub(crate) fn new(alloc: Global, workers: u8) -> FleetReading
         requires { (1 ≤ workers) × (workers ≤ 8) }
         ensures { GaveFrames [] result }
     {
@@ -109,10 +108,8 @@ impl FleetReading {
         rt: &R,
         turn: &P,
     ) -> Result<(), OutOfMemory>
-        requires { (bytes : List ℕ) × GaveFrames bytes self.old
-            × (length bytes ≤ largest_trace + 1) }
-        ensures given { OnOk result ((bytes : List ℕ) → GaveFrames bytes self.old
-            → GaveFrames bytes self.new) }
+        requires { MayGain 0 self.old }
+        ensures given { OnOk result (KeepsFrames self.old self.new) }
         ensures cut { OnOk result (HasNoFrame self.new.held.items) }
     {
         let front = self.front(rt, turn)?;
@@ -124,18 +121,16 @@ impl FleetReading {
         Ok(())
     }
 
-    /// Takes the bytes that come next, and reports whole frames once 4,194,304 bytes are held.
-    /// With an error memory ran out.
-    pub fn take<R: Threads + Sync, P: Turn + Sync>(
+    // Takes the bytes that come next, and reports whole frames once so many are held as a portion has.
+    // With an error memory ran out, and the reading is of no more use.
+    pub(crate) fn take<R: Threads + Sync, P: Turn + Sync>(
         &mut self,
         rt: &R,
         piece: &[u8],
         turn: &P,
     ) -> Result<(), OutOfMemory>
-        requires { (bytes : List ℕ) × GaveFrames bytes self.old
-            × (length bytes + length piece.now ≤ largest_trace + 1) }
-        ensures { OnOk result ((bytes : List ℕ) → GaveFrames bytes self.old
-            → GaveFrames (bytes ++ piece.now) self.new) }
+        requires { MayGain (length piece.now) self.old }
+        ensures { OnOk result (GainsFrames piece.now self.old self.new) }
     {
         self.held.extend_from_slice(piece)?;
         if self.held.len() < PORTION {
@@ -152,13 +147,7 @@ impl FleetReading {
         turn: &P,
     ) -> Result<Vec<u8>, FleetRefused>
         requires few { (bytes : List ℕ) × GaveFrames bytes self × (length bytes ≤ largest_trace) }
-        ensures text { (bytes : List ℕ) → GaveFrames bytes self
-            → IfOk result (λ out. IsFleetText bytes out.items) }
-        ensures whole { (bytes : List ℕ) (images : List (List ℕ)) → GaveFrames bytes self
-            → AreFramesOf images bytes → IfErr result (λ e. e ≡ refused.OutOfMemory) }
-        ensures cut { (bytes : List ℕ) → GaveFrames bytes self
-            → IfErr result (λ e. (offset : ℕ) → e ≡ refused.Truncated offset
-            → EndsInFrameAt offset bytes) }
+        ensures { (bytes : List ℕ) → GaveFrames bytes self → IsReportOf bytes result }
     {
         let mut reading = self;
         reading.report_held(rt, turn)?;

@@ -1,10 +1,10 @@
 //! The frames that a source gives.
-ghost use Rattle.std.specs.Prelude.{◌≡◌, ◌≢◌, ◌+◌, ◌≤◌, ◌++◌, ℕ, List, [], take, length, IfOk, OnErr};
+ghost use Rattle.std.specs.Prelude.{◌≡◌, ◌≢◌, ◌+◌, ◌≤◌, [], take, length, IfOk, OnErr};
 ghost use Rattle.edr_device.specs.Faults.{Rose};
 ghost use Rattle.edr_device.specs.Told.{Told};
 ghost use Rattle.edr_device.specs.Transfer.{Carries, GivesAtMost, GivesTooMany};
 ghost use Rattle.edr_spell.specs.Spell.{largest_trace};
-ghost use Rattle.edr_fleet.specs.Reading.{GaveFrames, HasAllFrames};
+ghost use Rattle.edr_fleet.specs.Reading.{GainsFrames, HasAllFrames, MayGain};
 
 use crate::parts::NoTurn;
 use crate::reading::FleetReading;
@@ -20,11 +20,9 @@ fn take_piece<R: Threads + Sync, S: Source>(
     reading: &mut FleetReading,
 ) -> Result<usize, TakeFault>
     requires some { 1 ≤ length buffer.old }
-    requires few { (bytes : List ℕ) × GaveFrames bytes reading.old
-        × (length bytes + length buffer.old ≤ largest_trace + 1) }
+    requires few { MayGain (length buffer.old) reading.old }
     ensures within { IfOk result (λ n. n ≤ length buffer.old) }
-    ensures gave { IfOk result (λ n. (bytes : List ℕ) → GaveFrames bytes reading.old
-        → GaveFrames (bytes ++ take n buffer.new) reading.new) }
+    ensures gave { IfOk result (λ n. GainsFrames (take n buffer.new) reading.old reading.new) }
     ensures carries { IfOk result (λ n. Told (Carries n [] (take n buffer.new))
         (S.left source.old) (S.left source.new)) }
     ensures err { OnErr result (Told (GivesAtMost (length buffer.old))

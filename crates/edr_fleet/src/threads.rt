@@ -1,10 +1,8 @@
 //! The report of a fleet by threads.
-ghost use Rattle.std.specs.Prelude.{◌≡◌, ◌+◌, ◌≤◌, ◌<◌, ◌^◌, ℕ, List, length, sum_by, flat_map, All, IsOk, IfOk, IfErr, OnOk};
+ghost use Rattle.std.specs.Prelude.{◌≡◌, ◌≤◌, ◌<◌, ◌^◌, length, sum_by, flat_map, All, IsOk, IfOk, OnOk};
 ghost use Rattle.edr_spell.specs.Spell.{largest_trace};
-ghost use Rattle.edr_fleet.specs.declared.frames.FleetRefused.TheVariants as refused;
-ghost use Rattle.edr_fleet.specs.Frames.{AreFramesOf, EndsInFrameAt, FitsFrame};
-ghost use Rattle.edr_fleet.specs.Parts.{IsShareOf, events_of, lines_of};
-ghost use Rattle.edr_fleet.specs.Text.{IsFleetText};
+ghost use Rattle.edr_fleet.specs.Answers.{IsReportOf};
+ghost use Rattle.edr_fleet.specs.Parts.{events_of, lines_of};
 
 use crate::frames::FleetRefused;
 use crate::parts::{FleetPart, Turn};
@@ -56,9 +54,7 @@ pub fn fleet<R: Threads + Sync, P: Turn + Sync>(
 ) -> Result<Vec<u8>, FleetRefused>
     requires workers { (1 ≤ workers) × (workers ≤ 8) }
     requires few { length bytes.now ≤ largest_trace }
-    ensures text { IfOk result (λ out. IsFleetText bytes.now out.items) }
-    ensures whole { (images : List (List ℕ)) → AreFramesOf images bytes.now → IfErr result (λ e. e ≡ refused.OutOfMemory) }
-    ensures cut { IfErr result (λ e. (offset : ℕ) → e ≡ refused.Truncated offset → EndsInFrameAt offset bytes.now) }
+    ensures { IsReportOf bytes.now result }
 {
     let mut reading = FleetReading::new(alloc, workers);
     reading.take(rt, bytes, turn)?;

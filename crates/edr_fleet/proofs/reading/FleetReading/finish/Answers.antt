@@ -11,25 +11,28 @@ overflow_cast-result g c =
     let gave = (c.in_ok-report_held.ensures {u = tt}).given bytes c.requires.few.1 in
     omega (arith, few_reported bytes c.report_held.new.self gave, c.requires.few.2)
 
-pub returns-then-not-is_empty-clause-whole : goal.returns-then-not-is_empty-clause-whole
-returns-then-not-is_empty-clause-whole g c =
+pub returns-then-not-is_empty : goal.returns-then-not-is_empty
+returns-then-not-is_empty g c =
     let r = c.report_held.new.self in
     let held = c.in_ok-report_held.ensures {u = tt} in
     let some : r.held.items ≡ [] → ⊥ = search rules in
-    λ bytes images gave are. absurd (never_both images r.reported bytes are (gave_cut bytes r (held.given bytes gave) held.cut some))
+    λ bytes gave.
+    let ends = gave_cut bytes r (held.given bytes gave) held.cut some in
+    record {
+      text = tt;
+      whole = λ images are. absurd (never_both images r.reported bytes are ends);
+      cut = λ offset is.
+          let same : r.reported ≡ offset = search rules in
+          subst (λ (n : ℕ). EndsInFrameAt n bytes) same ends;
+    }
 
-pub returns-then-not-is_empty-clause-cut : goal.returns-then-not-is_empty-clause-cut
-returns-then-not-is_empty-clause-cut g c =
-    let r = c.report_held.new.self in
-    let held = c.in_ok-report_held.ensures {u = tt} in
-    let some : r.held.items ≡ [] → ⊥ = search rules in
-    λ bytes gave offset is.
-    let same : r.reported ≡ offset = search rules in
-    subst (λ (n : ℕ). EndsInFrameAt n bytes) same (gave_cut bytes r (held.given bytes gave) held.cut some)
-
-pub returns-clause-text : goal.returns-clause-text
-returns-clause-text g c =
+pub returns : goal.returns
+returns g c =
     let r = c.report_held.new.self in
     let held = c.in_ok-report_held.ensures {u = tt} in
     let none : r.held.items ≡ [] = nil_from_length r.held.items (grind arith) in
-    λ bytes gave. gave_whole bytes _ r (held.given bytes gave) none (c.in_ok-with_totals.ensures {u = tt})
+    λ bytes gave. record {
+      text = gave_whole bytes _ r (held.given bytes gave) none (c.in_ok-with_totals.ensures {u = tt});
+      whole = λ images are. tt;
+      cut = tt;
+    }
