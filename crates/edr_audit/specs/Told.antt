@@ -1,9 +1,11 @@
 -- What becomes of walkers and branches where a text is told.
-use Rattle.std.specs.Prelude.{ℕ, List, flat_map, map}
+use Rattle.std.specs.Prelude.{◌≡◌, ℕ, List, Vec, flat_map, map}
+use Rattle.std.specs.declared.alloc.Global.{Global}
 use Rattle.edr_items.specs.SensorLists.{SensorLists}
 use Rattle.edr_record.specs.declared.Command.{Command}
 use Rattle.edr_definitions.specs.Commands.{Issue}
 use Rattle.edr_spell.specs.declared.CycleInput.{CycleInput}
+use Rattle.edr_audit.specs.declared.events.CycleIssues.{CycleIssues}
 use Rattle.edr_audit.specs.declared.walker.Telling.{Telling}
 use Rattle.edr_audit.specs.Branches.{BranchState, WalkerState, all_past, branches_after, stopped_branches, walker_next, walker_past, walker_through, walkers_of}
 
@@ -21,9 +23,9 @@ past_own t w i = walker_past t.report.now t.header t.place w i
 abbrev pub past_any : Telling → WalkerState → Issue → WalkerState
 past_any t w i = walker_next t.report.now t.header t.place w i
 
--- all of them past those of issues that are issued by a tick
-abbrev pub walkers_past : Telling → ℕ → List Issue → List WalkerState → List WalkerState
-walkers_past t horizon is ws = all_past t.report.now t.header t.place horizon is ws
+-- all of them took those of these issues that are issued by the cycle's horizon
+abbrev pub ArePast : List Issue → CycleIssues → Vec WalkerState Global → Vec WalkerState Global → Type 0
+ArePast is c old new = new.items ≡ all_past c.telling.report.now c.telling.header c.telling.place c.horizon is old.items
 
 -- all of them past the issues of a cycle
 abbrev pub walkers_through : Telling → SensorLists → List WalkerState → List WalkerState

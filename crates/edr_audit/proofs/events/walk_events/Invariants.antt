@@ -7,4 +7,4 @@ use Rattle.edr_audit.proofs.events.walk_events.Given as goal
 
 -- the walkers are past the events so far
 abbrev pub invariant-loop-event : goal.invariant-loop-event
-invariant-loop-event l = l.walkers.items ≡ all_past l.telling.report.now l.telling.header l.telling.place l.horizon (flat_map (λ e. issues_of l.feeds 1 (placed_of e)) (take l.event-index l.event-items)) l.fn.walkers.items
+invariant-loop-event l = l.walkers.items ≡ all_past l.issues.telling.report.now l.issues.telling.header l.issues.telling.place l.issues.horizon (flat_map (λ e. issues_of l.feeds 1 (placed_of e)) (take l.event-index l.event-items)) l.fn.walkers.items
