@@ -5,16 +5,18 @@
 
 ghost use Rattle.std.specs.Prelude.{◌≡◌, ◌≤◌, ◌<◌, ◌^◌};
 ghost use Rattle.edr_image.specs.declared.places.TheConstants.{MOST_BANKS};
-ghost use Rattle.edr_image.specs.Image.{image_size, place_by, place_of, size_by};
+ghost use Rattle.edr_image.specs.Image.{image_size, place_of, size_by};
 
 use edr_image::forms::{Layout, VERSION_2};
 
 mod bank;
+mod bank_number;
 mod front;
 mod old;
 mod writes;
 
 pub use crate::bank::bank_view;
+pub use crate::bank_number::BankNumber;
 pub use crate::front::{
     MAGIC, is_open, new_front, not_magic, older_slot, place_of_slot, read_count, read_header,
 };
@@ -27,16 +29,7 @@ pub use edr_image::forms::OLD_BANK_SIZE;
 pub use edr_image::places::{BANK_SIZE, FEWEST_BANKS, FRONT_SIZE, MOST_BANKS, OPEN_GATE};
 pub use edr_image::{Choice, Header, HeaderRefused};
 
-// Where a bank begins in an image of a layout.
-fn place_by(layout: &Layout, bank: u8) -> u32
-    requires few { layout.now.bank < 2 ^ 16 }
-    requires from { 1 ≤ bank }
-    ensures { result ≡ place_by layout.now bank }
-{
-    FRONT_SIZE as u32 + layout.bank as u32 * (u32::from(bank) - 1)
-}
-
-// How many bytes an image of a layout with so many banks has.
+// How many bytes an image of a layout with so many banks has. There begins the bank after these.
 fn size_by(layout: &Layout, banks: u8) -> u32
     requires few { layout.now.bank < 2 ^ 16 }
     ensures { result ≡ size_by layout.now banks }
@@ -50,7 +43,7 @@ pub fn place_of(bank: u8) -> u32
     requires to { bank ≤ MOST_BANKS }
     ensures { result ≡ place_of bank }
 {
-    place_by(&VERSION_2, bank)
+    size_by(&VERSION_2, bank - 1)
 }
 
 /// How many bytes an image with that many banks has.

@@ -5,7 +5,7 @@ ghost use Rattle.edr_image.specs.Image.{header_of, old_bank_view, old_header_ref
 
 use crate::bank::bank_view_by;
 use crate::front::read_header_by;
-use crate::{place_by, size_by};
+use crate::size_by;
 use edr_image::forms::{OLD_BANK_SIZE, VERSION_1};
 use edr_image::places::FRONT_SIZE;
 use edr_image::{BankView, Header, HeaderRefused};
@@ -25,7 +25,7 @@ pub fn old_place_of(bank: u8) -> u32
     requires to { bank ≤ OLD_MOST_BANKS }
     ensures { result ≡ old_place_of bank }
 {
-    place_by(&VERSION_1, bank)
+    size_by(&VERSION_1, bank - 1)
 }
 
 /// How many bytes an image of version 1 with that many banks has.

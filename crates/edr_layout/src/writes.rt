@@ -2,13 +2,13 @@
 ghost use Rattle.std.specs.Prelude.{◌≡◌, ◌+◌, ◌-◌, ◌≤◌, ◌<◌, ◌^◌, ◌++◌, [], ◌∷◌, replicate, if◌then◌else◌};
 ghost use Rattle.byteorder.specs.Endian.{big_number};
 ghost use Rattle.edr_record.specs.Bounds.{IsCrash, IsPre};
-ghost use Rattle.edr_image.specs.declared.places.TheConstants.{CRASH_PART, DONE_GATE, LOCK_GATE, MOST_BANKS, OPEN_GATE, PRE_PART, SLOT_COUNT, SLOT_SIZE};
+ghost use Rattle.edr_image.specs.declared.places.TheConstants.{CRASH_PART, DONE_GATE, LOCK_GATE, OPEN_GATE, PRE_PART, SLOT_COUNT, SLOT_SIZE};
 ghost use Rattle.edr_image.specs.Image.{place_of, writes_of};
 ghost use Rattle.edr_image.specs.PartBytes.{crash_bytes, pre_bytes};
 ghost use Rattle.edr_image.specs.Steps.{Done, Erase, Fill, Lock};
 ghost use Rattle.edr_layout.specs.Writes.{gated_writes, mark_writes};
 
-use crate::place_of;
+use crate::BankNumber;
 use byteorder::{BigEndian, ByteOrder};
 use edr_codec::{put_crash, put_pre};
 use edr_image::places::{
@@ -36,30 +36,26 @@ const FILLING: usize = PRE_PART - LOCK_GATE + PRE_SIZE;
 
 /// The write that makes a bank void.
 #[tactic(auto, unfolding(edr_image::specs::Image::writes_of))]
-pub fn erase_write(bank: u8) -> ByteWrite
-    requires from { 1 ≤ bank }
-    requires to { bank ≤ MOST_BANKS }
+pub fn erase_write(bank: BankNumber) -> ByteWrite
     ensures at { result.at ≡ place_of bank }
     ensures byte { result.byte ≡ 0 }
     ensures step { mark_writes result ≡ writes_of (Erase bank) }
 {
     ByteWrite {
-        at: place_of(bank),
+        at: bank.place(),
         byte: 0,
     }
 }
 
 /// The write that locks the event of a bank.
 #[tactic(auto, unfolding(edr_image::specs::Image::writes_of))]
-pub fn lock_write(bank: u8) -> ByteWrite
-    requires from { 1 ≤ bank }
-    requires to { bank ≤ MOST_BANKS }
+pub fn lock_write(bank: BankNumber) -> ByteWrite
     ensures at { result.at ≡ place_of bank + LOCK_GATE }
     ensures byte { result.byte ≡ OPEN_GATE }
     ensures step { mark_writes result ≡ writes_of (Lock bank) }
 {
     ByteWrite {
-        at: place_of(bank) + LOCK_GATE as u32,
+        at: bank.place() + LOCK_GATE as u32,
         byte: OPEN_GATE,
     }
 }
@@ -80,16 +76,14 @@ fn filling(pre: &Pre) -> [u8; FILLING]
 
 /// The writes that put an event's pre part into a void bank, neither locked nor done.
 #[tactic(auto, unfolding(edr_image::specs::Image::writes_of))]
-pub fn fill_writes(bank: u8, pre: &Pre) -> Gated<FILLING>
-    requires from { 1 ≤ bank }
-    requires to { bank ≤ MOST_BANKS }
+pub fn fill_writes(bank: BankNumber, pre: &Pre) -> Gated<FILLING>
     ensures at { result.at ≡ place_of bank + LOCK_GATE }
     ensures piece { result.piece ≡ replicate (PRE_PART - LOCK_GATE) 0 ++ pre_bytes pre.now }
     ensures gate { result.gate ≡ place_of bank }
     ensures step { gated_writes result ≡ writes_of (Fill bank pre.now) }
     ensures within { IsPre pre.now }
 {
-    let at = place_of(bank);
+    let at = bank.place();
     Gated {
         at: at + LOCK_GATE as u32,
         piece: filling(pre),
@@ -111,16 +105,14 @@ fn ending(crash: &Crash) -> [u8; CRASH_SIZE]
 
 /// The writes that put an event's crash part beside its pre part.
 #[tactic(auto, unfolding(edr_image::specs::Image::writes_of))]
-pub fn done_writes(bank: u8, crash: &Crash) -> Gated<CRASH_SIZE>
-    requires from { 1 ≤ bank }
-    requires to { bank ≤ MOST_BANKS }
+pub fn done_writes(bank: BankNumber, crash: &Crash) -> Gated<CRASH_SIZE>
     ensures at { result.at ≡ place_of bank + CRASH_PART }
     ensures piece { result.piece ≡ crash_bytes crash.now }
     ensures gate { result.gate ≡ place_of bank + DONE_GATE }
     ensures step { gated_writes result ≡ writes_of (Done bank crash.now) }
     ensures within { IsCrash crash.now }
 {
-    let at = place_of(bank);
+    let at = bank.place();
     Gated {
         at: at + CRASH_PART as u32,
         piece: ending(crash),
