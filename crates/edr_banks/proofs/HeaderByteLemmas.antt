@@ -12,7 +12,7 @@ use Rattle.edr_image.specs.declared.forms.TheConstants.{VERSION_2}
 use Rattle.edr_image.specs.declared.HeaderRefused.TheVariants as refused
 use Rattle.edr_image.specs.declared.OpenFault.TheVariants as open_fault
 use Rattle.edr_image.specs.declared.BankView.{BankView}
-use Rattle.edr_image.specs.declared.places.TheConstants.{FEWEST_BANKS, MOST_BANKS}
+use Rattle.edr_image.specs.declared.places.TheConstants.{FEWEST_BANKS}
 use Rattle.edr_image.specs.PartBytes.{number_at}
 use Rattle.edr_image.specs.Image.{View, bank_view, banks_of, count_of, header_of, image_refusal, magic, not_magic, place_of, slot_count, store_of, view_of, header_refusal_by, image_refusal_by, view_by}
 use Rattle.edr_gates.proofs.MatchingLemmas.{Match, match_at}

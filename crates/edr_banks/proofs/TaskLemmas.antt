@@ -1,7 +1,8 @@
 -- The steps of a command may be taken on opened banks, and leave them opened.
 use Rattle.std.proofs.Common.{◌≡◌, ◌≤◌, ◌<◌, ◌+◌, ◌-◌, ◌∙◌, cond, ℕ, zero, suc, Bool, true, false, not, List, [], ◌∷◌, length, Option, Some, None, refl, sym, ap, arith}
-use Rattle.std.specs.Prelude.{slice_get, slice_set, slice_index_or}
+use Rattle.std.specs.Prelude.{All, slice_get, slice_set, slice_index_or}
 use Rattle.std.proofs.lemmas.List.{length-set}
+use Rattle.std.proofs.lemmas.List.Elements.{All-cons, All-nil}
 use Rattle.std.proofs.lemmas.Option.{slice_get_within}
 use Rattle.edr_record.specs.Parts.{PrePart, CrashPart}
 use Rattle.edr_record.specs.declared.Record.{Record}
@@ -13,14 +14,12 @@ use Rattle.edr_image.specs.declared.Choice.TheVariants.{Keep, Overwrite}
 use Rattle.edr_image.specs.declared.BankView.{BankView}
 use Rattle.edr_image.specs.declared.BankView.TheVariants.{Void, Event}
 use Rattle.edr_image.specs.Banks.{bank_at, is_unlocked, least_unlocked, lowest_void, to_overwrite, with_bank}
-use Rattle.edr_image.specs.Steps.{Lock, Reply, done_reply, lock_reply, new_record, not_kept, reply_to, take_reply, with_lock}
+use Rattle.edr_image.specs.Steps.{BankStep, Done, Erase, Fill, Lock, Reply, banks_after, done_reply, lock_reply, new_record, not_kept, reply_to, take_reply, with_crash, with_lock}
 use Rattle.edr_image.proofs.StepLaws.{get_set_here, least_unlocked-is, lowest_void-is, place_holds}
-use Rattle.edr_gates.specs.Taken.{BankHolds, MayTakeAll}
+use Rattle.edr_gates.specs.Taken.{BankHolds, MayTake, MayTakeAll}
 use Rattle.edr_banks.specs.Opened.{IsOpened, OpenedBanks}
 use Rattle.edr_banks.specs.Applying.{reply_of}
-use Rattle.edr_banks.specs.Tasks.{IsBankWithin, steps_of}
-use Rattle.edr_banks.specs.declared.tasks.Task.{Task}
-use Rattle.edr_banks.specs.declared.tasks.Task.TheVariants as task
+use Rattle.edr_banks.specs.Tasks.{IsStepWithin}
 
 -- ---- which steps may be taken
 
@@ -85,18 +84,27 @@ reply_may o (command.Take pre) is = take_may o.store.banks pre (lowest_void o.st
 reply_may o (command.Lock pre) is = lock_may o.store.banks pre o.held (least_unlocked o.store.banks) (λ m e. let h = held_holds o m is e in (h.0, h.1)) (older_holds o.store.banks)
 reply_may o (command.Done crash) is = done_may o.store.banks crash o.held (λ m e. held_holds o m is e)
 
--- ---- the bank of a task is there
+-- ---- the bank of a step is there
 
 holds_within : (banks : List BankView) (n m : ℕ) (view : BankView) → length banks ≡ n → BankHolds banks m view → (1 ≤ m) × (m ≤ n)
 holds_within banks n m view long h = let below = slice_get_within banks (m - 1) view h.1 in (h.0, omega (arith, long, below, h.0))
 
-pub task_within : (t : Task) (banks : List BankView) (n : ℕ) → length banks ≡ n → MayTakeAll banks (steps_of t) → IsBankWithin n t
-task_within task.Nothing banks n long may = tt
-task_within (task.Fill m pre) banks n long may = holds_within banks n m Void long may.0
-task_within (task.Replace m pre) banks n long may = holds_within banks n m (Event may.0.0) long may.0.1
-task_within (task.Lock m) banks n long may = holds_within banks n m (Event may.0.0) long may.0.1
-task_within (task.ReplaceLocked m pre) banks n long may = holds_within banks n m (Event may.0.0) long may.0.1
-task_within (task.Finish m crash) banks n long may = holds_within banks n m (Event may.0.0) long may.0.1
+step_within : (s : BankStep) (banks : List BankView) (n : ℕ) → length banks ≡ n → MayTake banks s → IsStepWithin n s
+step_within (Erase m) banks n long may = holds_within banks n m (Event may.0) long may.1
+step_within (Fill m pre) banks n long may = holds_within banks n m Void long may
+step_within (Lock m) banks n long may = holds_within banks n m (Event may.0) long may.1
+step_within (Done m crash) banks n long may = holds_within banks n m (Event may.0) long may.1
+
+as_many : (s : BankStep) (banks : List BankView) → length (banks_after banks s) ≡ length banks
+as_many (Erase m) banks = length-set banks (m - 1) Void
+as_many (Fill m pre) banks = length-set banks (m - 1) (Event (new_record pre))
+as_many (Lock m) banks = length-set banks (m - 1) (with_lock (bank_at banks m))
+as_many (Done m crash) banks = length-set banks (m - 1) (with_crash crash (bank_at banks m))
+
+pub steps_within : (steps : List BankStep) (banks : List BankView) (n : ℕ) → length banks ≡ n → MayTakeAll banks steps → All (IsStepWithin n) steps
+steps_within [] banks n long may = All-nil (IsStepWithin n)
+steps_within (s ∷ steps) banks n long may =
+    All-cons (IsStepWithin n) s steps (step_within s banks n long may.0) (steps_within steps (banks_after banks s) n (as_many s banks ∙ long) may.1)
 
 -- ---- what they leave
 

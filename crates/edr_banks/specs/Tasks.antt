@@ -1,7 +1,8 @@
 -- The steps of a task, and its answer.
-use Rattle.std.specs.Prelude.{◌≤◌, ℕ, List, [], ◌∷◌}
+use Rattle.std.specs.Prelude.{◌≤◌, ℕ, List, [], ◌∷◌, All}
 use Rattle.edr_image.specs.declared.Applied.TheVariants as applied
 use Rattle.edr_image.specs.Steps.{BankStep, Erase, Fill, Lock, Done, Reply, not_kept}
+use Rattle.edr_gates.specs.Taken.{bank_of}
 use Rattle.edr_banks.specs.declared.tasks.Task.{Task}
 use Rattle.edr_banks.specs.declared.tasks.Task.TheVariants as task
 
@@ -16,11 +17,10 @@ reply_for (task.Finish m crash) = record { steps = Done m crash ∷ []; answer =
 abbrev pub steps_of : Task → List BankStep
 steps_of t = (reply_for t).steps
 
--- the bank of the task is one of so many banks
+-- the bank of the step is one of so many banks
+abbrev pub IsStepWithin : ℕ → BankStep → Type 0
+IsStepWithin banks s = (1 ≤ bank_of s) × (bank_of s ≤ banks)
+
+-- so is the bank of each step of the task
 abbrev pub IsBankWithin : ℕ → Task → Type 0
-IsBankWithin banks task.Nothing = Unit {0}
-IsBankWithin banks (task.Fill m pre) = (1 ≤ m) × (m ≤ banks)
-IsBankWithin banks (task.Replace m pre) = (1 ≤ m) × (m ≤ banks)
-IsBankWithin banks (task.Lock m) = (1 ≤ m) × (m ≤ banks)
-IsBankWithin banks (task.ReplaceLocked m pre) = (1 ≤ m) × (m ≤ banks)
-IsBankWithin banks (task.Finish m crash) = (1 ≤ m) × (m ≤ banks)
+IsBankWithin banks t = All (IsStepWithin banks) (steps_of t)

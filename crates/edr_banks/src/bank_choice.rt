@@ -5,6 +5,7 @@ ghost use Rattle.edr_image.specs.declared.places.TheConstants.{MOST_BANKS};
 ghost use Rattle.edr_image.specs.Banks.{comes_before, is_void, least_unlocked, lowest_void};
 
 use crate::BankView;
+use edr_layout::BankNumber;
 use edr_record::Record;
 
 /// Key order: by cycle, then time zero, then bank number.
@@ -26,11 +27,11 @@ fn first_void(banks: &[BankView]) -> Option<usize>
 
 /// The lowest void bank.
 #[tactic(auto, using(crate::proofs::KeyOrderLemmas::lowest_void_is), unfolding(edr_image::specs::Banks::lowest_void))]
-pub(crate) fn lowest_void(banks: &[BankView]) -> Option<u8>
+pub(crate) fn lowest_void(banks: &[BankView]) -> Option<BankNumber>
     requires { length banks.now ≤ MOST_BANKS }
     ensures { result ≡ lowest_void banks.now }
 {
-    first_void(banks).map(|place| place as u8 + 1)
+    first_void(banks).map(|place| BankNumber::from_index(place as u8))
 }
 
 // The event isn't locked, and comes before the other, if there is one.
@@ -40,9 +41,9 @@ fn is_lesser(bank: u8, event: &Record, other: Option<(u8, &Record)>) -> bool
     !event.locked && other.is_none_or(|(m, later)| comes_before(bank, event, m, later))
 }
 
-/// The unlocked event bank of least key.
+// The number of the unlocked event bank of least key.
 #[tactic(auto, using(crate::proofs::LeastKeyLemmas::least_more), unfolding(edr_image::specs::Banks::least_unlocked, edr_image::specs::Banks::events))]
-pub(crate) fn least_unlocked(banks: &[BankView]) -> Option<u8>
+fn least_number(banks: &[BankView]) -> Option<u8>
     requires { length banks.now ≤ MOST_BANKS }
     ensures { result ≡ least_unlocked banks.now }
 {
@@ -56,4 +57,14 @@ pub(crate) fn least_unlocked(banks: &[BankView]) -> Option<u8>
         }
     }
     least.map(|event| event.0)
+}
+
+/// The unlocked event bank of least key.
+#[tactic(auto, using(crate::proofs::KeyOrderLemmas::least_is_number))]
+pub(crate) fn least_unlocked(banks: &[BankView]) -> Option<BankNumber>
+    requires { length banks.now ≤ MOST_BANKS }
+    ensures { result ≡ least_unlocked banks.now }
+{
+    let number = least_number(banks)?;
+    Some(BankNumber::from_index(number - 1))
 }

@@ -3,7 +3,7 @@ ghost use Rattle.std.specs.Prelude.{◌≡◌, ◌+◌, ◌≤◌, ℕ, List, sl
 ghost use Rattle.edr_image.specs.declared.places.TheConstants.{BANK_SIZE, FRONT_SIZE};
 ghost use Rattle.edr_image.specs.Image.{place_of};
 
-use edr_layout::{BANK_SIZE, FRONT_SIZE};
+use edr_layout::{BANK_SIZE, BankNumber, FRONT_SIZE};
 
 /// What is laid over a device: what stands before the banks, and each bank.
 pub trait Image {
@@ -25,10 +25,9 @@ pub trait Image {
         requires { is_told self.now }
         ensures { result ≡ take FRONT_SIZE (bytes self.now) };
 
-    /// The bytes of a bank. Banks are numbered from 1.
-    fn bank(&self, bank: u8) -> [u8; BANK_SIZE]
+    /// The bytes of a bank.
+    fn bank(&self, bank: BankNumber) -> [u8; BANK_SIZE]
         requires told { is_told self.now }
-        requires from { 1 ≤ bank }
         requires to { bank ≤ bank_count self.now }
         ensures { result ≡ slice_range (bytes self.now) (place_of bank) (place_of bank + BANK_SIZE) };
 }

@@ -10,20 +10,20 @@ ghost use Rattle.edr_banks.specs.Opening.{IsRefusal, RefusesRightly, TellsView, 
 
 use crate::{BankView, Banks, Header, OpenFault};
 use edr_device::{Failed, Nvm};
-use edr_layout::{BANK_SIZE, FRONT_SIZE, bank_view, image_size, place_of, read_count, read_header};
+use edr_layout::{
+    BANK_SIZE, BankNumber, FRONT_SIZE, bank_view, image_size, read_count, read_header,
+};
 use std::alloc::Global;
 
 // What a bank of the device holds.
-fn read_bank<N: Nvm>(nvm: &mut N, bank: u8) -> Result<BankView, Failed>
-    requires from { 1 ≤ bank }
-    requires to { bank ≤ MOST_BANKS }
-    requires room { place_of bank + BANK_SIZE ≤ N.extent nvm.old }
+fn read_bank<N: Nvm>(nvm: &mut N, bank: BankNumber) -> Result<BankView, Failed>
+    requires { place_of bank + BANK_SIZE ≤ N.extent nvm.old }
     ensures view { IfOk result (λ v. ForSome (N.content nvm.old) (λ bytes. v ≡ bank_in bank bytes)) }
     ensures read { OnlyRead N.Nvm nvm.old nvm.new }
     ensures cause { HasCause (N.faults nvm.old) (N.faults nvm.new) result }
 {
     let mut bytes = [0; BANK_SIZE];
-    nvm.read(place_of(bank), &mut bytes)?;
+    nvm.read(bank.place(), &mut bytes)?;
     Ok(bank_view(&bytes))
 }
 
@@ -41,7 +41,7 @@ fn read_banks<N: Nvm>(alloc: Global, nvm: &mut N, count: u8) -> Result<Vec<BankV
         return Err(OpenFault::OutOfMemory);
     };
     for k in 0..count {
-        let Ok(view) = read_bank(nvm, k + 1) else {
+        let Ok(view) = read_bank(nvm, BankNumber::from_index(k)) else {
             return Err(OpenFault::StoreFault);
         };
         banks.push_reserved(view);

@@ -10,6 +10,7 @@ ghost use Rattle.edr_image.specs.declared.places.TheConstants.{MOST_BANKS};
 ghost use Rattle.edr_image.specs.Banks.{bank_at};
 
 use edr_device::Failed;
+use edr_layout::BankNumber;
 use std::marker::Model;
 
 mod bank_choice;
@@ -67,7 +68,7 @@ pub struct Banks {
     // The count of cycles that the image had.
     count: u32,
     // The bank of the event that is taken and not done.
-    held: Option<u8>,
+    held: Option<BankNumber>,
     // A command has met a fault of the device.
     ended: bool,
 }

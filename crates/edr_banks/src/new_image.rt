@@ -8,7 +8,7 @@ use crate::image::Image;
 use crate::overlay::lay;
 use crate::{Banks, Choice, FormatFault, Header};
 use edr_device::Nvm;
-use edr_layout::{BANK_SIZE, FRONT_SIZE, new_front};
+use edr_layout::{BANK_SIZE, BankNumber, FRONT_SIZE, new_front};
 
 // The image of a header with void banks.
 #[derive(Drop)]
@@ -31,7 +31,9 @@ impl Image for NewImage {
         new_front(self.header)
     }
 
-    fn bank(&self, _: u8) -> [u8; BANK_SIZE] {
+    fn bank(&self, bank: BankNumber) -> [u8; BANK_SIZE] {
+        // The proof learns here that the banks begin with 1.
+        let _ = bank.get();
         [0; BANK_SIZE]
     }
 }

@@ -8,7 +8,7 @@ ghost use Rattle.edr_banks.specs.Laying.{AllFilled, AllLaid, AllOver, BareMeanwh
 use crate::FormatFault;
 use crate::image::Image;
 use edr_device::{Failed, Nvm, write_settled};
-use edr_layout::{MAGIC, image_size, not_magic, place_of};
+use edr_layout::{BankNumber, MAGIC, image_size, not_magic};
 
 // Puts another byte over the first of the magic.
 fn unmark<N: Nvm>(nvm: &mut N, first: u8) -> Result<(), Failed>
@@ -34,9 +34,10 @@ fn lay_image<N: Nvm, I: Image>(nvm: &mut N, image: &I) -> Result<(), Failed>
 {
     let front = image.front();
     nvm.write(1, &front[1..])?;
-    for bank in 0..image.banks() {
-        let piece = image.bank(bank + 1);
-        nvm.write(place_of(bank + 1), &piece)?;
+    for k in 0..image.banks() {
+        let bank = BankNumber::from_index(k);
+        let piece = image.bank(bank);
+        nvm.write(bank.place(), &piece)?;
     }
     Ok(())
 }

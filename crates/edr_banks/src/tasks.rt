@@ -9,6 +9,7 @@ ghost use Rattle.edr_banks.specs.Tasks.{IsBankWithin, reply_for, steps_of};
 
 use crate::bank_choice::{least_unlocked, lowest_void};
 use crate::{Applied, BankView, Banks, Choice, Command};
+use edr_layout::BankNumber;
 use edr_record::{Crash, Pre, Record};
 
 /// The steps of a command, each in the same bank.
@@ -17,15 +18,15 @@ pub(crate) enum Task {
     /// None.
     Nothing,
     /// A new event in a void bank.
-    Fill { bank: u8, pre: Pre },
+    Fill { bank: BankNumber, pre: Pre },
     /// A new event in the place of an older one.
-    Replace { bank: u8, pre: Pre },
+    Replace { bank: BankNumber, pre: Pre },
     /// The lock of the event that is held.
-    Lock { bank: u8 },
+    Lock { bank: BankNumber },
     /// A new event that is locked, in the place of an older one.
-    ReplaceLocked { bank: u8, pre: Pre },
+    ReplaceLocked { bank: BankNumber, pre: Pre },
     /// The crash part of the event that is held.
-    Finish { bank: u8, crash: Crash },
+    Finish { bank: BankNumber, crash: Crash },
 }
 
 // Whether a bank holds an event that may be locked.
@@ -64,7 +65,7 @@ fn with_crash(crash: Crash, view: BankView) -> BankView
 
 impl Banks {
     // The bank that a new event may take from an older one.
-    fn to_overwrite(&self) -> Option<u8>
+    fn to_overwrite(&self) -> Option<BankNumber>
         ensures { result ≡ to_overwrite self.now.store.header.choice self.now.store.banks }
     {
         match self.header.choice {
@@ -89,7 +90,7 @@ impl Banks {
         ensures { reply_for result ≡ lock_reply pre.now self.now.store.banks self.now.held (least_unlocked self.now.store.banks) }
     {
         match self.held {
-            Some(bank) if is_unlocked(&self.banks[bank as usize - 1]) => Task::Lock { bank },
+            Some(bank) if is_unlocked(&self.banks[bank.index()]) => Task::Lock { bank },
             Some(_) => Task::Nothing,
             None => match least_unlocked(&self.banks) {
                 Some(bank) => Task::ReplaceLocked { bank, pre: *pre },
@@ -136,12 +137,12 @@ impl Banks {
     }
 
     // The bank holds a new event, which is the open one.
-    fn hold(&mut self, bank: u8, pre: Pre, locked: bool)
-        requires from { 1 ≤ bank }
-        requires to { bank ≤ self.old.store.header.banks }
+    fn hold(&mut self, bank: BankNumber, pre: Pre, locked: bool)
+        requires { bank ≤ self.old.store.header.banks }
         ensures { self.new ≡ with_held_event bank pre locked self.old }
     {
-        self.banks[bank as usize - 1] = BankView::Event(Record {
+        let place = bank.index();
+        self.banks[place] = BankView::Event(Record {
             pre,
             locked,
             crash: None,
@@ -150,22 +151,20 @@ impl Banks {
     }
 
     // The event of the bank is locked.
-    fn lock(&mut self, bank: u8)
-        requires from { 1 ≤ bank }
-        requires to { bank ≤ self.old.store.header.banks }
+    fn lock(&mut self, bank: BankNumber)
+        requires { bank ≤ self.old.store.header.banks }
         ensures { self.new ≡ opened_after self.old (Lock bank ∷ []) }
     {
-        let place = bank as usize - 1;
+        let place = bank.index();
         self.banks[place] = with_lock(self.banks[place]);
     }
 
     // The event of the bank is done, and none is open.
-    fn finish(&mut self, bank: u8, crash: Crash)
-        requires from { 1 ≤ bank }
-        requires to { bank ≤ self.old.store.header.banks }
+    fn finish(&mut self, bank: BankNumber, crash: Crash)
+        requires { bank ≤ self.old.store.header.banks }
         ensures { self.new ≡ opened_after self.old (Done bank crash ∷ []) }
     {
-        let place = bank as usize - 1;
+        let place = bank.index();
         self.banks[place] = with_crash(crash, self.banks[place]);
         self.held = None;
     }
@@ -193,9 +192,13 @@ impl Task {
     {
         match *self {
             Task::Nothing => Applied::NotKept,
-            Task::Fill { bank, .. } | Task::Replace { bank, .. } => Applied::Kept { bank },
-            Task::Lock { bank } | Task::ReplaceLocked { bank, .. } => Applied::Locked { bank },
-            Task::Finish { bank, .. } => Applied::Done { bank },
+            Task::Fill { bank, .. } | Task::Replace { bank, .. } => Applied::Kept {
+                bank: bank.get(),
+            },
+            Task::Lock { bank } | Task::ReplaceLocked { bank, .. } => Applied::Locked {
+                bank: bank.get(),
+            },
+            Task::Finish { bank, .. } => Applied::Done { bank: bank.get() },
         }
     }
 }

@@ -8,4 +8,4 @@ use Rattle.edr_banks.proofs.Banks.hold.Goals as goal
 pub invariant_of-self : goal.invariant_of-self
 invariant_of-self c =
     let number : c.self.inside.header.banks ≡ c.args.self.now.store.header.banks = ap (λ (o : OpenedBanks). o.store.header.banks) c.self.view_is in
-    hold_still (opened_of c.self.inside) c.args.bank (record { pre = c.args.pre; locked = c.args.locked; crash = None }) c.self.invariant c.requires.from (omega (arith, number, c.requires.to)) refl
+    rw c.index-place.ensures.index (hold_still (opened_of c.self.inside) c.args.bank (record { pre = c.args.pre; locked = c.args.locked; crash = None }) c.self.invariant c.index-place.ensures.number.0 (omega (arith, number, c.requires)) refl)

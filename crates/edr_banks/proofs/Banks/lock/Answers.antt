@@ -15,7 +15,7 @@ pub invariant_of-self : goal.invariant_of-self
 invariant_of-self c =
     let o = opened_of c.self.inside in
     let number : c.self.inside.header.banks ≡ c.args.self.now.store.header.banks = ap (λ (o : OpenedBanks). o.store.header.banks) c.self.view_is in
-    let below : c.args.bank - 1 < length c.self.inside.banks.items = omega (arith, number, c.requires.from, c.requires.to, c.self.invariant.all) in
-    let there = get_or_read c.self.inside.banks.items (c.args.bank - 1) c.index.result.now below c.index.ensures Void in
+    let below : c.args.bank - 1 < length c.self.inside.banks.items = omega (arith, number, c.index-place.ensures.number.0, c.requires, c.self.invariant.all) in
+    let there = get_or_read c.self.inside.banks.items (c.args.bank - 1) c.index.result.now below (rw c.index-place.ensures.index at c.index.ensures) Void in
     let is : c.with_lock.result ≡ with_lock (bank_at c.self.inside.banks.items c.args.bank) = c.with_lock.ensures ∙ ap with_lock there in
-    subst (λ (view : BankView). IsOpened (record o { store = record o.store { banks = slice_set o.store.banks (c.args.bank - 1) view } })) (sym is) (lock_still o c.args.bank c.self.invariant)
+    rw c.index-place.ensures.index (subst (λ (view : BankView). IsOpened (record o { store = record o.store { banks = slice_set o.store.banks (c.args.bank - 1) view } })) (sym is) (lock_still o c.args.bank c.self.invariant))

@@ -1,6 +1,7 @@
 -- One bank more was read, and nothing was changed.
-use Rattle.std.proofs.Common.{◌∙◌, arith}
+use Rattle.std.proofs.Common.{◌∙◌, ap, arith, ℕ}
 use Rattle.std.proofs.lemmas.Grind.{common_steps}
+use Rattle.edr_banks.specs.Opening.{bank_in}
 use Rattle.edr_banks.proofs.HeaderByteLemmas.{banks_more, stays_again}
 use Rattle.edr_banks.proofs.image_reader.read_banks.Goals as goal
 
@@ -13,7 +14,7 @@ loop-k-preserved g c =
     record {
       views = λ bytes told.
           banks_more c.loop-k.k bytes c.loop-k.banks.items c.push_reserved.new.self.items c.in-Ok-read_bank.view (c.loop-k.invariant.views bytes told)
-          (c.in-Ok-read_bank.ensures.view bytes (c.loop-k.invariant.stays.same_content ∙ told)) c.push_reserved.ensures.items;
+          (c.in-Ok-read_bank.ensures.view bytes (c.loop-k.invariant.stays.same_content ∙ told) ∙ ap (λ (m : ℕ). bank_in m bytes) c.from_index.ensures) c.push_reserved.ensures.items;
       all = grind (arith, common_steps);
       room = c.push_reserved.ensures.capacity ∙ c.loop-k.invariant.room;
       faults = omega (arith, c.loop-k.invariant.faults, c.read_bank.ensures.cause.later);

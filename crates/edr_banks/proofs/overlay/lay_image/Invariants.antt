@@ -5,8 +5,8 @@ use Rattle.edr_banks.specs.Laying.{IsBare, IsUnmarked, Laid}
 use Rattle.edr_banks.proofs.overlay.lay_image.Given as goal
 
 -- the banks so far stand
-abbrev pub invariant-loop-bank : goal.invariant-loop-bank
-invariant-loop-bank g l =
+abbrev pub invariant-loop-k : goal.invariant-loop-k
+invariant-loop-k g l =
     let D = g.N.Nvm in
     let full = image_size (g.I.Image.bank_count l.fn.image) in
     record {
@@ -15,6 +15,6 @@ invariant-loop-bank g l =
       device : D.goes_on l.fn.nvm l.nvm;
       tells : StillTells (D.content l.fn.nvm) (D.content l.nvm);
       later : D.clock l.fn.nvm ≤ D.clock l.nvm;
-      laid : (bytes : List ℕ) → IsBare (D.content l.fn.nvm) (D.settled l.fn.nvm) bytes → Laid full (g.I.Image.bytes l.fn.image) (image_size l.bank) bytes (D.content l.nvm) (D.settled l.nvm);
+      laid : (bytes : List ℕ) → IsBare (D.content l.fn.nvm) (D.settled l.fn.nvm) bytes → Laid full (g.I.Image.bytes l.fn.image) (image_size l.k) bytes (D.content l.nvm) (D.settled l.nvm);
       moments : (bytes : List ℕ) → IsBare (D.content l.fn.nvm) (D.settled l.fn.nvm) bytes → Elapses (D.clock l.fn.nvm) (D.since l.fn.nvm) (D.since l.nvm) (IsUnmarked full bytes);
     }

@@ -2,7 +2,7 @@
 use Rattle.std.proofs.Common.{◌∙◌, sym, arith}
 use Rattle.edr_banks.specs.Lesser.{referred_event}
 use Rattle.edr_banks.proofs.LeastKeyLemmas.{least_left, least_taken}
-use Rattle.edr_banks.proofs.bank_choice.least_unlocked.Goals as goal
+use Rattle.edr_banks.proofs.bank_choice.least_number.Goals as goal
 
 pub loop-k-preserved-then-is_lesser : goal.loop-k-preserved-then-is_lesser
 loop-k-preserved-then-is_lesser c =
