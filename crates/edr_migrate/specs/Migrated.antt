@@ -1,5 +1,5 @@
 -- What a migration keeps of an image of version 1.
-use Rattle.std.specs.Prelude.{◌≡◌, ◌≢◌, ℕ, Bool, true, false, Some, List, map, count_by, slice_get}
+use Rattle.std.specs.Prelude.{◌≡◌, ◌≢◌, ℕ, Bool, Some, List, map, count_by, slice_get}
 use Rattle.edr_record.specs.declared.Profile.TheVariants.{Short}
 use Rattle.edr_record.specs.declared.Record.{Record}
 use Rattle.edr_record.specs.Parts.{PrePart}

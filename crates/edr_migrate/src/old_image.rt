@@ -13,8 +13,8 @@ use crate::new_bytes::{bank_bytes, front_bytes};
 use edr_banks::Image;
 use edr_image::{BankView, Header, OldRefused};
 use edr_layout::{
-    BANK_SIZE, FRONT_SIZE, OLD_BANK_SIZE, old_bank_view, old_image_size, old_place_of, read_count,
-    read_old_header,
+    BANK_SIZE, BankNumber, FRONT_SIZE, OLD_BANK_SIZE, old_bank_view, old_image_size, old_place_of,
+    read_count, read_old_header,
 };
 
 /// An image of version 1 without damaged banks, as what is laid over a device.
@@ -40,13 +40,11 @@ impl<'a> OldImage<'a> {
 }
 
 // What a bank of an image of version 1 holds.
-fn view_at(old: &[u8], bank: u8) -> BankView
-    requires from { 1 ≤ bank }
-    requires to { bank ≤ OLD_MOST_BANKS }
-    requires fits { old_image_size bank ≤ length old.now }
+fn view_at(old: &[u8], bank: BankNumber) -> BankView
+    requires { old_image_size bank ≤ length old.now }
     ensures { result ≡ old_bank_view (slice_range old.now (old_place_of bank) (old_place_of bank + OLD_BANK_SIZE)) }
 {
-    let place = old_place_of(bank) as usize;
+    let place = old_place_of(bank.get()) as usize;
     let mut bytes = [0; OLD_BANK_SIZE];
     bytes.copy_from_slice(&old[place..place + OLD_BANK_SIZE]);
     old_bank_view(&bytes)
@@ -61,14 +59,14 @@ fn count_events(old: &[u8], banks: u8) -> Result<u8, OldRefused>
     ensures refused { IfErr result (λ e. old_banks_refusal 1 (old_banks_of banks old.now) ≡ Some e) }
 {
     let mut events = 0;
-    for bank in 0..banks {
-        match view_at(old, bank + 1) {
+    for k in 0..banks {
+        let bank = BankNumber::from_index(k);
+        match view_at(old, bank) {
             BankView::Void => {}
             BankView::Event(_) => events += 1,
             BankView::Damaged { offset, found, .. } => {
-                let bank = bank + 1;
                 return Err(OldRefused::Bank {
-                    bank,
+                    bank: bank.get(),
                     offset,
                     found,
                 });
@@ -127,7 +125,9 @@ impl<'a> Image for OldImage<'a> {
         front_bytes(self.header, self.count)
     }
 
-    fn bank(&self, bank: u8) -> [u8; BANK_SIZE] {
+    fn bank(&self, bank: BankNumber) -> [u8; BANK_SIZE] {
+        // The proof learns here that the banks begin with 1.
+        let _ = bank.get();
         bank_bytes(&view_at(self.bytes, bank))
     }
 }

@@ -5,9 +5,9 @@ use Rattle.edr_image.specs.Banks.{holds_event}
 use Rattle.edr_migrate.proofs.old_image.count_events.Given as goal
 
 -- the banks so far hold these events, and none is damaged
-abbrev pub invariant-loop-bank : goal.invariant-loop-bank
-invariant-loop-bank l = record {
-  few : l.events ≤ l.bank;
-  counted : l.events ≡ count_by holds_event (old_banks_of l.bank l.fn.old);
-  passed : old_banks_refusal 1 (old_banks_of l.bank l.fn.old) ≡ None;
+abbrev pub invariant-loop-k : goal.invariant-loop-k
+invariant-loop-k l = record {
+  few : l.events ≤ l.k;
+  counted : l.events ≡ count_by holds_event (old_banks_of l.k l.fn.old);
+  passed : old_banks_refusal 1 (old_banks_of l.k l.fn.old) ≡ None;
 }
