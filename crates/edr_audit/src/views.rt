@@ -7,7 +7,9 @@ ghost use Rattle.edr_banks.specs.Opening.{bank_in};
 
 use crate::tail::events_in_order;
 use edr_image::{BankView, Header};
-use edr_layout::{BANK_SIZE, FRONT_SIZE, bank_view, image_size, place_of, read_count, read_header};
+use edr_layout::{
+    BANK_SIZE, BankNumber, FRONT_SIZE, bank_view, image_size, read_count, read_header,
+};
 use edr_record::Record;
 use std::alloc::{AllocError as OutOfMemory, Global};
 use std::marker::Model;
@@ -60,23 +62,19 @@ fn front_of(bytes: &[u8]) -> [u8; FRONT_SIZE]
 }
 
 // What a bank of an image holds.
-fn bank_of(bytes: &[u8], bank: u8) -> BankView
-    requires from { 1 ≤ bank }
-    requires to { bank ≤ MOST_BANKS }
-    requires room { place_of bank + BANK_SIZE ≤ length bytes.now }
+fn bank_of(bytes: &[u8], bank: BankNumber) -> BankView
+    requires { place_of bank + BANK_SIZE ≤ length bytes.now }
     ensures { result ≡ bank_in bank bytes.now }
 {
-    let place = place_of(bank) as usize;
+    let place = bank.place() as usize;
     let mut bytes_of_bank = [0; BANK_SIZE];
     bytes_of_bank.copy_from_slice(&bytes[place..place + BANK_SIZE]);
     bank_view(&bytes_of_bank)
 }
 
 // Adds what a bank of an image holds.
-fn add_bank(banks: &mut Vec<BankView>, bytes: &[u8], bank: u8) -> Result<(), OutOfMemory>
-    requires from { 1 ≤ bank }
-    requires to { bank ≤ MOST_BANKS }
-    requires room { place_of bank + BANK_SIZE ≤ length bytes.now }
+fn add_bank(banks: &mut Vec<BankView>, bytes: &[u8], bank: BankNumber) -> Result<(), OutOfMemory>
+    requires { place_of bank + BANK_SIZE ≤ length bytes.now }
     ensures { OnOk result (banks.new.items ≡ banks.old.items ++ bank_in bank bytes.now ∷ []) }
 {
     banks.extend_from_slice(&[bank_of(bytes, bank)])?;
@@ -92,7 +90,7 @@ fn banks_in(alloc: Global, bytes: &[u8], count: u8) -> Result<Vec<BankView>, Out
 {
     let mut banks = Vec::with_capacity(alloc, usize::from(count))?;
     for k in 0..count {
-        add_bank(&mut banks, bytes, k + 1)?;
+        add_bank(&mut banks, bytes, BankNumber::from_index(k))?;
     }
     Ok(banks)
 }
