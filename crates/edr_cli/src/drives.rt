@@ -26,57 +26,51 @@ use crate::status::Status;
 use crate::traces::trace_of;
 use edr_device::{Nvm, Sink, Source};
 use edr_drive::Gate;
-use edr_replay::replay_driven;
+use edr_replay::{Workers, replay_driven};
 use edr_trace::CycleInput;
 use edr_words::{Form, Job, Words};
 use std::alloc::{AllocError as OutOfMemory, Global};
 use std::sync::{Arc, Wait};
 use std::thread::Threads;
 
-// Runs the cycles by this number of workers, opens the banks again and reports.
+// Runs the cycles by these workers, opens the banks again and reports.
 fn run_driven<
     R: Threads + Wait + Copy + Send + Sync + 'static,
     G: Gate + Drop + Send + Sync + 'static,
     N: Nvm,
 >(
-    rt: &R,
     alloc: Global,
     nvm: &mut N,
     cycles: Vec<CycleInput>,
-    workers: u8,
     form: Form,
-    gate: &Arc<G>,
+    workers: &Workers<'_, R, G>,
 ) -> Result<Vec<u8>, Fault>
-    requires workers { (1 ≤ workers) × (workers ≤ 8) }
-    requires cycles { All IsCycleInput cycles.items }
+    requires { All IsCycleInput cycles.items }
     ensures text { IfOk result (λ out. OfMemory N.Nvm (Reports form cycles.items)
         nvm.old nvm.new out.items) }
     ensures cause { IfErr result (OfMemory N.Nvm (IsDrivenCause cycles.items) nvm.old nvm.new) }
     ensures lent { GoesOn N.Nvm nvm.old nvm.new }
     ensures past { Between N.Nvm LeavesPast nvm.old nvm.new }
 {
-    let reports = replay_driven(rt, alloc, nvm, cycles, workers, gate)?;
+    let reports = replay_driven(alloc, nvm, cycles, workers)?;
     report_held(alloc, nvm, form, &reports)
 }
 
-// Runs the trace that the source gives over the device by this number of workers, and gives the
-// report of the run and of what the device holds after it. The trace is whole before the device is
-// used, and the image is looked at before the first cycle.
+// Runs the trace that the source gives over the device by these workers, and gives the report of
+// the run and of what the device holds after it. The trace is whole before the device is used, and
+// the image is looked at before the first cycle.
 fn drive_source<
     R: Threads + Wait + Copy + Send + Sync + 'static,
     G: Gate + Drop + Send + Sync + 'static,
     S: Source,
     N: Nvm,
 >(
-    rt: &R,
     alloc: Global,
     source: &mut S,
     nvm: &mut N,
-    workers: u8,
     form: Form,
-    gate: &Arc<G>,
+    workers: &Workers<'_, R, G>,
 ) -> Result<Vec<u8>, Fault>
-    requires workers { (1 ≤ workers) × (workers ≤ 8) }
     ensures takes { Told (GivesAtMost (largest_trace + 1)) (S.left source.old) (S.left source.new) }
     ensures source_later { S.faults source.old ≤ S.faults source.new }
     ensures lent { GoesOn N.Nvm nvm.old nvm.new }
@@ -89,7 +83,7 @@ fn drive_source<
 {
     let cycles = trace_of(alloc, source)?;
     open_settled(alloc, nvm)?;
-    run_driven(rt, alloc, nvm, cycles, workers, form, gate)
+    run_driven(alloc, nvm, cycles, form, workers)
 }
 
 /// Serves the words `drive W [text|csv]`: `replay` with W workers, 1 to 8, for the sensors, and a
@@ -159,12 +153,21 @@ pub fn drive<
         Err(OutOfMemory) => return tell(sink, Fault::OutOfMemory),
     };
     match job {
-        Some(Job::Drive { workers, form }) => finish(
-            sink,
-            drive_source(rt, alloc, source, nvm, workers, form, gate),
-        ),
+        Some(Job::Drive { workers, form }) => {
+            let workers = Workers {
+                rt,
+                count: workers,
+                gate,
+            };
+            finish(sink, drive_source(alloc, source, nvm, form, &workers))
+        }
         Some(Job::DriveLive { workers }) => {
-            serve_live(rt, alloc, source, sink, nvm, workers, gate)
+            let workers = Workers {
+                rt,
+                count: workers,
+                gate,
+            };
+            serve_live(alloc, source, sink, nvm, &workers)
         }
         Some(Job::Fleet { workers }) => serve_fleet(rt, alloc, source, sink, workers),
         _ => tell(sink, Fault::Usage),

@@ -19,12 +19,12 @@ use crate::status::Status;
 use crate::traces::trace_of;
 use edr_device::{Nvm, Sink, Source};
 use edr_drive::Gate;
-use edr_replay::{LiveLine, replay_live};
+use edr_replay::{LiveLine, Workers, replay_live};
 use edr_report::live_line;
 use edr_trace::CycleInput;
 use edr_words::Form;
 use std::alloc::{AllocError as OutOfMemory, Global};
-use std::sync::{Arc, Wait};
+use std::sync::Wait;
 use std::thread::Threads;
 
 // Appends the line of a cycle.
@@ -47,21 +47,18 @@ fn with_lines(report: Vec<u8>, lines: &[LiveLine]) -> Result<Vec<u8>, OutOfMemor
     Ok(text)
 }
 
-// Runs the cycles by this number of workers beside a reader, opens the banks again, and reports
-// with the line of each cycle that ran.
+// Runs the cycles by these workers beside a reader, opens the banks again, and reports with the
+// line of each cycle that ran.
 fn run_live<
     R: Threads + Wait + Copy + Send + Sync + 'static,
     G: Gate + Drop + Send + Sync + 'static,
     N: Nvm,
 >(
-    rt: &R,
     alloc: Global,
     nvm: &mut N,
     cycles: Vec<CycleInput>,
-    workers: u8,
-    gate: &Arc<G>,
+    workers: &Workers<'_, R, G>,
 ) -> Result<Vec<u8>, Fault>
-    requires workers { (1 ≤ workers) × (workers ≤ 8) }
     requires cycles { All IsCycleInput cycles.items }
     requires few { length cycles.items ≤ largest_trace }
     ensures text { IfOk result (λ out. OfMemory N.Nvm (ReportsLive cycles.items)
@@ -70,28 +67,19 @@ fn run_live<
     ensures lent { GoesOn N.Nvm nvm.old nvm.new }
     ensures past { Between N.Nvm LeavesPast nvm.old nvm.new }
 {
-    let lived = replay_live(rt, alloc, nvm, cycles, workers, gate)?;
+    let lived = replay_live(alloc, nvm, cycles, workers)?;
     let report = report_held(alloc, nvm, Form::Text, &lived.reports)?;
     Ok(with_lines(report, &lived.lines)?)
 }
 
-// Runs the trace that the source gives over the device by this number of workers beside a reader,
-// and gives the report of the run and of what the device holds after it, with the line of each
-// cycle that ran.
+// Runs the trace that the source gives over the device by these workers beside a reader, and gives
+// the report of the run and of what the device holds after it, with the line of each cycle that ran.
 fn live_source<
     R: Threads + Wait + Copy + Send + Sync + 'static,
     G: Gate + Drop + Send + Sync + 'static,
     S: Source,
     N: Nvm,
->(
-    rt: &R,
-    alloc: Global,
-    source: &mut S,
-    nvm: &mut N,
-    workers: u8,
-    gate: &Arc<G>,
-) -> Result<Vec<u8>, Fault>
-    requires workers { (1 ≤ workers) × (workers ≤ 8) }
+>(alloc: Global, source: &mut S, nvm: &mut N, workers: &Workers<'_, R, G>) -> Result<Vec<u8>, Fault>
     ensures takes { Told (GivesAtMost (largest_trace + 1)) (S.left source.old) (S.left source.new) }
     ensures source_later { S.faults source.old ≤ S.faults source.new }
     ensures lent { GoesOn N.Nvm nvm.old nvm.new }
@@ -104,7 +92,7 @@ fn live_source<
 {
     let cycles = trace_of(alloc, source)?;
     open_settled(alloc, nvm)?;
-    run_live(rt, alloc, nvm, cycles, workers, gate)
+    run_live(alloc, nvm, cycles, workers)
 }
 
 /// Writes the report of the run of the trace that the source gives, with the line of each cycle that ran.
@@ -114,16 +102,7 @@ pub(crate) fn serve_live<
     S: Source,
     K: Sink,
     N: Nvm,
->(
-    rt: &R,
-    alloc: Global,
-    source: &mut S,
-    sink: &mut K,
-    nvm: &mut N,
-    workers: u8,
-    gate: &Arc<G>,
-) -> Status
-    requires workers { (1 ≤ workers) × (workers ≤ 8) }
+>(alloc: Global, source: &mut S, sink: &mut K, nvm: &mut N, workers: &Workers<'_, R, G>) -> Status
     ensures runs { Runs S.Source K.Sink N.Nvm IsDriveCause LiveRunIs result
         source.old source.new sink.old sink.new nvm.old nvm.new }
     ensures write_fault { result ≡ Status.WriteFault
@@ -133,5 +112,5 @@ pub(crate) fn serve_live<
     ensures source_later { S.faults source.old ≤ S.faults source.new }
     ensures lent { GoesOn N.Nvm nvm.old nvm.new }
 {
-    finish(sink, live_source(rt, alloc, source, nvm, workers, gate))
+    finish(sink, live_source(alloc, source, nvm, workers))
 }

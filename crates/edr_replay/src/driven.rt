@@ -1,11 +1,12 @@
 //! The same cycles by threads. What a thread rests on may not be a bound that is known inside an `impl` alone, so no trait can stand over
 //! both ways: only the loop and the call that runs the commands are written here once more.
 
-ghost use Rattle.std.specs.Prelude.{◌≤◌, All};
+ghost use Rattle.std.specs.Prelude.{All};
 ghost use Rattle.edr_spell.specs.Spell.{IsCycleInput as IsSpelled};
 ghost use Rattle.edr_replay.specs.Replayed.{Drives, LeftOrCounted, RunsCycle};
 
 use crate::phases::{StartedCycle, end_run, fused, start_until, was_cut};
+use crate::workers::Workers;
 use edr_cycle::StartFault;
 use edr_device::Nvm;
 use edr_drive::{Gate, drive_cycle};
@@ -21,15 +22,12 @@ fn drive_one<
     G: Gate + Drop + Send + Sync + 'static,
     N: Nvm,
 >(
-    rt: &R,
     alloc: Global,
     nvm: &mut N,
     cycle: CycleInput,
-    workers: u8,
-    gate: &Arc<G>,
+    workers: &Workers<'_, R, G>,
 ) -> Result<CycleReport, StartFault>
-    requires workers { (1 ≤ workers) × (workers ≤ 8) }
-    requires cycle { IsSpelled cycle }
+    requires { IsSpelled cycle }
     ensures { RunsCycle N.Nvm LeftOrCounted cycle nvm.old nvm.new result }
 {
     let CycleInput {
@@ -45,7 +43,15 @@ fn drive_one<
         StartedCycle::Stopped => Ok(CycleReport::StartStopped { call: start_stop }),
         StartedCycle::Started(started) => {
             let mut fuse = fused(&mut *nvm, stop);
-            let end = drive_cycle(rt, alloc, started, &feeds, workers, &mut fuse, gate);
+            let end = drive_cycle(
+                workers.rt,
+                alloc,
+                started,
+                &feeds,
+                workers.count,
+                &mut fuse,
+                workers.gate,
+            );
             let cut = was_cut(fuse);
             let end = end?;
             end_run(end, cut, stop, nvm)
@@ -53,7 +59,7 @@ fn drive_one<
     }
 }
 
-/// Runs the cycles in order, each by 1 to 8 workers, and tells of each. Nothing is to be pending on the device.
+/// Runs the cycles in order, each by these workers, and tells of each. Nothing is to be pending on the device.
 ///
 /// What is told and what is left are those of `replay`, whatever the schedule of the threads. Each worker calls the gate before an
 /// item's first offer. Memory for the threads of a cycle is taken after its start, so want of it may leave that cycle counted.
@@ -62,20 +68,17 @@ pub fn replay_driven<
     G: Gate + Drop + Send + Sync + 'static,
     N: Nvm,
 >(
-    rt: &R,
     alloc: Global,
     nvm: &mut N,
     cycles: Vec<CycleInput>,
-    workers: u8,
-    gate: &Arc<G>,
+    workers: &Workers<'_, R, G>,
 ) -> Result<Vec<CycleReport>, StartFault>
-    requires workers { (1 ≤ workers) × (workers ≤ 8) }
-    requires cycles { All IsSpelled cycles.items }
+    requires { All IsSpelled cycles.items }
     ensures { Drives N.Nvm cycles.items nvm.old nvm.new result }
 {
     let mut reports = Vec::with_capacity(alloc, cycles.len())?;
     for cycle in cycles {
-        let report = drive_one(rt, alloc, nvm, cycle, workers, gate)?;
+        let report = drive_one(alloc, nvm, cycle, workers)?;
         reports.push_reserved(report);
     }
     Ok(reports)

@@ -6,6 +6,7 @@ mod driven;
 pub mod laws;
 mod live;
 mod phases;
+mod workers;
 
 ghost use Rattle.std.specs.Prelude.{All};
 ghost use Rattle.edr_spell.specs.Spell.{IsCycleInput as IsSpelled};
@@ -21,6 +22,7 @@ use edr_spell::CycleInput;
 pub use live::{LiveLine, LiveRun, replay_live};
 use phases::{StartedCycle, end_run, fused, start_until, was_cut};
 use std::alloc::Global;
+pub use workers::Workers;
 
 /// Runs one cycle: its start and its commands, each up to its planned stop, and then the power goes off.
 ///

@@ -6,6 +6,7 @@ ghost use Rattle.edr_image.specs.Banks.{holds_event};
 ghost use Rattle.edr_replay.specs.Live.{DrivesLive, RunsCycleLive, lines_with};
 
 use crate::phases::{StartedCycle, end_run, fused, start_until, was_cut};
+use crate::workers::Workers;
 use edr_banks::BankView;
 use edr_cycle::StartFault;
 use edr_device::Nvm;
@@ -66,16 +67,13 @@ fn drive_one_live<
     G: Gate + Drop + Send + Sync + 'static,
     N: Nvm,
 >(
-    rt: &R,
     alloc: Global,
     nvm: &mut N,
     cycle: CycleInput,
     place: u32,
-    workers: u8,
-    gate: &Arc<G>,
+    workers: &Workers<'_, R, G>,
 ) -> Result<LiveCycle, StartFault>
-    requires workers { (1 ≤ workers) × (workers ≤ 8) }
-    requires cycle { IsSpelled cycle }
+    requires { IsSpelled cycle }
     ensures { RunsCycleLive N.Nvm place cycle nvm.old nvm.new result }
 {
     let CycleInput {
@@ -94,7 +92,15 @@ fn drive_one_live<
         }),
         StartedCycle::Started(started) => {
             let mut fuse = fused(&mut *nvm, stop);
-            let run = drive_cycle_live(rt, alloc, started, &feeds, workers, &mut fuse, gate);
+            let run = drive_cycle_live(
+                workers.rt,
+                alloc,
+                started,
+                &feeds,
+                workers.count,
+                &mut fuse,
+                workers.gate,
+            );
             let stopped = was_cut(fuse);
             let LiveEnd { end, last, cut } = run?;
             let report = end_run(end, stopped, stop, nvm)?;
@@ -118,7 +124,7 @@ fn push_line(lines: &mut Vec<LiveLine>, line: Option<LiveLine>)
     }
 }
 
-/// Runs the cycles in order, each by 1 to 8 workers beside a reader that sees the banks, and tells of each. Nothing is to be pending
+/// Runs the cycles in order, each by these workers beside a reader that sees the banks, and tells of each. Nothing is to be pending
 /// on the device.
 ///
 /// What is told and what is left are those of `replay_driven`. The line of a cycle is by what the reader saw last of it. Where memory
@@ -128,14 +134,11 @@ pub fn replay_live<
     G: Gate + Drop + Send + Sync + 'static,
     N: Nvm,
 >(
-    rt: &R,
     alloc: Global,
     nvm: &mut N,
     cycles: Vec<CycleInput>,
-    workers: u8,
-    gate: &Arc<G>,
+    workers: &Workers<'_, R, G>,
 ) -> Result<LiveRun, StartFault>
-    requires workers { (1 ≤ workers) × (workers ≤ 8) }
     requires cycles { All IsSpelled cycles.items }
     requires few { length cycles.items < 2 ^ 32 }
     ensures { DrivesLive N.Nvm cycles.items nvm.old nvm.new result }
@@ -144,7 +147,7 @@ pub fn replay_live<
     let mut lines = Vec::with_capacity(alloc, cycles.len())?;
     for cycle in cycles {
         let place = reports.len() as u32 + 1;
-        let ran = drive_one_live(rt, alloc, nvm, cycle, place, workers, gate)?;
+        let ran = drive_one_live(alloc, nvm, cycle, place, workers)?;
         reports.push_reserved(ran.report);
         push_line(&mut lines, ran.line);
     }

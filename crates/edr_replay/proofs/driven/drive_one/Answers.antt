@@ -22,7 +22,7 @@ returns-in_err-start_until g c =
     start_fails LeftOrCounted c.args.cycle _ old new _ c.from_residual.result (alone_leaves _ (N.content old) (N.settled old) (N.content new) (N.settled new)) c.in_err-start_until.ensures (rw (p.1, p.2) refl)
 
 pub returns-in-Stopped : goal.returns-in-Stopped
-returns-in-Stopped g c = start_stops LeftOrCounted c.args.cycle _ c.args.nvm.now c.start_until.new.nvm _ c.requires.cycle.start_stop c.in-Stopped.is c.in_ok-start_until.ensures
+returns-in-Stopped g c = start_stops LeftOrCounted c.args.cycle _ c.args.nvm.now c.start_until.new.nvm _ c.requires.start_stop c.in-Stopped.is c.in_ok-start_until.ensures
 
 pub returns-in_err-end-in-Started : goal.returns-in_err-end-in-Started
 returns-in_err-end-in-Started g c =
@@ -49,7 +49,7 @@ returns g c =
     commands_end LeftOrCounted cycle s.number s.banks.store end.failed cut end.log.acks armed fuse old mid c.end_run.new.nvm c.end_run.result
     g.met.N.Nvm.goes_on_again (λ u image within left. g.met.N.Nvm.counts_now fuse.nvm.now u image within left)
     begun.0 (record { lent = c.start_until.ensures.lent; found = begun.3; past = c.start_until.ensures.past }) c.fused-fuse.ensures.now
-    (ran_fused cycle.feeds cycle.stop s.number s.banks.store end.failed cut end.log.acks armed fuse c.requires.cycle.feeds c.fused-fuse.ensures.state run.lent.size run.lent.device run.lent.tells
+    (ran_fused cycle.feeds cycle.stop s.number s.banks.store end.failed cut end.log.acks armed fuse c.requires.feeds c.fused-fuse.ensures.state run.lent.size run.lent.device run.lent.tells
     (subst (λ (f : SensorLists). MeetsCycle fused_content fused_settled fused_since (λ x. x.ticks) (λ x. x.last_good) f s.number s.banks.store end.failed end.log.acks armed fuse) c.in-Ok.ensures.ok run.cycle)
     run.cause c.was_cut-cut.ensures.planned c.was_cut-cut.ensures.unplanned)
     (ended N cycle.stop s.number _ end.failed cut end.log.acks c.end_run.result _ fuse.nvm.now c.end_run.new.nvm (search rules) run.number

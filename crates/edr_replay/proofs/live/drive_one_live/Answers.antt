@@ -32,7 +32,7 @@ returns-in_err-start_until g c =
 pub returns-in-Stopped : goal.returns-in-Stopped
 returns-in-Stopped g c =
     stopped_live c.args.place c.args.cycle c.args.nvm.now c.start_until.new.nvm c.args.cycle.start_stop _
-    (start_stops LeftOrCounted c.args.cycle _ c.args.nvm.now c.start_until.new.nvm _ c.requires.cycle.start_stop c.in-Stopped.is c.in_ok-start_until.ensures) refl
+    (start_stops LeftOrCounted c.args.cycle _ c.args.nvm.now c.start_until.new.nvm _ c.requires.start_stop c.in-Stopped.is c.in_ok-start_until.ensures) refl
 
 pub returns-in_err-end-in-Started : goal.returns-in_err-end-in-Started
 returns-in_err-end-in-Started g c =
@@ -64,7 +64,7 @@ returns-in_err-report-in-Started g c =
     commands_end LeftOrCounted cycle s.number s.banks.store end.failed cut end.log.acks armed fuse old mid c.end_run.new.nvm (Err c.in_err-report-in-Started.field-0.0)
     g.met.N.Nvm.goes_on_again (λ u image within left. g.met.N.Nvm.counts_now fuse.nvm.now u image within left)
     begun.0 has_begun c.fused-fuse.ensures.now
-    (ran_fused cycle.feeds cycle.stop s.number s.banks.store end.failed cut end.log.acks armed fuse c.requires.cycle.feeds c.fused-fuse.ensures.state run.lent.size run.lent.device run.lent.tells
+    (ran_fused cycle.feeds cycle.stop s.number s.banks.store end.failed cut end.log.acks armed fuse c.requires.feeds c.fused-fuse.ensures.state run.lent.size run.lent.device run.lent.tells
     (subst (λ (f : SensorLists). MeetsCycle fused_content fused_settled fused_since (λ x. x.ticks) (λ x. x.last_good) f s.number s.banks.store end.failed end.log.acks armed fuse) c.in-Ok.ensures.ok run.cycle)
     run.cause c.was_cut-stopped.ensures.planned c.was_cut-stopped.ensures.unplanned)
     (ended N cycle.stop s.number _ end.failed cut end.log.acks (Err c.in_err-report-in-Started.field-0.0) _ fuse.nvm.now c.end_run.new.nvm (search rules) run.number
@@ -91,7 +91,7 @@ returns-then-cut g c =
     commands_end LeftOrCounted cycle s.number s.banks.store end.failed cut end.log.acks armed fuse old mid c.end_run.new.nvm (Ok c.in_ok-report-in-Started.report)
     g.met.N.Nvm.goes_on_again (λ u image within left. g.met.N.Nvm.counts_now fuse.nvm.now u image within left)
     begun.0 has_begun c.fused-fuse.ensures.now
-    (ran_fused cycle.feeds cycle.stop s.number s.banks.store end.failed cut end.log.acks armed fuse c.requires.cycle.feeds c.fused-fuse.ensures.state run.lent.size run.lent.device run.lent.tells
+    (ran_fused cycle.feeds cycle.stop s.number s.banks.store end.failed cut end.log.acks armed fuse c.requires.feeds c.fused-fuse.ensures.state run.lent.size run.lent.device run.lent.tells
     (subst (λ (f : SensorLists). MeetsCycle fused_content fused_settled fused_since (λ x. x.ticks) (λ x. x.last_good) f s.number s.banks.store end.failed end.log.acks armed fuse) c.in-Ok.ensures.ok run.cycle)
     run.cause c.was_cut-stopped.ensures.planned c.was_cut-stopped.ensures.unplanned)
     (ended N cycle.stop s.number _ end.failed cut end.log.acks (Ok c.in_ok-report-in-Started.report) _ fuse.nvm.now c.end_run.new.nvm (search rules) run.number
@@ -104,7 +104,7 @@ line_of-requires g c =
     let live = c.in_ok-end-in-Started.field-0 in
     let run = c.in_ok-end-in-Started.ensures in
     let met = subst (λ (f : SensorLists). MeetsCycle fused_content fused_settled fused_since (λ x. x.ticks) (λ x. x.last_good) f s.number s.banks.store live.end.failed live.end.log.acks c.fused-fuse.result c.drive_cycle_live-run.new.nvm) c.in-Ok.ensures.ok run.cycle in
-    log_low c.args.cycle.feeds s.number s.banks.store live.end.failed live.end.log.acks live.last.applied c.requires.cycle.feeds run.last.within met.log_of_all met.log_begins
+    log_low c.args.cycle.feeds s.number s.banks.store live.end.failed live.end.log.acks live.last.applied c.requires.feeds run.last.within met.log_of_all met.log_begins
 
 pub returns : goal.returns
 returns g c =
@@ -126,7 +126,7 @@ returns g c =
     commands_end LeftOrCounted cycle s.number s.banks.store end.failed cut end.log.acks armed fuse old mid c.end_run.new.nvm (Ok c.in_ok-report-in-Started.report)
     g.met.N.Nvm.goes_on_again (λ u image within left. g.met.N.Nvm.counts_now fuse.nvm.now u image within left)
     begun.0 has_begun c.fused-fuse.ensures.now
-    (ran_fused cycle.feeds cycle.stop s.number s.banks.store end.failed cut end.log.acks armed fuse c.requires.cycle.feeds c.fused-fuse.ensures.state run.lent.size run.lent.device run.lent.tells
+    (ran_fused cycle.feeds cycle.stop s.number s.banks.store end.failed cut end.log.acks armed fuse c.requires.feeds c.fused-fuse.ensures.state run.lent.size run.lent.device run.lent.tells
     (subst (λ (f : SensorLists). MeetsCycle fused_content fused_settled fused_since (λ x. x.ticks) (λ x. x.last_good) f s.number s.banks.store end.failed end.log.acks armed fuse) c.in-Ok.ensures.ok run.cycle)
     run.cause c.was_cut-stopped.ensures.planned c.was_cut-stopped.ensures.unplanned)
     (ended N cycle.stop s.number _ end.failed cut end.log.acks (Ok c.in_ok-report-in-Started.report) _ fuse.nvm.now c.end_run.new.nvm (search rules) run.number
