@@ -1,5 +1,6 @@
 -- What the source and the device tell at one moment.
-use Rattle.std.specs.Prelude.{◌≡◌, ℕ, Bool, List, [], Option, IfSome}
+use Rattle.std.specs.Prelude.{◌≡◌, ℕ, Bool, List, [], Option, IfSome, Result, IfOk, IfErr, Vec}
+use Rattle.std.specs.declared.alloc.Global.{Global}
 use Rattle.edr_device.specs.Faults.{Rose}
 use Rattle.edr_device.specs.declared.device.Nvm as device
 use Rattle.edr_device.specs.declared.stream.Source as stream
@@ -45,3 +46,17 @@ OfRun s g says source old new = says (input s source) (memory g old) (memory g n
 -- and of the source after it
 abbrev pub OfBoth : {S D : Type 0} {X : Type 1} → stream.Ghosts S → device.Ghosts D → (Input → Input → Memory → Memory → X) → S → S → D → D → X
 OfBoth s g says source source' old new = says (input s source) (input s source') (memory g old) (memory g new)
+
+-- ---- what is said of an answer
+
+-- a text that is answered is so of the device before the call and after it
+abbrev pub AnswersOfMemory : {D E : Type 0} → device.Ghosts D → (Memory → Memory → List ℕ → Type 0) → D → D → Result (Vec ℕ Global) E → Type 0
+AnswersOfMemory g says old new result = IfOk result (λ out. OfMemory g says old new out.items)
+
+-- and of the source before it
+abbrev pub AnswersOfRun : {S D E : Type 0} → stream.Ghosts S → device.Ghosts D → (Input → Memory → Memory → List ℕ → Type 0) → S → D → D → Result (Vec ℕ Global) E → Type 0
+AnswersOfRun s g says source old new result = IfOk result (λ out. OfRun s g says source old new out.items)
+
+-- a fault has this cause
+abbrev pub FailsBy : {S D T E : Type 0} → stream.Ghosts S → device.Ghosts D → (Input → Input → Memory → Memory → E → Type 0) → S → S → D → D → Result T E → Type 0
+FailsBy s g cause source source' old new result = IfErr result (OfBoth s g cause source source' old new)

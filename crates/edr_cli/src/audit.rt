@@ -8,7 +8,7 @@ ghost use Rattle.edr_device.specs.Transfer.{GivesAtMost};
 ghost use Rattle.edr_spell.specs.Spell.{largest_trace};
 ghost use Rattle.edr_cli.specs.Audits.{Audits, IsAudit, IsAuditCause, audited_line, audited_status, difference_words};
 ghost use Rattle.edr_cli.specs.Crashes.{KeepsBytes};
-ghost use Rattle.edr_cli.specs.Outside.{IsAtEnd, NoFault, OfBoth, OfRun};
+ghost use Rattle.edr_cli.specs.Outside.{FailsBy, IsAtEnd, NoFault, OfRun};
 
 use crate::endings::{tell, write};
 use crate::fault::Fault;
@@ -131,8 +131,7 @@ fn audit_source<S: Source, N: Nvm>(
     ensures lent { GoesOn N.Nvm nvm.old nvm.new }
     ensures end { OnOk result (IsAtEnd (S.left source.new)) }
     ensures says { IfOk result (OfRun S.Source N.Nvm IsAudit source.old nvm.old nvm.new) }
-    ensures cause { IfErr result (OfBoth S.Source N.Nvm IsAuditCause
-        source.old source.new nvm.old nvm.new) }
+    ensures cause { FailsBy S.Source N.Nvm IsAuditCause source.old source.new nvm.old nvm.new result }
     ensures stays { KeepsBytes N.Nvm nvm.old nvm.new }
     ensures keeps { NoFault N.faults nvm.old nvm.new → N.content nvm.new ≡ N.content nvm.old }
 {

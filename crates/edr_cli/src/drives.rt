@@ -1,5 +1,5 @@
 //! The top call of what is done by threads: a run, and the report of a fleet. Its promises hold if it returns.
-ghost use Rattle.std.specs.Prelude.{◌≡◌, ◌≤◌, ◌+◌, ℕ, Some, All, IfOk, IfErr, OnOk};
+ghost use Rattle.std.specs.Prelude.{◌≡◌, ◌≤◌, ◌+◌, ℕ, Some, All, IfErr, OnOk};
 ghost use Rattle.edr_device.specs.Faults.{Rose};
 ghost use Rattle.edr_device.specs.Lent.{Between, GoesOn};
 ghost use Rattle.edr_device.specs.Told.{Told};
@@ -12,7 +12,7 @@ ghost use Rattle.edr_cli.specs.Drives.{IsDriveCause, ServesDrive};
 ghost use Rattle.edr_cli.specs.Words.{IsUsageCause, NeedNoThreads};
 ghost use Rattle.edr_cli.specs.Endings.{TellsCut, TellsWhole};
 ghost use Rattle.edr_cli.specs.Lives.{ServesLive};
-ghost use Rattle.edr_cli.specs.Outside.{IsAtEnd, OfBoth, OfMemory, OfRun, memory};
+ghost use Rattle.edr_cli.specs.Outside.{AnswersOfMemory, AnswersOfRun, FailsBy, IsAtEnd, OfMemory};
 ghost use Rattle.edr_cli.specs.Runs.{RunIs};
 ghost use Rattle.edr_cli.specs.Steps.{IsDrivenCause, Reports};
 ghost use Rattle.edr_cli.specs.Fleets.{ServesFleet, AreFleetWords};
@@ -46,8 +46,7 @@ fn run_driven<
     workers: &Workers<'_, R, G>,
 ) -> Result<Vec<u8>, Fault>
     requires { All IsCycleInput cycles.items }
-    ensures text { IfOk result (λ out. OfMemory N.Nvm (Reports form cycles.items)
-        nvm.old nvm.new out.items) }
+    ensures text { AnswersOfMemory N.Nvm (Reports form cycles.items) nvm.old nvm.new result }
     ensures cause { IfErr result (OfMemory N.Nvm (IsDrivenCause cycles.items) nvm.old nvm.new) }
     ensures lent { GoesOn N.Nvm nvm.old nvm.new }
     ensures past { Between N.Nvm LeavesPast nvm.old nvm.new }
@@ -76,10 +75,8 @@ fn drive_source<
     ensures lent { GoesOn N.Nvm nvm.old nvm.new }
     ensures past { Between N.Nvm LeavesPast nvm.old nvm.new }
     ensures end { OnOk result (IsAtEnd (S.left source.new)) }
-    ensures text { IfOk result (λ out. OfRun S.Source N.Nvm (RunIs form)
-        source.old nvm.old nvm.new out.items) }
-    ensures cause { IfErr result (OfBoth S.Source N.Nvm IsDriveCause
-        source.old source.new nvm.old nvm.new) }
+    ensures text { AnswersOfRun S.Source N.Nvm (RunIs form) source.old nvm.old nvm.new result }
+    ensures cause { FailsBy S.Source N.Nvm IsDriveCause source.old source.new nvm.old nvm.new result }
 {
     let cycles = trace_of(alloc, source)?;
     open_settled(alloc, nvm)?;

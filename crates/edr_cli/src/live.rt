@@ -9,7 +9,7 @@ ghost use Rattle.edr_replay.specs.Past.{LeavesPast};
 ghost use Rattle.edr_cli.specs.Drives.{IsDriveCause};
 ghost use Rattle.edr_cli.specs.Lives.{LiveRunIs, ReportsLive, line_text, live_text};
 ghost use Rattle.edr_cli.specs.Runs.{Runs};
-ghost use Rattle.edr_cli.specs.Outside.{IsAtEnd, OfBoth, OfMemory, OfRun};
+ghost use Rattle.edr_cli.specs.Outside.{AnswersOfMemory, AnswersOfRun, FailsBy, IsAtEnd, OfMemory};
 ghost use Rattle.edr_cli.specs.Steps.{IsDrivenCause};
 
 use crate::endings::finish;
@@ -61,8 +61,7 @@ fn run_live<
 ) -> Result<Vec<u8>, Fault>
     requires cycles { All IsCycleInput cycles.items }
     requires few { length cycles.items ≤ largest_trace }
-    ensures text { IfOk result (λ out. OfMemory N.Nvm (ReportsLive cycles.items)
-        nvm.old nvm.new out.items) }
+    ensures text { AnswersOfMemory N.Nvm (ReportsLive cycles.items) nvm.old nvm.new result }
     ensures cause { IfErr result (OfMemory N.Nvm (IsDrivenCause cycles.items) nvm.old nvm.new) }
     ensures lent { GoesOn N.Nvm nvm.old nvm.new }
     ensures past { Between N.Nvm LeavesPast nvm.old nvm.new }
@@ -85,10 +84,8 @@ fn live_source<
     ensures lent { GoesOn N.Nvm nvm.old nvm.new }
     ensures past { Between N.Nvm LeavesPast nvm.old nvm.new }
     ensures end { OnOk result (IsAtEnd (S.left source.new)) }
-    ensures text { IfOk result (λ out. OfRun S.Source N.Nvm LiveRunIs
-        source.old nvm.old nvm.new out.items) }
-    ensures cause { IfErr result (OfBoth S.Source N.Nvm IsDriveCause
-        source.old source.new nvm.old nvm.new) }
+    ensures text { AnswersOfRun S.Source N.Nvm LiveRunIs source.old nvm.old nvm.new result }
+    ensures cause { FailsBy S.Source N.Nvm IsDriveCause source.old source.new nvm.old nvm.new result }
 {
     let cycles = trace_of(alloc, source)?;
     open_settled(alloc, nvm)?;

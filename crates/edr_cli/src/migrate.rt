@@ -6,7 +6,7 @@ ghost use Rattle.edr_device.specs.Told.{Told};
 ghost use Rattle.edr_device.specs.Transfer.{GivesAtMost};
 ghost use Rattle.edr_spell.specs.Spell.{largest_trace};
 ghost use Rattle.edr_cli.specs.Migrations.{IsMigrateCause, IsTakingCause, IsPartlyTaken, MigrateIs, Migrates};
-ghost use Rattle.edr_cli.specs.Outside.{IsAtEnd, OfBoth, OfMemory, OfRun};
+ghost use Rattle.edr_cli.specs.Outside.{FailsBy, IsAtEnd, OfMemory, OfRun};
 ghost use Rattle.edr_cli.specs.Steps.{IsTakenOver};
 ghost use Rattle.edr_cli.specs.Crashes.{KeepsImage, OfCrash};
 
@@ -51,8 +51,7 @@ fn migrate_source<S: Source, N: Nvm>(
     ensures end { OnOk result (IsAtEnd (S.left source.new)) }
     ensures text { IfOk result (λ line. OfRun S.Source N.Nvm MigrateIs
         source.old nvm.old nvm.new line) }
-    ensures cause { IfErr result (OfBoth S.Source N.Nvm IsMigrateCause
-        source.old source.new nvm.old nvm.new) }
+    ensures cause { FailsBy S.Source N.Nvm IsMigrateCause source.old source.new nvm.old nvm.new result }
     ensures crash { OfCrash N.Nvm nvm.old nvm.new
         (λ b i. IfSome (S.left source.old) (λ old. IsPartlyTaken old b i)) }
     ensures stays { KeepsImage N.Nvm nvm.old nvm.new }

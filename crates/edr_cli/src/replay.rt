@@ -1,5 +1,5 @@
 //! Serves `replay`: runs a trace over the memory of the records, and reports.
-ghost use Rattle.std.specs.Prelude.{◌≡◌, ◌+◌, ◌≤◌, All, IfOk, IfErr, OnOk};
+ghost use Rattle.std.specs.Prelude.{◌≡◌, ◌+◌, ◌≤◌, All, IfErr, OnOk};
 ghost use Rattle.edr_device.specs.Faults.{Rose};
 ghost use Rattle.edr_device.specs.Lent.{Between, GoesOn};
 ghost use Rattle.edr_device.specs.Told.{Told};
@@ -8,7 +8,7 @@ ghost use Rattle.edr_spell.specs.Spell.{IsCycleInput, largest_trace};
 ghost use Rattle.edr_replay.specs.Past.{LeavesPast};
 ghost use Rattle.edr_cli.specs.Replays.{IsReplayCause};
 ghost use Rattle.edr_cli.specs.Runs.{Runs, RunIs};
-ghost use Rattle.edr_cli.specs.Outside.{IsAtEnd, OfBoth, OfMemory, OfRun};
+ghost use Rattle.edr_cli.specs.Outside.{AnswersOfMemory, AnswersOfRun, FailsBy, IsAtEnd, OfMemory};
 ghost use Rattle.edr_cli.specs.Steps.{IsRunCause, Reports};
 
 use crate::endings::finish;
@@ -35,10 +35,8 @@ fn replay_source<S: Source, N: Nvm>(
     ensures lent { GoesOn N.Nvm nvm.old nvm.new }
     ensures past { Between N.Nvm LeavesPast nvm.old nvm.new }
     ensures end { OnOk result (IsAtEnd (S.left source.new)) }
-    ensures text { IfOk result (λ out. OfRun S.Source N.Nvm (RunIs form)
-        source.old nvm.old nvm.new out.items) }
-    ensures cause { IfErr result (OfBoth S.Source N.Nvm IsReplayCause
-        source.old source.new nvm.old nvm.new) }
+    ensures text { AnswersOfRun S.Source N.Nvm (RunIs form) source.old nvm.old nvm.new result }
+    ensures cause { FailsBy S.Source N.Nvm IsReplayCause source.old source.new nvm.old nvm.new result }
 {
     let cycles = trace_of(alloc, source)?;
     open_settled(alloc, nvm)?;
@@ -53,8 +51,7 @@ fn run<N: Nvm>(
     form: Form,
 ) -> Result<Vec<u8>, Fault>
     requires { All IsCycleInput cycles.now }
-    ensures text { IfOk result (λ out. OfMemory N.Nvm (Reports form cycles.now)
-        nvm.old nvm.new out.items) }
+    ensures text { AnswersOfMemory N.Nvm (Reports form cycles.now) nvm.old nvm.new result }
     ensures cause { IfErr result (OfMemory N.Nvm (IsRunCause cycles.now) nvm.old nvm.new) }
     ensures lent { GoesOn N.Nvm nvm.old nvm.new }
     ensures past { Between N.Nvm LeavesPast nvm.old nvm.new }
