@@ -1,4 +1,5 @@
 pub mod CountedLemmas
+pub mod EventLemmas
 pub mod PlaceLemmas
 pub mod PartLemmas
 pub mod FirstLemmas

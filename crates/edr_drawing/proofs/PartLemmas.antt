@@ -1,5 +1,5 @@
 -- What stands on a page in one piece.
-use Rattle.std.proofs.Common.{◌≡◌, ◌∙◌, sym, ap, subst, ℕ, zero, suc, ◌+◌, ◌*◌, ◌/◌, ◌%◌, ◌<◌, ◌⊎◌, inl, inr, arith, refl, List, [], ◌∷◌, ◌++◌, Contains, flat_map, append_assoc, append-nil}
+use Rattle.std.proofs.Common.{◌≡◌, ◌∙◌, sym, ap, subst, ℕ, zero, suc, ◌+◌, ◌*◌, ◌/◌, ◌%◌, ◌<◌, ◌⊎◌, inl, inr, arith, refl, List, [], ◌∷◌, ◌++◌, Contains, length, flat_map, append_assoc, append-nil}
 use Rattle.std.specs.List.{enumerate_from}
 use Rattle.std.proofs.lemmas.Bool.{cases_lt}
 use Rattle.std.proofs.lemmas.List.Elements.{Contains-append_cases}
@@ -8,18 +8,17 @@ use Rattle.edr_record.specs.declared.Profile.TheVariants.{Short, Long}
 use Rattle.edr_record.specs.declared.Record.{Record}
 use Rattle.edr_record.specs.Bounds.{slots_in}
 use Rattle.edr_record.specs.Parts.{PrePart}
-use Rattle.edr_image.specs.declared.BankView.{BankView}
-use Rattle.edr_image.specs.declared.BankView.TheVariants.{Event}
 use Rattle.edr_image.specs.declared.Found.{Found}
 use Rattle.edr_image.specs.Reports.{Report}
 use Rattle.edr_report.specs.Lines.{Line}
 use Rattle.edr_report.specs.Report.{event_lines, events_lines, found_records, run_lines}
+use Rattle.edr_drawing.specs.declared.Origin.{Origin}
+use Rattle.edr_drawing.specs.Events.{NumberedRecord, events_of}
 use Rattle.edr_drawing.specs.Scales.{flat_map_below}
 use Rattle.edr_drawing.specs.Tables.{row, row_of, line_row, elements_table, run_table}
 use Rattle.edr_drawing.specs.Pairs.{place_fact}
 use Rattle.edr_drawing.specs.ByTime.{block, block_slots, blocks, blocks_in, by_time, slot_row}
-use Rattle.edr_drawing.specs.Sheets.{sheet, sheets}
-use Rattle.edr_drawing.specs.Cover.{cover, events_in}
+use Rattle.edr_drawing.specs.Sheets.{sheet}
 use Rattle.edr_drawing.specs.Page.{page_bytes}
 use Rattle.edr_drawing.specs.Laws.{HasAllPlaces, HasAllSlotRows, HasSlotRows, IsInOnePiece, shown_row}
 
@@ -55,15 +54,15 @@ pub contains_later : {X : Type 0} (y : X) (ys : List X) (x : X) → Contains ys 
 contains_later y ys x (k, b, e) = (suc k, omega (arith, b), e)
 
 -- each element has a number
-numbered : {X : Type 0} (n : ℕ) (xs : List X) (x : X) → Contains xs x → (m : ℕ) × Contains (enumerate_from n xs) (m, x)
-numbered n [] x (k, b, e) = absurd (omega (arith, b))
-numbered n (y ∷ ys) x among = elim (contains_cases y ys x among) [
+has_number : {X : Type 0} (n : ℕ) (xs : List X) (x : X) → Contains xs x → (m : ℕ) × Contains (enumerate_from n xs) (m, x)
+has_number n [] x (k, b, e) = absurd (omega (arith, b))
+has_number n (y ∷ ys) x among = elim (contains_cases y ys x among) [
   | inl is ↦ (n, (0, omega arith, ap (λ z. (n, z)) is))
-  | inr later ↦ let there = numbered (n + 1) ys x later in (there.0, contains_later (n, y) (enumerate_from (n + 1) ys) (there.0, x) there.1)
+  | inr later ↦ let there = has_number (n + 1) ys x later in (there.0, contains_later (n, y) (enumerate_from (n + 1) ys) (there.0, x) there.1)
 ]
 
 -- what lists have together, one of them has
-in_one : {X A : Type 0} (f : X → List A) (xs : List X) (a : A) → Contains (flat_map f xs) a → (x : X) × Contains xs x × Contains (f x) a
+pub in_one : {X A : Type 0} (f : X → List A) (xs : List X) (a : A) → Contains (flat_map f xs) a → (x : X) × Contains xs x × Contains (f x) a
 in_one f [] a (k, b, e) = absurd (omega (arith, b))
 in_one f (x ∷ xs) a among = elim (Contains-append_cases (f x) (flat_map f xs) a among) [
   | inl here ↦ (x, (0, omega arith, refl), here)
@@ -80,41 +79,29 @@ piece_of_all part form each (y ∷ ys) x among = elim (contains_cases y ys x amo
 
 -- ---- the sheet of an event, among all sheets and on the page
 
-abbrev sheet_of : List Found → List ℕ → ℕ × (ℕ × Record) → List ℕ
-sheet_of all digest e = sheet all e.0 e.1.0 e.1.1 digest
+abbrev sheet_of : List NumberedRecord → List ℕ → NumberedRecord → List ℕ
+sheet_of events digest e = sheet events e.0 e.1.0 e.1.1 digest
 
-sheet_of_found : (all : List Found) (n bank : ℕ) (view : BankView) (fs : List Found) (digest : List ℕ) (e : ℕ × (ℕ × Record)) →
-    ((m : ℕ) → Contains (enumerate_from m (found_records fs)) e → Piece (sheet_of all digest e) (sheets all m fs digest)) →
-    Contains (enumerate_from n (found_records (record { bank = bank; view = view } ∷ fs))) e → Piece (sheet_of all digest e) (sheets all n (record { bank = bank; view = view } ∷ fs) digest)
-sheet_of_found all n bank (Event r) fs digest e rest among = elim (contains_cases (n, (bank, r)) (enumerate_from (n + 1) (found_records fs)) e among) [
-  | inl is ↦ piece_left (sheet_of all digest e) _ _ (subst (λ (x : ℕ × (ℕ × Record)). Piece (sheet_of all digest x) (sheet all n bank r digest)) is (piece_itself (sheet all n bank r digest)))
-  | inr later ↦ piece_right (sheet_of all digest e) _ _ (rest (n + 1) later)
-]
-sheet_of_found all n bank view fs digest e rest among = rest (n + 0) (subst (λ (m : ℕ). Contains (enumerate_from m (found_records fs)) e) (omega arith) among)
-
-sheet_of_sheets : (all : List Found) (n : ℕ) (found : List Found) (digest : List ℕ) (e : ℕ × (ℕ × Record)) → Contains (enumerate_from n (found_records found)) e → Piece (sheet_of all digest e) (sheets all n found digest)
-sheet_of_sheets all n [] digest e (k, b, is) = absurd (omega (arith, b))
-sheet_of_sheets all n (f ∷ fs) digest e among = sheet_of_found all n f.bank f.view fs digest e (λ m later. sheet_of_sheets all m fs digest e later) among
-
-sheet_on_page : (reports : List Report) (found : List Found) (count size : ℕ) (digest : List ℕ) (e : ℕ × (ℕ × Record)) →
-    Contains (enumerate_from 1 (found_records found)) e → Piece (sheet_of found digest e) (page_bytes reports found count size digest)
+sheet_on_page : (reports : List Report) (found : List Found) (origin : Origin) (e : NumberedRecord) →
+    Contains (events_of found) e → Piece (sheet_of (events_of found) origin.digest e) (page_bytes reports found origin)
 unfolding page_bytes
-sheet_on_page reports found count size digest e among =
-    let here = sheet_of_sheets found 1 found digest e among in search pieces
+sheet_on_page reports found origin e among =
+    let one = sheet_of (events_of found) origin.digest in
+    let here = piece_of_all one one (λ x. piece_itself (one x)) (events_of found) e among in search pieces
 
 -- ---- lines
 
-line_of_sheet : (all : List Found) (n bank : ℕ) (r : Record) (digest : List ℕ) (l : Line) → Contains (event_lines n bank r) l → Piece (shown_row l) (sheet all n bank r digest)
+line_of_sheet : (all : List NumberedRecord) (n bank : ℕ) (r : Record) (digest : List ℕ) (l : Line) → Contains (event_lines n bank r) l → Piece (shown_row l) (sheet all n bank r digest)
 unfolding sheet elements_table
 line_of_sheet all n bank r digest l among =
     let here = piece_of_all shown_row line_row (λ x. piece_right (shown_row x) _ (shown_row x) (piece_itself (shown_row x))) (event_lines n bank r) l among in
     search pieces depth 20
 
-pub event_on_page : (reports : List Report) (found : List Found) (count size : ℕ) (digest : List ℕ) (l : Line) →
-    Contains (events_lines 1 (found_records found)) l → IsInOnePiece (shown_row l) (page_bytes reports found count size digest)
-event_on_page reports found count size digest l among =
-    let of = in_one (λ (e : ℕ × (ℕ × Record)). event_lines e.0 e.1.0 e.1.1) (enumerate_from 1 (found_records found)) l among in
-    (piece_within (shown_row l) _ _ (line_of_sheet found of.0.0 of.0.1.0 of.0.1.1 digest l of.2) (sheet_on_page reports found count size digest of.0 of.1)).piece
+pub event_on_page : (reports : List Report) (found : List Found) (origin : Origin) (l : Line) →
+    Contains (events_lines 1 (found_records found)) l → IsInOnePiece (shown_row l) (page_bytes reports found origin)
+event_on_page reports found origin l among =
+    let of = in_one (λ (e : NumberedRecord). event_lines e.0 e.1.0 e.1.1) (events_of found) l among in
+    (piece_within (shown_row l) _ _ (line_of_sheet (events_of found) of.0.0 of.0.1.0 of.0.1.1 origin.digest l of.2) (sheet_on_page reports found origin of.0 of.1)).piece
 
 line_of_run : (reports : List Report) (retrieved : ℕ) (l : Line) → Contains (run_lines 1 reports) l → Piece (row_of l) (run_table reports retrieved)
 unfolding run_table
@@ -122,13 +109,13 @@ line_of_run [] retrieved l (k, b, e) = absurd (omega (arith, b))
 line_of_run (r ∷ rs) retrieved l among =
     let here = piece_of_all row_of row_of (λ x. piece_itself (row_of x)) (run_lines 1 (r ∷ rs)) l among in search pieces
 
-cycle_piece : (reports : List Report) (found : List Found) (count size : ℕ) (digest : List ℕ) (l : Line) → Contains (run_lines 1 reports) l → Piece (row_of l) (page_bytes reports found count size digest)
-unfolding page_bytes cover
-cycle_piece reports found count size digest l among = let here = line_of_run reports (events_in found) l among in search pieces depth 20
+cycle_piece : (reports : List Report) (found : List Found) (origin : Origin) (l : Line) → Contains (run_lines 1 reports) l → Piece (row_of l) (page_bytes reports found origin)
+unfolding page_bytes
+cycle_piece reports found origin l among = let here = line_of_run reports (length (events_of found)) l among in search pieces depth 20
 
-pub cycle_on_page : (reports : List Report) (found : List Found) (count size : ℕ) (digest : List ℕ) (l : Line) →
-    Contains (run_lines 1 reports) l → IsInOnePiece (row l.name l.value) (page_bytes reports found count size digest)
-cycle_on_page reports found count size digest l among = (cycle_piece reports found count size digest l among).piece
+pub cycle_on_page : (reports : List Report) (found : List Found) (origin : Origin) (l : Line) →
+    Contains (run_lines 1 reports) l → IsInOnePiece (row l.name l.value) (page_bytes reports found origin)
+cycle_on_page reports found origin l among = (cycle_piece reports found origin l among).piece
 
 -- ---- the slots of the table by time
 
@@ -160,22 +147,22 @@ slot_piece n p k within =
 pub slot_of_table : (n : ℕ) (p : PrePart) → HasSlotRows p (by_time n p)
 slot_of_table n p k within = (slot_piece n p k within).piece
 
-slot_of_sheet : (all : List Found) (n bank : ℕ) (r : Record) (digest : List ℕ) (k : ℕ) → k < slots_in r.pre.profile → Piece (slot_row r.pre k) (sheet all n bank r digest)
+slot_of_sheet : (all : List NumberedRecord) (n bank : ℕ) (r : Record) (digest : List ℕ) (k : ℕ) → k < slots_in r.pre.profile → Piece (slot_row r.pre k) (sheet all n bank r digest)
 unfolding sheet
 slot_of_sheet all n bank r digest k within = let here = slot_piece n r.pre k within in search pieces depth 20
 
-pub slots_on_page : (reports : List Report) (found : List Found) (count size : ℕ) (digest : List ℕ) → HasAllSlotRows found (page_bytes reports found count size digest)
-slots_on_page reports found count size digest e among k within =
-    let there = numbered 1 (found_records found) e among in
-    (piece_within (slot_row e.1.pre k) _ _ (slot_of_sheet found there.0 e.0 e.1 digest k within) (sheet_on_page reports found count size digest (there.0, e) there.1)).piece
+pub slots_on_page : (reports : List Report) (found : List Found) (origin : Origin) → HasAllSlotRows found (page_bytes reports found origin)
+slots_on_page reports found origin e among k within =
+    let there = has_number 1 (found_records found) e among in
+    (piece_within (slot_row e.1.pre k) _ _ (slot_of_sheet (events_of found) there.0 e.0 e.1 origin.digest k within) (sheet_on_page reports found origin (there.0, e) there.1)).piece
 
 -- ---- the place of an event in its crash
 
-place_of_sheet : (all : List Found) (n bank : ℕ) (r : Record) (digest : List ℕ) → Piece (place_fact all r.pre.key r.pre.place) (sheet all n bank r digest)
+place_of_sheet : (all : List NumberedRecord) (n bank : ℕ) (r : Record) (digest : List ℕ) → Piece (place_fact all r.pre.key r.pre.place) (sheet all n bank r digest)
 unfolding sheet
 place_of_sheet all n bank r digest = search pieces depth 20
 
-pub places_on_page : (reports : List Report) (found : List Found) (count size : ℕ) (digest : List ℕ) → HasAllPlaces found (page_bytes reports found count size digest)
-places_on_page reports found count size digest e among =
-    let there = numbered 1 (found_records found) e among in
-    (piece_within (place_fact found e.1.pre.key e.1.pre.place) _ _ (place_of_sheet found there.0 e.0 e.1 digest) (sheet_on_page reports found count size digest (there.0, e) there.1)).piece
+pub places_on_page : (reports : List Report) (found : List Found) (origin : Origin) → HasAllPlaces found (page_bytes reports found origin)
+places_on_page reports found origin e among =
+    let there = has_number 1 (found_records found) e among in
+    (piece_within (place_fact (events_of found) e.1.pre.key e.1.pre.place) _ _ (place_of_sheet (events_of found) there.0 e.0 e.1 origin.digest) (sheet_on_page reports found origin (there.0, e) there.1)).piece

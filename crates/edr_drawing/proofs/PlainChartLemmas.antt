@@ -6,7 +6,7 @@ use Rattle.edr_record.specs.Parts.{PrePart, CrashPart}
 use Rattle.edr_record.specs.declared.Profile.{Profile}
 use Rattle.edr_record.specs.declared.Profile.TheVariants.{Short, Long}
 use Rattle.edr_drawing.specs.declared.axes.CarAxis.{CarAxis}
-use Rattle.edr_drawing.specs.declared.before.TheConstants.{BRAKE_Y, FIELD_HEIGHT}
+use Rattle.edr_drawing.specs.declared.before.TheConstants.{BRAKE_BAND}
 use Rattle.edr_drawing.specs.declared.changes.Scale.{Scale}
 use Rattle.edr_drawing.specs.declared.lanes.ChartLane.{ChartLane}
 use Rattle.edr_drawing.specs.declared.shapes.Shape.{Shape}
@@ -14,7 +14,7 @@ use Rattle.edr_drawing.specs.declared.shapes.Shape.TheVariants as shape
 use Rattle.edr_drawing.specs.Shapes.{path_point, shape_bytes, shapes_bytes}
 use Rattle.edr_record.specs.declared.TheConstants.{POINT_STEP}
 use Rattle.edr_drawing.specs.Scales.{slot_x}
-use Rattle.edr_drawing.specs.Lanes.{cells, cells_of, drawn_lane, field_shapes, gap, lane_y, long_cells, points}
+use Rattle.edr_drawing.specs.Lanes.{cells, cells_of, drawn_lane, field_shapes, lane_y, long_cells, points, run_shapes}
 use Rattle.edr_drawing.specs.Before.{are_same, before_chart, brake_slots, switch_runs, switches, time_lines}
 use Rattle.edr_drawing.specs.Changes.{change_y, time_x}
 use Rattle.edr_drawing.specs.After.{axis_marks, axis_points, changes_chart, curve, drawn_curve, end_line, legend_gaps, level, levels, mark_at, maximum, maximum_number, past_window, time_lines as later_lines}
@@ -47,7 +47,7 @@ plain_long_cells : (l : ChartLane) (k n : ℕ) (vs : List (Option ℕ)) → Plai
 plain_long_cells l k n [] = plain_shapes _
 plain_long_cells l k n (None ∷ vs) = plain_long_cells l k (n + 1) vs
 plain_long_cells l k n (Some v ∷ vs) =
-    plain_append _ _ (plain_append _ _ (plain_shapes (gap l k n)) (plain_shapes (shape.Point (slot_x Long (k + n)) (lane_y l v) ∷ []))) (plain_long_cells l (k + n + 1) 0 vs)
+    plain_append _ _ (plain_append _ _ (plain_shapes (run_shapes k n l.gap None)) (plain_shapes (shape.Point (slot_x Long (k + n)) (lane_y l v) ∷ []))) (plain_long_cells l (k + n + 1) 0 vs)
 
 plain_cells_of : (f : Profile) (l : ChartLane) (vs : List (Option ℕ)) → Plain (cells_of f l vs)
 plain_cells_of Short l vs = plain_cells l 0 vs
@@ -55,7 +55,7 @@ plain_cells_of Long l vs = plain_long_cells l 0 0 vs
 
 plain_switches : (k : ℕ) (vs : List (Option Bool)) → Plain (switches k vs)
 plain_switches k [] = plain_nil
-plain_switches k (v ∷ vs) = plain_append _ _ (plain_shapes (field_shapes (slot_x Short k) BRAKE_Y FIELD_HEIGHT v)) (plain_switches (k + 1) vs)
+plain_switches k (v ∷ vs) = plain_append _ _ (plain_shapes (field_shapes (slot_x Short k) BRAKE_BAND v)) (plain_switches (k + 1) vs)
 
 plain_switch_runs : (k n : ℕ) (u : Option Bool) (vs : List (Option Bool)) → Plain (switch_runs k n u vs)
 plain_switch_runs k n u [] = plain_shapes _

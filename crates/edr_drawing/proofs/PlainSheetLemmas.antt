@@ -1,23 +1,25 @@
 -- The sheets of a page have plain texts.
-use Rattle.std.proofs.Common.{◌≡◌, refl, ℕ, ◌+◌, ◌<◌, Bool, true, Option, Some, None, List, [], ◌∷◌, All}
+use Rattle.std.proofs.Common.{◌≡◌, refl, ℕ, ◌<◌, Bool, true, Option, Some, None, List, [], ◌∷◌, All}
 use Rattle.edr_record.specs.declared.Key.{Key}
 use Rattle.edr_record.specs.declared.Place.{Place}
 use Rattle.edr_record.specs.declared.Place.TheVariants.{First, Second}
 use Rattle.edr_record.specs.declared.Record.{Record}
 use Rattle.edr_record.specs.Parts.{PrePart, CrashPart}
 use Rattle.edr_image.specs.declared.BankView.{BankView}
-use Rattle.edr_image.specs.declared.BankView.TheVariants.{Event, Damaged}
+use Rattle.edr_image.specs.declared.BankView.TheVariants.{Damaged}
 use Rattle.edr_image.specs.declared.Found.{Found}
 use Rattle.edr_image.specs.Reports.{Report}
 use Rattle.edr_drawing.specs.declared.shapes.TheConstants.{NONE}
+use Rattle.edr_drawing.specs.declared.Origin.{Origin}
+use Rattle.edr_drawing.specs.Events.{NumberedRecord}
 use Rattle.edr_drawing.specs.Reasons.{share_reason, switch_reason, pre_reasons, crash_reasons, reasons}
 use Rattle.edr_drawing.specs.Tables.{points_table, elements_table, run_table}
 use Rattle.edr_drawing.specs.ByTime.{block, by_time, mph, mph_word, number_word, slot_row}
-use Rattle.edr_drawing.specs.Pairs.{count_if, firsts_words, place_fact, place_told}
-use Rattle.edr_drawing.specs.Sheets.{facts, sheet, sheet_if, sheets}
-use Rattle.edr_drawing.specs.Cover.{extreme_cells, event_row, event_row_if, event_rows, events_table, damaged_item, damaged_list, cover}
+use Rattle.edr_drawing.specs.Pairs.{firsts_words, place_fact, place_told}
+use Rattle.edr_drawing.specs.Sheets.{facts, sheet}
+use Rattle.edr_drawing.specs.Cover.{cover_end, cover_start, damaged_item, damaged_list, event_row, events_table, extreme_cells}
 use Rattle.edr_drawing.specs.Page.{page_bytes, page_head}
-use Rattle.edr_drawing.proofs.PlainLemmas.{Plain, all_low, plain_nil, plain_append, plain_fixed, plain_beginning, plain_decimal, plain_digest, plains}
+use Rattle.edr_drawing.proofs.PlainLemmas.{Plain, all_low, plain_nil, plain_fixed, plain_beginning, plain_decimal, plain_digest, plains}
 use Rattle.edr_drawing.proofs.PlainChartLemmas.{plain_before_chart, plain_after_chart}
 use Rattle.edr_drawing.proofs.PlainLineLemmas.{plain_event_lines, plain_run_lines}
 
@@ -59,23 +61,14 @@ plain_firsts : (cycle : ℕ) (ns : List ℕ) → Plain (firsts_words cycle ns)
 plain_firsts cycle [] = search plains depth 20
 plain_firsts cycle (n ∷ ns) = search plains depth 60
 
-plain_place_told : (found : List Found) (key : Key) (place : Place) → Plain (place_told found key place)
-plain_place_told found key First = search plains depth 20
-plain_place_told found key (Second after) = search (plain_firsts, plains) depth 60
+plain_place_told : (events : List NumberedRecord) (key : Key) (place : Place) → Plain (place_told events key place)
+plain_place_told events key First = search plains depth 20
+plain_place_told events key (Second after) = search (plain_firsts, plains) depth 60
 
-plain_sheet : (found : List Found) (n bank : ℕ) (r : Record) (digest : List ℕ) → All (λ b. b < 256) digest → Plain (sheet found n bank r digest)
+plain_sheet : (events : List NumberedRecord) (n bank : ℕ) (r : Record) (digest : List ℕ) → All (λ b. b < 256) digest → Plain (sheet events n bank r digest)
 unfolding sheet facts place_fact reasons pre_reasons share_reason elements_table
-plain_sheet found n bank r digest small =
+plain_sheet events n bank r digest small =
     search (plain_place_told, plain_switch_reason, plain_crash_reasons, plain_event_lines, plain_points_table, plain_before_chart, plain_after_chart, plain_by_time, plain_digest, plains) depth 60 fits 8000
-
-plain_sheet_if : (found : List Found) (n bank : ℕ) (view : BankView) (digest : List ℕ) → All (λ b. b < 256) digest → Plain (sheet_if found n bank view digest)
-plain_sheet_if found n bank (Event r) digest small = plain_sheet found n bank r digest small
-plain_sheet_if found n bank view digest small = plain_nil
-
-plain_sheets : (found : List Found) (n : ℕ) (fs : List Found) (digest : List ℕ) → All (λ b. b < 256) digest → Plain (sheets found n fs digest)
-plain_sheets found n [] digest small = plain_nil
-plain_sheets found n (f ∷ fs) digest small =
-    plain_append _ _ (plain_sheet_if found n f.bank f.view digest small) (plain_sheets found (n + count_if f.view) fs digest small)
 
 -- the first sheet
 plain_extreme_cells : (crash : Option CrashPart) → Plain (extreme_cells crash)
@@ -83,22 +76,22 @@ unfolding extreme_cells
 plain_extreme_cells None = search plains depth 20
 plain_extreme_cells (Some c) = search plains depth 20
 
-plain_event_row_if : (n bank : ℕ) (view : BankView) → Plain (event_row_if n bank view)
+plain_event_row : (n bank : ℕ) (r : Record) → Plain (event_row n bank r)
 unfolding event_row
-plain_event_row_if n bank (Event r) = search (plain_extreme_cells, plains) depth 60
-plain_event_row_if n bank view = plain_nil
+plain_event_row n bank r = search (plain_extreme_cells, plains) depth 60
 
-plain_event_rows : (n : ℕ) (found : List Found) → Plain (event_rows n found)
-plain_event_rows n [] = plain_nil
-plain_event_rows n (f ∷ fs) = plain_append _ _ (plain_event_row_if n f.bank f.view) (plain_event_rows (n + count_if f.view) fs)
+plain_events : (events : List NumberedRecord) → Plain (events_table events)
+unfolding events_table
+plain_events [] = plain_nil
+plain_events (e ∷ es) = search (plain_event_row, plains) depth 60
 
 plain_damaged : (bank : ℕ) (view : BankView) → Plain (damaged_item bank view)
 plain_damaged bank (Damaged o x l) = search plains depth 20
 plain_damaged bank view = plain_nil
 
 -- the whole page
-pub plain_page : (reports : List Report) (found : List Found) (count size : ℕ) (digest : List ℕ) → All (λ b. b < 256) digest →
-    Plain (page_bytes reports found count size digest)
-unfolding page_bytes page_head cover events_table damaged_list
-plain_page reports found count size digest small =
-    search (plain_event_rows, plain_damaged, plain_run, plain_sheets, plain_digest, plain_beginning, plains) depth 60 fits 8000
+pub plain_page : (reports : List Report) (found : List Found) (origin : Origin) → All (λ b. b < 256) origin.digest →
+    Plain (page_bytes reports found origin)
+unfolding page_bytes page_head cover_start cover_end damaged_list
+plain_page reports found origin small =
+    search (plain_events, plain_damaged, plain_run, plain_sheet, plain_digest, plain_beginning, plains) depth 60 fits 8000

@@ -9,7 +9,7 @@ use Rattle.edr_drawing.specs.declared.shapes.Shape.{Shape}
 use Rattle.edr_drawing.specs.declared.shapes.Shape.TheVariants as shape
 use Rattle.edr_drawing.specs.Shapes.{shape_bytes, shapes_bytes}
 use Rattle.edr_drawing.specs.Scales.{slot_x}
-use Rattle.edr_drawing.specs.Lanes.{lane_y, cell, cells, gap, long_cells, cells_of, point, points}
+use Rattle.edr_drawing.specs.Lanes.{lane_y, cell, cells, cells_of, long_cells, point, points, run_shapes, word_y}
 use Rattle.edr_drawing.specs.Laws.{present, mark_of, is_mark, HasMarks}
 
 -- more shapes
@@ -31,11 +31,11 @@ short_marks l k (Some v ∷ vs) =
     (cell l k (Some v) ++ rest.0, drawn_after (cell l k (Some v)) (cells l (k + 1) vs) rest.0 rest.1, ap (λ (xs : List Shape). dot ∷ xs) rest.2)
 
 -- the field of a run has no mark
-no_mark : (l : ChartLane) (k n : ℕ) (es : List Shape) → filter is_mark (gap l k n ++ es) ≡ filter is_mark es
+no_mark : (l : ChartLane) (k n : ℕ) (es : List Shape) → filter is_mark (run_shapes k n l.gap None ++ es) ≡ filter is_mark es
 no_mark l k n es =
     by (nat_eq n 0) (nat_lt n ROOM_FOR_WORD)
-    (shape.Field (slot_x Long k - 3) (l.foot - l.room) (slot_x Long (k + n - 1) + 6 - slot_x Long k) l.room None)
-    (shape.Word ((slot_x Long k + slot_x Long (k + n - 1)) / 2) (l.foot - l.room + l.room / 2 + 9) None) refl refl
+    (shape.Field (slot_x Long k - 3) l.gap.y (slot_x Long (k + n - 1) + 6 - slot_x Long k) l.gap.height None)
+    (shape.Word ((slot_x Long k + slot_x Long (k + n - 1)) / 2) (word_y l.gap) None) refl refl
   where
     by : (b c : Bool) (field word : Shape) → is_mark field ≡ false → is_mark word ≡ false → filter is_mark ((if b then [] else field ∷ (if c then [] else word ∷ [])) ++ es) ≡ filter is_mark es
     by true c field word f w = refl
@@ -44,17 +44,18 @@ no_mark l k n es =
 
 -- the marks of a long profile
 long_marks : (l : ChartLane) (k n : ℕ) (vs : List (Option ℕ)) → Marks Long l (k + n) vs (long_cells l k n vs)
-long_marks l k n [] = (gap l k n, refl, ap (filter is_mark) (sym (append-nil (gap l k n))) ∙ no_mark l k n [])
+long_marks l k n [] = let field = run_shapes k n l.gap None in (field, refl, ap (filter is_mark) (sym (append-nil field)) ∙ no_mark l k n [])
 long_marks l k n (None ∷ vs) =
     let next : k + (n + 1) ≡ k + n + 1 = omega arith in
     subst (λ (j : ℕ). Marks Long l j vs (long_cells l k (n + 1) vs)) next (long_marks l k (n + 1) vs)
 long_marks l k n (Some v ∷ vs) =
     let next : k + n + 1 + 0 ≡ k + n + 1 = omega arith in
     let rest = subst (λ (j : ℕ). Marks Long l j vs (long_cells l (k + n + 1) 0 vs)) next (long_marks l (k + n + 1) 0 vs) in
-    let dot = shape.Point (slot_x Long (k + n)) (lane_y l v) in (
-      gap l k n ++ dot ∷ rest.0,
-      append_assoc (shapes_bytes (gap l k n)) (shapes_bytes (dot ∷ [])) (long_cells l (k + n + 1) 0 vs)
-          ∙ drawn_after (gap l k n) (shapes_bytes (dot ∷ []) ++ long_cells l (k + n + 1) 0 vs) (dot ∷ rest.0) (drawn_after (dot ∷ []) (long_cells l (k + n + 1) 0 vs) rest.0 rest.1),
+    let dot = shape.Point (slot_x Long (k + n)) (lane_y l v) in
+    let field = run_shapes k n l.gap None in (
+      field ++ dot ∷ rest.0,
+      append_assoc (shapes_bytes field) (shapes_bytes (dot ∷ [])) (long_cells l (k + n + 1) 0 vs)
+          ∙ drawn_after field (shapes_bytes (dot ∷ []) ++ long_cells l (k + n + 1) 0 vs) (dot ∷ rest.0) (drawn_after (dot ∷ []) (long_cells l (k + n + 1) 0 vs) rest.0 rest.1),
       no_mark l k n (dot ∷ rest.0) ∙ ap (λ (xs : List Shape). dot ∷ xs) rest.2,
     )
 

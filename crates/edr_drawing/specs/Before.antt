@@ -3,13 +3,13 @@ use Rattle.std.specs.Prelude.{ℕ, ◌+◌, ◌-◌, ◌*◌, max, Bool, true, f
 use Rattle.edr_record.specs.Parts.{PrePart}
 use Rattle.edr_record.specs.declared.Profile.{Profile}
 use Rattle.edr_record.specs.declared.Profile.TheVariants.{Short, Long}
-use Rattle.edr_drawing.specs.declared.before.TheConstants.{BEFORE_END, BEFORE_HEAD, BELT_NAME, BELT_Y, BRAKE_NAME, BRAKE_Y, FIELD_HEIGHT, LAMP_NAME, LAMP_Y, LAST_SPEED_STEP, SECOND_SLOTS, SLOTS_APART, SPANS, SPEED_LANE, SPEED_LINES, SPEED_STEPS, THROTTLE_LANE, THROTTLE_NAME, TIME_LINE, TIMES, ZERO_LINE}
+use Rattle.edr_drawing.specs.declared.before.TheConstants.{BEFORE_END, BEFORE_HEAD, BELT_NAME, BELT_Y, BRAKE_BAND, BRAKE_NAME, LAMP_NAME, LAMP_Y, LAST_SPEED_STEP, SECOND_SLOTS, SLOTS_APART, SPANS, SPEED_LANE, SPEED_LINES, SPEED_STEPS, THROTTLE_LANE, THROTTLE_NAME, TIME_LINE, TIMES, ZERO_LINE}
 use Rattle.edr_drawing.specs.declared.shapes.Shape.TheVariants as shape
 use Rattle.edr_drawing.specs.declared.lanes.ChartLane.{ChartLane}
 use Rattle.edr_drawing.specs.Template.{filled, fixed, of_profile, seconds}
 use Rattle.edr_drawing.specs.Shapes.{shapes_bytes}
 use Rattle.edr_drawing.specs.Scales.{time_at, slot_x, least_step, scale_top, flat_map_below}
-use Rattle.edr_drawing.specs.Lanes.{drawn_lane, field_shapes, run_shapes}
+use Rattle.edr_drawing.specs.Lanes.{drawn_lane, field_shapes, run_bytes}
 
 -- ---- the lanes of speed and throttle
 
@@ -47,7 +47,7 @@ time_lines f count = flat_map_below (time_line f) count
 -- the slots of a short profile, each with its field
 abbrev pub switches : ℕ → List (Option Bool) → List ℕ
 switches k [] = []
-switches k (v ∷ vs) = shapes_bytes (field_shapes (slot_x Short k) BRAKE_Y FIELD_HEIGHT v) ++ switches (k + 1) vs
+switches k (v ∷ vs) = shapes_bytes (field_shapes (slot_x Short k) BRAKE_BAND v) ++ switches (k + 1) vs
 
 abbrev pub are_same : Option Bool → Option Bool → Bool
 are_same (Some true) (Some true) = true
@@ -57,11 +57,11 @@ are_same u v = false
 
 -- these slots after n that are all u, the first of which has the number k: a field for each run of slots that are the same
 abbrev pub switch_runs : ℕ → ℕ → Option Bool → List (Option Bool) → List ℕ
-switch_runs k n u [] = shapes_bytes (run_shapes k n BRAKE_Y FIELD_HEIGHT u)
+switch_runs k n u [] = run_bytes k n BRAKE_BAND u
 switch_runs k n u (v ∷ vs) =
     if are_same u v
     then switch_runs k (n + 1) u vs
-    else shapes_bytes (run_shapes k n BRAKE_Y FIELD_HEIGHT u) ++ switch_runs (k + n) 1 v vs
+    else run_bytes k n BRAKE_BAND u ++ switch_runs (k + n) 1 v vs
 
 abbrev pub brake_slots : Profile → List (Option Bool) → List ℕ
 brake_slots Short vs = switches 0 vs

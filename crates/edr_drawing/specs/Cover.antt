@@ -1,13 +1,13 @@
 -- The first sheet of a page.
-use Rattle.std.specs.Prelude.{ℕ, ◌+◌, Bool, true, false, count_by, if◌then◌else◌, nat_eq, Option, Some, None, List, [], ◌∷◌, ◌++◌, flat_map, decimal}
+use Rattle.std.specs.Prelude.{ℕ, Bool, true, false, count_by, length, if◌then◌else◌, nat_eq, Option, Some, None, List, [], ◌∷◌, ◌++◌, flat_map, decimal}
 use Rattle.edr_record.specs.declared.Record.{Record}
 use Rattle.edr_record.specs.Parts.{CrashPart}
 use Rattle.edr_record.specs.Complete.{is_complete}
 use Rattle.edr_image.specs.declared.BankView.{BankView}
-use Rattle.edr_image.specs.declared.BankView.TheVariants.{Event, Damaged}
+use Rattle.edr_image.specs.declared.BankView.TheVariants.{Damaged}
 use Rattle.edr_image.specs.declared.Found.{Found}
-use Rattle.edr_image.specs.Reports.{Report}
 use Rattle.edr_report.specs.Words.{number_shown}
+use Rattle.edr_drawing.specs.declared.Origin.{Origin}
 use Rattle.edr_drawing.specs.declared.TheConstants.{VERSION}
 use Rattle.edr_drawing.specs.declared.axes.CarAxis.TheVariants.{Along, Across}
 use Rattle.edr_drawing.specs.declared.cover.TheConstants.{DAMAGED_BANK, DAMAGED_START, EVENT_END, EVENT_ROW, EVENTS_START, FIRST_FOOT, FIRST_SHEET, GREATEST, NO_GREATEST, SET_OR_NOT}
@@ -17,13 +17,9 @@ use Rattle.edr_drawing.specs.declared.sheets.TheConstants.{YES_NO}
 use Rattle.edr_drawing.specs.declared.tables.TheConstants.{TABLE_END}
 use Rattle.edr_drawing.specs.Template.{digest_hex, either, filled, fixed, place_words}
 use Rattle.edr_drawing.specs.Axes.{greatest_words}
-use Rattle.edr_drawing.specs.Pairs.{count_if, is_event}
-use Rattle.edr_drawing.specs.Tables.{run_table}
+use Rattle.edr_drawing.specs.Events.{NumberedRecord}
 
--- how many events were found, and how many damaged banks
-abbrev pub events_in : List Found → ℕ
-events_in found = count_by (λ f. is_event f.view) found
-
+-- how many damaged banks were found
 abbrev pub is_damaged : BankView → Bool
 is_damaged (Damaged o x l) = true
 is_damaged view = false
@@ -52,21 +48,13 @@ event_row n bank r =
     ++ extreme_cells r.crash
     ++ filled EVENT_END.now (either (is_complete r) YES_NO.0.now YES_NO.1.now ∷ [])
 
-abbrev pub event_row_if : ℕ → ℕ → BankView → List ℕ
-event_row_if n bank (Event r) = event_row n bank r
-event_row_if n bank view = []
-
--- the rows of events, the first of which has the number n
-abbrev pub event_rows : ℕ → List Found → List ℕ
-event_rows n [] = []
-event_rows n (f ∷ fs) = event_row_if n f.bank f.view ++ event_rows (n + count_if f.view) fs
+abbrev pub event_rows : List NumberedRecord → List ℕ
+event_rows events = flat_map (λ e. event_row e.0 e.1.0 e.1.1) events
 
 -- the table of events, where there are any
-unfoldable pub events_table : List Found → List ℕ
-events_table found =
-    if nat_eq (events_in found) 0
-    then []
-    else fixed EVENTS_START.now ++ event_rows 1 found ++ fixed TABLE_END.now
+unfoldable pub events_table : List NumberedRecord → List ℕ
+events_table [] = []
+events_table (e ∷ es) = fixed EVENTS_START.now ++ event_rows (e ∷ es) ++ fixed TABLE_END.now
 
 -- ---- the list of damaged banks
 
@@ -87,13 +75,16 @@ damaged_list found =
 
 -- ---- the whole sheet
 
--- the first sheet: what was found, fields that are filled in by hand, and how to read the pages
-unfoldable pub cover : List Report → List Found → ℕ → ℕ → List ℕ → List ℕ
-cover reports found count size digest =
-    filled FIRST_SHEET.now (decimal (events_in found) ∷ decimal (damaged_in found) ∷ decimal (number_shown count) ∷ [])
-    ++ events_table found
+-- the first sheet up to the cycles of the run: what was found
+unfoldable pub cover_start : List NumberedRecord → List Found → ℕ → List ℕ
+cover_start events found count =
+    filled FIRST_SHEET.now (decimal (length events) ∷ decimal (damaged_in found) ∷ decimal (number_shown count) ∷ [])
+    ++ events_table events
     ++ damaged_list found
-    ++ run_table reports (events_in found)
-    ++ fixed FORM.now
+
+-- after them: fields that are filled in by hand, and how to read the pages
+unfoldable pub cover_end : Origin → List ℕ
+cover_end origin =
+    fixed FORM.now
     ++ fixed NOTES.now
-    ++ filled FIRST_FOOT.now (decimal size ∷ digest_hex digest ∷ VERSION.now ∷ [])
+    ++ filled FIRST_FOOT.now (decimal origin.size ∷ digest_hex origin.digest ∷ VERSION.now ∷ [])

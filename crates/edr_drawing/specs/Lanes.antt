@@ -5,6 +5,7 @@ use Rattle.edr_record.specs.declared.Profile.TheVariants.{Short, Long}
 use Rattle.edr_drawing.specs.declared.shapes.Shape.{Shape}
 use Rattle.edr_drawing.specs.declared.shapes.Shape.TheVariants as shape
 use Rattle.edr_drawing.specs.declared.shapes.TheConstants.{PATH, PATH_END, PATHS}
+use Rattle.edr_drawing.specs.declared.lanes.Band.{Band}
 use Rattle.edr_drawing.specs.declared.lanes.ChartLane.{ChartLane}
 use Rattle.edr_drawing.specs.declared.lanes.TheConstants.{FIELD_WIDTH, GRID_LINE, ROOM_FOR_WORD}
 use Rattle.edr_drawing.specs.Template.{filled, fixed}
@@ -35,13 +36,17 @@ points f l k before (Some v ∷ vs) = point f l k before v ++ points f l (k + 1)
 
 -- ---- a short profile: a mark with its number for each slot that is there, and a field for each that is absent
 
+-- up: the word of a field
+abbrev pub word_y : Band → ℕ
+word_y b = b.y + b.height / 2 + 9
+
 -- the field of a slot, with its word
-abbrev pub field_shapes : ℕ → ℕ → ℕ → Option Bool → List Shape
-field_shapes x y height v = shape.Field (x - FIELD_WIDTH / 2) y FIELD_WIDTH height v ∷ shape.Word x (y + height / 2 + 9) v ∷ []
+abbrev pub field_shapes : ℕ → Band → Option Bool → List Shape
+field_shapes x b v = shape.Field (x - FIELD_WIDTH / 2) b.y FIELD_WIDTH b.height v ∷ shape.Word x (word_y b) v ∷ []
 
 -- what stands in the place of a slot
 abbrev pub cell : ChartLane → ℕ → Option ℕ → List Shape
-cell l k None = field_shapes (slot_x Short k) (l.foot - l.room) l.room None
+cell l k None = field_shapes (slot_x Short k) l.gap None
 cell l k (Some v) = shape.Dot (slot_x Short k) (lane_y l v) ∷ shape.Value (slot_x Short k) (lane_y l v - 17) v ∷ []
 
 abbrev pub cells : ChartLane → ℕ → List (Option ℕ) → List ℕ
@@ -51,28 +56,27 @@ cells l k (v ∷ vs) = shapes_bytes (cell l k v) ++ cells l (k + 1) vs
 -- ---- a long profile: a small mark for each slot that is there, and a field for each run of absent ones
 
 -- the field of n slots from slot k on, if there are any, with its word where there is room for it
-abbrev pub run_word : ℕ → ℕ → ℕ → ℕ → Option Bool → List Shape
-run_word k n y height v =
+abbrev pub run_word : ℕ → ℕ → Band → Option Bool → List Shape
+run_word k n b v =
     if nat_lt n ROOM_FOR_WORD
     then []
-    else shape.Word ((slot_x Long k + slot_x Long (k + n - 1)) / 2) (y + height / 2 + 9) v ∷ []
+    else shape.Word ((slot_x Long k + slot_x Long (k + n - 1)) / 2) (word_y b) v ∷ []
 
-abbrev pub run_shapes : ℕ → ℕ → ℕ → ℕ → Option Bool → List Shape
-run_shapes k n y height v =
+abbrev pub run_shapes : ℕ → ℕ → Band → Option Bool → List Shape
+run_shapes k n b v =
     if nat_eq n 0
     then []
-    else shape.Field (slot_x Long k - 3) y (slot_x Long (k + n - 1) + 6 - slot_x Long k) height v ∷ run_word k n y height v
+    else shape.Field (slot_x Long k - 3) b.y (slot_x Long (k + n - 1) + 6 - slot_x Long k) b.height v ∷ run_word k n b v
 
--- n absent slots from slot k on, if there are any
-abbrev pub gap : ChartLane → ℕ → ℕ → List Shape
-gap l k n = run_shapes k n (l.foot - l.room) l.room None
+abbrev pub run_bytes : ℕ → ℕ → Band → Option Bool → List ℕ
+run_bytes k n b v = shapes_bytes (run_shapes k n b v)
 
 -- these slots after n absent ones, the first of which has the number k
 abbrev pub long_cells : ChartLane → ℕ → ℕ → List (Option ℕ) → List ℕ
-long_cells l k n [] = shapes_bytes (gap l k n)
+long_cells l k n [] = run_bytes k n l.gap None
 long_cells l k n (None ∷ vs) = long_cells l k (n + 1) vs
 long_cells l k n (Some v ∷ vs) =
-    shapes_bytes (gap l k n)
+    run_bytes k n l.gap None
     ++ shapes_bytes (shape.Point (slot_x Long (k + n)) (lane_y l v) ∷ [])
     ++ long_cells l (k + n + 1) 0 vs
 
@@ -85,8 +89,14 @@ unfoldable pub drawn_lane : Profile → ChartLane → List (Option ℕ) → List
 drawn_lane f l vs =
     grid l ++ filled PATH.now (PATHS.0.now ∷ []) ++ points f l 0 false vs ++ fixed PATH_END.now ++ cells_of f l vs
 
+-- what fields keep to
+pub record IsBand (b : Band) : Type 0 where
+  pub y : b.y ≤ 1_000
+  pub height : b.height ≤ 1_000
+
 -- what a lane keeps to: a greatest value above 0, a step, and a place within its chart
 pub record IsChartLane (l : ChartLane) : Type 0 where
   pub top : (1 ≤ l.top) × (l.top ≤ 100_000)
   pub step : 1 ≤ l.step
-  pub place : (l.rise ≤ 1_000) × (l.foot ≤ 1_000) × (l.room ≤ 1_000)
+  pub place : (l.rise ≤ 1_000) × (l.foot ≤ 1_000)
+  pub gap : IsBand l.gap

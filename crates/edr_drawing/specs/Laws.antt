@@ -1,6 +1,5 @@
 -- What the laws of a page speak of.
 use Rattle.std.specs.Prelude.{◌≡◌, ◌≤◌, ◌<◌, ◌↔◌, ℕ, ◌+◌, ◌-◌, ℤ, Bool, true, false, Option, Some, None, List, [], ◌∷◌, ◌++◌, Contains, filter, map, flat_map}
-use Rattle.std.specs.List.{enumerate_from}
 use Rattle.edr_record.specs.declared.Key.{Key}
 use Rattle.edr_record.specs.declared.Place.TheVariants.{First}
 use Rattle.edr_record.specs.declared.Profile.{Profile}
@@ -23,6 +22,8 @@ use Rattle.edr_drawing.specs.Shapes.{shapes_bytes}
 use Rattle.edr_drawing.specs.Scales.{slot_x}
 use Rattle.edr_drawing.specs.Lanes.{lane_y, point}
 use Rattle.edr_drawing.specs.Changes.{change_y}
+use Rattle.edr_drawing.specs.declared.Origin.{Origin}
+use Rattle.edr_drawing.specs.Events.{events_of}
 use Rattle.edr_drawing.specs.Page.{page_bytes}
 use Rattle.edr_drawing.specs.Pairs.{firsts, place_fact}
 use Rattle.edr_drawing.specs.Tables.{row, shown_value}
@@ -52,7 +53,7 @@ HasAllSlotRows found page = (e : ℕ × Record) → Contains (found_records foun
 
 -- what its sheet says of an event's place stands there, of each event
 abbrev pub HasAllPlaces : List Found → List ℕ → Type 0
-HasAllPlaces found page = (e : ℕ × Record) → Contains (found_records found) e → IsInOnePiece (place_fact found e.1.pre.key e.1.pre.place) page
+HasAllPlaces found page = (e : ℕ × Record) → Contains (found_records found) e → IsInOnePiece (place_fact (events_of found) e.1.pre.key e.1.pre.place) page
 
 -- an event with this pre part may be the first one of the pair whose second has this key, and began so long after it: it was told
 -- as first, of an ignition cycle that is shown as the same, and as many tenths of a second before it, at most 5 s
@@ -65,17 +66,17 @@ pub record MayBeFirst (key : Key) (after : ℕ) (p : PrePart) : Type 0 where
 
 -- event n of those that were found is one of these
 abbrev pub IsFirstAt : List Found → Key → ℕ → ℕ → Type 0
-IsFirstAt found key after n = (e : ℕ × Record) × Contains (enumerate_from 1 (found_records found)) (n, e) × MayBeFirst key after e.1.pre
+IsFirstAt found key after n = (e : ℕ × Record) × Contains (events_of found) (n, e) × MayBeFirst key after e.1.pre
 
 -- the numbers that stand on the sheet are those of these events
 abbrev pub AreFirsts : List Found → Key → ℕ → Type 0
-AreFirsts found key after = (n : ℕ) → Contains (firsts key after 1 found) n ↔ IsFirstAt found key after n
+AreFirsts found key after = (n : ℕ) → Contains (firsts key after (events_of found)) n ↔ IsFirstAt found key after n
 
 -- of each page, with its reports, what it was found in and its digest, this is so
 abbrev pub OfPages : (List Report → List Found → List ℕ → List ℕ → Type 0) → Type 0
 OfPages says =
-    (reports : List Report) (found : List Found) (count size : ℕ) (digest : List ℕ)
-    → says reports found digest (page_bytes reports found count size digest)
+    (reports : List Report) (found : List Found) (origin : Origin)
+    → says reports found origin.digest (page_bytes reports found origin)
 
 -- the places and the values of the slots that are there, in order; the first slot has the number k
 abbrev pub present : ℕ → List (Option ℕ) → List (ℕ × ℕ)

@@ -10,6 +10,7 @@ pub mod Rows
 pub mod Reasons
 pub mod Tables
 pub mod ByTime
+pub mod Events
 pub mod Pairs
 pub mod Sheets
 pub mod Cover

@@ -1,12 +1,15 @@
 -- The page of a report.
-use Rattle.std.specs.Prelude.{ℕ, List, [], ◌∷◌, ◌++◌, take}
+use Rattle.std.specs.Prelude.{ℕ, List, [], ◌∷◌, ◌++◌, length, take}
 use Rattle.edr_image.specs.declared.Found.{Found}
 use Rattle.edr_image.specs.Reports.{Report}
+use Rattle.edr_drawing.specs.declared.Origin.{Origin}
 use Rattle.edr_drawing.specs.declared.long.TheConstants.{BODY, HEAD, ON_EACH_SIDE, PAGE_END, STYLE}
 use Rattle.edr_drawing.specs.declared.template.TheConstants.{BEGINNING}
 use Rattle.edr_drawing.specs.Template.{digest_hex, filled, fixed}
-use Rattle.edr_drawing.specs.Cover.{cover}
+use Rattle.edr_drawing.specs.Cover.{cover_start, cover_end}
+use Rattle.edr_drawing.specs.Events.{events_of}
 use Rattle.edr_drawing.specs.Sheets.{sheets}
+use Rattle.edr_drawing.specs.Tables.{run_table}
 
 -- the head with its style, which names the report by the beginning of its digest
 unfoldable pub page_head : List ℕ → List ℕ
@@ -17,9 +20,11 @@ page_head digest =
     ++ fixed BODY.now
 
 -- the head, the first sheet, and a sheet for each event
-unfoldable pub page_bytes : List Report → List Found → ℕ → ℕ → List ℕ → List ℕ
-page_bytes reports found count size digest =
-    page_head digest
-    ++ cover reports found count size digest
-    ++ sheets found 1 found digest
+unfoldable pub page_bytes : List Report → List Found → Origin → List ℕ
+page_bytes reports found origin =
+    page_head origin.digest
+    ++ cover_start (events_of found) found origin.count
+    ++ run_table reports (length (events_of found))
+    ++ cover_end origin
+    ++ sheets (events_of found) origin.digest
     ++ fixed PAGE_END.now

@@ -1,26 +1,16 @@
 -- Of which events of a report a second event may be the second.
-use Rattle.std.specs.Prelude.{ℕ, ◌+◌, ◌-◌, Bool, true, false, ◌&&◌, if◌then◌else◌, nat_eq, nat_le, nat_lt, List, [], ◌∷◌, ◌++◌, flat_map, decimal}
+use Rattle.std.specs.Prelude.{ℕ, ◌-◌, Bool, true, false, ◌&&◌, if◌then◌else◌, nat_eq, nat_le, nat_lt, List, [], ◌∷◌, ◌++◌, flat_map, decimal}
 use Rattle.edr_record.specs.declared.Key.{Key}
 use Rattle.edr_record.specs.declared.Place.{Place}
 use Rattle.edr_record.specs.declared.Place.TheVariants.{First, Second}
 use Rattle.edr_record.specs.declared.TheConstants.{LONGEST_PAIR}
 use Rattle.edr_record.specs.Parts.{PrePart}
-use Rattle.edr_image.specs.declared.BankView.{BankView}
-use Rattle.edr_image.specs.declared.BankView.TheVariants.{Event}
-use Rattle.edr_image.specs.declared.Found.{Found}
 use Rattle.edr_report.specs.declared.TheConstants.{LARGEST_SHOWN_COUNT}
 use Rattle.edr_report.specs.Words.{number_shown, tenths_of}
 use Rattle.edr_drawing.specs.declared.pairs.TheConstants.{ELSEWHERE, EVENT, IF_SAME_CYCLE, OR_EVENT, PLACE_END, PLACE_START, SECOND_AFTER}
 use Rattle.edr_drawing.specs.declared.template.TheConstants.{FIRST}
 use Rattle.edr_drawing.specs.Template.{filled, fixed, seconds}
-
--- a bank has an event, and so how many it has
-abbrev pub is_event : BankView → Bool
-is_event (Event r) = true
-is_event view = false
-
-abbrev pub count_if : BankView → ℕ
-count_if view = if is_event view then 1 else 0
+use Rattle.edr_drawing.specs.Events.{NumberedRecord}
 
 -- ---- the first event of a pair
 
@@ -41,15 +31,9 @@ is_so_long_before first second after =
 abbrev pub is_first_of : Key → ℕ → PrePart → Bool
 is_first_of key after p = is_first p.place && is_so_long_before p.key key after
 
-abbrev pub is_first_if : Key → ℕ → BankView → Bool
-is_first_if key after (Event r) = is_first_of key after r.pre
-is_first_if key after view = false
-
--- the numbers of the events that may be it, the first of which has the number n
-abbrev pub firsts : Key → ℕ → ℕ → List Found → List ℕ
-firsts key after n [] = []
-firsts key after n (f ∷ fs) =
-    (if is_first_if key after f.view then n ∷ [] else []) ++ firsts key after (n + count_if f.view) fs
+-- the numbers of the events that may be it
+abbrev pub firsts : Key → ℕ → List NumberedRecord → List ℕ
+firsts key after events = flat_map (λ e. if is_first_of key after e.1.1.pre then e.0 ∷ [] else []) events
 
 -- ---- what the sheet of an event says of its place
 
@@ -64,11 +48,11 @@ firsts_words cycle (n ∷ ns) =
     ++ flat_map or_event ns
     ++ (if nat_le LARGEST_SHOWN_COUNT cycle then fixed IF_SAME_CYCLE.now else [])
 
--- the place of an event with this key in its crash, with the events found of which it may be the second
-abbrev pub place_told : List Found → Key → Place → List ℕ
-place_told found key First = fixed FIRST.now
-place_told found key (Second after) =
-    filled SECOND_AFTER.now (seconds (tenths_of after) ∷ []) ++ firsts_words key.cycle (firsts key after 1 found)
+-- the place of an event with this key in its crash, with those of the events of which it may be the second
+abbrev pub place_told : List NumberedRecord → Key → Place → List ℕ
+place_told events key First = fixed FIRST.now
+place_told events key (Second after) =
+    filled SECOND_AFTER.now (seconds (tenths_of after) ∷ []) ++ firsts_words key.cycle (firsts key after events)
 
-unfoldable pub place_fact : List Found → Key → Place → List ℕ
-place_fact found key place = fixed PLACE_START.now ++ place_told found key place ++ fixed PLACE_END.now
+unfoldable pub place_fact : List NumberedRecord → Key → Place → List ℕ
+place_fact events key place = fixed PLACE_START.now ++ place_told events key place ++ fixed PLACE_END.now

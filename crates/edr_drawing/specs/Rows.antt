@@ -19,16 +19,16 @@ use Rattle.edr_drawing.specs.After.{changes_chart}
 abbrev pub beside : ℕ → ℕ
 beside x = if nat_lt x FLAG_FAR_RIGHT then x + BESIDE_FLAG else x - BESIDE_FLAG
 
--- the row of something at a time, with its name and these words
-abbrev pub timed_row : List ℕ → Scale → ℕ → List ℕ → ℕ → List ℕ → List ℕ
-timed_row template s y label t words =
+-- the row of something at a time, which stands there across, with its name and these words
+abbrev pub timed_row : List ℕ → ℕ → List ℕ → ℕ → List ℕ → List ℕ
+timed_row template y label x words =
     filled template
     (decimal (y + WORDS_DOWN)
     ∷ label
-    ∷ decimal (time_x s t)
+    ∷ decimal x
     ∷ decimal (y + FLAG_DOWN)
-    ∷ decimal (beside (time_x s t))
-    ∷ either (nat_lt (time_x s t) FLAG_FAR_RIGHT) BESIDE_CLASSES.0.now BESIDE_CLASSES.1.now
+    ∷ decimal (beside x)
+    ∷ either (nat_lt x FLAG_FAR_RIGHT) BESIDE_CLASSES.0.now BESIDE_CLASSES.1.now
     ∷ words
     ∷ [])
 
@@ -42,7 +42,7 @@ abbrev pub restraint_y : ℕ → ℕ
 restraint_y row = RESTRAINTS_Y + ROW_HEIGHT * row
 
 unfoldable pub restraint_row : Scale → ℕ → List ℕ → Option ℕ → List ℕ
-restraint_row s row label (Some t) = timed_row FIRED_ROW.now s (restraint_y row) label t (milliseconds t)
+restraint_row s row label (Some t) = timed_row FIRED_ROW.now (restraint_y row) label (time_x s t) (milliseconds t)
 restraint_row s row label None = empty_row (restraint_y row) label NONE.now
 
 -- the rows of restraints with these labels, the first of which stands in this row
@@ -57,17 +57,17 @@ unfoldable pub extreme_row : Scale → ℕ → List ℕ → CrashPart → CarAxi
 extreme_row s y label c a =
     if is_silent c a
     then empty_row y label NO_SAMPLE.now
-    else timed_row TIMED_ROW.now s y label (extreme_of c a).at (extreme_words (extreme_of c a))
+    else timed_row TIMED_ROW.now y label (time_x s (extreme_of c a).at) (extreme_words (extreme_of c a))
 
 unfoldable pub resultant_row : Scale → CrashPart → List ℕ
 resultant_row s c =
     if is_silent c Along && is_silent c Across
     then empty_row RESULTANT_ROW.0 RESULTANT_ROW.1.now NO_SAMPLE.now
-    else timed_row TIMED_ROW.now s RESULTANT_ROW.0 RESULTANT_ROW.1.now c.result_at (milliseconds c.result_at)
+    else timed_row TIMED_ROW.now RESULTANT_ROW.0 RESULTANT_ROW.1.now (time_x s c.result_at) (milliseconds c.result_at)
 
 unfoldable pub event_rows : Scale → CrashPart → List ℕ
 event_rows s c =
-    timed_row TIMED_ROW.now s END_ROW.0 END_ROW.1.now c.end (milliseconds c.end)
+    timed_row TIMED_ROW.now END_ROW.0 END_ROW.1.now (time_x s c.end) (milliseconds c.end)
     ++ extreme_row s ALONG_ROW.0 ALONG_ROW.1.now c Along
     ++ extreme_row s ACROSS_ROW.0 ACROSS_ROW.1.now c Across
     ++ resultant_row s c

@@ -1,16 +1,15 @@
 -- The sheet of an event.
-use Rattle.std.specs.Prelude.{ℕ, ◌+◌, Bool, List, [], ◌∷◌, ◌++◌, decimal}
+use Rattle.std.specs.Prelude.{ℕ, Bool, List, [], ◌∷◌, ◌++◌, flat_map, decimal}
 use Rattle.edr_record.specs.declared.Key.{Key}
 use Rattle.edr_record.specs.declared.Profile.{Profile}
 use Rattle.edr_record.specs.declared.Record.{Record}
 use Rattle.edr_record.specs.Complete.{is_complete}
-use Rattle.edr_image.specs.declared.BankView.{BankView}
-use Rattle.edr_image.specs.declared.BankView.TheVariants.{Event}
-use Rattle.edr_image.specs.declared.Found.{Found}
 use Rattle.edr_report.specs.Words.{number_shown}
 use Rattle.edr_drawing.specs.declared.sheets.TheConstants.{FACTS, PROFILES, SHEET_FOOT, SHEET_HEAD, YES_NO}
 use Rattle.edr_drawing.specs.Template.{digest_hex, either, filled, of_profile}
-use Rattle.edr_drawing.specs.Pairs.{count_if, place_fact}
+use Rattle.edr_drawing.specs.declared.events.FoundEvent.{FoundEvent}
+use Rattle.edr_drawing.specs.Events.{NumberedRecord, numbered}
+use Rattle.edr_drawing.specs.Pairs.{place_fact}
 use Rattle.edr_drawing.specs.Reasons.{reasons}
 use Rattle.edr_drawing.specs.Before.{before_chart}
 use Rattle.edr_drawing.specs.ByTime.{by_time}
@@ -30,12 +29,12 @@ facts bank key locked profile =
 
 -- ---- the whole sheet
 
--- the sheet of event n of those that were found, which this bank holds
-unfoldable pub sheet : List Found → ℕ → ℕ → Record → List ℕ → List ℕ
-sheet found n bank r digest =
+-- the sheet of event n, which this bank holds, among all events
+unfoldable pub sheet : List NumberedRecord → ℕ → ℕ → Record → List ℕ → List ℕ
+sheet events n bank r digest =
     filled SHEET_HEAD.now (decimal n ∷ either (is_complete r) YES_NO.0.now YES_NO.1.now ∷ [])
     ++ facts bank r.pre.key r.locked r.pre.profile
-    ++ place_fact found r.pre.key r.pre.place
+    ++ place_fact events r.pre.key r.pre.place
     ++ reasons r
     ++ before_chart n r.pre
     ++ after_chart n r.crash
@@ -46,12 +45,13 @@ sheet found n bank r digest =
 
 -- ---- the sheets of a page
 
--- the sheet of a bank, if it has an event
-abbrev pub sheet_if : List Found → ℕ → ℕ → BankView → List ℕ → List ℕ
-sheet_if found n bank (Event r) digest = sheet found n bank r digest
-sheet_if found n bank view digest = []
+-- that of an event as the code has it
+abbrev pub sheet_of : List FoundEvent → FoundEvent → List ℕ → List ℕ
+sheet_of events e digest = sheet (numbered events) e.number e.bank e.event.now digest
 
--- the sheets of some of the events that were found, the first of which has the number n
-abbrev pub sheets : List Found → ℕ → List Found → List ℕ → List ℕ
-sheets found n [] digest = []
-sheets found n (f ∷ fs) digest = sheet_if found n f.bank f.view digest ++ sheets found (n + count_if f.view) fs digest
+-- the sheets of these, each among all events
+abbrev pub sheets_among : List NumberedRecord → List NumberedRecord → List ℕ → List ℕ
+sheets_among all events digest = flat_map (λ e. sheet all e.0 e.1.0 e.1.1 digest) events
+
+abbrev pub sheets : List NumberedRecord → List ℕ → List ℕ
+sheets events digest = sheets_among events events digest

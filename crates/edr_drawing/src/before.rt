@@ -8,7 +8,7 @@ ghost use Rattle.edr_drawing.specs.Scales.{time_at};
 ghost use Rattle.edr_drawing.specs.Lanes.{IsChartLane, drawn_lane};
 ghost use Rattle.edr_drawing.specs.Before.{are_same, before_chart, brake_slots, greatest, second_x, speed_lane, switch_runs, switches, tenths_before, time_lines};
 
-use crate::lanes::{ChartLane, draw_field, draw_lane, draw_run};
+use crate::lanes::{Band, ChartLane, draw_field, draw_lane, draw_run};
 use crate::scales::{least_step, scale_top, slot_x, time_at};
 use crate::shapes::{Shape, draw};
 use crate::template::Filling::{Count, Number, Seconds, Text};
@@ -73,7 +73,7 @@ pub const SPEED_LANE: ChartLane = ChartLane {
     rise: 140,
     top: 1,
     step: 1,
-    room: 170,
+    gap: Band { y: 50, height: 170 },
 };
 
 /// The steps in km/h that its lines may have, at most [`SPEED_LINES`] of them.
@@ -88,18 +88,16 @@ pub const THROTTLE_LANE: ChartLane = ChartLane {
     rise: 70,
     top: 100,
     step: 50,
-    room: 96,
+    gap: Band { y: 250, height: 96 },
 };
 
-/// Where the fields of the service brake stand up, and how high they are.
-pub const BRAKE_Y: u32 = 367;
+/// Where the fields of the service brake stand.
+pub const BRAKE_BAND: Band = Band { y: 367, height: 34 };
 
 /// Where the marks of belt and lamp begin.
 pub const BELT_Y: u16 = 411;
 
 pub const LAMP_Y: u16 = 453;
-
-pub const FIELD_HEIGHT: u32 = 34;
 
 /// The slots of a short profile and of a long one that lie 1 s before time zero.
 pub const SECOND_SLOTS: (u32, u32) = (8, 190);
@@ -192,7 +190,7 @@ fn draw_short_brake(out: &mut Vec<u8>, slots: &[Option<bool>]) -> Drawn
 {
     for k in 0..slots.len() {
         let x = slot_x(Profile::Short, k as u32);
-        draw_field(out, x, BRAKE_Y, FIELD_HEIGHT, slots[k])?;
+        draw_field(out, x, BRAKE_BAND, slots[k])?;
     }
     Ok(())
 }
@@ -219,13 +217,13 @@ fn draw_long_brake(out: &mut Vec<u8>, slots: &[Option<bool>]) -> Drawn
         if are_same(switch, next) {
             count += 1;
         } else {
-            draw_run(out, first, count, BRAKE_Y, FIELD_HEIGHT, switch)?;
+            draw_run(out, first, count, BRAKE_BAND, switch)?;
             first += count;
             count = 1;
             switch = next;
         }
     }
-    draw_run(out, first, count, BRAKE_Y, FIELD_HEIGHT, switch)
+    draw_run(out, first, count, BRAKE_BAND, switch)
 }
 
 // Draws the fields of the slots.

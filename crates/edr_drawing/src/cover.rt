@@ -1,22 +1,21 @@
 //! The first sheet of a page.
 
-ghost use Rattle.std.specs.Prelude.{◌≡◌, ◌++◌, ◌≤◌, ◌+◌, OnOk, map};
-ghost use Rattle.edr_image.specs.Reports.{report_of};
-ghost use Rattle.edr_drawing.specs.Cover.{events_in, damaged_in, is_damaged, extreme_cells, event_row, event_row_if, event_rows, events_table, damaged_item, damaged_items, damaged_list, cover};
+ghost use Rattle.std.specs.Prelude.{◌≡◌, ◌++◌, ◌≤◌, OnOk};
+ghost use Rattle.edr_drawing.specs.Events.{numbered};
+ghost use Rattle.edr_drawing.specs.Cover.{cover_end, cover_start, damaged_in, damaged_item, damaged_items, damaged_list, event_row, event_rows, events_table, extreme_cells, is_damaged};
 
-use crate::VERSION;
 use crate::axes::{CarAxis, greatest};
+use crate::events::FoundEvent;
 use crate::long::{FORM, NOTES};
-use crate::pairs::is_event;
 use crate::reasons::LIST_END;
 use crate::sheets::YES_NO;
-use crate::tables::{TABLE_END, put_run};
+use crate::tables::TABLE_END;
 use crate::template::Filling::{Count, Digest, Number, Place, Text};
 use crate::template::{Drawn, either, fill, put};
-use edr_image::{BankView, CycleReport, Found};
-use edr_record::{Crash, Record};
+use crate::{Origin, VERSION};
+use edr_image::{BankView, Found};
+use edr_record::Crash;
 use edr_report::number_shown;
-use std::alloc::Global;
 
 pub const FIRST_SHEET: &[u8] = br#"<section aria-labelledby="r">
 <h1 id="r">Event data recorder: retrieved events</h1>
@@ -55,13 +54,6 @@ pub const FIRST_FOOT: &[u8] =
 </section>
 "#;
 
-// How many events were found.
-fn events_in(found: &[Found]) -> u64
-    ensures { result ≡ events_in found.now }
-{
-    found.iter().filter(|bank| is_event(&bank.view)).count() as u64
-}
-
 fn is_damaged(view: &BankView) -> bool
     ensures { result ≡ is_damaged view.now }
 {
@@ -92,12 +84,13 @@ fn put_extremes(out: &mut Vec<u8>, crash: &Option<Crash>) -> Drawn
 
 // Appends the row of an event.
 #[tactic(auto, unfolding(crate::specs::Cover::event_row))]
-fn put_event_row(out: &mut Vec<u8>, number: u64, bank: u8, event: &Record) -> Drawn
-    ensures { OnOk result (out.new.items ≡ out.old.items ++ event_row number bank event.now) }
+fn put_event_row(out: &mut Vec<u8>, one: &FoundEvent<'_>) -> Drawn
+    ensures { OnOk result (out.new.items ≡ out.old.items ++ event_row one.now.number one.now.bank one.now.event.now) }
 {
+    let event = one.event;
     let cells = [
-        Count(number),
-        Number(u32::from(bank)),
+        Count(one.number),
+        Number(u32::from(one.bank)),
         Number(number_shown(event.pre.key.cycle)),
         Number(event.pre.key.zero),
         Place(event.pre.place),
@@ -108,36 +101,25 @@ fn put_event_row(out: &mut Vec<u8>, number: u64, bank: u8, event: &Record) -> Dr
     fill(out, EVENT_END, &[Text(either(event.complete(), YES_NO))])
 }
 
-fn put_event_row_if(out: &mut Vec<u8>, number: u64, found: &Found) -> Drawn
-    ensures { OnOk result (out.new.items ≡ out.old.items ++ event_row_if number found.now.bank found.now.view) }
+fn put_event_rows(out: &mut Vec<u8>, events: &[FoundEvent<'_>]) -> Drawn
+    ensures { OnOk result (out.new.items ≡ out.old.items ++ event_rows (numbered events.now)) }
 {
-    match &found.view {
-        BankView::Event(event) => put_event_row(out, number, found.bank, event),
-        _ => Ok(()),
-    }
-}
-
-fn put_event_rows(out: &mut Vec<u8>, found: &[Found]) -> Drawn
-    ensures { OnOk result (out.new.items ≡ out.old.items ++ event_rows 1 found.now) }
-{
-    let mut number = 1;
-    for bank in found {
-        put_event_row_if(out, number, bank)?;
-        number += u64::from(is_event(&bank.view));
+    for event in events {
+        put_event_row(out, event)?;
     }
     Ok(())
 }
 
 // Appends the table of events, if there are any.
 #[tactic(auto, unfolding(crate::specs::Cover::events_table))]
-fn put_events(out: &mut Vec<u8>, found: &[Found]) -> Drawn
-    ensures { OnOk result (out.new.items ≡ out.old.items ++ events_table found.now) }
+fn put_events(out: &mut Vec<u8>, events: &[FoundEvent<'_>]) -> Drawn
+    ensures { OnOk result (out.new.items ≡ out.old.items ++ events_table (numbered events.now)) }
 {
-    if events_in(found) == 0 {
+    if events.is_empty() {
         return Ok(());
     }
     put(out, EVENTS_START)?;
-    put_event_rows(out, found)?;
+    put_event_rows(out, events)?;
     put(out, TABLE_END)
 }
 
@@ -182,27 +164,30 @@ fn put_damaged(out: &mut Vec<u8>, found: &[Found]) -> Drawn
     put(out, LIST_END)
 }
 
-/// Appends the first sheet.
-#[tactic(auto, unfolding(crate::specs::Cover::cover))]
-pub fn put_cover(
+/// Appends the first sheet up to the cycles of the run.
+#[tactic(auto, using(crate::proofs::EventLemmas::as_many), unfolding(crate::specs::Cover::cover_start))]
+pub fn put_cover_start(
     out: &mut Vec<u8>,
-    alloc: Global,
-    run: &[CycleReport],
+    events: &[FoundEvent<'_>],
     found: &[Found],
     count: u32,
-    size: u32,
-    digest: &[u8; 32],
 ) -> Drawn
-    ensures { OnOk result (out.new.items ≡ out.old.items ++ cover (map report_of run.now) found.now count size digest.now) }
+    ensures { OnOk result (out.new.items ≡ out.old.items ++ cover_start (numbered events.now) found.now count) }
 {
-    let (events, damaged) = (events_in(found), damaged_in(found));
-    let counts = [Count(events), Count(damaged), Number(number_shown(count))];
+    let (recorded, damaged) = (events.len() as u64, damaged_in(found));
+    let counts = [Count(recorded), Count(damaged), Number(number_shown(count))];
     fill(out, FIRST_SHEET, &counts)?;
-    put_events(out, found)?;
-    put_damaged(out, found)?;
-    put_run(out, alloc, run, events)?;
+    put_events(out, events)?;
+    put_damaged(out, found)
+}
+
+/// Appends what the first sheet has after them.
+#[tactic(auto, unfolding(crate::specs::Cover::cover_end))]
+pub fn put_cover_end(out: &mut Vec<u8>, origin: &Origin) -> Drawn
+    ensures { OnOk result (out.new.items ≡ out.old.items ++ cover_end origin.now) }
+{
     put(out, FORM)?;
     put(out, NOTES)?;
-    let foot = [Number(size), Digest(*digest), Text(VERSION)];
+    let foot = [Number(origin.size), Digest(origin.digest), Text(VERSION)];
     fill(out, FIRST_FOOT, &foot)
 }

@@ -4,7 +4,7 @@ ghost use Rattle.std.specs.Prelude.{◌≡◌, ◌++◌, ◌≤◌, ◌<◌, ◌
 ghost use Rattle.edr_record.specs.declared.TheConstants.{LONG_SLOTS, SHORT_SLOTS};
 ghost use Rattle.edr_record.specs.Bounds.{slots_in};
 ghost use Rattle.edr_drawing.specs.Shapes.{shapes_bytes};
-ghost use Rattle.edr_drawing.specs.Lanes.{IsChartLane, cell, cells, cells_of, drawn_lane, field_shapes, gap, grid, lane_y, long_cells, points, run_shapes};
+ghost use Rattle.edr_drawing.specs.Lanes.{IsBand, IsChartLane, cell, cells, cells_of, drawn_lane, field_shapes, grid, lane_y, long_cells, points, run_bytes};
 
 use crate::scales::slot_x;
 use crate::shapes::{PATH, PATH_END, PATHS, Shape, draw, put_point};
@@ -23,15 +23,22 @@ pub const FIELD_WIDTH: u32 = 100;
 /// From this many slots on, the field of a run has room for its word.
 pub const ROOM_FOR_WORD: u32 = 10;
 
-/// A lane: where its 0 stands, how far above that its top stands, which value that is, the step between its lines, and how
-/// much room it has above its foot.
+/// Where fields stand up, and how high they are.
+#[derive(Clone, Copy)]
+pub struct Band {
+    pub y: u32,
+    pub height: u32,
+}
+
+/// A lane: where its 0 stands, how far above that its top stands, which value that is, the step between its lines, and
+/// where the fields of absent slots stand.
 #[derive(Clone, Copy)]
 pub struct ChartLane {
     pub foot: u32,
     pub rise: u32,
     pub top: u32,
     pub step: u32,
-    pub room: u32,
+    pub gap: Band,
 }
 
 // Where a value stands up.
@@ -98,15 +105,17 @@ fn draw_cell(out: &mut Vec<u8>, lane: &ChartLane, k: u32, slot: Option<u16>) -> 
                 ],
             )
         }
-        None => draw_field(out, x, lane.foot.saturating_sub(lane.room), lane.room, None),
+        None => draw_field(out, x, lane.gap, None),
     }
 }
 
 /// Draws the field of a slot of a short profile, which stands there and shows this.
-pub fn draw_field(out: &mut Vec<u8>, x: u32, y: u32, height: u32, shows: Option<bool>) -> Drawn
-    requires place { (400 ≤ x) × (x ≤ 30_000) × (y ≤ 1_000) × (height ≤ 1_000) }
-    ensures { OnOk result (out.new.items ≡ out.old.items ++ shapes_bytes (field_shapes x y height shows)) }
+pub fn draw_field(out: &mut Vec<u8>, x: u32, band: Band, shows: Option<bool>) -> Drawn
+    requires across { (400 ≤ x) × (x ≤ 30_000) }
+    requires up { IsBand band }
+    ensures { OnOk result (out.new.items ≡ out.old.items ++ shapes_bytes (field_shapes x band shows)) }
 {
+    let Band { y, height } = band;
     let field = Shape::Field(x - FIELD_WIDTH / 2, y, FIELD_WIDTH, height, shows);
     draw(out, &[field, Shape::Word(x, y + height / 2 + 9, shows)])
 }
@@ -124,18 +133,12 @@ fn draw_short(out: &mut Vec<u8>, lane: &ChartLane, slots: &[Option<u16>]) -> Dra
 }
 
 /// Draws the field of a run of slots of a long profile, if there are any.
-pub fn draw_run(
-    out: &mut Vec<u8>,
-    first: u32,
-    count: u32,
-    y: u32,
-    height: u32,
-    shows: Option<bool>,
-) -> Drawn
+pub fn draw_run(out: &mut Vec<u8>, first: u32, count: u32, band: Band, shows: Option<bool>) -> Drawn
     requires run { first + count ≤ LONG_SLOTS }
-    requires place { (y ≤ 1_000) × (height ≤ 1_000) }
-    ensures { OnOk result (out.new.items ≡ out.old.items ++ shapes_bytes (run_shapes first count y height shows)) }
+    requires up { IsBand band }
+    ensures { OnOk result (out.new.items ≡ out.old.items ++ run_bytes first count band shows) }
 {
+    let Band { y, height } = band;
     if count == 0 {
         return Ok(());
     }
@@ -150,22 +153,6 @@ pub fn draw_run(
     draw(out, &[field, word])
 }
 
-// Draws the field of absent slots, if there are any.
-fn draw_gap(out: &mut Vec<u8>, lane: &ChartLane, first: u32, count: u32) -> Drawn
-    requires lane { IsChartLane lane.now }
-    requires run { first + count ≤ LONG_SLOTS }
-    ensures { OnOk result (out.new.items ≡ out.old.items ++ shapes_bytes (gap lane.now first count)) }
-{
-    draw_run(
-        out,
-        first,
-        count,
-        lane.foot.saturating_sub(lane.room),
-        lane.room,
-        None,
-    )
-}
-
 // Draws the marks of a long profile, and a field for each run of absent slots.
 fn draw_long(out: &mut Vec<u8>, lane: &ChartLane, slots: &[Option<u16>]) -> Drawn
     requires lane { IsChartLane lane.now }
@@ -177,7 +164,7 @@ fn draw_long(out: &mut Vec<u8>, lane: &ChartLane, slots: &[Option<u16>]) -> Draw
     for k in 0..slots.len() {
         match slots[k] {
             Some(value) => {
-                draw_gap(out, lane, first, absent)?;
+                draw_run(out, first, absent, lane.gap, None)?;
                 let x = slot_x(Profile::Long, first + absent);
                 let y = lane_y(lane, u32::from(value));
                 draw(out, &[Shape::Point(x, y)])?;
@@ -187,7 +174,7 @@ fn draw_long(out: &mut Vec<u8>, lane: &ChartLane, slots: &[Option<u16>]) -> Draw
             None => absent += 1,
         }
     }
-    draw_gap(out, lane, first, absent)
+    draw_run(out, first, absent, lane.gap, None)
 }
 
 // Draws the marks and fields of the slots.

@@ -7,6 +7,7 @@ mod before;
 mod by_time;
 mod changes;
 mod cover;
+mod events;
 mod lanes;
 pub mod laws;
 mod long;
@@ -23,16 +24,29 @@ ghost use Rattle.std.specs.Prelude.{◌≡◌, ◌++◌, IfOk, OnOk, map};
 ghost use Rattle.edr_image.specs.Reports.{report_of};
 ghost use Rattle.edr_drawing.specs.Page.{page_bytes, page_head};
 
-use cover::put_cover;
+use cover::{put_cover_end, put_cover_start};
 use edr_image::{CycleReport, Found};
+use events::events_of;
 use long::{BODY, HEAD, ON_EACH_SIDE, PAGE_END, STYLE};
 use sheets::put_sheets;
 use std::alloc::{AllocError as OutOfMemory, Global};
+use tables::put_run;
 use template::Filling::Beginning;
 use template::{Drawn, fill, put};
 
 /// The version of the program that draws a page, as the file VERSION has it.
 pub const VERSION: &[u8] = b"1.0.0";
+
+/// The report of which a page is, as the page names it.
+#[derive(Clone, Copy)]
+pub struct Origin {
+    /// The count of ignition cycles when it was made.
+    pub count: u32,
+    /// Its length in bytes.
+    pub size: u32,
+    /// Its SHA-256.
+    pub digest: [u8; 32],
+}
 
 // Appends the head of a page, which names the report in its title and on each side of paper.
 #[tactic(auto, unfolding(crate::specs::Page::page_head))]
@@ -46,23 +60,23 @@ fn put_head(out: &mut Vec<u8>, digest: &[u8; 32]) -> Drawn
     put(out, BODY)
 }
 
-/// The page of what a report tells: the cycles of a run, what was found in the banks in this order, and the count of
-/// ignition cycles. `size` and `digest` are the report's length in bytes and its SHA-256, which the page names.
-#[tactic(auto, unfolding(crate::specs::Page::page_bytes))]
+/// The page of what a report tells: the cycles of a run, what was found in the banks in this order, and its origin.
+#[tactic(auto, using(crate::proofs::EventLemmas::as_many), unfolding(crate::specs::Page::page_bytes))]
 pub fn page(
     alloc: Global,
     run: &[CycleReport],
     found: &[Found],
-    count: u32,
-    size: u32,
-    digest: &[u8; 32],
+    origin: &Origin,
 ) -> Result<Vec<u8>, OutOfMemory>
-    ensures { IfOk result (λ out. out.items ≡ page_bytes (map report_of run.now) found.now count size digest.now) }
+    ensures { IfOk result (λ out. out.items ≡ page_bytes (map report_of run.now) found.now origin.now) }
 {
+    let events = events_of(alloc, found)?;
     let mut out = Vec::new(alloc);
-    put_head(&mut out, digest)?;
-    put_cover(&mut out, alloc, run, found, count, size, digest)?;
-    put_sheets(&mut out, alloc, found, digest)?;
+    put_head(&mut out, &origin.digest)?;
+    put_cover_start(&mut out, &events, found, origin.count)?;
+    put_run(&mut out, alloc, run, events.len() as u64)?;
+    put_cover_end(&mut out, origin)?;
+    put_sheets(&mut out, alloc, &events, &origin.digest)?;
     put(&mut out, PAGE_END)?;
     Ok(out)
 }

@@ -1,11 +1,12 @@
 //! Of which events of a report a second event may be the second.
 
-ghost use Rattle.std.specs.Prelude.{◌≡◌, ◌++◌, ◌≤◌, IfOk, OnOk, flat_map};
-ghost use Rattle.edr_drawing.specs.Pairs.{firsts, firsts_words, is_event, is_first, is_first_if, is_first_of, is_so_long_before, or_event, place_fact, place_told};
+ghost use Rattle.std.specs.Prelude.{◌≡◌, ◌++◌, IfOk, OnOk, flat_map};
+ghost use Rattle.edr_drawing.specs.Events.{numbered};
+ghost use Rattle.edr_drawing.specs.Pairs.{firsts, firsts_words, is_first, is_first_of, is_so_long_before, or_event, place_fact, place_told};
 
+use crate::events::FoundEvent;
 use crate::template::Filling::{Count, Seconds};
 use crate::template::{Drawn, FIRST, fill, put};
-use edr_image::{BankView, Found};
 use edr_record::{Key, LONGEST_PAIR, Place, Pre};
 use edr_report::{LARGEST_SHOWN_COUNT, number_shown, tenths_of};
 use std::alloc::{AllocError as OutOfMemory, Global};
@@ -26,13 +27,6 @@ pub const ELSEWHERE: &[u8] = b"an event that isn't in this report";
 /// Counts of ignition cycles that stopped at the same number need not be the same.
 pub const IF_SAME_CYCLE: &[u8] =
     b", if that is of the same ignition cycle: their counts stop at 60000";
-
-/// Whether a bank has an event.
-pub fn is_event(view: &BankView) -> bool
-    ensures { result ≡ is_event view.now }
-{
-    matches!(view, BankView::Event(_))
-}
 
 fn is_first(place: Place) -> bool
     ensures { result ≡ is_first place }
@@ -57,26 +51,20 @@ fn is_first_of(key: Key, after: u32, pre: &Pre) -> bool
     is_first(pre.place) && is_so_long_before(pre.key, key, after)
 }
 
-fn is_first_if(key: Key, after: u32, view: &BankView) -> bool
-    ensures { result ≡ is_first_if key after view.now }
-{
-    match view {
-        BankView::Event(event) => is_first_of(key, after, &event.pre),
-        _ => false,
-    }
-}
-
 // The numbers of the events that may be the first one of the pair.
-fn firsts(alloc: Global, key: Key, after: u32, found: &[Found]) -> Result<Vec<u64>, OutOfMemory>
-    ensures { IfOk result (λ numbers. numbers.items ≡ firsts key after 1 found.now) }
+fn firsts(
+    alloc: Global,
+    key: Key,
+    after: u32,
+    events: &[FoundEvent<'_>],
+) -> Result<Vec<u64>, OutOfMemory>
+    ensures { IfOk result (λ numbers. numbers.items ≡ firsts key after (numbered events.now)) }
 {
     let mut numbers = Vec::new(alloc);
-    let mut number = 1;
-    for bank in found {
-        if is_first_if(key, after, &bank.view) {
-            numbers.push(number)?;
+    for one in events {
+        if is_first_of(key, after, &one.event.pre) {
+            numbers.push(one.number)?;
         }
-        number += u64::from(is_event(&bank.view));
     }
     Ok(numbers)
 }
@@ -106,14 +94,20 @@ fn put_firsts(out: &mut Vec<u8>, cycle: u32, numbers: &[u64]) -> Drawn
     Ok(())
 }
 
-fn put_place(out: &mut Vec<u8>, alloc: Global, found: &[Found], key: Key, place: Place) -> Drawn
-    ensures { OnOk result (out.new.items ≡ out.old.items ++ place_told found.now key place) }
+fn put_place(
+    out: &mut Vec<u8>,
+    alloc: Global,
+    events: &[FoundEvent<'_>],
+    key: Key,
+    place: Place,
+) -> Drawn
+    ensures { OnOk result (out.new.items ≡ out.old.items ++ place_told (numbered events.now) key place) }
 {
     match place {
         Place::First => put(out, FIRST),
         Place::Second { after } => {
             fill(out, SECOND_AFTER, &[Seconds(tenths_of(after))])?;
-            let numbers = firsts(alloc, key, after, found)?;
+            let numbers = firsts(alloc, key, after, events)?;
             put_firsts(out, key.cycle, &numbers)
         }
     }
@@ -124,13 +118,13 @@ fn put_place(out: &mut Vec<u8>, alloc: Global, found: &[Found], key: Key, place:
 pub fn put_place_fact(
     out: &mut Vec<u8>,
     alloc: Global,
-    found: &[Found],
+    events: &[FoundEvent<'_>],
     key: Key,
     place: Place,
 ) -> Drawn
-    ensures { OnOk result (out.new.items ≡ out.old.items ++ place_fact found.now key place) }
+    ensures { OnOk result (out.new.items ≡ out.old.items ++ place_fact (numbered events.now) key place) }
 {
     put(out, PLACE_START)?;
-    put_place(out, alloc, found, key, place)?;
+    put_place(out, alloc, events, key, place)?;
     put(out, PLACE_END)
 }

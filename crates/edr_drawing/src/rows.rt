@@ -104,21 +104,18 @@ fn beside(x: u32) -> u32
     }
 }
 
-// Draws the row of something at a time, with these words.
+// Draws the row of something at a time, which stands there across, with these words.
 fn draw_timed(
     out: &mut Vec<u8>,
     template: &[u8],
-    scale: &Scale,
     row: (u32, &'static [u8]),
-    time: u16,
+    x: u32,
     words: Filling,
 ) -> Drawn
-    requires span { 300 ≤ scale.now.span }
-    requires place { row.0 ≤ 2_000 }
-    ensures { OnOk result (out.new.items ≡ out.old.items ++ timed_row template.now scale.now row.entry.0 row.entry.1.now time (filling_bytes words)) }
+    requires place { (row.0 ≤ 2_000) × (x ≤ 1_000_000) }
+    ensures { OnOk result (out.new.items ≡ out.old.items ++ timed_row template.now row.entry.0 row.entry.1.now x (filling_bytes words)) }
 {
     let (y, label) = row;
-    let x = scale.x(time);
     let parts = [
         Number(y + WORDS_DOWN),
         Text(label),
@@ -155,7 +152,7 @@ fn draw_restraint(
 {
     let row = (RESTRAINTS_Y + ROW_HEIGHT * row, label);
     match fired {
-        Some(time) => draw_timed(out, FIRED_ROW, scale, row, time, Milliseconds(time)),
+        Some(time) => draw_timed(out, FIRED_ROW, row, scale.x(time), Milliseconds(time)),
         None => draw_empty(out, row, NONE),
     }
 }
@@ -193,7 +190,7 @@ fn draw_extreme(
         return draw_empty(out, row, NO_SAMPLE);
     }
     let extreme = extreme_of(crash, axis);
-    draw_timed(out, TIMED_ROW, scale, row, extreme.at, Greatest(extreme))
+    draw_timed(out, TIMED_ROW, row, scale.x(extreme.at), Greatest(extreme))
 }
 
 // Draws the row of the greatest resultant.
@@ -206,7 +203,7 @@ fn draw_resultant(out: &mut Vec<u8>, scale: &Scale, crash: &Crash) -> Drawn
         return draw_empty(out, RESULTANT_ROW, NO_SAMPLE);
     }
     let at = crash.result_at;
-    draw_timed(out, TIMED_ROW, scale, RESULTANT_ROW, at, Milliseconds(at))
+    draw_timed(out, TIMED_ROW, RESULTANT_ROW, scale.x(at), Milliseconds(at))
 }
 
 // Draws the rows of the end of the event and of the greatest changes.
@@ -216,7 +213,7 @@ fn draw_event(out: &mut Vec<u8>, scale: &Scale, crash: &Crash) -> Drawn
     ensures { OnOk result (out.new.items ≡ out.old.items ++ event_rows scale.now crash.now) }
 {
     let end = crash.end;
-    draw_timed(out, TIMED_ROW, scale, END_ROW, end, Milliseconds(end))?;
+    draw_timed(out, TIMED_ROW, END_ROW, scale.x(end), Milliseconds(end))?;
     draw_extreme(out, scale, ALONG_ROW, crash, CarAxis::Along)?;
     draw_extreme(out, scale, ACROSS_ROW, crash, CarAxis::Across)?;
     draw_resultant(out, scale, crash)

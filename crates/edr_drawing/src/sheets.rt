@@ -1,18 +1,19 @@
 //! The sheet of an event.
 
 ghost use Rattle.std.specs.Prelude.{◌≡◌, ◌++◌, OnOk};
-ghost use Rattle.edr_drawing.specs.Sheets.{facts, sheet, sheet_if, sheets};
+ghost use Rattle.edr_drawing.specs.Events.{numbered};
+ghost use Rattle.edr_drawing.specs.Sheets.{facts, sheet_of, sheets};
 
 use crate::before::draw_before;
 use crate::by_time::put_by_time;
-use crate::pairs::{is_event, put_place_fact};
+use crate::events::FoundEvent;
+use crate::pairs::put_place_fact;
 use crate::reasons::put_reasons;
 use crate::rows::draw_after;
 use crate::tables::{put_elements, put_points_table};
 use crate::template::Filling::{Count, Digest, Number, Text};
 use crate::template::{Drawn, either, fill, of_profile};
-use edr_image::{BankView, Found};
-use edr_record::{Key, Profile, Record};
+use edr_record::{Key, Profile};
 use edr_report::number_shown;
 use std::alloc::Global;
 
@@ -48,24 +49,27 @@ fn put_facts(out: &mut Vec<u8>, bank: u8, key: Key, locked: bool, profile: Profi
     fill(out, FACTS, &facts)
 }
 
-// Appends the sheet of the event with this number, which is among those that were found.
+// Appends the sheet of one of the events that were found.
 #[tactic(auto, unfolding(crate::specs::Sheets::sheet))]
 fn put_sheet(
     out: &mut Vec<u8>,
     alloc: Global,
-    found: &[Found],
-    number: u64,
-    bank: u8,
-    event: &Record,
+    events: &[FoundEvent<'_>],
+    one: &FoundEvent<'_>,
     digest: &[u8; 32],
 ) -> Drawn
-    ensures { OnOk result (out.new.items ≡ out.old.items ++ sheet found.now number bank event.now digest.now) }
+    ensures { OnOk result (out.new.items ≡ out.old.items ++ sheet_of events.now one.now digest.now) }
 {
+    let FoundEvent {
+        number,
+        bank,
+        event,
+    } = *one;
     let complete = Text(either(event.complete(), YES_NO));
     fill(out, SHEET_HEAD, &[Count(number), complete])?;
     let pre = &event.pre;
     put_facts(out, bank, pre.key, event.locked, pre.profile())?;
-    put_place_fact(out, alloc, found, pre.key, pre.place)?;
+    put_place_fact(out, alloc, events, pre.key, pre.place)?;
     put_reasons(out, event)?;
     draw_before(out, number, pre)?;
     draw_after(out, number, &event.crash)?;
@@ -75,31 +79,17 @@ fn put_sheet(
     fill(out, SHEET_FOOT, &[Count(number), Digest(*digest)])
 }
 
-// Appends the sheet of a bank, if it has an event.
-fn put_sheet_if(
+/// Appends the sheets of all events that were found.
+pub fn put_sheets(
     out: &mut Vec<u8>,
     alloc: Global,
-    found: &[Found],
-    number: u64,
-    one: &Found,
+    events: &[FoundEvent<'_>],
     digest: &[u8; 32],
 ) -> Drawn
-    ensures { OnOk result (out.new.items ≡ out.old.items ++ sheet_if found.now number one.now.bank one.now.view digest.now) }
+    ensures { OnOk result (out.new.items ≡ out.old.items ++ sheets (numbered events.now) digest.now) }
 {
-    match &one.view {
-        BankView::Event(event) => put_sheet(out, alloc, found, number, one.bank, event, digest),
-        _ => Ok(()),
-    }
-}
-
-/// Appends the sheets of all events that were found.
-pub fn put_sheets(out: &mut Vec<u8>, alloc: Global, found: &[Found], digest: &[u8; 32]) -> Drawn
-    ensures { OnOk result (out.new.items ≡ out.old.items ++ sheets found.now 1 found.now digest.now) }
-{
-    let mut number = 1;
-    for bank in found {
-        put_sheet_if(out, alloc, found, number, bank, digest)?;
-        number += u64::from(is_event(&bank.view));
+    for event in events {
+        put_sheet(out, alloc, events, event, digest)?;
     }
     Ok(())
 }

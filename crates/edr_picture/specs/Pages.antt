@@ -7,6 +7,7 @@ use Rattle.edr_device.specs.Told.{Told}
 use Rattle.edr_device.specs.Transfer.{AppendsPart, GivesTooMany}
 use Rattle.edr_device.specs.declared.stream.Sink as sink
 use Rattle.edr_device.specs.declared.stream.Source as stream
+use Rattle.edr_drawing.specs.declared.Origin.{Origin}
 use Rattle.edr_drawing.specs.Page.{page_bytes}
 use Rattle.edr_image.specs.declared.Found.{Found}
 use Rattle.edr_image.specs.Reports.{Report}
@@ -34,9 +35,15 @@ pub record TellsReport (bytes : List ℕ) (run : List Report) (found : List Foun
   pub reading : IsReading run found count
   pub rows : RecordsOf bytes (report_rows run found count)
 
--- the text is the page of what the bytes tell, of their number and of their digest
+-- the origin of a page: bytes that tell this count, with their number and their digest
+abbrev pub origin_of : List ℕ → ℕ → Origin
+origin_of bytes count = record { count = count; size = length bytes; digest = sha256 bytes }
+
+-- the text is the page of what the bytes tell
 abbrev pub IsPage : List ℕ → List ℕ → Type 0
-IsPage bytes text = (run : List Report) × (found : List Found) × (count : ℕ) × TellsReport bytes run found count × (text ≡ page_bytes run found count (length bytes) (sha256 bytes))
+IsPage bytes text =
+    (run : List Report) × (found : List Found) × (count : ℕ) × TellsReport bytes run found count
+    × (text ≡ page_bytes run found (origin_of bytes count))
 
 -- the records of the bytes can be no report from this row on
 abbrev pub HasFaultFrom : List ℕ → ℕ → RowFault → Type 0

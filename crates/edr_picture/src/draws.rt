@@ -11,7 +11,7 @@ use crate::asked::{Asked, HELP, version_line};
 use crate::faults::PageFault;
 use crate::status::PageStatus;
 use edr_device::{Failed, Sink, Source, TakeFault, put_all, take_all};
-use edr_drawing::page;
+use edr_drawing::{Origin, page};
 use edr_reading::{ReportRefused, read};
 use sha2::{Digest, Sha256};
 use std::alloc::{AllocError as OutOfMemory, Global};
@@ -32,16 +32,12 @@ fn page_of(alloc: Global, bytes: &[u8]) -> Result<Vec<u8>, PageFault>
         Err(ReportRefused::Fault { row, fault }) => return Err(PageFault::Report { row, fault }),
         Err(ReportRefused::OutOfMemory) => return Err(PageFault::OutOfMemory),
     };
-    let digest = Sha256::digest(bytes);
-    let size = bytes.len() as u32;
-    match page(
-        alloc,
-        &reading.run,
-        &reading.found,
-        reading.count,
-        size,
-        &digest,
-    ) {
+    let origin = Origin {
+        count: reading.count,
+        size: bytes.len() as u32,
+        digest: Sha256::digest(bytes),
+    };
+    match page(alloc, &reading.run, &reading.found, &origin) {
         Ok(page) => Ok(page),
         Err(OutOfMemory) => Err(PageFault::OutOfMemory),
     }

@@ -2,4 +2,4 @@ use Rattle.edr_drawing.proofs.PlainSheetLemmas.{plain_page}
 use Rattle.edr_drawing.proofs.laws.plain.Goals as goal
 
 pub returns : goal.returns
-returns c = λ reports found count size digest small. (plain_page reports found count size digest small).bytes
+returns c = λ reports found origin small. (plain_page reports found origin small).bytes

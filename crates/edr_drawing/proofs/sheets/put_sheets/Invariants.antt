@@ -1,9 +1,10 @@
-use Rattle.std.proofs.Common.{◌≡◌, ◌++◌, ◌+◌, ◌≤◌, drop}
-use Rattle.edr_drawing.specs.Sheets.{sheets}
+use Rattle.std.proofs.Common.{◌≡◌, ◌++◌, drop}
+use Rattle.edr_drawing.specs.Events.{numbered}
+use Rattle.edr_drawing.specs.Sheets.{sheets, sheets_among}
 use Rattle.edr_drawing.proofs.sheets.put_sheets.Given as goal
 
 -- what is left gives the rest
-abbrev pub invariant-loop-bank : goal.invariant-loop-bank
-invariant-loop-bank l =
-    (l.out.items ++ sheets l.found l.number (drop l.bank-index l.found) l.digest ≡ l.initial.out.items ++ sheets l.found 1 l.found l.digest)
-    × (l.number ≤ l.bank-index + 1)
+abbrev pub invariant-loop-event : goal.invariant-loop-event
+invariant-loop-event l =
+    l.out.items ++ sheets_among (numbered l.events) (numbered (drop l.event-index l.events)) l.digest
+    ≡ l.initial.out.items ++ sheets (numbered l.events) l.digest
