@@ -9,6 +9,8 @@ use Rattle.edr_image.specs.declared.BankView.{BankView}
 use Rattle.edr_image.specs.declared.BankView.TheVariants.{Damaged}
 use Rattle.edr_image.specs.declared.Found.{Found}
 use Rattle.edr_image.specs.Reports.{Report}
+use Rattle.edr_drawing.specs.declared.axes.CarAxis.{CarAxis}
+use Rattle.edr_drawing.specs.declared.axes.CarAxis.TheVariants.{Along, Across}
 use Rattle.edr_drawing.specs.declared.shapes.TheConstants.{NONE}
 use Rattle.edr_drawing.specs.declared.Origin.{Origin}
 use Rattle.edr_drawing.specs.Events.{NumberedRecord}
@@ -16,9 +18,9 @@ use Rattle.edr_drawing.specs.Reasons.{share_reason, switch_reason, pre_reasons, 
 use Rattle.edr_drawing.specs.Tables.{points_table, elements_table, run_table}
 use Rattle.edr_drawing.specs.ByTime.{block, by_time, mph, mph_word, number_word, slot_row}
 use Rattle.edr_drawing.specs.Pairs.{firsts_words, place_fact, place_told}
-use Rattle.edr_drawing.specs.Sheets.{facts, sheet}
-use Rattle.edr_drawing.specs.Cover.{cover_end, cover_start, damaged_item, damaged_list, event_row, events_table, extreme_cells}
-use Rattle.edr_drawing.specs.Page.{page_bytes, page_head}
+use Rattle.edr_drawing.specs.Sheets.{sheet}
+use Rattle.edr_drawing.specs.Cover.{cover_end, cover_start, damaged_item, damaged_list, event_row, events_table, greatest_or_none}
+use Rattle.edr_drawing.specs.Page.{page_bytes}
 use Rattle.edr_drawing.proofs.PlainLemmas.{Plain, all_low, plain_nil, plain_fixed, plain_beginning, plain_decimal, plain_digest, plains}
 use Rattle.edr_drawing.proofs.PlainChartLemmas.{plain_before_chart, plain_after_chart}
 use Rattle.edr_drawing.proofs.PlainLineLemmas.{plain_event_lines, plain_run_lines}
@@ -66,19 +68,19 @@ plain_place_told events key First = search plains depth 20
 plain_place_told events key (Second after) = search (plain_firsts, plains) depth 60
 
 plain_sheet : (events : List NumberedRecord) (n bank : ℕ) (r : Record) (digest : List ℕ) → All (λ b. b < 256) digest → Plain (sheet events n bank r digest)
-unfolding sheet facts place_fact reasons pre_reasons share_reason elements_table
+unfolding sheet place_fact reasons pre_reasons share_reason elements_table
 plain_sheet events n bank r digest small =
     search (plain_place_told, plain_switch_reason, plain_crash_reasons, plain_event_lines, plain_points_table, plain_before_chart, plain_after_chart, plain_by_time, plain_digest, plains) depth 60 fits 8000
 
 -- the first sheet
-plain_extreme_cells : (crash : Option CrashPart) → Plain (extreme_cells crash)
-unfolding extreme_cells
-plain_extreme_cells None = search plains depth 20
-plain_extreme_cells (Some c) = search plains depth 20
+plain_greatest : (crash : Option CrashPart) (a : CarAxis) → Plain (greatest_or_none crash a)
+plain_greatest None a = plain_fixed NONE.now refl
+plain_greatest (Some c) Along = search plains depth 20
+plain_greatest (Some c) Across = search plains depth 20
 
 plain_event_row : (n bank : ℕ) (r : Record) → Plain (event_row n bank r)
 unfolding event_row
-plain_event_row n bank r = search (plain_extreme_cells, plains) depth 60
+plain_event_row n bank r = search (plain_greatest, plains) depth 60
 
 plain_events : (events : List NumberedRecord) → Plain (events_table events)
 unfolding events_table
@@ -92,6 +94,6 @@ plain_damaged bank view = plain_nil
 -- the whole page
 pub plain_page : (reports : List Report) (found : List Found) (origin : Origin) → All (λ b. b < 256) origin.digest →
     Plain (page_bytes reports found origin)
-unfolding page_bytes page_head cover_start cover_end damaged_list
+unfolding page_bytes cover_start cover_end damaged_list
 plain_page reports found origin small =
     search (plain_events, plain_damaged, plain_run, plain_sheet, plain_digest, plain_beginning, plains) depth 60 fits 8000

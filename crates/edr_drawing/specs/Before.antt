@@ -3,7 +3,7 @@ use Rattle.std.specs.Prelude.{ℕ, ◌+◌, ◌-◌, ◌*◌, max, Bool, true, f
 use Rattle.edr_record.specs.Parts.{PrePart}
 use Rattle.edr_record.specs.declared.Profile.{Profile}
 use Rattle.edr_record.specs.declared.Profile.TheVariants.{Short, Long}
-use Rattle.edr_drawing.specs.declared.before.TheConstants.{BEFORE_END, BEFORE_HEAD, BELT_NAME, BELT_Y, BRAKE_BAND, BRAKE_NAME, LAMP_NAME, LAMP_Y, LAST_SPEED_STEP, SECOND_SLOTS, SLOTS_APART, SPANS, SPEED_LANE, SPEED_LINES, SPEED_STEPS, THROTTLE_LANE, THROTTLE_NAME, TIME_LINE, TIMES, ZERO_LINE}
+use Rattle.edr_drawing.specs.declared.before.TheConstants.{BEFORE_END, BEFORE_HEAD, BELT_NAME, BELT_Y, BRAKE_BAND, BRAKE_NAME, LAMP_NAME, LAMP_Y, LAST_SPEED_STEP, SECOND_SLOTS, SLOTS_APART, SPANS, SPEED, SPEED_LINES, SPEED_STEPS, THROTTLE, THROTTLE_NAME, TIME_LINE, TIMES, ZERO_LINE}
 use Rattle.edr_drawing.specs.declared.shapes.Shape.TheVariants as shape
 use Rattle.edr_drawing.specs.declared.lanes.ChartLane.{ChartLane}
 use Rattle.edr_drawing.specs.Template.{filled, fixed, of_profile, seconds}
@@ -24,7 +24,7 @@ abbrev pub speed_step : ℕ → ℕ
 speed_step most = least_step SPEED_STEPS LAST_SPEED_STEP SPEED_LINES most 0
 
 abbrev pub speed_scale : ℕ → ChartLane
-speed_scale most = record SPEED_LANE { top = scale_top (speed_step most) most; step = speed_step most }
+speed_scale most = record SPEED { top = scale_top (speed_step most) most; step = speed_step most }
 
 abbrev pub speed_lane : List (Option ℕ) → ChartLane
 speed_lane slots = speed_scale (max (greatest slots) 1)
@@ -86,7 +86,7 @@ before_chart n p =
     ++ filled ZERO_LINE.now (decimal (time_at TIMES) ∷ [])
     ++ drawn_lane p.profile (speed_lane p.speed) p.speed
     ++ fixed THROTTLE_NAME.now
-    ++ drawn_lane p.profile THROTTLE_LANE p.throttle
+    ++ drawn_lane p.profile THROTTLE p.throttle
     ++ fixed BRAKE_NAME.now
     ++ brake_slots p.profile p.brake
     ++ fixed BELT_NAME.now

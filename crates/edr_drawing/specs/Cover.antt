@@ -9,15 +9,18 @@ use Rattle.edr_image.specs.declared.Found.{Found}
 use Rattle.edr_report.specs.Words.{number_shown}
 use Rattle.edr_drawing.specs.declared.Origin.{Origin}
 use Rattle.edr_drawing.specs.declared.TheConstants.{VERSION}
+use Rattle.edr_drawing.specs.declared.axes.CarAxis.{CarAxis}
 use Rattle.edr_drawing.specs.declared.axes.CarAxis.TheVariants.{Along, Across}
-use Rattle.edr_drawing.specs.declared.cover.TheConstants.{DAMAGED_BANK, DAMAGED_START, EVENT_END, EVENT_ROW, EVENTS_START, FIRST_FOOT, FIRST_SHEET, GREATEST, NO_GREATEST, SET_OR_NOT}
+use Rattle.edr_drawing.specs.declared.cover.TheConstants.{DAMAGED_BANK, DAMAGED_START, EVENT_ROW, EVENTS_START, FIRST_FOOT, FIRST_SHEET, SET_OR_NOT}
 use Rattle.edr_drawing.specs.declared.long.TheConstants.{FORM, NOTES}
 use Rattle.edr_drawing.specs.declared.reasons.TheConstants.{LIST_END}
+use Rattle.edr_drawing.specs.declared.shapes.TheConstants.{NONE}
 use Rattle.edr_drawing.specs.declared.sheets.TheConstants.{YES_NO}
 use Rattle.edr_drawing.specs.declared.tables.TheConstants.{TABLE_END}
 use Rattle.edr_drawing.specs.Template.{digest_hex, either, filled, fixed, place_words}
 use Rattle.edr_drawing.specs.Axes.{greatest_words}
-use Rattle.edr_drawing.specs.Events.{NumberedRecord}
+use Rattle.edr_drawing.specs.declared.events.FoundEvent.{FoundEvent}
+use Rattle.edr_drawing.specs.Events.{NumberedRecord, numbered}
 
 -- how many damaged banks were found
 abbrev pub is_damaged : BankView → Bool
@@ -29,10 +32,10 @@ damaged_in found = count_by (λ f. is_damaged f.view) found
 
 -- ---- the table of events
 
--- the cells of the greatest changes, or that there are none
-unfoldable pub extreme_cells : Option CrashPart → List ℕ
-extreme_cells None = fixed NO_GREATEST.now
-extreme_cells (Some c) = filled GREATEST.now (greatest_words c Along ∷ greatest_words c Across ∷ [])
+-- the greatest change of an axis, or that there is none
+abbrev pub greatest_or_none : Option CrashPart → CarAxis → List ℕ
+greatest_or_none None a = NONE.now
+greatest_or_none (Some c) a = greatest_words c a
 
 -- the row of event n, which this bank holds
 unfoldable pub event_row : ℕ → ℕ → Record → List ℕ
@@ -44,9 +47,14 @@ event_row n bank r =
     ∷ decimal r.pre.key.zero
     ∷ place_words r.pre.place
     ∷ either r.locked YES_NO.0.now YES_NO.1.now
+    ∷ greatest_or_none r.crash Along
+    ∷ greatest_or_none r.crash Across
+    ∷ either (is_complete r) YES_NO.0.now YES_NO.1.now
     ∷ [])
-    ++ extreme_cells r.crash
-    ++ filled EVENT_END.now (either (is_complete r) YES_NO.0.now YES_NO.1.now ∷ [])
+
+-- as the code has it
+abbrev pub row_of_event : FoundEvent → List ℕ
+row_of_event e = event_row e.number e.bank e.event.now
 
 abbrev pub event_rows : List NumberedRecord → List ℕ
 event_rows events = flat_map (λ e. event_row e.0 e.1.0 e.1.1) events
@@ -81,6 +89,10 @@ cover_start events found count =
     filled FIRST_SHEET.now (decimal (length events) ∷ decimal (damaged_in found) ∷ decimal (number_shown count) ∷ [])
     ++ events_table events
     ++ damaged_list found
+
+-- as the code has it
+abbrev pub cover_of : List FoundEvent → List Found → ℕ → List ℕ
+cover_of events found count = cover_start (numbered events) found count
 
 -- after them: fields that are filled in by hand, and how to read the pages
 unfoldable pub cover_end : Origin → List ℕ

@@ -11,18 +11,17 @@ use Rattle.edr_drawing.specs.Events.{events_of}
 use Rattle.edr_drawing.specs.Sheets.{sheets}
 use Rattle.edr_drawing.specs.Tables.{run_table}
 
--- the head with its style, which names the report by the beginning of its digest
-unfoldable pub page_head : List ℕ → List ℕ
-page_head digest =
-    filled HEAD.now (digest_hex (take BEGINNING digest) ∷ [])
-    ++ fixed STYLE.now
-    ++ filled ON_EACH_SIDE.now (digest_hex (take BEGINNING digest) ∷ [])
-    ++ fixed BODY.now
+-- the beginning of a digest, which names a report
+abbrev pub beginning : List ℕ → List ℕ
+beginning digest = digest_hex (take BEGINNING digest)
 
--- the head, the first sheet, and a sheet for each event
+-- the head with its style, the first sheet, and a sheet for each event
 unfoldable pub page_bytes : List Report → List Found → Origin → List ℕ
 page_bytes reports found origin =
-    page_head origin.digest
+    filled HEAD.now (beginning origin.digest ∷ [])
+    ++ fixed STYLE.now
+    ++ filled ON_EACH_SIDE.now (beginning origin.digest ∷ [])
+    ++ fixed BODY.now
     ++ cover_start (events_of found) found origin.count
     ++ run_table reports (length (events_of found))
     ++ cover_end origin

@@ -1,19 +1,19 @@
 -- Why a record isn't complete.
-use Rattle.std.specs.Prelude.{ℕ, Bool, count_by, is_none, if◌then◌else◌, nat_eq, Option, Some, None, List, [], ◌∷◌, ◌++◌, decimal}
+use Rattle.std.specs.Prelude.{ℕ, Bool, count_by, is_none, length, if◌then◌else◌, nat_eq, Option, Some, None, List, [], ◌∷◌, ◌++◌, decimal}
 use Rattle.edr_record.specs.declared.Record.{Record}
 use Rattle.edr_record.specs.Parts.{PrePart, CrashPart}
-use Rattle.edr_record.specs.Bounds.{slots_in, window_from_end}
+use Rattle.edr_record.specs.Bounds.{window_from_end}
 use Rattle.edr_record.specs.Complete.{is_complete}
 use Rattle.edr_drawing.specs.declared.reasons.TheConstants.{ACROSS_ABSENT, ALONG_ABSENT, BELT, BRAKE_ABSENT, LIST_END, PART_ABSENT, REASONS_START, SPEED_ABSENT, SWITCH_ABSENT, THROTTLE_ABSENT, WARNING_LAMP}
 use Rattle.edr_drawing.specs.Template.{filled, fixed}
 
--- how many slots are absent
-abbrev pub absent_count : {T : Type 0} → List (Option T) → ℕ
-absent_count vs = count_by is_none vs
-
 -- how many of so many samples are absent, if any is
 unfoldable pub share_reason : List ℕ → ℕ → ℕ → List ℕ
 share_reason template absent count = if nat_eq absent 0 then [] else filled template (decimal absent ∷ decimal count ∷ [])
+
+-- the same of the slots of a list
+abbrev pub slots_reason : {T : Type 0} → List ℕ → List (Option T) → List ℕ
+slots_reason template vs = share_reason template (count_by is_none vs) (length vs)
 
 -- a switch is absent, if it is
 unfoldable pub switch_reason : List ℕ → Option Bool → List ℕ
@@ -22,9 +22,9 @@ switch_reason label None = filled SWITCH_ABSENT.now (label ∷ [])
 
 unfoldable pub pre_reasons : PrePart → List ℕ
 pre_reasons p =
-    share_reason SPEED_ABSENT.now (absent_count p.speed) (slots_in p.profile)
-    ++ share_reason THROTTLE_ABSENT.now (absent_count p.throttle) (slots_in p.profile)
-    ++ share_reason BRAKE_ABSENT.now (absent_count p.brake) (slots_in p.profile)
+    slots_reason SPEED_ABSENT.now p.speed
+    ++ slots_reason THROTTLE_ABSENT.now p.throttle
+    ++ slots_reason BRAKE_ABSENT.now p.brake
     ++ switch_reason BELT.now p.belt
     ++ switch_reason WARNING_LAMP.now p.lamp
 

@@ -65,20 +65,22 @@ resultant_row s c =
     then empty_row RESULTANT_ROW.0 RESULTANT_ROW.1.now NO_SAMPLE.now
     else timed_row TIMED_ROW.now RESULTANT_ROW.0 RESULTANT_ROW.1.now (time_x s c.result_at) (milliseconds c.result_at)
 
-unfoldable pub event_rows : Scale → CrashPart → List ℕ
-event_rows s c =
-    timed_row TIMED_ROW.now END_ROW.0 END_ROW.1.now (time_x s c.end) (milliseconds c.end)
-    ++ extreme_row s ALONG_ROW.0 ALONG_ROW.1.now c Along
-    ++ extreme_row s ACROSS_ROW.0 ACROSS_ROW.1.now c Across
-    ++ resultant_row s c
-
 -- ---- the whole chart
 
 abbrev pub rule : ℕ → List ℕ
 rule y = filled RULE.now (decimal y ∷ [])
 
 unfoldable pub rows_chart : Scale → CrashPart → List ℕ
-rows_chart s c = rule END_ROW.0 ++ event_rows s c ++ rule RESTRAINTS_Y ++ restraint_rows (λ l. l.now) s 0 RESTRAINTS c.fired ++ rule ROWS_END ++ fixed CHART_END.now
+rows_chart s c =
+    rule END_ROW.0
+    ++ timed_row TIMED_ROW.now END_ROW.0 END_ROW.1.now (time_x s c.end) (milliseconds c.end)
+    ++ extreme_row s ALONG_ROW.0 ALONG_ROW.1.now c Along
+    ++ extreme_row s ACROSS_ROW.0 ACROSS_ROW.1.now c Across
+    ++ resultant_row s c
+    ++ rule RESTRAINTS_Y
+    ++ restraint_rows (λ l. l.now) s 0 RESTRAINTS c.fired
+    ++ rule ROWS_END
+    ++ fixed CHART_END.now
 
 -- the title and the description of the chart of event n
 abbrev pub after_head : ℕ → CrashPart → List ℕ

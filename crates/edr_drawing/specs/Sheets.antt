@@ -1,7 +1,5 @@
 -- The sheet of an event.
-use Rattle.std.specs.Prelude.{ℕ, Bool, List, [], ◌∷◌, ◌++◌, flat_map, decimal}
-use Rattle.edr_record.specs.declared.Key.{Key}
-use Rattle.edr_record.specs.declared.Profile.{Profile}
+use Rattle.std.specs.Prelude.{ℕ, List, [], ◌∷◌, ◌++◌, flat_map, decimal}
 use Rattle.edr_record.specs.declared.Record.{Record}
 use Rattle.edr_record.specs.Complete.{is_complete}
 use Rattle.edr_report.specs.Words.{number_shown}
@@ -16,24 +14,19 @@ use Rattle.edr_drawing.specs.ByTime.{by_time}
 use Rattle.edr_drawing.specs.Rows.{after_chart}
 use Rattle.edr_drawing.specs.Tables.{points_table, elements_table}
 
--- up to the place of the event in its crash
-unfoldable pub facts : ℕ → Key → Bool → Profile → List ℕ
-facts bank key locked profile =
-    filled FACTS.now
-    (decimal (number_shown key.cycle)
-    ∷ decimal key.zero
-    ∷ decimal bank
-    ∷ either locked YES_NO.0.now YES_NO.1.now
-    ∷ of_profile profile PROFILES.0.now PROFILES.1.now
-    ∷ [])
-
 -- ---- the whole sheet
 
 -- the sheet of event n, which this bank holds, among all events
 unfoldable pub sheet : List NumberedRecord → ℕ → ℕ → Record → List ℕ → List ℕ
 sheet events n bank r digest =
     filled SHEET_HEAD.now (decimal n ∷ either (is_complete r) YES_NO.0.now YES_NO.1.now ∷ [])
-    ++ facts bank r.pre.key r.locked r.pre.profile
+    ++ filled FACTS.now
+    (decimal (number_shown r.pre.key.cycle)
+    ∷ decimal r.pre.key.zero
+    ∷ decimal bank
+    ∷ either r.locked YES_NO.0.now YES_NO.1.now
+    ∷ of_profile r.pre.profile PROFILES.0.now PROFILES.1.now
+    ∷ [])
     ++ place_fact events r.pre.key r.pre.place
     ++ reasons r
     ++ before_chart n r.pre
@@ -49,9 +42,6 @@ sheet events n bank r digest =
 abbrev pub sheet_of : List FoundEvent → FoundEvent → List ℕ → List ℕ
 sheet_of events e digest = sheet (numbered events) e.number e.bank e.event.now digest
 
--- the sheets of these, each among all events
-abbrev pub sheets_among : List NumberedRecord → List NumberedRecord → List ℕ → List ℕ
-sheets_among all events digest = flat_map (λ e. sheet all e.0 e.1.0 e.1.1 digest) events
-
+-- the sheets of all events
 abbrev pub sheets : List NumberedRecord → List ℕ → List ℕ
-sheets events digest = sheets_among events events digest
+sheets events digest = flat_map (λ e. sheet events e.0 e.1.0 e.1.1 digest) events

@@ -3,7 +3,7 @@
 ghost use Rattle.std.specs.Prelude.{◌≡◌, ◌++◌, ◌≤◌, ◌<◌, ◌+◌, ◌-◌, ◌*◌, ◌/◌, OnOk, length};
 ghost use Rattle.edr_record.specs.declared.TheConstants.{POINTS};
 ghost use Rattle.edr_drawing.specs.Changes.{IsScale};
-ghost use Rattle.edr_drawing.specs.After.{axis_marks, axis_points, changes_chart, curve, drawn_curve, end_line, gapped, legend_gaps, level, levels, mark_at, maximum, maximum_number, past_window, silent_curve, time_lines};
+ghost use Rattle.edr_drawing.specs.After.{axis_marks, axis_points, changes_chart, curve, end_line, gapped, legend_gaps, level, levels, mark_at, maximum, past_window, silent_curve, time_lines};
 
 use crate::axes::{
     CarAxis, NO_SAMPLE, extreme_of, is_silent, missing_of, of_axis, points_of, text_of_axis,
@@ -279,12 +279,15 @@ fn draw_silent(out: &mut Vec<u8>, scale: &Scale, axis: CarAxis) -> Drawn
     fill(out, SILENT_CURVE, &[y, class, name, Text(NO_SAMPLE)])
 }
 
-// Draws the curve of an axis, with a mark at each point.
-#[tactic(auto, unfolding(crate::specs::After::drawn_curve))]
-fn draw_samples(out: &mut Vec<u8>, scale: &Scale, crash: &Crash, axis: CarAxis) -> Drawn
+// Draws the curve of an axis, with a mark at each point, or says that it has no sample.
+#[tactic(auto, unfolding(crate::specs::After::curve, crate::specs::After::drawn_curve))]
+fn draw_curve(out: &mut Vec<u8>, scale: &Scale, crash: &Crash, axis: CarAxis) -> Drawn
     requires { IsScale scale.now }
-    ensures { OnOk result (out.new.items ≡ out.old.items ++ drawn_curve scale.now crash.now axis) }
+    ensures { OnOk result (out.new.items ≡ out.old.items ++ curve scale.now crash.now axis) }
 {
+    if is_silent(crash, axis) {
+        return draw_silent(out, scale, axis);
+    }
     let points = points_of(crash, axis);
     put_gapped(out, crash, axis, GAPPED_START)?;
     fill(out, PATH, &[Text(text_of_axis(axis, PATHS))])?;
@@ -294,41 +297,8 @@ fn draw_samples(out: &mut Vec<u8>, scale: &Scale, crash: &Crash, axis: CarAxis) 
     put_gapped(out, crash, axis, GAPPED_END)
 }
 
-// Draws the curve of an axis, or says that it has no sample.
-#[tactic(auto, unfolding(crate::specs::After::curve))]
-fn draw_curve(out: &mut Vec<u8>, scale: &Scale, crash: &Crash, axis: CarAxis) -> Drawn
-    requires { IsScale scale.now }
-    ensures { OnOk result (out.new.items ≡ out.old.items ++ curve scale.now crash.now axis) }
-{
-    if is_silent(crash, axis) {
-        draw_silent(out, scale, axis)
-    } else {
-        draw_samples(out, scale, crash, axis)
-    }
-}
-
-// Draws the number of a greatest change, unless it is 0.
-#[tactic(auto, unfolding(crate::specs::After::maximum_number))]
-fn draw_number(out: &mut Vec<u8>, scale: &Scale, axis: CarAxis, extreme: Extreme) -> Drawn
-    requires { IsScale scale.now }
-    ensures { OnOk result (out.new.items ≡ out.old.items ++ maximum_number scale.now axis extreme) }
-{
-    let Extreme { at, kmh } = extreme;
-    if kmh == 0 {
-        return Ok(());
-    }
-    let y = scale.y(kmh);
-    let y = Number(of_axis(axis, (y + NUMBER_DOWN, y - NUMBER_UP)));
-    let class = Text(text_of_axis(axis, AXIS_WORDS));
-    fill(
-        out,
-        MAXIMUM_NUMBER,
-        &[Number(scale.x(at)), y, class, Change(kmh)],
-    )
-}
-
-// Draws a diamond at the greatest change of an axis, with its number, unless it has no sample.
-#[tactic(auto, unfolding(crate::specs::After::maximum))]
+// Draws a diamond at the greatest change of an axis, unless it has no sample, with its number, unless that is 0.
+#[tactic(auto, unfolding(crate::specs::After::maximum, crate::specs::After::maximum_number))]
 fn draw_maximum(out: &mut Vec<u8>, scale: &Scale, crash: &Crash, axis: CarAxis) -> Drawn
     requires { IsScale scale.now }
     ensures { OnOk result (out.new.items ≡ out.old.items ++ maximum scale.now crash.now axis) }
@@ -336,15 +306,16 @@ fn draw_maximum(out: &mut Vec<u8>, scale: &Scale, crash: &Crash, axis: CarAxis) 
     if is_silent(crash, axis) {
         return Ok(());
     }
-    let extreme = extreme_of(crash, axis);
+    let Extreme { at, kmh } = extreme_of(crash, axis);
+    let (x, y) = (Number(scale.x(at)), scale.y(kmh));
     let class = Text(text_of_axis(axis, DIAMONDS));
-    let y = scale.y(extreme.kmh) - DIAMOND_UP;
-    fill(
-        out,
-        DIAMOND,
-        &[class, Number(scale.x(extreme.at)), Number(y)],
-    )?;
-    draw_number(out, scale, axis, extreme)
+    fill(out, DIAMOND, &[class, x, Number(y - DIAMOND_UP)])?;
+    if kmh == 0 {
+        return Ok(());
+    }
+    let y = Number(of_axis(axis, (y + NUMBER_DOWN, y - NUMBER_UP)));
+    let class = Text(text_of_axis(axis, AXIS_WORDS));
+    fill(out, MAXIMUM_NUMBER, &[x, y, class, Change(kmh)])
 }
 
 /// Draws the part of the chart that shows changes of speed.

@@ -1,15 +1,13 @@
 //! The chart of the seconds before time zero, five of a short profile and twenty of a long one.
 
-ghost use Rattle.std.specs.Prelude.{◌≡◌, [], ◌∷◌, ◌++◌, ◌≤◌, ◌<◌, ◌+◌, None, OnOk, decimal, length, take};
+ghost use Rattle.std.specs.Prelude.{◌≡◌, ◌++◌, ◌≤◌, ◌<◌, ◌+◌, None, OnOk, length, take};
 ghost use Rattle.edr_record.specs.declared.TheConstants.{LONG_SLOTS, SHORT_SLOTS};
 ghost use Rattle.edr_record.specs.Bounds.{slots_in};
-ghost use Rattle.edr_drawing.specs.Template.{filled};
-ghost use Rattle.edr_drawing.specs.Scales.{time_at};
 ghost use Rattle.edr_drawing.specs.Lanes.{IsChartLane, drawn_lane};
 ghost use Rattle.edr_drawing.specs.Before.{are_same, before_chart, brake_slots, greatest, second_x, speed_lane, switch_runs, switches, tenths_before, time_lines};
 
 use crate::lanes::{Band, ChartLane, draw_field, draw_lane, draw_run};
-use crate::scales::{least_step, scale_top, slot_x, time_at};
+use crate::scales::{least_step, scale_top, slot_x};
 use crate::shapes::{Shape, draw};
 use crate::template::Filling::{Count, Number, Seconds, Text};
 use crate::template::{Drawn, fill, of_profile, put};
@@ -68,7 +66,7 @@ pub const BEFORE_END: &[u8] = br#"<path class="part" d="M0 490L1830 490"/>
 pub const TIMES: u32 = 10;
 
 /// The lane of speed, whose top and step the greatest speed gives.
-pub const SPEED_LANE: ChartLane = ChartLane {
+pub const SPEED: ChartLane = ChartLane {
     foot: 220,
     rise: 140,
     top: 1,
@@ -83,7 +81,7 @@ pub const LAST_SPEED_STEP: u32 = 100;
 
 pub const SPEED_LINES: u32 = 4;
 
-pub const THROTTLE_LANE: ChartLane = ChartLane {
+pub const THROTTLE: ChartLane = ChartLane {
     foot: 346,
     rise: 70,
     top: 100,
@@ -125,7 +123,7 @@ fn speed_lane(slots: &[Option<u16>]) -> ChartLane
     ChartLane {
         top: scale_top(step, most),
         step,
-        ..SPEED_LANE
+        ..SPEED
     }
 }
 
@@ -143,13 +141,14 @@ fn tenths_before(profile: Profile, k: u32) -> u32
 // Draws the lines of the times.
 #[tactic(auto, unfolding(crate::specs::Before::time_lines))]
 fn draw_times(out: &mut Vec<u8>, profile: Profile) -> Drawn
-    ensures { OnOk result (out.new.items ≡ out.old.items ++ time_lines profile TIMES ++ filled ZERO_LINE.now (decimal (time_at TIMES) ∷ [])) }
+    ensures { OnOk result (out.new.items ≡ out.old.items ++ time_lines profile TIMES) }
 {
     for k in 0..TIMES {
-        let tenths = u64::from(tenths_before(profile, k));
-        fill(out, TIME_LINE, &[Number(time_at(k)), Seconds(tenths)])?;
+        let x = Number(slot_x(Profile::Short, k));
+        let tenths = Seconds(u64::from(tenths_before(profile, k)));
+        fill(out, TIME_LINE, &[x, tenths])?;
     }
-    fill(out, ZERO_LINE, &[Number(time_at(TIMES))])
+    Ok(())
 }
 
 /// A value of throttle as wide as one of speed.
@@ -177,10 +176,10 @@ fn wide_slots(slots: &[Option<u8>]) -> [Option<u16>; LONG_SLOTS]
 #[tactic(auto, using(crate::proofs::SlotLemmas::few_slots))]
 fn draw_throttle(out: &mut Vec<u8>, profile: Profile, slots: &[Option<u8>]) -> Drawn
     requires { length slots.now ≤ slots_in profile }
-    ensures { OnOk result (out.new.items ≡ out.old.items ++ drawn_lane profile THROTTLE_LANE slots.now) }
+    ensures { OnOk result (out.new.items ≡ out.old.items ++ drawn_lane profile THROTTLE slots.now) }
 {
     let wider = wide_slots(slots);
-    draw_lane(out, profile, &THROTTLE_LANE, &wider[..slots.len()])
+    draw_lane(out, profile, &THROTTLE, &wider[..slots.len()])
 }
 
 // Draws the field of each slot of a short profile.
@@ -261,6 +260,7 @@ pub fn draw_before(out: &mut Vec<u8>, number: u64, pre: &Pre) -> Drawn
     let x = second_x(profile);
     fill(out, BEFORE_HEAD, &[Count(number), span, apart])?;
     draw_times(out, profile)?;
+    fill(out, ZERO_LINE, &[Number(slot_x(Profile::Short, TIMES))])?;
     draw_lane(out, profile, &speed_lane(speed), speed)?;
     put(out, THROTTLE_NAME)?;
     draw_throttle(out, profile, pre.throttle())?;

@@ -2,16 +2,18 @@
 
 ghost use Rattle.std.specs.Prelude.{◌≡◌, ◌++◌, ◌≤◌, OnOk};
 ghost use Rattle.edr_drawing.specs.Events.{numbered};
-ghost use Rattle.edr_drawing.specs.Cover.{cover_end, cover_start, damaged_in, damaged_item, damaged_items, damaged_list, event_row, event_rows, events_table, extreme_cells, is_damaged};
+ghost use Rattle.edr_drawing.specs.Template.{filling_bytes};
+ghost use Rattle.edr_drawing.specs.Cover.{cover_end, cover_of, damaged_in, damaged_item, damaged_items, damaged_list, event_rows, events_table, greatest_or_none, row_of_event};
 
 use crate::axes::{CarAxis, greatest};
 use crate::events::FoundEvent;
 use crate::long::{FORM, NOTES};
 use crate::reasons::LIST_END;
+use crate::shapes::NONE;
 use crate::sheets::YES_NO;
 use crate::tables::TABLE_END;
 use crate::template::Filling::{Count, Digest, Number, Place, Text};
-use crate::template::{Drawn, either, fill, put};
+use crate::template::{Drawn, Filling, either, fill, put};
 use crate::{Origin, VERSION};
 use edr_image::{BankView, Found};
 use edr_record::Crash;
@@ -28,15 +30,9 @@ pub const EVENTS_START: &[u8] = br#"<table>
 <tbody>
 "#;
 
-/// The row of an event, up to its greatest changes, which two cells tell.
 pub const EVENT_ROW: &[u8] =
-    br##"<tr><th scope="row"><a href="#e{0}">{0}</a></th><td>{1}</td><td>{2}</td><td>{3} ms</td><td>{4}</td><td>{5}</td><td>"##;
-
-pub const GREATEST: &[u8] = b"{0}</td><td>{1}</td><td>";
-
-pub const NO_GREATEST: &[u8] = b"none</td><td>none</td><td>";
-
-pub const EVENT_END: &[u8] = b"{0}</td></tr>\n";
+    br##"<tr><th scope="row"><a href="#e{0}">{0}</a></th><td>{1}</td><td>{2}</td><td>{3} ms</td><td>{4}</td><td>{5}</td><td>{6}</td><td>{7}</td><td>{8}</td></tr>
+"##;
 
 pub const DAMAGED_START: &[u8] = br#"<h2>Damaged banks</h2>
 <div class="note"><p>A damaged bank holds bytes that are no record. Nothing else of it is shown, and no event of this report stands for it.</p>
@@ -54,38 +50,28 @@ pub const FIRST_FOOT: &[u8] =
 </section>
 "#;
 
-fn is_damaged(view: &BankView) -> bool
-    ensures { result ≡ is_damaged view.now }
-{
-    matches!(view, BankView::Damaged { .. })
-}
-
 // How many damaged banks were found.
 fn damaged_in(found: &[Found]) -> u64
     ensures { result ≡ damaged_in found.now }
 {
-    found.iter().filter(|bank| is_damaged(&bank.view)).count() as u64
+    let damaged = |one: &&Found| matches!(one.view, BankView::Damaged { .. });
+    found.iter().filter(damaged).count() as u64
 }
 
-// Appends the cells of the greatest changes, or that there are none.
-#[tactic(auto, unfolding(crate::specs::Cover::extreme_cells))]
-fn put_extremes(out: &mut Vec<u8>, crash: &Option<Crash>) -> Drawn
-    ensures { OnOk result (out.new.items ≡ out.old.items ++ extreme_cells crash.now) }
+// The greatest change of an axis, or that there is none.
+fn greatest_or_none(crash: &Option<Crash>, axis: CarAxis) -> Filling
+    ensures { filling_bytes result ≡ greatest_or_none crash.now axis }
 {
     match crash {
-        Some(crash) => {
-            let along = greatest(crash, CarAxis::Along);
-            let across = greatest(crash, CarAxis::Across);
-            fill(out, GREATEST, &[along, across])
-        }
-        None => put(out, NO_GREATEST),
+        Some(crash) => greatest(crash, axis),
+        None => Text(NONE),
     }
 }
 
 // Appends the row of an event.
 #[tactic(auto, unfolding(crate::specs::Cover::event_row))]
 fn put_event_row(out: &mut Vec<u8>, one: &FoundEvent<'_>) -> Drawn
-    ensures { OnOk result (out.new.items ≡ out.old.items ++ event_row one.now.number one.now.bank one.now.event.now) }
+    ensures { OnOk result (out.new.items ≡ out.old.items ++ row_of_event one.now) }
 {
     let event = one.event;
     let cells = [
@@ -95,10 +81,11 @@ fn put_event_row(out: &mut Vec<u8>, one: &FoundEvent<'_>) -> Drawn
         Number(event.pre.key.zero),
         Place(event.pre.place),
         Text(either(event.locked, YES_NO)),
+        greatest_or_none(&event.crash, CarAxis::Along),
+        greatest_or_none(&event.crash, CarAxis::Across),
+        Text(either(event.complete(), YES_NO)),
     ];
-    fill(out, EVENT_ROW, &cells)?;
-    put_extremes(out, &event.crash)?;
-    fill(out, EVENT_END, &[Text(either(event.complete(), YES_NO))])
+    fill(out, EVENT_ROW, &cells)
 }
 
 fn put_event_rows(out: &mut Vec<u8>, events: &[FoundEvent<'_>]) -> Drawn
@@ -172,7 +159,7 @@ pub fn put_cover_start(
     found: &[Found],
     count: u32,
 ) -> Drawn
-    ensures { OnOk result (out.new.items ≡ out.old.items ++ cover_start (numbered events.now) found.now count) }
+    ensures { OnOk result (out.new.items ≡ out.old.items ++ cover_of events.now found.now count) }
 {
     let (recorded, damaged) = (events.len() as u64, damaged_in(found));
     let counts = [Count(recorded), Count(damaged), Number(number_shown(count))];

@@ -4,7 +4,7 @@ ghost use Rattle.std.specs.Prelude.{◌≡◌, ◌++◌, ◌≤◌, ◌<◌, ◌
 ghost use Rattle.edr_record.specs.declared.TheConstants.{LONG_SLOTS, SHORT_SLOTS};
 ghost use Rattle.edr_record.specs.Bounds.{slots_in};
 ghost use Rattle.edr_drawing.specs.Shapes.{shapes_bytes};
-ghost use Rattle.edr_drawing.specs.Lanes.{IsBand, IsChartLane, cell, cells, cells_of, drawn_lane, field_shapes, grid, lane_y, long_cells, points, run_bytes};
+ghost use Rattle.edr_drawing.specs.Lanes.{IsBand, IsChartLane, cell, cells, drawn_lane, field_shapes, grid, lane_y, long_cells, points, run_bytes};
 
 use crate::scales::slot_x;
 use crate::shapes::{PATH, PATH_END, PATHS, Shape, draw, put_point};
@@ -177,18 +177,6 @@ fn draw_long(out: &mut Vec<u8>, lane: &ChartLane, slots: &[Option<u16>]) -> Draw
     draw_run(out, first, absent, lane.gap, None)
 }
 
-// Draws the marks and fields of the slots.
-fn draw_cells(out: &mut Vec<u8>, profile: Profile, lane: &ChartLane, slots: &[Option<u16>]) -> Drawn
-    requires lane { IsChartLane lane.now }
-    requires slots { length slots.now ≤ slots_in profile }
-    ensures { OnOk result (out.new.items ≡ out.old.items ++ cells_of profile lane.now slots.now) }
-{
-    match profile {
-        Profile::Short => draw_short(out, lane, slots),
-        Profile::Long => draw_long(out, lane, slots),
-    }
-}
-
 /// Draws the lane of these slots.
 #[tactic(auto, using(crate::proofs::SlotLemmas::few_slots), unfolding(crate::specs::Lanes::drawn_lane))]
 pub fn draw_lane(
@@ -205,5 +193,8 @@ pub fn draw_lane(
     fill(out, PATH, &[Text(PATHS.0)])?;
     put_points(out, profile, lane, slots)?;
     put(out, PATH_END)?;
-    draw_cells(out, profile, lane, slots)
+    match profile {
+        Profile::Short => draw_short(out, lane, slots),
+        Profile::Long => draw_long(out, lane, slots),
+    }
 }

@@ -20,9 +20,9 @@ mod sheets;
 mod tables;
 mod template;
 
-ghost use Rattle.std.specs.Prelude.{◌≡◌, ◌++◌, IfOk, OnOk, map};
+ghost use Rattle.std.specs.Prelude.{◌≡◌, IfOk, map};
 ghost use Rattle.edr_image.specs.Reports.{report_of};
-ghost use Rattle.edr_drawing.specs.Page.{page_bytes, page_head};
+ghost use Rattle.edr_drawing.specs.Page.{page_bytes};
 
 use cover::{put_cover_end, put_cover_start};
 use edr_image::{CycleReport, Found};
@@ -32,7 +32,7 @@ use sheets::put_sheets;
 use std::alloc::{AllocError as OutOfMemory, Global};
 use tables::put_run;
 use template::Filling::Beginning;
-use template::{Drawn, fill, put};
+use template::{fill, put};
 
 /// The version of the program that draws a page, as the file VERSION has it.
 pub const VERSION: &[u8] = b"1.0.0";
@@ -40,24 +40,12 @@ pub const VERSION: &[u8] = b"1.0.0";
 /// The report of which a page is, as the page names it.
 #[derive(Clone, Copy)]
 pub struct Origin {
-    /// The count of ignition cycles when it was made.
+    /// The count of ignition cycles that it tells.
     pub count: u32,
     /// Its length in bytes.
     pub size: u32,
     /// Its SHA-256.
     pub digest: [u8; 32],
-}
-
-// Appends the head of a page, which names the report in its title and on each side of paper.
-#[tactic(auto, unfolding(crate::specs::Page::page_head))]
-fn put_head(out: &mut Vec<u8>, digest: &[u8; 32]) -> Drawn
-    ensures { OnOk result (out.new.items ≡ out.old.items ++ page_head digest.now) }
-{
-    let beginning = [Beginning(*digest)];
-    fill(out, HEAD, &beginning)?;
-    put(out, STYLE)?;
-    fill(out, ON_EACH_SIDE, &beginning)?;
-    put(out, BODY)
 }
 
 /// The page of what a report tells: the cycles of a run, what was found in the banks in this order, and its origin.
@@ -71,8 +59,12 @@ pub fn page(
     ensures { IfOk result (λ out. out.items ≡ page_bytes (map report_of run.now) found.now origin.now) }
 {
     let events = events_of(alloc, found)?;
+    let beginning = [Beginning(origin.digest)];
     let mut out = Vec::new(alloc);
-    put_head(&mut out, &origin.digest)?;
+    fill(&mut out, HEAD, &beginning)?;
+    put(&mut out, STYLE)?;
+    fill(&mut out, ON_EACH_SIDE, &beginning)?;
+    put(&mut out, BODY)?;
     put_cover_start(&mut out, &events, found, origin.count)?;
     put_run(&mut out, alloc, run, events.len() as u64)?;
     put_cover_end(&mut out, origin)?;

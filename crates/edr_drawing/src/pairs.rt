@@ -97,17 +97,17 @@ fn put_firsts(out: &mut Vec<u8>, cycle: u32, numbers: &[u64]) -> Drawn
 fn put_place(
     out: &mut Vec<u8>,
     alloc: Global,
-    events: &[FoundEvent<'_>],
+    all: &[FoundEvent<'_>],
     key: Key,
     place: Place,
 ) -> Drawn
-    ensures { OnOk result (out.new.items ≡ out.old.items ++ place_told (numbered events.now) key place) }
+    ensures { OnOk result (out.new.items ≡ out.old.items ++ place_told (numbered all.now) key place) }
 {
     match place {
         Place::First => put(out, FIRST),
         Place::Second { after } => {
             fill(out, SECOND_AFTER, &[Seconds(tenths_of(after))])?;
-            let numbers = firsts(alloc, key, after, events)?;
+            let numbers = firsts(alloc, key, after, all)?;
             put_firsts(out, key.cycle, &numbers)
         }
     }
@@ -118,13 +118,13 @@ fn put_place(
 pub fn put_place_fact(
     out: &mut Vec<u8>,
     alloc: Global,
-    events: &[FoundEvent<'_>],
+    all: &[FoundEvent<'_>],
     key: Key,
     place: Place,
 ) -> Drawn
-    ensures { OnOk result (out.new.items ≡ out.old.items ++ place_fact (numbered events.now) key place) }
+    ensures { OnOk result (out.new.items ≡ out.old.items ++ place_fact (numbered all.now) key place) }
 {
     put(out, PLACE_START)?;
-    put_place(out, alloc, events, key, place)?;
+    put_place(out, alloc, all, key, place)?;
     put(out, PLACE_END)
 }

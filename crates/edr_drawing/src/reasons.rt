@@ -2,12 +2,11 @@
 
 ghost use Rattle.std.specs.Prelude.{◌≡◌, ◌++◌, ◌≤◌, ◌+◌, OnOk, length};
 ghost use Rattle.edr_record.specs.declared.TheConstants.{LONG_SLOTS};
-ghost use Rattle.edr_record.specs.Bounds.{slots_in};
-ghost use Rattle.edr_drawing.specs.Reasons.{absent_count, crash_reasons, pre_reasons, reasons, share_reason, switch_reason};
+ghost use Rattle.edr_drawing.specs.Reasons.{crash_reasons, pre_reasons, reasons, share_reason, slots_reason, switch_reason};
 
 use crate::template::Filling::{Number, Text};
 use crate::template::{Drawn, fill, put};
-use edr_record::{Crash, LONG_SLOTS, Pre, Profile, Record, SHORT_SLOTS, window_from_end};
+use edr_record::{Crash, Pre, Record, window_from_end};
 
 pub const REASONS_START: &[u8] = br#"<div class="note why"><b>Not complete:</b>
 <ul>
@@ -38,24 +37,6 @@ pub const ACROSS_ABSENT: &[u8] =
 pub const PART_ABSENT: &[u8] =
     b"<li>no part after time zero, as where the power goes off before the event is closed</li>\n";
 
-// How many slots are absent.
-fn absent_count<T>(slots: &[Option<T>]) -> u32
-    requires { length slots.now ≤ LONG_SLOTS }
-    ensures { result ≡ absent_count slots.now }
-{
-    slots.iter().filter(|slot| slot.is_none()).count() as u32
-}
-
-// How many slots a list of this profile has.
-fn slots_in(profile: Profile) -> u32
-    ensures { result ≡ slots_in profile }
-{
-    match profile {
-        Profile::Short => SHORT_SLOTS as u32,
-        Profile::Long => LONG_SLOTS as u32,
-    }
-}
-
 // Tells how many of so many samples are absent, if any is.
 #[tactic(auto, unfolding(crate::specs::Reasons::share_reason))]
 fn put_share(out: &mut Vec<u8>, template: &[u8], absent: u32, count: u32) -> Drawn
@@ -65,6 +46,15 @@ fn put_share(out: &mut Vec<u8>, template: &[u8], absent: u32, count: u32) -> Dra
         return Ok(());
     }
     fill(out, template, &[Number(absent), Number(count)])
+}
+
+// Tells how many slots are absent, if any is.
+fn put_absent<T>(out: &mut Vec<u8>, template: &[u8], slots: &[Option<T>]) -> Drawn
+    requires { length slots.now ≤ LONG_SLOTS }
+    ensures { OnOk result (out.new.items ≡ out.old.items ++ slots_reason template.now slots.now) }
+{
+    let absent = slots.iter().filter(|slot| slot.is_none()).count();
+    put_share(out, template, absent as u32, slots.len() as u32)
 }
 
 // Tells that a switch is absent, if it is.
@@ -83,10 +73,9 @@ fn put_pre_reasons(out: &mut Vec<u8>, pre: &Pre) -> Drawn
     ensures { OnOk result (out.new.items ≡ out.old.items ++ pre_reasons pre.now) }
 {
     let (belt, lamp) = (pre.belt, pre.lamp);
-    let count = slots_in(pre.profile());
-    put_share(out, SPEED_ABSENT, absent_count(pre.speed()), count)?;
-    put_share(out, THROTTLE_ABSENT, absent_count(pre.throttle()), count)?;
-    put_share(out, BRAKE_ABSENT, absent_count(pre.brake()), count)?;
+    put_absent(out, SPEED_ABSENT, pre.speed())?;
+    put_absent(out, THROTTLE_ABSENT, pre.throttle())?;
+    put_absent(out, BRAKE_ABSENT, pre.brake())?;
     put_switch(out, BELT, belt)?;
     put_switch(out, WARNING_LAMP, lamp)
 }

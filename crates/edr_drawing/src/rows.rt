@@ -2,7 +2,7 @@
 
 ghost use Rattle.std.specs.Prelude.{◌≡◌, ◌++◌, ◌≤◌, OnOk};
 ghost use Rattle.edr_drawing.specs.Template.{filling_bytes};
-ghost use Rattle.edr_drawing.specs.Rows.{after_chart, beside, empty_row, event_rows, extreme_row, restraint_row, restraint_rows, resultant_row, rows_chart, timed_row};
+ghost use Rattle.edr_drawing.specs.Rows.{after_chart, beside, empty_row, extreme_row, restraint_row, restraint_rows, resultant_row, rows_chart, timed_row};
 
 use crate::after::draw_changes;
 use crate::axes::{CarAxis, NO_SAMPLE, extreme_of, greatest, is_silent};
@@ -142,15 +142,15 @@ fn draw_empty(out: &mut Vec<u8>, row: (u32, &'static [u8]), word: &'static [u8])
 fn draw_restraint(
     out: &mut Vec<u8>,
     scale: &Scale,
-    row: u32,
-    label: &'static [u8],
+    k: u32,
+    name: &'static [u8],
     fired: Option<u16>,
 ) -> Drawn
     requires span { 300 ≤ scale.now.span }
-    requires row { row ≤ 7 }
-    ensures { OnOk result (out.new.items ≡ out.old.items ++ restraint_row scale.now row label.now fired) }
+    requires row { k ≤ 7 }
+    ensures { OnOk result (out.new.items ≡ out.old.items ++ restraint_row scale.now k name.now fired) }
 {
-    let row = (RESTRAINTS_Y + ROW_HEIGHT * row, label);
+    let row = (RESTRAINTS_Y + ROW_HEIGHT * k, name);
     match fired {
         Some(time) => draw_timed(out, FIRED_ROW, row, scale.x(time), Milliseconds(time)),
         None => draw_empty(out, row, NONE),
@@ -206,27 +206,18 @@ fn draw_resultant(out: &mut Vec<u8>, scale: &Scale, crash: &Crash) -> Drawn
     draw_timed(out, TIMED_ROW, RESULTANT_ROW, scale.x(at), Milliseconds(at))
 }
 
-// Draws the rows of the end of the event and of the greatest changes.
-#[tactic(auto, unfolding(crate::specs::Rows::event_rows))]
-fn draw_event(out: &mut Vec<u8>, scale: &Scale, crash: &Crash) -> Drawn
-    requires { 300 ≤ scale.now.span }
-    ensures { OnOk result (out.new.items ≡ out.old.items ++ event_rows scale.now crash.now) }
-{
-    let end = crash.end;
-    draw_timed(out, TIMED_ROW, END_ROW, scale.x(end), Milliseconds(end))?;
-    draw_extreme(out, scale, ALONG_ROW, crash, CarAxis::Along)?;
-    draw_extreme(out, scale, ACROSS_ROW, crash, CarAxis::Across)?;
-    draw_resultant(out, scale, crash)
-}
-
 // Draws all rows, with which the chart ends.
 #[tactic(auto, unfolding(crate::specs::Rows::rows_chart))]
 fn draw_rows(out: &mut Vec<u8>, scale: &Scale, crash: &Crash) -> Drawn
     requires { 300 ≤ scale.now.span }
     ensures { OnOk result (out.new.items ≡ out.old.items ++ rows_chart scale.now crash.now) }
 {
+    let end = crash.end;
     fill(out, RULE, &[Number(END_ROW.0)])?;
-    draw_event(out, scale, crash)?;
+    draw_timed(out, TIMED_ROW, END_ROW, scale.x(end), Milliseconds(end))?;
+    draw_extreme(out, scale, ALONG_ROW, crash, CarAxis::Along)?;
+    draw_extreme(out, scale, ACROSS_ROW, crash, CarAxis::Across)?;
+    draw_resultant(out, scale, crash)?;
     fill(out, RULE, &[Number(RESTRAINTS_Y)])?;
     draw_restraints(out, scale, &RESTRAINTS, &crash.fired)?;
     fill(out, RULE, &[Number(ROWS_END)])?;

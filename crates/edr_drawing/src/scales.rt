@@ -1,8 +1,8 @@
 //! Where values stand in a chart.
 
 ghost use Rattle.std.specs.Prelude.{◌≡◌, ◌≤◌, ◌<◌, ◌+◌, ◌*◌, All, max, unsigned_abs};
-ghost use Rattle.edr_record.specs.declared.TheConstants.{LONG_SLOTS, SHORT_SLOTS};
-ghost use Rattle.edr_drawing.specs.Scales.{time_at, slot_x, intervals, least_step, scale_top, reach_of, below_top};
+ghost use Rattle.edr_record.specs.declared.TheConstants.{LONG_SLOTS};
+ghost use Rattle.edr_drawing.specs.Scales.{slot_x, intervals, least_step, scale_top, reach_of, below_top};
 
 use edr_record::Profile;
 
@@ -18,7 +18,8 @@ pub const BELOW_TOP: u32 = 80;
 
 pub const HEIGHT: u32 = 370;
 
-/// Where the first of eleven times stands across, and how far the next one stands from it.
+/// Where the first of eleven times stands across, and how far the next one stands from it: the slots of a short profile
+/// have the same places.
 pub const FIRST_TIME: u32 = 400;
 
 pub const TIME_STEP: u32 = 136;
@@ -31,14 +32,6 @@ pub const TIME_SLOTS: u32 = 20;
 pub enum Direction {
     Up,
     Down,
-}
-
-/// Where a time of eleven stands across, the last of which is time zero.
-pub fn time_at(k: u32) -> u32
-    requires { k < SHORT_SLOTS }
-    ensures { result ≡ time_at k }
-{
-    FIRST_TIME + TIME_STEP * k
 }
 
 /// Where a slot stands across, the newest of which is at time zero.

@@ -93,23 +93,15 @@ fn put_shape(out: &mut Vec<u8>, shape: Shape) -> Drawn
             let word = Text(of_switch(shows, SWITCH_WORDS));
             fill(out, WORD, &[Number(x), Number(y), class, word])
         }
-        Shape::Moment(x, y, shows) => put_moment(out, x, y, shows),
+        Shape::Moment(x, y, shows) => {
+            let class = Text(of_switch(shows, FIELD_CLASSES));
+            let word = Text(of_switch(shows, SWITCH_WORDS));
+            let left = Number(x.saturating_sub(LEFT_OF_MOMENT));
+            let (x, y) = (Number(x), u32::from(y));
+            let down = Number(y + MOMENT_WORD_DOWN);
+            fill(out, MOMENT, &[x, Number(y), class, left, down, word])
+        }
     }
-}
-
-fn put_moment(out: &mut Vec<u8>, x: u32, y: u16, shows: Option<bool>) -> Drawn
-    ensures { OnOk result (out.new.items ≡ out.old.items ++ shape_bytes (Shape.Moment x y shows)) }
-{
-    let class = Text(of_switch(shows, FIELD_CLASSES));
-    let word = Text(of_switch(shows, SWITCH_WORDS));
-    let left = Number(x.saturating_sub(LEFT_OF_MOMENT));
-    let y = u32::from(y);
-    let down = Number(y + MOMENT_WORD_DOWN);
-    fill(
-        out,
-        MOMENT,
-        &[Number(x), Number(y), class, left, down, word],
-    )
 }
 
 /// Appends shapes.

@@ -2,7 +2,7 @@
 
 ghost use Rattle.std.specs.Prelude.{◌≡◌, ◌++◌, OnOk};
 ghost use Rattle.edr_drawing.specs.Events.{numbered};
-ghost use Rattle.edr_drawing.specs.Sheets.{facts, sheet_of, sheets};
+ghost use Rattle.edr_drawing.specs.Sheets.{sheet_of, sheets};
 
 use crate::before::draw_before;
 use crate::by_time::put_by_time;
@@ -13,7 +13,6 @@ use crate::rows::draw_after;
 use crate::tables::{put_elements, put_points_table};
 use crate::template::Filling::{Count, Digest, Number, Text};
 use crate::template::{Drawn, either, fill, of_profile};
-use edr_record::{Key, Profile};
 use edr_report::number_shown;
 use std::alloc::Global;
 
@@ -35,20 +34,6 @@ pub const YES_NO: (&[u8], &[u8]) = (b"yes", b"no");
 /// The words of the profiles, which are classes too.
 pub const PROFILES: (&[u8], &[u8]) = (b"short", b"long");
 
-#[tactic(auto, unfolding(crate::specs::Sheets::facts))]
-fn put_facts(out: &mut Vec<u8>, bank: u8, key: Key, locked: bool, profile: Profile) -> Drawn
-    ensures { OnOk result (out.new.items ≡ out.old.items ++ facts bank key locked profile) }
-{
-    let facts = [
-        Number(number_shown(key.cycle)),
-        Number(key.zero),
-        Number(u32::from(bank)),
-        Text(either(locked, YES_NO)),
-        Text(of_profile(profile, PROFILES)),
-    ];
-    fill(out, FACTS, &facts)
-}
-
 // Appends the sheet of one of the events that were found.
 #[tactic(auto, unfolding(crate::specs::Sheets::sheet))]
 fn put_sheet(
@@ -65,10 +50,17 @@ fn put_sheet(
         bank,
         event,
     } = *one;
-    let complete = Text(either(event.complete(), YES_NO));
-    fill(out, SHEET_HEAD, &[Count(number), complete])?;
     let pre = &event.pre;
-    put_facts(out, bank, pre.key, event.locked, pre.profile())?;
+    let complete = Text(either(event.complete(), YES_NO));
+    let facts = [
+        Number(number_shown(pre.key.cycle)),
+        Number(pre.key.zero),
+        Number(u32::from(bank)),
+        Text(either(event.locked, YES_NO)),
+        Text(of_profile(pre.profile(), PROFILES)),
+    ];
+    fill(out, SHEET_HEAD, &[Count(number), complete])?;
+    fill(out, FACTS, &facts)?;
     put_place_fact(out, alloc, events, pre.key, pre.place)?;
     put_reasons(out, event)?;
     draw_before(out, number, pre)?;

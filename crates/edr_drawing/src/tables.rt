@@ -3,7 +3,7 @@
 ghost use Rattle.std.specs.Prelude.{◌≡◌, ◌++◌, ◌≤◌, ◌<◌, ◌+◌, ◌*◌, [], OnOk, IfOk, length, flat_map, map, min};
 ghost use Rattle.edr_image.specs.Reports.{report_of};
 ghost use Rattle.edr_report.specs.Report.{event_lines, run_lines};
-ghost use Rattle.edr_drawing.specs.Tables.{axis_cells, change_cell, change_row, elements_bytes, elements_table, is_one_of, is_take, line_row, points_table, row, row_of, rows_bytes, run_table, taken_by, taken_in, taken_of, time_cells};
+ghost use Rattle.edr_drawing.specs.Tables.{axis_cells, change_cell, change_row, elements_bytes, elements_table, is_one_of, line_row, points_table, row, row_of, rows_bytes, run_table, taken_by, taken_in, taken_of, time_cells};
 
 use crate::axes::{CarAxis, NO_SAMPLE, is_silent, points_of};
 use crate::template::Filling::{Change, Count, Number, Text};
@@ -215,17 +215,12 @@ pub fn put_elements(
     put(out, ELEMENTS_END)
 }
 
-fn is_take(applied: Applied) -> bool
-    ensures { result ≡ is_take applied }
-{
-    matches!(applied, Applied::Kept { .. })
-}
-
 // How many events these acknowledged commands took.
 fn taken_by(acks: &[Ack]) -> u64
     ensures { result ≡ taken_by acks.now }
 {
-    acks.iter().filter(|ack| is_take(ack.applied)).count() as u64
+    let taken = |ack: &&Ack| matches!(ack.applied, Applied::Kept { .. });
+    acks.iter().filter(taken).count() as u64
 }
 
 // How many events a cycle took.
@@ -251,8 +246,8 @@ fn taken_in(run: &[CycleReport]) -> u64
 
 /// Appends the table of the cycles of a run, if there are any.
 #[tactic(auto, unfolding(crate::specs::Tables::run_table))]
-pub fn put_run(out: &mut Vec<u8>, alloc: Global, run: &[CycleReport], retrieved: u64) -> Drawn
-    ensures { OnOk result (out.new.items ≡ out.old.items ++ run_table (map report_of run.now) retrieved) }
+pub fn put_run(out: &mut Vec<u8>, alloc: Global, run: &[CycleReport], found: u64) -> Drawn
+    ensures { OnOk result (out.new.items ≡ out.old.items ++ run_table (map report_of run.now) found) }
 {
     if run.is_empty() {
         return Ok(());
@@ -262,8 +257,8 @@ pub fn put_run(out: &mut Vec<u8>, alloc: Global, run: &[CycleReport], retrieved:
     };
     let rows = print_run(alloc, empty, run)?;
     let taken = taken_in(run);
-    let gone = Count(taken.saturating_sub(retrieved));
-    fill(out, RUN_START, &[Count(taken), Count(retrieved), gone])?;
+    let gone = Count(taken.saturating_sub(found));
+    fill(out, RUN_START, &[Count(taken), Count(found), gone])?;
     out.extend_from_slice(&rows.bytes)?;
     put(out, TABLE_END)
 }

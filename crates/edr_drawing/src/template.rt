@@ -4,8 +4,7 @@
 //! `specs/` name the templates of `src/`, so each text of a page stands once.
 
 ghost use Rattle.std.specs.Prelude.{◌≡◌, ◌++◌, ◌≤◌, OnOk, map};
-ghost use Rattle.edr_report.specs.Words.{extreme_words};
-ghost use Rattle.edr_drawing.specs.Template.{before_zero, byte_bytes, digest_hex, either, filled, filling_bytes, fixed, hex_byte, hex_digit, of_profile, of_switch, place_words, seconds};
+ghost use Rattle.edr_drawing.specs.Template.{byte_bytes, digest_hex, either, filled, filling_bytes, fixed, hex_byte, hex_digit, of_profile, of_switch, place_words, seconds};
 
 use edr_record::{Extreme, Place, Profile};
 use edr_report::tenths_of;
@@ -114,24 +113,6 @@ fn put_place(out: &mut Vec<u8>, place: Place) -> Drawn
     }
 }
 
-fn put_extreme(out: &mut Vec<u8>, extreme: Extreme) -> Drawn
-    ensures { OnOk result (out.new.items ≡ out.old.items ++ extreme_words extreme) }
-{
-    put_change(out, extreme.kmh)?;
-    out.extend_from_slice(b" km/h at ")?;
-    put_number(out, u64::from(extreme.at))?;
-    out.extend_from_slice(b" ms")
-}
-
-fn put_before(out: &mut Vec<u8>, tenths: u64) -> Drawn
-    ensures { OnOk result (out.new.items ≡ out.old.items ++ before_zero tenths) }
-{
-    if tenths != 0 {
-        out.extend_from_slice(b"-")?;
-    }
-    put_seconds(out, tenths)
-}
-
 fn hex_digit(n: u8) -> u8
     requires { n ≤ 15 }
     ensures { result ≡ hex_digit n }
@@ -172,8 +153,17 @@ fn put_filling(out: &mut Vec<u8>, filling: Filling) -> Drawn
             put_number(out, u64::from(time))?;
             out.extend_from_slice(b" ms")
         }
-        Filling::Before(tenths) => put_before(out, tenths),
-        Filling::Extreme(extreme) => put_extreme(out, extreme),
+        Filling::Before(0) => put_seconds(out, 0),
+        Filling::Before(tenths) => {
+            out.extend_from_slice(b"-")?;
+            put_seconds(out, tenths)
+        }
+        Filling::Extreme(extreme) => {
+            put_change(out, extreme.kmh)?;
+            out.extend_from_slice(b" km/h at ")?;
+            put_number(out, u64::from(extreme.at))?;
+            out.extend_from_slice(b" ms")
+        }
         Filling::Digest(digest) => put_digest(out, &digest),
         Filling::Beginning(digest) => put_digest(out, &digest[..BEGINNING]),
     }
