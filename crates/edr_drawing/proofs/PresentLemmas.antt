@@ -9,7 +9,7 @@ use Rattle.edr_drawing.specs.declared.shapes.Shape.{Shape}
 use Rattle.edr_drawing.specs.declared.shapes.Shape.TheVariants as shape
 use Rattle.edr_drawing.specs.Shapes.{shape_bytes, shapes_bytes}
 use Rattle.edr_drawing.specs.Scales.{slot_x}
-use Rattle.edr_drawing.specs.Lanes.{lane_y, cell, cells, cells_of, long_cells, point, points, run_shapes, word_y}
+use Rattle.edr_drawing.specs.Lanes.{lane_y, cell, cells, long_cells, point, points, run_shapes, word_y}
 use Rattle.edr_drawing.specs.Laws.{present, mark_of, is_mark, HasMarks}
 
 -- more shapes
@@ -59,7 +59,7 @@ long_marks l k n (Some v ∷ vs) =
       no_mark l k n (dot ∷ rest.0) ∙ ap (λ (xs : List Shape). dot ∷ xs) rest.2,
     )
 
-pub marks_present : (f : Profile) (l : ChartLane) (vs : List (Option ℕ)) → HasMarks f l vs (cells_of f l vs)
+pub marks_present : (f : Profile) (l : ChartLane) (vs : List (Option ℕ)) → HasMarks f l vs
 marks_present Short l vs = short_marks l 0 vs
 marks_present Long l vs = long_marks l 0 0 vs
 

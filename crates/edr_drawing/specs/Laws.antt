@@ -1,5 +1,5 @@
 -- What the laws of a page speak of.
-use Rattle.std.specs.Prelude.{◌≡◌, ◌≤◌, ◌<◌, ◌↔◌, ℕ, ◌+◌, ◌-◌, ℤ, Bool, true, false, Option, Some, None, List, [], ◌∷◌, ◌++◌, Contains, filter, map, flat_map}
+use Rattle.std.specs.Prelude.{◌≡◌, ◌≤◌, ◌<◌, ◌↔◌, All, ℕ, ◌+◌, ◌-◌, ℤ, Bool, true, false, Option, Some, None, List, [], ◌∷◌, ◌++◌, Contains, filter, map, flat_map}
 use Rattle.edr_record.specs.declared.Key.{Key}
 use Rattle.edr_record.specs.declared.Place.TheVariants.{First}
 use Rattle.edr_record.specs.declared.Profile.{Profile}
@@ -7,21 +7,25 @@ use Rattle.edr_record.specs.declared.Profile.TheVariants.{Short, Long}
 use Rattle.edr_record.specs.declared.Record.{Record}
 use Rattle.edr_record.specs.declared.TheConstants.{LONGEST_PAIR}
 use Rattle.edr_record.specs.Bounds.{slots_in}
-use Rattle.edr_record.specs.Parts.{PrePart}
-use Rattle.edr_report.specs.Report.{found_records}
+use Rattle.edr_record.specs.Parts.{CrashPart, PrePart}
+use Rattle.edr_report.specs.Report.{events_lines, found_records}
 use Rattle.edr_report.specs.Words.{number_shown, tenths_of}
 use Rattle.edr_drawing.specs.ByTime.{slot_row}
 use Rattle.edr_image.specs.declared.Found.{Found}
 use Rattle.edr_image.specs.Reports.{Report}
 use Rattle.edr_report.specs.Lines.{Line}
+use Rattle.edr_drawing.specs.declared.axes.CarAxis.{CarAxis}
+use Rattle.edr_drawing.specs.declared.axes.TheConstants.{NO_SAMPLE}
+use Rattle.edr_drawing.specs.Axes.{greatest_words}
+use Rattle.edr_drawing.specs.After.{curve, maximum, silent_curve}
 use Rattle.edr_drawing.specs.declared.shapes.Shape.{Shape}
 use Rattle.edr_drawing.specs.declared.shapes.Shape.TheVariants as shape
 use Rattle.edr_drawing.specs.declared.lanes.ChartLane.{ChartLane}
 use Rattle.edr_drawing.specs.declared.changes.Scale.{Scale}
 use Rattle.edr_drawing.specs.Shapes.{shapes_bytes}
 use Rattle.edr_drawing.specs.Scales.{slot_x}
-use Rattle.edr_drawing.specs.Lanes.{lane_y, point}
-use Rattle.edr_drawing.specs.Changes.{change_y}
+use Rattle.edr_drawing.specs.Lanes.{cells_of, lane_y, point, points}
+use Rattle.edr_drawing.specs.Changes.{change_y, scale_of, time_x}
 use Rattle.edr_drawing.specs.declared.Origin.{Origin}
 use Rattle.edr_drawing.specs.Events.{events_of}
 use Rattle.edr_drawing.specs.Page.{page_bytes}
@@ -40,8 +44,9 @@ HasRows lines page = (l : Line) → Contains lines l → IsInOnePiece (row l.nam
 abbrev pub shown_row : Line → List ℕ
 shown_row l = row l.name (shown_value l)
 
-abbrev pub HasShownRows : List Line → List ℕ → Type 0
-HasShownRows lines page = (l : Line) → Contains lines l → IsInOnePiece (shown_row l) page
+-- so has each line of the events that were found
+abbrev pub HasEventRows : List Found → List ℕ → Type 0
+HasEventRows found page = (l : Line) → Contains (events_lines 1 (found_records found)) l → IsInOnePiece (shown_row l) page
 
 -- each slot of a pre part has its row there, with its time and its values, or that they are absent
 abbrev pub HasSlotRows : PrePart → List ℕ → Type 0
@@ -95,14 +100,37 @@ is_mark (shape.Point x y) = true
 is_mark s = false
 
 -- the shapes of the fields of slots, whose marks are those of the slots that are there, in order
-abbrev pub HasMarks : Profile → ChartLane → List (Option ℕ) → List ℕ → Type 0
-HasMarks f l vs bytes = (es : List Shape) × (bytes ≡ shapes_bytes es) × (filter is_mark es ≡ map (mark_of f l) (present 0 vs))
+abbrev pub HasMarks : Profile → ChartLane → List (Option ℕ) → Type 0
+HasMarks f l vs = (es : List Shape) × (cells_of f l vs ≡ shapes_bytes es) × (filter is_mark es ≡ map (mark_of f l) (present 0 vs))
 
 -- the points of a path, each joined to the one before or not, which are those of the slots that are there, in order
-abbrev pub HasPoints : Profile → ChartLane → List (Option ℕ) → List ℕ → Type 0
-HasPoints f l vs bytes =
-    (ps : List (Bool × (ℕ × ℕ))) × (map (λ p. p.1) ps ≡ present 0 vs) × (bytes ≡ flat_map (λ p. point f l p.1.0 p.0 p.1.1) ps)
+abbrev pub HasPoints : Profile → ChartLane → List (Option ℕ) → Type 0
+HasPoints f l vs =
+    (ps : List (Bool × (ℕ × ℕ))) × (map (λ p. p.1) ps ≡ present 0 vs) × (points f l 0 false vs ≡ flat_map (λ p. point f l p.1.0 p.0 p.1.1) ps)
+
+-- words stand in the place of the curve of an axis and of its greatest change, which has no diamond
+abbrev pub HasNoCurve : Scale → CrashPart → CarAxis → Type 0
+HasNoCurve s c a = (curve s c a ≡ silent_curve s a) × (maximum s c a ≡ []) × (greatest_words c a ≡ NO_SAMPLE.now)
+
+-- a scale has some height
+abbrev pub HasHeight : Scale → Type 0
+HasHeight s = 1 ≤ s.top + s.bottom
+
+-- a change of speed stands as high as another, or above it
+abbrev pub IsNoLower : Scale → ℤ → ℤ → Type 0
+IsNoLower s w v = change_y s w ≤ change_y s v
 
 -- a change of speed stands between the top and the foot of the plot
 abbrev pub StandsIn : Scale → ℤ → Type 0
 StandsIn s v = (80 ≤ change_y s v) × (change_y s v ≤ 450)
+
+-- the same in the chart of a crash part, and that a time stands between the left end and the right one
+abbrev pub IsInPlot : CrashPart → ℤ → Type 0
+IsInPlot c v = StandsIn (scale_of c) v
+
+abbrev pub IsTimeInPlot : CrashPart → ℕ → Type 0
+IsTimeInPlot c t = (330 ≤ time_x (scale_of c) t) × (time_x (scale_of c) t ≤ 1_830)
+
+-- each byte is below 128
+abbrev pub IsAscii : List ℕ → Type 0
+IsAscii bytes = All (λ b. b < 128) bytes

@@ -1,26 +1,24 @@
 //! Laws of a page, each the contract of a function that does nothing.
 
-ghost use Rattle.std.specs.Prelude.{◌≡◌, ◌≤◌, ◌<◌, ◌+◌, ℕ, ℤ, false, true, Option, List, [], All, int_le};
+ghost use Rattle.std.specs.Prelude.{◌≡◌, ◌≤◌, ◌<◌, ℕ, ℤ, true, Option, List, All, int_le};
 ghost use Rattle.edr_record.specs.Parts.{CrashPart, PrePart};
 ghost use Rattle.edr_record.specs.declared.Key.{Key};
 ghost use Rattle.edr_record.specs.declared.Profile.{Profile};
-ghost use Rattle.edr_report.specs.Report.{events_lines, found_records, run_lines};
+ghost use Rattle.edr_report.specs.Report.{run_lines};
 ghost use Rattle.edr_drawing.specs.declared.changes.Scale.{Scale};
 ghost use Rattle.edr_drawing.specs.declared.lanes.ChartLane.{ChartLane};
-ghost use Rattle.edr_drawing.specs.Lanes.{lane_y, cells_of, points};
+ghost use Rattle.edr_drawing.specs.Lanes.{lane_y};
 ghost use Rattle.edr_drawing.specs.declared.axes.CarAxis.{CarAxis};
-ghost use Rattle.edr_drawing.specs.declared.axes.TheConstants.{NO_SAMPLE};
-ghost use Rattle.edr_drawing.specs.Axes.{greatest_words, is_silent};
-ghost use Rattle.edr_drawing.specs.After.{curve, maximum, silent_curve};
+ghost use Rattle.edr_drawing.specs.Axes.{is_silent};
 ghost use Rattle.edr_drawing.specs.ByTime.{by_time};
-ghost use Rattle.edr_drawing.specs.Changes.{change_y, scale_of, span_of, time_x};
+ghost use Rattle.edr_drawing.specs.Changes.{span_of};
 ghost use Rattle.edr_image.specs.declared.Found.{Found};
-ghost use Rattle.edr_drawing.specs.Laws.{AreFirsts, HasAllPlaces, HasAllSlotRows, HasMarks, HasPoints, HasRows, HasShownRows, HasSlotRows, OfPages, StandsIn};
+ghost use Rattle.edr_drawing.specs.Laws.{AreFirsts, HasAllPlaces, HasAllSlotRows, HasEventRows, HasMarks, HasNoCurve, HasPoints, HasHeight, HasRows, HasSlotRows, IsInPlot, IsNoLower, IsAscii, IsTimeInPlot, OfPages};
 
 /// Each line of an event, and each line of a cycle, has its row on the page, word for word; but the lists of speed,
 /// throttle and service brake stand in the table by time.
 pub fn each_line()
-    ensures events { OfPages (λ reports found digest page. HasShownRows (events_lines 1 (found_records found)) page) }
+    ensures events { OfPages (λ reports found digest page. HasEventRows found page) }
     ensures cycles { OfPages (λ reports found digest page. HasRows (run_lines 1 reports) page) }
 {}
 
@@ -38,31 +36,30 @@ pub fn each_first()
 
 /// An axis without any sample has no curve, no mark and no greatest change: words stand in their place.
 pub fn no_sample()
-    ensures { (s : Scale) (c : CrashPart) (a : CarAxis) → is_silent c a ≡ true
-        → (curve s c a ≡ silent_curve s a) × (maximum s c a ≡ []) × (greatest_words c a ≡ NO_SAMPLE.now) }
+    ensures { (s : Scale) (c : CrashPart) (a : CarAxis) → is_silent c a ≡ true → HasNoCurve s c a }
 {}
 
 /// The marks of a lane are those of the slots that are there, in order, and no other; and so are the points of its path.
 pub fn no_absent()
-    ensures marks { (f : Profile) (l : ChartLane) (vs : List (Option ℕ)) → HasMarks f l vs (cells_of f l vs) }
-    ensures path { (f : Profile) (l : ChartLane) (vs : List (Option ℕ)) → HasPoints f l vs (points f l 0 false vs) }
+    ensures marks { (f : Profile) (l : ChartLane) (vs : List (Option ℕ)) → HasMarks f l vs }
+    ensures path { (f : Profile) (l : ChartLane) (vs : List (Option ℕ)) → HasPoints f l vs }
 {}
 
 /// A greater value never stands lower.
 pub fn one_place()
     ensures slots { (l : ChartLane) (v w : ℕ) → 1 ≤ l.top → v ≤ w → lane_y l w ≤ lane_y l v }
-    ensures changes { (s : Scale) (v w : ℤ) → 1 ≤ s.top + s.bottom → int_le v w ≡ true → change_y s w ≤ change_y s v }
+    ensures changes { (s : Scale) (v w : ℤ) → HasHeight s → int_le v w ≡ true → IsNoLower s w v }
 {}
 
 /// Each change of speed of a crash part stands in the plot, and so does each time up to the last one across.
 pub fn all_in_the_plot()
-    ensures along { (c : CrashPart) → All (StandsIn (scale_of c)) c.along }
-    ensures across { (c : CrashPart) → All (StandsIn (scale_of c)) c.across }
-    ensures greatest { (c : CrashPart) → StandsIn (scale_of c) c.max_along.kmh × StandsIn (scale_of c) c.max_across.kmh }
-    ensures times { (c : CrashPart) (t : ℕ) → t ≤ span_of c → (330 ≤ time_x (scale_of c) t) × (time_x (scale_of c) t ≤ 1_830) }
+    ensures along { (c : CrashPart) → All (IsInPlot c) c.along }
+    ensures across { (c : CrashPart) → All (IsInPlot c) c.across }
+    ensures greatest { (c : CrashPart) → IsInPlot c c.max_along.kmh × IsInPlot c c.max_across.kmh }
+    ensures times { (c : CrashPart) (t : ℕ) → t ≤ span_of c → IsTimeInPlot c t }
 {}
 
 /// Every byte of a page is below 128, whatever the numbers of its report are.
 pub fn plain()
-    ensures { OfPages (λ reports found digest page. All (λ b. b < 256) digest → All (λ b. b < 128) page) }
+    ensures { OfPages (λ reports found digest page. All (λ b. b < 256) digest → IsAscii page) }
 {}

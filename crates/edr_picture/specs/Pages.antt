@@ -1,5 +1,5 @@
 -- What the program prints, and why it prints no page.
-use Rattle.std.specs.Prelude.{◌≡◌, ◌⊎◌, ◌≤◌, ⊤, ℕ, List, [], Option, Some, IfSome, length}
+use Rattle.std.specs.Prelude.{◌≡◌, ◌≢◌, ◌⊎◌, ◌≤◌, ⊤, ℕ, List, [], Option, Some, IfSome, length}
 use Rattle.sha2.specs.Sha256.{sha256}
 use Rattle.edr_device.specs.Faults.{Rose}
 use Rattle.edr_device.specs.Stream.{Appends}
@@ -44,6 +44,14 @@ abbrev pub IsPage : List ℕ → List ℕ → Type 0
 IsPage bytes text =
     (run : List Report) × (found : List Found) × (count : ℕ) × TellsReport bytes run found count
     × (text ≡ page_bytes run found (origin_of bytes count))
+
+-- if the bytes are a report, whatever it tells, this is so
+abbrev pub IfReport : List ℕ → Type 0 → Type 0
+IfReport bytes says = (run : List Report) (found : List Found) (count : ℕ) → TellsReport bytes run found count → says
+
+-- the fault is want of memory
+abbrev pub IsWantOfMemory : PageFault → Type 0
+IsWantOfMemory f = f ≡ fault.OutOfMemory
 
 -- the records of the bytes can be no report from this row on
 abbrev pub HasFaultFrom : List ℕ → ℕ → RowFault → Type 0
@@ -130,6 +138,14 @@ WritesPart k is old new = (text : List ℕ) × is text × GainsPart k text old n
 -- it counted a fault
 abbrev pub Fails : {K : Type 0} → sink.Ghosts K → K → K → Type 0
 Fails k old new = Rose (k.faults old) (k.faults new)
+
+-- it counted a fault, and gained a part of the text
+abbrev pub FailsWithin : {K : Type 0} → sink.Ghosts K → List ℕ → K → K → Type 0
+FailsWithin k text old new = GainsPart k text old new × Fails k old new
+
+-- where a call that was to end with the first status ended with a fault of the sink, this is so
+abbrev pub IfCut : PageStatus → PageStatus → Type 0 → Type 0
+IfCut wanted ended says = wanted ≢ status.WriteFault → ended ≡ status.WriteFault → says
 
 -- the page was drawn, unless memory ran out
 abbrev pub IsDrawn : PageStatus → Type 0

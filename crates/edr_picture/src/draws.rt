@@ -1,11 +1,9 @@
 //! The top call: from the bytes of a report to those of its page.
-ghost use Rattle.std.specs.Prelude.{◌≡◌, ◌≢◌, ◌⊎◌, ◌≤◌, ◌+◌, ℕ, List, IfOk, IfErr, length};
-ghost use Rattle.edr_image.specs.declared.Found.{Found};
-ghost use Rattle.edr_image.specs.Reports.{Report};
+ghost use Rattle.std.specs.Prelude.{◌≡◌, ◌≢◌, ◌⊎◌, ◌≤◌, ◌+◌, IfOk, IfErr, length};
 ghost use Rattle.edr_device.specs.Told.{Told};
 ghost use Rattle.edr_device.specs.Transfer.{GivesAtMost};
 ghost use Rattle.edr_picture.specs.Faults.{fault_line};
-ghost use Rattle.edr_picture.specs.Pages.{AnswerIs, Fails, GainsText, GainsPart, HasNone, IsDrawn, IsPage, IsTextFor, IsWhy, OfReport, OnInput, PageIs, TellsReport, WritesText, WritesPart, largest_report};
+ghost use Rattle.edr_picture.specs.Pages.{AnswerIs, Fails, FailsWithin, GainsText, HasNone, IfCut, IfReport, IsDrawn, IsPage, IsTextFor, IsWantOfMemory, IsWhy, OfReport, OnInput, PageIs, WritesText, WritesPart, largest_report};
 
 use crate::asked::{Asked, HELP, version_line};
 use crate::faults::PageFault;
@@ -24,8 +22,7 @@ fn page_of(alloc: Global, bytes: &[u8]) -> Result<Vec<u8>, PageFault>
     requires { length bytes.now ≤ largest_report }
     ensures page { IfOk result (λ v. IsPage bytes.now v.items) }
     ensures refused { IfErr result (λ f. IsWhy bytes.now f) }
-    ensures complete { (run : List Report) (found : List Found) (count : ℕ)
-        → TellsReport bytes.now run found count → IfErr result (λ f. f ≡ PageFault.OutOfMemory) }
+    ensures complete { IfReport bytes.now (IfErr result IsWantOfMemory) }
 {
     let reading = match read(alloc, bytes) {
         Ok(reading) => reading,
@@ -47,8 +44,7 @@ fn page_of(alloc: Global, bytes: &[u8]) -> Result<Vec<u8>, PageFault>
 fn page_from<S: Source>(alloc: Global, source: &mut S) -> Result<Vec<u8>, PageFault>
     ensures page { IfOk result (λ v. OnInput S.Source PageIs source.old source.new v.items) }
     ensures cause { IfErr result (HasNone S.Source Asked.Page source.old source.new) }
-    ensures complete { OfReport S.Source source.old source.new
-        (IfErr result (λ f. f ≡ PageFault.OutOfMemory)) }
+    ensures complete { OfReport S.Source source.old source.new (IfErr result IsWantOfMemory) }
     ensures takes { Told (GivesAtMost (largest_report + 1)) (S.left source.old) (S.left source.new) }
     ensures later { S.faults source.old ≤ S.faults source.new }
 {
@@ -62,10 +58,9 @@ fn page_from<S: Source>(alloc: Global, source: &mut S) -> Result<Vec<u8>, PageFa
 
 // Writes the text with which a call ends so.
 fn write<K: Sink>(sink: &mut K, text: &[u8], status: PageStatus) -> PageStatus
-    ensures whole { result ≢ PageStatus.WriteFault
-        → (result ≡ status) × GainsText K.Sink text.now sink.old sink.new }
-    ensures part { status ≢ PageStatus.WriteFault → result ≡ PageStatus.WriteFault
-        → GainsPart K.Sink text.now sink.old sink.new × Fails K.Sink sink.old sink.new }
+    ensures status { result ≢ PageStatus.WriteFault → result ≡ status }
+    ensures whole { result ≢ PageStatus.WriteFault → GainsText K.Sink text.now sink.old sink.new }
+    ensures part { IfCut status result (FailsWithin K.Sink text.now sink.old sink.new) }
     ensures answers { (result ≡ status) ⊎ (result ≡ PageStatus.WriteFault) }
     ensures later { K.faults sink.old ≤ K.faults sink.new }
 {
