@@ -1,6 +1,6 @@
 //! Laws of the definitions, each the contract of a function that does nothing.
 
-ghost use Rattle.std.specs.Prelude.{ℕ, List};
+ghost use Rattle.std.specs.Prelude.{◌≡◌, ℕ, Bool, IfSome, List, Option, length};
 ghost use Rattle.edr_image.specs.declared.Found.{Found};
 ghost use Rattle.edr_image.specs.Reports.{Report};
 ghost use Rattle.edr_report.specs.Lines.{table_of};
@@ -9,7 +9,12 @@ ghost use Rattle.edr_reading.specs.declared.faults.RowFault.{RowFault};
 ghost use Rattle.edr_reading.specs.Faults.{AreReport, IsFault};
 ghost use Rattle.edr_reading.specs.Reading.{report_rows};
 ghost use Rattle.edr_spell.specs.Spell.{RecordsOf};
-ghost use Rattle.edr_reading.specs.Rows.{FieldRows};
+ghost use Rattle.edr_reading.specs.Rows.{FieldRows, event_fields};
+ghost use Rattle.edr_reading.specs.Parts.{crash_texts, pre_texts};
+ghost use Rattle.edr_reading.specs.declared.event.TheConstants.{EVENT_ROWS};
+ghost use Rattle.edr_record.specs.declared.Record.{Record};
+ghost use Rattle.edr_record.specs.Bounds.{IsCrash};
+ghost use Rattle.edr_record.specs.Parts.{CrashPart, PrePart};
 
 /// The records of a report's table are the rows of the report.
 pub fn tables_are_rows()
@@ -19,4 +24,13 @@ pub fn tables_are_rows()
 /// Records that can be no report from some row on are none.
 pub fn a_fault_is_of_no_report()
     ensures { (records : FieldRows) (row : ℕ) (f : RowFault) → IsFault records row f → ¬ AreReport records }
+{}
+
+/// An event has 29 rows: those of its number and its bank, 11 of what stood before time zero, 15 of what came after it, and
+/// one that says whether it is complete.
+pub fn an_event_has_29_rows()
+    ensures rows { EVENT_ROWS ≡ 29 }
+    ensures event { (block bank : ℕ) (r : Record) → length (event_fields block bank r) ≡ EVENT_ROWS }
+    ensures before { (pre : PrePart) (is_locked : Bool) → length (pre_texts pre is_locked) ≡ 11 }
+    ensures after { (crash : Option CrashPart) → IfSome crash IsCrash → length (crash_texts crash) ≡ 15 }
 {}
