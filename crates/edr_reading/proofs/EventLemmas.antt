@@ -43,6 +43,12 @@ pre-agrees j k p q h a = record {
   lamp = λ l. a.lamp (omega (arith, h));
 }
 
+pub before-here : (line : EventLine) (l : PreLine) (p q : PrePart) → line ≡ Before l → PreAgrees (event_place line - 2) p q → PreAgrees (pre_place l) p q
+before-here line l p q is a =
+    let at : event_place line ≡ 2 + pre_place l = ap event_place is in
+    let here : event_place line - 2 ≡ pre_place l = omega (arith, at) in
+    subst (λ (k : ℕ). PreAgrees k p q) here a
+
 -- one line of what stood before time zero more
 pub before-agrees : (line : EventLine) (l : PreLine) (bank : ℕ) (p q : PrePart) (is_locked : Bool) (c : Option CrashPart) (f : ℕ × Record) → line ≡ Before l
     → EventAgrees (event_place line) (bank, record { pre = p; locked = is_locked; crash = c }) f → (PreAgrees (pre_place l) p f.1.pre → PreAgrees (pre_place l + 1) q f.1.pre)
@@ -50,12 +56,11 @@ pub before-agrees : (line : EventLine) (l : PreLine) (bank : ℕ) (p q : PrePart
 before-agrees line l bank p q is_locked c f is a step now_locked =
     let at : event_place line ≡ 2 + pre_place l = ap event_place is in
     let most = pre-most l in
-    let here : event_place line - 2 ≡ pre_place l = omega (arith, at) in
     let next : pre_place l + 1 ≡ event_place line + 1 - 2 = omega (arith, at) in
     let none : event_place line - 13 ≡ event_place line + 1 - 13 = omega (arith, at, most) in
     record {
       bank = λ h. a.bank (omega (arith, at));
-      before = subst (λ (k : ℕ). PreAgrees k q f.1.pre) next (step (subst (λ (k : ℕ). PreAgrees k p f.1.pre) here a.before));
+      before = subst (λ (k : ℕ). PreAgrees k q f.1.pre) next (step (before-here line l p f.1.pre is a.before));
       after = subst (λ (k : ℕ). PartsAgree k c f.1.crash) none a.after;
     }
 

@@ -7,7 +7,7 @@ use Rattle.std.proofs.Math.Seq.{take-append_seam, drop-append_seam}
 use Rattle.std.proofs.lemmas.List.{drop-replicate, take-append-drop, length-replicate}
 use Rattle.std.proofs.lemmas.List.Elements.{All-append, All-drop, All-take}
 use Rattle.edr_record.specs.Bounds.{ArePoints, IsChange, point_count}
-use Rattle.edr_reading.specs.Slots.{with_zeros}
+use Rattle.edr_reading.specs.Slots.{ShowPoints, with_zeros}
 use Rattle.edr_report.specs.Words.{spaced_words, points_words}
 
 pub count-fits : (end : ℕ) → (1 ≤ point_count end) × (point_count end ≤ 26)
@@ -58,20 +58,23 @@ room-is end front long =
     let fits = count-fits end in
     length-append front (drop n (replicate 26 (pos 0))) ∙ (let d = length-drop n (replicate 26 (pos 0)) in let r = length-replicate 26 (pos 0) in omega (arith, d, r, long, fits.1))
 
-pub points-are : (bytes : List ℕ) (end : ℕ) (ps front : List ℤ) → ps ≡ with_zeros (point_count end) front → length front ≡ point_count end → bytes ≡ spaced_words (map signed_decimal front) → All IsChange front → (IsChange (get_or ps 0 (pos 0)) → get_or ps 0 (pos 0) ≡ pos 0)
+pub points-are : (bytes : List ℕ) (end : ℕ) (ps front : List ℤ) → ps ≡ with_zeros (point_count end) front → ShowPoints (point_count end) bytes front → (IsChange (get_or ps 0 (pos 0)) → get_or ps 0 (pos 0) ≡ pos 0)
     → (bytes ≡ points_words end ps) × ArePoints (point_count end) ps
-points-are bytes end ps front e long is changes at_zero =
+points-are bytes end ps front e shown at_zero =
+    let long = shown.0 in
+    let is = shown.1.0 in
+    let changes = shown.1.1 in
     let all : All IsChange ps = subst (All IsChange) (sym e) (All-append IsChange front (drop (point_count end) (replicate 26 (pos 0))) changes (All-drop IsChange (point_count end) (replicate 26 (pos 0)) zeros-change)) in
     let room : length ps ≡ 26 = ap length e ∙ room-is end front long in
     let first = first-is ps room (at_zero (all 0 (pos 0) (omega (arith, room)))) in
     subst (λ (qs : List ℤ). (bytes ≡ points_words end qs) × ArePoints (point_count end) qs) (sym e) (points-read bytes end front long is changes (subst (λ (qs : List ℤ). slice_get qs 0 ≡ Some (pos 0)) e first))
 
 -- where points are shown, they are read
-pub points-given : (bytes : List ℕ) (end : ℕ) (r : Option (List ℤ)) (ps : List ℤ) → ((front : List ℤ) → length front ≡ point_count end → All IsChange front → bytes ≡ spaced_words (map signed_decimal front) → r ≡ Some (with_zeros (point_count end) front))
+pub points-given : (bytes : List ℕ) (end : ℕ) (r : Option (List ℤ)) (ps : List ℤ) → ((front : List ℤ) → ShowPoints (point_count end) bytes front → r ≡ Some (with_zeros (point_count end) front))
     → ArePoints (point_count end) ps → bytes ≡ points_words end ps → r ≡ Some ps
 points-given bytes end r ps whole are is =
     let f = points-front end ps are in
-    whole (take (point_count end) ps) f.0 f.1 is ∙ ap Some (points-whole end ps (take (point_count end) ps) are refl)
+    whole (take (point_count end) ps) (f.0, (is, f.1)) ∙ ap Some (points-whole end ps (take (point_count end) ps) are refl)
 
 pub change-fits : (z : ℤ) → IsChange z → FitsSigned w16 z
 change-fits z h = grind (arith, ints)

@@ -2,7 +2,7 @@
 use Rattle.std.proofs.Common.{arith, ◌≡◌, ◌∙◌, sym, ap, subst, refl, ℕ, zero, suc, ◌+◌, ◌<◌, List, [], ◌∷◌, ◌++◌, length, map, take, drop, get_or, set, append_assoc, ◌^◌, Option, Some, None, codes, nat_eq, true}
 use Rattle.std.specs.List.{All}
 use Rattle.std.proofs.lemmas.Bool.{eqb-true}
-use Rattle.std.proofs.lemmas.List.{append-nil, drop_more, take_more, take_more_set, map-append}
+use Rattle.std.proofs.lemmas.List.{append-nil, drop_all, drop_more, take_all, take_more, take_more_set, map-append}
 use Rattle.std.proofs.lemmas.List.Elements.{All-append}
 use Rattle.std.proofs.Math.Seq.{take-length}
 use Rattle.edr_record.specs.Bounds.{IsUpTo}
@@ -66,16 +66,23 @@ pub some-in : {X : Type 0} (xs : List X) (i : ℕ) → i < length xs → X
 some-in [] i h = absurd (omega arith)
 some-in (x ∷ xs) i h = x
 
+nothing : (k : ℕ) → [] ≡ spaced_behind k []
+nothing zero = refl
+nothing (suc k) = refl
+
+-- where all slots were taken that the bytes show, nothing is left
+pub all-same : {X : Type 0} (words : X → List ℕ) (rest : List ℕ) (slots xs : List X) (i : ℕ) → i ≡ length slots → length xs ≡ length slots → (take i slots ≡ take i xs) × (rest ≡ spaced_behind i (map words (drop i xs)))
+    → (nat_eq (length rest) 0 ≡ true) × (slots ≡ xs)
+all-same words rest slots xs i all long h =
+    let none : rest ≡ [] = h.1 ∙ ap (λ (ys : List _). spaced_behind i (map words ys)) (drop_all i xs (omega (arith, all, long))) ∙ sym (nothing i) in
+    (ap (λ (l : List ℕ). nat_eq (length l) 0) none, sym (take_all i slots (omega (arith, all))) ∙ h.0 ∙ take_all i xs (omega (arith, all, long)))
+
 -- where all slots were taken and nothing is left, the bytes are these slots
 pub read-all : {X : Type 0} (words : X → List ℕ) (ok : X → Type 0) (bytes rest : List ℕ) (slots : List X) (i : ℕ) → i ≡ length slots → rest ≡ [] → ((ws : List (List ℕ)) → rest ≡ spaced_behind i ws → bytes ≡ spaced_words (map words (take i slots) ++ ws))
     → All ok (take i slots) → (bytes ≡ spaced_words (map words slots)) × All ok slots
 read-all words ok bytes rest slots i all none read are =
     let t : take i slots ≡ slots = ap (λ (k : ℕ). take k slots) all ∙ take-length slots in
     (read [] (none ∙ nothing i) ∙ ap spaced_words (append-nil (map words (take i slots))) ∙ ap (λ (a : List _). spaced_words (map words a)) t, subst (All ok) t are)
-  where
-    nothing : (k : ℕ) → [] ≡ spaced_behind k []
-    nothing zero = refl
-    nothing (suc k) = refl
 
 pub none-left : (xs : List ℕ) → nat_eq (length xs) 0 ≡ true → xs ≡ []
 none-left [] e = refl

@@ -1,8 +1,11 @@
 -- Values of a report and the bytes that spell them.
-use Rattle.std.proofs.Common.{arith, ◌≡◌, ◌∙◌, sym, ap, refl, ℕ, suc, ◌+◌, ◌<◌, ◌≤◌, ◌^◌, ℤ, pos, negsuc, List, ◌∷◌, ◌++◌, Option, Some, None, option_map, Bool, codes, decimal, add-one, append_assoc}
+use Rattle.std.proofs.Common.{arith, ◌≡◌, ◌∙◌, sym, ap, subst, refl, ℕ, suc, ◌+◌, ◌<◌, ◌≤◌, ◌^◌, ℤ, pos, negsuc, List, [], ◌∷◌, ◌++◌, Option, Some, None, option_map, Bool, codes, decimal, add-one, append_assoc}
 use Rattle.std.specs.Fmt.{signed_decimal}
+use Rattle.std.specs.Option.{IfSome}
 use Rattle.edr_record.specs.Bounds.{IsUpTo, IsChange}
 use Rattle.edr_report.specs.Words.{firing_words, stop_words, missing_words, damage_words, yes_no}
+use Rattle.edr_reading.specs.Answers.{ReadsTwo}
+use Rattle.edr_reading.specs.Front.{AreUpTo, IsWithin, two_numbers}
 use Rattle.edr_reading.specs.Values.{IsStopCall}
 use Rattle.edr_reading.proofs.FrontLemmas.{not-number}
 
@@ -21,13 +24,20 @@ minus-change bytes digits more (negsuc k) h e f = let s : 45 ∷ digits ≡ 45 �
     tail-is e = cc
 
 -- where the bytes are not those of a cycle that went on to its end, they tell of its stop
-pub stop-whole : (bytes : List ℕ) (r s : Option ℕ) → (bytes ≡ codes ", power off" → ⊥) → ((k : ℕ) → 1 ≤ k → k ≤ 4294967295 → bytes ≡ codes ", stopped in call " ++ decimal k → r ≡ Some k) → IsStopCall s → bytes ≡ codes ", " ++ stop_words s
+pub stop-whole : (bytes : List ℕ) (r s : Option ℕ) → (bytes ≡ codes ", power off" → ⊥) → ((k : ℕ) → IsWithin 1 4_294_967_295 k → bytes ≡ codes ", stopped in call " ++ decimal k → r ≡ Some k) → IsStopCall s → bytes ≡ codes ", " ++ stop_words s
     → option_map Some r ≡ Some s
 stop-whole bytes r None other whole h is = absurd (other is)
-stop-whole bytes r (Some k) other whole h is = ap (option_map Some) (whole k h.0 h.1 is)
+stop-whole bytes r (Some k) other whole h is = ap (option_map Some) (whole k h is)
 
 pub missing-is : (m n : ℕ) → missing_words m n ≡ decimal m ++ (codes " longitudinal, " ++ (decimal n ++ codes " lateral"))
 missing-is m n = simp append_assoc
+
+pub missing-read : (bytes : List ℕ) (high window : ℕ) (r : Option (ℕ × ℕ)) → high ≡ window → ReadsTwo (two_numbers [] (codes " longitudinal, ") (codes " lateral")) (AreUpTo high) bytes r → ReadsTwo missing_words (AreUpTo window) bytes r
+missing-read bytes high window r e h = record { read = by r h.read; whole = λ m n k is. h.whole m n (subst (λ (w : ℕ). AreUpTo w m n) (sym e) k) (is ∙ missing-is m n) }
+  where
+    by : (r : Option (ℕ × ℕ)) → IfSome r (λ p. (bytes ≡ two_numbers [] (codes " longitudinal, ") (codes " lateral") p.0 p.1) × AreUpTo high p.0 p.1) → IfSome r (λ p. (bytes ≡ missing_words p.0 p.1) × AreUpTo window p.0 p.1)
+    by None h = tt
+    by (Some p) h = (h.0 ∙ sym (missing-is p.0 p.1), subst (λ (w : ℕ). AreUpTo w p.0 p.1) e h.1)
 
 -- what stands after the place of a damage
 abbrev pub found_words : ℕ → Bool → List ℕ

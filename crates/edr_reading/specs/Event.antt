@@ -1,14 +1,15 @@
 -- An event of which the first lines were read.
-use Rattle.std.specs.Prelude.{◌≡◌, ◌≢◌, ◌≤◌, ◌-◌, ◌+◌, ℕ, List, [], ◌∷◌, ◌++◌, All, decimal}
+use Rattle.std.specs.Prelude.{◌≡◌, ◌≢◌, ◌≤◌, ◌-◌, ◌+◌, ℕ, Option, List, [], ◌∷◌, ◌++◌, All, decimal}
 use Rattle.edr_record.specs.declared.Record.{Record}
 use Rattle.edr_record.specs.Complete.{is_complete}
 use Rattle.edr_image.specs.declared.Found.{Found}
 use Rattle.edr_report.specs.declared.event_lines.EventLine.{EventLine}
 use Rattle.edr_report.specs.declared.event_lines.EventLine.TheVariants.{Number, Bank, Before, After, Complete}
+use Rattle.edr_report.specs.EventWords.{event_words}
 use Rattle.edr_report.specs.Words.{yes_no}
 use Rattle.edr_reading.specs.declared.event.PartEvent.{PartEvent}
 use Rattle.edr_reading.specs.declared.event.TheConstants.{EVENT_ROWS}
-use Rattle.edr_reading.specs.Parts.{IsRecord, PartsAgree, PreAgrees, crash_place, crash_texts, pre_of, pre_place, pre_texts}
+use Rattle.edr_reading.specs.Parts.{IsRecord, PartsAgree, PreAgrees, AcceptsLine, crash_place, crash_texts, pre_of, pre_place, pre_texts}
 use Rattle.edr_reading.specs.Rows.{Texts}
 use Rattle.edr_reading.specs.Values.{IsBank}
 
@@ -47,3 +48,12 @@ pub record EventAgrees (k : ℕ) (e f : ℕ × Record) : Type 0 where
   pub bank : 2 ≤ k → e.0 ≡ f.0
   pub before : PreAgrees (k - 2) e.1.pre f.1.pre
   pub after : PartsAgree (k - 13) e.1.crash f.1.crash
+
+-- a line of an event in this block is taken, which is in none of the banks found
+abbrev pub AcceptsEventLine : ℕ → List Found → EventLine → List ℕ → PartEvent → Option PartEvent → Type 0
+AcceptsEventLine block found l value old result =
+    AcceptsLine event_of (IsNextEvent found) (event_texts block) EventAgrees (λ e. event_words block e.0 e.1 l) (event_place l) value old result
+
+-- there is no bank that wasn't found
+abbrev pub HasNoneFree : List Found → Type 0
+HasNoneFree found = (b : ℕ) → IsBank b → HasNoBank found b → ⊥

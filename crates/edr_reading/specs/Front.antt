@@ -1,6 +1,8 @@
 -- Numbers and other words in front of bytes, and what may stand after them.
-use Rattle.std.specs.Prelude.{◌≡◌, ◌≤◌, ℕ, false, ⊤, Option, List, [], ◌∷◌, ◌++◌, decimal}
+use Rattle.std.specs.Prelude.{ℤ, ◌≡◌, ◌≤◌, ◌<◌, ◌^◌, ℕ, false, ⊤, Option, IfSome, List, [], ◌∷◌, ◌++◌, decimal}
+use Rattle.std.specs.Fmt.{signed_decimal}
 use denote.Ref.{Bor}
+use Rattle.edr_record.specs.Bounds.{IsChange}
 use Rattle.edr_text.specs.Numbers.{is_digit}
 use Rattle.edr_reading.specs.Answers.{GivesValue}
 
@@ -9,24 +11,45 @@ abbrev pub EndsNumber : List ℕ → Type 0
 EndsNumber [] = ⊤
 EndsNumber (b ∷ bs) = is_digit b ≡ false
 
--- a value within bounds is read, where its words are in front of the bytes and no digit is behind them
+-- it read a value within its bounds, of which the words stand after these bytes, and what stands after them; it reads each
+-- such value that no digit follows
+pub record ReadsBehind {A : Type 0} (front : List ℕ) (words : A → List ℕ) (ok : A → Type 0) (bytes : List ℕ) (result : Option (A × Bor (List ℕ))) : Type 0 where
+  pub read : IfSome result (λ p. (bytes ≡ front ++ (words p.0 ++ p.1.now)) × ok p.0)
+  pub whole : (x : A) (more : List ℕ) → ok x → EndsNumber more → bytes ≡ front ++ (words x ++ more) → GivesValue x more result
+
+-- the same where they stand in front
 abbrev pub ReadsFront : {A : Type 0} → (A → List ℕ) → (A → Type 0) → List ℕ → Option (A × Bor (List ℕ)) → Type 0
-ReadsFront words ok bytes read = (x : _) (more : List ℕ) → ok x → EndsNumber more → bytes ≡ words x ++ more → GivesValue x more read
+ReadsFront words ok bytes result = ReadsBehind [] words ok bytes result
 
--- the same after these bytes
-abbrev pub ReadsBehind : {A : Type 0} → List ℕ → (A → List ℕ) → (A → Type 0) → List ℕ → Option (A × Bor (List ℕ)) → Type 0
-ReadsBehind front words ok bytes read =
-    (x : _) (more : List ℕ) → ok x → EndsNumber more → bytes ≡ front ++ (words x ++ more) → GivesValue x more read
+-- a change of speed that stands in front of the bytes, and what stands after it
+abbrev pub IsChangeFront : List ℕ → ℤ × Bor (List ℕ) → Type 0
+IsChangeFront bytes p = (bytes ≡ signed_decimal p.0 ++ p.1.now) × IsChange p.0
 
--- the same of a number between these two
-abbrev pub ReadsBetween : ℕ → ℕ → List ℕ → List ℕ → Option (ℕ × Bor (List ℕ)) → Type 0
-ReadsBetween low high front bytes read =
-    (n : ℕ) (more : List ℕ) → low ≤ n → n ≤ high → EndsNumber more → bytes ≡ front ++ (decimal n ++ more) → GivesValue n more read
+-- where this number is in front, this change is read
+abbrev pub ReadsAs : ℕ → ℤ → List ℕ → Option (ℤ × Bor (List ℕ)) → Type 0
+ReadsAs n z bytes result = (more : List ℕ) → EndsNumber more → bytes ≡ decimal n ++ more → GivesValue z more result
+
+-- a number from low to high, and one of 32 bits
+abbrev pub IsWithin : ℕ → ℕ → ℕ → Type 0
+IsWithin low high n = (low ≤ n) × (n ≤ high)
+
+abbrev pub IsWord : ℕ → Type 0
+IsWord n = n < 2 ^ 32
+
+-- two such numbers, and two up to this one
+abbrev pub AreWords : ℕ → ℕ → Type 0
+AreWords m n = IsWord m × IsWord n
+
+abbrev pub AreUpTo : ℕ → ℕ → ℕ → Type 0
+AreUpTo high m n = (m ≤ high) × (n ≤ high)
+
+-- a number after other bytes, and between some
+abbrev pub number_after : List ℕ → ℕ → List ℕ
+number_after front n = front ++ decimal n
+
+abbrev pub number_between : List ℕ → List ℕ → ℕ → List ℕ
+number_between front back n = front ++ (decimal n ++ back)
 
 -- two numbers among other bytes
-abbrev pub two_numbers : List ℕ → ℕ → List ℕ → ℕ → List ℕ → List ℕ
-two_numbers front m middle n back = front ++ (decimal m ++ (middle ++ (decimal n ++ back)))
-
--- whatever two numbers within bounds stand so, this is so
-abbrev pub OfTwo : (ℕ → Type 0) → List ℕ → List ℕ → List ℕ → List ℕ → (ℕ × ℕ → Type 0) → Type 0
-OfTwo ok front middle back bytes says = (m n : ℕ) → ok m → ok n → bytes ≡ two_numbers front m middle n back → says (m, n)
+abbrev pub two_numbers : List ℕ → List ℕ → List ℕ → ℕ → ℕ → List ℕ
+two_numbers front middle back m n = front ++ (decimal m ++ (middle ++ (decimal n ++ back)))

@@ -1,5 +1,5 @@
 -- What the lines of the two parts of a record show and fix.
-use Rattle.std.specs.Prelude.{◌≡◌, ◌≤◌, ◌+◌, ℕ, Bool, List, [], ◌∷◌, All, length, map, IfSome, Option, None, Some, ⊤, replicate}
+use Rattle.std.specs.Prelude.{◌≡◌, ◌≤◌, ◌+◌, ℕ, Bool, List, [], ◌∷◌, All, length, map, take, IfSome, MatchOption, Option, None, Some, ⊤, replicate}
 use Rattle.edr_record.specs.Parts.{PrePart, CrashPart}
 use Rattle.edr_record.specs.Bounds.{IsPre, IsCrash, IsUpTo, slots_in}
 use Rattle.edr_record.specs.Fields.{profile_of_slots, speed_of, throttle_of, brake_of}
@@ -11,10 +11,20 @@ use Rattle.edr_report.specs.declared.event_lines.PreLine.TheVariants as pre
 use Rattle.edr_report.specs.declared.event_lines.CrashLine.{CrashLine}
 use Rattle.edr_report.specs.declared.event_lines.CrashLine.TheVariants as crash
 use Rattle.std.specs.Option.{option_map_or}
-use Rattle.edr_report.specs.EventWords.{crash_words, place_of}
+use Rattle.edr_report.specs.EventWords.{crash_words, place_of, pre_words}
 use Rattle.edr_report.specs.Words.{none_word, yes_no, profile_word, number_or_none, switch_or_none, milliseconds, firing_words, shown_count, events_in_crash, time_between, spaced_words, points_words, extreme_words, missing_words}
 use Rattle.edr_reading.specs.Rows.{Texts}
 use Rattle.edr_reading.specs.declared.pre.PreSoFar.{PreSoFar}
+
+-- ---- a line
+
+-- a line in place k is taken with its value: what was read shows it, and in the lines before it what it showed; and whatever
+-- it may become that shows the value there, it is read one line further
+pub record AcceptsLine {A B : Type 0} (view : B → A) (ok : A → Type 0) (texts : A → Texts) (agree : ℕ → A → A → Type 0) (words : A → List ℕ) (k : ℕ) (value : List ℕ) (old : B) (result : Option B) : Type 0 where
+  pub bounds : IfSome result (λ new. ok (view new))
+  pub shows : IfSome result (λ new. value ≡ words (view new))
+  pub earlier : IfSome result (λ new. take k (texts (view new)) ≡ take k (texts (view old)))
+  pub whole : (f : A) → ok f → agree k (view old) f → value ≡ words f → MatchOption result ⊥ (λ new. agree (k + 1) (view new) f)
 
 -- ---- before time zero
 
@@ -80,6 +90,11 @@ pub record PreAgrees (k : ℕ) (p q : PrePart) : Type 0 where
   pub belt : 10 ≤ k → p.belt ≡ q.belt
   pub lamp : 11 ≤ k → p.lamp ≡ q.lamp
 
+-- a line of it is taken
+abbrev pub AcceptsPreLine : PreLine → List ℕ → PreSoFar → Option PreSoFar → Type 0
+AcceptsPreLine l value old result =
+    AcceptsLine {A = PrePart × Bool} (λ p. (pre_of p, p.locked)) (λ q. IsPre q.0) (λ q. pre_texts q.0 q.1) (λ k p q. PreAgrees k p.0 q.0) (λ q. pre_words q.0 q.1 l) (pre_place l) value old result
+
 -- ---- after time zero
 
 -- the place of a line among them
@@ -122,6 +137,19 @@ PartsAgree k None None = ⊤
 PartsAgree k None (Some d) = k ≡ 0
 PartsAgree k (Some c) None = k ≡ 0
 PartsAgree k (Some c) (Some d) = CrashAgrees k c d
+
+-- a line of it is taken, and one where it may be absent
+abbrev pub AcceptsCrashLine : CrashLine → List ℕ → CrashPart → Option CrashPart → Type 0
+AcceptsCrashLine l value old result = AcceptsLine (λ c. c) IsCrash (λ c. crash_texts (Some c)) CrashAgrees (λ c. crash_words c l) (crash_place l) value old result
+
+abbrev pub AcceptsPartLine : CrashLine → List ℕ → Option CrashPart → Option (Option CrashPart) → Type 0
+AcceptsPartLine l value old result = AcceptsLine (λ c. c) (λ c. IfSome c IsCrash) crash_texts PartsAgree (λ c. part_words c l) (crash_place l) value old result
+
+-- the line of its end begins it, or says that it is absent
+pub record BeginsPart (value : List ℕ) (result : Option (Option CrashPart)) : Type 0 where
+  pub bounds : IfSome result (λ c. IfSome c IsCrash)
+  pub shows : IfSome result (λ c. value ≡ part_words c crash.End)
+  pub whole : (d : Option CrashPart) → IfSome d IsCrash → value ≡ part_words d crash.End → MatchOption result ⊥ (λ c. PartsAgree 1 c d)
 
 -- ---- the record
 

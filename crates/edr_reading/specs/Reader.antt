@@ -1,5 +1,5 @@
 -- What a reader knows of a report after some of its rows.
-use Rattle.std.specs.Prelude.{◌≡◌, ◌<◌, ◌≤◌, ◌+◌, ℕ, ⊤, Bool, true, false, eqb, List, [], ◌∷◌, ◌++◌, All, map, length, take, drop, ◌⊎◌, Option, Some, None, Result, Ok, Err, decimal, slice_index_or}
+use Rattle.std.specs.Prelude.{◌≡◌, ◌<◌, ◌≤◌, ◌+◌, ℕ, ⊤, Bool, true, false, eqb, List, [], ◌∷◌, ◌++◌, All, map, length, take, drop, ◌⊎◌, Option, Some, None, IfSome, MatchOption, Result, Ok, Err, decimal, slice_index_or}
 use Rattle.std.specs.List.{IsDistinct}
 use Rattle.edr_record.specs.declared.Record.{Record}
 use Rattle.edr_image.specs.declared.Ack.{Ack}
@@ -14,13 +14,14 @@ use Rattle.edr_reading.specs.declared.reader.Refused.{Refused}
 use Rattle.edr_reading.specs.declared.reader.Refused.TheVariants as refused
 use Rattle.edr_reading.specs.declared.told.CycleRow.{CycleRow}
 use Rattle.edr_reading.specs.declared.told.CycleRow.TheVariants as row
-use Rattle.edr_reading.specs.Event.{EventAgrees, HasNoBank, event_of}
+use Rattle.edr_reading.specs.Event.{EventAgrees, HasNoBank, HasNoneFree, event_of}
 use Rattle.edr_reading.specs.Faults.{AreReport, IsWrong}
 use Rattle.edr_reading.specs.Found.{IsDamaged, IsEvent, banks_in, count_fields, damaged_fields, events_fields, last_rows}
 use Rattle.edr_reading.specs.Reading.{AreDistinct, head_row}
 use Rattle.edr_reading.specs.Rows.{FieldRows, event_fields}
 use Rattle.edr_reading.specs.Run.{IsReport, ack_fields, run_fields}
 use Rattle.edr_reading.specs.Told.{IsAck, IsToldName, name_words}
+use Rattle.edr_reading.specs.Values.{IsBank}
 use Rattle.edr_reading.specs.declared.event.PartEvent.{PartEvent}
 use Rattle.edr_reading.specs.declared.event.TheConstants.{EVENT_ROWS}
 use Rattle.edr_reading.specs.declared.told.ToldName.{ToldName}
@@ -169,11 +170,20 @@ pub record IsOnlyName (r : Reader) (w : List ℕ) (x : ToldName) : Type 0 where
   pub words : w ≡ name_words (length (cycles_read r)) x
   pub only : (y : ToldName) → IsToldName y → w ≡ name_words (length (cycles_read r)) y → x ≡ y
 
+-- a row of block 0 with this name and value is taken, or refused
+abbrev pub TakesNamed : ToldName → List ℕ → Reader → Reader → Result Unit Refused → Type 0
+TakesNamed x value old new res = (w : List ℕ) → IsOnlyName old w x → Takes old new (decimal 0 ∷ w ∷ value ∷ []) res
+
 -- ---- rows of an event
 
 -- an event may be next, if there is a bank for it
 abbrev pub MayHaveEvent : Reader → Type 0
 MayHaveEvent r = ((r.next ≡ next.Run) ⊎ (r.next ≡ next.Events)) × (r.rows + (EVENT_ROWS + 1) ≤ 4_294_967_294)
+
+-- a bank for it was found, or there is none
+pub record FindsBank (r : Reader) (result : Option ℕ) : Type 0 where
+  pub read : IfSome result (λ b. IsBank b × HasNoBank r.found.items b × MayHaveEvent r)
+  pub none : MatchOption result (MayHaveEvent r → HasNoneFree r.found.items) (λ b. ⊤)
 
 -- the reader has read these rows, and this line of an event may be next
 pub record AtLine (r : Reader) (k : ℕ) (e : ℕ × Record) (rows : FieldRows) : Type 0 where

@@ -1,8 +1,11 @@
 -- Why a text is not read.
-use Rattle.std.specs.Prelude.{ℕ, List, ⊤}
+use Rattle.std.specs.Prelude.{◌≡◌, ℕ, List, map, ⊤, Result, IfOk, IfErr}
+use Rattle.edr_image.specs.Reports.{report_of}
 use Rattle.edr_reading.specs.Faults.{IsFault}
 use Rattle.edr_spell.specs.Spell.{RecordsOf}
+use Rattle.edr_reading.specs.Reading.{IsReading, rows_told}
 use Rattle.edr_reading.specs.Rows.{FieldRows}
+use Rattle.edr_reading.specs.declared.reading.Reading.{Reading}
 use Rattle.edr_reading.specs.declared.faults.RowFault.TheVariants as fault
 use Rattle.edr_reading.specs.declared.reader.Refused.{Refused}
 use Rattle.edr_reading.specs.declared.reader.Refused.TheVariants as refused
@@ -13,6 +16,12 @@ use Rattle.edr_reading.specs.declared.reading.ReportRefused.TheVariants.{Fault, 
 abbrev pub IsRowRefusal : FieldRows → ReportRefused → Type 0
 IsRowRefusal records (Fault row fault) = IsFault records row fault
 IsRowRefusal records OutOfMemory = ⊤
+
+-- what these rows tell was read, or the fault is theirs
+pub record ReadsRows (rows : FieldRows) (result : Result Reading ReportRefused) : Type 0 where
+  pub read : IfOk result (λ r. rows ≡ rows_told r)
+  pub told : IfOk result (λ r. IsReading (map report_of r.run.items) r.found.items r.count)
+  pub fault : IfErr result (IsRowRefusal rows)
 
 -- the fault is that of its records
 abbrev pub IsRefusalOfRecords : List ℕ → ReportRefused → Type 0

@@ -1,5 +1,5 @@
 -- The rows of a report's table, by their fields.
-use Rattle.std.specs.Prelude.{ℕ, List, [], ◌∷◌, map, decimal}
+use Rattle.std.specs.Prelude.{◌≡◌, ◌≢◌, ℕ, Option, MatchOption, List, [], ◌∷◌, length, map, decimal}
 use Rattle.edr_record.specs.declared.Record.{Record}
 use Rattle.edr_report.specs.Report.{event_lines}
 use denote.Ref.{Bor}
@@ -13,6 +13,10 @@ use Rattle.edr_reading.specs.declared.rows.ReportRow.{ReportRow}
 -- the fields of a row
 abbrev pub fields : ReportRow → List (List ℕ)
 fields r = r.block.now ∷ r.name.now ∷ r.value.now ∷ []
+
+-- a row has these fields, or they aren't three
+abbrev pub IsRowOf : List (List ℕ) → Option ReportRow → Type 0
+IsRowOf fs row = MatchOption row (length fs ≢ 3) (λ r. fields r ≡ fs)
 
 -- rows by their fields
 abbrev pub FieldRows : Type 0

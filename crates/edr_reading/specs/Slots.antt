@@ -1,7 +1,9 @@
 -- Words parted by one space, of which some were taken.
-use Rattle.std.specs.Prelude.{◌≡◌, ℕ, zero, suc, ℤ, pos, List, [], ◌∷◌, ◌++◌, All, map, length, flat_map, drop, replicate}
+use Rattle.std.specs.Prelude.{◌≡◌, ℕ, zero, suc, ℤ, pos, Bool, true, Option, Some, IfSome, MatchOption, List, [], ◌∷◌, ◌++◌, All, map, length, flat_map, drop, replicate}
 use Rattle.std.specs.Fmt.{signed_decimal}
-use Rattle.edr_record.specs.Bounds.{IsChange, most_points}
+use Rattle.edr_record.specs.Bounds.{IsChange, most_points, slots_in}
+use Rattle.edr_record.specs.Fields.{profile_of_slots}
+use Rattle.edr_record.specs.declared.Slots.{Slots}
 use Rattle.edr_report.specs.Words.{spaced_words}
 
 -- words, each with a space before it
@@ -18,9 +20,15 @@ abbrev pub space_at : ℕ → List ℕ
 space_at zero = []
 space_at (suc n) = 32 ∷ []
 
--- whatever n values within bounds the bytes show, parted by spaces, this is so
-abbrev pub OfSpaced : {A : Type 0} → ℕ → (A → List ℕ) → (A → Type 0) → List ℕ → (List A → Type 0) → Type 0
-OfSpaced n words ok bytes says = (xs : List _) → length xs ≡ n → All ok xs → bytes ≡ spaced_words (map words xs) → says xs
+-- the bytes show these values within bounds, parted by spaces
+abbrev pub ShowSlots : {A : Type 0} → (A → List ℕ) → (A → Type 0) → List ℕ → List A → Type 0
+ShowSlots words ok bytes xs = (bytes ≡ spaced_words (map words xs)) × All ok xs
+
+-- slots were read in the place of as many others, and each as many that the bytes show are
+pub record ReadsSlots {A : Type 0} (words : A → List ℕ) (ok : A → Type 0) (bytes : List ℕ) (old new : List A) (is_read : Bool) : Type 0 where
+  pub long : length new ≡ length old
+  pub read : is_read ≡ true → ShowSlots words ok bytes new
+  pub whole : (xs : List A) → length xs ≡ length old → ShowSlots words ok bytes xs → (is_read ≡ true) × (new ≡ xs)
 
 -- so many points, and zeros in the place of those past them
 abbrev pub with_zeros : ℕ → List ℤ → List ℤ
@@ -28,8 +36,15 @@ with_zeros count front = front ++ drop count (replicate most_points (pos 0))
 
 -- the bytes show so many points
 abbrev pub ShowPoints : ℕ → List ℕ → List ℤ → Type 0
-ShowPoints count bytes front = (length front ≡ count) × (bytes ≡ spaced_words (map signed_decimal front)) × All IsChange front
+ShowPoints count bytes front = (length front ≡ count) × ShowSlots signed_decimal IsChange bytes front
 
--- they are the points that the bytes show, with zeros past them
-abbrev pub AreShown : ℕ → List ℕ → List ℤ → Type 0
-AreShown count bytes points = (front : List ℤ) × (points ≡ with_zeros count front) × ShowPoints count bytes front
+-- so many points that the bytes show were read, with zeros past them
+pub record ReadsPoints (count : ℕ) (bytes : List ℕ) (result : Option (List ℤ)) : Type 0 where
+  pub read : IfSome result (λ points. (front : List ℤ) × (points ≡ with_zeros count front) × ShowPoints count bytes front)
+  pub whole : (front : List ℤ) → ShowPoints count bytes front → result ≡ Some (with_zeros count front)
+
+-- one list of these slots was read as the value shows it
+pub record ReadsList {A : Type 0} (list : Slots → List A) (words : A → List ℕ) (ok : A → Type 0) (value : List ℕ) (old : Slots) (result : Option Slots) : Type 0 where
+  pub long : IfSome result (λ s. length (list s) ≡ slots_in (profile_of_slots old))
+  pub read : IfSome result (λ s. ShowSlots words ok value (list s))
+  pub whole : (xs : List A) → length xs ≡ slots_in (profile_of_slots old) → ShowSlots words ok value xs → MatchOption result ⊥ (λ s. list s ≡ xs)

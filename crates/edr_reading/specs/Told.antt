@@ -7,7 +7,7 @@ use Rattle.edr_reading.specs.declared.told.CycleRow.{CycleRow}
 use Rattle.edr_reading.specs.declared.told.CycleRow.TheVariants.{StartStopped, Ran}
 use Rattle.edr_reading.specs.declared.told.ToldName.{ToldName}
 use Rattle.edr_reading.specs.declared.told.ToldName.TheVariants as name
-use Rattle.edr_reading.specs.Values.{IsApplied, IsBank, IsStopCall, IsTick}
+use Rattle.edr_reading.specs.Values.{IsApplied, IsBank, IsRan, IsTick}
 
 -- the bounds of an acknowledged command
 abbrev pub IsAck : Ack → Type 0
@@ -20,7 +20,11 @@ cycle_line i (Ran n stop) = line 0 (cycle_words i) (codes "number " ++ decimal n
 
 abbrev pub IsCycleRow : CycleRow → Type 0
 IsCycleRow (StartStopped j) = (1 ≤ j) × (j ≤ 6)
-IsCycleRow (Ran n stop) = (1 ≤ n) × (n ≤ 4_294_967_295) × IsStopCall stop
+IsCycleRow (Ran n stop) = IsRan n stop
+
+-- what its value shows
+abbrev pub row_words : CycleRow → List ℕ
+row_words r = (cycle_line 1 r).value
 
 -- a name of block 0, where so many cycles were told before
 abbrev pub name_words : ℕ → ToldName → List ℕ

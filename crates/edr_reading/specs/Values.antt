@@ -1,5 +1,5 @@
 -- Which values a report may show, where the parts of a record don't say it.
-use Rattle.std.specs.Prelude.{ℕ, ◌≡◌, ◌≤◌, ◌-◌, ◌⊎◌, Bool, Option, IfSome, List, [], ◌++◌, codes, decimal}
+use Rattle.std.specs.Prelude.{ℕ, ◌≡◌, ◌≤◌, ◌-◌, ◌⊎◌, Bool, Option, IfSome, IsSome, List, [], ◌++◌, codes, decimal}
 use Rattle.edr_items.specs.declared.TheConstants.{LATEST_MOMENT}
 use Rattle.edr_image.specs.declared.places.TheConstants.{BANK_SIZE, MOST_BANKS}
 use Rattle.edr_image.specs.declared.BankView.{BankView}
@@ -9,6 +9,10 @@ use Rattle.edr_image.specs.declared.Kind.{Kind}
 use Rattle.edr_image.specs.declared.Kind.TheVariants as kind
 use Rattle.edr_image.specs.declared.Applied.{Applied}
 use Rattle.edr_image.specs.declared.Applied.TheVariants.{Kept, Locked, Done, NotKept}
+use Rattle.edr_record.specs.declared.Place.{Place}
+use Rattle.edr_record.specs.Bounds.{IsPlace}
+use Rattle.edr_report.specs.Words.{events_in_crash, time_between}
+use Rattle.edr_reading.specs.declared.values.DamageShown.{DamageShown}
 
 -- the number of a bank
 abbrev pub IsBank : ℕ → Type 0
@@ -17,6 +21,19 @@ IsBank b = (1 ≤ b) × (b ≤ MOST_BANKS)
 -- the changing call in which a cycle was stopped, if it was
 abbrev pub IsStopCall : Option ℕ → Type 0
 IsStopCall s = IfSome s (λ call. (1 ≤ call) × (call ≤ 4_294_967_295))
+
+-- the number of a cycle that ran, and where it was stopped
+abbrev pub IsRan : ℕ → Option ℕ → Type 0
+IsRan n stop = (1 ≤ n) × (n ≤ 4_294_967_295) × IsStopCall stop
+
+-- a place in a crash of which there are as many events as with this one
+abbrev pub IsPlaceLike : Place → Place → Type 0
+IsPlaceLike p q = (events_in_crash q ≡ events_in_crash p) × IsPlace q
+
+-- it read such a place by the time between the events, where there is one
+pub record ReadsPlace (place : Place) (bytes : List ℕ) (result : Option Place) : Type 0 where
+  pub read : IfSome result (λ p. (bytes ≡ time_between p) × IsPlaceLike place p)
+  pub whole : (p : Place) → IsPlaceLike place p → bytes ≡ time_between p → IsSome result
 
 -- when a command was acknowledged
 abbrev pub IsTick : ℕ → Type 0
@@ -48,6 +65,18 @@ view_words Void = []
 view_words (Event r) = []
 view_words (Damaged o x l) = damage_words o x l
 
+-- the bytes are those of a damaged bank that shows this
+abbrev pub ShowsDamage : List ℕ → DamageShown → Type 0
+ShowsDamage bytes d = IsDamage d.offset d.found × (bytes ≡ damage_words d.offset d.found d.locked)
+
+-- how a call is spelled in which a start was stopped
+abbrev pub start_words : ℕ → List ℕ
+start_words call = codes "start stopped in call " ++ decimal call
+
+-- how the end of a cycle is, after its number
+abbrev pub end_words : Option ℕ → List ℕ
+end_words stop = codes ", " ++ stop_words stop
+
 -- how the number of a cycle and its end are spelled
 abbrev pub ran_words : ℕ → Option ℕ → List ℕ
 ran_words n stop = codes "number " ++ decimal n ++ codes ", " ++ stop_words stop
@@ -59,3 +88,7 @@ command_words k t = codes " " ++ kind_word k ++ codes " at " ++ decimal t
 -- how the byte of a damaged bank and its lock are, after the offset
 abbrev pub byte_words : ℕ → Bool → List ℕ
 byte_words found locked = codes " found " ++ decimal found ++ codes " locked " ++ yes_no locked
+
+-- how its lock is, after that
+abbrev pub lock_words : Bool → List ℕ
+lock_words locked = codes " locked " ++ yes_no locked

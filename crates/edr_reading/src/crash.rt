@@ -1,16 +1,13 @@
 //! What came after time zero, read line by line.
 
-ghost use Rattle.std.specs.Prelude.{◌≡◌, ◌≤◌, ◌+◌, ℤ, List, Option, Some, IfSome, MatchOption, take, pos, ◌≢◌};
+ghost use Rattle.std.specs.Prelude.{◌≡◌, ◌≤◌, IfSome, pos, ◌≢◌};
 ghost use Rattle.std.specs.Bool.{MatchBool};
 ghost use Rattle.edr_record.specs.declared.TheConstants.{EARLIEST_END, POINTS, RESET};
-ghost use Rattle.edr_record.specs.Bounds.{ArePoints, IsChange, IsCrash, point_count};
-ghost use Rattle.edr_record.specs.Parts.{CrashPart};
-ghost use Rattle.edr_report.specs.declared.event_lines.CrashLine.TheVariants.{End};
-ghost use Rattle.edr_report.specs.EventWords.{crash_words};
+ghost use Rattle.edr_record.specs.Bounds.{ArePoints, IsCrash, point_count};
 ghost use Rattle.edr_report.specs.Words.{points_words};
-ghost use Rattle.edr_reading.specs.Parts.{CrashAgrees, PartsAgree, crash_place, crash_texts, part_words};
-ghost use Rattle.edr_reading.specs.Slots.{with_zeros, AreShown, OfSpaced};
-ghost use Rattle.std.specs.Fmt.{signed_decimal};
+ghost use Rattle.edr_reading.specs.Parts.{BeginsPart, AcceptsCrashLine, AcceptsPartLine};
+ghost use Rattle.edr_reading.specs.Answers.{Reads};
+ghost use Rattle.edr_reading.specs.Slots.{ReadsPoints};
 
 use crate::front::is_word;
 use crate::slots::read_slots;
@@ -21,8 +18,7 @@ use edr_report::CrashLine;
 // So many points, with zeros after them.
 fn some_points(bytes: &[u8], count: usize) -> Option<[i16; POINTS]>
     requires { count ≤ POINTS }
-    ensures read { IfSome result (AreShown count bytes.now) }
-    ensures whole { OfSpaced count signed_decimal IsChange bytes.now (λ front. result ≡ Some (with_zeros count front)) }
+    ensures { ReadsPoints count bytes.now result }
 {
     let mut points = [0; POINTS];
     if read_slots(bytes, &mut points[..count]) {
@@ -40,8 +36,7 @@ fn is_zero(change: i16) -> bool
 
 // The points of an axis that the end allows.
 fn points(bytes: &[u8], end: u16) -> Option<[i16; POINTS]>
-    ensures read { IfSome result (λ ps. (bytes.now ≡ points_words end ps) × ArePoints (point_count end) ps) }
-    ensures whole { (ps : List ℤ) → ArePoints (point_count end) ps → bytes.now ≡ points_words end ps → result ≡ Some ps }
+    ensures { Reads (points_words end) (ArePoints (point_count end)) bytes.now result }
 {
     match some_points(bytes, point_count(end)) {
         Some(points) if is_zero(points[0]) => Some(points),
@@ -72,13 +67,7 @@ fn plain_crash(end: u16) -> Crash
 // The crash part with what this line shows, after the lines before it, if it may show it.
 fn crash_line(crash: &Crash, line: CrashLine, value: &[u8]) -> Option<Crash>
     requires { IsCrash crash.now }
-    ensures bounds { IfSome result IsCrash }
-    ensures shows { IfSome result (λ c. value.now ≡ crash_words c line) }
-    ensures earlier { IfSome result (λ c. take (crash_place line) (crash_texts (Some c))
-        ≡ take (crash_place line) (crash_texts (Some crash.now))) }
-    ensures whole { (d : CrashPart) → IsCrash d → CrashAgrees (crash_place line) crash.now d
-        → value.now ≡ crash_words d line
-        → MatchOption result ⊥ (λ c. CrashAgrees (crash_place line + 1) c d) }
+    ensures { AcceptsCrashLine line value.now crash.now result }
 {
     let end = crash.end;
     let window = window_from_end(end);
@@ -134,10 +123,7 @@ fn crash_line(crash: &Crash, line: CrashLine, value: &[u8]) -> Option<Crash>
 
 // The crash part that the line of its end begins, or that there is none.
 fn end_line(value: &[u8]) -> Option<Option<Crash>>
-    ensures bounds { IfSome result (λ c. IfSome c IsCrash) }
-    ensures shows { IfSome result (λ c. value.now ≡ part_words c End) }
-    ensures whole { (d : Option CrashPart) → IfSome d IsCrash → value.now ≡ part_words d End
-        → MatchOption result ⊥ (λ c. PartsAgree 1 c d) }
+    ensures { BeginsPart value.now result }
 {
     if is_word(value, b"none") {
         return Some(None);
@@ -153,13 +139,7 @@ pub(crate) fn part_line(
     value: &[u8],
 ) -> Option<Option<Crash>>
     requires { IfSome crash.now IsCrash }
-    ensures bounds { IfSome result (λ c. IfSome c IsCrash) }
-    ensures shows { IfSome result (λ c. value.now ≡ part_words c line) }
-    ensures earlier { IfSome result (λ c. take (crash_place line) (crash_texts c)
-        ≡ take (crash_place line) (crash_texts crash.now)) }
-    ensures whole { (d : Option CrashPart) → IfSome d IsCrash → PartsAgree (crash_place line) crash.now d
-        → value.now ≡ part_words d line
-        → MatchOption result ⊥ (λ c. PartsAgree (crash_place line + 1) c d) }
+    ensures { AcceptsPartLine line value.now crash.now result }
 {
     if let CrashLine::End = line {
         return end_line(value);

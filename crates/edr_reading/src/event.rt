@@ -1,12 +1,10 @@
 //! An event, read line by line.
 
-ghost use Rattle.std.specs.Prelude.{◌≡◌, ◌+◌, ◌<◌, [], ℕ, ⊤, length, take, slice_index_or, IfSome, MatchOption};
+ghost use Rattle.std.specs.Prelude.{◌≡◌, ◌<◌, [], ⊤, length, slice_index_or, IfSome, MatchOption};
 ghost use Rattle.std.specs.Bool.{MatchBool};
-ghost use Rattle.edr_record.specs.declared.Record.{Record};
-ghost use Rattle.edr_report.specs.EventWords.{event_words};
 ghost use Rattle.edr_report.specs.Words.{yes_no};
 ghost use Rattle.edr_reading.specs.Answers.{TellsWhether};
-ghost use Rattle.edr_reading.specs.Event.{EventAgrees, HasNoBank, IsNextEvent, event_of, event_place, event_texts, record_of};
+ghost use Rattle.edr_reading.specs.Event.{HasNoBank, IsNextEvent, event_of, record_of, HasNoneFree, AcceptsEventLine};
 ghost use Rattle.edr_reading.specs.Parts.{IsRecord};
 ghost use Rattle.edr_reading.specs.Rows.{lines_of, names_of};
 ghost use Rattle.edr_reading.specs.Values.{IsBank};
@@ -67,7 +65,7 @@ pub(crate) fn is_among(found: &[Found], bank: u8) -> bool
 /// The first bank that wasn't found.
 pub(crate) fn free_bank(found: &[Found]) -> Option<u8>
     ensures read { IfSome result (λ b. IsBank b × HasNoBank found.now b) }
-    ensures none { MatchOption result ((b : ℕ) → IsBank b → HasNoBank found.now b → ⊥) (λ b. ⊤) }
+    ensures none { MatchOption result (HasNoneFree found.now) (λ b. ⊤) }
 {
     for bank in 1..MOST_BANKS + 1 {
         if !is_among(found, bank) {
@@ -109,13 +107,7 @@ pub(crate) fn event_line(
     value: &[u8],
 ) -> Option<PartEvent>
     requires { IsNextEvent found.now (event_of event.now) }
-    ensures bounds { IfSome result (λ e. IsNextEvent found.now (event_of e)) }
-    ensures shows { IfSome result (λ e. value.now ≡ event_words block e.bank (record_of e) line) }
-    ensures earlier { IfSome result (λ e. take (event_place line) (event_texts block (event_of e))
-        ≡ take (event_place line) (event_texts block (event_of event.now))) }
-    ensures whole { (f : ℕ × Record) → IsNextEvent found.now f → EventAgrees (event_place line) (event_of event.now) f
-        → value.now ≡ event_words block f.0 f.1 line
-        → MatchOption result ⊥ (λ e. EventAgrees (event_place line + 1) (event_of e) f) }
+    ensures { AcceptsEventLine block found.now line value.now event.now result }
 {
     let PartEvent { bank, pre, crash } = *event;
     match line {

@@ -1,10 +1,10 @@
 //! Where a text can be no report.
 
-ghost use Rattle.std.specs.Prelude.{◌≡◌, ◌∷◌, map, MatchOption};
+ghost use Rattle.std.specs.Prelude.{◌≡◌, map, MatchOption};
 ghost use Rattle.csv.specs.Records.{fields_of};
-ghost use Rattle.edr_reading.specs.Faults.{IsFault};
-ghost use Rattle.edr_reading.specs.Reading.{head_row, BeginsWithHead};
-ghost use Rattle.edr_reading.specs.Rows.{fields, FieldRows};
+ghost use Rattle.edr_reading.specs.Reading.{head_row};
+ghost use Rattle.edr_reading.specs.Rows.{fields};
+ghost use Rattle.edr_reading.specs.Faults.{ChecksHead, IsHeadFault};
 
 use crate::front::is_word;
 use crate::records::row_of;
@@ -24,7 +24,7 @@ pub enum RowFault {
 
 // The first field of the first row, if there is one, that isn't that of the row that names the columns.
 fn other_than_head(row: &ReportRow<'_>) -> Option<RowFault>
-    ensures { MatchOption result (fields row.now ≡ head_row) (λ f. (rest : FieldRows) → IsFault (fields row.now ∷ rest) 1 f) }
+    ensures { MatchOption result (fields row.now ≡ head_row) (IsHeadFault (fields row.now)) }
 {
     if !is_word(row.block, b"block") {
         return Some(RowFault::Field(1));
@@ -40,7 +40,7 @@ fn other_than_head(row: &ReportRow<'_>) -> Option<RowFault>
 
 /// What is wrong with the first of the records, if it isn't the row that names the columns.
 pub(crate) fn head_fault(records: &[ByteRecord]) -> Option<RowFault>
-    ensures { MatchOption result (BeginsWithHead (map fields_of records.now)) (IsFault (map fields_of records.now) 1) }
+    ensures { ChecksHead (map fields_of records.now) result }
 {
     let Some((first, _)) = records.split_first() else {
         return Some(RowFault::Unended);

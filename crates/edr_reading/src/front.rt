@@ -1,10 +1,11 @@
 //! What stands in front of bytes.
 
-ghost use Rattle.std.specs.Prelude.{◌≡◌, ◌≤◌, ◌<◌, ◌^◌, ◌++◌, true, ℕ, List, length, take, drop, decimal, Some, IfSome, MatchOption, ◌≢◌};
+ghost use Rattle.std.specs.Prelude.{◌≡◌, ◌≤◌, ◌++◌, true, ℕ, List, length, take, drop, decimal, IfSome, ◌≢◌};
 ghost use Rattle.std.specs.Bool.{MatchBool};
 ghost use Rattle.std.specs.List.{list_all};
 ghost use Rattle.edr_text.specs.Numbers.{is_digit};
-ghost use Rattle.edr_reading.specs.Front.{EndsNumber, OfTwo, ReadsBehind, ReadsBetween, ReadsFront, two_numbers};
+ghost use Rattle.edr_reading.specs.Front.{EndsNumber, ReadsBehind, ReadsFront, two_numbers, AreUpTo, AreWords, IsWithin, IsWord, number_after, number_between};
+ghost use Rattle.edr_reading.specs.Answers.{Leaves, Reads, ReadsTwo};
 
 use edr_text::read_u32;
 
@@ -18,7 +19,7 @@ pub(crate) fn is_word(bytes: &[u8], word: &[u8]) -> bool
 /// What stands after these bytes, if they are in front.
 pub(crate) fn behind<'a>(bytes: &'a [u8], front: &[u8]) -> Option<&'a [u8]>
     ensures read { IfSome result (λ rest. bytes.now ≡ front.now ++ rest.now) }
-    ensures whole { (more : List ℕ) → bytes.now ≡ front.now ++ more → MatchOption result ⊥ (λ rest. rest.now ≡ more) }
+    ensures whole { (more : List ℕ) → bytes.now ≡ front.now ++ more → Leaves more result }
 {
     match bytes.strip_prefix(front) {
         Some(rest) => Some(rest),
@@ -42,8 +43,7 @@ fn digits_in_front(bytes: &[u8]) -> usize
 
 /// The number in front of the bytes, and what stands after it.
 pub(crate) fn number_in_front(bytes: &[u8]) -> Option<(u32, &[u8])>
-    ensures read { IfSome result (λ p. bytes.now ≡ decimal p.0 ++ p.1.now) }
-    ensures whole { ReadsFront decimal (λ n. n < 2 ^ 32) bytes.now result }
+    ensures { ReadsFront decimal IsWord bytes.now result }
 {
     let (digits, rest) = bytes.split_at(digits_in_front(bytes));
     match read_u32(digits) {
@@ -54,8 +54,7 @@ pub(crate) fn number_in_front(bytes: &[u8]) -> Option<(u32, &[u8])>
 
 /// The number after these bytes, and what stands after it.
 pub(crate) fn number_behind<'a>(bytes: &'a [u8], front: &[u8]) -> Option<(u32, &'a [u8])>
-    ensures read { IfSome result (λ p. bytes.now ≡ front.now ++ (decimal p.0 ++ p.1.now)) }
-    ensures whole { ReadsBehind front.now decimal (λ n. n < 2 ^ 32) bytes.now result }
+    ensures { ReadsBehind front.now decimal IsWord bytes.now result }
 {
     number_in_front(behind(bytes, front)?)
 }
@@ -63,8 +62,7 @@ pub(crate) fn number_behind<'a>(bytes: &'a [u8], front: &[u8]) -> Option<(u32, &
 /// The number between these bytes.
 pub(crate) fn one_number(bytes: &[u8], front: &[u8], back: &[u8]) -> Option<u32>
     requires { EndsNumber back.now }
-    ensures read { IfSome result (λ n. bytes.now ≡ front.now ++ (decimal n ++ back.now)) }
-    ensures whole { (n : ℕ) → n < 2 ^ 32 → bytes.now ≡ front.now ++ (decimal n ++ back.now) → result ≡ Some n }
+    ensures { Reads (number_between front.now back.now) IsWord bytes.now result }
 {
     match number_behind(bytes, front) {
         Some((n, rest)) if rest == back => Some(n),
@@ -74,8 +72,7 @@ pub(crate) fn one_number(bytes: &[u8], front: &[u8], back: &[u8]) -> Option<u32>
 
 /// The number after these bytes, with nothing after it.
 pub(crate) fn last_number(bytes: &[u8], front: &[u8]) -> Option<u32>
-    ensures read { IfSome result (λ n. bytes.now ≡ front.now ++ decimal n) }
-    ensures whole { (n : ℕ) → n < 2 ^ 32 → bytes.now ≡ front.now ++ decimal n → result ≡ Some n }
+    ensures { Reads (number_after front.now) IsWord bytes.now result }
 {
     one_number(bytes, front, b"")
 }
@@ -89,8 +86,7 @@ pub(crate) fn two_numbers(
 ) -> Option<(u32, u32)>
     requires middle { (more : List ℕ) → EndsNumber (middle.now ++ more) }
     requires back { EndsNumber back.now }
-    ensures read { IfSome result (λ p. bytes.now ≡ two_numbers front.now p.0 middle.now p.1 back.now) }
-    ensures whole { OfTwo (λ n. n < 2 ^ 32) front.now middle.now back.now bytes.now (λ p. result ≡ Some p) }
+    ensures { ReadsTwo (two_numbers front.now middle.now back.now) AreWords bytes.now result }
 {
     let (m, rest) = number_behind(bytes, front)?;
     let n = one_number(rest, middle, back)?;
@@ -99,8 +95,7 @@ pub(crate) fn two_numbers(
 
 /// The same, where it is `low` to `high`.
 pub(crate) fn last_within(bytes: &[u8], front: &[u8], low: u32, high: u32) -> Option<u32>
-    ensures read { IfSome result (λ n. (bytes.now ≡ front.now ++ decimal n) × (low ≤ n) × (n ≤ high)) }
-    ensures whole { (n : ℕ) → low ≤ n → n ≤ high → bytes.now ≡ front.now ++ decimal n → result ≡ Some n }
+    ensures { Reads (number_after front.now) (IsWithin low high) bytes.now result }
 {
     match last_number(bytes, front) {
         Some(n) if low <= n && n <= high => Some(n),
@@ -115,8 +110,7 @@ pub(crate) fn within_behind<'a>(
     low: u32,
     high: u32,
 ) -> Option<(u32, &'a [u8])>
-    ensures read { IfSome result (λ p. (bytes.now ≡ front.now ++ (decimal p.0 ++ p.1.now)) × (low ≤ p.0) × (p.0 ≤ high)) }
-    ensures whole { ReadsBetween low high front.now bytes.now result }
+    ensures { ReadsBehind front.now decimal (IsWithin low high) bytes.now result }
 {
     match number_behind(bytes, front) {
         Some((n, rest)) if low <= n && n <= high => Some((n, rest)),
@@ -134,8 +128,7 @@ pub(crate) fn two_within(
 ) -> Option<(u32, u32)>
     requires middle { (more : List ℕ) → EndsNumber (middle.now ++ more) }
     requires back { EndsNumber back.now }
-    ensures read { IfSome result (λ p. (bytes.now ≡ two_numbers front.now p.0 middle.now p.1 back.now) × (p.0 ≤ high) × (p.1 ≤ high)) }
-    ensures whole { OfTwo (λ n. n ≤ high) front.now middle.now back.now bytes.now (λ p. result ≡ Some p) }
+    ensures { ReadsTwo (two_numbers front.now middle.now back.now) (AreUpTo high) bytes.now result }
 {
     let (m, rest) = within_behind(bytes, front, 0, high)?;
     match one_number(rest, middle, back) {

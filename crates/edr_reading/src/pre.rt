@@ -1,14 +1,11 @@
 //! What stood before time zero, read line by line.
 
-ghost use Rattle.std.specs.Prelude.{◌≡◌, ◌+◌, ◌≤◌, ⊤, length, map, take, All, Bool, IfSome, MatchOption};
-ghost use Rattle.edr_record.specs.declared.Profile.TheVariants.{Short};
-ghost use Rattle.edr_record.specs.Bounds.{IsPre, IsUpTo, slots_in};
+ghost use Rattle.std.specs.Prelude.{◌≡◌, ⊤, IfSome};
+ghost use Rattle.edr_record.specs.Bounds.{IsPre, IsUpTo};
 ghost use Rattle.edr_record.specs.Fields.{profile_of_slots, speed_of, throttle_of, brake_of};
-ghost use Rattle.edr_record.specs.Parts.{PrePart};
-ghost use Rattle.edr_report.specs.EventWords.{pre_words};
-ghost use Rattle.edr_report.specs.Words.{number_or_none, spaced_words, switch_or_none};
-ghost use Rattle.edr_reading.specs.Parts.{AreSlots, PreAgrees, pre_of, pre_place, pre_texts};
-ghost use Rattle.edr_reading.specs.Slots.{OfSpaced};
+ghost use Rattle.edr_report.specs.Words.{number_or_none, switch_or_none};
+ghost use Rattle.edr_reading.specs.Parts.{AreSlots, pre_of, AcceptsPreLine};
+ghost use Rattle.edr_reading.specs.Slots.{ReadsList};
 
 use crate::slots::read_slots;
 use crate::values::{count, decision, events, place_between, profile, switch, time};
@@ -77,12 +74,10 @@ pub(crate) fn plain_pre() -> PreSoFar
 
 // The slots with this speed, if the value shows as many.
 fn with_speed(slots: &Slots, value: &[u8]) -> Option<Slots>
+    ensures speed { ReadsList speed_of number_or_none (IsUpTo 300) value.now slots.now result }
     ensures profile { IfSome result (λ s. profile_of_slots s ≡ profile_of_slots slots.now) }
-    ensures others { IfSome result (λ s. (throttle_of s ≡ throttle_of slots.now) × (brake_of s ≡ brake_of slots.now)) }
-    ensures long { IfSome result (λ s. (length (speed_of s) ≡ slots_in (profile_of_slots slots.now)) × All (IsUpTo 300) (speed_of s)) }
-    ensures read { IfSome result (λ s. value.now ≡ spaced_words (map number_or_none (speed_of s))) }
-    ensures whole { OfSpaced (slots_in (profile_of_slots slots.now)) number_or_none (IsUpTo 300) value.now
-        (λ xs. MatchOption result ⊥ (λ s. speed_of s ≡ xs)) }
+    ensures throttle { IfSome result (λ s. throttle_of s ≡ throttle_of slots.now) }
+    ensures brake { IfSome result (λ s. brake_of s ≡ brake_of slots.now) }
 {
     let mut slots = *slots;
     let is_read = match &mut slots {
@@ -94,12 +89,10 @@ fn with_speed(slots: &Slots, value: &[u8]) -> Option<Slots>
 
 // The slots with this throttle, if the value shows as many.
 fn with_throttle(slots: &Slots, value: &[u8]) -> Option<Slots>
+    ensures throttle { ReadsList throttle_of number_or_none (IsUpTo 100) value.now slots.now result }
     ensures profile { IfSome result (λ s. profile_of_slots s ≡ profile_of_slots slots.now) }
-    ensures others { IfSome result (λ s. (speed_of s ≡ speed_of slots.now) × (brake_of s ≡ brake_of slots.now)) }
-    ensures long { IfSome result (λ s. (length (throttle_of s) ≡ slots_in (profile_of_slots slots.now)) × All (IsUpTo 100) (throttle_of s)) }
-    ensures read { IfSome result (λ s. value.now ≡ spaced_words (map number_or_none (throttle_of s))) }
-    ensures whole { OfSpaced (slots_in (profile_of_slots slots.now)) number_or_none (IsUpTo 100) value.now
-        (λ xs. MatchOption result ⊥ (λ s. throttle_of s ≡ xs)) }
+    ensures speed { IfSome result (λ s. speed_of s ≡ speed_of slots.now) }
+    ensures brake { IfSome result (λ s. brake_of s ≡ brake_of slots.now) }
 {
     let mut slots = *slots;
     let is_read = match &mut slots {
@@ -111,12 +104,10 @@ fn with_throttle(slots: &Slots, value: &[u8]) -> Option<Slots>
 
 // The slots with this brake, if the value shows as many.
 fn with_brake(slots: &Slots, value: &[u8]) -> Option<Slots>
+    ensures brake { ReadsList brake_of switch_or_none (λ _. ⊤) value.now slots.now result }
     ensures profile { IfSome result (λ s. profile_of_slots s ≡ profile_of_slots slots.now) }
-    ensures others { IfSome result (λ s. (speed_of s ≡ speed_of slots.now) × (throttle_of s ≡ throttle_of slots.now)) }
-    ensures long { IfSome result (λ s. (length (brake_of s) ≡ slots_in (profile_of_slots slots.now))) }
-    ensures read { IfSome result (λ s. value.now ≡ spaced_words (map switch_or_none (brake_of s))) }
-    ensures whole { OfSpaced (slots_in (profile_of_slots slots.now)) switch_or_none (λ _. ⊤) value.now
-        (λ xs. MatchOption result ⊥ (λ s. brake_of s ≡ xs)) }
+    ensures speed { IfSome result (λ s. speed_of s ≡ speed_of slots.now) }
+    ensures throttle { IfSome result (λ s. throttle_of s ≡ throttle_of slots.now) }
 {
     let mut slots = *slots;
     let is_read = match &mut slots {
@@ -129,13 +120,7 @@ fn with_brake(slots: &Slots, value: &[u8]) -> Option<Slots>
 /// What stood before time zero with what this line shows, after the lines before it, if it may show it.
 pub(crate) fn pre_line(pre: &PreSoFar, line: PreLine, value: &[u8]) -> Option<PreSoFar>
     requires { IsPre (pre_of pre.now) }
-    ensures bounds { IfSome result (λ p. IsPre (pre_of p)) }
-    ensures shows { IfSome result (λ p. value.now ≡ pre_words (pre_of p) p.locked line) }
-    ensures earlier { IfSome result (λ p. take (pre_place line) (pre_texts (pre_of p) p.locked)
-        ≡ take (pre_place line) (pre_texts (pre_of pre.now) pre.now.locked)) }
-    ensures whole { (q : PrePart) (is_locked : Bool) → IsPre q → PreAgrees (pre_place line) (pre_of pre.now) q
-        → value.now ≡ pre_words q is_locked line
-        → MatchOption result ⊥ (λ p. PreAgrees (pre_place line + 1) (pre_of p) q) }
+    ensures { AcceptsPreLine line value.now pre.now result }
 {
     let Key { cycle, zero } = pre.key;
     match line {

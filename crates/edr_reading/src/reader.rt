@@ -1,16 +1,15 @@
 //! A reader of rows: what it knows after those that it has read.
 
-ghost use Rattle.std.specs.Prelude.{◌≡◌, ◌≢◌, ◌+◌, ◌<◌, ◌^◌, ◌∷◌, [], ℕ, ⊤, List, None, IfErr, IfOk, IfSome, MatchOption, OnOk, decimal, length, map};
+ghost use Rattle.std.specs.Prelude.{◌≡◌, ◌≢◌, ◌+◌, ◌<◌, ◌^◌, ◌∷◌, [], None, IfErr, IfOk, OnOk, decimal, length, map};
 ghost use Rattle.edr_image.specs.Reports.{report_of};
 ghost use Rattle.edr_reading.specs.Answers.{TellsWhether};
 ghost use Rattle.edr_reading.specs.declared.event.TheConstants.{EVENT_ROWS};
-ghost use Rattle.edr_reading.specs.Event.{HasNoBank, event_of, record_of};
-ghost use Rattle.edr_reading.specs.Reader.{AtLine, HasReadRows, IsOnlyName, AddsLine, MayBegin, MayHaveEvent, MayTell, Takes, TakesLine, cycles_read, may_ack};
+ghost use Rattle.edr_reading.specs.Event.{event_of, record_of};
+ghost use Rattle.edr_reading.specs.Reader.{AtLine, HasReadRows, AddsLine, MayBegin, MayTell, Takes, TakesLine, cycles_read, may_ack, FindsBank, TakesNamed};
 ghost use Rattle.edr_reading.specs.Reading.{head_row};
 ghost use Rattle.edr_reading.specs.Rows.{FieldRows, fields};
 ghost use Rattle.edr_reading.specs.Parts.{IsRecord};
 ghost use Rattle.edr_reading.specs.declared.told.ToldName.TheVariants as name;
-ghost use Rattle.edr_reading.specs.Values.{IsBank};
 
 use crate::event::{EVENT_ROWS, PartEvent, event_line, free_bank, is_among, line_at, plain_event};
 use crate::front::{is_word, last_within};
@@ -167,8 +166,7 @@ impl Reader {
     fn take_cycle(&mut self, alloc: Global, value: &[u8]) -> Result<(), Refused>
         requires acks { length self.old.acks.items < 2 ^ 32 }
         requires rows { self.old.rows + 1 < 2 ^ 32 }
-        ensures { (w : List ℕ) → IsOnlyName self.old w name.Cycle
-            → Takes self.old self.new (decimal 0 ∷ w ∷ value.now ∷ []) result }
+        ensures { TakesNamed name.Cycle value.now self.old self.new result }
     {
         let Some(first) = cycle_value(value) else {
             return Err(Refused::Field(3));
@@ -184,8 +182,7 @@ impl Reader {
     // Takes the row of a command that the last cycle acknowledged.
     fn take_ack(&mut self, kind: Kind, tick: u32, value: &[u8]) -> Result<(), Refused>
         requires { self.old.rows + 1 < 2 ^ 32 }
-        ensures { (w : List ℕ) → IsOnlyName self.old w (name.Ack kind tick)
-            → Takes self.old self.new (decimal 0 ∷ w ∷ value.now ∷ []) result }
+        ensures { TakesNamed (name.Ack kind tick) value.now self.old self.new result }
     {
         let Some(applied) = answer(value, kind) else {
             return Err(Refused::Field(3));
@@ -205,8 +202,7 @@ impl Reader {
     // Takes the row of a damaged bank.
     fn take_damaged(&mut self, bank: u8, value: &[u8]) -> Result<(), Refused>
         requires { self.old.rows + 1 < 2 ^ 32 }
-        ensures { (w : List ℕ) → IsOnlyName self.old w (name.Bank bank)
-            → Takes self.old self.new (decimal 0 ∷ w ∷ value.now ∷ []) result }
+        ensures { TakesNamed (name.Bank bank) value.now self.old self.new result }
     {
         let Some(damage) = damage(value) else {
             return Err(Refused::Field(3));
@@ -230,8 +226,7 @@ impl Reader {
     // Takes the row of the count.
     fn take_count(&mut self, value: &[u8]) -> Result<(), Refused>
         requires { self.old.rows + 1 < 2 ^ 32 }
-        ensures { (w : List ℕ) → IsOnlyName self.old w name.Count
-            → Takes self.old self.new (decimal 0 ∷ w ∷ value.now ∷ []) result }
+        ensures { TakesNamed name.Count value.now self.old self.new result }
     {
         let Some(count) = count(value, 0) else {
             return Err(Refused::Field(3));
@@ -261,8 +256,7 @@ impl Reader {
 
     // In which bank the next event may be, if there may be one.
     fn bank_of_next(&self) -> Option<u8>
-        ensures read { IfSome result (λ b. IsBank b × HasNoBank self.now.found.items b × MayHaveEvent self.now) }
-        ensures none { MatchOption result (MayHaveEvent self.now → (b : ℕ) → IsBank b → HasNoBank self.now.found.items b → ⊥) (λ b. ⊤) }
+        ensures { FindsBank self.now result }
     {
         if self.rows > MOST_ROWS - (EVENT_ROWS as u32 + 1) {
             return None;

@@ -4,10 +4,9 @@ ghost use Rattle.std.specs.Prelude.{◌≡◌, IfOk, IfErr, map};
 ghost use Rattle.csv.specs.Records.{fields_of};
 ghost use Rattle.edr_image.specs.Reports.{report_of};
 ghost use Rattle.edr_spell.specs.Spell.{RecordsOf};
-ghost use Rattle.edr_reading.specs.Faults.{IsFault};
 ghost use Rattle.edr_reading.specs.Reader.{HasReadRows};
 ghost use Rattle.edr_reading.specs.Reading.{BeginsWithHead, IsReading, OfReportRows, rows_told};
-ghost use Rattle.edr_reading.specs.Refusals.{IsRowRefusal, IsRefusalOfRecords, refusal_of};
+ghost use Rattle.edr_reading.specs.Refusals.{IsRowRefusal, IsRefusalOfRecords, refusal_of, ReadsRows};
 ghost use Rattle.edr_reading.specs.Rows.{FieldRows};
 
 use crate::faults::{RowFault, head_fault};
@@ -75,10 +74,7 @@ fn refusal(row: u32, refused: Refused) -> ReportRefused
 // What a reader has read of which these were all rows.
 fn end(alloc: Global, mut reader: Reader) -> Result<Reading, ReportRefused>
     requires { (rows : FieldRows) × HasReadRows reader rows }
-    ensures read { (rows : FieldRows) → HasReadRows reader rows → IfOk result (λ r. rows ≡ rows_told r) }
-    ensures told { (rows : FieldRows) → HasReadRows reader rows
-        → IfOk result (λ r. IsReading (map report_of r.run.items) r.found.items r.count) }
-    ensures fault { (rows : FieldRows) → HasReadRows reader rows → IfErr result (IsRowRefusal rows) }
+    ensures { (rows : FieldRows) → HasReadRows reader rows → ReadsRows rows result }
 {
     let NextRow::Nothing { count } = reader.next else {
         let row = reader.rows + 1;
@@ -98,9 +94,7 @@ fn end(alloc: Global, mut reader: Reader) -> Result<Reading, ReportRefused>
 // What the records tell, of which the first names the columns.
 fn reading_of(alloc: Global, records: &[ByteRecord]) -> Result<Reading, ReportRefused>
     requires { BeginsWithHead (map fields_of records.now) }
-    ensures read { IfOk result (λ r. map fields_of records.now ≡ rows_told r) }
-    ensures told { IfOk result (λ r. IsReading (map report_of r.run.items) r.found.items r.count) }
-    ensures fault { IfErr result (IsRowRefusal (map fields_of records.now)) }
+    ensures { ReadsRows (map fields_of records.now) result }
 {
     end(alloc, read_rows(alloc, records)?)
 }

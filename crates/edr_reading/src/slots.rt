@@ -1,9 +1,8 @@
 //! Lists of slots, read back.
 
-ghost use Rattle.std.specs.Prelude.{◌≡◌, ◌++◌, true, ℕ, List, length, map, All, IfSome};
-ghost use Rattle.edr_report.specs.Words.{spaced_words};
+ghost use Rattle.std.specs.Prelude.{◌≡◌, ℕ, List};
 ghost use Rattle.edr_reading.specs.Front.{ReadsBehind, ReadsFront};
-ghost use Rattle.edr_reading.specs.Slots.{space_at, OfSpaced};
+ghost use Rattle.edr_reading.specs.Slots.{space_at, ReadsSlots};
 
 use crate::front::{behind, within_behind};
 use crate::values::change_in_front;
@@ -19,8 +18,7 @@ pub(crate) trait SlotRead {
 
     /// The slot in front of the bytes, and what stands after it.
     fn in_front(bytes: &[u8]) -> Option<(Self, &[u8])>
-        ensures read { IfSome result (λ p. (bytes.now ≡ words p.0 ++ p.1.now) × is_slot p.0) }
-        ensures whole { ReadsFront words is_slot bytes.now result };
+        ensures { ReadsFront words is_slot bytes.now result };
 }
 
 impl SlotRead for i16 {
@@ -103,17 +101,14 @@ fn space_at(place: usize) -> &'static [u8]
 
 // The slot after these bytes, and what stands after it.
 fn slot_behind<'a, S: SlotRead>(bytes: &'a [u8], front: &[u8]) -> Option<(S, &'a [u8])>
-    ensures read { IfSome result (λ p. (bytes.now ≡ front.now ++ (S.words p.0 ++ p.1.now)) × S.is_slot p.0) }
-    ensures whole { ReadsBehind front.now S.words S.is_slot bytes.now result }
+    ensures { ReadsBehind front.now S.words S.is_slot bytes.now result }
 {
     S::in_front(behind(bytes, front)?)
 }
 
 /// Reads slots that are parted by one space, as many as there are; tells whether the bytes are such slots.
 pub(crate) fn read_slots<S: SlotRead + Copy>(bytes: &[u8], slots: &mut [S]) -> bool
-    ensures long { length slots.new ≡ length slots.old }
-    ensures read { result ≡ true → (bytes.now ≡ spaced_words (map S.words slots.new)) × All S.is_slot slots.new }
-    ensures whole { OfSpaced (length slots.old) S.words S.is_slot bytes.now (λ xs. (result ≡ true) × (slots.new ≡ xs)) }
+    ensures { ReadsSlots S.words S.is_slot bytes.now slots.old slots.new result }
 {
     let mut rest = bytes;
     for i in 0..slots.len() {

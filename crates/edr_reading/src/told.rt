@@ -1,9 +1,8 @@
 //! The rows of block 0: what is told of cycles and of damaged banks, and the count of ignition cycles.
 
-ghost use Rattle.std.specs.Prelude.{◌≡◌, ◌+◌, ◌<◌, ◌^◌, Some, IfSome};
-ghost use Rattle.edr_reading.specs.declared.told.ToldName.{ToldName};
-ghost use Rattle.edr_reading.specs.declared.told.CycleRow.{CycleRow};
-ghost use Rattle.edr_reading.specs.Told.{IsCycleRow, IsToldName, cycle_line, name_words};
+ghost use Rattle.std.specs.Prelude.{◌+◌, ◌<◌, ◌^◌};
+ghost use Rattle.edr_reading.specs.Told.{IsCycleRow, IsToldName, name_words, row_words};
+ghost use Rattle.edr_reading.specs.Answers.{Reads};
 
 use crate::front::{is_word, last_within};
 use crate::values::{ack, bank_behind, ran, start_call};
@@ -34,8 +33,7 @@ pub(crate) enum ToldName {
 /// What a name says where `cycles` cycles were told.
 pub(crate) fn told_name(name: &[u8], cycles: u32) -> Option<ToldName>
     requires { cycles + 1 < 2 ^ 32 }
-    ensures read { IfSome result (λ x. IsToldName x × (name.now ≡ name_words cycles x)) }
-    ensures whole { (x : ToldName) → IsToldName x → name.now ≡ name_words cycles x → result ≡ Some x }
+    ensures { Reads (name_words cycles) IsToldName name.now result }
 {
     if is_word(name, b"ignition cycle, download") {
         return Some(ToldName::Count);
@@ -52,8 +50,7 @@ pub(crate) fn told_name(name: &[u8], cycles: u32) -> Option<ToldName>
 
 /// What the value of the first row of a cycle tells.
 pub(crate) fn cycle_value(value: &[u8]) -> Option<CycleRow>
-    ensures read { IfSome result (λ r. IsCycleRow r × (value.now ≡ (cycle_line 1 r).value)) }
-    ensures whole { (r : CycleRow) → IsCycleRow r → value.now ≡ (cycle_line 1 r).value → result ≡ Some r }
+    ensures { Reads row_words IsCycleRow value.now result }
 {
     if let Some(call) = start_call(value) {
         return Some(CycleRow::StartStopped { call });

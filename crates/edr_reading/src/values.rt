@@ -1,15 +1,14 @@
 //! The values of a report, read back.
 
-ghost use Rattle.std.specs.Prelude.{◌≡◌, ◌≤◌, ◌<◌, ◌^◌, ◌++◌, ◌∷◌, ◌+◌, negsuc, pos, true, Bool, IsSome, ⊤, ℕ, List, decimal, codes, Some, None, Option, IfSome, MatchOption, ◌/◌, ◌≢◌};
+ghost use Rattle.std.specs.Prelude.{◌≡◌, ◌≤◌, ◌∷◌, ◌+◌, negsuc, pos, ⊤, ℕ, Some, IfSome, IsSome, MatchOption};
 ghost use Rattle.std.specs.Fmt.{signed_decimal};
 ghost use Rattle.edr_record.specs.declared.TheConstants.{EARLIEST_END, GREATEST_CHANGE, RESET};
-ghost use Rattle.edr_record.specs.declared.Profile.{Profile};
 ghost use Rattle.edr_record.specs.Bounds.{IsChange, IsExtreme, IsPlace, IsUpTo};
 ghost use Rattle.edr_report.specs.declared.TheConstants.{LARGEST_SHOWN_COUNT};
-ghost use Rattle.edr_report.specs.Words.{bank_words, applied_words, stop_words, yes_no, profile_word, switch_or_none, milliseconds, firing_words, number_shown, shown_count, events_in_crash, time_between, extreme_words, missing_words, damage_words, ack_words, seconds, tenths_of};
-ghost use Rattle.edr_reading.specs.Answers.{GivesValue};
-ghost use Rattle.edr_reading.specs.Front.{EndsNumber, ReadsFront};
-ghost use Rattle.edr_reading.specs.Values.{IsBank, IsStopCall, IsApplied, IsDamage, IsTick, done_in, byte_words, command_words, ran_words};
+ghost use Rattle.edr_report.specs.Words.{applied_words, yes_no, profile_word, switch_or_none, milliseconds, firing_words, number_shown, shown_count, events_in_crash, extreme_words, missing_words, ack_words, seconds, tenths_of};
+ghost use Rattle.edr_reading.specs.Front.{ReadsFront, AreUpTo, IsChangeFront, IsWithin, ReadsAs, number_after};
+ghost use Rattle.edr_reading.specs.Values.{IsBank, IsStopCall, IsApplied, IsTick, done_in, byte_words, command_words, ran_words, IsPlaceLike, IsRan, ReadsPlace, ShowsDamage, end_words, lock_words, start_words};
+ghost use Rattle.edr_reading.specs.Answers.{Reads, ReadsTwo};
 
 use crate::front::{
     behind, is_word, last_within, number_behind, one_number, two_numbers, two_within, within_behind,
@@ -22,8 +21,7 @@ use edr_report::LARGEST_SHOWN_COUNT;
 
 /// The number of a bank after these bytes.
 pub(crate) fn bank_behind(bytes: &[u8], front: &[u8]) -> Option<u8>
-    ensures read { IfSome result (λ b. (bytes.now ≡ front.now ++ decimal b) × IsBank b) }
-    ensures whole { (b : ℕ) → IsBank b → bytes.now ≡ front.now ++ decimal b → result ≡ Some b }
+    ensures { Reads (number_after front.now) IsBank bytes.now result }
 {
     let bank = last_within(bytes, front, 1, MOST_BANKS.into())?;
     Some(bank as u8)
@@ -41,8 +39,7 @@ pub(crate) fn count(bytes: &[u8], low: u32) -> Option<u32>
 
 /// A time of `low` to `high` milliseconds.
 pub(crate) fn time(bytes: &[u8], low: u32, high: u32) -> Option<u32>
-    ensures read { IfSome result (λ t. (bytes.now ≡ milliseconds t) × (low ≤ t) × (t ≤ high)) }
-    ensures whole { (t : ℕ) → low ≤ t → t ≤ high → bytes.now ≡ milliseconds t → result ≡ Some t }
+    ensures { Reads milliseconds (IsWithin low high) bytes.now result }
 {
     match one_number(bytes, b"", b" ms") {
         Some(t) if low <= t && t <= high => Some(t),
@@ -52,8 +49,7 @@ pub(crate) fn time(bytes: &[u8], low: u32, high: u32) -> Option<u32>
 
 /// How long after its time zero an event ended.
 pub(crate) fn end_time(bytes: &[u8]) -> Option<u16>
-    ensures read { IfSome result (λ t. (bytes.now ≡ milliseconds t) × (EARLIEST_END ≤ t) × (t ≤ RESET)) }
-    ensures whole { (t : ℕ) → EARLIEST_END ≤ t → t ≤ RESET → bytes.now ≡ milliseconds t → result ≡ Some t }
+    ensures { Reads milliseconds (IsWithin EARLIEST_END RESET) bytes.now result }
 {
     let end = time(bytes, u32::from(EARLIEST_END), u32::from(RESET))?;
     Some(end as u16)
@@ -61,8 +57,7 @@ pub(crate) fn end_time(bytes: &[u8]) -> Option<u16>
 
 /// `yes` or `no`.
 pub(crate) fn decision(bytes: &[u8]) -> Option<bool>
-    ensures read { IfSome result (λ b. bytes.now ≡ yes_no b) }
-    ensures whole { (b : Bool) → bytes.now ≡ yes_no b → result ≡ Some b }
+    ensures { Reads yes_no (λ _. ⊤) bytes.now result }
 {
     if is_word(bytes, b"yes") {
         Some(true)
@@ -75,8 +70,7 @@ pub(crate) fn decision(bytes: &[u8]) -> Option<bool>
 
 /// How far lists look back: `short` or `long`.
 pub(crate) fn profile(bytes: &[u8]) -> Option<Profile>
-    ensures read { IfSome result (λ f. bytes.now ≡ profile_word f) }
-    ensures whole { (f : Profile) → bytes.now ≡ profile_word f → result ≡ Some f }
+    ensures { Reads profile_word (λ _. ⊤) bytes.now result }
 {
     if is_word(bytes, b"short") {
         Some(Profile::Short)
@@ -89,8 +83,7 @@ pub(crate) fn profile(bytes: &[u8]) -> Option<Profile>
 
 /// What a switch was, if that was recorded.
 pub(crate) fn switch(bytes: &[u8]) -> Option<Option<bool>>
-    ensures read { IfSome result (λ s. bytes.now ≡ switch_or_none s) }
-    ensures whole { (s : Option Bool) → bytes.now ≡ switch_or_none s → result ≡ Some s }
+    ensures { Reads switch_or_none (λ _. ⊤) bytes.now result }
 {
     if is_word(bytes, b"on") {
         Some(Some(true))
@@ -105,8 +98,7 @@ pub(crate) fn switch(bytes: &[u8]) -> Option<Option<bool>>
 
 /// When a restraint fired first, up to `latest`, if it did.
 pub(crate) fn firing(bytes: &[u8], latest: u16) -> Option<Option<u16>>
-    ensures read { IfSome result (λ t. (bytes.now ≡ firing_words t) × IsUpTo latest t) }
-    ensures whole { (t : Option ℕ) → IsUpTo latest t → bytes.now ≡ firing_words t → result ≡ Some t }
+    ensures { Reads firing_words (IsUpTo latest) bytes.now result }
 {
     if is_word(bytes, b"none") {
         return Some(None);
@@ -119,9 +111,8 @@ pub(crate) fn firing(bytes: &[u8], latest: u16) -> Option<Option<u16>>
 
 // The number in front of the bytes with `-` before it, and what stands after it.
 fn negative_in_front(bytes: &[u8]) -> Option<(i16, &[u8])>
-    ensures read { IfSome result (λ p. (45 ∷ bytes.now ≡ signed_decimal p.0 ++ p.1.now) × IsChange p.0) }
-    ensures whole { (k : ℕ) (more : List ℕ) → k + 1 ≤ GREATEST_CHANGE → EndsNumber more
-        → bytes.now ≡ decimal (k + 1) ++ more → GivesValue (negsuc k) more result }
+    ensures read { IfSome result (IsChangeFront (45 ∷ bytes.now)) }
+    ensures whole { (k : ℕ) → k + 1 ≤ GREATEST_CHANGE → ReadsAs (k + 1) (negsuc k) bytes.now result }
 {
     let (n, rest) = within_behind(bytes, b"", 1, GREATEST_CHANGE)?;
     Some((0 - n as i16, rest))
@@ -129,9 +120,8 @@ fn negative_in_front(bytes: &[u8]) -> Option<(i16, &[u8])>
 
 // The number in front of the bytes, and what stands after it.
 fn positive_in_front(bytes: &[u8]) -> Option<(i16, &[u8])>
-    ensures read { IfSome result (λ p. (bytes.now ≡ signed_decimal p.0 ++ p.1.now) × IsChange p.0) }
-    ensures whole { (n : ℕ) (more : List ℕ) → n ≤ GREATEST_CHANGE → EndsNumber more
-        → bytes.now ≡ decimal n ++ more → GivesValue (pos n) more result }
+    ensures read { IfSome result (IsChangeFront bytes.now) }
+    ensures whole { (n : ℕ) → n ≤ GREATEST_CHANGE → ReadsAs n (pos n) bytes.now result }
 {
     let (n, rest) = within_behind(bytes, b"", 0, GREATEST_CHANGE)?;
     Some((n as i16, rest))
@@ -139,8 +129,7 @@ fn positive_in_front(bytes: &[u8]) -> Option<(i16, &[u8])>
 
 /// The change of speed in front of the bytes, and what stands after it.
 pub(crate) fn change_in_front(bytes: &[u8]) -> Option<(i16, &[u8])>
-    ensures read { IfSome result (λ p. (bytes.now ≡ signed_decimal p.0 ++ p.1.now) × IsChange p.0) }
-    ensures whole { ReadsFront signed_decimal IsChange bytes.now result }
+    ensures { ReadsFront signed_decimal IsChange bytes.now result }
 {
     match behind(bytes, b"-") {
         Some(digits) => negative_in_front(digits),
@@ -150,8 +139,7 @@ pub(crate) fn change_in_front(bytes: &[u8]) -> Option<(i16, &[u8])>
 
 /// The greatest change of an axis and its time, up to `window`.
 pub(crate) fn extreme(bytes: &[u8], window: u16) -> Option<Extreme>
-    ensures read { IfSome result (λ x. (bytes.now ≡ extreme_words x) × IsExtreme window x) }
-    ensures whole { (x : Extreme) → IsExtreme window x → bytes.now ≡ extreme_words x → result ≡ Some x }
+    ensures { Reads extreme_words (IsExtreme window) bytes.now result }
 {
     let (kmh, rest) = change_in_front(bytes)?;
     match one_number(rest, b" km/h at ", b" ms") {
@@ -162,8 +150,7 @@ pub(crate) fn extreme(bytes: &[u8], window: u16) -> Option<Extreme>
 
 /// How many ticks have no sample, up to `window`.
 pub(crate) fn missing(bytes: &[u8], window: u16) -> Option<(u32, u32)>
-    ensures read { IfSome result (λ p. (bytes.now ≡ missing_words p.0 p.1) × (p.0 ≤ window) × (p.1 ≤ window)) }
-    ensures whole { (m n : ℕ) → m ≤ window → n ≤ window → bytes.now ≡ missing_words m n → result ≡ Some (m, n) }
+    ensures { ReadsTwo missing_words (AreUpTo window) bytes.now result }
 {
     two_within(
         bytes,
@@ -176,8 +163,7 @@ pub(crate) fn missing(bytes: &[u8], window: u16) -> Option<(u32, u32)>
 
 // Tenths of a second, up to 5 s.
 fn tenths(bytes: &[u8]) -> Option<u32>
-    ensures read { IfSome result (λ t. (bytes.now ≡ seconds t) × (t ≤ 50)) }
-    ensures whole { (t : ℕ) → t ≤ 50 → bytes.now ≡ seconds t → result ≡ Some t }
+    ensures { Reads seconds (IsWithin 0 50) bytes.now result }
 {
     match two_numbers(bytes, b"", b".", b" s") {
         Some((whole, tenth)) if whole <= 5 && tenth <= 9 && 10 * whole + tenth <= 50 => {
@@ -199,8 +185,7 @@ fn time_shown(tenths: u32) -> u32
 /// The place of an event in its crash, by how many events the crash has. A second one is read as plainly as it can be.
 pub(crate) fn events(bytes: &[u8]) -> Option<Place>
     ensures read { IfSome result (λ p. (bytes.now ≡ events_in_crash p) × IsPlace p) }
-    ensures whole { (p : Place) → bytes.now ≡ events_in_crash p
-        → MatchOption result ⊥ (λ q. events_in_crash q ≡ events_in_crash p) }
+    ensures whole { (p : Place) → bytes.now ≡ events_in_crash p → MatchOption result ⊥ (IsPlaceLike p) }
 {
     if is_word(bytes, b"1") {
         Some(Place::First)
@@ -213,10 +198,7 @@ pub(crate) fn events(bytes: &[u8]) -> Option<Place>
 
 /// The place of an event of which there are as many, by the time between them.
 pub(crate) fn place_between(place: Place, bytes: &[u8]) -> Option<Place>
-    ensures read { IfSome result (λ p. (bytes.now ≡ time_between p) × IsPlace p) }
-    ensures same { IfSome result (λ p. events_in_crash p ≡ events_in_crash place) }
-    ensures whole { (p : Place) → IsPlace p → events_in_crash place ≡ events_in_crash p
-        → bytes.now ≡ time_between p → IsSome result }
+    ensures { ReadsPlace place bytes.now result }
 {
     match place {
         Place::First => first_place(bytes),
@@ -225,7 +207,7 @@ pub(crate) fn place_between(place: Place, bytes: &[u8]) -> Option<Place>
 }
 
 fn first_place(between: &[u8]) -> Option<Place>
-    ensures { MatchOption result (between.now ≢ codes "none") (λ p. (p ≡ Place.First) × (between.now ≡ codes "none")) }
+    ensures { ReadsPlace Place.First between.now result }
 {
     if is_word(between, b"none") {
         Some(Place::First)
@@ -235,8 +217,7 @@ fn first_place(between: &[u8]) -> Option<Place>
 }
 
 fn second_place(between: &[u8]) -> Option<Place>
-    ensures read { IfSome result (λ p. (events_in_crash p ≡ codes "2") × (between.now ≡ time_between p) × IsPlace p) }
-    ensures whole { (after : ℕ) → IsPlace (Place.Second after) → between.now ≡ time_between (Place.Second after) → IsSome result }
+    ensures { ReadsPlace (Place.Second 1) between.now result }
 {
     let after = time_shown(tenths(between)?);
     Some(Place::Second { after })
@@ -244,16 +225,14 @@ fn second_place(between: &[u8]) -> Option<Place>
 
 // Whether a damaged bank is locked, after what else it shows.
 fn lock_behind(bytes: &[u8]) -> Option<bool>
-    ensures read { IfSome result (λ l. bytes.now ≡ codes " locked " ++ yes_no l) }
-    ensures whole { (l : Bool) → bytes.now ≡ codes " locked " ++ yes_no l → result ≡ Some l }
+    ensures { Reads lock_words (λ _. ⊤) bytes.now result }
 {
     decision(behind(bytes, b" locked ")?)
 }
 
 // The byte that a damaged bank shows, and whether it is locked.
 fn byte_behind(bytes: &[u8]) -> Option<(u8, bool)>
-    ensures read { IfSome result (λ p. bytes.now ≡ byte_words p.0 p.1) }
-    ensures whole { (x : ℕ) (l : Bool) → x ≤ 255 → bytes.now ≡ byte_words x l → result ≡ Some (x, l) }
+    ensures { ReadsTwo byte_words (λ x _. x ≤ 255) bytes.now result }
 {
     let (found, rest) = within_behind(bytes, b" found ", 0, 255)?;
     Some((found as u8, lock_behind(rest)?))
@@ -269,8 +248,8 @@ pub(crate) struct DamageShown {
 
 /// What these bytes show of a damaged bank.
 pub(crate) fn damage(bytes: &[u8]) -> Option<DamageShown>
-    ensures read { IfSome result (λ d. IsDamage d.offset d.found × (bytes.now ≡ damage_words d.offset d.found d.locked)) }
-    ensures whole { (o x : ℕ) (l : Bool) → IsDamage o x → bytes.now ≡ damage_words o x l → IsSome result }
+    ensures read { IfSome result (ShowsDamage bytes.now) }
+    ensures whole { (d : DamageShown) → ShowsDamage bytes.now d → IsSome result }
 {
     let (offset, rest) = within_behind(bytes, b"damaged at ", 0, BANK_SIZE as u32 - 1)?;
     let (found, locked) = byte_behind(rest)?;
@@ -283,16 +262,14 @@ pub(crate) fn damage(bytes: &[u8]) -> Option<DamageShown>
 
 /// In which call a start was stopped.
 pub(crate) fn start_call(bytes: &[u8]) -> Option<u32>
-    ensures read { IfSome result (λ j. (bytes.now ≡ codes "start stopped in call " ++ decimal j) × (1 ≤ j) × (j ≤ 6)) }
-    ensures whole { (j : ℕ) → 1 ≤ j → j ≤ 6 → bytes.now ≡ codes "start stopped in call " ++ decimal j → result ≡ Some j }
+    ensures { Reads start_words (IsWithin 1 6) bytes.now result }
 {
     last_within(bytes, b"start stopped in call ", 1, 6)
 }
 
 // How a cycle ended.
 fn stop(bytes: &[u8]) -> Option<Option<u32>>
-    ensures read { IfSome result (λ s. (bytes.now ≡ codes ", " ++ stop_words s) × IsStopCall s) }
-    ensures whole { (s : Option ℕ) → IsStopCall s → bytes.now ≡ codes ", " ++ stop_words s → result ≡ Some s }
+    ensures { Reads end_words IsStopCall bytes.now result }
 {
     if is_word(bytes, b", power off") {
         return Some(None);
@@ -305,8 +282,7 @@ fn stop(bytes: &[u8]) -> Option<Option<u32>>
 
 /// The number of a cycle that ran, and how it ended.
 pub(crate) fn ran(bytes: &[u8]) -> Option<(u32, Option<u32>)>
-    ensures read { IfSome result (λ p. (bytes.now ≡ ran_words p.0 p.1) × (1 ≤ p.0) × IsStopCall p.1) }
-    ensures whole { (n : ℕ) (s : Option ℕ) → 1 ≤ n → n < 2 ^ 32 → IsStopCall s → bytes.now ≡ ran_words n s → result ≡ Some (n, s) }
+    ensures { ReadsTwo ran_words IsRan bytes.now result }
 {
     let (number, rest) = within_behind(bytes, b"number ", 1, u32::MAX)?;
     Some((number, stop(rest)?))
@@ -325,8 +301,7 @@ fn done_in(kind: Kind, bank: u8) -> Applied
 
 /// What came of a command of this kind.
 pub(crate) fn answer(bytes: &[u8], kind: Kind) -> Option<Applied>
-    ensures read { IfSome result (λ a. (bytes.now ≡ applied_words a) × IsApplied kind a) }
-    ensures whole { (a : Applied) → IsApplied kind a → bytes.now ≡ applied_words a → result ≡ Some a }
+    ensures { Reads applied_words (IsApplied kind) bytes.now result }
 {
     if is_word(bytes, b"not kept") {
         return Some(Applied::NotKept);
@@ -337,16 +312,14 @@ pub(crate) fn answer(bytes: &[u8], kind: Kind) -> Option<Applied>
 
 // When a command of this kind was acknowledged.
 fn tick_behind(bytes: &[u8], front: &[u8]) -> Option<u32>
-    ensures read { IfSome result (λ t. (bytes.now ≡ front.now ++ decimal t) × IsTick t) }
-    ensures whole { (t : ℕ) → IsTick t → bytes.now ≡ front.now ++ decimal t → result ≡ Some t }
+    ensures { Reads (number_after front.now) IsTick bytes.now result }
 {
     last_within(bytes, front, 1, LATEST_MOMENT)
 }
 
 // Which command was acknowledged, and when.
 fn command(bytes: &[u8]) -> Option<(Kind, u32)>
-    ensures read { IfSome result (λ p. (bytes.now ≡ command_words p.0 p.1) × IsTick p.1) }
-    ensures whole { (k : Kind) (t : ℕ) → IsTick t → bytes.now ≡ command_words k t → result ≡ Some (k, t) }
+    ensures { ReadsTwo command_words (λ _ t. IsTick t) bytes.now result }
 {
     if let Some(tick) = tick_behind(bytes, b" take at ") {
         return Some((Kind::Take, tick));
@@ -360,8 +333,7 @@ fn command(bytes: &[u8]) -> Option<(Kind, u32)>
 
 /// Which command of the cycle in this place was acknowledged, and when.
 pub(crate) fn ack(bytes: &[u8], place: u32) -> Option<(Kind, u32)>
-    ensures read { IfSome result (λ p. (bytes.now ≡ ack_words place p.0 p.1) × IsTick p.1) }
-    ensures whole { (k : Kind) (t : ℕ) → IsTick t → bytes.now ≡ ack_words place k t → result ≡ Some (k, t) }
+    ensures { ReadsTwo (ack_words place) (λ _ t. IsTick t) bytes.now result }
 {
     match number_behind(bytes, b"cycle ") {
         Some((i, rest)) if i == place => command(rest),

@@ -1,4 +1,4 @@
-use Rattle.std.proofs.Common.{[], ◌≡◌, ◌∙◌, sym, ap, ℕ, ◌+◌, ◌∷◌, Option, Some, map, set, take}
+use Rattle.std.proofs.Common.{rules, [], ◌≡◌, ◌∙◌, sym, ap, ℕ, ◌+◌, ◌∷◌, Option, Some, map, set, take}
 use Rattle.edr_record.specs.Parts.{CrashPart}
 use Rattle.edr_record.specs.Fields.{crash_part_of}
 use Rattle.edr_report.specs.declared.event_lines.CrashLine.{CrashLine}
@@ -20,5 +20,10 @@ fired-earlier c d line r k x is at same =
     ∙ sym (ap (λ (e : CrashPart). take (7 + place_of r) (crash_texts (Some e))) same)
     ∙ sym (ap (λ (l : CrashLine). take (crash_place l) (crash_texts (Some d))) is)
 
-pub returns-in_ok-fired-in-Fired-clause-earlier : goal.returns-in_ok-fired-in-Fired-clause-earlier
-returns-in_ok-fired-in-Fired-clause-earlier c = fired-earlier (crash_part_of c.crash.inside) c.args.crash.now c.args.line c.in-Fired.restraint c.place.result c.in_ok-fired-in-Fired.field-0 c.in-Fired.is c.place.ensures.place (sym c.crash.view_is)
+pub returns-in_ok-fired-in-Fired : goal.returns-in_ok-fired-in-Fired
+returns-in_ok-fired-in-Fired c = record {
+  bounds = search rules;
+  shows = search rules;
+  earlier = fired-earlier (crash_part_of c.crash.inside) c.args.crash.now c.args.line c.in-Fired.restraint c.place.result c.in_ok-fired-in-Fired.field-0 c.in-Fired.is c.place.ensures.place (sym c.crash.view_is);
+  whole = search rules;
+}

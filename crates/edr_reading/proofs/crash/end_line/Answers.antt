@@ -12,5 +12,5 @@ none-agrees : (d : Option CrashPart) → IfSome d IsCrash → none_word ≡ part
 none-agrees None h e = tt
 none-agrees (Some d) h e = absurd (end-none d.end (omega (arith, h.end_to)) e)
 
-pub returns-then-is_word-clause-whole : goal.returns-then-is_word-clause-whole
-returns-then-is_word-clause-whole c d h e = none-agrees d h (sym c.if-is_word.ensures ∙ e)
+pub returns-then-is_word : goal.returns-then-is_word
+returns-then-is_word c = record { bounds = tt; shows = c.if-is_word.ensures; whole = λ d h e. none-agrees d h (sym c.if-is_word.ensures ∙ e) }

@@ -1,4 +1,4 @@
-use Rattle.std.proofs.Common.{arith, ◌≡◌, ◌∙◌, sym, ap, ℕ, ◌+◌, ◌<◌, ◌^◌, List, Option, Some, None}
+use Rattle.std.proofs.Common.{rules, arith, ◌≡◌, ◌∙◌, sym, ap, ℕ, ◌+◌, ◌<◌, ◌^◌, List, Option, Some, None}
 use Rattle.std.specs.List.{slice_index_or}
 use Rattle.std.specs.Option.{option_map_or}
 use Rattle.edr_image.specs.declared.Kind.{Kind}
@@ -17,5 +17,8 @@ no-other cycles bytes kind tick small read whole (name.Ack k t) h e = let same :
 no-other cycles bytes kind tick small read whole (name.Bank b) h e = let first : 99 ≡ 98 = ap (λ (l : List ℕ). slice_index_or l 0 0) (sym read ∙ e) in absurd (omega (arith, first))
 no-other cycles bytes kind tick small read whole name.Count h e = let first : 99 ≡ 105 = ap (λ (l : List ℕ). slice_index_or l 0 0) (sym read ∙ e) in absurd (omega (arith, first))
 
-pub returns-in-Some-ack-clause-whole : goal.returns-in-Some-ack-clause-whole
-returns-in-Some-ack-clause-whole c = no-other c.args.cycles c.args.name.now c.in-Some-ack.kind c.in-Some-ack.tick (omega (arith, c.requires)) c.in-Some-ack.ensures.read.0 c.in-Some-ack.ensures.whole
+pub returns-in-Some-ack : goal.returns-in-Some-ack
+returns-in-Some-ack c = record {
+  read = search rules;
+  whole = no-other c.args.cycles c.args.name.now c.in-Some-ack.kind c.in-Some-ack.tick (omega (arith, c.requires)) c.in-Some-ack.ensures.read.0 c.in-Some-ack.ensures.whole;
+}

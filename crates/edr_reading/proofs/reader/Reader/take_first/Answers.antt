@@ -14,7 +14,7 @@ pub returns-in_default-last_within : goal.returns-in_default-last_within
 returns-in_default-last_within c rows h =
     let row = c.args.row.now in
     block-refused c.args.self.now rows row.block.now row.name.now row.value.now h c.requires.between c.requires.block
-    (λ m may bank ok free e. let z = c.in_default-last_within.ensures.whole c.block-block.result (omega arith) (omega arith) (e ∙ ap decimal (sym c.block-block.ensures)) in cc)
+    (λ m may bank ok free e. let z = c.in_default-last_within.ensures.whole c.block-block.result (omega arith, omega arith) (e ∙ ap decimal (sym c.block-block.ensures)) in cc)
 
 pub take_line-requires-clause-read : goal.take_line-requires-clause-read
 take_line-requires-clause-read c =
