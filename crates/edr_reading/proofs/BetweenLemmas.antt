@@ -82,20 +82,18 @@ between-block a c v reports es ds rows h = (codes "ignition cycle, download" ∷
 pub report-short : (rows : FieldRows) → AreReport rows → length rows ≤ 4_294_967_294
 report-short rows a = (report-told rows a).6
 
+-- where the rows with one of block 0 more may be told, a report goes on with its name
+told-opens : (rows : FieldRows) (w value : List ℕ) (reports : List Report) (es : List (ℕ × Record)) (ds : List Found) → length rows + 2 ≤ 4_294_967_294 → IsToldReport reports es ds → whole reports es ds ≡ rows ++ (decimal 0 ∷ w ∷ value ∷ []) ∷ []
+    → ReportGoesOn rows (decimal 0 ∷ w ∷ [])
+told-opens rows w value reports es ds room told new =
+    let one : FieldRows = (decimal 0 ∷ w ∷ value ∷ []) ∷ [] in
+    let long = length-append rows one in
+    (value ∷ [], count_fields 0 ∷ [], subst AreReport (ap (λ (x : FieldRows). x ++ count_fields 0 ∷ []) new ∙ append_assoc rows one (count_fields 0 ∷ [])) (told-report reports es ds 0 told (omega (arith, room, long, ap length new))))
+
 -- ---- the next row
 
 small-block : (block : ℕ) → 1 ≤ block → block < 2 ^ 64 → decimal 0 ≡ decimal block → ⊥
 small-block block h k e = let z = decimal-same 0 block (omega arith) k e in omega (arith, h, z)
-
--- of a row of block 0 with a name that is only this, its value and what follows
-pub only-next : (a c v : Bool) (i block : ℕ) (banks : List ℕ) (w value : List ℕ) (more : FieldRows) (x : ToldName) → 1 ≤ block → block < 2 ^ 64 → ((y : ToldName) → IsToldName y → w ≡ name_words i y → x ≡ y)
-    → MayFollow a c v i block banks ((decimal 0 ∷ w ∷ value ∷ []) ∷ more) → ToldNext a c v i block banks value more x
-only-next a c v i block banks w value more x from to only m = ⊎_elim
-    (λ l. let words : w ≡ name_words i l.0 = ap (λ (r : List (List ℕ)). slice_index_or r 1 []) l.3 in
-    let last : l.2 ≡ value = sym (ap (λ (r : List (List ℕ)). slice_index_or r 2 []) l.3) in
-    subst (ToldNext a c v i block banks value more) (sym (only l.0 l.1 words)) (subst (λ (z : List ℕ). ToldNext a c v i block banks z more l.0) last l.4))
-    (λ r. absurd (small-block block from to r.1))
-    (next-row a c v i block banks (decimal 0 ∷ w ∷ value ∷ []) more m)
 
 -- a row of block 0 with this name
 pub told-next : (a c v : Bool) (i block : ℕ) (banks : List ℕ) (w : List ℕ) (back : List (List ℕ)) (more : FieldRows) → 1 ≤ block → block < 2 ^ 64 → MayFollow a c v i block banks ((decimal 0 ∷ w ∷ back) ∷ more)
@@ -106,6 +104,22 @@ told-next a c v i block banks w back more from to m = ⊎_elim
     (l.0, l.1, l.2, words, last, l.4))
     (λ r. absurd (small-block block from to r.1))
     (next-row a c v i block banks (decimal 0 ∷ w ∷ back) more m)
+
+-- of such a row, where its name is only this, its value and what follows
+pub only-next : (a c v : Bool) (i block : ℕ) (banks : List ℕ) (w value : List ℕ) (back : List (List ℕ)) (more : FieldRows) (x : ToldName) → 1 ≤ block → block < 2 ^ 64 → ((y : ToldName) → IsToldName y → w ≡ name_words i y → x ≡ y)
+    → MayFollow a c v i block banks ((decimal 0 ∷ w ∷ value ∷ back) ∷ more) → ToldNext a c v i block banks value more x
+only-next a c v i block banks w value back more x from to only m =
+    let n = told-next a c v i block banks w (value ∷ back) more from to m in
+    let same : n.2 ≡ value = sym (ap (λ (l : List (List ℕ)). slice_index_or l 0 []) n.4) in
+    subst (ToldNext a c v i block banks value more) (sym (only n.0 n.1 n.3)) (subst (λ (z : List ℕ). ToldNext a c v i block banks z more n.0) same n.5)
+
+-- the same where it stands after these rows
+next-told : (a c v : Bool) (reports : List Report) (es : List (ℕ × Record)) (ds : List Found) (rows : FieldRows) (w value : List ℕ) (x : ToldName) → IsBetween a c v reports es ds rows → length es + 1 < 2 ^ 64
+    → ((y : ToldName) → IsToldName y → w ≡ name_words (length reports) y → x ≡ y) → (more : FieldRows) → AreReport ((rows ++ (decimal 0 ∷ w ∷ value ∷ []) ∷ []) ++ more)
+    → ToldNext a c v (length reports) (length es + 1) (banks_in (map found_event es ++ ds)) value more x
+next-told a c v reports es ds rows w value x h few only more r =
+    let one : FieldRows = (decimal 0 ∷ w ∷ value ∷ []) ∷ [] in
+    only-next a c v (length reports) (length es + 1) (banks_in (map found_event es ++ ds)) w value [] more x (omega arith) few only (h.rest (one ++ more) (subst AreReport (append_assoc rows one more) r))
 
 -- ---- a cycle
 
@@ -122,6 +136,11 @@ whole-first reports first h =
     ap (λ (x : List Report). whole (reports ++ x) [] []) l.1 ∙ whole-cycle reports l.0
     ∙ ap (λ (x : FieldRows). whole reports [] [] ++ x) (cycle-lines (length reports + 1) l.0 ∙ ap₂ (λ (x : CycleRow) (y : List Ack). cycle_fields (length reports + 1) x ∷ map (ack_fields (length reports + 1)) y) l.3 l.4)
 
+cycle-are : (reports : List Report) (first : CycleRow) → IsCycleRow first → (rows : FieldRows) (w value : List ℕ) → rows ≡ whole reports [] [] → w ≡ name_words (length reports) name.Cycle → value ≡ (cycle_line 1 first).value
+    → whole (reports ++ last_cycle (Some first) []) [] [] ≡ rows ++ (decimal 0 ∷ w ∷ value ∷ []) ∷ []
+cycle-are reports first bounds rows w value are words shows =
+    whole-first reports first bounds ∙ ap₂ (λ (x : FieldRows) (r : List (List ℕ)). x ++ r ∷ []) (sym are) (cycle-row (length reports) first ∙ ap₂ (λ (n x : List ℕ). decimal 0 ∷ n ∷ x ∷ []) (sym words) (sym shows))
+
 pub told-cycle : (reports : List Report) (first : CycleRow) → All IsReport reports → IsCycleRow first → IsToldReport (reports ++ last_cycle (Some first) []) [] []
 told-cycle reports first all h =
     let l = last-report first h in
@@ -132,10 +151,7 @@ cycle-opens a c v reports rows w h room words =
     let first = row.StartStopped 1 in
     let value = (cycle_line 1 first).value in
     let bounds : IsCycleRow first = (omega arith, omega arith) in
-    let new = whole-first reports first bounds ∙ ap₂ (λ (x : FieldRows) (r : List (List ℕ)). x ++ r ∷ []) (sym h.are) (cycle-row (length reports) first ∙ ap (λ (n : List ℕ). decimal 0 ∷ n ∷ value ∷ []) (sym words)) in
-    let long = length-append rows ((decimal 0 ∷ w ∷ value ∷ []) ∷ []) in
-    let report = told-report (reports ++ last_cycle (Some first) []) [] [] 0 (told-cycle reports first h.told.run bounds) (omega (arith, room, long, ap length new)) in
-    (value ∷ [], count_fields 0 ∷ [], subst AreReport (ap (λ (x : FieldRows). x ++ count_fields 0 ∷ []) new ∙ append_assoc rows ((decimal 0 ∷ w ∷ value ∷ []) ∷ []) (count_fields 0 ∷ [])) report)
+    told-opens rows w value (reports ++ last_cycle (Some first) []) [] [] room (told-cycle reports first h.told.run bounds) (cycle-are reports first bounds rows w value h.are words refl)
 
 pub cycle-taken : (a : Bool) (reports : List Report) (rows : FieldRows) (w value : List ℕ) (first : CycleRow) → IsBetween a true true reports [] [] rows → length rows + 2 ≤ 4_294_967_294 → IsCycleRow first
     → w ≡ name_words (length reports) name.Cycle → ((y : ToldName) → IsToldName y → w ≡ name_words (length reports) y → name.Cycle ≡ y) → value ≡ (cycle_line 1 first).value → ((d : CycleRow) → IsCycleRow d → value ≡ (cycle_line 1 d).value → first ≡ d)
@@ -145,10 +161,10 @@ cycle-taken a reports rows w value first h room bounds words only shows one =
     let count : length (reports ++ last_cycle (Some first) []) ≡ length reports + 1 = length-append reports (last_cycle (Some first) []) ∙ ap (λ (x : List Report). length reports + length x) (last-report first bounds).1 in
     record {
       told = told-cycle reports first h.told.run bounds;
-      are = sym (whole-first reports first bounds ∙ ap₂ (λ (x : FieldRows) (r : List (List ℕ)). x ++ r ∷ []) (sym h.are) (cycle-row (length reports) first ∙ ap₂ (λ (n x : List ℕ). decimal 0 ∷ n ∷ x ∷ []) (sym words) (sym shows)));
+      are = sym (cycle-are reports first bounds rows w value h.are words shows);
       short = omega (arith, room, long);
       rest = λ more r.
-          let n = only-next a true true (length reports) 1 [] w value more name.Cycle (omega arith) (omega arith) only (h.rest ((decimal 0 ∷ w ∷ value ∷ []) ∷ more) (subst AreReport (append_assoc rows ((decimal 0 ∷ w ∷ value ∷ []) ∷ []) more) r)) in
+          let n = next-told a true true reports [] [] rows w value name.Cycle h (omega arith) only more r in
           let same = one n.1 n.2 n.3 in
           subst (λ (j : ℕ). MayFollow (may_ack (Some first)) true true j 1 [] more) (sym count) (subst (λ (d : CycleRow). MayFollow (may_ack (Some d)) true true (length reports + 1) 1 [] more) (sym same) n.4);
     }
@@ -182,11 +198,7 @@ module _ (done : List Report) (n : ℕ) (s : Option ℕ) (acks : List Ack) (rows
   pub ack-opens : (applied : Applied) → IsApplied kind applied → ReportGoesOn rows (decimal 0 ∷ w ∷ [])
   ack-opens applied ok =
       let k : Ack = record { tick = tick; kind = kind; applied = applied } in
-      let value = applied_words applied in
-      let new = ack-are value applied refl in
-      let long = length-append rows ((decimal 0 ∷ w ∷ value ∷ []) ∷ []) in
-      let report = told-report (done ++ Ran n s (acks ++ k ∷ []) ∷ []) [] [] 0 (told-ack done n s acks k h.told.run (bounds, ok)) (omega (arith, room, long, ap length new)) in
-      (value ∷ [], count_fields 0 ∷ [], subst AreReport (ap (λ (x : FieldRows). x ++ count_fields 0 ∷ []) new ∙ append_assoc rows ((decimal 0 ∷ w ∷ value ∷ []) ∷ []) (count_fields 0 ∷ [])) report)
+      told-opens rows w (applied_words applied) (done ++ Ran n s (acks ++ k ∷ []) ∷ []) [] [] room (told-ack done n s acks k h.told.run (bounds, ok)) (ack-are (applied_words applied) applied refl)
 
   pub ack-taken : (value : List ℕ) (applied : Applied) → IsApplied kind applied → ((y : ToldName) → IsToldName y → w ≡ name_words (length (done ++ Ran n s acks ∷ [])) y → name.Ack kind tick ≡ y) → value ≡ applied_words applied
       → IsBetween true true true (done ++ Ran n s (acks ++ record { tick = tick; kind = kind; applied = applied } ∷ []) ∷ []) [] [] (rows ++ (decimal 0 ∷ w ∷ value ∷ []) ∷ [])
@@ -198,7 +210,7 @@ module _ (done : List Report) (n : ℕ) (s : Option ℕ) (acks : List Ack) (rows
         are = sym (ack-are value applied shows);
         short = omega (arith, room, long);
         rest = λ more r.
-            let m = only-next true true true (length (done ++ Ran n s acks ∷ [])) 1 [] w value more (name.Ack kind tick) (omega arith) (omega arith) only (h.rest ((decimal 0 ∷ w ∷ value ∷ []) ∷ more) (subst AreReport (append_assoc rows ((decimal 0 ∷ w ∷ value ∷ []) ∷ []) more) r)) in
+            let m = next-told true true true (done ++ Ran n s acks ∷ []) [] [] rows w value (name.Ack kind tick) h (omega arith) only more r in
             subst (λ (j : ℕ). MayFollow true true true j 1 [] more) (count-last done (Ran n s acks) ∙ sym (count-last done (Ran n s (acks ++ k ∷ [])))) m.4;
       }
 
@@ -223,12 +235,7 @@ module _ (a c v : Bool) (reports : List Report) (es : List (ℕ × Record)) (ds 
       whole-damaged reports es ds d ∙ ap₂ (λ (x : FieldRows) (r : List (List ℕ)). x ++ r ∷ []) (sym h.are) (ap₂ (λ (x y : List ℕ). decimal 0 ∷ x ∷ y ∷ []) (sym words) (sym shows))
 
   pub damaged-opens : (view : BankView) → IsDamagedView view → ReportGoesOn rows (decimal 0 ∷ w ∷ [])
-  damaged-opens view ok =
-      let value = view_words view in
-      let new = damaged-are value view refl in
-      let long = length-append rows ((decimal 0 ∷ w ∷ value ∷ []) ∷ []) in
-      let report = told-report reports es (ds ++ record { bank = bank; view = view } ∷ []) 0 (told-damaged view ok) (omega (arith, room, long, ap length new)) in
-      (value ∷ [], count_fields 0 ∷ [], subst AreReport (ap (λ (x : FieldRows). x ++ count_fields 0 ∷ []) new ∙ append_assoc rows ((decimal 0 ∷ w ∷ value ∷ []) ∷ []) (count_fields 0 ∷ [])) report)
+  damaged-opens view ok = told-opens rows w (view_words view) reports es (ds ++ record { bank = bank; view = view } ∷ []) room (told-damaged view ok) (damaged-are (view_words view) view refl)
 
   pub damaged-taken : (value : List ℕ) (view : BankView) → IsDamagedView view → ((y : ToldName) → IsToldName y → w ≡ name_words (length reports) y → name.Bank bank ≡ y) → value ≡ view_words view
       → IsBetween false false false reports es (ds ++ record { bank = bank; view = view } ∷ []) (rows ++ (decimal 0 ∷ w ∷ value ∷ []) ∷ [])
@@ -242,7 +249,7 @@ module _ (a c v : Bool) (reports : List Report) (es : List (ℕ × Record)) (ds 
         are = sym (damaged-are value view shows);
         short = omega (arith, room, long);
         rest = λ more r.
-            let m = only-next a c v (length reports) (length es + 1) (banks_in found) w value more (name.Bank bank) (omega arith) few only (h.rest ((decimal 0 ∷ w ∷ value ∷ []) ∷ more) (subst AreReport (append_assoc rows ((decimal 0 ∷ w ∷ value ∷ []) ∷ []) more) r)) in
+            let m = next-told a c v reports es ds rows w value (name.Bank bank) h few only more r in
             subst (λ (x : List ℕ). MayFollow false false false (length reports) (length es + 1) x more) banks m.5;
       }
 
@@ -251,7 +258,7 @@ pub count-taken : (a c v : Bool) (reports : List Report) (es : List (ℕ × Reco
     → (rows ++ (decimal 0 ∷ w ∷ value ∷ []) ∷ [] ≡ whole reports es ds ++ count_fields n ∷ []) × ((more : FieldRows) → AreReport ((rows ++ (decimal 0 ∷ w ∷ value ∷ []) ∷ []) ++ more) → more ≡ [])
 count-taken a c v reports es ds rows w value n h few words only shows = (
   ap₂ (λ (x : FieldRows) (r : List (List ℕ)). x ++ r ∷ []) h.are (ap₂ (λ (x y : List ℕ). decimal 0 ∷ x ∷ y ∷ []) words shows),
-  (λ more r. (only-next a c v (length reports) (length es + 1) (banks_in (map found_event es ++ ds)) w value more name.Count (omega arith) few only (h.rest ((decimal 0 ∷ w ∷ value ∷ []) ∷ more) (subst AreReport (append_assoc rows ((decimal 0 ∷ w ∷ value ∷ []) ∷ []) more) r))).2),
+  (λ more r. (next-told a c v reports es ds rows w value name.Count h few only more r).2),
 )
 
 pub count-opens : (a c v : Bool) (reports : List Report) (es : List (ℕ × Record)) (ds : List Found) (rows : FieldRows) (w : List ℕ) → IsBetween a c v reports es ds rows → w ≡ name_words (length reports) name.Count → ReportGoesOn rows (decimal 0 ∷ w ∷ [])
@@ -282,10 +289,7 @@ start-between = record {
           events = t.1;
           damaged = t.2;
           count = t.3;
-          acks_bounds = none IsAck;
-          reports_bounds = told.run;
-          events_bounds = told.events;
-          damaged_bounds = told.damaged;
+          bounds = (none IsAck, told.run, told.events, told.damaged);
           no_acks = λ f. refl;
           no_reports = λ f. cc;
           no_events = λ f. cc;

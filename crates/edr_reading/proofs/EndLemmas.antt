@@ -1,5 +1,5 @@
 -- Where a text can be no report, and what was read of one that is.
-use Rattle.std.proofs.Common.{arith, ◌≡◌, ◌∙◌, sym, ap, ap₂, subst, refl, ℕ, ◌+◌, ◌<◌, ◌≤◌, List, [], ◌∷◌, ◌++◌, map, length, take, drop, get_or, Option, None}
+use Rattle.std.proofs.Common.{arith, ◌≡◌, ◌∙◌, sym, ap, subst, refl, ℕ, ◌+◌, ◌<◌, ◌≤◌, List, [], ◌∷◌, ◌++◌, map, length, take, drop, get_or, decimal, Option, None, Bool, true, false, Result, Ok, Err}
 use Rattle.std.proofs.lemmas.List.{append-nil, drop_more, take_more}
 use Rattle.std.proofs.Math.Seq.{take-length}
 use Rattle.edr_image.specs.declared.Found.{Found}
@@ -22,25 +22,21 @@ use Rattle.edr_reading.specs.declared.reading.ReportRefused.{ReportRefused}
 use Rattle.edr_reading.specs.declared.reading.ReportRefused.TheVariants.{Fault, OutOfMemory}
 use Rattle.edr_spell.specs.Spell.{RecordsOf}
 use Rattle.std.specs.Result.{IfErr, IfOk}
-use Rattle.edr_reading.specs.Rows.{FieldRows}
 use Rattle.edr_reading.proofs.BetweenLemmas.{between-count}
 use Rattle.edr_reading.proofs.FaultLemmas.{fault-behind, fault-is-none, wrong-end}
 use Rattle.edr_reading.proofs.FollowLemmas.{some-rows}
 use Rattle.edr_reading.proofs.LineLemmas.{inside-count}
-use Rattle.edr_reading.proofs.WholeLemmas.{whole-parts}
+use Rattle.edr_reading.proofs.WholeLemmas.{told-reading}
 use Rattle.edr_report.specs.EventWords.{event_words}
 use Rattle.edr_report.specs.declared.event_lines.EventLine.TheVariants.{Number}
 use Rattle.edr_reading.specs.Event.{event_of}
-use Rattle.edr_reading.specs.Rows.{event_fields, event_names}
+use Rattle.edr_reading.specs.Rows.{FieldRows, event_fields, event_names}
 use Rattle.edr_reading.proofs.RowLemmas.{lines}
-use Rattle.std.proofs.Common.{decimal, Bool, true, false, Result, Ok, Err}
 
 -- ---- what was read begins a report
 
 nothing-report : (reports : List Report) (found : List Found) (rows : FieldRows) (n : ℕ) → StandsNext (next.Nothing n) None reports found rows → AreReport rows
-nothing-report reports found rows n s =
-    let e = whole-parts reports s.0 s.1 n (s.3).damaged in
-    (reports, map found_event s.0 ++ s.1, n, record { run = (s.3).run; found = (s.0, s.1, refl, (s.3).events, (s.3).damaged); distinct = (s.3).distinct; short = omega (arith, s.5, ap length s.4, ap length e) }, s.4 ∙ e)
+nothing-report reports found rows n s = let t = told-reading reports s.0 s.1 n rows s.3 s.4 s.5 in (reports, map found_event s.0 ++ s.1, n, t.1, t.0)
 
 stands-opens : (n : NextRow) (last : Option CycleRow) (reports : List Report) (found : List Found) (rows : FieldRows) → StandsNext n last reports found rows → Opens rows
 stands-opens next.Run last reports found rows s = (count_fields 0 ∷ [], between-count (may_ack last) true true reports [] [] rows s.1)
@@ -86,11 +82,9 @@ pub end-read : (r : Reader) (records : FieldRows) (n : ℕ) (run : List Report) 
     → (records ≡ report_rows run found n) × IsReading run found n
 end-read r records n run found h e runs founds =
     let s = subst (λ (x : NextRow). StandsNext x r.last (cycles_read r) r.found.items records) e h.stands in
-    let is-found : found ≡ map found_event s.0 ++ s.1 = founds ∙ s.2 in
-    let is : records ≡ report_rows (cycles_read r) (map found_event s.0 ++ s.1) n = s.4 ∙ whole-parts (cycles_read r) s.0 s.1 n (s.3).damaged in
-    let all : records ≡ report_rows run found n = is ∙ ap₂ (λ (x : List Report) (y : List Found). report_rows x y n) (sym runs) (sym is-found) in
-    let reading : IsReading (cycles_read r) (map found_event s.0 ++ s.1) n = record { run = (s.3).run; found = (s.0, s.1, refl, (s.3).events, (s.3).damaged); distinct = (s.3).distinct; short = omega (arith, s.5, ap length is) } in
-    (all, subst (λ (x : List Report). IsReading x found n) (sym runs) (subst (λ (y : List Found). IsReading (cycles_read r) y n) (sym is-found) reading))
+    let t = told-reading (cycles_read r) s.0 s.1 n records s.3 s.4 s.5 in
+    subst (λ (x : List Report). (records ≡ report_rows x found n) × IsReading x found n) (sym runs)
+    (subst (λ (x : List Found). (records ≡ report_rows (cycles_read r) x n) × IsReading (cycles_read r) x n) (sym (founds ∙ s.2)) t)
 
 -- one record more
 pub read-more : (r : Reader) (records : FieldRows) (i : ℕ) (row : List (List ℕ)) → i < length records → row ≡ get_or records i [] → HasReadRows r (take i records ++ row ∷ []) → HasReadRows r (take (i + 1) records)

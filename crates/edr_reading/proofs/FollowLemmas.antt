@@ -60,18 +60,13 @@ no-acks-of : (r : Report) → may_ack (Some (row_of r)) ≡ false → acks_of r 
 no-acks-of (StartStopped j) h = refl
 no-acks-of (Ran n s log) h = cc
 
+never : {P : Type 0} (n : ℕ) → n + 1 ≤ 0 → P
+never n h = absurd (omega (arith, h))
+
 pub no-agreement : (e f : ℕ × Record) → EventAgrees 0 e f
 no-agreement e f = record {
-  bank = λ h. absurd (omega (arith, h));
-  before = record {
-    events = λ h. absurd (omega (arith, h));
-    profile = λ h. absurd (omega (arith, h));
-    speed = λ h. absurd (omega (arith, h));
-    throttle = λ h. absurd (omega (arith, h));
-    brake = λ h. absurd (omega (arith, h));
-    belt = λ h. absurd (omega (arith, h));
-    lamp = λ h. absurd (omega (arith, h));
-  };
+  bank = never 1;
+  before = record { events = never 2; profile = never 5; speed = never 6; throttle = never 7; brake = never 8; belt = never 9; lamp = never 10 };
   after = by e.1.crash f.1.crash;
 }
   where
@@ -79,143 +74,43 @@ no-agreement e f = record {
     by None None = tt
     by None (Some d) = refl
     by (Some c) None = refl
-    by (Some c) (Some d) = record { end = λ h. absurd (omega (arith, h)); missing_along = λ h. absurd (omega (arith, h)); missing_across = λ h. absurd (omega (arith, h)) }
+    by (Some c) (Some d) = record { end = never 0; missing_along = never 6; missing_across = never 6 }
 
 first-block : (block bank : ℕ) (r : Record) (xs : FieldRows) (row : List (List ℕ)) (more : FieldRows) → row ∷ more ≡ event_fields block bank r ++ xs → slice_index_or row 0 [] ≡ decimal block
 unfolding event_lines
 first-block block bank r xs row more e = ap (λ (rows : FieldRows). slice_index_or (slice_index_or rows 0 []) 0 []) e
 
 pub next-row : (a c v : Bool) (cycles block : ℕ) (banks : List ℕ) (r : List (List ℕ)) (more : FieldRows) → MayFollow a c v cycles block banks (r ∷ more) → IsNextRow a c v cycles block banks r more
-next-row a c v cycles block banks r more m = by m.acks m.reports m.events m.damaged m.acks_bounds m.reports_bounds m.events_bounds m.damaged_bounds m.no_acks m.no_reports m.no_events m.distinct m.are
+next-row a c v cycles block banks r more m = by m.acks m.reports m.events m.damaged m.bounds m.no_acks m.no_reports m.no_events m.distinct m.are
   where
-    by : (acks : List Ack) (reports : List Report) (events : List (ℕ × Record)) (damaged : List Found) → All IsAck acks → All IsReport reports → All IsEvent events → All IsDamaged damaged
+    by : (acks : List Ack) (reports : List Report) (events : List (ℕ × Record)) (damaged : List Found) → All IsAck acks × All IsReport reports × All IsEvent events × All IsDamaged damaged
         → (a ≡ false → acks ≡ []) → (c ≡ false → reports ≡ []) → (v ≡ false → events ≡ []) → IsDistinct eqb (banks ++ (map (λ e. e.0) events ++ banks_in damaged))
         → r ∷ more ≡ map (ack_fields cycles) acks ++ (run_fields (cycles + 1) reports ++ (events_fields block events ++ last_rows damaged m.count)) → IsNextRow a c v cycles block banks r more
-    by (k ∷ acks) reports events damaged ha hr he hd na nr ne dis are =
+    by (k ∷ acks) reports events damaged h na nr ne dis are =
         let tail = run_fields (cycles + 1) reports ++ (events_fields block events ++ last_rows damaged m.count) in
         let head : r ≡ ack_fields cycles k = cc in
         let rest : more ≡ map (ack_fields cycles) acks ++ tail = cc in
-        let bounds = All-head IsAck k acks ha in
+        let bounds = All-head IsAck k acks h.0 in
         let going : a ≡ true = is-true a (λ f. not-nil k acks (na f)) in
-        inl (
-          name.Ack k.kind k.tick,
-          bounds.0,
-          applied_words k.applied,
-          head,
-          (
-            going,
-            k.applied,
-            bounds.1,
-            refl,
-            record {
-              acks = acks;
-              reports = reports;
-              events = events;
-              damaged = damaged;
-              count = m.count;
-              acks_bounds = All-tail IsAck k acks ha;
-              reports_bounds = hr;
-              events_bounds = he;
-              damaged_bounds = hd;
-              no_acks = λ f. absurd (not-nil k acks (na f));
-              no_reports = nr;
-              no_events = ne;
-              distinct = dis;
-              are = rest;
-            },
-          ),
-        )
-    by [] (k ∷ reports) events damaged ha hr he hd na nr ne dis are =
+        inl (name.Ack k.kind k.tick, bounds.0, applied_words k.applied, head, (going, k.applied, bounds.1, refl, record { acks = acks; reports = reports; events = events; damaged = damaged; count = m.count; bounds = (All-tail IsAck k acks h.0, h.1, h.2, h.3); no_acks = λ f. absurd (not-nil k acks (na f)); no_reports = nr; no_events = ne; distinct = dis; are = rest }))
+    by [] (k ∷ reports) events damaged h na nr ne dis are =
         let tail = events_fields block events ++ last_rows damaged m.count in
         let is : r ∷ more ≡ cycle_fields (cycles + 1) (row_of k) ∷ (map (ack_fields (cycles + 1)) (acks_of k) ++ (run_fields (cycles + 1 + 1) reports ++ tail)) = are ∙ run-first (cycles + 1) k reports tail in
         let head : r ≡ cycle_fields (cycles + 1) (row_of k) = cc in
         let rest : more ≡ map (ack_fields (cycles + 1)) (acks_of k) ++ (run_fields (cycles + 1 + 1) reports ++ tail) = cc in
-        let bounds = All-head IsReport k reports hr in
-        inl (
-          name.Cycle,
-          tt,
-          (cycle_line 1 (row_of k)).value,
-          head ∙ cycle-row cycles (row_of k),
-          (
-            is-true c (λ f. not-nil k reports (nr f)),
-            row_of k,
-            bounds.0,
-            refl,
-            record {
-              acks = acks_of k;
-              reports = reports;
-              events = events;
-              damaged = damaged;
-              count = m.count;
-              acks_bounds = bounds.1;
-              reports_bounds = All-tail IsReport k reports hr;
-              events_bounds = he;
-              damaged_bounds = hd;
-              no_acks = no-acks-of k;
-              no_reports = λ f. absurd (not-nil k reports (nr f));
-              no_events = ne;
-              distinct = dis;
-              are = rest;
-            },
-          ),
-        )
-    by [] [] (k ∷ events) damaged ha hr he hd na nr ne dis are =
+        let bounds = All-head IsReport k reports h.1 in
+        inl (name.Cycle, tt, (cycle_line 1 (row_of k)).value, head ∙ cycle-row cycles (row_of k), (is-true c (λ f. not-nil k reports (nr f)), row_of k, bounds.0, refl, record { acks = acks_of k; reports = reports; events = events; damaged = damaged; count = m.count; bounds = (bounds.1, All-tail IsReport k reports h.1, h.2, h.3); no_acks = no-acks-of k; no_reports = λ f. absurd (not-nil k reports (nr f)); no_events = ne; distinct = dis; are = rest }))
+    by [] [] (k ∷ events) damaged h na nr ne dis are =
         let last = last_rows damaged m.count in
         let is : r ∷ more ≡ event_fields block k.0 k.1 ++ (events_fields (block + 1) events ++ last) = are ∙ ap (λ (x : FieldRows). x ++ last) (events-first block k events) ∙ append_assoc (event_fields block k.0 k.1) (events_fields (block + 1) events) last in
-        inr (
-          is-true v (λ f. not-nil k events (ne f)),
-          first-block block k.0 k.1 (events_fields (block + 1) events ++ last) r more is,
-          k.0,
-          map (λ e. e.0) events ++ banks_in damaged,
-          dis,
-          (λ e. record {
-            event = k;
-            events = events;
-            damaged = damaged;
-            count = m.count;
-            event_bounds = All-head IsEvent k events he;
-            events_bounds = All-tail IsEvent k events he;
-            damaged_bounds = hd;
-            agrees = no-agreement e k;
-            distinct = dis;
-            are = is;
-          }),
-        )
-    by [] [] [] (k ∷ damaged) ha hr he hd na nr ne dis are =
+        inr (is-true v (λ f. not-nil k events (ne f)), first-block block k.0 k.1 (events_fields (block + 1) events ++ last) r more is, k.0, map (λ e. e.0) events ++ banks_in damaged, dis, (λ e. record { event = k; events = events; damaged = damaged; count = m.count; event_bounds = All-head IsEvent k events h.2; events_bounds = All-tail IsEvent k events h.2; damaged_bounds = h.3; agrees = no-agreement e k; distinct = dis; are = is }))
+    by [] [] [] (k ∷ damaged) h na nr ne dis are =
         let head : r ≡ damaged_fields k = cc in
         let rest : more ≡ last_rows damaged m.count = cc in
-        let bounds = All-head IsDamaged k damaged hd in
+        let bounds = All-head IsDamaged k damaged h.3 in
         let now : IsDistinct eqb ((banks ++ k.bank ∷ []) ++ banks_in damaged) = subst (IsDistinct eqb) (sym (append_assoc banks (k.bank ∷ []) (banks_in damaged))) dis in
-        inl (
-          name.Bank k.bank,
-          bounds.0,
-          view_words k.view,
-          head,
-          (
-            k.view,
-            bounds.1,
-            refl,
-            banks_in damaged,
-            dis,
-            record {
-              acks = [];
-              reports = [];
-              events = [];
-              damaged = damaged;
-              count = m.count;
-              acks_bounds = ha;
-              reports_bounds = hr;
-              events_bounds = he;
-              damaged_bounds = All-tail IsDamaged k damaged hd;
-              no_acks = λ f. refl;
-              no_reports = λ f. refl;
-              no_events = λ f. refl;
-              distinct = now;
-              are = rest;
-            },
-          ),
-        )
-    by [] [] [] [] ha hr he hd na nr ne dis are =
+        inl (name.Bank k.bank, bounds.0, view_words k.view, head, (k.view, bounds.1, refl, banks_in damaged, dis, record { acks = []; reports = []; events = []; damaged = damaged; count = m.count; bounds = (h.0, h.1, h.2, All-tail IsDamaged k damaged h.3); no_acks = λ f. refl; no_reports = λ f. refl; no_events = λ f. refl; distinct = now; are = rest }))
+    by [] [] [] [] h na nr ne dis are =
         let head : r ≡ count_fields m.count = cc in
         let rest : more ≡ [] = cc in
         inl (name.Count, tt, shown_count m.count, head, (m.count, refl, rest))

@@ -1,5 +1,5 @@
 -- A reader in an event takes a row or refuses it.
-use Rattle.std.proofs.Common.{arith, ◌≡◌, ◌≢◌, ◌∙◌, sym, ap, ap₂, subst, refl, ℕ, ◌+◌, ◌<◌, ◌≤◌, ◌^◌, ⊎_elim, Bool, true, false, eqb, List, [], ◌∷◌, ◌++◌, map, length, take, drop, get_or, append_assoc, length-append, decimal}
+use Rattle.std.proofs.Common.{arith, ◌≡◌, ◌≢◌, ◌∙◌, sym, ap, ap₂, subst, refl, ℕ, ◌+◌, ◌<◌, ◌≤◌, ◌^◌, ⊎_elim, Bool, true, false, eqb, List, [], ◌∷◌, ◌++◌, map, length, take, drop, get_or, append_assoc, length-append, decimal, Some}
 use Rattle.std.specs.List.{IsDistinct, slice_index_or}
 use Rattle.std.proofs.lemmas.List.{append-nil, drop_more, take-append-drop, length-drop}
 use Rattle.std.proofs.Math.Seq.{take-length}
@@ -8,10 +8,11 @@ use Rattle.edr_image.specs.declared.Found.{Found}
 use Rattle.edr_image.specs.Banks.{found_event}
 use Rattle.edr_image.specs.Reports.{Report}
 use Rattle.edr_report.specs.EventWords.{event_words}
-use Rattle.edr_reading.specs.Parts.{IsRecord}
+use Rattle.edr_reading.specs.Parts.{AcceptsLine, IsRecord}
 use Rattle.edr_report.specs.declared.event_lines.EventLine.TheVariants.{Number}
 use Rattle.edr_reading.specs.declared.reader.Refused.TheVariants as refused
-use Rattle.edr_reading.specs.Event.{EventAgrees, IsNextEvent, event_texts}
+use Rattle.edr_reading.specs.Event.{AcceptsEventLine, EventAgrees, IsNextEvent, event_of, event_texts}
+use Rattle.edr_reading.specs.declared.event.PartEvent.{PartEvent}
 use Rattle.edr_reading.specs.Faults.{AreReport}
 use Rattle.edr_reading.specs.Found.{IsDamaged, IsEvent, banks_in, count_fields, damaged_fields, events_fields, last_rows}
 use Rattle.edr_reading.specs.Reading.{AreDistinct}
@@ -22,7 +23,7 @@ use Rattle.edr_reading.specs.Run.{IsReport}
 use Rattle.edr_reading.proofs.BetweenLemmas.{banks-more, All-last, goes-on, refuse-1, refuse-2, refuse-3}
 use Rattle.edr_reading.proofs.DistinctLemmas.{alone, distinct-more}
 use Rattle.edr_reading.proofs.FollowLemmas.{next-row, none}
-use Rattle.edr_reading.proofs.RowLemmas.{event-gone, event-long, lines, row-at, rows-more}
+use Rattle.edr_reading.proofs.RowLemmas.{event-gone, event-long, line-place, lines, row-at, rows-more}
 use Rattle.edr_reading.proofs.WholeLemmas.{decimal-same, told-report, whole-event}
 
 -- ---- what a line may be
@@ -43,28 +44,8 @@ line-row k block found e r more small m =
       record { bank = m.event_bounds.0; alone = alone found f.0 (map (λ e. e.0) m.events ++ banks_in m.damaged) m.distinct; record_bounds = m.event_bounds.1 },
       m.agrees,
       head ∙ row-at block f k small,
-      (λ g a. record {
-        event = f;
-        events = m.events;
-        damaged = m.damaged;
-        count = m.count;
-        event_bounds = m.event_bounds;
-        events_bounds = m.events_bounds;
-        damaged_bounds = m.damaged_bounds;
-        agrees = a;
-        distinct = m.distinct;
-        are = rest;
-      }),
+      (λ g a. record { event = f; events = m.events; damaged = m.damaged; count = m.count; event_bounds = m.event_bounds; events_bounds = m.events_bounds; damaged_bounds = m.damaged_bounds; agrees = a; distinct = m.distinct; are = rest }),
     )
-
--- at least the count follows
-line-some : (k block : ℕ) (banks : List ℕ) (e : ℕ × Record) (more : FieldRows) → MayFollowLine k block banks e more → 1 ≤ length more
-line-some k block banks e more m =
-    let tail = events_fields (block + 1) m.events ++ last_rows m.damaged m.count in
-    let e1 = length-append (drop k (event_fields block m.event.0 m.event.1)) tail in
-    let e2 = length-append (events_fields (block + 1) m.events) (last_rows m.damaged m.count) in
-    let e3 = length-append (map damaged_fields m.damaged) (count_fields m.count ∷ []) in
-    omega (arith, ap length m.are, e1, e2, e3)
 
 -- how many rows follow at least
 pub line-most : (k block : ℕ) (banks : List ℕ) (e : ℕ × Record) (more : FieldRows) → MayFollowLine k block banks e more → 30 ≤ length more + k
@@ -128,24 +109,36 @@ told-event reports es e f h n = record {
       (subst (IsDistinct eqb) (sym (banks-more es f)) (distinct-more (map found_event es) f.0 (subst AreDistinct (append-nil (map found_event es)) h.distinct) n.alone));
 }
 
+-- the line in place k of an event in this block is taken: with this value it makes f of the event e
+abbrev pub AcceptsPlace : ℕ → ℕ → List Found → List ℕ → ℕ × Record → ℕ × Record → Type 0
+AcceptsPlace k block found v e f = AcceptsLine {A = ℕ × Record} {B = ℕ × Record} (λ x. x) (IsNextEvent found) (event_texts block) EventAgrees (λ x. event_words block x.0 x.1 (get_or lines k Number)) k v e (Some f)
+
+pub at-place : (k block : ℕ) (found : List Found) (v : List ℕ) (old new : PartEvent) → k < 29 → AcceptsEventLine block found (get_or lines k Number) v old (Some new) → AcceptsPlace k block found v (event_of old) (event_of new)
+at-place k block found v old new small t =
+    let at = line-place k small in
+    record {
+      bounds = t.bounds;
+      shows = t.shows;
+      earlier = subst (λ (j : ℕ). take j (event_texts block (event_of new)) ≡ take j (event_texts block (event_of old))) at t.earlier;
+      whole = λ f ok a e. subst (λ (j : ℕ). EventAgrees (j + 1) (event_of new) f) at (t.whole f ok (subst (λ (j : ℕ). EventAgrees j (event_of old) f) (sym at) a) e);
+    }
+
 module _ (k : ℕ) (e f : ℕ × Record) (reports : List Report) (es : List (ℕ × Record)) (rows : FieldRows) (w v : List ℕ) (h : IsInside k e reports es rows) (told : IsToldReport reports es [])
-    (bounds : IsNextEvent (map found_event es) f) (same : take k (event_texts (length es + 1) f) ≡ take k (event_texts (length es + 1) e)) (named : w ≡ get_or event_names k [])
-    (shows : v ≡ event_words (length es + 1) f.0 f.1 (get_or lines k Number))
-    (whole-of : (g : ℕ × Record) → IsNextEvent (map found_event es) g → EventAgrees k e g → v ≡ event_words (length es + 1) g.0 g.1 (get_or lines k Number) → EventAgrees (k + 1) f g) where
+    (named : w ≡ get_or event_names k []) (t : AcceptsPlace k (length es + 1) (map found_event es) v e f) where
   line-are : IsRecord e.1 → rows ++ (decimal (length es + 1) ∷ w ∷ v ∷ []) ∷ [] ≡ whole reports es [] ++ take (k + 1) (event_fields (length es + 1) f.0 f.1)
   line-are ok =
       let block = length es + 1 in
-      let one : decimal block ∷ w ∷ v ∷ [] ≡ get_or (event_fields block f.0 f.1) k [] = ap₂ (λ (x y : List ℕ). decimal block ∷ x ∷ y ∷ []) named shows ∙ sym (row-at block f k h.within) in
+      let one : decimal block ∷ w ∷ v ∷ [] ≡ get_or (event_fields block f.0 f.1) k [] = ap₂ (λ (x y : List ℕ). decimal block ∷ x ∷ y ∷ []) named t.shows ∙ sym (row-at block f k h.within) in
       ap₂ (λ (x : FieldRows) (r : List (List ℕ)). x ++ r ∷ []) h.are one
       ∙ append_assoc (whole reports es []) (take k (event_fields block e.0 e.1)) (get_or (event_fields block f.0 f.1) k [] ∷ [])
-      ∙ ap (λ (x : FieldRows). whole reports es [] ++ x) (sym (rows-more block k e f h.within ok bounds.record_bounds same))
+      ∙ ap (λ (x : FieldRows). whole reports es [] ++ x) (sym (rows-more block k e f h.within ok t.bounds.record_bounds t.earlier))
 
   line-follow : (more : FieldRows) → AreReport ((rows ++ (decimal (length es + 1) ∷ w ∷ v ∷ []) ∷ []) ++ more) → MayFollowLine (k + 1) (length es + 1) (banks_in (map found_event es)) f more
   line-follow more a =
       let block = length es + 1 in
       let row = decimal block ∷ w ∷ v ∷ [] in
       let l = line-row k block (map found_event es) e row more h.within (h.rest row more refl (subst AreReport (append_assoc rows (row ∷ []) more) a)) in
-      l.4 f (whole-of l.0 l.1 l.2 (ap (λ (x : List (List ℕ)). slice_index_or x 2 []) l.3))
+      l.4 f (t.whole l.0 l.1 l.2 (ap (λ (x : List (List ℕ)). slice_index_or x 2 []) l.3))
 
   pub line-next : IsRecord e.1 → k + 1 < 29 → IsInside (k + 1) f reports es (rows ++ (decimal (length es + 1) ∷ w ∷ v ∷ []) ∷ []) × GoesOnIn (length es + 1) (rows ++ (decimal (length es + 1) ∷ w ∷ v ∷ []) ∷ [])
   line-next ok small =
@@ -154,13 +147,13 @@ module _ (k : ℕ) (e f : ℕ × Record) (reports : List Report) (es : List (ℕ
       let long = length-append rows ((decimal block ∷ w ∷ v ∷ []) ∷ []) in (
         record {
           within = small;
-          told = told-event reports es e f told bounds;
+          told = told-event reports es e f told t.bounds;
           are = line-are ok;
           short = omega (arith, h.short, long);
           rest = λ r more b a. line-follow (r ∷ more) a;
         },
         (
-          (λ a. let m = line-follow [] (subst AreReport (sym (append-nil now)) a) in let s = line-some (k + 1) block (banks_in (map found_event es)) f [] m in omega (arith, s)),
+          (λ a. let m = line-follow [] (subst AreReport (sym (append-nil now)) a) in let s = line-most (k + 1) block (banks_in (map found_event es)) f [] m in omega (arith, s, small)),
           (λ r more a. ap (λ (x : List (List ℕ)). slice_index_or x 0 []) (line-row (k + 1) block (map found_event es) f r more small (line-follow (r ∷ more) a)).3),
         ),
       )
@@ -173,7 +166,7 @@ module _ (k : ℕ) (e f : ℕ × Record) (reports : List Report) (es : List (ℕ
       let count : length es + 1 + 1 ≡ length (es ++ f ∷ []) + 1 = ap (λ (n : ℕ). n + 1) (sym (length-append es (f ∷ []))) in
       let banks : banks_in (map found_event es) ++ f.0 ∷ [] ≡ banks_in (map found_event (es ++ f ∷ []) ++ []) = sym (ap banks_in (append-nil (map found_event (es ++ f ∷ []))) ∙ banks-more es f) in
       record {
-        told = told-event reports es e f told bounds;
+        told = told-event reports es e f told t.bounds;
         are = line-are ok ∙ ap (λ (n : ℕ). whole reports es [] ++ take n all) last ∙ ap (λ (n : ℕ). whole reports es [] ++ take n all) (sym (event-long block f.0 f.1)) ∙ ap (λ (x : FieldRows). whole reports es [] ++ x) (take-length all) ∙ sym (whole-event reports es f);
         short = omega (arith, h.short, long, last);
         rest = λ more a.
@@ -190,10 +183,7 @@ module _ (k : ℕ) (e f : ℕ × Record) (reports : List Report) (es : List (ℕ
               events = m.events;
               damaged = m.damaged;
               count = m.count;
-              acks_bounds = none IsAck;
-              reports_bounds = none IsReport;
-              events_bounds = m.events_bounds;
-              damaged_bounds = m.damaged_bounds;
+              bounds = (none IsAck, none IsReport, m.events_bounds, m.damaged_bounds);
               no_acks = λ z. refl;
               no_reports = λ z. refl;
               no_events = λ z. cc;

@@ -1,5 +1,5 @@
 -- What a reader has read, by its fields.
-use Rattle.std.proofs.Common.{arith, ◌≡◌, ◌≢◌, ◌∙◌, sym, ap, ap₂, subst, refl, ℕ, ◌+◌, ◌<◌, ◌≤◌, ◌^◌, ◌⊎◌, inl, inr, ⊎_elim, Bool, true, false, List, [], ◌∷◌, ◌++◌, map, length, append_assoc, length-append, decimal, take, get_or, eqb, Option, None, Some, Result, Ok, Err}
+use Rattle.std.proofs.Common.{arith, ◌≡◌, ◌≢◌, ◌∙◌, sym, ap, ap₂, subst, refl, ℕ, ◌+◌, ◌<◌, ◌≤◌, ◌^◌, ◌⊎◌, inl, inr, ⊎_elim, Bool, true, false, List, [], ◌∷◌, ◌++◌, map, length, append_assoc, length-append, decimal, get_or, eqb, Option, None, Some, Result, Ok, Err}
 use Rattle.std.specs.List.{IsDistinct, slice_index_or}
 use Rattle.std.specs.Result.{IfErr, OnOk}
 use Rattle.std.proofs.lemmas.Bool.{cases_lt}
@@ -30,7 +30,7 @@ use Rattle.edr_reading.specs.declared.reader.NextRow.{NextRow}
 use Rattle.edr_reading.specs.declared.reader.NextRow.TheVariants as next
 use Rattle.edr_reading.specs.declared.reader.Reader.{Reader}
 use Rattle.edr_reading.specs.declared.reader.Refused.TheVariants as refused
-use Rattle.edr_reading.specs.Event.{EventAgrees, HasNoBank, IsNextEvent, event_of, event_texts, record_of}
+use Rattle.edr_reading.specs.Event.{EventAgrees, HasNoBank, IsNextEvent, event_of}
 use Rattle.edr_reading.specs.Faults.{ReportGoesOn}
 use Rattle.edr_reading.specs.Found.{IsEvent, banks_in}
 use Rattle.edr_reading.specs.Reader.{AddsLine, AtLine, HasReadRows, IsBetween, IsOnlyName, IsRefused, IsToldReport, MayBegin, MayHaveEvent, MayTell, StandsNext, Takes, TakesLine, cycles_read, last_cycle, may_ack}
@@ -38,10 +38,10 @@ use Rattle.edr_reading.specs.Reading.{AreDistinct, head_row}
 use Rattle.edr_reading.specs.Rows.{FieldRows, event_names}
 use Rattle.edr_reading.specs.Told.{IsCycleRow, IsToldName, cycle_line, name_words}
 use Rattle.edr_reading.specs.Values.{IsApplied, IsBank, IsDamage, IsDamagedView, view_words}
-use Rattle.edr_reading.proofs.BetweenLemmas.{banks-more, found-last, All-front, ack-opens, at-end, ack-taken, between-block, count-opens, count-taken, cycle-opens, cycle-taken, damaged-opens, damaged-taken, refuse-1, refuse-2, refuse-3, report-short, start-between, told-next}
+use Rattle.edr_reading.proofs.BetweenLemmas.{banks-more, found-last, only-next, All-front, ack-opens, at-end, ack-taken, between-block, count-opens, count-taken, cycle-opens, cycle-taken, damaged-opens, damaged-taken, refuse-1, refuse-2, refuse-3, report-short, start-between, told-next}
 use Rattle.edr_reading.proofs.DistinctLemmas.{alone, distinct-front}
 use Rattle.edr_reading.proofs.FollowLemmas.{ToldNext, next-row, some-rows}
-use Rattle.edr_reading.proofs.LineLemmas.{first-line, line-block, line-last, line-most, line-name, line-next, line-value}
+use Rattle.edr_reading.proofs.LineLemmas.{AcceptsPlace, first-line, line-block, line-last, line-most, line-name, line-next, line-value}
 use Rattle.edr_reading.proofs.RowLemmas.{lines}
 
 pub stands-as : (n m : NextRow) (last first : Option CycleRow) (reports rs : List Report) (found fs : List Found) (rows : FieldRows) → n ≡ m → last ≡ first → reports ≡ rs → found ≡ fs → StandsNext m first rs fs rows → StandsNext n last reports found rows
@@ -77,54 +77,18 @@ pub record InBetween (r : Reader) (rows : FieldRows) : Type 0 where
 few-events : (r : Reader) (rows : FieldRows) (es : List (ℕ × Record)) (ds : List Found) → HasReadRows r rows → r.found.items ≡ map found_event es ++ ds → length es + 1 < 2 ^ 64
 few-events r rows es ds h e = let a = length-append (map found_event es) ds in let b = length-map es found_event in omega (arith, ap length e, a, b, h.few, h.short)
 
-not-both : (b : Bool) → b ≡ true → b ≡ false → ⊥
-not-both true p q = cc
-not-both false p q = cc
-
 pub in-between : (r : Reader) (rows : FieldRows) → HasReadRows r rows → MayBegin r.next → InBetween r rows
 in-between r rows h b = by r.next refl h.stands b
   where
+    at-all : (a c v : Bool) (es : List (ℕ × Record)) (ds : List Found) → r.found.items ≡ map found_event es ++ ds → IsBetween a c v (cycles_read r) es ds rows → (a ≡ true → (r.next ≡ next.Run) × (may_ack r.last ≡ true)) → (c ≡ true → r.next ≡ next.Run)
+        → (v ≡ true → (ds ≡ []) × ((r.next ≡ next.Run) ⊎ (r.next ≡ next.Events))) → InBetween r rows
+    at-all a c v es ds found at ack cycle event = record { acks = a; cycles = c; events = v; es = es; ds = ds; found = found; at = at; few = few-events r rows es ds h found; has_acks = ack; has_cycles = cycle; has_events = event }
+
     by : (n : NextRow) → r.next ≡ n → StandsNext n r.last (cycles_read r) r.found.items rows → MayBegin n → InBetween r rows
-    by next.Run e s b = record {
-      acks = may_ack r.last;
-      cycles = true;
-      events = true;
-      es = [];
-      ds = [];
-      found = s.0;
-      at = s.1;
-      few = omega arith;
-      has_acks = λ t. (e, t);
-      has_cycles = λ t. e;
-      has_events = λ t. (refl, inl e);
-    }
-    by next.Events e s b = record {
-      acks = false;
-      cycles = false;
-      events = true;
-      es = s.0;
-      ds = [];
-      found = s.1 ∙ sym (append-nil (map found_event s.0));
-      at = s.2;
-      few = few-events r rows s.0 [] h (s.1 ∙ sym (append-nil (map found_event s.0)));
-      has_acks = λ t. absurd (not-both false t refl);
-      has_cycles = λ t. absurd (not-both false t refl);
-      has_events = λ t. (refl, inr e);
-    }
+    by next.Run e s b = at-all (may_ack r.last) true true [] [] s.0 s.1 (λ t. (e, t)) (λ t. e) (λ t. (refl, inl e))
+    by next.Events e s b = at-all false false true s.0 [] (s.1 ∙ sym (append-nil (map found_event s.0))) s.2 (λ t. cc) (λ t. cc) (λ t. (refl, inr e))
     by (next.Line k p) e s b = absurd b
-    by next.Damaged e s b = record {
-      acks = false;
-      cycles = false;
-      events = false;
-      es = s.0;
-      ds = s.1;
-      found = s.2;
-      at = s.3;
-      few = few-events r rows s.0 s.1 h s.2;
-      has_acks = λ t. absurd (not-both false t refl);
-      has_cycles = λ t. absurd (not-both false t refl);
-      has_events = λ t. absurd (not-both false t refl);
-    }
+    by next.Damaged e s b = at-all false false false s.0 s.1 s.2 s.3 (λ t. cc) (λ t. cc) (λ t. cc)
     by (next.Nothing n) e s b = absurd b
 
 -- ---- refusals of rows of block 0
@@ -162,11 +126,9 @@ value-refused r rows w value x h o g never =
     let m = in-between r rows h o.begins in
     refuse-3 rows (decimal 0) w value g
     (λ q. let row = decimal 0 ∷ w ∷ value ∷ q.0 in
-    let n = told-next m.acks m.cycles m.events (length (cycles_read r)) (length m.es + 1) (banks_in (map found_event m.es ++ m.ds)) w (value ∷ q.0) q.1 (omega arith) m.few (m.at.rest (row ∷ q.1) q.2) in
-    let same : n.2 ≡ value = sym (ap (λ (l : List (List ℕ)). slice_index_or l 0 []) n.4) in
-    never m.acks m.cycles m.events (length (cycles_read r)) (length m.es + 1) (banks_in (map found_event m.es ++ m.ds)) q.1
-    (subst (ToldNext m.acks m.cycles m.events (length (cycles_read r)) (length m.es + 1) (banks_in (map found_event m.es ++ m.ds)) value q.1) (sym (o.only n.0 n.1 n.3))
-    (subst (λ (z : List ℕ). ToldNext m.acks m.cycles m.events (length (cycles_read r)) (length m.es + 1) (banks_in (map found_event m.es ++ m.ds)) z q.1 n.0) same n.5)))
+    let banks = banks_in (map found_event m.es ++ m.ds) in
+    never m.acks m.cycles m.events (length (cycles_read r)) (length m.es + 1) banks q.1
+    (only-next m.acks m.cycles m.events (length (cycles_read r)) (length m.es + 1) banks w value q.0 q.1 x (omega arith) m.few o.only (m.at.rest (row ∷ q.1) q.2)))
 
 -- some record
 plain : Record
@@ -201,6 +163,14 @@ block-refused r rows b w value h begins other never =
 count-more : (rows : FieldRows) (row : List (List ℕ)) → length (rows ++ row ∷ []) ≡ length rows + 1
 count-more rows row = length-append rows (row ∷ [])
 
+-- a reader has read one row more
+read-on : (r s : Reader) (rows : FieldRows) (row : List (List ℕ)) → r.rows ≡ length rows → length (cycles_read r) + length r.found.items < length rows → length r.acks.items < length rows → s.rows ≡ r.rows + 1
+    → length (cycles_read s) + length s.found.items ≤ length (cycles_read r) + length r.found.items + 1 → length s.acks.items ≤ length r.acks.items + 1 → length rows + 1 ≤ 4_294_967_294 → (s.last ≡ None → s.run.items ≡ [])
+    → StandsNext s.next s.last (cycles_read s) s.found.items (rows ++ row ∷ []) → HasReadRows s (rows ++ row ∷ [])
+read-on r s rows row count few few_acks one more more_acks short first stands =
+    let long = count-more rows row in
+    record { count = omega (arith, long); few = omega (arith, long); few_acks = omega (arith, long); short = omega (arith, long); first = first; stands = stands }
+
 cycles-same : (r s : Reader) → s.run.items ≡ r.run.items → s.last ≡ r.last → s.acks.items ≡ r.acks.items → cycles_read s ≡ cycles_read r
 cycles-same r s a b c = ap₂ (λ (x y : List Report). x ++ y) (ap (map report_of) a) (ap₂ last_cycle b c)
 
@@ -211,15 +181,8 @@ count-read r s rows w value n h o shows one run last acks found after =
     let long = count-more rows (decimal 0 ∷ w ∷ value ∷ []) in
     let cycles = cycles-same r s run last acks in
     let t = count-taken m.acks m.cycles m.events (cycles_read r) m.es m.ds rows w value n m.at m.few o.words o.only shows in
-    record {
-      count = omega (arith, one, h.count, long);
-      few = omega (arith, ap length cycles, ap length found, h.few, long);
-      few_acks = omega (arith, ap length acks, h.few_acks, long);
-      short = omega (arith, m.at.short, long);
-      first = λ e. run ∙ h.first (sym last ∙ e);
-      stands = stands-as s.next (next.Nothing n) s.last s.last (cycles_read s) (cycles_read r) s.found.items r.found.items _ after refl cycles found
-          (m.es, m.ds, m.found, m.at.told, t.0, omega (arith, m.at.short, long), t.1);
-    }
+    read-on r s rows _ h.count h.few h.few_acks one (omega (arith, ap length cycles, ap length found)) (omega (arith, ap length acks)) m.at.short (λ e. run ∙ h.first (sym last ∙ e))
+    (stands-as s.next (next.Nothing n) s.last s.last (cycles_read s) (cycles_read r) s.found.items r.found.items _ after refl cycles found (m.es, m.ds, m.found, m.at.told, t.0, omega (arith, m.at.short, long), t.1))
 
 pub count-not-read : (r : Reader) (rows : FieldRows) (w value : List ℕ) → HasReadRows r rows → IsOnlyName r w name.Count → ((n : ℕ) → value ≡ shown_count n → ⊥) → IsRefused rows (decimal 0 ∷ w ∷ value ∷ []) (refused.Field 3)
 count-not-read r rows w value h o never =
@@ -232,21 +195,14 @@ pub damaged-read : (r s : Reader) (rows : FieldRows) (w value : List ℕ) (bank 
 damaged-read r s rows w value bank view h o ok shows one run last acks found after =
     let m = in-between r rows h o.begins in
     let d : Found = record { bank = bank; view = view } in
-    let long = count-more rows (decimal 0 ∷ w ∷ value ∷ []) in
     let cycles = cycles-same r s run last acks in
     let free = subst (λ (x : List Found). HasNoBank x bank) m.found o.may.1 in
     let room : length rows + 2 ≤ 4_294_967_294 = omega (arith, h.count, o.may.0) in
     let t = damaged-taken m.acks m.cycles m.events (cycles_read r) m.es m.ds rows w bank m.at m.few room o.bounds free o.words value view ok o.only shows in
     let found-long = length-append r.found.items (d ∷ []) in
-    record {
-      count = omega (arith, one, h.count, long);
-      few = omega (arith, ap length cycles, ap length found, h.few, long, found-long);
-      few_acks = omega (arith, ap length acks, h.few_acks, long);
-      short = omega (arith, m.at.short, long);
-      first = λ e. run ∙ h.first (sym last ∙ e);
-      stands = stands-as s.next next.Damaged s.last s.last (cycles_read s) (cycles_read r) s.found.items (r.found.items ++ d ∷ []) _ after refl cycles found
-          (m.es, m.ds ++ d ∷ [], ap (λ (x : List Found). x ++ d ∷ []) m.found ∙ append_assoc (map found_event m.es) m.ds (d ∷ []), t);
-    }
+    read-on r s rows _ h.count h.few h.few_acks one (omega (arith, ap length cycles, ap length found, found-long)) (omega (arith, ap length acks)) m.at.short (λ e. run ∙ h.first (sym last ∙ e))
+    (stands-as s.next next.Damaged s.last s.last (cycles_read s) (cycles_read r) s.found.items (r.found.items ++ d ∷ []) _ after refl cycles found
+    (m.es, m.ds ++ d ∷ [], ap (λ (x : List Found). x ++ d ∷ []) m.found ∙ append_assoc (map found_event m.es) m.ds (d ∷ []), t))
 
 pub damaged-not-read : (r : Reader) (rows : FieldRows) (w value : List ℕ) (bank : ℕ) → HasReadRows r rows → IsOnlyName r w (name.Bank bank) → ((view : BankView) → IsDamagedView view → value ≡ view_words view → ⊥) → IsRefused rows (decimal 0 ∷ w ∷ value ∷ []) (refused.Field 3)
 damaged-not-read r rows w value bank h o never =
@@ -263,20 +219,13 @@ pub cycle-read : (r s : Reader) (rows : FieldRows) (w value : List ℕ) (first :
     → s.rows ≡ r.rows + 1 → map report_of s.run.items ≡ cycles_read r → s.last ≡ Some first → s.acks.items ≡ [] → s.found.items ≡ r.found.items → s.next ≡ r.next → HasReadRows s (rows ++ (decimal 0 ∷ w ∷ value ∷ []) ∷ [])
 cycle-read r s rows w value first h o ok shows one-first one run last acks found after =
     let b = in-run r rows h o.may.1 in
-    let long = count-more rows (decimal 0 ∷ w ∷ value ∷ []) in
     let cycles : cycles_read s ≡ cycles_read r ++ last_cycle (Some first) [] = ap₂ (λ (x y : List Report). x ++ y) run (ap₂ last_cycle last acks) in
     let room : length rows + 2 ≤ 4_294_967_294 = omega (arith, h.count, o.may.0) in
     let t = cycle-taken (may_ack r.last) (cycles_read r) rows w value first b.1 room ok o.words o.only shows one-first in
     let cycles-long = length-append (cycles_read r) (last_cycle (Some first) []) in
     let one-long : length (last_cycle (Some first) []) ≡ 1 = one-cycle first in
-    record {
-      count = omega (arith, one, h.count, long);
-      few = omega (arith, ap length cycles, ap length found, h.few, long, cycles-long, one-long);
-      few_acks = omega (arith, ap length acks, long);
-      short = omega (arith, room, long);
-      first = λ e. absurd (let f : Some first ≡ None = sym last ∙ e in cc);
-      stands = stands-as s.next next.Run s.last (Some first) (cycles_read s) (cycles_read r ++ last_cycle (Some first) []) s.found.items [] _ (after ∙ o.may.1) last cycles (found ∙ b.0) (refl, t);
-    }
+    read-on r s rows _ h.count h.few h.few_acks one (omega (arith, ap length cycles, ap length found, cycles-long, one-long)) (omega (arith, ap length acks)) (omega (arith, room)) (λ e. absurd (let f : Some first ≡ None = sym last ∙ e in cc))
+    (stands-as s.next next.Run s.last (Some first) (cycles_read s) (cycles_read r ++ last_cycle (Some first) []) s.found.items [] _ (after ∙ o.may.1) last cycles (found ∙ b.0) (refl, t))
   where
     one-cycle : (c : CycleRow) → length (last_cycle (Some c) []) ≡ 1
     one-cycle (row.StartStopped j) = refl
@@ -311,7 +260,6 @@ ack-read r s rows w value kind tick applied h o ok shows one run last acks found
     let k : Ack = record { tick = tick; kind = kind; applied = applied } in
     let b = in-cycle r rows h o.may.1 o.may.2 in
     let done = map report_of r.run.items in
-    let long = count-more rows (decimal 0 ∷ w ∷ value ∷ []) in
     let acks-long = length-append r.acks.items (k ∷ []) in
     let last-is : s.last ≡ Some (row.Ran b.0 b.1) = last ∙ b.2 in
     let cycles : cycles_read s ≡ done ++ Ran b.0 b.1 (r.acks.items ++ k ∷ []) ∷ [] = ap₂ (λ (x y : List Report). x ++ y) (ap (map report_of) run) (ap₂ last_cycle last-is acks) in
@@ -321,14 +269,8 @@ ack-read r s rows w value kind tick applied h o ok shows one run last acks found
     (λ y g e. o.only y g (e ∙ ap (λ (x : List Report). name_words (length x) y) (sym b.3))) shows in
     let l1 = length-append done (Ran b.0 b.1 (r.acks.items ++ k ∷ []) ∷ []) in
     let l2 = length-append done (Ran b.0 b.1 r.acks.items ∷ []) in
-    record {
-      count = omega (arith, one, h.count, long);
-      few = omega (arith, ap length cycles, ap length b.3, ap length found, h.few, long, l1, l2);
-      few_acks = omega (arith, ap length acks, acks-long, h.few_acks, long);
-      short = omega (arith, room, long);
-      first = λ e. absurd (let f : Some (row.Ran b.0 b.1) ≡ None = sym last-is ∙ e in cc);
-      stands = stands-as s.next next.Run s.last (Some (row.Ran b.0 b.1)) (cycles_read s) (done ++ Ran b.0 b.1 (r.acks.items ++ k ∷ []) ∷ []) s.found.items [] _ (after ∙ o.may.1) last-is cycles (found ∙ b.4) (refl, t);
-    }
+    read-on r s rows _ h.count h.few h.few_acks one (omega (arith, ap length cycles, ap length b.3, ap length found, l1, l2)) (omega (arith, ap length acks, acks-long)) (omega (arith, room)) (λ e. absurd (let f : Some (row.Ran b.0 b.1) ≡ None = sym last-is ∙ e in cc))
+    (stands-as s.next next.Run s.last (Some (row.Ran b.0 b.1)) (cycles_read s) (done ++ Ran b.0 b.1 (r.acks.items ++ k ∷ []) ∷ []) s.found.items [] _ (after ∙ o.may.1) last-is cycles (found ∙ b.4) (refl, t))
 
 pub ack-not-read : (r : Reader) (rows : FieldRows) (w value : List ℕ) (kind : Kind) (tick : ℕ) → HasReadRows r rows → IsOnlyName r w (name.Ack kind tick) → ((applied : Applied) → IsApplied kind applied → value ≡ applied_words applied → ⊥) → IsRefused rows (decimal 0 ∷ w ∷ value ∷ []) (refused.Field 3)
 ack-not-read r rows w value kind tick h o never =
@@ -430,26 +372,15 @@ module _ (r : Reader) (k : ℕ) (e : ℕ × Record) (block : ℕ) (b w v : List 
       (λ f n g shows. never f (subst (λ (x : List Found). IsNextEvent x f) (sym a.found) n) g (shows ∙ ap (λ (j : ℕ). event_words j f.0 f.1 (get_or lines k Number)) (sym (at-block rows a)))))
 
   -- a line is read
-  line-read : (s : Reader) (p : PartEvent) (rows : FieldRows) → AtLine r k e rows → w ≡ get_or event_names k [] → IsNextEvent r.found.items (event_of p) → take k (event_texts block (event_of p)) ≡ take k (event_texts block e)
-      → v ≡ event_words block p.bank (record_of p) (get_or lines k Number) → ((f : ℕ × Record) → IsNextEvent r.found.items f → EventAgrees k e f → v ≡ event_words block f.0 f.1 (get_or lines k Number) → EventAgrees (k + 1) (event_of p) f)
-      → AddsLine k p r s → HasReadRows s (rows ++ (b ∷ w ∷ v ∷ []) ∷ [])
-  line-read s p rows a named bounds same shows whole-of adds =
+  line-read : (s : Reader) (p : PartEvent) (rows : FieldRows) → AtLine r k e rows → w ≡ get_or event_names k [] → AcceptsPlace k block r.found.items v e (event_of p) → AddsLine k p r s → HasReadRows s (rows ++ (b ∷ w ∷ v ∷ []) ∷ [])
+  line-read s p rows a named t adds =
       subst (λ (x : List ℕ). HasReadRows s (rows ++ (x ∷ w ∷ v ∷ []) ∷ [])) (sym (row-block rows a)) (⊎_elim goes ends (cases_lt (k + 1) 29))
     where
       f : ℕ × Record
       f = event_of p
 
-      bound : IsNextEvent (map found_event a.events) f
-      bound = subst (λ (x : List Found). IsNextEvent x f) a.found bounds
-
-      same-here : take k (event_texts (length a.events + 1) f) ≡ take k (event_texts (length a.events + 1) e)
-      same-here = subst (λ (j : ℕ). take k (event_texts j f) ≡ take k (event_texts j e)) (at-block rows a) same
-
-      shows-here : v ≡ event_words (length a.events + 1) f.0 f.1 (get_or lines k Number)
-      shows-here = subst (λ (j : ℕ). v ≡ event_words j f.0 f.1 (get_or lines k Number)) (at-block rows a) shows
-
-      whole-here : (g : ℕ × Record) → IsNextEvent (map found_event a.events) g → EventAgrees k e g → v ≡ event_words (length a.events + 1) g.0 g.1 (get_or lines k Number) → EventAgrees (k + 1) f g
-      whole-here g n x z = whole-of g (subst (λ (y : List Found). IsNextEvent y g) (sym a.found) n) x (z ∙ ap (λ (j : ℕ). event_words j g.0 g.1 (get_or lines k Number)) (sym (at-block rows a)))
+      here : AcceptsPlace k (length a.events + 1) (map found_event a.events) v e f
+      here = subst (λ (x : List Found). AcceptsPlace k (length a.events + 1) x v e f) a.found (subst (λ (j : ℕ). AcceptsPlace k j r.found.items v e f) (at-block rows a) t)
 
       ok : IsRecord e.1
       ok = (line-bounds r rows k e a).record_bounds
@@ -463,37 +394,24 @@ module _ (r : Reader) (k : ℕ) (e : ℕ × Record) (block : ℕ) (b w v : List 
       long : length now ≡ length rows + 1
       long = count-more rows (decimal (length a.events + 1) ∷ w ∷ v ∷ [])
 
+      on : length (cycles_read s) + length s.found.items ≤ length (cycles_read r) + length r.found.items + 1 → length rows + 1 ≤ 4_294_967_294 → StandsNext s.next s.last (cycles_read s) s.found.items now → HasReadRows s now
+      on more short stands = read-on r s rows (decimal (length a.events + 1) ∷ w ∷ v ∷ []) a.count a.few a.few_acks adds.count more (omega (arith, ap length adds.acks)) short (λ z. adds.run ∙ a.first (sym adds.last ∙ z)) stands
+
       goes : k + 1 < 29 → HasReadRows s now
       goes less =
           let g = adds.goes_on less in
-          let n = line-next k e f (cycles_read r) a.events rows w v a.inside (told-before r rows k e a) bound same-here named shows-here whole-here ok less in
-          record {
-            count = omega (arith, adds.count, a.count, long);
-            few = omega (arith, ap length cycles, ap length g.0, a.few, long);
-            few_acks = omega (arith, ap length adds.acks, a.few_acks, long);
-            short = omega (arith, n.0.short, less);
-            first = λ z. adds.run ∙ a.first (sym adds.last ∙ z);
-            stands = stands-as s.next (next.Line (k + 1) p) s.last s.last (cycles_read s) (cycles_read r) s.found.items r.found.items now g.1 refl cycles g.0 (a.events, a.found, n.0, n.1);
-          }
+          let n = line-next k e f (cycles_read r) a.events rows w v a.inside (told-before r rows k e a) named here ok less in
+          on (omega (arith, ap length cycles, ap length g.0)) (omega (arith, n.0.short, less, long)) (stands-as s.next (next.Line (k + 1) p) s.last s.last (cycles_read s) (cycles_read r) s.found.items r.found.items now g.1 refl cycles g.0 (a.events, a.found, n.0, n.1))
 
       ends : 29 ≤ k + 1 → HasReadRows s now
       ends more =
           let g = adds.ends more in
           let last : k + 1 ≡ 29 = omega (arith, a.inside.within, more) in
-          let n = line-last k e f (cycles_read r) a.events rows w v a.inside (told-before r rows k e a) bound same-here named shows-here whole-here ok last in
+          let n = line-last k e f (cycles_read r) a.events rows w v a.inside (told-before r rows k e a) named here ok last in
           let found-long = length-append r.found.items (found_event f ∷ []) in
-          record {
-            count = omega (arith, adds.count, a.count, long);
-            few = omega (arith, ap length cycles, ap length g.0, a.few, long, found-long);
-            few_acks = omega (arith, ap length adds.acks, a.few_acks, long);
-            short = omega (arith, n.short);
-            first = λ z. adds.run ∙ a.first (sym adds.last ∙ z);
-            stands = stands-as s.next next.Events s.last s.last (cycles_read s) (cycles_read r) s.found.items (r.found.items ++ found_event f ∷ []) now g.1 refl cycles g.0
-                (a.events ++ f ∷ [], ap (λ (x : List Found). x ++ found_event f ∷ []) a.found ∙ sym (found-last a.events f), n);
-          }
+          on (omega (arith, ap length cycles, ap length g.0, found-long)) (omega (arith, n.short, long))
+          (stands-as s.next next.Events s.last s.last (cycles_read s) (cycles_read r) s.found.items (r.found.items ++ found_event f ∷ []) now g.1 refl cycles g.0 (a.events ++ f ∷ [], ap (λ (x : List Found). x ++ found_event f ∷ []) a.found ∙ sym (found-last a.events f), n))
 
-  pub line-result : (s : Reader) (p : PartEvent) (res : Result Unit Refused) → w ≡ get_or event_names k [] → IsNextEvent r.found.items (event_of p) → take k (event_texts block (event_of p)) ≡ take k (event_texts block e)
-      → v ≡ event_words block p.bank (record_of p) (get_or lines k Number) → ((f : ℕ × Record) → IsNextEvent r.found.items f → EventAgrees k e f → v ≡ event_words block f.0 f.1 (get_or lines k Number) → EventAgrees (k + 1) (event_of p) f)
-      → OnOk res (AddsLine k p r s) → IfErr res (λ x. x ≡ refused.OutOfMemory) → TakesLine k e r s (b ∷ w ∷ v ∷ []) res
-  line-result s p (Ok u) named bounds same shows whole-of adds m = λ rows a. line-read s p rows a named bounds same shows whole-of adds
-  line-result s p (Err x) named bounds same shows whole-of adds m = λ rows a. rw m tt
+  pub line-result : (s : Reader) (p : PartEvent) (res : Result Unit Refused) → w ≡ get_or event_names k [] → AcceptsPlace k block r.found.items v e (event_of p) → OnOk res (AddsLine k p r s) → IfErr res (λ x. x ≡ refused.OutOfMemory) → TakesLine k e r s (b ∷ w ∷ v ∷ []) res
+  line-result s p (Ok u) named t adds m = λ rows a. line-read s p rows a named t adds
+  line-result s p (Err x) named t adds m = λ rows a. rw m tt

@@ -15,7 +15,7 @@ use Rattle.edr_reading.specs.declared.told.CycleRow.TheVariants as row
 use Rattle.edr_reading.specs.Rows.{FieldRows, event_fields, line_fields}
 use Rattle.edr_reading.specs.Run.{ack_fields, cycle_fields, run_fields, row_of, acks_of}
 use Rattle.edr_reading.specs.Found.{IsDamaged, events_fields, damaged_fields, count_fields}
-use Rattle.edr_reading.specs.Reading.{AreDistinct, head_row, report_rows}
+use Rattle.edr_reading.specs.Reading.{AreDistinct, IsReading, head_row, report_rows}
 use Rattle.edr_reading.specs.Reader.{IsToldReport, whole}
 use Rattle.edr_reading.specs.Faults.{AreReport}
 use Rattle.edr_reading.proofs.ReadingLemmas.{report-parts}
@@ -65,11 +65,18 @@ whole-parts reports es ds n h =
     ap (λ (x : FieldRows). head_row ∷ x) (append_assoc run (events ++ damaged) last ∙ ap (λ (x : FieldRows). run ++ x) (append_assoc events damaged last))
     ∙ sym (report-parts reports es ds n h)
 
+-- a report of what it may tell
+pub told-reading : (reports : List Report) (es : List (ℕ × Record)) (ds : List Found) (n : ℕ) (rows : FieldRows) → IsToldReport reports es ds → rows ≡ whole reports es ds ++ count_fields n ∷ [] → length rows ≤ 4_294_967_294
+    → (rows ≡ report_rows reports (map found_event es ++ ds) n) × IsReading reports (map found_event es ++ ds) n
+told-reading reports es ds n rows h is short =
+    let e = is ∙ whole-parts reports es ds n h.damaged in
+    (e, record { run = h.run; found = (es, ds, refl, h.events, h.damaged); distinct = h.distinct; short = omega (arith, short, ap length e) })
+
 pub told-report : (reports : List Report) (es : List (ℕ × Record)) (ds : List Found) (n : ℕ) → IsToldReport reports es ds → length (whole reports es ds) + 1 ≤ 4_294_967_294 → AreReport (whole reports es ds ++ count_fields n ∷ [])
 told-report reports es ds n h short =
-    let e = whole-parts reports es ds n h.damaged in
     let l = length-append (whole reports es ds) (count_fields n ∷ []) in
-    (reports, map found_event es ++ ds, n, record { run = h.run; found = (es, ds, refl, h.events, h.damaged); distinct = h.distinct; short = omega (arith, short, l, ap length e) }, e)
+    let t = told-reading reports es ds n (whole reports es ds ++ count_fields n ∷ []) h refl (omega (arith, short, l)) in
+    (reports, map found_event es ++ ds, n, t.1, t.0)
 
 pub report-told : (rows : FieldRows) → AreReport rows → (reports : List Report) × (es : List (ℕ × Record)) × (ds : List Found) × (n : ℕ) × IsToldReport reports es ds × (rows ≡ whole reports es ds ++ count_fields n ∷ []) × (length rows ≤ 4_294_967_294)
 report-told rows a =

@@ -49,10 +49,7 @@ pub record MayFollow (has_acks has_cycles has_events : Bool) (cycles block : ℕ
   pub events : List (ℕ × Record)
   pub damaged : List Found
   pub count : ℕ
-  pub acks_bounds : All IsAck acks
-  pub reports_bounds : All IsReport reports
-  pub events_bounds : All IsEvent events
-  pub damaged_bounds : All IsDamaged damaged
+  pub bounds : All IsAck acks × All IsReport reports × All IsEvent events × All IsDamaged damaged
   pub no_acks : has_acks ≡ false → acks ≡ []
   pub no_reports : has_cycles ≡ false → reports ≡ []
   pub no_events : has_events ≡ false → events ≡ []

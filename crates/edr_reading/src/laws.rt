@@ -31,6 +31,6 @@ pub fn a_fault_is_of_no_report()
 pub fn an_event_has_29_rows()
     ensures rows { EVENT_ROWS ≡ 29 }
     ensures event { (block bank : ℕ) (r : Record) → length (event_fields block bank r) ≡ EVENT_ROWS }
-    ensures before { (pre : PrePart) (is_locked : Bool) → length (pre_texts pre is_locked) ≡ 11 }
-    ensures after { (crash : Option CrashPart) → IfSome crash IsCrash → length (crash_texts crash) ≡ 15 }
+    ensures before { (p : PrePart) (is_locked : Bool) → length (pre_texts p is_locked) ≡ 11 }
+    ensures after { (c : Option CrashPart) → IfSome c IsCrash → length (crash_texts c) ≡ 15 }
 {}

@@ -5,10 +5,7 @@ use Rattle.edr_reading.proofs.ToldLemmas.{no-row, start-whole}
 use Rattle.edr_reading.proofs.told.cycle_value.Goals as goal
 
 pub returns-in-Some : goal.returns-in-Some
-returns-in-Some c = record {
-  read = search rules;
-  whole = λ r h is. start-whole c.args.value.now c.in-Some.call r c.in-Some.ensures.whole c.in-Some.ensures.read.0 h is;
-}
+returns-in-Some c = record { read = search rules; whole = λ r h is. start-whole c.args.value.now c.in-Some.call r c.in-Some.ensures.whole c.in-Some.ensures.read.0 h is }
 
 pub returns-in_err-number : goal.returns-in_err-number
 returns-in_err-number c =

@@ -18,7 +18,4 @@ no-other cycles bytes kind tick small read whole (name.Bank b) h e = let first :
 no-other cycles bytes kind tick small read whole name.Count h e = let first : 99 ≡ 105 = ap (λ (l : List ℕ). slice_index_or l 0 0) (sym read ∙ e) in absurd (omega (arith, first))
 
 pub returns-in-Some-ack : goal.returns-in-Some-ack
-returns-in-Some-ack c = record {
-  read = search rules;
-  whole = no-other c.args.cycles c.args.name.now c.in-Some-ack.kind c.in-Some-ack.tick (omega (arith, c.requires)) c.in-Some-ack.ensures.read.0 c.in-Some-ack.ensures.whole;
-}
+returns-in-Some-ack c = record { read = search rules; whole = no-other c.args.cycles c.args.name.now c.in-Some-ack.kind c.in-Some-ack.tick (omega (arith, c.requires)) c.in-Some-ack.ensures.read.0 c.in-Some-ack.ensures.whole }

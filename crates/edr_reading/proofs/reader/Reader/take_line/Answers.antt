@@ -1,8 +1,10 @@
-use Rattle.std.proofs.Common.{◌≡◌, ◌∙◌, sym, ap, subst, refl, ℕ, ◌+◌, ◌<◌, List, get_or, length, take}
+use Rattle.std.proofs.Common.{◌≡◌, ◌∙◌, sym, ap, subst, refl, ℕ, ◌+◌, ◌<◌, List, get_or, length, Some}
 use Rattle.edr_image.specs.declared.Found.{Found}
 use Rattle.edr_report.specs.EventWords.{event_words}
 use Rattle.edr_report.specs.declared.event_lines.EventLine.TheVariants.{Number}
-use Rattle.edr_reading.specs.Event.{EventAgrees, IsNextEvent, event_of, event_place, event_texts, record_of}
+use Rattle.edr_report.specs.declared.event_lines.EventLine.{EventLine}
+use Rattle.edr_reading.specs.Event.{AcceptsEventLine, EventAgrees, IsNextEvent, event_of, event_place}
+use Rattle.edr_reading.proofs.LineLemmas.{at-place}
 use Rattle.edr_reading.proofs.ReadLemmas.{line-bounds, line-name-refused, line-value-refused, line-result}
 use Rattle.edr_reading.proofs.RowLemmas.{line-place, lines}
 use Rattle.edr_reading.proofs.reader.Reader.take_line.Goals as goal
@@ -32,17 +34,12 @@ returns-in_default c rows a =
 pub returns : goal.returns
 returns c =
     let row = c.args.row.now in
-    let e = event_of c.args.event.now in
-    let a = c.requires.read in
+    let old = c.args.event.now in
+    let found = c.args.self.now.found.items in
     let named = c.if-not-is_word.ensures ∙ c.as_bytes.ensures.value ∙ c.line_at-what.ensures.name in
-    let small : c.args.line < 29 = a.1.inside.within in
     let what : c.line_at-what.result.1 ≡ get_or lines c.args.line Number = c.line_at-what.ensures.line in
-    let place : event_place c.line_at-what.result.1 ≡ c.args.line = ap event_place what ∙ line-place c.args.line small in
     let p = c.in-Some.event in
-    let found-is = c.deref.ensures.value in
-    line-result c.args.self.now c.args.line e c.block.result row.block.now row.name.now row.value.now c.block.ensures c.requires.block _ p _ named
-    (subst (λ (x : List Found). IsNextEvent x (event_of p)) found-is c.in-Some.ensures.bounds)
-    (subst (λ (k : ℕ). take k (event_texts c.block.result (event_of p)) ≡ take k (event_texts c.block.result e)) place c.in-Some.ensures.earlier)
-    (c.in-Some.ensures.shows ∙ ap (event_words c.block.result p.bank (record_of p)) what)
-    (λ f n g shows. subst (λ (k : ℕ). EventAgrees (k + 1) (event_of p) f) place (c.in-Some.ensures.whole f (subst (λ (x : List Found). IsNextEvent x f) (sym found-is) n) (subst (λ (k : ℕ). EventAgrees k e f) (sym place) g) (shows ∙ ap (event_words c.block.result f.0 f.1) (sym what))))
-    c.add_line.ensures.added c.add_line.ensures.memory
+    let here = subst (λ (x : List Found). AcceptsEventLine c.block.result x c.line_at-what.result.1 row.value.now old (Some p)) c.deref.ensures.value c.in-Some.ensures in
+    let line = subst (λ (x : EventLine). AcceptsEventLine c.block.result found x row.value.now old (Some p)) what here in
+    line-result c.args.self.now c.args.line (event_of old) c.block.result row.block.now row.name.now row.value.now c.block.ensures c.requires.block _ p _ named
+    (at-place c.args.line c.block.result found row.value.now old p c.requires.read.1.inside.within line) c.add_line.ensures.added c.add_line.ensures.memory
