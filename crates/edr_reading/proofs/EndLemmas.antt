@@ -1,6 +1,6 @@
 -- Where a text can be no report, and what was read of one that is.
 use Rattle.std.proofs.Common.{arith, ◌≡◌, ◌∙◌, sym, ap, subst, refl, ℕ, ◌+◌, ◌<◌, ◌≤◌, List, [], ◌∷◌, ◌++◌, map, length, take, drop, get_or, decimal, Option, None, Bool, true, false, Result, Ok, Err}
-use Rattle.std.proofs.lemmas.List.{append-nil, drop_more, take_more}
+use Rattle.std.proofs.lemmas.List.{append-nil, drop_more, get_or-map, length-map, take_more}
 use Rattle.std.proofs.Math.Seq.{take-length}
 use Rattle.edr_image.specs.declared.Found.{Found}
 use Rattle.edr_image.specs.Banks.{found_event}
@@ -85,6 +85,10 @@ end-read r records n run found h e runs founds =
     let t = told-reading (cycles_read r) s.0 s.1 n records s.3 s.4 s.5 in
     subst (λ (x : List Report). (records ≡ report_rows x found n) × IsReading x found n) (sym runs)
     (subst (λ (x : List Found). (records ≡ report_rows (cycles_read r) x n) × IsReading (cycles_read r) x n) (sym (founds ∙ s.2)) t)
+
+-- the record in this place, by its fields
+pub record-at : {X : Type 0} (f : X → List (List ℕ)) (xs : List X) (i : ℕ) (x : X) → i < length xs → x ≡ get_or xs i x → (i < length (map f xs)) × (get_or (map f xs) i [] ≡ f x)
+record-at f xs i x less is = let long = length-map xs f in (omega (arith, less, long), get_or-map f xs i x [] less ∙ ap f (sym is))
 
 -- one record more
 pub read-more : (r : Reader) (records : FieldRows) (i : ℕ) (row : List (List ℕ)) → i < length records → row ≡ get_or records i [] → HasReadRows r (take i records ++ row ∷ []) → HasReadRows r (take (i + 1) records)

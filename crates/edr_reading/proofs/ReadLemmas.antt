@@ -33,7 +33,7 @@ use Rattle.edr_reading.specs.declared.reader.Refused.TheVariants as refused
 use Rattle.edr_reading.specs.Event.{EventAgrees, HasNoBank, IsNextEvent, event_of}
 use Rattle.edr_reading.specs.Faults.{ReportGoesOn}
 use Rattle.edr_reading.specs.Found.{IsEvent, banks_in}
-use Rattle.edr_reading.specs.Reader.{AddsLine, AtLine, HasReadRows, IsBetween, IsOnlyName, IsRefused, IsToldReport, MayBegin, MayHaveEvent, MayTell, StandsNext, Takes, TakesLine, cycles_read, last_cycle, may_ack}
+use Rattle.edr_reading.specs.Reader.{AddsLine, AtLine, HasReadRows, IsBetween, IsInside, IsOnlyName, IsRefused, IsToldReport, MayBegin, MayHaveEvent, MayTell, StandsNext, Takes, TakesLine, cycles_read, last_cycle, may_ack}
 use Rattle.edr_reading.specs.Reading.{AreDistinct, head_row}
 use Rattle.edr_reading.specs.Rows.{FieldRows, event_names}
 use Rattle.edr_reading.specs.Told.{IsCycleRow, IsToldName, cycle_line, name_words}
@@ -303,53 +303,42 @@ line-block-refused r rows k p b w v h e other =
 pub first-at : (r : Reader) (rows : FieldRows) (e : ℕ × Record) → HasReadRows r rows → MayHaveEvent r → IsBank e.0 → HasNoBank r.found.items e.0 → IsRecord e.1 → AtLine r 0 e rows
 first-at r rows e h m bank free ok = ⊎_elim
     (λ run. let s = in-run r rows h run in
-    record {
-      count = h.count;
-      few = h.few;
-      few_acks = h.few_acks;
-      first = h.first;
-      events = [];
-      found = s.0;
-      inside = first-line (may_ack r.last) true (cycles_read r) [] rows e s.1 (omega arith) (record { bank = bank; alone = subst (λ (x : List Found). HasNoBank x e.0) s.0 free; record_bounds = ok }) (omega (arith, h.count, m.1));
-    })
+    at [] s.0 (first-line (may_ack r.last) true (cycles_read r) [] rows e s.1 (omega arith) (event-next [] s.0) room))
     (λ events. let s = subst (λ (n : NextRow). StandsNext n r.last (cycles_read r) r.found.items rows) events h.stands in
-    let found-is : r.found.items ≡ map found_event s.0 ++ [] = s.1 ∙ sym (append-nil (map found_event s.0)) in
-    record {
-      count = h.count;
-      few = h.few;
-      few_acks = h.few_acks;
-      first = h.first;
-      events = s.0;
-      found = s.1;
-      inside = first-line false false (cycles_read r) s.0 rows e s.2 (few-events r rows s.0 [] h found-is) (record { bank = bank; alone = subst (λ (x : List Found). HasNoBank x e.0) s.1 free; record_bounds = ok }) (omega (arith, h.count, m.1));
-    })
+    at s.0 s.1 (first-line false false (cycles_read r) s.0 rows e s.2 (few-events r rows s.0 [] h (s.1 ∙ sym (append-nil (map found_event s.0)))) (event-next s.0 s.1) room))
     m.0
+  where
+    at : (es : List (ℕ × Record)) → r.found.items ≡ map found_event es → IsInside 0 e (cycles_read r) es rows → AtLine r 0 e rows
+    at es found inside = record { count = h.count; few = h.few; few_acks = h.few_acks; first = h.first; events = es; found = found; inside = inside }
+
+    event-next : (es : List (ℕ × Record)) → r.found.items ≡ map found_event es → IsNextEvent (map found_event es) e
+    event-next es found = record { bank = bank; alone = subst (λ (x : List Found). HasNoBank x e.0) found free; record_bounds = ok }
+
+    room : length rows + 30 ≤ 4_294_967_294
+    room = omega (arith, h.count, m.1)
 
 pub line-takes : (k : ℕ) (e : ℕ × Record) (old new : Reader) (row : List (List ℕ)) (res : Result Unit Refused) → TakesLine k e old new row res → ((rows : FieldRows) → HasReadRows old rows → AtLine old k e rows) → Takes old new row res
 line-takes k e old new row (Ok u) t a = λ rows h. t rows (a rows h)
 line-takes k e old new row (Err x) t a = λ rows h. t rows (a rows h)
 
+-- the banks told so far and its own are distinct
+line-banks : (r : Reader) (rows : FieldRows) (k : ℕ) (e : ℕ × Record) (a : AtLine r k e rows) → IsDistinct eqb (banks_in (map found_event a.events) ++ e.0 ∷ [])
+line-banks r rows k e a = subst (IsDistinct eqb) (banks-more a.events e) (subst AreDistinct (append-nil (map found_event (a.events ++ e ∷ []))) a.inside.told.distinct)
+
 -- the bounds of the event so far
 pub line-bounds : (r : Reader) (rows : FieldRows) (k : ℕ) (e : ℕ × Record) → AtLine r k e rows → IsNextEvent r.found.items e
 line-bounds r rows k e a =
-    let i = a.inside in
-    let bounds = at-end IsEvent a.events e i.told.events in
-    let distinct : IsDistinct eqb (banks_in (map found_event a.events) ++ e.0 ∷ []) = subst (IsDistinct eqb) (banks-more a.events e) (subst AreDistinct (append-nil (map found_event (a.events ++ e ∷ []))) i.told.distinct) in
-    record {
-      bank = bounds.0;
-      alone = subst (λ (x : List Found). HasNoBank x e.0) (sym a.found) (alone (map found_event a.events) e.0 [] distinct);
-      record_bounds = bounds.1;
-    }
+    let bounds = at-end IsEvent a.events e a.inside.told.events in
+    record { bank = bounds.0; alone = subst (λ (x : List Found). HasNoBank x e.0) (sym a.found) (alone (map found_event a.events) e.0 [] (line-banks r rows k e a)); record_bounds = bounds.1 }
 
 told-before : (r : Reader) (rows : FieldRows) (k : ℕ) (e : ℕ × Record) (a : AtLine r k e rows) → IsToldReport (cycles_read r) a.events []
 told-before r rows k e a =
     let i = a.inside in
-    let distinct : IsDistinct eqb (banks_in (map found_event a.events) ++ e.0 ∷ []) = subst (IsDistinct eqb) (banks-more a.events e) (subst AreDistinct (append-nil (map found_event (a.events ++ e ∷ []))) i.told.distinct) in
     record {
       run = i.told.run;
       events = All-front IsEvent a.events (e ∷ []) i.told.events;
       damaged = i.told.damaged;
-      distinct = subst AreDistinct (sym (append-nil (map found_event a.events))) (distinct-front (banks_in (map found_event a.events)) (e.0 ∷ []) distinct);
+      distinct = subst AreDistinct (sym (append-nil (map found_event a.events))) (distinct-front (banks_in (map found_event a.events)) (e.0 ∷ []) (line-banks r rows k e a));
     }
 
 module _ (r : Reader) (k : ℕ) (e : ℕ × Record) (block : ℕ) (b w v : List ℕ) (block-is : block ≡ length r.found.items + 1) (row-is : b ≡ decimal (length r.found.items + 1)) where
