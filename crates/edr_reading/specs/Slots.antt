@@ -24,7 +24,7 @@ space_at (suc n) = 32 ∷ []
 abbrev pub ShowSlots : {A : Type 0} → (A → List ℕ) → (A → Type 0) → List ℕ → List A → Type 0
 ShowSlots words ok bytes xs = (bytes ≡ spaced_words (map words xs)) × All ok xs
 
--- slots were read in the place of as many others, and each as many that the bytes show are
+-- as many slots were read as stood there, where the bytes show as many; they are those that the bytes show
 pub record ReadsSlots {A : Type 0} (words : A → List ℕ) (ok : A → Type 0) (bytes : List ℕ) (old new : List A) (is_read : Bool) : Type 0 where
   pub long : length new ≡ length old
   pub read : is_read ≡ true → ShowSlots words ok bytes new

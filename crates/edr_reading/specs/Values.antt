@@ -26,7 +26,7 @@ IsStopCall s = IfSome s (λ call. (1 ≤ call) × (call ≤ 4_294_967_295))
 abbrev pub IsRan : ℕ → Option ℕ → Type 0
 IsRan n stop = (1 ≤ n) × (n ≤ 4_294_967_295) × IsStopCall stop
 
--- a place in a crash of which there are as many events as with this one
+-- a place in a crash that has as many events as the crash of this one
 abbrev pub IsPlaceLike : Place → Place → Type 0
 IsPlaceLike p q = (events_in_crash q ≡ events_in_crash p) × IsPlace q
 
