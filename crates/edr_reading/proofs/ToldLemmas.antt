@@ -8,12 +8,12 @@ use Rattle.edr_report.specs.Words.{cycle_words, ack_words, kind_word}
 use Rattle.edr_reading.proofs.FrontLemmas.{first-digit, numeral-digits}
 use Rattle.edr_reading.specs.declared.told.CycleRow.{CycleRow}
 use Rattle.edr_reading.specs.declared.told.CycleRow.TheVariants.{StartStopped, Ran}
-use Rattle.edr_reading.specs.Front.{IsWithin}
+use Rattle.edr_reading.specs.Front.{IsFromTo}
 use Rattle.edr_reading.specs.Told.{cycle_line, row_words, IsCycleRow}
 use Rattle.edr_reading.specs.Values.{IsRan, ran_words, start_words}
 
 -- a value that tells of a stopped start tells of no other cycle
-pub start-whole : (bytes : List ℕ) (call : ℕ) (r : CycleRow) → ((j : ℕ) → IsWithin 1 6 j → bytes ≡ start_words j → Some call ≡ Some j) → bytes ≡ start_words call → IsCycleRow r → bytes ≡ (cycle_line 1 r).value
+pub start-whole : (bytes : List ℕ) (call : ℕ) (r : CycleRow) → ((j : ℕ) → IsFromTo 1 6 j → bytes ≡ start_words j → Some call ≡ Some j) → bytes ≡ start_words call → IsCycleRow r → bytes ≡ (cycle_line 1 r).value
     → Some (StartStopped call) ≡ Some r
 start-whole bytes call (StartStopped j) whole read h is = let e = whole j h is in cc
 start-whole bytes call (Ran n stop) whole read h is =
@@ -21,7 +21,7 @@ start-whole bytes call (Ran n stop) whole read h is =
     absurd (omega (arith, first))
 
 -- where the bytes are neither, they tell of no cycle
-pub no-row : (bytes : List ℕ) (r : CycleRow) → ((j : ℕ) → IsWithin 1 6 j → bytes ≡ start_words j → ⊥) → ((n : ℕ) (s : Option ℕ) → IsRan n s → bytes ≡ ran_words n s → ⊥) → IsCycleRow r → bytes ≡ row_words r → ⊥
+pub no-row : (bytes : List ℕ) (r : CycleRow) → ((j : ℕ) → IsFromTo 1 6 j → bytes ≡ start_words j → ⊥) → ((n : ℕ) (s : Option ℕ) → IsRan n s → bytes ≡ ran_words n s → ⊥) → IsCycleRow r → bytes ≡ row_words r → ⊥
 no-row bytes (StartStopped j) start ran h is = start j h is
 no-row bytes (Ran n s) start ran h is = ran n s h is
 

@@ -5,7 +5,7 @@ use Rattle.std.specs.Option.{IfSome}
 use Rattle.edr_record.specs.Bounds.{IsUpTo, IsChange}
 use Rattle.edr_report.specs.Words.{firing_words, stop_words, missing_words, damage_words, yes_no}
 use Rattle.edr_reading.specs.Answers.{ReadsTwo}
-use Rattle.edr_reading.specs.Front.{AreUpTo, IsWithin, two_numbers}
+use Rattle.edr_reading.specs.Front.{AreUpTo, IsFromTo, two_numbers}
 use Rattle.edr_reading.specs.Values.{IsStopCall}
 use Rattle.edr_reading.proofs.FrontLemmas.{not-number}
 
@@ -24,7 +24,7 @@ minus-change bytes digits more (negsuc k) h e f = let s : 45 ∷ digits ≡ 45 �
     tail-is e = cc
 
 -- where the bytes are not those of a cycle that went on to its end, they tell of its stop
-pub stop-whole : (bytes : List ℕ) (r s : Option ℕ) → (bytes ≡ codes ", power off" → ⊥) → ((k : ℕ) → IsWithin 1 4_294_967_295 k → bytes ≡ codes ", stopped in call " ++ decimal k → r ≡ Some k) → IsStopCall s → bytes ≡ codes ", " ++ stop_words s
+pub stop-whole : (bytes : List ℕ) (r s : Option ℕ) → (bytes ≡ codes ", power off" → ⊥) → ((k : ℕ) → IsFromTo 1 4_294_967_295 k → bytes ≡ codes ", stopped in call " ++ decimal k → r ≡ Some k) → IsStopCall s → bytes ≡ codes ", " ++ stop_words s
     → option_map Some r ≡ Some s
 stop-whole bytes r None other whole h is = absurd (other is)
 stop-whole bytes r (Some k) other whole h is = ap (option_map Some) (whole k h is)

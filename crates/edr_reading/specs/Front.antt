@@ -30,8 +30,8 @@ abbrev pub ReadsAs : ℕ → ℤ → List ℕ → Option (ℤ × Bor (List ℕ))
 ReadsAs n z bytes result = (more : List ℕ) → EndsNumber more → bytes ≡ decimal n ++ more → GivesValue z more result
 
 -- a number from low to high, and one of 32 bits
-abbrev pub IsWithin : ℕ → ℕ → ℕ → Type 0
-IsWithin low high n = (low ≤ n) × (n ≤ high)
+abbrev pub IsFromTo : ℕ → ℕ → ℕ → Type 0
+IsFromTo low high n = (low ≤ n) × (n ≤ high)
 
 abbrev pub IsWord : ℕ → Type 0
 IsWord n = n < 2 ^ 32

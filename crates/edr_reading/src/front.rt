@@ -4,7 +4,7 @@ ghost use Rattle.std.specs.Prelude.{◌≡◌, ◌≤◌, ◌++◌, true, ℕ, L
 ghost use Rattle.std.specs.Bool.{MatchBool};
 ghost use Rattle.std.specs.List.{list_all};
 ghost use Rattle.edr_text.specs.Numbers.{is_digit};
-ghost use Rattle.edr_reading.specs.Front.{EndsNumber, ReadsBehind, ReadsFront, two_numbers, AreUpTo, AreWords, IsWithin, IsWord, number_after, number_between};
+ghost use Rattle.edr_reading.specs.Front.{EndsNumber, ReadsBehind, ReadsFront, two_numbers, AreUpTo, AreWords, IsFromTo, IsWord, number_after, number_between};
 ghost use Rattle.edr_reading.specs.Answers.{Leaves, Reads, ReadsTwo};
 
 use edr_text::read_u32;
@@ -95,7 +95,7 @@ pub(crate) fn two_numbers(
 
 /// The same, where it is `low` to `high`.
 pub(crate) fn last_within(bytes: &[u8], front: &[u8], low: u32, high: u32) -> Option<u32>
-    ensures { Reads (number_after front.now) (IsWithin low high) bytes.now result }
+    ensures { Reads (number_after front.now) (IsFromTo low high) bytes.now result }
 {
     match last_number(bytes, front) {
         Some(n) if low <= n && n <= high => Some(n),
@@ -110,7 +110,7 @@ pub(crate) fn within_behind<'a>(
     low: u32,
     high: u32,
 ) -> Option<(u32, &'a [u8])>
-    ensures { ReadsBehind front.now decimal (IsWithin low high) bytes.now result }
+    ensures { ReadsBehind front.now decimal (IsFromTo low high) bytes.now result }
 {
     match number_behind(bytes, front) {
         Some((n, rest)) if low <= n && n <= high => Some((n, rest)),

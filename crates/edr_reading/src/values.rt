@@ -6,7 +6,7 @@ ghost use Rattle.edr_record.specs.declared.TheConstants.{EARLIEST_END, GREATEST_
 ghost use Rattle.edr_record.specs.Bounds.{IsChange, IsExtreme, IsPlace, IsUpTo};
 ghost use Rattle.edr_report.specs.declared.TheConstants.{LARGEST_SHOWN_COUNT};
 ghost use Rattle.edr_report.specs.Words.{applied_words, yes_no, profile_word, switch_or_none, milliseconds, firing_words, number_shown, shown_count, events_in_crash, extreme_words, missing_words, ack_words, seconds, tenths_of};
-ghost use Rattle.edr_reading.specs.Front.{ReadsFront, AreUpTo, IsChangeFront, IsWithin, ReadsAs, number_after};
+ghost use Rattle.edr_reading.specs.Front.{ReadsFront, AreUpTo, IsChangeFront, IsFromTo, ReadsAs, number_after};
 ghost use Rattle.edr_reading.specs.Values.{IsBank, IsStopCall, IsApplied, IsTick, done_in, byte_words, command_words, ran_words, IsPlaceLike, IsRan, ReadsPlace, ShowsDamage, end_words, lock_words, start_words};
 ghost use Rattle.edr_reading.specs.Answers.{Reads, ReadsTwo};
 
@@ -39,7 +39,7 @@ pub(crate) fn count(bytes: &[u8], low: u32) -> Option<u32>
 
 /// A time of `low` to `high` milliseconds.
 pub(crate) fn time(bytes: &[u8], low: u32, high: u32) -> Option<u32>
-    ensures { Reads milliseconds (IsWithin low high) bytes.now result }
+    ensures { Reads milliseconds (IsFromTo low high) bytes.now result }
 {
     match one_number(bytes, b"", b" ms") {
         Some(t) if low <= t && t <= high => Some(t),
@@ -49,7 +49,7 @@ pub(crate) fn time(bytes: &[u8], low: u32, high: u32) -> Option<u32>
 
 /// How long after its time zero an event ended.
 pub(crate) fn end_time(bytes: &[u8]) -> Option<u16>
-    ensures { Reads milliseconds (IsWithin EARLIEST_END RESET) bytes.now result }
+    ensures { Reads milliseconds (IsFromTo EARLIEST_END RESET) bytes.now result }
 {
     let end = time(bytes, u32::from(EARLIEST_END), u32::from(RESET))?;
     Some(end as u16)
@@ -163,7 +163,7 @@ pub(crate) fn missing(bytes: &[u8], window: u16) -> Option<(u32, u32)>
 
 // Tenths of a second, up to 5 s.
 fn tenths(bytes: &[u8]) -> Option<u32>
-    ensures { Reads seconds (IsWithin 0 50) bytes.now result }
+    ensures { Reads seconds (IsFromTo 0 50) bytes.now result }
 {
     match two_numbers(bytes, b"", b".", b" s") {
         Some((whole, tenth)) if whole <= 5 && tenth <= 9 && 10 * whole + tenth <= 50 => {
@@ -262,7 +262,7 @@ pub(crate) fn damage(bytes: &[u8]) -> Option<DamageShown>
 
 /// In which call a start was stopped.
 pub(crate) fn start_call(bytes: &[u8]) -> Option<u32>
-    ensures { Reads start_words (IsWithin 1 6) bytes.now result }
+    ensures { Reads start_words (IsFromTo 1 6) bytes.now result }
 {
     last_within(bytes, b"start stopped in call ", 1, 6)
 }
