@@ -4,7 +4,8 @@ use Rattle.std.specs.List.{range_with_len}
 use Rattle.std.proofs.lemmas.List.{get_or-map}
 use Rattle.std.proofs.lemmas.List.FromFn.{get_or-range_with_len}
 use Rattle.edr_items.specs.declared.Sensor.TheVariants.{Along}
-use Rattle.edr_items.specs.PerSlowSensor.{EachSlow, slow_sensors}
+use Rattle.edr_items.specs.Sensor.{slow_sensors}
+use Rattle.edr_items.specs.PerSlowSensor.{EachSlow}
 use Rattle.edr_items.proofs.PerSlowSensorLemmas.{slow-listed, slow_at-by}
 use Rattle.edr_board.specs.declared.freeze_view.TheConstants.{FREEZE_WORDS}
 use Rattle.edr_board.specs.FreezeSeats.{marks_from, AllReach}

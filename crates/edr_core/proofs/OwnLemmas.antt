@@ -7,8 +7,8 @@ use Rattle.std.proofs.lemmas.List.Elements.{All-nil, All-cons, All-head, All-tai
 use Rattle.edr_items.specs.declared.Sensor.{Sensor}
 use Rattle.edr_items.specs.declared.Item.{Item}
 use Rattle.edr_items.specs.Item.{mark_of}
-use Rattle.edr_items.specs.Sensor.{IsSlow}
-use Rattle.edr_items.specs.PerSlowSensor.{slow_sensors, slow_at}
+use Rattle.edr_items.specs.Sensor.{slow_sensors, IsSlow}
+use Rattle.edr_items.specs.PerSlowSensor.{slow_at}
 use Rattle.edr_items.specs.SensorLists.{SensorLists, no_items, items_of}
 use Rattle.edr_items.proofs.PerSensorLemmas.{value_of-each}
 use Rattle.edr_items.proofs.PerSlowSensorLemmas.{AreApart, slow-apart, value_of-slow, slow_at-each}

@@ -1,7 +1,7 @@
 -- The parts that a core has of its own for the time zeros that it comes to.
 use Rattle.std.specs.Prelude.{◌≡◌, ℕ, ◌+◌, ◌≤◌, true, false, List, [], ◌∷◌, All}
 use Rattle.edr_items.specs.declared.Sensor.{Sensor}
-use Rattle.edr_items.specs.PerSlowSensor.{slow_sensors}
+use Rattle.edr_items.specs.Sensor.{slow_sensors}
 use Rattle.edr_items.specs.SensorLists.{SensorLists, items_of}
 use Rattle.edr_definitions.specs.Schedule.{Progress}
 use Rattle.edr_capture.specs.SensorPart.{SensorPart, part}

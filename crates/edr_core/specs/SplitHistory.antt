@@ -3,7 +3,7 @@ use Rattle.std.specs.Prelude.{ℕ, ◌+◌, Bool, false, if◌then◌else◌, Op
 use Rattle.std.specs.Option.{option_map_or}
 use Rattle.edr_items.specs.declared.Sensor.{Sensor}
 use Rattle.edr_items.specs.declared.Item.{Item}
-use Rattle.edr_items.specs.PerSlowSensor.{slow_sensors}
+use Rattle.edr_items.specs.Sensor.{slow_sensors}
 use Rattle.edr_items.specs.SensorLists.{no_items}
 use Rattle.edr_definitions.specs.Signals.{signals_of}
 use Rattle.edr_definitions.specs.Change.{tick_change}

@@ -213,9 +213,9 @@ module _ (lists : SensorLists) (n : ℕ) (h : History) (c : SplitContents) (rest
   reaches s = let a = horizon-least lists s in omega (arith, a, below)
 
   begins : (s : Sensor) → BeginsWith (items_of s lists) (items_of s mid)
-  begins Along = let r = at.rests Along in (rest.left.along, r.whole ∙ ap (λ xs. xs ++ rest.left.along) (sym (r.keeps.fast (λ slow. omega arith))))
-  begins Across = let r = at.rests Across in (rest.left.across, r.whole ∙ ap (λ xs. xs ++ rest.left.across) (sym (r.keeps.fast (λ slow. omega arith))))
-  begins Restraint = let r = at.rests Restraint in (rest.left.restraint, r.whole ∙ ap (λ xs. xs ++ rest.left.restraint) (sym (r.keeps.fast (λ slow. omega arith))))
+  begins Along = let r = at.rests Along in (rest.left.along, r.whole ∙ ap (λ xs. xs ++ rest.left.along) (sym (r.keeps.fast (λ slow. cc))))
+  begins Across = let r = at.rests Across in (rest.left.across, r.whole ∙ ap (λ xs. xs ++ rest.left.across) (sym (r.keeps.fast (λ slow. cc))))
+  begins Restraint = let r = at.rests Restraint in (rest.left.restraint, r.whole ∙ ap (λ xs. xs ++ rest.left.restraint) (sym (r.keeps.fast (λ slow. cc))))
   begins s = ([], sym (append-nil (items_of s lists)))
 
   issued : (t : ℕ) → t ≤ u → issues_with (parts_of lists) g n t ≡ issues lists n t

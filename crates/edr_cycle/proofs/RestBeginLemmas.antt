@@ -63,10 +63,10 @@ rests-begin : (lists given : SensorLists) (rest : Remaining) (a b e : ℕ) → A
     → (s : Sensor) → IsRest s (items_of s lists) (items_of s given) (items_of s rest.left) (items_of s (kept_lists rest.captures))
 rests-begin lists given rest a b e feeds first second third one two three none left s = by s (ap (items_of s) left) (ap (λ (c : Captures). items_of s (kept_lists c)) none) where
   by : (r : Sensor) → items_of r rest.left ≡ items_of r (lists_past (fast_lasts a b e) lists) → items_of r (kept_lists rest.captures) ≡ items_of r (kept_lists no_captures) → IsRest r (items_of r lists) (items_of r given) (items_of r rest.left) (items_of r (kept_lists rest.captures))
-  by Along is empty = fast-begins Along lists.along rest.left.along given.along [] a (λ slow. omega arith) (feeds Along) first one is
-  by Across is empty = fast-begins Across lists.across rest.left.across given.across [] b (λ slow. omega arith) (feeds Across) second two is
-  by Restraint is empty = fast-begins Restraint lists.restraint rest.left.restraint given.restraint [] e (λ slow. omega arith) (feeds Restraint) third three is
-  by r is empty = slow-begins r (items_of r lists) (items_of r rest.left) (items_of r given) (items_of r (kept_lists rest.captures)) (omega arith, omega arith) (feeds r) is empty
+  by Along is empty = fast-begins Along lists.along rest.left.along given.along [] a (λ slow. cc) (feeds Along) first one is
+  by Across is empty = fast-begins Across lists.across rest.left.across given.across [] b (λ slow. cc) (feeds Across) second two is
+  by Restraint is empty = fast-begins Restraint lists.restraint rest.left.restraint given.restraint [] e (λ slow. cc) (feeds Restraint) third three is
+  by r is empty = slow-begins r (items_of r lists) (items_of r rest.left) (items_of r given) (items_of r (kept_lists rest.captures)) refl (feeds r) is empty
 
 pub remains-after : (lists : SensorLists) (rest : Remaining) (a b e : ℕ) → AreFeeds lists → rest.captures ≡ no_captures
     → rest.left ≡ lists_past (fast_lasts a b e) lists

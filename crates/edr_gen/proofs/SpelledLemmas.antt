@@ -6,8 +6,8 @@ use Rattle.std.proofs.lemmas.Bool.Decides.{nat_tests}
 use Rattle.std.specs.Option.{option_map_or}
 use Rattle.edr_items.specs.declared.Sensor.{Sensor}
 use Rattle.edr_items.specs.declared.Sensor.TheVariants.{Along}
-use Rattle.edr_items.specs.Sensor.{is_in_range}
-use Rattle.edr_items.specs.PerSlowSensor.{slow_sensors, slow_value_of}
+use Rattle.edr_items.specs.Sensor.{is_in_range, slow_sensors}
+use Rattle.edr_items.specs.PerSlowSensor.{slow_value_of}
 use Rattle.edr_spell.specs.declared.Row.TheVariants as row
 use Rattle.edr_spell.specs.Rows.{IsRow, highest_u32, is_i32}
 use Rattle.edr_spell.specs.Samples.{row_for}

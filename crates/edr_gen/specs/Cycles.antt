@@ -3,7 +3,8 @@ use Rattle.std.specs.Prelude.{◌≡◌, ◌+◌, ◌%◌, ◌==◌, ◌&&◌, n
 use Rattle.std.specs.List.{list_any}
 use Rattle.edr_items.specs.declared.Sensor.{Sensor}
 use Rattle.edr_items.specs.declared.Sensor.TheVariants.{Along, Across, Restraint}
-use Rattle.edr_items.specs.PerSlowSensor.{slow_sensors, slow_value_of}
+use Rattle.edr_items.specs.Sensor.{slow_sensors}
+use Rattle.edr_items.specs.PerSlowSensor.{slow_value_of}
 use Rattle.edr_items.specs.SensorLists.{SensorLists}
 use Rattle.edr_spell.specs.Samples.{Sample, feeds_given}
 use Rattle.edr_gen.specs.declared.plan.TheConstants.{SLOW_SAID}

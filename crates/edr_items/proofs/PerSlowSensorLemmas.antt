@@ -6,48 +6,48 @@ use Rattle.edr_items.specs.declared.Sensor.{Sensor}
 use Rattle.edr_items.specs.declared.Sensor.TheVariants.{Along, Across, Speed, Throttle, Brake, Belt, Lamp, Restraint}
 use Rattle.edr_items.specs.declared.per_sensor.PerSensor.{PerSensor}
 use Rattle.edr_items.specs.declared.per_slow_sensor.PerSlowSensor.{PerSlowSensor}
-use Rattle.edr_items.specs.Sensor.{number_of, IsSlow}
+use Rattle.edr_items.specs.Sensor.{number_of, slow_sensors, IsSlow}
 use Rattle.edr_items.specs.PerSensor.{value_of, with_value}
-use Rattle.edr_items.specs.PerSlowSensor.{slow_value_of, with_slow_value, each_slow_value, map_slow_values, slow_sensors, EachSlow, slow_at, slow_values_by, slow_values, with_slow_values}
+use Rattle.edr_items.specs.PerSlowSensor.{slow_value_of, with_slow_value, each_slow_value, map_slow_values, EachSlow, slow_at, slow_values_by, slow_values, with_slow_values}
 
 -- ---- what holds of each slow sensor
 -- a sensor is slow, or it is not
 pub slow-or-not : (s : Sensor) → IsSlow s ⊎ (¬ IsSlow s)
-slow-or-not Along = inr (λ slow. omega arith)
-slow-or-not Across = inr (λ slow. omega arith)
-slow-or-not Speed = inl (omega arith, omega arith)
-slow-or-not Throttle = inl (omega arith, omega arith)
-slow-or-not Brake = inl (omega arith, omega arith)
-slow-or-not Belt = inl (omega arith, omega arith)
-slow-or-not Lamp = inl (omega arith, omega arith)
-slow-or-not Restraint = inr (λ slow. omega arith)
+slow-or-not Along = inr (λ slow. cc)
+slow-or-not Across = inr (λ slow. cc)
+slow-or-not Speed = inl refl
+slow-or-not Throttle = inl refl
+slow-or-not Brake = inl refl
+slow-or-not Belt = inl refl
+slow-or-not Lamp = inl refl
+slow-or-not Restraint = inr (λ slow. cc)
 
 -- what holds of these holds of each
 pub each-slow : (P : Sensor → Type 0) → P Speed → P Throttle → P Brake → P Belt → P Lamp → EachSlow P
-each-slow P a b c d e Along slow = absurd (omega arith)
-each-slow P a b c d e Across slow = absurd (omega arith)
+each-slow P a b c d e Along slow = absurd cc
+each-slow P a b c d e Across slow = absurd cc
 each-slow P a b c d e Speed slow = a
 each-slow P a b c d e Throttle slow = b
 each-slow P a b c d e Brake slow = c
 each-slow P a b c d e Belt slow = d
 each-slow P a b c d e Lamp slow = e
-each-slow P a b c d e Restraint slow = absurd (omega arith)
+each-slow P a b c d e Restraint slow = absurd cc
 
 -- and back
 pub speed-slow : (P : Sensor → Type 0) → EachSlow P → P Speed
-speed-slow P h = h Speed (omega arith, omega arith)
+speed-slow P h = h Speed refl
 
 pub throttle-slow : (P : Sensor → Type 0) → EachSlow P → P Throttle
-throttle-slow P h = h Throttle (omega arith, omega arith)
+throttle-slow P h = h Throttle refl
 
 pub brake-slow : (P : Sensor → Type 0) → EachSlow P → P Brake
-brake-slow P h = h Brake (omega arith, omega arith)
+brake-slow P h = h Brake refl
 
 pub belt-slow : (P : Sensor → Type 0) → EachSlow P → P Belt
-belt-slow P h = h Belt (omega arith, omega arith)
+belt-slow P h = h Belt refl
 
 pub lamp-slow : (P : Sensor → Type 0) → EachSlow P → P Lamp
-lamp-slow P h = h Lamp (omega arith, omega arith)
+lamp-slow P h = h Lamp refl
 
 -- what holds of each holds of all in the list, and back; no two of these are the same
 pub slow-listed : (P : Sensor → Type 0) → EachSlow P → All P slow_sensors
@@ -109,11 +109,11 @@ slow_value_of-slow p = each-slow (λ s. slow_value_of s p ≡ Some (slow_at s p)
 pub slow_value_of-some : {A : Type 0} (s : Sensor) (p : PerSlowSensor A) (x : A) → slow_value_of s p ≡ Some x → IsSlow s × (slow_at s p ≡ x)
 slow_value_of-some Along p x h = cc
 slow_value_of-some Across p x h = cc
-slow_value_of-some Speed p x h = ((omega arith, omega arith), cc)
-slow_value_of-some Throttle p x h = ((omega arith, omega arith), cc)
-slow_value_of-some Brake p x h = ((omega arith, omega arith), cc)
-slow_value_of-some Belt p x h = ((omega arith, omega arith), cc)
-slow_value_of-some Lamp p x h = ((omega arith, omega arith), cc)
+slow_value_of-some Speed p x h = (refl, cc)
+slow_value_of-some Throttle p x h = (refl, cc)
+slow_value_of-some Brake p x h = (refl, cc)
+slow_value_of-some Belt p x h = (refl, cc)
+slow_value_of-some Lamp p x h = (refl, cc)
 slow_value_of-some Restraint p x h = cc
 
 -- what has none is not
@@ -150,11 +150,11 @@ value_of-slow x p = each-slow (λ s. value_of s (with_slow_values x p) ≡ slow_
 pub value_of-fast : {A : Type 0} (s : Sensor) (x : A) (p : PerSlowSensor A) → (¬ IsSlow s) → value_of s (with_slow_values x p) ≡ x
 value_of-fast Along x p fast = refl
 value_of-fast Across x p fast = refl
-value_of-fast Speed x p fast = absurd (fast (omega arith, omega arith))
-value_of-fast Throttle x p fast = absurd (fast (omega arith, omega arith))
-value_of-fast Brake x p fast = absurd (fast (omega arith, omega arith))
-value_of-fast Belt x p fast = absurd (fast (omega arith, omega arith))
-value_of-fast Lamp x p fast = absurd (fast (omega arith, omega arith))
+value_of-fast Speed x p fast = absurd (fast refl)
+value_of-fast Throttle x p fast = absurd (fast refl)
+value_of-fast Brake x p fast = absurd (fast refl)
+value_of-fast Belt x p fast = absurd (fast refl)
+value_of-fast Lamp x p fast = absurd (fast refl)
 value_of-fast Restraint x p fast = refl
 
 -- what the value of a sensor is among those of all sensors
@@ -175,9 +175,9 @@ with_slow_value-both P s x y p q here rest r slow = both s r here (rest r slow) 
   both Brake Brake own old slow = own
   both Belt Belt own old slow = own
   both Lamp Lamp own old slow = own
-  both t Along own old slow = absurd (omega arith)
-  both t Across own old slow = absurd (omega arith)
-  both t Restraint own old slow = absurd (omega arith)
+  both t Along own old slow = absurd cc
+  both t Across own old slow = absurd cc
+  both t Restraint own old slow = absurd cc
   both t u own old slow = old
 
 -- the same of one new value and of each old one
@@ -193,9 +193,9 @@ with_slow_value-others P s x p here rest r slow = others s r here (rest r slow) 
   others Brake Brake own old slow = own
   others Belt Belt own old slow = own
   others Lamp Lamp own old slow = own
-  others t Along own old slow = absurd (omega arith)
-  others t Across own old slow = absurd (omega arith)
-  others t Restraint own old slow = absurd (omega arith)
+  others t Along own old slow = absurd cc
+  others t Across own old slow = absurd cc
+  others t Restraint own old slow = absurd cc
   others t u own old slow = old refl
 
 -- what holds of each slow sensor's value and of its value among those of all sensors still does with two new ones
@@ -207,9 +207,9 @@ with_slow_value-beside P s x y p q here rest r slow = beside s r here (rest r sl
   beside Brake Brake own old slow = own slow
   beside Belt Belt own old slow = own slow
   beside Lamp Lamp own old slow = own slow
-  beside t Along own old slow = absurd (omega arith)
-  beside t Across own old slow = absurd (omega arith)
-  beside t Restraint own old slow = absurd (omega arith)
+  beside t Along own old slow = absurd cc
+  beside t Across own old slow = absurd cc
+  beside t Restraint own old slow = absurd cc
   beside t u own old slow = old
 
 -- what was replaced leaves no trace
@@ -228,11 +228,11 @@ with_slow_value-same s p = elim s as (λ t. with_slow_value t (slow_at t p) p �
 pub with_slow_value-none : {A : Type 0} (s : Sensor) (x : A) (p : PerSlowSensor A) → (¬ IsSlow s) → with_slow_value s x p ≡ p
 with_slow_value-none Along x p fast = refl
 with_slow_value-none Across x p fast = refl
-with_slow_value-none Speed x p fast = absurd (fast (omega arith, omega arith))
-with_slow_value-none Throttle x p fast = absurd (fast (omega arith, omega arith))
-with_slow_value-none Brake x p fast = absurd (fast (omega arith, omega arith))
-with_slow_value-none Belt x p fast = absurd (fast (omega arith, omega arith))
-with_slow_value-none Lamp x p fast = absurd (fast (omega arith, omega arith))
+with_slow_value-none Speed x p fast = absurd (fast refl)
+with_slow_value-none Throttle x p fast = absurd (fast refl)
+with_slow_value-none Brake x p fast = absurd (fast refl)
+with_slow_value-none Belt x p fast = absurd (fast refl)
+with_slow_value-none Lamp x p fast = absurd (fast refl)
 with_slow_value-none Restraint x p fast = refl
 
 -- another value among those of all sensors

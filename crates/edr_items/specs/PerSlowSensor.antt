@@ -4,7 +4,7 @@ use Rattle.edr_items.specs.declared.Sensor.{Sensor}
 use Rattle.edr_items.specs.declared.Sensor.TheVariants.{Along, Across, Speed, Throttle, Brake, Belt, Lamp, Restraint}
 use Rattle.edr_items.specs.declared.per_sensor.PerSensor.{PerSensor}
 use Rattle.edr_items.specs.declared.per_slow_sensor.PerSlowSensor.{PerSlowSensor}
-use Rattle.edr_items.specs.Sensor.{IsSlow}
+use Rattle.edr_items.specs.Sensor.{slow_sensors, IsSlow}
 
 -- the value of one sensor; the other three have none
 abbrev pub slow_value_of : {A : Type 0} → Sensor → PerSlowSensor A → Option A
@@ -37,10 +37,6 @@ abbrev pub map_slow_values : {A B : Type 0} → (A → B) → PerSlowSensor A �
 map_slow_values h p = record { speed = h p.speed; throttle = h p.throttle; brake = h p.brake; belt = h p.belt; lamp = h p.lamp }
 
 -- ---- each slow sensor
-
--- the slow sensors in the order of their numbers
-abbrev pub slow_sensors : List Sensor
-slow_sensors = Speed ∷ Throttle ∷ Brake ∷ Belt ∷ Lamp ∷ []
 
 -- what holds of each slow sensor
 abbrev pub EachSlow : (Sensor → Type 0) → Type 0

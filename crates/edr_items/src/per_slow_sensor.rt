@@ -2,7 +2,8 @@
 
 ghost use Rattle.std.specs.Prelude.{◌≡◌, Some, None, Ok, IfOk, IfErr, MatchOption};
 ghost use Rattle.std.specs.Borrow.{sem};
-ghost use Rattle.edr_items.specs.PerSlowSensor.{slow_value_of, with_slow_value, each_slow_value, map_slow_values, EachSlow, FailsFirst, slow_at, slow_sensors, first_without};
+ghost use Rattle.edr_items.specs.Sensor.{slow_sensors};
+ghost use Rattle.edr_items.specs.PerSlowSensor.{slow_value_of, with_slow_value, each_slow_value, map_slow_values, EachSlow, FailsFirst, slow_at, first_without};
 ghost use Rattle.edr_items.specs.LendsValue.{LendsSlowValue};
 
 use crate::Sensor;

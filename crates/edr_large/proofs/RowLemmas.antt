@@ -4,7 +4,7 @@ use Rattle.std.proofs.lemmas.List.{drop_all, length-map}
 use Rattle.edr_items.specs.declared.Sensor.{Sensor}
 use Rattle.edr_items.specs.declared.Item.{Item}
 use Rattle.edr_items.specs.PerSensor.{total_of}
-use Rattle.edr_items.specs.PerSlowSensor.{slow_sensors}
+use Rattle.edr_items.specs.Sensor.{slow_sensors}
 use Rattle.edr_items.specs.SensorLists.{SensorLists, items_of, sensors}
 use Rattle.edr_items.proofs.PerSensorLemmas.{total-with}
 use Rattle.edr_spell.specs.declared.Row.TheVariants as row

@@ -58,9 +58,9 @@ have-list Restraint l f h = h.restraint
 
 -- a fast sensor is none of the slow ones
 fast-not-slow : (k : FastSensor) → ¬ IsSlow (sensor_of k)
-fast-not-slow Along slow = omega arith
-fast-not-slow Across slow = omega arith
-fast-not-slow Restraint slow = omega arith
+fast-not-slow Along slow = cc
+fast-not-slow Across slow = cc
+fast-not-slow Restraint slow = cc
 
 -- the marks of the slow sensors stay
 pub marks-beside : (k : FastSensor) (x : Item) (f : SensorLists) (m : SlowMarks) → HaveMarks m f → HaveMarks m (with_item (sensor_of k) x f)
@@ -103,7 +103,7 @@ pub parts_of-fast : (s : Sensor) (l : SlowParts) → (¬ IsSlow s) → parts_of 
 parts_of-fast sensor.Along l fast = refl
 parts_of-fast sensor.Across l fast = refl
 parts_of-fast sensor.Restraint l fast = refl
-parts_of-fast s l fast = absurd (fast (omega arith, omega arith))
+parts_of-fast s l fast = absurd (fast refl)
 
 -- a slow sensor has the parts that it had
 grown-slow : (s : Sensor) (q : SensorPart) (l : SlowParts) → EachSlow (λ r. (p : SensorPart) → Contains (parts_of r l) p → Contains (slow_at r (with_part s q l)) p)

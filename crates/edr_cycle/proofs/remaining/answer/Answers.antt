@@ -4,8 +4,7 @@ use Rattle.std.proofs.lemmas.Bool.{cases_lt}
 use Rattle.std.proofs.lemmas.List.{get_or_default}
 use Rattle.edr_items.specs.declared.Sensor.{Sensor}
 use Rattle.edr_items.specs.declared.Sensor.TheVariants.{Along}
-use Rattle.edr_items.specs.Sensor.{IsSlow}
-use Rattle.edr_items.specs.PerSlowSensor.{slow_sensors}
+use Rattle.edr_items.specs.Sensor.{slow_sensors, IsSlow}
 use Rattle.edr_items.proofs.PerSlowSensorLemmas.{slow-listed, listed-slow}
 use Rattle.edr_core.specs.Parts.{part_in}
 use Rattle.edr_core.specs.SplitHistory.{History}

@@ -1,6 +1,6 @@
 use Rattle.std.specs.Prelude.{ℕ, ◌<◌, ◌≤◌, IsSome, length, get_or}
 use Rattle.edr_items.specs.declared.Sensor.{Sensor}
-use Rattle.edr_items.specs.PerSlowSensor.{slow_sensors}
+use Rattle.edr_items.specs.Sensor.{slow_sensors}
 use Rattle.edr_items.specs.SensorLists.{SensorLists}
 use Rattle.edr_core.specs.Parts.{part_in}
 use Rattle.edr_core.specs.SplitHistory.{History}

@@ -1,7 +1,7 @@
 use Rattle.std.proofs.Common.{arith, ◌∙◌, ◌++◌, ◌∷◌, [], ap, refl, sym, map, take, slice_index_or, Option, ℤ}
 use Rattle.std.proofs.lemmas.List.{take_all, append-nil}
 use Rattle.edr_items.specs.declared.Sensor.TheVariants.{Along}
-use Rattle.edr_items.specs.PerSlowSensor.{slow_sensors}
+use Rattle.edr_items.specs.Sensor.{slow_sensors}
 use Rattle.edr_spell.specs.Samples.{feeds_given}
 use Rattle.edr_gen.specs.Cycles.{sample, slow_sample}
 use Rattle.edr_gen.proofs.SampleLemmas.{samples-next}

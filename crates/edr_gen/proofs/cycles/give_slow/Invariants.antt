@@ -1,5 +1,5 @@
 use Rattle.std.specs.Prelude.{map, take}
-use Rattle.edr_items.specs.PerSlowSensor.{slow_sensors}
+use Rattle.edr_items.specs.Sensor.{slow_sensors}
 use Rattle.edr_gen.specs.Cycles.{GivesSamples, slow_sample}
 use Rattle.edr_gen.proofs.cycles.give_slow.Given as goal
 

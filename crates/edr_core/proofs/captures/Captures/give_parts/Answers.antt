@@ -3,8 +3,7 @@ use Rattle.std.proofs.Math.Seq.{drop-cons}
 use Rattle.std.proofs.lemmas.List.{drop_all}
 use Rattle.edr_items.specs.declared.Sensor.{Sensor}
 use Rattle.edr_items.specs.declared.Sensor.TheVariants.{Along}
-use Rattle.edr_items.specs.Sensor.{IsSlow}
-use Rattle.edr_items.specs.PerSlowSensor.{slow_sensors}
+use Rattle.edr_items.specs.Sensor.{slow_sensors, IsSlow}
 use Rattle.edr_items.specs.SensorLists.{items_of}
 use Rattle.edr_items.proofs.PerSlowSensorLemmas.{slow-listed}
 use Rattle.edr_capture.specs.SensorPart.{part}

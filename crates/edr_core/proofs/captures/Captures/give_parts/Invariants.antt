@@ -1,5 +1,5 @@
 use Rattle.std.proofs.Common.{drop}
-use Rattle.edr_items.specs.PerSlowSensor.{slow_sensors}
+use Rattle.edr_items.specs.Sensor.{slow_sensors}
 use Rattle.edr_core.specs.SplitHistory.{History}
 use Rattle.edr_core.specs.OwnParts.{AsksFor}
 use Rattle.edr_core.proofs.OwnLemmas.{AreToTake}

@@ -1,6 +1,7 @@
 use Rattle.std.proofs.Common.{rules, ◌≡◌, Ok, Err, inl, inr}
 use Rattle.edr_items.specs.declared.Sensor.TheVariants.{Speed, Throttle, Brake, Belt, Lamp}
-use Rattle.edr_items.specs.PerSlowSensor.{FailsFirst, slow_sensors}
+use Rattle.edr_items.specs.Sensor.{slow_sensors}
+use Rattle.edr_items.specs.PerSlowSensor.{FailsFirst}
 use Rattle.edr_items.proofs.per_slow_sensor.PerSlowSensor.try_from_fn.Goals as goal
 
 pub returns-in_err-f-4-clause-error : goal.returns-in_err-f-4-clause-error
