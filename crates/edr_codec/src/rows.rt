@@ -1,6 +1,6 @@
 //! The tables of the parts: rows of fields, and the first byte at which bytes don't fit them.
 
-ghost use Rattle.std.specs.Prelude.{◌≡◌, ◌+◌, ◌*◌, ◌^◌, ◌<◌, ◌≤◌, length, sum_by, All, None, Some, nat_le, nat_lt, ◌&&◌, IfSome, OnOk, IfErr, slice_index};
+ghost use Rattle.std.specs.Prelude.{◌≡◌, ◌+◌, ◌*◌, ◌^◌, ◌<◌, ◌≤◌, length, sum_by, All, None, Some, nat_le, nat_lt, ◌&&◌, IfSome, IsTrue, OnOk, IfErr, slice_index};
 ghost use Rattle.std.specs.List.{flat_map};
 ghost use Rattle.edr_image.specs.PartBytes.{can_be_in, damage_of_field, damage_of_fields};
 ghost use Rattle.edr_codec.specs.Rows.{ranges_of, fields_of, row_size};
@@ -64,8 +64,45 @@ impl FieldRow {
         meets(self.values, first, last) || self.others.is_some_and(|r| meets(r, first, last))
     }
 
+    // The number lies in one of the ranges.
+    fn has(&self, number: u64) -> bool
+        requires small { number < 2 ^ 16 }
+        ensures { result ≡ can_be_in (ranges_of self.now) number 0 }
+    {
+        meets(self.values, number, number + 1)
+            || self.others.is_some_and(|r| meets(r, number, number + 1))
+    }
+
+    // The field at a place has one byte or two, and its number lies in one of the ranges. So it is in nearly each field of a whole
+    // part, and no byte need be looked at alone.
+    fn is_whole(&self, bytes: &[u8], at: usize) -> bool
+        requires size { self.now.size ≤ 4 }
+        requires room { at + self.now.size ≤ length bytes.now }
+        ensures { IsTrue result → damage_of_field (ranges_of self.now) bytes.now at 0 self.now.size ≡ None }
+    {
+        match self.size {
+            1 => self.has(u64::from(bytes[at])),
+            2 => self.has(u64::from(bytes[at]) * 256 + u64::from(bytes[at + 1])),
+            _ => false,
+        }
+    }
+
     // The first byte with which the field at a place has no number any more.
     fn damage_of_field(&self, bytes: &[u8], at: usize) -> Option<usize>
+        requires size { self.now.size ≤ 4 }
+        requires room { at + self.now.size ≤ length bytes.now }
+        ensures value { result ≡ damage_of_field (ranges_of self.now) bytes.now at 0 self.now.size }
+        ensures within { IfSome result (λ k. k < length bytes.now) }
+    {
+        if self.is_whole(bytes, at) {
+            return None;
+        }
+        self.damaged_byte(bytes, at)
+    }
+
+    // The same, byte after byte.
+    #[inline(never)]
+    fn damaged_byte(&self, bytes: &[u8], at: usize) -> Option<usize>
         requires size { self.now.size ≤ 4 }
         requires room { at + self.now.size ≤ length bytes.now }
         ensures value { result ≡ damage_of_field (ranges_of self.now) bytes.now at 0 self.now.size }

@@ -1,7 +1,7 @@
 use Rattle.std.proofs.Common.{◌∙◌, sym, arith}
 use Rattle.edr_codec.specs.Rows.{ranges_of}
 use Rattle.edr_codec.proofs.FieldLemmas.{field-goes_on, field-stops, number-grows, number-small}
-use Rattle.edr_codec.proofs.rows.FieldRow.damage_of_field.Goals as goal
+use Rattle.edr_codec.proofs.rows.FieldRow.damaged_byte.Goals as goal
 
 pub overflow_mul-begun : goal.overflow_mul-begun
 overflow_mul-begun c = let h = number-small c.loop-k.begun c.loop-k.k 0 c.loop-k.invariant.0 (omega arith) (omega arith) in omega arith

@@ -1,7 +1,7 @@
 use Rattle.std.proofs.Common.{◌≡◌, ◌+◌, ◌-◌, ◌^◌, ◌<◌}
 use Rattle.edr_image.specs.PartBytes.{damage_of_field}
 use Rattle.edr_codec.specs.Rows.{ranges_of}
-use Rattle.edr_codec.proofs.rows.FieldRow.damage_of_field.Given as goal
+use Rattle.edr_codec.proofs.rows.FieldRow.damaged_byte.Given as goal
 
 abbrev pub invariant-loop-k : goal.invariant-loop-k
 invariant-loop-k l =
