@@ -52,6 +52,14 @@ pub enum SplitClosing {
     Closed { tick: u32, issues: bool },
 }
 
+// What is looked at where an event is searched for, and is too large to be moved with a core.
+#[derive(Drop)]
+pub(crate) struct Events {
+    detect: Detect,
+    candidate: Option<Candidate>,
+    ask: Option<OpenAsk>,
+}
+
 /// The core of the recorder in one ignition cycle, but for the values of the slow sensors: of these it takes the moments of items,
 /// and the parts of each time zero that it asks for.
 ///
@@ -61,12 +69,10 @@ pub struct SplitCore {
     cycle: u32,
     closed: u32,
     merge: Merge,
-    detect: Detect,
     link: Link,
-    candidate: Option<Candidate>,
     // Whether an ask is open: one byte, which is looked at in each tick.
     asking: bool,
-    ask: Option<OpenAsk>,
+    events: Box<Events>,
 }
 
 impl Model for SplitCore {
@@ -93,15 +99,18 @@ impl SplitCore {
         requires { 1 ≤ cycle }
         ensures { IfOk result (λ c. SplitCoreStandsFor c (start_of cycle)) }
     {
+        let none = Events {
+            detect: Detect::new(),
+            candidate: None,
+            ask: None,
+        };
         Ok(SplitCore {
             cycle,
             closed: 0,
             merge: Merge::new(alloc)?,
-            detect: Detect::new(),
             link: Link::new(),
-            candidate: None,
             asking: false,
-            ask: None,
+            events: Box::new(alloc, none)?,
         })
     }
 
@@ -223,23 +232,24 @@ impl SplitCore {
                 },
             ),
         };
-        let change = self
+        let events = &mut *self.events;
+        let change = events
             .detect
             .tick(row.along.unwrap_or(0), row.across.unwrap_or(0), row.fired);
         if change.zero {
             self.asking = true;
-            OpenAsk::open(&mut self.ask, row, change);
+            OpenAsk::open(&mut events.ask, row, change);
             return SplitClosing::Ask { zero: tick };
         }
-        grow(&mut self.candidate, row);
+        grow(&mut events.candidate, row);
         self.closed = tick;
-        if passes_by(&self.candidate, change) {
+        if passes_by(&events.candidate, change) {
             return SplitClosing::Closed {
                 tick,
                 issues: false,
             };
         }
-        issue(&mut self.candidate, &mut self.link, tick, change, issued);
+        issue(&mut events.candidate, &mut self.link, tick, change, issued);
         SplitClosing::Closed { tick, issues: true }
     }
 
@@ -255,7 +265,8 @@ impl SplitCore {
         ensures quiet { IsSplitQuiet result → issued.new ≡ issued.old }
     {
         let tick = self.closed + 1;
-        let Some(ask) = &self.ask else {
+        let events = &mut *self.events;
+        let Some(ask) = &events.ask else {
             unreachable!();
         };
         let parts = match ask.parts.all() {
@@ -267,11 +278,11 @@ impl SplitCore {
             zero: tick,
         };
         let change = ask.change;
-        self.candidate = Some(Candidate::begin(pre_of(&parts, key), ask.row));
+        events.candidate = Some(Candidate::begin(pre_of(&parts, key), ask.row));
         self.asking = false;
-        self.ask = None;
+        events.ask = None;
         self.closed = tick;
-        issue(&mut self.candidate, &mut self.link, tick, change, issued);
+        issue(&mut events.candidate, &mut self.link, tick, change, issued);
         SplitClosing::Closed { tick, issues: true }
     }
 
@@ -285,7 +296,7 @@ impl SplitCore {
         ensures why { (h : History) → SplitCoreStandsFor self.old h → IfErr result (λ e. part_refusal_of part h ≡ Some e) }
     {
         let asked = self.closed + 1;
-        let Some(ask) = &mut self.ask else {
+        let Some(ask) = &mut self.events.ask else {
             return Err(PartRefused::NotAsked);
         };
         ask.take(asked, part)?;

@@ -1,9 +1,11 @@
+use Rattle.std.specs.Prelude.{is_some}
 use Rattle.std.proofs.Common.{arith, ap, sym, subst, refl, ◌∙◌, ◌+◌, false}
 use Rattle.edr_definitions.specs.Schedule.{Close, after_step}
 use Rattle.edr_record.specs.Parts.{PrePart}
 use Rattle.edr_core.specs.Candidate.{begun_candidate}
+use Rattle.edr_core.specs.declared.split.Events.{Events}
 use Rattle.edr_core.specs.SplitContents.{SplitContents}
-use Rattle.edr_core.specs.SplitFields.{split_contents}
+use Rattle.edr_core.specs.SplitFields.{split_contents, contents_with}
 use Rattle.edr_core.specs.SplitStandsFor.{SplitCoreStandsFor}
 use Rattle.edr_core.proofs.GiveLemmas.{closed-early, asked-is}
 use Rattle.edr_core.proofs.TakenLemmas.{of-sensors}
@@ -15,53 +17,62 @@ overflow_add-tick c = let h = c.self.invariant in let early = closed-early (spli
 
 pub returns-in-Err-clause-answer : goal.returns-in-Err-clause-answer
 returns-in-Err-clause-answer c = λ w before.
-    let h : SplitCoreStandsFor (split_contents c.self.inside) w = subst (λ (v : SplitContents). SplitCoreStandsFor v w) (sym c.self.view_is) before in
-    lacks-due (split_contents c.self.inside) w c.in-Some.ask c.in-Err.sensor h c.in-Some.is c.in-Err.ensures.missing
+    let h : SplitCoreStandsFor (contents_with c.self.inside c.deref_mut-events.result.now) w = subst (λ (v : SplitContents). SplitCoreStandsFor v w) (sym (ap (contents_with c.self.inside) c.deref_mut-events.ensures.value ∙ c.self.view_is)) before in
+    lacks-due (contents_with c.self.inside c.deref_mut-events.result.now) w c.in-Some.ask c.in-Err.sensor h c.in-Some.is c.in-Err.ensures.missing
 
 pub pre_of-requires-clause-sensors : goal.pre_of-requires-clause-sensors
 pre_of-requires-clause-sensors c =
     let i = c.self.invariant in
-    of-sensors c.in-Some.ask.parts i.history.parts (i.history.past.closed + 1) c.in-Ok.parts (asked-is (split_contents c.self.inside) i.history c.in-Some.ask i.stands c.in-Some.is).parts c.in-Ok.ensures.all
+    of-sensors c.in-Some.ask.parts i.history.parts (i.history.past.closed + 1) c.in-Ok.parts (asked-is (contents_with c.self.inside c.deref_mut-events.result.now) i.history c.in-Some.ask (subst (λ (v : Events). SplitCoreStandsFor (contents_with c.self.inside v) i.history) (sym c.deref_mut-events.ensures.value) i.stands) c.in-Some.is).parts c.in-Ok.ensures.all
 
 pub pre_of-requires-clause-key : goal.pre_of-requires-clause-key
 pre_of-requires-clause-key c =
     let i = c.self.invariant in
-    key-fits (split_contents c.self.inside) i.history i.stands c.in-Some.ask c.in-Some.is c.in-Ok.parts c.in-Ok.ensures.all
+    key-fits (contents_with c.self.inside c.deref_mut-events.result.now) i.history (subst (λ (v : Events). SplitCoreStandsFor (contents_with c.self.inside v) i.history) (sym c.deref_mut-events.ensures.value) i.stands) c.in-Some.ask c.in-Some.is c.in-Ok.parts c.in-Ok.ensures.all
 
 pub issue-requires : goal.issue-requires
 issue-requires c =
     let i = c.self.invariant in
-    asked-tell (split_contents c.self.inside) i.history i.stands c.in-Some.ask c.in-Some.is c.in-Ok.parts c.in-Ok.ensures.all c.begin.result (c.begin.ensures ∙ ap (λ (x : PrePart). begun_candidate x c.in-Some.ask.row) c.pre_of.ensures)
+    asked-tell (contents_with c.self.inside c.deref_mut-events.result.now) i.history (subst (λ (v : Events). SplitCoreStandsFor (contents_with c.self.inside v) i.history) (sym c.deref_mut-events.ensures.value) i.stands) c.in-Some.ask c.in-Some.is c.in-Ok.parts c.in-Ok.ensures.all c.begin.result (c.begin.ensures ∙ ap (λ (x : PrePart). begun_candidate x c.in-Some.ask.row) c.pre_of.ensures)
 
 pub invariant_of-self : goal.invariant_of-self
 invariant_of-self c =
     let i = c.self.invariant in
     record {
+      history = i.history;
+      stands = subst (λ (v : Events). SplitCoreStandsFor (contents_with c.self.inside v) i.history) (sym c.deref_mut-events.ensures.value) i.stands;
+      asking_is = i.asking_is ∙ ap (λ (e : Events). is_some e.ask) (sym c.deref_mut-events.ensures.value);
+    }
+
+pub invariant_of-self-2 : goal.invariant_of-self-2
+invariant_of-self-2 c =
+    let i = c.self.invariant in
+    record {
       history = record i.history { past = after_step i.history.past Close; asking = false };
-      stands = asked-stands (split_contents c.self.inside) i.history i.stands c.in-Some.ask c.in-Some.is c.in-Ok.parts c.in-Ok.ensures.all
+      stands = asked-stands (contents_with c.self.inside c.deref_mut-events.result.now) i.history (subst (λ (v : Events). SplitCoreStandsFor (contents_with c.self.inside v) i.history) (sym c.deref_mut-events.ensures.value) i.stands) c.in-Some.ask c.in-Some.is c.in-Ok.parts c.in-Ok.ensures.all
           c.begin.result c.issue.new.candidate c.issue.new.link c.issue.new.issued (c.begin.ensures ∙ ap (λ (x : PrePart). begun_candidate x c.in-Some.ask.row) c.pre_of.ensures) (c.issue.ensures.candidate, c.issue.ensures.link, c.issue.ensures.issued);
       asking_is = refl;
     }
 
 pub returns-clause-commands : goal.returns-clause-commands
 returns-clause-commands c = λ w slots before are.
-    let h : SplitCoreStandsFor (split_contents c.self.inside) w = subst (λ (v : SplitContents). SplitCoreStandsFor v w) (sym c.self.view_is) before in
-    asked-commands (split_contents c.self.inside) w h c.in-Some.ask c.in-Some.is c.in-Ok.parts c.in-Ok.ensures.all
+    let h : SplitCoreStandsFor (contents_with c.self.inside c.deref_mut-events.result.now) w = subst (λ (v : SplitContents). SplitCoreStandsFor v w) (sym (ap (contents_with c.self.inside) c.deref_mut-events.ensures.value ∙ c.self.view_is)) before in
+    asked-commands (contents_with c.self.inside c.deref_mut-events.result.now) w h c.in-Some.ask c.in-Some.is c.in-Ok.parts c.in-Ok.ensures.all
     c.begin.result c.issue.new.candidate c.issue.new.link c.issue.new.issued (c.begin.ensures ∙ ap (λ (x : PrePart). begun_candidate x c.in-Some.ask.row) c.pre_of.ensures) (c.issue.ensures.candidate, c.issue.ensures.link, c.issue.ensures.issued) slots are
 
 pub returns-clause-ticks : goal.returns-clause-ticks
 returns-clause-ticks c = λ w slots before are.
-    let h : SplitCoreStandsFor (split_contents c.self.inside) w = subst (λ (v : SplitContents). SplitCoreStandsFor v w) (sym c.self.view_is) before in
-    asked-ticks (split_contents c.self.inside) w h c.in-Some.ask c.in-Some.is c.in-Ok.parts c.in-Ok.ensures.all
+    let h : SplitCoreStandsFor (contents_with c.self.inside c.deref_mut-events.result.now) w = subst (λ (v : SplitContents). SplitCoreStandsFor v w) (sym (ap (contents_with c.self.inside) c.deref_mut-events.ensures.value ∙ c.self.view_is)) before in
+    asked-ticks (contents_with c.self.inside c.deref_mut-events.result.now) w h c.in-Some.ask c.in-Some.is c.in-Ok.parts c.in-Ok.ensures.all
     c.begin.result c.issue.new.candidate c.issue.new.link c.issue.new.issued (c.begin.ensures ∙ ap (λ (x : PrePart). begun_candidate x c.in-Some.ask.row) c.pre_of.ensures) (c.issue.ensures.candidate, c.issue.ensures.link, c.issue.ensures.issued) slots are
 
 pub returns-clause-stands : goal.returns-clause-stands
 returns-clause-stands c = λ w before.
-    let h : SplitCoreStandsFor (split_contents c.self.inside) w = subst (λ (v : SplitContents). SplitCoreStandsFor v w) (sym c.self.view_is) before in
-    asked-stands (split_contents c.self.inside) w h c.in-Some.ask c.in-Some.is c.in-Ok.parts c.in-Ok.ensures.all
+    let h : SplitCoreStandsFor (contents_with c.self.inside c.deref_mut-events.result.now) w = subst (λ (v : SplitContents). SplitCoreStandsFor v w) (sym (ap (contents_with c.self.inside) c.deref_mut-events.ensures.value ∙ c.self.view_is)) before in
+    asked-stands (contents_with c.self.inside c.deref_mut-events.result.now) w h c.in-Some.ask c.in-Some.is c.in-Ok.parts c.in-Ok.ensures.all
     c.begin.result c.issue.new.candidate c.issue.new.link c.issue.new.issued (c.begin.ensures ∙ ap (λ (x : PrePart). begun_candidate x c.in-Some.ask.row) c.pre_of.ensures) (c.issue.ensures.candidate, c.issue.ensures.link, c.issue.ensures.issued)
 
 pub returns-clause-answer : goal.returns-clause-answer
 returns-clause-answer c = λ w before.
-    let h : SplitCoreStandsFor (split_contents c.self.inside) w = subst (λ (v : SplitContents). SplitCoreStandsFor v w) (sym c.self.view_is) before in
-    asked-due (split_contents c.self.inside) w h c.in-Some.ask c.in-Some.is c.in-Ok.parts c.in-Ok.ensures.all
+    let h : SplitCoreStandsFor (contents_with c.self.inside c.deref_mut-events.result.now) w = subst (λ (v : SplitContents). SplitCoreStandsFor v w) (sym (ap (contents_with c.self.inside) c.deref_mut-events.ensures.value ∙ c.self.view_is)) before in
+    asked-due (contents_with c.self.inside c.deref_mut-events.result.now) w h c.in-Some.ask c.in-Some.is c.in-Ok.parts c.in-Ok.ensures.all

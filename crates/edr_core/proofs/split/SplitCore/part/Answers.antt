@@ -8,8 +8,9 @@ use Rattle.edr_core.specs.Ask.{IsWhyNotTaken, part_at}
 use Rattle.edr_core.specs.Parts.{part_in}
 use Rattle.edr_core.specs.SplitHistory.{History, after_part}
 use Rattle.edr_core.specs.SplitAnswers.{part_refusal_of}
+use Rattle.edr_core.specs.declared.split.Events.{Events}
 use Rattle.edr_core.specs.SplitContents.{SplitContents}
-use Rattle.edr_core.specs.SplitFields.{split_contents}
+use Rattle.edr_core.specs.SplitFields.{split_contents, contents_with}
 use Rattle.edr_core.specs.SplitStandsFor.{SplitCoreStandsFor}
 use Rattle.edr_core.proofs.GiveLemmas.{closed-early, split-takes, asked-is}
 use Rattle.edr_core.proofs.TakenLemmas.{at-taken}
@@ -25,17 +26,17 @@ invariant_of-self-2 c =
     let took = c.in_ok-take.ensures.ok in
     record {
       history = after_part c.args.part i.history;
-      stands = subst (λ (a : OpenAsk). SplitCoreStandsFor (record (split_contents c.self.inside) { ask = Some a }) (after_part c.args.part i.history)) (sym took.is)
-          (split-takes (split_contents c.self.inside) i.history c.in-Some.ask c.args.part i.stands c.in-Some.is (took.zero ∙ ap (λ t. t + 1) i.stands.closed_is));
-      asking_is = i.asking_is ∙ ap (λ (a : Option OpenAsk). is_some a) c.in-Some.is;
+      stands = subst (λ (a : OpenAsk). SplitCoreStandsFor (record (contents_with c.self.inside c.deref_mut.result.now) { ask = Some a }) (after_part c.args.part i.history)) (sym took.is)
+          (split-takes (contents_with c.self.inside c.deref_mut.result.now) i.history c.in-Some.ask c.args.part (subst (λ (v : Events). SplitCoreStandsFor (contents_with c.self.inside v) i.history) (sym c.deref_mut.ensures.value) i.stands) c.in-Some.is (took.zero ∙ ap (λ t. t + 1) i.stands.closed_is));
+      asking_is = i.asking_is ∙ ap (λ (e : Events). is_some e.ask) (sym c.deref_mut.ensures.value) ∙ ap (λ (a : Option OpenAsk). is_some a) c.in-Some.is;
     }
 
 pub returns-clause-ok : goal.returns-clause-ok
 returns-clause-ok c = λ w before.
-    let h : SplitCoreStandsFor (split_contents c.self.inside) w = subst (λ (v : SplitContents). SplitCoreStandsFor v w) (sym c.self.view_is) before in
+    let h : SplitCoreStandsFor (contents_with c.self.inside c.deref_mut.result.now) w = subst (λ (v : SplitContents). SplitCoreStandsFor v w) (sym (ap (contents_with c.self.inside) c.deref_mut.ensures.value ∙ c.self.view_is)) before in
     let took = c.in_ok-take.ensures.ok in
-    subst (λ (a : OpenAsk). SplitCoreStandsFor (record (split_contents c.self.inside) { ask = Some a }) (after_part c.args.part w)) (sym took.is)
-    (split-takes (split_contents c.self.inside) w c.in-Some.ask c.args.part h c.in-Some.is (took.zero ∙ ap (λ t. t + 1) h.closed_is))
+    subst (λ (a : OpenAsk). SplitCoreStandsFor (record (contents_with c.self.inside c.deref_mut.result.now) { ask = Some a }) (after_part c.args.part w)) (sym took.is)
+    (split-takes (contents_with c.self.inside c.deref_mut.result.now) w c.in-Some.ask c.args.part h c.in-Some.is (took.zero ∙ ap (λ t. t + 1) h.closed_is))
 
 -- the place of the part is free, or was filled, as its sensor's part was taken
 at-place : (c : SplitContents) (w : History) (a : OpenAsk) (q : SensorPart) → IsSlow q.sensor → SplitCoreStandsFor c w → c.ask ≡ Some a → part_at q.sensor a.parts ≡ part_in w.parts q.sensor (w.past.closed + 1)
@@ -43,13 +44,13 @@ at-place c w a q slow h is = at-taken a.parts w.parts (w.past.closed + 1) q.sens
 
 pub returns-clause-allowed : goal.returns-clause-allowed
 returns-clause-allowed c = λ w before.
-    let h : SplitCoreStandsFor (split_contents c.self.inside) w = subst (λ (v : SplitContents). SplitCoreStandsFor v w) (sym c.self.view_is) before in
+    let h : SplitCoreStandsFor (contents_with c.self.inside c.deref_mut.result.now) w = subst (λ (v : SplitContents). SplitCoreStandsFor v w) (sym (ap (contents_with c.self.inside) c.deref_mut.ensures.value ∙ c.self.view_is)) before in
     let a = c.in-Some.ask in
     let q = c.args.part in
     let took = c.in_ok-take.ensures.ok in
     let slow = c.take.ensures.slow in
-    let free = sym (at-place (split_contents c.self.inside) w a q slow h c.in-Some.is) ∙ took.free in
-    ((λ _. refused-not q w (asked-is (split_contents c.self.inside) w a h c.in-Some.is).asking (took.zero ∙ ap (λ t. t + 1) h.closed_is) free), (λ _. refl))
+    let free = sym (at-place (contents_with c.self.inside c.deref_mut.result.now) w a q slow h c.in-Some.is) ∙ took.free in
+    ((λ _. refused-not q w (asked-is (contents_with c.self.inside c.deref_mut.result.now) w a h c.in-Some.is).asking (took.zero ∙ ap (λ t. t + 1) h.closed_is) free), (λ _. refl))
 
 -- what isn't taken is refused for that cause
 why-not : (c : SplitContents) (w : History) (a : OpenAsk) (q : SensorPart) (e : PartRefused) → IsSlow q.sensor → SplitCoreStandsFor c w → c.ask ≡ Some a → IsWhyNotTaken (w.past.closed + 1) q a e → part_refusal_of q w ≡ Some e
@@ -60,22 +61,22 @@ why-not c w a q e slow h is (inr twice) =
 
 pub returns-in_err-take-clause-allowed : goal.returns-in_err-take-clause-allowed
 returns-in_err-take-clause-allowed c = λ w before.
-    let h : SplitCoreStandsFor (split_contents c.self.inside) w = subst (λ (v : SplitContents). SplitCoreStandsFor v w) (sym c.self.view_is) before in
+    let h : SplitCoreStandsFor (contents_with c.self.inside c.deref_mut.result.now) w = subst (λ (v : SplitContents). SplitCoreStandsFor v w) (sym (ap (contents_with c.self.inside) c.deref_mut.ensures.value ∙ c.self.view_is)) before in
     let q = c.args.part in
     let slow = c.take.ensures.slow in
     let e = c.in_err-take.field-0.0 in
-    let why : part_refusal_of q w ≡ Some e = why-not (split_contents c.self.inside) w c.in-Some.ask q e slow h c.in-Some.is (subst (λ t. IsWhyNotTaken (t + 1) q c.in-Some.ask e) h.closed_is c.in_err-take.ensures.why) in
+    let why : part_refusal_of q w ≡ Some e = why-not (contents_with c.self.inside c.deref_mut.result.now) w c.in-Some.ask q e slow h c.in-Some.is (subst (λ t. IsWhyNotTaken (t + 1) q c.in-Some.ask e) h.closed_is c.in_err-take.ensures.why) in
     let was = c.in_err-take.was in
     let residual = c.from_residual.ensures in
     search rules
 
 pub returns-in_err-take-clause-why : goal.returns-in_err-take-clause-why
 returns-in_err-take-clause-why c = λ w before.
-    let h : SplitCoreStandsFor (split_contents c.self.inside) w = subst (λ (v : SplitContents). SplitCoreStandsFor v w) (sym c.self.view_is) before in
+    let h : SplitCoreStandsFor (contents_with c.self.inside c.deref_mut.result.now) w = subst (λ (v : SplitContents). SplitCoreStandsFor v w) (sym (ap (contents_with c.self.inside) c.deref_mut.ensures.value ∙ c.self.view_is)) before in
     let q = c.args.part in
     let slow = c.take.ensures.slow in
     let e = c.in_err-take.field-0.0 in
-    let why : part_refusal_of q w ≡ Some e = why-not (split_contents c.self.inside) w c.in-Some.ask q e slow h c.in-Some.is (subst (λ t. IsWhyNotTaken (t + 1) q c.in-Some.ask e) h.closed_is c.in_err-take.ensures.why) in
+    let why : part_refusal_of q w ≡ Some e = why-not (contents_with c.self.inside c.deref_mut.result.now) w c.in-Some.ask q e slow h c.in-Some.is (subst (λ t. IsWhyNotTaken (t + 1) q c.in-Some.ask e) h.closed_is c.in_err-take.ensures.why) in
     let was = c.in_err-take.was in
     let residual = c.from_residual.ensures in
     search rules
