@@ -1,10 +1,11 @@
 -- While a cycle runs, what the core was given and what is left are its lists, and what the closed ticks issued is committed.
-use Rattle.std.proofs.Common.{arith, refl, ap, sym, subst, ◌≡◌, ◌∙◌, ℕ, ◌+◌, ◌-◌, ◌*◌, ◌/◌, ◌<◌, ◌≤◌, inl, Bool, Some, Option, List, [], ◌∷◌, ◌++◌, map, length, append_assoc, append-nil, Result, Ok, Err, OnOk}
-use Rattle.std.specs.Prelude.{IsErr, drop}
+use Rattle.std.proofs.Common.{arith, refl, ap, sym, subst, ◌≡◌, ◌∙◌, ℕ, ◌+◌, ◌-◌, ◌*◌, ◌/◌, ◌<◌, ◌≤◌, inl, inr, Bool, true, Some, None, Option, List, [], ◌∷◌, ◌++◌, map, length, append_assoc, append-nil, Result, Ok, Err, OnOk}
+use Rattle.std.specs.Prelude.{IsErr, is_ok, drop}
 use Rattle.std.proofs.Math.Seq.{drop-append_seam}
 use Rattle.std.proofs.lemmas.Bool.{eqb-true}
 use Rattle.std.proofs.lemmas.List.{length-append, length-map}
 use Rattle.edr_items.specs.declared.Sensor.{Sensor}
+use Rattle.edr_items.specs.declared.Sensor.TheVariants.{Along, Across}
 use Rattle.edr_items.specs.declared.Item.{Item}
 use Rattle.edr_items.specs.Item.{mark_of, IsFeed}
 use Rattle.edr_items.specs.PerSensor.{total_of}
@@ -17,6 +18,7 @@ use Rattle.edr_definitions.proofs.KeepLaws.{commands-start}
 use Rattle.edr_definitions.proofs.LaterLaws.{issues-push}
 use Rattle.edr_definitions.proofs.MarkLaws.{mark-more, horizon-least, horizon-more, horizon-with_item}
 use Rattle.edr_definitions.proofs.ScheduleLaws.{never_ahead}
+use Rattle.edr_core.specs.Calls.{CoreFollows}
 use Rattle.edr_core.specs.Contents.{CoreContents}
 use Rattle.edr_core.specs.StandsFor.{CoreIsFor}
 use Rattle.edr_merge.specs.Answers.{is_waited_for, waited_for}
@@ -26,7 +28,7 @@ use Rattle.edr_cycle.specs.CycleLogged.{CycleLogged}
 use Rattle.edr_banks.specs.Opened.{OpenedBanks}
 use Rattle.edr_run.specs.Cycle.{issues_in}
 use Rattle.edr_cycle.specs.Commits.{Commits}
-use Rattle.edr_cycle.specs.Rest.{IsGiven, issues_between, issues_past}
+use Rattle.edr_cycle.specs.Rest.{IsGiven, IsFirstOf, TakesFirst, GivesFirst, MayGiveFirst, issues_between, issues_past}
 use Rattle.edr_cycle.proofs.CommittedLemmas.{commits_failed, commits_none, commits_same, commits_then}
 use Rattle.edr_run.proofs.IssueLemmas.{issues-few, issues-more, issues-under_way}
 
@@ -85,9 +87,30 @@ left_count-less s x ys left is =
 pub nothing_given : (s : Sensor) (xs : List Item) → xs ≡ items_of s no_items ++ xs
 nothing_given s xs = ap (λ (ys : List Item). ys ++ xs) (sym (value_of-each {A = List Item} [] s))
 
+-- what was the first item and was taken went to the core
+pub gives-first : (s : Sensor) (x : Item) (taken : Option Item) (rest : List Item) (core core' : CoreContents) (left left' : SensorLists) → items_of s left ≡ x ∷ rest
+    → TakesFirst taken (items_of s left) (items_of s left') → left' ≡ with_items s (items_of s left') left
+    → CoreFollows (λ p. after_step p (Give s x)) core core' → ((m : ℕ) (p : Progress) → CoreIsFor core m p → IsAllowed (Give s x) p)
+    → GivesFirst s core core' left left'
+gives-first s x None rest core core' left left' is takes others follows allowed = let none = sym is ∙ takes in absurd cc
+gives-first s x (Some y) rest core core' left left' is takes others follows allowed =
+    let same = sym is ∙ takes in
+    let left_are : rest ≡ items_of s left' = cc in
+    record {
+      item = x;
+      first = is ∙ ap (λ xs. x ∷ xs) left_are;
+      others = others;
+      gives = follows;
+      allowed = allowed;
+    }
+
 -- what holds with an Ok holds of this one
 pub on_ok : {T E P : Type 0} (r : Result T E) (x : T) → r ≡ Ok x → OnOk r P → P
 on_ok {P = P} r x is h = subst (λ y. OnOk y P) is h
+
+pub on_is_ok : {T E P : Type 0} (r : Result T E) → is_ok r ≡ true → OnOk r P → P
+on_is_ok (Ok x) is h = h
+on_is_ok (Err e) is h = absurd cc
 
 -- ---- the steps of a run
 module _ {D : Type 0} (content : D → Option (List ℕ)) (settled : D → ℕ → Bool) (since : D → ℕ → List ℕ → Type 0) (clock good : D → ℕ) (lists : SensorLists) (n base : ℕ) (b : OpenedBanks) (l : CycleLogged) (d : D) where
@@ -139,6 +162,36 @@ module _ {D : Type 0} (content : D → Option (List ℕ)) (settled : D → ℕ �
         from = run.from;
         commits = rw (sym (between-same p.given (with_item s x p.given) n base p.closed (issues-push s p.given x n base (let from = run.from in omega (arith, from, later))) (issues-push s p.given x n p.closed later))) run.commits;
       }
+
+  -- one that may have been given
+  pub run-may_give : (core core' : CoreContents) (left left' : SensorLists) (b' : OpenedBanks) (l' : CycleLogged) (d' : D) (s : Sensor) → Now core left b' l' d' → MayGiveFirst s core core' left left' → Now core' left' b' l' d'
+  run-may_give core core' left left' b' l' d' s run (inl g) =
+      let p = run.given.progress in
+      let is = run.given.core_is in
+      run-gives core core' left left' b' l' d' s g.item run (g.gives n p is) (g.allowed n p is) g.first g.others
+  run-may_give core core' left left' b' l' d' s run (inr same) = rw (same.0, same.1) run
+
+  -- one of each axis
+  pub run-axes : (core core' core'' : CoreContents) (left left' left'' : SensorLists) (b' : OpenedBanks) (l' : CycleLogged) (d' : D) → Now core left b' l' d' → MayGiveFirst Along core core' left left' → MayGiveFirst Across core' core'' left' left'' → Now core'' left'' b' l' d'
+  run-axes core core' core'' left left' left'' b' l' d' run along across = run-may_give core' core'' left' left'' b' l' d' Across (run-may_give core core' left left' b' l' d' Along run along) across
+
+  -- then no tick was closed, and no more is left
+  pub closed-may_give : (core core' : CoreContents) (left left' : SensorLists) (b' : OpenedBanks) (l' : CycleLogged) (d' : D) (s : Sensor) → Now core left b' l' d' → MayGiveFirst s core core' left left'
+      → (core'.closed ≡ core.closed) × (left_count left' ≤ left_count left)
+  closed-may_give core core' left left' b' l' d' s run (inl g) =
+      let p = run.given.progress in
+      let is = run.given.core_is in
+      let less = left_count-less s g.item (items_of s left') left g.first in
+      let others = ap left_count g.others in
+      ((g.gives n p is).closed_is ∙ sym is.closed_is, omega (arith, less, others))
+  closed-may_give core core' left left' b' l' d' s run (inr same) = let left = ap left_count same.1 in (ap (λ (c : CoreContents). c.closed) same.0, omega (arith, left))
+
+  pub closed-axes : (core core' core'' : CoreContents) (left left' left'' : SensorLists) (b' : OpenedBanks) (l' : CycleLogged) (d' : D) → Now core left b' l' d' → MayGiveFirst Along core core' left left' → MayGiveFirst Across core' core'' left' left''
+      → (core''.closed ≡ core.closed) × (left_count left'' ≤ left_count left)
+  closed-axes core core' core'' left left' left'' b' l' d' run along across =
+      let first = closed-may_give core core' left left' b' l' d' Along run along in
+      let second = closed-may_give core' core'' left' left'' b' l' d' Across (run-may_give core core' left left' b' l' d' Along run along) across in
+      (second.0 ∙ first.0, let a = first.1 in let b = second.1 in omega (arith, a, b))
 
   module _ (feeds : AreFeeds lists) (level : IsLevel lists) where
     under_way : (core : CoreContents) (left : SensorLists) → (g : IsGiven lists n core left) → IsUnderWay lists g.progress

@@ -10,16 +10,17 @@ ghost use Rattle.edr_image.specs.Image.{image_size};
 ghost use Rattle.edr_run.specs.Cycle.{issues_in};
 ghost use Rattle.edr_cycle.specs.Begun.{room_for};
 ghost use Rattle.edr_cycle.specs.Ledgers.{CommitsIn};
-ghost use Rattle.edr_cycle.specs.Rest.{IsGiven, issues_past};
+ghost use Rattle.edr_cycle.specs.Rest.{IsGiven, MayGiveFirst, issues_past};
 
 use crate::commits::commit_tick;
 use crate::ledger::Ledger;
 use crate::left::Left;
 use edr_core::{Closing, Core, Issued};
 use edr_device::{Failed, Nvm};
-use edr_items::Feeds;
+use edr_items::{Feeds, Sensor};
 
 /// Commits what a closed tick issues, if it issues anything.
+#[inline(always)]
 pub(crate) fn commit_closed<L: Ledger, N: Nvm>(
     ledger: &mut L,
     nvm: &mut N,
@@ -38,6 +39,19 @@ pub(crate) fn commit_closed<L: Ledger, N: Nvm>(
         commit_tick(ledger, nvm, tick, issued)
     } else {
         Ok(())
+    }
+}
+
+// Gives the sensor's next item, where it is due in the next tick and the core takes it.
+#[inline(always)]
+fn give_next(core: &mut Core, left: &mut Left<'_>, sensor: Sensor)
+    ensures { MayGiveFirst sensor core.old core.new left.old left.new }
+{
+    let Some(item) = left.first(sensor) else {
+        return;
+    };
+    if item.moment <= core.closed().saturating_add(1) && core.accept(sensor, item).is_ok() {
+        left.next(sensor);
     }
 }
 
@@ -62,6 +76,8 @@ fn give_on<L: Ledger, N: Nvm>(
 {
     let mut issued = Issued::none();
     loop {
+        give_next(core, left, Sensor::Along);
+        give_next(core, left, Sensor::Across);
         match core.close(&mut issued) {
             Closing::Closed { tick, issues } => {
                 commit_closed(ledger, nvm, tick, issues, &issued)?
@@ -79,8 +95,8 @@ fn give_on<L: Ledger, N: Nvm>(
 /// Gives the items of the feeds to the core of a cycle, and commits what it issues, up to the horizon or to a command that
 /// fails.
 ///
-/// A sensor's next item is given when the core waits for that sensor, so none is refused. Where nothing is left of it, the
-/// horizon is closed.
+/// The next item of an axis is given before the tick that it is due in, so the core seldom waits for one. Any other sensor's is
+/// given when the core waits for that sensor, so none is refused. Where nothing is left of it, the horizon is closed.
 pub(crate) fn run<L: Ledger, N: Nvm>(
     mut core: Core,
     feeds: &Feeds,

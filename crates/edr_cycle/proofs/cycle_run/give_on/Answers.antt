@@ -4,7 +4,7 @@ use Rattle.edr_core.specs.Answers.{commands_put}
 use Rattle.edr_device.specs.Faults.{Rose}
 use Rattle.edr_device.proofs.SettlingLemmas.{on_err, tells_again}
 use Rattle.edr_cycle.proofs.AnsweredLemmas.{tells_self}
-use Rattle.edr_cycle.proofs.RunStepLemmas.{closes-below, give-allowed, left_count, left_count-less, on_ok, room-left, run-begins, run-closes, run-fails, run-gives, run-over}
+use Rattle.edr_cycle.proofs.RunStepLemmas.{closes-below, give-allowed, left_count, left_count-less, on_ok, room-left, closed-axes, run-axes, run-begins, run-closes, run-fails, run-gives, run-over}
 use Rattle.edr_cycle.proofs.cycle_run.give_on.Goals as goal
 
 -- at first nothing was given
@@ -26,11 +26,11 @@ commit_closed-requires-clause-room g c =
     let N = g.N.Nvm in
     let L = g.L.Ledger in
     let n = c.args.core.now.cycle in
-    let run = c.loop-tick.invariant.runs in
+    let run = run-axes N.content N.settled N.since N.clock N.last_good c.args.feeds.now n c.args.core.now.closed (L.banks c.args.ledger.now) (L.log c.args.ledger.now) c.args.nvm.now c.loop-tick.core c.give_next.new.core c.give_next-in-loop-tick.new.core c.loop-tick.left c.give_next.new.left c.give_next-in-loop-tick.new.left (L.banks c.loop-tick.ledger) (L.log c.loop-tick.ledger) c.loop-tick.nvm c.loop-tick.invariant.runs c.give_next.ensures c.give_next-in-loop-tick.ensures in
     let p = run.given.progress in
     let step = c.in-Closed.ensures in
     room-left N.content N.settled N.since N.clock N.last_good c.args.feeds.now n c.args.core.now.closed (L.banks c.args.ledger.now) (L.log c.args.ledger.now) c.args.nvm.now c.requires.feeds c.requires.level
-    c.loop-tick.core c.loop-tick.left (L.banks c.loop-tick.ledger) (L.log c.loop-tick.ledger) c.loop-tick.nvm c.in-Closed.tick (commands_put c.in-Closed.issues c.close.new.issued) run
+    c.give_next-in-loop-tick.new.core c.give_next-in-loop-tick.new.left (L.banks c.loop-tick.ledger) (L.log c.loop-tick.ledger) c.loop-tick.nvm c.in-Closed.tick (commands_put c.in-Closed.issues c.close.new.issued) run
     ((step.allowed n p run.given.core_is).0 tt) (step.commands n p run.given.core_is).0 (step.ticks n p run.given.core_is) c.requires.room
 
 pub loop-tick-smaller-in-Continue-1 : goal.loop-tick-smaller-in-Continue-1
@@ -38,14 +38,17 @@ loop-tick-smaller-in-Continue-1 g c =
     let N = g.N.Nvm in
     let L = g.L.Ledger in
     let n = c.args.core.now.cycle in
-    let run = c.loop-tick.invariant.runs in
+    let run = run-axes N.content N.settled N.since N.clock N.last_good c.args.feeds.now n c.args.core.now.closed (L.banks c.args.ledger.now) (L.log c.args.ledger.now) c.args.nvm.now c.loop-tick.core c.give_next.new.core c.give_next-in-loop-tick.new.core c.loop-tick.left c.give_next.new.left c.give_next-in-loop-tick.new.left (L.banks c.loop-tick.ledger) (L.log c.loop-tick.ledger) c.loop-tick.nvm c.loop-tick.invariant.runs c.give_next.ensures c.give_next-in-loop-tick.ensures in
     let p = run.given.progress in
     let step = c.in-Closed.ensures in
     let may = (step.allowed n p run.given.core_is).0 tt in
-    let below = closes-below N.content N.settled N.since N.clock N.last_good c.args.feeds.now n c.args.core.now.closed (L.banks c.args.ledger.now) (L.log c.args.ledger.now) c.args.nvm.now c.requires.feeds c.requires.level c.loop-tick.core c.loop-tick.left run.given may in
+    let below = closes-below N.content N.settled N.since N.clock N.last_good c.args.feeds.now n c.args.core.now.closed (L.banks c.args.ledger.now) (L.log c.args.ledger.now) c.args.nvm.now c.requires.feeds c.requires.level c.give_next-in-loop-tick.new.core c.give_next-in-loop-tick.new.left run.given may in
     let before = run.given.core_is.closed_is in
     let after = (step.stands n p run.given.core_is).closed_is in
-    omega (arith, below, before, after)
+    let axes = closed-axes N.content N.settled N.since N.clock N.last_good c.args.feeds.now n c.args.core.now.closed (L.banks c.args.ledger.now) (L.log c.args.ledger.now) c.args.nvm.now c.loop-tick.core c.give_next.new.core c.give_next-in-loop-tick.new.core c.loop-tick.left c.give_next.new.left c.give_next-in-loop-tick.new.left (L.banks c.loop-tick.ledger) (L.log c.loop-tick.ledger) c.loop-tick.nvm c.loop-tick.invariant.runs c.give_next.ensures c.give_next-in-loop-tick.ensures in
+    let same = axes.0 in
+    let fewer = axes.1 in
+    omega (arith, below, before, after, same, fewer)
 
 pub loop-tick-preserved-in-Continue-1 : goal.loop-tick-preserved-in-Continue-1
 loop-tick-preserved-in-Continue-1 g c =
@@ -53,14 +56,14 @@ loop-tick-preserved-in-Continue-1 g c =
     let L = g.L.Ledger in
     let n = c.args.core.now.cycle in
     let kept = c.loop-tick.invariant in
-    let run = kept.runs in
+    let run = run-axes N.content N.settled N.since N.clock N.last_good c.args.feeds.now n c.args.core.now.closed (L.banks c.args.ledger.now) (L.log c.args.ledger.now) c.args.nvm.now c.loop-tick.core c.give_next.new.core c.give_next-in-loop-tick.new.core c.loop-tick.left c.give_next.new.left c.give_next-in-loop-tick.new.left (L.banks c.loop-tick.ledger) (L.log c.loop-tick.ledger) c.loop-tick.nvm kept.runs c.give_next.ensures c.give_next-in-loop-tick.ensures in
     let p = run.given.progress in
     let step = c.in-Closed.ensures in
     let cause = c.commit_closed.ensures.lent.cause.later in
     let later = kept.later in
     record {
       runs = run-closes N.content N.settled N.since N.clock N.last_good c.args.feeds.now n c.args.core.now.closed (L.banks c.args.ledger.now) (L.log c.args.ledger.now) c.args.nvm.now
-          c.loop-tick.core c.close.new.self c.loop-tick.left (L.banks c.loop-tick.ledger) (L.banks c.commit_closed.new.ledger) (L.log c.loop-tick.ledger) (L.log c.commit_closed.new.ledger) c.loop-tick.nvm c.commit_closed.new.nvm c.in-Closed.tick
+          c.give_next-in-loop-tick.new.core c.close.new.self c.give_next-in-loop-tick.new.left (L.banks c.loop-tick.ledger) (L.banks c.commit_closed.new.ledger) (L.log c.loop-tick.ledger) (L.log c.commit_closed.new.ledger) c.loop-tick.nvm c.commit_closed.new.nvm c.in-Closed.tick
           (commands_put c.in-Closed.issues c.close.new.issued) c.commit_closed.result _ run
           (step.stands n p run.given.core_is) ((step.allowed n p run.given.core_is).0 tt) (step.commands n p run.given.core_is).0 (step.ticks n p run.given.core_is) c.in_ok-commit_closed-in-Closed.was c.commit_closed.ensures.commits;
       size = c.commit_closed.ensures.lent.size ∙ kept.size;
@@ -88,11 +91,11 @@ returns-in_err-commit_closed-in-Closed-clause-commits g c =
     let N = g.N.Nvm in
     let L = g.L.Ledger in
     let n = c.args.core.now.cycle in
-    let run = c.loop-tick.invariant.runs in
+    let run = run-axes N.content N.settled N.since N.clock N.last_good c.args.feeds.now n c.args.core.now.closed (L.banks c.args.ledger.now) (L.log c.args.ledger.now) c.args.nvm.now c.loop-tick.core c.give_next.new.core c.give_next-in-loop-tick.new.core c.loop-tick.left c.give_next.new.left c.give_next-in-loop-tick.new.left (L.banks c.loop-tick.ledger) (L.log c.loop-tick.ledger) c.loop-tick.nvm c.loop-tick.invariant.runs c.give_next.ensures c.give_next-in-loop-tick.ensures in
     let p = run.given.progress in
     let step = c.in-Closed.ensures in
     run-fails N.content N.settled N.since N.clock N.last_good c.args.feeds.now n c.args.core.now.closed (L.banks c.args.ledger.now) (L.log c.args.ledger.now) c.args.nvm.now c.requires.feeds c.requires.level
-    c.loop-tick.core c.loop-tick.left (L.banks c.loop-tick.ledger) (L.banks c.commit_closed.new.ledger) (L.log c.loop-tick.ledger) (L.log c.commit_closed.new.ledger) c.loop-tick.nvm c.commit_closed.new.nvm c.in-Closed.tick
+    c.give_next-in-loop-tick.new.core c.give_next-in-loop-tick.new.left (L.banks c.loop-tick.ledger) (L.banks c.commit_closed.new.ledger) (L.log c.loop-tick.ledger) (L.log c.commit_closed.new.ledger) c.loop-tick.nvm c.commit_closed.new.nvm c.in-Closed.tick
     (commands_put c.in-Closed.issues c.close.new.issued) c.commit_closed.result c.from_residual.result _ run
     ((step.allowed n p run.given.core_is).0 tt) (step.commands n p run.given.core_is).0 (step.ticks n p run.given.core_is) c.in_err-commit_closed-in-Closed.was c.from_residual.ensures.0 c.commit_closed.ensures.commits
 
@@ -102,9 +105,9 @@ returns-in_default-clause-commits g c =
     let N = g.N.Nvm in
     let L = g.L.Ledger in
     let n = c.args.core.now.cycle in
-    let run = c.loop-tick.invariant.runs in
+    let run = run-axes N.content N.settled N.since N.clock N.last_good c.args.feeds.now n c.args.core.now.closed (L.banks c.args.ledger.now) (L.log c.args.ledger.now) c.args.nvm.now c.loop-tick.core c.give_next.new.core c.give_next-in-loop-tick.new.core c.loop-tick.left c.give_next.new.left c.give_next-in-loop-tick.new.left (L.banks c.loop-tick.ledger) (L.log c.loop-tick.ledger) c.loop-tick.nvm c.loop-tick.invariant.runs c.give_next.ensures c.give_next-in-loop-tick.ensures in
     run-over N.content N.settled N.since N.clock N.last_good c.args.feeds.now n c.args.core.now.closed (L.banks c.args.ledger.now) (L.log c.args.ledger.now) c.args.nvm.now c.requires.feeds c.requires.level tt
-    c.loop-tick.core c.loop-tick.left (L.banks c.loop-tick.ledger) (L.log c.loop-tick.ledger) c.loop-tick.nvm c.in-Waiting.sensor run (c.in-Waiting.ensures.waits n run.given.progress run.given.core_is) c.in_default.ensures.item
+    c.give_next-in-loop-tick.new.core c.give_next-in-loop-tick.new.left (L.banks c.loop-tick.ledger) (L.log c.loop-tick.ledger) c.loop-tick.nvm c.in-Waiting.sensor run (c.in-Waiting.ensures.waits n run.given.progress run.given.core_is) c.in_default.ensures.item
 
 -- an item is given
 pub unwrap-requires : goal.unwrap-requires
@@ -112,20 +115,25 @@ unwrap-requires g c =
     let N = g.N.Nvm in
     let L = g.L.Ledger in
     let n = c.args.core.now.cycle in
-    let run = c.loop-tick.invariant.runs in
+    let run = run-axes N.content N.settled N.since N.clock N.last_good c.args.feeds.now n c.args.core.now.closed (L.banks c.args.ledger.now) (L.log c.args.ledger.now) c.args.nvm.now c.loop-tick.core c.give_next.new.core c.give_next-in-loop-tick.new.core c.loop-tick.left c.give_next.new.left c.give_next-in-loop-tick.new.left (L.banks c.loop-tick.ledger) (L.log c.loop-tick.ledger) c.loop-tick.nvm c.loop-tick.invariant.runs c.give_next.ensures c.give_next-in-loop-tick.ensures in
     let may = give-allowed N.content N.settled N.since N.clock N.last_good c.args.feeds.now n c.args.core.now.closed (L.banks c.args.ledger.now) (L.log c.args.ledger.now) c.args.nvm.now c.requires.feeds c.requires.level
-    c.loop-tick.core c.loop-tick.left run.given c.in-Waiting.sensor c.in-Some.item _ (c.in-Waiting.ensures.waits n run.given.progress run.given.core_is) c.in-Some.ensures.item in
+    c.give_next-in-loop-tick.new.core c.give_next-in-loop-tick.new.left run.given c.in-Waiting.sensor c.in-Some.item _ (c.in-Waiting.ensures.waits n run.given.progress run.given.core_is) c.in-Some.ensures.item in
     (c.accept.ensures.allowed n run.given.progress (c.in-Waiting.ensures.stands n run.given.progress run.given.core_is)).1 may
 
 pub loop-tick-smaller : goal.loop-tick-smaller
 loop-tick-smaller g c =
+    let N = g.N.Nvm in
+    let L = g.L.Ledger in
     let n = c.args.core.now.cycle in
-    let run = c.loop-tick.invariant.runs in
+    let run = run-axes N.content N.settled N.since N.clock N.last_good c.args.feeds.now n c.args.core.now.closed (L.banks c.args.ledger.now) (L.log c.args.ledger.now) c.args.nvm.now c.loop-tick.core c.give_next.new.core c.give_next-in-loop-tick.new.core c.loop-tick.left c.give_next.new.left c.give_next-in-loop-tick.new.left (L.banks c.loop-tick.ledger) (L.log c.loop-tick.ledger) c.loop-tick.nvm c.loop-tick.invariant.runs c.give_next.ensures c.give_next-in-loop-tick.ensures in
     let before = run.given.core_is.closed_is in
     let after = (on_ok c.accept.result c.unwrap.result c.unwrap.ensures c.accept.ensures.ok n run.given.progress (c.in-Waiting.ensures.stands n run.given.progress run.given.core_is)).closed_is in
     let others = ap left_count c.in-Some.ensures.others in
-    let less = left_count-less c.in-Waiting.sensor c.in-Some.item (items_of c.in-Waiting.sensor c.next.new.self) c.loop-tick.left c.in-Some.ensures.item in
-    omega (arith, before, after, others, less)
+    let less = left_count-less c.in-Waiting.sensor c.in-Some.item (items_of c.in-Waiting.sensor c.next.new.self) c.give_next-in-loop-tick.new.left c.in-Some.ensures.item in
+    let axes = closed-axes N.content N.settled N.since N.clock N.last_good c.args.feeds.now n c.args.core.now.closed (L.banks c.args.ledger.now) (L.log c.args.ledger.now) c.args.nvm.now c.loop-tick.core c.give_next.new.core c.give_next-in-loop-tick.new.core c.loop-tick.left c.give_next.new.left c.give_next-in-loop-tick.new.left (L.banks c.loop-tick.ledger) (L.log c.loop-tick.ledger) c.loop-tick.nvm c.loop-tick.invariant.runs c.give_next.ensures c.give_next-in-loop-tick.ensures in
+    let same = axes.0 in
+    let fewer = axes.1 in
+    omega (arith, before, after, others, less, same, fewer)
 
 pub loop-tick-preserved : goal.loop-tick-preserved
 loop-tick-preserved g c =
@@ -133,14 +141,14 @@ loop-tick-preserved g c =
     let L = g.L.Ledger in
     let n = c.args.core.now.cycle in
     let kept = c.loop-tick.invariant in
-    let run = kept.runs in
+    let run = run-axes N.content N.settled N.since N.clock N.last_good c.args.feeds.now n c.args.core.now.closed (L.banks c.args.ledger.now) (L.log c.args.ledger.now) c.args.nvm.now c.loop-tick.core c.give_next.new.core c.give_next-in-loop-tick.new.core c.loop-tick.left c.give_next.new.left c.give_next-in-loop-tick.new.left (L.banks c.loop-tick.ledger) (L.log c.loop-tick.ledger) c.loop-tick.nvm kept.runs c.give_next.ensures c.give_next-in-loop-tick.ensures in
     let p = run.given.progress in
     let may = give-allowed N.content N.settled N.since N.clock N.last_good c.args.feeds.now n c.args.core.now.closed (L.banks c.args.ledger.now) (L.log c.args.ledger.now) c.args.nvm.now c.requires.feeds c.requires.level
-    c.loop-tick.core c.loop-tick.left run.given c.in-Waiting.sensor c.in-Some.item _ (c.in-Waiting.ensures.waits n p run.given.core_is) c.in-Some.ensures.item in
+    c.give_next-in-loop-tick.new.core c.give_next-in-loop-tick.new.left run.given c.in-Waiting.sensor c.in-Some.item _ (c.in-Waiting.ensures.waits n p run.given.core_is) c.in-Some.ensures.item in
     let stands = on_ok c.accept.result c.unwrap.result c.unwrap.ensures c.accept.ensures.ok n p (c.in-Waiting.ensures.stands n p run.given.core_is) in
     record {
       runs = run-gives N.content N.settled N.since N.clock N.last_good c.args.feeds.now n c.args.core.now.closed (L.banks c.args.ledger.now) (L.log c.args.ledger.now) c.args.nvm.now
-          c.loop-tick.core c.accept.new.self c.loop-tick.left c.next.new.self (L.banks c.loop-tick.ledger) (L.log c.loop-tick.ledger) c.loop-tick.nvm c.in-Waiting.sensor c.in-Some.item run stands may c.in-Some.ensures.item c.in-Some.ensures.others;
+          c.give_next-in-loop-tick.new.core c.accept.new.self c.give_next-in-loop-tick.new.left c.next.new.self (L.banks c.loop-tick.ledger) (L.log c.loop-tick.ledger) c.loop-tick.nvm c.in-Waiting.sensor c.in-Some.item run stands may c.in-Some.ensures.item c.in-Some.ensures.others;
       size = kept.size;
       later = kept.later;
       device = kept.device;
