@@ -14,7 +14,7 @@ use std::thread::{Threads, map_chunks};
 
 /// So many bytes are held at least before their frames are reported. Then the same memory serves
 /// again: to take fresh memory for all bytes costs more time than to read them.
-const PORTION: usize = 4_194_304;
+const PORTION: usize = 16_777_216;
 
 // The report of whole frames that follow one another, how many images they have, and how many bytes.
 #[derive(Drop)]
@@ -38,7 +38,7 @@ fn drop_first(bytes: &mut Vec<u8>, end: usize)
 }
 
 /// The report of the images whose frames came so far, by up to eight workers, and the bytes that
-/// came after these. It holds some four million bytes, or one frame that is longer.
+/// came after these. It holds some sixteen million bytes, or one frame that is longer.
 #[derive(Drop)]
 pub struct FleetReading {
     alloc: Global,
