@@ -1,5 +1,5 @@
 //! Serves `audit`: says whether what the device holds, and a report, come from an earlier image and a trace.
-ghost use Rattle.std.specs.Prelude.{◌≡◌, ◌⊎◌, ◌+◌, ◌≤◌, ◌++◌, List, IfOk, IfErr, IfSome, OnOk, length, min, take};
+ghost use Rattle.std.specs.Prelude.{◌≡◌, ◌⊎◌, ◌+◌, ◌≤◌, ◌++◌, IfOk, IfErr, IfSome, OnOk, length, min, take};
 ghost use Rattle.arrayvec.specs.ArrayString.{array_string_len};
 ghost use Rattle.edr_device.specs.Faults.{HasCause, Rose};
 ghost use Rattle.edr_device.specs.Lent.{GoesOn, OnlyRead};
