@@ -40,15 +40,15 @@ view_fits report to o view = record { banks = ap (λ (s : Store). s.banks) view.
 record Split {A B : Type 0} (f : A → B) (xs : List A) (front : List B) (b : B) (rest : List B) : Type 0 where
   before : List A
   at : A
-  behind : List A
-  whole : xs ≡ before ++ at ∷ behind
+  after : List A
+  whole : xs ≡ before ++ at ∷ after
   front_is : map f before ≡ front
   at_is : f at ≡ b
 
 split : {A B : Type 0} (f : A → B) (xs : List A) (front : List B) (b : B) (rest : List B) → map f xs ≡ front ++ b ∷ rest → Split f xs front b rest
 split f [] [] b rest e = cc
 split f [] (c ∷ front) b rest e = cc
-split f (x ∷ xs) [] b rest e = record { before = []; at = x; behind = xs; whole = refl; front_is = refl; at_is = cc }
+split f (x ∷ xs) [] b rest e = record { before = []; at = x; after = xs; whole = refl; front_is = refl; at_is = cc }
 split f (x ∷ xs) (c ∷ front) b rest e =
     let tail : map f xs ≡ front ++ b ∷ rest = cc in
     let head : f x ≡ c = cc in
@@ -56,7 +56,7 @@ split f (x ∷ xs) (c ∷ front) b rest e =
     record {
       before = x ∷ later.before;
       at = later.at;
-      behind = later.behind;
+      after = later.after;
       whole = ap (λ ys. x ∷ ys) later.whole;
       front_is = ap (λ y. y ∷ map f later.before) head ∙ ap (λ ys. c ∷ ys) later.front_is;
       at_is = later.at_is;
@@ -112,7 +112,7 @@ judged-is before trace after report from to cycles bs (Differs Run) audited are 
 judged-is before trace after report from to cycles bs (Differs (Report offset)) audited are headers judged =
     let f = judged.0 in
     let s = split (branch_of report) (outcomes cycles from.store from.count) f.front f.branch f.rest (are ∙ f.listed) in
-    let listed : Contains (outcomes cycles from.store from.count) s.at = subst (λ (xs : List Outcome). Contains xs s.at) (sym s.whole) (in_middle s.before s.behind s.at) in
+    let listed : Contains (outcomes cycles from.store from.count) s.at = subst (λ (xs : List Outcome). Contains xs s.at) (sym s.whole) (in_middle s.before s.after s.at) in
     record {
       from = from;
       cycles = cycles;
@@ -121,7 +121,7 @@ judged-is before trace after report from to cycles bs (Differs (Report offset)) 
       audited = audited;
       member = record {
         front = s.before;
-        rest = s.behind;
+        rest = s.after;
         listed = s.whole;
         view = fits_is report to s.at (headers s.at listed) (subst (Fits to) (sym s.at_is) f.fits);
         others = λ p h view. f.others (branch_of report p) (subst (λ (xs : List BranchState). Contains xs (branch_of report p)) s.front_is (contains_mapped (branch_of report) s.before p h)) (view_fits report to p view);

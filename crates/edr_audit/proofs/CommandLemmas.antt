@@ -16,7 +16,7 @@ use Rattle.edr_audit.specs.Compared.{compare}
 use Rattle.edr_audit.specs.Walk.{WalkState, state_in, walk_steps}
 use Rattle.edr_audit.specs.Branches.{WalkerState, compare_line, walker_past, walker_with, line_after}
 use Rattle.edr_audit.proofs.CompareLemmas.{compare_append}
-use Rattle.edr_audit.proofs.WalkLemmas.{going, halted, HaltsWith, map_map, map_same, steps-halted, steps-none, steps-past, steps-within, stops-behind, stops-front}
+use Rattle.edr_audit.proofs.WalkLemmas.{going, halted, HaltsWith, map_map, map_same, steps-halted, steps-none, steps-past, steps-within, stops-after, stops-front}
 
 -- ---- the text of acknowledgements
 
@@ -167,6 +167,6 @@ past-stop report hd place n (i ∷ is) b h k off cut low high = by_test (nat_le 
       let ends_same : map (λ done. fold banks_after b1 done) (stops k1 rest) ≡ map (λ done. fold banks_after b done) (stops k (r.steps ++ rest)) =
       map_same (λ done. fold banks_after b1 done) (λ done. fold banks_after b (r.steps ++ done)) (stops k1 rest) (λ done. sym (fold-append banks_after b r.steps done))
       ∙ sym (map_map (λ done. fold banks_after b done) (λ d. r.steps ++ d) (stops k1 rest))
-      ∙ ap (λ ds. map (λ done. fold banks_after b done) ds) (sym (stops-behind r.steps rest k after)) in
+      ∙ ap (λ ds. map (λ done. fold banks_after b done) ds) (sym (stops-after r.steps rest k after)) in
       subst (λ ds. Stops (past_all report hd place (walker_past report hd place (on n b h (Some k) off cut) i) is) n ds text) ends_same
       (subst (λ (w : WalkerState). Stops (past_all report hd place w is) n (map (λ done. fold banks_after b1 done) (stops k1 rest)) text) (sym first) more)

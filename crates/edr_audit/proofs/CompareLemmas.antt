@@ -14,9 +14,9 @@ differs_stays : (report : List ℕ) (n : ℕ) (text : List ℕ) → compare repo
 differs_stays report n [] = refl
 differs_stays report n (b ∷ text) = differs_stays report n text
 
-index_behind : (front : List ℕ) (y : ℕ) (ys : List ℕ) → slice_index (front ++ y ∷ ys) (length front) ≡ y
-index_behind [] y ys = refl
-index_behind (x ∷ front) y ys = index_behind front y ys
+index_after : (front : List ℕ) (y : ℕ) (ys : List ℕ) → slice_index (front ++ y ∷ ys) (length front) ≡ y
+index_after [] y ys = refl
+index_after (x ∷ front) y ys = index_after front y ys
 
 some_plus : (n : ℕ) → Some n ≡ Some (n + 0)
 some_plus n = ap Some (omega arith)
@@ -25,26 +25,26 @@ twice : (n : ℕ) (o : Option ℕ) → option_map (λ k. n + 1 + k) o ≡ option
 twice n None = refl
 twice n (Some k) = ap Some (omega arith)
 
-below_behind : (front : List ℕ) (y : ℕ) (ys : List ℕ) → nat_lt (length front) (length (front ++ y ∷ ys)) ≡ true
-below_behind front y ys = let long = length-append front (y ∷ ys) in grind (arith, nat_tests, long)
+below_after : (front : List ℕ) (y : ℕ) (ys : List ℕ) → nat_lt (length front) (length (front ++ y ∷ ys)) ≡ true
+below_after front y ys = let long = length-append front (y ∷ ys) in grind (arith, nat_tests, long)
 
 not_below : (front : List ℕ) → nat_lt (length front) (length (front ++ [])) ≡ false
 not_below front = let long = length-append front [] in grind (arith, nat_tests, long)
 
 -- past the bytes that are the same
-behind : (front ys text : List ℕ) → difference_in (front ++ ys) (compare (front ++ ys) (Same (length front)) text) ≡ option_map (λ k. length front + k) (first_difference ys text)
-behind front [] [] = ap (λ t. cond t (Some (length front)) None) (not_below front)
-behind front (y ∷ ys) [] = ap (λ t. cond t (Some (length front)) None) (below_behind front y ys) ∙ some_plus (length front)
-behind front [] (b ∷ text) =
+after_front : (front ys text : List ℕ) → difference_in (front ++ ys) (compare (front ++ ys) (Same (length front)) text) ≡ option_map (λ k. length front + k) (first_difference ys text)
+after_front front [] [] = ap (λ t. cond t (Some (length front)) None) (not_below front)
+after_front front (y ∷ ys) [] = ap (λ t. cond t (Some (length front)) None) (below_after front y ys) ∙ some_plus (length front)
+after_front front [] (b ∷ text) =
     let n = length front in
     let report = front ++ [] in
     let first : compare_byte report (Same n) b ≡ Differs n = ap (λ t. cond (t && nat_eq (slice_index report n) b) (Same (n + 1)) (Differs n)) (not_below front) in
     ap (λ c. difference_in report (compare report c text)) first ∙ ap (difference_in report) (differs_stays report n text) ∙ some_plus n
-behind front (y ∷ ys) (b ∷ text) = by_test (nat_eq y b) refl (behind (front ++ y ∷ []) ys text) where
+after_front front (y ∷ ys) (b ∷ text) = by_test (nat_eq y b) refl (after_front (front ++ y ∷ []) ys text) where
   first : compare_byte (front ++ y ∷ ys) (Same (length front)) b ≡ cond (nat_eq y b) (Same (length front + 1)) (Differs (length front))
   first =
-      ap (λ t. cond (t && nat_eq (slice_index (front ++ y ∷ ys) (length front)) b) (Same (length front + 1)) (Differs (length front))) (below_behind front y ys)
-      ∙ ap (λ x. cond (nat_eq x b) (Same (length front + 1)) (Differs (length front))) (index_behind front y ys)
+      ap (λ t. cond (t && nat_eq (slice_index (front ++ y ∷ ys) (length front)) b) (Same (length front + 1)) (Differs (length front))) (below_after front y ys)
+      ∙ ap (λ x. cond (nat_eq x b) (Same (length front + 1)) (Differs (length front))) (index_after front y ys)
 
   next : difference_in ((front ++ y ∷ []) ++ ys) (compare ((front ++ y ∷ []) ++ ys) (Same (length (front ++ y ∷ []))) text) ≡ option_map (λ k. length (front ++ y ∷ []) + k) (first_difference ys text)
       → difference_in (front ++ y ∷ ys) (compare (front ++ y ∷ ys) (Same (length front + 1)) text) ≡ option_map (λ k. length front + 1 + k) (first_difference ys text)
@@ -71,7 +71,7 @@ zero_plus (Some k) = ap Some (omega arith)
 
 -- from the first byte of a text to its last
 pub compared-is : (report text : List ℕ) → difference_in report (compare report (Same 0) text) ≡ first_difference report text
-compared-is report text = behind [] report text ∙ zero_plus (first_difference report text)
+compared-is report text = after_front [] report text ∙ zero_plus (first_difference report text)
 
 -- none is found exactly where the report is the text
 pub none-same : (report text : List ℕ) → first_difference report text ≡ None → report ≡ text

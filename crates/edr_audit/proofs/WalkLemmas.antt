@@ -79,16 +79,16 @@ steps-within (s ∷ steps) b h k low high = by_test (nat_le k (calls_of s)) refl
 
 -- ---- stops of steps that follow others
 
-pub stops-behind : (steps more : List BankStep) (k : ℕ) → all_calls steps < k → stops k (steps ++ more) ≡ map (λ d. steps ++ d) (stops (k - all_calls steps) more)
+pub stops-after : (steps more : List BankStep) (k : ℕ) → all_calls steps < k → stops k (steps ++ more) ≡ map (λ d. steps ++ d) (stops (k - all_calls steps) more)
 unfolding stops
-stops-behind [] more k past = let same : k ≡ k - 0 = omega arith in ap (λ j. stops j more) same ∙ sym (map_id (stops (k - 0) more)) where
+stops-after [] more k past = let same : k ≡ k - 0 = omega arith in ap (λ j. stops j more) same ∙ sym (map_id (stops (k - 0) more)) where
   map_id : (xs : List (List BankStep)) → map (λ d. d) xs ≡ xs
   map_id [] = refl
   map_id (x ∷ xs) = ap (λ ys. x ∷ ys) (map_id xs)
-stops-behind (s ∷ steps) more k past =
+stops-after (s ∷ steps) more k past =
     let cons : all_calls (s ∷ steps) ≡ calls_of s + all_calls steps = sum_by-cons calls_of s steps in
     let first : nat_le k (calls_of s) ≡ false = le_false k (calls_of s) (omega (arith, past, cons)) in
-    let later = stops-behind steps more (k - calls_of s) (omega (arith, past, cons)) in
+    let later = stops-after steps more (k - calls_of s) (omega (arith, past, cons)) in
     let left : k - calls_of s - all_calls steps ≡ k - all_calls (s ∷ steps) = omega (arith, cons) in
     ap (λ t. cond t (done_of_step k s) (map (λ d. s ∷ d) (stops (k - calls_of s) (steps ++ more)))) first
     ∙ ap (λ ds. map (λ d. s ∷ d) ds) later

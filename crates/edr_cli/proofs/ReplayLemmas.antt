@@ -103,16 +103,16 @@ same_size : (a b size needed : ℕ) → b ≡ a → IsShortOf b size needed → 
 same_size a b size needed same short = subst (λ (n : ℕ). IsShortOf n size needed) same short
 
 -- why the banks were not opened after the run
-pub behind_cause : (cs : List CycleInput) (old mid new : Memory) (reports : List CycleReport) (f : Fault)
+pub report_cause : (cs : List CycleInput) (old mid new : Memory) (reports : List CycleReport) (f : Fault)
     → HasRun cs old.content old.settled mid.content mid.settled reports → new.content ≡ mid.content → ((i : ℕ) → new.settled i ≡ mid.settled i) → mid.size ≡ old.size → old.faults ≤ mid.faults → IsImageCause mid new f → IsRunCause cs old new f
-behind_cause cs old mid new reports fault.Store run same settled long later cause = (rose_later old.faults mid.faults new.faults later cause, leaves_all cs old mid new reports run same settled)
+report_cause cs old mid new reports fault.Store run same settled long later cause = (rose_later old.faults mid.faults new.faults later cause, leaves_all cs old mid new reports run same settled)
   where
     rose_later : (a b c : ℕ) → a ≤ b → Rose b c → Rose a c
     rose_later a b c le rose = grind (arith, le, rose)
-behind_cause cs old mid new reports (fault.Short size needed) run same settled long later cause = (not_refused old mid cs reports (open_fault.Short size needed) run cause.0.0, same_size old.size mid.size size needed long cause.1)
-behind_cause cs old mid new reports (fault.Header h) run same settled long later cause = not_refused old mid cs reports (open_fault.Header h) run cause.0
-behind_cause cs old mid new reports fault.OutOfMemory run same settled long later cause = short_all cs old mid new reports run same settled
-behind_cause cs old mid new reports other run same settled long later cause = absurd cause
+report_cause cs old mid new reports (fault.Short size needed) run same settled long later cause = (not_refused old mid cs reports (open_fault.Short size needed) run cause.0.0, same_size old.size mid.size size needed long cause.1)
+report_cause cs old mid new reports (fault.Header h) run same settled long later cause = not_refused old mid cs reports (open_fault.Header h) run cause.0
+report_cause cs old mid new reports fault.OutOfMemory run same settled long later cause = short_all cs old mid new reports run same settled
+report_cause cs old mid new reports other run same settled long later cause = absurd cause
 
 -- ---- the whole
 

@@ -56,8 +56,8 @@ too_many limit bytes x y is t = by_told y (subst (λ (o : Option (List ℕ)). To
   by_told None t = absurd t
 
 -- n bytes of the source were put after the kept ones
-behind : (kept n : ℕ) (buffer into into' post left left' : List ℕ) → kept ≤ length buffer → Moves n into into' left left' → Carries n (take kept buffer) (take (kept + n) (take kept buffer ++ (into' ++ post))) left left'
-behind kept n buffer into into' post left left' within m =
+after_kept : (kept n : ℕ) (buffer into into' post left left' : List ℕ) → kept ≤ length buffer → Moves n into into' left left' → Carries n (take kept buffer) (take (kept + n) (take kept buffer ++ (into' ++ post))) left left'
+after_kept kept n buffer into into' post left left' within m =
     let front = take kept buffer in
     let place = ap (λ k. take (k + n) (front ++ (into' ++ post))) (sym (length-take-le kept buffer within)) ∙ take-append-add front (into' ++ post) n in
     let moved = ap (λ xs. take n (xs ++ post)) m.moved ∙ ap (take n) (append_assoc (take n left) (drop n into) post) ∙ take_at (take n left) (drop n into ++ post) n (length-take-le n left m.within) in
@@ -67,8 +67,8 @@ behind kept n buffer into into' post left left' within m =
       end = m.end.0;
     }
 
-pub carries_behind : (kept n : ℕ) (buffer into into' post : List ℕ) (x y : Option (List ℕ)) → kept ≤ length buffer → Told (Moves n into into') x y → Told (Carries n (take kept buffer) (take (kept + n) (take kept buffer ++ (into' ++ post)))) x y
-carries_behind kept n buffer into into' post x y within = told_so (Moves n into into') (Carries n (take kept buffer) (take (kept + n) (take kept buffer ++ (into' ++ post)))) (λ a b m. behind kept n buffer into into' post a b within m) x y
+pub carries_after : (kept n : ℕ) (buffer into into' post : List ℕ) (x y : Option (List ℕ)) → kept ≤ length buffer → Told (Moves n into into') x y → Told (Carries n (take kept buffer) (take (kept + n) (take kept buffer ++ (into' ++ post)))) x y
+carries_after kept n buffer into into' post x y within = told_so (Moves n into into') (Carries n (take kept buffer) (take (kept + n) (take kept buffer ++ (into' ++ post)))) (λ a b m. after_kept kept n buffer into into' post a b within m) x y
 
 -- what was moved to the front stood after what was taken
 pub moved_front : (old new : List ℕ) (at end : ℕ) → at ≤ end → end ≤ length old → new ≡ paste old 0 (drop at old) (end - at) → take (end - (end - at)) old ++ take (end - at) new ≡ take end old

@@ -16,7 +16,7 @@ use edr_trace::{CycleInput, LARGEST_TRACE, LONGEST_ROW, TraceReading};
 use std::alloc::Global;
 
 // Takes at most so many bytes of the source, puts them after the first `kept` of the buffer, and answers how many.
-fn take_behind<S: Source>(
+fn take_after<S: Source>(
     source: &mut S,
     buffer: &mut [u8],
     kept: usize,
@@ -78,7 +78,7 @@ fn take_trace<S: Source>(alloc: Global, source: &mut S, limit: usize) -> Result<
     let mut kept = 0;
     while taken <= limit {
         let most = longest.min(limit + 1 - taken);
-        let n = take_behind(source, &mut buffer, kept, most)?;
+        let n = take_after(source, &mut buffer, kept, most)?;
         if n == 0 {
             buffer.truncate(kept);
             return Ok(Taken {

@@ -96,7 +96,7 @@ fn check_power(
 
 // One cycle runs to its end, one is stopped in its commands, and one in its start.
 #[test]
-fn the_power_goes_off_behind_each_cycle(rt: HostRuntime) -> Result<(), Fail> {
+fn the_power_goes_off_after_each_cycle(rt: HostRuntime) -> Result<(), Fail> {
     let alloc = rt.alloc();
     let mut powered = Powered {
         nvm: formatted(alloc, 0)?,

@@ -20,7 +20,7 @@ const REPLIED: [usize; 14] = [0, 0, 0, 7, 7, 7, 12, 12, 12, 12, 16, 16, 16, 19];
 struct Asking<'a> {
     taken: usize,
     replied: &'a Cell<usize>,
-    is_behind: bool,
+    is_late: bool,
     faults: u64,
     ghost faults_within: { faults ≤ last_number },
 }
@@ -39,7 +39,7 @@ impl<'a> Source for Asking<'a> {
             return Ok(0);
         };
         if REPLIED[self.taken] != self.replied.get() {
-            self.is_behind = true;
+            self.is_late = true;
         }
         into[0] = *byte;
         self.taken += 1;
@@ -79,7 +79,7 @@ fn each_reply_is_written_first(rt: HostRuntime) -> Result<(), Fail> {
     let mut source = Asking {
         taken: 0,
         replied: &replied,
-        is_behind: false,
+        is_late: false,
         faults: 0,
     };
     let mut sink = ReplyCounting {
@@ -90,7 +90,7 @@ fn each_reply_is_written_first(rt: HostRuntime) -> Result<(), Fail> {
     let status = command(alloc, &words, &mut source, &mut sink, &mut memory);
     assert_eq!(rt; status, Status::Ok);
     assert_eq!(rt; source.taken, 13);
-    assert!(rt; !source.is_behind);
+    assert!(rt; !source.is_late);
     assert_eq!(rt; replied.get(), 19);
     Ok(())
 }

@@ -8,7 +8,7 @@ use Rattle.edr_cli.specs.Steps.{IsDrivenCause, Reports, ReportsHeld}
 use Rattle.edr_cli.proofs.DriveLemmas.{driven_cause}
 use Rattle.edr_cli.proofs.ImageLemmas.{err_map, ok_map}
 use Rattle.edr_cli.proofs.PastLemmas.{past_stays}
-use Rattle.edr_cli.proofs.ReplayLemmas.{behind_cause, run_reports}
+use Rattle.edr_cli.proofs.ReplayLemmas.{report_cause, run_reports}
 use Rattle.edr_cli.proofs.drives.run_driven.Goals as goal
 
 pub returns-in_err-reports-clause-cause : goal.returns-in_err-reports-clause-cause
@@ -37,7 +37,7 @@ returns-clause-cause g c =
     let mid = memory D c.replay_driven.new.nvm in
     let new = memory D c.report_held.new.nvm in
     err_map c.report_held.result (λ f. IsImageCause mid new f) (λ f. IsDrivenCause c.args.cycles.items old new f)
-    (λ f cause. inl (behind_cause c.args.cycles.items old mid new c.in_ok-reports.reports.items f c.in_ok-reports.ensures.ran c.report_held.ensures.read.stays.same_content c.report_held.ensures.read.stays.same_settled c.in_ok-reports.ensures.lent.size c.in_ok-reports.ensures.lent.later cause))
+    (λ f cause. inl (report_cause c.args.cycles.items old mid new c.in_ok-reports.reports.items f c.in_ok-reports.ensures.ran c.report_held.ensures.read.stays.same_content c.report_held.ensures.read.stays.same_settled c.in_ok-reports.ensures.lent.size c.in_ok-reports.ensures.lent.later cause))
     c.report_held.ensures.cause
 
 pub returns-clause-past : goal.returns-clause-past

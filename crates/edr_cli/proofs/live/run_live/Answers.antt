@@ -10,7 +10,7 @@ use Rattle.edr_cli.specs.Steps.{ReportsHeld}
 use Rattle.edr_cli.proofs.DriveLemmas.{driven_cause}
 use Rattle.edr_cli.proofs.LiveLemmas.{lines_short, live_reports, without_lines}
 use Rattle.edr_cli.proofs.PastLemmas.{past_stays}
-use Rattle.edr_cli.proofs.ReplayLemmas.{behind_cause}
+use Rattle.edr_cli.proofs.ReplayLemmas.{report_cause}
 use Rattle.edr_cli.proofs.live.run_live.Goals as goal
 
 pub returns-in_err-lived-clause-cause : goal.returns-in_err-lived-clause-cause
@@ -31,7 +31,7 @@ returns-in_err-report-clause-cause g c =
     let run = c.in_ok-lived.lived in
     let ran = without_lines cs old mid run.reports.items run.lines.items c.in_ok-lived.ensures.ran in
     let p = err_from_is_err_and c.from_residual-in_err-report.result c.from_residual-in_err-report.ensures.1 in
-    rw (p.1, p.2) (inl (behind_cause cs old mid new run.reports.items _ ran c.report_held.ensures.read.stays.same_content c.report_held.ensures.read.stays.same_settled c.in_ok-lived.ensures.lent.size c.in_ok-lived.ensures.lent.later c.in_err-report.ensures.cause))
+    rw (p.1, p.2) (inl (report_cause cs old mid new run.reports.items _ ran c.report_held.ensures.read.stays.same_content c.report_held.ensures.read.stays.same_settled c.in_ok-lived.ensures.lent.size c.in_ok-lived.ensures.lent.later c.in_err-report.ensures.cause))
 
 pub returns-in_err-with_lines-clause-cause : goal.returns-in_err-with_lines-clause-cause
 returns-in_err-with_lines-clause-cause g c =

@@ -7,7 +7,7 @@ use Rattle.edr_cli.specs.Outside.{memory}
 use Rattle.edr_cli.specs.Steps.{IsRunCause, Reports, ReportsHeld}
 use Rattle.edr_cli.proofs.ImageLemmas.{err_map, ok_map}
 use Rattle.edr_cli.proofs.PastLemmas.{past_stays}
-use Rattle.edr_cli.proofs.ReplayLemmas.{start_cause, behind_cause, run_reports}
+use Rattle.edr_cli.proofs.ReplayLemmas.{start_cause, report_cause, run_reports}
 use Rattle.edr_cli.proofs.replay.run.Goals as goal
 
 pub returns-in_err-reports-clause-cause : goal.returns-in_err-reports-clause-cause
@@ -36,7 +36,7 @@ returns-clause-cause g c =
     let mid = memory D c.replay.new.nvm in
     let new = memory D c.report_held.new.nvm in
     err_map c.report_held.result (λ f. IsImageCause mid new f) (λ f. IsRunCause c.args.cycles.now old new f)
-    (λ f cause. behind_cause c.args.cycles.now old mid new c.in_ok-reports.reports.items f c.in_ok-reports.ensures.ran c.report_held.ensures.read.stays.same_content c.report_held.ensures.read.stays.same_settled c.in_ok-reports.ensures.lent.size c.in_ok-reports.ensures.lent.later cause)
+    (λ f cause. report_cause c.args.cycles.now old mid new c.in_ok-reports.reports.items f c.in_ok-reports.ensures.ran c.report_held.ensures.read.stays.same_content c.report_held.ensures.read.stays.same_settled c.in_ok-reports.ensures.lent.size c.in_ok-reports.ensures.lent.later cause)
     c.report_held.ensures.cause
 
 pub returns-clause-past : goal.returns-clause-past

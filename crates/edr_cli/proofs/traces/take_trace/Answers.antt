@@ -31,27 +31,27 @@ returns-in_err-n-clause-most g c =
     let l = c.loop-taken in
     let inv = l.invariant in
     let long = taken-len inv.before l.buffer.items l.kept (omega (arith, inv.kept, inv.buffer, l.buffer.ok.0)) in
-    gives_at_most c.min-most.result (c.args.limit + 1) (inv.before ++ take l.kept l.buffer.items) (S.left c.args.source.now) (S.left l.source) (S.left c.take_behind.new.source)
+    gives_at_most c.min-most.result (c.args.limit + 1) (inv.before ++ take l.kept l.buffer.items) (S.left c.args.source.now) (S.left l.source) (S.left c.take_after.new.source)
     (omega (arith, long, inv.count, inv.within, c.min-most.ensures)) inv.gives c.in_err-n.ensures.err
 
 -- no more bytes came
-all-given : (g : Over) (c : After-truncate g) → Told (GivesAll (c.loop-taken.invariant.before ++ c.truncate.new.self.items)) (g.S.Source.left c.args.source.now) (g.S.Source.left c.take_behind.new.source)
+all-given : (g : Over) (c : After-truncate g) → Told (GivesAll (c.loop-taken.invariant.before ++ c.truncate.new.self.items)) (g.S.Source.left c.args.source.now) (g.S.Source.left c.take_after.new.source)
 all-given g c =
     let S = g.S.Source in
     let l = c.loop-taken in
     let inv = l.invariant in
     let n = c.in_ok-n.n in
-    let buffer = c.take_behind.new.buffer in
+    let buffer = c.take_after.new.buffer in
     let zero = c.if-n-eq0.true in
     let same = c.deref_mut.ensures.value in
-    let long : length buffer ≡ l.buffer.len = omega (arith, c.take_behind.auto.buffer, ap length same, l.buffer.ok.0) in
+    let long : length buffer ≡ l.buffer.len = omega (arith, c.take_after.auto.buffer, ap length same, l.buffer.ok.0) in
     let old = length-take-le l.kept l.buffer.items (omega (arith, inv.kept, inv.buffer, l.buffer.ok.0)) in
     let new = length-take-le (l.kept + n) buffer (omega (arith, inv.kept, inv.buffer, long, zero)) in
     let left : take (l.kept + n) buffer ≡ c.truncate.new.self.items =
     ap (λ (k : ℕ). take k buffer) (omega (arith, zero)) ∙ sym (c.truncate.ensures.items ∙ ap (take l.kept) (restored l.buffer.len buffer l.buffer.items long)) in
-    let came = subst (λ (x : List ℕ). Told (Carries n (take l.kept x) (take (l.kept + n) buffer)) (S.left l.source) (S.left c.take_behind.new.source)) same c.in_ok-n.ensures.carries in
-    subst (λ (x : List ℕ). Told (GivesAll (inv.before ++ x)) (S.left c.args.source.now) (S.left c.take_behind.new.source)) left
-    (gives_end n inv.before (take l.kept l.buffer.items) (take (l.kept + n) buffer) (S.left c.args.source.now) (S.left l.source) (S.left c.take_behind.new.source) zero (omega (arith, old, new)) inv.gives came)
+    let came = subst (λ (x : List ℕ). Told (Carries n (take l.kept x) (take (l.kept + n) buffer)) (S.left l.source) (S.left c.take_after.new.source)) same c.in_ok-n.ensures.carries in
+    subst (λ (x : List ℕ). Told (GivesAll (inv.before ++ x)) (S.left c.args.source.now) (S.left c.take_after.new.source)) left
+    (gives_end n inv.before (take l.kept l.buffer.items) (take (l.kept + n) buffer) (S.left c.args.source.now) (S.left l.source) (S.left c.take_after.new.source) zero (omega (arith, old, new)) inv.gives came)
 
 few-given : (g : Over) (c : After-truncate g) → length c.loop-taken.invariant.before + vec_len c.truncate.new.self ≤ c.args.limit
 few-given g c =
@@ -68,7 +68,7 @@ returns-then-n-eq0-clause-most g c =
     let left = c.truncate.new.self in
     let here = (goal.at.returns-then-n-eq0-clause-most g c).After-truncate in
     let long = length-append before left.items in
-    all_most (c.args.limit + 1) (before ++ left.items) (S.left c.args.source.now) (S.left c.take_behind.new.source) (omega (arith, long, few-given g here, left.ok.0)) (all-given g here)
+    all_most (c.args.limit + 1) (before ++ left.items) (S.left c.args.source.now) (S.left c.take_after.new.source) (omega (arith, long, few-given g here, left.ok.0)) (all-given g here)
 
 pub loop-taken-preserved : goal.loop-taken-preserved
 loop-taken-preserved g c =
@@ -78,18 +78,18 @@ loop-taken-preserved g c =
     let n = c.in_ok-n.n in
     let end = l.kept + n in
     let kept = c.keep_left-kept.result in
-    let buffer = c.take_behind.new.buffer in
+    let buffer = c.take_after.new.buffer in
     let lent = c.deref_mut-in-loop-taken.result.now in
     let back = c.keep_left-kept.new.buffer in
     let same = c.deref_mut.ensures.value in
-    let long : length buffer ≡ l.buffer.len = omega (arith, c.take_behind.auto.buffer, ap length same, l.buffer.ok.0) in
+    let long : length buffer ≡ l.buffer.len = omega (arith, c.take_after.auto.buffer, ap length same, l.buffer.ok.0) in
     let again : lent ≡ buffer = c.deref_mut-in-loop-taken.ensures.value ∙ restored l.buffer.len buffer l.buffer.items long in
     let still : length back ≡ l.buffer.len = omega (arith, c.keep_left-kept.auto.buffer, ap length again, long) in
-    let came = subst (λ (x : List ℕ). Told (Carries n (take l.kept x) (take end buffer)) (S.left l.source) (S.left c.take_behind.new.source)) same c.in_ok-n.ensures.carries in
+    let came = subst (λ (x : List ℕ). Told (Carries n (take l.kept x) (take end buffer)) (S.left l.source) (S.left c.take_after.new.source)) same c.in_ok-n.ensures.carries in
     let front = take (end - kept) lent in
     let more = length-take-le (end - kept) lent (omega (arith, inv.kept, inv.buffer, c.in_ok-n.ensures.within, c.min-most.ensures, long, ap length again)) in
     let whole = length-append inv.before front in
-    let gives = gives_more n inv.before (take l.kept l.buffer.items) (take end buffer) front (take kept back) (S.left c.args.source.now) (S.left l.source) (S.left c.take_behind.new.source)
+    let gives = gives_more n inv.before (take l.kept l.buffer.items) (take end buffer) front (take kept back) (S.left c.args.source.now) (S.left l.source) (S.left c.take_after.new.source)
     (c.keep_left-kept.ensures.moved ∙ ap (take end) again) inv.gives came in
     record {
       before = inv.before ++ front;
@@ -98,7 +98,7 @@ loop-taken-preserved g c =
       within = omega (arith, c.in_ok-n.ensures.within, c.min-most.ensures);
       kept = c.keep_left-kept.ensures.few;
       buffer = inv.buffer;
-      gives = subst (λ (x : List ℕ). Told (Gives ((inv.before ++ front) ++ take kept x)) (S.left c.args.source.now) (S.left c.take_behind.new.source)) (sym (restored l.buffer.len back _ still)) gives;
+      gives = subst (λ (x : List ℕ). Told (Gives ((inv.before ++ front) ++ take kept x)) (S.left c.args.source.now) (S.left c.take_after.new.source)) (sym (restored l.buffer.len back _ still)) gives;
       later = omega (arith, inv.later, c.in_ok-n.ensures.later);
     }
 
