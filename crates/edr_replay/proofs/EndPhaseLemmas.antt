@@ -18,7 +18,7 @@ use Rattle.edr_cycle.specs.declared.started.StartFault.{StartFault}
 use Rattle.edr_cycle.specs.declared.started.StartFault.TheVariants as fault
 use Rattle.edr_cycle.specs.Ends.{MeetsCycle}
 use Rattle.edr_replay.specs.Past.{LeavesPastOf}
-use Rattle.edr_replay.specs.Phases.{LeavesOfRun, RunsFrom}
+use Rattle.edr_replay.specs.Phases.{EndsRun, LeavesOfRun, RunsFrom}
 use Rattle.edr_replay.proofs.CycleLemmas.{rose_again}
 use Rattle.edr_replay.proofs.FewCallLemmas.{calls_few}
 use Rattle.edr_replay.proofs.LeavingLemmas.{leaves_cut, leaves_whole}
@@ -38,16 +38,6 @@ pub record RanFused {D : Type 0} {g : Ghosts D} (f : SensorLists) (stop number :
   pub cause : failed ≡ true → Rose armed.faults fuse.faults
   pub is_cut : cut ≡ true → (fuse.spent ≡ true) × (fuse.broken ≡ false)
   pub not_cut : cut ≡ false → fuse.spent ≡ true → fuse.broken ≡ true
-
--- what ended them
-pub record EndsRun {D : Type 0} (g : Ghosts D) (stop number : ℕ) (failed cut : Bool) (acks : List Ack) (r : Result CycleReport StartFault) (mid new : D) : Type 0 where
-  pub lent : GoesOn g mid new
-  pub off : failed ≡ false → Cycled r (g.content mid) (g.settled mid) (g.since mid) (g.content new) (g.settled new) (g.since new)
-  pub fault : IfErr r (λ e. (e ≡ fault.StoreFault) × (failed ≡ false → Rose (g.faults mid) (g.faults new)))
-  pub stays : failed ≡ true → new ≡ mid
-  pub whole : IfOk r (λ report. failed ≡ false → report_of report ≡ Ran number None acks)
-  pub stopped : IfOk r (λ report. failed ≡ true → (cut ≡ true) × (report_of report ≡ Ran number (Some stop) acks))
-  pub unplanned : OnErr r (failed ≡ true → cut ≡ false)
 
 -- the commands over a fuse that was made for that stop
 pub ran_fused : {D : Type 0} {g : Ghosts D} (f : SensorLists) (stop number : ℕ) (store : Store) (failed cut : Bool) (acks : List Ack) (armed fuse : Fused D g)

@@ -14,12 +14,12 @@ use Rattle.edr_run.specs.Cycle.{last_count}
 use Rattle.edr_cycle.specs.declared.started.StartFault.{StartFault}
 use Rattle.edr_cycle.specs.declared.started.StartFault.TheVariants as fault
 use Rattle.edr_replay.specs.Past.{LeavesPast}
-use Rattle.edr_replay.specs.Phases.{BeginsAs, StartsUntil}
+use Rattle.edr_replay.specs.Phases.{BeginsAs, EndsRun, StartsUntil}
 use Rattle.edr_replay.specs.Replayed.{Leaving, LeftAlone, LeftOrCounted, RunsCycle, WantLeaves}
 use Rattle.edr_replay.specs.declared.phases.StartedCycle.{StartedCycle}
 use Rattle.edr_replay.specs.declared.phases.StartedCycle.TheVariants.{Stopped}
 use Rattle.edr_replay.proofs.CycleLemmas.{begun_ran, goes_again, goes_self, memory_refused, memory_short, memory_unspent, not_refused, not_short, not_spent, rose_later, stopped_ends}
-use Rattle.edr_replay.proofs.EndPhaseLemmas.{EndsRun, RanFused, fused_fault, fused_left, fused_lent, fused_past, fused_ran}
+use Rattle.edr_replay.proofs.EndPhaseLemmas.{RanFused, fused_fault, fused_left, fused_lent, fused_past, fused_ran}
 use Rattle.edr_replay.proofs.LeavingLemmas.{not_memory, part_counted, part_none, part_of_run, part_of_start}
 use Rattle.edr_replay.proofs.PastLemmas.{begun_past, past_none}
 

@@ -1,15 +1,19 @@
 -- How the start and the commands of a cycle go, each up to its planned stop.
-use Rattle.std.specs.Prelude.{◌≡◌, ◌⊎◌, ◌+◌, ◌≤◌, ◌<◌, ℕ, Bool, List, Option, Result}
+use Rattle.std.specs.Prelude.{◌≡◌, ◌⊎◌, ◌+◌, ◌≤◌, ◌<◌, ℕ, Bool, true, false, List, Option, Some, None, Result, IfOk, IfErr, OnErr}
 use Rattle.edr_items.specs.SensorLists.{SensorLists}
-use Rattle.edr_device.specs.Device.{MayLeave}
+use Rattle.edr_device.specs.Device.{MayLeave, Repowered}
+use Rattle.edr_device.specs.Faults.{Rose}
+use Rattle.edr_device.specs.Lent.{GoesOn}
 use Rattle.edr_device.specs.declared.device.Nvm.{Ghosts}
+use Rattle.edr_image.specs.declared.Ack.{Ack}
 use Rattle.edr_image.specs.Banks.{Store}
 use Rattle.edr_image.specs.Image.{image_size}
 use Rattle.edr_image.specs.declared.log.CycleReport.{CycleReport}
-use Rattle.edr_image.specs.Reports.{Report, report_of}
+use Rattle.edr_image.specs.Reports.{Ran, Report, report_of}
 use Rattle.edr_run.specs.Cycle.{End, IsCycle, last_count}
 use Rattle.edr_cycle.specs.Ends.{cycle_with}
 use Rattle.edr_cycle.specs.declared.started.StartFault.{StartFault}
+use Rattle.edr_cycle.specs.declared.started.StartFault.TheVariants as fault
 use Rattle.edr_replay.specs.declared.phases.StartedCycle.{StartedCycle}
 use Rattle.edr_replay.specs.declared.phases.StartedCycle.TheVariants.{Started, Stopped}
 use Rattle.edr_replay.specs.Reached.{IsStopIn}
@@ -33,6 +37,17 @@ RunsAs report f stop v n content' settled' =
 abbrev pub RunsFrom : SensorLists → ℕ → ℕ → Store → Option (List ℕ) → (ℕ → Bool) → Option (List ℕ) → (ℕ → Bool) → CycleReport → Type 0
 RunsFrom f stop number store content settled content' settled' report =
     (n : ℕ) → number ≡ n + 1 → Holds content settled store number → RunsAs (report_of report) f stop store n content' settled'
+
+-- what ended the commands of a cycle, which failed or were all done: the power was taken away after the last of them, or the fuse
+-- had cut it as planned, or it is a fault
+pub record EndsRun {D : Type 0} (g : Ghosts D) (stop number : ℕ) (failed cut : Bool) (acks : List Ack) (r : Result CycleReport StartFault) (old new : D) : Type 0 where
+  pub lent : GoesOn g old new
+  pub off : failed ≡ false → Repowered g.content g.settled g.since r old new
+  pub fault : IfErr r (λ e. (e ≡ fault.StoreFault) × (failed ≡ false → Rose (g.faults old) (g.faults new)))
+  pub stays : failed ≡ true → new ≡ old
+  pub whole : IfOk r (λ report. failed ≡ false → report_of report ≡ Ran number None acks)
+  pub stopped : IfOk r (λ report. failed ≡ true → (cut ≡ true) × (report_of report ≡ Ran number (Some stop) acks))
+  pub unplanned : OnErr r (failed ≡ true → cut ≡ false)
 
 -- ---- what a fault leaves
 

@@ -1,12 +1,9 @@
 //! The two phases of a cycle, its start and its commands, each over a fuse that stops it as planned.
 
-ghost use Rattle.std.specs.Prelude.{◌≡◌, ◌≤◌, IfOk, IfErr, OnErr, Some, None, true, false};
-ghost use Rattle.edr_device.specs.Device.{Repowered};
-ghost use Rattle.edr_device.specs.Faults.{Rose};
+ghost use Rattle.std.specs.Prelude.{◌≡◌, ◌≤◌, true, false};
 ghost use Rattle.edr_device.specs.FuseState.{armed_for, fuse_state, new_fuse};
-ghost use Rattle.edr_device.specs.Lent.{GoesOn};
 ghost use Rattle.edr_image.specs.Reports.{Ran, report_of};
-ghost use Rattle.edr_replay.specs.Phases.{StartsUntil};
+ghost use Rattle.edr_replay.specs.Phases.{EndsRun, StartsUntil};
 
 use edr_cycle::{CycleEnd, StartFault, Started, start};
 use edr_device::{Fused, Nvm};
@@ -82,16 +79,7 @@ pub(crate) fn end_run<N: Nvm>(
     stop: u32,
     nvm: &mut N,
 ) -> Result<CycleReport, StartFault>
-    ensures lent { GoesOn N.Nvm nvm.old nvm.new }
-    ensures off { end.failed ≡ false
-        → Repowered N.content N.settled N.since result nvm.old nvm.new }
-    ensures fault { IfErr result (λ e. (e ≡ StartFault.StoreFault)
-        × (end.failed ≡ false → Rose (N.faults nvm.old) (N.faults nvm.new))) }
-    ensures stays { end.failed ≡ true → nvm.new ≡ nvm.old }
-    ensures whole { IfOk result (λ report. end.failed ≡ false → report_of report ≡ Ran end.number None end.log.acks) }
-    ensures stopped { IfOk result (λ report. end.failed ≡ true
-        → (cut ≡ true) × (report_of report ≡ Ran end.number (Some stop) end.log.acks)) }
-    ensures unplanned { OnErr result (end.failed ≡ true → cut ≡ false) }
+    ensures { EndsRun N.Nvm stop end.number end.failed cut end.log.acks result nvm.old nvm.new }
 {
     if !end.failed {
         nvm.power_cycle()?;

@@ -33,5 +33,4 @@ returns-in-Started g c =
     g.met.N.Nvm.goes_on_again (λ u image within left. g.met.N.Nvm.counts_now fuse.nvm.now u image within left)
     begun.0 (record { lent = c.start_until.ensures.lent; found = begun.3; past = c.start_until.ensures.past }) c.fused-fuse.ensures.now
     (ran_fused cycle.feeds cycle.stop s.number s.banks.store end.failed cut end.log.acks armed fuse c.requires.feeds c.fused-fuse.ensures.state run.lent.size run.lent.device run.lent.tells run.cycle run.cause c.was_cut-cut.ensures.planned c.was_cut-cut.ensures.unplanned)
-    (ended N cycle.stop s.number _ end.failed cut end.log.acks c.end_run.result _ fuse.nvm.now c.end_run.new.nvm (search rules) run.number
-    (record { lent = e.lent; off = e.off; fault = e.fault; stays = e.stays; whole = e.whole; stopped = e.stopped; unplanned = e.unplanned }))
+    (ended N cycle.stop s.number _ end.failed cut end.log.acks c.end_run.result _ fuse.nvm.now c.end_run.new.nvm (search rules) run.number e)

@@ -52,5 +52,4 @@ returns g c =
     (ran_fused cycle.feeds cycle.stop s.number s.banks.store end.failed cut end.log.acks armed fuse c.requires.feeds c.fused-fuse.ensures.state run.lent.size run.lent.device run.lent.tells
     (subst (λ (f : SensorLists). MeetsCycle fused_content fused_settled fused_since (λ x. x.ticks) (λ x. x.last_good) f s.number s.banks.store end.failed end.log.acks armed fuse) c.in-Ok.ensures.ok run.cycle)
     run.cause c.was_cut-cut.ensures.planned c.was_cut-cut.ensures.unplanned)
-    (ended N cycle.stop s.number _ end.failed cut end.log.acks c.end_run.result _ fuse.nvm.now c.end_run.new.nvm (search rules) run.number
-    (record { lent = e.lent; off = e.off; fault = e.fault; stays = e.stays; whole = e.whole; stopped = e.stopped; unplanned = e.unplanned }))
+    (ended N cycle.stop s.number _ end.failed cut end.log.acks c.end_run.result _ fuse.nvm.now c.end_run.new.nvm (search rules) run.number e)

@@ -67,8 +67,7 @@ returns-in_err-report-in-Started g c =
     (ran_fused cycle.feeds cycle.stop s.number s.banks.store end.failed cut end.log.acks armed fuse c.requires.feeds c.fused-fuse.ensures.state run.lent.size run.lent.device run.lent.tells
     (subst (λ (f : SensorLists). MeetsCycle fused_content fused_settled fused_since (λ x. x.ticks) (λ x. x.last_good) f s.number s.banks.store end.failed end.log.acks armed fuse) c.in-Ok.ensures.ok run.cycle)
     run.cause c.was_cut-stopped.ensures.planned c.was_cut-stopped.ensures.unplanned)
-    (ended N cycle.stop s.number _ end.failed cut end.log.acks (Err c.in_err-report-in-Started.field-0.0) _ fuse.nvm.now c.end_run.new.nvm (search rules) run.number
-    (record { lent = e.lent; off = e.off; fault = e.fault; stays = e.stays; whole = e.whole; stopped = e.stopped; unplanned = e.unplanned })) in
+    (ended N cycle.stop s.number _ end.failed cut end.log.acks (Err c.in_err-report-in-Started.field-0.0) _ fuse.nvm.now c.end_run.new.nvm (search rules) run.number e) in
     failed_live c.args.place cycle old c.end_run.new.nvm c.in_err-report-in-Started.field-0.0 c.from_residual-in_err-report-in-Started.result came (rw (p.1, p.2) refl)
 
 pub returns-then-cut : goal.returns-then-cut
@@ -94,8 +93,7 @@ returns-then-cut g c =
     (ran_fused cycle.feeds cycle.stop s.number s.banks.store end.failed cut end.log.acks armed fuse c.requires.feeds c.fused-fuse.ensures.state run.lent.size run.lent.device run.lent.tells
     (subst (λ (f : SensorLists). MeetsCycle fused_content fused_settled fused_since (λ x. x.ticks) (λ x. x.last_good) f s.number s.banks.store end.failed end.log.acks armed fuse) c.in-Ok.ensures.ok run.cycle)
     run.cause c.was_cut-stopped.ensures.planned c.was_cut-stopped.ensures.unplanned)
-    (ended N cycle.stop s.number _ end.failed cut end.log.acks (Ok c.in_ok-report-in-Started.report) _ fuse.nvm.now c.end_run.new.nvm (search rules) run.number
-    (record { lent = e.lent; off = e.off; fault = e.fault; stays = e.stays; whole = e.whole; stopped = e.stopped; unplanned = e.unplanned })) in
+    (ended N cycle.stop s.number _ end.failed cut end.log.acks (Ok c.in_ok-report-in-Started.report) _ fuse.nvm.now c.end_run.new.nvm (search rules) run.number e) in
     unshown_live c.args.place cycle old c.end_run.new.nvm c.in_ok-report-in-Started.report (Err fault.OutOfMemory) came refl
 
 pub line_of-requires : goal.line_of-requires
@@ -129,8 +127,7 @@ returns g c =
     (ran_fused cycle.feeds cycle.stop s.number s.banks.store end.failed cut end.log.acks armed fuse c.requires.feeds c.fused-fuse.ensures.state run.lent.size run.lent.device run.lent.tells
     (subst (λ (f : SensorLists). MeetsCycle fused_content fused_settled fused_since (λ x. x.ticks) (λ x. x.last_good) f s.number s.banks.store end.failed end.log.acks armed fuse) c.in-Ok.ensures.ok run.cycle)
     run.cause c.was_cut-stopped.ensures.planned c.was_cut-stopped.ensures.unplanned)
-    (ended N cycle.stop s.number _ end.failed cut end.log.acks (Ok c.in_ok-report-in-Started.report) _ fuse.nvm.now c.end_run.new.nvm (search rules) run.number
-    (record { lent = e.lent; off = e.off; fault = e.fault; stays = e.stays; whole = e.whole; stopped = e.stopped; unplanned = e.unplanned })) in
+    (ended N cycle.stop s.number _ end.failed cut end.log.acks (Ok c.in_ok-report-in-Started.report) _ fuse.nvm.now c.end_run.new.nvm (search rules) run.number e) in
     let told = stop_of end.failed cut end.number s.number cycle.stop end.log.acks c.in_ok-report-in-Started.report run.number e.whole e.stopped in
     let are = subst (λ (f : SensorLists). live.last.views ≡ padded 16 (after s.banks.store (steps_of_first f s.number s.banks.store live.last.applied)).banks) c.in-Ok.ensures.ok run.last.views in
     ran_live c.args.place cycle s.number s.banks.store told.0 end.log.acks live.last.applied live.last.views c.in_ok-report-in-Started.report old mid c.end_run.new.nvm _
