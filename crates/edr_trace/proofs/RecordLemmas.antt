@@ -8,6 +8,7 @@ use Rattle.csv.specs.Machine.{Read, next_record}
 use Rattle.csv.specs.Reading.{AreRecords, Reached, default_config, strip_bom}
 use Rattle.csv.specs.declared.parser.State.{State}
 use Rattle.csv.specs.declared.parser.State.TheVariants as st
+use Rattle.edr_items.specs.declared.Item.{Item}
 use Rattle.edr_items.specs.declared.Sensor.{Sensor}
 use Rattle.edr_items.specs.declared.Sensor.TheVariants as s
 use Rattle.edr_text.specs.Numbers.{numeral}
@@ -17,7 +18,9 @@ use Rattle.edr_spell.specs.declared.Row.TheVariants as row
 use Rattle.edr_spell.specs.Rows.{spelling_of, IsRow}
 use Rattle.edr_spell.specs.Lines.{is_special, value_text, fields_in, line_for}
 use Rattle.edr_spell.proofs.WrittenLemmas.{line_for-plain, row-read}
-use Rattle.edr_trace.specs.Fronts.{IsLineEnd, EndsLine, IsSpelled, IsFieldIn, IsRecordIn, IsRowIn}
+use Rattle.edr_trace.specs.declared.steps.Trace.{Trace}
+use Rattle.edr_trace.specs.Fronts.{IsLineEnd, EndsLine, IsSpelled, IsFieldIn, IsRecordIn, IsRowIn, IsRowTaken}
+use Rattle.edr_trace.specs.Steps.{TakesSample}
 
 -- ---- bytes that aren't special
 
@@ -242,6 +245,17 @@ sample-in s moment value q bytes r2 r3 rest is are e2 e3 ends =
           (field-bare (numeral moment) bytes (44 ∷ r2) plain.1 e2) refl
           (field-bare (value_text value) r2 r3 plain.2 e3) ends (sensor-first s (44 ∷ bytes));
     })
+
+-- a row of a sensor that is in front of the bytes is taken
+pub sample-taken : (s : Sensor) (x : Item) (old new : Trace) (bytes r2 r3 rest : List ℕ) → TakesSample s x old new
+    → bytes ≡ numeral x.moment ++ 44 ∷ r2 → r2 ≡ value_text x.value ++ r3 → EndsLine r3 rest → IsRowTaken old new (spelling_of (w.Of s) ++ 44 ∷ bytes) rest
+sample-taken s x old new bytes r2 r3 rest t e2 e3 ends = record {
+  row = row.Sample s x;
+  row_in = sample-in s x.moment x.value (row.Sample s x) bytes r2 r3 rest refl t.0 e2 e3 ends;
+  fault = t.1;
+  inside = t.2;
+  cycles = t.3 ∙ sym (append-nil old.cycles.items);
+}
 
 -- ---- no byte order mark
 

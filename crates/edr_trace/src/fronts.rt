@@ -1,6 +1,6 @@
 //! What stands in front of the bytes at a record's beginning: a row as a writer puts it there, or what is no row.
 
-ghost use Rattle.std.specs.Prelude.{◌≡◌, ◌≢◌, ◌++◌, ◌∷◌, [], ◌≤◌, length, IfSome, int_le, pos, negsuc, ◌&&◌, true, false, slice_index};
+ghost use Rattle.std.specs.Prelude.{◌≡◌, ◌≢◌, ◌++◌, ◌∷◌, [], ◌≤◌, ◌<◌, ◌-◌, ◌^◌, length, IfSome, int_le, pos, negsuc, ◌&&◌, true, false, slice_index};
 ghost use Rattle.std.specs.Option.{option_map_or};
 ghost use Rattle.std.specs.List.{list_any};
 ghost use Rattle.edr_text.specs.Numbers.{numeral};
@@ -25,24 +25,55 @@ fn behind<'a>(bytes: &'a [u8], front: &[u8]) -> Option<&'a [u8]>
     bytes.strip_prefix(front)
 }
 
-// What stands after the word `along` and a comma, if they are in front. Byte by byte it takes the fewest steps.
+// Whether these four bytes are those, by one comparison of whole numbers.
 #[inline(always)]
-fn behind_along(bytes: &[u8]) -> Option<&[u8]>
+fn are_four(bytes: [u8; 4], those: [u8; 4]) -> bool
+    ensures { result ≡ true → bytes ≡ those }
+{
+    u32::from_le_bytes(bytes) == u32::from_le_bytes(those)
+}
+
+// The same of two bytes.
+#[inline(always)]
+fn are_two(bytes: [u8; 2], those: [u8; 2]) -> bool
+    ensures { result ≡ true → bytes ≡ those }
+{
+    u16::from_le_bytes(bytes) == u16::from_le_bytes(those)
+}
+
+/// What stands after the word `along` and a comma, if they are in front.
+#[inline(always)]
+pub(crate) fn after_along(bytes: &[u8]) -> Option<&[u8]>
     ensures { IfSome result (λ rest. bytes.now ≡ spelling_of (Word.Of Sensor.Along) ++ 44 ∷ rest.now) }
 {
     match bytes {
-        [b'a', b'l', b'o', b'n', b'g', b',', rest @ ..] => Some(rest),
+        [a, b, c, d, e, f, rest @ ..]
+            if are_four([*a, *b, *c, *d], *b"alon") && are_two([*e, *f], *b"g,") => { Some(rest) }
         _ => None,
     }
 }
 
-// The same of the word `across`.
+/// The same of the word `across`.
 #[inline(always)]
-fn behind_across(bytes: &[u8]) -> Option<&[u8]>
+pub(crate) fn after_across(bytes: &[u8]) -> Option<&[u8]>
     ensures { IfSome result (λ rest. bytes.now ≡ spelling_of (Word.Of Sensor.Across) ++ 44 ∷ rest.now) }
 {
     match bytes {
-        [b'a', b'c', b'r', b'o', b's', b's', b',', rest @ ..] => Some(rest),
+        [a, b, c, d, e, f, g, rest @ ..]
+            if are_four([*a, *b, *c, *d], *b"acro") && are_four([*d, *e, *f, *g], *b"oss,") => {
+            Some(rest)
+        }
+        _ => None,
+    }
+}
+
+/// The same of the value 0 and a line feed.
+#[inline(always)]
+pub(crate) fn after_zero(bytes: &[u8]) -> Option<&[u8]>
+    ensures { IfSome result (λ rest. bytes.now ≡ 48 ∷ 10 ∷ rest.now) }
+{
+    match bytes {
+        [a, b, rest @ ..] if are_two([*a, *b], *b"0\n") => Some(rest),
         _ => None,
     }
 }
@@ -73,28 +104,29 @@ fn word_in_front(bytes: &[u8]) -> Option<(Word, &[u8])>
     None
 }
 
-// The number of at most that many digits in front, the byte that ends it, and what stands after that byte. One pass finds
-// the number and its end.
+/// The number in front of fewer digits than that, the byte that ends it, and what stands after that byte. One pass finds the
+/// number and its end, with one comparison a digit.
 #[inline(always)]
-fn number_within(bytes: &[u8], most: usize) -> Option<(u64, u8, &[u8])>
+pub(crate) fn number_within(bytes: &[u8], most: usize) -> Option<(u64, u8, &[u8])>
     requires within { most ≤ length bytes.now }
     requires few { most ≤ 18 }
-    ensures { IfSome result (λ p. bytes.now ≡ numeral p.0 ++ p.1 ∷ p.2.now) }
+    ensures number { IfSome result (λ p. bytes.now ≡ numeral p.0 ++ p.1 ∷ p.2.now) }
+    ensures fits { IfSome result (λ p. p.0 < 10 ^ (most - 1)) }
 {
     let mut value = 0u64;
     for i in 0..most {
-        let b = bytes[i];
-        if b < b'0' || b > b'9' {
+        let digit = bytes[i].wrapping_sub(b'0');
+        if digit >= 10 {
             if i == 0 {
                 return None;
             }
-            return Some((value, b, &bytes[i + 1..]));
+            return Some((value, bytes[i], &bytes[i + 1..]));
         }
         // A digit stands after a 0 in front.
         if i == 1 && value == 0 {
             return None;
         }
-        value = 10 * value + u64::from(b) - u64::from(b'0');
+        value = 10 * value + u64::from(digit);
     }
     None
 }
@@ -130,7 +162,7 @@ fn value_in_front(bytes: &[u8]) -> Option<(Option<i32>, u8, &[u8])>
     ensures { IfSome result (λ p. bytes.now ≡ value_text p.0 ++ p.1 ∷ p.2.now) }
 {
     // The value of most rows is 0.
-    if let [b'0', b'\n', rest @ ..] = bytes {
+    if let Some(rest) = after_zero(bytes) {
         return Some((Some(0), b'\n', rest));
     }
     match bytes {
@@ -153,9 +185,9 @@ fn value_in_front(bytes: &[u8]) -> Option<(Option<i32>, u8, &[u8])>
     }
 }
 
-// What stands after the end of a line that begins with this byte.
+/// What stands after the end of a line that begins with this byte.
 #[inline(always)]
-fn behind_line(end: u8, bytes: &[u8]) -> Option<&[u8]>
+pub(crate) fn behind_line(end: u8, bytes: &[u8]) -> Option<&[u8]>
     ensures { IfSome result (λ rest. EndsLine (end ∷ bytes.now) rest.now) }
 {
     if end == b'\n' {
@@ -196,7 +228,7 @@ fn sample_in_front(sensor: Sensor, bytes: &[u8]) -> Option<(Row, &[u8])>
 pub(crate) fn along_row(bytes: &[u8]) -> Option<(Row, &[u8])>
     ensures { IfSome result (λ p. IsRowIn p.0 bytes.now p.1.now) }
 {
-    let rest = behind_along(bytes)?;
+    let rest = after_along(bytes)?;
     sample_in_front(Sensor::Along, rest)
 }
 
@@ -205,7 +237,7 @@ pub(crate) fn along_row(bytes: &[u8]) -> Option<(Row, &[u8])>
 pub(crate) fn across_row(bytes: &[u8]) -> Option<(Row, &[u8])>
     ensures { IfSome result (λ p. IsRowIn p.0 bytes.now p.1.now) }
 {
-    let rest = behind_across(bytes)?;
+    let rest = after_across(bytes)?;
     sample_in_front(Sensor::Across, rest)
 }
 

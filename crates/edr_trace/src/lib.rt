@@ -5,6 +5,7 @@ mod fronts;
 pub mod laws;
 mod parse;
 mod pieces;
+mod plain;
 mod reading;
 mod steps;
 
@@ -19,6 +20,7 @@ use csv::{ByteRecord, ReaderBuilder};
 pub use edr_spell::{CycleInput, Row, TraceFault, TraceRefused, Word};
 use fronts::{across_row, along_row, any_row, behind_no_row, line_in_front};
 use parse::{row_of, row_of_three};
+use plain::take_plain_lines;
 pub use reading::{LONGEST_ROW, TraceReading};
 use std::alloc::{AllocError, Global};
 use std::io::Read;
@@ -162,6 +164,7 @@ fn take_lines<'a>(
 {
     let mut rest = bytes;
     loop {
+        rest = take_plain_lines(trace, progress, rest);
         match take_one(alloc, trace, progress, rest) {
             Ok(Some(behind)) => rest = behind,
             Ok(None) => return Ok(rest),

@@ -1,31 +1,50 @@
-use Rattle.std.proofs.Common.{arith, refl, sym, ap, subst, ◌∙◌, ◌≡◌, List, [], ◌++◌, ℕ, append_assoc}
-use Rattle.edr_trace.specs.SoFar.{IsLeft, LeadsTo, LeavesLess}
+use Rattle.std.proofs.Common.{arith, sym, subst, ◌+◌, ◌≤◌, length}
+use Rattle.edr_trace.specs.SoFar.{LeadsTo, LeavesLess}
+use Rattle.edr_trace.specs.declared.steps.HowFar.{HowFar}
+use Rattle.edr_trace.specs.declared.steps.Trace.{Trace}
+use Rattle.edr_trace.proofs.ReadLemmas.{leads-none, leads-on, told-on}
 use Rattle.edr_trace.proofs.take_lines.Goals as goal
+use Rattle.edr_trace.proofs.take_lines.Goals.{After-take_plain_lines-rest}
+
+-- the plain rows lead on
+plain-leads : (c : After-take_plain_lines-rest) → LeadsTo c.args.bytes.now c.take_plain_lines-rest.result.now c.args.trace.now c.take_plain_lines-rest.new.trace c.args.progress.now c.take_plain_lines-rest.new.progress
+plain-leads c =
+    let l = c.loop-behind in
+    let p = c.take_plain_lines-rest in
+    leads-on c.args.bytes.now l.rest.now p.result.now c.args.trace.now l.trace p.new.trace c.args.progress.now l.progress p.new.progress l.invariant.leads p.ensures.taken
 
 pub loop-behind-init : goal.loop-behind-init
-loop-behind-init c = record { count = omega arith; front = []; parts = refl; so_far = λ whole more h. h }
+loop-behind-init c = record { count = omega arith; leads = leads-none c.args.bytes.now c.args.trace.now c.args.progress.now }
+
+pub take_plain_lines-rest-requires : goal.take_plain_lines-rest-requires
+take_plain_lines-rest-requires c = omega (arith, c.loop-behind.invariant.count, c.requires)
+
+pub take_one-requires : goal.take_one-requires
+take_one-requires c = omega (arith, c.take_plain_lines-rest.ensures.count, c.loop-behind.invariant.count, c.requires)
+
+pub returns-in-Ok-None-clause-taken : goal.returns-in-Ok-None-clause-taken
+returns-in-Ok-None-clause-taken c =
+    let p = c.take_plain_lines-rest in
+    let same = c.in-Ok-None.ensures.none c.in-Ok-None.field-0-is in
+    subst (λ (t : Trace). LeadsTo c.args.bytes.now p.result.now c.args.trace.now t c.args.progress.now c.take_one.new.progress) (sym same.0)
+    (subst (λ (h : HowFar). LeadsTo c.args.bytes.now p.result.now c.args.trace.now p.new.trace c.args.progress.now h) (sym same.1)
+    (plain-leads (goal.at.returns-in-Ok-None-clause-taken c).After-take_plain_lines-rest))
 
 pub returns-in-Err-clause-refused : goal.returns-in-Err-clause-refused
-returns-in-Err-clause-refused c = λ whole more h.
-    let l = c.loop-behind in
-    let inv = l.invariant in
-    let parts : c.args.bytes.now ++ more ≡ inv.front ++ (l.rest.now ++ more) = ap (λ (x : List ℕ). x ++ more) inv.parts ∙ append_assoc inv.front l.rest.now more in
-    let known = subst (λ (x : List ℕ). IsLeft whole x c.args.trace.now c.args.progress.now) parts h in
-    c.in-Err.ensures.refused whole more (inv.so_far whole (l.rest.now ++ more) known)
+returns-in-Err-clause-refused c =
+    let p = c.take_plain_lines-rest in
+    told-on c.args.bytes.now p.result.now c.args.trace.now p.new.trace c.args.progress.now p.new.progress c.in-Err.refused
+    (plain-leads (goal.at.returns-in-Err-clause-refused c).After-take_plain_lines-rest) c.in-Err.ensures.refused
 
 pub loop-behind-preserved : goal.loop-behind-preserved
 loop-behind-preserved c =
-    let l = c.loop-behind in
-    let inv = l.invariant in
+    let p = c.take_plain_lines-rest in
     let behind = c.in-Ok-Some.behind.now in
     let new = c.take_one.new in
-    let taken : LeadsTo l.rest.now behind l.trace new.trace l.progress new.progress = rw c.in-Ok-Some.field-0-is at c.in-Ok-Some.ensures.taken in
-    let count : LeavesLess l.rest.now behind l.progress new.progress = rw c.in-Ok-Some.field-0-is at c.in-Ok-Some.ensures.count in
+    let taken : LeadsTo p.result.now behind p.new.trace new.trace p.new.progress new.progress = rw c.in-Ok-Some.field-0-is at c.in-Ok-Some.ensures.taken in
+    let count : LeavesLess p.result.now behind p.new.progress new.progress = rw c.in-Ok-Some.field-0-is at c.in-Ok-Some.ensures.count in
     record {
-      count = omega (arith, inv.count, count.0);
-      front = inv.front ++ taken.0;
-      parts = inv.parts ∙ ap (λ (x : List ℕ). inv.front ++ x) taken.1 ∙ sym (append_assoc inv.front taken.0 behind);
-      so_far = λ whole more h.
-          let known = subst (λ (x : List ℕ). IsLeft whole x c.args.trace.now c.args.progress.now) (append_assoc inv.front taken.0 more) h in
-          taken.2 whole more (inv.so_far whole (taken.0 ++ more) known);
+      count = omega (arith, p.ensures.count, c.loop-behind.invariant.count, count.0);
+      leads = leads-on c.args.bytes.now p.result.now behind c.args.trace.now p.new.trace new.trace c.args.progress.now p.new.progress new.progress
+          (plain-leads (goal.at.loop-behind-preserved c).After-take_plain_lines-rest) taken;
     }
