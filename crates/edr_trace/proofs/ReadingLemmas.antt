@@ -60,7 +60,7 @@ rest-kept before bytes front left old new at at' h parts count takes =
     (bytes-kept (before ++ front) [] left new at' (rows-taken before bytes front left old new at at' h parts count takes))
 
 -- a fault in these bytes is one of all, whatever follows
-pub told-behind : (before bytes : List ℕ) (trace : Trace) (at : HowFar) (e : ReadRefused) → AreReadBut [] before trace at
+pub told-after : (before bytes : List ℕ) (trace : Trace) (at : HowFar) (e : ReadRefused) → AreReadBut [] before trace at
     → ((whole more : List ℕ) → IsLeft whole (bytes ++ more) trace at → TellsRefusal whole e)
     → (more : List ℕ) → TellsRefusal ((before ++ bytes) ++ more) e
-told-behind before bytes trace at e h told more = subst (λ (x : List ℕ). TellsRefusal x e) (sym (append_assoc before bytes more)) (told (before ++ (bytes ++ more)) more (h.1 (bytes ++ more)))
+told-after before bytes trace at e h told more = subst (λ (x : List ℕ). TellsRefusal x e) (sym (append_assoc before bytes more)) (told (before ++ (bytes ++ more)) more (h.1 (bytes ++ more)))

@@ -197,7 +197,7 @@ line-reads f g h a b c end pf pg ph sf sg sh (inr (inr e)) more left all =
 line-parts : (a b c end rest : List ℕ) → upto a b c end ++ rest ≡ upto a b c (end ++ rest)
 line-parts a b c end rest = simp append_assoc
 
--- three fields, each in front of what is behind the one before, and the end of the line
+-- three fields, each in front of what is after the one before, and the end of the line
 pub record-in : (f g h bytes r1 s1 r2 s2 r3 rest : List ℕ) → IsFieldIn f bytes r1 → r1 ≡ 44 ∷ s1 → IsFieldIn g s1 r2 → r2 ≡ 44 ∷ s2 → IsFieldIn h s2 r3 → EndsLine r3 rest
     → get_or bytes 0 0 ≢ 239 → IsRecordIn (f ∷ g ∷ h ∷ []) bytes rest
 record-in f g h bytes r1 s1 r2 s2 r3 rest i1 e1 i2 e2 i3 ends first =
@@ -218,8 +218,8 @@ record-in f g h bytes r1 s1 r2 s2 r3 rest i1 e1 i2 e2 i3 ends first =
 pub field-bare : (f bytes rest : List ℕ) → list_any is_special f ≡ false → bytes ≡ f ++ rest → IsFieldIn f bytes rest
 field-bare f bytes rest p parts = record { text = f; spelled = inl refl; plain = p; parts = parts }
 
-pub field-quoted : (f bytes inside behind rest : List ℕ) → list_any is_special f ≡ false → bytes ≡ 34 ∷ inside → inside ≡ f ++ behind → behind ≡ 34 ∷ rest → IsFieldIn f bytes rest
-field-quoted f bytes inside behind rest p begun parts shut = record {
+pub field-quoted : (f bytes inside after rest : List ℕ) → list_any is_special f ≡ false → bytes ≡ 34 ∷ inside → inside ≡ f ++ after → after ≡ 34 ∷ rest → IsFieldIn f bytes rest
+field-quoted f bytes inside after rest p begun parts shut = record {
   text = 34 ∷ (f ++ 34 ∷ []);
   spelled = inr refl;
   plain = p;

@@ -19,7 +19,7 @@ const MARK: [u8; 3] = [0xEF, 0xBB, 0xBF];
 
 // What stands after these bytes, if they are in front.
 #[inline(always)]
-fn behind<'a>(bytes: &'a [u8], front: &[u8]) -> Option<&'a [u8]>
+fn after<'a>(bytes: &'a [u8], front: &[u8]) -> Option<&'a [u8]>
     ensures { IfSome result (λ rest. bytes.now ≡ front.now ++ rest.now) }
 {
     bytes.strip_prefix(front)
@@ -80,15 +80,15 @@ pub(crate) fn after_zero(bytes: &[u8]) -> Option<&[u8]>
 
 // The same of any word. The comma is looked for first, since after few words of another row it would be in its place.
 #[inline(always)]
-fn behind_word(bytes: &[u8], word: Word) -> Option<&[u8]>
+fn after_word(bytes: &[u8], word: Word) -> Option<&[u8]>
     ensures { IfSome result (λ rest. bytes.now ≡ spelling_of word ++ 44 ∷ rest.now) }
 {
     let spelling = word.spelling().as_bytes();
     if bytes.get(spelling.len()) != Some(&b',') {
         return None;
     }
-    let rest = behind(bytes, spelling)?;
-    behind(rest, b",")
+    let rest = after(bytes, spelling)?;
+    after(rest, b",")
 }
 
 // The word in front of a comma, and what stands after the comma.
@@ -97,7 +97,7 @@ fn word_in_front(bytes: &[u8]) -> Option<(Word, &[u8])>
     ensures { IfSome result (λ p. bytes.now ≡ spelling_of p.0 ++ 44 ∷ p.1.now) }
 {
     for word in WORDS {
-        if let Some(rest) = behind_word(bytes, word) {
+        if let Some(rest) = after_word(bytes, word) {
             return Some((word, rest));
         }
     }
@@ -187,7 +187,7 @@ fn value_in_front(bytes: &[u8]) -> Option<(Option<i32>, u8, &[u8])>
 
 /// What stands after the end of a line that begins with this byte.
 #[inline(always)]
-pub(crate) fn behind_line(end: u8, bytes: &[u8]) -> Option<&[u8]>
+pub(crate) fn after_line(end: u8, bytes: &[u8]) -> Option<&[u8]>
     ensures { IfSome result (λ rest. EndsLine (end ∷ bytes.now) rest.now) }
 {
     if end == b'\n' {
@@ -196,7 +196,7 @@ pub(crate) fn behind_line(end: u8, bytes: &[u8]) -> Option<&[u8]>
     if end != b'\r' {
         return None;
     }
-    match behind(bytes, b"\n") {
+    match after(bytes, b"\n") {
         Some(rest) => Some(rest),
         None => Some(bytes),
     }
@@ -219,7 +219,7 @@ fn sample_in_front(sensor: Sensor, bytes: &[u8]) -> Option<(Row, &[u8])>
 {
     let (moment, rest) = moment_in_front(bytes)?;
     let (value, end, rest) = value_in_front(rest)?;
-    let rest = behind_line(end, rest)?;
+    let rest = after_line(end, rest)?;
     Some((sample_row(sensor, moment, value), rest))
 }
 
@@ -273,9 +273,9 @@ fn plain_in_front(bytes: &[u8]) -> Option<(&[u8], &[u8])>
 fn quoted_in_front(bytes: &[u8]) -> Option<(&[u8], &[u8])>
     ensures { IfSome result (λ p. IsFieldIn p.0.now bytes.now p.1.now) }
 {
-    let inside = behind(bytes, b"\"")?;
+    let inside = after(bytes, b"\"")?;
     let (field, rest) = plain_in_front(inside)?;
-    let rest = behind(rest, b"\"")?;
+    let rest = after(rest, b"\"")?;
     Some((field, rest))
 }
 
@@ -315,10 +315,10 @@ pub(crate) fn line_in_front(bytes: &[u8]) -> Option<ThreeFields<'_>>
 {
     bare_first(bytes)?;
     let (first, rest) = field_in_front(bytes)?;
-    let (second, rest) = field_in_front(behind(rest, b",")?)?;
-    let (third, rest) = field_in_front(behind(rest, b",")?)?;
+    let (second, rest) = field_in_front(after(rest, b",")?)?;
+    let (third, rest) = field_in_front(after(rest, b",")?)?;
     let (end, rest) = rest.split_first()?;
-    let rest = behind_line(*end, rest)?;
+    let rest = after_line(*end, rest)?;
     Some(ThreeFields {
         first,
         second,
@@ -328,13 +328,13 @@ pub(crate) fn line_in_front(bytes: &[u8]) -> Option<ThreeFields<'_>>
 }
 
 /// What stands after a byte of a blank line in front, or after a byte order mark that no byte was taken before.
-pub(crate) fn behind_no_row(bytes: &[u8], begun: bool) -> Option<&[u8]>
+pub(crate) fn after_no_row(bytes: &[u8], begun: bool) -> Option<&[u8]>
     ensures { IfSome result (λ rest. IsNoRow begun bytes.now rest.now) }
 {
     match bytes {
         [b'\n', rest @ ..] => Some(rest),
         [b'\r', rest @ ..] => Some(rest),
         _ if begun => None,
-        _ => behind(bytes, &MARK),
+        _ => after(bytes, &MARK),
     }
 }

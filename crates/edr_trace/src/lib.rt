@@ -18,7 +18,7 @@ ghost use Rattle.edr_trace.specs.Fronts.{IsRowTaken, IsRowRefused};
 
 use csv::{ByteRecord, ReaderBuilder};
 pub use edr_spell::{CycleInput, Row, TraceFault, TraceRefused, Word};
-use fronts::{across_row, along_row, any_row, behind_no_row, line_in_front};
+use fronts::{across_row, after_no_row, along_row, any_row, line_in_front};
 use parse::{row_of, row_of_three};
 use plain::take_plain_lines;
 pub use reading::{LONGEST_ROW, TraceReading};
@@ -84,9 +84,9 @@ fn take_any<'a>(
     ensures none { IfOk result (λ o. o ≡ None → trace.new ≡ trace.old) }
     ensures refused { IfErr result (IsRowRefused trace.old bytes.now) }
 {
-    if let Some((row, behind)) = any_row(bytes) {
+    if let Some((row, after)) = any_row(bytes) {
         trace.take_row(alloc, row)?;
-        return Ok(Some(behind));
+        return Ok(Some(after));
     }
     let Some(line) = line_in_front(bytes) else {
         return Ok(None);
@@ -107,13 +107,13 @@ fn take_next<'a>(
     ensures none { IfOk result (λ o. o ≡ None → trace.new ≡ trace.old) }
     ensures refused { IfErr result (IsRowRefused trace.old bytes.now) }
 {
-    if let Some((row, behind)) = along_row(bytes) {
+    if let Some((row, after)) = along_row(bytes) {
         trace.take_row(alloc, row)?;
-        return Ok(Some(behind));
+        return Ok(Some(after));
     }
-    if let Some((row, behind)) = across_row(bytes) {
+    if let Some((row, after)) = across_row(bytes) {
         trace.take_row(alloc, row)?;
-        return Ok(Some(behind));
+        return Ok(Some(after));
     }
     take_any(alloc, trace, bytes)
 }
@@ -134,17 +134,17 @@ fn take_one<'a>(
     ensures refused { IfErr result (TellsOf bytes.now trace.old progress.old) }
 {
     match take_next(alloc, trace, bytes) {
-        Ok(Some(behind)) => {
+        Ok(Some(after)) => {
             progress.rows += 1;
             progress.begun = true;
-            Ok(Some(behind))
+            Ok(Some(after))
         }
         Ok(None) => {
-            let Some(behind) = behind_no_row(bytes, progress.begun) else {
+            let Some(after) = after_no_row(bytes, progress.begun) else {
                 return Ok(None);
             };
             progress.begun = true;
-            Ok(Some(behind))
+            Ok(Some(after))
         }
         Err(refused) => Err(at_row(progress.rows + 1, refused)),
     }
@@ -166,7 +166,7 @@ fn take_lines<'a>(
     loop {
         rest = take_plain_lines(trace, progress, rest);
         match take_one(alloc, trace, progress, rest) {
-            Ok(Some(behind)) => rest = behind,
+            Ok(Some(after)) => rest = after,
             Ok(None) => return Ok(rest),
             Err(refused) => return Err(refused),
         }

@@ -9,5 +9,5 @@ returns c =
     let parts : c.in_ok-third.rest.now ≡ c.in_ok-end.end.now ∷ c.in_ok-end.rest.now = c.in_ok-end.ensures.cases.0 in
     let ends : EndsLine c.in_ok-third.rest.now rest = subst (λ (x : List ℕ). EndsLine x rest) (sym parts) c.in_ok-rest.ensures in
     record-in c.in_ok-first.first.now c.in_ok-second.second.now c.in_ok-third.third.now c.args.bytes.now
-    c.in_ok-first.rest.now c.in_ok-behind.field-0.now c.in_ok-second.rest.now c.in_ok-behind-2.field-0.now c.in_ok-third.rest.now rest
-    c.in_ok-first.ensures c.in_ok-behind.ensures c.in_ok-second.ensures c.in_ok-behind-2.ensures c.in_ok-third.ensures ends c.in_ok-bare_first.ensures
+    c.in_ok-first.rest.now c.in_ok-after.field-0.now c.in_ok-second.rest.now c.in_ok-after-2.field-0.now c.in_ok-third.rest.now rest
+    c.in_ok-first.ensures c.in_ok-after.ensures c.in_ok-second.ensures c.in_ok-after-2.ensures c.in_ok-third.ensures ends c.in_ok-bare_first.ensures

@@ -1,5 +1,4 @@
 use Rattle.std.proofs.Common.{arith, refl, sym, subst, ◌+◌, true}
-use Rattle.edr_trace.specs.Fronts.{IsRowTaken}
 use Rattle.edr_trace.specs.SoFar.{LeadsTo, LeavesLess}
 use Rattle.edr_trace.specs.declared.steps.Trace.{Trace}
 use Rattle.edr_trace.proofs.ReadLemmas.{leads-none, leads-on, row-leads, row-counted}

@@ -2,7 +2,7 @@ use Rattle.std.proofs.Common.{arith, rules, sym, subst, ℕ, List, [], ◌++◌}
 use Rattle.edr_trace.specs.declared.reading.Way.TheVariants as way
 use Rattle.edr_trace.specs.Told.{TellsRefusal}
 use Rattle.edr_trace.specs.Given.{Given, AreReadBut, AreReadBy}
-use Rattle.edr_trace.proofs.ReadingLemmas.{by-way, all-taken, front-taken, told-still, rows-taken, bytes-kept, rest-kept, told-behind}
+use Rattle.edr_trace.proofs.ReadingLemmas.{by-way, all-taken, front-taken, told-still, rows-taken, bytes-kept, rest-kept, told-after}
 use Rattle.edr_trace.proofs.reading.TraceReading.take_front.Goals as goal
 
 pub returns-in-Csv-clause-given : goal.returns-in-Csv-clause-given
@@ -34,7 +34,7 @@ returns-in_err-left-clause-refused c =
     let bytes = c.args.bytes.now in
     let e = c.in_err-left.field-0.0 in
     let told : (before more : List ℕ) → Given before self → TellsRefusal ((before ++ bytes) ++ more) e =
-    λ before more h. told-behind before bytes self.trace self.progress e (by-way self.way way.Rows before self.trace self.progress c.in-Rows.is h.are_read) c.in_err-left.ensures.refused more in
+    λ before more h. told-after before bytes self.trace self.progress e (by-way self.way way.Rows before self.trace self.progress c.in-Rows.is h.are_read) c.in_err-left.ensures.refused more in
     search rules
 
 pub returns-then-left-le-LONGEST_ROW-clause-given : goal.returns-then-left-le-LONGEST_ROW-clause-given

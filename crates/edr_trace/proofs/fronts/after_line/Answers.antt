@@ -1,5 +1,5 @@
 use Rattle.std.proofs.Common.{refl, ap, ap₂, inl, inr, ℕ, List, [], ◌∷◌}
-use Rattle.edr_trace.proofs.fronts.behind_line.Goals as goal
+use Rattle.edr_trace.proofs.fronts.after_line.Goals as goal
 
 pub returns-then-end-eq10 : goal.returns-then-end-eq10
 returns-then-end-eq10 c = record { text = 10 ∷ []; is_end = inl refl; parts = ap (λ (x : ℕ). x ∷ c.args.bytes.now) c.if-end-eq10.true }
