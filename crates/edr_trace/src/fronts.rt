@@ -60,7 +60,7 @@ pub(crate) fn after_across(bytes: &[u8]) -> Option<&[u8]>
 {
     match bytes {
         [a, b, c, d, e, f, g, rest @ ..]
-            if are_four([*a, *b, *c, *d], *b"acro") && are_four([*d, *e, *f, *g], *b"oss,") => {
+            if are_four([*a, *b, *c, *d], *b"acro") && are_two([*e, *f], *b"ss") && *g == b',' => {
             Some(rest)
         }
         _ => None,
