@@ -3,7 +3,8 @@
 //! A bell is a word of its own, beside those of the board. It is 1 where somebody is about to sleep at it or does. Whoever rings sets it
 //! to 0 and wakes all. Nothing that is proved rests on a bell, since each sleep is short and whoever wakes looks at everything again.
 
-ghost use Rattle.std.specs.Prelude.{◌≤◌, ◌+◌};
+ghost use Rattle.std.specs.Prelude.{◌≡◌};
+ghost use Rattle.edr_board.specs.Bells.{rounds_after};
 
 use std::hint::spin_loop;
 use std::sync::Wait;
@@ -74,7 +75,7 @@ impl Bells {
     // First it looks again soon. Then it says that it will sleep, and looks once more; so it has seen whatever was done before a ring
     // that found nobody. Then it sleeps.
     pub(crate) fn rest<R: Wait>(&self, rt: &R, bell: Bell, rounds: u32) -> u32
-        ensures { result ≤ rounds + 1 }
+        ensures { result ≡ rounds_after rounds }
     {
         if rounds < ROUNDS {
             for _ in 0..PAUSES {
