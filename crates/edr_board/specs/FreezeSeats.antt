@@ -1,7 +1,8 @@
 -- What a contract sees of a freeze and its seats.
-use Rattle.std.specs.Prelude.{◌≡◌, ◌≤◌, ℕ, Option, Some, None, List, if◌then◌else◌, nat_eq, slice_index, unwrap_or}
+use Rattle.std.specs.Prelude.{◌≡◌, ◌≤◌, ◌+◌, ℕ, Option, Some, None, List, if◌then◌else◌, nat_eq, slice_index, unwrap_or}
 use Rattle.std.specs.Arc.{arc_value}
 use Rattle.atomic_table.specs.Seated.{TableId}
+use Rattle.edr_items.specs.declared.TheConstants.{LONGEST_GAP}
 use Rattle.edr_items.specs.declared.Sensor.{Sensor}
 use Rattle.edr_items.specs.declared.Sensor.TheVariants.{Speed, Throttle, Brake, Belt, Lamp}
 use Rattle.edr_items.specs.declared.per_slow_sensor.PerSlowSensor.{PerSlowSensor}
@@ -92,9 +93,17 @@ pub record SameAsker (a b : Asker) : Type 0 where
   pub asks : open_zero b ≡ open_zero a
   pub last : last_zero b ≡ last_zero a
 
+-- the asker asks what it did before
+abbrev pub SameAsks : Asker → Asker → Type 0
+SameAsks a b = (open_zero b ≡ open_zero a) × (last_zero b ≡ last_zero a)
+
 pub record SameKeeper (a b : Keeper) : Type 0 where
   pub freeze : freeze_of_keeper b ≡ freeze_of_keeper a
   pub place : b.place ≡ a.place
+
+-- the mark that a keeper posted has reached the zero, and is at most the longest gap past it
+abbrev pub HasNearMark : Keeper → ℕ → Type 0
+HasNearMark k z = (z ≤ mark_posted k) × (mark_posted k ≤ z + LONGEST_GAP)
 
 -- each of these marks has reached the zero
 abbrev pub AllReach : ℕ → SlowMarks → Type 0

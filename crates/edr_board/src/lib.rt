@@ -42,14 +42,16 @@ pub use crate::status::{BoardStatus, GateWord};
 /// falls.
 pub fn no_word_falls()
     ensures opened { IsBoard opening }
-    ensures steps { (a b : BoardState) (between : List BoardState) → IsBoard a → SeatsLead a between b → KeepsTheRule a b }
+    ensures steps { (a b : BoardState) (between : List BoardState)
+        → IsBoard a → SeatsLead a between b → KeepsTheRule a b }
 {}
 
 /// The rule of a freeze holds as it is opened. Whichever seats step then, in whatever order, it goes on to hold, and neither
 /// what is granted nor a mark falls.
 pub fn no_mark_falls()
     ensures opened { IsFreeze freeze_opening }
-    ensures steps { (a b : FreezeMoment) (between : List FreezeMoment) → IsFreeze a → FreezeLeads a between b → KeepsTheFreeze a b }
+    ensures steps { (a b : FreezeMoment) (between : List FreezeMoment)
+        → IsFreeze a → FreezeLeads a between b → KeepsTheFreeze a b }
 {}
 
 /// Each sensor but the two axes and the restraints is a slow one, and each slow one has a word of marks of its own, past the

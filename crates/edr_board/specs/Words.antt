@@ -1,0 +1,7 @@
+-- How many words a table has.
+use Rattle.std.specs.Prelude.{◌≡◌, ℕ}
+use Rattle.atomic_table.specs.Seated.{TableId}
+
+-- it has so many words, and nothing beside them
+abbrev pub HasWords : ℕ → TableId → Type 0
+HasWords n t = (t.words ≡ n) × (t.slots ≡ 0)
