@@ -1,4 +1,5 @@
 pub mod Slots
+pub mod Unused
 pub mod Seat
 pub mod Inlet
 pub mod Offer

@@ -5,7 +5,7 @@ use Rattle.edr_items.specs.declared.TheConstants.{LONGEST_GAP}
 use Rattle.edr_items.specs.declared.Sensor.{Sensor}
 use Rattle.edr_items.specs.declared.Item.{Item}
 use Rattle.edr_items.specs.declared.ItemRefused.{ItemRefused}
-use Rattle.edr_items.specs.Item.{mark_of}
+use Rattle.edr_items.specs.Item.{mark_of, refusal_of}
 use Rattle.edr_board.specs.declared.freeze_seats.Keeper.{Keeper}
 use Rattle.edr_board.specs.FreezeSeats.{freeze_of_keeper, grant_read, asked_read}
 use Rattle.edr_capture.specs.Capture.{CaptureStandsFor}
@@ -42,6 +42,10 @@ asked_known s = asked_read s.keeper
 
 abbrev pub zero_served : SlowContents → ℕ
 zero_served s = s.served
+
+-- what speaks against an item as the next one
+abbrev pub refusal_by_slow : SlowContents → Item → Option ItemRefused
+refusal_by_slow s x = refusal_of (sensor_of_slow s) (mark_kept s) x
 
 -- ---- the same seat later
 

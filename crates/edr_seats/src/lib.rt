@@ -11,11 +11,11 @@
 
 ghost use Rattle.std.specs.Prelude.{◌≡◌, [], IfOk};
 ghost use Rattle.edr_seats.specs.Seat.{items_sent, known_taken, sensor_of};
-ghost use Rattle.edr_seats.specs.Inlet.{items_taken, items_known, AreOfOneRing};
+ghost use Rattle.edr_seats.specs.Inlet.{AreOfOneRing, IsFreshInlet};
 ghost use Rattle.edr_items.specs.Sensor.{IsSlow};
 ghost use Rattle.edr_board.specs.FreezeSeats.{IsKeeperOf, mark_posted};
 ghost use Rattle.edr_seats.specs.Slow.{IsFreshSeat};
-ghost use Rattle.edr_seats.specs.PartInlet.{parts_taken, parts_known, AreOfOnePartRing};
+ghost use Rattle.edr_seats.specs.PartInlet.{AreOfOnePartRing, IsFreshPartInlet};
 
 mod inlet;
 mod part_inlet;
@@ -53,7 +53,7 @@ pub fn ring(alloc: Global, sensor: Sensor) -> Result<Lane, OutOfMemory>
     ensures pair { IfOk result (λ lane. AreOfOneRing lane.seat lane.inlet) }
     ensures sensor { IfOk result (λ lane. sensor_of lane.seat ≡ sensor) }
     ensures seat { IfOk result (λ lane. (items_sent lane.seat ≡ []) × (known_taken lane.seat ≡ 0)) }
-    ensures inlet { IfOk result (λ lane. (items_taken lane.inlet ≡ []) × (items_known lane.inlet ≡ [])) }
+    ensures inlet { IfOk result (λ lane. IsFreshInlet lane.inlet) }
 {
     let (producer, consumer) = RingBuffer::new(alloc, SLOTS as usize)?;
     Ok(Lane {
@@ -83,7 +83,7 @@ pub fn slow(alloc: Global, sensor: Sensor, keeper: Keeper) -> Result<SlowLane, O
     requires keeper { IsKeeperOf sensor keeper × (mark_posted keeper ≡ 0) }
     ensures pair { IfOk result (λ lane. AreOfOnePartRing lane.seat lane.inlet) }
     ensures seat { IfOk result (λ lane. IsFreshSeat sensor keeper lane.seat) }
-    ensures inlet { IfOk result (λ lane. (parts_taken lane.inlet ≡ []) × (parts_known lane.inlet ≡ [])) }
+    ensures inlet { IfOk result (λ lane. IsFreshPartInlet lane.inlet) }
 {
     let capture = Capture::new(alloc)?;
     let (producer, consumer) = RingBuffer::new(alloc, PART_SLOTS as usize)?;

@@ -18,14 +18,14 @@ impl PartInlet {
     ghost use mathlib.Core.List.{IsPrefix};
     ghost use Rattle.edr_seats.specs.Slots.{part_room};
     ghost use Rattle.edr_seats.specs.Slow.{SameButRoom, parts_sent, parts_known_taken};
-    ghost use Rattle.edr_seats.specs.PartInlet.{parts_taken, parts_known, SamePartInlet, AreOfOnePartRing};
+    ghost use Rattle.edr_seats.specs.PartInlet.{parts_taken, parts_known, HadNoPart, HadPartBefore, HasTakenPart, SamePartInlet, AreOfOnePartRing};
 
     /// Takes the oldest part. It waits for nobody, and answers None only where it knows of no part.
     pub fn take(&mut self) -> Option<Part>
         ensures ring { SamePartInlet self.old self.new }
-        ensures some { IfSome result (λ part. parts_taken self.new ≡ parts_taken self.old ++ part ∷ []) }
-        ensures known { IfSome result (λ part. IsPrefix (parts_known self.old) (part ∷ parts_known self.new)) }
-        ensures none { IsNone result → (parts_taken self.new ≡ parts_taken self.old) × (parts_known self.old ≡ []) × (parts_known self.new ≡ []) }
+        ensures some { IfSome result (HasTakenPart self.old self.new) }
+        ensures known { IfSome result (HadPartBefore self.old self.new) }
+        ensures none { IsNone result → HadNoPart self.old self.new }
     {
         self.ring.pop().ok()
     }
@@ -43,7 +43,8 @@ impl PartInlet {
         ensures known { IsPrefix (parts_known self.old) (parts_known self.new) }
 
         // The seat knows then of each part that was taken.
-        ensures taken { (parts_known_taken seat.old ≤ parts_known_taken seat.new) × (length (parts_taken self.new) ≤ parts_known_taken seat.new) }
+        ensures taken { (parts_known_taken seat.old ≤ parts_known_taken seat.new)
+            × (length (parts_taken self.new) ≤ parts_known_taken seat.new) }
     {
         let free = seat.ring.slots_beside(&mut self.ring);
         self.ring.slots_beside(&mut seat.ring);

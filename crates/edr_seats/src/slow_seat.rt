@@ -4,13 +4,13 @@ ghost use Rattle.std.specs.Prelude.{◌≡◌, ◌+◌, ◌<◌, ◌≤◌, [], 
 ghost use Rattle.rtrb.specs.Ring.{known_free, producer_capacity, sent};
 ghost use Rattle.edr_items.specs.declared.Item.{Item};
 ghost use Rattle.edr_items.specs.declared.ItemRefused.{ItemRefused};
-ghost use Rattle.edr_items.specs.Item.{refusal_of};
 ghost use Rattle.edr_board.specs.FreezeSeats.{mark_posted};
 ghost use Rattle.edr_capture.specs.Capture.{CaptureStandsFor};
 ghost use Rattle.edr_items.specs.Sensor.{IsSlow};
 ghost use Rattle.edr_capture.specs.SensorPart.{SensorPart};
 ghost use Rattle.edr_seats.specs.Slots.{part_room};
-ghost use Rattle.edr_seats.specs.Slow.{NowIsFor, SameSlowSeat, sensor_of_slow, mark_kept, grant_known, parts_known_taken, ExplainsSlow, HasServed, parts_after};
+ghost use Rattle.edr_seats.specs.Unused.{IsUnused};
+ghost use Rattle.edr_seats.specs.Slow.{NowIsFor, SameSlowSeat, sensor_of_slow, grant_known, refusal_by_slow, parts_known_taken, ExplainsSlow, HasServed, parts_after};
 
 use crate::PART_SLOTS;
 use edr_board::Keeper;
@@ -70,7 +70,7 @@ impl SlowSeat {
         keeper: Keeper,
         sensor: Sensor,
     ) -> SlowSeat
-        requires ring { (sent ring ≡ []) × (known_free ring ≡ part_room) × (producer_capacity ring ≡ part_room) }
+        requires ring { IsUnused part_room ring }
         requires slow { IsSlow sensor }
         requires kept { (capture ≡ []) × (mark_posted keeper ≡ 0) }
         ensures { (result.ring ≡ ring) × (result.kept ≡ []) × (result.keeper ≡ keeper)
@@ -94,11 +94,10 @@ impl SlowSeat {
             (NowIsFor (λ kept. kept ++ item ∷ []) (λ _ parts. parts) self.old self.new) }
         ensures err { OnErr result (NowIsFor (λ kept. kept) (λ _ parts. parts) self.old self.new) }
         ensures accepted { OnOk result (
-            (refusal_of (sensor_of_slow self.old) (mark_kept self.old) item ≡ None)
-            × (item.moment ≤ grant_known self.new)) }
-        ensures why { IfErr result (ExplainsSlow
-            (refusal_of (sensor_of_slow self.old) (mark_kept self.old) item) item self.new) }
-        ensures item { (refused : ItemRefused) → result ≡ Err (SlowRefused.Item refused) → self.new ≡ self.old }
+            (refusal_by_slow self.old item ≡ None) × (item.moment ≤ grant_known self.new)) }
+        ensures why { IfErr result (ExplainsSlow (refusal_by_slow self.old item) item self.new) }
+        ensures item { (refused : ItemRefused) → result ≡ Err (SlowRefused.Item refused)
+            → self.new ≡ self.old }
         ensures later { grant_known self.old ≤ grant_known self.new }
     {
         if let Err(refused) = check(self.sensor, self.last, &item) {

@@ -18,7 +18,7 @@ post_mark-requires-clause-rises c =
     let s = c.self.inside in
     let later = refusal_of-rises s.sensor s.last c.args.item (c.in_default.ensures.accepted.0 refl) in
     let mark = c.self.invariant.mark in
-    let same = c.granted-granted.ensures.mark.0 in
+    let same = c.granted-granted.ensures.mark in
     omega arith
 
 pub invariant_of-self-2 : goal.invariant_of-self-2
