@@ -67,3 +67,10 @@ abbrev pub CameOfSlow : Sensor → List Item → SlowSender → SlowSender → O
 CameOfSlow s xs a b Sent = (a.next < b.next) ⊎ (length (parts_sent a.seat) < length (parts_sent b.seat))
 CameOfSlow s xs a b Full = (b.next ≡ a.next) × (parts_sent b.seat ≡ parts_sent a.seat) × (IsUngranted xs b ⊎ KnowsNoPartSlot b.seat)
 CameOfSlow s xs a b Over = (b.next ≡ a.next) × (parts_sent b.seat ≡ parts_sent a.seat) × (IsFeed s xs → length xs ≤ b.next) × HasNoneToSend b.seat
+
+-- the same of a sender that may be at another worker
+abbrev pub CameOfSlowSender : Sensor → List Item → Option SlowSender → Option SlowSender → Offered → Type 0
+CameOfSlowSender s xs None None offered = offered ≡ Over
+CameOfSlowSender s xs (Some a) (Some b) offered = CameOfSlow s xs a b offered
+CameOfSlowSender s xs None (Some b) offered = ⊥
+CameOfSlowSender s xs (Some a) None offered = ⊥

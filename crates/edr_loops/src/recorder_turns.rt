@@ -1,7 +1,8 @@
 //! The turns of the desk of `recorder.rt`: what one step does for one sensor is done for all, again and again. It stands apart, since
 //! each turn is made of the steps there.
 
-ghost use Rattle.std.specs.Prelude.{◌≡◌, ◌≤◌, ◌+◌, [], true};
+ghost use Rattle.std.specs.Prelude.{◌≡◌, [], true};
+ghost use Rattle.edr_loops.specs.Rounds.{rounds_on};
 ghost use Rattle.edr_loops.specs.UnsentOrders.{issues_held};
 ghost use Rattle.edr_loops.specs.Recorders.{HasEnded, HasPosted, IsDone, IsRecording, Later, LaterUpTo, SeatStays};
 
@@ -198,7 +199,7 @@ impl Desk {
     // of them sleeps over something that it did. `rounds` is how many turns in a row did nothing before this one, and it answers how many
     // have by now.
     fn tell_or_rest<R: Wait>(&self, rt: &R, moved: bool, rounds: u32) -> u32
-        ensures { result ≤ rounds + 1 }
+        ensures { result ≡ rounds_on moved rounds }
     {
         if moved {
             return 0;

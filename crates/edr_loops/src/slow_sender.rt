@@ -4,7 +4,7 @@ ghost use Rattle.std.specs.Prelude.{◌≡◌, ◌≤◌, List};
 ghost use Rattle.edr_items.specs.declared.Item.{Item};
 ghost use Rattle.edr_items.specs.SensorLists.{items_of};
 ghost use Rattle.edr_seats.specs.Slow.{SameSlowSeat, grant_known, parts_sent};
-ghost use Rattle.edr_loops.specs.SlowSenders.{CameOfKept, CameOfPart, CameOfSlow, IsKeeping, IsSlowSender, KeepsOn};
+ghost use Rattle.edr_loops.specs.SlowSenders.{CameOfKept, CameOfPart, CameOfSlow, CameOfSlowSender, IsKeeping, IsSlowSender, KeepsOn};
 
 use crate::fast_sender::{Gate, GatePasses, Offered};
 use edr_items::{Feeds, Item, Sensor};
@@ -111,7 +111,8 @@ pub fn serve_slow<G: Gate>(
     gate: &G,
 ) -> Offered
     requires { IsSlowSender sensor (items_of sensor feeds.now) sender.old }
-    ensures { KeepsOn sensor (items_of sensor feeds.now) sender.old sender.new }
+    ensures keeps { KeepsOn sensor (items_of sensor feeds.now) sender.old sender.new }
+    ensures came { CameOfSlowSender sensor (items_of sensor feeds.now) sender.old sender.new result }
 {
     match sender {
         Some(sender) => sender.serve(sensor, feeds.of(sensor), gate),
