@@ -28,7 +28,7 @@ impl FastSensor {
 }
 
 /// One value for each fast sensor.
-#[derive(Clone, Copy, Drop)]
+#[derive(Clone, Copy, Debug, PartialEq, Eq, Drop)]
 pub struct PerFastSensor<T> {
     pub along: T,
     pub across: T,

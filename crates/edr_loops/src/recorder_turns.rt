@@ -183,10 +183,7 @@ impl Desk {
         ensures { result ≡ true → IsDone horizon ends self.now }
     {
         let upto = horizon.saturating_add(LONGEST_GAP).min(LATEST_MOMENT);
-        let taken = self.last.along == ends.along
-            && self.last.across == ends.across
-            && self.last.restraint == ends.restraint;
-        self.posted >= horizon && self.granted >= upto && taken
+        self.posted >= horizon && self.granted >= upto && self.last == ends
     }
 
     // Wakes all workers.

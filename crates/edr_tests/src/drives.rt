@@ -119,9 +119,7 @@ fn assert_recorded(rt: &impl Abort, desk: &Option<Desk>, feeds: &Feeds) {
         return;
     };
     let ends = ends_of(feeds);
-    assert_eq!(rt; desk.last.along, ends.along);
-    assert_eq!(rt; desk.last.across, ends.across);
-    assert_eq!(rt; desk.last.restraint, ends.restraint);
+    assert_eq!(rt; desk.last, ends);
     assert_eq!(rt; (desk.core.closed(), desk.posted), (1000, 1000));
 }
 
