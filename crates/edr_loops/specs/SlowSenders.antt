@@ -38,6 +38,10 @@ KeepsOn s xs (Some a) (Some b) = SameSlowSeat a.seat b.seat × IsKeeping s xs b
 KeepsOn s xs None (Some b) = ⊥
 KeepsOn s xs (Some a) None = ⊥
 
+-- it has sent no part since, and kept what it had
+abbrev pub KeepsMore : SlowSender → SlowSender → Type 0
+KeepsMore a b = (a.next ≤ b.next) × (parts_sent b.seat ≡ parts_sent a.seat)
+
 -- the next item of the list is past what the seat loaded of granted
 abbrev pub IsUngranted : List Item → SlowSender → Type 0
 IsUngranted xs p = (x : Item) × (take (p.next + 1) xs ≡ take p.next xs ++ x ∷ []) × (grant_known p.seat < x.moment)

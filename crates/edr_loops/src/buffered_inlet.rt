@@ -22,7 +22,8 @@ pub struct BufferedInlet {
     next: usize,
     end: usize,
     ghost within: { (next ≤ end) × (end ≤ 64) },
-    ghost lie: { items_taken inlet ≡ but_last (end - next) (items_taken inlet) ++ between next end items },
+    ghost lie: { items_taken inlet
+        ≡ but_last (end - next) (items_taken inlet) ++ between next end items },
 }
 
 impl BufferedInlet {

@@ -83,8 +83,10 @@ fn is_of(part: &Part, sensor: Sensor) -> bool
 // Gives an item to the core. It answers whether it was taken, as one that the schedule allows is.
 #[inline(always)]
 fn give(core: &mut SplitCore, sensor: Sensor, item: Item) -> bool
-    ensures taken { result ≡ true → (h : History) → SplitCoreStandsFor core.old h → IsAllowed (Give sensor item) h.past × SplitCoreStandsFor core.new (after_item sensor item h) }
-    ensures refused { result ≡ false → (core.new ≡ core.old) × ((h : History) → SplitCoreStandsFor core.old h → IsAllowed (Give sensor item) h.past → ⊥) }
+    ensures taken { result ≡ true → (h : History) → SplitCoreStandsFor core.old h
+        → IsAllowed (Give sensor item) h.past × SplitCoreStandsFor core.new (after_item sensor item h) }
+    ensures refused { result ≡ false → (core.new ≡ core.old) × ((h : History)
+        → SplitCoreStandsFor core.old h → IsAllowed (Give sensor item) h.past → ⊥) }
 {
     core.accept(sensor, item).is_ok()
 }
@@ -103,7 +105,8 @@ impl Desk {
         ensures core { result.core ≡ core }
         ensures rings { (result.fast ≡ fast) × (result.parts ≡ parts) × (result.outbox ≡ outbox) }
         ensures seats { (result.asker ≡ asker) × (result.seat ≡ seat) × (result.watch ≡ watch) }
-        ensures stands { (n horizon : ℕ) → IsFreshDesk n core asker fast parts outbox → DeskStands n horizon result }
+        ensures stands { (n horizon : ℕ)
+            → IsFreshDesk n core asker fast parts outbox → DeskStands n horizon result }
         ensures posted { closed_posted seat ≡ 0 → gate_posted seat ≤ 1 → HasPosted result }
     {
         Desk {

@@ -1,10 +1,10 @@
 //! A slow sensor's sender at a worker: it keeps the sensor's items, and sends the parts that are asked for.
 
-ghost use Rattle.std.specs.Prelude.{◌≡◌, ◌≤◌, List};
+ghost use Rattle.std.specs.Prelude.{◌≡◌, List};
 ghost use Rattle.edr_items.specs.declared.Item.{Item};
 ghost use Rattle.edr_items.specs.SensorLists.{items_of};
-ghost use Rattle.edr_seats.specs.Slow.{SameSlowSeat, grant_known, parts_sent};
-ghost use Rattle.edr_loops.specs.SlowSenders.{CameOfKept, CameOfPart, CameOfSlow, CameOfSlowSender, IsKeeping, IsSlowSender, KeepsOn};
+ghost use Rattle.edr_seats.specs.Slow.{SameSlowSeat, grant_known};
+ghost use Rattle.edr_loops.specs.SlowSenders.{CameOfKept, CameOfPart, CameOfSlow, CameOfSlowSender, IsKeeping, IsSlowSender, KeepsMore, KeepsOn};
 
 use crate::fast_sender::{Gate, GatePasses, Offered};
 use edr_items::{Feeds, Item, Sensor};
@@ -25,7 +25,7 @@ impl SlowSender {
         ensures seat { SameSlowSeat self.old.seat self.new.seat }
         ensures keeping { IsKeeping sensor items.now self.new }
         ensures came { CameOfKept sensor items.now self.old self.new result }
-        ensures on { (self.old.next ≤ self.new.next) × (parts_sent self.new.seat ≡ parts_sent self.old.seat) }
+        ensures on { KeepsMore self.old self.new }
     {
         if self.next >= items.len() {
             return Offered::Over;
@@ -46,9 +46,12 @@ impl SlowSender {
     // Sends the part that is asked for, if one is that wasn't sent, and tells the gate.
     fn send_part<G: Gate>(&mut self, sensor: Sensor, gate: &G) -> Offered
         ensures seat { SameSlowSeat self.old.seat self.new.seat }
-        ensures keeping { (xs : List Item) → IsKeeping sensor xs self.old → IsKeeping sensor xs self.new }
-        ensures came { (xs : List Item) → IsKeeping sensor xs self.old → CameOfPart self.old self.new result }
-        ensures same { (self.new.next ≡ self.old.next) × (grant_known self.new.seat ≡ grant_known self.old.seat) }
+        ensures keeping { (xs : List Item)
+            → IsKeeping sensor xs self.old → IsKeeping sensor xs self.new }
+        ensures came { (xs : List Item)
+            → IsKeeping sensor xs self.old → CameOfPart self.old self.new result }
+        ensures next { self.new.next ≡ self.old.next }
+        ensures granted { grant_known self.new.seat ≡ grant_known self.old.seat }
     {
         match self.seat.serve() {
             Served::Nothing => Offered::Over,
@@ -65,7 +68,7 @@ impl SlowSender {
         requires { IsKeeping sensor items.now self.old }
         ensures seat { SameSlowSeat self.old.seat self.new.seat }
         ensures keeping { IsKeeping sensor items.now self.new }
-        ensures on { (self.old.next ≤ self.new.next) × (parts_sent self.new.seat ≡ parts_sent self.old.seat) }
+        ensures on { KeepsMore self.old self.new }
     {
         for _ in 1..SLOTS {
             if self.offer_next(sensor, items, gate) != Offered::Sent {
@@ -80,7 +83,7 @@ impl SlowSender {
         ensures seat { SameSlowSeat self.old.seat self.new.seat }
         ensures keeping { IsKeeping sensor items.now self.new }
         ensures came { CameOfKept sensor items.now self.old self.new result }
-        ensures on { (self.old.next ≤ self.new.next) × (parts_sent self.new.seat ≡ parts_sent self.old.seat) }
+        ensures on { KeepsMore self.old self.new }
     {
         let offered = self.offer_next(sensor, items, gate);
         if offered == Offered::Sent {
@@ -112,7 +115,8 @@ pub fn serve_slow<G: Gate>(
 ) -> Offered
     requires { IsSlowSender sensor (items_of sensor feeds.now) sender.old }
     ensures keeps { KeepsOn sensor (items_of sensor feeds.now) sender.old sender.new }
-    ensures came { CameOfSlowSender sensor (items_of sensor feeds.now) sender.old sender.new result }
+    ensures came { CameOfSlowSender sensor (items_of sensor feeds.now)
+        sender.old sender.new result }
 {
     match sender {
         Some(sender) => sender.serve(sensor, feeds.of(sensor), gate),

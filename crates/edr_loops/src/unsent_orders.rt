@@ -1,10 +1,9 @@
 //! The commands of one tick that were issued and not yet sent.
 
-ghost use Rattle.std.specs.Prelude.{◌≡◌, ◌+◌, ◌↔◌, [], ◌++◌, length, true, false, map, None};
+ghost use Rattle.std.specs.Prelude.{◌≡◌, ◌↔◌, [], true, false, map, None};
 ghost use Rattle.edr_definitions.specs.Commands.{issue_at};
 ghost use Rattle.edr_core.specs.Answers.{commands_put};
-ghost use Rattle.edr_loops.specs.Room.{order_room};
-ghost use Rattle.edr_loops.specs.Orders.{SameOutbox, orders_known_taken, orders_sent};
+ghost use Rattle.edr_loops.specs.Orders.{KnowsNoRoom, SameOutbox};
 ghost use Rattle.edr_loops.specs.UnsentOrders.{issues_held, issues_out, issues_out_one};
 
 use crate::orders::{Order, Outbox};
@@ -25,7 +24,7 @@ fn send_first(outbox: &mut Outbox, order: &mut Option<Order>) -> bool
     ensures ring { SameOutbox outbox.old outbox.new }
     ensures same { issues_out_one outbox.new order.new ≡ issues_out_one outbox.old order.old }
     ensures all { (result ≡ true) ↔ (order.new ≡ None) }
-    ensures full { result ≡ false → length (orders_sent outbox.new) ≡ orders_known_taken outbox.new + order_room }
+    ensures full { result ≡ false → KnowsNoRoom outbox.new }
 {
     let Some(first) = order.take() else {
         return true;
@@ -45,7 +44,7 @@ fn send_one(outbox: &mut Outbox, order: &mut Option<Order>) -> bool
     ensures ring { SameOutbox outbox.old outbox.new }
     ensures same { issues_out_one outbox.new order.new ≡ issues_out_one outbox.old order.old }
     ensures all { (result ≡ true) ↔ (order.new ≡ None) }
-    ensures full { result ≡ false → length (orders_sent outbox.new) ≡ orders_known_taken outbox.new + order_room }
+    ensures full { result ≡ false → KnowsNoRoom outbox.new }
 {
     if order.is_none() {
         return true;
@@ -102,7 +101,7 @@ impl UnsentOrders {
         ensures all { (result ≡ true) ↔ (issues_held self.new ≡ []) }
 
         // One is left only where as many as there are slots were sent past the last that the outbox knows taken.
-        ensures full { result ≡ false → length (orders_sent outbox.new) ≡ orders_known_taken outbox.new + order_room }
+        ensures full { result ≡ false → KnowsNoRoom outbox.new }
     {
         if !send_one(outbox, &mut self.take) {
             return false;
