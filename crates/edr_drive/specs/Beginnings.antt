@@ -8,6 +8,8 @@ use Rattle.edr_loops.specs.declared.orders.Inbox.{Inbox}
 use Rattle.edr_loops.specs.Orders.{AreEndsOfOrders, orders_sent, orders_taken}
 use Rattle.edr_board.specs.FreezeSeats.{IsFreshAsker, freeze_of_asker}
 use Rattle.edr_board.specs.Seats.{closed_posted, gate_posted}
+use Rattle.edr_loops.specs.declared.per_fast_sensor.PerFastSensor.{PerFastSensor}
+use Rattle.edr_loops.specs.FastInlets.{fast_marks_of}
 use Rattle.edr_loops.specs.Lanes.{AreFastLanes, ArePartLanes, FastItems, fast_taken, no_fast_items, no_slow_parts, slow_taken}
 use Rattle.edr_loops.specs.Recorders.{HasPosted, DeskStands}
 use Rattle.edr_drive.specs.declared.beginning.WorkersAndRecorder.{WorkersAndRecorder}
@@ -15,11 +17,15 @@ use Rattle.edr_drive.specs.declared.beginning.SensorRings.{SensorRings}
 use Rattle.edr_drive.specs.declared.beginning.CoreAndCaptures.{CoreAndCaptures}
 use Rattle.edr_drive.specs.declared.beginning.SharedEnds.{SharedEnds}
 use Rattle.edr_drive.specs.declared.beginning.Seats.{Seats}
-use Rattle.edr_drive.specs.Senders.{HaveBegun}
+use Rattle.edr_loops.specs.Senders.{HaveBegun}
 
 -- the lists of the fast sensors
 abbrev pub fast_items_of : SensorLists → FastItems
 fast_items_of f = record { along = f.along; across = f.across; restraint = f.restraint }
+
+-- their last moments
+abbrev pub fast_ends_of : SensorLists → PerFastSensor ℕ
+fast_ends_of f = fast_marks_of (fast_items_of f)
 
 -- the senders at one end of each ring and the inlets at the other, through which nothing went, and an asker that asked for nothing
 pub record AreFreshRings (r : SensorRings) : Type 0 where

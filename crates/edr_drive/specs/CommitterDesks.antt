@@ -43,9 +43,13 @@ pub record HasNoOrder {L : Type 0} (l : ledger.Ghosts L) (horizon : ℕ) (c : Co
   pub closed : horizon ≤ (status_seen c.watch).closed
   pub none : ((l.log c.ledger).spare ≡ 0) ⊎ (orders_known c.inbox ≡ [])
 
--- these are committed, up to a command that failed
+-- these are committed to a ledger, up to a command that failed
+abbrev pub CommitsTo : {L D T E : Type 0} → ledger.Ghosts L → Ghosts D → List Issue → Result T E → L → L → D → D → Type 0
+CommitsTo l g xs result a b d d' = CommitsOn g xs result (l.banks a) (l.banks b) (l.log a) (l.log b) d d'
+
+-- the same of the ledger of a desk
 abbrev pub CommitsAt : {L D T E : Type 0} → ledger.Ghosts L → Ghosts D → List Issue → Result T E → CommitterDesk L → CommitterDesk L → D → D → Type 0
-CommitsAt l g xs result a b d d' = CommitsOn g xs result (l.banks a.ledger) (l.banks b.ledger) (l.log a.ledger) (l.log b.ledger) d d'
+CommitsAt l g xs result a b d d' = CommitsTo l g xs result a.ledger b.ledger d d'
 
 -- what was taken is committed, up to a command that failed
 abbrev pub CommitsTaken : {L D T E : Type 0} → ledger.Ghosts L → Ghosts D → Result T E → CommitterDesk L → CommitterDesk L → D → D → Type 0

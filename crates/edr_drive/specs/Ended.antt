@@ -7,7 +7,7 @@ use Rattle.edr_loops.specs.Orders.{AreEndsOfOrders}
 use Rattle.edr_loops.specs.Lanes.{AreFastLanes, ArePartLanes}
 use Rattle.edr_loops.specs.Recorders.{DeskStands}
 use Rattle.edr_drive.specs.declared.driving.Ended.{Ended}
-use Rattle.edr_drive.specs.Senders.{HaveBegun}
+use Rattle.edr_loops.specs.Senders.{HaveBegun}
 
 -- both ends of each ring, the desk as it stands in cycle n, and the senders as these lists left them
 pub record IsEnded (f : SensorLists) (n : ℕ) (e : Ended) (inbox : Inbox) : Type 0 where

@@ -1,9 +1,10 @@
-pub mod Senders
+pub mod Crews
 pub mod Beginnings
 pub mod Recorders
 pub mod Left
 pub mod CommitterDesks
 pub mod Ended
+pub mod Shown
 pub mod Live
 pub mod Marks
 pub mod Following

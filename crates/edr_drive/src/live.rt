@@ -1,18 +1,16 @@
 //! One ignition cycle by threads, beside which a reader sees the banks.
 
-ghost use Rattle.std.specs.Prelude.{◌≡◌, ◌≤◌, [], None, true, false, IfOk, OnErr};
+ghost use Rattle.std.specs.Prelude.{◌≡◌, ◌≤◌, true, IfOk, OnErr};
 ghost use Rattle.std.specs.Arc.{arc_value};
 ghost use Rattle.edr_device.specs.Faults.{Rose};
 ghost use Rattle.edr_device.specs.Lent.{GoesOn};
 ghost use Rattle.edr_items.specs.SensorLists.{IsLevel, horizon_of};
 ghost use Rattle.edr_image.specs.Image.{image_size};
-ghost use Rattle.edr_cycle.specs.Begun.{room_for};
 ghost use Rattle.edr_cycle.specs.Ends.{MeetsCycleOn};
-ghost use Rattle.edr_live.specs.Ends.{has_ended, opened_by, shown_by};
-ghost use Rattle.edr_live.specs.Writing.{first_view};
-ghost use Rattle.edr_drive.specs.Beginnings.{IsBeginning};
+ghost use Rattle.edr_drive.specs.Crews.{crew_feeds};
 ghost use Rattle.edr_drive.specs.Live.{IsLastOf};
 ghost use Rattle.edr_drive.specs.Reading.{HasReadOn};
+ghost use Rattle.edr_drive.specs.Shown.{CanRunOver, HasShownNothing, MeetsOpenedOn};
 
 use crate::beginning::{OpenedCycle, begin};
 use crate::live_cycle::{ShownCycle, drive_shown};
@@ -50,9 +48,7 @@ struct Readership {
 
 // The writer is opened last: it is ended by `close` alone, so no `?` may stand after it.
 fn open_readership<R: Wait>(rt: &R, alloc: Global, banks: &Banks) -> Result<Readership, OutOfMemory>
-    ensures opened { IfOk result (λ r. opened_by r.live.writer ≡ first_view banks.now) }
-    ensures none { IfOk result (λ r. shown_by r.live.writer ≡ []) }
-    ensures fresh { IfOk result (λ r. has_ended r.live.writer ≡ false) }
+    ensures { IfOk result (λ r. HasShownNothing banks.now r.live.writer) }
 {
     let (news, watch) = News::open(alloc)?;
     let live = open(rt, alloc, banks)?;
@@ -75,23 +71,14 @@ fn drive_beside<
     readership: Readership,
     nvm: &mut N,
 ) -> LiveEnd
-    requires beginning { IsBeginning beginning.recording.desk.core.cycle beginning.recording beginning.committer.inbox }
-    requires counted { 1 ≤ beginning.recording.desk.core.cycle }
-    requires rests { beginning.committer.ledger.banks.held ≡ None }
-    requires live { beginning.committer.ledger.banks.ended ≡ false }
-    requires empty { beginning.committer.ledger.log.acks ≡ [] }
-    requires no_command { beginning.committer.ledger.log.commands ≡ [] }
-    requires room { room_for (horizon_of (arc_value crew.now.feeds.now)) ≤ beginning.committer.ledger.log.spare }
-    requires size { image_size beginning.committer.ledger.banks.store.header.banks ≤ N.extent nvm.old }
-    requires opened { opened_by readership.live.writer ≡ first_view beginning.committer.ledger.banks }
-    requires none { shown_by readership.live.writer ≡ [] }
-    requires fresh { has_ended readership.live.writer ≡ false }
+    requires can { CanRunOver (crew_feeds crew.now) (N.extent nvm.old) beginning }
+    requires none { HasShownNothing beginning.committer.ledger.banks readership.live.writer }
     ensures number { result.end.number ≡ number }
     ensures lent { GoesOn N.Nvm nvm.old nvm.new }
     ensures cause { result.end.failed ≡ true → Rose (N.faults nvm.old) (N.faults nvm.new) }
-    ensures cycle { MeetsCycleOn N.Nvm (arc_value crew.now.feeds.now) beginning.recording.desk.core.cycle
-        beginning.committer.ledger.banks.store result.end.failed result.end.log.acks nvm.old nvm.new }
-    ensures last { IsLastOf beginning.committer.ledger.banks.store (arc_value crew.now.feeds.now)
+    ensures cycle { MeetsOpenedOn N.Nvm (crew_feeds crew.now) beginning
+        result.end.failed result.end.log.acks nvm.old nvm.new }
+    ensures last { IsLastOf beginning.committer.ledger.banks.store (crew_feeds crew.now)
         beginning.recording.desk.core.cycle result }
 {
     let Readership { live, news, watch } = readership;
@@ -155,7 +142,8 @@ pub fn drive_cycle_live<
     ensures number { IfOk result (λ e. e.end.number ≡ started.number) }
     ensures nothing { OnErr result (nvm.new ≡ nvm.old) }
     ensures lent { GoesOn N.Nvm nvm.old nvm.new }
-    ensures cause { IfOk result (λ e. e.end.failed ≡ true → Rose (N.faults nvm.old) (N.faults nvm.new)) }
+    ensures cause { IfOk result (λ e.
+        e.end.failed ≡ true → Rose (N.faults nvm.old) (N.faults nvm.new)) }
     ensures cycle { IfOk result (λ e. MeetsCycleOn N.Nvm (arc_value feeds.now)
         started.number started.banks.store e.end.failed e.end.log.acks nvm.old nvm.new) }
 

@@ -20,7 +20,8 @@ pub fn rest_after<'a>(desk: &Desk, feeds: &'a Feeds, captures: Captures) -> Rema
     requires empty { captures ≡ no_captures }
     ensures remains { WhereStands feeds.now desk.now
         (λ _. Remains feeds.now desk.now.core.cycle desk.now.core result) }
-    ensures cycle { (n : ℕ) → DeskStands n (horizon_of feeds.now) desk.now → desk.now.core.cycle ≡ n }
+    ensures cycle { (n : ℕ)
+        → DeskStands n (horizon_of feeds.now) desk.now → desk.now.core.cycle ≡ n }
 
     // What was sent, and then what is held, is what the cycle issues up to the closed tick.
     ensures issued { WhereStands feeds.now desk.now (λ n.

@@ -88,15 +88,6 @@ slow_dealt-on f a m r m' r' d h k = λ s slow.
     subst (KeepsOn s (items_of s f) (slow_at s a.each)) (sym (slow_at-by (λ q. either (slow_at q r'.each) (slow_at q m'.each)) s slow))
     (slow_dealt-keeps s (items_of s f) (slow_at s a.each) (slow_at s m.each) (slow_at s r.each) (slow_at s m'.each) (slow_at s r'.each) (d s slow) (h s slow) (k s slow))
 
--- ---- what a worker's handle promises, of the senders that went in
-pub back-fast_on : (f f' : SensorLists) (stand before back : Stand) → FastGoOn f' before.fast back.fast → before ≡ stand → f' ≡ f → FastGoOn f stand.fast back.fast
-back-fast_on f f' stand before back h was same =
-    subst (λ (l : SensorLists). FastGoOn l stand.fast back.fast) same (subst (λ (s : Stand). FastGoOn f' s.fast back.fast) was h)
-
-pub back-slow_on : (f f' : SensorLists) (stand before back : Stand) → SlowKeepOn f' before.slow back.slow → before ≡ stand → f' ≡ f → SlowKeepOn f stand.slow back.slow
-back-slow_on f f' stand before back h was same =
-    subst (λ (l : SensorLists). SlowKeepOn l stand.slow back.slow) same (subst (λ (s : Stand). SlowKeepOn f' s.slow back.slow) was h)
-
 -- ---- a worker's loop that has ended, by the status that it read
 pub ended-stopped : (f : SensorLists) (s : Stand) (status : BoardStatus) → status_seen s.watch ≡ status → status.stopped ≡ true → WorkerHasEnded f s
 ended-stopped f s status read stopped = inl (subst (λ (b : BoardStatus). b.stopped ≡ true) (sym read) stopped)
@@ -107,8 +98,8 @@ same_number n m same = grind arith
 pub ended-gate : (f : SensorLists) (s : Stand) (status : BoardStatus) → status_seen s.watch ≡ status → nat_eq status.gate 2 ≡ true → WorkerHasEnded f s
 ended-gate f s status read gate = inr (inl (subst (λ (b : BoardStatus). b.gate ≡ 2) (sym read) (same_number status.gate 2 gate)))
 
-pub ended-done : (f : SensorLists) (s : Stand) (status : BoardStatus) (horizon : ℕ) → status_seen s.watch ≡ status → horizon ≡ horizon_of f → HaveNoneLeft f s.fast
-    → (has_no_sender s.slow ≡ true) ⊎ (horizon ≤ status.closed) → WorkerHasEnded f s
+pub ended-done : (f : SensorLists) (s : Stand) (status : BoardStatus) (horizon : ℕ) → status_seen s.watch ≡ status → horizon ≡ horizon_of f → HaveNoneLeft f s.senders.fast
+    → (has_no_sender s.senders.slow ≡ true) ⊎ (horizon ≤ status.closed) → WorkerHasEnded f s
 ended-done f s status horizon read is none (inl empty) = inr (inr (none, inl empty))
 ended-done f s status horizon read is none (inr closed) =
     inr (inr (none, inr (subst (λ (b : BoardStatus). horizon_of f ≤ b.closed) (sym read) (subst (λ h. h ≤ status.closed) is closed))))

@@ -53,7 +53,7 @@ has_no_sender p = is_none (find (λ s. is_a_sender (slow_value_of s p.each)) sen
 abbrev pub WorkerHasEnded : SensorLists → Stand → Type 0
 WorkerHasEnded f s =
     ((status_seen s.watch).stopped ≡ true) ⊎ ((status_seen s.watch).gate ≡ gate_number End)
-    ⊎ (HaveNoneLeft f s.fast × ((has_no_sender s.slow ≡ true) ⊎ (horizon_of f ≤ (status_seen s.watch).closed)))
+    ⊎ (HaveNoneLeft f s.senders.fast × ((has_no_sender s.senders.slow ≡ true) ⊎ (horizon_of f ≤ (status_seen s.watch).closed)))
 
 -- ---- how senders are dealt
 

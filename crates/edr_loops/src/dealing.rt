@@ -3,10 +3,11 @@
 
 ghost use Rattle.std.specs.Prelude.{◌≡◌};
 ghost use Rattle.edr_loops.specs.FastSenders.{IsDealt};
+ghost use Rattle.edr_loops.specs.Senders.{AreAllDealt, all_of_worker, either_all};
 ghost use Rattle.edr_loops.specs.Workers.{AreFastDealt, AreSlowDealt, either_fast, either_slow, fast_of_worker, is_served_by, if_served, slow_of_worker};
 
 use crate::per_fast_sensor::PerFastSensor;
-use crate::worker::SlowSenders;
+use crate::worker::{Senders, SlowSenders};
 use edr_items::{PerSlowSensor, Sensor};
 
 // Deals a sender to this hand, or leaves it.
@@ -87,5 +88,28 @@ impl SlowSenders {
             lamp: mine.lamp.or(others.lamp),
         };
         SlowSenders { each }
+    }
+}
+
+impl Senders {
+    /// Deals the senders of this worker, which serves the sensors i with (i - 1) mod `workers` = w.
+    pub fn deal(&mut self, w: u32, workers: u32) -> Senders
+        ensures dealt { AreAllDealt self.old result self.new }
+        ensures mine { result ≡ all_of_worker w workers self.old }
+    {
+        Senders {
+            fast: self.fast.deal(w, workers),
+            slow: self.slow.deal(w, workers),
+        }
+    }
+
+    /// These senders and the others.
+    pub fn and(self, other: Senders) -> Senders
+        ensures { result ≡ either_all self other }
+    {
+        Senders {
+            fast: self.fast.and(other.fast),
+            slow: self.slow.and(other.slow),
+        }
     }
 }

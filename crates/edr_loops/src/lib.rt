@@ -29,4 +29,4 @@ pub use crate::recorder::Desk;
 pub use crate::slow_sender::SlowSender;
 pub use crate::threads::{RecorderPromise, WorkerPromise, start_recorder, start_worker};
 pub use crate::unsent_orders::UnsentOrders;
-pub use crate::worker::{FastSenders, SlowSenders, Stand};
+pub use crate::worker::{FastSenders, Senders, SlowSenders, Stand};

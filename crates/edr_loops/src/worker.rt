@@ -5,6 +5,7 @@ ghost use Rattle.edr_board.specs.Seats.{board_of_watch};
 ghost use Rattle.edr_loops.specs.FastSenders.{came_of_both};
 ghost use Rattle.edr_loops.specs.Rounds.{is_sent, rounds_on};
 ghost use Rattle.edr_loops.specs.Workers.{AreFastBegun, AreSlowSenders, FastGoOn, HaveNoneLeft, SlowKeepOn, WorkerHasEnded, has_no_sender};
+ghost use Rattle.edr_loops.specs.Senders.{HaveBegun, HaveGoneOn};
 
 use crate::fast_sender::{FastSender, Gate, Offered, serve_some};
 use crate::per_fast_sensor::PerFastSensor;
@@ -22,11 +23,17 @@ pub struct SlowSenders {
     pub each: PerSlowSensor<Option<SlowSender>>,
 }
 
+/// The senders of some of the sensors: a worker's, or those that aren't dealt yet.
+#[derive(Drop)]
+pub struct Senders {
+    pub fast: FastSenders,
+    pub slow: SlowSenders,
+}
+
 /// What a worker owns, and hands back at its join.
 #[derive(Drop)]
 pub struct Stand {
-    pub fast: FastSenders,
-    pub slow: SlowSenders,
+    pub senders: Senders,
     pub watch: Watch,
 }
 
@@ -88,9 +95,9 @@ impl Stand {
     // the horizon is closed.
     fn is_done(&self, fast: Offered, closed: u32, horizon: u32) -> bool
         ensures over { result ≡ true → fast ≡ Offered.Over }
-        ensures slow { result ≡ true → (has_no_sender self.now.slow ≡ true) ⊎ (horizon ≤ closed) }
+        ensures slow { result ≡ true → (has_no_sender self.now.senders.slow ≡ true) ⊎ (horizon ≤ closed) }
     {
-        fast == Offered::Over && (self.slow.is_empty() || horizon <= closed)
+        fast == Offered::Over && (self.senders.slow.is_empty() || horizon <= closed)
     }
 
     // What a worker does after a round: it rings where something was sent or kept, and rests otherwise. `rounds` is how many rounds in a
@@ -112,18 +119,16 @@ impl Stand {
 
     // Rounds, until the worker's own work is done, or the board says that the work goes on without it.
     fn work<R: Wait, G: Gate>(&mut self, rt: &R, feeds: &Feeds, gate: &G)
-        requires fast { AreFastBegun feeds.now self.old.fast }
-        requires slow { AreSlowSenders feeds.now self.old.slow }
-        ensures fast { FastGoOn feeds.now self.old.fast self.new.fast }
-        ensures slow { SlowKeepOn feeds.now self.old.slow self.new.slow }
+        requires { HaveBegun feeds.now self.old.senders }
+        ensures on { HaveGoneOn feeds.now self.old.senders self.new.senders }
         ensures board { board_of_watch self.new.watch ≡ board_of_watch self.old.watch }
         ensures ends { WorkerHasEnded feeds.now self.new }
     {
         let horizon = feeds.horizon();
         let mut rounds = 0;
         for _ in rt.forever() {
-            let fast = self.fast.round(feeds, gate);
-            let slow = self.slow.round(feeds, gate);
+            let fast = self.senders.fast.round(feeds, gate);
+            let slow = self.senders.slow.round(feeds, gate);
             let status = self.watch.read();
             if status.stopped
                 || GateWord::End.is(status.gate)
@@ -140,10 +145,8 @@ impl Stand {
     /// also until the horizon is closed, since their parts may be asked for up to there. It ends earlier where the board says
     /// that the work goes on without it.
     pub fn serve<R: Wait, G: Gate>(self, rt: &R, feeds: &Feeds, gate: &G) -> Stand
-        requires fast { AreFastBegun feeds.now self.fast }
-        requires slow { AreSlowSenders feeds.now self.slow }
-        ensures fast { FastGoOn feeds.now self.fast result.fast }
-        ensures slow { SlowKeepOn feeds.now self.slow result.slow }
+        requires { HaveBegun feeds.now self.senders }
+        ensures on { HaveGoneOn feeds.now self.senders result.senders }
         ensures board { board_of_watch result.watch ≡ board_of_watch self.watch }
         ensures ends { WorkerHasEnded feeds.now result }
     {

@@ -4,7 +4,7 @@ use Rattle.edr_items.specs.SensorLists.{SensorLists}
 use Rattle.edr_image.specs.Image.{image_size}
 use Rattle.edr_loops.specs.Recorders.{HasPosted, IsRecording}
 use Rattle.edr_loops.specs.Orders.{orders_taken}
-use Rattle.edr_drive.specs.Senders.{HaveBegun}
+use Rattle.edr_loops.specs.Senders.{HaveBegun}
 use Rattle.edr_drive.specs.declared.beginning.OpenedCycle.{OpenedCycle}
 
 -- its threads can run: nothing was done yet, and a memory of this size has room for its banks

@@ -2,7 +2,7 @@
 
 use edr_board::Freeze;
 use edr_items::{Feeds, Item, Sensor};
-use edr_loops::{FastSenders, SlowSenders, make_fast_lanes, make_slow_lanes};
+use edr_loops::{Senders, make_fast_lanes, make_slow_lanes};
 use std::alloc::Global;
 use std::process::Abort;
 use std::test::Fail;
@@ -49,7 +49,9 @@ pub(crate) fn fired_feeds(alloc: Global, ticks: u32) -> Result<Feeds, Fail> {
 }
 
 // Which sensors have a place here.
-fn are_served(fast: &FastSenders, slow: &SlowSenders) -> [bool; 8] {
+fn are_served(senders: &Senders) -> [bool; 8] {
+    let fast = &senders.fast;
+    let slow = &senders.slow;
     [
         fast.along.is_some(),
         fast.across.is_some(),
@@ -63,9 +65,9 @@ fn are_served(fast: &FastSenders, slow: &SlowSenders) -> [bool; 8] {
 }
 
 // Each of this number of workers serves its own sensors.
-fn assert_dealt(rt: &impl Abort, mut fast: FastSenders, mut slow: SlowSenders, workers: u32) {
+fn assert_dealt(rt: &impl Abort, mut senders: Senders, workers: u32) {
     for w in 0..workers {
-        let served = are_served(&fast.deal(w, workers), &slow.deal(w, workers));
+        let served = are_served(&senders.deal(w, workers));
         for place in 0..8u32 {
             assert_eq!(rt; served[place as usize], place % workers == w);
         }
@@ -77,9 +79,11 @@ fn each_worker_serves_its_sensors(rt: HostRuntime) -> Result<(), Fail> {
     let alloc = rt.alloc();
     for workers in 1..=8u32 {
         let keepers = Freeze::open(alloc)?.keepers;
-        let fast = make_fast_lanes(alloc)?.senders;
-        let slow = make_slow_lanes(alloc, keepers)?.senders;
-        assert_dealt(&rt, fast, slow, workers);
+        let senders = Senders {
+            fast: make_fast_lanes(alloc)?.senders,
+            slow: make_slow_lanes(alloc, keepers)?.senders,
+        };
+        assert_dealt(&rt, senders, workers);
     }
     Ok(())
 }

@@ -13,7 +13,7 @@ use edr_device::MemNvm;
 use edr_drive::beginning::{OpenedCycle, begin, ends_of};
 use edr_drive::committer::CommitterDesk;
 use edr_drive::drive_cycle;
-use edr_drive::threads::{Crew, HandedBack, with_workers};
+use edr_drive::threads::{Crew, HandedBack, Undealt, with_workers};
 use edr_items::{Feeds, Sensor};
 use edr_loops::{Desk, Gate};
 use std::alloc::Global;
@@ -150,14 +150,11 @@ fn check_join<R: Threads + Wait + Abort + Copy + Send + 'static>(
     let mut committer = beginning.committer;
     let recording = beginning.recording;
     let mut desk = Some(recording.desk);
-    let back = with_workers(
-        crew,
-        0,
-        recording.senders,
-        &mut desk,
-        &mut committer,
-        memory,
-    );
+    let undealt = Undealt {
+        from: 0,
+        senders: recording.senders,
+    };
+    let back = with_workers(crew, undealt, &mut desk, &mut committer, memory);
     assert_offered(crew.rt, crew.gate);
     assert_recorded(crew.rt, &desk, crew.feeds);
     assert_committed(crew.rt, &back, &mut committer);

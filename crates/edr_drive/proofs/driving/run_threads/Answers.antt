@@ -1,20 +1,20 @@
-use Rattle.std.specs.Arc.{arc_value}
 use Rattle.edr_items.specs.SensorLists.{horizon_of}
 use Rattle.edr_loops.proofs.LaneLemmas.{fast_lanes-later, part_lanes-later}
+use Rattle.edr_drive.specs.Crews.{crew_feeds}
 use Rattle.edr_drive.proofs.DrivenLemmas.{orders-later}
 use Rattle.edr_drive.proofs.LentLemmas.{lent-back, lent-stands}
-use Rattle.edr_drive.proofs.SenderLemmas.{all-begun}
+use Rattle.edr_loops.proofs.SenderLemmas.{all-begun}
 use Rattle.edr_drive.proofs.driving.run_threads.Goals as goal
 
 pub with_workers-back-requires-clause-begun : goal.with_workers-back-requires-clause-begun
-with_workers-back-requires-clause-begun g c = λ κs h. c.requires.beginning.begun (arc_value c.args.crew.now.feeds.now)
+with_workers-back-requires-clause-begun g c = λ κs h. c.requires.beginning.begun (crew_feeds c.args.crew.now)
 
 pub with_workers-back-requires-clause-recording : goal.with_workers-back-requires-clause-recording
 with_workers-back-requires-clause-recording g c = λ κs h. (c.args.recording.desk.core.cycle, 0, c.requires.beginning.stands 0)
 
 pub returns-clause-ended : goal.returns-clause-ended
 returns-clause-ended g c =
-    let f = arc_value c.args.crew.now.feeds.now in
+    let f = crew_feeds c.args.crew.now in
     let b = c.args.recording in
     let begins = c.requires.beginning in
     let back = c.with_workers-back in

@@ -1,6 +1,5 @@
 use denote.Param.Send.{sendable}
 use Rattle.std.proofs.Common.{subst, sym, ◌∙◌, List, ap}
-use Rattle.std.specs.Arc.{arc_value}
 use Rattle.edr_board.proofs.seats.Watch.TheSendSync as watch
 use Rattle.edr_image.specs.declared.Ack.{Ack}
 use Rattle.edr_cycle.specs.Ends.{MeetsCycle}
@@ -9,6 +8,7 @@ use Rattle.edr_live.specs.declared.shown.LiveView.{LiveView}
 use Rattle.edr_live.specs.Ends.{opened_by, shown_by}
 use Rattle.edr_live.proofs.SendLemmas.{reader_sends}
 use Rattle.edr_live.specs.Shown.{shown_view}
+use Rattle.edr_drive.specs.Crews.{crew_feeds}
 use Rattle.edr_drive.specs.Following.{IsShownOf}
 use Rattle.edr_drive.specs.Reading.{HasReadOn}
 use Rattle.edr_drive.proofs.live.drive_beside.Goals as goal
@@ -17,12 +17,12 @@ pub returns-clause-cycle : goal.returns-clause-cycle
 returns-clause-cycle g c =
     let N = g.N.Nvm in
     let b = c.args.beginning in
-    subst (λ (acks : List Ack). MeetsCycle N.content N.settled N.since N.clock N.last_good (arc_value c.args.crew.now.feeds.now) b.recording.desk.core.cycle b.committer.ledger.banks.store c.drive_shown-failed.result.failed acks c.args.nvm.now c.drive_shown-failed.new.nvm)
+    subst (λ (acks : List Ack). MeetsCycle N.content N.settled N.since N.clock N.last_good (crew_feeds c.args.crew.now) b.recording.desk.core.cycle b.committer.ledger.banks.store c.drive_shown-failed.result.failed acks c.args.nvm.now c.drive_shown-failed.new.nvm)
     (sym c.told.ensures) c.drive_shown-failed.ensures.cycle
 
 pub returns-clause-last : goal.returns-clause-last
 returns-clause-last g c =
-    let f = arc_value c.args.crew.now.feeds.now in
+    let f = crew_feeds c.args.crew.now in
     let b = c.args.beginning in
     let n = b.recording.desk.core.cycle in
     let v = b.committer.ledger.banks.store in

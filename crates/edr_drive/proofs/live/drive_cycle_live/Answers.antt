@@ -2,6 +2,7 @@ use Rattle.std.proofs.Common.{arith, refl, subst, sym, ◌≡◌, ◌≤◌, ℕ
 use Rattle.std.specs.Arc.{arc_value}
 use Rattle.edr_device.proofs.LendingLemmas.{tells_self}
 use Rattle.edr_banks.specs.Opened.{OpenedBanks}
+use Rattle.edr_image.specs.Image.{image_size}
 use Rattle.edr_cycle.specs.Ends.{MeetsCycle}
 use Rattle.edr_drive.specs.Beginnings.{IsBeginning}
 use Rattle.edr_drive.specs.Live.{IsLastOf}
@@ -15,16 +16,24 @@ returns-in_err-beginning-clause-lent g c = record { size = refl; device = g.met.
 pub returns-in_err-readership-clause-lent : goal.returns-in_err-readership-clause-lent
 returns-in_err-readership-clause-lent g c = record { size = refl; device = g.met.N.Nvm.goes_on_self c.args.nvm.now; tells = tells_self (g.N.Nvm.content c.args.nvm.now); later = omega arith }
 
-pub drive_beside-requires-clause-beginning : goal.drive_beside-requires-clause-beginning
-drive_beside-requires-clause-beginning g c = λ κs h.
-    let r = c.in_ok-beginning.beginning.recording in
+pub drive_beside-requires-clause-can : goal.drive_beside-requires-clause-can
+drive_beside-requires-clause-can g c = λ κs h.
+    let b = c.in_ok-beginning.beginning in
     let begins = c.in_ok-beginning.ensures.begins in
-    subst (λ (m : ℕ). IsBeginning m r c.in_ok-beginning.beginning.committer.inbox) (sym (desk-cycle c.args.started.number 0 r.desk (begins.stands 0))) begins
-
-pub drive_beside-requires-clause-counted : goal.drive_beside-requires-clause-counted
-drive_beside-requires-clause-counted g c = λ κs h.
-    let d = c.in_ok-beginning.beginning.recording.desk in
-    subst (λ (m : ℕ). 1 ≤ m) (sym (desk-cycle c.args.started.number 0 d (c.in_ok-beginning.ensures.begins.stands 0))) c.in_ok-beginning.ensures.starts.counted
+    let starts = c.in_ok-beginning.ensures.starts in
+    let same = sym (desk-cycle c.args.started.number 0 b.recording.desk (begins.stands 0)) in
+    let ticks = c.requires.ticks in
+    let room = starts.room in
+    record {
+      beginning = subst (λ (m : ℕ). IsBeginning m b.recording b.committer.inbox) same begins;
+      counted = subst (λ (m : ℕ). 1 ≤ m) same starts.counted;
+      rests = starts.none_held;
+      live = starts.live;
+      empty = starts.empty;
+      no_command = starts.no_command;
+      room = omega (arith, ticks, room);
+      size = subst (λ (o : OpenedBanks). image_size o.store.header.banks ≤ g.N.Nvm.extent c.args.nvm.now) (sym starts.banks_are) c.requires.size;
+    }
 
 pub returns-clause-cycle : goal.returns-clause-cycle
 returns-clause-cycle g c =

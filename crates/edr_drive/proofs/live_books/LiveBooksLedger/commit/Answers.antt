@@ -28,9 +28,9 @@ show-requires-clause-named g c off =
     let e = c.in_ok-applied.ensures in
     let o' = c.commit_answered.new.self.banks in
     let count = ap (λ (o : OpenedBanks). o.store.header.banks) e.next.0 in
-    let same = follows-banks a.start.value.store a.books.banks a.books.log.commands (opened_by a.writer) (shown_by a.writer) a.cut
+    let same = follows-banks a.start.value.store a.books.banks a.books.log.commands (opened_by a.showing.writer) (shown_by a.showing.writer) a.showing.cut
     (record { stands = a.stands; within = a.within; views = a.views; all = a.all }) off in
-    (shows_next a.books.banks o' c.args.command.now c.in_ok-applied.applied (view_shown a.writer).views o'.store.header.banks e.may e.next.0 e.answer same (c.banks.ensures.all ∙ c.banks.ensures.banks ∙ sym count)).0
+    (shows_next a.books.banks o' c.args.command.now c.in_ok-applied.applied (view_shown a.showing.writer).views o'.store.header.banks e.may e.next.0 e.answer same (c.banks.ensures.all ∙ c.banks.ensures.banks ∙ sym count)).0
 
 pub show-requires-clause-views : goal.show-requires-clause-views
 show-requires-clause-views g c off =
@@ -38,9 +38,9 @@ show-requires-clause-views g c off =
     let e = c.in_ok-applied.ensures in
     let o' = c.commit_answered.new.self.banks in
     let count = ap (λ (o : OpenedBanks). o.store.header.banks) e.next.0 in
-    let same = follows-banks a.start.value.store a.books.banks a.books.log.commands (opened_by a.writer) (shown_by a.writer) a.cut
+    let same = follows-banks a.start.value.store a.books.banks a.books.log.commands (opened_by a.showing.writer) (shown_by a.showing.writer) a.showing.cut
     (record { stands = a.stands; within = a.within; views = a.views; all = a.all }) off in
-    (shows_next a.books.banks o' c.args.command.now c.in_ok-applied.applied (view_shown a.writer).views o'.store.header.banks e.may e.next.0 e.answer same (c.banks.ensures.all ∙ c.banks.ensures.banks ∙ sym count)).1
+    (shows_next a.books.banks o' c.args.command.now c.in_ok-applied.applied (view_shown a.showing.writer).views o'.store.header.banks e.may e.next.0 e.answer same (c.banks.ensures.all ∙ c.banks.ensures.banks ∙ sym count)).1
 
 pub invariant_of-self-2 : goal.invariant_of-self-2
 invariant_of-self-2 g c =
@@ -48,14 +48,13 @@ invariant_of-self-2 g c =
     let e = c.in_ok-applied.ensures in
     let v = a.start.value.store in
     let o' = c.commit_answered.new.self.banks in
-    let w' = c.show.new.writer in
+    let w' = c.show.new.self.writer in
     let s = c.show.ensures in
     let x = shown_for (bank_named c.in_ok-applied.applied) o'.store.banks in
-    let more = follows-more v a.books.banks o' a.books.log.commands c.args.command.now (opened_by a.writer) (opened_by w') (shown_by a.writer) (shown_by w') e.next.0 x a.cut c.show.new.cut
+    let more = follows-more v a.books.banks o' a.books.log.commands c.args.command.now (opened_by a.showing.writer) (opened_by w') (shown_by a.showing.writer) (shown_by w') e.next.0 x a.showing.cut c.show.new.self.cut
     (record { stands = a.stands; within = a.within; views = a.views; all = a.all }) s.opening s.stays s.shown s.none s.views in
-    let f = subst (λ (ds : List Command). Follows v o' ds (opened_by w') (shown_by w') c.show.new.cut) (sym e.next.1) more in
+    let f = subst (λ (ds : List Command). Follows v o' ds (opened_by w') (shown_by w') c.show.new.self.cut) (sym e.next.1) more in
     record {
-      told = s.told;
       count = ap (λ (u : LiveView). u.banks) s.opening ∙ a.count;
       stands = f.stands;
       within = f.within;
