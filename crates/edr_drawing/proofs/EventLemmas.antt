@@ -4,8 +4,8 @@ use Rattle.std.specs.List.{enumerate_from}
 use Rattle.std.proofs.lemmas.List.{length-map}
 use Rattle.edr_image.specs.declared.Found.{Found}
 use Rattle.edr_report.specs.Report.{found_records}
-use Rattle.edr_drawing.specs.declared.events.FoundEvent.{FoundEvent}
-use Rattle.edr_drawing.specs.Events.{NumberedRecord, numbered, numbered_one}
+use Rattle.edr_drawing.specs.declared.cover.FoundEvent.{FoundEvent}
+use Rattle.edr_drawing.specs.Cover.{NumberedRecord, numbered, numbered_one}
 
 pub as_many : (events : List FoundEvent) → length (numbered events) ≡ length events
 as_many events = length-map events numbered_one

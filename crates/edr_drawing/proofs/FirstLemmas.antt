@@ -10,8 +10,8 @@ use Rattle.edr_record.specs.declared.TheConstants.{LONGEST_PAIR}
 use Rattle.edr_record.specs.Parts.{PrePart}
 use Rattle.edr_image.specs.declared.Found.{Found}
 use Rattle.edr_report.specs.Words.{number_shown, tenths_of}
-use Rattle.edr_drawing.specs.Events.{NumberedRecord, events_of}
-use Rattle.edr_drawing.specs.Pairs.{firsts, is_first, is_first_of, is_so_long_before}
+use Rattle.edr_drawing.specs.Cover.{NumberedRecord, events_of}
+use Rattle.edr_drawing.specs.Sheets.{firsts, is_first, is_first_of, is_so_long_before}
 use Rattle.edr_drawing.specs.Laws.{AreFirsts, MayBeFirst}
 use Rattle.edr_drawing.proofs.PartLemmas.{contains_cases, in_one}
 

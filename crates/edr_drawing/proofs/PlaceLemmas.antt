@@ -2,11 +2,10 @@
 use Rattle.std.proofs.Common.{arith, ◌≡◌, ℕ, ◌+◌, ◌*◌, ◌/◌, ◌≤◌, ℤ, pos, negsuc, true, int_le}
 use Rattle.std.proofs.Math.Nat.{div-mul-le_self, mul-le-mul_right}
 use Rattle.std.proofs.lemmas.Nat.{le-div}
-use Rattle.edr_drawing.specs.declared.changes.Scale.{Scale}
-use Rattle.edr_drawing.specs.declared.lanes.ChartLane.{ChartLane}
-use Rattle.edr_drawing.specs.Scales.{below_top}
-use Rattle.edr_drawing.specs.Lanes.{lane_y}
-use Rattle.edr_drawing.specs.Changes.{change_y}
+use Rattle.edr_drawing.specs.declared.scales.Scale.{Scale}
+use Rattle.edr_drawing.specs.declared.before.ChartLane.{ChartLane}
+use Rattle.edr_drawing.specs.Scales.{below_top, change_y}
+use Rattle.edr_drawing.specs.Before.{lane_y}
 
 -- a quotient grows with its dividend
 quotient_grows : (a b k : ℕ) → 1 ≤ k → a ≤ b → a / k ≤ b / k

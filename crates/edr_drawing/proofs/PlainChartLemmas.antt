@@ -7,18 +7,15 @@ use Rattle.edr_record.specs.declared.Profile.{Profile}
 use Rattle.edr_record.specs.declared.Profile.TheVariants.{Short, Long}
 use Rattle.edr_drawing.specs.declared.axes.CarAxis.{CarAxis}
 use Rattle.edr_drawing.specs.declared.before.TheConstants.{BRAKE_BAND}
-use Rattle.edr_drawing.specs.declared.changes.Scale.{Scale}
-use Rattle.edr_drawing.specs.declared.lanes.ChartLane.{ChartLane}
+use Rattle.edr_drawing.specs.declared.scales.Scale.{Scale}
+use Rattle.edr_drawing.specs.declared.before.ChartLane.{ChartLane}
 use Rattle.edr_drawing.specs.declared.shapes.Shape.{Shape}
 use Rattle.edr_drawing.specs.declared.shapes.Shape.TheVariants as shape
 use Rattle.edr_drawing.specs.Shapes.{path_point, shape_bytes, shapes_bytes}
 use Rattle.edr_record.specs.declared.TheConstants.{POINT_STEP}
-use Rattle.edr_drawing.specs.Scales.{slot_x}
-use Rattle.edr_drawing.specs.Lanes.{cells, cells_of, drawn_lane, field_shapes, lane_y, long_cells, points, run_shapes}
-use Rattle.edr_drawing.specs.Before.{are_same, before_chart, brake_slots, switch_runs, switches, time_lines}
-use Rattle.edr_drawing.specs.Changes.{change_y, time_x}
-use Rattle.edr_drawing.specs.After.{axis_marks, axis_points, changes_chart, curve, drawn_curve, end_line, legend_gaps, level, levels, mark_at, maximum, maximum_number, past_window, time_lines as later_lines}
-use Rattle.edr_drawing.specs.Rows.{after_chart, extreme_row, restraint_row, restraint_rows, resultant_row, rows_chart}
+use Rattle.edr_drawing.specs.Scales.{slot_x, change_y, time_x}
+use Rattle.edr_drawing.specs.Before.{cells, cells_of, drawn_lane, field_shapes, lane_y, long_cells, points, run_shapes, are_same, before_chart, brake_slots, switch_runs, switches, time_lines}
+use Rattle.edr_drawing.specs.After.{axis_marks, axis_points, changes_chart, curve, drawn_curve, end_line, legend_gaps, level, levels, mark_at, maximum, maximum_number, past_window, time_lines as later_lines, after_chart, extreme_row, restraint_row, restraint_rows, resultant_row, rows_chart}
 use Rattle.edr_drawing.proofs.PlainLemmas.{Plain, all_low, plain_nil, plain_append, plain_if, plain_fixed, plain_flat_map, plains}
 
 plain_shape : (s : Shape) → Plain (shape_bytes s)

@@ -1,7 +1,6 @@
 -- The lines of a report have plain names and plain values.
 use Rattle.std.proofs.Common.{arith, ◌≡◌, refl, ℕ, Bool, true, false, Option, Some, None, List, [], ◌∷◌, ◌++◌, map, take, flat_map, get_or}
-use Rattle.std.specs.List.{enumerate_from}
-use Rattle.std.specs.List.{list_all}
+use Rattle.std.specs.List.{enumerate_from, list_all}
 use Rattle.std.proofs.lemmas.Bool.{and_parts}
 use Rattle.std.specs.Fmt.{signed_decimal}
 use Rattle.std.specs.Option.{option_map_or}

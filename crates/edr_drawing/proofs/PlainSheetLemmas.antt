@@ -13,13 +13,9 @@ use Rattle.edr_drawing.specs.declared.axes.CarAxis.{CarAxis}
 use Rattle.edr_drawing.specs.declared.axes.CarAxis.TheVariants.{Along, Across}
 use Rattle.edr_drawing.specs.declared.shapes.TheConstants.{NONE}
 use Rattle.edr_drawing.specs.declared.Origin.{Origin}
-use Rattle.edr_drawing.specs.Events.{NumberedRecord}
-use Rattle.edr_drawing.specs.Reasons.{share_reason, switch_reason, pre_reasons, crash_reasons, reasons}
-use Rattle.edr_drawing.specs.Tables.{points_table, elements_table, run_table}
-use Rattle.edr_drawing.specs.ByTime.{block, by_time, mph, mph_word, number_word, slot_row}
-use Rattle.edr_drawing.specs.Pairs.{firsts_words, place_fact, place_told}
-use Rattle.edr_drawing.specs.Sheets.{sheet}
-use Rattle.edr_drawing.specs.Cover.{cover_end, cover_start, damaged_item, damaged_list, event_row, events_table, greatest_or_none}
+use Rattle.edr_drawing.specs.Cover.{NumberedRecord, cover_end, cover_start, damaged_item, damaged_list, event_row, events_table, greatest_or_none}
+use Rattle.edr_drawing.specs.Sheets.{share_reason, switch_reason, pre_reasons, crash_reasons, reasons, firsts_words, place_fact, place_told, sheet}
+use Rattle.edr_drawing.specs.Tables.{points_table, elements_table, run_table, block, by_time, mph, mph_word, number_word, slot_row}
 use Rattle.edr_drawing.specs.Page.{page_bytes}
 use Rattle.edr_drawing.proofs.PlainLemmas.{Plain, all_low, plain_nil, plain_fixed, plain_beginning, plain_decimal, plain_digest, plains}
 use Rattle.edr_drawing.proofs.PlainChartLemmas.{plain_before_chart, plain_after_chart}

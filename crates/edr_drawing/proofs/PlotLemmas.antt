@@ -3,11 +3,10 @@ use Rattle.std.proofs.Common.{arith, ◌≡◌, refl, ℕ, ◌+◌, ◌*◌, ◌
 use Rattle.std.proofs.Math.Nat.{mul-le-mul_right, div-le_of_le-mul}
 use Rattle.std.proofs.lemmas.List.Elements.{All-nil, All-cons, All-weaker}
 use Rattle.edr_record.specs.Parts.{CrashPart}
-use Rattle.edr_drawing.specs.declared.changes.Scale.{Scale}
+use Rattle.edr_drawing.specs.declared.scales.Scale.{Scale}
 use Rattle.edr_drawing.specs.declared.scales.Direction.{Direction}
 use Rattle.edr_drawing.specs.declared.scales.Direction.TheVariants.{Up, Down}
-use Rattle.edr_drawing.specs.Scales.{reach_of, below_top, scale_top}
-use Rattle.edr_drawing.specs.Changes.{furthest, reach, step_of, part_of, scale_of, span_of, time_x}
+use Rattle.edr_drawing.specs.Scales.{reach_of, below_top, scale_top, furthest, reach, step_of, part_of, scale_of, span_of, time_x}
 use Rattle.edr_drawing.specs.Laws.{StandsIn}
 
 -- a change that the scale reaches

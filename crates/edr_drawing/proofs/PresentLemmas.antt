@@ -3,13 +3,13 @@ use Rattle.std.proofs.Common.{arith, ◌≡◌, ◌∙◌, refl, sym, ap, subst,
 use Rattle.std.proofs.lemmas.Grind.{flat_map-append}
 use Rattle.edr_record.specs.declared.Profile.{Profile}
 use Rattle.edr_record.specs.declared.Profile.TheVariants.{Short, Long}
-use Rattle.edr_drawing.specs.declared.lanes.ChartLane.{ChartLane}
-use Rattle.edr_drawing.specs.declared.lanes.TheConstants.{ROOM_FOR_WORD}
+use Rattle.edr_drawing.specs.declared.before.ChartLane.{ChartLane}
+use Rattle.edr_drawing.specs.declared.before.TheConstants.{ROOM_FOR_WORD}
 use Rattle.edr_drawing.specs.declared.shapes.Shape.{Shape}
 use Rattle.edr_drawing.specs.declared.shapes.Shape.TheVariants as shape
 use Rattle.edr_drawing.specs.Shapes.{shape_bytes, shapes_bytes}
 use Rattle.edr_drawing.specs.Scales.{slot_x}
-use Rattle.edr_drawing.specs.Lanes.{lane_y, cell, cells, long_cells, point, points, run_shapes, word_y}
+use Rattle.edr_drawing.specs.Before.{lane_y, cell, cells, long_cells, point, points, run_shapes, word_y}
 use Rattle.edr_drawing.specs.Laws.{present, mark_of, is_mark, HasMarks}
 
 -- more shapes

@@ -1,11 +1,14 @@
--- The first sheet of a page.
-use Rattle.std.specs.Prelude.{ℕ, Bool, true, false, count_by, length, if◌then◌else◌, nat_eq, Option, Some, None, List, [], ◌∷◌, ◌++◌, flat_map, decimal}
+-- The first sheet of a page, and the events that have sheets of their own.
+use Rattle.std.specs.Prelude.{ℕ, List, map, Bool, true, false, count_by, length, if◌then◌else◌, nat_eq, Option, Some, None, [], ◌∷◌, ◌++◌, flat_map, decimal}
+use Rattle.std.specs.List.{enumerate_from}
 use Rattle.edr_record.specs.declared.Record.{Record}
+use Rattle.edr_image.specs.declared.Found.{Found}
+use Rattle.edr_report.specs.Report.{found_records}
+use Rattle.edr_drawing.specs.declared.cover.FoundEvent.{FoundEvent}
 use Rattle.edr_record.specs.Parts.{CrashPart}
 use Rattle.edr_record.specs.Complete.{is_complete}
 use Rattle.edr_image.specs.declared.BankView.{BankView}
 use Rattle.edr_image.specs.declared.BankView.TheVariants.{Damaged}
-use Rattle.edr_image.specs.declared.Found.{Found}
 use Rattle.edr_report.specs.Words.{number_shown}
 use Rattle.edr_drawing.specs.declared.Origin.{Origin}
 use Rattle.edr_drawing.specs.declared.TheConstants.{VERSION}
@@ -13,14 +16,25 @@ use Rattle.edr_drawing.specs.declared.axes.CarAxis.{CarAxis}
 use Rattle.edr_drawing.specs.declared.axes.CarAxis.TheVariants.{Along, Across}
 use Rattle.edr_drawing.specs.declared.cover.TheConstants.{DAMAGED_BANK, DAMAGED_START, EVENT_ROW, EVENTS_START, FIRST_FOOT, FIRST_SHEET, SET_OR_NOT}
 use Rattle.edr_drawing.specs.declared.long.TheConstants.{FORM, NOTES}
-use Rattle.edr_drawing.specs.declared.reasons.TheConstants.{LIST_END}
+use Rattle.edr_drawing.specs.declared.sheets.TheConstants.{LIST_END, YES_NO}
 use Rattle.edr_drawing.specs.declared.shapes.TheConstants.{NONE}
-use Rattle.edr_drawing.specs.declared.sheets.TheConstants.{YES_NO}
 use Rattle.edr_drawing.specs.declared.tables.TheConstants.{TABLE_END}
 use Rattle.edr_drawing.specs.Template.{digest_hex, either, filled, fixed, place_words}
 use Rattle.edr_drawing.specs.Axes.{greatest_words}
-use Rattle.edr_drawing.specs.declared.events.FoundEvent.{FoundEvent}
-use Rattle.edr_drawing.specs.Events.{NumberedRecord, numbered}
+
+-- the number of an event, that of its bank, and its record
+abbrev pub NumberedRecord : Type 0
+NumberedRecord = ℕ × (ℕ × Record)
+
+abbrev pub numbered_one : FoundEvent → NumberedRecord
+numbered_one e = (e.number, (e.bank, e.event.now))
+
+abbrev pub numbered : List FoundEvent → List NumberedRecord
+numbered events = map numbered_one events
+
+-- the events that were found, the first of which has the number 1
+abbrev pub events_of : List Found → List NumberedRecord
+events_of found = enumerate_from 1 (found_records found)
 
 -- how many damaged banks were found
 abbrev pub is_damaged : BankView → Bool

@@ -10,7 +10,7 @@ use Rattle.edr_record.specs.Bounds.{slots_in}
 use Rattle.edr_record.specs.Parts.{CrashPart, PrePart}
 use Rattle.edr_report.specs.Report.{events_lines, found_records}
 use Rattle.edr_report.specs.Words.{number_shown, tenths_of}
-use Rattle.edr_drawing.specs.ByTime.{slot_row}
+use Rattle.edr_drawing.specs.Tables.{slot_row, row, shown_value}
 use Rattle.edr_image.specs.declared.Found.{Found}
 use Rattle.edr_image.specs.Reports.{Report}
 use Rattle.edr_report.specs.Lines.{Line}
@@ -20,17 +20,15 @@ use Rattle.edr_drawing.specs.Axes.{greatest_words}
 use Rattle.edr_drawing.specs.After.{curve, maximum, silent_curve}
 use Rattle.edr_drawing.specs.declared.shapes.Shape.{Shape}
 use Rattle.edr_drawing.specs.declared.shapes.Shape.TheVariants as shape
-use Rattle.edr_drawing.specs.declared.lanes.ChartLane.{ChartLane}
-use Rattle.edr_drawing.specs.declared.changes.Scale.{Scale}
+use Rattle.edr_drawing.specs.declared.before.ChartLane.{ChartLane}
+use Rattle.edr_drawing.specs.declared.scales.Scale.{Scale}
 use Rattle.edr_drawing.specs.Shapes.{shapes_bytes}
-use Rattle.edr_drawing.specs.Scales.{slot_x}
-use Rattle.edr_drawing.specs.Lanes.{cells_of, lane_y, point, points}
-use Rattle.edr_drawing.specs.Changes.{change_y, scale_of, time_x}
+use Rattle.edr_drawing.specs.Scales.{slot_x, change_y, scale_of, time_x}
+use Rattle.edr_drawing.specs.Before.{cells_of, lane_y, point, points}
 use Rattle.edr_drawing.specs.declared.Origin.{Origin}
-use Rattle.edr_drawing.specs.Events.{events_of}
+use Rattle.edr_drawing.specs.Cover.{events_of}
 use Rattle.edr_drawing.specs.Page.{page_bytes}
-use Rattle.edr_drawing.specs.Pairs.{firsts, place_fact}
-use Rattle.edr_drawing.specs.Tables.{row, shown_value}
+use Rattle.edr_drawing.specs.Sheets.{firsts, place_fact}
 
 -- the bytes stand in the others, in one piece
 abbrev pub IsInOnePiece : List ℕ → List ℕ → Type 0

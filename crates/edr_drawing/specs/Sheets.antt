@@ -1,18 +1,100 @@
--- The sheet of an event.
-use Rattle.std.specs.Prelude.{ℕ, List, [], ◌∷◌, ◌++◌, flat_map, decimal}
+-- The sheet of an event: its place in its crash, why its record isn't complete, its charts and its tables.
+use Rattle.std.specs.Prelude.{ℕ, ◌-◌, Bool, true, false, ◌&&◌, if◌then◌else◌, nat_eq, nat_le, nat_lt, List, [], ◌∷◌, ◌++◌, flat_map, decimal, count_by, is_none, length, Option, Some, None}
+use Rattle.edr_record.specs.declared.Key.{Key}
+use Rattle.edr_record.specs.declared.Place.{Place}
+use Rattle.edr_record.specs.declared.Place.TheVariants.{First, Second}
+use Rattle.edr_record.specs.declared.TheConstants.{LONGEST_PAIR}
+use Rattle.edr_record.specs.Parts.{PrePart, CrashPart}
+use Rattle.edr_report.specs.declared.TheConstants.{LARGEST_SHOWN_COUNT}
+use Rattle.edr_report.specs.Words.{number_shown, tenths_of}
+use Rattle.edr_drawing.specs.declared.sheets.TheConstants.{ELSEWHERE, EVENT, IF_SAME_CYCLE, OR_EVENT, PLACE_END, PLACE_START, SECOND_AFTER, ACROSS_ABSENT, ALONG_ABSENT, BELT, BRAKE_ABSENT, LIST_END, PART_ABSENT, REASONS_START, SPEED_ABSENT, SWITCH_ABSENT, THROTTLE_ABSENT, WARNING_LAMP, FACTS, PROFILES, SHEET_FOOT, SHEET_HEAD, YES_NO}
+use Rattle.edr_drawing.specs.declared.template.TheConstants.{FIRST}
+use Rattle.edr_drawing.specs.Template.{filled, fixed, seconds, digest_hex, either, of_profile}
+use Rattle.edr_drawing.specs.Cover.{NumberedRecord, numbered}
 use Rattle.edr_record.specs.declared.Record.{Record}
+use Rattle.edr_record.specs.Bounds.{window_from_end}
 use Rattle.edr_record.specs.Complete.{is_complete}
-use Rattle.edr_report.specs.Words.{number_shown}
-use Rattle.edr_drawing.specs.declared.sheets.TheConstants.{FACTS, PROFILES, SHEET_FOOT, SHEET_HEAD, YES_NO}
-use Rattle.edr_drawing.specs.Template.{digest_hex, either, filled, of_profile}
-use Rattle.edr_drawing.specs.declared.events.FoundEvent.{FoundEvent}
-use Rattle.edr_drawing.specs.Events.{NumberedRecord, numbered}
-use Rattle.edr_drawing.specs.Pairs.{place_fact}
-use Rattle.edr_drawing.specs.Reasons.{reasons}
+use Rattle.edr_drawing.specs.declared.cover.FoundEvent.{FoundEvent}
 use Rattle.edr_drawing.specs.Before.{before_chart}
-use Rattle.edr_drawing.specs.ByTime.{by_time}
-use Rattle.edr_drawing.specs.Rows.{after_chart}
-use Rattle.edr_drawing.specs.Tables.{points_table, elements_table}
+use Rattle.edr_drawing.specs.Tables.{by_time, points_table, elements_table}
+use Rattle.edr_drawing.specs.After.{after_chart}
+
+-- ---- the first event of a pair
+
+abbrev pub is_first : Place → Bool
+is_first First = true
+is_first (Second after) = false
+
+-- as far as a report tells, the first time zero is of the same ignition cycle as the second, and so long before it: counts of
+-- cycles are shown up to a bound, and the time between the two in tenths of a second (563.5, multi-event crash)
+abbrev pub is_so_long_before : Key → Key → ℕ → Bool
+is_so_long_before first second after =
+    nat_eq (number_shown first.cycle) (number_shown second.cycle)
+    && nat_lt first.zero second.zero
+    && nat_le (second.zero - first.zero) LONGEST_PAIR
+    && nat_eq (tenths_of (second.zero - first.zero)) (tenths_of after)
+
+-- this may be the first event of the pair whose second one has this key, and began so long after it
+abbrev pub is_first_of : Key → ℕ → PrePart → Bool
+is_first_of key after p = is_first p.place && is_so_long_before p.key key after
+
+-- the numbers of the events that may be it
+abbrev pub firsts : Key → ℕ → List NumberedRecord → List ℕ
+firsts key after events = flat_map (λ e. if is_first_of key after e.1.1.pre then e.0 ∷ [] else []) events
+
+-- ---- what the sheet of an event says of its place
+
+abbrev pub or_event : ℕ → List ℕ
+or_event n = filled OR_EVENT.now (decimal n ∷ [])
+
+-- the events with these numbers, which may be the first one of a pair in this ignition cycle
+abbrev pub firsts_words : ℕ → List ℕ → List ℕ
+firsts_words cycle [] = fixed ELSEWHERE.now
+firsts_words cycle (n ∷ ns) =
+    filled EVENT.now (decimal n ∷ [])
+    ++ flat_map or_event ns
+    ++ (if nat_le LARGEST_SHOWN_COUNT cycle then fixed IF_SAME_CYCLE.now else [])
+
+-- the place of an event with this key in its crash, with those of the events of which it may be the second
+abbrev pub place_told : List NumberedRecord → Key → Place → List ℕ
+place_told events key First = fixed FIRST.now
+place_told events key (Second after) =
+    filled SECOND_AFTER.now (seconds (tenths_of after) ∷ []) ++ firsts_words key.cycle (firsts key after events)
+
+unfoldable pub place_fact : List NumberedRecord → Key → Place → List ℕ
+place_fact events key place = fixed PLACE_START.now ++ place_told events key place ++ fixed PLACE_END.now
+
+-- how many of so many samples are absent, if any is
+unfoldable pub share_reason : List ℕ → ℕ → ℕ → List ℕ
+share_reason template absent count = if nat_eq absent 0 then [] else filled template (decimal absent ∷ decimal count ∷ [])
+
+-- the same of the slots of a list
+abbrev pub slots_reason : {T : Type 0} → List ℕ → List (Option T) → List ℕ
+slots_reason template vs = share_reason template (count_by is_none vs) (length vs)
+
+-- a switch is absent, if it is
+unfoldable pub switch_reason : List ℕ → Option Bool → List ℕ
+switch_reason label (Some v) = []
+switch_reason label None = filled SWITCH_ABSENT.now (label ∷ [])
+
+unfoldable pub pre_reasons : PrePart → List ℕ
+pre_reasons p =
+    slots_reason SPEED_ABSENT.now p.speed
+    ++ slots_reason THROTTLE_ABSENT.now p.throttle
+    ++ slots_reason BRAKE_ABSENT.now p.brake
+    ++ switch_reason BELT.now p.belt
+    ++ switch_reason WARNING_LAMP.now p.lamp
+
+unfoldable pub crash_reasons : Option CrashPart → List ℕ
+crash_reasons None = fixed PART_ABSENT.now
+crash_reasons (Some c) =
+    share_reason ALONG_ABSENT.now c.missing_along (window_from_end c.end)
+    ++ share_reason ACROSS_ABSENT.now c.missing_across (window_from_end c.end)
+
+-- why a record isn't complete, if it isn't
+unfoldable pub reasons : Record → List ℕ
+reasons r =
+    if is_complete r then [] else fixed REASONS_START.now ++ pre_reasons r.pre ++ crash_reasons r.crash ++ fixed LIST_END.now
 
 -- ---- the whole sheet
 

@@ -1,23 +1,49 @@
-//! The first sheet of a page.
+//! The first sheet of a page, and the events that have sheets of their own.
 
-ghost use Rattle.std.specs.Prelude.{◌≡◌, ◌++◌, ◌≤◌, OnOk};
-ghost use Rattle.edr_drawing.specs.Events.{numbered};
+ghost use Rattle.std.specs.Prelude.{◌≡◌, IfOk, ◌++◌, ◌≤◌, OnOk};
+ghost use Rattle.edr_drawing.specs.Cover.{events_of, numbered, cover_end, cover_of, damaged_in, damaged_item, damaged_items, damaged_list, event_rows, events_table, greatest_or_none, row_of_event};
 ghost use Rattle.edr_drawing.specs.Template.{filling_bytes};
-ghost use Rattle.edr_drawing.specs.Cover.{cover_end, cover_of, damaged_in, damaged_item, damaged_items, damaged_list, event_rows, events_table, greatest_or_none, row_of_event};
 
 use crate::axes::{CarAxis, greatest};
-use crate::events::FoundEvent;
 use crate::long::{FORM, NOTES};
-use crate::reasons::LIST_END;
 use crate::shapes::NONE;
-use crate::sheets::YES_NO;
+use crate::sheets::{LIST_END, YES_NO};
 use crate::tables::TABLE_END;
 use crate::template::Filling::{Count, Digest, Number, Place, Text};
 use crate::template::{Drawn, Filling, either, fill, put};
 use crate::{Origin, VERSION};
 use edr_image::{BankView, Found};
-use edr_record::Crash;
+use edr_record::{Crash, Record};
 use edr_report::number_shown;
+use std::alloc::{AllocError as OutOfMemory, Global};
+
+/// An event that was found: its number, that of its bank, and its record.
+#[derive(Clone, Copy)]
+pub struct FoundEvent<'a> {
+    pub number: u64,
+    pub bank: u8,
+    pub event: &'a Record,
+}
+
+/// The events that were found, the first of which has the number 1.
+pub fn events_of<'a>(alloc: Global, found: &'a [Found]) -> Result<Vec<FoundEvent<'a>>, OutOfMemory>
+    ensures { IfOk result (λ events. numbered events.items ≡ events_of found.now) }
+{
+    let mut events = Vec::new(alloc);
+    let mut number = 1;
+    for one in found {
+        if let BankView::Event(event) = &one.view {
+            let bank = one.bank;
+            events.push(FoundEvent {
+                number,
+                bank,
+                event,
+            })?;
+            number += 1;
+        }
+    }
+    Ok(events)
+}
 
 pub const FIRST_SHEET: &[u8] = br#"<section aria-labelledby="r">
 <h1 id="r">Event data recorder: retrieved events</h1>

@@ -5,13 +5,13 @@ ghost use Rattle.edr_record.specs.Parts.{CrashPart, PrePart};
 ghost use Rattle.edr_record.specs.declared.Key.{Key};
 ghost use Rattle.edr_record.specs.declared.Profile.{Profile};
 ghost use Rattle.edr_report.specs.Report.{run_lines};
-ghost use Rattle.edr_drawing.specs.declared.changes.Scale.{Scale};
-ghost use Rattle.edr_drawing.specs.declared.lanes.ChartLane.{ChartLane};
-ghost use Rattle.edr_drawing.specs.Lanes.{lane_y};
+ghost use Rattle.edr_drawing.specs.declared.scales.Scale.{Scale};
+ghost use Rattle.edr_drawing.specs.declared.before.ChartLane.{ChartLane};
+ghost use Rattle.edr_drawing.specs.Before.{lane_y};
 ghost use Rattle.edr_drawing.specs.declared.axes.CarAxis.{CarAxis};
 ghost use Rattle.edr_drawing.specs.Axes.{is_silent};
-ghost use Rattle.edr_drawing.specs.ByTime.{by_time};
-ghost use Rattle.edr_drawing.specs.Changes.{span_of};
+ghost use Rattle.edr_drawing.specs.Tables.{by_time};
+ghost use Rattle.edr_drawing.specs.Scales.{span_of};
 ghost use Rattle.edr_image.specs.declared.Found.{Found};
 ghost use Rattle.edr_drawing.specs.Laws.{AreFirsts, HasAllPlaces, HasAllSlotRows, HasEventRows, HasMarks, HasNoCurve, HasPoints, HasHeight, HasRows, HasSlotRows, IsInPlot, IsNoLower, IsAscii, IsTimeInPlot, OfPages};
 

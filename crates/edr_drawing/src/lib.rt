@@ -4,16 +4,9 @@
 mod after;
 mod axes;
 mod before;
-mod by_time;
-mod changes;
 mod cover;
-mod events;
-mod lanes;
 pub mod laws;
 mod long;
-mod pairs;
-mod reasons;
-mod rows;
 mod scales;
 mod shapes;
 mod sheets;
@@ -24,9 +17,8 @@ ghost use Rattle.std.specs.Prelude.{◌≡◌, IfOk, map};
 ghost use Rattle.edr_image.specs.Reports.{report_of};
 ghost use Rattle.edr_drawing.specs.Page.{page_bytes};
 
-use cover::{put_cover_end, put_cover_start};
+use cover::{events_of, put_cover_end, put_cover_start};
 use edr_image::{CycleReport, Found};
-use events::events_of;
 use long::{BODY, HEAD, ON_EACH_SIDE, PAGE_END, STYLE};
 use sheets::put_sheets;
 use std::alloc::{AllocError as OutOfMemory, Global};

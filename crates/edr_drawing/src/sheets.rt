@@ -1,20 +1,237 @@
-//! The sheet of an event.
+//! The sheet of an event: its place in its crash, why its record isn't complete, its charts and its tables.
 
-ghost use Rattle.std.specs.Prelude.{◌≡◌, ◌++◌, OnOk};
-ghost use Rattle.edr_drawing.specs.Events.{numbered};
-ghost use Rattle.edr_drawing.specs.Sheets.{sheet_of, sheets};
+ghost use Rattle.std.specs.Prelude.{◌≡◌, ◌++◌, IfOk, OnOk, flat_map, ◌≤◌, ◌+◌, length};
+ghost use Rattle.edr_drawing.specs.Cover.{numbered};
+ghost use Rattle.edr_drawing.specs.Sheets.{firsts, firsts_words, is_first, is_first_of, is_so_long_before, or_event, place_fact, place_told, crash_reasons, pre_reasons, reasons, share_reason, slots_reason, switch_reason, sheet_of, sheets};
+ghost use Rattle.edr_record.specs.declared.TheConstants.{LONG_SLOTS};
 
+use crate::after::draw_after;
 use crate::before::draw_before;
-use crate::by_time::put_by_time;
-use crate::events::FoundEvent;
-use crate::pairs::put_place_fact;
-use crate::reasons::put_reasons;
-use crate::rows::draw_after;
-use crate::tables::{put_elements, put_points_table};
-use crate::template::Filling::{Count, Digest, Number, Text};
-use crate::template::{Drawn, either, fill, of_profile};
-use edr_report::number_shown;
-use std::alloc::Global;
+use crate::cover::FoundEvent;
+use crate::tables::{put_by_time, put_elements, put_points_table};
+use crate::template::Filling::{Count, Digest, Number, Seconds, Text};
+use crate::template::{Drawn, FIRST, either, fill, of_profile, put};
+use edr_record::{Crash, Key, LONGEST_PAIR, Place, Pre, Record, window_from_end};
+use edr_report::{LARGEST_SHOWN_COUNT, number_shown, tenths_of};
+use std::alloc::{AllocError as OutOfMemory, Global};
+
+pub const PLACE_START: &[u8] = b"<li>Place in crash: <b>";
+
+pub const PLACE_END: &[u8] = b"</b></li></ul>\n";
+
+/// How long after the first event of its pair a second one began.
+pub const SECOND_AFTER: &[u8] = b"second, {0} s after ";
+
+pub const EVENT: &[u8] = b"event {0}";
+
+pub const OR_EVENT: &[u8] = b" or {0}";
+
+pub const ELSEWHERE: &[u8] = b"an event that isn't in this report";
+
+/// Counts of ignition cycles that stopped at the same number need not be the same.
+pub const IF_SAME_CYCLE: &[u8] =
+    b", if that is of the same ignition cycle: their counts stop at 60000";
+
+fn is_first(place: Place) -> bool
+    ensures { result ≡ is_first place }
+{
+    matches!(place, Place::First)
+}
+
+// As far as a report tells, the first time zero is of the same ignition cycle as the second, and so long before it.
+fn is_so_long_before(first: Key, second: Key, after: u32) -> bool
+    ensures { result ≡ is_so_long_before first second after }
+{
+    number_shown(first.cycle) == number_shown(second.cycle)
+        && first.zero < second.zero
+        && second.zero - first.zero <= LONGEST_PAIR
+        && tenths_of(second.zero - first.zero) == tenths_of(after)
+}
+
+// This may be the first event of the pair whose second one has this key, and began so long after it.
+fn is_first_of(key: Key, after: u32, pre: &Pre) -> bool
+    ensures { result ≡ is_first_of key after pre.now }
+{
+    is_first(pre.place) && is_so_long_before(pre.key, key, after)
+}
+
+// The numbers of the events that may be the first one of the pair.
+fn firsts(
+    alloc: Global,
+    key: Key,
+    after: u32,
+    events: &[FoundEvent<'_>],
+) -> Result<Vec<u64>, OutOfMemory>
+    ensures { IfOk result (λ numbers. numbers.items ≡ firsts key after (numbered events.now)) }
+{
+    let mut numbers = Vec::new(alloc);
+    for one in events {
+        if is_first_of(key, after, &one.event.pre) {
+            numbers.push(one.number)?;
+        }
+    }
+    Ok(numbers)
+}
+
+// Appends the events with these numbers, each after another one.
+fn put_others(out: &mut Vec<u8>, numbers: &[u64]) -> Drawn
+    ensures { OnOk result (out.new.items ≡ out.old.items ++ flat_map or_event numbers.now) }
+{
+    for number in numbers {
+        fill(out, OR_EVENT, &[Count(*number)])?;
+    }
+    Ok(())
+}
+
+// Appends the events that may be the first one of a pair in this ignition cycle.
+fn put_firsts(out: &mut Vec<u8>, cycle: u32, numbers: &[u64]) -> Drawn
+    ensures { OnOk result (out.new.items ≡ out.old.items ++ firsts_words cycle numbers.now) }
+{
+    let [number, others @ ..] = numbers else {
+        return put(out, ELSEWHERE);
+    };
+    fill(out, EVENT, &[Count(*number)])?;
+    put_others(out, others)?;
+    if LARGEST_SHOWN_COUNT <= cycle {
+        put(out, IF_SAME_CYCLE)?;
+    }
+    Ok(())
+}
+
+fn put_place(
+    out: &mut Vec<u8>,
+    alloc: Global,
+    all: &[FoundEvent<'_>],
+    key: Key,
+    place: Place,
+) -> Drawn
+    ensures { OnOk result (out.new.items ≡ out.old.items ++ place_told (numbered all.now) key place) }
+{
+    match place {
+        Place::First => put(out, FIRST),
+        Place::Second { after } => {
+            fill(out, SECOND_AFTER, &[Seconds(tenths_of(after))])?;
+            let numbers = firsts(alloc, key, after, all)?;
+            put_firsts(out, key.cycle, &numbers)
+        }
+    }
+}
+
+/// Appends the place of an event in its crash, with the events of the report of which it may be the second.
+#[tactic(auto, unfolding(crate::specs::Sheets::place_fact))]
+pub fn put_place_fact(
+    out: &mut Vec<u8>,
+    alloc: Global,
+    all: &[FoundEvent<'_>],
+    key: Key,
+    place: Place,
+) -> Drawn
+    ensures { OnOk result (out.new.items ≡ out.old.items ++ place_fact (numbered all.now) key place) }
+{
+    put(out, PLACE_START)?;
+    put_place(out, alloc, all, key, place)?;
+    put(out, PLACE_END)
+}
+
+pub const REASONS_START: &[u8] = br#"<div class="note why"><b>Not complete:</b>
+<ul>
+"#;
+
+pub const LIST_END: &[u8] = b"</ul></div>\n";
+
+/// Some slots are absent: how many of how many.
+pub const SPEED_ABSENT: &[u8] = b"<li>speed: {0} of {1} samples absent</li>\n";
+
+pub const THROTTLE_ABSENT: &[u8] = b"<li>throttle: {0} of {1} samples absent</li>\n";
+
+pub const BRAKE_ABSENT: &[u8] = b"<li>service brake: {0} of {1} samples absent</li>\n";
+
+pub const SWITCH_ABSENT: &[u8] = b"<li>{0}: absent</li>\n";
+
+pub const BELT: &[u8] = b"driver belt";
+
+pub const WARNING_LAMP: &[u8] = b"warning lamp";
+
+/// Some milliseconds of the window have no sample: how many of how many.
+pub const ALONG_ABSENT: &[u8] =
+    b"<li>longitudinal acceleration: no sample in {0} of {1} ms, which count as no change of speed</li>\n";
+
+pub const ACROSS_ABSENT: &[u8] =
+    b"<li>lateral acceleration: no sample in {0} of {1} ms, which count as no change of speed</li>\n";
+
+pub const PART_ABSENT: &[u8] =
+    b"<li>no part after time zero, as where the power goes off before the event is closed</li>\n";
+
+// Tells how many of so many samples are absent, if any is.
+#[tactic(auto, unfolding(crate::specs::Sheets::share_reason))]
+fn put_share(out: &mut Vec<u8>, template: &[u8], absent: u32, count: u32) -> Drawn
+    ensures { OnOk result (out.new.items ≡ out.old.items ++ share_reason template.now absent count) }
+{
+    if absent == 0 {
+        return Ok(());
+    }
+    fill(out, template, &[Number(absent), Number(count)])
+}
+
+// Tells how many slots are absent, if any is.
+fn put_absent<T>(out: &mut Vec<u8>, template: &[u8], slots: &[Option<T>]) -> Drawn
+    requires { length slots.now ≤ LONG_SLOTS }
+    ensures { OnOk result (out.new.items ≡ out.old.items ++ slots_reason template.now slots.now) }
+{
+    let absent = slots.iter().filter(|slot| slot.is_none()).count();
+    put_share(out, template, absent as u32, slots.len() as u32)
+}
+
+// Tells that a switch is absent, if it is.
+#[tactic(auto, unfolding(crate::specs::Sheets::switch_reason))]
+fn put_switch(out: &mut Vec<u8>, label: &'static [u8], switch: Option<bool>) -> Drawn
+    ensures { OnOk result (out.new.items ≡ out.old.items ++ switch_reason label.now switch) }
+{
+    match switch {
+        Some(_) => Ok(()),
+        None => fill(out, SWITCH_ABSENT, &[Text(label)]),
+    }
+}
+
+#[tactic(auto, unfolding(crate::specs::Sheets::pre_reasons))]
+fn put_pre_reasons(out: &mut Vec<u8>, pre: &Pre) -> Drawn
+    ensures { OnOk result (out.new.items ≡ out.old.items ++ pre_reasons pre.now) }
+{
+    let (belt, lamp) = (pre.belt, pre.lamp);
+    put_absent(out, SPEED_ABSENT, pre.speed())?;
+    put_absent(out, THROTTLE_ABSENT, pre.throttle())?;
+    put_absent(out, BRAKE_ABSENT, pre.brake())?;
+    put_switch(out, BELT, belt)?;
+    put_switch(out, WARNING_LAMP, lamp)
+}
+
+#[tactic(auto, unfolding(crate::specs::Sheets::crash_reasons))]
+fn put_crash_reasons(out: &mut Vec<u8>, crash: &Option<Crash>) -> Drawn
+    ensures { OnOk result (out.new.items ≡ out.old.items ++ crash_reasons crash.now) }
+{
+    match crash {
+        Some(crash) => {
+            let window = u32::from(window_from_end(crash.end));
+            put_share(out, ALONG_ABSENT, u32::from(crash.missing_along), window)?;
+            put_share(out, ACROSS_ABSENT, u32::from(crash.missing_across), window)
+        }
+        None => put(out, PART_ABSENT),
+    }
+}
+
+/// Tells why a record isn't complete, if it isn't.
+#[tactic(auto, unfolding(crate::specs::Sheets::reasons))]
+pub fn put_reasons(out: &mut Vec<u8>, event: &Record) -> Drawn
+    ensures { OnOk result (out.new.items ≡ out.old.items ++ reasons event.now) }
+{
+    if event.complete() {
+        return Ok(());
+    }
+    put(out, REASONS_START)?;
+    put_pre_reasons(out, &event.pre)?;
+    put_crash_reasons(out, &event.crash)?;
+    put(out, LIST_END)
+}
 
 pub const SHEET_HEAD: &[u8] = br#"<section id="e{0}" style="page:e{0}" aria-labelledby="e{0}h">
 <div class="head"><h2 id="e{0}h">Event {0}</h2><p>Complete file recorded: <b>{1}</b></p></div>

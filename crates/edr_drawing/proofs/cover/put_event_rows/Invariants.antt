@@ -1,6 +1,5 @@
 use Rattle.std.proofs.Common.{◌≡◌, ◌++◌, drop}
-use Rattle.edr_drawing.specs.Events.{numbered}
-use Rattle.edr_drawing.specs.Cover.{event_rows}
+use Rattle.edr_drawing.specs.Cover.{numbered, event_rows}
 use Rattle.edr_drawing.proofs.cover.put_event_rows.Given as goal
 
 -- what is left gives the rest

@@ -1,0 +1,10 @@
+use Rattle.std.proofs.Common.{◌≡◌, ◌++◌, ◌+◌, ◌≤◌, drop}
+use Rattle.edr_drawing.specs.Cover.{events_of, numbered}
+use Rattle.edr_drawing.proofs.EventLemmas.{events_from}
+use Rattle.edr_drawing.proofs.cover.events_of.Given as goal
+
+-- what is left gives the rest
+abbrev pub invariant-loop-one : goal.invariant-loop-one
+invariant-loop-one l =
+    (numbered l.events.items ++ events_from l.number (drop l.one-index l.found) ≡ events_of l.found)
+    × (l.number ≤ l.one-index + 1)
