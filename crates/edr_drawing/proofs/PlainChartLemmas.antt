@@ -15,7 +15,7 @@ use Rattle.edr_drawing.specs.Shapes.{path_point, shape_bytes, shapes_bytes}
 use Rattle.edr_record.specs.declared.TheConstants.{POINT_STEP}
 use Rattle.edr_drawing.specs.Scales.{slot_x, change_y, time_x}
 use Rattle.edr_drawing.specs.Before.{cells, cells_of, drawn_lane, field_shapes, lane_y, long_cells, points, run_shapes, are_same, before_chart, brake_slots, switch_runs, switches, time_lines}
-use Rattle.edr_drawing.specs.After.{axis_marks, axis_points, changes_chart, curve, drawn_curve, end_line, legend_gaps, level, levels, mark_at, maximum, maximum_number, past_window, time_lines as later_lines, after_chart, extreme_row, restraint_row, restraint_rows, resultant_row, rows_chart}
+use Rattle.edr_drawing.specs.After.{axis_marks, axis_points, changes_chart, curve, drawn_curve, end_line, level, levels, mark_at, maximum, maximum_number, time_lines as later_lines, after_chart, extreme_row, restraint_row, restraint_rows, resultant_row, rows_chart}
 use Rattle.edr_drawing.proofs.PlainLemmas.{Plain, all_low, plain_nil, plain_append, plain_if, plain_fixed, plain_flat_map, plains}
 
 plain_shape : (s : Shape) → Plain (shape_bytes s)
@@ -88,6 +88,6 @@ plain_restraints name s row (l ∷ ls) fired e =
     plain_append _ _ (plain_restraint s row (name l) (get_or fired row None) (plain_fixed (name l) (and_parts _ _ e).0)) (plain_restraints name s (row + 1) ls fired (and_parts _ _ e).1)
 
 pub plain_after_chart : (n : ℕ) (crash : Option CrashPart) → Plain (after_chart n crash)
-unfolding after_chart changes_chart past_window later_lines level levels end_line drawn_curve curve legend_gaps maximum_number maximum rows_chart extreme_row resultant_row
+unfolding after_chart changes_chart end_line later_lines level levels drawn_curve curve maximum_number maximum rows_chart extreme_row resultant_row
 plain_after_chart n None = search plains depth 60
 plain_after_chart n (Some c) = search (plain_axis_points, plain_axis_marks, plain_restraints, plains) depth 60 fits 8000

@@ -1,5 +1,5 @@
 -- The sheets of a page have plain texts.
-use Rattle.std.proofs.Common.{◌≡◌, refl, ℕ, ◌<◌, Bool, true, Option, Some, None, List, [], ◌∷◌, All}
+use Rattle.std.proofs.Common.{◌≡◌, refl, ℕ, ◌<◌, Option, Some, None, List, [], ◌∷◌, All}
 use Rattle.edr_record.specs.declared.Key.{Key}
 use Rattle.edr_record.specs.declared.Place.{Place}
 use Rattle.edr_record.specs.declared.Place.TheVariants.{First, Second}
@@ -14,20 +14,14 @@ use Rattle.edr_drawing.specs.declared.axes.CarAxis.TheVariants.{Along, Across}
 use Rattle.edr_drawing.specs.declared.shapes.TheConstants.{NONE}
 use Rattle.edr_drawing.specs.declared.Origin.{Origin}
 use Rattle.edr_drawing.specs.Cover.{NumberedRecord, cover_end, cover_start, damaged_item, damaged_list, event_row, events_table, greatest_or_none}
-use Rattle.edr_drawing.specs.Sheets.{share_reason, switch_reason, pre_reasons, crash_reasons, reasons, firsts_words, place_fact, place_told, sheet}
+use Rattle.edr_drawing.specs.Sheets.{pre_reasons, crash_reasons, reasons, firsts_words, place_fact, place_told, sheet}
 use Rattle.edr_drawing.specs.Tables.{points_table, elements_table, run_table, block, by_time, mph, mph_word, number_word, slot_row}
 use Rattle.edr_drawing.specs.Page.{page_bytes}
-use Rattle.edr_drawing.proofs.PlainLemmas.{Plain, all_low, plain_nil, plain_fixed, plain_beginning, plain_decimal, plain_digest, plains}
+use Rattle.edr_drawing.proofs.PlainLemmas.{Plain, plain_nil, plain_fixed, plain_beginning, plain_decimal, plain_digest, plains}
 use Rattle.edr_drawing.proofs.PlainChartLemmas.{plain_before_chart, plain_after_chart}
 use Rattle.edr_drawing.proofs.PlainLineLemmas.{plain_event_lines, plain_run_lines}
 
-plain_switch_reason : (label : List ℕ) (v : Option Bool) → all_low label ≡ true → Plain (switch_reason label v)
-unfolding switch_reason
-plain_switch_reason label (Some v) low = plain_nil
-plain_switch_reason label None low = search plains depth 20
-
 plain_crash_reasons : (crash : Option CrashPart) → Plain (crash_reasons crash)
-unfolding crash_reasons share_reason
 plain_crash_reasons None = search plains depth 20
 plain_crash_reasons (Some c) = search plains depth 20
 
@@ -64,9 +58,9 @@ plain_place_told events key First = search plains depth 20
 plain_place_told events key (Second after) = search (plain_firsts, plains) depth 60
 
 plain_sheet : (events : List NumberedRecord) (n bank : ℕ) (r : Record) (digest : List ℕ) → All (λ b. b < 256) digest → Plain (sheet events n bank r digest)
-unfolding sheet place_fact reasons pre_reasons share_reason elements_table
+unfolding sheet place_fact reasons pre_reasons elements_table
 plain_sheet events n bank r digest small =
-    search (plain_place_told, plain_switch_reason, plain_crash_reasons, plain_event_lines, plain_points_table, plain_before_chart, plain_after_chart, plain_by_time, plain_digest, plains) depth 60 fits 8000
+    search (plain_place_told, plain_crash_reasons, plain_event_lines, plain_points_table, plain_before_chart, plain_after_chart, plain_by_time, plain_digest, plains) depth 60 fits 8000
 
 -- the first sheet
 plain_greatest : (crash : Option CrashPart) (a : CarAxis) → Plain (greatest_or_none crash a)

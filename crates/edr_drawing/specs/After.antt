@@ -15,18 +15,13 @@ use Rattle.edr_drawing.specs.declared.scales.TheConstants.{BELOW_TOP, HEIGHT, RI
 use Rattle.edr_drawing.specs.declared.shapes.Shape.{Shape}
 use Rattle.edr_drawing.specs.declared.shapes.Shape.TheVariants as shape
 use Rattle.edr_drawing.specs.declared.shapes.TheConstants.{PATH, PATH_END, PATHS, NONE}
-use Rattle.edr_drawing.specs.Template.{either, filled, fixed}
+use Rattle.edr_drawing.specs.Template.{either, filled, filled_if, fixed}
 use Rattle.edr_drawing.specs.Shapes.{path_point, shapes_bytes}
 use Rattle.edr_drawing.specs.Scales.{flat_map_below, change_y, time_x, scale_of}
 use Rattle.edr_drawing.specs.Axes.{extreme_of, is_silent, missing_of, of_axis, points_of, greatest_words}
 use Rattle.edr_report.specs.Words.{extreme_words, milliseconds}
 
 -- ---- the frame
-
--- the field past the window, where the chart reaches there
-unfoldable pub past_window : Scale → ℕ → List ℕ
-past_window s w =
-    if nat_le s.span w then [] else filled PAST_WINDOW.now (decimal (time_x s w) ∷ decimal (RIGHT - time_x s w) ∷ [])
 
 -- the line of a time in both parts of the chart, with its number
 abbrev pub time_line : Scale → ℕ → List ℕ
@@ -54,15 +49,11 @@ level s above =
 unfoldable pub levels : Scale → List ℕ
 levels s = flat_map_below (λ i. level s (s.step * i)) ((s.top + s.bottom) / s.step + 1)
 
--- ---- the end of the event
-
--- the line at the end of the event, and the words where nothing is recorded, if there is room for them
-unfoldable pub end_line : Scale → ℕ → ℕ → List ℕ
-end_line s end w =
-    filled END_LINE.now (decimal (time_x s end) ∷ either (nat_lt (time_x s end) FAR_RIGHT) CENTRED_OR_ENDING.0.now CENTRED_OR_ENDING.1.now ∷ [])
-    ++ (if nat_le (time_x s w + ROOM_NOT_RECORDED) RIGHT
-    then filled NOT_RECORDED.now (decimal ((time_x s w + RIGHT) / 2) ∷ [])
-    else [])
+-- the line at the end of the event, and the words past the window, if there is room for them
+unfoldable pub end_line : ℕ → ℕ → List ℕ
+end_line end past =
+    filled END_LINE.now (decimal end ∷ either (nat_lt end FAR_RIGHT) CENTRED_OR_ENDING.0.now CENTRED_OR_ENDING.1.now ∷ [])
+    ++ filled_if (nat_le (past + ROOM_NOT_RECORDED) RIGHT) NOT_RECORDED.now (decimal ((past + RIGHT) / 2) ∷ [])
 
 -- ---- the curves
 
@@ -80,19 +71,15 @@ abbrev pub axis_marks : Scale → CarAxis → ℕ → List ℤ → List ℕ
 axis_marks s a i [] = []
 axis_marks s a i (v ∷ vs) = shapes_bytes (mark_at a (time_x s (POINT_STEP * i)) (change_y s v) ∷ []) ++ axis_marks s a (i + 1) vs
 
--- a text around the curve of an axis, if it lacks samples
-abbrev pub gapped : CrashPart → CarAxis → List ℕ → List ℕ
-gapped c a text = if nat_eq (missing_of c a) 0 then [] else fixed text
-
 -- the curve of an axis that has samples
 unfoldable pub drawn_curve : Scale → CrashPart → CarAxis → List ℕ
 drawn_curve s c a =
-    gapped c a GAPPED_START.now
+    filled_if (nat_lt 0 (missing_of c a)) GAPPED_START.now []
     ++ filled PATH.now (of_axis a PATHS.0.now PATHS.1.now ∷ [])
     ++ axis_points s 0 (points_of c a)
     ++ fixed PATH_END.now
     ++ axis_marks s a 0 (points_of c a)
-    ++ gapped c a GAPPED_END.now
+    ++ filled_if (nat_lt 0 (missing_of c a)) GAPPED_END.now []
 
 -- what stands in its place where the axis has none
 abbrev pub silent_curve : Scale → CarAxis → List ℕ
@@ -111,11 +98,9 @@ curve s c a = if is_silent c a then silent_curve s a else drawn_curve s c a
 abbrev pub gaps_y : CarAxis → ℕ
 gaps_y a = of_axis a GAPS_Y.0 GAPS_Y.1
 
-unfoldable pub legend_gaps : CrashPart → CarAxis → List ℕ
+abbrev pub legend_gaps : CrashPart → CarAxis → List ℕ
 legend_gaps c a =
-    if nat_eq (missing_of c a) 0
-    then []
-    else filled LEGEND_GAPS.now
+    filled_if (nat_lt 0 (missing_of c a)) LEGEND_GAPS.now
     (decimal (gaps_y a) ∷ decimal (missing_of c a) ∷ decimal (window_from_end c.end) ∷ decimal (gaps_y a + NEXT_LINE) ∷ [])
 
 -- ---- the greatest changes
@@ -142,15 +127,19 @@ maximum s c a = if is_silent c a then [] else diamond s a (extreme_of c a) ++ ma
 
 -- ---- the whole chart
 
+-- across: the end of the window
+abbrev pub past : Scale → CrashPart → ℕ
+past s c = time_x s (window_from_end c.end)
+
 unfoldable pub changes_chart : Scale → CrashPart → List ℕ
 changes_chart s c =
-    past_window s (window_from_end c.end)
+    filled_if (nat_lt (window_from_end c.end) s.span) PAST_WINDOW.now (decimal (past s c) ∷ decimal (RIGHT - past s c) ∷ [])
     ++ time_lines s
     ++ fixed LEGEND.now
     ++ legend_gaps c Along
     ++ legend_gaps c Across
     ++ levels s
-    ++ end_line s c.end (window_from_end c.end)
+    ++ end_line (time_x s c.end) (past s c)
     ++ curve s c Across
     ++ curve s c Along
     ++ maximum s c Across

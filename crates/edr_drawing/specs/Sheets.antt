@@ -7,9 +7,9 @@ use Rattle.edr_record.specs.declared.TheConstants.{LONGEST_PAIR}
 use Rattle.edr_record.specs.Parts.{PrePart, CrashPart}
 use Rattle.edr_report.specs.declared.TheConstants.{LARGEST_SHOWN_COUNT}
 use Rattle.edr_report.specs.Words.{number_shown, tenths_of}
-use Rattle.edr_drawing.specs.declared.sheets.TheConstants.{ELSEWHERE, EVENT, IF_SAME_CYCLE, OR_EVENT, PLACE_END, PLACE_START, SECOND_AFTER, ACROSS_ABSENT, ALONG_ABSENT, BELT, BRAKE_ABSENT, LIST_END, PART_ABSENT, REASONS_START, SPEED_ABSENT, SWITCH_ABSENT, THROTTLE_ABSENT, WARNING_LAMP, FACTS, PROFILES, SHEET_FOOT, SHEET_HEAD, YES_NO}
+use Rattle.edr_drawing.specs.declared.sheets.TheConstants.{ELSEWHERE, EVENT, IF_SAME_CYCLE, OR_EVENT, PLACE_END, PLACE_START, SECOND_AFTER, ACROSS_ABSENT, ALONG_ABSENT, BELT, BRAKE_ABSENT, LIST_END, PART_ABSENT, REASONS_START, SPEED_ABSENT, SWITCH_ABSENT, THROTTLE_ABSENT, LAMP, PROFILES, SHEET_FOOT, SHEET_HEAD, YES_NO}
 use Rattle.edr_drawing.specs.declared.template.TheConstants.{FIRST}
-use Rattle.edr_drawing.specs.Template.{filled, fixed, seconds, digest_hex, either, of_profile}
+use Rattle.edr_drawing.specs.Template.{filled, filled_if, fixed, seconds, digest_hex, either, of_profile}
 use Rattle.edr_drawing.specs.Cover.{NumberedRecord, numbered}
 use Rattle.edr_record.specs.declared.Record.{Record}
 use Rattle.edr_record.specs.Bounds.{window_from_end}
@@ -53,7 +53,7 @@ firsts_words cycle [] = fixed ELSEWHERE.now
 firsts_words cycle (n ∷ ns) =
     filled EVENT.now (decimal n ∷ [])
     ++ flat_map or_event ns
-    ++ (if nat_le LARGEST_SHOWN_COUNT cycle then fixed IF_SAME_CYCLE.now else [])
+    ++ filled_if (nat_le LARGEST_SHOWN_COUNT cycle) IF_SAME_CYCLE.now []
 
 -- the place of an event with this key in its crash, with those of the events of which it may be the second
 abbrev pub place_told : List NumberedRecord → Key → Place → List ℕ
@@ -65,27 +65,23 @@ unfoldable pub place_fact : List NumberedRecord → Key → Place → List ℕ
 place_fact events key place = fixed PLACE_START.now ++ place_told events key place ++ fixed PLACE_END.now
 
 -- how many of so many samples are absent, if any is
-unfoldable pub share_reason : List ℕ → ℕ → ℕ → List ℕ
-share_reason template absent count = if nat_eq absent 0 then [] else filled template (decimal absent ∷ decimal count ∷ [])
+abbrev pub share_reason : List ℕ → ℕ → ℕ → List ℕ
+share_reason template absent count = filled_if (nat_lt 0 absent) template (decimal absent ∷ decimal count ∷ [])
 
 -- the same of the slots of a list
 abbrev pub slots_reason : {T : Type 0} → List ℕ → List (Option T) → List ℕ
 slots_reason template vs = share_reason template (count_by is_none vs) (length vs)
 
--- a switch is absent, if it is
-unfoldable pub switch_reason : List ℕ → Option Bool → List ℕ
-switch_reason label (Some v) = []
-switch_reason label None = filled SWITCH_ABSENT.now (label ∷ [])
-
+-- what is absent of the time before time zero, and after it
 unfoldable pub pre_reasons : PrePart → List ℕ
 pre_reasons p =
     slots_reason SPEED_ABSENT.now p.speed
     ++ slots_reason THROTTLE_ABSENT.now p.throttle
     ++ slots_reason BRAKE_ABSENT.now p.brake
-    ++ switch_reason BELT.now p.belt
-    ++ switch_reason WARNING_LAMP.now p.lamp
+    ++ filled_if (is_none p.belt) SWITCH_ABSENT.now (BELT.now ∷ [])
+    ++ filled_if (is_none p.lamp) SWITCH_ABSENT.now (LAMP.now ∷ [])
 
-unfoldable pub crash_reasons : Option CrashPart → List ℕ
+abbrev pub crash_reasons : Option CrashPart → List ℕ
 crash_reasons None = fixed PART_ABSENT.now
 crash_reasons (Some c) =
     share_reason ALONG_ABSENT.now c.missing_along (window_from_end c.end)
@@ -101,9 +97,10 @@ reasons r =
 -- the sheet of event n, which this bank holds, among all events
 unfoldable pub sheet : List NumberedRecord → ℕ → ℕ → Record → List ℕ → List ℕ
 sheet events n bank r digest =
-    filled SHEET_HEAD.now (decimal n ∷ either (is_complete r) YES_NO.0.now YES_NO.1.now ∷ [])
-    ++ filled FACTS.now
-    (decimal (number_shown r.pre.key.cycle)
+    filled SHEET_HEAD.now
+    (decimal n
+    ∷ either (is_complete r) YES_NO.0.now YES_NO.1.now
+    ∷ decimal (number_shown r.pre.key.cycle)
     ∷ decimal r.pre.key.zero
     ∷ decimal bank
     ∷ either r.locked YES_NO.0.now YES_NO.1.now

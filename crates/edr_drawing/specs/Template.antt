@@ -84,6 +84,10 @@ filled_from values hole (b ∷ bs) =
 unfoldable pub filled : List ℕ → List (List ℕ) → List ℕ
 filled template values = filled_from values false template
 
+-- the same, if this is so
+abbrev pub filled_if : Bool → List ℕ → List (List ℕ) → List ℕ
+filled_if is_so template values = if is_so then filled template values else []
+
 -- a text with no holes
 unfoldable pub fixed : List ℕ → List ℕ
 fixed text = text

@@ -3,7 +3,7 @@
 ghost use Rattle.std.specs.Prelude.{◌≡◌, ◌++◌, ◌≤◌, ◌<◌, ◌+◌, ◌-◌, ◌*◌, ◌/◌, OnOk, length};
 ghost use Rattle.edr_record.specs.declared.TheConstants.{POINTS};
 ghost use Rattle.edr_drawing.specs.Scales.{IsScale};
-ghost use Rattle.edr_drawing.specs.After.{axis_marks, axis_points, changes_chart, curve, end_line, gapped, legend_gaps, level, levels, mark_at, maximum, past_window, silent_curve, time_lines, after_chart, beside, empty_row, extreme_row, restraint_row, restraint_rows, resultant_row, rows_chart, timed_row};
+ghost use Rattle.edr_drawing.specs.After.{axis_marks, axis_points, changes_chart, curve, end_line, legend_gaps, level, levels, mark_at, maximum, silent_curve, time_lines, after_chart, beside, empty_row, extreme_row, restraint_row, restraint_rows, resultant_row, rows_chart, timed_row};
 ghost use Rattle.edr_drawing.specs.Template.{filling_bytes};
 
 use crate::axes::{
@@ -15,7 +15,7 @@ use crate::shapes::{NONE, PATH, PATH_END, PATHS, Shape, draw, put_point};
 use crate::template::Filling::{
     Below, Change, Count, Extreme as Greatest, Milliseconds, Number, Text,
 };
-use crate::template::{Drawn, Filling, either, fill, put};
+use crate::template::{Drawn, Filling, either, fill, fill_if, put};
 use edr_record::{Crash, Extreme, POINT_STEP, window_from_end};
 
 /// The field past the window.
@@ -124,24 +124,6 @@ pub const NUMBER_UP: u32 = 22;
 
 pub const NUMBER_DOWN: u32 = 42;
 
-// Draws the field past the window, if the chart reaches there.
-#[tactic(auto, unfolding(crate::specs::After::past_window))]
-fn draw_past_window(out: &mut Vec<u8>, scale: &Scale, window: u16) -> Drawn
-    requires span { (300 ≤ scale.now.span) × (scale.now.span ≤ 500) }
-    requires window { window ≤ 300 }
-    ensures { OnOk result (out.new.items ≡ out.old.items ++ past_window scale.now window) }
-{
-    if u32::from(window) >= scale.span {
-        return Ok(());
-    }
-    let x = scale.x(window);
-    fill(
-        out,
-        PAST_WINDOW,
-        &[Number(x), Number(RIGHT.saturating_sub(x))],
-    )
-}
-
 // Draws the line of each time.
 #[tactic(auto, unfolding(crate::specs::After::time_lines))]
 fn draw_times(out: &mut Vec<u8>, scale: &Scale) -> Drawn
@@ -189,40 +171,31 @@ fn draw_levels(out: &mut Vec<u8>, scale: &Scale) -> Drawn
     Ok(())
 }
 
-// Draws the line at the end of the event, and says where nothing is recorded.
+// Draws the line at the end of the event, and says where nothing is recorded past the window.
 #[tactic(auto, unfolding(crate::specs::After::end_line))]
-fn draw_end(out: &mut Vec<u8>, scale: &Scale, end: u16, window: u16) -> Drawn
-    requires { 300 ≤ scale.now.span }
-    ensures { OnOk result (out.new.items ≡ out.old.items ++ end_line scale.now end window) }
+fn draw_end(out: &mut Vec<u8>, end: u32, past: u32) -> Drawn
+    requires { past ≤ 1_000_000 }
+    ensures { OnOk result (out.new.items ≡ out.old.items ++ end_line end past) }
 {
-    let x = scale.x(end);
-    let past = scale.x(window);
-    let class = Text(either(x < FAR_RIGHT, CENTRED_OR_ENDING));
-    fill(out, END_LINE, &[Number(x), class])?;
-    if past + ROOM_NOT_RECORDED <= RIGHT {
-        fill(out, NOT_RECORDED, &[Number((past + RIGHT) / 2)])
-    } else {
-        Ok(())
-    }
+    let class = Text(either(end < FAR_RIGHT, CENTRED_OR_ENDING));
+    let has_room = past + ROOM_NOT_RECORDED <= RIGHT;
+    fill(out, END_LINE, &[Number(end), class])?;
+    fill_if(out, has_room, NOT_RECORDED, &[Number((past + RIGHT) / 2)])
 }
 
 // Says in the legend how many samples of an axis are lacking, if any is.
-#[tactic(auto, unfolding(crate::specs::After::legend_gaps))]
 fn draw_legend_gaps(out: &mut Vec<u8>, crash: &Crash, axis: CarAxis) -> Drawn
     ensures { OnOk result (out.new.items ≡ out.old.items ++ legend_gaps crash.now axis) }
 {
-    let missing = missing_of(crash, axis);
-    if missing == 0 {
-        return Ok(());
-    }
+    let missing = u32::from(missing_of(crash, axis));
     let y = of_axis(axis, GAPS_Y);
-    let window = Number(u32::from(window_from_end(crash.end)));
-    let missing = Number(u32::from(missing));
-    fill(
-        out,
-        LEGEND_GAPS,
-        &[Number(y), missing, window, Number(y + NEXT_LINE)],
-    )
+    let parts = [
+        Number(y),
+        Number(missing),
+        Number(u32::from(window_from_end(crash.end))),
+        Number(y + NEXT_LINE),
+    ];
+    fill_if(out, 0 < missing, LEGEND_GAPS, &parts)
 }
 
 // Appends the points of an axis, one at each 10 ms.
@@ -260,16 +233,6 @@ fn draw_marks(out: &mut Vec<u8>, scale: &Scale, axis: CarAxis, points: &[i16]) -
     Ok(())
 }
 
-// Appends a text around the curve of an axis, if it lacks samples.
-fn put_gapped(out: &mut Vec<u8>, crash: &Crash, axis: CarAxis, text: &[u8]) -> Drawn
-    ensures { OnOk result (out.new.items ≡ out.old.items ++ gapped crash.now axis text.now) }
-{
-    if missing_of(crash, axis) == 0 {
-        return Ok(());
-    }
-    put(out, text)
-}
-
 // Says that an axis has no sample.
 fn draw_silent(out: &mut Vec<u8>, scale: &Scale, axis: CarAxis) -> Drawn
     requires { IsScale scale.now }
@@ -292,12 +255,13 @@ fn draw_curve(out: &mut Vec<u8>, scale: &Scale, crash: &Crash, axis: CarAxis) ->
         return draw_silent(out, scale, axis);
     }
     let points = points_of(crash, axis);
-    put_gapped(out, crash, axis, GAPPED_START)?;
+    let is_gapped = 0 < missing_of(crash, axis);
+    fill_if(out, is_gapped, GAPPED_START, &[])?;
     fill(out, PATH, &[Text(text_of_axis(axis, PATHS))])?;
     put_points(out, scale, points)?;
     put(out, PATH_END)?;
     draw_marks(out, scale, axis, points)?;
-    put_gapped(out, crash, axis, GAPPED_END)
+    fill_if(out, is_gapped, GAPPED_END, &[])
 }
 
 // Draws a diamond at the greatest change of an axis, unless it has no sample, with its number, unless that is 0.
@@ -328,13 +292,15 @@ pub fn draw_changes(out: &mut Vec<u8>, scale: &Scale, crash: &Crash) -> Drawn
     ensures { OnOk result (out.new.items ≡ out.old.items ++ changes_chart scale.now crash.now) }
 {
     let window = window_from_end(crash.end);
-    draw_past_window(out, scale, window)?;
+    let past = scale.x(window);
+    let gap = [Number(past), Number(RIGHT.saturating_sub(past))];
+    fill_if(out, u32::from(window) < scale.span, PAST_WINDOW, &gap)?;
     draw_times(out, scale)?;
     put(out, LEGEND)?;
     draw_legend_gaps(out, crash, CarAxis::Along)?;
     draw_legend_gaps(out, crash, CarAxis::Across)?;
     draw_levels(out, scale)?;
-    draw_end(out, scale, crash.end, window)?;
+    draw_end(out, scale.x(crash.end), past)?;
     draw_curve(out, scale, crash, CarAxis::Across)?;
     draw_curve(out, scale, crash, CarAxis::Along)?;
     draw_maximum(out, scale, crash, CarAxis::Across)?;

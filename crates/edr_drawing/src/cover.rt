@@ -1,7 +1,7 @@
 //! The first sheet of a page, and the events that have sheets of their own.
 
 ghost use Rattle.std.specs.Prelude.{◌≡◌, IfOk, ◌++◌, ◌≤◌, OnOk};
-ghost use Rattle.edr_drawing.specs.Cover.{events_of, numbered, cover_end, cover_of, damaged_in, damaged_item, damaged_items, damaged_list, event_rows, events_table, greatest_or_none, row_of_event};
+ghost use Rattle.edr_drawing.specs.Cover.{events_of, numbered, cover_end, cover_of, damaged_in, damaged_item, damaged_list, events_table, greatest_or_none, row_of_event};
 ghost use Rattle.edr_drawing.specs.Template.{filling_bytes};
 
 use crate::axes::{CarAxis, greatest};
@@ -114,15 +114,6 @@ fn put_event_row(out: &mut Vec<u8>, one: &FoundEvent<'_>) -> Drawn
     fill(out, EVENT_ROW, &cells)
 }
 
-fn put_event_rows(out: &mut Vec<u8>, events: &[FoundEvent<'_>]) -> Drawn
-    ensures { OnOk result (out.new.items ≡ out.old.items ++ event_rows (numbered events.now)) }
-{
-    for event in events {
-        put_event_row(out, event)?;
-    }
-    Ok(())
-}
-
 // Appends the table of events, if there are any.
 #[tactic(auto, unfolding(crate::specs::Cover::events_table))]
 fn put_events(out: &mut Vec<u8>, events: &[FoundEvent<'_>]) -> Drawn
@@ -132,7 +123,9 @@ fn put_events(out: &mut Vec<u8>, events: &[FoundEvent<'_>]) -> Drawn
         return Ok(());
     }
     put(out, EVENTS_START)?;
-    put_event_rows(out, events)?;
+    for event in events {
+        put_event_row(out, event)?;
+    }
     put(out, TABLE_END)
 }
 
@@ -155,15 +148,6 @@ fn put_damaged_item(out: &mut Vec<u8>, bank: &Found) -> Drawn
     }
 }
 
-fn put_damaged_items(out: &mut Vec<u8>, found: &[Found]) -> Drawn
-    ensures { OnOk result (out.new.items ≡ out.old.items ++ damaged_items found.now) }
-{
-    for bank in found {
-        put_damaged_item(out, bank)?;
-    }
-    Ok(())
-}
-
 // Appends the list of damaged banks, if there are any.
 #[tactic(auto, unfolding(crate::specs::Cover::damaged_list))]
 fn put_damaged(out: &mut Vec<u8>, found: &[Found]) -> Drawn
@@ -173,7 +157,9 @@ fn put_damaged(out: &mut Vec<u8>, found: &[Found]) -> Drawn
         return Ok(());
     }
     put(out, DAMAGED_START)?;
-    put_damaged_items(out, found)?;
+    for bank in found {
+        put_damaged_item(out, bank)?;
+    }
     put(out, LIST_END)
 }
 

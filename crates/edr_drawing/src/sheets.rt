@@ -1,16 +1,15 @@
 //! The sheet of an event: its place in its crash, why its record isn't complete, its charts and its tables.
 
-ghost use Rattle.std.specs.Prelude.{◌≡◌, ◌++◌, IfOk, OnOk, flat_map, ◌≤◌, ◌+◌, length};
+ghost use Rattle.std.specs.Prelude.{◌≡◌, ◌++◌, IfOk, OnOk};
 ghost use Rattle.edr_drawing.specs.Cover.{numbered};
-ghost use Rattle.edr_drawing.specs.Sheets.{firsts, firsts_words, is_first, is_first_of, is_so_long_before, or_event, place_fact, place_told, crash_reasons, pre_reasons, reasons, share_reason, slots_reason, switch_reason, sheet_of, sheets};
-ghost use Rattle.edr_record.specs.declared.TheConstants.{LONG_SLOTS};
+ghost use Rattle.edr_drawing.specs.Sheets.{firsts, firsts_words, is_first_of, place_fact, crash_reasons, pre_reasons, reasons, share_reason, slots_reason, sheet_of, sheets};
 
 use crate::after::draw_after;
 use crate::before::draw_before;
 use crate::cover::FoundEvent;
 use crate::tables::{put_by_time, put_elements, put_points_table};
 use crate::template::Filling::{Count, Digest, Number, Seconds, Text};
-use crate::template::{Drawn, FIRST, either, fill, of_profile, put};
+use crate::template::{Drawn, FIRST, either, fill, fill_if, of_profile, put};
 use edr_record::{Crash, Key, LONGEST_PAIR, Place, Pre, Record, window_from_end};
 use edr_report::{LARGEST_SHOWN_COUNT, number_shown, tenths_of};
 use std::alloc::{AllocError as OutOfMemory, Global};
@@ -32,27 +31,16 @@ pub const ELSEWHERE: &[u8] = b"an event that isn't in this report";
 pub const IF_SAME_CYCLE: &[u8] =
     b", if that is of the same ignition cycle: their counts stop at 60000";
 
-fn is_first(place: Place) -> bool
-    ensures { result ≡ is_first place }
+// As far as a report tells, this is the first event of the pair whose second one has this key, and began so long after it.
+fn is_first_of(second: Key, after: u32, pre: &Pre) -> bool
+    ensures { result ≡ is_first_of second after pre.now }
 {
-    matches!(place, Place::First)
-}
-
-// As far as a report tells, the first time zero is of the same ignition cycle as the second, and so long before it.
-fn is_so_long_before(first: Key, second: Key, after: u32) -> bool
-    ensures { result ≡ is_so_long_before first second after }
-{
-    number_shown(first.cycle) == number_shown(second.cycle)
+    let first = pre.key;
+    matches!(pre.place, Place::First)
+        && number_shown(first.cycle) == number_shown(second.cycle)
         && first.zero < second.zero
         && second.zero - first.zero <= LONGEST_PAIR
         && tenths_of(second.zero - first.zero) == tenths_of(after)
-}
-
-// This may be the first event of the pair whose second one has this key, and began so long after it.
-fn is_first_of(key: Key, after: u32, pre: &Pre) -> bool
-    ensures { result ≡ is_first_of key after pre.now }
-{
-    is_first(pre.place) && is_so_long_before(pre.key, key, after)
 }
 
 // The numbers of the events that may be the first one of the pair.
@@ -73,16 +61,6 @@ fn firsts(
     Ok(numbers)
 }
 
-// Appends the events with these numbers, each after another one.
-fn put_others(out: &mut Vec<u8>, numbers: &[u64]) -> Drawn
-    ensures { OnOk result (out.new.items ≡ out.old.items ++ flat_map or_event numbers.now) }
-{
-    for number in numbers {
-        fill(out, OR_EVENT, &[Count(*number)])?;
-    }
-    Ok(())
-}
-
 // Appends the events that may be the first one of a pair in this ignition cycle.
 fn put_firsts(out: &mut Vec<u8>, cycle: u32, numbers: &[u64]) -> Drawn
     ensures { OnOk result (out.new.items ≡ out.old.items ++ firsts_words cycle numbers.now) }
@@ -91,35 +69,15 @@ fn put_firsts(out: &mut Vec<u8>, cycle: u32, numbers: &[u64]) -> Drawn
         return put(out, ELSEWHERE);
     };
     fill(out, EVENT, &[Count(*number)])?;
-    put_others(out, others)?;
-    if LARGEST_SHOWN_COUNT <= cycle {
-        put(out, IF_SAME_CYCLE)?;
+    for other in others {
+        fill(out, OR_EVENT, &[Count(*other)])?;
     }
-    Ok(())
+    fill_if(out, LARGEST_SHOWN_COUNT <= cycle, IF_SAME_CYCLE, &[])
 }
 
-fn put_place(
-    out: &mut Vec<u8>,
-    alloc: Global,
-    all: &[FoundEvent<'_>],
-    key: Key,
-    place: Place,
-) -> Drawn
-    ensures { OnOk result (out.new.items ≡ out.old.items ++ place_told (numbered all.now) key place) }
-{
-    match place {
-        Place::First => put(out, FIRST),
-        Place::Second { after } => {
-            fill(out, SECOND_AFTER, &[Seconds(tenths_of(after))])?;
-            let numbers = firsts(alloc, key, after, all)?;
-            put_firsts(out, key.cycle, &numbers)
-        }
-    }
-}
-
-/// Appends the place of an event in its crash, with the events of the report of which it may be the second.
+// Appends the place of an event in its crash, with the events of the report of which it may be the second.
 #[tactic(auto, unfolding(crate::specs::Sheets::place_fact))]
-pub fn put_place_fact(
+fn put_place_fact(
     out: &mut Vec<u8>,
     alloc: Global,
     all: &[FoundEvent<'_>],
@@ -129,7 +87,14 @@ pub fn put_place_fact(
     ensures { OnOk result (out.new.items ≡ out.old.items ++ place_fact (numbered all.now) key place) }
 {
     put(out, PLACE_START)?;
-    put_place(out, alloc, all, key, place)?;
+    match place {
+        Place::First => put(out, FIRST)?,
+        Place::Second { after } => {
+            fill(out, SECOND_AFTER, &[Seconds(tenths_of(after))])?;
+            let numbers = firsts(alloc, key, after, all)?;
+            put_firsts(out, key.cycle, &numbers)?;
+        }
+    }
     put(out, PLACE_END)
 }
 
@@ -150,7 +115,7 @@ pub const SWITCH_ABSENT: &[u8] = b"<li>{0}: absent</li>\n";
 
 pub const BELT: &[u8] = b"driver belt";
 
-pub const WARNING_LAMP: &[u8] = b"warning lamp";
+pub const LAMP: &[u8] = b"warning lamp";
 
 /// Some milliseconds of the window have no sample: how many of how many.
 pub const ALONG_ABSENT: &[u8] =
@@ -163,36 +128,21 @@ pub const PART_ABSENT: &[u8] =
     b"<li>no part after time zero, as where the power goes off before the event is closed</li>\n";
 
 // Tells how many of so many samples are absent, if any is.
-#[tactic(auto, unfolding(crate::specs::Sheets::share_reason))]
-fn put_share(out: &mut Vec<u8>, template: &[u8], absent: u32, count: u32) -> Drawn
+fn put_share(out: &mut Vec<u8>, template: &[u8], absent: u64, count: u64) -> Drawn
     ensures { OnOk result (out.new.items ≡ out.old.items ++ share_reason template.now absent count) }
 {
-    if absent == 0 {
-        return Ok(());
-    }
-    fill(out, template, &[Number(absent), Number(count)])
+    fill_if(out, 0 < absent, template, &[Count(absent), Count(count)])
 }
 
 // Tells how many slots are absent, if any is.
 fn put_absent<T>(out: &mut Vec<u8>, template: &[u8], slots: &[Option<T>]) -> Drawn
-    requires { length slots.now ≤ LONG_SLOTS }
     ensures { OnOk result (out.new.items ≡ out.old.items ++ slots_reason template.now slots.now) }
 {
     let absent = slots.iter().filter(|slot| slot.is_none()).count();
-    put_share(out, template, absent as u32, slots.len() as u32)
+    put_share(out, template, absent as u64, slots.len() as u64)
 }
 
-// Tells that a switch is absent, if it is.
-#[tactic(auto, unfolding(crate::specs::Sheets::switch_reason))]
-fn put_switch(out: &mut Vec<u8>, label: &'static [u8], switch: Option<bool>) -> Drawn
-    ensures { OnOk result (out.new.items ≡ out.old.items ++ switch_reason label.now switch) }
-{
-    match switch {
-        Some(_) => Ok(()),
-        None => fill(out, SWITCH_ABSENT, &[Text(label)]),
-    }
-}
-
+// Tells what is absent of the time before time zero.
 #[tactic(auto, unfolding(crate::specs::Sheets::pre_reasons))]
 fn put_pre_reasons(out: &mut Vec<u8>, pre: &Pre) -> Drawn
     ensures { OnOk result (out.new.items ≡ out.old.items ++ pre_reasons pre.now) }
@@ -201,27 +151,27 @@ fn put_pre_reasons(out: &mut Vec<u8>, pre: &Pre) -> Drawn
     put_absent(out, SPEED_ABSENT, pre.speed())?;
     put_absent(out, THROTTLE_ABSENT, pre.throttle())?;
     put_absent(out, BRAKE_ABSENT, pre.brake())?;
-    put_switch(out, BELT, belt)?;
-    put_switch(out, WARNING_LAMP, lamp)
+    fill_if(out, belt.is_none(), SWITCH_ABSENT, &[Text(BELT)])?;
+    fill_if(out, lamp.is_none(), SWITCH_ABSENT, &[Text(LAMP)])
 }
 
-#[tactic(auto, unfolding(crate::specs::Sheets::crash_reasons))]
+// Tells what is absent of the time after time zero.
 fn put_crash_reasons(out: &mut Vec<u8>, crash: &Option<Crash>) -> Drawn
     ensures { OnOk result (out.new.items ≡ out.old.items ++ crash_reasons crash.now) }
 {
     match crash {
         Some(crash) => {
-            let window = u32::from(window_from_end(crash.end));
-            put_share(out, ALONG_ABSENT, u32::from(crash.missing_along), window)?;
-            put_share(out, ACROSS_ABSENT, u32::from(crash.missing_across), window)
+            let window = u64::from(window_from_end(crash.end));
+            put_share(out, ALONG_ABSENT, u64::from(crash.missing_along), window)?;
+            put_share(out, ACROSS_ABSENT, u64::from(crash.missing_across), window)
         }
         None => put(out, PART_ABSENT),
     }
 }
 
-/// Tells why a record isn't complete, if it isn't.
+// Tells why a record isn't complete, if it isn't.
 #[tactic(auto, unfolding(crate::specs::Sheets::reasons))]
-pub fn put_reasons(out: &mut Vec<u8>, event: &Record) -> Drawn
+fn put_reasons(out: &mut Vec<u8>, event: &Record) -> Drawn
     ensures { OnOk result (out.new.items ≡ out.old.items ++ reasons event.now) }
 {
     if event.complete() {
@@ -233,13 +183,10 @@ pub fn put_reasons(out: &mut Vec<u8>, event: &Record) -> Drawn
     put(out, LIST_END)
 }
 
+/// The head of a sheet, and the facts of its event up to its place in its crash.
 pub const SHEET_HEAD: &[u8] = br#"<section id="e{0}" style="page:e{0}" aria-labelledby="e{0}h">
 <div class="head"><h2 id="e{0}h">Event {0}</h2><p>Complete file recorded: <b>{1}</b></p></div>
-"#;
-
-/// The facts of an event, up to its place in its crash.
-pub const FACTS: &[u8] =
-    br#"<ul class="facts"><li>Ignition cycle <b>{0}</b></li><li>Time zero <b>{1} ms</b></li><li>Bank <b>{2}</b></li><li>Locked by an air bag or curtain: <b>{3}</b></li><li>Pre-crash profile: <b>{4}</b></li>"#;
+<ul class="facts"><li>Ignition cycle <b>{2}</b></li><li>Time zero <b>{3} ms</b></li><li>Bank <b>{4}</b></li><li>Locked by an air bag or curtain: <b>{5}</b></li><li>Pre-crash profile: <b>{6}</b></li>"#;
 
 pub const SHEET_FOOT: &[u8] =
     br#"<p class="foot">Event {0} of the report with SHA-256 <code>{1}</code></p>
@@ -268,16 +215,16 @@ fn put_sheet(
         event,
     } = *one;
     let pre = &event.pre;
-    let complete = Text(either(event.complete(), YES_NO));
-    let facts = [
+    let head = [
+        Count(number),
+        Text(either(event.complete(), YES_NO)),
         Number(number_shown(pre.key.cycle)),
         Number(pre.key.zero),
         Number(u32::from(bank)),
         Text(either(event.locked, YES_NO)),
         Text(of_profile(pre.profile(), PROFILES)),
     ];
-    fill(out, SHEET_HEAD, &[Count(number), complete])?;
-    fill(out, FACTS, &facts)?;
+    fill(out, SHEET_HEAD, &head)?;
     put_place_fact(out, alloc, events, pre.key, pre.place)?;
     put_reasons(out, event)?;
     draw_before(out, number, pre)?;

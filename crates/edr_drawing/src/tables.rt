@@ -1,9 +1,9 @@
 //! The tables of a page.
 
-ghost use Rattle.std.specs.Prelude.{◌≡◌, ◌++◌, ◌≤◌, ◌<◌, ◌+◌, ◌*◌, [], OnOk, IfOk, length, flat_map, map, min, ◌/◌};
+ghost use Rattle.std.specs.Prelude.{◌≡◌, ◌++◌, ◌≤◌, ◌<◌, ◌+◌, ◌*◌, OnOk, IfOk, map, min, ◌/◌};
 ghost use Rattle.edr_image.specs.Reports.{report_of};
 ghost use Rattle.edr_report.specs.Report.{event_lines, run_lines};
-ghost use Rattle.edr_drawing.specs.Tables.{axis_cells, change_cell, change_row, elements_bytes, elements_table, is_one_of, line_row, points_table, row, row_of, rows_bytes, run_table, taken_by, taken_in, taken_of, time_cells, block, block_slots, blocks, blocks_in, by_time, mph, mph_word, number_word, slot_at, slot_row, slot_rows, slot_tenths};
+ghost use Rattle.edr_drawing.specs.Tables.{change_row, elements_bytes, elements_table, is_one_of, line_row, points_table, row, row_of, rows_bytes, run_table, taken_by, taken_in, taken_of, block, block_slots, blocks_in, by_time, mph, mph_word, number_word, slot_at, slot_row, slot_tenths};
 ghost use Rattle.edr_drawing.specs.Template.{filling_bytes};
 
 use crate::axes::{CarAxis, NO_SAMPLE, is_silent, points_of};
@@ -142,44 +142,20 @@ fn put_row(out: &mut Vec<u8>, name: &[u8], value: &[u8]) -> Drawn
     put(out, LINE_END)
 }
 
-// Appends the time of each point.
-fn put_times(out: &mut Vec<u8>, count: u32) -> Drawn
-    requires { count ≤ 1_000 }
-    ensures { OnOk result (out.new.items ≡ out.old.items ++ time_cells count) }
-{
-    for i in 0..count {
-        fill(out, POINT_TIME, &[Number(u32::from(POINT_STEP) * i)])?;
-    }
-    Ok(())
-}
-
-// Appends a cell for each point.
-fn put_cells(out: &mut Vec<u8>, points: &[i16]) -> Drawn
-    ensures { OnOk result (out.new.items ≡ out.old.items ++ flat_map change_cell points.now) }
-{
-    for point in points {
-        fill(out, CELL, &[Change(*point)])?;
-    }
-    Ok(())
-}
-
-// Appends the cells of an axis, or that it has no sample.
-fn put_axis_cells(out: &mut Vec<u8>, crash: &Crash, axis: CarAxis) -> Drawn
-    ensures { OnOk result (out.new.items ≡ out.old.items ++ axis_cells crash.now axis) }
-{
-    if is_silent(crash, axis) {
-        let count = Number(point_count(crash.end) as u32);
-        return fill(out, SILENT_CELL, &[count, Text(NO_SAMPLE)]);
-    }
-    put_cells(out, points_of(crash, axis))
-}
-
-// Appends the row of an axis.
+// Appends the row of an axis: a cell for each point, or that it has no sample.
 fn put_axis(out: &mut Vec<u8>, start: &[u8], crash: &Crash, axis: CarAxis) -> Drawn
     ensures { OnOk result (out.new.items ≡ out.old.items ++ change_row start.now crash.now axis) }
 {
     put(out, start)?;
-    put_axis_cells(out, crash, axis)?;
+    if is_silent(crash, axis) {
+        let count = Number(point_count(crash.end) as u32);
+        fill(out, SILENT_CELL, &[count, Text(NO_SAMPLE)])?;
+    } else {
+        let points = points_of(crash, axis);
+        for point in points {
+            fill(out, CELL, &[Change(*point)])?;
+        }
+    }
     put(out, ROW_END)
 }
 
@@ -192,7 +168,9 @@ pub fn put_points_table(out: &mut Vec<u8>, crash: &Option<Crash>) -> Drawn
         return Ok(());
     };
     put(out, POINTS_START)?;
-    put_times(out, point_count(crash.end) as u32)?;
+    for i in 0..point_count(crash.end) as u32 {
+        fill(out, POINT_TIME, &[Number(u32::from(POINT_STEP) * i)])?;
+    }
     put(out, POINTS_BODY)?;
     put_axis(out, ALONG_ROW, crash, CarAxis::Along)?;
     put_axis(out, ACROSS_ROW, crash, CarAxis::Across)?;
@@ -377,17 +355,6 @@ fn put_slot(out: &mut Vec<u8>, pre: &Pre, k: u32) -> Drawn
     )
 }
 
-// Appends the rows of these slots, from this one on.
-fn put_slots(out: &mut Vec<u8>, pre: &Pre, first: u32, count: u32) -> Drawn
-    requires { first + count ≤ 1_000 }
-    ensures { OnOk result (out.new.items ≡ out.old.items ++ slot_rows pre.now first count) }
-{
-    for i in 0..count {
-        put_slot(out, pre, first + i)?;
-    }
-    Ok(())
-}
-
 // Appends a block.
 #[tactic(auto, unfolding(crate::specs::Tables::block))]
 fn put_block(out: &mut Vec<u8>, pre: &Pre, number: u32) -> Drawn
@@ -396,19 +363,10 @@ fn put_block(out: &mut Vec<u8>, pre: &Pre, number: u32) -> Drawn
 {
     let count = block_slots(pre.profile());
     put(out, BLOCK_START)?;
-    put_slots(out, pre, count * number, count)?;
-    put(out, TABLE_END)
-}
-
-// Appends the blocks beside each other.
-fn put_blocks(out: &mut Vec<u8>, pre: &Pre, count: u32) -> Drawn
-    requires { count ≤ LONG_BLOCKS }
-    ensures { OnOk result (out.new.items ≡ out.old.items ++ blocks pre.now count) }
-{
-    for number in 0..count {
-        put_block(out, pre, number)?;
+    for i in 0..count {
+        put_slot(out, pre, count * number + i)?;
     }
-    Ok(())
+    put(out, TABLE_END)
 }
 
 /// Appends the table of the event with this number.
@@ -420,6 +378,8 @@ pub fn put_by_time(out: &mut Vec<u8>, number: u64, pre: &Pre) -> Drawn
     let class = Text(of_profile(profile, PROFILES));
     let span = Text(of_profile(profile, SPANS));
     fill(out, BY_TIME_START, &[Count(number), class, span])?;
-    put_blocks(out, pre, blocks_in(profile))?;
+    for part in 0..blocks_in(profile) {
+        put_block(out, pre, part)?;
+    }
     put(out, BY_TIME_END)
 }

@@ -4,7 +4,7 @@
 //! `specs/` name the templates of `src/`, so each text of a page stands once.
 
 ghost use Rattle.std.specs.Prelude.{◌≡◌, ◌++◌, ◌≤◌, OnOk, map};
-ghost use Rattle.edr_drawing.specs.Template.{byte_bytes, digest_hex, either, filled, filling_bytes, fixed, hex_byte, hex_digit, of_profile, of_switch, place_words, seconds};
+ghost use Rattle.edr_drawing.specs.Template.{byte_bytes, digest_hex, either, filled, filled_if, filling_bytes, fixed, hex_byte, hex_digit, of_profile, of_switch, place_words, seconds};
 
 use edr_record::{Extreme, Place, Profile};
 use edr_report::tenths_of;
@@ -196,6 +196,17 @@ pub fn fill(out: &mut Vec<u8>, template: &[u8], fillings: &[Filling]) -> Drawn
         }
     }
     Ok(())
+}
+
+/// Appends it, if this is so.
+pub fn fill_if(out: &mut Vec<u8>, is_so: bool, template: &[u8], fillings: &[Filling]) -> Drawn
+    ensures { OnOk result (out.new.items ≡ out.old.items ++ filled_if is_so template.now (map filling_bytes fillings.now)) }
+{
+    if is_so {
+        fill(out, template, fillings)
+    } else {
+        Ok(())
+    }
 }
 
 /// Appends a text with no holes.
