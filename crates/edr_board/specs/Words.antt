@@ -3,5 +3,5 @@ use Rattle.std.specs.Prelude.{◌≡◌, ℕ}
 use Rattle.atomic_table.specs.Seated.{TableId}
 
 -- it has so many words, and nothing beside them
-abbrev pub HasWords : ℕ → TableId → Type 0
-HasWords n t = (t.words ≡ n) × (t.slots ≡ 0)
+abbrev pub HasOnlyWords : ℕ → TableId → Type 0
+HasOnlyWords n t = (t.words ≡ n) × (t.slots ≡ 0)
