@@ -1,5 +1,5 @@
 -- The sheets of a page have plain texts.
-use Rattle.std.proofs.Common.{◌≡◌, refl, ℕ, ◌<◌, Option, Some, None, List, [], ◌∷◌, All}
+use Rattle.std.proofs.Common.{refl, ℕ, ◌<◌, Option, Some, None, List, [], ◌∷◌, All}
 use Rattle.edr_record.specs.declared.Key.{Key}
 use Rattle.edr_record.specs.declared.Place.{Place}
 use Rattle.edr_record.specs.declared.Place.TheVariants.{First, Second}

@@ -1,6 +1,6 @@
 //! The first sheet of a page, and the events that have sheets of their own.
 
-ghost use Rattle.std.specs.Prelude.{◌≡◌, IfOk, ◌++◌, ◌≤◌, OnOk};
+ghost use Rattle.std.specs.Prelude.{◌≡◌, IfOk, ◌++◌, OnOk};
 ghost use Rattle.edr_drawing.specs.Cover.{events_of, numbered, cover_end, cover_of, damaged_in, damaged_item, damaged_list, events_table, greatest_or_none, row_of_event};
 ghost use Rattle.edr_drawing.specs.Template.{filling_bytes};
 

@@ -1,8 +1,7 @@
 //! The tables of a page.
 
-ghost use Rattle.std.specs.Prelude.{◌≡◌, ◌++◌, ◌≤◌, ◌<◌, ◌+◌, ◌*◌, OnOk, IfOk, map, min, ◌/◌};
+ghost use Rattle.std.specs.Prelude.{◌≡◌, ◌++◌, ◌≤◌, ◌<◌, ◌+◌, ◌*◌, OnOk, map, min, ◌/◌};
 ghost use Rattle.edr_image.specs.Reports.{report_of};
-ghost use Rattle.edr_report.specs.Report.{event_lines, run_lines};
 ghost use Rattle.edr_drawing.specs.Tables.{change_row, elements_bytes, elements_table, is_one_of, line_row, points_table, row, row_of, rows_bytes, run_table, taken_by, taken_in, taken_of, block, block_slots, blocks_in, by_time, mph, mph_word, number_word, slot_at, slot_row, slot_tenths};
 ghost use Rattle.edr_drawing.specs.Template.{filling_bytes};
 

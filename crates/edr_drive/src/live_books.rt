@@ -1,6 +1,6 @@
 //! Books whose commands are shown.
 
-ghost use Rattle.std.specs.Prelude.{◌≡◌, ◌≤◌, [], ◌∷◌, ◌++◌, None, true, false, length, take};
+ghost use Rattle.std.specs.Prelude.{◌≡◌, ◌≤◌, [], ◌∷◌, ◌++◌, None, true, false, length};
 ghost use Rattle.edr_banks.specs.Opened.{state_of};
 ghost use Rattle.edr_live.specs.Ends.{has_ended, opened_by, shown_by, view_shown};
 ghost use Rattle.edr_live.specs.Shown.{padded};

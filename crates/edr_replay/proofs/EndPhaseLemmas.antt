@@ -1,7 +1,7 @@
 -- What the commands of a cycle over an armed fuse come to, whichever call ran them, once they are ended.
-use Rattle.std.proofs.Common.{◌≡◌, ◌≢◌, ◌⊎◌, ◌≤◌, ◌<◌, ◌+◌, ◌-◌, ℕ, Bool, true, false, List, Some, None, Result, Ok, Err, IfOk, IfErr, OnErr, refl, sym, subst, arith}
+use Rattle.std.proofs.Common.{◌≡◌, ◌≢◌, ◌⊎◌, ◌≤◌, ◌<◌, ◌+◌, ◌-◌, ℕ, Bool, true, false, List, Some, None, Result, Ok, Err, IfOk, IfErr, refl, sym, subst, arith}
 use Rattle.edr_items.specs.SensorLists.{AreFeeds, SensorLists}
-use Rattle.edr_device.specs.Device.{Cycled, MayLeave, StillTells}
+use Rattle.edr_device.specs.Device.{MayLeave, StillTells}
 use Rattle.edr_device.specs.Faults.{Rose, last_number}
 use Rattle.edr_device.specs.FuseLaws.{fuse_counts_now}
 use Rattle.edr_device.specs.FuseState.{FuseGoesOn, armed_for, fuse_state, fused_content, fused_extent, fused_settled, fused_since, new_fuse}

@@ -14,7 +14,7 @@ pub struct PartInlet {
 }
 
 impl PartInlet {
-    ghost use Rattle.std.specs.Prelude.{◌≡◌, ◌≤◌, [], ◌∷◌, ◌++◌, length, IfSome, IsNone};
+    ghost use Rattle.std.specs.Prelude.{◌≡◌, ◌≤◌, ◌++◌, length, IfSome, IsNone};
     ghost use mathlib.Core.List.{IsPrefix};
     ghost use Rattle.edr_seats.specs.Slots.{part_room};
     ghost use Rattle.edr_seats.specs.Slow.{SameButRoom, parts_sent, parts_known_taken};

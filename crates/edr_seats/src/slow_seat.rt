@@ -1,13 +1,11 @@
 //! A slow sensor's seat: it keeps the sensor's samples itself, and sends the part of a time zero that is asked for.
 
-ghost use Rattle.std.specs.Prelude.{◌≡◌, ◌+◌, ◌<◌, ◌≤◌, [], ◌∷◌, ◌++◌, List, Err, OnOk, OnErr, IfErr, None, length};
-ghost use Rattle.rtrb.specs.Ring.{known_free, producer_capacity, sent};
+ghost use Rattle.std.specs.Prelude.{◌≡◌, ◌+◌, ◌<◌, ◌≤◌, [], ◌∷◌, ◌++◌, Err, OnOk, OnErr, IfErr, None};
+ghost use Rattle.rtrb.specs.Ring.{sent};
 ghost use Rattle.edr_items.specs.declared.Item.{Item};
 ghost use Rattle.edr_items.specs.declared.ItemRefused.{ItemRefused};
 ghost use Rattle.edr_board.specs.FreezeSeats.{mark_posted};
-ghost use Rattle.edr_capture.specs.Capture.{CaptureStandsFor};
 ghost use Rattle.edr_items.specs.Sensor.{IsSlow};
-ghost use Rattle.edr_capture.specs.SensorPart.{SensorPart};
 ghost use Rattle.edr_seats.specs.Slots.{part_room};
 ghost use Rattle.edr_seats.specs.Unused.{IsUnused};
 ghost use Rattle.edr_seats.specs.Slow.{NowIsFor, SameSlowSeat, sensor_of_slow, grant_known, refusal_by_slow, parts_known_taken, ExplainsSlow, HasServed, parts_after};

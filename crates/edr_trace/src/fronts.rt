@@ -1,10 +1,9 @@
 //! What stands in front of the bytes at a record's beginning: a row as a writer puts it there, or what is no row.
 
-ghost use Rattle.std.specs.Prelude.{◌≡◌, ◌≢◌, ◌++◌, ◌∷◌, [], ◌≤◌, ◌<◌, ◌-◌, ◌^◌, length, IfSome, int_le, pos, negsuc, ◌&&◌, true, false, slice_index};
-ghost use Rattle.std.specs.Option.{option_map_or};
+ghost use Rattle.std.specs.Prelude.{◌≡◌, ◌≢◌, ◌++◌, ◌∷◌, [], ◌≤◌, ◌<◌, ◌-◌, ◌^◌, length, IfSome, ◌&&◌, true, false, slice_index};
 ghost use Rattle.std.specs.List.{list_any};
 ghost use Rattle.edr_text.specs.Numbers.{numeral};
-ghost use Rattle.edr_spell.specs.Rows.{spelling_of, is_i32, IsRow};
+ghost use Rattle.edr_spell.specs.Rows.{spelling_of, IsRow};
 ghost use Rattle.edr_spell.specs.Lines.{value_text, is_special};
 ghost use Rattle.edr_trace.specs.Fronts.{EndsLine, IsFieldIn, IsRecordIn, IsRowIn, IsNoRow};
 
