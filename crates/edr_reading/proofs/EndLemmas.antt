@@ -23,7 +23,7 @@ use Rattle.edr_reading.specs.declared.reading.ReportRefused.TheVariants.{Fault, 
 use Rattle.edr_spell.specs.Spell.{RecordsOf}
 use Rattle.std.specs.Result.{IfErr, IfOk}
 use Rattle.edr_reading.proofs.BetweenLemmas.{between-count}
-use Rattle.edr_reading.proofs.FaultLemmas.{fault-behind, fault-is-none, wrong-end}
+use Rattle.edr_reading.proofs.FaultLemmas.{fault-after, fault-is-none, wrong-end}
 use Rattle.edr_reading.proofs.FollowLemmas.{some-rows}
 use Rattle.edr_reading.proofs.LineLemmas.{inside-count}
 use Rattle.edr_reading.proofs.WholeLemmas.{told-reading}
@@ -62,18 +62,18 @@ stands-none (next.Nothing n) last reports found rows s other = absurd (other n r
 
 pub field-fault : (r : Reader) (records : FieldRows) (i : ℕ) (e : Refused) → i < length records → HasReadRows r (take i records) → IsRefused (take i records) (get_or records i []) e → IsRowRefusal records (refusal_of (i + 1) e)
 field-fault r records i (refused.Field f) less h w =
-    fault-behind records i (fault.Field f) (omega (arith, less)) (stands-opens r.next r.last (cycles_read r) r.found.items (take i records) h.stands)
+    fault-after records i (fault.Field f) (omega (arith, less)) (stands-opens r.next r.last (cycles_read r) r.found.items (take i records) h.stands)
     (subst (λ (x : FieldRows). IsWrong (take i records) x (fault.Field f)) (sym (drop_more records i [] less)) (w (drop (i + 1) records)))
 field-fault r records i refused.OutOfMemory less h w = tt
 
 pub length-fault : (r : Reader) (records : FieldRows) (i n : ℕ) → i < length records → HasReadRows r (take i records) → IsWrong (take i records) (drop i records) (fault.Fields n) → IsFault records (i + 1) (fault.Fields n)
-length-fault r records i n less h w = fault-behind records i (fault.Fields n) (omega (arith, less)) (stands-opens r.next r.last (cycles_read r) r.found.items (take i records) h.stands) w
+length-fault r records i n less h w = fault-after records i (fault.Fields n) (omega (arith, less)) (stands-opens r.next r.last (cycles_read r) r.found.items (take i records) h.stands) w
 
 pub end-fault : (r : Reader) (records : FieldRows) → HasReadRows r records → ((k : ℕ) → r.next ≡ next.Nothing k → ⊥) → IsFault records (r.rows + 1) fault.Unended
 end-fault r records h other =
     let all : take (length records) records ≡ records = take-length records in
     subst (λ (k : ℕ). IsFault records (k + 1) fault.Unended) (sym h.count)
-    (fault-behind records (length records) fault.Unended (omega arith) (subst Opens (sym all) (stands-opens r.next r.last (cycles_read r) r.found.items records h.stands))
+    (fault-after records (length records) fault.Unended (omega arith) (subst Opens (sym all) (stands-opens r.next r.last (cycles_read r) r.found.items records h.stands))
     (wrong-end records (length records) (omega arith) (stands-none r.next r.last (cycles_read r) r.found.items records h.stands other)))
 
 -- ---- what was read

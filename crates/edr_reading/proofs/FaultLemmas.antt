@@ -80,8 +80,8 @@ pub fault-is-none : (records : List (List (List ℕ))) (row : ℕ) (f : RowFault
 fault-is-none records row f h a = wrong-none (take (row - 1) records) (drop (row - 1) records) f h.3 (subst AreReport (sym (take-append-drop (row - 1) records)) a)
 
 -- the fault of the first of the records after those with which a report begins
-pub fault-behind : (records : List (List (List ℕ))) (k : ℕ) (f : RowFault) → k ≤ length records → Opens (take k records) → IsWrong (take k records) (drop k records) f → IsFault records (k + 1) f
-fault-behind records k f h o w =
+pub fault-after : (records : List (List (List ℕ))) (k : ℕ) (f : RowFault) → k ≤ length records → Opens (take k records) → IsWrong (take k records) (drop k records) f → IsFault records (k + 1) f
+fault-after records k f h o w =
     let e : k ≡ k + 1 - 1 = omega arith in
     (omega arith, omega (arith, h), subst (λ (j : ℕ). Opens (take j records)) e o, subst (λ (j : ℕ). IsWrong (take j records) (drop j records) f) e w)
 

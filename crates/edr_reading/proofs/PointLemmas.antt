@@ -28,13 +28,13 @@ points-read bytes end front long is changes first =
     let zs = drop n (replicate 26 (pos 0)) in
     let fits = count-fits end in
     let front-of : take n (front ++ zs) ≡ front = ap (λ (k : ℕ). take k (front ++ zs)) (sym long) ∙ take-append_seam front zs in
-    let behind-of : drop n (front ++ zs) ≡ zs = ap (λ (k : ℕ). drop k (front ++ zs)) (sym long) ∙ drop-append_seam front zs in (
+    let after-of : drop n (front ++ zs) ≡ zs = ap (λ (k : ℕ). drop k (front ++ zs)) (sym long) ∙ drop-append_seam front zs in (
       is ∙ ap (λ (a : List ℤ). spaced_words (map signed_decimal a)) (sym front-of),
       record {
         room = length-append front zs ∙ (let d = length-drop n (replicate 26 (pos 0)) in let r = length-replicate 26 (pos 0) in omega (arith, d, r, long, fits.1));
         first = first;
         changes = All-append IsChange front zs changes (All-drop IsChange n (replicate 26 (pos 0)) zeros-change);
-        past = behind-of ∙ drop-replicate n 26 (pos 0);
+        past = after-of ∙ drop-replicate n 26 (pos 0);
       },
     )
 

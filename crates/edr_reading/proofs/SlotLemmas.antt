@@ -10,22 +10,22 @@ use Rattle.edr_report.specs.Words.{spaced_words, number_or_none}
 use Rattle.std.proofs.lemmas.List.{append_cancel_left}
 use Rattle.edr_reading.proofs.FrontLemmas.{not-number}
 use Rattle.edr_reading.specs.Front.{EndsNumber}
-use Rattle.edr_reading.specs.Slots.{each_spaced, spaced_behind, space_at}
+use Rattle.edr_reading.specs.Slots.{each_spaced, spaced_after, space_at}
 
 -- the first word has no space before it
 pub spaced-first : (w : List ℕ) (ws : List (List ℕ)) → spaced_words (w ∷ ws) ≡ w ++ each_spaced ws
 spaced-first w [] = sym (append-nil w)
 spaced-first w (v ∷ ws) = ap (λ (x : List ℕ). w ++ (32 ∷ x)) (spaced-first v ws)
 
-pub behind-one : (n : ℕ) (w : List ℕ) (ws : List (List ℕ)) → spaced_behind n (w ∷ ws) ≡ space_at n ++ (w ++ spaced_behind (n + 1) ws)
-behind-one zero w ws = spaced-first w ws
-behind-one (suc n) w ws =
+pub after-one : (n : ℕ) (w : List ℕ) (ws : List (List ℕ)) → spaced_after n (w ∷ ws) ≡ space_at n ++ (w ++ spaced_after (n + 1) ws)
+after-one zero w ws = spaced-first w ws
+after-one (suc n) w ws =
     let e : suc (suc n) ≡ suc n + 1 = omega arith in
-    ap (λ (k : ℕ). 32 ∷ (w ++ spaced_behind k ws)) e
+    ap (λ (k : ℕ). 32 ∷ (w ++ spaced_after k ws)) e
 
-pub behind-ends : (n : ℕ) (ws : List (List ℕ)) → EndsNumber (spaced_behind (suc n) ws)
-behind-ends n [] = tt
-behind-ends n (w ∷ ws) = refl
+pub after-ends : (n : ℕ) (ws : List (List ℕ)) → EndsNumber (spaced_after (suc n) ws)
+after-ends n [] = tt
+after-ends n (w ∷ ws) = refl
 
 -- `none` in front is no number
 pub none-slot : (bytes rest more : List ℕ) (highest : ℕ) (x : Option ℕ) → highest < 2 ^ 64 → IsUpTo highest x → bytes ≡ codes "none" ++ rest → bytes ≡ number_or_none x ++ more → (None ≡ x) × (rest ≡ more)
@@ -34,19 +34,19 @@ none-slot bytes rest more highest (Some k) small h e f = absurd (not-number k 11
 
 module _ {X : Type 0} (words : X → List ℕ) where
   -- one slot more was taken
-  pub taken-more : (bytes rest more front : List ℕ) (slots : List X) (i : ℕ) (x : X) → i < length slots → ((ws : List (List ℕ)) → rest ≡ spaced_behind i ws → bytes ≡ spaced_words (map words (take i slots) ++ ws))
-      → front ≡ space_at i → rest ≡ front ++ (words x ++ more) → (ws : List (List ℕ)) → more ≡ spaced_behind (i + 1) ws → bytes ≡ spaced_words (map words (take (i + 1) (set slots i x)) ++ ws)
+  pub taken-more : (bytes rest more front : List ℕ) (slots : List X) (i : ℕ) (x : X) → i < length slots → ((ws : List (List ℕ)) → rest ≡ spaced_after i ws → bytes ≡ spaced_words (map words (take i slots) ++ ws))
+      → front ≡ space_at i → rest ≡ front ++ (words x ++ more) → (ws : List (List ℕ)) → more ≡ spaced_after (i + 1) ws → bytes ≡ spaced_words (map words (take (i + 1) (set slots i x)) ++ ws)
   taken-more bytes rest more front slots i x h before f r ws m =
-      let e : rest ≡ spaced_behind i (words x ∷ ws) = r ∙ ap (λ (a : List ℕ). a ++ (words x ++ more)) f ∙ ap (λ (a : List ℕ). space_at i ++ (words x ++ a)) m ∙ sym (behind-one i (words x) ws) in
+      let e : rest ≡ spaced_after i (words x ∷ ws) = r ∙ ap (λ (a : List ℕ). a ++ (words x ++ more)) f ∙ ap (λ (a : List ℕ). space_at i ++ (words x ++ a)) m ∙ sym (after-one i (words x) ws) in
       let t : map words (take (i + 1) (set slots i x)) ≡ map words (take i slots) ++ words x ∷ [] = ap (map words) (take_more_set slots i x h) ∙ map-append words (take i slots) (x ∷ []) in
       before (words x ∷ ws) e ∙ ap spaced_words (sym (ap (λ (a : List (List ℕ)). a ++ ws) t ∙ append_assoc (map words (take i slots)) (words x ∷ []) ws))
 
   -- what is left begins with the next slot
-  pub left-one : (xs : List X) (rest front : List ℕ) (i : ℕ) (d : X) → i < length xs → rest ≡ spaced_behind i (map words (drop i xs)) → front ≡ space_at i
-      → rest ≡ front ++ (words (get_or xs i d) ++ spaced_behind (i + 1) (map words (drop (i + 1) xs)))
+  pub left-one : (xs : List X) (rest front : List ℕ) (i : ℕ) (d : X) → i < length xs → rest ≡ spaced_after i (map words (drop i xs)) → front ≡ space_at i
+      → rest ≡ front ++ (words (get_or xs i d) ++ spaced_after (i + 1) (map words (drop (i + 1) xs)))
   left-one xs rest front i d h e f =
-      e ∙ ap (λ (ys : List X). spaced_behind i (map words ys)) (drop_more xs i d h) ∙ behind-one i (words (get_or xs i d)) (map words (drop (i + 1) xs))
-      ∙ ap (λ (a : List ℕ). a ++ (words (get_or xs i d) ++ spaced_behind (i + 1) (map words (drop (i + 1) xs)))) (sym f)
+      e ∙ ap (λ (ys : List X). spaced_after i (map words ys)) (drop_more xs i d h) ∙ after-one i (words (get_or xs i d)) (map words (drop (i + 1) xs))
+      ∙ ap (λ (a : List ℕ). a ++ (words (get_or xs i d) ++ spaced_after (i + 1) (map words (drop (i + 1) xs)))) (sym f)
 
 pub are-more : {X : Type 0} (ok : X → Type 0) (slots : List X) (i : ℕ) (x : X) → i < length slots → All ok (take i slots) → ok x → All ok (take (i + 1) (set slots i x))
 are-more ok slots i x h before this = subst (All ok) (sym (take_more_set slots i x h)) (All-append ok (take i slots) (x ∷ []) before (λ k d m. by k d m))
@@ -55,8 +55,8 @@ are-more ok slots i x h before this = subst (All ok) (sym (take_more_set slots i
     by zero d m = this
     by (suc k) d m = absurd (omega arith)
 
-pub ends-more : (n : ℕ) (ws : List (List ℕ)) → EndsNumber (spaced_behind (n + 1) ws)
-ends-more n ws = let e : suc n ≡ n + 1 = omega arith in subst (λ (k : ℕ). EndsNumber (spaced_behind k ws)) e (behind-ends n ws)
+pub ends-more : (n : ℕ) (ws : List (List ℕ)) → EndsNumber (spaced_after (n + 1) ws)
+ends-more n ws = let e : suc n ≡ n + 1 = omega arith in subst (λ (k : ℕ). EndsNumber (spaced_after k ws)) e (after-ends n ws)
 
 pub same-more : {X : Type 0} (slots xs : List X) (i : ℕ) (x d : X) → i < length slots → i < length xs → take i slots ≡ take i xs → x ≡ get_or xs i d → take (i + 1) (set slots i x) ≡ take (i + 1) xs
 same-more slots xs i x d h k e f = take_more_set slots i x h ∙ ap (λ (a : List _). a ++ x ∷ []) e ∙ ap (λ (y : _). take i xs ++ y ∷ []) f ∙ sym (take_more xs i d k)
@@ -66,19 +66,19 @@ pub some-in : {X : Type 0} (xs : List X) (i : ℕ) → i < length xs → X
 some-in [] i h = absurd (omega arith)
 some-in (x ∷ xs) i h = x
 
-nothing : (k : ℕ) → [] ≡ spaced_behind k []
+nothing : (k : ℕ) → [] ≡ spaced_after k []
 nothing zero = refl
 nothing (suc k) = refl
 
 -- where all slots were taken that the bytes show, nothing is left
-pub all-same : {X : Type 0} (words : X → List ℕ) (rest : List ℕ) (slots xs : List X) (i : ℕ) → i ≡ length slots → length xs ≡ length slots → (take i slots ≡ take i xs) × (rest ≡ spaced_behind i (map words (drop i xs)))
+pub all-same : {X : Type 0} (words : X → List ℕ) (rest : List ℕ) (slots xs : List X) (i : ℕ) → i ≡ length slots → length xs ≡ length slots → (take i slots ≡ take i xs) × (rest ≡ spaced_after i (map words (drop i xs)))
     → (nat_eq (length rest) 0 ≡ true) × (slots ≡ xs)
 all-same words rest slots xs i all long h =
-    let none : rest ≡ [] = h.1 ∙ ap (λ (ys : List _). spaced_behind i (map words ys)) (drop_all i xs (omega (arith, all, long))) ∙ sym (nothing i) in
+    let none : rest ≡ [] = h.1 ∙ ap (λ (ys : List _). spaced_after i (map words ys)) (drop_all i xs (omega (arith, all, long))) ∙ sym (nothing i) in
     (ap (λ (l : List ℕ). nat_eq (length l) 0) none, sym (take_all i slots (omega (arith, all))) ∙ h.0 ∙ take_all i xs (omega (arith, all, long)))
 
 -- where all slots were taken and nothing is left, the bytes are these slots
-pub read-all : {X : Type 0} (words : X → List ℕ) (ok : X → Type 0) (bytes rest : List ℕ) (slots : List X) (i : ℕ) → i ≡ length slots → rest ≡ [] → ((ws : List (List ℕ)) → rest ≡ spaced_behind i ws → bytes ≡ spaced_words (map words (take i slots) ++ ws))
+pub read-all : {X : Type 0} (words : X → List ℕ) (ok : X → Type 0) (bytes rest : List ℕ) (slots : List X) (i : ℕ) → i ≡ length slots → rest ≡ [] → ((ws : List (List ℕ)) → rest ≡ spaced_after i ws → bytes ≡ spaced_words (map words (take i slots) ++ ws))
     → All ok (take i slots) → (bytes ≡ spaced_words (map words slots)) × All ok slots
 read-all words ok bytes rest slots i all none read are =
     let t : take i slots ≡ slots = ap (λ (k : ℕ). take k slots) all ∙ take-length slots in

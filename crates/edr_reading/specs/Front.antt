@@ -13,13 +13,13 @@ EndsNumber (b ∷ bs) = is_digit b ≡ false
 
 -- it read a value within its bounds, of which the words stand after these bytes, and what stands after them; it reads each
 -- such value that no digit follows
-pub record ReadsBehind {A : Type 0} (front : List ℕ) (words : A → List ℕ) (ok : A → Type 0) (bytes : List ℕ) (result : Option (A × Bor (List ℕ))) : Type 0 where
+pub record ReadsAfter {A : Type 0} (front : List ℕ) (words : A → List ℕ) (ok : A → Type 0) (bytes : List ℕ) (result : Option (A × Bor (List ℕ))) : Type 0 where
   pub read : IfSome result (λ p. (bytes ≡ front ++ (words p.0 ++ p.1.now)) × ok p.0)
   pub whole : (x : A) (more : List ℕ) → ok x → EndsNumber more → bytes ≡ front ++ (words x ++ more) → GivesValue x more result
 
 -- the same where they stand in front
 abbrev pub ReadsFront : {A : Type 0} → (A → List ℕ) → (A → Type 0) → List ℕ → Option (A × Bor (List ℕ)) → Type 0
-ReadsFront words ok bytes result = ReadsBehind [] words ok bytes result
+ReadsFront words ok bytes result = ReadsAfter [] words ok bytes result
 
 -- a change of speed that stands in front of the bytes, and what stands after it
 abbrev pub IsChangeFront : List ℕ → ℤ × Bor (List ℕ) → Type 0

@@ -11,9 +11,9 @@ abbrev pub each_spaced : List (List ℕ) → List ℕ
 each_spaced ws = flat_map (λ w. 32 ∷ w) ws
 
 -- what these words are after so many others
-abbrev pub spaced_behind : ℕ → List (List ℕ) → List ℕ
-spaced_behind zero ws = spaced_words ws
-spaced_behind (suc n) ws = each_spaced ws
+abbrev pub spaced_after : ℕ → List (List ℕ) → List ℕ
+spaced_after zero ws = spaced_words ws
+spaced_after (suc n) ws = each_spaced ws
 
 -- what stands before the word in this place
 abbrev pub space_at : ℕ → List ℕ

@@ -12,7 +12,7 @@ ghost use Rattle.edr_reading.specs.Values.{IsBank};
 use crate::crash::part_line;
 use crate::front::{is_word, last_within};
 use crate::pre::{PreSoFar, plain_pre, pre_line};
-use crate::values::bank_behind;
+use crate::values::bank_after;
 use edr_image::Found;
 use edr_image::places::MOST_BANKS;
 use edr_record::{Crash, Record};
@@ -115,7 +115,7 @@ pub(crate) fn event_line(
             last_within(value, b"", block, block)?;
             Some(*event)
         }
-        EventLine::Bank => match bank_behind(value, b"") {
+        EventLine::Bank => match bank_after(value, b"") {
             Some(bank) if !is_among(found, bank) => Some(PartEvent { bank, pre, crash }),
             _ => None,
         },

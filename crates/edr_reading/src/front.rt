@@ -4,7 +4,7 @@ ghost use Rattle.std.specs.Prelude.{◌≡◌, ◌≤◌, ◌++◌, true, ℕ, L
 ghost use Rattle.std.specs.Bool.{MatchBool};
 ghost use Rattle.std.specs.List.{list_all};
 ghost use Rattle.edr_text.specs.Numbers.{is_digit};
-ghost use Rattle.edr_reading.specs.Front.{EndsNumber, ReadsBehind, ReadsFront, two_numbers, AreUpTo, AreWords, IsFromTo, IsWord, number_after, number_between};
+ghost use Rattle.edr_reading.specs.Front.{EndsNumber, ReadsAfter, ReadsFront, two_numbers, AreUpTo, AreWords, IsFromTo, IsWord, number_after, number_between};
 ghost use Rattle.edr_reading.specs.Answers.{Leaves, Reads, ReadsTwo};
 
 use edr_text::read_u32;
@@ -17,7 +17,7 @@ pub(crate) fn is_word(bytes: &[u8], word: &[u8]) -> bool
 }
 
 /// What stands after these bytes, if they are in front.
-pub(crate) fn behind<'a>(bytes: &'a [u8], front: &[u8]) -> Option<&'a [u8]>
+pub(crate) fn after<'a>(bytes: &'a [u8], front: &[u8]) -> Option<&'a [u8]>
     ensures read { IfSome result (λ rest. bytes.now ≡ front.now ++ rest.now) }
     ensures whole { (more : List ℕ) → bytes.now ≡ front.now ++ more → Leaves more result }
 {
@@ -53,10 +53,10 @@ pub(crate) fn number_in_front(bytes: &[u8]) -> Option<(u32, &[u8])>
 }
 
 /// The number after these bytes, and what stands after it.
-pub(crate) fn number_behind<'a>(bytes: &'a [u8], front: &[u8]) -> Option<(u32, &'a [u8])>
-    ensures { ReadsBehind front.now decimal IsWord bytes.now result }
+pub(crate) fn number_after<'a>(bytes: &'a [u8], front: &[u8]) -> Option<(u32, &'a [u8])>
+    ensures { ReadsAfter front.now decimal IsWord bytes.now result }
 {
-    number_in_front(behind(bytes, front)?)
+    number_in_front(after(bytes, front)?)
 }
 
 /// The number between these bytes.
@@ -64,7 +64,7 @@ pub(crate) fn one_number(bytes: &[u8], front: &[u8], back: &[u8]) -> Option<u32>
     requires { EndsNumber back.now }
     ensures { Reads (number_between front.now back.now) IsWord bytes.now result }
 {
-    match number_behind(bytes, front) {
+    match number_after(bytes, front) {
         Some((n, rest)) if rest == back => Some(n),
         _ => None,
     }
@@ -88,7 +88,7 @@ pub(crate) fn two_numbers(
     requires back { EndsNumber back.now }
     ensures { ReadsTwo (two_numbers front.now middle.now back.now) AreWords bytes.now result }
 {
-    let (m, rest) = number_behind(bytes, front)?;
+    let (m, rest) = number_after(bytes, front)?;
     let n = one_number(rest, middle, back)?;
     Some((m, n))
 }
@@ -104,15 +104,15 @@ pub(crate) fn last_within(bytes: &[u8], front: &[u8], low: u32, high: u32) -> Op
 }
 
 /// The number after these bytes, where it is `low` to `high`, and what stands after it.
-pub(crate) fn within_behind<'a>(
+pub(crate) fn within_after<'a>(
     bytes: &'a [u8],
     front: &[u8],
     low: u32,
     high: u32,
 ) -> Option<(u32, &'a [u8])>
-    ensures { ReadsBehind front.now decimal (IsFromTo low high) bytes.now result }
+    ensures { ReadsAfter front.now decimal (IsFromTo low high) bytes.now result }
 {
-    match number_behind(bytes, front) {
+    match number_after(bytes, front) {
         Some((n, rest)) if low <= n && n <= high => Some((n, rest)),
         _ => None,
     }
@@ -130,7 +130,7 @@ pub(crate) fn two_within(
     requires back { EndsNumber back.now }
     ensures { ReadsTwo (two_numbers front.now middle.now back.now) (AreUpTo high) bytes.now result }
 {
-    let (m, rest) = within_behind(bytes, front, 0, high)?;
+    let (m, rest) = within_after(bytes, front, 0, high)?;
     match one_number(rest, middle, back) {
         Some(n) if n <= high => Some((m, n)),
         _ => None,

@@ -1,10 +1,10 @@
 //! Lists of slots, read back.
 
 ghost use Rattle.std.specs.Prelude.{◌≡◌, ℕ, List};
-ghost use Rattle.edr_reading.specs.Front.{ReadsBehind, ReadsFront};
+ghost use Rattle.edr_reading.specs.Front.{ReadsAfter, ReadsFront};
 ghost use Rattle.edr_reading.specs.Slots.{space_at, ReadsSlots};
 
-use crate::front::{behind, within_behind};
+use crate::front::{after, within_after};
 use crate::values::change_in_front;
 
 /// What stands in one slot of a list.
@@ -43,9 +43,9 @@ impl SlotRead for Option<u16> {
     ghost is_slot = { IsUpTo 300 };
 
     fn in_front(bytes: &[u8]) -> Option<(Option<u16>, &[u8])> {
-        match behind(bytes, b"none") {
+        match after(bytes, b"none") {
             Some(rest) => Some((None, rest)),
-            None => match within_behind(bytes, b"", 0, 300) {
+            None => match within_after(bytes, b"", 0, 300) {
                 Some((kmh, rest)) => Some((Some(kmh as u16), rest)),
                 None => None,
             },
@@ -62,9 +62,9 @@ impl SlotRead for Option<u8> {
     ghost is_slot = { IsUpTo 100 };
 
     fn in_front(bytes: &[u8]) -> Option<(Option<u8>, &[u8])> {
-        match behind(bytes, b"none") {
+        match after(bytes, b"none") {
             Some(rest) => Some((None, rest)),
-            None => match within_behind(bytes, b"", 0, 100) {
+            None => match within_after(bytes, b"", 0, 100) {
                 Some((per_cent, rest)) => Some((Some(per_cent as u8), rest)),
                 None => None,
             },
@@ -81,13 +81,13 @@ impl SlotRead for Option<bool> {
     ghost is_slot = { λ _. ⊤ };
 
     fn in_front(bytes: &[u8]) -> Option<(Option<bool>, &[u8])> {
-        if let Some(rest) = behind(bytes, b"on") {
+        if let Some(rest) = after(bytes, b"on") {
             return Some((Some(true), rest));
         }
-        if let Some(rest) = behind(bytes, b"off") {
+        if let Some(rest) = after(bytes, b"off") {
             return Some((Some(false), rest));
         }
-        let rest = behind(bytes, b"none")?;
+        let rest = after(bytes, b"none")?;
         Some((None, rest))
     }
 }
@@ -100,10 +100,10 @@ fn space_at(place: usize) -> &'static [u8]
 }
 
 // The slot after these bytes, and what stands after it.
-fn slot_behind<'a, S: SlotRead>(bytes: &'a [u8], front: &[u8]) -> Option<(S, &'a [u8])>
-    ensures { ReadsBehind front.now S.words S.is_slot bytes.now result }
+fn slot_after<'a, S: SlotRead>(bytes: &'a [u8], front: &[u8]) -> Option<(S, &'a [u8])>
+    ensures { ReadsAfter front.now S.words S.is_slot bytes.now result }
 {
-    S::in_front(behind(bytes, front)?)
+    S::in_front(after(bytes, front)?)
 }
 
 /// Reads slots that are parted by one space, as many as there are; tells whether the bytes are such slots.
@@ -112,7 +112,7 @@ pub(crate) fn read_slots<S: SlotRead + Copy>(bytes: &[u8], slots: &mut [S]) -> b
 {
     let mut rest = bytes;
     for i in 0..slots.len() {
-        match slot_behind(rest, space_at(i)) {
+        match slot_after(rest, space_at(i)) {
             Some(next) => {
                 slots[i] = next.0;
                 rest = next.1;

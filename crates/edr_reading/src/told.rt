@@ -5,7 +5,7 @@ ghost use Rattle.edr_reading.specs.Told.{IsCycleRow, IsToldName, name_words, row
 ghost use Rattle.edr_reading.specs.Answers.{Reads};
 
 use crate::front::{is_word, last_within};
-use crate::values::{ack, bank_behind, ran, start_call};
+use crate::values::{ack, bank_after, ran, start_call};
 use edr_image::Kind;
 
 /// What the first row of a cycle tells.
@@ -38,7 +38,7 @@ pub(crate) fn told_name(name: &[u8], cycles: u32) -> Option<ToldName>
     if is_word(name, b"ignition cycle, download") {
         return Some(ToldName::Count);
     }
-    if let Some(bank) = bank_behind(name, b"bank ") {
+    if let Some(bank) = bank_after(name, b"bank ") {
         return Some(ToldName::Bank { bank });
     }
     if let Some((kind, tick)) = ack(name, cycles) {

@@ -11,7 +11,7 @@ ghost use Rattle.edr_reading.specs.Values.{IsBank, IsStopCall, IsApplied, IsTick
 ghost use Rattle.edr_reading.specs.Answers.{Reads, ReadsTwo};
 
 use crate::front::{
-    behind, is_word, last_within, number_behind, one_number, two_numbers, two_within, within_behind,
+    after, is_word, last_within, number_after, one_number, two_numbers, two_within, within_after,
 };
 use edr_image::places::{BANK_SIZE, MOST_BANKS};
 use edr_image::{Applied, Kind};
@@ -20,7 +20,7 @@ use edr_record::{EARLIEST_END, Extreme, GREATEST_CHANGE, Place, Profile, RESET};
 use edr_report::LARGEST_SHOWN_COUNT;
 
 /// The number of a bank after these bytes.
-pub(crate) fn bank_behind(bytes: &[u8], front: &[u8]) -> Option<u8>
+pub(crate) fn bank_after(bytes: &[u8], front: &[u8]) -> Option<u8>
     ensures { Reads (number_after front.now) IsBank bytes.now result }
 {
     let bank = last_within(bytes, front, 1, MOST_BANKS.into())?;
@@ -114,7 +114,7 @@ fn negative_in_front(bytes: &[u8]) -> Option<(i16, &[u8])>
     ensures read { IfSome result (IsChangeFront (45 ∷ bytes.now)) }
     ensures whole { (k : ℕ) → k + 1 ≤ GREATEST_CHANGE → ReadsAs (k + 1) (negsuc k) bytes.now result }
 {
-    let (n, rest) = within_behind(bytes, b"", 1, GREATEST_CHANGE)?;
+    let (n, rest) = within_after(bytes, b"", 1, GREATEST_CHANGE)?;
     Some((0 - n as i16, rest))
 }
 
@@ -123,7 +123,7 @@ fn positive_in_front(bytes: &[u8]) -> Option<(i16, &[u8])>
     ensures read { IfSome result (IsChangeFront bytes.now) }
     ensures whole { (n : ℕ) → n ≤ GREATEST_CHANGE → ReadsAs n (pos n) bytes.now result }
 {
-    let (n, rest) = within_behind(bytes, b"", 0, GREATEST_CHANGE)?;
+    let (n, rest) = within_after(bytes, b"", 0, GREATEST_CHANGE)?;
     Some((n as i16, rest))
 }
 
@@ -131,7 +131,7 @@ fn positive_in_front(bytes: &[u8]) -> Option<(i16, &[u8])>
 pub(crate) fn change_in_front(bytes: &[u8]) -> Option<(i16, &[u8])>
     ensures { ReadsFront signed_decimal IsChange bytes.now result }
 {
-    match behind(bytes, b"-") {
+    match after(bytes, b"-") {
         Some(digits) => negative_in_front(digits),
         None => positive_in_front(bytes),
     }
@@ -224,18 +224,18 @@ fn second_place(between: &[u8]) -> Option<Place>
 }
 
 // Whether a damaged bank is locked, after what else it shows.
-fn lock_behind(bytes: &[u8]) -> Option<bool>
+fn lock_after(bytes: &[u8]) -> Option<bool>
     ensures { Reads lock_words (λ _. ⊤) bytes.now result }
 {
-    decision(behind(bytes, b" locked ")?)
+    decision(after(bytes, b" locked ")?)
 }
 
 // The byte that a damaged bank shows, and whether it is locked.
-fn byte_behind(bytes: &[u8]) -> Option<(u8, bool)>
+fn byte_after(bytes: &[u8]) -> Option<(u8, bool)>
     ensures { ReadsTwo byte_words (λ x _. x ≤ 255) bytes.now result }
 {
-    let (found, rest) = within_behind(bytes, b" found ", 0, 255)?;
-    Some((found as u8, lock_behind(rest)?))
+    let (found, rest) = within_after(bytes, b" found ", 0, 255)?;
+    Some((found as u8, lock_after(rest)?))
 }
 
 /// What a damaged bank shows: where, which byte stands there, and whether it is locked.
@@ -251,8 +251,8 @@ pub(crate) fn damage(bytes: &[u8]) -> Option<DamageShown>
     ensures read { IfSome result (ShowsDamage bytes.now) }
     ensures whole { (d : DamageShown) → ShowsDamage bytes.now d → IsSome result }
 {
-    let (offset, rest) = within_behind(bytes, b"damaged at ", 0, BANK_SIZE as u32 - 1)?;
-    let (found, locked) = byte_behind(rest)?;
+    let (offset, rest) = within_after(bytes, b"damaged at ", 0, BANK_SIZE as u32 - 1)?;
+    let (found, locked) = byte_after(rest)?;
     Some(DamageShown {
         offset: offset as u16,
         found,
@@ -284,7 +284,7 @@ fn stop(bytes: &[u8]) -> Option<Option<u32>>
 pub(crate) fn ran(bytes: &[u8]) -> Option<(u32, Option<u32>)>
     ensures { ReadsTwo ran_words IsRan bytes.now result }
 {
-    let (number, rest) = within_behind(bytes, b"number ", 1, u32::MAX)?;
+    let (number, rest) = within_after(bytes, b"number ", 1, u32::MAX)?;
     Some((number, stop(rest)?))
 }
 
@@ -306,12 +306,12 @@ pub(crate) fn answer(bytes: &[u8], kind: Kind) -> Option<Applied>
     if is_word(bytes, b"not kept") {
         return Some(Applied::NotKept);
     }
-    let bank = bank_behind(bytes, b"bank ")?;
+    let bank = bank_after(bytes, b"bank ")?;
     Some(done_in(kind, bank))
 }
 
 // When a command of this kind was acknowledged.
-fn tick_behind(bytes: &[u8], front: &[u8]) -> Option<u32>
+fn tick_after(bytes: &[u8], front: &[u8]) -> Option<u32>
     ensures { Reads (number_after front.now) IsTick bytes.now result }
 {
     last_within(bytes, front, 1, LATEST_MOMENT)
@@ -321,13 +321,13 @@ fn tick_behind(bytes: &[u8], front: &[u8]) -> Option<u32>
 fn command(bytes: &[u8]) -> Option<(Kind, u32)>
     ensures { ReadsTwo command_words (λ _ t. IsTick t) bytes.now result }
 {
-    if let Some(tick) = tick_behind(bytes, b" take at ") {
+    if let Some(tick) = tick_after(bytes, b" take at ") {
         return Some((Kind::Take, tick));
     }
-    if let Some(tick) = tick_behind(bytes, b" lock at ") {
+    if let Some(tick) = tick_after(bytes, b" lock at ") {
         return Some((Kind::Lock, tick));
     }
-    let tick = tick_behind(bytes, b" done at ")?;
+    let tick = tick_after(bytes, b" done at ")?;
     Some((Kind::Done, tick))
 }
 
@@ -335,7 +335,7 @@ fn command(bytes: &[u8]) -> Option<(Kind, u32)>
 pub(crate) fn ack(bytes: &[u8], place: u32) -> Option<(Kind, u32)>
     ensures { ReadsTwo (ack_words place) (λ _ t. IsTick t) bytes.now result }
 {
-    match number_behind(bytes, b"cycle ") {
+    match number_after(bytes, b"cycle ") {
         Some((i, rest)) if i == place => command(rest),
         _ => None,
     }

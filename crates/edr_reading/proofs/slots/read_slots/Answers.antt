@@ -1,6 +1,6 @@
 use Rattle.std.proofs.Common.{arith, ◌≡◌, ◌∙◌, sym, ◌<◌, ◌+◌, length, map, drop, get_or}
 use Rattle.std.proofs.lemmas.List.Elements.{All-get_or}
-use Rattle.edr_reading.specs.Slots.{spaced_behind}
+use Rattle.edr_reading.specs.Slots.{spaced_after}
 use Rattle.edr_reading.proofs.SlotLemmas.{all-same, taken-more, left-one, are-more, ends-more, same-more, some-in, read-all, none-left}
 use Rattle.edr_reading.proofs.slots.read_slots.Goals as goal
 
@@ -15,7 +15,7 @@ returns-in-None g c =
           let h : at.i < length xs = omega (arith, long, c.loop-i-test.true) in
           let d = some-in xs at.i h in
           let w = at.invariant.whole xs long is in
-          absurd (c.in-None.ensures.whole (get_or xs at.i d) (spaced_behind (at.i + 1) (map words (drop (at.i + 1) xs))) (All-get_or g.S.SlotRead.is_slot xs at.i d h is.1) (ends-more at.i _)
+          absurd (c.in-None.ensures.whole (get_or xs at.i d) (spaced_after (at.i + 1) (map words (drop (at.i + 1) xs))) (All-get_or g.S.SlotRead.is_slot xs at.i d h is.1) (ends-more at.i _)
           (left-one words xs at.rest.now c.space_at.result.now at.i d h w.1 c.space_at.ensures));
     }
 
@@ -32,7 +32,7 @@ loop-i-preserved g c =
           let h : at.i < length xs = omega (arith, long, c.loop-i-test.true) in
           let d = c.in-Some.next.0 in
           let w = at.invariant.whole xs long is in
-          let n = c.in-Some.ensures.whole (get_or xs at.i d) (spaced_behind (at.i + 1) (map words (drop (at.i + 1) xs))) (All-get_or g.S.SlotRead.is_slot xs at.i d h is.1) (ends-more at.i _)
+          let n = c.in-Some.ensures.whole (get_or xs at.i d) (spaced_after (at.i + 1) (map words (drop (at.i + 1) xs))) (All-get_or g.S.SlotRead.is_slot xs at.i d h is.1) (ends-more at.i _)
           (left-one words xs at.rest.now c.space_at.result.now at.i d h w.1 c.space_at.ensures) in
           (same-more at.slots xs at.i c.in-Some.next.0 d inside h w.0 n.0, n.1);
     }

@@ -1,5 +1,5 @@
 use Rattle.edr_reading.proofs.FrontLemmas.{front-is, front-stands}
-use Rattle.edr_reading.proofs.front.behind.Goals as goal
+use Rattle.edr_reading.proofs.front.after.Goals as goal
 
 pub returns-in-Some-clause-read : goal.returns-in-Some-clause-read
 returns-in-Some-clause-read c = let s = c.in-Some.ensures.cases in rw s.1 (front-is c.args.bytes.now c.args.front.now s.0)
