@@ -82,11 +82,14 @@ class Listed:
         self.trials, self.shim, self.list = trials, shim, os.path.join(os.path.dirname(shim), 'calls')
 
     def run(self, words, data, fails=None, wrap=()):
-        """How the run ended, and its calls: each a name and a descriptor."""
+        """How the run ended, and its calls: each a name and a descriptor. The input is a file: how many reads a pipe takes is chance."""
         with contextlib.suppress(FileNotFoundError):
             os.remove(self.list)
         around = [f'LD_PRELOAD={self.shim}', f'CALLS={self.list}', *([f'FAILS={fails}'] if fails else [])]
-        got = self.trials.run(words, data, [*wrap, 'env', *around])
+        with tempfile.TemporaryFile() as source:
+            source.write(data)
+            source.seek(0)
+            got = self.trials.run(words, wrap=[*wrap, 'env', *around], stdin=source)
         with open(self.list) as lines:
             return got, [(name, int(fd)) for name, fd in (line.split() for line in lines)]
 
