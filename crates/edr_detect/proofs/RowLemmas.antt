@@ -22,7 +22,7 @@ use Rattle.edr_detect.specs.declared.stage.Stage.TheVariants as stage
 use Rattle.edr_detect.specs.declared.stage.Tests.{Tests}
 use Rattle.edr_detect.specs.declared.windows.Windows.{Windows}
 use Rattle.edr_detect.specs.Latest.{LatestStandsFor}
-use Rattle.edr_detect.specs.Stages.{told_of, phase_of, is_event, stepped_search}
+use Rattle.edr_detect.specs.Stages.{nothing, told_of, phase_of, is_event, stepped_search}
 use Rattle.edr_detect.specs.Standing.{SwingsStandFor, WindowsStandFor, HoldNothing, AreStill, BeginsAtRest, TestsAre, bounds_past}
 use Rattle.edr_detect.specs.Rows.{SignalRow, row_at, signals_of_rows}
 use Rattle.edr_detect.specs.Detected.{DetectState, IsAtRest, KeepsRecent, DetectStandsFor}
@@ -242,10 +242,6 @@ module _ (rows : List SignalRow) (r : SignalRow) (d e : DetectState) (u : ℕ) (
         },
         told ∙ same ∙ sym answer ∙ ap (tick_change n) now,
       )
-
--- nothing stands
-abbrev pub nothing : Answer
-nothing = record { zero = false; confirmed = false; locked = false; ended = false; dropped = false; closed = false }
 
 -- a tick past which the search goes on as before
 module _ (rows : List SignalRow) (r : SignalRow) (d : DetectState) (u : ℕ) (pushed : Windows) (rests : Bool)

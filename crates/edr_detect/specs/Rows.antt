@@ -1,5 +1,5 @@
 -- What a detector was given: a row for each tick.
-use Rattle.std.specs.Prelude.{ℕ, zero, suc, ℤ, Option, None, option_map, List, slice_get}
+use Rattle.std.specs.Prelude.{ℕ, zero, suc, ℤ, pos, Option, None, option_map, List, slice_get}
 use Rattle.std.specs.Option.{option_map_or}
 use Rattle.edr_items.specs.declared.Restraints.{Restraints}
 use Rattle.edr_definitions.specs.Signals.{Signals}
@@ -13,6 +13,10 @@ pub record SignalRow : Type 0 where
 -- the row of a tick, of its changes and the restraints that fire
 abbrev pub row_of : ℤ → ℤ → Restraints → SignalRow
 row_of along across fired = record { along = along; across = across; fired = fired }
+
+-- the row of a tick at which nothing moves and nothing fires
+abbrev pub still_row : SignalRow
+still_row = row_of (pos 0) (pos 0) (record { 0 = 0 })
 
 -- the row of a tick: the first row is that of tick 1
 abbrev pub row_at : List SignalRow → ℕ → Option SignalRow

@@ -13,6 +13,10 @@ use Rattle.edr_detect.specs.declared.stage.Tests.{Tests}
 abbrev pub told_of : Answer → Change
 told_of a = record { zero = a.zero; confirmed = a.confirmed; locked = a.locked; ended = a.ended; dropped = a.dropped; closed = a.closed }
 
+-- nothing stands
+abbrev pub nothing : Answer
+nothing = record { zero = false; confirmed = false; locked = false; ended = false; dropped = false; closed = false }
+
 -- the phase that a stage is
 abbrev pub phase_of : Stage → Phase
 phase_of stage.Searching = Searching

@@ -33,9 +33,10 @@ impl Model for Detect {
 }
 
 impl Detect {
-    ghost use Rattle.std.specs.Prelude.{◌≡◌, ◌+◌, ◌<◌, ◌≤◌, [], unsigned_abs};
+    ghost use Rattle.std.specs.Prelude.{◌≡◌, ◌+◌, ◌<◌, ◌≤◌, [], IsTrue, unsigned_abs};
     ghost use Rattle.edr_items.specs.declared.TheConstants.{GREATEST_ACCELERATION, LATEST_MOMENT};
-    ghost use Rattle.edr_detect.specs.Rows.{row_of};
+    ghost use Rattle.edr_detect.specs.Rows.{row_of, still_row};
+    ghost use Rattle.edr_detect.specs.Stages.{nothing};
     ghost use Rattle.edr_detect.specs.Detected.{DetectStandsFor, DetectsNext, TellsNext};
 
     /// A detector at the start of a cycle, before its first tick.
@@ -64,11 +65,31 @@ impl Detect {
     {
         // At most ticks of a drive nothing moves, nothing fires and no candidate is open.
         if along == 0 && across == 0 && fired.0 == 0 && self.rests {
-            self.tick += 1;
-            self.windows.rest();
+            self.pass_still();
             return NOTHING;
         }
         self.full_tick(along, across, fired)
+    }
+
+    /// Whether no candidate is open, and no change that still counts differs from 0.
+    #[inline(always)]
+    pub fn is_at_rest(&self) -> bool
+        ensures { result ≡ self.now.rests }
+    {
+        self.rests
+    }
+
+    /// The next tick, where the detector is at rest and nothing moves or fires: nothing stands at it.
+    #[inline(always)]
+    pub fn pass_still(&mut self)
+        requires rests { IsTrue self.old.rests }
+        requires room { self.old.tick < LATEST_MOMENT }
+        ensures stands { DetectsNext still_row self.old self.new }
+        ensures answer { TellsNext still_row self.old nothing }
+        ensures tick { self.new.tick ≡ self.old.tick + 1 }
+    {
+        self.tick += 1;
+        self.windows.rest();
     }
 
     // The same, whatever moves. It stands apart, so that a quiet tick doesn't save the registers that it takes.

@@ -35,7 +35,7 @@ waiting-later : (t : ℕ) (x : Item) (xs : List Item) (v : ℤ) → x.value ≡ 
 unfolding waiting_samples
 waiting-later t x xs v sample later = let e : (is_some x.value && nat_lt t x.moment) ≡ true = grind (arith, nat_tests) in rw e refl
 
-first-here : (t : ℕ) (x : Item) (xs : List Item) → x.moment ≡ t → (first_value t (x ∷ xs) ≡ x.value) × (past_first t (x ∷ xs) ≡ xs)
+pub first-here : (t : ℕ) (x : Item) (xs : List Item) → x.moment ≡ t → (first_value t (x ∷ xs) ≡ x.value) × (past_first t (x ∷ xs) ≡ xs)
 first-here t x xs here = let e : nat_eq x.moment t ≡ true = grind arith in (rw e refl, rw e refl)
 
 first-other : (t : ℕ) (x : Item) (xs : List Item) → x.moment ≢ t → (first_value t (x ∷ xs) ≡ None) × (past_first t (x ∷ xs) ≡ x ∷ xs)
@@ -104,7 +104,7 @@ tick-taken s t last (x ∷ xs) feed =
 
 -- ---- one more item
 -- no two samples have one moment, so no more wait than ticks are left up to the mark
-length-waiting : (s : Sensor) (t last : ℕ) (xs : List Item) → IsFeedAfter s last xs → length (waiting_samples t xs) + max t last ≤ max t (mark_from last xs)
+pub length-waiting : (s : Sensor) (t last : ℕ) (xs : List Item) → IsFeedAfter s last xs → length (waiting_samples t xs) + max t last ≤ max t (mark_from last xs)
 length-waiting s t last [] feed = unfold waiting_samples in omega arith
 length-waiting s t last (x ∷ xs) feed =
     by_item x.value refl (cases_lt t x.moment) (refusal_of-rises s last x feed.0) (length-waiting s t x.moment xs feed.2)

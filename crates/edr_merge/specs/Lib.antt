@@ -7,3 +7,4 @@ pub mod State
 pub mod Fields
 pub mod Answers
 pub mod StandsFor
+pub mod Still

@@ -6,7 +6,7 @@ mod marks;
 mod rings;
 mod samples;
 
-ghost use Rattle.std.specs.Prelude.{◌≡◌, ◌↔◌, ◌≤◌, pos, ◌≤ℤ◌, IfOk, IfErr, IsOk, OnOk, OnErr, IfSome, unsigned_abs, unwrap_or};
+ghost use Rattle.std.specs.Prelude.{◌≡◌, ◌↔◌, ◌≤◌, false, pos, ◌≤ℤ◌, IfOk, IfErr, IsOk, OnOk, OnErr, IfSome, IsTrue, unsigned_abs, unwrap_or};
 ghost use Rattle.edr_items.specs.Item.{refusal_of, mark_of};
 ghost use Rattle.edr_items.specs.SensorLists.{no_items, items_of};
 ghost use Rattle.edr_definitions.specs.Schedule.{Progress, Give, Close, IsAllowed, after_step};
@@ -117,6 +117,7 @@ fn check_next(marks: &Marks, sensor: Sensor, item: &Item) -> Result<(), ItemRefu
 impl Merge {
     ghost use Rattle.edr_merge.specs.Answers.{give_refusal_of, next_of, AnswersRow, after_next};
     ghost use Rattle.edr_merge.specs.StandsFor.{MergeStandsFor};
+    ghost use Rattle.edr_merge.specs.Still.{PassesStill};
 
     /// A merge to which no sensor has given an item, and of which no tick is closed.
     pub fn new(alloc: Global) -> Result<Merge, OutOfMemory>
@@ -184,5 +185,23 @@ impl Merge {
             across: self.rings.across.take(self.closed),
             fired: restraints(self.rings.restraint.take(self.closed)),
         }
+    }
+    /// Takes a sample of 0 of the next tick from each axis, and closes the tick, where it needs nothing else. The samples go past
+    /// the rings. It says whether it did.
+    #[inline(always)]
+    pub fn pass_still(&mut self) -> bool
+        ensures passes { IsTrue result → (p : Progress) → MergeStandsFor self.old p → PassesStill p self.new }
+        ensures stays { result ≡ false → self.new ≡ self.old }
+    {
+        if self.marks.along != self.closed || self.marks.across != self.closed {
+            return false;
+        }
+        if self.slow <= self.closed || self.rings.restraint.has(self.closed + 1) {
+            return false;
+        }
+        self.closed += 1;
+        self.marks.along = self.closed;
+        self.marks.across = self.closed;
+        true
     }
 }

@@ -1,5 +1,5 @@
 //! The samples of one sensor that wait until their tick is closed.
-ghost use Rattle.std.specs.Prelude.{◌≡◌, [], IfOk};
+ghost use Rattle.std.specs.Prelude.{◌≡◌, false, None, [], IfOk};
 ghost use Rattle.edr_merge.specs.Samples.{with_sample, first_value, past_first};
 
 use circular_buffer::HeapCircularBuffer;
@@ -72,5 +72,13 @@ impl Samples {
             }
             _ => None,
         }
+    }
+
+    // Whether the oldest sample is of that tick.
+    #[inline(always)]
+    pub fn has(&self, tick: u32) -> bool
+        ensures { result ≡ false → (first_value tick self.now ≡ None) × (past_first tick self.now ≡ self.now) }
+    {
+        matches!(self.oldest, Some(item) if item.moment == tick)
     }
 }

@@ -4,8 +4,8 @@ use Rattle.std.proofs.lemmas.Bool.{not-true}
 use Rattle.edr_definitions.specs.Change.{tick_change}
 use Rattle.edr_detect.specs.Detected.{DetectState, DetectStandsFor}
 use Rattle.edr_detect.specs.Rows.{SignalRow, signals_of_rows}
-use Rattle.edr_detect.specs.Stages.{told_of, phase_of}
-use Rattle.edr_detect.proofs.RowLemmas.{nothing, tick-stands, tick-still, never-rests}
+use Rattle.edr_detect.specs.Stages.{nothing, told_of, phase_of}
+use Rattle.edr_detect.proofs.RowLemmas.{tick-stands, tick-still, never-rests}
 use Rattle.edr_detect.proofs.detector.Detect.full_tick.Goals as goal
 
 pub returns-then-not-tests : goal.returns-then-not-tests
