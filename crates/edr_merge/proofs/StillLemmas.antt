@@ -22,7 +22,7 @@ use Rattle.edr_merge.specs.StandsFor.{MergeStandsFor}
 use Rattle.edr_merge.specs.Still.{still_item, along_given, still_given, after_still, IsStillNext, PassesStill}
 use Rattle.edr_merge.proofs.LagLemmas.{lag_none, below-risen}
 use Rattle.edr_merge.proofs.WaitingLemmas.{length-waiting, keep_last-all, first-here}
-use Rattle.edr_merge.proofs.StandsLemmas.{stands-given, stands-next, answer-row}
+use Rattle.edr_merge.proofs.StandsLemmas.{stands-given, stands-next, row-allowed, answer-row}
 
 -- a sample of 0 is accepted after an earlier moment
 still-accepted : (s : Sensor) (last t : ℕ) → last < t → t ≤ LATEST_MOMENT → is_in_range s (pos 0) ≡ true → refusal_of s last (still_item t) ≡ None
@@ -104,6 +104,7 @@ module _ (m : MergeState) (p : Progress) (slow : ℕ) (h : MergeStandsFor m p) (
   is-next = record {
     along = may-along;
     across = may-across;
+    closes = row-allowed both both (still_given p) refl both_is none;
     row =
         (λ i. Row (at i + 1) (Some (pos 0)) (Some (pos 0)) (record { 0 = 0 }))
         ∙ answer-row both both (still_given p) refl both_is none (Some (pos 0)) (Some (pos 0)) None (record { 0 = 0 })
@@ -113,8 +114,10 @@ module _ (m : MergeState) (p : Progress) (slow : ℕ) (h : MergeStandsFor m p) (
   pub passes-still : PassesStill p (record { closed = m.closed + 1; marks = both_marked (m.closed + 1) m.marks; rings = m.rings })
   passes-still = record {
     next = is-next;
-    between = both;
-    given = both_is;
+    first = first;
+    first_is = first_is;
+    both = both;
+    both_is = both_is;
     stands = subst (λ (n : ℕ). MergeStandsFor (record { closed = m.closed + 1; marks = both_marked (n + 1) m.marks; rings = m.rings }) (after_still p)) at
         (stands-next both both (still_given p) refl both_is none m.rings
         (λ i. record {

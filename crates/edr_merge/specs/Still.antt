@@ -23,15 +23,18 @@ still_given p = after_step (along_given p) (Give Across (still_item (p.closed + 
 abbrev pub after_still : Progress → Progress
 after_still p = after_step (still_given p) Close
 
--- both axes may give it, and then no sensor is waited for, and no restraint fires in the tick
+-- both axes may give it, then the tick may be closed, and no restraint fires in it
 pub record IsStillNext (p : Progress) : Type 0 where
   pub along : IsAllowed (Give Along (still_item (p.closed + 1))) p
   pub across : IsAllowed (Give Across (still_item (p.closed + 1))) (along_given p)
+  pub closes : IsAllowed Close (still_given p)
   pub row : Row (p.closed + 1) (Some (pos 0)) (Some (pos 0)) (record { 0 = 0 }) ≡ next_of (still_given p)
 
--- both gave it, and then the tick was closed
+-- first one axis gave it, then both had, and at last the tick was closed
 pub record PassesStill (p : Progress) (new : MergeState) : Type 0 where
   pub next : IsStillNext p
-  pub between : MergeState
-  pub given : MergeStandsFor between (still_given p)
+  pub first : MergeState
+  pub first_is : MergeStandsFor first (along_given p)
+  pub both : MergeState
+  pub both_is : MergeStandsFor both (still_given p)
   pub stands : MergeStandsFor new (after_still p)
