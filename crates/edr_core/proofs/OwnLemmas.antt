@@ -1,10 +1,11 @@
 -- A core gives its split core its own parts, so what that one issues are the commands of the definition.
-use Rattle.std.proofs.Common.{arith, refl, ap, sym, subst, ◌≡◌, ◌≢◌, ◌∙◌, ℕ, ◌+◌, ◌<◌, ◌≤◌, Bool, true, false, cond, not, nat_eq, Some, None, Option, Ok, Err, List, [], ◌∷◌, ◌++◌, map, get_or, ◌↔◌}
+use Rattle.std.proofs.Common.{arith, refl, ap, sym, subst, ◌≡◌, ◌≢◌, ◌∙◌, ℕ, ◌+◌, ◌<◌, ◌≤◌, Bool, true, false, cond, not, nat_eq, Some, None, Option, Ok, Err, List, [], ◌∷◌, ◌++◌, map, get_or, append-nil, ◌↔◌}
 use Rattle.std.specs.Prelude.{is_some, IsSome, IsOk, OnOk, All, Result}
 use Rattle.std.specs.Option.{option_map_or}
 use Rattle.std.proofs.lemmas.Bool.{ne_eqb}
 use Rattle.std.proofs.lemmas.List.Elements.{All-nil, All-cons, All-head, All-tail}
 use Rattle.edr_items.specs.declared.Sensor.{Sensor}
+use Rattle.edr_items.specs.declared.Sensor.TheVariants.{Along, Across}
 use Rattle.edr_items.specs.declared.Item.{Item}
 use Rattle.edr_items.specs.Item.{mark_of}
 use Rattle.edr_items.specs.Sensor.{slow_sensors, IsSlow}
@@ -21,6 +22,7 @@ use Rattle.edr_capture.specs.Capture.{CaptureStandsFor}
 use Rattle.edr_capture.specs.SensorPart.{SensorPart, IsOfSensor, part, part_slots}
 use Rattle.edr_capture.proofs.PartLemmas.{part-later}
 use Rattle.edr_merge.specs.Answers.{waited_for}
+use Rattle.edr_merge.specs.Still.{still_item, along_given, still_given}
 use Rattle.edr_merge.proofs.StandsLemmas.{first_at-is, row-allowed, waiting-not_allowed}
 use Rattle.edr_core.specs.declared.ask.PartRefused.{PartRefused}
 use Rattle.edr_core.specs.declared.ask.PartRefused.TheVariants as refused
@@ -36,6 +38,7 @@ use Rattle.edr_core.specs.SplitHistory.{History, start_of, after_item, after_par
 use Rattle.edr_core.specs.SplitContents.{SplitContents}
 use Rattle.edr_core.specs.SplitStandsFor.{HoldsAsk, SplitCoreStandsFor}
 use Rattle.edr_core.specs.SplitAnswers.{answer_of, split_step_of, part_refusal_of}
+use Rattle.edr_core.specs.Still.{next_tick, SplitPassesStill, CorePassesStill}
 use Rattle.edr_core.specs.OwnParts.{resting_history, parts_after, own_parts, with_own_parts, AsksFor}
 use Rattle.edr_core.specs.declared.ask.OpenAsk.{OpenAsk as OpenAsk}
 use Rattle.edr_core.proofs.TakenLemmas.{part_in-early, eqb_same, taken}
@@ -293,3 +296,19 @@ pub own-ticks : (f : SensorLists) (n t u : ℕ) (cs : List Command) → issues_w
 own-ticks f n t u cs h =
     let same : HaveTheFastItems f f = record { along = refl; across = refl; restraint = refl } in
     sym (issues-with f f n same t) ∙ h ∙ ap (λ xs. xs ++ map (issue_at t) cs) (issues-with f f n same u)
+
+-- ---- a tick at which neither axis moves
+pub core-passes : (c : CoreContents) (n : ℕ) (p : Progress) (split : SplitContents) → (h : CoreIsFor c n p) → SplitPassesStill (resting_history n p h.parts) split → CorePassesStill n p (record { cycle = split.cycle; closed = split.closed; split = split; captures = c.captures })
+unfolding core-gives
+core-passes c n p split h passes =
+    let x = still_item (next_tick p) in
+    let first = core-gives c n p Along x passes.first c.captures h passes.next.along passes.first_is refl in
+    let both = core-gives (record { cycle = passes.first.cycle; closed = passes.first.closed; split = passes.first; captures = c.captures }) n (along_given p) Across x passes.both c.captures first passes.next.across passes.both_is refl in
+    let f = (still_given p).given in
+    record {
+      next = passes.next;
+      stands = core-closes (record { cycle = passes.both.cycle; closed = passes.both.closed; split = passes.both; captures = c.captures }) n (still_given p) split h.parts both passes.stands both.parts_are;
+      quiet =
+          own-ticks f n (next_tick p) p.closed [] (passes.quiet (parts_of f) both.parts_are ∙ sym (append-nil (issues_with (parts_of f) f n p.closed)))
+          ∙ append-nil (issues f n p.closed);
+    }

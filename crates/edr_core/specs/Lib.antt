@@ -14,3 +14,4 @@ pub mod Fields
 pub mod Answers
 pub mod SplitAnswers
 pub mod Calls
+pub mod Still

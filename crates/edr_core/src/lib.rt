@@ -9,7 +9,7 @@ mod parts;
 mod slots;
 mod split;
 
-ghost use Rattle.std.specs.Prelude.{◌≡◌, ◌↔◌, ℕ, ◌≤◌, IfOk, IfErr, IsOk, OnOk, OnErr};
+ghost use Rattle.std.specs.Prelude.{◌≡◌, ◌↔◌, ℕ, ◌≤◌, false, IfOk, IfErr, IsOk, IsTrue, OnOk, OnErr};
 ghost use Rattle.edr_items.specs.SensorLists.{no_items};
 ghost use Rattle.edr_definitions.specs.Schedule.{Progress, Give, Close, IsAllowed, after_step};
 
@@ -78,6 +78,7 @@ impl Core {
     ghost use Rattle.edr_core.specs.StandsFor.{CoreIsFor};
     ghost use Rattle.edr_core.specs.Answers.{IsClosed, PutsNothingAside, awaited_sensor, after_answer, step_of, HasTheCommands, HasTheIssues};
     ghost use Rattle.edr_core.specs.Calls.{IsWhyRefused, CoreFollows};
+    ghost use Rattle.edr_core.specs.Still.{CorePassesStill};
 
     /// A core for the ignition cycle of that number, to which no sensor has given an item, and of which no tick is closed.
     pub fn open(alloc: Global, cycle: u32) -> Result<Core, OutOfMemory>
@@ -164,5 +165,15 @@ impl Core {
             }
             SplitClosing::Parts { .. } => unreachable!(),
         }
+    }
+
+    /// Takes a sample of 0 of the next tick from each axis, and closes the tick, where it needs nothing else and the search is at
+    /// rest. It says whether it did; the tick issues nothing then.
+    #[inline(always)]
+    pub fn pass_still(&mut self) -> bool
+        ensures passes { IsTrue result → (n : ℕ) (p : Progress) → CoreIsFor self.old n p → CorePassesStill n p self.new }
+        ensures stays { result ≡ false → self.new ≡ self.old }
+    {
+        self.split.pass_still()
     }
 }

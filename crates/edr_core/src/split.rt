@@ -1,6 +1,6 @@
 //! The core that is told no value of a slow sensor: it asks for the parts of each time zero.
 
-ghost use Rattle.std.specs.Prelude.{◌≡◌, ◌↔◌, ◌+◌, ◌≤◌, ◌<◌, true, false, Some, None, is_some, IfOk, IfErr, IsOk, IsSome, OnOk, OnErr};
+ghost use Rattle.std.specs.Prelude.{◌≡◌, ◌↔◌, ◌+◌, ◌≤◌, ◌<◌, true, false, Some, None, is_some, IfOk, IfErr, IsOk, IsSome, IsTrue, OnOk, OnErr};
 ghost use Rattle.edr_definitions.specs.Schedule.{Give, IsAllowed};
 
 use crate::ask::{OpenAsk, PartRefused, pre_of};
@@ -93,6 +93,7 @@ impl SplitCore {
     ghost use Rattle.edr_core.specs.SplitStandsFor.{SplitCoreStandsFor};
     ghost use Rattle.edr_core.specs.SplitAnswers.{answer_of, after_split, split_step_of, IsSplitQuiet, part_refusal_of};
     ghost use Rattle.edr_core.specs.Calls.{IsWhyRefused, SplitFollows, GivesTheCommands, GivesTheIssues};
+    ghost use Rattle.edr_core.specs.Still.{SplitPassesStill};
 
     /// A core for the ignition cycle of that number, to which no sensor has given an item, and of which no tick is closed.
     pub fn open(alloc: Global, cycle: u32) -> Result<SplitCore, OutOfMemory>
@@ -301,5 +302,24 @@ impl SplitCore {
         };
         ask.take(asked, part)?;
         Ok(())
+    }
+
+    /// Takes a sample of 0 of the next tick from each axis, and closes the tick, where it needs nothing else and the search is at
+    /// rest. It says whether it did; the tick issues nothing then.
+    #[inline(always)]
+    pub fn pass_still(&mut self) -> bool
+        ensures passes { IsTrue result → (h : History) → SplitCoreStandsFor self.old h → SplitPassesStill h self.new }
+        ensures stays { result ≡ false → self.new ≡ self.old }
+    {
+        let events = &mut *self.events;
+        if self.asking || events.candidate.is_some() || !events.detect.is_at_rest() {
+            return false;
+        }
+        if !self.merge.pass_still() {
+            return false;
+        }
+        events.detect.pass_still();
+        self.closed += 1;
+        true
     }
 }
