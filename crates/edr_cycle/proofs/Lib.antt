@@ -7,6 +7,7 @@ pub mod ListLemmas
 pub mod CommittedLemmas
 pub mod AppliedLemmas
 pub mod RunStepLemmas
+pub mod StillLemmas
 pub mod EndingLemmas
 pub mod FirstByteLemmas
 pub mod StartLemmas

@@ -18,6 +18,8 @@ use Rattle.edr_definitions.proofs.KeepLaws.{commands-start}
 use Rattle.edr_definitions.proofs.LaterLaws.{issues-push}
 use Rattle.edr_definitions.proofs.MarkLaws.{mark-more, horizon-least, horizon-more, horizon-with_item}
 use Rattle.edr_definitions.proofs.ScheduleLaws.{never_ahead}
+use Rattle.edr_merge.specs.Still.{still_item, along_given, still_given, after_still}
+use Rattle.edr_core.specs.Still.{next_tick}
 use Rattle.edr_core.specs.Calls.{CoreFollows}
 use Rattle.edr_core.specs.Contents.{CoreContents}
 use Rattle.edr_core.specs.StandsFor.{CoreIsFor}
@@ -28,7 +30,7 @@ use Rattle.edr_cycle.specs.CycleLogged.{CycleLogged}
 use Rattle.edr_banks.specs.Opened.{OpenedBanks}
 use Rattle.edr_run.specs.Cycle.{issues_in}
 use Rattle.edr_cycle.specs.Commits.{Commits}
-use Rattle.edr_cycle.specs.Rest.{IsGiven, IsFirstOf, TakesFirst, GivesFirst, MayGiveFirst, issues_between, issues_past}
+use Rattle.edr_cycle.specs.Rest.{IsGiven, TakesFirst, GivesFirst, MayGiveFirst, PassesNext, issues_between, issues_past}
 use Rattle.edr_cycle.proofs.CommittedLemmas.{commits_failed, commits_none, commits_same, commits_then}
 use Rattle.edr_run.proofs.IssueLemmas.{issues-few, issues-more, issues-under_way}
 
@@ -171,9 +173,10 @@ module _ {D : Type 0} (content : D → Option (List ℕ)) (settled : D → ℕ �
       run-gives core core' left left' b' l' d' s g.item run (g.gives n p is) (g.allowed n p is) g.first g.others
   run-may_give core core' left left' b' l' d' s run (inr same) = rw (same.0, same.1) run
 
-  -- one of each axis
-  pub run-axes : (core core' core'' : CoreContents) (left left' left'' : SensorLists) (b' : OpenedBanks) (l' : CycleLogged) (d' : D) → Now core left b' l' d' → MayGiveFirst Along core core' left left' → MayGiveFirst Across core' core'' left' left'' → Now core'' left'' b' l' d'
-  run-axes core core' core'' left left' left'' b' l' d' run along across = run-may_give core' core'' left' left'' b' l' d' Across (run-may_give core core' left left' b' l' d' Along run along) across
+  -- one of each axis, where no tick was passed before
+  pub run-axes : (core stayed core' core'' : CoreContents) (left kept left' left'' : SensorLists) (b' : OpenedBanks) (l' : CycleLogged) (d' : D) → Now core left b' l' d' → (stayed ≡ core) × (kept ≡ left) → MayGiveFirst Along stayed core' kept left' → MayGiveFirst Across core' core'' left' left'' → Now core'' left'' b' l' d'
+  run-axes core stayed core' core'' left kept left' left'' b' l' d' run stays along across =
+      run-may_give core' core'' left' left'' b' l' d' Across (run-may_give stayed core' kept left' b' l' d' Along (rw (stays.0, stays.1) run) along) across
 
   -- then no tick was closed, and no more is left
   pub closed-may_give : (core core' : CoreContents) (left left' : SensorLists) (b' : OpenedBanks) (l' : CycleLogged) (d' : D) (s : Sensor) → Now core left b' l' d' → MayGiveFirst s core core' left left'
@@ -186,12 +189,50 @@ module _ {D : Type 0} (content : D → Option (List ℕ)) (settled : D → ℕ �
       ((g.gives n p is).closed_is ∙ sym is.closed_is, omega (arith, less, others))
   closed-may_give core core' left left' b' l' d' s run (inr same) = let left = ap left_count same.1 in (ap (λ (c : CoreContents). c.closed) same.0, omega (arith, left))
 
-  pub closed-axes : (core core' core'' : CoreContents) (left left' left'' : SensorLists) (b' : OpenedBanks) (l' : CycleLogged) (d' : D) → Now core left b' l' d' → MayGiveFirst Along core core' left left' → MayGiveFirst Across core' core'' left' left''
+  pub closed-axes : (core stayed core' core'' : CoreContents) (left kept left' left'' : SensorLists) (b' : OpenedBanks) (l' : CycleLogged) (d' : D) → Now core left b' l' d' → (stayed ≡ core) × (kept ≡ left) → MayGiveFirst Along stayed core' kept left' → MayGiveFirst Across core' core'' left' left''
       → (core''.closed ≡ core.closed) × (left_count left'' ≤ left_count left)
-  closed-axes core core' core'' left left' left'' b' l' d' run along across =
-      let first = closed-may_give core core' left left' b' l' d' Along run along in
-      let second = closed-may_give core' core'' left' left'' b' l' d' Across (run-may_give core core' left left' b' l' d' Along run along) across in
-      (second.0 ∙ first.0, let a = first.1 in let b = second.1 in omega (arith, a, b))
+  closed-axes core stayed core' core'' left kept left' left'' b' l' d' run stays along across =
+      let on : Now stayed kept b' l' d' = rw (stays.0, stays.1) run in
+      let first = closed-may_give stayed core' kept left' b' l' d' Along on along in
+      let second = closed-may_give core' core'' left' left'' b' l' d' Across (run-may_give stayed core' kept left' b' l' d' Along on along) across in
+      let none = ap left_count stays.1 in
+      (second.0 ∙ first.0 ∙ ap (λ (c : CoreContents). c.closed) stays.0, let a = first.1 in let b = second.1 in omega (arith, a, b, none))
+
+  -- a tick at which nothing moves is passed, and issues nothing
+  pub run-passes : (core core' : CoreContents) (left left' : SensorLists) (b' : OpenedBanks) (l' : CycleLogged) (d' : D) → (run : Now core left b' l' d') → PassesNext n run.given.progress core' left left' → Now core' left' b' l' d'
+  run-passes core core' left left' b' l' d' run is =
+      let p = run.given.progress in
+      let x = still_item (next_tick p) in
+      let f = (along_given p).given in
+      let g = (still_given p).given in
+      let same : (t : ℕ) → t ≤ p.closed → issues p.given n t ≡ issues g n t = λ t at. issues-push Along p.given x n t (omega (arith, at)) ∙ issues-push Across f x n t (omega (arith, at)) in
+      let between : issues_between p.given n base p.closed ≡ issues_between g n base (next_tick p) =
+      ap (λ xs. drop (length xs) (issues p.given n p.closed)) (same base run.from) ∙ ap (drop (length (issues g n base))) (same p.closed (omega arith) ∙ sym is.passes.quiet) in
+      record {
+        given = record {
+          progress = after_still p;
+          core_is = is.passes.stands;
+          within = let may = is.passes.next.closes in omega (arith, may);
+          rest = λ q.
+              rest_gives Across q x (items_of Across left') lists f is.middle
+              (λ r. rest_gives Along r x (items_of Along is.middle) lists p.given left run.given.rest is.along ∙ ap (λ (l : SensorLists). items_of r f ++ items_of r l) (sym is.along_others)) is.across
+              ∙ ap (λ (l : SensorLists). items_of q g ++ items_of q l) (sym is.across_others);
+        };
+        from = let from = run.from in omega (arith, from);
+        commits = rw (sym between) run.commits;
+      }
+
+  -- then one tick more is closed, and one item fewer of each axis is left
+  pub passes-less : (core core' : CoreContents) (left left' : SensorLists) → (given : IsGiven lists n core left) → PassesNext n given.progress core' left left' → (core'.closed ≡ core.closed + 1) × (left_count left' + 2 ≡ left_count left)
+  passes-less core core' left left' given is =
+      let before = given.core_is.closed_is in
+      let after = is.passes.stands.closed_is in
+      let x = still_item (next_tick given.progress) in
+      let first = left_count-less Along x (items_of Along is.middle) left is.along in
+      let second = left_count-less Across x (items_of Across left') is.middle is.across in
+      let one = ap left_count is.along_others in
+      let two = ap left_count is.across_others in
+      (omega (arith, before, after), omega (arith, first, second, one, two))
 
   module _ (feeds : AreFeeds lists) (level : IsLevel lists) where
     under_way : (core : CoreContents) (left : SensorLists) → (g : IsGiven lists n core left) → IsUnderWay lists g.progress

@@ -1,16 +1,17 @@
 //! A cycle that runs by itself: its items go through the core, and each tick's commands to the banks.
 
-ghost use Rattle.std.specs.Prelude.{◌≡◌, ◌+◌, ◌≤◌, false, length, map};
+ghost use Rattle.std.specs.Prelude.{◌≡◌, ℕ, ◌+◌, ◌≤◌, false, IsTrue, length, map};
 ghost use Rattle.edr_device.specs.Lent.{Lent};
 ghost use Rattle.edr_items.specs.SensorLists.{AreFeeds, IsLevel, horizon_of, no_items};
 ghost use Rattle.edr_definitions.specs.Commands.{issue_at, issues};
+ghost use Rattle.edr_definitions.specs.Schedule.{Progress};
 ghost use Rattle.edr_core.specs.Answers.{commands_put};
 ghost use Rattle.edr_core.specs.StandsFor.{CoreIsFor};
 ghost use Rattle.edr_image.specs.Image.{image_size};
 ghost use Rattle.edr_run.specs.Cycle.{issues_in};
 ghost use Rattle.edr_cycle.specs.Begun.{room_for};
 ghost use Rattle.edr_cycle.specs.Ledgers.{CommitsIn};
-ghost use Rattle.edr_cycle.specs.Rest.{IsGiven, MayGiveFirst, issues_past};
+ghost use Rattle.edr_cycle.specs.Rest.{IsGiven, MayGiveFirst, PassesNext, issues_past};
 
 use crate::commits::commit_tick;
 use crate::ledger::Ledger;
@@ -55,6 +56,26 @@ fn give_next(core: &mut Core, left: &mut Left<'_>, sensor: Sensor)
     }
 }
 
+// Passes the next tick, where each axis gives a sample of 0 of it next, and the core needs nothing else. At most ticks of a drive
+// nothing moves.
+#[inline(always)]
+fn pass_next(core: &mut Core, left: &mut Left<'_>) -> bool
+    ensures passes { IsTrue result → (n : ℕ) (p : Progress) → CoreIsFor core.old n p
+        → PassesNext n p core.new left.old left.new }
+    ensures stays { result ≡ false → (core.new ≡ core.old) × (left.new ≡ left.old) }
+{
+    let tick = core.closed().saturating_add(1);
+    if !left.is_still(Sensor::Along, tick) || !left.is_still(Sensor::Across, tick) {
+        return false;
+    }
+    if !core.pass_still() {
+        return false;
+    }
+    left.next(Sensor::Along);
+    left.next(Sensor::Across);
+    true
+}
+
 // Gives what is left of the feeds to a core that is lent, and commits what it issues.
 fn give_on<L: Ledger, N: Nvm>(
     core: &mut Core,
@@ -76,6 +97,9 @@ fn give_on<L: Ledger, N: Nvm>(
 {
     let mut issued = Issued::none();
     loop {
+        if pass_next(core, left) {
+            continue;
+        }
         give_next(core, left, Sensor::Along);
         give_next(core, left, Sensor::Across);
         match core.close(&mut issued) {
