@@ -21,7 +21,7 @@ mod part;
 use circular_buffer::HeapCircularBuffer;
 use edr_definitions::limits::LONGEST_AGE;
 use edr_items::{Item, Sensor};
-use edr_record::{LONG_SLOTS, SINGLE_REACH, SLOT_REACH, SLOT_STEP};
+use edr_record::{LONG_SLOTS, SINGLE_REACH, SLOT_STEP};
 pub use part::Part;
 use std::alloc::{AllocError as OutOfMemory, Global};
 use std::marker::Model;
@@ -120,7 +120,8 @@ fn slots_before(capture: &Capture, zero: u32) -> [Option<i32>; LONG_SLOTS]
     slots_back(&capture.ring, zero)
 }
 
-// The same, from the newest back: few samples lie between a slot and the one before it.
+// The same, from the newest back: few samples lie between a slot and the one before it. Where no sample is left, the other
+// slots are absent.
 fn slots_back(ring: &HeapCircularBuffer<Item>, zero: u32) -> [Option<i32>; LONG_SLOTS]
     requires rises { RisesFrom 0 ring.now.items }
     requires samples { All IsSample ring.now.items }
@@ -128,12 +129,18 @@ fn slots_back(ring: &HeapCircularBuffer<Item>, zero: u32) -> [Option<i32>; LONG_
 {
     let mut slots = [None; LONG_SLOTS];
     let mut first = first_of(ring, ring.len());
-    for done in 0..LONG_SLOTS {
-        let k = LONG_SLOTS - 1 - done;
-        let tick = u64::from(zero) + u64::from(SLOT_STEP) * k as u64;
-        let at = tick_before(tick, u64::from(SLOT_REACH));
-        first = first_up_to(ring, at, first);
-        slots[k] = slot_by_last(first.count, first.last, at);
+    let mut at = u64::from(zero);
+    let mut left = LONG_SLOTS;
+    while left > 0 {
+        left -= 1;
+        first = first_up_to(ring, at as i64, first);
+        let Some(latest) = first.last else {
+            return slots;
+        };
+        if is_recent(latest.moment, at as i64) {
+            slots[left] = latest.value;
+        }
+        at = at.saturating_sub(u64::from(SLOT_STEP));
     }
     slots
 }
