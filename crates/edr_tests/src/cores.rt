@@ -1,6 +1,6 @@
 use crate::dealt_sensors::fired_feeds;
 use edr_core::{Core, Step};
-use edr_items::Sensor;
+use edr_items::{Item, Sensor};
 use std::alloc::Global;
 use std::test::Fail;
 
@@ -51,5 +51,54 @@ fn sensors_come_in_either_order(rt: HostRuntime) -> Result<(), Fail> {
         let issued = issued(rt.alloc(), core)?;
         assert_eq!(rt; issued.as_slice(), commands.as_slice());
     }
+    Ok(())
+}
+
+// A core of which one tick is closed, at which nothing moved. The sensors beside the axes gave an item of the tick 900, and the
+// restraints a firing of the tick 500 before.
+fn at_rest(alloc: Global) -> Result<Core, Fail> {
+    let mut core = Core::open(alloc, 1)?;
+    core.accept(
+        Sensor::Restraint,
+        Item {
+            moment: 500,
+            value: Some(1),
+        },
+    )?;
+    for number in 3..=8 {
+        let sensor = Sensor::from_number(number).ok_or("a sensor")?;
+        core.accept(
+            sensor,
+            Item {
+                moment: 900,
+                value: None,
+            },
+        )?;
+    }
+    for sensor in [Sensor::Along, Sensor::Across] {
+        core.accept(
+            sensor,
+            Item {
+                moment: 1,
+                value: Some(0),
+            },
+        )?;
+    }
+    Ok(core)
+}
+
+#[test]
+fn still_ticks_are_passed_up_to_a_firing(rt: HostRuntime) -> Result<(), Fail> {
+    let mut core = at_rest(rt.alloc())?;
+    // No tick was searched yet.
+    assert!(rt; !core.pass_still());
+    assert!(rt; matches!(core.step(), Step::Closed { tick: 1, .. }));
+    for _ in 2..500 {
+        assert!(rt; core.pass_still());
+    }
+    assert!(rt; !core.pass_still());
+    assert_eq!(rt; core.closed(), 499);
+    // It took the samples of the axes up to there.
+    assert!(rt; matches!(core.step(), Step::Waiting { sensor: Sensor::Along }));
     Ok(())
 }
