@@ -67,6 +67,10 @@ refused-not q w asking zero none =
     ∙ ap (λ (v : Bool). cond {A = Option PartRefused} (not v) (Some (refused.Zero (w.past.closed + 1))) (cond {A = Option PartRefused} (is_some (part_in w.parts q.sensor (w.past.closed + 1))) (Some refused.Twice) None)) (ap (λ z. nat_eq z (w.past.closed + 1)) zero ∙ eqb_same (w.past.closed + 1))
     ∙ ap (λ (o : Option SensorPart). cond {A = Option PartRefused} (is_some o) (Some refused.Twice) None) none
 
+-- it is refused, if none is asked for
+pub refused-free : (q : SensorPart) (w : History) → w.asking ≡ false → part_refusal_of q w ≡ Some refused.NotAsked
+refused-free q w free = rw free refl
+
 -- it is refused, if it is of another time zero
 pub refused-zero : (q : SensorPart) (w : History) → w.asking ≡ true → q.zero ≢ w.past.closed + 1 → part_refusal_of q w ≡ Some (refused.Zero (w.past.closed + 1))
 refused-zero q w asking apart =

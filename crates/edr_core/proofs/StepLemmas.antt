@@ -266,6 +266,23 @@ lacks-due c w a s h is missing =
     ap (λ (o : Option Sensor). option_map_or Lacks o (Closes (w.past.closed + 1))) (sym missing ∙ missing-is w a.parts asked.parts)
     ∙ sym (due-asked w asked.asking)
 
+-- the key of the event that may come of it
+pub key-fits : (c : SplitContents) (w : History) (a : OpenAsk) → SplitCoreStandsFor c w → c.ask ≡ Some a → IsKey (record { cycle = c.cycle; zero = c.closed + 1 })
+key-fits c w a h is =
+    let low = horizon-least w.past.given Along in
+    let high = IsFeedAfter-within Along 0 w.past.given.along (omega arith) (feeds-of c w h Along) in
+    let within = within-merged c w h in
+    let closed : (merge_progress w).closed ≡ w.past.closed + 1 = ap (λ (p : Progress). p.closed) (merged-asking w (asked-is c w a h is).asking) in
+    let tick : c.closed + 1 ≡ w.past.closed + 1 = ap (λ t. t + 1) h.closed_is in
+    let cycle = h.cycle_is in let from = h.cycle_from in let to = h.cycle_to in
+    record {
+      cycle_from = omega (arith, cycle, from);
+      cycle_to = omega (arith, cycle, to);
+      zero_from = omega arith;
+      zero_to = omega (arith, low, high, within, closed, tick);
+    }
+
+-- all were taken
 module _ (c : SplitContents) (w : History) (h : SplitCoreStandsFor c w) (a : OpenAsk) (is : c.ask ≡ Some a) (all : AllParts) (all_is : a.parts ≡ in_places all) where
   asked_now : AskIs a w
   asked_now = asked-is c w a h is
@@ -280,21 +297,6 @@ module _ (c : SplitContents) (w : History) (h : SplitCoreStandsFor c w) (a : Ope
 
   tick-is : c.closed + 1 ≡ w.past.closed + 1
   tick-is = ap (λ t. t + 1) h.closed_is
-
-  pub key-fits : IsKey key
-  key-fits =
-      let low = horizon-least w.past.given Along in
-      let high = IsFeedAfter-within Along 0 w.past.given.along (omega arith) (feeds-of c w h Along) in
-      let within = within-merged c w h in
-      let closed : (merge_progress w).closed ≡ w.past.closed + 1 = ap (λ (p : Progress). p.closed) (merged-asking w asked_now.asking) in
-      let tick = tick-is in
-      let cycle = h.cycle_is in let from = h.cycle_from in let to = h.cycle_to in
-      record {
-        cycle_from = omega (arith, cycle, from);
-        cycle_to = omega (arith, cycle, to);
-        zero_from = omega arith;
-        zero_to = omega (arith, low, high, within, closed, tick);
-      }
 
   abbrev made : PrePart
   made = pre_of all key

@@ -1,6 +1,6 @@
 -- The parts that were taken, and the pre part of a time zero that they make.
 use Rattle.std.proofs.Common.{arith, refl, ap, sym, subst, ◌≡◌, ◌∙◌, ℕ, ◌+◌, ◌<◌, ◌≤◌, Bool, true, false, cond, ◌&&◌, nat_eq, Some, None, Option, List, [], ◌∷◌}
-use Rattle.std.specs.Prelude.{find, is_none, option_and_then, All}
+use Rattle.std.specs.Prelude.{find, is_none, option_and_then, IfSome, All}
 use Rattle.std.proofs.lemmas.Bool.{eqb-true}
 use Rattle.std.proofs.lemmas.List.Elements.{All-head, All-tail, All-weaker}
 use Rattle.edr_items.specs.declared.Sensor.{Sensor}
@@ -107,13 +107,17 @@ one-taken ps parts q z zero h = record {
       (λ s slow apart. h.each s slow ∙ sym (taken q parts z zero s false apart));
 }
 
+-- each stands in the place of its sensor
+pub of-sensors : (ps : TakenParts) (parts : List SensorPart) (z : ℕ) → PartsAre ps parts z → AreOfTheirSensors ps
+of-sensors ps parts z h = record { each = λ s slow. by_part s (slow_at s ps) (h.each s slow) } where
+  by_part : (s : Sensor) (o : Option SensorPart) → o ≡ part_in parts s z → IfSome o (λ q. q.sensor ≡ s)
+  by_part s None is = tt
+  by_part s (Some q) is = (part_in-is parts s z q (sym is)).0
+
 -- ---- all parts
 module _ (ps : TakenParts) (parts : List SensorPart) (z : ℕ) (a : AllParts) (h : PartsAre ps parts z) (all : ps ≡ in_places a) where
   in-parts : EachSlow (λ s. part_in parts s z ≡ Some (slow_at s a))
   in-parts s slow = sym (h.each s slow) ∙ ap (λ (x : TakenParts). slow_at s x) all ∙ slow_at-map Some s a
-
-  pub of-sensors : AreOfTheirSensors a
-  of-sensors = record { each = λ s slow. (part_in-is parts s z (slow_at s a) (in-parts s slow)).0 }
 
   slots-in : (slots : PartSlots) → AreSlotsOf parts slots → EachSlow (λ s. slots s z ≡ (slow_at s a).slots)
   slots-in slots are s slow = part_in-slots parts slots s z (slow_at s a) are (in-parts s slow)

@@ -1,5 +1,5 @@
 -- The parts of a time zero as they are taken, and the pre part that they make.
-use Rattle.std.specs.Prelude.{◌≡◌, ◌≢◌, ◌⊎◌, ℕ, ◌≤◌, IsSome, Option, Some, None, option_and_then}
+use Rattle.std.specs.Prelude.{◌≡◌, ◌≢◌, ◌⊎◌, ℕ, ◌≤◌, IsSome, IfSome, Option, Some, None, option_and_then}
 use Rattle.edr_items.specs.declared.TheConstants.{LATEST_MOMENT}
 use Rattle.edr_items.specs.declared.Sensor.{Sensor}
 use Rattle.edr_items.specs.declared.per_slow_sensor.PerSlowSensor.{PerSlowSensor}
@@ -12,7 +12,7 @@ use Rattle.edr_definitions.specs.Parts.{numbers, switch, switches}
 use Rattle.edr_capture.specs.SensorPart.{SensorPart}
 use Rattle.edr_core.specs.declared.ask.OpenAsk.{OpenAsk}
 use Rattle.edr_core.specs.declared.ask.PartRefused.{PartRefused}
-use Rattle.edr_core.specs.declared.ask.PartRefused.TheVariants.{Zero, Twice}
+use Rattle.edr_core.specs.declared.ask.PartRefused.TheVariants.{NotAsked, Zero, Twice}
 use Rattle.edr_core.specs.Parts.{first_slot}
 
 -- the parts that were taken, and all of them
@@ -49,13 +49,22 @@ abbrev pub IsWhyNotTaken : ℕ → SensorPart → OpenAsk → PartRefused → Ty
 IsWhyNotTaken asked q a e =
     (q.zero ≢ asked) × (e ≡ Zero asked) ⊎ (q.zero ≡ asked) × IsSome (part_at q.sensor a.parts) × (e ≡ Twice)
 
+-- the same of the place of an ask, which has to be open
+abbrev pub HasTakenThere : ℕ → SensorPart → Option OpenAsk → Option OpenAsk → Type 0
+HasTakenThere asked q old new =
+    (a b : OpenAsk) × (old ≡ Some a) × (new ≡ Some b) × HasTaken asked q a b
+
+abbrev pub IsWhyNotThere : ℕ → SensorPart → Option OpenAsk → PartRefused → Type 0
+IsWhyNotThere asked q None e = e ≡ NotAsked
+IsWhyNotThere asked q (Some a) e = IsWhyNotTaken asked q a e
+
 -- all were taken
 abbrev pub in_places : AllParts → TakenParts
 in_places a = map_slow_values Some a
 
--- each stands in its sensor's place
-pub record AreOfTheirSensors (a : AllParts) : Type 0 where
-  pub each : EachSlow (λ s. (slow_at s a).sensor ≡ s)
+-- each that was taken stands in its sensor's place
+pub record AreOfTheirSensors (ps : TakenParts) : Type 0 where
+  pub each : EachSlow (λ s. IfSome (slow_at s ps) (λ q. q.sensor ≡ s))
 
 -- the key of an event
 pub record IsKey (k : Key) : Type 0 where
@@ -76,3 +85,9 @@ pre_of a key = record {
   belt = switch (first_slot a.belt.slots);
   lamp = switch (first_slot a.lamp.slots);
 }
+
+-- all were taken, and make that pre part
+pub record AreMade (ps : TakenParts) (key : Key) (pre : PrePart) : Type 0 where
+  pub all : AllParts
+  pub all_is : ps ≡ in_places all
+  pub pre_is : pre ≡ pre_of all key

@@ -3,7 +3,7 @@
 ghost use Rattle.std.specs.Prelude.{◌≡◌, ◌↔◌, ◌+◌, ◌≤◌, ◌<◌, true, false, Some, None, is_some, IfOk, IfErr, IsOk, IsSome, IsTrue, OnOk, OnErr};
 ghost use Rattle.edr_definitions.specs.Schedule.{Give, IsAllowed};
 
-use crate::ask::{OpenAsk, PartRefused, pre_of};
+use crate::ask::{AskPlace, PartRefused, pre_of};
 use crate::candidate::{Candidate, Issued, TickRow, grow, issue, passes_by};
 use edr_capture::Part;
 use edr_detect::Detect;
@@ -57,7 +57,7 @@ pub enum SplitClosing {
 pub(crate) struct Events {
     detect: Detect,
     candidate: Option<Candidate>,
-    ask: Option<OpenAsk>,
+    ask: AskPlace,
 }
 
 /// The core of the recorder in one ignition cycle, but for the values of the slow sensors: of these it takes the moments of items,
@@ -103,7 +103,7 @@ impl SplitCore {
         let none = Events {
             detect: Detect::new(),
             candidate: None,
-            ask: None,
+            ask: AskPlace::closed(),
         };
         Ok(SplitCore {
             cycle,
@@ -239,7 +239,7 @@ impl SplitCore {
             .tick(row.along.unwrap_or(0), row.across.unwrap_or(0), row.fired);
         if change.zero {
             self.asking = true;
-            OpenAsk::open(&mut events.ask, row, change);
+            events.ask.open(row, change);
             return SplitClosing::Ask { zero: tick };
         }
         grow(&mut events.candidate, row);
@@ -267,21 +267,21 @@ impl SplitCore {
     {
         let tick = self.closed + 1;
         let events = &mut *self.events;
-        let Some(ask) = &events.ask else {
+        let Some(ask) = events.ask.get() else {
             unreachable!();
-        };
-        let parts = match ask.parts.all() {
-            Ok(parts) => parts,
-            Err(sensor) => return SplitClosing::Parts { sensor },
         };
         let key = Key {
             cycle: self.cycle,
             zero: tick,
         };
+        let pre = match pre_of(&ask.parts, key) {
+            Ok(pre) => pre,
+            Err(sensor) => return SplitClosing::Parts { sensor },
+        };
         let change = ask.change;
-        events.candidate = Some(Candidate::begin(pre_of(&parts, key), ask.row));
+        events.candidate = Some(Candidate::begin(pre, ask.row));
         self.asking = false;
-        events.ask = None;
+        events.ask.close();
         self.closed = tick;
         issue(&mut events.candidate, &mut self.link, tick, change, issued);
         SplitClosing::Closed { tick, issues: true }
@@ -297,10 +297,7 @@ impl SplitCore {
         ensures why { (h : History) → SplitCoreStandsFor self.old h → IfErr result (λ e. part_refusal_of part h ≡ Some e) }
     {
         let asked = self.closed + 1;
-        let Some(ask) = &mut self.events.ask else {
-            return Err(PartRefused::NotAsked);
-        };
-        ask.take(asked, part)?;
+        self.events.ask.take(asked, part)?;
         Ok(())
     }
 

@@ -98,7 +98,7 @@ invariant_of-self-then-change c =
       stands = ask-opens (contents_with c.self.inside c.deref_mut-events.result.now) w h (asks-not (contents_with c.self.inside c.deref_mut-events.result.now) w h none) c.in-Row.tick c.in-Row.along c.in-Row.across c.in-Row.fired (c.in-Row.ensures.answer w.past merge) ((c.in-Row.ensures.allowed w.past merge).0 tt)
           c.tick-change.result c.tick-change.new.self (to_z w32 (of_z w32 c.unwrap_or.result)) (to_z w32 (of_z w32 c.unwrap_or-2.result))
           (to_z-of_z w32 c.unwrap_or.result along_fits ∙ c.unwrap_or.ensures) (to_z-of_z w32 c.unwrap_or-2.result across_fits ∙ c.unwrap_or-2.ensures) c.tick-change.ensures.stands c.tick-change.ensures.answer
-          c.next.new.self (c.in-Row.ensures.stands w.past merge) c.if-change.true c.open.new.ask c.open.ensures;
+          c.next.new.self (c.in-Row.ensures.stands w.past merge) c.if-change.true c.open.new.self c.open.ensures;
       asking_is = sym (ap (λ (a : Option OpenAsk). is_some a) c.open.ensures);
     }
 
@@ -112,7 +112,7 @@ returns-then-change-clause-stands c = λ w before.
     ask-opens (contents_with c.self.inside c.deref_mut-events.result.now) w h (asks-not (contents_with c.self.inside c.deref_mut-events.result.now) w h none) c.in-Row.tick c.in-Row.along c.in-Row.across c.in-Row.fired (c.in-Row.ensures.answer w.past merge) ((c.in-Row.ensures.allowed w.past merge).0 tt)
     c.tick-change.result c.tick-change.new.self (to_z w32 (of_z w32 c.unwrap_or.result)) (to_z w32 (of_z w32 c.unwrap_or-2.result))
     (to_z-of_z w32 c.unwrap_or.result along_fits ∙ c.unwrap_or.ensures) (to_z-of_z w32 c.unwrap_or-2.result across_fits ∙ c.unwrap_or-2.ensures) c.tick-change.ensures.stands c.tick-change.ensures.answer
-    c.next.new.self (c.in-Row.ensures.stands w.past merge) c.if-change.true c.open.new.ask c.open.ensures
+    c.next.new.self (c.in-Row.ensures.stands w.past merge) c.if-change.true c.open.new.self c.open.ensures
 
 pub returns-then-change-clause-answer : goal.returns-then-change-clause-answer
 returns-then-change-clause-answer c = λ w before.
