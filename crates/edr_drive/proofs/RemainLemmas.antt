@@ -29,7 +29,7 @@ use Rattle.edr_loops.specs.Lanes.{AreTakenParts, FastBegin, PartInlets, fast_tak
 use Rattle.edr_loops.specs.SlowSenders.{AreParts, IsPartOfBeginning}
 use Rattle.edr_loops.specs.Recorders.{DeskStands}
 use Rattle.edr_loops.proofs.FastLemmas.{none-in, parts_of-fast, parts_of-slow}
-use Rattle.edr_seats.specs.PartInlet.{parts_taken}
+use Rattle.edr_seats.specs.Rings.{items_taken}
 
 -- ---- the parts
 in-list : (s : Sensor) (xs : List Item) (ps : List SensorPart) (q : SensorPart) → IsFeed s xs → AreParts s xs ps → Contains ps q → part_slots s xs q.zero ≡ q.slots
@@ -43,8 +43,8 @@ part-whole f i q feeds are taken = by (slow-or-not q.sensor) where
   by : IsSlow q.sensor ⊎ (¬ IsSlow q.sensor) → parts_of f q.sensor q.zero ≡ q.slots
   by (inl slow) =
       let s = q.sensor in
-      let own = parts_of-slow s (slow_taken i) slow ∙ slow_at-map parts_taken s i in
-      in-list s (items_of s f) (parts_taken (slow_at s i)) q (feeds s) (are s slow) (subst (λ (ps : List SensorPart). Contains ps q) own taken)
+      let own = parts_of-slow s (slow_taken i) slow ∙ slow_at-map items_taken s i in
+      in-list s (items_of s f) (items_taken (slow_at s i)) q (feeds s) (are s slow) (subst (λ (ps : List SensorPart). Contains ps q) own taken)
   by (inr fast) = absurd (none-in q (subst (λ (ps : List SensorPart). Contains ps q) (parts_of-fast q.sensor (slow_taken i) fast) taken))
 
 parts-whole : (f : SensorLists) (i : PartInlets) (parts : List SensorPart) → AreFeeds f → AreTakenParts f i → All (IsTakenPart (slow_taken i)) parts → AreSlotsOf parts (parts_of f)

@@ -9,23 +9,23 @@ use Rattle.edr_cycle.specs.Rest.{issues_past}
 use Rattle.edr_cycle.proofs.RunStepLemmas.{between-whole}
 use Rattle.edr_loops.specs.Lanes.{FastInlets}
 use Rattle.edr_loops.specs.declared.orders.Order.{Order}
-use Rattle.edr_loops.specs.declared.orders.Outbox.{Outbox}
+use Rattle.edr_seats.specs.Rings.{items_sent}
+use Rattle.edr_loops.specs.Orders.{Outbox, issue_of, issues_of}
 use Rattle.edr_loops.specs.declared.recorder.Desk.{Desk}
 use Rattle.edr_loops.specs.UnsentOrders.{issues_held, issues_out}
-use Rattle.edr_loops.specs.Orders.{issue_of, issues_of, orders_sent}
 use Rattle.edr_loops.specs.Lanes.{PartInlets, fast_taken, slow_taken}
 use Rattle.edr_loops.specs.Recorders.{DeskStands}
 use Rattle.edr_loops.proofs.CloseLemmas.{stands-sent}
 use Rattle.edr_loops.proofs.RecorderLemmas.{stands-none, stands-unfast}
 
 -- the ends of the rings may have learnt more
-pub stands-settled : (n e : ℕ) (d : Desk) (fast : FastInlets) (parts : PartInlets) (o : Outbox) → fast_taken fast ≡ fast_taken d.fast → slow_taken parts ≡ slow_taken d.parts → orders_sent o ≡ orders_sent d.outbox
+pub stands-settled : (n e : ℕ) (d : Desk) (fast : FastInlets) (parts : PartInlets) (o : Outbox) → fast_taken fast ≡ fast_taken d.fast → slow_taken parts ≡ slow_taken d.parts → items_sent o ≡ items_sent d.outbox
     → DeskStands n e d → DeskStands n e (record d { fast = fast; parts = parts; outbox = o })
 stands-settled n e d fast parts o items slots sent s =
     stands-sent n e (record d { fast = fast; parts = parts }) o d.held (ap (λ os. issues_of os ++ issues_held d.held) sent)
     (stands-none n e (record d { fast = fast }) parts slots (stands-unfast n e d fast items s))
 
-module _ (f : SensorLists) (n : ℕ) (d : Desk) (within : d.core.closed ≤ horizon_of f) (out : issues f n d.core.closed ≡ issues_out d.outbox d.held) (taken known : List Order) (all : taken ++ known ≡ orders_sent d.outbox) where
+module _ (f : SensorLists) (n : ℕ) (d : Desk) (within : d.core.closed ≤ horizon_of f) (out : issues f n d.core.closed ≡ issues_out d.outbox d.held) (taken known : List Order) (all : taken ++ known ≡ items_sent d.outbox) where
   issued : issues f n d.core.closed ≡ issues_of taken ++ (issues_of known ++ issues_held d.held)
   issued = out ∙ ap (λ os. issues_of os ++ issues_held d.held) (sym all)
       ∙ ap (λ xs. xs ++ issues_held d.held) (map-append issue_of taken known) ∙ append_assoc (issues_of taken) (issues_of known) (issues_held d.held)

@@ -4,8 +4,8 @@ use Rattle.edr_items.specs.SensorLists.{SensorLists}
 use Rattle.edr_core.specs.Captures.{no_captures}
 use Rattle.edr_core.specs.SplitHistory.{start_of}
 use Rattle.edr_core.specs.SplitStandsFor.{SplitCoreStandsFor}
-use Rattle.edr_loops.specs.declared.orders.Inbox.{Inbox}
-use Rattle.edr_loops.specs.Orders.{AreEndsOfOrders, orders_sent, orders_taken}
+use Rattle.edr_seats.specs.Rings.{AreOfOneRing, IsFreshRing, items_taken}
+use Rattle.edr_loops.specs.Orders.{Inbox}
 use Rattle.edr_board.specs.FreezeSeats.{IsFreshAsker, freeze_of_asker}
 use Rattle.edr_board.specs.Seats.{closed_posted, gate_posted}
 use Rattle.edr_loops.specs.declared.per_fast_sensor.PerFastSensor.{PerFastSensor}
@@ -49,9 +49,7 @@ pub record AreFreshCoreAndCaptures (n : ℕ) (c : CoreAndCaptures) : Type 0 wher
 -- rings, orders and seats that are fresh
 pub record AreFreshEnds (c : SharedEnds) : Type 0 where
   pub rings : AreFreshRings c.rings
-  pub pair : AreEndsOfOrders c.orders.outbox c.orders.inbox
-  pub sent : orders_sent c.orders.outbox ≡ []
-  pub taken : orders_taken c.orders.inbox ≡ []
+  pub orders_are : IsFreshRing c.orders.outbox c.orders.inbox
   pub seats : HaveNotPosted c.seats
 
 -- a desk of cycle n to which nothing was given, at one end of each ring, and the senders and the inbox at the other
@@ -61,6 +59,6 @@ pub record IsBeginning (n : ℕ) (r : WorkersAndRecorder) (inbox : Inbox) : Type
   pub lanes : AreFastLanes r.senders.fast r.desk.fast
   pub part_lanes : ArePartLanes r.senders.slow r.desk.parts
   pub begun : (f : SensorLists) → HaveBegun f r.senders
-  pub pair : AreEndsOfOrders r.desk.outbox inbox
-  pub fresh : orders_taken inbox ≡ []
+  pub pair : AreOfOneRing r.desk.outbox inbox
+  pub fresh : items_taken inbox ≡ []
   pub captures : r.captures ≡ no_captures

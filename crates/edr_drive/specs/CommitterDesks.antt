@@ -8,7 +8,7 @@ use Rattle.edr_cycle.specs.Begun.{Begun, room_for}
 use Rattle.edr_cycle.specs.Commits.{CommitsOn}
 use Rattle.edr_cycle.specs.declared.ledger.Ledger as ledger
 use Rattle.edr_cycle.specs.declared.ledger.Books.{Books}
-use Rattle.edr_loops.specs.Orders.{SameInbox, orders_known, orders_taken}
+use Rattle.edr_seats.specs.Rings.{SameReceiver, items_known, items_taken}
 use Rattle.edr_drive.specs.declared.committer.CommitterDesk.{CommitterDesk}
 use Rattle.edr_drive.specs.Left.{issues_taken}
 
@@ -30,18 +30,18 @@ pub record CanCommit {L : Type 0} (l : ledger.Ghosts L) (size : ℕ) (c : Commit
 -- it can commit, and took no order yet
 pub record AwaitsOrders {L : Type 0} (l : ledger.Ghosts L) (size : ℕ) (c : CommitterDesk L) : Type 0 where
   pub can : CanCommit l size c
-  pub fresh : orders_taken c.inbox ≡ []
+  pub fresh : items_taken c.inbox ≡ []
 
 -- it is at the same ring and the same board
 pub record SamePosts {L : Type 0} (a b : CommitterDesk L) : Type 0 where
-  pub ring : SameInbox a.inbox b.inbox
+  pub ring : SameReceiver a.inbox b.inbox
   pub watch : board_of_watch b.watch ≡ board_of_watch a.watch
   pub seat : board_of_committer b.seat ≡ board_of_committer a.seat
 
 -- it has read that the horizon is closed, and then knew of no order in the ring, or had no room in its log
 pub record HasNoOrder {L : Type 0} (l : ledger.Ghosts L) (horizon : ℕ) (c : CommitterDesk L) : Type 0 where
   pub closed : horizon ≤ (status_seen c.watch).closed
-  pub none : ((l.log c.ledger).spare ≡ 0) ⊎ (orders_known c.inbox ≡ [])
+  pub none : ((l.log c.ledger).spare ≡ 0) ⊎ (items_known c.inbox ≡ [])
 
 -- these are committed to a ledger, up to a command that failed
 abbrev pub CommitsTo : {L D T E : Type 0} → ledger.Ghosts L → Ghosts D → List Issue → Result T E → L → L → D → D → Type 0

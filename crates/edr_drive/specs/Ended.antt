@@ -2,8 +2,8 @@
 use Rattle.std.specs.Prelude.{◌≡◌, ℕ}
 use Rattle.edr_items.specs.SensorLists.{SensorLists, horizon_of}
 use Rattle.edr_core.specs.Captures.{no_captures}
-use Rattle.edr_loops.specs.declared.orders.Inbox.{Inbox}
-use Rattle.edr_loops.specs.Orders.{AreEndsOfOrders}
+use Rattle.edr_seats.specs.Rings.{AreOfOneRing}
+use Rattle.edr_loops.specs.Orders.{Inbox}
 use Rattle.edr_loops.specs.Lanes.{AreFastLanes, ArePartLanes}
 use Rattle.edr_loops.specs.Recorders.{DeskStands}
 use Rattle.edr_drive.specs.declared.driving.Ended.{Ended}
@@ -15,5 +15,5 @@ pub record IsEnded (f : SensorLists) (n : ℕ) (e : Ended) (inbox : Inbox) : Typ
   pub lanes : AreFastLanes e.senders.fast e.desk.fast
   pub part_lanes : ArePartLanes e.senders.slow e.desk.parts
   pub begun : HaveBegun f e.senders
-  pub pair : AreEndsOfOrders e.desk.outbox inbox
+  pub pair : AreOfOneRing e.desk.outbox inbox
   pub captures : e.captures ≡ no_captures

@@ -3,16 +3,16 @@ use Rattle.std.specs.Prelude.{◌≡◌, ◌++◌, ℕ, List}
 use Rattle.edr_items.specs.SensorLists.{SensorLists, horizon_of}
 use Rattle.edr_definitions.specs.Commands.{Issue, issues}
 use Rattle.edr_cycle.specs.Rest.{issues_past}
-use Rattle.edr_loops.specs.declared.orders.Inbox.{Inbox}
+use Rattle.edr_seats.specs.Rings.{items_known, items_taken}
+use Rattle.edr_loops.specs.Orders.{Inbox, issues_of}
 use Rattle.edr_loops.specs.declared.recorder.Desk.{Desk}
 use Rattle.edr_loops.specs.Recorders.{DeskStands}
 use Rattle.edr_loops.specs.UnsentOrders.{issues_held, issues_out}
 use Rattle.edr_loops.specs.Lanes.{AreTakenParts, FastBegin}
-use Rattle.edr_loops.specs.Orders.{issues_of, orders_known, orders_taken}
 
 -- what the committer took
 abbrev pub issues_taken : Inbox → List Issue
-issues_taken inbox = issues_of (orders_taken inbox)
+issues_taken inbox = issues_of (items_taken inbox)
 
 -- what the recorder holds, and what the cycle issues past the closed tick
 abbrev pub issues_after : SensorLists → Desk → List Issue
@@ -20,7 +20,7 @@ issues_after f desk = issues_held desk.held ++ issues_past f desk.core.cycle des
 
 -- the orders in the ring, those that the recorder holds, and what the cycle issues past the closed tick
 abbrev pub issues_left : SensorLists → Inbox → Desk → List Issue
-issues_left f inbox desk = issues_of (orders_known inbox) ++ issues_after f desk
+issues_left f inbox desk = issues_of (items_known inbox) ++ issues_after f desk
 
 -- what the recorder sent, and then what it holds, is what the cycle issues up to the closed tick
 abbrev pub HasIssued : SensorLists → Desk → Type 0

@@ -22,10 +22,10 @@ use Rattle.edr_board.specs.Seats.{board_of_recorder, board_of_watch}
 use Rattle.edr_board.specs.declared.seats.RecorderSeat.{RecorderSeat}
 use Rattle.edr_board.specs.declared.seats.Watch.{Watch}
 use Rattle.edr_loops.specs.declared.unsent_orders.UnsentOrders.{UnsentOrders}
-use Rattle.edr_loops.specs.declared.orders.Outbox.{Outbox}
+use Rattle.edr_seats.specs.Rings.{items_sent}
+use Rattle.edr_loops.specs.Orders.{Outbox, issues_of}
 use Rattle.edr_loops.specs.declared.recorder.Desk.{Desk}
 use Rattle.edr_loops.specs.UnsentOrders.{issues_held, issues_out}
-use Rattle.edr_loops.specs.Orders.{issues_of, orders_sent}
 use Rattle.edr_loops.specs.Recorders.{HaveMarks, IsAskerSettled, Later, DeskStands, zero_of}
 use Rattle.edr_loops.proofs.FastLemmas.{all-reached}
 use Rattle.edr_loops.proofs.LaterLemmas.{later-by}
@@ -190,9 +190,9 @@ module _ (n e : ℕ) (d : Desk) (c : SplitContents) (a : Asker) (k : UnsentOrder
           within = within;
           parts_are = t.parts_are;
           issues_are = λ slots are.
-              let sent : issues_of (orders_sent d.outbox) ≡ issues_with slots g.past.given n g.past.closed =
-              sym (append-nil (issues_of (orders_sent d.outbox))) ∙ ap (λ (xs : List Issue). issues_of (orders_sent d.outbox) ++ xs) (sym none) ∙ t.issues_are slots are in
-              ap (λ (xs : List Issue). issues_of (orders_sent d.outbox) ++ xs) held ∙ ap (λ (xs : List Issue). xs ++ cs) sent ∙ sym (adds slots are);
+              let sent : issues_of (items_sent d.outbox) ≡ issues_with slots g.past.given n g.past.closed =
+              sym (append-nil (issues_of (items_sent d.outbox))) ∙ ap (λ (xs : List Issue). issues_of (items_sent d.outbox) ++ xs) (sym none) ∙ t.issues_are slots are in
+              ap (λ (xs : List Issue). issues_of (items_sent d.outbox) ++ xs) held ∙ ap (λ (xs : List Issue). xs ++ cs) sent ∙ sym (adds slots are);
           taken_are = t.taken_are;
         };
         last_is = s.last_is;

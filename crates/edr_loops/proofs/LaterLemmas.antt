@@ -3,62 +3,40 @@ use Rattle.std.proofs.Common.{arith, ◌≡◌, ◌∙◌, ◌≤◌, ℕ, max, 
 use Rattle.edr_board.specs.Seats.{board_of_recorder, board_of_watch}
 use Rattle.edr_board.specs.FreezeSeats.{freeze_of_asker}
 use Rattle.edr_items.specs.PerSlowSensor.{slow_at}
-use Rattle.edr_seats.specs.declared.part_inlet.PartInlet.{PartInlet}
-use Rattle.edr_seats.specs.PartInlet.{SamePartInlet}
+use Rattle.edr_seats.specs.Rings.{SameSender}
+use Rattle.edr_seats.proofs.RingLemmas.{receiver-again, receiver-self, sender-again, sender-self}
 use Rattle.edr_core.specs.SplitContents.{SplitContents}
-use Rattle.edr_loops.specs.Lanes.{FastInlets}
 use Rattle.edr_loops.specs.declared.per_fast_sensor.PerFastSensor.{PerFastSensor}
 use Rattle.edr_loops.specs.declared.unsent_orders.UnsentOrders.{UnsentOrders}
-use Rattle.edr_loops.specs.declared.orders.Outbox.{Outbox}
-use Rattle.edr_loops.specs.declared.buffered_inlet.BufferedInlet.{BufferedInlet}
+use Rattle.edr_loops.specs.Orders.{Outbox}
 use Rattle.edr_loops.specs.declared.recorder.Desk.{Desk}
-use Rattle.edr_loops.specs.Lanes.{PartInlets, SameFastInlets, SamePartInlets}
-use Rattle.edr_loops.specs.Orders.{SameOutbox}
-use Rattle.edr_loops.specs.BufferedInlets.{SameBuffered}
+use Rattle.edr_loops.specs.Lanes.{FastInlets, PartInlets, SameFastInlets, SamePartInlets}
 use Rattle.edr_loops.specs.Recorders.{IsRecording, Later, LaterUpTo, SameDesk, DeskStands}
 
 -- ---- the same rings
-inlet-self : (a : BufferedInlet) → SameBuffered a a
-inlet-self a = search
-
-inlet-again : (a b c : BufferedInlet) → SameBuffered a b → SameBuffered b c → SameBuffered a c
-inlet-again a b c h k = ((k.0.0 ∙ h.0.0, k.0.1 ∙ h.0.1, k.0.2 ∙ h.0.2, k.0.3 ∙ h.0.3), k.1 ∙ h.1)
-
-outbox-self : (a : Outbox) → SameOutbox a a
-outbox-self a = search
-
-outbox-again : (a b c : Outbox) → SameOutbox a b → SameOutbox b c → SameOutbox a c
-outbox-again a b c h k = ((k.0.0 ∙ h.0.0, k.0.1 ∙ h.0.1, k.0.2 ∙ h.0.2, k.0.3 ∙ h.0.3), k.1 ∙ h.1)
-
 pub fast-self : (a : FastInlets) → SameFastInlets a a
-fast-self a = record { along = inlet-self a.along; across = inlet-self a.across; restraint = inlet-self a.restraint }
+fast-self a = record { along = receiver-self a.along.inlet; across = receiver-self a.across.inlet; restraint = receiver-self a.restraint.inlet }
 
 fast-again : (a b c : FastInlets) → SameFastInlets a b → SameFastInlets b c → SameFastInlets a c
-fast-again a b c h k = record { along = inlet-again a.along b.along c.along h.along k.along; across = inlet-again a.across b.across c.across h.across k.across; restraint = inlet-again a.restraint b.restraint c.restraint h.restraint k.restraint }
-
-part-self : (a : PartInlet) → SamePartInlet a a
-part-self a = search
-
-part-again : (a b c : PartInlet) → SamePartInlet a b → SamePartInlet b c → SamePartInlet a c
-part-again a b c h k = ((k.0.0 ∙ h.0.0, k.0.1 ∙ h.0.1, k.0.2 ∙ h.0.2, k.0.3 ∙ h.0.3), k.1 ∙ h.1)
+fast-again a b c h k = record { along = receiver-again a.along.inlet b.along.inlet c.along.inlet h.along k.along; across = receiver-again a.across.inlet b.across.inlet c.across.inlet h.across k.across; restraint = receiver-again a.restraint.inlet b.restraint.inlet c.restraint.inlet h.restraint k.restraint }
 
 pub parts-self : (a : PartInlets) → SamePartInlets a a
-parts-self a = λ s slow. part-self (slow_at s a)
+parts-self a = λ s slow. receiver-self (slow_at s a)
 
 parts-again : (a b c : PartInlets) → SamePartInlets a b → SamePartInlets b c → SamePartInlets a c
-parts-again a b c h k = λ s slow. part-again (slow_at s a) (slow_at s b) (slow_at s c) (h s slow) (k s slow)
+parts-again a b c h k = λ s slow. receiver-again (slow_at s a) (slow_at s b) (slow_at s c) (h s slow) (k s slow)
 
 -- ---- the same desk
 pub desk-self : (a : Desk) → SameDesk a a
-desk-self a = record { fast = fast-self a.fast; parts = parts-self a.parts; outbox = outbox-self a.outbox; freeze = refl; recorder = refl; watch = refl }
+desk-self a = record { fast = fast-self a.fast; parts = parts-self a.parts; outbox = sender-self a.outbox; freeze = refl; recorder = refl; watch = refl }
 
 pub same-taken : (d : Desk) (c : SplitContents) (i : FastInlets) (m : PerFastSensor ℕ) → SameFastInlets d.fast i → SameDesk d (record d { core = c; fast = i; last = m })
-same-taken d c i m rings = record { fast = rings; parts = parts-self d.parts; outbox = outbox-self d.outbox; freeze = refl; recorder = refl; watch = refl }
+same-taken d c i m rings = record { fast = rings; parts = parts-self d.parts; outbox = sender-self d.outbox; freeze = refl; recorder = refl; watch = refl }
 
 pub same-taken_part : (d : Desk) (c : SplitContents) (i : PartInlets) → SamePartInlets d.parts i → SameDesk d (record d { core = c; parts = i })
-same-taken_part d c i rings = record { fast = fast-self d.fast; parts = rings; outbox = outbox-self d.outbox; freeze = refl; recorder = refl; watch = refl }
+same-taken_part d c i rings = record { fast = fast-self d.fast; parts = rings; outbox = sender-self d.outbox; freeze = refl; recorder = refl; watch = refl }
 
-pub same-sent : (d : Desk) (o : Outbox) (k : UnsentOrders) → SameOutbox d.outbox o → SameDesk d (record d { outbox = o; held = k })
+pub same-sent : (d : Desk) (o : Outbox) (k : UnsentOrders) → SameSender d.outbox o → SameDesk d (record d { outbox = o; held = k })
 same-sent d o k ring = record { fast = fast-self d.fast; parts = parts-self d.parts; outbox = ring; freeze = refl; recorder = refl; watch = refl }
 
 pub later-self : (a : Desk) → Later a a
@@ -70,7 +48,7 @@ later-again t u v a b c first second h k = record {
   same = record {
     fast = fast-again a.fast b.fast c.fast h.same.fast k.same.fast;
     parts = parts-again a.parts b.parts c.parts h.same.parts k.same.parts;
-    outbox = outbox-again a.outbox b.outbox c.outbox h.same.outbox k.same.outbox;
+    outbox = sender-again a.outbox b.outbox c.outbox h.same.outbox k.same.outbox;
     freeze = k.same.freeze ∙ h.same.freeze;
     recorder = k.same.recorder ∙ h.same.recorder;
     watch = k.same.watch ∙ h.same.watch;
@@ -108,7 +86,7 @@ later-by t a b fast parts outbox freeze recorder watch stands = record {
   same = record {
     fast = subst (λ (i : FastInlets). SameFastInlets a.fast i) (sym fast) (fast-self a.fast);
     parts = subst (λ (i : PartInlets). SamePartInlets a.parts i) (sym parts) (parts-self a.parts);
-    outbox = subst (λ (o : Outbox). SameOutbox a.outbox o) (sym outbox) (outbox-self a.outbox);
+    outbox = subst (λ (o : Outbox). SameSender a.outbox o) (sym outbox) (sender-self a.outbox);
     freeze = freeze;
     recorder = recorder;
     watch = watch;

@@ -12,7 +12,8 @@ use Rattle.edr_seats.specs.declared.seat.Seat.{Seat}
 use Rattle.edr_seats.specs.declared.slow_seat.SlowRefused.{SlowRefused}
 use Rattle.edr_seats.specs.declared.slow_seat.SlowRefused.TheVariants as slow_refused
 use Rattle.edr_seats.specs.Offer.{Explains}
-use Rattle.edr_seats.specs.Slow.{ExplainsSlow, grant_known, parts_sent}
+use Rattle.edr_seats.specs.Rings.{items_sent}
+use Rattle.edr_seats.specs.Slow.{ExplainsSlow, grant_known}
 use Rattle.edr_seats.specs.SlowContents.{SlowContents}
 use Rattle.edr_loops.specs.declared.fast_sender.Offered.{Offered}
 use Rattle.edr_loops.specs.declared.fast_sender.Offered.TheVariants.{Sent, Full, Over}
@@ -49,14 +50,14 @@ pub one-longer : {A : Type 0} (xs ys : List A) (x : A) → ys ≡ xs ++ x ∷ []
 one-longer xs ys x more = let long = ap length more in let last = length_push xs x in omega (arith, long, last)
 
 -- what came of a slow sensor's offers, and then of a look at what is asked
-pub came-slow : (s : Sensor) (xs : List Item) (a m b : SlowSender) (kept sent : Offered) → a.next ≤ m.next → parts_sent m.seat ≡ parts_sent a.seat → b.next ≡ m.next → grant_known b.seat ≡ grant_known m.seat
+pub came-slow : (s : Sensor) (xs : List Item) (a m b : SlowSender) (kept sent : Offered) → a.next ≤ m.next → items_sent m.seat.sender ≡ items_sent a.seat.sender → b.next ≡ m.next → grant_known b.seat ≡ grant_known m.seat
     → CameOfKept s xs a m kept → CameOfPart m b sent → CameOfSlow s xs a b (came_of_both kept sent)
 came-slow s xs a m b Sent sent on same next granted k p = inl (omega (arith, k, next))
-came-slow s xs a m b Full Sent on same next granted k p = inr (subst (λ ps. length ps < length (parts_sent b.seat)) same p)
+came-slow s xs a m b Full Sent on same next granted k p = inr (subst (λ ps. length ps < length (items_sent b.seat.sender)) same p)
 came-slow s xs a m b Full Full on same next granted k p = (next ∙ k.0, p.0 ∙ same, inr p.1)
 came-slow s xs a m b Full Over on same next granted k p = (next ∙ k.0, p.0 ∙ same, inl (ungranted-later xs m b next granted k.1)) where
   ungranted-later : (xs : List Item) (m b : SlowSender) → b.next ≡ m.next → grant_known b.seat ≡ grant_known m.seat → IsUngranted xs m → IsUngranted xs b
   ungranted-later xs m b next granted u = (u.0, subst (λ n. take (n + 1) xs ≡ take n xs ++ u.0 ∷ []) (sym next) u.1, omega (arith, granted, u.2))
-came-slow s xs a m b Over Sent on same next granted k p = inr (subst (λ ps. length ps < length (parts_sent b.seat)) same p)
+came-slow s xs a m b Over Sent on same next granted k p = inr (subst (λ ps. length ps < length (items_sent b.seat.sender)) same p)
 came-slow s xs a m b Over Full on same next granted k p = (next ∙ k.0, p.0 ∙ same, inr p.1)
 came-slow s xs a m b Over Over on same next granted k p = (next ∙ k.0, p.0 ∙ same, (λ fed. let all = k.1 fed in omega (arith, next, all)), p.1)

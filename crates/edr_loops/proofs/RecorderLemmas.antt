@@ -31,7 +31,8 @@ use Rattle.edr_loops.specs.FastInlets.{AreFastFeeds, HaveFast, fast_marks_of, wi
 use Rattle.edr_loops.specs.PerFastSensor.{sensor_of, with_fast_value}
 use Rattle.edr_loops.specs.Lanes.{FastItems, PartInlets, SlowParts, fast_taken, slow_taken}
 use Rattle.edr_loops.specs.UnsentOrders.{issues_held}
-use Rattle.edr_loops.specs.Orders.{issues_of, orders_sent}
+use Rattle.edr_seats.specs.Rings.{items_sent}
+use Rattle.edr_loops.specs.Orders.{issues_of}
 use Rattle.edr_loops.specs.PartInlets.{IsTakenPart, with_part}
 use Rattle.edr_loops.specs.Recorders.{IsFreshDesk, HaveMarks, CoreWasTold, DeskStands}
 use Rattle.edr_loops.proofs.FastLemmas.{all-taken, fast-beside, fast-front, fast-marks-with, fast-next, have-list, have-with, is-taken, mark-is, marks-beside, marks-same, marks-with_item}
@@ -347,7 +348,7 @@ stands-begins n e d b last granted free held =
         };
         within = omega arith;
         parts_are = All-nil (IsTakenPart (slow_taken d.parts));
-        issues_are = λ slots are. ap (λ (xs : List Issue). issues_of (orders_sent d.outbox) ++ xs) held ∙ ap (λ os. issues_of os ++ []) b.sent_is ∙ sym (ap (map (issue_with slots)) (nothing-issued n));
+        issues_are = λ slots are. ap (λ (xs : List Issue). issues_of (items_sent d.outbox) ++ xs) held ∙ ap (λ os. issues_of os ++ []) b.sent_is ∙ sym (ap (map (issue_with slots)) (nothing-issued n));
         taken_are = λ feeds. subst (λ (l : FastItems). HaveFast l no_items) (sym b.fast_is) (record { along = refl; across = refl; restraint = refl });
       };
       last_is = last ∙ ap fast_marks_of (sym b.fast_is);

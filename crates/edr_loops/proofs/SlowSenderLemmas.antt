@@ -7,7 +7,8 @@ use Rattle.edr_items.specs.declared.Item.{Item}
 use Rattle.edr_items.specs.PerSlowSensor.{slow_at}
 use Rattle.edr_items.specs.SensorLists.{SensorLists, items_of}
 use Rattle.edr_capture.specs.SensorPart.{SensorPart, part}
-use Rattle.edr_seats.specs.Slow.{SameSlowSeat, SlowSeatIsFor, mark_kept, parts_sent, sensor_of_slow}
+use Rattle.edr_seats.specs.Rings.{items_sent}
+use Rattle.edr_seats.specs.Slow.{SameSlowSeat, SlowSeatIsFor, mark_kept, sensor_of_slow}
 use Rattle.edr_loops.specs.declared.slow_sender.SlowSender.{SlowSender}
 use Rattle.edr_loops.specs.declared.worker.SlowSenders.{SlowSenders}
 use Rattle.edr_loops.specs.SlowSenders.{AreParts, IsKeeping, IsSlowSender, IsPartOfBeginning, KeepsOn}
@@ -18,9 +19,9 @@ pub keeping-item : (s : Sensor) (xs : List Item) (x : Item) (a b : SlowSender) �
     → ((kept : List Item) (parts : List SensorPart) → SlowSeatIsFor a.seat kept parts → SlowSeatIsFor b.seat (kept ++ x ∷ []) parts)
     → IsKeeping s xs a → IsKeeping s xs b
 keeping-item s xs x a b same more keeps h =
-    let k = keeps (take a.next xs) (parts_sent a.seat) h.stands in record {
+    let k = keeps (take a.next xs) (items_sent a.seat.sender) h.stands in record {
       sensor = same.sensor ∙ h.sensor;
-      stands = subst (λ ys. SlowSeatIsFor b.seat ys (parts_sent b.seat)) (sym more) (subst (λ ps. SlowSeatIsFor b.seat (take a.next xs ++ x ∷ []) ps) (sym k.parts_are) k);
+      stands = subst (λ ys. SlowSeatIsFor b.seat ys (items_sent b.seat.sender)) (sym more) (subst (λ ps. SlowSeatIsFor b.seat (take a.next xs ++ x ∷ []) ps) (sym k.parts_are) k);
       parts = subst (All (IsPartOfBeginning s xs)) (sym k.parts_are) h.parts;
     }
 
@@ -29,15 +30,15 @@ pub keeping-part : (s : Sensor) (xs : List Item) (z : ℕ) (a b : SlowSender) �
     → ((kept : List Item) (parts : List SensorPart) → SlowSeatIsFor a.seat kept parts → SlowSeatIsFor b.seat kept (parts ++ part (sensor_of_slow a.seat) kept z ∷ []))
     → IsKeeping s xs a → IsKeeping s xs b
 keeping-part s xs z a b same next reached sends h =
-    let k = sends (take a.next xs) (parts_sent a.seat) h.stands in
+    let k = sends (take a.next xs) (items_sent a.seat.sender) h.stands in
     let last : IsPartOfBeginning s xs (part (sensor_of_slow a.seat) (take a.next xs) z) = record {
       many = a.next;
       is = ap (λ r. part r (take a.next xs) z) h.sensor;
       reached = subst (λ n. z ≤ n) (sym h.stands.mark) reached;
     } in record {
       sensor = same.sensor ∙ h.sensor;
-      stands = subst (λ n. SlowSeatIsFor b.seat (take n xs) (parts_sent b.seat)) (sym next) (subst (λ ps. SlowSeatIsFor b.seat (take a.next xs) ps) (sym k.parts_are) k);
-      parts = subst (All (IsPartOfBeginning s xs)) (sym k.parts_are) (All-push (IsPartOfBeginning s xs) (parts_sent a.seat) (part (sensor_of_slow a.seat) (take a.next xs) z) h.parts last);
+      stands = subst (λ n. SlowSeatIsFor b.seat (take n xs) (items_sent b.seat.sender)) (sym next) (subst (λ ps. SlowSeatIsFor b.seat (take a.next xs) ps) (sym k.parts_are) k);
+      parts = subst (All (IsPartOfBeginning s xs)) (sym k.parts_are) (All-push (IsPartOfBeginning s xs) (items_sent a.seat.sender) (part (sensor_of_slow a.seat) (take a.next xs) z) h.parts last);
     }
 
 -- ---- one sender

@@ -2,7 +2,7 @@
 use Rattle.std.specs.Prelude.{◌≡◌, ◌-◌, ◌<◌, ◌≤◌, ◌⊎◌, ◌++◌, ◌∷◌, [], ℕ, List, Option, MatchOption}
 use Rattle.edr_items.specs.declared.Item.{Item}
 use Rattle.edr_definitions.specs.Schedule.{BeginsWith}
-use Rattle.edr_seats.specs.Inlet.{SameInlet, items_known, items_taken}
+use Rattle.edr_seats.specs.Rings.{SameReceiver, items_known, items_taken}
 use Rattle.edr_loops.specs.Slices.{but_last}
 use Rattle.edr_loops.specs.declared.buffered_inlet.BufferedInlet.{BufferedInlet}
 
@@ -26,4 +26,4 @@ KnowsNoneUpTo upto t =
 
 -- the inlet of the same ring
 abbrev pub SameBuffered : BufferedInlet → BufferedInlet → Type 0
-SameBuffered a b = SameInlet a.inlet b.inlet
+SameBuffered a b = SameReceiver a.inlet b.inlet

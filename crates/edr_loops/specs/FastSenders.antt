@@ -1,11 +1,10 @@
 -- What a fast sensor's sender at a worker has sent.
-use Rattle.std.specs.Prelude.{◌≡◌, ◌⊎◌, ◌+◌, ◌<◌, ◌≤◌, List, Option, Some, None, length, take}
+use Rattle.std.specs.Prelude.{◌≡◌, ◌⊎◌, ◌<◌, ◌≤◌, List, Option, Some, None, length, take}
 use Rattle.edr_items.specs.declared.Item.{Item}
 use Rattle.edr_items.specs.declared.Sensor.{Sensor}
 use Rattle.edr_items.specs.Item.{IsFeed}
-use Rattle.edr_seats.specs.declared.seat.Seat.{Seat}
-use Rattle.edr_seats.specs.Seat.{SameSeat, items_sent, known_taken, sensor_of}
-use Rattle.edr_seats.specs.Slots.{slots}
+use Rattle.edr_seats.specs.Rings.{KnowsNoRoom, items_sent}
+use Rattle.edr_seats.specs.Seat.{SameSeat, sensor_of}
 use Rattle.edr_loops.specs.declared.fast_sender.Offered.{Offered}
 use Rattle.edr_loops.specs.declared.fast_sender.Offered.TheVariants.{Sent, Full, Over}
 use Rattle.edr_loops.specs.declared.fast_sender.FastSender.{FastSender}
@@ -13,18 +12,14 @@ use Rattle.edr_loops.specs.declared.fast_sender.FastSender.{FastSender}
 -- a sender has sent the first items of this list, as many as it says
 abbrev pub HasSentFirst : List Item → Option FastSender → Type 0
 HasSentFirst xs None = Unit {0}
-HasSentFirst xs (Some p) = items_sent p.seat ≡ take p.next xs
+HasSentFirst xs (Some p) = items_sent p.seat.sender ≡ take p.next xs
 
 -- the same sender later: it has sent first items of the list
 abbrev pub Goes : List Item → Option FastSender → Option FastSender → Type 0
 Goes xs None None = Unit {0}
-Goes xs (Some a) (Some b) = SameSeat a.seat b.seat × (items_sent b.seat ≡ take b.next xs)
+Goes xs (Some a) (Some b) = SameSeat a.seat b.seat × (items_sent b.seat.sender ≡ take b.next xs)
 Goes xs None (Some b) = ⊥
 Goes xs (Some a) None = ⊥
-
--- as many items as there are slots were sent past the last that the seat knows taken
-abbrev pub KnowsNoSlot : Seat → Type 0
-KnowsNoSlot s = length (items_sent s) ≡ known_taken s + slots
 
 -- all of the list is sent, if it is a feed of the sensor whose seat this is
 abbrev pub HasSentAll : Sensor → List Item → FastSender → Type 0
@@ -33,7 +28,7 @@ HasSentAll s xs p = IsFeed s xs → sensor_of p.seat ≡ s → length xs ≤ p.n
 -- what came of offers: items were sent; none was, since no slot is known to be free; or none, since all are sent
 abbrev pub CameOfItems : Sensor → List Item → FastSender → FastSender → Offered → Type 0
 CameOfItems s xs a b Sent = a.next < b.next
-CameOfItems s xs a b Full = (b.next ≡ a.next) × KnowsNoSlot b.seat
+CameOfItems s xs a b Full = (b.next ≡ a.next) × KnowsNoRoom b.seat.sender
 CameOfItems s xs a b Over = (b.next ≡ a.next) × HasSentAll s xs b
 
 -- the same of a sender that may be at another worker

@@ -12,12 +12,12 @@ use Rattle.edr_core.specs.SplitContents.{SplitContents}
 use Rattle.edr_core.specs.SplitHistory.{History, start_of}
 use Rattle.edr_core.specs.SplitStandsFor.{SplitCoreStandsFor, merge_progress}
 use Rattle.edr_loops.specs.declared.per_fast_sensor.PerFastSensor.{PerFastSensor}
-use Rattle.edr_loops.specs.declared.orders.Outbox.{Outbox}
+use Rattle.edr_seats.specs.Rings.{SameSender, items_sent}
+use Rattle.edr_loops.specs.Orders.{Outbox}
 use Rattle.edr_loops.specs.declared.recorder.Desk.{Desk}
 use Rattle.edr_loops.specs.FastInlets.{AreFastFeeds, HaveFast, fast_marks_of}
 use Rattle.edr_loops.specs.Lanes.{FastInlets, PartInlets, SameFastInlets, SamePartInlets, fast_taken, no_fast_items, no_slow_parts, slow_taken}
 use Rattle.edr_loops.specs.UnsentOrders.{issues_out}
-use Rattle.edr_loops.specs.Orders.{SameOutbox, orders_sent}
 use Rattle.edr_loops.specs.PartInlets.{IsTakenPart}
 
 -- ---- the asker and the core
@@ -74,7 +74,7 @@ pub record IsFreshDesk (n : ℕ) (c : SplitContents) (a : Asker) (fast : FastInl
   pub asker_is : IsFreshAsker (freeze_of_asker a) a
   pub fast_is : fast_taken fast ≡ no_fast_items
   pub parts_are : slow_taken parts ≡ no_slow_parts
-  pub sent_is : orders_sent o ≡ []
+  pub sent_is : items_sent o ≡ []
 
 -- it does so of some cycle
 abbrev pub IsRecording : Desk → Type 0
@@ -86,7 +86,7 @@ IsRecording d = (n : ℕ) × (horizon : ℕ) × DeskStands n horizon d
 pub record SameDesk (a b : Desk) : Type 0 where
   pub fast : SameFastInlets a.fast b.fast
   pub parts : SamePartInlets a.parts b.parts
-  pub outbox : SameOutbox a.outbox b.outbox
+  pub outbox : SameSender a.outbox b.outbox
   pub freeze : freeze_of_asker b.asker ≡ freeze_of_asker a.asker
   pub recorder : board_of_recorder b.seat ≡ board_of_recorder a.seat
   pub watch : board_of_watch b.watch ≡ board_of_watch a.watch

@@ -4,8 +4,8 @@ use Rattle.edr_items.specs.declared.Sensor.{Sensor}
 use Rattle.edr_items.specs.declared.Item.{Item}
 use Rattle.edr_items.specs.Item.{IsFeed, mark_of}
 use Rattle.edr_capture.specs.SensorPart.{SensorPart, part}
-use Rattle.edr_seats.specs.Slots.{part_room}
-use Rattle.edr_seats.specs.Slow.{SameSlowSeat, SlowSeatIsFor, asked_known, grant_known, parts_known_taken, parts_sent, sensor_of_slow, zero_served}
+use Rattle.edr_seats.specs.Rings.{KnowsNoRoom, items_sent}
+use Rattle.edr_seats.specs.Slow.{SameSlowSeat, SlowSeatIsFor, asked_known, grant_known, sensor_of_slow, zero_served}
 use Rattle.edr_seats.specs.SlowContents.{SlowContents}
 use Rattle.edr_loops.specs.declared.fast_sender.Offered.{Offered}
 use Rattle.edr_loops.specs.declared.fast_sender.Offered.TheVariants.{Sent, Full, Over}
@@ -23,8 +23,8 @@ AreParts s xs ps = All (IsPartOfBeginning s xs) ps
 -- the sender of this sensor has kept the first items of its list, as many as it says, and has sent parts of beginnings of it
 pub record IsKeeping (s : Sensor) (xs : List Item) (p : SlowSender) : Type 0 where
   pub sensor : sensor_of_slow p.seat ≡ s
-  pub stands : SlowSeatIsFor p.seat (take p.next xs) (parts_sent p.seat)
-  pub parts : AreParts s xs (parts_sent p.seat)
+  pub stands : SlowSeatIsFor p.seat (take p.next xs) (items_sent p.seat.sender)
+  pub parts : AreParts s xs (items_sent p.seat.sender)
 
 -- the same of a sender that may be at another worker
 abbrev pub IsSlowSender : Sensor → List Item → Option SlowSender → Type 0
@@ -40,7 +40,7 @@ KeepsOn s xs (Some a) None = ⊥
 
 -- it has sent no part since, and kept what it had
 abbrev pub KeepsMore : SlowSender → SlowSender → Type 0
-KeepsMore a b = (a.next ≤ b.next) × (parts_sent b.seat ≡ parts_sent a.seat)
+KeepsMore a b = (a.next ≤ b.next) × (items_sent b.seat.sender ≡ items_sent a.seat.sender)
 
 -- the next item of the list is past what the seat loaded of granted
 abbrev pub IsUngranted : List Item → SlowSender → Type 0
@@ -52,25 +52,21 @@ CameOfKept s xs a b Sent = a.next < b.next
 CameOfKept s xs a b Full = (b.next ≡ a.next) × IsUngranted xs b
 CameOfKept s xs a b Over = (b.next ≡ a.next) × (IsFeed s xs → length xs ≤ b.next)
 
--- as many parts as there are slots were sent past the last that the seat knows taken
-abbrev pub KnowsNoPartSlot : SlowContents → Type 0
-KnowsNoPartSlot s = length (parts_sent s) ≡ parts_known_taken s + part_room
-
 -- no part is asked for that wasn't sent, by what the seat loaded
 abbrev pub HasNoneToSend : SlowContents → Type 0
 HasNoneToSend s = (asked_known s ≡ 0) ⊎ (asked_known s ≡ zero_served s)
 
 -- what came of a look at what is asked: a part was sent; none was, since no slot is known to be free; or none is to be sent
 abbrev pub CameOfPart : SlowSender → SlowSender → Offered → Type 0
-CameOfPart a b Sent = length (parts_sent a.seat) < length (parts_sent b.seat)
-CameOfPart a b Full = (parts_sent b.seat ≡ parts_sent a.seat) × KnowsNoPartSlot b.seat
-CameOfPart a b Over = (parts_sent b.seat ≡ parts_sent a.seat) × HasNoneToSend b.seat
+CameOfPart a b Sent = length (items_sent a.seat.sender) < length (items_sent b.seat.sender)
+CameOfPart a b Full = (items_sent b.seat.sender ≡ items_sent a.seat.sender) × KnowsNoRoom b.seat.sender
+CameOfPart a b Over = (items_sent b.seat.sender ≡ items_sent a.seat.sender) × HasNoneToSend b.seat
 
 -- what came of both: an item was kept or a part was sent; neither was, and something is left; or nothing is left of either
 abbrev pub CameOfSlow : Sensor → List Item → SlowSender → SlowSender → Offered → Type 0
-CameOfSlow s xs a b Sent = (a.next < b.next) ⊎ (length (parts_sent a.seat) < length (parts_sent b.seat))
-CameOfSlow s xs a b Full = (b.next ≡ a.next) × (parts_sent b.seat ≡ parts_sent a.seat) × (IsUngranted xs b ⊎ KnowsNoPartSlot b.seat)
-CameOfSlow s xs a b Over = (b.next ≡ a.next) × (parts_sent b.seat ≡ parts_sent a.seat) × (IsFeed s xs → length xs ≤ b.next) × HasNoneToSend b.seat
+CameOfSlow s xs a b Sent = (a.next < b.next) ⊎ (length (items_sent a.seat.sender) < length (items_sent b.seat.sender))
+CameOfSlow s xs a b Full = (b.next ≡ a.next) × (items_sent b.seat.sender ≡ items_sent a.seat.sender) × (IsUngranted xs b ⊎ KnowsNoRoom b.seat.sender)
+CameOfSlow s xs a b Over = (b.next ≡ a.next) × (items_sent b.seat.sender ≡ items_sent a.seat.sender) × (IsFeed s xs → length xs ≤ b.next) × HasNoneToSend b.seat
 
 -- the same of a sender that may be at another worker
 abbrev pub CameOfSlowSender : Sensor → List Item → Option SlowSender → Option SlowSender → Offered → Type 0

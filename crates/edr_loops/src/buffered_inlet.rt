@@ -1,7 +1,7 @@
 //! The recorder's end of a sensor's ring, with a buffer for the items that come out of it together.
 
 ghost use Rattle.std.specs.Prelude.{◌≡◌, ◌-◌, ◌≤◌, ◌++◌};
-ghost use Rattle.edr_seats.specs.Inlet.{items_taken};
+ghost use Rattle.edr_seats.specs.Rings.{items_taken};
 ghost use Rattle.edr_loops.specs.Slices.{between, but_last};
 
 use edr_items::Item;
@@ -29,8 +29,7 @@ pub struct BufferedInlet {
 impl BufferedInlet {
     ghost use Rattle.std.specs.Prelude.{[], IsNone};
     ghost use Rattle.edr_definitions.specs.Schedule.{BeginsWith};
-    ghost use Rattle.edr_seats.specs.Inlet.{AreOfOneRing, items_known};
-    ghost use Rattle.edr_seats.specs.Seat.{items_sent};
+    ghost use Rattle.edr_seats.specs.Rings.{AreOfOneRing, items_known, items_sent};
     ghost use Rattle.edr_loops.specs.BufferedInlets.{KnowsNoneUpTo, SameBuffered, TakesUpTo, taken_of, with_last};
 
     /// An inlet with an empty buffer.
@@ -85,11 +84,11 @@ impl BufferedInlet {
 
     /// Looks at both ends of the ring, where they are in one thread again: what was taken is a beginning of what was sent.
     pub fn beside(&mut self, seat: &mut Seat)
-        requires { AreOfOneRing seat.old self.old.inlet }
+        requires { AreOfOneRing seat.old.sender self.old.inlet }
         ensures ring { SameBuffered self.old self.new }
         ensures taken { taken_of self.new ≡ taken_of self.old }
-        ensures sent { items_sent seat.new ≡ items_sent seat.old }
-        ensures begins { BeginsWith (items_sent seat.new) (taken_of self.new) }
+        ensures sent { items_sent seat.new.sender ≡ items_sent seat.old.sender }
+        ensures begins { BeginsWith (items_sent seat.new.sender) (taken_of self.new) }
     {
         self.inlet.beside(seat);
     }

@@ -2,7 +2,8 @@
 
 ghost use Rattle.std.specs.Prelude.{◌≡◌, ◌≤◌, take};
 ghost use Rattle.edr_items.specs.SensorLists.{items_of};
-ghost use Rattle.edr_seats.specs.Seat.{SameSeat, items_sent};
+ghost use Rattle.edr_seats.specs.Rings.{items_sent};
+ghost use Rattle.edr_seats.specs.Seat.{SameSeat};
 ghost use Rattle.edr_loops.specs.FastSenders.{CameOfItems, CameOfSender, Goes, HasSentFirst, came_of_both};
 
 use edr_items::{Feeds, Item, Sensor};
@@ -84,9 +85,9 @@ pub struct FastSender {
 impl FastSender {
     // Offers the next item, which passes the gate before its first offer.
     fn offer_next<G: Gate>(&mut self, sensor: Sensor, items: &[Item], gate: &G) -> Offered
-        requires { items_sent self.old.seat ≡ take self.old.next items.now }
+        requires { items_sent self.old.seat.sender ≡ take self.old.next items.now }
         ensures seat { SameSeat self.old.seat self.new.seat }
-        ensures sent { items_sent self.new.seat ≡ take self.new.next items.now }
+        ensures sent { items_sent self.new.seat.sender ≡ take self.new.next items.now }
         ensures came { CameOfItems sensor items.now self.old self.new result }
         ensures on { self.old.next ≤ self.new.next }
     {
@@ -108,9 +109,9 @@ impl FastSender {
 
     // Offers items up to one that isn't sent, at most as many as a ring has room for beside one.
     fn offer_more<G: Gate>(&mut self, sensor: Sensor, items: &[Item], gate: &G)
-        requires { items_sent self.old.seat ≡ take self.old.next items.now }
+        requires { items_sent self.old.seat.sender ≡ take self.old.next items.now }
         ensures seat { SameSeat self.old.seat self.new.seat }
-        ensures sent { items_sent self.new.seat ≡ take self.new.next items.now }
+        ensures sent { items_sent self.new.seat.sender ≡ take self.new.next items.now }
         ensures on { self.old.next ≤ self.new.next }
     {
         for _ in 1..SLOTS {
@@ -122,9 +123,9 @@ impl FastSender {
 
     /// Offers items up to one for which there is no room, and at most as many as a ring has room for.
     pub fn serve<G: Gate>(&mut self, sensor: Sensor, items: &[Item], gate: &G) -> Offered
-        requires { items_sent self.old.seat ≡ take self.old.next items.now }
+        requires { items_sent self.old.seat.sender ≡ take self.old.next items.now }
         ensures seat { SameSeat self.old.seat self.new.seat }
-        ensures sent { items_sent self.new.seat ≡ take self.new.next items.now }
+        ensures sent { items_sent self.new.seat.sender ≡ take self.new.next items.now }
         ensures came { CameOfItems sensor items.now self.old self.new result }
     {
         let offered = self.offer_next(sensor, items, gate);

@@ -3,7 +3,7 @@
 ghost use Rattle.std.specs.Prelude.{◌≡◌, ◌↔◌, [], true, false, map, None};
 ghost use Rattle.edr_definitions.specs.Commands.{issue_at};
 ghost use Rattle.edr_core.specs.Answers.{commands_put};
-ghost use Rattle.edr_loops.specs.Orders.{KnowsNoRoom, SameOutbox};
+ghost use Rattle.edr_seats.specs.Rings.{KnowsNoRoom, SameSender};
 ghost use Rattle.edr_loops.specs.UnsentOrders.{issues_held, issues_out, issues_out_one};
 
 use crate::orders::{Order, Outbox};
@@ -21,7 +21,7 @@ pub struct UnsentOrders {
 // Sends the order that there is. It stands apart, since few turns have one, and its places are large.
 #[inline(never)]
 fn send_first(outbox: &mut Outbox, order: &mut Option<Order>) -> bool
-    ensures ring { SameOutbox outbox.old outbox.new }
+    ensures ring { SameSender outbox.old outbox.new }
     ensures same { issues_out_one outbox.new order.new ≡ issues_out_one outbox.old order.old }
     ensures all { (result ≡ true) ↔ (order.new ≡ None) }
     ensures full { result ≡ false → KnowsNoRoom outbox.new }
@@ -41,7 +41,7 @@ fn send_first(outbox: &mut Outbox, order: &mut Option<Order>) -> bool
 // Sends an order if there is one. It answers whether none is left.
 #[inline(always)]
 fn send_one(outbox: &mut Outbox, order: &mut Option<Order>) -> bool
-    ensures ring { SameOutbox outbox.old outbox.new }
+    ensures ring { SameSender outbox.old outbox.new }
     ensures same { issues_out_one outbox.new order.new ≡ issues_out_one outbox.old order.old }
     ensures all { (result ≡ true) ↔ (order.new ≡ None) }
     ensures full { result ≡ false → KnowsNoRoom outbox.new }
@@ -96,7 +96,7 @@ impl UnsentOrders {
 
     /// Sends them as far as there is room. It answers whether none is left.
     pub fn send(&mut self, outbox: &mut Outbox) -> bool
-        ensures ring { SameOutbox outbox.old outbox.new }
+        ensures ring { SameSender outbox.old outbox.new }
         ensures same { issues_out outbox.new self.new ≡ issues_out outbox.old self.old }
         ensures all { (result ≡ true) ↔ (issues_held self.new ≡ []) }
 

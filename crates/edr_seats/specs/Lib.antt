@@ -1,8 +1,6 @@
 pub mod Slots
-pub mod Unused
+pub mod Rings
 pub mod Seat
-pub mod Inlet
 pub mod Offer
 pub mod SlowContents
 pub mod Slow
-pub mod PartInlet

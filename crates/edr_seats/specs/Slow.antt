@@ -1,6 +1,5 @@
 -- What a slow sensor's seat keeps and sends.
-use Rattle.std.specs.Prelude.{◌≡◌, ◌≢◌, ◌⊎◌, ◌+◌, ◌-◌, ◌<◌, ◌≤◌, ℕ, Option, Some, None, List, [], ◌∷◌, ◌++◌, length}
-use Rattle.rtrb.specs.Ring.{SameProducer, known_free, sent}
+use Rattle.std.specs.Prelude.{◌≡◌, ◌≢◌, ◌⊎◌, ◌+◌, ◌<◌, ◌≤◌, ℕ, Option, Some, None, List, [], ◌∷◌, ◌++◌}
 use Rattle.edr_items.specs.declared.TheConstants.{LONGEST_GAP}
 use Rattle.edr_items.specs.declared.Sensor.{Sensor}
 use Rattle.edr_items.specs.declared.Item.{Item}
@@ -10,7 +9,7 @@ use Rattle.edr_board.specs.declared.freeze_seats.Keeper.{Keeper}
 use Rattle.edr_board.specs.FreezeSeats.{freeze_of_keeper, grant_read, asked_read}
 use Rattle.edr_capture.specs.Capture.{CaptureStandsFor}
 use Rattle.edr_capture.specs.SensorPart.{SensorPart, part}
-use Rattle.edr_seats.specs.Slots.{part_room}
+use Rattle.edr_seats.specs.Rings.{KnowsNoRoom, SameSender, items_sent}
 use Rattle.edr_seats.specs.declared.slow_seat.SlowRefused.{SlowRefused}
 use Rattle.edr_seats.specs.declared.slow_seat.SlowRefused.TheVariants as slow_refused
 use Rattle.edr_seats.specs.declared.slow_seat.Served.{Served}
@@ -19,19 +18,12 @@ use Rattle.edr_seats.specs.SlowContents.{SlowContents}
 
 -- ---- what is seen of the seat
 
--- the sensor, the mark of what was kept, and the parts that were sent
+-- the sensor, and the mark of what was kept
 abbrev pub sensor_of_slow : SlowContents → Sensor
 sensor_of_slow s = s.sensor
 
 abbrev pub mark_kept : SlowContents → ℕ
 mark_kept s = s.last
-
-abbrev pub parts_sent : SlowContents → List SensorPart
-parts_sent s = sent s.ring
-
--- how many of the parts sent the seat knows taken
-abbrev pub parts_known_taken : SlowContents → ℕ
-parts_known_taken s = length (sent s.ring) + known_free s.ring - part_room
 
 -- what the seat loaded last of granted and of asked, and the zero of the last part that it sent, 0 before the first
 abbrev pub grant_known : SlowContents → ℕ
@@ -51,14 +43,12 @@ refusal_by_slow s x = refusal_of (sensor_of_slow s) (mark_kept s) x
 
 -- the same sensor's end of the same ring, at the same freeze
 pub record SameSlowSeat (a b : SlowContents) : Type 0 where
-  pub ring : SameProducer a.ring b.ring
+  pub ring : SameSender a.sender b.sender
   pub sensor : b.sensor ≡ a.sensor
   pub freeze : freeze_of_keeper b.keeper ≡ freeze_of_keeper a.keeper
 
--- only the seat's knowledge of its ring may differ
-pub record SameButRoom (a b : SlowContents) : Type 0 where
-  pub ring : SameProducer a.ring b.ring
-  pub sent : parts_sent b ≡ parts_sent a
+-- all but its end of the ring is the same
+pub record SameButSender (a b : SlowContents) : Type 0 where
   pub kept : b.kept ≡ a.kept
   pub keeper : b.keeper ≡ a.keeper
   pub sensor : b.sensor ≡ a.sensor
@@ -71,7 +61,7 @@ pub record SameButRoom (a b : SlowContents) : Type 0 where
 pub record SlowSeatIsFor (s : SlowContents) (kept : List Item) (parts : List SensorPart) : Type 0 where
   pub keeps : CaptureStandsFor s.kept kept
   pub mark : mark_of kept ≡ s.last
-  pub parts_are : parts_sent s ≡ parts
+  pub parts_are : items_sent s.sender ≡ parts
 
 -- whatever items and parts it was so for, it is now so for these
 abbrev pub NowIsFor : (List Item → List Item) → (List Item → List SensorPart → List SensorPart) → SlowContents → SlowContents → Type 0
@@ -83,7 +73,6 @@ pub record IsFreshSeat (sensor : Sensor) (keeper : Keeper) (s : SlowContents) : 
   pub of_sensor : sensor_of_slow s ≡ sensor
   pub freeze : freeze_of_keeper s.keeper ≡ freeze_of_keeper keeper
   pub served : zero_served s ≡ 0
-  pub taken : parts_known_taken s ≡ 0
 
 -- ---- its answers
 
@@ -98,7 +87,7 @@ abbrev pub HasServed : SlowContents → SlowContents → Served → Type 0
 HasServed a b Nothing = ((asked_known b ≡ 0) ⊎ (asked_known b ≡ zero_served a)) × (zero_served b ≡ zero_served a)
 HasServed a b (Sent z) = (asked_known b ≡ z) × (z ≢ 0) × (z ≢ zero_served a) × (zero_served b ≡ z) × (z ≤ mark_kept a) × (mark_kept a ≤ z + LONGEST_GAP)
 HasServed a b (Full z) =
-    (asked_known b ≡ z) × (z ≢ 0) × (z ≢ zero_served a) × (zero_served b ≡ zero_served a) × (length (parts_sent b) ≡ parts_known_taken b + part_room)
+    (asked_known b ≡ z) × (z ≢ 0) × (z ≢ zero_served a) × (zero_served b ≡ zero_served a) × KnowsNoRoom b.sender
 
 -- the parts that were sent, past an answer
 abbrev pub parts_after : Sensor → List Item → List SensorPart → Served → List SensorPart

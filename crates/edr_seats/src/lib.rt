@@ -1,35 +1,31 @@
-//! The ring between a sensor and the recorder. The sensor has its seat, from which it offers items; the recorder has
-//! the inlet, from which it takes them. Each end may move into a thread of its own, and no call of either waits for
-//! the other.
+//! The rings of the threads, and the seats of the sensors at them. The end of a ring that sends is a [`Sender`], the
+//! other a [`Receiver`]. Each may move into a thread of its own, and no call of either waits for the other.
 //!
-//! A slow sensor may keep its samples itself: its [`SlowSeat`] sends only the part of a time zero that is asked for, and
-//! the recorder takes it from the [`PartInlet`].
+//! A sensor offers its items from its [`Seat`], and the recorder takes them from the [`Inlet`]. A slow sensor may keep
+//! its samples itself: its [`SlowSeat`] sends only the part of a time zero that is asked for, and the recorder takes it
+//! from the [`PartInlet`].
 //!
 //! What a ring stands for are two lists, the items that were sent and the items that were taken. Each end knows its
-//! own list whole, and of the other's only what it has seen so far; [`Inlet::beside`] joins the two.
+//! own list whole, and of the other's only what it has seen so far; [`Receiver::beside`] joins the two.
 #![tactic(auto)]
 
-ghost use Rattle.std.specs.Prelude.{◌≡◌, [], IfOk};
-ghost use Rattle.edr_seats.specs.Seat.{items_sent, known_taken, sensor_of};
-ghost use Rattle.edr_seats.specs.Inlet.{AreOfOneRing, IsFreshInlet};
+ghost use Rattle.std.specs.Prelude.{◌≡◌, IfOk};
+ghost use Rattle.edr_seats.specs.Rings.{IsFreshRing};
+ghost use Rattle.edr_seats.specs.Seat.{sensor_of};
 ghost use Rattle.edr_items.specs.Sensor.{IsSlow};
 ghost use Rattle.edr_board.specs.FreezeSeats.{IsKeeperOf, mark_posted};
 ghost use Rattle.edr_seats.specs.Slow.{IsFreshSeat};
-ghost use Rattle.edr_seats.specs.PartInlet.{AreOfOnePartRing, IsFreshPartInlet};
 
-mod inlet;
-mod part_inlet;
+mod rings;
 mod seat;
 mod slow_seat;
 
-pub use crate::inlet::Inlet;
-pub use crate::part_inlet::PartInlet;
-pub use crate::seat::{OfferRefused, Seat};
-pub use crate::slow_seat::{Served, SlowRefused, SlowSeat};
+pub use crate::rings::{HasSender, Receiver, Sender};
+pub use crate::seat::{Inlet, OfferRefused, Seat};
+pub use crate::slow_seat::{PartInlet, Served, SlowRefused, SlowSeat};
 use edr_board::Keeper;
 use edr_capture::Capture;
 use edr_items::Sensor;
-use rtrb::RingBuffer;
 use std::alloc::{AllocError as OutOfMemory, Global};
 
 /// How many items a ring has room for.
@@ -50,15 +46,13 @@ pub struct Lane {
 /// let Lane { seat, inlet } = ring(alloc, Sensor::Speed)?;
 /// ```
 pub fn ring(alloc: Global, sensor: Sensor) -> Result<Lane, OutOfMemory>
-    ensures pair { IfOk result (λ lane. AreOfOneRing lane.seat lane.inlet) }
+    ensures ring { IfOk result (λ lane. IsFreshRing lane.seat.sender lane.inlet) }
     ensures sensor { IfOk result (λ lane. sensor_of lane.seat ≡ sensor) }
-    ensures seat { IfOk result (λ lane. (items_sent lane.seat ≡ []) × (known_taken lane.seat ≡ 0)) }
-    ensures inlet { IfOk result (λ lane. IsFreshInlet lane.inlet) }
 {
-    let (producer, consumer) = RingBuffer::new(alloc, SLOTS as usize)?;
+    let (sender, inlet) = Sender::open(alloc)?;
     Ok(Lane {
-        seat: Seat::new(producer, sensor),
-        inlet: Inlet { ring: consumer },
+        seat: Seat::new(sender, sensor),
+        inlet,
     })
 }
 
@@ -81,14 +75,13 @@ pub struct SlowLane {
 pub fn slow(alloc: Global, sensor: Sensor, keeper: Keeper) -> Result<SlowLane, OutOfMemory>
     requires slow { IsSlow sensor }
     requires keeper { IsKeeperOf sensor keeper × (mark_posted keeper ≡ 0) }
-    ensures pair { IfOk result (λ lane. AreOfOnePartRing lane.seat lane.inlet) }
+    ensures ring { IfOk result (λ lane. IsFreshRing lane.seat.sender lane.inlet) }
     ensures seat { IfOk result (λ lane. IsFreshSeat sensor keeper lane.seat) }
-    ensures inlet { IfOk result (λ lane. IsFreshPartInlet lane.inlet) }
 {
     let capture = Capture::new(alloc)?;
-    let (producer, consumer) = RingBuffer::new(alloc, PART_SLOTS as usize)?;
+    let (sender, inlet) = Sender::open(alloc)?;
     Ok(SlowLane {
-        seat: SlowSeat::new(producer, capture, keeper, sensor),
-        inlet: PartInlet { ring: consumer },
+        seat: SlowSeat::new(sender, capture, keeper, sensor),
+        inlet,
     })
 }

@@ -1,20 +1,18 @@
 //! A slow sensor's seat: it keeps the sensor's samples itself, and sends the part of a time zero that is asked for.
 
 ghost use Rattle.std.specs.Prelude.{◌≡◌, ◌+◌, ◌<◌, ◌≤◌, [], ◌∷◌, ◌++◌, Err, OnOk, OnErr, IfErr, None};
-ghost use Rattle.rtrb.specs.Ring.{sent};
 ghost use Rattle.edr_items.specs.declared.Item.{Item};
 ghost use Rattle.edr_items.specs.declared.ItemRefused.{ItemRefused};
 ghost use Rattle.edr_board.specs.FreezeSeats.{mark_posted};
 ghost use Rattle.edr_items.specs.Sensor.{IsSlow};
-ghost use Rattle.edr_seats.specs.Slots.{part_room};
-ghost use Rattle.edr_seats.specs.Unused.{IsUnused};
-ghost use Rattle.edr_seats.specs.Slow.{NowIsFor, SameSlowSeat, sensor_of_slow, grant_known, refusal_by_slow, parts_known_taken, ExplainsSlow, HasServed, parts_after};
+ghost use Rattle.edr_seats.specs.Rings.{items_sent, known_taken};
+ghost use Rattle.edr_seats.specs.Slow.{NowIsFor, SameButSender, SameSlowSeat, sensor_of_slow, grant_known, refusal_by_slow, ExplainsSlow, HasServed, parts_after};
 
 use crate::PART_SLOTS;
+use crate::rings::{HasSender, Receiver, Sender};
 use edr_board::Keeper;
 use edr_capture::{Capture, Part};
 use edr_items::{Item, ItemRefused, Sensor, check};
-use rtrb::Producer;
 use std::marker::Model;
 
 /// Why a slow seat doesn't keep an item.
@@ -40,7 +38,7 @@ pub enum Served {
 /// A slow sensor's end of its ring of parts, with the samples that it keeps. It can move into a thread.
 #[derive(Drop)]
 pub struct SlowSeat {
-    pub(crate) ring: Producer<Part>,
+    sender: Sender<Part, PART_SLOTS>,
     capture: Capture,
     keeper: Keeper,
     sensor: Sensor,
@@ -60,22 +58,35 @@ impl Model for SlowSeat {
     ghost invariant = { IsSlowSeat };
 }
 
+/// The recorder's end of a slow sensor's ring of parts.
+pub type PartInlet = Receiver<Part, PART_SLOTS>;
+
+impl HasSender<Part, PART_SLOTS> for SlowSeat {
+    ghost sender = { λ s. s.sender };
+
+    ghost SameElse = { SameButSender };
+
+    fn meet(&mut self, inlet: &mut PartInlet) -> u32 {
+        self.sender.meet(inlet)
+    }
+}
+
 impl SlowSeat {
     // The seat of a sensor that has kept nothing, at the end of a ring into which nothing was sent.
     pub(crate) fn new(
-        ring: Producer<Part>,
+        sender: Sender<Part, PART_SLOTS>,
         capture: Capture,
         keeper: Keeper,
         sensor: Sensor,
     ) -> SlowSeat
-        requires ring { IsUnused part_room ring }
+        requires ring { items_sent sender ≡ [] }
         requires slow { IsSlow sensor }
         requires kept { (capture ≡ []) × (mark_posted keeper ≡ 0) }
-        ensures { (result.ring ≡ ring) × (result.kept ≡ []) × (result.keeper ≡ keeper)
+        ensures { (result.sender ≡ sender) × (result.kept ≡ []) × (result.keeper ≡ keeper)
             × (result.sensor ≡ sensor) × (result.last ≡ 0) × (result.served ≡ 0) }
     {
         SlowSeat {
-            ring,
+            sender,
             capture,
             keeper,
             sensor,
@@ -118,7 +129,7 @@ impl SlowSeat {
         ensures stands { NowIsFor (λ kept. kept)
             (λ kept parts. parts_after (sensor_of_slow self.old) kept parts result)
             self.old self.new }
-        ensures known { parts_known_taken self.old ≤ parts_known_taken self.new }
+        ensures known { known_taken self.old.sender ≤ known_taken self.new.sender }
         ensures granted { grant_known self.new ≡ grant_known self.old }
     {
         let Some(zero) = self.keeper.asked() else {
@@ -128,7 +139,7 @@ impl SlowSeat {
             return Served::Nothing;
         }
         let part = self.capture.part(self.sensor, zero);
-        if self.ring.push(part).is_err() {
+        if self.sender.send(part).is_err() {
             return Served::Full { zero };
         }
         self.served = zero;

@@ -3,7 +3,7 @@ use Rattle.std.specs.Prelude.{◌≡◌, ◌≤◌, ℕ, [], false}
 use Rattle.edr_items.specs.SensorLists.{SensorLists}
 use Rattle.edr_image.specs.Image.{image_size}
 use Rattle.edr_loops.specs.Recorders.{HasPosted, IsRecording}
-use Rattle.edr_loops.specs.Orders.{orders_taken}
+use Rattle.edr_seats.specs.Rings.{items_taken}
 use Rattle.edr_loops.specs.Senders.{HaveBegun}
 use Rattle.edr_drive.specs.declared.beginning.OpenedCycle.{OpenedCycle}
 
@@ -14,4 +14,4 @@ pub record IsReadyOver (size : ℕ) (b : OpenedCycle) : Type 0 where
   pub posted : HasPosted b.recording.desk
   pub live : b.committer.ledger.banks.ended ≡ false
   pub holds : image_size b.committer.ledger.banks.store.header.banks ≤ size
-  pub fresh : orders_taken b.committer.inbox ≡ []
+  pub fresh : items_taken b.committer.inbox ≡ []

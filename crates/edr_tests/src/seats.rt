@@ -1,8 +1,8 @@
 //! The ring between a sensor and the recorder, by two threads.
 ghost use Rattle.std.specs.Prelude.{◌≡◌, ◌+◌, [], ◌∷◌, ◌++◌, length, IfSome};
 ghost use Rattle.std.specs.Arc.{arc_value};
-ghost use Rattle.edr_seats.specs.Seat.{items_sent, SameSeat};
-ghost use Rattle.edr_seats.specs.Inlet.{items_taken, AreOfOneRing, SameInlet};
+ghost use Rattle.edr_seats.specs.Rings.{AreOfOneRing, SameReceiver, items_sent, items_taken};
+ghost use Rattle.edr_seats.specs.Seat.{SameSeat};
 
 use edr_items::{Item, Sensor};
 use edr_seats::{Inlet, Lane, Seat, ring};
@@ -21,9 +21,9 @@ fn sample(moment: u32, value: i32) -> Item {
 
 // Takes what is left in a ring whose ends are in one thread again. Then all that was sent is taken.
 fn take_rest(inlet: &mut Inlet, seat: &mut Seat)
-    requires { AreOfOneRing seat.old inlet.old }
-    ensures sent { items_sent seat.new ≡ items_sent seat.old }
-    ensures all { items_taken inlet.new ≡ items_sent seat.new }
+    requires { AreOfOneRing seat.old.sender inlet.old }
+    ensures sent { items_sent seat.new.sender ≡ items_sent seat.old.sender }
+    ensures all { items_taken inlet.new ≡ items_sent seat.new.sender }
 {
     let left = inlet.beside(seat);
     for _ in 0..left {
@@ -36,7 +36,7 @@ type Feed = Arc<Vec<Item>>;
 // Offers the item until it is sent.
 fn send<R: Wait>(rt: &R, seat: &mut Seat, item: Item)
     ensures ring { SameSeat seat.old seat.new }
-    ensures sent { items_sent seat.new ≡ items_sent seat.old ++ item ∷ [] }
+    ensures sent { items_sent seat.new.sender ≡ items_sent seat.old.sender ++ item ∷ [] }
 {
     for _ in rt.forever() {
         if seat.offer(item).is_ok() {
@@ -49,9 +49,9 @@ fn send<R: Wait>(rt: &R, seat: &mut Seat, item: Item)
 
 // Sends all of a feed from a fresh seat.
 fn send_all<R: Wait>(rt: &R, seat: Seat, items: &[Item]) -> Seat
-    requires { items_sent seat ≡ [] }
+    requires { items_sent seat.sender ≡ [] }
     ensures ring { SameSeat seat result }
-    ensures sent { items_sent result ≡ items.now }
+    ensures sent { items_sent result.sender ≡ items.now }
 {
     let mut seat = seat;
     for i in 0..items.len() {
@@ -62,7 +62,7 @@ fn send_all<R: Wait>(rt: &R, seat: Seat, items: &[Item]) -> Seat
 
 // Takes an item as soon as there is one.
 fn next<R: Wait>(rt: &R, inlet: &mut Inlet) -> Item
-    ensures ring { SameInlet inlet.old inlet.new }
+    ensures ring { SameReceiver inlet.old inlet.new }
     ensures taken { items_taken inlet.new ≡ items_taken inlet.old ++ result ∷ [] }
 {
     for _ in rt.forever() {
@@ -76,7 +76,7 @@ fn next<R: Wait>(rt: &R, inlet: &mut Inlet) -> Item
 
 // Takes as many items as there are in `items`, and counts those that are the same.
 fn take_all<R: Wait>(rt: &R, inlet: &mut Inlet, items: &[Item]) -> usize
-    ensures ring { SameInlet inlet.old inlet.new }
+    ensures ring { SameReceiver inlet.old inlet.new }
     ensures taken { length (items_taken inlet.new) ≡ length (items_taken inlet.old) + length items.now }
 {
     let mut same = 0;
@@ -98,9 +98,10 @@ struct AllSent {
 impl Promise<Seat> for AllSent {
     ghost use Rattle.std.specs.Prelude.{◌≡◌};
     ghost use Rattle.std.specs.Arc.{arc_value};
-    ghost use Rattle.edr_seats.specs.Seat.{SameSeat, items_sent};
+    ghost use Rattle.edr_seats.specs.Rings.{items_sent};
+    ghost use Rattle.edr_seats.specs.Seat.{SameSeat};
 
-    ghost kept_by = { λ p seat. SameSeat p.seat.value seat × (items_sent seat ≡ (arc_value p.feed.value).items) };
+    ghost kept_by = { λ p seat. SameSeat p.seat.value seat × (items_sent seat.sender ≡ (arc_value p.feed.value).items) };
 }
 
 // Sends a feed from a thread of its own, takes it here, and counts the items that came as they were sent. None where
@@ -110,8 +111,8 @@ fn pass_through<R: Threads + Wait + Copy + Send + 'static>(
     lane: Lane,
     feed: Feed,
 ) -> Option<(Inlet, usize)>
-    requires ring { AreOfOneRing lane.seat lane.inlet }
-    requires fresh { (items_sent lane.seat ≡ []) × (items_taken lane.inlet ≡ []) }
+    requires ring { AreOfOneRing lane.seat.sender lane.inlet }
+    requires fresh { (items_sent lane.seat.sender ≡ []) × (items_taken lane.inlet ≡ []) }
     ensures all { IfSome result (λ r. items_taken r.0 ≡ (arc_value feed).items) }
 {
     let Lane { seat, mut inlet } = lane;
@@ -125,9 +126,9 @@ fn pass_through<R: Threads + Wait + Copy + Send + 'static>(
         rt,
         promise,
         move || -> Seat
-            requires { items_sent seat ≡ [] }
+            requires { items_sent seat.sender ≡ [] }
             ensures ring { SameSeat seat result }
-            ensures sent { items_sent result ≡ (arc_value sent).items }
+            ensures sent { items_sent result.sender ≡ (arc_value sent).items }
         {
             let seat = seat;
             send_all(&inner, seat, &sent)

@@ -1,8 +1,7 @@
 use Rattle.std.proofs.Common.{arith, sym, subst}
-use Rattle.edr_loops.specs.Lanes.{FastInlets}
-use Rattle.edr_loops.specs.declared.orders.Outbox.{Outbox}
-use Rattle.edr_loops.specs.Orders.{AreEndsOfOrders}
-use Rattle.edr_loops.specs.Lanes.{AreFastLanes, ArePartLanes, PartInlets}
+use Rattle.edr_seats.specs.Rings.{AreOfOneRing}
+use Rattle.edr_loops.specs.Orders.{Outbox}
+use Rattle.edr_loops.specs.Lanes.{AreFastLanes, ArePartLanes, FastInlets, PartInlets}
 use Rattle.edr_drive.proofs.beginning.seat_desks.Goals as goal
 
 pub returns-clause-begins : goal.returns-clause-begins
@@ -16,13 +15,13 @@ returns-clause-begins c = λ n opened shared.
         asker_is = rings.asker_is;
         fast_is = rings.fast_taken_is;
         parts_are = rings.parts_taken_are;
-        sent_is = shared.sent;
+        sent_is = shared.orders_are.sent;
       });
       posted = desk.posted shared.seats.closed (omega (arith, gate));
       lanes = subst (λ (i : FastInlets). AreFastLanes c.args.shared.rings.senders.fast i) (sym desk.rings.0) rings.lanes;
       part_lanes = subst (λ (i : PartInlets). ArePartLanes c.args.shared.rings.senders.slow i) (sym desk.rings.1) rings.part_lanes;
       begun = rings.begun;
-      pair = subst (λ (o : Outbox). AreEndsOfOrders o c.args.shared.orders.inbox) (sym desk.rings.2) shared.pair;
-      fresh = shared.taken;
+      pair = subst (λ (o : Outbox). AreOfOneRing o c.args.shared.orders.inbox) (sym desk.rings.2) shared.orders_are.pair;
+      fresh = shared.orders_are.taken;
       captures = opened.captures_are;
     }

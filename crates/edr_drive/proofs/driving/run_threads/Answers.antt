@@ -1,7 +1,7 @@
 use Rattle.edr_items.specs.SensorLists.{horizon_of}
 use Rattle.edr_loops.proofs.LaneLemmas.{fast_lanes-later, part_lanes-later}
 use Rattle.edr_drive.specs.Crews.{crew_feeds}
-use Rattle.edr_drive.proofs.DrivenLemmas.{orders-later}
+use Rattle.edr_seats.proofs.RingLemmas.{ring-later}
 use Rattle.edr_drive.proofs.LentLemmas.{lent-back, lent-stands}
 use Rattle.edr_loops.proofs.SenderLemmas.{all-begun}
 use Rattle.edr_drive.proofs.driving.run_threads.Goals as goal
@@ -25,6 +25,6 @@ returns-clause-ended g c =
       lanes = fast_lanes-later f b.senders.fast back.result.senders.fast b.desk.fast d.fast begins.lanes back.ensures.senders.fast same.fast;
       part_lanes = part_lanes-later f b.senders.slow back.result.senders.slow b.desk.parts d.parts begins.part_lanes back.ensures.senders.slow same.parts;
       begun = all-begun f b.senders back.result.senders back.ensures.senders;
-      pair = orders-later b.desk.outbox d.outbox c.args.committer.now.inbox back.new.committer.inbox begins.pair same.outbox back.ensures.posts.ring;
+      pair = ring-later b.desk.outbox d.outbox c.args.committer.now.inbox back.new.committer.inbox begins.pair same.outbox back.ensures.posts.ring;
       captures = begins.captures;
     }

@@ -1,6 +1,6 @@
 use Rattle.std.proofs.Common.{rules, arith, ◌<◌, ◌≤◌, length, inr}
 use Rattle.edr_loops.proofs.BufferLemmas.{next_begins}
-use Rattle.edr_seats.specs.Inlet.{items_taken}
+use Rattle.edr_seats.specs.Rings.{items_taken}
 use Rattle.edr_loops.proofs.buffered_inlet.BufferedInlet.take_upto.Goals.{then-self+else-self-2, else-self}
 use Rattle.edr_loops.proofs.buffered_inlet.BufferedInlet.take_upto.Goals as goal
 

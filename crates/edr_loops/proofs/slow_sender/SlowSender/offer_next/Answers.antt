@@ -1,6 +1,6 @@
 use Rattle.std.proofs.Common.{arith, ◌<◌, length, refl, sym, take}
 use Rattle.std.proofs.lemmas.List.{take_more}
-use Rattle.edr_seats.specs.Slow.{parts_sent}
+use Rattle.edr_seats.specs.Rings.{items_sent}
 use Rattle.edr_loops.proofs.OfferLemmas.{accepted-next, not-slow_item, ungranted-past}
 use Rattle.edr_loops.proofs.SlowSenderLemmas.{keeping-item}
 use Rattle.edr_loops.proofs.slow_sender.SlowSender.offer_next.Goals as goal
@@ -11,7 +11,7 @@ returns-in-Ok-clause-keeping g c = keeping-item c.args.sensor c.args.items.now _
 pub returns-in-Ok-clause-on : goal.returns-in-Ok-clause-on
 returns-in-Ok-clause-on g c =
     let r = c.requires in
-    (omega arith, (c.in-Ok.ensures.ok (take c.args.self.now.next c.args.items.now) (parts_sent c.args.self.now.seat) r.stands).parts_are)
+    (omega arith, (c.in-Ok.ensures.ok (take c.args.self.now.next c.args.items.now) (items_sent c.args.self.now.seat.sender) r.stands).parts_are)
 
 pub returns-in-Err-Ungranted-clause-came : goal.returns-in-Err-Ungranted-clause-came
 returns-in-Err-Ungranted-clause-came g c =

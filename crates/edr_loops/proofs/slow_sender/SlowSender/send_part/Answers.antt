@@ -1,5 +1,5 @@
 use Rattle.std.proofs.Common.{refl}
-use Rattle.edr_seats.specs.Slow.{parts_sent}
+use Rattle.edr_seats.specs.Rings.{items_sent}
 use Rattle.edr_loops.proofs.OfferLemmas.{one-longer}
 use Rattle.edr_loops.proofs.SlowSenderLemmas.{keeping-part}
 use Rattle.edr_loops.proofs.slow_sender.SlowSender.send_part.Goals as goal
@@ -9,4 +9,4 @@ returns-in-Sent-clause-keeping g c = λ xs h. keeping-part c.args.sensor xs c.in
 
 pub returns-in-Sent-clause-came : goal.returns-in-Sent-clause-came
 returns-in-Sent-clause-came g c = λ xs h.
-    one-longer (parts_sent c.args.self.now.seat) _ _ (c.in-Sent.ensures.stands _ _ h.stands).parts_are
+    one-longer (items_sent c.args.self.now.seat.sender) _ _ (c.in-Sent.ensures.stands _ _ h.stands).parts_are

@@ -27,8 +27,6 @@ invariant_of-self-2 c =
     let h = c.self.invariant in
     let is = accepted-is s.sensor s.last c.args.item (c.in_default.ensures.accepted.0 refl) in
     record {
-      size = h.size;
-      room = h.room;
       slow = h.slow;
       range = c.push.ensures.sensor s.sensor h.range is;
       near = c.push.ensures.mark;
