@@ -165,7 +165,7 @@ fn speeds_of(part: &Part) -> [Option<u16>; LONG_SLOTS]
     ensures slots { result ≡ numbers part.now.slots }
     ensures bounded { All (IsUpTo 300) result }
 {
-    speeds(part.slots)
+    speeds(&part.slots)
 }
 
 // The slots of a throttle part, in per cent.
@@ -174,7 +174,7 @@ fn per_cents_of(part: &Part) -> [Option<u8>; LONG_SLOTS]
     ensures slots { result ≡ numbers part.now.slots }
     ensures bounded { All (IsUpTo 100) result }
 {
-    per_cents(part.slots)
+    per_cents(&part.slots)
 }
 
 // The one slot of a switch's part.
@@ -213,7 +213,7 @@ pub fn pre_of(parts: &TakenParts, key: Key) -> Result<Pre, Sensor>
         slots: Slots::Long {
             speed: speeds_of(speed),
             throttle: per_cents_of(throttle),
-            brake: switches_of(brake.slots),
+            brake: switches_of(&brake.slots),
         },
         belt: first_switch(belt),
         lamp: first_switch(lamp),

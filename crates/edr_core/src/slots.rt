@@ -18,9 +18,9 @@ fn speed_of(slot: Option<i32>) -> Option<u16>
 }
 
 // Slots in km/h.
-pub fn speeds(slots: [Option<i32>; LONG_SLOTS]) -> [Option<u16>; LONG_SLOTS]
-    requires { All (IsUpTo 300) (numbers slots) }
-    ensures { result ≡ numbers slots }
+pub fn speeds(slots: &[Option<i32>; LONG_SLOTS]) -> [Option<u16>; LONG_SLOTS]
+    requires { All (IsUpTo 300) (numbers slots.now) }
+    ensures { result ≡ numbers slots.now }
 {
     let mut speeds = [None; LONG_SLOTS];
     for (k, slot) in slots.iter().enumerate() {
@@ -41,9 +41,9 @@ fn per_cent_of(slot: Option<i32>) -> Option<u8>
 }
 
 // Slots in per cent.
-pub fn per_cents(slots: [Option<i32>; LONG_SLOTS]) -> [Option<u8>; LONG_SLOTS]
-    requires { All (IsUpTo 100) (numbers slots) }
-    ensures { result ≡ numbers slots }
+pub fn per_cents(slots: &[Option<i32>; LONG_SLOTS]) -> [Option<u8>; LONG_SLOTS]
+    requires { All (IsUpTo 100) (numbers slots.now) }
+    ensures { result ≡ numbers slots.now }
 {
     let mut per_cents = [None; LONG_SLOTS];
     for (k, slot) in slots.iter().enumerate() {
@@ -60,8 +60,8 @@ pub fn switch_of(slot: Option<i32>) -> Option<bool>
 }
 
 // Slots of a switch.
-pub fn switches_of(slots: [Option<i32>; LONG_SLOTS]) -> [Option<bool>; LONG_SLOTS]
-    ensures { result ≡ switches slots }
+pub fn switches_of(slots: &[Option<i32>; LONG_SLOTS]) -> [Option<bool>; LONG_SLOTS]
+    ensures { result ≡ switches slots.now }
 {
     let mut switches = [None; LONG_SLOTS];
     for (k, slot) in slots.iter().enumerate() {
