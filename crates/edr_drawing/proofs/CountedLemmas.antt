@@ -7,10 +7,6 @@ use Rattle.edr_drawing.specs.Scales.{flat_map_below}
 pub counted_more : (f : ℕ → List ℕ) (n : ℕ) → flat_map_below f (n + 1) ≡ flat_map_below f n ++ f n
 counted_more f n = ap (flat_map_below f) (add-one n)
 
--- once the next part is appended, the rest gives the same as before
-pub part_appended : (out new part rest all : List ℕ) → out ++ (part ++ rest) ≡ all → new ≡ out ++ part → new ++ rest ≡ all
-part_appended out new part rest all so is = cc (append_assoc out part rest)
-
 -- the same of what is appended
 pub counted_appended : (f : ℕ → List ℕ) (n : ℕ) (start out new : List ℕ) → out ≡ start ++ flat_map_below f n → new ≡ out ++ f n → new ≡ start ++ flat_map_below f (n + 1)
 counted_appended f n start out new so is = cc (counted_more f n, append_assoc start (flat_map_below f n) (f n))

@@ -15,7 +15,7 @@ use Rattle.edr_drawing.specs.declared.shapes.TheConstants.{NONE}
 use Rattle.edr_drawing.specs.declared.Origin.{Origin}
 use Rattle.edr_drawing.specs.Cover.{NumberedRecord, cover_end, cover_start, damaged_item, damaged_list, event_row, events_table, greatest_or_none}
 use Rattle.edr_drawing.specs.Sheets.{pre_reasons, crash_reasons, reasons, firsts_words, place_fact, place_told, sheet}
-use Rattle.edr_drawing.specs.Tables.{points_table, elements_table, run_table, block, by_time, mph, mph_word, number_word, slot_row}
+use Rattle.edr_drawing.specs.Tables.{points_table, elements_table, run_table, block, by_time, number_word, slot_row}
 use Rattle.edr_drawing.specs.Page.{page_bytes}
 use Rattle.edr_drawing.proofs.PlainLemmas.{Plain, plain_nil, plain_fixed, plain_beginning, plain_decimal, plain_digest, plains}
 use Rattle.edr_drawing.proofs.PlainChartLemmas.{plain_before_chart, plain_after_chart}
@@ -40,13 +40,9 @@ plain_number_word : (v : Option ℕ) → Plain (number_word v)
 plain_number_word None = plain_fixed NONE.now refl
 plain_number_word (Some n) = plain_decimal n
 
-plain_mph_word : (v : Option ℕ) → Plain (mph_word v)
-plain_mph_word None = plain_fixed NONE.now refl
-plain_mph_word (Some kmh) = plain_decimal (mph kmh)
-
 plain_by_time : (n : ℕ) (p : PrePart) → Plain (by_time n p)
 unfolding by_time block slot_row
-plain_by_time n p = search (plain_number_word, plain_mph_word, plains) depth 60 fits 4000
+plain_by_time n p = search (plain_number_word, plains) depth 60 fits 4000
 
 -- the sheet of an event
 plain_firsts : (cycle : ℕ) (ns : List ℕ) → Plain (firsts_words cycle ns)

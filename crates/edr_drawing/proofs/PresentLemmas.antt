@@ -7,6 +7,7 @@ use Rattle.edr_drawing.specs.declared.before.ChartLane.{ChartLane}
 use Rattle.edr_drawing.specs.declared.before.TheConstants.{ROOM_FOR_WORD}
 use Rattle.edr_drawing.specs.declared.shapes.Shape.{Shape}
 use Rattle.edr_drawing.specs.declared.shapes.Shape.TheVariants as shape
+use Rattle.edr_drawing.specs.declared.shapes.TheConstants.{RADII}
 use Rattle.edr_drawing.specs.Shapes.{shape_bytes, shapes_bytes}
 use Rattle.edr_drawing.specs.Scales.{slot_x}
 use Rattle.edr_drawing.specs.Before.{lane_y, cell, cells, long_cells, point, points, run_shapes, word_y}
@@ -27,7 +28,7 @@ short_marks l k (None ∷ vs) =
     (cell l k None ++ rest.0, drawn_after (cell l k None) (cells l (k + 1) vs) rest.0 rest.1, rest.2)
 short_marks l k (Some v ∷ vs) =
     let rest = short_marks l (k + 1) vs in
-    let dot = shape.Dot (slot_x Short k) (lane_y l v) in
+    let dot = shape.Dot (slot_x Short k) (lane_y l v) RADII.0 in
     (cell l k (Some v) ++ rest.0, drawn_after (cell l k (Some v)) (cells l (k + 1) vs) rest.0 rest.1, ap (λ (xs : List Shape). dot ∷ xs) rest.2)
 
 -- the field of a run has no mark
@@ -51,7 +52,7 @@ long_marks l k n (None ∷ vs) =
 long_marks l k n (Some v ∷ vs) =
     let next : k + n + 1 + 0 ≡ k + n + 1 = omega arith in
     let rest = subst (λ (j : ℕ). Marks Long l j vs (long_cells l (k + n + 1) 0 vs)) next (long_marks l (k + n + 1) 0 vs) in
-    let dot = shape.Point (slot_x Long (k + n)) (lane_y l v) in
+    let dot = shape.Dot (slot_x Long (k + n)) (lane_y l v) RADII.1 in
     let field = run_shapes k n l.gap None in (
       field ++ dot ∷ rest.0,
       append_assoc (shapes_bytes field) (shapes_bytes (dot ∷ [])) (long_cells l (k + n + 1) 0 vs)

@@ -1,5 +1,5 @@
 -- The chart of the time after time zero: changes of speed, and on the same time axis what happened when.
-use Rattle.std.specs.Prelude.{ℕ, ◌+◌, ◌-◌, ◌*◌, ◌/◌, ℤ, pos, if◌then◌else◌, nat_lt, nat_le, nat_eq, List, [], ◌∷◌, ◌++◌, codes, decimal, ◌&&◌, Option, Some, None, get_or}
+use Rattle.std.specs.Prelude.{ℕ, Bool, ◌+◌, ◌-◌, ◌*◌, ◌/◌, ℤ, pos, if◌then◌else◌, nat_lt, nat_le, nat_eq, List, [], ◌∷◌, ◌++◌, codes, decimal, ◌&&◌, ◌||◌, Option, Some, None}
 use Rattle.std.specs.Fmt.{signed_decimal}
 use Rattle.std.specs.Ordering.{int_eq}
 use Rattle.edr_record.specs.declared.Extreme.{Extreme}
@@ -8,18 +8,23 @@ use Rattle.edr_record.specs.Parts.{CrashPart}
 use Rattle.edr_record.specs.Bounds.{window_from_end}
 use Rattle.edr_drawing.specs.declared.axes.CarAxis.{CarAxis}
 use Rattle.edr_drawing.specs.declared.axes.CarAxis.TheVariants.{Along, Across}
-use Rattle.edr_drawing.specs.declared.axes.TheConstants.{NO_SAMPLE}
-use Rattle.edr_drawing.specs.declared.after.TheConstants.{AXIS_NAMES, AXIS_WORDS, CENTRED_OR_ENDING, DIAMOND, DIAMOND_UP, DIAMONDS, END_LINE, FAR_RIGHT, GAPPED_END, GAPPED_START, GAPS_Y, LEGEND, LEGEND_GAPS, LEVEL, LEVEL_CLASSES, MAXIMUM_NUMBER, NEXT_LINE, NOT_RECORDED, NUMBER_DOWN, NUMBER_UP, PAST_WINDOW, ROOM_NOT_RECORDED, SILENT_CURVE, SILENT_DOWN, SILENT_UP, TIME_LINES, TIMES_APART, ZERO_LINES, ACROSS_ROW, AFTER_HEAD, ALONG_ROW, BESIDE_CLASSES, BESIDE_FLAG, CHART_END, EMPTY_ROW, END_ROW, FIRED_ROW, FLAG_DOWN, FLAG_FAR_RIGHT, RESTRAINTS, RESTRAINTS_Y, RESULTANT_ROW, ROWS_END, ROW_HEIGHT, RULE, TIMED_ROW, WITHOUT_PART, WORDS_DOWN}
+use Rattle.edr_drawing.specs.declared.axes.TheConstants.{AXIS_NAMES, NO_SAMPLE}
+use Rattle.edr_drawing.specs.declared.after.TheConstants.{AXIS_WORDS, CENTRED_OR_ENDING, DIAMOND, DIAMOND_UP, DIAMONDS, END_LINE, FAR_RIGHT, GAPPED, GAPS_Y, LEGEND, LEGEND_GAPS, LEVEL, LEVEL_CLASSES, MAXIMUM_NUMBER, NEXT_LINE, NOT_RECORDED, NUMBER_FROM, PAST_WINDOW, ROOM_NOT_RECORDED, SILENT_CURVE, SILENT_FROM, TIME_LINES, TIMES_APART, ZERO_LINES, AFTER_HEAD, BESIDE_CLASSES, BESIDE_FLAG, CHART_END, EMPTY_ROW, FIRST_RESTRAINT, FLAG_DOWN, FLAG_FAR_RIGHT, NAME_CLASSES, ROW, ROWS, ROWS_Y, ROW_HEIGHT, RULE, WITHOUT_PART, WORDS_CLASSES, WORDS_DOWN}
+use Rattle.edr_drawing.specs.declared.after.AtPoint.{AtPoint}
+use Rattle.edr_drawing.specs.declared.after.AtPoint.TheVariants.{Joint, Dot, Square}
+use Rattle.edr_drawing.specs.declared.after.ChartRow.{ChartRow}
+use Rattle.edr_drawing.specs.declared.after.ChartRow.TheVariants.{End, Greatest, Resultant, Fired}
 use Rattle.edr_drawing.specs.declared.scales.Scale.{Scale}
 use Rattle.edr_drawing.specs.declared.scales.TheConstants.{BELOW_TOP, HEIGHT, RIGHT}
 use Rattle.edr_drawing.specs.declared.shapes.Shape.{Shape}
 use Rattle.edr_drawing.specs.declared.shapes.Shape.TheVariants as shape
-use Rattle.edr_drawing.specs.declared.shapes.TheConstants.{PATH, PATH_END, PATHS, NONE}
+use Rattle.edr_drawing.specs.declared.shapes.TheConstants.{PATH, PATH_END, PATHS, NONE, RADII}
 use Rattle.edr_drawing.specs.Template.{either, filled, filled_if, fixed}
-use Rattle.edr_drawing.specs.Shapes.{path_point, shapes_bytes}
+use Rattle.edr_drawing.specs.Shapes.{shapes_bytes}
 use Rattle.edr_drawing.specs.Scales.{flat_map_below, change_y, time_x, scale_of}
 use Rattle.edr_drawing.specs.Axes.{extreme_of, is_silent, missing_of, of_axis, points_of, greatest_words}
-use Rattle.edr_report.specs.Words.{extreme_words, milliseconds}
+use Rattle.edr_drawing.specs.Tables.{slot_at}
+use Rattle.edr_report.specs.Words.{milliseconds}
 
 -- ---- the frame
 
@@ -57,35 +62,33 @@ end_line end past =
 
 -- ---- the curves
 
--- the points of an axis, the first of which is that of i times 10 ms
-abbrev pub axis_points : Scale → ℕ → List ℤ → List ℕ
-axis_points s i [] = []
-axis_points s i (v ∷ vs) = path_point (nat_lt 0 i) (time_x s (POINT_STEP * i)) (change_y s v) ++ axis_points s (i + 1) vs
+-- a joint of its path at each point of an axis, or its mark
+abbrev pub shape_at : AtPoint → Bool → ℕ → ℕ → Shape
+shape_at Joint joined x y = shape.Joint joined x y
+shape_at Dot joined x y = shape.Dot x y RADII.0
+shape_at Square joined x y = shape.Square x y
 
--- a dot at each point along, a square at each point across
-abbrev pub mark_at : CarAxis → ℕ → ℕ → Shape
-mark_at Along x y = shape.Dot x y
-mark_at Across x y = shape.Square x y
-
-abbrev pub axis_marks : Scale → CarAxis → ℕ → List ℤ → List ℕ
-axis_marks s a i [] = []
-axis_marks s a i (v ∷ vs) = shapes_bytes (mark_at a (time_x s (POINT_STEP * i)) (change_y s v) ∷ []) ++ axis_marks s a (i + 1) vs
+-- these at the points of an axis, the first of which is that of i times 10 ms
+abbrev pub axis_shapes : Scale → AtPoint → ℕ → List ℤ → List ℕ
+axis_shapes s what i [] = []
+axis_shapes s what i (v ∷ vs) =
+    shapes_bytes (shape_at what (nat_lt 0 i) (time_x s (POINT_STEP * i)) (change_y s v) ∷ []) ++ axis_shapes s what (i + 1) vs
 
 -- the curve of an axis that has samples
 unfoldable pub drawn_curve : Scale → CrashPart → CarAxis → List ℕ
 drawn_curve s c a =
-    filled_if (nat_lt 0 (missing_of c a)) GAPPED_START.now []
+    filled_if (nat_lt 0 (missing_of c a)) GAPPED.0.now []
     ++ filled PATH.now (of_axis a PATHS.0.now PATHS.1.now ∷ [])
-    ++ axis_points s 0 (points_of c a)
+    ++ axis_shapes s Joint 0 (points_of c a)
     ++ fixed PATH_END.now
-    ++ axis_marks s a 0 (points_of c a)
-    ++ filled_if (nat_lt 0 (missing_of c a)) GAPPED_END.now []
+    ++ axis_shapes s (of_axis a Dot Square) 0 (points_of c a)
+    ++ filled_if (nat_lt 0 (missing_of c a)) GAPPED.1.now []
 
 -- what stands in its place where the axis has none
 abbrev pub silent_curve : Scale → CarAxis → List ℕ
 silent_curve s a =
     filled SILENT_CURVE.now
-    (decimal (of_axis a (change_y s (pos 0) + SILENT_DOWN) (change_y s (pos 0) - SILENT_UP))
+    (decimal (of_axis a (change_y s (pos 0) + SILENT_FROM.0) (change_y s (pos 0) - SILENT_FROM.1))
     ∷ of_axis a AXIS_WORDS.0.now AXIS_WORDS.1.now
     ∷ of_axis a AXIS_NAMES.0.now AXIS_NAMES.1.now
     ∷ NO_SAMPLE.now
@@ -112,7 +115,7 @@ maximum_number s a e =
     then []
     else filled MAXIMUM_NUMBER.now
     (decimal (time_x s e.at)
-    ∷ decimal (of_axis a (change_y s e.kmh + NUMBER_DOWN) (change_y s e.kmh - NUMBER_UP))
+    ∷ decimal (of_axis a (change_y s e.kmh + NUMBER_FROM.0) (change_y s e.kmh - NUMBER_FROM.1))
     ∷ of_axis a AXIS_WORDS.0.now AXIS_WORDS.1.now
     ∷ signed_decimal e.kmh
     ∷ [])
@@ -151,68 +154,54 @@ changes_chart s c =
 abbrev pub beside : ℕ → ℕ
 beside x = if nat_lt x FLAG_FAR_RIGHT then x + BESIDE_FLAG else x - BESIDE_FLAG
 
--- the row of something at a time, which stands there across, with its name and these words
-abbrev pub timed_row : List ℕ → ℕ → List ℕ → ℕ → List ℕ → List ℕ
-timed_row template y label x words =
-    filled template
-    (decimal (y + WORDS_DOWN)
-    ∷ label
-    ∷ decimal x
-    ∷ decimal (y + FLAG_DOWN)
-    ∷ decimal (beside x)
-    ∷ either (nat_lt x FLAG_FAR_RIGHT) BESIDE_CLASSES.0.now BESIDE_CLASSES.1.now
+-- when that was which a row shows, if it was
+abbrev pub row_time : CrashPart → ChartRow → Option ℕ
+row_time c End = Some c.end
+row_time c (Greatest a) = if is_silent c a then None else Some (extreme_of c a).at
+row_time c Resultant = if is_silent c Along && is_silent c Across then None else Some c.result_at
+row_time c (Fired place) = slot_at c.fired place
+
+-- the words beside its flag, or those that it isn't there
+abbrev pub time_words : Option ℕ → List ℕ → List ℕ
+time_words (Some t) none = milliseconds t
+time_words None none = none
+
+abbrev pub row_words : CrashPart → ChartRow → List ℕ
+row_words c (Greatest a) = greatest_words c a
+row_words c (Fired place) = time_words (slot_at c.fired place) NONE.now
+row_words c r = time_words (row_time c r) NO_SAMPLE.now
+
+abbrev pub row_y : ℕ → ℕ
+row_y k = ROWS_Y + ROW_HEIGHT * k
+
+-- row k with this name and these words, with a flag at this time
+abbrev pub flag_row : Scale → ℕ → List ℕ → List ℕ → Option ℕ → List ℕ
+flag_row s k name words None = filled EMPTY_ROW.now (decimal (row_y k + WORDS_DOWN) ∷ name ∷ words ∷ [])
+flag_row s k name words (Some t) =
+    filled ROW.now
+    (decimal (row_y k + WORDS_DOWN)
+    ∷ name
     ∷ words
+    ∷ decimal (time_x s t)
+    ∷ decimal (row_y k + FLAG_DOWN)
+    ∷ decimal (beside (time_x s t))
+    ∷ either (nat_lt (time_x s t) FLAG_FAR_RIGHT) BESIDE_CLASSES.0.now BESIDE_CLASSES.1.now
+    ∷ either (nat_lt k FIRST_RESTRAINT) NAME_CLASSES.0.now NAME_CLASSES.1.now
+    ∷ either (nat_lt k FIRST_RESTRAINT) WORDS_CLASSES.0.now WORDS_CLASSES.1.now
     ∷ [])
 
--- the row of what isn't there, with a word that says so
-abbrev pub empty_row : ℕ → List ℕ → List ℕ → List ℕ
-empty_row y label word = filled EMPTY_ROW.now (decimal (y + WORDS_DOWN) ∷ label ∷ word ∷ [])
+-- the row after the line that stands above the first one of its part
+unfoldable pub chart_row : Scale → CrashPart → ℕ → List ℕ → ChartRow → List ℕ
+chart_row s c k name r =
+    filled_if (nat_eq k 0 || nat_eq k FIRST_RESTRAINT) RULE.now (decimal (row_y k) ∷ [])
+    ++ flag_row s k name (row_words c r) (row_time c r)
 
--- ---- the restraints, in the order of a record
-
-abbrev pub restraint_y : ℕ → ℕ
-restraint_y row = RESTRAINTS_Y + ROW_HEIGHT * row
-
-unfoldable pub restraint_row : Scale → ℕ → List ℕ → Option ℕ → List ℕ
-restraint_row s row label (Some t) = timed_row FIRED_ROW.now (restraint_y row) label (time_x s t) (milliseconds t)
-restraint_row s row label None = empty_row (restraint_y row) label NONE.now
-
--- the rows of restraints with these labels, the first of which stands in this row
-abbrev pub restraint_rows : {L : Type 0} → (L → List ℕ) → Scale → ℕ → List L → List (Option ℕ) → List ℕ
-restraint_rows name s row [] fired = []
-restraint_rows name s row (l ∷ ls) fired = restraint_row s row (name l) (get_or fired row None) ++ restraint_rows name s (row + 1) ls fired
-
--- ---- the end of the event and the greatest changes
-
--- the row of the greatest change of an axis, and that of the greatest resultant
-unfoldable pub extreme_row : Scale → ℕ → List ℕ → CrashPart → CarAxis → List ℕ
-extreme_row s y label c a =
-    if is_silent c a
-    then empty_row y label NO_SAMPLE.now
-    else timed_row TIMED_ROW.now y label (time_x s (extreme_of c a).at) (extreme_words (extreme_of c a))
-
-unfoldable pub resultant_row : Scale → CrashPart → List ℕ
-resultant_row s c =
-    if is_silent c Along && is_silent c Across
-    then empty_row RESULTANT_ROW.0 RESULTANT_ROW.1.now NO_SAMPLE.now
-    else timed_row TIMED_ROW.now RESULTANT_ROW.0 RESULTANT_ROW.1.now (time_x s c.result_at) (milliseconds c.result_at)
+-- rows with these names, from row k on
+abbrev pub chart_rows : {L : Type 0} → (L → List ℕ) → (L → ChartRow) → Scale → CrashPart → ℕ → List L → List ℕ
+chart_rows name shown s c k [] = []
+chart_rows name shown s c k (l ∷ ls) = chart_row s c k (name l) (shown l) ++ chart_rows name shown s c (k + 1) ls
 
 -- ---- the whole chart
-
-abbrev pub rule : ℕ → List ℕ
-rule y = filled RULE.now (decimal y ∷ [])
-
-unfoldable pub rows_chart : Scale → CrashPart → List ℕ
-rows_chart s c =
-    rule END_ROW.0
-    ++ timed_row TIMED_ROW.now END_ROW.0 END_ROW.1.now (time_x s c.end) (milliseconds c.end)
-    ++ extreme_row s ALONG_ROW.0 ALONG_ROW.1.now c Along
-    ++ extreme_row s ACROSS_ROW.0 ACROSS_ROW.1.now c Across
-    ++ resultant_row s c
-    ++ rule RESTRAINTS_Y
-    ++ restraint_rows (λ l. l.now) s 0 RESTRAINTS c.fired
-    ++ rule ROWS_END
-    ++ fixed CHART_END.now
 
 -- the title and the description of the chart of event n
 abbrev pub after_head : ℕ → CrashPart → List ℕ
@@ -221,4 +210,4 @@ after_head n c = filled AFTER_HEAD.now (decimal n ∷ greatest_words c Along ∷
 -- the chart, or what stands in its place where nothing after time zero is recorded
 unfoldable pub after_chart : ℕ → Option CrashPart → List ℕ
 after_chart n None = filled WITHOUT_PART.now (decimal n ∷ [])
-after_chart n (Some c) = after_head n c ++ changes_chart (scale_of c) c ++ rows_chart (scale_of c) c
+after_chart n (Some c) = after_head n c ++ changes_chart (scale_of c) c ++ chart_rows (λ l. l.0.now) (λ l. l.1) (scale_of c) c 0 ROWS ++ fixed CHART_END.now

@@ -4,12 +4,12 @@ use Rattle.edr_record.specs.declared.Profile.{Profile}
 use Rattle.edr_record.specs.declared.Profile.TheVariants.{Short, Long}
 use Rattle.edr_drawing.specs.declared.shapes.Shape.{Shape}
 use Rattle.edr_drawing.specs.declared.shapes.Shape.TheVariants as shape
-use Rattle.edr_drawing.specs.declared.shapes.TheConstants.{PATH, PATH_END, PATHS}
+use Rattle.edr_drawing.specs.declared.shapes.TheConstants.{PATH, PATH_END, PATHS, RADII}
 use Rattle.edr_drawing.specs.declared.before.Band.{Band}
 use Rattle.edr_drawing.specs.declared.before.ChartLane.{ChartLane}
-use Rattle.edr_drawing.specs.declared.before.TheConstants.{FIELD_WIDTH, GRID_LINE, ROOM_FOR_WORD, BEFORE_END, BEFORE_HEAD, BELT_NAME, BELT_Y, BRAKE_BAND, BRAKE_NAME, LAMP_NAME, LAMP_Y, LAST_SPEED_STEP, SECOND_SLOTS, SLOTS_APART, SPANS, SPEED, SPEED_LINES, SPEED_STEPS, THROTTLE, THROTTLE_NAME, TIME_LINE, TIMES, ZERO_LINE}
+use Rattle.edr_drawing.specs.declared.before.TheConstants.{FIELD_WIDTH, GRID_LINE, ROOM_FOR_WORD, BEFORE_END, BEFORE_HEAD, BELT_NAME, BRAKE_BAND, BRAKE_NAME, LAMP_NAME, MOMENTS_Y, LAST_SPEED_STEP, SECOND_SLOTS, SLOTS_APART, SPANS, SPEED, SPEED_LINES, SPEED_STEPS, THROTTLE, THROTTLE_NAME, TIME_LINE, TIMES, ZERO_LINE}
 use Rattle.edr_drawing.specs.Template.{filled, fixed, of_profile, seconds}
-use Rattle.edr_drawing.specs.Shapes.{path_point, shapes_bytes}
+use Rattle.edr_drawing.specs.Shapes.{shapes_bytes}
 use Rattle.edr_drawing.specs.Scales.{slot_x, flat_map_below, time_at, least_step, scale_top}
 use Rattle.edr_record.specs.Parts.{PrePart}
 
@@ -27,7 +27,7 @@ grid l = flat_map_below (λ i. grid_line l (l.step * i)) (l.top / l.step + 1)
 
 -- a point of a path: joined to the slot before it where that is there, and else a new beginning
 abbrev pub point : Profile → ChartLane → ℕ → Bool → ℕ → List ℕ
-point f l k before value = path_point before (slot_x f k) (lane_y l value)
+point f l k before value = shapes_bytes (shape.Joint before (slot_x f k) (lane_y l value) ∷ [])
 
 -- the points of these slots, the first of which has the number k
 abbrev pub points : Profile → ChartLane → ℕ → Bool → List (Option ℕ) → List ℕ
@@ -48,7 +48,7 @@ field_shapes x b v = shape.Field (x - FIELD_WIDTH / 2) b.y FIELD_WIDTH b.height 
 -- what stands in the place of a slot
 abbrev pub cell : ChartLane → ℕ → Option ℕ → List Shape
 cell l k None = field_shapes (slot_x Short k) l.gap None
-cell l k (Some v) = shape.Dot (slot_x Short k) (lane_y l v) ∷ shape.Value (slot_x Short k) (lane_y l v - 17) v ∷ []
+cell l k (Some v) = shape.Dot (slot_x Short k) (lane_y l v) RADII.0 ∷ shape.Value (slot_x Short k) (lane_y l v - 17) v ∷ []
 
 abbrev pub cells : ChartLane → ℕ → List (Option ℕ) → List ℕ
 cells l k [] = []
@@ -78,7 +78,7 @@ long_cells l k n [] = run_bytes k n l.gap None
 long_cells l k n (None ∷ vs) = long_cells l k (n + 1) vs
 long_cells l k n (Some v ∷ vs) =
     run_bytes k n l.gap None
-    ++ shapes_bytes (shape.Point (slot_x Long (k + n)) (lane_y l v) ∷ [])
+    ++ shapes_bytes (shape.Dot (slot_x Long (k + n)) (lane_y l v) RADII.1 ∷ [])
     ++ long_cells l (k + n + 1) 0 vs
 
 -- the marks and fields of the slots of a profile
@@ -181,7 +181,7 @@ before_chart n p =
     ++ fixed BRAKE_NAME.now
     ++ brake_slots p.profile p.brake
     ++ fixed BELT_NAME.now
-    ++ switch_moment p.profile BELT_Y p.belt
+    ++ switch_moment p.profile MOMENTS_Y.0 p.belt
     ++ fixed LAMP_NAME.now
-    ++ switch_moment p.profile LAMP_Y p.lamp
+    ++ switch_moment p.profile MOMENTS_Y.1 p.lamp
     ++ fixed BEFORE_END.now

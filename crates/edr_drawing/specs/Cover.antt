@@ -66,10 +66,6 @@ event_row n bank r =
     ∷ either (is_complete r) YES_NO.0.now YES_NO.1.now
     ∷ [])
 
--- as the code has it
-abbrev pub row_of_event : FoundEvent → List ℕ
-row_of_event e = event_row e.number e.bank e.event.now
-
 abbrev pub event_rows : List NumberedRecord → List ℕ
 event_rows events = flat_map (λ e. event_row e.0 e.1.0 e.1.1) events
 
@@ -103,10 +99,6 @@ cover_start events found count =
     filled FIRST_SHEET.now (decimal (length events) ∷ decimal (damaged_in found) ∷ decimal (number_shown count) ∷ [])
     ++ events_table events
     ++ damaged_list found
-
--- as the code has it
-abbrev pub cover_of : List FoundEvent → List Found → ℕ → List ℕ
-cover_of events found count = cover_start (numbered events) found count
 
 -- after them: fields that are filled in by hand, and how to read the pages
 unfoldable pub cover_end : Origin → List ℕ

@@ -20,6 +20,7 @@ use Rattle.edr_drawing.specs.Axes.{greatest_words}
 use Rattle.edr_drawing.specs.After.{curve, maximum, silent_curve}
 use Rattle.edr_drawing.specs.declared.shapes.Shape.{Shape}
 use Rattle.edr_drawing.specs.declared.shapes.Shape.TheVariants as shape
+use Rattle.edr_drawing.specs.declared.shapes.TheConstants.{RADII}
 use Rattle.edr_drawing.specs.declared.before.ChartLane.{ChartLane}
 use Rattle.edr_drawing.specs.declared.scales.Scale.{Scale}
 use Rattle.edr_drawing.specs.Shapes.{shapes_bytes}
@@ -89,12 +90,11 @@ present k (Some v ∷ vs) = (k, v) ∷ present (k + 1) vs
 
 -- the mark of a slot that is there
 abbrev pub mark_of : Profile → ChartLane → ℕ × ℕ → Shape
-mark_of Short l e = shape.Dot (slot_x Short e.0) (lane_y l e.1)
-mark_of Long l e = shape.Point (slot_x Long e.0) (lane_y l e.1)
+mark_of Short l e = shape.Dot (slot_x Short e.0) (lane_y l e.1) RADII.0
+mark_of Long l e = shape.Dot (slot_x Long e.0) (lane_y l e.1) RADII.1
 
 abbrev pub is_mark : Shape → Bool
-is_mark (shape.Dot x y) = true
-is_mark (shape.Point x y) = true
+is_mark (shape.Dot x y radius) = true
 is_mark s = false
 
 -- the shapes of the fields of slots, whose marks are those of the slots that are there, in order

@@ -7,14 +7,17 @@ use Rattle.edr_record.specs.declared.TheConstants.{LONGEST_PAIR}
 use Rattle.edr_record.specs.Parts.{PrePart, CrashPart}
 use Rattle.edr_report.specs.declared.TheConstants.{LARGEST_SHOWN_COUNT}
 use Rattle.edr_report.specs.Words.{number_shown, tenths_of}
-use Rattle.edr_drawing.specs.declared.sheets.TheConstants.{ELSEWHERE, EVENT, IF_SAME_CYCLE, OR_EVENT, PLACE_END, PLACE_START, SECOND_AFTER, ACROSS_ABSENT, ALONG_ABSENT, BELT, BRAKE_ABSENT, LIST_END, PART_ABSENT, REASONS_START, SPEED_ABSENT, SWITCH_ABSENT, THROTTLE_ABSENT, LAMP, PROFILES, SHEET_FOOT, SHEET_HEAD, YES_NO}
+use Rattle.edr_drawing.specs.declared.sheets.TheConstants.{ELSEWHERE, EVENT, IF_SAME_CYCLE, OR_EVENT, PLACE_END, PLACE_START, SECOND_AFTER, LIST_END, PART_ABSENT, PROFILES, REASONS_START, SAMPLED, SAMPLES_ABSENT, SHEET_FOOT, SHEET_HEAD, SWITCHES, SWITCH_ABSENT, WINDOW_ABSENT, YES_NO}
 use Rattle.edr_drawing.specs.declared.template.TheConstants.{FIRST}
 use Rattle.edr_drawing.specs.Template.{filled, filled_if, fixed, seconds, digest_hex, either, of_profile}
-use Rattle.edr_drawing.specs.Cover.{NumberedRecord, numbered}
+use Rattle.edr_drawing.specs.Cover.{NumberedRecord}
 use Rattle.edr_record.specs.declared.Record.{Record}
 use Rattle.edr_record.specs.Bounds.{window_from_end}
 use Rattle.edr_record.specs.Complete.{is_complete}
-use Rattle.edr_drawing.specs.declared.cover.FoundEvent.{FoundEvent}
+use Rattle.edr_drawing.specs.declared.axes.CarAxis.{CarAxis}
+use Rattle.edr_drawing.specs.declared.axes.CarAxis.TheVariants.{Along, Across}
+use Rattle.edr_drawing.specs.declared.axes.TheConstants.{AXIS_NAMES}
+use Rattle.edr_drawing.specs.Axes.{missing_of, of_axis}
 use Rattle.edr_drawing.specs.Before.{before_chart}
 use Rattle.edr_drawing.specs.Tables.{by_time, points_table, elements_table}
 use Rattle.edr_drawing.specs.After.{after_chart}
@@ -64,28 +67,29 @@ place_told events key (Second after) =
 unfoldable pub place_fact : List NumberedRecord → Key → Place → List ℕ
 place_fact events key place = fixed PLACE_START.now ++ place_told events key place ++ fixed PLACE_END.now
 
--- how many of so many samples are absent, if any is
-abbrev pub share_reason : List ℕ → ℕ → ℕ → List ℕ
-share_reason template absent count = filled_if (nat_lt 0 absent) template (decimal absent ∷ decimal count ∷ [])
+-- how many of so many samples of this are absent, if any is
+abbrev pub share_reason : List ℕ → List ℕ → ℕ → ℕ → List ℕ
+share_reason template name absent count = filled_if (nat_lt 0 absent) template (name ∷ decimal absent ∷ decimal count ∷ [])
 
--- the same of the slots of a list
+-- the same of the slots of a list, and of the milliseconds of the window of an axis
 abbrev pub slots_reason : {T : Type 0} → List ℕ → List (Option T) → List ℕ
-slots_reason template vs = share_reason template (count_by is_none vs) (length vs)
+slots_reason name vs = share_reason SAMPLES_ABSENT.now name (count_by is_none vs) (length vs)
+
+abbrev pub missing_reason : CrashPart → CarAxis → List ℕ
+missing_reason c a = share_reason WINDOW_ABSENT.now (of_axis a AXIS_NAMES.0.now AXIS_NAMES.1.now) (missing_of c a) (window_from_end c.end)
 
 -- what is absent of the time before time zero, and after it
 unfoldable pub pre_reasons : PrePart → List ℕ
 pre_reasons p =
-    slots_reason SPEED_ABSENT.now p.speed
-    ++ slots_reason THROTTLE_ABSENT.now p.throttle
-    ++ slots_reason BRAKE_ABSENT.now p.brake
-    ++ filled_if (is_none p.belt) SWITCH_ABSENT.now (BELT.now ∷ [])
-    ++ filled_if (is_none p.lamp) SWITCH_ABSENT.now (LAMP.now ∷ [])
+    slots_reason SAMPLED.0.now p.speed
+    ++ slots_reason SAMPLED.1.now p.throttle
+    ++ slots_reason SAMPLED.2.now p.brake
+    ++ filled_if (is_none p.belt) SWITCH_ABSENT.now (SWITCHES.0.now ∷ [])
+    ++ filled_if (is_none p.lamp) SWITCH_ABSENT.now (SWITCHES.1.now ∷ [])
 
 abbrev pub crash_reasons : Option CrashPart → List ℕ
 crash_reasons None = fixed PART_ABSENT.now
-crash_reasons (Some c) =
-    share_reason ALONG_ABSENT.now c.missing_along (window_from_end c.end)
-    ++ share_reason ACROSS_ABSENT.now c.missing_across (window_from_end c.end)
+crash_reasons (Some c) = missing_reason c Along ++ missing_reason c Across
 
 -- why a record isn't complete, if it isn't
 unfoldable pub reasons : Record → List ℕ
@@ -117,10 +121,6 @@ sheet events n bank r digest =
 
 -- ---- the sheets of a page
 
--- that of an event as the code has it
-abbrev pub sheet_of : List FoundEvent → FoundEvent → List ℕ → List ℕ
-sheet_of events e digest = sheet (numbered events) e.number e.bank e.event.now digest
-
--- the sheets of all events
+-- those of all events
 abbrev pub sheets : List NumberedRecord → List ℕ → List ℕ
 sheets events digest = flat_map (λ e. sheet events e.0 e.1.0 e.1.1 digest) events

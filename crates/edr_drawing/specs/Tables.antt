@@ -14,12 +14,12 @@ use Rattle.edr_report.specs.Lines.{Line}
 use Rattle.edr_report.specs.Report.{event_lines, run_lines}
 use Rattle.edr_drawing.specs.declared.axes.CarAxis.{CarAxis}
 use Rattle.edr_drawing.specs.declared.axes.CarAxis.TheVariants.{Along, Across}
-use Rattle.edr_drawing.specs.declared.axes.TheConstants.{NO_SAMPLE}
+use Rattle.edr_drawing.specs.declared.axes.TheConstants.{AXIS_NAMES, NO_SAMPLE}
 use Rattle.edr_drawing.specs.declared.tables.Elements.{Elements}
 use Rattle.edr_drawing.specs.declared.tables.Rows.{Rows}
-use Rattle.edr_drawing.specs.declared.tables.TheConstants.{ACROSS_ROW, ALONG_ROW, CELL, ELEMENTS_END, ELEMENTS_START, IN_TABLE, LINE_END, LINE_NAME, LINE_VALUE, LISTS, MOST_TAKEN, NEXT_TABLE, POINT_TIME, POINTS_BODY, POINTS_START, ROW_END, RUN_START, SECOND_TABLE, SILENT_CELL, TABLE_END, BLOCK_START, BY_TIME_END, BY_TIME_START, KILOMETRE, LONG_BLOCKS, MILE, SLOT_ROW}
+use Rattle.edr_drawing.specs.declared.tables.TheConstants.{AXIS_ROW, CELL, ELEMENTS_END, ELEMENTS_START, IN_TABLE, LINE_END, LINE_NAME, LINE_VALUE, LISTS, MOST_TAKEN, NEXT_TABLE, POINT_TIME, POINTS_BODY, POINTS_START, ROW_END, RUN_START, SECOND_TABLE, SILENT_CELL, TABLE_END, BLOCK_START, BY_TIME_END, BY_TIME_START, KILOMETRE, LONG_BLOCKS, MILE, SLOT_ROW}
 use Rattle.edr_drawing.specs.Template.{filled, fixed, before_zero, of_profile, of_switch}
-use Rattle.edr_drawing.specs.Axes.{is_silent, points_of}
+use Rattle.edr_drawing.specs.Axes.{is_silent, of_axis, points_of}
 use Rattle.edr_drawing.specs.Scales.{flat_map_below}
 use Rattle.edr_record.specs.declared.Profile.{Profile}
 use Rattle.edr_record.specs.declared.Profile.TheVariants.{Short, Long}
@@ -78,8 +78,8 @@ axis_cells c a =
     else flat_map change_cell (points_of c a)
 
 -- the row of an axis
-abbrev pub change_row : List ℕ → CrashPart → CarAxis → List ℕ
-change_row start c a = fixed start ++ axis_cells c a ++ fixed ROW_END.now
+abbrev pub change_row : CrashPart → CarAxis → List ℕ
+change_row c a = filled AXIS_ROW.now (of_axis a AXIS_NAMES.0.now AXIS_NAMES.1.now ∷ []) ++ axis_cells c a ++ fixed ROW_END.now
 
 -- the table of the changes of speed, where they are there
 unfoldable pub points_table : Option CrashPart → List ℕ
@@ -88,8 +88,8 @@ points_table (Some c) =
     fixed POINTS_START.now
     ++ time_cells (point_count c.end)
     ++ fixed POINTS_BODY.now
-    ++ change_row ALONG_ROW.now c Along
-    ++ change_row ACROSS_ROW.now c Across
+    ++ change_row c Along
+    ++ change_row c Across
     ++ fixed TABLE_END.now
 
 -- ---- the lines of a report
@@ -146,12 +146,9 @@ number_word None = NONE.now
 number_word (Some n) = decimal n
 
 -- kilometres an hour as miles an hour, rounded
-abbrev pub mph : ℕ → ℕ
-mph kmh = (kmh * KILOMETRE + MILE / 2) / MILE
-
-abbrev pub mph_word : Option ℕ → List ℕ
-mph_word None = NONE.now
-mph_word (Some kmh) = decimal (mph kmh)
+abbrev pub mph : Option ℕ → Option ℕ
+mph None = None
+mph (Some kmh) = Some ((kmh * KILOMETRE + MILE / 2) / MILE)
 
 -- the row of slot k: its time, and each value of that slot
 unfoldable pub slot_row : PrePart → ℕ → List ℕ
@@ -159,7 +156,7 @@ slot_row p k =
     filled SLOT_ROW.now
     (before_zero (slot_tenths p.profile k)
     ∷ number_word (slot_at p.speed k)
-    ∷ mph_word (slot_at p.speed k)
+    ∷ number_word (mph (slot_at p.speed k))
     ∷ number_word (slot_at p.throttle k)
     ∷ of_switch (slot_at p.brake k) SWITCH_WORDS.0.now SWITCH_WORDS.1.now SWITCH_WORDS.2.now
     ∷ [])

@@ -3,18 +3,17 @@
 ghost use Rattle.std.specs.Prelude.{◌≡◌, ◌++◌, ◌≤◌, ◌<◌, ◌+◌, ◌-◌, ◌*◌, ◌/◌, OnOk, length};
 ghost use Rattle.edr_record.specs.declared.TheConstants.{POINTS};
 ghost use Rattle.edr_drawing.specs.Scales.{IsScale};
-ghost use Rattle.edr_drawing.specs.After.{axis_marks, axis_points, changes_chart, curve, end_line, legend_gaps, level, levels, mark_at, maximum, silent_curve, time_lines, after_chart, beside, empty_row, extreme_row, restraint_row, restraint_rows, resultant_row, rows_chart, timed_row};
+ghost use Rattle.edr_drawing.specs.After.{axis_shapes, changes_chart, curve, end_line, legend_gaps, level, levels, maximum, shape_at, silent_curve, time_lines, after_chart, beside, chart_row, row_time, chart_rows, row_words, time_words};
 ghost use Rattle.edr_drawing.specs.Template.{filling_bytes};
 
 use crate::axes::{
-    CarAxis, NO_SAMPLE, extreme_of, greatest, is_silent, missing_of, of_axis, points_of,
-    text_of_axis,
+    AXIS_NAMES, CarAxis, NO_SAMPLE, extreme_of, greatest, is_silent, missing_of, of_axis,
+    points_of, text_of_axis,
 };
 use crate::scales::{BELOW_TOP, HEIGHT, RIGHT, Scale};
-use crate::shapes::{NONE, PATH, PATH_END, PATHS, Shape, draw, put_point};
-use crate::template::Filling::{
-    Below, Change, Count, Extreme as Greatest, Milliseconds, Number, Text,
-};
+use crate::shapes::{NONE, PATH, PATH_END, PATHS, RADII, Shape, draw};
+use crate::tables::slot_at;
+use crate::template::Filling::{Below, Change, Count, Milliseconds, Number, Text};
 use crate::template::{Drawn, Filling, either, fill, fill_if, put};
 use edr_record::{Crash, Extreme, POINT_STEP, window_from_end};
 
@@ -66,20 +65,14 @@ pub const GAPS_Y: (u32, u32) = (286, 406);
 pub const NEXT_LINE: u32 = 28;
 
 /// What stands around the curve of an axis that lacks samples.
-pub const GAPPED_START: &[u8] = b"<g class=\"q\">\n";
-
-pub const GAPPED_END: &[u8] = b"</g>\n";
+pub const GAPPED: (&[u8], &[u8]) = (b"<g class=\"q\">\n", b"</g>\n");
 
 /// What stands in the place of the curve of an axis without any sample.
 pub const SILENT_CURVE: &[u8] = br#"<text x="1816" y="{0}" class="e h {1}">{2}: {3}</text>
 "#;
 
-/// How far from 0 these words stand.
-pub const SILENT_UP: u32 = 12;
-
-pub const SILENT_DOWN: u32 = 32;
-
-pub const AXIS_NAMES: (&[u8], &[u8]) = (b"longitudinal", b"lateral");
+/// How far below 0 they stand for the axis along the car, and how far above it for that across it.
+pub const SILENT_FROM: (u32, u32) = (32, 12);
 
 /// The classes of the words of the two axes.
 pub const AXIS_WORDS: (&[u8], &[u8]) = (b"n1", b"n2");
@@ -120,9 +113,7 @@ pub const DIAMOND_UP: u32 = 15;
 pub const MAXIMUM_NUMBER: &[u8] = br#"<text x="{0}" y="{1}" class="c h {2}">{3}</text>
 "#;
 
-pub const NUMBER_UP: u32 = 22;
-
-pub const NUMBER_DOWN: u32 = 42;
+pub const NUMBER_FROM: (u32, u32) = (42, 22);
 
 // Draws the line of each time.
 #[tactic(auto, unfolding(crate::specs::After::time_lines))]
@@ -198,37 +189,33 @@ fn draw_legend_gaps(out: &mut Vec<u8>, crash: &Crash, axis: CarAxis) -> Drawn
     fill_if(out, 0 < missing, LEGEND_GAPS, &parts)
 }
 
-// Appends the points of an axis, one at each 10 ms.
-fn put_points(out: &mut Vec<u8>, scale: &Scale, points: &[i16]) -> Drawn
-    requires scale { IsScale scale.now }
-    requires count { length points.now ≤ POINTS }
-    ensures { OnOk result (out.new.items ≡ out.old.items ++ axis_points scale.now 0 points.now) }
-{
-    for i in 0..points.len() {
-        let x = scale.x(POINT_STEP * i as u16);
-        put_point(out, i > 0, x, scale.y(points[i]))?;
-    }
-    Ok(())
+/// What stands at each point of an axis: a joint of its path, or its mark.
+#[derive(Clone, Copy)]
+pub enum AtPoint {
+    Joint,
+    Dot,
+    Square,
 }
 
-fn mark_at(axis: CarAxis, x: u32, y: u32) -> Shape
-    ensures { result ≡ mark_at axis x y }
+fn shape_at(what: AtPoint, is_joined: bool, x: u32, y: u32) -> Shape
+    ensures { result ≡ shape_at what is_joined x y }
 {
-    match axis {
-        CarAxis::Along => Shape::Dot(x, y),
-        CarAxis::Across => Shape::Square(x, y),
+    match what {
+        AtPoint::Joint => Shape::Joint(is_joined, x, y),
+        AtPoint::Dot => Shape::Dot(x, y, RADII.0),
+        AtPoint::Square => Shape::Square(x, y),
     }
 }
 
-// Draws a mark at each point of an axis.
-fn draw_marks(out: &mut Vec<u8>, scale: &Scale, axis: CarAxis, points: &[i16]) -> Drawn
+// Draws this at each point of an axis, one at each 10 ms.
+fn draw_points(out: &mut Vec<u8>, scale: &Scale, what: AtPoint, points: &[i16]) -> Drawn
     requires scale { IsScale scale.now }
     requires count { length points.now ≤ POINTS }
-    ensures { OnOk result (out.new.items ≡ out.old.items ++ axis_marks scale.now axis 0 points.now) }
+    ensures { OnOk result (out.new.items ≡ out.old.items ++ axis_shapes scale.now what 0 points.now) }
 {
     for i in 0..points.len() {
         let x = scale.x(POINT_STEP * i as u16);
-        draw(out, &[mark_at(axis, x, scale.y(points[i]))])?;
+        draw(out, &[shape_at(what, i > 0, x, scale.y(points[i]))])?;
     }
     Ok(())
 }
@@ -239,7 +226,7 @@ fn draw_silent(out: &mut Vec<u8>, scale: &Scale, axis: CarAxis) -> Drawn
     ensures { OnOk result (out.new.items ≡ out.old.items ++ silent_curve scale.now axis) }
 {
     let zero = scale.y(0);
-    let y = Number(of_axis(axis, (zero + SILENT_DOWN, zero - SILENT_UP)));
+    let y = Number(of_axis(axis, (zero + SILENT_FROM.0, zero - SILENT_FROM.1)));
     let class = Text(text_of_axis(axis, AXIS_WORDS));
     let name = Text(text_of_axis(axis, AXIS_NAMES));
     fill(out, SILENT_CURVE, &[y, class, name, Text(NO_SAMPLE)])
@@ -256,12 +243,17 @@ fn draw_curve(out: &mut Vec<u8>, scale: &Scale, crash: &Crash, axis: CarAxis) ->
     }
     let points = points_of(crash, axis);
     let is_gapped = 0 < missing_of(crash, axis);
-    fill_if(out, is_gapped, GAPPED_START, &[])?;
+    fill_if(out, is_gapped, GAPPED.0, &[])?;
     fill(out, PATH, &[Text(text_of_axis(axis, PATHS))])?;
-    put_points(out, scale, points)?;
+    draw_points(out, scale, AtPoint::Joint, points)?;
     put(out, PATH_END)?;
-    draw_marks(out, scale, axis, points)?;
-    fill_if(out, is_gapped, GAPPED_END, &[])
+    draw_points(
+        out,
+        scale,
+        of_axis(axis, (AtPoint::Dot, AtPoint::Square)),
+        points,
+    )?;
+    fill_if(out, is_gapped, GAPPED.1, &[])
 }
 
 // Draws a diamond at the greatest change of an axis, unless it has no sample, with its number, unless that is 0.
@@ -280,7 +272,7 @@ fn draw_maximum(out: &mut Vec<u8>, scale: &Scale, crash: &Crash, axis: CarAxis) 
     if kmh == 0 {
         return Ok(());
     }
-    let y = Number(of_axis(axis, (y + NUMBER_DOWN, y - NUMBER_UP)));
+    let y = Number(of_axis(axis, (y + NUMBER_FROM.0, y - NUMBER_FROM.1)));
     let class = Text(text_of_axis(axis, AXIS_WORDS));
     fill(out, MAXIMUM_NUMBER, &[x, y, class, Change(kmh)])
 }
@@ -329,24 +321,25 @@ pub const WITHOUT_PART: &[u8] = br#"<svg viewBox="0 0 1860 180" role="img" aria-
 pub const RULE: &[u8] = br#"<path class="part" d="M0 {0}L1830 {0}"/>
 "#;
 
-pub const CHART_END: &[u8] = b"</svg>\n";
+pub const CHART_END: &[u8] = br#"<path class="part" d="M0 932L1830 932"/>
+</svg>
+"#;
 
 /// The row of something at a time: its name, a flag, and words beside it.
-pub const TIMED_ROW: &[u8] = br#"<text x="0" y="{0}" class="">{1}</text>
-<path class="flag" d="M{2} {3}l-13 -22l26 0z"/>
-<text x="{4}" y="{0}" class="h{5}">{6}</text>
+pub const ROW: &[u8] = br#"<text x="0" y="{0}" class="{7}">{1}</text>
+<path class="flag" d="M{3} {4}l-13 -22l26 0z"/>
+<text x="{5}" y="{0}" class="h{6}{8}">{2}</text>
 "#;
 
-/// The row of a restraint that fired.
-pub const FIRED_ROW: &[u8] = br#"<text x="0" y="{0}" class="b">{1}</text>
-<path class="flag" d="M{2} {3}l-13 -22l26 0z"/>
-<text x="{4}" y="{0}" class="h{5} b">{6}</text>
-"#;
-
-/// The row of what isn't there, with a word that says so.
+/// The row of what isn't there, with words that say so.
 pub const EMPTY_ROW: &[u8] = br#"<text x="0" y="{0}" class="g">{1}</text>
 <text x="352" y="{0}" class="g">{2}</text>
 "#;
+
+/// The classes of the name and of the words, which for a restraint are bold.
+pub const NAME_CLASSES: (&[u8], &[u8]) = (b"", b"b");
+
+pub const WORDS_CLASSES: (&[u8], &[u8]) = (b"", b" b");
 
 /// Words stand right of a flag, and left of one far to the right, where their class says that they end there.
 pub const BESIDE_CLASSES: (&[u8], &[u8]) = (b"", b" e");
@@ -360,32 +353,109 @@ pub const WORDS_DOWN: u32 = 25;
 
 pub const FLAG_DOWN: u32 = 28;
 
-/// The rows of the event, each by its top and its name, and the top of those of the restraints.
-pub const END_ROW: (u32, &[u8]) = (536, b"End of event");
+/// What a row shows: its time, or words that there is none.
+#[derive(Clone, Copy)]
+pub enum ChartRow {
+    End,
+    /// The greatest change of an axis.
+    Greatest(CarAxis),
+    Resultant,
+    /// The restraint in this place of a record.
+    Fired(u32),
+}
 
-pub const ALONG_ROW: (u32, &[u8]) = (569, b"Max. longitudinal");
+/// The rows, each with its name.
+pub const ROWS: [(&[u8], ChartRow); 12] = [
+    (b"End of event", ChartRow::End),
+    (b"Max. longitudinal", ChartRow::Greatest(CarAxis::Along)),
+    (b"Max. lateral", ChartRow::Greatest(CarAxis::Across)),
+    (b"Max. resultant", ChartRow::Resultant),
+    (b"Driver frontal", ChartRow::Fired(0)),
+    (b"Passenger frontal", ChartRow::Fired(1)),
+    (b"Driver side", ChartRow::Fired(2)),
+    (b"Passenger side", ChartRow::Fired(3)),
+    (b"Driver curtain", ChartRow::Fired(4)),
+    (b"Passenger curtain", ChartRow::Fired(5)),
+    (b"Driver pretensioner", ChartRow::Fired(6)),
+    (b"Passenger pretensioner", ChartRow::Fired(7)),
+];
 
-pub const ACROSS_ROW: (u32, &[u8]) = (602, b"Max. lateral");
-
-pub const RESULTANT_ROW: (u32, &[u8]) = (635, b"Max. resultant");
-
-pub const RESTRAINTS_Y: u32 = 668;
+/// The top of the first row, how far the next one is below it, and which is the first one of a restraint.
+pub const ROWS_Y: u32 = 536;
 
 pub const ROW_HEIGHT: u32 = 33;
 
-pub const ROWS_END: u32 = 932;
+pub const FIRST_RESTRAINT: u32 = 4;
 
-/// The restraints, in the order of a record.
-pub const RESTRAINTS: [&[u8]; 8] = [
-    b"Driver frontal",
-    b"Passenger frontal",
-    b"Driver side",
-    b"Passenger side",
-    b"Driver curtain",
-    b"Passenger curtain",
-    b"Driver pretensioner",
-    b"Passenger pretensioner",
-];
+// When that was which a row shows, if it was.
+fn time_of(crash: &Crash, row: ChartRow) -> Option<u16>
+    ensures { result ≡ row_time crash.now row }
+{
+    match row {
+        ChartRow::End => Some(crash.end),
+        ChartRow::Greatest(axis) if is_silent(crash, axis) => None,
+        ChartRow::Greatest(axis) => Some(extreme_of(crash, axis).at),
+        ChartRow::Resultant
+            if is_silent(crash, CarAxis::Along) && is_silent(crash, CarAxis::Across) => None,
+        ChartRow::Resultant => Some(crash.result_at),
+        ChartRow::Fired(place) => slot_at(&crash.fired, place),
+    }
+}
+
+// The words of a time, or these where there is none.
+fn time_words(time: Option<u16>, none: &'static [u8]) -> Filling
+    ensures { filling_bytes result ≡ time_words time none.now }
+{
+    match time {
+        Some(time) => Milliseconds(time),
+        None => Text(none),
+    }
+}
+
+// The words beside its flag, or those that it isn't there.
+fn words_of(crash: &Crash, row: ChartRow) -> Filling
+    ensures { filling_bytes result ≡ row_words crash.now row }
+{
+    match row {
+        ChartRow::Greatest(axis) => greatest(crash, axis),
+        ChartRow::Fired(_) => time_words(time_of(crash, row), NONE),
+        ChartRow::End | ChartRow::Resultant => time_words(time_of(crash, row), NO_SAMPLE),
+    }
+}
+
+// Draws this row, which is the first one of its part or not.
+#[tactic(auto, unfolding(crate::specs::After::chart_row))]
+fn draw_row(
+    out: &mut Vec<u8>,
+    scale: &Scale,
+    crash: &Crash,
+    k: u32,
+    row: (&'static [u8], ChartRow),
+) -> Drawn
+    requires span { 300 ≤ scale.now.span }
+    requires row { k ≤ 12 }
+    ensures { OnOk result (out.new.items ≡ out.old.items ++ chart_row scale.now crash.now k row.entry.0.now row.entry.1) }
+{
+    let y = ROWS_Y + ROW_HEIGHT * k;
+    fill_if(out, k == 0 || k == FIRST_RESTRAINT, RULE, &[Number(y)])?;
+    let (words_y, name, words) = (Number(y + WORDS_DOWN), Text(row.0), words_of(crash, row.1));
+    let Some(time) = time_of(crash, row.1) else {
+        return fill(out, EMPTY_ROW, &[words_y, name, words]);
+    };
+    let x = scale.x(time);
+    let parts = [
+        words_y,
+        name,
+        words,
+        Number(x),
+        Number(y + FLAG_DOWN),
+        Number(beside(x)),
+        Text(either(x < FLAG_FAR_RIGHT, BESIDE_CLASSES)),
+        Text(either(k < FIRST_RESTRAINT, NAME_CLASSES)),
+        Text(either(k < FIRST_RESTRAINT, WORDS_CLASSES)),
+    ];
+    fill(out, ROW, &parts)
+}
 
 // Where the words of a flag stand across.
 fn beside(x: u32) -> u32
@@ -399,124 +469,20 @@ fn beside(x: u32) -> u32
     }
 }
 
-// Draws the row of something at a time, which stands there across, with these words.
-fn draw_timed(
-    out: &mut Vec<u8>,
-    template: &[u8],
-    row: (u32, &'static [u8]),
-    x: u32,
-    words: Filling,
-) -> Drawn
-    requires place { (row.0 ≤ 2_000) × (x ≤ 1_000_000) }
-    ensures { OnOk result (out.new.items ≡ out.old.items ++ timed_row template.now row.entry.0 row.entry.1.now x (filling_bytes words)) }
-{
-    let (y, label) = row;
-    let parts = [
-        Number(y + WORDS_DOWN),
-        Text(label),
-        Number(x),
-        Number(y + FLAG_DOWN),
-        Number(beside(x)),
-        Text(either(x < FLAG_FAR_RIGHT, BESIDE_CLASSES)),
-        words,
-    ];
-    fill(out, template, &parts)
-}
-
-// Draws the row of what isn't there.
-fn draw_empty(out: &mut Vec<u8>, row: (u32, &'static [u8]), word: &'static [u8]) -> Drawn
-    requires { row.0 ≤ 2_000 }
-    ensures { OnOk result (out.new.items ≡ out.old.items ++ empty_row row.entry.0 row.entry.1.now word.now) }
-{
-    let y = Number(row.0 + WORDS_DOWN);
-    fill(out, EMPTY_ROW, &[y, Text(row.1), Text(word)])
-}
-
-// Draws the row of a restraint, which is this one in the order of a record.
-#[tactic(auto, unfolding(crate::specs::After::restraint_row))]
-fn draw_restraint(
+// Draws these rows.
+fn draw_rows(
     out: &mut Vec<u8>,
     scale: &Scale,
-    k: u32,
-    name: &'static [u8],
-    fired: Option<u16>,
-) -> Drawn
-    requires span { 300 ≤ scale.now.span }
-    requires row { k ≤ 7 }
-    ensures { OnOk result (out.new.items ≡ out.old.items ++ restraint_row scale.now k name.now fired) }
-{
-    let row = (RESTRAINTS_Y + ROW_HEIGHT * k, name);
-    match fired {
-        Some(time) => draw_timed(out, FIRED_ROW, row, scale.x(time), Milliseconds(time)),
-        None => draw_empty(out, row, NONE),
-    }
-}
-
-// Draws the rows of these restraints.
-fn draw_restraints(
-    out: &mut Vec<u8>,
-    scale: &Scale,
-    labels: &[&'static [u8]; 8],
-    fired: &[Option<u16>; 8],
+    crash: &Crash,
+    rows: &[(&'static [u8], ChartRow); 12],
 ) -> Drawn
     requires { 300 ≤ scale.now.span }
-    ensures { OnOk result (out.new.items ≡ out.old.items ++ restraint_rows (λ l. l.now) scale.now 0 labels.now fired.now) }
+    ensures { OnOk result (out.new.items ≡ out.old.items ++ chart_rows (λ l. l.0.now) (λ l. l.1) scale.now crash.now 0 rows.now) }
 {
-    for row in 0..8 {
-        draw_restraint(out, scale, row as u32, labels[row], fired[row])?;
+    for k in 0..12 {
+        draw_row(out, scale, crash, k as u32, rows[k])?;
     }
     Ok(())
-}
-
-// Draws the row of the greatest change of an axis.
-#[tactic(auto, unfolding(crate::specs::After::extreme_row))]
-fn draw_extreme(
-    out: &mut Vec<u8>,
-    scale: &Scale,
-    row: (u32, &'static [u8]),
-    crash: &Crash,
-    axis: CarAxis,
-) -> Drawn
-    requires span { 300 ≤ scale.now.span }
-    requires place { row.0 ≤ 2_000 }
-    ensures { OnOk result (out.new.items ≡ out.old.items ++ extreme_row scale.now row.entry.0 row.entry.1.now crash.now axis) }
-{
-    if is_silent(crash, axis) {
-        return draw_empty(out, row, NO_SAMPLE);
-    }
-    let extreme = extreme_of(crash, axis);
-    draw_timed(out, TIMED_ROW, row, scale.x(extreme.at), Greatest(extreme))
-}
-
-// Draws the row of the greatest resultant.
-#[tactic(auto, unfolding(crate::specs::After::resultant_row))]
-fn draw_resultant(out: &mut Vec<u8>, scale: &Scale, crash: &Crash) -> Drawn
-    requires { 300 ≤ scale.now.span }
-    ensures { OnOk result (out.new.items ≡ out.old.items ++ resultant_row scale.now crash.now) }
-{
-    if is_silent(crash, CarAxis::Along) && is_silent(crash, CarAxis::Across) {
-        return draw_empty(out, RESULTANT_ROW, NO_SAMPLE);
-    }
-    let at = crash.result_at;
-    draw_timed(out, TIMED_ROW, RESULTANT_ROW, scale.x(at), Milliseconds(at))
-}
-
-// Draws all rows, with which the chart ends.
-#[tactic(auto, unfolding(crate::specs::After::rows_chart))]
-fn draw_rows(out: &mut Vec<u8>, scale: &Scale, crash: &Crash) -> Drawn
-    requires { 300 ≤ scale.now.span }
-    ensures { OnOk result (out.new.items ≡ out.old.items ++ rows_chart scale.now crash.now) }
-{
-    let end = crash.end;
-    fill(out, RULE, &[Number(END_ROW.0)])?;
-    draw_timed(out, TIMED_ROW, END_ROW, scale.x(end), Milliseconds(end))?;
-    draw_extreme(out, scale, ALONG_ROW, crash, CarAxis::Along)?;
-    draw_extreme(out, scale, ACROSS_ROW, crash, CarAxis::Across)?;
-    draw_resultant(out, scale, crash)?;
-    fill(out, RULE, &[Number(RESTRAINTS_Y)])?;
-    draw_restraints(out, scale, &RESTRAINTS, &crash.fired)?;
-    fill(out, RULE, &[Number(ROWS_END)])?;
-    put(out, CHART_END)
 }
 
 /// Draws the chart of the event with this number.
@@ -533,5 +499,6 @@ pub fn draw_after(out: &mut Vec<u8>, number: u64, crash: &Option<Crash>) -> Draw
     let end = Number(u32::from(crash.end));
     fill(out, AFTER_HEAD, &[Count(number), along, across, end])?;
     draw_changes(out, &scale, crash)?;
-    draw_rows(out, &scale, crash)
+    draw_rows(out, &scale, crash, &ROWS)?;
+    put(out, CHART_END)
 }

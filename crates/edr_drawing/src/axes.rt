@@ -11,6 +11,8 @@ use edr_record::{Crash, Extreme, point_count, window_from_end};
 /// What stands in the place of what an axis without any sample would show.
 pub const NO_SAMPLE: &[u8] = b"no sample";
 
+pub const AXIS_NAMES: (&[u8], &[u8]) = (b"longitudinal", b"lateral");
+
 /// An axis of a car.
 #[derive(Clone, Copy)]
 pub enum CarAxis {

@@ -8,7 +8,7 @@ ghost use Rattle.edr_drawing.specs.Shapes.{shapes_bytes};
 ghost use Rattle.edr_drawing.specs.Before.{IsBand, IsChartLane, cell, cells, drawn_lane, field_shapes, grid, lane_y, long_cells, points, run_bytes, are_same, before_chart, brake_slots, greatest, second_x, speed_lane, switch_runs, switches, tenths_before, time_lines};
 
 use crate::scales::{least_step, scale_top, slot_x};
-use crate::shapes::{PATH, PATH_END, PATHS, Shape, draw, put_point};
+use crate::shapes::{PATH, PATH_END, PATHS, RADII, Shape, draw};
 use crate::template::Filling::{Count, Number, Seconds, Text};
 use crate::template::{Drawn, fill, of_profile, put};
 use edr_record::{LONG_SLOTS, Pre, Profile};
@@ -76,7 +76,10 @@ fn put_points(out: &mut Vec<u8>, profile: Profile, lane: &ChartLane, slots: &[Op
         match slots[k] {
             Some(value) => {
                 let x = slot_x(profile, k as u32);
-                put_point(out, before, x, lane_y(lane, u32::from(value)))?;
+                draw(
+                    out,
+                    &[Shape::Joint(before, x, lane_y(lane, u32::from(value)))],
+                )?;
                 before = true;
             }
             None => {
@@ -98,13 +101,8 @@ fn draw_cell(out: &mut Vec<u8>, lane: &ChartLane, k: u32, slot: Option<u16>) -> 
         Some(value) => {
             let value = u32::from(value);
             let y = lane_y(lane, value);
-            draw(
-                out,
-                &[
-                    Shape::Dot(x, y),
-                    Shape::Value(x, y.saturating_sub(17), value),
-                ],
-            )
+            let number = Shape::Value(x, y.saturating_sub(17), value);
+            draw(out, &[Shape::Dot(x, y, RADII.0), number])
         }
         None => draw_field(out, x, lane.gap, None),
     }
@@ -168,7 +166,7 @@ fn draw_long(out: &mut Vec<u8>, lane: &ChartLane, slots: &[Option<u16>]) -> Draw
                 draw_run(out, first, absent, lane.gap, None)?;
                 let x = slot_x(Profile::Long, first + absent);
                 let y = lane_y(lane, u32::from(value));
-                draw(out, &[Shape::Point(x, y)])?;
+                draw(out, &[Shape::Dot(x, y, RADII.1)])?;
                 first = first + absent + 1;
                 absent = 0;
             }
@@ -280,9 +278,7 @@ pub const THROTTLE: ChartLane = ChartLane {
 pub const BRAKE_BAND: Band = Band { y: 367, height: 34 };
 
 /// Where the marks of belt and lamp begin.
-pub const BELT_Y: u16 = 411;
-
-pub const LAMP_Y: u16 = 453;
+pub const MOMENTS_Y: (u16, u16) = (411, 453);
 
 /// The slots of a short profile and of a long one that lie 1 s before time zero.
 pub const SECOND_SLOTS: (u32, u32) = (8, 190);
@@ -454,8 +450,8 @@ pub fn draw_before(out: &mut Vec<u8>, number: u64, pre: &Pre) -> Drawn
     put(out, BRAKE_NAME)?;
     draw_brake(out, profile, pre.brake())?;
     put(out, BELT_NAME)?;
-    draw(out, &[Shape::Moment(x, BELT_Y, belt)])?;
+    draw(out, &[Shape::Moment(x, MOMENTS_Y.0, belt)])?;
     put(out, LAMP_NAME)?;
-    draw(out, &[Shape::Moment(x, LAMP_Y, lamp)])?;
+    draw(out, &[Shape::Moment(x, MOMENTS_Y.1, lamp)])?;
     put(out, BEFORE_END)
 }

@@ -1,7 +1,7 @@
 //! The first sheet of a page, and the events that have sheets of their own.
 
 ghost use Rattle.std.specs.Prelude.{◌≡◌, IfOk, ◌++◌, OnOk};
-ghost use Rattle.edr_drawing.specs.Cover.{events_of, numbered, cover_end, cover_of, damaged_in, damaged_item, damaged_list, events_table, greatest_or_none, row_of_event};
+ghost use Rattle.edr_drawing.specs.Cover.{events_of, numbered, cover_end, cover_start, damaged_in, damaged_item, damaged_list, events_table, event_row, greatest_or_none};
 ghost use Rattle.edr_drawing.specs.Template.{filling_bytes};
 
 use crate::axes::{CarAxis, greatest};
@@ -97,7 +97,7 @@ fn greatest_or_none(crash: &Option<Crash>, axis: CarAxis) -> Filling
 // Appends the row of an event.
 #[tactic(auto, unfolding(crate::specs::Cover::event_row))]
 fn put_event_row(out: &mut Vec<u8>, one: &FoundEvent<'_>) -> Drawn
-    ensures { OnOk result (out.new.items ≡ out.old.items ++ row_of_event one.now) }
+    ensures { OnOk result (out.new.items ≡ out.old.items ++ event_row one.now.number one.now.bank one.now.event.now) }
 {
     let event = one.event;
     let cells = [
@@ -171,7 +171,7 @@ pub fn put_cover_start(
     found: &[Found],
     count: u32,
 ) -> Drawn
-    ensures { OnOk result (out.new.items ≡ out.old.items ++ cover_of events.now found.now count) }
+    ensures { OnOk result (out.new.items ≡ out.old.items ++ cover_start (numbered events.now) found.now count) }
 {
     let (recorded, damaged) = (events.len() as u64, damaged_in(found));
     let counts = [Count(recorded), Count(damaged), Number(number_shown(count))];

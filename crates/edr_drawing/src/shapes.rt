@@ -1,7 +1,7 @@
 //! The shapes of a chart that stand where a value says. A unit of a chart is a tenth of a millimetre on a sheet of A4.
 
 ghost use Rattle.std.specs.Prelude.{◌≡◌, ◌++◌, OnOk};
-ghost use Rattle.edr_drawing.specs.Shapes.{path_point, shape_bytes, shapes_bytes};
+ghost use Rattle.edr_drawing.specs.Shapes.{shape_bytes, shapes_bytes};
 
 use crate::template::Filling::{Number, Text};
 use crate::template::{Drawn, either, fill, of_switch};
@@ -28,11 +28,11 @@ pub const JOIN_OR_BEGIN: (&[u8], &[u8]) = (b"L", b"M");
 /// The classes of the paths along the car and across it.
 pub const PATHS: (&[u8], &[u8]) = (b"s1", b"s2");
 
-pub const DOT: &[u8] = br#"<circle cx="{0}" cy="{1}" r="9" class="p1"/>
+pub const DOT: &[u8] = br#"<circle cx="{0}" cy="{1}" r="{2}" class="p1"/>
 "#;
 
-pub const POINT: &[u8] = br#"<circle cx="{0}" cy="{1}" r="3" class="p1"/>
-"#;
+/// How large a dot is, and one of many.
+pub const RADII: (u32, u32) = (9, 3);
 
 pub const SQUARE: &[u8] = br#"<rect x="{0}" y="{1}" width="16" height="16" class="p2"/>
 "#;
@@ -55,12 +55,13 @@ pub const LEFT_OF_MOMENT: u32 = 18;
 
 pub const MOMENT_WORD_DOWN: u32 = 25;
 
-/// A shape that stands where a value says: its place across and up comes first.
+/// A shape that stands where a value says: its place across and up comes first, but for a joint.
 #[derive(Clone, Copy)]
 pub enum Shape {
-    Dot(u32, u32),
-    /// A small dot, of many.
-    Point(u32, u32),
+    /// A point of a path, which is joined to the one before it or not.
+    Joint(bool, u32, u32),
+    /// A dot of this radius.
+    Dot(u32, u32, u32),
     Square(u32, u32),
     /// The number of a dot.
     Value(u32, u32, u32),
@@ -76,8 +77,11 @@ fn put_shape(out: &mut Vec<u8>, shape: Shape) -> Drawn
     ensures { OnOk result (out.new.items ≡ out.old.items ++ shape_bytes shape) }
 {
     match shape {
-        Shape::Dot(x, y) => fill(out, DOT, &[Number(x), Number(y)]),
-        Shape::Point(x, y) => fill(out, POINT, &[Number(x), Number(y)]),
+        Shape::Joint(is_joined, x, y) => {
+            let join = Text(either(is_joined, JOIN_OR_BEGIN));
+            fill(out, PATH_POINT, &[join, Number(x), Number(y)])
+        }
+        Shape::Dot(x, y, radius) => fill(out, DOT, &[Number(x), Number(y), Number(radius)]),
         Shape::Square(x, y) => {
             let (left, top) = (x.saturating_sub(8), y.saturating_sub(8));
             fill(out, SQUARE, &[Number(left), Number(top)])
@@ -112,13 +116,4 @@ pub fn draw(out: &mut Vec<u8>, shapes: &[Shape]) -> Drawn
         put_shape(out, *shape)?;
     }
     Ok(())
-}
-
-/// Appends a point of a path.
-#[tactic(auto, unfolding(crate::specs::Shapes::path_point))]
-pub fn put_point(out: &mut Vec<u8>, joined: bool, x: u32, y: u32) -> Drawn
-    ensures { OnOk result (out.new.items ≡ out.old.items ++ path_point joined x y) }
-{
-    let join = Text(either(joined, JOIN_OR_BEGIN));
-    fill(out, PATH_POINT, &[join, Number(x), Number(y)])
 }

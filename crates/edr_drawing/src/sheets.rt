@@ -2,9 +2,10 @@
 
 ghost use Rattle.std.specs.Prelude.{◌≡◌, ◌++◌, IfOk, OnOk};
 ghost use Rattle.edr_drawing.specs.Cover.{numbered};
-ghost use Rattle.edr_drawing.specs.Sheets.{firsts, firsts_words, is_first_of, place_fact, crash_reasons, pre_reasons, reasons, share_reason, slots_reason, sheet_of, sheets};
+ghost use Rattle.edr_drawing.specs.Sheets.{firsts, firsts_words, is_first_of, place_fact, crash_reasons, missing_reason, pre_reasons, reasons, share_reason, slots_reason, sheet, sheets};
 
 use crate::after::draw_after;
+use crate::axes::{AXIS_NAMES, CarAxis, missing_of, text_of_axis};
 use crate::before::draw_before;
 use crate::cover::FoundEvent;
 use crate::tables::{put_by_time, put_elements, put_points_table};
@@ -104,42 +105,42 @@ pub const REASONS_START: &[u8] = br#"<div class="note why"><b>Not complete:</b>
 
 pub const LIST_END: &[u8] = b"</ul></div>\n";
 
-/// Some slots are absent: how many of how many.
-pub const SPEED_ABSENT: &[u8] = b"<li>speed: {0} of {1} samples absent</li>\n";
+/// Some slots of these are absent: how many of how many.
+pub const SAMPLES_ABSENT: &[u8] = b"<li>{0}: {1} of {2} samples absent</li>\n";
 
-pub const THROTTLE_ABSENT: &[u8] = b"<li>throttle: {0} of {1} samples absent</li>\n";
-
-pub const BRAKE_ABSENT: &[u8] = b"<li>service brake: {0} of {1} samples absent</li>\n";
+pub const SAMPLED: (&[u8], &[u8], &[u8]) = (b"speed", b"throttle", b"service brake");
 
 pub const SWITCH_ABSENT: &[u8] = b"<li>{0}: absent</li>\n";
 
-pub const BELT: &[u8] = b"driver belt";
+pub const SWITCHES: (&[u8], &[u8]) = (b"driver belt", b"warning lamp");
 
-pub const LAMP: &[u8] = b"warning lamp";
-
-/// Some milliseconds of the window have no sample: how many of how many.
-pub const ALONG_ABSENT: &[u8] =
-    b"<li>longitudinal acceleration: no sample in {0} of {1} ms, which count as no change of speed</li>\n";
-
-pub const ACROSS_ABSENT: &[u8] =
-    b"<li>lateral acceleration: no sample in {0} of {1} ms, which count as no change of speed</li>\n";
+/// Some milliseconds of the window have no sample of an axis: how many of how many.
+pub const WINDOW_ABSENT: &[u8] =
+    b"<li>{0} acceleration: no sample in {1} of {2} ms, which count as no change of speed</li>\n";
 
 pub const PART_ABSENT: &[u8] =
     b"<li>no part after time zero, as where the power goes off before the event is closed</li>\n";
 
-// Tells how many of so many samples are absent, if any is.
-fn put_share(out: &mut Vec<u8>, template: &[u8], absent: u64, count: u64) -> Drawn
-    ensures { OnOk result (out.new.items ≡ out.old.items ++ share_reason template.now absent count) }
+// Tells how many of so many samples of this are absent, if any is.
+fn put_share(
+    out: &mut Vec<u8>,
+    template: &[u8],
+    name: &'static [u8],
+    absent: u64,
+    count: u64,
+) -> Drawn
+    ensures { OnOk result (out.new.items ≡ out.old.items ++ share_reason template.now name.now absent count) }
 {
-    fill_if(out, 0 < absent, template, &[Count(absent), Count(count)])
+    let parts = [Text(name), Count(absent), Count(count)];
+    fill_if(out, 0 < absent, template, &parts)
 }
 
-// Tells how many slots are absent, if any is.
-fn put_absent<T>(out: &mut Vec<u8>, template: &[u8], slots: &[Option<T>]) -> Drawn
-    ensures { OnOk result (out.new.items ≡ out.old.items ++ slots_reason template.now slots.now) }
+// Tells how many slots of this are absent, if any is.
+fn put_absent<T>(out: &mut Vec<u8>, name: &'static [u8], slots: &[Option<T>]) -> Drawn
+    ensures { OnOk result (out.new.items ≡ out.old.items ++ slots_reason name.now slots.now) }
 {
     let absent = slots.iter().filter(|slot| slot.is_none()).count();
-    put_share(out, template, absent as u64, slots.len() as u64)
+    put_share(out, SAMPLES_ABSENT, name, absent as u64, slots.len() as u64)
 }
 
 // Tells what is absent of the time before time zero.
@@ -148,25 +149,31 @@ fn put_pre_reasons(out: &mut Vec<u8>, pre: &Pre) -> Drawn
     ensures { OnOk result (out.new.items ≡ out.old.items ++ pre_reasons pre.now) }
 {
     let (belt, lamp) = (pre.belt, pre.lamp);
-    put_absent(out, SPEED_ABSENT, pre.speed())?;
-    put_absent(out, THROTTLE_ABSENT, pre.throttle())?;
-    put_absent(out, BRAKE_ABSENT, pre.brake())?;
-    fill_if(out, belt.is_none(), SWITCH_ABSENT, &[Text(BELT)])?;
-    fill_if(out, lamp.is_none(), SWITCH_ABSENT, &[Text(LAMP)])
+    put_absent(out, SAMPLED.0, pre.speed())?;
+    put_absent(out, SAMPLED.1, pre.throttle())?;
+    put_absent(out, SAMPLED.2, pre.brake())?;
+    fill_if(out, belt.is_none(), SWITCH_ABSENT, &[Text(SWITCHES.0)])?;
+    fill_if(out, lamp.is_none(), SWITCH_ABSENT, &[Text(SWITCHES.1)])
+}
+
+// Tells how many milliseconds of the window have no sample of an axis, if any has none.
+fn put_missing(out: &mut Vec<u8>, crash: &Crash, axis: CarAxis) -> Drawn
+    ensures { OnOk result (out.new.items ≡ out.old.items ++ missing_reason crash.now axis) }
+{
+    let window = u64::from(window_from_end(crash.end));
+    let (missing, name) = (missing_of(crash, axis), text_of_axis(axis, AXIS_NAMES));
+    put_share(out, WINDOW_ABSENT, name, u64::from(missing), window)
 }
 
 // Tells what is absent of the time after time zero.
 fn put_crash_reasons(out: &mut Vec<u8>, crash: &Option<Crash>) -> Drawn
     ensures { OnOk result (out.new.items ≡ out.old.items ++ crash_reasons crash.now) }
 {
-    match crash {
-        Some(crash) => {
-            let window = u64::from(window_from_end(crash.end));
-            put_share(out, ALONG_ABSENT, u64::from(crash.missing_along), window)?;
-            put_share(out, ACROSS_ABSENT, u64::from(crash.missing_across), window)
-        }
-        None => put(out, PART_ABSENT),
-    }
+    let Some(crash) = crash else {
+        return put(out, PART_ABSENT);
+    };
+    put_missing(out, crash, CarAxis::Along)?;
+    put_missing(out, crash, CarAxis::Across)
 }
 
 // Tells why a record isn't complete, if it isn't.
@@ -207,7 +214,7 @@ fn put_sheet(
     one: &FoundEvent<'_>,
     digest: &[u8; 32],
 ) -> Drawn
-    ensures { OnOk result (out.new.items ≡ out.old.items ++ sheet_of events.now one.now digest.now) }
+    ensures { OnOk result (out.new.items ≡ out.old.items ++ sheet (numbered events.now) one.now.number one.now.bank one.now.event.now digest.now) }
 {
     let FoundEvent {
         number,

@@ -2,10 +2,10 @@
 
 ghost use Rattle.std.specs.Prelude.{◌≡◌, ◌++◌, ◌≤◌, ◌<◌, ◌+◌, ◌*◌, OnOk, map, min, ◌/◌};
 ghost use Rattle.edr_image.specs.Reports.{report_of};
-ghost use Rattle.edr_drawing.specs.Tables.{change_row, elements_bytes, elements_table, is_one_of, line_row, points_table, row, row_of, rows_bytes, run_table, taken_by, taken_in, taken_of, block, block_slots, blocks_in, by_time, mph, mph_word, number_word, slot_at, slot_row, slot_tenths};
+ghost use Rattle.edr_drawing.specs.Tables.{change_row, elements_bytes, elements_table, is_one_of, line_row, points_table, row, row_of, rows_bytes, run_table, taken_by, taken_in, taken_of, block, block_slots, blocks_in, by_time, mph, number_word, slot_at, slot_row, slot_tenths};
 ghost use Rattle.edr_drawing.specs.Template.{filling_bytes};
 
-use crate::axes::{CarAxis, NO_SAMPLE, is_silent, points_of};
+use crate::axes::{AXIS_NAMES, CarAxis, NO_SAMPLE, is_silent, points_of, text_of_axis};
 use crate::before::{SPANS, wide};
 use crate::shapes::{NONE, SWITCH_WORDS};
 use crate::sheets::PROFILES;
@@ -43,9 +43,7 @@ pub const POINT_TIME: &[u8] = br#"<th scope="col">{0}</th>"#;
 
 pub const POINTS_BODY: &[u8] = b"</tr></thead>\n<tbody>\n";
 
-pub const ALONG_ROW: &[u8] = br#"<tr><th scope="row">longitudinal</th>"#;
-
-pub const ACROSS_ROW: &[u8] = br#"<tr><th scope="row">lateral</th>"#;
+pub const AXIS_ROW: &[u8] = br#"<tr><th scope="row">{0}</th>"#;
 
 pub const CELL: &[u8] = b"<td>{0}</td>";
 
@@ -142,10 +140,10 @@ fn put_row(out: &mut Vec<u8>, name: &[u8], value: &[u8]) -> Drawn
 }
 
 // Appends the row of an axis: a cell for each point, or that it has no sample.
-fn put_axis(out: &mut Vec<u8>, start: &[u8], crash: &Crash, axis: CarAxis) -> Drawn
-    ensures { OnOk result (out.new.items ≡ out.old.items ++ change_row start.now crash.now axis) }
+fn put_axis(out: &mut Vec<u8>, crash: &Crash, axis: CarAxis) -> Drawn
+    ensures { OnOk result (out.new.items ≡ out.old.items ++ change_row crash.now axis) }
 {
-    put(out, start)?;
+    fill(out, AXIS_ROW, &[Text(text_of_axis(axis, AXIS_NAMES))])?;
     if is_silent(crash, axis) {
         let count = Number(point_count(crash.end) as u32);
         fill(out, SILENT_CELL, &[count, Text(NO_SAMPLE)])?;
@@ -171,8 +169,8 @@ pub fn put_points_table(out: &mut Vec<u8>, crash: &Option<Crash>) -> Drawn
         fill(out, POINT_TIME, &[Number(u32::from(POINT_STEP) * i)])?;
     }
     put(out, POINTS_BODY)?;
-    put_axis(out, ALONG_ROW, crash, CarAxis::Along)?;
-    put_axis(out, ACROSS_ROW, crash, CarAxis::Across)?;
+    put_axis(out, crash, CarAxis::Along)?;
+    put_axis(out, crash, CarAxis::Across)?;
     put(out, TABLE_END)
 }
 
@@ -301,8 +299,8 @@ fn slot_tenths(profile: Profile, k: u32) -> u32
     }
 }
 
-// A slot of a list.
-fn slot_at<T: Copy>(slots: &[Option<T>], k: u32) -> Option<T>
+/// A slot of a list.
+pub fn slot_at<T: Copy>(slots: &[Option<T>], k: u32) -> Option<T>
     ensures { result ≡ slot_at slots.now k }
 {
     match slots.get(k as usize) {
@@ -312,10 +310,13 @@ fn slot_at<T: Copy>(slots: &[Option<T>], k: u32) -> Option<T>
 }
 
 // Kilometres an hour as miles an hour, rounded.
-fn mph(kmh: u16) -> u64
-    ensures { result ≡ mph kmh }
+fn mph(speed: Option<u16>) -> Option<u16>
+    ensures { result ≡ mph speed }
 {
-    (u64::from(kmh) * KILOMETRE + MILE / 2) / MILE
+    match speed {
+        Some(kmh) => Some(((u64::from(kmh) * KILOMETRE + MILE / 2) / MILE) as u16),
+        None => None,
+    }
 }
 
 fn number_word(value: Option<u16>) -> Filling
@@ -323,15 +324,6 @@ fn number_word(value: Option<u16>) -> Filling
 {
     match value {
         Some(value) => Number(u32::from(value)),
-        None => Text(NONE),
-    }
-}
-
-fn mph_word(speed: Option<u16>) -> Filling
-    ensures { filling_bytes result ≡ mph_word speed }
-{
-    match speed {
-        Some(kmh) => Count(mph(kmh)),
         None => Text(NONE),
     }
 }
@@ -346,7 +338,7 @@ fn put_slot(out: &mut Vec<u8>, pre: &Pre, k: u32) -> Drawn
     let throttle = wide(slot_at(pre.throttle(), k));
     let brake = Text(of_switch(slot_at(pre.brake(), k), SWITCH_WORDS));
     let time = Before(u64::from(slot_tenths(pre.profile(), k)));
-    let (kmh, miles) = (number_word(speed), mph_word(speed));
+    let (kmh, miles) = (number_word(speed), number_word(mph(speed)));
     fill(
         out,
         SLOT_ROW,
