@@ -122,53 +122,19 @@ pub(crate) fn pre_line(pre: &PreSoFar, line: PreLine, value: &[u8]) -> Option<Pr
     requires { IsPre (pre_of pre.now) }
     ensures { AcceptsPreLine line value.now pre.now result }
 {
-    let Key { cycle, zero } = pre.key;
+    let mut read = *pre;
     match line {
-        PreLine::Cycle => {
-            let cycle = count(value, 1)?;
-            let key = Key { cycle, zero };
-            Some(PreSoFar { key, ..*pre })
-        }
-        PreLine::TimeZero => {
-            let zero = time(value, 1, LATEST_MOMENT)?;
-            let key = Key { cycle, zero };
-            Some(PreSoFar { key, ..*pre })
-        }
-        PreLine::Events => {
-            let place = events(value)?;
-            Some(PreSoFar { place, ..*pre })
-        }
-        PreLine::Between => {
-            let place = place_between(pre.place, value)?;
-            Some(PreSoFar { place, ..*pre })
-        }
-        PreLine::Deployment => {
-            let locked = decision(value)?;
-            Some(PreSoFar { locked, ..*pre })
-        }
-        PreLine::Profile => {
-            let slots = no_slots(profile(value)?);
-            Some(PreSoFar { slots, ..*pre })
-        }
-        PreLine::Speed => {
-            let slots = with_speed(&pre.slots, value)?;
-            Some(PreSoFar { slots, ..*pre })
-        }
-        PreLine::Throttle => {
-            let slots = with_throttle(&pre.slots, value)?;
-            Some(PreSoFar { slots, ..*pre })
-        }
-        PreLine::Brake => {
-            let slots = with_brake(&pre.slots, value)?;
-            Some(PreSoFar { slots, ..*pre })
-        }
-        PreLine::Belt => {
-            let belt = switch(value)?;
-            Some(PreSoFar { belt, ..*pre })
-        }
-        PreLine::Lamp => {
-            let lamp = switch(value)?;
-            Some(PreSoFar { lamp, ..*pre })
-        }
+        PreLine::Cycle => read.key.cycle = count(value, 1)?,
+        PreLine::TimeZero => read.key.zero = time(value, 1, LATEST_MOMENT)?,
+        PreLine::Events => read.place = events(value)?,
+        PreLine::Between => read.place = place_between(pre.place, value)?,
+        PreLine::Deployment => read.locked = decision(value)?,
+        PreLine::Profile => read.slots = no_slots(profile(value)?),
+        PreLine::Speed => read.slots = with_speed(&pre.slots, value)?,
+        PreLine::Throttle => read.slots = with_throttle(&pre.slots, value)?,
+        PreLine::Brake => read.slots = with_brake(&pre.slots, value)?,
+        PreLine::Belt => read.belt = switch(value)?,
+        PreLine::Lamp => read.lamp = switch(value)?,
     }
+    Some(read)
 }

@@ -59,12 +59,10 @@ pub(crate) fn end_time(bytes: &[u8]) -> Option<u16>
 pub(crate) fn decision(bytes: &[u8]) -> Option<bool>
     ensures { Reads yes_no (λ _. ⊤) bytes.now result }
 {
-    if is_word(bytes, b"yes") {
-        Some(true)
-    } else if is_word(bytes, b"no") {
-        Some(false)
-    } else {
-        None
+    match bytes {
+        b"yes" => Some(true),
+        b"no" => Some(false),
+        _ => None,
     }
 }
 
@@ -72,12 +70,10 @@ pub(crate) fn decision(bytes: &[u8]) -> Option<bool>
 pub(crate) fn profile(bytes: &[u8]) -> Option<Profile>
     ensures { Reads profile_word (λ _. ⊤) bytes.now result }
 {
-    if is_word(bytes, b"short") {
-        Some(Profile::Short)
-    } else if is_word(bytes, b"long") {
-        Some(Profile::Long)
-    } else {
-        None
+    match bytes {
+        b"short" => Some(Profile::Short),
+        b"long" => Some(Profile::Long),
+        _ => None,
     }
 }
 
@@ -85,14 +81,11 @@ pub(crate) fn profile(bytes: &[u8]) -> Option<Profile>
 pub(crate) fn switch(bytes: &[u8]) -> Option<Option<bool>>
     ensures { Reads switch_or_none (λ _. ⊤) bytes.now result }
 {
-    if is_word(bytes, b"on") {
-        Some(Some(true))
-    } else if is_word(bytes, b"off") {
-        Some(Some(false))
-    } else if is_word(bytes, b"none") {
-        Some(None)
-    } else {
-        None
+    match bytes {
+        b"on" => Some(Some(true)),
+        b"off" => Some(Some(false)),
+        b"none" => Some(None),
+        _ => None,
     }
 }
 
@@ -103,10 +96,8 @@ pub(crate) fn firing(bytes: &[u8], latest: u16) -> Option<Option<u16>>
     if is_word(bytes, b"none") {
         return Some(None);
     }
-    match time(bytes, 0, u32::from(latest)) {
-        Some(t) => Some(Some(t as u16)),
-        None => None,
-    }
+    let t = time(bytes, 0, u32::from(latest))?;
+    Some(Some(t as u16))
 }
 
 // The number in front of the bytes with `-` before it, and what stands after it.
@@ -187,12 +178,10 @@ pub(crate) fn events(bytes: &[u8]) -> Option<Place>
     ensures read { IfSome result (λ p. (bytes.now ≡ events_in_crash p) × IsPlace p) }
     ensures whole { (p : Place) → bytes.now ≡ events_in_crash p → MatchOption result ⊥ (IsPlaceLike p) }
 {
-    if is_word(bytes, b"1") {
-        Some(Place::First)
-    } else if is_word(bytes, b"2") {
-        Some(Place::Second { after: 1 })
-    } else {
-        None
+    match bytes {
+        b"1" => Some(Place::First),
+        b"2" => Some(Place::Second { after: 1 }),
+        _ => None,
     }
 }
 
@@ -209,10 +198,9 @@ pub(crate) fn place_between(place: Place, bytes: &[u8]) -> Option<Place>
 fn first_place(between: &[u8]) -> Option<Place>
     ensures { ReadsPlace Place.First between.now result }
 {
-    if is_word(between, b"none") {
-        Some(Place::First)
-    } else {
-        None
+    match between {
+        b"none" => Some(Place::First),
+        _ => None,
     }
 }
 
