@@ -99,6 +99,13 @@ fn still_ticks_are_passed_up_to_a_firing(rt: HostRuntime) -> Result<(), Fail> {
     assert!(rt; !core.pass_still());
     assert_eq!(rt; core.closed(), 499);
     // It took the samples of the axes up to there.
-    assert!(rt; matches!(core.step(), Step::Waiting { sensor: Sensor::Along }));
+    assert!(rt;
+        matches!(
+            core.step(),
+            Step::Waiting {
+                sensor: Sensor::Along
+            }
+        )
+    );
     Ok(())
 }
