@@ -8,7 +8,7 @@ use Rattle.edr_detect.specs.declared.stage.Change.{Change as Answer}
 use Rattle.edr_detect.specs.declared.stage.Stage.{Stage}
 use Rattle.edr_detect.specs.declared.windows.Windows.{Windows}
 use Rattle.edr_detect.specs.Stages.{phase_of, told_of}
-use Rattle.edr_detect.specs.Standing.{WindowsStandFor, HoldNothing, AreStill}
+use Rattle.edr_detect.specs.Standing.{WindowsStandFor, HoldNothing, AreStill, PushedAtMost, SwingsAreStill}
 use Rattle.edr_detect.specs.Rows.{SignalRow, signals_of_rows}
 
 -- the number of its ticks, how far an open candidate has come, what it keeps of the rows, and whether it rests
@@ -17,6 +17,11 @@ pub record DetectState : Type 0 where
   pub stage : Stage
   pub windows : Windows
   pub rests : Bool
+
+-- what is true of its fields: no swing was given more values than there were ticks, and where it rests all of them are still
+pub record CountsTicks (d : DetectState) : Type 0 where
+  pub pushed : PushedAtMost d.tick d.windows
+  pub still : IsTrue d.rests → SwingsAreStill d.windows
 
 -- at the tick t no candidate is open, and no change that still counts differs from 0
 pub record IsAtRest (m : Signals) (b : Bounds) (t : ℕ) (d : DetectState) : Type 0 where

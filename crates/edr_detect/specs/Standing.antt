@@ -1,5 +1,5 @@
 -- What the windows of the streaming search hold.
-use Rattle.std.specs.Prelude.{◌≡◌, ℕ, ◌+◌, ◌≤◌, ℤ, pos, Bool, false, if◌then◌else◌, Option, None}
+use Rattle.std.specs.Prelude.{◌≡◌, ℕ, ◌+◌, ◌≤◌, ℤ, pos, Bool, IsTrue, false, if◌then◌else◌, Option, None}
 use Rattle.edr_definitions.specs.declared.limits.TheConstants.{ACROSS_TICKS, ALONG_TICKS, TRIGGER_TICKS}
 use Rattle.edr_definitions.specs.Signals.{Signals}
 use Rattle.edr_definitions.specs.Windows.{change_at, swing}
@@ -57,6 +57,13 @@ pub record PushedAtMost (n : ℕ) (w : Windows) : Type 0 where
   pub zero_across : w.zero_across.pushes ≤ n
   pub trigger_along : w.trigger_along.pushes ≤ n
   pub trigger_across : w.trigger_across.pushes ≤ n
+
+-- all the sums of each swing are 0
+pub record SwingsAreStill (w : Windows) : Type 0 where
+  pub zero_along : IsTrue w.zero_along.still
+  pub zero_across : IsTrue w.zero_across.still
+  pub trigger_along : IsTrue w.trigger_along.still
+  pub trigger_across : IsTrue w.trigger_across.still
 
 -- at tick 0, before the first one, the speed does not change
 pub record BeginsAtRest (m : Signals) : Type 0 where

@@ -22,14 +22,13 @@ pub struct Detect {
 }
 
 impl Model for Detect {
-    ghost use Rattle.edr_detect.specs.Standing.{PushedAtMost};
-    ghost use Rattle.edr_detect.specs.Detected.{DetectState};
+    ghost use Rattle.edr_detect.specs.Detected.{CountsTicks, DetectState};
 
     ghost Value = { DetectState };
 
     ghost view = { λ d. record { tick = d.tick; stage = d.stage; windows = d.windows; rests = d.rests } };
 
-    ghost invariant = { λ d. PushedAtMost d.tick d.windows };
+    ghost invariant = { λ d. CountsTicks (record { tick = d.tick; stage = d.stage; windows = d.windows; rests = d.rests }) };
 }
 
 impl Detect {

@@ -42,10 +42,12 @@ fn largest<const K: usize>(sums: &Swing<K>) -> i64
 }
 
 // No sum differs from 0.
+#[inline(always)]
 fn is_at_rest<const K: usize>(sums: &Swing<K>) -> bool
-    ensures { IsTrue result → HasNoSwing K sums.now }
+    ensures still { result ≡ sums.now.still }
+    ensures none { IsTrue result → HasNoSwing K sums.now }
 {
-    sums.least() == Some(0) && sums.greatest() == Some(0)
+    sums.is_still()
 }
 
 impl Windows {
@@ -53,7 +55,7 @@ impl Windows {
     ghost use Rattle.edr_definitions.specs.Selection.{Bounds, is_triggered, is_time_zero, is_end, at_start};
     ghost use Rattle.edr_definitions.specs.Search.{Phase, Searching};
     ghost use Rattle.edr_detect.specs.Stages.{phase_of, is_event};
-    ghost use Rattle.edr_detect.specs.Standing.{SwingsStandFor, SwingsTake, WindowsStandFor, WindowsTake, HoldNothing, AreStill, PushedAtMost, BeginsAtRest, EndIs, TestsAre, WindowsRestart};
+    ghost use Rattle.edr_detect.specs.Standing.{SwingsStandFor, SwingsTake, WindowsStandFor, WindowsTake, HoldNothing, AreStill, PushedAtMost, SwingsAreStill, BeginsAtRest, EndIs, TestsAre, WindowsRestart};
 
     pub fn new() -> Windows
         ensures stands { (m : Signals) → BeginsAtRest m → WindowsStandFor m at_start Searching 0 result }
@@ -106,20 +108,23 @@ impl Windows {
     #[inline(always)]
     pub fn rest(&mut self)
         requires room { PushedAtMost (LATEST_MOMENT - 1) self.old }
+        requires still { SwingsAreStill self.old }
         ensures stands { HoldNothing self.old → (p : Phase) (t : ℕ) → WindowsTake p t (pos 0) (pos 0) self.old self.new }
         ensures nothing { HoldNothing self.old → HoldNothing self.new }
         ensures pushed { (n : ℕ) → PushedAtMost n self.old → PushedAtMost (n + 1) self.new }
+        ensures still { SwingsAreStill self.new }
     {
-        self.zero_along.push(0);
-        self.zero_across.push(0);
-        self.trigger_along.push(0);
-        self.trigger_across.push(0);
+        self.zero_along.push_still();
+        self.zero_across.push_still();
+        self.trigger_along.push_still();
+        self.trigger_across.push_still();
     }
 
     // No sum of any swing differs from 0, and no change of the last 20 ticks.
     pub fn are_at_rest(&self) -> bool
         ensures still { IsTrue result → (m : Signals) (b : Bounds) (t : ℕ) → SwingsStandFor m b t self.now → AreStill m b t }
         ensures nothing { IsTrue result → HoldNothing self.now }
+        ensures swings { IsTrue result → SwingsAreStill self.now }
     {
         is_at_rest(&self.zero_along)
             && is_at_rest(&self.zero_across)

@@ -4,11 +4,11 @@
 mod candidates;
 pub mod laws;
 
-ghost use Rattle.std.specs.Prelude.{◌≡◌, ◌+◌, ◌<◌, ◌≤◌, [], ◌∷◌, ◌++◌, List, ℤ, neg_ℤ, unsigned_abs, IsTrue};
+ghost use Rattle.std.specs.Prelude.{◌≡◌, ◌+◌, ◌<◌, ◌≤◌, [], ◌∷◌, ◌++◌, List, ℤ, pos, neg_ℤ, unsigned_abs, IsTrue};
 ghost use Rattle.edr_items.specs.declared.TheConstants.{LATEST_MOMENT};
 ghost use Rattle.edr_window.specs.declared.TheConstants.{LARGEST_VALUE};
 ghost use Rattle.edr_window.specs.Candidates.{most};
-ghost use Rattle.edr_window.specs.Sums.{IsLeastSumIfAny, IsGreatestSumIfAny};
+ghost use Rattle.edr_window.specs.Sums.{IsLeastSum, IsGreatestSum, IsLeastSumIfAny, IsGreatestSumIfAny};
 ghost use Rattle.edr_window.specs.Swing.{SwingStandsFor};
 
 use crate::candidates::{Candidates, Earlier};
@@ -51,7 +51,7 @@ impl<const K: usize> Model for Swing<K> {
 
     ghost Value = { SwingState };
 
-    ghost view = { λ s. record { pushes = s.pushes; rest = s.pushes - s.places; sum = s.sum; high = s.high; low = s.low } };
+    ghost view = { λ s. record { pushes = s.pushes; rest = s.pushes - s.places; sum = s.sum; high = s.high; low = s.low; still = s.rests } };
 
     ghost invariant = { λ s. FieldsHold K s.pushes s.places s.sum s.high s.low s.rests };
 }
@@ -84,10 +84,32 @@ impl<const K: usize> Swing<K> {
     {
         // Where all the sums are 0, a further 0 changes none.
         if v == 0 && self.rests {
-            self.pushes += 1;
+            self.push_still();
             return;
         }
         self.put(v);
+    }
+
+    /// Whether all the sums are 0. They stay so while 0 is pushed.
+    #[inline(always)]
+    pub fn is_still(&self) -> bool
+        ensures still { result ≡ self.now.still }
+        ensures least { IsTrue result → (values : List ℤ) → SwingStandsFor K self.now values → IsLeastSum K values (pos 0) }
+        ensures greatest { IsTrue result → (values : List ℤ) → SwingStandsFor K self.now values → IsGreatestSum K values (pos 0) }
+    {
+        self.rests
+    }
+
+    /// One more 0, where all the sums are 0.
+    #[inline(always)]
+    pub fn push_still(&mut self)
+        requires still { IsTrue self.old.still }
+        requires room { self.old.pushes < LATEST_MOMENT }
+        ensures stands { (values : List ℤ) → SwingStandsFor K self.old values → SwingStandsFor K self.new (values ++ pos 0 ∷ []) }
+        ensures pushes { self.new.pushes ≡ self.old.pushes + 1 }
+        ensures still { IsTrue self.new.still }
+    {
+        self.pushes += 1;
     }
 
     // One more value, whatever it moves. It stands apart, so that a push at rest stays small.

@@ -43,7 +43,7 @@ returns-clause-stands g c = λ values h.
     let v_is = back-small c.args.v (omega arith) in
     let more_is = back-small (to_z w64 (of_z w64 q.sum) +ℤ to_z w64 (of_z w64 c.args.v)) (omega (arith, ints, e, v_is, small, small_v)) in
     stands-pushed g.row.K q.pushes q.places q.sum q.high q.low q.rests inv c.args.v values (subst (λ (s : SwingState). SwingStandsFor g.row.K s values) (sym c.self.view_is) h)
-    _ c.give.new.self c.give-2.new.self (omega (arith, ints, e, v_is, more_is))
+    _ c.give.new.self c.give-2.new.self c.are_at_rest-self-inside.result (omega (arith, ints, e, v_is, more_is))
     c.give.ensures.recent c.give-2.ensures.recent c.give.ensures.some c.give-2.ensures.some
     (λ given rest a is. c.give.ensures.candidates given rest a (is ∙ sym e))
     (λ given rest a is. c.give-2.ensures.candidates given rest a (is ∙ omega (arith, ints, f, e)))

@@ -29,7 +29,10 @@ returns-then-not-tests c =
     }
 
 pub invariant_of-self-2 : goal.invariant_of-self-2
-invariant_of-self-2 c = c.restart.ensures.pushed (c.self.inside.tick + 1) (c.push.ensures.pushed c.self.inside.tick c.self.invariant)
+invariant_of-self-2 c = record {
+  pushed = c.restart.ensures.pushed (c.self.inside.tick + 1) (c.push.ensures.pushed c.self.inside.tick c.self.invariant.pushed);
+  still = λ told. absurd (never-rests told);
+}
 
 pub returns : goal.returns
 returns c =

@@ -7,7 +7,7 @@ use Rattle.edr_detect.proofs.RowLemmas.{at-rest, tick-quiet}
 use Rattle.edr_detect.proofs.detector.Detect.pass_still.Goals as goal
 
 pub invariant_of-self : goal.invariant_of-self
-invariant_of-self c = c.rest.ensures.pushed c.self.inside.tick c.self.invariant
+invariant_of-self c = record { pushed = c.rest.ensures.pushed c.self.inside.tick c.self.invariant.pushed; still = λ _. c.rest.ensures.still }
 
 pub returns : goal.returns
 returns c =
