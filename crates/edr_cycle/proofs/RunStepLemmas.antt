@@ -18,8 +18,6 @@ use Rattle.edr_definitions.proofs.KeepLaws.{commands-start}
 use Rattle.edr_definitions.proofs.LaterLaws.{issues-push}
 use Rattle.edr_definitions.proofs.MarkLaws.{mark-more, horizon-least, horizon-more, horizon-with_item}
 use Rattle.edr_definitions.proofs.ScheduleLaws.{never_ahead}
-use Rattle.edr_merge.specs.Still.{still_item, along_given, still_given, after_still}
-use Rattle.edr_core.specs.Still.{next_tick}
 use Rattle.edr_core.specs.Calls.{CoreFollows}
 use Rattle.edr_core.specs.Contents.{CoreContents}
 use Rattle.edr_core.specs.StandsFor.{CoreIsFor}
@@ -30,7 +28,7 @@ use Rattle.edr_cycle.specs.CycleLogged.{CycleLogged}
 use Rattle.edr_banks.specs.Opened.{OpenedBanks}
 use Rattle.edr_run.specs.Cycle.{issues_in}
 use Rattle.edr_cycle.specs.Commits.{Commits}
-use Rattle.edr_cycle.specs.Rest.{IsGiven, TakesFirst, GivesFirst, MayGiveFirst, PassesNext, issues_between, issues_past}
+use Rattle.edr_cycle.specs.Rest.{IsGiven, TakesFirst, GivesFirst, MayGiveFirst, PassesOn, issues_between, issues_past}
 use Rattle.edr_cycle.proofs.CommittedLemmas.{commits_failed, commits_none, commits_same, commits_then}
 use Rattle.edr_run.proofs.IssueLemmas.{issues-few, issues-more, issues-under_way}
 
@@ -74,7 +72,7 @@ between-same : (f g : SensorLists) (n a t : ℕ) → issues f n a ≡ issues g n
 between-same f g n a t first second = ap (λ xs. drop (length xs) (issues f n t)) first ∙ ap (drop (length (issues g n a))) second
 
 -- ---- what is left
-rest_gives : (s r : Sensor) (x : Item) (ys : List Item) (lists given left : SensorLists) → ((q : Sensor) → items_of q lists ≡ items_of q given ++ items_of q left) → items_of s left ≡ x ∷ ys → items_of r lists ≡ items_of r (with_item s x given) ++ items_of r (with_items s ys left)
+pub rest_gives : (s r : Sensor) (x : Item) (ys : List Item) (lists given left : SensorLists) → ((q : Sensor) → items_of q lists ≡ items_of q given ++ items_of q left) → items_of s left ≡ x ∷ ys → items_of r lists ≡ items_of r (with_item s x given) ++ items_of r (with_items s ys left)
 rest_gives s r x ys lists given left h is =
     with_value-both (λ q front back. items_of q lists ≡ front ++ back) s (items_of s given ++ x ∷ []) ys given left
     (h s ∙ ap (λ xs. items_of s given ++ xs) is ∙ sym (append_assoc (items_of s given) (x ∷ []) ys)) h r
@@ -165,6 +163,19 @@ module _ {D : Type 0} (content : D → Option (List ℕ)) (settled : D → ℕ �
         commits = rw (sym (between-same p.given (with_item s x p.given) n base p.closed (issues-push s p.given x n base (let from = run.from in omega (arith, from, later))) (issues-push s p.given x n p.closed later))) run.commits;
       }
 
+  -- ticks that are passed, which issue nothing
+  pub run-passes : (core core' : CoreContents) (left left' : SensorLists) (b' : OpenedBanks) (l' : CycleLogged) (d' : D) → (run : Now core left b' l' d') → PassesOn n run.given.progress core' left left' → Now core' left' b' l' d'
+  run-passes core core' left left' b' l' d' run is =
+      let p = run.given.progress in
+      let q = is.last in
+      let between : issues_between p.given n base p.closed ≡ issues_between q.given n base q.closed =
+      ap (λ xs. drop (length xs) (issues p.given n p.closed)) (sym (is.early base run.from)) ∙ ap (drop (length (issues q.given n base))) (sym is.quiet) in
+      record {
+        given = record { progress = q; core_is = is.core_is; within = is.within run.given.within; rest = is.rest lists run.given.rest };
+        from = let from = run.from in let later = is.from in omega (arith, from, later);
+        commits = rw (sym between) run.commits;
+      }
+
   -- one that may have been given
   pub run-may_give : (core core' : CoreContents) (left left' : SensorLists) (b' : OpenedBanks) (l' : CycleLogged) (d' : D) (s : Sensor) → Now core left b' l' d' → MayGiveFirst s core core' left left' → Now core' left' b' l' d'
   run-may_give core core' left left' b' l' d' s run (inl g) =
@@ -173,10 +184,11 @@ module _ {D : Type 0} (content : D → Option (List ℕ)) (settled : D → ℕ �
       run-gives core core' left left' b' l' d' s g.item run (g.gives n p is) (g.allowed n p is) g.first g.others
   run-may_give core core' left left' b' l' d' s run (inr same) = rw (same.0, same.1) run
 
-  -- one of each axis, where no tick was passed before
-  pub run-axes : (core stayed core' core'' : CoreContents) (left kept left' left'' : SensorLists) (b' : OpenedBanks) (l' : CycleLogged) (d' : D) → Now core left b' l' d' → (stayed ≡ core) × (kept ≡ left) → MayGiveFirst Along stayed core' kept left' → MayGiveFirst Across core' core'' left' left'' → Now core'' left'' b' l' d'
-  run-axes core stayed core' core'' left kept left' left'' b' l' d' run stays along across =
-      run-may_give core' core'' left' left'' b' l' d' Across (run-may_give stayed core' kept left' b' l' d' Along (rw (stays.0, stays.1) run) along) across
+  -- one of each axis, once ticks are passed
+  pub run-axes : (core passed core' core'' : CoreContents) (left kept left' left'' : SensorLists) (b' : OpenedBanks) (l' : CycleLogged) (d' : D) → (run : Now core left b' l' d')
+      → PassesOn n run.given.progress passed left kept → MayGiveFirst Along passed core' kept left' → MayGiveFirst Across core' core'' left' left'' → Now core'' left'' b' l' d'
+  run-axes core passed core' core'' left kept left' left'' b' l' d' run is along across =
+      run-may_give core' core'' left' left'' b' l' d' Across (run-may_give passed core' kept left' b' l' d' Along (run-passes core passed left kept b' l' d' run is) along) across
 
   -- then no tick was closed, and no more is left
   pub closed-may_give : (core core' : CoreContents) (left left' : SensorLists) (b' : OpenedBanks) (l' : CycleLogged) (d' : D) (s : Sensor) → Now core left b' l' d' → MayGiveFirst s core core' left left'
@@ -189,50 +201,20 @@ module _ {D : Type 0} (content : D → Option (List ℕ)) (settled : D → ℕ �
       ((g.gives n p is).closed_is ∙ sym is.closed_is, omega (arith, less, others))
   closed-may_give core core' left left' b' l' d' s run (inr same) = let left = ap left_count same.1 in (ap (λ (c : CoreContents). c.closed) same.0, omega (arith, left))
 
-  pub closed-axes : (core stayed core' core'' : CoreContents) (left kept left' left'' : SensorLists) (b' : OpenedBanks) (l' : CycleLogged) (d' : D) → Now core left b' l' d' → (stayed ≡ core) × (kept ≡ left) → MayGiveFirst Along stayed core' kept left' → MayGiveFirst Across core' core'' left' left''
-      → (core''.closed ≡ core.closed) × (left_count left'' ≤ left_count left)
-  closed-axes core stayed core' core'' left kept left' left'' b' l' d' run stays along across =
-      let on : Now stayed kept b' l' d' = rw (stays.0, stays.1) run in
-      let first = closed-may_give stayed core' kept left' b' l' d' Along on along in
-      let second = closed-may_give core' core'' left' left'' b' l' d' Across (run-may_give stayed core' kept left' b' l' d' Along on along) across in
-      let none = ap left_count stays.1 in
-      (second.0 ∙ first.0 ∙ ap (λ (c : CoreContents). c.closed) stays.0, let a = first.1 in let b = second.1 in omega (arith, a, b, none))
-
-  -- a tick at which nothing moves is passed, and issues nothing
-  pub run-passes : (core core' : CoreContents) (left left' : SensorLists) (b' : OpenedBanks) (l' : CycleLogged) (d' : D) → (run : Now core left b' l' d') → PassesNext n run.given.progress core' left left' → Now core' left' b' l' d'
-  run-passes core core' left left' b' l' d' run is =
-      let p = run.given.progress in
-      let x = still_item (next_tick p) in
-      let f = (along_given p).given in
-      let g = (still_given p).given in
-      let same : (t : ℕ) → t ≤ p.closed → issues p.given n t ≡ issues g n t = λ t at. issues-push Along p.given x n t (omega (arith, at)) ∙ issues-push Across f x n t (omega (arith, at)) in
-      let between : issues_between p.given n base p.closed ≡ issues_between g n base (next_tick p) =
-      ap (λ xs. drop (length xs) (issues p.given n p.closed)) (same base run.from) ∙ ap (drop (length (issues g n base))) (same p.closed (omega arith) ∙ sym is.passes.quiet) in
-      record {
-        given = record {
-          progress = after_still p;
-          core_is = is.passes.stands;
-          within = let may = is.passes.next.closes in omega (arith, may);
-          rest = λ q.
-              rest_gives Across q x (items_of Across left') lists f is.middle
-              (λ r. rest_gives Along r x (items_of Along is.middle) lists p.given left run.given.rest is.along ∙ ap (λ (l : SensorLists). items_of r f ++ items_of r l) (sym is.along_others)) is.across
-              ∙ ap (λ (l : SensorLists). items_of q g ++ items_of q l) (sym is.across_others);
-        };
-        from = let from = run.from in omega (arith, from);
-        commits = rw (sym between) run.commits;
-      }
-
-  -- then one tick more is closed, and one item fewer of each axis is left
-  pub passes-less : (core core' : CoreContents) (left left' : SensorLists) → (given : IsGiven lists n core left) → PassesNext n given.progress core' left left' → (core'.closed ≡ core.closed + 1) × (left_count left' + 2 ≡ left_count left)
-  passes-less core core' left left' given is =
-      let before = given.core_is.closed_is in
-      let after = is.passes.stands.closed_is in
-      let x = still_item (next_tick given.progress) in
-      let first = left_count-less Along x (items_of Along is.middle) left is.along in
-      let second = left_count-less Across x (items_of Across left') is.middle is.across in
-      let one = ap left_count is.along_others in
-      let two = ap left_count is.across_others in
-      (omega (arith, before, after), omega (arith, first, second, one, two))
+  -- none is open again that was closed, once ticks are passed
+  pub closed-axes : (core passed core' core'' : CoreContents) (left kept left' left'' : SensorLists) (b' : OpenedBanks) (l' : CycleLogged) (d' : D) → (run : Now core left b' l' d')
+      → PassesOn n run.given.progress passed left kept → MayGiveFirst Along passed core' kept left' → MayGiveFirst Across core' core'' left' left''
+      → (core.closed ≤ core''.closed) × (left_count left'' ≤ left_count left)
+  closed-axes core passed core' core'' left kept left' left'' b' l' d' run is along across =
+      let on : Now passed kept b' l' d' = run-passes core passed left kept b' l' d' run is in
+      let first = closed-may_give passed core' kept left' b' l' d' Along on along in
+      let second = closed-may_give core' core'' left' left'' b' l' d' Across (run-may_give passed core' kept left' b' l' d' Along on along) across in
+      let before = run.given.core_is.closed_is in
+      let after = is.core_is.closed_is in
+      let from = is.from in
+      let fewer = is.fewer in
+      let same = second.0 ∙ first.0 in
+      (omega (arith, before, after, from, same), let a = first.1 in let b = second.1 in omega (arith, a, b, fewer))
 
   module _ (feeds : AreFeeds lists) (level : IsLevel lists) where
     under_way : (core : CoreContents) (left : SensorLists) → (g : IsGiven lists n core left) → IsUnderWay lists g.progress

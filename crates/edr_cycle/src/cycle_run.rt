@@ -1,7 +1,8 @@
 //! A cycle that runs by itself: its items go through the core, and each tick's commands to the banks.
 
-ghost use Rattle.std.specs.Prelude.{◌≡◌, ℕ, ◌+◌, ◌≤◌, false, IsTrue, length, map};
+ghost use Rattle.std.specs.Prelude.{◌≡◌, ℕ, ◌+◌, ◌≤◌, ◌<◌, false, IsTrue, length, map};
 ghost use Rattle.edr_device.specs.Lent.{Lent};
+ghost use Rattle.edr_items.specs.PerSensor.{total_of};
 ghost use Rattle.edr_items.specs.SensorLists.{AreFeeds, IsLevel, horizon_of, no_items};
 ghost use Rattle.edr_definitions.specs.Commands.{issue_at, issues};
 ghost use Rattle.edr_definitions.specs.Schedule.{Progress};
@@ -11,7 +12,7 @@ ghost use Rattle.edr_image.specs.Image.{image_size};
 ghost use Rattle.edr_run.specs.Cycle.{issues_in};
 ghost use Rattle.edr_cycle.specs.Begun.{room_for};
 ghost use Rattle.edr_cycle.specs.Ledgers.{CommitsIn};
-ghost use Rattle.edr_cycle.specs.Rest.{IsGiven, MayGiveFirst, PassesNext, issues_past};
+ghost use Rattle.edr_cycle.specs.Rest.{IsGiven, MayGiveFirst, PassesNext, PassesOn, issues_past};
 
 use crate::commits::commit_tick;
 use crate::ledger::Ledger;
@@ -62,6 +63,7 @@ fn give_next(core: &mut Core, left: &mut Left<'_>, sensor: Sensor)
 fn pass_next(core: &mut Core, left: &mut Left<'_>) -> bool
     ensures passes { IsTrue result → (n : ℕ) (p : Progress) → CoreIsFor core.old n p
         → PassesNext n p core.new left.old left.new }
+    ensures fewer { IsTrue result → total_of length left.new < total_of length left.old }
     ensures stays { result ≡ false → (core.new ≡ core.old) × (left.new ≡ left.old) }
 {
     let tick = core.closed().saturating_add(1);
@@ -74,6 +76,15 @@ fn pass_next(core: &mut Core, left: &mut Left<'_>) -> bool
     left.next(Sensor::Along);
     left.next(Sensor::Across);
     true
+}
+
+// Passes all ticks of that kind that come next. It stands apart, so that what it looks at again and again stays in registers.
+#[inline(never)]
+fn pass_on(core: &mut Core, left: &mut Left<'_>)
+    ensures { (n : ℕ) (p : Progress) → CoreIsFor core.old n p
+        → PassesOn n p core.new left.old left.new }
+{
+    while pass_next(core, left) {}
 }
 
 // Gives what is left of the feeds to a core that is lent, and commits what it issues.
@@ -97,9 +108,7 @@ fn give_on<L: Ledger, N: Nvm>(
 {
     let mut issued = Issued::none();
     loop {
-        if pass_next(core, left) {
-            continue;
-        }
+        pass_on(core, left);
         give_next(core, left, Sensor::Along);
         give_next(core, left, Sensor::Across);
         match core.close(&mut issued) {

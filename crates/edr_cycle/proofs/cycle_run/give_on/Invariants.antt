@@ -4,8 +4,8 @@ use Rattle.edr_device.specs.Device.{StillTells}
 use Rattle.edr_cycle.proofs.RunStepLemmas.{Runs, left_count}
 use Rattle.edr_cycle.proofs.cycle_run.give_on.Given as goal
 
-abbrev pub invariant-loop-core : goal.invariant-loop-core
-invariant-loop-core g l =
+abbrev pub invariant-loop-tick : goal.invariant-loop-tick
+invariant-loop-tick g l =
     let N = g.N.Nvm in
     let L = g.L.Ledger in
     record {
@@ -16,5 +16,5 @@ invariant-loop-core g l =
       tells : StillTells (N.content l.fn.nvm) (N.content l.nvm);
     }
 
-abbrev pub decreases-loop-core : goal.decreases-loop-core
-decreases-loop-core g l = (horizon_of l.feeds - l.core.closed) + left_count l.left
+abbrev pub decreases-loop-tick : goal.decreases-loop-tick
+decreases-loop-tick g l = (horizon_of l.feeds - l.core.closed) + left_count l.left

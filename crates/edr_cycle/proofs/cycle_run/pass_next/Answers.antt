@@ -2,9 +2,10 @@ use Rattle.std.proofs.Common.{arith, ap, sym, subst, ◌≡◌, ℕ, List}
 use Rattle.edr_items.specs.declared.Item.{Item}
 use Rattle.edr_items.specs.declared.Sensor.TheVariants.{Along, Across}
 use Rattle.edr_items.specs.SensorLists.{items_of}
+use Rattle.edr_merge.specs.Still.{still_item}
 use Rattle.edr_core.specs.Still.{next_tick}
 use Rattle.edr_cycle.specs.Rest.{StillComesFirst}
-use Rattle.edr_cycle.proofs.StillLemmas.{closes-early, takes-still}
+use Rattle.edr_cycle.proofs.StillLemmas.{closes-early, still-fewer, takes-still}
 use Rattle.edr_cycle.proofs.cycle_run.pass_next.Goals as goal
 
 pub returns-clause-passes : goal.returns-clause-passes
@@ -24,3 +25,12 @@ returns-clause-passes c = λ _ n p is.
       across_others = c.next-2.ensures.others;
       passes = c.pass_still.ensures.passes c.if-not-pass_still.false n p is;
     }
+
+pub returns-clause-fewer : goal.returns-clause-fewer
+returns-clause-fewer c = λ _.
+    let t = c.saturating_add-tick.result in
+    let along = takes-still c.next.result (items_of Along c.args.left.now) (items_of Along c.next.new.self) t (c.is_still.ensures c.if-not-is_still.false) c.next.ensures.item in
+    let across = takes-still c.next-2.result (items_of Across c.next.new.self) (items_of Across c.next-2.new.self) t
+    (subst (λ (xs : List Item). StillComesFirst t xs) (sym (ap (items_of Across) c.next.ensures.others)) (c.is_still-else-not-is_still.ensures c.if-not-is_still-2.false)) c.next-2.ensures.item in
+    let less = still-fewer c.args.left.now c.next.new.self c.next-2.new.self (still_item t) (still_item t) along c.next.ensures.others across c.next-2.ensures.others in
+    omega (arith, less)
