@@ -68,57 +68,38 @@ fn a_report_is_drawn_whole_or_in_part(rt: HostRuntime) -> Result<(), Fail> {
     }
 }
 
-#[test]
-fn what_is_no_report_is_told(rt: HostRuntime) -> Result<(), Fail> {
-    let text = b"block,name,value\n0,\"ignition cycle, download\",03\n";
-    let told = PageFault::Report {
-        row: 2,
-        fault: RowFault::Field(3),
-    };
-    let run = sound(text, PageStatus::Faulty(told), 3);
-    check(&rt, run, b"fault: report row 2: field 3\n")
-}
-
-// A report that is at fault in its first row.
-fn check_first_row<R: Abort + AllocGlobal>(
+// A report that is at fault in this row.
+fn check_fault<R: Abort + AllocGlobal>(
     rt: &R,
     report: &[u8],
+    row: u32,
     fault: RowFault,
     line: &[u8],
 ) -> Result<(), Fail> {
-    let told = PageFault::Report { row: 1, fault };
+    let told = PageFault::Report { row, fault };
     check(rt, sound(report, PageStatus::Faulty(told), 3), line)
 }
 
 #[test]
-fn a_first_row_at_fault_is_told(rt: HostRuntime) -> Result<(), Fail> {
-    let unended = b"fault: report row 1: unended\n";
-    check_first_row(&rt, b"", RowFault::Unended, unended)?;
-    let text = b"ignition cycle, download: 3\n";
-    check_first_row(
-        &rt,
-        text,
-        RowFault::Fields(2),
-        b"fault: report row 1: fields 2\n",
-    )?;
-    let headless = b"0,\"ignition cycle, download\",3\n";
-    check_first_row(
-        &rt,
-        headless,
-        RowFault::Field(1),
-        b"fault: report row 1: field 1\n",
-    )
+fn what_is_no_report_is_told(rt: HostRuntime) -> Result<(), Fail> {
+    let value = b"block,name,value\n0,\"ignition cycle, download\",03\n";
+    let line = b"fault: report row 2: field 3\n";
+    check_fault(&rt, value, 2, RowFault::Field(3), line)?;
+    let cut = b"block,name,value\n";
+    let line = b"fault: report row 2: unended\n";
+    check_fault(&rt, cut, 2, RowFault::Unended, line)
 }
 
 #[test]
-fn a_cut_report_is_told(rt: HostRuntime) -> Result<(), Fail> {
-    let fault = RowFault::Unended;
-    let run = sound(
-        b"block,name,value\n",
-        PageStatus::Faulty(PageFault::Report { row: 2, fault }),
-        3,
-    );
-    check(&rt, run, b"fault: report row 2: unended\n")
+fn a_first_row_at_fault_is_told(rt: HostRuntime) -> Result<(), Fail> {
+    let line = b"fault: report row 1: unended\n";
+    check_fault(&rt, b"", 1, RowFault::Unended, line)?;
+    let text = b"ignition cycle, download: 3\n";
+    let line = b"fault: report row 1: fields 2\n";
+    check_fault(&rt, text, 1, RowFault::Fields(2), line)?;
+    let headless = b"0,\"ignition cycle, download\",3\n";
+    let line = b"fault: report row 1: field 1\n";
+    check_fault(&rt, headless, 1, RowFault::Field(1), line)
 }
 
 // A run for a word, over a source that fails if it is read.
