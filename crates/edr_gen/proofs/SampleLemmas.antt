@@ -10,6 +10,3 @@ pub samples-next : (f : Sensor → Sample) (ss : List Sensor) (k : ℕ) (d : Sen
 samples-next f ss k d xs lt =
     append_assoc xs (map f (take k ss)) (f (slice_index_or ss k d) ∷ [])
     ∙ ap (λ ys. xs ++ ys) (sym (map-append f (take k ss) (slice_index_or ss k d ∷ [])) ∙ ap (map f) (sym (take-suc ss k d lt) ∙ ap (λ n. take n ss) (sym (add-one k))))
-
-pub tick-given : (xs slow rest : List Sample) (a c : Sample) → (((xs ++ a ∷ []) ++ c ∷ []) ++ slow) ++ rest ≡ xs ++ ((a ∷ c ∷ []) ++ slow ++ rest)
-tick-given xs slow rest a c = simp append_assoc

@@ -46,6 +46,10 @@ sample s t value = record { sensor = s; item = record { moment = t; value = valu
 abbrev pub crash_samples : ℤ → ℤ → ℕ → List Sample
 crash_samples along across t = sample Along t (Some along) ∷ sample Across t (Some across) ∷ []
 
+-- those by the impulse that acts
+abbrev pub crash_of : List Impulse → ℕ → List Sample
+crash_of impulses t = crash_samples (along_of (acting_at impulses t)) (across_of (acting_at impulses t)) t
+
 -- the slow sensors sample together, or don't
 abbrev pub slow_sample : ℕ → Sensor → Sample
 slow_sample t s = sample s t (slow_value_of s SLOW_SAID)
@@ -63,7 +67,7 @@ restraint_samples false false t = []
 -- what the sensors give at one tick, in the order of their numbers
 unfoldable pub samples_at : List Impulse → ℕ → List Sample
 samples_at impulses t =
-    crash_samples (along_of (acting_at impulses t)) (across_of (acting_at impulses t)) t
+    crash_of impulses t
     ++ slow_samples (t % 100 == 0) t
     ++ restraint_samples (has_firing impulses t) (t % 1000 == 0) t
 

@@ -2,12 +2,12 @@
 ghost use Rattle.std.specs.Prelude.{◌≡◌, ◌+◌, ◌%◌, ◌<◌, ◌==◌, ◌^◌, ◌∷◌, [], IfOk, None, Some, OnOk, pos};
 ghost use Rattle.edr_items.specs.PerSlowSensor.{slow_value_of};
 ghost use Rattle.edr_spell.specs.Samples.{feeds_given};
-ghost use Rattle.edr_gen.specs.Cycles.{GivesSamples, crash_samples, restraint_samples, sample, samples_at, slow_samples};
+ghost use Rattle.edr_gen.specs.Cycles.{GivesSamples, crash_of, crash_samples, restraint_samples, sample, samples_at, slow_samples};
 ghost use Rattle.edr_gen.specs.Draws.{plan_from, state_past};
 ghost use Rattle.edr_gen.specs.Traces.{cycle_of, samples_of};
 
 use crate::draws::Draws;
-use crate::plan::{Plan, SLOW_SAID, TICKS, across_of, along_of};
+use crate::plan::{Plan, SLOW_SAID, TICKS};
 use edr_items::{Feeds, Item, SLOW_SENSORS, Sensor};
 use edr_spell::CycleInput;
 use std::alloc::{AllocError as OutOfMemory, Global};
@@ -60,14 +60,32 @@ fn give_restraint(feeds: &mut Feeds, tick: u32, fires: bool) -> Result<(), OutOf
     Ok(())
 }
 
+// Gives what the acceleration sensors say at a tick.
+#[inline(always)]
+fn give_axes(feeds: &mut Feeds, tick: u32, along: i32, across: i32) -> Result<(), OutOfMemory>
+    ensures { OnOk result (GivesSamples (crash_samples along across tick) feeds.old feeds.new) }
+{
+    give(feeds, Sensor::Along, tick, Some(along))?;
+    give(feeds, Sensor::Across, tick, Some(across))
+}
+
+// The same by the plan. Most often nothing acts, and a 0 needs no look at a range: so the two cases stand apart.
+#[inline(always)]
+fn give_crash(feeds: &mut Feeds, plan: &Plan, tick: u32) -> Result<(), OutOfMemory>
+    ensures { OnOk result (GivesSamples (crash_of plan.now.impulses tick) feeds.old feeds.new) }
+{
+    match plan.acting_at(tick) {
+        Some(impulse) => give_axes(feeds, tick, impulse.along, impulse.across),
+        None => give_axes(feeds, tick, 0, 0),
+    }
+}
+
 // Gives what all sensors say at a tick.
 #[tactic(auto, unfolding(crate::specs::Cycles::samples_at))]
 fn give_tick(feeds: &mut Feeds, plan: &Plan, tick: u32) -> Result<(), OutOfMemory>
     ensures { OnOk result (GivesSamples (samples_at plan.now.impulses tick) feeds.old feeds.new) }
 {
-    let acting = plan.acting_at(tick);
-    give(feeds, Sensor::Along, tick, Some(along_of(acting)))?;
-    give(feeds, Sensor::Across, tick, Some(across_of(acting)))?;
+    give_crash(feeds, plan, tick)?;
     give_slow(feeds, tick)?;
     give_restraint(feeds, tick, plan.has_firing(tick))
 }
