@@ -1,5 +1,5 @@
 -- A tick at which neither axis moves, and which a core passes without a search.
-use Rattle.std.specs.Prelude.{◌≡◌, ℕ, ◌+◌, false}
+use Rattle.std.specs.Prelude.{◌≡◌, ℕ, ◌+◌, false, IsTrue, None}
 use Rattle.edr_items.specs.declared.Sensor.TheVariants.{Along, Across}
 use Rattle.edr_definitions.specs.Commands.{issues}
 use Rattle.edr_definitions.specs.Schedule.{Progress}
@@ -21,6 +21,13 @@ with_along h = after_item Along (still_item (next_tick h.past)) h
 
 abbrev pub with_both : History → History
 with_both h = after_item Across (still_item (next_tick h.past)) (with_along h)
+
+-- no part is asked for, no candidate is open, the search rests, and both axes may give their sample of 0, which is all of the tick
+pub record CanPassStill (c : SplitContents) (p : Progress) : Type 0 where
+  pub free : c.ask ≡ None
+  pub none_open : c.candidate ≡ None
+  pub rests : IsTrue c.detect.rests
+  pub next : IsStillNext p
 
 -- both gave it while no part was asked for, and then the tick was closed, which issues nothing
 pub record SplitPassesStill (h : History) (new : SplitContents) : Type 0 where

@@ -78,7 +78,7 @@ impl Core {
     ghost use Rattle.edr_core.specs.StandsFor.{CoreIsFor};
     ghost use Rattle.edr_core.specs.Answers.{IsClosed, PutsNothingAside, awaited_sensor, after_answer, step_of, HasTheCommands, HasTheIssues};
     ghost use Rattle.edr_core.specs.Calls.{IsWhyRefused, CoreFollows};
-    ghost use Rattle.edr_core.specs.Still.{CorePassesStill};
+    ghost use Rattle.edr_core.specs.Still.{CanPassStill, CorePassesStill};
 
     /// A core for the ignition cycle of that number, to which no sensor has given an item, and of which no tick is closed.
     pub fn open(alloc: Global, cycle: u32) -> Result<Core, OutOfMemory>
@@ -171,6 +171,7 @@ impl Core {
     /// rest. It says whether it did; the tick issues nothing then.
     #[inline(always)]
     pub fn pass_still(&mut self) -> bool
+        ensures answer { (n : ℕ) (p : Progress) → CoreIsFor self.old n p → IsTrue result ↔ CanPassStill self.old.split p }
         ensures passes { IsTrue result → (n : ℕ) (p : Progress) → CoreIsFor self.old n p → CorePassesStill n p self.new }
         ensures stays { result ≡ false → self.new ≡ self.old }
     {

@@ -93,7 +93,7 @@ impl SplitCore {
     ghost use Rattle.edr_core.specs.SplitStandsFor.{SplitCoreStandsFor};
     ghost use Rattle.edr_core.specs.SplitAnswers.{answer_of, after_split, split_step_of, IsSplitQuiet, part_refusal_of};
     ghost use Rattle.edr_core.specs.Calls.{IsWhyRefused, SplitFollows, GivesTheCommands, GivesTheIssues};
-    ghost use Rattle.edr_core.specs.Still.{SplitPassesStill};
+    ghost use Rattle.edr_core.specs.Still.{CanPassStill, SplitPassesStill};
 
     /// A core for the ignition cycle of that number, to which no sensor has given an item, and of which no tick is closed.
     pub fn open(alloc: Global, cycle: u32) -> Result<SplitCore, OutOfMemory>
@@ -305,6 +305,7 @@ impl SplitCore {
     /// rest. It says whether it did; the tick issues nothing then.
     #[inline(always)]
     pub fn pass_still(&mut self) -> bool
+        ensures answer { (h : History) → SplitCoreStandsFor self.old h → IsTrue result ↔ CanPassStill self.old h.past }
         ensures passes { IsTrue result → (h : History) → SplitCoreStandsFor self.old h → SplitPassesStill h self.new }
         ensures stays { result ≡ false → self.new ≡ self.old }
     {

@@ -1,5 +1,5 @@
 -- The sensor that lags, found by its mark.
-use Rattle.std.proofs.Common.{arith, refl, ◌≡◌, ◌≢◌, ℕ, ◌<◌, ◌≤◌, Some, None, nat_eq, true, false}
+use Rattle.std.proofs.Common.{arith, refl, ◌≡◌, ◌≢◌, ℕ, ◌+◌, ◌<◌, ◌≤◌, Some, None, nat_eq, true, false}
 use Rattle.edr_items.specs.declared.Sensor.{Sensor}
 use Rattle.edr_items.specs.declared.Sensor.TheVariants.{Along, Across}
 use Rattle.edr_items.specs.Sensor.{number_of}
@@ -21,14 +21,14 @@ lag_across m t other here =
     rw (a, b) refl
 
 -- no mark is that tick, where those of the axes are not and those of the others are past it
-unmarked : (m : Marks) (t slow : ℕ) → m.along ≢ t → m.across ≢ t → t < slow → IsBelowSlow slow m → (s : Sensor) → is_marked_at m t s ≡ false
-unmarked m t slow along across before low Along = grind arith
-unmarked m t slow along across before low Across = grind arith
-unmarked m t slow along across before low s = let l = low s (omega arith) in grind arith
+unmarked : (m : Marks) (t : ℕ) → m.along ≢ t → m.across ≢ t → IsBelowSlow (t + 1) m → (s : Sensor) → is_marked_at m t s ≡ false
+unmarked m t along across low Along = grind arith
+unmarked m t along across low Across = grind arith
+unmarked m t along across low s = let l = low s (omega arith) in grind arith
 
-pub lag_none : (m : Marks) (t slow : ℕ) → m.along ≢ t → m.across ≢ t → t < slow → IsBelowSlow slow m → first_at m t ≡ None
+pub lag_none : (m : Marks) (t : ℕ) → m.along ≢ t → m.across ≢ t → IsBelowSlow (t + 1) m → first_at m t ≡ None
 unfolding first_at
-lag_none m t slow along across before low = find-none (is_marked_at m t) sensors (unmarked m t slow along across before low)
+lag_none m t along across low = find-none (is_marked_at m t) sensors (unmarked m t along across low)
 
 -- marks only rise
 pub below-risen : (slow t : ℕ) (s : Sensor) (m : Marks) → mark_in s m < t → IsBelowSlow slow m → IsBelowSlow slow (with_mark s t m)

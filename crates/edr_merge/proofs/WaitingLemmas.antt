@@ -4,6 +4,7 @@ use Rattle.std.proofs.lemmas.Bool.{cases_lt}
 use Rattle.std.proofs.lemmas.Bool.Decides.{nat_tests}
 use Rattle.std.proofs.lemmas.List.Elements.{filter-append, All-nil, All-cons, All-head, All-tail, All-append, All-drop}
 use Rattle.std.proofs.lemmas.Int.{ints}
+use Rattle.std.specs.Option.{option_map_or}
 use Rattle.circular_buffer.specs.Buffer.{keep_last}
 use Rattle.edr_items.specs.declared.TheConstants.{LONGEST_GAP}
 use Rattle.edr_items.specs.declared.Sensor.{Sensor}
@@ -138,11 +139,17 @@ kept-waiting s t xs x feed later near = by_value x.value refl where
       all ∙ ap (keep_last ROOM) (sym more) ∙ keep_last-all ROOM (waiting_samples t (xs ++ x ∷ [])) (omega (arith, long, last))
 
 -- ---- the restraints that wait
-pub firings-kept : (x : Item) (xs : List Item) → IsFiring x → All IsFiring xs → All IsFiring (with_sample x xs)
-firings-kept x xs fires all = by_test (is_some x.value) where
-  by_test : (b : Bool) → All IsFiring (cond b (keep_last ROOM (xs ++ x ∷ [])) xs)
-  by_test true = All-drop IsFiring (length (xs ++ x ∷ []) - ROOM) (xs ++ x ∷ []) (All-append IsFiring xs (x ∷ []) all (All-cons IsFiring x [] fires (All-nil IsFiring)))
-  by_test false = all
+pub firings-kept : (x : Item) (xs : List Item) → has_value_in_range Restraint x ≡ true → All IsFiring xs → All IsFiring (with_sample x xs)
+firings-kept x xs in_range all = by_test (is_some x.value) refl where
+  fires : (o : Option ℤ) → is_some o ≡ true → option_map_or (is_in_range Restraint) o true ≡ true → option_map_or (is_in_range Restraint) o false ≡ true
+  fires None some within = absurd (cc)
+  fires (Some v) some within = within
+
+  by_test : (b : Bool) → is_some x.value ≡ b → All IsFiring (cond b (keep_last ROOM (xs ++ x ∷ [])) xs)
+  by_test true some =
+      All-drop IsFiring (length (xs ++ x ∷ []) - ROOM) (xs ++ x ∷ [])
+      (All-append IsFiring xs (x ∷ []) all (All-cons IsFiring x [] (fires x.value some in_range) (All-nil IsFiring)))
+  by_test false none = all
 
 pub firings-past_first : (t : ℕ) (xs : List Item) → All IsFiring xs → All IsFiring (past_first t xs)
 firings-past_first t [] all = all
@@ -157,14 +164,14 @@ unfolding refusal_of
 refusal_of-in_range s last x h = grind arith
 
 -- a firing that waits is a sum of the bits of restraints
-bits_of_firing : (v : ℤ) → is_in_range Restraint v ≡ true → (pos 1 ≤ℤ v) × (v ≤ℤ pos 255)
+pub bits_of_firing : (v : ℤ) → is_in_range Restraint v ≡ true → (pos 1 ≤ℤ v) × (v ≤ℤ pos 255)
 bits_of_firing v h = (grind (arith, ints), grind (arith, ints))
 
 pub first_value-bits : (t : ℕ) (xs : List Item) (o : Option ℤ) → All IsFiring xs → o ≡ first_value t xs → IfSome o (λ v. (pos 1 ≤ℤ v) × (v ≤ℤ pos 255))
 first_value-bits t xs None all e = tt
 first_value-bits t [] (Some v) all e = absurd (cc)
 first_value-bits t (x ∷ xs) (Some v) all e = by_test (nat_eq x.moment t) e where
-  of_value : (o : Option ℤ) → has_value_in_range Restraint (record { moment = x.moment; value = o }) ≡ true → Some v ≡ o → (pos 1 ≤ℤ v) × (v ≤ℤ pos 255)
+  of_value : (o : Option ℤ) → option_map_or (is_in_range Restraint) o false ≡ true → Some v ≡ o → (pos 1 ≤ℤ v) × (v ≤ℤ pos 255)
   of_value None h e = absurd (cc)
   of_value (Some w) h e = bits_of_firing v (let same : v ≡ w = cc in rw same h)
 

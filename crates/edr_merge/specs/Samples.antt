@@ -1,9 +1,10 @@
 -- The samples of one sensor that are past the closed tick.
-use Rattle.std.specs.Prelude.{◌≡◌, ℕ, Bool, true, ◌&&◌, nat_eq, nat_lt, is_some, if◌then◌else◌, Option, None, ℤ, List, [], ◌∷◌, ◌++◌, filter}
+use Rattle.std.specs.Prelude.{◌≡◌, ℕ, Bool, true, false, ◌&&◌, nat_eq, nat_lt, is_some, if◌then◌else◌, Option, None, ℤ, List, [], ◌∷◌, ◌++◌, filter}
+use Rattle.std.specs.Option.{option_map_or}
 use Rattle.circular_buffer.specs.Buffer.{keep_last}
 use Rattle.edr_items.specs.declared.Item.{Item}
 use Rattle.edr_items.specs.declared.Sensor.TheVariants.{Restraint}
-use Rattle.edr_items.specs.Item.{has_value_in_range}
+use Rattle.edr_items.specs.Sensor.{is_in_range}
 use Rattle.edr_merge.specs.declared.samples.TheConstants.{ROOM}
 
 -- the item is a sample past the tick
@@ -28,6 +29,11 @@ abbrev pub past_first : ℕ → List Item → List Item
 past_first t [] = []
 past_first t (x ∷ xs) = if nat_eq x.moment t then xs else x ∷ xs
 
--- a value of the item is a sum of the bits of restraints
+-- the first item is of the tick
+abbrev pub is_first_of : ℕ → List Item → Bool
+is_first_of t [] = false
+is_first_of t (x ∷ xs) = nat_eq x.moment t
+
+-- the item has a value, which is a sum of the bits of restraints
 abbrev pub IsFiring : Item → Type 0
-IsFiring x = has_value_in_range Restraint x ≡ true
+IsFiring x = option_map_or (is_in_range Restraint) x.value false ≡ true

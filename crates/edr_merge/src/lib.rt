@@ -6,7 +6,7 @@ mod marks;
 mod rings;
 mod samples;
 
-ghost use Rattle.std.specs.Prelude.{◌≡◌, ◌↔◌, ◌≤◌, false, pos, ◌≤ℤ◌, IfOk, IfErr, IsOk, OnOk, OnErr, IfSome, IsTrue, unsigned_abs, unwrap_or};
+ghost use Rattle.std.specs.Prelude.{◌≡◌, ◌↔◌, ◌+◌, ◌≤◌, false, pos, ◌≤ℤ◌, IfOk, IfErr, IsOk, OnOk, OnErr, IfSome, IsTrue, unsigned_abs, unwrap_or};
 ghost use Rattle.edr_items.specs.Item.{refusal_of, mark_of};
 ghost use Rattle.edr_items.specs.SensorLists.{no_items, items_of};
 ghost use Rattle.edr_definitions.specs.Schedule.{Progress, Give, Close, IsAllowed, after_step};
@@ -80,9 +80,23 @@ fn restraints(sample: Option<i32>) -> Restraints
     }
 }
 
+// Whether the tick comes before the marks of all sensors beside the two axes. They are compared only where the tick has come up
+// to the least that they had.
+#[inline(always)]
+fn is_before_slow(marks: &Marks, slow: &mut u32, tick: u32) -> bool
+    requires { IsBelowSlow slow.old marks.now }
+    ensures answer { IsTrue result ↔ IsBelowSlow (tick + 1) marks.now }
+    ensures below { IsBelowSlow slow.new marks.now }
+{
+    if tick < *slow {
+        return true;
+    }
+    *slow = least_slow(marks);
+    tick < *slow
+}
+
 #[tactic(auto, using(crate::proofs::LagLemmas::lag_along, crate::proofs::LagLemmas::lag_across, crate::proofs::LagLemmas::lag_none))]
-// The lowest-numbered sensor whose mark is that tick. The axes may give an item each tick. The marks of the others are compared
-// only where the tick has come up to the least that they had.
+// The lowest-numbered sensor whose mark is that tick. The axes may give an item each tick.
 fn lagging(marks: &Marks, slow: &mut u32, tick: u32) -> Option<Sensor>
     requires { IsBelowSlow slow.old marks.now }
     ensures found { result ≡ first_at marks.now tick }
@@ -94,10 +108,9 @@ fn lagging(marks: &Marks, slow: &mut u32, tick: u32) -> Option<Sensor>
     if marks.across == tick {
         return Some(Sensor::Across);
     }
-    if tick < *slow {
+    if is_before_slow(marks, slow, tick) {
         return None;
     }
-    *slow = least_slow(marks);
     first_at(marks, tick)
 }
 
@@ -117,7 +130,7 @@ fn check_next(marks: &Marks, sensor: Sensor, item: &Item) -> Result<(), ItemRefu
 impl Merge {
     ghost use Rattle.edr_merge.specs.Answers.{give_refusal_of, next_of, AnswersRow, after_next};
     ghost use Rattle.edr_merge.specs.StandsFor.{MergeStandsFor};
-    ghost use Rattle.edr_merge.specs.Still.{PassesStill};
+    ghost use Rattle.edr_merge.specs.Still.{IsStillNext, PassesStill};
 
     /// A merge to which no sensor has given an item, and of which no tick is closed.
     pub fn new(alloc: Global) -> Result<Merge, OutOfMemory>
@@ -186,17 +199,21 @@ impl Merge {
             fired: restraints(self.rings.restraint.take(self.closed)),
         }
     }
+
     /// Takes a sample of 0 of the next tick from each axis, and closes the tick, where it needs nothing else. The samples go past
     /// the rings. It says whether it did.
     #[inline(always)]
     pub fn pass_still(&mut self) -> bool
+        ensures answer { (p : Progress) → MergeStandsFor self.old p → IsTrue result ↔ IsStillNext p }
         ensures passes { IsTrue result → (p : Progress) → MergeStandsFor self.old p → PassesStill p self.new }
         ensures stays { result ≡ false → self.new ≡ self.old }
     {
         if self.marks.along != self.closed || self.marks.across != self.closed {
             return false;
         }
-        if self.slow <= self.closed || self.rings.restraint.has(self.closed + 1) {
+        if !is_before_slow(&self.marks, &mut self.slow, self.closed)
+            || self.rings.restraint.has(self.closed + 1)
+        {
             return false;
         }
         self.closed += 1;

@@ -1,5 +1,5 @@
 //! The last moments of the sensors.
-ghost use Rattle.std.specs.Prelude.{◌≡◌};
+ghost use Rattle.std.specs.Prelude.{◌≡◌, ◌≤◌, ◌↔◌, ℕ};
 ghost use Rattle.edr_merge.specs.Marks.{first_at};
 ghost use Rattle.edr_merge.specs.Lag.{IsBelowSlow};
 
@@ -10,7 +10,7 @@ pub type Marks = PerSensor<u32>;
 
 // The least mark of the sensors beside the two axes.
 pub fn least_slow(marks: &Marks) -> u32
-    ensures { IsBelowSlow result marks.now }
+    ensures { (t : ℕ) → t ≤ result ↔ IsBelowSlow t marks.now }
 {
     let pedals = marks.throttle.min(marks.brake);
     let lights = marks.belt.min(marks.lamp);

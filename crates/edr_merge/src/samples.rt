@@ -1,6 +1,6 @@
 //! The samples of one sensor that wait until their tick is closed.
-ghost use Rattle.std.specs.Prelude.{◌≡◌, false, None, [], IfOk};
-ghost use Rattle.edr_merge.specs.Samples.{with_sample, first_value, past_first};
+ghost use Rattle.std.specs.Prelude.{◌≡◌, [], IfOk};
+ghost use Rattle.edr_merge.specs.Samples.{with_sample, first_value, past_first, is_first_of};
 
 use circular_buffer::HeapCircularBuffer;
 use edr_items::{Item, LONGEST_GAP};
@@ -77,7 +77,7 @@ impl Samples {
     // Whether the oldest sample is of that tick.
     #[inline(always)]
     pub fn has(&self, tick: u32) -> bool
-        ensures { result ≡ false → (first_value tick self.now ≡ None) × (past_first tick self.now ≡ self.now) }
+        ensures { result ≡ is_first_of tick self.now }
     {
         matches!(self.oldest, Some(item) if item.moment == tick)
     }

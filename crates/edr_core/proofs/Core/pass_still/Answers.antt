@@ -1,8 +1,9 @@
-use Rattle.std.proofs.Common.{refl, ap, sym, subst, ◌≡◌, ◌∙◌, Bool, true, false}
+use Rattle.std.proofs.Common.{refl, ap, sym, subst, ◌≡◌, ◌↔◌, ◌∙◌, Bool, IsTrue, true, false}
 use Rattle.edr_merge.specs.Still.{after_still}
 use Rattle.edr_core.specs.Contents.{CoreContents}
 use Rattle.edr_core.specs.Fields.{contents_of, HasHistory}
 use Rattle.edr_core.specs.StandsFor.{CoreIsFor}
+use Rattle.edr_core.specs.Still.{CanPassStill}
 use Rattle.edr_core.specs.SplitContents.{SplitContents}
 use Rattle.edr_core.specs.OwnParts.{resting_history}
 use Rattle.edr_core.proofs.OwnLemmas.{core-passes}
@@ -24,6 +25,9 @@ invariant_of-self c = by_result c.pass_still.result refl where
 
 pub returns : goal.returns
 returns c = record {
+  answer = λ n p before.
+      let h : CoreIsFor (contents_of c.self.inside) n p = subst (λ (v : CoreContents). CoreIsFor v n p) (sym c.self.view_is) before in
+      subst (λ (v : CoreContents). IsTrue c.pass_still.result ↔ CanPassStill v.split p) c.self.view_is (c.pass_still.ensures.answer (resting_history n p h.parts) h.split_is);
   passes = λ told n p before.
       let h : CoreIsFor (contents_of c.self.inside) n p = subst (λ (v : CoreContents). CoreIsFor v n p) (sym c.self.view_is) before in
       core-passes (contents_of c.self.inside) n p c.pass_still.new.self h (c.pass_still.ensures.passes told (resting_history n p h.parts) h.split_is);
