@@ -17,7 +17,7 @@ use Rattle.edr_loops.specs.Recorders.{IsRecording, Later, LaterUpTo, SameDesk, D
 pub fast-self : (a : FastInlets) → SameFastInlets a a
 fast-self a = record { along = receiver-self a.along.inlet; across = receiver-self a.across.inlet; restraint = receiver-self a.restraint.inlet }
 
-fast-again : (a b c : FastInlets) → SameFastInlets a b → SameFastInlets b c → SameFastInlets a c
+pub fast-again : (a b c : FastInlets) → SameFastInlets a b → SameFastInlets b c → SameFastInlets a c
 fast-again a b c h k = record { along = receiver-again a.along.inlet b.along.inlet c.along.inlet h.along k.along; across = receiver-again a.across.inlet b.across.inlet c.across.inlet h.across k.across; restraint = receiver-again a.restraint.inlet b.restraint.inlet c.restraint.inlet h.restraint k.restraint }
 
 pub parts-self : (a : PartInlets) → SamePartInlets a a

@@ -67,7 +67,7 @@ module _ (n e : ℕ) (k : FastSensor) (x : Item) (d : Desk) (c : SplitContents) 
   abbrev took : Desk
   took = record d { core = c; fast = i; last = m }
 
-  told-taken : (h : History) → IsAllowed (Give (sensor_of k) x) h.past → SplitCoreStandsFor c (after_item (sensor_of k) x h) → CoreWasTold n e d h → CoreWasTold n e took (after_item (sensor_of k) x h)
+  pub told-taken : (h : History) → IsAllowed (Give (sensor_of k) x) h.past → SplitCoreStandsFor c (after_item (sensor_of k) x h) → CoreWasTold n e d h → CoreWasTold n e took (after_item (sensor_of k) x h)
   told-taken h allowed stands t = record {
     core_is = stands;
     cycle_is = t.cycle_is;

@@ -1,5 +1,5 @@
 -- What a contract sees of a buffered inlet.
-use Rattle.std.specs.Prelude.{◌≡◌, ◌-◌, ◌<◌, ◌≤◌, ◌⊎◌, ◌++◌, ◌∷◌, [], ℕ, List, Option, MatchOption}
+use Rattle.std.specs.Prelude.{◌≡◌, ◌-◌, ◌<◌, ◌≤◌, ◌⊎◌, ◌++◌, ◌∷◌, [], ℕ, List, Option, MatchOption, get_or}
 use Rattle.edr_items.specs.declared.Item.{Item}
 use Rattle.edr_definitions.specs.Schedule.{BeginsWith}
 use Rattle.edr_seats.specs.Rings.{SameReceiver, items_known, items_taken}
@@ -23,6 +23,10 @@ abbrev pub KnowsNoneUpTo : ℕ → BufferedInlet → Type 0
 KnowsNoneUpTo upto t =
     ((taken_of t ≡ items_taken t.inlet) × (items_known t.inlet ≡ []))
     ⊎ ((x : Item) × BeginsWith (items_taken t.inlet) (with_last x (taken_of t)) × (upto < x.moment))
+
+-- the item comes next, and lies in the buffer
+abbrev pub IsNext : Item → BufferedInlet → Type 0
+IsNext x t = (t.next < t.end) × (get_or t.items t.next x ≡ x)
 
 -- the inlet of the same ring
 abbrev pub SameBuffered : BufferedInlet → BufferedInlet → Type 0

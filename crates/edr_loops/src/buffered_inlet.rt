@@ -1,6 +1,6 @@
 //! The recorder's end of a sensor's ring, with a buffer for the items that come out of it together.
 
-ghost use Rattle.std.specs.Prelude.{◌≡◌, ◌-◌, ◌≤◌, ◌++◌};
+ghost use Rattle.std.specs.Prelude.{◌≡◌, ◌-◌, ◌<◌, ◌≤◌, ◌++◌, true};
 ghost use Rattle.edr_seats.specs.Rings.{items_taken};
 ghost use Rattle.edr_loops.specs.Slices.{between, but_last};
 
@@ -30,7 +30,9 @@ impl BufferedInlet {
     ghost use Rattle.std.specs.Prelude.{[], IsNone};
     ghost use Rattle.edr_definitions.specs.Schedule.{BeginsWith};
     ghost use Rattle.edr_seats.specs.Rings.{AreOfOneRing, items_known, items_sent};
-    ghost use Rattle.edr_loops.specs.BufferedInlets.{KnowsNoneUpTo, SameBuffered, TakesUpTo, taken_of, with_last};
+    ghost use Rattle.edr_loops.specs.BufferedInlets.{IsNext, KnowsNoneUpTo, SameBuffered, TakesUpTo, taken_of, with_last};
+    ghost use Rattle.edr_items.specs.declared.Item.{Item};
+    ghost use Rattle.edr_merge.specs.Still.{still_item};
 
     /// An inlet with an empty buffer.
     pub fn new(inlet: Inlet) -> BufferedInlet
@@ -80,6 +82,35 @@ impl BufferedInlet {
         let item = self.items[self.next];
         self.next += 1;
         Some(item)
+    }
+
+    /// Whether the next item is the sensor's sample of 0 of that tick.
+    #[inline(always)]
+    pub fn is_still(&mut self, tick: u32) -> bool
+        ensures ring { SameBuffered self.old self.new }
+        ensures taken { taken_of self.new ≡ taken_of self.old }
+        ensures next { result ≡ true → IsNext (still_item tick) self.new }
+    {
+        if self.next == self.end {
+            self.fill();
+            if self.next == self.end {
+                return false;
+            }
+        }
+        let item = self.items[self.next];
+        item.moment == tick && item.value == Some(0)
+    }
+
+    /// Takes the next item, which lies in the buffer.
+    #[inline(always)]
+    #[tactic(auto, using(crate::proofs::BufferLemmas::next_taken, crate::proofs::BufferLemmas::next_lie))]
+    pub fn take_known(&mut self)
+        requires { self.old.next < self.old.end }
+        ensures ring { SameBuffered self.old self.new }
+        ensures taken { (item : Item) → IsNext item self.old
+            → taken_of self.new ≡ with_last item (taken_of self.old) }
+    {
+        self.next += 1;
     }
 
     /// Looks at both ends of the ring, where they are in one thread again: what was taken is a beginning of what was sent.

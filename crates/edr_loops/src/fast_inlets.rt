@@ -1,6 +1,9 @@
 //! The recorder's ends of the rings of the fast sensors.
 
-ghost use Rattle.edr_loops.specs.FastInlets.{with_fast};
+ghost use Rattle.std.specs.Prelude.{◌≡◌, true};
+ghost use Rattle.edr_items.specs.declared.Item.{Item};
+ghost use Rattle.edr_merge.specs.Still.{still_item};
+ghost use Rattle.edr_loops.specs.FastInlets.{AreNext, with_both, with_fast};
 ghost use Rattle.edr_loops.specs.Lanes.{SameFastInlets, fast_taken};
 ghost use Rattle.edr_loops.specs.BufferedInlets.{TakesUpTo};
 
@@ -24,5 +27,27 @@ impl PerFastSensor<BufferedInlet> {
             FastSensor::Across => self.across.take_upto(upto),
             FastSensor::Restraint => self.restraint.take_upto(upto),
         }
+    }
+
+    // Whether the next item of each axis is its sample of 0 of that tick.
+    #[inline(always)]
+    pub(crate) fn are_still(&mut self, tick: u32) -> bool
+        ensures rings { SameFastInlets self.old self.new }
+        ensures taken { fast_taken self.new ≡ fast_taken self.old }
+        ensures next { result ≡ true → AreNext (still_item tick) self.new }
+    {
+        self.along.is_still(tick) && self.across.is_still(tick)
+    }
+
+    // Takes the next item of each axis; both are known.
+    #[inline(always)]
+    pub(crate) fn take_both(&mut self)
+        requires { (x : Item) × AreNext x self.old }
+        ensures rings { SameFastInlets self.old self.new }
+        ensures taken { (x : Item) → AreNext x self.old
+            → fast_taken self.new ≡ with_both x (fast_taken self.old) }
+    {
+        self.along.take_known();
+        self.across.take_known();
     }
 }

@@ -143,6 +143,47 @@ impl Desk {
         true
     }
 
+    // The same of a sensor whose last item has this moment, where it has none past the closed tick. Past the horizon all are taken.
+    pub(crate) fn take_due(&mut self, sensor: FastSensor, last: u32, horizon: u32) -> bool
+        requires { IsRecording self.old }
+        ensures later { Later self.old self.new }
+        ensures stands { IsRecording self.new }
+        ensures seat { SeatStays self.old self.new }
+        ensures held { self.new.held ≡ self.old.held }
+    {
+        let closed = self.core.closed();
+        if closed < last && closed < horizon {
+            return false;
+        }
+        self.take_next(sensor)
+    }
+
+    // Passes the next tick, where each axis gives a sample of 0 of it next, and the core needs nothing else. At most ticks of a drive
+    // nothing moves.
+    #[inline(always)]
+    pub(crate) fn pass_next(&mut self, horizon: u32) -> bool
+        requires { IsRecording self.old }
+        ensures later { LaterUpTo horizon self.old self.new }
+        ensures stands { IsRecording self.new }
+        ensures seat { SeatStays self.old self.new }
+        ensures held { self.new.held ≡ self.old.held }
+    {
+        let closed = self.core.closed();
+        if closed >= horizon {
+            return false;
+        }
+        if !self.fast.are_still(closed + 1) {
+            return false;
+        }
+        if !self.core.pass_still() {
+            return false;
+        }
+        self.fast.take_both();
+        self.last.along = closed + 1;
+        self.last.across = closed + 1;
+        true
+    }
+
     // Reads the mark of a slow sensor, and gives it to the core where it has risen. Of the other three nothing is read.
     pub(crate) fn load_mark(&mut self, sensor: Sensor) -> bool
         requires { IsRecording self.old }

@@ -15,39 +15,6 @@ use edr_seats::SLOTS;
 use std::sync::Wait;
 
 impl Desk {
-    // Takes what there is of that sensor and may be taken, at most as many items as a ring has room for.
-    #[inline(always)]
-    fn take_some(&mut self, sensor: FastSensor) -> bool
-        requires { IsRecording self.old }
-        ensures later { Later self.old self.new }
-        ensures stands { IsRecording self.new }
-        ensures seat { SeatStays self.old self.new }
-        ensures held { self.new.held ≡ self.old.held }
-    {
-        let mut moved = false;
-        for _ in 0..SLOTS {
-            if !self.take_next(sensor) {
-                break;
-            }
-            moved = true;
-        }
-        moved
-    }
-
-    // Takes items of each axis and of the restraints.
-    fn take_fast(&mut self) -> bool
-        requires { IsRecording self.old }
-        ensures later { Later self.old self.new }
-        ensures stands { IsRecording self.new }
-        ensures seat { SeatStays self.old self.new }
-        ensures held { self.new.held ≡ self.old.held }
-    {
-        let along = self.take_some(FastSensor::Along);
-        let across = self.take_some(FastSensor::Across);
-        let restraint = self.take_some(FastSensor::Restraint);
-        along | across | restraint
-    }
-
     // Reads the marks of the slow sensors.
     fn load_marks(&mut self) -> bool
         requires { IsRecording self.old }
@@ -81,8 +48,26 @@ impl Desk {
         moved
     }
 
-    // Closes ticks up to one that issues something, or that waits for a sensor or a part, or the horizon.
-    fn close_some(&mut self, horizon: u32) -> bool
+    // One step: a tick at rest is passed; or else the items are taken for which the next tick waits, and it is closed.
+    #[inline(always)]
+    fn step(&mut self, horizon: u32, issued: &mut Issued) -> bool
+        requires { IsRecording self.old }
+        ensures later { LaterUpTo horizon self.old self.new }
+        ensures stands { IsRecording self.new }
+        ensures seat { SeatStays self.old self.new }
+    {
+        if self.pass_next(horizon) {
+            return true;
+        }
+        let along = self.take_due(FastSensor::Along, self.last.along, horizon);
+        let across = self.take_due(FastSensor::Across, self.last.across, horizon);
+        let restraint = self.take_due(FastSensor::Restraint, self.last.restraint, horizon);
+        let closed = self.close_below(horizon, issued);
+        along | across | restraint | closed
+    }
+
+    // Goes on by steps, up to a tick that issues something, or that waits for a sensor or a part, or the horizon.
+    fn step_on(&mut self, horizon: u32) -> bool
         requires { IsRecording self.old }
         ensures later { LaterUpTo horizon self.old self.new }
         ensures stands { IsRecording self.new }
@@ -91,7 +76,7 @@ impl Desk {
         let mut issued = Issued::none();
         let mut moved = false;
         for _ in 0..SLOTS {
-            if !self.close_below(horizon, &mut issued) {
+            if !self.step(horizon, &mut issued) {
                 break;
             }
             moved = true;
@@ -141,7 +126,7 @@ impl Desk {
         }
     }
 
-    // Takes items, marks and parts, and closes ticks.
+    // Takes marks, parts and items, and closes ticks.
     fn advance(&mut self, horizon: u32) -> bool
         requires { IsRecording self.old }
         ensures later { LaterUpTo horizon self.old self.new }
@@ -149,12 +134,11 @@ impl Desk {
         ensures seat { SeatStays self.old self.new }
     {
         self.grant();
-        let items = self.take_fast();
-        self.tell_room(items);
         let marks = self.load_marks();
         let parts = self.take_parts();
-        let ticks = self.close_some(horizon);
-        items | marks | parts | ticks
+        let steps = self.step_on(horizon);
+        self.tell_room(steps);
+        marks | parts | steps
     }
 
     // One turn: what is held is sent before its tick is posted as closed; then the desk advances. It answers whether anything was done.
