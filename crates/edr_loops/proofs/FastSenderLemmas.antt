@@ -1,5 +1,6 @@
 -- A sender that goes on, and goes on again.
-use Rattle.std.proofs.Common.{◌≡◌, List, Option, Some, None, refl, sym, subst, inl, inr}
+use Rattle.std.proofs.Common.{arith, ◌≡◌, ◌∙◌, ◌≤◌, ◌+◌, ◌++◌, ℕ, List, Option, Some, None, ap, refl, sym, subst, inl, inr, drop, length, length-take, take}
+use Rattle.std.proofs.lemmas.List.{drop-take, take-append-drop, take-take}
 use Rattle.edr_items.specs.declared.Item.{Item}
 use Rattle.edr_loops.specs.declared.fast_sender.FastSender.{FastSender}
 use Rattle.edr_loops.specs.FastSenders.{Goes, HasSentFirst, IsDealt}
@@ -42,3 +43,13 @@ dealt-goes xs a m r m' r' (inl d) h k =
 dealt-goes xs a m r m' r' (inr d) h k =
     let gone : m' ≡ None = none-left xs m' (subst (λ q. Goes xs q m') d.0 h) in
     subst (λ q. Goes xs a (either r' q)) (sym gone) (subst (λ q. Goes xs a q) (sym (none-or r')) (subst (λ q. Goes xs q r') d.1 k))
+
+-- where the first items of a list were sent, and then some of the others, first items are sent
+pub first_on : (n k m : ℕ) (xs old new : List Item) → old ≡ take n xs → new ≡ old ++ take k (take m (drop n xs)) → k ≤ length (take m (drop n xs)) → new ≡ take (n + k) xs
+first_on n k m xs old new first more few =
+    let long = length-take m (drop n xs) in
+    more ∙ ap (λ ys. ys ++ take k (take m (drop n xs))) first
+    ∙ ap (λ ys. take n xs ++ ys) (take-take k m (drop n xs) (omega (arith, few, long)))
+    ∙ ap (λ ys. ys ++ take k (drop n xs)) (sym (take-take n (n + k) xs (omega arith)))
+    ∙ ap (λ ys. take n (take (n + k) xs) ++ ys) (sym (drop-take n k xs))
+    ∙ take-append-drop n (take (n + k) xs)

@@ -42,35 +42,25 @@ impl Offered {
     }
 }
 
-/// How the items of a sensor pass the gate: one after the other, each once.
+/// How many items of a sensor have passed the gate: one after the other, each once.
 #[derive(Clone, Copy, Debug, PartialEq, Eq)]
 pub struct GatePasses {
-    // The next item has passed, as item of this number.
-    passed: bool,
-    nth: u32,
+    passed: u32,
 }
 
 impl GatePasses {
     // Before the first item.
     pub(crate) const fn new() -> GatePasses {
-        GatePasses {
-            passed: false,
-            nth: 0,
-        }
+        GatePasses { passed: 0 }
     }
 
-    // Lets the next item pass, if it hasn't passed yet.
-    pub(crate) fn pass<G: Gate>(&mut self, sensor: Sensor, gate: &G) {
-        if !self.passed {
-            self.nth = self.nth.saturating_add(1);
-            gate.pass(sensor.number(), self.nth);
-            self.passed = true;
+    // Lets items pass up to the one of that number, as far as they haven't passed yet.
+    pub(crate) fn pass_to<G: Gate>(&mut self, sensor: Sensor, upto: usize, gate: &G) {
+        let upto = u32::try_from(upto).unwrap_or(u32::MAX);
+        for nth in self.passed..upto {
+            gate.pass(sensor.number(), nth + 1);
         }
-    }
-
-    // The next item is the one after.
-    pub(crate) fn go_on(&mut self) {
-        self.passed = false;
+        self.passed = self.passed.max(upto);
     }
 }
 
@@ -94,11 +84,10 @@ impl FastSender {
         if self.next >= items.len() {
             return Offered::Over;
         }
-        self.passage.pass(sensor, gate);
+        self.passage.pass_to(sensor, self.next + 1, gate);
         match self.seat.offer(items[self.next]) {
             Ok(()) => {
                 self.next += 1;
-                self.passage.go_on();
                 Offered::Sent
             }
             Err(OfferRefused::Full { .. }) => Offered::Full,
@@ -107,18 +96,22 @@ impl FastSender {
         }
     }
 
-    // Offers items up to one that isn't sent, at most as many as a ring has room for beside one.
+    // Offers items together, up to one for which there is no room, and at most as many as a ring has room for beside one.
     fn offer_more<G: Gate>(&mut self, sensor: Sensor, items: &[Item], gate: &G)
         requires { items_sent self.old.seat.sender ≡ take self.old.next items.now }
         ensures seat { SameSeat self.old.seat self.new.seat }
         ensures sent { items_sent self.new.seat.sender ≡ take self.new.next items.now }
         ensures on { self.old.next ≤ self.new.next }
     {
-        for _ in 1..SLOTS {
-            if self.offer_next(sensor, items, gate) != Offered::Sent {
-                break;
-            }
+        let end = self
+            .next
+            .saturating_add(SLOTS as usize - 1)
+            .min(items.len());
+        if end <= self.next {
+            return;
         }
+        self.passage.pass_to(sensor, end, gate);
+        self.next += self.seat.offer_some(&items[self.next..end]);
     }
 
     /// Offers items up to one for which there is no room, and at most as many as a ring has room for.

@@ -30,11 +30,10 @@ impl SlowSender {
         if self.next >= items.len() {
             return Offered::Over;
         }
-        self.passage.pass(sensor, gate);
+        self.passage.pass_to(sensor, self.next + 1, gate);
         match self.seat.offer(items[self.next]) {
             Ok(()) => {
                 self.next += 1;
-                self.passage.go_on();
                 Offered::Sent
             }
             Err(SlowRefused::Ungranted { .. }) => Offered::Full,

@@ -1,3 +1,4 @@
+pub mod Accepted
 pub mod Slots
 pub mod Rings
 pub mod Seat

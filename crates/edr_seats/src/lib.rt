@@ -16,6 +16,7 @@ ghost use Rattle.edr_items.specs.Sensor.{IsSlow};
 ghost use Rattle.edr_board.specs.FreezeSeats.{IsKeeperOf, mark_posted};
 ghost use Rattle.edr_seats.specs.Slow.{IsFreshSeat};
 
+mod accepted;
 mod rings;
 mod seat;
 mod slow_seat;

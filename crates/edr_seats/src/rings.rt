@@ -81,6 +81,23 @@ impl<T: Drop, const ROOM: u32> Sender<T, ROOM> {
     }
 }
 
+impl<T: Copy + Drop, const ROOM: u32> Sender<T, ROOM> {
+    ghost use Rattle.std.specs.Prelude.{◌++◌, ◌<◌, take};
+    ghost use Rattle.edr_seats.specs.Rings.{KnowsNoRoom, SameSender, items_sent, known_taken};
+
+    /// Sends items from the first on, as many as there is room for, and answers how many. It waits for nobody. The end that receives
+    /// sees them all at once.
+    pub fn send_some(&mut self, items: &[T]) -> usize
+        ensures ring { SameSender self.old self.new }
+        ensures count { result ≤ length items.now }
+        ensures sent { items_sent self.new ≡ items_sent self.old ++ take result items.now }
+        ensures known { known_taken self.old ≤ known_taken self.new }
+        ensures room { result < length items.now → KnowsNoRoom self.new }
+    {
+        self.ring.push_partial_slice(items).0.len()
+    }
+}
+
 impl<T: Copy + Drop, const ROOM: u32> Receiver<T, ROOM> {
     ghost use Rattle.std.specs.Prelude.{[], ◌∷◌, ◌++◌, ◌<◌, take, drop, IfSome, IsNone};
     ghost use mathlib.Core.List.{IsPrefix};
