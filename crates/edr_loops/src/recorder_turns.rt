@@ -67,16 +67,15 @@ impl Desk {
     }
 
     // Goes on by steps, up to a tick that issues something, or that waits for a sensor or a part, or the horizon.
-    fn step_on(&mut self, horizon: u32) -> bool
+    fn step_on(&mut self, horizon: u32, issued: &mut Issued) -> bool
         requires { IsRecording self.old }
         ensures later { LaterUpTo horizon self.old self.new }
         ensures stands { IsRecording self.new }
         ensures seat { SeatStays self.old self.new }
     {
-        let mut issued = Issued::none();
         let mut moved = false;
         for _ in 0..SLOTS {
-            if !self.step(horizon, &mut issued) {
+            if !self.step(horizon, issued) {
                 break;
             }
             moved = true;
@@ -127,7 +126,7 @@ impl Desk {
     }
 
     // Takes marks, parts and items, and closes ticks.
-    fn advance(&mut self, horizon: u32) -> bool
+    fn advance(&mut self, horizon: u32, issued: &mut Issued) -> bool
         requires { IsRecording self.old }
         ensures later { LaterUpTo horizon self.old self.new }
         ensures stands { IsRecording self.new }
@@ -136,13 +135,13 @@ impl Desk {
         self.grant();
         let marks = self.load_marks();
         let parts = self.take_parts();
-        let steps = self.step_on(horizon);
+        let steps = self.step_on(horizon, issued);
         self.tell_room(steps);
         marks | parts | steps
     }
 
     // One turn: what is held is sent before its tick is posted as closed; then the desk advances. It answers whether anything was done.
-    fn turn(&mut self, horizon: u32) -> bool
+    fn turn(&mut self, horizon: u32, issued: &mut Issued) -> bool
         requires stands { IsRecording self.old }
         requires posted { HasPosted self.old }
         ensures later { LaterUpTo horizon self.old self.new }
@@ -155,7 +154,7 @@ impl Desk {
         }
         self.post_closed();
         self.wake(sends, horizon);
-        let moved = self.advance(horizon);
+        let moved = self.advance(horizon, issued);
         sends | moved
     }
 
@@ -198,9 +197,10 @@ impl Desk {
         ensures later { LaterUpTo horizon self.old self.new }
         ensures ends { HasEnded horizon ends self.new }
     {
+        let mut issued = Issued::none();
         let mut rounds = 0;
         for _ in rt.forever() {
-            let moved = self.turn(horizon);
+            let moved = self.turn(horizon, &mut issued);
             if self.is_done(horizon, ends) {
                 return;
             }

@@ -1,11 +1,15 @@
 //! A slow sensor's seat: it keeps the sensor's samples itself, and sends the part of a time zero that is asked for.
 
-ghost use Rattle.std.specs.Prelude.{◌≡◌, ◌+◌, ◌<◌, ◌≤◌, [], ◌∷◌, ◌++◌, Err, OnOk, OnErr, IfErr, None};
+ghost use Rattle.std.specs.Prelude.{◌≡◌, ◌+◌, ◌<◌, ◌≤◌, [], ◌∷◌, ◌++◌, Err, OnOk, OnErr, IfErr, None, All, List, true, false};
 ghost use Rattle.edr_items.specs.declared.Item.{Item};
 ghost use Rattle.edr_items.specs.declared.ItemRefused.{ItemRefused};
 ghost use Rattle.edr_board.specs.FreezeSeats.{mark_posted};
 ghost use Rattle.edr_items.specs.Sensor.{IsSlow};
-ghost use Rattle.edr_seats.specs.Rings.{items_sent, known_taken};
+ghost use Rattle.edr_items.specs.declared.TheConstants.{LONGEST_GAP};
+ghost use Rattle.edr_items.specs.Item.{mark_of};
+ghost use Rattle.edr_capture.specs.Capture.{CaptureStandsFor};
+ghost use Rattle.edr_capture.specs.SensorPart.{IsOfSensor, part};
+ghost use Rattle.edr_seats.specs.Rings.{KnowsNoRoom, SameSender, items_sent, known_taken};
 ghost use Rattle.edr_seats.specs.Slow.{NowIsFor, SameButSender, SameSlowSeat, sensor_of_slow, grant_known, refusal_by_slow, ExplainsSlow, HasServed, parts_after};
 
 use crate::PART_SLOTS;
@@ -69,6 +73,28 @@ impl HasSender<Part, PART_SLOTS> for SlowSeat {
     fn meet(&mut self, inlet: &mut PartInlet) -> u32 {
         self.sender.meet(inlet)
     }
+}
+
+// Sends the part of that time zero out of what is kept, and answers whether there was room. It stands apart, since the place of a part
+// is large, and would be cleared at each look for what is asked.
+#[inline(never)]
+fn send_part(
+    sender: &mut Sender<Part, PART_SLOTS>,
+    kept: &Capture,
+    sensor: Sensor,
+    zero: u32,
+) -> bool
+    requires slow { IsSlow sensor }
+    requires range { All (IsOfSensor sensor) kept.now }
+    requires near { mark_of kept.now ≤ zero + LONGEST_GAP }
+    ensures ring { SameSender sender.old sender.new }
+    ensures sent { result ≡ true → (given : List Item) → CaptureStandsFor kept.now given
+        → items_sent sender.new ≡ items_sent sender.old ++ part sensor given zero ∷ [] }
+    ensures full { result ≡ false → (items_sent sender.new ≡ items_sent sender.old)
+        × KnowsNoRoom sender.new }
+    ensures known { known_taken sender.old ≤ known_taken sender.new }
+{
+    sender.send(kept.part(sensor, zero)).is_ok()
 }
 
 impl SlowSeat {
@@ -138,8 +164,7 @@ impl SlowSeat {
         if zero == self.served {
             return Served::Nothing;
         }
-        let part = self.capture.part(self.sensor, zero);
-        if self.sender.send(part).is_err() {
+        if !send_part(&mut self.sender, &self.capture, self.sensor, zero) {
             return Served::Full { zero };
         }
         self.served = zero;
