@@ -1,9 +1,7 @@
 -- Words parted by one space, of which some were taken.
-use Rattle.std.specs.Prelude.{◌≡◌, ℕ, zero, suc, ℤ, pos, Bool, true, Option, Some, IfSome, MatchOption, List, [], ◌∷◌, ◌++◌, All, map, length, flat_map, drop, replicate}
+use Rattle.std.specs.Prelude.{◌≡◌, ℕ, zero, suc, ℤ, pos, Option, Some, IfSome, MatchOption, List, [], ◌∷◌, ◌++◌, All, map, length, flat_map, drop, replicate}
 use Rattle.std.specs.Fmt.{signed_decimal}
-use Rattle.edr_record.specs.Bounds.{IsChange, most_points, slots_in}
-use Rattle.edr_record.specs.Fields.{profile_of_slots}
-use Rattle.edr_record.specs.declared.Slots.{Slots}
+use Rattle.edr_record.specs.Bounds.{IsChange, most_points}
 use Rattle.edr_report.specs.Words.{spaced_words}
 
 -- words, each with a space before it
@@ -25,10 +23,10 @@ abbrev pub ShowSlots : {A : Type 0} → (A → List ℕ) → (A → Type 0) → 
 ShowSlots words ok bytes xs = (bytes ≡ spaced_words (map words xs)) × All ok xs
 
 -- as many slots were read as stood there, where the bytes show as many; they are those that the bytes show
-pub record ReadsSlots {A : Type 0} (words : A → List ℕ) (ok : A → Type 0) (bytes : List ℕ) (old new : List A) (is_read : Bool) : Type 0 where
+pub record ReadsSlots {A : Type 0} (words : A → List ℕ) (ok : A → Type 0) (bytes : List ℕ) (old new : List A) (result : Option Unit) : Type 0 where
   pub long : length new ≡ length old
-  pub read : is_read ≡ true → ShowSlots words ok bytes new
-  pub whole : (xs : List A) → length xs ≡ length old → ShowSlots words ok bytes xs → (is_read ≡ true) × (new ≡ xs)
+  pub read : IfSome result (λ u. ShowSlots words ok bytes new)
+  pub whole : (xs : List A) → length xs ≡ length old → ShowSlots words ok bytes xs → MatchOption result ⊥ (λ u. new ≡ xs)
 
 -- so many points, and zeros in the place of those past them
 abbrev pub with_zeros : ℕ → List ℤ → List ℤ
@@ -42,9 +40,3 @@ ShowPoints count bytes front = (length front ≡ count) × ShowSlots signed_deci
 pub record ReadsPoints (count : ℕ) (bytes : List ℕ) (result : Option (List ℤ)) : Type 0 where
   pub read : IfSome result (λ points. (front : List ℤ) × (points ≡ with_zeros count front) × ShowPoints count bytes front)
   pub whole : (front : List ℤ) → ShowPoints count bytes front → result ≡ Some (with_zeros count front)
-
--- one list of these slots was read as the value shows it
-pub record ReadsList {A : Type 0} (list : Slots → List A) (words : A → List ℕ) (ok : A → Type 0) (value : List ℕ) (old : Slots) (result : Option Slots) : Type 0 where
-  pub long : IfSome result (λ s. length (list s) ≡ slots_in (profile_of_slots old))
-  pub read : IfSome result (λ s. ShowSlots words ok value (list s))
-  pub whole : (xs : List A) → length xs ≡ slots_in (profile_of_slots old) → ShowSlots words ok value xs → MatchOption result ⊥ (λ s. list s ≡ xs)

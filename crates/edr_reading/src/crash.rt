@@ -21,11 +21,8 @@ fn some_points(bytes: &[u8], count: usize) -> Option<[i16; POINTS]>
     ensures { ReadsPoints count bytes.now result }
 {
     let mut points = [0; POINTS];
-    if read_slots(bytes, &mut points[..count]) {
-        Some(points)
-    } else {
-        None
-    }
+    read_slots(bytes, &mut points[..count])?;
+    Some(points)
 }
 
 fn is_zero(change: i16) -> bool
@@ -71,54 +68,24 @@ fn crash_line(crash: &Crash, line: CrashLine, value: &[u8]) -> Option<Crash>
 {
     let end = crash.end;
     let window = window_from_end(end);
+    let mut read = *crash;
     match line {
-        CrashLine::End => {
-            let end = end_time(value)?;
-            Some(plain_crash(end))
-        }
-        CrashLine::Along => {
-            let along = points(value, end)?;
-            Some(Crash { along, ..*crash })
-        }
-        CrashLine::Across => {
-            let across = points(value, end)?;
-            Some(Crash { across, ..*crash })
-        }
-        CrashLine::MaxAlong => {
-            let max_along = extreme(value, window)?;
-            Some(Crash {
-                max_along,
-                ..*crash
-            })
-        }
-        CrashLine::MaxAcross => {
-            let max_across = extreme(value, window)?;
-            Some(Crash {
-                max_across,
-                ..*crash
-            })
-        }
-        CrashLine::ResultAt => {
-            let result_at = time(value, 0, u32::from(window))? as u16;
-            Some(Crash {
-                result_at,
-                ..*crash
-            })
-        }
+        CrashLine::End => read = plain_crash(end_time(value)?),
+        CrashLine::Along => read.along = points(value, end)?,
+        CrashLine::Across => read.across = points(value, end)?,
+        CrashLine::MaxAlong => read.max_along = extreme(value, window)?,
+        CrashLine::MaxAcross => read.max_across = extreme(value, window)?,
+        CrashLine::ResultAt => read.result_at = time(value, 0, u32::from(window))? as u16,
         CrashLine::Missing => {
             let (along, across) = missing(value, window)?;
-            Some(Crash {
-                missing_along: along as u16,
-                missing_across: across as u16,
-                ..*crash
-            })
+            read.missing_along = along as u16;
+            read.missing_across = across as u16;
         }
         CrashLine::Fired(restraint) => {
-            let mut fired = crash.fired;
-            fired[restraint.place()] = firing(value, end.max(window))?;
-            Some(Crash { fired, ..*crash })
+            read.fired[restraint.place()] = firing(value, end.max(window))?;
         }
     }
+    Some(read)
 }
 
 // The crash part that the line of its end begins, or that there is none.

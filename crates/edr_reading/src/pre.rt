@@ -1,11 +1,8 @@
 //! What stood before time zero, read line by line.
 
-ghost use Rattle.std.specs.Prelude.{◌≡◌, ⊤, IfSome};
-ghost use Rattle.edr_record.specs.Bounds.{IsPre, IsUpTo};
-ghost use Rattle.edr_record.specs.Fields.{profile_of_slots, speed_of, throttle_of, brake_of};
-ghost use Rattle.edr_report.specs.Words.{number_or_none, switch_or_none};
+ghost use Rattle.std.specs.Prelude.{◌≡◌};
+ghost use Rattle.edr_record.specs.Bounds.{IsPre};
 ghost use Rattle.edr_reading.specs.Parts.{AreSlots, pre_of, AcceptsPreLine};
-ghost use Rattle.edr_reading.specs.Slots.{ReadsList};
 
 use crate::slots::read_slots;
 use crate::values::{count, decision, events, place_between, profile, switch, time};
@@ -72,51 +69,6 @@ pub(crate) fn plain_pre() -> PreSoFar
     }
 }
 
-// The slots with this speed, if the value shows as many.
-fn with_speed(slots: &Slots, value: &[u8]) -> Option<Slots>
-    ensures speed { ReadsList speed_of number_or_none (IsUpTo 300) value.now slots.now result }
-    ensures profile { IfSome result (λ s. profile_of_slots s ≡ profile_of_slots slots.now) }
-    ensures throttle { IfSome result (λ s. throttle_of s ≡ throttle_of slots.now) }
-    ensures brake { IfSome result (λ s. brake_of s ≡ brake_of slots.now) }
-{
-    let mut slots = *slots;
-    let is_read = match &mut slots {
-        Slots::Short { speed, .. } => read_slots(value, speed),
-        Slots::Long { speed, .. } => read_slots(value, speed),
-    };
-    if is_read { Some(slots) } else { None }
-}
-
-// The slots with this throttle, if the value shows as many.
-fn with_throttle(slots: &Slots, value: &[u8]) -> Option<Slots>
-    ensures throttle { ReadsList throttle_of number_or_none (IsUpTo 100) value.now slots.now result }
-    ensures profile { IfSome result (λ s. profile_of_slots s ≡ profile_of_slots slots.now) }
-    ensures speed { IfSome result (λ s. speed_of s ≡ speed_of slots.now) }
-    ensures brake { IfSome result (λ s. brake_of s ≡ brake_of slots.now) }
-{
-    let mut slots = *slots;
-    let is_read = match &mut slots {
-        Slots::Short { throttle, .. } => read_slots(value, throttle),
-        Slots::Long { throttle, .. } => read_slots(value, throttle),
-    };
-    if is_read { Some(slots) } else { None }
-}
-
-// The slots with this brake, if the value shows as many.
-fn with_brake(slots: &Slots, value: &[u8]) -> Option<Slots>
-    ensures brake { ReadsList brake_of switch_or_none (λ _. ⊤) value.now slots.now result }
-    ensures profile { IfSome result (λ s. profile_of_slots s ≡ profile_of_slots slots.now) }
-    ensures speed { IfSome result (λ s. speed_of s ≡ speed_of slots.now) }
-    ensures throttle { IfSome result (λ s. throttle_of s ≡ throttle_of slots.now) }
-{
-    let mut slots = *slots;
-    let is_read = match &mut slots {
-        Slots::Short { brake, .. } => read_slots(value, brake),
-        Slots::Long { brake, .. } => read_slots(value, brake),
-    };
-    if is_read { Some(slots) } else { None }
-}
-
 /// What stood before time zero with what this line shows, after the lines before it, if it may show it.
 pub(crate) fn pre_line(pre: &PreSoFar, line: PreLine, value: &[u8]) -> Option<PreSoFar>
     requires { IsPre (pre_of pre.now) }
@@ -130,9 +82,18 @@ pub(crate) fn pre_line(pre: &PreSoFar, line: PreLine, value: &[u8]) -> Option<Pr
         PreLine::Between => read.place = place_between(pre.place, value)?,
         PreLine::Deployment => read.locked = decision(value)?,
         PreLine::Profile => read.slots = no_slots(profile(value)?),
-        PreLine::Speed => read.slots = with_speed(&pre.slots, value)?,
-        PreLine::Throttle => read.slots = with_throttle(&pre.slots, value)?,
-        PreLine::Brake => read.slots = with_brake(&pre.slots, value)?,
+        PreLine::Speed => match &mut read.slots {
+            Slots::Short { speed, .. } => read_slots(value, speed)?,
+            Slots::Long { speed, .. } => read_slots(value, speed)?,
+        },
+        PreLine::Throttle => match &mut read.slots {
+            Slots::Short { throttle, .. } => read_slots(value, throttle)?,
+            Slots::Long { throttle, .. } => read_slots(value, throttle)?,
+        },
+        PreLine::Brake => match &mut read.slots {
+            Slots::Short { brake, .. } => read_slots(value, brake)?,
+            Slots::Long { brake, .. } => read_slots(value, brake)?,
+        },
         PreLine::Belt => read.belt = switch(value)?,
         PreLine::Lamp => read.lamp = switch(value)?,
     }

@@ -106,19 +106,15 @@ fn slot_after<'a, S: SlotRead>(bytes: &'a [u8], front: &[u8]) -> Option<(S, &'a 
     S::in_front(after(bytes, front)?)
 }
 
-/// Reads slots that are parted by one space, as many as there are; tells whether the bytes are such slots.
-pub(crate) fn read_slots<S: SlotRead + Copy>(bytes: &[u8], slots: &mut [S]) -> bool
+/// Reads slots that are parted by one space, as many as there are, if the bytes are such slots.
+pub(crate) fn read_slots<S: SlotRead + Copy>(bytes: &[u8], slots: &mut [S]) -> Option<()>
     ensures { ReadsSlots S.words S.is_slot bytes.now slots.old slots.new result }
 {
     let mut rest = bytes;
     for i in 0..slots.len() {
-        match slot_after(rest, space_at(i)) {
-            Some(next) => {
-                slots[i] = next.0;
-                rest = next.1;
-            }
-            None => return false,
-        }
+        let next = slot_after(rest, space_at(i))?;
+        slots[i] = next.0;
+        rest = next.1;
     }
-    rest.is_empty()
+    if rest.is_empty() { Some(()) } else { None }
 }

@@ -9,6 +9,7 @@ use Rattle.edr_report.specs.Words.{milliseconds, points_words, extreme_words, mi
 use Rattle.edr_reading.specs.Parts.{crash_place, crash_texts}
 use Rattle.edr_reading.proofs.PartLemmas.{front-before, set-before}
 use Rattle.edr_reading.proofs.crash.crash_line.Goals as goal
+use Rattle.edr_reading.proofs.crash.crash_line.Goals.{in-End+in_ok-end_time-in-End, in-Along+in_ok-read-inside-in-Along, in-Across+in_ok-read-inside-in-Across, in-MaxAlong+in_ok-read-inside-in-MaxAlong, in-MaxAcross+in_ok-read-inside-in-MaxAcross, in-ResultAt+in_ok-read-inside-in-ResultAt, in-Missing+in_ok-along-in-Missing, in-Fired+in_ok-read-inside-in-Fired}
 
 fired-earlier : (c d : CrashPart) (line : CrashLine) (r : Restraint) (k : ℕ) (x : Option ℕ) → line ≡ Fired r → k ≡ place_of r → d ≡ c
     → take (crash_place line) (milliseconds c.end ∷ points_words c.end c.along ∷ points_words c.end c.across ∷ extreme_words c.max_along ∷ extreme_words c.max_across ∷ milliseconds c.result_at ∷ missing_words c.missing_along c.missing_across ∷ map firing_words (set c.fired k x))
@@ -20,10 +21,19 @@ fired-earlier c d line r k x is at same =
     ∙ sym (ap (λ (e : CrashPart). take (7 + place_of r) (crash_texts (Some e))) same)
     ∙ sym (ap (λ (l : CrashLine). take (crash_place l) (crash_texts (Some d))) is)
 
-pub returns-in_ok-fired-in-Fired : goal.returns-in_ok-fired-in-Fired
-returns-in_ok-fired-in-Fired c = record {
-  bounds = search rules;
-  shows = search rules;
-  earlier = fired-earlier (crash_part_of c.crash.inside) c.args.crash.now c.args.line c.in-Fired.restraint c.place.result c.in_ok-fired-in-Fired.field-0 c.in-Fired.is c.place.ensures.place (sym c.crash.view_is);
-  whole = search rules;
-}
+pub returns : goal.returns
+returns c = elim c.match-line.branch [
+  | in-End+in_ok-end_time-in-End w ↦ rw w.read-is (search rules)
+  | in-Along+in_ok-read-inside-in-Along w ↦ rw w.read-is (search rules)
+  | in-Across+in_ok-read-inside-in-Across w ↦ rw w.read-is (search rules)
+  | in-MaxAlong+in_ok-read-inside-in-MaxAlong w ↦ rw w.read-is (search rules)
+  | in-MaxAcross+in_ok-read-inside-in-MaxAcross w ↦ rw w.read-is (search rules)
+  | in-ResultAt+in_ok-read-inside-in-ResultAt w ↦ rw w.read-is (search rules)
+  | in-Missing+in_ok-along-in-Missing w ↦ rw w.read-is (search rules)
+  | in-Fired+in_ok-read-inside-in-Fired w ↦ rw w.read-is (record {
+      bounds = search rules;
+      shows = search rules;
+      earlier = fired-earlier (crash_part_of c.crash.inside) c.args.crash.now c.args.line w.in-Fired.restraint w.place.result w.in_ok-read-inside-in-Fired.field-0 w.in-Fired.is w.place.ensures.place (sym c.crash.view_is);
+      whole = search rules;
+    })
+]
