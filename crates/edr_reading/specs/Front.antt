@@ -36,10 +36,7 @@ IsFromTo low high n = (low ≤ n) × (n ≤ high)
 abbrev pub IsWord : ℕ → Type 0
 IsWord n = n < 2 ^ 32
 
--- two such numbers, and two up to this one
-abbrev pub AreWords : ℕ → ℕ → Type 0
-AreWords m n = IsWord m × IsWord n
-
+-- two numbers up to this one
 abbrev pub AreUpTo : ℕ → ℕ → ℕ → Type 0
 AreUpTo high m n = (m ≤ high) × (n ≤ high)
 

@@ -6,7 +6,7 @@ use denote.Ref.{Bor}
 use Rattle.edr_report.specs.declared.event_lines.EventLine.{EventLine}
 use Rattle.edr_report.specs.declared.event_lines.TheConstants.{LINES_OF_EVENT}
 use Rattle.edr_report.specs.Lines.{Line}
-use Rattle.edr_reading.specs.declared.rows.ReportRow.{ReportRow}
+use Rattle.edr_reading.specs.declared.records.ReportRow.{ReportRow}
 
 -- ---- rows and texts
 

@@ -7,8 +7,7 @@ ghost use Rattle.edr_reading.specs.Rows.{fields};
 ghost use Rattle.edr_reading.specs.Faults.{ChecksHead, IsHeadFault};
 
 use crate::front::is_word;
-use crate::records::row_of;
-use crate::rows::ReportRow;
+use crate::records::{ReportRow, row_of};
 use csv::ByteRecord;
 
 /// What is wrong with the first row with which a text can be no report.

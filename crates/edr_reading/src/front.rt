@@ -4,7 +4,7 @@ ghost use Rattle.std.specs.Prelude.{◌≡◌, ◌≤◌, ◌++◌, true, ℕ, L
 ghost use Rattle.std.specs.Bool.{MatchBool};
 ghost use Rattle.std.specs.List.{list_all};
 ghost use Rattle.edr_text.specs.Numbers.{is_digit};
-ghost use Rattle.edr_reading.specs.Front.{EndsNumber, ReadsAfter, ReadsFront, two_numbers, AreUpTo, AreWords, IsFromTo, IsWord, number_after, number_between};
+ghost use Rattle.edr_reading.specs.Front.{EndsNumber, ReadsAfter, ReadsFront, two_numbers, AreUpTo, IsFromTo, IsWord, number_after, number_between};
 ghost use Rattle.edr_reading.specs.Answers.{Leaves, Reads, ReadsTwo};
 
 use edr_text::read_u32;
@@ -41,65 +41,14 @@ fn digits_in_front(bytes: &[u8]) -> usize
     bytes.len()
 }
 
-/// The number in front of the bytes, and what stands after it.
-pub(crate) fn number_in_front(bytes: &[u8]) -> Option<(u32, &[u8])>
+// The number in front of the bytes, and what stands after it.
+fn number_in_front(bytes: &[u8]) -> Option<(u32, &[u8])>
     ensures { ReadsFront decimal IsWord bytes.now result }
 {
     let (digits, rest) = bytes.split_at(digits_in_front(bytes));
     match read_u32(digits) {
         Ok(n) => Some((n, rest)),
         Err(_) => None,
-    }
-}
-
-/// The number after these bytes, and what stands after it.
-pub(crate) fn number_after<'a>(bytes: &'a [u8], front: &[u8]) -> Option<(u32, &'a [u8])>
-    ensures { ReadsAfter front.now decimal IsWord bytes.now result }
-{
-    number_in_front(after(bytes, front)?)
-}
-
-/// The number between these bytes.
-pub(crate) fn one_number(bytes: &[u8], front: &[u8], back: &[u8]) -> Option<u32>
-    requires { EndsNumber back.now }
-    ensures { Reads (number_between front.now back.now) IsWord bytes.now result }
-{
-    match number_after(bytes, front) {
-        Some((n, rest)) if rest == back => Some(n),
-        _ => None,
-    }
-}
-
-/// The number after these bytes, with nothing after it.
-pub(crate) fn last_number(bytes: &[u8], front: &[u8]) -> Option<u32>
-    ensures { Reads (number_after front.now) IsWord bytes.now result }
-{
-    one_number(bytes, front, b"")
-}
-
-/// The numbers between these bytes.
-pub(crate) fn two_numbers(
-    bytes: &[u8],
-    front: &[u8],
-    middle: &[u8],
-    back: &[u8],
-) -> Option<(u32, u32)>
-    requires middle { (more : List ℕ) → EndsNumber (middle.now ++ more) }
-    requires back { EndsNumber back.now }
-    ensures { ReadsTwo (two_numbers front.now middle.now back.now) AreWords bytes.now result }
-{
-    let (m, rest) = number_after(bytes, front)?;
-    let n = one_number(rest, middle, back)?;
-    Some((m, n))
-}
-
-/// The same, where it is `low` to `high`.
-pub(crate) fn last_within(bytes: &[u8], front: &[u8], low: u32, high: u32) -> Option<u32>
-    ensures { Reads (number_after front.now) (IsFromTo low high) bytes.now result }
-{
-    match last_number(bytes, front) {
-        Some(n) if low <= n && n <= high => Some(n),
-        _ => None,
     }
 }
 
@@ -112,10 +61,28 @@ pub(crate) fn within_after<'a>(
 ) -> Option<(u32, &'a [u8])>
     ensures { ReadsAfter front.now decimal (IsFromTo low high) bytes.now result }
 {
-    match number_after(bytes, front) {
+    match number_in_front(after(bytes, front)?) {
         Some((n, rest)) if low <= n && n <= high => Some((n, rest)),
         _ => None,
     }
+}
+
+/// The number between these bytes, where it is `low` to `high`.
+pub(crate) fn within(bytes: &[u8], front: &[u8], back: &[u8], low: u32, high: u32) -> Option<u32>
+    requires { EndsNumber back.now }
+    ensures { Reads (number_between front.now back.now) (IsFromTo low high) bytes.now result }
+{
+    match within_after(bytes, front, low, high) {
+        Some((n, rest)) if rest == back => Some(n),
+        _ => None,
+    }
+}
+
+/// The number after these bytes, where it is `low` to `high`, with nothing after it.
+pub(crate) fn last_within(bytes: &[u8], front: &[u8], low: u32, high: u32) -> Option<u32>
+    ensures { Reads (number_after front.now) (IsFromTo low high) bytes.now result }
+{
+    within(bytes, front, b"", low, high)
 }
 
 /// The numbers between these bytes, where they are at most `high`.
@@ -131,8 +98,6 @@ pub(crate) fn two_within(
     ensures { ReadsTwo (two_numbers front.now middle.now back.now) (AreUpTo high) bytes.now result }
 {
     let (m, rest) = within_after(bytes, front, 0, high)?;
-    match one_number(rest, middle, back) {
-        Some(n) if n <= high => Some((m, n)),
-        _ => None,
-    }
+    let n = within(rest, middle, back, 0, high)?;
+    Some((m, n))
 }

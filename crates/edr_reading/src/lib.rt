@@ -10,7 +10,6 @@ mod pre;
 mod reader;
 mod reading;
 mod records;
-mod rows;
 mod slots;
 mod told;
 mod values;

@@ -13,7 +13,7 @@ ghost use Rattle.edr_reading.specs.declared.told.ToldName.TheVariants as name;
 
 use crate::event::{EVENT_ROWS, PartEvent, event_line, free_bank, is_among, line_at, plain_event};
 use crate::front::{is_word, last_within};
-use crate::rows::ReportRow;
+use crate::records::ReportRow;
 use crate::told::{CycleRow, ToldName, cycle_value, told_name};
 use crate::values::{answer, count, damage};
 use edr_image::{Ack, BankView, CycleReport, Found, Kind, Log};

@@ -5,9 +5,16 @@ ghost use Rattle.csv.specs.Records.{fields_of, field_at};
 ghost use Rattle.edr_reading.specs.Rows.{fields, IsRowOf};
 ghost use Rattle.edr_spell.specs.Spell.{RecordsOf};
 
-use crate::rows::ReportRow;
 use csv::{ByteRecord, ReaderBuilder};
 use std::alloc::Global;
+
+/// A row of a report: the number of its block, a name and a value.
+#[derive(Clone, Copy)]
+pub(crate) struct ReportRow<'a> {
+    pub block: &'a [u8],
+    pub name: &'a [u8],
+    pub value: &'a [u8],
+}
 
 /// The records of the bytes, each with any number of fields.
 pub(crate) fn records(alloc: Global, bytes: &[u8]) -> Result<Vec<ByteRecord>, csv::Error>

@@ -10,9 +10,7 @@ ghost use Rattle.edr_reading.specs.Front.{ReadsFront, AreUpTo, IsChangeFront, Is
 ghost use Rattle.edr_reading.specs.Values.{IsBank, IsStopCall, IsApplied, IsTick, done_in, byte_words, command_words, ran_words, IsPlaceLike, IsRan, ReadsPlace, ShowsDamage, end_words, lock_words, start_words};
 ghost use Rattle.edr_reading.specs.Answers.{Reads, ReadsTwo};
 
-use crate::front::{
-    after, is_word, last_within, number_after, one_number, two_numbers, two_within, within_after,
-};
+use crate::front::{after, is_word, last_within, two_within, within, within_after};
 use edr_image::places::{BANK_SIZE, MOST_BANKS};
 use edr_image::{Applied, Kind};
 use edr_items::LATEST_MOMENT;
@@ -41,10 +39,7 @@ pub(crate) fn count(bytes: &[u8], low: u32) -> Option<u32>
 pub(crate) fn time(bytes: &[u8], low: u32, high: u32) -> Option<u32>
     ensures { Reads milliseconds (IsFromTo low high) bytes.now result }
 {
-    match one_number(bytes, b"", b" ms") {
-        Some(t) if low <= t && t <= high => Some(t),
-        _ => None,
-    }
+    within(bytes, b"", b" ms", low, high)
 }
 
 /// How long after its time zero an event ended.
@@ -133,10 +128,8 @@ pub(crate) fn extreme(bytes: &[u8], window: u16) -> Option<Extreme>
     ensures { Reads extreme_words (IsExtreme window) bytes.now result }
 {
     let (kmh, rest) = change_in_front(bytes)?;
-    match one_number(rest, b" km/h at ", b" ms") {
-        Some(at) if at <= u32::from(window) => Some(Extreme { kmh, at: at as u16 }),
-        _ => None,
-    }
+    let at = within(rest, b" km/h at ", b" ms", 0, u32::from(window))? as u16;
+    Some(Extreme { kmh, at })
 }
 
 /// How many ticks have no sample, up to `window`.
@@ -156,10 +149,8 @@ pub(crate) fn missing(bytes: &[u8], window: u16) -> Option<(u32, u32)>
 fn tenths(bytes: &[u8]) -> Option<u32>
     ensures { Reads seconds (IsFromTo 0 50) bytes.now result }
 {
-    match two_numbers(bytes, b"", b".", b" s") {
-        Some((whole, tenth)) if whole <= 5 && tenth <= 9 && 10 * whole + tenth <= 50 => {
-            Some(10 * whole + tenth)
-        }
+    match two_within(bytes, b"", b".", b" s", 9) {
+        Some((whole, tenth)) if 10 * whole + tenth <= 50 => Some(10 * whole + tenth),
         _ => None,
     }
 }
@@ -323,8 +314,6 @@ fn command(bytes: &[u8]) -> Option<(Kind, u32)>
 pub(crate) fn ack(bytes: &[u8], place: u32) -> Option<(Kind, u32)>
     ensures { ReadsTwo (ack_words place) (λ _ t. IsTick t) bytes.now result }
 {
-    match number_after(bytes, b"cycle ") {
-        Some((i, rest)) if i == place => command(rest),
-        _ => None,
-    }
+    let (_, rest) = within_after(bytes, b"cycle ", place, place)?;
+    command(rest)
 }

@@ -31,9 +31,9 @@ returns c = elim c.match-line.branch [
   | in-ResultAt+in_ok-read-inside-in-ResultAt w ↦ rw w.read-is (search rules)
   | in-Missing+in_ok-along-in-Missing w ↦ rw w.read-is (search rules)
   | in-Fired+in_ok-read-inside-in-Fired w ↦ rw w.read-is (record {
-      bounds = search rules;
-      shows = search rules;
-      earlier = fired-earlier (crash_part_of c.crash.inside) c.args.crash.now c.args.line w.in-Fired.restraint w.place.result w.in_ok-read-inside-in-Fired.field-0 w.in-Fired.is w.place.ensures.place (sym c.crash.view_is);
-      whole = search rules;
-    })
+    bounds = search rules;
+    shows = search rules;
+    earlier = fired-earlier (crash_part_of c.crash.inside) c.args.crash.now c.args.line w.in-Fired.restraint w.place.result w.in_ok-read-inside-in-Fired.field-0 w.in-Fired.is w.place.ensures.place (sym c.crash.view_is);
+    whole = search rules;
+  })
 ]
