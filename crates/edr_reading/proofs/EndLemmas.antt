@@ -1,10 +1,11 @@
 -- Where a text can be no report, and what was read of one that is.
-use Rattle.std.proofs.Common.{arith, ◌≡◌, ◌∙◌, sym, ap, subst, refl, ℕ, ◌+◌, ◌<◌, ◌≤◌, List, [], ◌∷◌, ◌++◌, map, length, take, drop, get_or, decimal, Option, None, Bool, true, false, Result, Ok, Err}
+use Rattle.std.proofs.Common.{arith, ◌≡◌, ◌∙◌, sym, ap, subst, refl, ℕ, ◌+◌, ◌<◌, ◌≤◌, List, [], ◌∷◌, ◌++◌, map, length, take, drop, get_or, decimal, length-take-le, min, ◌≢◌, Option, None, Bool, true, false, Result, Ok, Err}
 use Rattle.std.proofs.lemmas.List.{append-nil, drop_more, get_or-map, length-map, take_more}
 use Rattle.std.proofs.Math.Seq.{take-length}
 use Rattle.edr_image.specs.declared.Found.{Found}
 use Rattle.edr_image.specs.Banks.{found_event}
 use Rattle.edr_image.specs.Reports.{Report}
+use Rattle.edr_reading.specs.declared.faults.RowFault.{RowFault}
 use Rattle.edr_reading.specs.declared.faults.RowFault.TheVariants as fault
 use Rattle.edr_reading.specs.declared.reader.NextRow.{NextRow}
 use Rattle.edr_reading.specs.declared.reader.NextRow.TheVariants as next
@@ -23,7 +24,7 @@ use Rattle.edr_reading.specs.declared.reading.ReportRefused.TheVariants.{Fault, 
 use Rattle.edr_spell.specs.Spell.{RecordsOf}
 use Rattle.std.specs.Result.{IfErr, IfOk}
 use Rattle.edr_reading.proofs.BetweenLemmas.{between-count}
-use Rattle.edr_reading.proofs.FaultLemmas.{fault-after, fault-is-none, wrong-end}
+use Rattle.edr_reading.proofs.FaultLemmas.{fault-after, fault-is-none, none-is-none, opens-none, wrong-end, wrong-fields}
 use Rattle.edr_reading.proofs.FollowLemmas.{some-rows}
 use Rattle.edr_reading.proofs.LineLemmas.{inside-count}
 use Rattle.edr_reading.proofs.WholeLemmas.{told-reading}
@@ -39,6 +40,7 @@ nothing-report : (reports : List Report) (found : List Found) (rows : FieldRows)
 nothing-report reports found rows n s = let t = told-reading reports s.0 s.1 n rows s.3 s.4 s.5 in (reports, map found_event s.0 ++ s.1, n, t.1, t.0)
 
 stands-opens : (n : NextRow) (last : Option CycleRow) (reports : List Report) (found : List Found) (rows : FieldRows) → StandsNext n last reports found rows → Opens rows
+stands-opens next.Head last reports found rows s = subst Opens (sym s.3) opens-none
 stands-opens next.Run last reports found rows s = (count_fields 0 ∷ [], between-count (may_ack last) true true reports [] [] rows s.1)
 stands-opens next.Events last reports found rows s = (count_fields 0 ∷ [], between-count false false true reports s.0 [] rows s.2)
 stands-opens (next.Line k p) last reports found rows s =
@@ -52,6 +54,7 @@ between-none : (a c v : Bool) (reports : List Report) (rows : FieldRows) → ((m
 between-none a c v reports rows h r = let z = h [] (subst AreReport (sym (append-nil rows)) r) in omega (arith, z)
 
 stands-none : (n : NextRow) (last : Option CycleRow) (reports : List Report) (found : List Found) (rows : FieldRows) → StandsNext n last reports found rows → ((k : ℕ) → n ≡ next.Nothing k → ⊥) → AreReport rows → ⊥
+stands-none next.Head last reports found rows s other = λ r. none-is-none (subst AreReport s.3 r)
 stands-none next.Run last reports found rows s other = between-none false false false reports rows (λ more r. some-rows _ _ _ _ _ _ more ((s.1).rest more r))
 stands-none next.Events last reports found rows s other = between-none false false false reports rows (λ more r. some-rows _ _ _ _ _ _ more ((s.2).rest more r))
 stands-none (next.Line k p) last reports found rows s other = (s.3).0
@@ -60,14 +63,21 @@ stands-none (next.Nothing n) last reports found rows s other = absurd (other n r
 
 -- ---- faults
 
-pub field-fault : (r : Reader) (records : FieldRows) (i : ℕ) (e : Refused) → i < length records → HasReadRows r (take i records) → IsRefused (take i records) (get_or records i []) e → IsRowRefusal records (refusal_of (i + 1) e)
+rows-are : (r : Reader) (records : FieldRows) (i : ℕ) → i < length records → HasReadRows r (take i records) → r.rows ≡ i
+rows-are r records i less h = h.count ∙ length-take-le i records (omega (arith, less))
+
+fault-next : (r : Reader) (records : FieldRows) (i : ℕ) (f : RowFault) → i < length records → HasReadRows r (take i records) → IsWrong (take i records) (drop i records) f → IsFault records (r.rows + 1) f
+fault-next r records i f less h w =
+    subst (λ (k : ℕ). IsFault records (k + 1) f) (sym (rows-are r records i less h))
+    (fault-after records i f (omega (arith, less)) (stands-opens r.next r.last (cycles_read r) r.found.items (take i records) h.stands) w)
+
+pub field-fault : (r : Reader) (records : FieldRows) (i : ℕ) (e : Refused) → i < length records → HasReadRows r (take i records) → IsRefused (take i records) (get_or records i []) e → IsRowRefusal records (refusal_of (r.rows + 1) e)
 field-fault r records i (refused.Field f) less h w =
-    fault-after records i (fault.Field f) (omega (arith, less)) (stands-opens r.next r.last (cycles_read r) r.found.items (take i records) h.stands)
-    (subst (λ (x : FieldRows). IsWrong (take i records) x (fault.Field f)) (sym (drop_more records i [] less)) (w (drop (i + 1) records)))
+    fault-next r records i (fault.Field f) less h (subst (λ (x : FieldRows). IsWrong (take i records) x (fault.Field f)) (sym (drop_more records i [] less)) (w (drop (i + 1) records)))
 field-fault r records i refused.OutOfMemory less h w = tt
 
-pub length-fault : (r : Reader) (records : FieldRows) (i n : ℕ) → i < length records → HasReadRows r (take i records) → IsWrong (take i records) (drop i records) (fault.Fields n) → IsFault records (i + 1) (fault.Fields n)
-length-fault r records i n less h w = fault-after records i (fault.Fields n) (omega (arith, less)) (stands-opens r.next r.last (cycles_read r) r.found.items (take i records) h.stands) w
+pub length-fault : (r : Reader) (records : FieldRows) (i n : ℕ) → i < length records → HasReadRows r (take i records) → n ≡ min (length (get_or records i [])) 4_294_967_295 → length (get_or records i []) ≢ 3 → IsFault records (r.rows + 1) (fault.Fields n)
+length-fault r records i n less h is other = fault-next r records i (fault.Fields n) less h (wrong-fields (take i records) records i n less is other)
 
 pub end-fault : (r : Reader) (records : FieldRows) → HasReadRows r records → ((k : ℕ) → r.next ≡ next.Nothing k → ⊥) → IsFault records (r.rows + 1) fault.Unended
 end-fault r records h other =

@@ -6,7 +6,7 @@ use Rattle.edr_report.specs.Report.{report_lines}
 use Rattle.edr_reading.proofs.DistinctLemmas.{distinct-none}
 use Rattle.edr_reading.proofs.ReadingLemmas.{all-three}
 use Rattle.edr_reading.specs.Rows.{line_fields}
-use Rattle.edr_reading.specs.Faults.{AreReport, Opens, ReportGoesOn, IsFault, IsHeadFault, IsWrong}
+use Rattle.edr_reading.specs.Faults.{AreReport, Opens, ReportGoesOn, IsFault, IsWrong}
 use Rattle.edr_reading.specs.declared.faults.RowFault.{RowFault}
 use Rattle.edr_reading.specs.declared.faults.RowFault.TheVariants.{Fields, Field, Unended}
 use Rattle.edr_reading.specs.Reading.{IsReading, head_row, report_rows}
@@ -44,17 +44,6 @@ not-second a b n g = n (ap (λ (r : List (List ℕ)). get_or r 1 []) (head-goes-
 
 pub not-third : (a b c : List ℕ) → c ≢ codes "value" → ¬ ReportGoesOn [] (a ∷ b ∷ c ∷ [])
 not-third a b c n g = n (ap (λ (r : List (List ℕ)). get_or r 2 []) (head-goes-on (a ∷ b ∷ c ∷ []) g).1)
-
--- the first field of the first row with which no report begins
-pub head-field : (a b c : List ℕ) (f : ℕ) → 1 ≤ f → f ≤ 3 → (2 ≤ f → ReportGoesOn [] (take (f - 1) (a ∷ b ∷ c ∷ []))) → ¬ ReportGoesOn [] (take f (a ∷ b ∷ c ∷ [])) → IsHeadFault (a ∷ b ∷ c ∷ []) (Field f)
-head-field a b c f from to on off = λ rest. (omega arith, omega arith, opens-none, (refl, from, to, on, off))
-
-pub fault-none : {X : Type 0} (f : X → List (List ℕ)) (xs : List X) → length xs ≡ 0 → IsFault (map f xs) 1 Unended
-fault-none f [] e = (omega arith, omega arith, opens-none, none-is-none)
-fault-none f (x ∷ xs) e = absurd (omega (arith, e))
-
-pub fault-fields : {X : Type 0} (f : X → List (List ℕ)) (xs : List X) (x : X) (rest : List X) (n : ℕ) → xs ≡ x ∷ rest → n ≡ min (length (f x)) 4_294_967_295 → length (f x) ≢ 3 → IsFault (map f xs) 1 (Fields n)
-fault-fields f xs x rest n e m other = subst (λ (ys : List _). IsFault (map f ys) 1 (Fields n)) (sym e) (omega arith, omega arith, opens-none, (m, other))
 
 -- a row of a report has three fields
 pub row-three : (xs : List (List (List ℕ))) (r : List (List ℕ)) (rs : List (List (List ℕ))) → AreReport (xs ++ r ∷ rs) → length r ≡ 3

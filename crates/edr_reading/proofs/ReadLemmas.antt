@@ -47,8 +47,8 @@ use Rattle.edr_reading.proofs.RowLemmas.{lines}
 pub stands-as : (n m : NextRow) (last first : Option CycleRow) (reports rs : List Report) (found fs : List Found) (rows : FieldRows) → n ≡ m → last ≡ first → reports ≡ rs → found ≡ fs → StandsNext m first rs fs rows → StandsNext n last reports found rows
 stands-as n m last first reports rs found fs rows a b c d h = rw (a, b, c, d) h
 
-pub new-read : (r : Reader) → r.rows ≡ 1 → r.run.items ≡ [] → r.last ≡ None → r.acks.items ≡ [] → r.found.items ≡ [] → r.next ≡ next.Run → HasReadRows r (head_row ∷ [])
-new-read r count run last acks found next =
+pub new-read : (r : Reader) → r.rows ≡ 0 → r.run.items ≡ [] → r.last ≡ None → r.acks.items ≡ [] → r.found.items ≡ [] → r.next ≡ next.Head → HasReadRows r []
+new-read r count run last acks found at =
     let cycles : cycles_read r ≡ [] = ap₂ (λ (x : List Report) (y : List Report). x ++ y) (ap (map report_of) run) (ap (λ (l : Option CycleRow). last_cycle l r.acks.items) last) in
     record {
       count = count;
@@ -56,7 +56,7 @@ new-read r count run last acks found next =
       few_acks = omega (arith, ap length acks);
       short = omega arith;
       first = λ e. run;
-      stands = stands-as r.next _ r.last None (cycles_read r) [] r.found.items [] (head_row ∷ []) next last cycles found (refl, start-between);
+      stands = stands-as r.next next.Head r.last r.last (cycles_read r) (cycles_read r) r.found.items r.found.items [] at refl refl refl (last, cycles, found, refl);
     }
 
 -- ---- between events
@@ -85,6 +85,7 @@ in-between r rows h b = by r.next refl h.stands b
     at-all a c v es ds found at ack cycle event = record { acks = a; cycles = c; events = v; es = es; ds = ds; found = found; at = at; few = few-events r rows es ds h found; has_acks = ack; has_cycles = cycle; has_events = event }
 
     by : (n : NextRow) → r.next ≡ n → StandsNext n r.last (cycles_read r) r.found.items rows → MayBegin n → InBetween r rows
+    by next.Head e s b = absurd b
     by next.Run e s b = at-all (may_ack r.last) true true [] [] s.0 s.1 (λ t. (e, t)) (λ t. e) (λ t. (refl, inl e))
     by next.Events e s b = at-all false false true s.0 [] (s.1 ∙ sym (append-nil (map found_event s.0))) s.2 (λ t. cc) (λ t. cc) (λ t. (refl, inr e))
     by (next.Line k p) e s b = absurd b
@@ -164,7 +165,7 @@ count-more : (rows : FieldRows) (row : List (List ℕ)) → length (rows ++ row 
 count-more rows row = length-append rows (row ∷ [])
 
 -- a reader has read one row more
-read-on : (r s : Reader) (rows : FieldRows) (row : List (List ℕ)) → r.rows ≡ length rows → length (cycles_read r) + length r.found.items < length rows → length r.acks.items < length rows → s.rows ≡ r.rows + 1
+read-on : (r s : Reader) (rows : FieldRows) (row : List (List ℕ)) → r.rows ≡ length rows → length (cycles_read r) + length r.found.items ≤ length rows → length r.acks.items ≤ length rows → s.rows ≡ r.rows + 1
     → length (cycles_read s) + length s.found.items ≤ length (cycles_read r) + length r.found.items + 1 → length s.acks.items ≤ length r.acks.items + 1 → length rows + 1 ≤ 4_294_967_294 → (s.last ≡ None → s.run.items ≡ [])
     → StandsNext s.next s.last (cycles_read s) s.found.items (rows ++ row ∷ []) → HasReadRows s (rows ++ row ∷ [])
 read-on r s rows row count few few_acks one more more_acks short first stands =
@@ -173,6 +174,25 @@ read-on r s rows row count few few_acks one more more_acks short first stands =
 
 cycles-same : (r s : Reader) → s.run.items ≡ r.run.items → s.last ≡ r.last → s.acks.items ≡ r.acks.items → cycles_read s ≡ cycles_read r
 cycles-same r s a b c = ap₂ (λ (x y : List Report). x ++ y) (ap (map report_of) a) (ap₂ last_cycle b c)
+
+-- ---- the row that names the columns
+
+at-head : (r : Reader) (rows : FieldRows) → HasReadRows r rows → r.next ≡ next.Head → (r.last ≡ None) × (cycles_read r ≡ []) × (r.found.items ≡ []) × (rows ≡ [])
+at-head r rows h e = subst (λ (n : NextRow). StandsNext n r.last (cycles_read r) r.found.items rows) e h.stands
+
+pub head-read : (r s : Reader) (rows : FieldRows) (row : List (List ℕ)) → HasReadRows r rows → r.next ≡ next.Head → row ≡ head_row
+    → s.rows ≡ r.rows + 1 → s.run.items ≡ r.run.items → s.last ≡ r.last → s.acks.items ≡ r.acks.items → s.found.items ≡ r.found.items → s.next ≡ next.Run → HasReadRows s (rows ++ row ∷ [])
+head-read r s rows row h e is one run last acks found after =
+    let t = at-head r rows h e in
+    let cycles = cycles-same r s run last acks in
+    read-on r s rows row h.count h.few h.few_acks one (omega (arith, ap length cycles, ap length found)) (omega (arith, ap length acks)) (omega (arith, ap length t.3)) (λ z. run ∙ h.first (sym last ∙ z))
+    (stands-as s.next next.Run s.last None (cycles_read s) [] s.found.items [] _ after (last ∙ t.0) (cycles ∙ t.1) (found ∙ t.2)
+    (refl, subst (IsBetween false true true [] [] []) (sym (ap₂ (λ (x : FieldRows) (y : List (List ℕ)). x ++ y ∷ []) t.3 is)) start-between))
+
+pub head-refused : (r : Reader) (rows : FieldRows) (b w v : List ℕ) (f : ℕ) → HasReadRows r rows → r.next ≡ next.Head → IsRefused [] (b ∷ w ∷ v ∷ []) (refused.Field f) → IsRefused rows (b ∷ w ∷ v ∷ []) (refused.Field f)
+head-refused r rows b w v f h e is = subst (λ (x : FieldRows). IsRefused x (b ∷ w ∷ v ∷ []) (refused.Field f)) (sym (at-head r rows h e).3) is
+
+-- ---- rows of block 0 that are taken, or have a value that none has
 
 pub count-read : (r s : Reader) (rows : FieldRows) (w value : List ℕ) (n : ℕ) → HasReadRows r rows → IsOnlyName r w name.Count → value ≡ shown_count n
     → s.rows ≡ r.rows + 1 → s.run.items ≡ r.run.items → s.last ≡ r.last → s.acks.items ≡ r.acks.items → s.found.items ≡ r.found.items → s.next ≡ next.Nothing n → HasReadRows s (rows ++ (decimal 0 ∷ w ∷ value ∷ []) ∷ [])

@@ -1,8 +1,8 @@
 -- The first place at which a text can be no report.
-use Rattle.std.specs.Prelude.{◌≡◌, ◌≢◌, ◌≤◌, ◌+◌, ◌-◌, min, ℕ, Option, MatchOption, List, [], ◌∷◌, ◌++◌, take, drop, length}
+use Rattle.std.specs.Prelude.{◌≡◌, ◌≢◌, ◌≤◌, ◌+◌, ◌-◌, min, ℕ, List, [], ◌∷◌, ◌++◌, take, drop, length}
 use Rattle.edr_image.specs.declared.Found.{Found}
 use Rattle.edr_image.specs.Reports.{Report}
-use Rattle.edr_reading.specs.Reading.{BeginsWithHead, IsReading, report_rows}
+use Rattle.edr_reading.specs.Reading.{IsReading, report_rows}
 use Rattle.edr_reading.specs.declared.faults.RowFault.{RowFault}
 use Rattle.edr_reading.specs.declared.faults.RowFault.TheVariants.{Fields, Field, Unended}
 
@@ -32,11 +32,3 @@ IsWrong rows (r ∷ records) Unended = ⊥
 -- the records can be no report from this row on, counted from 1: those before it are the beginning of one
 abbrev pub IsFault : List (List (List ℕ)) → ℕ → RowFault → Type 0
 IsFault records row fault = (1 ≤ row) × (row ≤ length records + 1) × Opens (take (row - 1) records) × IsWrong (take (row - 1) records) (drop (row - 1) records) fault
-
--- what is wrong with this first row, whatever follows it
-abbrev pub IsHeadFault : List (List ℕ) → RowFault → Type 0
-IsHeadFault row fault = (rest : List (List (List ℕ))) → IsFault (row ∷ rest) 1 fault
-
--- the first of the records names the columns, or what is wrong with it
-abbrev pub ChecksHead : List (List (List ℕ)) → Option RowFault → Type 0
-ChecksHead records found = MatchOption found (BeginsWithHead records) (IsFault records 1)

@@ -109,6 +109,7 @@ GoesOnIn block rows = (¬ AreReport rows) × ((row : List (List ℕ)) (more : Fi
 
 -- what may stand next after these rows
 abbrev pub StandsNext : NextRow → Option CycleRow → List Report → List Found → FieldRows → Type 0
+StandsNext next.Head last reports found rows = (last ≡ None) × (reports ≡ []) × (found ≡ []) × (rows ≡ [])
 StandsNext next.Run last reports found rows = (found ≡ []) × IsBetween (may_ack last) true true reports [] [] rows
 StandsNext next.Events last reports found rows = (es : List (ℕ × Record)) × (found ≡ map found_event es) × IsBetween false false true reports es [] rows
 StandsNext (next.Line k e) last reports found rows =
@@ -122,8 +123,8 @@ StandsNext (next.Nothing n) last reports found rows =
 -- the reader has read these rows
 pub record HasReadRows (r : Reader) (rows : FieldRows) : Type 0 where
   pub count : r.rows ≡ length rows
-  pub few : length (cycles_read r) + length r.found.items < length rows
-  pub few_acks : length r.acks.items < length rows
+  pub few : length (cycles_read r) + length r.found.items ≤ length rows
+  pub few_acks : length r.acks.items ≤ length rows
   pub short : length rows ≤ 4_294_967_294
   pub first : r.last ≡ None → r.run.items ≡ []
   pub stands : StandsNext r.next r.last (cycles_read r) r.found.items rows
@@ -140,8 +141,9 @@ Takes old new row (Err e) = (rows : FieldRows) → HasReadRows old rows → IsRe
 
 -- ---- rows of block 0
 
--- it isn't in an event nor at the end
+-- it is past the head, and not in an event nor at the end
 abbrev pub MayBegin : NextRow → Type 0
+MayBegin next.Head = ⊥
 MayBegin next.Run = ⊤
 MayBegin next.Events = ⊤
 MayBegin (next.Line k e) = ⊥
@@ -185,8 +187,8 @@ pub record FindsBank (r : Reader) (result : Option ℕ) : Type 0 where
 -- the reader has read these rows, and this line of an event may be next
 pub record AtLine (r : Reader) (k : ℕ) (e : ℕ × Record) (rows : FieldRows) : Type 0 where
   pub count : r.rows ≡ length rows
-  pub few : length (cycles_read r) + length r.found.items < length rows
-  pub few_acks : length r.acks.items < length rows
+  pub few : length (cycles_read r) + length r.found.items ≤ length rows
+  pub few_acks : length r.acks.items ≤ length rows
   pub first : r.last ≡ None → r.run.items ≡ []
   pub events : List (ℕ × Record)
   pub found : r.found.items ≡ map found_event events

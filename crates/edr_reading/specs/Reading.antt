@@ -23,10 +23,6 @@ report_rows reports found n = head_row ∷ map line_fields (report_lines reports
 abbrev pub rows_told : Reading → List (List (List ℕ))
 rows_told r = report_rows (map report_of r.run.items) r.found.items r.count
 
--- the first of the rows names the columns
-abbrev pub BeginsWithHead : FieldRows → Type 0
-BeginsWithHead rows = (rest : FieldRows) × (rows ≡ head_row ∷ rest)
-
 -- no bank is told twice
 abbrev pub AreDistinct : List Found → Type 0
 AreDistinct found = IsDistinct eqb (map (λ f. f.bank) found)

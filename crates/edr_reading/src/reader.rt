@@ -1,12 +1,11 @@
 //! A reader of rows: what it knows after those that it has read.
 
-ghost use Rattle.std.specs.Prelude.{◌≡◌, ◌≢◌, ◌+◌, ◌<◌, ◌^◌, ◌∷◌, [], None, IfErr, IfOk, OnOk, decimal, length, map};
+ghost use Rattle.std.specs.Prelude.{◌≡◌, ◌≢◌, ◌+◌, ◌<◌, ◌^◌, [], None, IfErr, IfOk, OnOk, decimal, length, map};
 ghost use Rattle.edr_image.specs.Reports.{report_of};
 ghost use Rattle.edr_reading.specs.Answers.{TellsWhether};
 ghost use Rattle.edr_reading.specs.declared.event.TheConstants.{EVENT_ROWS};
 ghost use Rattle.edr_reading.specs.Event.{event_of, record_of};
 ghost use Rattle.edr_reading.specs.Reader.{AtLine, HasReadRows, AddsLine, MayBegin, MayTell, Takes, TakesLine, cycles_read, may_ack, FindsBank, TakesNamed};
-ghost use Rattle.edr_reading.specs.Reading.{head_row};
 ghost use Rattle.edr_reading.specs.Rows.{FieldRows, fields};
 ghost use Rattle.edr_reading.specs.Parts.{IsRecord};
 ghost use Rattle.edr_reading.specs.declared.told.ToldName.TheVariants as name;
@@ -35,6 +34,8 @@ pub(crate) enum Refused {
 /// What may stand next. Where it isn't a line of an event, the count of ignition cycles may always be it.
 #[derive(Clone, Copy)]
 pub(crate) enum NextRow {
+    /// The row that names the columns.
+    Head,
     /// A cycle, a command that the last one acknowledged, an event or a damaged bank.
     Run,
     /// An event or a damaged bank.
@@ -76,17 +77,17 @@ fn log_of(alloc: Global, acks: &[Ack]) -> Result<Log, OutOfMemory>
 }
 
 impl Reader {
-    /// A reader that has read the row that names the columns.
+    /// A reader that has read no row.
     pub(crate) fn new(alloc: Global) -> Reader
-        ensures { HasReadRows result (head_row ∷ []) }
+        ensures { HasReadRows result [] }
     {
         Reader {
-            rows: 1,
+            rows: 0,
             run: Vec::new(alloc),
             last: None,
             acks: Vec::new(alloc),
             found: Vec::new(alloc),
-            next: NextRow::Run,
+            next: NextRow::Head,
         }
     }
 
@@ -160,6 +161,26 @@ impl Reader {
             Some(CycleRow::Ran { .. }) => true,
             _ => false,
         }
+    }
+
+    // Takes the row that names the columns.
+    fn take_head(&mut self, row: &ReportRow<'_>) -> Result<(), Refused>
+        requires rows { self.old.rows + 1 < 2 ^ 32 }
+        requires head { self.old.next ≡ NextRow.Head }
+        ensures { Takes self.old self.new (fields row.now) result }
+    {
+        if !is_word(row.block, b"block") {
+            return Err(Refused::Field(1));
+        }
+        if !is_word(row.name, b"name") {
+            return Err(Refused::Field(2));
+        }
+        if !is_word(row.value, b"value") {
+            return Err(Refused::Field(3));
+        }
+        self.next = NextRow::Run;
+        self.rows += 1;
+        Ok(())
     }
 
     // Takes the first row of a cycle.
@@ -347,6 +368,7 @@ impl Reader {
         ensures { Takes self.old self.new (fields row.now) result }
     {
         match self.next {
+            NextRow::Head => self.take_head(row),
             NextRow::Line { line, event } => {
                 let block = self.block();
                 let Some(_) = last_within(row.block, b"", block, block) else {

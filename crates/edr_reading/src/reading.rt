@@ -5,11 +5,11 @@ ghost use Rattle.csv.specs.Records.{fields_of};
 ghost use Rattle.edr_image.specs.Reports.{report_of};
 ghost use Rattle.edr_spell.specs.Spell.{RecordsOf};
 ghost use Rattle.edr_reading.specs.Reader.{HasReadRows};
-ghost use Rattle.edr_reading.specs.Reading.{BeginsWithHead, IsReading, OfReportRows, rows_told};
+ghost use Rattle.edr_reading.specs.Reading.{IsReading, OfReportRows, rows_told};
 ghost use Rattle.edr_reading.specs.Refusals.{IsRowRefusal, IsRefusalOfRecords, refusal_of, ReadsRows};
 ghost use Rattle.edr_reading.specs.Rows.{FieldRows};
 
-use crate::faults::{RowFault, head_fault};
+use crate::faults::RowFault;
 use crate::reader::{NextRow, Reader, Refused};
 use crate::records::{records, row_of};
 use csv::ByteRecord;
@@ -35,24 +35,21 @@ pub enum ReportRefused {
     OutOfMemory,
 }
 
-// The reader of the records, of which the first names the columns, up to one that it can't take, or all.
+// The reader of the records, up to one that it can't take, or all.
 fn read_rows(alloc: Global, records: &[ByteRecord]) -> Result<Reader, ReportRefused>
-    requires { BeginsWithHead (map fields_of records.now) }
     ensures read { IfOk result (λ r. HasReadRows r (map fields_of records.now)) }
     ensures fault { IfErr result (IsRowRefusal (map fields_of records.now)) }
 {
     let mut reader = Reader::new(alloc);
-    for i in 1..records.len() {
-        let row = i as u32 + 1;
-        match row_of(&records[i]) {
-            Some(fields) => match reader.take(alloc, &fields) {
-                Ok(()) => {}
-                Err(refused) => return Err(refusal(row, refused)),
-            },
-            None => {
-                let fault = RowFault::Fields(records[i].len().min(u32::MAX as usize) as u32);
-                return Err(ReportRefused::Fault { row, fault });
-            }
+    for record in records {
+        let row = reader.rows + 1;
+        let Some(fields) = row_of(record) else {
+            let fault = RowFault::Fields(record.len().min(u32::MAX as usize) as u32);
+            return Err(ReportRefused::Fault { row, fault });
+        };
+        match reader.take(alloc, &fields) {
+            Ok(()) => {}
+            Err(refused) => return Err(refusal(row, refused)),
         }
     }
     Ok(reader)
@@ -77,9 +74,10 @@ fn end(alloc: Global, mut reader: Reader) -> Result<Reading, ReportRefused>
     ensures { (rows : FieldRows) → HasReadRows reader rows → ReadsRows rows result }
 {
     let NextRow::Nothing { count } = reader.next else {
-        let row = reader.rows + 1;
-        let fault = RowFault::Unended;
-        return Err(ReportRefused::Fault { row, fault });
+        return Err(ReportRefused::Fault {
+            row: reader.rows + 1,
+            fault: RowFault::Unended,
+        });
     };
     let Ok(()) = reader.end_cycle(alloc) else {
         return Err(ReportRefused::OutOfMemory);
@@ -89,14 +87,6 @@ fn end(alloc: Global, mut reader: Reader) -> Result<Reading, ReportRefused>
         found: reader.found,
         count,
     })
-}
-
-// What the records tell, of which the first names the columns.
-fn reading_of(alloc: Global, records: &[ByteRecord]) -> Result<Reading, ReportRefused>
-    requires { BeginsWithHead (map fields_of records.now) }
-    ensures { ReadsRows (map fields_of records.now) result }
-{
-    end(alloc, read_rows(alloc, records)?)
 }
 
 /// Reads the table of a report back. What is read has exactly the rows that the text has: the cycles, each event with all
@@ -118,8 +108,5 @@ pub fn read(alloc: Global, bytes: &[u8]) -> Result<Reading, ReportRefused>
     let Ok(records) = records(alloc, bytes) else {
         return Err(ReportRefused::OutOfMemory);
     };
-    if let Some(fault) = head_fault(&records) {
-        return Err(ReportRefused::Fault { row: 1, fault });
-    }
-    reading_of(alloc, &records)
+    end(alloc, read_rows(alloc, &records)?)
 }
