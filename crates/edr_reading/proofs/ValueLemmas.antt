@@ -3,10 +3,10 @@ use Rattle.std.proofs.Common.{arith, ◌≡◌, ◌∙◌, sym, ap, subst, refl,
 use Rattle.std.specs.Fmt.{signed_decimal}
 use Rattle.std.specs.Option.{IfSome}
 use Rattle.edr_record.specs.Bounds.{IsUpTo, IsChange}
-use Rattle.edr_report.specs.Words.{firing_words, stop_words, missing_words, damage_words}
+use Rattle.edr_report.specs.Words.{firing_words, stop_words, missing_words, damage_words, yes_no}
 use Rattle.edr_reading.specs.Answers.{ReadsTwo}
 use Rattle.edr_reading.specs.Front.{AreUpTo, IsFromTo, two_numbers}
-use Rattle.edr_reading.specs.Values.{IsStopCall, byte_words}
+use Rattle.edr_reading.specs.Values.{IsStopCall}
 use Rattle.edr_reading.proofs.FrontLemmas.{not-number}
 
 -- `none` is no time
@@ -39,6 +39,12 @@ missing-read bytes high window r e h = record { read = by r h.read; whole = λ m
     by None h = tt
     by (Some p) h = (h.0 ∙ sym (missing-is p.0 p.1), subst (λ (w : ℕ). AreUpTo w p.0 p.1) e h.1)
 
--- a damaged bank shows its place, and then its byte and its lock
+-- what a damaged bank shows after its byte, and after its place
+abbrev pub lock_words : Bool → List ℕ
+lock_words locked = codes " locked " ++ yes_no locked
+
+abbrev pub byte_words : ℕ → Bool → List ℕ
+byte_words found locked = codes " found " ++ (decimal found ++ lock_words locked)
+
 pub damage-is : (o x : ℕ) (l : Bool) → damage_words o x l ≡ codes "damaged at " ++ (decimal o ++ byte_words x l)
 damage-is o x l = simp append_assoc

@@ -21,14 +21,6 @@ pub record ReadsAfter {A : Type 0} (front : List ℕ) (words : A → List ℕ) (
 abbrev pub ReadsFront : {A : Type 0} → (A → List ℕ) → (A → Type 0) → List ℕ → Option (A × Bor (List ℕ)) → Type 0
 ReadsFront words ok bytes result = ReadsAfter [] words ok bytes result
 
--- a change of speed that stands in front of the bytes, and what stands after it
-abbrev pub IsChangeFront : List ℕ → ℤ × Bor (List ℕ) → Type 0
-IsChangeFront bytes p = (bytes ≡ signed_decimal p.0 ++ p.1.now) × IsChange p.0
-
--- where this number is in front, this change is read
-abbrev pub ReadsAs : ℕ → ℤ → List ℕ → Option (ℤ × Bor (List ℕ)) → Type 0
-ReadsAs n z bytes result = (more : List ℕ) → EndsNumber more → bytes ≡ decimal n ++ more → GivesValue z more result
-
 -- a number from low to high, and one of 32 bits
 abbrev pub IsFromTo : ℕ → ℕ → ℕ → Type 0
 IsFromTo low high n = (low ≤ n) × (n ≤ high)

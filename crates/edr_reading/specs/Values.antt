@@ -84,11 +84,3 @@ ran_words n stop = codes "number " ++ decimal n ++ codes ", " ++ stop_words stop
 -- how a command and its time are, after the cycle
 abbrev pub command_words : Kind → ℕ → List ℕ
 command_words k t = codes " " ++ kind_word k ++ codes " at " ++ decimal t
-
--- how the byte of a damaged bank and its lock are, after the offset
-abbrev pub byte_words : ℕ → Bool → List ℕ
-byte_words found locked = codes " found " ++ decimal found ++ codes " locked " ++ yes_no locked
-
--- how its lock is, after that
-abbrev pub lock_words : Bool → List ℕ
-lock_words locked = codes " locked " ++ yes_no locked

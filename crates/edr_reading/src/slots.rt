@@ -1,6 +1,8 @@
 //! Lists of slots, read back.
 
 ghost use Rattle.std.specs.Prelude.{◌≡◌, ℕ, List};
+ghost use Rattle.edr_record.specs.Bounds.{IsUpTo};
+ghost use Rattle.edr_report.specs.Words.{number_or_none};
 ghost use Rattle.edr_reading.specs.Front.{ReadsAfter, ReadsFront};
 ghost use Rattle.edr_reading.specs.Slots.{space_at, ReadsSlots};
 
@@ -34,6 +36,17 @@ impl SlotRead for i16 {
     }
 }
 
+// The number in front of the bytes, up to `highest`, or that there is none, and what stands after it.
+fn number_or_none(bytes: &[u8], highest: u32) -> Option<(Option<u32>, &[u8])>
+    ensures { ReadsFront number_or_none (IsUpTo highest) bytes.now result }
+{
+    if let Some(rest) = after(bytes, b"none") {
+        return Some((None, rest));
+    }
+    let (n, rest) = within_after(bytes, b"", 0, highest)?;
+    Some((Some(n), rest))
+}
+
 impl SlotRead for Option<u16> {
     ghost use Rattle.edr_report.specs.Words.{number_or_none};
     ghost use Rattle.edr_record.specs.Bounds.{IsUpTo};
@@ -43,12 +56,9 @@ impl SlotRead for Option<u16> {
     ghost is_slot = { IsUpTo 300 };
 
     fn in_front(bytes: &[u8]) -> Option<(Option<u16>, &[u8])> {
-        match after(bytes, b"none") {
-            Some(rest) => Some((None, rest)),
-            None => match within_after(bytes, b"", 0, 300) {
-                Some((kmh, rest)) => Some((Some(kmh as u16), rest)),
-                None => None,
-            },
+        match number_or_none(bytes, 300)? {
+            (Some(kmh), rest) => Some((Some(kmh as u16), rest)),
+            (None, rest) => Some((None, rest)),
         }
     }
 }
@@ -62,12 +72,9 @@ impl SlotRead for Option<u8> {
     ghost is_slot = { IsUpTo 100 };
 
     fn in_front(bytes: &[u8]) -> Option<(Option<u8>, &[u8])> {
-        match after(bytes, b"none") {
-            Some(rest) => Some((None, rest)),
-            None => match within_after(bytes, b"", 0, 100) {
-                Some((per_cent, rest)) => Some((Some(per_cent as u8), rest)),
-                None => None,
-            },
+        match number_or_none(bytes, 100)? {
+            (Some(per_cent), rest) => Some((Some(per_cent as u8), rest)),
+            (None, rest) => Some((None, rest)),
         }
     }
 }

@@ -1,14 +1,14 @@
 //! The values of a report, read back.
 
-ghost use Rattle.std.specs.Prelude.{◌≡◌, ◌≤◌, ◌∷◌, ◌+◌, negsuc, pos, ⊤, ℕ, Some, IfSome, IsSome, MatchOption};
+ghost use Rattle.std.specs.Prelude.{◌≡◌, ◌≤◌, ◌∷◌, ◌++◌, ◌+◌, List, decimal, negsuc, ⊤, ℕ, Some, IfSome, IsSome, MatchOption};
 ghost use Rattle.std.specs.Fmt.{signed_decimal};
 ghost use Rattle.edr_record.specs.declared.TheConstants.{EARLIEST_END, GREATEST_CHANGE, RESET};
 ghost use Rattle.edr_record.specs.Bounds.{IsChange, IsExtreme, IsPlace, IsUpTo};
 ghost use Rattle.edr_report.specs.declared.TheConstants.{LARGEST_SHOWN_COUNT};
 ghost use Rattle.edr_report.specs.Words.{applied_words, yes_no, profile_word, switch_or_none, milliseconds, firing_words, number_shown, shown_count, events_in_crash, extreme_words, missing_words, ack_words, seconds, tenths_of};
-ghost use Rattle.edr_reading.specs.Front.{ReadsFront, AreUpTo, IsChangeFront, IsFromTo, ReadsAs, number_after};
-ghost use Rattle.edr_reading.specs.Values.{IsBank, IsStopCall, IsApplied, IsTick, done_in, byte_words, command_words, ran_words, IsPlaceLike, IsRan, ReadsPlace, ShowsDamage, end_words, lock_words, start_words};
-ghost use Rattle.edr_reading.specs.Answers.{Reads, ReadsTwo};
+ghost use Rattle.edr_reading.specs.Front.{AreUpTo, EndsNumber, IsFromTo, ReadsFront, number_after};
+ghost use Rattle.edr_reading.specs.Values.{IsBank, IsStopCall, IsApplied, IsTick, done_in, command_words, ran_words, IsPlaceLike, IsRan, ReadsPlace, ShowsDamage, end_words, start_words};
+ghost use Rattle.edr_reading.specs.Answers.{GivesValue, Reads, ReadsTwo};
 
 use crate::front::{after, is_word, last_within, two_within, within, within_after};
 use edr_image::places::{BANK_SIZE, MOST_BANKS};
@@ -97,20 +97,11 @@ pub(crate) fn firing(bytes: &[u8], latest: u16) -> Option<Option<u16>>
 
 // The number in front of the bytes with `-` before it, and what stands after it.
 fn negative_in_front(bytes: &[u8]) -> Option<(i16, &[u8])>
-    ensures read { IfSome result (IsChangeFront (45 ∷ bytes.now)) }
-    ensures whole { (k : ℕ) → k + 1 ≤ GREATEST_CHANGE → ReadsAs (k + 1) (negsuc k) bytes.now result }
+    ensures read { IfSome result (λ p. (45 ∷ bytes.now ≡ signed_decimal p.0 ++ p.1.now) × IsChange p.0) }
+    ensures whole { (k : ℕ) (more : List ℕ) → k + 1 ≤ GREATEST_CHANGE → EndsNumber more → bytes.now ≡ decimal (k + 1) ++ more → GivesValue (negsuc k) more result }
 {
     let (n, rest) = within_after(bytes, b"", 1, GREATEST_CHANGE)?;
     Some((0 - n as i16, rest))
-}
-
-// The number in front of the bytes, and what stands after it.
-fn positive_in_front(bytes: &[u8]) -> Option<(i16, &[u8])>
-    ensures read { IfSome result (IsChangeFront bytes.now) }
-    ensures whole { (n : ℕ) → n ≤ GREATEST_CHANGE → ReadsAs n (pos n) bytes.now result }
-{
-    let (n, rest) = within_after(bytes, b"", 0, GREATEST_CHANGE)?;
-    Some((n as i16, rest))
 }
 
 /// The change of speed in front of the bytes, and what stands after it.
@@ -119,7 +110,10 @@ pub(crate) fn change_in_front(bytes: &[u8]) -> Option<(i16, &[u8])>
 {
     match after(bytes, b"-") {
         Some(digits) => negative_in_front(digits),
-        None => positive_in_front(bytes),
+        None => {
+            let (n, rest) = within_after(bytes, b"", 0, GREATEST_CHANGE)?;
+            Some((n as i16, rest))
+        }
     }
 }
 
@@ -181,40 +175,13 @@ pub(crate) fn place_between(place: Place, bytes: &[u8]) -> Option<Place>
     ensures { ReadsPlace place bytes.now result }
 {
     match place {
-        Place::First => first_place(bytes),
-        Place::Second { .. } => second_place(bytes),
+        Place::First if is_word(bytes, b"none") => Some(Place::First),
+        Place::First => None,
+        Place::Second { .. } => {
+            let after = time_shown(tenths(bytes)?);
+            Some(Place::Second { after })
+        }
     }
-}
-
-fn first_place(between: &[u8]) -> Option<Place>
-    ensures { ReadsPlace Place.First between.now result }
-{
-    match between {
-        b"none" => Some(Place::First),
-        _ => None,
-    }
-}
-
-fn second_place(between: &[u8]) -> Option<Place>
-    ensures { ReadsPlace (Place.Second 1) between.now result }
-{
-    let after = time_shown(tenths(between)?);
-    Some(Place::Second { after })
-}
-
-// Whether a damaged bank is locked, after what else it shows.
-fn lock_after(bytes: &[u8]) -> Option<bool>
-    ensures { Reads lock_words (λ _. ⊤) bytes.now result }
-{
-    decision(after(bytes, b" locked ")?)
-}
-
-// The byte that a damaged bank shows, and whether it is locked.
-fn byte_after(bytes: &[u8]) -> Option<(u8, bool)>
-    ensures { ReadsTwo byte_words (λ x _. x ≤ 255) bytes.now result }
-{
-    let (found, rest) = within_after(bytes, b" found ", 0, 255)?;
-    Some((found as u8, lock_after(rest)?))
 }
 
 /// What a damaged bank shows: where, which byte stands there, and whether it is locked.
@@ -231,10 +198,11 @@ pub(crate) fn damage(bytes: &[u8]) -> Option<DamageShown>
     ensures whole { (d : DamageShown) → ShowsDamage bytes.now d → IsSome result }
 {
     let (offset, rest) = within_after(bytes, b"damaged at ", 0, BANK_SIZE as u32 - 1)?;
-    let (found, locked) = byte_after(rest)?;
+    let (found, rest) = within_after(rest, b" found ", 0, 255)?;
+    let locked = decision(after(rest, b" locked ")?)?;
     Some(DamageShown {
         offset: offset as u16,
-        found,
+        found: found as u8,
         locked,
     })
 }

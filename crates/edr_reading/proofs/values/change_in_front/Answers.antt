@@ -7,5 +7,5 @@ returns-in-Some c = record {
   read = search rules;
   whole = λ z more h ends is.
       let m = minus-change c.args.bytes.now c.in-Some.digits.now more z h c.in-Some.ensures.read is in
-      rw m.1 (c.negative_in_front.ensures.whole m.0 m.3 more ends m.2);
+      rw m.1 (c.negative_in_front.ensures.whole m.0 more m.3 ends m.2);
 }
