@@ -20,15 +20,13 @@ use Rattle.edr_reading.specs.declared.told.ToldName.{ToldName}
 use Rattle.edr_reading.specs.declared.told.ToldName.TheVariants as name
 use Rattle.edr_reading.specs.Event.{HasNoBank}
 use Rattle.edr_reading.specs.Faults.{AreReport, ReportGoesOn}
-use Rattle.edr_reading.specs.Found.{IsDamaged, IsEvent, banks_in, count_fields, damaged_fields, events_fields}
+use Rattle.edr_reading.specs.Told.{IsAck, IsCycleRow, IsDamaged, IsEvent, IsReport, IsToldName, ack_fields, acks_of, banks_in, count_fields, cycle_fields, damaged_fields, events_fields, name_words, row_of, row_words, run_fields}
 use Rattle.edr_reading.specs.Reading.{AreDistinct, head_row}
 use Rattle.edr_reading.specs.Reader.{IsBetween, IsRefused, IsToldReport, MayFollow, last_cycle, may_ack, whole}
 use Rattle.edr_reading.specs.Rows.{FieldRows}
-use Rattle.edr_reading.specs.Run.{IsReport, ack_fields, acks_of, cycle_fields, row_of, run_fields}
-use Rattle.edr_reading.specs.Told.{IsAck, IsCycleRow, IsToldName, cycle_line, name_words}
 use Rattle.edr_reading.specs.Values.{IsApplied, IsBank, IsDamagedView, view_words}
 use Rattle.edr_reading.proofs.DistinctLemmas.{distinct-more, distinct-none}
-use Rattle.edr_reading.proofs.FollowLemmas.{cycle-row, ToldNext, next-row, none}
+use Rattle.edr_reading.proofs.FollowLemmas.{ToldNext, next-row, none}
 use Rattle.edr_reading.proofs.WholeLemmas.{cycle-lines, decimal-same, report-told, told-report, whole-cycle, whole-damaged}
 
 -- ---- lists
@@ -136,10 +134,10 @@ whole-first reports first h =
     ap (λ (x : List Report). whole (reports ++ x) [] []) l.1 ∙ whole-cycle reports l.0
     ∙ ap (λ (x : FieldRows). whole reports [] [] ++ x) (cycle-lines (length reports + 1) l.0 ∙ ap₂ (λ (x : CycleRow) (y : List Ack). cycle_fields (length reports + 1) x ∷ map (ack_fields (length reports + 1)) y) l.3 l.4)
 
-cycle-are : (reports : List Report) (first : CycleRow) → IsCycleRow first → (rows : FieldRows) (w value : List ℕ) → rows ≡ whole reports [] [] → w ≡ name_words (length reports) name.Cycle → value ≡ (cycle_line 1 first).value
+cycle-are : (reports : List Report) (first : CycleRow) → IsCycleRow first → (rows : FieldRows) (w value : List ℕ) → rows ≡ whole reports [] [] → w ≡ name_words (length reports) name.Cycle → value ≡ row_words first
     → whole (reports ++ last_cycle (Some first) []) [] [] ≡ rows ++ (decimal 0 ∷ w ∷ value ∷ []) ∷ []
 cycle-are reports first bounds rows w value are words shows =
-    whole-first reports first bounds ∙ ap₂ (λ (x : FieldRows) (r : List (List ℕ)). x ++ r ∷ []) (sym are) (cycle-row (length reports) first ∙ ap₂ (λ (n x : List ℕ). decimal 0 ∷ n ∷ x ∷ []) (sym words) (sym shows))
+    whole-first reports first bounds ∙ ap₂ (λ (x : FieldRows) (r : List (List ℕ)). x ++ r ∷ []) (sym are) (ap₂ (λ (n x : List ℕ). decimal 0 ∷ n ∷ x ∷ []) (sym words) (sym shows))
 
 pub told-cycle : (reports : List Report) (first : CycleRow) → All IsReport reports → IsCycleRow first → IsToldReport (reports ++ last_cycle (Some first) []) [] []
 told-cycle reports first all h =
@@ -149,12 +147,12 @@ told-cycle reports first all h =
 pub cycle-opens : (a c v : Bool) (reports : List Report) (rows : FieldRows) (w : List ℕ) → IsBetween a c v reports [] [] rows → length rows + 2 ≤ 4_294_967_294 → w ≡ name_words (length reports) name.Cycle → ReportGoesOn rows (decimal 0 ∷ w ∷ [])
 cycle-opens a c v reports rows w h room words =
     let first = row.StartStopped 1 in
-    let value = (cycle_line 1 first).value in
+    let value = row_words first in
     let bounds : IsCycleRow first = (omega arith, omega arith) in
     told-opens rows w value (reports ++ last_cycle (Some first) []) [] [] room (told-cycle reports first h.told.run bounds) (cycle-are reports first bounds rows w value h.are words refl)
 
 pub cycle-taken : (a : Bool) (reports : List Report) (rows : FieldRows) (w value : List ℕ) (first : CycleRow) → IsBetween a true true reports [] [] rows → length rows + 2 ≤ 4_294_967_294 → IsCycleRow first
-    → w ≡ name_words (length reports) name.Cycle → ((y : ToldName) → IsToldName y → w ≡ name_words (length reports) y → name.Cycle ≡ y) → value ≡ (cycle_line 1 first).value → ((d : CycleRow) → IsCycleRow d → value ≡ (cycle_line 1 d).value → first ≡ d)
+    → w ≡ name_words (length reports) name.Cycle → ((y : ToldName) → IsToldName y → w ≡ name_words (length reports) y → name.Cycle ≡ y) → value ≡ row_words first → ((d : CycleRow) → IsCycleRow d → value ≡ row_words d → first ≡ d)
     → IsBetween (may_ack (Some first)) true true (reports ++ last_cycle (Some first) []) [] [] (rows ++ (decimal 0 ∷ w ∷ value ∷ []) ∷ [])
 cycle-taken a reports rows w value first h room bounds words only shows one =
     let long = length-append rows ((decimal 0 ∷ w ∷ value ∷ []) ∷ []) in

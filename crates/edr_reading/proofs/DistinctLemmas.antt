@@ -6,7 +6,7 @@ use Rattle.std.proofs.lemmas.Bool.Decides.{nat_tests}
 use Rattle.std.proofs.lemmas.Map.Keys.{IsDistinct-cons, IsDistinct-head, IsDistinct-tail}
 use Rattle.edr_image.specs.declared.Found.{Found}
 use Rattle.edr_reading.specs.Event.{HasNoBank}
-use Rattle.edr_reading.specs.Found.{banks_in}
+use Rattle.edr_reading.specs.Told.{banks_in}
 use Rattle.edr_reading.specs.Reading.{AreDistinct}
 
 pub distinct-none : (xs : List Found) → length xs ≡ 0 → AreDistinct xs

@@ -14,7 +14,7 @@ use Rattle.edr_reading.specs.declared.reader.Refused.{Refused}
 use Rattle.edr_reading.specs.declared.reader.Refused.TheVariants as refused
 use Rattle.edr_reading.specs.declared.told.CycleRow.{CycleRow}
 use Rattle.edr_reading.specs.Faults.{AreReport, IsFault, IsWrong, Opens}
-use Rattle.edr_reading.specs.Found.{count_fields}
+use Rattle.edr_reading.specs.Told.{count_fields}
 use Rattle.edr_reading.specs.Reader.{HasReadRows, IsRefused, StandsNext, cycles_read, may_ack}
 use Rattle.edr_reading.specs.Reading.{IsReading, report_rows, rows_told}
 use Rattle.edr_reading.specs.Refusals.{IsRowRefusal, refusal_of}

@@ -11,17 +11,14 @@ use Rattle.edr_image.specs.Reports.{Report, StartStopped, Ran}
 use Rattle.edr_report.specs.Report.{event_lines}
 use Rattle.edr_report.specs.Words.{applied_words, shown_count}
 use Rattle.edr_reading.specs.declared.told.CycleRow.{CycleRow}
-use Rattle.edr_reading.specs.declared.told.CycleRow.TheVariants as row
 use Rattle.edr_reading.specs.declared.told.ToldName.{ToldName}
 use Rattle.edr_reading.specs.declared.told.ToldName.TheVariants as name
 use Rattle.edr_reading.specs.Event.{EventAgrees}
-use Rattle.edr_reading.specs.Found.{IsDamaged, IsEvent, banks_in, count_fields, damaged_fields, events_fields, last_rows}
+use Rattle.edr_reading.specs.Told.{IsAck, IsCycleRow, IsDamaged, IsEvent, IsReport, IsToldName, ack_fields, acks_of, banks_in, count_fields, cycle_fields, damaged_fields, events_fields, last_rows, name_words, row_of, row_words, run_fields}
 use Rattle.edr_reading.specs.Parts.{PartsAgree}
 use Rattle.edr_record.specs.Parts.{CrashPart}
 use Rattle.edr_reading.specs.Reader.{MayFollow, MayFollowLine, may_ack}
 use Rattle.edr_reading.specs.Rows.{FieldRows, event_fields}
-use Rattle.edr_reading.specs.Run.{IsReport, ack_fields, acks_of, cycle_fields, row_of, run_fields}
-use Rattle.edr_reading.specs.Told.{IsAck, IsCycleRow, IsToldName, cycle_line, name_words}
 use Rattle.edr_reading.specs.Values.{IsApplied, IsDamagedView, view_words}
 use Rattle.edr_reading.proofs.WholeLemmas.{events-first, run-first}
 
@@ -31,7 +28,7 @@ none P = λ k d l. absurd (omega (arith, l))
 -- what a row of block 0 with this name and value says, and what follows it
 abbrev pub ToldNext : Bool → Bool → Bool → ℕ → ℕ → List ℕ → List ℕ → FieldRows → ToldName → Type 0
 ToldNext a c v cycles block banks value more name.Cycle =
-    (c ≡ true) × (first : CycleRow) × IsCycleRow first × (value ≡ (cycle_line 1 first).value) × MayFollow (may_ack (Some first)) c v (cycles + 1) block banks more
+    (c ≡ true) × (first : CycleRow) × IsCycleRow first × (value ≡ row_words first) × MayFollow (may_ack (Some first)) c v (cycles + 1) block banks more
 ToldNext a c v cycles block banks value more (name.Ack k t) =
     (a ≡ true) × (applied : Applied) × IsApplied k applied × (value ≡ applied_words applied) × MayFollow a c v cycles block banks more
 ToldNext a c v cycles block banks value more (name.Bank b) =
@@ -51,10 +48,6 @@ is-true false h = absurd (h refl)
 
 not-nil : {X : Type 0} (x : X) (xs : List X) → x ∷ xs ≡ [] → ⊥
 not-nil x xs e = cc
-
-pub cycle-row : (i : ℕ) (c : CycleRow) → cycle_fields (i + 1) c ≡ decimal 0 ∷ name_words i name.Cycle ∷ (cycle_line 1 c).value ∷ []
-cycle-row i (row.StartStopped j) = refl
-cycle-row i (row.Ran n s) = refl
 
 no-acks-of : (r : Report) → may_ack (Some (row_of r)) ≡ false → acks_of r ≡ []
 no-acks-of (StartStopped j) h = refl
@@ -99,7 +92,7 @@ next-row a c v cycles block banks r more m = by m.acks m.reports m.events m.dama
         let head : r ≡ cycle_fields (cycles + 1) (row_of k) = cc in
         let rest : more ≡ map (ack_fields (cycles + 1)) (acks_of k) ++ (run_fields (cycles + 1 + 1) reports ++ tail) = cc in
         let bounds = All-head IsReport k reports h.1 in
-        inl (name.Cycle, tt, (cycle_line 1 (row_of k)).value, head ∙ cycle-row cycles (row_of k), (is-true c (λ f. not-nil k reports (nr f)), row_of k, bounds.0, refl, record { acks = acks_of k; reports = reports; events = events; damaged = damaged; count = m.count; bounds = (bounds.1, All-tail IsReport k reports h.1, h.2, h.3); no_acks = no-acks-of k; no_reports = λ f. absurd (not-nil k reports (nr f)); no_events = ne; distinct = dis; are = rest }))
+        inl (name.Cycle, tt, row_words (row_of k), head, (is-true c (λ f. not-nil k reports (nr f)), row_of k, bounds.0, refl, record { acks = acks_of k; reports = reports; events = events; damaged = damaged; count = m.count; bounds = (bounds.1, All-tail IsReport k reports h.1, h.2, h.3); no_acks = no-acks-of k; no_reports = λ f. absurd (not-nil k reports (nr f)); no_events = ne; distinct = dis; are = rest }))
     by [] [] (k ∷ events) damaged h na nr ne dis are =
         let last = last_rows damaged m.count in
         let is : r ∷ more ≡ event_fields block k.0 k.1 ++ (events_fields (block + 1) events ++ last) = are ∙ ap (λ (x : FieldRows). x ++ last) (events-first block k events) ∙ append_assoc (event_fields block k.0 k.1) (events_fields (block + 1) events) last in

@@ -14,12 +14,10 @@ use Rattle.edr_reading.specs.declared.reader.Refused.TheVariants as refused
 use Rattle.edr_reading.specs.Event.{AcceptsEventLine, EventAgrees, IsNextEvent, event_of, event_texts}
 use Rattle.edr_reading.specs.declared.event.PartEvent.{PartEvent}
 use Rattle.edr_reading.specs.Faults.{AreReport}
-use Rattle.edr_reading.specs.Found.{IsDamaged, IsEvent, banks_in, count_fields, damaged_fields, events_fields, last_rows}
+use Rattle.edr_reading.specs.Told.{IsAck, IsDamaged, IsEvent, IsReport, banks_in, count_fields, damaged_fields, events_fields, last_rows}
 use Rattle.edr_reading.specs.Reading.{AreDistinct}
 use Rattle.edr_reading.specs.Reader.{GoesOnIn, IsBetween, IsInside, IsRefused, IsToldReport, MayFollowLine, whole}
 use Rattle.edr_reading.specs.Rows.{FieldRows, event_fields, event_names}
-use Rattle.edr_reading.specs.Told.{IsAck}
-use Rattle.edr_reading.specs.Run.{IsReport}
 use Rattle.edr_reading.proofs.BetweenLemmas.{banks-more, All-last, goes-on, refuse-1, refuse-2, refuse-3}
 use Rattle.edr_reading.proofs.DistinctLemmas.{alone, distinct-more}
 use Rattle.edr_reading.proofs.FollowLemmas.{next-row, none}

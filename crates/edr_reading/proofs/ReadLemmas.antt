@@ -32,11 +32,10 @@ use Rattle.edr_reading.specs.declared.reader.Reader.{Reader}
 use Rattle.edr_reading.specs.declared.reader.Refused.TheVariants as refused
 use Rattle.edr_reading.specs.Event.{EventAgrees, HasNoBank, IsNextEvent, event_of}
 use Rattle.edr_reading.specs.Faults.{ReportGoesOn}
-use Rattle.edr_reading.specs.Found.{IsEvent, banks_in}
+use Rattle.edr_reading.specs.Told.{IsCycleRow, IsEvent, IsToldName, banks_in, name_words, row_words}
 use Rattle.edr_reading.specs.Reader.{AddsLine, AtLine, HasReadRows, IsBetween, IsInside, IsOnlyName, IsRefused, IsToldReport, MayBegin, MayHaveEvent, MayTell, StandsNext, Takes, TakesLine, cycles_read, last_cycle, may_ack}
 use Rattle.edr_reading.specs.Reading.{AreDistinct, head_row}
 use Rattle.edr_reading.specs.Rows.{FieldRows, event_names}
-use Rattle.edr_reading.specs.Told.{IsCycleRow, IsToldName, cycle_line, name_words}
 use Rattle.edr_reading.specs.Values.{IsApplied, IsBank, IsDamage, IsDamagedView, view_words}
 use Rattle.edr_reading.proofs.BetweenLemmas.{banks-more, found-last, only-next, All-front, ack-opens, at-end, ack-taken, between-block, count-opens, count-taken, cycle-opens, cycle-taken, damaged-opens, damaged-taken, refuse-1, refuse-2, refuse-3, report-short, start-between, told-next}
 use Rattle.edr_reading.proofs.DistinctLemmas.{alone, distinct-front}
@@ -165,12 +164,12 @@ count-more : (rows : FieldRows) (row : List (List ℕ)) → length (rows ++ row 
 count-more rows row = length-append rows (row ∷ [])
 
 -- a reader has read one row more
-read-on : (r s : Reader) (rows : FieldRows) (row : List (List ℕ)) → r.rows ≡ length rows → length (cycles_read r) + length r.found.items ≤ length rows → length r.acks.items ≤ length rows → s.rows ≡ r.rows + 1
+read-on : (r s : Reader) (rows : FieldRows) (row : List (List ℕ)) → HasReadRows r rows → s.rows ≡ r.rows + 1
     → length (cycles_read s) + length s.found.items ≤ length (cycles_read r) + length r.found.items + 1 → length s.acks.items ≤ length r.acks.items + 1 → length rows + 1 ≤ 4_294_967_294 → (s.last ≡ None → s.run.items ≡ [])
     → StandsNext s.next s.last (cycles_read s) s.found.items (rows ++ row ∷ []) → HasReadRows s (rows ++ row ∷ [])
-read-on r s rows row count few few_acks one more more_acks short first stands =
+read-on r s rows row h one more more_acks short first stands =
     let long = count-more rows row in
-    record { count = omega (arith, long); few = omega (arith, long); few_acks = omega (arith, long); short = omega (arith, long); first = first; stands = stands }
+    record { count = omega (arith, h.count, h.few, h.few_acks, long); few = omega (arith, h.count, h.few, h.few_acks, long); few_acks = omega (arith, h.count, h.few, h.few_acks, long); short = omega (arith, h.count, h.few, h.few_acks, long); first = first; stands = stands }
 
 cycles-same : (r s : Reader) → s.run.items ≡ r.run.items → s.last ≡ r.last → s.acks.items ≡ r.acks.items → cycles_read s ≡ cycles_read r
 cycles-same r s a b c = ap₂ (λ (x y : List Report). x ++ y) (ap (map report_of) a) (ap₂ last_cycle b c)
@@ -185,7 +184,7 @@ pub head-read : (r s : Reader) (rows : FieldRows) (row : List (List ℕ)) → Ha
 head-read r s rows row h e is one run last acks found after =
     let t = at-head r rows h e in
     let cycles = cycles-same r s run last acks in
-    read-on r s rows row h.count h.few h.few_acks one (omega (arith, ap length cycles, ap length found)) (omega (arith, ap length acks)) (omega (arith, ap length t.3)) (λ z. run ∙ h.first (sym last ∙ z))
+    read-on r s rows row h one (omega (arith, ap length cycles, ap length found)) (omega (arith, ap length acks)) (omega (arith, ap length t.3)) (λ z. run ∙ h.first (sym last ∙ z))
     (stands-as s.next next.Run s.last None (cycles_read s) [] s.found.items [] _ after (last ∙ t.0) (cycles ∙ t.1) (found ∙ t.2)
     (refl, subst (IsBetween false true true [] [] []) (sym (ap₂ (λ (x : FieldRows) (y : List (List ℕ)). x ++ y ∷ []) t.3 is)) start-between))
 
@@ -201,7 +200,7 @@ count-read r s rows w value n h o shows one run last acks found after =
     let long = count-more rows (decimal 0 ∷ w ∷ value ∷ []) in
     let cycles = cycles-same r s run last acks in
     let t = count-taken m.acks m.cycles m.events (cycles_read r) m.es m.ds rows w value n m.at m.few o.words o.only shows in
-    read-on r s rows _ h.count h.few h.few_acks one (omega (arith, ap length cycles, ap length found)) (omega (arith, ap length acks)) m.at.short (λ e. run ∙ h.first (sym last ∙ e))
+    read-on r s rows _ h one (omega (arith, ap length cycles, ap length found)) (omega (arith, ap length acks)) m.at.short (λ e. run ∙ h.first (sym last ∙ e))
     (stands-as s.next (next.Nothing n) s.last s.last (cycles_read s) (cycles_read r) s.found.items r.found.items _ after refl cycles found (m.es, m.ds, m.found, m.at.told, t.0, omega (arith, m.at.short, long), t.1))
 
 pub count-not-read : (r : Reader) (rows : FieldRows) (w value : List ℕ) → HasReadRows r rows → IsOnlyName r w name.Count → ((n : ℕ) → value ≡ shown_count n → ⊥) → IsRefused rows (decimal 0 ∷ w ∷ value ∷ []) (refused.Field 3)
@@ -220,7 +219,7 @@ damaged-read r s rows w value bank view h o ok shows one run last acks found aft
     let room : length rows + 2 ≤ 4_294_967_294 = omega (arith, h.count, o.may.0) in
     let t = damaged-taken m.acks m.cycles m.events (cycles_read r) m.es m.ds rows w bank m.at m.few room o.bounds free o.words value view ok o.only shows in
     let found-long = length-append r.found.items (d ∷ []) in
-    read-on r s rows _ h.count h.few h.few_acks one (omega (arith, ap length cycles, ap length found, found-long)) (omega (arith, ap length acks)) m.at.short (λ e. run ∙ h.first (sym last ∙ e))
+    read-on r s rows _ h one (omega (arith, ap length cycles, ap length found, found-long)) (omega (arith, ap length acks)) m.at.short (λ e. run ∙ h.first (sym last ∙ e))
     (stands-as s.next next.Damaged s.last s.last (cycles_read s) (cycles_read r) s.found.items (r.found.items ++ d ∷ []) _ after refl cycles found
     (m.es, m.ds ++ d ∷ [], ap (λ (x : List Found). x ++ d ∷ []) m.found ∙ append_assoc (map found_event m.es) m.ds (d ∷ []), t))
 
@@ -235,7 +234,7 @@ damaged-not-read r rows w value bank h o never =
 in-run : (r : Reader) (rows : FieldRows) → HasReadRows r rows → r.next ≡ next.Run → (r.found.items ≡ []) × IsBetween (may_ack r.last) true true (cycles_read r) [] [] rows
 in-run r rows h e = subst (λ (n : NextRow). StandsNext n r.last (cycles_read r) r.found.items rows) e h.stands
 
-pub cycle-read : (r s : Reader) (rows : FieldRows) (w value : List ℕ) (first : CycleRow) → HasReadRows r rows → IsOnlyName r w name.Cycle → IsCycleRow first → value ≡ (cycle_line 1 first).value → ((d : CycleRow) → IsCycleRow d → value ≡ (cycle_line 1 d).value → first ≡ d)
+pub cycle-read : (r s : Reader) (rows : FieldRows) (w value : List ℕ) (first : CycleRow) → HasReadRows r rows → IsOnlyName r w name.Cycle → IsCycleRow first → value ≡ row_words first → ((d : CycleRow) → IsCycleRow d → value ≡ row_words d → first ≡ d)
     → s.rows ≡ r.rows + 1 → map report_of s.run.items ≡ cycles_read r → s.last ≡ Some first → s.acks.items ≡ [] → s.found.items ≡ r.found.items → s.next ≡ r.next → HasReadRows s (rows ++ (decimal 0 ∷ w ∷ value ∷ []) ∷ [])
 cycle-read r s rows w value first h o ok shows one-first one run last acks found after =
     let b = in-run r rows h o.may.1 in
@@ -244,14 +243,14 @@ cycle-read r s rows w value first h o ok shows one-first one run last acks found
     let t = cycle-taken (may_ack r.last) (cycles_read r) rows w value first b.1 room ok o.words o.only shows one-first in
     let cycles-long = length-append (cycles_read r) (last_cycle (Some first) []) in
     let one-long : length (last_cycle (Some first) []) ≡ 1 = one-cycle first in
-    read-on r s rows _ h.count h.few h.few_acks one (omega (arith, ap length cycles, ap length found, cycles-long, one-long)) (omega (arith, ap length acks)) (omega (arith, room)) (λ e. absurd (let f : Some first ≡ None = sym last ∙ e in cc))
+    read-on r s rows _ h one (omega (arith, ap length cycles, ap length found, cycles-long, one-long)) (omega (arith, ap length acks)) (omega (arith, room)) (λ e. absurd (let f : Some first ≡ None = sym last ∙ e in cc))
     (stands-as s.next next.Run s.last (Some first) (cycles_read s) (cycles_read r ++ last_cycle (Some first) []) s.found.items [] _ (after ∙ o.may.1) last cycles (found ∙ b.0) (refl, t))
   where
     one-cycle : (c : CycleRow) → length (last_cycle (Some c) []) ≡ 1
     one-cycle (row.StartStopped j) = refl
     one-cycle (row.Ran n s) = refl
 
-pub cycle-not-read : (r : Reader) (rows : FieldRows) (w value : List ℕ) → HasReadRows r rows → IsOnlyName r w name.Cycle → ((d : CycleRow) → IsCycleRow d → value ≡ (cycle_line 1 d).value → ⊥) → IsRefused rows (decimal 0 ∷ w ∷ value ∷ []) (refused.Field 3)
+pub cycle-not-read : (r : Reader) (rows : FieldRows) (w value : List ℕ) → HasReadRows r rows → IsOnlyName r w name.Cycle → ((d : CycleRow) → IsCycleRow d → value ≡ row_words d → ⊥) → IsRefused rows (decimal 0 ∷ w ∷ value ∷ []) (refused.Field 3)
 cycle-not-read r rows w value h o never =
     let b = in-run r rows h o.may.1 in
     let room : length rows + 2 ≤ 4_294_967_294 = omega (arith, h.count, o.may.0) in
@@ -289,7 +288,7 @@ ack-read r s rows w value kind tick applied h o ok shows one run last acks found
     (λ y g e. o.only y g (e ∙ ap (λ (x : List Report). name_words (length x) y) (sym b.3))) shows in
     let l1 = length-append done (Ran b.0 b.1 (r.acks.items ++ k ∷ []) ∷ []) in
     let l2 = length-append done (Ran b.0 b.1 r.acks.items ∷ []) in
-    read-on r s rows _ h.count h.few h.few_acks one (omega (arith, ap length cycles, ap length b.3, ap length found, l1, l2)) (omega (arith, ap length acks, acks-long)) (omega (arith, room)) (λ e. absurd (let f : Some (row.Ran b.0 b.1) ≡ None = sym last-is ∙ e in cc))
+    read-on r s rows _ h one (omega (arith, ap length cycles, ap length b.3, ap length found, l1, l2)) (omega (arith, ap length acks, acks-long)) (omega (arith, room)) (λ e. absurd (let f : Some (row.Ran b.0 b.1) ≡ None = sym last-is ∙ e in cc))
     (stands-as s.next next.Run s.last (Some (row.Ran b.0 b.1)) (cycles_read s) (done ++ Ran b.0 b.1 (r.acks.items ++ k ∷ []) ∷ []) s.found.items [] _ (after ∙ o.may.1) last-is cycles (found ∙ b.4) (refl, t))
 
 pub ack-not-read : (r : Reader) (rows : FieldRows) (w value : List ℕ) (kind : Kind) (tick : ℕ) → HasReadRows r rows → IsOnlyName r w (name.Ack kind tick) → ((applied : Applied) → IsApplied kind applied → value ≡ applied_words applied → ⊥) → IsRefused rows (decimal 0 ∷ w ∷ value ∷ []) (refused.Field 3)
@@ -329,7 +328,7 @@ first-at r rows e h m bank free ok = ⊎_elim
     m.0
   where
     at : (es : List (ℕ × Record)) → r.found.items ≡ map found_event es → IsInside 0 e (cycles_read r) es rows → AtLine r 0 e rows
-    at es found inside = record { count = h.count; few = h.few; few_acks = h.few_acks; first = h.first; events = es; found = found; inside = inside }
+    at es found inside = record { read = h; events = es; found = found; inside = inside }
 
     event-next : (es : List (ℕ × Record)) → r.found.items ≡ map found_event es → IsNextEvent (map found_event es) e
     event-next es found = record { bank = bank; alone = subst (λ (x : List Found). HasNoBank x e.0) found free; record_bounds = ok }
@@ -404,7 +403,7 @@ module _ (r : Reader) (k : ℕ) (e : ℕ × Record) (block : ℕ) (b w v : List 
       long = count-more rows (decimal (length a.events + 1) ∷ w ∷ v ∷ [])
 
       on : length (cycles_read s) + length s.found.items ≤ length (cycles_read r) + length r.found.items + 1 → length rows + 1 ≤ 4_294_967_294 → StandsNext s.next s.last (cycles_read s) s.found.items now → HasReadRows s now
-      on more short stands = read-on r s rows (decimal (length a.events + 1) ∷ w ∷ v ∷ []) a.count a.few a.few_acks adds.count more (omega (arith, ap length adds.acks)) short (λ z. adds.run ∙ a.first (sym adds.last ∙ z)) stands
+      on more short stands = read-on r s rows (decimal (length a.events + 1) ∷ w ∷ v ∷ []) a.read adds.count more (omega (arith, ap length adds.acks)) short (λ z. adds.run ∙ a.read.first (sym adds.last ∙ z)) stands
 
       goes : k + 1 < 29 → HasReadRows s now
       goes less =

@@ -13,9 +13,8 @@ use Rattle.edr_report.specs.Lines.{Line, line}
 use Rattle.edr_report.specs.Words.{shown_count}
 use Rattle.edr_report.specs.Report.{report_lines, run_lines, events_lines, found_record, found_records, damaged_lines}
 use Rattle.edr_reading.specs.Values.{IsDamagedView}
-use Rattle.edr_reading.specs.Found.{IsDamaged, events_fields, last_rows, damaged_fields, count_fields}
+use Rattle.edr_reading.specs.Told.{IsDamaged, count_fields, damaged_fields, events_fields, last_rows, run_fields}
 use Rattle.edr_reading.specs.Rows.{line_fields}
-use Rattle.edr_reading.specs.Run.{run_fields}
 use Rattle.edr_reading.specs.Reading.{head_row, report_rows}
 
 no-record : (b : ℕ) (v : BankView) → IsDamagedView v → found_record b v ≡ None

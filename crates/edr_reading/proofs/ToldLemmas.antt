@@ -9,11 +9,11 @@ use Rattle.edr_reading.proofs.FrontLemmas.{first-digit, numeral-digits}
 use Rattle.edr_reading.specs.declared.told.CycleRow.{CycleRow}
 use Rattle.edr_reading.specs.declared.told.CycleRow.TheVariants.{StartStopped, Ran}
 use Rattle.edr_reading.specs.Front.{IsFromTo}
-use Rattle.edr_reading.specs.Told.{cycle_line, row_words, IsCycleRow}
+use Rattle.edr_reading.specs.Told.{IsCycleRow, row_words}
 use Rattle.edr_reading.specs.Values.{IsRan, ran_words, start_words}
 
 -- a value that tells of a stopped start tells of no other cycle
-pub start-whole : (bytes : List ℕ) (call : ℕ) (r : CycleRow) → ((j : ℕ) → IsFromTo 1 6 j → bytes ≡ start_words j → Some call ≡ Some j) → bytes ≡ start_words call → IsCycleRow r → bytes ≡ (cycle_line 1 r).value
+pub start-whole : (bytes : List ℕ) (call : ℕ) (r : CycleRow) → ((j : ℕ) → IsFromTo 1 6 j → bytes ≡ start_words j → Some call ≡ Some j) → bytes ≡ start_words call → IsCycleRow r → bytes ≡ row_words r
     → Some (StartStopped call) ≡ Some r
 start-whole bytes call (StartStopped j) whole read h is = let e = whole j h is in cc
 start-whole bytes call (Ran n stop) whole read h is =

@@ -13,8 +13,7 @@ use Rattle.edr_report.specs.Report.{ack_line, cycle_lines, run_lines, event_line
 use Rattle.edr_report.proofs.PrintedLemmas.{numbered-more}
 use Rattle.edr_reading.specs.declared.told.CycleRow.TheVariants as row
 use Rattle.edr_reading.specs.Rows.{FieldRows, event_fields, line_fields}
-use Rattle.edr_reading.specs.Run.{ack_fields, cycle_fields, run_fields, row_of, acks_of}
-use Rattle.edr_reading.specs.Found.{IsDamaged, events_fields, damaged_fields, count_fields}
+use Rattle.edr_reading.specs.Told.{IsDamaged, ack_fields, acks_of, count_fields, cycle_fields, damaged_fields, events_fields, row_of, run_fields}
 use Rattle.edr_reading.specs.Reading.{AreDistinct, IsReading, head_row, report_rows}
 use Rattle.edr_reading.specs.Reader.{IsToldReport, whole}
 use Rattle.edr_reading.specs.Faults.{AreReport}

@@ -1,8 +1,6 @@
 -- Numbers and other words in front of bytes, and what may stand after them.
-use Rattle.std.specs.Prelude.{ℤ, ◌≡◌, ◌≤◌, ◌<◌, ◌^◌, ℕ, false, ⊤, Option, IfSome, List, [], ◌∷◌, ◌++◌, decimal}
-use Rattle.std.specs.Fmt.{signed_decimal}
+use Rattle.std.specs.Prelude.{◌≡◌, ◌≤◌, ◌<◌, ◌^◌, ℕ, false, ⊤, Option, IfSome, List, [], ◌∷◌, ◌++◌, decimal}
 use denote.Ref.{Bor}
-use Rattle.edr_record.specs.Bounds.{IsChange}
 use Rattle.edr_text.specs.Numbers.{is_digit}
 use Rattle.edr_reading.specs.Answers.{GivesValue}
 

@@ -6,8 +6,6 @@ pub mod Rows
 pub mod Answers
 pub mod Event
 pub mod Told
-pub mod Run
-pub mod Found
 pub mod Reading
 pub mod Faults
 pub mod Reader

@@ -16,11 +16,9 @@ use Rattle.edr_reading.specs.declared.told.CycleRow.{CycleRow}
 use Rattle.edr_reading.specs.declared.told.CycleRow.TheVariants as row
 use Rattle.edr_reading.specs.Event.{EventAgrees, HasNoBank, HasNoneFree, event_of}
 use Rattle.edr_reading.specs.Faults.{AreReport, IsWrong}
-use Rattle.edr_reading.specs.Found.{IsDamaged, IsEvent, banks_in, count_fields, damaged_fields, events_fields, last_rows}
+use Rattle.edr_reading.specs.Told.{IsAck, IsDamaged, IsEvent, IsReport, IsToldName, ack_fields, banks_in, count_fields, damaged_fields, events_fields, last_rows, name_words, run_fields}
 use Rattle.edr_reading.specs.Reading.{AreDistinct, head_row}
 use Rattle.edr_reading.specs.Rows.{FieldRows, event_fields}
-use Rattle.edr_reading.specs.Run.{IsReport, ack_fields, run_fields}
-use Rattle.edr_reading.specs.Told.{IsAck, IsToldName, name_words}
 use Rattle.edr_reading.specs.Values.{IsBank}
 use Rattle.edr_reading.specs.declared.event.PartEvent.{PartEvent}
 use Rattle.edr_reading.specs.declared.event.TheConstants.{EVENT_ROWS}
@@ -186,10 +184,7 @@ pub record FindsBank (r : Reader) (result : Option ℕ) : Type 0 where
 
 -- the reader has read these rows, and this line of an event may be next
 pub record AtLine (r : Reader) (k : ℕ) (e : ℕ × Record) (rows : FieldRows) : Type 0 where
-  pub count : r.rows ≡ length rows
-  pub few : length (cycles_read r) + length r.found.items ≤ length rows
-  pub few_acks : length r.acks.items ≤ length rows
-  pub first : r.last ≡ None → r.run.items ≡ []
+  pub read : HasReadRows r rows
   pub events : List (ℕ × Record)
   pub found : r.found.items ≡ map found_event events
   pub inside : IsInside k e (cycles_read r) events rows

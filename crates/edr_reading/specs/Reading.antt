@@ -7,9 +7,8 @@ use Rattle.edr_image.specs.Banks.{found_event}
 use Rattle.edr_image.specs.Reports.{Report, report_of}
 use Rattle.edr_report.specs.Report.{report_lines}
 use Rattle.edr_reading.specs.declared.reading.Reading.{Reading}
-use Rattle.edr_reading.specs.Found.{IsEvent, IsDamaged}
+use Rattle.edr_reading.specs.Told.{IsDamaged, IsEvent, IsReport}
 use Rattle.edr_reading.specs.Rows.{FieldRows, line_fields}
-use Rattle.edr_reading.specs.Run.{IsReport}
 
 -- the row that names the columns
 abbrev pub head_row : List (List ℕ)

@@ -1,10 +1,10 @@
 -- Which values a report may show, where the parts of a record don't say it.
-use Rattle.std.specs.Prelude.{ℕ, ◌≡◌, ◌≤◌, ◌-◌, ◌⊎◌, Bool, Option, IfSome, IsSome, List, [], ◌++◌, codes, decimal}
+use Rattle.std.specs.Prelude.{ℕ, ◌≡◌, ◌≤◌, ◌-◌, ◌⊎◌, Option, IfSome, IsSome, List, [], ◌++◌, codes, decimal}
 use Rattle.edr_items.specs.declared.TheConstants.{LATEST_MOMENT}
 use Rattle.edr_image.specs.declared.places.TheConstants.{BANK_SIZE, MOST_BANKS}
 use Rattle.edr_image.specs.declared.BankView.{BankView}
 use Rattle.edr_image.specs.declared.BankView.TheVariants.{Void, Event, Damaged}
-use Rattle.edr_report.specs.Words.{damage_words, kind_word, stop_words, yes_no}
+use Rattle.edr_report.specs.Words.{damage_words, kind_word, stop_words}
 use Rattle.edr_image.specs.declared.Kind.{Kind}
 use Rattle.edr_image.specs.declared.Kind.TheVariants as kind
 use Rattle.edr_image.specs.declared.Applied.{Applied}
