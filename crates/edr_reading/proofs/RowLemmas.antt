@@ -8,14 +8,14 @@ use Rattle.edr_record.specs.Bounds.{IsCrash}
 use Rattle.edr_record.specs.Complete.{is_complete}
 use Rattle.edr_record.specs.Parts.{PrePart, CrashPart}
 use Rattle.edr_report.specs.EventWords.{event_words}
-use Rattle.edr_report.specs.Report.{event_lines}
-use Rattle.edr_report.specs.Words.{yes_no, milliseconds, firing_words, points_words, extreme_words, missing_words}
+use Rattle.edr_report.specs.Report.{event_line, event_lines}
+use Rattle.edr_report.specs.Words.{yes_no, firing_words}
 use Rattle.edr_report.specs.declared.event_lines.EventLine.{EventLine}
 use Rattle.edr_report.specs.declared.event_lines.EventLine.TheVariants.{Number}
 use Rattle.edr_report.specs.declared.event_lines.TheConstants.{LINES_OF_EVENT}
 use Rattle.edr_reading.specs.Event.{event_place, event_texts}
-use Rattle.edr_reading.specs.Parts.{IsRecord, pre_texts}
-use Rattle.edr_reading.specs.Rows.{FieldRows, Texts, event_fields, event_names}
+use Rattle.edr_reading.specs.Parts.{IsRecord, first_texts, pre_texts}
+use Rattle.edr_reading.specs.Rows.{FieldRows, Texts, event_fields, event_names, line_fields}
 
 -- rows of a block with these names and values
 abbrev pub block_fields : List ℕ → Texts → Texts → FieldRows
@@ -35,9 +35,7 @@ event-named b bank r h = by r.pre r.locked r.crash h.crash
     by p l None k = refl
     by p l (Some c) k =
         let s : Record = record { pre = p; locked = l; crash = Some c } in
-        let front : Texts = decimal b ∷ decimal bank ∷ pre_texts p l in
-        let back : Texts = milliseconds c.end ∷ points_words c.end c.along ∷ points_words c.end c.across ∷ extreme_words c.max_along ∷ extreme_words c.max_across ∷ milliseconds c.result_at ∷ missing_words c.missing_along c.missing_across ∷ [] in
-        ap (λ (x : Texts). block_fields (decimal b) event_names (front ++ ((back ++ x) ++ yes_no (is_complete s) ∷ []))) (firings c k)
+        ap (λ (x : Texts). block_fields (decimal b) event_names (decimal b ∷ decimal bank ∷ (pre_texts p l ++ ((first_texts c ++ x) ++ yes_no (is_complete s) ∷ [])))) (firings c k)
 
 pub event-long : (b bank : ℕ) (r : Record) → length (event_fields b bank r) ≡ 29
 unfolding event_lines
@@ -86,4 +84,10 @@ line-place k h = below-at 29 (λ j. event_place (get_or lines j Number) ≡ j) (
 -- the row of a line
 pub row-at : (b : ℕ) (e : ℕ × Record) (k : ℕ) → k < 29 → get_or (event_fields b e.0 e.1) k [] ≡ decimal b ∷ get_or event_names k [] ∷ event_words b e.0 e.1 (get_or lines k Number) ∷ []
 unfolding event_lines
-row-at b e k small = below-at 29 (λ j. get_or (event_fields b e.0 e.1) j [] ≡ decimal b ∷ get_or event_names j [] ∷ event_words b e.0 e.1 (get_or lines j Number) ∷ []) (refl, (refl, (refl, (refl, (refl, (refl, (refl, (refl, (refl, (refl, (refl, (refl, (refl, (refl, (refl, (refl, (refl, (refl, (refl, (refl, (refl, (refl, (refl, (refl, (refl, (refl, (refl, (refl, (refl, tt))))))))))))))))))))))))))))) k small
+row-at b e k small = by (λ l. l.0.now) (λ l. l.1) LINES_OF_EVENT k small
+  where
+    by : {X : Type 0} (name : X → List ℕ) (what : X → EventLine) (ls : List X) (j : ℕ) → j < length ls
+        → get_or (map line_fields (map (λ l. event_line b e.0 e.1 (name l) (what l)) ls)) j [] ≡ decimal b ∷ get_or (map name ls) j [] ∷ event_words b e.0 e.1 (get_or (map what ls) j Number) ∷ []
+    by name what [] j h = absurd (omega (arith, h))
+    by name what (l ∷ ls) zero h = refl
+    by name what (l ∷ ls) (suc j) h = by name what ls j (omega (arith, h))

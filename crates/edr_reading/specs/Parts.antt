@@ -1,5 +1,5 @@
 -- What the lines of the two parts of a record show and fix.
-use Rattle.std.specs.Prelude.{◌≡◌, ◌≤◌, ◌+◌, ℕ, Bool, List, [], ◌∷◌, All, length, map, take, IfSome, MatchOption, Option, None, Some, ⊤, replicate}
+use Rattle.std.specs.Prelude.{◌≡◌, ◌≤◌, ◌+◌, ℕ, Bool, List, [], ◌∷◌, ◌++◌, All, length, map, take, IfSome, MatchOption, Option, None, Some, ⊤, replicate}
 use Rattle.edr_record.specs.Parts.{PrePart, CrashPart}
 use Rattle.edr_record.specs.Bounds.{IsPre, IsCrash, IsUpTo, slots_in}
 use Rattle.edr_record.specs.Fields.{profile_of_slots, speed_of, throttle_of, brake_of}
@@ -12,7 +12,7 @@ use Rattle.edr_report.specs.declared.event_lines.CrashLine.{CrashLine}
 use Rattle.edr_report.specs.declared.event_lines.CrashLine.TheVariants as crash
 use Rattle.std.specs.Option.{option_map_or}
 use Rattle.edr_report.specs.EventWords.{crash_words, place_of, pre_words}
-use Rattle.edr_report.specs.Words.{none_word, yes_no, profile_word, number_or_none, switch_or_none, milliseconds, firing_words, shown_count, events_in_crash, time_between, spaced_words, points_words, extreme_words, missing_words}
+use Rattle.edr_report.specs.Words.{none_word, events_in_crash, firing_words}
 use Rattle.edr_reading.specs.Rows.{Texts}
 use Rattle.edr_reading.specs.declared.pre.PreSoFar.{PreSoFar}
 
@@ -66,19 +66,7 @@ pre_place pre.Lamp = 10
 
 -- what the lines show, in their order
 abbrev pub pre_texts : PrePart → Bool → Texts
-pre_texts p locked =
-    shown_count p.key.cycle
-    ∷ milliseconds p.key.zero
-    ∷ events_in_crash p.place
-    ∷ time_between p.place
-    ∷ yes_no locked
-    ∷ profile_word p.profile
-    ∷ spaced_words (map number_or_none p.speed)
-    ∷ spaced_words (map number_or_none p.throttle)
-    ∷ spaced_words (map switch_or_none p.brake)
-    ∷ switch_or_none p.belt
-    ∷ switch_or_none p.lamp
-    ∷ []
+pre_texts p locked = map (pre_words p locked) (pre.Cycle ∷ pre.TimeZero ∷ pre.Events ∷ pre.Between ∷ pre.Deployment ∷ pre.Profile ∷ pre.Speed ∷ pre.Throttle ∷ pre.Brake ∷ pre.Belt ∷ pre.Lamp ∷ [])
 
 -- two parts have the same in what the first k lines fix of those after them
 pub record PreAgrees (k : ℕ) (p q : PrePart) : Type 0 where
@@ -108,18 +96,13 @@ crash_place crash.ResultAt = 5
 crash_place crash.Missing = 6
 crash_place (crash.Fired r) = 7 + place_of r
 
--- what the lines show, in their order
+-- what the lines before those of the restraints show, in their order, and what all of them do
+abbrev pub first_texts : CrashPart → Texts
+first_texts c = map (crash_words c) (crash.End ∷ crash.Along ∷ crash.Across ∷ crash.MaxAlong ∷ crash.MaxAcross ∷ crash.ResultAt ∷ crash.Missing ∷ [])
+
 abbrev pub crash_texts : Option CrashPart → Texts
 crash_texts None = replicate 15 none_word
-crash_texts (Some c) =
-    milliseconds c.end
-    ∷ points_words c.end c.along
-    ∷ points_words c.end c.across
-    ∷ extreme_words c.max_along
-    ∷ extreme_words c.max_across
-    ∷ milliseconds c.result_at
-    ∷ missing_words c.missing_along c.missing_across
-    ∷ map firing_words c.fired
+crash_texts (Some c) = first_texts c ++ map firing_words c.fired
 
 -- what a line shows where the part may be absent
 abbrev pub part_words : Option CrashPart → CrashLine → List ℕ

@@ -1,25 +1,19 @@
-use Rattle.std.proofs.Common.{rules, [], ◌≡◌, ◌∙◌, sym, ap, ℕ, ◌+◌, ◌∷◌, Option, Some, map, set, take}
+use Rattle.std.proofs.Common.{rules, ◌≡◌, sym, ℕ, ◌++◌, Option, Some, map, set, take}
 use Rattle.edr_record.specs.Parts.{CrashPart}
 use Rattle.edr_record.specs.Fields.{crash_part_of}
 use Rattle.edr_report.specs.declared.event_lines.CrashLine.{CrashLine}
 use Rattle.edr_report.specs.declared.event_lines.CrashLine.TheVariants.{Fired}
 use Rattle.edr_report.specs.declared.event_lines.Restraint.{Restraint}
 use Rattle.edr_report.specs.EventWords.{place_of}
-use Rattle.edr_report.specs.Words.{milliseconds, points_words, extreme_words, missing_words, firing_words}
-use Rattle.edr_reading.specs.Parts.{crash_place, crash_texts}
+use Rattle.edr_report.specs.Words.{firing_words}
+use Rattle.edr_reading.specs.Parts.{crash_place, crash_texts, first_texts}
 use Rattle.edr_reading.proofs.PartLemmas.{front-before, set-before}
 use Rattle.edr_reading.proofs.crash.crash_line.Goals as goal
 use Rattle.edr_reading.proofs.crash.crash_line.Goals.{in-End+in_ok-end_time-in-End, in-Along+in_ok-read-inside-in-Along, in-Across+in_ok-read-inside-in-Across, in-MaxAlong+in_ok-read-inside-in-MaxAlong, in-MaxAcross+in_ok-read-inside-in-MaxAcross, in-ResultAt+in_ok-read-inside-in-ResultAt, in-Missing+in_ok-along-in-Missing, in-Fired+in_ok-read-inside-in-Fired}
 
-fired-earlier : (c d : CrashPart) (line : CrashLine) (r : Restraint) (k : ℕ) (x : Option ℕ) → line ≡ Fired r → k ≡ place_of r → d ≡ c
-    → take (crash_place line) (milliseconds c.end ∷ points_words c.end c.along ∷ points_words c.end c.across ∷ extreme_words c.max_along ∷ extreme_words c.max_across ∷ milliseconds c.result_at ∷ missing_words c.missing_along c.missing_across ∷ map firing_words (set c.fired k x))
-    ≡ take (crash_place line) (crash_texts (Some d))
+fired-earlier : (c d : CrashPart) (line : CrashLine) (r : Restraint) (k : ℕ) (x : Option ℕ) → line ≡ Fired r → k ≡ place_of r → d ≡ c → take (crash_place line) (first_texts c ++ map firing_words (set c.fired k x)) ≡ take (crash_place line) (crash_texts (Some d))
 fired-earlier c d line r k x is at same =
-    ap (λ (l : CrashLine). take (crash_place l) (milliseconds c.end ∷ points_words c.end c.along ∷ points_words c.end c.across ∷ extreme_words c.max_along ∷ extreme_words c.max_across ∷ milliseconds c.result_at ∷ missing_words c.missing_along c.missing_across ∷ map firing_words (set c.fired k x))) is
-    ∙ ap (λ (j : ℕ). take (7 + place_of r) (milliseconds c.end ∷ points_words c.end c.along ∷ points_words c.end c.across ∷ extreme_words c.max_along ∷ extreme_words c.max_across ∷ milliseconds c.result_at ∷ missing_words c.missing_along c.missing_across ∷ map firing_words (set c.fired j x))) at
-    ∙ front-before (milliseconds c.end ∷ points_words c.end c.along ∷ points_words c.end c.across ∷ extreme_words c.max_along ∷ extreme_words c.max_across ∷ milliseconds c.result_at ∷ missing_words c.missing_along c.missing_across ∷ []) (map firing_words (set c.fired (place_of r) x)) (map firing_words c.fired) (place_of r) (set-before firing_words c.fired (place_of r) x)
-    ∙ sym (ap (λ (e : CrashPart). take (7 + place_of r) (crash_texts (Some e))) same)
-    ∙ sym (ap (λ (l : CrashLine). take (crash_place l) (crash_texts (Some d))) is)
+    rw (is, at, same) (front-before (first_texts c) (map firing_words (set c.fired (place_of r) x)) (map firing_words c.fired) (place_of r) (set-before firing_words c.fired (place_of r) x))
 
 pub returns : goal.returns
 returns c = elim c.match-line.branch [
