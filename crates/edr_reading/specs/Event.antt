@@ -9,16 +9,13 @@ use Rattle.edr_report.specs.EventWords.{event_words}
 use Rattle.edr_report.specs.Words.{yes_no}
 use Rattle.edr_reading.specs.declared.event.PartEvent.{PartEvent}
 use Rattle.edr_reading.specs.declared.event.TheConstants.{EVENT_ROWS}
-use Rattle.edr_reading.specs.Parts.{IsRecord, PartsAgree, PreAgrees, AcceptsLine, crash_place, crash_texts, pre_of, pre_place, pre_texts}
+use Rattle.edr_reading.specs.Parts.{IsRecord, PartsAgree, PreAgrees, AcceptsLine, crash_place, crash_texts, pre_place, pre_texts}
 use Rattle.edr_reading.specs.Rows.{Texts}
 use Rattle.edr_reading.specs.Values.{IsBank}
 
--- the record and the event of what was read so far
-abbrev pub record_of : PartEvent → Record
-record_of e = record { pre = pre_of e.pre; locked = e.pre.locked; crash = e.crash }
-
+-- the event of what was read so far
 abbrev pub event_of : PartEvent → ℕ × Record
-event_of e = (e.bank, record_of e)
+event_of e = (e.bank, e.record)
 
 -- none of these banks is this one
 abbrev pub HasNoBank : List Found → ℕ → Type 0

@@ -14,7 +14,6 @@ use Rattle.std.specs.Option.{option_map_or}
 use Rattle.edr_report.specs.EventWords.{crash_words, place_of, pre_words}
 use Rattle.edr_report.specs.Words.{none_word, events_in_crash, firing_words}
 use Rattle.edr_reading.specs.Rows.{Texts}
-use Rattle.edr_reading.specs.declared.pre.PreSoFar.{PreSoFar}
 
 -- ---- a line
 
@@ -27,19 +26,6 @@ pub record AcceptsLine {A B : Type 0} (view : B → A) (ok : A → Type 0) (text
   pub whole : (f : A) → ok f → agree k (view old) f → value ≡ words f → MatchOption result ⊥ (λ new. agree (k + 1) (view new) f)
 
 -- ---- before time zero
-
--- the pre part of what was read so far
-abbrev pub pre_of : PreSoFar → PrePart
-pre_of p = record {
-  key = p.key;
-  place = p.place;
-  profile = profile_of_slots p.slots;
-  speed = speed_of p.slots;
-  throttle = throttle_of p.slots;
-  brake = brake_of p.slots;
-  belt = p.belt;
-  lamp = p.lamp;
-}
 
 -- slots of this profile within their bounds
 pub record AreSlots (f : Profile) (s : Slots) : Type 0 where
@@ -79,9 +65,9 @@ pub record PreAgrees (k : ℕ) (p q : PrePart) : Type 0 where
   pub lamp : 11 ≤ k → p.lamp ≡ q.lamp
 
 -- a line of it is taken
-abbrev pub AcceptsPreLine : PreLine → List ℕ → PreSoFar → Option PreSoFar → Type 0
+abbrev pub AcceptsPreLine : PreLine → List ℕ → PrePart × Bool → Option (PrePart × Bool) → Type 0
 AcceptsPreLine l value old result =
-    AcceptsLine {A = PrePart × Bool} (λ p. (pre_of p, p.locked)) (λ q. IsPre q.0) (λ q. pre_texts q.0 q.1) (λ k p q. PreAgrees k p.0 q.0) (λ q. pre_words q.0 q.1 l) (pre_place l) value old result
+    AcceptsLine {A = PrePart × Bool} (λ p. p) (λ q. IsPre q.0) (λ q. pre_texts q.0 q.1) (λ k p q. PreAgrees k p.0 q.0) (λ q. pre_words q.0 q.1 l) (pre_place l) value old result
 
 -- ---- after time zero
 

@@ -4,18 +4,18 @@ ghost use Rattle.std.specs.Prelude.{◌≡◌, ◌<◌, [], ⊤, length, slice_i
 ghost use Rattle.std.specs.Bool.{MatchBool};
 ghost use Rattle.edr_report.specs.Words.{yes_no};
 ghost use Rattle.edr_reading.specs.Answers.{TellsWhether};
-ghost use Rattle.edr_reading.specs.Event.{HasNoBank, IsNextEvent, event_of, record_of, HasNoneFree, AcceptsEventLine};
+ghost use Rattle.edr_reading.specs.Event.{HasNoBank, IsNextEvent, event_of, HasNoneFree, AcceptsEventLine};
 ghost use Rattle.edr_reading.specs.Parts.{IsRecord};
 ghost use Rattle.edr_reading.specs.Rows.{lines_of, names_of};
 ghost use Rattle.edr_reading.specs.Values.{IsBank};
 
 use crate::crash::part_line;
 use crate::front::{is_word, last_within};
-use crate::pre::{PreSoFar, plain_pre, pre_line};
+use crate::pre::{plain_pre, pre_line};
 use crate::values::bank_after;
 use edr_image::Found;
 use edr_image::places::MOST_BANKS;
-use edr_record::{Crash, Record};
+use edr_record::Record;
 use edr_report::{EventLine, LINES_OF_EVENT};
 
 /// How many rows an event has.
@@ -25,34 +25,20 @@ pub const EVENT_ROWS: usize = LINES_OF_EVENT.len();
 #[derive(Clone, Copy)]
 pub(crate) struct PartEvent {
     pub bank: u8,
-    pub pre: PreSoFar,
-    pub crash: Option<Crash>,
-}
-
-impl PartEvent {
-    /// Its record once all was read.
-    pub(crate) fn record(&self) -> Record
-        requires { IsRecord (record_of self.now) }
-        ensures { result ≡ record_of self.now }
-    {
-        Record {
-            pre: self.pre.pre(),
-            locked: self.pre.locked,
-            crash: self.crash,
-        }
-    }
+    pub record: Record,
 }
 
 /// The event in this bank before anything was read.
 pub(crate) fn plain_event(bank: u8) -> PartEvent
-    ensures record { IsRecord (record_of result) }
+    ensures record { IsRecord result.record }
     ensures bank { result.bank ≡ bank }
 {
-    PartEvent {
-        bank,
+    let record = Record {
         pre: plain_pre(),
+        locked: false,
         crash: None,
-    }
+    };
+    PartEvent { bank, record }
 }
 
 /// This bank was found.
@@ -109,25 +95,31 @@ pub(crate) fn event_line(
     requires { IsNextEvent found.now (event_of event.now) }
     ensures { AcceptsEventLine block found.now line value.now event.now result }
 {
-    let PartEvent { bank, pre, crash } = *event;
+    let PartEvent { bank, record } = *event;
     match line {
         EventLine::Number => {
             last_within(value, b"", block, block)?;
             Some(*event)
         }
         EventLine::Bank => match bank_after(value, b"") {
-            Some(bank) if !is_among(found, bank) => Some(PartEvent { bank, pre, crash }),
+            Some(bank) if !is_among(found, bank) => Some(PartEvent { bank, record }),
             _ => None,
         },
         EventLine::Before(line) => {
-            let pre = pre_line(&pre, line, value)?;
-            Some(PartEvent { bank, pre, crash })
+            let (pre, locked) = pre_line(&record.pre, record.locked, line, value)?;
+            let record = Record {
+                pre,
+                locked,
+                crash: record.crash,
+            };
+            Some(PartEvent { bank, record })
         }
         EventLine::After(line) => {
-            let crash = part_line(&crash, line, value)?;
-            Some(PartEvent { bank, pre, crash })
+            let crash = part_line(&record.crash, line, value)?;
+            let record = Record { crash, ..record };
+            Some(PartEvent { bank, record })
         }
-        EventLine::Complete if is_decision(value, event.record().complete()) => Some(*event),
+        EventLine::Complete if is_decision(value, record.complete()) => Some(*event),
         EventLine::Complete => None,
     }
 }

@@ -2,40 +2,13 @@
 
 ghost use Rattle.std.specs.Prelude.{◌≡◌};
 ghost use Rattle.edr_record.specs.Bounds.{IsPre};
-ghost use Rattle.edr_reading.specs.Parts.{AreSlots, pre_of, AcceptsPreLine};
+ghost use Rattle.edr_reading.specs.Parts.{AreSlots, AcceptsPreLine};
 
 use crate::slots::read_slots;
 use crate::values::{count, decision, events, place_between, profile, switch, time};
 use edr_items::LATEST_MOMENT;
 use edr_record::{Key, LONG_SLOTS, Place, Pre, Profile, SHORT_SLOTS, Slots};
 use edr_report::PreLine;
-
-/// What was read of what stood before time zero, and of the lock. Where nothing was read yet, its values are plain ones.
-#[derive(Clone, Copy)]
-pub(crate) struct PreSoFar {
-    pub key: Key,
-    pub place: Place,
-    pub locked: bool,
-    pub slots: Slots,
-    pub belt: Option<bool>,
-    pub lamp: Option<bool>,
-}
-
-impl PreSoFar {
-    /// What it is once all was read.
-    pub(crate) fn pre(&self) -> Pre
-        requires { IsPre (pre_of self.now) }
-        ensures { result ≡ pre_of self.now }
-    {
-        Pre {
-            key: self.key,
-            place: self.place,
-            slots: self.slots,
-            belt: self.belt,
-            lamp: self.lamp,
-        }
-    }
-}
 
 // Slots of this profile, all of them absent.
 fn no_slots(profile: Profile) -> Slots
@@ -55,47 +28,47 @@ fn no_slots(profile: Profile) -> Slots
     }
 }
 
-/// What it is before anything was read.
-pub(crate) fn plain_pre() -> PreSoFar
-    ensures { IsPre (pre_of result) }
+/// What stood before time zero as plainly as it can be, as long as nothing was read of it.
+pub(crate) fn plain_pre() -> Pre
+    ensures { IsPre result }
 {
-    PreSoFar {
+    Pre {
         key: Key { cycle: 1, zero: 1 },
         place: Place::First,
-        locked: false,
         slots: no_slots(Profile::Short),
         belt: None,
         lamp: None,
     }
 }
 
-/// What stood before time zero with what this line shows, after the lines before it, if it may show it.
-pub(crate) fn pre_line(pre: &PreSoFar, line: PreLine, value: &[u8]) -> Option<PreSoFar>
-    requires { IsPre (pre_of pre.now) }
-    ensures { AcceptsPreLine line value.now pre.now result }
+/// What stood before time zero, and the lock, with what this line shows, after the lines before it, if it may show it.
+pub(crate) fn pre_line(pre: &Pre, locked: bool, line: PreLine, value: &[u8]) -> Option<(Pre, bool)>
+    requires { IsPre pre.now }
+    ensures { AcceptsPreLine line value.now (pre.now, locked) result }
 {
-    let mut read = *pre;
+    let mut pre = *pre;
+    let mut locked = locked;
     match line {
-        PreLine::Cycle => read.key.cycle = count(value, 1)?,
-        PreLine::TimeZero => read.key.zero = time(value, 1, LATEST_MOMENT)?,
-        PreLine::Events => read.place = events(value)?,
-        PreLine::Between => read.place = place_between(pre.place, value)?,
-        PreLine::Deployment => read.locked = decision(value)?,
-        PreLine::Profile => read.slots = no_slots(profile(value)?),
-        PreLine::Speed => match &mut read.slots {
+        PreLine::Cycle => pre.key.cycle = count(value, 1)?,
+        PreLine::TimeZero => pre.key.zero = time(value, 1, LATEST_MOMENT)?,
+        PreLine::Events => pre.place = events(value)?,
+        PreLine::Between => pre.place = place_between(pre.place, value)?,
+        PreLine::Deployment => locked = decision(value)?,
+        PreLine::Profile => pre.slots = no_slots(profile(value)?),
+        PreLine::Speed => match &mut pre.slots {
             Slots::Short { speed, .. } => read_slots(value, speed)?,
             Slots::Long { speed, .. } => read_slots(value, speed)?,
         },
-        PreLine::Throttle => match &mut read.slots {
+        PreLine::Throttle => match &mut pre.slots {
             Slots::Short { throttle, .. } => read_slots(value, throttle)?,
             Slots::Long { throttle, .. } => read_slots(value, throttle)?,
         },
-        PreLine::Brake => match &mut read.slots {
+        PreLine::Brake => match &mut pre.slots {
             Slots::Short { brake, .. } => read_slots(value, brake)?,
             Slots::Long { brake, .. } => read_slots(value, brake)?,
         },
-        PreLine::Belt => read.belt = switch(value)?,
-        PreLine::Lamp => read.lamp = switch(value)?,
+        PreLine::Belt => pre.belt = switch(value)?,
+        PreLine::Lamp => pre.lamp = switch(value)?,
     }
-    Some(read)
+    Some((pre, locked))
 }

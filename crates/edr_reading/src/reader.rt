@@ -4,7 +4,7 @@ ghost use Rattle.std.specs.Prelude.{◌≡◌, ◌≢◌, ◌+◌, ◌<◌, ◌^
 ghost use Rattle.edr_image.specs.Reports.{report_of};
 ghost use Rattle.edr_reading.specs.Answers.{TellsWhether};
 ghost use Rattle.edr_reading.specs.declared.event.TheConstants.{EVENT_ROWS};
-ghost use Rattle.edr_reading.specs.Event.{event_of, record_of};
+ghost use Rattle.edr_reading.specs.Event.{event_of};
 ghost use Rattle.edr_reading.specs.Reader.{AtLine, HasReadRows, AddsLine, MayBegin, MayTell, Takes, TakesLine, cycles_read, may_ack, FindsBank, TakesNamed};
 ghost use Rattle.edr_reading.specs.Rows.{FieldRows, fields};
 ghost use Rattle.edr_reading.specs.Parts.{IsRecord};
@@ -321,7 +321,7 @@ impl Reader {
     fn add_line(&mut self, line: usize, event: PartEvent) -> Result<(), Refused>
         requires line { line < EVENT_ROWS }
         requires rows { self.old.rows + 1 < 2 ^ 32 }
-        requires record { IsRecord (record_of event) }
+        requires record { IsRecord event.record }
         ensures added { OnOk result (AddsLine line event self.old self.new) }
         ensures memory { IfErr result (λ e. e ≡ Refused.OutOfMemory) }
     {
@@ -333,7 +333,7 @@ impl Reader {
             };
             return Ok(());
         }
-        let view = BankView::Event(event.record());
+        let view = BankView::Event(event.record);
         let Ok(()) = self.found.push(Found {
             bank: event.bank,
             view,
