@@ -15,9 +15,8 @@ use Rattle.edr_reading.specs.declared.reader.Refused.TheVariants as refused
 use Rattle.edr_reading.specs.declared.told.CycleRow.{CycleRow}
 use Rattle.edr_reading.specs.Faults.{AreReport, IsFault, IsWrong, Opens}
 use Rattle.edr_reading.specs.Told.{count_fields}
-use Rattle.edr_reading.specs.Reader.{HasReadRows, IsRefused, StandsNext, cycles_read, may_ack}
+use Rattle.edr_reading.specs.Reader.{HasReadRows, IsRefused, IsRowRefusal, StandsNext, cycles_read, may_ack, refusal_of}
 use Rattle.edr_reading.specs.Reading.{IsReading, report_rows, rows_told}
-use Rattle.edr_reading.specs.Refusals.{IsRowRefusal, refusal_of}
 use Rattle.edr_reading.specs.declared.reading.Reading.{Reading}
 use Rattle.edr_reading.specs.declared.reading.ReportRefused.{ReportRefused}
 use Rattle.edr_reading.specs.declared.reading.ReportRefused.TheVariants.{Fault, OutOfMemory}

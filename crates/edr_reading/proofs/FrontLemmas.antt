@@ -7,7 +7,7 @@ use Rattle.std.proofs.Math.Seq.{drop-append_seam, take-append_seam}
 use Rattle.edr_text.specs.Numbers.{is_digit, is_numeral, numeral, natural_in, below}
 use Rattle.edr_text.proofs.SpellingLemmas.{is_numeral-numeral, decimal-numeral}
 use Rattle.edr_text.proofs.ReadingLemmas.{below-numeral, below-spelled}
-use Rattle.edr_reading.specs.Front.{EndsNumber}
+use Rattle.edr_reading.specs.Answers.{EndsNumber}
 
 and-parts : (a b : Bool) → (a && b) ≡ true → (a ≡ true) × (b ≡ true)
 and-parts true b h = (refl, h)

@@ -9,7 +9,7 @@ use Rattle.edr_record.specs.Bounds.{IsUpTo}
 use Rattle.edr_report.specs.Words.{spaced_words, number_or_none}
 use Rattle.std.proofs.lemmas.List.{append_cancel_left}
 use Rattle.edr_reading.proofs.FrontLemmas.{not-number}
-use Rattle.edr_reading.specs.Front.{EndsNumber}
+use Rattle.edr_reading.specs.Answers.{EndsNumber}
 use Rattle.edr_reading.specs.Slots.{each_spaced, spaced_after, space_at}
 
 -- the first word has no space before it

@@ -8,7 +8,7 @@ use Rattle.edr_report.specs.Words.{cycle_words, ack_words, kind_word}
 use Rattle.edr_reading.proofs.FrontLemmas.{first-digit, numeral-digits}
 use Rattle.edr_reading.specs.declared.told.CycleRow.{CycleRow}
 use Rattle.edr_reading.specs.declared.told.CycleRow.TheVariants.{StartStopped, Ran}
-use Rattle.edr_reading.specs.Front.{IsFromTo}
+use Rattle.edr_reading.specs.Answers.{IsFromTo}
 use Rattle.edr_reading.specs.Told.{IsCycleRow, row_words}
 use Rattle.edr_reading.specs.Values.{IsRan, ran_words, start_words}
 

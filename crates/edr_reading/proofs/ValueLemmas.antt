@@ -4,8 +4,7 @@ use Rattle.std.specs.Fmt.{signed_decimal}
 use Rattle.std.specs.Option.{IfSome}
 use Rattle.edr_record.specs.Bounds.{IsUpTo, IsChange}
 use Rattle.edr_report.specs.Words.{firing_words, stop_words, missing_words, damage_words, yes_no}
-use Rattle.edr_reading.specs.Answers.{ReadsTwo}
-use Rattle.edr_reading.specs.Front.{AreUpTo, IsFromTo, two_numbers}
+use Rattle.edr_reading.specs.Answers.{AreUpTo, IsFromTo, ReadsTwo, two_numbers}
 use Rattle.edr_reading.specs.Values.{IsStopCall}
 use Rattle.edr_reading.proofs.FrontLemmas.{not-number}
 

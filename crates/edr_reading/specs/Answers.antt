@@ -1,7 +1,8 @@
--- What a reader answers.
-use Rattle.std.specs.Prelude.{◌≡◌, ℕ, Bool, List, Option, Some, IfSome, MatchOption}
+-- What a reader answers: of whole bytes, and of numbers and other words in front of some.
+use Rattle.std.specs.Prelude.{◌≡◌, ℕ, Bool, List, Option, Some, IfSome, MatchOption, ◌≤◌, ◌<◌, ◌^◌, false, ⊤, [], ◌∷◌, ◌++◌, decimal}
 use Rattle.std.specs.Bool.{MatchBool}
 use denote.Ref.{Bor}
+use Rattle.edr_text.specs.Numbers.{is_digit}
 
 -- it tells whether this is so
 abbrev pub TellsWhether : Bool → Type 0 → Type 0
@@ -24,3 +25,42 @@ pub record Reads {A : Type 0} (words : A → List ℕ) (ok : A → Type 0) (byte
 pub record ReadsTwo {A B : Type 0} (words : A → B → List ℕ) (ok : A → B → Type 0) (bytes : List ℕ) (result : Option (A × B)) : Type 0 where
   pub read : IfSome result (λ p. (bytes ≡ words p.0 p.1) × ok p.0 p.1)
   pub whole : (x : A) (y : B) → ok x y → bytes ≡ words x y → result ≡ Some (x, y)
+
+-- ---- in front of bytes
+
+-- nothing, or bytes of which the first is no digit
+abbrev pub EndsNumber : List ℕ → Type 0
+EndsNumber [] = ⊤
+EndsNumber (b ∷ bs) = is_digit b ≡ false
+
+-- it read a value within its bounds, of which the words stand after these bytes, and what stands after them; it reads each
+-- such value that no digit follows
+pub record ReadsAfter {A : Type 0} (front : List ℕ) (words : A → List ℕ) (ok : A → Type 0) (bytes : List ℕ) (result : Option (A × Bor (List ℕ))) : Type 0 where
+  pub read : IfSome result (λ p. (bytes ≡ front ++ (words p.0 ++ p.1.now)) × ok p.0)
+  pub whole : (x : A) (more : List ℕ) → ok x → EndsNumber more → bytes ≡ front ++ (words x ++ more) → GivesValue x more result
+
+-- the same where they stand in front
+abbrev pub ReadsFront : {A : Type 0} → (A → List ℕ) → (A → Type 0) → List ℕ → Option (A × Bor (List ℕ)) → Type 0
+ReadsFront words ok bytes result = ReadsAfter [] words ok bytes result
+
+-- a number from low to high, and one of 32 bits
+abbrev pub IsFromTo : ℕ → ℕ → ℕ → Type 0
+IsFromTo low high n = (low ≤ n) × (n ≤ high)
+
+abbrev pub IsWord : ℕ → Type 0
+IsWord n = n < 2 ^ 32
+
+-- two numbers up to this one
+abbrev pub AreUpTo : ℕ → ℕ → ℕ → Type 0
+AreUpTo high m n = (m ≤ high) × (n ≤ high)
+
+-- a number after other bytes, and between some
+abbrev pub number_after : List ℕ → ℕ → List ℕ
+number_after front n = front ++ decimal n
+
+abbrev pub number_between : List ℕ → List ℕ → ℕ → List ℕ
+number_between front back n = front ++ (decimal n ++ back)
+
+-- two numbers among other bytes
+abbrev pub two_numbers : List ℕ → List ℕ → List ℕ → ℕ → ℕ → List ℕ
+two_numbers front middle back m n = front ++ (decimal m ++ (middle ++ (decimal n ++ back)))

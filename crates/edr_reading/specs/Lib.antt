@@ -1,4 +1,3 @@
-pub mod Front
 pub mod Values
 pub mod Slots
 pub mod Parts
@@ -9,4 +8,3 @@ pub mod Told
 pub mod Reading
 pub mod Faults
 pub mod Reader
-pub mod Refusals

@@ -1,5 +1,5 @@
--- What a reader knows of a report after some of its rows.
-use Rattle.std.specs.Prelude.{◌≡◌, ◌<◌, ◌≤◌, ◌+◌, ℕ, ⊤, Bool, true, false, eqb, List, [], ◌∷◌, ◌++◌, All, map, length, take, drop, ◌⊎◌, Option, Some, None, IfSome, MatchOption, Result, Ok, Err, decimal, slice_index_or}
+-- What a reader knows of a report after some of its rows, and why it refuses the next.
+use Rattle.std.specs.Prelude.{◌≡◌, ◌<◌, ◌≤◌, ◌+◌, ℕ, ⊤, Bool, true, false, eqb, List, [], ◌∷◌, ◌++◌, All, map, length, take, drop, ◌⊎◌, Option, Some, None, IfSome, MatchOption, Result, Ok, Err, decimal, slice_index_or, IfOk, IfErr}
 use Rattle.std.specs.List.{IsDistinct}
 use Rattle.edr_record.specs.declared.Record.{Record}
 use Rattle.edr_image.specs.declared.Ack.{Ack}
@@ -15,15 +15,19 @@ use Rattle.edr_reading.specs.declared.reader.Refused.TheVariants as refused
 use Rattle.edr_reading.specs.declared.told.CycleRow.{CycleRow}
 use Rattle.edr_reading.specs.declared.told.CycleRow.TheVariants as row
 use Rattle.edr_reading.specs.Event.{EventAgrees, HasNoBank, HasNoneFree, event_of}
-use Rattle.edr_reading.specs.Faults.{AreReport, IsWrong}
+use Rattle.edr_reading.specs.Faults.{AreReport, IsWrong, IsFault}
 use Rattle.edr_reading.specs.Told.{IsAck, IsDamaged, IsEvent, IsReport, IsToldName, ack_fields, banks_in, count_fields, damaged_fields, events_fields, last_rows, name_words, run_fields}
-use Rattle.edr_reading.specs.Reading.{AreDistinct, head_row}
+use Rattle.edr_reading.specs.Reading.{AreDistinct, head_row, IsReading, rows_told}
 use Rattle.edr_reading.specs.Rows.{FieldRows, event_fields}
 use Rattle.edr_reading.specs.Values.{IsBank}
 use Rattle.edr_reading.specs.declared.event.PartEvent.{PartEvent}
 use Rattle.edr_reading.specs.declared.event.TheConstants.{EVENT_ROWS}
 use Rattle.edr_reading.specs.declared.told.ToldName.{ToldName}
 use Rattle.edr_reading.specs.declared.told.ToldName.TheVariants as name
+use Rattle.edr_spell.specs.Spell.{RecordsOf}
+use Rattle.edr_reading.specs.declared.reading.Reading.{Reading}
+use Rattle.edr_reading.specs.declared.reading.ReportRefused.{ReportRefused}
+use Rattle.edr_reading.specs.declared.reading.ReportRefused.TheVariants.{Fault, OutOfMemory}
 
 -- ---- the rows so far
 
@@ -202,3 +206,26 @@ pub record AddsLine (k : ℕ) (e : PartEvent) (old new : Reader) : Type 0 where
   pub acks : new.acks.items ≡ old.acks.items
   pub goes_on : k + 1 < EVENT_ROWS → (new.found.items ≡ old.found.items) × (new.next ≡ next.Line (k + 1) e)
   pub ends : EVENT_ROWS ≤ k + 1 → (new.found.items ≡ old.found.items ++ found_event (event_of e) ∷ []) × (new.next ≡ next.Events)
+
+-- ---- the rows of a text
+
+-- the fault is that of these records
+abbrev pub IsRowRefusal : FieldRows → ReportRefused → Type 0
+IsRowRefusal records (Fault row fault) = IsFault records row fault
+IsRowRefusal records OutOfMemory = ⊤
+
+-- what these rows tell was read, or the fault is theirs
+pub record ReadsRows (rows : FieldRows) (result : Result Reading ReportRefused) : Type 0 where
+  pub read : IfOk result (λ r. rows ≡ rows_told r)
+  pub told : IfOk result (λ r. IsReading (map report_of r.run.items) r.found.items r.count)
+  pub fault : IfErr result (IsRowRefusal rows)
+
+-- the fault is that of its records
+abbrev pub IsRefusalOfRecords : List ℕ → ReportRefused → Type 0
+IsRefusalOfRecords bytes (Fault row fault) = (records : List (List (List ℕ))) × RecordsOf bytes records × IsFault records row fault
+IsRefusalOfRecords bytes OutOfMemory = ⊤
+
+-- the refusal of a row
+abbrev pub refusal_of : ℕ → Refused → ReportRefused
+refusal_of row (refused.Field f) = Fault row (fault.Field f)
+refusal_of row refused.OutOfMemory = OutOfMemory

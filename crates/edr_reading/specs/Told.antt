@@ -10,7 +10,7 @@ use Rattle.edr_reading.specs.Values.{IsApplied, IsBank, IsDamagedView, IsRan, Is
 use Rattle.edr_image.specs.Reports.{Report, StartStopped, Ran}
 use Rattle.edr_report.specs.Report.{ack_line, run_lines, events_lines}
 use Rattle.edr_reading.specs.declared.told.CycleRow.TheVariants as row
-use Rattle.edr_reading.specs.Front.{IsFromTo}
+use Rattle.edr_reading.specs.Answers.{IsFromTo}
 use Rattle.edr_reading.specs.Rows.{line_fields}
 use Rattle.edr_record.specs.declared.Record.{Record}
 use Rattle.edr_image.specs.declared.Found.{Found}

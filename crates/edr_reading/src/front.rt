@@ -4,8 +4,7 @@ ghost use Rattle.std.specs.Prelude.{◌≡◌, ◌≤◌, ◌++◌, true, ℕ, L
 ghost use Rattle.std.specs.Bool.{MatchBool};
 ghost use Rattle.std.specs.List.{list_all};
 ghost use Rattle.edr_text.specs.Numbers.{is_digit};
-ghost use Rattle.edr_reading.specs.Front.{EndsNumber, ReadsAfter, ReadsFront, two_numbers, AreUpTo, IsFromTo, IsWord, number_after, number_between};
-ghost use Rattle.edr_reading.specs.Answers.{Leaves, Reads, ReadsTwo};
+ghost use Rattle.edr_reading.specs.Answers.{AreUpTo, EndsNumber, IsFromTo, IsWord, Leaves, Reads, ReadsAfter, ReadsFront, ReadsTwo, number_after, number_between, two_numbers};
 
 use edr_text::read_u32;
 

@@ -5,7 +5,7 @@ ghost use Rattle.edr_image.specs.Reports.{report_of};
 ghost use Rattle.edr_reading.specs.Answers.{TellsWhether};
 ghost use Rattle.edr_reading.specs.declared.event.TheConstants.{EVENT_ROWS};
 ghost use Rattle.edr_reading.specs.Event.{event_of};
-ghost use Rattle.edr_reading.specs.Reader.{AtLine, HasReadRows, AddsLine, MayBegin, MayTell, Takes, TakesLine, cycles_read, may_ack, FindsBank, TakesNamed};
+ghost use Rattle.edr_reading.specs.Reader.{AddsLine, AtLine, FindsBank, HasReadRows, MayBegin, MayTell, Takes, TakesLine, TakesNamed, cycles_read, may_ack};
 ghost use Rattle.edr_reading.specs.Rows.{FieldRows, fields};
 ghost use Rattle.edr_reading.specs.Parts.{IsRecord};
 ghost use Rattle.edr_reading.specs.declared.told.ToldName.TheVariants as name;

@@ -4,9 +4,8 @@ ghost use Rattle.std.specs.Prelude.{◌≡◌, IfOk, IfErr, map};
 ghost use Rattle.csv.specs.Records.{fields_of};
 ghost use Rattle.edr_image.specs.Reports.{report_of};
 ghost use Rattle.edr_spell.specs.Spell.{RecordsOf};
-ghost use Rattle.edr_reading.specs.Reader.{HasReadRows};
+ghost use Rattle.edr_reading.specs.Reader.{HasReadRows, IsRefusalOfRecords, IsRowRefusal, ReadsRows, refusal_of};
 ghost use Rattle.edr_reading.specs.Reading.{IsReading, OfReportRows, rows_told};
-ghost use Rattle.edr_reading.specs.Refusals.{IsRowRefusal, IsRefusalOfRecords, refusal_of, ReadsRows};
 ghost use Rattle.edr_reading.specs.Rows.{FieldRows};
 
 use crate::faults::RowFault;

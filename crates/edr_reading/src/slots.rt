@@ -3,7 +3,7 @@
 ghost use Rattle.std.specs.Prelude.{◌≡◌, ℕ, List};
 ghost use Rattle.edr_record.specs.Bounds.{IsUpTo};
 ghost use Rattle.edr_report.specs.Words.{number_or_none};
-ghost use Rattle.edr_reading.specs.Front.{ReadsAfter, ReadsFront};
+ghost use Rattle.edr_reading.specs.Answers.{ReadsAfter, ReadsFront};
 ghost use Rattle.edr_reading.specs.Slots.{space_at, ReadsSlots};
 
 use crate::front::{after, within_after};

@@ -6,9 +6,8 @@ ghost use Rattle.edr_record.specs.declared.TheConstants.{EARLIEST_END, GREATEST_
 ghost use Rattle.edr_record.specs.Bounds.{IsChange, IsExtreme, IsPlace, IsUpTo};
 ghost use Rattle.edr_report.specs.declared.TheConstants.{LARGEST_SHOWN_COUNT};
 ghost use Rattle.edr_report.specs.Words.{applied_words, yes_no, profile_word, switch_or_none, milliseconds, firing_words, number_shown, shown_count, events_in_crash, extreme_words, missing_words, ack_words, seconds, tenths_of};
-ghost use Rattle.edr_reading.specs.Front.{AreUpTo, EndsNumber, IsFromTo, ReadsFront, number_after};
+ghost use Rattle.edr_reading.specs.Answers.{AreUpTo, EndsNumber, GivesValue, IsFromTo, Reads, ReadsFront, ReadsTwo, number_after};
 ghost use Rattle.edr_reading.specs.Values.{IsBank, IsStopCall, IsApplied, IsTick, done_in, command_words, ran_words, IsPlaceLike, IsRan, ReadsPlace, ShowsDamage, end_words, start_words};
-ghost use Rattle.edr_reading.specs.Answers.{GivesValue, Reads, ReadsTwo};
 
 use crate::front::{after, is_word, last_within, two_within, within, within_after};
 use edr_image::places::{BANK_SIZE, MOST_BANKS};

@@ -9,7 +9,7 @@ use Rattle.std.proofs.lemmas.Result.{err_from_is_err_and}
 use Rattle.edr_image.specs.declared.Found.{Found}
 use Rattle.edr_image.specs.Reports.{Report}
 use Rattle.edr_reading.specs.Reading.{IsReading, report_rows}
-use Rattle.edr_reading.specs.Refusals.{IsRowRefusal}
+use Rattle.edr_reading.specs.Reader.{IsRowRefusal}
 use Rattle.edr_reading.specs.Rows.{FieldRows}
 use Rattle.edr_reading.specs.declared.reading.Reading.{Reading}
 use Rattle.edr_reading.specs.declared.reading.ReportRefused.{ReportRefused}
