@@ -1,13 +1,12 @@
 -- The lines of an event.
-use Rattle.std.proofs.Common.{arith, ◌≡◌, ◌∙◌, sym, ap, subst, refl, ℕ, ◌+◌, ◌-◌, ◌≤◌, Bool, false, List, [], ◌∷◌, ◌++◌, length, take, Option, None, Some, decimal}
+use Rattle.std.proofs.Common.{arith, ◌≡◌, ◌∙◌, sym, subst, refl, ℕ, ◌+◌, ◌-◌, ◌≤◌, Bool, false, List, [], ◌∷◌, ◌++◌, length, take, Option, None, Some, decimal}
 use Rattle.std.specs.Option.{IfSome, option_map_or}
 use Rattle.std.proofs.lemmas.List.{length-map, take-append-le}
 use Rattle.edr_record.specs.declared.Record.{Record}
 use Rattle.edr_record.specs.Bounds.{IsCrash}
 use Rattle.edr_record.specs.Complete.{is_complete, misses_no_tick}
 use Rattle.edr_record.specs.Parts.{PrePart, CrashPart}
-use Rattle.edr_report.specs.declared.event_lines.EventLine.{EventLine}
-use Rattle.edr_report.specs.declared.event_lines.EventLine.TheVariants.{Before, After, Complete}
+use Rattle.edr_report.specs.declared.event_lines.EventLine.TheVariants.{Before, After}
 use Rattle.edr_report.specs.declared.event_lines.PreLine.{PreLine}
 use Rattle.edr_report.specs.declared.event_lines.PreLine.TheVariants as pre
 use Rattle.edr_report.specs.declared.event_lines.CrashLine.{CrashLine}
@@ -43,38 +42,31 @@ pre-agrees j k p q h a = record {
   lamp = λ l. a.lamp (omega (arith, h));
 }
 
-pub before-here : (line : EventLine) (l : PreLine) (p q : PrePart) → line ≡ Before l → PreAgrees (event_place line - 2) p q → PreAgrees (pre_place l) p q
-before-here line l p q is a =
-    let at : event_place line ≡ 2 + pre_place l = ap event_place is in
-    let here : event_place line - 2 ≡ pre_place l = omega (arith, at) in
-    subst (λ (k : ℕ). PreAgrees k p q) here a
+pub before-here : (l : PreLine) (p q : PrePart) → PreAgrees (event_place (Before l) - 2) p q → PreAgrees (pre_place l) p q
+before-here l p q a = let here : 2 + pre_place l - 2 ≡ pre_place l = omega arith in subst (λ (k : ℕ). PreAgrees k p q) here a
 
 -- one line of what stood before time zero more
-pub before-agrees : (line : EventLine) (l : PreLine) (bank : ℕ) (p q : PrePart) (is_locked : Bool) (c : Option CrashPart) (f : ℕ × Record) → line ≡ Before l
-    → EventAgrees (event_place line) (bank, record { pre = p; locked = is_locked; crash = c }) f → (PreAgrees (pre_place l) p f.1.pre → PreAgrees (pre_place l + 1) q f.1.pre)
-    → (now_locked : Bool) → EventAgrees (event_place line + 1) (bank, record { pre = q; locked = now_locked; crash = c }) f
-before-agrees line l bank p q is_locked c f is a step now_locked =
-    let at : event_place line ≡ 2 + pre_place l = ap event_place is in
+pub before-agrees : (l : PreLine) (bank : ℕ) (p q : PrePart) (is_locked now_locked : Bool) (c : Option CrashPart) (f : ℕ × Record) → EventAgrees (event_place (Before l)) (bank, record { pre = p; locked = is_locked; crash = c }) f
+    → (PreAgrees (pre_place l) p f.1.pre → PreAgrees (pre_place l + 1) q f.1.pre) → EventAgrees (event_place (Before l) + 1) (bank, record { pre = q; locked = now_locked; crash = c }) f
+before-agrees l bank p q is_locked now_locked c f a step =
     let most = pre-most l in
-    let next : pre_place l + 1 ≡ event_place line + 1 - 2 = omega (arith, at) in
-    let none : event_place line - 13 ≡ event_place line + 1 - 13 = omega (arith, at, most) in
+    let next : pre_place l + 1 ≡ 2 + pre_place l + 1 - 2 = omega arith in
+    let none : 2 + pre_place l - 13 ≡ 2 + pre_place l + 1 - 13 = omega (arith, most) in
     record {
-      bank = λ h. a.bank (omega (arith, at));
-      before = subst (λ (k : ℕ). PreAgrees k q f.1.pre) next (step (before-here line l p f.1.pre is a.before));
+      bank = λ h. a.bank (omega arith);
+      before = subst (λ (k : ℕ). PreAgrees k q f.1.pre) next (step (before-here l p f.1.pre a.before));
       after = subst (λ (k : ℕ). PartsAgree k c f.1.crash) none a.after;
     }
 
 -- one line of what came after it more
-pub after-agrees : (line : EventLine) (l : CrashLine) (bank : ℕ) (p : PrePart) (is_locked : Bool) (c d : Option CrashPart) (f : ℕ × Record) → line ≡ After l
-    → EventAgrees (event_place line) (bank, record { pre = p; locked = is_locked; crash = c }) f → (PartsAgree (crash_place l) c f.1.crash → PartsAgree (crash_place l + 1) d f.1.crash)
-    → EventAgrees (event_place line + 1) (bank, record { pre = p; locked = is_locked; crash = d }) f
-after-agrees line l bank p is_locked c d f is a step =
-    let at : event_place line ≡ 13 + crash_place l = ap event_place is in
-    let here : event_place line - 13 ≡ crash_place l = omega (arith, at) in
-    let next : crash_place l + 1 ≡ event_place line + 1 - 13 = omega (arith, at) in
+pub after-agrees : (l : CrashLine) (bank : ℕ) (p : PrePart) (is_locked : Bool) (c d : Option CrashPart) (f : ℕ × Record) → EventAgrees (event_place (After l)) (bank, record { pre = p; locked = is_locked; crash = c }) f
+    → (PartsAgree (crash_place l) c f.1.crash → PartsAgree (crash_place l + 1) d f.1.crash) → EventAgrees (event_place (After l) + 1) (bank, record { pre = p; locked = is_locked; crash = d }) f
+after-agrees l bank p is_locked c d f a step =
+    let here : 13 + crash_place l - 13 ≡ crash_place l = omega arith in
+    let next : crash_place l + 1 ≡ 13 + crash_place l + 1 - 13 = omega arith in
     record {
-      bank = λ h. a.bank (omega (arith, at));
-      before = pre-agrees (event_place line - 2) (event_place line + 1 - 2) p f.1.pre (omega (arith, at)) a.before;
+      bank = λ h. a.bank (omega arith);
+      before = pre-agrees (13 + crash_place l - 2) (13 + crash_place l + 1 - 2) p f.1.pre (omega arith) a.before;
       after = subst (λ (k : ℕ). PartsAgree k d f.1.crash) next (step (subst (λ (k : ℕ). PartsAgree k c f.1.crash) here a.after));
     }
 
@@ -83,17 +75,16 @@ crash-long None h = refl
 crash-long (Some c) h = let m = length-map c.fired firing_words in omega (arith, m, h.restraints)
 
 -- the lines before it are as they were
-pub after-earlier : (line : EventLine) (l : CrashLine) (block bank : ℕ) (p : PrePart) (is_locked : Bool) (c d : Option CrashPart) → line ≡ After l → IfSome c IsCrash → IfSome d IsCrash → take (crash_place l) (crash_texts d) ≡ take (crash_place l) (crash_texts c)
-    → take (event_place line) (event_texts block (bank, record { pre = p; locked = is_locked; crash = d })) ≡ take (event_place line) (event_texts block (bank, record { pre = p; locked = is_locked; crash = c }))
-after-earlier line l block bank p is_locked c d is hc hd same =
+pub after-earlier : (l : CrashLine) (block bank : ℕ) (p : PrePart) (is_locked : Bool) (c d : Option CrashPart) → IfSome c IsCrash → IfSome d IsCrash → take (crash_place l) (crash_texts d) ≡ take (crash_place l) (crash_texts c)
+    → take (event_place (After l)) (event_texts block (bank, record { pre = p; locked = is_locked; crash = d })) ≡ take (event_place (After l)) (event_texts block (bank, record { pre = p; locked = is_locked; crash = c }))
+after-earlier l block bank p is_locked c d hc hd same =
     let most = crash-most l in
     let last : Option CrashPart → List (List ℕ) = λ o. yes_no (is_complete (record { pre = p; locked = is_locked; crash = o })) ∷ [] in
     let c-long = crash-long c hc in
     let d-long = crash-long d hd in
     let fc : take (crash_place l) (crash_texts c ++ last c) ≡ take (crash_place l) (crash_texts c) = take-append-le (crash_place l) (crash_texts c) (last c) (omega (arith, most, c-long)) in
     let fd : take (crash_place l) (crash_texts d ++ last d) ≡ take (crash_place l) (crash_texts d) = take-append-le (crash_place l) (crash_texts d) (last d) (omega (arith, most, d-long)) in
-    subst (λ (x : EventLine). take (event_place x) (event_texts block (bank, record { pre = p; locked = is_locked; crash = d })) ≡ take (event_place x) (event_texts block (bank, record { pre = p; locked = is_locked; crash = c }))) (sym is)
-    (front-before (decimal block ∷ decimal bank ∷ pre_texts p is_locked) (crash_texts d ++ last d) (crash_texts c ++ last c) (crash_place l) (fd ∙ same ∙ sym fc))
+    front-before (decimal block ∷ decimal bank ∷ pre_texts p is_locked) (crash_texts d ++ last d) (crash_texts c ++ last c) (crash_place l) (fd ∙ same ∙ sym fc)
 
 ticks-same : (c d : Option CrashPart) → PartsAgree 15 c d → option_map_or misses_no_tick c false ≡ option_map_or misses_no_tick d false
 ticks-same None None a = refl
@@ -107,6 +98,3 @@ unfolding is_complete
 complete-same e f a =
     let b = a.before in
     rw (b.speed (omega arith), b.throttle (omega arith), b.brake (omega arith), b.belt (omega arith), b.lamp (omega arith), ticks-same e.1.crash f.1.crash a.after) refl
-
-pub last-line : (line : EventLine) (e f : ℕ × Record) → line ≡ Complete → EventAgrees (event_place line) e f → is_complete e.1 ≡ is_complete f.1
-last-line line e f is a = complete-same e f (subst (λ (l : EventLine). EventAgrees (event_place l) e f) is a)

@@ -147,20 +147,14 @@ impl Reader {
     fn is_in_run(&self) -> bool
         ensures { TellsWhether result (self.now.next ≡ NextRow.Run) }
     {
-        match self.next {
-            NextRow::Run => true,
-            _ => false,
-        }
+        matches!(&self.next, NextRow::Run)
     }
 
     // A command of the last cycle may be next, as long as another cycle may.
     fn may_ack(&self) -> bool
         ensures { result ≡ may_ack self.now.last }
     {
-        match self.last {
-            Some(CycleRow::Ran { .. }) => true,
-            _ => false,
-        }
+        matches!(&self.last, Some(CycleRow::Ran { .. }))
     }
 
     // Takes the row that names the columns.

@@ -220,10 +220,8 @@ fn stop(bytes: &[u8]) -> Option<Option<u32>>
     if is_word(bytes, b", power off") {
         return Some(None);
     }
-    match last_within(bytes, b", stopped in call ", 1, u32::MAX) {
-        Some(call) => Some(Some(call)),
-        None => None,
-    }
+    let call = last_within(bytes, b", stopped in call ", 1, u32::MAX)?;
+    Some(Some(call))
 }
 
 /// The number of a cycle that ran, and how it ended.
