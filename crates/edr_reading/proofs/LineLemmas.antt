@@ -21,7 +21,7 @@ use Rattle.edr_reading.specs.Rows.{FieldRows, event_fields, event_names}
 use Rattle.edr_reading.proofs.BetweenLemmas.{banks-more, All-last, goes-on, refuse-1, refuse-2, refuse-3}
 use Rattle.edr_reading.proofs.DistinctLemmas.{alone, distinct-more}
 use Rattle.edr_reading.proofs.FollowLemmas.{next-row, none}
-use Rattle.edr_reading.proofs.RowLemmas.{event-gone, event-long, line-place, lines, row-at, rows-more}
+use Rattle.edr_reading.proofs.RowLemmas.{event-gone, event-long, line-place, lines, no-rows, row-at, rows-more}
 use Rattle.edr_reading.proofs.WholeLemmas.{decimal-same, told-report, whole-event}
 
 -- ---- what a line may be
@@ -204,7 +204,3 @@ first-line a c reports es rows e h few bounds room = record {
       (λ n. subst (λ (x : List Found). MayFollowLine 0 (length es + 1) (banks_in x) e (r ∷ more)) (append-nil (map found_event es)) (n.5 e))
       (next-row a c true (length reports) (length es + 1) (banks_in (map found_event es ++ [])) r more (h.rest (r ∷ more) rep));
 }
-  where
-    no-rows : {X : Type 0} (xs : List X) → take 0 xs ≡ []
-    no-rows [] = refl
-    no-rows (x ∷ xs) = refl

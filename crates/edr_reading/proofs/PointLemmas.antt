@@ -21,17 +21,22 @@ zeros-change = λ k d h. rw (zero-at k 26 d h) (omega arith)
     zero-at zero (suc n) d h = refl
     zero-at (suc k) (suc n) d h = zero-at k n d (omega arith)
 
-pub points-read : (bytes : List ℕ) (end : ℕ) (front : List ℤ) → length front ≡ point_count end → bytes ≡ spaced_words (map signed_decimal front) → All IsChange front → slice_get (with_zeros (point_count end) front) 0 ≡ Some (pos 0)
+room-is : (end : ℕ) (front : List ℤ) → length front ≡ point_count end → length (with_zeros (point_count end) front) ≡ 26
+room-is end front long =
+    let n = point_count end in
+    let fits = count-fits end in
+    length-append front (drop n (replicate 26 (pos 0))) ∙ (let d = length-drop n (replicate 26 (pos 0)) in let r = length-replicate 26 (pos 0) in omega (arith, d, r, long, fits.1))
+
+points-read : (bytes : List ℕ) (end : ℕ) (front : List ℤ) → length front ≡ point_count end → bytes ≡ spaced_words (map signed_decimal front) → All IsChange front → slice_get (with_zeros (point_count end) front) 0 ≡ Some (pos 0)
     → (bytes ≡ points_words end (with_zeros (point_count end) front)) × ArePoints (point_count end) (with_zeros (point_count end) front)
 points-read bytes end front long is changes first =
     let n = point_count end in
     let zs = drop n (replicate 26 (pos 0)) in
-    let fits = count-fits end in
     let front-of : take n (front ++ zs) ≡ front = ap (λ (k : ℕ). take k (front ++ zs)) (sym long) ∙ take-append_seam front zs in
     let after-of : drop n (front ++ zs) ≡ zs = ap (λ (k : ℕ). drop k (front ++ zs)) (sym long) ∙ drop-append_seam front zs in (
       is ∙ ap (λ (a : List ℤ). spaced_words (map signed_decimal a)) (sym front-of),
       record {
-        room = length-append front zs ∙ (let d = length-drop n (replicate 26 (pos 0)) in let r = length-replicate 26 (pos 0) in omega (arith, d, r, long, fits.1));
+        room = room-is end front long;
         first = first;
         changes = All-append IsChange front zs changes (All-drop IsChange n (replicate 26 (pos 0)) zeros-change);
         past = after-of ∙ drop-replicate n 26 (pos 0);
@@ -51,12 +56,6 @@ points-front end ps are =
 pub first-is : (ps : List ℤ) → length ps ≡ 26 → get_or ps 0 (pos 0) ≡ pos 0 → slice_get ps 0 ≡ Some (pos 0)
 first-is [] long e = absurd (omega arith)
 first-is (p ∷ ps) long e = ap Some e
-
-room-is : (end : ℕ) (front : List ℤ) → length front ≡ point_count end → length (with_zeros (point_count end) front) ≡ 26
-room-is end front long =
-    let n = point_count end in
-    let fits = count-fits end in
-    length-append front (drop n (replicate 26 (pos 0))) ∙ (let d = length-drop n (replicate 26 (pos 0)) in let r = length-replicate 26 (pos 0) in omega (arith, d, r, long, fits.1))
 
 pub points-are : (bytes : List ℕ) (end : ℕ) (ps front : List ℤ) → ps ≡ with_zeros (point_count end) front → ShowPoints (point_count end) bytes front → (IsChange (get_or ps 0 (pos 0)) → get_or ps 0 (pos 0) ≡ pos 0)
     → (bytes ≡ points_words end ps) × ArePoints (point_count end) ps

@@ -45,12 +45,12 @@ pub event-gone : (b bank : ℕ) (r : Record) → drop 29 (event_fields b bank r)
 unfolding event_lines
 event-gone b bank r = refl
 
+pub no-rows : {X : Type 0} (xs : List X) → take 0 xs ≡ []
+no-rows [] = refl
+no-rows (x ∷ xs) = refl
+
 take-block : (b : List ℕ) (k : ℕ) (ns vs : Texts) → take k (block_fields b ns vs) ≡ block_fields b (take k ns) (take k vs)
-take-block b zero ns vs = nil-of (block_fields b ns vs) ∙ sym (ap (λ (x : Texts). block_fields b x (take 0 vs)) (nil-of ns))
-  where
-    nil-of : {X : Type 0} (xs : List X) → take 0 xs ≡ []
-    nil-of [] = refl
-    nil-of (x ∷ xs) = refl
+take-block b zero ns vs = no-rows (block_fields b ns vs) ∙ sym (ap (λ (x : Texts). block_fields b x (take 0 vs)) (no-rows ns))
 take-block b (suc k) [] vs = refl
 take-block b (suc k) (n ∷ ns) [] = refl
 take-block b (suc k) (n ∷ ns) (v ∷ vs) = ap (λ (x : FieldRows). (b ∷ n ∷ v ∷ []) ∷ x) (take-block b k ns vs)
