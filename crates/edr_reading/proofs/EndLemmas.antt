@@ -10,12 +10,11 @@ use Rattle.edr_reading.specs.declared.faults.RowFault.TheVariants as fault
 use Rattle.edr_reading.specs.declared.reader.NextRow.{NextRow}
 use Rattle.edr_reading.specs.declared.reader.NextRow.TheVariants as next
 use Rattle.edr_reading.specs.declared.reader.Reader.{Reader}
-use Rattle.edr_reading.specs.declared.reader.Refused.{Refused}
 use Rattle.edr_reading.specs.declared.reader.Refused.TheVariants as refused
 use Rattle.edr_reading.specs.declared.told.CycleRow.{CycleRow}
 use Rattle.edr_reading.specs.Faults.{AreReport, IsFault, IsWrong, Opens}
 use Rattle.edr_reading.specs.Told.{count_fields}
-use Rattle.edr_reading.specs.Reader.{HasReadRows, IsRefused, IsRowRefusal, StandsNext, cycles_read, may_ack, refusal_of}
+use Rattle.edr_reading.specs.Reader.{HasReadRows, IsRefused, IsRowRefusal, StandsNext, cycles_read, may_ack}
 use Rattle.edr_reading.specs.Reading.{IsReading, report_rows, rows_told}
 use Rattle.edr_reading.specs.declared.reading.Reading.{Reading}
 use Rattle.edr_reading.specs.declared.reading.ReportRefused.{ReportRefused}
@@ -70,10 +69,9 @@ fault-next r records i f less h w =
     subst (λ (k : ℕ). IsFault records (k + 1) f) (sym (rows-are r records i less h))
     (fault-after records i f (omega (arith, less)) (stands-opens r.next r.last (cycles_read r) r.found.items (take i records) h.stands) w)
 
-pub field-fault : (r : Reader) (records : FieldRows) (i : ℕ) (e : Refused) → i < length records → HasReadRows r (take i records) → IsRefused (take i records) (get_or records i []) e → IsRowRefusal records (refusal_of (r.rows + 1) e)
-field-fault r records i (refused.Field f) less h w =
+pub field-fault : (r : Reader) (records : FieldRows) (i f : ℕ) → i < length records → HasReadRows r (take i records) → IsRefused (take i records) (get_or records i []) (refused.Field f) → IsFault records (r.rows + 1) (fault.Field f)
+field-fault r records i f less h w =
     fault-next r records i (fault.Field f) less h (subst (λ (x : FieldRows). IsWrong (take i records) x (fault.Field f)) (sym (drop_more records i [] less)) (w (drop (i + 1) records)))
-field-fault r records i refused.OutOfMemory less h w = tt
 
 pub length-fault : (r : Reader) (records : FieldRows) (i n : ℕ) → i < length records → HasReadRows r (take i records) → n ≡ min (length (get_or records i [])) 4_294_967_295 → length (get_or records i []) ≢ 3 → IsFault records (r.rows + 1) (fault.Fields n)
 length-fault r records i n less h is other = fault-next r records i (fault.Fields n) less h (wrong-fields (take i records) records i n less is other)

@@ -224,8 +224,3 @@ pub record ReadsRows (rows : FieldRows) (result : Result Reading ReportRefused) 
 abbrev pub IsRefusalOfRecords : List ℕ → ReportRefused → Type 0
 IsRefusalOfRecords bytes (Fault row fault) = (records : List (List (List ℕ))) × RecordsOf bytes records × IsFault records row fault
 IsRefusalOfRecords bytes OutOfMemory = ⊤
-
--- the refusal of a row
-abbrev pub refusal_of : ℕ → Refused → ReportRefused
-refusal_of row (refused.Field f) = Fault row (fault.Field f)
-refusal_of row refused.OutOfMemory = OutOfMemory

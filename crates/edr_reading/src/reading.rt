@@ -4,7 +4,7 @@ ghost use Rattle.std.specs.Prelude.{◌≡◌, IfOk, IfErr, map};
 ghost use Rattle.csv.specs.Records.{fields_of};
 ghost use Rattle.edr_image.specs.Reports.{report_of};
 ghost use Rattle.edr_spell.specs.Spell.{RecordsOf};
-ghost use Rattle.edr_reading.specs.Reader.{HasReadRows, IsRefusalOfRecords, IsRowRefusal, ReadsRows, refusal_of};
+ghost use Rattle.edr_reading.specs.Reader.{HasReadRows, IsRefusalOfRecords, IsRowRefusal, ReadsRows};
 ghost use Rattle.edr_reading.specs.Reading.{IsReading, OfReportRows, rows_told};
 ghost use Rattle.edr_reading.specs.Rows.{FieldRows};
 
@@ -48,23 +48,14 @@ fn read_rows(alloc: Global, records: &[ByteRecord]) -> Result<Reader, ReportRefu
         };
         match reader.take(alloc, &fields) {
             Ok(()) => {}
-            Err(refused) => return Err(refusal(row, refused)),
+            Err(Refused::Field(field)) => {
+                let fault = RowFault::Field(field);
+                return Err(ReportRefused::Fault { row, fault });
+            }
+            Err(Refused::OutOfMemory) => return Err(ReportRefused::OutOfMemory),
         }
     }
     Ok(reader)
-}
-
-// The refusal of this row.
-fn refusal(row: u32, refused: Refused) -> ReportRefused
-    ensures { result ≡ refusal_of row refused }
-{
-    match refused {
-        Refused::Field(field) => ReportRefused::Fault {
-            row,
-            fault: RowFault::Field(field),
-        },
-        Refused::OutOfMemory => ReportRefused::OutOfMemory,
-    }
 }
 
 // What a reader has read of which these were all rows.
