@@ -97,7 +97,8 @@ pub(crate) fn firing(bytes: &[u8], latest: u16) -> Option<Option<u16>>
 // The number in front of the bytes with `-` before it, and what stands after it.
 fn negative_in_front(bytes: &[u8]) -> Option<(i16, &[u8])>
     ensures read { IfSome result (λ p. (45 ∷ bytes.now ≡ signed_decimal p.0 ++ p.1.now) × IsChange p.0) }
-    ensures whole { (k : ℕ) (more : List ℕ) → k + 1 ≤ GREATEST_CHANGE → EndsNumber more → bytes.now ≡ decimal (k + 1) ++ more → GivesValue (negsuc k) more result }
+    ensures whole { (k : ℕ) (more : List ℕ) → k + 1 ≤ GREATEST_CHANGE → EndsNumber more →
+        bytes.now ≡ decimal (k + 1) ++ more → GivesValue (negsuc k) more result }
 {
     let (n, rest) = within_after(bytes, b"", 1, GREATEST_CHANGE)?;
     Some((0 - n as i16, rest))
