@@ -1,7 +1,7 @@
 -- The lines of an event.
-use Rattle.std.proofs.Common.{arith, ◌≡◌, ◌∙◌, sym, subst, refl, ℕ, ◌+◌, ◌-◌, ◌≤◌, Bool, false, List, [], ◌∷◌, ◌++◌, length, take, Option, None, Some, decimal}
+use Rattle.std.proofs.Common.{arith, ◌≡◌, ◌∙◌, sym, subst, refl, ℕ, ◌+◌, ◌-◌, ◌≤◌, Bool, false, List, [], ◌∷◌, ◌++◌, length, take, Option, None, Some, decimal, ap, map, set}
 use Rattle.std.specs.Option.{IfSome, option_map_or}
-use Rattle.std.proofs.lemmas.List.{length-map, take-append-le}
+use Rattle.std.proofs.lemmas.List.{length-map, take-append-le, take-map, take-set}
 use Rattle.edr_record.specs.declared.Record.{Record}
 use Rattle.edr_record.specs.Bounds.{IsCrash}
 use Rattle.edr_record.specs.Complete.{is_complete, misses_no_tick}
@@ -16,8 +16,15 @@ use Rattle.edr_report.specs.declared.event_lines.Restraint.TheVariants as restra
 use Rattle.edr_report.specs.EventWords.{place_of}
 use Rattle.edr_report.specs.Words.{firing_words, yes_no}
 use Rattle.edr_reading.specs.Event.{EventAgrees, event_place, event_texts}
-use Rattle.edr_reading.proofs.PartLemmas.{front-before}
 use Rattle.edr_reading.specs.Parts.{pre_texts, PartsAgree, PreAgrees, crash_place, crash_texts, pre_place}
+use Rattle.std.proofs.Math.Seq.{take-append-add}
+
+-- the same texts before others
+pub front-before : (front xs ys : List (List ℕ)) (k : ℕ) → take k xs ≡ take k ys → take (length front + k) (front ++ xs) ≡ take (length front + k) (front ++ ys)
+front-before front xs ys k same = take-append-add front xs k ∙ ap (λ (zs : List (List ℕ)). front ++ zs) same ∙ sym (take-append-add front ys k)
+
+pub set-before : {X : Type 0} (f : X → List ℕ) (xs : List X) (k : ℕ) (x : X) → take k (map f (set xs k x)) ≡ take k (map f xs)
+set-before f xs k x = take-map f k (set xs k x) ∙ ap (map f) (take-set xs k x) ∙ sym (take-map f k xs)
 
 pre-most : (l : PreLine) → pre_place l ≤ 10
 pre-most pre.Cycle = omega arith

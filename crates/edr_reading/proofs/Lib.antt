@@ -1,6 +1,5 @@
 pub mod FrontLemmas
 pub mod EventLemmas
-pub mod PartLemmas
 pub mod PointLemmas
 pub mod SlotLemmas
 pub mod ValueLemmas

@@ -1,14 +1,16 @@
--- The points of an axis, of which those past the end are 0.
-use Rattle.std.proofs.Common.{arith, ◌≡◌, ◌∙◌, sym, ap, subst, refl, ℕ, zero, suc, ◌<◌, ◌≤◌, ℤ, pos, List, [], ◌∷◌, ◌++◌, length, map, take, drop, get_or, replicate, length-append, length-take-le, length-drop, Some, Option, slice_get, FitsSigned, w16}
+-- The points of an axis, of which those past the end are 0, and a crash part in which nothing changed.
+use Rattle.std.proofs.Common.{arith, ◌≡◌, ◌∙◌, sym, ap, subst, refl, ℕ, zero, suc, ◌<◌, ◌≤◌, ℤ, pos, List, [], ◌∷◌, ◌++◌, length, map, take, drop, get_or, replicate, length-append, length-take-le, length-drop, Some, Option, slice_get, FitsSigned, w16, max, None, codes}
 use Rattle.std.specs.List.{All}
 use Rattle.std.proofs.lemmas.Int.{ints}
 use Rattle.std.specs.Fmt.{signed_decimal}
 use Rattle.std.proofs.Math.Seq.{take-append_seam, drop-append_seam}
 use Rattle.std.proofs.lemmas.List.{drop-replicate, take-append-drop, length-replicate}
-use Rattle.std.proofs.lemmas.List.Elements.{All-append, All-drop, All-take}
-use Rattle.edr_record.specs.Bounds.{ArePoints, IsChange, point_count}
+use Rattle.std.proofs.lemmas.List.Elements.{All-append, All-drop, All-take, All-replicate}
+use Rattle.edr_record.specs.Bounds.{ArePoints, IsChange, point_count, IsCrash, IsExtreme, IsUpTo, window_from_end}
 use Rattle.edr_reading.specs.Slots.{ShowPoints, with_zeros}
-use Rattle.edr_report.specs.Words.{spaced_words, points_words}
+use Rattle.edr_report.specs.Words.{spaced_words, points_words, milliseconds, none_word}
+use Rattle.edr_record.specs.Parts.{CrashPart}
+use Rattle.edr_reading.proofs.FrontLemmas.{not-number}
 
 pub count-fits : (end : ℕ) → (1 ≤ point_count end) × (point_count end ≤ 26)
 count-fits end = (omega arith, omega arith)
@@ -77,3 +79,27 @@ points-given bytes end r ps whole are is =
 
 pub change-fits : (z : ℤ) → IsChange z → FitsSigned w16 z
 change-fits z h = grind (arith, ints)
+
+-- the points of an axis on which nothing changed
+pub no-points : (n : ℕ) → ArePoints n (replicate 26 (pos 0))
+no-points n = record { room = length-replicate 26 (pos 0); first = refl; changes = zeros-change; past = drop-replicate n 26 (pos 0) }
+
+-- an end is not absent
+pub end-none : (end : ℕ) → end < 2_000 → none_word ≡ milliseconds end → ⊥
+end-none end small e = not-number end 110 (codes "one") (codes " ms") (omega (arith, small)) refl e
+
+pub no-change : (end : ℕ) → 20 ≤ end → end ≤ 500 → (c : CrashPart) → c.end ≡ end → c.along ≡ replicate 26 (pos 0) → c.across ≡ replicate 26 (pos 0) → c.max_along ≡ record { kmh = pos 0; at = 0 } → c.max_across ≡ record { kmh = pos 0; at = 0 }
+    → c.result_at ≡ 0 → c.missing_along ≡ 0 → c.missing_across ≡ 0 → c.fired ≡ replicate 8 None → IsCrash c
+no-change end h k c e a b x y r m n f = record {
+  end_from = omega (arith, h, e);
+  end_to = omega (arith, k, e);
+  along = subst (ArePoints (point_count c.end)) (sym a) (no-points (point_count c.end));
+  across = subst (ArePoints (point_count c.end)) (sym b) (no-points (point_count c.end));
+  max_along = subst (IsExtreme (window_from_end c.end)) (sym x) (record { change = omega arith; time = omega arith });
+  max_across = subst (IsExtreme (window_from_end c.end)) (sym y) (record { change = omega arith; time = omega arith });
+  result_at = omega (arith, r);
+  missing_along = omega (arith, m);
+  missing_across = omega (arith, n);
+  restraints = ap length f;
+  fired = subst (All (IsUpTo (max c.end (window_from_end c.end)))) (sym f) (All-replicate (IsUpTo (max c.end (window_from_end c.end))) 8 None tt);
+}
