@@ -1,5 +1,5 @@
 -- What a reading has of its bytes once it was given more of them, or has reported more of them.
-use Rattle.std.proofs.Common.{◌≡◌, ◌∙◌, ℕ, ◌+◌, List, [], ◌++◌, length, drop, sym, ap, ap₂, arith, append_assoc, append-nil, length-append}
+use Rattle.std.proofs.Common.{◌≡◌, ◌∙◌, ℕ, ◌+◌, List, [], ◌++◌, length, drop, sym, ap, ap₂, subst, arith, append_assoc, append-nil, length-append}
 use Rattle.std.proofs.Math.Seq.{drop-append_seam}
 use Rattle.std.proofs.lemmas.Grind.{flat_map-append}
 use Rattle.std.proofs.lemmas.List.Elements.{All-append}
@@ -32,24 +32,29 @@ gave_more bytes piece r r' gave workers part images reported held =
       few_events = omega (arith, images, events, gave.few_events);
     }
 
--- what stood at the front of what was held is reported
-pub gave_front : (bytes : List ℕ) (r r' : FleetReading) (f : Front) → GaveFrames bytes r → IsFrontOf r.images r.held.items f
+-- what stood at the front of what was held is reported, and more bytes are held after the rest
+pub gave_on : (bytes piece : List ℕ) (r r' : FleetReading) (f : Front) → GaveFrames bytes r → IsFrontOf r.images r.held.items f
     → r'.workers ≡ r.workers → r'.part.lines.items ≡ r.part.lines.items ++ f.part.lines.items → r'.part.events ≡ r.part.events + f.part.events
-    → r'.images ≡ r.images + f.images → r'.reported ≡ r.reported + f.end → r'.held.items ≡ drop f.end r.held.items → GaveFrames bytes r'
-gave_front bytes r r' f gave front workers lines events images reported held =
+    → r'.images ≡ r.images + f.images → r'.reported ≡ r.reported + f.end → r'.held.items ≡ drop f.end r.held.items ++ piece → GaveFrames (bytes ++ piece) r'
+gave_on bytes piece r r' f gave front workers lines events images reported held =
     let xs = gave.images in
     let ys = front.images in
-    let left : r'.held.items ≡ front.rest =
-    held ∙ ap (λ (n : ℕ). drop n r.held.items) front.end ∙ ap (drop (length (frames ys))) front.first.bytes_are ∙ drop-append_seam (frames ys) front.rest in
+    let rest : drop f.end r.held.items ≡ front.rest =
+    ap (λ (n : ℕ). drop n r.held.items) front.end ∙ ap (drop (length (frames ys))) front.first.bytes_are ∙ drop-append_seam (frames ys) front.rest in
+    let left : r'.held.items ≡ front.rest ++ piece = held ∙ ap (λ (h : List ℕ). h ++ piece) rest in
     let both = flat_map-append frame xs ys in
+    let whole : bytes ≡ frames (xs ++ ys) ++ front.rest =
+    gave.bytes_are
+    ∙ ap (λ (h : List ℕ). frames xs ++ h) front.first.bytes_are
+    ∙ sym (append_assoc (frames xs) (frames ys) front.rest)
+    ∙ ap (λ (b : List ℕ). b ++ front.rest) (sym both) in
     let place : r.images + 1 ≡ 1 + length xs = omega (arith, gave.images_are) in
     record {
       images = xs ++ ys;
       fit = All-append FitsFrame xs ys gave.fit front.first.fit;
-      bytes_are = gave.bytes_are
-          ∙ ap (λ (h : List ℕ). frames xs ++ h) front.first.bytes_are
-          ∙ sym (append_assoc (frames xs) (frames ys) front.rest)
-          ∙ ap₂ (λ (a b : List ℕ). a ++ b) (sym both) (sym left);
+      bytes_are = ap (λ (b : List ℕ). b ++ piece) whole
+          ∙ append_assoc (frames (xs ++ ys)) front.rest piece
+          ∙ ap (λ (h : List ℕ). frames (xs ++ ys) ++ h) (sym left);
       lines = lines
           ∙ ap₂ (λ (a b : List ℕ). a ++ b) gave.lines (front.lines ∙ ap (λ (n : ℕ). image_lines n ys) place)
           ∙ sym (image_lines-append 1 xs ys);
@@ -60,6 +65,14 @@ gave_front bytes r r' f gave front workers lines events images reported held =
       few_images = omega (arith, images, reported, gave.few_images, front.few_images);
       few_events = omega (arith, images, events, gave.few_events, front.few_events);
     }
+
+-- the same, with no more bytes
+pub gave_front : (bytes : List ℕ) (r r' : FleetReading) (f : Front) → GaveFrames bytes r → IsFrontOf r.images r.held.items f
+    → r'.workers ≡ r.workers → r'.part.lines.items ≡ r.part.lines.items ++ f.part.lines.items → r'.part.events ≡ r.part.events + f.part.events
+    → r'.images ≡ r.images + f.images → r'.reported ≡ r.reported + f.end → r'.held.items ≡ drop f.end r.held.items → GaveFrames bytes r'
+gave_front bytes r r' f gave front workers lines events images reported held =
+    subst (λ (b : List ℕ). GaveFrames b r') (append-nil bytes)
+    (gave_on bytes [] r r' f gave front workers lines events images reported (held ∙ sym (append-nil (drop f.end r.held.items))))
 
 -- all is reported
 pub gave_whole : (bytes out : List ℕ) (r : FleetReading) → GaveFrames bytes r → r.held.items ≡ []

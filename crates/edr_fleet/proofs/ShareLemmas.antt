@@ -1,6 +1,6 @@
 -- The shares of a fleet, one after the other, have its lines and its events.
-use Rattle.std.proofs.Common.{◌≡◌, ◌∙◌, ℕ, zero, suc, ◌+◌, ◌*◌, ◌/◌, ◌%◌, ◌<◌, ◌≤◌, min, true, false, List, ◌++◌, length, map, take, drop, get_or, Result, Ok, Err, sym, ap, subst, arith, add-one, length-append, length-drop}
-use Rattle.std.specs.Prelude.{flat_map, sum_by, IsOk}
+use Rattle.std.proofs.Common.{◌≡◌, ◌∙◌, ℕ, zero, suc, ◌+◌, ◌*◌, ◌/◌, ◌%◌, ◌<◌, ◌≤◌, min, true, false, List, ◌++◌, append-nil, length, map, take, drop, get_or, Result, Ok, Err, sym, ap, ap₂, subst, arith, add-one, length-append, length-drop}
+use Rattle.std.specs.Prelude.{◌∷◌, [], flat_map, sum_by, All, IsOk, IfOk, OnOk}
 use Rattle.std.specs.Borrow.{Bor}
 use Rattle.std.specs.Fork.{slice_chunk}
 use Rattle.std.specs.declared.alloc.AllocError.{AllocError}
@@ -9,7 +9,7 @@ use Rattle.std.proofs.lemmas.List.{length-take, length-map, length-take-le, map-
 use Rattle.std.proofs.Math.Seq.{take-add}
 use Rattle.std.proofs.Math.Nat.{mod-add-div, mod-lt}
 use Rattle.edr_fleet.specs.declared.parts.FleetPart.{FleetPart}
-use Rattle.edr_fleet.specs.Parts.{IsShareOf, events_of, lines_of}
+use Rattle.edr_fleet.specs.Parts.{HasShare, IsShareOf, events_of, lines_of}
 use Rattle.edr_fleet.specs.Text.{all_events, image_lines}
 use Rattle.edr_fleet.proofs.TextLemmas.{all_events-append, image_lines-append}
 use Rattle.edr_fleet.proofs.JoinLemmas.{events_next, lines_next}
@@ -107,3 +107,45 @@ enough_shares n size many pos is =
       by_rest : (m q : ℕ) → m < size → m + size * q ≡ n → n ≤ (q + min 1 m) * size
       by_rest zero q less whole = let none : min 1 0 ≡ 0 = omega arith in rw none (omega arith)
       by_rest (suc m) q less whole = let one : min 1 (suc m) ≡ 1 = omega arith in rw one (omega arith)
+
+-- the parts of shares one after the other are a share
+pub joined_share : (before size : ℕ) (images : List (Bor (List ℕ))) (rs : List (Result FleetPart AllocError)) (r : Result FleetPart AllocError)
+    → ((n : ℕ) → n < length rs → n * size ≤ length images)
+    → ((n : ℕ) (d : Result FleetPart AllocError) → n < length rs → IsShareOf (slice_chunk images size n) (before + n * size) (get_or rs n d))
+    → length images ≤ length rs * size → OnOk r (All IsOk rs)
+    → IfOk r (λ p. p.lines.items ≡ flat_map lines_of rs) → IfOk r (λ p. p.events ≡ sum_by events_of rs) → IfOk r (HasShare images before)
+joined_share before size images rs (Err e) within shares enough fine lines events = tt
+joined_share before size images rs (Ok p) within shares enough fine lines events =
+    let all = all_shares before size images rs (Err (record {})) fine within shares enough in
+    record { lines = lines ∙ all.0; events = events ∙ all.1; few = omega (arith, events, all.2) }
+
+-- so are the parts of two shares of any size
+pub both_shares : (before : ℕ) (xs ys : List (Bor (List ℕ))) (a b r : Result FleetPart AllocError)
+    → IsShareOf xs before a → IsShareOf ys (before + length xs) b → OnOk r (All IsOk (a ∷ b ∷ []))
+    → IfOk r (λ p. p.lines.items ≡ flat_map lines_of (a ∷ b ∷ [])) → IfOk r (λ p. p.events ≡ sum_by events_of (a ∷ b ∷ []))
+    → IfOk r (HasShare (xs ++ ys) before)
+both_shares before xs ys a b (Err e) share_a share_b fine lines events = tt
+both_shares before xs ys a b (Ok p) share_a share_b fine lines events =
+    let first = share_of xs before a (fine 0 a (omega arith)) share_a in
+    let second = share_of ys (before + length xs) b (fine 1 b (omega arith)) share_b in
+    let both : bytes_of (xs ++ ys) ≡ bytes_of xs ++ bytes_of ys = map-append (λ (i : Bor (List ℕ)). i.now) xs ys in
+    let two : sum_by events_of (a ∷ b ∷ []) ≡ events_of a + events_of b = omega arith in
+    let place : before + length xs + 1 ≡ before + 1 + length (bytes_of xs) = omega (arith, length-map xs (λ (i : Bor (List ℕ)). i.now)) in
+    record {
+      lines = lines
+          ∙ ap (λ (l : List ℕ). lines_of a ++ l) (append-nil (lines_of b))
+          ∙ ap₂ (λ (l m : List ℕ). l ++ m) first.0 (second.0 ∙ ap (λ (n : ℕ). image_lines n (bytes_of ys)) place)
+          ∙ sym (image_lines-append (before + 1) (bytes_of xs) (bytes_of ys))
+          ∙ ap (image_lines (before + 1)) (sym both);
+      events = events
+          ∙ two
+          ∙ ap₂ (λ (m n : ℕ). m + n) first.1 second.1
+          ∙ sym (all_events-append (bytes_of xs) (bytes_of ys))
+          ∙ ap all_events (sym both);
+      few = omega (arith, events, two, first.2, second.2, length-append xs ys);
+    }
+
+pub few_both : (before : ℕ) (xs ys : List (Bor (List ℕ))) (a b : Result FleetPart AllocError) (most : ℕ) → length xs + length ys ≤ most
+    → IsShareOf xs before a → IsShareOf ys (before + length xs) b → sum_by events_of (a ∷ b ∷ []) ≤ 32 * most
+few_both before xs ys a b most few share_a share_b =
+    omega (arith, few_in xs before most a (omega (arith, few)) share_a, few_in ys (before + length xs) most b (omega (arith, few)) share_b)

@@ -1,10 +1,11 @@
 -- What a reading of frames has of the bytes that it was given.
-use Rattle.std.specs.Prelude.{◌≡◌, ◌+◌, ◌≤◌, ◌*◌, ℕ, List, ◌++◌, All, length, Option}
+use Rattle.std.specs.Prelude.{◌≡◌, ◌+◌, ◌≤◌, ◌<◌, ◌*◌, ℕ, Bool, true, false, List, [], ◌++◌, All, length, Option}
 use Rattle.edr_device.specs.Told.{Told}
 use Rattle.edr_device.specs.Transfer.{GivesAll}
 use Rattle.edr_spell.specs.Spell.{largest_trace}
 use Rattle.edr_fleet.specs.Frames.{BeginWithFrames, FitsFrame, frames}
 use Rattle.edr_fleet.specs.Text.{all_events, image_lines}
+use Rattle.edr_fleet.specs.declared.filling.Filled.{Filled}
 use Rattle.edr_fleet.specs.declared.reading.FleetReading.{FleetReading}
 use Rattle.edr_fleet.specs.declared.reading.Front.{Front}
 
@@ -44,6 +45,23 @@ GainsFrames piece old new = (bytes : List ℕ) → GaveFrames bytes old → Gave
 -- no more were given
 abbrev pub KeepsFrames : FleetReading → FleetReading → Type 0
 KeepsFrames old new = (bytes : List ℕ) → GaveFrames bytes old → GaveFrames bytes new
+
+-- these bytes were taken from the front, and where the end was found, none is left
+pub record GivesPiece (piece : List ℕ) (is_end : Bool) (left left' : List ℕ) : Type 0 where
+  pub given : left ≡ piece ++ left'
+  pub end : is_end ≡ true → left' ≡ []
+
+-- it has at most so many bytes. The end is found by asking for one more, and before the end there is one
+abbrev pub FitsWithin : ℕ → Filled → Type 0
+FitsWithin most f = (f.taken ≤ most) × (f.is_end ≡ true → f.taken < most) × (1 ≤ most → f.is_end ≡ false → 1 ≤ f.taken)
+
+-- the source gave a piece, which was put after what was held
+abbrev pub Fills : Filled → List ℕ → List ℕ → Option (List ℕ) → Option (List ℕ) → Type 0
+Fills f held held' left left' = (piece : List ℕ) × (held' ≡ held ++ piece) × (f.taken ≡ length piece) × Told (GivesPiece piece f.is_end) left left'
+
+-- it was given to a reading
+abbrev pub FillsFrames : Filled → FleetReading → FleetReading → Option (List ℕ) → Option (List ℕ) → Type 0
+FillsFrames f old new left left' = (piece : List ℕ) × GainsFrames piece old new × (f.taken ≡ length piece) × Told (GivesPiece piece f.is_end) left left'
 
 -- the source gave all its bytes, up to the limit, and these were given to the reading
 abbrev pub HasAllFrames : ℕ → FleetReading → Option (List ℕ) → Option (List ℕ) → Type 0

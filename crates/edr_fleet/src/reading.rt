@@ -1,20 +1,22 @@
 //! The report of a fleet whose frames come piece by piece.
-ghost use Rattle.std.specs.Prelude.{◌≡◌, ◌+◌, ◌≤◌, ◌<◌, ◌^◌, ℕ, List, [], drop, length, vec_len, All, IfOk, OnOk};
+ghost use Rattle.std.specs.Prelude.{◌≡◌, ◌≢◌, ◌+◌, ◌≤◌, ◌<◌, ◌^◌, ℕ, List, [], ◌++◌, drop, length, vec_len, IfOk, OnOk};
+ghost use Rattle.edr_device.specs.Faults.{Rose};
+ghost use Rattle.edr_device.specs.Told.{Told};
+ghost use Rattle.edr_device.specs.Transfer.{GivesAtMost};
 ghost use Rattle.edr_spell.specs.Spell.{largest_trace};
 ghost use Rattle.edr_fleet.specs.Answers.{IsReportOf};
-ghost use Rattle.edr_fleet.specs.Frames.{FitsFrame, HasNoFrame};
-ghost use Rattle.edr_fleet.specs.Parts.{IsShareOf};
-ghost use Rattle.edr_fleet.specs.Reading.{GainsFrames, GaveFrames, IsFrontOf, KeepsFrames, MayGain};
+ghost use Rattle.edr_fleet.specs.Frames.{HasNoFrame};
+ghost use Rattle.edr_fleet.specs.Reading.{Fills, FillsFrames, FitsWithin, GainsFrames, GaveFrames, IsFrontOf, KeepsFrames, MayGain};
 
-use crate::frames::{FleetRefused, Framed, images_in};
-use crate::parts::{FleetPart, Turn, part_of, with_totals};
-use crate::threads::{joined, share_of};
+use crate::beside::{Beside, report_beside};
+use crate::filling::{Filled, fill};
+use crate::frames::{FleetRefused, Framed, begins_with_frame, images_in};
+use crate::parts::{FleetPart, Turn, with_totals};
+use crate::threads::part_by;
+use edr_device::{Source, TakeFault};
 use std::alloc::{AllocError as OutOfMemory, Global};
-use std::thread::{Threads, map_chunks};
-
-/// So many bytes are held at least before their frames are reported. Then the same memory serves
-/// again: to take fresh memory for all bytes costs more time than to read them.
-const PORTION: usize = 16_777_216;
+use std::mem::replace;
+use std::thread::Threads;
 
 // The report of whole frames that follow one another, how many images they have, and how many bytes.
 #[derive(Drop)]
@@ -38,7 +40,8 @@ fn drop_first(bytes: &mut Vec<u8>, end: usize)
 }
 
 /// The report of the images whose frames came so far, by up to eight workers, and the bytes that
-/// came after these. It holds some sixteen million bytes, or one frame that is longer.
+/// came after these. It holds some two million bytes, or one frame that is longer, and has memory
+/// for as many that come next.
 #[derive(Drop)]
 pub struct FleetReading {
     alloc: Global,
@@ -49,6 +52,8 @@ pub struct FleetReading {
     reported: usize,
     // What came after them.
     held: Vec<u8>,
+    // Memory that held what was reported, for what comes next.
+    spare: Vec<u8>,
 }
 
 impl FleetReading {
@@ -67,6 +72,7 @@ impl FleetReading {
             images: 0,
             reported: 0,
             held: Vec::new(alloc),
+            spare: Vec::new(alloc),
         }
     }
 
@@ -82,24 +88,77 @@ impl FleetReading {
         ensures { IfOk result (IsFrontOf self.now.images self.now.held.items) }
     {
         let Framed { images, rest } = images_in(self.alloc, &self.held)?;
-        let alloc = self.alloc;
-        let before = self.images;
-        let parts = map_chunks(
-            rt,
-            alloc,
-            &images,
-            share_of(images.len(), self.workers),
-            &|start: usize, some: &[&[u8]]| -> Result<FleetPart, OutOfMemory>
-                requires fit { All (λ i. FitsFrame i.now) some.now }
-                requires few { before + start + 1 + length some.now < 2 ^ 32 }
-                ensures share { IsShareOf some.now (before + start) result }
-            { part_of(alloc, (before + start) as u32 + 1, some, turn) },
-        )?;
+        let part = part_by(rt, self.alloc, self.images, &images, self.workers, turn)?;
         Ok(Front {
-            part: joined(alloc, &parts)?,
+            part,
             images: images.len(),
             end: self.held.len() - rest.len(),
         })
+    }
+
+    // The same, while `next` gets what follows these frames, and then what comes next of a source.
+    fn front_beside<R: Threads + Sync, S: Source>(
+        &self,
+        rt: &R,
+        source: &mut S,
+        buffer: &mut [u8],
+        next: &mut Vec<u8>,
+        most: usize,
+    ) -> Result<(Front, Filled), TakeFault>
+        requires some { 1 ≤ length buffer.old }
+        requires few { self.now.images + length self.now.held.items ≤ largest_trace + 1 }
+        ensures front { IfOk result (λ r. IsFrontOf self.now.images self.now.held.items r.0) }
+        ensures fills { IfOk result (λ r. Fills r.1 (drop r.0.end self.now.held.items)
+            next.new.items (S.left source.old) (S.left source.new)) }
+        ensures within { IfOk result (λ r. FitsWithin most r.1) }
+        ensures gives { Told (GivesAtMost most) (S.left source.old) (S.left source.new) }
+        ensures later { S.faults source.old ≤ S.faults source.new }
+        ensures failed { result ≡ Err TakeFault.Failed
+            → Rose (S.faults source.old) (S.faults source.new) }
+        ensures not_too_long { result ≢ Err TakeFault.TooLong }
+    {
+        let Framed { images, rest } = images_in(self.alloc, &self.held)?;
+        next.clear();
+        next.extend_from_slice(rest)?;
+        let Beside { part, filled } = report_beside(
+            rt,
+            self.alloc,
+            self.images,
+            &images,
+            self.workers,
+            source,
+            buffer,
+            next,
+            most,
+        );
+        let filled = filled?;
+        let front = Front {
+            part: part?,
+            images: images.len(),
+            end: self.held.len() - rest.len(),
+        };
+        Ok((front, filled))
+    }
+
+    // Adds the report of frames that follow those so far.
+    fn add(&mut self, front: &Front) -> Result<(), OutOfMemory>
+        requires lines { front.now.part.events + self.old.part.events < 2 ^ 64 }
+        requires images { self.old.images + front.now.images < 2 ^ 64 }
+        requires bytes { self.old.reported + front.now.end < 2 ^ 64 }
+        ensures lines { OnOk result (self.new.part.lines.items
+            ≡ self.old.part.lines.items ++ front.now.part.lines.items) }
+        ensures events { OnOk result (self.new.part.events
+            ≡ self.old.part.events + front.now.part.events) }
+        ensures images { OnOk result (self.new.images ≡ self.old.images + front.now.images) }
+        ensures bytes { OnOk result (self.new.reported ≡ self.old.reported + front.now.end) }
+        ensures workers { self.new.workers ≡ self.old.workers }
+        ensures held { self.new.held ≡ self.old.held }
+    {
+        self.part.lines.extend_from_slice(&front.part.lines)?;
+        self.part.events += front.part.events;
+        self.images += front.images;
+        self.reported += front.end;
+        Ok(())
     }
 
     // Reports the whole frames at the front of what is held, and holds what follows them.
@@ -113,30 +172,46 @@ impl FleetReading {
         ensures cut { OnOk result (HasNoFrame self.new.held.items) }
     {
         let front = self.front(rt, turn)?;
-        self.part.lines.extend_from_slice(&front.part.lines)?;
-        self.part.events += front.part.events;
-        self.images += front.images;
-        self.reported += front.end;
+        self.add(&front)?;
         drop_first(&mut self.held, front.end);
         Ok(())
     }
 
-    // Takes the bytes that come next, and reports whole frames once so many are held as a portion has.
-    // With an error memory ran out, and the reading is of no more use.
-    pub(crate) fn take<R: Threads + Sync, P: Turn + Sync>(
-        &mut self,
-        rt: &R,
-        piece: &[u8],
-        turn: &P,
-    ) -> Result<(), OutOfMemory>
-        requires { MayGain (length piece.now) self.old }
+    // Takes the bytes that come next.
+    pub(crate) fn take(&mut self, piece: &[u8]) -> Result<(), OutOfMemory>
         ensures { OnOk result (GainsFrames piece.now self.old self.new) }
     {
-        self.held.extend_from_slice(piece)?;
-        if self.held.len() < PORTION {
-            return Ok(());
+        self.held.extend_from_slice(piece)
+    }
+
+    // Takes what comes next of a source, at most so many bytes, and meanwhile reports the whole frames
+    // at the front of what is held. With an error the reading is of no more use.
+    pub(crate) fn take_on<R: Threads + Sync, S: Source>(
+        &mut self,
+        rt: &R,
+        source: &mut S,
+        buffer: &mut [u8],
+        most: usize,
+    ) -> Result<Filled, TakeFault>
+        requires some { 1 ≤ length buffer.old }
+        requires few { MayGain most self.old }
+        ensures fills { IfOk result (λ f. FillsFrames f self.old self.new
+            (S.left source.old) (S.left source.new)) }
+        ensures within { IfOk result (FitsWithin most) }
+        ensures gives { Told (GivesAtMost most) (S.left source.old) (S.left source.new) }
+        ensures later { S.faults source.old ≤ S.faults source.new }
+        ensures failed { result ≡ Err TakeFault.Failed
+            → Rose (S.faults source.old) (S.faults source.new) }
+        ensures not_too_long { result ≢ Err TakeFault.TooLong }
+    {
+        if !begins_with_frame(&self.held) {
+            return fill(source, buffer, &mut self.held, most);
         }
-        self.report_held(rt, turn)
+        let mut next = replace(&mut self.spare, Vec::new(self.alloc));
+        let (front, filled) = self.front_beside(rt, source, buffer, &mut next, most)?;
+        self.add(&front)?;
+        self.spare = replace(&mut self.held, next);
+        Ok(filled)
     }
 
     /// The report of the images whose frames were given. It is refused exactly where the bytes end

@@ -1,17 +1,18 @@
 //! The report of a fleet by threads.
-ghost use Rattle.std.specs.Prelude.{◌≡◌, ◌≤◌, ◌<◌, ◌^◌, length, sum_by, flat_map, All, IsOk, IfOk, OnOk};
+ghost use Rattle.std.specs.Prelude.{◌≡◌, ◌+◌, ◌≤◌, ◌<◌, ◌^◌, length, sum_by, flat_map, All, IsOk, IfOk, OnOk};
 ghost use Rattle.edr_spell.specs.Spell.{largest_trace};
 ghost use Rattle.edr_fleet.specs.Answers.{IsReportOf};
-ghost use Rattle.edr_fleet.specs.Parts.{events_of, lines_of};
+ghost use Rattle.edr_fleet.specs.Frames.{FitsFrame};
+ghost use Rattle.edr_fleet.specs.Parts.{HasShare, IsShareOf, events_of, lines_of};
 
 use crate::frames::FleetRefused;
-use crate::parts::{FleetPart, Turn};
+use crate::parts::{FleetPart, Turn, part_of};
 use crate::reading::FleetReading;
 use std::alloc::{AllocError as OutOfMemory, Global};
-use std::thread::Threads;
+use std::thread::{Threads, map_chunks};
 
-/// How many images a worker has, so that there are at most as many parts as workers.
-pub(crate) fn share_of(images: usize, workers: u8) -> usize
+// How many images a worker has, so that there are at most as many parts as workers.
+fn share_of(images: usize, workers: u8) -> usize
     requires { 1 ≤ workers }
     ensures { 0 < result }
 {
@@ -42,6 +43,35 @@ pub(crate) fn joined(
     Ok(all)
 }
 
+/// The lines of images, before which so many others stand, by up to so many workers. Each worker has images that follow one
+/// another, and a thread.
+pub(crate) fn part_by<R: Threads + Sync, P: Turn + Sync>(
+    rt: &R,
+    alloc: Global,
+    before: usize,
+    images: &[&[u8]],
+    workers: u8,
+    turn: &P,
+) -> Result<FleetPart, OutOfMemory>
+    requires workers { 1 ≤ workers }
+    requires fit { All (λ i. FitsFrame i.now) images.now }
+    requires few { before + length images.now ≤ largest_trace + 1 }
+    ensures { IfOk result (HasShare images.now before) }
+{
+    let parts = map_chunks(
+        rt,
+        alloc,
+        images,
+        share_of(images.len(), workers),
+        &|start: usize, some: &[&[u8]]| -> Result<FleetPart, OutOfMemory>
+            requires fit { All (λ i. FitsFrame i.now) some.now }
+            requires few { before + start + 1 + length some.now < 2 ^ 32 }
+            ensures share { IsShareOf some.now (before + start) result }
+        { part_of(alloc, (before + start) as u32 + 1, some, turn) },
+    )?;
+    joined(alloc, &parts)
+}
+
 /// The report of [`fleet_alone`](crate::fleet_alone), by up to eight workers. Each of them has images that follow one another, and
 /// a thread; where no thread can be started for it, the caller does its work. The call returns once its threads have ended, and
 /// each of them ends.
@@ -57,6 +87,6 @@ pub fn fleet<R: Threads + Sync, P: Turn + Sync>(
     ensures { IsReportOf bytes.now result }
 {
     let mut reading = FleetReading::new(alloc, workers);
-    reading.take(rt, bytes, turn)?;
+    reading.take(bytes)?;
     reading.finish(rt, turn)
 }

@@ -1,38 +1,47 @@
-use Rattle.std.proofs.Common.{arith, ℕ, ◌+◌, ◌++◌, take, length-append, length-take, length-take-le}
+use Rattle.std.proofs.Common.{arith, ◌+◌, ◌-◌, ◌++◌, length-append}
 use Rattle.edr_device.proofs.TransferLemmas.{gives_at_most}
-use Rattle.edr_fleet.proofs.TakingLemmas.{gives_most, gives_next}
+use Rattle.edr_fleet.proofs.TakingLemmas.{gives_all, gives_more}
 use Rattle.edr_fleet.proofs.taking.read_frames.Goals as goal
 
-pub returns-in_err-n-clause-most : goal.returns-in_err-n-clause-most
-returns-in_err-n-clause-most g c =
+pub returns-in_err-filled-clause-most : goal.returns-in_err-filled-clause-most
+returns-in_err-filled-clause-most g c =
     let S = g.S.Source in
     let inv = c.loop-taken.invariant in
-    gives_at_most _ (c.args.limit + 1) inv.bytes (S.left c.args.source.now) (S.left c.loop-taken.source) (S.left c.take_piece.new.source)
-    (omega (arith, inv.taken, inv.within, c.min-room.ensures, length-take {A = ℕ})) inv.gives c.in_err-n.ensures.err
+    gives_at_most (c.args.limit + 1 - c.loop-taken.taken) (c.args.limit + 1) inv.bytes (S.left c.args.source.now) (S.left c.loop-taken.source) (S.left c.take_on.new.source)
+    (omega (arith, inv.taken, inv.within)) inv.gives c.take_on.ensures.gives
 
-pub returns-then-n-eq0-clause-most : goal.returns-then-n-eq0-clause-most
-returns-then-n-eq0-clause-most g c =
+pub returns-then-filled-clause-most : goal.returns-then-filled-clause-most
+returns-then-filled-clause-most g c =
     let S = g.S.Source in
     let inv = c.loop-taken.invariant in
-    let piece = take c.in_ok-n.n c.take_piece.new.buffer in
-    gives_most (c.args.limit + 1) (inv.bytes ++ piece) (S.left c.args.source.now) (S.left c.take_piece.new.source)
-    (omega (arith, length-append inv.bytes piece, length-take-le c.in_ok-n.n c.take_piece.new.buffer, inv.taken, inv.within, c.if-n-eq0.true))
-    (gives_next c.in_ok-n.n inv.bytes piece (S.left c.args.source.now) (S.left c.loop-taken.source) (S.left c.take_piece.new.source) inv.gives c.in_ok-n.ensures.carries)
+    gives_at_most (c.args.limit + 1 - c.loop-taken.taken) (c.args.limit + 1) inv.bytes (S.left c.args.source.now) (S.left c.loop-taken.source) (S.left c.take_on.new.source)
+    (omega (arith, inv.taken, inv.within)) inv.gives c.take_on.ensures.gives
+
+pub returns-then-filled-clause-all : goal.returns-then-filled-clause-all
+returns-then-filled-clause-all g c =
+    let S = g.S.Source in
+    let inv = c.loop-taken.invariant in
+    let fills = c.in_ok-filled.ensures.fills in
+    let piece = fills.0 in
+    let within = c.in_ok-filled.ensures.within.1 c.if-filled.true in (
+      inv.bytes ++ piece,
+      fills.1 inv.bytes inv.gave,
+      omega (arith, length-append inv.bytes piece, inv.taken, inv.within, fills.2, within),
+      gives_all inv.bytes piece _ (S.left c.args.source.now) (S.left c.loop-taken.source) (S.left c.take_on.new.source) c.if-filled.true inv.gives fills.3,
+    )
 
 pub loop-taken-preserved : goal.loop-taken-preserved
 loop-taken-preserved g c =
     let S = g.S.Source in
     let inv = c.loop-taken.invariant in
-    let n = c.in_ok-n.n in
-    let buffer = c.take_piece.new.buffer in
-    let piece = take n buffer in
-    let long = length-take-le n buffer (omega (arith, c.in_ok-n.ensures.within, c.take_piece.auto.buffer)) in
+    let fills = c.in_ok-filled.ensures.fills in
+    let piece = fills.0 in
     record {
       bytes = inv.bytes ++ piece;
-      gave = c.in_ok-n.ensures.gave inv.bytes inv.gave;
-      taken = omega (arith, inv.taken, length-append inv.bytes piece, long);
-      within = omega (arith, c.in_ok-n.ensures.within, c.min-room.ensures, length-take {A = ℕ});
+      gave = fills.1 inv.bytes inv.gave;
+      taken = omega (arith, inv.taken, length-append inv.bytes piece, fills.2);
+      within = omega (arith, inv.taken, inv.within, c.in_ok-filled.ensures.within.0);
       buffer = inv.buffer;
-      gives = gives_next n inv.bytes piece (S.left c.args.source.now) (S.left c.loop-taken.source) (S.left c.take_piece.new.source) inv.gives c.in_ok-n.ensures.carries;
-      later = omega (arith, inv.later, c.in_ok-n.ensures.later);
+      gives = gives_more inv.bytes piece _ (S.left c.args.source.now) (S.left c.loop-taken.source) (S.left c.take_on.new.source) inv.gives fills.3;
+      later = omega (arith, inv.later, c.in_ok-filled.ensures.later);
     }
