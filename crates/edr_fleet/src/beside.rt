@@ -16,8 +16,8 @@ use std::alloc::{AllocError as OutOfMemory, Global};
 use std::thread::{Threads, join_mut};
 
 // How many of some images the other threads report. The first thread also reads what comes next,
-// which takes about a quarter of the time that it takes to report it. Of W threads each has 5/4W of
-// that time to spend, so that the first reports (5 - W)/4W of the images.
+// which takes about a third of the time that it takes to report it. Of W threads each has 4/3W of
+// that time to spend, so that the first reports (4 - W)/3W of the images.
 fn others_of(images: usize, workers: u8) -> usize
     ensures within { result ≤ images }
     ensures alone { workers < 2 → result ≡ 0 }
@@ -26,7 +26,7 @@ fn others_of(images: usize, workers: u8) -> usize
         return 0;
     }
     let workers = usize::from(workers);
-    let own = images / (4 * workers) * (5 - workers.min(5));
+    let own = images / (3 * workers) * (4 - workers.min(4));
     images.saturating_sub(own)
 }
 
