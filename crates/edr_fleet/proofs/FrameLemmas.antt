@@ -1,5 +1,5 @@
 -- The frames of bytes are one list, and so is what follows them where no frame does.
-use Rattle.std.proofs.Common.{◌≡◌, ◌∙◌, ◌⊎◌, inl, inr, ℕ, ◌+◌, ◌<◌, ◌≤◌, List, [], ◌∷◌, ◌++◌, length, take, drop, refl, sym, ap, ap₂, arith, append_assoc, append-nil, length-append}
+use Rattle.std.proofs.Common.{◌≡◌, ◌∙◌, ◌⊎◌, inl, inr, ℕ, ◌+◌, ◌<◌, List, [], ◌∷◌, ◌++◌, length, take, drop, refl, sym, ap, ap₂, arith, append_assoc, append-nil, length-append}
 use Rattle.std.specs.Prelude.{All}
 use Rattle.std.proofs.Math.Seq.{drop-append_seam, take-append_seam}
 use Rattle.std.proofs.lemmas.Grind.{flat_map-append}
@@ -73,11 +73,6 @@ pub never_both : (images : List (List ℕ)) (offset : ℕ) (bytes : List ℕ) �
 never_both images offset bytes p q =
     let same = one_way images q.images [] q.rest p.fit q.fit nothing q.cut.cut (sym (with_nothing images bytes p.bytes_are) ∙ q.bytes_are) in
     q.cut.some (sym same.1)
-
--- images have no more than their frames have bytes
-pub as_many_bytes : (images : List (List ℕ)) → length images ≤ length (frames images)
-as_many_bytes [] = omega arith
-as_many_bytes (x ∷ xs) = omega (arith, as_many_bytes xs, length-append (frame x) (frames xs), length-frame x)
 
 -- bytes that begin with whole frames are whole where nothing follows these, and else end inside the next frame
 pub are_whole : (images : List (List ℕ)) (rest bytes : List ℕ) → BeginWithFrames images rest bytes → rest ≡ [] → AreFramesOf images bytes

@@ -6,31 +6,10 @@ use Rattle.std.proofs.lemmas.List.Elements.{All-append}
 use Rattle.edr_fleet.specs.Frames.{EndsInFrameAt, FitsFrame, HasNoFrame, frame, frames}
 use Rattle.edr_fleet.specs.Reading.{GaveFrames, IsFrontOf}
 use Rattle.edr_fleet.specs.Text.{IsFleetText, image_lines, totals}
-use Rattle.edr_fleet.specs.declared.parts.FleetPart.{FleetPart}
 use Rattle.edr_fleet.specs.declared.reading.FleetReading.{FleetReading}
 use Rattle.edr_fleet.specs.declared.reading.Front.{Front}
 use Rattle.edr_fleet.proofs.FrameLemmas.{are_cut}
 use Rattle.edr_fleet.proofs.TextLemmas.{all_events-append, image_lines-append}
-
--- more bytes are held
-pub gave_more : (bytes piece : List ℕ) (r r' : FleetReading) → GaveFrames bytes r
-    → r'.workers ≡ r.workers → r'.part ≡ r.part → r'.images ≡ r.images → r'.reported ≡ r.reported
-    → r'.held.items ≡ r.held.items ++ piece → GaveFrames (bytes ++ piece) r'
-gave_more bytes piece r r' gave workers part images reported held =
-    let lines = ap (λ (p : FleetPart). p.lines.items) part in
-    let events = ap (λ (p : FleetPart). p.events) part in
-    record {
-      images = gave.images;
-      fit = gave.fit;
-      bytes_are = ap (λ (b : List ℕ). b ++ piece) gave.bytes_are ∙ append_assoc (frames gave.images) r.held.items piece ∙ ap (λ (h : List ℕ). frames gave.images ++ h) (sym held);
-      lines = lines ∙ gave.lines;
-      events = events ∙ gave.events;
-      images_are = images ∙ gave.images_are;
-      reported = reported ∙ gave.reported;
-      some_worker = omega (arith, workers, gave.some_worker);
-      few_images = omega (arith, images, reported, gave.few_images);
-      few_events = omega (arith, images, events, gave.few_events);
-    }
 
 -- what stood at the front of what was held is reported, and more bytes are held after the rest
 pub gave_on : (bytes piece : List ℕ) (r r' : FleetReading) (f : Front) → GaveFrames bytes r → IsFrontOf r.images r.held.items f

@@ -144,8 +144,3 @@ both_shares before xs ys a b (Ok p) share_a share_b fine lines events =
           ∙ ap all_events (sym both);
       few = omega (arith, events, two, first.2, second.2, length-append xs ys);
     }
-
-pub few_both : (before : ℕ) (xs ys : List (Bor (List ℕ))) (a b : Result FleetPart AllocError) (most : ℕ) → length xs + length ys ≤ most
-    → IsShareOf xs before a → IsShareOf ys (before + length xs) b → sum_by events_of (a ∷ b ∷ []) ≤ 32 * most
-few_both before xs ys a b most few share_a share_b =
-    omega (arith, few_in xs before most a (omega (arith, few)) share_a, few_in ys (before + length xs) most b (omega (arith, few)) share_b)

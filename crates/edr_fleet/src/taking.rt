@@ -1,10 +1,10 @@
 //! The frames that a source gives.
-ghost use Rattle.std.specs.Prelude.{◌≡◌, ◌≢◌, ◌+◌, ◌≤◌, [], take, length, IfOk, OnErr};
+ghost use Rattle.std.specs.Prelude.{◌≡◌, ◌+◌, ◌≤◌, IfOk};
 ghost use Rattle.edr_device.specs.Faults.{Rose};
 ghost use Rattle.edr_device.specs.Told.{Told};
-ghost use Rattle.edr_device.specs.Transfer.{Carries, GivesAtMost, GivesTooMany};
+ghost use Rattle.edr_device.specs.Transfer.{GivesAtMost, GivesTooMany};
 ghost use Rattle.edr_spell.specs.Spell.{largest_trace};
-ghost use Rattle.edr_fleet.specs.Reading.{GainsFrames, HasAllFrames, MayGain};
+ghost use Rattle.edr_fleet.specs.Reading.{HasAllFrames};
 
 use crate::reading::FleetReading;
 use edr_device::{Source, TakeFault, piece_len};
