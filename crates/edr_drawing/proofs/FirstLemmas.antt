@@ -1,51 +1,21 @@
 -- The events that may be the first one of a pair.
-use Rattle.std.proofs.Common.{◌≡◌, refl, ℕ, ◌-◌, inl, inr, arith, sym, subst, ap, ltb-true, leb-true, Bool, true, false, ◌&&◌, if◌then◌else◌, nat_eq, nat_le, nat_lt, List, [], ◌∷◌, ◌++◌, Contains}
+use Rattle.std.proofs.Common.{◌≡◌, refl, ℕ, inl, inr, arith, sym, subst, ap, Bool, true, false, if◌then◌else◌, List, [], ◌∷◌, ◌++◌, Contains}
 use Rattle.std.proofs.lemmas.List.Elements.{Contains-append_right}
-use Rattle.std.proofs.lemmas.Bool.{and_parts, eq-eqb, eqb-true, false≢true, le-leb}
 use Rattle.edr_record.specs.declared.Key.{Key}
-use Rattle.edr_record.specs.declared.Place.{Place}
-use Rattle.edr_record.specs.declared.Place.TheVariants.{First, Second}
 use Rattle.edr_record.specs.declared.Record.{Record}
-use Rattle.edr_record.specs.declared.TheConstants.{LONGEST_PAIR}
 use Rattle.edr_record.specs.Parts.{PrePart}
 use Rattle.edr_image.specs.declared.Found.{Found}
-use Rattle.edr_report.specs.Words.{number_shown, tenths_of}
-use Rattle.edr_drawing.specs.Cover.{NumberedRecord, events_of}
-use Rattle.edr_drawing.specs.Sheets.{firsts, is_first, is_first_of, is_so_long_before}
+use Rattle.edr_drawing.specs.Sheets.{NumberedRecord, events_of, firsts, is_first_of}
 use Rattle.edr_drawing.specs.Laws.{AreFirsts, MayBeFirst}
 use Rattle.edr_drawing.proofs.PartLemmas.{contains_cases, in_one}
 
 -- ---- the test of one event says what it should
 
-first_is : (p : Place) → is_first p ≡ true → p ≡ First
-first_is First e = refl
-first_is (Second after) e = absurd (false≢true e)
-
-is_first_so : (p : Place) → p ≡ First → is_first p ≡ true
-is_first_so p e = ap is_first e
-
 may_be_first : (key : Key) (after : ℕ) (p : PrePart) → is_first_of key after p ≡ true → MayBeFirst key after p
-may_be_first key after p so =
-    let parts = and_parts (is_first p.place) (is_so_long_before p.key key after) so in
-    let time = and_parts _ (nat_eq (tenths_of (key.zero - p.key.zero)) (tenths_of after)) parts.1 in
-    let within = and_parts _ (nat_le (key.zero - p.key.zero) LONGEST_PAIR) time.0 in
-    let before = and_parts (nat_eq (number_shown p.key.cycle) (number_shown key.cycle)) (nat_lt p.key.zero key.zero) within.0 in
-    record {
-      place = first_is p.place parts.0;
-      cycle = eqb-true _ _ before.0;
-      before = ltb-true _ _ before.1;
-      within = leb-true _ _ within.1;
-      time = eqb-true _ _ time.1;
-    }
-
-both : (x y : Bool) → x ≡ true → y ≡ true → (x && y) ≡ true
-both true y e f = f
-both false y e f = absurd (false≢true e)
+may_be_first key after p so = grind (arith, so)
 
 is_one : (key : Key) (after : ℕ) (p : PrePart) → MayBeFirst key after p → is_first_of key after p ≡ true
-is_one key after p may =
-    both _ _ (is_first_so p.place may.place)
-    (both _ _ (both _ _ (both _ _ (eq-eqb _ _ may.cycle) (le-leb _ _ may.before)) (le-leb _ _ may.within)) (eq-eqb _ _ may.time))
+is_one key after p may = grind (arith, may.place, may.cycle, may.before, may.within, may.time)
 
 -- ---- what is named may be it
 

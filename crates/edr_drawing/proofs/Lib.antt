@@ -1,6 +1,3 @@
-pub mod CountedLemmas
-pub mod EventLemmas
-pub mod PlaceLemmas
 pub mod PartLemmas
 pub mod FirstLemmas
 pub mod PresentLemmas
@@ -9,4 +6,4 @@ pub mod PlainLemmas
 pub mod PlainChartLemmas
 pub mod PlainLineLemmas
 pub mod PlainSheetLemmas
-pub mod SlotLemmas
+pub mod ListLemmas

@@ -13,10 +13,9 @@ use Rattle.edr_image.specs.Reports.{Report}
 use Rattle.edr_report.specs.Lines.{Line}
 use Rattle.edr_report.specs.Report.{event_lines, events_lines, found_records, run_lines}
 use Rattle.edr_drawing.specs.declared.Origin.{Origin}
-use Rattle.edr_drawing.specs.Cover.{NumberedRecord, events_of}
+use Rattle.edr_drawing.specs.Sheets.{NumberedRecord, events_of, place_fact, sheet}
 use Rattle.edr_drawing.specs.Scales.{flat_map_below}
 use Rattle.edr_drawing.specs.Tables.{row, row_of, line_row, elements_table, run_table, block, block_slots, blocks, blocks_in, by_time, slot_row}
-use Rattle.edr_drawing.specs.Sheets.{place_fact, sheet}
 use Rattle.edr_drawing.specs.Page.{page_bytes}
 use Rattle.edr_drawing.specs.Laws.{HasAllPlaces, HasAllSlotRows, HasSlotRows, IsInOnePiece, shown_row}
 

@@ -11,13 +11,13 @@ use Rattle.edr_drawing.specs.declared.after.ChartRow.TheVariants.{Greatest}
 use Rattle.edr_drawing.specs.declared.before.TheConstants.{BRAKE_BAND}
 use Rattle.edr_drawing.specs.declared.scales.Scale.{Scale}
 use Rattle.edr_drawing.specs.declared.before.ChartLane.{ChartLane}
-use Rattle.edr_drawing.specs.declared.shapes.Shape.{Shape}
-use Rattle.edr_drawing.specs.declared.shapes.Shape.TheVariants as shape
-use Rattle.edr_drawing.specs.declared.shapes.TheConstants.{RADII}
+use Rattle.edr_drawing.specs.declared.template.Shape.{Shape}
+use Rattle.edr_drawing.specs.declared.template.Shape.TheVariants as shape
+use Rattle.edr_drawing.specs.declared.template.TheConstants.{RADII}
 use Rattle.edr_record.specs.declared.TheConstants.{POINT_STEP}
-use Rattle.edr_drawing.specs.Shapes.{shape_bytes, shapes_bytes}
+use Rattle.edr_drawing.specs.Template.{shape_bytes, shapes_bytes}
 use Rattle.edr_drawing.specs.Scales.{change_y, slot_x, time_x}
-use Rattle.edr_drawing.specs.Before.{cells, cells_of, drawn_lane, field_shapes, lane_y, long_cells, points, run_shapes, are_same, before_chart, brake_slots, switch_runs, switches, time_lines}
+use Rattle.edr_drawing.specs.Before.{cells, cells_of, drawn_lane, field_shapes, lane_y, long_cells, points, run_shapes, before_chart, brake_slots, switch_runs, switches, time_lines}
 use Rattle.edr_drawing.specs.After.{axis_shapes, changes_chart, curve, drawn_curve, end_line, level, levels, maximum, maximum_number, shape_at, time_lines as later_lines, after_chart, chart_row, flag_row, row_time, chart_rows, row_words, time_words}
 use Rattle.edr_drawing.proofs.PlainLemmas.{Plain, all_low, plain_nil, plain_append, plain_if, plain_fixed, plain_flat_map, plains}
 
@@ -56,7 +56,7 @@ plain_switches k (v ∷ vs) = plain_append _ _ (plain_shapes (field_shapes (slot
 plain_switch_runs : (k n : ℕ) (u : Option Bool) (vs : List (Option Bool)) → Plain (switch_runs k n u vs)
 plain_switch_runs k n u [] = plain_shapes _
 plain_switch_runs k n u (v ∷ vs) =
-    plain_if (are_same u v) _ _ (plain_switch_runs k (n + 1) u vs) (plain_append _ _ (plain_shapes _) (plain_switch_runs (k + n) 1 v vs))
+    plain_if _ _ _ (plain_switch_runs k (n + 1) u vs) (plain_append _ _ (plain_shapes _) (plain_switch_runs (k + n) 1 v vs))
 
 plain_brake_slots : (f : Profile) (vs : List (Option Bool)) → Plain (brake_slots f vs)
 plain_brake_slots Short vs = plain_switches 0 vs
@@ -64,7 +64,7 @@ plain_brake_slots Long vs = plain_switch_runs 0 0 None vs
 
 pub plain_before_chart : (n : ℕ) (p : PrePart) → Plain (before_chart n p)
 unfolding before_chart time_lines drawn_lane
-plain_before_chart n p = search (plain_points, plain_cells_of, plain_brake_slots, plain_shapes, plains) depth 60 fits 4000
+plain_before_chart n p = search (plain_points, plain_cells_of, plain_brake_slots, plains) depth 60 fits 4000
 
 -- ---- the chart after time zero
 

@@ -11,10 +11,9 @@ use Rattle.edr_image.specs.declared.Found.{Found}
 use Rattle.edr_image.specs.Reports.{Report}
 use Rattle.edr_drawing.specs.declared.axes.CarAxis.{CarAxis}
 use Rattle.edr_drawing.specs.declared.axes.CarAxis.TheVariants.{Along, Across}
-use Rattle.edr_drawing.specs.declared.shapes.TheConstants.{NONE}
+use Rattle.edr_drawing.specs.declared.template.TheConstants.{NONE}
 use Rattle.edr_drawing.specs.declared.Origin.{Origin}
-use Rattle.edr_drawing.specs.Cover.{NumberedRecord, cover_end, cover_start, damaged_item, damaged_list, event_row, events_table, greatest_or_none}
-use Rattle.edr_drawing.specs.Sheets.{pre_reasons, crash_reasons, reasons, firsts_words, place_fact, place_told, sheet}
+use Rattle.edr_drawing.specs.Sheets.{NumberedRecord, cover_end, cover_start, damaged_item, damaged_list, event_row, events_table, greatest_or_none, pre_reasons, crash_reasons, reasons, firsts_words, place_fact, place_told, sheet}
 use Rattle.edr_drawing.specs.Tables.{points_table, elements_table, run_table, block, by_time, number_word, slot_row}
 use Rattle.edr_drawing.specs.Page.{page_bytes}
 use Rattle.edr_drawing.proofs.PlainLemmas.{Plain, plain_nil, plain_fixed, plain_beginning, plain_decimal, plain_digest, plains}

@@ -5,10 +5,10 @@ use Rattle.edr_record.specs.declared.Profile.{Profile}
 use Rattle.edr_record.specs.declared.Profile.TheVariants.{Short, Long}
 use Rattle.edr_drawing.specs.declared.before.ChartLane.{ChartLane}
 use Rattle.edr_drawing.specs.declared.before.TheConstants.{ROOM_FOR_WORD}
-use Rattle.edr_drawing.specs.declared.shapes.Shape.{Shape}
-use Rattle.edr_drawing.specs.declared.shapes.Shape.TheVariants as shape
-use Rattle.edr_drawing.specs.declared.shapes.TheConstants.{RADII}
-use Rattle.edr_drawing.specs.Shapes.{shape_bytes, shapes_bytes}
+use Rattle.edr_drawing.specs.declared.template.Shape.{Shape}
+use Rattle.edr_drawing.specs.declared.template.Shape.TheVariants as shape
+use Rattle.edr_drawing.specs.declared.template.TheConstants.{RADII}
+use Rattle.edr_drawing.specs.Template.{shape_bytes, shapes_bytes}
 use Rattle.edr_drawing.specs.Scales.{slot_x}
 use Rattle.edr_drawing.specs.Before.{lane_y, cell, cells, long_cells, point, points, run_shapes, word_y}
 use Rattle.edr_drawing.specs.Laws.{present, mark_of, is_mark, HasMarks}

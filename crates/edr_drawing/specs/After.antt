@@ -16,11 +16,10 @@ use Rattle.edr_drawing.specs.declared.after.ChartRow.{ChartRow}
 use Rattle.edr_drawing.specs.declared.after.ChartRow.TheVariants.{End, Greatest, Resultant, Fired}
 use Rattle.edr_drawing.specs.declared.scales.Scale.{Scale}
 use Rattle.edr_drawing.specs.declared.scales.TheConstants.{BELOW_TOP, HEIGHT, RIGHT}
-use Rattle.edr_drawing.specs.declared.shapes.Shape.{Shape}
-use Rattle.edr_drawing.specs.declared.shapes.Shape.TheVariants as shape
-use Rattle.edr_drawing.specs.declared.shapes.TheConstants.{PATH, PATH_END, PATHS, NONE, RADII}
-use Rattle.edr_drawing.specs.Template.{either, filled, filled_if, fixed}
-use Rattle.edr_drawing.specs.Shapes.{shapes_bytes}
+use Rattle.edr_drawing.specs.declared.template.Shape.{Shape}
+use Rattle.edr_drawing.specs.declared.template.Shape.TheVariants as shape
+use Rattle.edr_drawing.specs.declared.template.TheConstants.{PATH, PATH_END, PATHS, NONE, RADII}
+use Rattle.edr_drawing.specs.Template.{either, filled, filled_if, fixed, shapes_bytes}
 use Rattle.edr_drawing.specs.Scales.{flat_map_below, change_y, time_x, scale_of}
 use Rattle.edr_drawing.specs.Axes.{extreme_of, is_silent, missing_of, of_axis, points_of, greatest_words}
 use Rattle.edr_drawing.specs.Tables.{slot_at}

@@ -1,15 +1,16 @@
 -- The chart of the seconds before time zero, five of a short profile and twenty of a long one: lanes of slots, each a path through those that are there, their marks, and fields in the place of those that are absent.
 use Rattle.std.specs.Prelude.{◌≤◌, ℕ, ◌+◌, ◌-◌, ◌*◌, ◌/◌, Bool, true, false, if◌then◌else◌, nat_eq, nat_lt, Option, Some, None, List, [], ◌∷◌, ◌++◌, decimal, max}
+use Rattle.std.specs.Bool.{beq}
+use Rattle.std.specs.Option.{option_eq}
 use Rattle.edr_record.specs.declared.Profile.{Profile}
 use Rattle.edr_record.specs.declared.Profile.TheVariants.{Short, Long}
-use Rattle.edr_drawing.specs.declared.shapes.Shape.{Shape}
-use Rattle.edr_drawing.specs.declared.shapes.Shape.TheVariants as shape
-use Rattle.edr_drawing.specs.declared.shapes.TheConstants.{PATH, PATH_END, PATHS, RADII}
+use Rattle.edr_drawing.specs.declared.template.Shape.{Shape}
+use Rattle.edr_drawing.specs.declared.template.Shape.TheVariants as shape
+use Rattle.edr_drawing.specs.declared.template.TheConstants.{FIELD_CLASSES, PATH, PATH_END, PATHS, RADII, SWITCH_WORDS}
 use Rattle.edr_drawing.specs.declared.before.Band.{Band}
 use Rattle.edr_drawing.specs.declared.before.ChartLane.{ChartLane}
-use Rattle.edr_drawing.specs.declared.before.TheConstants.{FIELD_WIDTH, GRID_LINE, ROOM_FOR_WORD, BEFORE_END, BEFORE_HEAD, BELT_NAME, BRAKE_BAND, BRAKE_NAME, LAMP_NAME, MOMENTS_Y, LAST_SPEED_STEP, SECOND_SLOTS, SLOTS_APART, SPANS, SPEED, SPEED_LINES, SPEED_STEPS, THROTTLE, THROTTLE_NAME, TIME_LINE, TIMES, ZERO_LINE}
-use Rattle.edr_drawing.specs.Template.{filled, fixed, of_profile, seconds}
-use Rattle.edr_drawing.specs.Shapes.{shapes_bytes}
+use Rattle.edr_drawing.specs.declared.before.TheConstants.{FIELD_WIDTH, GRID_LINE, ROOM_FOR_WORD, BEFORE_END, BEFORE_HEAD, BRAKE_BAND, BRAKE_NAME, LEFT_OF_MOMENT, MOMENT, MOMENT_NAME_DOWN, MOMENT_NAMES, MOMENT_WORD_DOWN, MOMENTS_Y, LAST_SPEED_STEP, SECOND_SLOTS, SLOTS_APART, SPANS, SPEED, SPEED_LINES, SPEED_STEPS, THROTTLE, THROTTLE_NAME, TIME_LINE, TIMES, ZERO_LINE}
+use Rattle.edr_drawing.specs.Template.{filled, fixed, of_profile, of_switch, seconds, shapes_bytes}
 use Rattle.edr_drawing.specs.Scales.{slot_x, flat_map_below, time_at, least_step, scale_top}
 use Rattle.edr_record.specs.Parts.{PrePart}
 
@@ -140,17 +141,11 @@ abbrev pub switches : ℕ → List (Option Bool) → List ℕ
 switches k [] = []
 switches k (v ∷ vs) = shapes_bytes (field_shapes (slot_x Short k) BRAKE_BAND v) ++ switches (k + 1) vs
 
-abbrev pub are_same : Option Bool → Option Bool → Bool
-are_same (Some true) (Some true) = true
-are_same (Some false) (Some false) = true
-are_same None None = true
-are_same u v = false
-
 -- these slots after n that are all u, the first of which has the number k: a field for each run of slots that are the same
 abbrev pub switch_runs : ℕ → ℕ → Option Bool → List (Option Bool) → List ℕ
 switch_runs k n u [] = run_bytes k n BRAKE_BAND u
 switch_runs k n u (v ∷ vs) =
-    if are_same u v
+    if option_eq beq u v
     then switch_runs k (n + 1) u vs
     else run_bytes k n BRAKE_BAND u ++ switch_runs (k + n) 1 v vs
 
@@ -165,8 +160,19 @@ abbrev pub second_x : Profile → ℕ
 second_x Short = slot_x Short SECOND_SLOTS.0
 second_x Long = slot_x Long SECOND_SLOTS.1
 
-abbrev pub switch_moment : Profile → ℕ → Option Bool → List ℕ
-switch_moment f y v = shapes_bytes (shape.Moment (second_x f) y v ∷ [])
+-- the name of a switch, and what it is then
+abbrev pub switch_moment : Profile → ℕ → List ℕ → Option Bool → List ℕ
+switch_moment f y name v =
+    filled MOMENT.now
+    (decimal (second_x f)
+    ∷ decimal y
+    ∷ of_switch v FIELD_CLASSES.0.now FIELD_CLASSES.1.now FIELD_CLASSES.2.now
+    ∷ decimal (second_x f - LEFT_OF_MOMENT)
+    ∷ decimal (y + MOMENT_WORD_DOWN)
+    ∷ of_switch v SWITCH_WORDS.0.now SWITCH_WORDS.1.now SWITCH_WORDS.2.now
+    ∷ decimal (y + MOMENT_NAME_DOWN)
+    ∷ name
+    ∷ [])
 
 -- ---- the whole chart
 
@@ -180,8 +186,6 @@ before_chart n p =
     ++ drawn_lane p.profile THROTTLE p.throttle
     ++ fixed BRAKE_NAME.now
     ++ brake_slots p.profile p.brake
-    ++ fixed BELT_NAME.now
-    ++ switch_moment p.profile MOMENTS_Y.0 p.belt
-    ++ fixed LAMP_NAME.now
-    ++ switch_moment p.profile MOMENTS_Y.1 p.lamp
+    ++ switch_moment p.profile MOMENTS_Y.0 MOMENT_NAMES.0.now p.belt
+    ++ switch_moment p.profile MOMENTS_Y.1 MOMENT_NAMES.1.now p.lamp
     ++ fixed BEFORE_END.now

@@ -18,18 +18,17 @@ use Rattle.edr_drawing.specs.declared.axes.CarAxis.{CarAxis}
 use Rattle.edr_drawing.specs.declared.axes.TheConstants.{NO_SAMPLE}
 use Rattle.edr_drawing.specs.Axes.{greatest_words}
 use Rattle.edr_drawing.specs.After.{curve, maximum, silent_curve}
-use Rattle.edr_drawing.specs.declared.shapes.Shape.{Shape}
-use Rattle.edr_drawing.specs.declared.shapes.Shape.TheVariants as shape
-use Rattle.edr_drawing.specs.declared.shapes.TheConstants.{RADII}
+use Rattle.edr_drawing.specs.declared.template.Shape.{Shape}
+use Rattle.edr_drawing.specs.declared.template.Shape.TheVariants as shape
+use Rattle.edr_drawing.specs.declared.template.TheConstants.{RADII}
 use Rattle.edr_drawing.specs.declared.before.ChartLane.{ChartLane}
 use Rattle.edr_drawing.specs.declared.scales.Scale.{Scale}
-use Rattle.edr_drawing.specs.Shapes.{shapes_bytes}
+use Rattle.edr_drawing.specs.Template.{shapes_bytes}
 use Rattle.edr_drawing.specs.Scales.{slot_x, change_y, scale_of, time_x}
 use Rattle.edr_drawing.specs.Before.{cells_of, lane_y, point, points}
 use Rattle.edr_drawing.specs.declared.Origin.{Origin}
-use Rattle.edr_drawing.specs.Cover.{events_of}
+use Rattle.edr_drawing.specs.Sheets.{events_of, firsts, place_fact}
 use Rattle.edr_drawing.specs.Page.{page_bytes}
-use Rattle.edr_drawing.specs.Sheets.{firsts, place_fact}
 
 -- the bytes stand in the others, in one piece
 abbrev pub IsInOnePiece : List ℕ → List ℕ → Type 0

@@ -1,11 +1,9 @@
 pub mod Template
-pub mod Shapes
 pub mod Axes
 pub mod Scales
 pub mod Before
 pub mod After
 pub mod Tables
-pub mod Cover
 pub mod Sheets
 pub mod Page
 pub mod Laws

@@ -6,8 +6,7 @@ use Rattle.edr_drawing.specs.declared.Origin.{Origin}
 use Rattle.edr_drawing.specs.declared.long.TheConstants.{BODY, HEAD, ON_EACH_SIDE, PAGE_END, STYLE}
 use Rattle.edr_drawing.specs.declared.template.TheConstants.{BEGINNING}
 use Rattle.edr_drawing.specs.Template.{digest_hex, filled, fixed}
-use Rattle.edr_drawing.specs.Cover.{cover_start, cover_end, events_of}
-use Rattle.edr_drawing.specs.Sheets.{sheets}
+use Rattle.edr_drawing.specs.Sheets.{cover_start, cover_end, events_of, sheets}
 use Rattle.edr_drawing.specs.Tables.{run_table}
 
 -- the beginning of a digest, which names a report

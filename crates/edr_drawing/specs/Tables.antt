@@ -17,21 +17,21 @@ use Rattle.edr_drawing.specs.declared.axes.CarAxis.TheVariants.{Along, Across}
 use Rattle.edr_drawing.specs.declared.axes.TheConstants.{AXIS_NAMES, NO_SAMPLE}
 use Rattle.edr_drawing.specs.declared.tables.Elements.{Elements}
 use Rattle.edr_drawing.specs.declared.tables.Rows.{Rows}
-use Rattle.edr_drawing.specs.declared.tables.TheConstants.{AXIS_ROW, CELL, ELEMENTS_END, ELEMENTS_START, IN_TABLE, LINE_END, LINE_NAME, LINE_VALUE, LISTS, MOST_TAKEN, NEXT_TABLE, POINT_TIME, POINTS_BODY, POINTS_START, ROW_END, RUN_START, SECOND_TABLE, SILENT_CELL, TABLE_END, BLOCK_START, BY_TIME_END, BY_TIME_START, KILOMETRE, LONG_BLOCKS, MILE, SLOT_ROW}
+use Rattle.edr_drawing.specs.declared.tables.TheConstants.{AXIS_ROW, CELL, ELEMENTS_END, ELEMENTS_START, IN_TABLE, LINE, LISTS, MOST_TAKEN, NEXT_TABLE, POINT_TIME, POINTS_BODY, POINTS_START, ROW_END, RUN_START, SECOND_TABLE, SILENT_CELL, TABLE_END, BLOCK_START, BY_TIME_END, BY_TIME_START, KILOMETRE, LONG_BLOCKS, MILE, SLOT_ROW}
 use Rattle.edr_drawing.specs.Template.{filled, fixed, before_zero, of_profile, of_switch}
 use Rattle.edr_drawing.specs.Axes.{is_silent, of_axis, points_of}
 use Rattle.edr_drawing.specs.Scales.{flat_map_below}
 use Rattle.edr_record.specs.declared.Profile.{Profile}
 use Rattle.edr_record.specs.declared.Profile.TheVariants.{Short, Long}
 use Rattle.edr_drawing.specs.declared.before.TheConstants.{SPANS}
-use Rattle.edr_drawing.specs.declared.shapes.TheConstants.{NONE, SWITCH_WORDS}
+use Rattle.edr_drawing.specs.declared.template.TheConstants.{NONE, SWITCH_WORDS}
 use Rattle.edr_drawing.specs.declared.sheets.TheConstants.{PROFILES}
 
 -- ---- rows of names and values
 
 -- the row of a name and a value
 abbrev pub row : List ℕ → List ℕ → List ℕ
-row name value = fixed LINE_NAME.now ++ name ++ fixed LINE_VALUE.now ++ value ++ fixed LINE_END.now
+row name value = filled LINE.now (name ∷ value ∷ [])
 
 -- the row of a line of a report, word for word
 abbrev pub row_of : Line → List ℕ

@@ -1,4 +1,4 @@
--- Templates of a page, and what goes into their holes.
+-- Templates of a page, what goes into their holes, and the shapes of a chart, each from whole numbers alone.
 use Rattle.std.specs.Prelude.{ℕ, ◌+◌, ◌-◌, ◌/◌, ◌%◌, Bool, true, false, if◌then◌else◌, nat_eq, nat_lt, Option, Some, None, List, [], ◌∷◌, ◌++◌, flat_map, get_or, take, codes, decimal}
 use Rattle.std.specs.Fmt.{signed_decimal}
 use Rattle.edr_record.specs.declared.Place.{Place}
@@ -8,7 +8,9 @@ use Rattle.edr_record.specs.declared.Profile.TheVariants.{Short, Long}
 use Rattle.edr_report.specs.Words.{extreme_words, milliseconds, tenths_of}
 use Rattle.edr_drawing.specs.declared.template.Filling.{Filling}
 use Rattle.edr_drawing.specs.declared.template.Filling.TheVariants as filling
-use Rattle.edr_drawing.specs.declared.template.TheConstants.{AFTER_FIRST, BEGINNING, FIRST, SECOND}
+use Rattle.edr_drawing.specs.declared.template.Shape.{Shape}
+use Rattle.edr_drawing.specs.declared.template.Shape.TheVariants as shape
+use Rattle.edr_drawing.specs.declared.template.TheConstants.{AFTER_FIRST, BEGINNING, DOT, FIELD, FIELD_CLASSES, FIRST, JOIN_OR_BEGIN, NUMBER, PATH_POINT, SECOND, SQUARE, SWITCH_WORDS, WORD, WORD_CLASSES}
 
 -- ---- words
 
@@ -91,3 +93,20 @@ filled_if is_so template values = if is_so then filled template values else []
 -- a text with no holes
 unfoldable pub fixed : List ℕ → List ℕ
 fixed text = text
+
+-- ---- shapes that stand where a value says
+
+-- the bytes of a shape; a field and its word show what a switch is, or that there is nothing
+abbrev pub shape_bytes : Shape → List ℕ
+shape_bytes (shape.Joint joined x y) = filled PATH_POINT.now (either joined JOIN_OR_BEGIN.0.now JOIN_OR_BEGIN.1.now ∷ decimal x ∷ decimal y ∷ [])
+shape_bytes (shape.Dot x y radius) = filled DOT.now (decimal x ∷ decimal y ∷ decimal radius ∷ [])
+shape_bytes (shape.Square x y) = filled SQUARE.now (decimal (x - 8) ∷ decimal (y - 8) ∷ [])
+shape_bytes (shape.Value x y v) = filled NUMBER.now (decimal x ∷ decimal y ∷ decimal v ∷ [])
+shape_bytes (shape.Field x y width height v) =
+    filled FIELD.now (decimal x ∷ decimal y ∷ decimal width ∷ decimal height ∷ of_switch v FIELD_CLASSES.0.now FIELD_CLASSES.1.now FIELD_CLASSES.2.now ∷ [])
+shape_bytes (shape.Word x y v) =
+    filled WORD.now (decimal x ∷ decimal y ∷ of_switch v WORD_CLASSES.0.now WORD_CLASSES.1.now WORD_CLASSES.2.now ∷ of_switch v SWITCH_WORDS.0.now SWITCH_WORDS.1.now SWITCH_WORDS.2.now ∷ [])
+
+-- shapes one after the other
+abbrev pub shapes_bytes : List Shape → List ℕ
+shapes_bytes shapes = flat_map shape_bytes shapes

@@ -3,7 +3,7 @@
 ghost use Rattle.std.specs.Prelude.{◌≡◌, ◌++◌, ◌≤◌, ◌<◌, ◌+◌, ◌-◌, ◌*◌, ◌/◌, OnOk, length};
 ghost use Rattle.edr_record.specs.declared.TheConstants.{POINTS};
 ghost use Rattle.edr_drawing.specs.Scales.{IsScale};
-ghost use Rattle.edr_drawing.specs.After.{axis_shapes, changes_chart, curve, end_line, legend_gaps, level, levels, maximum, shape_at, silent_curve, time_lines, after_chart, beside, chart_row, row_time, chart_rows, row_words, time_words};
+ghost use Rattle.edr_drawing.specs.After.{axis_shapes, changes_chart, curve, end_line, legend_gaps, level, levels, maximum, shape_at, silent_curve, time_lines, after_chart, chart_row, row_time, chart_rows, row_words, time_words};
 ghost use Rattle.edr_drawing.specs.Template.{filling_bytes};
 
 use crate::axes::{
@@ -11,10 +11,11 @@ use crate::axes::{
     points_of, text_of_axis,
 };
 use crate::scales::{BELOW_TOP, HEIGHT, RIGHT, Scale};
-use crate::shapes::{NONE, PATH, PATH_END, PATHS, RADII, Shape, draw};
 use crate::tables::slot_at;
 use crate::template::Filling::{Below, Change, Count, Milliseconds, Number, Text};
-use crate::template::{Drawn, Filling, either, fill, fill_if, put};
+use crate::template::{
+    Drawn, Filling, NONE, PATH, PATH_END, PATHS, RADII, Shape, draw, either, fill, fill_if, put,
+};
 use edr_record::{Crash, Extreme, POINT_STEP, window_from_end};
 
 /// The field past the window.
@@ -60,6 +61,7 @@ pub const LEGEND_GAPS: &[u8] = br#"<text x="0" y="{0}" class="s b">{1} of {2} ms
 <text x="0" y="{3}" class="s b">without sample</text>
 "#;
 
+/// Where its lines stand up for the axis along the car and for that across it.
 pub const GAPS_Y: (u32, u32) = (286, 406);
 
 pub const NEXT_LINE: u32 = 28;
@@ -104,9 +106,9 @@ pub const ROOM_NOT_RECORDED: u32 = 200;
 pub const DIAMOND: &[u8] = br#"<path class="{0}" d="M{1} {2}l15 15l-15 15l-15 -15z"/>
 "#;
 
+/// The classes of the two axes, and how far above its middle a diamond begins.
 pub const DIAMONDS: (&[u8], &[u8]) = (b"d1", b"d2");
 
-/// How far above its middle a diamond begins.
 pub const DIAMOND_UP: u32 = 15;
 
 /// The number of a greatest change: that across stands above its diamond, that along below it.
@@ -151,7 +153,7 @@ fn draw_level(out: &mut Vec<u8>, scale: &Scale, above: u32) -> Drawn
 }
 
 // Draws a line at each step.
-#[tactic(auto, unfolding(crate::specs::After::levels))]
+#[tactic(auto, using(crate::proofs::ListLemmas::counted_more), unfolding(crate::specs::After::levels))]
 fn draw_levels(out: &mut Vec<u8>, scale: &Scale) -> Drawn
     requires { IsScale scale.now }
     ensures { OnOk result (out.new.items ≡ out.old.items ++ levels scale.now) }
@@ -403,7 +405,7 @@ fn time_of(crash: &Crash, row: ChartRow) -> Option<u16>
 }
 
 // The words of a time, or these where there is none.
-fn time_words(time: Option<u16>, none: &'static [u8]) -> Filling
+fn time_words(time: Option<u16>, none: &'static [u8]) -> Filling<'static>
     ensures { filling_bytes result ≡ time_words time none.now }
 {
     match time {
@@ -413,7 +415,7 @@ fn time_words(time: Option<u16>, none: &'static [u8]) -> Filling
 }
 
 // The words beside its flag, or those that it isn't there.
-fn words_of(crash: &Crash, row: ChartRow) -> Filling
+fn words_of(crash: &Crash, row: ChartRow) -> Filling<'static>
     ensures { filling_bytes result ≡ row_words crash.now row }
 {
     match row {
@@ -443,30 +445,23 @@ fn draw_row(
         return fill(out, EMPTY_ROW, &[words_y, name, words]);
     };
     let x = scale.x(time);
+    let beside = if x < FLAG_FAR_RIGHT {
+        x + BESIDE_FLAG
+    } else {
+        x - BESIDE_FLAG
+    };
     let parts = [
         words_y,
         name,
         words,
         Number(x),
         Number(y + FLAG_DOWN),
-        Number(beside(x)),
+        Number(beside),
         Text(either(x < FLAG_FAR_RIGHT, BESIDE_CLASSES)),
         Text(either(k < FIRST_RESTRAINT, NAME_CLASSES)),
         Text(either(k < FIRST_RESTRAINT, WORDS_CLASSES)),
     ];
     fill(out, ROW, &parts)
-}
-
-// Where the words of a flag stand across.
-fn beside(x: u32) -> u32
-    requires { x ≤ 1_000_000 }
-    ensures { result ≡ beside x }
-{
-    if x < FLAG_FAR_RIGHT {
-        x + BESIDE_FLAG
-    } else {
-        x - BESIDE_FLAG
-    }
 }
 
 // Draws these rows.

@@ -74,7 +74,7 @@ pub fn is_silent(crash: &Crash, axis: CarAxis) -> bool
 }
 
 /// The greatest change of an axis with its time, or that there is no sample.
-pub fn greatest(crash: &Crash, axis: CarAxis) -> Filling
+pub fn greatest(crash: &Crash, axis: CarAxis) -> Filling<'static>
     ensures { filling_bytes result ≡ greatest_words crash.now axis }
 {
     if is_silent(crash, axis) {

@@ -4,13 +4,15 @@
 ghost use Rattle.std.specs.Prelude.{◌≡◌, ◌++◌, ◌≤◌, ◌<◌, ◌+◌, ◌*◌, ◌-◌, ◌/◌, false, OnOk, length, None, take};
 ghost use Rattle.edr_record.specs.declared.TheConstants.{LONG_SLOTS, SHORT_SLOTS};
 ghost use Rattle.edr_record.specs.Bounds.{slots_in};
-ghost use Rattle.edr_drawing.specs.Shapes.{shapes_bytes};
-ghost use Rattle.edr_drawing.specs.Before.{IsBand, IsChartLane, cell, cells, drawn_lane, field_shapes, grid, lane_y, long_cells, points, run_bytes, are_same, before_chart, brake_slots, greatest, second_x, speed_lane, switch_runs, switches, tenths_before, time_lines};
+ghost use Rattle.edr_drawing.specs.Template.{shapes_bytes};
+ghost use Rattle.edr_drawing.specs.Before.{IsBand, IsChartLane, cells, drawn_lane, field_shapes, grid, lane_y, long_cells, points, run_bytes, before_chart, brake_slots, greatest, second_x, speed_lane, switch_runs, switch_moment, switches, tenths_before, time_lines};
 
 use crate::scales::{least_step, scale_top, slot_x};
-use crate::shapes::{PATH, PATH_END, PATHS, RADII, Shape, draw};
 use crate::template::Filling::{Count, Number, Seconds, Text};
-use crate::template::{Drawn, fill, of_profile, put};
+use crate::template::{
+    Drawn, FIELD_CLASSES, PATH, PATH_END, PATHS, RADII, SWITCH_WORDS, Shape, draw, fill,
+    of_profile, of_switch, put,
+};
 use edr_record::{LONG_SLOTS, Pre, Profile};
 
 /// The line of a value, with its number.
@@ -53,6 +55,7 @@ fn lane_y(lane: &ChartLane, value: u32) -> u32
 }
 
 // Draws a line at each step.
+#[tactic(auto, using(crate::proofs::ListLemmas::counted_more))]
 fn draw_grid(out: &mut Vec<u8>, lane: &ChartLane) -> Drawn
     requires { IsChartLane lane.now }
     ensures { OnOk result (out.new.items ≡ out.old.items ++ grid lane.now) }
@@ -90,24 +93,6 @@ fn put_points(out: &mut Vec<u8>, profile: Profile, lane: &ChartLane, slots: &[Op
     Ok(())
 }
 
-// Draws what stands in the place of a slot of a short profile.
-fn draw_cell(out: &mut Vec<u8>, lane: &ChartLane, k: u32, slot: Option<u16>) -> Drawn
-    requires lane { IsChartLane lane.now }
-    requires slot { k < SHORT_SLOTS }
-    ensures { OnOk result (out.new.items ≡ out.old.items ++ shapes_bytes (cell lane.now k slot)) }
-{
-    let x = slot_x(Profile::Short, k);
-    match slot {
-        Some(value) => {
-            let value = u32::from(value);
-            let y = lane_y(lane, value);
-            let number = Shape::Value(x, y.saturating_sub(17), value);
-            draw(out, &[Shape::Dot(x, y, RADII.0), number])
-        }
-        None => draw_field(out, x, lane.gap, None),
-    }
-}
-
 /// Draws the field of a slot of a short profile, which stands there and shows this.
 pub fn draw_field(out: &mut Vec<u8>, x: u32, band: Band, shows: Option<bool>) -> Drawn
     requires across { (400 ≤ x) × (x ≤ 30_000) }
@@ -126,7 +111,16 @@ fn draw_short(out: &mut Vec<u8>, lane: &ChartLane, slots: &[Option<u16>]) -> Dra
     ensures { OnOk result (out.new.items ≡ out.old.items ++ cells lane.now 0 slots.now) }
 {
     for k in 0..slots.len() {
-        draw_cell(out, lane, k as u32, slots[k])?;
+        let x = slot_x(Profile::Short, k as u32);
+        match slots[k] {
+            Some(value) => {
+                let value = u32::from(value);
+                let y = lane_y(lane, value);
+                let number = Shape::Value(x, y.saturating_sub(17), value);
+                draw(out, &[Shape::Dot(x, y, RADII.0), number])?;
+            }
+            None => draw_field(out, x, lane.gap, None)?,
+        }
     }
     Ok(())
 }
@@ -177,7 +171,7 @@ fn draw_long(out: &mut Vec<u8>, lane: &ChartLane, slots: &[Option<u16>]) -> Draw
 }
 
 /// Draws the lane of these slots.
-#[tactic(auto, using(crate::proofs::SlotLemmas::few_slots), unfolding(crate::specs::Before::drawn_lane))]
+#[tactic(auto, using(crate::proofs::ListLemmas::few_slots), unfolding(crate::specs::Before::drawn_lane))]
 pub fn draw_lane(
     out: &mut Vec<u8>,
     profile: Profile,
@@ -235,13 +229,23 @@ pub const BRAKE_NAME: &[u8] = br#"<path class="part" d="M0 362L1830 362"/>
 <text x="0" y="393" class="b">Service brake</text>
 "#;
 
-pub const BELT_NAME: &[u8] =
-    br#"<text x="0" y="435"><tspan class="b">Driver belt</tspan> at -1.0 s</text>
+/// The name of a switch, and what it is 1 s before time zero: a mark, with the word left of it.
+pub const MOMENT: &[u8] = br#"<text x="0" y="{6}"><tspan class="b">{7}</tspan> at -1.0 s</text>
+<path class="{2}" d="M{0} {1}l11 15l-11 15l-11 -15z"/>
+<text x="{3}" y="{4}" class="e h b">{5}</text>
 "#;
 
-pub const LAMP_NAME: &[u8] =
-    br#"<text x="0" y="477"><tspan class="b">Air bag lamp</tspan> at -1.0 s</text>
-"#;
+/// The names of these switches, and where their marks begin.
+pub const MOMENT_NAMES: (&[u8], &[u8]) = (b"Driver belt", b"Air bag lamp");
+
+pub const MOMENTS_Y: (u32, u32) = (411, 453);
+
+/// How far below that their words and their names stand, and how far left of the mark its word.
+pub const MOMENT_WORD_DOWN: u32 = 25;
+
+pub const MOMENT_NAME_DOWN: u32 = 24;
+
+pub const LEFT_OF_MOMENT: u32 = 18;
 
 pub const BEFORE_END: &[u8] = br#"<path class="part" d="M0 490L1830 490"/>
 </svg>
@@ -276,9 +280,6 @@ pub const THROTTLE: ChartLane = ChartLane {
 
 /// Where the fields of the service brake stand.
 pub const BRAKE_BAND: Band = Band { y: 367, height: 34 };
-
-/// Where the marks of belt and lamp begin.
-pub const MOMENTS_Y: (u16, u16) = (411, 453);
 
 /// The slots of a short profile and of a long one that lie 1 s before time zero.
 pub const SECOND_SLOTS: (u32, u32) = (8, 190);
@@ -356,7 +357,7 @@ fn wide_slots(slots: &[Option<u8>]) -> [Option<u16>; LONG_SLOTS]
     wider
 }
 
-#[tactic(auto, using(crate::proofs::SlotLemmas::few_slots))]
+#[tactic(auto, using(crate::proofs::ListLemmas::few_slots))]
 fn draw_throttle(out: &mut Vec<u8>, profile: Profile, slots: &[Option<u8>]) -> Drawn
     requires { length slots.now ≤ slots_in profile }
     ensures { OnOk result (out.new.items ≡ out.old.items ++ drawn_lane profile THROTTLE slots.now) }
@@ -377,15 +378,6 @@ fn draw_short_brake(out: &mut Vec<u8>, slots: &[Option<bool>]) -> Drawn
     Ok(())
 }
 
-fn are_same(one: Option<bool>, other: Option<bool>) -> bool
-    ensures { result ≡ are_same one other }
-{
-    matches!(
-        (one, other),
-        (Some(true), Some(true)) | (Some(false), Some(false)) | (None, None)
-    )
-}
-
 // Draws a field for each run of slots of a long profile that are the same.
 fn draw_long_brake(out: &mut Vec<u8>, slots: &[Option<bool>]) -> Drawn
     requires { length slots.now ≤ LONG_SLOTS }
@@ -396,7 +388,7 @@ fn draw_long_brake(out: &mut Vec<u8>, slots: &[Option<bool>]) -> Drawn
     let mut switch = None;
     for k in 0..slots.len() {
         let next = slots[k];
-        if are_same(switch, next) {
+        if switch == next {
             count += 1;
         } else {
             draw_run(out, first, count, BRAKE_BAND, switch)?;
@@ -430,6 +422,31 @@ fn second_x(profile: Profile) -> u32
     }
 }
 
+// Draws the name of a switch, and what it is 1 s before time zero.
+fn draw_moment(
+    out: &mut Vec<u8>,
+    profile: Profile,
+    y: u32,
+    name: &[u8],
+    shows: Option<bool>,
+) -> Drawn
+    requires { y ≤ 1_000 }
+    ensures { OnOk result (out.new.items ≡ out.old.items ++ switch_moment profile y name.now shows) }
+{
+    let x = second_x(profile);
+    let parts = [
+        Number(x),
+        Number(y),
+        Text(of_switch(shows, FIELD_CLASSES)),
+        Number(x - LEFT_OF_MOMENT),
+        Number(y + MOMENT_WORD_DOWN),
+        Text(of_switch(shows, SWITCH_WORDS)),
+        Number(y + MOMENT_NAME_DOWN),
+        Text(name),
+    ];
+    fill(out, MOMENT, &parts)
+}
+
 /// Draws the chart of the event with this number.
 #[tactic(auto, unfolding(crate::specs::Before::before_chart))]
 pub fn draw_before(out: &mut Vec<u8>, number: u64, pre: &Pre) -> Drawn
@@ -440,7 +457,6 @@ pub fn draw_before(out: &mut Vec<u8>, number: u64, pre: &Pre) -> Drawn
     let speed = pre.speed();
     let span = Text(of_profile(profile, SPANS));
     let apart = Text(of_profile(profile, SLOTS_APART));
-    let x = second_x(profile);
     fill(out, BEFORE_HEAD, &[Count(number), span, apart])?;
     draw_times(out, profile)?;
     fill(out, ZERO_LINE, &[Number(slot_x(Profile::Short, TIMES))])?;
@@ -449,9 +465,7 @@ pub fn draw_before(out: &mut Vec<u8>, number: u64, pre: &Pre) -> Drawn
     draw_throttle(out, profile, pre.throttle())?;
     put(out, BRAKE_NAME)?;
     draw_brake(out, profile, pre.brake())?;
-    put(out, BELT_NAME)?;
-    draw(out, &[Shape::Moment(x, MOMENTS_Y.0, belt)])?;
-    put(out, LAMP_NAME)?;
-    draw(out, &[Shape::Moment(x, MOMENTS_Y.1, lamp)])?;
+    draw_moment(out, profile, MOMENTS_Y.0, MOMENT_NAMES.0, belt)?;
+    draw_moment(out, profile, MOMENTS_Y.1, MOMENT_NAMES.1, lamp)?;
     put(out, BEFORE_END)
 }

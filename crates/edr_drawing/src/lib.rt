@@ -4,11 +4,9 @@
 mod after;
 mod axes;
 mod before;
-mod cover;
 pub mod laws;
 mod long;
 mod scales;
-mod shapes;
 mod sheets;
 mod tables;
 mod template;
@@ -17,10 +15,9 @@ ghost use Rattle.std.specs.Prelude.{◌≡◌, IfOk, map};
 ghost use Rattle.edr_image.specs.Reports.{report_of};
 ghost use Rattle.edr_drawing.specs.Page.{page_bytes};
 
-use cover::{events_of, put_cover_end, put_cover_start};
 use edr_image::{CycleReport, Found};
 use long::{BODY, HEAD, ON_EACH_SIDE, PAGE_END, STYLE};
-use sheets::put_sheets;
+use sheets::{events_of, put_cover_end, put_cover_start, put_sheets};
 use std::alloc::{AllocError as OutOfMemory, Global};
 use tables::put_run;
 use template::Filling::Beginning;
@@ -41,7 +38,7 @@ pub struct Origin {
 }
 
 /// The page of what a report tells: the cycles of a run, what was found in the banks in this order, and its origin.
-#[tactic(auto, using(crate::proofs::EventLemmas::as_many), unfolding(crate::specs::Page::page_bytes))]
+#[tactic(auto, using(crate::proofs::ListLemmas::as_many), unfolding(crate::specs::Page::page_bytes))]
 pub fn page(
     alloc: Global,
     run: &[CycleReport],

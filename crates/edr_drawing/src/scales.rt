@@ -7,7 +7,7 @@ ghost use Rattle.std.specs.List.{list_all};
 
 use edr_record::{Crash, POINTS, Profile};
 
-/// The left end of a plot.
+/// The left end of a plot, its width, and its right end.
 pub const LEFT: u32 = 330;
 
 pub const WIDTH: u32 = 1_500;

@@ -1,19 +1,200 @@
-//! The sheet of an event: its place in its crash, why its record isn't complete, its charts and its tables.
+//! The sheets of a page. The first one says what was found; that of an event has its place in its crash, why its record
+//! isn't complete, its charts and its tables.
 
 ghost use Rattle.std.specs.Prelude.{◌≡◌, ◌++◌, IfOk, OnOk};
-ghost use Rattle.edr_drawing.specs.Cover.{numbered};
-ghost use Rattle.edr_drawing.specs.Sheets.{firsts, firsts_words, is_first_of, place_fact, crash_reasons, missing_reason, pre_reasons, reasons, share_reason, slots_reason, sheet, sheets};
+ghost use Rattle.edr_drawing.specs.Sheets.{cover_end, cover_start, crash_reasons, damaged_in, damaged_item, damaged_list, event_row, events_of, events_table, firsts, firsts_words, greatest_or_none, is_first_of, missing_reason, numbered, place_fact, pre_reasons, reasons, share_reason, sheet, sheets, slots_reason};
+ghost use Rattle.edr_drawing.specs.Template.{filling_bytes};
 
 use crate::after::draw_after;
-use crate::axes::{AXIS_NAMES, CarAxis, missing_of, text_of_axis};
+use crate::axes::{AXIS_NAMES, CarAxis, greatest, missing_of, text_of_axis};
 use crate::before::draw_before;
-use crate::cover::FoundEvent;
-use crate::tables::{put_by_time, put_elements, put_points_table};
+use crate::long::{FORM, NOTES};
+use crate::tables::{TABLE_END, put_by_time, put_elements, put_points_table};
 use crate::template::Filling::{Count, Digest, Number, Seconds, Text};
-use crate::template::{Drawn, FIRST, either, fill, fill_if, of_profile, put};
+use crate::template::{Drawn, FIRST, Filling, NONE, either, fill, fill_if, of_profile, put};
+use crate::{Origin, VERSION};
+use edr_image::{BankView, Found};
 use edr_record::{Crash, Key, LONGEST_PAIR, Place, Pre, Record, window_from_end};
 use edr_report::{LARGEST_SHOWN_COUNT, number_shown, tenths_of};
 use std::alloc::{AllocError as OutOfMemory, Global};
+
+/// An event that was found: its number, that of its bank, and its record.
+#[derive(Clone, Copy)]
+pub struct FoundEvent<'a> {
+    pub number: u64,
+    pub bank: u8,
+    pub event: &'a Record,
+}
+
+/// The events that were found, the first of which has the number 1.
+pub fn events_of<'a>(alloc: Global, found: &'a [Found]) -> Result<Vec<FoundEvent<'a>>, OutOfMemory>
+    ensures { IfOk result (λ events. numbered events.items ≡ events_of found.now) }
+{
+    let mut events = Vec::new(alloc);
+    let mut number = 1;
+    for one in found {
+        if let BankView::Event(event) = &one.view {
+            let bank = one.bank;
+            events.push(FoundEvent {
+                number,
+                bank,
+                event,
+            })?;
+            number += 1;
+        }
+    }
+    Ok(events)
+}
+
+pub const YES_NO: (&[u8], &[u8]) = (b"yes", b"no");
+
+pub const FIRST_SHEET: &[u8] = br#"<section aria-labelledby="r">
+<h1 id="r">Event data recorder: retrieved events</h1>
+<ul class="facts"><li>Recorded events: <b>{0}</b></li><li>Damaged banks: <b>{1}</b></li><li>Ignition cycle at download: <b>{2}</b></li></ul>
+"#;
+
+pub const EVENTS_START: &[u8] = br#"<table>
+<caption>Events</caption>
+<thead><tr><th scope="col">Event</th><th scope="col">Bank</th><th scope="col">Ignition cycle</th><th scope="col">Time zero</th><th scope="col">Place in crash</th><th scope="col">Locked</th><th scope="col">Max. longitudinal</th><th scope="col">Max. lateral</th><th scope="col">Complete</th></tr></thead>
+<tbody>
+"#;
+
+pub const EVENT_ROW: &[u8] =
+    br##"<tr><th scope="row"><a href="#e{0}">{0}</a></th><td>{1}</td><td>{2}</td><td>{3} ms</td><td>{4}</td><td>{5}</td><td>{6}</td><td>{7}</td><td>{8}</td></tr>
+"##;
+
+pub const DAMAGED_START: &[u8] = br#"<h2>Damaged banks</h2>
+<div class="note"><p>A damaged bank holds bytes that are no record. Nothing else of it is shown, and no event of this report stands for it.</p>
+<ul>
+"#;
+
+pub const DAMAGED_BANK: &[u8] =
+    br#"<li>Bank {0}: byte {1} holds {2}, with which the bank can hold no record. Its mark of a locked record is {3}.</li>
+"#;
+
+pub const LIST_END: &[u8] = b"</ul></div>\n";
+
+pub const SET_OR_NOT: (&[u8], &[u8]) = (b"set", b"not set");
+
+pub const FIRST_FOOT: &[u8] =
+    br#"<p class="foot">Made by edr_picture {2} from a report of {0} bytes, SHA-256 <code>{1}</code></p>
+</section>
+"#;
+
+// How many damaged banks were found.
+fn damaged_in(found: &[Found]) -> u64
+    ensures { result ≡ damaged_in found.now }
+{
+    let damaged = |one: &&Found| matches!(one.view, BankView::Damaged { .. });
+    found.iter().filter(damaged).count() as u64
+}
+
+// The greatest change of an axis, or that there is none.
+fn greatest_or_none(crash: &Option<Crash>, axis: CarAxis) -> Filling<'static>
+    ensures { filling_bytes result ≡ greatest_or_none crash.now axis }
+{
+    match crash {
+        Some(crash) => greatest(crash, axis),
+        None => Text(NONE),
+    }
+}
+
+// Appends the row of an event.
+#[tactic(auto, unfolding(crate::specs::Sheets::event_row))]
+fn put_event_row(out: &mut Vec<u8>, one: &FoundEvent<'_>) -> Drawn
+    ensures { OnOk result (out.new.items ≡ out.old.items ++ event_row one.now.number one.now.bank one.now.event.now) }
+{
+    let event = one.event;
+    let cells = [
+        Count(one.number),
+        Number(u32::from(one.bank)),
+        Number(number_shown(event.pre.key.cycle)),
+        Number(event.pre.key.zero),
+        Filling::Place(event.pre.place),
+        Text(either(event.locked, YES_NO)),
+        greatest_or_none(&event.crash, CarAxis::Along),
+        greatest_or_none(&event.crash, CarAxis::Across),
+        Text(either(event.complete(), YES_NO)),
+    ];
+    fill(out, EVENT_ROW, &cells)
+}
+
+// Appends the table of events, if there are any.
+#[tactic(auto, unfolding(crate::specs::Sheets::events_table))]
+fn put_events(out: &mut Vec<u8>, events: &[FoundEvent<'_>]) -> Drawn
+    ensures { OnOk result (out.new.items ≡ out.old.items ++ events_table (numbered events.now)) }
+{
+    if events.is_empty() {
+        return Ok(());
+    }
+    put(out, EVENTS_START)?;
+    for event in events {
+        put_event_row(out, event)?;
+    }
+    put(out, TABLE_END)
+}
+
+// Appends the item of a bank, if it is damaged.
+fn put_damaged_item(out: &mut Vec<u8>, bank: &Found) -> Drawn
+    ensures { OnOk result (out.new.items ≡ out.old.items ++ damaged_item bank.now.bank bank.now.view) }
+{
+    match bank.view {
+        BankView::Damaged {
+            offset,
+            found,
+            locked,
+        } => {
+            let bank = Number(u32::from(bank.bank));
+            let (offset, found) = (Number(u32::from(offset)), Number(u32::from(found)));
+            let mark = Text(either(locked, SET_OR_NOT));
+            fill(out, DAMAGED_BANK, &[bank, offset, found, mark])
+        }
+        _ => Ok(()),
+    }
+}
+
+// Appends the list of damaged banks, if there are any.
+#[tactic(auto, unfolding(crate::specs::Sheets::damaged_list))]
+fn put_damaged(out: &mut Vec<u8>, found: &[Found]) -> Drawn
+    ensures { OnOk result (out.new.items ≡ out.old.items ++ damaged_list found.now) }
+{
+    if damaged_in(found) == 0 {
+        return Ok(());
+    }
+    put(out, DAMAGED_START)?;
+    for bank in found {
+        put_damaged_item(out, bank)?;
+    }
+    put(out, LIST_END)
+}
+
+/// Appends the first sheet up to the cycles of the run.
+#[tactic(auto, using(crate::proofs::ListLemmas::as_many), unfolding(crate::specs::Sheets::cover_start))]
+pub fn put_cover_start(
+    out: &mut Vec<u8>,
+    events: &[FoundEvent<'_>],
+    found: &[Found],
+    count: u32,
+) -> Drawn
+    ensures { OnOk result (out.new.items ≡ out.old.items ++ cover_start (numbered events.now) found.now count) }
+{
+    let (recorded, damaged) = (events.len() as u64, damaged_in(found));
+    let counts = [Count(recorded), Count(damaged), Number(number_shown(count))];
+    fill(out, FIRST_SHEET, &counts)?;
+    put_events(out, events)?;
+    put_damaged(out, found)
+}
+
+/// Appends what the first sheet has after them.
+#[tactic(auto, unfolding(crate::specs::Sheets::cover_end))]
+pub fn put_cover_end(out: &mut Vec<u8>, origin: &Origin) -> Drawn
+    ensures { OnOk result (out.new.items ≡ out.old.items ++ cover_end origin.now) }
+{
+    put(out, FORM)?;
+    put(out, NOTES)?;
+    let foot = [Number(origin.size), Digest(origin.digest), Text(VERSION)];
+    fill(out, FIRST_FOOT, &foot)
+}
 
 pub const PLACE_START: &[u8] = b"<li>Place in crash: <b>";
 
@@ -22,6 +203,7 @@ pub const PLACE_END: &[u8] = b"</b></li></ul>\n";
 /// How long after the first event of its pair a second one began.
 pub const SECOND_AFTER: &[u8] = b"second, {0} s after ";
 
+/// The events of the report that may be that first one.
 pub const EVENT: &[u8] = b"event {0}";
 
 pub const OR_EVENT: &[u8] = b" or {0}";
@@ -102,8 +284,6 @@ fn put_place_fact(
 pub const REASONS_START: &[u8] = br#"<div class="note why"><b>Not complete:</b>
 <ul>
 "#;
-
-pub const LIST_END: &[u8] = b"</ul></div>\n";
 
 /// Some slots of these are absent: how many of how many.
 pub const SAMPLES_ABSENT: &[u8] = b"<li>{0}: {1} of {2} samples absent</li>\n";
@@ -199,8 +379,6 @@ pub const SHEET_FOOT: &[u8] =
     br#"<p class="foot">Event {0} of the report with SHA-256 <code>{1}</code></p>
 </section>
 "#;
-
-pub const YES_NO: (&[u8], &[u8]) = (b"yes", b"no");
 
 /// The words of the profiles, which are classes too.
 pub const PROFILES: (&[u8], &[u8]) = (b"short", b"long");

@@ -7,10 +7,9 @@ ghost use Rattle.edr_drawing.specs.Template.{filling_bytes};
 
 use crate::axes::{AXIS_NAMES, CarAxis, NO_SAMPLE, is_silent, points_of, text_of_axis};
 use crate::before::{SPANS, wide};
-use crate::shapes::{NONE, SWITCH_WORDS};
 use crate::sheets::PROFILES;
 use crate::template::Filling::{Before, Change, Count, Number, Text};
-use crate::template::{Drawn, Filling, fill, of_profile, of_switch, put};
+use crate::template::{Drawn, Filling, NONE, SWITCH_WORDS, fill, of_profile, of_switch, put};
 use edr_image::{Ack, Applied, CycleReport};
 use edr_record::{Crash, LONG_SLOTS, POINT_STEP, Pre, Profile, Record, SHORT_SLOTS, point_count};
 use edr_report::{Lines, print_event, print_run};
@@ -27,12 +26,9 @@ pub const IN_TABLE: &[u8] = b"in the table by time";
 /// Events of a run are counted up to this number.
 pub const MOST_TAKEN: u64 = u64::MAX;
 
-/// What stands before the name of a line, between it and the value, and after it.
-pub const LINE_NAME: &[u8] = br#"<tr><th scope="row">"#;
-
-pub const LINE_VALUE: &[u8] = b"</th><td>";
-
-pub const LINE_END: &[u8] = b"</td></tr>\n";
+/// The row of a line: its name and its value.
+pub const LINE: &[u8] = br#"<tr><th scope="row">{0}</th><td>{1}</td></tr>
+"#;
 
 /// The table of the changes of speed, up to its times.
 pub const POINTS_START: &[u8] = br#"<table class="num">
@@ -43,6 +39,7 @@ pub const POINT_TIME: &[u8] = br#"<th scope="col">{0}</th>"#;
 
 pub const POINTS_BODY: &[u8] = b"</tr></thead>\n<tbody>\n";
 
+/// The row of an axis, and the cell of a change of speed.
 pub const AXIS_ROW: &[u8] = br#"<tr><th scope="row">{0}</th>"#;
 
 pub const CELL: &[u8] = b"<td>{0}</td>";
@@ -132,11 +129,7 @@ fn is_list(name: &[u8], names: &[&'static [u8]; 3]) -> bool
 fn put_row(out: &mut Vec<u8>, name: &[u8], value: &[u8]) -> Drawn
     ensures { OnOk result (out.new.items ≡ out.old.items ++ row name.now value.now) }
 {
-    put(out, LINE_NAME)?;
-    out.extend_from_slice(name)?;
-    put(out, LINE_VALUE)?;
-    out.extend_from_slice(value)?;
-    put(out, LINE_END)
+    fill(out, LINE, &[Text(name), Text(value)])
 }
 
 // Appends the row of an axis: a cell for each point, or that it has no sample.
@@ -319,7 +312,7 @@ fn mph(speed: Option<u16>) -> Option<u16>
     }
 }
 
-fn number_word(value: Option<u16>) -> Filling
+fn number_word(value: Option<u16>) -> Filling<'static>
     ensures { filling_bytes result ≡ number_word value }
 {
     match value {
@@ -347,7 +340,7 @@ fn put_slot(out: &mut Vec<u8>, pre: &Pre, k: u32) -> Drawn
 }
 
 // Appends a block.
-#[tactic(auto, unfolding(crate::specs::Tables::block))]
+#[tactic(auto, using(crate::proofs::ListLemmas::counted_more), unfolding(crate::specs::Tables::block))]
 fn put_block(out: &mut Vec<u8>, pre: &Pre, number: u32) -> Drawn
     requires { number < LONG_BLOCKS }
     ensures { OnOk result (out.new.items ≡ out.old.items ++ block pre.now number) }

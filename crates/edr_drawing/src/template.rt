@@ -1,11 +1,13 @@
-//! Templates of a page, and what goes into their holes.
+//! Templates of a page, what goes into their holes, and the shapes of a chart, which are made by templates.
 //!
 //! A template is a text in which `{0}` stands for the first value, `{1}` for the second, up to `{9}`. The definitions of
-//! `specs/` name the templates of `src/`, so each text of a page stands once.
+//! `specs/` name the templates of `src/`, so each text of a page stands once. A unit of a chart is a tenth of a millimetre
+//! on a sheet of A4.
 
 ghost use Rattle.std.specs.Prelude.{◌≡◌, ◌++◌, ◌≤◌, OnOk, map};
-ghost use Rattle.edr_drawing.specs.Template.{byte_bytes, digest_hex, either, filled, filled_if, filling_bytes, fixed, hex_byte, hex_digit, of_profile, of_switch, place_words, seconds};
+ghost use Rattle.edr_drawing.specs.Template.{byte_bytes, digest_hex, either, filled, filled_if, filling_bytes, fixed, hex_digit, of_profile, of_switch, place_words, seconds, shape_bytes, shapes_bytes};
 
+use Filling::{Number, Text};
 use edr_record::{Extreme, Place, Profile};
 use edr_report::tenths_of;
 use itoa::Buffer;
@@ -14,6 +16,7 @@ use std::alloc::AllocError as OutOfMemory;
 /// Whether there was memory for what is appended.
 pub type Drawn = Result<(), OutOfMemory>;
 
+/// The words of the place of an event in its crash.
 pub const FIRST: &[u8] = b"first or only";
 
 pub const SECOND: &[u8] = b"second, ";
@@ -25,8 +28,8 @@ pub const BEGINNING: usize = 8;
 
 /// What goes into a hole of a template.
 #[derive(Clone, Copy)]
-pub enum Filling {
-    Text(&'static [u8]),
+pub enum Filling<'a> {
+    Text(&'a [u8]),
     Number(u32),
     Count(u64),
     Change(i16),
@@ -120,23 +123,17 @@ fn hex_digit(n: u8) -> u8
     if n < 10 { b'0' + n } else { b'a' + (n - 10) }
 }
 
-fn put_hex(out: &mut Vec<u8>, byte: u8) -> Drawn
-    ensures { OnOk result (out.new.items ≡ out.old.items ++ hex_byte byte) }
-{
-    out.extend_from_slice(&[hex_digit(byte / 16), hex_digit(byte % 16)])
-}
-
 fn put_digest(out: &mut Vec<u8>, digest: &[u8]) -> Drawn
     ensures { OnOk result (out.new.items ≡ out.old.items ++ digest_hex digest.now) }
 {
     for byte in digest {
-        put_hex(out, *byte)?;
+        out.extend_from_slice(&[hex_digit(byte / 16), hex_digit(byte % 16)])?;
     }
     Ok(())
 }
 
-fn put_filling(out: &mut Vec<u8>, filling: Filling) -> Drawn
-    ensures { OnOk result (out.new.items ≡ out.old.items ++ filling_bytes filling) }
+fn put_filling(out: &mut Vec<u8>, filling: Filling<'_>) -> Drawn
+    ensures { OnOk result (out.new.items ≡ out.old.items ++ filling_bytes filling.entry) }
 {
     match filling {
         Filling::Text(text) => out.extend_from_slice(text),
@@ -170,7 +167,7 @@ fn put_filling(out: &mut Vec<u8>, filling: Filling) -> Drawn
 }
 
 // Appends a byte of a template, which in a hole is the number of a value.
-fn put_byte(out: &mut Vec<u8>, fillings: &[Filling], in_hole: bool, byte: u8) -> Drawn
+fn put_byte(out: &mut Vec<u8>, fillings: &[Filling<'_>], in_hole: bool, byte: u8) -> Drawn
     ensures { OnOk result (out.new.items ≡ out.old.items ++ byte_bytes (map filling_bytes fillings.now) in_hole byte) }
 {
     if !in_hole {
@@ -184,7 +181,7 @@ fn put_byte(out: &mut Vec<u8>, fillings: &[Filling], in_hole: bool, byte: u8) ->
 
 /// Appends a template, with these values in its holes.
 #[tactic(auto, unfolding(crate::specs::Template::filled))]
-pub fn fill(out: &mut Vec<u8>, template: &[u8], fillings: &[Filling]) -> Drawn
+pub fn fill(out: &mut Vec<u8>, template: &[u8], fillings: &[Filling<'_>]) -> Drawn
     ensures { OnOk result (out.new.items ≡ out.old.items ++ filled template.now (map filling_bytes fillings.now)) }
 {
     let mut in_hole = false;
@@ -199,7 +196,7 @@ pub fn fill(out: &mut Vec<u8>, template: &[u8], fillings: &[Filling]) -> Drawn
 }
 
 /// Appends it, if this is so.
-pub fn fill_if(out: &mut Vec<u8>, is_so: bool, template: &[u8], fillings: &[Filling]) -> Drawn
+pub fn fill_if(out: &mut Vec<u8>, is_so: bool, template: &[u8], fillings: &[Filling<'_>]) -> Drawn
     ensures { OnOk result (out.new.items ≡ out.old.items ++ filled_if is_so template.now (map filling_bytes fillings.now)) }
 {
     if is_so {
@@ -215,4 +212,98 @@ pub fn put(out: &mut Vec<u8>, text: &[u8]) -> Drawn
     ensures { OnOk result (out.new.items ≡ out.old.items ++ fixed text.now) }
 {
     out.extend_from_slice(text)
+}
+
+/// The words of what is absent, and of what a switch is.
+pub const NONE: &[u8] = b"none";
+
+pub const SWITCH_WORDS: (&[u8], &[u8], &[u8]) = (b"on", b"off", NONE);
+
+/// The classes of fields and of their words, which the style gives their looks.
+pub const FIELD_CLASSES: (&[u8], &[u8], &[u8]) = (b"on", b"off", b"gap");
+
+pub const WORD_CLASSES: (&[u8], &[u8], &[u8]) = (b"c w", b"c", b"c g h");
+
+/// A path of this class, up to its points, and what ends it.
+pub const PATH: &[u8] = br#"<path class="{0}" d=""#;
+
+pub const PATH_END: &[u8] = b"\"/>\n";
+
+/// A point of a path, which begins there or is joined to the point before it.
+pub const PATH_POINT: &[u8] = b"{0}{1} {2}";
+
+pub const JOIN_OR_BEGIN: (&[u8], &[u8]) = (b"L", b"M");
+
+/// The classes of the paths along the car and across it.
+pub const PATHS: (&[u8], &[u8]) = (b"s1", b"s2");
+
+pub const DOT: &[u8] = br#"<circle cx="{0}" cy="{1}" r="{2}" class="p1"/>
+"#;
+
+/// How large a dot is, and one of many.
+pub const RADII: (u32, u32) = (9, 3);
+
+pub const SQUARE: &[u8] = br#"<rect x="{0}" y="{1}" width="16" height="16" class="p2"/>
+"#;
+
+pub const NUMBER: &[u8] = br#"<text x="{0}" y="{1}" class="c v">{2}</text>
+"#;
+
+pub const FIELD: &[u8] = br#"<rect x="{0}" y="{1}" width="{2}" height="{3}" class="{4}"/>
+"#;
+
+pub const WORD: &[u8] = br#"<text x="{0}" y="{1}" class="{2}">{3}</text>
+"#;
+
+/// A shape that stands where a value says: its place across and up comes first, but for a joint.
+#[derive(Clone, Copy)]
+pub enum Shape {
+    /// A point of a path, which is joined to the one before it or not.
+    Joint(bool, u32, u32),
+    /// A dot of this radius.
+    Dot(u32, u32, u32),
+    Square(u32, u32),
+    /// The number of a dot.
+    Value(u32, u32, u32),
+    /// A field of this width and height, which shows what a switch is, or that there is nothing.
+    Field(u32, u32, u32, u32, Option<bool>),
+    /// The word in such a field.
+    Word(u32, u32, Option<bool>),
+}
+
+fn put_shape(out: &mut Vec<u8>, shape: Shape) -> Drawn
+    ensures { OnOk result (out.new.items ≡ out.old.items ++ shape_bytes shape) }
+{
+    match shape {
+        Shape::Joint(is_joined, x, y) => {
+            let join = Text(either(is_joined, JOIN_OR_BEGIN));
+            fill(out, PATH_POINT, &[join, Number(x), Number(y)])
+        }
+        Shape::Dot(x, y, radius) => fill(out, DOT, &[Number(x), Number(y), Number(radius)]),
+        Shape::Square(x, y) => {
+            let (left, top) = (x.saturating_sub(8), y.saturating_sub(8));
+            fill(out, SQUARE, &[Number(left), Number(top)])
+        }
+        Shape::Value(x, y, value) => fill(out, NUMBER, &[Number(x), Number(y), Number(value)]),
+        Shape::Field(x, y, width, height, shows) => {
+            let class = Text(of_switch(shows, FIELD_CLASSES));
+            let (width, height) = (Number(width), Number(height));
+            fill(out, FIELD, &[Number(x), Number(y), width, height, class])
+        }
+        Shape::Word(x, y, shows) => {
+            let class = Text(of_switch(shows, WORD_CLASSES));
+            let word = Text(of_switch(shows, SWITCH_WORDS));
+            fill(out, WORD, &[Number(x), Number(y), class, word])
+        }
+    }
+}
+
+/// Appends shapes.
+pub fn draw(out: &mut Vec<u8>, shapes: &[Shape]) -> Drawn
+    ensures { OnOk result (out.new.items ≡ out.old.items ++ shapes_bytes shapes.now) }
+{
+    for shape in shapes {
+        put_shape(out, *shape)?;
+    }
+    Ok(())
 }

@@ -1,4 +1,4 @@
-use Rattle.edr_drawing.proofs.SlotLemmas.{speed_fills, throttle_fills, brake_fills}
+use Rattle.edr_drawing.proofs.ListLemmas.{speed_fills, throttle_fills, brake_fills}
 use Rattle.edr_drawing.proofs.before.draw_before.Goals as goal
 
 pub draw_lane-requires-clause-slots : goal.draw_lane-requires-clause-slots

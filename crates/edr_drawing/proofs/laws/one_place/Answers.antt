@@ -1,4 +1,4 @@
-use Rattle.edr_drawing.proofs.PlaceLemmas.{slot_lower, change_lower}
+use Rattle.edr_drawing.proofs.PlotLemmas.{slot_lower, change_lower}
 use Rattle.edr_drawing.proofs.laws.one_place.Goals as goal
 
 pub returns : goal.returns

@@ -1,6 +1,5 @@
 use Rattle.std.proofs.Common.{◌≡◌, ◌++◌, drop}
-use Rattle.edr_drawing.specs.Cover.{numbered}
-use Rattle.edr_drawing.specs.Sheets.{firsts}
+use Rattle.edr_drawing.specs.Sheets.{numbered, firsts}
 use Rattle.edr_drawing.proofs.sheets.firsts.Given as goal
 
 -- what is left gives the rest

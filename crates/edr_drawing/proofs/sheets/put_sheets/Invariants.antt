@@ -1,6 +1,5 @@
 use Rattle.std.proofs.Common.{◌≡◌, ◌++◌, drop, flat_map}
-use Rattle.edr_drawing.specs.Cover.{numbered}
-use Rattle.edr_drawing.specs.Sheets.{sheet, sheets}
+use Rattle.edr_drawing.specs.Sheets.{numbered, sheet, sheets}
 use Rattle.edr_drawing.proofs.sheets.put_sheets.Given as goal
 
 -- what is left gives the rest

@@ -1,6 +1,6 @@
 use Rattle.std.proofs.Common.{◌≡◌, ◌++◌, drop}
-use Rattle.edr_drawing.specs.Cover.{numbered, event_rows}
-use Rattle.edr_drawing.proofs.cover.put_events.Given as goal
+use Rattle.edr_drawing.specs.Sheets.{numbered, event_rows}
+use Rattle.edr_drawing.proofs.sheets.put_events.Given as goal
 
 -- what is left gives the rest
 abbrev pub invariant-loop-event : goal.invariant-loop-event

@@ -1,7 +1,7 @@
 use Rattle.std.proofs.Common.{◌≡◌, ◌++◌, ◌+◌, ◌≤◌, drop}
-use Rattle.edr_drawing.specs.Cover.{events_of, numbered}
-use Rattle.edr_drawing.proofs.EventLemmas.{events_from}
-use Rattle.edr_drawing.proofs.cover.events_of.Given as goal
+use Rattle.edr_drawing.specs.Sheets.{events_of, numbered}
+use Rattle.edr_drawing.proofs.ListLemmas.{events_from}
+use Rattle.edr_drawing.proofs.sheets.events_of.Given as goal
 
 -- what is left gives the rest
 abbrev pub invariant-loop-one : goal.invariant-loop-one
