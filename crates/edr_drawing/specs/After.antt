@@ -202,11 +202,11 @@ chart_rows name shown s c k (l ∷ ls) = chart_row s c k (name l) (shown l) ++ c
 
 -- ---- the whole chart
 
--- the title and the description of the chart of event n
-abbrev pub after_head : ℕ → CrashPart → List ℕ
-after_head n c = filled AFTER_HEAD.now (decimal n ∷ greatest_words c Along ∷ greatest_words c Across ∷ decimal c.end ∷ [])
-
 -- the chart, or what stands in its place where nothing after time zero is recorded
 unfoldable pub after_chart : ℕ → Option CrashPart → List ℕ
 after_chart n None = filled WITHOUT_PART.now (decimal n ∷ [])
-after_chart n (Some c) = after_head n c ++ changes_chart (scale_of c) c ++ chart_rows (λ l. l.0.now) (λ l. l.1) (scale_of c) c 0 ROWS ++ fixed CHART_END.now
+after_chart n (Some c) =
+    filled AFTER_HEAD.now (decimal n ∷ greatest_words c Along ∷ greatest_words c Across ∷ decimal c.end ∷ [])
+    ++ changes_chart (scale_of c) c
+    ++ chart_rows (λ l. l.0.now) (λ l. l.1) (scale_of c) c 0 ROWS
+    ++ fixed CHART_END.now

@@ -1,5 +1,5 @@
 -- The chart of the seconds before time zero, five of a short profile and twenty of a long one: lanes of slots, each a path through those that are there, their marks, and fields in the place of those that are absent.
-use Rattle.std.specs.Prelude.{◌≤◌, ℕ, ◌+◌, ◌-◌, ◌*◌, ◌/◌, Bool, true, false, if◌then◌else◌, nat_eq, nat_lt, Option, Some, None, List, [], ◌∷◌, ◌++◌, decimal, max}
+use Rattle.std.specs.Prelude.{◌≤◌, ℕ, ◌+◌, ◌-◌, ◌*◌, ◌/◌, Bool, true, false, if◌then◌else◌, nat_eq, nat_lt, Option, Some, None, List, [], ◌∷◌, ◌++◌, decimal, max, unwrap_or}
 use Rattle.std.specs.Bool.{beq}
 use Rattle.std.specs.Option.{option_eq}
 use Rattle.edr_record.specs.declared.Profile.{Profile}
@@ -11,7 +11,7 @@ use Rattle.edr_drawing.specs.declared.before.Band.{Band}
 use Rattle.edr_drawing.specs.declared.before.ChartLane.{ChartLane}
 use Rattle.edr_drawing.specs.declared.before.TheConstants.{FIELD_WIDTH, GRID_LINE, ROOM_FOR_WORD, BEFORE_END, BEFORE_HEAD, BRAKE_BAND, BRAKE_NAME, LEFT_OF_MOMENT, MOMENT, MOMENT_NAME_DOWN, MOMENT_NAMES, MOMENT_WORD_DOWN, MOMENTS_Y, LAST_SPEED_STEP, SECOND_SLOTS, SLOTS_APART, SPANS, SPEED, SPEED_LINES, SPEED_STEPS, THROTTLE, THROTTLE_NAME, TIME_LINE, TIMES, ZERO_LINE}
 use Rattle.edr_drawing.specs.Template.{filled, fixed, of_profile, of_switch, seconds, shapes_bytes}
-use Rattle.edr_drawing.specs.Scales.{slot_x, flat_map_below, time_at, least_step, scale_top}
+use Rattle.edr_drawing.specs.Scales.{slot_x, flat_map_below, least_step, scale_top}
 use Rattle.edr_record.specs.Parts.{PrePart}
 
 -- up: a value between the foot and the top of a lane
@@ -108,8 +108,7 @@ pub record IsChartLane (l : ChartLane) : Type 0 where
 -- the greatest value that is there, or 0
 abbrev pub greatest : List (Option ℕ) → ℕ
 greatest [] = 0
-greatest (None ∷ vs) = greatest vs
-greatest (Some v ∷ vs) = max v (greatest vs)
+greatest (v ∷ vs) = max (unwrap_or v 0) (greatest vs)
 
 -- the lane of speed: its top is at least 1 km/h, and it has few steps
 abbrev pub speed_step : ℕ → ℕ
@@ -129,7 +128,7 @@ tenths_before Short k = 50 - 5 * k
 tenths_before Long k = 200 - 20 * k
 
 abbrev pub time_line : Profile → ℕ → List ℕ
-time_line f k = filled TIME_LINE.now (decimal (time_at k) ∷ seconds (tenths_before f k) ∷ [])
+time_line f k = filled TIME_LINE.now (decimal (slot_x Short k) ∷ seconds (tenths_before f k) ∷ [])
 
 unfoldable pub time_lines : Profile → ℕ → List ℕ
 time_lines f count = flat_map_below (time_line f) count
@@ -180,7 +179,7 @@ unfoldable pub before_chart : ℕ → PrePart → List ℕ
 before_chart n p =
     filled BEFORE_HEAD.now (decimal n ∷ of_profile p.profile SPANS.0.now SPANS.1.now ∷ of_profile p.profile SLOTS_APART.0.now SLOTS_APART.1.now ∷ [])
     ++ time_lines p.profile TIMES
-    ++ filled ZERO_LINE.now (decimal (time_at TIMES) ∷ [])
+    ++ filled ZERO_LINE.now (decimal (slot_x Short TIMES) ∷ [])
     ++ drawn_lane p.profile (speed_lane p.speed) p.speed
     ++ fixed THROTTLE_NAME.now
     ++ drawn_lane p.profile THROTTLE p.throttle

@@ -67,13 +67,10 @@ pub record MayBeFirst (key : Key) (after : ℕ) (p : PrePart) : Type 0 where
   pub within : key.zero - p.key.zero ≤ LONGEST_PAIR
   pub time : tenths_of (key.zero - p.key.zero) ≡ tenths_of after
 
--- event n of those that were found is one of these
-abbrev pub IsFirstAt : List Found → Key → ℕ → ℕ → Type 0
-IsFirstAt found key after n = (e : ℕ × Record) × Contains (events_of found) (n, e) × MayBeFirst key after e.1.pre
-
 -- the numbers that stand on the sheet are those of these events
 abbrev pub AreFirsts : List Found → Key → ℕ → Type 0
-AreFirsts found key after = (n : ℕ) → Contains (firsts key after (events_of found)) n ↔ IsFirstAt found key after n
+AreFirsts found key after =
+    (n : ℕ) → Contains (firsts key after (events_of found)) n ↔ (e : ℕ × Record) × Contains (events_of found) (n, e) × MayBeFirst key after e.1.pre
 
 -- of each page, with its reports, what it was found in and its digest, this is so
 abbrev pub OfPages : (List Report → List Found → List ℕ → List ℕ → Type 0) → Type 0

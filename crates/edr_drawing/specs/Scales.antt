@@ -9,13 +9,9 @@ use Rattle.std.specs.List.{list_all}
 use Rattle.edr_record.specs.Parts.{CrashPart}
 use Rattle.edr_drawing.specs.declared.scales.Scale.{Scale}
 
--- across: time k of eleven, the last one time zero
-abbrev pub time_at : ℕ → ℕ
-time_at k = FIRST_TIME + TIME_STEP * k
-
 -- across: slot k of a profile, the newest at time zero; a long one has more slots from one time to the next
 abbrev pub slot_x : Profile → ℕ → ℕ
-slot_x Short k = time_at k
+slot_x Short k = FIRST_TIME + TIME_STEP * k
 slot_x Long k = FIRST_TIME + TIME_STEP * k / TIME_SLOTS
 
 -- how many steps reach up to a value

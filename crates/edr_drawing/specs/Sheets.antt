@@ -122,18 +122,16 @@ abbrev pub is_first : Place → Bool
 is_first First = true
 is_first (Second after) = false
 
--- as far as a report tells, the first time zero is of the same ignition cycle as the second, and so long before it: counts of
--- cycles are shown up to a bound, and the time between the two in tenths of a second (563.5, multi-event crash)
-abbrev pub is_so_long_before : Key → Key → ℕ → Bool
-is_so_long_before first second after =
-    nat_eq (number_shown first.cycle) (number_shown second.cycle)
-    && nat_lt first.zero second.zero
-    && nat_le (second.zero - first.zero) LONGEST_PAIR
-    && nat_eq (tenths_of (second.zero - first.zero)) (tenths_of after)
-
--- this may be the first event of the pair whose second one has this key, and began so long after it
+-- this may be the first event of the pair whose second one has this key, and began so long after it: as far as a report tells, both
+-- are of the same ignition cycle, as counts are shown up to a bound, and the time between them is shown in tenths of a second
+-- (563.5, multi-event crash)
 abbrev pub is_first_of : Key → ℕ → PrePart → Bool
-is_first_of key after p = is_first p.place && is_so_long_before p.key key after
+is_first_of key after p =
+    is_first p.place
+    && nat_eq (number_shown p.key.cycle) (number_shown key.cycle)
+    && nat_lt p.key.zero key.zero
+    && nat_le (key.zero - p.key.zero) LONGEST_PAIR
+    && nat_eq (tenths_of (key.zero - p.key.zero)) (tenths_of after)
 
 -- the numbers of the events that may be it
 abbrev pub firsts : Key → ℕ → List NumberedRecord → List ℕ

@@ -6,7 +6,6 @@ use Rattle.edr_record.specs.declared.Record.{Record}
 use Rattle.edr_record.specs.declared.TheConstants.{POINT_STEP, LONG_SLOTS, SHORT_SLOTS}
 use Rattle.edr_record.specs.Parts.{CrashPart, PrePart}
 use Rattle.edr_record.specs.Bounds.{point_count}
-use Rattle.edr_image.specs.declared.Ack.{Ack}
 use Rattle.edr_image.specs.declared.Applied.{Applied}
 use Rattle.edr_image.specs.declared.Applied.TheVariants.{Kept}
 use Rattle.edr_image.specs.Reports.{Report, StartStopped, Ran}
@@ -37,19 +36,18 @@ row name value = filled LINE.now (name ∷ value ∷ [])
 abbrev pub row_of : Line → List ℕ
 row_of l = row l.name l.value
 
--- the row of a line of an event: before one of them a second table begins, and a list that the table by time has stands there
-abbrev pub begins_table : List ℕ → Bool
-begins_table name = pointwise nat_eq name SECOND_TABLE.now
-
+-- whether a line has one of these names
 abbrev pub is_one_of : {L : Type 0} → (L → List ℕ) → List ℕ → List L → Bool
 is_one_of words name [] = false
 is_one_of words name (l ∷ ls) = pointwise nat_eq name (words l) || is_one_of words name ls
 
+-- what the row of a line of an event shows: a list that the table by time has stands there
 abbrev pub shown_value : Line → List ℕ
 shown_value l = if is_one_of (λ w. w.now) l.name LISTS then IN_TABLE.now else l.value
 
+-- that row, before one of which a second table begins
 abbrev pub line_row : Line → List ℕ
-line_row l = (if begins_table l.name then fixed NEXT_TABLE.now else []) ++ row l.name (shown_value l)
+line_row l = (if pointwise nat_eq l.name SECOND_TABLE.now then fixed NEXT_TABLE.now else []) ++ row l.name (shown_value l)
 
 -- what the rows so far are
 abbrev pub rows_bytes : Rows → List ℕ
@@ -61,11 +59,8 @@ elements_bytes r = r.bytes.items
 -- ---- the changes of speed
 
 -- the times of the first points, in milliseconds
-abbrev pub time_cell : ℕ → List ℕ
-time_cell i = filled POINT_TIME.now (decimal (POINT_STEP * i) ∷ [])
-
 abbrev pub time_cells : ℕ → List ℕ
-time_cells count = flat_map_below time_cell count
+time_cells count = flat_map_below (λ i. filled POINT_TIME.now (decimal (POINT_STEP * i) ∷ [])) count
 
 abbrev pub change_cell : ℤ → List ℕ
 change_cell v = filled CELL.now (signed_decimal v ∷ [])
@@ -106,12 +101,9 @@ abbrev pub is_take : Applied → Bool
 is_take (Kept b) = true
 is_take a = false
 
-abbrev pub taken_by : List Ack → ℕ
-taken_by log = count_by (λ a. is_take a.applied) log
-
 abbrev pub taken_of : Report → ℕ
 taken_of (StartStopped j) = 0
-taken_of (Ran n stop log) = taken_by log
+taken_of (Ran n stop log) = count_by (λ a. is_take a.applied) log
 
 abbrev pub taken_in : List Report → ℕ
 taken_in [] = 0

@@ -33,11 +33,8 @@ of_switch None on off none = none
 abbrev pub hex_digit : ℕ → ℕ
 hex_digit n = if nat_lt n 10 then 48 + n else 97 + (n - 10)
 
-abbrev pub hex_byte : ℕ → List ℕ
-hex_byte b = hex_digit (b / 16) ∷ hex_digit (b % 16) ∷ []
-
 abbrev pub digest_hex : List ℕ → List ℕ
-digest_hex digest = flat_map hex_byte digest
+digest_hex digest = flat_map (λ b. hex_digit (b / 16) ∷ hex_digit (b % 16) ∷ []) digest
 
 -- tenths of a second, as seconds
 abbrev pub seconds : ℕ → List ℕ

@@ -290,10 +290,7 @@ fn greatest(slots: &[Option<u16>]) -> u16
 {
     let mut most = 0;
     for slot in slots {
-        most = match *slot {
-            Some(value) => value.max(most),
-            None => most,
-        };
+        most = slot.unwrap_or(0).max(most);
     }
     most
 }
@@ -339,10 +336,7 @@ fn draw_times(out: &mut Vec<u8>, profile: Profile) -> Drawn
 pub fn wide(slot: Option<u8>) -> Option<u16>
     ensures { result ≡ slot }
 {
-    match slot {
-        Some(value) => Some(u16::from(value)),
-        None => None,
-    }
+    slot.map(u16::from)
 }
 
 // The same slots as wider numbers, and absent ones after them.

@@ -86,15 +86,11 @@ pub fn reach_of(way: Direction, change: i16) -> u32
     ensures reach { result ≡ reach_of way change }
     ensures range { result ≤ 32_768 }
 {
-    let is_that_way = match way {
-        Direction::Up => 0 <= change,
-        Direction::Down => change < 0,
+    let that_way = match way {
+        Direction::Up => change.max(0),
+        Direction::Down => change.min(0),
     };
-    if is_that_way {
-        u32::from(change.unsigned_abs())
-    } else {
-        0
-    }
+    u32::from(that_way.unsigned_abs())
 }
 
 /// How far a change of speed stands below the top of its scale.
@@ -158,10 +154,7 @@ fn reach(way: Direction, crash: &Crash) -> u32
 fn is_early(fired: Option<u16>) -> bool
     ensures { result ≡ is_early fired }
 {
-    match fired {
-        Some(time) => time <= EARLY_SPAN,
-        None => true,
-    }
+    fired.is_none_or(|time| time <= EARLY_SPAN)
 }
 
 fn are_early(fired: &[Option<u16>; 8]) -> bool

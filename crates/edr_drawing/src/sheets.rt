@@ -93,10 +93,9 @@ fn damaged_in(found: &[Found]) -> u64
 fn greatest_or_none(crash: &Option<Crash>, axis: CarAxis) -> Filling<'static>
     ensures { filling_bytes result ≡ greatest_or_none crash.now axis }
 {
-    match crash {
-        Some(crash) => greatest(crash, axis),
-        None => Text(NONE),
-    }
+    crash
+        .as_ref()
+        .map_or(Text(NONE), |crash| greatest(crash, axis))
 }
 
 // Appends the row of an event.

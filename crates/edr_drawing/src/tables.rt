@@ -2,7 +2,7 @@
 
 ghost use Rattle.std.specs.Prelude.{◌≡◌, ◌++◌, ◌≤◌, ◌<◌, ◌+◌, ◌*◌, OnOk, map, min, ◌/◌};
 ghost use Rattle.edr_image.specs.Reports.{report_of};
-ghost use Rattle.edr_drawing.specs.Tables.{change_row, elements_bytes, elements_table, is_one_of, line_row, points_table, row, row_of, rows_bytes, run_table, taken_by, taken_in, taken_of, block, block_slots, blocks_in, by_time, mph, number_word, slot_at, slot_row, slot_tenths};
+ghost use Rattle.edr_drawing.specs.Tables.{change_row, elements_bytes, elements_table, is_one_of, line_row, points_table, row, row_of, rows_bytes, run_table, taken_in, taken_of, block, block_slots, blocks_in, by_time, mph, number_word, slot_at, slot_row, slot_tenths};
 ghost use Rattle.edr_drawing.specs.Template.{filling_bytes};
 
 use crate::axes::{AXIS_NAMES, CarAxis, NO_SAMPLE, is_silent, points_of, text_of_axis};
@@ -187,21 +187,14 @@ pub fn put_elements(
     put(out, ELEMENTS_END)
 }
 
-// How many events these acknowledged commands took.
-fn taken_by(acks: &[Ack]) -> u64
-    ensures { result ≡ taken_by acks.now }
-{
-    let taken = |ack: &&Ack| matches!(ack.applied, Applied::Kept { .. });
-    acks.iter().filter(taken).count() as u64
-}
-
 // How many events a cycle took.
 fn taken_of(report: &CycleReport) -> u64
     ensures { result ≡ taken_of (report_of report.now) }
 {
+    let is_take = |ack: &&Ack| matches!(ack.applied, Applied::Kept { .. });
     match report {
         CycleReport::StartStopped { .. } => 0,
-        CycleReport::Ran { log, .. } => taken_by(log.acks()),
+        CycleReport::Ran { log, .. } => log.acks().iter().filter(is_take).count() as u64,
     }
 }
 
@@ -296,29 +289,20 @@ fn slot_tenths(profile: Profile, k: u32) -> u32
 pub fn slot_at<T: Copy>(slots: &[Option<T>], k: u32) -> Option<T>
     ensures { result ≡ slot_at slots.now k }
 {
-    match slots.get(k as usize) {
-        Some(slot) => *slot,
-        None => None,
-    }
+    slots.get(k as usize).copied().flatten()
 }
 
 // Kilometres an hour as miles an hour, rounded.
 fn mph(speed: Option<u16>) -> Option<u16>
     ensures { result ≡ mph speed }
 {
-    match speed {
-        Some(kmh) => Some(((u64::from(kmh) * KILOMETRE + MILE / 2) / MILE) as u16),
-        None => None,
-    }
+    speed.map(|kmh| ((u64::from(kmh) * KILOMETRE + MILE / 2) / MILE) as u16)
 }
 
 fn number_word(value: Option<u16>) -> Filling<'static>
     ensures { filling_bytes result ≡ number_word value }
 {
-    match value {
-        Some(value) => Number(u32::from(value)),
-        None => Text(NONE),
-    }
+    value.map_or(Text(NONE), |value| Number(u32::from(value)))
 }
 
 // Appends the row of a slot.

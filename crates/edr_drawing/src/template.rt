@@ -5,7 +5,7 @@
 //! on a sheet of A4.
 
 ghost use Rattle.std.specs.Prelude.{◌≡◌, ◌++◌, ◌≤◌, OnOk, map};
-ghost use Rattle.edr_drawing.specs.Template.{byte_bytes, digest_hex, either, filled, filled_if, filling_bytes, fixed, hex_digit, of_profile, of_switch, place_words, seconds, shape_bytes, shapes_bytes};
+ghost use Rattle.edr_drawing.specs.Template.{byte_bytes, digest_hex, either, filled, filled_if, filling_bytes, fixed, hex_digit, of_profile, of_switch, seconds, shape_bytes, shapes_bytes};
 
 use Filling::{Number, Text};
 use edr_record::{Extreme, Place, Profile};
@@ -103,19 +103,6 @@ fn put_seconds(out: &mut Vec<u8>, tenths: u64) -> Drawn
     put_number(out, tenths % 10)
 }
 
-fn put_place(out: &mut Vec<u8>, place: Place) -> Drawn
-    ensures { OnOk result (out.new.items ≡ out.old.items ++ place_words place) }
-{
-    match place {
-        Place::First => out.extend_from_slice(FIRST),
-        Place::Second { after } => {
-            out.extend_from_slice(SECOND)?;
-            put_seconds(out, tenths_of(after))?;
-            out.extend_from_slice(AFTER_FIRST)
-        }
-    }
-}
-
 fn hex_digit(n: u8) -> u8
     requires { n ≤ 15 }
     ensures { result ≡ hex_digit n }
@@ -145,7 +132,12 @@ fn put_filling(out: &mut Vec<u8>, filling: Filling<'_>) -> Drawn
             put_number(out, u64::from(n))
         }
         Filling::Seconds(tenths) => put_seconds(out, tenths),
-        Filling::Place(place) => put_place(out, place),
+        Filling::Place(Place::First) => out.extend_from_slice(FIRST),
+        Filling::Place(Place::Second { after }) => {
+            out.extend_from_slice(SECOND)?;
+            put_seconds(out, tenths_of(after))?;
+            out.extend_from_slice(AFTER_FIRST)
+        }
         Filling::Milliseconds(time) => {
             put_number(out, u64::from(time))?;
             out.extend_from_slice(b" ms")
