@@ -5,7 +5,7 @@ ghost use Rattle.std.specs.Prelude.{◌≡◌, ◌++◌, ◌≤◌, ◌<◌, ◌
 ghost use Rattle.edr_record.specs.declared.TheConstants.{LONG_SLOTS, SHORT_SLOTS};
 ghost use Rattle.edr_record.specs.Bounds.{slots_in};
 ghost use Rattle.edr_drawing.specs.Template.{shapes_bytes};
-ghost use Rattle.edr_drawing.specs.Before.{IsBand, IsChartLane, cells, drawn_lane, field_shapes, grid, lane_y, long_cells, points, run_bytes, before_chart, brake_slots, greatest, second_x, speed_lane, switch_runs, switch_moment, switches, tenths_before, time_lines};
+ghost use Rattle.edr_drawing.specs.Before.{IsBand, IsChartLane, cells, drawn_lane, field_shapes, grid, lane_y, long_cells, points, run_bytes, before_chart, brake_slots, greatest, speed_lane, switch_runs, switch_moment, switches, tenths_before, time_lines};
 
 use crate::scales::{least_step, scale_top, slot_x};
 use crate::template::Filling::{Count, Number, Seconds, Text};
@@ -351,15 +351,6 @@ fn wide_slots(slots: &[Option<u8>]) -> [Option<u16>; LONG_SLOTS]
     wider
 }
 
-#[tactic(auto, using(crate::proofs::ListLemmas::few_slots))]
-fn draw_throttle(out: &mut Vec<u8>, profile: Profile, slots: &[Option<u8>]) -> Drawn
-    requires { length slots.now ≤ slots_in profile }
-    ensures { OnOk result (out.new.items ≡ out.old.items ++ drawn_lane profile THROTTLE slots.now) }
-{
-    let wider = wide_slots(slots);
-    draw_lane(out, profile, &THROTTLE, &wider[..slots.len()])
-}
-
 // Draws the field of each slot of a short profile.
 fn draw_short_brake(out: &mut Vec<u8>, slots: &[Option<bool>]) -> Drawn
     requires { length slots.now ≤ SHORT_SLOTS }
@@ -405,17 +396,6 @@ fn draw_brake(out: &mut Vec<u8>, profile: Profile, slots: &[Option<bool>]) -> Dr
     }
 }
 
-// Where 1 s before time zero stands across.
-fn second_x(profile: Profile) -> u32
-    ensures place { result ≡ second_x profile }
-    ensures range { (400 ≤ result) × (result ≤ 30_000) }
-{
-    match profile {
-        Profile::Short => slot_x(profile, SECOND_SLOTS.0),
-        Profile::Long => slot_x(profile, SECOND_SLOTS.1),
-    }
-}
-
 // Draws the name of a switch, and what it is 1 s before time zero.
 fn draw_moment(
     out: &mut Vec<u8>,
@@ -427,7 +407,11 @@ fn draw_moment(
     requires { y ≤ 1_000 }
     ensures { OnOk result (out.new.items ≡ out.old.items ++ switch_moment profile y name.now shows) }
 {
-    let x = second_x(profile);
+    let second = match profile {
+        Profile::Short => SECOND_SLOTS.0,
+        Profile::Long => SECOND_SLOTS.1,
+    };
+    let x = slot_x(profile, second);
     let parts = [
         Number(x),
         Number(y),
@@ -442,13 +426,14 @@ fn draw_moment(
 }
 
 /// Draws the chart of the event with this number.
-#[tactic(auto, unfolding(crate::specs::Before::before_chart))]
+#[tactic(auto, using(crate::proofs::ListLemmas::few_slots), unfolding(crate::specs::Before::before_chart))]
 pub fn draw_before(out: &mut Vec<u8>, number: u64, pre: &Pre) -> Drawn
     ensures { OnOk result (out.new.items ≡ out.old.items ++ before_chart number pre.now) }
 {
     let (belt, lamp) = (pre.belt, pre.lamp);
     let profile = pre.profile();
     let speed = pre.speed();
+    let throttle = wide_slots(pre.throttle());
     let span = Text(of_profile(profile, SPANS));
     let apart = Text(of_profile(profile, SLOTS_APART));
     fill(out, BEFORE_HEAD, &[Count(number), span, apart])?;
@@ -456,7 +441,7 @@ pub fn draw_before(out: &mut Vec<u8>, number: u64, pre: &Pre) -> Drawn
     fill(out, ZERO_LINE, &[Number(slot_x(Profile::Short, TIMES))])?;
     draw_lane(out, profile, &speed_lane(speed), speed)?;
     put(out, THROTTLE_NAME)?;
-    draw_throttle(out, profile, pre.throttle())?;
+    draw_lane(out, profile, &THROTTLE, &throttle[..pre.throttle().len()])?;
     put(out, BRAKE_NAME)?;
     draw_brake(out, profile, pre.brake())?;
     draw_moment(out, profile, MOMENTS_Y.0, MOMENT_NAMES.0, belt)?;
