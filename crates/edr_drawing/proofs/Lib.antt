@@ -3,7 +3,6 @@ pub mod FirstLemmas
 pub mod PresentLemmas
 pub mod PlotLemmas
 pub mod PlainLemmas
-pub mod PlainChartLemmas
 pub mod PlainLineLemmas
-pub mod PlainSheetLemmas
+pub mod PlainPageLemmas
 pub mod ListLemmas

@@ -1,5 +1,5 @@
 -- Texts whose bytes are all below 128, and the templates of a page, which are such texts.
-use Rattle.std.proofs.Common.{arith, ◌≡◌, ℕ, zero, suc, ◌+◌, ◌-◌, ◌/◌, ◌%◌, ◌<◌, ltb-true, ℤ, pos, negsuc, Bool, true, false, if◌then◌else◌, nat_lt, nat_eq, Option, Some, None, List, [], ◌∷◌, ◌++◌, flat_map, get_or, take, decimal, All}
+use Rattle.std.proofs.Common.{arith, ◌≡◌, ℕ, zero, suc, ◌-◌, ◌/◌, ◌%◌, ◌<◌, ltb-true, ℤ, pos, negsuc, Bool, true, false, if◌then◌else◌, nat_lt, nat_eq, Option, Some, None, List, [], ◌∷◌, ◌++◌, flat_map, get_or, take, decimal, All, Bor}
 use Rattle.std.specs.List.{list_all}
 use Rattle.std.specs.Fmt.{signed_decimal, digits, digits_onto, digit_glyph}
 use Rattle.std.proofs.lemmas.List.Elements.{All-nil, All-cons, All-append, All-head, All-tail, All-take}
@@ -51,11 +51,7 @@ plain_counted f h (suc n) = plain_append (flat_map_below f n) (f n) (plain_count
 
 -- the digits of any number
 glyph_low : (d : ℕ) → d < 10 → digit_glyph false d < 128
-glyph_low d small = by (nat_lt d 10)
-  where
-    by : (b : Bool) → (if b then 48 + d else 87 + d) < 128
-    by true = omega arith
-    by false = omega arith
+glyph_low d small = grind (arith, small)
 
 plain_onto : (k n : ℕ) (acc : List ℕ) → Plain acc → Plain (digits_onto k 10 false n acc)
 plain_onto zero n acc h = h
@@ -120,9 +116,9 @@ plain_of_switch (Some true) x y z low_x low_y low_z = plain_fixed x low_x
 plain_of_switch (Some false) x y z low_x low_y low_z = plain_fixed y low_y
 plain_of_switch None x y z low_x low_y low_z = plain_fixed z low_z
 
-pub plain_of_axis : (a : CarAxis) (x y : List ℕ) → all_low x ≡ true → all_low y ≡ true → Plain (of_axis a x y)
-plain_of_axis Along x y low_x low_y = plain_fixed x low_x
-plain_of_axis Across x y low_x low_y = plain_fixed y low_y
+pub plain_of_axis : (a : CarAxis) (x y : Bor (List ℕ)) → all_low x.now ≡ true → all_low y.now ≡ true → Plain (of_axis a x y).now
+plain_of_axis Along x y low_x low_y = plain_fixed x.now low_x
+plain_of_axis Across x y low_x low_y = plain_fixed y.now low_y
 
 -- a digest
 hex_low : (n : ℕ) → n < 16 → hex_digit n < 128

@@ -1,16 +1,15 @@
 -- What a lane shows of the slots that are there.
-use Rattle.std.proofs.Common.{arith, ◌≡◌, ◌∙◌, refl, sym, ap, subst, ℕ, ◌+◌, ◌-◌, ◌/◌, Bool, true, false, nat_eq, nat_lt, if◌then◌else◌, append-nil, append_assoc, Option, Some, None, List, [], ◌∷◌, ◌++◌, map, filter, flat_map}
+use Rattle.std.proofs.Common.{arith, ◌≡◌, ◌∙◌, refl, sym, ap, subst, ℕ, ◌+◌, Bool, true, false, append-nil, append_assoc, Option, Some, None, List, [], ◌∷◌, ◌++◌, map, filter, flat_map}
 use Rattle.std.proofs.lemmas.Grind.{flat_map-append}
 use Rattle.edr_record.specs.declared.Profile.{Profile}
 use Rattle.edr_record.specs.declared.Profile.TheVariants.{Short, Long}
 use Rattle.edr_drawing.specs.declared.before.ChartLane.{ChartLane}
-use Rattle.edr_drawing.specs.declared.before.TheConstants.{ROOM_FOR_WORD}
 use Rattle.edr_drawing.specs.declared.template.Shape.{Shape}
 use Rattle.edr_drawing.specs.declared.template.Shape.TheVariants as shape
 use Rattle.edr_drawing.specs.declared.template.TheConstants.{RADII}
 use Rattle.edr_drawing.specs.Template.{shape_bytes, shapes_bytes}
 use Rattle.edr_drawing.specs.Scales.{slot_x}
-use Rattle.edr_drawing.specs.Before.{lane_y, cell, cells, long_cells, point, points, run_shapes, word_y}
+use Rattle.edr_drawing.specs.Before.{lane_y, cell, cells, long_cells, point, points, run_shapes}
 use Rattle.edr_drawing.specs.Laws.{present, mark_of, is_mark, HasMarks}
 
 -- more shapes
@@ -33,15 +32,7 @@ short_marks l k (Some v ∷ vs) =
 
 -- the field of a run has no mark
 no_mark : (l : ChartLane) (k n : ℕ) (es : List Shape) → filter is_mark (run_shapes k n l.gap None ++ es) ≡ filter is_mark es
-no_mark l k n es =
-    by (nat_eq n 0) (nat_lt n ROOM_FOR_WORD)
-    (shape.Field (slot_x Long k - 3) l.gap.y (slot_x Long (k + n - 1) + 6 - slot_x Long k) l.gap.height None)
-    (shape.Word ((slot_x Long k + slot_x Long (k + n - 1)) / 2) (word_y l.gap) None) refl refl
-  where
-    by : (b c : Bool) (field word : Shape) → is_mark field ≡ false → is_mark word ≡ false → filter is_mark ((if b then [] else field ∷ (if c then [] else word ∷ [])) ++ es) ≡ filter is_mark es
-    by true c field word f w = refl
-    by false true field word f w = rw f refl
-    by false false field word f w = rw (f, w) refl
+no_mark l k n es = grind arith
 
 -- the marks of a long profile
 long_marks : (l : ChartLane) (k n : ℕ) (vs : List (Option ℕ)) → Marks Long l (k + n) vs (long_cells l k n vs)

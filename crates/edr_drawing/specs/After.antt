@@ -77,7 +77,7 @@ axis_shapes s what i (v ∷ vs) =
 unfoldable pub drawn_curve : Scale → CrashPart → CarAxis → List ℕ
 drawn_curve s c a =
     filled_if (nat_lt 0 (missing_of c a)) GAPPED.0.now []
-    ++ filled PATH.now (of_axis a PATHS.0.now PATHS.1.now ∷ [])
+    ++ filled PATH.now ((of_axis a PATHS.0 PATHS.1).now ∷ [])
     ++ axis_shapes s Joint 0 (points_of c a)
     ++ fixed PATH_END.now
     ++ axis_shapes s (of_axis a Dot Square) 0 (points_of c a)
@@ -88,8 +88,8 @@ abbrev pub silent_curve : Scale → CarAxis → List ℕ
 silent_curve s a =
     filled SILENT_CURVE.now
     (decimal (of_axis a (change_y s (pos 0) + SILENT_FROM.0) (change_y s (pos 0) - SILENT_FROM.1))
-    ∷ of_axis a AXIS_WORDS.0.now AXIS_WORDS.1.now
-    ∷ of_axis a AXIS_NAMES.0.now AXIS_NAMES.1.now
+    ∷ (of_axis a AXIS_WORDS.0 AXIS_WORDS.1).now
+    ∷ (of_axis a AXIS_NAMES.0 AXIS_NAMES.1).now
     ∷ NO_SAMPLE.now
     ∷ [])
 
@@ -115,14 +115,14 @@ maximum_number s a e =
     else filled MAXIMUM_NUMBER.now
     (decimal (time_x s e.at)
     ∷ decimal (of_axis a (change_y s e.kmh + NUMBER_FROM.0) (change_y s e.kmh - NUMBER_FROM.1))
-    ∷ of_axis a AXIS_WORDS.0.now AXIS_WORDS.1.now
+    ∷ (of_axis a AXIS_WORDS.0 AXIS_WORDS.1).now
     ∷ signed_decimal e.kmh
     ∷ [])
 
 -- a diamond at the greatest change of an axis that has samples, and its number
 abbrev pub diamond : Scale → CarAxis → Extreme → List ℕ
 diamond s a e =
-    filled DIAMOND.now (of_axis a DIAMONDS.0.now DIAMONDS.1.now ∷ decimal (time_x s e.at) ∷ decimal (change_y s e.kmh - DIAMOND_UP) ∷ [])
+    filled DIAMOND.now ((of_axis a DIAMONDS.0 DIAMONDS.1).now ∷ decimal (time_x s e.at) ∷ decimal (change_y s e.kmh - DIAMOND_UP) ∷ [])
 
 unfoldable pub maximum : Scale → CrashPart → CarAxis → List ℕ
 maximum s c a = if is_silent c a then [] else diamond s a (extreme_of c a) ++ maximum_number s a (extreme_of c a)

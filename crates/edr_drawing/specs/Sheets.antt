@@ -168,7 +168,7 @@ abbrev pub slots_reason : {T : Type 0} → List ℕ → List (Option T) → List
 slots_reason name vs = share_reason SAMPLES_ABSENT.now name (count_by is_none vs) (length vs)
 
 abbrev pub missing_reason : CrashPart → CarAxis → List ℕ
-missing_reason c a = share_reason WINDOW_ABSENT.now (of_axis a AXIS_NAMES.0.now AXIS_NAMES.1.now) (missing_of c a) (window_from_end c.end)
+missing_reason c a = share_reason WINDOW_ABSENT.now ((of_axis a AXIS_NAMES.0 AXIS_NAMES.1).now) (missing_of c a) (window_from_end c.end)
 
 -- what is absent of the time before time zero, and after it
 unfoldable pub pre_reasons : PrePart → List ℕ

@@ -74,7 +74,7 @@ axis_cells c a =
 
 -- the row of an axis
 abbrev pub change_row : CrashPart → CarAxis → List ℕ
-change_row c a = filled AXIS_ROW.now (of_axis a AXIS_NAMES.0.now AXIS_NAMES.1.now ∷ []) ++ axis_cells c a ++ fixed ROW_END.now
+change_row c a = filled AXIS_ROW.now ((of_axis a AXIS_NAMES.0 AXIS_NAMES.1).now ∷ []) ++ axis_cells c a ++ fixed ROW_END.now
 
 -- the table of the changes of speed, where they are there
 unfoldable pub points_table : Option CrashPart → List ℕ

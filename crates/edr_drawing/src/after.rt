@@ -7,8 +7,7 @@ ghost use Rattle.edr_drawing.specs.After.{axis_shapes, changes_chart, curve, end
 ghost use Rattle.edr_drawing.specs.Template.{filling_bytes};
 
 use crate::axes::{
-    AXIS_NAMES, CarAxis, NO_SAMPLE, extreme_of, greatest, is_silent, missing_of, of_axis,
-    points_of, text_of_axis,
+    AXIS_NAMES, CarAxis, NO_SAMPLE, extreme_of, greatest, is_silent, missing_of, of_axis, points_of,
 };
 use crate::scales::{BELOW_TOP, HEIGHT, RIGHT, Scale};
 use crate::tables::slot_at;
@@ -229,8 +228,8 @@ fn draw_silent(out: &mut Vec<u8>, scale: &Scale, axis: CarAxis) -> Drawn
 {
     let zero = scale.y(0);
     let y = Number(of_axis(axis, (zero + SILENT_FROM.0, zero - SILENT_FROM.1)));
-    let class = Text(text_of_axis(axis, AXIS_WORDS));
-    let name = Text(text_of_axis(axis, AXIS_NAMES));
+    let class = Text(of_axis(axis, AXIS_WORDS));
+    let name = Text(of_axis(axis, AXIS_NAMES));
     fill(out, SILENT_CURVE, &[y, class, name, Text(NO_SAMPLE)])
 }
 
@@ -246,7 +245,7 @@ fn draw_curve(out: &mut Vec<u8>, scale: &Scale, crash: &Crash, axis: CarAxis) ->
     let points = points_of(crash, axis);
     let is_gapped = 0 < missing_of(crash, axis);
     fill_if(out, is_gapped, GAPPED.0, &[])?;
-    fill(out, PATH, &[Text(text_of_axis(axis, PATHS))])?;
+    fill(out, PATH, &[Text(of_axis(axis, PATHS))])?;
     draw_points(out, scale, AtPoint::Joint, points)?;
     put(out, PATH_END)?;
     draw_points(
@@ -269,13 +268,13 @@ fn draw_maximum(out: &mut Vec<u8>, scale: &Scale, crash: &Crash, axis: CarAxis) 
     }
     let Extreme { at, kmh } = extreme_of(crash, axis);
     let (x, y) = (Number(scale.x(at)), scale.y(kmh));
-    let class = Text(text_of_axis(axis, DIAMONDS));
+    let class = Text(of_axis(axis, DIAMONDS));
     fill(out, DIAMOND, &[class, x, Number(y - DIAMOND_UP)])?;
     if kmh == 0 {
         return Ok(());
     }
     let y = Number(of_axis(axis, (y + NUMBER_FROM.0, y - NUMBER_FROM.1)));
-    let class = Text(text_of_axis(axis, AXIS_WORDS));
+    let class = Text(of_axis(axis, AXIS_WORDS));
     fill(out, MAXIMUM_NUMBER, &[x, y, class, Change(kmh)])
 }
 

@@ -20,16 +20,6 @@ pub enum CarAxis {
     Across,
 }
 
-/// The text of an axis: the first of two for that along the car, the second for that across it.
-pub fn text_of_axis(axis: CarAxis, pair: (&'static [u8], &'static [u8])) -> &'static [u8]
-    ensures { result.now ≡ of_axis axis pair.entry.0.now pair.entry.1.now }
-{
-    match axis {
-        CarAxis::Along => pair.0,
-        CarAxis::Across => pair.1,
-    }
-}
-
 /// The first of two for the axis along the car, the second for that across it.
 pub fn of_axis<T: Copy>(axis: CarAxis, pair: (T, T)) -> T
     ensures { result ≡ of_axis axis pair.0 pair.1 }

@@ -6,7 +6,7 @@ ghost use Rattle.edr_drawing.specs.Sheets.{cover_end, cover_start, crash_reasons
 ghost use Rattle.edr_drawing.specs.Template.{filling_bytes};
 
 use crate::after::draw_after;
-use crate::axes::{AXIS_NAMES, CarAxis, greatest, missing_of, text_of_axis};
+use crate::axes::{AXIS_NAMES, CarAxis, greatest, missing_of, of_axis};
 use crate::before::draw_before;
 use crate::long::{FORM, NOTES};
 use crate::tables::{TABLE_END, put_by_time, put_elements, put_points_table};
@@ -340,7 +340,7 @@ fn put_missing(out: &mut Vec<u8>, crash: &Crash, axis: CarAxis) -> Drawn
     ensures { OnOk result (out.new.items ≡ out.old.items ++ missing_reason crash.now axis) }
 {
     let window = u64::from(window_from_end(crash.end));
-    let (missing, name) = (missing_of(crash, axis), text_of_axis(axis, AXIS_NAMES));
+    let (missing, name) = (missing_of(crash, axis), of_axis(axis, AXIS_NAMES));
     put_share(out, WINDOW_ABSENT, name, u64::from(missing), window)
 }
 

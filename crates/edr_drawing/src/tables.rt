@@ -5,7 +5,7 @@ ghost use Rattle.edr_image.specs.Reports.{report_of};
 ghost use Rattle.edr_drawing.specs.Tables.{change_row, elements_bytes, elements_table, is_one_of, line_row, points_table, row, row_of, rows_bytes, run_table, taken_in, taken_of, block, block_slots, blocks_in, by_time, mph, number_word, slot_at, slot_row, slot_tenths};
 ghost use Rattle.edr_drawing.specs.Template.{filling_bytes};
 
-use crate::axes::{AXIS_NAMES, CarAxis, NO_SAMPLE, is_silent, points_of, text_of_axis};
+use crate::axes::{AXIS_NAMES, CarAxis, NO_SAMPLE, is_silent, of_axis, points_of};
 use crate::before::{SPANS, wide};
 use crate::sheets::PROFILES;
 use crate::template::Filling::{Before, Change, Count, Number, Text};
@@ -136,7 +136,7 @@ fn put_row(out: &mut Vec<u8>, name: &[u8], value: &[u8]) -> Drawn
 fn put_axis(out: &mut Vec<u8>, crash: &Crash, axis: CarAxis) -> Drawn
     ensures { OnOk result (out.new.items ≡ out.old.items ++ change_row crash.now axis) }
 {
-    fill(out, AXIS_ROW, &[Text(text_of_axis(axis, AXIS_NAMES))])?;
+    fill(out, AXIS_ROW, &[Text(of_axis(axis, AXIS_NAMES))])?;
     if is_silent(crash, axis) {
         let count = Number(point_count(crash.end) as u32);
         fill(out, SILENT_CELL, &[count, Text(NO_SAMPLE)])?;

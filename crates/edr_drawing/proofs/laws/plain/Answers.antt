@@ -1,4 +1,4 @@
-use Rattle.edr_drawing.proofs.PlainSheetLemmas.{plain_page}
+use Rattle.edr_drawing.proofs.PlainPageLemmas.{plain_page}
 use Rattle.edr_drawing.proofs.laws.plain.Goals as goal
 
 pub returns : goal.returns
