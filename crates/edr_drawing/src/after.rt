@@ -125,11 +125,8 @@ fn draw_times(out: &mut Vec<u8>, scale: &Scale) -> Drawn
     put(out, ZERO_LINES)?;
     for i in 0..scale.span / TIMES_APART {
         let time = TIMES_APART * (i + 1);
-        fill(
-            out,
-            TIME_LINES,
-            &[Number(scale.x(time as u16)), Number(time)],
-        )?;
+        let x = Number(scale.x(time as u16));
+        fill(out, TIME_LINES, &[x, Number(time)])?;
     }
     Ok(())
 }
@@ -243,17 +240,13 @@ fn draw_curve(out: &mut Vec<u8>, scale: &Scale, crash: &Crash, axis: CarAxis) ->
         return draw_silent(out, scale, axis);
     }
     let points = points_of(crash, axis);
+    let mark = of_axis(axis, (AtPoint::Dot, AtPoint::Square));
     let is_gapped = 0 < missing_of(crash, axis);
     fill_if(out, is_gapped, GAPPED.0, &[])?;
     fill(out, PATH, &[Text(of_axis(axis, PATHS))])?;
     draw_points(out, scale, AtPoint::Joint, points)?;
     put(out, PATH_END)?;
-    draw_points(
-        out,
-        scale,
-        of_axis(axis, (AtPoint::Dot, AtPoint::Square)),
-        points,
-    )?;
+    draw_points(out, scale, mark, points)?;
     fill_if(out, is_gapped, GAPPED.1, &[])
 }
 

@@ -79,15 +79,11 @@ fn put_points(out: &mut Vec<u8>, profile: Profile, lane: &ChartLane, slots: &[Op
         match slots[k] {
             Some(value) => {
                 let x = slot_x(profile, k as u32);
-                draw(
-                    out,
-                    &[Shape::Joint(before, x, lane_y(lane, u32::from(value)))],
-                )?;
+                let y = lane_y(lane, u32::from(value));
+                draw(out, &[Shape::Joint(before, x, y)])?;
                 before = true;
             }
-            None => {
-                before = false;
-            }
+            None => before = false,
         }
     }
     Ok(())

@@ -316,11 +316,8 @@ fn put_slot(out: &mut Vec<u8>, pre: &Pre, k: u32) -> Drawn
     let brake = Text(of_switch(slot_at(pre.brake(), k), SWITCH_WORDS));
     let time = Before(u64::from(slot_tenths(pre.profile(), k)));
     let (kmh, miles) = (number_word(speed), number_word(mph(speed)));
-    fill(
-        out,
-        SLOT_ROW,
-        &[time, kmh, miles, number_word(throttle), brake],
-    )
+    let throttle = number_word(throttle);
+    fill(out, SLOT_ROW, &[time, kmh, miles, throttle, brake])
 }
 
 // Appends a block.
