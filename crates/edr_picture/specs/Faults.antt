@@ -1,9 +1,11 @@
--- The lines in which the program tells why it ended.
+-- How the program ends: its status, and the line in which it tells why.
 use Rattle.std.specs.Prelude.{ℕ, List, [], ◌∷◌, ◌++◌, codes, decimal}
 use Rattle.edr_reading.specs.declared.faults.RowFault.{RowFault}
 use Rattle.edr_reading.specs.declared.faults.RowFault.TheVariants.{Fields, Field, Unended}
 use Rattle.edr_picture.specs.declared.faults.PageFault.{PageFault}
 use Rattle.edr_picture.specs.declared.faults.PageFault.TheVariants.{Usage, Report, Read, OutOfMemory, TooLong}
+use Rattle.edr_picture.specs.declared.faults.PageStatus.{PageStatus}
+use Rattle.edr_picture.specs.declared.faults.PageStatus.TheVariants.{Done, Faulty, WriteFault}
 
 -- what is wrong with a row of a report
 abbrev pub row_words : RowFault → List ℕ
@@ -21,3 +23,17 @@ fault_words TooLong = codes "too long"
 -- the line of a fault
 abbrev pub fault_line : PageFault → List ℕ
 fault_line f = codes "fault: " ++ fault_words f ++ 10 ∷ []
+
+-- the exit status of a fault
+abbrev pub fault_number : PageFault → ℕ
+fault_number Usage = 2
+fault_number (Report row fault) = 3
+fault_number Read = 4
+fault_number OutOfMemory = 9
+fault_number TooLong = 10
+
+-- the exit status
+abbrev pub number_of : PageStatus → ℕ
+number_of Done = 0
+number_of (Faulty f) = fault_number f
+number_of WriteFault = 5

@@ -1,4 +1,3 @@
 pub mod Asked
 pub mod Faults
 pub mod Pages
-pub mod Status

@@ -22,8 +22,8 @@ use Rattle.edr_picture.specs.declared.asked.TheConstants.{HELP}
 use Rattle.edr_picture.specs.declared.faults.PageFault.{PageFault}
 use Rattle.edr_picture.specs.declared.faults.PageFault.TheVariants as fault
 use Rattle.edr_picture.specs.Faults.{fault_line}
-use Rattle.edr_picture.specs.declared.status.PageStatus.{PageStatus}
-use Rattle.edr_picture.specs.declared.status.PageStatus.TheVariants as status
+use Rattle.edr_picture.specs.declared.faults.PageStatus.{PageStatus}
+use Rattle.edr_picture.specs.declared.faults.PageStatus.TheVariants as status
 
 -- the most bytes that a report may have
 abbrev pub largest_report : ℕ

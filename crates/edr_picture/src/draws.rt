@@ -6,8 +6,7 @@ ghost use Rattle.edr_picture.specs.Faults.{fault_line};
 ghost use Rattle.edr_picture.specs.Pages.{AnswerIs, Fails, FailsWithin, GainsText, HasNone, IfCut, IfReport, IsDrawn, IsPage, IsTextFor, IsWantOfMemory, IsWhy, OfReport, OnInput, PageIs, WritesText, WritesPart, largest_report};
 
 use crate::asked::{Asked, HELP, version_line};
-use crate::faults::PageFault;
-use crate::status::PageStatus;
+use crate::faults::{PageFault, PageStatus};
 use edr_device::{Failed, Sink, Source, TakeFault, put_all, take_all};
 use edr_drawing::{Origin, page};
 use edr_reading::{ReportRefused, read};

@@ -1,7 +1,7 @@
-//! Why the program ends without a page, and the line that tells it.
+//! How the program ends: its status, and the line that tells why there is no page.
 ghost use Rattle.std.specs.Prelude.{◌≡◌, ◌≤◌, ◌+◌, ◌++◌};
 ghost use Rattle.arrayvec.specs.ArrayString.{array_string_len};
-ghost use Rattle.edr_picture.specs.Faults.{fault_line, fault_words, row_words};
+ghost use Rattle.edr_picture.specs.Faults.{fault_line, fault_number, fault_words, number_of, row_words};
 
 use edr_reading::RowFault;
 use edr_report::{Room, ShortLine, push_number};
@@ -18,6 +18,17 @@ pub enum PageFault {
     OutOfMemory,
     /// The source gave more bytes than a report may have.
     TooLong,
+}
+
+/// How the program ends.
+#[derive(Clone, Copy, Debug, PartialEq, Eq)]
+pub enum PageStatus {
+    /// The page was written whole.
+    Done,
+    /// There is no page, and the line of this fault was written whole.
+    Faulty(PageFault),
+    /// The sink failed. It has a part of a text.
+    WriteFault,
 }
 
 // Appends what is wrong with a row.
@@ -55,6 +66,18 @@ fn push_fault(line: &mut Room, fault: PageFault)
 }
 
 impl PageFault {
+    fn code(self) -> u8
+        ensures { result ≡ fault_number self }
+    {
+        match self {
+            PageFault::Usage => 2,
+            PageFault::Report { .. } => 3,
+            PageFault::Read => 4,
+            PageFault::OutOfMemory => 9,
+            PageFault::TooLong => 10,
+        }
+    }
+
     /// The line that tells of the fault. It takes no memory.
     pub fn line(self) -> ShortLine
         ensures { result ≡ fault_line self }
@@ -64,5 +87,18 @@ impl PageFault {
         push_fault(&mut line, self);
         line.push_str("\n");
         ShortLine::new(line)
+    }
+}
+
+impl PageStatus {
+    /// The exit status: 0, or what the fault has, with the numbers of `edr`.
+    pub fn code(self) -> u8
+        ensures { result ≡ number_of self }
+    {
+        match self {
+            PageStatus::Done => 0,
+            PageStatus::Faulty(fault) => fault.code(),
+            PageStatus::WriteFault => 5,
+        }
     }
 }

@@ -6,15 +6,13 @@
 mod asked;
 mod draws;
 mod faults;
-mod status;
 #[cfg(test)]
 mod tests;
 
 use asked::Asked;
 use draws::draw;
 use edr_edge::Counted;
-use faults::PageFault;
-use status::PageStatus;
+use faults::{PageFault, PageStatus};
 use std::alloc::AllocError as OutOfMemory;
 use std::process::ExitCode;
 use std::rt::Env;

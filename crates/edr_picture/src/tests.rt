@@ -2,8 +2,7 @@
 
 use crate::asked::{Asked, HELP, version_line};
 use crate::draws::draw;
-use crate::faults::PageFault;
-use crate::status::PageStatus;
+use crate::faults::{PageFault, PageStatus};
 use edr_device::{MemSink, MemSource};
 use edr_reading::RowFault;
 use std::process::Abort;
