@@ -4,7 +4,7 @@
 //! to 0 and wakes all. Nothing that is proved rests on a bell, since each sleep is short and whoever wakes looks at everything again.
 
 ghost use Rattle.std.specs.Prelude.{◌≡◌};
-ghost use Rattle.edr_board.specs.Bells.{rounds_after};
+ghost use Rattle.edr_board.specs.Bells.{most_rounds, rounds_after};
 
 use std::hint::spin_loop;
 use std::sync::Wait;
@@ -22,6 +22,18 @@ pub enum Bell {
     Grants,
 }
 
+impl Bell {
+    // After how many rounds that found nothing whoever waits there sleeps.
+    const fn rounds(self) -> u32
+        ensures { result ≡ most_rounds self }
+    {
+        match self {
+            Bell::Recorder => RECORDER_ROUNDS,
+            Bell::Room | Bell::Grants => ROUNDS,
+        }
+    }
+}
+
 /// All bells.
 #[derive(Drop)]
 pub(crate) struct Bells {
@@ -35,7 +47,10 @@ const ASLEEP: u32 = 1;
 
 // After this many rounds that found nothing a thread sleeps. With what a round looks at, they take some ten microseconds. More rounds
 // keep the processor from those that have work, where there are more threads than processors or other programs.
-const ROUNDS: u32 = 10;
+pub const ROUNDS: u32 = 10;
+
+// After this many the recorder does. There is one, and all others wait for it: a sleep of it costs each of them more than it saves.
+pub const RECORDER_ROUNDS: u32 = 40;
 
 // For how long a thread stays on the processor in each of these rounds. It doesn't yield: where other work keeps the processors busy, a
 // thread that yields loses its turn for milliseconds.
@@ -75,20 +90,21 @@ impl Bells {
     // First it looks again soon. Then it says that it will sleep, and looks once more; so it has seen whatever was done before a ring
     // that found nobody. Then it sleeps.
     pub(crate) fn rest<R: Wait>(&self, rt: &R, bell: Bell, rounds: u32) -> u32
-        ensures { result ≡ rounds_after rounds }
+        ensures { result ≡ rounds_after bell rounds }
     {
-        if rounds < ROUNDS {
+        let most = bell.rounds();
+        if rounds < most {
             for _ in 0..PAUSES {
                 spin_loop();
             }
             return rounds + 1;
         }
         let word = self.word(bell);
-        if rounds == ROUNDS {
+        if rounds == most {
             word.store(u64::from(ASLEEP), Ordering::SeqCst);
             return rounds + 1;
         }
         word.park_timeout(rt, ASLEEP, Duration::from_millis(LONGEST_SLEEP));
-        ROUNDS
+        most
     }
 }

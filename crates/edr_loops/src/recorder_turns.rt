@@ -179,7 +179,7 @@ impl Desk {
     // of them sleeps over something that it did. `rounds` is how many turns in a row did nothing before this one, and it answers how many
     // have by now.
     fn tell_or_rest<R: Wait>(&self, rt: &R, moved: bool, rounds: u32) -> u32
-        ensures { result ≡ rounds_on moved rounds }
+        ensures { result ≡ rounds_on Bell.Recorder moved rounds }
     {
         if moved {
             return 0;

@@ -3,7 +3,7 @@
 ghost use Rattle.std.specs.Prelude.{◌≡◌, ◌≤◌, ◌⊎◌, true};
 ghost use Rattle.edr_board.specs.Seats.{board_of_watch};
 ghost use Rattle.edr_loops.specs.FastSenders.{came_of_both};
-ghost use Rattle.edr_loops.specs.Rounds.{is_sent, rounds_on};
+ghost use Rattle.edr_loops.specs.Rounds.{bell_after, is_sent, rounds_on};
 ghost use Rattle.edr_loops.specs.Workers.{AreFastBegun, AreSlowSenders, FastGoOn, HaveNoneLeft, SlowKeepOn, WorkerHasEnded, has_no_sender};
 ghost use Rattle.edr_loops.specs.Senders.{HaveBegun, HaveGoneOn};
 
@@ -103,7 +103,7 @@ impl Stand {
     // What a worker does after a round: it rings where something was sent or kept, and rests otherwise. `rounds` is how many rounds in a
     // row found nothing before this one, and it answers how many have by now.
     fn ring_or_rest<R: Wait>(&self, rt: &R, fast: Offered, slow: Offered, rounds: u32) -> u32
-        ensures { result ≡ rounds_on (is_sent (came_of_both fast slow)) rounds }
+        ensures { result ≡ rounds_on (bell_after fast) (is_sent (came_of_both fast slow)) rounds }
     {
         if fast.and(slow) == Offered::Sent {
             self.watch.ring(Bell::Recorder);
