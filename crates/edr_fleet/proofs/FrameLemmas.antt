@@ -74,13 +74,6 @@ never_both images offset bytes p q =
     let same = one_way images q.images [] q.rest p.fit q.fit nothing q.cut.cut (sym (with_nothing images bytes p.bytes_are) ∙ q.bytes_are) in
     q.cut.some (sym same.1)
 
--- bytes that begin with whole frames are whole where nothing follows these, and else end inside the next frame
-pub are_whole : (images : List (List ℕ)) (rest bytes : List ℕ) → BeginWithFrames images rest bytes → rest ≡ [] → AreFramesOf images bytes
-are_whole images rest bytes first none = record {
-  fit = first.fit;
-  bytes_are = first.bytes_are ∙ ap (λ (r : List ℕ). frames images ++ r) none ∙ append-nil (frames images);
-}
-
 pub are_cut : (images : List (List ℕ)) (rest bytes : List ℕ) (offset : ℕ) → BeginWithFrames images rest bytes → (rest ≡ [] → ⊥)
     → offset ≡ length (frames images) → EndsInFrameAt offset bytes
 are_cut images rest bytes offset first some is = record {
