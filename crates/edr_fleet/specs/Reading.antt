@@ -1,7 +1,10 @@
 -- What a reading of frames has of the bytes that it was given.
-use Rattle.std.specs.Prelude.{◌≡◌, ◌+◌, ◌≤◌, ◌<◌, ◌*◌, ℕ, Bool, true, false, List, [], ◌++◌, All, length, Option}
+use Rattle.std.specs.Prelude.{◌≡◌, ◌≢◌, ◌+◌, ◌≤◌, ◌<◌, ◌*◌, ℕ, Bool, true, false, List, [], ◌++◌, All, length, Option, Result, Err, IfOk}
 use Rattle.edr_device.specs.Told.{Told}
-use Rattle.edr_device.specs.Transfer.{GivesAll}
+use Rattle.edr_device.specs.Faults.{Rose}
+use Rattle.edr_device.specs.Transfer.{GivesAll, GivesAtMost}
+use Rattle.edr_device.specs.declared.transfer.TakeFault.{TakeFault}
+use Rattle.edr_device.specs.declared.transfer.TakeFault.TheVariants.{Failed, TooLong}
 use Rattle.edr_spell.specs.Spell.{largest_trace}
 use Rattle.edr_fleet.specs.Frames.{BeginWithFrames, FitsFrame, frames}
 use Rattle.edr_fleet.specs.Text.{all_events, image_lines}
@@ -62,6 +65,16 @@ Fills f held held' left left' = (piece : List ℕ) × (held' ≡ held ++ piece) 
 -- it was given to a reading
 abbrev pub FillsFrames : Filled → FleetReading → FleetReading → Option (List ℕ) → Option (List ℕ) → Type 0
 FillsFrames f old new left left' = (piece : List ℕ) × GainsFrames piece old new × (f.taken ≡ length piece) × Told (GivesPiece piece f.is_end) left left'
+
+-- what came of filling from a source that had these bytes left and counted these faults: with an answer the source gave a portion
+-- of at most so many bytes, and this is so of it; without one it gave no more than those, and where it failed its count rose
+pub record TakesPortion {A : Type 0} (most : ℕ) (portion : A → Filled) (fills : A → Option (List ℕ) → Option (List ℕ) → Type 0) (left left' : Option (List ℕ)) (faults faults' : ℕ) (result : Result A TakeFault) : Type 0 where
+  pub filled : IfOk result (λ x. fills x left left')
+  pub within : IfOk result (λ x. FitsWithin most (portion x))
+  pub gives : Told (GivesAtMost most) left left'
+  pub later : faults ≤ faults'
+  pub failed : result ≡ Err Failed → Rose faults faults'
+  pub not_too_long : result ≢ Err TooLong
 
 -- the source gave all its bytes, up to the limit, and these were given to the reading
 abbrev pub HasAllFrames : ℕ → FleetReading → Option (List ℕ) → Option (List ℕ) → Type 0

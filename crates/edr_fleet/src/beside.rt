@@ -6,7 +6,7 @@ ghost use Rattle.edr_device.specs.Transfer.{GivesAtMost};
 ghost use Rattle.edr_spell.specs.Spell.{largest_trace};
 ghost use Rattle.edr_fleet.specs.Frames.{FitsFrame};
 ghost use Rattle.edr_fleet.specs.Parts.{HasShare};
-ghost use Rattle.edr_fleet.specs.Reading.{Fills, FitsWithin};
+ghost use Rattle.edr_fleet.specs.Reading.{Fills, TakesPortion};
 
 use crate::filling::{Filled, fill};
 use crate::parts::{FleetPart, NoTurn, part_of};
@@ -51,14 +51,9 @@ fn fill_and_report<S: Source>(
     requires fit { All (λ i. FitsFrame i.now) images.now }
     requires few { before + length images.now ≤ largest_trace + 1 }
     ensures part { IfOk result.part (HasShare images.now before) }
-    ensures fills { IfOk result.filled (λ f. Fills f next.old.items next.new.items
-        (S.left source.old) (S.left source.new)) }
-    ensures within { IfOk result.filled (FitsWithin most) }
-    ensures gives { Told (GivesAtMost most) (S.left source.old) (S.left source.new) }
-    ensures later { S.faults source.old ≤ S.faults source.new }
-    ensures failed { result.filled ≡ Err TakeFault.Failed
-        → Rose (S.faults source.old) (S.faults source.new) }
-    ensures not_too_long { result.filled ≢ Err TakeFault.TooLong }
+    ensures takes { TakesPortion most (λ f. f) (λ f. Fills f next.old.items next.new.items)
+        (S.left source.old) (S.left source.new)
+        (S.faults source.old) (S.faults source.new) result.filled }
 {
     let filled = fill(source, buffer, next, most);
     let part = part_of(alloc, before as u32 + 1, images, &NoTurn);
@@ -82,14 +77,9 @@ pub(crate) fn report_beside<R: Threads + Sync, S: Source>(
     requires fit { All (λ i. FitsFrame i.now) images.now }
     requires few { before + length images.now ≤ largest_trace + 1 }
     ensures part { IfOk result.part (HasShare images.now before) }
-    ensures fills { IfOk result.filled (λ f. Fills f next.old.items next.new.items
-        (S.left source.old) (S.left source.new)) }
-    ensures within { IfOk result.filled (FitsWithin most) }
-    ensures gives { Told (GivesAtMost most) (S.left source.old) (S.left source.new) }
-    ensures later { S.faults source.old ≤ S.faults source.new }
-    ensures failed { result.filled ≡ Err TakeFault.Failed
-        → Rose (S.faults source.old) (S.faults source.new) }
-    ensures not_too_long { result.filled ≢ Err TakeFault.TooLong }
+    ensures takes { TakesPortion most (λ f. f) (λ f. Fills f next.old.items next.new.items)
+        (S.left source.old) (S.left source.new)
+        (S.faults source.old) (S.faults source.new) result.filled }
 {
     let others = others_of(images.len(), workers);
     if others == 0 {
@@ -109,15 +99,10 @@ pub(crate) fn report_beside<R: Threads + Sync, S: Source>(
             requires fit { All (λ i. FitsFrame i.now) own.now }
             requires few { before + others + length own.now ≤ largest_trace + 1 }
             ensures part { IfOk result.part (HasShare own.entry.now (before + others)) }
-            ensures fills { IfOk result.filled (λ f. Fills f next.entry.now.items next.exit.now.items
-                (S.left source.entry.now) (S.left source.exit.now)) }
-            ensures within { IfOk result.filled (FitsWithin most) }
-            ensures gives { Told (GivesAtMost most)
-                (S.left source.entry.now) (S.left source.exit.now) }
-            ensures later { S.faults source.entry.now ≤ S.faults source.exit.now }
-            ensures failed { result.filled ≡ Err TakeFault.Failed
-                → Rose (S.faults source.entry.now) (S.faults source.exit.now) }
-            ensures not_too_long { result.filled ≢ Err TakeFault.TooLong }
+            ensures takes { TakesPortion most (λ f. f)
+                (λ f. Fills f next.entry.now.items next.exit.now.items)
+                (S.left source.entry.now) (S.left source.exit.now)
+                (S.faults source.entry.now) (S.faults source.exit.now) result.filled }
         { fill_and_report(alloc, before + others, own, source, buffer, next, most) },
     );
     let Beside { part: own, filled } = mine;

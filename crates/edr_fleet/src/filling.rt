@@ -3,7 +3,7 @@ ghost use Rattle.std.specs.Prelude.{◌≡◌, ◌≢◌, ◌+◌, ◌≤◌, []
 ghost use Rattle.edr_device.specs.Faults.{Rose};
 ghost use Rattle.edr_device.specs.Told.{Told};
 ghost use Rattle.edr_device.specs.Transfer.{Carries, GivesAtMost};
-ghost use Rattle.edr_fleet.specs.Reading.{Fills, FitsWithin};
+ghost use Rattle.edr_fleet.specs.Reading.{Fills, TakesPortion};
 
 use edr_device::{Source, TakeFault};
 
@@ -50,14 +50,8 @@ pub(crate) fn fill<S: Source>(
     most: usize,
 ) -> Result<Filled, TakeFault>
     requires { 1 ≤ length buffer.old }
-    ensures fills { IfOk result (λ f. Fills f held.old.items held.new.items
-        (S.left source.old) (S.left source.new)) }
-    ensures within { IfOk result (FitsWithin most) }
-    ensures gives { Told (GivesAtMost most) (S.left source.old) (S.left source.new) }
-    ensures later { S.faults source.old ≤ S.faults source.new }
-    ensures failed { result ≡ Err TakeFault.Failed
-        → Rose (S.faults source.old) (S.faults source.new) }
-    ensures not_too_long { result ≢ Err TakeFault.TooLong }
+    ensures { TakesPortion most (λ f. f) (λ f. Fills f held.old.items held.new.items)
+        (S.left source.old) (S.left source.new) (S.faults source.old) (S.faults source.new) result }
 {
     let most_now = most.min(PORTION);
     let mut taken = 0;

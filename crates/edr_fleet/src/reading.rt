@@ -6,7 +6,7 @@ ghost use Rattle.edr_device.specs.Transfer.{GivesAtMost};
 ghost use Rattle.edr_spell.specs.Spell.{largest_trace};
 ghost use Rattle.edr_fleet.specs.Answers.{IsReportOf};
 ghost use Rattle.edr_fleet.specs.Frames.{HasNoFrame};
-ghost use Rattle.edr_fleet.specs.Reading.{Fills, FillsFrames, FitsWithin, GainsFrames, GaveFrames, IsFrontOf, KeepsFrames, MayGain};
+ghost use Rattle.edr_fleet.specs.Reading.{Fills, FillsFrames, GainsFrames, GaveFrames, IsFrontOf, KeepsFrames, MayGain, TakesPortion};
 
 use crate::beside::{Beside, report_beside};
 use crate::filling::{Filled, fill};
@@ -108,14 +108,10 @@ impl FleetReading {
         requires some { 1 ≤ length buffer.old }
         requires few { self.now.images + length self.now.held.items ≤ largest_trace + 1 }
         ensures front { IfOk result (λ r. IsFrontOf self.now.images self.now.held.items r.0) }
-        ensures fills { IfOk result (λ r. Fills r.1 (drop r.0.end self.now.held.items)
-            next.new.items (S.left source.old) (S.left source.new)) }
-        ensures within { IfOk result (λ r. FitsWithin most r.1) }
-        ensures gives { Told (GivesAtMost most) (S.left source.old) (S.left source.new) }
-        ensures later { S.faults source.old ≤ S.faults source.new }
-        ensures failed { result ≡ Err TakeFault.Failed
-            → Rose (S.faults source.old) (S.faults source.new) }
-        ensures not_too_long { result ≢ Err TakeFault.TooLong }
+        ensures takes { TakesPortion most (λ r. r.1)
+            (λ r. Fills r.1 (drop r.0.end self.now.held.items) next.new.items)
+            (S.left source.old) (S.left source.new)
+            (S.faults source.old) (S.faults source.new) result }
     {
         let Framed { images, rest } = images_in(self.alloc, &self.held)?;
         next.clear();
@@ -195,14 +191,9 @@ impl FleetReading {
     ) -> Result<Filled, TakeFault>
         requires some { 1 ≤ length buffer.old }
         requires few { MayGain most self.old }
-        ensures fills { IfOk result (λ f. FillsFrames f self.old self.new
-            (S.left source.old) (S.left source.new)) }
-        ensures within { IfOk result (FitsWithin most) }
-        ensures gives { Told (GivesAtMost most) (S.left source.old) (S.left source.new) }
-        ensures later { S.faults source.old ≤ S.faults source.new }
-        ensures failed { result ≡ Err TakeFault.Failed
-            → Rose (S.faults source.old) (S.faults source.new) }
-        ensures not_too_long { result ≢ Err TakeFault.TooLong }
+        ensures { TakesPortion most (λ f. f) (λ f. FillsFrames f self.old self.new)
+            (S.left source.old) (S.left source.new)
+            (S.faults source.old) (S.faults source.new) result }
     {
         if !begins_with_frame(&self.held) {
             return fill(source, buffer, &mut self.held, most);

@@ -21,7 +21,7 @@ pub returns-then-filled-clause-all : goal.returns-then-filled-clause-all
 returns-then-filled-clause-all g c =
     let S = g.S.Source in
     let inv = c.loop-taken.invariant in
-    let fills = c.in_ok-filled.ensures.fills in
+    let fills = c.in_ok-filled.ensures.filled in
     let piece = fills.0 in
     let within = c.in_ok-filled.ensures.within.1 c.if-filled.true in (
       inv.bytes ++ piece,
@@ -34,7 +34,7 @@ pub loop-taken-preserved : goal.loop-taken-preserved
 loop-taken-preserved g c =
     let S = g.S.Source in
     let inv = c.loop-taken.invariant in
-    let fills = c.in_ok-filled.ensures.fills in
+    let fills = c.in_ok-filled.ensures.filled in
     let piece = fills.0 in
     record {
       bytes = inv.bytes ++ piece;
