@@ -11,7 +11,7 @@ use Rattle.edr_loops.specs.declared.unsent_orders.UnsentOrders.{UnsentOrders}
 use Rattle.edr_loops.specs.Orders.{Outbox}
 use Rattle.edr_loops.specs.declared.recorder.Desk.{Desk}
 use Rattle.edr_loops.specs.Lanes.{FastInlets, PartInlets, SameFastInlets, SamePartInlets}
-use Rattle.edr_loops.specs.Recorders.{IsRecording, Later, LaterUpTo, SameDesk, DeskStands}
+use Rattle.edr_loops.specs.Recorders.{RecordsOn, RecordsOnHolding, IsRecording, Later, LaterUpTo, SameDesk, SeatStays, DeskStands}
 
 -- ---- the same rings
 pub fast-self : (a : FastInlets) → SameFastInlets a a
@@ -92,4 +92,37 @@ later-by t a b fast parts outbox freeze recorder watch stands = record {
     watch = watch;
   };
   stands = stands;
+}
+
+-- ---- a recording that goes on
+pub holding-on : (t : ℕ) (a b : Desk) → IsRecording a → LaterUpTo t a b → SeatStays a b → b.held ≡ a.held → RecordsOnHolding t a b
+holding-on t a b records later seat held = record { later = later; stands = recording-later t a b later records; seat = seat; held = held }
+
+pub going-on : (t : ℕ) (a b : Desk) → IsRecording a → LaterUpTo t a b → SeatStays a b → RecordsOn t a b
+going-on t a b records later seat = record { later = later; stands = recording-later t a b later records; seat = seat }
+
+pub holding-self : (a : Desk) → IsRecording a → RecordsOnHolding 0 a a
+holding-self a records = record { later = later-self a; stands = records; seat = (refl, refl); held = refl }
+
+pub holding-again : (t : ℕ) (a b c : Desk) → RecordsOnHolding t a b → RecordsOnHolding t b c → RecordsOnHolding t a c
+holding-again t a b c h k = record {
+  later = later-again t t t a b c (omega arith) (omega arith) h.later k.later;
+  stands = k.stands;
+  seat = (k.seat.0 ∙ h.seat.0, k.seat.1 ∙ h.seat.1);
+  held = k.held ∙ h.held;
+}
+
+-- what it holds may change after it was left alone
+pub on-again : (t u : ℕ) (a b c : Desk) → t ≤ u → RecordsOnHolding t a b → RecordsOn u b c → RecordsOn u a c
+on-again t u a b c up h k = record {
+  later = later-again t u u a b c up (omega arith) h.later k.later;
+  stands = k.stands;
+  seat = (k.seat.0 ∙ h.seat.0, k.seat.1 ∙ h.seat.1);
+}
+
+pub on-twice : (t : ℕ) (a b c : Desk) → RecordsOn t a b → RecordsOn t b c → RecordsOn t a c
+on-twice t a b c h k = record {
+  later = later-again t t t a b c (omega arith) (omega arith) h.later k.later;
+  stands = k.stands;
+  seat = (k.seat.0 ∙ h.seat.0, k.seat.1 ∙ h.seat.1);
 }

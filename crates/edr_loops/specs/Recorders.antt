@@ -109,6 +109,19 @@ Later a b = LaterUpTo 0 a b
 abbrev pub SeatStays : Desk → Desk → Type 0
 SeatStays a b = (b.seat ≡ a.seat) × (b.posted ≡ a.posted)
 
+-- the desk of a recording goes on: it records later, up to this tick at most, and has posted nothing on the board
+pub record RecordsOn (tick : ℕ) (a b : Desk) : Type 0 where
+  pub later : LaterUpTo tick a b
+  pub stands : IsRecording b
+  pub seat : SeatStays a b
+
+-- the same where what it holds is left alone
+pub record RecordsOnHolding (tick : ℕ) (a b : Desk) : Type 0 where
+  pub later : LaterUpTo tick a b
+  pub stands : IsRecording b
+  pub seat : SeatStays a b
+  pub held : b.held ≡ a.held
+
 -- ---- the end of the loop
 
 -- the recorder's work is done: each item of the fast sensors is taken, the horizon is posted as closed, and what the slow sensors may

@@ -10,7 +10,7 @@ ghost use Rattle.edr_core.specs.Answers.{commands_put};
 ghost use Rattle.edr_core.specs.SplitHistory.{History, after_item};
 ghost use Rattle.edr_core.specs.SplitStandsFor.{SplitCoreStandsFor};
 ghost use Rattle.edr_loops.specs.UnsentOrders.{issues_held};
-ghost use Rattle.edr_loops.specs.Recorders.{IsFreshDesk, HasPosted, IsRecording, IsAskerSettled, Later, LaterUpTo, SeatStays, DeskStands};
+ghost use Rattle.edr_loops.specs.Recorders.{RecordsOn, RecordsOnHolding, IsFreshDesk, HasPosted, IsRecording, IsAskerSettled, DeskStands};
 
 use crate::fast_inlets::FastInlets;
 use crate::orders::Outbox;
@@ -129,10 +129,7 @@ impl Desk {
     #[inline(always)]
     pub(crate) fn take_next(&mut self, sensor: FastSensor) -> bool
         requires { IsRecording self.old }
-        ensures later { Later self.old self.new }
-        ensures stands { IsRecording self.new }
-        ensures seat { SeatStays self.old self.new }
-        ensures held { self.new.held ≡ self.old.held }
+        ensures { RecordsOnHolding 0 self.old self.new }
     {
         let upto = self.core.closed().saturating_add(LONGEST_GAP);
         let Some(item) = self.fast.take_upto(sensor, upto) else {
@@ -146,10 +143,7 @@ impl Desk {
     // The same of a sensor whose last item has this moment, where it has none past the closed tick. Past the horizon all are taken.
     pub(crate) fn take_due(&mut self, sensor: FastSensor, last: u32, horizon: u32) -> bool
         requires { IsRecording self.old }
-        ensures later { Later self.old self.new }
-        ensures stands { IsRecording self.new }
-        ensures seat { SeatStays self.old self.new }
-        ensures held { self.new.held ≡ self.old.held }
+        ensures { RecordsOnHolding 0 self.old self.new }
     {
         let closed = self.core.closed();
         if closed < last && closed < horizon {
@@ -163,10 +157,7 @@ impl Desk {
     #[inline(always)]
     pub(crate) fn pass_next(&mut self, horizon: u32) -> bool
         requires { IsRecording self.old }
-        ensures later { LaterUpTo horizon self.old self.new }
-        ensures stands { IsRecording self.new }
-        ensures seat { SeatStays self.old self.new }
-        ensures held { self.new.held ≡ self.old.held }
+        ensures { RecordsOnHolding horizon self.old self.new }
     {
         let closed = self.core.closed();
         if closed >= horizon {
@@ -187,10 +178,7 @@ impl Desk {
     // Reads the mark of a slow sensor, and gives it to the core where it has risen. Of the other three nothing is read.
     pub(crate) fn load_mark(&mut self, sensor: Sensor) -> bool
         requires { IsRecording self.old }
-        ensures later { Later self.old self.new }
-        ensures stands { IsRecording self.new }
-        ensures seat { SeatStays self.old self.new }
-        ensures held { self.new.held ≡ self.old.held }
+        ensures { RecordsOnHolding 0 self.old self.new }
     {
         if !sensor.is_slow() {
             return false;
@@ -214,10 +202,7 @@ impl Desk {
     // Grants what the slow sensors may keep, where that has risen: as far ahead of the closed tick as a gap may be, up to a day.
     pub(crate) fn grant(&mut self)
         requires { IsRecording self.old }
-        ensures later { Later self.old self.new }
-        ensures stands { IsRecording self.new }
-        ensures seat { SeatStays self.old self.new }
-        ensures held { self.new.held ≡ self.old.held }
+        ensures { RecordsOnHolding 0 self.old self.new }
     {
         let upto = self
             .core
@@ -234,10 +219,7 @@ impl Desk {
     // Takes a part of that sensor, if there is one. One that isn't of its ring's sensor, or isn't asked for, is left aside.
     pub(crate) fn take_part(&mut self, sensor: Sensor) -> bool
         requires { IsRecording self.old }
-        ensures later { Later self.old self.new }
-        ensures stands { IsRecording self.new }
-        ensures seat { SeatStays self.old self.new }
-        ensures held { self.new.held ≡ self.old.held }
+        ensures { RecordsOnHolding 0 self.old self.new }
     {
         let Some(own) = part_inlets::take(&mut self.parts, sensor) else {
             return false;
@@ -255,9 +237,7 @@ impl Desk {
     fn close_next(&mut self, issued: &mut Issued) -> bool
         requires stands { IsRecording self.old }
         requires none { issues_held self.old.held ≡ [] }
-        ensures later { LaterUpTo (self.old.core.closed + 1) self.old self.new }
-        ensures stands { IsRecording self.new }
-        ensures seat { SeatStays self.old self.new }
+        ensures { RecordsOn (self.old.core.closed + 1) self.old self.new }
     {
         match self.core.close(issued) {
             SplitClosing::Waiting { .. } => false,
@@ -278,9 +258,7 @@ impl Desk {
     // The same below the horizon alone, and where nothing is held.
     pub(crate) fn close_below(&mut self, horizon: u32, issued: &mut Issued) -> bool
         requires { IsRecording self.old }
-        ensures later { LaterUpTo horizon self.old self.new }
-        ensures stands { IsRecording self.new }
-        ensures seat { SeatStays self.old self.new }
+        ensures { RecordsOn horizon self.old self.new }
     {
         if self.held.is_none() && self.core.closed() < horizon {
             self.close_next(issued)

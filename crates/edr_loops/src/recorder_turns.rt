@@ -4,7 +4,7 @@
 ghost use Rattle.std.specs.Prelude.{◌≡◌, [], true};
 ghost use Rattle.edr_loops.specs.Rounds.{rounds_on};
 ghost use Rattle.edr_loops.specs.UnsentOrders.{issues_held};
-ghost use Rattle.edr_loops.specs.Recorders.{HasEnded, HasPosted, IsDone, IsRecording, Later, LaterUpTo, SeatStays};
+ghost use Rattle.edr_loops.specs.Recorders.{RecordsOn, RecordsOnHolding, HasEnded, HasPosted, IsDone, IsRecording, Later, LaterUpTo, SeatStays};
 
 use crate::per_fast_sensor::{FastSensor, PerFastSensor};
 use crate::recorder::Desk;
@@ -18,10 +18,7 @@ impl Desk {
     // Reads the marks of the slow sensors.
     fn load_marks(&mut self) -> bool
         requires { IsRecording self.old }
-        ensures later { Later self.old self.new }
-        ensures stands { IsRecording self.new }
-        ensures seat { SeatStays self.old self.new }
-        ensures held { self.new.held ≡ self.old.held }
+        ensures { RecordsOnHolding 0 self.old self.new }
     {
         let mut moved = false;
         for sensor in SENSORS {
@@ -33,10 +30,7 @@ impl Desk {
     // Takes a part of each slow sensor, while parts are asked for.
     fn take_parts(&mut self) -> bool
         requires { IsRecording self.old }
-        ensures later { Later self.old self.new }
-        ensures stands { IsRecording self.new }
-        ensures seat { SeatStays self.old self.new }
-        ensures held { self.new.held ≡ self.old.held }
+        ensures { RecordsOnHolding 0 self.old self.new }
     {
         if !self.asking {
             return false;
@@ -52,9 +46,7 @@ impl Desk {
     #[inline(always)]
     fn step(&mut self, horizon: u32, issued: &mut Issued) -> bool
         requires { IsRecording self.old }
-        ensures later { LaterUpTo horizon self.old self.new }
-        ensures stands { IsRecording self.new }
-        ensures seat { SeatStays self.old self.new }
+        ensures { RecordsOn horizon self.old self.new }
     {
         if self.pass_next(horizon) {
             return true;
@@ -69,9 +61,7 @@ impl Desk {
     // Goes on by steps, up to a tick that issues something, or that waits for a sensor or a part, or the horizon.
     fn step_on(&mut self, horizon: u32, issued: &mut Issued) -> bool
         requires { IsRecording self.old }
-        ensures later { LaterUpTo horizon self.old self.new }
-        ensures stands { IsRecording self.new }
-        ensures seat { SeatStays self.old self.new }
+        ensures { RecordsOn horizon self.old self.new }
     {
         let mut moved = false;
         for _ in 0..SLOTS {
@@ -128,9 +118,7 @@ impl Desk {
     // Takes marks, parts and items, and closes ticks.
     fn advance(&mut self, horizon: u32, issued: &mut Issued) -> bool
         requires { IsRecording self.old }
-        ensures later { LaterUpTo horizon self.old self.new }
-        ensures stands { IsRecording self.new }
-        ensures seat { SeatStays self.old self.new }
+        ensures { RecordsOn horizon self.old self.new }
     {
         self.grant();
         let marks = self.load_marks();

@@ -1,8 +1,8 @@
 use Rattle.std.proofs.Common.{arith}
-use Rattle.edr_loops.proofs.LaterLemmas.{later-again, later-twice}
+use Rattle.edr_loops.proofs.LaterLemmas.{holding-again, on-again}
 use Rattle.edr_loops.proofs.recorder.Desk.advance.Goals as goal
 
-pub returns-clause-later : goal.returns-clause-later
-returns-clause-later c =
-    later-again 0 c.args.horizon c.args.horizon _ _ _ (omega arith) (omega arith)
-    (later-twice _ _ _ c.grant.ensures.later (later-twice _ _ _ c.load_marks-marks.ensures.later c.take_parts-parts.ensures.later)) c.step_on-steps.ensures.later
+pub returns : goal.returns
+returns c =
+    on-again 0 c.args.horizon _ _ _ (omega arith)
+    (holding-again 0 _ _ _ c.grant.ensures (holding-again 0 _ _ _ c.load_marks-marks.ensures c.take_parts-parts.ensures)) c.step_on-steps.ensures

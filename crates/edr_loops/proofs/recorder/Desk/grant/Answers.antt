@@ -1,5 +1,5 @@
 use Rattle.std.proofs.Common.{arith, refl}
-use Rattle.edr_loops.proofs.LaterLemmas.{later-by, recording-later}
+use Rattle.edr_loops.proofs.LaterLemmas.{holding-on, later-by}
 use Rattle.edr_loops.proofs.RecorderLemmas.{grant-near, stands-grant}
 use Rattle.edr_loops.proofs.recorder.Desk.grant.Goals as goal
 
@@ -12,12 +12,10 @@ grant-requires-clause-near c opened =
     let least = c.min-upto.ensures in
     omega (arith, closed, near, upto, least)
 
-pub returns-then-self-upto-clause-later : goal.returns-then-self-upto-clause-later
-returns-then-self-upto-clause-later c =
-    later-by 0 c.args.self.now _ refl refl refl c.grant.ensures.freeze refl refl
+pub returns-then-self-upto : goal.returns-then-self-upto
+returns-then-self-upto c =
+    holding-on 0 c.args.self.now _ c.requires
+    (later-by 0 c.args.self.now _ refl refl refl c.grant.ensures.freeze refl refl
     (λ n e low s. stands-grant n e c.min-upto.result c.args.self.now c.grant.new.self
     (λ h is. let closed = c.closed.ensures h is in let upto = c.saturating_add.ensures in let least = c.min-upto.ensures in omega (arith, closed, upto, least))
-    (let least = c.min-upto.ensures in omega (arith, least)) c.grant.ensures.granted c.grant.ensures.asked c.grant.ensures.marks s)
-
-pub returns-then-self-upto-clause-stands : goal.returns-then-self-upto-clause-stands
-returns-then-self-upto-clause-stands c = recording-later _ c.args.self.now _ (returns-then-self-upto-clause-later c) c.requires
+    (let least = c.min-upto.ensures in omega (arith, least)) c.grant.ensures.granted c.grant.ensures.asked c.grant.ensures.marks s)) (refl, refl) refl

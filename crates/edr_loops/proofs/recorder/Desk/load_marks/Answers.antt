@@ -1,11 +1,8 @@
-use Rattle.std.proofs.Common.{◌∙◌}
-use Rattle.edr_loops.proofs.LaterLemmas.{later-twice}
+use Rattle.edr_loops.proofs.LaterLemmas.{holding-again, holding-self}
 use Rattle.edr_loops.proofs.recorder.Desk.load_marks.Goals as goal
 
+pub loop-sensor-init : goal.loop-sensor-init
+loop-sensor-init c = holding-self c.args.self.now c.requires
+
 pub loop-sensor-preserved : goal.loop-sensor-preserved
-loop-sensor-preserved c = (
-  later-twice _ _ _ c.loop-sensor.invariant.0 c.load_mark-moved.ensures.later,
-  c.load_mark-moved.ensures.stands,
-  (c.load_mark-moved.ensures.seat.0 ∙ c.loop-sensor.invariant.2.0, c.load_mark-moved.ensures.seat.1 ∙ c.loop-sensor.invariant.2.1),
-  c.load_mark-moved.ensures.held ∙ c.loop-sensor.invariant.3,
-)
+loop-sensor-preserved c = holding-again 0 _ _ _ c.loop-sensor.invariant c.load_mark-moved.ensures

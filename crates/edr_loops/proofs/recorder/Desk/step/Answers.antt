@@ -1,9 +1,9 @@
 use Rattle.std.proofs.Common.{arith}
-use Rattle.edr_loops.proofs.LaterLemmas.{later-again, later-twice}
+use Rattle.edr_loops.proofs.LaterLemmas.{holding-again, on-again}
 use Rattle.edr_loops.proofs.recorder.Desk.step.Goals as goal
 
-pub returns-clause-later : goal.returns-clause-later
-returns-clause-later c =
-    later-again c.args.horizon c.args.horizon c.args.horizon _ _ _ (omega arith) (omega arith) c.pass_next.ensures.later
-    (later-again 0 c.args.horizon c.args.horizon _ _ _ (omega arith) (omega arith)
-    (later-twice _ _ _ c.take_due-along.ensures.later (later-twice _ _ _ c.take_due-across.ensures.later c.take_due-restraint.ensures.later)) c.close_below-closed.ensures.later)
+pub returns : goal.returns
+returns c =
+    on-again c.args.horizon c.args.horizon _ _ _ (omega arith) c.pass_next.ensures
+    (on-again 0 c.args.horizon _ _ _ (omega arith)
+    (holding-again 0 _ _ _ c.take_due-along.ensures (holding-again 0 _ _ _ c.take_due-across.ensures c.take_due-restraint.ensures)) c.close_below-closed.ensures)

@@ -1,13 +1,12 @@
-use Rattle.std.proofs.Common.{arith, ◌∙◌}
-use Rattle.edr_loops.proofs.LaterLemmas.{later-again}
+use Rattle.std.proofs.Common.{arith, refl}
+use Rattle.edr_loops.proofs.LaterLemmas.{going-on, later-raised, later-self, on-twice}
 use Rattle.edr_loops.proofs.recorder.Desk.step_on.Goals as goal
 
-pub loop-preserved : goal.loop-preserved
-loop-preserved c = (
-  later-again c.args.horizon c.args.horizon c.args.horizon _ _ _ (omega arith) (omega arith) c.loop.invariant.0 c.step.ensures.later,
-  c.step.ensures.stands,
-  (c.step.ensures.seat.0 ∙ c.loop.invariant.2.0, c.step.ensures.seat.1 ∙ c.loop.invariant.2.1),
-)
+pub loop-init : goal.loop-init
+loop-init c = going-on c.args.horizon c.args.self.now _ c.requires (later-raised 0 c.args.horizon _ _ (omega arith) (later-self c.args.self.now)) (refl, refl)
 
-pub returns-then-not-step-clause-later : goal.returns-then-not-step-clause-later
-returns-then-not-step-clause-later c = later-again c.args.horizon c.args.horizon c.args.horizon _ _ _ (omega arith) (omega arith) c.loop.invariant.0 c.step.ensures.later
+pub loop-preserved : goal.loop-preserved
+loop-preserved c = on-twice c.args.horizon _ _ _ c.loop.invariant c.step.ensures
+
+pub returns-then-not-step : goal.returns-then-not-step
+returns-then-not-step c = on-twice c.args.horizon _ _ _ c.loop.invariant c.step.ensures
