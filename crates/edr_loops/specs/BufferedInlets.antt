@@ -1,5 +1,5 @@
 -- What a contract sees of a buffered inlet.
-use Rattle.std.specs.Prelude.{◌≡◌, ◌-◌, ◌<◌, ◌≤◌, ◌⊎◌, ◌++◌, ◌∷◌, [], ℕ, List, Option, MatchOption, get_or}
+use Rattle.std.specs.Prelude.{◌≡◌, ◌≢◌, ◌-◌, ◌<◌, ◌≤◌, ◌⊎◌, ◌++◌, ◌∷◌, [], ℕ, List, Option, MatchOption, get_or}
 use Rattle.edr_items.specs.declared.Item.{Item}
 use Rattle.edr_definitions.specs.Schedule.{BeginsWith}
 use Rattle.edr_seats.specs.Rings.{SameReceiver, items_known, items_taken}
@@ -18,11 +18,25 @@ TakesUpTo upto grown taken old new = MatchOption taken (new ≡ old) (λ item. (
 abbrev pub with_last : Item → List Item → List Item
 with_last item items = items ++ item ∷ []
 
--- no item up to that moment is known: the inlet knows of none beside those that were taken, or the next one is past it
+-- the inlet knows of no item beside those that were taken
+abbrev pub KnowsNone : BufferedInlet → Type 0
+KnowsNone t = (taken_of t ≡ items_taken t.inlet) × (items_known t.inlet ≡ [])
+
+-- the item comes out of the ring after those that were taken
+abbrev pub ComesNext : Item → BufferedInlet → Type 0
+ComesNext x t = BeginsWith (items_taken t.inlet) (with_last x (taken_of t))
+
+-- the inlet knows of none, or the next one is such
+abbrev pub KnowsNoneBut : (Item → Type 0) → BufferedInlet → Type 0
+KnowsNoneBut Such t = KnowsNone t ⊎ ((x : Item) × ComesNext x t × Such x)
+
+-- no item up to that moment is known
 abbrev pub KnowsNoneUpTo : ℕ → BufferedInlet → Type 0
-KnowsNoneUpTo upto t =
-    ((taken_of t ≡ items_taken t.inlet) × (items_known t.inlet ≡ []))
-    ⊎ ((x : Item) × BeginsWith (items_taken t.inlet) (with_last x (taken_of t)) × (upto < x.moment))
+KnowsNoneUpTo upto t = KnowsNoneBut (λ x. upto < x.moment) t
+
+-- that item is not known to come next
+abbrev pub IsNotNext : Item → BufferedInlet → Type 0
+IsNotNext item t = KnowsNoneBut (λ x. x ≢ item) t
 
 -- the item comes next, and lies in the buffer
 abbrev pub IsNext : Item → BufferedInlet → Type 0

@@ -1,5 +1,5 @@
 -- What a contract sees of what was taken of the fast sensors.
-use Rattle.std.specs.Prelude.{◌≡◌, ℕ, [], ◌∷◌, ◌++◌}
+use Rattle.std.specs.Prelude.{◌≡◌, ◌⊎◌, ℕ, [], ◌∷◌, ◌++◌}
 use Rattle.edr_items.specs.declared.Item.{Item}
 use Rattle.edr_items.specs.Item.{IsFeed, mark_of}
 use Rattle.edr_items.specs.SensorLists.{SensorLists, items_of}
@@ -7,7 +7,7 @@ use Rattle.edr_loops.specs.declared.per_fast_sensor.FastSensor.{FastSensor}
 use Rattle.edr_loops.specs.declared.per_fast_sensor.FastSensor.TheVariants.{Along, Across}
 use Rattle.edr_loops.specs.declared.per_fast_sensor.PerFastSensor.{PerFastSensor}
 use Rattle.edr_loops.specs.PerFastSensor.{EachFast, fast_at, map_fast_values, sensor_of, with_fast_value}
-use Rattle.edr_loops.specs.BufferedInlets.{IsNext}
+use Rattle.edr_loops.specs.BufferedInlets.{IsNext, IsNotNext}
 use Rattle.edr_loops.specs.Lanes.{FastInlets, FastItems}
 
 -- the lists with that item at the end of its sensor's
@@ -21,6 +21,10 @@ with_both x l = with_fast Across x (with_fast Along x l)
 -- the item comes next of either axis
 abbrev pub AreNext : Item → FastInlets → Type 0
 AreNext x i = IsNext x i.along × IsNext x i.across
+
+-- it is not known to come next of one of them
+abbrev pub AreNotNext : Item → FastInlets → Type 0
+AreNotNext x i = IsNotNext x i.along ⊎ IsNotNext x i.across
 
 -- each list is one that its sensor may give
 abbrev pub AreFastFeeds : FastItems → Type 0

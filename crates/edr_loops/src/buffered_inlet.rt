@@ -1,6 +1,6 @@
 //! The recorder's end of a sensor's ring, with a buffer for the items that come out of it together.
 
-ghost use Rattle.std.specs.Prelude.{◌≡◌, ◌-◌, ◌<◌, ◌≤◌, ◌++◌, true};
+ghost use Rattle.std.specs.Prelude.{◌≡◌, ◌-◌, ◌<◌, ◌≤◌, ◌++◌, true, false};
 ghost use Rattle.edr_seats.specs.Rings.{items_taken};
 ghost use Rattle.edr_loops.specs.Slices.{between, but_last};
 
@@ -27,10 +27,10 @@ pub struct BufferedInlet {
 }
 
 impl BufferedInlet {
-    ghost use Rattle.std.specs.Prelude.{[], IsNone};
+    ghost use Rattle.std.specs.Prelude.{[], IfSome, IsNone};
     ghost use Rattle.edr_definitions.specs.Schedule.{BeginsWith};
     ghost use Rattle.edr_seats.specs.Rings.{AreOfOneRing, items_known, items_sent};
-    ghost use Rattle.edr_loops.specs.BufferedInlets.{IsNext, KnowsNoneUpTo, SameBuffered, TakesUpTo, taken_of, with_last};
+    ghost use Rattle.edr_loops.specs.BufferedInlets.{ComesNext, IsNext, IsNotNext, KnowsNone, KnowsNoneUpTo, SameBuffered, TakesUpTo, taken_of, with_last};
     ghost use Rattle.edr_items.specs.declared.Item.{Item};
     ghost use Rattle.edr_merge.specs.Still.{still_item};
 
@@ -62,43 +62,50 @@ impl BufferedInlet {
         self.next = 0;
     }
 
+    // The next item, if there is one; it stays.
+    #[inline(always)]
+    fn peek(&mut self) -> Option<Item>
+        ensures ring { SameBuffered self.old self.new }
+        ensures taken { taken_of self.new ≡ taken_of self.old }
+        ensures next { IfSome result (λ x. IsNext x self.new × ComesNext x self.new) }
+        ensures none { IsNone result → KnowsNone self.new }
+    {
+        if self.next == self.end {
+            self.fill();
+        }
+        if self.next == self.end {
+            return None;
+        }
+        Some(self.items[self.next])
+    }
+
     /// Takes the next item, if there is one and its moment is not past `upto`.
     #[inline(always)]
-    #[tactic(auto, using(crate::proofs::BufferLemmas::next_taken, crate::proofs::BufferLemmas::next_lie))]
     pub fn take_upto(&mut self, upto: u32) -> Option<Item>
         ensures ring { SameBuffered self.old self.new }
         ensures taken { TakesUpTo upto with_last result (taken_of self.old) (taken_of self.new) }
         ensures none { IsNone result → KnowsNoneUpTo upto self.new }
     {
-        if self.next == self.end {
-            self.fill();
-            if self.next == self.end {
-                return None;
-            }
-        }
-        if upto < self.items[self.next].moment {
+        let item = self.peek()?;
+        if upto < item.moment {
             return None;
         }
-        let item = self.items[self.next];
-        self.next += 1;
+        self.take_known();
         Some(item)
     }
 
-    /// Whether the next item is the sensor's sample of 0 of that tick.
+    /// Whether the next item is the sensor's sample of 0 of that tick; it stays.
     #[inline(always)]
     pub fn is_still(&mut self, tick: u32) -> bool
         ensures ring { SameBuffered self.old self.new }
         ensures taken { taken_of self.new ≡ taken_of self.old }
         ensures next { result ≡ true → IsNext (still_item tick) self.new }
+        ensures other { result ≡ false → IsNotNext (still_item tick) self.new }
     {
-        if self.next == self.end {
-            self.fill();
-            if self.next == self.end {
-                return false;
-            }
+        match self.peek() {
+            Some(item) => item.moment == tick && item.value == Some(0),
+            None => false,
         }
-        let item = self.items[self.next];
-        item.moment == tick && item.value == Some(0)
     }
 
     /// Takes the next item, which lies in the buffer.

@@ -1,9 +1,9 @@
 //! The recorder's ends of the rings of the fast sensors.
 
-ghost use Rattle.std.specs.Prelude.{◌≡◌, true};
+ghost use Rattle.std.specs.Prelude.{◌≡◌, true, false};
 ghost use Rattle.edr_items.specs.declared.Item.{Item};
 ghost use Rattle.edr_merge.specs.Still.{still_item};
-ghost use Rattle.edr_loops.specs.FastInlets.{AreNext, with_both, with_fast};
+ghost use Rattle.edr_loops.specs.FastInlets.{AreNext, AreNotNext, with_both, with_fast};
 ghost use Rattle.edr_loops.specs.Lanes.{SameFastInlets, fast_taken};
 ghost use Rattle.edr_loops.specs.BufferedInlets.{TakesUpTo};
 
@@ -35,6 +35,7 @@ impl PerFastSensor<BufferedInlet> {
         ensures rings { SameFastInlets self.old self.new }
         ensures taken { fast_taken self.new ≡ fast_taken self.old }
         ensures next { result ≡ true → AreNext (still_item tick) self.new }
+        ensures other { result ≡ false → AreNotNext (still_item tick) self.new }
     {
         self.along.is_still(tick) && self.across.is_still(tick)
     }
