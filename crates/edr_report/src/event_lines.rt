@@ -3,6 +3,9 @@
 ghost use Rattle.std.specs.Prelude.{◌≡◌, ◌<◌};
 ghost use Rattle.edr_report.specs.EventWords.{place_of};
 
+use CrashLine::Fired;
+use EventLine::{After, Before};
+
 /// A line of an event.
 #[derive(Clone, Copy)]
 pub enum EventLine {
@@ -89,76 +92,55 @@ impl Restraint {
 pub const LINES_OF_EVENT: [(&str, EventLine); 29] = [
     ("event", EventLine::Number),
     ("bank", EventLine::Bank),
-    ("ignition cycle, crash", EventLine::Before(PreLine::Cycle)),
-    ("time zero", EventLine::Before(PreLine::TimeZero)),
-    (
-        "multi-event, number of events",
-        EventLine::Before(PreLine::Events),
-    ),
-    (
-        "time from event 1 to 2",
-        EventLine::Before(PreLine::Between),
-    ),
-    ("deployment event", EventLine::Before(PreLine::Deployment)),
-    ("pre-crash profile", EventLine::Before(PreLine::Profile)),
-    ("speed, km/h", EventLine::Before(PreLine::Speed)),
-    ("throttle, %", EventLine::Before(PreLine::Throttle)),
-    ("service brake", EventLine::Before(PreLine::Brake)),
-    ("driver belt", EventLine::Before(PreLine::Belt)),
-    (
-        "frontal air bag warning lamp",
-        EventLine::Before(PreLine::Lamp),
-    ),
-    ("end of event", EventLine::After(CrashLine::End)),
-    (
-        "delta-V longitudinal, km/h",
-        EventLine::After(CrashLine::Along),
-    ),
-    ("delta-V lateral, km/h", EventLine::After(CrashLine::Across)),
-    (
-        "maximum delta-V longitudinal",
-        EventLine::After(CrashLine::MaxAlong),
-    ),
-    (
-        "maximum delta-V lateral",
-        EventLine::After(CrashLine::MaxAcross),
-    ),
-    (
-        "time of maximum resultant",
-        EventLine::After(CrashLine::ResultAt),
-    ),
-    ("ticks without sample", EventLine::After(CrashLine::Missing)),
+    ("ignition cycle, crash", Before(PreLine::Cycle)),
+    ("time zero", Before(PreLine::TimeZero)),
+    ("multi-event, number of events", Before(PreLine::Events)),
+    ("time from event 1 to 2", Before(PreLine::Between)),
+    ("deployment event", Before(PreLine::Deployment)),
+    ("pre-crash profile", Before(PreLine::Profile)),
+    ("speed, km/h", Before(PreLine::Speed)),
+    ("throttle, %", Before(PreLine::Throttle)),
+    ("service brake", Before(PreLine::Brake)),
+    ("driver belt", Before(PreLine::Belt)),
+    ("frontal air bag warning lamp", Before(PreLine::Lamp)),
+    ("end of event", After(CrashLine::End)),
+    ("delta-V longitudinal, km/h", After(CrashLine::Along)),
+    ("delta-V lateral, km/h", After(CrashLine::Across)),
+    ("maximum delta-V longitudinal", After(CrashLine::MaxAlong)),
+    ("maximum delta-V lateral", After(CrashLine::MaxAcross)),
+    ("time of maximum resultant", After(CrashLine::ResultAt)),
+    ("ticks without sample", After(CrashLine::Missing)),
     (
         "driver frontal deployment",
-        EventLine::After(CrashLine::Fired(Restraint::DriverFrontal)),
+        After(Fired(Restraint::DriverFrontal)),
     ),
     (
         "passenger frontal deployment",
-        EventLine::After(CrashLine::Fired(Restraint::PassengerFrontal)),
+        After(Fired(Restraint::PassengerFrontal)),
     ),
     (
         "driver side deployment",
-        EventLine::After(CrashLine::Fired(Restraint::DriverSide)),
+        After(Fired(Restraint::DriverSide)),
     ),
     (
         "passenger side deployment",
-        EventLine::After(CrashLine::Fired(Restraint::PassengerSide)),
+        After(Fired(Restraint::PassengerSide)),
     ),
     (
         "driver curtain deployment",
-        EventLine::After(CrashLine::Fired(Restraint::DriverCurtain)),
+        After(Fired(Restraint::DriverCurtain)),
     ),
     (
         "passenger curtain deployment",
-        EventLine::After(CrashLine::Fired(Restraint::PassengerCurtain)),
+        After(Fired(Restraint::PassengerCurtain)),
     ),
     (
         "driver pretensioner deployment",
-        EventLine::After(CrashLine::Fired(Restraint::DriverPretensioner)),
+        After(Fired(Restraint::DriverPretensioner)),
     ),
     (
         "passenger pretensioner deployment",
-        EventLine::After(CrashLine::Fired(Restraint::PassengerPretensioner)),
+        After(Fired(Restraint::PassengerPretensioner)),
     ),
     ("complete file recorded", EventLine::Complete),
 ];

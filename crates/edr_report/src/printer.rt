@@ -95,6 +95,16 @@ pub struct Printer<L: Lines> {
 }
 
 impl<L: Lines> Printer<L> {
+    fn new(alloc: Global, form: L) -> Printer<L>
+        ensures { result.lines ≡ form }
+    {
+        Printer {
+            lines: form,
+            name: String::new(alloc),
+            value: String::new(alloc),
+        }
+    }
+
     // Gives a line.
     fn put(&mut self, block: u64, name: &str, value: Value<'_>) -> Result<(), OutOfMemory>
         requires { L.ready self.old.lines }
@@ -290,11 +300,7 @@ pub fn print<L: Lines + Drop>(
     requires { L.ready form }
     ensures { IfOk result (λ out. GainsLines L.Lines form out (report_lines (map report_of run.now) found.now count)) }
 {
-    let mut printer = Printer {
-        lines: form,
-        name: String::new(alloc),
-        value: String::new(alloc),
-    };
+    let mut printer = Printer::new(alloc, form);
     printer.put_report(run, found, count)?;
     Ok(printer.lines)
 }
@@ -308,11 +314,7 @@ pub fn print_run<L: Lines + Drop>(
     requires { L.ready form }
     ensures { IfOk result (λ out. GainsLines L.Lines form out (run_lines 1 (map report_of run.now))) }
 {
-    let mut printer = Printer {
-        lines: form,
-        name: String::new(alloc),
-        value: String::new(alloc),
-    };
+    let mut printer = Printer::new(alloc, form);
     printer.put_run(run)?;
     Ok(printer.lines)
 }
@@ -328,11 +330,7 @@ pub fn print_event<L: Lines + Drop>(
     requires { L.ready form }
     ensures { IfOk result (λ out. GainsLines L.Lines form out (event_lines block bank event.now)) }
 {
-    let mut printer = Printer {
-        lines: form,
-        name: String::new(alloc),
-        value: String::new(alloc),
-    };
+    let mut printer = Printer::new(alloc, form);
     printer.put_event(block, bank, event)?;
     Ok(printer.lines)
 }
