@@ -125,6 +125,7 @@ pub record IsFreshKeeper (id : TableId) (s : Sensor) (k : Keeper) : Type 0 where
   pub sensor : IsKeeperOf s k
   pub mark : mark_posted k ≡ 0
   pub granted : grant_read k ≡ 1000
+  pub asked : asked_read k ≡ 0
 
 -- the keepers of this freeze, none of which has posted a mark
 pub record AreFresh (id : TableId) (k : PerSlowSensor Keeper) : Type 0 where

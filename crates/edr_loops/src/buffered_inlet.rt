@@ -30,6 +30,7 @@ impl BufferedInlet {
     ghost use Rattle.std.specs.Prelude.{[], IfSome, IsNone};
     ghost use Rattle.edr_definitions.specs.Schedule.{BeginsWith};
     ghost use Rattle.edr_seats.specs.Rings.{AreOfOneRing, items_known, items_sent};
+    ghost use Rattle.edr_seats.specs.Seat.{SameSeat};
     ghost use Rattle.edr_loops.specs.BufferedInlets.{ComesNext, IsNext, IsNotNext, KnowsNone, KnowsNoneUpTo, SameBuffered, TakesUpTo, taken_of, with_last};
     ghost use Rattle.edr_items.specs.declared.Item.{Item};
     ghost use Rattle.edr_merge.specs.Still.{still_item};
@@ -125,6 +126,7 @@ impl BufferedInlet {
         requires { AreOfOneRing seat.old.sender self.old.inlet }
         ensures ring { SameBuffered self.old self.new }
         ensures taken { taken_of self.new ≡ taken_of self.old }
+        ensures seat { SameSeat seat.old seat.new }
         ensures sent { items_sent seat.new.sender ≡ items_sent seat.old.sender }
         ensures begins { BeginsWith (items_sent seat.new.sender) (taken_of self.new) }
     {

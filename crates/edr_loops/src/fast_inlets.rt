@@ -1,11 +1,12 @@
 //! The recorder's ends of the rings of the fast sensors.
 
-ghost use Rattle.std.specs.Prelude.{◌≡◌, true, false};
+ghost use Rattle.std.specs.Prelude.{◌≡◌, IsNone, true, false};
 ghost use Rattle.edr_items.specs.declared.Item.{Item};
 ghost use Rattle.edr_merge.specs.Still.{still_item};
 ghost use Rattle.edr_loops.specs.FastInlets.{AreNext, AreNotNext, with_both, with_fast};
+ghost use Rattle.edr_loops.specs.PerFastSensor.{fast_at};
 ghost use Rattle.edr_loops.specs.Lanes.{SameFastInlets, fast_taken};
-ghost use Rattle.edr_loops.specs.BufferedInlets.{TakesUpTo};
+ghost use Rattle.edr_loops.specs.BufferedInlets.{KnowsNoneUpTo, TakesUpTo};
 
 use crate::buffered_inlet::BufferedInlet;
 use crate::per_fast_sensor::{FastSensor, PerFastSensor};
@@ -21,6 +22,7 @@ impl PerFastSensor<BufferedInlet> {
         ensures rings { SameFastInlets self.old self.new }
         ensures taken { TakesUpTo upto (with_fast sensor)
             result (fast_taken self.old) (fast_taken self.new) }
+        ensures none { IsNone result → KnowsNoneUpTo upto (fast_at sensor self.new) }
     {
         match sensor {
             FastSensor::Along => self.along.take_upto(upto),

@@ -1,6 +1,6 @@
 //! A fast sensor's sender at a worker.
 
-ghost use Rattle.std.specs.Prelude.{◌≡◌, ◌≤◌, take};
+ghost use Rattle.std.specs.Prelude.{◌≡◌, ◌≤◌, max, min, take};
 ghost use Rattle.edr_items.specs.SensorLists.{items_of};
 ghost use Rattle.edr_seats.specs.Rings.{items_sent};
 ghost use Rattle.edr_seats.specs.Seat.{SameSeat};
@@ -50,12 +50,16 @@ pub struct GatePasses {
 
 impl GatePasses {
     // Before the first item.
-    pub(crate) const fn new() -> GatePasses {
+    pub(crate) const fn new() -> GatePasses
+        ensures { result.passed ≡ 0 }
+    {
         GatePasses { passed: 0 }
     }
 
     // Lets items pass up to the one of that number, as far as they haven't passed yet.
-    pub(crate) fn pass_to<G: Gate>(&mut self, sensor: Sensor, upto: usize, gate: &G) {
+    pub(crate) fn pass_to<G: Gate>(&mut self, sensor: Sensor, upto: usize, gate: &G)
+        ensures { self.new.passed ≡ max self.old.passed (min upto 4_294_967_295) }
+    {
         let upto = u32::try_from(upto).unwrap_or(u32::MAX);
         for nth in self.passed..upto {
             gate.pass(sensor.number(), nth + 1);

@@ -71,7 +71,7 @@ NowIsFor kept_then sent_then old new = (kept : List Item) (parts : List SensorPa
 pub record IsFreshSeat (sensor : Sensor) (keeper : Keeper) (s : SlowContents) : Type 0 where
   pub stands : SlowSeatIsFor s [] []
   pub of_sensor : sensor_of_slow s ≡ sensor
-  pub freeze : freeze_of_keeper s.keeper ≡ freeze_of_keeper keeper
+  pub keeper_is : s.keeper ≡ keeper
   pub served : zero_served s ≡ 0
 
 -- ---- its answers
