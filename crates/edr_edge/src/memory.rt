@@ -1,8 +1,9 @@
 //! The file `edr.nvm` as the memory of the records: the edge that is trusted and not proved, since no contract can say what
 //! a file keeps.
-ghost use Rattle.std.specs.Prelude.{◌≡◌, ◌+◌, ◌≤◌, ◌<◌, ◌^◌, length, IsErr, IsFalse, OnErr};
+ghost use Rattle.std.specs.Prelude.{◌≡◌, ◌+◌, ◌≤◌, ◌<◌, ◌^◌, length, false, None, IsErr, IsFalse, OnErr};
 ghost use Rattle.edr_device.specs.Device.{Ticks};
 ghost use Rattle.edr_device.specs.Faults.{HasCause, last_number, next_number};
+ghost use Rattle.edr_device.specs.declared.device.TheConstants.{LONGEST_WRITE};
 
 use crate::file::ImageFile;
 use edr_device::{Failed, Nvm};
@@ -37,6 +38,8 @@ impl<R> FileNvm<R> {
     pub fn open(rt: R) -> FileNvm<R>
     where
         R: Files<File = File> + Clock + Drop,
+        ensures fresh { (result.clock ≡ 0) × (result.last_good ≡ 0) × (result.faults ≡ 0) }
+        ensures none { result.file ≡ None → result.size ≡ 0 }
     {
         let file = ImageFile::open(rt).ok();
         let size = file.as_ref().map_or(0, |file| file.size());
@@ -55,6 +58,7 @@ impl<R> FileNvm<R> {
     pub fn is_output(&self) -> bool
     where
         R: Files<File = File> + Clock,
+        ensures none { self.now.file ≡ None → result ≡ false }
     {
         self.file.as_ref().is_some_and(|file| file.is_output())
     }
@@ -63,6 +67,7 @@ impl<R> FileNvm<R> {
         ensures fails { IsErr result }
         ensures counts { self.new.faults ≡ next_number self.old.faults }
         ensures same { (self.new.size ≡ self.old.size) × (self.new.clock ≡ self.old.clock) × (self.new.last_good ≡ self.old.last_good) }
+        ensures file { self.new.file ≡ self.old.file }
     {
         self.faults = self.faults.saturating_add(1);
         Err(Failed)
@@ -75,6 +80,7 @@ impl<R> FileNvm<R> {
         ensures full { self.old.clock ≡ last_number → IsErr result }
         ensures undone { IsFalse done → IsErr result }
         ensures cause { HasCause self.old.faults self.new.faults result }
+        ensures file { self.new.file ≡ self.old.file }
     {
         if self.clock == u64::MAX {
             return self.fail();
@@ -89,11 +95,12 @@ impl<R> FileNvm<R> {
 }
 
 impl<R: Files<File = File> + Clock> Nvm for FileNvm<R> {
-    ghost use Rattle.std.specs.Prelude.{None, ⊤, true};
+    ghost use Rattle.std.specs.Prelude.{⊤, true};
     ghost use Rattle.std.proofs.lemmas.Option.{none-some};
 
     ghost extent = { λ a. a.size };
 
+    // No bytes are told, so the calls below leave out what the trait says of them.
     ghost content = { λ a. None };
 
     ghost settled = { λ a i. true };
@@ -132,7 +139,16 @@ impl<R: Files<File = File> + Clock> Nvm for FileNvm<R> {
         self.size
     }
 
-    fn read(&mut self, at: u32, into: &mut [u8]) -> Result<(), Failed> {
+    fn read(&mut self, at: u32, into: &mut [u8]) -> Result<(), Failed>
+        requires range { at + length into.old ≤ self.old.size }
+        ensures size { self.new.size ≡ self.old.size }
+        ensures into_stays { OnErr result (into.new ≡ into.old) }
+        ensures clock { self.new.clock ≡ self.old.clock }
+        ensures good { self.new.last_good ≡ self.old.last_good }
+        ensures cause { HasCause self.old.faults self.new.faults result }
+
+        ensures absent { self.old.file ≡ None → IsErr result × (self.new.file ≡ None) }
+    {
         let n = into.len();
         if n > LONGEST_READ {
             return self.fail();
@@ -149,7 +165,16 @@ impl<R: Files<File = File> + Clock> Nvm for FileNvm<R> {
         Ok(())
     }
 
-    fn write(&mut self, at: u32, bytes: &[u8]) -> Result<(), Failed> {
+    fn write(&mut self, at: u32, bytes: &[u8]) -> Result<(), Failed>
+        requires range { at + length bytes.now ≤ self.old.size }
+        requires piece { (1 ≤ length bytes.now) × (length bytes.now ≤ LONGEST_WRITE) }
+        ensures size { self.new.size ≡ self.old.size }
+        ensures time { Ticks self.old.clock self.new.clock self.old.last_good self.new.last_good result }
+        ensures full { self.old.clock ≡ last_number → IsErr result }
+        ensures cause { HasCause self.old.faults self.new.faults result }
+
+        ensures absent { self.old.file ≡ None → IsErr result × (self.new.file ≡ None) }
+    {
         let written = match &mut self.file {
             Some(file) if self.clock < u64::MAX => {
                 self.is_unsettled = true;
@@ -160,7 +185,14 @@ impl<R: Files<File = File> + Clock> Nvm for FileNvm<R> {
         self.count(written)
     }
 
-    fn sync(&mut self) -> Result<(), Failed> {
+    fn sync(&mut self) -> Result<(), Failed>
+        ensures size { self.new.size ≡ self.old.size }
+        ensures time { Ticks self.old.clock self.new.clock self.old.last_good self.new.last_good result }
+        ensures full { self.old.clock ≡ last_number → IsErr result }
+        ensures cause { HasCause self.old.faults self.new.faults result }
+
+        ensures absent { self.old.file ≡ None → IsErr result × (self.new.file ≡ None) }
+    {
         let synced = match &mut self.file {
             Some(file) if self.clock < u64::MAX => file.sync().is_ok(),
             _ => false,
