@@ -1,6 +1,6 @@
 //! A trace that is read as its bytes come.
 
-ghost use Rattle.std.specs.Prelude.{◌≤◌, ◌<◌, ◌+◌, ◌^◌, ◌++◌, ℕ, List, [], length, take, IfOk, IfErr};
+ghost use Rattle.std.specs.Prelude.{◌≡◌, ◌≤◌, ◌<◌, ◌+◌, ◌^◌, ◌++◌, ℕ, List, [], length, take, IfOk, IfErr};
 ghost use Rattle.edr_spell.specs.Spell.{Spell, largest_trace};
 ghost use Rattle.edr_trace.specs.Told.{TellsRefusal};
 ghost use Rattle.edr_trace.specs.Given.{Given, TakesBytes, TellsOfMore};
@@ -68,6 +68,8 @@ impl TraceReading {
         ensures within { result ≤ length bytes.now }
         ensures left { length bytes.now ≤ result + 64 }
         ensures given { TakesBytes (take result bytes.now) self.old self.new }
+        ensures refused { (e : ReadRefused) → self.old.way ≡ Way.Refused e
+            → (result ≡ length bytes.now) × (self.new ≡ self.old) }
     {
         match self.take_front(bytes) {
             Ok(taken) => taken,
@@ -85,6 +87,8 @@ impl TraceReading {
         ensures left { IfOk result (λ n. length bytes.now ≤ n + LONGEST_ROW) }
         ensures given { IfOk result (λ n. TakesBytes (take n bytes.now) self.old self.new) }
         ensures refused { IfErr result (TellsOfMore bytes.now self.old) }
+        ensures after { (e : ReadRefused) → self.old.way ≡ Way.Refused e
+            → (result ≡ Ok (length bytes.now)) × (self.new ≡ self.old) }
     {
         match &mut self.way {
             Way::Rows => {}
