@@ -1,6 +1,6 @@
 //! A cycle that runs by itself: its items go through the core, and each tick's commands to the banks.
 
-ghost use Rattle.std.specs.Prelude.{◌≡◌, ℕ, ◌+◌, ◌≤◌, ◌<◌, false, IsTrue, length, map};
+ghost use Rattle.std.specs.Prelude.{◌≡◌, ◌↔◌, ℕ, ◌+◌, ◌≤◌, ◌<◌, false, IsTrue, length, map};
 ghost use Rattle.edr_device.specs.Lent.{Lent};
 ghost use Rattle.edr_items.specs.PerSensor.{total_of};
 ghost use Rattle.edr_items.specs.SensorLists.{AreFeeds, IsLevel, horizon_of, no_items};
@@ -12,7 +12,7 @@ ghost use Rattle.edr_image.specs.Image.{image_size};
 ghost use Rattle.edr_run.specs.Cycle.{issues_in};
 ghost use Rattle.edr_cycle.specs.Begun.{room_for};
 ghost use Rattle.edr_cycle.specs.Ledgers.{CommitsIn};
-ghost use Rattle.edr_cycle.specs.Rest.{IsGiven, MayGiveFirst, PassesNext, PassesOn, issues_past};
+ghost use Rattle.edr_cycle.specs.Rest.{CanPassNext, IsGiven, MayGiveFirst, PassesNext, PassesOn, issues_past};
 
 use crate::commits::commit_tick;
 use crate::ledger::Ledger;
@@ -61,6 +61,8 @@ fn give_next(core: &mut Core, left: &mut Left<'_>, sensor: Sensor)
 // nothing moves.
 #[inline(always)]
 fn pass_next(core: &mut Core, left: &mut Left<'_>) -> bool
+    ensures answer { (n : ℕ) (p : Progress) → CoreIsFor core.old n p
+        → IsTrue result ↔ CanPassNext core.old p left.old }
     ensures passes { IsTrue result → (n : ℕ) (p : Progress) → CoreIsFor core.old n p
         → PassesNext n p core.new left.old left.new }
     ensures fewer { IsTrue result → total_of length left.new < total_of length left.old }
