@@ -1,6 +1,6 @@
 //! What stands in front of the bytes at a record's beginning: a row as a writer puts it there, or what is no row.
 
-ghost use Rattle.std.specs.Prelude.{◌≡◌, ◌≢◌, ◌++◌, ◌∷◌, [], ◌≤◌, ◌<◌, ◌-◌, ◌^◌, length, IfSome, ◌&&◌, true, false, slice_index};
+ghost use Rattle.std.specs.Prelude.{◌≡◌, ◌≢◌, ◌++◌, ◌∷◌, [], ◌≤◌, ◌<◌, ◌-◌, ◌^◌, ◌↔◌, length, IfSome, IsTrue, ◌&&◌, false, slice_index};
 ghost use Rattle.std.specs.List.{list_any};
 ghost use Rattle.edr_text.specs.Numbers.{numeral};
 ghost use Rattle.edr_spell.specs.Rows.{spelling_of, IsRow};
@@ -27,7 +27,7 @@ fn after<'a>(bytes: &'a [u8], front: &[u8]) -> Option<&'a [u8]>
 // Whether these four bytes are those, by one comparison of whole numbers.
 #[inline(always)]
 fn are_four(bytes: [u8; 4], those: [u8; 4]) -> bool
-    ensures { result ≡ true → bytes ≡ those }
+    ensures { IsTrue result ↔ (bytes ≡ those) }
 {
     u32::from_le_bytes(bytes) == u32::from_le_bytes(those)
 }
@@ -35,7 +35,7 @@ fn are_four(bytes: [u8; 4], those: [u8; 4]) -> bool
 // The same of two bytes.
 #[inline(always)]
 fn are_two(bytes: [u8; 2], those: [u8; 2]) -> bool
-    ensures { result ≡ true → bytes ≡ those }
+    ensures { IsTrue result ↔ (bytes ≡ those) }
 {
     u16::from_le_bytes(bytes) == u16::from_le_bytes(those)
 }
@@ -290,7 +290,8 @@ fn field_in_front(bytes: &[u8]) -> Option<(&[u8], &[u8])>
 
 // The first byte, if it isn't that of a byte order mark.
 fn bare_first(bytes: &[u8]) -> Option<u8>
-    ensures { IfSome result (λ b. slice_index bytes.now 0 ≢ 239) }
+    ensures is { IfSome result (λ b. b ≡ slice_index bytes.now 0) }
+    ensures bare { IfSome result (λ b. b ≢ 239) }
 {
     if bytes.is_empty() || bytes[0] == 0xEF {
         return None;
