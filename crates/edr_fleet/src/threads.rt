@@ -1,5 +1,5 @@
 //! The report of a fleet by threads.
-ghost use Rattle.std.specs.Prelude.{◌≡◌, ◌+◌, ◌≤◌, ◌<◌, ◌^◌, length, sum_by, flat_map, All, IsOk, IfOk, OnOk};
+ghost use Rattle.std.specs.Prelude.{◌≡◌, ◌+◌, ◌*◌, ◌≤◌, ◌<◌, ◌^◌, length, sum_by, flat_map, All, IsOk, IfOk, OnOk};
 ghost use Rattle.edr_spell.specs.Spell.{largest_trace};
 ghost use Rattle.edr_fleet.specs.Answers.{IsReportOf};
 ghost use Rattle.edr_fleet.specs.Frames.{FitsFrame};
@@ -14,7 +14,8 @@ use std::thread::{Threads, map_chunks};
 // How many images a worker has, so that there are at most as many parts as workers.
 fn share_of(images: usize, workers: u8) -> usize
     requires { 1 ≤ workers }
-    ensures { 0 < result }
+    ensures some { 0 < result }
+    ensures few { images ≤ result * workers }
 {
     images.div_ceil(usize::from(workers)).max(1)
 }

@@ -43,6 +43,6 @@ returns g c =
     let each = (c.in_ok-parts.ensures {u = tt}).each in
     let within : (n : ℕ) → n < length rs → n * size ≤ length images =
     λ n l. let is = (each n none l).1.argument_is in omega (arith, is.in_bounds) in
-    let enough : length images ≤ length rs * size = enough_shares (length images) size (length rs) c.share_of.ensures (many_shares g here) in
+    let enough : length images ≤ length rs * size = enough_shares (length images) size (length rs) c.share_of.ensures.some (many_shares g here) in
     let joined = rw c.deref.ensures.value at c.joined.ensures in
     joined_share c.args.before size images rs c.joined.result within (shares g here) enough joined.all joined.lines joined.events
