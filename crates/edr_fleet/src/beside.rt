@@ -17,7 +17,8 @@ use std::thread::{Threads, join_mut};
 
 // How many of some images the other threads report. The first thread also reads what comes next,
 // which takes about a third of the time that it takes to report it. Of W threads each has 4/3W of
-// that time to spend, so that the first reports (4 - W)/3W of the images.
+// that time to spend, so that the first reports (4 - W)/3W of the images. Only speed hangs on the
+// number: the report is the same with any that these clauses allow.
 fn others_of(images: usize, workers: u8) -> usize
     ensures within { result ≤ images }
     ensures alone { workers < 2 → result ≡ 0 }
