@@ -20,7 +20,7 @@ use Rattle.edr_cycle.specs.CycleLogged.{CycleLogged}
 use Rattle.edr_image.specs.Steps.{BankStep, State, after, held_after, reply_to, state_after}
 use Rattle.edr_run.specs.Cycle.{ack_of}
 use Rattle.edr_banks.specs.Opened.{OpenedBanks, state_of}
-use Rattle.edr_banks.specs.Applying.{opened_after}
+use Rattle.edr_banks.specs.Applying.{ended_after, opened_after}
 use Rattle.edr_cycle.specs.Commits.{Commits, IsAfterFirst, IsLeftBy, IsFoundWith, StopsAt, SaysAfter, acks_from, commands_from, first_steps, replies_from, steps_from}
 use Rattle.edr_cycle.specs.Past.{KeepsPast}
 use Rattle.edr_cycle.proofs.AnsweredLemmas.{map_err, map_ok}
@@ -57,11 +57,17 @@ passed_later a b v image h =
 
 -- ---- where a command fails
 
-module _ (s : State) (xs ys : List Issue) where
+opened-append : (b : OpenedBanks) (a more : List BankStep) → opened_after (opened_after b a) more ≡ opened_after b (a ++ more)
+opened-append b a more = rw (after-append b.store a more, ← fold-append held_after b.held a more) refl
+
+module _ (b b'' : OpenedBanks) (xs ys : List Issue) where
+  abbrev s : State
+  s = state_of b
+
   abbrev then : State
   then = state_after s (steps_from s xs)
 
-  stops_first : (before now : ℕ) (content content' : Option (List ℕ)) (settled settled' : ℕ → Bool) (l l' : CycleLogged) → StopsAt s xs before now content content' settled settled' l l' → StopsAt s (xs ++ ys) before now content content' settled settled' l l'
+  stops_first : (before now : ℕ) (content content' : Option (List ℕ)) (settled settled' : ℕ → Bool) (l l' : CycleLogged) → StopsAt b b'' xs before now content content' settled settled' l l' → StopsAt b b'' (xs ++ ys) before now content content' settled settled' l l'
   stops_first before now content content' settled settled' l l' h =
       let within = slice_get_within (replies_from s xs) h.j h.fails.reply h.fails.at in
       let long = length-replies_from s xs in
@@ -78,6 +84,7 @@ module _ (s : State) (xs ys : List Issue) where
           within = omega (arith, high, calls);
         };
         made = λ room. let made = h.made room in omega (arith, made, calls);
+        banks_are = h.banks_are ∙ ap (λ steps. ended_after (opened_after b steps)) (sym same);
         log_is = h.log_is ∙ ap (λ ks. l.acks ++ ks) (sym (take-append-le h.j (acks_from s xs) (acks_from then ys) (let n = length-acks_from s xs in omega (arith, n, below))) ∙ ap (take h.j) (sym (acks_from-append s xs ys)));
         commands_are = h.commands_are ∙ ap (λ ks. l.commands ++ ks) (sym (take-append-le h.j (commands_from xs) (commands_from ys) (let n = length-map xs (λ (i : Issue). i.command) in omega (arith, n, below))) ∙ ap (take h.j) (sym (map-append (λ (i : Issue). i.command) xs ys)));
         cut = λ bytes image v ready left.
@@ -89,8 +96,8 @@ module _ (s : State) (xs ys : List Issue) where
       }
 
   stops_later : (before mid now : ℕ) (content middle content' : Option (List ℕ)) (settled settled' settled'' : ℕ → Bool) (l l' l'' : CycleLogged) → mid ≡ before + all_calls (steps_from s xs) → mid ≤ now → l'.acks ≡ l.acks ++ acks_from s xs → l'.commands ≡ l.commands ++ commands_from xs
-      → ((bytes : List ℕ) (v : View) → IsFoundWith s.store content settled bytes v → (after_it : List ℕ) × IsFoundWith then.store middle settled' after_it (view_after v (steps_from s xs)))
-      → StopsAt then ys mid now middle content' settled' settled'' l' l'' → StopsAt s (xs ++ ys) before now content content' settled settled'' l l''
+      → ((bytes : List ℕ) (v : View) → IsFoundWith b.store content settled bytes v → (after_it : List ℕ) × IsFoundWith then.store middle settled' after_it (view_after v (steps_from s xs)))
+      → StopsAt (opened_after b (steps_from s xs)) b'' ys mid now middle content' settled' settled'' l' l'' → StopsAt b b'' (xs ++ ys) before now content content' settled settled'' l l''
   stops_later before mid now content middle content' settled settled' settled'' l l' l'' risen later acks commands ready h =
       let a = steps_from s xs in
       let steps = first_steps-later s xs ys h.j in
@@ -108,6 +115,7 @@ module _ (s : State) (xs ys : List Issue) where
           within = omega (arith, high, calls, risen, later);
         };
         made = λ room. let made = h.made room in omega (arith, made, calls, risen, later);
+        banks_are = h.banks_are ∙ ap ended_after (opened-append b a (first_steps then ys h.j) ∙ ap (opened_after b) (sym steps));
         log_is = h.log_is ∙ ap (λ ks. ks ++ take h.j (acks_from then ys)) acks ∙ append_assoc l.acks (acks_from s xs) (take h.j (acks_from then ys))
             ∙ ap (λ ks. l.acks ++ ks) (sym (ap (take (length xs + h.j)) (acks_from-append s xs ys) ∙ ap (λ n. take (n + h.j) (acks_from s xs ++ acks_from then ys)) (sym (length-acks_from s xs)) ∙ take-append-add (acks_from s xs) (acks_from then ys) h.j));
         commands_are = h.commands_are ∙ ap (λ ks. ks ++ take h.j (commands_from ys)) commands ∙ append_assoc l.commands (commands_from xs) (take h.j (commands_from ys))
@@ -165,7 +173,7 @@ module _ {D : Type 0} (content : D → Option (List ℕ)) (settled : D → ℕ �
         log_is = tt;
         time = rw (calls-append s xs ys) (makes_first (all_calls a) (all_calls more) (clock d) (clock d') (good d) (good d') e e' h.time);
         taken = tt;
-        stopped = stops_first s xs ys (clock d) (clock d') (content d) (content d') (settled d) (settled d') l l' h.stopped;
+        stopped = stops_first b b' xs ys (clock d) (clock d') (content d) (content d') (settled d) (settled d') l l' h.stopped;
         any_moment = λ bytes v ready. elapses_more (clock d) (since d) (since d') (IsAfterFirst a v) (IsAfterFirst (steps_from s (xs ++ ys)) v) (h.any_moment bytes v ready)
             (λ image p. rw (steps_from-append s xs ys) (passed_first a more v image p));
         past = h.past;
@@ -192,7 +200,7 @@ module _ {D : Type 0} (content : D → Option (List ℕ)) (settled : D → ℕ �
                 let first = h.taken bytes v ready in
                 let next = taken first.0 (view_after v a) (ready_after b a first.0 d' v ready.1 first.1 first.2) in
                 (next.0, next.1, rw (steps_from-append s xs ys) (says-append a more v next.0 next.2), past_again b.store.header bytes first.0 next.0 first.3 next.3));
-            stopped = map_err r k.stopped (λ stopped. stops_later s xs ys (clock d) (clock d') (clock d'') (content d) (content d') (content d'') (settled d) (settled d') (settled d'') l (record { acks = l.acks ++ acks_from s xs; commands = l.commands ++ commands_from xs; spare = l.spare - length xs }) l'' risen later refl refl
+            stopped = map_err r k.stopped (λ stopped. stops_later b b'' xs ys (clock d) (clock d') (clock d'') (content d) (content d') (content d'') (settled d) (settled d') (settled d'') l (record { acks = l.acks ++ acks_from s xs; commands = l.commands ++ commands_from xs; spare = l.spare - length xs }) l'' risen later refl refl
                 (λ bytes v ready. let first = h.taken bytes v ready in (first.0, ready_after b a first.0 d' v ready.1 first.1 first.2)) stopped);
             any_moment = λ bytes v ready.
                 let first = h.taken bytes v ready in
@@ -208,9 +216,6 @@ module _ {D : Type 0} (content : D → Option (List ℕ)) (settled : D → ℕ �
                 (λ image p. past_again b.store.header bytes first.0 image first.3 p);
           }
         where
-          opened-append : (b : OpenedBanks) (a more : List BankStep) → opened_after (opened_after b a) more ≡ opened_after b (a ++ more)
-          opened-append b a more = rw (after-append b.store a more, ← fold-append held_after b.held a more) refl
-
           logged-append : (l : CycleLogged) (p q : List Ack) (u v : List Command) (m n : ℕ) (all : List Ack) (more : List Command) (k : ℕ) → all ≡ p ++ q → more ≡ u ++ v → k ≡ m + n
               → ◌≡◌ {A = CycleLogged} (record { acks = (l.acks ++ p) ++ q; commands = (l.commands ++ u) ++ v; spare = l.spare - m - n }) (record { acks = l.acks ++ all; commands = l.commands ++ more; spare = l.spare - k })
           logged-append l p q u v m n all more k e h f =
@@ -248,12 +253,12 @@ module _ {D : Type 0} (content : D → Option (List ℕ)) (settled : D → ℕ �
 
   -- one command that failed
   pub one_failed : {T E : Type 0} (e : E) (i : Issue) (b b' : OpenedBanks) (l : CycleLogged) (d d' : D) → let r = reply_to (state_of b) i.command in
-      Makes {T = T} {E = E} (all_calls r.steps) (clock d) (clock d') (good d) (good d') (Err e)
+      b' ≡ ended_after b → Makes {T = T} {E = E} (all_calls r.steps) (clock d) (clock d') (good d) (good d') (Err e)
       → ((bytes image : List ℕ) (v : View) → IsFoundWith b.store (content d) (settled d) bytes v → MayLeave (content d') (settled d') image → (part : List BankStep) × IsLeftBy (clock d' - clock d) r.steps part × SaysAfter v part image)
       → ((bytes : List ℕ) (v : View) → IsFoundWith b.store (content d) (settled d) bytes v → Elapses (clock d) (since d) (since d') (IsAfterFirst r.steps v))
       → ((bytes : List ℕ) (v : View) → IsFoundWith b.store (content d) (settled d) bytes v → Elapses (clock d) (since d) (since d') (KeepsPast b.store.header bytes))
       → These {T = T} (i ∷ []) (Err e) b b' l l d d'
-  one_failed e i b b' l d d' time cut passed past =
+  one_failed e i b b' l d d' ended time cut passed past =
       let r = reply_to (state_of b) i.command in
       let one : r.steps ++ [] ≡ r.steps = append-nil r.steps in
       let few = time.few in
@@ -267,6 +272,7 @@ module _ {D : Type 0} (content : D → Option (List ℕ)) (settled : D → ℕ �
           j = 0;
           fails = record { reply = r; at = refl; past = omega arith; within = omega (arith, few, later) };
           made = λ room. let made = time.made room in omega (arith, made);
+          banks_are = ended;
           log_is = sym (append-nil l.acks);
           commands_are = sym (append-nil l.commands);
           cut = λ bytes image v ready left. let c = cut bytes image v ready left in record { part = c.0; left = subst (λ n. IsLeftBy n r.steps c.0) (sym none) c.1; says = c.2 };

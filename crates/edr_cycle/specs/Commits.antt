@@ -15,7 +15,7 @@ use Rattle.edr_image.specs.Image.{View, view_of}
 use Rattle.edr_cycle.specs.CycleLogged.{CycleLogged}
 use Rattle.edr_image.specs.Steps.{BankStep, State, Reply, after, replies}
 use Rattle.edr_banks.specs.Opened.{OpenedBanks, state_of}
-use Rattle.edr_banks.specs.Applying.{opened_after}
+use Rattle.edr_banks.specs.Applying.{ended_after, opened_after}
 use Rattle.edr_gates.specs.Found.{IsFound}
 use Rattle.edr_run.specs.Cycle.{ack_of}
 use Rattle.edr_cycle.specs.Past.{KeepsPast}
@@ -79,15 +79,16 @@ pub record IsCutInCommand (s : State) (xs : List Issue) (k j : ℕ) (own : List 
   pub left : IsLeftBy (k - all_calls (first_steps s xs j)) own part
   pub says : SaysAfter v (first_steps s xs j ++ part) image
 
--- The issued commands up to one that failed are in the log, and a crash leaves their steps done. Unless the clock stands at its last
--- value, the call that failed is one of the failed command's.
-pub record StopsAt (s : State) (xs : List Issue) (before now : ℕ) (content content' : Option (List ℕ)) (settled settled' : ℕ → Bool) (l l' : CycleLogged) : Type 0 where
+-- The issued commands up to one that failed are applied to the banks, which take no command any more, and are in the log, and a crash
+-- leaves their steps done. Unless the clock stands at its last value, the call that failed is one of the failed command's.
+pub record StopsAt (b b' : OpenedBanks) (xs : List Issue) (before now : ℕ) (content content' : Option (List ℕ)) (settled settled' : ℕ → Bool) (l l' : CycleLogged) : Type 0 where
   pub j : ℕ
-  pub fails : FailsAt s xs (now - before) j
-  pub made : now ≢ last_number → all_calls (first_steps s xs j) < now - before
-  pub log_is : l'.acks ≡ l.acks ++ take j (acks_from s xs)
+  pub fails : FailsAt (state_of b) xs (now - before) j
+  pub made : now ≢ last_number → all_calls (first_steps (state_of b) xs j) < now - before
+  pub banks_are : b' ≡ ended_after (opened_after b (first_steps (state_of b) xs j))
+  pub log_is : l'.acks ≡ l.acks ++ take j (acks_from (state_of b) xs)
   pub commands_are : l'.commands ≡ l.commands ++ take j (commands_from xs)
-  pub cut : (bytes image : List ℕ) (v : View) → IsFoundWith s.store content settled bytes v → MayLeave content' settled' image → IsCutInCommand s xs (now - before) j fails.reply.steps v image
+  pub cut : (bytes image : List ℕ) (v : View) → IsFoundWith b.store content settled bytes v → MayLeave content' settled' image → IsCutInCommand (state_of b) xs (now - before) j fails.reply.steps v image
 
 -- The issued commands are applied to the banks and logged, one after the other, up to one that fails. The words of the device come
 -- first, as functions of it.
@@ -96,7 +97,7 @@ pub record Commits {D T E : Type 0} (content : D → Option (List ℕ)) (settled
   pub log_is : OnOk result (l' ≡ record { acks = l.acks ++ acks_from (state_of b) xs; commands = l.commands ++ commands_from xs; spare = l.spare - length xs })
   pub time : Makes (all_calls (steps_from (state_of b) xs)) (clock d) (clock d') (good d) (good d') result
   pub taken : OnOk result ((bytes : List ℕ) (v : View) → IsFoundWith b.store (content d) (settled d) bytes v → (now : List ℕ) × IsQuiet (content d') (settled d') now × SaysAfter v (steps_from (state_of b) xs) now × KeepsPast b.store.header bytes now)
-  pub stopped : OnErr result (StopsAt (state_of b) xs (clock d) (clock d') (content d) (content d') (settled d) (settled d') l l')
+  pub stopped : OnErr result (StopsAt b b' xs (clock d) (clock d') (content d) (content d') (settled d) (settled d') l l')
   pub any_moment : (bytes : List ℕ) (v : View) → IsFoundWith b.store (content d) (settled d) bytes v → Elapses (clock d) (since d) (since d') (IsAfterFirst (steps_from (state_of b) xs) v)
   -- and it leaves what stands past the image
   pub past : (bytes : List ℕ) (v : View) → IsFoundWith b.store (content d) (settled d) bytes v → Elapses (clock d) (since d) (since d') (KeepsPast b.store.header bytes)

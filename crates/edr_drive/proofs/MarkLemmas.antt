@@ -102,6 +102,7 @@ module _ {D : Type 0} (content : D → Option (List ℕ)) (settled : D → ℕ �
       j = t.j;
       fails = t.fails;
       made = t.made;
+      banks_are = t.banks_are;
       log_is = t.log_is;
       commands_are = ap (λ (ks : List Command). mark_of s ∷ ks) t.commands_are;
       cut = t.cut;

@@ -38,7 +38,7 @@ returns-in-Err-clause-commits g c =
     let d = c.args.nvm.now in
     let d' = c.apply.new.nvm in
     one_failed N.content N.settled N.since N.clock N.last_good _ i b c.apply.new.self c.args.self.now.log d d'
-    (makes_err (all_calls r.steps) _ _ _ _ c.in-Err.field-0 _ (a.time c.requires.live))
+    a.spoiled (makes_err (all_calls r.steps) _ _ _ _ c.in-Err.field-0 _ (a.time c.requires.live))
     (stopped_cuts N.content N.settled N.since N.clock N.last_good r.steps b.store a.may d d' (a.stopped c.requires.live))
     (pass_says N.content N.settled N.since N.clock N.last_good r.steps b.store a.may d d' a.any_moment)
     (pass_keeps N.content N.settled N.since N.clock N.last_good r.steps b.store a.may d d' a.any_moment)
