@@ -3,7 +3,6 @@ use Rattle.std.proofs.Common.{arith, ◌≡◌, ◌∙◌, ◌≤◌, ◌⊎◌,
 use Rattle.std.specs.Prelude.{All}
 use Rattle.std.specs.List.{Contains}
 use Rattle.edr_items.specs.declared.Sensor.{Sensor}
-use Rattle.edr_items.specs.declared.Sensor.TheVariants.{Along, Across, Restraint}
 use Rattle.edr_items.specs.declared.Item.{Item}
 use Rattle.edr_items.specs.Item.{IsFeed, mark_of}
 use Rattle.edr_items.specs.PerSlowSensor.{slow_at}
@@ -19,15 +18,14 @@ use Rattle.edr_cycle.specs.declared.remaining.Remaining.{Remaining}
 use Rattle.edr_cycle.specs.Remaining.{Remains, RemainsAt, WasTold}
 use Rattle.edr_cycle.proofs.AnswerLemmas.{issued-now}
 use Rattle.edr_cycle.proofs.RestBeginLemmas.{part-begun}
-use Rattle.edr_cycle.proofs.RestLemmas.{feed-front}
-use Rattle.edr_loops.specs.Lanes.{FastInlets}
 use Rattle.edr_loops.specs.declared.recorder.Desk.{Desk}
-use Rattle.edr_loops.specs.FastInlets.{AreFastFeeds, HaveFast}
+use Rattle.edr_loops.specs.FastInlets.{HaveFast}
 use Rattle.edr_loops.specs.UnsentOrders.{issues_out}
 use Rattle.edr_loops.specs.PartInlets.{IsTakenPart}
 use Rattle.edr_loops.specs.Lanes.{AreTakenParts, FastBegin, PartInlets, fast_taken, slow_taken}
 use Rattle.edr_loops.specs.SlowSenders.{AreParts, IsPartOfBeginning}
 use Rattle.edr_loops.specs.Recorders.{DeskStands}
+use Rattle.edr_loops.proofs.LaneLemmas.{fast-feeds_begin}
 use Rattle.edr_loops.proofs.FastLemmas.{none-in, parts_of-fast, parts_of-slow}
 use Rattle.edr_seats.specs.Rings.{items_taken}
 
@@ -51,16 +49,9 @@ parts-whole : (f : SensorLists) (i : PartInlets) (parts : List SensorPart) → A
 parts-whole f i parts feeds are taken = λ k d lt. part-whole f i (get_or parts k d) feeds are (taken k d lt)
 
 -- ---- what the core was told
-fast-feeds : (f : SensorLists) (i : FastInlets) → AreFeeds f → FastBegin f i → AreFastFeeds (fast_taken i)
-fast-feeds f i feeds begins = record {
-  along = feed-front Along 0 (fast_taken i).along begins.along.0 (subst (λ (xs : List Item). IsFeed Along xs) begins.along.1 (feeds Along));
-  across = feed-front Across 0 (fast_taken i).across begins.across.0 (subst (λ (xs : List Item). IsFeed Across xs) begins.across.1 (feeds Across));
-  restraint = feed-front Restraint 0 (fast_taken i).restraint begins.restraint.0 (subst (λ (xs : List Item). IsFeed Restraint xs) begins.restraint.1 (feeds Restraint));
-}
-
 pub desk-was-told : (f : SensorLists) (n : ℕ) (d : Desk) → AreFeeds f → FastBegin f d.fast → AreTakenParts f d.parts → (s : DeskStands n (horizon_of f) d) → WasTold f s.history d.core d.last.along d.last.across d.last.restraint
 desk-was-told f n d feeds begins are s =
-    let have : HaveFast (fast_taken d.fast) s.history.past.given = s.told.taken_are (fast-feeds f d.fast feeds begins) in
+    let have : HaveFast (fast_taken d.fast) s.history.past.given = s.told.taken_are (fast-feeds_begin f d.fast feeds begins) in
     record {
       core_is = s.told.core_is;
       within = s.told.within;

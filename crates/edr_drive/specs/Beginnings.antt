@@ -52,13 +52,17 @@ pub record AreFreshEnds (c : SharedEnds) : Type 0 where
   pub orders_are : IsFreshRing c.orders.outbox c.orders.inbox
   pub seats : HaveNotPosted c.seats
 
--- a desk of cycle n to which nothing was given, at one end of each ring, and the senders and the inbox at the other
+-- a desk at one end of each ring, and the senders, as these lists left them, and the inbox at the other; and captures that keep nothing
+pub record AreTied (f : SensorLists) (r : WorkersAndRecorder) (inbox : Inbox) : Type 0 where
+  pub lanes : AreFastLanes r.senders.fast r.desk.fast
+  pub part_lanes : ArePartLanes r.senders.slow r.desk.parts
+  pub begun : HaveBegun f r.senders
+  pub pair : AreOfOneRing r.desk.outbox inbox
+  pub captures : r.captures ≡ no_captures
+
+-- nothing was given to the desk of cycle n, and nothing went through the rings
 pub record IsBeginning (n : ℕ) (r : WorkersAndRecorder) (inbox : Inbox) : Type 0 where
   pub stands : (horizon : ℕ) → DeskStands n horizon r.desk
   pub posted : HasPosted r.desk
-  pub lanes : AreFastLanes r.senders.fast r.desk.fast
-  pub part_lanes : ArePartLanes r.senders.slow r.desk.parts
-  pub begun : (f : SensorLists) → HaveBegun f r.senders
-  pub pair : AreOfOneRing r.desk.outbox inbox
+  pub tied : (f : SensorLists) → AreTied f r inbox
   pub fresh : items_taken inbox ≡ []
-  pub captures : r.captures ≡ no_captures

@@ -1,6 +1,5 @@
 //! A reader in a thread of its own, which reads each time that there is news.
 
-ghost use Rattle.std.specs.Prelude.{◌≡◌};
 ghost use Rattle.edr_drive.specs.Reading.{HasReadOn};
 
 use edr_board::Watch;

@@ -25,8 +25,9 @@ use Rattle.edr_loops.specs.declared.unsent_orders.UnsentOrders.{UnsentOrders}
 use Rattle.edr_seats.specs.Rings.{items_sent}
 use Rattle.edr_loops.specs.Orders.{Outbox, issues_of}
 use Rattle.edr_loops.specs.declared.recorder.Desk.{Desk}
+use Rattle.edr_loops.specs.Lanes.{fast_taken, slow_taken}
 use Rattle.edr_loops.specs.UnsentOrders.{issues_held, issues_out}
-use Rattle.edr_loops.specs.Recorders.{HaveMarks, IsAskerSettled, Later, DeskStands, zero_of}
+use Rattle.edr_loops.specs.Recorders.{CoreWasTold, HaveMarks, IsAskerSettled, Later, DeskStands, zero_of}
 use Rattle.edr_loops.proofs.FastLemmas.{all-reached}
 use Rattle.edr_loops.proofs.LaterLemmas.{later-by}
 use Rattle.edr_loops.proofs.RecorderLemmas.{closed-low}
@@ -51,18 +52,6 @@ pub ask-is : (h : History) (z : ℕ) → Asks z ≡ due h → IsAsk h z
 ask-is h z e =
     let is = asks_by h.asking (missing_part h) (waited_for h.past) (is_zero_next h.past) (h.past.closed + 1) z e in
     record { free = is.0; tick = is.1; none = is.2 }
-
-closes_by : (asking : Bool) (lacks : Option Sensor) (waited : Option Sensor) (zero : Bool) (t u : ℕ)
-    → Closes u ≡ cond {A = Answer} asking (option_map_or Lacks lacks (Closes t)) (option_map_or Waits waited (cond {A = Answer} zero (Asks t) (Closes t)))
-    → u ≡ t
-closes_by true (Some s) waited zero t u e = cc
-closes_by true None waited zero t u e = cc
-closes_by false lacks (Some s) zero t u e = cc
-closes_by false lacks None false t u e = cc
-closes_by false lacks None true t u e = cc
-
-pub close-is : (h : History) (u : ℕ) → Closes u ≡ due h → u ≡ h.past.closed + 1
-close-is h u e = closes_by h.asking (missing_part h) (waited_for h.past) (is_zero_next h.past) (h.past.closed + 1) u e
 
 -- ---- where no sensor is waited for, each mark is past the closed tick
 past_by : (n t : ℕ) → nat_eq n t ≡ false → t ≤ n → t + 1 ≤ n
@@ -214,29 +203,17 @@ adds-here n e t some i d slots s are commands ticks =
 
 -- ---- what is held is sent
 pub stands-sent : (n e : ℕ) (d : Desk) (o : Outbox) (k : UnsentOrders) → issues_out o k ≡ issues_out d.outbox d.held → DeskStands n e d → DeskStands n e (record d { outbox = o; held = k })
-stands-sent n e d o k out s =
-    let t = s.told in record {
-      history = s.history;
-      told = record { core_is = t.core_is; cycle_is = t.cycle_is; agrees = t.agrees; within = t.within; parts_are = t.parts_are; issues_are = λ slots are. out ∙ t.issues_are slots are; taken_are = t.taken_are };
-      last_is = s.last_is;
-      granted_is = s.granted_is;
-      asking_is = s.asking_is;
-    }
+stands-sent n e d o k out s = record {
+  history = s.history;
+  told = subst (λ (xs : List Issue). CoreWasTold n e d.core d.asker (fast_taken d.fast) (slow_taken d.parts) xs s.history) (sym out) s.told;
+  last_is = s.last_is;
+  granted_is = s.granted_is;
+  asking_is = s.asking_is;
+}
 
 -- the seat and the watch may change beside the rest
 pub stands-beside : (n e : ℕ) (d : Desk) (seat : RecorderSeat) (posted : ℕ) (watch : Watch) → DeskStands n e d → DeskStands n e (record d { seat = seat; posted = posted; watch = watch })
-stands-beside n e d seat posted watch s =
-    let t = s.told in record {
-      history = s.history;
-      told = record { core_is = t.core_is; cycle_is = t.cycle_is; agrees = t.agrees; within = t.within; parts_are = t.parts_are; issues_are = t.issues_are; taken_are = t.taken_are };
-      last_is = s.last_is;
-      granted_is = s.granted_is;
-      asking_is = s.asking_is;
-    }
+stands-beside n e d seat posted watch s = record { history = s.history; told = s.told; last_is = s.last_is; granted_is = s.granted_is; asking_is = s.asking_is }
 
 pub later-beside : (d : Desk) (seat : RecorderSeat) (watch : Watch) → board_of_recorder seat ≡ board_of_recorder d.seat → board_of_watch watch ≡ board_of_watch d.watch → Later d (record d { seat = seat; watch = watch })
 later-beside d seat watch recorder board = later-by 0 d (record d { seat = seat; watch = watch }) refl refl refl refl recorder board (λ n e low s. stands-beside n e d seat d.posted watch s)
-
--- a gate or a closed tick is posted by the desk's seat
-pub later-seated : (d : Desk) (seat : RecorderSeat) → board_of_recorder seat ≡ board_of_recorder d.seat → Later d (record d { seat = seat })
-later-seated d seat recorder = later-beside d seat d.watch recorder refl

@@ -51,11 +51,6 @@ have-with Along x l f h = record { along = ap (λ xs. xs ++ x ∷ []) h.along; a
 have-with Across x l f h = record { along = h.along; across = ap (λ xs. xs ++ x ∷ []) h.across; restraint = h.restraint }
 have-with Restraint x l f h = record { along = h.along; across = h.across; restraint = ap (λ xs. xs ++ x ∷ []) h.restraint }
 
-pub have-list : (k : FastSensor) (l : FastItems) (f : SensorLists) → HaveFast l f → items_of (sensor_of k) f ≡ fast_at k l
-have-list Along l f h = h.along
-have-list Across l f h = h.across
-have-list Restraint l f h = h.restraint
-
 -- a fast sensor is none of the slow ones
 fast-not-slow : (k : FastSensor) → ¬ IsSlow (sensor_of k)
 fast-not-slow Along slow = cc

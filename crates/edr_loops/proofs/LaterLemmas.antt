@@ -6,6 +6,8 @@ use Rattle.edr_items.specs.PerSlowSensor.{slow_at}
 use Rattle.edr_seats.specs.Rings.{SameSender}
 use Rattle.edr_seats.proofs.RingLemmas.{receiver-again, receiver-self, sender-again, sender-self}
 use Rattle.edr_core.specs.SplitContents.{SplitContents}
+use Rattle.edr_loops.proofs.HandLemmas.{each-fast, of-each}
+use Rattle.edr_loops.specs.PerFastSensor.{fast_at}
 use Rattle.edr_loops.specs.declared.per_fast_sensor.PerFastSensor.{PerFastSensor}
 use Rattle.edr_loops.specs.declared.unsent_orders.UnsentOrders.{UnsentOrders}
 use Rattle.edr_loops.specs.Orders.{Outbox}
@@ -15,10 +17,10 @@ use Rattle.edr_loops.specs.Recorders.{RecordsOn, RecordsOnHolding, IsRecording, 
 
 -- ---- the same rings
 pub fast-self : (a : FastInlets) → SameFastInlets a a
-fast-self a = record { along = receiver-self a.along.inlet; across = receiver-self a.across.inlet; restraint = receiver-self a.restraint.inlet }
+fast-self a = each-fast _ (λ k. receiver-self (fast_at k a).inlet)
 
 pub fast-again : (a b c : FastInlets) → SameFastInlets a b → SameFastInlets b c → SameFastInlets a c
-fast-again a b c h k = record { along = receiver-again a.along.inlet b.along.inlet c.along.inlet h.along k.along; across = receiver-again a.across.inlet b.across.inlet c.across.inlet h.across k.across; restraint = receiver-again a.restraint.inlet b.restraint.inlet c.restraint.inlet h.restraint k.restraint }
+fast-again a b c h k = each-fast _ (λ s. receiver-again (fast_at s a).inlet (fast_at s b).inlet (fast_at s c).inlet (of-each _ h s) (of-each _ k s))
 
 pub parts-self : (a : PartInlets) → SamePartInlets a a
 parts-self a = λ s slow. receiver-self (slow_at s a)
@@ -95,34 +97,22 @@ later-by t a b fast parts outbox freeze recorder watch stands = record {
 }
 
 -- ---- a recording that goes on
-pub holding-on : (t : ℕ) (a b : Desk) → IsRecording a → LaterUpTo t a b → SeatStays a b → b.held ≡ a.held → RecordsOnHolding t a b
-holding-on t a b records later seat held = record { later = later; stands = recording-later t a b later records; seat = seat; held = held }
-
 pub going-on : (t : ℕ) (a b : Desk) → IsRecording a → LaterUpTo t a b → SeatStays a b → RecordsOn t a b
 going-on t a b records later seat = record { later = later; stands = recording-later t a b later records; seat = seat }
 
-pub holding-self : (a : Desk) → IsRecording a → RecordsOnHolding 0 a a
-holding-self a records = record { later = later-self a; stands = records; seat = (refl, refl); held = refl }
-
-pub holding-again : (t : ℕ) (a b c : Desk) → RecordsOnHolding t a b → RecordsOnHolding t b c → RecordsOnHolding t a c
-holding-again t a b c h k = record {
-  later = later-again t t t a b c (omega arith) (omega arith) h.later k.later;
-  stands = k.stands;
-  seat = (k.seat.0 ∙ h.seat.0, k.seat.1 ∙ h.seat.1);
-  held = k.held ∙ h.held;
-}
-
--- what it holds may change after it was left alone
-pub on-again : (t u : ℕ) (a b c : Desk) → t ≤ u → RecordsOnHolding t a b → RecordsOn u b c → RecordsOn u a c
+pub on-again : (t u : ℕ) (a b c : Desk) → t ≤ u → RecordsOn t a b → RecordsOn u b c → RecordsOn u a c
 on-again t u a b c up h k = record {
   later = later-again t u u a b c up (omega arith) h.later k.later;
   stands = k.stands;
   seat = (k.seat.0 ∙ h.seat.0, k.seat.1 ∙ h.seat.1);
 }
 
-pub on-twice : (t : ℕ) (a b c : Desk) → RecordsOn t a b → RecordsOn t b c → RecordsOn t a c
-on-twice t a b c h k = record {
-  later = later-again t t t a b c (omega arith) (omega arith) h.later k.later;
-  stands = k.stands;
-  seat = (k.seat.0 ∙ h.seat.0, k.seat.1 ∙ h.seat.1);
-}
+-- the same where what it holds is left alone
+pub holding-on : (t : ℕ) (a b : Desk) → IsRecording a → LaterUpTo t a b → SeatStays a b → b.held ≡ a.held → RecordsOnHolding t a b
+holding-on t a b records later seat held = (going-on t a b records later seat, held)
+
+pub holding-self : (a : Desk) → IsRecording a → RecordsOnHolding 0 a a
+holding-self a records = holding-on 0 a a records (later-self a) (refl, refl) refl
+
+pub holding-again : (t : ℕ) (a b c : Desk) → RecordsOnHolding t a b → RecordsOnHolding t b c → RecordsOnHolding t a c
+holding-again t a b c h k = (on-again t t a b c (omega arith) h.0 k.0, k.1 ∙ h.1)

@@ -52,7 +52,7 @@ one-longer xs ys x more = let long = ap length more in let last = length_push xs
 -- what came of a slow sensor's offers, and then of a look at what is asked
 pub came-slow : (s : Sensor) (xs : List Item) (a m b : SlowSender) (kept sent : Offered) → a.next ≤ m.next → items_sent m.seat.sender ≡ items_sent a.seat.sender → b.next ≡ m.next → grant_known b.seat ≡ grant_known m.seat
     → CameOfKept s xs a m kept → CameOfPart m b sent → CameOfSlow s xs a b (came_of_both kept sent)
-came-slow s xs a m b Sent sent on same next granted k p = inl (omega (arith, k, next))
+came-slow s xs a m b Sent part on same next granted k p = inl (omega (arith, k, next))
 came-slow s xs a m b Full Sent on same next granted k p = inr (subst (λ ps. length ps < length (items_sent b.seat.sender)) same p)
 came-slow s xs a m b Full Full on same next granted k p = (next ∙ k.0, p.0 ∙ same, inr p.1)
 came-slow s xs a m b Full Over on same next granted k p = (next ∙ k.0, p.0 ∙ same, inl (ungranted-later xs m b next granted k.1)) where

@@ -15,7 +15,7 @@ use Rattle.edr_loops.specs.declared.recorder.Desk.{Desk}
 use Rattle.edr_loops.specs.FastInlets.{fast_marks_of, with_both, with_fast}
 use Rattle.edr_loops.specs.Lanes.{FastInlets, FastItems, fast_taken}
 use Rattle.edr_loops.specs.PerFastSensor.{with_fast_value}
-use Rattle.edr_loops.specs.Recorders.{CoreWasTold, DeskStands}
+use Rattle.edr_loops.specs.Recorders.{DeskWasTold, DeskStands}
 use Rattle.edr_loops.proofs.FastLemmas.{fast-marks-with}
 use Rattle.edr_loops.proofs.RecorderLemmas.{closed-low, told-taken}
 
@@ -44,14 +44,14 @@ module _ (n e t : ℕ) (d : Desk) (c : SplitContents) (i : FastInlets) (s : Desk
   abbrev gave : Desk
   gave = record d { core = passes.first; fast = one }
 
-  told-one : CoreWasTold n e gave (with_along h)
+  told-one : DeskWasTold n e gave (with_along h)
   told-one = told-taken n e Along x d passes.first one d.last taken_one h passes.next.along passes.first_is s.told
 
   -- then the other does
   taken_both : fast_taken i ≡ with_fast Across x (fast_taken one)
   taken_both = taken ∙ ap (λ (m : ℕ). with_both (still_item m) l) at ∙ ap (with_fast Across x) (sym taken_one)
 
-  told-both : CoreWasTold n e (record d { core = passes.both; fast = i }) (with_both_given h)
+  told-both : DeskWasTold n e (record d { core = passes.both; fast = i }) (with_both_given h)
   told-both = told-taken n e Across x gave passes.both i d.last taken_both (with_along h) passes.next.across passes.both_is told-one
 
   -- and at last the tick is closed
@@ -69,7 +69,7 @@ module _ (n e t : ℕ) (d : Desk) (c : SplitContents) (i : FastInlets) (s : Desk
       subst (λ (m : ℕ). issues_with slots (still_given h.past).given m (h.past.closed + 1) ≡ issues_with slots (still_given h.past).given m h.past.closed) s.told.cycle_is
       (passes.quiet slots are)
 
-  told : CoreWasTold n e passed after
+  told : DeskWasTold n e passed after
   told = let t = told-both in record {
     core_is = passes.stands;
     cycle_is = t.cycle_is;

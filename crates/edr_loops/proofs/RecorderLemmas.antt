@@ -30,12 +30,13 @@ use Rattle.edr_loops.specs.declared.recorder.Desk.{Desk}
 use Rattle.edr_loops.specs.FastInlets.{AreFastFeeds, HaveFast, fast_marks_of, with_fast}
 use Rattle.edr_loops.specs.PerFastSensor.{sensor_of, with_fast_value}
 use Rattle.edr_loops.specs.Lanes.{FastItems, PartInlets, SlowParts, fast_taken, slow_taken}
-use Rattle.edr_loops.specs.UnsentOrders.{issues_held}
+use Rattle.edr_loops.specs.UnsentOrders.{issues_held, issues_out}
 use Rattle.edr_seats.specs.Rings.{items_sent}
 use Rattle.edr_loops.specs.Orders.{issues_of}
 use Rattle.edr_loops.specs.PartInlets.{IsTakenPart, with_part}
-use Rattle.edr_loops.specs.Recorders.{IsFreshDesk, HaveMarks, CoreWasTold, DeskStands}
-use Rattle.edr_loops.proofs.FastLemmas.{all-taken, fast-beside, fast-front, fast-marks-with, fast-next, have-list, have-with, is-taken, mark-is, marks-beside, marks-same, marks-with_item}
+use Rattle.edr_loops.specs.Recorders.{IsFreshDesk, HaveMarks, CoreWasTold, DeskWasTold, DeskStands}
+use Rattle.edr_loops.proofs.HandLemmas.{of-each}
+use Rattle.edr_loops.proofs.FastLemmas.{all-taken, fast-beside, fast-front, fast-marks-with, fast-next, have-with, is-taken, mark-is, marks-beside, marks-same, marks-with_item}
 
 -- ---- how far the merge of a core has come
 closed_by : (b : Bool) (p : Progress) → p.closed ≤ (cond {A = Progress} b (after_step p Close) p).closed
@@ -67,7 +68,7 @@ module _ (n e : ℕ) (k : FastSensor) (x : Item) (d : Desk) (c : SplitContents) 
   abbrev took : Desk
   took = record d { core = c; fast = i; last = m }
 
-  pub told-taken : (h : History) → IsAllowed (Give (sensor_of k) x) h.past → SplitCoreStandsFor c (after_item (sensor_of k) x h) → CoreWasTold n e d h → CoreWasTold n e took (after_item (sensor_of k) x h)
+  pub told-taken : (h : History) → IsAllowed (Give (sensor_of k) x) h.past → SplitCoreStandsFor c (after_item (sensor_of k) x h) → DeskWasTold n e d h → DeskWasTold n e took (after_item (sensor_of k) x h)
   told-taken h allowed stands t = record {
     core_is = stands;
     cycle_is = t.cycle_is;
@@ -87,7 +88,7 @@ module _ (n e : ℕ) (k : FastSensor) (x : Item) (d : Desk) (c : SplitContents) 
   }
 
   -- one that is refused is none of a feed
-  told-refused : (h : History) → c ≡ d.core → (IsAllowed (Give (sensor_of k) x) h.past → ⊥) → x.moment ≤ h.past.closed + LONGEST_GAP → CoreWasTold n e d h → CoreWasTold n e took h
+  told-refused : (h : History) → c ≡ d.core → (IsAllowed (Give (sensor_of k) x) h.past → ⊥) → x.moment ≤ h.past.closed + LONGEST_GAP → DeskWasTold n e d h → DeskWasTold n e took h
   told-refused h same refused near t = record {
     core_is = subst (λ (o : SplitContents). SplitCoreStandsFor o h) (sym same) t.core_is;
     cycle_is = t.cycle_is;
@@ -99,7 +100,7 @@ module _ (n e : ℕ) (k : FastSensor) (x : Item) (d : Desk) (c : SplitContents) 
         let l = fast_taken d.fast in
         let all = subst AreFastFeeds taken feeds in
         let have = t.taken_are (fast-front k x l all) in
-        absurd (refused (subst (λ (xs : List Item). refusal_of (sensor_of k) (mark_of xs) x ≡ None) (sym (have-list k l h.past.given have)) (fast-next k x l all), near));
+        absurd (refused (subst (λ (xs : List Item). refusal_of (sensor_of k) (mark_of xs) x ≡ None) (sym (of-each _ have k)) (fast-next k x l all), near));
   }
 
   module _ (upto : ℕ) (near : (h : History) → SplitCoreStandsFor d.core h → upto ≤ h.past.closed + LONGEST_GAP) (by : x.moment ≤ upto) (last : m ≡ with_fast_value k x.moment d.last) (s : DeskStands n e d) where
@@ -142,7 +143,7 @@ module _ (n e : ℕ) (r : Sensor) (mark : ℕ) (slow : IsSlow r) (d : Desk) (c :
   abbrev loaded : Desk
   loaded = record d { core = c; asker = a }
 
-  mark-taken : (h : History) → IsAllowed (Give r x) h.past → SplitCoreStandsFor c (after_item r x h) → CoreWasTold n e d h → CoreWasTold n e loaded (after_item r x h)
+  mark-taken : (h : History) → IsAllowed (Give r x) h.past → SplitCoreStandsFor c (after_item r x h) → DeskWasTold n e d h → DeskWasTold n e loaded (after_item r x h)
   mark-taken h allowed stands t = record {
     core_is = stands;
     cycle_is = t.cycle_is;
@@ -160,7 +161,7 @@ module _ (n e : ℕ) (r : Sensor) (mark : ℕ) (slow : IsSlow r) (d : Desk) (c :
   }
 
   -- one that is refused hasn't risen
-  unrisen : (h : History) → (IsAllowed (Give r x) h.past → ⊥) → CoreWasTold n e d h → (mark_in r (marks_read d.asker) ≡ mark) ⊎ (mark_in r (marks_read d.asker) < mark) → mark_in r (marks_read d.asker) ≡ mark
+  unrisen : (h : History) → (IsAllowed (Give r x) h.past → ⊥) → DeskWasTold n e d h → (mark_in r (marks_read d.asker) ≡ mark) ⊎ (mark_in r (marks_read d.asker) < mark) → mark_in r (marks_read d.asker) ≡ mark
   unrisen h refused t (inl is) = is
   unrisen h refused t (inr past) =
       let is = mark-is r h.past.given (marks_read d.asker) slow t.agrees.marks_are in
@@ -168,7 +169,7 @@ module _ (n e : ℕ) (r : Sensor) (mark : ℕ) (slow : IsSlow r) (d : Desk) (c :
       let to = t.agrees.granted_to in
       absurd (refused (silent-accepted r (mark_of (items_of r h.past.given)) mark (omega (arith, is, past)) (omega (arith, granted, to)), omega (arith, granted, near)))
 
-  mark-refused : (h : History) → c ≡ d.core → (IsAllowed (Give r x) h.past → ⊥) → CoreWasTold n e d h → CoreWasTold n e loaded h
+  mark-refused : (h : History) → c ≡ d.core → (IsAllowed (Give r x) h.past → ⊥) → DeskWasTold n e d h → DeskWasTold n e loaded h
   mark-refused h core refused t =
       let is = unrisen h refused t (eq-or-lt_of_le later) in record {
         core_is = subst (λ (o : SplitContents). SplitCoreStandsFor o h) (sym core) t.core_is;
@@ -232,7 +233,7 @@ stands-grant n e upto d a near to granted asked marks s =
 
 -- ---- one more part
 module _ (n e : ℕ) (r : Sensor) (q : SensorPart) (d : Desk) (c : SplitContents) (i : PartInlets) (taken : slow_taken i ≡ with_part r q (slow_taken d.parts)) (s : DeskStands n e d) where
-  abbrev t : CoreWasTold n e d s.history
+  abbrev t : DeskWasTold n e d s.history
   t = s.told
 
   more : (ps : List SensorPart) → All (IsTakenPart (slow_taken d.parts)) ps → All (IsTakenPart (slow_taken i)) ps
@@ -281,41 +282,23 @@ stands-part_or n e r q d c i taken s slow is (Err x) ok err = stands-aside n e r
 
 -- where there was none
 pub stands-none : (n e : ℕ) (d : Desk) (i : PartInlets) → slow_taken i ≡ slow_taken d.parts → DeskStands n e d → DeskStands n e (record d { parts = i })
-stands-none n e d i taken s =
-    let t = s.told in record {
-      history = s.history;
-      told = record {
-        core_is = t.core_is;
-        cycle_is = t.cycle_is;
-        agrees = t.agrees;
-        within = t.within;
-        parts_are = subst (λ (l : SlowParts). All (IsTakenPart l) s.history.parts) (sym taken) t.parts_are;
-        issues_are = t.issues_are;
-        taken_are = t.taken_are;
-      };
-      last_is = s.last_is;
-      granted_is = s.granted_is;
-      asking_is = s.asking_is;
-    }
+stands-none n e d i taken s = record {
+  history = s.history;
+  told = subst (λ (l : SlowParts). CoreWasTold n e d.core d.asker (fast_taken d.fast) l (issues_out d.outbox d.held) s.history) (sym taken) s.told;
+  last_is = s.last_is;
+  granted_is = s.granted_is;
+  asking_is = s.asking_is;
+}
 
 -- where no item was taken
 pub stands-unfast : (n e : ℕ) (d : Desk) (i : FastInlets) → fast_taken i ≡ fast_taken d.fast → DeskStands n e d → DeskStands n e (record d { fast = i })
-stands-unfast n e d i taken s =
-    let t = s.told in record {
-      history = s.history;
-      told = record {
-        core_is = t.core_is;
-        cycle_is = t.cycle_is;
-        agrees = t.agrees;
-        within = t.within;
-        parts_are = t.parts_are;
-        issues_are = t.issues_are;
-        taken_are = λ feeds. subst (λ (l : FastItems). HaveFast l s.history.past.given) (sym taken) (t.taken_are (subst AreFastFeeds taken feeds));
-      };
-      last_is = s.last_is ∙ ap fast_marks_of (sym taken);
-      granted_is = s.granted_is;
-      asking_is = s.asking_is;
-    }
+stands-unfast n e d i taken s = record {
+  history = s.history;
+  told = subst (λ (l : FastItems). CoreWasTold n e d.core d.asker l (slow_taken d.parts) (issues_out d.outbox d.held) s.history) (sym taken) s.told;
+  last_is = s.last_is ∙ ap fast_marks_of (sym taken);
+  granted_is = s.granted_is;
+  asking_is = s.asking_is;
+}
 
 -- ---- at first
 -- of no items the marks are 0

@@ -1,9 +1,10 @@
 -- What a recorder's desk stands for.
-use Rattle.std.specs.Prelude.{◌≡◌, ◌≤◌, ◌+◌, ◌⊎◌, ℕ, All, [], min, true, if◌then◌else◌}
+use Rattle.std.specs.Prelude.{◌≡◌, ◌≤◌, ◌+◌, ◌⊎◌, ℕ, All, List, [], min, true, if◌then◌else◌}
 use Rattle.edr_items.specs.declared.TheConstants.{LATEST_MOMENT, LONGEST_GAP}
 use Rattle.edr_items.specs.Item.{mark_of}
 use Rattle.edr_items.specs.PerSlowSensor.{EachSlow, slow_at}
 use Rattle.edr_items.specs.SensorLists.{SensorLists, items_of}
+use Rattle.edr_definitions.specs.Commands.{Issue}
 use Rattle.edr_board.specs.Seats.{board_of_recorder, board_of_watch, closed_posted, gate_posted, status_seen}
 use Rattle.edr_board.specs.declared.freeze_seats.Asker.{Asker}
 use Rattle.edr_board.specs.FreezeSeats.{IsFreshAsker, SlowMarks, freeze_of_asker, grant_posted, last_zero, marks_read, open_zero}
@@ -16,7 +17,7 @@ use Rattle.edr_seats.specs.Rings.{SameSender, items_sent}
 use Rattle.edr_loops.specs.Orders.{Outbox}
 use Rattle.edr_loops.specs.declared.recorder.Desk.{Desk}
 use Rattle.edr_loops.specs.FastInlets.{AreFastFeeds, HaveFast, fast_marks_of}
-use Rattle.edr_loops.specs.Lanes.{FastInlets, PartInlets, SameFastInlets, SamePartInlets, fast_taken, no_fast_items, no_slow_parts, slow_taken}
+use Rattle.edr_loops.specs.Lanes.{FastInlets, FastItems, PartInlets, SameFastInlets, SamePartInlets, SlowParts, fast_taken, no_fast_items, no_slow_parts, slow_taken}
 use Rattle.edr_loops.specs.UnsentOrders.{issues_out}
 use Rattle.edr_loops.specs.PartInlets.{IsTakenPart}
 
@@ -49,21 +50,25 @@ pub record AskerAgrees (a : Asker) (h : History) : Type 0 where
 
 -- ---- the desk
 
--- the core of cycle n was told this, up to the horizon at most: each part came out of its sensor's ring; what was sent, and then
--- what is held, is what it issued; and where what was taken of the fast sensors are feeds, it was given just that
-pub record CoreWasTold (n horizon : ℕ) (d : Desk) (h : History) : Type 0 where
-  pub core_is : SplitCoreStandsFor d.core h
+-- the core of cycle n was told this, up to the horizon at most: each part is one of those taken; what is out is what it issued; and
+-- where what was taken of the fast sensors are feeds, it was given just that
+pub record CoreWasTold (n horizon : ℕ) (c : SplitContents) (a : Asker) (items : FastItems) (parts : SlowParts) (out : List Issue) (h : History) : Type 0 where
+  pub core_is : SplitCoreStandsFor c h
   pub cycle_is : h.cycle ≡ n
-  pub agrees : AskerAgrees d.asker h
+  pub agrees : AskerAgrees a h
   pub within : h.past.closed ≤ horizon
-  pub parts_are : All (IsTakenPart (slow_taken d.parts)) h.parts
-  pub issues_are : (slots : PartSlots) → AreSlotsOf h.parts slots → issues_out d.outbox d.held ≡ issues_with slots h.past.given n h.past.closed
-  pub taken_are : AreFastFeeds (fast_taken d.fast) → HaveFast (fast_taken d.fast) h.past.given
+  pub parts_are : All (IsTakenPart parts) h.parts
+  pub issues_are : (slots : PartSlots) → AreSlotsOf h.parts slots → out ≡ issues_with slots h.past.given n h.past.closed
+  pub taken_are : AreFastFeeds items → HaveFast items h.past.given
+
+-- a desk's core was told this: items and parts came out of its rings, and out is what was sent, and then what is held
+abbrev pub DeskWasTold : ℕ → ℕ → Desk → History → Type 0
+DeskWasTold n horizon d h = CoreWasTold n horizon d.core d.asker (fast_taken d.fast) (slow_taken d.parts) (issues_out d.outbox d.held) h
 
 -- the desk of cycle n stands for something, and knows the last moments of what was taken, what it granted, and whether it asks
 pub record DeskStands (n horizon : ℕ) (d : Desk) : Type 0 where
   pub history : History
-  pub told : CoreWasTold n horizon d history
+  pub told : DeskWasTold n horizon d history
   pub last_is : d.last ≡ fast_marks_of (fast_taken d.fast)
   pub granted_is : d.granted ≡ grant_posted d.asker
   pub asking_is : d.asking ≡ history.asking
@@ -116,11 +121,8 @@ pub record RecordsOn (tick : ℕ) (a b : Desk) : Type 0 where
   pub seat : SeatStays a b
 
 -- the same where what it holds is left alone
-pub record RecordsOnHolding (tick : ℕ) (a b : Desk) : Type 0 where
-  pub later : LaterUpTo tick a b
-  pub stands : IsRecording b
-  pub seat : SeatStays a b
-  pub held : b.held ≡ a.held
+abbrev pub RecordsOnHolding : ℕ → Desk → Desk → Type 0
+RecordsOnHolding tick a b = RecordsOn tick a b × (b.held ≡ a.held)
 
 -- ---- the end of the loop
 

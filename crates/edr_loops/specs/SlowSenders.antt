@@ -1,5 +1,5 @@
 -- What a slow sensor's sender at a worker has kept and sent.
-use Rattle.std.specs.Prelude.{◌≡◌, ◌⊎◌, ◌+◌, ◌<◌, ◌≤◌, ℕ, List, [], ◌∷◌, ◌++◌, Option, Some, None, length, take, All}
+use Rattle.std.specs.Prelude.{◌≡◌, ◌⊎◌, ◌+◌, ◌<◌, ◌≤◌, ℕ, List, [], ◌∷◌, ◌++◌, length, take, All}
 use Rattle.edr_items.specs.declared.Sensor.{Sensor}
 use Rattle.edr_items.specs.declared.Item.{Item}
 use Rattle.edr_items.specs.Item.{IsFeed, mark_of}
@@ -26,17 +26,9 @@ pub record IsKeeping (s : Sensor) (xs : List Item) (p : SlowSender) : Type 0 whe
   pub stands : SlowSeatIsFor p.seat (take p.next xs) (items_sent p.seat.sender)
   pub parts : AreParts s xs (items_sent p.seat.sender)
 
--- the same of a sender that may be at another worker
-abbrev pub IsSlowSender : Sensor → List Item → Option SlowSender → Type 0
-IsSlowSender s xs None = Unit {0}
-IsSlowSender s xs (Some p) = IsKeeping s xs p
-
 -- the same sender later
-abbrev pub KeepsOn : Sensor → List Item → Option SlowSender → Option SlowSender → Type 0
-KeepsOn s xs None None = Unit {0}
-KeepsOn s xs (Some a) (Some b) = SameSlowSeat a.seat b.seat × IsKeeping s xs b
-KeepsOn s xs None (Some b) = ⊥
-KeepsOn s xs (Some a) None = ⊥
+abbrev pub KeepsOn : Sensor → List Item → SlowSender → SlowSender → Type 0
+KeepsOn s xs a b = SameSlowSeat a.seat b.seat × IsKeeping s xs b
 
 -- it has sent no part since, and kept what it had
 abbrev pub KeepsMore : SlowSender → SlowSender → Type 0
@@ -67,10 +59,3 @@ abbrev pub CameOfSlow : Sensor → List Item → SlowSender → SlowSender → O
 CameOfSlow s xs a b Sent = (a.next < b.next) ⊎ (length (items_sent a.seat.sender) < length (items_sent b.seat.sender))
 CameOfSlow s xs a b Full = (b.next ≡ a.next) × (items_sent b.seat.sender ≡ items_sent a.seat.sender) × (IsUngranted xs b ⊎ KnowsNoRoom b.seat.sender)
 CameOfSlow s xs a b Over = (b.next ≡ a.next) × (items_sent b.seat.sender ≡ items_sent a.seat.sender) × (IsFeed s xs → length xs ≤ b.next) × HasNoneToSend b.seat
-
--- the same of a sender that may be at another worker
-abbrev pub CameOfSlowSender : Sensor → List Item → Option SlowSender → Option SlowSender → Offered → Type 0
-CameOfSlowSender s xs None None offered = offered ≡ Over
-CameOfSlowSender s xs (Some a) (Some b) offered = CameOfSlow s xs a b offered
-CameOfSlowSender s xs None (Some b) offered = ⊥
-CameOfSlowSender s xs (Some a) None offered = ⊥

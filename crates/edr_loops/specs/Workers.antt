@@ -1,5 +1,5 @@
 -- What the senders of a worker have sent and kept.
-use Rattle.std.specs.Prelude.{◌≡◌, ◌⊎◌, ℕ, ◌-◌, ◌%◌, ◌≤◌, Bool, true, false, ◌&&◌, nat_eq, nat_lt, if◌then◌else◌, Option, Some, None, find, is_none}
+use Rattle.std.specs.Prelude.{◌≡◌, ◌⊎◌, ℕ, ◌-◌, ◌%◌, ◌≤◌, Bool, true, false, ◌&&◌, nat_eq, nat_lt, Option, Some, None, IfSome, find, is_none}
 use Rattle.edr_items.specs.declared.Sensor.{Sensor}
 use Rattle.edr_items.specs.Sensor.{number_of}
 use Rattle.edr_items.specs.PerSlowSensor.{EachSlow, slow_at, slow_value_of, slow_values_by}
@@ -13,30 +13,31 @@ use Rattle.edr_loops.specs.Lanes.{FastSenders}
 use Rattle.edr_loops.specs.declared.worker.SlowSenders.{SlowSenders}
 use Rattle.edr_loops.specs.declared.worker.Stand.{Stand}
 use Rattle.edr_loops.specs.declared.slow_sender.SlowSender.{SlowSender}
-use Rattle.edr_loops.specs.FastSenders.{Goes, HasNoneLeft, HasSentFirst, IsDealt}
-use Rattle.edr_loops.specs.SlowSenders.{IsSlowSender, KeepsOn}
+use Rattle.edr_loops.specs.Hands.{GoesHere, IsDealt, either, if_served}
+use Rattle.edr_loops.specs.FastSenders.{HasSent, HasSentAll, SendsOn}
+use Rattle.edr_loops.specs.SlowSenders.{IsKeeping, KeepsOn}
 
 -- each fast sensor's sender has sent first items of its list
 abbrev pub AreFastBegun : SensorLists → FastSenders → Type 0
-AreFastBegun f p = EachFast (λ k. HasSentFirst (items_of (sensor_of k) f) (fast_at k p))
+AreFastBegun f p = EachFast (λ k. IfSome (fast_at k p) (HasSent (items_of (sensor_of k) f)))
 
 -- the same senders later
 abbrev pub FastGoOn : SensorLists → FastSenders → FastSenders → Type 0
-FastGoOn f a b = EachFast (λ k. Goes (items_of (sensor_of k) f) (fast_at k a) (fast_at k b))
+FastGoOn f a b = EachFast (λ k. GoesHere (SendsOn (items_of (sensor_of k) f)) (fast_at k a) (fast_at k b))
 
 -- each slow sensor's sender has kept first items of its list, and sent parts of beginnings of it
 abbrev pub AreSlowSenders : SensorLists → SlowSenders → Type 0
-AreSlowSenders f p = EachSlow (λ s. IsSlowSender s (items_of s f) (slow_at s p.each))
+AreSlowSenders f p = EachSlow (λ s. IfSome (slow_at s p.each) (IsKeeping s (items_of s f)))
 
 -- the same senders later
 abbrev pub SlowKeepOn : SensorLists → SlowSenders → SlowSenders → Type 0
-SlowKeepOn f a b = EachSlow (λ s. KeepsOn s (items_of s f) (slow_at s a.each) (slow_at s b.each))
+SlowKeepOn f a b = EachSlow (λ s. GoesHere (KeepsOn s (items_of s f)) (slow_at s a.each) (slow_at s b.each))
 
 -- ---- when a loop has ended
 
 -- the senders of the fast sensors that are at this worker have sent all of their feeds
 abbrev pub HaveNoneLeft : SensorLists → FastSenders → Type 0
-HaveNoneLeft f p = EachFast (λ k. HasNoneLeft (sensor_of k) (items_of (sensor_of k) f) (fast_at k p))
+HaveNoneLeft f p = EachFast (λ k. IfSome (fast_at k p) (HasSentAll (sensor_of k) (items_of (sensor_of k) f)))
 
 -- whether there is a sender for that sensor, where it is a slow one
 abbrev pub is_a_sender : Option (Option SlowSender) → Bool
@@ -72,9 +73,6 @@ abbrev pub is_served_by : ℕ → ℕ → Sensor → Bool
 is_served_by w workers s = nat_lt 0 workers && nat_eq ((number_of s - 1) % workers) w
 
 -- the senders of that worker
-abbrev pub if_served : {A : Type 0} → Bool → Option A → Option A
-if_served served sender = if served then sender else None
-
 abbrev pub fast_of_worker : {A : Type 0} → ℕ → ℕ → PerFastSensor (Option A) → PerFastSensor (Option A)
 fast_of_worker w workers p = fast_values_by (λ k. if_served (is_served_by w workers (sensor_of k)) (fast_at k p))
 
@@ -82,11 +80,6 @@ abbrev pub slow_of_worker : ℕ → ℕ → SlowSenders → SlowSenders
 slow_of_worker w workers p = record { each = slow_values_by (λ s. if_served (is_served_by w workers s) (slow_at s p.each)) }
 
 -- ---- how they are put together again
-
--- the sender of one hand, and where it has none that of the other
-abbrev pub either : {A : Type 0} → Option A → Option A → Option A
-either None b = b
-either (Some a) b = Some a
 
 abbrev pub either_fast : {A : Type 0} → PerFastSensor (Option A) → PerFastSensor (Option A) → PerFastSensor (Option A)
 either_fast a b = fast_values_by (λ k. either (fast_at k a) (fast_at k b))

@@ -2,9 +2,9 @@
 //! senders in `worker.rt` by subject: there is what a worker does with them, here what is done before it starts and after it ends.
 
 ghost use Rattle.std.specs.Prelude.{◌≡◌};
-ghost use Rattle.edr_loops.specs.FastSenders.{IsDealt};
+ghost use Rattle.edr_loops.specs.Hands.{IsDealt, if_served};
 ghost use Rattle.edr_loops.specs.Senders.{AreAllDealt, all_of_worker, either_all};
-ghost use Rattle.edr_loops.specs.Workers.{AreFastDealt, AreSlowDealt, either_fast, either_slow, fast_of_worker, is_served_by, if_served, slow_of_worker};
+ghost use Rattle.edr_loops.specs.Workers.{AreFastDealt, AreSlowDealt, either_fast, either_slow, fast_of_worker, is_served_by, slow_of_worker};
 
 use crate::per_fast_sensor::PerFastSensor;
 use crate::worker::{Senders, SlowSenders};

@@ -1,10 +1,9 @@
 //! A fast sensor's sender at a worker.
 
-ghost use Rattle.std.specs.Prelude.{◌≡◌, ◌≤◌, max, min, take};
+ghost use Rattle.std.specs.Prelude.{◌≡◌, ◌≤◌, IfSome, max, min};
 ghost use Rattle.edr_items.specs.SensorLists.{items_of};
-ghost use Rattle.edr_seats.specs.Rings.{items_sent};
-ghost use Rattle.edr_seats.specs.Seat.{SameSeat};
-ghost use Rattle.edr_loops.specs.FastSenders.{CameOfItems, CameOfSender, Goes, HasSentFirst, came_of_both};
+ghost use Rattle.edr_loops.specs.FastSenders.{CameOfItems, HasSent, SendsOn, came_of_both};
+ghost use Rattle.edr_loops.specs.Hands.{CameHere, GoesHere};
 
 use edr_items::{Feeds, Item, Sensor};
 use edr_seats::{OfferRefused, SLOTS, Seat};
@@ -79,11 +78,9 @@ pub struct FastSender {
 impl FastSender {
     // Offers the next item, which passes the gate before its first offer.
     fn offer_next<G: Gate>(&mut self, sensor: Sensor, items: &[Item], gate: &G) -> Offered
-        requires { items_sent self.old.seat.sender ≡ take self.old.next items.now }
-        ensures seat { SameSeat self.old.seat self.new.seat }
-        ensures sent { items_sent self.new.seat.sender ≡ take self.new.next items.now }
+        requires { HasSent items.now self.old }
+        ensures goes { SendsOn items.now self.old self.new }
         ensures came { CameOfItems sensor items.now self.old self.new result }
-        ensures on { self.old.next ≤ self.new.next }
     {
         if self.next >= items.len() {
             return Offered::Over;
@@ -102,9 +99,8 @@ impl FastSender {
 
     // Offers items together, up to one for which there is no room, and at most as many as a ring has room for beside one.
     fn offer_more<G: Gate>(&mut self, sensor: Sensor, items: &[Item], gate: &G)
-        requires { items_sent self.old.seat.sender ≡ take self.old.next items.now }
-        ensures seat { SameSeat self.old.seat self.new.seat }
-        ensures sent { items_sent self.new.seat.sender ≡ take self.new.next items.now }
+        requires { HasSent items.now self.old }
+        ensures goes { SendsOn items.now self.old self.new }
         ensures on { self.old.next ≤ self.new.next }
     {
         let end = self
@@ -120,9 +116,8 @@ impl FastSender {
 
     /// Offers items up to one for which there is no room, and at most as many as a ring has room for.
     pub fn serve<G: Gate>(&mut self, sensor: Sensor, items: &[Item], gate: &G) -> Offered
-        requires { items_sent self.old.seat.sender ≡ take self.old.next items.now }
-        ensures seat { SameSeat self.old.seat self.new.seat }
-        ensures sent { items_sent self.new.seat.sender ≡ take self.new.next items.now }
+        requires { HasSent items.now self.old }
+        ensures goes { SendsOn items.now self.old self.new }
         ensures came { CameOfItems sensor items.now self.old self.new result }
     {
         let offered = self.offer_next(sensor, items, gate);
@@ -140,9 +135,10 @@ pub fn serve_some<G: Gate>(
     feeds: &Feeds,
     gate: &G,
 ) -> Offered
-    requires { HasSentFirst (items_of sensor feeds.now) sender.old }
-    ensures goes { Goes (items_of sensor feeds.now) sender.old sender.new }
-    ensures came { CameOfSender sensor (items_of sensor feeds.now) sender.old sender.new result }
+    requires { IfSome sender.old (HasSent (items_of sensor feeds.now)) }
+    ensures goes { GoesHere (SendsOn (items_of sensor feeds.now)) sender.old sender.new }
+    ensures came { CameHere (CameOfItems sensor (items_of sensor feeds.now))
+        sender.old sender.new result }
 {
     match sender {
         Some(sender) => sender.serve(sensor, feeds.of(sensor), gate),

@@ -4,7 +4,7 @@
 ghost use Rattle.std.specs.Prelude.{◌≡◌, [], true};
 ghost use Rattle.edr_loops.specs.Rounds.{rounds_on};
 ghost use Rattle.edr_loops.specs.UnsentOrders.{issues_held};
-ghost use Rattle.edr_loops.specs.Recorders.{RecordsOn, RecordsOnHolding, HasEnded, HasPosted, IsDone, IsRecording, Later, LaterUpTo, SeatStays};
+ghost use Rattle.edr_loops.specs.Recorders.{RecordsOn, RecordsOnHolding, HasEnded, HasPosted, IsDone, IsRecording, Later, LaterUpTo};
 
 use crate::per_fast_sensor::{FastSensor, PerFastSensor};
 use crate::recorder::Desk;
@@ -75,10 +75,8 @@ impl Desk {
 
     // Sends what is held, as far as there is room, and answers whether none is left.
     fn send_held(&mut self) -> bool
-        requires stands { IsRecording self.old }
-        ensures later { Later self.old self.new }
-        ensures stands { IsRecording self.new }
-        ensures seat { SeatStays self.old self.new }
+        requires { IsRecording self.old }
+        ensures on { RecordsOn 0 self.old self.new }
         ensures all { result ≡ true → issues_held self.new.held ≡ [] }
     {
         self.held.send(&mut self.outbox)

@@ -1,10 +1,11 @@
 //! A slow sensor's sender at a worker: it keeps the sensor's items, and sends the parts that are asked for.
 
-ghost use Rattle.std.specs.Prelude.{◌≡◌, List};
+ghost use Rattle.std.specs.Prelude.{◌≡◌, IfSome, List};
 ghost use Rattle.edr_items.specs.declared.Item.{Item};
 ghost use Rattle.edr_items.specs.SensorLists.{items_of};
-ghost use Rattle.edr_seats.specs.Slow.{SameSlowSeat, grant_known};
-ghost use Rattle.edr_loops.specs.SlowSenders.{CameOfKept, CameOfPart, CameOfSlow, CameOfSlowSender, IsKeeping, IsSlowSender, KeepsMore, KeepsOn};
+ghost use Rattle.edr_seats.specs.Slow.{grant_known};
+ghost use Rattle.edr_loops.specs.Hands.{CameHere, GoesHere};
+ghost use Rattle.edr_loops.specs.SlowSenders.{CameOfKept, CameOfPart, CameOfSlow, IsKeeping, KeepsMore, KeepsOn};
 
 use crate::fast_sender::{Gate, GatePasses, Offered};
 use edr_items::{Feeds, Item, Sensor};
@@ -22,8 +23,7 @@ impl SlowSender {
     // Offers the next item to the seat that keeps it; it passes the gate before its first offer.
     fn offer_next<G: Gate>(&mut self, sensor: Sensor, items: &[Item], gate: &G) -> Offered
         requires { IsKeeping sensor items.now self.old }
-        ensures seat { SameSlowSeat self.old.seat self.new.seat }
-        ensures keeping { IsKeeping sensor items.now self.new }
+        ensures goes { KeepsOn sensor items.now self.old self.new }
         ensures came { CameOfKept sensor items.now self.old self.new result }
         ensures on { KeepsMore self.old self.new }
     {
@@ -44,9 +44,8 @@ impl SlowSender {
 
     // Sends the part that is asked for, if one is that wasn't sent, and tells the gate.
     fn send_part<G: Gate>(&mut self, sensor: Sensor, gate: &G) -> Offered
-        ensures seat { SameSlowSeat self.old.seat self.new.seat }
-        ensures keeping { (xs : List Item)
-            → IsKeeping sensor xs self.old → IsKeeping sensor xs self.new }
+        ensures goes { (xs : List Item)
+            → IsKeeping sensor xs self.old → KeepsOn sensor xs self.old self.new }
         ensures came { (xs : List Item)
             → IsKeeping sensor xs self.old → CameOfPart self.old self.new result }
         ensures next { self.new.next ≡ self.old.next }
@@ -65,8 +64,7 @@ impl SlowSender {
     // Offers items up to one that isn't kept, at most as many as the ring of a fast sensor has room for beside one.
     fn offer_more<G: Gate>(&mut self, sensor: Sensor, items: &[Item], gate: &G)
         requires { IsKeeping sensor items.now self.old }
-        ensures seat { SameSlowSeat self.old.seat self.new.seat }
-        ensures keeping { IsKeeping sensor items.now self.new }
+        ensures goes { KeepsOn sensor items.now self.old self.new }
         ensures on { KeepsMore self.old self.new }
     {
         for _ in 1..SLOTS {
@@ -79,8 +77,7 @@ impl SlowSender {
     // Offers items up to one that isn't granted, at most as many as the ring of a fast sensor has room for.
     fn offer_some<G: Gate>(&mut self, sensor: Sensor, items: &[Item], gate: &G) -> Offered
         requires { IsKeeping sensor items.now self.old }
-        ensures seat { SameSlowSeat self.old.seat self.new.seat }
-        ensures keeping { IsKeeping sensor items.now self.new }
+        ensures goes { KeepsOn sensor items.now self.old self.new }
         ensures came { CameOfKept sensor items.now self.old self.new result }
         ensures on { KeepsMore self.old self.new }
     {
@@ -95,8 +92,7 @@ impl SlowSender {
     /// whether the sensor's part is asked for.
     pub fn serve<G: Gate>(&mut self, sensor: Sensor, items: &[Item], gate: &G) -> Offered
         requires { IsKeeping sensor items.now self.old }
-        ensures seat { SameSlowSeat self.old.seat self.new.seat }
-        ensures keeping { IsKeeping sensor items.now self.new }
+        ensures goes { KeepsOn sensor items.now self.old self.new }
         ensures came { CameOfSlow sensor items.now self.old self.new result }
     {
         let kept = self.offer_some(sensor, items, gate);
@@ -112,9 +108,9 @@ pub fn serve_slow<G: Gate>(
     feeds: &Feeds,
     gate: &G,
 ) -> Offered
-    requires { IsSlowSender sensor (items_of sensor feeds.now) sender.old }
-    ensures keeps { KeepsOn sensor (items_of sensor feeds.now) sender.old sender.new }
-    ensures came { CameOfSlowSender sensor (items_of sensor feeds.now)
+    requires { IfSome sender.old (IsKeeping sensor (items_of sensor feeds.now)) }
+    ensures goes { GoesHere (KeepsOn sensor (items_of sensor feeds.now)) sender.old sender.new }
+    ensures came { CameHere (CameOfSlow sensor (items_of sensor feeds.now))
         sender.old sender.new result }
 {
     match sender {

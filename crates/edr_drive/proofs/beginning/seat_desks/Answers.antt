@@ -18,10 +18,12 @@ returns-clause-begins c = λ n opened shared.
         sent_is = shared.orders_are.sent;
       });
       posted = desk.posted shared.seats.closed (omega (arith, gate));
-      lanes = subst (λ (i : FastInlets). AreFastLanes c.args.shared.rings.senders.fast i) (sym desk.rings.0) rings.lanes;
-      part_lanes = subst (λ (i : PartInlets). ArePartLanes c.args.shared.rings.senders.slow i) (sym desk.rings.1) rings.part_lanes;
-      begun = rings.begun;
-      pair = subst (λ (o : Outbox). AreOfOneRing o c.args.shared.orders.inbox) (sym desk.rings.2) shared.orders_are.pair;
+      tied = λ f. record {
+        lanes = subst (λ (i : FastInlets). AreFastLanes c.args.shared.rings.senders.fast i) (sym desk.rings.0) rings.lanes;
+        part_lanes = subst (λ (i : PartInlets). ArePartLanes c.args.shared.rings.senders.slow i) (sym desk.rings.1) rings.part_lanes;
+        begun = rings.begun f;
+        pair = subst (λ (o : Outbox). AreOfOneRing o c.args.shared.orders.inbox) (sym desk.rings.2) shared.orders_are.pair;
+        captures = opened.captures_are;
+      };
       fresh = shared.orders_are.taken;
-      captures = opened.captures_are;
     }

@@ -1,14 +1,10 @@
 use Rattle.std.proofs.Common.{arith, refl}
 use Rattle.edr_device.proofs.LendingLemmas.{tells_self}
-use Rattle.edr_seats.specs.Rings.{items_taken}
-use Rattle.edr_drive.proofs.TakenLemmas.{none-committed}
+use Rattle.edr_drive.proofs.TakenLemmas.{none-taken}
 use Rattle.edr_drive.proofs.threads.record_and_commit.Goals as goal
 
 pub returns-in-Err-clause-commits : goal.returns-in-Err-clause-commits
-returns-in-Err-clause-commits g c =
-    let N = g.N.Nvm in
-    let L = g.L.Ledger in
-    none-committed N.content N.settled N.since N.clock N.last_good (items_taken c.args.committer.now.inbox) (L.banks c.args.committer.now.ledger) (L.log c.args.committer.now.ledger) c.args.nvm.now c.requires.awaits.fresh
+returns-in-Err-clause-commits g c = none-taken c.requires.awaits.fresh
 
 pub returns-in-Err-clause-lent : goal.returns-in-Err-clause-lent
 returns-in-Err-clause-lent g c = record {

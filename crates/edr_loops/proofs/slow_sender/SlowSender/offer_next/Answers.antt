@@ -5,8 +5,8 @@ use Rattle.edr_loops.proofs.OfferLemmas.{accepted-next, not-slow_item, ungranted
 use Rattle.edr_loops.proofs.SlowSenderLemmas.{keeping-item}
 use Rattle.edr_loops.proofs.slow_sender.SlowSender.offer_next.Goals as goal
 
-pub returns-in-Ok-clause-keeping : goal.returns-in-Ok-clause-keeping
-returns-in-Ok-clause-keeping g c = keeping-item c.args.sensor c.args.items.now _ c.args.self.now _ c.in-Ok.ensures.same (take_more c.args.items.now c.args.self.now.next _ (omega (arith, c.if-self-items.false))) c.in-Ok.ensures.ok c.requires
+pub returns-in-Ok-clause-goes : goal.returns-in-Ok-clause-goes
+returns-in-Ok-clause-goes g c = (c.in-Ok.ensures.same, keeping-item c.args.sensor c.args.items.now _ c.args.self.now _ c.in-Ok.ensures.same (take_more c.args.items.now c.args.self.now.next _ (omega (arith, c.if-self-items.false))) c.in-Ok.ensures.ok c.requires)
 
 pub returns-in-Ok-clause-on : goal.returns-in-Ok-clause-on
 returns-in-Ok-clause-on g c =

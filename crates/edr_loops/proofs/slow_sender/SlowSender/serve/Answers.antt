@@ -11,4 +11,4 @@ returns-clause-came g c =
     let xs = c.args.items.now in
     subst (CameOfSlow s xs c.args.self.now c.send_part-part.new.self) (sym c.and.ensures)
     (came-slow s xs c.args.self.now c.offer_some-kept.new.self c.send_part-part.new.self c.offer_some-kept.result c.send_part-part.result
-    some.on.0 some.on.1 part.next part.granted some.came (part.came xs some.keeping))
+    some.on.0 some.on.1 part.next part.granted some.came (part.came xs some.goes.1))
