@@ -4,6 +4,7 @@ pub mod TakenLemmas
 pub mod TickLemmas
 pub mod GiveLemmas
 pub mod StepLemmas
+pub mod CandidateLemmas
 pub mod StillLemmas
 pub mod CaptureLemmas
 pub mod OwnLemmas

@@ -1,6 +1,6 @@
 //! The open candidate: what is kept of it from tick to tick, and what a tick issues of it.
 
-ghost use Rattle.std.specs.Prelude.{◌≡◌, Option, IsTrue, IfSome, option_map};
+ghost use Rattle.std.specs.Prelude.{◌≡◌, ◌↔◌, Option, IsTrue, IfSome, option_map};
 ghost use Rattle.edr_detect.specs.Stages.{told_of};
 ghost use Rattle.edr_core.specs.Candidate.{IsRowInRange, IsShort, CanBeTold, PassesBy, begun_candidate, grown_candidate, told_candidate, next_link, issued_of, no_issues, candidate_after, link_after, issued_after};
 
@@ -116,7 +116,7 @@ pub fn grow(candidate: &mut Option<Candidate>, row: TickRow)
 // The tick issues nothing, and leaves what is open as it is.
 #[inline(always)]
 pub fn passes_by(candidate: &Option<Candidate>, change: Change) -> bool
-    ensures { IsTrue result → PassesBy (told_of change) candidate.now }
+    ensures { IsTrue result ↔ PassesBy (told_of change) candidate.now }
 {
     if change.confirmed || change.locked || change.ended || change.dropped || change.closed {
         return candidate.is_none();

@@ -200,6 +200,7 @@ impl SplitCore {
         ensures stands { SplitFollows (λ h. after_split h (split_step_of result issued.new)) self.old self.new }
         ensures answer { (h : History) → SplitCoreStandsFor self.old h → answer_of (split_step_of result issued.new) ≡ due h }
         ensures quiet { IsSplitQuiet result → issued.new ≡ issued.old }
+        ensures idle { self.old.candidate ≡ None → self.old.ask ≡ None → issued.new ≡ issued.old }
     {
         if self.asking {
             return self.close_asked(issued);
@@ -216,6 +217,7 @@ impl SplitCore {
         ensures stands { SplitFollows (λ h. after_split h (split_step_of result issued.new)) self.old self.new }
         ensures answer { (h : History) → SplitCoreStandsFor self.old h → answer_of (split_step_of result issued.new) ≡ due h }
         ensures quiet { IsSplitQuiet result → issued.new ≡ issued.old }
+        ensures idle { self.old.candidate ≡ None → issued.new ≡ issued.old }
     {
         let (tick, row) = match self.merge.next() {
             Next::Waiting { sensor } => return SplitClosing::Waiting { sensor },

@@ -208,7 +208,7 @@ invariant_of-self-then-passes_by c =
       stands = step-stands (contents_with c.self.inside c.deref_mut-events.result.now) w h (asks-not (contents_with c.self.inside c.deref_mut-events.result.now) w h none) c.in-Row.tick c.in-Row.along c.in-Row.across c.in-Row.fired (c.in-Row.ensures.answer w.past merge) ((c.in-Row.ensures.allowed w.past merge).0 tt)
           c.tick-change.result c.tick-change.new.self (to_z w32 (of_z w32 c.unwrap_or.result)) (to_z w32 (of_z w32 c.unwrap_or-2.result))
           (to_z-of_z w32 c.unwrap_or.result along_fits ∙ c.unwrap_or.ensures) (to_z-of_z w32 c.unwrap_or-2.result across_fits ∙ c.unwrap_or-2.ensures) c.tick-change.ensures.stands c.tick-change.ensures.answer
-          c.next.new.self (c.in-Row.ensures.stands w.past merge) c.if-change.false c.grow.new.candidate c.grow.new.candidate c.self.inside.link no_issues c.grow.ensures (no-ask c.deref_mut-events.result.now.ask none) (c.passes_by.ensures c.if-passes_by.true c.in-Row.tick c.self.inside.link);
+          c.next.new.self (c.in-Row.ensures.stands w.past merge) c.if-change.false c.grow.new.candidate c.grow.new.candidate c.self.inside.link no_issues c.grow.ensures (no-ask c.deref_mut-events.result.now.ask none) (c.passes_by.ensures.0 c.if-passes_by.true c.in-Row.tick c.self.inside.link);
       asking_is = c.self.invariant.asking_is ∙ ap (λ (e : Events). is_some e.ask) (sym c.deref_mut-events.ensures.value);
     }
 
@@ -222,7 +222,7 @@ returns-then-passes_by-clause-stands c = λ w before.
     step-stands (contents_with c.self.inside c.deref_mut-events.result.now) w h (asks-not (contents_with c.self.inside c.deref_mut-events.result.now) w h none) c.in-Row.tick c.in-Row.along c.in-Row.across c.in-Row.fired (c.in-Row.ensures.answer w.past merge) ((c.in-Row.ensures.allowed w.past merge).0 tt)
     c.tick-change.result c.tick-change.new.self (to_z w32 (of_z w32 c.unwrap_or.result)) (to_z w32 (of_z w32 c.unwrap_or-2.result))
     (to_z-of_z w32 c.unwrap_or.result along_fits ∙ c.unwrap_or.ensures) (to_z-of_z w32 c.unwrap_or-2.result across_fits ∙ c.unwrap_or-2.ensures) c.tick-change.ensures.stands c.tick-change.ensures.answer
-    c.next.new.self (c.in-Row.ensures.stands w.past merge) c.if-change.false c.grow.new.candidate c.grow.new.candidate c.self.inside.link no_issues c.grow.ensures (no-ask c.deref_mut-events.result.now.ask none) (c.passes_by.ensures c.if-passes_by.true c.in-Row.tick c.self.inside.link)
+    c.next.new.self (c.in-Row.ensures.stands w.past merge) c.if-change.false c.grow.new.candidate c.grow.new.candidate c.self.inside.link no_issues c.grow.ensures (no-ask c.deref_mut-events.result.now.ask none) (c.passes_by.ensures.0 c.if-passes_by.true c.in-Row.tick c.self.inside.link)
 
 pub returns-then-passes_by-clause-commands : goal.returns-then-passes_by-clause-commands
 returns-then-passes_by-clause-commands c = λ w slots before are.
@@ -234,7 +234,7 @@ returns-then-passes_by-clause-commands c = λ w slots before are.
     step-commands (contents_with c.self.inside c.deref_mut-events.result.now) w h (asks-not (contents_with c.self.inside c.deref_mut-events.result.now) w h none) c.in-Row.tick c.in-Row.along c.in-Row.across c.in-Row.fired (c.in-Row.ensures.answer w.past merge) ((c.in-Row.ensures.allowed w.past merge).0 tt)
     c.tick-change.result c.tick-change.new.self (to_z w32 (of_z w32 c.unwrap_or.result)) (to_z w32 (of_z w32 c.unwrap_or-2.result))
     (to_z-of_z w32 c.unwrap_or.result along_fits ∙ c.unwrap_or.ensures) (to_z-of_z w32 c.unwrap_or-2.result across_fits ∙ c.unwrap_or-2.ensures) c.tick-change.ensures.stands c.tick-change.ensures.answer
-    c.next.new.self (c.in-Row.ensures.stands w.past merge) c.if-change.false c.grow.new.candidate c.grow.new.candidate c.self.inside.link no_issues c.grow.ensures (no-ask c.deref_mut-events.result.now.ask none) (c.passes_by.ensures c.if-passes_by.true c.in-Row.tick c.self.inside.link) slots are
+    c.next.new.self (c.in-Row.ensures.stands w.past merge) c.if-change.false c.grow.new.candidate c.grow.new.candidate c.self.inside.link no_issues c.grow.ensures (no-ask c.deref_mut-events.result.now.ask none) (c.passes_by.ensures.0 c.if-passes_by.true c.in-Row.tick c.self.inside.link) slots are
 
 pub returns-then-passes_by-clause-ticks : goal.returns-then-passes_by-clause-ticks
 returns-then-passes_by-clause-ticks c = λ w slots before are.
@@ -246,7 +246,7 @@ returns-then-passes_by-clause-ticks c = λ w slots before are.
     step-ticks (contents_with c.self.inside c.deref_mut-events.result.now) w h (asks-not (contents_with c.self.inside c.deref_mut-events.result.now) w h none) c.in-Row.tick c.in-Row.along c.in-Row.across c.in-Row.fired (c.in-Row.ensures.answer w.past merge) ((c.in-Row.ensures.allowed w.past merge).0 tt)
     c.tick-change.result c.tick-change.new.self (to_z w32 (of_z w32 c.unwrap_or.result)) (to_z w32 (of_z w32 c.unwrap_or-2.result))
     (to_z-of_z w32 c.unwrap_or.result along_fits ∙ c.unwrap_or.ensures) (to_z-of_z w32 c.unwrap_or-2.result across_fits ∙ c.unwrap_or-2.ensures) c.tick-change.ensures.stands c.tick-change.ensures.answer
-    c.next.new.self (c.in-Row.ensures.stands w.past merge) c.if-change.false c.grow.new.candidate c.grow.new.candidate c.self.inside.link no_issues c.grow.ensures (no-ask c.deref_mut-events.result.now.ask none) (c.passes_by.ensures c.if-passes_by.true c.in-Row.tick c.self.inside.link) slots are
+    c.next.new.self (c.in-Row.ensures.stands w.past merge) c.if-change.false c.grow.new.candidate c.grow.new.candidate c.self.inside.link no_issues c.grow.ensures (no-ask c.deref_mut-events.result.now.ask none) (c.passes_by.ensures.0 c.if-passes_by.true c.in-Row.tick c.self.inside.link) slots are
 
 pub returns-then-passes_by-clause-answer : goal.returns-then-passes_by-clause-answer
 returns-then-passes_by-clause-answer c = λ w before.
