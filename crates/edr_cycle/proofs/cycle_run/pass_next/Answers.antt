@@ -18,9 +18,9 @@ returns-then-not-is_still-clause-answer c = λ n p is. (
       let add = c.saturating_add-tick.ensures in
       let tick : next_tick p ≡ c.saturating_add-tick.result = omega (arith, closed, early, add) in
       elim c.then-not-is_still.branch [
-        then-not-is_still-via-then-not-is_still w ↦
+        | then-not-is_still-via-then-not-is_still w ↦
             sym w.if-not-is_still.true ∙ c.is_still.ensures.1 (subst (λ (t : ℕ). StillComesFirst t (items_of Along c.args.left.now)) tick can.along)
-      | then-not-is_still-via-else-not-is_still+then-not-is_still-2 w ↦
+        | then-not-is_still-via-else-not-is_still+then-not-is_still-2 w ↦
             sym w.if-not-is_still-2.true ∙ w.is_still-else-not-is_still.ensures.1 (subst (λ (t : ℕ). StillComesFirst t (items_of Across c.args.left.now)) tick can.across)
       ],
 )
