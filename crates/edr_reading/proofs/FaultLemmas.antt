@@ -1,15 +1,38 @@
--- The first row of a text that is no report.
-use Rattle.std.proofs.Common.{arith, ◌≡◌, ◌≢◌, ◌∙◌, sym, ap, subst, refl, ℕ, zero, suc, ◌<◌, ◌≤◌, ◌+◌, ◌-◌, min, map, List, [], ◌∷◌, ◌++◌, length, length-append, take, drop, get_or, codes}
-use Rattle.std.proofs.Math.Seq.{get_or-append_seam}
-use Rattle.std.proofs.lemmas.List.{drop_all, take_all, append-nil, take-append-drop}
+-- Where a text can be no report, and what was read of one that is.
+use Rattle.std.proofs.Common.{arith, ◌≡◌, ◌≢◌, ◌∙◌, sym, ap, subst, refl, ℕ, zero, suc, ◌<◌, ◌≤◌, ◌+◌, ◌-◌, min, map, List, [], ◌∷◌, ◌++◌, length, length-append, take, drop, get_or, codes, decimal, length-take-le, Option, None, Bool, true, false, Result, Ok, Err}
+use Rattle.std.proofs.Math.Seq.{get_or-append_seam, take-length}
+use Rattle.std.proofs.lemmas.List.{drop_all, take_all, append-nil, take-append-drop, drop_more, get_or-map, length-map, take_more}
 use Rattle.edr_report.specs.Report.{report_lines}
-use Rattle.edr_reading.proofs.DistinctLemmas.{distinct-none}
-use Rattle.edr_reading.proofs.ReadingLemmas.{all-three}
-use Rattle.edr_reading.specs.Rows.{line_fields}
+use Rattle.edr_reading.proofs.WholeLemmas.{distinct-none, all-three, told-reading}
+use Rattle.edr_reading.specs.Rows.{line_fields, FieldRows, event_fields, event_names}
 use Rattle.edr_reading.specs.Faults.{AreReport, Opens, ReportGoesOn, IsFault, IsWrong}
 use Rattle.edr_reading.specs.declared.faults.RowFault.{RowFault}
 use Rattle.edr_reading.specs.declared.faults.RowFault.TheVariants.{Fields, Field, Unended}
-use Rattle.edr_reading.specs.Reading.{IsReading, head_row, report_rows}
+use Rattle.edr_reading.specs.Reading.{IsReading, head_row, report_rows, rows_told}
+use Rattle.edr_image.specs.declared.Found.{Found}
+use Rattle.edr_image.specs.Banks.{found_event}
+use Rattle.edr_image.specs.Reports.{Report}
+use Rattle.edr_reading.specs.declared.faults.RowFault.TheVariants as fault
+use Rattle.edr_reading.specs.declared.reader.NextRow.{NextRow}
+use Rattle.edr_reading.specs.declared.reader.NextRow.TheVariants as next
+use Rattle.edr_reading.specs.declared.reader.Reader.{Reader}
+use Rattle.edr_reading.specs.declared.reader.Refused.TheVariants as refused
+use Rattle.edr_reading.specs.declared.told.CycleRow.{CycleRow}
+use Rattle.edr_reading.specs.Told.{count_fields}
+use Rattle.edr_reading.specs.Reader.{HasReadRows, IsRefused, IsRowRefusal, StandsNext, cycles_read, may_ack}
+use Rattle.edr_reading.specs.declared.reading.Reading.{Reading}
+use Rattle.edr_reading.specs.declared.reading.ReportRefused.{ReportRefused}
+use Rattle.edr_reading.specs.declared.reading.ReportRefused.TheVariants.{Fault, OutOfMemory}
+use Rattle.edr_spell.specs.Spell.{RecordsOf}
+use Rattle.std.specs.Result.{IfErr, IfOk}
+use Rattle.edr_reading.proofs.BetweenLemmas.{between-count, some-rows}
+use Rattle.edr_reading.proofs.LineLemmas.{inside-count}
+use Rattle.edr_report.specs.EventWords.{event_words}
+use Rattle.edr_report.specs.declared.event_lines.EventLine.TheVariants.{Number}
+use Rattle.edr_reading.specs.Event.{event_of}
+use Rattle.edr_reading.proofs.EventLemmas.{lines}
+
+-- ---- the first row of a text that is no report
 
 pub reading-none : IsReading [] [] 0
 unfolding report_lines
@@ -81,3 +104,83 @@ wrong-fields xs (r ∷ rs) (suc k) n h m other = wrong-fields xs rs k n (omega (
 
 pub wrong-end : (records : List (List (List ℕ))) (k : ℕ) → length records ≤ k → ¬ AreReport records → IsWrong (take k records) (drop k records) Unended
 wrong-end records k h n = rw (take_all k records h, drop_all k records h) n
+
+-- ---- what was read begins a report
+
+nothing-report : (reports : List Report) (found : List Found) (rows : FieldRows) (n : ℕ) → StandsNext (next.Nothing n) None reports found rows → AreReport rows
+nothing-report reports found rows n s = let t = told-reading reports s.0 s.1 n rows s.3 s.4 s.5 in (reports, map found_event s.0 ++ s.1, n, t.1, t.0)
+
+stands-opens : (n : NextRow) (last : Option CycleRow) (reports : List Report) (found : List Found) (rows : FieldRows) → StandsNext n last reports found rows → Opens rows
+stands-opens next.Head last reports found rows s = subst Opens (sym s.3) opens-none
+stands-opens next.Run last reports found rows s = (count_fields 0 ∷ [], between-count (may_ack last) true true reports [] [] rows s.1)
+stands-opens next.Events last reports found rows s = (count_fields 0 ∷ [], between-count false false true reports s.0 [] rows s.2)
+stands-opens (next.Line k p) last reports found rows s =
+    let e = event_of p in
+    let block = length s.0 + 1 in
+    ((decimal block ∷ get_or event_names k [] ∷ event_words block e.0 e.1 (get_or lines k Number) ∷ []) ∷ (drop (k + 1) (event_fields block e.0 e.1) ++ count_fields 0 ∷ []), inside-count k e reports s.0 rows s.2)
+stands-opens next.Damaged last reports found rows s = (count_fields 0 ∷ [], between-count false false false reports s.0 s.1 rows s.3)
+stands-opens (next.Nothing n) last reports found rows s = ([], subst AreReport (sym (append-nil rows)) (nothing-report reports found rows n s))
+
+between-none : (a c v : Bool) (reports : List Report) (rows : FieldRows) → ((more : FieldRows) → AreReport (rows ++ more) → 1 ≤ length more) → AreReport rows → ⊥
+between-none a c v reports rows h r = let z = h [] (subst AreReport (sym (append-nil rows)) r) in omega (arith, z)
+
+stands-none : (n : NextRow) (last : Option CycleRow) (reports : List Report) (found : List Found) (rows : FieldRows) → StandsNext n last reports found rows → ((k : ℕ) → n ≡ next.Nothing k → ⊥) → AreReport rows → ⊥
+stands-none next.Head last reports found rows s other = λ r. none-is-none (subst AreReport s.3 r)
+stands-none next.Run last reports found rows s other = between-none false false false reports rows (λ more r. some-rows _ _ _ _ _ _ more ((s.1).rest more r))
+stands-none next.Events last reports found rows s other = between-none false false false reports rows (λ more r. some-rows _ _ _ _ _ _ more ((s.2).rest more r))
+stands-none (next.Line k p) last reports found rows s other = (s.3).0
+stands-none next.Damaged last reports found rows s other = between-none false false false reports rows (λ more r. some-rows _ _ _ _ _ _ more ((s.3).rest more r))
+stands-none (next.Nothing n) last reports found rows s other = absurd (other n refl)
+
+-- ---- faults
+
+rows-are : (r : Reader) (records : FieldRows) (i : ℕ) → i < length records → HasReadRows r (take i records) → r.rows ≡ i
+rows-are r records i less h = h.count ∙ length-take-le i records (omega (arith, less))
+
+fault-next : (r : Reader) (records : FieldRows) (i : ℕ) (f : RowFault) → i < length records → HasReadRows r (take i records) → IsWrong (take i records) (drop i records) f → IsFault records (r.rows + 1) f
+fault-next r records i f less h w =
+    subst (λ (k : ℕ). IsFault records (k + 1) f) (sym (rows-are r records i less h))
+    (fault-after records i f (omega (arith, less)) (stands-opens r.next r.last (cycles_read r) r.found.items (take i records) h.stands) w)
+
+pub field-fault : (r : Reader) (records : FieldRows) (i f : ℕ) → i < length records → HasReadRows r (take i records) → IsRefused (take i records) (get_or records i []) (refused.Field f) → IsFault records (r.rows + 1) (fault.Field f)
+field-fault r records i f less h w =
+    fault-next r records i (fault.Field f) less h (subst (λ (x : FieldRows). IsWrong (take i records) x (fault.Field f)) (sym (drop_more records i [] less)) (w (drop (i + 1) records)))
+
+pub length-fault : (r : Reader) (records : FieldRows) (i n : ℕ) → i < length records → HasReadRows r (take i records) → n ≡ min (length (get_or records i [])) 4_294_967_295 → length (get_or records i []) ≢ 3 → IsFault records (r.rows + 1) (fault.Fields n)
+length-fault r records i n less h is other = fault-next r records i (fault.Fields n) less h (wrong-fields (take i records) records i n less is other)
+
+pub end-fault : (r : Reader) (records : FieldRows) → HasReadRows r records → ((k : ℕ) → r.next ≡ next.Nothing k → ⊥) → IsFault records (r.rows + 1) fault.Unended
+end-fault r records h other =
+    let all : take (length records) records ≡ records = take-length records in
+    subst (λ (k : ℕ). IsFault records (k + 1) fault.Unended) (sym h.count)
+    (fault-after records (length records) fault.Unended (omega arith) (subst Opens (sym all) (stands-opens r.next r.last (cycles_read r) r.found.items records h.stands))
+    (wrong-end records (length records) (omega arith) (stands-none r.next r.last (cycles_read r) r.found.items records h.stands other)))
+
+-- ---- what was read
+
+pub end-read : (r : Reader) (records : FieldRows) (n : ℕ) (run : List Report) (found : List Found) → HasReadRows r records → r.next ≡ next.Nothing n → run ≡ cycles_read r → found ≡ r.found.items
+    → (records ≡ report_rows run found n) × IsReading run found n
+end-read r records n run found h e runs founds =
+    let s = subst (λ (x : NextRow). StandsNext x r.last (cycles_read r) r.found.items records) e h.stands in
+    let t = told-reading (cycles_read r) s.0 s.1 n records s.3 s.4 s.5 in
+    subst (λ (x : List Report). (records ≡ report_rows x found n) × IsReading x found n) (sym runs)
+    (subst (λ (x : List Found). (records ≡ report_rows (cycles_read r) x n) × IsReading (cycles_read r) x n) (sym (founds ∙ s.2)) t)
+
+-- the record in this place, by its fields
+pub record-at : {X : Type 0} (f : X → List (List ℕ)) (xs : List X) (i : ℕ) (x : X) → i < length xs → x ≡ get_or xs i x → (i < length (map f xs)) × (get_or (map f xs) i [] ≡ f x)
+record-at f xs i x less is = let long = length-map xs f in (omega (arith, less, long), get_or-map f xs i x [] less ∙ ap f (sym is))
+
+-- one record more
+pub read-more : (r : Reader) (records : FieldRows) (i : ℕ) (row : List (List ℕ)) → i < length records → row ≡ get_or records i [] → HasReadRows r (take i records ++ row ∷ []) → HasReadRows r (take (i + 1) records)
+read-more r records i row less is h = subst (HasReadRows r) (ap (λ (x : List (List ℕ)). take i records ++ x ∷ []) is ∙ sym (take_more records i [] less)) h
+
+-- ---- the records of a text
+
+pub memory-alone : (records : FieldRows) (res : Result Reading ReportRefused) → IfErr res (IsRowRefusal records) → AreReport records → IfErr res (λ e. e ≡ OutOfMemory)
+memory-alone records (Ok r) h a = tt
+memory-alone records (Err (Fault row f)) h a = absurd (fault-is-none records row f h a)
+memory-alone records (Err OutOfMemory) h a = refl
+
+pub rows-read : (bytes : List ℕ) (records : FieldRows) (res : Result Reading ReportRefused) → RecordsOf bytes records → IfOk res (λ r. records ≡ rows_told r) → IfOk res (λ r. RecordsOf bytes (rows_told r))
+rows-read bytes records (Ok r) are h = subst (RecordsOf bytes) h are
+rows-read bytes records (Err e) are h = tt

@@ -18,11 +18,9 @@ use Rattle.edr_reading.specs.Told.{IsAck, IsDamaged, IsEvent, IsReport, banks_in
 use Rattle.edr_reading.specs.Reading.{AreDistinct}
 use Rattle.edr_reading.specs.Reader.{GoesOnIn, IsBetween, IsInside, IsRefused, IsToldReport, MayFollowLine, whole}
 use Rattle.edr_reading.specs.Rows.{FieldRows, event_fields, event_names}
-use Rattle.edr_reading.proofs.BetweenLemmas.{banks-more, All-last, goes-on, refuse-1, refuse-2, refuse-3}
-use Rattle.edr_reading.proofs.DistinctLemmas.{alone, distinct-more}
-use Rattle.edr_reading.proofs.FollowLemmas.{next-row, none}
-use Rattle.edr_reading.proofs.RowLemmas.{event-gone, event-long, line-place, lines, no-rows, row-at, rows-more}
-use Rattle.edr_reading.proofs.WholeLemmas.{decimal-same, told-report, whole-event}
+use Rattle.edr_reading.proofs.BetweenLemmas.{banks-more, All-last, goes-on, refuse-1, refuse-2, refuse-3, next-row, none}
+use Rattle.edr_reading.proofs.WholeLemmas.{alone, distinct-more, decimal-same, told-report, whole-event}
+use Rattle.edr_reading.proofs.EventLemmas.{event-gone, event-long, line-place, lines, no-rows, row-at, rows-more}
 
 -- ---- what a line may be
 

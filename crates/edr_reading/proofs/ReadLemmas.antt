@@ -37,26 +37,13 @@ use Rattle.edr_reading.specs.Reader.{AddsLine, AtLine, HasReadRows, IsBetween, I
 use Rattle.edr_reading.specs.Reading.{AreDistinct, head_row}
 use Rattle.edr_reading.specs.Rows.{FieldRows, event_names}
 use Rattle.edr_reading.specs.Values.{IsApplied, IsBank, IsDamage, IsDamagedView, view_words}
-use Rattle.edr_reading.proofs.BetweenLemmas.{banks-more, found-last, only-next, All-front, ack-opens, at-end, ack-taken, between-block, count-opens, count-taken, cycle-opens, cycle-taken, damaged-opens, damaged-taken, refuse-1, refuse-2, refuse-3, report-short, start-between, told-next}
-use Rattle.edr_reading.proofs.DistinctLemmas.{alone, distinct-front}
-use Rattle.edr_reading.proofs.FollowLemmas.{ToldNext, next-row, some-rows}
+use Rattle.edr_reading.proofs.BetweenLemmas.{banks-more, found-last, only-next, All-front, ack-opens, at-end, ack-taken, between-block, count-opens, count-taken, cycle-opens, cycle-taken, damaged-opens, damaged-taken, refuse-1, refuse-2, refuse-3, report-short, start-between, told-next, ToldNext, next-row, some-rows}
+use Rattle.edr_reading.proofs.WholeLemmas.{alone, distinct-front}
 use Rattle.edr_reading.proofs.LineLemmas.{AcceptsPlace, first-line, line-block, line-last, line-most, line-name, line-next, line-value}
-use Rattle.edr_reading.proofs.RowLemmas.{lines}
+use Rattle.edr_reading.proofs.EventLemmas.{lines}
 
 pub stands-as : (n m : NextRow) (last first : Option CycleRow) (reports rs : List Report) (found fs : List Found) (rows : FieldRows) → n ≡ m → last ≡ first → reports ≡ rs → found ≡ fs → StandsNext m first rs fs rows → StandsNext n last reports found rows
 stands-as n m last first reports rs found fs rows a b c d h = rw (a, b, c, d) h
-
-pub new-read : (r : Reader) → r.rows ≡ 0 → r.run.items ≡ [] → r.last ≡ None → r.acks.items ≡ [] → r.found.items ≡ [] → r.next ≡ next.Head → HasReadRows r []
-new-read r count run last acks found at =
-    let cycles : cycles_read r ≡ [] = ap₂ (λ (x : List Report) (y : List Report). x ++ y) (ap (map report_of) run) (ap (λ (l : Option CycleRow). last_cycle l r.acks.items) last) in
-    record {
-      count = count;
-      few = omega (arith, ap length cycles, ap length found);
-      few_acks = omega (arith, ap length acks);
-      short = omega arith;
-      first = λ e. run;
-      stands = stands-as r.next next.Head r.last r.last (cycles_read r) (cycles_read r) r.found.items r.found.items [] at refl refl refl (last, cycles, found, refl);
-    }
 
 -- ---- between events
 

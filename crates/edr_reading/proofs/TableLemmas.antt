@@ -1,5 +1,6 @@
--- The table of lines is read as their rows.
-use Rattle.std.proofs.Common.{◌≡◌, sym, subst, refl, ℕ, List, [], ◌∷◌, ◌++◌, map, flat_map, drop, codes, decimal}
+-- The records of a table.
+use Rattle.std.proofs.Common.{arith, ◌≡◌, refl, ℕ, zero, suc, ◌<◌, List, [], ◌∷◌, length, Some, None, sym, subst, ◌++◌, map, flat_map, drop, codes, decimal}
+use Rattle.csv.specs.Records.{field_at}
 use Rattle.csv.specs.Machine.{Read, next_record}
 use Rattle.csv.specs.Reading.{AreRecords, Reached, default_config, strip_bom}
 use Rattle.csv.specs.Writing.{fields_text, is_blank}
@@ -9,6 +10,28 @@ use Rattle.edr_report.specs.Lines.{Line, table_row, table_head, table_of}
 use Rattle.edr_reading.specs.Reading.{head_row}
 use Rattle.edr_reading.specs.Rows.{line_fields}
 use Rattle.edr_spell.specs.Spell.{RecordsOf}
+
+-- ---- the three fields of a record
+
+pub three-fields : (fs : List (List ℕ)) (x y z : List ℕ) → length fs ≡ 3 → Some x ≡ field_at fs 0 → Some y ≡ field_at fs 1 → Some z ≡ field_at fs 2 → x ∷ y ∷ z ∷ [] ≡ fs
+unfolding field_at
+three-fields [] x y z n a b c = absurd (omega arith)
+three-fields (p ∷ []) x y z n a b c = absurd (omega arith)
+three-fields (p ∷ q ∷ []) x y z n a b c = absurd (omega arith)
+three-fields (p ∷ q ∷ r ∷ []) x y z n a b c =
+    let d : x ≡ p = cc in
+    let e : y ≡ q = cc in
+    let f : z ≡ r = cc in
+    rw (d, e, f) refl
+three-fields (p ∷ q ∷ r ∷ t ∷ ts) x y z n a b c = absurd (omega arith)
+
+pub field_at-there : (fs : List (List ℕ)) (i : ℕ) → i < length fs → None ≡ field_at fs i → ⊥
+unfolding field_at
+field_at-there [] i h e = absurd (omega arith)
+field_at-there (f ∷ fs) zero h e = cc
+field_at-there (f ∷ fs) (suc i) h e = field_at-there fs i (omega arith) e
+
+-- ---- the table of lines is read as their rows
 
 rows-read : (ls : List Line) → AreRecords default_config st.StartRecord (flat_map table_row ls) (map line_fields ls)
 unfolding Reached next_record

@@ -1,23 +1,137 @@
--- The rows of a report so far.
-use Rattle.std.proofs.Common.{arith, ◌≡◌, ◌∙◌, sym, ap, subst, refl, ℕ, ◌+◌, ◌<◌, ◌≤◌, ◌^◌, List, [], ◌∷◌, ◌++◌, map, length, append_assoc, length-append, decimal, Some}
-use Rattle.std.specs.List.{All}
-use Rattle.std.proofs.lemmas.List.{map-append, append-nil}
-use Rattle.edr_text.specs.Numbers.{natural_in}
-use Rattle.edr_text.proofs.SpellingLemmas.{decimal-numeral, natural_in-numeral}
-use Rattle.edr_record.specs.declared.Record.{Record}
-use Rattle.edr_image.specs.declared.Ack.{Ack}
+-- The rows of a report, part by part, and those so far.
+use Rattle.std.proofs.Common.{arith, ◌≡◌, ◌≢◌, refl, ℕ, false, eqb, List, [], ◌∷◌, ◌++◌, length, ◌∙◌, ap, ap₂, zero, suc, ◌<◌, map, flat_map, get_or, None, codes, append_assoc, sym, subst, ◌+◌, ◌≤◌, ◌^◌, length-append, decimal, Some}
+use Rattle.std.specs.List.{AllByRecursion, IsDistinct, All}
+use Rattle.std.proofs.lemmas.List.Elements.{All-head, All-tail, All-cons}
+use Rattle.std.proofs.lemmas.Bool.Decides.{nat_tests}
+use Rattle.std.proofs.lemmas.Map.Keys.{IsDistinct-cons, IsDistinct-head, IsDistinct-tail}
 use Rattle.edr_image.specs.declared.Found.{Found}
+use Rattle.edr_reading.specs.Event.{HasNoBank}
+use Rattle.edr_reading.specs.Told.{banks_in, IsDamaged, count_fields, damaged_fields, events_fields, last_rows, run_fields, ack_fields, acks_of, cycle_fields, row_of}
+use Rattle.edr_reading.specs.Reading.{AreDistinct, head_row, report_rows, IsReading}
+use Rattle.std.proofs.lemmas.List.{map-append, length-map, append-nil}
+use Rattle.edr_record.specs.declared.Record.{Record}
+use Rattle.edr_image.specs.declared.BankView.{BankView}
+use Rattle.edr_image.specs.declared.BankView.TheVariants.{Void, Event, Damaged}
 use Rattle.edr_image.specs.Banks.{found_event}
 use Rattle.edr_image.specs.Reports.{Report, StartStopped, Ran}
-use Rattle.edr_report.specs.Report.{ack_line, cycle_lines, run_lines, event_lines, events_lines}
+use Rattle.edr_report.specs.Lines.{Line, line}
+use Rattle.edr_report.specs.Words.{shown_count}
+use Rattle.edr_report.specs.Report.{report_lines, run_lines, events_lines, found_record, found_records, damaged_lines, ack_line, cycle_lines, event_lines}
+use Rattle.edr_reading.specs.Values.{IsDamagedView}
+use Rattle.edr_reading.specs.Rows.{line_fields, FieldRows, event_fields}
+use Rattle.edr_text.specs.Numbers.{natural_in}
+use Rattle.edr_text.proofs.SpellingLemmas.{decimal-numeral, natural_in-numeral}
+use Rattle.edr_image.specs.declared.Ack.{Ack}
 use Rattle.edr_report.proofs.PrintedLemmas.{numbered-more}
 use Rattle.edr_reading.specs.declared.told.CycleRow.TheVariants as row
-use Rattle.edr_reading.specs.Rows.{FieldRows, event_fields, line_fields}
-use Rattle.edr_reading.specs.Told.{IsDamaged, ack_fields, acks_of, count_fields, cycle_fields, damaged_fields, events_fields, row_of, run_fields}
-use Rattle.edr_reading.specs.Reading.{AreDistinct, IsReading, head_row, report_rows}
 use Rattle.edr_reading.specs.Reader.{IsToldReport, whole}
 use Rattle.edr_reading.specs.Faults.{AreReport}
-use Rattle.edr_reading.proofs.ReadingLemmas.{report-parts}
+
+-- ---- banks that are told once
+
+pub distinct-none : (xs : List Found) → length xs ≡ 0 → AreDistinct xs
+unfolding IsDistinct
+distinct-none [] e = tt
+distinct-none (x ∷ xs) e = absurd (omega (arith, e))
+
+in-all : (P : ℕ → Type 0) (xs : List ℕ) (y : ℕ) (ys : List ℕ) → AllByRecursion P (xs ++ y ∷ ys) → P y
+in-all P [] y ys h = h.0
+in-all P (x ∷ xs) y ys h = in-all P xs y ys h.1
+
+not-equal : (x y : ℕ) → eqb x y ≡ false → x ≢ y
+not-equal x y h e = grind (arith, nat_tests)
+
+are-unequal : (x y : ℕ) → x ≢ y → eqb x y ≡ false
+are-unequal x y h = grind (arith, nat_tests)
+
+-- a bank that is told after others is none of them
+pub alone : (found : List Found) (b : ℕ) (ys : List ℕ) → IsDistinct eqb (banks_in found ++ b ∷ ys) → HasNoBank found b
+alone [] b ys h = λ k d l. absurd (omega (arith, l))
+alone (f ∷ found) b ys h = All-cons (λ (g : Found). g.bank ≢ b) f found
+    (not-equal f.bank b (in-all (λ y. eqb f.bank y ≡ false) (banks_in found) b ys (IsDistinct-head eqb f.bank (banks_in found ++ b ∷ ys) h)))
+    (alone found b ys (IsDistinct-tail eqb f.bank (banks_in found ++ b ∷ ys) h))
+
+all-more : (P : ℕ → Type 0) (xs : List ℕ) (y : ℕ) → AllByRecursion P xs → P y → AllByRecursion P (xs ++ y ∷ [])
+all-more P [] y h k = (k, tt)
+all-more P (x ∷ xs) y h k = (h.0, all-more P xs y h.1 k)
+
+-- one bank more
+pub distinct-more : (found : List Found) (b : ℕ) → IsDistinct eqb (banks_in found) → HasNoBank found b → IsDistinct eqb (banks_in found ++ b ∷ [])
+distinct-more [] b h none = IsDistinct-cons eqb b [] tt h
+distinct-more (f ∷ found) b h none = IsDistinct-cons eqb f.bank (banks_in found ++ b ∷ [])
+    (all-more (λ y. eqb f.bank y ≡ false) (banks_in found) b (IsDistinct-head eqb f.bank (banks_in found) h) (are-unequal f.bank b (All-head (λ (g : Found). g.bank ≢ b) f found none)))
+    (distinct-more found b (IsDistinct-tail eqb f.bank (banks_in found) h) (All-tail (λ (g : Found). g.bank ≢ b) f found none))
+
+all-front : (P : ℕ → Type 0) (xs ys : List ℕ) → AllByRecursion P (xs ++ ys) → AllByRecursion P xs
+all-front P [] ys h = tt
+all-front P (x ∷ xs) ys h = (h.0, all-front P xs ys h.1)
+
+pub distinct-front : (xs ys : List ℕ) → IsDistinct eqb (xs ++ ys) → IsDistinct eqb xs
+distinct-front [] ys h = distinct-none [] refl
+distinct-front (x ∷ xs) ys h = IsDistinct-cons eqb x xs (all-front (λ y. eqb x y ≡ false) xs ys (IsDistinct-head eqb x (xs ++ ys) h)) (distinct-front xs ys (IsDistinct-tail eqb x (xs ++ ys) h))
+
+-- ---- the rows of a report, part by part
+
+no-record : (b : ℕ) (v : BankView) → IsDamagedView v → found_record b v ≡ None
+no-record b Void h = absurd h
+no-record b (Event r) h = absurd h
+no-record b (Damaged o x l) h = refl
+
+records-none : (ds : List Found) → All IsDamaged ds → found_records ds ≡ []
+records-none [] h = refl
+records-none (d ∷ ds) h = rw (no-record d.bank d.view (All-head IsDamaged d ds h).1) (records-none ds (All-tail IsDamaged d ds h))
+
+records-are : (es : List (ℕ × Record)) (ds : List Found) → All IsDamaged ds → found_records (map found_event es ++ ds) ≡ es
+records-are [] ds h = records-none ds h
+records-are (e ∷ es) ds h = ap (λ (x : List (ℕ × Record)). e ∷ x) (records-are es ds h)
+
+one-damaged : (f : Found) → IsDamagedView f.view → map line_fields (damaged_lines f.bank f.view) ≡ damaged_fields f ∷ []
+one-damaged f h = by f.bank f.view h
+  where
+    by : (b : ℕ) (v : BankView) → IsDamagedView v → map line_fields (damaged_lines b v) ≡ damaged_fields (record { bank = b; view = v }) ∷ []
+    by b Void h = absurd h
+    by b (Event r) h = absurd h
+    by b (Damaged o x l) h = refl
+
+damaged-are : (ds : List Found) → All IsDamaged ds → map line_fields (flat_map (λ f. damaged_lines f.bank f.view) ds) ≡ map damaged_fields ds
+damaged-are [] h = refl
+damaged-are (d ∷ ds) h =
+    map-append line_fields (damaged_lines d.bank d.view) (flat_map (λ f. damaged_lines f.bank f.view) ds)
+    ∙ ap₂ (λ (x y : List (List (List ℕ))). x ++ y) (one-damaged d (All-head IsDamaged d ds h).1) (damaged-are ds (All-tail IsDamaged d ds h))
+
+damaged-all : (es : List (ℕ × Record)) (ds : List Found) → All IsDamaged ds → map line_fields (flat_map (λ f. damaged_lines f.bank f.view) (map found_event es ++ ds)) ≡ map damaged_fields ds
+damaged-all [] ds h = damaged-are ds h
+damaged-all (e ∷ es) ds h = damaged-all es ds h
+
+-- the rows of a report are those of its run, its events, its damaged banks and its count
+pub report-parts : (reports : List Report) (es : List (ℕ × Record)) (ds : List Found) (n : ℕ) → All IsDamaged ds → report_rows reports (map found_event es ++ ds) n ≡ head_row ∷ (run_fields 1 reports ++ (events_fields 1 es ++ last_rows ds n))
+unfolding report_lines
+report-parts reports es ds n h =
+    let found = map found_event es ++ ds in
+    let run = run_lines 1 reports in
+    let events = events_lines 1 (found_records found) in
+    let damaged = flat_map (λ f. damaged_lines f.bank f.view) found in
+    let last : List Line = line 0 (codes "ignition cycle, download") (shown_count n) ∷ [] in
+    ap (λ (x : List (List (List ℕ))). head_row ∷ x)
+    (ap (map line_fields) (append_assoc (run ++ events) damaged last ∙ append_assoc run events (damaged ++ last))
+    ∙ map-append line_fields run (events ++ (damaged ++ last))
+    ∙ ap (λ (x : List (List (List ℕ))). run_fields 1 reports ++ x)
+    (map-append line_fields events (damaged ++ last)
+    ∙ ap₂ (λ (x y : List (List (List ℕ))). x ++ y)
+    (ap (λ (x : List (ℕ × Record)). events_fields 1 x) (records-are es ds h))
+    (map-append line_fields damaged last ∙ ap (λ (x : List (List (List ℕ))). x ++ count_fields n ∷ []) (damaged-all es ds h))))
+
+three : (ls : List Line) (i : ℕ) → i < length ls → length (get_or (map line_fields ls) i []) ≡ 3
+three [] i h = absurd (omega (arith, h))
+three (l ∷ ls) zero h = refl
+three (l ∷ ls) (suc i) h = three ls i (omega (arith, h))
+
+-- each row of a report has three fields
+pub all-three : (reports : List Report) (found : List Found) (n i : ℕ) → i < length (report_rows reports found n) → length (get_or (report_rows reports found n) i []) ≡ 3
+all-three reports found n zero h = refl
+all-three reports found n (suc i) h = three (report_lines reports found n) i (let m = length-map (report_lines reports found n) line_fields in omega (arith, h, m))
+
+-- ---- the rows of a report so far
 
 -- a number has one spelling
 pub decimal-same : (m n : ℕ) → m < 2 ^ 64 → n < 2 ^ 64 → decimal m ≡ decimal n → m ≡ n

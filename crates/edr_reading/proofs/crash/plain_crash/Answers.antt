@@ -1,5 +1,5 @@
 use Rattle.std.proofs.Common.{refl}
-use Rattle.edr_reading.proofs.PointLemmas.{no-change}
+use Rattle.edr_reading.proofs.SlotLemmas.{no-change}
 use Rattle.edr_reading.proofs.crash.plain_crash.Goals as goal
 
 pub invariant_of-result : goal.invariant_of-result

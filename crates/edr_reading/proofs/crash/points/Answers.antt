@@ -1,6 +1,6 @@
 use Rattle.std.proofs.Common.{◌∙◌, sym, Some, w16}
 use Rattle.std.proofs.lemmas.Int.{to_z-of_z}
-use Rattle.edr_reading.proofs.PointLemmas.{points-are, points-given, change-fits}
+use Rattle.edr_reading.proofs.SlotLemmas.{points-are, points-given, change-fits}
 use Rattle.edr_reading.proofs.crash.points.Goals as goal
 
 pub returns-in-Some : goal.returns-in-Some

@@ -1,4 +1,4 @@
-use Rattle.edr_reading.proofs.EndLemmas.{end-fault, end-read}
+use Rattle.edr_reading.proofs.FaultLemmas.{end-fault, end-read}
 use Rattle.edr_reading.proofs.reading.end.Goals as goal
 
 pub returns-in_default : goal.returns-in_default

@@ -14,7 +14,7 @@ use Rattle.edr_reading.specs.Rows.{FieldRows}
 use Rattle.edr_reading.specs.declared.reading.Reading.{Reading}
 use Rattle.edr_reading.specs.declared.reading.ReportRefused.{ReportRefused}
 use Rattle.edr_reading.specs.declared.reading.ReportRefused.TheVariants.{OutOfMemory}
-use Rattle.edr_reading.proofs.EndLemmas.{memory-alone}
+use Rattle.edr_reading.proofs.FaultLemmas.{memory-alone}
 use Rattle.edr_reading.proofs.reading.read.Goals as goal
 
 refused-of : (bytes : List ℕ) (records : FieldRows) (res : Result Reading ReportRefused) → RecordsOf bytes records → IfErr res (IsRowRefusal records) → IfErr res (λ e. (reports : List Report) (found : List Found) (n : ℕ) → IsReading reports found n → RecordsOf bytes (report_rows reports found n) → e ≡ OutOfMemory)

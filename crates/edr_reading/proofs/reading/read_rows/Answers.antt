@@ -3,7 +3,7 @@ use Rattle.csv.specs.Records.{fields_of}
 use Rattle.edr_reading.specs.Reader.{IsRefused}
 use Rattle.edr_reading.specs.Rows.{fields}
 use Rattle.edr_reading.specs.declared.reader.Refused.TheVariants as refused
-use Rattle.edr_reading.proofs.EndLemmas.{field-fault, length-fault, read-more, record-at}
+use Rattle.edr_reading.proofs.FaultLemmas.{field-fault, length-fault, read-more, record-at}
 use Rattle.edr_reading.proofs.reading.read_rows.Goals as goal
 
 pub returns-in-Err-Field-clause-fault : goal.returns-in-Err-Field-clause-fault

@@ -1,5 +1,5 @@
 use Rattle.csv.specs.Records.{fields_of}
-use Rattle.edr_reading.proofs.FieldLemmas.{field_at-there}
+use Rattle.edr_reading.proofs.TableLemmas.{field_at-there}
 use Rattle.edr_reading.proofs.records.field.Goals as goal
 
 pub unreachable-requires : goal.unreachable-requires

@@ -1,6 +1,6 @@
 use Rattle.std.proofs.Common.{arith}
 use Rattle.csv.specs.Records.{fields_of}
-use Rattle.edr_reading.proofs.FieldLemmas.{three-fields}
+use Rattle.edr_reading.proofs.TableLemmas.{three-fields}
 use Rattle.edr_reading.proofs.records.row_of.Goals as goal
 
 pub returns : goal.returns

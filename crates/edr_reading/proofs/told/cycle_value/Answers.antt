@@ -1,7 +1,7 @@
 use Rattle.std.proofs.Common.{rules, sym, subst}
 use Rattle.edr_reading.specs.Answers.{Reads}
 use Rattle.edr_reading.specs.Told.{IsCycleRow, row_words}
-use Rattle.edr_reading.proofs.ToldLemmas.{no-row, start-whole}
+use Rattle.edr_reading.proofs.ValueLemmas.{no-row, start-whole}
 use Rattle.edr_reading.proofs.told.cycle_value.Goals as goal
 
 pub returns-in-Some : goal.returns-in-Some

@@ -7,7 +7,7 @@ use Rattle.edr_reading.specs.declared.told.ToldName.{ToldName}
 use Rattle.edr_reading.specs.declared.told.ToldName.TheVariants as name
 use Rattle.edr_reading.specs.Told.{IsToldName, name_words}
 use Rattle.edr_reading.specs.Values.{IsTick}
-use Rattle.edr_reading.proofs.ToldLemmas.{words-apart}
+use Rattle.edr_reading.proofs.ValueLemmas.{words-apart}
 use Rattle.edr_reading.proofs.told.told_name.Goals as goal
 
 no-other : (cycles : ℕ) (bytes : List ℕ) (kind : Kind) (tick : ℕ) → cycles + 1 < 2 ^ 64 → bytes ≡ ack_words cycles kind tick → ((k : Kind) (t : ℕ) → IsTick t → bytes ≡ ack_words cycles k t → ◌≡◌ {A = Option (Kind × ℕ)} (Some (kind, tick)) (Some (k, t)))

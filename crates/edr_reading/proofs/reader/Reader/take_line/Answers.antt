@@ -6,7 +6,7 @@ use Rattle.edr_report.specs.declared.event_lines.EventLine.{EventLine}
 use Rattle.edr_reading.specs.Event.{AcceptsEventLine, EventAgrees, IsNextEvent, event_of, event_place}
 use Rattle.edr_reading.proofs.LineLemmas.{at-place}
 use Rattle.edr_reading.proofs.ReadLemmas.{line-bounds, line-name-refused, line-value-refused, line-result}
-use Rattle.edr_reading.proofs.RowLemmas.{line-place, lines}
+use Rattle.edr_reading.proofs.EventLemmas.{line-place, lines}
 use Rattle.edr_reading.proofs.reader.Reader.take_line.Goals as goal
 
 pub returns-then-not-is_word : goal.returns-then-not-is_word
