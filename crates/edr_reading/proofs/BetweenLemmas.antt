@@ -1,5 +1,5 @@
 -- What the next row of a report may be, and how a reader between events takes it or refuses it.
-use Rattle.std.proofs.Common.{arith, ◌≡◌, ◌∙◌, sym, ap, subst, refl, ℕ, ◌+◌, ◌≤◌, ◌⊎◌, inl, inr, Bool, true, false, eqb, List, [], ◌∷◌, ◌++◌, map, length, append_assoc, length-append, decimal, Option, Some, None, ap₂, ◌<◌, ◌^◌, ⊎_elim, codes}
+use Rattle.std.proofs.Common.{arith, ◌≡◌, ◌∙◌, sym, ap, subst, refl, ℕ, ◌+◌, ◌≤◌, ◌⊎◌, inl, inr, Bool, true, false, eqb, List, [], ◌∷◌, ◌++◌, map, length, append_assoc, length-append, decimal, Option, Some, None, ◌<◌, ◌^◌, ⊎_elim, codes}
 use Rattle.std.specs.List.{All, IsDistinct, slice_index_or}
 use Rattle.std.proofs.lemmas.List.Elements.{All-head, All-tail, All-append, All-cons, All-take}
 use Rattle.edr_record.specs.declared.Record.{Record}
@@ -8,27 +8,26 @@ use Rattle.edr_image.specs.declared.Applied.{Applied}
 use Rattle.edr_image.specs.declared.BankView.{BankView}
 use Rattle.edr_image.specs.declared.Found.{Found}
 use Rattle.edr_image.specs.Reports.{Report, StartStopped, Ran}
-use Rattle.edr_report.specs.Report.{event_lines}
+use Rattle.edr_report.specs.Report.{cycle_lines, event_lines}
 use Rattle.edr_report.specs.Words.{applied_words, shown_count}
 use Rattle.edr_reading.specs.declared.told.CycleRow.{CycleRow}
 use Rattle.edr_reading.specs.declared.told.ToldName.{ToldName}
 use Rattle.edr_reading.specs.declared.told.ToldName.TheVariants as name
-use Rattle.edr_reading.specs.Event.{EventAgrees, HasNoBank}
+use Rattle.edr_reading.specs.Event.{EventAgrees}
 use Rattle.edr_reading.specs.Told.{IsAck, IsCycleRow, IsDamaged, IsEvent, IsReport, IsToldName, ack_fields, acks_of, banks_in, count_fields, cycle_fields, damaged_fields, events_fields, last_rows, name_words, row_of, row_words, run_fields}
 use Rattle.edr_reading.specs.Parts.{PartsAgree}
 use Rattle.edr_record.specs.Parts.{CrashPart}
 use Rattle.edr_reading.specs.Reader.{MayFollow, MayFollowLine, may_ack, IsBetween, IsRefused, IsToldReport, last_cycle, whole}
-use Rattle.edr_reading.specs.Rows.{FieldRows, event_fields}
-use Rattle.edr_reading.specs.Values.{IsApplied, IsDamagedView, view_words, IsBank}
-use Rattle.edr_reading.proofs.WholeLemmas.{events-first, run-first, cycle-lines, decimal-same, report-told, told-report, whole-cycle, whole-damaged, distinct-more, distinct-none}
+use Rattle.edr_reading.specs.Rows.{FieldRows, event_fields, line_fields}
+use Rattle.edr_reading.specs.Values.{IsApplied, IsDamagedView, view_words}
+use Rattle.edr_reading.proofs.WholeLemmas.{events-first, run-first, cycle-lines, decimal-same, report-told, told-report, whole-cycle, distinct-none}
 use Rattle.std.proofs.lemmas.List.{map-append}
 use Rattle.std.proofs.Math.Seq.{take-append_seam}
-use Rattle.edr_image.specs.declared.Kind.{Kind}
 use Rattle.edr_image.specs.Banks.{found_event}
 use Rattle.edr_reading.specs.declared.reader.Refused.TheVariants as refused
 use Rattle.edr_reading.specs.declared.told.CycleRow.TheVariants as row
 use Rattle.edr_reading.specs.Faults.{AreReport, ReportGoesOn}
-use Rattle.edr_reading.specs.Reading.{AreDistinct, head_row}
+use Rattle.edr_reading.specs.Reading.{head_row}
 
 -- ---- what the next row of a report may be
 
@@ -83,8 +82,8 @@ first-block : (block bank : ℕ) (r : Record) (xs : FieldRows) (row : List (List
 unfolding event_lines
 first-block block bank r xs row more e = ap (λ (rows : FieldRows). slice_index_or (slice_index_or rows 0 []) 0 []) e
 
-pub next-row : (a c v : Bool) (cycles block : ℕ) (banks : List ℕ) (r : List (List ℕ)) (more : FieldRows) → MayFollow a c v cycles block banks (r ∷ more) → IsNextRow a c v cycles block banks r more
-next-row a c v cycles block banks r more m = by m.acks m.reports m.events m.damaged m.bounds m.no_acks m.no_reports m.no_events m.distinct m.are
+pub next-row : {a c v : Bool} {cycles block : ℕ} {banks : List ℕ} (r : List (List ℕ)) (more : FieldRows) → MayFollow a c v cycles block banks (r ∷ more) → IsNextRow a c v cycles block banks r more
+next-row {a} {c} {v} {cycles} {block} {banks} r more m = by m.acks m.reports m.events m.damaged m.bounds m.no_acks m.no_reports m.no_events m.distinct m.are
   where
     by : (acks : List Ack) (reports : List Report) (events : List (ℕ × Record)) (damaged : List Found) → All IsAck acks × All IsReport reports × All IsEvent events × All IsDamaged damaged
         → (a ≡ false → acks ≡ []) → (c ≡ false → reports ≡ []) → (v ≡ false → events ≡ []) → IsDistinct eqb (banks ++ (map (λ e. e.0) events ++ banks_in damaged))
@@ -119,13 +118,13 @@ next-row a c v cycles block banks r more m = by m.acks m.reports m.events m.dama
         inl (name.Count, tt, shown_count m.count, head, (m.count, refl, rest))
 
 -- there is at least the count
-pub some-rows : (a c v : Bool) (cycles block : ℕ) (banks : List ℕ) (more : FieldRows) → MayFollow a c v cycles block banks more → 1 ≤ length more
-some-rows a c v cycles block banks more m =
-    let e1 = length-append (map (ack_fields cycles) m.acks) (run_fields (cycles + 1) m.reports ++ (events_fields block m.events ++ last_rows m.damaged m.count)) in
-    let e2 = length-append (run_fields (cycles + 1) m.reports) (events_fields block m.events ++ last_rows m.damaged m.count) in
-    let e3 = length-append (events_fields block m.events) (last_rows m.damaged m.count) in
-    let e4 = length-append (map damaged_fields m.damaged) (count_fields m.count ∷ []) in
-    omega (arith, ap length m.are, e1, e2, e3, e4)
+pub some-rows : {a c v : Bool} {cycles block : ℕ} {banks : List ℕ} {more : FieldRows} → MayFollow a c v cycles block banks more → 1 ≤ length more
+some-rows {cycles = cycles} {block = block} m =
+    let last = last_rows m.damaged m.count in
+    let e1 = length-append (map (ack_fields cycles) m.acks) (run_fields (cycles + 1) m.reports ++ (events_fields block m.events ++ last)) in
+    let e2 = length-append (run_fields (cycles + 1) m.reports) (events_fields block m.events ++ last) in
+    let e3 = length-append (events_fields block m.events) last in
+    omega (arith, ap length m.are, e1, e2, e3, length-append (map damaged_fields m.damaged) (count_fields m.count ∷ []))
 
 -- ---- lists
 
@@ -154,9 +153,6 @@ banks-more es f = ap banks_in (found-last es f) ∙ banks-last (map found_event 
 
 -- ---- refusals
 
-pub goes-on : (rows : FieldRows) (front back : List (List ℕ)) (more : FieldRows) → AreReport (rows ++ (front ++ back) ∷ more) → ReportGoesOn rows front
-goes-on rows front back more a = (back, more, a)
-
 pub refuse-1 : (rows : FieldRows) (b w v : List ℕ) → ¬ ReportGoesOn rows (b ∷ []) → IsRefused rows (b ∷ w ∷ v ∷ []) (refused.Field 1)
 refuse-1 rows b w v n = λ more. (refl, omega arith, omega arith, (λ h. absurd (omega (arith, h))), n)
 
@@ -168,106 +164,55 @@ refuse-3 rows b w v g n = λ more. (refl, omega arith, omega arith, (λ h. g), n
 
 -- ---- the rows so far begin a report
 
-pub between-count : (a c v : Bool) (reports : List Report) (es : List (ℕ × Record)) (ds : List Found) (rows : FieldRows) → IsBetween a c v reports es ds rows → AreReport (rows ++ count_fields 0 ∷ [])
-between-count a c v reports es ds rows h =
-    subst (λ (x : FieldRows). AreReport (x ++ count_fields 0 ∷ [])) (sym h.are) (told-report reports es ds 0 h.told (let e = ap length h.are in let s = h.short in omega (arith, e, s)))
+module _ {a c v : Bool} {reports : List Report} {es : List (ℕ × Record)} {ds : List Found} {rows : FieldRows} (h : IsBetween a c v reports es ds rows) where
+  pub between-count : AreReport (rows ++ count_fields 0 ∷ [])
+  between-count = subst (λ (x : FieldRows). AreReport (x ++ count_fields 0 ∷ [])) (sym h.are) (told-report reports es ds 0 h.told (omega (arith, ap length h.are, h.short)))
 
-pub between-block : (a c v : Bool) (reports : List Report) (es : List (ℕ × Record)) (ds : List Found) (rows : FieldRows) → IsBetween a c v reports es ds rows → ReportGoesOn rows (decimal 0 ∷ [])
-between-block a c v reports es ds rows h = (codes "ignition cycle, download" ∷ shown_count 0 ∷ [], [], between-count a c v reports es ds rows h)
+  pub between-block : ReportGoesOn rows (decimal 0 ∷ [])
+  between-block = (codes "ignition cycle, download" ∷ shown_count 0 ∷ [], [], between-count)
 
-pub report-short : (rows : FieldRows) → AreReport rows → length rows ≤ 4_294_967_294
-report-short rows a = (report-told rows a).6
+  -- a row of block 0 with this name
+  pub told-next : length es + 1 < 2 ^ 64 → (w : List ℕ) (back : List (List ℕ)) (more : FieldRows) → AreReport (rows ++ (decimal 0 ∷ w ∷ back) ∷ more)
+      → (x : ToldName) × IsToldName x × (value : List ℕ) × (w ≡ name_words (length reports) x) × (back ≡ value ∷ []) × ToldNext a c v (length reports) (length es + 1) (banks_in (map found_event es ++ ds)) value more x
+  told-next few w back more r = ⊎_elim
+      (λ l. let last : back ≡ l.2 ∷ [] = cc in
+      (l.0, l.1, l.2, ap (λ (q : List (List ℕ)). slice_index_or q 1 []) l.3, last, l.4))
+      (λ n. absurd (let z = decimal-same 0 (length es + 1) (omega arith) few n.1 in omega (arith, z)))
+      (next-row (decimal 0 ∷ w ∷ back) more (h.rest ((decimal 0 ∷ w ∷ back) ∷ more) r))
 
--- where the rows with one of block 0 more may be told, a report goes on with its name
-told-opens : (rows : FieldRows) (w value : List ℕ) (reports : List Report) (es : List (ℕ × Record)) (ds : List Found) → length rows + 2 ≤ 4_294_967_294 → IsToldReport reports es ds → whole reports es ds ≡ rows ++ (decimal 0 ∷ w ∷ value ∷ []) ∷ []
-    → ReportGoesOn rows (decimal 0 ∷ w ∷ [])
-told-opens rows w value reports es ds room told new =
-    let one : FieldRows = (decimal 0 ∷ w ∷ value ∷ []) ∷ [] in
-    let long = length-append rows one in
-    (value ∷ [], count_fields 0 ∷ [], subst AreReport (ap (λ (x : FieldRows). x ++ count_fields 0 ∷ []) new ∙ append_assoc rows one (count_fields 0 ∷ [])) (told-report reports es ds 0 told (omega (arith, room, long, ap length new))))
+  -- of such a row, where its name is only this, its value and what follows
+  pub only-next : length es + 1 < 2 ^ 64 → (w value : List ℕ) {x : ToldName} → ((y : ToldName) → IsToldName y → w ≡ name_words (length reports) y → x ≡ y) → (back : List (List ℕ)) (more : FieldRows) → AreReport (rows ++ (decimal 0 ∷ w ∷ value ∷ back) ∷ more)
+      → ToldNext a c v (length reports) (length es + 1) (banks_in (map found_event es ++ ds)) value more x
+  only-next few w value {x} only back more r =
+      let n = told-next few w (value ∷ back) more r in
+      let same : n.2 ≡ value = sym (ap (λ (l : List (List ℕ)). slice_index_or l 0 []) n.4) in
+      subst (λ (z : List ℕ). ToldNext a c v (length reports) (length es + 1) (banks_in (map found_event es ++ ds)) z more x) same (rw (only n.0 n.1 n.3) n.5)
 
--- ---- the next row
+  -- where it was read after other rows, a report goes on with its name
+  pub opens : (before : FieldRows) (w value : List ℕ) → rows ≡ before ++ (decimal 0 ∷ w ∷ value ∷ []) ∷ [] → ReportGoesOn before (decimal 0 ∷ w ∷ [])
+  opens before w value is = (value ∷ [], count_fields 0 ∷ [], subst AreReport (ap (λ (x : FieldRows). x ++ count_fields 0 ∷ []) is ∙ append_assoc before _ (count_fields 0 ∷ [])) between-count)
 
-small-block : (block : ℕ) → 1 ≤ block → block < 2 ^ 64 → decimal 0 ≡ decimal block → ⊥
-small-block block h k e = let z = decimal-same 0 block (omega arith) k e in omega (arith, h, z)
-
--- a row of block 0 with this name
-pub told-next : (a c v : Bool) (i block : ℕ) (banks : List ℕ) (w : List ℕ) (back : List (List ℕ)) (more : FieldRows) → 1 ≤ block → block < 2 ^ 64 → MayFollow a c v i block banks ((decimal 0 ∷ w ∷ back) ∷ more)
-    → (x : ToldName) × IsToldName x × (value : List ℕ) × (w ≡ name_words i x) × (back ≡ value ∷ []) × ToldNext a c v i block banks value more x
-told-next a c v i block banks w back more from to m = ⊎_elim
-    (λ l. let words : w ≡ name_words i l.0 = ap (λ (r : List (List ℕ)). slice_index_or r 1 []) l.3 in
-    let last : back ≡ l.2 ∷ [] = cc in
-    (l.0, l.1, l.2, words, last, l.4))
-    (λ r. absurd (small-block block from to r.1))
-    (next-row a c v i block banks (decimal 0 ∷ w ∷ back) more m)
-
--- of such a row, where its name is only this, its value and what follows
-pub only-next : (a c v : Bool) (i block : ℕ) (banks : List ℕ) (w value : List ℕ) (back : List (List ℕ)) (more : FieldRows) (x : ToldName) → 1 ≤ block → block < 2 ^ 64 → ((y : ToldName) → IsToldName y → w ≡ name_words i y → x ≡ y)
-    → MayFollow a c v i block banks ((decimal 0 ∷ w ∷ value ∷ back) ∷ more) → ToldNext a c v i block banks value more x
-only-next a c v i block banks w value back more x from to only m =
-    let n = told-next a c v i block banks w (value ∷ back) more from to m in
-    let same : n.2 ≡ value = sym (ap (λ (l : List (List ℕ)). slice_index_or l 0 []) n.4) in
-    subst (ToldNext a c v i block banks value more) (sym (only n.0 n.1 n.3)) (subst (λ (z : List ℕ). ToldNext a c v i block banks z more n.0) same n.5)
-
--- the same where it stands after these rows
-next-told : (a c v : Bool) (reports : List Report) (es : List (ℕ × Record)) (ds : List Found) (rows : FieldRows) (w value : List ℕ) (x : ToldName) → IsBetween a c v reports es ds rows → length es + 1 < 2 ^ 64
-    → ((y : ToldName) → IsToldName y → w ≡ name_words (length reports) y → x ≡ y) → (more : FieldRows) → AreReport ((rows ++ (decimal 0 ∷ w ∷ value ∷ []) ∷ []) ++ more)
-    → ToldNext a c v (length reports) (length es + 1) (banks_in (map found_event es ++ ds)) value more x
-next-told a c v reports es ds rows w value x h few only more r =
-    let one : FieldRows = (decimal 0 ∷ w ∷ value ∷ []) ∷ [] in
-    only-next a c v (length reports) (length es + 1) (banks_in (map found_event es ++ ds)) w value [] more x (omega arith) few only (h.rest (one ++ more) (subst AreReport (append_assoc rows one more) r))
+-- one row of block 0 more
+pub row-more : {rows old : FieldRows} {w name value shown : List ℕ} → rows ≡ old → w ≡ name → value ≡ shown → rows ++ (decimal 0 ∷ w ∷ value ∷ []) ∷ [] ≡ old ++ (decimal 0 ∷ name ∷ shown ∷ []) ∷ []
+row-more a b c = cc
 
 -- ---- a cycle
 
 pub run-told : (reports : List Report) → All IsReport reports → IsToldReport reports [] []
 run-told reports h = record { run = h; events = none IsEvent; damaged = none IsDamaged; distinct = distinct-none [] refl }
 
-last-report : (first : CycleRow) → IsCycleRow first → (r : Report) × (last_cycle (Some first) [] ≡ r ∷ []) × IsReport r × (row_of r ≡ first) × (acks_of r ≡ [])
-last-report (row.StartStopped j) h = (StartStopped j, refl, (h, none IsAck), refl, refl)
-last-report (row.Ran n s) h = (Ran n s [], refl, (h, none IsAck), refl, refl)
+-- a cycle of which the first row was read
+abbrev pub started : CycleRow → Report
+started (row.StartStopped j) = StartStopped j
+started (row.Ran n s) = Ran n s []
 
-whole-first : (reports : List Report) (first : CycleRow) → IsCycleRow first → whole (reports ++ last_cycle (Some first) []) [] [] ≡ whole reports [] [] ++ cycle_fields (length reports + 1) first ∷ []
-whole-first reports first h =
-    let l = last-report first h in
-    ap (λ (x : List Report). whole (reports ++ x) [] []) l.1 ∙ whole-cycle reports l.0
-    ∙ ap (λ (x : FieldRows). whole reports [] [] ++ x) (cycle-lines (length reports + 1) l.0 ∙ ap₂ (λ (x : CycleRow) (y : List Ack). cycle_fields (length reports + 1) x ∷ map (ack_fields (length reports + 1)) y) l.3 l.4)
-
-cycle-are : (reports : List Report) (first : CycleRow) → IsCycleRow first → (rows : FieldRows) (w value : List ℕ) → rows ≡ whole reports [] [] → w ≡ name_words (length reports) name.Cycle → value ≡ row_words first
-    → whole (reports ++ last_cycle (Some first) []) [] [] ≡ rows ++ (decimal 0 ∷ w ∷ value ∷ []) ∷ []
-cycle-are reports first bounds rows w value are words shows =
-    whole-first reports first bounds ∙ ap₂ (λ (x : FieldRows) (r : List (List ℕ)). x ++ r ∷ []) (sym are) (ap₂ (λ (n x : List ℕ). decimal 0 ∷ n ∷ x ∷ []) (sym words) (sym shows))
-
-pub told-cycle : (reports : List Report) (first : CycleRow) → All IsReport reports → IsCycleRow first → IsToldReport (reports ++ last_cycle (Some first) []) [] []
-told-cycle reports first all h =
-    let l = last-report first h in
-    run-told (reports ++ last_cycle (Some first) []) (subst (λ (x : List Report). All IsReport (reports ++ x)) (sym l.1) (All-last IsReport reports l.0 all l.2))
-
-pub cycle-opens : (a c v : Bool) (reports : List Report) (rows : FieldRows) (w : List ℕ) → IsBetween a c v reports [] [] rows → length rows + 2 ≤ 4_294_967_294 → w ≡ name_words (length reports) name.Cycle → ReportGoesOn rows (decimal 0 ∷ w ∷ [])
-cycle-opens a c v reports rows w h room words =
-    let first = row.StartStopped 1 in
-    let value = row_words first in
-    let bounds : IsCycleRow first = (omega arith, omega arith) in
-    told-opens rows w value (reports ++ last_cycle (Some first) []) [] [] room (told-cycle reports first h.told.run bounds) (cycle-are reports first bounds rows w value h.are words refl)
-
-pub cycle-taken : (a : Bool) (reports : List Report) (rows : FieldRows) (w value : List ℕ) (first : CycleRow) → IsBetween a true true reports [] [] rows → length rows + 2 ≤ 4_294_967_294 → IsCycleRow first
-    → w ≡ name_words (length reports) name.Cycle → ((y : ToldName) → IsToldName y → w ≡ name_words (length reports) y → name.Cycle ≡ y) → value ≡ row_words first → ((d : CycleRow) → IsCycleRow d → value ≡ row_words d → first ≡ d)
-    → IsBetween (may_ack (Some first)) true true (reports ++ last_cycle (Some first) []) [] [] (rows ++ (decimal 0 ∷ w ∷ value ∷ []) ∷ [])
-cycle-taken a reports rows w value first h room bounds words only shows one =
-    let long = length-append rows ((decimal 0 ∷ w ∷ value ∷ []) ∷ []) in
-    let count : length (reports ++ last_cycle (Some first) []) ≡ length reports + 1 = length-append reports (last_cycle (Some first) []) ∙ ap (λ (x : List Report). length reports + length x) (last-report first bounds).1 in
-    record {
-      told = told-cycle reports first h.told.run bounds;
-      are = sym (cycle-are reports first bounds rows w value h.are words shows);
-      short = omega (arith, room, long);
-      rest = λ more r.
-          let n = next-told a true true reports [] [] rows w value name.Cycle h (omega arith) only more r in
-          let same = one n.1 n.2 n.3 in
-          subst (λ (j : ℕ). MayFollow (may_ack (Some first)) true true j 1 [] more) (sym count) (subst (λ (d : CycleRow). MayFollow (may_ack (Some d)) true true (length reports + 1) 1 [] more) (sym same) n.4);
-    }
+pub started-is : (i : ℕ) (first : CycleRow) → IsCycleRow first → (last_cycle (Some first) [] ≡ started first ∷ []) × (map line_fields (cycle_lines i (started first)) ≡ cycle_fields i first ∷ []) × IsReport (started first)
+started-is i (row.StartStopped j) h = (refl, refl, (h, none IsAck))
+started-is i (row.Ran n s) h = (refl, refl, (h, none IsAck))
 
 -- ---- a command that the last cycle acknowledged
 
-whole-ack : (done : List Report) (n : ℕ) (s : Option ℕ) (acks : List Ack) (k : Ack) → whole (done ++ Ran n s (acks ++ k ∷ []) ∷ []) [] [] ≡ whole (done ++ Ran n s acks ∷ []) [] [] ++ ack_fields (length done + 1) k ∷ []
+pub whole-ack : (done : List Report) (n : ℕ) (s : Option ℕ) (acks : List Ack) (k : Ack) → whole (done ++ Ran n s (acks ++ k ∷ []) ∷ []) [] [] ≡ whole (done ++ Ran n s acks ∷ []) [] [] ++ ack_fields (length done + 1) k ∷ []
 whole-ack done n s acks k =
     let i = length done + 1 in
     let first = cycle_fields i (row.Ran n s) in
@@ -275,90 +220,10 @@ whole-ack done n s acks k =
     ∙ sym (append_assoc (whole done [] []) (first ∷ map (ack_fields i) acks) (ack_fields i k ∷ []))
     ∙ ap (λ (x : FieldRows). x ++ ack_fields i k ∷ []) (sym (whole-cycle done (Ran n s acks) ∙ ap (λ (x : FieldRows). whole done [] [] ++ x) (cycle-lines i (Ran n s acks))))
 
-told-ack : (done : List Report) (n : ℕ) (s : Option ℕ) (acks : List Ack) (k : Ack) → All IsReport (done ++ Ran n s acks ∷ []) → IsAck k → IsToldReport (done ++ Ran n s (acks ++ k ∷ []) ∷ []) [] []
+pub told-ack : (done : List Report) (n : ℕ) (s : Option ℕ) (acks : List Ack) (k : Ack) → All IsReport (done ++ Ran n s acks ∷ []) → IsAck k → IsToldReport (done ++ Ran n s (acks ++ k ∷ []) ∷ []) [] []
 told-ack done n s acks k all h =
     let last = at-end IsReport done (Ran n s acks) all in
     run-told (done ++ Ran n s (acks ++ k ∷ []) ∷ []) (All-last IsReport done (Ran n s (acks ++ k ∷ [])) (All-front IsReport done (Ran n s acks ∷ []) all) (last.0, All-last IsAck acks k last.1 h))
-
-count-last : (done : List Report) (r : Report) → length (done ++ r ∷ []) ≡ length done + 1
-count-last done r = length-append done (r ∷ [])
-
-module _ (done : List Report) (n : ℕ) (s : Option ℕ) (acks : List Ack) (rows : FieldRows) (w : List ℕ) (kind : Kind) (tick : ℕ) (h : IsBetween true true true (done ++ Ran n s acks ∷ []) [] [] rows)
-    (room : length rows + 2 ≤ 4_294_967_294) (bounds : IsToldName (name.Ack kind tick)) (words : w ≡ name_words (length (done ++ Ran n s acks ∷ [])) (name.Ack kind tick)) where
-  ack-are : (value : List ℕ) (applied : Applied) → value ≡ applied_words applied → whole (done ++ Ran n s (acks ++ record { tick = tick; kind = kind; applied = applied } ∷ []) ∷ []) [] [] ≡ rows ++ (decimal 0 ∷ w ∷ value ∷ []) ∷ []
-  ack-are value applied shows =
-      let k : Ack = record { tick = tick; kind = kind; applied = applied } in
-      whole-ack done n s acks k ∙ ap₂ (λ (x : FieldRows) (r : List (List ℕ)). x ++ r ∷ []) (sym h.are)
-      (ap (λ (j : ℕ). decimal 0 ∷ name_words j (name.Ack kind tick) ∷ applied_words applied ∷ []) (sym (count-last done (Ran n s acks))) ∙ ap₂ (λ (x y : List ℕ). decimal 0 ∷ x ∷ y ∷ []) (sym words) (sym shows))
-
-  pub ack-opens : (applied : Applied) → IsApplied kind applied → ReportGoesOn rows (decimal 0 ∷ w ∷ [])
-  ack-opens applied ok =
-      let k : Ack = record { tick = tick; kind = kind; applied = applied } in
-      told-opens rows w (applied_words applied) (done ++ Ran n s (acks ++ k ∷ []) ∷ []) [] [] room (told-ack done n s acks k h.told.run (bounds, ok)) (ack-are (applied_words applied) applied refl)
-
-  pub ack-taken : (value : List ℕ) (applied : Applied) → IsApplied kind applied → ((y : ToldName) → IsToldName y → w ≡ name_words (length (done ++ Ran n s acks ∷ [])) y → name.Ack kind tick ≡ y) → value ≡ applied_words applied
-      → IsBetween true true true (done ++ Ran n s (acks ++ record { tick = tick; kind = kind; applied = applied } ∷ []) ∷ []) [] [] (rows ++ (decimal 0 ∷ w ∷ value ∷ []) ∷ [])
-  ack-taken value applied ok only shows =
-      let k : Ack = record { tick = tick; kind = kind; applied = applied } in
-      let long = length-append rows ((decimal 0 ∷ w ∷ value ∷ []) ∷ []) in
-      record {
-        told = told-ack done n s acks k h.told.run (bounds, ok);
-        are = sym (ack-are value applied shows);
-        short = omega (arith, room, long);
-        rest = λ more r.
-            let m = next-told true true true (done ++ Ran n s acks ∷ []) [] [] rows w value (name.Ack kind tick) h (omega arith) only more r in
-            subst (λ (j : ℕ). MayFollow true true true j 1 [] more) (count-last done (Ran n s acks) ∙ sym (count-last done (Ran n s (acks ++ k ∷ [])))) m.4;
-      }
-
--- ---- a damaged bank and the count
-
-module _ (a c v : Bool) (reports : List Report) (es : List (ℕ × Record)) (ds : List Found) (rows : FieldRows) (w : List ℕ) (bank : ℕ) (h : IsBetween a c v reports es ds rows) (few : length es + 1 < 2 ^ 64)
-    (room : length rows + 2 ≤ 4_294_967_294) (bounds : IsBank bank) (free : HasNoBank (map found_event es ++ ds) bank) (words : w ≡ name_words (length reports) (name.Bank bank)) where
-  told-damaged : (view : BankView) → IsDamagedView view → IsToldReport reports es (ds ++ record { bank = bank; view = view } ∷ [])
-  told-damaged view ok =
-      let d : Found = record { bank = bank; view = view } in
-      let found = map found_event es ++ ds in
-      record {
-        run = h.told.run;
-        events = h.told.events;
-        damaged = All-last IsDamaged ds d h.told.damaged (bounds, ok);
-        distinct = subst AreDistinct (append_assoc (map found_event es) ds (d ∷ [])) (subst (IsDistinct eqb) (sym (banks-last found d)) (distinct-more found bank h.told.distinct free));
-      }
-
-  damaged-are : (value : List ℕ) (view : BankView) → value ≡ view_words view → whole reports es (ds ++ record { bank = bank; view = view } ∷ []) ≡ rows ++ (decimal 0 ∷ w ∷ value ∷ []) ∷ []
-  damaged-are value view shows =
-      let d : Found = record { bank = bank; view = view } in
-      whole-damaged reports es ds d ∙ ap₂ (λ (x : FieldRows) (r : List (List ℕ)). x ++ r ∷ []) (sym h.are) (ap₂ (λ (x y : List ℕ). decimal 0 ∷ x ∷ y ∷ []) (sym words) (sym shows))
-
-  pub damaged-opens : (view : BankView) → IsDamagedView view → ReportGoesOn rows (decimal 0 ∷ w ∷ [])
-  damaged-opens view ok = told-opens rows w (view_words view) reports es (ds ++ record { bank = bank; view = view } ∷ []) room (told-damaged view ok) (damaged-are (view_words view) view refl)
-
-  pub damaged-taken : (value : List ℕ) (view : BankView) → IsDamagedView view → ((y : ToldName) → IsToldName y → w ≡ name_words (length reports) y → name.Bank bank ≡ y) → value ≡ view_words view
-      → IsBetween false false false reports es (ds ++ record { bank = bank; view = view } ∷ []) (rows ++ (decimal 0 ∷ w ∷ value ∷ []) ∷ [])
-  damaged-taken value view ok only shows =
-      let d : Found = record { bank = bank; view = view } in
-      let found = map found_event es ++ ds in
-      let long = length-append rows ((decimal 0 ∷ w ∷ value ∷ []) ∷ []) in
-      let banks : banks_in found ++ bank ∷ [] ≡ banks_in (map found_event es ++ (ds ++ d ∷ [])) = sym (banks-last found d) ∙ ap banks_in (append_assoc (map found_event es) ds (d ∷ [])) in
-      record {
-        told = told-damaged view ok;
-        are = sym (damaged-are value view shows);
-        short = omega (arith, room, long);
-        rest = λ more r.
-            let m = next-told a c v reports es ds rows w value (name.Bank bank) h few only more r in
-            subst (λ (x : List ℕ). MayFollow false false false (length reports) (length es + 1) x more) banks m.5;
-      }
-
-pub count-taken : (a c v : Bool) (reports : List Report) (es : List (ℕ × Record)) (ds : List Found) (rows : FieldRows) (w value : List ℕ) (n : ℕ) → IsBetween a c v reports es ds rows → length es + 1 < 2 ^ 64
-    → w ≡ name_words (length reports) name.Count → ((y : ToldName) → IsToldName y → w ≡ name_words (length reports) y → name.Count ≡ y) → value ≡ shown_count n
-    → (rows ++ (decimal 0 ∷ w ∷ value ∷ []) ∷ [] ≡ whole reports es ds ++ count_fields n ∷ []) × ((more : FieldRows) → AreReport ((rows ++ (decimal 0 ∷ w ∷ value ∷ []) ∷ []) ++ more) → more ≡ [])
-count-taken a c v reports es ds rows w value n h few words only shows = (
-  ap₂ (λ (x : FieldRows) (r : List (List ℕ)). x ++ r ∷ []) h.are (ap₂ (λ (x y : List ℕ). decimal 0 ∷ x ∷ y ∷ []) words shows),
-  (λ more r. (next-told a c v reports es ds rows w value name.Count h few only more r).2),
-)
-
-pub count-opens : (a c v : Bool) (reports : List Report) (es : List (ℕ × Record)) (ds : List Found) (rows : FieldRows) (w : List ℕ) → IsBetween a c v reports es ds rows → w ≡ name_words (length reports) name.Count → ReportGoesOn rows (decimal 0 ∷ w ∷ [])
-count-opens a c v reports es ds rows w h words = (shown_count 0 ∷ [], [], subst (λ (x : List ℕ). AreReport (rows ++ (decimal 0 ∷ x ∷ shown_count 0 ∷ []) ∷ [])) (sym words) (between-count a c v reports es ds rows h))
 
 -- ---- the first row of a reader
 

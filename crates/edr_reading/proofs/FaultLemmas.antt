@@ -1,5 +1,5 @@
 -- Where a text can be no report, and what was read of one that is.
-use Rattle.std.proofs.Common.{arith, ◌≡◌, ◌≢◌, ◌∙◌, sym, ap, subst, refl, ℕ, zero, suc, ◌<◌, ◌≤◌, ◌+◌, ◌-◌, min, map, List, [], ◌∷◌, ◌++◌, length, length-append, take, drop, get_or, codes, decimal, length-take-le, Option, None, Bool, true, false, Result, Ok, Err}
+use Rattle.std.proofs.Common.{arith, ◌≡◌, ◌≢◌, ◌∙◌, sym, ap, subst, refl, ℕ, zero, suc, ◌<◌, ◌≤◌, ◌+◌, ◌-◌, min, map, List, [], ◌∷◌, ◌++◌, length, length-append, take, drop, get_or, codes, decimal, length-take-le, Option, None, Bool, Result, Ok, Err}
 use Rattle.std.proofs.Math.Seq.{get_or-append_seam, take-length}
 use Rattle.std.proofs.lemmas.List.{drop_all, take_all, append-nil, take-append-drop, drop_more, get_or-map, length-map, take_more}
 use Rattle.edr_report.specs.Report.{report_lines}
@@ -9,6 +9,7 @@ use Rattle.edr_reading.specs.Faults.{AreReport, Opens, ReportGoesOn, IsFault, Is
 use Rattle.edr_reading.specs.declared.faults.RowFault.{RowFault}
 use Rattle.edr_reading.specs.declared.faults.RowFault.TheVariants.{Fields, Field, Unended}
 use Rattle.edr_reading.specs.Reading.{IsReading, head_row, report_rows, rows_told}
+use Rattle.edr_record.specs.declared.Record.{Record}
 use Rattle.edr_image.specs.declared.Found.{Found}
 use Rattle.edr_image.specs.Banks.{found_event}
 use Rattle.edr_image.specs.Reports.{Report}
@@ -19,7 +20,7 @@ use Rattle.edr_reading.specs.declared.reader.Reader.{Reader}
 use Rattle.edr_reading.specs.declared.reader.Refused.TheVariants as refused
 use Rattle.edr_reading.specs.declared.told.CycleRow.{CycleRow}
 use Rattle.edr_reading.specs.Told.{count_fields}
-use Rattle.edr_reading.specs.Reader.{HasReadRows, IsRefused, IsRowRefusal, StandsNext, cycles_read, may_ack}
+use Rattle.edr_reading.specs.Reader.{HasReadRows, IsBetween, IsRefused, IsRowRefusal, StandsNext, cycles_read}
 use Rattle.edr_reading.specs.declared.reading.Reading.{Reading}
 use Rattle.edr_reading.specs.declared.reading.ReportRefused.{ReportRefused}
 use Rattle.edr_reading.specs.declared.reading.ReportRefused.TheVariants.{Fault, OutOfMemory}
@@ -112,24 +113,24 @@ nothing-report reports found rows n s = let t = told-reading reports s.0 s.1 n r
 
 stands-opens : (n : NextRow) (last : Option CycleRow) (reports : List Report) (found : List Found) (rows : FieldRows) → StandsNext n last reports found rows → Opens rows
 stands-opens next.Head last reports found rows s = subst Opens (sym s.3) opens-none
-stands-opens next.Run last reports found rows s = (count_fields 0 ∷ [], between-count (may_ack last) true true reports [] [] rows s.1)
-stands-opens next.Events last reports found rows s = (count_fields 0 ∷ [], between-count false false true reports s.0 [] rows s.2)
+stands-opens next.Run last reports found rows s = (count_fields 0 ∷ [], between-count s.1)
+stands-opens next.Events last reports found rows s = (count_fields 0 ∷ [], between-count s.2)
 stands-opens (next.Line k p) last reports found rows s =
     let e = event_of p in
     let block = length s.0 + 1 in
     ((decimal block ∷ get_or event_names k [] ∷ event_words block e.0 e.1 (get_or lines k Number) ∷ []) ∷ (drop (k + 1) (event_fields block e.0 e.1) ++ count_fields 0 ∷ []), inside-count k e reports s.0 rows s.2)
-stands-opens next.Damaged last reports found rows s = (count_fields 0 ∷ [], between-count false false false reports s.0 s.1 rows s.3)
+stands-opens next.Damaged last reports found rows s = (count_fields 0 ∷ [], between-count s.3)
 stands-opens (next.Nothing n) last reports found rows s = ([], subst AreReport (sym (append-nil rows)) (nothing-report reports found rows n s))
 
-between-none : (a c v : Bool) (reports : List Report) (rows : FieldRows) → ((more : FieldRows) → AreReport (rows ++ more) → 1 ≤ length more) → AreReport rows → ⊥
-between-none a c v reports rows h r = let z = h [] (subst AreReport (sym (append-nil rows)) r) in omega (arith, z)
+between-none : {a c v : Bool} {reports : List Report} {es : List (ℕ × Record)} {ds : List Found} {rows : FieldRows} → IsBetween a c v reports es ds rows → AreReport rows → ⊥
+between-none {rows = rows} h r = let z = some-rows (h.rest [] (subst AreReport (sym (append-nil rows)) r)) in omega (arith, z)
 
 stands-none : (n : NextRow) (last : Option CycleRow) (reports : List Report) (found : List Found) (rows : FieldRows) → StandsNext n last reports found rows → ((k : ℕ) → n ≡ next.Nothing k → ⊥) → AreReport rows → ⊥
 stands-none next.Head last reports found rows s other = λ r. none-is-none (subst AreReport s.3 r)
-stands-none next.Run last reports found rows s other = between-none false false false reports rows (λ more r. some-rows _ _ _ _ _ _ more ((s.1).rest more r))
-stands-none next.Events last reports found rows s other = between-none false false false reports rows (λ more r. some-rows _ _ _ _ _ _ more ((s.2).rest more r))
+stands-none next.Run last reports found rows s other = between-none s.1
+stands-none next.Events last reports found rows s other = between-none s.2
 stands-none (next.Line k p) last reports found rows s other = (s.3).0
-stands-none next.Damaged last reports found rows s other = between-none false false false reports rows (λ more r. some-rows _ _ _ _ _ _ more ((s.3).rest more r))
+stands-none next.Damaged last reports found rows s other = between-none s.3
 stands-none (next.Nothing n) last reports found rows s other = absurd (other n refl)
 
 -- ---- faults

@@ -18,7 +18,7 @@ use Rattle.edr_reading.specs.Told.{IsAck, IsDamaged, IsEvent, IsReport, banks_in
 use Rattle.edr_reading.specs.Reading.{AreDistinct}
 use Rattle.edr_reading.specs.Reader.{GoesOnIn, IsBetween, IsInside, IsRefused, IsToldReport, MayFollowLine, whole}
 use Rattle.edr_reading.specs.Rows.{FieldRows, event_fields, event_names}
-use Rattle.edr_reading.proofs.BetweenLemmas.{banks-more, All-last, goes-on, refuse-1, refuse-2, refuse-3, next-row, none}
+use Rattle.edr_reading.proofs.BetweenLemmas.{banks-more, All-last, refuse-1, refuse-2, refuse-3, next-row, none}
 use Rattle.edr_reading.proofs.WholeLemmas.{alone, distinct-more, decimal-same, told-report, whole-event}
 use Rattle.edr_reading.proofs.EventLemmas.{event-gone, event-long, line-place, lines, no-rows, row-at, rows-more}
 
@@ -80,7 +80,7 @@ pub line-name : (k : ℕ) (e : ℕ × Record) (reports : List Report) (es : List
 line-name k e reports es rows w v h other =
     let block = length es + 1 in
     refuse-2 rows (decimal block) w v
-    (goes-on rows (decimal block ∷ []) (get_or event_names k [] ∷ event_words block e.0 e.1 (get_or lines k Number) ∷ []) (drop (k + 1) (event_fields block e.0 e.1) ++ count_fields 0 ∷ []) (inside-count k e reports es rows h))
+    (get_or event_names k [] ∷ event_words block e.0 e.1 (get_or lines k Number) ∷ [], drop (k + 1) (event_fields block e.0 e.1) ++ count_fields 0 ∷ [], inside-count k e reports es rows h)
     (λ r. let l = line-row k block (map found_event es) e (decimal block ∷ w ∷ r.0) r.1 h.within (h.rest (decimal block ∷ w ∷ r.0) r.1 refl r.2) in
     other (ap (λ (x : List (List ℕ)). slice_index_or x 1 []) l.3))
 
@@ -88,9 +88,11 @@ pub line-value : (k : ℕ) (e : ℕ × Record) (reports : List Report) (es : Lis
     → ((f : ℕ × Record) → IsNextEvent (map found_event es) f → EventAgrees k e f → v ≡ event_words (length es + 1) f.0 f.1 (get_or lines k Number) → ⊥) → IsRefused rows (decimal (length es + 1) ∷ w ∷ v ∷ []) (refused.Field 3)
 line-value k e reports es rows w v h named other =
     let block = length es + 1 in
-    refuse-3 rows (decimal block) w v
-    (goes-on rows (decimal block ∷ w ∷ []) (event_words block e.0 e.1 (get_or lines k Number) ∷ []) (drop (k + 1) (event_fields block e.0 e.1) ++ count_fields 0 ∷ [])
-    (subst (λ (n : List ℕ). AreReport (rows ++ (decimal block ∷ n ∷ event_words block e.0 e.1 (get_or lines k Number) ∷ []) ∷ (drop (k + 1) (event_fields block e.0 e.1) ++ count_fields 0 ∷ []))) (sym named) (inside-count k e reports es rows h)))
+    refuse-3 rows (decimal block) w v (
+      event_words block e.0 e.1 (get_or lines k Number) ∷ [],
+      drop (k + 1) (event_fields block e.0 e.1) ++ count_fields 0 ∷ [],
+      subst (λ (n : List ℕ). AreReport (rows ++ (decimal block ∷ n ∷ event_words block e.0 e.1 (get_or lines k Number) ∷ []) ∷ (drop (k + 1) (event_fields block e.0 e.1) ++ count_fields 0 ∷ []))) (sym named) (inside-count k e reports es rows h),
+    )
     (λ r. let l = line-row k block (map found_event es) e (decimal block ∷ w ∷ v ∷ r.0) r.1 h.within (h.rest (decimal block ∷ w ∷ v ∷ r.0) r.1 refl r.2) in
     other l.0 l.1 l.2 (ap (λ (x : List (List ℕ)). slice_index_or x 2 []) l.3))
 
@@ -200,5 +202,5 @@ first-line a c reports es rows e h few bounds room = record {
   rest = λ r more b rep. ⊎_elim
       (λ l. absurd (let z = decimal-same 0 (length es + 1) (omega arith) few (sym (ap (λ (x : List (List ℕ)). slice_index_or x 0 []) l.3) ∙ b) in omega (arith, z)))
       (λ n. subst (λ (x : List Found). MayFollowLine 0 (length es + 1) (banks_in x) e (r ∷ more)) (append-nil (map found_event es)) (n.5 e))
-      (next-row a c true (length reports) (length es + 1) (banks_in (map found_event es ++ [])) r more (h.rest (r ∷ more) rep));
+      (next-row r more (h.rest (r ∷ more) rep));
 }

@@ -1,6 +1,6 @@
 -- What a reader has read, by its fields.
 use Rattle.std.proofs.Common.{arith, ◌≡◌, ◌≢◌, ◌∙◌, sym, ap, ap₂, subst, refl, ℕ, ◌+◌, ◌<◌, ◌≤◌, ◌^◌, ◌⊎◌, inl, inr, ⊎_elim, Bool, true, false, List, [], ◌∷◌, ◌++◌, map, length, append_assoc, length-append, decimal, get_or, eqb, Option, None, Some, Result, Ok, Err}
-use Rattle.std.specs.List.{IsDistinct, slice_index_or}
+use Rattle.std.specs.List.{IsDistinct, slice_index_or, All}
 use Rattle.std.specs.Result.{IfErr, OnOk}
 use Rattle.std.proofs.lemmas.Bool.{cases_lt}
 use Rattle.std.proofs.lemmas.List.{append-nil, length-map}
@@ -31,14 +31,14 @@ use Rattle.edr_reading.specs.declared.reader.NextRow.TheVariants as next
 use Rattle.edr_reading.specs.declared.reader.Reader.{Reader}
 use Rattle.edr_reading.specs.declared.reader.Refused.TheVariants as refused
 use Rattle.edr_reading.specs.Event.{EventAgrees, HasNoBank, IsNextEvent, event_of}
-use Rattle.edr_reading.specs.Faults.{ReportGoesOn}
-use Rattle.edr_reading.specs.Told.{IsCycleRow, IsEvent, IsToldName, banks_in, name_words, row_words}
-use Rattle.edr_reading.specs.Reader.{AddsLine, AtLine, HasReadRows, IsBetween, IsInside, IsOnlyName, IsRefused, IsToldReport, MayBegin, MayHaveEvent, MayTell, StandsNext, Takes, TakesLine, cycles_read, last_cycle, may_ack}
+use Rattle.edr_reading.specs.Faults.{ReportGoesOn, AreReport}
+use Rattle.edr_reading.specs.Told.{IsCycleRow, IsEvent, IsToldName, banks_in, name_words, row_words, IsReport, IsDamaged}
+use Rattle.edr_reading.specs.Reader.{AddsLine, AtLine, HasReadRows, IsBetween, IsInside, IsOnlyName, IsRefused, IsToldReport, MayBegin, MayHaveEvent, MayTell, StandsNext, Takes, TakesLine, cycles_read, last_cycle, may_ack, MayFollow, whole}
 use Rattle.edr_reading.specs.Reading.{AreDistinct, head_row}
 use Rattle.edr_reading.specs.Rows.{FieldRows, event_names}
-use Rattle.edr_reading.specs.Values.{IsApplied, IsBank, IsDamage, IsDamagedView, view_words}
-use Rattle.edr_reading.proofs.BetweenLemmas.{banks-more, found-last, only-next, All-front, ack-opens, at-end, ack-taken, between-block, count-opens, count-taken, cycle-opens, cycle-taken, damaged-opens, damaged-taken, refuse-1, refuse-2, refuse-3, report-short, start-between, told-next, ToldNext, next-row, some-rows}
-use Rattle.edr_reading.proofs.WholeLemmas.{alone, distinct-front}
+use Rattle.edr_reading.specs.Values.{IsApplied, IsBank, IsDamage, IsDamagedView, view_words, start_words}
+use Rattle.edr_reading.proofs.BetweenLemmas.{banks-last, banks-more, found-last, told-ack, whole-ack, row-more, run-told, started, started-is, opens, only-next, All-front, All-last, at-end, between-block, between-count, refuse-1, refuse-2, refuse-3, start-between, told-next, ToldNext, next-row, some-rows}
+use Rattle.edr_reading.proofs.WholeLemmas.{alone, distinct-front, report-told, whole-cycle, whole-damaged, distinct-more}
 use Rattle.edr_reading.proofs.LineLemmas.{AcceptsPlace, first-line, line-block, line-last, line-most, line-name, line-next, line-value}
 use Rattle.edr_reading.proofs.EventLemmas.{lines}
 
@@ -78,44 +78,15 @@ in-between r rows h b = by r.next refl h.stands b
     by next.Damaged e s b = at-all false false false s.0 s.1 s.2 s.3 (λ t. cc) (λ t. cc) (λ t. cc)
     by (next.Nothing n) e s b = absurd b
 
--- ---- refusals of rows of block 0
-
 -- what a row's name says may be told
-may-tell : (r : Reader) (rows : FieldRows) (m : InBetween r rows) (back : List (List ℕ)) (more : FieldRows) (value : List ℕ) (x : ToldName) → IsToldName x → r.rows ≡ length rows
-    → length rows + 1 + length more ≤ 4_294_967_294 → ToldNext m.acks m.cycles m.events (length (cycles_read r)) (length m.es + 1) (banks_in (map found_event m.es ++ m.ds)) value more x → MayTell r x
-may-tell r rows m back more value name.Cycle ok count short t =
-    let s = some-rows _ _ _ _ _ _ more t.4 in
-    (omega (arith, count, short, s), m.has_cycles t.0)
-may-tell r rows m back more value (name.Ack k tick) ok count short t =
-    let s = some-rows _ _ _ _ _ _ more t.4 in
-    let o = m.has_acks t.0 in
-    (omega (arith, count, short, s), o.0, o.1)
-may-tell r rows m back more value (name.Bank b) ok count short t =
-    let s = some-rows _ _ _ _ _ _ more t.5 in
+may-tell : {r : Reader} {rows : FieldRows} (m : InBetween r rows) (more : FieldRows) (value : List ℕ) (x : ToldName) → r.rows ≡ length rows → length rows + 1 + length more ≤ 4_294_967_294
+    → ToldNext m.acks m.cycles m.events (length (cycles_read r)) (length m.es + 1) (banks_in (map found_event m.es ++ m.ds)) value more x → MayTell r x
+may-tell m more value name.Cycle count short t = let s = some-rows t.4 in (omega (arith, count, short, s), m.has_cycles t.0)
+may-tell m more value (name.Ack k tick) count short t = let s = some-rows t.4 in let o = m.has_acks t.0 in (omega (arith, count, short, s), o.0, o.1)
+may-tell m more value (name.Bank b) count short t =
+    let s = some-rows t.5 in
     (omega (arith, count, short, s), subst (λ (x : List Found). HasNoBank x b) (sym m.found) (alone (map found_event m.es ++ m.ds) b t.3 t.4))
-may-tell r rows m back more value name.Count ok count short t = tt
-
--- a name that may not be told is refused
-pub name-refused : (r : Reader) (rows : FieldRows) (w value : List ℕ) → HasReadRows r rows → MayBegin r.next → ((x : ToldName) → IsToldName x → w ≡ name_words (length (cycles_read r)) x → MayTell r x → ⊥) → IsRefused rows (decimal 0 ∷ w ∷ value ∷ []) (refused.Field 2)
-name-refused r rows w value h b never =
-    let m = in-between r rows h b in
-    refuse-2 rows (decimal 0) w value (between-block m.acks m.cycles m.events (cycles_read r) m.es m.ds rows m.at)
-    (λ g. let row = decimal 0 ∷ w ∷ g.0 in
-    let n = told-next m.acks m.cycles m.events (length (cycles_read r)) (length m.es + 1) (banks_in (map found_event m.es ++ m.ds)) w g.0 g.1 (omega arith) m.few (m.at.rest (row ∷ g.1) g.2) in
-    let l = length-append rows (row ∷ g.1) in
-    let s = report-short (rows ++ row ∷ g.1) g.2 in
-    never n.0 n.1 n.3 (may-tell r rows m g.0 g.1 n.2 n.0 n.1 h.count (omega (arith, l, s)) n.5))
-
--- a value that none of that name has is refused
-pub value-refused : (r : Reader) (rows : FieldRows) (w value : List ℕ) (x : ToldName) → HasReadRows r rows → IsOnlyName r w x → ReportGoesOn rows (decimal 0 ∷ w ∷ [])
-    → ((a c v : Bool) (i block : ℕ) (banks : List ℕ) (more : FieldRows) → ToldNext a c v i block banks value more x → ⊥) → IsRefused rows (decimal 0 ∷ w ∷ value ∷ []) (refused.Field 3)
-value-refused r rows w value x h o g never =
-    let m = in-between r rows h o.begins in
-    refuse-3 rows (decimal 0) w value g
-    (λ q. let row = decimal 0 ∷ w ∷ value ∷ q.0 in
-    let banks = banks_in (map found_event m.es ++ m.ds) in
-    never m.acks m.cycles m.events (length (cycles_read r)) (length m.es + 1) banks q.1
-    (only-next m.acks m.cycles m.events (length (cycles_read r)) (length m.es + 1) banks w value q.0 q.1 x (omega arith) m.few o.only (m.at.rest (row ∷ q.1) q.2)))
+may-tell m more value name.Count count short t = tt
 
 -- some record
 plain : Record
@@ -125,166 +96,194 @@ plain = record {
   crash = None;
 }
 
--- a row of another block than 0 and the next is refused
-pub block-refused : (r : Reader) (rows : FieldRows) (b w value : List ℕ) → HasReadRows r rows → MayBegin r.next → b ≢ decimal 0 → ((m : InBetween r rows) → MayHaveEvent r → (bank : ℕ) → IsBank bank → HasNoBank r.found.items bank → b ≡ decimal (length r.found.items + 1) → ⊥)
-    → IsRefused rows (b ∷ w ∷ value ∷ []) (refused.Field 1)
-block-refused r rows b w value h begins other never =
-    let m = in-between r rows h begins in
-    refuse-1 rows b w value
-    (λ g. let row = b ∷ g.0 in
-    ⊎_elim
-    (λ l. other (ap (λ (x : List (List ℕ)). slice_index_or x 0 []) l.3))
-    (λ n. let has = m.has_events n.0 in
-    let line = n.5 (n.2, plain) in
-    let l = length-append rows (row ∷ g.1) in
-    let s = report-short (rows ++ row ∷ g.1) g.2 in
-    let most = line-most 0 (length m.es + 1) (banks_in (map found_event m.es ++ m.ds)) (n.2, plain) (row ∷ g.1) line in
-    let bounds = line.event_bounds in
-    let none-here = alone (map found_event m.es ++ m.ds) line.event.0 (map (λ e. e.0) line.events ++ banks_in line.damaged) line.distinct in
-    let long : length r.found.items ≡ length m.es = ap length (m.found ∙ ap (λ (x : List Found). map found_event m.es ++ x) has.0 ∙ append-nil (map found_event m.es)) ∙ length-map m.es found_event in
-    never m (has.1, omega (arith, h.count, l, s, most)) line.event.0 bounds.0 (subst (λ (x : List Found). HasNoBank x line.event.0) (sym m.found) none-here) (n.1 ∙ ap (λ (k : ℕ). decimal (k + 1)) (sym long)))
-    (next-row m.acks m.cycles m.events (length (cycles_read r)) (length m.es + 1) (banks_in (map found_event m.es ++ m.ds)) row g.1 (m.at.rest (row ∷ g.1) g.2)))
+module _ (r : Reader) (rows : FieldRows) (w value : List ℕ) (h : HasReadRows r rows) (begins : MayBegin r.next) where
+  -- a name that may not be told is refused
+  pub name-refused : ((x : ToldName) → IsToldName x → w ≡ name_words (length (cycles_read r)) x → MayTell r x → ⊥) → IsRefused rows (decimal 0 ∷ w ∷ value ∷ []) (refused.Field 2)
+  name-refused never =
+      let m = in-between r rows h begins in
+      refuse-2 rows (decimal 0) w value (between-block m.at)
+      (λ g. let n = told-next m.at m.few w g.0 g.1 g.2 in
+      let l = length-append rows ((decimal 0 ∷ w ∷ g.0) ∷ g.1) in
+      never n.0 n.1 n.3 (may-tell m g.1 n.2 n.0 h.count (omega (arith, l, (report-told _ g.2).6)) n.5))
 
--- ---- rows of block 0 that are taken
+  -- a row of another block than 0 and the next is refused
+  pub block-refused : (b : List ℕ) → b ≢ decimal 0 → (MayHaveEvent r → (bank : ℕ) → IsBank bank → HasNoBank r.found.items bank → b ≡ decimal (length r.found.items + 1) → ⊥) → IsRefused rows (b ∷ w ∷ value ∷ []) (refused.Field 1)
+  block-refused b other never =
+      let m = in-between r rows h begins in
+      refuse-1 rows b w value
+      (λ g. let row = b ∷ g.0 in
+      ⊎_elim
+      (λ l. other (ap (λ (x : List (List ℕ)). slice_index_or x 0 []) l.3))
+      (λ n. let has = m.has_events n.0 in
+      let line = n.5 (n.2, plain) in
+      let l = length-append rows (row ∷ g.1) in
+      let most = line-most 0 (length m.es + 1) (banks_in (map found_event m.es ++ m.ds)) (n.2, plain) (row ∷ g.1) line in
+      let none-here = alone (map found_event m.es ++ m.ds) line.event.0 (map (λ e. e.0) line.events ++ banks_in line.damaged) line.distinct in
+      let long : length r.found.items ≡ length m.es = ap length (m.found ∙ ap (λ (x : List Found). map found_event m.es ++ x) has.0 ∙ append-nil (map found_event m.es)) ∙ length-map m.es found_event in
+      never (has.1, omega (arith, h.count, l, (report-told _ g.2).6, most)) line.event.0 line.event_bounds.0 (subst (λ (x : List Found). HasNoBank x line.event.0) (sym m.found) none-here) (n.1 ∙ ap (λ (k : ℕ). decimal (k + 1)) (sym long)))
+      (next-row row g.1 (m.at.rest (row ∷ g.1) g.2)))
 
-count-more : (rows : FieldRows) (row : List (List ℕ)) → length (rows ++ row ∷ []) ≡ length rows + 1
-count-more rows row = length-append rows (row ∷ [])
+-- ---- rows that are taken
 
 -- a reader has read one row more
-read-on : (r s : Reader) (rows : FieldRows) (row : List (List ℕ)) → HasReadRows r rows → s.rows ≡ r.rows + 1
+read-on : {r s : Reader} {rows : FieldRows} (row : List (List ℕ)) → HasReadRows r rows → s.rows ≡ r.rows + 1
     → length (cycles_read s) + length s.found.items ≤ length (cycles_read r) + length r.found.items + 1 → length s.acks.items ≤ length r.acks.items + 1 → length rows + 1 ≤ 4_294_967_294 → (s.last ≡ None → s.run.items ≡ [])
     → StandsNext s.next s.last (cycles_read s) s.found.items (rows ++ row ∷ []) → HasReadRows s (rows ++ row ∷ [])
-read-on r s rows row h one more more_acks short first stands =
-    let long = count-more rows row in
-    record { count = omega (arith, h.count, h.few, h.few_acks, long); few = omega (arith, h.count, h.few, h.few_acks, long); few_acks = omega (arith, h.count, h.few, h.few_acks, long); short = omega (arith, h.count, h.few, h.few_acks, long); first = first; stands = stands }
+read-on {rows = rows} row h one more more_acks short first stands =
+    let long = length-append rows (row ∷ []) in
+    record { count = omega (arith, h.count, long); few = omega (arith, h.few, long); few_acks = omega (arith, h.few_acks, long); short = omega (arith, long); first = first; stands = stands }
 
 cycles-same : (r s : Reader) → s.run.items ≡ r.run.items → s.last ≡ r.last → s.acks.items ≡ r.acks.items → cycles_read s ≡ cycles_read r
 cycles-same r s a b c = ap₂ (λ (x y : List Report). x ++ y) (ap (map report_of) a) (ap₂ last_cycle b c)
 
--- ---- the row that names the columns
+at-head : {r : Reader} {rows : FieldRows} → HasReadRows r rows → r.next ≡ next.Head → (r.last ≡ None) × (cycles_read r ≡ []) × (r.found.items ≡ []) × (rows ≡ [])
+at-head {r} {rows} h e = subst (λ (n : NextRow). StandsNext n r.last (cycles_read r) r.found.items rows) e h.stands
 
-at-head : (r : Reader) (rows : FieldRows) → HasReadRows r rows → r.next ≡ next.Head → (r.last ≡ None) × (cycles_read r ≡ []) × (r.found.items ≡ []) × (rows ≡ [])
-at-head r rows h e = subst (λ (n : NextRow). StandsNext n r.last (cycles_read r) r.found.items rows) e h.stands
+in-run : {r : Reader} {rows : FieldRows} → HasReadRows r rows → r.next ≡ next.Run → (r.found.items ≡ []) × IsBetween (may_ack r.last) true true (cycles_read r) [] [] rows
+in-run {r} {rows} h e = subst (λ (n : NextRow). StandsNext n r.last (cycles_read r) r.found.items rows) e h.stands
 
-pub head-read : (r s : Reader) (rows : FieldRows) (row : List (List ℕ)) → HasReadRows r rows → r.next ≡ next.Head → row ≡ head_row
-    → s.rows ≡ r.rows + 1 → s.run.items ≡ r.run.items → s.last ≡ r.last → s.acks.items ≡ r.acks.items → s.found.items ≡ r.found.items → s.next ≡ next.Run → HasReadRows s (rows ++ row ∷ [])
-head-read r s rows row h e is one run last acks found after =
-    let t = at-head r rows h e in
-    let cycles = cycles-same r s run last acks in
-    read-on r s rows row h one (omega (arith, ap length cycles, ap length found)) (omega (arith, ap length acks)) (omega (arith, ap length t.3)) (λ z. run ∙ h.first (sym last ∙ z))
-    (stands-as s.next next.Run s.last None (cycles_read s) [] s.found.items [] _ after (last ∙ t.0) (cycles ∙ t.1) (found ∙ t.2)
-    (refl, subst (IsBetween false true true [] [] []) (sym (ap₂ (λ (x : FieldRows) (y : List (List ℕ)). x ++ y ∷ []) t.3 is)) start-between))
+pub head-read : (r : Reader) (rows : FieldRows) (row : List (List ℕ)) → HasReadRows r rows → r.next ≡ next.Head → row ≡ head_row → HasReadRows (record r { next = next.Run; rows = r.rows + 1 }) (rows ++ row ∷ [])
+head-read r rows row h e is =
+    let t = at-head h e in
+    read-on row h refl (omega arith) (omega arith) (omega (arith, ap length t.3)) h.first
+    (stands-as next.Run next.Run r.last None (cycles_read r) [] r.found.items [] _ refl t.0 t.1 t.2 (refl, subst (IsBetween false true true [] [] []) (sym (ap₂ (λ (x : FieldRows) (y : List (List ℕ)). x ++ y ∷ []) t.3 is)) start-between))
 
 pub head-refused : (r : Reader) (rows : FieldRows) (b w v : List ℕ) (f : ℕ) → HasReadRows r rows → r.next ≡ next.Head → IsRefused [] (b ∷ w ∷ v ∷ []) (refused.Field f) → IsRefused rows (b ∷ w ∷ v ∷ []) (refused.Field f)
-head-refused r rows b w v f h e is = subst (λ (x : FieldRows). IsRefused x (b ∷ w ∷ v ∷ []) (refused.Field f)) (sym (at-head r rows h e).3) is
+head-refused r rows b w v f h e is = subst (λ (x : FieldRows). IsRefused x (b ∷ w ∷ v ∷ []) (refused.Field f)) (sym (at-head h e).3) is
 
--- ---- rows of block 0 that are taken, or have a value that none has
+module _ (r : Reader) (rows : FieldRows) (w value : List ℕ) (h : HasReadRows r rows) where
+  -- where a reader stands after the first row of a cycle
+  cycle-stands : (first : CycleRow) → IsOnlyName r w name.Cycle → IsCycleRow first → value ≡ row_words first → ((d : CycleRow) → IsCycleRow d → value ≡ row_words d → may_ack (Some first) ≡ may_ack (Some d))
+      → IsBetween (may_ack (Some first)) true true (cycles_read r ++ started first ∷ []) [] [] (rows ++ (decimal 0 ∷ w ∷ value ∷ []) ∷ [])
+  cycle-stands first o ok shows same =
+      let b = (in-run h o.may.1).1 in
+      let reports = cycles_read r in
+      let f = started-is (length reports + 1) first ok in
+      let long = length-append rows ((decimal 0 ∷ w ∷ value ∷ []) ∷ []) in
+      record {
+        told = run-told (reports ++ started first ∷ []) (All-last IsReport reports (started first) b.told.run f.2);
+        are = row-more b.are o.words shows ∙ sym (whole-cycle reports (started first) ∙ ap (λ (x : FieldRows). whole reports [] [] ++ x) f.1);
+        short = omega (arith, h.count, o.may.0, long);
+        rest = λ more a.
+            let n = only-next b (omega arith) w value o.only [] more (subst AreReport (append_assoc rows _ more) a) in
+            let m : MayFollow (may_ack (Some first)) true true (length reports + 1) 1 [] more = subst (λ (q : Bool). MayFollow q true true (length reports + 1) 1 [] more) (sym (same n.1 n.2 n.3)) n.4 in
+            subst (λ (j : ℕ). MayFollow (may_ack (Some first)) true true j 1 [] more) (sym (length-append reports (started first ∷ []))) m;
+      }
 
-pub count-read : (r s : Reader) (rows : FieldRows) (w value : List ℕ) (n : ℕ) → HasReadRows r rows → IsOnlyName r w name.Count → value ≡ shown_count n
-    → s.rows ≡ r.rows + 1 → s.run.items ≡ r.run.items → s.last ≡ r.last → s.acks.items ≡ r.acks.items → s.found.items ≡ r.found.items → s.next ≡ next.Nothing n → HasReadRows s (rows ++ (decimal 0 ∷ w ∷ value ∷ []) ∷ [])
-count-read r s rows w value n h o shows one run last acks found after =
-    let m = in-between r rows h o.begins in
-    let long = count-more rows (decimal 0 ∷ w ∷ value ∷ []) in
-    let cycles = cycles-same r s run last acks in
-    let t = count-taken m.acks m.cycles m.events (cycles_read r) m.es m.ds rows w value n m.at m.few o.words o.only shows in
-    read-on r s rows _ h one (omega (arith, ap length cycles, ap length found)) (omega (arith, ap length acks)) m.at.short (λ e. run ∙ h.first (sym last ∙ e))
-    (stands-as s.next (next.Nothing n) s.last s.last (cycles_read s) (cycles_read r) s.found.items r.found.items _ after refl cycles found (m.es, m.ds, m.found, m.at.told, t.0, omega (arith, m.at.short, long), t.1))
+  -- after a command that it acknowledged
+  ack-stands : (kind : Kind) (tick : ℕ) (applied : Applied) → IsOnlyName r w (name.Ack kind tick) → IsApplied kind applied → value ≡ applied_words applied
+      → IsBetween (may_ack r.last) true true (map report_of r.run.items ++ last_cycle r.last (r.acks.items ++ record { tick = tick; kind = kind; applied = applied } ∷ [])) [] [] (rows ++ (decimal 0 ∷ w ∷ value ∷ []) ∷ [])
+  ack-stands kind tick applied o ok shows = by r.last refl o.may.2
+    where
+      k : Ack
+      k = record { tick = tick; kind = kind; applied = applied }
 
-pub count-not-read : (r : Reader) (rows : FieldRows) (w value : List ℕ) → HasReadRows r rows → IsOnlyName r w name.Count → ((n : ℕ) → value ≡ shown_count n → ⊥) → IsRefused rows (decimal 0 ∷ w ∷ value ∷ []) (refused.Field 3)
-count-not-read r rows w value h o never =
-    let m = in-between r rows h o.begins in
-    value-refused r rows w value name.Count h o (count-opens m.acks m.cycles m.events (cycles_read r) m.es m.ds rows w m.at o.words) (λ a c v i block banks more t. never t.0 t.1)
+      done : List Report
+      done = map report_of r.run.items
 
-pub damaged-read : (r s : Reader) (rows : FieldRows) (w value : List ℕ) (bank : ℕ) (view : BankView) → HasReadRows r rows → IsOnlyName r w (name.Bank bank) → IsDamagedView view → value ≡ view_words view
-    → s.rows ≡ r.rows + 1 → s.run.items ≡ r.run.items → s.last ≡ r.last → s.acks.items ≡ r.acks.items → s.found.items ≡ r.found.items ++ record { bank = bank; view = view } ∷ [] → s.next ≡ next.Damaged
-    → HasReadRows s (rows ++ (decimal 0 ∷ w ∷ value ∷ []) ∷ [])
-damaged-read r s rows w value bank view h o ok shows one run last acks found after =
-    let m = in-between r rows h o.begins in
-    let d : Found = record { bank = bank; view = view } in
-    let cycles = cycles-same r s run last acks in
-    let free = subst (λ (x : List Found). HasNoBank x bank) m.found o.may.1 in
-    let room : length rows + 2 ≤ 4_294_967_294 = omega (arith, h.count, o.may.0) in
-    let t = damaged-taken m.acks m.cycles m.events (cycles_read r) m.es m.ds rows w bank m.at m.few room o.bounds free o.words value view ok o.only shows in
-    let found-long = length-append r.found.items (d ∷ []) in
-    read-on r s rows _ h one (omega (arith, ap length cycles, ap length found, found-long)) (omega (arith, ap length acks)) m.at.short (λ e. run ∙ h.first (sym last ∙ e))
-    (stands-as s.next next.Damaged s.last s.last (cycles_read s) (cycles_read r) s.found.items (r.found.items ++ d ∷ []) _ after refl cycles found
-    (m.es, m.ds ++ d ∷ [], ap (λ (x : List Found). x ++ d ∷ []) m.found ∙ append_assoc (map found_event m.es) m.ds (d ∷ []), t))
+      by : (l : Option CycleRow) → r.last ≡ l → may_ack l ≡ true → IsBetween (may_ack r.last) true true (done ++ last_cycle r.last (r.acks.items ++ k ∷ [])) [] [] (rows ++ (decimal 0 ∷ w ∷ value ∷ []) ∷ [])
+      by None is m = cc
+      by (Some (row.StartStopped j)) is m = cc
+      by (Some (row.Ran n s)) is m =
+          let b = (in-run h o.may.1).1 in
+          let acks = r.acks.items in
+          let old : cycles_read r ≡ done ++ Ran n s acks ∷ [] = ap (λ (x : Option CycleRow). done ++ last_cycle x acks) is in
+          let now : done ++ last_cycle r.last (acks ++ k ∷ []) ≡ done ++ Ran n s (acks ++ k ∷ []) ∷ [] = ap (λ (x : Option CycleRow). done ++ last_cycle x (acks ++ k ∷ [])) is in
+          let count : length (cycles_read r) ≡ length done + 1 = ap length old ∙ length-append done (Ran n s acks ∷ []) in
+          let words : w ≡ name_words (length done + 1) (name.Ack kind tick) = o.words ∙ ap (λ (j : ℕ). name_words j (name.Ack kind tick)) count in
+          let long = length-append rows ((decimal 0 ∷ w ∷ value ∷ []) ∷ []) in
+          subst (λ (x : List Report). IsBetween (may_ack r.last) true true x [] [] (rows ++ (decimal 0 ∷ w ∷ value ∷ []) ∷ [])) (sym now) (record {
+            told = told-ack done n s acks k (subst (All IsReport) old b.told.run) (o.bounds, ok);
+            are = row-more (b.are ∙ ap (λ (x : List Report). whole x [] []) old) words shows ∙ sym (whole-ack done n s acks k);
+            short = omega (arith, h.count, o.may.0, long);
+            rest = λ more a.
+                let m = only-next b (omega arith) w value o.only [] more (subst AreReport (append_assoc rows _ more) a) in
+                subst (λ (j : ℕ). MayFollow (may_ack r.last) true true j 1 [] more) (count ∙ sym (length-append done (Ran n s (acks ++ k ∷ []) ∷ []))) m.4;
+          })
 
-pub damaged-not-read : (r : Reader) (rows : FieldRows) (w value : List ℕ) (bank : ℕ) → HasReadRows r rows → IsOnlyName r w (name.Bank bank) → ((view : BankView) → IsDamagedView view → value ≡ view_words view → ⊥) → IsRefused rows (decimal 0 ∷ w ∷ value ∷ []) (refused.Field 3)
-damaged-not-read r rows w value bank h o never =
-    let m = in-between r rows h o.begins in
-    let free = subst (λ (x : List Found). HasNoBank x bank) m.found o.may.1 in
-    let room : length rows + 2 ≤ 4_294_967_294 = omega (arith, h.count, o.may.0) in
-    value-refused r rows w value (name.Bank bank) h o (damaged-opens m.acks m.cycles m.events (cycles_read r) m.es m.ds rows w bank m.at m.few room o.bounds free o.words (view.Damaged 0 0 false) (omega arith, omega arith))
-    (λ a c v i block banks more t. never t.0 t.1 t.2)
+  -- and after a damaged bank
+  damaged-stands : (bank : ℕ) (view : BankView) → IsOnlyName r w (name.Bank bank) → IsDamagedView view → value ≡ view_words view
+      → StandsNext next.Damaged r.last (cycles_read r) (r.found.items ++ record { bank = bank; view = view } ∷ []) (rows ++ (decimal 0 ∷ w ∷ value ∷ []) ∷ [])
+  damaged-stands bank view o ok shows =
+      let m = in-between r rows h o.begins in
+      let d : Found = record { bank = bank; view = view } in
+      let found = map found_event m.es ++ m.ds in
+      let parts = append_assoc (map found_event m.es) m.ds (d ∷ []) in
+      let free = subst (λ (x : List Found). HasNoBank x bank) m.found o.may.1 in
+      let long = length-append rows ((decimal 0 ∷ w ∷ value ∷ []) ∷ []) in (
+        m.es,
+        m.ds ++ d ∷ [],
+        ap (λ (x : List Found). x ++ d ∷ []) m.found ∙ parts,
+        record {
+          told = record {
+            run = m.at.told.run;
+            events = m.at.told.events;
+            damaged = All-last IsDamaged m.ds d m.at.told.damaged (o.bounds, ok);
+            distinct = subst AreDistinct parts (subst (IsDistinct eqb) (sym (banks-last found d)) (distinct-more found bank m.at.told.distinct free));
+          };
+          are = row-more m.at.are o.words shows ∙ sym (whole-damaged (cycles_read r) m.es m.ds d);
+          short = omega (arith, h.count, o.may.0, long);
+          rest = λ more a.
+              let n = only-next m.at m.few w value o.only [] more (subst AreReport (append_assoc rows _ more) a) in
+              subst (λ (x : List ℕ). MayFollow false false false (length (cycles_read r)) (length m.es + 1) x more) (sym (banks-last found d) ∙ ap banks_in parts) n.5;
+        },
+      )
 
-in-run : (r : Reader) (rows : FieldRows) → HasReadRows r rows → r.next ≡ next.Run → (r.found.items ≡ []) × IsBetween (may_ack r.last) true true (cycles_read r) [] [] rows
-in-run r rows h e = subst (λ (n : NextRow). StandsNext n r.last (cycles_read r) r.found.items rows) e h.stands
+  pub count-read : (n : ℕ) → IsOnlyName r w name.Count → value ≡ shown_count n → HasReadRows (record r { next = next.Nothing n; rows = r.rows + 1 }) (rows ++ (decimal 0 ∷ w ∷ value ∷ []) ∷ [])
+  count-read n o shows =
+      let m = in-between r rows h o.begins in
+      let long = length-append rows ((decimal 0 ∷ w ∷ value ∷ []) ∷ []) in
+      read-on _ h refl (omega arith) (omega arith) m.at.short h.first
+      (m.es, m.ds, m.found, m.at.told, row-more m.at.are o.words shows, omega (arith, m.at.short, long), (λ more a. (only-next m.at m.few w value o.only [] more (subst AreReport (append_assoc rows _ more) a)).2))
 
-pub cycle-read : (r s : Reader) (rows : FieldRows) (w value : List ℕ) (first : CycleRow) → HasReadRows r rows → IsOnlyName r w name.Cycle → IsCycleRow first → value ≡ row_words first → ((d : CycleRow) → IsCycleRow d → value ≡ row_words d → first ≡ d)
-    → s.rows ≡ r.rows + 1 → map report_of s.run.items ≡ cycles_read r → s.last ≡ Some first → s.acks.items ≡ [] → s.found.items ≡ r.found.items → s.next ≡ r.next → HasReadRows s (rows ++ (decimal 0 ∷ w ∷ value ∷ []) ∷ [])
-cycle-read r s rows w value first h o ok shows one-first one run last acks found after =
-    let b = in-run r rows h o.may.1 in
-    let cycles : cycles_read s ≡ cycles_read r ++ last_cycle (Some first) [] = ap₂ (λ (x y : List Report). x ++ y) run (ap₂ last_cycle last acks) in
-    let room : length rows + 2 ≤ 4_294_967_294 = omega (arith, h.count, o.may.0) in
-    let t = cycle-taken (may_ack r.last) (cycles_read r) rows w value first b.1 room ok o.words o.only shows one-first in
-    let cycles-long = length-append (cycles_read r) (last_cycle (Some first) []) in
-    let one-long : length (last_cycle (Some first) []) ≡ 1 = one-cycle first in
-    read-on r s rows _ h one (omega (arith, ap length cycles, ap length found, cycles-long, one-long)) (omega (arith, ap length acks)) (omega (arith, room)) (λ e. absurd (let f : Some first ≡ None = sym last ∙ e in cc))
-    (stands-as s.next next.Run s.last (Some first) (cycles_read s) (cycles_read r ++ last_cycle (Some first) []) s.found.items [] _ (after ∙ o.may.1) last cycles (found ∙ b.0) (refl, t))
+  pub damaged-read : (bank : ℕ) (view : BankView) (e : Reader) → IsOnlyName r w (name.Bank bank) → IsDamagedView view → value ≡ view_words view → e.found.items ≡ r.found.items ++ record { bank = bank; view = view } ∷ []
+      → HasReadRows (record r { found = e.found; next = next.Damaged; rows = r.rows + 1 }) (rows ++ (decimal 0 ∷ w ∷ value ∷ []) ∷ [])
+  damaged-read bank view e o ok shows is =
+      let long = length-append r.found.items (record { bank = bank; view = view } ∷ []) in
+      read-on _ h refl (omega (arith, ap length is, long)) (omega arith) (omega (arith, h.count, o.may.0)) h.first (rw is (damaged-stands bank view o ok shows))
+
+  pub cycle-read : (first : CycleRow) (e : Reader) → IsOnlyName r w name.Cycle → IsCycleRow first → value ≡ row_words first → ((d : CycleRow) → IsCycleRow d → value ≡ row_words d → Some first ≡ Some d)
+      → map report_of e.run.items ≡ cycles_read r → e.acks.items ≡ [] → e.found.items ≡ r.found.items → (e.next ≡ r.next) × (e.rows ≡ r.rows) → HasReadRows (record e { last = Some first; rows = e.rows + 1 }) (rows ++ (decimal 0 ∷ w ∷ value ∷ []) ∷ [])
+  cycle-read first e o ok shows one run acks found next-is =
+      let cycles : map report_of e.run.items ++ last_cycle (Some first) e.acks.items ≡ cycles_read r ++ started first ∷ [] = ap₂ (λ (x y : List Report). x ++ y) run (ap (last_cycle (Some first)) acks ∙ (started-is 0 first ok).0) in
+      let long = length-append (cycles_read r) (started first ∷ []) in
+      let stands = cycle-stands first o ok shows (λ d k s. ap may_ack (one d k s)) in
+      read-on _ h (ap (λ (n : ℕ). n + 1) next-is.1) (omega (arith, ap length cycles, ap length found, long)) (omega (arith, ap length acks)) (omega (arith, h.count, o.may.0)) (λ z. cc)
+      (stands-as e.next next.Run (Some first) (Some first) _ _ e.found.items [] _ (next-is.0 ∙ o.may.1) refl cycles (found ∙ (in-run h o.may.1).0) (refl, stands))
+
+  pub ack-read : (kind : Kind) (tick : ℕ) (applied : Applied) (e : Reader) → IsOnlyName r w (name.Ack kind tick) → IsApplied kind applied → value ≡ applied_words applied → e.acks.items ≡ r.acks.items ++ record { tick = tick; kind = kind; applied = applied } ∷ []
+      → HasReadRows (record r { acks = e.acks; rows = r.rows + 1 }) (rows ++ (decimal 0 ∷ w ∷ value ∷ []) ∷ [])
+  ack-read kind tick applied e o ok shows is =
+      let long = length-append r.acks.items (record { tick = tick; kind = kind; applied = applied } ∷ []) in
+      let more : length (last_cycle r.last e.acks.items) ≤ length (last_cycle r.last r.acks.items) + 1 = one-more r.last in
+      let e1 = length-append (map report_of r.run.items) (last_cycle r.last e.acks.items) in
+      let e2 = length-append (map report_of r.run.items) (last_cycle r.last r.acks.items) in
+      read-on _ h refl (omega (arith, more, e1, e2)) (omega (arith, ap length is, long)) (omega (arith, h.count, o.may.0)) h.first
+      (stands-as r.next next.Run r.last r.last _ _ r.found.items [] _ o.may.1 refl (ap (λ (x : List Ack). map report_of r.run.items ++ last_cycle r.last x) is) (in-run h o.may.1).0 (refl, ack-stands kind tick applied o ok shows))
+    where
+      one-more : (l : Option CycleRow) → length (last_cycle l e.acks.items) ≤ length (last_cycle l r.acks.items) + 1
+      one-more None = omega arith
+      one-more (Some (row.StartStopped j)) = omega arith
+      one-more (Some (row.Ran n s)) = omega arith
+
+-- where a row with a name may stand, a report goes on with the name
+named-opens : (r : Reader) (rows : FieldRows) (w : List ℕ) (x : ToldName) → HasReadRows r rows → IsOnlyName r w x → ReportGoesOn rows (decimal 0 ∷ w ∷ [])
+named-opens r rows w name.Cycle h o = opens (cycle-stands r rows w (start_words 1) h (row.StartStopped 1) o (omega arith, omega arith) refl same) rows w (start_words 1) refl
   where
-    one-cycle : (c : CycleRow) → length (last_cycle (Some c) []) ≡ 1
-    one-cycle (row.StartStopped j) = refl
-    one-cycle (row.Ran n s) = refl
+    same : (d : CycleRow) → IsCycleRow d → start_words 1 ≡ row_words d → false ≡ may_ack (Some d)
+    same (row.StartStopped j) k e = refl
+    same (row.Ran n s) k e = absurd (let z : 115 ≡ 110 = ap (λ (l : List ℕ). slice_index_or l 0 0) e in omega (arith, z))
+named-opens r rows w (name.Ack kind tick) h o = opens (ack-stands r rows w (applied_words NotKept) h kind tick NotKept o (inl refl) refl) rows w (applied_words NotKept) refl
+named-opens r rows w (name.Bank bank) h o =
+    let v = view.Damaged 0 0 false in
+    opens (damaged-stands r rows w (view_words v) h bank v o (omega arith, omega arith) refl).3 rows w (view_words v) refl
+named-opens r rows w name.Count h o = (shown_count 0 ∷ [], [], subst (λ (x : List ℕ). AreReport (rows ++ (decimal 0 ∷ x ∷ shown_count 0 ∷ []) ∷ [])) (sym o.words) (between-count (in-between r rows h o.begins).at))
 
-pub cycle-not-read : (r : Reader) (rows : FieldRows) (w value : List ℕ) → HasReadRows r rows → IsOnlyName r w name.Cycle → ((d : CycleRow) → IsCycleRow d → value ≡ row_words d → ⊥) → IsRefused rows (decimal 0 ∷ w ∷ value ∷ []) (refused.Field 3)
-cycle-not-read r rows w value h o never =
-    let b = in-run r rows h o.may.1 in
-    let room : length rows + 2 ≤ 4_294_967_294 = omega (arith, h.count, o.may.0) in
-    value-refused r rows w value name.Cycle h o (cycle-opens (may_ack r.last) true true (cycles_read r) rows w b.1 room o.words) (λ a c v i block banks more t. never t.1 t.2 t.3)
-
-ran : (r : Reader) → may_ack r.last ≡ true → (n : ℕ) × (s : Option ℕ) × (r.last ≡ Some (row.Ran n s))
-ran r e = by r.last refl e
-  where
-    by : (l : Option CycleRow) → r.last ≡ l → may_ack l ≡ true → (n : ℕ) × (s : Option ℕ) × (r.last ≡ Some (row.Ran n s))
-    by None is m = cc
-    by (Some (row.StartStopped j)) is m = cc
-    by (Some (row.Ran n s)) is m = (n, s, is)
-
-in-cycle : (r : Reader) (rows : FieldRows) → HasReadRows r rows → r.next ≡ next.Run → may_ack r.last ≡ true → (n : ℕ) × (s : Option ℕ) × (r.last ≡ Some (row.Ran n s)) × (cycles_read r ≡ map report_of r.run.items ++ Ran n s r.acks.items ∷ [])
-    × (r.found.items ≡ []) × IsBetween true true true (map report_of r.run.items ++ Ran n s r.acks.items ∷ []) [] [] rows
-in-cycle r rows h e open-one =
-    let b = in-run r rows h e in
-    let l = ran r open-one in
-    let cycles : cycles_read r ≡ map report_of r.run.items ++ Ran l.0 l.1 r.acks.items ∷ [] = ap (λ (x : Option CycleRow). map report_of r.run.items ++ last_cycle x r.acks.items) l.2 in
-    (l.0, l.1, l.2, cycles, b.0, subst (λ (x : List Report). IsBetween true true true x [] [] rows) cycles (subst (λ (x : Bool). IsBetween x true true (cycles_read r) [] [] rows) open-one b.1))
-
-pub ack-read : (r s : Reader) (rows : FieldRows) (w value : List ℕ) (kind : Kind) (tick : ℕ) (applied : Applied) → HasReadRows r rows → IsOnlyName r w (name.Ack kind tick) → IsApplied kind applied → value ≡ applied_words applied
-    → s.rows ≡ r.rows + 1 → s.run.items ≡ r.run.items → s.last ≡ r.last → s.acks.items ≡ r.acks.items ++ record { tick = tick; kind = kind; applied = applied } ∷ [] → s.found.items ≡ r.found.items → s.next ≡ r.next
-    → HasReadRows s (rows ++ (decimal 0 ∷ w ∷ value ∷ []) ∷ [])
-ack-read r s rows w value kind tick applied h o ok shows one run last acks found after =
-    let k : Ack = record { tick = tick; kind = kind; applied = applied } in
-    let b = in-cycle r rows h o.may.1 o.may.2 in
-    let done = map report_of r.run.items in
-    let acks-long = length-append r.acks.items (k ∷ []) in
-    let last-is : s.last ≡ Some (row.Ran b.0 b.1) = last ∙ b.2 in
-    let cycles : cycles_read s ≡ done ++ Ran b.0 b.1 (r.acks.items ++ k ∷ []) ∷ [] = ap₂ (λ (x y : List Report). x ++ y) (ap (map report_of) run) (ap₂ last_cycle last-is acks) in
-    let room : length rows + 2 ≤ 4_294_967_294 = omega (arith, h.count, o.may.0) in
-    let words : w ≡ name_words (length (done ++ Ran b.0 b.1 r.acks.items ∷ [])) (name.Ack kind tick) = o.words ∙ ap (λ (x : List Report). name_words (length x) (name.Ack kind tick)) b.3 in
-    let t = ack-taken done b.0 b.1 r.acks.items rows w kind tick b.5 room o.bounds words value applied ok
-    (λ y g e. o.only y g (e ∙ ap (λ (x : List Report). name_words (length x) y) (sym b.3))) shows in
-    let l1 = length-append done (Ran b.0 b.1 (r.acks.items ++ k ∷ []) ∷ []) in
-    let l2 = length-append done (Ran b.0 b.1 r.acks.items ∷ []) in
-    read-on r s rows _ h one (omega (arith, ap length cycles, ap length b.3, ap length found, l1, l2)) (omega (arith, ap length acks, acks-long)) (omega (arith, room)) (λ e. absurd (let f : Some (row.Ran b.0 b.1) ≡ None = sym last-is ∙ e in cc))
-    (stands-as s.next next.Run s.last (Some (row.Ran b.0 b.1)) (cycles_read s) (done ++ Ran b.0 b.1 (r.acks.items ++ k ∷ []) ∷ []) s.found.items [] _ (after ∙ o.may.1) last-is cycles (found ∙ b.4) (refl, t))
-
-pub ack-not-read : (r : Reader) (rows : FieldRows) (w value : List ℕ) (kind : Kind) (tick : ℕ) → HasReadRows r rows → IsOnlyName r w (name.Ack kind tick) → ((applied : Applied) → IsApplied kind applied → value ≡ applied_words applied → ⊥) → IsRefused rows (decimal 0 ∷ w ∷ value ∷ []) (refused.Field 3)
-ack-not-read r rows w value kind tick h o never =
-    let b = in-cycle r rows h o.may.1 o.may.2 in
-    let done = map report_of r.run.items in
-    let room : length rows + 2 ≤ 4_294_967_294 = omega (arith, h.count, o.may.0) in
-    let words : w ≡ name_words (length (done ++ Ran b.0 b.1 r.acks.items ∷ [])) (name.Ack kind tick) = o.words ∙ ap (λ (x : List Report). name_words (length x) (name.Ack kind tick)) b.3 in
-    value-refused r rows w value (name.Ack kind tick) h o (ack-opens done b.0 b.1 r.acks.items rows w kind tick b.5 room o.bounds words NotKept (inl refl)) (λ a c v i block banks more t. never t.1 t.2 t.3)
+-- a value that none of that name has is refused
+pub value-refused : (r : Reader) (rows : FieldRows) (w value : List ℕ) (x : ToldName) → HasReadRows r rows → IsOnlyName r w x → ((a c v : Bool) (i block : ℕ) (banks : List ℕ) (more : FieldRows) → ToldNext a c v i block banks value more x → ⊥) → IsRefused rows (decimal 0 ∷ w ∷ value ∷ []) (refused.Field 3)
+value-refused r rows w value x h o never =
+    let m = in-between r rows h o.begins in
+    refuse-3 rows (decimal 0) w value (named-opens r rows w x h o) (λ q. never _ _ _ _ _ _ q.1 (only-next m.at m.few w value o.only q.0 q.1 q.2))
 
 -- nothing follows the count
 pub end-refused : (r : Reader) (rows : FieldRows) (n : ℕ) (b w value : List ℕ) → HasReadRows r rows → r.next ≡ next.Nothing n → IsRefused rows (b ∷ w ∷ value ∷ []) (refused.Field 1)
@@ -308,7 +307,7 @@ line-block-refused r rows k p b w v h e other =
 
 pub first-at : (r : Reader) (rows : FieldRows) (e : ℕ × Record) → HasReadRows r rows → MayHaveEvent r → IsBank e.0 → HasNoBank r.found.items e.0 → IsRecord e.1 → AtLine r 0 e rows
 first-at r rows e h m bank free ok = ⊎_elim
-    (λ run. let s = in-run r rows h run in
+    (λ run. let s = in-run h run in
     at [] s.0 (first-line (may_ack r.last) true (cycles_read r) [] rows e s.1 (omega arith) (event-next [] s.0) room))
     (λ events. let s = subst (λ (n : NextRow). StandsNext n r.last (cycles_read r) r.found.items rows) events h.stands in
     at s.0 s.1 (first-line false false (cycles_read r) s.0 rows e s.2 (few-events r rows s.0 [] h (s.1 ∙ sym (append-nil (map found_event s.0)))) (event-next s.0 s.1) room))
@@ -387,10 +386,10 @@ module _ (r : Reader) (k : ℕ) (e : ℕ × Record) (block : ℕ) (b w v : List 
       now = rows ++ (decimal (length a.events + 1) ∷ w ∷ v ∷ []) ∷ []
 
       long : length now ≡ length rows + 1
-      long = count-more rows (decimal (length a.events + 1) ∷ w ∷ v ∷ [])
+      long = length-append rows ((decimal (length a.events + 1) ∷ w ∷ v ∷ []) ∷ [])
 
       on : length (cycles_read s) + length s.found.items ≤ length (cycles_read r) + length r.found.items + 1 → length rows + 1 ≤ 4_294_967_294 → StandsNext s.next s.last (cycles_read s) s.found.items now → HasReadRows s now
-      on more short stands = read-on r s rows (decimal (length a.events + 1) ∷ w ∷ v ∷ []) a.read adds.count more (omega (arith, ap length adds.acks)) short (λ z. adds.run ∙ a.read.first (sym adds.last ∙ z)) stands
+      on more short stands = read-on (decimal (length a.events + 1) ∷ w ∷ v ∷ []) a.read adds.count more (omega (arith, ap length adds.acks)) short (λ z. adds.run ∙ a.read.first (sym adds.last ∙ z)) stands
 
       goes : k + 1 < 29 → HasReadRows s now
       goes less =

@@ -1,6 +1,5 @@
 //! What stood before time zero, read line by line.
 
-ghost use Rattle.std.specs.Prelude.{◌≡◌};
 ghost use Rattle.edr_record.specs.Bounds.{IsPre};
 ghost use Rattle.edr_reading.specs.Parts.{AreSlots, AcceptsPreLine};
 

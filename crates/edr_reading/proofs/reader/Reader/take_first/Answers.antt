@@ -7,14 +7,14 @@ use Rattle.edr_reading.proofs.reader.Reader.take_first.Goals as goal
 pub returns-in_default : goal.returns-in_default
 returns-in_default c rows h =
     let row = c.args.row.now in
-    block-refused c.args.self.now rows row.block.now row.name.now row.value.now h c.requires.between c.requires.block
-    (λ m may bank ok free e. c.in_default.ensures.none may bank ok free)
+    block-refused c.args.self.now rows row.name.now row.value.now h c.requires.between row.block.now c.requires.block
+    (λ may bank ok free e. c.in_default.ensures.none may bank ok free)
 
 pub returns-in_default-last_within : goal.returns-in_default-last_within
 returns-in_default-last_within c rows h =
     let row = c.args.row.now in
-    block-refused c.args.self.now rows row.block.now row.name.now row.value.now h c.requires.between c.requires.block
-    (λ m may bank ok free e. let z = c.in_default-last_within.ensures.whole c.block-block.result (omega arith, omega arith) (e ∙ ap decimal (sym c.block-block.ensures)) in cc)
+    block-refused c.args.self.now rows row.name.now row.value.now h c.requires.between row.block.now c.requires.block
+    (λ may bank ok free e. let z = c.in_default-last_within.ensures.whole c.block-block.result (omega arith, omega arith) (e ∙ ap decimal (sym c.block-block.ensures)) in cc)
 
 pub take_line-requires-clause-read : goal.take_line-requires-clause-read
 take_line-requires-clause-read c =

@@ -30,4 +30,4 @@ returns c rows h =
     let b = c.if-not-is_word.ensures in
     let n = c.if-not-is_word-2.ensures in
     let v = c.if-not-is_word-3.ensures in
-    head-read c.args.self.now _ rows _ h c.requires.head (rw (b, n, v) refl) refl refl refl refl refl refl
+    head-read c.args.self.now rows _ h c.requires.head (rw (b, n, v) refl)
