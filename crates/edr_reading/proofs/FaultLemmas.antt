@@ -118,7 +118,7 @@ stands-opens next.Events last reports found rows s = (count_fields 0 ∷ [], bet
 stands-opens (next.Line k p) last reports found rows s =
     let e = event_of p in
     let block = length s.0 + 1 in
-    ((decimal block ∷ get_or event_names k [] ∷ event_words block e.0 e.1 (get_or lines k Number) ∷ []) ∷ (drop (k + 1) (event_fields block e.0 e.1) ++ count_fields 0 ∷ []), inside-count k e reports s.0 rows s.2)
+    ((decimal block ∷ get_or event_names k [] ∷ event_words block e.0 e.1 (get_or lines k Number) ∷ []) ∷ (drop (k + 1) (event_fields block e.0 e.1) ++ count_fields 0 ∷ []), inside-count s.2)
 stands-opens next.Damaged last reports found rows s = (count_fields 0 ∷ [], between-count s.3)
 stands-opens (next.Nothing n) last reports found rows s = ([], subst AreReport (sym (append-nil rows)) (nothing-report reports found rows n s))
 

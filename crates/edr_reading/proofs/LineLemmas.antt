@@ -8,27 +8,27 @@ use Rattle.edr_image.specs.declared.Found.{Found}
 use Rattle.edr_image.specs.Banks.{found_event}
 use Rattle.edr_image.specs.Reports.{Report}
 use Rattle.edr_report.specs.EventWords.{event_words}
-use Rattle.edr_reading.specs.Parts.{AcceptsLine, IsRecord}
+use Rattle.edr_reading.specs.Parts.{AcceptsLine}
 use Rattle.edr_report.specs.declared.event_lines.EventLine.TheVariants.{Number}
 use Rattle.edr_reading.specs.declared.reader.Refused.TheVariants as refused
 use Rattle.edr_reading.specs.Event.{AcceptsEventLine, EventAgrees, IsNextEvent, event_of, event_texts}
 use Rattle.edr_reading.specs.declared.event.PartEvent.{PartEvent}
-use Rattle.edr_reading.specs.Faults.{AreReport}
+use Rattle.edr_reading.specs.Faults.{AreReport, ReportGoesOn}
 use Rattle.edr_reading.specs.Told.{IsAck, IsDamaged, IsEvent, IsReport, banks_in, count_fields, damaged_fields, events_fields, last_rows}
 use Rattle.edr_reading.specs.Reading.{AreDistinct}
 use Rattle.edr_reading.specs.Reader.{GoesOnIn, IsBetween, IsInside, IsRefused, IsToldReport, MayFollowLine, whole}
 use Rattle.edr_reading.specs.Rows.{FieldRows, event_fields, event_names}
-use Rattle.edr_reading.proofs.BetweenLemmas.{banks-more, All-last, refuse-1, refuse-2, refuse-3, next-row, none}
+use Rattle.edr_reading.proofs.BetweenLemmas.{banks-more, All-last, refuse-2, refuse-3, next-row, none}
 use Rattle.edr_reading.proofs.WholeLemmas.{alone, distinct-more, decimal-same, told-report, whole-event}
 use Rattle.edr_reading.proofs.EventLemmas.{event-gone, event-long, line-place, lines, no-rows, row-at, rows-more}
 
 -- ---- what a line may be
 
 -- the next row is a line of an event, which goes on after it
-pub line-row : (k block : ℕ) (found : List Found) (e : ℕ × Record) (r : List (List ℕ)) (more : FieldRows) → k < 29 → MayFollowLine k block (banks_in found) e (r ∷ more)
+pub line-row : {k block : ℕ} (found : List Found) {e : ℕ × Record} {r : List (List ℕ)} {more : FieldRows} → k < 29 → MayFollowLine k block (banks_in found) e (r ∷ more)
     → (f : ℕ × Record) × IsNextEvent found f × EventAgrees k e f × (r ≡ decimal block ∷ get_or event_names k [] ∷ event_words block f.0 f.1 (get_or lines k Number) ∷ [])
     × ((g : ℕ × Record) → EventAgrees (k + 1) g f → MayFollowLine (k + 1) block (banks_in found) g more)
-line-row k block found e r more small m =
+line-row {k} {block} found {e} {r} {more} small m =
     let f = m.event in
     let tail = events_fields (block + 1) m.events ++ last_rows m.damaged m.count in
     let rows = event_fields block f.0 f.1 in
@@ -44,8 +44,8 @@ line-row k block found e r more small m =
     )
 
 -- how many rows follow at least
-pub line-most : (k block : ℕ) (banks : List ℕ) (e : ℕ × Record) (more : FieldRows) → MayFollowLine k block banks e more → 30 ≤ length more + k
-line-most k block banks e more m =
+pub line-most : {k block : ℕ} {banks : List ℕ} {e : ℕ × Record} {more : FieldRows} → MayFollowLine k block banks e more → 30 ≤ length more + k
+line-most {k} {block} m =
     let tail = events_fields (block + 1) m.events ++ last_rows m.damaged m.count in
     let rows = event_fields block m.event.0 m.event.1 in
     let e0 = length-drop k rows in
@@ -54,52 +54,9 @@ line-most k block banks e more m =
     let e3 = length-append (map damaged_fields m.damaged) (count_fields m.count ∷ []) in
     omega (arith, ap length m.are, e0, e1, e2, e3, event-long block m.event.0 m.event.1)
 
--- ---- the rows so far begin a report
-
-pub inside-count : (k : ℕ) (e : ℕ × Record) (reports : List Report) (es : List (ℕ × Record)) (rows : FieldRows) → IsInside k e reports es rows
-    → AreReport (rows ++ (decimal (length es + 1) ∷ get_or event_names k [] ∷ event_words (length es + 1) e.0 e.1 (get_or lines k Number) ∷ []) ∷ (drop (k + 1) (event_fields (length es + 1) e.0 e.1) ++ count_fields 0 ∷ []))
-inside-count k e reports es rows h =
-    let block = length es + 1 in
-    let all = event_fields block e.0 e.1 in
-    let last : FieldRows = count_fields 0 ∷ [] in
-    let long = event-long block e.0 e.1 in
-    let one = decimal block ∷ get_or event_names k [] ∷ event_words block e.0 e.1 (get_or lines k Number) ∷ [] in
-    let parted : all ≡ take k all ++ one ∷ drop (k + 1) all = sym (take-append-drop k all) ∙ ap (λ (x : FieldRows). take k all ++ x) (drop_more all k [] (omega (arith, h.within, long)) ∙ ap (λ (r : List (List ℕ)). r ∷ drop (k + 1) all) (row-at block e k h.within)) in
-    let total : whole reports (es ++ e ∷ []) [] ≡ rows ++ one ∷ drop (k + 1) all = whole-event reports es e ∙ ap (λ (x : FieldRows). whole reports es [] ++ x) parted ∙ sym (append_assoc (whole reports es []) (take k all) (one ∷ drop (k + 1) all)) ∙ ap (λ (x : FieldRows). x ++ one ∷ drop (k + 1) all) (sym h.are) in
-    let e1 = length-append rows (one ∷ drop (k + 1) all) in
-    let e2 = length-drop (k + 1) all in
-    subst AreReport (ap (λ (x : FieldRows). x ++ last) total ∙ append_assoc rows (one ∷ drop (k + 1) all) last)
-    (told-report reports (es ++ e ∷ []) [] 0 h.told (omega (arith, h.short, h.within, ap length total, e1, e2, long)))
-
--- ---- refusals
-
-pub line-block : (k : ℕ) (e : ℕ × Record) (reports : List Report) (es : List (ℕ × Record)) (rows : FieldRows) (b w v : List ℕ) → GoesOnIn (length es + 1) rows → b ≢ decimal (length es + 1) → IsRefused rows (b ∷ w ∷ v ∷ []) (refused.Field 1)
-line-block k e reports es rows b w v g other = refuse-1 rows b w v (λ r. other (g.1 (b ∷ r.0) r.1 r.2))
-
-pub line-name : (k : ℕ) (e : ℕ × Record) (reports : List Report) (es : List (ℕ × Record)) (rows : FieldRows) (w v : List ℕ) → IsInside k e reports es rows → w ≢ get_or event_names k [] → IsRefused rows (decimal (length es + 1) ∷ w ∷ v ∷ []) (refused.Field 2)
-line-name k e reports es rows w v h other =
-    let block = length es + 1 in
-    refuse-2 rows (decimal block) w v
-    (get_or event_names k [] ∷ event_words block e.0 e.1 (get_or lines k Number) ∷ [], drop (k + 1) (event_fields block e.0 e.1) ++ count_fields 0 ∷ [], inside-count k e reports es rows h)
-    (λ r. let l = line-row k block (map found_event es) e (decimal block ∷ w ∷ r.0) r.1 h.within (h.rest (decimal block ∷ w ∷ r.0) r.1 refl r.2) in
-    other (ap (λ (x : List (List ℕ)). slice_index_or x 1 []) l.3))
-
-pub line-value : (k : ℕ) (e : ℕ × Record) (reports : List Report) (es : List (ℕ × Record)) (rows : FieldRows) (w v : List ℕ) → IsInside k e reports es rows → w ≡ get_or event_names k []
-    → ((f : ℕ × Record) → IsNextEvent (map found_event es) f → EventAgrees k e f → v ≡ event_words (length es + 1) f.0 f.1 (get_or lines k Number) → ⊥) → IsRefused rows (decimal (length es + 1) ∷ w ∷ v ∷ []) (refused.Field 3)
-line-value k e reports es rows w v h named other =
-    let block = length es + 1 in
-    refuse-3 rows (decimal block) w v (
-      event_words block e.0 e.1 (get_or lines k Number) ∷ [],
-      drop (k + 1) (event_fields block e.0 e.1) ++ count_fields 0 ∷ [],
-      subst (λ (n : List ℕ). AreReport (rows ++ (decimal block ∷ n ∷ event_words block e.0 e.1 (get_or lines k Number) ∷ []) ∷ (drop (k + 1) (event_fields block e.0 e.1) ++ count_fields 0 ∷ []))) (sym named) (inside-count k e reports es rows h),
-    )
-    (λ r. let l = line-row k block (map found_event es) e (decimal block ∷ w ∷ v ∷ r.0) r.1 h.within (h.rest (decimal block ∷ w ∷ v ∷ r.0) r.1 refl r.2) in
-    other l.0 l.1 l.2 (ap (λ (x : List (List ℕ)). slice_index_or x 2 []) l.3))
-
--- ---- a line is taken
-
-told-event : (reports : List Report) (es : List (ℕ × Record)) (e f : ℕ × Record) → IsToldReport reports es [] → IsNextEvent (map found_event es) f → IsToldReport reports (es ++ f ∷ []) []
-told-event reports es e f h n = record {
+-- one event more
+told-event : {reports : List Report} (es : List (ℕ × Record)) (f : ℕ × Record) → IsToldReport reports es [] → IsNextEvent (map found_event es) f → IsToldReport reports (es ++ f ∷ []) []
+told-event es f h n = record {
   run = h.run;
   events = All-last IsEvent es f h.events (n.bank, n.record_bounds);
   damaged = none IsDamaged;
@@ -121,82 +78,104 @@ at-place k block found v old new small t =
       whole = λ f ok a e. subst (λ (j : ℕ). EventAgrees (j + 1) (event_of new) f) at (t.whole f ok (subst (λ (j : ℕ). EventAgrees j (event_of old) f) (sym at) a) e);
     }
 
-module _ (k : ℕ) (e f : ℕ × Record) (reports : List Report) (es : List (ℕ × Record)) (rows : FieldRows) (w v : List ℕ) (h : IsInside k e reports es rows) (told : IsToldReport reports es [])
-    (named : w ≡ get_or event_names k []) (t : AcceptsPlace k (length es + 1) (map found_event es) v e f) where
-  line-are : IsRecord e.1 → rows ++ (decimal (length es + 1) ∷ w ∷ v ∷ []) ∷ [] ≡ whole reports es [] ++ take (k + 1) (event_fields (length es + 1) f.0 f.1)
-  line-are ok =
-      let block = length es + 1 in
-      let one : decimal block ∷ w ∷ v ∷ [] ≡ get_or (event_fields block f.0 f.1) k [] = ap₂ (λ (x y : List ℕ). decimal block ∷ x ∷ y ∷ []) named t.shows ∙ sym (row-at block f k h.within) in
-      ap₂ (λ (x : FieldRows) (r : List (List ℕ)). x ++ r ∷ []) h.are one
-      ∙ append_assoc (whole reports es []) (take k (event_fields block e.0 e.1)) (get_or (event_fields block f.0 f.1) k [] ∷ [])
-      ∙ ap (λ (x : FieldRows). whole reports es [] ++ x) (sym (rows-more block k e f h.within ok t.bounds.record_bounds t.earlier))
+-- ---- in an event
 
-  line-follow : (more : FieldRows) → AreReport ((rows ++ (decimal (length es + 1) ∷ w ∷ v ∷ []) ∷ []) ++ more) → MayFollowLine (k + 1) (length es + 1) (banks_in (map found_event es)) f more
-  line-follow more a =
+module _ {k : ℕ} {e : ℕ × Record} {reports : List Report} {es : List (ℕ × Record)} {rows : FieldRows} (h : IsInside k e reports es rows) where
+  -- the rows so far begin a report
+  pub inside-count : AreReport (rows ++ (decimal (length es + 1) ∷ get_or event_names k [] ∷ event_words (length es + 1) e.0 e.1 (get_or lines k Number) ∷ []) ∷ (drop (k + 1) (event_fields (length es + 1) e.0 e.1) ++ count_fields 0 ∷ []))
+  inside-count =
       let block = length es + 1 in
-      let row = decimal block ∷ w ∷ v ∷ [] in
-      let l = line-row k block (map found_event es) e row more h.within (h.rest row more refl (subst AreReport (append_assoc rows (row ∷ []) more) a)) in
-      l.4 f (t.whole l.0 l.1 l.2 (ap (λ (x : List (List ℕ)). slice_index_or x 2 []) l.3))
+      let all = event_fields block e.0 e.1 in
+      let long = event-long block e.0 e.1 in
+      let one = decimal block ∷ get_or event_names k [] ∷ event_words block e.0 e.1 (get_or lines k Number) ∷ [] in
+      let parted : all ≡ take k all ++ one ∷ drop (k + 1) all = sym (take-append-drop k all) ∙ ap (λ (x : FieldRows). take k all ++ x) (drop_more all k [] (omega (arith, h.within, long)) ∙ ap (λ (r : List (List ℕ)). r ∷ drop (k + 1) all) (row-at block e k h.within)) in
+      let total : whole reports (es ++ e ∷ []) [] ≡ rows ++ one ∷ drop (k + 1) all = whole-event reports es e ∙ ap (λ (x : FieldRows). whole reports es [] ++ x) parted ∙ sym (append_assoc (whole reports es []) (take k all) (one ∷ drop (k + 1) all)) ∙ ap (λ (x : FieldRows). x ++ one ∷ drop (k + 1) all) (sym h.are) in
+      let e1 = length-append rows (one ∷ drop (k + 1) all) in
+      let e2 = length-drop (k + 1) all in
+      subst AreReport (ap (λ (x : FieldRows). x ++ count_fields 0 ∷ []) total ∙ append_assoc rows (one ∷ drop (k + 1) all) (count_fields 0 ∷ []))
+      (told-report reports (es ++ e ∷ []) [] 0 (told-event es e h.told h.event) (omega (arith, h.short, h.within, ap length total, e1, e2, long)))
 
-  pub line-next : IsRecord e.1 → k + 1 < 29 → IsInside (k + 1) f reports es (rows ++ (decimal (length es + 1) ∷ w ∷ v ∷ []) ∷ []) × GoesOnIn (length es + 1) (rows ++ (decimal (length es + 1) ∷ w ∷ v ∷ []) ∷ [])
-  line-next ok small =
-      let block = length es + 1 in
-      let now = rows ++ (decimal block ∷ w ∷ v ∷ []) ∷ [] in
-      let long = length-append rows ((decimal block ∷ w ∷ v ∷ []) ∷ []) in (
-        record {
-          within = small;
-          told = told-event reports es e f told t.bounds;
-          are = line-are ok;
-          short = omega (arith, h.short, long);
-          rest = λ r more b a. line-follow (r ∷ more) a;
-        },
-        (
-          (λ a. let m = line-follow [] (subst AreReport (sym (append-nil now)) a) in let s = line-most (k + 1) block (banks_in (map found_event es)) f [] m in omega (arith, s, small)),
-          (λ r more a. ap (λ (x : List (List ℕ)). slice_index_or x 0 []) (line-row (k + 1) block (map found_event es) f r more small (line-follow (r ∷ more) a)).3),
-        ),
-      )
+  module _ (b w v : List ℕ) (at : b ≡ decimal (length es + 1)) where
+    -- another name is refused
+    pub line-name : w ≢ get_or event_names k [] → IsRefused rows (b ∷ w ∷ v ∷ []) (refused.Field 2)
+    line-name other = refuse-2 rows b w v (subst (ReportGoesOn rows) (ap (λ (x : List ℕ). x ∷ []) (sym at)) (_, _, inside-count))
+        (λ r. other (ap (λ (x : List (List ℕ)). slice_index_or x 1 []) (line-row (map found_event es) h.within (h.rest (b ∷ w ∷ r.0) r.1 at r.2)).3))
 
-  pub line-last : IsRecord e.1 → k + 1 ≡ 29 → IsBetween false false true reports (es ++ f ∷ []) [] (rows ++ (decimal (length es + 1) ∷ w ∷ v ∷ []) ∷ [])
-  line-last ok last =
-      let block = length es + 1 in
-      let all = event_fields block f.0 f.1 in
-      let long = length-append rows ((decimal block ∷ w ∷ v ∷ []) ∷ []) in
-      let count : length es + 1 + 1 ≡ length (es ++ f ∷ []) + 1 = ap (λ (n : ℕ). n + 1) (sym (length-append es (f ∷ []))) in
-      let banks : banks_in (map found_event es) ++ f.0 ∷ [] ≡ banks_in (map found_event (es ++ f ∷ []) ++ []) = sym (ap banks_in (append-nil (map found_event (es ++ f ∷ []))) ∙ banks-more es f) in
-      record {
-        told = told-event reports es e f told t.bounds;
-        are = line-are ok ∙ ap (λ (n : ℕ). whole reports es [] ++ take n all) last ∙ ap (λ (n : ℕ). whole reports es [] ++ take n all) (sym (event-long block f.0 f.1)) ∙ ap (λ (x : FieldRows). whole reports es [] ++ x) (take-length all) ∙ sym (whole-event reports es f);
-        short = omega (arith, h.short, long, last);
-        rest = λ more a.
-            let m = line-follow more a in
-            let g = m.event in
-            let tail = events_fields (block + 1) m.events ++ last_rows m.damaged m.count in
-            let rest : more ≡ tail = m.are ∙ ap (λ (n : ℕ). drop n (event_fields block g.0 g.1) ++ tail) last ∙ ap (λ (x : FieldRows). x ++ tail) (event-gone block g.0 g.1) in
-            let bank : f.0 ≡ g.0 = m.agrees.bank (omega (arith, last)) in
-            let left = map (λ (x : ℕ × Record). x.0) m.events ++ banks_in m.damaged in
-            let dis : IsDistinct eqb ((banks_in (map found_event es) ++ f.0 ∷ []) ++ left) = subst (IsDistinct eqb) (sym (append_assoc (banks_in (map found_event es)) (f.0 ∷ []) left)) (subst (λ (b : ℕ). IsDistinct eqb (banks_in (map found_event es) ++ b ∷ left)) (sym bank) m.distinct) in
+    module _ (named : w ≡ get_or event_names k []) where
+      -- a value that no event shows is
+      pub line-value : ((f : ℕ × Record) → IsNextEvent (map found_event es) f → EventAgrees k e f → v ≡ event_words (length es + 1) f.0 f.1 (get_or lines k Number) → ⊥) → IsRefused rows (b ∷ w ∷ v ∷ []) (refused.Field 3)
+      line-value never = refuse-3 rows b w v (subst (ReportGoesOn rows) (ap₂ (λ (x y : List ℕ). x ∷ y ∷ []) (sym at) (sym named)) (_, _, inside-count))
+          (λ r. let l = line-row (map found_event es) h.within (h.rest (b ∷ w ∷ v ∷ r.0) r.1 at r.2) in never l.0 l.1 l.2 (ap (λ (x : List (List ℕ)). slice_index_or x 2 []) l.3))
+
+      module _ (f : ℕ × Record) (t : AcceptsPlace k (length es + 1) (map found_event es) v e f) where
+        line-are : rows ++ (b ∷ w ∷ v ∷ []) ∷ [] ≡ whole reports es [] ++ take (k + 1) (event_fields (length es + 1) f.0 f.1)
+        line-are =
+            let block = length es + 1 in
+            let r = row-at block f k h.within in
+            let shows = t.shows in
+            let one : b ∷ w ∷ v ∷ [] ≡ get_or (event_fields block f.0 f.1) k [] = cc in
+            ap₂ (λ (x : FieldRows) (r : List (List ℕ)). x ++ r ∷ []) h.are one
+            ∙ append_assoc (whole reports es []) (take k (event_fields block e.0 e.1)) (get_or (event_fields block f.0 f.1) k [] ∷ [])
+            ∙ ap (λ (x : FieldRows). whole reports es [] ++ x) (sym (rows-more block k e f h.within h.event.record_bounds t.bounds.record_bounds t.earlier))
+
+        line-follow : (more : FieldRows) → AreReport ((rows ++ (b ∷ w ∷ v ∷ []) ∷ []) ++ more) → MayFollowLine (k + 1) (length es + 1) (banks_in (map found_event es)) f more
+        line-follow more a =
+            let l = line-row (map found_event es) h.within (h.rest (b ∷ w ∷ v ∷ []) more at (subst AreReport (append_assoc rows ((b ∷ w ∷ v ∷ []) ∷ []) more) a)) in
+            l.4 f (t.whole l.0 l.1 l.2 (ap (λ (x : List (List ℕ)). slice_index_or x 2 []) l.3))
+
+        pub line-next : k + 1 < 29 → IsInside (k + 1) f reports es (rows ++ (b ∷ w ∷ v ∷ []) ∷ []) × GoesOnIn (length es + 1) (rows ++ (b ∷ w ∷ v ∷ []) ∷ [])
+        line-next small =
+            let now = rows ++ (b ∷ w ∷ v ∷ []) ∷ [] in
+            let long = length-append rows ((b ∷ w ∷ v ∷ []) ∷ []) in (
+              record { within = small; told = h.told; event = t.bounds; are = line-are; short = omega (arith, h.short, long); rest = λ r more b a. line-follow (r ∷ more) a },
+              (
+                (λ a. let s = line-most (line-follow [] (subst AreReport (sym (append-nil now)) a)) in omega (arith, s, small)),
+                (λ r more a. ap (λ (x : List (List ℕ)). slice_index_or x 0 []) (line-row (map found_event es) small (line-follow (r ∷ more) a)).3),
+              ),
+            )
+
+        pub line-last : k + 1 ≡ 29 → IsBetween false false true reports (es ++ f ∷ []) [] (rows ++ (b ∷ w ∷ v ∷ []) ∷ [])
+        line-last last =
+            let block = length es + 1 in
+            let all = event_fields block f.0 f.1 in
+            let long = length-append rows ((b ∷ w ∷ v ∷ []) ∷ []) in
+            let count : length es + 1 + 1 ≡ length (es ++ f ∷ []) + 1 = ap (λ (n : ℕ). n + 1) (sym (length-append es (f ∷ []))) in
+            let banks : banks_in (map found_event es) ++ f.0 ∷ [] ≡ banks_in (map found_event (es ++ f ∷ []) ++ []) = sym (ap banks_in (append-nil (map found_event (es ++ f ∷ []))) ∙ banks-more es f) in
             record {
-              acks = [];
-              reports = [];
-              events = m.events;
-              damaged = m.damaged;
-              count = m.count;
-              bounds = (none IsAck, none IsReport, m.events_bounds, m.damaged_bounds);
-              no_acks = λ z. refl;
-              no_reports = λ z. refl;
-              no_events = λ z. cc;
-              distinct = subst (λ (x : List ℕ). IsDistinct eqb (x ++ left)) banks dis;
-              are = rest ∙ ap (λ (n : ℕ). events_fields n m.events ++ last_rows m.damaged m.count) count;
-            };
-      }
+              told = told-event es f h.told t.bounds;
+              are = line-are ∙ ap (λ (n : ℕ). whole reports es [] ++ take n all) (last ∙ sym (event-long block f.0 f.1)) ∙ ap (λ (x : FieldRows). whole reports es [] ++ x) (take-length all) ∙ sym (whole-event reports es f);
+              short = omega (arith, h.short, long, last);
+              rest = λ more a.
+                  let m = line-follow more a in
+                  let g = m.event in
+                  let tail = events_fields (block + 1) m.events ++ last_rows m.damaged m.count in
+                  let rest : more ≡ tail = m.are ∙ ap (λ (n : ℕ). drop n (event_fields block g.0 g.1) ++ tail) last ∙ ap (λ (x : FieldRows). x ++ tail) (event-gone block g.0 g.1) in
+                  let bank : f.0 ≡ g.0 = m.agrees.bank (omega (arith, last)) in
+                  let left = map (λ (x : ℕ × Record). x.0) m.events ++ banks_in m.damaged in
+                  let dis : IsDistinct eqb ((banks_in (map found_event es) ++ f.0 ∷ []) ++ left) = subst (IsDistinct eqb) (sym (append_assoc (banks_in (map found_event es)) (f.0 ∷ []) left)) (subst (λ (b : ℕ). IsDistinct eqb (banks_in (map found_event es) ++ b ∷ left)) (sym bank) m.distinct) in
+                  record {
+                    acks = [];
+                    reports = [];
+                    events = m.events;
+                    damaged = m.damaged;
+                    count = m.count;
+                    bounds = (none IsAck, none IsReport, m.events_bounds, m.damaged_bounds);
+                    no_acks = λ z. refl;
+                    no_reports = λ z. refl;
+                    no_events = λ z. cc;
+                    distinct = subst (λ (x : List ℕ). IsDistinct eqb (x ++ left)) banks dis;
+                    are = rest ∙ ap (λ (n : ℕ). events_fields n m.events ++ last_rows m.damaged m.count) count;
+                  };
+            }
 
 -- ---- the first line
 
-pub first-line : (a c : Bool) (reports : List Report) (es : List (ℕ × Record)) (rows : FieldRows) (e : ℕ × Record) → IsBetween a c true reports es [] rows → length es + 1 < 2 ^ 64 → IsNextEvent (map found_event es) e → length rows + 30 ≤ 4_294_967_294
+pub first-line : {a c : Bool} {reports : List Report} (es : List (ℕ × Record)) {rows : FieldRows} (e : ℕ × Record) → IsBetween a c true reports es [] rows → length es + 1 < 2 ^ 64 → IsNextEvent (map found_event es) e → length rows + 30 ≤ 4_294_967_294
     → IsInside 0 e reports es rows
-first-line a c reports es rows e h few bounds room = record {
+first-line {reports = reports} es e h few bounds room = record {
   within = omega arith;
-  told = told-event reports es e e h.told bounds;
+  told = h.told;
+  event = bounds;
   are = h.are ∙ sym (ap (λ (x : FieldRows). whole reports es [] ++ x) (no-rows (event_fields (length es + 1) e.0 e.1)) ∙ append-nil (whole reports es []));
   short = omega (arith, room);
   rest = λ r more b rep. ⊎_elim

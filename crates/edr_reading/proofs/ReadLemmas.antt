@@ -16,9 +16,7 @@ use Rattle.edr_image.specs.Reports.{Report, Ran, report_of}
 use Rattle.edr_record.specs.declared.Record.{Record}
 use Rattle.edr_record.specs.declared.Profile.TheVariants as profile
 use Rattle.edr_record.specs.declared.Place.TheVariants as place
-use Rattle.edr_report.specs.EventWords.{event_words}
 use Rattle.edr_report.specs.Words.{applied_words, damage_words, shown_count}
-use Rattle.edr_report.specs.declared.event_lines.EventLine.TheVariants.{Number}
 use Rattle.edr_reading.specs.declared.event.PartEvent.{PartEvent}
 use Rattle.edr_reading.specs.declared.reader.Refused.{Refused}
 use Rattle.edr_reading.specs.Parts.{IsRecord}
@@ -30,17 +28,16 @@ use Rattle.edr_reading.specs.declared.reader.NextRow.{NextRow}
 use Rattle.edr_reading.specs.declared.reader.NextRow.TheVariants as next
 use Rattle.edr_reading.specs.declared.reader.Reader.{Reader}
 use Rattle.edr_reading.specs.declared.reader.Refused.TheVariants as refused
-use Rattle.edr_reading.specs.Event.{EventAgrees, HasNoBank, IsNextEvent, event_of}
+use Rattle.edr_reading.specs.Event.{HasNoBank, IsNextEvent, event_of}
 use Rattle.edr_reading.specs.Faults.{ReportGoesOn, AreReport}
-use Rattle.edr_reading.specs.Told.{IsCycleRow, IsEvent, IsToldName, banks_in, name_words, row_words, IsReport, IsDamaged}
-use Rattle.edr_reading.specs.Reader.{AddsLine, AtLine, HasReadRows, IsBetween, IsInside, IsOnlyName, IsRefused, IsToldReport, MayBegin, MayHaveEvent, MayTell, StandsNext, Takes, TakesLine, cycles_read, last_cycle, may_ack, MayFollow, whole}
+use Rattle.edr_reading.specs.Told.{IsCycleRow, IsToldName, banks_in, name_words, row_words, IsReport, IsDamaged}
+use Rattle.edr_reading.specs.Reader.{AddsLine, AtLine, HasReadRows, IsBetween, IsOnlyName, IsRefused, MayBegin, MayHaveEvent, MayTell, StandsNext, Takes, TakesLine, cycles_read, last_cycle, may_ack, MayFollow, whole}
 use Rattle.edr_reading.specs.Reading.{AreDistinct, head_row}
 use Rattle.edr_reading.specs.Rows.{FieldRows, event_names}
 use Rattle.edr_reading.specs.Values.{IsApplied, IsBank, IsDamage, IsDamagedView, view_words, start_words}
-use Rattle.edr_reading.proofs.BetweenLemmas.{banks-last, banks-more, found-last, told-ack, whole-ack, row-more, run-told, started, started-is, opens, only-next, All-front, All-last, at-end, between-block, between-count, refuse-1, refuse-2, refuse-3, start-between, told-next, ToldNext, next-row, some-rows}
-use Rattle.edr_reading.proofs.WholeLemmas.{alone, distinct-front, report-told, whole-cycle, whole-damaged, distinct-more}
-use Rattle.edr_reading.proofs.LineLemmas.{AcceptsPlace, first-line, line-block, line-last, line-most, line-name, line-next, line-value}
-use Rattle.edr_reading.proofs.EventLemmas.{lines}
+use Rattle.edr_reading.proofs.BetweenLemmas.{banks-last, found-last, told-ack, whole-ack, row-more, run-told, started, started-is, opens, only-next, All-last, between-block, between-count, refuse-1, refuse-2, refuse-3, start-between, told-next, ToldNext, next-row, some-rows}
+use Rattle.edr_reading.proofs.WholeLemmas.{alone, report-told, whole-cycle, whole-damaged, distinct-more}
+use Rattle.edr_reading.proofs.LineLemmas.{AcceptsPlace, first-line, line-last, line-most, line-next}
 
 pub stands-as : (n m : NextRow) (last first : Option CycleRow) (reports rs : List Report) (found fs : List Found) (rows : FieldRows) → n ≡ m → last ≡ first → reports ≡ rs → found ≡ fs → StandsNext m first rs fs rows → StandsNext n last reports found rows
 stands-as n m last first reports rs found fs rows a b c d h = rw (a, b, c, d) h
@@ -117,7 +114,7 @@ module _ (r : Reader) (rows : FieldRows) (w value : List ℕ) (h : HasReadRows r
       (λ n. let has = m.has_events n.0 in
       let line = n.5 (n.2, plain) in
       let l = length-append rows (row ∷ g.1) in
-      let most = line-most 0 (length m.es + 1) (banks_in (map found_event m.es ++ m.ds)) (n.2, plain) (row ∷ g.1) line in
+      let most = line-most line in
       let none-here = alone (map found_event m.es ++ m.ds) line.event.0 (map (λ e. e.0) line.events ++ banks_in line.damaged) line.distinct in
       let long : length r.found.items ≡ length m.es = ap length (m.found ∙ ap (λ (x : List Found). map found_event m.es ++ x) has.0 ∙ append-nil (map found_event m.es)) ∙ length-map m.es found_event in
       never (has.1, omega (arith, h.count, l, (report-told _ g.2).6, most)) line.event.0 line.event_bounds.0 (subst (λ (x : List Found). HasNoBank x line.event.0) (sym m.found) none-here) (n.1 ∙ ap (λ (k : ℕ). decimal (k + 1)) (sym long)))
@@ -132,9 +129,6 @@ read-on : {r s : Reader} {rows : FieldRows} (row : List (List ℕ)) → HasReadR
 read-on {rows = rows} row h one more more_acks short first stands =
     let long = length-append rows (row ∷ []) in
     record { count = omega (arith, h.count, long); few = omega (arith, h.few, long); few_acks = omega (arith, h.few_acks, long); short = omega (arith, long); first = first; stands = stands }
-
-cycles-same : (r s : Reader) → s.run.items ≡ r.run.items → s.last ≡ r.last → s.acks.items ≡ r.acks.items → cycles_read s ≡ cycles_read r
-cycles-same r s a b c = ap₂ (λ (x y : List Report). x ++ y) (ap (map report_of) a) (ap₂ last_cycle b c)
 
 at-head : {r : Reader} {rows : FieldRows} → HasReadRows r rows → r.next ≡ next.Head → (r.last ≡ None) × (cycles_read r ≡ []) × (r.found.items ≡ []) × (rows ≡ [])
 at-head {r} {rows} h e = subst (λ (n : NextRow). StandsNext n r.last (cycles_read r) r.found.items rows) e h.stands
@@ -303,109 +297,69 @@ pub line-block-refused : (r : Reader) (rows : FieldRows) (k : ℕ) (p : PartEven
 line-block-refused r rows k p b w v h e other =
     let s = subst (λ (x : NextRow). StandsNext x r.last (cycles_read r) r.found.items rows) e h.stands in
     let long : length r.found.items ≡ length s.0 = ap length s.1 ∙ length-map s.0 found_event in
-    line-block k (event_of p) (cycles_read r) s.0 rows b w v s.3 (λ z. other (z ∙ ap (λ (n : ℕ). decimal (n + 1)) (sym long)))
+    refuse-1 rows b w v (λ g. other ((s.3).1 (b ∷ g.0) g.1 g.2 ∙ ap (λ (n : ℕ). decimal (n + 1)) (sym long)))
 
 pub first-at : (r : Reader) (rows : FieldRows) (e : ℕ × Record) → HasReadRows r rows → MayHaveEvent r → IsBank e.0 → HasNoBank r.found.items e.0 → IsRecord e.1 → AtLine r 0 e rows
 first-at r rows e h m bank free ok = ⊎_elim
-    (λ run. let s = in-run h run in
-    at [] s.0 (first-line (may_ack r.last) true (cycles_read r) [] rows e s.1 (omega arith) (event-next [] s.0) room))
+    (λ run. let s = in-run h run in at [] s.0 s.1 (omega arith))
     (λ events. let s = subst (λ (n : NextRow). StandsNext n r.last (cycles_read r) r.found.items rows) events h.stands in
-    at s.0 s.1 (first-line false false (cycles_read r) s.0 rows e s.2 (few-events r rows s.0 [] h (s.1 ∙ sym (append-nil (map found_event s.0)))) (event-next s.0 s.1) room))
+    at s.0 s.1 s.2 (few-events r rows s.0 [] h (s.1 ∙ sym (append-nil (map found_event s.0)))))
     m.0
   where
-    at : (es : List (ℕ × Record)) → r.found.items ≡ map found_event es → IsInside 0 e (cycles_read r) es rows → AtLine r 0 e rows
-    at es found inside = record { read = h; events = es; found = found; inside = inside }
-
-    event-next : (es : List (ℕ × Record)) → r.found.items ≡ map found_event es → IsNextEvent (map found_event es) e
-    event-next es found = record { bank = bank; alone = subst (λ (x : List Found). HasNoBank x e.0) found free; record_bounds = ok }
-
-    room : length rows + 30 ≤ 4_294_967_294
-    room = omega (arith, h.count, m.1)
+    at : {a c : Bool} (es : List (ℕ × Record)) → r.found.items ≡ map found_event es → IsBetween a c true (cycles_read r) es [] rows → length es + 1 < 2 ^ 64 → AtLine r 0 e rows
+    at es found b few =
+        let event : IsNextEvent (map found_event es) e = record { bank = bank; alone = subst (λ (x : List Found). HasNoBank x e.0) found free; record_bounds = ok } in
+        record { read = h; events = es; found = found; inside = first-line es e b few event (omega (arith, h.count, m.1)) }
 
 pub line-takes : (k : ℕ) (e : ℕ × Record) (old new : Reader) (row : List (List ℕ)) (res : Result Unit Refused) → TakesLine k e old new row res → ((rows : FieldRows) → HasReadRows old rows → AtLine old k e rows) → Takes old new row res
 line-takes k e old new row (Ok u) t a = λ rows h. t rows (a rows h)
 line-takes k e old new row (Err x) t a = λ rows h. t rows (a rows h)
 
--- the banks told so far and its own are distinct
-line-banks : (r : Reader) (rows : FieldRows) (k : ℕ) (e : ℕ × Record) (a : AtLine r k e rows) → IsDistinct eqb (banks_in (map found_event a.events) ++ e.0 ∷ [])
-line-banks r rows k e a = subst (IsDistinct eqb) (banks-more a.events e) (subst AreDistinct (append-nil (map found_event (a.events ++ e ∷ []))) a.inside.told.distinct)
+-- as many events as banks were found
+pub line-long : {r : Reader} {k : ℕ} {e : ℕ × Record} {rows : FieldRows} (a : AtLine r k e rows) → length r.found.items ≡ length a.events
+line-long a = ap length a.found ∙ length-map a.events found_event
 
--- the bounds of the event so far
-pub line-bounds : (r : Reader) (rows : FieldRows) (k : ℕ) (e : ℕ × Record) → AtLine r k e rows → IsNextEvent r.found.items e
-line-bounds r rows k e a =
-    let bounds = at-end IsEvent a.events e a.inside.told.events in
-    record { bank = bounds.0; alone = subst (λ (x : List Found). HasNoBank x e.0) (sym a.found) (alone (map found_event a.events) e.0 [] (line-banks r rows k e a)); record_bounds = bounds.1 }
-
-told-before : (r : Reader) (rows : FieldRows) (k : ℕ) (e : ℕ × Record) (a : AtLine r k e rows) → IsToldReport (cycles_read r) a.events []
-told-before r rows k e a =
-    let i = a.inside in
-    record {
-      run = i.told.run;
-      events = All-front IsEvent a.events (e ∷ []) i.told.events;
-      damaged = i.told.damaged;
-      distinct = subst AreDistinct (sym (append-nil (map found_event a.events))) (distinct-front (banks_in (map found_event a.events)) (e.0 ∷ []) (line-banks r rows k e a));
-    }
-
-module _ (r : Reader) (k : ℕ) (e : ℕ × Record) (block : ℕ) (b w v : List ℕ) (block-is : block ≡ length r.found.items + 1) (row-is : b ≡ decimal (length r.found.items + 1)) where
-  at-block : (rows : FieldRows) (a : AtLine r k e rows) → block ≡ length a.events + 1
-  at-block rows a = block-is ∙ ap (λ (n : ℕ). n + 1) (ap length a.found ∙ length-map a.events found_event)
-
-  row-block : (rows : FieldRows) (a : AtLine r k e rows) → b ≡ decimal (length a.events + 1)
-  row-block rows a = row-is ∙ ap (λ (n : ℕ). decimal (n + 1)) (ap length a.found ∙ length-map a.events found_event)
-
-  -- another name is refused
-  pub line-name-refused : (rows : FieldRows) → AtLine r k e rows → w ≢ get_or event_names k [] → IsRefused rows (b ∷ w ∷ v ∷ []) (refused.Field 2)
-  line-name-refused rows a other = subst (λ (x : List ℕ). IsRefused rows (x ∷ w ∷ v ∷ []) (refused.Field 2)) (sym (row-block rows a)) (line-name k e (cycles_read r) a.events rows w v a.inside other)
-
-  -- a value that no event shows is
-  pub line-value-refused : (rows : FieldRows) → AtLine r k e rows → w ≡ get_or event_names k []
-      → ((f : ℕ × Record) → IsNextEvent r.found.items f → EventAgrees k e f → v ≡ event_words block f.0 f.1 (get_or lines k Number) → ⊥) → IsRefused rows (b ∷ w ∷ v ∷ []) (refused.Field 3)
-  line-value-refused rows a named never =
-      subst (λ (x : List ℕ). IsRefused rows (x ∷ w ∷ v ∷ []) (refused.Field 3)) (sym (row-block rows a))
-      (line-value k e (cycles_read r) a.events rows w v a.inside named
-      (λ f n g shows. never f (subst (λ (x : List Found). IsNextEvent x f) (sym a.found) n) g (shows ∙ ap (λ (j : ℕ). event_words j f.0 f.1 (get_or lines k Number)) (sym (at-block rows a)))))
-
+module _ (r : Reader) (k : ℕ) (e : ℕ × Record) (b w v : List ℕ) (row-is : b ≡ decimal (length r.found.items + 1)) (named : w ≡ get_or event_names k []) where
   -- a line is read
-  line-read : (s : Reader) (p : PartEvent) (rows : FieldRows) → AtLine r k e rows → w ≡ get_or event_names k [] → AcceptsPlace k block r.found.items v e (event_of p) → AddsLine k p r s → HasReadRows s (rows ++ (b ∷ w ∷ v ∷ []) ∷ [])
-  line-read s p rows a named t adds =
-      subst (λ (x : List ℕ). HasReadRows s (rows ++ (x ∷ w ∷ v ∷ []) ∷ [])) (sym (row-block rows a)) (⊎_elim goes ends (cases_lt (k + 1) 29))
+  line-read : (s : Reader) (p : PartEvent) (rows : FieldRows) → AtLine r k e rows → AcceptsPlace k (length r.found.items + 1) r.found.items v e (event_of p) → AddsLine k p r s → HasReadRows s (rows ++ (b ∷ w ∷ v ∷ []) ∷ [])
+  line-read s p rows a t adds = ⊎_elim goes ends (cases_lt (k + 1) 29)
     where
       f : ℕ × Record
       f = event_of p
 
-      here : AcceptsPlace k (length a.events + 1) (map found_event a.events) v e f
-      here = subst (λ (x : List Found). AcceptsPlace k (length a.events + 1) x v e f) a.found (subst (λ (j : ℕ). AcceptsPlace k j r.found.items v e f) (at-block rows a) t)
+      at : b ≡ decimal (length a.events + 1)
+      at = row-is ∙ ap (λ (n : ℕ). decimal (n + 1)) (line-long a)
 
-      ok : IsRecord e.1
-      ok = (line-bounds r rows k e a).record_bounds
+      here : AcceptsPlace k (length a.events + 1) (map found_event a.events) v e f
+      here = subst (λ (x : List Found). AcceptsPlace k (length a.events + 1) x v e f) a.found (subst (λ (j : ℕ). AcceptsPlace k (j + 1) r.found.items v e f) (line-long a) t)
 
       cycles : cycles_read s ≡ cycles_read r
-      cycles = cycles-same r s adds.run adds.last adds.acks
+      cycles = ap₂ (λ (x y : List Report). x ++ y) (ap (map report_of) adds.run) (ap₂ last_cycle adds.last adds.acks)
 
       now : FieldRows
-      now = rows ++ (decimal (length a.events + 1) ∷ w ∷ v ∷ []) ∷ []
+      now = rows ++ (b ∷ w ∷ v ∷ []) ∷ []
 
       long : length now ≡ length rows + 1
-      long = length-append rows ((decimal (length a.events + 1) ∷ w ∷ v ∷ []) ∷ [])
+      long = length-append rows ((b ∷ w ∷ v ∷ []) ∷ [])
 
       on : length (cycles_read s) + length s.found.items ≤ length (cycles_read r) + length r.found.items + 1 → length rows + 1 ≤ 4_294_967_294 → StandsNext s.next s.last (cycles_read s) s.found.items now → HasReadRows s now
-      on more short stands = read-on (decimal (length a.events + 1) ∷ w ∷ v ∷ []) a.read adds.count more (omega (arith, ap length adds.acks)) short (λ z. adds.run ∙ a.read.first (sym adds.last ∙ z)) stands
+      on more short stands = read-on (b ∷ w ∷ v ∷ []) a.read adds.count more (omega (arith, ap length adds.acks)) short (λ z. adds.run ∙ a.read.first (sym adds.last ∙ z)) stands
 
       goes : k + 1 < 29 → HasReadRows s now
       goes less =
           let g = adds.goes_on less in
-          let n = line-next k e f (cycles_read r) a.events rows w v a.inside (told-before r rows k e a) named here ok less in
+          let n = line-next a.inside b w v at named f here less in
           on (omega (arith, ap length cycles, ap length g.0)) (omega (arith, n.0.short, less, long)) (stands-as s.next (next.Line (k + 1) p) s.last s.last (cycles_read s) (cycles_read r) s.found.items r.found.items now g.1 refl cycles g.0 (a.events, a.found, n.0, n.1))
 
       ends : 29 ≤ k + 1 → HasReadRows s now
       ends more =
           let g = adds.ends more in
           let last : k + 1 ≡ 29 = omega (arith, a.inside.within, more) in
-          let n = line-last k e f (cycles_read r) a.events rows w v a.inside (told-before r rows k e a) named here ok last in
+          let n = line-last a.inside b w v at named f here last in
           let found-long = length-append r.found.items (found_event f ∷ []) in
           on (omega (arith, ap length cycles, ap length g.0, found-long)) (omega (arith, n.short, long))
           (stands-as s.next next.Events s.last s.last (cycles_read s) (cycles_read r) s.found.items (r.found.items ++ found_event f ∷ []) now g.1 refl cycles g.0 (a.events ++ f ∷ [], ap (λ (x : List Found). x ++ found_event f ∷ []) a.found ∙ sym (found-last a.events f), n))
 
-  pub line-result : (s : Reader) (p : PartEvent) (res : Result Unit Refused) → w ≡ get_or event_names k [] → AcceptsPlace k block r.found.items v e (event_of p) → OnOk res (AddsLine k p r s) → IfErr res (λ x. x ≡ refused.OutOfMemory) → TakesLine k e r s (b ∷ w ∷ v ∷ []) res
-  line-result s p (Ok u) named t adds m = λ rows a. line-read s p rows a named t adds
-  line-result s p (Err x) named t adds m = λ rows a. rw m tt
+  pub line-result : (s : Reader) (p : PartEvent) (res : Result Unit Refused) → AcceptsPlace k (length r.found.items + 1) r.found.items v e (event_of p) → OnOk res (AddsLine k p r s) → IfErr res (λ x. x ≡ refused.OutOfMemory) → TakesLine k e r s (b ∷ w ∷ v ∷ []) res
+  line-result s p (Ok u) t adds m = λ rows a. line-read s p rows a t adds
+  line-result s p (Err x) t adds m = λ rows a. rw m tt

@@ -62,14 +62,6 @@ distinct-more (f ∷ found) b h none = IsDistinct-cons eqb f.bank (banks_in foun
     (all-more (λ y. eqb f.bank y ≡ false) (banks_in found) b (IsDistinct-head eqb f.bank (banks_in found) h) (are-unequal f.bank b (All-head (λ (g : Found). g.bank ≢ b) f found none)))
     (distinct-more found b (IsDistinct-tail eqb f.bank (banks_in found) h) (All-tail (λ (g : Found). g.bank ≢ b) f found none))
 
-all-front : (P : ℕ → Type 0) (xs ys : List ℕ) → AllByRecursion P (xs ++ ys) → AllByRecursion P xs
-all-front P [] ys h = tt
-all-front P (x ∷ xs) ys h = (h.0, all-front P xs ys h.1)
-
-pub distinct-front : (xs ys : List ℕ) → IsDistinct eqb (xs ++ ys) → IsDistinct eqb xs
-distinct-front [] ys h = distinct-none [] refl
-distinct-front (x ∷ xs) ys h = IsDistinct-cons eqb x xs (all-front (λ y. eqb x y ≡ false) xs ys (IsDistinct-head eqb x (xs ++ ys) h)) (distinct-front xs ys (IsDistinct-tail eqb x (xs ++ ys) h))
-
 -- ---- the rows of a report, part by part
 
 no-record : (b : ℕ) (v : BankView) → IsDamagedView v → found_record b v ≡ None

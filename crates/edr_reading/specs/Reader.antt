@@ -14,7 +14,7 @@ use Rattle.edr_reading.specs.declared.reader.Refused.{Refused}
 use Rattle.edr_reading.specs.declared.reader.Refused.TheVariants as refused
 use Rattle.edr_reading.specs.declared.told.CycleRow.{CycleRow}
 use Rattle.edr_reading.specs.declared.told.CycleRow.TheVariants as row
-use Rattle.edr_reading.specs.Event.{EventAgrees, HasNoBank, HasNoneFree, event_of}
+use Rattle.edr_reading.specs.Event.{EventAgrees, HasNoBank, HasNoneFree, IsNextEvent, event_of}
 use Rattle.edr_reading.specs.Faults.{AreReport, IsWrong, IsFault}
 use Rattle.edr_reading.specs.Told.{IsAck, IsDamaged, IsEvent, IsReport, IsToldName, ack_fields, banks_in, count_fields, damaged_fields, events_fields, last_rows, name_words, run_fields}
 use Rattle.edr_reading.specs.Reading.{AreDistinct, head_row, IsReading, rows_told}
@@ -99,7 +99,8 @@ pub record IsBetween (has_acks has_cycles has_events : Bool) (reports : List Rep
 -- these rows were read, and in the event's block its line in place k may follow
 pub record IsInside (k : ℕ) (e : ℕ × Record) (reports : List Report) (es : List (ℕ × Record)) (rows : FieldRows) : Type 0 where
   pub within : k < EVENT_ROWS
-  pub told : IsToldReport reports (es ++ e ∷ []) []
+  pub told : IsToldReport reports es []
+  pub event : IsNextEvent (map found_event es) e
   pub are : rows ≡ whole reports es [] ++ take k (event_fields (length es + 1) e.0 e.1)
   pub short : length rows + (EVENT_ROWS + 1) ≤ 4_294_967_294 + k
   pub rest : (row : List (List ℕ)) (more : FieldRows) → slice_index_or row 0 [] ≡ decimal (length es + 1) → AreReport (rows ++ row ∷ more)
