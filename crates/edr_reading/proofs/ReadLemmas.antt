@@ -16,7 +16,7 @@ use Rattle.edr_image.specs.Reports.{Report, Ran, report_of}
 use Rattle.edr_record.specs.declared.Record.{Record}
 use Rattle.edr_record.specs.declared.Profile.TheVariants as profile
 use Rattle.edr_record.specs.declared.Place.TheVariants as place
-use Rattle.edr_report.specs.Words.{applied_words, damage_words, shown_count}
+use Rattle.edr_report.specs.Words.{applied_words, shown_count}
 use Rattle.edr_reading.specs.declared.event.PartEvent.{PartEvent}
 use Rattle.edr_reading.specs.declared.reader.Refused.{Refused}
 use Rattle.edr_reading.specs.Parts.{IsRecord}
@@ -34,7 +34,7 @@ use Rattle.edr_reading.specs.Told.{IsCycleRow, IsToldName, banks_in, name_words,
 use Rattle.edr_reading.specs.Reader.{AddsLine, AtLine, HasReadRows, IsBetween, IsOnlyName, IsRefused, MayBegin, MayHaveEvent, MayTell, StandsNext, Takes, TakesLine, cycles_read, last_cycle, may_ack, MayFollow, whole}
 use Rattle.edr_reading.specs.Reading.{AreDistinct, head_row}
 use Rattle.edr_reading.specs.Rows.{FieldRows, event_names}
-use Rattle.edr_reading.specs.Values.{IsApplied, IsBank, IsDamage, IsDamagedView, view_words, start_words}
+use Rattle.edr_reading.specs.Values.{IsApplied, IsBank, IsDamagedView, view_words, start_words}
 use Rattle.edr_reading.proofs.BetweenLemmas.{banks-last, found-last, told-ack, whole-ack, row-more, run-told, started, started-is, opens, only-next, All-last, between-block, between-count, refuse-1, refuse-2, refuse-3, start-between, told-next, ToldNext, next-row, some-rows}
 use Rattle.edr_reading.proofs.WholeLemmas.{alone, report-told, whole-cycle, whole-damaged, distinct-more}
 use Rattle.edr_reading.proofs.LineLemmas.{AcceptsPlace, first-line, line-last, line-most, line-next}
@@ -284,12 +284,6 @@ pub end-refused : (r : Reader) (rows : FieldRows) (n : ℕ) (b w value : List �
 end-refused r rows n b w value h e =
     let s = subst (λ (x : NextRow). StandsNext x r.last (cycles_read r) r.found.items rows) e h.stands in
     refuse-1 rows b w value (λ g. let z = s.6 ((b ∷ g.0) ∷ g.1) g.2 in cc)
-
--- a view that is damaged shows where and what
-pub no-damage : (value : List ℕ) → ((o x : ℕ) (l : Bool) → IsDamage o x → value ≡ damage_words o x l → ⊥) → (v : BankView) → IsDamagedView v → value ≡ view_words v → ⊥
-no-damage value never view.Void h e = h
-no-damage value never (view.Event r) h e = h
-no-damage value never (view.Damaged o x l) h e = never o x l h e
 
 -- ---- rows of an event
 

@@ -1,6 +1,7 @@
 -- Lists of slots, slot by slot, and the points of an axis.
-use Rattle.std.proofs.Common.{arith, ◌≡◌, ◌∙◌, sym, ap, subst, refl, ℕ, zero, suc, ◌+◌, ◌<◌, List, [], ◌∷◌, ◌++◌, length, map, take, drop, get_or, set, append_assoc, ◌^◌, Option, Some, None, codes, nat_eq, true, ◌≤◌, ℤ, pos, replicate, length-append, length-take-le, length-drop, slice_get, FitsSigned, w16, max}
+use Rattle.std.proofs.Common.{ap₂, arith, ◌≡◌, ◌∙◌, sym, ap, subst, refl, ℕ, zero, suc, ◌+◌, ◌<◌, List, [], ◌∷◌, ◌++◌, length, map, take, drop, get_or, set, append_assoc, ◌^◌, Option, Some, None, codes, nat_eq, true, ◌≤◌, ℤ, pos, replicate, length-append, length-take-le, length-drop, slice_get, max, FitsSigned, w16, to_z, of_z}
 use Rattle.std.specs.List.{All}
+use Rattle.std.proofs.lemmas.Int.{ints, to_z-of_z}
 use Rattle.std.proofs.lemmas.Bool.{eqb-true}
 use Rattle.std.proofs.lemmas.List.{append-nil, drop_all, drop_more, take_all, take_more, take_more_set, map-append, append_cancel_left, drop-replicate, take-append-drop, length-replicate}
 use Rattle.std.proofs.lemmas.List.Elements.{All-append, All-drop, All-take, All-replicate}
@@ -8,9 +9,8 @@ use Rattle.std.proofs.Math.Seq.{take-length, take-append_seam, drop-append_seam}
 use Rattle.edr_record.specs.Bounds.{IsUpTo, ArePoints, IsChange, point_count, IsCrash, IsExtreme, window_from_end}
 use Rattle.edr_report.specs.Words.{spaced_words, number_or_none, points_words, milliseconds, none_word}
 use Rattle.edr_reading.proofs.FrontLemmas.{not-number}
-use Rattle.edr_reading.specs.Answers.{EndsNumber}
-use Rattle.edr_reading.specs.Slots.{each_spaced, spaced_after, space_at, ShowPoints, with_zeros}
-use Rattle.std.proofs.lemmas.Int.{ints}
+use Rattle.edr_reading.specs.Answers.{EndsNumber, Reads}
+use Rattle.edr_reading.specs.Slots.{each_spaced, spaced_after, space_at, ReadsSlots}
 use Rattle.std.specs.Fmt.{signed_decimal}
 use Rattle.edr_record.specs.Parts.{CrashPart}
 
@@ -105,62 +105,43 @@ zeros-change = λ k d h. rw (zero-at k 26 d h) (omega arith)
     zero-at zero (suc n) d h = refl
     zero-at (suc k) (suc n) d h = zero-at k n d (omega arith)
 
-room-is : (end : ℕ) (front : List ℤ) → length front ≡ point_count end → length (with_zeros (point_count end) front) ≡ 26
-room-is end front long =
-    let n = point_count end in
-    let fits = count-fits end in
-    length-append front (drop n (replicate 26 (pos 0))) ∙ (let d = length-drop n (replicate 26 (pos 0)) in let r = length-replicate 26 (pos 0) in omega (arith, d, r, long, fits.1))
-
-points-read : (bytes : List ℕ) (end : ℕ) (front : List ℤ) → length front ≡ point_count end → bytes ≡ spaced_words (map signed_decimal front) → All IsChange front → slice_get (with_zeros (point_count end) front) 0 ≡ Some (pos 0)
-    → (bytes ≡ points_words end (with_zeros (point_count end) front)) × ArePoints (point_count end) (with_zeros (point_count end) front)
-points-read bytes end front long is changes first =
-    let n = point_count end in
-    let zs = drop n (replicate 26 (pos 0)) in
-    let front-of : take n (front ++ zs) ≡ front = ap (λ (k : ℕ). take k (front ++ zs)) (sym long) ∙ take-append_seam front zs in
-    let after-of : drop n (front ++ zs) ≡ zs = ap (λ (k : ℕ). drop k (front ++ zs)) (sym long) ∙ drop-append_seam front zs in (
-      is ∙ ap (λ (a : List ℤ). spaced_words (map signed_decimal a)) (sym front-of),
-      record {
-        room = room-is end front long;
-        first = first;
-        changes = All-append IsChange front zs changes (All-drop IsChange n (replicate 26 (pos 0)) zeros-change);
-        past = after-of ∙ drop-replicate n 26 (pos 0);
-      },
-    )
-
-pub points-whole : (end : ℕ) (ps front : List ℤ) → ArePoints (point_count end) ps → front ≡ take (point_count end) ps → with_zeros (point_count end) front ≡ ps
-points-whole end ps front are is =
-    let n = point_count end in
-    ap (λ (a : List ℤ). a ++ drop n (replicate 26 (pos 0))) is ∙ ap (λ (a : List ℤ). take n ps ++ a) (drop-replicate n 26 (pos 0) ∙ sym are.past) ∙ take-append-drop n ps
-
-pub points-front : (end : ℕ) (ps : List ℤ) → ArePoints (point_count end) ps → (length (take (point_count end) ps) ≡ point_count end) × All IsChange (take (point_count end) ps)
-points-front end ps are =
-    let fits = count-fits end in
-    (length-take-le (point_count end) ps (omega (arith, are.room, fits.1)), All-take IsChange (point_count end) ps are.changes)
-
 pub first-is : (ps : List ℤ) → length ps ≡ 26 → get_or ps 0 (pos 0) ≡ pos 0 → slice_get ps 0 ≡ Some (pos 0)
 first-is [] long e = absurd (omega arith)
 first-is (p ∷ ps) long e = ap Some e
 
-pub points-are : (bytes : List ℕ) (end : ℕ) (ps front : List ℤ) → ps ≡ with_zeros (point_count end) front → ShowPoints (point_count end) bytes front → (IsChange (get_or ps 0 (pos 0)) → get_or ps 0 (pos 0) ≡ pos 0)
-    → (bytes ≡ points_words end ps) × ArePoints (point_count end) ps
-points-are bytes end ps front e shown at_zero =
-    let long = shown.0 in
-    let is = shown.1.0 in
-    let changes = shown.1.1 in
-    let all : All IsChange ps = subst (All IsChange) (sym e) (All-append IsChange front (drop (point_count end) (replicate 26 (pos 0))) changes (All-drop IsChange (point_count end) (replicate 26 (pos 0)) zeros-change)) in
-    let room : length ps ≡ 26 = ap length e ∙ room-is end front long in
-    let first = first-is ps room (at_zero (all 0 (pos 0) (omega (arith, room)))) in
-    subst (λ (qs : List ℤ). (bytes ≡ points_words end qs) × ArePoints (point_count end) qs) (sym e) (points-read bytes end front long is changes (subst (λ (qs : List ℤ). slice_get qs 0 ≡ Some (pos 0)) e first))
-
--- where points are shown, they are read
-pub points-given : (bytes : List ℕ) (end : ℕ) (r : Option (List ℤ)) (ps : List ℤ) → ((front : List ℤ) → ShowPoints (point_count end) bytes front → r ≡ Some (with_zeros (point_count end) front))
-    → ArePoints (point_count end) ps → bytes ≡ points_words end ps → r ≡ Some ps
-points-given bytes end r ps whole are is =
-    let f = points-front end ps are in
-    whole (take (point_count end) ps) (f.0, (is, f.1)) ∙ ap Some (points-whole end ps (take (point_count end) ps) are refl)
-
 pub change-fits : (z : ℤ) → IsChange z → FitsSigned w16 z
 change-fits z h = grind (arith, ints)
+
+-- slots that were read, with zeros past them, are points
+pub points-are : (bytes : List ℕ) (end n : ℕ) (front : List ℤ) → n ≡ point_count end → ReadsSlots signed_decimal IsChange bytes (take n (replicate 26 (pos 0))) front (Some tt) → of_z w16 (get_or (front ++ drop n (replicate 26 (pos 0))) 0 (pos 0)) ≡ 0
+    → Reads (points_words end) (ArePoints (point_count end)) bytes (Some (front ++ drop n (replicate 26 (pos 0))))
+points-are bytes end n front e r none = subst (λ (k : ℕ). ReadsSlots signed_decimal IsChange bytes (take k zeros) front (Some tt) → of_z w16 (get_or (front ++ drop k zeros) 0 (pos 0)) ≡ 0 → Reads (points_words end) (ArePoints (point_count end)) bytes (Some (front ++ drop k zeros))) (sym e) at r none
+  where
+    zeros : List ℤ
+    zeros = replicate 26 (pos 0)
+
+    at : ReadsSlots signed_decimal IsChange bytes (take (point_count end) zeros) front (Some tt) → of_z w16 (get_or (front ++ drop (point_count end) zeros) 0 (pos 0)) ≡ 0 → Reads (points_words end) (ArePoints (point_count end)) bytes (Some (front ++ drop (point_count end) zeros))
+    at r none =
+        let m = point_count end in
+        let fits = count-fits end in
+        let all = length-replicate 26 (pos 0) in
+        let old : length (take m zeros) ≡ m = length-take-le m zeros (omega (arith, all, fits.1)) in
+        let long : length front ≡ m = r.long ∙ old in
+        let zs = drop m zeros in
+        let room : length (front ++ zs) ≡ 26 = length-append front zs ∙ (let d = length-drop m zeros in omega (arith, d, all, long, fits.1)) in
+        let changes = All-append IsChange front zs r.read.1 (All-drop IsChange m zeros zeros-change) in
+        let first : get_or (front ++ zs) 0 (pos 0) ≡ pos 0 = sym (to_z-of_z w16 _ (change-fits _ (changes 0 (pos 0) (omega (arith, room))))) ∙ ap (to_z w16) none in
+        let front-of : take m (front ++ zs) ≡ front = ap (λ (k : ℕ). take k (front ++ zs)) (sym long) ∙ take-append_seam front zs in
+        let after-of : drop m (front ++ zs) ≡ zs = ap (λ (k : ℕ). drop k (front ++ zs)) (sym long) ∙ drop-append_seam front zs in
+        record {
+          read = (
+            r.read.0 ∙ ap (λ (a : List ℤ). spaced_words (map signed_decimal a)) (sym front-of),
+            record { room = room; first = first-is (front ++ zs) room first; changes = changes; past = after-of ∙ drop-replicate m 26 (pos 0) },
+          );
+          whole = λ ps are is.
+              let long2 = length-take-le m ps (omega (arith, are.room, fits.1)) in
+              ap Some (ap₂ (λ (a b : List ℤ). a ++ b) (r.whole (take m ps) (long2 ∙ sym old) (is, All-take IsChange m ps are.changes)) (drop-replicate m 26 (pos 0) ∙ sym are.past) ∙ take-append-drop m ps);
+        }
 
 -- the points of an axis on which nothing changed
 pub no-points : (n : ℕ) → ArePoints n (replicate 26 (pos 0))

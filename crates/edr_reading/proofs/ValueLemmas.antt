@@ -5,7 +5,9 @@ use Rattle.std.specs.Option.{IfSome}
 use Rattle.edr_record.specs.Bounds.{IsUpTo, IsChange}
 use Rattle.edr_report.specs.Words.{firing_words, stop_words, missing_words, damage_words, yes_no, cycle_words, ack_words, kind_word}
 use Rattle.edr_reading.specs.Answers.{AreUpTo, IsFromTo, ReadsTwo, two_numbers}
-use Rattle.edr_reading.specs.Values.{IsStopCall, IsRan, ran_words, start_words}
+use Rattle.edr_image.specs.declared.BankView.{BankView}
+use Rattle.edr_image.specs.declared.BankView.TheVariants.{Damaged, Event, Void}
+use Rattle.edr_reading.specs.Values.{IsDamagedView, view_words, IsStopCall, IsRan, ran_words, start_words}
 use Rattle.edr_reading.proofs.FrontLemmas.{not-number, first-digit, numeral-digits}
 use Rattle.std.specs.List.{list_all}
 use Rattle.edr_image.specs.declared.Kind.{Kind}
@@ -56,6 +58,12 @@ byte_words found locked = codes " found " ++ (decimal found ++ lock_words locked
 
 pub damage-is : (o x : ℕ) (l : Bool) → damage_words o x l ≡ codes "damaged at " ++ (decimal o ++ byte_words x l)
 damage-is o x l = simp append_assoc
+
+-- who reads what a damaged bank shows reads its view
+pub damaged-read : (bytes : List ℕ) (r : Option BankView) → ((o x : ℕ) (l : Bool) → o ≤ 1_023 → x ≤ 255 → bytes ≡ codes "damaged at " ++ (decimal o ++ byte_words x l) → r ≡ Some (Damaged o x l)) → (v : BankView) → IsDamagedView v → bytes ≡ view_words v → r ≡ Some v
+damaged-read bytes r read Void h is = absurd h
+damaged-read bytes r read (Event e) h is = absurd h
+damaged-read bytes r read (Damaged o x l) h is = read o x l h.0 h.1 (is ∙ damage-is o x l)
 
 -- ---- the rows of block 0
 

@@ -12,7 +12,6 @@ use Rattle.edr_image.specs.declared.Applied.TheVariants.{Kept, Locked, Done, Not
 use Rattle.edr_record.specs.declared.Place.{Place}
 use Rattle.edr_record.specs.Bounds.{IsPlace}
 use Rattle.edr_report.specs.Words.{events_in_crash, time_between}
-use Rattle.edr_reading.specs.declared.values.DamageShown.{DamageShown}
 
 -- the number of a bank
 abbrev pub IsBank : ℕ → Type 0
@@ -39,10 +38,6 @@ pub record ReadsPlace (place : Place) (bytes : List ℕ) (result : Option Place)
 abbrev pub IsTick : ℕ → Type 0
 IsTick t = (1 ≤ t) × (t ≤ LATEST_MOMENT)
 
--- a place in the two parts of a record, and a byte
-abbrev pub IsDamage : ℕ → ℕ → Type 0
-IsDamage offset found = (offset ≤ BANK_SIZE - 1) × (found ≤ 255)
-
 -- what was done in this bank by a command of this kind
 abbrev pub done_in : Kind → ℕ → Applied
 done_in kind.Take b = Kept b
@@ -53,21 +48,17 @@ done_in kind.Done b = Done b
 abbrev pub IsApplied : Kind → Applied → Type 0
 IsApplied k a = (a ≡ NotKept) ⊎ ((b : ℕ) × IsBank b × (a ≡ done_in k b))
 
--- what a damaged bank shows is in its bounds
+-- what a damaged bank shows is in its bounds: a place in the two parts of a record, and a byte
 abbrev pub IsDamagedView : BankView → Type 0
 IsDamagedView Void = ⊥
 IsDamagedView (Event r) = ⊥
-IsDamagedView (Damaged o x l) = IsDamage o x
+IsDamagedView (Damaged o x l) = (o ≤ BANK_SIZE - 1) × (x ≤ 255)
 
 -- what the row of a damaged bank shows
 abbrev pub view_words : BankView → List ℕ
 view_words Void = []
 view_words (Event r) = []
 view_words (Damaged o x l) = damage_words o x l
-
--- the bytes are those of a damaged bank that shows this
-abbrev pub ShowsDamage : List ℕ → DamageShown → Type 0
-ShowsDamage bytes d = IsDamage d.offset d.found × (bytes ≡ damage_words d.offset d.found d.locked)
 
 -- how a call is spelled in which a start was stopped
 abbrev pub start_words : ℕ → List ℕ

@@ -1,13 +1,11 @@
 //! What came after time zero, read line by line.
 
-ghost use Rattle.std.specs.Prelude.{◌≡◌, ◌≤◌, IfSome, pos, ◌≢◌};
-ghost use Rattle.std.specs.Bool.{MatchBool};
+ghost use Rattle.std.specs.Prelude.{◌≡◌, ◌≤◌, IfSome};
 ghost use Rattle.edr_record.specs.declared.TheConstants.{EARLIEST_END, POINTS, RESET};
 ghost use Rattle.edr_record.specs.Bounds.{ArePoints, IsCrash, point_count};
 ghost use Rattle.edr_report.specs.Words.{points_words};
 ghost use Rattle.edr_reading.specs.Parts.{BeginsPart, AcceptsCrashLine, AcceptsPartLine};
 ghost use Rattle.edr_reading.specs.Answers.{Reads};
-ghost use Rattle.edr_reading.specs.Slots.{ReadsPoints};
 
 use crate::front::is_word;
 use crate::slots::read_slots;
@@ -15,30 +13,13 @@ use crate::values::{end_time, extreme, firing, missing, time};
 use edr_record::{Crash, Extreme, POINTS, point_count, window_from_end};
 use edr_report::CrashLine;
 
-// So many points, with zeros after them.
-fn some_points(bytes: &[u8], count: usize) -> Option<[i16; POINTS]>
-    requires { count ≤ POINTS }
-    ensures { ReadsPoints count bytes.now result }
-{
-    let mut points = [0; POINTS];
-    read_slots(bytes, &mut points[..count])?;
-    Some(points)
-}
-
-fn is_zero(change: i16) -> bool
-    ensures { MatchBool result (change ≡ pos 0) (change ≢ pos 0) }
-{
-    change == 0
-}
-
 // The points of an axis that the end allows.
 fn points(bytes: &[u8], end: u16) -> Option<[i16; POINTS]>
     ensures { Reads (points_words end) (ArePoints (point_count end)) bytes.now result }
 {
-    match some_points(bytes, point_count(end)) {
-        Some(points) if is_zero(points[0]) => Some(points),
-        _ => None,
-    }
+    let mut points = [0; POINTS];
+    read_slots(bytes, &mut points[..point_count(end)])?;
+    if points[0] == 0 { Some(points) } else { None }
 }
 
 // The plain crash part with this end, in which nothing changed.

@@ -2,17 +2,15 @@
 
 ghost use Rattle.std.specs.Prelude.{◌≡◌, ◌<◌, [], ⊤, length, slice_index_or, IfSome, MatchOption};
 ghost use Rattle.std.specs.Bool.{MatchBool};
-ghost use Rattle.edr_report.specs.Words.{yes_no};
-ghost use Rattle.edr_reading.specs.Answers.{TellsWhether};
 ghost use Rattle.edr_reading.specs.Event.{HasNoBank, IsNextEvent, event_of, HasNoneFree, AcceptsEventLine};
 ghost use Rattle.edr_reading.specs.Parts.{IsRecord};
 ghost use Rattle.edr_reading.specs.Rows.{lines_of, names_of};
 ghost use Rattle.edr_reading.specs.Values.{IsBank};
 
 use crate::crash::part_line;
-use crate::front::{is_word, last_within};
+use crate::front::last_within;
 use crate::pre::{plain_pre, pre_line};
-use crate::values::bank_after;
+use crate::values::{bank_after, decision};
 use edr_image::Found;
 use edr_image::places::MOST_BANKS;
 use edr_record::Record;
@@ -73,17 +71,6 @@ pub(crate) fn line_at(
     lines[place]
 }
 
-// The value is `yes` or `no`, as this is true or not.
-fn is_decision(value: &[u8], decision: bool) -> bool
-    ensures { TellsWhether result (value.now ≡ yes_no decision) }
-{
-    if decision {
-        is_word(value, b"yes")
-    } else {
-        is_word(value, b"no")
-    }
-}
-
 /// The event with what this line shows, after the lines before it, if it may show it: none of the banks found is its own.
 pub(crate) fn event_line(
     event: &PartEvent,
@@ -119,7 +106,9 @@ pub(crate) fn event_line(
             let record = Record { crash, ..record };
             Some(PartEvent { bank, record })
         }
-        EventLine::Complete if is_decision(value, record.complete()) => Some(*event),
-        EventLine::Complete => None,
+        EventLine::Complete => {
+            let complete = decision(value)?;
+            if complete == record.complete() { Some(*event) } else { None }
+        }
     }
 }

@@ -219,17 +219,12 @@ impl Reader {
         requires { self.old.rows + 1 < 2 ^ 32 }
         ensures { TakesNamed (name.Bank bank) value.now self.old self.new result }
     {
-        let Some(damage) = damage(value) else {
+        let Some(view) = damage(value) else {
             return Err(Refused::Field(3));
         };
         // The prover learns here of the types of what a bank may hold.
         let _record: Option<Record> = None;
         let _crash: Option<Crash> = None;
-        let view = BankView::Damaged {
-            offset: damage.offset,
-            found: damage.found,
-            locked: damage.locked,
-        };
         let Ok(()) = self.found.push(Found { bank, view }) else {
             return Err(Refused::OutOfMemory);
         };

@@ -7,11 +7,11 @@ ghost use Rattle.edr_record.specs.Bounds.{IsChange, IsExtreme, IsPlace, IsUpTo};
 ghost use Rattle.edr_report.specs.declared.TheConstants.{LARGEST_SHOWN_COUNT};
 ghost use Rattle.edr_report.specs.Words.{applied_words, yes_no, profile_word, switch_or_none, milliseconds, firing_words, number_shown, shown_count, events_in_crash, extreme_words, missing_words, ack_words, seconds, tenths_of};
 ghost use Rattle.edr_reading.specs.Answers.{AreUpTo, EndsNumber, GivesValue, IsFromTo, Reads, ReadsFront, ReadsTwo, number_after};
-ghost use Rattle.edr_reading.specs.Values.{IsBank, IsStopCall, IsApplied, IsTick, done_in, command_words, ran_words, IsPlaceLike, IsRan, ReadsPlace, ShowsDamage, end_words, start_words};
+ghost use Rattle.edr_reading.specs.Values.{IsBank, IsStopCall, IsApplied, IsTick, done_in, command_words, ran_words, IsPlaceLike, IsRan, ReadsPlace, IsDamagedView, end_words, start_words, view_words};
 
 use crate::front::{after, is_word, last_within, two_within, within, within_after};
 use edr_image::places::{BANK_SIZE, MOST_BANKS};
-use edr_image::{Applied, Kind};
+use edr_image::{Applied, BankView, Kind};
 use edr_items::LATEST_MOMENT;
 use edr_record::{EARLIEST_END, Extreme, GREATEST_CHANGE, Place, Profile, RESET};
 use edr_report::LARGEST_SHOWN_COUNT;
@@ -184,23 +184,14 @@ pub(crate) fn place_between(place: Place, bytes: &[u8]) -> Option<Place>
     }
 }
 
-/// What a damaged bank shows: where, which byte stands there, and whether it is locked.
-#[derive(Clone, Copy)]
-pub(crate) struct DamageShown {
-    pub offset: u16,
-    pub found: u8,
-    pub locked: bool,
-}
-
-/// What these bytes show of a damaged bank.
-pub(crate) fn damage(bytes: &[u8]) -> Option<DamageShown>
-    ensures read { IfSome result (ShowsDamage bytes.now) }
-    ensures whole { (d : DamageShown) → ShowsDamage bytes.now d → IsSome result }
+/// What these bytes show of a damaged bank: where it is, which byte stands there, and whether it is locked.
+pub(crate) fn damage(bytes: &[u8]) -> Option<BankView>
+    ensures { Reads view_words IsDamagedView bytes.now result }
 {
     let (offset, rest) = within_after(bytes, b"damaged at ", 0, BANK_SIZE as u32 - 1)?;
     let (found, rest) = within_after(rest, b" found ", 0, 255)?;
     let locked = decision(after(rest, b" locked ")?)?;
-    Some(DamageShown {
+    Some(BankView::Damaged {
         offset: offset as u16,
         found: found as u8,
         locked,

@@ -1,8 +1,14 @@
-use Rattle.std.proofs.Common.{rules, ◌∙◌, sym, ap}
-use Rattle.edr_report.specs.Words.{yes_no}
+use mathlib.Core.Bool.{beq}
+use Rattle.std.proofs.Common.{rules, ◌≡◌, ◌∙◌, sym, ap, Bool, true, false}
+use Rattle.std.proofs.lemmas.Option.{same_Some}
+use Rattle.edr_record.specs.Complete.{is_complete}
 use Rattle.edr_reading.specs.Event.{event_of}
 use Rattle.edr_reading.proofs.EventLemmas.{before-agrees, before-here, after-agrees, after-earlier, complete-same}
 use Rattle.edr_reading.proofs.event.event_line.Goals as goal
+
+not-itself : (b : Bool) → beq b b ≡ false → ⊥
+not-itself true e = cc
+not-itself false e = cc
 
 pub returns-in_ok-pre-in-Before : goal.returns-in_ok-pre-in-Before
 returns-in_ok-pre-in-Before c =
@@ -26,15 +32,6 @@ returns-in_ok-crash-in-After c =
       whole = λ f is a e. after-agrees c.in-After.line c.args.event.now.bank old.pre old.locked old.crash now.crash f a (λ b. now.ensures.whole f.1.crash is.record_bounds.crash b e);
     })
 
-pub returns-in-Complete-2 : goal.returns-in-Complete-2
-returns-in-Complete-2 c =
-    rw c.in-Complete.is (record {
-      bounds = tt;
-      shows = tt;
-      earlier = tt;
-      whole = λ f is a e. c.if-is_decision.ensures (e ∙ ap yes_no (sym (c.complete.ensures ∙ complete-same (event_of c.args.event.now) f a)));
-    })
-
 pub returns-in_err-pre-in-Before : goal.returns-in_err-pre-in-Before
 returns-in_err-pre-in-Before c =
     rw (c.from_residual-in_err-pre-in-Before.ensures, c.in-Before.is) (record {
@@ -42,4 +39,16 @@ returns-in_err-pre-in-Before c =
       shows = tt;
       earlier = tt;
       whole = λ f is a e. c.in_err-pre-in-Before.ensures.whole (f.1.pre, f.1.locked) is.record_bounds.pre (before-here c.in-Before.line c.args.event.now.record.pre f.1.pre a.before) e;
+    })
+
+pub returns-else-complete : goal.returns-else-complete
+returns-else-complete c =
+    rw c.in-Complete.is (record {
+      bounds = tt;
+      shows = tt;
+      earlier = tt;
+      whole = λ f is a e.
+          let shown = c.in_ok-complete-in-Complete.ensures.whole (is_complete f.1) tt e in
+          let s : c.in_ok-complete-in-Complete.complete ≡ c.complete.result = same_Some _ _ shown ∙ sym (c.complete.ensures ∙ complete-same (event_of c.args.event.now) f a) in
+          not-itself c.complete.result (ap (λ (b : Bool). beq b c.complete.result) (sym s) ∙ c.if-complete.false);
     })
