@@ -13,8 +13,7 @@ use Rattle.edr_report.specs.Words.{yes_no, firing_words}
 use Rattle.edr_report.specs.declared.event_lines.EventLine.{EventLine}
 use Rattle.edr_report.specs.declared.event_lines.EventLine.TheVariants.{Number, Before, After}
 use Rattle.edr_report.specs.declared.event_lines.TheConstants.{LINES_OF_EVENT}
-use Rattle.edr_reading.specs.Event.{event_place, event_texts, EventAgrees}
-use Rattle.edr_reading.specs.Parts.{IsRecord, first_texts, pre_texts, PartsAgree, PreAgrees, crash_place, crash_texts, pre_place}
+use Rattle.edr_reading.specs.Event.{event_place, event_texts, EventAgrees, IsRecord, first_texts, pre_texts, PartsAgree, PreAgrees, crash_place, crash_texts, pre_place}
 use Rattle.edr_reading.specs.Rows.{FieldRows, Texts, event_fields, event_names, line_fields}
 use Rattle.edr_report.specs.declared.event_lines.PreLine.{PreLine}
 use Rattle.edr_report.specs.declared.event_lines.PreLine.TheVariants as pre

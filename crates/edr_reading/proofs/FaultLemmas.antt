@@ -1,5 +1,5 @@
 -- Where a text can be no report, and what was read of one that is.
-use Rattle.std.proofs.Common.{arith, ◌≡◌, ◌≢◌, ◌∙◌, sym, ap, subst, refl, ℕ, zero, suc, ◌<◌, ◌≤◌, ◌+◌, ◌-◌, min, map, List, [], ◌∷◌, ◌++◌, length, length-append, take, drop, get_or, codes, decimal, length-take-le, Option, None, Bool, Result, Ok, Err}
+use Rattle.std.proofs.Common.{arith, ◌≡◌, ◌≢◌, ◌∙◌, sym, ap, subst, refl, ℕ, zero, suc, ◌<◌, ◌≤◌, ◌+◌, ◌-◌, min, map, List, [], ◌∷◌, ◌++◌, length, length-append, take, drop, get_or, decimal, length-take-le, Option, None, Bool, Result, Ok, Err}
 use Rattle.std.proofs.Math.Seq.{get_or-append_seam, take-length}
 use Rattle.std.proofs.lemmas.List.{drop_all, take_all, append-nil, take-append-drop, drop_more, get_or-map, length-map, take_more}
 use Rattle.edr_report.specs.Report.{report_lines}
@@ -52,22 +52,9 @@ opens-none = (report_rows [] [] 0, ([], [], 0, reading-none, refl))
 pub goes-on-head : (front back : List (List ℕ)) → front ++ back ≡ head_row → ReportGoesOn [] front
 goes-on-head front back e = (back, map line_fields (report_lines [] [] 0), ([], [], 0, reading-none, ap (λ (r : List (List ℕ)). r ∷ map line_fields (report_lines [] [] 0)) e))
 
--- and with no others
-pub head-goes-on : (front : List (List ℕ)) → ReportGoesOn [] front → (back : List (List ℕ)) × (front ++ back ≡ head_row)
-head-goes-on front g = (g.0, ap (λ (rows : List (List (List ℕ))). get_or rows 0 []) g.2.4)
-
 -- a text without a row is no report
 pub none-is-none : ¬ AreReport []
 none-is-none a = let e = ap length a.4 in omega (arith, e)
-
-pub not-first : (a : List ℕ) → a ≢ codes "block" → ¬ ReportGoesOn [] (a ∷ [])
-not-first a n g = n (ap (λ (r : List (List ℕ)). get_or r 0 []) (head-goes-on (a ∷ []) g).1)
-
-pub not-second : (a b : List ℕ) → b ≢ codes "name" → ¬ ReportGoesOn [] (a ∷ b ∷ [])
-not-second a b n g = n (ap (λ (r : List (List ℕ)). get_or r 1 []) (head-goes-on (a ∷ b ∷ []) g).1)
-
-pub not-third : (a b c : List ℕ) → c ≢ codes "value" → ¬ ReportGoesOn [] (a ∷ b ∷ c ∷ [])
-not-third a b c n g = n (ap (λ (r : List (List ℕ)). get_or r 2 []) (head-goes-on (a ∷ b ∷ c ∷ []) g).1)
 
 -- a row of a report has three fields
 pub row-three : (xs : List (List (List ℕ))) (r : List (List ℕ)) (rs : List (List (List ℕ))) → AreReport (xs ++ r ∷ rs) → length r ≡ 3
@@ -135,12 +122,9 @@ stands-none (next.Nothing n) last reports found rows s other = absurd (other n r
 
 -- ---- faults
 
-rows-are : (r : Reader) (records : FieldRows) (i : ℕ) → i < length records → HasReadRows r (take i records) → r.rows ≡ i
-rows-are r records i less h = h.count ∙ length-take-le i records (omega (arith, less))
-
 fault-next : (r : Reader) (records : FieldRows) (i : ℕ) (f : RowFault) → i < length records → HasReadRows r (take i records) → IsWrong (take i records) (drop i records) f → IsFault records (r.rows + 1) f
 fault-next r records i f less h w =
-    subst (λ (k : ℕ). IsFault records (k + 1) f) (sym (rows-are r records i less h))
+    subst (λ (k : ℕ). IsFault records (k + 1) f) (sym (h.count ∙ length-take-le i records (omega (arith, less))))
     (fault-after records i f (omega (arith, less)) (stands-opens r.next r.last (cycles_read r) r.found.items (take i records) h.stands) w)
 
 pub field-fault : (r : Reader) (records : FieldRows) (i f : ℕ) → i < length records → HasReadRows r (take i records) → IsRefused (take i records) (get_or records i []) (refused.Field f) → IsFault records (r.rows + 1) (fault.Field f)

@@ -8,10 +8,9 @@ use Rattle.edr_image.specs.declared.Found.{Found}
 use Rattle.edr_image.specs.Banks.{found_event}
 use Rattle.edr_image.specs.Reports.{Report}
 use Rattle.edr_report.specs.EventWords.{event_words}
-use Rattle.edr_reading.specs.Parts.{AcceptsLine}
+use Rattle.edr_reading.specs.Event.{AcceptsLine, AcceptsEventLine, EventAgrees, IsNextEvent, event_of, event_texts}
 use Rattle.edr_report.specs.declared.event_lines.EventLine.TheVariants.{Number}
 use Rattle.edr_reading.specs.declared.reader.Refused.TheVariants as refused
-use Rattle.edr_reading.specs.Event.{AcceptsEventLine, EventAgrees, IsNextEvent, event_of, event_texts}
 use Rattle.edr_reading.specs.declared.event.PartEvent.{PartEvent}
 use Rattle.edr_reading.specs.Faults.{AreReport, ReportGoesOn}
 use Rattle.edr_reading.specs.Told.{IsAck, IsDamaged, IsEvent, IsReport, banks_in, count_fields, damaged_fields, events_fields, last_rows}

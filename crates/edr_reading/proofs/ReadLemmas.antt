@@ -19,7 +19,7 @@ use Rattle.edr_record.specs.declared.Place.TheVariants as place
 use Rattle.edr_report.specs.Words.{applied_words, shown_count}
 use Rattle.edr_reading.specs.declared.event.PartEvent.{PartEvent}
 use Rattle.edr_reading.specs.declared.reader.Refused.{Refused}
-use Rattle.edr_reading.specs.Parts.{IsRecord}
+use Rattle.edr_reading.specs.Event.{IsRecord, HasNoBank, IsNextEvent, event_of}
 use Rattle.edr_reading.specs.declared.told.CycleRow.{CycleRow}
 use Rattle.edr_reading.specs.declared.told.CycleRow.TheVariants as row
 use Rattle.edr_reading.specs.declared.told.ToldName.{ToldName}
@@ -28,7 +28,6 @@ use Rattle.edr_reading.specs.declared.reader.NextRow.{NextRow}
 use Rattle.edr_reading.specs.declared.reader.NextRow.TheVariants as next
 use Rattle.edr_reading.specs.declared.reader.Reader.{Reader}
 use Rattle.edr_reading.specs.declared.reader.Refused.TheVariants as refused
-use Rattle.edr_reading.specs.Event.{HasNoBank, IsNextEvent, event_of}
 use Rattle.edr_reading.specs.Faults.{ReportGoesOn, AreReport}
 use Rattle.edr_reading.specs.Told.{IsCycleRow, IsToldName, banks_in, name_words, row_words, IsReport, IsDamaged}
 use Rattle.edr_reading.specs.Reader.{AddsLine, AtLine, HasReadRows, IsBetween, IsOnlyName, IsRefused, MayBegin, MayHaveEvent, MayTell, StandsNext, Takes, TakesLine, cycles_read, last_cycle, may_ack, MayFollow, whole}

@@ -1,8 +1,11 @@
--- What a reader answers: of whole bytes, and of numbers and other words in front of some.
-use Rattle.std.specs.Prelude.{◌≡◌, ℕ, Bool, List, Option, Some, IfSome, MatchOption, ◌≤◌, ◌<◌, ◌^◌, false, ⊤, [], ◌∷◌, ◌++◌, decimal}
+-- What a reader answers: of whole bytes, of numbers and other words in front of some, and of words parted by spaces.
+use Rattle.std.specs.Prelude.{◌≡◌, ℕ, Bool, List, Option, Some, IfSome, MatchOption, ◌≤◌, ◌<◌, ◌^◌, false, ⊤, [], ◌∷◌, ◌++◌, decimal, zero, suc, All, map, length, flat_map}
 use Rattle.std.specs.Bool.{MatchBool}
 use denote.Ref.{Bor}
 use Rattle.edr_text.specs.Numbers.{is_digit}
+use Rattle.edr_report.specs.Words.{spaced_words}
+
+-- ---- what a reader answers: of whole bytes, and of numbers and other words in front of some
 
 -- it tells whether this is so
 abbrev pub TellsWhether : Bool → Type 0 → Type 0
@@ -64,3 +67,29 @@ number_between front back n = front ++ (decimal n ++ back)
 -- two numbers among other bytes
 abbrev pub two_numbers : List ℕ → List ℕ → List ℕ → ℕ → ℕ → List ℕ
 two_numbers front middle back m n = front ++ (decimal m ++ (middle ++ (decimal n ++ back)))
+
+-- ---- words parted by one space, of which some were taken
+
+-- words, each with a space before it
+abbrev pub each_spaced : List (List ℕ) → List ℕ
+each_spaced ws = flat_map (λ w. 32 ∷ w) ws
+
+-- what these words are after so many others
+abbrev pub spaced_after : ℕ → List (List ℕ) → List ℕ
+spaced_after zero ws = spaced_words ws
+spaced_after (suc n) ws = each_spaced ws
+
+-- what stands before the word in this place
+abbrev pub space_at : ℕ → List ℕ
+space_at zero = []
+space_at (suc n) = 32 ∷ []
+
+-- the bytes show these values within bounds, parted by spaces
+abbrev pub ShowSlots : {A : Type 0} → (A → List ℕ) → (A → Type 0) → List ℕ → List A → Type 0
+ShowSlots words ok bytes xs = (bytes ≡ spaced_words (map words xs)) × All ok xs
+
+-- as many slots were read as stood there, where the bytes show as many; they are those that the bytes show
+pub record ReadsSlots {A : Type 0} (words : A → List ℕ) (ok : A → Type 0) (bytes : List ℕ) (old new : List A) (result : Option Unit) : Type 0 where
+  pub long : length new ≡ length old
+  pub read : IfSome result (λ u. ShowSlots words ok bytes new)
+  pub whole : (xs : List A) → length xs ≡ length old → ShowSlots words ok bytes xs → MatchOption result ⊥ (λ u. new ≡ xs)

@@ -1,9 +1,7 @@
 pub mod Values
-pub mod Slots
-pub mod Parts
-pub mod Rows
 pub mod Answers
 pub mod Event
+pub mod Rows
 pub mod Told
 pub mod Reading
 pub mod Faults

@@ -1,5 +1,5 @@
 -- What a reader knows of a report after some of its rows, and why it refuses the next.
-use Rattle.std.specs.Prelude.{◌≡◌, ◌<◌, ◌≤◌, ◌+◌, ℕ, ⊤, Bool, true, false, eqb, List, [], ◌∷◌, ◌++◌, All, map, length, take, drop, ◌⊎◌, Option, Some, None, IfSome, MatchOption, Result, Ok, Err, decimal, slice_index_or, IfOk, IfErr}
+use Rattle.std.specs.Prelude.{◌≡◌, ◌<◌, ◌≤◌, ◌+◌, ℕ, ⊤, Bool, true, false, eqb, List, [], ◌∷◌, ◌++◌, All, map, length, take, drop, ◌⊎◌, Option, Some, None, Result, Ok, Err, decimal, slice_index_or, IfOk, IfErr}
 use Rattle.std.specs.List.{IsDistinct}
 use Rattle.edr_record.specs.declared.Record.{Record}
 use Rattle.edr_image.specs.declared.Ack.{Ack}
@@ -14,12 +14,11 @@ use Rattle.edr_reading.specs.declared.reader.Refused.{Refused}
 use Rattle.edr_reading.specs.declared.reader.Refused.TheVariants as refused
 use Rattle.edr_reading.specs.declared.told.CycleRow.{CycleRow}
 use Rattle.edr_reading.specs.declared.told.CycleRow.TheVariants as row
-use Rattle.edr_reading.specs.Event.{EventAgrees, HasNoBank, HasNoneFree, IsNextEvent, event_of}
+use Rattle.edr_reading.specs.Event.{EventAgrees, HasNoBank, IsNextEvent, event_of}
 use Rattle.edr_reading.specs.Faults.{AreReport, IsWrong, IsFault}
 use Rattle.edr_reading.specs.Told.{IsAck, IsDamaged, IsEvent, IsReport, IsToldName, ack_fields, banks_in, count_fields, damaged_fields, events_fields, last_rows, name_words, run_fields}
 use Rattle.edr_reading.specs.Reading.{AreDistinct, head_row, IsReading, rows_told}
 use Rattle.edr_reading.specs.Rows.{FieldRows, event_fields}
-use Rattle.edr_reading.specs.Values.{IsBank}
 use Rattle.edr_reading.specs.declared.event.PartEvent.{PartEvent}
 use Rattle.edr_reading.specs.declared.event.TheConstants.{EVENT_ROWS}
 use Rattle.edr_reading.specs.declared.told.ToldName.{ToldName}
@@ -181,11 +180,6 @@ TakesNamed x value old new res = (w : List ℕ) → IsOnlyName old w x → Takes
 -- an event may be next, if there is a bank for it
 abbrev pub MayHaveEvent : Reader → Type 0
 MayHaveEvent r = ((r.next ≡ next.Run) ⊎ (r.next ≡ next.Events)) × (r.rows + (EVENT_ROWS + 1) ≤ 4_294_967_294)
-
--- a bank for it was found, or there is none
-pub record FindsBank (r : Reader) (result : Option ℕ) : Type 0 where
-  pub read : IfSome result (λ b. IsBank b × HasNoBank r.found.items b × MayHaveEvent r)
-  pub none : MatchOption result (MayHaveEvent r → HasNoneFree r.found.items) (λ b. ⊤)
 
 -- the reader has read these rows, and this line of an event may be next
 pub record AtLine (r : Reader) (k : ℕ) (e : ℕ × Record) (rows : FieldRows) : Type 0 where

@@ -1,9 +1,7 @@
 -- The rows of a report's table, by their fields.
-use Rattle.std.specs.Prelude.{◌≡◌, ◌≢◌, ℕ, Option, MatchOption, List, [], ◌∷◌, length, map, decimal}
+use Rattle.std.specs.Prelude.{ℕ, List, [], ◌∷◌, map, decimal}
 use Rattle.edr_record.specs.declared.Record.{Record}
 use Rattle.edr_report.specs.Report.{event_lines}
-use denote.Ref.{Bor}
-use Rattle.edr_report.specs.declared.event_lines.EventLine.{EventLine}
 use Rattle.edr_report.specs.declared.event_lines.TheConstants.{LINES_OF_EVENT}
 use Rattle.edr_report.specs.Lines.{Line}
 use Rattle.edr_reading.specs.declared.records.ReportRow.{ReportRow}
@@ -13,10 +11,6 @@ use Rattle.edr_reading.specs.declared.records.ReportRow.{ReportRow}
 -- the fields of a row
 abbrev pub fields : ReportRow → List (List ℕ)
 fields r = r.block.now ∷ r.name.now ∷ r.value.now ∷ []
-
--- a row has these fields, or they aren't three
-abbrev pub IsRowOf : List (List ℕ) → Option ReportRow → Type 0
-IsRowOf fs row = MatchOption row (length fs ≢ 3) (λ r. fields r ≡ fs)
 
 -- rows by their fields
 abbrev pub FieldRows : Type 0
@@ -39,10 +33,3 @@ event_fields block b r = map line_fields (event_lines block b r)
 -- the names of its lines
 abbrev pub event_names : Texts
 event_names = map (λ l. l.0.now) LINES_OF_EVENT
-
--- the names of lines, and the lines
-abbrev pub names_of : List (Bor (List ℕ) × EventLine) → Texts
-names_of lines = map (λ l. l.0.now) lines
-
-abbrev pub lines_of : List (Bor (List ℕ) × EventLine) → List EventLine
-lines_of lines = map (λ l. l.1) lines

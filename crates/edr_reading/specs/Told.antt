@@ -14,7 +14,7 @@ use Rattle.edr_reading.specs.Answers.{IsFromTo}
 use Rattle.edr_reading.specs.Rows.{line_fields}
 use Rattle.edr_record.specs.declared.Record.{Record}
 use Rattle.edr_image.specs.declared.Found.{Found}
-use Rattle.edr_reading.specs.Parts.{IsRecord}
+use Rattle.edr_reading.specs.Event.{IsRecord}
 
 -- ---- rows of block 0
 

@@ -4,7 +4,7 @@ ghost use Rattle.std.specs.Prelude.{◌≡◌, ◌≤◌, IfSome};
 ghost use Rattle.edr_record.specs.declared.TheConstants.{EARLIEST_END, POINTS, RESET};
 ghost use Rattle.edr_record.specs.Bounds.{ArePoints, IsCrash, point_count};
 ghost use Rattle.edr_report.specs.Words.{points_words};
-ghost use Rattle.edr_reading.specs.Parts.{BeginsPart, AcceptsCrashLine, AcceptsPartLine};
+ghost use Rattle.edr_reading.specs.Event.{BeginsPart, AcceptsCrashLine, AcceptsPartLine};
 ghost use Rattle.edr_reading.specs.Answers.{Reads};
 
 use crate::front::is_word;

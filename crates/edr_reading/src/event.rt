@@ -1,10 +1,8 @@
 //! An event, read line by line.
 
-ghost use Rattle.std.specs.Prelude.{◌≡◌, ◌<◌, [], ⊤, length, slice_index_or, IfSome, MatchOption};
+ghost use Rattle.std.specs.Prelude.{◌≡◌, ◌<◌, [], ⊤, length, map, slice_index_or, IfSome, MatchOption};
 ghost use Rattle.std.specs.Bool.{MatchBool};
-ghost use Rattle.edr_reading.specs.Event.{HasNoBank, IsNextEvent, event_of, HasNoneFree, AcceptsEventLine};
-ghost use Rattle.edr_reading.specs.Parts.{IsRecord};
-ghost use Rattle.edr_reading.specs.Rows.{lines_of, names_of};
+ghost use Rattle.edr_reading.specs.Event.{HasNoBank, IsNextEvent, event_of, HasNoneFree, AcceptsEventLine, IsRecord};
 ghost use Rattle.edr_reading.specs.Values.{IsBank};
 
 use crate::crash::part_line;
@@ -65,8 +63,8 @@ pub(crate) fn line_at(
     place: usize,
 ) -> (&'static str, EventLine)
     requires { place < length lines.now }
-    ensures name { result.0.now ≡ slice_index_or (names_of lines.now) place [] }
-    ensures line { result.1 ≡ slice_index_or (lines_of lines.now) place EventLine.Number }
+    ensures name { result.0.now ≡ slice_index_or (map (λ l. l.0.now) lines.now) place [] }
+    ensures line { result.1 ≡ slice_index_or (map (λ l. l.1) lines.now) place EventLine.Number }
 {
     lines[place]
 }
@@ -108,7 +106,11 @@ pub(crate) fn event_line(
         }
         EventLine::Complete => {
             let complete = decision(value)?;
-            if complete == record.complete() { Some(*event) } else { None }
+            if complete == record.complete() {
+                Some(*event)
+            } else {
+                None
+            }
         }
     }
 }

@@ -10,7 +10,7 @@ ghost use Rattle.edr_reading.specs.Faults.{AreReport, IsFault};
 ghost use Rattle.edr_reading.specs.Reading.{report_rows};
 ghost use Rattle.edr_spell.specs.Spell.{RecordsOf};
 ghost use Rattle.edr_reading.specs.Rows.{FieldRows, event_fields};
-ghost use Rattle.edr_reading.specs.Parts.{crash_texts, pre_texts};
+ghost use Rattle.edr_reading.specs.Event.{crash_texts, pre_texts};
 ghost use Rattle.edr_reading.specs.declared.event.TheConstants.{EVENT_ROWS};
 ghost use Rattle.edr_record.specs.declared.Record.{Record};
 ghost use Rattle.edr_record.specs.Bounds.{IsCrash};

@@ -1,7 +1,7 @@
 //! What stood before time zero, read line by line.
 
 ghost use Rattle.edr_record.specs.Bounds.{IsPre};
-ghost use Rattle.edr_reading.specs.Parts.{AreSlots, AcceptsPreLine};
+ghost use Rattle.edr_reading.specs.Event.{AreSlots, AcceptsPreLine};
 
 use crate::slots::read_slots;
 use crate::values::{count, decision, events, place_between, profile, switch, time};

@@ -1,13 +1,13 @@
 //! A reader of rows: what it knows after those that it has read.
 
-ghost use Rattle.std.specs.Prelude.{◌≡◌, ◌≢◌, ◌+◌, ◌<◌, ◌^◌, [], None, IfErr, IfOk, OnOk, decimal, length, map};
+ghost use Rattle.std.specs.Prelude.{◌≡◌, ◌≢◌, ◌+◌, ◌<◌, ◌^◌, [], None, ⊤, IfErr, IfOk, IfSome, MatchOption, OnOk, decimal, length, map};
 ghost use Rattle.edr_image.specs.Reports.{report_of};
 ghost use Rattle.edr_reading.specs.Answers.{TellsWhether};
 ghost use Rattle.edr_reading.specs.declared.event.TheConstants.{EVENT_ROWS};
-ghost use Rattle.edr_reading.specs.Event.{event_of};
-ghost use Rattle.edr_reading.specs.Reader.{AddsLine, AtLine, FindsBank, HasReadRows, MayBegin, MayTell, Takes, TakesLine, TakesNamed, cycles_read, may_ack};
+ghost use Rattle.edr_reading.specs.Event.{event_of, IsRecord, HasNoBank, HasNoneFree};
+ghost use Rattle.edr_reading.specs.Reader.{AddsLine, AtLine, HasReadRows, MayBegin, MayHaveEvent, MayTell, Takes, TakesLine, TakesNamed, cycles_read, may_ack};
+ghost use Rattle.edr_reading.specs.Values.{IsBank};
 ghost use Rattle.edr_reading.specs.Rows.{FieldRows, fields};
-ghost use Rattle.edr_reading.specs.Parts.{IsRecord};
 ghost use Rattle.edr_reading.specs.declared.told.ToldName.TheVariants as name;
 
 use crate::event::{EVENT_ROWS, PartEvent, event_line, free_bank, is_among, line_at, plain_event};
@@ -266,7 +266,8 @@ impl Reader {
 
     // In which bank the next event may be, if there may be one.
     fn bank_of_next(&self) -> Option<u8>
-        ensures { FindsBank self.now result }
+        ensures read { IfSome result (λ b. IsBank b × HasNoBank self.now.found.items b × MayHaveEvent self.now) }
+        ensures none { MatchOption result (MayHaveEvent self.now → HasNoneFree self.now.found.items) (λ b. ⊤) }
     {
         if self.rows > MOST_ROWS - (EVENT_ROWS as u32 + 1) {
             return None;

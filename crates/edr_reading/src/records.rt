@@ -1,8 +1,8 @@
 //! The records of a table, as rows of three fields.
 
-ghost use Rattle.std.specs.Prelude.{◌≡◌, ◌<◌, Some, IfOk, length, map};
+ghost use Rattle.std.specs.Prelude.{◌≡◌, ◌≢◌, ◌<◌, Some, IfOk, MatchOption, length, map};
 ghost use Rattle.csv.specs.Records.{fields_of, field_at};
-ghost use Rattle.edr_reading.specs.Rows.{fields, IsRowOf};
+ghost use Rattle.edr_reading.specs.Rows.{fields};
 ghost use Rattle.edr_spell.specs.Spell.{RecordsOf};
 
 use csv::{ByteRecord, ReaderBuilder};
@@ -46,7 +46,7 @@ fn field(fields: &ByteRecord, place: usize) -> &[u8]
 
 /// The row of a record, if it has three fields.
 pub(crate) fn row_of(found: &ByteRecord) -> Option<ReportRow<'_>>
-    ensures { IsRowOf (fields_of found.now) result }
+    ensures { MatchOption result (length (fields_of found.now) ≢ 3) (λ r. fields r ≡ fields_of found.now) }
 {
     if found.len() != 3 {
         return None;

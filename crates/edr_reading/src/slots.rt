@@ -3,8 +3,7 @@
 ghost use Rattle.std.specs.Prelude.{◌≡◌, ℕ, List};
 ghost use Rattle.edr_record.specs.Bounds.{IsUpTo};
 ghost use Rattle.edr_report.specs.Words.{number_or_none};
-ghost use Rattle.edr_reading.specs.Answers.{ReadsAfter, ReadsFront};
-ghost use Rattle.edr_reading.specs.Slots.{space_at, ReadsSlots};
+ghost use Rattle.edr_reading.specs.Answers.{ReadsAfter, ReadsFront, space_at, ReadsSlots};
 
 use crate::front::{after, within_after};
 use crate::values::change_in_front;
@@ -37,14 +36,14 @@ impl SlotRead for i16 {
 }
 
 // The number in front of the bytes, up to `highest`, or that there is none, and what stands after it.
-fn number_or_none(bytes: &[u8], highest: u32) -> Option<(Option<u32>, &[u8])>
+fn number_or_none(bytes: &[u8], highest: u16) -> Option<(Option<u16>, &[u8])>
     ensures { ReadsFront number_or_none (IsUpTo highest) bytes.now result }
 {
     if let Some(rest) = after(bytes, b"none") {
         return Some((None, rest));
     }
-    let (n, rest) = within_after(bytes, b"", 0, highest)?;
-    Some((Some(n), rest))
+    let (n, rest) = within_after(bytes, b"", 0, u32::from(highest))?;
+    Some((Some(n as u16), rest))
 }
 
 impl SlotRead for Option<u16> {
@@ -56,10 +55,7 @@ impl SlotRead for Option<u16> {
     ghost is_slot = { IsUpTo 300 };
 
     fn in_front(bytes: &[u8]) -> Option<(Option<u16>, &[u8])> {
-        match number_or_none(bytes, 300)? {
-            (Some(kmh), rest) => Some((Some(kmh as u16), rest)),
-            (None, rest) => Some((None, rest)),
-        }
+        number_or_none(bytes, 300)
     }
 }
 

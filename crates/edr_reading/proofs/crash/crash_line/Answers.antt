@@ -6,7 +6,7 @@ use Rattle.edr_report.specs.declared.event_lines.CrashLine.TheVariants.{Fired}
 use Rattle.edr_report.specs.declared.event_lines.Restraint.{Restraint}
 use Rattle.edr_report.specs.EventWords.{place_of}
 use Rattle.edr_report.specs.Words.{firing_words}
-use Rattle.edr_reading.specs.Parts.{crash_place, crash_texts, first_texts}
+use Rattle.edr_reading.specs.Event.{crash_place, crash_texts, first_texts}
 use Rattle.edr_reading.proofs.EventLemmas.{front-before, set-before}
 use Rattle.edr_reading.proofs.crash.crash_line.Goals as goal
 use Rattle.edr_reading.proofs.crash.crash_line.Goals.{in-End+in_ok-end_time-in-End, in-Along+in_ok-read-inside-in-Along, in-Across+in_ok-read-inside-in-Across, in-MaxAlong+in_ok-read-inside-in-MaxAlong, in-MaxAcross+in_ok-read-inside-in-MaxAcross, in-ResultAt+in_ok-read-inside-in-ResultAt, in-Missing+in_ok-along-in-Missing, in-Fired+in_ok-read-inside-in-Fired}

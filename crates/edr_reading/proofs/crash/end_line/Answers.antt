@@ -4,7 +4,7 @@ use Rattle.edr_record.specs.Bounds.{IsCrash}
 use Rattle.edr_record.specs.Parts.{CrashPart}
 use Rattle.edr_report.specs.Words.{none_word}
 use Rattle.edr_report.specs.declared.event_lines.CrashLine.TheVariants.{End}
-use Rattle.edr_reading.specs.Parts.{PartsAgree, part_words}
+use Rattle.edr_reading.specs.Event.{PartsAgree, part_words}
 use Rattle.edr_reading.proofs.SlotLemmas.{end-none}
 use Rattle.edr_reading.proofs.crash.end_line.Goals as goal
 

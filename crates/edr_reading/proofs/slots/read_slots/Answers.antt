@@ -1,6 +1,6 @@
 use Rattle.std.proofs.Common.{arith, ◌≡◌, ◌∙◌, sym, ◌<◌, ◌+◌, length, map, drop, get_or}
 use Rattle.std.proofs.lemmas.List.Elements.{All-get_or}
-use Rattle.edr_reading.specs.Slots.{spaced_after}
+use Rattle.edr_reading.specs.Answers.{spaced_after}
 use Rattle.edr_reading.proofs.SlotLemmas.{all-same, taken-more, left-one, are-more, ends-more, same-more, some-in, read-all, none-left}
 use Rattle.edr_reading.proofs.slots.read_slots.Goals as goal
 

@@ -1,7 +1,7 @@
 use Rattle.std.proofs.Common.{◌≡◌, ◌++◌, ℕ, List, length, map, take, drop}
 use Rattle.std.specs.List.{All}
 use Rattle.edr_report.specs.Words.{spaced_words}
-use Rattle.edr_reading.specs.Slots.{ShowSlots, spaced_after}
+use Rattle.edr_reading.specs.Answers.{ShowSlots, spaced_after}
 use Rattle.edr_reading.proofs.slots.read_slots.Given as goal
 
 -- the slots that were passed are read, and what is left gives the others

@@ -41,9 +41,9 @@ pub returns : goal.returns
 returns c = record {
   read = (
     c.in_ok-offset.ensures.read.0
-    ∙ ap (λ (r : List ℕ). codes "damaged at " ++ (decimal c.in_ok-offset.offset ++ r))
-    (c.in_ok-found.ensures.read.0 ∙ ap (λ (r : List ℕ). codes " found " ++ (decimal c.in_ok-found.found ++ r)) (c.in_ok-after.ensures.read ∙ ap (λ (r : List ℕ). codes " locked " ++ r) c.in_ok-locked.ensures.read.0))
-    ∙ sym (damage-is c.in_ok-offset.offset c.in_ok-found.found c.in_ok-locked.locked),
+        ∙ ap (λ (r : List ℕ). codes "damaged at " ++ (decimal c.in_ok-offset.offset ++ r))
+        (c.in_ok-found.ensures.read.0 ∙ ap (λ (r : List ℕ). codes " found " ++ (decimal c.in_ok-found.found ++ r)) (c.in_ok-after.ensures.read ∙ ap (λ (r : List ℕ). codes " locked " ++ r) c.in_ok-locked.ensures.read.0))
+        ∙ sym (damage-is c.in_ok-offset.offset c.in_ok-found.found c.in_ok-locked.locked),
     (c.in_ok-offset.ensures.read.1.1, c.in_ok-found.ensures.read.1.1),
   );
   whole = damaged-read c.args.bytes.now _ (λ o x l a b is.
