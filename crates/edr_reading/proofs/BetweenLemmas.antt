@@ -14,11 +14,10 @@ use Rattle.edr_reading.specs.declared.told.CycleRow.{CycleRow}
 use Rattle.edr_reading.specs.declared.told.ToldName.{ToldName}
 use Rattle.edr_reading.specs.declared.told.ToldName.TheVariants as name
 use Rattle.edr_reading.specs.Event.{EventAgrees, PartsAgree}
-use Rattle.edr_reading.specs.Told.{IsAck, IsCycleRow, IsDamaged, IsEvent, IsReport, IsToldName, ack_fields, acks_of, banks_in, count_fields, cycle_fields, damaged_fields, events_fields, last_rows, name_words, row_of, row_words, run_fields}
+use Rattle.edr_reading.specs.Told.{IsAck, IsCycleRow, IsDamaged, IsEvent, IsReport, IsToldName, ack_fields, acks_of, banks_in, count_fields, cycle_fields, damaged_fields, events_fields, last_rows, name_words, row_of, row_words, run_fields, IsApplied, IsDamagedView, view_words}
 use Rattle.edr_record.specs.Parts.{CrashPart}
 use Rattle.edr_reading.specs.Reader.{MayFollow, MayFollowLine, may_ack, IsBetween, IsRefused, IsToldReport, last_cycle, whole}
 use Rattle.edr_reading.specs.Rows.{FieldRows, event_fields, line_fields}
-use Rattle.edr_reading.specs.Values.{IsApplied, IsDamagedView, view_words}
 use Rattle.edr_reading.proofs.WholeLemmas.{events-first, run-first, cycle-lines, decimal-same, report-told, told-report, whole-cycle, distinct-none}
 use Rattle.std.proofs.lemmas.List.{map-append}
 use Rattle.std.proofs.Math.Seq.{take-append_seam}

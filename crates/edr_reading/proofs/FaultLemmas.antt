@@ -1,5 +1,5 @@
 -- Where a text can be no report, and what was read of one that is.
-use Rattle.std.proofs.Common.{arith, ◌≡◌, ◌≢◌, ◌∙◌, sym, ap, subst, refl, ℕ, zero, suc, ◌<◌, ◌≤◌, ◌+◌, ◌-◌, min, map, List, [], ◌∷◌, ◌++◌, length, length-append, take, drop, get_or, decimal, length-take-le, Option, None, Bool, Result, Ok, Err}
+use Rattle.std.proofs.Common.{arith, ◌≡◌, ◌≢◌, ◌∙◌, sym, ap, subst, refl, ℕ, zero, suc, ◌<◌, ◌≤◌, ◌+◌, ◌-◌, min, map, List, [], ◌∷◌, ◌++◌, length, length-append, take, drop, get_or, decimal, length-take-le, Option, Bool, Result, Ok, Err}
 use Rattle.std.proofs.Math.Seq.{get_or-append_seam, take-length}
 use Rattle.std.proofs.lemmas.List.{drop_all, take_all, append-nil, take-append-drop, drop_more, get_or-map, length-map, take_more}
 use Rattle.edr_report.specs.Report.{report_lines}
@@ -27,11 +27,10 @@ use Rattle.edr_reading.specs.declared.reading.ReportRefused.TheVariants.{Fault, 
 use Rattle.edr_spell.specs.Spell.{RecordsOf}
 use Rattle.std.specs.Result.{IfErr, IfOk}
 use Rattle.edr_reading.proofs.BetweenLemmas.{between-count, some-rows}
-use Rattle.edr_reading.proofs.LineLemmas.{inside-count}
+use Rattle.edr_reading.proofs.EventLemmas.{inside-count, lines}
 use Rattle.edr_report.specs.EventWords.{event_words}
 use Rattle.edr_report.specs.declared.event_lines.EventLine.TheVariants.{Number}
 use Rattle.edr_reading.specs.Event.{event_of}
-use Rattle.edr_reading.proofs.EventLemmas.{lines}
 
 -- ---- the first row of a text that is no report
 
@@ -44,17 +43,9 @@ reading-none = record {
   short = omega arith;
 }
 
--- a report begins with no row
-pub opens-none : Opens []
-opens-none = (report_rows [] [] 0, ([], [], 0, reading-none, refl))
-
 -- the first row of a report begins with the first fields of the row that names the columns
 pub goes-on-head : (front back : List (List ℕ)) → front ++ back ≡ head_row → ReportGoesOn [] front
 goes-on-head front back e = (back, map line_fields (report_lines [] [] 0), ([], [], 0, reading-none, ap (λ (r : List (List ℕ)). r ∷ map line_fields (report_lines [] [] 0)) e))
-
--- a text without a row is no report
-pub none-is-none : ¬ AreReport []
-none-is-none a = let e = ap length a.4 in omega (arith, e)
 
 -- a row of a report has three fields
 pub row-three : (xs : List (List (List ℕ))) (r : List (List ℕ)) (rs : List (List (List ℕ))) → AreReport (xs ++ r ∷ rs) → length r ≡ 3
@@ -95,11 +86,8 @@ wrong-end records k h n = rw (take_all k records h, drop_all k records h) n
 
 -- ---- what was read begins a report
 
-nothing-report : (reports : List Report) (found : List Found) (rows : FieldRows) (n : ℕ) → StandsNext (next.Nothing n) None reports found rows → AreReport rows
-nothing-report reports found rows n s = let t = told-reading reports s.0 s.1 n rows s.3 s.4 s.5 in (reports, map found_event s.0 ++ s.1, n, t.1, t.0)
-
 stands-opens : (n : NextRow) (last : Option CycleRow) (reports : List Report) (found : List Found) (rows : FieldRows) → StandsNext n last reports found rows → Opens rows
-stands-opens next.Head last reports found rows s = subst Opens (sym s.3) opens-none
+stands-opens next.Head last reports found rows s = subst Opens (sym s.3) (report_rows [] [] 0, ([], [], 0, reading-none, refl))
 stands-opens next.Run last reports found rows s = (count_fields 0 ∷ [], between-count s.1)
 stands-opens next.Events last reports found rows s = (count_fields 0 ∷ [], between-count s.2)
 stands-opens (next.Line k p) last reports found rows s =
@@ -107,13 +95,15 @@ stands-opens (next.Line k p) last reports found rows s =
     let block = length s.0 + 1 in
     ((decimal block ∷ get_or event_names k [] ∷ event_words block e.0 e.1 (get_or lines k Number) ∷ []) ∷ (drop (k + 1) (event_fields block e.0 e.1) ++ count_fields 0 ∷ []), inside-count s.2)
 stands-opens next.Damaged last reports found rows s = (count_fields 0 ∷ [], between-count s.3)
-stands-opens (next.Nothing n) last reports found rows s = ([], subst AreReport (sym (append-nil rows)) (nothing-report reports found rows n s))
+stands-opens (next.Nothing n) last reports found rows s =
+    let t = told-reading reports s.0 s.1 n rows s.3 s.4 s.5 in
+    ([], subst AreReport (sym (append-nil rows)) (reports, map found_event s.0 ++ s.1, n, t.1, t.0))
 
 between-none : {a c v : Bool} {reports : List Report} {es : List (ℕ × Record)} {ds : List Found} {rows : FieldRows} → IsBetween a c v reports es ds rows → AreReport rows → ⊥
 between-none {rows = rows} h r = let z = some-rows (h.rest [] (subst AreReport (sym (append-nil rows)) r)) in omega (arith, z)
 
 stands-none : (n : NextRow) (last : Option CycleRow) (reports : List Report) (found : List Found) (rows : FieldRows) → StandsNext n last reports found rows → ((k : ℕ) → n ≡ next.Nothing k → ⊥) → AreReport rows → ⊥
-stands-none next.Head last reports found rows s other = λ r. none-is-none (subst AreReport s.3 r)
+stands-none next.Head last reports found rows s other = λ r. let e = ap length (subst AreReport s.3 r).4 in omega (arith, e)
 stands-none next.Run last reports found rows s other = between-none s.1
 stands-none next.Events last reports found rows s other = between-none s.2
 stands-none (next.Line k p) last reports found rows s other = (s.3).0

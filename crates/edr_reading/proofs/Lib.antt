@@ -1,10 +1,8 @@
-pub mod FrontLemmas
+pub mod ValueLemmas
 pub mod EventLemmas
 pub mod SlotLemmas
-pub mod ValueLemmas
 pub mod WholeLemmas
 pub mod FaultLemmas
 pub mod TableLemmas
 pub mod BetweenLemmas
-pub mod LineLemmas
 pub mod ReadLemmas

@@ -19,7 +19,7 @@ use Rattle.edr_record.specs.declared.Place.TheVariants as place
 use Rattle.edr_report.specs.Words.{applied_words, shown_count}
 use Rattle.edr_reading.specs.declared.event.PartEvent.{PartEvent}
 use Rattle.edr_reading.specs.declared.reader.Refused.{Refused}
-use Rattle.edr_reading.specs.Event.{IsRecord, HasNoBank, IsNextEvent, event_of}
+use Rattle.edr_reading.specs.Event.{HasNoBank, IsNextEvent, event_of}
 use Rattle.edr_reading.specs.declared.told.CycleRow.{CycleRow}
 use Rattle.edr_reading.specs.declared.told.CycleRow.TheVariants as row
 use Rattle.edr_reading.specs.declared.told.ToldName.{ToldName}
@@ -29,14 +29,13 @@ use Rattle.edr_reading.specs.declared.reader.NextRow.TheVariants as next
 use Rattle.edr_reading.specs.declared.reader.Reader.{Reader}
 use Rattle.edr_reading.specs.declared.reader.Refused.TheVariants as refused
 use Rattle.edr_reading.specs.Faults.{ReportGoesOn, AreReport}
-use Rattle.edr_reading.specs.Told.{IsCycleRow, IsToldName, banks_in, name_words, row_words, IsReport, IsDamaged}
+use Rattle.edr_reading.specs.Told.{IsCycleRow, IsToldName, banks_in, name_words, row_words, IsReport, IsDamaged, IsApplied, IsBank, IsDamagedView, view_words, start_words, IsRecord}
 use Rattle.edr_reading.specs.Reader.{AddsLine, AtLine, HasReadRows, IsBetween, IsOnlyName, IsRefused, MayBegin, MayHaveEvent, MayTell, StandsNext, Takes, TakesLine, cycles_read, last_cycle, may_ack, MayFollow, whole}
 use Rattle.edr_reading.specs.Reading.{AreDistinct, head_row}
 use Rattle.edr_reading.specs.Rows.{FieldRows, event_names}
-use Rattle.edr_reading.specs.Values.{IsApplied, IsBank, IsDamagedView, view_words, start_words}
 use Rattle.edr_reading.proofs.BetweenLemmas.{banks-last, found-last, told-ack, whole-ack, row-more, run-told, started, started-is, opens, only-next, All-last, between-block, between-count, refuse-1, refuse-2, refuse-3, start-between, told-next, ToldNext, next-row, some-rows}
 use Rattle.edr_reading.proofs.WholeLemmas.{alone, report-told, whole-cycle, whole-damaged, distinct-more}
-use Rattle.edr_reading.proofs.LineLemmas.{AcceptsPlace, first-line, line-last, line-most, line-next}
+use Rattle.edr_reading.proofs.EventLemmas.{AcceptsPlace, first-line, line-last, line-most, line-next}
 
 pub stands-as : (n m : NextRow) (last first : Option CycleRow) (reports rs : List Report) (found fs : List Found) (rows : FieldRows) → n ≡ m → last ≡ first → reports ≡ rs → found ≡ fs → StandsNext m first rs fs rows → StandsNext n last reports found rows
 stands-as n m last first reports rs found fs rows a b c d h = rw (a, b, c, d) h

@@ -8,7 +8,7 @@ use Rattle.std.proofs.lemmas.List.Elements.{All-append, All-drop, All-take, All-
 use Rattle.std.proofs.Math.Seq.{take-length, take-append_seam, drop-append_seam}
 use Rattle.edr_record.specs.Bounds.{IsUpTo, ArePoints, IsChange, point_count, IsCrash, IsExtreme, window_from_end}
 use Rattle.edr_report.specs.Words.{spaced_words, number_or_none, points_words, milliseconds, none_word}
-use Rattle.edr_reading.proofs.FrontLemmas.{not-number}
+use Rattle.edr_reading.proofs.ValueLemmas.{not-number}
 use Rattle.edr_reading.specs.Answers.{EndsNumber, Reads, each_spaced, spaced_after, space_at, ReadsSlots}
 use Rattle.std.specs.Fmt.{signed_decimal}
 use Rattle.edr_record.specs.Parts.{CrashPart}

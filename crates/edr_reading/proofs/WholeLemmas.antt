@@ -6,7 +6,7 @@ use Rattle.std.proofs.lemmas.Bool.Decides.{nat_tests}
 use Rattle.std.proofs.lemmas.Map.Keys.{IsDistinct-cons, IsDistinct-head, IsDistinct-tail}
 use Rattle.edr_image.specs.declared.Found.{Found}
 use Rattle.edr_reading.specs.Event.{HasNoBank}
-use Rattle.edr_reading.specs.Told.{banks_in, IsDamaged, count_fields, damaged_fields, events_fields, last_rows, run_fields, ack_fields, acks_of, cycle_fields, row_of}
+use Rattle.edr_reading.specs.Told.{banks_in, IsDamaged, count_fields, damaged_fields, events_fields, last_rows, run_fields, ack_fields, acks_of, cycle_fields, row_of, IsDamagedView}
 use Rattle.edr_reading.specs.Reading.{AreDistinct, head_row, report_rows, IsReading}
 use Rattle.std.proofs.lemmas.List.{map-append, length-map, append-nil}
 use Rattle.edr_record.specs.declared.Record.{Record}
@@ -17,7 +17,6 @@ use Rattle.edr_image.specs.Reports.{Report, StartStopped, Ran}
 use Rattle.edr_report.specs.Lines.{Line, line}
 use Rattle.edr_report.specs.Words.{shown_count}
 use Rattle.edr_report.specs.Report.{report_lines, run_lines, events_lines, found_record, found_records, damaged_lines, ack_line, cycle_lines, event_lines}
-use Rattle.edr_reading.specs.Values.{IsDamagedView}
 use Rattle.edr_reading.specs.Rows.{line_fields, FieldRows, event_fields}
 use Rattle.edr_text.specs.Numbers.{natural_in}
 use Rattle.edr_text.proofs.SpellingLemmas.{decimal-numeral, natural_in-numeral}

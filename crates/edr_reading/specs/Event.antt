@@ -20,7 +20,7 @@ use Rattle.edr_report.specs.declared.event_lines.EventLine.{EventLine}
 use Rattle.edr_report.specs.declared.event_lines.EventLine.TheVariants.{Number, Bank, Before, After, Complete}
 use Rattle.edr_reading.specs.declared.event.PartEvent.{PartEvent}
 use Rattle.edr_reading.specs.declared.event.TheConstants.{EVENT_ROWS}
-use Rattle.edr_reading.specs.Values.{IsBank}
+use Rattle.edr_reading.specs.Told.{IsBank, IsRecord}
 
 -- ---- a line
 
@@ -126,13 +126,6 @@ pub record BeginsPart (value : List ℕ) (result : Option (Option CrashPart)) : 
   pub bounds : IfSome result (λ c. IfSome c IsCrash)
   pub shows : IfSome result (λ c. value ≡ part_words c crash.End)
   pub whole : (d : Option CrashPart) → IfSome d IsCrash → value ≡ part_words d crash.End → MatchOption result ⊥ (λ c. PartsAgree 1 c d)
-
--- ---- the record
-
--- the bounds of a record
-pub record IsRecord (r : Record) : Type 0 where
-  pub pre : IsPre r.pre
-  pub crash : IfSome r.crash IsCrash
 
 -- ---- an event of which the first lines were read
 

@@ -1,8 +1,7 @@
-pub mod Values
+pub mod Told
 pub mod Answers
 pub mod Event
 pub mod Rows
-pub mod Told
 pub mod Reading
 pub mod Faults
 pub mod Reader

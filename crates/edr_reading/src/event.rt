@@ -2,8 +2,8 @@
 
 ghost use Rattle.std.specs.Prelude.{◌≡◌, ◌<◌, [], ⊤, length, map, slice_index_or, IfSome, MatchOption};
 ghost use Rattle.std.specs.Bool.{MatchBool};
-ghost use Rattle.edr_reading.specs.Event.{HasNoBank, IsNextEvent, event_of, HasNoneFree, AcceptsEventLine, IsRecord};
-ghost use Rattle.edr_reading.specs.Values.{IsBank};
+ghost use Rattle.edr_reading.specs.Event.{HasNoBank, IsNextEvent, event_of, HasNoneFree, AcceptsEventLine};
+ghost use Rattle.edr_reading.specs.Told.{IsBank, IsRecord};
 
 use crate::crash::part_line;
 use crate::front::last_within;

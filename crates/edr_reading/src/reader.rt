@@ -4,9 +4,9 @@ ghost use Rattle.std.specs.Prelude.{◌≡◌, ◌≢◌, ◌+◌, ◌<◌, ◌^
 ghost use Rattle.edr_image.specs.Reports.{report_of};
 ghost use Rattle.edr_reading.specs.Answers.{TellsWhether};
 ghost use Rattle.edr_reading.specs.declared.event.TheConstants.{EVENT_ROWS};
-ghost use Rattle.edr_reading.specs.Event.{event_of, IsRecord, HasNoBank, HasNoneFree};
+ghost use Rattle.edr_reading.specs.Event.{event_of, HasNoBank, HasNoneFree};
 ghost use Rattle.edr_reading.specs.Reader.{AddsLine, AtLine, HasReadRows, MayBegin, MayHaveEvent, MayTell, Takes, TakesLine, TakesNamed, cycles_read, may_ack};
-ghost use Rattle.edr_reading.specs.Values.{IsBank};
+ghost use Rattle.edr_reading.specs.Told.{IsBank, IsRecord};
 ghost use Rattle.edr_reading.specs.Rows.{FieldRows, fields};
 ghost use Rattle.edr_reading.specs.declared.told.ToldName.TheVariants as name;
 

@@ -5,7 +5,7 @@ ghost use Rattle.edr_reading.specs.Told.{IsCycleRow, IsToldName, name_words, row
 ghost use Rattle.edr_reading.specs.Answers.{Reads};
 
 use crate::front::{is_word, last_within};
-use crate::values::{ack, bank_after, ran, start_call};
+use crate::values::{ack, bank_after, ran};
 use edr_image::Kind;
 
 /// What the first row of a cycle tells.
@@ -52,7 +52,7 @@ pub(crate) fn told_name(name: &[u8], cycles: u32) -> Option<ToldName>
 pub(crate) fn cycle_value(value: &[u8]) -> Option<CycleRow>
     ensures { Reads row_words IsCycleRow value.now result }
 {
-    if let Some(call) = start_call(value) {
+    if let Some(call) = last_within(value, b"start stopped in call ", 1, 6) {
         return Some(CycleRow::StartStopped { call });
     }
     let (number, stopped) = ran(value)?;

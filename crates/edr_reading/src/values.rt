@@ -7,7 +7,7 @@ ghost use Rattle.edr_record.specs.Bounds.{IsChange, IsExtreme, IsPlace, IsUpTo};
 ghost use Rattle.edr_report.specs.declared.TheConstants.{LARGEST_SHOWN_COUNT};
 ghost use Rattle.edr_report.specs.Words.{applied_words, yes_no, profile_word, switch_or_none, milliseconds, firing_words, number_shown, shown_count, events_in_crash, extreme_words, missing_words, ack_words, seconds, tenths_of};
 ghost use Rattle.edr_reading.specs.Answers.{AreUpTo, EndsNumber, GivesValue, IsFromTo, Reads, ReadsFront, ReadsTwo, number_after};
-ghost use Rattle.edr_reading.specs.Values.{IsBank, IsStopCall, IsApplied, IsTick, done_in, command_words, ran_words, IsPlaceLike, IsRan, ReadsPlace, IsDamagedView, end_words, start_words, view_words};
+ghost use Rattle.edr_reading.specs.Told.{IsBank, IsStopCall, IsApplied, IsTick, done_in, command_words, ran_words, IsPlaceLike, IsRan, ReadsPlace, IsDamagedView, end_words, view_words};
 
 use crate::front::{after, is_word, last_within, two_within, within, within_after};
 use edr_image::places::{BANK_SIZE, MOST_BANKS};
@@ -196,13 +196,6 @@ pub(crate) fn damage(bytes: &[u8]) -> Option<BankView>
         found: found as u8,
         locked,
     })
-}
-
-/// In which call a start was stopped.
-pub(crate) fn start_call(bytes: &[u8]) -> Option<u32>
-    ensures { Reads start_words (IsFromTo 1 6) bytes.now result }
-{
-    last_within(bytes, b"start stopped in call ", 1, 6)
 }
 
 // How a cycle ended.

@@ -1,4 +1,4 @@
-use Rattle.edr_reading.proofs.FrontLemmas.{front-is, front-stands}
+use Rattle.edr_reading.proofs.ValueLemmas.{front-is, front-stands}
 use Rattle.edr_reading.proofs.front.after.Goals as goal
 
 pub returns-in-Some-clause-read : goal.returns-in-Some-clause-read

@@ -1,5 +1,5 @@
 use Rattle.std.proofs.Common.{arith, ◌∙◌, sym}
-use Rattle.edr_reading.proofs.FrontLemmas.{number-front, number-read}
+use Rattle.edr_reading.proofs.ValueLemmas.{number-front, number-read}
 use Rattle.edr_reading.proofs.front.number_in_front.Goals as goal
 
 pub returns-in-Ok : goal.returns-in-Ok

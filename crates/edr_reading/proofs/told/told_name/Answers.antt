@@ -5,8 +5,7 @@ use Rattle.edr_image.specs.declared.Kind.{Kind}
 use Rattle.edr_report.specs.Words.{ack_words}
 use Rattle.edr_reading.specs.declared.told.ToldName.{ToldName}
 use Rattle.edr_reading.specs.declared.told.ToldName.TheVariants as name
-use Rattle.edr_reading.specs.Told.{IsToldName, name_words}
-use Rattle.edr_reading.specs.Values.{IsTick}
+use Rattle.edr_reading.specs.Told.{IsToldName, name_words, IsTick}
 use Rattle.edr_reading.proofs.ValueLemmas.{words-apart}
 use Rattle.edr_reading.proofs.told.told_name.Goals as goal
 

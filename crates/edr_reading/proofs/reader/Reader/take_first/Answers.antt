@@ -1,6 +1,6 @@
 use Rattle.std.proofs.Common.{arith, ◌∙◌, sym, ap, subst, decimal}
 use Rattle.edr_reading.specs.Event.{HasNoBank, event_of}
-use Rattle.edr_reading.specs.Values.{IsBank}
+use Rattle.edr_reading.specs.Told.{IsBank}
 use Rattle.edr_reading.proofs.ReadLemmas.{block-refused, first-at, line-takes}
 use Rattle.edr_reading.proofs.reader.Reader.take_first.Goals as goal
 

@@ -4,9 +4,8 @@ use Rattle.edr_report.specs.EventWords.{event_words}
 use Rattle.edr_report.specs.declared.event_lines.EventLine.TheVariants.{Number}
 use Rattle.edr_report.specs.declared.event_lines.EventLine.{EventLine}
 use Rattle.edr_reading.specs.Event.{AcceptsEventLine, EventAgrees, IsNextEvent, event_of, event_place}
-use Rattle.edr_reading.proofs.LineLemmas.{at-place, line-name, line-value}
+use Rattle.edr_reading.proofs.EventLemmas.{at-place, line-name, line-value, line-place, lines}
 use Rattle.edr_reading.proofs.ReadLemmas.{line-long, line-result}
-use Rattle.edr_reading.proofs.EventLemmas.{line-place, lines}
 use Rattle.edr_reading.proofs.reader.Reader.take_line.Goals as goal
 
 pub returns-then-not-is_word : goal.returns-then-not-is_word
