@@ -3,11 +3,11 @@
 ghost use Rattle.std.specs.Prelude.{◌≡◌, ◌<◌, [], ⊤, length, map, slice_index_or, IfSome, MatchOption};
 ghost use Rattle.std.specs.Bool.{MatchBool};
 ghost use Rattle.edr_reading.specs.Event.{HasNoBank, IsNextEvent, event_of, HasNoneFree, AcceptsEventLine};
-ghost use Rattle.edr_reading.specs.Told.{IsBank, IsRecord};
+ghost use Rattle.edr_reading.specs.Told.{IsBank};
 
 use crate::crash::part_line;
 use crate::front::last_within;
-use crate::pre::{plain_pre, pre_line};
+use crate::pre::pre_line;
 use crate::values::{bank_after, decision};
 use edr_image::Found;
 use edr_image::places::MOST_BANKS;
@@ -22,19 +22,6 @@ pub const EVENT_ROWS: usize = LINES_OF_EVENT.len();
 pub(crate) struct PartEvent {
     pub bank: u8,
     pub record: Record,
-}
-
-/// The event in this bank before anything was read.
-pub(crate) fn plain_event(bank: u8) -> PartEvent
-    ensures record { IsRecord result.record }
-    ensures bank { result.bank ≡ bank }
-{
-    let record = Record {
-        pre: plain_pre(),
-        locked: false,
-        crash: None,
-    };
-    PartEvent { bank, record }
 }
 
 /// This bank was found.

@@ -10,8 +10,9 @@ ghost use Rattle.edr_reading.specs.Told.{IsBank, IsRecord};
 ghost use Rattle.edr_reading.specs.Rows.{FieldRows, fields};
 ghost use Rattle.edr_reading.specs.declared.told.ToldName.TheVariants as name;
 
-use crate::event::{EVENT_ROWS, PartEvent, event_line, free_bank, is_among, line_at, plain_event};
+use crate::event::{EVENT_ROWS, PartEvent, event_line, free_bank, is_among, line_at};
 use crate::front::{is_word, last_within};
+use crate::pre::plain_pre;
 use crate::records::ReportRow;
 use crate::told::{CycleRow, ToldName, cycle_value, told_name};
 use crate::values::{answer, count, damage};
@@ -349,7 +350,12 @@ impl Reader {
         let Some(_) = last_within(row.block, b"", block, block) else {
             return Err(Refused::Field(1));
         };
-        self.take_line(0, &plain_event(bank), row)
+        let record = Record {
+            pre: plain_pre(),
+            locked: false,
+            crash: None,
+        };
+        self.take_line(0, &PartEvent { bank, record }, row)
     }
 
     /// Takes one row more, or answers the first of its fields with which no report goes on.

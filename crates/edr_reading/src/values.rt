@@ -239,24 +239,17 @@ pub(crate) fn answer(bytes: &[u8], kind: Kind) -> Option<Applied>
     Some(done_in(kind, bank))
 }
 
-// When a command of this kind was acknowledged.
-fn tick_after(bytes: &[u8], front: &[u8]) -> Option<u32>
-    ensures { Reads (number_after front.now) IsTick bytes.now result }
-{
-    last_within(bytes, front, 1, LATEST_MOMENT)
-}
-
 // Which command was acknowledged, and when.
 fn command(bytes: &[u8]) -> Option<(Kind, u32)>
     ensures { ReadsTwo command_words (λ _ t. IsTick t) bytes.now result }
 {
-    if let Some(tick) = tick_after(bytes, b" take at ") {
+    if let Some(tick) = last_within(bytes, b" take at ", 1, LATEST_MOMENT) {
         return Some((Kind::Take, tick));
     }
-    if let Some(tick) = tick_after(bytes, b" lock at ") {
+    if let Some(tick) = last_within(bytes, b" lock at ", 1, LATEST_MOMENT) {
         return Some((Kind::Lock, tick));
     }
-    let tick = tick_after(bytes, b" done at ")?;
+    let tick = last_within(bytes, b" done at ", 1, LATEST_MOMENT)?;
     Some((Kind::Done, tick))
 }
 

@@ -1,6 +1,4 @@
-use Rattle.std.proofs.Common.{arith, ◌∙◌, sym, ap, subst, decimal}
-use Rattle.edr_reading.specs.Event.{HasNoBank, event_of}
-use Rattle.edr_reading.specs.Told.{IsBank}
+use Rattle.std.proofs.Common.{arith, ◌∙◌, sym, ap, decimal}
 use Rattle.edr_reading.proofs.ReadLemmas.{block-refused, first-at, line-takes}
 use Rattle.edr_reading.proofs.reader.Reader.take_first.Goals as goal
 
@@ -20,12 +18,9 @@ pub take_line-requires-clause-read : goal.take_line-requires-clause-read
 take_line-requires-clause-read c =
     let p = c.requires.read in
     let b = c.in-Some.ensures.read in
-    let at = c.plain_event.ensures.bank in
-    (p.0, first-at c.args.self.now p.0 (event_of c.plain_event.result) p.1 b.2 (subst IsBank (sym at) b.0) (subst (HasNoBank c.args.self.now.found.items) (sym at) b.1) c.plain_event.ensures.record)
+    (p.0, first-at c.args.self.now p.0 _ p.1 b.2 b.0 b.1 (record { pre = c.plain_pre.ensures; crash = tt }))
 
 pub returns : goal.returns
 returns c =
     let b = c.in-Some.ensures.read in
-    let at = c.plain_event.ensures.bank in
-    line-takes 0 (event_of c.plain_event.result) c.args.self.now _ _ _ c.take_line.ensures
-    (λ rows h. first-at c.args.self.now rows (event_of c.plain_event.result) h b.2 (subst IsBank (sym at) b.0) (subst (HasNoBank c.args.self.now.found.items) (sym at) b.1) c.plain_event.ensures.record)
+    line-takes 0 _ c.args.self.now _ _ _ c.take_line.ensures (λ rows h. first-at c.args.self.now rows _ h b.2 b.0 b.1 (record { pre = c.plain_pre.ensures; crash = tt }))
