@@ -11,7 +11,7 @@ returns c =
     let fits = c.in_ok-started.ensures.finds.fits in
     let same = ap (λ (b : OpenedBanks). image_size b.store.header.banks) starts.banks_are in
     record {
-      senders = begins.begun;
+      senders = λ f. (begins.tied f).begun;
       recording = (_, 0, begins.stands 0);
       posted = begins.posted;
       live = starts.live;
