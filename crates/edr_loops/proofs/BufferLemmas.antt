@@ -40,10 +40,6 @@ module _ {A : Type 0} where
   next_lie all xs next end d lt le lie =
       next-split all xs next end d lt le lie ∙ ap (λ ys. ys ++ between (next + 1) end xs) (sym (next_taken all xs next end d lt le lie))
 
-  -- where nothing lies in the inlet, all that came out of the ring is taken
-  pub none_lie : (all : List A) (next end : ℕ) → next ≡ end → but_last (end - next) all ≡ all
-  none_lie all next end is = take_all (length all - (end - next)) all (omega (arith, is))
-
 -- the next one stands after what is taken
 pub next_begins : (all xs : List Item) (next end : ℕ) (d : Item) → next < end → end ≤ length xs → all ≡ but_last (end - next) all ++ between next end xs
     → BeginsWith all (but_last (end - next) all ++ get_or xs next d ∷ [])
