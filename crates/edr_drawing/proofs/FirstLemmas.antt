@@ -3,26 +3,17 @@ use Rattle.std.proofs.Common.{◌≡◌, refl, ℕ, inl, inr, arith, sym, subst,
 use Rattle.std.proofs.lemmas.List.Elements.{Contains-append_right}
 use Rattle.edr_record.specs.declared.Key.{Key}
 use Rattle.edr_record.specs.declared.Record.{Record}
-use Rattle.edr_record.specs.Parts.{PrePart}
 use Rattle.edr_image.specs.declared.Found.{Found}
 use Rattle.edr_drawing.specs.Sheets.{NumberedRecord, events_of, firsts, is_first_of}
 use Rattle.edr_drawing.specs.Laws.{AreFirsts, MayBeFirst}
 use Rattle.edr_drawing.proofs.PartLemmas.{contains_cases, in_one}
-
--- ---- the test of one event says what it should
-
-may_be_first : (key : Key) (after : ℕ) (p : PrePart) → is_first_of key after p ≡ true → MayBeFirst key after p
-may_be_first key after p so = grind (arith, so)
-
-is_one : (key : Key) (after : ℕ) (p : PrePart) → MayBeFirst key after p → is_first_of key after p ≡ true
-is_one key after p may = grind (arith, may.place, may.cycle, may.before, may.within, may.time)
 
 -- ---- what is named may be it
 
 named_one : (key : Key) (after m : ℕ) (e : NumberedRecord) (b : Bool) → is_first_of key after e.1.1.pre ≡ b → Contains (if b then e.0 ∷ [] else []) m → (e.0 ≡ m) × MayBeFirst key after e.1.1.pre
 named_one key after m e false so (k, within, is) = absurd (omega (arith, within))
 named_one key after m e true so among = elim (contains_cases e.0 [] m among) [
-  | inl is ↦ (is, may_be_first key after e.1.1.pre so)
+  | inl is ↦ (is, grind (arith, so))
   | inr (k, within, is) ↦ absurd (omega (arith, within))
 ]
 
@@ -37,7 +28,8 @@ named key after events m among =
 named_here : (key : Key) (after : ℕ) (x e : NumberedRecord) (rest : List ℕ) → x ≡ e → MayBeFirst key after e.1.1.pre →
     Contains ((if is_first_of key after x.1.1.pre then x.0 ∷ [] else []) ++ rest) e.0
 named_here key after x e rest is may =
-    let so = is_one key after x.1.1.pre (subst (λ (y : NumberedRecord). MayBeFirst key after y.1.1.pre) (sym is) may) in
+    let first = subst (λ (y : NumberedRecord). MayBeFirst key after y.1.1.pre) (sym is) may in
+    let so : is_first_of key after x.1.1.pre ≡ true = grind (arith, first.place, first.cycle, first.before, first.within, first.time) in
     subst (λ (b : Bool). Contains ((if b then x.0 ∷ [] else []) ++ rest) e.0) (sym so) (0, omega arith, ap (λ (y : NumberedRecord). y.0) is)
 
 is_named : (key : Key) (after : ℕ) (events : List NumberedRecord) (e : NumberedRecord) → Contains events e → MayBeFirst key after e.1.1.pre → Contains (firsts key after events) e.0

@@ -106,13 +106,12 @@ line_of_run [] retrieved l (k, b, e) = absurd (omega (arith, b))
 line_of_run (r ∷ rs) retrieved l among =
     let here = piece_of_all row_of row_of (λ x. piece_itself (row_of x)) (run_lines 1 (r ∷ rs)) l among in search pieces
 
-cycle_piece : (reports : List Report) (found : List Found) (origin : Origin) (l : Line) → Contains (run_lines 1 reports) l → Piece (row_of l) (page_bytes reports found origin)
-unfolding page_bytes
-cycle_piece reports found origin l among = let here = line_of_run reports (length (events_of found)) l among in search pieces depth 20
-
 pub cycle_on_page : (reports : List Report) (found : List Found) (origin : Origin) (l : Line) →
     Contains (run_lines 1 reports) l → IsInOnePiece (row l.name l.value) (page_bytes reports found origin)
-cycle_on_page reports found origin l among = (cycle_piece reports found origin l among).piece
+unfolding page_bytes
+cycle_on_page reports found origin l among =
+    let here = line_of_run reports (length (events_of found)) l among in
+    let there : Piece (row_of l) (page_bytes reports found origin) = search pieces depth 20 in there.piece
 
 -- ---- the slots of the table by time
 
@@ -155,11 +154,8 @@ slots_on_page reports found origin e among k within =
 
 -- ---- the place of an event in its crash
 
-place_of_sheet : (all : List NumberedRecord) (n bank : ℕ) (r : Record) (digest : List ℕ) → Piece (place_fact all r.pre.key r.pre.place) (sheet all n bank r digest)
-unfolding sheet
-place_of_sheet all n bank r digest = search pieces depth 20
-
 pub places_on_page : (reports : List Report) (found : List Found) (origin : Origin) → HasAllPlaces found (page_bytes reports found origin)
+unfolding sheet
 places_on_page reports found origin e among =
     let there = has_number 1 (found_records found) e among in
-    (piece_within (place_fact (events_of found) e.1.pre.key e.1.pre.place) _ _ (place_of_sheet (events_of found) there.0 e.0 e.1 origin.digest) (sheet_on_page reports found origin (there.0, e) there.1)).piece
+    (piece_within (place_fact (events_of found) e.1.pre.key e.1.pre.place) _ _ (search pieces depth 20) (sheet_on_page reports found origin (there.0, e) there.1)).piece

@@ -1,8 +1,7 @@
 -- The lines of a report have plain names and plain values.
-use Rattle.std.proofs.Common.{arith, ◌≡◌, refl, ℕ, Bool, true, false, Option, Some, None, List, [], ◌∷◌, ◌++◌, map, take, flat_map, get_or}
+use Rattle.std.proofs.Common.{arith, ◌≡◌, refl, ℕ, Bool, true, false, Option, Some, None, List, [], ◌∷◌, ◌++◌, map, flat_map}
 use Rattle.std.specs.List.{enumerate_from, list_all}
 use Rattle.std.proofs.lemmas.Bool.{and_parts}
-use Rattle.std.specs.Fmt.{signed_decimal}
 use Rattle.std.specs.Option.{option_map_or}
 use Rattle.edr_record.specs.declared.Place.{Place}
 use Rattle.edr_record.specs.declared.Place.TheVariants.{First, Second}
@@ -10,8 +9,6 @@ use Rattle.edr_record.specs.declared.Profile.{Profile}
 use Rattle.edr_record.specs.declared.Profile.TheVariants as profile
 use Rattle.edr_record.specs.declared.Record.{Record}
 use Rattle.edr_record.specs.Parts.{PrePart, CrashPart}
-use Rattle.edr_record.specs.Bounds.{point_count}
-use Rattle.edr_record.specs.Complete.{is_complete}
 use Rattle.edr_image.specs.declared.Ack.{Ack}
 use Rattle.edr_image.specs.declared.Kind.{Kind}
 use Rattle.edr_image.specs.declared.Kind.TheVariants as kind
@@ -27,10 +24,10 @@ use Rattle.edr_report.specs.declared.event_lines.PreLine.TheVariants as pre
 use Rattle.edr_report.specs.declared.event_lines.CrashLine.{CrashLine}
 use Rattle.edr_report.specs.declared.event_lines.CrashLine.TheVariants as crash
 use Rattle.edr_report.specs.declared.event_lines.TheConstants.{LINES_OF_EVENT}
-use Rattle.edr_report.specs.EventWords.{place_of, pre_words, crash_words, event_words}
+use Rattle.edr_report.specs.EventWords.{pre_words, crash_words, event_words}
 use Rattle.edr_report.specs.Report.{ack_line, cycle_lines, event_line, event_lines, run_lines}
 use Rattle.edr_drawing.specs.Tables.{row_of, line_row}
-use Rattle.edr_drawing.proofs.PlainLemmas.{Plain, all_low, plain_nil, plain_cons, plain_append, plain_fixed, plain_signed, plains}
+use Rattle.edr_drawing.proofs.PlainLemmas.{Plain, all_low, plain_nil, plain_cons, plain_append, plain_fixed, plains}
 
 -- ---- values
 
@@ -80,6 +77,8 @@ plain_spaced f h [] = plain_nil
 plain_spaced f h (x ∷ []) = h x
 plain_spaced f h (x ∷ y ∷ ys) = plain_append (f x) _ (h x) (plain_cons 32 _ (omega arith) (plain_spaced f h (y ∷ ys)))
 
+ruleset values = (plain_events, plain_between, plain_yes_no, plain_profile, plain_number, plain_switch, plain_firing, plain_spaced, plains)
+
 -- ---- lines
 
 -- the names and the values are plain
@@ -106,33 +105,21 @@ lines_cycle i (Ran n stop log) = (search plains, search (plain_stop, plains) dep
 -- what a line of an event shows
 shows_pre : (p : PrePart) (locked : Bool) (l : PreLine) → Plain (pre_words p locked l)
 shows_pre p locked pre.Cycle = search plains
-shows_pre p locked pre.TimeZero = search plains
-shows_pre p locked pre.Events = plain_events p.place
-shows_pre p locked pre.Between = plain_between p.place
-shows_pre p locked pre.Deployment = plain_yes_no locked
-shows_pre p locked pre.Profile = plain_profile p.profile
-shows_pre p locked pre.Speed = plain_spaced number_or_none plain_number p.speed
-shows_pre p locked pre.Throttle = plain_spaced number_or_none plain_number p.throttle
-shows_pre p locked pre.Brake = plain_spaced switch_or_none plain_switch p.brake
-shows_pre p locked pre.Belt = plain_switch p.belt
-shows_pre p locked pre.Lamp = plain_switch p.lamp
+shows_pre p locked l = search values depth 20
 
 shows_crash : (c : CrashPart) (l : CrashLine) → Plain (crash_words c l)
-shows_crash c crash.Along = plain_spaced signed_decimal plain_signed (take (point_count c.end) c.along)
-shows_crash c crash.Across = plain_spaced signed_decimal plain_signed (take (point_count c.end) c.across)
-shows_crash c (crash.Fired r) = plain_firing (get_or c.fired (place_of r) None)
-shows_crash c l = search plains depth 20
+shows_crash c crash.End = search plains depth 20
+shows_crash c l = search values depth 20
 
 shows_after : (o : Option CrashPart) (l : CrashLine) → Plain (option_map_or (λ c. crash_words c l) o none_word)
 shows_after None l = search plains
 shows_after (Some c) l = shows_crash c l
 
+ruleset shown = (shows_pre, shows_after)
+
 shows : (block bank : ℕ) (r : Record) (l : EventLine) → Plain (event_words block bank r l)
 shows block bank r event.Number = search plains
-shows block bank r event.Bank = search plains
-shows block bank r (event.Before l) = shows_pre r.pre r.locked l
-shows block bank r (event.After l) = shows_after r.crash l
-shows block bank r event.Complete = plain_yes_no (is_complete r)
+shows block bank r l = search (shown, values)
 
 lines_shown : {X : Type 0} (name : X → List ℕ) (line_of : X → EventLine) (n bank : ℕ) (r : Record) (ls : List X) → list_all (λ l. all_low (name l)) ls ≡ true → PlainLines (map (λ l. event_line n bank r (name l) (line_of l)) ls)
 lines_shown name line_of n bank r [] e = tt

@@ -29,7 +29,6 @@ use Rattle.edr_image.specs.declared.BankView.TheVariants.{Damaged}
 use Rattle.edr_image.specs.declared.Found.{Found}
 use Rattle.edr_image.specs.Reports.{Report}
 use Rattle.edr_drawing.specs.declared.axes.CarAxis.{CarAxis}
-use Rattle.edr_drawing.specs.declared.axes.CarAxis.TheVariants.{Along, Across}
 use Rattle.edr_drawing.specs.declared.Origin.{Origin}
 use Rattle.edr_drawing.specs.Sheets.{NumberedRecord, cover_end, cover_start, damaged_item, damaged_list, event_row, events_table, greatest_or_none, pre_reasons, crash_reasons, reasons, firsts_words, place_fact, place_told, sheet}
 use Rattle.edr_drawing.specs.Tables.{points_table, elements_table, run_table, block, by_time, number_word, slot_row}
@@ -153,8 +152,7 @@ plain_sheet events n bank r digest small =
 -- the first sheet
 plain_greatest : (crash : Option CrashPart) (a : CarAxis) → Plain (greatest_or_none crash a)
 plain_greatest None a = plain_fixed NONE.now refl
-plain_greatest (Some c) Along = search plains depth 20
-plain_greatest (Some c) Across = search plains depth 20
+plain_greatest (Some c) a = search plains depth 20
 
 plain_event_row : (n bank : ℕ) (r : Record) → Plain (event_row n bank r)
 unfolding event_row

@@ -17,12 +17,14 @@ ghost use Rattle.edr_drawing.specs.Laws.{AreFirsts, HasAllPlaces, HasAllSlotRows
 
 /// Each line of an event, and each line of a cycle, has its row on the page, word for word; but the lists of speed,
 /// throttle and service brake stand in the table by time.
+#[tactic(auto, using(crate::proofs::PartLemmas::event_on_page, crate::proofs::PartLemmas::cycle_on_page))]
 pub fn each_line()
     ensures events { OfPages (λ reports found digest page. HasEventRows found page) }
     ensures cycles { OfPages (λ reports found digest page. HasRows (run_lines 1 reports) page) }
 {}
 
 /// In the table by time each slot of an event has its row, with its time and its values; an absent one is said to be absent.
+#[tactic(auto, using(crate::proofs::PartLemmas::slot_of_table, crate::proofs::PartLemmas::slots_on_page))]
 pub fn each_slot()
     ensures table { (n : ℕ) (p : PrePart) → HasSlotRows p (by_time n p) }
     ensures page { OfPages (λ reports found digest page. HasAllSlotRows found page) }
@@ -40,12 +42,14 @@ pub fn no_sample()
 {}
 
 /// The marks of a lane are those of the slots that are there, in order, and no other; and so are the points of its path.
+#[tactic(auto, using(crate::proofs::PresentLemmas::marks_present, crate::proofs::PresentLemmas::points_present))]
 pub fn no_absent()
     ensures marks { (f : Profile) (l : ChartLane) (vs : List (Option ℕ)) → HasMarks f l vs }
     ensures path { (f : Profile) (l : ChartLane) (vs : List (Option ℕ)) → HasPoints f l vs }
 {}
 
 /// A greater value never stands lower.
+#[tactic(auto, using(crate::proofs::PlotLemmas::slot_lower, crate::proofs::PlotLemmas::change_lower))]
 pub fn one_place()
     ensures slots { (l : ChartLane) (v w : ℕ) → 1 ≤ l.top → v ≤ w → lane_y l w ≤ lane_y l v }
     ensures changes { (s : Scale) (v w : ℤ) → HasHeight s → int_le v w ≡ true → IsNoLower s w v }
