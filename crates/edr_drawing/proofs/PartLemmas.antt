@@ -143,14 +143,12 @@ slot_piece n p k within =
 pub slot_of_table : (n : ℕ) (p : PrePart) → HasSlotRows p (by_time n p)
 slot_of_table n p k within = (slot_piece n p k within).piece
 
-slot_of_sheet : (all : List NumberedRecord) (n bank : ℕ) (r : Record) (digest : List ℕ) (k : ℕ) → k < slots_in r.pre.profile → Piece (slot_row r.pre k) (sheet all n bank r digest)
-unfolding sheet
-slot_of_sheet all n bank r digest k within = let here = slot_piece n r.pre k within in search pieces depth 20
-
 pub slots_on_page : (reports : List Report) (found : List Found) (origin : Origin) → HasAllSlotRows found (page_bytes reports found origin)
+unfolding sheet
 slots_on_page reports found origin e among k within =
     let there = has_number 1 (found_records found) e among in
-    (piece_within (slot_row e.1.pre k) _ _ (slot_of_sheet (events_of found) there.0 e.0 e.1 origin.digest k within) (sheet_on_page reports found origin (there.0, e) there.1)).piece
+    let here = slot_piece there.0 e.1.pre k within in
+    (piece_within (slot_row e.1.pre k) _ _ (search pieces depth 20) (sheet_on_page reports found origin (there.0, e) there.1)).piece
 
 -- ---- the place of an event in its crash
 

@@ -12,7 +12,7 @@ use Rattle.edr_drawing.specs.declared.template.TheConstants.{BEGINNING}
 use Rattle.edr_drawing.specs.declared.axes.CarAxis.{CarAxis}
 use Rattle.edr_drawing.specs.declared.axes.CarAxis.TheVariants.{Along, Across}
 use Rattle.edr_drawing.specs.Axes.{of_axis}
-use Rattle.edr_drawing.specs.Template.{byte_bytes, digest_hex, filled, filled_from, fixed, hex_digit, of_profile, of_switch, place_words}
+use Rattle.edr_drawing.specs.Template.{byte_bytes, digest_hex, filled, filled_from, fixed, of_profile, of_switch, place_words}
 use Rattle.edr_drawing.specs.Scales.{flat_map_below}
 
 -- each byte is below 128
@@ -50,14 +50,11 @@ plain_counted f h zero = plain_nil
 plain_counted f h (suc n) = plain_append (flat_map_below f n) (f n) (plain_counted f h n) (h n)
 
 -- the digits of any number
-glyph_low : (d : ℕ) → d < 10 → digit_glyph false d < 128
-glyph_low d small = grind (arith, small)
-
 plain_onto : (k n : ℕ) (acc : List ℕ) → Plain acc → Plain (digits_onto k 10 false n acc)
 plain_onto zero n acc h = h
 plain_onto (suc k) n acc h =
     let d = digit_glyph false (n % 10) in
-    let more = plain_cons d acc (glyph_low (n % 10) (omega arith)) h in
+    let more = plain_cons d acc (grind arith) h in
     plain_if (nat_eq (n / 10) 0) (d ∷ acc) (digits_onto k 10 false (n / 10) (d ∷ acc)) more (plain_onto k (n / 10) (d ∷ acc) more)
 
 pub plain_decimal : (n : ℕ) → Plain (decimal n)
@@ -121,14 +118,11 @@ plain_of_axis Along x y low_x low_y = plain_fixed x.now low_x
 plain_of_axis Across x y low_x low_y = plain_fixed y.now low_y
 
 -- a digest
-hex_low : (n : ℕ) → n < 16 → hex_digit n < 128
-hex_low n small = grind (arith, small)
-
 pub plain_digest : (digest : List ℕ) → All (λ b. b < 256) digest → Plain (digest_hex digest)
 plain_digest [] small = plain_nil
 plain_digest (b ∷ bs) small =
     let one = All-head (λ b. b < 256) b bs small in
-    plain_cons _ _ (hex_low (b / 16) (omega (arith, one))) (plain_cons _ _ (hex_low (b % 16) (omega arith)) (plain_digest bs (All-tail (λ b. b < 256) b bs small)))
+    plain_cons _ _ (grind (arith, one)) (plain_cons _ _ (grind arith) (plain_digest bs (All-tail (λ b. b < 256) b bs small)))
 
 pub plain_beginning : (digest : List ℕ) → All (λ b. b < 256) digest → Plain (digest_hex (take BEGINNING digest))
 plain_beginning digest small = plain_digest (take BEGINNING digest) (All-take (λ b. b < 256) BEGINNING digest small)

@@ -6,7 +6,7 @@ use Rattle.edr_record.specs.Parts.{CrashPart}
 use Rattle.edr_drawing.specs.declared.scales.Scale.{Scale}
 use Rattle.edr_drawing.specs.declared.scales.Direction.{Direction}
 use Rattle.edr_drawing.specs.declared.scales.Direction.TheVariants.{Up, Down}
-use Rattle.edr_drawing.specs.Scales.{reach_of, below_top, scale_top, furthest, reach, step_of, part_of, scale_of, span_of, time_x, change_y}
+use Rattle.edr_drawing.specs.Scales.{reach_of, below_top, scale_top, furthest, reach, step_of, part_of, scale_of, change_y}
 use Rattle.edr_drawing.specs.Laws.{StandsIn}
 use Rattle.std.proofs.lemmas.Nat.{le-div}
 use Rattle.edr_drawing.specs.declared.before.ChartLane.{ChartLane}
@@ -52,10 +52,6 @@ reaches_all way (v ∷ vs) =
 scale_reaches : (step value : ℕ) → 1 ≤ step → value ≤ scale_top step value
 scale_reaches step value some = grind arith
 
--- each step is at least 1
-step_some : (up down : ℕ) → 1 ≤ step_of up down
-step_some up down = grind arith
-
 -- both parts of a scale reach as far as the changes, and one of them is there
 abbrev part : ℕ → ℕ → ℕ → ℕ → ℕ
 part up down step value = part_of (nat_eq up 0 && nat_eq down 0) step value
@@ -67,32 +63,19 @@ some_part : (up down step : ℕ) → 1 ≤ step → 1 ≤ part up down step up +
 some_part up down step some = grind (arith, some, scale_reaches step up some, scale_reaches step down some)
 
 -- a change within the reach of a crash part stands in its plot
-stands_in : (c : CrashPart) (v : ℤ) → reach_of Up v ≤ reach Up c → reach_of Down v ≤ reach Down c → StandsIn (scale_of c) v
+pub stands_in : (c : CrashPart) (v : ℤ) → reach_of Up v ≤ reach Up c → reach_of Down v ≤ reach Down c → StandsIn (scale_of c) v
 stands_in c v rises falls =
     let up = reach Up c in
     let down = reach Down c in
     let step = step_of up down in
-    let some = step_some up down in
+    let some : 1 ≤ step_of up down = grind arith in
     stands (scale_of c) v (some_part up down step some)
     (omega (arith, rises, part_reaches up down step up some (omega arith)))
     (omega (arith, falls, part_reaches up down step down some (omega arith)))
 
 -- the points of an axis, which reach no further than the crash part
-axis_stands : (c : CrashPart) (vs : List ℤ) → ((way : Direction) → furthest way vs ≤ reach way c) → All (StandsIn (scale_of c)) vs
+pub axis_stands : (c : CrashPart) (vs : List ℤ) → ((way : Direction) → furthest way vs ≤ reach way c) → All (StandsIn (scale_of c)) vs
 axis_stands c vs within k d in_range =
     let rises = reaches_all Up vs k d in_range in
     let falls = reaches_all Down vs k d in_range in
     stands_in c _ (omega (arith, rises, within Up)) (omega (arith, falls, within Down))
-
-pub along_stands : (c : CrashPart) → All (StandsIn (scale_of c)) c.along
-along_stands c = axis_stands c c.along (λ way. omega arith)
-
-pub across_stands : (c : CrashPart) → All (StandsIn (scale_of c)) c.across
-across_stands c = axis_stands c c.across (λ way. omega arith)
-
-pub maxima_stand : (c : CrashPart) → StandsIn (scale_of c) c.max_along.kmh × StandsIn (scale_of c) c.max_across.kmh
-maxima_stand c = (stands_in c c.max_along.kmh (omega arith) (omega arith), stands_in c c.max_across.kmh (omega arith) (omega arith))
-
--- a time up to the last one across
-pub time_stands : (c : CrashPart) (t : ℕ) → t ≤ span_of c → (330 ≤ time_x (scale_of c) t) × (time_x (scale_of c) t ≤ 1_830)
-time_stands c t early = grind (arith, early)
