@@ -167,7 +167,7 @@ fn draw_long(out: &mut Vec<u8>, lane: &ChartLane, slots: &[Option<u16>]) -> Draw
 }
 
 /// Draws the lane of these slots.
-#[tactic(auto, using(crate::proofs::ListLemmas::few_slots), unfolding(crate::specs::Before::drawn_lane))]
+#[tactic(auto, unfolding(crate::specs::Before::drawn_lane))]
 pub fn draw_lane(
     out: &mut Vec<u8>,
     profile: Profile,
@@ -422,7 +422,7 @@ fn draw_moment(
 }
 
 /// Draws the chart of the event with this number.
-#[tactic(auto, using(crate::proofs::ListLemmas::few_slots), unfolding(crate::specs::Before::before_chart))]
+#[tactic(auto, unfolding(crate::specs::Before::before_chart))]
 pub fn draw_before(out: &mut Vec<u8>, number: u64, pre: &Pre) -> Drawn
     ensures { OnOk result (out.new.items ≡ out.old.items ++ before_chart number pre.now) }
 {

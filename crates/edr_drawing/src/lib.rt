@@ -38,7 +38,7 @@ pub struct Origin {
 }
 
 /// The page of what a report tells: the cycles of a run, what was found in the banks in this order, and its origin.
-#[tactic(auto, using(crate::proofs::ListLemmas::as_many), unfolding(crate::specs::Page::page_bytes))]
+#[tactic(auto, unfolding(crate::specs::Page::page_bytes))]
 pub fn page(
     alloc: Global,
     run: &[CycleReport],

@@ -168,7 +168,7 @@ fn put_damaged(out: &mut Vec<u8>, found: &[Found]) -> Drawn
 }
 
 /// Appends the first sheet up to the cycles of the run.
-#[tactic(auto, using(crate::proofs::ListLemmas::as_many), unfolding(crate::specs::Sheets::cover_start))]
+#[tactic(auto, unfolding(crate::specs::Sheets::cover_start))]
 pub fn put_cover_start(
     out: &mut Vec<u8>,
     events: &[FoundEvent<'_>],
