@@ -3,6 +3,7 @@ use Rattle.std.proofs.Common.{arith, ◌≡◌, ◌≢◌, ◌∙◌, sym, ap, s
 use Rattle.std.proofs.Math.Seq.{get_or-append_seam, take-length}
 use Rattle.std.proofs.lemmas.List.{drop_all, take_all, append-nil, take-append-drop, drop_more, get_or-map, length-map, take_more}
 use Rattle.edr_report.specs.Report.{report_lines}
+use Rattle.edr_report.specs.declared.TheConstants.{LARGEST_SHOWN_COUNT}
 use Rattle.edr_reading.proofs.WholeLemmas.{distinct-none, all-three, told-reading}
 use Rattle.edr_reading.specs.Rows.{line_fields, FieldRows, event_fields, event_names}
 use Rattle.edr_reading.specs.Faults.{AreReport, Opens, ReportGoesOn, IsFault, IsWrong}
@@ -134,12 +135,13 @@ end-fault r records h other =
 -- ---- what was read
 
 pub end-read : (r : Reader) (records : FieldRows) (n : ℕ) (run : List Report) (found : List Found) → HasReadRows r records → r.next ≡ next.Nothing n → run ≡ cycles_read r → found ≡ r.found.items
-    → (records ≡ report_rows run found n) × IsReading run found n
+    → (records ≡ report_rows run found n) × IsReading run found n × (n ≤ LARGEST_SHOWN_COUNT)
 end-read r records n run found h e runs founds =
     let s = subst (λ (x : NextRow). StandsNext x r.last (cycles_read r) r.found.items records) e h.stands in
     let t = told-reading (cycles_read r) s.0 s.1 n records s.3 s.4 s.5 in
-    subst (λ (x : List Report). (records ≡ report_rows x found n) × IsReading x found n) (sym runs)
-    (subst (λ (x : List Found). (records ≡ report_rows (cycles_read r) x n) × IsReading (cycles_read r) x n) (sym (founds ∙ s.2)) t)
+    let told = subst (λ (x : List Found). (records ≡ report_rows (cycles_read r) x n) × IsReading (cycles_read r) x n) (sym (founds ∙ s.2)) t in
+    let all = subst (λ (x : List Report). (records ≡ report_rows x found n) × IsReading x found n) (sym runs) told in
+    (all.0, all.1, s.7)
 
 -- the record in this place, by its fields
 pub record-at : {X : Type 0} (f : X → List (List ℕ)) (xs : List X) (i : ℕ) (x : X) → i < length xs → x ≡ get_or xs i x → (i < length (map f xs)) × (get_or (map f xs) i [] ≡ f x)

@@ -17,6 +17,7 @@ use Rattle.edr_record.specs.declared.Record.{Record}
 use Rattle.edr_record.specs.declared.Profile.TheVariants as profile
 use Rattle.edr_record.specs.declared.Place.TheVariants as place
 use Rattle.edr_report.specs.Words.{applied_words, shown_count}
+use Rattle.edr_report.specs.declared.TheConstants.{LARGEST_SHOWN_COUNT}
 use Rattle.edr_reading.specs.declared.event.PartEvent.{PartEvent}
 use Rattle.edr_reading.specs.declared.reader.Refused.{Refused}
 use Rattle.edr_reading.specs.Event.{HasNoBank, IsNextEvent, event_of}
@@ -221,12 +222,12 @@ module _ (r : Reader) (rows : FieldRows) (w value : List ℕ) (h : HasReadRows r
         },
       )
 
-  pub count-read : (n : ℕ) → IsOnlyName r w name.Count → value ≡ shown_count n → HasReadRows (record r { next = next.Nothing n; rows = r.rows + 1 }) (rows ++ (decimal 0 ∷ w ∷ value ∷ []) ∷ [])
-  count-read n o shows =
+  pub count-read : (n : ℕ) → IsOnlyName r w name.Count → value ≡ shown_count n → n ≤ LARGEST_SHOWN_COUNT → HasReadRows (record r { next = next.Nothing n; rows = r.rows + 1 }) (rows ++ (decimal 0 ∷ w ∷ value ∷ []) ∷ [])
+  count-read n o shows few =
       let m = in-between r rows h o.begins in
       let long = length-append rows ((decimal 0 ∷ w ∷ value ∷ []) ∷ []) in
       read-on _ h refl (omega arith) (omega arith) m.at.short h.first
-      (m.es, m.ds, m.found, m.at.told, row-more m.at.are o.words shows, omega (arith, m.at.short, long), (λ more a. (only-next m.at m.few w value o.only [] more (subst AreReport (append_assoc rows _ more) a)).2))
+      (m.es, m.ds, m.found, m.at.told, row-more m.at.are o.words shows, omega (arith, m.at.short, long), (λ more a. (only-next m.at m.few w value o.only [] more (subst AreReport (append_assoc rows _ more) a)).2), few)
 
   pub damaged-read : (bank : ℕ) (view : BankView) (e : Reader) → IsOnlyName r w (name.Bank bank) → IsDamagedView view → value ≡ view_words view → e.found.items ≡ r.found.items ++ record { bank = bank; view = view } ∷ []
       → HasReadRows (record r { found = e.found; next = next.Damaged; rows = r.rows + 1 }) (rows ++ (decimal 0 ∷ w ∷ value ∷ []) ∷ [])

@@ -6,6 +6,7 @@ use Rattle.edr_image.specs.declared.Ack.{Ack}
 use Rattle.edr_image.specs.declared.Found.{Found}
 use Rattle.edr_image.specs.Banks.{found_event}
 use Rattle.edr_image.specs.Reports.{Report, StartStopped, Ran, report_of}
+use Rattle.edr_report.specs.declared.TheConstants.{LARGEST_SHOWN_COUNT}
 use Rattle.edr_reading.specs.declared.faults.RowFault.TheVariants as fault
 use Rattle.edr_reading.specs.declared.reader.NextRow.{NextRow}
 use Rattle.edr_reading.specs.declared.reader.NextRow.TheVariants as next
@@ -120,7 +121,7 @@ StandsNext next.Damaged last reports found rows =
     (es : List (ℕ × Record)) × (ds : List Found) × (found ≡ map found_event es ++ ds) × IsBetween false false false reports es ds rows
 StandsNext (next.Nothing n) last reports found rows =
     (es : List (ℕ × Record)) × (ds : List Found) × (found ≡ map found_event es ++ ds) × IsToldReport reports es ds
-    × (rows ≡ whole reports es ds ++ count_fields n ∷ []) × (length rows ≤ 4_294_967_294) × ((more : FieldRows) → AreReport (rows ++ more) → more ≡ [])
+    × (rows ≡ whole reports es ds ++ count_fields n ∷ []) × (length rows ≤ 4_294_967_294) × ((more : FieldRows) → AreReport (rows ++ more) → more ≡ []) × (n ≤ LARGEST_SHOWN_COUNT)
 
 -- the reader has read these rows
 pub record HasReadRows (r : Reader) (rows : FieldRows) : Type 0 where
@@ -213,6 +214,7 @@ IsRowRefusal records OutOfMemory = ⊤
 pub record ReadsRows (rows : FieldRows) (result : Result Reading ReportRefused) : Type 0 where
   pub read : IfOk result (λ r. rows ≡ rows_told r)
   pub told : IfOk result (λ r. IsReading (map report_of r.run.items) r.found.items r.count)
+  pub count : IfOk result (λ r. r.count ≤ LARGEST_SHOWN_COUNT)
   pub fault : IfErr result (IsRowRefusal rows)
 
 -- the fault is that of its records

@@ -1,8 +1,9 @@
 //! A report's table, read back.
 
-ghost use Rattle.std.specs.Prelude.{◌≡◌, IfOk, IfErr, map};
+ghost use Rattle.std.specs.Prelude.{◌≡◌, ◌≤◌, IfOk, IfErr, map};
 ghost use Rattle.csv.specs.Records.{fields_of};
 ghost use Rattle.edr_image.specs.Reports.{report_of};
+ghost use Rattle.edr_report.specs.declared.TheConstants.{LARGEST_SHOWN_COUNT};
 ghost use Rattle.edr_spell.specs.Spell.{RecordsOf};
 ghost use Rattle.edr_reading.specs.Reader.{HasReadRows, IsRefusalOfRecords, IsRowRefusal, ReadsRows};
 ghost use Rattle.edr_reading.specs.Reading.{IsReading, OfReportRows, rows_told};
@@ -91,6 +92,7 @@ fn end(alloc: Global, mut reader: Reader) -> Result<Reading, ReportRefused>
 pub fn read(alloc: Global, bytes: &[u8]) -> Result<Reading, ReportRefused>
     ensures read { IfOk result (λ r. RecordsOf bytes.now (rows_told r)) }
     ensures told { IfOk result (λ r. IsReading (map report_of r.run.items) r.found.items r.count) }
+    ensures count { IfOk result (λ r. r.count ≤ LARGEST_SHOWN_COUNT) }
     ensures refused { IfErr result (λ e.
         OfReportRows (RecordsOf bytes.now) (e ≡ ReportRefused.OutOfMemory)) }
     ensures fault { IfErr result (IsRefusalOfRecords bytes.now) }
