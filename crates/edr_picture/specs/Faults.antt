@@ -1,7 +1,7 @@
 -- How the program ends: its status, and the line in which it tells why.
 use Rattle.std.specs.Prelude.{ℕ, List, [], ◌∷◌, ◌++◌, codes, decimal}
-use Rattle.edr_reading.specs.declared.faults.RowFault.{RowFault}
-use Rattle.edr_reading.specs.declared.faults.RowFault.TheVariants.{Fields, Field, Unended}
+use Rattle.edr_reading.specs.declared.reading.RowFault.{RowFault}
+use Rattle.edr_reading.specs.declared.reading.RowFault.TheVariants.{Fields, Field, Unended}
 use Rattle.edr_picture.specs.declared.faults.PageFault.{PageFault}
 use Rattle.edr_picture.specs.declared.faults.PageFault.TheVariants.{Usage, Report, Read, OutOfMemory, TooLong}
 use Rattle.edr_picture.specs.declared.faults.PageStatus.{PageStatus}

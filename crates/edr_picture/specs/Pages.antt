@@ -11,8 +11,8 @@ use Rattle.edr_drawing.specs.declared.Origin.{Origin}
 use Rattle.edr_drawing.specs.Page.{page_bytes}
 use Rattle.edr_image.specs.declared.Found.{Found}
 use Rattle.edr_image.specs.Reports.{Report}
-use Rattle.edr_reading.specs.Faults.{IsFault}
-use Rattle.edr_reading.specs.declared.faults.RowFault.{RowFault}
+use Rattle.edr_reading.specs.Reading.{IsFault}
+use Rattle.edr_reading.specs.declared.reading.RowFault.{RowFault}
 use Rattle.edr_reading.specs.Reading.{IsReading, report_rows}
 use Rattle.edr_spell.specs.Spell.{RecordsOf}
 use Rattle.edr_picture.specs.Asked.{version_line}

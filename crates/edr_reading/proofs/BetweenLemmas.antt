@@ -1,31 +1,19 @@
 -- What the next row of a report may be, and how a reader between events takes it or refuses it.
+use Rattle.std.proofs.lemmas.List.{map-append, Elements.{All-head, All-tail, All-append, All-cons, All-take}}
+use Rattle.std.proofs.Math.Seq.{take-append_seam}
 use Rattle.std.proofs.Common.{arith, ◌≡◌, ◌∙◌, sym, ap, subst, refl, ℕ, ◌+◌, ◌≤◌, ◌⊎◌, inl, inr, Bool, true, false, eqb, List, [], ◌∷◌, ◌++◌, map, length, append_assoc, length-append, decimal, Option, Some, None, ◌<◌, ◌^◌, ⊎_elim, codes}
 use Rattle.std.specs.List.{All, IsDistinct, slice_index_or}
-use Rattle.std.proofs.lemmas.List.Elements.{All-head, All-tail, All-append, All-cons, All-take}
-use Rattle.edr_record.specs.declared.Record.{Record}
-use Rattle.edr_image.specs.declared.Ack.{Ack}
-use Rattle.edr_image.specs.declared.Applied.{Applied}
-use Rattle.edr_image.specs.declared.BankView.{BankView}
-use Rattle.edr_image.specs.declared.Found.{Found}
-use Rattle.edr_image.specs.Reports.{Report, StartStopped, Ran}
-use Rattle.edr_report.specs.Report.{cycle_lines, event_lines}
-use Rattle.edr_report.specs.Words.{applied_words, shown_count}
-use Rattle.edr_reading.specs.declared.told.CycleRow.{CycleRow}
-use Rattle.edr_reading.specs.declared.told.ToldName.{ToldName}
-use Rattle.edr_reading.specs.declared.told.ToldName.TheVariants as name
-use Rattle.edr_reading.specs.Event.{EventAgrees, PartsAgree}
-use Rattle.edr_reading.specs.Told.{IsAck, IsCycleRow, IsDamaged, IsEvent, IsReport, IsToldName, ack_fields, acks_of, banks_in, count_fields, cycle_fields, damaged_fields, events_fields, last_rows, name_words, row_of, row_words, run_fields, IsApplied, IsDamagedView, view_words}
-use Rattle.edr_record.specs.Parts.{CrashPart}
+use Rattle.edr_record.specs.{declared.Record.Record, Parts.CrashPart}
+use Rattle.edr_image.specs.declared.{Ack.Ack, Applied.Applied, BankView.BankView, Found.Found}
+use Rattle.edr_image.specs.{Reports.{Report, StartStopped, Ran}, Banks.found_event}
+use Rattle.edr_report.specs.{Report.{cycle_lines, event_lines}, Words.{applied_words, shown_count}}
+use Rattle.edr_reading.specs.declared.values.{CycleRow.CycleRow, ToldName.ToldName}
+use Rattle.edr_reading.specs.Reading.{EventAgrees, PartsAgree, IsAck, IsCycleRow, IsDamaged, IsEvent, IsReport, IsToldName, ack_fields, acks_of, banks_in, count_fields, cycle_fields, damaged_fields, events_fields, last_rows, name_words, row_of, row_words, run_fields, IsApplied, IsDamagedView, view_words, FieldRows, event_fields, line_fields, AreReport, ReportGoesOn, head_row}
 use Rattle.edr_reading.specs.Reader.{MayFollow, MayFollowLine, may_ack, IsBetween, IsRefused, IsToldReport, last_cycle, whole}
-use Rattle.edr_reading.specs.Rows.{FieldRows, event_fields, line_fields}
-use Rattle.edr_reading.proofs.WholeLemmas.{events-first, run-first, cycle-lines, decimal-same, report-told, told-report, whole-cycle, distinct-none}
-use Rattle.std.proofs.lemmas.List.{map-append}
-use Rattle.std.proofs.Math.Seq.{take-append_seam}
-use Rattle.edr_image.specs.Banks.{found_event}
+use Rattle.edr_reading.specs.declared.values.ToldName.TheVariants as name
 use Rattle.edr_reading.specs.declared.reader.Refused.TheVariants as refused
-use Rattle.edr_reading.specs.declared.told.CycleRow.TheVariants as row
-use Rattle.edr_reading.specs.Faults.{AreReport, ReportGoesOn}
-use Rattle.edr_reading.specs.Reading.{head_row}
+use Rattle.edr_reading.specs.declared.values.CycleRow.TheVariants as row
+use Rattle.edr_reading.proofs.WholeLemmas.{events-first, run-first, cycle-lines, decimal-same, report-told, told-report, whole-cycle, distinct-none}
 
 -- ---- what the next row of a report may be
 

@@ -1,37 +1,22 @@
 -- The rows and the lines of an event, and how a reader in one takes them or refuses them.
+use Rattle.std.proofs.{lemmas.List.FromFn.fill_by_all, Math.Seq.{take-append-add, take-length}}
 use Rattle.std.proofs.Common.{arith, ◌≡◌, ◌∙◌, sym, ap, refl, ℕ, zero, suc, ◌+◌, ◌<◌, Bool, List, [], ◌∷◌, ◌++◌, length, map, take, drop, get_or, decimal, Option, None, Some, subst, ◌-◌, ◌≤◌, false, set, ◌≢◌, ap₂, ◌^◌, ⊎_elim, true, eqb, append_assoc, length-append}
-use Rattle.std.specs.Option.{IfSome, option_map_or}
 use Rattle.std.proofs.lemmas.List.{take_more, length-map, take-append-le, take-map, take-set, append-nil, drop_more, take-append-drop, length-drop}
-use Rattle.std.proofs.lemmas.List.FromFn.{fill_by_all}
-use Rattle.edr_record.specs.declared.Record.{Record}
-use Rattle.edr_record.specs.Bounds.{IsCrash}
-use Rattle.edr_record.specs.Complete.{is_complete, misses_no_tick}
+use Rattle.std.specs.{Option.{IfSome, option_map_or}, List.{IsDistinct, slice_index_or}}
+use Rattle.edr_record.specs.{declared.Record.Record, Bounds.IsCrash, Complete.{is_complete, misses_no_tick}}
 use Rattle.edr_record.specs.Parts.{PrePart, CrashPart}
-use Rattle.edr_report.specs.EventWords.{event_words, place_of}
-use Rattle.edr_report.specs.Report.{event_line, event_lines}
-use Rattle.edr_report.specs.Words.{yes_no, firing_words}
-use Rattle.edr_report.specs.declared.event_lines.EventLine.{EventLine}
-use Rattle.edr_report.specs.declared.event_lines.EventLine.TheVariants.{Number, Before, After}
-use Rattle.edr_report.specs.declared.event_lines.TheConstants.{LINES_OF_EVENT}
-use Rattle.edr_reading.specs.Event.{event_place, event_texts, EventAgrees, first_texts, pre_texts, PartsAgree, PreAgrees, crash_place, crash_texts, pre_place, AcceptsLine, AcceptsEventLine, IsNextEvent, event_of}
-use Rattle.edr_reading.specs.Rows.{FieldRows, Texts, event_fields, event_names, line_fields}
-use Rattle.edr_report.specs.declared.event_lines.PreLine.{PreLine}
-use Rattle.edr_report.specs.declared.event_lines.PreLine.TheVariants as pre
-use Rattle.edr_report.specs.declared.event_lines.CrashLine.{CrashLine}
-use Rattle.edr_report.specs.declared.event_lines.CrashLine.TheVariants as crash
+use Rattle.edr_report.specs.{EventWords.{event_words, place_of}, Report.{event_line, event_lines}, Words.{yes_no, firing_words}}
+use Rattle.edr_report.specs.declared.event_lines.EventLine.{EventLine, TheVariants.{Number, Before, After}}
+use Rattle.edr_report.specs.declared.event_lines.{TheConstants.LINES_OF_EVENT, PreLine.PreLine, CrashLine.CrashLine}
 use Rattle.edr_report.specs.declared.event_lines.Restraint.{Restraint}
+use Rattle.edr_report.specs.declared.event_lines.PreLine.TheVariants as pre
+use Rattle.edr_report.specs.declared.event_lines.CrashLine.TheVariants as crash
 use Rattle.edr_report.specs.declared.event_lines.Restraint.TheVariants as restraint
-use Rattle.std.proofs.Math.Seq.{take-append-add, take-length}
-use Rattle.std.specs.List.{IsDistinct, slice_index_or}
-use Rattle.edr_image.specs.declared.Found.{Found}
-use Rattle.edr_image.specs.Banks.{found_event}
-use Rattle.edr_image.specs.Reports.{Report}
-use Rattle.edr_reading.specs.declared.reader.Refused.TheVariants as refused
 use Rattle.edr_reading.specs.declared.event.PartEvent.{PartEvent}
-use Rattle.edr_reading.specs.Faults.{AreReport, ReportGoesOn}
-use Rattle.edr_reading.specs.Told.{IsAck, IsDamaged, IsEvent, IsReport, banks_in, count_fields, damaged_fields, events_fields, last_rows, IsRecord}
-use Rattle.edr_reading.specs.Reading.{AreDistinct}
+use Rattle.edr_reading.specs.Reading.{event_place, event_texts, EventAgrees, first_texts, pre_texts, PartsAgree, PreAgrees, crash_place, crash_texts, pre_place, AcceptsLine, AcceptsEventLine, IsNextEvent, event_of, FieldRows, Texts, event_fields, event_names, line_fields, AreReport, ReportGoesOn, IsAck, IsDamaged, IsEvent, IsReport, banks_in, count_fields, damaged_fields, events_fields, last_rows, IsRecord, AreDistinct}
 use Rattle.edr_reading.specs.Reader.{GoesOnIn, IsBetween, IsInside, IsRefused, IsToldReport, MayFollowLine, whole}
+use Rattle.edr_reading.specs.declared.reader.Refused.TheVariants as refused
+use Rattle.edr_image.specs.{declared.Found.Found, Banks.found_event, Reports.Report}
 use Rattle.edr_reading.proofs.BetweenLemmas.{banks-more, All-last, refuse-2, refuse-3, next-row, none}
 use Rattle.edr_reading.proofs.WholeLemmas.{alone, distinct-more, decimal-same, told-report, whole-event}
 

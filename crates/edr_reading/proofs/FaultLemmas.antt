@@ -1,37 +1,23 @@
 -- Where a text can be no report, and what was read of one that is.
-use Rattle.std.proofs.Common.{arith, ◌≡◌, ◌≢◌, ◌∙◌, sym, ap, subst, refl, ℕ, zero, suc, ◌<◌, ◌≤◌, ◌+◌, ◌-◌, min, map, List, [], ◌∷◌, ◌++◌, length, length-append, take, drop, get_or, decimal, length-take-le, Option, Bool, Result, Ok, Err}
 use Rattle.std.proofs.Math.Seq.{get_or-append_seam, take-length}
+use Rattle.std.proofs.Common.{arith, ◌≡◌, ◌≢◌, ◌∙◌, sym, ap, subst, refl, ℕ, zero, suc, ◌<◌, ◌≤◌, ◌+◌, ◌-◌, min, map, List, [], ◌∷◌, ◌++◌, length, length-append, take, drop, get_or, decimal, length-take-le, Option, Bool, Result, Ok, Err}
 use Rattle.std.proofs.lemmas.List.{drop_all, take_all, append-nil, take-append-drop, drop_more, get_or-map, length-map, take_more}
-use Rattle.edr_report.specs.Report.{report_lines}
-use Rattle.edr_report.specs.declared.TheConstants.{LARGEST_SHOWN_COUNT}
-use Rattle.edr_reading.proofs.WholeLemmas.{distinct-none, all-three, told-reading}
-use Rattle.edr_reading.specs.Rows.{line_fields, FieldRows, event_fields, event_names}
-use Rattle.edr_reading.specs.Faults.{AreReport, Opens, ReportGoesOn, IsFault, IsWrong}
-use Rattle.edr_reading.specs.declared.faults.RowFault.{RowFault}
-use Rattle.edr_reading.specs.declared.faults.RowFault.TheVariants.{Fields, Field, Unended}
-use Rattle.edr_reading.specs.Reading.{IsReading, head_row, report_rows, rows_told}
-use Rattle.edr_record.specs.declared.Record.{Record}
-use Rattle.edr_image.specs.declared.Found.{Found}
-use Rattle.edr_image.specs.Banks.{found_event}
-use Rattle.edr_image.specs.Reports.{Report}
-use Rattle.edr_reading.specs.declared.faults.RowFault.TheVariants as fault
-use Rattle.edr_reading.specs.declared.reader.NextRow.{NextRow}
-use Rattle.edr_reading.specs.declared.reader.NextRow.TheVariants as next
-use Rattle.edr_reading.specs.declared.reader.Reader.{Reader}
-use Rattle.edr_reading.specs.declared.reader.Refused.TheVariants as refused
-use Rattle.edr_reading.specs.declared.told.CycleRow.{CycleRow}
-use Rattle.edr_reading.specs.Told.{count_fields}
+use Rattle.edr_report.specs.{Report.report_lines, declared.TheConstants.LARGEST_SHOWN_COUNT}
+use Rattle.edr_report.specs.{declared.event_lines.EventLine.TheVariants.Number, EventWords.event_words}
+use Rattle.edr_reading.proofs.{WholeLemmas.{distinct-none, all-three, told-reading}, BetweenLemmas.{between-count, some-rows}}
+use Rattle.edr_reading.proofs.EventLemmas.{inside-count, lines}
+use Rattle.edr_reading.specs.declared.reading.{RowFault.{RowFault, TheVariants.{Fields, Field, Unended}}, Reading.Reading}
+use Rattle.edr_reading.specs.declared.reading.ReportRefused.{ReportRefused, TheVariants.{Fault, OutOfMemory}}
+use Rattle.edr_reading.specs.declared.{reader.{NextRow.NextRow, Reader.Reader}, values.CycleRow.CycleRow}
 use Rattle.edr_reading.specs.Reader.{HasReadRows, IsBetween, IsRefused, IsRowRefusal, StandsNext, cycles_read}
-use Rattle.edr_reading.specs.declared.reading.Reading.{Reading}
-use Rattle.edr_reading.specs.declared.reading.ReportRefused.{ReportRefused}
-use Rattle.edr_reading.specs.declared.reading.ReportRefused.TheVariants.{Fault, OutOfMemory}
+use Rattle.edr_reading.specs.Reading.{line_fields, FieldRows, event_fields, event_names, AreReport, Opens, ReportGoesOn, IsFault, IsWrong, IsReading, head_row, report_rows, rows_told, count_fields, event_of}
+use Rattle.edr_reading.specs.declared.reading.RowFault.TheVariants as fault
+use Rattle.edr_reading.specs.declared.reader.NextRow.TheVariants as next
+use Rattle.edr_reading.specs.declared.reader.Refused.TheVariants as refused
+use Rattle.edr_record.specs.declared.Record.{Record}
+use Rattle.edr_image.specs.{declared.Found.Found, Banks.found_event, Reports.Report}
 use Rattle.edr_spell.specs.Spell.{RecordsOf}
 use Rattle.std.specs.Result.{IfErr, IfOk}
-use Rattle.edr_reading.proofs.BetweenLemmas.{between-count, some-rows}
-use Rattle.edr_reading.proofs.EventLemmas.{inside-count, lines}
-use Rattle.edr_report.specs.EventWords.{event_words}
-use Rattle.edr_report.specs.declared.event_lines.EventLine.TheVariants.{Number}
-use Rattle.edr_reading.specs.Event.{event_of}
 
 -- ---- the first row of a text that is no report
 

@@ -1,42 +1,25 @@
 -- What a reader has read, by its fields.
+use Rattle.std.proofs.lemmas.{Bool.cases_lt, List.{append-nil, length-map}}
 use Rattle.std.proofs.Common.{arith, ◌≡◌, ◌≢◌, ◌∙◌, sym, ap, ap₂, subst, refl, ℕ, ◌+◌, ◌<◌, ◌≤◌, ◌^◌, ◌⊎◌, inl, inr, ⊎_elim, Bool, true, false, List, [], ◌∷◌, ◌++◌, map, length, append_assoc, length-append, decimal, get_or, eqb, Option, None, Some, Result, Ok, Err}
-use Rattle.std.specs.List.{IsDistinct, slice_index_or, All}
-use Rattle.std.specs.Result.{IfErr, OnOk}
-use Rattle.std.proofs.lemmas.Bool.{cases_lt}
-use Rattle.std.proofs.lemmas.List.{append-nil, length-map}
-use Rattle.edr_image.specs.declared.Ack.{Ack}
-use Rattle.edr_image.specs.declared.Applied.{Applied}
-use Rattle.edr_image.specs.declared.Applied.TheVariants.{NotKept}
-use Rattle.edr_image.specs.declared.BankView.{BankView}
+use Rattle.std.specs.{List.{IsDistinct, slice_index_or, All}, Result.{IfErr, OnOk}}
+use Rattle.edr_image.specs.declared.{Ack.Ack, Applied.{Applied, TheVariants.NotKept}, BankView.BankView, Found.Found, Kind.Kind}
+use Rattle.edr_image.specs.{Banks.found_event, Reports.{Report, Ran, report_of}}
 use Rattle.edr_image.specs.declared.BankView.TheVariants as view
-use Rattle.edr_image.specs.declared.Found.{Found}
-use Rattle.edr_image.specs.declared.Kind.{Kind}
-use Rattle.edr_image.specs.Banks.{found_event}
-use Rattle.edr_image.specs.Reports.{Report, Ran, report_of}
 use Rattle.edr_record.specs.declared.Record.{Record}
 use Rattle.edr_record.specs.declared.Profile.TheVariants as profile
 use Rattle.edr_record.specs.declared.Place.TheVariants as place
-use Rattle.edr_report.specs.Words.{applied_words, shown_count}
-use Rattle.edr_report.specs.declared.TheConstants.{LARGEST_SHOWN_COUNT}
-use Rattle.edr_reading.specs.declared.event.PartEvent.{PartEvent}
-use Rattle.edr_reading.specs.declared.reader.Refused.{Refused}
-use Rattle.edr_reading.specs.Event.{HasNoBank, IsNextEvent, event_of}
-use Rattle.edr_reading.specs.declared.told.CycleRow.{CycleRow}
-use Rattle.edr_reading.specs.declared.told.CycleRow.TheVariants as row
-use Rattle.edr_reading.specs.declared.told.ToldName.{ToldName}
-use Rattle.edr_reading.specs.declared.told.ToldName.TheVariants as name
-use Rattle.edr_reading.specs.declared.reader.NextRow.{NextRow}
-use Rattle.edr_reading.specs.declared.reader.NextRow.TheVariants as next
-use Rattle.edr_reading.specs.declared.reader.Reader.{Reader}
-use Rattle.edr_reading.specs.declared.reader.Refused.TheVariants as refused
-use Rattle.edr_reading.specs.Faults.{ReportGoesOn, AreReport}
-use Rattle.edr_reading.specs.Told.{IsCycleRow, IsToldName, banks_in, name_words, row_words, IsReport, IsDamaged, IsApplied, IsBank, IsDamagedView, view_words, start_words, IsRecord}
+use Rattle.edr_report.specs.{Words.{applied_words, shown_count}, declared.TheConstants.LARGEST_SHOWN_COUNT}
+use Rattle.edr_reading.specs.declared.{event.PartEvent.PartEvent, reader.{Refused.Refused, NextRow.NextRow, Reader.Reader}}
+use Rattle.edr_reading.specs.declared.values.{CycleRow.CycleRow, ToldName.ToldName}
+use Rattle.edr_reading.specs.Reading.{HasNoBank, IsNextEvent, event_of, ReportGoesOn, AreReport, IsCycleRow, IsToldName, banks_in, name_words, row_words, IsReport, IsDamaged, IsApplied, IsBank, IsDamagedView, view_words, start_words, IsRecord, AreDistinct, head_row, FieldRows, event_names}
 use Rattle.edr_reading.specs.Reader.{AddsLine, AtLine, HasReadRows, IsBetween, IsOnlyName, IsRefused, MayBegin, MayHaveEvent, MayTell, StandsNext, Takes, TakesLine, cycles_read, last_cycle, may_ack, MayFollow, whole}
-use Rattle.edr_reading.specs.Reading.{AreDistinct, head_row}
-use Rattle.edr_reading.specs.Rows.{FieldRows, event_names}
-use Rattle.edr_reading.proofs.BetweenLemmas.{banks-last, found-last, told-ack, whole-ack, row-more, run-told, started, started-is, opens, only-next, All-last, between-block, between-count, refuse-1, refuse-2, refuse-3, start-between, told-next, ToldNext, next-row, some-rows}
+use Rattle.edr_reading.specs.declared.values.CycleRow.TheVariants as row
+use Rattle.edr_reading.specs.declared.values.ToldName.TheVariants as name
+use Rattle.edr_reading.specs.declared.reader.NextRow.TheVariants as next
+use Rattle.edr_reading.specs.declared.reader.Refused.TheVariants as refused
 use Rattle.edr_reading.proofs.WholeLemmas.{alone, report-told, whole-cycle, whole-damaged, distinct-more}
 use Rattle.edr_reading.proofs.EventLemmas.{AcceptsPlace, first-line, line-last, line-most, line-next}
+use Rattle.edr_reading.proofs.BetweenLemmas.{banks-last, found-last, told-ack, whole-ack, row-more, run-told, started, started-is, opens, only-next, All-last, between-block, between-count, refuse-1, refuse-2, refuse-3, start-between, told-next, ToldNext, next-row, some-rows}
 
 pub stands-as : (n m : NextRow) (last first : Option CycleRow) (reports rs : List Report) (found fs : List Found) (rows : FieldRows) → n ≡ m → last ≡ first → reports ≡ rs → found ≡ fs → StandsNext m first rs fs rows → StandsNext n last reports found rows
 stands-as n m last first reports rs found fs rows a b c d h = rw (a, b, c, d) h

@@ -1,17 +1,15 @@
 -- Lists of slots, slot by slot, and the points of an axis.
-use Rattle.std.proofs.Common.{ap₂, arith, ◌≡◌, ◌∙◌, sym, ap, subst, refl, ℕ, zero, suc, ◌+◌, ◌<◌, List, [], ◌∷◌, ◌++◌, length, map, take, drop, get_or, set, append_assoc, ◌^◌, Option, Some, None, codes, nat_eq, true, ◌≤◌, ℤ, pos, replicate, length-append, length-take-le, length-drop, slice_get, max, FitsSigned, w16, to_z, of_z}
-use Rattle.std.specs.List.{All}
-use Rattle.std.proofs.lemmas.Int.{ints, to_z-of_z}
-use Rattle.std.proofs.lemmas.Bool.{eqb-true}
-use Rattle.std.proofs.lemmas.List.{append-nil, drop_all, drop_more, take_all, take_more, take_more_set, map-append, append_cancel_left, drop-replicate, take-append-drop, length-replicate}
+use Rattle.std.proofs.lemmas.{Int.{ints, to_z-of_z}, Bool.eqb-true}
 use Rattle.std.proofs.lemmas.List.Elements.{All-append, All-drop, All-take, All-replicate}
 use Rattle.std.proofs.Math.Seq.{take-length, take-append_seam, drop-append_seam}
+use Rattle.std.proofs.Common.{ap₂, arith, ◌≡◌, ◌∙◌, sym, ap, subst, refl, ℕ, zero, suc, ◌+◌, ◌<◌, List, [], ◌∷◌, ◌++◌, length, map, take, drop, get_or, set, append_assoc, ◌^◌, Option, Some, None, codes, nat_eq, true, ◌≤◌, ℤ, pos, replicate, length-append, length-take-le, length-drop, slice_get, max, FitsSigned, w16, to_z, of_z}
+use Rattle.std.proofs.lemmas.List.{append-nil, drop_all, drop_more, take_all, take_more, take_more_set, map-append, append_cancel_left, drop-replicate, take-append-drop, length-replicate}
+use Rattle.std.specs.{List.All, Fmt.signed_decimal}
+use Rattle.edr_record.specs.Parts.{CrashPart}
 use Rattle.edr_record.specs.Bounds.{IsUpTo, ArePoints, IsChange, point_count, IsCrash, IsExtreme, window_from_end}
 use Rattle.edr_report.specs.Words.{spaced_words, number_or_none, points_words, milliseconds, none_word}
 use Rattle.edr_reading.proofs.ValueLemmas.{not-number}
 use Rattle.edr_reading.specs.Answers.{EndsNumber, Reads, each_spaced, spaced_after, space_at, ReadsSlots}
-use Rattle.std.specs.Fmt.{signed_decimal}
-use Rattle.edr_record.specs.Parts.{CrashPart}
 
 -- ---- lists of slots, slot by slot
 

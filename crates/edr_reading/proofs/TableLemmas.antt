@@ -1,14 +1,11 @@
 -- The records of a table.
 use Rattle.std.proofs.Common.{arith, ◌≡◌, refl, ℕ, zero, suc, ◌<◌, List, [], ◌∷◌, length, Some, None, sym, subst, ◌++◌, map, flat_map, drop, codes, decimal}
-use Rattle.csv.specs.Records.{field_at}
-use Rattle.csv.specs.Machine.{Read, next_record}
-use Rattle.csv.specs.Reading.{AreRecords, Reached, default_config, strip_bom}
+use Rattle.csv.specs.{Records.field_at, Machine.{Read, next_record}, Reading.{AreRecords, Reached, default_config, strip_bom}}
 use Rattle.csv.specs.Writing.{fields_text, is_blank}
 use Rattle.csv.specs.declared.parser.State.TheVariants as st
 use Rattle.csv.proofs.RoundTrip.{read-write-many}
 use Rattle.edr_report.specs.Lines.{Line, table_row, table_head, table_of}
-use Rattle.edr_reading.specs.Reading.{head_row}
-use Rattle.edr_reading.specs.Rows.{line_fields}
+use Rattle.edr_reading.specs.Reading.{head_row, line_fields}
 use Rattle.edr_spell.specs.Spell.{RecordsOf}
 
 -- ---- the three fields of a record

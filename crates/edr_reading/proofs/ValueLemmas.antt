@@ -1,23 +1,15 @@
 -- Numbers, words and values of a report, and the bytes that spell them.
+use Rattle.std.proofs.{lemmas.List.take-append-drop, Math.Seq.{drop-append_seam, take-append_seam}}
 use Rattle.std.proofs.Common.{arith, ◌≡◌, ◌∙◌, sym, ap, subst, refl, ℕ, zero, suc, ◌<◌, ◌≤◌, ◌^◌, ◌&&◌, Bool, true, false, List, [], ◌∷◌, ◌++◌, length, take, drop, decimal, nat_eq, Ok, ◌+◌, ℤ, pos, negsuc, Option, Some, None, option_map, codes, add-one, append_assoc, get_or}
-use Rattle.std.specs.List.{list_all}
-use Rattle.std.proofs.lemmas.List.{take-append-drop}
-use Rattle.std.specs.Cmp.Lexicographic.{pointwise, same_text, bytes_decides}
-use Rattle.std.proofs.Math.Seq.{drop-append_seam, take-append_seam}
+use Rattle.std.specs.{List.list_all, Cmp.Lexicographic.{pointwise, same_text, bytes_decides}, Fmt.signed_decimal, Option.IfSome}
 use Rattle.edr_text.specs.Numbers.{is_digit, is_numeral, numeral, natural_in, below}
-use Rattle.edr_text.proofs.SpellingLemmas.{is_numeral-numeral, decimal-numeral}
-use Rattle.edr_text.proofs.ReadingLemmas.{below-numeral, below-spelled}
-use Rattle.edr_reading.specs.Answers.{EndsNumber, AreUpTo, IsFromTo, ReadsTwo, two_numbers}
-use Rattle.std.specs.Fmt.{signed_decimal}
-use Rattle.std.specs.Option.{IfSome}
+use Rattle.edr_text.proofs.{SpellingLemmas.{is_numeral-numeral, decimal-numeral}, ReadingLemmas.{below-numeral, below-spelled}}
+use Rattle.edr_reading.specs.{Answers.{EndsNumber, AreUpTo, IsFromTo, ReadsTwo, two_numbers}, declared.values.CycleRow.CycleRow}
+use Rattle.edr_reading.specs.declared.values.CycleRow.TheVariants.{StartStopped, Ran}
+use Rattle.edr_reading.specs.Reading.{IsDamagedView, view_words, IsStopCall, IsRan, ran_words, start_words, IsCycleRow, row_words}
 use Rattle.edr_record.specs.Bounds.{IsUpTo, IsChange}
 use Rattle.edr_report.specs.Words.{firing_words, stop_words, missing_words, damage_words, yes_no, cycle_words, ack_words, kind_word}
-use Rattle.edr_image.specs.declared.BankView.{BankView}
-use Rattle.edr_image.specs.declared.BankView.TheVariants.{Damaged, Event, Void}
-use Rattle.edr_reading.specs.Told.{IsDamagedView, view_words, IsStopCall, IsRan, ran_words, start_words, IsCycleRow, row_words}
-use Rattle.edr_image.specs.declared.Kind.{Kind}
-use Rattle.edr_reading.specs.declared.told.CycleRow.{CycleRow}
-use Rattle.edr_reading.specs.declared.told.CycleRow.TheVariants.{StartStopped, Ran}
+use Rattle.edr_image.specs.declared.{BankView.{BankView, TheVariants.{Damaged, Event, Void}}, Kind.Kind}
 
 -- ---- digits in front of bytes, and words in front of bytes
 

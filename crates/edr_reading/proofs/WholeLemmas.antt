@@ -1,30 +1,20 @@
 -- The rows of a report, part by part, and those so far.
+use Rattle.std.proofs.lemmas.{List.Elements.{All-head, All-tail, All-cons}, Bool.Decides.nat_tests}
+use Rattle.std.proofs.lemmas.Map.Keys.{IsDistinct-cons, IsDistinct-head, IsDistinct-tail}
+use Rattle.std.proofs.lemmas.List.{map-append, length-map, append-nil}
 use Rattle.std.proofs.Common.{arith, ◌≡◌, ◌≢◌, refl, ℕ, false, eqb, List, [], ◌∷◌, ◌++◌, length, ◌∙◌, ap, ap₂, zero, suc, ◌<◌, map, flat_map, get_or, None, codes, append_assoc, sym, subst, ◌+◌, ◌≤◌, ◌^◌, length-append, decimal, Some}
 use Rattle.std.specs.List.{AllByRecursion, IsDistinct, All}
-use Rattle.std.proofs.lemmas.List.Elements.{All-head, All-tail, All-cons}
-use Rattle.std.proofs.lemmas.Bool.Decides.{nat_tests}
-use Rattle.std.proofs.lemmas.Map.Keys.{IsDistinct-cons, IsDistinct-head, IsDistinct-tail}
-use Rattle.edr_image.specs.declared.Found.{Found}
-use Rattle.edr_reading.specs.Event.{HasNoBank}
-use Rattle.edr_reading.specs.Told.{banks_in, IsDamaged, count_fields, damaged_fields, events_fields, last_rows, run_fields, ack_fields, acks_of, cycle_fields, row_of, IsDamagedView}
-use Rattle.edr_reading.specs.Reading.{AreDistinct, head_row, report_rows, IsReading}
-use Rattle.std.proofs.lemmas.List.{map-append, length-map, append-nil}
+use Rattle.edr_image.specs.declared.{Found.Found, BankView.{BankView, TheVariants.{Void, Event, Damaged}}, Ack.Ack}
+use Rattle.edr_image.specs.{Banks.found_event, Reports.{Report, StartStopped, Ran}}
+use Rattle.edr_reading.specs.Reader.{IsToldReport, whole}
+use Rattle.edr_reading.specs.Reading.{HasNoBank, banks_in, IsDamaged, count_fields, damaged_fields, events_fields, last_rows, run_fields, ack_fields, acks_of, cycle_fields, row_of, IsDamagedView, AreDistinct, head_row, report_rows, IsReading, line_fields, FieldRows, event_fields, AreReport}
+use Rattle.edr_reading.specs.declared.values.CycleRow.TheVariants as row
 use Rattle.edr_record.specs.declared.Record.{Record}
-use Rattle.edr_image.specs.declared.BankView.{BankView}
-use Rattle.edr_image.specs.declared.BankView.TheVariants.{Void, Event, Damaged}
-use Rattle.edr_image.specs.Banks.{found_event}
-use Rattle.edr_image.specs.Reports.{Report, StartStopped, Ran}
-use Rattle.edr_report.specs.Lines.{Line, line}
-use Rattle.edr_report.specs.Words.{shown_count}
+use Rattle.edr_report.specs.{Lines.{Line, line}, Words.shown_count}
 use Rattle.edr_report.specs.Report.{report_lines, run_lines, events_lines, found_record, found_records, damaged_lines, ack_line, cycle_lines, event_lines}
-use Rattle.edr_reading.specs.Rows.{line_fields, FieldRows, event_fields}
 use Rattle.edr_text.specs.Numbers.{natural_in}
 use Rattle.edr_text.proofs.SpellingLemmas.{decimal-numeral, natural_in-numeral}
-use Rattle.edr_image.specs.declared.Ack.{Ack}
 use Rattle.edr_report.proofs.PrintedLemmas.{numbered-more}
-use Rattle.edr_reading.specs.declared.told.CycleRow.TheVariants as row
-use Rattle.edr_reading.specs.Reader.{IsToldReport, whole}
-use Rattle.edr_reading.specs.Faults.{AreReport}
 
 -- ---- banks that are told once
 

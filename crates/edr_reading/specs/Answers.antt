@@ -1,6 +1,6 @@
 -- What a reader answers: of whole bytes, of numbers and other words in front of some, and of words parted by spaces.
-use Rattle.std.specs.Prelude.{◌≡◌, ℕ, Bool, List, Option, Some, IfSome, MatchOption, ◌≤◌, ◌<◌, ◌^◌, false, ⊤, [], ◌∷◌, ◌++◌, decimal, zero, suc, All, map, length, flat_map}
 use Rattle.std.specs.Bool.{MatchBool}
+use Rattle.std.specs.Prelude.{◌≡◌, ℕ, Bool, List, Option, Some, IfSome, MatchOption, ◌≤◌, ◌<◌, ◌^◌, false, ⊤, [], ◌∷◌, ◌++◌, decimal, zero, suc, All, map, length, flat_map}
 use denote.Ref.{Bor}
 use Rattle.edr_text.specs.Numbers.{is_digit}
 use Rattle.edr_report.specs.Words.{spaced_words}

@@ -1,33 +1,19 @@
 -- What a reader knows of a report after some of its rows, and why it refuses the next.
-use Rattle.std.specs.Prelude.{◌≡◌, ◌<◌, ◌≤◌, ◌+◌, ℕ, ⊤, Bool, true, false, eqb, List, [], ◌∷◌, ◌++◌, All, map, length, take, drop, ◌⊎◌, Option, Some, None, Result, Ok, Err, decimal, slice_index_or, IfOk, IfErr}
 use Rattle.std.specs.List.{IsDistinct}
+use Rattle.std.specs.Prelude.{◌≡◌, ◌<◌, ◌≤◌, ◌+◌, ℕ, ⊤, Bool, true, false, eqb, List, [], ◌∷◌, ◌++◌, All, map, length, take, drop, ◌⊎◌, Option, Some, None, Result, Ok, Err, decimal, slice_index_or, IfOk, IfErr}
 use Rattle.edr_record.specs.declared.Record.{Record}
-use Rattle.edr_image.specs.declared.Ack.{Ack}
-use Rattle.edr_image.specs.declared.Found.{Found}
-use Rattle.edr_image.specs.Banks.{found_event}
-use Rattle.edr_image.specs.Reports.{Report, StartStopped, Ran, report_of}
+use Rattle.edr_image.specs.{declared.{Ack.Ack, Found.Found}, Banks.found_event, Reports.{Report, StartStopped, Ran, report_of}}
 use Rattle.edr_report.specs.declared.TheConstants.{LARGEST_SHOWN_COUNT}
-use Rattle.edr_reading.specs.declared.faults.RowFault.TheVariants as fault
-use Rattle.edr_reading.specs.declared.reader.NextRow.{NextRow}
+use Rattle.edr_reading.specs.declared.{reader.{NextRow.NextRow, Reader.Reader, Refused.Refused}, values.CycleRow.CycleRow}
+use Rattle.edr_reading.specs.declared.{values.ToldName.ToldName, event.{PartEvent.PartEvent, TheConstants.EVENT_ROWS}}
+use Rattle.edr_reading.specs.declared.reading.{Reading.Reading, ReportRefused.{ReportRefused, TheVariants.{Fault, OutOfMemory}}}
+use Rattle.edr_reading.specs.Reading.{EventAgrees, HasNoBank, IsNextEvent, event_of, AreReport, IsWrong, IsFault, IsAck, IsDamaged, IsEvent, IsReport, IsToldName, ack_fields, banks_in, count_fields, damaged_fields, events_fields, last_rows, name_words, run_fields, AreDistinct, head_row, IsReading, rows_told, FieldRows, event_fields}
+use Rattle.edr_reading.specs.declared.reading.RowFault.TheVariants as fault
 use Rattle.edr_reading.specs.declared.reader.NextRow.TheVariants as next
-use Rattle.edr_reading.specs.declared.reader.Reader.{Reader}
-use Rattle.edr_reading.specs.declared.reader.Refused.{Refused}
 use Rattle.edr_reading.specs.declared.reader.Refused.TheVariants as refused
-use Rattle.edr_reading.specs.declared.told.CycleRow.{CycleRow}
-use Rattle.edr_reading.specs.declared.told.CycleRow.TheVariants as row
-use Rattle.edr_reading.specs.Event.{EventAgrees, HasNoBank, IsNextEvent, event_of}
-use Rattle.edr_reading.specs.Faults.{AreReport, IsWrong, IsFault}
-use Rattle.edr_reading.specs.Told.{IsAck, IsDamaged, IsEvent, IsReport, IsToldName, ack_fields, banks_in, count_fields, damaged_fields, events_fields, last_rows, name_words, run_fields}
-use Rattle.edr_reading.specs.Reading.{AreDistinct, head_row, IsReading, rows_told}
-use Rattle.edr_reading.specs.Rows.{FieldRows, event_fields}
-use Rattle.edr_reading.specs.declared.event.PartEvent.{PartEvent}
-use Rattle.edr_reading.specs.declared.event.TheConstants.{EVENT_ROWS}
-use Rattle.edr_reading.specs.declared.told.ToldName.{ToldName}
-use Rattle.edr_reading.specs.declared.told.ToldName.TheVariants as name
+use Rattle.edr_reading.specs.declared.values.CycleRow.TheVariants as row
+use Rattle.edr_reading.specs.declared.values.ToldName.TheVariants as name
 use Rattle.edr_spell.specs.Spell.{RecordsOf}
-use Rattle.edr_reading.specs.declared.reading.Reading.{Reading}
-use Rattle.edr_reading.specs.declared.reading.ReportRefused.{ReportRefused}
-use Rattle.edr_reading.specs.declared.reading.ReportRefused.TheVariants.{Fault, OutOfMemory}
 
 -- ---- the rows so far
 

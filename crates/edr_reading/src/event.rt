@@ -1,18 +1,25 @@
-//! An event, read line by line.
+//! An event, read line by line: what stood before time zero, and what came after it.
 
-ghost use Rattle.std.specs.Prelude.{◌≡◌, ◌<◌, [], ⊤, length, map, slice_index_or, IfSome, MatchOption};
-ghost use Rattle.std.specs.Bool.{MatchBool};
-ghost use Rattle.edr_reading.specs.Event.{HasNoBank, IsNextEvent, event_of, HasNoneFree, AcceptsEventLine};
-ghost use Rattle.edr_reading.specs.Told.{IsBank};
+ghost use Rattle.std.specs.{Prelude.{◌≡◌, ◌<◌, [], ⊤, length, map, slice_index_or, IfSome, MatchOption, ◌≤◌}, Bool.MatchBool};
+ghost use Rattle.edr_reading.specs.Answers.{Reads};
+ghost use Rattle.edr_reading.specs.Reading.{HasNoBank, IsNextEvent, event_of, HasNoneFree, AcceptsEventLine, IsBank, AreSlots, AcceptsPreLine, BeginsPart, AcceptsCrashLine, AcceptsPartLine};
+ghost use Rattle.edr_record.specs.Bounds.{IsPre, ArePoints, IsCrash, point_count};
+ghost use Rattle.edr_record.specs.declared.TheConstants.{EARLIEST_END, POINTS, RESET};
+ghost use Rattle.edr_report.specs.Words.{points_words};
 
-use crate::crash::part_line;
-use crate::front::last_within;
-use crate::pre::pre_line;
-use crate::values::{bank_after, decision};
+use crate::front::{is_word, last_within};
+use crate::values::{
+    bank_after, count, decision, end_time, events, extreme, firing, missing, place_between,
+    profile, read_slots, switch, time,
+};
 use edr_image::Found;
 use edr_image::places::MOST_BANKS;
-use edr_record::Record;
-use edr_report::{EventLine, LINES_OF_EVENT};
+use edr_items::LATEST_MOMENT;
+use edr_record::{
+    Crash, Extreme, Key, LONG_SLOTS, POINTS, Place, Pre, Profile, Record, SHORT_SLOTS, Slots,
+    point_count, window_from_end,
+};
+use edr_report::{CrashLine, EventLine, LINES_OF_EVENT, PreLine};
 
 /// How many rows an event has.
 pub const EVENT_ROWS: usize = LINES_OF_EVENT.len();
@@ -99,5 +106,157 @@ pub(crate) fn event_line(
                 None
             }
         }
+    }
+}
+
+// Slots of this profile, all of them absent.
+fn no_slots(profile: Profile) -> Slots
+    ensures { AreSlots profile result }
+{
+    match profile {
+        Profile::Short => Slots::Short {
+            speed: [None; SHORT_SLOTS],
+            throttle: [None; SHORT_SLOTS],
+            brake: [None; SHORT_SLOTS],
+        },
+        Profile::Long => Slots::Long {
+            speed: [None; LONG_SLOTS],
+            throttle: [None; LONG_SLOTS],
+            brake: [None; LONG_SLOTS],
+        },
+    }
+}
+
+/// What stood before time zero as plainly as it can be, as long as nothing was read of it.
+pub(crate) fn plain_pre() -> Pre
+    ensures { IsPre result }
+{
+    Pre {
+        key: Key { cycle: 1, zero: 1 },
+        place: Place::First,
+        slots: no_slots(Profile::Short),
+        belt: None,
+        lamp: None,
+    }
+}
+
+/// What stood before time zero, and the lock, with what this line shows, after the lines before it, if it may show it.
+pub(crate) fn pre_line(pre: &Pre, locked: bool, line: PreLine, value: &[u8]) -> Option<(Pre, bool)>
+    requires { IsPre pre.now }
+    ensures { AcceptsPreLine line value.now (pre.now, locked) result }
+{
+    let mut pre = *pre;
+    let mut locked = locked;
+    match line {
+        PreLine::Cycle => pre.key.cycle = count(value, 1)?,
+        PreLine::TimeZero => pre.key.zero = time(value, 1, LATEST_MOMENT)?,
+        PreLine::Events => pre.place = events(value)?,
+        PreLine::Between => pre.place = place_between(pre.place, value)?,
+        PreLine::Deployment => locked = decision(value)?,
+        PreLine::Profile => pre.slots = no_slots(profile(value)?),
+        PreLine::Speed => match &mut pre.slots {
+            Slots::Short { speed, .. } => read_slots(value, speed)?,
+            Slots::Long { speed, .. } => read_slots(value, speed)?,
+        },
+        PreLine::Throttle => match &mut pre.slots {
+            Slots::Short { throttle, .. } => read_slots(value, throttle)?,
+            Slots::Long { throttle, .. } => read_slots(value, throttle)?,
+        },
+        PreLine::Brake => match &mut pre.slots {
+            Slots::Short { brake, .. } => read_slots(value, brake)?,
+            Slots::Long { brake, .. } => read_slots(value, brake)?,
+        },
+        PreLine::Belt => pre.belt = switch(value)?,
+        PreLine::Lamp => pre.lamp = switch(value)?,
+    }
+    Some((pre, locked))
+}
+
+// The points of an axis that the end allows.
+fn points(bytes: &[u8], end: u16) -> Option<[i16; POINTS]>
+    ensures { Reads (points_words end) (ArePoints (point_count end)) bytes.now result }
+{
+    let mut points = [0; POINTS];
+    read_slots(bytes, &mut points[..point_count(end)])?;
+    if points[0] == 0 { Some(points) } else { None }
+}
+
+// The plain crash part with this end, in which nothing changed.
+fn plain_crash(end: u16) -> Crash
+    requires { (EARLIEST_END ≤ end) × (end ≤ RESET) }
+    ensures bounds { IsCrash result }
+    ensures end { result.end ≡ end }
+{
+    let none = Extreme { kmh: 0, at: 0 };
+    Crash {
+        end,
+        along: [0; POINTS],
+        across: [0; POINTS],
+        max_along: none,
+        max_across: none,
+        result_at: 0,
+        missing_along: 0,
+        missing_across: 0,
+        fired: [None; 8],
+    }
+}
+
+// The crash part with what this line shows, after the lines before it, if it may show it.
+fn crash_line(crash: &Crash, line: CrashLine, value: &[u8]) -> Option<Crash>
+    requires { IsCrash crash.now }
+    ensures { AcceptsCrashLine line value.now crash.now result }
+{
+    let end = crash.end;
+    let window = window_from_end(end);
+    let mut read = *crash;
+    match line {
+        CrashLine::End => read = plain_crash(end_time(value)?),
+        CrashLine::Along => read.along = points(value, end)?,
+        CrashLine::Across => read.across = points(value, end)?,
+        CrashLine::MaxAlong => read.max_along = extreme(value, window)?,
+        CrashLine::MaxAcross => read.max_across = extreme(value, window)?,
+        CrashLine::ResultAt => read.result_at = time(value, 0, u32::from(window))? as u16,
+        CrashLine::Missing => {
+            let (along, across) = missing(value, window)?;
+            read.missing_along = along as u16;
+            read.missing_across = across as u16;
+        }
+        CrashLine::Fired(restraint) => {
+            read.fired[restraint.place()] = firing(value, end.max(window))?;
+        }
+    }
+    Some(read)
+}
+
+// The crash part that the line of its end begins, or that there is none.
+fn end_line(value: &[u8]) -> Option<Option<Crash>>
+    ensures { BeginsPart value.now result }
+{
+    if is_word(value, b"none") {
+        return Some(None);
+    }
+    let end = end_time(value)?;
+    Some(Some(plain_crash(end)))
+}
+
+/// What came after time zero, or that nothing did, with what this line shows, if it may show it.
+pub(crate) fn part_line(
+    crash: &Option<Crash>,
+    line: CrashLine,
+    value: &[u8],
+) -> Option<Option<Crash>>
+    requires { IfSome crash.now IsCrash }
+    ensures { AcceptsPartLine line value.now crash.now result }
+{
+    if let CrashLine::End = line {
+        return end_line(value);
+    }
+    match crash {
+        Some(crash) => {
+            let crash = crash_line(crash, line, value)?;
+            Some(Some(crash))
+        }
+        None if is_word(value, b"none") => Some(None),
+        None => None,
     }
 }

@@ -1,7 +1,6 @@
 //! What stands in front of bytes.
 
-ghost use Rattle.std.specs.Prelude.{◌≡◌, ◌≤◌, ◌++◌, true, ℕ, List, length, take, drop, decimal, IfSome, ◌≢◌};
-ghost use Rattle.std.specs.Bool.{MatchBool};
+ghost use Rattle.std.specs.{Prelude.{◌≡◌, ◌≤◌, ◌++◌, true, ℕ, List, length, take, drop, decimal, IfSome, ◌≢◌}, Bool.MatchBool};
 ghost use Rattle.std.specs.List.{list_all};
 ghost use Rattle.edr_text.specs.Numbers.{is_digit};
 ghost use Rattle.edr_reading.specs.Answers.{AreUpTo, EndsNumber, IsFromTo, IsWord, Leaves, Reads, ReadsAfter, ReadsFront, ReadsTwo, number_after, number_between, two_numbers};

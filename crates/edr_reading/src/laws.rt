@@ -1,20 +1,12 @@
 //! Laws of the definitions, each the contract of a function that does nothing.
 
 ghost use Rattle.std.specs.Prelude.{◌≡◌, ℕ, Bool, IfSome, List, Option, length};
-ghost use Rattle.edr_image.specs.declared.Found.{Found};
-ghost use Rattle.edr_image.specs.Reports.{Report};
-ghost use Rattle.edr_report.specs.Lines.{table_of};
-ghost use Rattle.edr_report.specs.Report.{report_lines};
-ghost use Rattle.edr_reading.specs.declared.faults.RowFault.{RowFault};
-ghost use Rattle.edr_reading.specs.Faults.{AreReport, IsFault};
-ghost use Rattle.edr_reading.specs.Reading.{report_rows};
+ghost use Rattle.edr_image.specs.{declared.Found.Found, Reports.Report};
+ghost use Rattle.edr_report.specs.{Lines.table_of, Report.report_lines};
+ghost use Rattle.edr_reading.specs.declared.{reading.RowFault.RowFault, event.TheConstants.EVENT_ROWS};
+ghost use Rattle.edr_reading.specs.Reading.{AreReport, IsFault, report_rows, FieldRows, event_fields, crash_texts, pre_texts};
 ghost use Rattle.edr_spell.specs.Spell.{RecordsOf};
-ghost use Rattle.edr_reading.specs.Rows.{FieldRows, event_fields};
-ghost use Rattle.edr_reading.specs.Event.{crash_texts, pre_texts};
-ghost use Rattle.edr_reading.specs.declared.event.TheConstants.{EVENT_ROWS};
-ghost use Rattle.edr_record.specs.declared.Record.{Record};
-ghost use Rattle.edr_record.specs.Bounds.{IsCrash};
-ghost use Rattle.edr_record.specs.Parts.{CrashPart, PrePart};
+ghost use Rattle.edr_record.specs.{declared.Record.Record, Bounds.IsCrash, Parts.{CrashPart, PrePart}};
 
 /// The records of a report's table are the rows of the report.
 pub fn tables_are_rows()

@@ -2,20 +2,15 @@
 
 ghost use Rattle.std.specs.Prelude.{◌≡◌, ◌≢◌, ◌+◌, ◌<◌, ◌^◌, [], None, ⊤, IfErr, IfOk, IfSome, MatchOption, OnOk, decimal, length, map};
 ghost use Rattle.edr_image.specs.Reports.{report_of};
-ghost use Rattle.edr_reading.specs.Answers.{TellsWhether};
-ghost use Rattle.edr_reading.specs.declared.event.TheConstants.{EVENT_ROWS};
-ghost use Rattle.edr_reading.specs.Event.{event_of, HasNoBank, HasNoneFree};
+ghost use Rattle.edr_reading.specs.{Answers.TellsWhether, declared.event.TheConstants.EVENT_ROWS};
+ghost use Rattle.edr_reading.specs.Reading.{event_of, HasNoBank, HasNoneFree, IsBank, IsRecord, FieldRows, fields};
 ghost use Rattle.edr_reading.specs.Reader.{AddsLine, AtLine, HasReadRows, MayBegin, MayHaveEvent, MayTell, Takes, TakesLine, TakesNamed, cycles_read, may_ack};
-ghost use Rattle.edr_reading.specs.Told.{IsBank, IsRecord};
-ghost use Rattle.edr_reading.specs.Rows.{FieldRows, fields};
-ghost use Rattle.edr_reading.specs.declared.told.ToldName.TheVariants as name;
+ghost use Rattle.edr_reading.specs.declared.values.ToldName.TheVariants as name;
 
-use crate::event::{EVENT_ROWS, PartEvent, event_line, free_bank, is_among, line_at};
+use crate::event::{EVENT_ROWS, PartEvent, event_line, free_bank, is_among, line_at, plain_pre};
 use crate::front::{is_word, last_within};
-use crate::pre::plain_pre;
-use crate::records::ReportRow;
-use crate::told::{CycleRow, ToldName, cycle_value, told_name};
-use crate::values::{answer, count, damage};
+use crate::reading::ReportRow;
+use crate::values::{CycleRow, ToldName, answer, count, cycle_value, damage, told_name};
 use edr_image::{Ack, BankView, CycleReport, Found, Kind, Log};
 use edr_record::{Crash, Record};
 use edr_report::LINES_OF_EVENT;

@@ -1,20 +1,28 @@
 //! A report's table, read back.
 
-ghost use Rattle.std.specs.Prelude.{◌≡◌, ◌≤◌, IfOk, IfErr, map};
-ghost use Rattle.csv.specs.Records.{fields_of};
+ghost use Rattle.std.specs.Prelude.{◌≡◌, ◌≤◌, IfOk, IfErr, map, ◌≢◌, ◌<◌, Some, MatchOption, length};
+ghost use Rattle.csv.specs.Records.{fields_of, field_at};
 ghost use Rattle.edr_image.specs.Reports.{report_of};
 ghost use Rattle.edr_report.specs.declared.TheConstants.{LARGEST_SHOWN_COUNT};
 ghost use Rattle.edr_spell.specs.Spell.{RecordsOf};
 ghost use Rattle.edr_reading.specs.Reader.{HasReadRows, IsRefusalOfRecords, IsRowRefusal, ReadsRows};
-ghost use Rattle.edr_reading.specs.Reading.{IsReading, OfReportRows, rows_told};
-ghost use Rattle.edr_reading.specs.Rows.{FieldRows};
+ghost use Rattle.edr_reading.specs.Reading.{IsReading, OfReportRows, rows_told, FieldRows, fields};
 
-use crate::faults::RowFault;
 use crate::reader::{NextRow, Reader, Refused};
-use crate::records::{records, row_of};
-use csv::ByteRecord;
+use csv::{ByteRecord, ReaderBuilder};
 use edr_image::{CycleReport, Found};
 use std::alloc::{AllocError as OutOfMemory, Global};
+
+/// What is wrong with the first row with which a text can be no report.
+#[derive(Clone, Copy, Debug, PartialEq, Eq)]
+pub enum RowFault {
+    /// It has that many fields in place of three.
+    Fields(u32),
+    /// This field, from 1, is its first with which no report goes on.
+    Field(u8),
+    /// It is missing: the text ends before it.
+    Unended,
+}
 
 /// What a report tells.
 #[derive(Drop)]
@@ -101,4 +109,54 @@ pub fn read(alloc: Global, bytes: &[u8]) -> Result<Reading, ReportRefused>
         return Err(ReportRefused::OutOfMemory);
     };
     end(alloc, read_rows(alloc, &records)?)
+}
+
+/// A row of a report: the number of its block, a name and a value.
+#[derive(Clone, Copy)]
+pub(crate) struct ReportRow<'a> {
+    pub block: &'a [u8],
+    pub name: &'a [u8],
+    pub value: &'a [u8],
+}
+
+/// The records of the bytes, each with any number of fields.
+pub(crate) fn records(alloc: Global, bytes: &[u8]) -> Result<Vec<ByteRecord>, csv::Error>
+    ensures { IfOk result (λ v. RecordsOf bytes.now (map fields_of v.items)) }
+{
+    let reader = ReaderBuilder::new()
+        .has_headers(false)
+        .flexible(true)
+        .from_reader(alloc, bytes);
+    let mut records = Vec::new(alloc);
+    for record in reader.into_byte_records() {
+        if records.push(record?).is_err() {
+            return Err(csv::Error::out_of_memory());
+        }
+    }
+    Ok(records)
+}
+
+// The field in a place that the record has.
+fn field(fields: &ByteRecord, place: usize) -> &[u8]
+    requires { place < length (fields_of fields.now) }
+    ensures { Some result.now ≡ field_at (fields_of fields.now) place }
+{
+    match fields.get(place) {
+        Some(field) => field,
+        None => unreachable!(),
+    }
+}
+
+/// The row of a record, if it has three fields.
+pub(crate) fn row_of(found: &ByteRecord) -> Option<ReportRow<'_>>
+    ensures { MatchOption result (length (fields_of found.now) ≢ 3) (λ r. fields r ≡ fields_of found.now) }
+{
+    if found.len() != 3 {
+        return None;
+    }
+    Some(ReportRow {
+        block: field(found, 0),
+        name: field(found, 1),
+        value: field(found, 2),
+    })
 }

@@ -1,13 +1,13 @@
 //! The values of a report, read back.
 
-ghost use Rattle.std.specs.Prelude.{◌≡◌, ◌≤◌, ◌∷◌, ◌++◌, ◌+◌, List, decimal, negsuc, ⊤, ℕ, Some, IfSome, MatchOption};
 ghost use Rattle.std.specs.Fmt.{signed_decimal};
+ghost use Rattle.std.specs.Prelude.{◌≡◌, ◌≤◌, ◌∷◌, ◌++◌, ◌+◌, List, decimal, negsuc, ⊤, ℕ, Some, IfSome, MatchOption, ◌<◌, ◌^◌};
 ghost use Rattle.edr_record.specs.declared.TheConstants.{EARLIEST_END, GREATEST_CHANGE, RESET};
 ghost use Rattle.edr_record.specs.Bounds.{IsChange, IsExtreme, IsPlace, IsUpTo};
 ghost use Rattle.edr_report.specs.declared.TheConstants.{LARGEST_SHOWN_COUNT};
-ghost use Rattle.edr_report.specs.Words.{applied_words, yes_no, profile_word, switch_or_none, milliseconds, firing_words, number_shown, shown_count, events_in_crash, extreme_words, missing_words, ack_words, seconds, tenths_of};
-ghost use Rattle.edr_reading.specs.Answers.{AreUpTo, EndsNumber, GivesValue, IsFromTo, Reads, ReadsFront, ReadsTwo, number_after};
-ghost use Rattle.edr_reading.specs.Told.{IsBank, IsStopCall, IsApplied, IsTick, done_in, command_words, ran_words, IsPlaceLike, IsRan, ReadsPlace, IsDamagedView, end_words, view_words};
+ghost use Rattle.edr_report.specs.Words.{applied_words, yes_no, profile_word, switch_or_none, milliseconds, firing_words, number_shown, shown_count, events_in_crash, extreme_words, missing_words, ack_words, seconds, tenths_of, number_or_none};
+ghost use Rattle.edr_reading.specs.Answers.{AreUpTo, EndsNumber, GivesValue, IsFromTo, Reads, ReadsFront, ReadsTwo, number_after, ReadsAfter, space_at, ReadsSlots};
+ghost use Rattle.edr_reading.specs.Reading.{IsBank, IsStopCall, IsApplied, IsTick, done_in, command_words, ran_words, IsPlaceLike, IsRan, ReadsPlace, IsDamagedView, end_words, view_words, IsCycleRow, IsToldName, name_words, row_words};
 
 use crate::front::{after, is_word, last_within, two_within, within, within_after};
 use edr_image::places::{BANK_SIZE, MOST_BANKS};
@@ -259,4 +259,169 @@ pub(crate) fn ack(bytes: &[u8], place: u32) -> Option<(Kind, u32)>
 {
     let (_, rest) = within_after(bytes, b"cycle ", place, place)?;
     command(rest)
+}
+
+/// What stands in one slot of a list.
+pub(crate) trait SlotRead {
+    ghost use Rattle.std.specs.Prelude.{ℕ, List};
+
+    // How it is spelled, and which values it may have.
+    ghost words: { Self → List ℕ };
+
+    ghost is_slot: { Self → Type 0 };
+
+    /// The slot in front of the bytes, and what stands after it.
+    fn in_front(bytes: &[u8]) -> Option<(Self, &[u8])>
+        ensures { ReadsFront words is_slot bytes.now result };
+}
+
+impl SlotRead for i16 {
+    ghost use Rattle.std.specs.Fmt.{signed_decimal};
+    ghost use Rattle.edr_record.specs.Bounds.{IsChange};
+
+    ghost words = { signed_decimal };
+
+    ghost is_slot = { IsChange };
+
+    fn in_front(bytes: &[u8]) -> Option<(i16, &[u8])> {
+        change_in_front(bytes)
+    }
+}
+
+// The number in front of the bytes, up to `highest`, or that there is none, and what stands after it.
+fn number_or_none(bytes: &[u8], highest: u16) -> Option<(Option<u16>, &[u8])>
+    ensures { ReadsFront number_or_none (IsUpTo highest) bytes.now result }
+{
+    if let Some(rest) = after(bytes, b"none") {
+        return Some((None, rest));
+    }
+    let (n, rest) = within_after(bytes, b"", 0, u32::from(highest))?;
+    Some((Some(n as u16), rest))
+}
+
+impl SlotRead for Option<u16> {
+    ghost use Rattle.edr_report.specs.Words.{number_or_none};
+    ghost use Rattle.edr_record.specs.Bounds.{IsUpTo};
+
+    ghost words = { number_or_none };
+
+    ghost is_slot = { IsUpTo 300 };
+
+    fn in_front(bytes: &[u8]) -> Option<(Option<u16>, &[u8])> {
+        number_or_none(bytes, 300)
+    }
+}
+
+impl SlotRead for Option<u8> {
+    ghost use Rattle.edr_report.specs.Words.{number_or_none};
+    ghost use Rattle.edr_record.specs.Bounds.{IsUpTo};
+
+    ghost words = { number_or_none };
+
+    ghost is_slot = { IsUpTo 100 };
+
+    fn in_front(bytes: &[u8]) -> Option<(Option<u8>, &[u8])> {
+        match number_or_none(bytes, 100)? {
+            (Some(per_cent), rest) => Some((Some(per_cent as u8), rest)),
+            (None, rest) => Some((None, rest)),
+        }
+    }
+}
+
+impl SlotRead for Option<bool> {
+    ghost use Rattle.std.specs.Prelude.{⊤};
+    ghost use Rattle.edr_report.specs.Words.{switch_or_none};
+
+    ghost words = { switch_or_none };
+
+    ghost is_slot = { λ _. ⊤ };
+
+    fn in_front(bytes: &[u8]) -> Option<(Option<bool>, &[u8])> {
+        if let Some(rest) = after(bytes, b"on") {
+            return Some((Some(true), rest));
+        }
+        if let Some(rest) = after(bytes, b"off") {
+            return Some((Some(false), rest));
+        }
+        let rest = after(bytes, b"none")?;
+        Some((None, rest))
+    }
+}
+
+// What stands before the slot in this place.
+fn space_at(place: usize) -> &'static [u8]
+    ensures { result.now ≡ space_at place }
+{
+    if place == 0 { b"" } else { b" " }
+}
+
+// The slot after these bytes, and what stands after it.
+fn slot_after<'a, S: SlotRead>(bytes: &'a [u8], front: &[u8]) -> Option<(S, &'a [u8])>
+    ensures { ReadsAfter front.now S.words S.is_slot bytes.now result }
+{
+    S::in_front(after(bytes, front)?)
+}
+
+/// Reads slots that are parted by one space, as many as there are, if the bytes are such slots.
+pub(crate) fn read_slots<S: SlotRead + Copy>(bytes: &[u8], slots: &mut [S]) -> Option<()>
+    ensures { ReadsSlots S.words S.is_slot bytes.now slots.old slots.new result }
+{
+    let mut rest = bytes;
+    for i in 0..slots.len() {
+        let next = slot_after(rest, space_at(i))?;
+        slots[i] = next.0;
+        rest = next.1;
+    }
+    if rest.is_empty() { Some(()) } else { None }
+}
+
+/// What the first row of a cycle tells.
+#[derive(Clone, Copy)]
+pub(crate) enum CycleRow {
+    /// Its start was stopped in this changing call.
+    StartStopped { call: u32 },
+    /// It ran with this number, and was stopped in this changing call of its commands or not at all.
+    Ran { number: u32, stopped: Option<u32> },
+}
+
+/// What a name of block 0 says of its row.
+#[derive(Clone, Copy)]
+pub(crate) enum ToldName {
+    /// It is the first of the next cycle.
+    Cycle,
+    /// It is that of a command that the last cycle acknowledged at this time.
+    Ack { kind: Kind, tick: u32 },
+    /// It is that of this bank, which is damaged.
+    Bank { bank: u8 },
+    /// It is that of the count of ignition cycles.
+    Count,
+}
+
+/// What a name says where `cycles` cycles were told.
+pub(crate) fn told_name(name: &[u8], cycles: u32) -> Option<ToldName>
+    requires { cycles + 1 < 2 ^ 32 }
+    ensures { Reads (name_words cycles) IsToldName name.now result }
+{
+    if is_word(name, b"ignition cycle, download") {
+        return Some(ToldName::Count);
+    }
+    if let Some(bank) = bank_after(name, b"bank ") {
+        return Some(ToldName::Bank { bank });
+    }
+    if let Some((kind, tick)) = ack(name, cycles) {
+        return Some(ToldName::Ack { kind, tick });
+    }
+    last_within(name, b"cycle ", cycles + 1, cycles + 1)?;
+    Some(ToldName::Cycle)
+}
+
+/// What the value of the first row of a cycle tells.
+pub(crate) fn cycle_value(value: &[u8]) -> Option<CycleRow>
+    ensures { Reads row_words IsCycleRow value.now result }
+{
+    if let Some(call) = last_within(value, b"start stopped in call ", 1, 6) {
+        return Some(CycleRow::StartStopped { call });
+    }
+    let (number, stopped) = ran(value)?;
+    Some(CycleRow::Ran { number, stopped })
 }

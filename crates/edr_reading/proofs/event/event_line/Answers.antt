@@ -1,8 +1,7 @@
 use mathlib.Core.Bool.{beq}
-use Rattle.std.proofs.Common.{rules, ◌≡◌, ◌∙◌, sym, ap, Bool, true, false}
-use Rattle.std.proofs.lemmas.Option.{same_Some}
+use Rattle.std.proofs.{Common.{rules, ◌≡◌, ◌∙◌, sym, ap, Bool, true, false}, lemmas.Option.same_Some}
 use Rattle.edr_record.specs.Complete.{is_complete}
-use Rattle.edr_reading.specs.Event.{event_of}
+use Rattle.edr_reading.specs.Reading.{event_of}
 use Rattle.edr_reading.proofs.EventLemmas.{before-agrees, before-here, after-agrees, after-earlier, complete-same}
 use Rattle.edr_reading.proofs.event.event_line.Goals as goal
 

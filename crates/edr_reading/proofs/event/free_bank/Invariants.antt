@@ -1,5 +1,5 @@
 use Rattle.std.proofs.Common.{ℕ, ◌<◌, ◌≤◌}
-use Rattle.edr_reading.specs.Event.{HasNoBank}
+use Rattle.edr_reading.specs.Reading.{HasNoBank}
 use Rattle.edr_reading.proofs.event.free_bank.Given as goal
 
 -- each so far was found

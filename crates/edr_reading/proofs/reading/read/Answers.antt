@@ -1,19 +1,12 @@
-use Rattle.std.proofs.Common.{◌≡◌, sym, subst, ℕ, List, map, Result, Ok, Err}
-use Rattle.csv.specs.Reading.{default_config, strip_bom}
-use Rattle.csv.specs.Records.{fields_of}
+use Rattle.std.proofs.{Common.{◌≡◌, sym, subst, ℕ, List, map, Result, Ok, Err}, lemmas.Result.err_from_is_err_and}
+use Rattle.csv.specs.{Reading.{default_config, strip_bom}, Records.fields_of}
 use Rattle.csv.specs.declared.parser.State.TheVariants as st
 use Rattle.edr_spell.proofs.CsvLemmas.{same_records}
 use Rattle.edr_spell.specs.Spell.{RecordsOf}
 use Rattle.std.specs.Result.{IfErr}
-use Rattle.std.proofs.lemmas.Result.{err_from_is_err_and}
-use Rattle.edr_image.specs.declared.Found.{Found}
-use Rattle.edr_image.specs.Reports.{Report}
-use Rattle.edr_reading.specs.Reading.{IsReading, report_rows}
-use Rattle.edr_reading.specs.Reader.{IsRowRefusal}
-use Rattle.edr_reading.specs.Rows.{FieldRows}
-use Rattle.edr_reading.specs.declared.reading.Reading.{Reading}
-use Rattle.edr_reading.specs.declared.reading.ReportRefused.{ReportRefused}
-use Rattle.edr_reading.specs.declared.reading.ReportRefused.TheVariants.{OutOfMemory}
+use Rattle.edr_image.specs.{declared.Found.Found, Reports.Report}
+use Rattle.edr_reading.specs.{Reading.{IsReading, report_rows, FieldRows}, Reader.IsRowRefusal}
+use Rattle.edr_reading.specs.declared.reading.{Reading.Reading, ReportRefused.{ReportRefused, TheVariants.OutOfMemory}}
 use Rattle.edr_reading.proofs.FaultLemmas.{memory-alone}
 use Rattle.edr_reading.proofs.reading.read.Goals as goal
 

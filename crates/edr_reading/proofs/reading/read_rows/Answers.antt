@@ -1,7 +1,6 @@
 use Rattle.std.proofs.Common.{◌∙◌, sym, ap, subst, ℕ, List, map, take, length, min}
 use Rattle.csv.specs.Records.{fields_of}
-use Rattle.edr_reading.specs.Reader.{IsRefused}
-use Rattle.edr_reading.specs.Rows.{fields}
+use Rattle.edr_reading.specs.{Reader.IsRefused, Reading.fields}
 use Rattle.edr_reading.specs.declared.reader.Refused.TheVariants as refused
 use Rattle.edr_reading.proofs.FaultLemmas.{field-fault, length-fault, read-more, record-at}
 use Rattle.edr_reading.proofs.reading.read_rows.Goals as goal

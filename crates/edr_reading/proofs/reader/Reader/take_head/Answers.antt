@@ -1,7 +1,6 @@
 use Rattle.std.proofs.Common.{ℕ, List, [], ◌∷◌, ap, ap₂, codes, get_or, refl}
-use Rattle.edr_reading.specs.Rows.{FieldRows}
-use Rattle.edr_reading.proofs.BetweenLemmas.{refuse-1, refuse-2, refuse-3}
-use Rattle.edr_reading.proofs.FaultLemmas.{goes-on-head}
+use Rattle.edr_reading.specs.Reading.{FieldRows}
+use Rattle.edr_reading.proofs.{BetweenLemmas.{refuse-1, refuse-2, refuse-3}, FaultLemmas.goes-on-head}
 use Rattle.edr_reading.proofs.ReadLemmas.{head-read, head-refused}
 use Rattle.edr_reading.proofs.reader.Reader.take_head.Goals as goal
 

@@ -1,9 +1,7 @@
 use Rattle.std.proofs.Common.{◌≡◌, ◌∙◌, sym, ap, ap₂, subst, ℕ, ◌+◌, ◌<◌, List, get_or, length, decimal, Some}
 use Rattle.edr_image.specs.declared.Found.{Found}
-use Rattle.edr_report.specs.EventWords.{event_words}
-use Rattle.edr_report.specs.declared.event_lines.EventLine.TheVariants.{Number}
-use Rattle.edr_report.specs.declared.event_lines.EventLine.{EventLine}
-use Rattle.edr_reading.specs.Event.{AcceptsEventLine, EventAgrees, IsNextEvent, event_of, event_place}
+use Rattle.edr_report.specs.{EventWords.event_words, declared.event_lines.EventLine.{EventLine, TheVariants.Number}}
+use Rattle.edr_reading.specs.Reading.{AcceptsEventLine, EventAgrees, IsNextEvent, event_of, event_place}
 use Rattle.edr_reading.proofs.EventLemmas.{at-place, line-name, line-value, line-place, lines}
 use Rattle.edr_reading.proofs.ReadLemmas.{line-long, line-result}
 use Rattle.edr_reading.proofs.reader.Reader.take_line.Goals as goal

@@ -1,7 +1,5 @@
-use Rattle.std.proofs.Common.{◌∙◌, sym, ap, subst, ℕ, List, [], ◌∷◌}
-use Rattle.std.proofs.lemmas.Option.{same_Some}
-use Rattle.edr_reading.specs.Reader.{IsRefused, MayTell}
-use Rattle.edr_reading.specs.Told.{name_words}
+use Rattle.std.proofs.{Common.{◌∙◌, sym, ap, subst, ℕ, List, [], ◌∷◌}, lemmas.Option.same_Some}
+use Rattle.edr_reading.specs.{Reader.{IsRefused, MayTell}, Reading.name_words}
 use Rattle.edr_reading.specs.declared.reader.Refused.TheVariants as refused
 use Rattle.edr_reading.proofs.ReadLemmas.{name-refused}
 use Rattle.edr_reading.proofs.reader.Reader.take_told.Goals as goal
