@@ -9,9 +9,9 @@ use Rattle.edr_record.specs.declared.Place.TheVariants.{First, Second}
 use Rattle.edr_record.specs.declared.Profile.{Profile}
 use Rattle.edr_record.specs.declared.Profile.TheVariants.{Short, Long}
 use Rattle.edr_drawing.specs.declared.template.TheConstants.{BEGINNING}
-use Rattle.edr_drawing.specs.declared.axes.CarAxis.{CarAxis}
-use Rattle.edr_drawing.specs.declared.axes.CarAxis.TheVariants.{Along, Across}
-use Rattle.edr_drawing.specs.Axes.{of_axis}
+use Rattle.edr_drawing.specs.declared.scales.CarAxis.{CarAxis}
+use Rattle.edr_drawing.specs.declared.scales.CarAxis.TheVariants.{Along, Across}
+use Rattle.edr_drawing.specs.Scales.{of_axis}
 use Rattle.edr_drawing.specs.Template.{byte_bytes, digest_hex, filled, filled_from, fixed, of_profile, of_switch, place_words}
 use Rattle.edr_drawing.specs.Scales.{flat_map_below}
 

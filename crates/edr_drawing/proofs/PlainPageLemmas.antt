@@ -18,7 +18,7 @@ use Rattle.edr_record.specs.declared.TheConstants.{POINT_STEP}
 use Rattle.edr_drawing.specs.Template.{shape_bytes, shapes_bytes}
 use Rattle.edr_drawing.specs.Scales.{change_y, slot_x, time_x}
 use Rattle.edr_drawing.specs.Before.{cells, cells_of, drawn_lane, field_shapes, lane_y, long_cells, points, run_shapes, before_chart, brake_slots, switch_runs, switches, time_lines}
-use Rattle.edr_drawing.specs.After.{axis_shapes, changes_chart, curve, drawn_curve, end_line, level, levels, maximum, maximum_number, shape_at, time_lines as later_lines, after_chart, chart_row, flag_row, row_time, chart_rows, row_words, time_words}
+use Rattle.edr_drawing.specs.After.{axis_shapes, changes_chart, curve, drawn_curve, end_line, level, levels, maximum, shape_at, time_lines as later_lines, after_chart, chart_row, flag_row, row_time, chart_rows, row_words, time_words}
 use Rattle.edr_drawing.proofs.PlainLemmas.{Plain, all_low, plain_nil, plain_append, plain_if, plain_fixed, plain_flat_map, plains, plain_beginning, plain_decimal, plain_digest}
 use Rattle.edr_record.specs.declared.Key.{Key}
 use Rattle.edr_record.specs.declared.Place.{Place}
@@ -28,7 +28,7 @@ use Rattle.edr_image.specs.declared.BankView.{BankView}
 use Rattle.edr_image.specs.declared.BankView.TheVariants.{Damaged}
 use Rattle.edr_image.specs.declared.Found.{Found}
 use Rattle.edr_image.specs.Reports.{Report}
-use Rattle.edr_drawing.specs.declared.axes.CarAxis.{CarAxis}
+use Rattle.edr_drawing.specs.declared.scales.CarAxis.{CarAxis}
 use Rattle.edr_drawing.specs.declared.Origin.{Origin}
 use Rattle.edr_drawing.specs.Sheets.{NumberedRecord, cover_end, cover_start, damaged_item, damaged_list, event_row, events_table, greatest_or_none, pre_reasons, crash_reasons, reasons, firsts_words, place_fact, place_told, sheet}
 use Rattle.edr_drawing.specs.Tables.{points_table, elements_table, run_table, block, by_time, number_word, slot_row}
@@ -106,7 +106,7 @@ plain_chart_rows name shown s c k (l ∷ ls) e =
     plain_append _ _ (search plains depth 60) (plain_chart_rows name shown s c (k + 1) ls (and_parts _ _ e).1)
 
 pub plain_after_chart : (n : ℕ) (crash : Option CrashPart) → Plain (after_chart n crash)
-unfolding after_chart changes_chart end_line later_lines level levels drawn_curve curve maximum_number maximum
+unfolding after_chart changes_chart end_line later_lines level levels drawn_curve curve maximum
 plain_after_chart n None = search plains depth 60
 plain_after_chart n (Some c) = search (plain_axis_shapes, plain_chart_rows, plains) depth 60 fits 8000
 

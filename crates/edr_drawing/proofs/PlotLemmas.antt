@@ -1,14 +1,16 @@
 -- Where values stand: the greater no lower, and all in the plot.
 use Rattle.std.proofs.Common.{arith, ◌≡◌, ℕ, ◌+◌, ◌*◌, ◌/◌, ◌≤◌, max, ℤ, true, ◌&&◌, nat_eq, List, [], ◌∷◌, All, int_le}
 use Rattle.std.proofs.Math.Nat.{mul-le-mul_right, div-le_of_le-mul, div-mul-le_self}
-use Rattle.std.proofs.lemmas.List.Elements.{All-nil, All-cons, All-weaker}
+use Rattle.std.proofs.lemmas.List.Elements.{All-nil, All-cons, All-head, All-tail, All-weaker}
 use Rattle.edr_record.specs.Parts.{CrashPart}
 use Rattle.edr_drawing.specs.declared.scales.Scale.{Scale}
 use Rattle.edr_drawing.specs.declared.scales.Direction.{Direction}
 use Rattle.edr_drawing.specs.declared.scales.Direction.TheVariants.{Up, Down}
-use Rattle.edr_drawing.specs.Scales.{reach_of, below_top, scale_top, furthest, reach, step_of, part_of, scale_of, change_y}
+use Rattle.edr_drawing.specs.Scales.{reach_of, below_top, furthest, least_step, reach, step_of, part_of, scale_of, change_y}
+use Rattle.edr_drawing.specs.declared.scales.TheConstants.{CHANGE_LINES, CHANGE_STEPS, LAST_CHANGE_STEP}
 use Rattle.edr_drawing.specs.Laws.{StandsIn}
 use Rattle.std.proofs.lemmas.Nat.{le-div}
+use Rattle.std.specs.Int.{next_multiple_of}
 use Rattle.edr_drawing.specs.declared.before.ChartLane.{ChartLane}
 use Rattle.edr_drawing.specs.Before.{lane_y}
 
@@ -49,7 +51,7 @@ reaches_all way (v ∷ vs) =
     (All-weaker (λ (x : ℤ). reach_of way x ≤ furthest way vs) (λ (x : ℤ). reach_of way x ≤ most) (λ x h. omega (arith, h)) vs (reaches_all way vs))
 
 -- a scale reaches up to its value
-scale_reaches : (step value : ℕ) → 1 ≤ step → value ≤ scale_top step value
+scale_reaches : (step value : ℕ) → 1 ≤ step → value ≤ next_multiple_of value step
 scale_reaches step value some = grind arith
 
 -- both parts of a scale reach as far as the changes, and one of them is there
@@ -62,13 +64,19 @@ part_reaches up down step value some within = grind (arith, within, scale_reache
 some_part : (up down step : ℕ) → 1 ≤ step → 1 ≤ part up down step up + part up down step down
 some_part up down step some = grind (arith, some, scale_reaches step up some, scale_reaches step down some)
 
+-- the step between the lines is some
+some_step : (steps : List ℕ) (last most up down : ℕ) → All (λ s. 1 ≤ s) steps → 1 ≤ last → 1 ≤ least_step steps last most up down
+some_step [] last most up down all some = some
+some_step (s ∷ steps) last most up down all some =
+    grind (arith, All-head (λ (x : ℕ). 1 ≤ x) s steps all, some_step steps last most up down (All-tail (λ (x : ℕ). 1 ≤ x) s steps all) some)
+
 -- a change within the reach of a crash part stands in its plot
 pub stands_in : (c : CrashPart) (v : ℤ) → reach_of Up v ≤ reach Up c → reach_of Down v ≤ reach Down c → StandsIn (scale_of c) v
 stands_in c v rises falls =
     let up = reach Up c in
     let down = reach Down c in
     let step = step_of up down in
-    let some : 1 ≤ step_of up down = grind arith in
+    let some = some_step CHANGE_STEPS LAST_CHANGE_STEP CHANGE_LINES up down (grind arith) (omega arith) in
     stands (scale_of c) v (some_part up down step some)
     (omega (arith, rises, part_reaches up down step up some (omega arith)))
     (omega (arith, falls, part_reaches up down step down some (omega arith)))

@@ -1,29 +1,16 @@
 -- The chart of the time after time zero: changes of speed, and on the same time axis what happened when.
-use Rattle.std.specs.Prelude.{ℕ, Bool, ◌+◌, ◌-◌, ◌*◌, ◌/◌, ℤ, pos, if◌then◌else◌, nat_lt, nat_le, nat_eq, List, [], ◌∷◌, ◌++◌, codes, decimal, ◌&&◌, ◌||◌, Option, Some, None}
-use Rattle.std.specs.Fmt.{signed_decimal}
-use Rattle.std.specs.Ordering.{int_eq}
-use Rattle.edr_record.specs.declared.Extreme.{Extreme}
-use Rattle.edr_record.specs.declared.TheConstants.{POINT_STEP}
-use Rattle.edr_record.specs.Parts.{CrashPart}
-use Rattle.edr_record.specs.Bounds.{window_from_end}
-use Rattle.edr_drawing.specs.declared.axes.CarAxis.{CarAxis}
-use Rattle.edr_drawing.specs.declared.axes.CarAxis.TheVariants.{Along, Across}
-use Rattle.edr_drawing.specs.declared.axes.TheConstants.{AXIS_NAMES, NO_SAMPLE}
-use Rattle.edr_drawing.specs.declared.after.TheConstants.{AXIS_WORDS, CENTRED_OR_ENDING, DIAMOND, DIAMOND_UP, DIAMONDS, END_LINE, FAR_RIGHT, GAPPED, GAPS_Y, LEGEND, LEGEND_GAPS, LEVEL, LEVEL_CLASSES, MAXIMUM_NUMBER, NEXT_LINE, NOT_RECORDED, NUMBER_FROM, PAST_WINDOW, ROOM_NOT_RECORDED, SILENT_CURVE, SILENT_FROM, TIME_LINES, TIMES_APART, ZERO_LINES, AFTER_HEAD, BESIDE_CLASSES, BESIDE_FLAG, CHART_END, EMPTY_ROW, FIRST_RESTRAINT, FLAG_DOWN, FLAG_FAR_RIGHT, NAME_CLASSES, ROW, ROWS, ROWS_Y, ROW_HEIGHT, RULE, WITHOUT_PART, WORDS_CLASSES, WORDS_DOWN}
-use Rattle.edr_drawing.specs.declared.after.AtPoint.{AtPoint}
-use Rattle.edr_drawing.specs.declared.after.AtPoint.TheVariants.{Joint, Dot, Square}
-use Rattle.edr_drawing.specs.declared.after.ChartRow.{ChartRow}
-use Rattle.edr_drawing.specs.declared.after.ChartRow.TheVariants.{End, Greatest, Resultant, Fired}
-use Rattle.edr_drawing.specs.declared.scales.Scale.{Scale}
-use Rattle.edr_drawing.specs.declared.scales.TheConstants.{BELOW_TOP, HEIGHT, RIGHT}
-use Rattle.edr_drawing.specs.declared.template.Shape.{Shape}
-use Rattle.edr_drawing.specs.declared.template.Shape.TheVariants as shape
-use Rattle.edr_drawing.specs.declared.template.TheConstants.{PATH, PATH_END, PATHS, NONE, RADII}
-use Rattle.edr_drawing.specs.Template.{either, filled, filled_if, fixed, shapes_bytes}
-use Rattle.edr_drawing.specs.Scales.{flat_map_below, change_y, time_x, scale_of}
-use Rattle.edr_drawing.specs.Axes.{extreme_of, is_silent, missing_of, of_axis, points_of, greatest_words}
-use Rattle.edr_drawing.specs.Tables.{slot_at}
+use Rattle.std.specs.Prelude.{ℕ, Bool, ◌+◌, ◌-◌, ◌*◌, ◌/◌, ℤ, pos, not, if◌then◌else◌, nat_lt, nat_le, nat_eq, List, [], ◌∷◌, ◌++◌, codes, decimal, ◌&&◌, ◌||◌, Option, Some, None}
+use Rattle.std.specs.{Fmt.signed_decimal, Ordering.int_eq}
+use Rattle.edr_record.specs.{declared.TheConstants.POINT_STEP, declared.Extreme.Extreme, Parts.CrashPart, Bounds.window_from_end}
 use Rattle.edr_report.specs.Words.{milliseconds}
+use Rattle.edr_drawing.specs.declared.after.TheConstants.{CENTRED_OR_ENDING, DIAMOND, DIAMOND_UP, END_LINE, FAR_RIGHT, GAPPED, GAPS_Y, LEGEND, LEGEND_GAPS, LEVEL, LEVEL_CLASSES, MAXIMUM_NUMBER, NEXT_LINE, NOT_RECORDED, NUMBER_FROM, PAST_WINDOW, ROOM_NOT_RECORDED, SILENT_CURVE, SILENT_FROM, TIME_LINES, TIMES_APART, ZERO_LINES, AFTER_HEAD, BESIDE_CLASSES, BESIDE_FLAG, CHART_END, EMPTY_ROW, FIRST_RESTRAINT, FLAG_DOWN, FLAG_FAR_RIGHT, NAME_CLASSES, ROW, ROWS, ROWS_Y, ROW_HEIGHT, RULE, WITHOUT_PART, WORDS_CLASSES, WORDS_DOWN}
+use Rattle.edr_drawing.specs.declared.after.{AtPoint.AtPoint, AtPoint.TheVariants.{Joint, Dot, Square}, ChartRow.ChartRow, ChartRow.TheVariants.{End, Greatest, Resultant, Fired}}
+use Rattle.edr_drawing.specs.declared.scales.{CarAxis.CarAxis, CarAxis.TheVariants.{Along, Across}, Scale.Scale, TheConstants.{AXIS_DIGITS, AXIS_NAMES, BELOW_TOP, HEIGHT, NO_SAMPLE, RIGHT}}
+use Rattle.edr_drawing.specs.declared.template.{Shape.Shape, TheConstants.{PATH, PATH_END, NONE, RADII}}
+use Rattle.edr_drawing.specs.declared.template.Shape.TheVariants as shape
+use Rattle.edr_drawing.specs.Template.{either, filled, filled_if, fixed, shapes_bytes}
+use Rattle.edr_drawing.specs.Scales.{flat_map_below, change_y, time_x, scale_of, extreme_of, is_silent, missing_of, of_axis, points_of, greatest_words}
+use Rattle.edr_drawing.specs.Tables.{slot_at}
 
 -- ---- the frame
 
@@ -73,25 +60,29 @@ axis_shapes s what i [] = []
 axis_shapes s what i (v ∷ vs) =
     shapes_bytes (shape_at what (nat_lt 0 i) (time_x s (POINT_STEP * i)) (change_y s v) ∷ []) ++ axis_shapes s what (i + 1) vs
 
+-- the digit that ends the classes of an axis
+abbrev pub digit : CarAxis → List ℕ
+digit a = decimal (of_axis a AXIS_DIGITS.0 AXIS_DIGITS.1)
+
 -- the curve of an axis that has samples
 unfoldable pub drawn_curve : Scale → CrashPart → CarAxis → List ℕ
 drawn_curve s c a =
     filled_if (nat_lt 0 (missing_of c a)) GAPPED.0.now []
-    ++ filled PATH.now ((of_axis a PATHS.0 PATHS.1).now ∷ [])
+    ++ filled PATH.now (digit a ∷ [])
     ++ axis_shapes s Joint 0 (points_of c a)
     ++ fixed PATH_END.now
     ++ axis_shapes s (of_axis a Dot Square) 0 (points_of c a)
     ++ filled_if (nat_lt 0 (missing_of c a)) GAPPED.1.now []
 
+-- where words stand for an axis: so far below a place for that along, and so far above it for that across
+abbrev pub beside_place : CarAxis → ℕ → ℕ × ℕ → ℕ
+beside_place a y from = of_axis a (y + from.0) (y - from.1)
+
 -- what stands in its place where the axis has none
 abbrev pub silent_curve : Scale → CarAxis → List ℕ
 silent_curve s a =
     filled SILENT_CURVE.now
-    (decimal (of_axis a (change_y s (pos 0) + SILENT_FROM.0) (change_y s (pos 0) - SILENT_FROM.1))
-    ∷ (of_axis a AXIS_WORDS.0 AXIS_WORDS.1).now
-    ∷ (of_axis a AXIS_NAMES.0 AXIS_NAMES.1).now
-    ∷ NO_SAMPLE.now
-    ∷ [])
+    (decimal (beside_place a (change_y s (pos 0)) SILENT_FROM) ∷ digit a ∷ (of_axis a AXIS_NAMES.0 AXIS_NAMES.1).now ∷ NO_SAMPLE.now ∷ [])
 
 unfoldable pub curve : Scale → CrashPart → CarAxis → List ℕ
 curve s c a = if is_silent c a then silent_curve s a else drawn_curve s c a
@@ -107,25 +98,15 @@ legend_gaps c a =
 
 -- ---- the greatest changes
 
--- the number of a greatest change, unless it is 0: that along stands below its diamond, that across above it
-unfoldable pub maximum_number : Scale → CarAxis → Extreme → List ℕ
-maximum_number s a e =
-    if int_eq e.kmh (pos 0)
-    then []
-    else filled MAXIMUM_NUMBER.now
-    (decimal (time_x s e.at)
-    ∷ decimal (of_axis a (change_y s e.kmh + NUMBER_FROM.0) (change_y s e.kmh - NUMBER_FROM.1))
-    ∷ (of_axis a AXIS_WORDS.0 AXIS_WORDS.1).now
-    ∷ signed_decimal e.kmh
-    ∷ [])
-
--- a diamond at the greatest change of an axis that has samples, and its number
+-- a diamond at the greatest change of an axis that has samples, and its number, unless it is 0
 abbrev pub diamond : Scale → CarAxis → Extreme → List ℕ
 diamond s a e =
-    filled DIAMOND.now ((of_axis a DIAMONDS.0 DIAMONDS.1).now ∷ decimal (time_x s e.at) ∷ decimal (change_y s e.kmh - DIAMOND_UP) ∷ [])
+    filled DIAMOND.now (digit a ∷ decimal (time_x s e.at) ∷ decimal (change_y s e.kmh - DIAMOND_UP) ∷ [])
+    ++ filled_if (not (int_eq e.kmh (pos 0))) MAXIMUM_NUMBER.now
+    (decimal (time_x s e.at) ∷ decimal (beside_place a (change_y s e.kmh) NUMBER_FROM) ∷ digit a ∷ signed_decimal e.kmh ∷ [])
 
 unfoldable pub maximum : Scale → CrashPart → CarAxis → List ℕ
-maximum s c a = if is_silent c a then [] else diamond s a (extreme_of c a) ++ maximum_number s a (extreme_of c a)
+maximum s c a = if is_silent c a then [] else diamond s a (extreme_of c a)
 
 -- ---- the whole chart
 

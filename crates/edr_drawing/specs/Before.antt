@@ -1,17 +1,17 @@
 -- The chart of the seconds before time zero, five of a short profile and twenty of a long one: lanes of slots, each a path through those that are there, their marks, and fields in the place of those that are absent.
 use Rattle.std.specs.Prelude.{◌≤◌, ℕ, ◌+◌, ◌-◌, ◌*◌, ◌/◌, Bool, true, false, if◌then◌else◌, nat_eq, nat_lt, Option, Some, None, List, [], ◌∷◌, ◌++◌, decimal, max, unwrap_or}
-use Rattle.std.specs.Bool.{beq}
-use Rattle.std.specs.Option.{option_eq}
+use Rattle.std.specs.{Bool.beq, Option.option_eq, Int.next_multiple_of}
 use Rattle.edr_record.specs.declared.Profile.{Profile}
 use Rattle.edr_record.specs.declared.Profile.TheVariants.{Short, Long}
 use Rattle.edr_drawing.specs.declared.template.Shape.{Shape}
 use Rattle.edr_drawing.specs.declared.template.Shape.TheVariants as shape
-use Rattle.edr_drawing.specs.declared.template.TheConstants.{FIELD_CLASSES, PATH, PATH_END, PATHS, RADII, SWITCH_WORDS}
+use Rattle.edr_drawing.specs.declared.template.TheConstants.{FIELD_CLASSES, PATH, PATH_END, RADII, SWITCH_WORDS}
 use Rattle.edr_drawing.specs.declared.before.Band.{Band}
 use Rattle.edr_drawing.specs.declared.before.ChartLane.{ChartLane}
 use Rattle.edr_drawing.specs.declared.before.TheConstants.{FIELD_WIDTH, GRID_LINE, ROOM_FOR_WORD, BEFORE_END, BEFORE_HEAD, BRAKE_BAND, BRAKE_NAME, LEFT_OF_MOMENT, MOMENT, MOMENT_NAME_DOWN, MOMENT_NAMES, MOMENT_WORD_DOWN, MOMENTS_Y, LAST_SPEED_STEP, SECOND_SLOTS, SLOTS_APART, SPANS, SPEED, SPEED_LINES, SPEED_STEPS, THROTTLE, THROTTLE_NAME, TIME_LINE, TIMES, ZERO_LINE}
 use Rattle.edr_drawing.specs.Template.{filled, fixed, of_profile, of_switch, seconds, shapes_bytes}
-use Rattle.edr_drawing.specs.Scales.{slot_x, flat_map_below, least_step, scale_top}
+use Rattle.edr_drawing.specs.declared.scales.TheConstants.{AXIS_DIGITS}
+use Rattle.edr_drawing.specs.Scales.{slot_x, flat_map_below, least_step}
 use Rattle.edr_record.specs.Parts.{PrePart}
 
 -- up: a value between the foot and the top of a lane
@@ -89,7 +89,7 @@ cells_of Long l vs = long_cells l 0 0 vs
 
 unfoldable pub drawn_lane : Profile → ChartLane → List (Option ℕ) → List ℕ
 drawn_lane f l vs =
-    grid l ++ filled PATH.now (PATHS.0.now ∷ []) ++ points f l 0 false vs ++ fixed PATH_END.now ++ cells_of f l vs
+    grid l ++ filled PATH.now (decimal AXIS_DIGITS.0 ∷ []) ++ points f l 0 false vs ++ fixed PATH_END.now ++ cells_of f l vs
 
 -- what fields keep to
 pub record IsBand (b : Band) : Type 0 where
@@ -115,7 +115,7 @@ abbrev pub speed_step : ℕ → ℕ
 speed_step most = least_step SPEED_STEPS LAST_SPEED_STEP SPEED_LINES most 0
 
 abbrev pub speed_scale : ℕ → ChartLane
-speed_scale most = record SPEED { top = scale_top (speed_step most) most; step = speed_step most }
+speed_scale most = record SPEED { top = next_multiple_of most (speed_step most); step = speed_step most }
 
 abbrev pub speed_lane : List (Option ℕ) → ChartLane
 speed_lane slots = speed_scale (max (greatest slots) 1)

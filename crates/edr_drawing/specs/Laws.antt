@@ -14,9 +14,9 @@ use Rattle.edr_drawing.specs.Tables.{slot_row, row, shown_value}
 use Rattle.edr_image.specs.declared.Found.{Found}
 use Rattle.edr_image.specs.Reports.{Report}
 use Rattle.edr_report.specs.Lines.{Line}
-use Rattle.edr_drawing.specs.declared.axes.CarAxis.{CarAxis}
-use Rattle.edr_drawing.specs.declared.axes.TheConstants.{NO_SAMPLE}
-use Rattle.edr_drawing.specs.Axes.{greatest_words}
+use Rattle.edr_drawing.specs.declared.scales.CarAxis.{CarAxis}
+use Rattle.edr_drawing.specs.declared.scales.TheConstants.{NO_SAMPLE}
+use Rattle.edr_drawing.specs.Scales.{greatest_words}
 use Rattle.edr_drawing.specs.After.{curve, maximum, silent_curve}
 use Rattle.edr_drawing.specs.declared.template.Shape.{Shape}
 use Rattle.edr_drawing.specs.declared.template.Shape.TheVariants as shape

@@ -1,5 +1,4 @@
 pub mod Template
-pub mod Axes
 pub mod Scales
 pub mod Before
 pub mod After

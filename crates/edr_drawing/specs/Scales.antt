@@ -1,32 +1,48 @@
--- Where values stand in a chart.
-use Rattle.std.specs.Prelude.{ℕ, zero, suc, ◌+◌, ◌-◌, ◌*◌, ◌/◌, ℤ, pos, negsuc, List, [], ◌∷◌, ◌++◌, if◌then◌else◌, nat_le, ◌≤◌, max, Bool, true, ◌&&◌, nat_eq, Option, Some, None}
-use Rattle.edr_record.specs.declared.Profile.{Profile}
-use Rattle.edr_record.specs.declared.Profile.TheVariants.{Short, Long}
-use Rattle.edr_drawing.specs.declared.scales.Direction.{Direction}
-use Rattle.edr_drawing.specs.declared.scales.Direction.TheVariants.{Up, Down}
-use Rattle.edr_drawing.specs.declared.scales.TheConstants.{FIRST_TIME, TIME_SLOTS, TIME_STEP, CHANGE_LINES, CHANGE_STEPS, EARLY_SPAN, LAST_CHANGE_STEP, WHOLE_SPAN, BELOW_TOP, HEIGHT, LEFT, WIDTH}
-use Rattle.std.specs.List.{list_all}
-use Rattle.edr_record.specs.Parts.{CrashPart}
-use Rattle.edr_drawing.specs.declared.scales.Scale.{Scale}
+-- What a crash part has of an axis of the car, and where values stand in a chart.
+use Rattle.std.specs.Prelude.{ℕ, zero, suc, ◌+◌, ◌-◌, ◌*◌, ◌/◌, ℤ, pos, negsuc, List, [], ◌∷◌, ◌++◌, take, if◌then◌else◌, nat_le, ◌≤◌, max, Bool, ◌&&◌, nat_eq, Option, unwrap_or}
+use Rattle.std.specs.{List.list_all, Int.{div_ceil, next_multiple_of}}
+use Rattle.edr_record.specs.{Parts.CrashPart, Bounds.{point_count, window_from_end}}
+use Rattle.edr_record.specs.declared.{Extreme.Extreme, Profile.Profile, Profile.TheVariants.{Short, Long}}
+use Rattle.edr_report.specs.Words.{extreme_words}
+use Rattle.edr_drawing.specs.declared.scales.{Scale.Scale, CarAxis.CarAxis, CarAxis.TheVariants.{Along, Across}, Direction.Direction, Direction.TheVariants.{Up, Down}}
+use Rattle.edr_drawing.specs.declared.scales.TheConstants.{NO_SAMPLE, FIRST_TIME, TIME_SLOTS, TIME_STEP, CHANGE_LINES, CHANGE_STEPS, EARLY_SPAN, LAST_CHANGE_STEP, WHOLE_SPAN, BELOW_TOP, HEIGHT, LEFT, WIDTH}
+
+-- that of an axis
+abbrev pub of_axis : {A : Type 0} → CarAxis → A → A → A
+of_axis Along along across = along
+of_axis Across along across = across
+
+-- its points that the end of the event allows
+abbrev pub points_of : CrashPart → CarAxis → List ℤ
+points_of c Along = take (point_count c.end) c.along
+points_of c Across = take (point_count c.end) c.across
+
+-- its greatest change of speed
+abbrev pub extreme_of : CrashPart → CarAxis → Extreme
+extreme_of c a = of_axis a c.max_along c.max_across
+
+-- how many milliseconds of the window have no sample of it
+abbrev pub missing_of : CrashPart → CarAxis → ℕ
+missing_of c a = of_axis a c.missing_along c.missing_across
+
+-- whether it has no sample at all
+abbrev pub is_silent : CrashPart → CarAxis → Bool
+is_silent c a = nat_le (window_from_end c.end) (missing_of c a)
+
+-- its greatest change with its time, or that there is no sample
+abbrev pub greatest_words : CrashPart → CarAxis → List ℕ
+greatest_words c a = if is_silent c a then NO_SAMPLE.now else extreme_words (extreme_of c a)
 
 -- across: slot k of a profile, the newest at time zero; a long one has more slots from one time to the next
 abbrev pub slot_x : Profile → ℕ → ℕ
 slot_x Short k = FIRST_TIME + TIME_STEP * k
 slot_x Long k = FIRST_TIME + TIME_STEP * k / TIME_SLOTS
 
--- how many steps reach up to a value
-abbrev pub intervals : ℕ → ℕ → ℕ
-intervals step value = (value + (step - 1)) / step
-
 -- the least of these steps with which both parts of a scale have at most `most` intervals, or else the last one
 abbrev pub least_step : List ℕ → ℕ → ℕ → ℕ → ℕ → ℕ
 least_step [] last most up down = last
 least_step (s ∷ steps) last most up down =
-    if nat_le (intervals s up + intervals s down) most then s else least_step steps last most up down
-
--- the least multiple of a step that reaches up to a value
-abbrev pub scale_top : ℕ → ℕ → ℕ
-scale_top step value = step * intervals step value
+    if nat_le (div_ceil up s + div_ceil down s) most then s else least_step steps last most up down
 
 -- how far a change of speed is from 0 that way
 abbrev pub reach_of : Direction → ℤ → ℕ
@@ -55,8 +71,7 @@ reach way c = max (max (max (furthest way c.along) (furthest way c.across)) (rea
 
 -- the last time across: the early one where the end and all firings are at most that
 abbrev pub is_early : Option ℕ → Bool
-is_early (Some t) = nat_le t EARLY_SPAN
-is_early None = true
+is_early fired = nat_le (unwrap_or fired 0) EARLY_SPAN
 
 abbrev pub span_of : CrashPart → ℕ
 span_of c = if nat_le c.end EARLY_SPAN && list_all is_early c.fired then EARLY_SPAN else WHOLE_SPAN
@@ -67,7 +82,7 @@ step_of up down = least_step CHANGE_STEPS LAST_CHANGE_STEP CHANGE_LINES up down
 
 -- one step both ways where nothing changes
 abbrev pub part_of : Bool → ℕ → ℕ → ℕ
-part_of flat step value = if flat then step else scale_top step value
+part_of flat step value = if flat then step else next_multiple_of value step
 
 abbrev pub scale_with : ℕ → ℕ → ℕ → Scale
 scale_with up down span = record {

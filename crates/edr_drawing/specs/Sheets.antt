@@ -12,21 +12,21 @@ use Rattle.edr_image.specs.declared.BankView.TheVariants.{Damaged}
 use Rattle.edr_report.specs.Words.{number_shown, tenths_of}
 use Rattle.edr_drawing.specs.declared.Origin.{Origin}
 use Rattle.edr_drawing.specs.declared.TheConstants.{VERSION}
-use Rattle.edr_drawing.specs.declared.axes.CarAxis.{CarAxis}
-use Rattle.edr_drawing.specs.declared.axes.CarAxis.TheVariants.{Along, Across}
+use Rattle.edr_drawing.specs.declared.scales.CarAxis.{CarAxis}
+use Rattle.edr_drawing.specs.declared.scales.CarAxis.TheVariants.{Along, Across}
 use Rattle.edr_drawing.specs.declared.sheets.TheConstants.{DAMAGED_BANK, DAMAGED_START, EVENT_ROW, EVENTS_START, FIRST_FOOT, FIRST_SHEET, SET_OR_NOT, LIST_END, YES_NO, ELSEWHERE, EVENT, IF_SAME_CYCLE, OR_EVENT, PLACE_END, PLACE_START, SECOND_AFTER, PART_ABSENT, PROFILES, REASONS_START, SAMPLED, SAMPLES_ABSENT, SHEET_FOOT, SHEET_HEAD, SWITCHES, SWITCH_ABSENT, WINDOW_ABSENT}
 use Rattle.edr_drawing.specs.declared.long.TheConstants.{FORM, NOTES}
 use Rattle.edr_drawing.specs.declared.template.TheConstants.{NONE, FIRST}
 use Rattle.edr_drawing.specs.declared.tables.TheConstants.{TABLE_END}
 use Rattle.edr_drawing.specs.Template.{digest_hex, either, filled, fixed, place_words, filled_if, seconds, of_profile}
-use Rattle.edr_drawing.specs.Axes.{greatest_words, missing_of, of_axis}
+use Rattle.edr_drawing.specs.Scales.{greatest_words, missing_of, of_axis}
 use Rattle.edr_record.specs.declared.Key.{Key}
 use Rattle.edr_record.specs.declared.Place.{Place}
 use Rattle.edr_record.specs.declared.Place.TheVariants.{First, Second}
 use Rattle.edr_record.specs.declared.TheConstants.{LONGEST_PAIR}
 use Rattle.edr_report.specs.declared.TheConstants.{LARGEST_SHOWN_COUNT}
 use Rattle.edr_record.specs.Bounds.{window_from_end}
-use Rattle.edr_drawing.specs.declared.axes.TheConstants.{AXIS_NAMES}
+use Rattle.edr_drawing.specs.declared.scales.TheConstants.{AXIS_NAMES}
 use Rattle.edr_drawing.specs.Before.{before_chart}
 use Rattle.edr_drawing.specs.Tables.{by_time, points_table, elements_table}
 use Rattle.edr_drawing.specs.After.{after_chart}

@@ -11,14 +11,14 @@ use Rattle.edr_image.specs.declared.Applied.TheVariants.{Kept}
 use Rattle.edr_image.specs.Reports.{Report, StartStopped, Ran}
 use Rattle.edr_report.specs.Lines.{Line}
 use Rattle.edr_report.specs.Report.{event_lines, run_lines}
-use Rattle.edr_drawing.specs.declared.axes.CarAxis.{CarAxis}
-use Rattle.edr_drawing.specs.declared.axes.CarAxis.TheVariants.{Along, Across}
-use Rattle.edr_drawing.specs.declared.axes.TheConstants.{AXIS_NAMES, NO_SAMPLE}
+use Rattle.edr_drawing.specs.declared.scales.CarAxis.{CarAxis}
+use Rattle.edr_drawing.specs.declared.scales.CarAxis.TheVariants.{Along, Across}
+use Rattle.edr_drawing.specs.declared.scales.TheConstants.{AXIS_NAMES, NO_SAMPLE}
 use Rattle.edr_drawing.specs.declared.tables.Elements.{Elements}
 use Rattle.edr_drawing.specs.declared.tables.Rows.{Rows}
 use Rattle.edr_drawing.specs.declared.tables.TheConstants.{AXIS_ROW, CELL, ELEMENTS_END, ELEMENTS_START, IN_TABLE, LINE, LISTS, MOST_TAKEN, NEXT_TABLE, POINT_TIME, POINTS_BODY, POINTS_START, ROW_END, RUN_START, SECOND_TABLE, SILENT_CELL, TABLE_END, BLOCK_START, BY_TIME_END, BY_TIME_START, KILOMETRE, LONG_BLOCKS, MILE, SLOT_ROW}
 use Rattle.edr_drawing.specs.Template.{filled, fixed, before_zero, of_profile, of_switch}
-use Rattle.edr_drawing.specs.Axes.{is_silent, of_axis, points_of}
+use Rattle.edr_drawing.specs.Scales.{is_silent, of_axis, points_of}
 use Rattle.edr_drawing.specs.Scales.{flat_map_below}
 use Rattle.edr_record.specs.declared.Profile.{Profile}
 use Rattle.edr_record.specs.declared.Profile.TheVariants.{Short, Long}

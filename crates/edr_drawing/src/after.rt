@@ -2,18 +2,17 @@
 
 ghost use Rattle.std.specs.Prelude.{◌≡◌, ◌++◌, ◌≤◌, ◌<◌, ◌+◌, ◌-◌, ◌*◌, ◌/◌, OnOk, length};
 ghost use Rattle.edr_record.specs.declared.TheConstants.{POINTS};
-ghost use Rattle.edr_drawing.specs.Scales.{IsScale};
-ghost use Rattle.edr_drawing.specs.After.{axis_shapes, changes_chart, curve, end_line, legend_gaps, level, levels, maximum, shape_at, silent_curve, time_lines, after_chart, chart_row, row_time, chart_rows, row_words, time_words};
-ghost use Rattle.edr_drawing.specs.Template.{filling_bytes};
+ghost use Rattle.edr_drawing.specs.{Scales.IsScale, Template.filling_bytes};
+ghost use Rattle.edr_drawing.specs.After.{axis_shapes, changes_chart, curve, end_line, legend_gaps, level, levels, maximum, shape_at, time_lines, after_chart, chart_row, row_time, chart_rows, row_words};
 
-use crate::axes::{
-    AXIS_NAMES, CarAxis, NO_SAMPLE, extreme_of, greatest, is_silent, missing_of, of_axis, points_of,
+use crate::scales::{
+    AXIS_DIGITS, AXIS_NAMES, BELOW_TOP, CarAxis, HEIGHT, NO_SAMPLE, RIGHT, Scale, extreme_of,
+    greatest, is_silent, missing_of, of_axis, points_of,
 };
-use crate::scales::{BELOW_TOP, HEIGHT, RIGHT, Scale};
 use crate::tables::slot_at;
 use crate::template::Filling::{Below, Change, Count, Milliseconds, Number, Text};
 use crate::template::{
-    Drawn, Filling, NONE, PATH, PATH_END, PATHS, RADII, Shape, draw, either, fill, fill_if, put,
+    Drawn, Filling, NONE, PATH, PATH_END, RADII, Shape, draw, either, fill, fill_if, put,
 };
 use edr_record::{Crash, Extreme, POINT_STEP, window_from_end};
 
@@ -69,14 +68,11 @@ pub const NEXT_LINE: u32 = 28;
 pub const GAPPED: (&[u8], &[u8]) = (b"<g class=\"q\">\n", b"</g>\n");
 
 /// What stands in the place of the curve of an axis without any sample.
-pub const SILENT_CURVE: &[u8] = br#"<text x="1816" y="{0}" class="e h {1}">{2}: {3}</text>
+pub const SILENT_CURVE: &[u8] = br#"<text x="1816" y="{0}" class="e h n{1}">{2}: {3}</text>
 "#;
 
 /// How far below 0 they stand for the axis along the car, and how far above it for that across it.
 pub const SILENT_FROM: (u32, u32) = (32, 12);
-
-/// The classes of the words of the two axes.
-pub const AXIS_WORDS: (&[u8], &[u8]) = (b"n1", b"n2");
 
 /// The line of a change of speed, with its number.
 pub const LEVEL: &[u8] = br#"<path class="{0}" d="M330 {1}L1830 {1}"/>
@@ -101,17 +97,14 @@ pub const NOT_RECORDED: &[u8] = br#"<text x="{0}" y="478" class="c g h">not reco
 /// How much room these words need.
 pub const ROOM_NOT_RECORDED: u32 = 200;
 
-/// The diamond at a greatest change.
-pub const DIAMOND: &[u8] = br#"<path class="{0}" d="M{1} {2}l15 15l-15 15l-15 -15z"/>
+/// The diamond at a greatest change, and how far above its middle it begins.
+pub const DIAMOND: &[u8] = br#"<path class="d{0}" d="M{1} {2}l15 15l-15 15l-15 -15z"/>
 "#;
-
-/// The classes of the two axes, and how far above its middle a diamond begins.
-pub const DIAMONDS: (&[u8], &[u8]) = (b"d1", b"d2");
 
 pub const DIAMOND_UP: u32 = 15;
 
 /// The number of a greatest change: that across stands above its diamond, that along below it.
-pub const MAXIMUM_NUMBER: &[u8] = br#"<text x="{0}" y="{1}" class="c h {2}">{3}</text>
+pub const MAXIMUM_NUMBER: &[u8] = br#"<text x="{0}" y="{1}" class="c h n{2}">{3}</text>
 "#;
 
 pub const NUMBER_FROM: (u32, u32) = (42, 22);
@@ -218,32 +211,24 @@ fn draw_points(out: &mut Vec<u8>, scale: &Scale, what: AtPoint, points: &[i16]) 
     Ok(())
 }
 
-// Says that an axis has no sample.
-fn draw_silent(out: &mut Vec<u8>, scale: &Scale, axis: CarAxis) -> Drawn
-    requires { IsScale scale.now }
-    ensures { OnOk result (out.new.items ≡ out.old.items ++ silent_curve scale.now axis) }
-{
-    let zero = scale.y(0);
-    let y = Number(of_axis(axis, (zero + SILENT_FROM.0, zero - SILENT_FROM.1)));
-    let class = Text(of_axis(axis, AXIS_WORDS));
-    let name = Text(of_axis(axis, AXIS_NAMES));
-    fill(out, SILENT_CURVE, &[y, class, name, Text(NO_SAMPLE)])
-}
-
 // Draws the curve of an axis, with a mark at each point, or says that it has no sample.
 #[tactic(auto, unfolding(crate::specs::After::curve, crate::specs::After::drawn_curve))]
 fn draw_curve(out: &mut Vec<u8>, scale: &Scale, crash: &Crash, axis: CarAxis) -> Drawn
     requires { IsScale scale.now }
     ensures { OnOk result (out.new.items ≡ out.old.items ++ curve scale.now crash.now axis) }
 {
+    let digit = Number(of_axis(axis, AXIS_DIGITS));
     if is_silent(crash, axis) {
-        return draw_silent(out, scale, axis);
+        let zero = scale.y(0);
+        let y = Number(of_axis(axis, (zero + SILENT_FROM.0, zero - SILENT_FROM.1)));
+        let name = Text(of_axis(axis, AXIS_NAMES));
+        return fill(out, SILENT_CURVE, &[y, digit, name, Text(NO_SAMPLE)]);
     }
     let points = points_of(crash, axis);
     let mark = of_axis(axis, (AtPoint::Dot, AtPoint::Square));
     let is_gapped = 0 < missing_of(crash, axis);
     fill_if(out, is_gapped, GAPPED.0, &[])?;
-    fill(out, PATH, &[Text(of_axis(axis, PATHS))])?;
+    fill(out, PATH, &[digit])?;
     draw_points(out, scale, AtPoint::Joint, points)?;
     put(out, PATH_END)?;
     draw_points(out, scale, mark, points)?;
@@ -251,7 +236,7 @@ fn draw_curve(out: &mut Vec<u8>, scale: &Scale, crash: &Crash, axis: CarAxis) ->
 }
 
 // Draws a diamond at the greatest change of an axis, unless it has no sample, with its number, unless that is 0.
-#[tactic(auto, unfolding(crate::specs::After::maximum, crate::specs::After::maximum_number))]
+#[tactic(auto, unfolding(crate::specs::After::maximum))]
 fn draw_maximum(out: &mut Vec<u8>, scale: &Scale, crash: &Crash, axis: CarAxis) -> Drawn
     requires { IsScale scale.now }
     ensures { OnOk result (out.new.items ≡ out.old.items ++ maximum scale.now crash.now axis) }
@@ -260,15 +245,16 @@ fn draw_maximum(out: &mut Vec<u8>, scale: &Scale, crash: &Crash, axis: CarAxis) 
         return Ok(());
     }
     let Extreme { at, kmh } = extreme_of(crash, axis);
+    let digit = Number(of_axis(axis, AXIS_DIGITS));
     let (x, y) = (Number(scale.x(at)), scale.y(kmh));
-    let class = Text(of_axis(axis, DIAMONDS));
-    fill(out, DIAMOND, &[class, x, Number(y - DIAMOND_UP)])?;
-    if kmh == 0 {
-        return Ok(());
-    }
-    let y = Number(of_axis(axis, (y + NUMBER_FROM.0, y - NUMBER_FROM.1)));
-    let class = Text(of_axis(axis, AXIS_WORDS));
-    fill(out, MAXIMUM_NUMBER, &[x, y, class, Change(kmh)])
+    let number_y = Number(of_axis(axis, (y + NUMBER_FROM.0, y - NUMBER_FROM.1)));
+    fill(out, DIAMOND, &[digit, x, Number(y - DIAMOND_UP)])?;
+    fill_if(
+        out,
+        kmh != 0,
+        MAXIMUM_NUMBER,
+        &[x, number_y, digit, Change(kmh)],
+    )
 }
 
 /// Draws the part of the chart that shows changes of speed.
@@ -396,24 +382,18 @@ fn time_of(crash: &Crash, row: ChartRow) -> Option<u16>
     }
 }
 
-// The words of a time, or these where there is none.
-fn time_words(time: Option<u16>, none: &'static [u8]) -> Filling<'static>
-    ensures { filling_bytes result ≡ time_words time none.now }
-{
-    match time {
-        Some(time) => Milliseconds(time),
-        None => Text(none),
-    }
-}
-
 // The words beside its flag, or those that it isn't there.
 fn words_of(crash: &Crash, row: ChartRow) -> Filling<'static>
     ensures { filling_bytes result ≡ row_words crash.now row }
 {
-    match row {
-        ChartRow::Greatest(axis) => greatest(crash, axis),
-        ChartRow::Fired(_) => time_words(time_of(crash, row), NONE),
-        ChartRow::End | ChartRow::Resultant => time_words(time_of(crash, row), NO_SAMPLE),
+    let none = match row {
+        ChartRow::Greatest(axis) => return greatest(crash, axis),
+        ChartRow::Fired(_) => NONE,
+        ChartRow::End | ChartRow::Resultant => NO_SAMPLE,
+    };
+    match time_of(crash, row) {
+        Some(time) => Milliseconds(time),
+        None => Text(none),
     }
 }
 

@@ -7,11 +7,11 @@ ghost use Rattle.edr_record.specs.Bounds.{slots_in};
 ghost use Rattle.edr_drawing.specs.Template.{shapes_bytes};
 ghost use Rattle.edr_drawing.specs.Before.{IsBand, IsChartLane, cells, drawn_lane, field_shapes, grid, lane_y, long_cells, points, run_bytes, before_chart, brake_slots, greatest, speed_lane, switch_runs, switch_moment, switches, tenths_before, time_lines};
 
-use crate::scales::{least_step, scale_top, slot_x};
+use crate::scales::{AXIS_DIGITS, least_step, slot_x};
 use crate::template::Filling::{Count, Number, Seconds, Text};
 use crate::template::{
-    Drawn, FIELD_CLASSES, PATH, PATH_END, PATHS, RADII, SWITCH_WORDS, Shape, draw, fill,
-    of_profile, of_switch, put,
+    Drawn, FIELD_CLASSES, PATH, PATH_END, RADII, SWITCH_WORDS, Shape, draw, fill, of_profile,
+    of_switch, put,
 };
 use edr_record::{LONG_SLOTS, Pre, Profile};
 
@@ -179,7 +179,7 @@ pub fn draw_lane(
     ensures { OnOk result (out.new.items ≡ out.old.items ++ drawn_lane profile lane.now slots.now) }
 {
     draw_grid(out, lane)?;
-    fill(out, PATH, &[Text(PATHS.0)])?;
+    fill(out, PATH, &[Number(AXIS_DIGITS.0)])?;
     put_points(out, profile, lane, slots)?;
     put(out, PATH_END)?;
     match profile {
@@ -298,7 +298,7 @@ fn speed_lane(slots: &[Option<u16>]) -> ChartLane
     let most = u32::from(greatest(slots).max(1));
     let step = least_step(&SPEED_STEPS, LAST_SPEED_STEP, SPEED_LINES, most, 0);
     ChartLane {
-        top: scale_top(step, most),
+        top: most.next_multiple_of(step),
         step,
         ..SPEED
     }

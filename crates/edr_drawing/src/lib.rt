@@ -2,7 +2,6 @@
 #![tactic(auto)]
 
 mod after;
-mod axes;
 mod before;
 pub mod laws;
 mod long;

@@ -1,11 +1,81 @@
-//! Where values stand in a chart.
+//! What a crash part has of an axis of the car, and where values stand in a chart.
 
-ghost use Rattle.std.specs.Prelude.{◌≡◌, ◌≤◌, ◌<◌, ◌+◌, ◌*◌, All, max, unsigned_abs, ◌-◌};
-ghost use Rattle.edr_record.specs.declared.TheConstants.{LONG_SLOTS};
-ghost use Rattle.edr_drawing.specs.Scales.{slot_x, intervals, least_step, scale_top, reach_of, below_top, IsScale, furthest, reach, is_early, span_of, scale_of, change_y, time_x};
-ghost use Rattle.std.specs.List.{list_all};
+ghost use Rattle.std.specs.{Prelude.{◌≡◌, ◌≤◌, ◌<◌, ◌+◌, ◌*◌, ◌-◌, All, length, max, unsigned_abs}, List.list_all};
+ghost use Rattle.edr_record.specs.declared.TheConstants.{LONG_SLOTS, POINTS};
+ghost use Rattle.edr_drawing.specs.Template.{filling_bytes};
+ghost use Rattle.edr_drawing.specs.Scales.{extreme_of, greatest_words, is_silent, missing_of, of_axis, points_of, slot_x, least_step, reach_of, IsScale, furthest, reach, is_early, span_of, scale_of, change_y, time_x};
 
-use edr_record::{Crash, POINTS, Profile};
+use crate::template::Filling;
+use edr_record::{Crash, Extreme, POINTS, Profile, point_count, window_from_end};
+
+/// What stands in the place of what an axis without any sample would show.
+pub const NO_SAMPLE: &[u8] = b"no sample";
+
+/// The names of the axes, and the digits that their classes end with.
+pub const AXIS_NAMES: (&[u8], &[u8]) = (b"longitudinal", b"lateral");
+
+pub const AXIS_DIGITS: (u32, u32) = (1, 2);
+
+/// An axis of a car.
+#[derive(Clone, Copy)]
+pub enum CarAxis {
+    Along,
+    Across,
+}
+
+/// The first of two for the axis along the car, the second for that across it.
+pub fn of_axis<T: Copy>(axis: CarAxis, pair: (T, T)) -> T
+    ensures { result ≡ of_axis axis pair.0 pair.1 }
+{
+    match axis {
+        CarAxis::Along => pair.0,
+        CarAxis::Across => pair.1,
+    }
+}
+
+/// The points of an axis that the end of the event allows.
+pub fn points_of(crash: &Crash, axis: CarAxis) -> &[i16]
+    ensures points { result.now ≡ points_of crash.now axis }
+    ensures count { length result.now ≤ POINTS }
+{
+    let count = point_count(crash.end);
+    match axis {
+        CarAxis::Along => &crash.along[..count],
+        CarAxis::Across => &crash.across[..count],
+    }
+}
+
+/// The greatest change of speed of an axis.
+pub fn extreme_of(crash: &Crash, axis: CarAxis) -> Extreme
+    ensures { result ≡ extreme_of crash.now axis }
+{
+    of_axis(axis, (crash.max_along, crash.max_across))
+}
+
+/// How many milliseconds of its window have no sample of an axis.
+pub fn missing_of(crash: &Crash, axis: CarAxis) -> u16
+    ensures { result ≡ missing_of crash.now axis }
+{
+    of_axis(axis, (crash.missing_along, crash.missing_across))
+}
+
+/// Whether an axis has no sample at all.
+pub fn is_silent(crash: &Crash, axis: CarAxis) -> bool
+    ensures { result ≡ is_silent crash.now axis }
+{
+    window_from_end(crash.end) <= missing_of(crash, axis)
+}
+
+/// The greatest change of an axis with its time, or that there is no sample.
+pub fn greatest(crash: &Crash, axis: CarAxis) -> Filling<'static>
+    ensures { filling_bytes result ≡ greatest_words crash.now axis }
+{
+    if is_silent(crash, axis) {
+        Filling::Text(NO_SAMPLE)
+    } else {
+        Filling::Extreme(extreme_of(crash, axis))
+    }
+}
 
 /// The left end of a plot, its width, and its right end.
 pub const LEFT: u32 = 330;
@@ -47,15 +117,6 @@ pub fn slot_x(profile: Profile, k: u32) -> u32
     }
 }
 
-/// How many steps reach up to a value.
-pub fn intervals(step: u32, value: u32) -> u32
-    requires { (1 ≤ step) × (step ≤ 1_000) × (value ≤ 100_000) }
-    ensures count { result ≡ intervals step value }
-    ensures range { result ≤ value }
-{
-    value.div_ceil(step)
-}
-
 /// The least of these steps with which both parts of a scale have at most `most` intervals; `last` where there is none.
 pub fn least_step(steps: &[u32], last: u32, most: u32, up: u32, down: u32) -> u32
     requires steps { All (λ s. (1 ≤ s) × (s ≤ 1_000)) steps.now }
@@ -65,20 +126,11 @@ pub fn least_step(steps: &[u32], last: u32, most: u32, up: u32, down: u32) -> u3
     ensures range { (1 ≤ result) × (result ≤ 1_000) }
 {
     for step in steps {
-        if intervals(*step, up) + intervals(*step, down) <= most {
+        if up.div_ceil(*step) + down.div_ceil(*step) <= most {
             return *step;
         }
     }
     last
-}
-
-/// The least multiple of a step that reaches up to a value.
-pub fn scale_top(step: u32, value: u32) -> u32
-    requires { (1 ≤ step) × (step ≤ 1_000) × (value ≤ 100_000) }
-    ensures top { result ≡ scale_top step value }
-    ensures range { (value ≤ result) × (result ≤ value + step) }
-{
-    step * intervals(step, value)
 }
 
 /// How far a change of speed is from 0 that way.
@@ -91,20 +143,6 @@ pub fn reach_of(way: Direction, change: i16) -> u32
         Direction::Down => change.min(0),
     };
     u32::from(that_way.unsigned_abs())
-}
-
-/// How far a change of speed stands below the top of its scale.
-pub fn below_top(top: u32, change: i16) -> u32
-    requires { top ≤ 100_000 }
-    ensures place { result ≡ below_top top change }
-    ensures range { result ≤ top + 32_768 }
-{
-    let size = u32::from(change.unsigned_abs());
-    if change < 0 {
-        top + size
-    } else {
-        top.saturating_sub(size)
-    }
 }
 
 /// The steps in km/h that the lines of a scale may have, of which both parts have at most [`CHANGE_LINES`].
@@ -151,16 +189,10 @@ fn reach(way: Direction, crash: &Crash) -> u32
         .max(reach_of(way, crash.max_across.kmh))
 }
 
-fn is_early(fired: Option<u16>) -> bool
-    ensures { result ≡ is_early fired }
-{
-    fired.is_none_or(|time| time <= EARLY_SPAN)
-}
-
 fn are_early(fired: &[Option<u16>; 8]) -> bool
     ensures { result ≡ list_all is_early fired.now }
 {
-    fired.iter().all(|fired| is_early(*fired))
+    fired.iter().all(|fired| fired.unwrap_or(0) <= EARLY_SPAN)
 }
 
 // The last time across.
@@ -186,8 +218,16 @@ impl Scale {
         let step = least_step(&CHANGE_STEPS, LAST_CHANGE_STEP, CHANGE_LINES, up, down);
         let flat = up == 0 && down == 0;
         Scale {
-            top: if flat { step } else { scale_top(step, up) },
-            bottom: if flat { step } else { scale_top(step, down) },
+            top: if flat {
+                step
+            } else {
+                up.next_multiple_of(step)
+            },
+            bottom: if flat {
+                step
+            } else {
+                down.next_multiple_of(step)
+            },
             step,
             span: span_of(crash),
         }
@@ -199,7 +239,13 @@ impl Scale {
         ensures place { result ≡ change_y self.now change }
         ensures range { (80 ≤ result) × (result ≤ 40_000_000) }
     {
-        BELOW_TOP + below_top(self.top, change) * HEIGHT / (self.top + self.bottom)
+        let size = u32::from(change.unsigned_abs());
+        let below_top = if change < 0 {
+            self.top + size
+        } else {
+            self.top.saturating_sub(size)
+        };
+        BELOW_TOP + below_top * HEIGHT / (self.top + self.bottom)
     }
 
     /// Where a time stands across.

@@ -6,9 +6,9 @@ ghost use Rattle.edr_drawing.specs.Sheets.{cover_end, cover_start, crash_reasons
 ghost use Rattle.edr_drawing.specs.Template.{filling_bytes};
 
 use crate::after::draw_after;
-use crate::axes::{AXIS_NAMES, CarAxis, greatest, missing_of, of_axis};
 use crate::before::draw_before;
 use crate::long::{FORM, NOTES};
+use crate::scales::{AXIS_NAMES, CarAxis, greatest, missing_of, of_axis};
 use crate::tables::{TABLE_END, put_by_time, put_elements, put_points_table};
 use crate::template::Filling::{Count, Digest, Number, Seconds, Text};
 use crate::template::{Drawn, FIRST, Filling, NONE, either, fill, fill_if, of_profile, put};

@@ -5,8 +5,8 @@ ghost use Rattle.edr_image.specs.Reports.{report_of};
 ghost use Rattle.edr_drawing.specs.Tables.{change_row, elements_bytes, elements_table, is_one_of, line_row, points_table, row, row_of, rows_bytes, run_table, taken_in, taken_of, block, block_slots, blocks_in, by_time, mph, number_word, slot_at, slot_row, slot_tenths};
 ghost use Rattle.edr_drawing.specs.Template.{filling_bytes};
 
-use crate::axes::{AXIS_NAMES, CarAxis, NO_SAMPLE, is_silent, of_axis, points_of};
 use crate::before::{SPANS, wide};
+use crate::scales::{AXIS_NAMES, CarAxis, NO_SAMPLE, is_silent, of_axis, points_of};
 use crate::sheets::PROFILES;
 use crate::template::Filling::{Before, Change, Count, Number, Text};
 use crate::template::{Drawn, Filling, NONE, SWITCH_WORDS, fill, of_profile, of_switch, put};

@@ -216,8 +216,8 @@ pub const FIELD_CLASSES: (&[u8], &[u8], &[u8]) = (b"on", b"off", b"gap");
 
 pub const WORD_CLASSES: (&[u8], &[u8], &[u8]) = (b"c w", b"c", b"c g h");
 
-/// A path of this class, up to its points, and what ends it.
-pub const PATH: &[u8] = br#"<path class="{0}" d=""#;
+/// A path of this look, up to its points, and what ends it.
+pub const PATH: &[u8] = br#"<path class="s{0}" d=""#;
 
 pub const PATH_END: &[u8] = b"\"/>\n";
 
@@ -225,9 +225,6 @@ pub const PATH_END: &[u8] = b"\"/>\n";
 pub const PATH_POINT: &[u8] = b"{0}{1} {2}";
 
 pub const JOIN_OR_BEGIN: (&[u8], &[u8]) = (b"L", b"M");
-
-/// The classes of the paths along the car and across it.
-pub const PATHS: (&[u8], &[u8]) = (b"s1", b"s2");
 
 pub const DOT: &[u8] = br#"<circle cx="{0}" cy="{1}" r="{2}" class="p1"/>
 "#;
