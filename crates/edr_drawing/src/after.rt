@@ -170,13 +170,10 @@ fn draw_legend_gaps(out: &mut Vec<u8>, crash: &Crash, axis: CarAxis) -> Drawn
     ensures { OnOk result (out.new.items ≡ out.old.items ++ legend_gaps crash.now axis) }
 {
     let missing = u32::from(missing_of(crash, axis));
+    let window = u32::from(window_from_end(crash.end));
     let y = of_axis(axis, GAPS_Y);
-    let parts = [
-        Number(y),
-        Number(missing),
-        Number(u32::from(window_from_end(crash.end))),
-        Number(y + NEXT_LINE),
-    ];
+    let (first, next) = (Number(y), Number(y + NEXT_LINE));
+    let parts = [first, Number(missing), Number(window), next];
     fill_if(out, 0 < missing, LEGEND_GAPS, &parts)
 }
 
