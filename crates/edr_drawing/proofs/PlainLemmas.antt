@@ -104,14 +104,17 @@ plain_filled template values low h = plain_from values false template h low
 -- ---- what goes into their holes
 
 -- one of some fixed texts
-pub plain_of_profile : (f : Profile) (x y : List ℕ) → all_low x ≡ true → all_low y ≡ true → Plain (of_profile f x y)
-plain_of_profile Short x y low_x low_y = plain_fixed x low_x
-plain_of_profile Long x y low_x low_y = plain_fixed y low_y
+abbrev Text : Type 0
+Text = record { now : List ℕ }
 
-pub plain_of_switch : (v : Option Bool) (x y z : List ℕ) → all_low x ≡ true → all_low y ≡ true → all_low z ≡ true → Plain (of_switch v x y z)
-plain_of_switch (Some true) x y z low_x low_y low_z = plain_fixed x low_x
-plain_of_switch (Some false) x y z low_x low_y low_z = plain_fixed y low_y
-plain_of_switch None x y z low_x low_y low_z = plain_fixed z low_z
+pub plain_of_profile : (f : Profile) (x y : Text) → all_low x.now ≡ true → all_low y.now ≡ true → Plain (of_profile f (x, y)).now
+plain_of_profile Short x y low_x low_y = plain_fixed x.now low_x
+plain_of_profile Long x y low_x low_y = plain_fixed y.now low_y
+
+pub plain_of_switch : (v : Option Bool) (x y z : Text) → all_low x.now ≡ true → all_low y.now ≡ true → all_low z.now ≡ true → Plain (of_switch v (x, y, z)).now
+plain_of_switch (Some true) x y z low_x low_y low_z = plain_fixed x.now low_x
+plain_of_switch (Some false) x y z low_x low_y low_z = plain_fixed y.now low_y
+plain_of_switch None x y z low_x low_y low_z = plain_fixed z.now low_z
 
 pub plain_of_axis : (a : CarAxis) (x y : Bor (List ℕ)) → all_low x.now ≡ true → all_low y.now ≡ true → Plain (of_axis a x y).now
 plain_of_axis Along x y low_x low_y = plain_fixed x.now low_x

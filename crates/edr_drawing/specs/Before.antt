@@ -165,10 +165,10 @@ switch_moment f y name v =
     filled MOMENT.now
     (decimal (second_x f)
     ∷ decimal y
-    ∷ of_switch v FIELD_CLASSES.0.now FIELD_CLASSES.1.now FIELD_CLASSES.2.now
+    ∷ (of_switch v FIELD_CLASSES).now
     ∷ decimal (second_x f - LEFT_OF_MOMENT)
     ∷ decimal (y + MOMENT_WORD_DOWN)
-    ∷ of_switch v SWITCH_WORDS.0.now SWITCH_WORDS.1.now SWITCH_WORDS.2.now
+    ∷ (of_switch v SWITCH_WORDS).now
     ∷ decimal (y + MOMENT_NAME_DOWN)
     ∷ name
     ∷ [])
@@ -177,7 +177,7 @@ switch_moment f y name v =
 
 unfoldable pub before_chart : ℕ → PrePart → List ℕ
 before_chart n p =
-    filled BEFORE_HEAD.now (decimal n ∷ of_profile p.profile SPANS.0.now SPANS.1.now ∷ of_profile p.profile SLOTS_APART.0.now SLOTS_APART.1.now ∷ [])
+    filled BEFORE_HEAD.now (decimal n ∷ (of_profile p.profile SPANS).now ∷ (of_profile p.profile SLOTS_APART).now ∷ [])
     ++ time_lines p.profile TIMES
     ++ filled ZERO_LINE.now (decimal (slot_x Short TIMES) ∷ [])
     ++ drawn_lane p.profile (speed_lane p.speed) p.speed

@@ -200,7 +200,7 @@ sheet events n bank r digest =
     ∷ decimal r.pre.key.zero
     ∷ decimal bank
     ∷ either r.locked YES_NO.0.now YES_NO.1.now
-    ∷ of_profile r.pre.profile PROFILES.0.now PROFILES.1.now
+    ∷ (of_profile r.pre.profile PROFILES).now
     ∷ [])
     ++ place_fact events r.pre.key r.pre.place
     ++ reasons r

@@ -150,7 +150,7 @@ slot_row p k =
     ∷ number_word (slot_at p.speed k)
     ∷ number_word (mph (slot_at p.speed k))
     ∷ number_word (slot_at p.throttle k)
-    ∷ of_switch (slot_at p.brake k) SWITCH_WORDS.0.now SWITCH_WORDS.1.now SWITCH_WORDS.2.now
+    ∷ (of_switch (slot_at p.brake k) SWITCH_WORDS).now
     ∷ [])
 
 -- ---- the blocks
@@ -180,6 +180,6 @@ blocks p count = flat_map_below (block p) count
 -- the table of event n
 unfoldable pub by_time : ℕ → PrePart → List ℕ
 by_time n p =
-    filled BY_TIME_START.now (decimal n ∷ of_profile p.profile PROFILES.0.now PROFILES.1.now ∷ of_profile p.profile SPANS.0.now SPANS.1.now ∷ [])
+    filled BY_TIME_START.now (decimal n ∷ (of_profile p.profile PROFILES).now ∷ (of_profile p.profile SPANS).now ∷ [])
     ++ blocks p (blocks_in p.profile)
     ++ fixed BY_TIME_END.now

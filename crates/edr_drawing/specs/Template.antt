@@ -19,15 +19,15 @@ abbrev pub either : Bool → List ℕ → List ℕ → List ℕ
 either is_so x y = if is_so then x else y
 
 -- that of a profile
-abbrev pub of_profile : Profile → List ℕ → List ℕ → List ℕ
-of_profile Short short long = short
-of_profile Long short long = long
+abbrev pub of_profile : {A : Type 0} → Profile → A × A → A
+of_profile Short pair = pair.0
+of_profile Long pair = pair.1
 
 -- that of what a switch is
-abbrev pub of_switch : Option Bool → List ℕ → List ℕ → List ℕ → List ℕ
-of_switch (Some true) on off none = on
-of_switch (Some false) on off none = off
-of_switch None on off none = none
+abbrev pub of_switch : {A : Type 0} → Option Bool → A × A × A → A
+of_switch (Some true) three = three.0
+of_switch (Some false) three = three.1
+of_switch None three = three.2
 
 -- two hexadecimal digits for each byte
 abbrev pub hex_digit : ℕ → ℕ
@@ -100,9 +100,9 @@ shape_bytes (shape.Dot x y radius) = filled DOT.now (decimal x ∷ decimal y ∷
 shape_bytes (shape.Square x y) = filled SQUARE.now (decimal (x - 8) ∷ decimal (y - 8) ∷ [])
 shape_bytes (shape.Value x y v) = filled NUMBER.now (decimal x ∷ decimal y ∷ decimal v ∷ [])
 shape_bytes (shape.Field x y width height v) =
-    filled FIELD.now (decimal x ∷ decimal y ∷ decimal width ∷ decimal height ∷ of_switch v FIELD_CLASSES.0.now FIELD_CLASSES.1.now FIELD_CLASSES.2.now ∷ [])
+    filled FIELD.now (decimal x ∷ decimal y ∷ decimal width ∷ decimal height ∷ (of_switch v FIELD_CLASSES).now ∷ [])
 shape_bytes (shape.Word x y v) =
-    filled WORD.now (decimal x ∷ decimal y ∷ of_switch v WORD_CLASSES.0.now WORD_CLASSES.1.now WORD_CLASSES.2.now ∷ of_switch v SWITCH_WORDS.0.now SWITCH_WORDS.1.now SWITCH_WORDS.2.now ∷ [])
+    filled WORD.now (decimal x ∷ decimal y ∷ (of_switch v WORD_CLASSES).now ∷ (of_switch v SWITCH_WORDS).now ∷ [])
 
 -- shapes one after the other
 abbrev pub shapes_bytes : List Shape → List ℕ

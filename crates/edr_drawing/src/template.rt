@@ -10,7 +10,7 @@ ghost use Rattle.edr_drawing.specs.Template.{byte_bytes, digest_hex, either, fil
 use Filling::{Number, Text};
 use edr_record::{Extreme, Place, Profile};
 use edr_report::tenths_of;
-use itoa::Buffer;
+use itoa::{Buffer, Integer};
 use std::alloc::AllocError as OutOfMemory;
 
 /// Whether there was memory for what is appended.
@@ -58,8 +58,8 @@ pub fn either(is_so: bool, pair: (&'static [u8], &'static [u8])) -> &'static [u8
 }
 
 /// The first of two for a short profile, the second for a long one.
-pub fn of_profile(profile: Profile, pair: (&'static [u8], &'static [u8])) -> &'static [u8]
-    ensures { result.now ≡ of_profile profile pair.entry.0.now pair.entry.1.now }
+pub fn of_profile<T: Copy>(profile: Profile, pair: (T, T)) -> T
+    ensures { result ≡ of_profile profile pair }
 {
     match profile {
         Profile::Short => pair.0,
@@ -68,11 +68,8 @@ pub fn of_profile(profile: Profile, pair: (&'static [u8], &'static [u8])) -> &'s
 }
 
 /// The first of three for a switch that is on, the second for one that is off, the third where that is absent.
-pub fn of_switch(
-    shows: Option<bool>,
-    three: (&'static [u8], &'static [u8], &'static [u8]),
-) -> &'static [u8]
-    ensures { result.now ≡ of_switch shows three.entry.0.now three.entry.1.now three.entry.2.now }
+pub fn of_switch<T: Copy>(shows: Option<bool>, three: (T, T, T)) -> T
+    ensures { result ≡ of_switch shows three }
 {
     match shows {
         Some(true) => three.0,
@@ -81,18 +78,11 @@ pub fn of_switch(
     }
 }
 
-fn put_number(out: &mut Vec<u8>, n: u64) -> Drawn
-    ensures { OnOk result (out.new.items ≡ out.old.items ++ filling_bytes (Filling.Count n)) }
+fn put_number<N: Integer>(out: &mut Vec<u8>, n: N) -> Drawn
+    ensures { OnOk result (out.new.items ≡ out.old.items ++ N.text n) }
 {
     let mut buffer = Buffer::new();
     out.extend_from_slice(buffer.format(n).as_bytes())
-}
-
-fn put_change(out: &mut Vec<u8>, z: i16) -> Drawn
-    ensures { OnOk result (out.new.items ≡ out.old.items ++ filling_bytes (Filling.Change z)) }
-{
-    let mut buffer = Buffer::new();
-    out.extend_from_slice(buffer.format(z).as_bytes())
 }
 
 fn put_seconds(out: &mut Vec<u8>, tenths: u64) -> Drawn
@@ -124,12 +114,12 @@ fn put_filling(out: &mut Vec<u8>, filling: Filling<'_>) -> Drawn
 {
     match filling {
         Filling::Text(text) => out.extend_from_slice(text),
-        Filling::Number(n) => put_number(out, u64::from(n)),
+        Filling::Number(n) => put_number(out, n),
         Filling::Count(n) => put_number(out, n),
-        Filling::Change(z) => put_change(out, z),
+        Filling::Change(z) => put_number(out, z),
         Filling::Below(n) => {
             out.extend_from_slice(b"-")?;
-            put_number(out, u64::from(n))
+            put_number(out, n)
         }
         Filling::Seconds(tenths) => put_seconds(out, tenths),
         Filling::Place(Place::First) => out.extend_from_slice(FIRST),
@@ -139,7 +129,7 @@ fn put_filling(out: &mut Vec<u8>, filling: Filling<'_>) -> Drawn
             out.extend_from_slice(AFTER_FIRST)
         }
         Filling::Milliseconds(time) => {
-            put_number(out, u64::from(time))?;
+            put_number(out, time)?;
             out.extend_from_slice(b" ms")
         }
         Filling::Before(0) => put_seconds(out, 0),
@@ -148,9 +138,9 @@ fn put_filling(out: &mut Vec<u8>, filling: Filling<'_>) -> Drawn
             put_seconds(out, tenths)
         }
         Filling::Extreme(extreme) => {
-            put_change(out, extreme.kmh)?;
+            put_number(out, extreme.kmh)?;
             out.extend_from_slice(b" km/h at ")?;
-            put_number(out, u64::from(extreme.at))?;
+            put_number(out, extreme.at)?;
             out.extend_from_slice(b" ms")
         }
         Filling::Digest(digest) => put_digest(out, &digest),
